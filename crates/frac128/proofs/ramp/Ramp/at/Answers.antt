@@ -1,0 +1,28 @@
+use Rattle.std.proofs.Common.{rules, to_z-of_z, FitsSigned, ◌≡◌, pos, ◌-ℤ◌, arith, to_z, of_z}
+use Rattle.std.proofs.lemmas.Int.{ints, fits_signed_from_abs}
+use mir.Syntax.{w128}
+use Rattle.frac128.proofs.Ahead.{ahead_fraction, gap_small}
+use Rattle.frac128.proofs.ramp.Ramp.at.Goals as goal
+
+pub value_ahead-requires : goal.value_ahead-requires
+value_ahead-requires c =
+    let f = c.args.self.now in
+    let t = c.args.t.now in
+    let g = gap_small t f.t0 f.small_t0 c.requires in
+    omega (arith, ints)
+
+pub returns : goal.returns
+returns c =
+    let f = c.args.self.now in
+    let t = c.args.t.now in
+    let g = gap_small t f.t0 f.small_t0 c.requires in
+    let v0 : to_z w128 (of_z w128 c.from-3.result) ≡ f.v0 = omega (arith, ints) in
+    let rise : to_z w128 (of_z w128 c.from-4.result) ≡ f.rise = omega (arith, ints) in
+    let run : to_z w128 (of_z w128 c.from-5.result) ≡ pos f.run = omega (arith, ints) in
+    let whole : to_z w128 (of_z w128 c.from.result) ≡ t.whole = omega (arith, ints) in
+    let t0 : to_z w128 (of_z w128 c.from-2.result) ≡ f.t0 = omega (arith, ints) in
+    let fits : FitsSigned w128 (t.whole -ℤ f.t0) = fits_signed_from_abs w128 (t.whole -ℤ f.t0) (omega arith) in
+    let gap : to_z w128 (of_z w128 (to_z w128 (of_z w128 c.from.result) -ℤ to_z w128 (of_z w128 c.from-2.result))) ≡ t.whole -ℤ f.t0 = rw (whole, t0) (search (rules, to_z-of_z)) in
+    let rest : to_z w128 (of_z w128 c.from-6.result) ≡ pos t.rest = omega (arith, ints) in
+    let den : to_z w128 (of_z w128 c.from-7.result) ≡ pos t.den = omega (arith, ints) in
+    ahead_fraction f t _ _ (rw (run, den) at c.value_ahead.ensures.den) (rw (v0, run, den, rise, gap, rest) at c.value_ahead.ensures.num)

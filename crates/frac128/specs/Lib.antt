@@ -1,0 +1,5 @@
+pub mod Lowest
+pub mod Value
+pub mod Line
+pub mod Sizes
+pub mod Spans

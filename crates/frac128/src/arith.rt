@@ -1,0 +1,65 @@
+//! Whole numbers of 128 bits.
+ghost use Rattle.std.specs.Prelude.{◌≡◌, ◌+◌, ◌*◌, ◌<◌, ◌≤◌, ◌^◌, pos, ◌+ℤ◌, ◌-ℤ◌, ◌*ℤ◌, ◌<ℤ◌};
+ghost use Rattle.std.specs.Int.{IsGcd};
+ghost use Rattle.std.specs.Int.RustNames.{unsigned_abs};
+ghost use Rattle.std.specs.Ordering.{nat_cmp};
+
+use std::cmp::Ordering;
+
+/// The floor of `num / den`, and what is left of `num`.
+pub(crate) fn split(num: i128, den: i128) -> (i128, u128)
+    requires { pos 0 <ℤ den }
+    ensures sum { result.0 *ℤ den +ℤ pos result.1 ≡ num }
+    ensures below { result.1 < unsigned_abs den }
+{
+    (num.div_euclid(den), num.rem_euclid(den).unsigned_abs())
+}
+
+/// `a * b - c * d`.
+pub(crate) fn determinant(a: i128, b: i128, c: i128, d: i128) -> i128
+    requires { unsigned_abs a * unsigned_abs b + unsigned_abs c * unsigned_abs d < 2 ^ 127 }
+    ensures value { result ≡ a *ℤ b -ℤ c *ℤ d }
+    ensures small { unsigned_abs result ≤ unsigned_abs a * unsigned_abs b + unsigned_abs c * unsigned_abs d }
+{
+    a * b - c * d
+}
+
+/// The greatest common divisor, by Euclid.
+pub(crate) fn gcd(a: u128, b: u128) -> u128
+    ensures { IsGcd a b result }
+{
+    let mut x = a;
+    let mut y = b;
+    while y != 0 {
+        let rest = x % y;
+        x = y;
+        y = rest;
+    }
+    x
+}
+
+/// The order of `n1 / d1` and `n2 / d2`, both below 1, with no product.
+pub(crate) fn cmp_rests(n1: u128, d1: u128, n2: u128, d2: u128) -> Ordering
+    requires below { n1 < d1 }
+    requires other_below { n2 < d2 }
+    ensures { result ≡ nat_cmp (n1 * d2) (n2 * d1) }
+{
+    let mut top = n1;
+    let mut bottom = d1;
+    let mut other_top = n2;
+    let mut other_bottom = d2;
+    while top != 0 && other_top != 0 {
+        match (other_bottom / other_top).cmp(&(bottom / top)) {
+            Ordering::Equal => {
+                let rest = bottom % top;
+                let other_rest = other_bottom % other_top;
+                bottom = other_top;
+                other_bottom = top;
+                top = other_rest;
+                other_top = rest;
+            }
+            order => return order,
+        }
+    }
+    top.cmp(&other_top)
+}

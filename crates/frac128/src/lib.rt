@@ -1,0 +1,18 @@
+//! Exact fractions of up to 128 bits, ramps over them, and a counter of steps.
+#![tactic(auto)]
+
+mod arith;
+mod frac;
+mod ramp;
+mod ratio;
+mod span;
+mod steps;
+
+pub use frac::{Frac, Memory, WideFrac};
+pub use ramp::Ramp;
+pub use ratio::{Ratio, cmp_ratio};
+pub use span::Span;
+pub use steps::Steps;
+
+#[cfg(test)]
+mod tests;

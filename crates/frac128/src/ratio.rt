@@ -1,0 +1,55 @@
+//! A number as a quotient that is not reduced.
+ghost use Rattle.std.specs.Prelude.{◌≡◌, ◌<◌, ◌≤◌, ◌^◌, pos, ◌<ℤ◌, IfOk, MatchResult};
+ghost use Rattle.std.specs.Int.{w64};
+ghost use Rattle.std.specs.Int.RustNames.{unsigned_abs};
+ghost use Rattle.rational.specs.Rational.{IsOrder, fraction};
+ghost use Rattle.frac128.specs.Lowest.{IsReducedDen};
+
+use crate::arith::{cmp_rests, split};
+use crate::frac::{Frac, WideFrac};
+use std::cmp::Ordering;
+
+/// A number as `num / den`, not reduced.
+#[derive(Clone, Copy)]
+pub struct Ratio {
+    pub num: i128,
+    pub den: i128,
+    pub ghost positive: { pos 0 <ℤ den },
+}
+
+impl Ratio {
+    ghost use Rattle.frac128.specs.Value.{value};
+    ghost use Rattle.rational.specs.Rational.{FitsFloor, ◌≈◌};
+
+    /// The number as a `Frac`, unless its denominator in lowest terms is 2^60 or more.
+    pub fn frac(&self) -> Result<Frac, WideFrac>
+        requires { FitsFloor w64 (fraction self.now.num self.now.den) }
+        ensures ok { IfOk result (λ f. value f ≈ fraction self.now.num self.now.den) }
+        ensures den { MatchResult result
+            (λ f. IsReducedDen self.now.num (unsigned_abs self.now.den) f.den)
+            (λ e. IsReducedDen self.now.num (unsigned_abs self.now.den) e.den × (2 ^ 60 ≤ e.den)) }
+    {
+        Frac::make(self.num, self.den)
+    }
+
+    /// The order of the two numbers.
+    pub fn cmp_frac(&self, other: &Frac) -> Ordering
+        ensures { IsOrder result (fraction self.now.num self.now.den) (value other.now) }
+    {
+        cmp_ratio(self.num, self.den, other.top(), i128::from(other.den()))
+    }
+}
+
+/// The order of `n1 / d1` and `n2 / d2`.
+pub fn cmp_ratio(n1: i128, d1: i128, n2: i128, d2: i128) -> Ordering
+    requires positive { pos 0 <ℤ d1 }
+    requires other_positive { pos 0 <ℤ d2 }
+    ensures { IsOrder result (fraction n1 d1) (fraction n2 d2) }
+{
+    let (whole, rest) = split(n1, d1);
+    let (other_whole, other_rest) = split(n2, d2);
+    match whole.cmp(&other_whole) {
+        Ordering::Equal => cmp_rests(rest, d1.unsigned_abs(), other_rest, d2.unsigned_abs()),
+        order => order,
+    }
+}

@@ -1,0 +1,86 @@
+-- Laws of the order of extended values, and that a Sup and an Inf are unique.
+use Rattle.std.proofs.Common.{◌⊎◌, inl, inr, arith}
+use Rattle.rational.specs.Time.{Rational, negate, ◌≤ʳ◌}
+use Rattle.rational.specs.Extended.{Extended, minus_infinity, finite, infinity, ◌≤ᵉ◌, ◌<ᵉ◌, opposite, IsSup, IsInf}
+use Rattle.rational.proofs.Order.{le_or_lt, le_trans, le_refl, not_lt_of_le}
+use Rattle.rational.proofs.Field.{le_negate}
+
+pub le_totalᵉ : (v w : Extended) → (v ≤ᵉ w) ⊎ (w <ᵉ v)
+le_totalᵉ minus_infinity w = inl tt
+le_totalᵉ (finite x) minus_infinity = inr tt
+le_totalᵉ (finite x) (finite y) = le_or_lt x y
+le_totalᵉ (finite x) infinity = inl tt
+le_totalᵉ infinity minus_infinity = inr tt
+le_totalᵉ infinity (finite y) = inr tt
+le_totalᵉ infinity infinity = inl tt
+
+pub clashᵉ : {X : Type 0} (v w : Extended) → v <ᵉ w → w ≤ᵉ v → X
+clashᵉ minus_infinity minus_infinity h k = absurd h
+clashᵉ minus_infinity (finite y) h k = absurd k
+clashᵉ minus_infinity infinity h k = absurd k
+clashᵉ (finite x) minus_infinity h k = absurd h
+clashᵉ (finite x) (finite y) h k = absurd (not_lt_of_le k h)
+clashᵉ (finite x) infinity h k = absurd k
+clashᵉ infinity w h k = absurd h
+
+pub le_reflᵉ : (v : Extended) → v ≤ᵉ v
+le_reflᵉ minus_infinity = tt
+le_reflᵉ (finite x) = le_refl x
+le_reflᵉ infinity = tt
+
+pub le_transᵉ : (u v w : Extended) → u ≤ᵉ v → v ≤ᵉ w → u ≤ᵉ w
+le_transᵉ minus_infinity v w h k = tt
+le_transᵉ (finite x) minus_infinity w h k = absurd h
+le_transᵉ (finite x) (finite y) minus_infinity h k = absurd k
+le_transᵉ (finite x) (finite y) (finite z) h k = le_trans h k
+le_transᵉ (finite x) (finite y) infinity h k = tt
+le_transᵉ (finite x) infinity minus_infinity h k = absurd k
+le_transᵉ (finite x) infinity (finite z) h k = absurd k
+le_transᵉ (finite x) infinity infinity h k = tt
+le_transᵉ infinity minus_infinity w h k = absurd h
+le_transᵉ infinity (finite y) w h k = absurd h
+le_transᵉ infinity infinity w h k = k
+
+negated_le : (x y : Rational) → negate y ≤ʳ negate x → x ≤ʳ y
+negated_le x y h = omega arith
+
+pub opposite_le : (v w : Extended) → opposite w ≤ᵉ opposite v → v ≤ᵉ w
+opposite_le minus_infinity w h = tt
+opposite_le (finite x) minus_infinity h = absurd h
+opposite_le (finite x) (finite y) h = negated_le x y h
+opposite_le (finite x) infinity h = tt
+opposite_le infinity minus_infinity h = absurd h
+opposite_le infinity (finite y) h = absurd h
+opposite_le infinity infinity h = tt
+
+pub opposite_le' : (v w : Extended) → v ≤ᵉ w → opposite w ≤ᵉ opposite v
+opposite_le' minus_infinity minus_infinity h = tt
+opposite_le' minus_infinity (finite y) h = tt
+opposite_le' minus_infinity infinity h = tt
+opposite_le' (finite x) minus_infinity h = absurd h
+opposite_le' (finite x) (finite y) h = le_negate h
+opposite_le' (finite x) infinity h = tt
+opposite_le' infinity minus_infinity h = absurd h
+opposite_le' infinity (finite y) h = absurd h
+opposite_le' infinity infinity h = tt
+
+-- there is at most one Sup, and at most one Inf
+pub Sup-unique : {P : Extended → Type 0} (lowest r r' : Extended) → IsSup lowest P r → IsSup lowest P r' → r ≤ᵉ r'
+Sup-unique {P} lowest r r' h k = by_order (le_totalᵉ r r')
+  where
+    exceeded : (v : Extended) × P v × (r' <ᵉ v) → r ≤ᵉ r'
+    exceeded (v, m, l) = clashᵉ r' v l (k.bound v m)
+
+    by_order : (r ≤ᵉ r') ⊎ (r' <ᵉ r) → r ≤ᵉ r'
+    by_order (inl l) = l
+    by_order (inr l) = exceeded (h.reached r' k.at_least l)
+
+pub Inf-unique : {P : Extended → Type 0} (highest r r' : Extended) → IsInf highest P r → IsInf highest P r' → r ≤ᵉ r'
+Inf-unique {P} highest r r' h k = by_order (le_totalᵉ r r')
+  where
+    undercut : (v : Extended) × P v × (v <ᵉ r) → r ≤ᵉ r'
+    undercut (v, m, l) = clashᵉ v r l (h.bound v m)
+
+    by_order : (r ≤ᵉ r') ⊎ (r' <ᵉ r) → r ≤ᵉ r'
+    by_order (inl l) = l
+    by_order (inr l) = undercut (k.reached r l h.at_most)

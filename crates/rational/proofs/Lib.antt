@@ -1,0 +1,10 @@
+pub mod Order
+pub mod Field
+pub mod Lines
+pub mod Mixed
+pub mod Compare
+pub mod Sup
+pub mod Through
+pub mod Shift
+pub mod TimeLemmas
+pub mod ExtendedLemmas

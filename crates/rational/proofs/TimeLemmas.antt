@@ -1,0 +1,48 @@
+-- Moves and multiples of a number do not depend on its pair.
+use Rattle.std.proofs.Common.{◌≡◌, ℕ, ℤ, ◌*◌, ◌⊎◌, arith, ap, sym, ◌∙◌, inl, inr, Bool, true, false}
+use Rattle.rational.specs.Rational.{part_above, part_below}
+use Rattle.rational.proofs.Order.{le_or_lt, le_trans, lt_of_le_of_lt, lt_of_lt_of_le, le_of_lt, le_of_same, same_sym}
+use Rattle.rational.specs.Time.{Rational, ◌≤ʳ◌, ◌<ʳ◌, ◌≈◌, Precedes, shifted, later, times, less}
+
+pub later_le : {t u : Rational} (k : ℕ) → t ≤ʳ u → later t k ≤ʳ later u k
+later_le {t} {u} k h = record { le = omega (arith, h.le) }
+
+pub same_later : {t u : Rational} (k : ℕ) → t ≈ u → later t k ≈ later u k
+same_later {t} {u} k h = record { same = omega (arith, h.same) }
+
+pub same_shifted : {t u : Rational} (k : ℤ) → t ≈ u → shifted t k ≈ shifted u k
+same_shifted {t} {u} k h = record { same = omega (arith, h.same) }
+
+pub same_times : {t u : Rational} (k : ℤ) → t ≈ u → times k t ≈ times k u
+same_times {t} {u} k h = record { same = omega (arith, ap (λ n. n * part_above k) h.same, ap (λ n. n * part_below k) h.same) }
+
+-- the order with an end in or out goes on with the order
+pub precedes_after : (b : Bool) (t u v : Rational) → t ≤ʳ u → Precedes b u v → Precedes b t v
+precedes_after true t u v h k = le_trans h k
+precedes_after false t u v h k = lt_of_le_of_lt h k
+
+pub precedes_before : (b : Bool) (t u v : Rational) → Precedes b t u → u ≤ʳ v → Precedes b t v
+precedes_before true t u v h k = le_trans h k
+precedes_before false t u v h k = lt_of_lt_of_le h k
+
+pub precedes_le : (b : Bool) (t u : Rational) → Precedes b t u → t ≤ʳ u
+precedes_le true t u h = h
+precedes_le false t u h = le_of_lt h
+
+-- the test of the order says the order
+pub less_out : (t u : Rational) → less t u ≡ true → t <ʳ u
+less_out t u h = record { lt = grind arith }
+
+pub less_in : (t u : Rational) → t <ʳ u → less t u ≡ true
+less_in t u h = let k = h.lt in grind arith
+
+pub less_no : (t u : Rational) → u ≤ʳ t → less t u ≡ false
+less_no t u h = let k = h.le in grind arith
+
+-- the test of the order is the same for one number's pairs
+pub less_same : {t t' : Rational} (u : Rational) → t ≈ t' → less t u ≡ less t' u
+less_same {t} {t'} u h = by_order (le_or_lt u t)
+  where
+    by_order : (u ≤ʳ t) ⊎ (t <ʳ u) → less t u ≡ less t' u
+    by_order (inl l) = less_no t u l ∙ sym (less_no t' u (le_trans l (le_of_same h)))
+    by_order (inr l) = less_in t u l ∙ sym (less_in t' u (lt_of_le_of_lt (le_of_same (same_sym h)) l))

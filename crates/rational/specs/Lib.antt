@@ -1,0 +1,5 @@
+pub mod Rational
+pub mod Line
+pub mod Time
+pub mod Extended
+pub mod Windows

@@ -1,0 +1,2 @@
+pub mod FurtherExamples
+pub mod ReportExamples

@@ -1,0 +1,4 @@
+pub mod Json
+pub mod Table
+pub mod Report
+pub mod Units

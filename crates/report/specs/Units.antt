@@ -1,0 +1,27 @@
+-- The law of units: smaller ticks change no text.
+use Rattle.std.specs.Prelude.{ℕ, ◌+◌, ◌*◌, ◌^◌, ◌≤◌, pos, ◌*ℤ◌, List, map}
+use Rattle.stl_syntax.specs.Trace.{Row, Trace, IsTrace}
+use Rattle.stl_syntax.specs.Formula.{Formula}
+use Rattle.report.specs.Report.{Command, check, robust, Out}
+
+-- the row in ticks that are 10^k and 10^m times smaller
+abbrev pub finer_row : ℕ → ℕ → Row → Row
+finer_row k m r = record { time = 10 ^ k * r.time; values = map (λ v. pos (10 ^ m) *ℤ v) r.values }
+
+-- the trace in smaller ticks
+abbrev pub finer : ℕ → ℕ → Trace → Trace
+finer k m tr = record {
+  header = record { columns = tr.header.columns; scale = record { time = tr.header.scale.time + k; value = tr.header.scale.value + m } };
+  rows = map (finer_row k m) tr.rows;
+}
+
+-- the command writes the same for both traces
+abbrev pub WritesAlike : Command → Formula → Trace → Trace → Type 0
+WritesAlike command f tr tr' = (text : List ℕ) → (Out command f tr text → Out command f tr' text) × (Out command f tr' text → Out command f tr text)
+
+-- what `check` and `robust` write does not depend on the ticks
+abbrev pub LawOfUnits : Type 0
+LawOfUnits =
+    (f : Formula) (tr : Trace) (k m : ℕ) → IsTrace tr → f.scale.time ≤ tr.header.scale.time → f.scale.value ≤ tr.header.scale.value
+    → tr.header.scale.time + k ≤ 6 → tr.header.scale.value + m ≤ 6
+    → WritesAlike check f tr (finer k m tr) × WritesAlike robust f tr (finer k m tr)

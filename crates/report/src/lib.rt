@@ -1,0 +1,2 @@
+//! The texts of verdicts, margins and explanations.
+#![tactic(auto)]

@@ -1,0 +1,3 @@
+pub mod GrammarExamples
+pub mod RefusalExamples
+pub mod RefusalLaw

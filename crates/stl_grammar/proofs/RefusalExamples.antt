@@ -1,0 +1,276 @@
+-- First refusals of small texts.
+use Rattle.std.proofs.Common.{◌≡◌, ap, ℕ, ◌≤◌, inl, inr, List, [], ◌∷◌, ◌++◌, length, refl, Bool, true, false, lit≤, arith}
+use Rattle.std.specs.Prelude.{codes, pos}
+use Rattle.stl_syntax.specs.Characters.{ticks}
+use Rattle.stl_syntax.specs.Choice.{Where}
+use Rattle.stl_grammar.specs.Tokens.{Token, word, number, relation, close_paren, open_bracket, close_bracket, comma, a_word, an_integer, a_decimal, at_least, bracket, a_comma}
+use Rattle.stl_grammar.specs.Grammar.{IsConstant, plain, positive, negative, IsAtom, IsFormula, IsDisjunct, IsConjunct, IsTimed, IsOperand, disjunct, implies, conjunct, or, timed, and, operand, until, since, not, eventually, always, once, historically, always_true, always_false, parens, atom, first, signed, bound, inside}
+use Rattle.stl_grammar.specs.Grammar.{name as term_name, none as no_terms}
+use Rattle.stl_grammar.specs.FormulaRefusals.{MayBegin, MayEnd, BeginsNoToken, RefusedAt, here, later, at_end, blank, bad_byte, IsFormulaFault, is_unbounded, pending, nodes_made, begins_fifth_term, is_bad_number, is_out_of_order}
+use Rattle.stl_syntax.specs.declared.scale.Scale.{Scale}
+use Rattle.stl_syntax.specs.declared.node.Node.{Node}
+use Rattle.stl_syntax.specs.declared.node.Node.TheVariants.{Const, Atom as Leaf, Eventually}
+use Rattle.stl_syntax.specs.declared.rel.Rel.TheVariants.{AtLeast}
+use Rattle.stl_grammar.specs.declared.fault.What.TheVariants.{Constant}
+use Rattle.stl_grammar.specs.declared.fault.FormulaFault.{FormulaFault}
+use Rattle.stl_grammar.specs.declared.fault.FormulaFault.TheVariants.{Empty, BadByte, Expected, UnboundedFuture, BoundOrder, BadNumber}
+
+-- the last token may be that of a formula
+can_end : Token → Bool
+can_end (word w) = true
+can_end (number n k) = true
+can_end close_paren = true
+can_end _ = false
+
+ends_well : List Token → Bool
+ends_well [] = false
+ends_well (t ∷ []) = can_end t
+ends_well (t ∷ u ∷ ts) = ends_well (u ∷ ts)
+
+after_one : (t : Token) (ts : List Token) → ends_well ts ≡ true → ends_well (t ∷ ts) ≡ true
+unfolding ends_well
+after_one t [] h = absurd (cc)
+after_one t (u ∷ ts) h = h
+
+after_some : (ts us : List Token) → ends_well us ≡ true → ends_well (ts ++ us) ≡ true
+after_some [] us h = h
+after_some (t ∷ ts) us h = after_one t (ts ++ us) (after_some ts us h)
+
+constant_ends : {digits : ℕ} {ts : List Token} {c : _} → IsConstant digits ts c → ends_well ts ≡ true
+unfolding ends_well can_end
+constant_ends plain = refl
+constant_ends positive = refl
+constant_ends negative = refl
+
+atom_ends : {digits : ℕ} {ts : List Token} {a : _} → IsAtom digits ts a → ends_well ts ≡ true
+atom_ends (first {ts = ts} {us} {vs} {rel = rel} t u c) = after_some (ts ++ us) (relation rel ∷ vs) (after_one (relation rel) vs (constant_ends c))
+atom_ends (signed {us = us} {vs} {rel = rel} u c) = after_some us (relation rel ∷ vs) (after_one (relation rel) vs (constant_ends c))
+
+true_ends : ends_well (word (codes "true") ∷ []) ≡ true
+unfolding ends_well can_end
+true_ends = refl
+
+false_ends : ends_well (word (codes "false") ∷ []) ≡ true
+unfolding ends_well can_end
+false_ends = refl
+
+paren_ends : ends_well (close_paren ∷ []) ≡ true
+unfolding ends_well can_end
+paren_ends = refl
+
+mutual
+  formula_ends : {s : Scale} {k : ℕ} {ts : List Token} {ns : List Node} → IsFormula s k ts ns → ends_well ts ≡ true
+  formula_ends (disjunct d) = disjunct_ends d
+  formula_ends (implies {ts = ts} {us} d f) = after_some ts (word (codes "implies") ∷ us) (after_one _ us (formula_ends f))
+
+  disjunct_ends : {s : Scale} {k : ℕ} {ts : List Token} {ns : List Node} → IsDisjunct s k ts ns → ends_well ts ≡ true
+  disjunct_ends (conjunct c) = conjunct_ends c
+  disjunct_ends (or {ts = ts} {us} d c) = after_some ts (word (codes "or") ∷ us) (after_one _ us (conjunct_ends c))
+
+  conjunct_ends : {s : Scale} {k : ℕ} {ts : List Token} {ns : List Node} → IsConjunct s k ts ns → ends_well ts ≡ true
+  conjunct_ends (timed t) = timed_ends t
+  conjunct_ends (and {ts = ts} {us} c t) = after_some ts (word (codes "and") ∷ us) (after_one _ us (timed_ends t))
+
+  timed_ends : {s : Scale} {k : ℕ} {ts : List Token} {ns : List Node} → IsTimed s k ts ns → ends_well ts ≡ true
+  timed_ends (operand o) = operand_ends o
+  timed_ends (until {ts = ts} {us} {vs} o b p) = after_some (ts ++ (word (codes "until") ∷ us)) vs (operand_ends p)
+  timed_ends (since {ts = ts} {us} {vs} o b p) = after_some (ts ++ (word (codes "since") ∷ us)) vs (operand_ends p)
+
+  operand_ends : {s : Scale} {k : ℕ} {ts : List Token} {ns : List Node} → IsOperand s k ts ns → ends_well ts ≡ true
+  operand_ends (not {ts = ts} o) = after_one _ ts (operand_ends o)
+  operand_ends (eventually {ts = ts} {us} b o) = after_one _ (us ++ ts) (after_some us ts (operand_ends o))
+  operand_ends (always {ts = ts} {us} b o) = after_one _ (us ++ ts) (after_some us ts (operand_ends o))
+  operand_ends (once {ts = ts} {us} b o) = after_one _ (us ++ ts) (after_some us ts (operand_ends o))
+  operand_ends (historically {ts = ts} {us} b o) = after_one _ (us ++ ts) (after_some us ts (operand_ends o))
+  operand_ends always_true = true_ends
+  operand_ends always_false = false_ends
+  operand_ends (parens {ts = ts} f) = after_one _ (ts ++ close_paren ∷ []) (after_some ts (close_paren ∷ []) paren_ends)
+  operand_ends (atom a) = atom_ends a
+
+-- a token at which no refusal stands
+pub not_refused : (before : List Token) (t : Token) (text : List ℕ) (p : ℕ) → is_unbounded before t text ≡ false → MayBegin (t ∷ before)
+    → length (pending (t ∷ before)) ≤ 64 → nodes_made (t ∷ before) ≤ 256 → begins_fifth_term before t ≡ false → is_bad_number before t ≡ false
+    → is_out_of_order before t ≡ false → (x : FormulaFault) → ¬ RefusedAt before t text p x
+not_refused before t text p a b c d e f g x (inl (h, z)) = cc
+not_refused before t text p a b c d e f g x (inr (_, inl (h, z))) = h b
+not_refused before t text p a b c d e f g x (inr (_, inr (_, inl (h, z)))) = omega arith
+not_refused before t text p a b c d e f g x (inr (_, inr (_, inr (_, inl (h, z))))) = omega arith
+not_refused before t text p a b c d e f g x (inr (_, inr (_, inr (_, inr (_, inl (h, z)))))) = cc
+not_refused before t text p a b c d e f g x (inr (_, inr (_, inr (_, inr (_, inr (_, inl (h, z))))))) = cc
+not_refused before t text p a b c d e f g x (inr (_, inr (_, inr (_, inr (_, inr (_, inr (_, (h, z)))))))) = cc
+
+-- a case that does not hold is passed over
+pub passed : {A : Type 0} (P : Type 0) (a : A) → ¬ P → (x : A) → ¬ Where P a x
+passed P a h x w = h w.0
+
+empty : IsFormulaFault (codes " ") Empty
+empty = inr (passed _ _ (λ h. omega arith), inl (refl, refl))
+
+-- `eventually x >= 1`: unbounded future at 0
+unbounded : IsFormulaFault (codes "eventually x >= 1") (UnboundedFuture 0)
+unbounded = inr (
+  passed _ _ (λ h. omega arith),
+  inr (passed _ _ (λ h. cc), inl (here (word (codes "eventually")) (codes "eventually") (codes " x >= 1") refl (a_word refl refl refl) (inl (refl, refl)))),
+)
+
+-- `x >=`: a constant is expected at 4
+abbrev x_at_least : (n k : ℕ) → IsFormula (record { time = 0; value = 0 }) 0 (word (codes "x") ∷ relation AtLeast ∷ number n k ∷ [])
+    (Leaf (record { terms = record { coef = pos 1; name = codes "x" } ∷ []; rel = AtLeast; limit = pos (ticks 0 n k) }) ∷ [])
+x_at_least n k = disjunct (conjunct (timed (operand (atom (first (term_name {w = codes "x"} refl) no_terms plain)))))
+
+no_constant : IsFormulaFault (codes "x >=") (Expected 4 Constant)
+unfolding ends_well can_end
+no_constant = inr (
+  passed _ _ (λ h. omega arith),
+  inr (
+    passed _ _ (λ h. cc),
+    inl (
+        later (word (codes "x")) (codes "x") (codes " >=") refl (a_word refl refl refl)
+        (not_refused [] (word (codes "x")) (codes " >=") 0 refl (relation AtLeast ∷ number 0 0 ∷ [], _, x_at_least 0 0) (lit≤ tt) (lit≤ tt) refl refl refl)
+        (blank refl (
+        later (relation AtLeast) (codes ">=") [] refl at_least
+        (not_refused (word (codes "x") ∷ []) (relation AtLeast) [] 2 refl (number 0 0 ∷ [], _, x_at_least 0 0) (lit≤ tt) (lit≤ tt) refl refl refl)
+        (at_end none)))),
+  ),
+)
+  where
+    none : ¬ MayEnd (relation AtLeast ∷ word (codes "x") ∷ [])
+    none (nodes, f) = let h = formula_ends f in cc
+
+-- a point begins no token
+abbrev first_byte : List ℕ → ℕ
+first_byte [] = 0
+first_byte (c ∷ text) = c
+
+no_point : BeginsNoToken (codes ".")
+no_point bytes text t e (a_word {c = c} h k l) = let x : 46 ≡ c = ap first_byte e in let y = rw (← x) at h in cc
+no_point bytes text t e (an_integer {c = c} {digits} h k l) = let x : 46 ≡ c = ap first_byte e in let y = rw (← x) at h in cc
+no_point bytes text t e (a_decimal c digits d decimals h k l) = let x : 46 ≡ c = ap first_byte e in let y = rw (← x) at h in cc
+no_point bytes text t e _ = let x = ap first_byte e in omega (arith, x)
+
+-- `x >= 1.`: a bad byte at 6
+bad_point : IsFormulaFault (codes "x >= 1.") (BadByte 6)
+bad_point = inr (
+  passed _ _ (λ h. omega arith),
+  inr (
+    passed _ _ (λ h. cc),
+    inl (
+        later (word (codes "x")) (codes "x") (codes " >= 1.") refl (a_word refl refl refl)
+        (not_refused [] (word (codes "x")) (codes " >= 1.") 0 refl (relation AtLeast ∷ number 0 0 ∷ [], _, x_at_least 0 0) (lit≤ tt) (lit≤ tt) refl refl refl)
+        (blank refl (
+        later (relation AtLeast) (codes ">=") (codes " 1.") refl at_least
+        (not_refused (word (codes "x") ∷ []) (relation AtLeast) (codes " 1.") 2 refl (number 0 0 ∷ [], _, x_at_least 0 0) (lit≤ tt) (lit≤ tt) refl refl refl)
+        (blank refl (
+        later (number 1 0) (codes "1") (codes ".") refl (an_integer refl refl refl)
+        (not_refused (relation AtLeast ∷ word (codes "x") ∷ []) (number 1 0) (codes ".") 5 refl ([], _, x_at_least 1 0) (lit≤ tt) (lit≤ tt) refl refl refl)
+        (bad_byte refl no_point)))))),
+  ),
+)
+
+-- `x >= 0.0000001`: the number at 5 is too large
+bad_number : IsFormulaFault (codes "x >= 0.0000001") (BadNumber 5)
+bad_number = inr (
+  passed _ _ (λ h. omega arith),
+  inr (
+    passed _ _ (λ h. cc),
+    inl (
+        later (word (codes "x")) (codes "x") (codes " >= 0.0000001") refl (a_word refl refl refl)
+        (not_refused [] (word (codes "x")) (codes " >= 0.0000001") 0 refl (relation AtLeast ∷ number 0 0 ∷ [], _, x_at_least 0 0) (lit≤ tt) (lit≤ tt) refl refl refl)
+        (blank refl (
+        later (relation AtLeast) (codes ">=") (codes " 0.0000001") refl at_least
+        (not_refused (word (codes "x") ∷ []) (relation AtLeast) (codes " 0.0000001") 2 refl (number 0 0 ∷ [], _, x_at_least 0 0) (lit≤ tt) (lit≤ tt) refl refl refl)
+        (blank refl (
+        here (number 1 7) (codes "0.0000001") [] refl (a_decimal 48 [] 48 (codes "000001") refl refl tt)
+        (inr (
+          passed _ _ (λ h. cc),
+          inr (
+            passed _ _ (λ h. h ([], _, x_at_least 1 7)),
+            inr (
+              passed _ _ (λ h. omega arith),
+              inr (
+                passed _ _ (λ h. omega arith),
+                inr (passed _ _ (λ h. cc), inl (refl, refl)),
+              ),
+            ),
+          ),
+        ))))))),
+  ),
+)
+
+-- `eventually[3,2] x >= 1`: the bounds are out of order at 13
+abbrev bound_first : MayBegin (number 2 0 ∷ comma ∷ number 3 0 ∷ open_bracket ∷ word (codes "eventually") ∷ [])
+bound_first = (
+  close_bracket ∷ word (codes "true") ∷ [],
+  Const true ∷ Eventually 0 3 2 true true ∷ [],
+  disjunct (conjunct (timed (operand (eventually {ns = Const true ∷ []} (bound {a = 3} {j = 0} {b = 2} {k = 0} inside inside) always_true)))),
+)
+
+out_of_order : IsFormulaFault (codes "eventually[3,2] x >= 1") (BoundOrder 13)
+out_of_order = inr (
+  passed _ _ (λ h. omega arith),
+  inr (
+    passed _ _ (λ h. cc),
+    inl (
+        later (word (codes "eventually")) (codes "eventually") (codes "[3,2] x >= 1") refl (a_word refl refl refl)
+        (not_refused [] _ (codes "[3,2] x >= 1") 0 refl (open_bracket ∷ number 3 0 ∷ comma ∷ number 2 0 ∷ bound_first.0, bound_first.1, bound_first.2) (lit≤ tt) (lit≤ tt) refl refl refl)
+        (later open_bracket (codes "[") (codes "3,2] x >= 1") refl bracket
+        (not_refused (word (codes "eventually") ∷ []) _ (codes "3,2] x >= 1") 10 refl (number 3 0 ∷ comma ∷ number 2 0 ∷ bound_first.0, bound_first.1, bound_first.2) (lit≤ tt) (lit≤ tt) refl refl refl)
+        (later (number 3 0) (codes "3") (codes ",2] x >= 1") refl (an_integer refl refl refl)
+        (not_refused (open_bracket ∷ word (codes "eventually") ∷ []) _ (codes ",2] x >= 1") 11 refl (comma ∷ number 2 0 ∷ bound_first.0, bound_first.1, bound_first.2) (lit≤ tt) (lit≤ tt) refl refl refl)
+        (later comma (codes ",") (codes "2] x >= 1") refl a_comma
+        (not_refused (number 3 0 ∷ open_bracket ∷ word (codes "eventually") ∷ []) _ (codes "2] x >= 1") 12 refl (number 2 0 ∷ bound_first.0, bound_first.1, bound_first.2) (lit≤ tt) (lit≤ tt) refl refl refl)
+        (here (number 2 0) (codes "2") (codes "] x >= 1") refl (an_integer refl refl refl)
+        (inr (
+          passed _ _ (λ h. cc),
+          inr (
+            passed _ _ (λ h. h bound_first),
+            inr (
+              passed _ _ (λ h. omega arith),
+              inr (
+                passed _ _ (λ h. omega arith),
+                inr (passed _ _ (λ h. cc), inr (passed _ _ (λ h. cc), (refl, refl))),
+              ),
+            ),
+          ),
+        ))))))),
+  ),
+)
+
+-- `until` alone: unbounded future at 0, and not an operand that is missing
+until_alone : IsFormulaFault (codes "until") (UnboundedFuture 0)
+until_alone = inr (
+  passed _ _ (λ h. omega arith),
+  inr (passed _ _ (λ h. cc), inl (here (word (codes "until")) (codes "until") [] refl (a_word refl refl tt) (inl (refl, refl)))),
+)
+
+-- `x >= 1 eventually`: unbounded future at 7, where the word could not follow
+eventually_after : IsFormulaFault (codes "x >= 1 eventually") (UnboundedFuture 7)
+eventually_after = inr (
+  passed _ _ (λ h. omega arith),
+  inr (
+    passed _ _ (λ h. cc),
+    inl (
+        later (word (codes "x")) (codes "x") (codes " >= 1 eventually") refl (a_word refl refl refl)
+        (not_refused [] (word (codes "x")) (codes " >= 1 eventually") 0 refl (relation AtLeast ∷ number 0 0 ∷ [], _, x_at_least 0 0) (lit≤ tt) (lit≤ tt) refl refl refl)
+        (blank refl (
+        later (relation AtLeast) (codes ">=") (codes " 1 eventually") refl at_least
+        (not_refused (word (codes "x") ∷ []) (relation AtLeast) (codes " 1 eventually") 2 refl (number 0 0 ∷ [], _, x_at_least 0 0) (lit≤ tt) (lit≤ tt) refl refl refl)
+        (blank refl (
+        later (number 1 0) (codes "1") (codes " eventually") refl (an_integer refl refl refl)
+        (not_refused (relation AtLeast ∷ word (codes "x") ∷ []) (number 1 0) (codes " eventually") 5 refl ([], _, x_at_least 1 0) (lit≤ tt) (lit≤ tt) refl refl refl)
+        (blank refl (here (word (codes "eventually")) (codes "eventually") [] refl (a_word refl refl tt) (inl (refl, refl))))))))),
+  ),
+)
+
+-- `true until]0,2] x >= 5`: a bound of until is closed
+open_until : IsFormulaFault (codes "true until]0,2] x >= 5") (UnboundedFuture 5)
+open_until = inr (
+  passed _ _ (λ h. omega arith),
+  inr (
+    passed _ _ (λ h. cc),
+    inl (
+        later (word (codes "true")) (codes "true") (codes " until]0,2] x >= 5") refl (a_word refl refl refl)
+        (not_refused [] (word (codes "true")) (codes " until]0,2] x >= 5") 0 refl ([], Const true ∷ [], disjunct (conjunct (timed (operand always_true)))) (lit≤ tt) (lit≤ tt) refl refl refl)
+        (blank refl (here (word (codes "until")) (codes "until") (codes "]0,2] x >= 5") refl (a_word refl refl refl) (inl (refl, refl))))),
+  ),
+)

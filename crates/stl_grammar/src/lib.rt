@@ -1,0 +1,6 @@
+//! The text of formulas.
+#![tactic(auto)]
+
+mod fault;
+
+pub use fault::{FormulaFault, What};

@@ -1,0 +1,181 @@
+-- What rows answer stays so in every trace that goes on from them.
+use Rattle.std.proofs.Common.{ℕ, suc, pos, ◌+◌, ◌-◌, ◌*◌, ◌≤◌, List, [], ◌∷◌, ◌++◌, inl, inr, Bool, true, false, arith, ◌⊎◌, max, mul-le-mul_right}
+use Rattle.std.specs.Prelude.{bytes_eq, Option}
+use Rattle.rational.specs.Line.{at}
+use Rattle.rational.proofs.Order.{le_or_lt, le_trans, same_refl, same_sym, same_trans, same_of_le, lt_of_le_of_lt}
+use Rattle.rational.proofs.Field.{same_add, same_subtract}
+use Rattle.rational.proofs.Lines.{same_at}
+use Rattle.rational.specs.Time.{Rational, ◌≤ʳ◌, ◌<ʳ◌, ◌≈◌, Within, whole, later}
+use Rattle.rational.specs.Windows.{Ahead, Behind}
+use Rattle.stl_syntax.specs.Trace.{Column, Row, Trace, AreRowsAfter, row_time, value, line_between, piece, value_from, value_among, value_of, last_time, Header}
+use Rattle.stl_syntax.specs.Formula.{Subformula, constant, atom, negation, conjunction, disjunction, implication, until, eventually, always, since, once, historically, horizon}
+use Rattle.stl_syntax.specs.Truth.{sum_at, expression, Truth}
+use Rattle.stl_syntax.specs.declared.atom.Term.{Term}
+use Rattle.stl_syntax.specs.declared.atom.Atom.{Atom}
+use Rattle.rational.proofs.TimeLemmas.{same_times, less_in, less_no, precedes_le}
+use Rattle.stl_syntax.proofs.TruthLemmas.{compares_same, chosen}
+
+-- a ramp has at its first row that row's value
+ramp_starts : (c : ℕ) (r s : Row) → at (line_between r.time (value r c) (s.time - suc r.time) (value s c)) (row_time r) ≈ whole (value r c)
+ramp_starts c r s = record { same = omega arith }
+
+piece_starts : (step : Bool) (c : ℕ) (r s : Row) (t : Rational) → t ≈ row_time r → piece step c r s t ≈ whole (value r c)
+piece_starts true c r s t e = same_refl (whole (value r c))
+piece_starts false c r s t e = same_trans (same_at (line_between r.time (value r c) (s.time - suc r.time) (value s c)) e) (ramp_starts c r s)
+
+-- the part up to the next row is the same
+by_next : (step : Bool) (c : ℕ) (r s : Row) (rows more : List Row) (t : Rational)
+    → (row_time s ≤ʳ t → value_from step c s rows t ≈ value_from step c s (rows ++ more) t)
+    → value_from step c r (s ∷ rows) t ≈ value_from step c r (s ∷ (rows ++ more)) t
+by_next step c r s rows more t later = by_order (le_or_lt (row_time s) t)
+  where
+    by_order : (row_time s ≤ʳ t) ⊎ (t <ʳ row_time s) → value_from step c r (s ∷ rows) t ≈ value_from step c r (s ∷ (rows ++ more)) t
+    by_order (inl g) = rw (less_no t (row_time s) g) (later g)
+    by_order (inr l) = rw (less_in t (row_time s) l) (same_refl (piece step c r s t))
+
+-- up to the last row of a trace its columns have the values that they have when more rows follow
+same_from : (step : Bool) (c n : ℕ) (r : Row) (rows more : List Row) (t : Rational) → AreRowsAfter n r.time (rows ++ more)
+    → row_time r ≤ʳ t → t ≤ʳ whole (pos (last_time r.time rows)) → value_from step c r rows t ≈ value_from step c r (rows ++ more) t
+same_from step c n r [] [] t ok h k = same_refl (whole (value r c))
+same_from step c n r [] (s ∷ more) t ok h k =
+    let soon : t <ʳ row_time s = lt_of_le_of_lt k (let e = ok.0 in record { lt = omega arith }) in
+    rw (less_in t (row_time s) soon) (same_sym (piece_starts step c r s t (same_of_le k h)))
+same_from step c n r (s ∷ rows) more t ok h k =
+    by_next step c r s rows more t (λ g. same_from step c n s rows more t ok.2 g k)
+
+same_among : (columns : List Column) (c n : ℕ) (r : Row) (rows more : List Row) (name : List ℕ) (t : Rational) → AreRowsAfter n r.time (rows ++ more)
+    → row_time r ≤ʳ t → t ≤ʳ whole (pos (last_time r.time rows)) → value_among columns c (r ∷ rows) name t ≈ value_among columns c (r ∷ (rows ++ more)) name t
+same_among [] c n r rows more name t ok h k = same_refl (whole (pos 0))
+same_among (x ∷ columns) c n r rows more name t ok h k =
+    chosen (bytes_eq x.name name) _ _ _ _ (same_from x.step c n r rows more t ok h k) (same_among columns (suc c) n r rows more name t ok h k)
+
+abbrev pub trace : Header → List Row → Trace
+trace header rows = record { header = header; rows = rows }
+
+-- the last time does not fall
+last_grows : (n time : ℕ) (rows more : List Row) → AreRowsAfter n time (rows ++ more) → last_time time rows ≤ last_time time (rows ++ more)
+last_grows n time [] [] ok = omega arith
+last_grows n time [] (s ∷ more) ok = let h = last_grows n s.time [] more ok.2 in let k = ok.0 in omega arith
+last_grows n time (r ∷ rows) more ok = last_grows n r.time rows more ok.2
+
+either : {A B C D : Type 0} → (A → C) → (B → D) → A ⊎ B → C ⊎ D
+either f g (inl x) = inl (f x)
+either f g (inr y) = inr (g y)
+
+module _ (header : Header) (n : ℕ) (r : Row) (rows more : List Row) (ok : AreRowsAfter n r.time (rows ++ more)) where
+  same_column : (name : List ℕ) (t : Rational) → row_time r ≤ʳ t → t ≤ʳ whole (pos (last_time r.time rows))
+      → value_of (trace header (r ∷ rows)) name t ≈ value_of (trace header (r ∷ (rows ++ more))) name t
+  unfolding value_of
+  same_column name t h k = same_among header.columns 0 n r rows more name t ok h k
+
+  same_sum : (terms : List Term) (t : Rational) → row_time r ≤ʳ t → t ≤ʳ whole (pos (last_time r.time rows))
+      → sum_at terms (trace header (r ∷ rows)) t ≈ sum_at terms (trace header (r ∷ (rows ++ more))) t
+  same_sum [] t h k = same_refl (whole (pos 0))
+  same_sum (x ∷ terms) t h k = same_add (same_times x.coef (same_column x.name t h k)) (same_sum terms t h k)
+
+  pub same_atom : (a : Atom) (t : Rational) → row_time r ≤ʳ t → t ≤ʳ whole (pos (last_time r.time rows))
+      → expression a (trace header (r ∷ rows)) t ≈ expression a (trace header (r ∷ (rows ++ more))) t
+  unfolding expression
+  same_atom a t h k = same_subtract (same_sum a.terms t h k) (same_refl (whole a.limit))
+
+  pub longer : whole (pos (last_time r.time rows)) ≤ʳ whole (pos (last_time r.time (rows ++ more)))
+  longer = let h = last_grows n r.time rows more ok in record { le = omega arith }
+
+  -- a window that ends by the last row is not clipped anew
+  ahead_wider : (a b : ℕ) (a_in b_in : Bool) (t u : Rational) → Ahead (row_time r) (whole (pos (last_time r.time rows))) a b a_in b_in t u → Ahead (row_time r) (whole (pos (last_time r.time (rows ++ more)))) a b a_in b_in t u
+  ahead_wider a b a_in b_in t u w = record { inside = record { above = w.inside.above; below = le_trans w.inside.below longer }; begins = w.begins; ends = w.ends }
+
+  ahead_narrower : (a b : ℕ) (a_in b_in : Bool) (t u : Rational) → later t b ≤ʳ whole (pos (last_time r.time rows))
+      → Ahead (row_time r) (whole (pos (last_time r.time (rows ++ more)))) a b a_in b_in t u → Ahead (row_time r) (whole (pos (last_time r.time rows))) a b a_in b_in t u
+  ahead_narrower a b a_in b_in t u h w = record { inside = record { above = w.inside.above; below = le_trans (precedes_le b_in u (later t b) w.ends) h }; begins = w.begins; ends = w.ends }
+
+  behind_wider : (a : ℕ) (b : Option ℕ) (a_in b_in : Bool) (t u : Rational) → Behind (row_time r) (whole (pos (last_time r.time rows))) a b a_in b_in t u → Behind (row_time r) (whole (pos (last_time r.time (rows ++ more)))) a b a_in b_in t u
+  behind_wider a b a_in b_in t u w = record { inside = record { above = w.inside.above; below = le_trans w.inside.below longer }; begins = w.begins; ends = w.ends }
+
+  behind_narrower : (a : ℕ) (b : Option ℕ) (a_in b_in : Bool) (t u : Rational) → t ≤ʳ whole (pos (last_time r.time rows))
+      → Behind (row_time r) (whole (pos (last_time r.time (rows ++ more)))) a b a_in b_in t u → Behind (row_time r) (whole (pos (last_time r.time rows))) a b a_in b_in t u
+  behind_narrower a b a_in b_in t u h w = record { inside = record { above = w.inside.above; below = le_trans (let e = precedes_le a_in (later u a) t w.ends in record { le = omega (arith, e.le) }) h }; begins = w.begins; ends = w.ends }
+
+  -- the trace is known up to s: a later time by k or less
+  abbrev pub Known : ℕ → Rational → Type 0
+  Known k t = (row_time r ≤ʳ t) × (later t k ≤ʳ whole (pos (last_time r.time rows)))
+
+  later_later : (t u : Rational) (j k : ℕ) → u ≤ʳ later t j → later u k ≤ʳ later t (j + k)
+  later_later t u j k h = record { le = omega (arith, h.le) }
+
+  later_more : (t : Rational) (j k : ℕ) → j ≤ k → later t j ≤ʳ later t k
+  later_more t j k h = record { le = omega (arith, mul-le-mul_right (t.den * t.den) h) }
+
+  now : (k : ℕ) (t : Rational) → Known k t → t ≤ʳ whole (pos (last_time r.time rows))
+  now k t h = le_trans (record { le = omega (arith, mul-le-mul_right (t.den * t.den) (let z : 0 ≤ k = omega arith in z)) }) h.1
+
+  less_known : (j k : ℕ) (t : Rational) → j ≤ k → Known k t → Known j t
+  less_known j k t g h = (h.0, le_trans (later_more t j k g) h.1)
+
+  known_ahead : (a b k : ℕ) (t u : Rational) → Known (b + k) t → row_time r ≤ʳ u → u ≤ʳ later t b → Known k u
+  known_ahead a b k t u h s e = (s, le_trans (later_later t u b k e) h.1)
+
+  known_behind : (a k : ℕ) (t u : Rational) → Known (k - a) t → row_time r ≤ʳ u → later u a ≤ʳ t → Known k u
+  known_behind a k t u h s e = (s, le_trans (le_trans (later_more u k (a + (k - a)) (omega arith)) (record { le = omega (arith, e.le) })) h.1)
+
+  known_before : (k : ℕ) (t v : Rational) → Known k t → row_time r ≤ʳ v → v ≤ʳ t → Known k v
+  known_before k t v h s e = (s, le_trans (record { le = omega (arith, e.le) }) h.1)
+
+  window_end : (b k : ℕ) (t : Rational) → Known (b + k) t → later t b ≤ʳ whole (pos (last_time r.time rows))
+  window_end b k t h = le_trans (later_more t b (b + k) (omega arith)) h.1
+
+  -- an answered truth is the truth in each trace that goes on from the rows
+  pub Truth-settled : (p : Subformula) (t : Rational) → Known (horizon p) t
+      → (Truth p (trace header (r ∷ rows)) t → Truth p (trace header (r ∷ (rows ++ more))) t)
+      × (Truth p (trace header (r ∷ (rows ++ more))) t → Truth p (trace header (r ∷ rows)) t)
+  Truth-settled (constant b) t h = (λ x. x, λ x. x)
+  Truth-settled (atom i a) t h =
+      let e = same_atom a t h.0 (now 0 t h) in
+      (λ x. compares_same a.rel _ _ e x, λ x. compares_same a.rel _ _ (same_sym e) x)
+  Truth-settled (negation p) t h = let s = Truth-settled p t h in (λ x y. x (s.1 y), λ x y. x (s.0 y))
+  Truth-settled (conjunction p q) t h =
+      let s = Truth-settled p t (less_known (horizon p) (max (horizon p) (horizon q)) t (omega arith) h) in
+      let u = Truth-settled q t (less_known (horizon q) (max (horizon p) (horizon q)) t (omega arith) h) in
+      (λ x. (s.0 x.0, u.0 x.1), λ x. (s.1 x.0, u.1 x.1))
+  Truth-settled (disjunction p q) t h =
+      let s = Truth-settled p t (less_known (horizon p) (max (horizon p) (horizon q)) t (omega arith) h) in
+      let u = Truth-settled q t (less_known (horizon q) (max (horizon p) (horizon q)) t (omega arith) h) in
+      (either s.0 u.0, either s.1 u.1)
+  Truth-settled (implication p q) t h =
+      let s = Truth-settled p t (less_known (horizon p) (max (horizon p) (horizon q)) t (omega arith) h) in
+      let u = Truth-settled q t (less_known (horizon q) (max (horizon p) (horizon q)) t (omega arith) h) in
+      (λ x y. u.0 (x (s.1 y)), λ x y. u.1 (x (s.0 y)))
+  Truth-settled (eventually a b a_in b_in p) t h = (
+    λ (u, w, x). (u, ahead_wider a b a_in b_in t u w, (Truth-settled p u (known_ahead a b (horizon p) t u h w.inside.above (precedes_le b_in u (later t b) w.ends))).0 x),
+    λ (u, w, x). (u, ahead_narrower a b a_in b_in t u (window_end b (horizon p) t h) w, (Truth-settled p u (known_ahead a b (horizon p) t u h w.inside.above (precedes_le b_in u (later t b) w.ends))).1 x),
+  )
+  Truth-settled (always a b a_in b_in p) t h = (
+    λ x u w. let v = ahead_narrower a b a_in b_in t u (window_end b (horizon p) t h) w in (Truth-settled p u (known_ahead a b (horizon p) t u h w.inside.above (precedes_le b_in u (later t b) w.ends))).0 (x u v),
+    λ x u w. (Truth-settled p u (known_ahead a b (horizon p) t u h w.inside.above (precedes_le b_in u (later t b) w.ends))).1 (x u (ahead_wider a b a_in b_in t u w)),
+  )
+  Truth-settled (once a b a_in b_in p) t h = (
+    λ (u, w, x). (u, behind_wider a b a_in b_in t u w, (Truth-settled p u (known_behind a (horizon p) t u h w.inside.above (precedes_le a_in (later u a) t w.ends))).0 x),
+    λ (u, w, x). (u, behind_narrower a b a_in b_in t u (now (horizon p - a) t h) w, (Truth-settled p u (known_behind a (horizon p) t u h w.inside.above (precedes_le a_in (later u a) t w.ends))).1 x),
+  )
+  Truth-settled (historically a b a_in b_in p) t h = (
+    λ x u w. let v = behind_narrower a b a_in b_in t u (now (horizon p - a) t h) w in (Truth-settled p u (known_behind a (horizon p) t u h w.inside.above (precedes_le a_in (later u a) t w.ends))).0 (x u v),
+    λ x u w. (Truth-settled p u (known_behind a (horizon p) t u h w.inside.above (precedes_le a_in (later u a) t w.ends))).1 (x u (behind_wider a b a_in b_in t u w)),
+  )
+  Truth-settled (until a b p q) t h =
+      let m = max (horizon p) (horizon q) in
+      let left : (u v : Rational) → u ≤ʳ later t b → Within t u v → Known (horizon p) v =
+      λ u v e w. less_known (horizon p) m v (omega arith) (known_ahead a b m t v h (le_trans h.0 w.above) (le_trans w.below e)) in
+      let right : (u : Rational) → row_time r ≤ʳ u → u ≤ʳ later t b → Known (horizon q) u =
+      λ u g e. less_known (horizon q) m u (omega arith) (known_ahead a b m t u h g e) in (
+        λ (u, w, x, y). (u, ahead_wider a b true true t u w, (Truth-settled q u (right u w.inside.above w.ends)).0 x, λ v z. (Truth-settled p v (left u v w.ends z)).0 (y v z)),
+        λ (u, w, x, y). (u, ahead_narrower a b true true t u (window_end b m t h) w, (Truth-settled q u (right u w.inside.above w.ends)).1 x, λ v z. (Truth-settled p v (left u v w.ends z)).1 (y v z)),
+      )
+  Truth-settled (since a b p q) t h =
+      let m = max (horizon p) (horizon q - a) in
+      let left : (u v : Rational) → row_time r ≤ʳ u → Within u t v → Known (horizon p) v =
+      λ u v g w. less_known (horizon p) m v (omega arith) (known_before m t v h (le_trans g w.above) w.below) in
+      let right : (u : Rational) → row_time r ≤ʳ u → later u a ≤ʳ t → Known (horizon q) u =
+      λ u g e. known_behind a (horizon q) t u (less_known (horizon q - a) m t (omega arith) h) g e in (
+        λ (u, w, x, y). (u, behind_wider a b true true t u w, (Truth-settled q u (right u w.inside.above w.ends)).0 x, λ v z. (Truth-settled p v (left u v w.inside.above z)).0 (y v z)),
+        λ (u, w, x, y). (u, behind_narrower a b true true t u (now m t h) w, (Truth-settled q u (right u w.inside.above w.ends)).1 x, λ v z. (Truth-settled p v (left u v w.inside.above z)).1 (y v z)),
+      )

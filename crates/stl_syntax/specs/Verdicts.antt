@@ -1,0 +1,65 @@
+-- Lists of verdicts and of knots that describe a formula on a stretch of time.
+use Rattle.std.specs.Prelude.{◌≢◌, List, [], ◌∷◌, MatchBool}
+use Rattle.rational.specs.Time.{Rational, later, ◌≤ʳ◌, ◌<ʳ◌, ◌≈◌, Interval, IsIn, IsNotEmpty, BeginAlike, EndAlike, Touch}
+use Rattle.rational.specs.Extended.{Extended, Affine, Passes}
+use Rattle.stl_syntax.specs.Trace.{Trace, start, stop}
+use Rattle.stl_syntax.specs.Formula.{Subformula, horizon}
+use Rattle.stl_syntax.specs.Truth.{Truth}
+use Rattle.stl_syntax.specs.Knots.{Knot, Piece, Knots, IsInside}
+use Rattle.stl_syntax.specs.SupInf.{Robustness}
+use Rattle.frac128.specs.Spans.{interval}
+use Rattle.stl_syntax.specs.declared.items.Verdict.{Verdict}
+
+-- the verdict is the truth at each time of its span
+pub record IsTold (p : Subformula) (tr : Trace) (v : Verdict) : Type 0 where
+  pub not_empty : IsNotEmpty (interval v.on)
+  pub truth : (t : Rational) → IsIn (interval v.on) t → MatchBool v.holds (Truth p tr t) (¬ Truth p tr t)
+
+-- each further span joins on, with the other verdict, and the last ends as the stretch does
+abbrev pub GoesOn : Subformula → Trace → Interval → Verdict → List Verdict → Type 0
+GoesOn p tr stretch v [] = EndAlike (interval v.on) stretch
+GoesOn p tr stretch v (w ∷ verdicts) =
+    Touch (interval v.on) (interval w.on) × (v.holds ≢ w.holds) × IsTold p tr w × GoesOn p tr stretch w verdicts
+
+-- the verdicts tell the truth at each time of the stretch, without gap or overlap, in as few spans as may be
+abbrev pub Describes : List Verdict → Subformula → Trace → Interval → Type 0
+Describes [] p tr stretch = ⊥
+Describes (v ∷ verdicts) p tr stretch = BeginAlike (interval v.on) stretch × IsTold p tr v × GoesOn p tr stretch v verdicts
+
+-- the piece before knot k, the value at k and the piece after it are of one affine or one constantly infinite function
+pub record AreOneLine (j : Knot) (before : Piece) (after : Piece) : Type 0 where
+  pub through : Affine
+  pub begins : Passes through j.time before.from
+  pub arrives : Passes through before.next.time before.to
+  pub here : Passes through before.next.time before.next.value
+  pub leaves : Passes through before.next.time after.from
+  pub ends : Passes through after.next.time after.to
+
+-- the value is the robustness at the knot
+abbrev pub IsRobust : Subformula → Trace → Knot → Type 0
+IsRobust p tr k = Robustness p tr k.time k.value
+
+-- at every time strictly between the knots the robustness is that of the piece
+abbrev pub IsRobustInside : Subformula → Trace → Knot → Piece → Type 0
+IsRobustInside p tr k piece =
+    (k.time <ʳ piece.next.time) × ((t : Rational) → k.time <ʳ t → t <ʳ piece.next.time
+    → (r : Extended) × Robustness p tr t r × IsInside k piece t r)
+
+-- knot k follows the piece `before` of knot j, and is needed
+abbrev pub MarginsGoOn : Subformula → Trace → Knot → Piece → List Piece → Type 0
+MarginsGoOn p tr j before [] = before.next.time ≈ stop tr
+MarginsGoOn p tr j before (after ∷ pieces) =
+    (¬ AreOneLine j before after) × IsRobustInside p tr before.next after × IsRobust p tr after.next
+    × MarginsGoOn p tr before.next after pieces
+
+-- the knots tell the robustness on the whole domain, with no knot that can be left out
+abbrev pub DescribesMargins : Knots → Subformula → Trace → Type 0
+DescribesMargins knots p tr = (knots.first.time ≈ start tr) × IsRobust p tr knots.first × Rest knots.pieces
+  where
+    Rest : List Piece → Type 0
+    Rest [] = knots.first.time ≈ stop tr
+    Rest (piece ∷ pieces) = IsRobustInside p tr knots.first piece × IsRobust p tr piece.next × MarginsGoOn p tr knots.first piece pieces
+
+-- after rows up to time s the truth at t is known for good
+abbrev pub IsAnswered : Subformula → Trace → Rational → Rational → Type 0
+IsAnswered p tr s t = (start tr ≤ʳ t) × (later t (horizon p) ≤ʳ s)

@@ -1,0 +1,52 @@
+use crate::Atom;
+
+/// A node of a formula; its children are named by their places in post-order.
+#[derive(Drop)]
+pub enum Node {
+    Const(bool),
+    Atom(Atom),
+    Not(u32),
+    And(u32, u32),
+    Or(u32, u32),
+    Implies(u32, u32),
+    Until {
+        left: u32,
+        right: u32,
+        low: u32,
+        high: u32,
+    },
+    Eventually {
+        of: u32,
+        low: u32,
+        high: u32,
+        low_in: bool,
+        high_in: bool,
+    },
+    Always {
+        of: u32,
+        low: u32,
+        high: u32,
+        low_in: bool,
+        high_in: bool,
+    },
+    Since {
+        left: u32,
+        right: u32,
+        low: u32,
+        high: Option<u32>,
+    },
+    Once {
+        of: u32,
+        low: u32,
+        high: Option<u32>,
+        low_in: bool,
+        high_in: bool,
+    },
+    Historically {
+        of: u32,
+        low: u32,
+        high: Option<u32>,
+        low_in: bool,
+        high_in: bool,
+    },
+}

@@ -1,0 +1,8 @@
+/// How an atom compares its expression with 0.
+#[derive(Drop)]
+pub enum Rel {
+    AtLeast,
+    Above,
+    AtMost,
+    Below,
+}

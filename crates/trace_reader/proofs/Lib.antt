@@ -1,0 +1,3 @@
+pub mod TraceTextExamples
+pub mod TraceRefusalExamples
+pub mod TraceRefusalLaw

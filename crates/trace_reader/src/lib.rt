@@ -1,0 +1,6 @@
+//! The bytes of traces.
+#![tactic(auto)]
+
+mod refusal;
+
+pub use refusal::{Limits, TraceKind, TraceRefusal};

@@ -1,0 +1,2 @@
+pub mod TextExamples
+pub mod SessionExamples

@@ -1,0 +1,73 @@
+-- A session whose header lacks the formula's column, and one whose ticks are too small.
+use Rattle.std.proofs.Common.{◌≡◌, arith, ℕ, List, [], ◌∷◌, ◌++◌, refl, inl, inr, Bool, true, false, pos, lit≤}
+use Rattle.std.specs.Prelude.{codes, ◌≢◌}
+use Rattle.std.specs.Fmt.{digits}
+use Rattle.stl_syntax.specs.Formula.{Formula}
+use Rattle.stl_syntax.specs.Texts.{newline}
+use Rattle.trace_reader.specs.TraceText.{Line, lines, fields, Heading}
+use Rattle.trace_reader.specs.TraceRefusals.{FaultFrom}
+use Rattle.workbench.specs.InputFaults.{stream_limits, IsHeaderAt, here, later, Fault, unknown, IsInputFault}
+use Rattle.workbench.specs.Sessions.{Tagged, is_tag_byte, IsTagged, alone, followed, tag, Alone, MuxText, FaultOfInput, bad_tag}
+use Rattle.stl_syntax.specs.declared.rel.Rel.TheVariants.{AtLeast}
+use Rattle.stl_syntax.specs.declared.node.Node.TheVariants.{Atom as Leaf}
+use Rattle.trace_reader.specs.declared.refusal.TraceRefusal.{TraceRefusal}
+use Rattle.stl_syntax.proofs.Examples.{no_digits}
+use Rattle.trace_reader.proofs.TraceRefusalExamples.{first_byte, no_line_fault, header_sound, x_heading, x_heading_read}
+
+-- z >= 1073741824
+abbrev z_formula : Formula
+z_formula = record { nodes = Leaf (record { terms = record { coef = pos 1; name = codes "z" } ∷ []; rel = AtLeast; limit = pos 1073741824 }) ∷ []; scale = no_digits }
+
+abbrev x_bytes : List ℕ
+x_bytes = codes "time,x" ++ newline
+
+has_line : {all : List Line} {n : ℕ} {h : Heading} → IsHeaderAt all n h → all ≢ []
+has_line (here a b c) e = cc
+has_line (later a b c) e = cc
+
+no_heading : (n : ℕ) (h : Heading) → ¬ IsHeaderAt [] n h
+no_heading n h a = has_line a refl
+
+-- before its header a session writes nothing
+nothing_yet : Alone z_formula [] false []
+unfolding lines
+nothing_yet = inl (no_fault, inr (no_heading, refl))
+  where
+    no_fault : (x : Fault) → ¬ IsInputFault stream_limits z_formula [] false x
+    no_fault x (inl (n, h, a, l, k)) = no_heading n h a
+    no_fault x (inr (_, (r, (e, (t, z)), y))) = cc
+
+-- the header itself is sound
+sound : (r : TraceRefusal) → ¬ FaultFrom stream_limits no_digits false 1 (record { bytes = codes "time,x"; whole = true } ∷ []) r
+unfolding fields
+sound r (inl h) = no_line_fault stream_limits 1 (record { bytes = codes "time,x"; whole = true }) (lit≤ tt) (lit≤ tt) r h
+sound r (inr (_, (w, inl h))) = header_sound r h
+sound r (inr (_, (w, inr (_, (h, read, (e, ((t, u), z))))))) = cc
+
+abbrev unknown_z : List ℕ
+unknown_z = codes "line 1: unknown column z" ++ newline
+
+-- the header lacks the column z, before the end and at it
+lacks_z : (ended : Bool) → Alone z_formula x_bytes ended unknown_z
+unfolding lines fields digits
+lacks_z false = inr (unknown 1 (codes "z"), inl (1, x_heading, here refl refl x_heading_read, inl (0, 0, codes "z", refl, refl), sound), ([], inr (no_heading, refl), refl))
+lacks_z true = inr (unknown 1 (codes "z"), inl (1, x_heading, here refl refl x_heading_read, inl (0, 0, codes "z", refl, refl), sound), ([], inr (no_heading, refl), refl))
+
+-- one session that fails so, with the end of the input
+one_session : MuxText z_formula (record { tag = codes "a"; content = codes "time,x" } ∷ []) true (codes "a " ++ unknown_z)
+unfolding lines
+one_session = (
+  codes "a " ++ unknown_z,
+  [],
+  (codes "a " ++ unknown_z, [], ([], unknown_z, nothing_yet, lacks_z false, refl), refl, refl),
+  (unknown_z, [], [], lacks_z false, lacks_z true, refl, refl),
+  refl,
+)
+
+-- `-a 0,0` has no tag
+tag_begins : {text : List ℕ} {t : Tagged} → IsTagged text t → is_tag_byte (first_byte text) ≡ true
+tag_begins (alone (tag h k)) = grind (arith, h)
+tag_begins (followed content (tag h k)) = grind (arith, h)
+
+no_tag : FaultOfInput 1 [] (record { bytes = codes "-a 0,0"; whole = true } ∷ []) (bad_tag 1)
+no_tag = inr ((λ x h. omega arith), inr ((λ x h. omega arith), (refl, inl ((λ h. let e = tag_begins h.1 in cc), refl))))

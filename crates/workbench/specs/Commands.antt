@@ -1,0 +1,39 @@
+-- The words of the commands.
+use Rattle.std.specs.Prelude.{◌≡◌, ℕ, ◌≤◌, ◌<◌, ◌^◌, true, List, [], ◌∷◌, codes}
+use Rattle.stl_syntax.specs.Characters.{is_digit, all, decimal_value}
+
+-- the commands that take a formula
+pub data Judge : Type 0 where
+  check : Judge
+  watch : Judge
+  robust : Judge
+  explain : Judge
+  json : Judge
+  table : Judge
+  early : Judge
+  mux : Judge
+  rwatch : Judge
+
+-- the word of a command
+abbrev pub judge_word : Judge → List ℕ
+judge_word check = codes "check"
+judge_word watch = codes "watch"
+judge_word robust = codes "robust"
+judge_word explain = codes "explain"
+judge_word json = codes "json"
+judge_word table = codes "table"
+judge_word early = codes "early"
+judge_word mux = codes "mux"
+judge_word rwatch = codes "rwatch"
+
+-- a formula to be judged by a command, or a number and how many rows to generate
+pub data Form : Type 0 where
+  judge : Judge → List ℕ → Form
+  generate : ℕ → ℕ → Form
+
+-- the words, each with what it asks for
+pub data IsForm : List (List ℕ) → Form → Type 0 where
+  of_formula : {formula : List ℕ} (j : Judge) → IsForm (judge_word j ∷ formula ∷ []) (judge j formula)
+  gen : (c d : ℕ) (digits rows : List ℕ) → all is_digit (c ∷ digits) ≡ true → decimal_value 0 (c ∷ digits) < 2 ^ 64
+      → all is_digit (d ∷ rows) ≡ true → 1 ≤ decimal_value 0 (d ∷ rows) → decimal_value 0 (d ∷ rows) ≤ 200000
+      → IsForm (codes "gen" ∷ (c ∷ digits) ∷ (d ∷ rows) ∷ []) (generate (decimal_value 0 (c ∷ digits)) (decimal_value 0 (d ∷ rows)))

@@ -1,0 +1,5 @@
+pub mod ErrTexts
+pub mod Generator
+pub mod Commands
+pub mod InputFaults
+pub mod Sessions

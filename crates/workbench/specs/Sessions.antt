@@ -1,0 +1,142 @@
+-- Several traces in one input, each line with the tag of its session.
+use Rattle.std.specs.Prelude.{◌≡◌, ◌⊎◌, ℕ, ◌-◌, ◌≤◌, ◌||◌, Bool, true, false, List, [], ◌∷◌, ◌++◌, flat_map, take, drop, length, codes, bytes_eq, if◌then◌else◌, MatchBool, suc, ◌<◌, IsTrue}
+use Rattle.stl_syntax.specs.Characters.{begins_word, is_digit, all}
+use Rattle.stl_syntax.specs.Choice.{◌or_else◌, Where, Nothing}
+use Rattle.stl_syntax.specs.Formula.{Formula, root}
+use Rattle.stl_syntax.specs.Scaling.{scaled}
+use Rattle.stl_syntax.specs.Trace.{Header, Row}
+use Rattle.trace_reader.specs.TraceText.{Line, lines, content, is_blank_line, Heading, AreTraceLines}
+use Rattle.stl_syntax.specs.Texts.{newline}
+use Rattle.workbench.specs.ErrTexts.{in_line, bad_tag_text, too_many_sessions_text}
+use Rattle.workbench.specs.InputFaults.{stream_limits, IsHeaderAt, Fault, line_of, fault_text, IsInputFault}
+use Rattle.stl_syntax.specs.Stream.{IsStreamText}
+
+-- a line that is not blank: its tag and its content
+pub record Tagged : Type 0 where
+  pub tag : List ℕ
+  pub content : List ℕ
+
+-- a letter, a digit or _
+abbrev pub is_tag_byte : ℕ → Bool
+is_tag_byte c = begins_word c || is_digit c
+
+-- a tag of 1 to 16 bytes
+pub data IsTag : List ℕ → Type 0 where
+  tag : {c : ℕ} {rest : List ℕ} → all is_tag_byte (c ∷ rest) ≡ true → length (c ∷ rest) ≤ 16 → IsTag (c ∷ rest)
+
+-- a tag, and then the end, or one space and the content
+pub data IsTagged : List ℕ → Tagged → Type 0 where
+  alone : {t : List ℕ} → IsTag t → IsTagged t (record { tag = t; content = [] })
+  followed : {t : List ℕ} (content : List ℕ) → IsTag t → IsTagged (t ++ 32 ∷ content) (record { tag = t; content = content })
+
+-- the whole lines that are not blank, each with its tag
+pub data AreTagged : List Line → List Tagged → Type 0 where
+  none : AreTagged [] []
+  unfinished : {line : Line} → line.whole ≡ false → AreTagged (line ∷ []) []
+  blank : {line : Line} {more : List Line} {tagged : List Tagged} → line.whole ≡ true → is_blank_line line ≡ true → AreTagged more tagged → AreTagged (line ∷ more) tagged
+  next : {line : Line} {more : List Line} {x : Tagged} {tagged : List Tagged} → line.whole ≡ true → is_blank_line line ≡ false → IsTagged (content line) x
+      → AreTagged more tagged → AreTagged (line ∷ more) (x ∷ tagged)
+
+-- the line asks for the last lines
+abbrev pub is_query : Tagged → Bool
+is_query line = bytes_eq line.content (codes "?")
+
+-- the line ends its session
+abbrev pub is_stop : Tagged → Bool
+is_stop line = bytes_eq line.content (codes ".")
+
+-- the bytes of a session: its contents but for its queries, up to its stop
+abbrev pub own : List Tagged → List ℕ → List ℕ
+own [] t = []
+own (line ∷ more) t =
+    if bytes_eq line.tag t then (if is_query line then own more t else if is_stop line then [] else line.content ++ newline ++ own more t)
+    else own more t
+
+-- the session has its stop
+abbrev pub is_stopped : List Tagged → List ℕ → Bool
+is_stopped [] t = false
+is_stopped (line ∷ more) t = if bytes_eq line.tag t then is_stop line || is_stopped more t else is_stopped more t
+
+-- the stream of the rows in the lines; nothing before the header
+abbrev pub IsLinesText : Formula → List Line → Bool → List ℕ → Type 0
+IsLinesText f all ended text =
+    ((header : Header) × (rows : List Row) × AreTraceLines f.scale all header rows × IsStreamText (root (scaled f header.scale).nodes) header rows ended text)
+    ⊎ (((n : ℕ) (h : Heading) → ¬ IsHeaderAt all n h) × (text ≡ []))
+
+-- what a session writes by itself
+abbrev pub Alone : Formula → List ℕ → Bool → List ℕ → Type 0
+Alone f bytes ended text =
+    (((x : Fault) → ¬ IsInputFault stream_limits f bytes ended x) × IsLinesText f (lines ended bytes) ended text)
+    ⊎ ((x : Fault) × IsInputFault stream_limits f bytes ended x
+    × ((before : List ℕ) × IsLinesText f (take (line_of x - 1) (lines ended bytes)) false before × (text ≡ before ++ fault_text x)))
+
+-- what a session has written after these lines of the input
+abbrev pub SoFar : Formula → List Tagged → List ℕ → List ℕ → Type 0
+SoFar f seen t text = Alone f (own seen t) (is_stopped seen t) text
+
+-- the lines, each after a prefix
+abbrev pub prefixed : List ℕ → List Line → List ℕ
+prefixed prefix all = flat_map (λ line. prefix ++ line.bytes ++ newline) all
+
+-- the last eight lines, or all
+abbrev pub last_eight : List Line → List Line
+last_eight all = drop (length all - 8) all
+
+-- the answer to a line after those that were seen
+abbrev pub IsAnswer : Formula → List Tagged → Tagged → List ℕ → Type 0
+IsAnswer f seen line text =
+    MatchBool (is_query line) ((old : List ℕ) × SoFar f seen line.tag old × (text ≡ prefixed (line.tag ++ codes " ? ") (last_eight (lines true old))))
+    ((old grown : List ℕ) × SoFar f seen line.tag old × SoFar f (seen ++ line ∷ []) line.tag (old ++ grown) × (text ≡ prefixed (line.tag ++ codes " ") (lines true grown)))
+
+-- the answers to the lines in turn
+abbrev pub AreAnswers : Formula → List Tagged → List Tagged → List ℕ → Type 0
+AreAnswers f seen [] text = text ≡ []
+AreAnswers f seen (line ∷ more) text =
+    (here later : List ℕ) × IsAnswer f seen line here × AreAnswers f (seen ++ line ∷ []) more later × (text ≡ here ++ later)
+
+-- the tag is one of these
+abbrev pub is_known : List (List ℕ) → List ℕ → Bool
+is_known [] t = false
+is_known (u ∷ tags) t = bytes_eq u t || is_known tags t
+
+-- the tags in the order of their first lines
+abbrev pub tags_after : List (List ℕ) → List Tagged → List (List ℕ)
+tags_after known [] = []
+tags_after known (line ∷ more) = if is_known known line.tag then tags_after known more else line.tag ∷ tags_after (line.tag ∷ known) more
+
+-- by how much each session grows at the end of the input
+abbrev pub AreEnds : Formula → List Tagged → List (List ℕ) → List ℕ → Type 0
+AreEnds f all [] text = text ≡ []
+AreEnds f all (t ∷ tags) text =
+    (old grown later : List ℕ) × SoFar f all t old × Alone f (own all t) true (old ++ grown) × AreEnds f all tags later
+    × (text ≡ prefixed (t ++ codes " ") (lines true grown) ++ later)
+
+-- the text for these lines, with the ends of the sessions where the input has ended
+abbrev pub MuxText : Formula → List Tagged → Bool → List ℕ → Type 0
+MuxText f all false text = AreAnswers f [] all text
+MuxText f all true text = (during rest : List ℕ) × AreAnswers f [] all during × AreEnds f all (tags_after [] all) rest × (text ≡ during ++ rest)
+
+-- a fault of the input itself
+pub data InputFault : Type 0 where
+  too_many_lines : ℕ → InputFault
+  too_long : ℕ → InputFault
+  bad_tag : ℕ → InputFault
+  too_many_sessions : ℕ → InputFault
+
+-- the first fault from line n on, where `known` are the tags before it
+abbrev pub FaultOfInput : ℕ → List (List ℕ) → List Line → InputFault → Type 0
+FaultOfInput n known [] = Nothing
+FaultOfInput n known (line ∷ more) =
+    Where (8589934592 < n) (too_many_lines n)
+    or_else Where (4113 < length line.bytes) (too_long n)
+    or_else (λ x. IsTrue line.whole × MatchBool (is_blank_line line) (FaultOfInput (suc n) known more x)
+    ((Where (¬ ((t : Tagged) × IsTagged (content line) t)) (bad_tag n)
+    or_else (λ x. (t : Tagged) × IsTagged (content line) t × MatchBool (is_known known t.tag) (FaultOfInput (suc n) known more x)
+    ((Where (1024 ≤ length known) (too_many_sessions n) or_else FaultOfInput (suc n) (t.tag ∷ known) more) x))) x))
+
+-- the line that tells of it
+abbrev pub input_fault_text : InputFault → List ℕ
+input_fault_text (too_many_lines n) = in_line n (codes "too many lines")
+input_fault_text (too_long n) = in_line n (codes "line too long")
+input_fault_text (bad_tag n) = bad_tag_text n
+input_fault_text (too_many_sessions n) = too_many_sessions_text n

@@ -1,0 +1,2 @@
+//! The workbench: one call that judges recorded traces by formulas.
+#![tactic(auto)]
