@@ -17,3 +17,7 @@ pub mod VerdictsLaw
 pub mod MarginLaw
 pub mod WindowExamples
 pub mod EarlyLaw
+pub mod TimeLaw
+pub mod StandsLemmas
+pub mod CoverLemmas
+pub mod MarginsLaw
