@@ -21,3 +21,4 @@ pub mod TimeLaw
 pub mod StandsLemmas
 pub mod CoverLemmas
 pub mod MarginsLaw
+pub mod LawProofs

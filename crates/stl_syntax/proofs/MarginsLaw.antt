@@ -51,10 +51,10 @@ module _ (p : Subformula) (tr : Trace) where
           f.0,
           f.1,
           let j = f.2 in
-          same_transᵉ f.0 (value_at j.through t) (value_at i.through t) j.value
-          (everywhere j.through i.through k.time a.next.time h.0
-          (same_transᵉ (value_at j.through k.time) a.from (value_at i.through k.time) (same_symᵉ a.from (value_at j.through k.time) j.from) i.from)
-          (same_transᵉ (value_at j.through a.next.time) a.to (value_at i.through a.next.time) (same_symᵉ a.to (value_at j.through a.next.time) j.to) i.to) t),
+              same_transᵉ f.0 (value_at j.through t) (value_at i.through t) j.value
+              (everywhere j.through i.through k.time a.next.time h.0
+              (same_transᵉ (value_at j.through k.time) a.from (value_at i.through k.time) (same_symᵉ a.from (value_at j.through k.time) j.from) i.from)
+              (same_transᵉ (value_at j.through a.next.time) a.to (value_at i.through a.next.time) (same_symᵉ a.to (value_at j.through a.next.time) j.to) i.to) t),
         );
       }
 
@@ -126,11 +126,11 @@ module _ (p : Subformula) (tr : Trace) where
       → (a.from ≈ᵉ b.from) × (a.to ≈ᵉ b.to)
   same_pieces k l a b e s h i = (
     same_transᵉ a.from (value_at f.line k.time) b.from f.begins
-    (same_transᵉ (value_at f.line k.time) (value_at g.line k.time) b.from (f_is k.time)
-    (same_transᵉ (value_at g.line k.time) (value_at g.line l.time) b.from (value_same g.line e) (same_symᵉ b.from (value_at g.line l.time) g.begins))),
+        (same_transᵉ (value_at f.line k.time) (value_at g.line k.time) b.from (f_is k.time)
+        (same_transᵉ (value_at g.line k.time) (value_at g.line l.time) b.from (value_same g.line e) (same_symᵉ b.from (value_at g.line l.time) g.begins))),
     same_transᵉ a.to (value_at f.line a.next.time) b.to f.ends
-    (same_transᵉ (value_at f.line a.next.time) (value_at g.line a.next.time) b.to (f_is a.next.time)
-    (same_transᵉ (value_at g.line a.next.time) (value_at g.line b.next.time) b.to (value_same g.line s) (same_symᵉ b.to (value_at g.line b.next.time) g.ends))),
+        (same_transᵉ (value_at f.line a.next.time) (value_at g.line a.next.time) b.to (f_is a.next.time)
+        (same_transᵉ (value_at g.line a.next.time) (value_at g.line b.next.time) b.to (value_same g.line s) (same_symᵉ b.to (value_at g.line b.next.time) g.ends))),
   )
     where
       f : Through k a

@@ -4,6 +4,7 @@
 mod atom;
 mod formula;
 mod items;
+pub mod laws;
 mod name;
 mod node;
 mod rel;
