@@ -22,3 +22,8 @@ pub mod StandsLemmas
 pub mod CoverLemmas
 pub mod MarginsLaw
 pub mod LawProofs
+pub mod OperatorExamples
+pub mod ChangeExamples
+pub mod ListExamples
+pub mod EarlyExamples
+pub mod WideExamples
