@@ -9,3 +9,5 @@ pub mod Shift
 pub mod TimeLemmas
 pub mod ExtendedLemmas
 pub mod WindowLemmas
+pub mod AffineLemmas
+pub mod LevelLemmas
