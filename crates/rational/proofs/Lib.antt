@@ -8,3 +8,4 @@ pub mod Through
 pub mod Shift
 pub mod TimeLemmas
 pub mod ExtendedLemmas
+pub mod WindowLemmas

@@ -19,3 +19,13 @@ pub mod VerdictsLaw
 pub mod MarginLaw
 pub mod WindowExamples
 pub mod EarlyLaw
+pub mod TimeLaw
+pub mod StandsLemmas
+pub mod CoverLemmas
+pub mod MarginsLaw
+pub mod LawProofs
+pub mod OperatorExamples
+pub mod ChangeExamples
+pub mod ListExamples
+pub mod EarlyExamples
+pub mod WideExamples

@@ -28,3 +28,5 @@ pub mod Binding
 pub mod EarlyText
 pub mod Held
 pub mod StreamedWide
+pub mod Closeness
+pub mod Laws

@@ -178,13 +178,6 @@ EmittedFrom nodes header i s (e ∷ events) verdicts =
 abbrev pub Emitted : List Node → Header → List Event → ℕ → List Verdict → Type 0
 Emitted nodes header events i verdicts = EmittedFrom nodes header i initial events verdicts
 
--- the trace goes on from these rows; where the input has ended, it has just these
-pub record Continues (tr : Trace) (header : Header) (rows : List Row) (ended : Bool) : Type 0 where
-  pub same_header : tr.header ≡ header
-  pub more : List Row
-  pub begins : tr.rows ≡ rows ++ more
-  pub whole_input : IsTrue ended → more ≡ []
-
 -- by how much a reader looks back or ahead from its front, at its left child or another one
 abbrev pub reach_back : Node → Bool → ℤ
 reach_back (Until p q a b) true = pos 0

@@ -7,6 +7,7 @@ mod decimals;
 mod formula;
 mod horizon;
 mod items;
+pub mod laws;
 mod name;
 mod node;
 mod print;
