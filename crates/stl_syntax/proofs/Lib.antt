@@ -1,7 +1,9 @@
 pub mod ChoiceLemmas
 pub mod CharacterLemmas
 pub mod FormulaLemmas
+pub mod PostOrderLemmas
 pub mod HorizonLemmas
+pub mod WellFormedLemmas
 pub mod TruthLemmas
 pub mod SupInfLemmas
 pub mod KnotsLemmas

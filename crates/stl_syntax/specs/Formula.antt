@@ -102,31 +102,3 @@ StandsIn nodes (always a b a_in b_in p) = StandsIn nodes p
 StandsIn nodes (since a b p q) = StandsIn nodes p × StandsIn nodes q
 StandsIn nodes (once a b a_in b_in p) = StandsIn nodes p
 StandsIn nodes (historically a b a_in b_in p) = StandsIn nodes p
-
--- the children of each node stand before it, from place i on
-abbrev pub ArePlacedFrom : ℕ → List Node → Type 0
-ArePlacedFrom i [] = Unit {0}
-ArePlacedFrom i (n ∷ nodes) = HasChildrenBelow i n × ArePlacedFrom (i + 1) nodes
-
--- the children of each node stand before it
-abbrev pub ArePlaced : List Node → Type 0
-ArePlaced nodes = ArePlacedFrom 0 nodes
-
--- the horizon of a node, from those of the places before it
-abbrev pub horizon_above : List ℕ → Node → ℕ
-horizon_above h (Const b) = 0
-horizon_above h (Leaf a) = 0
-horizon_above h (Not p) = slice_index h p
-horizon_above h (And p q) = max (slice_index h p) (slice_index h q)
-horizon_above h (Or p q) = max (slice_index h p) (slice_index h q)
-horizon_above h (Implies p q) = max (slice_index h p) (slice_index h q)
-horizon_above h (Until p q a b) = b + max (slice_index h p) (slice_index h q)
-horizon_above h (Eventually p a b a_in b_in) = b + slice_index h p
-horizon_above h (Always p a b a_in b_in) = b + slice_index h p
-horizon_above h (Since p q a b) = max (slice_index h p) (slice_index h q - a)
-horizon_above h (Once p a b a_in b_in) = slice_index h p - a
-horizon_above h (Historically p a b a_in b_in) = slice_index h p - a
-
--- the list has the horizon of each place below i
-abbrev pub AreHorizonsBelow : ℕ → List Node → List ℕ → Type 0
-AreHorizonsBelow i nodes h = (k : ℕ) → k < i → slice_index h k ≡ horizon (subformula nodes k)
