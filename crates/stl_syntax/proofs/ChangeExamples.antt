@@ -1,7 +1,7 @@
 -- Changes of truth at both ends of the domain, on the rise of x from 0 at 0 to 10 at 10.
-use Rattle.std.proofs.Common.{◌≡◌, ℕ, pos, List, [], ◌∷◌, ◌⊎◌, inl, inr, refl, arith}
-use Rattle.std.specs.Prelude.{codes, IsTrue}
-use Rattle.rational.specs.Time.{Rational, ◌≤ʳ◌, ◌<ʳ◌, whole, add, subtract, Within}
+use Rattle.std.proofs.Common.{pos, [], ◌∷◌, ◌⊎◌, inl, inr, arith}
+use Rattle.std.specs.Prelude.{codes}
+use Rattle.rational.specs.Time.{Rational, ◌≤ʳ◌, ◌<ʳ◌, add, subtract, Within}
 use Rattle.rational.specs.Rational.{middle}
 use Rattle.rational.proofs.Order.{le_or_lt, lt_of_lt_of_le, lt_of_le_of_lt, lt_trans, le_of_lt, le_of_same, le_refl, same_sym, same_trans, left_of_middle, right_of_middle}
 use Rattle.rational.proofs.Field.{lt_add_left, add_zero, add_comm}

@@ -1,7 +1,6 @@
 -- Early verdicts: `eventually[5,5] true` from 0 on is settled once 5 is sure to be a time of the trace.
-use Rattle.std.proofs.Common.{◌≡◌, ℕ, pos, List, [], ◌∷◌, ◌++◌, ◌⊎◌, inl, inr, refl, true, false, Bool, arith, IsTrue}
-use Rattle.std.specs.Prelude.{IsFalse}
-use Rattle.rational.specs.Time.{Rational, ◌≤ʳ◌}
+use Rattle.std.proofs.Common.{◌≡◌, ℕ, pos, List, [], ◌∷◌, ◌++◌, inl, inr, refl, true, false, Bool, arith}
+use Rattle.rational.specs.Time.{◌≤ʳ◌}
 use Rattle.rational.proofs.Order.{le_trans}
 use Rattle.stl_syntax.specs.Trace.{Row, Trace}
 use Rattle.stl_syntax.specs.Formula.{Subformula, constant, eventually}

@@ -7,7 +7,7 @@ use Rattle.stl_syntax.specs.Formula.{Subformula, subformula, horizon, tree_of, H
 use Rattle.stl_syntax.specs.Horizons.{horizon_above, AreHorizonsBelow}
 use Rattle.stl_syntax.specs.declared.node.Node.{Node}
 use Rattle.stl_syntax.specs.declared.node.Node.TheVariants.{Const, Atom as Leaf, Not, And, Or, Implies, Until, Eventually, Always, Since, Once, Historically}
-use Rattle.stl_syntax.specs.Limits.{reach}
+use Rattle.stl_syntax.specs.Limits.{own_reach, reach}
 use Rattle.stl_syntax.specs.PostOrder.{children, unused, MayFollow, IsPostOrder}
 use Rattle.stl_syntax.proofs.FormulaLemmas.{subformula-at}
 use Rattle.stl_syntax.proofs.PostOrderLemmas.{placed, post_order_take, unused_push, slice_get_at}
@@ -34,7 +34,7 @@ pub horizons-set : (nodes : List Node) (i x : ℕ) (h : List ℕ) → i < length
 horizons-set nodes i x h l k n = below_more _ _ (λ j m. let other : j ≢ i = omega arith in rw get_or-set_other (k j m)) (rw get_or-set_same n)
 
 -- a node's horizon is at most its own bound and the horizons of its children
-horizon_step : (at : ℕ → Subformula) (i : ℕ) (n : Node) → horizon (tree_of at i n) ≤ reach (n ∷ []) + sum_by (λ p. horizon (at p)) (children n)
+horizon_step : (at : ℕ → Subformula) (i : ℕ) (n : Node) → horizon (tree_of at i n) ≤ own_reach n + sum_by (λ p. horizon (at p)) (children n)
 horizon_step at i (Const b) = omega arith
 horizon_step at i (Leaf a) = omega arith
 horizon_step at i (Not p) = omega arith
@@ -47,21 +47,6 @@ horizon_step at i (Always p a b a_in b_in) = omega arith
 horizon_step at i (Since p q a b) = omega arith
 horizon_step at i (Once p a b a_in b_in) = omega arith
 horizon_step at i (Historically p a b a_in b_in) = omega arith
-
-pub reach-append : (xs ys : List Node) → reach (xs ++ ys) ≡ reach xs + reach ys
-reach-append [] ys = omega arith
-reach-append (Const b ∷ xs) ys = reach-append xs ys
-reach-append (Leaf a ∷ xs) ys = reach-append xs ys
-reach-append (Not p ∷ xs) ys = reach-append xs ys
-reach-append (And p q ∷ xs) ys = reach-append xs ys
-reach-append (Or p q ∷ xs) ys = reach-append xs ys
-reach-append (Implies p q ∷ xs) ys = reach-append xs ys
-reach-append (Until p q a b ∷ xs) ys = omega (arith, reach-append xs ys)
-reach-append (Eventually p a b a_in b_in ∷ xs) ys = omega (arith, reach-append xs ys)
-reach-append (Always p a b a_in b_in ∷ xs) ys = omega (arith, reach-append xs ys)
-reach-append (Since p q a b ∷ xs) ys = omega (arith, reach-append xs ys)
-reach-append (Once p a b a_in b_in ∷ xs) ys = omega (arith, reach-append xs ys)
-reach-append (Historically p a b a_in b_in ∷ xs) ys = omega (arith, reach-append xs ys)
 
 -- the horizons of the unused places among the first nodes sum up to at most the reach of these nodes
 abbrev AreWithin : List Node → List Node → Type 0
@@ -84,8 +69,9 @@ one_more nodes i h l before =
     let old : sum (unused (take i nodes)) ≡ sum last.others + sum (children n) = ap sum last.last ∙ sum_by-append (λ p. horizon (subformula nodes p)) last.others (children n) in
     let new : sum (last.others ++ i ∷ []) ≡ sum last.others + sum (i ∷ []) = sum_by-append (λ p. horizon (subformula nodes p)) last.others (i ∷ []) in
     let only : sum (i ∷ []) ≡ horizon (subformula nodes i) = omega arith in
-    let step : horizon (tree_of (subformula nodes) i n) ≤ reach (n ∷ []) + sum (children n) = horizon_step (subformula nodes) i n in
-    let total : reach (take i nodes ++ n ∷ []) ≡ reach (take i nodes) + reach (n ∷ []) = reach-append (take i nodes) (n ∷ []) in
+    let step : horizon (tree_of (subformula nodes) i n) ≤ own_reach n + sum (children n) = horizon_step (subformula nodes) i n in
+    let total : reach (take i nodes ++ n ∷ []) ≡ reach (take i nodes) + reach (n ∷ []) = sum_by-append own_reach (take i nodes) (n ∷ []) in
+    let own : reach (n ∷ []) ≡ own_reach n = omega arith in
     rw (longer, now) (omega arith, omega arith)
 
 within : (nodes : List Node) (m : ℕ) → IsPostOrder nodes → m ≤ length nodes → AreWithin nodes (take m nodes)
@@ -99,5 +85,5 @@ within nodes (suc m) h l =
 pub horizon_within : (nodes : List Node) (i : ℕ) → IsPostOrder nodes → i < length nodes → horizon (subformula nodes i) ≤ reach nodes
 horizon_within nodes i h l =
     let part : IsWithinTo nodes i = one_more nodes i h l (within nodes i h (omega (arith, l))) in
-    let whole : reach (take (i + 1) nodes) + reach (drop (i + 1) nodes) ≡ reach nodes = sym (reach-append (take (i + 1) nodes) (drop (i + 1) nodes)) ∙ ap reach (take-append-drop (i + 1) nodes) in
+    let whole : reach (take (i + 1) nodes) + reach (drop (i + 1) nodes) ≡ reach nodes = sym (sum_by-append own_reach (take (i + 1) nodes) (drop (i + 1) nodes)) ∙ ap reach (take-append-drop (i + 1) nodes) in
     omega (arith, part.1, whole)

@@ -1,17 +1,16 @@
 -- The laws in the words of specs/Laws.antt, from the lemmas on each word.
-use Rattle.std.proofs.Common.{◌≡◌, ◌⊎◌, ℕ, ◌<◌, ◌-◌, inl, inr, Bool, true, false, List, [], ◌∷◌, ◌++◌, refl, sym, ap, ◌∙◌, arith, lit<, length, pos, ◌≤◌}
+use Rattle.std.proofs.Common.{◌≡◌, ℕ, ◌-◌, inl, inr, Bool, List, [], ◌∷◌, ◌++◌, ap, ◌∙◌, arith, lit<, length, pos, ◌≤◌}
 use Rattle.std.specs.Prelude.{◌↔◌, MatchBool}
-use Rattle.rational.specs.Rational.{Rational, ◌≤ʳ◌, whole}
-use Rattle.rational.specs.Extended.{Extended, finite, ◌≤ᵉ◌, ◌<ᵉ◌, ◌≈ᵉ◌}
-use Rattle.rational.proofs.Order.{le_trans}
+use Rattle.rational.specs.Rational.{◌≤ʳ◌, whole}
+use Rattle.rational.specs.Extended.{Extended, ◌<ᵉ◌, ◌≈ᵉ◌}
 use Rattle.rational.proofs.ExtendedLemmas.{clashᵉ, le_transᵉ}
-use Rattle.stl_syntax.specs.Trace.{Header, Row, Trace, IsTrace, Continues, AreRowsAfter, row_time, last_time, start, stop}
-use Rattle.stl_syntax.specs.Formula.{Subformula, root, subformula, ArePlaced}
+use Rattle.stl_syntax.specs.Trace.{Header, Row, Trace, IsTrace, Continues, AreRowsAfter, row_time, last_time, start}
+use Rattle.stl_syntax.specs.Formula.{root}
 use Rattle.stl_syntax.specs.Truth.{Truth}
-use Rattle.stl_syntax.specs.SupInf.{Reading, margins, truths, certainties, signals, Setting, one, zero_value, minus_one}
+use Rattle.stl_syntax.specs.SupInf.{Reading, margins, truths, certainties, signals, one, zero_value, minus_one}
 use Rattle.stl_syntax.specs.Early.{Decides}
 use Rattle.stl_syntax.specs.Kleene.{Must, MustNot}
-use Rattle.stl_syntax.specs.Laws.{TruthIsOfTimes, ValuesAreOfTimes, CertaintyIsOfTimes, IsReadable, OneValue, CertaintyHasValues, IsTold, TruthByValues, IsToldCertain, CertaintyByValues, CertaintyIsTruth, ExplanationsHold, AnswersStay, DecisionsStay, IsLike, MarginsHold, OneListOfVerdicts, OneListOfMargins}
+use Rattle.stl_syntax.specs.Laws.{TruthIsOfTimes, ValuesAreOfTimes, CertaintyIsOfTimes, IsReadable, OneValue, CertaintyHasValues, IsTold, TruthByValues, IsToldCertain, CertaintyByValues, CertaintyIsTruth, ExplanationsHold, AnswersStay, DecisionsStay, MarginsHold, OneListOfVerdicts, OneListOfMargins}
 use Rattle.stl_syntax.proofs.TruthLemmas.{Truth-same}
 use Rattle.stl_syntax.proofs.TimeLaw.{SupInf-same, Must-same, MustNot-same}
 use Rattle.stl_syntax.proofs.SupInfLemmas.{GivesOne, SupInf-unique, margins_give_one, truths_give_one}
@@ -21,7 +20,7 @@ use Rattle.stl_syntax.proofs.TruthLaw.{Tells, SupInf-truth}
 use Rattle.stl_syntax.proofs.KleeneLaw.{Tells3, SupInf-certain}
 use Rattle.stl_syntax.proofs.KleeneLemmas.{clear, clear_not, certain_not}
 use Rattle.stl_syntax.proofs.StandsLemmas.{stands}
-use Rattle.stl_syntax.proofs.PrefixLaw.{Truth-settled, longer}
+use Rattle.stl_syntax.proofs.PrefixLaw.{Truth-settled}
 use Rattle.stl_syntax.proofs.EarlyLaw.{Decides-truth, Decides-stays}
 use Rattle.stl_syntax.proofs.MarginLaw.{SupInf-margin}
 use Rattle.stl_syntax.proofs.VerdictsLaw.{Describes-unique}

@@ -1,18 +1,18 @@
 -- Lists of verdicts that miss by little, and a list of knots with infinite pieces.
-use Rattle.std.proofs.Common.{◌≡◌, ℕ, Bool, List, [], ◌∷◌, ◌⊎◌, inl, inr, refl, true, false, arith, lit<}
+use Rattle.std.proofs.Common.{ℕ, Bool, List, [], ◌∷◌, refl, true, false, arith, lit<}
 use Rattle.rational.specs.Time.{Rational, ◌≤ʳ◌, ◌<ʳ◌, closed, later}
 use Rattle.rational.specs.Windows.{Ahead}
-use Rattle.rational.specs.Extended.{Extended, minus_infinity, finite, infinity, ◌≈ᵉ◌, Affine, always_low, affine, always_high, value_at}
+use Rattle.rational.specs.Extended.{Extended, minus_infinity, infinity, ◌≈ᵉ◌, Affine, always_low, affine, always_high, value_at}
 use Rattle.rational.proofs.Order.{le_of_lt, le_trans}
 use Rattle.rational.proofs.ExtendedLemmas.{le_reflᵉ}
 use Rattle.stl_syntax.specs.Trace.{start, stop}
 use Rattle.stl_syntax.specs.Formula.{Subformula, constant, always}
-use Rattle.stl_syntax.specs.Knots.{Knot, Piece, Knots}
+use Rattle.stl_syntax.specs.Knots.{Knot, Knots}
 use Rattle.stl_syntax.specs.SupInf.{Robustness}
-use Rattle.stl_syntax.specs.Verdicts.{Describes, DescribesMargins, AreOneLine}
+use Rattle.stl_syntax.specs.Verdicts.{Describes, DescribesMargins}
 use Rattle.stl_syntax.specs.declared.items.Verdict.{Verdict}
 use Rattle.stl_syntax.proofs.Examples.{rise, x_at_least_5, at_time}
-use Rattle.stl_syntax.proofs.MoreExamples.{span, wrong_verdict, high_holds, low_fails}
+use Rattle.stl_syntax.proofs.MoreExamples.{span, wrong_verdict}
 
 abbrev told : ℕ → Bool → ℕ → Bool → Bool → Verdict
 told a i b o holds = record { on = span a i b o; holds = holds }

@@ -9,10 +9,9 @@ use Rattle.rational.specs.Windows.{Ahead, Behind, Function, IsInfOver, IsSupOver
 use Rattle.stl_syntax.specs.Trace.{Trace, start, stop}
 use Rattle.stl_syntax.specs.Formula.{Subformula, constant, atom, negation, conjunction, disjunction, implication, until, eventually, always, since, once, historically}
 use Rattle.rational.specs.Extended.{Extended, minus_infinity, finite, infinity, ◌≤ᵉ◌, ◌<ᵉ◌, opposite, IsLeast, IsGreatest}
-use Rattle.stl_syntax.specs.SupInf.{margins, margin, margin_setting, Setting, SupInf, HasValues, HasInfs}
+use Rattle.stl_syntax.specs.SupInf.{margin, margin_setting, Setting, SupInf, HasValues, HasInfs}
 use Rattle.stl_syntax.specs.Closeness.{IsClose, AreClose}
 use Rattle.stl_syntax.specs.Truth.{Truth, expression, compares}
-use Rattle.stl_syntax.specs.declared.atom.Atom.{Atom}
 use Rattle.stl_syntax.specs.declared.rel.Rel.{Rel}
 use Rattle.stl_syntax.specs.declared.rel.Rel.TheVariants.{AtLeast, Above, AtMost, Below}
 use Rattle.rational.proofs.ExtendedLemmas.{le_totalᵉ, clashᵉ, le_transᵉ}

@@ -2,13 +2,12 @@
 use Rattle.std.proofs.Common.{◌⊎◌, inl, inr, List, [], ◌∷◌}
 use Rattle.rational.specs.Rational.{Rational, ◌≤ʳ◌, ◌<ʳ◌, ◌≈◌, middle}
 use Rattle.rational.proofs.Order.{lt_or_same_or_gt, le_or_lt, le_of_same, ge_of_same, le_of_lt, le_refl, le_trans, lt_of_lt_of_le, lt_of_le_of_lt, lt_trans, not_lt_of_le, same_sym, same_refl, same_trans, left_of_middle, right_of_middle}
-use Rattle.rational.specs.Extended.{Extended, ◌≤ᵉ◌, ◌≈ᵉ◌, Affine, value_at, Passes}
-use Rattle.rational.proofs.ExtendedLemmas.{le_transᵉ}
+use Rattle.rational.specs.Extended.{Extended, ◌≈ᵉ◌, Affine, value_at, Passes}
 use Rattle.stl_syntax.specs.Trace.{Trace, stop}
 use Rattle.stl_syntax.specs.Formula.{Subformula}
 use Rattle.stl_syntax.specs.Knots.{Knot, Piece, Knots, IsInside}
-use Rattle.stl_syntax.specs.SupInf.{Robustness, margins}
-use Rattle.stl_syntax.specs.Verdicts.{AreOneLine, IsRobust, IsRobustInside, MarginsGoOn, MarginsFrom, DescribesMargins, KnotsAlike, PiecesAlike}
+use Rattle.stl_syntax.specs.SupInf.{Robustness}
+use Rattle.stl_syntax.specs.Verdicts.{IsRobustInside, MarginsGoOn, MarginsFrom, DescribesMargins, KnotsAlike, PiecesAlike}
 use Rattle.stl_syntax.proofs.SupInfLemmas.{SupInf-unique, margins_give_one}
 use Rattle.stl_syntax.proofs.TimeLaw.{SupInf-same, value_same, same_transᵉ}
 use Rattle.stl_syntax.proofs.KnotsLemmas.{affine_unique, same_symᵉ}

@@ -1,12 +1,11 @@
 -- Each operator in both truths, with closed and open bounds, on a step column that is 1 on [4,6) and 0 elsewhere in [0,8].
-use Rattle.std.proofs.Common.{◌≡◌, ℕ, ℤ, pos, List, [], ◌∷◌, ◌⊎◌, inl, inr, refl, true, false, IsTrue, arith, lit<}
+use Rattle.std.proofs.Common.{ℕ, ℤ, pos, [], ◌∷◌, inl, inr, refl, true, false, IsTrue, arith, lit<}
 use Rattle.std.specs.Prelude.{codes, Some, None}
 use Rattle.rational.specs.Rational.{ratio}
-use Rattle.rational.specs.Time.{Rational, ◌≤ʳ◌, ◌<ʳ◌, whole, Within}
-use Rattle.rational.specs.Windows.{Ahead, Behind}
-use Rattle.rational.proofs.Order.{le_or_lt, lt_of_lt_of_le, le_trans}
+use Rattle.rational.specs.Time.{Rational, ◌≤ʳ◌, ◌<ʳ◌}
+use Rattle.rational.proofs.Order.{le_or_lt, le_trans}
 use Rattle.rational.proofs.TimeLemmas.{less_in, less_no}
-use Rattle.stl_syntax.specs.Trace.{Column, Header, Row, Trace, IsTrace, value_of}
+use Rattle.stl_syntax.specs.Trace.{Trace, IsTrace, value_of}
 use Rattle.stl_syntax.specs.Formula.{Subformula, constant, atom, negation, conjunction, disjunction, implication, until, eventually, always, since, once, historically}
 use Rattle.stl_syntax.specs.Truth.{Truth, expression}
 use Rattle.stl_syntax.specs.declared.atom.Atom.{Atom}

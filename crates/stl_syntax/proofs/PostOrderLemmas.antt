@@ -1,10 +1,9 @@
 -- Nodes in post-order: children stand below their parents, and a node takes the place of its children among the unused places.
-use Rattle.std.proofs.Common.{◌≡◌, ℕ, zero, suc, ◌+◌, ◌<◌, ◌≤◌, List, [], ◌∷◌, ◌++◌, length, take, refl, sym, ◌∙◌, ap, arith, length-append, Bool, true, false, not, ◌||◌, cond, subst, append_assoc, inl, inr, ◌⊎◌}
-use Rattle.std.proofs.lemmas.List.{append-nil, take-append-le, take_at, take_all, length_push, take-take, length-take}
-use Rattle.std.proofs.lemmas.List.Elements.{filter-append, filter_agree, All-filter, All-nil, All-cons, All-head, All-tail, All-same, All-weaker, All-from_get_or, All-get_or}
+use Rattle.std.proofs.Common.{◌≡◌, ℕ, zero, suc, ◌+◌, ◌<◌, ◌≤◌, List, [], ◌∷◌, ◌++◌, length, take, refl, sym, ◌∙◌, ap, arith, Bool, true, false, not, ◌||◌, cond, subst, append_assoc, inl, inr, ◌⊎◌}
+use Rattle.std.proofs.lemmas.List.{append-nil, take-append-le, take_at, length_push, take-take, length-take}
+use Rattle.std.proofs.lemmas.List.Elements.{filter-append, filter_agree, All-filter, All-nil, All-cons, All-head, All-tail, All-same, All-weaker}
 use Rattle.std.proofs.lemmas.List.Folds.{list_any-append, list_any_none}
 use Rattle.std.proofs.lemmas.Bool.{ne_eqb, eq-eqb, or_left, or_right, or_from, cases_lt}
-use Rattle.std.proofs.lemmas.Option.{slice_get_read}
 use Rattle.std.specs.List.{list_any, range_with_len}
 use Rattle.std.specs.Prelude.{Some, None, slice_get, slice_index_or, filter, ◌==◌, All}
 use Rattle.stl_syntax.specs.Formula.{HasChildrenBelow}

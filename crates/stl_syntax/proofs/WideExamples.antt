@@ -1,5 +1,5 @@
 -- A crossing at 1 / (2^60 - 1) is no cause of refusal: its denominator is stored.
-use Rattle.std.proofs.Common.{◌≡◌, ℕ, ℤ, pos, negsuc, ◌*◌, ◌+◌, ◌-◌, ◌^◌, ◌≤◌, refl, arith, lit<, sym, ◌∙◌}
+use Rattle.std.proofs.Common.{◌≡◌, ℕ, ℤ, pos, negsuc, ◌*◌, ◌+◌, ◌≤◌, refl, arith, lit<, ◌∙◌}
 use Rattle.std.proofs.Math.Nat.{le_of_mul-le-mul_right}
 use Rattle.rational.specs.Rational.{ratio}
 use Rattle.rational.specs.Time.{Rational, ◌≈◌, IsLowest, HasDenominator}

@@ -1,6 +1,6 @@
 -- Formulas: the tree that a node of a formula stands for, and its horizon.
-use Rattle.std.specs.Prelude.{◌≡◌, ℕ, ◌+◌, ◌-◌, ◌<◌, max, Bool, false, List, [], ◌∷◌, ◌++◌, length, slice_index, slice_index_or}
-use Rattle.std.specs.Prelude.{Option}
+use Rattle.std.specs.Prelude.{◌≡◌, ℕ, ◌+◌, ◌-◌, ◌<◌, max, Bool, false, List, [], ◌∷◌, ◌++◌, length, slice_index_or}
+use Rattle.std.specs.Prelude.{Option, Some, slice_get}
 use Rattle.stl_syntax.specs.declared.atom.Atom.{Atom}
 use Rattle.stl_syntax.specs.declared.node.Node.{Node}
 use Rattle.stl_syntax.specs.declared.node.Node.TheVariants.{Const, Atom as Leaf, Not, And, Or, Implies, Until, Eventually, Always, Since, Once, Historically}
@@ -102,3 +102,10 @@ StandsIn nodes (always a b a_in b_in p) = StandsIn nodes p
 StandsIn nodes (since a b p q) = StandsIn nodes p × StandsIn nodes q
 StandsIn nodes (once a b a_in b_in p) = StandsIn nodes p
 StandsIn nodes (historically a b a_in b_in p) = StandsIn nodes p
+
+-- the node at place i is the first of its kind
+pub record IsFirst (P : Node → Type 0) (nodes : List Node) (i : ℕ) : Type 0 where
+  pub node : Node
+  pub at : slice_get nodes i ≡ Some node
+  pub is : P node
+  pub none_before : (j : ℕ) (other : Node) → j < i → slice_get nodes j ≡ Some other → ¬ P other

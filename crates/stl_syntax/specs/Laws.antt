@@ -1,9 +1,10 @@
 -- The laws of the definitions: what holds of every formula, trace and time by what the words mean.
-use Rattle.std.specs.Prelude.{◌≡◌, ◌⊎◌, ◌↔◌, ℕ, ◌<◌, ◌-◌, List, [], ◌∷◌, ◌++◌, length, pos, slice_get, Some, Bool, MatchBool}
+use Rattle.std.specs.Prelude.{◌≡◌, ◌⊎◌, ◌↔◌, ℕ, ◌<◌, List, ◌∷◌, length, pos, slice_get, Some, Bool, MatchBool}
 use Rattle.rational.specs.Time.{Rational, Within, Interval, whole, negate, ◌≈◌, ◌≤ʳ◌}
 use Rattle.rational.specs.Extended.{Extended, finite, ◌<ᵉ◌, ◌≈ᵉ◌}
 use Rattle.stl_syntax.specs.Trace.{Header, Row, Trace, IsTrace, Continues, start, stop}
-use Rattle.stl_syntax.specs.Formula.{Subformula, root, ArePlaced}
+use Rattle.stl_syntax.specs.Formula.{Subformula, root}
+use Rattle.stl_syntax.specs.PostOrder.{IsPostOrder}
 use Rattle.stl_syntax.specs.Truth.{Truth}
 use Rattle.stl_syntax.specs.Knots.{Knots, AreKnots}
 use Rattle.stl_syntax.specs.SupInf.{Reading, margins, truths, certainties, signals, Gives, Setting, margin_setting, SupInf, Robustness, one, zero_value, minus_one, HasValues, HasInfs, truth_setting, certainty_setting}
@@ -77,7 +78,7 @@ CertaintyIsTruth = (p : Subformula) (items : List Item) (tr : Trace) (t : Ration
 -- what is certainly false at the start is false there in every trace that agrees on the items
 abbrev pub ExplanationsHold : Type 0
 ExplanationsHold =
-    (nodes : List Node) (items : List Item) (tr tr' : Trace) → ArePlaced nodes → 0 < length nodes → AreSo nodes tr items
+    (nodes : List Node) (items : List Item) (tr tr' : Trace) → IsPostOrder nodes → 0 < length nodes → AreSo nodes tr items
     → MustNot (root nodes) items tr (start tr) → Agree nodes tr' tr items → ¬ Truth (root nodes) tr' (start tr')
 
 -- an answered truth is the truth in every trace that goes on from the rows

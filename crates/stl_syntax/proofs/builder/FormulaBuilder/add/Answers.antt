@@ -1,4 +1,4 @@
-use Rattle.std.proofs.Common.{◌≡◌, ◌++◌, ◌∷◌, [], List, ℕ, length, arith, sym, ◌∙◌}
+use Rattle.std.proofs.Common.{◌≡◌, ◌++◌, ◌∷◌, [], length, arith}
 use Rattle.stl_syntax.proofs.PostOrderLemmas.{unused_push}
 use Rattle.stl_syntax.proofs.WellFormedLemmas.{well_formed_push}
 use Rattle.stl_syntax.proofs.builder.FormulaBuilder.add.Goals as goal
