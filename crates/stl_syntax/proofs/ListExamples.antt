@@ -1,5 +1,5 @@
 -- Lists of verdicts that miss by little, and a list of knots with infinite pieces.
-use Rattle.std.proofs.Common.{ℕ, Bool, List, [], ◌∷◌, refl, true, false, arith, lit<}
+use Rattle.std.proofs.Common.{ℕ, Bool, List, [], ◌∷◌, refl, true, false, arith, lit<, inr}
 use Rattle.rational.specs.Time.{Rational, ◌≤ʳ◌, ◌<ʳ◌, closed, later}
 use Rattle.rational.specs.Windows.{Ahead}
 use Rattle.rational.specs.Extended.{Extended, minus_infinity, infinity, ◌≈ᵉ◌, Affine, always_low, affine, always_high, value_at}
@@ -86,7 +86,7 @@ late_margins : DescribesMargins late_knots late rise
 late_margins = (
   record { same = refl },
   early_value (at_time 0) (omega arith) (omega arith),
-  (
+  inr (
     (
       record { lt = lit< tt },
       λ t h k. (minus_infinity, early_value t (le_of_lt h) (le_of_lt k), record { after = h; before = k; through = always_low; from = same minus_infinity; to = same minus_infinity; value = same minus_infinity }),

@@ -125,7 +125,7 @@ rise_margins : DescribesMargins rise_knots x_at_least_5 rise
 rise_margins = (
   record { same = refl },
   close (record { same = refl }) (same_sym (rise_value (at_time 0) (omega arith))),
-  (
+  inr (
     (record { lt = lit< tt }, inside),
     close (record { same = refl }) (same_sym (rise_value (at_time 10) (omega arith))),
     record { same = refl },

@@ -6,7 +6,7 @@ use Rattle.rational.specs.Rational.{Rational, ratio}
 use Rattle.rational.specs.Time.{◌≈◌, closed, Divides}
 use Rattle.rational.specs.Extended.{Extended, ◌≈ᵉ◌, ◌≤ᵉ◌, Affine, affine, value_at}
 use Rattle.stl_syntax.specs.Formula.{eventually, subformula}
-use Rattle.stl_syntax.specs.InPlay.{of_two, IsPart, IsInPlay, IsWideCrossing}
+use Rattle.rational.specs.InPlay.{of_two, IsPart, IsInPlay, IsWideCrossing}
 use Rattle.stl_syntax.specs.Verdicts.{Describes}
 use Rattle.stl_syntax.specs.Network.{Event, step, close, take, state, allowed_at, shown, IsRun, Emitted}
 use Rattle.stl_syntax.specs.Network.{row as came}
@@ -54,11 +54,11 @@ front_at_end : shown (state eventually_nodes (two_rows ++ close ∷ step 1 ∷ [
 unfolding state
 front_at_end = refl
 
-a_run : IsRun eventually_nodes (two_rows ++ step 1 ∷ close ∷ take ∷ [])
-a_run = ((refl, tt), ((refl, (record { lt = tt })), ((lit< tt, refl), ((refl, λ e. cc), (tt, tt)))))
+a_run : IsRun eventually_nodes x_header (two_rows ++ step 1 ∷ close ∷ take ∷ [])
+a_run = ((refl, tt, refl), ((refl, record { lt = tt }, refl), ((lit< tt, refl), ((refl, λ e. cc), (tt, tt)))))
 
 -- a row after the end is in no run
-no_run : ¬ IsRun eventually_nodes (came (row 0 (pos 0)) ∷ close ∷ came (row 5 (pos 5)) ∷ [])
+no_run : ¬ IsRun eventually_nodes x_header (came (row 0 (pos 0)) ∷ close ∷ came (row 5 (pos 5)) ∷ [])
 no_run h = let e = h.1.1.0.0 in cc
 
 abbrev pub zero_frac : Frac
@@ -132,7 +132,8 @@ meets_there t h k =
 wide : IsWideCrossing (IsInPlay (of_two (λ t v. v ≈ᵉ value_at steep t) (λ t v. v ≈ᵉ value_at level t)) (at_time 0) (at_time 1)) (at_time 0) (at_time 1) steep level (at_time 0) (at_time 1) (2 ^ 60)
 wide = record {
   tau = ratio (pos 1) (2 ^ 60) (lit< tt);
-  inside = omega arith;
+  after_start = omega arith;
+  before_stop = omega arith;
   above = omega arith;
   below = omega arith;
   first = inl (itself steep);
