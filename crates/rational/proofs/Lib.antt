@@ -8,3 +8,5 @@ pub mod Through
 pub mod Shift
 pub mod TimeLemmas
 pub mod ExtendedLemmas
+pub mod Lowest
+pub mod Meetings
