@@ -13,7 +13,7 @@ use Rattle.stl_syntax.specs.Network.{row as came}
 use Rattle.stl_syntax.specs.Texts.{fraction_text, IsNumberText}
 use Rattle.stl_syntax.specs.Stream.{IsStreamText}
 use Rattle.frac128.specs.declared.frac.Frac.{Frac}
-use Rattle.frac128.proofs.Wholes.{whole_frac}
+use Rattle.frac128.proofs.Wholes.{whole_frac, instant_span}
 use Rattle.stl_syntax.specs.declared.items.Verdict.{Verdict}
 use Rattle.stl_syntax.proofs.Examples.{x_at_least_5, at_time, row, x_header, eventually_nodes}
 use Rattle.stl_syntax.proofs.KeptExamples.{instant, x_fails}
@@ -66,7 +66,7 @@ zero_frac = whole_frac (pos 0)
 
 -- `x >= 5` false on [0,0]
 abbrev pub false_at_0 : Verdict
-false_at_0 = record { on = record { from = zero_frac; from_in = true; to = zero_frac; to_in = true }; holds = false }
+false_at_0 = record { on = instant_span zero_frac; holds = false }
 
 pub told : Describes (false_at_0 ∷ []) x_at_least_5 instant (closed (at_time 0) (at_time 0))
 told = (

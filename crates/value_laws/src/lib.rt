@@ -2,9 +2,11 @@
 #![tactic(auto)]
 
 mod kleene;
+mod margin;
 mod shape;
 mod truth;
 
 pub use kleene::Kleene;
+pub use margin::Margin;
 pub use shape::Shape;
 pub use truth::Truth;
