@@ -1,7 +1,6 @@
 //! Intervals of time.
 ghost use Rattle.std.specs.Prelude.{◌&&◌};
-ghost use Rattle.rational.specs.Time.{Precedes};
-ghost use Rattle.rational.proofs.TimeLemmas.{Precedes-is_prop};
+ghost use Rattle.rational.specs.Time.{HasTimeBetween};
 ghost use Rattle.frac128.specs.Value.{value};
 
 use crate::frac::Frac;
@@ -14,7 +13,7 @@ pub struct Span {
     pub from_in: bool,
     pub to: Frac,
     pub to_in: bool,
-    pub ghost not_empty: { Precedes (from_in && to_in) (value from) (value to) } by { Precedes-is_prop (from_in && to_in) (value from) (value to) },
+    pub ghost not_empty: { HasTimeBetween (value from) (value to) (from_in && to_in) },
 }
 
 impl Span {

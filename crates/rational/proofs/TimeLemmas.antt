@@ -3,7 +3,7 @@ use Rattle.std.proofs.Common.{◌≡◌, ℕ, ℤ, ◌*◌, ◌⊎◌, arith, ap
 use Rattle.std.proofs.Props.{props}
 use Rattle.rational.specs.Rational.{part_above, part_below}
 use Rattle.rational.proofs.Order.{lt_or_same_or_gt, not_lt_of_le, le_or_lt, le_trans, lt_of_le_of_lt, lt_of_lt_of_le, le_of_lt, le_of_same, same_sym}
-use Rattle.rational.specs.Time.{Rational, ◌≤ʳ◌, ◌<ʳ◌, ◌≈◌, Interval, IsNotEmpty, Precedes, shifted, later, times, less}
+use Rattle.rational.specs.Time.{Rational, ◌≤ʳ◌, ◌<ʳ◌, ◌≈◌, Interval, IsNotEmpty, Precedes, shifted, later, times, less, HasTimeBetween}
 
 pub later_le : {t u : Rational} (k : ℕ) → t ≤ʳ u → later t k ≤ʳ later u k
 later_le {t} {u} k h = record { le = omega (arith, h.le) }
@@ -72,3 +72,12 @@ not_empty_of_precedes on h = by_ends on.from_in on.to_in h
 pub precedes_of_not_empty : (on : Interval) → IsNotEmpty on → Precedes (on.from_in && on.to_in) on.from on.to
 precedes_of_not_empty on (inl l) = precedes_of_lt (on.from_in && on.to_in) on.from on.to l
 precedes_of_not_empty on (inr h) = rw (h.1, h.2) (le_of_same h.0)
+
+-- the one inequality says that the first end precedes the second, or is the second where both are in
+pub room_of_precedes : (b : Bool) (t u : Rational) → Precedes b t u → HasTimeBetween t u b
+room_of_precedes true t u h = let k = h.le in record { room = omega (arith, k) }
+room_of_precedes false t u h = let k = h.lt in record { room = omega (arith, k) }
+
+pub precedes_of_room : (b : Bool) (t u : Rational) → HasTimeBetween t u b → Precedes b t u
+precedes_of_room true t u h = let k = h.room in record { le = omega (arith, k) }
+precedes_of_room false t u h = let k = h.room in record { lt = omega (arith, k) }
