@@ -1,6 +1,17 @@
 //! The bytes of traces.
 #![tactic(auto)]
 
+mod event;
+mod header;
+mod line;
+mod plain;
 mod refusal;
+mod row;
+mod trace;
 
+pub use event::{Event, Took};
+pub use header::Header;
+pub use plain::{NotPlain, Rows};
 pub use refusal::{Limits, TraceKind, TraceRefusal};
+pub use row::Row;
+pub use trace::Trace;
