@@ -1,3 +1,5 @@
 pub mod TraceTextExamples
 pub mod TraceRefusalExamples
 pub mod TraceRefusalLaw
+pub mod DigitLemmas
+pub mod NameLemmas

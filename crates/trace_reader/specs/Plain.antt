@@ -126,8 +126,7 @@ pub record StandsFor (reader : Reader) (bytes : List ℕ) (rows : List Row) : Ty
 
 -- the bytes up to and with the first LF, or all where there is none
 abbrev pub through_feed : List ℕ → List ℕ
-through_feed [] = []
-through_feed (c ∷ more) = if c == 10 then c ∷ [] else c ∷ through_feed more
+through_feed = take_through 10
 
 -- the rows after an event, where `last` is the reader's row
 abbrev pub rows_after : Event → List Row → Row → List Row

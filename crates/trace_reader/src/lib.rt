@@ -1,10 +1,13 @@
 //! The bytes of traces.
 #![tactic(auto)]
 
+mod digits;
 mod event;
 mod header;
 mod line;
+mod name;
 mod plain;
+mod plain_line;
 mod refusal;
 mod row;
 mod trace;
