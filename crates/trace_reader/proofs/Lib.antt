@@ -3,3 +3,4 @@ pub mod TraceRefusalExamples
 pub mod TraceRefusalLaw
 pub mod DigitLemmas
 pub mod NameLemmas
+pub mod LineLemmas
