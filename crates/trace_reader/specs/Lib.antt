@@ -4,4 +4,8 @@ pub mod Sofar
 pub mod Labels
 pub mod Table
 pub mod Plain
+pub mod Cut
+pub mod PlainProgress
+pub mod PlainTable
+pub mod PlainReading
 pub mod PlainReader

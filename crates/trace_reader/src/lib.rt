@@ -8,6 +8,8 @@ mod line;
 mod name;
 mod plain;
 mod plain_line;
+mod plain_reading;
+mod plain_table;
 mod refusal;
 mod row;
 mod trace;

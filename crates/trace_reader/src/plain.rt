@@ -1,5 +1,4 @@
-use crate::header::HeaderRoom;
-use crate::line::LineBuffer;
+use crate::plain_reading::PlainReading;
 use crate::{Event, Header, Limits, Row, Took};
 use frac128::Memory;
 use std::alloc::Global;
@@ -13,12 +12,7 @@ pub struct NotPlain;
 #[derive(Drop)]
 pub struct Rows {
     limits: Limits,
-    begun: u64,
-    line: LineBuffer,
-    room: Option<HeaderRoom>,
-    header: Option<Header>,
-    row: Row,
-    count: u64,
+    reading: PlainReading,
     refused: bool,
     ended: bool,
 }
@@ -51,12 +45,7 @@ impl Rows {
     {
         Ok(Rows {
             limits,
-            begun: 0,
-            line: LineBuffer::new(alloc)?,
-            room: Some(HeaderRoom::new(alloc)?),
-            header: None,
-            row: Row::new(),
-            count: 0,
+            reading: PlainReading::new(alloc)?,
             refused: false,
             ended: false,
         })
@@ -83,14 +72,22 @@ impl Rows {
         // A refusal comes exactly at a fault, and stays.
         ensures refused { (bytes : List ℕ) (rows : List Values) → StandsFor self.old bytes rows
             → (IsErr result ↔ HasFault self.old.limits false (bytes ++ through_feed piece.now)) }
-        ensures err { OnErr result (self.new ≡ record self.old { begun = self.new.begun; refused = true }) }
+        ensures err { OnErr result (self.new ≡ record self.old { begun = self.new.begun; line = self.new.line; refused = true }) }
         ensures begun { OnErr result ((bytes : List ℕ) (rows : List Values) → StandsFor self.old bytes rows
             → self.new.begun ≡ length (lines false (bytes ++ through_feed piece.now))) }
         ensures again { self.old.refused ≡ true → IsErr result × (self.new ≡ self.old) }
         ensures limits { self.new.limits ≡ self.old.limits }
     {
-        let _ = piece;
-        Err(NotPlain)
+        if self.refused {
+            return Err(NotPlain);
+        }
+        match self.reading.take(&self.limits, piece) {
+            Some(took) => Ok(took),
+            None => {
+                self.refused = true;
+                Err(NotPlain)
+            }
+        }
     }
 
     /// Reads a last line without LF. The event is Row where it is a row, and else Nothing.
@@ -115,18 +112,30 @@ impl Rows {
         // A refusal comes exactly at a fault, and stays.
         ensures refused { (bytes : List ℕ) (rows : List Values) → StandsFor self.old bytes rows
             → (IsErr result ↔ HasFault self.old.limits true bytes) }
-        ensures err { OnErr result (self.new ≡ record self.old { refused = true }) }
+        ensures err { OnErr result (self.new ≡ record self.old { line = self.new.line; refused = true }) }
         ensures again { self.old.refused ≡ true → IsErr result × (self.new ≡ self.old) }
         ensures kept { (self.new.limits ≡ self.old.limits) × (self.new.begun ≡ self.old.begun) }
     {
-        Err(NotPlain)
+        if self.refused {
+            return Err(NotPlain);
+        }
+        match self.reading.last(&self.limits) {
+            Some(event) => {
+                self.ended = true;
+                Ok(event)
+            }
+            None => {
+                self.refused = true;
+                Err(NotPlain)
+            }
+        }
     }
 
     /// How many lines were begun.
     pub fn line(&self) -> u64
         ensures { result ≡ self.now.begun }
     {
-        self.begun
+        self.reading.lines.begun()
     }
 
     /// The header, once it was read.
@@ -135,7 +144,7 @@ impl Rows {
         ensures value { self.now.header ≡ Some result.now }
         ensures one_ramp { result.now ≡ header_of (name_of result.now) }
     {
-        match &self.header {
+        match self.reading.table.header() {
             Some(header) => header,
             None => unreachable!(),
         }
@@ -146,6 +155,6 @@ impl Rows {
         requires { 0 < self.now.count }
         ensures { result.now ≡ self.now.row }
     {
-        &self.row
+        self.reading.table.row()
     }
 }
