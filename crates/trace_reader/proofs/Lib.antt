@@ -4,3 +4,4 @@ pub mod TraceRefusalLaw
 pub mod DigitLemmas
 pub mod NameLemmas
 pub mod LineLemmas
+pub mod TableLemmas

@@ -82,10 +82,10 @@ impl PlainTable {
         ensures { (most : ℕ) → Judges most line.now self.old self.new result }
     {
         let name = read_header(line)?;
-        match self.room.take() {
-            Some(room) => self.header = Some(room.header(name)),
-            None => unreachable!(),
-        }
+        let Some(room) = self.room.take() else {
+            unreachable!()
+        };
+        self.header = Some(room.header(name));
         Some(Event::Header)
     }
 

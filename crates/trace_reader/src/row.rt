@@ -27,7 +27,7 @@ impl Model for Row {
 }
 
 impl Row {
-    ghost use Rattle.std.specs.Prelude.{◌≡◌, ◌<◌, ◌≤◌, ◌++◌, ◌∷◌, [], length, nat_abs, pos, slice_index_or, IfOk};
+    ghost use Rattle.std.specs.Prelude.{◌≡◌, ◌<◌, ◌≤◌, ◌++◌, ◌∷◌, [], length, nat_abs, pos, slice_index_or, All, IfOk};
 
     /// A row at time 0 without values.
     pub(crate) fn new() -> Row
@@ -78,7 +78,16 @@ impl Row {
         ensures at { result ≡ slice_index_or self.now.values i (pos 0) }
         ensures small { nat_abs result ≤ 16777216 }
     {
-        self.values[i]
+        let values = self.values();
+        values[i]
+    }
+
+    /// The values, one for each column.
+    pub(crate) fn values(&self) -> &[i32]
+        ensures value { result.now ≡ self.now.values }
+        ensures small { All (λ v. nat_abs v ≤ 16777216) result.now }
+    {
+        &self.values[..self.columns]
     }
 
     /// The same row once more.

@@ -46,9 +46,13 @@ impl Trace {
         ensures err { OnErr result (self.new ≡ self.old) }
     {
         self.times.try_reserve(1).map_err(|_| Memory)?;
-        self.values.try_reserve(row.columns()).map_err(|_| Memory)?;
-        self.times.push(row.time()).map_err(|_| Memory)?;
-        Ok(())
+        self.values
+            .extend_from_slice(row.values())
+            .map_err(|_| Memory)?;
+        match self.times.push(row.time()) {
+            Ok(()) => Ok(()),
+            Err(_) => unreachable!(),
+        }
     }
 
     /// How many rows there are.
@@ -74,7 +78,8 @@ impl Trace {
         ensures at { (d : Values) → result ≡ value (slice_index_or self.now.rows r d) c }
         ensures small { nat_abs result ≤ 16777216 }
     {
-        self.values[r * self.header.columns() + c]
+        let at = r * self.header.columns() + c;
+        self.values[at]
     }
 
     /// The columns of the trace.
