@@ -5,3 +5,5 @@ pub mod DigitLemmas
 pub mod NameLemmas
 pub mod LineLemmas
 pub mod TableLemmas
+pub mod PlainLines
+pub mod PlainSteps
