@@ -7,3 +7,5 @@ pub mod LineLemmas
 pub mod TableLemmas
 pub mod PlainLines
 pub mod PlainSteps
+pub mod PlainStands
+pub mod FeedLemmas

@@ -1,12 +1,9 @@
 -- A reader of the plain form by its parts.
-use Rattle.std.specs.Prelude.{◌≡◌, ◌⊎◌, ℕ, ◌+◌, ◌^◌, ◌<◌, ◌≤◌, List, [], ◌++◌, length, Option, Some, None, IsSome, false}
-use Rattle.stl_syntax.specs.Trace.{Row, Header}
-use Rattle.trace_reader.specs.Cut.{Cut, begun_after}
+use Rattle.std.specs.Prelude.{◌≡◌, ◌⊎◌, ℕ, ◌+◌, ◌^◌, ◌<◌, ◌≤◌, List, [], ◌++◌, length, Option, Some, None, MatchOption, false}
 use Rattle.trace_reader.specs.Plain.{Reader}
-use Rattle.trace_reader.specs.PlainProgress.{Progress, Judges}
+use Rattle.trace_reader.specs.PlainProgress.{Judges}
 use Rattle.trace_reader.specs.declared.refusal.Limits.{Limits}
 use Rattle.trace_reader.specs.declared.event.Event.{Event}
-use Rattle.trace_reader.specs.declared.event.Event.TheVariants.{Nothing, Header as IsTheHeader, Row as IsARow}
 use Rattle.trace_reader.specs.declared.plain_reading.PlainReading.{PlainReading}
 
 -- a reader that goes on
@@ -43,18 +40,16 @@ pub record Fits (limits : Limits) (begun size : ℕ) : Type 0 where
 abbrev pub Breaks : Limits → ℕ → ℕ → Type 0
 Breaks limits begun size = (limits.lines < begun) ⊎ (4096 < size)
 
--- what the bytes of a line that goes on come to: nothing but that they are kept, or a fault
-pub data Holds (limits : Limits) (part : List ℕ) (old new : PlainReading) : Option (Unit {0}) → Type 0 where
-  kept : Fits limits new.lines.begun (length old.lines.line + length part) → new.lines.line ≡ old.lines.line ++ part → Holds limits part old new (Some tt)
-  fault : Breaks limits new.lines.begun (length old.lines.line + length part) → Holds limits part old new None
+-- what the bytes of a line that goes on come to: they are kept, or break a limit
+abbrev pub Holds : Limits → List ℕ → PlainReading → PlainReading → Option (Unit {0}) → Type 0
+Holds limits part old new r =
+    let size : ℕ = length old.lines.line + length part in
+    MatchOption r (Breaks limits new.lines.begun size) (λ _. Fits limits new.lines.begun size × (new.lines.line ≡ old.lines.line ++ part))
 
--- what the bytes of a line before its LF come to
-pub data Finishes (limits : Limits) (part : List ℕ) (old new : PlainReading) : Option Event → Type 0 where
-  judged : {r : Option Event} → Fits limits new.lines.begun (length old.lines.line + length part) → new.lines.line ≡ []
-      → Judges limits.rows (old.lines.line ++ part) old.table new.table r → Finishes limits part old new r
-  fault : Breaks limits new.lines.begun (length old.lines.line + length part) → new.table ≡ old.table → Finishes limits part old new None
-
--- what a line comes to, where this header was read before
-abbrev pub line_event : Option Header → Event
-line_event None = IsTheHeader
-line_event (Some h) = IsARow
+-- what the bytes of a line before its LF come to: a limit broken, or what the line is
+abbrev pub Finishes : Limits → List ℕ → PlainReading → PlainReading → Option Event → Type 0
+Finishes limits part old new r =
+    let size : ℕ = length old.lines.line + length part in
+    let line : List ℕ = old.lines.line ++ part in
+    MatchOption r ((Breaks limits new.lines.begun size × (new.table ≡ old.table)) ⊎ Judges limits.rows line old.table new.table None)
+    (λ event. Fits limits new.lines.begun size × (new.lines.line ≡ []) × Judges limits.rows line old.table new.table (Some event))
