@@ -9,3 +9,6 @@ pub mod PlainLines
 pub mod PlainSteps
 pub mod PlainStands
 pub mod FeedLemmas
+pub mod PlainLaws
+pub mod FaultStays
+pub mod PlainText

@@ -38,7 +38,7 @@ pub lines-feed : (ended : Bool) (xs : List ℕ) → lines ended (10 ∷ xs) ≡ 
 unfolding lines
 lines-feed ended xs = let (p, ps, h) = split_some xs in rw h refl
 
-lines-other : (ended : Bool) (x : ℕ) (xs : List ℕ) → (x ≡ 10 → ⊥) → lines ended (x ∷ xs) ≡ put ended x (lines ended xs)
+pub lines-other : (ended : Bool) (x : ℕ) (xs : List ℕ) → (x ≡ 10 → ⊥) → lines ended (x ∷ xs) ≡ put ended x (lines ended xs)
 unfolding lines
 lines-other ended x xs other = let (p, ps, h) = split_some xs in by_parts p ps h
   where

@@ -41,7 +41,7 @@ module _ (bytes line : List ℕ) (p : Parts bytes line) where
       p.joins false (part ++ 10 ∷ [])
       ∙ ap (λ ls. p.front ++ ls) (ap (lines false) (sym (append_assoc line part (10 ∷ []))) ∙ lines-line (line ++ part) (All-append (λ c. c ≡ 10 → ⊥) line part p.free free))
 
-not_done : {b : Bool} → b ≡ false → b ≡ true → ⊥
+pub not_done : {b : Bool} → b ≡ false → b ≡ true → ⊥
 not_done a b = false≢true (sym a ∙ b)
 
 -- a whole line among those of rows is a row

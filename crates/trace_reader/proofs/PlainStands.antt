@@ -268,9 +268,9 @@ copied_none None h e s = sym e
 copied_none (Some x) h e s = absurd (false≢true (sym s))
 
 -- a line that breaks a limit
-pub breaks : (limits : Limits) (begun size : ℕ) (fault : LineFault) → IsLineFault limits.lines begun size fault → Breaks limits begun size
-breaks limits begun size TooMany h = inl h
-breaks limits begun size TooLong h = inr h.1
+pub breaks : (limits : Limits) (begun bytes : ℕ) (fault : LineFault) → IsLineFault limits.lines begun bytes fault → Breaks limits begun bytes
+breaks limits begun bytes TooMany h = inl h
+breaks limits begun bytes TooLong h = inr h.1
 
 pub finished : (limits : Limits) (part : List ℕ) (old new : PlainReading) (r : Option Event) → Fits limits new.lines.begun (length old.lines.line + length part) → new.lines.line ≡ []
     → Judges limits.rows (old.lines.line ++ part) old.table new.table r → Finishes limits part old new r

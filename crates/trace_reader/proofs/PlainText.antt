@@ -1,0 +1,110 @@
+-- Lines of the plain form are those of a trace.
+use Rattle.std.proofs.Common.{◌≡◌, ℕ, zero, suc, ◌+◌, ◌<◌, ◌≤◌, ◌⊎◌, inl, inr, ◌&&◌, not, eqb, Bool, true, false, List, [], ◌∷◌, ◌++◌, map, reverse, length, refl, sym, ap, ◌∙◌, subst, arith, Option, Some, None, ℤ, pos, neg_ℤ}
+use Rattle.std.specs.Prelude.{codes, ◌*ℤ◌}
+use Rattle.std.proofs.lemmas.List.{append-nil, append_assoc, reverse-append, reverse-reverse}
+use Rattle.std.proofs.lemmas.Bool.{false≢true, ne_eqb}
+use Rattle.std.proofs.lemmas.Bool.Decides.{nat_tests}
+use Rattle.stl_syntax.specs.Characters.{is_digit, goes_on_word, begins_word, is_space, all, after_first, decimal_value, IsNumeral, integer}
+use Rattle.stl_syntax.specs.Trace.{Column, Row, Header, Trace, IsTrace}
+use Rattle.trace_reader.specs.TraceText.{Line, lines, split, trim, content, is_blank_line, fields, IsName, name, IsNumber, plain as plain_number, minus as minus_number, column, time, no_mode, no_digits as no_field_digits, Heading, IsHeading, IsRow, AreRowLines, none as no_rows, unfinished as unfinished_row, row as row_line, AreTraceLines, heading as trace_heading, IsTraceText}
+use Rattle.trace_reader.specs.Sofar.{AreRowsSoFar}
+use Rattle.trace_reader.specs.Plain.{no_digits, AreDigits, digits, IsWhole, plain, minus, IsHeaderLine, IsRowLine, header_of, ArePlainRows, none, unfinished, row, ArePlainLines, heading, IsPlain, IsTextOf}
+use Rattle.trace_reader.specs.declared.refusal.Limits.{Limits}
+use Rattle.trace_reader.proofs.NameLemmas.{name_words}
+use Rattle.trace_reader.proofs.DigitLemmas.{digits_are}
+use Rattle.trace_reader.proofs.TableLemmas.{sofar-some}
+
+-- a byte that is no space and no CR
+abbrev is_solid : ℕ → Bool
+is_solid c = not (is_space c) && not (eqb c 13)
+
+-- a byte that is solid and no comma
+abbrev is_inner : ℕ → Bool
+is_inner c = is_solid c && not (eqb c 44)
+
+all-append : (p : ℕ → Bool) (xs ys : List ℕ) → all p xs ≡ true → all p ys ≡ true → all p (xs ++ ys) ≡ true
+all-append p [] ys h k = k
+all-append p (x ∷ xs) ys h k =
+    let a : p x ≡ true = grind (arith, h) in let b : all p xs ≡ true = grind (arith, h) in
+    rw (a, all-append p xs ys b k) refl
+
+all-weaker : (p q : ℕ → Bool) → ((c : ℕ) → p c ≡ true → q c ≡ true) → (xs : List ℕ) → all p xs ≡ true → all q xs ≡ true
+all-weaker p q w [] h = refl
+all-weaker p q w (x ∷ xs) h =
+    let a : p x ≡ true = grind (arith, h) in let b : all p xs ≡ true = grind (arith, h) in
+    rw (w x a, all-weaker p q w xs b) refl
+
+all-reverse : (p : ℕ → Bool) (xs : List ℕ) → all p xs ≡ true → all p (reverse xs) ≡ true
+all-reverse p [] h = refl
+all-reverse p (x ∷ xs) h =
+    let a : p x ≡ true = grind (arith, h) in let b : all p xs ≡ true = grind (arith, h) in
+    rw (reverse-append (x ∷ []) xs) (all-append p (reverse xs) (x ∷ []) (all-reverse p xs b) (rw a refl))
+
+solid_no_space : (c : ℕ) → is_solid c ≡ true → is_space c ≡ false
+solid_no_space c h = grind (arith, nat_tests, h)
+
+solid_no_return : (c : ℕ) → is_solid c ≡ true → eqb c 13 ≡ false
+solid_no_return c h = grind (arith, nat_tests, h)
+
+inner_solid : (c : ℕ) → is_inner c ≡ true → is_solid c ≡ true
+inner_solid c h = grind (arith, nat_tests, h)
+
+inner_no_comma : (c : ℕ) → is_inner c ≡ true → eqb c 44 ≡ false
+inner_no_comma c h = grind (arith, nat_tests, h)
+
+after-solid : (xs : List ℕ) → all is_solid xs ≡ true → after_first is_space xs ≡ xs
+after-solid [] h = refl
+after-solid (x ∷ xs) h = let a : is_solid x ≡ true = grind (arith, h) in rw (solid_no_space x a) refl
+
+trim-solid : (xs : List ℕ) → all is_solid xs ≡ true → trim xs ≡ xs
+trim-solid xs h = rw (after-solid xs h, after-solid (reverse xs) (all-reverse is_solid xs h)) (reverse-reverse xs)
+
+content-solid : (line : Line) → all is_solid line.bytes ≡ true → content line ≡ line.bytes
+content-solid line h = by_last (reverse line.bytes) refl (all-reverse is_solid line.bytes h)
+  where
+    by_last : (back : List ℕ) → reverse line.bytes ≡ back → all is_solid back ≡ true → content line ≡ line.bytes
+    by_last [] e k = rw e (sym (ap reverse e) ∙ reverse-reverse line.bytes)
+    by_last (c ∷ back) e k =
+        let a : is_solid c ≡ true = grind (arith, k) in
+        rw (e, solid_no_return c a) (sym (ap reverse e) ∙ reverse-reverse line.bytes)
+
+split-one : (xs : List ℕ) → all is_inner xs ≡ true → split 44 xs ≡ xs ∷ []
+split-one [] h = refl
+split-one (x ∷ xs) h =
+    let a : is_inner x ≡ true = grind (arith, h) in let b : all is_inner xs ≡ true = grind (arith, h) in
+    rw (inner_no_comma x a, split-one xs b) refl
+
+split-two : (xs ys : List ℕ) → all is_inner xs ≡ true → all is_inner ys ≡ true → split 44 (xs ++ 44 ∷ ys) ≡ xs ∷ ys ∷ []
+split-two [] ys h k = rw (split-one ys k) refl
+split-two (x ∷ xs) ys h k =
+    let a : is_inner x ≡ true = grind (arith, h) in let b : all is_inner xs ≡ true = grind (arith, h) in
+    rw (inner_no_comma x a, split-two xs ys b k) refl
+
+-- a line of two fields
+module _ (line : Line) (xs ys : List ℕ) (written : line.bytes ≡ xs ++ 44 ∷ ys) (left : all is_inner xs ≡ true) (right : all is_inner ys ≡ true) where
+  solid : all is_solid line.bytes ≡ true
+  solid =
+      rw written (all-append is_solid xs (44 ∷ ys) (all-weaker is_inner is_solid inner_solid xs left) (all-weaker is_inner is_solid inner_solid ys right))
+
+  two-content : content line ≡ xs ++ 44 ∷ ys
+  two-content = content-solid line solid ∙ written
+
+  two-fields : fields line ≡ xs ∷ ys ∷ []
+  unfolding fields
+  two-fields =
+      ap (λ t. map trim (split 44 t)) two-content
+      ∙ (ap (map trim) (split-two xs ys left right)
+      ∙ rw (trim-solid xs (all-weaker is_inner is_solid inner_solid xs left), trim-solid ys (all-weaker is_inner is_solid inner_solid ys right)) refl)
+
+  two-shown : is_blank_line line ≡ false
+  two-shown = ap (all is_space) two-content ∙ shown xs left
+    where
+      shown : (zs : List ℕ) → all is_inner zs ≡ true → all is_space (zs ++ 44 ∷ ys) ≡ false
+      shown [] h = refl
+      shown (z ∷ zs) h = let a : is_inner z ≡ true = grind (arith, h) in rw (solid_no_space z (inner_solid z a)) refl
+
+word_inner : (c : ℕ) → goes_on_word c ≡ true → is_inner c ≡ true
+word_inner c h = grind (arith, nat_tests, h)
+
+digit_inner : (c : ℕ) → is_digit c ≡ true → is_inner c ≡ true
+digit_inner c h = grind (arith, nat_tests, h)
