@@ -1,14 +1,14 @@
 -- A fault of bytes is one of all bytes that begin with them.
-use Rattle.std.proofs.Common.{◌≡◌, ℕ, zero, suc, ◌+◌, ◌<◌, ◌≤◌, ◌⊎◌, inl, inr, Bool, true, false, List, [], ◌∷◌, ◌++◌, length, refl, sym, ap, ◌∙◌, subst, arith, Option, Some, None}
+use Rattle.std.proofs.Common.{◌≡◌, ℕ, zero, suc, ◌+◌, ◌<◌, ◌≤◌, ◌⊎◌, inl, inr, Bool, true, false, List, [], ◌∷◌, ◌++◌, length, refl, sym, ap, ◌∙◌, subst, arith, Some}
 use Rattle.std.specs.Prelude.{slice_get}
-use Rattle.std.proofs.lemmas.List.{append-nil, length-append}
+use Rattle.std.proofs.lemmas.List.{length-append}
 use Rattle.std.proofs.lemmas.List.Elements.{All-nil, All-cons, All-head, All-tail}
 use Rattle.std.proofs.lemmas.Bool.{false≢true, cases_eq}
 use Rattle.trace_reader.specs.TraceText.{Line, lines}
 use Rattle.trace_reader.specs.Plain.{HasFault, long_line, no_header, no_row, not_rising, many_rows, many_lines, few_lines, HasNoFeed, IsOpenLine, first, later}
 use Rattle.trace_reader.specs.declared.refusal.Limits.{Limits}
 use Rattle.trace_reader.proofs.LineLemmas.{rest, put, lines-other}
-use Rattle.trace_reader.proofs.PlainLines.{Parts, parts, lines-now, not_done, get-append, get-last}
+use Rattle.trace_reader.proofs.PlainLines.{Parts, parts, lines-now, not_done, get-append}
 use Rattle.trace_reader.proofs.PlainLaws.{get-some}
 
 -- what follows the last LF
@@ -41,8 +41,8 @@ rest-get (c ∷ cs) (suc j) l e = absurd (let f = e in cc)
 front-line : (front : List Line) (line : List ℕ) (k : ℕ) (l : Line) → slice_get (front ++ rest false line) k ≡ Some l → l.whole ≡ true → slice_get front k ≡ Some l
 front-line front line k l e w =
     elim (get-split front (rest false line) k l e) [
-      inl h ↦ h
-    | inr h ↦ absurd (not_done (ap (λ (m : Line). m.whole) (rest-get line h.0 l h.2).1) w)
+      | inl h ↦ h
+      | inr h ↦ absurd (not_done (ap (λ (m : Line). m.whole) (rest-get line h.0 l h.2).1) w)
     ]
 
 -- a line that goes on keeps its bytes
@@ -84,19 +84,19 @@ module _ (limits : Limits) (bytes : List ℕ) (ended : Bool) (more : List ℕ) w
         let in_front = front-line p.front line (suc k) l (sym (ap (λ ls. slice_get ls (suc k)) was) ∙ f) w in
         let g = get-some p.front (suc k) l in_front in
         elim (get-split p.front (rest false line) k b (sym (ap (λ ls. slice_get ls k) was) ∙ e)) [
-          inl h ↦ ap (λ ls. slice_get ls k) now ∙ get-append p.front (lines ended (line ++ more)) k b h
-        | inr h ↦ absurd (omega (arith, g.0, h.1))
+          | inl h ↦ ap (λ ls. slice_get ls k) now ∙ get-append p.front (lines ended (line ++ more)) k b h
+          | inr h ↦ absurd (omega (arith, g.0, h.1))
         ]
 
     by_parts : HasFault limits false bytes → HasFault limits ended (bytes ++ more)
     by_parts (long_line k {line = l} e long) =
         elim (get-split p.front (rest false line) k l (sym (ap (λ ls. slice_get ls k) was) ∙ e)) [
-          inl h ↦ long_line k (ap (λ ls. slice_get ls k) now ∙ get-append p.front (lines ended (line ++ more)) k l h) long
-        | inr h ↦
-          let (zero_at, is, some) = rest-get line h.0 l h.2 in
-          let (m, ms, f, n) = grows ended line more p.free some in
-          long_line (length p.front) (ap (λ ls. slice_get ls (length p.front)) (now ∙ ap (λ ls. p.front ++ ls) f) ∙ get-at p.front m ms)
-          (omega (arith, n, long, ap (λ (x : Line). length x.bytes) is))
+          | inl h ↦ long_line k (ap (λ ls. slice_get ls k) now ∙ get-append p.front (lines ended (line ++ more)) k l h) long
+          | inr h ↦
+              let (zero_at, is, some) = rest-get line h.0 l h.2 in
+              let (m, ms, f, n) = grows ended line more p.free some in
+              long_line (length p.front) (ap (λ ls. slice_get ls (length p.front)) (now ∙ ap (λ ls. p.front ++ ls) f) ∙ get-at p.front m ms)
+              (omega (arith, n, long, ap (λ (x : Line). length x.bytes) is))
         ]
     by_parts (no_header {line = l} e w h) = no_header (stays 0 l e w) w h
     by_parts (no_row k {line = l} e w h) = no_row k (stays (suc k) l e w) w h

@@ -1,19 +1,16 @@
 -- Laws of the plain form: no bytes are of it and have a fault, a fault stays, and all bytes of the form are a trace's text.
-use Rattle.std.proofs.Common.{◌≡◌, ℕ, zero, suc, ◌+◌, ◌<◌, ◌≤◌, ◌⊎◌, inl, inr, Bool, true, false, List, [], ◌∷◌, ◌++◌, length, get_or, refl, sym, ap, ◌∙◌, subst, arith, Option, Some, None}
-use Rattle.std.specs.Prelude.{All, slice_get}
-use Rattle.std.proofs.lemmas.List.{append-nil, length-append}
-use Rattle.std.proofs.lemmas.List.Elements.{All-nil, All-cons, All-head, All-tail}
-use Rattle.std.proofs.lemmas.Bool.{false≢true, cases_eq}
+use Rattle.std.proofs.Common.{◌≡◌, ℕ, zero, suc, ◌<◌, ◌≤◌, Bool, true, List, [], ◌∷◌, length, get_or, refl, sym, ap, ◌∙◌, subst, arith, Option, Some}
+use Rattle.std.specs.Prelude.{slice_get}
 use Rattle.stl_syntax.specs.Characters.{is_digit, decimal_value}
-use Rattle.stl_syntax.specs.Trace.{Row, Header, AreRowsAfter}
+use Rattle.stl_syntax.specs.Trace.{Row, Header}
 use Rattle.stl_syntax.proofs.CharacterLemmas.{span_of, span_all}
 use Rattle.trace_reader.specs.TraceText.{Line, lines}
 use Rattle.trace_reader.specs.Sofar.{AreRowsSoFar}
-use Rattle.trace_reader.specs.Plain.{IsRowLine, IsHeaderLine, ArePlainRows, unfinished, row, none, ArePlainLines, heading, IsPlain, IsShort, IsLine, HasFault, long_line, no_header, no_row, not_rising, many_rows, many_lines, few_lines, HasNoFeed, IsOpenLine, first, later}
+use Rattle.trace_reader.specs.Plain.{IsRowLine, IsHeaderLine, ArePlainRows, unfinished, row, none, ArePlainLines, heading, IsPlain, IsShort, HasFault, long_line, no_header, no_row, not_rising, many_rows, many_lines, few_lines}
 use Rattle.trace_reader.specs.declared.refusal.Limits.{Limits}
 use Rattle.trace_reader.proofs.DigitLemmas.{digits_are}
-use Rattle.trace_reader.proofs.LineLemmas.{done, rest, IsDone, put, lines-other}
-use Rattle.trace_reader.proofs.PlainLines.{Parts, parts, lines-now, not_done, get-append, get-last}
+use Rattle.trace_reader.proofs.LineLemmas.{IsDone}
+use Rattle.trace_reader.proofs.PlainLines.{not_done}
 
 -- what a list has at a place
 pub get-some : {A : Type 0} (xs : List A) (k : ℕ) (x : A) → slice_get xs k ≡ Some x → (k < length xs) × ((d : A) → get_or xs k d ≡ x)
@@ -36,7 +33,7 @@ time-unique {line} {r} {s} h k =
     let a = digits_are h.time in
     let b = digits_are k.time in
     let f : h.front ≡ k.front =
-      sym (span_all is_digit h.front (44 ∷ h.back) a.1 refl) ∙ (ap (span_of is_digit) (sym h.written ∙ k.written) ∙ span_all is_digit k.front (44 ∷ k.back) b.1 refl) in
+    sym (span_all is_digit h.front (44 ∷ h.back) a.1 refl) ∙ (ap (span_of is_digit) (sym h.written ∙ k.written) ∙ span_all is_digit k.front (44 ∷ k.back) b.1 refl) in
     a.2 ∙ (ap (decimal_value 0) f ∙ sym b.2)
 
 -- times rise from row to row

@@ -1,5 +1,5 @@
 -- What a reader stands for after more bytes of a line, after its LF, and at the end.
-use Rattle.std.proofs.Common.{◌≡◌, ℕ, zero, suc, ◌+◌, ◌<◌, ◌≤◌, ◌⊎◌, inl, inr, Bool, true, false, List, [], ◌∷◌, ◌++◌, length, take, refl, sym, ap, ◌∙◌, subst, arith, Option, Some, None, add-one}
+use Rattle.std.proofs.Common.{◌≡◌, ℕ, suc, ◌+◌, ◌<◌, ◌≤◌, inl, inr, Bool, true, false, List, [], ◌∷◌, ◌++◌, length, refl, sym, ap, ◌∙◌, subst, arith, Option, Some, None, add-one}
 use Rattle.std.specs.Prelude.{All, slice_get, IfSome, IfNone, is_some, option_copied}
 use Rattle.std.proofs.lemmas.List.{append_assoc, append-nil, length-append, length_push, take_at}
 use Rattle.std.proofs.lemmas.List.Elements.{All-nil, All-cons, All-append, All-push, All-take}
@@ -10,15 +10,15 @@ use Rattle.trace_reader.specs.Cut.{Cut, begun_after, IsLineFault}
 use Rattle.trace_reader.specs.declared.line.LineFault.{LineFault}
 use Rattle.trace_reader.specs.declared.line.LineFault.TheVariants.{TooMany, TooLong}
 use Rattle.std.specs.Borrow.{Bor}
-use Rattle.trace_reader.specs.Plain.{ArePlainLines, none, IsPlain, HasFault, long_line, many_lines, few_lines, HasNoFeed, IsOpenLine, first, later, StandsFor, IsShort, IsNext, rows_after}
+use Rattle.trace_reader.specs.Plain.{ArePlainLines, none, IsPlain, HasFault, long_line, many_lines, few_lines, HasNoFeed, IsOpenLine, first, later, Reader, StandsFor, IsShort, IsNext, rows_after}
 use Rattle.trace_reader.specs.PlainProgress.{Progress, Judges, heading as judged_heading, row as judged_row, no_heading, no_row, not_later, too_many}
 use Rattle.trace_reader.specs.PlainReading.{state, Fits, Breaks, Finishes, IsStart}
 use Rattle.trace_reader.specs.declared.refusal.Limits.{Limits}
 use Rattle.trace_reader.specs.declared.event.Event.{Event}
 use Rattle.trace_reader.specs.declared.event.Event.TheVariants.{Row as IsARow}
 use Rattle.trace_reader.specs.declared.plain_reading.PlainReading.{PlainReading}
-use Rattle.trace_reader.proofs.LineLemmas.{done, rest, IsDone, lines-nil}
-use Rattle.trace_reader.proofs.PlainLines.{Parts, lines-now, lines-going, lines-closed, lines-on, lines-none, lines-count, get-last}
+use Rattle.trace_reader.proofs.LineLemmas.{done, rest, lines-nil}
+use Rattle.trace_reader.proofs.PlainLines.{lines-now, lines-going, lines-closed, lines-on, lines-none, lines-count, get-last}
 use Rattle.trace_reader.proofs.PlainSteps.{Known, cut, known, judged_fault, judged_known, judged_next}
 
 -- the first lines of more lines
@@ -104,11 +104,11 @@ module _ (limits : Limits) (old new : PlainReading) (bytes : List ℕ) (rows : L
     going-stands fits line b table = record {
       read = record {
         read = subst (λ ls. ArePlainLines ls new.table.header rows) (sym going)
-          (subst (λ (p : Progress). ArePlainLines (before ++ rest false (old.lines.line ++ part)) p.header rows) (sym table)
-          (lines-on facts.read facts.whole (old.lines.line ++ part)));
+            (subst (λ (p : Progress). ArePlainLines (before ++ rest false (old.lines.line ++ part)) p.header rows) (sym table)
+            (lines-on facts.read facts.whole (old.lines.line ++ part)));
         rising = s.read.rising;
         short = subst (All IsShort) (sym going)
-          (All-append IsShort before (rest false (old.lines.line ++ part)) short-before (rest-short false (old.lines.line ++ part) (omega (arith, size, fits.short))));
+            (All-append IsShort before (rest false (old.lines.line ++ part)) short-before (rest-short false (old.lines.line ++ part) (omega (arith, size, fits.short))));
         row_limit = s.read.row_limit;
         line_limit = omega (arith, going-begun b, fits.count);
         complete = λ e. absurd (false≢true e);
@@ -280,3 +280,7 @@ finished limits part old new (Some e) fits line judged = (fits, line, judged)
 pub some_bytes : (line : List ℕ) → (line ≡ [] → ⊥) → 0 < length line
 some_bytes [] h = absurd (h refl)
 some_bytes (c ∷ cs) h = omega arith
+
+-- a reader that stands for bytes goes on
+pub going_on : (r : Reader) (bytes : List ℕ) (rows : List Row) → StandsFor r bytes rows → StandsFor (record r { refused = false; ended = false }) bytes rows
+going_on r bytes rows s = record { read = s.read; line = s.line; begun = s.begun; count = s.count; last = s.last; open_end = (refl, refl) }

@@ -1,19 +1,17 @@
 -- How a reader goes on: what it stands for after more bytes, and where they have a fault.
-use Rattle.std.proofs.Common.{◌≡◌, ℕ, zero, suc, ◌+◌, ◌<◌, ◌≤◌, ◌⊎◌, inl, inr, Bool, true, false, List, [], ◌∷◌, ◌++◌, length, refl, sym, ap, ◌∙◌, subst, arith, Option, Some, None, add-one}
+use Rattle.std.proofs.Common.{◌≡◌, ℕ, suc, ◌+◌, ◌<◌, ◌≤◌, Bool, false, List, [], ◌∷◌, ◌++◌, length, refl, sym, ap, ◌∙◌, subst, arith, Some, None}
 use Rattle.std.specs.Prelude.{All, slice_get}
-use Rattle.std.proofs.lemmas.List.{append-nil, length-append, length_push, same_from_push}
-use Rattle.std.proofs.lemmas.List.Elements.{All-nil, All-cons, All-head, All-tail, All-append, All-push}
-use Rattle.stl_syntax.specs.Trace.{Row, Header, last_time}
+use Rattle.std.proofs.lemmas.List.{length_push, same_from_push}
+use Rattle.std.proofs.lemmas.List.Elements.{All-push}
+use Rattle.stl_syntax.specs.Trace.{Row, last_time}
 use Rattle.trace_reader.specs.TraceText.{Line, lines}
 use Rattle.trace_reader.specs.Sofar.{AreRowsSoFar}
-use Rattle.trace_reader.specs.Cut.{begun_after}
-use Rattle.trace_reader.specs.Plain.{IsHeaderLine, IsRowLine, header_of, ArePlainLines, none, heading, IsPlain, IsLine, HasFault, long_line, no_header, no_row as no_row_line, not_rising, many_rows, many_lines, few_lines, Reader, HasNoFeed, IsOpenLine, first, later, StandsFor, IsShort, IsNext, rows_after}
+use Rattle.trace_reader.specs.Plain.{IsRowLine, header_of, ArePlainLines, none, heading, HasFault, no_header, no_row as no_row_line, not_rising, many_rows, Reader, StandsFor, IsNext, rows_after}
 use Rattle.trace_reader.specs.PlainProgress.{Progress, Judges, heading as judged_heading, row as judged_row, no_heading, no_row, not_later, too_many}
 use Rattle.trace_reader.specs.declared.refusal.Limits.{Limits}
 use Rattle.trace_reader.specs.declared.event.Event.{Event}
-use Rattle.trace_reader.specs.declared.event.Event.TheVariants.{Nothing, Header as IsTheHeader, Row as IsARow}
-use Rattle.trace_reader.proofs.LineLemmas.{done, rest, IsDone}
-use Rattle.trace_reader.proofs.PlainLines.{Parts, parts, lines-now, lines-going, lines-closed, lines-front, lines-on, lines-none, lines-more, lines-count, lines-at, get-append, get-last, last_row, last_time-push}
+use Rattle.trace_reader.proofs.LineLemmas.{done, IsDone}
+use Rattle.trace_reader.proofs.PlainLines.{Parts, parts, lines-now, lines-front, lines-none, lines-more, lines-count, lines-at, get-append, get-last, last_row, last_time-push}
 use Rattle.trace_reader.proofs.TableLemmas.{sofar-push}
 
 -- the progress that a reader shows

@@ -41,8 +41,8 @@ returns-in_err-event-in-Some-clause-fault c =
     let new = c.finish.new.self in
     rw c.from_residual-in_err-event-in-Some.ensures (λ bytes rows s. subst (λ t. HasFault limits false (bytes ++ t)) all
     (elim c.in_err-event-in-Some.ensures.finished [
-      inl broken ↦ closed-fault limits old new bytes rows s (take at piece) (at-free piece at h.0 h.1) broken.0 c.in_err-event-in-Some.ensures.begun
-    | inr judged ↦ judged-fault limits old new bytes rows s (take at piece) (at-free piece at h.0 h.1) judged
+      | inl broken ↦ closed-fault limits old new bytes rows s (take at piece) (at-free piece at h.0 h.1) broken.0 c.in_err-event-in-Some.ensures.begun
+      | inr judged ↦ judged-fault limits old new bytes rows s (take at piece) (at-free piece at h.0 h.1) judged
     ]))
 
 pub returns-in_err-event-in-Some-clause-table : goal.returns-in_err-event-in-Some-clause-table
