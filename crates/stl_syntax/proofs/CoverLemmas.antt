@@ -1,10 +1,9 @@
 -- Whether items cover a time can be told, so a trace with items gives each atom just one value.
 use Rattle.std.proofs.Common.{◌≡◌, ℕ, ◌⊎◌, inl, inr, Bool, true, false, List, [], ◌∷◌, sym, ◌∙◌, refl, ◌<◌, arith}
-use Rattle.std.specs.Prelude.{IsTrue, IsFalse}
 use Rattle.std.proofs.lemmas.Bool.{cases_order}
 use Rattle.rational.specs.Rational.{Rational}
 use Rattle.rational.specs.Time.{Precedes, Interval, IsIn}
-use Rattle.rational.specs.Extended.{Extended, ◌≤ᵉ◌, ◌≈ᵉ◌}
+use Rattle.rational.specs.Extended.{Extended, ◌≈ᵉ◌}
 use Rattle.rational.proofs.Order.{le_or_lt, not_lt_of_le}
 use Rattle.rational.proofs.ExtendedLemmas.{le_reflᵉ, le_transᵉ}
 use Rattle.frac128.specs.Spans.{interval}

@@ -1,6 +1,6 @@
 -- A list of knots gives at most one value at a time.
 use Rattle.std.proofs.Common.{◌≡◌, ℕ, inl, inr, List, [], ◌∷◌}
-use Rattle.std.specs.Prelude.{Some, slice_get}
+use Rattle.std.specs.Prelude.{Option, Some, slice_get}
 use Rattle.rational.specs.Rational.{Rational, ◌≤ʳ◌, ◌<ʳ◌}
 use Rattle.rational.proofs.Order.{le_of_same, ge_of_same, le_trans, le_of_lt, not_lt_of_le, same_of_le}
 use Rattle.rational.proofs.Lines.{same_lines}
@@ -51,6 +51,6 @@ reads_one k (p ∷ pieces) t v w ok (inr (inr h)) (inr (inl j)) = absurd (not_lt
 reads_one k (p ∷ pieces) t v w ok (inr (inr h)) (inr (inr j)) = reads_one p.next pieces t v w ok.1 h j
 
 -- lists of knots give one value for each atom
-pub signals_give_one : (lists : List Knots) → ((i : ℕ) (knots : Knots) → slice_get lists i ≡ Some knots → AreKnots knots) → GivesOne (signals lists)
+pub signals_give_one : (lists : List (Option Knots)) → ((i : ℕ) (knots : Knots) → slice_get lists i ≡ Some (Some knots) → AreKnots knots) → GivesOne (signals lists)
 signals_give_one lists ok i a t r r' (knots, e, h) (others, f, j) =
     let same : others ≡ knots = cc in reads_one knots.first knots.pieces t r r' (ok i knots e) h (rw same at j)

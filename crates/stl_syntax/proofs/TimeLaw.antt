@@ -1,22 +1,21 @@
 -- Values and certainty do not depend on the pair by which a time is written.
 use Rattle.std.proofs.Common.{◌≡◌, ℕ, inl, inr, Bool, true, false, IsTrue, List, [], ◌∷◌, sym, ◌∙◌, refl}
-use Rattle.std.specs.Prelude.{IsFalse}
 use Rattle.rational.specs.Rational.{Rational, ◌≈◌}
-use Rattle.rational.specs.Time.{Within, IsIn}
-use Rattle.rational.specs.Extended.{Extended, finite, ◌≤ᵉ◌, ◌≈ᵉ◌, opposite, Affine, always_low, affine, always_high, value_at}
-use Rattle.rational.specs.Windows.{Ahead, Behind, IsUpTo, IsDownTo}
+use Rattle.rational.specs.Time.{IsIn}
+use Rattle.rational.specs.Extended.{Extended, finite, ◌≈ᵉ◌, opposite, Affine, always_low, affine, always_high, value_at}
+use Rattle.rational.specs.Windows.{Ahead, Behind}
 use Rattle.rational.proofs.Order.{le_of_same, ge_of_same, same_sym, same_trans, lt_of_le_of_lt, lt_of_lt_of_le}
 use Rattle.rational.proofs.Field.{same_negate}
 use Rattle.rational.proofs.Lines.{same_at}
 use Rattle.rational.proofs.TimeLemmas.{precedes_after, precedes_before}
-use Rattle.rational.proofs.ExtendedLemmas.{le_reflᵉ, le_transᵉ}
+use Rattle.rational.proofs.ExtendedLemmas.{le_transᵉ}
 use Rattle.rational.proofs.WindowLemmas.{ahead_same, behind_same, from_same, to_same, sup_alike, sup_over_alike, inf_over_alike, up_to_same, down_to_same}
 use Rattle.frac128.specs.Spans.{interval}
-use Rattle.stl_syntax.specs.Trace.{Trace, start, stop}
+use Rattle.stl_syntax.specs.Trace.{Trace}
 use Rattle.stl_syntax.specs.Formula.{Subformula, constant, atom, negation, conjunction, disjunction, implication, until, eventually, always, since, once, historically}
 use Rattle.stl_syntax.specs.Truth.{expression, holds_at}
 use Rattle.stl_syntax.specs.Kleene.{IsCovered, Must, MustNot}
-use Rattle.stl_syntax.specs.Knots.{Knot, Piece, Knots, IsInside, ReadsFrom}
+use Rattle.stl_syntax.specs.Knots.{Knot, Piece, IsInside, ReadsFrom}
 use Rattle.stl_syntax.specs.SupInf.{Reading, margins, truths, certainties, signals, margin, Gives, Setting, SupInf}
 use Rattle.stl_syntax.specs.declared.atom.Atom.{Atom}
 use Rattle.stl_syntax.specs.declared.items.Item.{Item}

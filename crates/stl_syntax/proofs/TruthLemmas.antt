@@ -1,11 +1,10 @@
 -- The truth at a time is that of the number, and not of its pair.
 use Rattle.std.proofs.Common.{ℕ, suc, pos, ◌-◌, List, [], ◌∷◌, inl, inr, Bool, true, false, cond, arith, IsTrue, ◌≤◌, mul-le-mul_right, le_of_mul-le-mul_right}
-use Rattle.std.specs.Prelude.{bytes_eq, Option, Some, None}
-use Rattle.rational.proofs.Order.{le_trans, le_of_same, ge_of_same, same_refl, same_sym}
+use Rattle.std.specs.Prelude.{bytes_eq}
+use Rattle.rational.proofs.Order.{same_refl, same_sym}
 use Rattle.rational.proofs.Field.{same_add, same_subtract}
 use Rattle.rational.proofs.Lines.{same_at}
-use Rattle.rational.specs.Time.{Rational, ◌≈◌, Within, whole, less, later}
-use Rattle.rational.specs.Windows.{Ahead, Behind}
+use Rattle.rational.specs.Time.{Rational, ◌≈◌, whole, less}
 use Rattle.rational.proofs.WindowLemmas.{ahead_same, behind_same, from_same, to_same}
 use Rattle.stl_syntax.specs.Trace.{Column, Row, Trace, row_time, value, line_between, piece, value_from, value_among, value_of}
 use Rattle.stl_syntax.specs.Formula.{Subformula, constant, atom, negation, conjunction, disjunction, implication, until, eventually, always, since, once, historically}
@@ -14,7 +13,7 @@ use Rattle.stl_syntax.specs.declared.atom.Term.{Term}
 use Rattle.stl_syntax.specs.declared.atom.Atom.{Atom}
 use Rattle.stl_syntax.specs.declared.rel.Rel.{Rel}
 use Rattle.stl_syntax.specs.declared.rel.Rel.TheVariants.{AtLeast, Above, AtMost, Below}
-use Rattle.rational.proofs.TimeLemmas.{same_later, same_times, less_same, precedes_after, precedes_before}
+use Rattle.rational.proofs.TimeLemmas.{same_times, less_same}
 
 same_piece : {t u : Rational} (step : Bool) (c : ℕ) (r s : Row) → t ≈ u → piece step c r s t ≈ piece step c r s u
 same_piece true c r s h = same_refl (whole (value r c))

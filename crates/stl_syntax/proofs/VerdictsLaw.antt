@@ -3,7 +3,7 @@ use Rattle.std.proofs.Common.{◌≡◌, ◌⊎◌, inl, inr, List, [], ◌∷�
 use Rattle.std.specs.Prelude.{MatchBool, ◌≢◌}
 use Rattle.rational.specs.Rational.{Rational, ◌≤ʳ◌, ◌<ʳ◌, ◌≈◌, middle}
 use Rattle.rational.proofs.Order.{lt_or_same_or_gt, le_of_same, le_of_lt, lt_of_lt_of_le, lt_of_le_of_lt, lt_trans, not_lt_of_le, same_trans, same_sym, same_refl, left_of_middle, right_of_middle}
-use Rattle.rational.specs.Time.{Interval, IsIn, IsNotEmpty, BeginAlike, EndAlike, Touch}
+use Rattle.rational.specs.Time.{Interval, IsIn, IsNotEmpty, Touch}
 use Rattle.frac128.specs.Spans.{interval}
 use Rattle.stl_syntax.specs.Trace.{Trace}
 use Rattle.stl_syntax.specs.Formula.{Subformula}

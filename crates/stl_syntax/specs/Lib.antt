@@ -1,6 +1,10 @@
 pub mod Atoms
 pub mod Trace
 pub mod Formula
+pub mod PostOrder
+pub mod Names
+pub mod WellFormed
+pub mod Horizons
 pub mod Truth
 pub mod Knots
 pub mod Kleene
@@ -8,7 +12,6 @@ pub mod SupInf
 pub mod Verdicts
 pub mod Cells
 pub mod Kept
-pub mod InPlay
 pub mod WideCause
 pub mod Network
 pub mod Texts
@@ -24,3 +27,6 @@ pub mod Binding
 pub mod EarlyText
 pub mod Held
 pub mod StreamedWide
+pub mod Closeness
+pub mod Laws
+pub mod MarginEdges

@@ -1,10 +1,11 @@
 -- Runs of the streaming network, in any order of its events, and what they answer.
-use Rattle.std.specs.Prelude.{◌≡◌, ℕ, ◌<◌, Bool, true, false, ◌&&◌, not, if◌then◌else◌, List, [], ◌∷◌, ◌++◌, length, ℤ, pos, ◌+ℤ◌, ◌<ℤ◌, int_lt, neg_ℤ, IsTrue, Option, Some, None, ◌==◌, slice_index_or, IfSome, MatchBool}
+use Rattle.std.specs.Prelude.{◌≡◌, ℕ, ◌<◌, Bool, true, false, ◌&&◌, not, if◌then◌else◌, List, [], ◌∷◌, ◌++◌, length, ℤ, pos, ◌+ℤ◌, ◌<ℤ◌, int_lt, neg_ℤ, Option, Some, None, ◌==◌, slice_index_or, IfSome, MatchBool}
 use Rattle.rational.specs.Time.{whole, Interval, closed, left_open}
-use Rattle.stl_syntax.specs.Trace.{Header, Row, Trace, first_time, last_time}
+use Rattle.stl_syntax.specs.Trace.{Header, Row, first_time, last_time}
 use Rattle.stl_syntax.specs.Formula.{subformula}
 use Rattle.stl_syntax.specs.Verdicts.{Describes}
 use Rattle.stl_syntax.specs.declared.items.Verdict.{Verdict}
+use Rattle.stl_syntax.specs.PostOrder.{children}
 use Rattle.stl_syntax.specs.declared.node.Node.{Node}
 use Rattle.stl_syntax.specs.declared.node.Node.TheVariants.{Const, Atom as Leaf, Not, And, Or, Implies, Until, Eventually, Always, Since, Once, Historically}
 
@@ -59,21 +60,6 @@ open_number (Since p q a b) s = least (s.fronts p) (moved_by (pos a) (s.fronts q
 open_number (Once p a b a_in b_in) s = least (moved_by (pos a) (s.fronts p)) (last_row s)
 open_number (Historically p a b a_in b_in) s = least (moved_by (pos a) (s.fronts p)) (last_row s)
 
--- the places of the children
-abbrev pub children : Node → List ℕ
-children (Const b) = []
-children (Leaf a) = []
-children (Not p) = p ∷ []
-children (And p q) = p ∷ q ∷ []
-children (Or p q) = p ∷ q ∷ []
-children (Implies p q) = p ∷ q ∷ []
-children (Until p q a b) = p ∷ q ∷ []
-children (Eventually p a b a_in b_in) = p ∷ []
-children (Always p a b a_in b_in) = p ∷ []
-children (Since p q a b) = p ∷ q ∷ []
-children (Once p a b a_in b_in) = p ∷ []
-children (Historically p a b a_in b_in) = p ∷ []
-
 -- both are nothing, or one number
 abbrev pub same_front : Front → Front → Bool
 same_front None None = true
@@ -124,21 +110,22 @@ state_from nodes s (e ∷ events) = state_from nodes (after_event nodes s e) eve
 unfoldable pub state : List Node → List Event → State
 state nodes events = state_from nodes initial events
 
--- an event may come: a row is later than the last and comes before the end; the end comes after a row, once; a step is of a node that is no atom
-abbrev pub MayCome : List Node → State → Event → Type 0
-MayCome nodes s (row r) = (s.closed ≡ false) × IfSome (last_row s) (λ f. f <ℤ pos r.time)
-MayCome nodes s (step i) = (i < length nodes) × (node_is_atom nodes i ≡ false)
-MayCome nodes s close = (s.closed ≡ false) × (last_row s ≡ None → ⊥)
-MayCome nodes s take = Unit {0}
+-- an event may come: a row has a value for each column, is later than the last one and comes before the end; the end comes after a
+-- row, once; a step is of a node that is no atom
+abbrev pub MayCome : List Node → Header → State → Event → Type 0
+MayCome nodes header s (row r) = (s.closed ≡ false) × IfSome (last_row s) (λ f. f <ℤ pos r.time) × (length r.values ≡ length header.columns)
+MayCome nodes header s (step i) = (i < length nodes) × (node_is_atom nodes i ≡ false)
+MayCome nodes header s close = (s.closed ≡ false) × (last_row s ≡ None → ⊥)
+MayCome nodes header s take = Unit {0}
 
 -- the events may come in this order, from state s on
-abbrev pub IsRunFrom : List Node → State → List Event → Type 0
-IsRunFrom nodes s [] = Unit {0}
-IsRunFrom nodes s (e ∷ events) = MayCome nodes s e × IsRunFrom nodes (after_event nodes s e) events
+abbrev pub IsRunFrom : List Node → Header → State → List Event → Type 0
+IsRunFrom nodes header s [] = Unit {0}
+IsRunFrom nodes header s (e ∷ events) = MayCome nodes header s e × IsRunFrom nodes header (after_event nodes s e) events
 
 -- the events are a run
-abbrev pub IsRun : List Node → List Event → Type 0
-IsRun nodes events = IsRunFrom nodes initial events
+abbrev pub IsRun : List Node → Header → List Event → Type 0
+IsRun nodes header events = IsRunFrom nodes header initial events
 
 -- what `front` shows: the number, unless it lies below the start
 abbrev pub shown : State → ℕ → Front

@@ -1,0 +1,25 @@
+-- What a margin stands for: a constantly infinite function, a constant or a ramp.
+use Rattle.std.specs.Prelude.{ℤ, pos, Bool, true, false}
+use Rattle.rational.specs.Line.{constant}
+use Rattle.rational.specs.Extended.{Affine, always_low, affine, always_high}
+use Rattle.frac128.specs.Value.{value}
+use Rattle.frac128.specs.Line.{line, base}
+use Rattle.value_laws.specs.declared.margin.Margin.{Margin}
+use Rattle.value_laws.specs.declared.margin.Margin.TheVariants.{Low, High, Fixed, Ramp}
+
+-- its value at every time
+abbrev pub margin_function : Margin → Affine
+margin_function Low = always_low
+margin_function High = always_high
+margin_function (Fixed c) = affine (constant (value c))
+margin_function (Ramp f) = affine (line f)
+
+-- the time from which a ramp is measured, and 0 for the others
+abbrev pub margin_base : Margin → ℤ
+margin_base (Ramp f) = base f
+margin_base m = pos 0
+
+-- whether it is a ramp
+abbrev pub is_ramp : Margin → Bool
+is_ramp (Ramp f) = true
+is_ramp m = false
