@@ -205,3 +205,29 @@ fn a_refusal_comes_again(rt: HostRuntime) -> Result<(), Fail> {
     assert!(rt; reader.line() == 3);
     Ok(())
 }
+
+#[test]
+fn copies_of_a_header_and_a_row_make_a_trace(rt: HostRuntime) -> Result<(), Fail> {
+    let limits = Limits { rows: 9, lines: 9 };
+    let Ok(mut reader) = Rows::new(rt.alloc(), limits) else {
+        return Err(Fail::from(AllocError));
+    };
+    let header = match reader.push(b"time,x\n") {
+        Ok(took) if took.event == Event::Header => reader.header().copy().ok(),
+        _ => None,
+    };
+    let row = match reader.push(b"4,-5\n") {
+        Ok(took) if took.event == Event::Row => reader.row().copy().ok(),
+        _ => None,
+    };
+    let (Some(header), Some(row)) = (header, row) else {
+        panic!(&rt; "not read");
+    };
+    assert!(rt; header.scale().time == 0 && header.scale().value == 0 && header.columns() == 1);
+    assert!(rt; row.time() == 4 && row.columns() == 1);
+    let mut trace = Trace::new(rt.alloc(), header);
+    assert!(rt; trace.rows() == 0 && trace.push(&row).is_ok());
+    assert!(rt; trace.rows() == 1 && trace.header().columns() == 1);
+    assert!(rt; trace.time(0) == 4 && trace.value(0, 0) == -5 && trace.header().name(0) == "x");
+    Ok(())
+}
