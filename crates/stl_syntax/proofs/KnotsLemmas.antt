@@ -7,24 +7,9 @@ use Rattle.rational.proofs.Lines.{same_lines}
 use Rattle.rational.specs.Extended.{Extended, ◌≤ᵉ◌, ◌≈ᵉ◌, Affine, always_low, affine, always_high, value_at}
 use Rattle.stl_syntax.specs.Knots.{Knot, Piece, Knots, ReadsFrom, AreKnotsFrom, AreKnots}
 use Rattle.stl_syntax.specs.SupInf.{signals}
+use Rattle.rational.proofs.AffineLemmas.{affine_unique, same_symᵉ, same_transᵉ}
 use Rattle.rational.proofs.ExtendedLemmas.{le_transᵉ}
 use Rattle.stl_syntax.proofs.SupInfLemmas.{GivesOne}
-
-same_transᵉ : (u v w : Extended) → u ≈ᵉ v → v ≈ᵉ w → u ≈ᵉ w
-same_transᵉ u v w h k = record { at_most = le_transᵉ u v w h.at_most k.at_most; at_least = le_transᵉ w v u k.at_least h.at_least }
-
-pub same_symᵉ : (v w : Extended) → v ≈ᵉ w → w ≈ᵉ v
-same_symᵉ v w h = record { at_most = h.at_least; at_least = h.at_most }
-
--- two affine functions with one value at two times have one value at each
-pub affine_unique : (f g : Affine) (t u s : Rational) → t <ʳ u → value_at f t ≈ᵉ value_at g t → value_at f u ≈ᵉ value_at g u → value_at f s ≤ᵉ value_at g s
-affine_unique always_low g t u s h j k = tt
-affine_unique (affine f) always_low t u s h j k = absurd j.at_most
-affine_unique (affine f) (affine g) t u s h j k = le_of_same (same_lines f g h (same_of_le j.at_most j.at_least) (same_of_le k.at_most k.at_least) s)
-affine_unique (affine f) always_high t u s h j k = tt
-affine_unique always_high always_low t u s h j k = absurd j.at_most
-affine_unique always_high (affine g) t u s h j k = absurd j.at_most
-affine_unique always_high always_high t u s h j k = tt
 
 -- what is read from a knot on is read at its time or later
 reads_after : (k : Knot) (pieces : List Piece) (t : Rational) (v : Extended) → AreKnotsFrom k pieces → ReadsFrom k pieces t v → k.time ≤ʳ t

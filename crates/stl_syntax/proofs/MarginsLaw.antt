@@ -9,8 +9,8 @@ use Rattle.stl_syntax.specs.Knots.{Knot, Piece, Knots, IsInside}
 use Rattle.stl_syntax.specs.SupInf.{Robustness}
 use Rattle.stl_syntax.specs.Verdicts.{AreOneLine, IsRobust, IsRobustInside, PiecesGoOn, TellsAfter, DescribesMargins, KnotsAlike, PiecesAlike}
 use Rattle.stl_syntax.proofs.SupInfLemmas.{SupInf-unique, margins_give_one}
-use Rattle.stl_syntax.proofs.TimeLaw.{SupInf-same, value_same, same_transᵉ}
-use Rattle.stl_syntax.proofs.KnotsLemmas.{affine_unique, same_symᵉ}
+use Rattle.stl_syntax.proofs.TimeLaw.{SupInf-same}
+use Rattle.rational.proofs.AffineLemmas.{affine_unique, same_symᵉ, same_transᵉ, value_same}
 
 -- two functions that agree at two times agree at each
 everywhere : (f g : Affine) (t u : Rational) → t <ʳ u → value_at f t ≈ᵉ value_at g t → value_at f u ≈ᵉ value_at g u → (s : Rational) → value_at f s ≈ᵉ value_at g s

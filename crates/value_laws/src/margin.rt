@@ -1,4 +1,10 @@
 //! Margins over time.
+ghost use Rattle.std.specs.Prelude.{IsTrue, ◌↔◌};
+ghost use Rattle.rational.specs.Rational.{Rational, ◌≈◌};
+ghost use Rattle.rational.specs.Line.{at};
+ghost use Rattle.frac128.specs.Line.{line};
+ghost use Rattle.frac128.specs.Value.{value};
+
 use crate::Shape;
 use frac128::{Frac, Ramp, WideFrac};
 use std::cmp::Ordering;
@@ -19,7 +25,9 @@ pub enum Margin {
 impl Shape for Margin {
     ghost use Rattle.std.specs.Prelude.{true};
     ghost use Rattle.rational.specs.Extended.{minus_infinity, infinity};
-    ghost use Rattle.value_laws.specs.Margins.{margin_function, margin_base, is_ramp};
+    ghost use Rattle.value_laws.specs.Margins.{margin_function, margin_base, is_ramp, margin_base_within, others_base};
+    ghost use Rattle.rational.specs.Extended.{value_at};
+    ghost use Rattle.rational.proofs.ExtendedLemmas.{below_infinity};
 
     ghost function = { margin_function };
 
@@ -33,13 +41,13 @@ impl Shape for Margin {
 
     ghost may_be_wide = { true };
 
-    ghost base_within = { ? };
+    ghost base_within = { margin_base_within };
 
-    ghost base_of_others = { ? };
+    ghost base_of_others = { others_base };
 
-    ghost lowest_is_least = { ? };
+    ghost lowest_is_least = { λ p t. tt };
 
-    ghost highest_is_greatest = { ? };
+    ghost highest_is_greatest = { λ p t. below_infinity (value_at (margin_function p) t) };
 
     ghost lowest_bounded = { tt };
 
@@ -100,8 +108,8 @@ impl Shape for Margin {
     fn cross(p: &Margin, q: &Margin, l: &Frac, r: &Frac) -> Result<Option<Frac>, WideFrac> {
         match (p, q) {
             (Margin::Ramp(f), Margin::Ramp(g)) => f.meet_ramp(g, l, r),
-            (Margin::Ramp(f), Margin::Fixed(c)) | (Margin::Fixed(c), Margin::Ramp(f)) =>
-                f.meet_const(c, l, r),
+            (Margin::Ramp(f), Margin::Fixed(c)) => f.meet_const(c, l, r),
+            (Margin::Fixed(c), Margin::Ramp(f)) => f.meet_const(c, l, r),
             _ => Ok(None),
         }
     }
@@ -119,13 +127,18 @@ impl Shape for Margin {
     fn same(p: &Margin, q: &Margin) -> bool {
         match (p, q) {
             (Margin::Ramp(f), Margin::Ramp(g)) => f.same(g),
-            (Margin::Ramp(f), Margin::Fixed(c)) | (Margin::Fixed(c), Margin::Ramp(f)) => f
-                .rises()
-                .is_eq()
-                && f.cmp_const(c, &Frac::of(0)).is_eq(),
+            (Margin::Ramp(f), Margin::Fixed(c)) => is_level(f, c),
+            (Margin::Fixed(c), Margin::Ramp(f)) => is_level(f, c),
             (Margin::Fixed(c), Margin::Fixed(d)) => c.cmp(d).is_eq(),
             (Margin::Low, Margin::Low) | (Margin::High, Margin::High) => true,
             _ => false,
         }
     }
+}
+
+/// Whether the ramp has the value `c` at every time.
+fn is_level(f: &Ramp, c: &Frac) -> bool
+    ensures { IsTrue result ↔ ((t : Rational) → at (line f.now) t ≈ value c.now) }
+{
+    f.rises().is_eq() && f.cmp_const(c, &Frac::of(0)).is_eq()
 }
