@@ -6,5 +6,6 @@ pub mod Moves
 pub mod Gaps
 pub mod RampGaps
 pub mod Meets
+pub mod Levels
 pub mod Wholes
 pub mod Fractions
