@@ -10,3 +10,4 @@ pub mod TimeLemmas
 pub mod ExtendedLemmas
 pub mod Lowest
 pub mod Meetings
+pub mod Sups

@@ -5,7 +5,7 @@ use mir.Syntax.{w128}
 use Rattle.rational.specs.Line.{at}
 use Rattle.frac128.specs.Line.{line}
 use Rattle.frac128.specs.Value.{value}
-use Rattle.frac128.proofs.Ahead.{whole_small}
+use Rattle.frac128.proofs.Fractions.{whole_of_within}
 use Rattle.frac128.proofs.Gaps.{ahead_is}
 use Rattle.frac128.proofs.RampGaps.{ramp_gap}
 use Rattle.frac128.proofs.Levels.{moved_down, order_of_products}
@@ -16,7 +16,7 @@ sum_of_products-here-requires c =
     let small_rise = c.args.self.now.small_rise in
     let offset : unsigned_abs (to_z w128 (of_z w128 c.offset.result)) ≤ 2 ^ 66 = omega (arith, ints) in
     let rise : unsigned_abs (to_z w128 (of_z w128 c.from.result)) ≤ 2 ^ 31 = omega (arith, ints) in
-    let whole : unsigned_abs (to_z w128 (of_z w128 c.from-2.result)) ≤ 2 ^ 34 = omega (arith, ints, whole_small (2 ^ 34) c.args.t.now c.requires) in
+    let whole : unsigned_abs (to_z w128 (of_z w128 c.from-2.result)) ≤ 2 ^ 34 = omega (arith, ints, whole_of_within (2 ^ 34) c.args.t.now c.requires) in
     omega (arith, mul-le-mul rise whole)
 
 pub determinant-ahead-requires : goal.determinant-ahead-requires
@@ -24,7 +24,7 @@ determinant-ahead-requires c =
     let small_rise = c.args.self.now.small_rise in
     let offset : unsigned_abs (to_z w128 (of_z w128 c.offset.result)) ≤ 2 ^ 66 = omega (arith, ints) in
     let rise : unsigned_abs (to_z w128 (of_z w128 c.from.result)) ≤ 2 ^ 31 = omega (arith, ints) in
-    let whole : unsigned_abs (to_z w128 (of_z w128 c.from-2.result)) ≤ 2 ^ 34 = omega (arith, ints, whole_small (2 ^ 34) c.args.t.now c.requires) in
+    let whole : unsigned_abs (to_z w128 (of_z w128 c.from-2.result)) ≤ 2 ^ 34 = omega (arith, ints, whole_of_within (2 ^ 34) c.args.t.now c.requires) in
     let here : unsigned_abs (to_z w128 (of_z w128 c.sum_of_products-here.result)) ≤ 2 ^ 67 = omega (arith, ints, mul-le-mul rise whole, c.sum_of_products-here.ensures.small) in
     let other : unsigned_abs (to_z w128 (of_z w128 c.from-3.result)) ≤ 2 ^ 63 = omega (arith, ints) in
     let run : unsigned_abs (to_z w128 (of_z w128 c.from-4.result)) ≤ 2 ^ 32 = omega (arith, ints) in
