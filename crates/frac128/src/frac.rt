@@ -124,8 +124,9 @@ impl Frac {
         ensures value { value result ≈ add (value self.now) (whole by) }
         ensures den { denominator result ≡ denominator self.now }
     {
+        let whole = self.whole + by;
         Frac {
-            whole: self.whole + by,
+            whole,
             rest: self.rest,
             den: self.den,
         }
