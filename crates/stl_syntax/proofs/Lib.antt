@@ -4,6 +4,8 @@ pub mod FormulaLemmas
 pub mod PostOrderLemmas
 pub mod HorizonLemmas
 pub mod WellFormedLemmas
+pub mod ScalingLemmas
+pub mod UnitLemmas
 pub mod TruthLemmas
 pub mod SupInfLemmas
 pub mod KnotsLemmas
