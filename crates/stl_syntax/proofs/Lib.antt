@@ -6,6 +6,8 @@ pub mod HorizonLemmas
 pub mod WellFormedLemmas
 pub mod ScalingLemmas
 pub mod UnitLemmas
+pub mod DecimalLemmas
+pub mod PrintLemmas
 pub mod TruthLemmas
 pub mod SupInfLemmas
 pub mod KnotsLemmas

@@ -10,6 +10,7 @@ mod items;
 pub mod laws;
 mod name;
 mod node;
+mod operator;
 mod print;
 mod rel;
 mod scale;
