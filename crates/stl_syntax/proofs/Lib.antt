@@ -8,6 +8,7 @@ pub mod ScalingLemmas
 pub mod UnitLemmas
 pub mod DecimalLemmas
 pub mod PrintLemmas
+pub mod PrintedText
 pub mod TruthLemmas
 pub mod SupInfLemmas
 pub mod KnotsLemmas
