@@ -2,4 +2,6 @@ pub mod Lowest
 pub mod Value
 pub mod Line
 pub mod Sizes
+pub mod Gap
 pub mod Spans
+pub mod Ratios

@@ -9,3 +9,7 @@ pub mod Shift
 pub mod TimeLemmas
 pub mod ExtendedLemmas
 pub mod WindowLemmas
+pub mod AffineLemmas
+pub mod LevelLemmas
+pub mod Lowest
+pub mod Meetings

@@ -3,3 +3,5 @@ pub mod Line
 pub mod Time
 pub mod Extended
 pub mod Windows
+pub mod Affine
+pub mod InPlay

@@ -13,7 +13,6 @@ pub mod SupInf
 pub mod Verdicts
 pub mod Cells
 pub mod Kept
-pub mod InPlay
 pub mod WideCause
 pub mod Network
 pub mod Texts
@@ -31,3 +30,4 @@ pub mod Held
 pub mod StreamedWide
 pub mod Closeness
 pub mod Laws
+pub mod MarginEdges
