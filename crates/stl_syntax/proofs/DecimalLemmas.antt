@@ -27,7 +27,7 @@ without_zeros-less k n some zero_digit = by_place k some
         rw (same, zero_digit) (sym (without_zeros-zero (last_digits k (n / 10))))
 
 -- one digit more
-decimal_value-push : (w : ℕ) (xs : List ℕ) (c : ℕ) → decimal_value w (xs ++ c ∷ []) ≡ 10 * decimal_value w xs + (c - 48)
+pub decimal_value-push : (w : ℕ) (xs : List ℕ) (c : ℕ) → decimal_value w (xs ++ c ∷ []) ≡ 10 * decimal_value w xs + (c - 48)
 decimal_value-push w [] c = refl
 decimal_value-push w (x ∷ xs) c = decimal_value-push (10 * w + (x - 48)) xs c
 

@@ -9,6 +9,7 @@ pub mod UnitLemmas
 pub mod DecimalLemmas
 pub mod PrintLemmas
 pub mod PrintedText
+pub mod PrintLaw
 pub mod TruthLemmas
 pub mod SupInfLemmas
 pub mod KnotsLemmas

@@ -138,14 +138,14 @@ fn node(alloc: Global, op: Op, left: u32, right: u32) -> Result<Node, Fail> {
 }
 
 /// How many places stay free when the node takes its operands, where these are the last that are free.
-fn others(open: &[u32], node: &Node) -> Option<usize>
-    ensures { IfSome result (λ n. open.now ≡ take n open.now ++ children node.now) }
+fn others(free: &[u32], node: &Node) -> Option<usize>
+    ensures { IfSome result (λ n. free.now ≡ take n free.now ++ children node.now) }
 {
-    match (node.operands(), open) {
-        (Operands::Nothing, _) => Some(open.len()),
-        (Operands::One(p), [.., last]) if *last == p => Some(open.len() - 1),
+    match (node.operands(), free) {
+        (Operands::Nothing, _) => Some(free.len()),
+        (Operands::One(p), [.., last]) if *last == p => Some(free.len() - 1),
         (Operands::Two(p, q), [.., left, right]) if *left == p && *right == q => Some(
-            open.len() - 2,
+            free.len() - 2,
         ),
         _ => None,
     }
