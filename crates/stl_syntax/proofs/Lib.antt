@@ -10,6 +10,7 @@ pub mod DecimalLemmas
 pub mod PrintLemmas
 pub mod PrintedText
 pub mod PrintLaw
+pub mod TreeLaw
 pub mod TruthLemmas
 pub mod SupInfLemmas
 pub mod KnotsLemmas
