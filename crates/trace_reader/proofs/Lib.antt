@@ -1,3 +1,14 @@
 pub mod TraceTextExamples
 pub mod TraceRefusalExamples
 pub mod TraceRefusalLaw
+pub mod DigitLemmas
+pub mod NameLemmas
+pub mod LineLemmas
+pub mod TableLemmas
+pub mod PlainLines
+pub mod PlainSteps
+pub mod PlainStands
+pub mod FeedLemmas
+pub mod PlainLaws
+pub mod FaultStays
+pub mod PlainText

@@ -1,6 +1,25 @@
 //! The bytes of traces.
 #![tactic(auto)]
 
+mod digits;
+mod event;
+mod header;
+pub mod laws;
+mod line;
+mod name;
+mod plain;
+mod plain_line;
+mod plain_reading;
+mod plain_table;
 mod refusal;
+mod row;
+#[cfg(test)]
+mod tests;
+mod trace;
 
+pub use event::{Event, Took};
+pub use header::Header;
+pub use plain::{NotPlain, Rows};
 pub use refusal::{Limits, TraceKind, TraceRefusal};
+pub use row::Row;
+pub use trace::Trace;
