@@ -2,6 +2,7 @@
 use Rattle.std.specs.Prelude.{◌≡◌, ℕ, ◌+◌, ◌-◌, max, ◌||◌, Bool, true, false, List, [], ◌∷◌, ◌++◌, length, ℤ, pos, neg_ℤ, codes, bytes_eq, Option, Some, None}
 use Rattle.stl_syntax.specs.Characters.{ticks, is_among}
 pub use Rattle.stl_syntax.specs.Names.{reserved}
+pub use Rattle.stl_syntax.specs.PostOrder.{top}
 use Rattle.stl_syntax.specs.Formula.{Formula}
 pub use Rattle.stl_grammar.specs.Tokens.{Token, word, number, relation, open_paren, close_paren, open_bracket, close_bracket, comma, star, plus, minus, Lexes}
 use Rattle.stl_syntax.specs.declared.scale.Scale.{Scale}
@@ -69,10 +70,6 @@ pub data IsPast (digits : ℕ) : List Token → ℕ → Option ℕ → Type 0 wh
   nothing : IsPast digits [] 0 None
   bounded : {a j b k : ℕ} → IsPast digits (open_bracket ∷ number a j ∷ comma ∷ number b k ∷ close_bracket ∷ []) (ticks digits a j) (Some (ticks digits b k))
   unbounded : {a j : ℕ} → IsPast digits (open_bracket ∷ number a j ∷ comma ∷ word (codes "inf") ∷ close_bracket ∷ []) (ticks digits a j) None
-
--- the last place of k nodes that begin at a place
-abbrev pub top : ℕ → List Node → ℕ
-top k nodes = k + length nodes - 1
 
 -- tokens and the nodes that they make from place k on, in post-order
 mutual

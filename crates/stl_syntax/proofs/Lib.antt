@@ -4,6 +4,13 @@ pub mod FormulaLemmas
 pub mod PostOrderLemmas
 pub mod HorizonLemmas
 pub mod WellFormedLemmas
+pub mod ScalingLemmas
+pub mod UnitLemmas
+pub mod DecimalLemmas
+pub mod PrintLemmas
+pub mod PrintedText
+pub mod PrintLaw
+pub mod TreeLaw
 pub mod TruthLemmas
 pub mod SupInfLemmas
 pub mod KnotsLemmas

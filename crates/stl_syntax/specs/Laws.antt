@@ -3,8 +3,10 @@ use Rattle.std.specs.Prelude.{◌≡◌, ◌⊎◌, ◌↔◌, ℕ, ◌<◌, Lis
 use Rattle.rational.specs.Time.{Rational, Within, Interval, whole, negate, ◌≈◌, ◌≤ʳ◌}
 use Rattle.rational.specs.Extended.{Extended, finite, ◌<ᵉ◌, ◌≈ᵉ◌}
 use Rattle.stl_syntax.specs.Trace.{Header, Row, Trace, IsTrace, Continues, IsLike, start, stop}
-use Rattle.stl_syntax.specs.Formula.{Subformula, root}
-use Rattle.stl_syntax.specs.PostOrder.{IsPostOrder}
+use Rattle.stl_syntax.specs.Formula.{Formula, Subformula, root}
+use Rattle.stl_syntax.specs.Print.{IsPrintedFormula}
+use Rattle.stl_syntax.specs.PostOrder.{IsPostOrder, IsTreeFrom}
+use Rattle.stl_syntax.specs.WellFormed.{IsWellFormed}
 use Rattle.stl_syntax.specs.Truth.{Truth}
 use Rattle.stl_syntax.specs.Knots.{Knots, AreKnots}
 use Rattle.stl_syntax.specs.SupInf.{Reading, margins, truths, certainties, signals, Gives, Setting, margin_setting, SupInf, Robustness, one, zero_value, minus_one, HasValues, HasInfs, truth_setting, certainty_setting}
@@ -116,3 +118,11 @@ abbrev pub OneListOfMargins : Type 0
 OneListOfMargins =
     (p : Subformula) (tr : Trace) (knots others : Knots) → DescribesMargins knots p tr → DescribesMargins others p tr
     → KnotsAlike knots.first others.first × PiecesAlike knots.pieces others.pieces
+
+-- a formula has at most one printed text
+abbrev pub OnePrintedText : Type 0
+OnePrintedText = (f : Formula) (t u : List ℕ) → IsPrintedFormula f t → IsPrintedFormula f u → t ≡ u
+
+-- the nodes of a formula are one tree in post-order
+abbrev pub FormulasAreTrees : Type 0
+FormulasAreTrees = (f : Formula) → IsWellFormed f → IsTreeFrom 0 f.nodes

@@ -5,6 +5,7 @@ pub mod PostOrder
 pub mod Names
 pub mod WellFormed
 pub mod Horizons
+pub mod Printing
 pub mod Truth
 pub mod Knots
 pub mod Kleene

@@ -1,5 +1,5 @@
 -- Nodes in post-order: each node follows its operands, and takes as its children the last places that no node has taken.
-use Rattle.std.specs.Prelude.{◌≡◌, ℕ, ◌==◌, not, Bool, List, [], ◌∷◌, ◌++◌, length, take, filter, Some, slice_get}
+use Rattle.std.specs.Prelude.{◌≡◌, ℕ, ◌+◌, ◌-◌, ◌==◌, not, Bool, List, [], ◌∷◌, ◌++◌, length, take, filter, Some, slice_get}
 use Rattle.std.specs.List.{list_any, range_with_len}
 use Rattle.stl_syntax.specs.declared.node.Node.{Node}
 use Rattle.stl_syntax.specs.declared.node.Node.TheVariants.{Const, Atom as Leaf, Not, And, Or, Implies, Until, Eventually, Always, Since, Once, Historically}
@@ -39,3 +39,14 @@ pub record MayFollow (before : List Node) (n : Node) : Type 0 where
 -- each node may stand after those before it
 pub record IsPostOrder (nodes : List Node) : Type 0 where
   pub follows : (i : ℕ) (n : Node) → slice_get nodes i ≡ Some n → MayFollow (take i nodes) n
+
+-- the place of the last of nodes that stand from place k on
+abbrev pub top : ℕ → List Node → ℕ
+top k nodes = k + length nodes - 1
+
+-- the nodes from place k on are one tree: the nodes of the operands, those of the left one first, and then the node itself
+pub data IsTreeFrom : ℕ → List Node → Type 0 where
+  leaf : {k : ℕ} (n : Node) → children n ≡ [] → IsTreeFrom k (n ∷ [])
+  one : {k : ℕ} {ns : List Node} (n : Node) → IsTreeFrom k ns → children n ≡ top k ns ∷ [] → IsTreeFrom k (ns ++ n ∷ [])
+  two : {k : ℕ} {ns ms : List Node} (n : Node) → IsTreeFrom k ns → IsTreeFrom (k + length ns) ms → children n ≡ top k ns ∷ top (k + length ns) ms ∷ []
+      → IsTreeFrom k (ns ++ ms ++ n ∷ [])

@@ -1,5 +1,5 @@
 -- A formula counted in smaller ticks.
-use Rattle.std.specs.Prelude.{◌≡◌, ◌⊎◌, ℕ, ◌*◌, ◌-◌, ◌^◌, pos, ◌*ℤ◌, nat_abs, map, option_map, All, IfSome}
+use Rattle.std.specs.Prelude.{◌≡◌, ◌⊎◌, ℕ, ◌*◌, ◌-◌, ◌^◌, Bool, false, nat_lt, pos, ◌*ℤ◌, nat_abs, map, option_map, All, IfSome}
 use Rattle.rational.specs.Time.{Divides}
 use Rattle.stl_syntax.specs.declared.atom.Atom.{Atom}
 use Rattle.stl_syntax.specs.declared.node.Node.{Node}
@@ -28,6 +28,11 @@ scaled f scale = record {
   nodes = map (scaled_node (10 ^ (scale.time - f.scale.time)) (10 ^ (scale.value - f.scale.value))) f.nodes;
   scale = scale;
 }
+
+-- the node's constant times k passes its limit
+abbrev pub has_large_constant : ℕ → Node → Bool
+has_large_constant k (Leaf a) = nat_lt 1073741824 (nat_abs a.limit * k)
+has_large_constant k n = false
 
 -- k divides each finite bound of the node
 abbrev pub DividesBounds : ℕ → Node → Type 0

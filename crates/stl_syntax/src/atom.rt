@@ -1,10 +1,10 @@
-ghost use Rattle.std.specs.Prelude.{◌≡◌, ◌<◌, ◌≤◌, ◌*ℤ◌, pos, nat_abs, length, map, All, IfOk, IsTrue, slice_get, Some};
+ghost use Rattle.std.specs.Prelude.{◌≡◌, ◌<◌, ◌≤◌, ◌*◌, nat_abs, length, All, IfOk, IsTrue, slice_get, Some};
 ghost use Rattle.stl_syntax.specs.Names.{is_name};
 ghost use Rattle.stl_syntax.specs.WellFormed.{IsTermInLimits};
 
 use crate::{Name, Rel};
 use frac128::Memory;
-use std::alloc::Global;
+use std::alloc::{AllocError, Global};
 use std::marker::Model;
 
 /// A column times a whole number, its coefficient.
@@ -60,6 +60,17 @@ impl Term {
     }
 }
 
+impl Clone for Term {
+    ghost is_clone = { λ x y. y ≡ x };
+
+    fn clone(&self) -> Result<Term, AllocError> {
+        Ok(Term {
+            coef: self.coef,
+            name: self.name.clone()?,
+        })
+    }
+}
+
 /// A sum of terms, compared with a constant in ticks.
 #[derive(Debug, Drop)]
 pub struct Atom {
@@ -104,6 +115,7 @@ fn keep_limits(terms: &[Term])
 
 impl Atom {
     ghost use Rattle.stl_syntax.specs.WellFormed.{IsAtomInLimits};
+    ghost use Rattle.stl_syntax.specs.Scaling.{scaled_atom};
 
     /// How many terms the sum has.
     pub fn terms(&self) -> usize
@@ -121,6 +133,14 @@ impl Atom {
         &self.terms[i]
     }
 
+    /// Multiplies the constant by `value`.
+    pub(crate) fn scale(&mut self, value: u32)
+        requires { nat_abs self.old.limit * value ≤ 1073741824 }
+        ensures { self.new ≡ scaled_atom value self.old }
+    {
+        self.limit = (i64::from(self.limit) * i64::from(value)) as i32;
+    }
+
     /// How the sum is compared with the constant.
     pub fn rel(&self) -> Rel
         ensures { result ≡ self.now.rel }
@@ -133,5 +153,17 @@ impl Atom {
         ensures { result ≡ self.now.limit }
     {
         self.limit
+    }
+}
+
+impl Clone for Atom {
+    ghost is_clone = { λ x y. y ≡ x };
+
+    fn clone(&self) -> Result<Atom, AllocError> {
+        Ok(Atom {
+            terms: self.terms.clone()?,
+            rel: self.rel,
+            limit: self.limit,
+        })
     }
 }

@@ -29,7 +29,8 @@ impl Model for FormulaBuilder {
 impl FormulaBuilder {
     /// No nodes yet; it takes no memory.
     pub fn new(alloc: Global) -> FormulaBuilder
-        ensures { result ≡ [] }
+        ensures nodes { result ≡ [] }
+        ensures unused { unused result ≡ [] }
     {
         FormulaBuilder {
             nodes: Vec::new(alloc),

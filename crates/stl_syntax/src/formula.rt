@@ -1,4 +1,4 @@
-ghost use Rattle.std.specs.Prelude.{◌≡◌, ◌<◌, ◌^◌, length, slice_get, Some};
+ghost use Rattle.std.specs.Prelude.{◌≡◌, ◌<◌, ◌≤◌, ◌^◌, length, slice_get, Some};
 
 use crate::horizon::last_horizon;
 use crate::{Node, Scale};
@@ -25,8 +25,9 @@ impl Model for Formula {
 }
 
 impl Formula {
-    ghost use Rattle.stl_syntax.specs.Formula.{root, horizon, HasChildrenBelow};
-    ghost use Rattle.stl_syntax.specs.WellFormed.{AreWellFormed, HasOneRoot, IsScale, IsWellFormed};
+    ghost use Rattle.stl_syntax.specs.Formula.{root, subformula, tree_of, horizon, HasChildrenBelow};
+    ghost use Rattle.stl_syntax.specs.Limits.{reach};
+    ghost use Rattle.stl_syntax.specs.WellFormed.{AreWellFormed, HasBounds, HasOneRoot, IsScale, IsWellFormed};
 
     pub(crate) fn of(nodes: Vec<Node>, scale: Scale) -> Formula
         requires some { 0 < length nodes.items }
@@ -60,6 +61,9 @@ impl Formula {
         requires { i < length self.now.nodes }
         ensures node { slice_get self.now.nodes i ≡ Some result.now }
         ensures below { HasChildrenBelow i result.now }
+        ensures subformula { subformula self.now.nodes i ≡ tree_of (subformula self.now.nodes) i result.now }
+        ensures bounds { HasBounds result.now }
+        ensures horizon { horizon (subformula self.now.nodes i) ≤ reach self.now.nodes }
     {
         &self.nodes[i as usize]
     }

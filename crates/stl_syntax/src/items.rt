@@ -5,14 +5,14 @@ use std::alloc::Global;
 use std::marker::Model;
 
 /// A stretch of time on which a node has one truth.
-#[derive(Clone, Copy)]
+#[derive(Clone, Copy, Debug, PartialEq, Eq)]
 pub struct Verdict {
     pub on: Span,
     pub holds: bool,
 }
 
 /// An atom occurrence by its node, a stretch of time, and its truth there.
-#[derive(Clone, Copy)]
+#[derive(Clone, Copy, Debug, PartialEq, Eq)]
 pub struct Item {
     pub node: u32,
     pub on: Span,
@@ -20,7 +20,7 @@ pub struct Item {
 }
 
 /// The items of an explanation.
-#[derive(Drop)]
+#[derive(Debug, Drop)]
 pub struct Items {
     list: Vec<Item>,
 }

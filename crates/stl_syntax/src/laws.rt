@@ -1,5 +1,5 @@
 //! Laws of the definitions. Each is the contract of a call that does nothing, so that the gate proves it.
-ghost use Rattle.stl_syntax.specs.Laws.{TruthIsOfTimes, ValuesAreOfTimes, CertaintyIsOfTimes, OneValue, CertaintyHasValues, TruthByValues, CertaintyByValues, CertaintyIsTruth, ExplanationsHold, AnswersStay, DecisionsStay, MarginsHold, OneListOfVerdicts, OneListOfMargins};
+ghost use Rattle.stl_syntax.specs.Laws.{TruthIsOfTimes, ValuesAreOfTimes, CertaintyIsOfTimes, OneValue, CertaintyHasValues, TruthByValues, CertaintyByValues, CertaintyIsTruth, ExplanationsHold, AnswersStay, DecisionsStay, MarginsHold, OneListOfVerdicts, OneListOfMargins, OnePrintedText, FormulasAreTrees};
 
 /// The truth at a time does not depend on the pair of numbers by which the time is written.
 pub fn truth_is_of_times()
@@ -70,4 +70,14 @@ pub fn one_list_of_verdicts()
 /// At most one list of knots describes the robustness of a formula.
 pub fn one_list_of_margins()
     ensures { OneListOfMargins }
+{}
+
+/// A formula has at most one printed text.
+pub fn one_printed_text()
+    ensures { OnePrintedText }
+{}
+
+/// The nodes of a formula are one tree in post-order.
+pub fn formulas_are_trees()
+    ensures { FormulasAreTrees }
 {}

@@ -10,6 +10,7 @@ mod items;
 pub mod laws;
 mod name;
 mod node;
+mod operator;
 mod print;
 mod rel;
 mod scale;
@@ -25,3 +26,6 @@ pub use node::Node;
 pub use rel::Rel;
 pub use scale::{Scale, UnitFault};
 pub use text::Text;
+
+#[cfg(test)]
+mod tests;

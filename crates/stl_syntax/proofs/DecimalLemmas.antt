@@ -1,0 +1,129 @@
+-- Decimals without the zeros at their end.
+use Rattle.std.proofs.Common.{◌≡◌, ◌≢◌, ℕ, zero, suc, ◌+◌, ◌-◌, ◌*◌, ◌/◌, ◌%◌, ◌^◌, ◌<◌, ◌≤◌, Bool, true, false, List, [], ◌∷◌, ◌++◌, length, reverse, refl, sym, ◌∙◌, ap, arith, ◌⊎◌, inl, inr, lit<}
+use Rattle.std.proofs.lemmas.Bool.{ne_eqb, eqb-true, le-leb, cases_Bool, and_parts, and_from}
+use Rattle.std.proofs.lemmas.List.{reverse-append, reverse-reverse, length-reverse, length_push}
+use Rattle.std.proofs.Math.Nat.{pow-suc, pow-zero, one-le-pow}
+use Rattle.std.specs.Prelude.{◌==◌}
+use Rattle.stl_syntax.specs.Characters.{after_first, without_zeros, is_digit, all, decimal_value}
+use Rattle.stl_syntax.specs.Print.{after_point, IsDecimalText}
+use Rattle.stl_syntax.specs.Printing.{last_digits, decimal_text}
+
+-- a zero at the end goes away
+pub without_zeros-zero : (xs : List ℕ) → without_zeros (xs ++ 48 ∷ []) ≡ without_zeros xs
+without_zeros-zero xs = rw (reverse-append xs (48 ∷ [])) refl
+
+-- another digit stays, and all before it
+pub without_zeros-last : (xs : List ℕ) (c : ℕ) → c ≢ 48 → without_zeros (xs ++ c ∷ []) ≡ xs ++ c ∷ []
+without_zeros-last xs c h = rw (reverse-append xs (c ∷ []), ne_eqb c 48 h) (reverse-append (c ∷ []) (reverse xs) ∙ ap (λ ys. ys ++ c ∷ []) (reverse-reverse xs))
+
+-- one place less where the last digit is 0
+pub without_zeros-less : (k n : ℕ) → 0 < k → n % 10 ≡ 0 → without_zeros (last_digits (k - 1) (n / 10)) ≡ without_zeros (last_digits k n)
+without_zeros-less k n some zero_digit = by_place k some
+  where
+    by_place : (k : ℕ) → 0 < k → without_zeros (last_digits (k - 1) (n / 10)) ≡ without_zeros (last_digits k n)
+    by_place zero l = absurd (omega (arith, l))
+    by_place (suc k) l =
+        let same : suc k - 1 ≡ k = omega arith in
+        rw (same, zero_digit) (sym (without_zeros-zero (last_digits k (n / 10))))
+
+-- one digit more
+pub decimal_value-push : (w : ℕ) (xs : List ℕ) (c : ℕ) → decimal_value w (xs ++ c ∷ []) ≡ 10 * decimal_value w xs + (c - 48)
+decimal_value-push w [] c = refl
+decimal_value-push w (x ∷ xs) c = decimal_value-push (10 * w + (x - 48)) xs c
+
+pub length-last_digits : (k n : ℕ) → length (last_digits k n) ≡ k
+length-last_digits zero n = refl
+length-last_digits (suc k) n = omega (arith, length_push (last_digits k (n / 10)) (48 + n % 10), length-last_digits k (n / 10))
+
+-- the number whose last digits these are
+decimal_value-last_digits : (w k n : ℕ) → n < 10 ^ k → decimal_value w (last_digits k n) ≡ w * 10 ^ k + n
+decimal_value-last_digits w zero n l = omega (arith, pow-zero 10)
+decimal_value-last_digits w (suc k) n l =
+    let power : 10 ^ suc k ≡ 10 ^ k * 10 = pow-suc 10 k in
+    let less : n / 10 < 10 ^ k = omega (arith, power) in
+    let shifted : w * 10 ^ suc k ≡ w * 10 ^ k * 10 = ap (λ p. w * p) power ∙ omega arith in
+    decimal_value-push w (last_digits k (n / 10)) (48 + n % 10) ∙ omega (arith, decimal_value-last_digits w k (n / 10) less, shifted)
+
+-- what is left after the first zeros, read backwards, is the same number with fewer places
+cut_zeros : (w : ℕ) (ys : List ℕ) → decimal_value w (reverse ys) * 10 ^ length (after_first (λ c. c == 48) ys) ≡ decimal_value w (reverse (after_first (λ c. c == 48) ys)) * 10 ^ length ys
+cut_zeros w [] = refl
+cut_zeros w (c ∷ ys) = by_digit (cut_zeros w ys) (cases_Bool (c == 48))
+  where
+    by_digit : decimal_value w (reverse ys) * 10 ^ length (after_first (λ c. c == 48) ys) ≡ decimal_value w (reverse (after_first (λ c. c == 48) ys)) * 10 ^ length ys
+        → ((c == 48) ≡ true) ⊎ ((c == 48) ≡ false)
+        → decimal_value w (reverse (c ∷ ys)) * 10 ^ length (after_first (λ c. c == 48) (c ∷ ys)) ≡ decimal_value w (reverse (after_first (λ c. c == 48) (c ∷ ys))) * 10 ^ length (c ∷ ys)
+    by_digit below (inl zero_digit) =
+        let same : c ≡ 48 = eqb-true c 48 zero_digit in
+        let pushed : decimal_value w (reverse (c ∷ ys)) ≡ 10 * decimal_value w (reverse ys) = ap (decimal_value w) (reverse-append (c ∷ []) ys) ∙ decimal_value-push w (reverse ys) c ∙ omega arith in
+        let power : 10 ^ suc (length ys) ≡ 10 ^ length ys * 10 = pow-suc 10 (length ys) in
+        let whole : 10 * decimal_value w (reverse ys) * 10 ^ length (after_first (λ c. c == 48) ys) ≡ decimal_value w (reverse (after_first (λ c. c == 48) ys)) * (10 ^ length ys * 10) = omega (arith, below) in
+        rw (zero_digit, pushed, power) whole
+    by_digit below (inr other) = rw other refl
+
+after_first-after_first : (p : ℕ → Bool) (xs : List ℕ) → after_first p (after_first p xs) ≡ after_first p xs
+after_first-after_first p [] = refl
+after_first-after_first p (c ∷ xs) = by_test (after_first-after_first p xs) (cases_Bool (p c))
+  where
+    by_test : after_first p (after_first p xs) ≡ after_first p xs → (p c ≡ true) ⊎ (p c ≡ false) → after_first p (after_first p (c ∷ xs)) ≡ after_first p (c ∷ xs)
+    by_test again (inl t) = rw t again
+    by_test again (inr f) = rw (f) (rw (f) refl)
+
+-- the zeros at the end are gone
+pub without_zeros-without_zeros : (xs : List ℕ) → without_zeros (without_zeros xs) ≡ without_zeros xs
+without_zeros-without_zeros xs =
+    ap (λ ys. reverse (after_first (λ c. c == 48) ys)) (reverse-reverse (after_first (λ c. c == 48) (reverse xs)))
+    ∙ ap reverse (after_first-after_first (λ c. c == 48) (reverse xs))
+
+all-append : (p : ℕ → Bool) (xs ys : List ℕ) → all p xs ≡ true → all p ys ≡ true → all p (xs ++ ys) ≡ true
+all-append p [] ys h k = k
+all-append p (c ∷ xs) ys h k = let parts = and_parts (p c) (all p xs) h in and_from (p c) (all p (xs ++ ys)) parts.0 (all-append p xs ys parts.1 k)
+
+all-reverse : (p : ℕ → Bool) (xs : List ℕ) → all p xs ≡ true → all p (reverse xs) ≡ true
+all-reverse p [] h = refl
+all-reverse p (c ∷ xs) h =
+    let parts = and_parts (p c) (all p xs) h in
+    rw (reverse-append (c ∷ []) xs) (all-append p (reverse xs) (c ∷ []) (all-reverse p xs parts.1) (and_from (p c) true parts.0 refl))
+
+all-after_first : (p q : ℕ → Bool) (xs : List ℕ) → all p xs ≡ true → all p (after_first q xs) ≡ true
+all-after_first p q [] h = refl
+all-after_first p q (c ∷ xs) h = by_test (all-after_first p q xs (and_parts (p c) (all p xs) h).1) (cases_Bool (q c))
+  where
+    by_test : all p (after_first q xs) ≡ true → (q c ≡ true) ⊎ (q c ≡ false) → all p (after_first q (c ∷ xs)) ≡ true
+    by_test less (inl t) = rw t less
+    by_test less (inr f) = rw f h
+
+-- decimals are digits
+pub all-without_zeros : (xs : List ℕ) → all is_digit xs ≡ true → all is_digit (without_zeros xs) ≡ true
+all-without_zeros xs h =
+    all-reverse is_digit (after_first (λ c. c == 48) (reverse xs)) (all-after_first is_digit (λ c. c == 48) (reverse xs) (all-reverse is_digit xs h))
+
+pub all-last_digits : (k n : ℕ) → all is_digit (last_digits k n) ≡ true
+all-last_digits zero n = refl
+all-last_digits (suc k) n =
+    let low : 48 ≤ 48 + n % 10 = omega arith in
+    let high : 48 + n % 10 ≤ 57 = omega arith in
+    all-append is_digit (last_digits k (n / 10)) ((48 + n % 10) ∷ []) (all-last_digits k (n / 10))
+    (and_from (is_digit (48 + n % 10)) true (and_from _ _ (le-leb 48 (48 + n % 10) low) (le-leb (48 + n % 10) 57 high)) refl)
+
+-- the decimal with the fewest digits
+pub decimal_is : (digits n : ℕ) → IsDecimalText digits n (decimal_text digits n)
+unfolding decimal_text
+decimal_is digits n =
+    let unit : ℕ = 10 ^ digits in
+    let some : 0 < 10 ^ digits = one-le-pow digits 10 (lit< tt) in
+    let rest : List ℕ = last_digits digits (n % unit) in
+    let below : n % unit < unit = omega (arith, some) in
+    let split : n / unit * unit + n % unit ≡ n = omega (arith, some) in
+    let value : decimal_value (n / unit) rest ≡ n = decimal_value-last_digits (n / unit) digits (n % unit) below ∙ split in
+    let cut : decimal_value (n / unit) (reverse (reverse rest)) * 10 ^ length (after_first (λ c. c == 48) (reverse rest)) ≡ decimal_value (n / unit) (without_zeros rest) * 10 ^ length (reverse rest) = cut_zeros (n / unit) (reverse rest) in
+    let places : length (reverse rest) ≡ digits = length-reverse rest ∙ length-last_digits digits (n % unit) in
+    let fewer : length (without_zeros rest) ≡ length (after_first (λ c. c == 48) (reverse rest)) = length-reverse (after_first (λ c. c == 48) (reverse rest)) in
+    let whole_value : decimal_value (n / unit) (reverse (reverse rest)) ≡ n = ap (decimal_value (n / unit)) (reverse-reverse rest) ∙ value in
+    record {
+      whole = n / unit;
+      decimals = without_zeros rest;
+      are_digits = all-without_zeros rest (all-last_digits digits (n % unit));
+      fewest = without_zeros-without_zeros rest;
+      same = ap (λ l. n * 10 ^ l) fewer ∙ ap (λ m. m * 10 ^ length (after_first (λ c. c == 48) (reverse rest))) (sym whole_value) ∙ cut ∙ ap (λ l. decimal_value (n / unit) (without_zeros rest) * 10 ^ l) places;
+      is = refl;
+    }
