@@ -1,5 +1,5 @@
 -- The first bytes of a kind, and what follows them.
-use Rattle.std.proofs.Common.{◌≡◌, ℕ, List, [], ◌∷◌, ◌++◌, refl, Bool, true, false, if◌then◌else◌, arith}
+use Rattle.std.proofs.Common.{◌≡◌, ℕ, List, [], ◌∷◌, ◌++◌, refl, Bool, true, if◌then◌else◌, arith}
 use Rattle.stl_syntax.specs.Characters.{all, StopsAt, after_first}
 
 -- the first bytes of a kind

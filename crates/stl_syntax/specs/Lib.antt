@@ -1,3 +1,4 @@
+pub mod Atoms
 pub mod Trace
 pub mod Formula
 pub mod Truth

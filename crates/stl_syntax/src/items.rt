@@ -1,4 +1,8 @@
-use frac128::Span;
+ghost use Rattle.std.specs.Prelude.{◌≡◌, ◌<◌, ◌++◌, ◌∷◌, [], length, OnOk, OnErr, slice_get, Some};
+
+use frac128::{Memory, Span};
+use std::alloc::Global;
+use std::marker::Model;
 
 /// A stretch of time on which a node has one truth.
 #[derive(Clone, Copy)]
@@ -7,10 +11,62 @@ pub struct Verdict {
     pub holds: bool,
 }
 
-/// An atom occurrence, a stretch of time and its truth there.
+/// An atom occurrence by its node, a stretch of time, and its truth there.
 #[derive(Clone, Copy)]
 pub struct Item {
     pub node: u32,
     pub on: Span,
     pub holds: bool,
+}
+
+/// The items of an explanation.
+#[derive(Drop)]
+pub struct Items {
+    list: Vec<Item>,
+}
+
+impl Model for Items {
+    ghost use Rattle.std.specs.Prelude.{List};
+    ghost use Rattle.stl_syntax.specs.declared.items.Item.{Item};
+
+    ghost Value = { List Item };
+
+    ghost view = { λ t. t.list.items };
+}
+
+impl Items {
+    /// No items yet; it takes no memory.
+    pub fn new(alloc: Global) -> Items
+        ensures { result ≡ [] }
+    {
+        Items {
+            list: Vec::new(alloc),
+        }
+    }
+
+    /// Appends the item; without memory for it the list stays as it was.
+    pub fn push(&mut self, item: Item) -> Result<(), Memory>
+        ensures ok { OnOk result (self.new ≡ self.old ++ item ∷ []) }
+        ensures err { OnErr result (self.new ≡ self.old) }
+    {
+        match self.list.push(item) {
+            Ok(()) => Ok(()),
+            Err(_) => Err(Memory),
+        }
+    }
+
+    /// How many items there are.
+    pub fn len(&self) -> usize
+        ensures { result ≡ length self.now }
+    {
+        self.list.len()
+    }
+
+    /// The item at place `i`.
+    pub fn item(&self, i: usize) -> Item
+        requires { i < length self.now }
+        ensures { slice_get self.now i ≡ Some result }
+    {
+        self.list[i]
+    }
 }

@@ -8,11 +8,13 @@ mod name;
 mod node;
 mod rel;
 mod scale;
+mod text;
 
-pub use atom::{Atom, Term, Terms};
-pub use formula::{Formula, horizons};
-pub use items::{Item, Verdict};
+pub use atom::{Atom, Term, make_atom};
+pub use formula::{Formula, FormulaBuilder};
+pub use items::{Item, Items, Verdict};
 pub use name::Name;
 pub use node::Node;
 pub use rel::Rel;
 pub use scale::{Scale, UnitFault};
+pub use text::Text;

@@ -1,15 +1,38 @@
+ghost use Rattle.std.specs.Prelude.{◌≡◌, IfOk};
+
+use frac128::Memory;
+use std::alloc::Global;
 use std::marker::Model;
 
 /// The name of a column.
-#[derive(Drop)]
+#[derive(Debug, Drop)]
 pub struct Name {
-    bytes: Vec<u8>,
+    text: String,
 }
 
 impl Model for Name {
-    ghost use Rattle.std.specs.Prelude.{List, ℕ};
+    ghost use Rattle.std.specs.Prelude.{ℕ, List};
+    ghost use Rattle.std.specs.String.{string_bytes};
 
     ghost Value = { List ℕ };
 
-    ghost view = { λ a. a.bytes.items };
+    ghost view = { λ n. string_bytes n.text };
+}
+
+impl Name {
+    pub(crate) fn make(alloc: Global, text: &str) -> Result<Name, Memory>
+        ensures { IfOk result (λ n. n ≡ text.now) }
+    {
+        match String::from_str(alloc, text) {
+            Ok(text) => Ok(Name { text }),
+            Err(_) => Err(Memory),
+        }
+    }
+
+    /// The name as a text.
+    pub fn as_str(&self) -> &str
+        ensures { result.now ≡ self.now }
+    {
+        self.text.as_str()
+    }
 }

@@ -1,7 +1,7 @@
 use crate::Atom;
 
 /// A node of a formula; its children are named by their places in post-order.
-#[derive(Drop)]
+#[derive(Debug, Drop)]
 pub enum Node {
     Const(bool),
     Atom(Atom),

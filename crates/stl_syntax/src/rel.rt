@@ -1,5 +1,5 @@
-/// How an atom compares its expression with 0.
-#[derive(Drop)]
+/// How an atom compares its sum with its constant.
+#[derive(Clone, Copy, Debug, PartialEq, Eq)]
 pub enum Rel {
     AtLeast,
     Above,
