@@ -3,6 +3,7 @@ pub mod Making
 pub mod Rests
 pub mod Ratios
 pub mod Ahead
+pub mod Moves
 pub mod Coprime
 pub mod Crossing
 pub mod Wholes

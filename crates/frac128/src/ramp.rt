@@ -1,12 +1,14 @@
 //! A line through a point of time and value.
 ghost use Rattle.std.specs.Prelude.{◌≡◌, ◌≢◌, ◌+◌, ◌*◌, ◌<◌, ◌≤◌, ◌^◌, pos, ◌+ℤ◌, ◌-ℤ◌, ◌*ℤ◌, MatchOption};
+ghost use Rattle.std.specs.Ordering.{MatchOrdering};
 ghost use Rattle.std.specs.Int.RustNames.{unsigned_abs};
-ghost use Rattle.rational.specs.Rational.{fraction};
+ghost use Rattle.rational.specs.Rational.{Rational, fraction, add, negate, subtract, whole};
 ghost use Rattle.frac128.specs.Sizes.{AreSmall, IsQuotient};
 
 use crate::arith::determinant;
 use crate::frac::Frac;
-use crate::ratio::Ratio;
+use crate::ratio::{Ratio, cmp_ratio};
+use std::cmp::Ordering;
 
 /// The line that at `t0` has the value `v0`, and rises by `rise` in the time `run`.
 #[derive(Clone, Copy)]
@@ -23,9 +25,9 @@ pub struct Ramp {
 
 impl Ramp {
     ghost use Rattle.frac128.specs.Value.{value};
-    ghost use Rattle.frac128.specs.Line.{line};
-    ghost use Rattle.rational.specs.Line.{at};
-    ghost use Rattle.rational.specs.Rational.{IsWithin, ◌≈◌};
+    ghost use Rattle.frac128.specs.Line.{base, line};
+    ghost use Rattle.rational.specs.Line.{Falls, Level, Rises, at};
+    ghost use Rattle.rational.specs.Rational.{IsOrder, IsWithin, ◌≈◌};
 
     pub fn make(t0: i64, v0: i64, rise: i64, run: u32) -> Ramp
         requires run { 0 < run }
@@ -54,6 +56,72 @@ impl Ramp {
             i128::from(t.rest()),
             i128::from(t.den()),
         )
+    }
+
+    /// Minus the value, at every time.
+    pub fn neg(&self) -> Ramp
+        ensures value { (t : Rational) → at (line result) t ≈ negate (at (line self.now) t) }
+        ensures base { base result ≡ base self.now }
+    {
+        Ramp {
+            t0: self.t0,
+            v0: -self.v0,
+            rise: -self.rise,
+            run: self.run,
+        }
+    }
+
+    /// The ramp whose value at `t` is the old value at `t + by`.
+    pub fn shift(&self, by: i64) -> Ramp
+        requires { unsigned_abs (base self.now -ℤ by) ≤ 2 ^ 34 }
+        ensures value { (t : Rational) → at (line result) t ≈ at (line self.now) (add t (whole by)) }
+        ensures base { base result ≡ base self.now -ℤ by }
+    {
+        Ramp {
+            t0: self.t0 - by,
+            v0: self.v0,
+            rise: self.rise,
+            run: self.run,
+        }
+    }
+
+    /// The ramp whose value at `t` is the old value at `about - t`.
+    pub fn mirror(&self, about: i64) -> Ramp
+        requires { unsigned_abs (about -ℤ base self.now) ≤ 2 ^ 34 }
+        ensures value { (t : Rational) → at (line result) t ≈ at (line self.now) (subtract (whole about) t) }
+        ensures base { base result ≡ about -ℤ base self.now }
+    {
+        Ramp {
+            t0: about - self.t0,
+            v0: self.v0,
+            rise: -self.rise,
+            run: self.run,
+        }
+    }
+
+    /// Greater where the value rises with time, Less where it falls, Equal where it is constant.
+    pub fn rises(&self) -> Ordering
+        ensures { MatchOrdering result (Falls (line self.now)) (Level (line self.now)) (Rises (line self.now)) }
+    {
+        self.rise.cmp(&0)
+    }
+
+    /// The order of both values at `t`.
+    pub fn cmp_ramp(&self, other: &Ramp, t: &Frac) -> Ordering
+        requires { IsWithin (2 ^ 34) (value t.now) }
+        ensures { IsOrder result (at (line self.now) (value t.now)) (at (line other.now) (value t.now)) }
+    {
+        let left = self.at(t);
+        let right = other.at(t);
+        cmp_ratio(left.num, left.den, right.num, right.den)
+    }
+
+    /// The order of the value at `t` and `c`.
+    pub fn cmp_const(&self, c: &Frac, t: &Frac) -> Ordering
+        requires { IsWithin (2 ^ 34) (value t.now) }
+        ensures { IsOrder result (at (line self.now) (value t.now)) (value c.now) }
+    {
+        self.at(t).cmp_frac(c)
     }
 
     /// The value at 0, times `run`.

@@ -8,3 +8,6 @@ pub mod Through
 pub mod Shift
 pub mod TimeLemmas
 pub mod ExtendedLemmas
+pub mod WindowLemmas
+pub mod AffineLemmas
+pub mod LevelLemmas

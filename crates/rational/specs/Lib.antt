@@ -3,3 +3,4 @@ pub mod Line
 pub mod Time
 pub mod Extended
 pub mod Windows
+pub mod Affine

@@ -13,7 +13,8 @@ use Rattle.stl_syntax.specs.SupInf.{Setting, signals, SupInf}
 use Rattle.stl_syntax.specs.InPlay.{IsPart}
 use Rattle.stl_syntax.specs.WideCause.{IsCrossingCause}
 use Rattle.stl_syntax.specs.Kept.{Agree, IsTooMany, none, more}
-use Rattle.stl_syntax.specs.Network.{Continues, needed, reach_back}
+use Rattle.stl_syntax.specs.Network.{needed, reach_back}
+use Rattle.stl_syntax.specs.Trace.{Continues}
 use Rattle.stl_syntax.specs.Early.{FirstDecides}
 use Rattle.stl_syntax.specs.Scaling.{scaled}
 use Rattle.stl_syntax.specs.MarginStream.{TellsClosed}

@@ -9,7 +9,7 @@ use Rattle.rational.specs.Extended.{finite}
 use Rattle.stl_syntax.specs.Formula.{Formula, subformula}
 use Rattle.stl_syntax.specs.Knots.{Knots}
 use Rattle.stl_syntax.specs.Texts.{IsNumberText, newline}
-use Rattle.stl_syntax.specs.Print.{IsAtomText, IsFormulaText, IsDecimalText}
+use Rattle.stl_syntax.specs.Print.{IsAtomText, IsPrintedFormula, IsDecimalText}
 use Rattle.report.specs.Json.{IsReportData}
 use Rattle.report.specs.Table.{IsTableText}
 use Rattle.stl_syntax.specs.declared.items.Item.{Item}
@@ -38,7 +38,7 @@ five = record { whole = 5; decimals = []; are_digits = refl; fewest = refl; same
 x_atom_text : IsAtomText no_digits at_least_5 (codes "x >= 5")
 x_atom_text = (codes "5", five, refl)
 
-x_formula_text : IsFormulaText x_formula (codes "x >= 5")
+x_formula_text : IsPrintedFormula x_formula (codes "x >= 5")
 unfolding subformula
 x_formula_text = x_atom_text
 

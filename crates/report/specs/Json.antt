@@ -4,7 +4,7 @@ use Rattle.serde_json.specs.Data.{Data, boolean, string, array, object, Items, n
 use Rattle.stl_syntax.specs.Knots.{Knot, Piece, Knots}
 use Rattle.stl_syntax.specs.Formula.{Formula}
 use Rattle.stl_syntax.specs.Texts.{IsNumberText, IsValueText, IsSpanText}
-use Rattle.stl_syntax.specs.Print.{IsAtomText, IsFormulaText}
+use Rattle.stl_syntax.specs.Print.{IsAtomText, IsPrintedFormula}
 use Rattle.stl_syntax.specs.declared.scale.Scale.{Scale}
 use Rattle.stl_syntax.specs.declared.items.Verdict.{Verdict}
 use Rattle.stl_syntax.specs.declared.items.Item.{Item}
@@ -53,7 +53,7 @@ AreMarginData scale knots items =
 -- the object of a report; its text is followed by LF
 abbrev pub IsReportData : Scale → Formula → List Verdict → Knots → List Item → Bool → Data → Type 0
 IsReportData scale f verdicts knots explained holds d =
-    (printed : List ℕ) × (items margins spans : Items) × IsFormulaText f printed × AreItemData scale f explained items × AreMarginData scale knots margins
+    (printed : List ℕ) × (items margins spans : Items) × IsPrintedFormula f printed × AreItemData scale f explained items × AreMarginData scale knots margins
     × AreVerdictData scale verdicts spans
     × (d ≡ object (member (codes "formula") (string printed) (member (codes "items") (array items) (member (codes "margins") (array margins)
     (member (codes "start") (boolean holds) (member (codes "verdicts") (array spans) no_members))))))

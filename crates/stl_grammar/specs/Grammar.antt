@@ -1,6 +1,7 @@
 -- The grammar of formulas: the nodes that a list of tokens stands for, with their numbers in ticks of a scale.
 use Rattle.std.specs.Prelude.{◌≡◌, ℕ, ◌+◌, ◌-◌, max, ◌||◌, Bool, true, false, List, [], ◌∷◌, ◌++◌, length, ℤ, pos, neg_ℤ, codes, bytes_eq, Option, Some, None}
 use Rattle.stl_syntax.specs.Characters.{ticks, is_among}
+pub use Rattle.stl_syntax.specs.Names.{reserved}
 use Rattle.stl_syntax.specs.Formula.{Formula}
 pub use Rattle.stl_grammar.specs.Tokens.{Token, word, number, relation, open_paren, close_paren, open_bracket, close_bracket, comma, star, plus, minus, Lexes}
 use Rattle.stl_syntax.specs.declared.scale.Scale.{Scale}
@@ -9,11 +10,6 @@ use Rattle.stl_syntax.specs.declared.atom.Term.{Term}
 use Rattle.stl_syntax.specs.declared.rel.Rel.{Rel}
 use Rattle.stl_syntax.specs.declared.node.Node.{Node}
 use Rattle.stl_syntax.specs.declared.node.Node.TheVariants.{Const, Atom as Leaf, Not, And, Or, Implies, Until, Eventually, Always, Since, Once, Historically}
-
--- the words that name no column
-abbrev pub reserved : List (List ℕ)
-reserved = codes "true" ∷ codes "false" ∷ codes "not" ∷ codes "and" ∷ codes "or" ∷ codes "implies" ∷ codes "until" ∷ codes "since"
-    ∷ codes "eventually" ∷ codes "always" ∷ codes "once" ∷ codes "historically" ∷ codes "inf" ∷ []
 
 -- a constant: a sign, where there is one, and a number
 pub data IsConstant (digits : ℕ) : List Token → ℤ → Type 0 where

@@ -13,7 +13,7 @@ use Rattle.stl_syntax.proofs.SupInfLemmas.{GivesOne}
 same_transᵉ : (u v w : Extended) → u ≈ᵉ v → v ≈ᵉ w → u ≈ᵉ w
 same_transᵉ u v w h k = record { at_most = le_transᵉ u v w h.at_most k.at_most; at_least = le_transᵉ w v u k.at_least h.at_least }
 
-same_symᵉ : (v w : Extended) → v ≈ᵉ w → w ≈ᵉ v
+pub same_symᵉ : (v w : Extended) → v ≈ᵉ w → w ≈ᵉ v
 same_symᵉ v w h = record { at_most = h.at_least; at_least = h.at_most }
 
 -- two affine functions with one value at two times have one value at each

@@ -1,7 +1,9 @@
 pub mod ChoiceLemmas
 pub mod CharacterLemmas
 pub mod FormulaLemmas
+pub mod PostOrderLemmas
 pub mod HorizonLemmas
+pub mod WellFormedLemmas
 pub mod TruthLemmas
 pub mod SupInfLemmas
 pub mod KnotsLemmas
@@ -17,3 +19,13 @@ pub mod VerdictsLaw
 pub mod MarginLaw
 pub mod WindowExamples
 pub mod EarlyLaw
+pub mod TimeLaw
+pub mod StandsLemmas
+pub mod CoverLemmas
+pub mod MarginsLaw
+pub mod LawProofs
+pub mod OperatorExamples
+pub mod ChangeExamples
+pub mod ListExamples
+pub mod EarlyExamples
+pub mod WideExamples

@@ -9,9 +9,9 @@ use Rattle.rational.specs.Windows.{Ahead, Behind, Function, IsInfOver, IsSupOver
 use Rattle.stl_syntax.specs.Trace.{Trace, start, stop}
 use Rattle.stl_syntax.specs.Formula.{Subformula, constant, atom, negation, conjunction, disjunction, implication, until, eventually, always, since, once, historically}
 use Rattle.rational.specs.Extended.{Extended, minus_infinity, finite, infinity, ◌≤ᵉ◌, ◌<ᵉ◌, opposite, IsLeast, IsGreatest}
-use Rattle.stl_syntax.specs.SupInf.{margins, margin, Setting, SupInf, HasValues, HasInfs}
+use Rattle.stl_syntax.specs.SupInf.{margin, margin_setting, Setting, SupInf, HasValues, HasInfs}
+use Rattle.stl_syntax.specs.Closeness.{IsClose, AreClose}
 use Rattle.stl_syntax.specs.Truth.{Truth, expression, compares}
-use Rattle.stl_syntax.specs.declared.atom.Atom.{Atom}
 use Rattle.stl_syntax.specs.declared.rel.Rel.{Rel}
 use Rattle.stl_syntax.specs.declared.rel.Rel.TheVariants.{AtLeast, Above, AtMost, Below}
 use Rattle.rational.proofs.ExtendedLemmas.{le_totalᵉ, clashᵉ, le_transᵉ}
@@ -41,11 +41,6 @@ le_ltᵉ u v w h k = by_order (le_totalᵉ w u)
     by_order : (w ≤ᵉ u) ⊎ (u <ᵉ w) → u <ᵉ w
     by_order (inl l) = clashᵉ v w k (le_transᵉ w u v l h)
     by_order (inr l) = l
-
--- the two expressions differ by at most e
-pub record IsClose (e x y : Rational) : Type 0 where
-  pub low : x ≤ʳ add y e
-  pub high : y ≤ʳ add x e
 
 positive_close : (e x y : Rational) → IsClose e x y → e <ʳ x → whole (pos 0) <ʳ y
 positive_close e x y c h = by_order (le_or_lt y (whole (pos 0)))
@@ -79,18 +74,11 @@ below_fails Above e x y c h t = let k = (negative_close e x y c h).lt in grind a
 below_fails AtMost e x y c h t = let k = (positive_close e x y c (let j = h.lt in record { lt = omega arith })).lt in grind arith
 below_fails Below e x y c h t = let k = (positive_close e x y c (let j = h.lt in record { lt = omega arith })).lt in grind arith
 
--- every atom's expression differs by at most e at each time of the domain
-abbrev pub AreClose : Rational → Trace → Trace → Type 0
-AreClose e tr tr' = (a : Atom) (t : Rational) → Within (start tr) (stop tr) t → IsClose e (expression a tr t) (expression a tr' t)
-
-abbrev pub margin_setting : Trace → Setting
-margin_setting tr = record { atoms = margins tr; lowest = minus_infinity; highest = infinity; from = start tr; to = stop tr }
-
 -- what the value v at e tells of P: above e it holds, and below -e it fails
 abbrev pub Bounds : Rational → Extended → Type 0 → Type 0
 Bounds e v P = (finite e <ᵉ v → P) × (v <ᵉ finite (negate e) → ¬ P)
 
-module _ (e : Rational) (tr tr' : Trace) (start_same : start tr' ≡ start tr) (stop_same : stop tr' ≡ stop tr) (close : AreClose e tr tr') where
+module _ (e : Rational) (tr tr' : Trace) (start_same : start tr' ≡ start tr) (stop_same : stop tr' ≡ stop tr) where
   abbrev s : Setting
   s = margin_setting tr
 
@@ -164,47 +152,47 @@ module _ (e : Rational) (tr tr' : Trace) (start_same : start tr' ≡ start tr) (
       high h = let j = opposite_lt (opposite x) (finite (negate e)) (le_ltᵉ (opposite x) v (finite (negate e)) l.left h) in rw opposite_twice at j
 
   -- the formula in the other trace, by the robustness in the first
-  pub SupInf-margin : (p : Subformula) → HasValues p s → HasInfs p s → (t : Rational) (r : Extended) → Within (start tr) (stop tr) t → SupInf p s t r
+  pub SupInf-margin : (p : Subformula) → HasValues p s → HasInfs p s → AreClose e tr tr' p → (t : Rational) (r : Extended) → Within (start tr) (stop tr) t → SupInf p s t r
       → Bounds e r (Truth p tr' t)
-  SupInf-margin (constant true) ok more t r w h = (λ k. refl, λ k x. absurd (clashᵉ r (finite (negate e)) k (le_transᵉ (finite (negate e)) infinity r tt h.at_least)))
-  SupInf-margin (constant false) ok more t r w h = (λ k. clashᵉ (finite e) r k (le_transᵉ r minus_infinity (finite e) h.at_most tt), λ k x. cc)
-  SupInf-margin (atom i a) ok more t r w h = (
-    λ k. above_holds a.rel e (expression a tr t) (expression a tr' t) (close a t w) (lt_leᵉ (finite e) r (finite (margin a.rel (expression a tr t))) k h.at_most),
-    λ k. below_fails a.rel e (expression a tr t) (expression a tr' t) (close a t w) (le_ltᵉ (finite (margin a.rel (expression a tr t))) r (finite (negate e)) h.at_least k),
+  SupInf-margin (constant true) ok more c t r w h = (λ k. refl, λ k x. absurd (clashᵉ r (finite (negate e)) k (le_transᵉ (finite (negate e)) infinity r tt h.at_least)))
+  SupInf-margin (constant false) ok more c t r w h = (λ k. clashᵉ (finite e) r k (le_transᵉ r minus_infinity (finite e) h.at_most tt), λ k x. cc)
+  SupInf-margin (atom i a) ok more c t r w h = (
+    λ k. above_holds a.rel e (expression a tr t) (expression a tr' t) (c t w) (lt_leᵉ (finite e) r (finite (margin a.rel (expression a tr t))) k h.at_most),
+    λ k. below_fails a.rel e (expression a tr t) (expression a tr' t) (c t w) (le_ltᵉ (finite (margin a.rel (expression a tr t))) r (finite (negate e)) h.at_least k),
   )
-  SupInf-margin (negation p) ok more t r w h =
-      let b = not_bounds (opposite r) (Truth p tr' t) (SupInf-margin p ok.1 more t (opposite r) w h) in rw opposite_twice at b
-  SupInf-margin (conjunction p q) ok more t r w (x, y, h, k, l) =
-      both_bounds x y r (Truth p tr' t) (Truth q tr' t) (SupInf-margin p ok.1 more.0 t x w h) (SupInf-margin q ok.2 more.1 t y w k) l
-  SupInf-margin (disjunction p q) ok more t r w (x, y, h, k, l) =
-      either_bounds x y r (Truth p tr' t) (Truth q tr' t) (SupInf-margin p ok.1 more.0 t x w h) (SupInf-margin q ok.2 more.1 t y w k) l
-  SupInf-margin (implication p q) ok more t r w (x, y, h, k, l) =
-      implies_bounds x y r (Truth p tr' t) (Truth q tr' t) (SupInf-margin p ok.1 more.0 t x w h) (SupInf-margin q ok.2 more.1 t y w k) l
-  SupInf-margin (eventually a b a_in b_in p) ok more t r w h =
-      let bounds : (u : Rational) (v : Extended) → Ahead (start tr) (stop tr) a b a_in b_in t u → SupInf p s u v → Bounds e v (Truth p tr' u) = λ u v m f. SupInf-margin p ok.1 more u v m.inside f in (
+  SupInf-margin (negation p) ok more c t r w h =
+      let b = not_bounds (opposite r) (Truth p tr' t) (SupInf-margin p ok.1 more c t (opposite r) w h) in rw opposite_twice at b
+  SupInf-margin (conjunction p q) ok more c t r w (x, y, h, k, l) =
+      both_bounds x y r (Truth p tr' t) (Truth q tr' t) (SupInf-margin p ok.1 more.0 c.0 t x w h) (SupInf-margin q ok.2 more.1 c.1 t y w k) l
+  SupInf-margin (disjunction p q) ok more c t r w (x, y, h, k, l) =
+      either_bounds x y r (Truth p tr' t) (Truth q tr' t) (SupInf-margin p ok.1 more.0 c.0 t x w h) (SupInf-margin q ok.2 more.1 c.1 t y w k) l
+  SupInf-margin (implication p q) ok more c t r w (x, y, h, k, l) =
+      implies_bounds x y r (Truth p tr' t) (Truth q tr' t) (SupInf-margin p ok.1 more.0 c.0 t x w h) (SupInf-margin q ok.2 more.1 c.1 t y w k) l
+  SupInf-margin (eventually a b a_in b_in p) ok more c t r w h =
+      let bounds : (u : Rational) (v : Extended) → Ahead (start tr) (stop tr) a b a_in b_in t u → SupInf p s u v → Bounds e v (Truth p tr' u) = λ u v m f. SupInf-margin p ok.1 more c u v m.inside f in (
         λ k. let z = some_above (Ahead (start tr) (stop tr) a b a_in b_in t) (SupInf p s) (λ u. Truth p tr' u) r bounds h k in (z.0, ahead_over a b a_in b_in t z.0 z.1, z.2),
         λ k. λ (u, m, x). none_below (Ahead (start tr) (stop tr) a b a_in b_in t) (SupInf p s) (λ u. Truth p tr' u) r (λ u m. has_value p s ok.1 u m.inside) bounds h k (u, ahead_back a b a_in b_in t u m, x),
       )
-  SupInf-margin (always a b a_in b_in p) ok more t r w h =
-      let bounds : (u : Rational) (v : Extended) → Ahead (start tr) (stop tr) a b a_in b_in t u → SupInf p s u v → Bounds e v (Truth p tr' u) = λ u v m f. SupInf-margin p ok.1 more u v m.inside f in (
+  SupInf-margin (always a b a_in b_in p) ok more c t r w h =
+      let bounds : (u : Rational) (v : Extended) → Ahead (start tr) (stop tr) a b a_in b_in t u → SupInf p s u v → Bounds e v (Truth p tr' u) = λ u v m f. SupInf-margin p ok.1 more c u v m.inside f in (
         λ k u m. each_above (Ahead (start tr) (stop tr) a b a_in b_in t) (SupInf p s) (λ u. Truth p tr' u) r (λ u m. has_value p s ok.1 u m.inside) bounds h k u (ahead_back a b a_in b_in t u m),
         λ k all. some_below (Ahead (start tr) (stop tr) a b a_in b_in t) (SupInf p s) (λ u. Truth p tr' u) r bounds h k (λ u m. all u (ahead_over a b a_in b_in t u m)),
       )
-  SupInf-margin (once a b a_in b_in p) ok more t r w h =
-      let bounds : (u : Rational) (v : Extended) → Behind (start tr) (stop tr) a b a_in b_in t u → SupInf p s u v → Bounds e v (Truth p tr' u) = λ u v m f. SupInf-margin p ok.1 more u v m.inside f in (
+  SupInf-margin (once a b a_in b_in p) ok more c t r w h =
+      let bounds : (u : Rational) (v : Extended) → Behind (start tr) (stop tr) a b a_in b_in t u → SupInf p s u v → Bounds e v (Truth p tr' u) = λ u v m f. SupInf-margin p ok.1 more c u v m.inside f in (
         λ k. let z = some_above (Behind (start tr) (stop tr) a b a_in b_in t) (SupInf p s) (λ u. Truth p tr' u) r bounds h k in (z.0, behind_over a b a_in b_in t z.0 z.1, z.2),
         λ k. λ (u, m, x). none_below (Behind (start tr) (stop tr) a b a_in b_in t) (SupInf p s) (λ u. Truth p tr' u) r (λ u m. has_value p s ok.1 u m.inside) bounds h k (u, behind_back a b a_in b_in t u m, x),
       )
-  SupInf-margin (historically a b a_in b_in p) ok more t r w h =
-      let bounds : (u : Rational) (v : Extended) → Behind (start tr) (stop tr) a b a_in b_in t u → SupInf p s u v → Bounds e v (Truth p tr' u) = λ u v m f. SupInf-margin p ok.1 more u v m.inside f in (
+  SupInf-margin (historically a b a_in b_in p) ok more c t r w h =
+      let bounds : (u : Rational) (v : Extended) → Behind (start tr) (stop tr) a b a_in b_in t u → SupInf p s u v → Bounds e v (Truth p tr' u) = λ u v m f. SupInf-margin p ok.1 more c u v m.inside f in (
         λ k u m. each_above (Behind (start tr) (stop tr) a b a_in b_in t) (SupInf p s) (λ u. Truth p tr' u) r (λ u m. has_value p s ok.1 u m.inside) bounds h k u (behind_back a b a_in b_in t u m),
         λ k all. some_below (Behind (start tr) (stop tr) a b a_in b_in t) (SupInf p s) (λ u. Truth p tr' u) r bounds h k (λ u m. all u (behind_over a b a_in b_in t u m)),
       )
-  SupInf-margin (until a b p q) ok more t r w h =
+  SupInf-margin (until a b p q) ok more c t r w h =
       let bounds : (u : Rational) (v : Extended) → Ahead (start tr) (stop tr) a b true true t u → IsUpTo infinity (SupInf p s) (SupInf q s) t u v
       → Bounds e v (Truth q tr' u × ((x : Rational) → Within t u x → Truth p tr' x)) =
-      λ u v m. λ (x, y, k, i, l). both_bounds x y v (Truth q tr' u) ((x : Rational) → Within t u x → Truth p tr' x) (SupInf-margin q ok.2 more.2 u x m.inside k)
-      (let inner : (z : Rational) (v : Extended) → Within t u z → SupInf p s z v → Bounds e v (Truth p tr' z) = λ z v n f. SupInf-margin p ok.1 more.1 z v (between w m.inside n) f in (
+      λ u v m. λ (x, y, k, i, l). both_bounds x y v (Truth q tr' u) ((x : Rational) → Within t u x → Truth p tr' x) (SupInf-margin q ok.2 more.2 c.1 u x m.inside k)
+      (let inner : (z : Rational) (v : Extended) → Within t u z → SupInf p s z v → Bounds e v (Truth p tr' z) = λ z v n f. SupInf-margin p ok.1 more.1 c.0 z v (between w m.inside n) f in (
         λ j. each_above (Within t u) (SupInf p s) (λ z. Truth p tr' z) y (λ z n. has_value p s ok.1 z (between w m.inside n)) inner i j,
         λ j. some_below (Within t u) (SupInf p s) (λ z. Truth p tr' z) y inner i j,
       )) l in (
@@ -214,11 +202,11 @@ module _ (e : Rational) (tr tr' : Trace) (start_same : start tr' ≡ start tr) (
             (λ u m. let x = has_value q s ok.2 u m.inside in let y = more.0 t u w m.inside in let v = least_exists x.0 y.0 in (v.0, (x.0, y.0, x.1, y.1, v.1)))
             bounds h k (u, ahead_back a b true true t u m, (x, y)),
       )
-  SupInf-margin (since a b p q) ok more t r w h =
+  SupInf-margin (since a b p q) ok more c t r w h =
       let bounds : (u : Rational) (v : Extended) → Behind (start tr) (stop tr) a b true true t u → IsDownTo infinity (SupInf p s) (SupInf q s) t u v
       → Bounds e v (Truth q tr' u × ((x : Rational) → Within u t x → Truth p tr' x)) =
-      λ u v m. λ (x, y, k, i, l). both_bounds x y v (Truth q tr' u) ((x : Rational) → Within u t x → Truth p tr' x) (SupInf-margin q ok.2 more.2 u x m.inside k)
-      (let inner : (z : Rational) (v : Extended) → Within u t z → SupInf p s z v → Bounds e v (Truth p tr' z) = λ z v n f. SupInf-margin p ok.1 more.1 z v (between m.inside w n) f in (
+      λ u v m. λ (x, y, k, i, l). both_bounds x y v (Truth q tr' u) ((x : Rational) → Within u t x → Truth p tr' x) (SupInf-margin q ok.2 more.2 c.1 u x m.inside k)
+      (let inner : (z : Rational) (v : Extended) → Within u t z → SupInf p s z v → Bounds e v (Truth p tr' z) = λ z v n f. SupInf-margin p ok.1 more.1 c.0 z v (between m.inside w n) f in (
         λ j. each_above (Within u t) (SupInf p s) (λ z. Truth p tr' z) y (λ z n. has_value p s ok.1 z (between m.inside w n)) inner i j,
         λ j. some_below (Within u t) (SupInf p s) (λ z. Truth p tr' z) y inner i j,
       )) l in (

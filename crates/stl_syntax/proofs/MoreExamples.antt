@@ -74,20 +74,20 @@ robust_once = record {
     by_value (finite x) k = let j = k.lt in record { lt = omega arith }
     by_value infinity k = k
 
-abbrev fraction : ℕ → Frac
+abbrev pub fraction : ℕ → Frac
 fraction n = whole_frac (pos n)
 
-abbrev span : ℕ → Bool → ℕ → Bool → Span
+abbrev pub span : ℕ → Bool → ℕ → Bool → Span
 span a i b o = record { from = fraction a; from_in = i; to = fraction b; to_in = o }
 
 -- `x >= 5` on the rise: [0,5) false, [5,10] true
-low_fails : (u : Rational) → u <ʳ at_time 5 → ¬ Truth x_at_least_5 rise u
+pub low_fails : (u : Rational) → u <ʳ at_time 5 → ¬ Truth x_at_least_5 rise u
 low_fails u h k = cannot (compares_same AtLeast (expression at_least_5 rise u) (subtract u (at_time 5)) (rise_value u (let l = h.lt in record { le = omega arith })) k)
   where
     cannot : ¬ IsTrue (compares AtLeast (subtract u (at_time 5)))
     cannot j = let l = h.lt in grind arith
 
-high_holds : (u : Rational) → at_time 5 ≤ʳ u → u ≤ʳ at_time 10 → Truth x_at_least_5 rise u
+pub high_holds : (u : Rational) → at_time 5 ≤ʳ u → u ≤ʳ at_time 10 → Truth x_at_least_5 rise u
 high_holds u h k =
     compares_same AtLeast (subtract u (at_time 5)) (expression at_least_5 rise u) (same_sym (rise_value u k)) (let l = h.le in grind arith)
 
@@ -104,7 +104,7 @@ rise_verdicts = (
 )
 
 -- another cut does not describe it: `[0,5] false` is wrong at 5
-wrong_verdict : ¬ IsTold x_at_least_5 rise (record { on = span 0 true 5 true; holds = false })
+pub wrong_verdict : ¬ IsTold x_at_least_5 rise (record { on = span 0 true 5 true; holds = false })
 wrong_verdict h = h.truth (at_time 5) (omega arith) (high_holds (at_time 5) (omega arith) (omega arith))
 
 -- the knots of its robustness: -5 at 0, rising to 5 at 10

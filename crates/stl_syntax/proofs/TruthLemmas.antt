@@ -1,11 +1,11 @@
 -- The truth at a time is that of the number, and not of its pair.
 use Rattle.std.proofs.Common.{ℕ, suc, pos, ◌-◌, List, [], ◌∷◌, inl, inr, Bool, true, false, cond, arith, IsTrue, ◌≤◌, mul-le-mul_right, le_of_mul-le-mul_right}
-use Rattle.std.specs.Prelude.{bytes_eq, Option, Some, None}
-use Rattle.rational.proofs.Order.{le_trans, le_of_same, ge_of_same, same_refl, same_sym}
+use Rattle.std.specs.Prelude.{bytes_eq}
+use Rattle.rational.proofs.Order.{same_refl, same_sym}
 use Rattle.rational.proofs.Field.{same_add, same_subtract}
 use Rattle.rational.proofs.Lines.{same_at}
-use Rattle.rational.specs.Time.{Rational, ◌≈◌, Within, whole, less, later}
-use Rattle.rational.specs.Windows.{Ahead, Behind}
+use Rattle.rational.specs.Time.{Rational, ◌≈◌, whole, less}
+use Rattle.rational.proofs.WindowLemmas.{ahead_same, behind_same, from_same, to_same}
 use Rattle.stl_syntax.specs.Trace.{Column, Row, Trace, row_time, value, line_between, piece, value_from, value_among, value_of}
 use Rattle.stl_syntax.specs.Formula.{Subformula, constant, atom, negation, conjunction, disjunction, implication, until, eventually, always, since, once, historically}
 use Rattle.stl_syntax.specs.Truth.{sum_at, expression, compares, Truth}
@@ -13,7 +13,7 @@ use Rattle.stl_syntax.specs.declared.atom.Term.{Term}
 use Rattle.stl_syntax.specs.declared.atom.Atom.{Atom}
 use Rattle.stl_syntax.specs.declared.rel.Rel.{Rel}
 use Rattle.stl_syntax.specs.declared.rel.Rel.TheVariants.{AtLeast, Above, AtMost, Below}
-use Rattle.rational.proofs.TimeLemmas.{same_later, same_times, less_same, precedes_after, precedes_before}
+use Rattle.rational.proofs.TimeLemmas.{same_times, less_same}
 
 same_piece : {t u : Rational} (step : Bool) (c : ℕ) (r s : Row) → t ≈ u → piece step c r s t ≈ piece step c r s u
 same_piece true c r s h = same_refl (whole (value r c))
@@ -57,24 +57,6 @@ compares_same AtLeast x y e h = let k : x.down ≤ x.up = grind arith in let l =
 compares_same Above x y e h = grind (arith, negative (same_sym e))
 compares_same AtMost x y e h = let k : x.up ≤ x.down = grind arith in let l = negative e k in grind arith
 compares_same Below x y e h = grind (arith, not_negative (same_sym e))
-
-ahead_same : {from to t u v : Rational} {a b : ℕ} {a_in b_in : Bool} → t ≈ u → Ahead from to a b a_in b_in t v → Ahead from to a b a_in b_in u v
-ahead_same {t = t} {u} {v} {a = a} {b} {a_in} {b_in} e h = record {
-  inside = h.inside;
-  begins = precedes_after a_in (later u a) (later t a) v (ge_of_same (same_later a e)) h.begins;
-  ends = precedes_before b_in v (later t b) (later u b) h.ends (le_of_same (same_later b e));
-}
-
-behind_same : {from to t u v : Rational} {a : ℕ} {b : Option ℕ} {a_in b_in : Bool} → t ≈ u → Behind from to a b a_in b_in t v → Behind from to a b a_in b_in u v
-behind_same {t = t} {u} {v} {a = a} {b = None} {a_in} {b_in} e h = record { inside = h.inside; begins = tt; ends = precedes_before a_in (later v a) t u h.ends (le_of_same e) }
-behind_same {t = t} {u} {v} {a = a} {b = Some b} {a_in} {b_in} e h =
-    record { inside = h.inside; begins = precedes_after b_in u t (later v b) (ge_of_same e) h.begins; ends = precedes_before a_in (later v a) t u h.ends (le_of_same e) }
-
-from_same : {t u v w : Rational} → t ≈ u → Within u w v → Within t w v
-from_same e h = record { above = le_trans (le_of_same e) h.above; below = h.below }
-
-to_same : {t u v w : Rational} → t ≈ u → Within w u v → Within w t v
-to_same e h = record { above = h.above; below = le_trans h.below (ge_of_same e) }
 
 -- two pairs of one number are one time
 pub Truth-same : {t u : Rational} (f : Subformula) (tr : Trace) → t ≈ u → Truth f tr t → Truth f tr u

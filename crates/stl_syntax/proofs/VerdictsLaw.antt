@@ -3,12 +3,12 @@ use Rattle.std.proofs.Common.{◌≡◌, ◌⊎◌, inl, inr, List, [], ◌∷�
 use Rattle.std.specs.Prelude.{MatchBool, ◌≢◌}
 use Rattle.rational.specs.Rational.{Rational, ◌≤ʳ◌, ◌<ʳ◌, ◌≈◌, middle}
 use Rattle.rational.proofs.Order.{lt_or_same_or_gt, le_of_same, le_of_lt, lt_of_lt_of_le, lt_of_le_of_lt, lt_trans, not_lt_of_le, same_trans, same_sym, same_refl, left_of_middle, right_of_middle}
-use Rattle.rational.specs.Time.{Interval, IsIn, IsNotEmpty, BeginAlike, EndAlike, Touch}
+use Rattle.rational.specs.Time.{Interval, IsIn, IsNotEmpty, Touch}
 use Rattle.frac128.specs.Spans.{interval}
 use Rattle.stl_syntax.specs.Trace.{Trace}
 use Rattle.stl_syntax.specs.Formula.{Subformula}
 use Rattle.stl_syntax.specs.Truth.{Truth}
-use Rattle.stl_syntax.specs.Verdicts.{IsTold, GoesOn, Describes}
+use Rattle.stl_syntax.specs.Verdicts.{IsTold, GoesOn, Describes, AreAlike}
 use Rattle.stl_syntax.specs.declared.items.Verdict.{Verdict}
 
 -- a place between times: just before a time, or just after it
@@ -193,14 +193,6 @@ not_shorter p tr stretch v (x ∷ xs) w ws a b s g h e l =
     (inl (same_before (begins (interval w.on)) (begins (interval v.on)) (ends (interval v.on)) (same_sym_cut s) (not_empty_cut (interval v.on) a.not_empty)))
     (inr (same_sym_cut (touch_cut (interval v.on) (interval x.on) g.0))))
     (same_before (begins (interval x.on)) (ends (interval v.on)) (ends (interval w.on)) (touch_cut (interval v.on) (interval x.on) g.0) l)))
-
--- the same spans with the same truths, maybe by other pairs
-abbrev pub AreAlike : List Verdict → List Verdict → Type 0
-AreAlike [] [] = Unit {0}
-AreAlike [] (w ∷ ws) = ⊥
-AreAlike (v ∷ vs) [] = ⊥
-AreAlike (v ∷ vs) (w ∷ ws) =
-    BeginAlike (interval v.on) (interval w.on) × EndAlike (interval v.on) (interval w.on) × (v.holds ≡ w.holds) × AreAlike vs ws
 
 inside_alike : (a b : Bool) → not a ≡ not b → a ≡ b
 inside_alike true true e = refl

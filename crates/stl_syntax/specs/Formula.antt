@@ -1,6 +1,6 @@
 -- Formulas: the tree that a node of a formula stands for, and its horizon.
-use Rattle.std.specs.Prelude.{◌≡◌, ℕ, ◌+◌, ◌-◌, ◌<◌, max, Bool, false, List, [], ◌∷◌, ◌++◌, length, slice_index, slice_index_or}
-use Rattle.std.specs.Prelude.{Option}
+use Rattle.std.specs.Prelude.{◌≡◌, ℕ, ◌+◌, ◌-◌, ◌<◌, max, Bool, false, List, [], ◌∷◌, ◌++◌, length, slice_index_or}
+use Rattle.std.specs.Prelude.{Option, Some, slice_get}
 use Rattle.stl_syntax.specs.declared.atom.Atom.{Atom}
 use Rattle.stl_syntax.specs.declared.node.Node.{Node}
 use Rattle.stl_syntax.specs.declared.node.Node.TheVariants.{Const, Atom as Leaf, Not, And, Or, Implies, Until, Eventually, Always, Since, Once, Historically}
@@ -103,30 +103,9 @@ StandsIn nodes (since a b p q) = StandsIn nodes p × StandsIn nodes q
 StandsIn nodes (once a b a_in b_in p) = StandsIn nodes p
 StandsIn nodes (historically a b a_in b_in p) = StandsIn nodes p
 
--- the children of each node stand before it, from place i on
-abbrev pub ArePlacedFrom : ℕ → List Node → Type 0
-ArePlacedFrom i [] = Unit {0}
-ArePlacedFrom i (n ∷ nodes) = HasChildrenBelow i n × ArePlacedFrom (i + 1) nodes
-
--- the children of each node stand before it
-abbrev pub ArePlaced : List Node → Type 0
-ArePlaced nodes = ArePlacedFrom 0 nodes
-
--- the horizon of a node, from those of the places before it
-abbrev pub horizon_above : List ℕ → Node → ℕ
-horizon_above h (Const b) = 0
-horizon_above h (Leaf a) = 0
-horizon_above h (Not p) = slice_index h p
-horizon_above h (And p q) = max (slice_index h p) (slice_index h q)
-horizon_above h (Or p q) = max (slice_index h p) (slice_index h q)
-horizon_above h (Implies p q) = max (slice_index h p) (slice_index h q)
-horizon_above h (Until p q a b) = b + max (slice_index h p) (slice_index h q)
-horizon_above h (Eventually p a b a_in b_in) = b + slice_index h p
-horizon_above h (Always p a b a_in b_in) = b + slice_index h p
-horizon_above h (Since p q a b) = max (slice_index h p) (slice_index h q - a)
-horizon_above h (Once p a b a_in b_in) = slice_index h p - a
-horizon_above h (Historically p a b a_in b_in) = slice_index h p - a
-
--- the list has the horizon of each place below i
-abbrev pub AreHorizonsBelow : ℕ → List Node → List ℕ → Type 0
-AreHorizonsBelow i nodes h = (k : ℕ) → k < i → slice_index h k ≡ horizon (subformula nodes k)
+-- the node at place i is the first of its kind
+pub record IsFirst (P : Node → Type 0) (nodes : List Node) (i : ℕ) : Type 0 where
+  pub node : Node
+  pub at : slice_get nodes i ≡ Some node
+  pub is : P node
+  pub none_before : (j : ℕ) (other : Node) → j < i → slice_get nodes j ≡ Some other → ¬ P other

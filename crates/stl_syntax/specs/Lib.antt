@@ -1,6 +1,10 @@
 pub mod Atoms
 pub mod Trace
 pub mod Formula
+pub mod PostOrder
+pub mod Names
+pub mod WellFormed
+pub mod Horizons
 pub mod Truth
 pub mod Knots
 pub mod Kleene
@@ -24,3 +28,5 @@ pub mod Binding
 pub mod EarlyText
 pub mod Held
 pub mod StreamedWide
+pub mod Closeness
+pub mod Laws

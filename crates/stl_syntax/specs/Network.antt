@@ -1,10 +1,11 @@
 -- Runs of the streaming network, in any order of its events, and what they answer.
-use Rattle.std.specs.Prelude.{◌≡◌, ℕ, ◌<◌, Bool, true, false, ◌&&◌, not, if◌then◌else◌, List, [], ◌∷◌, ◌++◌, length, ℤ, pos, ◌+ℤ◌, ◌<ℤ◌, int_lt, neg_ℤ, IsTrue, Option, Some, None, ◌==◌, slice_index_or, IfSome, MatchBool}
+use Rattle.std.specs.Prelude.{◌≡◌, ℕ, ◌<◌, Bool, true, false, ◌&&◌, not, if◌then◌else◌, List, [], ◌∷◌, ◌++◌, length, ℤ, pos, ◌+ℤ◌, ◌<ℤ◌, int_lt, neg_ℤ, Option, Some, None, ◌==◌, slice_index_or, IfSome, MatchBool}
 use Rattle.rational.specs.Time.{whole, Interval, closed, left_open}
-use Rattle.stl_syntax.specs.Trace.{Header, Row, Trace, first_time, last_time}
+use Rattle.stl_syntax.specs.Trace.{Header, Row, first_time, last_time}
 use Rattle.stl_syntax.specs.Formula.{subformula}
 use Rattle.stl_syntax.specs.Verdicts.{Describes}
 use Rattle.stl_syntax.specs.declared.items.Verdict.{Verdict}
+use Rattle.stl_syntax.specs.PostOrder.{children}
 use Rattle.stl_syntax.specs.declared.node.Node.{Node}
 use Rattle.stl_syntax.specs.declared.node.Node.TheVariants.{Const, Atom as Leaf, Not, And, Or, Implies, Until, Eventually, Always, Since, Once, Historically}
 
@@ -58,21 +59,6 @@ open_number (Always p a b a_in b_in) s = moved_by (neg_ℤ (pos b)) (s.fronts p)
 open_number (Since p q a b) s = least (s.fronts p) (moved_by (pos a) (s.fronts q))
 open_number (Once p a b a_in b_in) s = least (moved_by (pos a) (s.fronts p)) (last_row s)
 open_number (Historically p a b a_in b_in) s = least (moved_by (pos a) (s.fronts p)) (last_row s)
-
--- the places of the children
-abbrev pub children : Node → List ℕ
-children (Const b) = []
-children (Leaf a) = []
-children (Not p) = p ∷ []
-children (And p q) = p ∷ q ∷ []
-children (Or p q) = p ∷ q ∷ []
-children (Implies p q) = p ∷ q ∷ []
-children (Until p q a b) = p ∷ q ∷ []
-children (Eventually p a b a_in b_in) = p ∷ []
-children (Always p a b a_in b_in) = p ∷ []
-children (Since p q a b) = p ∷ q ∷ []
-children (Once p a b a_in b_in) = p ∷ []
-children (Historically p a b a_in b_in) = p ∷ []
 
 -- both are nothing, or one number
 abbrev pub same_front : Front → Front → Bool
@@ -177,13 +163,6 @@ EmittedFrom nodes header i s (e ∷ events) verdicts =
 -- the verdicts that node i gives out over a run
 abbrev pub Emitted : List Node → Header → List Event → ℕ → List Verdict → Type 0
 Emitted nodes header events i verdicts = EmittedFrom nodes header i initial events verdicts
-
--- the trace goes on from these rows; where the input has ended, it has just these
-pub record Continues (tr : Trace) (header : Header) (rows : List Row) (ended : Bool) : Type 0 where
-  pub same_header : tr.header ≡ header
-  pub more : List Row
-  pub begins : tr.rows ≡ rows ++ more
-  pub whole_input : IsTrue ended → more ≡ []
 
 -- by how much a reader looks back or ahead from its front, at its left child or another one
 abbrev pub reach_back : Node → Bool → ℤ

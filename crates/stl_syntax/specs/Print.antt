@@ -140,5 +140,5 @@ IsPrinted s (historically a b a_in b_in p) text =
     Before (Bounded (codes "historically") (IsPastBoundText s a b a_in b_in)) (InParens (has_two p) (IsPrinted s p)) text
 
 -- the printed text of a formula
-abbrev pub IsFormulaText : Formula → List ℕ → Type 0
-IsFormulaText f text = IsPrinted f.scale (root f.nodes) text
+abbrev pub IsPrintedFormula : Formula → List ℕ → Type 0
+IsPrintedFormula f text = IsPrinted f.scale (root f.nodes) text

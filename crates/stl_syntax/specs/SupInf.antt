@@ -74,10 +74,13 @@ SupInf (historically a b a_in b_in p) s t r = IsInfOver s.highest (Behind s.from
 SupInf (until a b p q) s t r = IsUntil s.lowest s.highest (Ahead s.from s.to a b true true t) (SupInf p s) (SupInf q s) t r
 SupInf (since a b p q) s t r = IsSince s.lowest s.highest (Behind s.from s.to a b true true t) (SupInf p s) (SupInf q s) t r
 
+-- the setting in which atoms have their margins
+abbrev pub margin_setting : Trace → Setting
+margin_setting tr = record { atoms = margins tr; lowest = minus_infinity; highest = infinity; from = start tr; to = stop tr }
+
 -- r is the robustness at t
 abbrev pub Robustness : Subformula → Trace → Rational → Extended → Type 0
-Robustness p tr t r =
-    SupInf p (record { atoms = margins tr; lowest = minus_infinity; highest = infinity; from = start tr; to = stop tr }) t r
+Robustness p tr t r = SupInf p (margin_setting tr) t r
 
 -- each formula below p, and p, has a value at each time of the domain
 abbrev pub HasValue : Subformula → Setting → Type 0

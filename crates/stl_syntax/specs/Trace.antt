@@ -1,5 +1,5 @@
 -- Traces: rows of values at rising times, counted in ticks, and read as columns over all rational times between the first and the last row.
-use Rattle.std.specs.Prelude.{◌≡◌, ℕ, ◌+◌, ◌-◌, ◌*◌, ◌<◌, suc, Bool, true, false, List, [], ◌∷◌, length, ℤ, pos, if◌then◌else◌, slice_index_or, bytes_eq}
+use Rattle.std.specs.Prelude.{◌≡◌, ℕ, ◌+◌, ◌-◌, ◌*◌, ◌<◌, suc, Bool, true, false, List, [], ◌∷◌, length, ℤ, pos, if◌then◌else◌, slice_index_or, bytes_eq, ◌++◌, IsTrue}
 use Rattle.std.proofs.Math.Nat.{zero-lt-suc}
 use Rattle.rational.specs.Rational.{part_above, part_below}
 use Rattle.rational.specs.Line.{Line, at}
@@ -47,6 +47,13 @@ AreRows width (r ∷ rows) = (length r.values ≡ width) × AreRowsAfter width r
 -- the rows are those of a trace
 pub record IsTrace (tr : Trace) : Type 0 where
   pub rows : AreRows (length tr.header.columns) tr.rows
+
+-- the trace goes on from these rows; where the input has ended, it has just these
+pub record Continues (tr : Trace) (header : Header) (rows : List Row) (ended : Bool) : Type 0 where
+  pub same_header : tr.header ≡ header
+  pub more : List Row
+  pub begins : tr.rows ≡ rows ++ more
+  pub whole_input : IsTrue ended → more ≡ []
 
 -- the time of the last row, or `time` where there is none
 abbrev pub last_time : ℕ → List Row → ℕ

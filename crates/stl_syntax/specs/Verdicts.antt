@@ -1,7 +1,7 @@
 -- Lists of verdicts and of knots that describe a formula on a stretch of time.
-use Rattle.std.specs.Prelude.{◌≢◌, List, [], ◌∷◌, MatchBool}
+use Rattle.std.specs.Prelude.{◌≡◌, ◌≢◌, List, [], ◌∷◌, MatchBool}
 use Rattle.rational.specs.Time.{Rational, later, ◌≤ʳ◌, ◌<ʳ◌, ◌≈◌, Interval, IsIn, IsNotEmpty, BeginAlike, EndAlike, Touch}
-use Rattle.rational.specs.Extended.{Extended, Affine, Passes}
+use Rattle.rational.specs.Extended.{Extended, ◌≈ᵉ◌, Affine, Passes}
 use Rattle.stl_syntax.specs.Trace.{Trace, start, stop}
 use Rattle.stl_syntax.specs.Formula.{Subformula, horizon}
 use Rattle.stl_syntax.specs.Truth.{Truth}
@@ -52,13 +52,34 @@ MarginsGoOn p tr j before (after ∷ pieces) =
     (¬ AreOneLine j before after) × IsRobustInside p tr before.next after × IsRobust p tr after.next
     × MarginsGoOn p tr before.next after pieces
 
+-- the knots from k on tell the robustness up to the end of the domain
+abbrev pub MarginsFrom : Subformula → Trace → Knot → List Piece → Type 0
+MarginsFrom p tr k [] = k.time ≈ stop tr
+MarginsFrom p tr k (piece ∷ pieces) = IsRobustInside p tr k piece × IsRobust p tr piece.next × MarginsGoOn p tr k piece pieces
+
 -- the knots tell the robustness on the whole domain, with no knot that can be left out
 abbrev pub DescribesMargins : Knots → Subformula → Trace → Type 0
-DescribesMargins knots p tr = (knots.first.time ≈ start tr) × IsRobust p tr knots.first × Rest knots.pieces
-  where
-    Rest : List Piece → Type 0
-    Rest [] = knots.first.time ≈ stop tr
-    Rest (piece ∷ pieces) = IsRobustInside p tr knots.first piece × IsRobust p tr piece.next × MarginsGoOn p tr knots.first piece pieces
+DescribesMargins knots p tr = (knots.first.time ≈ start tr) × IsRobust p tr knots.first × MarginsFrom p tr knots.first knots.pieces
+
+-- two lists of verdicts have the same spans with the same truths, maybe by other pairs
+abbrev pub AreAlike : List Verdict → List Verdict → Type 0
+AreAlike [] [] = Unit {0}
+AreAlike [] (w ∷ ws) = ⊥
+AreAlike (v ∷ vs) [] = ⊥
+AreAlike (v ∷ vs) (w ∷ ws) =
+    BeginAlike (interval v.on) (interval w.on) × EndAlike (interval v.on) (interval w.on) × (v.holds ≡ w.holds) × AreAlike vs ws
+
+-- two knots have one time and one value
+pub record KnotsAlike (k l : Knot) : Type 0 where
+  pub time : k.time ≈ l.time
+  pub value : k.value ≈ᵉ l.value
+
+-- two lists of pieces have the same limits and the same knots
+abbrev pub PiecesAlike : List Piece → List Piece → Type 0
+PiecesAlike [] [] = Unit {0}
+PiecesAlike [] (b ∷ bs) = ⊥
+PiecesAlike (a ∷ pieces) [] = ⊥
+PiecesAlike (a ∷ pieces) (b ∷ bs) = (a.from ≈ᵉ b.from) × (a.to ≈ᵉ b.to) × KnotsAlike a.next b.next × PiecesAlike pieces bs
 
 -- after rows up to time s the truth at t is known for good
 abbrev pub IsAnswered : Subformula → Trace → Rational → Rational → Type 0

@@ -1,4 +1,6 @@
-ghost use Rattle.std.specs.Prelude.{◌≡◌, ◌<◌, length, IfOk, slice_get, Some};
+ghost use Rattle.std.specs.Prelude.{◌≡◌, ◌<◌, ◌≤◌, ◌*ℤ◌, pos, nat_abs, length, map, All, IfOk, IsTrue, slice_get, Some};
+ghost use Rattle.stl_syntax.specs.Names.{is_name};
+ghost use Rattle.stl_syntax.specs.WellFormed.{IsTermInLimits};
 
 use crate::{Name, Rel};
 use frac128::Memory;
@@ -17,12 +19,22 @@ impl Model for Term {
 
     ghost Value = { LinearTerm };
 
+    ghost use Rattle.stl_syntax.specs.WellFormed.{IsTermInLimits};
+
     ghost view = { λ t. record { coef = t.coef; name = t.name } };
+
+    ghost invariant = { λ t. IsTermInLimits (record { coef = t.coef; name = t.name }) };
 }
 
 impl Term {
-    /// The column `name` times `coef`.
+    ghost use Rattle.stl_syntax.specs.WellFormed.{IsTermInLimits};
+
+    /// The column `name` times `coef`, a whole number from -16 to 16.
+    ///
+    /// A name is a letter or `_`, and then letters, digits, `_` and points, but no word of the grammar.
     pub fn make(alloc: Global, coef: i32, name: &str) -> Result<Term, Memory>
+        requires coef { nat_abs coef ≤ 16 }
+        requires name { IsTrue (is_name name.now) }
         ensures coef { IfOk result (λ t. t.coef ≡ coef) }
         ensures name { IfOk result (λ t. t.name ≡ name.now) }
     {
@@ -34,7 +46,8 @@ impl Term {
 
     /// By what the column is multiplied.
     pub fn coef(&self) -> i32
-        ensures { result ≡ self.now.coef }
+        ensures coef { result ≡ self.now.coef }
+        ensures limits { IsTermInLimits self.now }
     {
         self.coef
     }
@@ -60,22 +73,42 @@ impl Model for Atom {
 
     ghost Value = { LinearAtom };
 
+    ghost use Rattle.stl_syntax.specs.WellFormed.{IsAtomInLimits};
+
     ghost view = { λ a. record { terms = a.terms.items; rel = a.rel; limit = a.limit } };
+
+    ghost invariant = { λ a. IsAtomInLimits (record { terms = a.terms.items; rel = a.rel; limit = a.limit }) };
 }
 
-/// The comparison of the sum of the terms with the constant `limit`, in ticks.
+/// The comparison of the sum of one to four terms with the constant `limit`, in ticks.
 pub fn make_atom(terms: Vec<Term>, rel: Rel, limit: i32) -> Atom
+    requires some { 0 < length terms.items }
+    requires few { length terms.items ≤ 4 }
+    requires limit { nat_abs limit ≤ 1073741824 }
     ensures terms { result.terms ≡ terms.items }
     ensures rel { result.rel ≡ rel }
     ensures limit { result.limit ≡ limit }
 {
+    keep_limits(&terms);
     Atom { terms, rel, limit }
 }
 
+/// Each term keeps its limits, so the atom does.
+fn keep_limits(terms: &[Term])
+    ensures { All IsTermInLimits terms.now }
+{
+    for term in terms {
+        let _ = term.coef();
+    }
+}
+
 impl Atom {
+    ghost use Rattle.stl_syntax.specs.WellFormed.{IsAtomInLimits};
+
     /// How many terms the sum has.
     pub fn terms(&self) -> usize
-        ensures { result ≡ length self.now.terms }
+        ensures count { result ≡ length self.now.terms }
+        ensures limits { IsAtomInLimits self.now }
     {
         self.terms.len()
     }

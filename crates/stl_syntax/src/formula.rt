@@ -1,11 +1,12 @@
-ghost use Rattle.std.specs.Prelude.{◌≡◌, ◌<◌, ◌++◌, ◌∷◌, [], length, IfOk, OnErr, slice_get, Some};
+ghost use Rattle.std.specs.Prelude.{◌≡◌, ◌<◌, ◌^◌, length, slice_get, Some};
 
+use crate::horizon::last_horizon;
 use crate::{Node, Scale};
-use frac128::Memory;
-use std::alloc::Global;
 use std::marker::Model;
 
-/// A formula as its nodes in post-order: each node but the last, the root, is used once, as a child.
+/// A formula of signal temporal logic: 1 to 256 nodes in post-order, each but the last, the root, used once as a child.
+///
+/// Its numbers are ticks of its scale, and all are within the limits of the language.
 #[derive(Debug, Drop)]
 pub struct Formula {
     nodes: Vec<Node>,
@@ -13,88 +14,69 @@ pub struct Formula {
 }
 
 impl Model for Formula {
-    ghost use Rattle.std.specs.Prelude.{length, ◌<◌, ◌≤◌};
     ghost use Rattle.stl_syntax.specs.Formula.{Formula};
+    ghost use Rattle.stl_syntax.specs.WellFormed.{IsWellFormed};
 
     ghost Value = { Formula };
 
-    ghost view = { λ a. record { nodes = a.nodes.items; scale = a.scale } };
+    ghost view = { λ f. record { nodes = f.nodes.items; scale = f.scale } };
 
-    ghost invariant = { λ f. (0 < length f.nodes.items) × (length f.nodes.items ≤ 256) };
+    ghost invariant = { λ f. IsWellFormed (record { nodes = f.nodes.items; scale = f.scale }) };
 }
 
 impl Formula {
+    ghost use Rattle.stl_syntax.specs.Formula.{root, horizon, HasChildrenBelow};
+    ghost use Rattle.stl_syntax.specs.WellFormed.{AreWellFormed, HasOneRoot, IsScale, IsWellFormed};
+
+    pub(crate) fn of(nodes: Vec<Node>, scale: Scale) -> Formula
+        requires some { 0 < length nodes.items }
+        requires nodes { AreWellFormed nodes.items }
+        requires root { HasOneRoot nodes.items }
+        requires scale { IsScale scale }
+        ensures nodes { result.nodes ≡ nodes.items }
+        ensures scale { result.scale ≡ scale }
+    {
+        Formula { nodes, scale }
+    }
+
+    /// The nodes in post-order.
+    pub(crate) fn nodes(&self) -> &Vec<Node>
+        ensures nodes { result.now.items ≡ self.now.nodes }
+        ensures well_formed { IsWellFormed self.now }
+    {
+        &self.nodes
+    }
+
     /// How many nodes the formula has.
     pub fn len(&self) -> u32
-        ensures { result ≡ length self.now.nodes }
+        ensures count { result ≡ length self.now.nodes }
+        ensures well_formed { IsWellFormed self.now }
     {
         self.nodes.len() as u32
     }
 
-    /// The node at place `i` in post-order.
+    /// The node at place `i` in post-order; its children stand before it.
     pub fn node(&self, i: u32) -> &Node
         requires { i < length self.now.nodes }
-        ensures { slice_get self.now.nodes i ≡ Some result.now }
+        ensures node { slice_get self.now.nodes i ≡ Some result.now }
+        ensures below { HasChildrenBelow i result.now }
     {
         &self.nodes[i as usize]
     }
 
     /// The ticks in which the formula's numbers are counted.
     pub fn scale(&self) -> Scale
-        ensures { result ≡ self.now.scale }
+        ensures scale { result ≡ self.now.scale }
+        ensures digits { IsScale result }
     {
         self.scale
     }
-}
 
-/// The nodes of a formula that is being built, in post-order.
-#[derive(Debug, Drop)]
-pub struct FormulaBuilder {
-    nodes: Vec<Node>,
-}
-
-impl Model for FormulaBuilder {
-    ghost use Rattle.std.specs.Prelude.{List, length, ◌≤◌};
-    ghost use Rattle.stl_syntax.specs.declared.node.Node.{Node};
-
-    ghost Value = { List Node };
-
-    ghost view = { λ b. b.nodes.items };
-
-    ghost invariant = { λ b. length b.nodes.items ≤ 256 };
-}
-
-impl FormulaBuilder {
-    /// No nodes yet; it takes no memory.
-    pub fn new(alloc: Global) -> FormulaBuilder
-        ensures { result ≡ [] }
+    /// How far after a time, in ticks, a trace must reach before the truth at that time is known.
+    pub fn horizon(&self) -> u64
+        ensures horizon { result ≡ horizon (root self.now.nodes) }
+        ensures small { result < 2 ^ 32 }
     {
-        FormulaBuilder {
-            nodes: Vec::new(alloc),
-        }
-    }
-
-    /// Appends the node and answers its place; without memory for it the nodes stay as they were.
-    pub fn add(&mut self, node: Node) -> Result<u32, Memory>
-        requires { length self.old < 256 }
-        ensures place { IfOk result (λ n. n ≡ length self.old) }
-        ensures added { IfOk result (λ _. self.new ≡ self.old ++ node ∷ []) }
-        ensures err { OnErr result (self.new ≡ self.old) }
-    {
-        let place = self.nodes.len() as u32;
-        match self.nodes.push(node) {
-            Ok(()) => Ok(place),
-            Err(_) => Err(Memory),
-        }
-    }
-
-    /// The formula of these nodes, with its numbers in ticks of `scale`.
-    pub fn finish(self, scale: Scale) -> Formula
-        requires { 0 < length self }
-        ensures nodes { result.nodes ≡ self }
-        ensures scale { result.scale ≡ scale }
-    {
-        let FormulaBuilder { nodes } = self;
-        Formula { nodes, scale }
+        last_horizon(&self.nodes)
     }
 }

@@ -2,16 +2,23 @@
 #![tactic(auto)]
 
 mod atom;
+mod builder;
+mod decimals;
 mod formula;
+mod horizon;
 mod items;
+pub mod laws;
 mod name;
 mod node;
+mod print;
 mod rel;
 mod scale;
+mod scaling;
 mod text;
 
 pub use atom::{Atom, Term, make_atom};
-pub use formula::{Formula, FormulaBuilder};
+pub use builder::FormulaBuilder;
+pub use formula::Formula;
 pub use items::{Item, Items, Verdict};
 pub use name::Name;
 pub use node::Node;

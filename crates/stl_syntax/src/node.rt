@@ -1,3 +1,5 @@
+ghost use Rattle.stl_syntax.specs.WellFormed.{IsLeafInLimits};
+
 use crate::Atom;
 
 /// A node of a formula; its children are named by their places in post-order.
@@ -49,4 +51,15 @@ pub enum Node {
         low_in: bool,
         high_in: bool,
     },
+}
+
+impl Node {
+    /// An atom keeps its limits, so its node does.
+    pub(crate) fn keeps_limits(&self)
+        ensures { IsLeafInLimits self.now }
+    {
+        if let Node::Atom(atom) = self {
+            let _ = atom.terms();
+        }
+    }
 }

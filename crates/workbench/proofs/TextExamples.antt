@@ -1,11 +1,12 @@
 -- Texts, faults of units and the generator at small cases.
-use Rattle.std.proofs.Common.{◌≡◌, [], ◌∷◌, ◌++◌, refl, inl, inr, true, false, pos, negsuc, lit≤, lit<}
-use Rattle.std.specs.Prelude.{codes, None}
+use Rattle.std.proofs.Common.{◌≡◌, ℕ, zero, suc, [], ◌∷◌, ◌++◌, refl, inl, inr, true, false, pos, negsuc, lit≤, lit<, arith, subst}
+use Rattle.std.specs.Prelude.{codes, Some, None, slice_get}
 use Rattle.std.specs.Fmt.{digits}
 use Rattle.stl_syntax.specs.Formula.{Formula, once, eventually, atom}
 use Rattle.stl_syntax.specs.Print.{IsDecimalText, IsAtomText, IsPrinted}
 use Rattle.workbench.specs.ErrTexts.{formula_fault_text, trace_fault_text, unit_fault_text, wide_text}
 use Rattle.stl_syntax.specs.Texts.{newline}
+use Rattle.stl_syntax.specs.Limits.{HasLargeConstant}
 use Rattle.stl_syntax.specs.Binding.{IsUnknown, IsUnitFault}
 use Rattle.workbench.specs.Generator.{rows_after}
 use Rattle.workbench.specs.Commands.{IsForm, judge, robust, of_formula}
@@ -13,6 +14,7 @@ use Rattle.workbench.specs.Sessions.{MuxText, own, tag, IsTagged, followed}
 use Rattle.stl_syntax.specs.declared.scale.Scale.{Scale}
 use Rattle.stl_syntax.specs.declared.atom.Atom.{Atom}
 use Rattle.stl_syntax.specs.declared.rel.Rel.TheVariants.{AtLeast}
+use Rattle.stl_syntax.specs.declared.node.Node.{Node}
 use Rattle.stl_syntax.specs.declared.node.Node.TheVariants.{Const, Atom as Leaf, Eventually}
 use Rattle.stl_grammar.specs.declared.fault.What.TheVariants.{Constant}
 use Rattle.stl_grammar.specs.declared.fault.FormulaFault.TheVariants.{Expected}
@@ -73,10 +75,15 @@ abbrev large : Formula
 large = record { nodes = Leaf (record { terms = record { coef = pos 1; name = codes "x" } ∷ []; rel = AtLeast; limit = pos 1073741824 }) ∷ []; scale = no_digits }
 
 constant_out : IsUnitFault large (record { time = 0; value = 1 }) (unit.Constant 0)
-constant_out = inl (0, refl, refl)
+constant_out = inl (0, record { node = _; at = refl; is = lit< tt; none_before = λ j n l e. absurd (omega arith) }, refl)
 
 reach_out : IsUnitFault (record { nodes = Const true ∷ Eventually 0 0 4294967295 true true ∷ []; scale = no_digits }) tenths (unit.Reach 42949672950)
-reach_out = inr ((λ x h. let e = h.1 in cc), (lit< tt, refl))
+reach_out = inr ((λ x h. none h.0 h.1.node h.1.at h.1.is), (lit< tt, refl))
+  where
+    none : (i : ℕ) (n : Node) → slice_get (Const true ∷ Eventually 0 0 42949672950 true true ∷ []) i ≡ Some n → HasLargeConstant n → ⊥
+    none zero n e h = let P : Node → Type 0 = HasLargeConstant in subst P (let same : n ≡ Const true = cc in same) h
+    none (suc zero) n e h = let P : Node → Type 0 = HasLargeConstant in subst P (let same : n ≡ Eventually 0 0 42949672950 true true = cc in same) h
+    none (suc (suc i)) n e h = let x : None ≡ Some n = e in cc
 
 -- a header without the column
 unknown_z : IsUnknown [] large 0 0 (codes "x")

@@ -1,0 +1,35 @@
+-- A ramp that is negated, moved or turned over in time.
+use Rattle.std.proofs.Common.{◌≡◌, ℕ, ℤ, pos, negsuc, zero, suc, ◌-ℤ◌, neg_ℤ, ◌+◌, ◌*◌, ◌<◌, arith, refl, ap}
+use Rattle.rational.specs.Rational.{Rational, part_above, part_below, whole, add, negate, subtract, ◌≈◌}
+use Rattle.rational.specs.Line.{at}
+use Rattle.rational.proofs.Mixed.{parts}
+use Rattle.frac128.specs.Line.{ramp_line}
+
+above_neg : (z : ℤ) → part_above (neg_ℤ z) ≡ part_below z
+above_neg (pos zero) = refl
+above_neg (pos (suc n)) = refl
+above_neg (negsuc n) = refl
+
+below_neg : (z : ℤ) → part_below (neg_ℤ z) ≡ part_above z
+below_neg (pos zero) = refl
+below_neg (pos (suc n)) = refl
+below_neg (negsuc n) = refl
+
+pub negated : (t0 v0 rise t0' v0' rise' : ℤ) (run : ℕ) (p p' : 0 < run) (t : Rational) → t0' ≡ t0 → v0' ≡ neg_ℤ v0 → rise' ≡ neg_ℤ rise → at (ramp_line t0' v0' rise' run p') t ≈ negate (at (ramp_line t0 v0 rise run p) t)
+negated t0 v0 rise t0' v0' rise' run p p' t h j k = rw (h, j, k, above_neg v0, below_neg v0, above_neg rise, below_neg rise) (omega arith)
+
+pub shifted : (t0 v0 rise t0' v0' rise' by : ℤ) (run : ℕ) (p p' : 0 < run) (t : Rational) → t0' ≡ t0 -ℤ by → v0' ≡ v0 → rise' ≡ rise → at (ramp_line t0' v0' rise' run p') t ≈ at (ramp_line t0 v0 rise run p) (add t (whole by))
+shifted t0 v0 rise t0' v0' rise' by run p p' t h j k = rw (j, k) record {
+  same = omega (arith, ap (λ n. part_above rise * n * (t.den * run * t.den)) moved, ap (λ n. part_below rise * n * (t.den * run * t.den)) moved);
+}
+  where
+    moved : part_above t0' + part_below t0 + part_above by ≡ part_below t0' + part_above t0 + part_below by
+    moved = omega (arith, parts)
+
+pub mirrored : (t0 v0 rise t0' v0' rise' about : ℤ) (run : ℕ) (p p' : 0 < run) (t : Rational) → t0' ≡ about -ℤ t0 → v0' ≡ v0 → rise' ≡ neg_ℤ rise → at (ramp_line t0' v0' rise' run p') t ≈ at (ramp_line t0 v0 rise run p) (subtract (whole about) t)
+mirrored t0 v0 rise t0' v0' rise' about run p p' t h j k = rw (j, k, above_neg rise, below_neg rise) record {
+  same = omega (arith, ap (λ n. part_above rise * n * (t.den * run * t.den)) moved, ap (λ n. part_below rise * n * (t.den * run * t.den)) moved);
+}
+  where
+    moved : part_above t0' + part_above t0 + part_below about ≡ part_below t0' + part_below t0 + part_above about
+    moved = omega (arith, parts)

@@ -1,0 +1,5 @@
+use Rattle.stl_syntax.proofs.LawProofs.{certainty_is_of_times as law}
+use Rattle.stl_syntax.proofs.laws.certainty_is_of_times.Goals as goal
+
+pub returns : goal.returns
+returns c = law

@@ -1,0 +1,5 @@
+use Rattle.stl_syntax.proofs.LawProofs.{one_list_of_verdicts as law}
+use Rattle.stl_syntax.proofs.laws.one_list_of_verdicts.Goals as goal
+
+pub returns : goal.returns
+returns c = law
