@@ -1,2 +1,11 @@
 pub mod TraceText
 pub mod TraceRefusals
+pub mod Sofar
+pub mod Labels
+pub mod Table
+pub mod Plain
+pub mod Cut
+pub mod PlainProgress
+pub mod PlainTable
+pub mod PlainReading
+pub mod PlainReader

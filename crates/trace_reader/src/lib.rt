@@ -1,6 +1,22 @@
 //! The bytes of traces.
 #![tactic(auto)]
 
+mod digits;
+mod event;
+mod header;
+mod line;
+mod name;
+mod plain;
+mod plain_line;
+mod plain_reading;
+mod plain_table;
 mod refusal;
+mod row;
+mod trace;
 
+pub use event::{Event, Took};
+pub use header::Header;
+pub use plain::{NotPlain, Rows};
 pub use refusal::{Limits, TraceKind, TraceRefusal};
+pub use row::Row;
+pub use trace::Trace;

@@ -1,0 +1,89 @@
+-- Rows of a table, one after another.
+use Rattle.std.proofs.Common.{◌≡◌, ℕ, zero, suc, ◌+◌, ◌-◌, ◌*◌, ◌<◌, ◌≤◌, List, [], ◌∷◌, ◌++◌, length, take, drop, get_or, refl, sym, ap, ◌∙◌, arith, ℤ, nat_abs, Option, Some, None}
+use Rattle.std.specs.Prelude.{IsSome, All, pos}
+use Rattle.std.proofs.lemmas.List.{take-append-le, drop-append-le, length-append, length-drop, drop-drop, get_or-take, get_or-drop, take_all, nil_from_length}
+use Rattle.std.proofs.lemmas.List.Elements.{All-append}
+use Rattle.std.proofs.lemmas.Nat.{mul-add-lt}
+use Rattle.stl_syntax.specs.Trace.{Row, Header, Trace, AreRowsAfter, AreRows, last_time}
+use Rattle.trace_reader.specs.Table.{rows_of}
+use Rattle.trace_reader.specs.Plain.{IsRowLine}
+use Rattle.trace_reader.specs.Sofar.{AreRowsSoFar}
+
+-- what is there
+pub some_is : {A : Type 0} (o : Option A) → IsSome o → (x : A) × (o ≡ Some x)
+some_is None h = absurd (let e = h in cc)
+some_is (Some x) h = (x, refl)
+
+pub length-rows_of : (width : ℕ) (times : List ℕ) (values : List ℤ) → length (rows_of width times values) ≡ length times
+length-rows_of width [] values = refl
+length-rows_of width (t ∷ times) values = ap suc (length-rows_of width times (drop width values))
+
+abbrev pub table_with : Header → List Row → Trace
+table_with h rows = record { header = h; rows = rows }
+
+abbrev pub row_with : ℕ → List ℤ → Row
+row_with t values = record { time = t; values = values }
+
+pub row_at : (width k : ℕ) (times : List ℕ) (values : List ℤ) (d : Row) → k < length times
+    → get_or (rows_of width times values) k d ≡ row_with (get_or times k 0) (take width (drop (k * width) values))
+row_at width k [] values d h = absurd (omega arith)
+row_at width zero (t ∷ times) values d h = let z : 0 * width ≡ 0 = omega arith in rw z refl
+row_at width (suc k) (t ∷ times) values d h =
+    let e : width + k * width ≡ suc k * width = omega arith in
+    row_at width k times (drop width values) d (omega arith)
+    ∙ ap (λ vs. row_with (get_or times k 0) (take width vs)) (drop-drop (k * width) width values ∙ ap (λ n. drop n values) e)
+
+pub value_at : (width k c : ℕ) (values : List ℤ) → c < width → get_or (take width (drop (k * width) values)) c (pos 0) ≡ get_or values (k * width + c) (pos 0)
+value_at width k c values h = get_or-take width (drop (k * width) values) c (pos 0) h ∙ get_or-drop (k * width) values c (pos 0)
+
+pub rows_of-push : (width : ℕ) (times : List ℕ) (t : ℕ) (values more : List ℤ) → length values ≡ length times * width → length more ≡ width
+    → rows_of width (times ++ t ∷ []) (values ++ more) ≡ rows_of width times values ++ row_with t more ∷ []
+rows_of-push width [] t values more h k =
+    let z : length values ≡ 0 = omega (arith, h) in
+    rw (nil_from_length values z, take_all width more (omega arith)) refl
+rows_of-push width (s ∷ times) t values more h k =
+    let n : length values ≡ width + length times * width = omega (arith, h) in
+    let a : take width (values ++ more) ≡ take width values = take-append-le width values more (omega (arith, n)) in
+    let b : drop width (values ++ more) ≡ drop width values ++ more = drop-append-le width values more (omega (arith, n)) in
+    let l : length (drop width values) ≡ length times * width = length-drop width values ∙ omega (arith, n) in
+    rw (a, b, rows_of-push width times t (drop width values) more l k) refl
+
+after-push : (width t : ℕ) (rows : List Row) (r : Row) → AreRowsAfter width t rows → last_time t rows < r.time → length r.values ≡ width
+    → AreRowsAfter width t (rows ++ r ∷ [])
+after-push width t [] r h l w = (l, w, tt)
+after-push width t (s ∷ rows) r h l w = (h.0, h.1, after-push width s.time rows r h.2 l w)
+
+-- a later row of the same width goes on
+pub sofar-push : (width : ℕ) (rows : List Row) (r : Row) → AreRowsSoFar width rows → (0 < length rows → last_time 0 rows < r.time) → length r.values ≡ width
+    → AreRowsSoFar width (rows ++ r ∷ [])
+sofar-push width [] r h l w = (w, tt)
+sofar-push width (s ∷ rows) r h l w = (h.0, after-push width s.time rows r h.1 (l (omega arith)) w)
+
+pub sofar-some : (width : ℕ) (rows : List Row) → AreRowsSoFar width rows → 0 < length rows → AreRows width rows
+sofar-some width [] h l = absurd (omega arith)
+sofar-some width (r ∷ rows) h l = h
+
+-- the row of a line has a small value
+pub row_small : {line : List ℕ} {t : ℕ} {v : ℤ} → IsRowLine line (row_with t (v ∷ [])) → nat_abs v ≤ 16777216
+row_small {v = v} h = let e : v ≡ h.value = ap (λ vs. get_or vs 0 (pos 0)) h.values in rw e h.small
+
+-- a row more in the lists of a table
+module _ (width : ℕ) (times times' : List ℕ) (values values' : List ℤ) (r : Row) (full : length values ≡ length times * width)
+    (fits : length r.values ≡ width) (in_times : times' ≡ times ++ r.time ∷ []) (in_values : values' ≡ values ++ r.values) where
+  pub push-full : length values' ≡ length times' * width
+  push-full =
+      let a : length values' ≡ length values + length r.values = ap length in_values ∙ length-append values r.values in
+      let b : length times' ≡ length times + 1 = ap length in_times ∙ length-append times (r.time ∷ []) in
+      let e : length times' * width ≡ length times * width + width = rw b (omega arith) in
+      omega (arith, a, e)
+
+  pub push-rows : rows_of width times' values' ≡ rows_of width times values ++ r ∷ []
+  push-rows = rw (in_times, in_values) (rows_of-push width times r.time values r.values full fits)
+
+  pub push-small : All (λ v. nat_abs v ≤ 16777216) values → All (λ v. nat_abs v ≤ 16777216) r.values → All (λ v. nat_abs v ≤ 16777216) values'
+  push-small h k = rw in_values (All-append (λ v. nat_abs v ≤ 16777216) values r.values h k)
+
+-- where a value stands
+pub place_within : (width k c n rows : ℕ) → k < rows → c < width → n ≡ rows * width → k * width + c < n
+place_within width k c n rows h l e =
+    omega (arith, mul-add-lt k width c rows h l, e)

@@ -1,0 +1,34 @@
+-- One more row.
+use Rattle.std.proofs.Common.{◌≡◌, ◌++◌, ◌∷◌, [], ◌∙◌, ap, sym, true, length, nat_abs, ◌≤◌, refl}
+use Rattle.std.specs.Prelude.{is_ok, All}
+use Rattle.stl_syntax.specs.Trace.{Trace}
+use Rattle.trace_reader.proofs.TableLemmas.{table_with, push-full, push-rows, push-small, sofar-push}
+use Rattle.trace_reader.proofs.trace.Trace.push.Goals as goal
+
+pub invariant_of-self-2 : goal.invariant_of-self-2
+invariant_of-self-2 c =
+    let a = c.self.inside in
+    let r = c.args.row.now in
+    let done : is_ok c.extend_from_slice.result ≡ true = sym c.map_err-2.ensures.variant ∙ ap is_ok c.in_ok-map_err-2.was in
+    let in_values : c.extend_from_slice.new.self.items ≡ a.values.items ++ r.values = (rw done at c.extend_from_slice.ensures.items) ∙ ap (λ vs. a.values.items ++ vs) c.values.ensures.value in
+    let in_times : c.push.new.self.items ≡ a.times.items ++ r.time ∷ [] = c.in-Ok.ensures.items ∙ rw (c.try_reserve.ensures.items, c.time.ensures) refl in
+    let fits : length r.values ≡ length a.header.columns = c.requires.width ∙ sym (ap (λ (t : Trace). length t.header.columns) c.self.view_is) in
+    let later = rw (← c.self.view_is) at c.requires.later in
+    let small : All (λ v. nat_abs v ≤ 16777216) r.values = rw c.values.ensures.value at c.values.ensures.small in
+    let rows = push-rows (length a.header.columns) a.times.items _ a.values.items _ r c.self.invariant.full fits in_times in_values in
+    record {
+      full = push-full (length a.header.columns) a.times.items _ a.values.items _ r c.self.invariant.full fits in_times in_values;
+      small = push-small (length a.header.columns) a.times.items _ a.values.items _ r c.self.invariant.full fits in_times in_values c.self.invariant.small small;
+      rising = rw rows (sofar-push _ _ r c.self.invariant.rising later fits);
+    }
+
+pub returns-clause-ok : goal.returns-clause-ok
+returns-clause-ok c =
+    let a = c.self.inside in
+    let r = c.args.row.now in
+    let done : is_ok c.extend_from_slice.result ≡ true = sym c.map_err-2.ensures.variant ∙ ap is_ok c.in_ok-map_err-2.was in
+    let in_values : c.extend_from_slice.new.self.items ≡ a.values.items ++ r.values = (rw done at c.extend_from_slice.ensures.items) ∙ ap (λ vs. a.values.items ++ vs) c.values.ensures.value in
+    let in_times : c.push.new.self.items ≡ a.times.items ++ r.time ∷ [] = c.in-Ok.ensures.items ∙ rw (c.try_reserve.ensures.items, c.time.ensures) refl in
+    let fits : length r.values ≡ length a.header.columns = c.requires.width ∙ sym (ap (λ (t : Trace). length t.header.columns) c.self.view_is) in
+    rw (← c.self.view_is)
+    (ap (table_with a.header) (push-rows (length a.header.columns) a.times.items _ a.values.items _ r c.self.invariant.full fits in_times in_values))

@@ -1,0 +1,19 @@
+-- Bytes that are cut into lines as they come.
+use Rattle.std.specs.Prelude.{◌≡◌, ℕ, suc, ◌+◌, ◌<◌, ◌≤◌, List, [], ◌∷◌, length}
+use Rattle.trace_reader.specs.declared.line.LineFault.{LineFault}
+use Rattle.trace_reader.specs.declared.line.LineFault.TheVariants.{TooMany, TooLong}
+
+-- how many lines were begun, and the bytes of the last one, where it is not whole
+pub record Cut : Type 0 where
+  pub begun : ℕ
+  pub line : List ℕ
+
+-- the lines begun once so many bytes more came: a byte begins a line where the line before it is whole
+abbrev pub begun_after : ℕ → List ℕ → ℕ → ℕ
+begun_after begun [] (suc more) = suc begun
+begun_after begun _ _ = begun
+
+-- a line of `size` bytes, the last of `begun`, breaks a limit
+abbrev pub IsLineFault : ℕ → ℕ → ℕ → LineFault → Type 0
+IsLineFault most begun size TooMany = most < begun
+IsLineFault most begun size TooLong = (begun ≤ most) × (4096 < size)

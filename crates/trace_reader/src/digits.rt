@@ -1,0 +1,33 @@
+ghost use Rattle.std.specs.Prelude.{◌≡◌, ◌≤◌, length, take, drop, min, true};
+ghost use Rattle.stl_syntax.specs.Characters.{is_digit, all, StopsAt, decimal_value};
+
+/// A number above all that a trace may have; a value that reached it is not told exactly.
+pub(crate) const BEYOND: u64 = 4_294_967_296;
+
+/// The digits that a text begins with: how many, and their value, which is told exactly below `BEYOND`.
+#[derive(Clone, Copy)]
+pub(crate) struct Digits {
+    pub(crate) len: usize,
+    pub(crate) value: u64,
+}
+
+pub(crate) fn leading_digits(text: &[u8]) -> Digits
+    ensures within { result.len ≤ length text.now }
+    ensures digits { all is_digit (take result.len text.now) ≡ true }
+    ensures stops { StopsAt is_digit (drop result.len text.now) }
+    ensures value { min result.value 4294967296 ≡ min (decimal_value 0 (take result.len text.now)) 4294967296 }
+{
+    let mut value = 0;
+    for (i, byte) in text.iter().enumerate() {
+        if *byte < b'0' || *byte > b'9' {
+            return Digits { len: i, value };
+        }
+        if value < BEYOND {
+            value = value * 10 + (*byte - b'0') as u64;
+        }
+    }
+    Digits {
+        len: text.len(),
+        value,
+    }
+}

@@ -1,0 +1,156 @@
+ghost use Rattle.std.specs.Prelude.{◌≡◌, ◌≤◌, [], length, vec_len, vec_capacity};
+ghost use Rattle.std.specs.String.{string_bytes, string_capacity};
+
+use frac128::Memory;
+use std::alloc::Global;
+use std::marker::Model;
+use stl_syntax::Scale;
+
+/// A column's name, and whether its values are steps.
+#[derive(Drop)]
+pub(crate) struct Label {
+    name: String,
+    step: bool,
+}
+
+/// The columns beside the time, and the ticks in which times and values are counted.
+#[derive(Drop)]
+pub struct Header {
+    alloc: Global,
+    labels: Vec<Label>,
+    scale: Scale,
+}
+
+impl Model for Header {
+    ghost use Rattle.stl_syntax.specs.Trace.{Header as Columns};
+
+    ghost Value = { Columns };
+
+    ghost use Rattle.trace_reader.specs.Labels.{columns_of};
+
+    ghost view = { columns_of };
+}
+
+impl Label {
+    ghost use Rattle.std.specs.Prelude.{◌≡◌, IfOk};
+    ghost use Rattle.trace_reader.specs.Labels.{column_of};
+
+    fn copy(&self, alloc: Global) -> Result<Label, Memory>
+        ensures { IfOk result (λ l. column_of l ≡ column_of self.now) }
+    {
+        Ok(Label {
+            name: String::from_str(alloc, self.name.as_str()).map_err(|_| Memory)?,
+            step: self.step,
+        })
+    }
+}
+
+impl Header {
+    ghost use Rattle.std.specs.Prelude.{◌≡◌, ◌<◌, length, IfOk, slice_index_or};
+    ghost use Rattle.stl_syntax.specs.Trace.{Column};
+
+    /// How many columns there are beside the time.
+    pub fn columns(&self) -> usize
+        ensures { result ≡ length self.now.columns }
+    {
+        self.labels.len()
+    }
+
+    /// The name of a column; columns are counted from 0.
+    pub fn name(&self, i: usize) -> &str
+        requires { i < length self.now.columns }
+        ensures { (d : Column) → result.now ≡ (slice_index_or self.now.columns i d).name }
+    {
+        let label = &self.labels[i];
+        label.name.as_str()
+    }
+
+    /// Whether a column's values are steps; else they are ramps.
+    pub fn step(&self, i: usize) -> bool
+        requires { i < length self.now.columns }
+        ensures { (d : Column) → result ≡ (slice_index_or self.now.columns i d).step }
+    {
+        let label = &self.labels[i];
+        label.step
+    }
+
+    /// The ticks in which times and values are counted.
+    pub fn scale(&self) -> Scale
+        ensures { result ≡ self.now.scale }
+    {
+        self.scale
+    }
+
+    /// The same header once more.
+    pub fn copy(&self) -> Result<Header, Memory>
+        ensures { IfOk result (λ h. h ≡ self.now) }
+    {
+        let mut labels = Vec::with_capacity(self.alloc, self.labels.len()).map_err(|_| Memory)?;
+        for label in &self.labels {
+            labels.push(label.copy(self.alloc)?).map_err(|_| Memory)?;
+        }
+        Ok(Header {
+            alloc: self.alloc,
+            labels,
+            scale: self.scale,
+        })
+    }
+}
+
+/// Memory for a header of one column.
+#[derive(Drop)]
+pub(crate) struct HeaderRoom {
+    alloc: Global,
+    name: String,
+    labels: Vec<Label>,
+    ghost name_room: { 64 ≤ string_capacity name },
+    ghost no_name: { string_bytes name ≡ [] },
+    ghost label_room: { 1 ≤ vec_capacity labels },
+    ghost no_labels: { vec_len labels ≡ 0 },
+}
+
+impl HeaderRoom {
+    ghost use Rattle.std.specs.Prelude.{List, ℕ};
+    ghost use Rattle.std.specs.Str.{IsAscii};
+    ghost use Rattle.trace_reader.specs.Plain.{header_of};
+
+    pub(crate) fn new(alloc: Global) -> Result<HeaderRoom, Memory> {
+        Ok(HeaderRoom {
+            alloc,
+            name: String::with_capacity(alloc, 64).map_err(|_| Memory)?,
+            labels: Vec::with_capacity(alloc, 1).map_err(|_| Memory)?,
+        })
+    }
+
+    /// A header of one ramp with that name, without taking memory.
+    pub(crate) fn header(self, name: &[u8]) -> Header
+        requires short { length name.now ≤ 64 }
+        requires ascii { IsAscii name.now }
+        ensures { result ≡ header_of name.now }
+    {
+        let HeaderRoom {
+            alloc,
+            name: mut text,
+            mut labels,
+        } = self;
+        match std::str::from_utf8(name) {
+            Ok(name) => match text.push_str(name) {
+                Ok(()) => {}
+                Err(_) => unreachable!(),
+            },
+            Err(_) => unreachable!(),
+        }
+        match labels.push(Label {
+            name: text,
+            step: false,
+        }) {
+            Ok(()) => {}
+            Err(_) => unreachable!(),
+        }
+        Header {
+            alloc,
+            labels,
+            scale: Scale { time: 0, value: 0 },
+        }
+    }
+}

@@ -1,0 +1,113 @@
+ghost use Rattle.std.specs.Prelude.{◌≡◌, ◌+◌, ◌^◌, ◌<◌, ◌≤◌, ◌++◌, [], ℕ, List, true, false, length, take, Contains, IfSome, IfOk, IfNone};
+ghost use Rattle.stl_syntax.specs.Trace.{Row as Values};
+ghost use Rattle.trace_reader.specs.Plain.{StandsFor, HasFault, HasNoFeed, IsPlain, IsEvent, IsNext, through_feed, rows_after, end_event};
+ghost use Rattle.trace_reader.specs.TraceText.{lines};
+
+use crate::line::Lines;
+use crate::plain_table::PlainTable;
+use crate::{Event, Limits, Took};
+use frac128::Memory;
+use memchr::memchr;
+use std::alloc::Global;
+
+/// The lines of a plain trace, and what they came to.
+#[derive(Drop)]
+pub(crate) struct PlainReading {
+    pub(crate) lines: Lines,
+    pub(crate) table: PlainTable,
+}
+
+impl PlainReading {
+    ghost use Rattle.trace_reader.specs.PlainReading.{state, IsWithin, IsStart};
+
+    /// Nothing read yet; all memory is reserved.
+    pub(crate) fn new(alloc: Global) -> Result<PlainReading, Memory>
+        ensures { IfOk result IsStart }
+    {
+        Ok(PlainReading {
+            lines: Lines::new(alloc)?,
+            table: PlainTable::new(alloc)?,
+        })
+    }
+
+    /// Takes the bytes up to and with the first LF, or all; None where they come to a fault.
+    pub(crate) fn take(&mut self, limits: &Limits, piece: &[u8]) -> Option<Took>
+        requires within { IsWithin limits.now self.old }
+        ensures bytes { IfSome result (λ t. take t.bytes piece.now ≡ through_feed piece.now) }
+    {
+        match memchr(b'\n', piece) {
+            None => {
+                self.hold(limits, piece)?;
+                Some(Took {
+                    bytes: piece.len(),
+                    event: Event::Nothing,
+                })
+            }
+            Some(at) => {
+                let event = self.finish(limits, &piece[..at])?;
+                Some(Took {
+                    bytes: at + 1,
+                    event,
+                })
+            }
+        }
+    }
+
+    /// Takes bytes of a line that goes on; None where it breaks a limit.
+    fn hold(&mut self, limits: &Limits, part: &[u8]) -> Option<()>
+        requires within { IsWithin limits.now self.old }
+        requires part { HasNoFeed part.now }
+    {
+        let size = part.len();
+        match self.lines.admit(limits.lines, size, size) {
+            Ok(()) => {
+                self.lines.add(part);
+                Some(())
+            }
+            Err(_) => None,
+        }
+    }
+
+    /// Takes the last bytes of a line before its LF; None where it is no line of the plain form.
+    fn finish(&mut self, limits: &Limits, part: &[u8]) -> Option<Event>
+        requires within { IsWithin limits.now self.old }
+        requires part { HasNoFeed part.now }
+        requires fits { length part.now + 1 < 2 ^ 64 }
+    {
+        let size = part.len();
+        match self.lines.admit(limits.lines, size + 1, size) {
+            Ok(()) => self.close(limits, part),
+            Err(_) => None,
+        }
+    }
+
+    /// Judges the line that these bytes make whole.
+    fn close(&mut self, limits: &Limits, part: &[u8]) -> Option<Event>
+        requires within { IsWithin limits.now self.old }
+        requires short { length self.old.lines.line + length part.now ≤ 4096 }
+    {
+        if self.lines.is_between() {
+            return self.table.judge(limits.rows, part);
+        }
+        self.lines.add(part);
+        let event = self.table.judge(limits.rows, self.lines.bytes());
+        self.lines.clear();
+        event
+    }
+
+    /// Judges the bytes of a last line, where there are any, and the whole; None where it comes to a fault.
+    pub(crate) fn last(&mut self, limits: &Limits) -> Option<Event>
+        requires within { IsWithin limits.now self.old }
+    {
+        if self.table.header().is_none() {
+            return None;
+        }
+        if !self.lines.is_between() {
+            return self.close(limits, &[]);
+        }
+        if self.table.count() == 0 {
+            return None;
+        }
+        Some(Event::Nothing)
+    }
+}

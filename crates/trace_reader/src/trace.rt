@@ -1,0 +1,91 @@
+use crate::{Header, Row};
+use frac128::Memory;
+use std::alloc::Global;
+use std::marker::Model;
+
+/// A header and its rows.
+#[derive(Drop)]
+pub struct Trace {
+    header: Header,
+    times: Vec<u32>,
+    values: Vec<i32>,
+}
+
+impl Model for Trace {
+    ghost use Rattle.stl_syntax.specs.Trace.{Trace as Table};
+
+    ghost Value = { Table };
+
+    ghost use Rattle.trace_reader.specs.Table.{table_of, IsTable};
+
+    ghost view = { table_of };
+
+    ghost invariant = { IsTable };
+}
+
+impl Trace {
+    ghost use Rattle.std.specs.Prelude.{◌≡◌, ◌<◌, ◌≤◌, ◌++◌, ◌∷◌, [], length, nat_abs, slice_index_or, OnOk, OnErr};
+    ghost use Rattle.stl_syntax.specs.Trace.{Row as Values, value, last_time, IsTrace};
+
+    /// A trace without rows.
+    pub fn new(alloc: Global, header: Header) -> Trace
+        ensures { result ≡ record { header = header; rows = [] } }
+    {
+        Trace {
+            header,
+            times: Vec::new(alloc),
+            values: Vec::new(alloc),
+        }
+    }
+
+    /// Adds a row with as many values as the header has columns, later than the rows before it.
+    pub fn push(&mut self, row: &Row) -> Result<(), Memory>
+        requires width { length row.now.values ≡ length self.old.header.columns }
+        requires later { 0 < length self.old.rows → last_time 0 self.old.rows < row.now.time }
+        ensures ok { OnOk result (self.new ≡ record self.old { rows = self.old.rows ++ row.now ∷ [] }) }
+        ensures err { OnErr result (self.new ≡ self.old) }
+    {
+        self.times.try_reserve(1).map_err(|_| Memory)?;
+        self.values
+            .extend_from_slice(row.values())
+            .map_err(|_| Memory)?;
+        match self.times.push(row.time()) {
+            Ok(()) => Ok(()),
+            Err(_) => unreachable!(),
+        }
+    }
+
+    /// How many rows there are.
+    pub fn rows(&self) -> usize
+        ensures count { result ≡ length self.now.rows }
+        ensures trace { 0 < result → IsTrace self.now }
+    {
+        self.times.len()
+    }
+
+    /// The time of a row; rows are counted from 0.
+    pub fn time(&self, r: usize) -> u32
+        requires { r < length self.now.rows }
+        ensures { (d : Values) → result ≡ (slice_index_or self.now.rows r d).time }
+    {
+        self.times[r]
+    }
+
+    /// The value of a column in a row; both are counted from 0.
+    pub fn value(&self, r: usize, c: usize) -> i32
+        requires row { r < length self.now.rows }
+        requires column { c < length self.now.header.columns }
+        ensures at { (d : Values) → result ≡ value (slice_index_or self.now.rows r d) c }
+        ensures small { nat_abs result ≤ 16777216 }
+    {
+        let at = r * self.header.columns() + c;
+        self.values[at]
+    }
+
+    /// The columns of the trace.
+    pub fn header(&self) -> &Header
+        ensures { result.now ≡ self.now.header }
+    {
+        &self.header
+    }
+}
