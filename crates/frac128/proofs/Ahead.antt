@@ -117,17 +117,22 @@ gap_small t t0 h k = omega (arith, ints, whole_small (2 ^ 34) t k)
 pub record FitParts (a b c d : ℤ) : Type 0 where
   pub left : FitsSigned w128 (a *ℤ b)
   pub right : FitsSigned w128 (c *ℤ d)
-  pub all : FitsSigned w128 (a *ℤ b -ℤ c *ℤ d)
-  pub small : unsigned_abs (a *ℤ b -ℤ c *ℤ d) ≤ unsigned_abs a * unsigned_abs b + unsigned_abs c * unsigned_abs d
+  pub less : FitsSigned w128 (a *ℤ b -ℤ c *ℤ d)
+  pub more : FitsSigned w128 (a *ℤ b +ℤ c *ℤ d)
+  pub less_small : unsigned_abs (a *ℤ b -ℤ c *ℤ d) ≤ unsigned_abs a * unsigned_abs b + unsigned_abs c * unsigned_abs d
+  pub more_small : unsigned_abs (a *ℤ b +ℤ c *ℤ d) ≤ unsigned_abs a * unsigned_abs b + unsigned_abs c * unsigned_abs d
 
 pub parts_fit : (a b c d : ℤ) → unsigned_abs a * unsigned_abs b + unsigned_abs c * unsigned_abs d < 2 ^ 127 → FitParts a b c d
 parts_fit a b c d h =
-    let small : unsigned_abs (a *ℤ b -ℤ c *ℤ d) ≤ unsigned_abs a * unsigned_abs b + unsigned_abs c * unsigned_abs d = omega (arith, unsigned_abs-mul a b, unsigned_abs-mul c d, abs_sub (a *ℤ b) (c *ℤ d)) in
+    let less : unsigned_abs (a *ℤ b -ℤ c *ℤ d) ≤ unsigned_abs a * unsigned_abs b + unsigned_abs c * unsigned_abs d = omega (arith, unsigned_abs-mul a b, unsigned_abs-mul c d, abs_sub (a *ℤ b) (c *ℤ d)) in
+    let more : unsigned_abs (a *ℤ b +ℤ c *ℤ d) ≤ unsigned_abs a * unsigned_abs b + unsigned_abs c * unsigned_abs d = omega (arith, unsigned_abs-mul a b, unsigned_abs-mul c d, abs_add (a *ℤ b) (c *ℤ d)) in
     record {
       left = fits_signed_from_abs w128 (a *ℤ b) (omega (arith, unsigned_abs-mul a b));
       right = fits_signed_from_abs w128 (c *ℤ d) (omega (arith, unsigned_abs-mul c d));
-      all = fits_signed_from_abs w128 (a *ℤ b -ℤ c *ℤ d) (omega arith);
-      small = small;
+      less = fits_signed_from_abs w128 (a *ℤ b -ℤ c *ℤ d) (omega arith);
+      more = fits_signed_from_abs w128 (a *ℤ b +ℤ c *ℤ d) (omega arith);
+      less_small = less;
+      more_small = more;
     }
   where
     abs_sub : (x y : ℤ) → unsigned_abs (x -ℤ y) ≤ unsigned_abs x + unsigned_abs y

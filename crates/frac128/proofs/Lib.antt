@@ -1,9 +1,10 @@
-pub mod Reduce
 pub mod Making
 pub mod Rests
 pub mod Ratios
 pub mod Ahead
 pub mod Moves
-pub mod Coprime
-pub mod Crossing
+pub mod Gaps
+pub mod RampGaps
+pub mod Meets
 pub mod Wholes
+pub mod Fractions

@@ -1,9 +1,8 @@
 -- A ramp that is negated, moved or turned over in time.
 use Rattle.std.proofs.Common.{◌≡◌, ℕ, ℤ, pos, negsuc, zero, suc, ◌-ℤ◌, neg_ℤ, ◌+◌, ◌*◌, ◌<◌, arith, refl, ap}
 use Rattle.rational.specs.Rational.{Rational, part_above, part_below, whole, add, negate, subtract, ◌≈◌}
-use Rattle.rational.specs.Line.{at}
+use Rattle.rational.specs.Line.{ramp_line, at}
 use Rattle.rational.proofs.Mixed.{parts}
-use Rattle.frac128.specs.Line.{ramp_line}
 
 above_neg : (z : ℤ) → part_above (neg_ℤ z) ≡ part_below z
 above_neg (pos zero) = refl

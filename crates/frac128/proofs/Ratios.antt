@@ -1,12 +1,13 @@
 -- Numbers split into a whole part and a rest, and their order.
-use Rattle.std.proofs.Common.{◌≡◌, ℕ, ℤ, pos, neg_ℤ, ◌-ℤ◌, ap, negsuc, ◌+ℤ◌, ◌*ℤ◌, ◌<ℤ◌, ◌*◌, ◌<◌, arith, refl}
+use Rattle.std.proofs.Common.{◌≡◌, ℕ, ℤ, pos, ap, negsuc, ◌+ℤ◌, ◌*ℤ◌, ◌<ℤ◌, ◌*◌, ◌<◌, arith, refl}
 use Rattle.std.specs.Int.RustNames.{unsigned_abs}
 use Rattle.std.specs.declared.cmp.Ordering.{Ordering}
-use Rattle.std.specs.declared.cmp.Ordering.TheVariants.{Less, Equal, Greater}
+use Rattle.std.specs.declared.cmp.Ordering.TheVariants.{Equal}
 use Rattle.std.specs.Ordering.{nat_cmp, int_cmp}
 use Rattle.std.proofs.lemmas.Int.{ints}
-use Rattle.rational.specs.Rational.{Rational, ◌≈◌, IsOrder, mixed, fraction}
-use Rattle.rational.proofs.Order.{same_sym, same_trans, order}
+use Rattle.rational.specs.Rational.{◌≈◌, IsOrder, mixed, fraction}
+use Rattle.rational.proofs.Order.{same_trans}
+use Rattle.rational.proofs.Compare.{order_same}
 use borrow.Author.Differences.{up, down}
 use Rattle.frac128.specs.declared.frac.Frac.{Frac}
 use Rattle.frac128.specs.Value.{value}
@@ -30,11 +31,6 @@ split_value {n} {d} {w} {r} m =
     let p = abs_pos d m.positive in
     rw (fraction-is n d p m.positive) (floor_value n d w r (unsigned_abs d) p (is_pos d m.positive) m.sum)
 
-pub order_same : {a a' b b' : Rational} (o : Ordering) → a ≈ a' → b ≈ b' → IsOrder o a b → IsOrder o a' b'
-order_same Less e f h = search order
-order_same Equal e f h = same_trans (same_sym e) (same_trans h f)
-order_same Greater e f h = search order
-
 pub order_by_rests : {n d w m e v : ℤ} {r s : ℕ} (o : Ordering) → Split n d w r → Split m e v s → int_cmp w v ≡ Equal → o ≡ nat_cmp (r * unsigned_abs e) (s * unsigned_abs d) → IsOrder o (fraction n d) (fraction m e)
 order_by_rests {n} {d} {w} {m} {e} {v} {r} {s} o h k i j =
     order_same o (split_value h) (split_value k) (order_by_rest o w v r (unsigned_abs d) s (unsigned_abs e) (abs_pos d h.positive) (abs_pos e k.positive) i j)
@@ -44,7 +40,7 @@ order_by_wholes {n} {d} {w} {m} {e} {v} {r} {s} o h k i j =
     order_same o (split_value h) (split_value k) (order_by_whole o w v r (unsigned_abs d) s (unsigned_abs e) (abs_pos d h.positive) (abs_pos e k.positive) i j h.below k.below)
 
 -- a fraction by its top
-pub top_value : (f : Frac) (top den : ℤ) → top ≡ f.whole *ℤ pos f.den -ℤ neg_ℤ (pos 1) *ℤ pos f.rest → den ≡ pos f.den → value f ≈ fraction top den
+pub top_value : (f : Frac) (top den : ℤ) → top ≡ f.whole *ℤ pos f.den +ℤ pos 1 *ℤ pos f.rest → den ≡ pos f.den → value f ≈ fraction top den
 top_value f top den h e =
     let split : Split top den f.whole f.rest = record {
       positive = let p = f.positive in omega (arith, ints, ap (λ z. up z) e, ap (λ z. down z) e);

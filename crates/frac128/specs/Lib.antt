@@ -2,4 +2,5 @@ pub mod Lowest
 pub mod Value
 pub mod Line
 pub mod Sizes
+pub mod Gap
 pub mod Spans

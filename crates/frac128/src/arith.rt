@@ -24,6 +24,15 @@ pub(crate) fn determinant(a: i128, b: i128, c: i128, d: i128) -> i128
     a * b - c * d
 }
 
+/// `a * b + c * d`.
+pub(crate) fn sum_of_products(a: i128, b: i128, c: i128, d: i128) -> i128
+    requires { unsigned_abs a * unsigned_abs b + unsigned_abs c * unsigned_abs d < 2 ^ 127 }
+    ensures value { result ≡ a *ℤ b +ℤ c *ℤ d }
+    ensures small { unsigned_abs result ≤ unsigned_abs a * unsigned_abs b + unsigned_abs c * unsigned_abs d }
+{
+    a * b + c * d
+}
+
 /// The greatest common divisor, by Euclid.
 pub(crate) fn gcd(a: u128, b: u128) -> u128
     ensures { IsGcd a b result }

@@ -1,25 +1,25 @@
 //! A number as a whole part and a rest in lowest terms.
-ghost use Rattle.std.specs.Prelude.{◌≡◌, ◌+◌, ◌*◌, ◌<◌, ◌≤◌, ◌^◌, pos, neg_ℤ, ◌+ℤ◌, ◌-ℤ◌, ◌*ℤ◌, ◌<ℤ◌, IfOk, MatchResult};
+ghost use Rattle.std.specs.Prelude.{◌≡◌, ◌+◌, ◌*◌, ◌<◌, ◌≤◌, ◌^◌, pos, ◌+ℤ◌, ◌*ℤ◌, ◌<ℤ◌, IfOk, MatchResult};
 ghost use Rattle.std.specs.Int.{w64};
 ghost use Rattle.std.specs.Int.RustNames.{FitsSigned, unsigned_abs};
 ghost use Rattle.rational.specs.Rational.{IsOrder, fraction};
-ghost use Rattle.frac128.specs.Lowest.{IsLowest, IsReducedDen};
+ghost use Rattle.frac128.specs.Lowest.{HasDenominator, IsLowest, IsWide};
 
-use crate::arith::{determinant, gcd, split};
+use crate::arith::{gcd, split, sum_of_products};
 use std::cmp::Ordering;
 
 /// Want of memory.
 #[derive(Clone, Copy, Debug, PartialEq, Eq)]
 pub struct Memory;
 
-/// A denominator in lowest terms that is 2^60 or more.
-#[derive(Clone, Copy)]
+/// A number whose denominator in lowest terms, `den`, is 2^60 or more, so that no `Frac` holds it.
+#[derive(Clone, Copy, Debug, PartialEq, Eq)]
 pub struct WideFrac {
     pub den: u128,
 }
 
-/// A number: the whole part `whole`, and `rest / den` in lowest terms.
-#[derive(Clone, Copy)]
+/// A rational number: the whole part `whole`, and above it `rest / den` in lowest terms, with `den` below 2^60.
+#[derive(Clone, Copy, Debug)]
 pub struct Frac {
     whole: i64,
     rest: u64,
@@ -27,32 +27,39 @@ pub struct Frac {
     pub ghost positive: { 0 < den },
     pub ghost below: { rest < den },
     pub ghost small: { den < 2 ^ 60 },
-    pub ghost lowest: { IsLowest rest den },
+    pub ghost lowest: { IsLowest (pos rest) den },
 }
 
 impl Frac {
+    ghost use Rattle.frac128.specs.Value.{denominator, rest_part, value, whole_part};
+    ghost use Rattle.rational.specs.Rational.{FitsFloor, add, subtract, whole, ◌≈◌};
+
+    /// The floor of the number.
     pub fn whole(&self) -> i64
-        ensures { result ≡ self.now.whole }
+        ensures { result ≡ whole_part self.now }
     {
         self.whole
     }
 
+    /// What lies above the floor, times the denominator.
     pub fn rest(&self) -> u64
-        ensures { result ≡ self.now.rest }
+        ensures { result ≡ rest_part self.now }
     {
         self.rest
     }
 
+    /// The denominator in lowest terms.
     pub fn den(&self) -> u64
-        ensures { result ≡ self.now.den }
+        ensures { result ≡ denominator self.now }
     {
         self.den
     }
 
     /// The whole number `n`.
     pub fn of(n: i64) -> Frac
-        ensures whole { result.whole ≡ n }
-        ensures rest { result.rest ≡ 0 }
+        ensures whole { whole_part result ≡ n }
+        ensures rest { rest_part result ≡ 0 }
+        ensures value { value result ≈ whole n }
     {
         Frac {
             whole: n,
@@ -60,11 +67,29 @@ impl Frac {
             den: 1,
         }
     }
-}
 
-impl Frac {
-    ghost use Rattle.frac128.specs.Value.{value};
-    ghost use Rattle.rational.specs.Rational.{FitsFloor, add, subtract, whole, ◌≈◌};
+    /// The number `num / den`. Err exactly where its denominator in lowest terms is 2^60 or more, which it carries.
+    pub fn make(num: i128, den: i128) -> Result<Frac, WideFrac>
+        requires positive { pos 0 <ℤ den }
+        requires floor { FitsFloor w64 (fraction num den) }
+        ensures ok { IfOk result (λ f. value f ≈ fraction num den) }
+        ensures wide { MatchResult result
+            (λ _. ¬ (IsWide (fraction num den)))
+            (λ e. HasDenominator (fraction num den) e.den × (2 ^ 60 ≤ e.den)) }
+    {
+        let (whole, rest) = split(num, den);
+        let all = den.unsigned_abs();
+        let common = gcd(rest, all);
+        let reduced = all / common;
+        if reduced >= 1 << 60 {
+            return Err(WideFrac { den: reduced });
+        }
+        Ok(Frac {
+            whole: whole as i64,
+            rest: (rest / common) as u64,
+            den: reduced as u64,
+        })
+    }
 
     /// The order of the two numbers.
     pub fn cmp(&self, other: &Frac) -> Ordering
@@ -82,13 +107,13 @@ impl Frac {
 
     /// The number times its denominator.
     pub(crate) fn top(&self) -> i128
-        ensures value { result ≡ self.now.whole *ℤ pos self.now.den -ℤ neg_ℤ (pos 1) *ℤ pos self.now.rest }
+        ensures value { result ≡ self.now.whole *ℤ pos self.now.den +ℤ pos 1 *ℤ pos self.now.rest }
         ensures small { unsigned_abs result ≤ unsigned_abs self.now.whole * self.now.den + self.now.rest }
     {
-        determinant(
+        sum_of_products(
             i128::from(self.whole),
             i128::from(self.den),
-            -1,
+            1,
             i128::from(self.rest),
         )
     }
@@ -97,7 +122,7 @@ impl Frac {
     pub fn shift(&self, by: i64) -> Frac
         requires { FitsSigned w64 (self.now.whole +ℤ by) }
         ensures value { value result ≈ add (value self.now) (whole by) }
-        ensures den { result.den ≡ self.now.den }
+        ensures den { denominator result ≡ denominator self.now }
     {
         Frac {
             whole: self.whole + by,
@@ -110,7 +135,7 @@ impl Frac {
     pub fn mirror(&self, about: i64) -> Frac
         requires { FitsFloor w64 (subtract (whole about) (value self.now)) }
         ensures value { value result ≈ subtract (whole about) (value self.now) }
-        ensures den { result.den ≡ self.now.den }
+        ensures den { denominator result ≡ denominator self.now }
     {
         if self.rest == 0 {
             return Frac {
@@ -124,29 +149,6 @@ impl Frac {
             rest: self.den - self.rest,
             den: self.den,
         }
-    }
-
-    /// The number `num / den`, unless its denominator in lowest terms is 2^60 or more.
-    pub fn make(num: i128, den: i128) -> Result<Frac, WideFrac>
-        requires positive { pos 0 <ℤ den }
-        requires floor { FitsFloor w64 (fraction num den) }
-        ensures ok { IfOk result (λ f. value f ≈ fraction num den) }
-        ensures den { MatchResult result
-            (λ f. IsReducedDen num (unsigned_abs den) f.den)
-            (λ e. IsReducedDen num (unsigned_abs den) e.den × (2 ^ 60 ≤ e.den)) }
-    {
-        let (whole, rest) = split(num, den);
-        let all = den.unsigned_abs();
-        let common = gcd(rest, all);
-        let reduced = all / common;
-        if reduced >= 1 << 60 {
-            return Err(WideFrac { den: reduced });
-        }
-        Ok(Frac {
-            whole: whole as i64,
-            rest: (rest / common) as u64,
-            den: reduced as u64,
-        })
     }
 }
 

@@ -1,17 +1,24 @@
 //! A line through a point of time and value.
-ghost use Rattle.std.specs.Prelude.{◌≡◌, ◌≢◌, ◌+◌, ◌*◌, ◌<◌, ◌≤◌, ◌^◌, pos, ◌+ℤ◌, ◌-ℤ◌, ◌*ℤ◌, MatchOption};
+ghost use Rattle.std.specs.Prelude.{◌≡◌, ◌+◌, ◌*◌, ◌<◌, ◌≤◌, ◌^◌, ◌↔◌, pos, ◌+ℤ◌, ◌-ℤ◌, ◌*ℤ◌, IsTrue, IfOk, MatchResult};
 ghost use Rattle.std.specs.Ordering.{MatchOrdering};
 ghost use Rattle.std.specs.Int.RustNames.{unsigned_abs};
 ghost use Rattle.rational.specs.Rational.{Rational, fraction, add, negate, subtract, whole};
-ghost use Rattle.frac128.specs.Sizes.{AreSmall, IsQuotient};
+ghost use Rattle.frac128.specs.Lowest.{HasDenominator, IsWide};
+ghost use Rattle.frac128.specs.Sizes.{AreSmall};
+
+mod crossing;
+mod gap;
 
 use crate::arith::determinant;
-use crate::frac::Frac;
-use crate::ratio::{Ratio, cmp_ratio};
+use crate::frac::{Frac, WideFrac};
+use crate::ratio::Ratio;
+use gap::Gap;
 use std::cmp::Ordering;
 
 /// The line that at `t0` has the value `v0`, and rises by `rise` in the time `run`.
-#[derive(Clone, Copy)]
+///
+/// `==` says that all four numbers agree; `same` that the values do.
+#[derive(Clone, Copy, Debug, PartialEq, Eq)]
 pub struct Ramp {
     t0: i64,
     v0: i64,
@@ -24,28 +31,30 @@ pub struct Ramp {
 }
 
 impl Ramp {
-    ghost use Rattle.frac128.specs.Value.{value};
-    ghost use Rattle.frac128.specs.Line.{base, line};
+    ghost use Rattle.frac128.specs.Value.{denominator, value};
+    ghost use Rattle.frac128.specs.Line.{base, base_value, line, rise_in_run, run_time};
     ghost use Rattle.rational.specs.Line.{Falls, Level, Rises, at};
     ghost use Rattle.rational.specs.Rational.{IsOrder, IsWithin, ◌≈◌};
 
+    /// The ramp of these four numbers.
     pub fn make(t0: i64, v0: i64, rise: i64, run: u32) -> Ramp
         requires run { 0 < run }
         requires t0 { unsigned_abs t0 ≤ 2 ^ 34 }
         requires v0 { unsigned_abs v0 ≤ 2 ^ 31 }
         requires rise { unsigned_abs rise ≤ 2 ^ 31 }
-        ensures t0 { result.t0 ≡ t0 }
-        ensures v0 { result.v0 ≡ v0 }
-        ensures rise { result.rise ≡ rise }
-        ensures run { result.run ≡ run }
+        ensures t0 { base result ≡ t0 }
+        ensures v0 { base_value result ≡ v0 }
+        ensures rise { rise_in_run result ≡ rise }
+        ensures run { run_time result ≡ run }
     {
         Ramp { t0, v0, rise, run }
     }
 
-    /// The value at `t`.
+    /// The value at `t`, over `run` times the denominator of `t`.
     pub fn at(&self, t: &Frac) -> Ratio
         requires { IsWithin (2 ^ 34) (value t.now) }
-        ensures { fraction result.num result.den ≈ at (line self.now) (value t.now) }
+        ensures value { fraction result.num result.den ≈ at (line self.now) (value t.now) }
+        ensures den { result.den ≡ pos (run_time self.now * denominator t.now) }
     {
         let gap = i128::from(t.whole()) - i128::from(self.t0);
         value_ahead(
@@ -56,6 +65,18 @@ impl Ramp {
             i128::from(t.rest()),
             i128::from(t.den()),
         )
+    }
+
+    /// The value at `t` as a `Frac`. Err exactly where its denominator in lowest terms is 2^60 or more, which it carries.
+    pub fn fix(&self, t: &Frac) -> Result<Frac, WideFrac>
+        requires time { IsWithin (2 ^ 34) (value t.now) }
+        requires value { IsWithin (2 ^ 31) (at (line self.now) (value t.now)) }
+        ensures ok { IfOk result (λ f. value f ≈ at (line self.now) (value t.now)) }
+        ensures wide { MatchResult result
+            (λ _. ¬ (IsWide (at (line self.now) (value t.now))))
+            (λ e. HasDenominator (at (line self.now) (value t.now)) e.den × (2 ^ 60 ≤ e.den)) }
+    {
+        self.at(t).frac()
     }
 
     /// Minus the value, at every time.
@@ -106,14 +127,19 @@ impl Ramp {
         self.rise.cmp(&0)
     }
 
+    /// Whether both have one value at every time.
+    pub fn same(&self, other: &Ramp) -> bool
+        ensures { IsTrue result ↔ ((t : Rational) → at (line self.now) t ≈ at (line other.now) t) }
+    {
+        Gap::of(self, other).is_zero()
+    }
+
     /// The order of both values at `t`.
     pub fn cmp_ramp(&self, other: &Ramp, t: &Frac) -> Ordering
         requires { IsWithin (2 ^ 34) (value t.now) }
         ensures { IsOrder result (at (line self.now) (value t.now)) (at (line other.now) (value t.now)) }
     {
-        let left = self.at(t);
-        let right = other.at(t);
-        cmp_ratio(left.num, left.den, right.num, right.den)
+        Gap::of(self, other).sign_at(t)
     }
 
     /// The order of the value at `t` and `c`.
@@ -135,57 +161,6 @@ impl Ramp {
             i128::from(self.rise),
             i128::from(self.t0),
         )
-    }
-
-    /// The time at which both have one value, unless they rise alike.
-    pub fn cross_ramp(&self, other: &Ramp) -> Option<Ratio>
-        ensures { MatchOption result
-            (self.now.rise *ℤ pos other.now.run ≡ other.now.rise *ℤ pos self.now.run)
-            (λ q. (self.now.rise *ℤ pos other.now.run ≢ other.now.rise *ℤ pos self.now.run)
-            × (at (line self.now) (fraction q.num q.den) ≈ at (line other.now) (fraction q.num q.den))) }
-    {
-        let run = i128::from(self.run);
-        let other_run = i128::from(other.run);
-        let gap = determinant(other.offset(), run, self.offset(), other_run);
-        let climb = determinant(
-            i128::from(self.rise),
-            other_run,
-            i128::from(other.rise),
-            run,
-        );
-        quotient(gap, climb)
-    }
-
-    /// The time at which the value is `c`, unless the ramp is level.
-    pub fn cross_const(&self, c: &Frac) -> Option<Ratio>
-        requires { IsWithin (2 ^ 32) (value c.now) }
-        ensures { MatchOption result
-            (self.now.rise ≡ pos 0)
-            (λ q. (self.now.rise ≢ pos 0)
-            × (at (line self.now) (fraction q.num q.den) ≈ value c.now)) }
-    {
-        let den = i128::from(c.den());
-        let num = determinant(c.top(), i128::from(self.run), self.offset(), den);
-        let climb = determinant(i128::from(self.rise), den, 0, 0);
-        quotient(num, climb)
-    }
-}
-
-/// `num / den`, unless `den` is 0.
-fn quotient(num: i128, den: i128) -> Option<Ratio>
-    requires num { unsigned_abs num < 2 ^ 127 }
-    requires den { unsigned_abs den < 2 ^ 127 }
-    ensures { MatchOption result (den ≡ pos 0) (λ q. IsQuotient num den q.num q.den) }
-{
-    if den == 0 {
-        None
-    } else if den > 0 {
-        Some(Ratio { num, den })
-    } else {
-        Some(Ratio {
-            num: -num,
-            den: -den,
-        })
     }
 }
 

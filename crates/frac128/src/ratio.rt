@@ -1,9 +1,10 @@
 //! A number as a quotient that is not reduced.
-ghost use Rattle.std.specs.Prelude.{◌≡◌, ◌<◌, ◌≤◌, ◌^◌, pos, ◌<ℤ◌, IfOk, MatchResult};
+ghost use Rattle.std.specs.Prelude.{◌≡◌, ◌<◌, ◌≤◌, ◌^◌, pos, ◌<ℤ◌, IfOk, MatchOption, MatchResult};
 ghost use Rattle.std.specs.Int.{w64};
-ghost use Rattle.std.specs.Int.RustNames.{unsigned_abs};
 ghost use Rattle.rational.specs.Rational.{IsOrder, fraction};
-ghost use Rattle.frac128.specs.Lowest.{IsReducedDen};
+ghost use Rattle.std.specs.Int.RustNames.{unsigned_abs};
+ghost use Rattle.frac128.specs.Lowest.{HasDenominator, IsWide};
+ghost use Rattle.frac128.specs.Sizes.{IsQuotient};
 
 use crate::arith::{cmp_rests, split};
 use crate::frac::{Frac, WideFrac};
@@ -21,15 +22,33 @@ impl Ratio {
     ghost use Rattle.frac128.specs.Value.{value};
     ghost use Rattle.rational.specs.Rational.{FitsFloor, ◌≈◌};
 
-    /// The number as a `Frac`, unless its denominator in lowest terms is 2^60 or more.
+    /// The number as a `Frac`. Err exactly where its denominator in lowest terms is 2^60 or more, which it carries.
     pub fn frac(&self) -> Result<Frac, WideFrac>
         requires { FitsFloor w64 (fraction self.now.num self.now.den) }
         ensures ok { IfOk result (λ f. value f ≈ fraction self.now.num self.now.den) }
-        ensures den { MatchResult result
-            (λ f. IsReducedDen self.now.num (unsigned_abs self.now.den) f.den)
-            (λ e. IsReducedDen self.now.num (unsigned_abs self.now.den) e.den × (2 ^ 60 ≤ e.den)) }
+        ensures wide { MatchResult result
+            (λ _. ¬ (IsWide (fraction self.now.num self.now.den)))
+            (λ e. HasDenominator (fraction self.now.num self.now.den) e.den × (2 ^ 60 ≤ e.den)) }
     {
         Frac::make(self.num, self.den)
+    }
+
+    /// `num / den`, unless `den` is 0.
+    pub(crate) fn quotient(num: i128, den: i128) -> Option<Ratio>
+        requires num { unsigned_abs num < 2 ^ 127 }
+        requires den { unsigned_abs den < 2 ^ 127 }
+        ensures { MatchOption result (den ≡ pos 0) (λ q. IsQuotient num den q.num q.den) }
+    {
+        if den == 0 {
+            None
+        } else if den > 0 {
+            Some(Ratio { num, den })
+        } else {
+            Some(Ratio {
+                num: -num,
+                den: -den,
+            })
+        }
     }
 
     /// The order of the two numbers.

@@ -11,3 +11,5 @@ pub mod ExtendedLemmas
 pub mod WindowLemmas
 pub mod AffineLemmas
 pub mod LevelLemmas
+pub mod Lowest
+pub mod Meetings

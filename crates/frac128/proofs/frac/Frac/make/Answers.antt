@@ -1,14 +1,10 @@
 use Rattle.std.proofs.Common.{rules, to_z-of_z, refl, arith, w64}
 use Rattle.std.proofs.lemmas.Int.{ints}
+use Rattle.rational.specs.Rational.{fraction}
 use Rattle.rational.proofs.Order.{same_trans}
 use Rattle.rational.proofs.Mixed.{same_by_rest}
-use Rattle.frac128.proofs.Making.{Making, common_pos, reduced_pos, reduced_below, reduced_lowest, reduced_den, reduced_value, whole_fits}
+use Rattle.frac128.proofs.Making.{Making, common_pos, reduced_pos, reduced_below, reduced_lowest, reduced_den, reduced_value, not_wide, whole_fits}
 use Rattle.frac128.proofs.frac.Frac.make.Goals as goal
-
-pub returns-then-reduced-clause-den : goal.returns-then-reduced-clause-den
-returns-then-reduced-clause-den c =
-    let m : Making c.args.num c.args.den c.split-whole.result.0 c.split-whole.result.1 c.unsigned_abs-all.result c.gcd-common.result = search (rules, to_z-of_z) in
-    (reduced_den m, omega arith)
 
 pub overflow_cast-result : goal.overflow_cast-result
 overflow_cast-result c =
@@ -42,7 +38,12 @@ returns-clause-ok c =
     let fits = whole_fits w64 m c.requires.floor in
     same_trans (same_by_rest _ c.split-whole.result.0 _ _ _ _ _ (reduced_pos m) (omega (arith, ints)) refl) (reduced_value m (reduced_pos m))
 
-pub returns-clause-den : goal.returns-clause-den
-returns-clause-den c =
+pub returns-clause-wide : goal.returns-clause-wide
+returns-clause-wide c =
     let m : Making c.args.num c.args.den c.split-whole.result.0 c.split-whole.result.1 c.unsigned_abs-all.result c.gcd-common.result = search (rules, to_z-of_z) in
-    reduced_den m
+    not_wide (fraction c.args.num c.args.den) _ (reduced_den m) (omega arith)
+
+pub returns-then-reduced-clause-wide : goal.returns-then-reduced-clause-wide
+returns-then-reduced-clause-wide c =
+    let m : Making c.args.num c.args.den c.split-whole.result.0 c.split-whole.result.1 c.unsigned_abs-all.result c.gcd-common.result = search (rules, to_z-of_z) in
+    (reduced_den m, omega arith)

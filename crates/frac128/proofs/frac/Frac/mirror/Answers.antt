@@ -2,7 +2,7 @@ use Rattle.std.proofs.Common.{subst, pos, ◌-ℤ◌, ◌-◌, arith, FitsSigned
 use Rattle.std.proofs.lemmas.Int.{ints}
 use Rattle.rational.proofs.Mixed.{mixed_mirror, mixed_mirror_whole, mirror_fits_whole, mirror_fits_rest}
 use Rattle.frac128.specs.Lowest.{IsLowest}
-use Rattle.frac128.proofs.Reduce.{lowest_mirror}
+use Rattle.rational.proofs.Lowest.{lowest_mirror}
 use Rattle.frac128.proofs.frac.Frac.mirror.Goals as goal
 
 pub overflow_cast-result : goal.overflow_cast-result
@@ -30,7 +30,7 @@ returns-clause-value c =
     mixed_mirror _ _ _ _ _ _ _ _ (omega (arith, ints)) (omega arith)
 
 pub invariant_of-result-clause-lowest : goal.invariant_of-result-clause-lowest
-invariant_of-result-clause-lowest c = let f = c.args.self.now in subst (λ r. IsLowest r f.den) c.if-self-eq0.true f.lowest
+invariant_of-result-clause-lowest c = let f = c.args.self.now in subst (λ r. IsLowest (pos r) f.den) c.if-self-eq0.true f.lowest
 
 pub invariant_of-result-2-clause-lowest : goal.invariant_of-result-2-clause-lowest
 invariant_of-result-2-clause-lowest c = let f = c.args.self.now in lowest_mirror f.rest f.den (f.den - f.rest) (omega arith) f.lowest

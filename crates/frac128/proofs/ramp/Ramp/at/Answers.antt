@@ -11,8 +11,8 @@ value_ahead-requires c =
     let g = gap_small t f.t0 f.small_t0 c.requires in
     omega (arith, ints)
 
-pub returns : goal.returns
-returns c =
+pub returns-clause-value : goal.returns-clause-value
+returns-clause-value c =
     let f = c.args.self.now in
     let t = c.args.t.now in
     let g = gap_small t f.t0 f.small_t0 c.requires in
@@ -26,3 +26,11 @@ returns c =
     let rest : to_z w128 (of_z w128 c.from-6.result) ≡ pos t.rest = omega (arith, ints) in
     let den : to_z w128 (of_z w128 c.from-7.result) ≡ pos t.den = omega (arith, ints) in
     ahead_fraction f t _ _ (rw (run, den) at c.value_ahead.ensures.den) (rw (v0, run, den, rise, gap, rest) at c.value_ahead.ensures.num)
+
+pub returns-clause-den : goal.returns-clause-den
+returns-clause-den c =
+    let f = c.args.self.now in
+    let t = c.args.t.now in
+    let run : to_z w128 (of_z w128 c.from-5.result) ≡ pos f.run = omega (arith, ints) in
+    let den : to_z w128 (of_z w128 c.from-7.result) ≡ pos t.den = omega (arith, ints) in
+    rw (run, den) at c.value_ahead.ensures.den

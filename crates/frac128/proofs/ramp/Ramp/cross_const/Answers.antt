@@ -1,9 +1,9 @@
-use Rattle.std.proofs.Common.{rules, to_z-of_z, ◌≡◌, pos, ◌*ℤ◌, ◌≤◌, ◌^◌, arith, to_z, of_z, mul-le-mul}
+use Rattle.std.proofs.Common.{rules, to_z-of_z, ◌≡◌, pos, ◌≤◌, ◌^◌, arith, to_z, of_z, mul-le-mul}
 use Rattle.std.specs.Int.RustNames.{unsigned_abs}
 use Rattle.std.proofs.lemmas.Int.{ints}
 use mir.Syntax.{w128}
 use Rattle.frac128.proofs.Ahead.{whole_small}
-use Rattle.frac128.proofs.Crossing.{Reaching, reaching, top_is, minus_zero}
+use Rattle.frac128.proofs.RampGaps.{ConstantGap, reaching, reaching_den}
 use Rattle.frac128.proofs.ramp.Ramp.cross_const.Goals as goal
 
 pub determinant-num-requires : goal.determinant-num-requires
@@ -40,8 +40,8 @@ quotient-requires-clause-den c =
     let den : unsigned_abs (to_z w128 (of_z w128 c.from-den.result)) ≤ 2 ^ 60 = omega (arith, ints) in
     omega (arith, ints, mul-le-mul rise den, c.determinant-climb.ensures.small)
 
-pub returns : goal.returns
-returns c =
+pub returns-clause-meets : goal.returns-clause-meets
+returns-clause-meets c =
     let f = c.args.self.now in
     let k = c.args.c.now in
     let rise : to_z w128 (of_z w128 c.from-2.result) ≡ f.rise = omega (arith, ints) in
@@ -52,10 +52,22 @@ returns c =
     let num : to_z w128 (of_z w128 c.determinant-num.result) ≡ c.determinant-num.result = search (rules, to_z-of_z) in
     let climb : to_z w128 (of_z w128 c.determinant-climb.result) ≡ c.determinant-climb.result = search (rules, to_z-of_z) in
     let climb_is = rw (rise, den) at c.determinant-climb.ensures.value in
-    let r : Reaching f k c.top.result c.offset.result c.determinant-climb.result c.determinant-num.result = record {
-      first = top_is c.top.result k.whole k.den k.rest c.top.ensures.value;
+    let top_is = c.top.ensures.value in
+    let r : ConstantGap f k c.top.result c.offset.result c.determinant-num.result c.determinant-climb.result = record {
+      first = omega (arith, ints);
       second = c.offset.ensures.value;
-      third = minus_zero c.determinant-climb.result (f.rise *ℤ pos k.den) climb_is;
-      fourth = rw (top, run, offset, den) at c.determinant-num.ensures.value;
+      num_is = rw (top, run, offset, den) at c.determinant-num.ensures.value;
+      climb_is = omega (arith, ints);
     } in
     reaching f k _ _ _ _ _ r (simp (num, climb) at c.quotient.ensures)
+
+pub returns-clause-den : goal.returns-clause-den
+returns-clause-den c =
+    let f = c.args.self.now in
+    let k = c.args.c.now in
+    let rise : to_z w128 (of_z w128 c.from-2.result) ≡ f.rise = omega (arith, ints) in
+    let den : to_z w128 (of_z w128 c.from-den.result) ≡ pos k.den = omega (arith, ints) in
+    let num : to_z w128 (of_z w128 c.determinant-num.result) ≡ c.determinant-num.result = search (rules, to_z-of_z) in
+    let climb : to_z w128 (of_z w128 c.determinant-climb.result) ≡ c.determinant-climb.result = search (rules, to_z-of_z) in
+    let climb_is = rw (rise, den) at c.determinant-climb.ensures.value in
+    reaching_den f k c.determinant-num.result c.determinant-climb.result c.quotient.result (omega (arith, ints)) (simp (num, climb) at c.quotient.ensures)

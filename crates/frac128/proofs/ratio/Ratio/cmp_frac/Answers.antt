@@ -2,7 +2,8 @@ use Rattle.std.proofs.Common.{refl, ◌≡◌, pos, arith, to_z, of_z, rules, to
 use Rattle.std.proofs.lemmas.Int.{ints}
 use mir.Syntax.{w128}
 use Rattle.rational.proofs.Order.{same_refl, same_sym}
-use Rattle.frac128.proofs.Ratios.{order_same, top_value}
+use Rattle.rational.proofs.Compare.{order_same}
+use Rattle.frac128.proofs.Ratios.{top_value}
 use Rattle.frac128.proofs.ratio.Ratio.cmp_frac.Goals as goal
 
 pub returns : goal.returns

@@ -1,0 +1,33 @@
+-- Each number has one `Frac`.
+use Rattle.std.proofs.Common.{◌≡◌, ◌*◌, ◌≤◌, ◌^◌, ap, ◌∙◌, Result, Ok, Err, IfOk, MatchResult}
+use Rattle.std.proofs.Math.Nat.{eq_of_mul-eq-mul_right}
+use Rattle.rational.specs.Rational.{Rational, ◌≈◌}
+use Rattle.rational.proofs.Order.{same_sym, same_trans}
+use Rattle.rational.specs.Time.{HasDenominator}
+use Rattle.rational.proofs.Mixed.{one_whole, one_rest}
+use Rattle.rational.proofs.Lowest.{denominator_of_mixed, denominator_same, denominator_unique}
+use Rattle.frac128.specs.declared.frac.Frac.{Frac}
+use Rattle.frac128.specs.declared.frac.WideFrac.{WideFrac}
+use Rattle.frac128.specs.Lowest.{IsWide}
+use Rattle.frac128.specs.Value.{value, whole_part, rest_part, denominator}
+
+-- the denominator of a `Frac` is the one in lowest terms
+pub HasDenominator-value : (f : Frac) → HasDenominator (value f) (denominator f)
+HasDenominator-value f = denominator_of_mixed f.whole f.rest f.den f.positive f.lowest
+
+-- two fractions of one value are one
+pub one_fraction : (f g : Frac) → value f ≈ value g → (whole_part f ≡ whole_part g) × (rest_part f ≡ rest_part g) × (denominator f ≡ denominator g)
+one_fraction f g h =
+    let w = one_whole f.whole g.whole f.rest f.den g.rest g.den f.positive g.positive f.below g.below h in
+    let r = one_rest f.whole g.whole f.rest f.den g.rest g.den f.positive g.positive w h in
+    let d = denominator_unique f.den g.den h (HasDenominator-value f) (HasDenominator-value g) in
+    (w, eq_of_mul-eq-mul_right g.den g.positive f.rest g.rest (r ∙ ap (λ n. g.rest * n) d), d)
+
+-- an answer for one pair is an answer for each pair of the number
+pub ok_same : (r : Result Frac WideFrac) {a b : Rational} → a ≈ b → IfOk r (λ f. value f ≈ a) → IfOk r (λ f. value f ≈ b)
+ok_same (Ok f) e h = same_trans h e
+ok_same (Err w) e h = tt
+
+pub wide_same : (r : Result Frac WideFrac) {a b : Rational} → a ≈ b → MatchResult r (λ _. ¬ (IsWide a)) (λ w. HasDenominator a w.den × (2 ^ 60 ≤ w.den)) → MatchResult r (λ _. ¬ (IsWide b)) (λ w. HasDenominator b w.den × (2 ^ 60 ≤ w.den))
+wide_same (Ok f) e h = λ w. h (w.0, denominator_same w.0 (same_sym e) w.1, w.2)
+wide_same (Err w) e h = (denominator_same w.den e h.0, h.1)

@@ -1,0 +1,35 @@
+-- What the orders of two lines at two times say of a crossing between them.
+use Rattle.std.proofs.Common.{ℕ, IsTrue, false, ◌≤◌, ◌^◌, lit<}
+use Rattle.std.specs.declared.cmp.Ordering.{Ordering}
+use mir.Syntax.{w64}
+use Rattle.rational.specs.Rational.{Rational, ◌<ʳ◌, ◌≈◌, IsOrder, IsWithin, FitsFloor}
+use Rattle.rational.specs.Line.{Line, at, MeetAt, CrossAt, AreOpposite}
+use Rattle.rational.specs.Time.{HasDenominator}
+use Rattle.rational.proofs.Order.{same_sym, le_of_lt}
+use Rattle.rational.proofs.Mixed.{fits_of_within, within_between}
+use Rattle.rational.proofs.Meetings.{not_turned, turned, cross_same}
+
+pub refuted : {P : Type 0} → (P → IsTrue false) → ¬ P
+refuted h p = let e = h p in absurd (cc)
+
+pub record Ends (f g : Line) (l r : Rational) (before after : Ordering) : Type 0 where
+  pub from : IsWithin (2 ^ 34) l
+  pub to : IsWithin (2 ^ 34) r
+  pub order : l <ʳ r
+  pub at_start : IsOrder before (at f l) (at g l)
+  pub at_end : IsOrder after (at f r) (at g r)
+
+pub uncrossed : {f g : Line} {l r : Rational} {before after : Ordering} → Ends f g l r before after → ¬ (AreOpposite before after) → (t : Rational) → ¬ (CrossAt f g l r t)
+uncrossed {f} {g} {l} {r} {before} {after} e n t = not_turned before after f g l r t e.order n e.at_start e.at_end
+
+crossing : {f g : Line} {l r : Rational} {before after : Ordering} (q : Rational) → Ends f g l r before after → AreOpposite before after → MeetAt f g q → CrossAt f g l r q
+crossing {f} {g} {l} {r} {before} {after} q e o m = turned before after f g l r q e.order o e.at_start e.at_end m
+
+pub crossing_fits : {f g : Line} {l r : Rational} {before after : Ordering} (q : Rational) → Ends f g l r before after → AreOpposite before after → MeetAt f g q → FitsFloor w64 q
+crossing_fits q e o m = let c = crossing q e o m in fits_of_within w64 (2 ^ 34) (lit< tt) (within_between (2 ^ 34) e.from e.to (le_of_lt c.after) (le_of_lt c.before))
+
+pub crossing_made : {f g : Line} {l r t : Rational} {before after : Ordering} (q : Rational) → Ends f g l r before after → AreOpposite before after → MeetAt f g q → t ≈ q → CrossAt f g l r t
+crossing_made {f} {g} q e o m s = cross_same f g (same_sym s) (crossing q e o m)
+
+pub crossing_wide : {f g : Line} {l r : Rational} {before after : Ordering} (q : Rational) (d : ℕ) → Ends f g l r before after → AreOpposite before after → MeetAt f g q → HasDenominator q d × (2 ^ 60 ≤ d) → (t : Rational) × CrossAt f g l r t × HasDenominator t d × (2 ^ 60 ≤ d)
+crossing_wide q d e o m w = (q, crossing q e o m, w.0, w.1)

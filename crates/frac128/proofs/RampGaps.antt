@@ -1,0 +1,85 @@
+-- The gap of two ramps, and of a ramp and a constant.
+use Rattle.std.proofs.Common.{◌≡◌, ℤ, pos, ◌+ℤ◌, ◌-ℤ◌, ◌*ℤ◌, neg_ℤ, ◌+◌, ◌*◌, arith, inl, inr, ap, ◌∙◌, Option, Some, None, IfSome, MatchOption}
+use Rattle.std.specs.Int.RustNames.{unsigned_abs}
+use Rattle.std.proofs.lemmas.Int.{ints, unsigned_abs-mul}
+use Rattle.std.proofs.Math.Nat.{eq_of_mul-eq-mul_right}
+use Rattle.rational.specs.Rational.{part_above, part_below, fraction}
+use Rattle.rational.specs.Line.{Level, gap_line, constant, AreParallel, MeetAt}
+use Rattle.rational.proofs.Mixed.{parts}
+use Rattle.frac128.specs.declared.frac.Frac.{Frac}
+use Rattle.frac128.specs.declared.ramp.Ramp.{Ramp}
+use Rattle.frac128.specs.declared.ratio.Ratio.{Ratio}
+use Rattle.frac128.specs.Sizes.{IsQuotient}
+use Rattle.frac128.specs.Value.{value}
+use Rattle.frac128.specs.Line.{line}
+use Rattle.frac128.specs.Gap.{IsGap}
+use Rattle.frac128.proofs.Ahead.{mul_parts}
+use Rattle.frac128.proofs.Gaps.{gap_from_parts, meeting}
+
+-- the value at 0, times the run
+pub offset_parts : (f : Ramp) (o : ℤ) → o ≡ f.v0 *ℤ pos f.run -ℤ f.rise *ℤ f.t0 → part_above o + (line f).base_down ≡ part_below o + (line f).base_up
+offset_parts f o h = omega (arith, mul_parts f.rise f.t0, first, second)
+  where
+    first : part_above (f.v0 *ℤ pos f.run) + part_below f.v0 * f.run ≡ part_below (f.v0 *ℤ pos f.run) + part_above f.v0 * f.run
+    first = omega (arith, parts)
+
+    second : part_above o + part_below (f.v0 *ℤ pos f.run) + part_above (f.rise *ℤ f.t0) ≡ part_below o + part_above (f.v0 *ℤ pos f.run) + part_below (f.rise *ℤ f.t0)
+    second = omega (arith, parts)
+
+pub record RampGap (f g : Ramp) (of og base climb : ℤ) : Type 0 where
+  pub first : of ≡ f.v0 *ℤ pos f.run -ℤ f.rise *ℤ f.t0
+  pub second : og ≡ g.v0 *ℤ pos g.run -ℤ g.rise *ℤ g.t0
+  pub base_is : base ≡ of *ℤ pos g.run -ℤ og *ℤ pos f.run
+  pub climb_is : climb ≡ f.rise *ℤ pos g.run -ℤ g.rise *ℤ pos f.run
+
+pub gap_of_ramps : (f g : Ramp) (of og base climb : ℤ) → RampGap f g of og base climb → IsGap (gap_line (line f) (line g)) base climb
+gap_of_ramps f g of og base climb h =
+    gap_from_parts (gap_line (line f) (line g)) base climb
+    (omega (arith, difference, ap (λ n. n * g.run) (offset_parts f of h.first), ap (λ n. n * f.run) (offset_parts g og h.second)))
+    (let e = h.climb_is in omega (arith, parts))
+  where
+    difference : part_above base + part_below of * g.run + part_above og * f.run ≡ part_below base + part_above of * g.run + part_below og * f.run
+    difference = let e = h.base_is in omega (arith, parts)
+
+pub record ConstantGap (f : Ramp) (c : Frac) (top offset num climb : ℤ) : Type 0 where
+  pub first : top ≡ c.whole *ℤ pos c.den +ℤ pos c.rest
+  pub second : offset ≡ f.v0 *ℤ pos f.run -ℤ f.rise *ℤ f.t0
+  pub num_is : num ≡ top *ℤ pos f.run -ℤ offset *ℤ pos c.den
+  pub climb_is : climb ≡ f.rise *ℤ pos c.den
+
+pub gap_of_constant : (f : Ramp) (c : Frac) (top offset num climb : ℤ) → ConstantGap f c top offset num climb → IsGap (gap_line (line f) (constant (value c))) (neg_ℤ num) climb
+gap_of_constant f c top offset num climb h =
+    gap_from_parts (gap_line (line f) (constant (value c))) (neg_ℤ num) climb
+    (omega (arith, difference, ap (λ n. n * f.run) first, ap (λ n. n * c.den) (offset_parts f offset h.second)))
+    (let e = h.climb_is in omega (arith, parts))
+  where
+    first : part_above top + part_below c.whole * c.den ≡ part_below top + part_above c.whole * c.den + c.rest
+    first = let e = h.first in omega (arith, parts)
+
+    difference : part_above (neg_ℤ num) + part_above top * f.run + part_below offset * c.den ≡ part_below (neg_ℤ num) + part_below top * f.run + part_above offset * c.den
+    difference = let e = h.num_is in omega (arith, parts)
+
+-- against a constant a ramp is parallel where it is level
+level_of_parallel : (f : Ramp) (c : Frac) → AreParallel (line f) (constant (value c)) → Level (line f)
+level_of_parallel f c h = record { level = eq_of_mul-eq-mul_right c.den c.positive _ _ (let k = h.level in omega arith) }
+
+pub parallel_of_level : (f : Ramp) (c : Frac) → Level (line f) → AreParallel (line f) (constant (value c))
+parallel_of_level f c h = record { level = omega (arith, ap (λ n. n * c.den) h.level) }
+
+pub reaching : (f : Ramp) (c : Frac) (top offset num climb : ℤ) (o : Option Ratio) → ConstantGap f c top offset num climb → MatchOption o (climb ≡ pos 0) (λ q. IsQuotient num climb q.num q.den) → MatchOption o (Level (line f)) (λ q. ¬ (Level (line f)) × MeetAt (line f) (constant (value c)) (fraction q.num q.den))
+reaching f c top offset num climb None h k = level_of_parallel f c (meeting (line f) (constant (value c)) (neg_ℤ num) climb None (gap_of_constant f c top offset num climb h) k)
+reaching f c top offset num climb (Some q) h k =
+    let turned : IsQuotient (neg_ℤ (neg_ℤ num)) climb q.num q.den = rw neg_neg k in
+    let m = meeting (line f) (constant (value c)) (neg_ℤ num) climb (Some q) (gap_of_constant f c top offset num climb h) turned in
+    (λ l. m.0 (parallel_of_level f c l), m.1)
+  where
+    neg_neg : (z : ℤ) → neg_ℤ (neg_ℤ z) ≡ z
+    neg_neg z = omega (arith, ints)
+
+pub reaching_den : (f : Ramp) (c : Frac) (num climb : ℤ) (o : Option Ratio) → climb ≡ f.rise *ℤ pos c.den → MatchOption o (climb ≡ pos 0) (λ q. IsQuotient num climb q.num q.den) → IfSome o (λ q. unsigned_abs q.den ≡ unsigned_abs f.rise * c.den)
+reaching_den f c num climb None e k = tt
+reaching_den f c num climb (Some q) e (p, inl k) = ap unsigned_abs (k.1 ∙ e) ∙ unsigned_abs-mul f.rise (pos c.den)
+reaching_den f c num climb (Some q) e (p, inr k) = ap unsigned_abs k.1 ∙ abs_neg climb ∙ ap unsigned_abs e ∙ unsigned_abs-mul f.rise (pos c.den)
+  where
+    abs_neg : (z : ℤ) → unsigned_abs (neg_ℤ z) ≡ unsigned_abs z
+    abs_neg z = omega (arith, ints)
