@@ -1,9 +1,8 @@
 //! Numbers of ticks as fractions of units, in lowest terms.
 ghost use Rattle.std.specs.Prelude.{◌≡◌, ◌≢◌, ◌<◌, ◌≤◌, [], ◌++◌, true, if◌then◌else◌, codes, OnOk, OnErr};
 ghost use Rattle.std.specs.Int.{IsGcd};
-ghost use Rattle.rational.specs.Time.{ratio, ◌≈◌};
-ghost use Rattle.frac128.specs.Value.{value};
-ghost use Rattle.frac128.specs.Lowest.{IsLowest};
+ghost use Rattle.rational.specs.Time.{IsLowest, ratio, ◌≈◌};
+ghost use Rattle.frac128.specs.Value.{value, denominator};
 ghost use Rattle.stl_syntax.specs.Texts.{fraction_text};
 ghost use Rattle.report.specs.Appended.{GrewInPart};
 ghost use Rattle.report.specs.Numbers.{signed, IsInUnits};
@@ -45,8 +44,8 @@ fn common_with(size: u128, tens: u64) -> u64
 
 /// The number times its denominator, by its sign and its size.
 fn top(t: &Frac) -> (bool, u128)
-    ensures value { value t.now ≈ ratio (signed result.0 result.1) t.now.den t.now.positive }
-    ensures lowest { IsLowest result.1 t.now.den }
+    ensures lowest { IsLowest (signed result.0 result.1) (denominator t.now) }
+    ensures value { value t.now ≈ ratio (signed result.0 result.1) (denominator t.now) t.now.positive }
     ensures negative { result.0 ≡ true → 0 < result.1 }
 {
     let whole = u128::from(t.whole().unsigned_abs()) * u128::from(t.den());

@@ -1,7 +1,7 @@
 use Rattle.std.proofs.Common.{◌%◌, subst}
 use Rattle.std.specs.Int.{IsGcd}
 use Rattle.std.proofs.lemmas.Nat.Gcd.{IsGcd-from_mod}
-use Rattle.frac128.proofs.Reduce.{gcd_pos}
+use Rattle.rational.proofs.Lowest.{gcd_pos}
 use Rattle.report.proofs.number.common_with.Goals as goal
 
 -- the common divisors of the remainder are those of the size

@@ -16,4 +16,4 @@ returns c =
     let rest : c.from-4.result ≡ 10 ^ c.args.digits / c.common_with-common.result = c.from-4.ensures ∙ ap (λ n. n / c.common_with-common.result) tens in
     rw (c.from-2.ensures, den, rest)
     (is_in_units c.args.digits _ c.top-negative.result.0 c.top-negative.result.1 t.den c.common_with-common.result t.positive
-    c.top-negative.ensures.value c.top-negative.ensures.lowest c.top-negative.ensures.negative common c.common_with-common.ensures.some)
+    c.top-negative.ensures.value c.top-negative.ensures.lowest c.top-negative.ensures.negative common)

@@ -1,8 +1,9 @@
-use Rattle.std.proofs.Common.{◌≡◌, ◌+◌, ◌-◌, ◌*◌, ◌<◌, ◌≤◌, arith, subst, mul-le-mul_right}
-use Rattle.frac128.specs.Lowest.{IsLowest}
+use Rattle.std.proofs.Common.{◌≡◌, ◌+◌, ◌-◌, ◌*◌, ◌<◌, ◌≤◌, pos, ◌+ℤ◌, ◌*ℤ◌, arith, subst, mul-le-mul_right}
 use Rattle.std.proofs.lemmas.Int.{ints}
 use Rattle.std.specs.Int.RustNames.{unsigned_abs}
-use Rattle.report.proofs.Tops.{mixed_below, lowest_more, lowest_less}
+use Rattle.rational.specs.Time.{IsLowest}
+use Rattle.rational.proofs.Lowest.{lowest_add}
+use Rattle.report.proofs.Tops.{mixed_below, sum_below, sum_above}
 use Rattle.report.proofs.number.top.Goals as goal
 
 -- the size and the rest make up the whole parts
@@ -25,12 +26,14 @@ returns-then-whole-lt0-clause-value c =
 pub returns-then-whole-lt0-clause-lowest : goal.returns-then-whole-lt0-clause-lowest
 returns-then-whole-lt0-clause-lowest c =
     let t = c.args.t.now in
-    lowest_less (unsigned_abs t.whole) t.rest t.den _ (parts_add c) t.lowest
+    subst (λ n. IsLowest n t.den) (sum_below t.whole t.rest t.den _ (omega (arith, ints)) (parts_add c)) (lowest_add t.whole t.rest t.den t.lowest)
 
 pub returns-else-whole-lt0-clause-lowest : goal.returns-else-whole-lt0-clause-lowest
 returns-else-whole-lt0-clause-lowest c =
     let t = c.args.t.now in
+    let whole : c.from.result ≡ unsigned_abs t.whole = omega (arith, ints, c.unsigned_abs.ensures.value) in
     let den : c.from-2.result ≡ t.den = omega arith in
     let rest : c.from-rest.result ≡ t.rest = omega arith in
-    let e : c.from.result * t.den + t.rest ≡ c.from.result * c.from-2.result + c.from-rest.result = cc in
-    subst (λ n. IsLowest n t.den) e (lowest_more c.from.result t.rest t.den t.lowest)
+    let size : c.from.result * c.from-2.result + c.from-rest.result ≡ unsigned_abs t.whole * t.den + t.rest = cc in
+    let e : t.whole *ℤ pos t.den +ℤ pos t.rest ≡ pos (c.from.result * c.from-2.result + c.from-rest.result) = sum_above t.whole t.rest t.den _ (omega (arith, ints)) size in
+    subst (λ n. IsLowest n t.den) e (lowest_add t.whole t.rest t.den t.lowest)
