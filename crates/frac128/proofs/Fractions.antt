@@ -1,10 +1,14 @@
 -- Each number has one `Frac`.
-use Rattle.std.proofs.Common.{◌≡◌, ◌*◌, ◌≤◌, ◌^◌, ap, ◌∙◌, Result, Ok, Err, IfOk, MatchResult}
+use Rattle.std.proofs.Common.{◌≡◌, ◌*◌, ◌≤◌, ◌^◌, ap, sym, refl, ◌∙◌, Bool, true, false, Result, Ok, Err, IfOk, MatchResult}
+use Rattle.std.specs.declared.cmp.Ordering.{Ordering}
+use Rattle.std.specs.declared.cmp.Ordering.TheVariants.{Less, Equal, Greater}
+use Rattle.std.specs.Ordering.{on, eq_by_cmp, is_eq}
 use Rattle.std.proofs.Math.Nat.{eq_of_mul-eq-mul_right}
-use Rattle.rational.specs.Rational.{Rational, ◌≈◌}
+use Rattle.rational.specs.Rational.{Rational, ◌≈◌, IsOrder, rational_cmp}
 use Rattle.rational.proofs.Order.{same_sym, same_trans}
 use Rattle.rational.specs.Time.{HasDenominator}
-use Rattle.rational.proofs.Mixed.{one_whole, one_rest}
+use Rattle.rational.proofs.Mixed.{one_whole, one_rest, same_by_rest}
+use Rattle.rational.proofs.Compare.{cmp_from_order, order_from_cmp}
 use Rattle.rational.proofs.Lowest.{denominator_of_mixed, denominator_same, denominator_unique}
 use Rattle.frac128.specs.declared.frac.Frac.{Frac}
 use Rattle.frac128.specs.declared.frac.WideFrac.{WideFrac}
@@ -31,3 +35,16 @@ ok_same (Err w) e h = tt
 pub wide_same : (r : Result Frac WideFrac) {a b : Rational} → a ≈ b → MatchResult r (λ _. ¬ (IsWide a)) (λ w. HasDenominator a w.den × (2 ^ 60 ≤ w.den)) → MatchResult r (λ _. ¬ (IsWide b)) (λ w. HasDenominator b w.den × (2 ^ 60 ≤ w.den))
 wide_same (Ok f) e h = λ w. h (w.0, denominator_same w.0 (same_sym e) w.1, w.2)
 wide_same (Err w) e h = (denominator_same w.den e h.0, h.1)
+
+same_value : (f g : Frac) → (whole_part f ≡ whole_part g) × (rest_part f ≡ rest_part g) × (denominator f ≡ denominator g) → value f ≈ value g
+same_value f g h = same_by_rest f.whole g.whole f.rest f.den g.rest g.den f.positive g.positive h.0 (ap (λ n. n * g.den) h.1 ∙ ap (λ n. g.rest * n) (sym h.2))
+
+-- whether two fractions are equal is whether their fields are
+pub eq_is : (f g : Frac) (b : Bool) → (b ≡ true → (whole_part f ≡ whole_part g) × (rest_part f ≡ rest_part g) × (denominator f ≡ denominator g)) → ((whole_part f ≡ whole_part g) × (rest_part f ≡ rest_part g) × (denominator f ≡ denominator g) → b ≡ true) → b ≡ eq_by_cmp (on value rational_cmp) f g
+eq_is f g true h k = ap is_eq (cmp_from_order Equal (value f) (value g) (same_value f g (h refl)))
+eq_is f g false h k = not_equal (rational_cmp (value f) (value g)) (order_from_cmp (rational_cmp (value f) (value g)) (value f) (value g) refl)
+  where
+    not_equal : (o : Ordering) → IsOrder o (value f) (value g) → false ≡ is_eq o
+    not_equal Less e = refl
+    not_equal Equal e = k (one_fraction f g e)
+    not_equal Greater e = refl

@@ -69,7 +69,7 @@ parallel_of_level f c h = record { level = omega (arith, ap (λ n. n * c.den) h.
 pub reaching : (f : Ramp) (c : Frac) (top offset num climb : ℤ) (o : Option Ratio) → ConstantGap f c top offset num climb → MatchOption o (climb ≡ pos 0) (λ q. IsQuotient num climb q.num q.den) → MatchOption o (Level (line f)) (λ q. ¬ (Level (line f)) × MeetAt (line f) (constant (value c)) (fraction q.num q.den))
 reaching f c top offset num climb None h k = level_of_parallel f c (meeting (line f) (constant (value c)) (neg_ℤ num) climb None (gap_of_constant f c top offset num climb h) k)
 reaching f c top offset num climb (Some q) h k =
-    let turned : IsQuotient (neg_ℤ (neg_ℤ num)) climb q.num q.den = rw neg_neg k in
+    let turned : IsQuotient (neg_ℤ (neg_ℤ num)) climb q.num q.den = rw (neg_neg num) k in
     let m = meeting (line f) (constant (value c)) (neg_ℤ num) climb (Some q) (gap_of_constant f c top offset num climb h) turned in
     (λ l. m.0 (parallel_of_level f c l), m.1)
   where

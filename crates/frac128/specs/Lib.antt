@@ -4,3 +4,4 @@ pub mod Line
 pub mod Sizes
 pub mod Gap
 pub mod Spans
+pub mod Ratios

@@ -165,7 +165,7 @@ impl PartialEq for Frac {
     ghost laws = { partial_equiv_from_equiv (eq_by_cmp_equiv (on_total value rational_cmp_total)) };
 
     fn eq(&self, other: &Frac) -> bool {
-        Frac::cmp(self, other) == Ordering::Equal
+        self.whole == other.whole && self.rest == other.rest && self.den == other.den
     }
 }
 
@@ -212,7 +212,7 @@ impl PartialOrd for Frac {
 
     ghost partial_cmp = { as_partial_cmp (on value rational_cmp) };
 
-    ghost laws = { partial_order_from_own_ties (Prim.search (comparing, rules, rational_cmp_total)) (Prim.search (comparing, rules, rational_cmp_total)) };
+    ghost laws = { partial_order_from_own_ties (Prim.search (comparing, rules, rational_cmp_total)) (Prim.search (comparing, rules)) };
 
     fn partial_cmp(&self, other: &Frac) -> Option<Ordering> {
         Some(Frac::cmp(self, other))

@@ -10,8 +10,8 @@ use crate::arith::{cmp_rests, split};
 use crate::frac::{Frac, WideFrac};
 use std::cmp::Ordering;
 
-/// A number as `num / den`, not reduced.
-#[derive(Clone, Copy)]
+/// A number as `num / den`, not reduced. `==` and the order are those of the numbers.
+#[derive(Clone, Copy, Debug)]
 pub struct Ratio {
     pub num: i128,
     pub den: i128,
@@ -20,15 +20,16 @@ pub struct Ratio {
 
 impl Ratio {
     ghost use Rattle.frac128.specs.Value.{value};
+    ghost use Rattle.frac128.specs.Ratios.{number};
     ghost use Rattle.rational.specs.Rational.{FitsFloor, ◌≈◌};
 
     /// The number as a `Frac`. Err exactly where its denominator in lowest terms is 2^60 or more, which it carries.
     pub fn frac(&self) -> Result<Frac, WideFrac>
-        requires { FitsFloor w64 (fraction self.now.num self.now.den) }
-        ensures ok { IfOk result (λ f. value f ≈ fraction self.now.num self.now.den) }
+        requires { FitsFloor w64 (number self.now) }
+        ensures ok { IfOk result (λ f. value f ≈ number self.now) }
         ensures wide { MatchResult result
-            (λ _. ¬ (IsWide (fraction self.now.num self.now.den)))
-            (λ e. HasDenominator (fraction self.now.num self.now.den) e.den × (2 ^ 60 ≤ e.den)) }
+            (λ _. ¬ (IsWide (number self.now)))
+            (λ e. HasDenominator (number self.now) e.den × (2 ^ 60 ≤ e.den)) }
     {
         Frac::make(self.num, self.den)
     }
@@ -52,10 +53,84 @@ impl Ratio {
     }
 
     /// The order of the two numbers.
+    pub fn cmp(&self, other: &Ratio) -> Ordering
+        ensures { IsOrder result (number self.now) (number other.now) }
+    {
+        cmp_ratio(self.num, self.den, other.num, other.den)
+    }
+
+    /// The order of the two numbers.
     pub fn cmp_frac(&self, other: &Frac) -> Ordering
-        ensures { IsOrder result (fraction self.now.num self.now.den) (value other.now) }
+        ensures { IsOrder result (number self.now) (value other.now) }
     {
         cmp_ratio(self.num, self.den, other.top(), i128::from(other.den()))
+    }
+}
+
+impl PartialEq for Ratio {
+    ghost use Rattle.std.specs.Ordering.{on, eq_by_cmp};
+    ghost use Rattle.std.proofs.lemmas.Cmp.{on_total, eq_by_cmp_equiv};
+    ghost use Rattle.std.specs.Cmp.{partial_equiv_from_equiv};
+    ghost use Rattle.rational.specs.Rational.{rational_cmp};
+    ghost use Rattle.rational.proofs.Compare.{rational_cmp_total};
+    ghost use Rattle.frac128.specs.Ratios.{number};
+
+    ghost eq = { eq_by_cmp (on number rational_cmp) };
+
+    ghost laws = { partial_equiv_from_equiv (eq_by_cmp_equiv (on_total number rational_cmp_total)) };
+
+    fn eq(&self, other: &Ratio) -> bool {
+        Ratio::cmp(self, other) == Ordering::Equal
+    }
+}
+
+impl Eq for Ratio {
+    ghost use Rattle.std.specs.Ordering.{on};
+    ghost use Rattle.std.proofs.lemmas.Cmp.{on_total, eq_by_cmp_equiv};
+    ghost use Rattle.rational.proofs.Compare.{rational_cmp_total};
+    ghost use Rattle.frac128.specs.Ratios.{number};
+
+    ghost laws = { eq_by_cmp_equiv (on_total number rational_cmp_total) };
+}
+
+impl Ord for Ratio {
+    ghost use Rattle.std.proofs.Common.{rules};
+    ghost use Rattle.std.specs.Ordering.{on};
+    ghost use Rattle.std.specs.Cmp.Rules.{comparing};
+    ghost use Rattle.std.proofs.lemmas.Cmp.{on_total};
+    ghost use Rattle.rational.specs.Rational.{rational_cmp};
+    ghost use Rattle.rational.proofs.Compare.{rational_cmp_total};
+    ghost use Rattle.frac128.specs.Ratios.{number};
+
+    ghost cmp = { on number rational_cmp };
+
+    ghost total = { on_total number rational_cmp_total };
+
+    ghost matches_partial_cmp = { Prim.search (comparing, rules) };
+
+    ghost matches_eq = { Prim.search (comparing, rules) };
+
+    fn cmp(&self, other: &Ratio) -> Ordering {
+        Ratio::cmp(self, other)
+    }
+}
+
+impl PartialOrd for Ratio {
+    ghost use Rattle.std.proofs.Common.{rules};
+    ghost use Rattle.std.specs.Ordering.{on, as_partial_cmp};
+    ghost use Rattle.std.specs.Cmp.{partial_order_from_own_ties};
+    ghost use Rattle.std.specs.Cmp.Rules.{comparing};
+    ghost use Rattle.std.proofs.lemmas.Cmp.{on_total};
+    ghost use Rattle.rational.specs.Rational.{rational_cmp};
+    ghost use Rattle.rational.proofs.Compare.{rational_cmp_total};
+    ghost use Rattle.frac128.specs.Ratios.{number};
+
+    ghost partial_cmp = { as_partial_cmp (on number rational_cmp) };
+
+    ghost laws = { partial_order_from_own_ties (Prim.search (comparing, rules, rational_cmp_total)) (Prim.search (comparing, rules)) };
+
+    fn partial_cmp(&self, other: &Ratio) -> Option<Ordering> {
+        Some(Ratio::cmp(self, other))
     }
 }
 

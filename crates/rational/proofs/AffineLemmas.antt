@@ -1,12 +1,15 @@
 -- Laws of affine and constantly infinite functions.
-use Rattle.std.proofs.Common.{inl, inr}
+use Rattle.std.proofs.Common.{◌⊎◌, inl, inr, arith}
 use Rattle.std.specs.declared.cmp.Ordering.{Ordering}
 use Rattle.std.specs.declared.cmp.Ordering.TheVariants.{Less, Equal, Greater}
-use Rattle.rational.specs.Rational.{Rational, ◌<ʳ◌, ◌≤ʳ◌, ◌≈◌}
+use Rattle.rational.specs.Rational.{Rational, ◌<ʳ◌, ◌≤ʳ◌, ◌≈◌, middle, negate}
+use Rattle.rational.specs.Line.{Line, at, Rises, Falls, Level, negate_line}
 use Rattle.rational.specs.Extended.{Extended, minus_infinity, finite, infinity, ◌≤ᵉ◌, ◌<ᵉ◌, ◌≈ᵉ◌, opposite, Affine, always_low, affine, always_high, value_at}
 use Rattle.rational.specs.Affine.{IsOrderᵉ, IsSteady, MeetAlone}
-use Rattle.rational.proofs.Order.{le_of_same, ge_of_same, not_lt_of_le, lt_of_lt_of_le}
-use Rattle.rational.proofs.Lines.{same_at}
+use Rattle.rational.proofs.Order.{le_of_same, ge_of_same, le_of_lt, same_of_le, not_lt_of_le, lt_of_lt_of_le, left_of_middle, right_of_middle}
+use Rattle.rational.proofs.Field.{lt_negate}
+use Rattle.rational.proofs.Sup.{near_left}
+use Rattle.rational.proofs.Lines.{same_at, same_lines, slope_of, lt_at, lt_at_falls, at_level, at_negate, near_right}
 use Rattle.rational.proofs.ExtendedLemmas.{le_totalᵉ, le_reflᵉ, le_transᵉ, clashᵉ, opposite_le'}
 
 pub same_reflᵉ : (v : Extended) → v ≈ᵉ v
@@ -58,3 +61,67 @@ pub steady_never_meet_alone : (f g : Affine) (l r t : Rational) → IsSteady f �
 steady_never_meet_alone f g l r t h k m =
     not_lt_of_le (ge_of_same (m.alone l (same_transᵉ (value_at f l) (value_at f t) (value_at g l) (h l t)
     (same_transᵉ (value_at f t) (value_at g t) (value_at g l) m.meet (k t l))))) m.after
+
+-- two functions with one value at two times have one value at each
+pub affine_unique : (f g : Affine) (t u s : Rational) → t <ʳ u → value_at f t ≈ᵉ value_at g t → value_at f u ≈ᵉ value_at g u → value_at f s ≤ᵉ value_at g s
+affine_unique always_low g t u s h j k = tt
+affine_unique (affine f) always_low t u s h j k = absurd j.at_most
+affine_unique (affine f) (affine g) t u s h j k = le_of_same (same_lines f g h (same_of_le j.at_most j.at_least) (same_of_le k.at_most k.at_least) s)
+affine_unique (affine f) always_high t u s h j k = tt
+affine_unique always_high always_low t u s h j k = absurd j.at_most
+affine_unique always_high (affine g) t u s h j k = absurd j.at_most
+affine_unique always_high always_high t u s h j k = tt
+
+-- between two times a function lies between its values there
+pub lies_between : (f : Affine) (l t r : Rational) → l <ʳ t → t <ʳ r
+    → ((value_at f l ≤ᵉ value_at f t) × (value_at f t ≤ᵉ value_at f r)) ⊎ ((value_at f r ≤ᵉ value_at f t) × (value_at f t ≤ᵉ value_at f l))
+lies_between always_low l t r h k = inl (tt, tt)
+lies_between always_high l t r h k = inl (tt, tt)
+lies_between (affine f) l t r h k = by_slope (slope_of f)
+  where
+    by_slope : Rises f ⊎ Level f ⊎ Falls f → ((at f l ≤ʳ at f t) × (at f t ≤ʳ at f r)) ⊎ ((at f r ≤ʳ at f t) × (at f t ≤ʳ at f l))
+    by_slope (inl p) = inl (le_of_lt (lt_at f p h), le_of_lt (lt_at f p k))
+    by_slope (inr (inl p)) = inl (le_of_same (at_level l t f p), le_of_same (at_level t r f p))
+    by_slope (inr (inr p)) = inr (le_of_lt (lt_at_falls f p k), le_of_lt (lt_at_falls f p h))
+
+-- a time strictly between at which something holds
+abbrev pub Inside : Rational → Rational → (Rational → Type 0) → Type 0
+Inside l r P = (t : Rational) × (l <ʳ t) × (t <ʳ r) × P t
+
+at_middle : (l r : Rational) (P : Rational → Type 0) → l <ʳ r → P (middle l r) → Inside l r P
+at_middle l r P h p = (middle l r, left_of_middle h, right_of_middle h, p)
+
+-- on an open interval a function comes as close to its values at the ends as one likes, from below and from above
+pub near_start : (f : Affine) (l r : Rational) (w : Extended) → l <ʳ r → w <ᵉ value_at f l → Inside l r (λ t. w <ᵉ value_at f t)
+near_start always_low l r w h k = at_middle l r (λ t. w <ᵉ minus_infinity) h k
+near_start always_high l r w h k = at_middle l r (λ t. w <ᵉ infinity) h k
+near_start (affine f) l r minus_infinity h k = at_middle l r (λ t. Unit {0}) h tt
+near_start (affine f) l r (finite x) h k = near_left f x h k
+near_start (affine f) l r infinity h k = absurd k
+
+pub near_stop : (f : Affine) (l r : Rational) (w : Extended) → l <ʳ r → w <ᵉ value_at f r → Inside l r (λ t. w <ᵉ value_at f t)
+near_stop always_low l r w h k = at_middle l r (λ t. w <ᵉ minus_infinity) h k
+near_stop always_high l r w h k = at_middle l r (λ t. w <ᵉ infinity) h k
+near_stop (affine f) l r minus_infinity h k = at_middle l r (λ t. Unit {0}) h tt
+near_stop (affine f) l r (finite x) h k = near_right f x h k
+near_stop (affine f) l r infinity h k = absurd k
+
+above_of_negated : (f : Line) (x t : Rational) → negate x <ʳ at (negate_line f) t → at f t <ʳ x
+above_of_negated f x t h = let k = lt_of_lt_of_le h (le_of_same (at_negate f t)) in record { lt = omega (arith, k.lt) }
+
+negated_above : (f : Line) (x t : Rational) → at f t <ʳ x → negate x <ʳ at (negate_line f) t
+negated_above f x t h = lt_of_lt_of_le (lt_negate h) (ge_of_same (at_negate f t))
+
+pub above_start : (f : Affine) (l r : Rational) (w : Extended) → l <ʳ r → value_at f l <ᵉ w → Inside l r (λ t. value_at f t <ᵉ w)
+above_start always_low l r w h k = at_middle l r (λ t. minus_infinity <ᵉ w) h k
+above_start always_high l r w h k = absurd k
+above_start (affine f) l r minus_infinity h k = absurd k
+above_start (affine f) l r (finite x) h k = let n = near_left (negate_line f) (negate x) h (negated_above f x l k) in (n.0, n.1, n.2, above_of_negated f x n.0 n.3)
+above_start (affine f) l r infinity h k = at_middle l r (λ t. Unit {0}) h tt
+
+pub above_stop : (f : Affine) (l r : Rational) (w : Extended) → l <ʳ r → value_at f r <ᵉ w → Inside l r (λ t. value_at f t <ᵉ w)
+above_stop always_low l r w h k = at_middle l r (λ t. minus_infinity <ᵉ w) h k
+above_stop always_high l r w h k = absurd k
+above_stop (affine f) l r minus_infinity h k = absurd k
+above_stop (affine f) l r (finite x) h k = let n = near_right (negate_line f) (negate x) h (negated_above f x r k) in (n.0, n.1, n.2, above_of_negated f x n.0 n.3)
+above_stop (affine f) l r infinity h k = at_middle l r (λ t. Unit {0}) h tt

@@ -84,3 +84,8 @@ Inf-unique {P} highest r r' h k = by_order (le_totalᵉ r r')
     by_order : (r ≤ᵉ r') ⊎ (r' <ᵉ r) → r ≤ᵉ r'
     by_order (inl l) = l
     by_order (inr l) = undercut (k.reached r l h.at_most)
+
+pub below_infinity : (v : Extended) → v ≤ᵉ infinity
+below_infinity minus_infinity = tt
+below_infinity (finite x) = tt
+below_infinity infinity = tt

@@ -1,8 +1,9 @@
 -- Moves and multiples of a number do not depend on its pair.
-use Rattle.std.proofs.Common.{◌≡◌, ℕ, ℤ, ◌*◌, ◌⊎◌, arith, ap, sym, ◌∙◌, inl, inr, Bool, true, false}
+use Rattle.std.proofs.Common.{◌≡◌, ℕ, ℤ, ◌*◌, ◌⊎◌, arith, ap, sym, ◌∙◌, inl, inr, Bool, true, false, ◌&&◌, IsTrue, refl}
+use Rattle.std.proofs.Props.{props}
 use Rattle.rational.specs.Rational.{part_above, part_below}
-use Rattle.rational.proofs.Order.{le_or_lt, le_trans, lt_of_le_of_lt, lt_of_lt_of_le, le_of_lt, le_of_same, same_sym}
-use Rattle.rational.specs.Time.{Rational, ◌≤ʳ◌, ◌<ʳ◌, ◌≈◌, Precedes, shifted, later, times, less}
+use Rattle.rational.proofs.Order.{lt_or_same_or_gt, not_lt_of_le, le_or_lt, le_trans, lt_of_le_of_lt, lt_of_lt_of_le, le_of_lt, le_of_same, same_sym}
+use Rattle.rational.specs.Time.{Rational, ◌≤ʳ◌, ◌<ʳ◌, ◌≈◌, Interval, IsNotEmpty, Precedes, shifted, later, times, less, HasTimeBetween}
 
 pub later_le : {t u : Rational} (k : ℕ) → t ≤ʳ u → later t k ≤ʳ later u k
 later_le {t} {u} k h = record { le = omega (arith, h.le) }
@@ -46,3 +47,37 @@ less_same {t} {t'} u h = by_order (le_or_lt u t)
     by_order : (u ≤ʳ t) ⊎ (t <ʳ u) → less t u ≡ less t' u
     by_order (inl l) = less_no t u l ∙ sym (less_no t' u (le_trans l (le_of_same h)))
     by_order (inr l) = less_in t u l ∙ sym (less_in t' u (lt_of_le_of_lt (le_of_same (same_sym h)) l))
+
+-- the order with an end in or out is a fact, and no more
+pub Precedes-is_prop : (b : Bool) (t u : Rational) → IsProp (Precedes b t u)
+Precedes-is_prop true t u = hlevel props
+Precedes-is_prop false t u = hlevel props
+
+pub precedes_of_lt : (b : Bool) (t u : Rational) → t <ʳ u → Precedes b t u
+precedes_of_lt true t u h = le_of_lt h
+precedes_of_lt false t u h = h
+
+-- some time lies between two ends exactly where the first precedes the second, or is the second where both ends are in
+pub not_empty_of_precedes : (on : Interval) → Precedes (on.from_in && on.to_in) on.from on.to → IsNotEmpty on
+not_empty_of_precedes on h = by_ends on.from_in on.to_in h
+  where
+    by_ends : (b c : Bool) → Precedes (b && c) on.from on.to → (on.from <ʳ on.to) ⊎ ((on.from ≈ on.to) × IsTrue b × IsTrue c)
+    by_ends true true h = elim (lt_or_same_or_gt on.from on.to) as (λ v. (on.from <ʳ on.to) ⊎ ((on.from ≈ on.to) × IsTrue true × IsTrue true)) [
+      | inl l ↦ inl l
+      | inr v ↦ elim v as (λ v. (on.from <ʳ on.to) ⊎ ((on.from ≈ on.to) × IsTrue true × IsTrue true)) [ inl e ↦ inr (e, refl, refl) | inr l ↦ absurd (not_lt_of_le h l) ]
+    ]
+    by_ends true false h = inl h
+    by_ends false c h = inl h
+
+pub precedes_of_not_empty : (on : Interval) → IsNotEmpty on → Precedes (on.from_in && on.to_in) on.from on.to
+precedes_of_not_empty on (inl l) = precedes_of_lt (on.from_in && on.to_in) on.from on.to l
+precedes_of_not_empty on (inr h) = rw (h.1, h.2) (le_of_same h.0)
+
+-- the one inequality says that the first end precedes the second, or is the second where both are in
+pub room_of_precedes : (b : Bool) (t u : Rational) → Precedes b t u → HasTimeBetween t u b
+room_of_precedes true t u h = let k = h.le in record { room = omega (arith, k) }
+room_of_precedes false t u h = let k = h.lt in record { room = omega (arith, k) }
+
+pub precedes_of_room : (b : Bool) (t u : Rational) → HasTimeBetween t u b → Precedes b t u
+precedes_of_room true t u h = let k = h.room in record { le = omega (arith, k) }
+precedes_of_room false t u h = let k = h.room in record { lt = omega (arith, k) }

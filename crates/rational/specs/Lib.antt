@@ -4,3 +4,4 @@ pub mod Time
 pub mod Extended
 pub mod Windows
 pub mod Affine
+pub mod InPlay

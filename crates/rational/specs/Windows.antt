@@ -24,7 +24,7 @@ Function = Rational → Extended → Type 0
 abbrev pub Window : Type 1
 Window = Rational → Type 0
 
--- r is the Sup of the function over the window; and the Inf
+-- r is the Sup of the function over the window
 abbrev pub IsSupOver : Extended → Window → Function → Extended → Type 0
 IsSupOver lowest W F r = IsSup lowest (λ v. (u : Rational) × W u × F u v) r
 
@@ -32,7 +32,7 @@ IsSupOver lowest W F r = IsSup lowest (λ v. (u : Rational) × W u × F u v) r
 abbrev pub IsInfOver : Extended → Window → Function → Extended → Type 0
 IsInfOver highest W F r = IsInf highest (λ v. (u : Rational) × W u × F u v) r
 
--- v is the least of Q at u and the Inf of P from t to u; and of Q at u and the Inf of P from u to t
+-- v is the least of Q at u and the Inf of P from t to u
 abbrev pub IsUpTo : Extended → Function → Function → Rational → Rational → Extended → Type 0
 IsUpTo highest P Q t u v = (x y : Extended) × Q u x × IsInfOver highest (Within t u) P y × IsLeast x y v
 
@@ -40,10 +40,18 @@ IsUpTo highest P Q t u v = (x y : Extended) × Q u x × IsInfOver highest (Withi
 abbrev pub IsDownTo : Extended → Function → Function → Rational → Rational → Extended → Type 0
 IsDownTo highest P Q t u v = (x y : Extended) × Q u x × IsInfOver highest (Within u t) P y × IsLeast x y v
 
--- r is the value at t of P until Q, where Q counts within the window; and of P since Q
+-- r is the value at t of P until Q, where Q counts within the window
 abbrev pub IsUntil : Extended → Extended → Window → Function → Function → Rational → Extended → Type 0
 IsUntil lowest highest W P Q t r = IsSupOver lowest W (IsUpTo highest P Q t) r
 
 -- r is the value at t of P since Q, where Q counts within the window
 abbrev pub IsSince : Extended → Extended → Window → Function → Function → Rational → Extended → Type 0
 IsSince lowest highest W P Q t r = IsSupOver lowest W (IsDownTo highest P Q t) r
+
+-- P until Q, where Q counts up to the time `to`
+abbrev pub UntilToEnd : Extended → Extended → Rational → Function → Function → Function
+UntilToEnd lowest highest to P Q t r = IsUntil lowest highest (Within t to) P Q t r
+
+-- P since Q, where Q counts from the time `from` on
+abbrev pub SinceFromStart : Extended → Extended → Rational → Function → Function → Function
+SinceFromStart lowest highest from P Q t r = IsSince lowest highest (Within from t) P Q t r

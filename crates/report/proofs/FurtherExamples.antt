@@ -9,15 +9,15 @@ use Rattle.stl_syntax.specs.Trace.{Row, value_of}
 use Rattle.stl_syntax.specs.Formula.{atom, subformula}
 use Rattle.stl_syntax.specs.Formula.{Formula}
 use Rattle.stl_syntax.specs.Truth.{expression}
-use Rattle.stl_syntax.specs.SupInf.{Setting, signals, SupInf}
-use Rattle.stl_syntax.specs.InPlay.{IsPart}
+use Rattle.stl_syntax.specs.SupInf.{Setting, signals, placed, SupInf}
+use Rattle.rational.specs.InPlay.{IsPart}
 use Rattle.stl_syntax.specs.WideCause.{IsCrossingCause}
 use Rattle.stl_syntax.specs.Kept.{Agree, IsTooMany, none, more}
 use Rattle.stl_syntax.specs.Network.{needed, reach_back}
 use Rattle.stl_syntax.specs.Trace.{Continues}
 use Rattle.stl_syntax.specs.Early.{FirstDecides}
 use Rattle.stl_syntax.specs.Scaling.{scaled}
-use Rattle.stl_syntax.specs.MarginStream.{TellsClosed}
+use Rattle.stl_syntax.specs.Verdicts.{TellsClosed}
 use Rattle.stl_syntax.specs.Texts.{IsVerdictLine, IsSpanText}
 use Rattle.stl_syntax.specs.Stream.{IsStreamText}
 use Rattle.report.specs.Report.{Out, check}
@@ -30,7 +30,7 @@ use Rattle.rational.proofs.ExtendedLemmas.{le_reflᵉ}
 -- the trace agrees with itself on the item
 agrees : Agree both instant instant (item 0 ∷ [])
 unfolding subformula
-agrees = record { header = refl; start_same = refl; stop_same = refl; so = (so 0 refl, tt) }
+agrees = record { like = record { header = refl; start_same = refl; stop_same = refl }; so = (so 0 refl, tt) }
 
 -- three cells in all: the running sum passes 2 at the first place
 too_many : IsTooMany both instant 2 3
@@ -94,7 +94,7 @@ streamed : IsStreamText x_at_least_5 x_header (row 0 (pos 0) ∷ []) false false
 streamed = (false_line, [], (false_at_0 ∷ [], told, (false_line, [], zero_line, refl, refl)), refl, refl)
 
 streamed_to_end : IsStreamText x_at_least_5 x_header (row 0 (pos 0) ∷ []) true (false_line ++ start_false)
-streamed_to_end = (false_line, [], start_false, streamed, refl, (false, x_fails 0, refl), refl)
+streamed_to_end = ((refl, tt), (false_line, [], start_false, streamed, refl, (false, x_fails 0, refl), refl))
 
 -- two signals whose lines cross at 1/2^60 are a cause at the node above them
 abbrev steep_knots : Knots
@@ -110,7 +110,7 @@ level_knots = record {
 }
 
 abbrev crossing : Setting
-crossing = record { atoms = signals (steep_knots ∷ level_knots ∷ []); lowest = minus_infinity; highest = infinity; from = at_time 0; to = at_time 1 }
+crossing = record { atoms = signals (placed both (steep_knots ∷ level_knots ∷ [])); lowest = minus_infinity; highest = infinity; from = at_time 0; to = at_time 1 }
 
 abbrev meeting : Rational
 meeting = ratio (pos 1) (2 ^ 60) (lit< tt)
@@ -140,7 +140,8 @@ cause : IsCrossingCause both crossing 2 steep level (at_time 0) (at_time 1) (2 ^
 unfolding subformula
 cause = record {
   tau = meeting;
-  inside = omega arith;
+  after_start = omega arith;
+  before_stop = omega arith;
   above = omega arith;
   below = omega arith;
   first = inl steep_part;

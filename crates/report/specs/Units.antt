@@ -1,7 +1,8 @@
 -- The law of units: smaller ticks change no text.
 use Rattle.std.specs.Prelude.{ℕ, ◌+◌, ◌*◌, ◌^◌, ◌≤◌, pos, ◌*ℤ◌, List, map}
-use Rattle.stl_syntax.specs.Trace.{Row, Trace, IsTrace}
+use Rattle.stl_syntax.specs.Trace.{Row, Trace, IsTrace, AreInRange}
 use Rattle.stl_syntax.specs.Formula.{Formula}
+use Rattle.stl_syntax.specs.WellFormed.{IsWellFormed}
 use Rattle.report.specs.Report.{Command, check, robust, Out}
 
 -- the row in ticks that are 10^k and 10^m times smaller
@@ -22,6 +23,6 @@ WritesAlike command f tr tr' = (text : List ℕ) → (Out command f tr text → 
 -- what `check` and `robust` write does not depend on the ticks
 abbrev pub LawOfUnits : Type 0
 LawOfUnits =
-    (f : Formula) (tr : Trace) (k m : ℕ) → IsTrace tr → f.scale.time ≤ tr.header.scale.time → f.scale.value ≤ tr.header.scale.value
+    (f : Formula) (tr : Trace) (k m : ℕ) → IsWellFormed f → IsTrace tr → AreInRange tr.rows → f.scale.time ≤ tr.header.scale.time → f.scale.value ≤ tr.header.scale.value
     → tr.header.scale.time + k ≤ 6 → tr.header.scale.value + m ≤ 6
     → WritesAlike check f tr (finer k m tr) × WritesAlike robust f tr (finer k m tr)

@@ -237,3 +237,8 @@ IsFormulaFault text =
     or_else Where (IsTrue (all is_blank text)) Empty
     or_else TokenFault [] 0 text
     or_else IsLateFault text
+
+-- the text is one of the formula, and nothing in it is refused
+pub record IsFormulaOf (text : List ℕ) (f : Formula) : Type 0 where
+  pub read : FormulaText text f
+  pub sound : (r : FormulaFault) → ¬ IsFormulaFault text r

@@ -1,5 +1,5 @@
 -- The explanation of `x >= 5 and x >= 5` at a trace of one row: the first atom alone.
-use Rattle.std.proofs.Common.{◌≡◌, ℕ, pos, suc, ◌<◌, inl, inr, List, [], ◌∷◌, refl, true, false, lit≤, lit<, arith}
+use Rattle.std.proofs.Common.{◌≡◌, ℕ, pos, suc, ◌<◌, inl, inr, List, [], ◌∷◌, refl, false, lit≤, lit<, arith}
 use Rattle.std.specs.Prelude.{IsFalse}
 use Rattle.rational.specs.Rational.{Rational}
 use Rattle.rational.specs.Time.{◌≈◌}
@@ -10,7 +10,7 @@ use Rattle.stl_syntax.specs.Kleene.{MustNot, IsCovered}
 use Rattle.stl_syntax.specs.Cells.{IsCut, AreCuts, first, last, change, moved, root_start}
 use Rattle.stl_syntax.specs.Kept.{Kept, AllCells, IsSo}
 use Rattle.frac128.specs.declared.frac.Frac.{Frac}
-use Rattle.frac128.proofs.Wholes.{whole_frac}
+use Rattle.frac128.proofs.Wholes.{whole_frac, instant_span}
 use Rattle.stl_syntax.specs.declared.items.Item.{Item}
 use Rattle.stl_syntax.specs.declared.node.Node.{Node}
 use Rattle.stl_syntax.specs.declared.node.Node.TheVariants.{Atom as Leaf, And}
@@ -33,7 +33,7 @@ zero_frac = whole_frac (pos 0)
 
 -- `x >= 5` false on [0,0], of the atom at place i
 abbrev pub item : ℕ → Item
-item i = record { node = i; on = record { from = zero_frac; from_in = true; to = zero_frac; to_in = true }; holds = false }
+item i = record { node = i; on = instant_span zero_frac; holds = false }
 
 pub x_fails : (i : ℕ) → ¬ Truth (atom i at_least_5) instant (at_time 0)
 unfolding expression value_of

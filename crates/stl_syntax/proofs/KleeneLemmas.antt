@@ -72,16 +72,16 @@ carried nodes tr tr' (e ∷ items) i a t s g h (inl (n, c)) = by_truth e.holds (
 
 module _ (nodes : List Node) (items : List Item) (tr tr' : Trace) (agree : Agree nodes tr' tr items) (known : AreSo nodes tr items) where
   ahead_over : (a b : ℕ) (a_in b_in : Bool) (t u : Rational) → Ahead (start tr) (stop tr) a b a_in b_in t u → Ahead (start tr') (stop tr') a b a_in b_in t u
-  ahead_over a b a_in b_in t u w = rw (agree.start_same, agree.stop_same) w
+  ahead_over a b a_in b_in t u w = rw (agree.like.start_same, agree.like.stop_same) w
 
   ahead_back : (a b : ℕ) (a_in b_in : Bool) (t u : Rational) → Ahead (start tr') (stop tr') a b a_in b_in t u → Ahead (start tr) (stop tr) a b a_in b_in t u
-  ahead_back a b a_in b_in t u w = rw (agree.start_same, agree.stop_same) at w
+  ahead_back a b a_in b_in t u w = rw (agree.like.start_same, agree.like.stop_same) at w
 
   behind_over : (a : ℕ) (b : Option ℕ) (a_in b_in : Bool) (t u : Rational) → Behind (start tr) (stop tr) a b a_in b_in t u → Behind (start tr') (stop tr') a b a_in b_in t u
-  behind_over a b a_in b_in t u w = rw (agree.start_same, agree.stop_same) w
+  behind_over a b a_in b_in t u w = rw (agree.like.start_same, agree.like.stop_same) w
 
   behind_back : (a : ℕ) (b : Option ℕ) (a_in b_in : Bool) (t u : Rational) → Behind (start tr') (stop tr') a b a_in b_in t u → Behind (start tr) (stop tr) a b a_in b_in t u
-  behind_back a b a_in b_in t u w = rw (agree.start_same, agree.stop_same) at w
+  behind_back a b a_in b_in t u w = rw (agree.like.start_same, agree.like.stop_same) at w
 
   mutual
     pub certain : (p : Subformula) (t : Rational) → StandsIn nodes p → Must p items tr t → Truth p tr' t

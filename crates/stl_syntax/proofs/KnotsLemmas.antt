@@ -1,30 +1,15 @@
 -- A list of knots gives at most one value at a time.
 use Rattle.std.proofs.Common.{◌≡◌, ℕ, inl, inr, List, [], ◌∷◌}
-use Rattle.std.specs.Prelude.{Some, slice_get}
+use Rattle.std.specs.Prelude.{Option, Some, slice_get}
 use Rattle.rational.specs.Rational.{Rational, ◌≤ʳ◌, ◌<ʳ◌}
 use Rattle.rational.proofs.Order.{le_of_same, ge_of_same, le_trans, le_of_lt, not_lt_of_le, same_of_le}
 use Rattle.rational.proofs.Lines.{same_lines}
 use Rattle.rational.specs.Extended.{Extended, ◌≤ᵉ◌, ◌≈ᵉ◌, Affine, always_low, affine, always_high, value_at}
 use Rattle.stl_syntax.specs.Knots.{Knot, Piece, Knots, ReadsFrom, AreKnotsFrom, AreKnots}
 use Rattle.stl_syntax.specs.SupInf.{signals}
+use Rattle.rational.proofs.AffineLemmas.{affine_unique, same_symᵉ, same_transᵉ}
 use Rattle.rational.proofs.ExtendedLemmas.{le_transᵉ}
 use Rattle.stl_syntax.proofs.SupInfLemmas.{GivesOne}
-
-same_transᵉ : (u v w : Extended) → u ≈ᵉ v → v ≈ᵉ w → u ≈ᵉ w
-same_transᵉ u v w h k = record { at_most = le_transᵉ u v w h.at_most k.at_most; at_least = le_transᵉ w v u k.at_least h.at_least }
-
-pub same_symᵉ : (v w : Extended) → v ≈ᵉ w → w ≈ᵉ v
-same_symᵉ v w h = record { at_most = h.at_least; at_least = h.at_most }
-
--- two affine functions with one value at two times have one value at each
-pub affine_unique : (f g : Affine) (t u s : Rational) → t <ʳ u → value_at f t ≈ᵉ value_at g t → value_at f u ≈ᵉ value_at g u → value_at f s ≤ᵉ value_at g s
-affine_unique always_low g t u s h j k = tt
-affine_unique (affine f) always_low t u s h j k = absurd j.at_most
-affine_unique (affine f) (affine g) t u s h j k = le_of_same (same_lines f g h (same_of_le j.at_most j.at_least) (same_of_le k.at_most k.at_least) s)
-affine_unique (affine f) always_high t u s h j k = tt
-affine_unique always_high always_low t u s h j k = absurd j.at_most
-affine_unique always_high (affine g) t u s h j k = absurd j.at_most
-affine_unique always_high always_high t u s h j k = tt
 
 -- what is read from a knot on is read at its time or later
 reads_after : (k : Knot) (pieces : List Piece) (t : Rational) (v : Extended) → AreKnotsFrom k pieces → ReadsFrom k pieces t v → k.time ≤ʳ t
@@ -51,6 +36,6 @@ reads_one k (p ∷ pieces) t v w ok (inr (inr h)) (inr (inl j)) = absurd (not_lt
 reads_one k (p ∷ pieces) t v w ok (inr (inr h)) (inr (inr j)) = reads_one p.next pieces t v w ok.1 h j
 
 -- lists of knots give one value for each atom
-pub signals_give_one : (lists : List Knots) → ((i : ℕ) (knots : Knots) → slice_get lists i ≡ Some knots → AreKnots knots) → GivesOne (signals lists)
+pub signals_give_one : (lists : List (Option Knots)) → ((i : ℕ) (knots : Knots) → slice_get lists i ≡ Some (Some knots) → AreKnots knots) → GivesOne (signals lists)
 signals_give_one lists ok i a t r r' (knots, e, h) (others, f, j) =
     let same : others ≡ knots = cc in reads_one knots.first knots.pieces t r r' (ok i knots e) h (rw same at j)

@@ -10,7 +10,7 @@ use Rattle.stl_syntax.specs.Truth.{Truth}
 use Rattle.stl_syntax.specs.SupInf.{Reading, margins, truths, certainties, signals, one, zero_value, minus_one}
 use Rattle.stl_syntax.specs.Early.{Decides}
 use Rattle.stl_syntax.specs.Kleene.{Must, MustNot}
-use Rattle.stl_syntax.specs.Laws.{TruthIsOfTimes, ValuesAreOfTimes, CertaintyIsOfTimes, IsReadable, OneValue, CertaintyHasValues, IsTold, TruthByValues, IsToldCertain, CertaintyByValues, CertaintyIsTruth, ExplanationsHold, AnswersStay, DecisionsStay, MarginsHold, OneListOfVerdicts, OneListOfMargins}
+use Rattle.stl_syntax.specs.Laws.{TruthIsOfTimes, ValuesAreOfTimes, CertaintyIsOfTimes, IsReadable, OneValue, CertaintyHasValues, IsToldByValue, TruthByValues, IsToldCertain, CertaintyByValues, CertaintyIsTruth, ExplanationsHold, AnswersStay, DecisionsStay, MarginsHold, OneListOfVerdicts, OneListOfMargins}
 use Rattle.stl_syntax.proofs.TruthLemmas.{Truth-same}
 use Rattle.stl_syntax.proofs.TimeLaw.{SupInf-same, Must-same, MustNot-same}
 use Rattle.stl_syntax.proofs.SupInfLemmas.{GivesOne, SupInf-unique, margins_give_one, truths_give_one}
@@ -56,7 +56,7 @@ clash_of v x y h k l = clashᵉ y x l (le_transᵉ x v y h.at_least k.at_most)
 pub truth_by_values : TruthByValues
 truth_by_values p tr ok t r w h = by_told (SupInf-truth p tr ok t r w h)
   where
-    by_told : Tells r (Truth p tr t) → IsTold p tr t r
+    by_told : Tells r (Truth p tr t) → IsToldByValue p tr t r
     by_told (inl (e, k)) = record {
       told = inl e;
       holds = (λ _. k, λ _. e);
@@ -93,7 +93,7 @@ certainty_is_truth p items tr t = (λ h. clear p items tr t h, λ h. clear_not p
 
 pub explanations_hold : ExplanationsHold
 explanations_hold nodes items tr tr' placed some known false_there agree =
-    rw agree.start_same
+    rw agree.like.start_same
     (certain_not nodes items tr tr' agree known (root nodes) (start tr) (stands nodes (length nodes - 1) placed (omega arith)) false_there)
 
 rows_after : (header : Header) (r : Row) (rows more : List Row) → IsTrace (record { header = header; rows = r ∷ (rows ++ more) }) → AreRowsAfter (length header.columns) r.time (rows ++ more)

@@ -1,10 +1,11 @@
 -- Lists of verdicts that miss by little, and a list of knots with infinite pieces.
-use Rattle.std.proofs.Common.{ℕ, Bool, List, [], ◌∷◌, refl, true, false, arith, lit<}
+use Rattle.std.proofs.Common.{ℕ, Bool, List, [], ◌∷◌, refl, true, false, arith, lit<, inr}
 use Rattle.rational.specs.Time.{Rational, ◌≤ʳ◌, ◌<ʳ◌, closed, later}
 use Rattle.rational.specs.Windows.{Ahead}
 use Rattle.rational.specs.Extended.{Extended, minus_infinity, infinity, ◌≈ᵉ◌, Affine, always_low, affine, always_high, value_at}
 use Rattle.rational.proofs.Order.{le_of_lt, le_trans}
 use Rattle.rational.proofs.ExtendedLemmas.{le_reflᵉ}
+use Rattle.frac128.specs.Value.{value}
 use Rattle.stl_syntax.specs.Trace.{start, stop}
 use Rattle.stl_syntax.specs.Formula.{Subformula, constant, always}
 use Rattle.stl_syntax.specs.Knots.{Knot, Knots}
@@ -12,35 +13,35 @@ use Rattle.stl_syntax.specs.SupInf.{Robustness}
 use Rattle.stl_syntax.specs.Verdicts.{Describes, DescribesMargins}
 use Rattle.stl_syntax.specs.declared.items.Verdict.{Verdict}
 use Rattle.stl_syntax.proofs.Examples.{rise, x_at_least_5, at_time}
-use Rattle.stl_syntax.proofs.MoreExamples.{span, wrong_verdict}
+use Rattle.stl_syntax.proofs.MoreExamples.{fraction, span, wrong_verdict}
 
-abbrev told : ℕ → Bool → ℕ → Bool → Bool → Verdict
-told a i b o holds = record { on = span a i b o; holds = holds }
+abbrev told : (a : ℕ) (i : Bool) (b : ℕ) (o : Bool) → value (fraction a) <ʳ value (fraction b) → Bool → Verdict
+told a i b o h holds = record { on = span a i b o h; holds = holds }
 
 abbrev DescribesRise : List Verdict → Type 0
 DescribesRise verdicts = Describes verdicts x_at_least_5 rise (closed (start rise) (stop rise))
 
 -- `[0,5] false, (5,10] true` is wrong at 5 alone
-wrong_at_5 : ¬ DescribesRise (told 0 true 5 true false ∷ told 5 false 10 true true ∷ [])
+wrong_at_5 : ¬ DescribesRise (told 0 true 5 true (record { lt = lit< tt }) false ∷ told 5 false 10 true (record { lt = lit< tt }) true ∷ [])
 wrong_at_5 h = wrong_verdict h.1
 
 -- `[0,5) false, (5,10] true` says nothing of 5
-leaves_5_out : ¬ DescribesRise (told 0 true 5 false false ∷ told 5 false 10 true true ∷ [])
+leaves_5_out : ¬ DescribesRise (told 0 true 5 false (record { lt = lit< tt }) false ∷ told 5 false 10 true (record { lt = lit< tt }) true ∷ [])
 leaves_5_out h = h.2.0.once refl
 
 -- `[0,5] false, [5,10] true` says two things of 5
-says_5_twice : ¬ DescribesRise (told 0 true 5 true false ∷ told 5 true 10 true true ∷ [])
+says_5_twice : ¬ DescribesRise (told 0 true 5 true (record { lt = lit< tt }) false ∷ told 5 true 10 true (record { lt = lit< tt }) true ∷ [])
 says_5_twice h = h.2.0.once refl
 
 -- `[0,3) false, [3,5) false, [5,10] true` has two lines for one
-parted : ¬ DescribesRise (told 0 true 3 false false ∷ told 3 true 5 false false ∷ told 5 true 10 true true ∷ [])
+parted : ¬ DescribesRise (told 0 true 3 false (record { lt = lit< tt }) false ∷ told 3 true 5 false (record { lt = lit< tt }) false ∷ told 5 true 10 true (record { lt = lit< tt }) true ∷ [])
 parted h = h.2.1 refl
 
 -- `(0,5) false, [5,10] true` leaves the start out, and `[0,5) false, [5,10) true` the end
-without_start : ¬ DescribesRise (told 0 false 5 false false ∷ told 5 true 10 true true ∷ [])
+without_start : ¬ DescribesRise (told 0 false 5 false (record { lt = lit< tt }) false ∷ told 5 true 10 true (record { lt = lit< tt }) true ∷ [])
 without_start h = let e = h.0.inside in cc
 
-without_end : ¬ DescribesRise (told 0 true 5 false false ∷ told 5 true 10 false true ∷ [])
+without_end : ¬ DescribesRise (told 0 true 5 false (record { lt = lit< tt }) false ∷ told 5 true 10 false (record { lt = lit< tt }) true ∷ [])
 without_end h = let e = h.2.3.inside in cc
 
 -- `always[1,1] false` has -inf where the window has a time, up to 9, and inf from there on
@@ -86,7 +87,7 @@ late_margins : DescribesMargins late_knots late rise
 late_margins = (
   record { same = refl },
   early_value (at_time 0) (omega arith) (omega arith),
-  (
+  inr (
     (
       record { lt = lit< tt },
       λ t h k. (minus_infinity, early_value t (le_of_lt h) (le_of_lt k), record { after = h; before = k; through = always_low; from = same minus_infinity; to = same minus_infinity; value = same minus_infinity }),

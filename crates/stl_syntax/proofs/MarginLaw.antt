@@ -14,26 +14,10 @@ use Rattle.stl_syntax.specs.Closeness.{IsClose, AreClose}
 use Rattle.stl_syntax.specs.Truth.{Truth, expression, compares}
 use Rattle.stl_syntax.specs.declared.rel.Rel.{Rel}
 use Rattle.stl_syntax.specs.declared.rel.Rel.TheVariants.{AtLeast, Above, AtMost, Below}
+use Rattle.rational.proofs.AffineLemmas.{lt_leᵉ}
 use Rattle.rational.proofs.ExtendedLemmas.{le_totalᵉ, clashᵉ, le_transᵉ}
 use Rattle.stl_syntax.proofs.TruthLaw.{has_value}
 use Rattle.stl_syntax.proofs.KleeneLaw.{opposite_lt, opposite_twice, least_exists, between}
-
-lt_leᵉ : (u v w : Extended) → u <ᵉ v → v ≤ᵉ w → u <ᵉ w
-lt_leᵉ minus_infinity minus_infinity w h k = absurd h
-lt_leᵉ minus_infinity (finite y) minus_infinity h k = absurd k
-lt_leᵉ minus_infinity (finite y) (finite z) h k = tt
-lt_leᵉ minus_infinity (finite y) infinity h k = tt
-lt_leᵉ minus_infinity infinity minus_infinity h k = absurd k
-lt_leᵉ minus_infinity infinity (finite z) h k = absurd k
-lt_leᵉ minus_infinity infinity infinity h k = tt
-lt_leᵉ (finite x) minus_infinity w h k = absurd h
-lt_leᵉ (finite x) (finite y) minus_infinity h k = absurd k
-lt_leᵉ (finite x) (finite y) (finite z) h k = lt_of_lt_of_le h k
-lt_leᵉ (finite x) (finite y) infinity h k = tt
-lt_leᵉ (finite x) infinity minus_infinity h k = absurd k
-lt_leᵉ (finite x) infinity (finite z) h k = absurd k
-lt_leᵉ (finite x) infinity infinity h k = tt
-lt_leᵉ infinity v w h k = absurd h
 
 le_ltᵉ : (u v w : Extended) → u ≤ᵉ v → v <ᵉ w → u <ᵉ w
 le_ltᵉ u v w h k = by_order (le_totalᵉ w u)

@@ -1,16 +1,16 @@
 -- At most one list of knots describes the robustness of a formula.
-use Rattle.std.proofs.Common.{◌⊎◌, inl, inr, List, [], ◌∷◌}
+use Rattle.std.proofs.Common.{◌≡◌, ◌⊎◌, inl, inr, List, [], ◌∷◌}
 use Rattle.rational.specs.Rational.{Rational, ◌≤ʳ◌, ◌<ʳ◌, ◌≈◌, middle}
 use Rattle.rational.proofs.Order.{lt_or_same_or_gt, le_or_lt, le_of_same, ge_of_same, le_of_lt, le_refl, le_trans, lt_of_lt_of_le, lt_of_le_of_lt, lt_trans, not_lt_of_le, same_sym, same_refl, same_trans, left_of_middle, right_of_middle}
 use Rattle.rational.specs.Extended.{Extended, ◌≈ᵉ◌, Affine, value_at, Passes}
-use Rattle.stl_syntax.specs.Trace.{Trace, stop}
+use Rattle.stl_syntax.specs.Trace.{Trace, start, stop}
 use Rattle.stl_syntax.specs.Formula.{Subformula}
 use Rattle.stl_syntax.specs.Knots.{Knot, Piece, Knots, IsInside}
 use Rattle.stl_syntax.specs.SupInf.{Robustness}
-use Rattle.stl_syntax.specs.Verdicts.{IsRobustInside, MarginsGoOn, MarginsFrom, DescribesMargins, KnotsAlike, PiecesAlike}
+use Rattle.stl_syntax.specs.Verdicts.{AreOneLine, IsRobust, IsRobustInside, PiecesGoOn, TellsAfter, DescribesMargins, KnotsAlike, PiecesAlike}
 use Rattle.stl_syntax.proofs.SupInfLemmas.{SupInf-unique, margins_give_one}
-use Rattle.stl_syntax.proofs.TimeLaw.{SupInf-same, value_same, same_transᵉ}
-use Rattle.stl_syntax.proofs.KnotsLemmas.{affine_unique, same_symᵉ}
+use Rattle.stl_syntax.proofs.TimeLaw.{SupInf-same}
+use Rattle.rational.proofs.AffineLemmas.{affine_unique, same_symᵉ, same_transᵉ, value_same}
 
 -- two functions that agree at two times agree at each
 everywhere : (f g : Affine) (t u : Rational) → t <ʳ u → value_at f t ≈ᵉ value_at g t → value_at f u ≈ᵉ value_at g u → (s : Rational) → value_at f s ≈ᵉ value_at g s
@@ -73,17 +73,28 @@ module _ (p : Subformula) (tr : Trace) where
   part_of : (f : Affine) (l r l' r' : Rational) → l ≤ʳ l' → r' ≤ʳ r → Follows f l r → Follows f l' r'
   part_of f l r l' r' h k a t x y = a t (lt_of_le_of_lt h x) (lt_of_lt_of_le y k)
 
-  from_here : (j : Knot) (before : Piece) (pieces : List Piece) → MarginsGoOn p tr j before pieces → MarginsFrom p tr before.next pieces
+  -- the knots from k on tell the robustness up to the end of the domain
+  abbrev From : Knot → List Piece → Type 0
+  From k [] = k.time ≈ stop tr
+  From k (a ∷ pieces) = IsRobustInside p tr k a × IsRobust p tr a.next × PiecesGoOn p tr (stop tr) k a pieces
+
+  from_first : (k : Knot) (pieces : List Piece) → k.time ≈ start tr → ((pieces ≡ []) × (start tr ≈ stop tr)) ⊎ TellsAfter p tr (stop tr) k pieces → From k pieces
+  from_first k [] e (inl h) = same_trans e h.1
+  from_first k [] e (inr h) = absurd h
+  from_first k (a ∷ pieces) e (inl h) = absurd (let x : a ∷ pieces ≡ [] = h.0 in cc)
+  from_first k (a ∷ pieces) e (inr h) = h
+
+  from_here : (j : Knot) (before : Piece) (pieces : List Piece) → PiecesGoOn p tr (stop tr) j before pieces → From before.next pieces
   from_here j before [] h = h
   from_here j before (a ∷ pieces) h = (h.1, h.2, h.3)
 
   -- no knot lies after the end
-  by_stop : (k : Knot) (pieces : List Piece) → MarginsFrom p tr k pieces → k.time ≤ʳ stop tr
+  by_stop : (k : Knot) (pieces : List Piece) → From k pieces → k.time ≤ʳ stop tr
   by_stop k [] h = le_of_same h
   by_stop k (a ∷ pieces) h = le_trans (le_of_lt h.0.0) (by_stop a.next pieces (from_here k a pieces h.2))
 
   -- a knot that is needed does not lie inside a piece of another list
-  not_inside : (k l : Knot) (a b : Piece) (pieces : List Piece) → k.time ≈ l.time → MarginsFrom p tr k (a ∷ pieces) → IsRobustInside p tr l b
+  not_inside : (k l : Knot) (a b : Piece) (pieces : List Piece) → k.time ≈ l.time → From k (a ∷ pieces) → IsRobustInside p tr l b
       → b.next.time ≤ʳ stop tr → ¬ (a.next.time <ʳ b.next.time)
   not_inside k l a b [] e h i s o = not_lt_of_le (le_trans s (ge_of_same h.2)) o
   not_inside k l a b (c ∷ pieces) e h i s o = h.2.0 (record {
@@ -141,7 +152,7 @@ module _ (p : Subformula) (tr : Trace) where
       f_is : (t : Rational) → value_at f.line t ≈ᵉ value_at g.line t
       f_is = one_line f.line g.line k.time a.next.time h.0 f.follows (part_of g.line l.time b.next.time k.time a.next.time (ge_of_same e) (le_of_same s) g.follows)
 
-  pieces_alike : (k l : Knot) (pieces others : List Piece) → k.time ≈ l.time → MarginsFrom p tr k pieces → MarginsFrom p tr l others → PiecesAlike pieces others
+  pieces_alike : (k l : Knot) (pieces others : List Piece) → k.time ≈ l.time → From k pieces → From l others → PiecesAlike pieces others
   pieces_alike k l [] [] e h i = tt
   pieces_alike k l [] (b ∷ others) e h i =
       not_lt_of_le (le_trans (by_stop b.next others (from_here l b others i.2)) (ge_of_same h)) (lt_of_le_of_lt (le_of_same e) i.0.0)
@@ -161,4 +172,4 @@ module _ (p : Subformula) (tr : Trace) where
   pub DescribesMargins-unique : (ks ls : Knots) → DescribesMargins ks p tr → DescribesMargins ls p tr → KnotsAlike ks.first ls.first × PiecesAlike ks.pieces ls.pieces
   DescribesMargins-unique ks ls h i =
       let e = same_trans h.0 (same_sym i.0) in
-      (record { time = e; value = one_value ks.first.value ls.first.value e h.1 i.1 }, pieces_alike ks.first ls.first ks.pieces ls.pieces e h.2 i.2)
+      (record { time = e; value = one_value ks.first.value ls.first.value e h.1 i.1 }, pieces_alike ks.first ls.first ks.pieces ls.pieces e (from_first ks.first ks.pieces h.0 h.2) (from_first ls.first ls.pieces i.0 i.2))

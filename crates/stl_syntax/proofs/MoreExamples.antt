@@ -15,7 +15,7 @@ use Rattle.stl_syntax.specs.Knots.{Knots, IsInside}
 use Rattle.stl_syntax.specs.SupInf.{Robustness}
 use Rattle.stl_syntax.specs.Verdicts.{Describes, DescribesMargins, IsTold}
 use Rattle.frac128.specs.declared.frac.Frac.{Frac}
-use Rattle.frac128.proofs.Wholes.{whole_frac}
+use Rattle.frac128.proofs.Wholes.{whole_frac, span_between}
 use Rattle.frac128.specs.declared.span.Span.{Span}
 use Rattle.stl_syntax.specs.declared.rel.Rel.TheVariants.{AtLeast}
 use Rattle.rational.proofs.TimeLemmas.{less_in}
@@ -77,8 +77,8 @@ robust_once = record {
 abbrev pub fraction : ℕ → Frac
 fraction n = whole_frac (pos n)
 
-abbrev pub span : ℕ → Bool → ℕ → Bool → Span
-span a i b o = record { from = fraction a; from_in = i; to = fraction b; to_in = o }
+abbrev pub span : (a : ℕ) (i : Bool) (b : ℕ) (o : Bool) → value (fraction a) <ʳ value (fraction b) → Span
+span a i b o h = span_between (fraction a) i (fraction b) o h
 
 -- `x >= 5` on the rise: [0,5) false, [5,10] true
 pub low_fails : (u : Rational) → u <ʳ at_time 5 → ¬ Truth x_at_least_5 rise u
@@ -91,7 +91,7 @@ pub high_holds : (u : Rational) → at_time 5 ≤ʳ u → u ≤ʳ at_time 10 →
 high_holds u h k =
     compares_same AtLeast (subtract u (at_time 5)) (expression at_least_5 rise u) (same_sym (rise_value u k)) (let l = h.le in grind arith)
 
-rise_verdicts : Describes (record { on = span 0 true 5 false; holds = false } ∷ record { on = span 5 true 10 true; holds = true } ∷ []) x_at_least_5 rise (closed (start rise) (stop rise))
+rise_verdicts : Describes (record { on = span 0 true 5 false (record { lt = lit< tt }); holds = false } ∷ record { on = span 5 true 10 true (record { lt = lit< tt }); holds = true } ∷ []) x_at_least_5 rise (closed (start rise) (stop rise))
 rise_verdicts = (
   record { time = record { same = refl }; inside = refl },
   record { not_empty = inl (record { lt = lit< tt }); truth = λ t w. low_fails t (let h : t <ʳ value (fraction 5) = w.below in record { lt = h.lt }) },
@@ -104,7 +104,7 @@ rise_verdicts = (
 )
 
 -- another cut does not describe it: `[0,5] false` is wrong at 5
-pub wrong_verdict : ¬ IsTold x_at_least_5 rise (record { on = span 0 true 5 true; holds = false })
+pub wrong_verdict : ¬ IsTold x_at_least_5 rise (record { on = span 0 true 5 true (record { lt = lit< tt }); holds = false })
 wrong_verdict h = h.truth (at_time 5) (omega arith) (high_holds (at_time 5) (omega arith) (omega arith))
 
 -- the knots of its robustness: -5 at 0, rising to 5 at 10
@@ -125,7 +125,7 @@ rise_margins : DescribesMargins rise_knots x_at_least_5 rise
 rise_margins = (
   record { same = refl },
   close (record { same = refl }) (same_sym (rise_value (at_time 0) (omega arith))),
-  (
+  inr (
     (record { lt = lit< tt }, inside),
     close (record { same = refl }) (same_sym (rise_value (at_time 10) (omega arith))),
     record { same = refl },

@@ -6,14 +6,14 @@ use Rattle.rational.specs.Rational.{Rational, ratio}
 use Rattle.rational.specs.Time.{◌≈◌, closed, Divides}
 use Rattle.rational.specs.Extended.{Extended, ◌≈ᵉ◌, ◌≤ᵉ◌, Affine, affine, value_at}
 use Rattle.stl_syntax.specs.Formula.{eventually, subformula}
-use Rattle.stl_syntax.specs.InPlay.{of_two, IsPart, IsInPlay, IsWideCrossing}
+use Rattle.rational.specs.InPlay.{of_two, IsPart, IsInPlay, IsWideCrossing}
 use Rattle.stl_syntax.specs.Verdicts.{Describes}
 use Rattle.stl_syntax.specs.Network.{Event, step, close, take, state, allowed_at, shown, IsRun, Emitted}
 use Rattle.stl_syntax.specs.Network.{row as came}
 use Rattle.stl_syntax.specs.Texts.{fraction_text, IsNumberText}
 use Rattle.stl_syntax.specs.Stream.{IsStreamText}
 use Rattle.frac128.specs.declared.frac.Frac.{Frac}
-use Rattle.frac128.proofs.Wholes.{whole_frac}
+use Rattle.frac128.proofs.Wholes.{whole_frac, instant_span}
 use Rattle.stl_syntax.specs.declared.items.Verdict.{Verdict}
 use Rattle.stl_syntax.proofs.Examples.{x_at_least_5, at_time, row, x_header, eventually_nodes}
 use Rattle.stl_syntax.proofs.KeptExamples.{instant, x_fails}
@@ -54,11 +54,11 @@ front_at_end : shown (state eventually_nodes (two_rows ++ close ∷ step 1 ∷ [
 unfolding state
 front_at_end = refl
 
-a_run : IsRun eventually_nodes (two_rows ++ step 1 ∷ close ∷ take ∷ [])
-a_run = ((refl, tt), ((refl, (record { lt = tt })), ((lit< tt, refl), ((refl, λ e. cc), (tt, tt)))))
+a_run : IsRun eventually_nodes x_header (two_rows ++ step 1 ∷ close ∷ take ∷ [])
+a_run = ((refl, tt, refl), ((refl, record { lt = tt }, refl), ((lit< tt, refl), ((refl, λ e. cc), (tt, tt)))))
 
 -- a row after the end is in no run
-no_run : ¬ IsRun eventually_nodes (came (row 0 (pos 0)) ∷ close ∷ came (row 5 (pos 5)) ∷ [])
+no_run : ¬ IsRun eventually_nodes x_header (came (row 0 (pos 0)) ∷ close ∷ came (row 5 (pos 5)) ∷ [])
 no_run h = let e = h.1.1.0.0 in cc
 
 abbrev pub zero_frac : Frac
@@ -66,7 +66,7 @@ zero_frac = whole_frac (pos 0)
 
 -- `x >= 5` false on [0,0]
 abbrev pub false_at_0 : Verdict
-false_at_0 = record { on = record { from = zero_frac; from_in = true; to = zero_frac; to_in = true }; holds = false }
+false_at_0 = record { on = instant_span zero_frac; holds = false }
 
 pub told : Describes (false_at_0 ∷ []) x_at_least_5 instant (closed (at_time 0) (at_time 0))
 told = (
@@ -132,7 +132,8 @@ meets_there t h k =
 wide : IsWideCrossing (IsInPlay (of_two (λ t v. v ≈ᵉ value_at steep t) (λ t v. v ≈ᵉ value_at level t)) (at_time 0) (at_time 1)) (at_time 0) (at_time 1) steep level (at_time 0) (at_time 1) (2 ^ 60)
 wide = record {
   tau = ratio (pos 1) (2 ^ 60) (lit< tt);
-  inside = omega arith;
+  after_start = omega arith;
+  before_stop = omega arith;
   above = omega arith;
   below = omega arith;
   first = inl (itself steep);

@@ -8,7 +8,7 @@ use Rattle.rational.proofs.Order.{le_of_same, ge_of_same, same_sym, same_trans, 
 use Rattle.rational.proofs.Field.{same_negate}
 use Rattle.rational.proofs.Lines.{same_at}
 use Rattle.rational.proofs.TimeLemmas.{precedes_after, precedes_before}
-use Rattle.rational.proofs.ExtendedLemmas.{le_transᵉ}
+use Rattle.rational.proofs.AffineLemmas.{same_transᵉ, finite_same, value_same}
 use Rattle.rational.proofs.WindowLemmas.{ahead_same, behind_same, from_same, to_same, sup_alike, sup_over_alike, inf_over_alike, up_to_same, down_to_same}
 use Rattle.frac128.specs.Spans.{interval}
 use Rattle.stl_syntax.specs.Trace.{Trace}
@@ -22,17 +22,6 @@ use Rattle.stl_syntax.specs.declared.items.Item.{Item}
 use Rattle.stl_syntax.specs.declared.rel.Rel.{Rel}
 use Rattle.stl_syntax.specs.declared.rel.Rel.TheVariants.{AtLeast, Above, AtMost, Below}
 use Rattle.stl_syntax.proofs.TruthLemmas.{same_expression, compares_same}
-
-pub same_transᵉ : (u v w : Extended) → u ≈ᵉ v → v ≈ᵉ w → u ≈ᵉ w
-same_transᵉ u v w h k = record { at_most = le_transᵉ u v w h.at_most k.at_most; at_least = le_transᵉ w v u k.at_least h.at_least }
-
-finite_same : {x y : Rational} → x ≈ y → finite x ≈ᵉ finite y
-finite_same e = record { at_most = le_of_same e; at_least = ge_of_same e }
-
-pub value_same : {t u : Rational} (f : Affine) → t ≈ u → value_at f t ≈ᵉ value_at f u
-value_same always_low e = record { at_most = tt; at_least = tt }
-value_same (affine f) e = finite_same (same_at f e)
-value_same always_high e = record { at_most = tt; at_least = tt }
 
 margin_same : {x y : Rational} (rel : Rel) → x ≈ y → margin rel x ≈ margin rel y
 margin_same AtLeast e = e

@@ -5,7 +5,7 @@ use Rattle.rational.specs.Rational.{ratio}
 use Rattle.rational.specs.Time.{Rational, ◌≈◌, IsLowest, HasDenominator}
 use Rattle.rational.specs.Extended.{Affine, affine, value_at, ◌≤ᵉ◌}
 use Rattle.rational.proofs.Order.{same_trans, same_sym}
-use Rattle.stl_syntax.specs.InPlay.{IsWideCrossing}
+use Rattle.rational.specs.InPlay.{IsWideCrossing}
 use Rattle.stl_syntax.proofs.Examples.{at_time}
 use Rattle.stl_syntax.proofs.NetworkExamples.{level}
 

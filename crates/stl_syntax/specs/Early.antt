@@ -61,8 +61,12 @@ abbrev pub Decides : Subformula → Trace → Bool → Type 0
 Decides p tr true = Settled p tr (start tr)
 Decides p tr false = SettledNot p tr (start tr)
 
+-- none of the rows decides
+abbrev pub NoneDecides : Subformula → Header → List Row → Type 0
+NoneDecides p header rows = (before after : List Row) (r : Row) (b : Bool) → rows ≡ before ++ r ∷ after
+    → ¬ Decides p (record { header = header; rows = before ++ r ∷ [] }) b
+
 -- the last of the rows is the first at which they decide
 pub record FirstDecides (p : Subformula) (header : Header) (rows : List Row) (r : Row) (holds : Bool) : Type 0 where
   pub decides : Decides p (record { header = header; rows = rows ++ r ∷ [] }) holds
-  pub not_before : (earlier later : List Row) (s : Row) (b : Bool) → rows ≡ earlier ++ s ∷ later
-      → ¬ Decides p (record { header = header; rows = earlier ++ s ∷ [] }) b
+  pub not_before : NoneDecides p header rows

@@ -3,7 +3,7 @@ use Rattle.std.specs.Prelude.{◌≡◌, ◌≢◌, ◌⊎◌, ℕ, suc, ◌-◌
 use Rattle.rational.specs.Time.{Rational, Interval, IsIn}
 use Rattle.stl_syntax.specs.Trace.{Header, first_time}
 use Rattle.frac128.specs.Spans.{interval}
-use Rattle.stl_syntax.specs.Network.{Event, take, Front, shown, state, reach_back, needed, Emitted}
+use Rattle.stl_syntax.specs.Network.{Event, take, Front, IsRun, shown, state, reach_back, needed, Emitted}
 use Rattle.stl_syntax.specs.declared.items.Verdict.{Verdict}
 use Rattle.stl_syntax.specs.declared.node.Node.{Node}
 use Rattle.stl_syntax.specs.declared.node.Node.TheVariants.{Not, And, Or, Implies, Until, Eventually, Always, Since, Once, Historically}
@@ -75,12 +75,15 @@ pub record Shown : Type 0 where
   pub fronts : ℕ → Front
   pub edges : ℕ → List Verdict
 
--- the object stands for the run
-pub record StandsFor (nodes : List Node) (header : Header) (net : Shown) (events : List Event) : Type 0 where
+-- the object shows what the network has after the run
+pub record Shows (nodes : List Node) (header : Header) (net : Shown) (events : List Event) : Type 0 where
   pub fronts : (i : ℕ) → i < length nodes → net.fronts i ≡ (state nodes events).fronts i
   pub edges : (i : ℕ) → suc i < length nodes → IsEdge nodes header events i (net.edges i)
   pub root : IsRootEdge nodes header events (net.edges (length nodes - 1))
 
--- a call that adds an event carries every past that the object stands for
-abbrev pub Carries : {X E : Type 0} → (X → List E → Type 0) → X → X → E → Type 0
-Carries Stands old new e = (past : List _) → Stands old past → Stands new (past ++ e ∷ [])
+-- the object stands for the run: it shows what the network has, and `Holds` says of what it keeps beside that, as the last row, the
+-- end and the memory of each operator, that it is the run's
+pub record StandsFor (Holds : List Event → Type 0) (nodes : List Node) (header : Header) (net : Shown) (events : List Event) : Type 0 where
+  pub run : IsRun nodes header events
+  pub holds : Holds events
+  pub shows : Shows nodes header net events

@@ -1,7 +1,7 @@
 -- The items that an explanation keeps, and the traces that agree with them.
 use Rattle.std.specs.Prelude.{◌≡◌, ◌⊎◌, ℕ, suc, ◌+◌, ◌*◌, ◌-◌, ◌<◌, ◌≤◌, List, [], ◌∷◌, ◌++◌, length, reverse, MatchBool}
 use Rattle.rational.specs.Time.{Rational, Interval, IsIn, BeginAlike, EndAlike}
-use Rattle.stl_syntax.specs.Trace.{Trace, start, stop}
+use Rattle.stl_syntax.specs.Trace.{Trace, IsLike, start, stop}
 use Rattle.stl_syntax.specs.Formula.{Subformula, subformula, root}
 use Rattle.stl_syntax.specs.Truth.{Truth}
 use Rattle.stl_syntax.specs.Kleene.{MustNot}
@@ -49,11 +49,15 @@ pub record Kept (nodes : List Node) (tr : Trace) (kept : List Item) : Type 0 whe
   pub cells : AllCells nodes tr 0 nodes all
   pub dropped : KeptFrom (root nodes) tr (reverse all) [] kept
 
--- n is the number of cells of the nodes from the last down to place i; `from` counts the nodes that are left below i
+-- n is the number of cells of the nodes from the last down to place i
 pub data CellCount (nodes : List Node) (tr : Trace) : ℕ → ℕ → Type 0 where
   none : CellCount nodes tr (length nodes) 0
   more : {i n : ℕ} (times : List Rational) → CellCount nodes tr (suc i) n → AreCuts nodes tr i times
       → CellCount nodes tr i (n + (2 * length times - 1))
+
+-- the most cells of an explanation
+abbrev pub most_cells : ℕ
+most_cells = 65536
 
 -- the running sum at the first node at which it passes the limit
 pub record IsTooMany (nodes : List Node) (tr : Trace) (limit count : ℕ) : Type 0 where
@@ -64,9 +68,7 @@ pub record IsTooMany (nodes : List Node) (tr : Trace) (limit count : ℕ) : Type
   pub count_before : CellCount nodes tr (suc place) before
   pub count_here : CellCount nodes tr place count
 
--- tr' has the columns, the scale, the start and the end of tr, and each item is so in it
+-- tr' is like tr, and each item is so in it
 pub record Agree (nodes : List Node) (tr' tr : Trace) (items : List Item) : Type 0 where
-  pub header : tr'.header ≡ tr.header
-  pub start_same : start tr' ≡ start tr
-  pub stop_same : stop tr' ≡ stop tr
+  pub like : IsLike tr' tr
   pub so : AreSo nodes tr' items

@@ -45,3 +45,14 @@ AreKnotsFrom k (p ∷ pieces) = (k.time <ʳ p.next.time) × AreKnotsFrom p.next 
 -- the times of the knots rise strictly
 abbrev pub AreKnots : Knots → Type 0
 AreKnots knots = AreKnotsFrom knots.first knots.pieces
+
+-- the last knot
+abbrev pub last_knot : Knot → List Piece → Knot
+last_knot k [] = k
+last_knot k (p ∷ pieces) = last_knot p.next pieces
+
+-- the knots rise from the one time to the other
+pub record Spans (from to : Rational) (knots : Knots) : Type 0 where
+  pub begins : knots.first.time ≈ from
+  pub ends : (last_knot knots.first knots.pieces).time ≈ to
+  pub rising : AreKnots knots

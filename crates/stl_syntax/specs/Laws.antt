@@ -2,7 +2,7 @@
 use Rattle.std.specs.Prelude.{◌≡◌, ◌⊎◌, ◌↔◌, ℕ, ◌<◌, List, ◌∷◌, length, pos, slice_get, Some, Bool, MatchBool}
 use Rattle.rational.specs.Time.{Rational, Within, Interval, whole, negate, ◌≈◌, ◌≤ʳ◌}
 use Rattle.rational.specs.Extended.{Extended, finite, ◌<ᵉ◌, ◌≈ᵉ◌}
-use Rattle.stl_syntax.specs.Trace.{Header, Row, Trace, IsTrace, Continues, start, stop}
+use Rattle.stl_syntax.specs.Trace.{Header, Row, Trace, IsTrace, Continues, IsLike, start, stop}
 use Rattle.stl_syntax.specs.Formula.{Subformula, root}
 use Rattle.stl_syntax.specs.PostOrder.{IsPostOrder}
 use Rattle.stl_syntax.specs.Truth.{Truth}
@@ -37,7 +37,7 @@ abbrev pub IsReadable : Reading → Type 0
 IsReadable (margins tr) = Unit {0}
 IsReadable (truths tr) = Unit {0}
 IsReadable (certainties tr items) = Unit {0}
-IsReadable (signals lists) = (i : ℕ) (knots : Knots) → slice_get lists i ≡ Some knots → AreKnots knots
+IsReadable (signals lists) = (i : ℕ) (knots : Knots) → slice_get lists i ≡ Some (Some knots) → AreKnots knots
 
 -- a formula has at most one value at a time
 abbrev pub OneValue : Type 0
@@ -49,7 +49,7 @@ abbrev pub CertaintyHasValues : Type 0
 CertaintyHasValues = (tr : Trace) (items : List Item) (i : ℕ) (a : Atom) (t : Rational) → (r : Extended) × Gives (certainties tr items) i a t r
 
 -- with atoms read as 1 and -1 the value is 1 or -1: 1 exactly where the formula holds, and -1 exactly where it does not
-pub record IsTold (p : Subformula) (tr : Trace) (t : Rational) (r : Extended) : Type 0 where
+pub record IsToldByValue (p : Subformula) (tr : Trace) (t : Rational) (r : Extended) : Type 0 where
   pub told : (r ≈ᵉ one) ⊎ (r ≈ᵉ minus_one)
   pub holds : (r ≈ᵉ one) ↔ Truth p tr t
   pub fails : (r ≈ᵉ minus_one) ↔ (¬ Truth p tr t)
@@ -57,7 +57,7 @@ pub record IsTold (p : Subformula) (tr : Trace) (t : Rational) (r : Extended) : 
 abbrev pub TruthByValues : Type 0
 TruthByValues =
     (p : Subformula) (tr : Trace) → HasValues p (truth_setting tr) → (t : Rational) (r : Extended) → Within (start tr) (stop tr) t
-    → SupInf p (truth_setting tr) t r → IsTold p tr t r
+    → SupInf p (truth_setting tr) t r → IsToldByValue p tr t r
 
 -- with atoms read as 1 and -1 where items cover them, and as 0 elsewhere, the value is 1 exactly on what is certainly true, -1
 -- exactly on what is certainly false, and 0 on the rest
@@ -95,12 +95,6 @@ DecisionsStay =
     let so_far : Trace = record { header = header; rows = r ∷ rows } in
     IsTrace tr → Continues tr header (r ∷ rows) ended → Decides p so_far holds
     → MatchBool holds (Truth p tr (start tr)) (¬ Truth p tr (start tr)) × Decides p tr holds
-
--- the two traces have the same columns, scale, start and end
-pub record IsLike (tr' tr : Trace) : Type 0 where
-  pub header : tr'.header ≡ tr.header
-  pub start_same : start tr' ≡ start tr
-  pub stop_same : stop tr' ≡ stop tr
 
 -- where the robustness is above e, the formula holds in every trace whose atoms' expressions differ by at most e, and where it is
 -- below -e the formula fails there; with e = 0 and the trace itself this is the law of signs

@@ -12,7 +12,6 @@ pub mod SupInf
 pub mod Verdicts
 pub mod Cells
 pub mod Kept
-pub mod InPlay
 pub mod WideCause
 pub mod Network
 pub mod Texts
@@ -30,3 +29,4 @@ pub mod Held
 pub mod StreamedWide
 pub mod Closeness
 pub mod Laws
+pub mod MarginEdges

@@ -110,21 +110,22 @@ state_from nodes s (e ∷ events) = state_from nodes (after_event nodes s e) eve
 unfoldable pub state : List Node → List Event → State
 state nodes events = state_from nodes initial events
 
--- an event may come: a row is later than the last and comes before the end; the end comes after a row, once; a step is of a node that is no atom
-abbrev pub MayCome : List Node → State → Event → Type 0
-MayCome nodes s (row r) = (s.closed ≡ false) × IfSome (last_row s) (λ f. f <ℤ pos r.time)
-MayCome nodes s (step i) = (i < length nodes) × (node_is_atom nodes i ≡ false)
-MayCome nodes s close = (s.closed ≡ false) × (last_row s ≡ None → ⊥)
-MayCome nodes s take = Unit {0}
+-- an event may come: a row has a value for each column, is later than the last one and comes before the end; the end comes after a
+-- row, once; a step is of a node that is no atom
+abbrev pub MayCome : List Node → Header → State → Event → Type 0
+MayCome nodes header s (row r) = (s.closed ≡ false) × IfSome (last_row s) (λ f. f <ℤ pos r.time) × (length r.values ≡ length header.columns)
+MayCome nodes header s (step i) = (i < length nodes) × (node_is_atom nodes i ≡ false)
+MayCome nodes header s close = (s.closed ≡ false) × (last_row s ≡ None → ⊥)
+MayCome nodes header s take = Unit {0}
 
 -- the events may come in this order, from state s on
-abbrev pub IsRunFrom : List Node → State → List Event → Type 0
-IsRunFrom nodes s [] = Unit {0}
-IsRunFrom nodes s (e ∷ events) = MayCome nodes s e × IsRunFrom nodes (after_event nodes s e) events
+abbrev pub IsRunFrom : List Node → Header → State → List Event → Type 0
+IsRunFrom nodes header s [] = Unit {0}
+IsRunFrom nodes header s (e ∷ events) = MayCome nodes header s e × IsRunFrom nodes header (after_event nodes s e) events
 
 -- the events are a run
-abbrev pub IsRun : List Node → List Event → Type 0
-IsRun nodes events = IsRunFrom nodes initial events
+abbrev pub IsRun : List Node → Header → List Event → Type 0
+IsRun nodes header events = IsRunFrom nodes header initial events
 
 -- what `front` shows: the number, unless it lies below the start
 abbrev pub shown : State → ℕ → Front

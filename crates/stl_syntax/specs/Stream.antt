@@ -1,7 +1,7 @@
 -- What a streaming run writes: at each row the verdicts of what that row answers, and at the end those of the rest.
-use Rattle.std.specs.Prelude.{◌≡◌, ℕ, Bool, true, false, List, [], ◌∷◌, ◌++◌, pos, ℤ, ◌-ℤ◌, int_lt, if◌then◌else◌, MatchBool, Option, Some, None}
+use Rattle.std.specs.Prelude.{◌≡◌, ℕ, Bool, true, false, List, [], ◌∷◌, ◌++◌, length, pos, ℤ, ◌-ℤ◌, int_lt, if◌then◌else◌, MatchBool, Option, Some, None}
 use Rattle.rational.specs.Time.{whole, Interval, closed, left_open}
-use Rattle.stl_syntax.specs.Trace.{Header, Row, Trace, first_time, last_time}
+use Rattle.stl_syntax.specs.Trace.{Header, Row, Trace, AreRows, first_time, last_time}
 use Rattle.stl_syntax.specs.Formula.{Subformula, horizon}
 use Rattle.stl_syntax.specs.Verdicts.{Describes}
 use Rattle.stl_syntax.specs.Texts.{AreVerdictLines, IsStartLine}
@@ -44,10 +44,11 @@ IsRowsText New p header rows old (r ∷ more) text =
 abbrev pub IsRestText : NewText → Subformula → Trace → List ℕ → Type 0
 IsRestText New p tr text = New tr (answered_by (first_time tr.rows) p (last_time 0 tr.rows)) (Some (pos (last_time 0 tr.rows))) text
 
--- the text for these rows, with the rest and the start line where the input has ended
+-- the text for these rows, with the rest and the start line where the input has ended; then there is a row
 abbrev pub IsStreamText : Subformula → Header → List Row → Bool → List ℕ → Type 0
 IsStreamText p header rows false text = IsRowsText (IsNewText p) p header [] None rows text
 IsStreamText p header rows true text =
-    (during rest line : List ℕ) × IsRowsText (IsNewText p) p header [] None rows during
+    AreRows (length header.columns) rows
+    × ((during rest line : List ℕ) × IsRowsText (IsNewText p) p header [] None rows during
     × IsRestText (IsNewText p) p (record { header = header; rows = rows }) rest
-    × IsStartLine p (record { header = header; rows = rows }) line × (text ≡ during ++ rest ++ line)
+    × IsStartLine p (record { header = header; rows = rows }) line × (text ≡ during ++ rest ++ line))

@@ -1,44 +1,28 @@
 -- When a streamed robustness may refuse for a denominator: by what the rows have settled; and which formulas are streamed.
-use Rattle.std.specs.Prelude.{◌⊎◌, ℕ, suc, Bool, true, ℤ, pos, ◌+ℤ◌, ◌-ℤ◌, int_lt, if◌then◌else◌, List, [], ◌∷◌, Option, Some, None, option_map, IfSome}
+use Rattle.std.specs.Prelude.{◌⊎◌, ℕ, Bool, true, ℤ, pos, ◌-ℤ◌, if◌then◌else◌, List, Option, IfSome}
 use Rattle.rational.specs.Time.{Rational, whole, shifted, ◌<ʳ◌, ◌≈◌}
 use Rattle.rational.specs.Extended.{Affine}
 use Rattle.rational.specs.Windows.{Ahead, Behind}
-use Rattle.stl_syntax.specs.Formula.{Subformula, constant, atom, negation, conjunction, disjunction, implication, until, eventually, always, since, once, historically, subformula}
+use Rattle.stl_syntax.specs.Formula.{Subformula, eventually, always, once, historically, subformula, horizon, IsFirst}
 use Rattle.stl_syntax.specs.SupInf.{Setting, SupInf}
-use Rattle.stl_syntax.specs.InPlay.{IsValueWithin, IsLimitWithin, IsWideCrossing, IsWideValue}
+use Rattle.rational.specs.InPlay.{IsValueWithin, IsLimitWithin, IsWideCrossing, IsWideValue}
 use Rattle.stl_syntax.specs.WideCause.{IsInPlayAt}
 use Rattle.stl_syntax.specs.declared.node.Node.{Node}
 use Rattle.stl_syntax.specs.declared.node.Node.TheVariants.{Until, Since}
 
--- the place of the first until or since
-abbrev pub first_unstreamed : List Node → Option ℕ
-first_unstreamed [] = None
-first_unstreamed (Until p q a b ∷ nodes) = Some 0
-first_unstreamed (Since p q a b ∷ nodes) = Some 0
-first_unstreamed (_ ∷ nodes) = option_map suc (first_unstreamed nodes)
+-- the node is until or since
+abbrev pub IsUnstreamed : Node → Type 0
+IsUnstreamed (Until p q a b) = Unit {0}
+IsUnstreamed (Since p q a b) = Unit {0}
+IsUnstreamed n = ⊥
 
--- the lesser number
-abbrev pub lesser : ℤ → ℤ → ℤ
-lesser a b = if int_lt b a then b else a
+-- the first node that is until or since
+abbrev pub IsFirstUnstreamed : List Node → ℕ → Type 0
+IsFirstUnstreamed nodes i = IsFirst IsUnstreamed nodes i
 
--- the front number of a node after a row at time s, where each node below it stands at its own
-abbrev pub settled_front : ℤ → Subformula → ℤ
-settled_front s (constant b) = s
-settled_front s (atom i a) = s
-settled_front s (negation p) = settled_front s p
-settled_front s (conjunction p q) = lesser (settled_front s p) (settled_front s q)
-settled_front s (disjunction p q) = lesser (settled_front s p) (settled_front s q)
-settled_front s (implication p q) = lesser (settled_front s p) (settled_front s q)
-settled_front s (until a b p q) = lesser (settled_front s p) (settled_front s q) -ℤ pos b
-settled_front s (eventually a b a_in b_in p) = settled_front s p -ℤ pos b
-settled_front s (always a b a_in b_in p) = settled_front s p -ℤ pos b
-settled_front s (since a b p q) = lesser (settled_front s p) (settled_front s q +ℤ pos a)
-settled_front s (once a b a_in b_in p) = lesser (settled_front s p +ℤ pos a) s
-settled_front s (historically a b a_in b_in p) = lesser (settled_front s p +ℤ pos a) s
-
--- at the end of the input each node stands at the last time
+-- the front number of a node after a row at time s, where each node below it stands at its own; at the end of the input all stand at s
 abbrev pub front_at : Bool → ℤ → Subformula → ℤ
-front_at ended s p = if ended then s else settled_front s p
+front_at ended s p = if ended then s else s -ℤ pos (horizon p)
 
 -- the value of the input, or a limit of it, at a breakpoint of the window ahead before the input's own front
 abbrev pub AheadConstant : Bool → ℤ → Subformula → Setting → ℕ → ℕ → Bool → Bool → Rational → Affine → Type 0

@@ -1,5 +1,5 @@
 -- The Sup-Inf value of a formula, over any reading of its atoms.
-use Rattle.std.specs.Prelude.{◌⊎◌, ℕ, true, false, List, pos, negsuc, IsTrue, IsFalse, slice_get, Some, ◌≡◌}
+use Rattle.std.specs.Prelude.{◌⊎◌, ℕ, true, false, List, pos, negsuc, IsTrue, IsFalse, slice_get, Option, Some, None, [], ◌∷◌, ◌≡◌}
 use Rattle.rational.specs.Windows.{Ahead, Behind, IsSupOver, IsInfOver, IsUntil, IsSince}
 use Rattle.rational.specs.Time.{Rational, Within, whole, negate}
 use Rattle.stl_syntax.specs.Trace.{Trace, start, stop}
@@ -10,16 +10,25 @@ use Rattle.stl_syntax.specs.Truth.{expression, holds_at}
 use Rattle.stl_syntax.specs.Kleene.{IsCovered}
 use Rattle.stl_syntax.specs.declared.atom.Atom.{Atom}
 use Rattle.stl_syntax.specs.declared.items.Item.{Item}
+use Rattle.stl_syntax.specs.declared.node.Node.{Node}
+use Rattle.stl_syntax.specs.declared.node.Node.TheVariants.{Atom as Leaf}
 use Rattle.stl_syntax.specs.declared.rel.Rel.{Rel}
 use Rattle.stl_syntax.specs.declared.rel.Rel.TheVariants.{AtLeast, Above, AtMost, Below}
 
 -- what gives each atom occurrence a value at each time: a trace read as margins, or as 1 and -1; a trace read as 1 and -1 where
--- items cover it, and as 0 elsewhere; or a list of knots for each place
+-- items cover it, and as 0 elsewhere; or the knots of each atom occurrence, at its place
 pub data Reading : Type 0 where
   margins : Trace → Reading
   truths : Trace → Reading
   certainties : Trace → List Item → Reading
-  signals : List Knots → Reading
+  signals : List (Option Knots) → Reading
+
+-- lists of knots, one for each atom in post-order, each at the place of its atom
+abbrev pub placed : List Node → List Knots → List (Option Knots)
+placed [] lists = []
+placed (Leaf a ∷ nodes) [] = None ∷ placed nodes []
+placed (Leaf a ∷ nodes) (knots ∷ lists) = Some knots ∷ placed nodes lists
+placed (_ ∷ nodes) lists = None ∷ placed nodes lists
 
 -- by how far the comparison holds
 abbrev pub margin : Rel → Rational → Rational
@@ -48,7 +57,7 @@ Gives (certainties tr items) i a t r =
     (IsTrue (holds_at a tr t) × IsCovered items i t × (r ≈ᵉ one))
     ⊎ (IsFalse (holds_at a tr t) × IsCovered items i t × (r ≈ᵉ minus_one))
     ⊎ ((¬ IsCovered items i t) × (r ≈ᵉ zero_value))
-Gives (signals lists) i a t r = (knots : Knots) × (slice_get lists i ≡ Some knots) × Reads knots t r
+Gives (signals lists) i a t r = (knots : Knots) × (slice_get lists i ≡ Some (Some knots)) × Reads knots t r
 
 -- how atoms are read, the lowest and the highest value, and the domain
 pub record Setting : Type 0 where
@@ -82,11 +91,11 @@ margin_setting tr = record { atoms = margins tr; lowest = minus_infinity; highes
 abbrev pub Robustness : Subformula → Trace → Rational → Extended → Type 0
 Robustness p tr t r = SupInf p (margin_setting tr) t r
 
--- each formula below p, and p, has a value at each time of the domain
+-- the formula has a value at each time of the domain
 abbrev pub HasValue : Subformula → Setting → Type 0
 HasValue p s = (t : Rational) → Within s.from s.to t → (r : Extended) × SupInf p s t r
 
--- so has each formula below it
+-- so have it and each formula below it
 abbrev pub HasValues : Subformula → Setting → Type 0
 HasValues (constant b) s = HasValue (constant b) s
 HasValues (atom i a) s = HasValue (atom i a) s

@@ -66,7 +66,7 @@ abbrev pub IsStartLine : Subformula → Trace → List ℕ → Type 0
 IsStartLine p tr text =
     (holds : Bool) × (MatchBool holds (Truth p tr (start tr)) (¬ Truth p tr (start tr))) × (text ≡ start_line holds)
 
--- the line of a knot, and that of the piece after it
+-- the line of a knot
 abbrev pub IsKnotLine : Scale → Knot → List ℕ → Type 0
 IsKnotLine scale k text =
     (time value : List ℕ) × IsNumberText scale.time k.time time × IsValueText scale.value k.value value × (text ≡ codes "[" ++ time ++ codes "] " ++ value ++ newline)

@@ -1,5 +1,5 @@
 -- Traces: rows of values at rising times, counted in ticks, and read as columns over all rational times between the first and the last row.
-use Rattle.std.specs.Prelude.{◌≡◌, ℕ, ◌+◌, ◌-◌, ◌*◌, ◌<◌, suc, Bool, true, false, List, [], ◌∷◌, length, ℤ, pos, if◌then◌else◌, slice_index_or, bytes_eq, ◌++◌, IsTrue}
+use Rattle.std.specs.Prelude.{◌≡◌, ℕ, ◌+◌, ◌-◌, ◌*◌, ◌<◌, suc, Bool, true, false, List, [], ◌∷◌, length, ℤ, pos, if◌then◌else◌, slice_index_or, bytes_eq, ◌++◌, IsTrue, ◌≤◌, nat_abs, All}
 use Rattle.std.proofs.Math.Nat.{zero-lt-suc}
 use Rattle.rational.specs.Rational.{part_above, part_below}
 use Rattle.rational.specs.Line.{Line, at}
@@ -65,11 +65,11 @@ abbrev pub first_time : List Row → ℕ
 first_time [] = 0
 first_time (r ∷ rows) = r.time
 
--- the first and the last row time: the ends of the domain
+-- the first row time, at which the domain begins
 abbrev pub start : Trace → Rational
 start tr = whole (pos (first_time tr.rows))
 
--- the last row time
+-- the last row time, at which it ends
 abbrev pub stop : Trace → Rational
 stop tr = whole (pos (last_time 0 tr.rows))
 
@@ -109,3 +109,18 @@ value_among (k ∷ columns) c rows name t =
 -- the value at t of the column with that name
 unfoldable pub value_of : Trace → List ℕ → Rational → Rational
 value_of tr name t = value_among tr.header.columns 0 tr.rows name t
+
+-- the two traces have the same columns, scale, start and end
+pub record IsLike (tr' tr : Trace) : Type 0 where
+  pub header : tr'.header ≡ tr.header
+  pub start_same : start tr' ≡ start tr
+  pub stop_same : stop tr' ≡ stop tr
+
+-- the row's time and its values lie within the limits, in ticks
+pub record IsInRange (r : Row) : Type 0 where
+  pub time : r.time ≤ 4294967295
+  pub values : All (λ v. nat_abs v ≤ 16777216) r.values
+
+-- each of the rows does
+abbrev pub AreInRange : List Row → Type 0
+AreInRange rows = All IsInRange rows

@@ -1,5 +1,5 @@
 -- Lists of verdicts and of knots that describe a formula on a stretch of time.
-use Rattle.std.specs.Prelude.{◌≡◌, ◌≢◌, List, [], ◌∷◌, MatchBool}
+use Rattle.std.specs.Prelude.{◌≡◌, ◌≢◌, ◌⊎◌, List, [], ◌∷◌, MatchBool}
 use Rattle.rational.specs.Time.{Rational, later, ◌≤ʳ◌, ◌<ʳ◌, ◌≈◌, Interval, IsIn, IsNotEmpty, BeginAlike, EndAlike, Touch}
 use Rattle.rational.specs.Extended.{Extended, ◌≈ᵉ◌, Affine, Passes}
 use Rattle.stl_syntax.specs.Trace.{Trace, start, stop}
@@ -26,7 +26,7 @@ abbrev pub Describes : List Verdict → Subformula → Trace → Interval → Ty
 Describes [] p tr stretch = ⊥
 Describes (v ∷ verdicts) p tr stretch = BeginAlike (interval v.on) stretch × IsTold p tr v × GoesOn p tr stretch v verdicts
 
--- the piece before knot k, the value at k and the piece after it are of one affine or one constantly infinite function
+-- the piece before the knot `before.next`, the value there and the piece after it are of one affine or one constantly infinite function
 pub record AreOneLine (j : Knot) (before : Piece) (after : Piece) : Type 0 where
   pub through : Affine
   pub begins : Passes through j.time before.from
@@ -45,21 +45,25 @@ IsRobustInside p tr k piece =
     (k.time <ʳ piece.next.time) × ((t : Rational) → k.time <ʳ t → t <ʳ piece.next.time
     → (r : Extended) × Robustness p tr t r × IsInside k piece t r)
 
--- knot k follows the piece `before` of knot j, and is needed
-abbrev pub MarginsGoOn : Subformula → Trace → Knot → Piece → List Piece → Type 0
-MarginsGoOn p tr j before [] = before.next.time ≈ stop tr
-MarginsGoOn p tr j before (after ∷ pieces) =
-    (¬ AreOneLine j before after) × IsRobustInside p tr before.next after × IsRobust p tr after.next
-    × MarginsGoOn p tr before.next after pieces
+-- the pieces after knot j, the first of which is `before`, end at `to`, and no knot between them can be left out
+abbrev pub PiecesGoOn : Subformula → Trace → Rational → Knot → Piece → List Piece → Type 0
+PiecesGoOn p tr to j before [] = before.next.time ≈ to
+PiecesGoOn p tr to j before (after ∷ pieces) =
+    (¬ AreOneLine j before after) × IsRobustInside p tr before.next after × IsRobust p tr after.next × PiecesGoOn p tr to before.next after pieces
 
--- the knots from k on tell the robustness up to the end of the domain
-abbrev pub MarginsFrom : Subformula → Trace → Knot → List Piece → Type 0
-MarginsFrom p tr k [] = k.time ≈ stop tr
-MarginsFrom p tr k (piece ∷ pieces) = IsRobustInside p tr k piece × IsRobust p tr piece.next × MarginsGoOn p tr k piece pieces
+-- the pieces tell the robustness after the time of k, up to `to`
+abbrev pub TellsAfter : Subformula → Trace → Rational → Knot → List Piece → Type 0
+TellsAfter p tr to k [] = ⊥
+TellsAfter p tr to k (piece ∷ pieces) = IsRobustInside p tr k piece × IsRobust p tr piece.next × PiecesGoOn p tr to k piece pieces
+
+-- the robustness over [from,to]: a point, and then pieces, if there is more than the point
+abbrev pub TellsClosed : Subformula → Trace → Rational → Rational → Knots → Type 0
+TellsClosed p tr from to knots =
+    (knots.first.time ≈ from) × IsRobust p tr knots.first × (((knots.pieces ≡ []) × (from ≈ to)) ⊎ TellsAfter p tr to knots.first knots.pieces)
 
 -- the knots tell the robustness on the whole domain, with no knot that can be left out
 abbrev pub DescribesMargins : Knots → Subformula → Trace → Type 0
-DescribesMargins knots p tr = (knots.first.time ≈ start tr) × IsRobust p tr knots.first × MarginsFrom p tr knots.first knots.pieces
+DescribesMargins knots p tr = TellsClosed p tr (start tr) (stop tr) knots
 
 -- two lists of verdicts have the same spans with the same truths, maybe by other pairs
 abbrev pub AreAlike : List Verdict → List Verdict → Type 0

@@ -1,20 +1,20 @@
 -- When an evaluation may refuse for a denominator: a pair of functions, or a constant, that is in play at a node.
 use Rattle.std.specs.Prelude.{◌⊎◌, ℕ, true, Option, Some, List}
-use Rattle.rational.specs.Time.{Rational, Within}
+use Rattle.rational.specs.Time.{Rational}
 use Rattle.rational.specs.Extended.{opposite, Affine}
-use Rattle.rational.specs.Windows.{Function, Ahead, Behind, IsSupOver, IsInfOver, IsUntil, IsSince}
+use Rattle.rational.specs.Windows.{Function, Ahead, Behind, IsSupOver, IsInfOver, UntilToEnd, SinceFromStart}
 use Rattle.stl_syntax.specs.Formula.{Subformula, constant, atom, negation, conjunction, disjunction, implication, until, eventually, always, since, once, historically, subformula}
 use Rattle.stl_syntax.specs.SupInf.{Setting, SupInf}
-use Rattle.stl_syntax.specs.InPlay.{Step, of_two, window_ahead, window_behind, until_end, since_start, IsInPlay, IsWideCrossing, IsWideValue}
+use Rattle.rational.specs.InPlay.{Step, of_two, window_ahead, window_behind, until_end, since_start, IsInPlay, IsWideCrossing, IsWideValue}
 use Rattle.stl_syntax.specs.declared.node.Node.{Node}
 
--- P until Q, where Q counts up to the end of the domain; and P since Q, from its start
+-- P until Q, where Q counts up to the end of the domain
 abbrev pub until_to_end : Setting → Function → Function → Function
-until_to_end s P Q = λ t. IsUntil s.lowest s.highest (Within t s.to) P Q t
+until_to_end s P Q = UntilToEnd s.lowest s.highest s.to P Q
 
--- P since Q, from the start of the domain
+-- P since Q, where Q counts from the start of the domain on
 abbrev pub since_from_start : Setting → Function → Function → Function
-since_from_start s P Q = λ t. IsSince s.lowest s.highest (Within s.from t) P Q t
+since_from_start s P Q = SinceFromStart s.lowest s.highest s.from P Q
 
 -- the Inf of P over the window ahead
 abbrev pub always_ahead : Setting → ℕ → ℕ → Function → Function
@@ -63,7 +63,7 @@ IsStepOf (since a b p q) s C =
 abbrev pub IsInPlayAt : Subformula → Setting → Rational → Affine → Type 0
 IsInPlayAt p s tau line = IsStepOf p s (λ step. IsInPlay step s.from s.to tau line)
 
--- the node at place i may refuse for the crossing of p and q between a and b; and for the value of p at u
+-- the node at place i may refuse for the crossing of p and q between a and b
 abbrev pub IsCrossingCause : List Node → Setting → ℕ → Affine → Affine → Rational → Rational → ℕ → Type 0
 IsCrossingCause nodes s i p q a b den = IsWideCrossing (IsInPlayAt (subformula nodes i) s) s.from s.to p q a b den
 

@@ -1,12 +1,14 @@
 -- A session whose header lacks the formula's column, and one whose ticks are too small.
 use Rattle.std.proofs.Common.{◌≡◌, arith, ℕ, List, [], ◌∷◌, ◌++◌, refl, inl, inr, Bool, true, false, pos, lit≤}
-use Rattle.std.specs.Prelude.{codes, ◌≢◌}
+use Rattle.std.proofs.lemmas.List.Elements.{All-nil}
+use Rattle.std.specs.Prelude.{codes, ◌≢◌, None}
 use Rattle.std.specs.Fmt.{digits}
 use Rattle.stl_syntax.specs.Formula.{Formula}
 use Rattle.stl_syntax.specs.Texts.{newline}
 use Rattle.trace_reader.specs.TraceText.{Line, lines, fields, Heading}
 use Rattle.trace_reader.specs.TraceRefusals.{FaultFrom}
-use Rattle.workbench.specs.InputFaults.{stream_limits, IsHeaderAt, here, later, Fault, unknown, IsInputFault}
+use Rattle.workbench.specs.InputFaults.{stream_limits, IsHeaderAt, here, later, Fault, unknown, IsInputFault, no_header_yet, faulted_header}
+use Rattle.stl_syntax.specs.Binding.{IsUnknown}
 use Rattle.workbench.specs.Sessions.{Tagged, is_tag_byte, IsTagged, alone, followed, tag, Alone, MuxText, FaultOfInput, bad_tag}
 use Rattle.stl_syntax.specs.declared.rel.Rel.TheVariants.{AtLeast}
 use Rattle.stl_syntax.specs.declared.node.Node.TheVariants.{Atom as Leaf}
@@ -31,7 +33,7 @@ no_heading n h a = has_line a refl
 -- before its header a session writes nothing
 nothing_yet : Alone z_formula [] false []
 unfolding lines
-nothing_yet = inl (no_fault, inr (no_heading, refl))
+nothing_yet = (None, [], false, [], [], no_header_yet no_fault no_heading, refl, inl (no_fault, refl), refl)
   where
     no_fault : (x : Fault) → ¬ IsInputFault stream_limits z_formula [] false x
     no_fault x (inl (n, h, a, l, k)) = no_heading n h a
@@ -47,11 +49,31 @@ sound r (inr (_, (w, inr (_, (h, read, (e, ((t, u), z))))))) = cc
 abbrev unknown_z : List ℕ
 unknown_z = codes "line 1: unknown column z" ++ newline
 
+abbrev lack : Fault
+lack = unknown 1 0 0 (codes "z")
+
+z_unknown : IsUnknown (x_heading).columns z_formula 0 0 (codes "z")
+z_unknown = record {
+  owner = _;
+  lacking = _;
+  at_atom = refl;
+  at_term = refl;
+  named = refl;
+  no_column = λ h. cc;
+  terms_before = All-nil _;
+  nodes_before = All-nil _;
+}
+
+lacking : (ended : Bool) → IsInputFault stream_limits z_formula x_bytes ended lack
+unfolding lines fields digits
+lacking false = inl (1, x_heading, here refl refl x_heading_read, inl (0, 0, codes "z", z_unknown, refl), sound)
+lacking true = inl (1, x_heading, here refl refl x_heading_read, inl (0, 0, codes "z", z_unknown, refl), sound)
+
 -- the header lacks the column z, before the end and at it
 lacks_z : (ended : Bool) → Alone z_formula x_bytes ended unknown_z
 unfolding lines fields digits
-lacks_z false = inr (unknown 1 (codes "z"), inl (1, x_heading, here refl refl x_heading_read, inl (0, 0, codes "z", refl, refl), sound), ([], inr (no_heading, refl), refl))
-lacks_z true = inr (unknown 1 (codes "z"), inl (1, x_heading, here refl refl x_heading_read, inl (0, 0, codes "z", refl, refl), sound), ([], inr (no_heading, refl), refl))
+lacks_z false = (None, [], false, [], unknown_z, faulted_header lack (lacking false) no_heading, refl, inr (lack, lacking false, refl), refl)
+lacks_z true = (None, [], false, [], unknown_z, faulted_header lack (lacking true) no_heading, refl, inr (lack, lacking true, refl), refl)
 
 -- one session that fails so, with the end of the input
 one_session : MuxText z_formula (record { tag = codes "a"; content = codes "time,x" } ∷ []) true (codes "a " ++ unknown_z)

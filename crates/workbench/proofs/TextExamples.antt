@@ -1,5 +1,6 @@
 -- Texts, faults of units and the generator at small cases.
 use Rattle.std.proofs.Common.{◌≡◌, ℕ, zero, suc, [], ◌∷◌, ◌++◌, refl, inl, inr, true, false, pos, negsuc, lit≤, lit<, arith, subst}
+use Rattle.std.proofs.lemmas.List.Elements.{All-nil}
 use Rattle.std.specs.Prelude.{codes, Some, None, slice_get}
 use Rattle.std.specs.Fmt.{digits}
 use Rattle.stl_syntax.specs.Formula.{Formula, once, eventually, atom}
@@ -87,7 +88,16 @@ reach_out = inr ((λ x h. none h.0 h.1.node h.1.at h.1.is), (lit< tt, refl))
 
 -- a header without the column
 unknown_z : IsUnknown [] large 0 0 (codes "x")
-unknown_z = refl
+unknown_z = record {
+  owner = _;
+  lacking = _;
+  at_atom = refl;
+  at_term = refl;
+  named = refl;
+  no_column = λ h. cc;
+  terms_before = All-nil _;
+  nodes_before = All-nil _;
+}
 
 -- the one value of `gen 0 1`
 one_row : rows_after 0 0 1 ≡ record { time = 0; values = negsuc 884560 ∷ negsuc 884560 ∷ [] } ∷ []

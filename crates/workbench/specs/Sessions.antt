@@ -1,14 +1,14 @@
 -- Several traces in one input, each line with the tag of its session.
-use Rattle.std.specs.Prelude.{◌≡◌, ◌⊎◌, ℕ, ◌-◌, ◌≤◌, ◌||◌, Bool, true, false, List, [], ◌∷◌, ◌++◌, flat_map, take, drop, length, codes, bytes_eq, if◌then◌else◌, MatchBool, suc, ◌<◌, IsTrue}
-use Rattle.stl_syntax.specs.Characters.{begins_word, is_digit, all}
+use Rattle.std.specs.Prelude.{◌≡◌, ◌⊎◌, ℕ, ◌-◌, ◌≤◌, ◌||◌, Bool, true, false, List, [], ◌∷◌, ◌++◌, flat_map, drop, Option, Some, None, length, codes, bytes_eq, if◌then◌else◌, MatchBool, suc, ◌<◌, IsTrue}
+use Rattle.stl_syntax.specs.Characters.{begins_word, is_digit, all, is_among}
 use Rattle.stl_syntax.specs.Choice.{◌or_else◌, Where, Nothing}
 use Rattle.stl_syntax.specs.Formula.{Formula, root}
 use Rattle.stl_syntax.specs.Scaling.{scaled}
 use Rattle.stl_syntax.specs.Trace.{Header, Row}
-use Rattle.trace_reader.specs.TraceText.{Line, lines, content, is_blank_line, Heading, AreTraceLines}
+use Rattle.trace_reader.specs.TraceText.{Line, lines, content, is_blank_line}
 use Rattle.stl_syntax.specs.Texts.{newline}
 use Rattle.workbench.specs.ErrTexts.{in_line, bad_tag_text, too_many_sessions_text}
-use Rattle.workbench.specs.InputFaults.{stream_limits, IsHeaderAt, Fault, line_of, fault_text, IsInputFault}
+use Rattle.workbench.specs.InputFaults.{stream_limits, Fault, fault_text, IsInputFault, AreRowsBefore}
 use Rattle.stl_syntax.specs.Stream.{IsStreamText}
 
 -- a line that is not blank: its tag and its content
@@ -57,18 +57,22 @@ abbrev pub is_stopped : List Tagged → List ℕ → Bool
 is_stopped [] t = false
 is_stopped (line ∷ more) t = if bytes_eq line.tag t then is_stop line || is_stopped more t else is_stopped more t
 
--- the stream of the rows in the lines; nothing before the header
-abbrev pub IsLinesText : Formula → List Line → Bool → List ℕ → Type 0
-IsLinesText f all ended text =
-    ((header : Header) × (rows : List Row) × AreTraceLines f.scale all header rows × IsStreamText (root (scaled f header.scale).nodes) header rows ended text)
-    ⊎ (((n : ℕ) (h : Heading) → ¬ IsHeaderAt all n h) × (text ≡ []))
+-- the stream of the rows under the header; nothing before the header
+abbrev pub IsRowsStream : Formula → Option Header → List Row → Bool → List ℕ → Type 0
+IsRowsStream f None rows ended text = text ≡ []
+IsRowsStream f (Some header) rows ended text = IsStreamText (root (scaled f header.scale).nodes) header rows ended text
+
+-- the line of the first fault of the bytes, where they have one
+abbrev pub IsFaultLine : Formula → List ℕ → Bool → List ℕ → Type 0
+IsFaultLine f bytes ended text =
+    (((x : Fault) → ¬ IsInputFault stream_limits f bytes ended x) × (text ≡ []))
+    ⊎ ((x : Fault) × IsInputFault stream_limits f bytes ended x × (text ≡ fault_text x))
 
 -- what a session writes by itself
 abbrev pub Alone : Formula → List ℕ → Bool → List ℕ → Type 0
 Alone f bytes ended text =
-    (((x : Fault) → ¬ IsInputFault stream_limits f bytes ended x) × IsLinesText f (lines ended bytes) ended text)
-    ⊎ ((x : Fault) × IsInputFault stream_limits f bytes ended x
-    × ((before : List ℕ) × IsLinesText f (take (line_of x - 1) (lines ended bytes)) false before × (text ≡ before ++ fault_text x)))
+    (header : Option Header) × (rows : List Row) × (whole : Bool) × (stream fault : List ℕ) × AreRowsBefore stream_limits f bytes ended header rows whole
+    × IsRowsStream f header rows whole stream × IsFaultLine f bytes ended fault × (text ≡ stream ++ fault)
 
 -- what a session has written after these lines of the input
 abbrev pub SoFar : Formula → List Tagged → List ℕ → List ℕ → Type 0
@@ -94,15 +98,10 @@ AreAnswers f seen [] text = text ≡ []
 AreAnswers f seen (line ∷ more) text =
     (here later : List ℕ) × IsAnswer f seen line here × AreAnswers f (seen ++ line ∷ []) more later × (text ≡ here ++ later)
 
--- the tag is one of these
-abbrev pub is_known : List (List ℕ) → List ℕ → Bool
-is_known [] t = false
-is_known (u ∷ tags) t = bytes_eq u t || is_known tags t
-
 -- the tags in the order of their first lines
 abbrev pub tags_after : List (List ℕ) → List Tagged → List (List ℕ)
 tags_after known [] = []
-tags_after known (line ∷ more) = if is_known known line.tag then tags_after known more else line.tag ∷ tags_after (line.tag ∷ known) more
+tags_after known (line ∷ more) = if is_among line.tag known then tags_after known more else line.tag ∷ tags_after (line.tag ∷ known) more
 
 -- by how much each session grows at the end of the input
 abbrev pub AreEnds : Formula → List Tagged → List (List ℕ) → List ℕ → Type 0
@@ -131,7 +130,7 @@ FaultOfInput n known (line ∷ more) =
     or_else Where (4113 < length line.bytes) (too_long n)
     or_else (λ x. IsTrue line.whole × MatchBool (is_blank_line line) (FaultOfInput (suc n) known more x)
     ((Where (¬ ((t : Tagged) × IsTagged (content line) t)) (bad_tag n)
-    or_else (λ x. (t : Tagged) × IsTagged (content line) t × MatchBool (is_known known t.tag) (FaultOfInput (suc n) known more x)
+    or_else (λ x. (t : Tagged) × IsTagged (content line) t × MatchBool (is_among t.tag known) (FaultOfInput (suc n) known more x)
     ((Where (1024 ≤ length known) (too_many_sessions n) or_else FaultOfInput (suc n) (t.tag ∷ known) more) x))) x))
 
 -- the line that tells of it

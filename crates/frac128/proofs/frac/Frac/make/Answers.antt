@@ -1,6 +1,6 @@
-use Rattle.std.proofs.Common.{rules, to_z-of_z, refl, arith, w64}
+use Rattle.std.proofs.Common.{◌/◌, rules, to_z-of_z, refl, arith, w64}
 use Rattle.std.proofs.lemmas.Int.{ints}
-use Rattle.rational.specs.Rational.{fraction}
+use Rattle.rational.specs.Rational.{fraction, mixed}
 use Rattle.rational.proofs.Order.{same_trans}
 use Rattle.rational.proofs.Mixed.{same_by_rest}
 use Rattle.frac128.proofs.Making.{Making, common_pos, reduced_pos, reduced_below, reduced_lowest, reduced_den, reduced_value, not_wide, whole_fits}
@@ -36,7 +36,7 @@ pub returns-clause-ok : goal.returns-clause-ok
 returns-clause-ok c =
     let m : Making c.args.num c.args.den c.split-whole.result.0 c.split-whole.result.1 c.unsigned_abs-all.result c.gcd-common.result = search (rules, to_z-of_z) in
     let fits = whole_fits w64 m c.requires.floor in
-    same_trans (same_by_rest _ c.split-whole.result.0 _ _ _ _ _ (reduced_pos m) (omega (arith, ints)) refl) (reduced_value m (reduced_pos m))
+    same_trans {b = mixed c.split-whole.result.0 (c.split-whole.result.1 / c.gcd-common.result) (c.unsigned_abs-all.result / c.gcd-common.result) (reduced_pos m)} (same_by_rest _ c.split-whole.result.0 _ _ _ _ _ (reduced_pos m) (omega (arith, ints)) refl) (reduced_value m (reduced_pos m))
 
 pub returns-clause-wide : goal.returns-clause-wide
 returns-clause-wide c =

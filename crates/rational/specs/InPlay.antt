@@ -27,7 +27,7 @@ pub data IsBreakpoint (F : Function) (from to : Rational) : Rational → Type 0 
   stop : {u : Rational} → u ≈ to → IsBreakpoint F from to u
   inner : {u : Rational} → Within from to u → ((line : Affine) → ¬ IsPart F u line) → IsBreakpoint F from to u
 
--- v is the limit of the function at u from the left; and from the right
+-- v is the limit of the function at u from the left
 pub record IsLeftLimit (F : Function) (u : Rational) (v : Extended) : Type 0 where
   pub a : Rational
   pub above : a <ʳ u
@@ -60,10 +60,10 @@ pub data Step : Type 1 where
   until_end : Function → Function → Function → Step
   since_start : Function → Function → Function → Step
 
--- a window's ends at tau, as moves of it
-abbrev pub IsEnd : ℕ → Option ℕ → ℤ → Type 0
-IsEnd a None k = k ≡ neg_ℤ (pos a)
-IsEnd a (Some b) k = (k ≡ neg_ℤ (pos a)) ⊎ (k ≡ neg_ℤ (pos b))
+-- by how much the ends of a window behind lie from tau
+abbrev pub IsEndBehind : ℕ → Option ℕ → ℤ → Type 0
+IsEndBehind a None k = k ≡ neg_ℤ (pos a)
+IsEndBehind a (Some b) k = (k ≡ neg_ℤ (pos a)) ⊎ (k ≡ neg_ℤ (pos b))
 
 -- some time lies in the window
 abbrev pub HasTime : Window → Type 0
@@ -122,7 +122,7 @@ IsInPlay (window_ahead P a b a_in b_in) from to tau line =
     ⊎ IsLimitWithin P from to (Ahead from to a b true true tau) (λ u. shifted tau (pos a) <ʳ u) (λ u. u <ʳ shifted tau (pos b)) line)
 IsInPlay (window_behind P a b a_in b_in) from to tau line =
     HasTime (Behind from to a b a_in b_in tau)
-    × (IsEndPart P from to tau line (IsEnd a b)
+    × (IsEndPart P from to tau line (IsEndBehind a b)
     ⊎ IsValueWithin P from to (Behind from to a b a_in b_in tau) line
     ⊎ IsLimitWithin P from to (Behind from to a b true true tau) (λ u. IfSome b (λ b. tau <ʳ shifted u (pos b))) (λ u. shifted u (pos a) <ʳ tau) line)
 IsInPlay (until_end P Q R) from to tau line =
@@ -134,10 +134,12 @@ IsInPlay (since_start P Q R) from to tau line =
     ⊎ ((u : Rational) × IsPrevious P Q from to tau u × (v : Extended) × IsConstant line v
     × ((P u v ⊎ IsRightLimit P u v) ⊎ (Q u v ⊎ IsRightLimit Q u v) ⊎ (R u v ⊎ IsRightLimit R u v)))
 
--- both lines are in play at one time between a and b, and meet there alone, at a time with the denominator den
+-- both lines are in play at one time strictly inside the domain and between a and b, and meet there alone, at a time with the
+-- denominator den
 pub record IsWideCrossing (InPlay : Rational → Affine → Type 0) (from to : Rational) (p q : Affine) (a b : Rational) (den : ℕ) : Type 0 where
   pub tau : Rational
-  pub inside : Within from to tau
+  pub after_start : from <ʳ tau
+  pub before_stop : tau <ʳ to
   pub above : a <ʳ tau
   pub below : tau <ʳ b
   pub first : InPlay tau p
