@@ -1,12 +1,12 @@
 -- The digits that a text begins with, and what a plain row line says.
-use Rattle.std.proofs.Common.{◌≡◌, ℕ, suc, zero, ◌+◌, ◌-◌, ◌*◌, ◌<◌, ◌≤◌, min, ◌&&◌, Bool, true, false, List, [], ◌∷◌, ◌++◌, length, take, drop, get_or, refl, sym, ap, ◌∙◌, subst, arith, ℤ, nat_abs, pos, negsuc, neg_ℤ, nat_eq, SFits, w32}
+use Rattle.std.proofs.Common.{◌≡◌, ℕ, suc, zero, ◌+◌, ◌-◌, ◌*◌, ◌<◌, ◌≤◌, min, Bool, true, false, List, [], ◌∷◌, ◌++◌, length, take, drop, get_or, refl, sym, ap, ◌∙◌, subst, arith, ℤ, nat_abs, pos, negsuc, nat_eq, SFits, w32}
 use Rattle.std.proofs.lemmas.Int.{ints}
 use lib.Pointwise.{pointwise}
 use Rattle.std.specs.Cmp.Lexicographic.{same_text}
 use Rattle.std.proofs.lemmas.List.{take-append-drop, take_all, take_at, drop_at, drop-drop, drop_more, get_or_at, length-append, length-take-le}
 use Rattle.stl_syntax.specs.Characters.{is_digit, all, StopsAt, decimal_value}
 use Rattle.stl_syntax.specs.Trace.{Row}
-use Rattle.trace_reader.specs.Plain.{AreDigits, digits, IsWhole, plain, minus, IsRowLine}
+use Rattle.trace_reader.specs.Plain.{AreDigits, digits, IsWhole, IsRowLine}
 
 pub all-push : (p : ℕ → Bool) (xs : List ℕ) (c : ℕ) → all p xs ≡ true → p c ≡ true → all p (xs ++ c ∷ []) ≡ true
 all-push p [] c h k = rw k refl

@@ -1,8 +1,8 @@
 -- The lines of bytes that go on: lines that are whole stay as they are.
-use Rattle.std.proofs.Common.{◌≡◌, ℕ, suc, ◌+◌, ◌<◌, ◌≤◌, ◌⊎◌, inl, inr, eqb, Bool, true, false, List, [], ◌∷◌, ◌++◌, length, refl, sym, ap, ◌∙◌, arith}
+use Rattle.std.proofs.Common.{◌≡◌, ℕ, ◌⊎◌, inl, inr, Bool, true, false, List, [], ◌∷◌, ◌++◌, refl, sym, ap, ◌∙◌}
 use Rattle.std.proofs.lemmas.Bool.{cases_eq, eq-eqb, ne_eqb}
 use Rattle.std.specs.Prelude.{All}
-use Rattle.std.proofs.lemmas.List.Elements.{All-nil, All-cons, All-head, All-tail, All-append}
+use Rattle.std.proofs.lemmas.List.Elements.{All-nil, All-cons, All-head, All-tail}
 use Rattle.trace_reader.specs.TraceText.{Line, split, lines}
 use Rattle.trace_reader.specs.Plain.{HasNoFeed}
 
@@ -38,7 +38,7 @@ pub lines-feed : (ended : Bool) (xs : List ℕ) → lines ended (10 ∷ xs) ≡ 
 unfolding lines
 lines-feed ended xs = let (p, ps, h) = split_some xs in rw h refl
 
-lines-other : (ended : Bool) (x : ℕ) (xs : List ℕ) → (x ≡ 10 → ⊥) → lines ended (x ∷ xs) ≡ put ended x (lines ended xs)
+pub lines-other : (ended : Bool) (x : ℕ) (xs : List ℕ) → (x ≡ 10 → ⊥) → lines ended (x ∷ xs) ≡ put ended x (lines ended xs)
 unfolding lines
 lines-other ended x xs other = let (p, ps, h) = split_some xs in by_parts p ps h
   where

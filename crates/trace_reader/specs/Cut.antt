@@ -1,5 +1,5 @@
 -- Bytes that are cut into lines as they come.
-use Rattle.std.specs.Prelude.{◌≡◌, ℕ, suc, ◌+◌, ◌<◌, ◌≤◌, List, [], ◌∷◌, length}
+use Rattle.std.specs.Prelude.{ℕ, suc, ◌<◌, ◌≤◌, List, []}
 use Rattle.trace_reader.specs.declared.line.LineFault.{LineFault}
 use Rattle.trace_reader.specs.declared.line.LineFault.TheVariants.{TooMany, TooLong}
 

@@ -1,8 +1,8 @@
 -- The plain form of a trace: one column beside the time, whole numbers, and no line besides the header and the rows.
-use Rattle.std.specs.Prelude.{◌≡◌, ◌≢◌, ℕ, suc, ◌<◌, ◌≤◌, ◌==◌, Bool, true, false, if◌then◌else◌, List, [], ◌∷◌, ◌++◌, length, All, Contains, slice_get, ℤ, pos, neg_ℤ, nat_abs, codes, Option, Some, None, IsSome}
+use Rattle.std.specs.Prelude.{◌≡◌, ◌≢◌, ℕ, suc, ◌<◌, ◌≤◌, Bool, true, false, List, [], ◌∷◌, ◌++◌, length, All, Contains, slice_get, ℤ, pos, neg_ℤ, nat_abs, codes, Option, Some, None, IsSome}
 use Rattle.std.specs.Io.BufRead.{take_through}
 use Rattle.stl_syntax.specs.Characters.{is_digit, all, decimal_value}
-use Rattle.stl_syntax.specs.Trace.{Column, Row, Header, Trace, last_time}
+use Rattle.stl_syntax.specs.Trace.{Column, Row, Header, last_time}
 use Rattle.trace_reader.specs.Sofar.{AreRowsSoFar}
 use Rattle.trace_reader.specs.TraceText.{Line, lines, IsName, IsTraceText}
 use Rattle.stl_syntax.specs.declared.scale.Scale.{Scale}

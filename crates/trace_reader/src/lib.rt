@@ -4,6 +4,7 @@
 mod digits;
 mod event;
 mod header;
+pub mod laws;
 mod line;
 mod name;
 mod plain;

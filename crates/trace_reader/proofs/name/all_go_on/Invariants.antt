@@ -1,4 +1,4 @@
-use Rattle.std.proofs.Common.{◌≡◌, take, drop}
+use Rattle.std.proofs.Common.{◌≡◌, drop}
 use Rattle.stl_syntax.specs.Characters.{goes_on_word, all}
 use Rattle.trace_reader.proofs.name.all_go_on.Given as goal
 

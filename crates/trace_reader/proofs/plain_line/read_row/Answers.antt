@@ -1,5 +1,5 @@
 -- A row line is digits, a comma and a value.
-use Rattle.std.proofs.Common.{◌≡◌, ◌<◌, ◌≤◌, ◌+◌, drop, w32, arith}
+use Rattle.std.proofs.Common.{w32, arith}
 use Rattle.std.proofs.lemmas.Int.{to_z-of_z}
 use Rattle.std.proofs.lemmas.List.{take_rest}
 use Rattle.trace_reader.proofs.DigitLemmas.{row_is, row_only, value_fits}
@@ -11,9 +11,9 @@ returns-then-time-eq0 c = λ r h.
     let e = c.leading_digits-time.ensures in
     let s = row_only _ _ _ e.within e.digits e.stops e.value r h in
     elim c.then-time-eq0.branch [
-      then-time-eq0-via-then-time-eq0 w ↦ omega (arith, s.0, w.if-time-eq0.true)
-    | then-time-eq0-via-else-time-eq0+then-time w ↦ omega (arith, s.1, h.early, w.if-time.true)
-    | then-time-eq0-via-else-time-eq0+else-time+then-time-line w ↦ omega (arith, s.2, w.if-time-line.true)
+      | then-time-eq0-via-then-time-eq0 w ↦ omega (arith, s.0, w.if-time-eq0.true)
+      | then-time-eq0-via-else-time-eq0+then-time w ↦ omega (arith, s.1, h.early, w.if-time.true)
+      | then-time-eq0-via-else-time-eq0+else-time+then-time-line w ↦ omega (arith, s.2, w.if-time-line.true)
     ]
 
 pub returns-then-line-time-ne44 : goal.returns-then-line-time-ne44

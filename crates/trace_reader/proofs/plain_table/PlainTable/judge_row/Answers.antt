@@ -1,5 +1,5 @@
 -- A row line.
-use Rattle.std.proofs.Common.{◌≡◌, ◌∷◌, [], ◌<◌, ◌≤◌, ◌∙◌, ap, refl, w32, arith}
+use Rattle.std.proofs.Common.{◌≡◌, ◌∷◌, [], ◌∙◌, ap, refl, w32, arith}
 use Rattle.std.proofs.lemmas.Int.{to_z-of_z}
 use Rattle.trace_reader.proofs.DigitLemmas.{value_fits}
 use Rattle.trace_reader.specs.PlainProgress.{Progress, row, no_row, not_later, too_many}
@@ -34,8 +34,8 @@ returns c =
     let new : c.add.new.self ≡ row_with c.in_ok-time.time (c.in_ok-time.value ∷ []) = c.add.ensures ∙ rw (c.begin.ensures, z) refl in
     row h e (rw new c.in_ok-time.ensures)
     (λ some. rw (new, ← t) (elim c.else-self-gt0.branch [
-      else-self-gt0-via-then-self-gt0+else-time w ↦ omega (arith, w.if-time.false, w.time.ensures)
-    | else-self-gt0-via-else-self-gt0 w ↦ absurd (omega (arith, n, some, w.if-self-gt0.false))
+      | else-self-gt0-via-then-self-gt0+else-time w ↦ omega (arith, w.if-time.false, w.time.ensures)
+      | else-self-gt0-via-else-self-gt0 w ↦ absurd (omega (arith, n, some, w.if-self-gt0.false))
     ]))
     (omega (arith, n, c.if-self-most.false))
     (rw (← c.self.view_is) refl)

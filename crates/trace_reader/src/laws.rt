@@ -1,0 +1,24 @@
+//! Laws of the definitions, each the contract of a function that does nothing.
+
+ghost use Rattle.std.specs.Prelude.{ℕ, List, ◌++◌, Bool, true, false, Option};
+ghost use Rattle.stl_syntax.specs.Trace.{Row as Values, Header as Columns};
+ghost use Rattle.trace_reader.specs.Plain.{IsPlain, IsTextOf, HasFault};
+ghost use Rattle.trace_reader.specs.declared.refusal.Limits.{Limits as Bounds};
+
+/// Bytes of the plain form have no fault of it.
+pub fn plain_has_no_fault()
+    ensures { (limits : Bounds) (ended : Bool) (bytes : List ℕ) (header : Option Columns) (rows : List Values)
+        → IsPlain limits ended bytes header rows → ¬ HasFault limits ended bytes }
+{}
+
+/// A fault of bytes is one of all bytes that begin with them.
+pub fn fault_stays()
+    ensures { (limits : Bounds) (bytes : List ℕ) (ended : Bool) (more : List ℕ)
+        → HasFault limits false bytes → HasFault limits ended (bytes ++ more) }
+{}
+
+/// Bytes of the plain form that are all of the input are the text of a trace.
+pub fn plain_is_a_trace()
+    ensures { (limits : Bounds) (bytes : List ℕ) (header : Option Columns) (rows : List Values)
+        → IsPlain limits true bytes header rows → IsTextOf bytes header rows }
+{}
