@@ -3,3 +3,5 @@ pub mod Generator
 pub mod Commands
 pub mod InputFaults
 pub mod Sessions
+pub mod PlainFormula
+pub mod Spelling

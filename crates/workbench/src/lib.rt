@@ -1,2 +1,4 @@
 //! The workbench: one call that judges recorded traces by formulas.
 #![tactic(auto)]
+
+mod spans;
