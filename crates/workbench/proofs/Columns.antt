@@ -1,11 +1,11 @@
 -- A column's value between two neighbouring rows is that of the line through both.
-use Rattle.std.proofs.Common.{◌≡◌, ℕ, zero, suc, pos, ◌+◌, ◌-◌, ◌*◌, ◌<◌, ◌≤◌, ◌⊎◌, inl, inr, List, [], ◌∷◌, length, get_or, true, false, arith, refl, sym, subst}
+use Rattle.std.proofs.Common.{◌≡◌, ℕ, zero, suc, pos, ◌+◌, ◌-◌, ◌<◌, ◌≤◌, inl, inr, List, [], ◌∷◌, length, get_or, false, arith, sym, subst}
 use Rattle.rational.specs.Time.{Rational, ◌≤ʳ◌, ◌<ʳ◌, ◌≈◌, whole}
 use Rattle.rational.specs.Line.{Line, at}
 use Rattle.rational.proofs.Order.{le_or_lt, le_trans, same_refl, same_sym, same_trans, same_of_le, lt_of_le_of_lt, le_of_same}
 use Rattle.rational.proofs.Lines.{same_at}
 use Rattle.rational.proofs.TimeLemmas.{less_in, less_no}
-use Rattle.stl_syntax.specs.Trace.{Row, AreRowsAfter, row_time, value, line_between, value_from, last_time}
+use Rattle.stl_syntax.specs.Trace.{Row, AreRowsAfter, row_time, value, line_between, value_from}
 use Rattle.workbench.proofs.Ramps.{starts, ends}
 
 -- the line of the first column from row r to row s
@@ -28,7 +28,7 @@ rows_stay : (r s : Row) → r.time ≤ s.time → row_time r ≤ʳ row_time s
 rows_stay r s h = record { le = omega arith }
 
 -- at a row's time the column has the row's value
-at_row : (n : ℕ) (r : Row) (rows : List Row) (t : Rational) → AreRowsAfter n r.time rows → t ≈ row_time r → value_from false 0 r rows t ≈ whole (value r 0)
+pub at_row : (n : ℕ) (r : Row) (rows : List Row) (t : Rational) → AreRowsAfter n r.time rows → t ≈ row_time r → value_from false 0 r rows t ≈ whole (value r 0)
 at_row n r [] t ok e = same_refl (whole (value r 0))
 at_row n r (s ∷ rows) t ok e =
     let soon : t <ʳ row_time s = lt_of_le_of_lt (le_of_same e) (rows_rise r s ok.0) in

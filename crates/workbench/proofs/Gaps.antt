@@ -1,13 +1,13 @@
 -- The truth of a plain formula between two neighbouring rows.
-use Rattle.std.proofs.Common.{◌≡◌, ℕ, zero, suc, ℤ, pos, ◌+◌, ◌-◌, ◌<◌, ◌≤◌, ◌<ℤ◌, ◌≤ℤ◌, ◌⊎◌, inl, inr, Bool, true, false, not, IsTrue, MatchBool, List, [], ◌∷◌, length, get_or, arith, refl, sym}
+use Rattle.std.proofs.Common.{ℕ, suc, ℤ, ◌-◌, ◌<◌, ◌<ℤ◌, ◌≤ℤ◌, ◌⊎◌, inl, inr, Bool, true, false, not, List, [], ◌∷◌, length, get_or, arith, refl, sym}
 use Rattle.std.proofs.lemmas.Int.{ints}
 use Rattle.std.proofs.lemmas.Bool.{true≢false}
-use Rattle.rational.specs.Time.{Rational, ◌≤ʳ◌, ◌<ʳ◌, ◌≈◌, whole, closed, IsIn, Precedes}
+use Rattle.rational.specs.Time.{Rational, ◌≤ʳ◌, ◌<ʳ◌, ◌≈◌, whole, closed, Precedes}
 use Rattle.rational.specs.Line.{at, Rises, Falls}
-use Rattle.rational.proofs.Order.{le_or_lt, le_trans, le_refl, lt_of_le_of_lt, lt_of_lt_of_le, le_of_lt, le_of_same, ge_of_same, same_sym, same_refl, not_lt_of_le}
+use Rattle.rational.proofs.Order.{le_or_lt, le_trans, le_refl, lt_of_le_of_lt, lt_of_lt_of_le, le_of_lt, le_of_same, ge_of_same, same_refl, not_lt_of_le}
 use Rattle.rational.proofs.Shift.{le_whole, lt_whole}
-use Rattle.rational.proofs.Lines.{lt_at, lt_at_falls, lt_at_cancel, le_at_falling}
-use Rattle.stl_syntax.specs.Trace.{Row, Trace, AreRows, IsTrace, row_time, value, column_value}
+use Rattle.rational.proofs.Lines.{lt_at_cancel}
+use Rattle.stl_syntax.specs.Trace.{Row, Trace, AreRows, row_time, value, column_value}
 use Rattle.stl_syntax.specs.Truth.{Truth}
 use Rattle.workbench.specs.Spelling.{Keeps, plain_root, IsPlainTrace, row_at, AgreesAt, AreAlike, IsTurn}
 use Rattle.workbench.proofs.Ramps.{high_between, low_between, before_rise, after_rise, before_fall, after_fall, rises_up, falls_down}
@@ -20,11 +20,11 @@ gap_value : (width : ℕ) (rows : List Row) (k : ℕ) (d : Row) (t : Rational) �
 gap_value width [] k d t ok h low high = absurd (omega arith)
 gap_value width (r ∷ rows) k d t ok h low high = value_in_gap width r rows k d t ok.1 h low high
 
-rows_rise : (width : ℕ) (rows : List Row) (k : ℕ) (d : Row) → AreRows width rows → suc k < length rows → (get_or rows k d).time < (get_or rows (suc k) d).time
+pub rows_rise : (width : ℕ) (rows : List Row) (k : ℕ) (d : Row) → AreRows width rows → suc k < length rows → (get_or rows k d).time < (get_or rows (suc k) d).time
 rows_rise width [] k d ok h = absurd (omega arith)
 rows_rise width (r ∷ rows) k d ok h = next_row width r rows k d ok.1 h
 
-is_low : (limit v : ℤ) → ¬ (limit ≤ℤ v) → v <ℤ limit
+pub is_low : (limit v : ℤ) → ¬ (limit ≤ℤ v) → v <ℤ limit
 is_low limit v h = grind (arith, ints)
 
 not_high : (limit v : ℤ) → v <ℤ limit → ¬ (limit ≤ℤ v)

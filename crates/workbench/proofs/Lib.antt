@@ -6,3 +6,4 @@ pub mod PlainTruth
 pub mod Spellings
 pub mod Turns
 pub mod Gaps
+pub mod Advances

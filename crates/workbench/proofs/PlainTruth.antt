@@ -1,12 +1,10 @@
 -- The truth of a plain formula is the order of its column's value and its constant.
-use Rattle.std.proofs.Common.{◌≡◌, ℕ, ℤ, pos, ◌+◌, ◌*◌, ◌≤◌, List, Bool, true, false, IsTrue, arith, refl, sym, ap, ◌∙◌, subst}
+use Rattle.std.proofs.Common.{◌≡◌, ℕ, ℤ, pos, ◌≤◌, List, false, IsTrue, arith, refl, sym, ap, ◌∙◌, subst}
 use Rattle.std.proofs.lemmas.Slice.Eq.{bytes_eq-Decides}
 use Rattle.rational.specs.Time.{Rational, ◌≤ʳ◌, ◌<ʳ◌, whole, add, subtract, times}
 use Rattle.rational.proofs.Order.{not_lt_of_le}
-use Rattle.rational.specs.Rational.{part_above, part_below}
-use Rattle.stl_syntax.specs.Trace.{Trace, Row, Header, value_among, value_of, column_value}
-use Rattle.stl_syntax.specs.Formula.{atom}
-use Rattle.stl_syntax.specs.Truth.{expression, compares, holds_at, Truth}
+use Rattle.stl_syntax.specs.Trace.{Trace, Header, value_among, value_of, column_value}
+use Rattle.stl_syntax.specs.Truth.{expression, compares, Truth}
 use Rattle.stl_syntax.specs.declared.rel.Rel.TheVariants.{AtLeast}
 use Rattle.trace_reader.specs.Plain.{header_of, name_of}
 use Rattle.workbench.specs.Spelling.{plain_root}

@@ -1,15 +1,14 @@
 -- Where a line through two values is at least a constant.
-use Rattle.std.proofs.Common.{◌≡◌, ℕ, ℤ, zero, suc, ◌^◌, ◌+◌, ◌-◌, ◌*◌, ◌<◌, ◌≤◌, pos, ◌+ℤ◌, ◌<ℤ◌, ◌≤ℤ◌, ◌⊎◌, inl, inr, arith, ap, subst, mul-le-mul_right}
-use Rattle.std.proofs.lemmas.Int.{ints}
+use Rattle.std.proofs.Common.{◌≡◌, ℕ, ℤ, zero, suc, ◌^◌, ◌+◌, ◌*◌, ◌<◌, ◌≤◌, pos, ◌+ℤ◌, ◌<ℤ◌, ◌≤ℤ◌, ◌⊎◌, inl, inr, arith, ap, subst, mul-le-mul_right}
 use Rattle.std.proofs.lemmas.Nat.Gcd.{le_of_dvd}
 use Rattle.std.proofs.Math.Nat.{zero-lt-suc}
 use Rattle.rational.specs.Rational.{Rational, ◌≤ʳ◌, ◌<ʳ◌, ◌≈◌, whole, ratio, fraction, part_above, part_below}
 use Rattle.rational.specs.Time.{HasDenominator}
 use Rattle.rational.proofs.Lowest.{denominator_divides}
 use Rattle.rational.specs.Line.{Line, Rises, Falls, at}
-use Rattle.rational.proofs.Order.{le_trans, lt_of_lt_of_le, lt_of_le_of_lt, le_of_same, ge_of_same, le_refl, same_trans}
+use Rattle.rational.proofs.Order.{le_trans, lt_of_lt_of_le, lt_of_le_of_lt, le_of_same, ge_of_same}
 use Rattle.rational.proofs.Field.{cross_le}
-use Rattle.rational.proofs.Lines.{lt_at, lt_at_falls, le_at_falling, same_at}
+use Rattle.rational.proofs.Lines.{lt_at, lt_at_falls, le_at_falling}
 use Rattle.rational.proofs.Mixed.{parts}
 use Rattle.stl_syntax.specs.Trace.{line_between}
 

@@ -1,8 +1,6 @@
 -- A column that passes the constant between two rows does so at one time, which parts its truths.
-use Rattle.std.proofs.Common.{◌≡◌, ℕ, zero, suc, ℤ, pos, ◌+◌, ◌-◌, ◌*◌, ◌<◌, ◌≤◌, ◌+ℤ◌, ◌<ℤ◌, ◌≤ℤ◌, ◌⊎◌, inl, inr, arith, ap}
-use Rattle.std.proofs.lemmas.Int.{ints}
-use Rattle.rational.specs.Rational.{Rational, ◌≈◌, whole, ratio, fraction}
-use Rattle.rational.specs.Line.{at}
+use Rattle.std.proofs.Common.{◌≡◌, ℕ, zero, suc, ℤ, pos, ◌+◌, ◌-◌, ◌*◌, ◌<◌, ◌+ℤ◌, ◌<ℤ◌, ◌≤ℤ◌, inl, inr, arith, ap}
+use Rattle.rational.specs.Rational.{Rational, ◌≈◌, ratio, fraction}
 use Rattle.rational.proofs.Order.{same_trans}
 use Rattle.rational.proofs.Lines.{same_at}
 use Rattle.stl_syntax.specs.Trace.{line_between}

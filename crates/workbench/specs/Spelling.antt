@@ -1,5 +1,5 @@
 -- Verdicts that are being listed: a span whose end is not known yet, and what stands before it.
-use Rattle.std.specs.Prelude.{◌≡◌, ◌⊎◌, ◌↔◌, ℕ, suc, ◌-◌, ◌≤◌, Bool, true, not, MatchBool, IsTrue, List, [], ◌∷◌, ◌++◌, length, slice_index_or, ℤ, ◌≤ℤ◌, ◌<ℤ◌, nat_abs}
+use Rattle.std.specs.Prelude.{◌≡◌, ◌⊎◌, ◌↔◌, ℕ, suc, ◌-◌, Bool, true, not, MatchBool, IsTrue, List, [], ◌∷◌, ◌++◌, slice_index_or, ℤ, ◌≤ℤ◌, ◌<ℤ◌}
 use Rattle.rational.specs.Time.{Rational, Interval, IsIn, Precedes, ◌≈◌, whole}
 use Rattle.rational.specs.Line.{at}
 use Rattle.frac128.specs.Value.{value}
