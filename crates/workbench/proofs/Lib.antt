@@ -7,3 +7,5 @@ pub mod Spellings
 pub mod Turns
 pub mod Gaps
 pub mod Advances
+pub mod Cuts
+pub mod Constants

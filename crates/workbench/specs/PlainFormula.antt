@@ -1,5 +1,5 @@
 -- Plain formulas: one column that is at least a constant.
-use Rattle.std.specs.Prelude.{◌≡◌, ℕ, ◌≤◌, List, [], ◌∷◌, ◌++◌, length, ℤ, pos, nat_abs, codes, IsTrue}
+use Rattle.std.specs.Prelude.{◌≡◌, ◌≢◌, ℕ, ◌<◌, ◌≤◌, slice_index, List, [], ◌∷◌, ◌++◌, length, ℤ, pos, nat_abs, codes, IsTrue}
 use Rattle.stl_syntax.specs.Formula.{Formula}
 use Rattle.stl_syntax.specs.Names.{is_name}
 use Rattle.stl_syntax.specs.declared.atom.Atom.{Atom}
@@ -23,3 +23,7 @@ pub record IsPlainText (text name : List ℕ) (limit : ℤ) : Type 0 where
   pub constant : IsWhole number limit
   pub small : nat_abs limit ≤ 1073741824
   pub short : length text ≤ 8192
+
+-- no space among the bytes
+abbrev pub HasNoSpace : List ℕ → Type 0
+HasNoSpace bytes = (i : ℕ) → i < length bytes → slice_index bytes i ≢ 32
