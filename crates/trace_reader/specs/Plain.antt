@@ -140,6 +140,11 @@ IsEvent Nothing header piece = ¬ Contains piece 10
 IsEvent IsTheHeader header piece = Contains piece 10 × (header ≡ None)
 IsEvent IsARow header piece = Contains piece 10 × IsSome header
 
+-- the header after an event: there is one once it came, and it stays
+abbrev pub HeaderAfter : Event → Option Header → Option Header → Type 0
+HeaderAfter IsTheHeader old new = IsSome new
+HeaderAfter _ old new = new ≡ old
+
 -- a row that came is one that a trace with these rows can take
 abbrev pub IsNext : Event → List Row → Row → Type 0
 IsNext IsARow rows last = (length last.values ≡ 1) × (0 < length rows → last_time 0 rows < last.time)

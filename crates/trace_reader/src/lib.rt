@@ -13,6 +13,8 @@ mod plain_reading;
 mod plain_table;
 mod refusal;
 mod row;
+#[cfg(test)]
+mod tests;
 mod trace;
 
 pub use event::{Event, Took};

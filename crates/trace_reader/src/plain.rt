@@ -33,7 +33,7 @@ impl Rows {
     ghost use Rattle.std.specs.Prelude.{◌≡◌, ◌↔◌, ◌^◌, ◌<◌, ◌≤◌, List, [], ◌++◌, ℕ, take, length, Some, IsSome, IfOk, IsErr, OnOk, OnErr, true, false};
     ghost use Rattle.stl_syntax.specs.Trace.{Row as Values};
     ghost use Rattle.trace_reader.specs.TraceText.{lines};
-    ghost use Rattle.trace_reader.specs.Plain.{StandsFor, HasFault, IsPlain, IsTextOf, IsEvent, IsNext, header_of, name_of, through_feed, rows_after, end_event};
+    ghost use Rattle.trace_reader.specs.Plain.{StandsFor, HasFault, IsPlain, IsTextOf, IsEvent, HeaderAfter, IsNext, header_of, name_of, through_feed, rows_after, end_event};
 
     /// A reader of a trace with at most so many rows and lines, which has read nothing.
     /// It reserves its memory, and the other calls take none.
@@ -64,8 +64,10 @@ impl Rows {
         ensures within { IfOk result (λ t. t.bytes ≤ length piece.now) }
         ensures progress { IfOk result (λ t. 0 < length piece.now → 0 < t.bytes) }
         ensures event { IfOk result (λ t. IsEvent t.event self.old.header piece.now) }
+        ensures header { IfOk result (λ t. HeaderAfter t.event self.old.header self.new.header) }
         ensures ok { IfOk result (λ t. (bytes : List ℕ) (rows : List Values) → StandsFor self.old bytes rows
             → StandsFor self.new (bytes ++ take t.bytes piece.now) (rows_after t.event rows self.new.row)) }
+        ensures count { IfOk result (λ t. t.event ≡ Event.Row → 0 < self.new.count) }
         ensures next { IfOk result (λ t. (bytes : List ℕ) (rows : List Values) → StandsFor self.old bytes rows
             → IsNext t.event rows self.new.row) }
 
@@ -77,6 +79,7 @@ impl Rows {
             → self.new.begun ≡ length (lines false (bytes ++ through_feed piece.now))) }
         ensures again { self.old.refused ≡ true → IsErr result × (self.new ≡ self.old) }
         ensures limits { self.new.limits ≡ self.old.limits }
+        ensures goes_on { self.new.ended ≡ false }
     {
         if self.refused {
             return Err(NotPlain);

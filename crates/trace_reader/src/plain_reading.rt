@@ -1,6 +1,6 @@
 ghost use Rattle.std.specs.Prelude.{◌≡◌, ◌+◌, ◌^◌, ◌<◌, ◌≤◌, ◌++◌, [], ℕ, List, true, false, length, take, IfSome, OnSome, IfOk, IfNone};
 ghost use Rattle.stl_syntax.specs.Trace.{Row as Values};
-ghost use Rattle.trace_reader.specs.Plain.{StandsFor, HasFault, IsPlain, IsEvent, IsNext, through_feed, rows_after, end_event};
+ghost use Rattle.trace_reader.specs.Plain.{StandsFor, HasFault, IsPlain, IsEvent, HeaderAfter, IsNext, through_feed, rows_after, end_event};
 ghost use Rattle.trace_reader.specs.TraceText.{lines};
 
 use crate::line::Lines;
@@ -38,8 +38,10 @@ impl PlainReading {
         ensures bytes { IfSome result (λ t. take t.bytes piece.now ≡ through_feed piece.now) }
         ensures size { IfSome result (λ t. (t.bytes ≤ length piece.now) × (0 < length piece.now → 0 < t.bytes)) }
         ensures event { IfSome result (λ t. IsEvent t.event self.old.table.header piece.now) }
+        ensures header { IfSome result (λ t. HeaderAfter t.event self.old.table.header self.new.table.header) }
         ensures ok { IfSome result (λ t. (bytes : List ℕ) (rows : List Values) → StandsFor (state limits.now self.old) bytes rows
             → StandsFor (state limits.now self.new) (bytes ++ through_feed piece.now) (rows_after t.event rows self.new.table.row)) }
+        ensures count { IfSome result (λ t. t.event ≡ Event.Row → 0 < self.new.table.count) }
         ensures next { IfSome result (λ t. (bytes : List ℕ) (rows : List Values) → StandsFor (state limits.now self.old) bytes rows
             → IsNext t.event rows self.new.table.row) }
         ensures within { OnSome result (IsWithin limits.now self.new) }
