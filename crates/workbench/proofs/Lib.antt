@@ -7,3 +7,4 @@ pub mod Spellings
 pub mod Turns
 pub mod Gaps
 pub mod Advances
+pub mod Devices

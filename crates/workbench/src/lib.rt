@@ -1,4 +1,6 @@
 //! The workbench: one call that judges recorded traces by formulas.
 #![tactic(auto)]
 
+mod output;
 mod spans;
+mod words;
