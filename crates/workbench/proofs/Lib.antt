@@ -9,3 +9,4 @@ pub mod Gaps
 pub mod Advances
 pub mod Cuts
 pub mod Constants
+pub mod Devices

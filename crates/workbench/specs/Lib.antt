@@ -5,3 +5,5 @@ pub mod InputFaults
 pub mod Sessions
 pub mod PlainFormula
 pub mod Spelling
+pub mod Words
+pub mod Writing
