@@ -10,3 +10,4 @@ pub mod Advances
 pub mod Cuts
 pub mod Constants
 pub mod Devices
+pub mod Starts

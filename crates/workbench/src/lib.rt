@@ -1,6 +1,7 @@
 //! The workbench: one call that judges recorded traces by formulas.
 #![tactic(auto)]
 
+mod answer;
 mod output;
 mod plain_formula;
 mod spans;
