@@ -1,2 +1,6 @@
 pub mod FurtherExamples
 pub mod ReportExamples
+pub mod Parts
+pub mod Spans
+pub mod Tops
+pub mod Fractions

@@ -2,3 +2,5 @@ pub mod Json
 pub mod Table
 pub mod Report
 pub mod Units
+pub mod Appended
+pub mod Numbers

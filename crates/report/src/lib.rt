@@ -1,2 +1,10 @@
 //! The texts of verdicts, margins and explanations.
 #![tactic(auto)]
+
+mod number;
+mod verdict;
+
+pub use verdict::{put_start, put_verdict};
+
+#[cfg(test)]
+mod tests;

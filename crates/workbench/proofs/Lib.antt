@@ -1,2 +1,13 @@
 pub mod TextExamples
 pub mod SessionExamples
+pub mod Ramps
+pub mod Columns
+pub mod PlainTruth
+pub mod Spellings
+pub mod Turns
+pub mod Gaps
+pub mod Advances
+pub mod Cuts
+pub mod Constants
+pub mod Devices
+pub mod Starts

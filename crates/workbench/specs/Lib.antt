@@ -3,3 +3,8 @@ pub mod Generator
 pub mod Commands
 pub mod InputFaults
 pub mod Sessions
+pub mod PlainFormula
+pub mod Spelling
+pub mod Words
+pub mod Writing
+pub mod Answers

@@ -1,2 +1,8 @@
 //! The workbench: one call that judges recorded traces by formulas.
 #![tactic(auto)]
+
+mod answer;
+mod output;
+mod plain_formula;
+mod spans;
+mod words;

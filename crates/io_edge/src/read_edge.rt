@@ -1,0 +1,50 @@
+//! A reader of std as a source.
+ghost use Rattle.std.specs.Prelude.{◌≡◌, false};
+
+use crate::device::{Failed, Source};
+use std::io::Read;
+
+/// A reader of std, with its failures counted.
+#[derive(Drop)]
+pub struct ReadEdge<R> {
+    inner: R,
+    faults: u64,
+    done: bool,
+}
+
+impl<R: Read> ReadEdge<R> {
+    /// The reader as a source. It tells the bytes that the reader tells.
+    pub fn new(inner: R) -> ReadEdge<R>
+        ensures left { ⟦<ReadEdge<R> as Source>⟧.left result ≡ R.remaining inner }
+        ensures ended { ⟦<ReadEdge<R> as Source>⟧.ended result ≡ false }
+        ensures faults { ⟦<ReadEdge<R> as Source>⟧.faults result ≡ 0 }
+    {
+        ReadEdge {
+            inner,
+            faults: 0,
+            done: false,
+        }
+    }
+}
+
+impl<R: Read> Source for ReadEdge<R> {
+    ghost left = { λ s. R.remaining s.inner };
+
+    ghost ended = { λ s. s.done };
+
+    ghost faults = { λ s. s.faults };
+
+    fn read(&mut self, buf: &mut [u8]) -> Result<usize, Failed> {
+        self.done = false;
+        match self.inner.read(buf) {
+            Ok(n) => {
+                self.done = (n == 0) & !buf.is_empty();
+                Ok(n)
+            }
+            Err(_) => {
+                self.faults = self.faults.saturating_add(1);
+                Err(Failed)
+            }
+        }
+    }
+}

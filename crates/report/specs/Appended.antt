@@ -1,0 +1,10 @@
+-- Bytes that grow by a text, or by the first part of one where memory was wanting.
+use Rattle.std.specs.Prelude.{◌≡◌, ℕ, List, ◌++◌}
+
+-- the bytes grew by a text of this kind
+abbrev pub Grew : (List ℕ → Type 0) → List ℕ → List ℕ → Type 0
+Grew P old new = (text : List ℕ) × P text × (new ≡ old ++ text)
+
+-- the bytes grew by the first part of a text of this kind, or by nothing
+abbrev pub GrewInPart : (List ℕ → Type 0) → List ℕ → List ℕ → Type 0
+GrewInPart P old new = (first rest : List ℕ) × P (first ++ rest) × (new ≡ old ++ first)

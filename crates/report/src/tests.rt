@@ -1,0 +1,71 @@
+ghost use Rattle.std.specs.Prelude.{◌≤◌};
+
+use crate::{put_start, put_verdict};
+use frac128::{Frac, Memory, Span};
+use std::alloc::Global;
+use stl_syntax::{Scale, Text, Verdict};
+
+fn line_of(alloc: Global, from: Frac, to: Frac, closed: bool, digits: u8) -> Result<Text, Memory>
+    requires { digits ≤ 6 }
+{
+    let on = Span {
+        from,
+        from_in: closed,
+        to,
+        to_in: !closed,
+    };
+    let verdict = Verdict { on, holds: closed };
+    let scale = Scale {
+        time: digits,
+        value: 0,
+    };
+    let mut text = Text::new(alloc);
+    put_verdict(&mut text, &verdict, scale)?;
+    Ok(text)
+}
+
+#[test]
+fn a_verdict_is_a_line_with_its_times_in_units(rt: HostRuntime) {
+    let Ok(below) = Frac::make(-9, 2) else {
+        panic!(&rt; "wide");
+    };
+    let Ok(sevenths) = Frac::make(30, 7) else {
+        panic!(&rt; "wide");
+    };
+    let Ok(tiny) = Frac::make(4_294_967_295, 16_777_216) else {
+        panic!(&rt; "wide");
+    };
+    let rows: [(Frac, Frac, bool, u8, &[u8]); 5] = [
+        (Frac::of(0), sevenths, true, 0, b"[0,30/7) true\n"),
+        (below, Frac::of(5), false, 0, b"(-9/2,5] false\n"),
+        (
+            Frac::of(1001),
+            Frac::of(2000),
+            true,
+            3,
+            b"[1001/1000,2) true\n",
+        ),
+        (below, sevenths, true, 2, b"[-9/200,3/70) true\n"),
+        (
+            Frac::of(0),
+            tiny,
+            false,
+            6,
+            b"(0,858993459/3355443200000] false\n",
+        ),
+    ];
+    for (from, to, closed, digits, want) in rows {
+        let Ok(text) = line_of(rt.alloc(), from, to, closed, digits.min(6)) else {
+            panic!(&rt; "no memory");
+        };
+        assert_eq!(rt; text.bytes(), want);
+    }
+}
+
+#[test]
+fn the_start_has_a_line_of_its_own(rt: HostRuntime) {
+    let mut text = Text::new(rt.alloc());
+    assert_eq!(rt; put_start(&mut text, true), Ok(()));
+    assert_eq!(rt; put_start(&mut text, false), Ok(()));
+    assert_eq!(rt; text.bytes(), b"start true\nstart false\n".as_slice());
+}

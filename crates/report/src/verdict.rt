@@ -1,0 +1,72 @@
+//! The lines of verdicts and of the truth at the start.
+ghost use Rattle.std.specs.Prelude.{◌≡◌, ◌≤◌, ◌++◌, if◌then◌else◌, codes, OnOk, OnErr};
+ghost use Rattle.stl_syntax.specs.Texts.{IsSpanText, IsVerdictLine, bool_text, newline, start_line};
+ghost use Rattle.report.specs.Appended.{Grew, GrewInPart};
+
+use crate::number::{in_units, put_fraction};
+use frac128::{Memory, Span};
+use stl_syntax::{Scale, Text, Verdict};
+
+/// The bracket before a span.
+fn opening(inside: bool) -> &'static [u8]
+    ensures { result.now ≡ (if inside then codes "[" else codes "(") }
+{
+    if inside { b"[" } else { b"(" }
+}
+
+/// The bracket after a span.
+fn closing(inside: bool) -> &'static [u8]
+    ensures { result.now ≡ (if inside then codes "]" else codes ")") }
+{
+    if inside { b"]" } else { b")" }
+}
+
+/// The end of a verdict's line.
+fn verdict_end(holds: bool) -> &'static [u8]
+    ensures { result.now ≡ codes " " ++ bool_text holds ++ newline }
+{
+    if holds { b" true\n" } else { b" false\n" }
+}
+
+/// The text of a span.
+fn put_span(text: &mut Text, on: &Span, scale: Scale) -> Result<(), Memory>
+    requires { scale.time ≤ 6 }
+    ensures ok { OnOk result (Grew (IsSpanText scale on.now) text.old text.new) }
+    ensures err { OnErr result (GrewInPart (IsSpanText scale on.now) text.old text.new) }
+{
+    let from = in_units(&on.from, scale.time);
+    let to = in_units(&on.to, scale.time);
+    text.push(opening(on.from_in))?;
+    put_fraction(text, &from)?;
+    text.push(b",")?;
+    put_fraction(text, &to)?;
+    text.push(closing(on.to_in))
+}
+
+/// Appends the line of a verdict, with times in units of the scale.
+///
+/// # Errors
+/// Want of memory. The text then has a first part of the line.
+pub fn put_verdict(text: &mut Text, v: &Verdict, scale: Scale) -> Result<(), Memory>
+    requires { scale.time ≤ 6 }
+    ensures ok { OnOk result (Grew (IsVerdictLine scale v.now) text.old text.new) }
+    ensures err { OnErr result (GrewInPart (IsVerdictLine scale v.now) text.old text.new) }
+{
+    put_span(text, &v.on, scale)?;
+    text.push(verdict_end(v.holds))
+}
+
+/// Appends the line of the truth at the start.
+///
+/// # Errors
+/// Want of memory. The text then has a first part of the line.
+pub fn put_start(text: &mut Text, holds: bool) -> Result<(), Memory>
+    ensures ok { OnOk result (text.new ≡ text.old ++ start_line holds) }
+    ensures err { OnErr result (GrewInPart (λ w. w ≡ start_line holds) text.old text.new) }
+{
+    text.push(if holds {
+        b"start true\n"
+    } else {
+        b"start false\n"
+    })
+}

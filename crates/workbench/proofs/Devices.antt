@@ -1,0 +1,40 @@
+-- What writes and reads came to, one after the other.
+use Rattle.std.proofs.Common.{◌≡◌, ℕ, ◌+◌, ◌-◌, ◌<◌, ◌≤◌, List, [], ◌∷◌, ◌++◌, length, take, drop, sym, refl, ap, ◌∙◌, subst, arith, take-append-drop, take-add, length-drop, length-take, take_all, Some, None, Ok, Err, Result}
+use Rattle.std.specs.Prelude.{Option}
+use Rattle.std.specs.Io.KnownBytes.{Appends, Keeps}
+use Rattle.std.specs.Result.{IsErr}
+use Rattle.std.proofs.KnownBytes.{Appends-nil, Appends-trans, Appends-kept}
+use Rattle.io_edge.specs.Causes.{HasCause, Rose, next_count}
+use Rattle.workbench.specs.Writing.{IsWritten, IsPartWritten}
+
+drop-some : (text : List ℕ) (at : ℕ) → at < length text → drop at text ≡ [] → ⊥
+drop-some text at h e = omega (arith, h, length-drop at text, ap length e)
+
+-- the bytes up to a place before the end are a part
+pub part_at : (a b c : Option (List ℕ)) (text : List ℕ) (at : ℕ) → at < length text → Appends a b (take at text) → Keeps b c → IsPartWritten a c text
+part_at a b c text at h w k = record {
+  front = take at text;
+  back = drop at text;
+  parts = sym (take-append-drop at text);
+  missing = drop-some text at h;
+  wrote = Appends-kept a b c (take at text) w k;
+}
+
+pub part_err : {T E : Type 0} (a b : Option (List ℕ)) (text : List ℕ) (r : Result T E) → IsErr r → IsPartWritten a b text → IsWritten a b r text
+part_err a b text (Ok x) e p = absurd (let f = e in cc)
+part_err a b text (Err x) e p = p
+
+-- a count that rose late rose
+pub cause_err : {T E : Type 0} (before between now : ℕ) (r : Result T E) → IsErr r → before ≤ between → between ≤ now → Rose between now → HasCause before now r
+cause_err before between now (Ok x) e l m h = absurd (let f = e in cc)
+cause_err before between now (Err x) e l m h = record { later = omega (arith, l, m); failed = omega (arith, l, h) }
+
+pub whole : (a b : Option (List ℕ)) (text : List ℕ) (at : ℕ) → length text ≤ at → Appends a b (take at text) → Appends a b text
+whole a b text at h w = subst (Appends a b) (take_all at text h) w
+
+pub next_take : (a b c : Option (List ℕ)) (text : List ℕ) (at n : ℕ) → Appends a b (take at text) → Appends b c (take n (drop at text)) → Appends a c (take (at + n) text)
+next_take a b c text at n p q = subst (Appends a c) (sym (take-add at n text)) (Appends-trans a b c (take at text) (take n (drop at text)) p q)
+
+-- the slice from a place on
+pub rest_is : (text : List ℕ) (at : ℕ) → take (length text - at) (drop at text) ≡ drop at text
+rest_is text at = take_all (length text - at) (drop at text) (omega (arith, length-drop at text))

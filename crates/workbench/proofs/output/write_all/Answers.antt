@@ -1,0 +1,40 @@
+use Rattle.std.proofs.Common.{◌≡◌, ℕ, ◌+◌, ◌-◌, ◌<◌, ◌≤◌, List, [], ◌++◌, length, take, drop, sym, refl, ap, ◌∙◌, subst, arith, take-append-drop, take-add, length-drop, length-take}
+use Rattle.std.specs.Io.KnownBytes.{Appends}
+use Rattle.std.specs.Result.{IsErr}
+use Rattle.std.proofs.KnownBytes.{Appends-nil, Appends-trans, Appends-kept}
+use Rattle.io_edge.specs.Causes.{HasCause}
+use Rattle.workbench.specs.Writing.{IsWritten, IsPartWritten}
+use Rattle.workbench.proofs.Devices.{part_at, part_err, cause_err, next_take, rest_is, whole}
+use Rattle.workbench.proofs.output.write_all.Goals as goal
+
+pub loop-at-init : goal.loop-at-init
+loop-at-init g c = record { within = omega arith; wrote = Appends-nil _; cause = omega arith }
+
+pub returns-in_err-at-clause-written : goal.returns-in_err-at-clause-written
+returns-in_err-at-clause-written g c =
+    part_err _ _ _ c.from_residual.result c.from_residual.ensures.0
+    (part_at _ _ _ c.args.text.now c.loop-at.at c.loop-at-test.true c.loop-at.invariant.wrote c.in_err-at.ensures.bytes)
+
+pub returns-in_err-at-clause-cause : goal.returns-in_err-at-clause-cause
+returns-in_err-at-clause-cause g c =
+    let more = c.in_err-at.ensures.cause in
+    cause_err _ _ _ c.from_residual.result c.from_residual.ensures.0 c.loop-at.invariant.cause more.later more.failed
+
+pub loop-at-preserved : goal.loop-at-preserved
+loop-at-preserved g c =
+    let now = c.in_ok-at.ensures in
+    let rest = rest_is c.args.text.now c.loop-at.at in
+    let cause = now.cause.later in
+    let bound : c.in_ok-at.field-0 ≤ length (drop c.loop-at.at c.args.text.now) = rw rest at now.bound in
+    let within : c.loop-at.at + c.in_ok-at.field-0 ≤ length c.args.text.now = omega (arith, length-drop c.loop-at.at c.args.text.now) in
+    record {
+      within = within;
+      wrote = next_take _ _ _ c.args.text.now c.loop-at.at c.in_ok-at.field-0 c.loop-at.invariant.wrote (rw rest at now.bytes);
+      cause = omega arith;
+    }
+
+pub returns-clause-written : goal.returns-clause-written
+returns-clause-written g c = whole _ _ c.args.text.now c.loop-at.at c.loop-at-test.false c.loop-at.invariant.wrote
+
+pub returns-clause-cause : goal.returns-clause-cause
+returns-clause-cause g c = record { later = c.loop-at.invariant.cause; failed = tt }
