@@ -1,16 +1,17 @@
 -- The sizes of the products in the value of a ramp, and that value.
-use Rattle.std.proofs.Common.{◌≡◌, ℕ, ℤ, pos, negsuc, ◌+ℤ◌, ◌-ℤ◌, ◌*ℤ◌, ◌<ℤ◌, ◌+◌, ◌*◌, ◌^◌, ◌<◌, ◌≤◌, arith, ap, mul-le-mul, mul-pos, lt_of_mul-lt-mul_right, FitsSigned, ◌-◌}
+use Rattle.std.proofs.Common.{◌≡◌, ℕ, ℤ, pos, negsuc, ◌+ℤ◌, ◌-ℤ◌, ◌*ℤ◌, ◌<ℤ◌, ◌+◌, ◌*◌, ◌^◌, ◌<◌, ◌≤◌, arith, ap, mul-le-mul, mul-pos, FitsSigned, ◌-◌}
 use mir.Syntax.{w128}
 use Rattle.std.specs.Int.RustNames.{unsigned_abs}
 use Rattle.std.proofs.lemmas.Int.{ints, unsigned_abs-mul, fits_signed_from_abs}
 use Rattle.rational.specs.Rational.{part_above, part_below, ratio, fraction, IsWithin, ◌≈◌}
 use Rattle.rational.specs.Line.{at}
-use Rattle.rational.proofs.Mixed.{parts, fraction-is, neg_parts}
+use Rattle.rational.proofs.Mixed.{parts, fraction-is}
 use Rattle.frac128.proofs.Ratios.{abs_pos}
 use borrow.Author.Differences.{up, down}
 use Rattle.frac128.specs.declared.frac.Frac.{Frac}
 use Rattle.frac128.specs.declared.ramp.Ramp.{Ramp}
 use Rattle.frac128.specs.Value.{value}
+use Rattle.frac128.proofs.Fractions.{whole_of_within}
 use Rattle.frac128.specs.Line.{line}
 use Rattle.frac128.specs.Sizes.{AreSmall}
 
@@ -105,14 +106,8 @@ ahead_fraction f t num den e h =
     let q = abs_pos den p in
     rw (fraction-is num den q p) (ahead_value f t num den q e h)
 
-pub whole_small : (n : ℕ) (t : Frac) → IsWithin n (value t) → unsigned_abs t.whole ≤ n
-whole_small n t h =
-    let low : part_below t.whole < part_above t.whole + n + 1 = lt_of_mul-lt-mul_right t.den (let l = h.0.le in let b = t.below in omega (arith, ap (λ x. x * t.den) (neg_parts n))) in
-    let high : part_above t.whole < part_below t.whole + n + 1 = lt_of_mul-lt-mul_right t.den (let l = h.1.le in let p = t.positive in omega arith) in
-    omega (arith, parts)
-
 pub gap_small : (t : Frac) (t0 : ℤ) → unsigned_abs t0 ≤ 2 ^ 34 → IsWithin (2 ^ 34) (value t) → unsigned_abs (t.whole -ℤ t0) ≤ 2 ^ 35
-gap_small t t0 h k = omega (arith, ints, whole_small (2 ^ 34) t k)
+gap_small t t0 h k = omega (arith, ints, whole_of_within (2 ^ 34) t k)
 
 pub record FitParts (a b c d : ℤ) : Type 0 where
   pub left : FitsSigned w128 (a *ℤ b)

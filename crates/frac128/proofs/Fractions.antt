@@ -1,13 +1,13 @@
 -- Each number has one `Frac`.
-use Rattle.std.proofs.Common.{◌≡◌, ◌*◌, ◌≤◌, ◌^◌, ap, sym, refl, ◌∙◌, Bool, true, false, Result, Ok, Err, IfOk, MatchResult}
+use Rattle.std.proofs.Common.{ℕ, ◌+◌, ◌<◌, arith, unsigned_abs, lt_of_mul-lt-mul_right, pos, neg_ℤ, ◌≤ℤ◌, ◌<ℤ◌, ◌≡◌, ◌*◌, ◌≤◌, ◌^◌, ap, sym, refl, ◌∙◌, Bool, true, false, Result, Ok, Err, IfOk, MatchResult}
 use Rattle.std.specs.declared.cmp.Ordering.{Ordering}
 use Rattle.std.specs.declared.cmp.Ordering.TheVariants.{Less, Equal, Greater}
 use Rattle.std.specs.Ordering.{on, eq_by_cmp, is_eq}
 use Rattle.std.proofs.Math.Nat.{eq_of_mul-eq-mul_right}
-use Rattle.rational.specs.Rational.{Rational, ◌≈◌, IsOrder, rational_cmp}
+use Rattle.rational.specs.Rational.{Rational, part_above, part_below, ◌≈◌, IsOrder, IsWithin, rational_cmp}
 use Rattle.rational.proofs.Order.{same_sym, same_trans}
 use Rattle.rational.specs.Time.{HasDenominator}
-use Rattle.rational.proofs.Mixed.{one_whole, one_rest, same_by_rest}
+use Rattle.rational.proofs.Mixed.{one_whole, one_rest, same_by_rest, mixed_within, neg_parts, parts}
 use Rattle.rational.proofs.Compare.{cmp_from_order, order_from_cmp}
 use Rattle.rational.proofs.Lowest.{denominator_of_mixed, denominator_same, denominator_unique}
 use Rattle.frac128.specs.declared.frac.Frac.{Frac}
@@ -48,3 +48,14 @@ eq_is f g false h k = not_equal (rational_cmp (value f) (value g)) (order_from_c
     not_equal Less e = refl
     not_equal Equal e = k (one_fraction f g e)
     not_equal Greater e = refl
+
+-- a fraction whose whole part is small enough is within n
+pub within_of_whole : (n : ℕ) (f : Frac) → neg_ℤ (pos n) ≤ℤ whole_part f → whole_part f <ℤ pos n → IsWithin n (value f)
+within_of_whole n f low high = mixed_within n f.whole f.rest f.den f.positive f.below low high
+
+-- and the other way round
+pub whole_of_within : (n : ℕ) (t : Frac) → IsWithin n (value t) → unsigned_abs t.whole ≤ n
+whole_of_within n t h =
+    let low : part_below t.whole < part_above t.whole + n + 1 = lt_of_mul-lt-mul_right t.den (let l = h.0.le in let b = t.below in omega (arith, ap (λ x. x * t.den) (neg_parts n))) in
+    let high : part_above t.whole < part_below t.whole + n + 1 = lt_of_mul-lt-mul_right t.den (let l = h.1.le in let p = t.positive in omega arith) in
+    omega (arith, parts)

@@ -94,21 +94,21 @@ sign_of Greater sum a h k = record { lt = let l = int_ranked sum (pos 0) Greater
 outweighs : (a c r k : ℕ) → c ≤ a → r < k → 0 < a → c * r < a * k
 outweighs a c r k h j p = omega (arith, mul-le-mul_right r h, mul-lt-mul_of_pos_left {m = r} {n = k} {k = a} j p)
 
-above_le : (z : ℤ) → part_above z ≤ unsigned_abs z
+pub above_le : (z : ℤ) → part_above z ≤ unsigned_abs z
 above_le (pos n) = omega arith
 above_le (negsuc n) = omega arith
 
-below_le : (z : ℤ) → part_below z ≤ unsigned_abs z
+pub below_le : (z : ℤ) → part_below z ≤ unsigned_abs z
 below_le (pos n) = omega arith
 below_le (negsuc n) = omega arith
 
-sum_parts : (ahead climb sum : ℤ) (r k : ℕ) → sum ≡ ahead *ℤ pos k +ℤ climb *ℤ pos r → part_above sum + part_below ahead * k + part_below climb * r ≡ part_below sum + part_above ahead * k + part_above climb * r
+pub sum_parts : (ahead climb sum : ℤ) (r k : ℕ) → sum ≡ ahead *ℤ pos k +ℤ climb *ℤ pos r → part_above sum + part_below ahead * k + part_below climb * r ≡ part_below sum + part_above ahead * k + part_above climb * r
 sum_parts ahead climb sum r k e = omega (arith, parts)
 
-above : (z : ℤ) → part_below z < part_above z → pos 0 <ℤ z
+pub above : (z : ℤ) → part_below z < part_above z → pos 0 <ℤ z
 above z h = omega (arith, parts)
 
-below : (z : ℤ) → part_above z < part_below z → z <ℤ pos 0
+pub below : (z : ℤ) → part_above z < part_below z → z <ℤ pos 0
 below z h = omega (arith, parts)
 
 far_sign : (o : Ordering) (ahead climb sum : ℤ) (r k : ℕ) → unsigned_abs climb ≤ unsigned_abs ahead → 0 < unsigned_abs ahead → r < k → sum ≡ ahead *ℤ pos k +ℤ climb *ℤ pos r → MatchOrdering o (ahead <ℤ pos 0) (ahead ≡ pos 0) (pos 0 <ℤ ahead) → MatchOrdering o (sum <ℤ pos 0) (sum ≡ pos 0) (pos 0 <ℤ sum)

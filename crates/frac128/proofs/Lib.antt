@@ -1,10 +1,11 @@
-pub mod Making
-pub mod Rests
-pub mod Ratios
-pub mod Ahead
-pub mod Moves
-pub mod Gaps
-pub mod RampGaps
-pub mod Meets
-pub mod Wholes
 pub mod Fractions
+pub mod Wholes
+mod Making
+mod Rests
+mod Ratios
+mod Ahead
+mod Moves
+mod Gaps
+mod RampGaps
+mod Meets
+mod Levels

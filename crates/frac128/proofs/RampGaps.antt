@@ -83,3 +83,7 @@ reaching_den f c num climb (Some q) e (p, inr k) = ap unsigned_abs k.1 ∙ abs_n
   where
     abs_neg : (z : ℤ) → unsigned_abs (neg_ℤ z) ≡ unsigned_abs z
     abs_neg z = omega (arith, ints)
+
+-- a ramp's line as whole numbers
+pub ramp_gap : (f : Ramp) (offset : ℤ) → offset ≡ f.v0 *ℤ pos f.run -ℤ f.rise *ℤ f.t0 → IsGap (line f) offset f.rise
+ramp_gap f offset h = gap_from_parts (line f) offset f.rise (offset_parts f offset h) (omega arith)

@@ -33,8 +33,25 @@ pub(crate) fn sum_of_products(a: i128, b: i128, c: i128, d: i128) -> i128
     a * b + c * d
 }
 
-/// The greatest common divisor, by Euclid.
+/// The greatest common divisor, by Euclid, in 64 bits as soon as both numbers have no more.
 pub(crate) fn gcd(a: u128, b: u128) -> u128
+    ensures { IsGcd a b result }
+{
+    let mut x = a;
+    let mut y = b;
+    while y >= 1 << 64 {
+        let rest = x % y;
+        x = y;
+        y = rest;
+    }
+    if y == 0 {
+        return x;
+    }
+    u128::from(gcd_of_words(y as u64, (x % y) as u64))
+}
+
+/// The greatest common divisor of two numbers of 64 bits.
+fn gcd_of_words(a: u64, b: u64) -> u64
     ensures { IsGcd a b result }
 {
     let mut x = a;

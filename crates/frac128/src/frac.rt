@@ -1,7 +1,7 @@
 //! A number as a whole part and a rest in lowest terms.
 ghost use Rattle.std.specs.Prelude.{◌≡◌, ◌+◌, ◌*◌, ◌<◌, ◌≤◌, ◌^◌, pos, ◌+ℤ◌, ◌*ℤ◌, ◌<ℤ◌, IfOk, MatchResult};
 ghost use Rattle.std.specs.Int.{w64};
-ghost use Rattle.std.specs.Int.RustNames.{FitsSigned, unsigned_abs};
+ghost use Rattle.std.specs.Int.RustNames.{unsigned_abs};
 ghost use Rattle.rational.specs.Rational.{IsOrder, fraction};
 ghost use Rattle.frac128.specs.Lowest.{HasDenominator, IsLowest, IsWide};
 
@@ -120,12 +120,13 @@ impl Frac {
 
     /// The number plus `by`.
     pub fn shift(&self, by: i64) -> Frac
-        requires { FitsSigned w64 (self.now.whole +ℤ by) }
+        requires { FitsFloor w64 (add (value self.now) (whole by)) }
         ensures value { value result ≈ add (value self.now) (whole by) }
         ensures den { denominator result ≡ denominator self.now }
     {
+        let whole = self.whole + by;
         Frac {
-            whole: self.whole + by,
+            whole,
             rest: self.rest,
             den: self.den,
         }

@@ -1,6 +1,6 @@
 //! A line through a point of time and value.
 ghost use Rattle.std.specs.Prelude.{◌≡◌, ◌+◌, ◌*◌, ◌<◌, ◌≤◌, ◌^◌, ◌↔◌, pos, ◌+ℤ◌, ◌-ℤ◌, ◌*ℤ◌, IsTrue, IfOk, MatchResult};
-ghost use Rattle.std.specs.Ordering.{MatchOrdering};
+ghost use Rattle.std.specs.Ordering.{MatchOrdering, int_cmp};
 ghost use Rattle.std.specs.Int.RustNames.{unsigned_abs};
 ghost use Rattle.rational.specs.Rational.{Rational, fraction, add, negate, subtract, whole};
 ghost use Rattle.frac128.specs.Lowest.{HasDenominator, IsWide};
@@ -9,9 +9,9 @@ ghost use Rattle.frac128.specs.Sizes.{AreSmall};
 mod crossing;
 mod gap;
 
-use crate::arith::determinant;
+use crate::arith::{determinant, sum_of_products};
 use crate::frac::{Frac, WideFrac};
-use crate::ratio::Ratio;
+use crate::ratio::{Ratio, cmp_ratio};
 use gap::Gap;
 use std::cmp::Ordering;
 
@@ -31,7 +31,7 @@ pub struct Ramp {
 }
 
 impl Ramp {
-    ghost use Rattle.frac128.specs.Value.{denominator, value};
+    ghost use Rattle.frac128.specs.Value.{denominator, rest_part, value};
     ghost use Rattle.frac128.specs.Line.{base, base_value, line, rise_in_run, run_time};
     ghost use Rattle.rational.specs.Line.{Falls, Level, Rises, at};
     ghost use Rattle.rational.specs.Rational.{IsOrder, IsWithin, ◌≈◌};
@@ -147,7 +147,33 @@ impl Ramp {
         requires { IsWithin (2 ^ 34) (value t.now) }
         ensures { IsOrder result (at (line self.now) (value t.now)) (value c.now) }
     {
-        self.at(t).cmp_frac(c)
+        let here = sum_of_products(
+            self.offset(),
+            1,
+            i128::from(self.rise),
+            i128::from(t.whole()),
+        );
+        let ahead = determinant(here, 1, i128::from(c.whole()), i128::from(self.run));
+        self.cmp_ahead(ahead, t, c)
+    }
+
+    /// The order of `ahead + rise * r` and `run * s`, where r and s are what lies above the whole parts of `t` and `c`.
+    fn cmp_ahead(&self, ahead: i128, t: &Frac, c: &Frac) -> Ordering
+        ensures { result ≡ int_cmp
+            ((ahead *ℤ pos (denominator t.now) +ℤ rise_in_run self.now *ℤ pos (rest_part t.now)) *ℤ pos (denominator c.now))
+            (pos (run_time self.now * rest_part c.now * denominator t.now)) }
+    {
+        let run = i128::from(self.run);
+        if ahead.unsigned_abs() >= 1 << 33 {
+            return ahead.cmp(&0);
+        }
+        let den = i128::from(t.den());
+        let top = sum_of_products(ahead, den, i128::from(self.rise), i128::from(t.rest()));
+        if c.rest() == 0 {
+            return top.cmp(&0);
+        }
+        let other = run * i128::from(c.rest());
+        cmp_ratio(top, den, other, i128::from(c.den()))
     }
 
     /// The value at 0, times `run`.

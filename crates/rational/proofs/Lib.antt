@@ -13,3 +13,4 @@ pub mod AffineLemmas
 pub mod LevelLemmas
 pub mod Lowest
 pub mod Meetings
+pub mod Sups

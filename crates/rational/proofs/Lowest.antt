@@ -1,15 +1,15 @@
 -- Lowest terms: each number has one denominator in them.
-use Rattle.std.proofs.Common.{◌≡◌, ℕ, ℤ, pos, negsuc, zero, suc, ◌+ℤ◌, ◌*ℤ◌, ◌+◌, ◌*◌, ◌%◌, ◌/◌, ◌<◌, ◌≤◌, ◌⊎◌, inl, inr, arith, ap, sym, refl, ◌∙◌, subst, mul-pos, nat_abs, one-mul}
+use Rattle.std.proofs.Common.{◌≡◌, ℕ, ℤ, pos, negsuc, neg_ℤ, ◌-ℤ◌, zero, suc, ◌+ℤ◌, ◌*ℤ◌, ◌+◌, ◌*◌, ◌%◌, ◌/◌, ◌<◌, ◌≤◌, ◌⊎◌, inl, inr, arith, ap, sym, refl, ◌∙◌, subst, mul-pos, nat_abs, one-mul}
 use Prim.Native.Nat.{◌∣◌}
 use Rattle.std.specs.Int.{IsGcd}
 use Rattle.std.proofs.lemmas.Int.{ints}
 use Rattle.std.proofs.lemmas.Nat.{div-add-mod', mod_below, mod-mul-add}
 use Rattle.std.proofs.lemmas.Nat.Gcd.{IsGcd-from_zero, IsGcd-from_mod, dvd_antisymm, mod-eq-zero_of_dvd}
-use Rattle.std.proofs.Math.Nat.{dvd-mul_left, dvd-mul_right, zero-lt-suc, mul-lt-mul_of_pos_right, dvd-add_iff_left, dvd-add_iff_right, dvd-mul_left_of_dvd, mul-dvd-mul_right, dvd_of_mul-dvd-mul_right, eq-one_of_dvd-one, eq-zero_of_zero-dvd}
+use Rattle.std.proofs.Math.Nat.{dvd-mul_left, dvd-mul_right, zero-lt-suc, mul-lt-mul_of_pos_right, dvd-add_iff_left, dvd-add_iff_right, dvd-mul_left_of_dvd, mul-dvd-mul_right, dvd_of_mul-dvd-mul_right, eq-one_of_dvd-one, eq-zero_of_zero-dvd, div-mul_cancel}
 use Rattle.rational.specs.Rational.{Rational, ◌≈◌, part_above, part_below, ratio, mixed}
 use Rattle.rational.specs.Time.{Divides, IsLowest, HasDenominator}
 use Rattle.rational.proofs.Order.{same_sym, same_trans}
-use Rattle.rational.proofs.Mixed.{parts}
+use Rattle.rational.proofs.Mixed.{parts, neg_parts}
 
 -- `Divides` and `∣` say one thing
 pub dvd_of_Divides : (k n : ℕ) → Divides k n → k ∣ n
@@ -125,3 +125,50 @@ denominator_unique d e s h k = one_den h.0 k.0 d e h.1 k.1 (sizes h.0 k.0 d e h.
 -- the denominator in lowest terms divides each other one
 pub denominator_divides : (num : ℤ) (k d : ℕ) (p : 0 < k) → HasDenominator (ratio num k p) d → d ∣ k
 denominator_divides num k d p h = divides_other h.0 d k p h.1 (subst (λ x. d ∣ x) (sizes num h.0 k d p h.1.positive h.2) (dvd-mul_left d (nat_abs num)))
+
+pub record Reduced (n k : ℕ) : Type 0 where
+  pub top : ℕ
+  pub bottom : ℕ
+  pub factor : ℕ
+  pub top_is : top * factor ≡ n
+  pub bottom_is : bottom * factor ≡ k
+  pub lowest : IsLowest (pos top) bottom
+
+reduced : (n k : ℕ) → 0 < k → Reduced n k
+reduced n k p =
+    let r = scaled_gcd k n k (omega arith) in
+    let top = div-mul_cancel r.0 r.1.0 in
+    let bottom = div-mul_cancel r.0 r.1.1 in
+    record {
+      top = n / r.0;
+      bottom = k / r.0;
+      factor = r.0;
+      top_is = top;
+      bottom_is = bottom;
+      lowest = lowest_of_gcd n k r.0 (n / r.0) (k / r.0) p r.1 top bottom (positive (k / r.0) r.0 bottom);
+    }
+  where
+    positive : (e g : ℕ) → e * g ≡ k → 0 < e
+    positive zero g h = absurd (omega arith)
+    positive (suc e) g h = omega arith
+
+lowest_negated : (n d : ℕ) → IsLowest (pos n) d → IsLowest (neg_ℤ (pos n)) d
+lowest_negated n d h = record { positive = h.positive; coprime = λ k i j. h.coprime k (subst (λ x. Divides k x) size i) j }
+  where
+    size : nat_abs (neg_ℤ (pos n)) ≡ n
+    size = omega (arith, ints)
+
+-- each fraction has a denominator in lowest terms
+of_ratio : (z : ℤ) (k : ℕ) (p : 0 < k) → (d : ℕ) × HasDenominator (ratio z k p) d
+of_ratio (pos n) k p = let r = reduced n k p in (r.bottom, (pos r.top, r.lowest, record { same = omega (arith, ap (λ x. x * r.bottom) r.top_is, ap (λ x. r.top * x) r.bottom_is) }))
+of_ratio (negsuc n) k p = let r = reduced (suc n) k p in (r.bottom, (neg_ℤ (pos r.top), lowest_negated r.top r.bottom r.lowest, record { same = omega (arith, ap (λ x. x * r.bottom) r.top_is, ap (λ x. r.top * x) r.bottom_is, ap (λ x. x * k) (neg_parts r.top)) }))
+
+-- and so has each number
+pub has_denominator : (a : Rational) → (d : ℕ) × HasDenominator a d
+has_denominator a = let h = of_ratio (pos a.up -ℤ pos a.down) a.den a.positive in (h.0, denominator_same h.0 whole_of h.1)
+  where
+    whole_of : ratio (pos a.up -ℤ pos a.down) a.den a.positive ≈ a
+    whole_of = record { same = omega (arith, ap (λ n. n * a.den) step) }
+      where
+        step : part_above (pos a.up -ℤ pos a.down) + a.down ≡ a.up + part_below (pos a.up -ℤ pos a.down)
+        step = omega (arith, parts)

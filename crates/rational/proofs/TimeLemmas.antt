@@ -1,9 +1,9 @@
 -- Moves and multiples of a number do not depend on its pair.
-use Rattle.std.proofs.Common.{◌≡◌, ℕ, ℤ, ◌*◌, ◌⊎◌, arith, ap, sym, ◌∙◌, inl, inr, Bool, true, false, ◌&&◌, IsTrue, refl}
+use Rattle.std.proofs.Common.{◌≡◌, ℕ, ℤ, pos, ◌*◌, ◌⊎◌, arith, ap, sym, ◌∙◌, inl, inr, Bool, true, false, ◌&&◌, IsTrue, refl}
 use Rattle.std.proofs.Props.{props}
 use Rattle.rational.specs.Rational.{part_above, part_below}
-use Rattle.rational.proofs.Order.{lt_or_same_or_gt, not_lt_of_le, le_or_lt, le_trans, lt_of_le_of_lt, lt_of_lt_of_le, le_of_lt, le_of_same, same_sym}
-use Rattle.rational.specs.Time.{Rational, ◌≤ʳ◌, ◌<ʳ◌, ◌≈◌, Interval, IsNotEmpty, Precedes, shifted, later, times, less, HasTimeBetween}
+use Rattle.rational.proofs.Order.{lt_or_same_or_gt, not_lt_of_le, le_or_lt, le_trans, lt_of_le_of_lt, lt_of_lt_of_le, le_of_lt, le_of_same, ge_of_same, same_sym}
+use Rattle.rational.specs.Time.{Rational, ◌≤ʳ◌, ◌<ʳ◌, ◌≈◌, Interval, IsIn, IsNotEmpty, Precedes, add, whole, shifted, later, times, less, HasTimeBetween}
 
 pub later_le : {t u : Rational} (k : ℕ) → t ≤ʳ u → later t k ≤ʳ later u k
 later_le {t} {u} k h = record { le = omega (arith, h.le) }
@@ -81,3 +81,17 @@ room_of_precedes false t u h = let k = h.lt in record { room = omega (arith, k) 
 pub precedes_of_room : (b : Bool) (t u : Rational) → HasTimeBetween t u b → Precedes b t u
 precedes_of_room true t u h = let k = h.room in record { le = omega (arith, k) }
 precedes_of_room false t u h = let k = h.room in record { lt = omega (arith, k) }
+
+-- whether a time lies in an interval does not depend on its pair
+pub IsIn-same : {t u : Rational} (on : Interval) → t ≈ u → IsIn on t → IsIn on u
+IsIn-same {t} {u} on e h = record {
+  above = precedes_before on.from_in on.from t u h.above (le_of_same e);
+  below = precedes_after on.to_in u t on.to (ge_of_same e) h.below;
+}
+
+-- a time moved by a whole number is the sum
+pub shifted-add : (t : Rational) (k : ℤ) → shifted t k ≈ add t (whole k)
+shifted-add t k = omega arith
+
+pub later-add : (t : Rational) (k : ℕ) → later t k ≈ add t (whole (pos k))
+later-add t k = omega arith

@@ -1,12 +1,11 @@
 -- The laws of shapes, from the laws of affine functions.
 use Rattle.std.proofs.Common.{◌⊎◌, inl, inr}
-use Rattle.rational.specs.Rational.{Rational, add}
+use Rattle.rational.specs.Rational.{add}
 use Rattle.rational.specs.Extended.{Extended, minus_infinity, finite, infinity, ◌≤ᵉ◌, ◌<ᵉ◌, ◌≈ᵉ◌, opposite, value_at}
-use Rattle.rational.proofs.Field.{add_assoc, same_add}
-use Rattle.rational.proofs.Order.{same_refl, same_sym}
+use Rattle.rational.proofs.Field.{add_assoc}
 use Rattle.rational.proofs.ExtendedLemmas.{le_totalᵉ, le_transᵉ, opposite_le'}
 use Rattle.rational.proofs.AffineLemmas
-use Rattle.value_laws.specs.Laws.{IsOpposite, IsShifted, NegationIsExact, MovesAreExact, OrderIsTotal, MeetOnce, LiesBetween, ComesClose, FixedIsConstant}
+use Rattle.value_laws.specs.Laws.{NegationIsExact, MovesAreExact, OrderIsTotal, MeetOnce, LiesBetween, ComesClose, FixedIsConstant}
 
 opposite_twice : (v w : Extended) → w ≈ᵉ opposite v → v ≈ᵉ opposite w
 opposite_twice v w h = AffineLemmas.same_symᵉ (opposite w) v (twice v (opposite w) (AffineLemmas.opposite_same w (opposite v) h))

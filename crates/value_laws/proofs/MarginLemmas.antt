@@ -7,7 +7,7 @@ use Rattle.std.specs.Ordering.{MatchOrdering, ordering_reverse, is_eq}
 use Rattle.rational.specs.Rational.{Rational, ◌<ʳ◌, ◌≈◌, IsOrder, IsWithin, whole, negate, subtract}
 use Rattle.rational.specs.Time.{HasDenominator}
 use Rattle.rational.specs.Line.{Line, at, constant, Rises, Falls, Level, CrossAt}
-use Rattle.rational.specs.Extended.{Extended, minus_infinity, finite, infinity, ◌<ᵉ◌, ◌≈ᵉ◌, opposite, Affine, always_low, affine, always_high, value_at}
+use Rattle.rational.specs.Extended.{Extended, minus_infinity, finite, infinity, ◌≈ᵉ◌, opposite, Affine, always_low, affine, always_high, value_at}
 use Rattle.rational.specs.Affine.{IsOrderᵉ, IsSteady, IsTrend, AreSame, MeetAlone, HasBoundedLevel}
 use Rattle.rational.proofs.Order.{same_of_le, same_sym, same_trans, not_lt_of_le, ge_of_same, le_of_same, le_trans}
 use Rattle.rational.proofs.Field.{same_negate}

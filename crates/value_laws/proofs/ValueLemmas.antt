@@ -1,8 +1,8 @@
 -- Truths and three-valued truths are told apart by their numbers.
-use Rattle.std.proofs.Common.{◌≡◌, pos, negsuc, refl, Bool, true, false}
-use Rattle.std.specs.Prelude.{IsTrue, Option, Some, None}
+use Rattle.std.proofs.Common.{◌≡◌, refl, Bool, true, false}
+use Rattle.std.specs.Prelude.{IsTrue}
 use Rattle.std.specs.Bool.{beq}
-use Rattle.value_laws.specs.Values.{truth_value, kleene_value}
+use Rattle.value_laws.specs.Values.{truth_value}
 
 pub truth_apart : (a b : Bool) → truth_value a ≡ truth_value b → IsTrue (beq a b)
 truth_apart true true e = refl

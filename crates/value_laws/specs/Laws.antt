@@ -1,6 +1,6 @@
 -- The laws of shapes, said of what each shape stands for: an affine or a constantly infinite function of time.
-use Rattle.std.specs.Prelude.{◌⊎◌, ℕ}
-use Rattle.rational.specs.Rational.{Rational, ◌<ʳ◌, add, subtract}
+use Rattle.std.specs.Prelude.{◌⊎◌}
+use Rattle.rational.specs.Rational.{Rational, ◌<ʳ◌, add}
 use Rattle.rational.specs.Extended.{Extended, ◌≤ᵉ◌, ◌<ᵉ◌, ◌≈ᵉ◌, opposite, Affine, value_at}
 use Rattle.rational.specs.Affine.{AreSame, IsSteady}
 

@@ -1,4 +1,4 @@
-ghost use Rattle.std.specs.Prelude.{◌≡◌, ◌<◌, ◌≤◌, ◌^◌, ◌<ℤ◌, pos, neg_ℤ};
+ghost use Rattle.std.specs.Prelude.{◌≡◌, ◌<◌, ◌≤◌, ◌^◌, ◌<ℤ◌, pos, neg_ℤ, IfSome};
 ghost use Rattle.std.specs.Int.RustNames.{unsigned_abs};
 ghost use Rattle.rational.specs.Rational.{◌≈◌, ◌<ʳ◌, whole, IsWithin};
 ghost use Rattle.rational.specs.Affine.{HasBoundedLevel};
@@ -39,6 +39,17 @@ fn time(n: i64) -> Frac
     ensures is { value result ≈ whole n }
 {
     Frac::of(n)
+}
+
+/// A constant of the denominator `den`, 1/`den`.
+fn part(den: u32) -> Option<Margin>
+    requires { 0 < den }
+    ensures { IfSome result (λ c. HasBoundedLevel (2 ^ 31) (margin_function c)) }
+{
+    match Frac::make(1, i128::from(den)) {
+        Ok(c) => Some(Margin::Fixed(c)),
+        Err(_) => None,
+    }
 }
 
 /// Where the two meet between the whole times `from` and `to`.
@@ -167,6 +178,25 @@ fn denominators_are_kept_below_the_limit(rt: HostRuntime) {
     assert!(&rt;
         is_wide(meeting(up, steeper, 0, 1), 1_152_921_504_606_846_976),
         "at it"
+    );
+    let (Some(below), Some(at)) = (part((1 << 30) + 1), part(1 << 29)) else {
+        panic!(&rt; "constants of small denominators are stored");
+    };
+    assert!(&rt;
+        is_at(
+            meeting(ramp(0, 0, (1 << 30) - 1, 1), below, 0, 1),
+            0,
+            1,
+            1_152_921_504_606_846_975
+        ),
+        "a constant, one below it"
+    );
+    assert!(&rt;
+        is_wide(
+            meeting(ramp(0, 0, MOST, 1), at, 0, 1),
+            1_152_921_504_606_846_976
+        ),
+        "a constant, at it"
     );
 }
 

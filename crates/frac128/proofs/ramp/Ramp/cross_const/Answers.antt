@@ -2,7 +2,7 @@ use Rattle.std.proofs.Common.{rules, to_z-of_z, ◌≡◌, pos, ◌≤◌, ◌^�
 use Rattle.std.specs.Int.RustNames.{unsigned_abs}
 use Rattle.std.proofs.lemmas.Int.{ints}
 use mir.Syntax.{w128}
-use Rattle.frac128.proofs.Ahead.{whole_small}
+use Rattle.frac128.proofs.Fractions.{whole_of_within}
 use Rattle.frac128.proofs.RampGaps.{ConstantGap, reaching, reaching_den}
 use Rattle.frac128.proofs.ramp.Ramp.cross_const.Goals as goal
 
@@ -10,7 +10,7 @@ pub determinant-num-requires : goal.determinant-num-requires
 determinant-num-requires c =
     let k = c.args.c.now in
     let small : k.den ≤ 2 ^ 60 = omega arith in
-    let product = mul-le-mul (whole_small (2 ^ 32) k c.requires) small in
+    let product = mul-le-mul (whole_of_within (2 ^ 32) k c.requires) small in
     let top : unsigned_abs (to_z w128 (of_z w128 c.top.result)) ≤ 2 ^ 93 = omega (arith, ints, product, c.top.ensures.small) in
     let run : unsigned_abs (to_z w128 (of_z w128 c.from.result)) ≤ 2 ^ 32 = omega (arith, ints) in
     let offset : unsigned_abs (to_z w128 (of_z w128 c.offset.result)) ≤ 2 ^ 66 = omega (arith, ints) in
@@ -27,7 +27,7 @@ pub quotient-requires-clause-num : goal.quotient-requires-clause-num
 quotient-requires-clause-num c =
     let k = c.args.c.now in
     let small : k.den ≤ 2 ^ 60 = omega arith in
-    let product = mul-le-mul (whole_small (2 ^ 32) k c.requires) small in
+    let product = mul-le-mul (whole_of_within (2 ^ 32) k c.requires) small in
     let top : unsigned_abs (to_z w128 (of_z w128 c.top.result)) ≤ 2 ^ 93 = omega (arith, ints, product, c.top.ensures.small) in
     let run : unsigned_abs (to_z w128 (of_z w128 c.from.result)) ≤ 2 ^ 32 = omega (arith, ints) in
     let offset : unsigned_abs (to_z w128 (of_z w128 c.offset.result)) ≤ 2 ^ 66 = omega (arith, ints) in

@@ -1,6 +1,6 @@
 use Rattle.frac128.specs.Value.{value}
 use Rattle.frac128.specs.Line.{line}
-use Rattle.std.proofs.Common.{◌≡◌, ◌^◌, lit<, refl, true, false}
+use Rattle.std.proofs.Common.{◌^◌, refl}
 use Rattle.rational.specs.Line.{constant}
 use Rattle.rational.specs.Extended.{affine}
 use Rattle.value_laws.proofs.MarginLemmas.{bounded_constant, within_more, meeting_of_crossing, meeting_swap, constant_never_meets, infinite_never_meets}

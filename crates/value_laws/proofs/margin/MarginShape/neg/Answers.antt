@@ -1,5 +1,4 @@
 use Rattle.frac128.specs.Value.{value}
-use Rattle.frac128.specs.Line.{line}
 use Rattle.std.proofs.Common.{◌^◌, lit<}
 use Rattle.std.specs.Int.{w64}
 use Rattle.rational.proofs.Mixed.{fits_of_within}

@@ -1,4 +1,3 @@
-use Rattle.frac128.specs.Value.{value}
 use Rattle.frac128.specs.Line.{line}
 use Rattle.value_laws.proofs.MarginLemmas.{line_trend}
 use Rattle.value_laws.proofs.margin.MarginShape.rises.Goals as goal

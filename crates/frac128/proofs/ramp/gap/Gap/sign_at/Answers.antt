@@ -2,7 +2,7 @@ use Rattle.std.proofs.Common.{rules, to_z-of_z, ◌≡◌, ◌≤◌, ◌^◌, �
 use Rattle.std.specs.Int.RustNames.{unsigned_abs}
 use Rattle.std.proofs.lemmas.Int.{ints}
 use mir.Syntax.{w128}
-use Rattle.frac128.proofs.Ahead.{whole_small}
+use Rattle.frac128.proofs.Fractions.{whole_of_within}
 use Rattle.frac128.proofs.Gaps.{ahead_is, sign_of}
 use Rattle.frac128.proofs.ramp.gap.Gap.sign_at.Goals as goal
 
@@ -13,7 +13,7 @@ sum_of_products-ahead-requires c =
     let small_climb = g.small_climb in
     let base : unsigned_abs (to_z w128 (of_z w128 g.base)) ≤ 2 ^ 99 = omega (arith, ints) in
     let climb : unsigned_abs (to_z w128 (of_z w128 g.climb)) ≤ 2 ^ 64 = omega (arith, ints) in
-    let whole : unsigned_abs (to_z w128 (of_z w128 c.from.result)) ≤ 2 ^ 34 = omega (arith, ints, whole_small (2 ^ 34) c.args.t.now c.requires) in
+    let whole : unsigned_abs (to_z w128 (of_z w128 c.from.result)) ≤ 2 ^ 34 = omega (arith, ints, whole_of_within (2 ^ 34) c.args.t.now c.requires) in
     omega (arith, mul-le-mul climb whole)
 
 pub returns : goal.returns

@@ -1,0 +1,9 @@
+//! Tests across crates: what one crate promises, used from outside through its contract alone.
+#![tactic(auto)]
+
+mod shapes;
+
+pub use shapes::greater_at;
+
+#[cfg(test)]
+mod tests;
