@@ -5,7 +5,7 @@ use Rattle.std.proofs.lemmas.List.{reverse-append, reverse-reverse, length-rever
 use Rattle.std.proofs.Math.Nat.{pow-suc, pow-zero, one-le-pow}
 use Rattle.std.specs.Prelude.{◌==◌}
 use Rattle.stl_syntax.specs.Characters.{after_first, without_zeros, is_digit, all, decimal_value}
-use Rattle.stl_syntax.specs.Print.{after_point, IsDecimalText}
+use Rattle.stl_syntax.specs.Print.{IsDecimalText}
 use Rattle.stl_syntax.specs.Printing.{last_digits, decimal_text}
 
 -- a zero at the end goes away

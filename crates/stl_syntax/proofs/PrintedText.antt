@@ -1,9 +1,9 @@
 -- The text that is written is the printed text.
-use Rattle.std.proofs.Common.{◌≡◌, ℕ, suc, ◌&&◌, Bool, true, false, List, [], ◌∷◌, ◌++◌, ℤ, pos, negsuc, refl, sym, ◌∙◌, ap, subst}
+use Rattle.std.proofs.Common.{◌≡◌, ℕ, suc, ◌&&◌, Bool, true, false, List, [], ◌∷◌, ◌++◌, ℤ, pos, negsuc, refl, sym, ap, subst}
 use Rattle.std.specs.Prelude.{codes, Option, Some, None, nat_abs, ◌==◌, MatchBool, if◌then◌else◌}
 use Rattle.stl_syntax.specs.Formula.{Formula, Subformula, constant, atom, negation, conjunction, disjunction, implication, until, eventually, always, since, once, historically, root}
-use Rattle.stl_syntax.specs.Print.{relation_text, scaled_text, IsConstantText, IsAtomText, IsUpperText, IsBoundText, IsPastBoundText, IsPrinted, IsPrintedFormula, terms_text, further_terms, first_term, has_two}
-use Rattle.stl_syntax.specs.Printing.{constant_text, sum_text, later_terms, atom_text, upper_text, bound_text, window_text, is_whole_past, in_parens, decimal_text, printed}
+use Rattle.stl_syntax.specs.Print.{relation_text, scaled_text, IsConstantText, IsAtomText, IsUpperText, IsBoundText, IsPastBoundText, IsPrinted, IsPrintedFormula, terms_text, further_terms, has_two}
+use Rattle.stl_syntax.specs.Printing.{constant_text, sum_text, later_terms, atom_text, upper_text, bound_text, window_text, in_parens, decimal_text, printed}
 use Rattle.stl_syntax.proofs.DecimalLemmas.{decimal_is}
 use Rattle.stl_syntax.specs.declared.operator.Window.{Window}
 use Rattle.stl_syntax.specs.declared.scale.Scale.{Scale}

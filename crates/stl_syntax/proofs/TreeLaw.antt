@@ -1,6 +1,6 @@
 -- The nodes of a formula are one tree.
 use Rattle.std.proofs.Common.{◌≡◌, ℕ, zero, suc, ◌+◌, ◌-◌, ◌<◌, ◌≤◌, List, [], ◌∷◌, ◌++◌, length, take, refl, sym, ◌∙◌, ap, subst, arith, append_assoc, length-append, false}
-use Rattle.std.proofs.lemmas.List.{length_push, same_from_push, take_more, take_all, length-take-le, append-nil}
+use Rattle.std.proofs.lemmas.List.{length_push, same_from_push, take_more, take_all, append-nil}
 use Rattle.std.specs.Prelude.{slice_index_or}
 use Rattle.stl_syntax.specs.PostOrder.{children, unused, MayFollow, IsPostOrder, top, IsTreeFrom, leaf, one, two}
 use Rattle.stl_syntax.specs.WellFormed.{HasOneRoot}

@@ -1,5 +1,5 @@
 -- Where a formula has no form in smaller ticks.
-use Rattle.std.proofs.Common.{◌≡◌, ℕ, ◌*◌, ◌-◌, ◌^◌, ◌<◌, ◌≤◌, refl, sym, ◌∙◌, ap, arith, ◌⊎◌, inl, inr, subst}
+use Rattle.std.proofs.Common.{◌≡◌, ℕ, ◌*◌, ◌-◌, ◌^◌, ◌<◌, ◌≤◌, refl, sym, ◌∙◌, ap, arith, inl, inr}
 use Rattle.std.specs.Prelude.{Some, None, position}
 use Rattle.stl_syntax.specs.Binding.{IsUnitFault}
 use Rattle.stl_syntax.specs.Formula.{Formula, IsFirst}

@@ -1,4 +1,4 @@
-use Rattle.std.proofs.Common.{◌≡◌, ◌++◌, ◌/◌, ◌%◌, ◌^◌, ◌<◌, List, ℕ, OnOk, arith, sym, ◌∙◌, ap, append_assoc, lit<}
+use Rattle.std.proofs.Common.{◌≡◌, ◌++◌, ◌/◌, ◌%◌, ◌^◌, ◌<◌, List, ℕ, arith, ◌∙◌, ap, append_assoc, lit<}
 use Rattle.std.specs.Prelude.{decimal}
 use Rattle.std.proofs.Math.Nat.{one-le-pow}
 use Rattle.std.proofs.lemmas.Result.{on_ok_weaker}

@@ -1,4 +1,4 @@
-use Rattle.std.proofs.Common.{◌≡◌, ◌∙◌, arith}
+use Rattle.std.proofs.Common.{◌∙◌, arith}
 use Rattle.stl_syntax.proofs.DecimalLemmas.{without_zeros-less}
 use Rattle.stl_syntax.proofs.decimals.put_decimals.Goals as goal
 

@@ -1,4 +1,4 @@
-use Rattle.std.proofs.Common.{◌≡◌, ◌<◌, ◌≤◌, ◌^◌}
+use Rattle.std.proofs.Common.{◌≡◌}
 use Rattle.stl_syntax.specs.Characters.{without_zeros}
 use Rattle.stl_syntax.specs.Printing.{last_digits}
 use Rattle.stl_syntax.proofs.decimals.put_decimals.Given as goal

@@ -1,8 +1,8 @@
-use Rattle.std.proofs.Common.{◌≡◌, ◌<◌, ◌++◌, List, ℕ, OnOk, refl, sym, ◌∙◌, ap, arith, true, false}
+use Rattle.std.proofs.Common.{◌≡◌, refl, sym, ◌∙◌, arith, true, false}
 use Rattle.std.proofs.lemmas.Result.{on_ok_weaker}
 use Rattle.stl_syntax.specs.Formula.{subformula}
 use Rattle.stl_syntax.specs.Print.{has_two}
-use Rattle.stl_syntax.specs.Printing.{printed, in_parens, operands_of}
+use Rattle.stl_syntax.specs.Printing.{operands_of}
 use Rattle.stl_syntax.specs.declared.operator.Operands.TheVariants.{Nothing, One, Two}
 use Rattle.stl_syntax.proofs.PrintLemmas.{shows, three_pieces, five_pieces}
 use Rattle.stl_syntax.proofs.print.+print.Goals as goal

@@ -1,6 +1,5 @@
-use Rattle.std.proofs.Common.{rules, ◌≡◌, ◌++◌, ◌+◌, List, ℕ, drop, nat_abs, sym, ◌∙◌, ap, append_assoc}
-use Rattle.stl_syntax.specs.Print.{scaled_text}
-use Rattle.stl_syntax.specs.Printing.{sign_text, later_terms}
+use Rattle.std.proofs.Common.{rules, ◌≡◌, append_assoc}
+use Rattle.stl_syntax.specs.Printing.{sign_text}
 use Rattle.stl_syntax.proofs.PrintLemmas.{later_more}
 use Rattle.stl_syntax.proofs.print.put_later_terms.Goals as goal
 

@@ -1,10 +1,10 @@
-use Rattle.std.proofs.Common.{◌≡◌, ◌≤◌, ◌*◌, arith, length, set, sym, ◌∙◌, ap, get_or, subst, false}
+use Rattle.std.proofs.Common.{◌≡◌, ◌≤◌, ◌*◌, arith, set, sym, ◌∙◌, ap, get_or, subst, false}
 use Rattle.std.proofs.lemmas.List.Sums.{get_or-le-sum_by}
 use Rattle.std.proofs.Math.Nat.{mul-le-mul_left}
 use Rattle.stl_syntax.specs.Limits.{own_reach, reach}
 use Rattle.stl_syntax.specs.Scaling.{scaled_node, has_large_constant}
 use Rattle.stl_syntax.specs.WellFormed.{HasBounds}
-use Rattle.stl_syntax.proofs.ScalingLemmas.{replaced, replaced_next, replaced_more, replaced_all}
+use Rattle.stl_syntax.proofs.ScalingLemmas.{replaced_next, replaced_more, replaced_all}
 use Rattle.stl_syntax.specs.declared.node.Node.{Node}
 use Rattle.stl_syntax.proofs.scaling.scale_nodes.Goals as goal
 use Rattle.stl_syntax.proofs.scaling.scale_nodes.Goals.{After-node-item}

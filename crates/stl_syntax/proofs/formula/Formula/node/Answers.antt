@@ -1,9 +1,7 @@
-use Rattle.std.proofs.Common.{◌≡◌, ◌≤◌, List, refl, ap, subst}
+use Rattle.std.proofs.Common.{◌≡◌, refl}
 use Rattle.std.specs.Prelude.{Some, slice_get}
 use Rattle.std.proofs.lemmas.Option.{slice_get_read}
-use Rattle.stl_syntax.specs.Formula.{subformula, tree_of, horizon, HasChildrenBelow}
-use Rattle.stl_syntax.specs.Limits.{reach}
-use Rattle.stl_syntax.specs.declared.node.Node.{Node}
+use Rattle.stl_syntax.specs.Formula.{HasChildrenBelow}
 use Rattle.stl_syntax.proofs.FormulaLemmas.{subformula-at}
 use Rattle.stl_syntax.proofs.HorizonLemmas.{horizon_within}
 use Rattle.stl_syntax.proofs.PostOrderLemmas.{placed}

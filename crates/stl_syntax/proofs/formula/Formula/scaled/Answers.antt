@@ -1,11 +1,11 @@
-use Rattle.std.proofs.Common.{◌≡◌, ◌*◌, ◌-◌, ◌^◌, ◌<◌, ◌≤◌, ◌⊎◌, List, map, inl, inr, sym, ◌∙◌, ap, arith, false, subst}
-use Rattle.std.specs.Prelude.{Some, None, Err, All, position}
+use Rattle.std.proofs.Common.{◌≡◌, ◌*◌, ◌-◌, ◌^◌, ◌<◌, ◌≤◌, List, map, inl, inr, sym, ◌∙◌, ap, arith, false, subst}
+use Rattle.std.specs.Prelude.{None, Err, All, position}
 use Rattle.stl_syntax.specs.Binding.{IsUnitFault}
 use Rattle.stl_syntax.specs.Limits.{reach}
 use Rattle.stl_syntax.specs.Scaling.{scaled, scaled_node, has_large_constant}
 use Rattle.stl_syntax.specs.WellFormed.{AreWellFormed, HasOneRoot}
 use Rattle.stl_syntax.specs.declared.node.Node.{Node}
-use Rattle.stl_syntax.specs.declared.scale.UnitFault.TheVariants.{Constant, Reach}
+use Rattle.stl_syntax.specs.declared.scale.UnitFault.TheVariants.{Reach}
 use Rattle.stl_syntax.proofs.ScalingLemmas.{none_large, scaled_well_formed, scaled_root}
 use Rattle.stl_syntax.proofs.UnitLemmas.{time_factor, value_factor, constant_fault, constant_fault_only, reach_fault, reach_fault_only, no_fault}
 use Rattle.stl_syntax.proofs.formula.Formula.scaled.Goals as goal
