@@ -5,7 +5,7 @@ use Rattle.std.specs.Int.RustNames.{unsigned_abs}
 use Rattle.std.proofs.lemmas.Int.{ints, unsigned_abs-mul, fits_signed_from_abs}
 use Rattle.rational.specs.Rational.{part_above, part_below, ratio, fraction, IsWithin, ◌≈◌}
 use Rattle.rational.specs.Line.{at}
-use Rattle.rational.proofs.Mixed.{parts, fraction-is}
+use Rattle.rational.proofs.Mixed.{parts, fraction-is, mul_parts}
 use Rattle.frac128.proofs.Ratios.{abs_pos}
 use borrow.Author.Differences.{up, down}
 use Rattle.frac128.specs.declared.frac.Frac.{Frac}
@@ -53,10 +53,6 @@ pub product_positive : (a b : ℤ) → pos 0 <ℤ a → pos 0 <ℤ b → pos 0 <
 product_positive (pos a) (pos b) h k = let p : 0 < a * b = mul-pos (omega (arith, ints)) (omega (arith, ints)) in omega (arith, ints)
 product_positive (negsuc a) b h k = absurd (omega (arith, ints))
 product_positive a (negsuc b) h k = absurd (omega (arith, ints))
-
--- both parts of a product
-pub mul_parts : (x y : ℤ) → part_above (x *ℤ y) + (part_above x * part_below y + part_below x * part_above y) ≡ part_below (x *ℤ y) + (part_above x * part_above y + part_below x * part_below y)
-mul_parts x y = omega (arith, parts)
 
 -- the value that is computed is the line's
 pub ahead_value : (f : Ramp) (t : Frac) (num den : ℤ) (p : 0 < unsigned_abs den) → den ≡ pos (f.run * t.den) → num ≡ f.v0 *ℤ pos f.run *ℤ pos t.den +ℤ f.rise *ℤ ((t.whole -ℤ f.t0) *ℤ pos t.den +ℤ pos t.rest) → ratio num (unsigned_abs den) p ≈ at (line f) (value t)

@@ -10,7 +10,7 @@ use Rattle.std.proofs.Math.Nat.{mul-lt-mul_of_pos_left}
 use Rattle.std.proofs.lemmas.Cmp.{int_ranked}
 use Rattle.rational.specs.Rational.{Rational, part_above, part_below, mixed, fraction, whole, IsOrder, ◌≈◌}
 use Rattle.rational.specs.Line.{Line, Level, at, gap_line, AreParallel, MeetAt}
-use Rattle.rational.proofs.Mixed.{parts, fraction-is}
+use Rattle.rational.proofs.Mixed.{parts, fraction-is, mul_parts}
 use Rattle.rational.proofs.Lines.{root_at, root_at_falls, at_gap, same_of_zero, zero_of_same}
 use Rattle.rational.proofs.Order.{same_sym, same_trans}
 use Rattle.rational.proofs.Meetings.{meet_of_same}
@@ -18,7 +18,6 @@ use Rattle.frac128.specs.declared.ratio.Ratio.{Ratio}
 use Rattle.frac128.specs.Sizes.{IsQuotient}
 use Rattle.frac128.specs.Gap.{IsGap}
 use Rattle.frac128.proofs.Ratios.{abs_pos}
-use Rattle.frac128.proofs.Ahead.{mul_parts}
 
 -- the parts of a gap
 pub base_parts : {d : Line} {base climb : ℤ} → IsGap d base climb → part_above base + d.base_down ≡ part_below base + d.base_up

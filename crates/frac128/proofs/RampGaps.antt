@@ -5,7 +5,7 @@ use Rattle.std.proofs.lemmas.Int.{ints, unsigned_abs-mul}
 use Rattle.std.proofs.Math.Nat.{eq_of_mul-eq-mul_right}
 use Rattle.rational.specs.Rational.{part_above, part_below, fraction}
 use Rattle.rational.specs.Line.{Level, gap_line, constant, AreParallel, MeetAt}
-use Rattle.rational.proofs.Mixed.{parts}
+use Rattle.rational.proofs.Mixed.{parts, mul_parts}
 use Rattle.frac128.specs.declared.frac.Frac.{Frac}
 use Rattle.frac128.specs.declared.ramp.Ramp.{Ramp}
 use Rattle.frac128.specs.declared.ratio.Ratio.{Ratio}
@@ -13,7 +13,6 @@ use Rattle.frac128.specs.Sizes.{IsQuotient}
 use Rattle.frac128.specs.Value.{value}
 use Rattle.frac128.specs.Line.{line}
 use Rattle.frac128.specs.Gap.{IsGap}
-use Rattle.frac128.proofs.Ahead.{mul_parts}
 use Rattle.frac128.proofs.Gaps.{gap_from_parts, meeting}
 
 -- the value at 0, times the run

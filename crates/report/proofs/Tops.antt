@@ -10,9 +10,8 @@ use lib.IntN.{neg_ℤ}
 use Rattle.rational.specs.Rational.{Rational, ◌≈◌, mixed, ratio}
 use Rattle.rational.specs.Time.{IsLowest}
 use Rattle.rational.proofs.Order.{same_trans}
-use Rattle.rational.proofs.Mixed.{neg_parts}
+use Rattle.rational.proofs.Mixed.{neg_parts, mul_parts}
 use Rattle.rational.proofs.Lowest.{coprime, dvd_of_Divides, lowest_of_gcd, divides_other}
-use Rattle.frac128.proofs.Ahead.{mul_parts}
 use Rattle.report.specs.Numbers.{signed, IsInUnits}
 
 -- a number below 0, by its size
