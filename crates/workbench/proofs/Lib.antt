@@ -11,3 +11,4 @@ pub mod Cuts
 pub mod Constants
 pub mod Devices
 pub mod Starts
+pub mod Endings

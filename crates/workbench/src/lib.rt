@@ -5,4 +5,5 @@ mod answer;
 mod output;
 mod plain_formula;
 mod spans;
+mod top;
 mod words;
