@@ -8,3 +8,5 @@ pub mod Turns
 pub mod Gaps
 pub mod Advances
 pub mod Devices
+pub mod Feeding
+pub mod Progress

@@ -7,3 +7,4 @@ pub mod PlainFormula
 pub mod Spelling
 pub mod Words
 pub mod Writing
+pub mod Reading

@@ -2,5 +2,6 @@
 #![tactic(auto)]
 
 mod output;
+mod reading;
 mod spans;
 mod words;
