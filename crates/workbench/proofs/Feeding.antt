@@ -1,10 +1,9 @@
 -- What is kept of a trace while its bytes come in.
-use Rattle.std.proofs.Common.{◌≡◌, ℕ, ◌+◌, ◌-◌, ◌*◌, ◌^◌, ◌<◌, ◌≤◌, ◌⊎◌, inl, inr, Bool, true, false, List, [], ◌∷◌, ◌++◌, length, take, drop, refl, sym, ap, ◌∙◌, subst, arith, take-append-drop, take-add, append_assoc, take_all, Some, None, Ok, Err, Result}
+use Rattle.std.proofs.Common.{◌≡◌, ℕ, ◌+◌, ◌-◌, ◌<◌, ◌⊎◌, inl, inr, Bool, true, false, List, [], ◌∷◌, ◌++◌, length, take, drop, refl, sym, ap, ◌∙◌, subst, arith, take-append-drop, take-add, append_assoc, Some, None}
 use Rattle.std.specs.Prelude.{◌≢◌, Option, option_map, IsSome, slice_index_or, MatchOption}
 use lib.Pointwise.{pointwise, bytes_decides}
 use Rattle.std.proofs.Math.Dec.{eqb}
 use Rattle.std.proofs.lemmas.Bool.{false≢true, cases_eq, eq-eqb, ne_eqb}
-use Rattle.std.specs.Cmp.Lexicographic.{same_text}
 use Rattle.stl_syntax.specs.Trace.{Column, Row, Header, Trace, last_time}
 use Rattle.trace_reader.specs.Plain.{Reader, StandsFor, IsPlain, ArePlainLines, none, unfinished, heading, HasFault, header_of, name_of, through_feed}
 use Rattle.trace_reader.specs.TraceText.{Line}
@@ -12,7 +11,7 @@ use Rattle.trace_reader.specs.declared.refusal.Limits.{Limits}
 use Rattle.trace_reader.proofs.FaultStays.{fault_stays}
 use Rattle.workbench.specs.declared.reading.Stop.{Stop}
 use Rattle.workbench.specs.declared.reading.Stop.TheVariants.{NotPlain, Unread, NoMemory}
-use Rattle.workbench.specs.Reading.{IsAbout, HasOtherColumn, HasRefusal, IsRefused, IsKept, kept, with_row, CanKeep, IsWhole, IsNoBegin}
+use Rattle.workbench.specs.Reading.{IsAbout, HasRefusal, IsRefused, IsKept, kept, with_row, CanKeep, IsWhole, IsNoBegin}
 use Rattle.workbench.proofs.Devices.{rest_is}
 
 -- the name of a header's one column

@@ -1,8 +1,8 @@
 -- How far the reading of a source has come.
-use Rattle.std.proofs.Common.{◌≡◌, ℕ, suc, ◌+◌, ◌-◌, ◌*◌, ◌^◌, ◌<◌, ◌≤◌, ◌⊎◌, inl, inr, Bool, true, false, List, [], ◌∷◌, ◌++◌, length, take, drop, refl, sym, ap, ◌∙◌, subst, arith, append-nil, length-append, length-take, Some, None, Ok, Err, Result}
+use Rattle.std.proofs.Common.{◌≡◌, ℕ, suc, ◌+◌, ◌*◌, ◌<◌, ◌≤◌, ◌⊎◌, inl, inr, Bool, true, false, List, [], ◌∷◌, ◌++◌, length, take, refl, sym, ap, ◌∙◌, subst, arith, append-nil, length-append, Some, None, Ok, Err, Result}
 use Rattle.std.specs.Prelude.{Option, All, MatchOption, MatchResult}
 use Rattle.std.specs.Io.KnownBytes.{Consumes, Keeps, IsAtEnd}
-use Rattle.std.proofs.KnownBytes.{Consumes-nil, Consumes-trans, Consumes-kept}
+use Rattle.std.proofs.KnownBytes.{Consumes-trans, Consumes-kept}
 use Rattle.std.proofs.lemmas.Bool.{false≢true, cases_eq}
 use Rattle.std.proofs.lemmas.List.{length-take-le}
 use Rattle.std.proofs.lemmas.List.Elements.{All-head, All-tail}
@@ -13,7 +13,7 @@ use Rattle.trace_reader.specs.declared.refusal.Limits.{Limits}
 use Rattle.trace_reader.proofs.LineLemmas.{put, lines-nil, lines-feed, lines-other}
 use Rattle.workbench.specs.declared.reading.Stop.{Stop}
 use Rattle.workbench.specs.declared.reading.Stop.TheVariants.{NotPlain, Unread, NoMemory}
-use Rattle.workbench.specs.Reading.{IsRead, IsReadWhole, IsReadRefused, IsReadInPart, IsStop, IsRefused, IsKept, HasKept, IsWhole, IsAbout, kept}
+use Rattle.workbench.specs.Reading.{IsRead, IsReadWhole, IsReadInPart, IsStop, IsRefused, IsKept, HasKept, IsWhole, IsAbout, kept}
 
 -- some bytes were read and kept, in so many reads
 pub record Progress (limits : Limits) (name : List ℕ) (before now : Option (List ℕ)) (reader : Reader) (trace : Option Trace) (reads : ℕ) : Type 0 where

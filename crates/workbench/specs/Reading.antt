@@ -1,5 +1,5 @@
 -- Reading a plain trace of one column from a source.
-use Rattle.std.specs.Prelude.{◌≡◌, ◌≢◌, ◌⊎◌, ℕ, ◌<◌, Bool, true, false, List, [], ◌∷◌, ◌++◌, length, Option, Some, None, IfSome, option_map, Result, MatchResult}
+use Rattle.std.specs.Prelude.{◌≡◌, ◌≢◌, ◌⊎◌, ℕ, ◌<◌, Bool, true, false, List, [], ◌∷◌, ◌++◌, length, Option, Some, None, IfSome, option_map}
 use Rattle.std.specs.Io.KnownBytes.{Consumes, IsAtEnd}
 use Rattle.stl_syntax.specs.Trace.{Row, Header, Trace, last_time}
 use Rattle.trace_reader.specs.Plain.{Reader, StandsFor, IsPlain, HasFault, header_of, name_of}

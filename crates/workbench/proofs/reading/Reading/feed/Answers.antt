@@ -1,8 +1,8 @@
-use Rattle.std.proofs.Common.{◌≡◌, ℕ, ◌+◌, ◌≤◌, List, ◌++◌, length, take, drop, refl, sym, ap, ◌∙◌, subst, arith, append-nil, length-drop, take_all}
+use Rattle.std.proofs.Common.{◌≤◌, ◌++◌, length, take, drop, refl, sym, ◌∙◌, subst, arith, append-nil, length-drop, take_all}
 use Rattle.std.proofs.lemmas.Result.{err_from_is_err_and}
 use Rattle.workbench.specs.Reading.{IsKept}
 use Rattle.workbench.proofs.Devices.{rest_is}
-use Rattle.workbench.proofs.Feeding.{fed, fed_all, fed_err}
+use Rattle.workbench.proofs.Feeding.{fed, fed_err}
 use Rattle.workbench.proofs.reading.Reading.feed.Goals as goal
 
 pub loop-at-init : goal.loop-at-init

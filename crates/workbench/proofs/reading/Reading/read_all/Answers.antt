@@ -1,4 +1,4 @@
-use Rattle.std.proofs.Common.{◌≡◌, ◌≤◌, ◌<◌, ℕ, false, true, ◌++◌, length, take, refl, sym, ◌∙◌, arith}
+use Rattle.std.proofs.Common.{◌<◌, false, true, ◌++◌, length, take, refl, ◌∙◌, arith}
 use Rattle.std.proofs.KnownBytes.{Consumes-nil}
 use Rattle.std.proofs.lemmas.Result.{err_from_is_err_and}
 use Rattle.workbench.proofs.Progress.{few_reads, has_kept, read_in_part, read_all, read_more, go_on, stop_from, end_from, not_unread, end_not_unread, none_taken, some_taken, not_true}

@@ -1,4 +1,4 @@
-use Rattle.std.proofs.Common.{ℕ, List, ◌++◌, take, refl, ap, subst}
+use Rattle.std.proofs.Common.{◌++◌, take, refl, ap, subst}
 use Rattle.std.proofs.lemmas.Result.{err_from_is_err_and}
 use Rattle.trace_reader.specs.Plain.{StandsFor, IsEvent, rows_after}
 use Rattle.trace_reader.specs.declared.event.Event.{Event}
