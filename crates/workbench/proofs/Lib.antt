@@ -12,3 +12,5 @@ pub mod Constants
 pub mod Devices
 pub mod Starts
 pub mod Endings
+pub mod Feeding
+pub mod Progress

@@ -9,3 +9,4 @@ pub mod Words
 pub mod Writing
 pub mod Answers
 pub mod PlainRun
+pub mod Reading
