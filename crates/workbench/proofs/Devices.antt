@@ -1,10 +1,10 @@
 -- What writes and reads came to, one after the other.
-use Rattle.std.proofs.Common.{◌≡◌, ℕ, ◌+◌, ◌-◌, ◌<◌, ◌≤◌, List, [], ◌∷◌, ◌++◌, length, take, drop, sym, refl, ap, ◌∙◌, subst, arith, take-append-drop, take-add, length-drop, length-take, take_all, Some, None, Ok, Err, Result}
+use Rattle.std.proofs.Common.{◌≡◌, ℕ, ◌+◌, ◌-◌, ◌<◌, ◌≤◌, List, [], length, take, drop, sym, ap, subst, arith, take-append-drop, take-add, length-drop, take_all, Ok, Err, Result}
 use Rattle.std.specs.Prelude.{Option}
 use Rattle.std.specs.Io.KnownBytes.{Appends, Keeps}
 use Rattle.std.specs.Result.{IsErr}
-use Rattle.std.proofs.KnownBytes.{Appends-nil, Appends-trans, Appends-kept}
-use Rattle.io_edge.specs.Causes.{HasCause, Rose, next_count}
+use Rattle.std.proofs.KnownBytes.{Appends-trans, Appends-kept}
+use Rattle.io_edge.specs.Causes.{HasCause, Rose}
 use Rattle.workbench.specs.Writing.{IsWritten, IsPartWritten}
 
 drop-some : (text : List ℕ) (at : ℕ) → at < length text → drop at text ≡ [] → ⊥

@@ -11,3 +11,6 @@ pub mod Cuts
 pub mod Constants
 pub mod Devices
 pub mod Starts
+pub mod Endings
+pub mod Feeding
+pub mod Progress

@@ -8,3 +8,5 @@ pub mod Spelling
 pub mod Words
 pub mod Writing
 pub mod Answers
+pub mod PlainRun
+pub mod Reading

@@ -4,5 +4,7 @@
 mod answer;
 mod output;
 mod plain_formula;
+mod reading;
 mod spans;
+mod top;
 mod words;

@@ -1,9 +1,5 @@
-use Rattle.std.proofs.Common.{◌≡◌, ℕ, ◌+◌, ◌-◌, ◌<◌, ◌≤◌, List, [], ◌++◌, length, take, drop, sym, refl, ap, ◌∙◌, subst, arith, take-append-drop, take-add, length-drop, length-take}
-use Rattle.std.specs.Io.KnownBytes.{Appends}
-use Rattle.std.specs.Result.{IsErr}
-use Rattle.std.proofs.KnownBytes.{Appends-nil, Appends-trans, Appends-kept}
-use Rattle.io_edge.specs.Causes.{HasCause}
-use Rattle.workbench.specs.Writing.{IsWritten, IsPartWritten}
+use Rattle.std.proofs.Common.{◌+◌, ◌≤◌, length, drop, arith, length-drop}
+use Rattle.std.proofs.KnownBytes.{Appends-nil}
 use Rattle.workbench.proofs.Devices.{part_at, part_err, cause_err, next_take, rest_is, whole}
 use Rattle.workbench.proofs.output.write_all.Goals as goal
 
