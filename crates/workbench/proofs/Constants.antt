@@ -99,3 +99,18 @@ reads text r plus h = elim (cases_eq (get_or text 0 0) 45) as (λ v. Reads text 
   | inl e ↦ reads_minus text r (with_first text e) (parse_signed_minus own w32 text r h e)
   | inr e ↦ reads_plain text r e (parse_signed_plain own w32 text r h plus e)
 ]
+
+-- a text is of one whole number
+pub whole_unique : {text : List ℕ} {n m : ℤ} → IsWhole text n → IsWhole text m → n ≡ m
+whole_unique {text} {n} {m} h k = elim (whole_cases h) as (λ v. n ≡ m) [
+  | inl p ↦ elim (whole_cases k) as (λ v. n ≡ m) [
+    | inl q ↦ p.2 ∙ ap pos (sym (digits_facts p.1).2 ∙ (digits_facts q.1).2) ∙ sym q.2
+    | inr q ↦ absurd (no_minus text p.0 p.1 (ap (λ w. get_or w 0 0) q.2))
+  ]
+  | inr p ↦ elim (whole_cases k) as (λ v. n ≡ m) [
+    | inl q ↦ absurd (no_minus text q.0 q.1 (ap (λ w. get_or w 0 0) p.2))
+    | inr q ↦
+        let rest : p.1 ≡ q.1 = ap (λ w. drop 1 w) (sym p.2 ∙ q.2) in
+        p.4 ∙ ap (λ n. neg_ℤ (pos n)) (sym (digits_facts p.3).2 ∙ ap (λ w. decimal_value 0 w) rest ∙ (digits_facts q.3).2) ∙ sym q.4
+  ]
+]

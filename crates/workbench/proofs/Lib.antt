@@ -14,3 +14,5 @@ pub mod Starts
 pub mod Endings
 pub mod Feeding
 pub mod Progress
+pub mod Sound
+pub mod PlainRuns

@@ -6,7 +6,7 @@ ghost use Rattle.workbench.specs.PlainRun.{AreNoForm, AskForOther, IsRefusedRigh
 
 use crate::answer::{Answer, judge};
 use crate::output::write_all;
-use crate::plain_formula::{PlainFormula, plain_formula};
+use crate::plain_formula::plain_formula;
 use crate::reading::{Stop, read_trace};
 use crate::words::formula_word;
 use io_edge::{Sink, Source};
@@ -73,4 +73,30 @@ fn check<S: Source, K: Sink>(
         Ok(answer) => write_answer(out, &answer),
         Err(_) => 7,
     }
+}
+
+/// Does what the words ask for, and says the status.
+fn obey<S: Source, K: Sink>(alloc: Global, words: &[String], input: &mut S, out: &mut K) -> u8
+    ensures status { result ≤ 7 }
+    ensures words { result ≡ 2 ↔ AreNoForm (map string_bytes words.now) }
+    ensures formula { result ≡ 3 ↔ AskForOther (map string_bytes words.now) }
+    ensures refused { IsRefusedRightly (map string_bytes words.now) (S.left input.old) (S.left input.new) (S.ended input.new) result }
+    ensures due { IsRefusedWhereDue (map string_bytes words.now) (S.left input.old) (S.left input.new) (S.ended input.new) result }
+    ensures read { result ≡ 5 → Rose (S.faults input.old) (S.faults input.new) }
+    ensures write { result ≡ 6 → Rose (K.faults out.old) (K.faults out.new) }
+    ensures answered { IsAnsweredRightly (map string_bytes words.now) (S.left input.old) (S.left input.new) (K.written out.old) (K.written out.new) result }
+    ensures cut_off { IsCutOffRightly (map string_bytes words.now) (S.left input.old) (S.left input.new) (K.written out.old) (K.written out.new) result }
+    ensures unread { (result ≡ 2) ⊎ (result ≡ 3) → input.new ≡ input.old }
+    ensures all_read { (result ≤ 1) ⊎ (result ≡ 6) → (S.ended input.new ≡ true) × IsAtEnd (S.left input.new) }
+    ensures nothing { 2 ≤ result → result ≢ 6 → out.new ≡ out.old }
+    ensures input_later { S.faults input.old ≤ S.faults input.new }
+    ensures out_later { K.faults out.old ≤ K.faults out.new }
+{
+    let Some(text) = formula_word(words) else {
+        return 2;
+    };
+    let Some(formula) = plain_formula(text) else {
+        return 3;
+    };
+    check(alloc, formula.name, formula.limit, input, out)
 }
