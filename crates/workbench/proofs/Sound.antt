@@ -33,6 +33,7 @@ stays_first ended (x ∷ xs) back l w (more, e) = by_test (cases_eq x 10) (λ m 
         let is : l ≡ record { bytes = x ∷ m.bytes; whole = m.whole } = (let k = g in cc) in
         let (later, h) = stays m (sym (ap (λ (l : Line). l.whole) is) ∙ w) (ms, f) in
         (later, lines-other ended x (xs ++ back) other ∙ (ap (put ended x) h ∙ ap (λ k. k ∷ later) (sym is)))
+
     by_test : (x ≡ 10) ⊎ (x ≡ 10 → ⊥) → Stays ended xs back → BeginsWith (lines ended (x ∷ xs ++ back)) l
     by_test (inl ten) stays =
         let f = sym (ap (λ c. lines false (c ∷ xs)) ten ∙ lines-feed false xs) ∙ e in
