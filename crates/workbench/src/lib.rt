@@ -8,3 +8,5 @@ mod reading;
 mod spans;
 mod top;
 mod words;
+
+pub use top::run;
