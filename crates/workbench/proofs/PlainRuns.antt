@@ -1,8 +1,10 @@
 -- What follows for a run from how its check ends.
-use Rattle.std.proofs.Common.{◌≡◌, ◌≢◌, ◌⊎◌, inl, inr, ℕ, ℤ, pos, neg_ℤ, ◌≤◌, ◌+◌, Bool, true, false, MatchBool, List, [], ◌∷◌, ◌++◌, Option, Some, None, refl, sym, ap, ◌∙◌, subst, arith}
+use Rattle.std.proofs.Common.{◌≡◌, ◌≢◌, ◌⊎◌, inl, inr, ℕ, zero, suc, append-nil, Result, Ok, Err, ℤ, pos, neg_ℤ, ◌≤◌, ◌+◌, Bool, true, false, MatchBool, List, [], ◌∷◌, ◌++◌, Option, Some, None, refl, sym, ap, ◌∙◌, subst, arith}
 use Rattle.std.proofs.lemmas.Bool.{false≢true}
 use Rattle.std.proofs.lemmas.List.{append_cancel_left, append_cancel_right}
 use Rattle.std.specs.Io.KnownBytes.{Appends, Consumes, IsAtEnd}
+use Rattle.io_edge.specs.Causes.{HasCause}
+use Rattle.io_edge.specs.declared.device.Failed.{Failed}
 use Rattle.stl_syntax.specs.Trace.{Trace}
 use Rattle.trace_reader.specs.Plain.{IsWhole as IsWholeNumber}
 use Rattle.report.specs.Report.{Out, check}
@@ -11,8 +13,8 @@ use Rattle.workbench.specs.PlainFormula.{IsPlainText, plain_formula}
 use Rattle.workbench.specs.InputFaults.{whole_limits}
 use Rattle.workbench.specs.Answers.{HoldsAtStart, IsJudged}
 use Rattle.workbench.specs.Reading.{IsReadWhole, IsReadRefused, IsReadInPart, HasRefusal, IsWhole}
-use Rattle.workbench.specs.Writing.{IsPartWritten}
-use Rattle.workbench.specs.PlainRun.{AskFor, AskForOther, Took, Got, IsChecked, IsCutOff, IsWrittenWith, whole, part, IsEnding, written, stopped, no_memory, status_of_truth, IsRefusedRightly, IsRefusedWhereDue, IsAnsweredRightly, IsCutOffRightly}
+use Rattle.workbench.specs.Writing.{IsPartWritten, IsWritten}
+use Rattle.workbench.specs.PlainRun.{AskFor, AskForOther, Took, Got, IsMessage, err_text, IsChecked, IsCutOff, IsWrittenWith, whole, part, IsEnding, written, stopped, no_memory, status_of_truth, IsRefusedRightly, IsRefusedWhereDue, IsAnsweredRightly, IsCutOffRightly}
 use Rattle.workbench.specs.declared.reading.Stop.{Stop}
 use Rattle.workbench.specs.declared.reading.Stop.TheVariants.{NotPlain, Unread, NoMemory}
 use Rattle.workbench.proofs.Constants.{whole_unique}
@@ -205,3 +207,26 @@ pub not_other : {words : List (List ℕ)} {formula name : List ℕ} {limit : ℤ
 not_other {formula = formula} {name} {limit} form plain a =
     let same : formula ≡ a.formula = (let f = sym form ∙ a.form in cc) in
     a.not_plain name limit (subst (λ w. IsPlainText w name limit) same plain)
+
+-- what was got of a text that was written, or of its first part
+pub told_by_write : {T : Type 0} (text piece : List ℕ) (held held_after : Option (List ℕ)) (faults faults_after : ℕ) (r : Result T Failed) → piece ≡ text
+    → IsWritten held held_after r piece → HasCause faults faults_after r → (message : List ℕ) → Got held held_after message → IsMessage text message faults faults_after
+told_by_write text piece held held_after faults faults_after (Ok x) e wrote cause message got =
+    record { rest = []; parts = sym e ∙ got_is got wrote ∙ sym (append-nil message); complete = λ _. refl }
+told_by_write text piece held held_after faults faults_after (Err x) e wrote cause message got = record {
+  rest = wrote.back;
+  parts = sym e ∙ wrote.parts ∙ ap (λ t. t ++ wrote.back) (got_is got wrote.wrote);
+  complete = λ no. absurd (no cause.failed);
+}
+
+-- no line goes with 0 and 1
+no_line : (s : ℕ) → s ≤ 1 → err_text s ≡ []
+no_line zero h = refl
+no_line (suc zero) h = refl
+no_line (suc (suc n)) h = absurd (omega (arith, h))
+
+-- nothing was got where nothing was written
+pub told_nothing : (s : ℕ) (held : Option (List ℕ)) (faults : ℕ) → s ≤ 1 → (message : List ℕ) → Got held held message → IsMessage (err_text s) message faults faults
+told_nothing s held faults small message got =
+    let same : got.held ++ [] ≡ got.held ++ message = append-nil got.held ∙ (let f = sym got.was ∙ got.now in let g : got.held ≡ got.held ++ message = cc in g) in
+    record { rest = []; parts = no_line s small ∙ append_cancel_left got.held [] message same ∙ sym (append-nil message); complete = λ _. refl }

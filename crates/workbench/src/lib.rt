@@ -8,3 +8,8 @@ mod reading;
 mod spans;
 mod top;
 mod words;
+
+pub use top::run;
+
+#[cfg(test)]
+mod tests;
