@@ -1,5 +1,5 @@
 -- How a check of a plain formula ends.
-use Rattle.std.proofs.Common.{◌≡◌, ◌≢◌, ◌⊎◌, inl, inr, ℕ, ℤ, ◌≤◌, ◌+◌, Bool, true, false, List, Option, refl, sym, ap, ◌∙◌, subst, arith}
+use Rattle.std.proofs.Common.{◌≡◌, ◌≢◌, ◌⊎◌, inl, inr, ℕ, ℤ, ◌≤◌, Bool, true, false, List, Option, refl, sym, ap, subst, arith}
 use Rattle.std.specs.Io.KnownBytes.{Appends}
 use Rattle.stl_syntax.specs.Trace.{Trace}
 use Rattle.trace_reader.specs.Plain.{name_of}
@@ -8,7 +8,7 @@ use Rattle.workbench.specs.InputFaults.{whole_limits}
 use Rattle.workbench.specs.Answers.{IsJudged}
 use Rattle.workbench.specs.Reading.{IsReadWhole, IsStop}
 use Rattle.workbench.specs.Writing.{IsPartWritten}
-use Rattle.workbench.specs.PlainRun.{IsWrittenWith, whole, part, IsEnding, written, stopped, no_memory, status_of_truth, status_of_stop}
+use Rattle.workbench.specs.PlainRun.{IsWrittenWith, whole, part, IsEnding, written, stopped, status_of_truth, status_of_stop}
 use Rattle.workbench.specs.declared.reading.Stop.{Stop}
 
 pub written_whole : (holds : Bool) (text piece : List ℕ) (held held_after : Option (List ℕ)) (s : ℕ) → piece ≡ text → Appends held held_after piece → s ≡ status_of_truth holds

@@ -1,6 +1,5 @@
 -- What follows for a run from how its check ends.
-use Rattle.std.proofs.Common.{◌≡◌, ◌≢◌, ◌⊎◌, inl, inr, ℕ, zero, suc, append-nil, Result, Ok, Err, ℤ, pos, neg_ℤ, ◌≤◌, ◌+◌, Bool, true, false, MatchBool, List, [], ◌∷◌, ◌++◌, Option, Some, None, refl, sym, ap, ◌∙◌, subst, arith}
-use Rattle.std.proofs.lemmas.Bool.{false≢true}
+use Rattle.std.proofs.Common.{◌≡◌, ◌≢◌, ◌⊎◌, inl, inr, ℕ, zero, suc, append-nil, Result, Ok, Err, ℤ, ◌≤◌, Bool, true, false, MatchBool, List, [], ◌++◌, Option, Some, refl, sym, ap, ◌∙◌, subst, arith}
 use Rattle.std.proofs.lemmas.List.{append_cancel_left, append_cancel_right}
 use Rattle.std.specs.Io.KnownBytes.{Appends, Consumes, IsAtEnd}
 use Rattle.io_edge.specs.Causes.{HasCause}
@@ -12,10 +11,9 @@ use Rattle.workbench.specs.Words.{AskCheck}
 use Rattle.workbench.specs.PlainFormula.{IsPlainText, plain_formula}
 use Rattle.workbench.specs.InputFaults.{whole_limits}
 use Rattle.workbench.specs.Answers.{HoldsAtStart, IsJudged}
-use Rattle.workbench.specs.Reading.{IsReadWhole, IsReadRefused, IsReadInPart, HasRefusal, IsWhole}
+use Rattle.workbench.specs.Reading.{IsReadWhole, IsReadRefused, HasRefusal, IsWhole}
 use Rattle.workbench.specs.Writing.{IsPartWritten, IsWritten}
 use Rattle.workbench.specs.PlainRun.{AskFor, AskForOther, Took, Got, IsMessage, err_text, IsChecked, IsCutOff, IsWrittenWith, whole, part, IsEnding, written, stopped, no_memory, status_of_truth, IsRefusedRightly, IsRefusedWhereDue, IsAnsweredRightly, IsCutOffRightly}
-use Rattle.workbench.specs.declared.reading.Stop.{Stop}
 use Rattle.workbench.specs.declared.reading.Stop.TheVariants.{NotPlain, Unread, NoMemory}
 use Rattle.workbench.proofs.Constants.{whole_unique}
 use Rattle.workbench.proofs.Cuts.{name_no_space, one_comparison}

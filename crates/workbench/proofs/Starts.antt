@@ -1,5 +1,5 @@
 -- The first verdict tells the truth at the start, and lines of verdicts grow by one more.
-use Rattle.std.proofs.Common.{Result, Ok, Err, IfOk, take, ℤ, pos, ◌*ℤ◌, ◌+◌, ◌≤◌, ◌≡◌, ◌⊎◌, ℕ, ◌<◌, List, [], ◌∷◌, ◌++◌, Bool, true, false, MatchBool, IsTrue, length, slice_index_or, refl, sym, ap, ◌∙◌, subst, arith, append_assoc, append-nil, inl, inr}
+use Rattle.std.proofs.Common.{Result, Ok, Err, IfOk, take, ℤ, pos, ◌*ℤ◌, ◌+◌, ◌≤◌, ◌≡◌, ℕ, ◌<◌, List, [], ◌∷◌, ◌++◌, Bool, true, MatchBool, IsTrue, length, slice_index_or, refl, sym, ap, ◌∙◌, subst, append_assoc, append-nil, inl, inr}
 use Rattle.std.proofs.Math.IntN.{one, *ℤ_comm, *ℤ-one}
 use Rattle.std.proofs.lemmas.List.{take_more, take_all}
 use Rattle.report.specs.Appended.{Grew}
@@ -11,7 +11,7 @@ use Rattle.stl_syntax.specs.Formula.{Subformula, atom, root, subformula}
 use Rattle.stl_syntax.specs.Scaling.{scaled}
 use Rattle.stl_syntax.specs.Trace.{Trace, Header, start, stop}
 use Rattle.stl_syntax.specs.Truth.{Truth}
-use Rattle.stl_syntax.specs.Verdicts.{IsTold, Describes}
+use Rattle.stl_syntax.specs.Verdicts.{Describes}
 use Rattle.stl_syntax.specs.Texts.{AreVerdictLines, IsVerdictLine, start_line}
 use Rattle.report.specs.Report.{nodes_for}
 use Rattle.trace_reader.specs.Plain.{no_digits, header_of, name_of}

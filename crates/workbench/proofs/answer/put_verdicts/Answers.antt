@@ -1,4 +1,4 @@
-use Rattle.std.proofs.Common.{length, ◌<◌, ◌≤◌, arith}
+use Rattle.std.proofs.Common.{arith}
 use Rattle.trace_reader.specs.Plain.{no_digits}
 use Rattle.workbench.proofs.Starts.{put_first, put_more, put_all}
 use Rattle.workbench.proofs.answer.put_verdicts.Goals as goal

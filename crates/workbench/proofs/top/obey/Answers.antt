@@ -1,4 +1,4 @@
-use Rattle.std.proofs.Common.{◌≡◌, to_z, of_z, inl, inr, ◌⊎◌, arith, subst, map, string_bytes, sym}
+use Rattle.std.proofs.Common.{◌≡◌, to_z, of_z, inl, inr, arith, subst}
 use Rattle.std.specs.Int.{w32}
 use Rattle.std.proofs.lemmas.Int.{ints}
 use Rattle.workbench.specs.PlainRun.{IsEnding}
