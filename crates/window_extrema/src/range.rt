@@ -1,0 +1,115 @@
+//! A queue of places whose items fall.
+ghost use Rattle.std.specs.Prelude.{◌≡◌, ◌+◌, ◌*◌, ◌<◌, ◌≤◌, ◌↔◌, length, IfOk, IsNone, IfSome};
+ghost use Rattle.window_extrema.specs.Range.{IsGreatestOf, IsPaid};
+
+use crate::queue::{drop_earlier, drop_smaller};
+use frac128::{Memory, Steps};
+use std::alloc::Global;
+use std::cmp::Ordering;
+use std::collections::VecDeque;
+use std::marker::Model;
+use std::sync::ledger::Ledger;
+use value_laws::{Counted, Shape};
+
+/// Constants in a row, of which the greatest of a range is asked for again and again, where the ends of the range don't fall.
+///
+/// All questions together take at most two comparisons an item.
+#[derive(Drop)]
+pub struct RangeMax<P: Shape> {
+    items: Vec<Counted<P>>,
+    queue: VecDeque<usize>,
+    low: usize,
+    high: usize,
+}
+
+impl<P: Shape> Model for RangeMax<P> {
+    ghost use Rattle.std.specs.Prelude.{◌-◌, ◌*◌, ◌≤◌, length};
+    ghost use Rattle.std.specs.VecDeque.{deque_len, deque_capacity};
+    ghost use Rattle.window_extrema.specs.Range.{Range};
+    ghost use Rattle.window_extrema.specs.Stairs.{AreStairs};
+
+    ghost Value = { Range P };
+
+    ghost view = { λ r. record {
+      items = r.items.items;
+      low = r.low;
+      high = r.high;
+      spent = 2 * r.high - length r.queue.items;
+    } };
+
+    ghost invariant = { λ r.
+        (r.low ≤ r.high)
+        × (r.high ≤ length r.items.items)
+        × (length r.items.items ≤ deque_capacity r.queue)
+        × (length r.queue.items ≤ r.high)
+        × AreStairs P.function r.items.items r.low r.high r.queue.items };
+}
+
+impl<P: Shape> RangeMax<P> {
+    /// The items, with no range asked for yet. It reserves what `ask` needs.
+    pub fn new(alloc: Global, items: Vec<Counted<P>>) -> Result<RangeMax<P>, Memory>
+        ensures items { IfOk result (λ r. r.items ≡ items.items) }
+        ensures low { IfOk result (λ r. r.low ≡ 0) }
+        ensures high { IfOk result (λ r. r.high ≡ 0) }
+        ensures spent { IfOk result (λ r. r.spent ≡ 0) }
+    {
+        match VecDeque::with_capacity(alloc, items.len()) {
+            Ok(queue) => Ok(RangeMax {
+                items,
+                queue,
+                low: 0,
+                high: 0,
+            }),
+            Err(_) => Err(Memory),
+        }
+    }
+
+    /// The place of a greatest item from place `lo` up to, but not including, place `hi`; None exactly where there is no place.
+    ///
+    /// It takes no memory. The counter rises by a step for each comparison, and by no more than `spent` does.
+    pub fn ask<L: Ledger>(&mut self, lo: usize, hi: usize, steps: &mut Steps<L>) -> Option<usize>
+        requires low { self.old.low ≤ lo }
+        requires high { self.old.high ≤ hi }
+        requires order { lo ≤ hi }
+        requires within { hi ≤ length self.old.items }
+        ensures none { IsNone result ↔ (lo ≡ hi) }
+        ensures place { IfSome result (λ i. IsGreatestOf P.function self.old.items lo hi i) }
+        ensures items { self.new.items ≡ self.old.items }
+        ensures low { self.new.low ≡ lo }
+        ensures high { self.new.high ≡ hi }
+        ensures cost { IsPaid self.old.spent self.new.spent steps.old steps.new }
+        ensures bound { self.new.spent ≤ 2 * length self.new.items }
+    {
+        while self.high < hi {
+            self.take_next(steps);
+        }
+        self.leave_before(lo);
+        self.queue.front().copied()
+    }
+
+    /// Lets the range end one place later.
+    fn take_next<L: Ledger>(&mut self, steps: &mut Steps<L>)
+        requires more { self.old.high < length self.old.items }
+        ensures items { self.new.items ≡ self.old.items }
+        ensures low { self.new.low ≡ self.old.low }
+        ensures high { self.new.high ≡ self.old.high + 1 }
+        ensures cost { IsPaid self.old.spent self.new.spent steps.old steps.new }
+    {
+        drop_smaller(&self.items, &mut self.queue, self.high, steps);
+        self.queue.push_back_reserved(self.high);
+        self.high += 1;
+    }
+
+    /// Lets the range begin at `lo`.
+    fn leave_before(&mut self, lo: usize)
+        requires low { self.old.low ≤ lo }
+        requires order { lo ≤ self.old.high }
+        ensures items { self.new.items ≡ self.old.items }
+        ensures low { self.new.low ≡ lo }
+        ensures high { self.new.high ≡ self.old.high }
+        ensures spent { self.old.spent ≤ self.new.spent }
+    {
+        drop_earlier(&mut self.queue, lo);
+        self.low = lo;
+    }
+}
