@@ -12,3 +12,5 @@ pub mod FeedLemmas
 pub mod PlainLaws
 pub mod FaultStays
 pub mod PlainText
+pub mod FieldLemmas
+pub mod NumberLemmas

@@ -22,7 +22,7 @@ is_solid c = not (is_space c) && not (eqb c 13)
 abbrev is_inner : ℕ → Bool
 is_inner c = is_solid c && not (eqb c 44)
 
-all-append : (p : ℕ → Bool) (xs ys : List ℕ) → all p xs ≡ true → all p ys ≡ true → all p (xs ++ ys) ≡ true
+pub all-append : (p : ℕ → Bool) (xs ys : List ℕ) → all p xs ≡ true → all p ys ≡ true → all p (xs ++ ys) ≡ true
 all-append p [] ys h k = k
 all-append p (x ∷ xs) ys h k =
     let a : p x ≡ true = grind (arith, h) in let b : all p xs ≡ true = grind (arith, h) in
@@ -34,7 +34,7 @@ all-weaker p q w (x ∷ xs) h =
     let a : p x ≡ true = grind (arith, h) in let b : all p xs ≡ true = grind (arith, h) in
     rw (w x a, all-weaker p q w xs b) refl
 
-all-reverse : (p : ℕ → Bool) (xs : List ℕ) → all p xs ≡ true → all p (reverse xs) ≡ true
+pub all-reverse : (p : ℕ → Bool) (xs : List ℕ) → all p xs ≡ true → all p (reverse xs) ≡ true
 all-reverse p [] h = refl
 all-reverse p (x ∷ xs) h =
     let a : p x ≡ true = grind (arith, h) in let b : all p xs ≡ true = grind (arith, h) in

@@ -30,10 +30,10 @@ unfolding numeral_of
 numeral_is (integer {c = c} {digits = some} h) = rw (span_whole is_digit (c ∷ some) h, after_whole is_digit (c ∷ some) h) refl
 numeral_is (with_point c some d more h k) = rw (span_all is_digit (c ∷ some) (46 ∷ d ∷ more) h refl, after_all is_digit (c ∷ some) (46 ∷ d ∷ more) h refl) refl
 
-numeral-unique : {text : List ℕ} {n k n' k' : ℕ} → IsNumeral text n k → IsNumeral text n' k' → (n ≡ n') × (k ≡ k')
+pub numeral-unique : {text : List ℕ} {n k n' k' : ℕ} → IsNumeral text n k → IsNumeral text n' k' → (n ≡ n') × (k ≡ k')
 numeral-unique h h' = let e = sym (numeral_is h) ∙ numeral_is h' in (ap (λ p. p.0) e, ap (λ p. p.1) e)
 
-number-unique : {text : List ℕ} {v v' : ℤ} {k k' : ℕ} → IsNumber text v k → IsNumber text v' k' → (v ≡ v') × (k ≡ k')
+pub number-unique : {text : List ℕ} {v v' : ℤ} {k k' : ℕ} → IsNumber text v k → IsNumber text v' k' → (v ≡ v') × (k ≡ k')
 number-unique (plain h) (plain h') = let e = numeral-unique h h' in (ap pos e.0, e.1)
 number-unique (plain h) (plus h') = absurd (let e = numeral_begins h in cc)
 number-unique (plain h) (minus h') = absurd (let e = numeral_begins h in cc)
@@ -42,7 +42,7 @@ number-unique (plus h) (plus h') = let e = numeral-unique h h' in (ap pos e.0, e
 number-unique (minus h) (plain h') = absurd (let e = numeral_begins h' in cc)
 number-unique (minus h) (minus h') = let e = numeral-unique h h' in (rw e.0 refl, e.1)
 
-ticks-unique : (digits most : ℕ) (f : List ℕ) → AtMostOne (IsInTicks digits most f)
+pub ticks-unique : (digits most : ℕ) (f : List ℕ) → AtMostOne (IsInTicks digits most f)
 ticks-unique d m f v v' (n, k, h, l, e) (n', k', h', l', e') = let u = number-unique h h' in e ∙ rw (u.0, u.1) (sym e')
 
 values-unique : (digits : ℕ) (most : List ℕ) (fields : List (List ℕ)) → AtMostOne (AreInTicks digits most fields)

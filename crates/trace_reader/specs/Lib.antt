@@ -9,3 +9,5 @@ pub mod PlainProgress
 pub mod PlainTable
 pub mod PlainReading
 pub mod PlainReader
+pub mod LineParts
+pub mod FieldFaults

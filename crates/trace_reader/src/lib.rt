@@ -3,10 +3,12 @@
 
 mod digits;
 mod event;
+mod field;
 mod header;
 pub mod laws;
 mod line;
 mod name;
+mod number;
 mod plain;
 mod plain_line;
 mod plain_reading;
