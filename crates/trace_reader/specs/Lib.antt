@@ -11,3 +11,4 @@ pub mod PlainReading
 pub mod PlainReader
 pub mod LineParts
 pub mod FieldFaults
+pub mod Headings

@@ -14,6 +14,7 @@ mod plain_line;
 mod plain_reading;
 mod plain_table;
 mod refusal;
+mod room;
 mod row;
 #[cfg(test)]
 mod tests;
