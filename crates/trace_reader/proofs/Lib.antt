@@ -14,3 +14,4 @@ pub mod FaultStays
 pub mod PlainText
 pub mod FieldLemmas
 pub mod NumberLemmas
+pub mod HeadingLemmas

@@ -78,7 +78,7 @@ mode_of : List ℕ → Bool
 mode_of [] = false
 mode_of (c ∷ rest) = first_byte rest == 115
 
-digit_text : (n : ℕ) → n ≤ 6 → decimal n ≡ (48 + n) ∷ []
+pub digit_text : (n : ℕ) → n ≤ 6 → decimal n ≡ (48 + n) ∷ []
 unfolding digits
 digit_text zero h = refl
 digit_text (suc zero) h = refl

@@ -4,8 +4,8 @@ use Rattle.stl_syntax.specs.Characters.{is_among}
 use Rattle.stl_syntax.specs.Trace.{Column, Header}
 use Rattle.stl_syntax.specs.declared.scale.Scale.{Scale}
 use Rattle.trace_reader.specs.Labels.{column_of}
-use Rattle.trace_reader.specs.TraceText.{Heading, IsColumn, AreColumns, scale_of}
-use Rattle.trace_reader.specs.TraceRefusals.{name_part, ColumnFault, ColumnFaults}
+use Rattle.trace_reader.specs.TraceText.{Heading, IsHeading, IsColumn, AreColumns, scale_of}
+use Rattle.trace_reader.specs.TraceRefusals.{name_part, ColumnFault, ColumnFaults, HeaderFault}
 use Rattle.trace_reader.specs.declared.refusal.TraceKind.{TraceKind}
 use Rattle.trace_reader.specs.declared.room.HeadingRoom.TheInside.{Inside as Room}
 use Rattle.trace_reader.specs.declared.room.Heading.TheInside.{Inside as Kept}
@@ -66,3 +66,9 @@ pub record AreColumnsLeft (fields : List (List ℕ)) (i : ℕ) (left : List (Lis
   pub faults : (k : TraceKind) → ColumnFaults i earlier left k → ColumnFaults 2 (codes "time" ∷ []) fields k
   pub only : (k : TraceKind) → ColumnFaults 2 (codes "time" ∷ []) fields k → ColumnFaults i earlier left k
   pub columns : (cs : List Column) (ds : List ℕ) → AreColumns left cs ds → AreColumns fields (o.columns ++ cs) (o.digits ++ ds)
+
+-- the fields are those of the heading, which has no fault
+pub record IsHeadingRead (least : Scale) (fields : List (List ℕ)) (r : Scaled) : Type 0 where
+  pub read : IsHeading fields r.heading
+  pub scale : r.scale ≡ scale_of least r.heading
+  pub sound : (k : TraceKind) → ¬ HeaderFault fields k

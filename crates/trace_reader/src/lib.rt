@@ -5,6 +5,7 @@ mod digits;
 mod event;
 mod field;
 mod header;
+mod heading;
 pub mod laws;
 mod line;
 mod name;
