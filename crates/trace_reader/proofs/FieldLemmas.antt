@@ -76,6 +76,9 @@ split_first (x ∷ xs) = by_test (split_first xs) (cases_eq x 44)
     by_test before (inl e) = ([], split 44 xs, rw (eq-eqb x 44 e) refl)
     by_test (p, ps, h) (inr e) = (x ∷ p, ps, rw (ne_eqb x 44 e, h) refl)
 
+pub split_some : (xs : List ℕ) → 0 < length (split 44 xs)
+split_some xs = let (p, ps, h) = split_first xs in rw h (omega arith)
+
 -- how many parts there are
 pub split-comma : (x : ℕ) (xs : List ℕ) → x ≡ 44 → length (split 44 (x ∷ xs)) ≡ length (split 44 xs) + 1
 split-comma x xs e = rw (eq-eqb x 44 e) (omega arith)

@@ -15,3 +15,4 @@ pub mod PlainText
 pub mod FieldLemmas
 pub mod NumberLemmas
 pub mod HeadingLemmas
+pub mod RowLemmas

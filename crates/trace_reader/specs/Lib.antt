@@ -12,3 +12,4 @@ pub mod PlainReader
 pub mod LineParts
 pub mod FieldFaults
 pub mod Headings
+pub mod RowLines

@@ -17,6 +17,7 @@ mod plain_table;
 mod refusal;
 mod room;
 mod row;
+mod row_line;
 #[cfg(test)]
 mod tests;
 mod trace;

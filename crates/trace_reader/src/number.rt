@@ -129,9 +129,10 @@ fn read_ticks(field: &[u8], most: u8, digits: u8) -> Option<Ticks>
 pub(crate) fn read_time(field: &[u8], most: u8, digits: u8) -> Result<u32, TraceKind>
     requires most { most ≤ digits }
     requires digits { digits ≤ 6 }
-    ensures { MatchResult result
+    ensures cases { MatchResult result
         (λ t. IsFieldRead digits most (pos 0) (pos 4294967295) 1 field.now (pos t))
         (NumberFault digits most (pos 0) (pos 4294967295) 1 field.now) }
+    ensures small { IfOk result (λ t. t ≤ 4294967295) }
 {
     let Some(ticks) = read_ticks(field, most, digits) else {
         return Err(TraceKind::BadNumber { field: 1 });

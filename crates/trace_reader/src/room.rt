@@ -186,6 +186,42 @@ impl Model for Heading {
 }
 
 impl Heading {
+    ghost use Rattle.std.specs.Prelude.{length};
+
+    /// How many columns there are beside the time.
+    pub(crate) fn columns(&self) -> usize
+        ensures value { result ≡ length self.now.heading.columns }
+        ensures most { result ≤ 64 }
+    {
+        self.digits.len()
+    }
+
+    /// The ticks in which times and values are counted.
+    pub(crate) fn scale(&self) -> Scale
+        ensures value { result ≡ self.now.scale }
+        ensures small { (result.time ≤ 6) × (result.value ≤ 6) }
+    {
+        self.header.scale()
+    }
+
+    /// How many decimals a time may have.
+    pub(crate) fn time_digits(&self) -> u8
+        ensures value { result ≡ self.now.heading.time_digits }
+        ensures most { result ≤ self.now.scale.time }
+    {
+        self.time
+    }
+
+    /// How many decimals the values of each column may have.
+    pub(crate) fn digits(&self) -> &[u8]
+        ensures value { result.now ≡ self.now.heading.digits }
+        ensures most { All (λ n. n ≤ self.now.scale.value) result.now }
+        ensures width { length result.now ≡ length self.now.heading.columns }
+        ensures few { length result.now ≤ 64 }
+    {
+        self.digits.as_slice()
+    }
+
     /// The header.
     pub(crate) fn header(&self) -> &Header
         ensures { result.now ≡ record { columns = self.now.heading.columns; scale = self.now.scale } }
