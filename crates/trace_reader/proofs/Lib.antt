@@ -16,3 +16,4 @@ pub mod FieldLemmas
 pub mod NumberLemmas
 pub mod HeadingLemmas
 pub mod RowLemmas
+pub mod JudgeLemmas

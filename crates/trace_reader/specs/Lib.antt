@@ -13,3 +13,6 @@ pub mod LineParts
 pub mod FieldFaults
 pub mod Headings
 pub mod RowLines
+pub mod Progress
+pub mod Two
+pub mod TraceTable

@@ -18,13 +18,15 @@ mod refusal;
 mod room;
 mod row;
 mod row_line;
+mod table;
 #[cfg(test)]
 mod tests;
 mod trace;
+mod two_rows;
 
 pub use event::{Event, Took};
 pub use header::Header;
-pub use plain::{NotPlain, Rows};
+pub use plain::{NotPlain, PlainRows};
 pub use refusal::{Limits, TraceKind, TraceRefusal};
 pub use row::Row;
 pub use trace::Trace;
