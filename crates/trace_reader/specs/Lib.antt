@@ -16,3 +16,5 @@ pub mod RowLines
 pub mod Progress
 pub mod Two
 pub mod TraceTable
+pub mod Reader
+pub mod Reading

@@ -14,6 +14,7 @@ mod plain;
 mod plain_line;
 mod plain_reading;
 mod plain_table;
+mod reading;
 mod refusal;
 mod room;
 mod row;
