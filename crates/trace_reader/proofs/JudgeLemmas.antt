@@ -66,10 +66,10 @@ judged_heading limits line text old new r e b n (bad_heading k is same) =
 
 pub judged_row : (limits : Limits) (line text : List ℕ) (old new : Progress) (r : Result Event TraceKind) → text ≡ content (whole_line line) → is_blank_line (whole_line line) ≡ false
     → JudgesRow limits text old new r → Judges limits line old new r
-judged_row limits line text old new r e b (row h n is sound range width same) =
+judged_row limits line text old new r e b (row h n is sound range width up few same) =
     let f : fields_of (Some text) ≡ fields (whole_line line) = ap (λ t. fields_of (Some t)) e ∙ sym (fields_are line) in
     row h b n (subst (λ fs. IsRow (scale_of old.least h) h fs new.row) f is)
-    (subst (λ fs. (k : TraceKind) → ¬ RowFault limits (scale_of old.least h) h old.count (last_of old.count old.row) fs k) f sound) range width same
+    (subst (λ fs. (k : TraceKind) → ¬ RowFault limits (scale_of old.least h) h old.count (last_of old.count old.row) fs k) f sound) range width up few same
 judged_row limits line text old new r e b (bad_row h k n is same) =
     let f : fields_of (Some text) ≡ fields (whole_line line) = ap (λ t. fields_of (Some t)) e ∙ sym (fields_are line) in
     bad_row h k b n (subst (λ fs. RowFault limits (scale_of old.least h) h old.count (last_of old.count old.row) fs k) f is) same
@@ -94,7 +94,7 @@ module _ (limits : Limits) (text : List ℕ) (old new : Progress) (sc : Scaled) 
       (subst (λ s. (k : TraceKind) → ¬ RowFault limits s sc.heading old.count (last_of old.count old.row) (fields_of (Some text)) k) scale
       (row_sound limits sc old.count (last_of old.count old.row) (fields_of (Some text)) few new.row r
       (λ t e. let w = last_is old.count old.row t e in subst (λ n. n < new.row.time) (sym w.1) (up w.0))))
-      r.range r.values same
+      r.range r.values up few same
 
 pub map_none : (o : Option Scaled) → is_some o ≡ false → option_map (λ (s : Scaled). s.heading) o ≡ None
 map_none None h = refl

@@ -17,3 +17,5 @@ pub mod NumberLemmas
 pub mod HeadingLemmas
 pub mod RowLemmas
 pub mod JudgeLemmas
+pub mod GoesOnLemmas
+pub mod ReaderSteps

@@ -1,5 +1,5 @@
 -- What the lines of a trace come to, one after another.
-use Rattle.std.specs.Prelude.{◌≡◌, ℕ, zero, suc, ◌+◌, ◌≤◌, Bool, true, false, List, length, Option, Some, None, Result, Ok, Err, IsSome}
+use Rattle.std.specs.Prelude.{◌≡◌, ℕ, zero, suc, ◌+◌, ◌<◌, Bool, true, false, List, length, Option, Some, None, Result, Ok, Err, IsSome}
 use Rattle.std.specs.Option.{ForSome}
 use Rattle.stl_syntax.specs.Trace.{Row, IsInRange}
 use Rattle.stl_syntax.specs.declared.scale.Scale.{Scale}
@@ -32,7 +32,8 @@ pub data Judges (limits : Limits) (line : List ℕ) (old new : Progress) : Resul
       → ((k : TraceKind) → ¬ HeaderFault (fields (whole_line line)) k) → new ≡ record old { heading = Some h; fresh = false } → Judges limits line old new (Ok IsTheHeader)
   row : (h : Heading) → is_blank_line (whole_line line) ≡ false → old.heading ≡ Some h → IsRow (scale_of old.least h) h (fields (whole_line line)) new.row
       → ((k : TraceKind) → ¬ RowFault limits (scale_of old.least h) h old.count (last_of old.count old.row) (fields (whole_line line)) k)
-      → IsInRange new.row → length new.row.values ≡ length h.columns → new ≡ record old { row = new.row; count = old.count + 1 } → Judges limits line old new (Ok IsARow)
+      → IsInRange new.row → length new.row.values ≡ length h.columns → (0 < old.count → old.row.time < new.row.time) → old.count < limits.rows
+      → new ≡ record old { row = new.row; count = old.count + 1 } → Judges limits line old new (Ok IsARow)
   bad_heading : (k : TraceKind) → is_blank_line (whole_line line) ≡ false → old.heading ≡ None → HeaderFault (fields (whole_line line)) k
       → new ≡ record old { fresh = false } → Judges limits line old new (Err k)
   bad_row : (h : Heading) (k : TraceKind) → is_blank_line (whole_line line) ≡ false → old.heading ≡ Some h
@@ -48,6 +49,7 @@ pub data JudgesHeading (text : List ℕ) (old new : Progress) : Result Event Tra
 pub data JudgesRow (limits : Limits) (text : List ℕ) (old new : Progress) : Result Event TraceKind → Type 0 where
   row : (h : Heading) → old.heading ≡ Some h → IsRow (scale_of old.least h) h (fields_of (Some text)) new.row
       → ((k : TraceKind) → ¬ RowFault limits (scale_of old.least h) h old.count (last_of old.count old.row) (fields_of (Some text)) k)
-      → IsInRange new.row → length new.row.values ≡ length h.columns → new ≡ record old { row = new.row; count = old.count + 1 } → JudgesRow limits text old new (Ok IsARow)
+      → IsInRange new.row → length new.row.values ≡ length h.columns → (0 < old.count → old.row.time < new.row.time) → old.count < limits.rows
+      → new ≡ record old { row = new.row; count = old.count + 1 } → JudgesRow limits text old new (Ok IsARow)
   bad_row : (h : Heading) (k : TraceKind) → old.heading ≡ Some h → RowFault limits (scale_of old.least h) h old.count (last_of old.count old.row) (fields_of (Some text)) k
       → new ≡ old → JudgesRow limits text old new (Err k)
