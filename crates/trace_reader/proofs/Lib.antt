@@ -19,3 +19,5 @@ pub mod RowLemmas
 pub mod JudgeLemmas
 pub mod GoesOnLemmas
 pub mod ReaderSteps
+pub mod ReaderTakes
+pub mod KindLemmas

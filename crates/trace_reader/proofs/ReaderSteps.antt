@@ -5,9 +5,9 @@ use Rattle.std.proofs.lemmas.List.{append-nil, length_push, length-append, same_
 use Rattle.std.proofs.lemmas.List.Elements.{All-nil, All-append, All-push}
 use Rattle.std.proofs.lemmas.Bool.{false≢true}
 use Rattle.stl_syntax.specs.Choice.{◌or_else◌, Where}
-use Rattle.stl_syntax.specs.Trace.{Row, Header, last_time, IsInRange}
+use Rattle.stl_syntax.specs.Trace.{Row, Header, last_time, IsInRange, AreRowsAfter}
 use Rattle.stl_syntax.specs.declared.scale.Scale.{Scale}
-use Rattle.trace_reader.specs.TraceText.{Line, lines, is_blank_line, fields, Heading, IsHeading, scale_of, AreTraceLines, TraceOf}
+use Rattle.trace_reader.specs.TraceText.{Line, lines, is_blank_line, fields, Heading, IsHeading, scale_of, AreTraceLines, TraceOf, none}
 use Rattle.trace_reader.specs.TraceRefusals.{LineFault, InLine, HeaderFault, RowFault, FaultFrom, FaultAfter, IsFirstFault, HasTrace}
 use Rattle.trace_reader.specs.Sofar.{AreRowsSoFar}
 use Rattle.trace_reader.specs.Cut.{Cut, begun_after}
@@ -16,11 +16,11 @@ use Rattle.trace_reader.specs.PlainReading.{Fits}
 use Rattle.trace_reader.specs.LineParts.{whole_line}
 use Rattle.trace_reader.specs.Progress.{Progress, last_of, Judges, blank, heading, row, bad_heading, bad_row}
 use Rattle.trace_reader.specs.Reader.{Reader, StandsFor, HasTaken, GoesOn, FaultsOn, ReadsOn, AreRising, IsFaultOfAll, IsNextRow, header_of, last_seen}
-use Rattle.trace_reader.specs.Reading.{state, IsStart, IsLineRefusal}
+use Rattle.trace_reader.specs.Reading.{made, IsLineRefusal, HasEnded}
 use Rattle.trace_reader.specs.declared.refusal.Limits.{Limits}
 use Rattle.trace_reader.specs.declared.refusal.TraceRefusal.{TraceRefusal}
 use Rattle.trace_reader.specs.declared.refusal.TraceKind.{TraceKind}
-use Rattle.trace_reader.specs.declared.refusal.TraceKind.TheVariants.{TooManyLines, LineTooLong}
+use Rattle.trace_reader.specs.declared.refusal.TraceKind.TheVariants.{TooManyLines, LineTooLong, Empty, NoRows}
 use Rattle.trace_reader.specs.declared.event.Event.{Event}
 use Rattle.trace_reader.specs.declared.event.Event.TheVariants.{Nothing, Header as IsTheHeader, Row as IsARow}
 use Rattle.trace_reader.specs.declared.reading.Reading.{Reading}
@@ -28,7 +28,7 @@ use Rattle.trace_reader.proofs.LineLemmas.{done, rest, lines-nil, lines-rest, li
 use Rattle.trace_reader.proofs.FaultStays.{grows}
 use Rattle.trace_reader.proofs.PlainLines.{last_row, last_time-push}
 use Rattle.trace_reader.proofs.PlainStands.{begun-going, begun-closed}
-use Rattle.trace_reader.proofs.TableLemmas.{sofar-push}
+use Rattle.trace_reader.proofs.TableLemmas.{sofar-push, sofar-some}
 use Rattle.trace_reader.proofs.GoesOnLemmas.{line_bad, heading_bad, row_bad, goes_blank, goes_heading, goes_row, goes_start, rest_sound, reads_so_far}
 
 rest_some : (ended : Bool) (text : List ℕ) → 0 < length text → rest ended text ≡ record { bytes = text; whole = ended } ∷ []
@@ -70,20 +70,6 @@ module _ (r : Reader) (bytes : List ℕ) (rows : List Row) (t : HasTaken r bytes
       some l =
           let e : length (t.front ++ rest false r.line) ≡ length t.front + 1 = ap (λ ls. length (t.front ++ ls)) (rest_some false r.line l) ∙ length_push t.front (record { bytes = r.line; whole = false }) in
           omega (arith, begun_now, e, few)
-
--- a reader with these parts
-abbrev made : Limits → Progress → ℕ → List ℕ → Reader
-made limits p b l = record {
-  limits = limits;
-  least = p.least;
-  begun = b;
-  line = l;
-  heading = p.heading;
-  row = p.row;
-  count = p.count;
-  refusal = None;
-  ended = false;
-}
 
 -- the time of the last row
 seen_push : (rows : List Row) (r : Row) → last_seen (rows ++ r ∷ []) ≡ Some r.time
@@ -274,3 +260,112 @@ taken_start limits p n z = record {
   rising = subst (λ o. AreRising o []) (sym n) refl;
   range = All-nil IsRange;
 }
+
+-- the bytes may end between lines
+pub ended_between : (limits : Limits) (p : Progress) (begun : ℕ) (bytes : List ℕ) (rows : List Row) → HasTaken (made limits p begun []) bytes rows → HasEnded limits p begun bytes rows
+ended_between limits p begun bytes rows t = record {
+  before = bytes;
+  taken = t;
+  all_lines = lines_now (made limits p begun []) bytes rows t true ∙ append-nil t.front;
+}
+
+-- or with a line that has no LF
+module _ (limits : Limits) (old : Progress) (begun : ℕ) (line bytes : List ℕ) (rows : List Row) (t : HasTaken (made limits old begun line) bytes rows) (some : 0 < length line) where
+  last_lines : lines true bytes ≡ t.front ++ done line ∷ []
+  last_lines = lines_now (made limits old begun line) bytes rows t true ∙ ap (λ ls. t.front ++ ls) (rest_some true line some)
+
+  no_feed : HasNoFeed []
+  no_feed = All-nil (λ c. c ≡ 10 → ⊥)
+
+  counted : begun_after begun line (length {A = ℕ} [] + 1) ≡ begun
+  counted = by_line line some
+    where
+      by_line : (l : List ℕ) → 0 < length l → begun_after begun l (length {A = ℕ} [] + 1) ≡ begun
+      by_line [] s = absurd (omega (arith, s))
+      by_line (c ∷ cs) s = refl
+
+  module _ (few : begun ≤ limits.lines) (short : length line ≤ 4096) where
+    few' : begun_after begun line (length {A = ℕ} [] + 1) ≤ limits.lines
+    few' = omega (arith, counted, few)
+
+    short' : length line + length {A = ℕ} [] ≤ 4096
+    short' = omega (arith, short)
+
+    pub ended_closed : (new : Progress) (e : Event) → Judges limits (line ++ []) old new (Ok e) → HasEnded limits new begun bytes (rows_after e rows new.row)
+    unfolding taken_closed
+    ended_closed new e judged =
+        let u = taken_closed limits old begun line bytes rows t [] no_feed few' short' new e judged in
+        let v : HasEnded limits new (begun_after begun line (length {A = ℕ} [] + 1)) bytes (rows_after e rows new.row) = record {
+          before = bytes ++ ([] ++ 10 ∷ []);
+          taken = u;
+          all_lines = last_lines ∙ (ap (λ l. t.front ++ done l ∷ []) (sym (append-nil line)) ∙ sym (front_same new e judged));
+        } in
+        subst (λ b. HasEnded limits new b bytes (rows_after e rows new.row)) counted v
+      where
+        front_same : (new : Progress) (e : Event) (judged : Judges limits (line ++ []) old new (Ok e))
+            → (taken_closed limits old begun line bytes rows t [] no_feed few' short' new e judged).front ≡ t.front ++ done (line ++ []) ∷ []
+        front_same new e (blank b same) = refl
+        front_same new e (heading h b n is sound same) = refl
+        front_same new e (row h b n is sound range width up room same) = refl
+
+    pub ended_bad : (new : Progress) (x : TraceRefusal) → x.line ≡ begun → Judges limits (line ++ []) old new (Err x.kind) → IsFirstFault bytes true limits old.least x
+    ended_bad new x at judged =
+        let f = judged_bad limits old begun line bytes rows t [] no_feed few' short' new x (at ∙ sym counted) judged [] true in
+        let same : lines true ((bytes ++ ([] ++ 10 ∷ [])) ++ []) ≡ lines true bytes =
+        joins_closed (made limits old begun line) bytes rows t true [] [] no_feed
+        ∙ (ap (λ ls. t.front ++ (done (line ++ []) ∷ ls)) (lines-nil true) ∙ (ap (λ l. t.front ++ done l ∷ []) (append-nil line) ∙ sym last_lines)) in
+        subst (λ ls. FaultFrom limits old.least true 1 ls x) same f
+
+-- all lines were read
+module _ (limits : Limits) (p : Progress) (begun : ℕ) (bytes : List ℕ) (rows : List Row) (h : HasEnded limits p begun bytes rows) where
+  whole_front : h.taken.front ++ [] ≡ lines true bytes
+  whole_front = append-nil h.taken.front ∙ sym h.all_lines
+
+  last_number : begun ≡ length h.taken.front
+  last_number =
+      h.taken.begun ∙ (ap length (lines_now (made limits p begun []) h.before rows h.taken false) ∙ ap length (append-nil h.taken.front))
+
+  pub no_header : p.heading ≡ None → (x : TraceRefusal) → x.line ≡ begun → x.kind ≡ Empty → IsFirstFault bytes true limits p.least x
+  no_header n x at is =
+      subst (λ ls. FaultFrom limits p.least true 1 ls x) whole_front (h.taken.goes_on.faults true [] x
+      (subst (λ o. FaultsOn limits p.least o rows true (suc (length h.taken.front)) [] x) (sym n) (omega (arith, at, last_number), (refl, is))))
+
+  module _ (g : Heading) (n : p.heading ≡ Some g) where
+    pub no_rows : p.count ≡ 0 → (x : TraceRefusal) → x.line ≡ begun → x.kind ≡ NoRows → IsFirstFault bytes true limits p.least x
+    no_rows z x at is =
+        subst (λ ls. FaultFrom limits p.least true 1 ls x) whole_front (h.taken.goes_on.faults true [] x
+        (subst (λ o. FaultsOn limits p.least o rows true (suc (length h.taken.front)) [] x) (sym n) (omega (arith, at, last_number), ((refl, sym h.taken.count ∙ z), is))))
+
+    pub read_whole : TraceOf bytes true p.least (header_of p.least g) rows
+    read_whole =
+        subst (λ ls. AreTraceLines p.least ls (header_of p.least g) rows) whole_front
+        (subst (λ rs. AreTraceLines p.least (h.taken.front ++ []) (header_of p.least g) rs) (append-nil rows)
+        (h.taken.goes_on.reads [] (header_of p.least g) [] (subst (λ o. ReadsOn p.least o [] (header_of p.least g) []) (sym n) (refl, none))))
+
+    pub has_trace : 0 < p.count → HasTrace bytes limits p.least (record { header = header_of p.least g; rows = rows })
+    has_trace some = record {
+      text = record {
+        read = read_whole;
+        rising = record { rows = sofar-some (length g.columns) rows (subst (λ o. AreRising o rows) n h.taken.rising) (omega (arith, some, h.taken.count)) };
+      };
+      sound = λ x f. by_rest x (subst (λ o. FaultsOn limits p.least o rows true (suc (length h.taken.front)) [] x) n
+          (h.taken.goes_on.only true [] x (subst (λ ls. FaultFrom limits p.least true 1 ls x) (sym whole_front) f)));
+    }
+      where
+        by_rest : (x : TraceRefusal) → FaultsOn limits p.least (Some g) rows true (suc (length h.taken.front)) [] x → ⊥
+        by_rest x f = omega (arith, some, h.taken.count, f.1.0.1)
+
+-- the last row of some that rise
+after_last : (width t : ℕ) (rows : List Row) (r : Row) → AreRowsAfter width t (rows ++ r ∷ []) → (last_time t rows < r.time) × (length r.values ≡ width)
+after_last width t [] r h = (h.0, h.1)
+after_last width t (s ∷ rows) r h = after_last width s.time rows r h.2
+
+pub rising_last : (width : ℕ) (rows : List Row) (r : Row) → AreRowsSoFar width (rows ++ r ∷ []) → (length r.values ≡ width) × (0 < length rows → last_time 0 rows < r.time)
+rising_last width [] r h = (h.0, λ some. absurd (omega (arith, some)))
+rising_last width (s ∷ rows) r h = let w = after_last width s.time rows r h.1 in (w.1, λ some. w.0)
+
+pub next_row : (e : Event) (o : Option Heading) (rows : List Row) (r : Row) → AreRising o (rows_after e rows r) → (e ≡ IsARow → IsSome o) → IsNextRow e o rows r
+next_row Nothing o rows r h k = tt
+next_row IsTheHeader o rows r h k = tt
+next_row IsARow None rows r h k = absurd (false≢true (k refl))
+next_row IsARow (Some g) rows r h k = rising_last (length g.columns) rows r h

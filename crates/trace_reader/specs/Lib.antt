@@ -18,3 +18,4 @@ pub mod Two
 pub mod TraceTable
 pub mod Reader
 pub mod Reading
+pub mod ReaderParts

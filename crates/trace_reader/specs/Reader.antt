@@ -4,7 +4,7 @@ use Rattle.stl_syntax.specs.Trace.{Row, Header, last_time, AreInRange}
 use Rattle.stl_syntax.specs.declared.scale.Scale.{Scale}
 use Rattle.trace_reader.specs.Sofar.{AreRowsSoFar}
 use Rattle.trace_reader.specs.TraceText.{Line, lines, is_blank_line, Heading, scale_of, AreRowLines, AreTraceLines, TraceOf}
-use Rattle.trace_reader.specs.TraceRefusals.{FaultFrom, FaultAfter, IsFirstFault}
+use Rattle.trace_reader.specs.TraceRefusals.{FaultFrom, FaultAfter, IsFirstFault, HasTrace}
 use Rattle.trace_reader.specs.Plain.{HasNoFeed, rows_after}
 use Rattle.trace_reader.specs.declared.refusal.Limits.{Limits}
 use Rattle.trace_reader.specs.declared.refusal.TraceRefusal.{TraceRefusal}
@@ -94,14 +94,33 @@ IsFaultOfAll limits least bytes x = (more : List ℕ) (ended : Bool) → IsFirst
 pub data EndsWithFeed : List ℕ → Type 0 where
   feed : (before : List ℕ) → EndsWithFeed (before ++ 10 ∷ [])
 
--- what a push comes to: nothing new in the whole piece, or the header or a row with its LF
-abbrev pub IsPushed : Event → Reader → Reader → List ℕ → List ℕ → Type 0
-IsPushed Nothing old new piece taken = (taken ≡ piece) × (new.heading ≡ old.heading) × (new.row ≡ old.row) × (new.count ≡ old.count)
-IsPushed IsTheHeader old new piece taken = EndsWithFeed taken × (old.heading ≡ None) × IsSome new.heading × (new.row ≡ old.row) × (new.count ≡ old.count)
-IsPushed IsARow old new piece taken = EndsWithFeed taken × IsSome old.heading × (new.heading ≡ old.heading) × (0 < new.count)
+-- what came: nothing new, or the header or a row, whose LF is the last byte that was taken
+abbrev pub HasCome : Event → Reader → Reader → List ℕ → Type 0
+HasCome Nothing old new taken = (new.heading ≡ old.heading) × (new.row ≡ old.row) × (new.count ≡ old.count)
+HasCome IsTheHeader old new taken = (old.heading ≡ None) × IsSome new.heading × (new.row ≡ old.row) × (new.count ≡ old.count) × EndsWithFeed taken
+HasCome IsARow old new taken = IsSome old.heading × (new.heading ≡ old.heading) × (0 < new.count) × EndsWithFeed taken
 
 -- a row that came is one that a trace with this heading and these rows can take
 abbrev pub IsNextRow : Event → Option Heading → List Row → Row → Type 0
 IsNextRow IsARow (Some h) rows r = (length r.values ≡ length h.columns) × (0 < length rows → last_time 0 rows < r.time)
 IsNextRow IsARow None rows r = ⊥
 IsNextRow _ heading rows r = Unit {0}
+
+-- the header, once it was read
+abbrev pub header_read : Reader → Option Header
+header_read r = option_map (header_of r.least) r.heading
+
+-- the bytes, all of them, are those of the trace with the header that was read and these rows, and have no fault
+abbrev pub IsWholeTrace : Reader → List ℕ → List Row → Type 0
+IsWholeTrace r bytes rows =
+    (h : Heading) × (r.heading ≡ Some h) × HasTrace bytes r.limits r.least (record { header = header_of r.least h; rows = rows })
+
+-- the header of all bytes was read, which have no row
+abbrev pub HasWholeHeader : Reader → List ℕ → Type 0
+HasWholeHeader r bytes = (h : Heading) × (r.heading ≡ Some h) × TraceOf bytes true r.least (header_of r.least h) []
+
+-- what an end comes to: a row, or nothing more
+abbrev pub HasEndedWith : Event → Reader → Type 0
+HasEndedWith IsARow r = IsSome r.heading × (0 < r.count)
+HasEndedWith Nothing r = IsSome r.heading
+HasEndedWith IsTheHeader r = ⊥

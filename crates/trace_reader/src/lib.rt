@@ -19,6 +19,7 @@ mod refusal;
 mod room;
 mod row;
 mod row_line;
+mod rows;
 mod table;
 #[cfg(test)]
 mod tests;
@@ -30,4 +31,5 @@ pub use header::Header;
 pub use plain::{NotPlain, PlainRows};
 pub use refusal::{Limits, TraceKind, TraceRefusal};
 pub use row::Row;
+pub use rows::Rows;
 pub use trace::Trace;
