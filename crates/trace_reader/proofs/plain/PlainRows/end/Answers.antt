@@ -4,7 +4,7 @@ use Rattle.std.proofs.lemmas.Bool.{false≢true}
 use Rattle.trace_reader.proofs.PlainStands.{going_on}
 use Rattle.trace_reader.proofs.PlainLaws.{plain_faultless}
 use Rattle.trace_reader.proofs.PlainText.{plain_text}
-use Rattle.trace_reader.proofs.plain.Rows.end.Goals as goal
+use Rattle.trace_reader.proofs.plain.PlainRows.end.Goals as goal
 
 pub returns-in-Some-clause-trace : goal.returns-in-Some-clause-trace
 returns-in-Some-clause-trace c = rw (← c.self.view_is) (λ bytes rows s. plain_text _ bytes _ _ (c.in-Some.ensures.ok bytes rows (going_on _ bytes rows s)))

@@ -3,7 +3,7 @@ use Rattle.std.proofs.Common.{refl}
 use Rattle.std.proofs.lemmas.Bool.{false≢true}
 use Rattle.trace_reader.proofs.PlainStands.{going_on}
 use Rattle.trace_reader.proofs.PlainLaws.{plain_faultless}
-use Rattle.trace_reader.proofs.plain.Rows.push.Goals as goal
+use Rattle.trace_reader.proofs.plain.PlainRows.push.Goals as goal
 
 pub returns-in-Some-clause-refused : goal.returns-in-Some-clause-refused
 returns-in-Some-clause-refused c = rw (← c.self.view_is) (λ bytes rows s. (
