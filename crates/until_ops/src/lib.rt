@@ -1,0 +1,2 @@
+//! `until` and `since`.
+#![tactic(auto)]
