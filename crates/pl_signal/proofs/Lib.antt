@@ -1,0 +1,2 @@
+pub mod KnotLemmas
+pub mod BuildingLemmas

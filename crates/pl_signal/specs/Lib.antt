@@ -1,0 +1,3 @@
+pub mod Knots
+pub mod Limits
+pub mod Building

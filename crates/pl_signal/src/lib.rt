@@ -1,0 +1,10 @@
+//! Signals: values over a stretch of time, as knots with an open piece between each two neighbours.
+#![tactic(auto)]
+
+mod builder;
+mod knot;
+mod signal;
+
+pub use builder::Builder;
+pub use knot::Knot;
+pub use signal::Signal;
