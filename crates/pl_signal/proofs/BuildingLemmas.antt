@@ -1,5 +1,5 @@
 -- What `Builder::step` makes of the last knots.
-use Rattle.std.proofs.Common.{◌≡◌, ℕ, ◌+◌, ◌<◌, ◌⊎◌, ◌↔◌, inl, inr, List, [], ◌∷◌, ◌++◌, length, get_or, set, take, refl, sym, ◌∙◌, ap, subst, arith, length-append, length-take}
+use Rattle.std.proofs.Common.{◌≡◌, ℕ, ◌+◌, ◌<◌, ◌⊎◌, inl, inr, List, [], ◌∷◌, ◌++◌, length, get_or, set, take, refl, sym, ◌∙◌, ap, subst, arith, length-append, length-take}
 use Rattle.std.proofs.lemmas.List.{append_assoc, set_at}
 use Rattle.rational.specs.Time.{Rational, ◌<ʳ◌, ◌≈◌}
 use Rattle.rational.specs.Extended.{Extended, Affine, Passes, value_at, ◌≈ᵉ◌}
@@ -9,7 +9,7 @@ use Rattle.rational.proofs.AffineLemmas.{same_transᵉ, same_symᵉ, value_same}
 use Rattle.frac128.specs.Value.{value}
 use Rattle.frac128.specs.declared.frac.Frac.{Frac}
 use Rattle.pl_signal.specs.declared.knot.Knot.{Knot}
-use Rattle.pl_signal.specs.Knots.{time, start, stop, HasShape, Each, IsAt, IsBetween, IsWorth, NextIsNeeded, CanBeLeftOut, IsKnot, IsSignal}
+use Rattle.pl_signal.specs.Knots.{time, stop, HasShape, Each, IsBetween, IsWorth, CanBeLeftOut, IsKnot}
 use Rattle.pl_signal.specs.Building.{GoesOn}
 use Rattle.pl_signal.proofs.KnotLemmas.{split_two, read_at, start_kept, stop_end, shape_in, shape_front, shape_end, each_end, replaced_end, worth_in, worth_end}
 

@@ -1,11 +1,11 @@
 -- Lists of knots, and what becomes of a signal where its end is another.
-use Rattle.std.proofs.Common.{◌≡◌, ℕ, ◌+◌, ◌<◌, ◌⊎◌, inl, inr, List, [], ◌∷◌, ◌++◌, length, get_or, set, take, refl, sym, ◌∙◌, ap, subst, arith, length-append, length-take}
-use Rattle.std.proofs.lemmas.List.{take_more, take_all, get_or_at, set_at, append_assoc, get_or_default}
-use Rattle.rational.specs.Time.{Rational, ◌<ʳ◌, ◌≈◌}
+use Rattle.std.proofs.Common.{◌≡◌, ℕ, ◌+◌, ◌⊎◌, inl, inr, List, [], ◌∷◌, ◌++◌, length, get_or, set, take, refl, sym, ◌∙◌, ap, subst, arith, length-append}
+use Rattle.std.proofs.lemmas.List.{take_more, take_all, get_or_at, set_at, append_assoc}
+use Rattle.rational.specs.Time.{Rational, ◌<ʳ◌}
 use Rattle.rational.specs.Extended.{Extended, Affine}
 use Rattle.frac128.specs.Value.{value}
 use Rattle.pl_signal.specs.declared.knot.Knot.{Knot}
-use Rattle.pl_signal.specs.Knots.{time, start, stop, HasShape, Each, ComesBefore, IsAt, IsBetween, IsInGap, IsWorth, NextIsNeeded, IsKnot, IsSignal}
+use Rattle.pl_signal.specs.Knots.{start, stop, HasShape, Each, IsInGap, IsWorth, IsKnot}
 
 -- a list up to an element, with it
 pub split_at : {X : Type 0} (xs : List X) (n : ℕ) (d : X) → length xs ≡ n + 1 → xs ≡ take n xs ++ get_or xs n d ∷ []

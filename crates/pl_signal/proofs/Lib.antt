@@ -1,2 +1,4 @@
 pub mod KnotLemmas
 pub mod BuildingLemmas
+pub mod Values
+pub mod Reading

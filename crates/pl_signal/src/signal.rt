@@ -1,5 +1,5 @@
 //! Signals, and how they are read.
-ghost use Rattle.std.specs.Prelude.{◌≡◌, ◌≤◌, ◌<◌, length, slice_get, Some, MatchOption};
+ghost use Rattle.std.specs.Prelude.{◌≡◌, ◌+◌, ◌<◌, length, slice_get, Some, MatchOption};
 ghost use Rattle.rational.specs.Time.{Rational, Within, ◌≤ʳ◌, ◌<ʳ◌};
 ghost use Rattle.rational.specs.Extended.{value_at};
 ghost use Rattle.frac128.specs.Value.{value};
@@ -75,10 +75,52 @@ impl<P: Shape> Signal<P> {
         self.knots[self.knots.len() - 1].time
     }
 
+    /// A shape with the signal's value at `t`. None exactly where `t` is outside the domain.
+    pub fn at(&self, t: &Frac) -> Option<P>
+        ensures { MatchOption result
+            (¬ Within (start self.now) (stop self.now) (value t.now))
+            (λ p. Within (start self.now) (stop self.now) (value t.now)
+            × HasShape self.now p
+            × IsWorth P.function self.now (value t.now) (value_at (P.function p) (value t.now))) }
+    {
+        if let Ordering::Greater = self.knots[0].time.cmp(t) {
+            return None;
+        }
+        let place = place_of(&self.knots, t);
+        let knot = &self.knots[place];
+        if let Ordering::Equal = knot.time.cmp(t) {
+            return Some(knot.point);
+        }
+        if place + 1 == self.knots.len() {
+            return None;
+        }
+        Some(knot.after)
+    }
+
     pub(crate) fn from_knots(alloc: Global, knots: Vec<Knot<P>>) -> Signal<P>
         requires { IsSignal P.function knots.items }
         ensures { result ≡ knots.items }
     {
         Signal { alloc, knots }
     }
+}
+
+/// The place of the last knot that is not later than `t`, by halving.
+pub(crate) fn place_of<P>(knots: &[Knot<P>], t: &Frac) -> usize
+    requires some { 0 < length knots.now }
+    requires first { start knots.now ≤ʳ value t.now }
+    ensures inside { result < length knots.now }
+    ensures not_later { (k : Knot P) → slice_get knots.now result ≡ Some k → time k ≤ʳ value t.now }
+    ensures later { (k : Knot P) → slice_get knots.now (result + 1) ≡ Some k → value t.now <ʳ time k }
+{
+    let mut from = 0;
+    let mut to = knots.len();
+    while from + 1 < to {
+        let middle = from + (to - from) / 2;
+        match knots[middle].time.cmp(t) {
+            Ordering::Greater => to = middle,
+            _ => from = middle,
+        }
+    }
+    from
 }
