@@ -11,17 +11,15 @@ use Rattle.frac128.specs.declared.frac.Frac.{Frac}
 use Rattle.pl_signal.specs.declared.knot.Knot.{Knot}
 use Rattle.pl_signal.specs.Knots.{time, stop, HasShape, Each, IsBetween, IsWorth, CanBeLeftOut, IsKnot}
 use Rattle.pl_signal.specs.Building.{GoesOn}
-use Rattle.pl_signal.proofs.KnotLemmas.{split_two, read_at, start_kept, stop_end, shape_in, shape_front, shape_end, each_end, replaced_end, worth_in, worth_end}
+use Rattle.pl_signal.proofs.KnotLemmas.{split_two, read_at, some_in_end, start_kept, stop_end, shape_in, shape_front, shape_end, each_end, replaced_end, worth_in, worth_end}
+
+-- the knot with which a signal ends
+abbrev pub ends_at : {P : Type 0} → Frac → P → Knot P
+ends_at at point = record { time = at; point = point; after = point }
 
 module _ {P : Type 0} (function : P → Affine) where
-  abbrev pub ends_at : Frac → P → Knot P
-  ends_at at point = record { time = at; point = point; after = point }
-
   abbrev pub goes_on : Knot P → P → Knot P
   goes_on l after = record { time = l.time; point = l.point; after = after }
-
-  some_in_end : (xs : List (Knot P)) (a : Knot P) (ks : List (Knot P)) → 0 < length (xs ++ a ∷ ks)
-  some_in_end xs a ks = omega (arith, length-append xs (a ∷ ks))
 
   -- the values where the last knot stays
   kept_worth : (xs : List (Knot P)) (l : Knot P) (after : P) (at : Frac) (point : P) (t : Rational) (v : Extended)

@@ -1,5 +1,5 @@
 -- Lists of knots, and what becomes of a signal where its end is another.
-use Rattle.std.proofs.Common.{◌≡◌, ℕ, ◌+◌, ◌⊎◌, inl, inr, List, [], ◌∷◌, ◌++◌, length, get_or, set, take, refl, sym, ◌∙◌, ap, subst, arith, length-append}
+use Rattle.std.proofs.Common.{◌≡◌, ℕ, ◌+◌, ◌<◌, ◌⊎◌, inl, inr, List, [], ◌∷◌, ◌++◌, length, get_or, set, take, refl, sym, ◌∙◌, ap, subst, arith, length-append}
 use Rattle.std.proofs.lemmas.List.{take_more, take_all, get_or_at, set_at, append_assoc}
 use Rattle.rational.specs.Time.{Rational, ◌<ʳ◌}
 use Rattle.rational.specs.Extended.{Extended, Affine}
@@ -38,6 +38,9 @@ appended {P} front last end l after old new n e pushed count read =
     is_last = read ∙ ap (λ ks. get_or ks n l) new_is ∙ get_or_at front last (end ∷ []) l n place
 
 module _ {P : Type 0} where
+  pub some_in_end : (xs : List (Knot P)) (a : Knot P) (ks : List (Knot P)) → 0 < length (xs ++ a ∷ ks)
+  some_in_end xs a ks = omega (arith, length-append xs (a ∷ ks))
+
   pub start_kept : (xs : List (Knot P)) (a b : Knot P) (ks ls : List (Knot P)) → a.time ≡ b.time → start (xs ++ a ∷ ks) ≡ start (xs ++ b ∷ ls)
   start_kept [] a b ks ls e = ap value e
   start_kept (x ∷ xs) a b ks ls e = refl

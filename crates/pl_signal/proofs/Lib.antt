@@ -2,3 +2,4 @@ pub mod KnotLemmas
 pub mod BuildingLemmas
 pub mod Values
 pub mod Reading
+pub mod Cutting

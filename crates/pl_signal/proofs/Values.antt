@@ -1,9 +1,9 @@
 -- A signal has one value at each time of its domain, and none outside.
-use Rattle.std.proofs.Common.{◌≡◌, ℕ, zero, suc, ◌+◌, ◌⊎◌, inl, inr, List, [], ◌∷◌, Some, None, sym, subst, ap, arith}
+use Rattle.std.proofs.Common.{◌≡◌, ℕ, zero, suc, ◌+◌, ◌≤◌, ◌⊎◌, inl, inr, List, [], ◌∷◌, Some, None, refl, sym, subst, ap, arith}
 use Rattle.std.specs.Prelude.{slice_get}
 use Rattle.rational.specs.Time.{Rational, Within, ◌≤ʳ◌, ◌<ʳ◌, ◌≈◌}
 use Rattle.rational.specs.Extended.{Extended, Affine, Passes, value_at, ◌≈ᵉ◌}
-use Rattle.rational.proofs.Order.{le_or_lt, lt_or_same_or_gt, le_refl, le_of_lt, le_of_same, ge_of_same, le_trans, lt_of_lt_of_le, lt_of_le_of_lt, not_lt_of_le, same_sym, same_trans, same_of_le}
+use Rattle.rational.proofs.Order.{le_or_lt, lt_or_same_or_gt, le_refl, le_of_lt, le_of_same, ge_of_same, le_trans, lt_trans, lt_of_lt_of_le, lt_of_le_of_lt, not_lt_of_le, same_sym, same_trans, same_of_le}
 use Rattle.rational.proofs.AffineLemmas.{same_reflᵉ, same_transᵉ, same_symᵉ, value_same}
 use Rattle.pl_signal.specs.declared.knot.Knot.{Knot}
 use Rattle.pl_signal.specs.Knots.{time, start, stop, HasShape, Each, IsWorth, IsKnot, IsSignal}
@@ -137,3 +137,21 @@ module _ {P : Type 0} (function : P → Affine) where
       at_end (l ∷ m ∷ ks) zero k h j = absurd (cc)
       at_end (l ∷ []) (suc i) k h j = absurd (cc)
       at_end (l ∷ m ∷ ks) (suc i) k h j = at_end (m ∷ ks) i k h j
+
+  first_rises : (l : Knot P) (ks : List (Knot P)) (i : ℕ) (k : Knot P) → Each (IsKnot function) (l ∷ ks) → slice_get ks i ≡ Some k → time l <ʳ time k
+  first_rises l [] i k h e = absurd (cc)
+  first_rises l (m ∷ ks) zero k h e = subst (λ k. time l <ʳ time k) (some_is e) h.0.rising
+  first_rises l (m ∷ ks) (suc i) k h e = lt_trans h.0.rising (first_rises m ks i k h.1 e)
+
+  -- a knot in an earlier place is not later
+  pub rising_places : (ks : List (Knot P)) (i j : ℕ) (k n : Knot P) → Each (IsKnot function) ks → slice_get ks i ≡ Some k → slice_get ks j ≡ Some n → i ≤ j → time k ≤ʳ time n
+  rising_places [] i j k n h e f le = absurd (cc)
+  rising_places (l ∷ ks) zero zero k n h e f le = let s : k ≡ n = cc in subst (λ n. time k ≤ʳ time n) s (le_refl (time k))
+  rising_places (l ∷ ks) zero (suc j) k n h e f le = subst (λ k. time k ≤ʳ time n) (some_is e) (le_of_lt (first_rises l ks j n h f))
+  rising_places (l ∷ ks) (suc i) zero k n h e f le = absurd (omega (arith, le))
+  rising_places (l ∷ ks) (suc i) (suc j) k n h e f le = rising_places ks i j k n h.1 e f (omega (arith, le))
+
+  -- the first knot is not later than any
+  pub start_first : (ks : List (Knot P)) (i : ℕ) (k : Knot P) → Each (IsKnot function) ks → slice_get ks i ≡ Some k → start ks ≤ʳ time k
+  start_first [] i k h e = absurd (cc)
+  start_first (l ∷ ks) i k h e = rising_places (l ∷ ks) 0 i l k h refl e (omega arith)

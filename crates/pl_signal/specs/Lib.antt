@@ -1,3 +1,5 @@
 pub mod Knots
 pub mod Limits
 pub mod Building
+pub mod Moves
+pub mod Cuts

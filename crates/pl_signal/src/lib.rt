@@ -3,6 +3,7 @@
 
 mod builder;
 mod knot;
+mod moves;
 mod signal;
 
 pub use builder::Builder;

@@ -1,5 +1,5 @@
 //! Signals, and how they are read.
-ghost use Rattle.std.specs.Prelude.{◌≡◌, ◌+◌, ◌<◌, length, slice_get, Some, MatchOption};
+ghost use Rattle.std.specs.Prelude.{◌≡◌, ◌+◌, ◌<◌, ◌^◌, length, slice_get, Some, MatchOption};
 ghost use Rattle.rational.specs.Time.{Rational, Within, ◌≤ʳ◌, ◌<ʳ◌};
 ghost use Rattle.rational.specs.Extended.{value_at};
 ghost use Rattle.frac128.specs.Value.{value};
@@ -19,8 +19,8 @@ use value_laws::Shape;
 /// see it as the list of its knots; `IsWorth` says what it is worth at a time.
 #[derive(Drop)]
 pub struct Signal<P: Shape> {
-    alloc: Global,
-    knots: Vec<Knot<P>>,
+    pub(crate) alloc: Global,
+    pub(crate) knots: Vec<Knot<P>>,
 }
 
 impl<P: Shape> Model for Signal<P> {
@@ -110,6 +110,7 @@ pub(crate) fn place_of<P>(knots: &[Knot<P>], t: &Frac) -> usize
     requires some { 0 < length knots.now }
     requires first { start knots.now ≤ʳ value t.now }
     ensures inside { result < length knots.now }
+    ensures few { length knots.now < 2 ^ 64 }
     ensures not_later { (k : Knot P) → slice_get knots.now result ≡ Some k → time k ≤ʳ value t.now }
     ensures later { (k : Knot P) → slice_get knots.now (result + 1) ≡ Some k → value t.now <ʳ time k }
 {

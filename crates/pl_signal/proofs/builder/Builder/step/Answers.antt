@@ -30,7 +30,7 @@ pub returns-then-spare-clause-ok : goal.returns-then-spare-clause-ok
 returns-then-spare-clause-ok g c =
     let count : length c.self.inside.knots.items ≡ (c.len-last.result - 1 - 1) + 2 = let some = c.self.invariant.some in let n = c.if-last-eq0.false in omega arith in
     let place : c.len-last.result - 1 ≡ (c.len-last.result - 1 - 1) + 1 = let n = c.if-last-eq0.false in omega arith in
-    subst (λ ks. GoesOn g.P.Shape.function ks c.args.after c.args.at c.args.point (set c.self.inside.knots.items (c.len-last.result - 1) (ends_at g.P.Shape.function c.args.at c.args.point))) c.self.view_is
+    subst (λ ks. GoesOn g.P.Shape.function ks c.args.after c.args.at c.args.point (set c.self.inside.knots.items (c.len-last.result - 1) (ends_at c.args.at c.args.point))) c.self.view_is
     (step_left g.P.Shape.function c.self.inside.knots.items (c.len-last.result - 1 - 1) (c.len-last.result - 1) c.index.result.now c.index-2.result.now c.args.after c.args.at c.args.point count place
     c.index.ensures c.index-2.ensures c.self.invariant.each
     (subst (λ ks. stop ks <ʳ value c.args.at) (sym c.self.view_is) c.requires.later) (c.can_be_left_out-spare.ensures.0 c.if-spare.true))
