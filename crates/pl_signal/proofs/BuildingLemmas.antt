@@ -1,5 +1,5 @@
 -- What `Builder::step` makes of the last knots.
-use Rattle.std.proofs.Common.{◌≡◌, ℕ, ◌+◌, ◌<◌, ◌⊎◌, inl, inr, List, [], ◌∷◌, ◌++◌, length, get_or, set, take, refl, sym, ◌∙◌, ap, subst, arith, length-append, length-take}
+use Rattle.std.proofs.Common.{◌≡◌, ℕ, ◌+◌, ◌⊎◌, inl, inr, List, [], ◌∷◌, ◌++◌, length, get_or, set, take, refl, sym, ◌∙◌, ap, subst, arith, length-append, length-take}
 use Rattle.std.proofs.lemmas.List.{append_assoc, set_at}
 use Rattle.rational.specs.Time.{Rational, ◌<ʳ◌, ◌≈◌}
 use Rattle.rational.specs.Extended.{Extended, Affine, Passes, value_at, ◌≈ᵉ◌}

@@ -1,43 +1,25 @@
 -- A signal cut at both ends.
-use Rattle.std.proofs.Common.{◌≡◌, ℕ, zero, suc, ◌+◌, ◌-◌, ◌<◌, ◌≤◌, ◌⊎◌, inl, inr, List, [], ◌∷◌, ◌++◌, length, get_or, take, drop, Some, refl, sym, ◌∙◌, ap, subst, arith, length-append, length-take}
+use Rattle.std.proofs.Common.{◌≡◌, ℕ, zero, suc, ◌+◌, ◌-◌, ◌<◌, ◌≤◌, ◌⊎◌, inl, inr, List, [], ◌∷◌, ◌++◌, length, get_or, take, drop, Some, refl, sym, ◌∙◌, ap, subst, arith, length-take}
 use Rattle.std.specs.Prelude.{slice_get, slice_range}
 use Rattle.std.proofs.lemmas.Bool.{cases_lt}
 use Rattle.std.proofs.lemmas.Option.{slice_get_read, slice_get-get_or, slice_get_past}
 use Rattle.std.proofs.lemmas.List.{append_assoc, take_more, drop_more, take-append-drop, drop-take, get_or_default, get_or-take}
-use Rattle.rational.specs.Time.{Rational, Within, ◌≤ʳ◌, ◌<ʳ◌, ◌≈◌}
-use Rattle.rational.specs.Extended.{Extended, Affine, Passes, value_at, ◌≈ᵉ◌}
-use Rattle.rational.proofs.Order.{le_refl, le_of_lt, le_of_same, ge_of_same, le_trans, lt_of_lt_of_le, lt_of_le_of_lt, not_lt_of_le, same_refl, same_sym, same_trans}
-use Rattle.rational.proofs.AffineLemmas.{same_reflᵉ, same_symᵉ, same_transᵉ, value_same}
+use Rattle.rational.specs.Time.{Rational, ◌≤ʳ◌, ◌<ʳ◌, ◌≈◌}
+use Rattle.rational.specs.Extended.{Extended, Affine, Passes, value_at}
+use Rattle.rational.proofs.Order.{le_of_lt, le_of_same, ge_of_same, le_trans, lt_of_lt_of_le, lt_of_le_of_lt, not_lt_of_le, same_refl, same_sym, same_trans}
+use Rattle.rational.proofs.AffineLemmas.{same_symᵉ, same_transᵉ, value_same}
 use Rattle.frac128.specs.Value.{value}
 use Rattle.frac128.specs.declared.frac.Frac.{Frac}
 use Rattle.pl_signal.specs.declared.knot.Knot.{Knot}
-use Rattle.pl_signal.specs.Knots.{time, start, stop, HasShape, Each, IsAt, IsBetween, IsWorth, NextIsNeeded, IsKnot, IsSignal}
-use Rattle.pl_signal.specs.Moves.{TellsFrom}
+use Rattle.pl_signal.specs.Knots.{time, stop, HasShape, Each, IsWorth, NextIsNeeded, IsKnot, IsSignal}
 use Rattle.pl_signal.specs.Cuts.{StandsFrom, IsCut}
 use Rattle.pl_signal.proofs.KnotLemmas.{each_end, replaced_end, worth_in, worth_end, shape_in, shape_front, shape_end, stop_end, some_in_end}
 use Rattle.pl_signal.proofs.BuildingLemmas.{ends_at}
-use Rattle.pl_signal.proofs.Reading.{IsReading, read_point, read_after, read_none, earlier}
-use Rattle.pl_signal.proofs.Values.{start_first, stop_at, rising_places, worth_within, every_time, one_value, worth_same}
+use Rattle.pl_signal.proofs.Reading.{IsReading, read_point, read_after, read_none}
+use Rattle.pl_signal.proofs.Telling.{told_alike}
+use Rattle.pl_signal.proofs.Values.{start_first, stop_at, rising_places, worth_same}
 
 module _ {P : Type 0} (function : P → Affine) where
-  -- where a signal's values are all of another one, they are that one's at each time between its ends
-  pub told_from : (old new : List (Knot P)) (from_old : Rational → Rational) (from to : Rational) → IsSignal function old → IsSignal function new → start new ≈ from → stop new ≈ to
-      → ((t : Rational) (v : Extended) → IsWorth function new t v → IsWorth function old (from_old t) v) → TellsFrom function old from_old from to new
-  told_from old new from_old from to is_old is_new begins ends worth = record {
-    signal = is_new;
-    begins = begins;
-    ends = ends;
-    worth = λ t v. (λ w. (between t (worth_within function new t v is_new w), worth t v w), λ h. by_value t v h.0 h.1);
-  }
-    where
-      between : (t : Rational) → Within (start new) (stop new) t → Within from to t
-      between t w = record { above = le_trans (ge_of_same begins) w.above; below = le_trans w.below (le_of_same ends) }
-
-      by_value : (t : Rational) (v : Extended) → Within from to t → IsWorth function old (from_old t) v → IsWorth function new t v
-      by_value t v w a =
-          let x = every_time function new t is_new (record { above = le_trans (le_of_same begins) w.above; below = le_trans w.below (ge_of_same ends) }) in
-          worth_same function new x.0 v (same_refl t) (one_value function old (from_old t) x.0 v is_old (worth t x.0 x.1) a) x.1
-
   -- the shape with which a signal that ends after p and before or at n ends at a time
   abbrev pub IsCutBefore : Knot P → Knot P → Frac → P → Type 0
   IsCutBefore p n to last = ((value to ≈ time n) × (last ≡ n.point)) ⊎ ((time p <ʳ value to) × (value to <ʳ time n) × (last ≡ p.after))
@@ -137,7 +119,7 @@ module _ {P : Type 0} (function : P → Affine) where
           → IsCut function (ys ++ p ∷ n ∷ ns) from to (begins_at k from first ∷ b ∷ bs)
       by_start b bs same h stops =
           let started = cut_start xs k b bs from first (subst (IsSignal function) same ended.0) h begins in record {
-            tells = told_from (ys ++ p ∷ n ∷ ns) (begins_at k from first ∷ b ∷ bs) (λ t. t) (value from) (value to) s started.0 (same_refl (value from)) (subst (λ u. stop (b ∷ bs) ≈ u) stops (same_refl (stop (b ∷ bs))))
+            tells = told_alike function (ys ++ p ∷ n ∷ ns) (begins_at k from first ∷ b ∷ bs) (value from) (value to) s started.0 (same_refl (value from)) (subst (λ u. stop (b ∷ bs) ≈ u) stops (same_refl (stop (b ∷ bs))))
                 (λ t v w. ended.1 t v (subst (λ ks. IsWorth function ks t v) (sym same) (started.1 t v w)));
             shapes = λ q h. ended.2 q (subst (λ ks. HasShape ks q) (sym same) (started.2 q h));
           }
@@ -189,7 +171,7 @@ module _ {P : Type 0} (function : P → Affine) where
   pub cut_instant : (ks : List (Knot P)) (i : ℕ) (k : Knot P) (from to : Frac) (first : P) → IsSignal function ks → i < length ks → k ≡ get_or ks i k → value from ≈ value to
       → value from ≤ʳ stop ks → StandsFrom k from first → ((b : Knot P) → slice_get ks (i + 1) ≡ Some b → value from <ʳ time b) → IsCut function ks from to (ends_at from first ∷ [])
   cut_instant ks i k from to first s inside at_i same last begins later = record {
-    tells = told_from ks (ends_at from first ∷ []) (λ t. t) (value from) (value to) s
+    tells = told_alike function ks (ends_at from first ∷ []) (value from) (value to) s
         (record { some = omega arith; each = (record { rising = tt; needed = tt; ends = refl }, tt) }) (same_refl (value from)) same by_worth;
     shapes = by_shape begins;
   }

@@ -2,4 +2,5 @@ pub mod KnotLemmas
 pub mod BuildingLemmas
 pub mod Values
 pub mod Reading
+pub mod Telling
 pub mod Cutting

@@ -5,8 +5,8 @@ use Rattle.rational.specs.Extended.{Affine}
 use Rattle.frac128.specs.Value.{value}
 use Rattle.frac128.specs.declared.frac.Frac.{Frac}
 use Rattle.pl_signal.specs.declared.knot.Knot.{Knot}
-use Rattle.pl_signal.specs.Knots.{time, HasShape}
-use Rattle.pl_signal.specs.Moves.{TellsFrom}
+use Rattle.pl_signal.specs.Knots.{time, HasShape, IsWorth}
+use Rattle.pl_signal.specs.Moves.{Tells}
 
 -- the shape that stands at a time not before k and before the next knot
 abbrev pub StandsFrom : {P : Type 0} → Knot P → Frac → P → Type 0
@@ -15,5 +15,5 @@ StandsFrom k from shape = ((time k ≈ value from) × (shape ≡ k.point)) ⊎ (
 module _ {P : Type 0} (function : P → Affine) where
   -- the new signal is the old one on the stretch, in shapes of it
   pub record IsCut (old : List (Knot P)) (from to : Frac) (new : List (Knot P)) : Type 0 where
-    pub tells : TellsFrom function old (λ t. t) (value from) (value to) new
+    pub tells : Tells function (IsWorth function old) (value from) (value to) new
     pub shapes : (p : P) → HasShape new p → HasShape old p

@@ -2,9 +2,9 @@
 ghost use Rattle.std.specs.Prelude.{◌≡◌, ◌<◌, ◌≤◌, ◌^◌, ◌++◌, ◌∷◌, [], ◌⊎◌, length, slice_range, IfOk};
 ghost use Rattle.rational.specs.Time.{◌≤ʳ◌, ◌<ʳ◌, ◌≈◌};
 ghost use Rattle.frac128.specs.Value.{value};
-ghost use Rattle.pl_signal.specs.Knots.{start, stop, time, HasShape, IsSignal};
+ghost use Rattle.pl_signal.specs.Knots.{start, stop, time, HasShape, IsSignal, IsWorth};
 ghost use Rattle.pl_signal.specs.Cuts.{IsCut, StandsFrom};
-ghost use Rattle.pl_signal.specs.Moves.{TellsFrom};
+ghost use Rattle.pl_signal.specs.Moves.{Tells};
 
 use crate::signal::place_of;
 use crate::{Knot, Signal};
@@ -19,7 +19,7 @@ impl<P: Shape> Signal<P> {
         requires order { value from.now ≤ʳ value to.now }
         requires first { start self.now ≤ʳ value from.now }
         requires last { value to.now ≤ʳ stop self.now }
-        ensures worth { IfOk result (TellsFrom P.function self.now (λ t. t) (value from.now) (value to.now)) }
+        ensures worth { IfOk result (Tells P.function (IsWorth P.function self.now) (value from.now) (value to.now)) }
         ensures shapes { IfOk result (λ r. (p : P) → HasShape r p → HasShape self.now p) }
     {
         let knots = cut(self.alloc, &self.knots, from, to)?;

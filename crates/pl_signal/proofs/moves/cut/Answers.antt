@@ -1,14 +1,9 @@
-use Rattle.std.proofs.Common.{◌≡◌, ◌+◌, ◌<◌, ◌≤◌, List, [], ◌∷◌, ◌++◌, length, get_or, Some, refl, sym, ◌∙◌, ap, subst, arith}
-use Rattle.std.specs.Prelude.{slice_get, slice_range}
+use Rattle.std.proofs.Common.{◌≡◌, ◌+◌, [], ◌∷◌, ◌++◌, length, get_or, refl, sym, ◌∙◌, ap, subst, arith}
+use Rattle.std.specs.Prelude.{slice_range}
 use Rattle.std.proofs.lemmas.Option.{slice_get_read}
-use Rattle.std.proofs.lemmas.List.{get_or_default}
 use Rattle.std.proofs.lemmas.Result.{IfOk-weaker}
-use Rattle.rational.specs.Time.{◌<ʳ◌, ◌≤ʳ◌}
 use Rattle.rational.proofs.Order.{le_trans}
-use Rattle.frac128.specs.Value.{value}
-use Rattle.pl_signal.specs.Knots.{time, start}
-use Rattle.pl_signal.specs.Cuts.{IsCut, StandsFrom}
-use Rattle.pl_signal.proofs.BuildingLemmas.{ends_at}
+use Rattle.pl_signal.specs.Cuts.{IsCut}
 use Rattle.pl_signal.proofs.Cutting.{cut_instant, cut_at_knot, cut_after_knot}
 use Rattle.pl_signal.proofs.Reading.{earlier}
 use Rattle.pl_signal.proofs.moves.cut.Goals as goal
