@@ -174,9 +174,9 @@ module _ (lowest highest : Extended) (P Q : Function) (Stretch : Rational → Ra
 -- over no times the least of the Sup and a value that is not below the lowest is the Sup of whatever else is asked for there
 sup_of_empty : {S T : Extended → Type 0} (lowest c d r : Extended) → IsSup lowest S c → ((v : Extended) → ¬ S v) → ((v : Extended) → ¬ T v) → lowest ≤ᵉ d → IsLeast c d r → IsSup lowest T r
 sup_of_empty {S} {T} lowest c d r sup none nothing above least = record {
-    at_least = by_one least.one_of;
-    bound = λ v m. absurd (nothing v m);
-    reached = λ w l h. clashᵉ w lowest (lt_of_lt_of_leᵉ w r lowest h below) l;
+  at_least = by_one least.one_of;
+  bound = λ v m. absurd (nothing v m);
+  reached = λ w l h. clashᵉ w lowest (lt_of_lt_of_leᵉ w r lowest h below) l;
 }
   where
     below : r ≤ᵉ lowest
@@ -238,13 +238,13 @@ until_is_composed lowest highest P Q from to t a b o inside order low infs value
 
     lies : later t a ≤ʳ to → Lies lowest highest P Q Within W Near (λ s u. Within s to u) t (later t a)
     lies h = record {
-        at_start = record { inside = inside; begins = later_zero t; ends = before_later t a };
-        at_begin = record { inside = record { above = le_trans inside.above (before_later t a); below = h }; begins = later_rises t 0 a (omega arith); ends = le_refl (later t a) };
-        beyond = λ s u n w. record { above = le_trans n.ends w.begins; below = w.inside.below };
-        sub = λ s u v n w k. record { above = le_trans (in_time s n) k.above; below = k.below };
-        first = λ s u n k. record { above = le_refl s; below = k.above };
-        parts = λ u v w k. by_part v w k (le_or_lt v (later t a));
-        earlier = λ u w k l. by_end u w k l (le_or_lt w (later t b));
+      at_start = record { inside = inside; begins = later_zero t; ends = before_later t a };
+      at_begin = record { inside = record { above = le_trans inside.above (before_later t a); below = h }; begins = later_rises t 0 a (omega arith); ends = le_refl (later t a) };
+      beyond = λ s u n w. record { above = le_trans n.ends w.begins; below = w.inside.below };
+      sub = λ s u v n w k. record { above = le_trans (in_time s n) k.above; below = k.below };
+      first = λ s u n k. record { above = le_refl s; below = k.above };
+      parts = λ u v w k. by_part v w k (le_or_lt v (later t a));
+      earlier = λ u w k l. by_end u w k l (le_or_lt w (later t b));
     }
       where
         by_part : {u : Rational} (v : Rational) → W u → Within t u v → (v ≤ʳ later t a) ⊎ (later t a <ʳ v) → Near v ⊎ Within (later t a) u v
@@ -258,10 +258,10 @@ until_is_composed lowest highest P Q from to t a b o inside order low infs value
 
     has : Has lowest highest P Q Within W Near (λ s u. Within s to u) t (later t a)
     has = record {
-        order = order;
-        low = λ s p n h. low s p n.inside h;
-        infs = λ s u n w. infs s u n.inside.above (le_trans n.ends w.begins) w.inside.below;
-        values = λ s n. values s n.inside;
+      order = order;
+      low = λ s p n h. low s p n.inside h;
+      infs = λ s u n w. infs s u n.inside.above (le_trans n.ends w.begins) w.inside.below;
+      values = λ s n. values s n.inside;
     }
 
     by_place : (later t a ≤ʳ to) ⊎ (to <ʳ later t a) → IsUntil lowest highest W P Q t r
@@ -309,20 +309,20 @@ since_is_composed lowest highest P Q from to t a b o inside order low infs value
 
     lies : from ≤ʳ m → Lies lowest highest P Q Back W Near Beyond t m
     lies h = record {
-        at_start = record { inside = inside; begins = before_later t a; ends = later_zero t };
-        at_begin = record { inside = record { above = h; below = le_trans (earlier_before t a) inside.below }; begins = earlier_later t a; ends = le_trans (later_zero m) (earlier_before t a) };
-        beyond = λ s u n w. record { above = w.inside.above; below = le_trans (at_begin u w) (earlier_of_later s t a n.begins) };
-        sub = λ s u v n w k. record { above = k.above; below = le_trans k.below (in_time s n) };
-        first = λ s u n k. record { above = k.below; below = le_refl s };
-        parts = λ u v w k. by_part v w k (le_or_lt m v);
-        earlier = λ u w k l. by_start u w k l (le_or_lt u w);
+      at_start = record { inside = inside; begins = before_later t a; ends = later_zero t };
+      at_begin = record { inside = record { above = h; below = le_trans (earlier_before t a) inside.below }; begins = earlier_later t a; ends = le_trans (later_zero m) (earlier_before t a) };
+      beyond = λ s u n w. record { above = w.inside.above; below = le_trans (at_begin u w) (earlier_of_later s t a n.begins) };
+      sub = λ s u v n w k. record { above = k.above; below = le_trans k.below (in_time s n) };
+      first = λ s u n k. record { above = k.below; below = le_refl s };
+      parts = λ u v w k. by_part v w k (le_or_lt m v);
+      earlier = λ u w k l. by_start u w k l (le_or_lt u w);
     }
       where
         by_start : (u w : Rational) → W u → Within from m w → (u ≤ʳ w) ⊎ (w <ʳ u) → W w ⊎ ((v : Rational) → Within u m v → Within w m v)
         by_start u w k l (inl n) = inl (record {
-            inside = record { above = l.above; below = le_trans l.below (le_trans (earlier_before t a) inside.below) };
-            begins = begins_later t u w b n k.begins;
-            ends = le_trans (later_le a l.below) (later_earlier t a);
+          inside = record { above = l.above; below = le_trans l.below (le_trans (earlier_before t a) inside.below) };
+          begins = begins_later t u w b n k.begins;
+          ends = le_trans (later_le a l.below) (later_earlier t a);
         })
         by_start u w k l (inr n) = inr (λ v f. record { above = le_trans (le_of_lt n) f.above; below = f.below })
 
@@ -332,10 +332,10 @@ since_is_composed lowest highest P Q from to t a b o inside order low infs value
 
     has : Has lowest highest P Q Back W Near Beyond t m
     has = record {
-        order = order;
-        low = λ s p n h. low s p n.inside h;
-        infs = λ s u n w. infs u s w.inside.above (le_trans (at_begin u w) (earlier_of_later s t a n.begins)) n.inside.below;
-        values = λ s n. values s n.inside;
+      order = order;
+      low = λ s p n h. low s p n.inside h;
+      infs = λ s u n w. infs u s w.inside.above (le_trans (at_begin u w) (earlier_of_later s t a n.begins)) n.inside.below;
+      values = λ s n. values s n.inside;
     }
 
     by_place : (from ≤ʳ m) ⊎ (m <ʳ from) → IsSince lowest highest W P Q t r

@@ -1,2 +1,4 @@
-//! `until` and `since`.
+//! `until` and `since` over signals.
 #![tactic(auto)]
+
+pub mod laws;
