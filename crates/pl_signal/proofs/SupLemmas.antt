@@ -79,7 +79,7 @@ record OnGap (on : Interval) (l r u : Rational) : Type 0 where
   pub before : u <ʳ r
 
 -- between two times a function lies between its values there, the ends with it
-at_most_an_end : (f : Affine) (a b u : Rational) → a ≤ʳ u → u ≤ʳ b → (value_at f u ≤ᵉ value_at f a) ⊎ (value_at f u ≤ᵉ value_at f b)
+pub at_most_an_end : (f : Affine) (a b u : Rational) → a ≤ʳ u → u ≤ʳ b → (value_at f u ≤ᵉ value_at f a) ⊎ (value_at f u ≤ᵉ value_at f b)
 at_most_an_end f a b u h k = by_left (le_or_lt u a)
   where
     strictly : a <ʳ u → u <ʳ b → (value_at f u ≤ᵉ value_at f a) ⊎ (value_at f u ≤ᵉ value_at f b)

@@ -17,7 +17,7 @@ le_of_ltᵉ (finite x) infinity h = tt
 le_of_ltᵉ infinity w h = absurd h
 
 -- two values have a least one
-least_of : (v w : Extended) → (r : Extended) × IsLeast v w r
+pub least_of : (v w : Extended) → (r : Extended) × IsLeast v w r
 least_of v w = by_order (le_totalᵉ v w)
   where
     by_order : (v ≤ᵉ w) ⊎ (w <ᵉ v) → (r : Extended) × IsLeast v w r
@@ -25,7 +25,7 @@ least_of v w = by_order (le_totalᵉ v w)
     by_order (inr l) = (w, record { left = le_of_ltᵉ w v l; right = le_reflᵉ w; one_of = inr (le_reflᵉ w) })
 
 -- a value below the least of two is below both, and one below both is below it
-below_least : (v w r x : Extended) → IsLeast v w r → x <ᵉ v → x <ᵉ w → x <ᵉ r
+pub below_least : (v w r x : Extended) → IsLeast v w r → x <ᵉ v → x <ᵉ w → x <ᵉ r
 below_least v w r x h k l = by_one h.one_of
   where
     by_one : (v ≤ᵉ r) ⊎ (w ≤ᵉ r) → x <ᵉ r
@@ -33,7 +33,7 @@ below_least v w r x h k l = by_one h.one_of
     by_one (inr m) = lt_of_lt_of_leᵉ x w r l m
 
 -- a value that is below none of a set is at most its Inf
-at_most_inf : {S : Extended → Type 0} (highest d m : Extended) → IsInf highest S d → m ≤ᵉ highest → ((v : Extended) → S v → m ≤ᵉ v) → m ≤ᵉ d
+pub at_most_inf : {S : Extended → Type 0} (highest d m : Extended) → IsInf highest S d → m ≤ᵉ highest → ((v : Extended) → S v → m ≤ᵉ v) → m ≤ᵉ d
 at_most_inf {S} highest d m h k all = by_order (le_totalᵉ m d)
   where
     by_order : (m ≤ᵉ d) ⊎ (d <ᵉ m) → m ≤ᵉ d
@@ -41,7 +41,7 @@ at_most_inf {S} highest d m h k all = by_order (le_totalᵉ m d)
     by_order (inr l) = let f = h.reached m l k in clashᵉ f.0 m f.2 (all f.0 f.1)
 
 -- the Sup of a set is at most what no member passes
-sup_at_most : {S : Extended → Type 0} (lowest z p : Extended) → IsSup lowest S z → lowest ≤ᵉ p → ((v : Extended) → S v → v ≤ᵉ p) → z ≤ᵉ p
+pub sup_at_most : {S : Extended → Type 0} (lowest z p : Extended) → IsSup lowest S z → lowest ≤ᵉ p → ((v : Extended) → S v → v ≤ᵉ p) → z ≤ᵉ p
 sup_at_most {S} lowest z p h k all = by_order (le_totalᵉ z p)
   where
     by_order : (z ≤ᵉ p) ⊎ (p <ᵉ z) → z ≤ᵉ p
