@@ -1,0 +1,248 @@
+-- A signal cut at both ends.
+use Rattle.std.proofs.Common.{◌≡◌, ℕ, zero, suc, ◌+◌, ◌-◌, ◌<◌, ◌≤◌, ◌⊎◌, inl, inr, List, [], ◌∷◌, ◌++◌, length, get_or, take, drop, Some, refl, sym, ◌∙◌, ap, subst, arith, length-take}
+use Rattle.std.specs.Prelude.{slice_get, slice_range}
+use Rattle.std.proofs.lemmas.Bool.{cases_lt}
+use Rattle.std.proofs.lemmas.Option.{slice_get_read, slice_get-get_or, slice_get_past}
+use Rattle.std.proofs.lemmas.List.{append_assoc, take_more, drop_more, take-append-drop, drop-take, get_or_default, get_or-take}
+use Rattle.rational.specs.Time.{Rational, ◌≤ʳ◌, ◌<ʳ◌, ◌≈◌}
+use Rattle.rational.specs.Extended.{Extended, Affine, Passes, value_at}
+use Rattle.rational.proofs.Order.{le_of_lt, le_of_same, ge_of_same, le_trans, lt_of_lt_of_le, lt_of_le_of_lt, not_lt_of_le, same_refl, same_sym, same_trans}
+use Rattle.rational.proofs.AffineLemmas.{same_symᵉ, same_transᵉ, value_same}
+use Rattle.frac128.specs.Value.{value}
+use Rattle.frac128.specs.declared.frac.Frac.{Frac}
+use Rattle.pl_signal.specs.declared.knot.Knot.{Knot}
+use Rattle.pl_signal.specs.Knots.{time, stop, HasShape, Each, IsWorth, NextIsNeeded, IsKnot, IsSignal}
+use Rattle.pl_signal.specs.Cuts.{StandsFrom, IsCut}
+use Rattle.pl_signal.proofs.KnotLemmas.{each_end, replaced_end, worth_in, worth_end, shape_in, shape_front, shape_end, stop_end, some_in_end}
+use Rattle.pl_signal.proofs.BuildingLemmas.{ends_at}
+use Rattle.pl_signal.proofs.Reading.{IsReading, read_point, read_after, read_none}
+use Rattle.pl_signal.proofs.Telling.{told_alike}
+use Rattle.pl_signal.proofs.Values.{start_first, stop_at, rising_places, worth_same}
+
+module _ {P : Type 0} (function : P → Affine) where
+  -- the shape with which a signal that ends after p and before or at n ends at a time
+  abbrev pub IsCutBefore : Knot P → Knot P → Frac → P → Type 0
+  IsCutBefore p n to last = ((value to ≈ time n) × (last ≡ n.point)) ⊎ ((time p <ʳ value to) × (value to <ʳ time n) × (last ≡ p.after))
+
+  before_cut : (p n : Knot P) (to : Frac) (last : P) → time p <ʳ time n → IsCutBefore p n to last → time p <ʳ value to
+  before_cut p n to last h (inl c) = lt_of_lt_of_le h (ge_of_same c.0)
+  before_cut p n to last h (inr c) = c.0
+
+  cut_end_worth : (p n : Knot P) (ns : List (Knot P)) (to : Frac) (last : P) (t : Rational) (v : Extended) → time p <ʳ time n → IsCutBefore p n to last
+      → IsWorth function (p ∷ ends_at to last ∷ []) t v → IsWorth function (p ∷ n ∷ ns) t v
+  cut_end_worth p n ns to last t v h c (inl w) = inl w
+  cut_end_worth p n ns to last t v h (inl c) (inr (inl w)) = inr (inl (record { after = w.after; before = lt_of_lt_of_le w.before (le_of_same c.0); worth = w.worth }))
+  cut_end_worth p n ns to last t v h (inr c) (inr (inl w)) = inr (inl (record { after = w.after; before = lt_of_lt_of_le w.before (le_of_lt c.1); worth = w.worth }))
+  cut_end_worth p n ns to last t v h (inl c) (inr (inr (inl w))) = inr (inr (inl (record { when = same_trans w.when c.0; worth = subst (λ p. Passes (function p) t v) c.1 w.worth })))
+  cut_end_worth p n ns to last t v h (inr c) (inr (inr (inl w))) =
+      inr (inl (record { after = lt_of_lt_of_le c.0 (ge_of_same w.when); before = lt_of_le_of_lt (le_of_same w.when) c.1; worth = subst (λ p. Passes (function p) t v) c.2 w.worth }))
+  cut_end_worth p n ns to last t v h c (inr (inr (inr (inl w)))) = absurd w
+  cut_end_worth p n ns to last t v h c (inr (inr (inr (inr w)))) = absurd w
+
+  -- cut at its end
+  pub cut_end : (xs : List (Knot P)) (p n : Knot P) (ns : List (Knot P)) (to : Frac) (last : P) → IsSignal function (xs ++ p ∷ n ∷ ns) → IsCutBefore p n to last
+      → IsSignal function (xs ++ p ∷ ends_at to last ∷ []) × ((t : Rational) (v : Extended) → IsWorth function (xs ++ p ∷ ends_at to last ∷ []) t v → IsWorth function (xs ++ p ∷ n ∷ ns) t v)
+      × ((q : P) → HasShape (xs ++ p ∷ ends_at to last ∷ []) q → HasShape (xs ++ p ∷ n ∷ ns) q)
+  cut_end xs p n ns to last s c = (
+    record {
+      some = some_in_end xs p (ends_at to last ∷ []);
+      each = replaced_end function xs p n (ends_at to last) ns [] s.each
+          (record { rising = before_cut p n to last order c; needed = tt; ends = tt }, (record { rising = tt; needed = tt; ends = refl }, tt));
+    },
+    (λ t v w. elim (worth_in function xs p p (ends_at to last ∷ []) (n ∷ ns) t v refl w) [ inl k ↦ k | inr k ↦ worth_end function xs (p ∷ n ∷ ns) t v (cut_end_worth p n ns to last t v order c k) ]),
+    λ q h. elim (shape_in xs (p ∷ ends_at to last ∷ []) q h) [ inl k ↦ shape_front xs (p ∷ n ∷ ns) q k | inr k ↦ shape_end xs (p ∷ n ∷ ns) q (by_end q k c) ],
+  )
+    where
+      order : time p <ʳ time n
+      order = (each_end (IsKnot function) xs (p ∷ n ∷ ns) s.each).0.rising
+
+      of_last : (q : P) → q ≡ last → IsCutBefore p n to last → HasShape (p ∷ n ∷ ns) q
+      of_last q e (inl c) = inr (inr (inl (e ∙ c.1)))
+      of_last q e (inr c) = inr (inl (e ∙ c.2))
+
+      by_end : (q : P) → HasShape (p ∷ ends_at to last ∷ []) q → IsCutBefore p n to last → HasShape (p ∷ n ∷ ns) q
+      by_end q (inl h) c = inl h
+      by_end q (inr (inl h)) c = inr (inl h)
+      by_end q (inr (inr (inl h))) c = of_last q h c
+      by_end q (inr (inr (inr (inl h)))) c = of_last q h c
+      by_end q (inr (inr (inr (inr h)))) c = absurd h
+
+  abbrev pub begins_at : Knot P → Frac → P → Knot P
+  begins_at k from first = record { time = from; point = first; after = k.after }
+
+  cut_start_worth : (k b : Knot P) (bs : List (Knot P)) (from : Frac) (first : P) (t : Rational) (v : Extended) → value from <ʳ time b → StandsFrom k from first
+      → IsWorth function (begins_at k from first ∷ b ∷ bs) t v → IsWorth function (k ∷ b ∷ bs) t v
+  cut_start_worth k b bs from first t v h (inl c) (inl w) = inl (record { when = same_trans w.when (same_sym c.0); worth = subst (λ p. Passes (function p) t v) c.1 w.worth })
+  cut_start_worth k b bs from first t v h (inr c) (inl w) =
+      inr (inl (record { after = lt_of_lt_of_le c.0 (ge_of_same w.when); before = lt_of_le_of_lt (le_of_same w.when) h; worth = subst (λ p. Passes (function p) t v) c.1 w.worth }))
+  cut_start_worth k b bs from first t v h (inl c) (inr (inl w)) = inr (inl (record { after = lt_of_le_of_lt (le_of_same c.0) w.after; before = w.before; worth = w.worth }))
+  cut_start_worth k b bs from first t v h (inr c) (inr (inl w)) = inr (inl (record { after = lt_of_lt_of_le c.0 (le_of_lt w.after); before = w.before; worth = w.worth }))
+  cut_start_worth k b bs from first t v h c (inr (inr w)) = inr (inr w)
+
+  -- cut at its start
+  pub cut_start : (xs : List (Knot P)) (k b : Knot P) (bs : List (Knot P)) (from : Frac) (first : P) → IsSignal function (xs ++ k ∷ b ∷ bs) → value from <ʳ time b → StandsFrom k from first
+      → IsSignal function (begins_at k from first ∷ b ∷ bs) × ((t : Rational) (v : Extended) → IsWorth function (begins_at k from first ∷ b ∷ bs) t v → IsWorth function (xs ++ k ∷ b ∷ bs) t v)
+      × ((q : P) → HasShape (begins_at k from first ∷ b ∷ bs) q → HasShape (xs ++ k ∷ b ∷ bs) q)
+  cut_start xs k b bs from first s h c = (
+    record { some = some_in_end [] (begins_at k from first) (b ∷ bs); each = (record { rising = h; needed = needed_as bs each.0.needed; ends = tt }, each.1) },
+    (λ t v w. worth_end function xs (k ∷ b ∷ bs) t v (cut_start_worth k b bs from first t v h c w)),
+    λ q m. shape_end xs (k ∷ b ∷ bs) q (by_start q m c),
+  )
+    where
+      each : Each (IsKnot function) (k ∷ b ∷ bs)
+      each = each_end (IsKnot function) xs (k ∷ b ∷ bs) s.each
+
+      needed_as : (bs : List (Knot P)) → NextIsNeeded function k (b ∷ bs) → NextIsNeeded function (begins_at k from first) (b ∷ bs)
+      needed_as [] n = tt
+      needed_as (d ∷ bs) n = λ spare. n (record { here = spare.here; on = spare.on })
+
+      by_start : (q : P) → HasShape (begins_at k from first ∷ b ∷ bs) q → StandsFrom k from first → HasShape (k ∷ b ∷ bs) q
+      by_start q (inl m) (inl c) = inl (m ∙ c.1)
+      by_start q (inl m) (inr c) = inr (inl (m ∙ c.1))
+      by_start q (inr m) c = inr m
+
+  -- between a knot k and the knots of D on one side, and n on the other
+  cut_both : (xs : List (Knot P)) (k : Knot P) (D : List (Knot P)) (p n : Knot P) (ys ns : List (Knot P)) (from to : Frac) (first last : P)
+      → xs ++ k ∷ D ≡ ys ++ p ∷ [] → IsSignal function (ys ++ p ∷ n ∷ ns) → value from <ʳ value to → StandsFrom k from first → IsCutBefore p n to last
+      → ((b : Knot P) (bs : List (Knot P)) → D ≡ b ∷ bs → value from <ʳ time b)
+      → IsCut function (ys ++ p ∷ n ∷ ns) from to (begins_at k from first ∷ D ++ ends_at to last ∷ [])
+  cut_both xs k D p n ys ns from to first last e s order begins ends later = by_list D e later
+    where
+      ended : IsSignal function (ys ++ p ∷ ends_at to last ∷ []) × ((t : Rational) (v : Extended) → IsWorth function (ys ++ p ∷ ends_at to last ∷ []) t v → IsWorth function (ys ++ p ∷ n ∷ ns) t v)
+          × ((q : P) → HasShape (ys ++ p ∷ ends_at to last ∷ []) q → HasShape (ys ++ p ∷ n ∷ ns) q)
+      ended = cut_end ys p n ns to last s ends
+
+      whole_is : (D : List (Knot P)) → xs ++ k ∷ D ≡ ys ++ p ∷ [] → ys ++ p ∷ ends_at to last ∷ [] ≡ xs ++ (k ∷ D ++ ends_at to last ∷ [])
+      whole_is D e = sym (append_assoc ys (p ∷ []) (ends_at to last ∷ [])) ∙ ap (λ ks. ks ++ ends_at to last ∷ []) (sym e) ∙ append_assoc xs (k ∷ D) (ends_at to last ∷ [])
+
+      by_start : (b : Knot P) (bs : List (Knot P)) → ys ++ p ∷ ends_at to last ∷ [] ≡ xs ++ k ∷ b ∷ bs → value from <ʳ time b → stop (b ∷ bs) ≡ value to
+          → IsCut function (ys ++ p ∷ n ∷ ns) from to (begins_at k from first ∷ b ∷ bs)
+      by_start b bs same h stops =
+          let started = cut_start xs k b bs from first (subst (IsSignal function) same ended.0) h begins in record {
+            tells = told_alike function (ys ++ p ∷ n ∷ ns) (begins_at k from first ∷ b ∷ bs) (value from) (value to) s started.0 (same_refl (value from)) (subst (λ u. stop (b ∷ bs) ≈ u) stops (same_refl (stop (b ∷ bs))))
+                (λ t v w. ended.1 t v (subst (λ ks. IsWorth function ks t v) (sym same) (started.1 t v w)));
+            shapes = λ q h. ended.2 q (subst (λ ks. HasShape ks q) (sym same) (started.2 q h));
+          }
+
+      by_list : (D : List (Knot P)) → xs ++ k ∷ D ≡ ys ++ p ∷ [] → ((b : Knot P) (bs : List (Knot P)) → D ≡ b ∷ bs → value from <ʳ time b)
+          → IsCut function (ys ++ p ∷ n ∷ ns) from to (begins_at k from first ∷ D ++ ends_at to last ∷ [])
+      by_list [] e later = by_start (ends_at to last) [] (whole_is [] e) order refl
+      by_list (b ∷ bs) e later = by_start b (bs ++ ends_at to last ∷ []) (whole_is (b ∷ bs) e) (later b bs refl) (stop_end (b ∷ bs) (ends_at to last) [])
+
+  first_of : (ks : List (Knot P)) (n m : ℕ) (b : Knot P) (bs : List (Knot P)) → take m (drop n ks) ≡ b ∷ bs → slice_get ks n ≡ Some b
+  first_of [] zero zero b bs h = absurd (cc)
+  first_of [] zero (suc m) b bs h = absurd (cc)
+  first_of [] (suc n) zero b bs h = absurd (cc)
+  first_of [] (suc n) (suc m) b bs h = absurd (cc)
+  first_of (k ∷ ks) zero zero b bs h = absurd (cc)
+  first_of (k ∷ ks) zero (suc m) b bs h = let s : k ≡ b = cc in ap Some s
+  first_of (k ∷ ks) (suc n) m b bs h = first_of ks n m b bs h
+
+  -- by the places of the knots
+  pub cut_places : (ks : List (Knot P)) (i d : ℕ) (k p n : Knot P) (from to : Frac) (first last : P) → IsSignal function ks → i ≤ d → d + 1 < length ks
+      → k ≡ get_or ks i k → p ≡ get_or ks d p → n ≡ get_or ks (d + 1) n → value from <ʳ value to → StandsFrom k from first → IsCutBefore p n to last
+      → ((b : Knot P) → slice_get ks (i + 1) ≡ Some b → value from <ʳ time b)
+      → IsCut function ks from to (begins_at k from first ∷ slice_range ks (i + 1) (d + 1) ++ ends_at to last ∷ [])
+  cut_places ks i d k p n from to first last s le more at_i at_d at_e order begins ends later =
+      subst (λ D. IsCut function ks from to (begins_at k from first ∷ D ++ ends_at to last ∷ [])) middle_is
+      (subst (λ os. IsCut function os from to (begins_at k from first ∷ drop (i + 1) (take (d + 1) ks) ++ ends_at to last ∷ [])) (sym ks_is)
+      (cut_both (take i (take (d + 1) ks)) k (drop (i + 1) (take (d + 1) ks)) p n (take d ks) (drop (d + 1 + 1) ks) from to first last
+      (sym front_is ∙ front_too) (subst (IsSignal function) ks_is s) order begins ends
+      (λ b bs h. later b (first_of ks (i + 1) (d + 1 - (i + 1)) b bs (sym middle_is ∙ h)))))
+    where
+      middle_is : drop (i + 1) (take (d + 1) ks) ≡ slice_range ks (i + 1) (d + 1)
+      middle_is = let e : d + 1 ≡ (i + 1) + (d + 1 - (i + 1)) = omega (arith, le) in ap (λ m. drop (i + 1) (take m ks)) e ∙ drop-take (i + 1) (d + 1 - (i + 1)) ks
+
+      ks_is : ks ≡ take d ks ++ p ∷ n ∷ drop (d + 1 + 1) ks
+      ks_is = sym (take-append-drop d ks) ∙ ap (λ os. take d ks ++ os) (drop_more ks d p (omega (arith, more)) ∙ ap (λ q. q ∷ drop (d + 1) ks) (sym at_d)
+          ∙ ap (λ os. p ∷ os) (drop_more ks (d + 1) n more ∙ ap (λ q. q ∷ drop (d + 1 + 1) ks) (sym at_e)))
+
+      count : length (take (d + 1) ks) ≡ d + 1
+      count = omega (arith, length-take (d + 1) ks, more)
+
+      front_is : take (d + 1) ks ≡ take i (take (d + 1) ks) ++ k ∷ drop (i + 1) (take (d + 1) ks)
+      front_is = sym (take-append-drop i (take (d + 1) ks)) ∙ ap (λ os. take i (take (d + 1) ks) ++ os) (drop_more (take (d + 1) ks) i k (omega (arith, count, le))
+          ∙ ap (λ q. q ∷ drop (i + 1) (take (d + 1) ks)) (get_or-take (d + 1) ks i k (omega (arith, le)) ∙ sym at_i))
+
+      front_too : take (d + 1) ks ≡ take d ks ++ p ∷ []
+      front_too = take_more ks d p (omega (arith, more)) ∙ ap (λ q. take d ks ++ q ∷ []) (sym at_d)
+
+  -- one instant
+  pub cut_instant : (ks : List (Knot P)) (i : ℕ) (k : Knot P) (from to : Frac) (first : P) → IsSignal function ks → i < length ks → k ≡ get_or ks i k → value from ≈ value to
+      → value from ≤ʳ stop ks → StandsFrom k from first → ((b : Knot P) → slice_get ks (i + 1) ≡ Some b → value from <ʳ time b) → IsCut function ks from to (ends_at from first ∷ [])
+  cut_instant ks i k from to first s inside at_i same last begins later = record {
+    tells = told_alike function ks (ends_at from first ∷ []) (value from) (value to) s
+        (record { some = omega arith; each = (record { rising = tt; needed = tt; ends = refl }, tt) }) (same_refl (value from)) same by_worth;
+    shapes = by_shape begins;
+  }
+    where
+      here : slice_get ks i ≡ Some k
+      here = slice_get_read ks (length ks) i k refl inside at_i
+
+      more : time k <ʳ value from → i + 1 < length ks
+      more h = elim (cases_lt (i + 1) (length ks)) as (λ v. i + 1 < length ks) [
+        | inl l ↦ l
+        | inr l ↦ absurd (read_none function ks i k (value from) here (omega (arith, l, inside)) h (record { above = le_trans (start_first function ks i k s.each here) (le_of_lt h); below = last }))
+      ]
+
+      reading : StandsFrom k from first → IsReading function ks (value from) first
+      reading (inl c) = subst (IsReading function ks (value from)) (sym c.1) (read_point function ks i k (value from) s here c.0)
+      reading (inr c) = subst (IsReading function ks (value from)) (sym c.1) (read_after function ks i k (value from) s here (more c.0) c.0 later)
+
+      by_worth : (t : Rational) (v : Extended) → IsWorth function (ends_at from first ∷ []) t v → IsWorth function ks t v
+      by_worth t v (inl w) = worth_same function ks (value_at (function first) (value from)) v (same_sym w.when)
+          (same_symᵉ v (value_at (function first) (value from)) (same_transᵉ v (value_at (function first) t) (value_at (function first) (value from)) w.worth (value_same (function first) w.when))) (reading begins).2
+      by_worth t v (inr (inl w)) = absurd w
+      by_worth t v (inr (inr w)) = absurd w
+
+      by_shape : StandsFrom k from first → (q : P) → HasShape (ends_at from first ∷ []) q → HasShape ks q
+      by_shape b q (inl h) = subst (HasShape ks) (sym h) (reading b).1
+      by_shape b q (inr (inl h)) = subst (HasShape ks) (sym h) (reading b).1
+      by_shape b q (inr (inr h)) = absurd h
+
+  -- a place after which the time still comes has a knot behind it
+  pub not_last : (ks : List (Knot P)) (j : ℕ) (k : Knot P) (to : Rational) → slice_get ks j ≡ Some k → j < length ks → to ≤ʳ stop ks → time k <ʳ to → j + 1 < length ks
+  not_last ks j k to here inside last h = elim (cases_lt (j + 1) (length ks)) as (λ v. j + 1 < length ks) [
+    | inl l ↦ l
+    | inr l ↦ absurd (not_lt_of_le (subst (λ s. to ≤ʳ s) (stop_at function ks j k here (slice_get_past ks (j + 1) l)) last) h)
+  ]
+
+  -- an earlier knot has an earlier place
+  pub place_before : (ks : List (Knot P)) (i j : ℕ) (k n : Knot P) → Each (IsKnot function) ks → slice_get ks i ≡ Some k → slice_get ks j ≡ Some n → time k <ʳ time n → i < j
+  place_before ks i j k n h e f l = elim (cases_lt i j) as (λ v. i < j) [
+    | inl b ↦ b
+    | inr b ↦ absurd (not_lt_of_le (rising_places function ks j i n k h f e b) l)
+  ]
+
+  -- where the stretch ends at a knot
+  pub cut_at_knot : (ks : List (Knot P)) (i j : ℕ) (k n : Knot P) (from to : Frac) (first : P) → IsSignal function ks → i < length ks → j < length ks
+      → k ≡ get_or ks i k → n ≡ get_or ks j n → value from <ʳ value to → time k ≤ʳ value from → StandsFrom k from first
+      → ((b : Knot P) → slice_get ks (i + 1) ≡ Some b → value from <ʳ time b) → time n ≈ value to
+      → (i < j) × IsCut function ks from to (begins_at k from first ∷ slice_range ks (i + 1) j ++ ends_at to n.point ∷ [])
+  cut_at_knot ks i j k n from to first s in_i in_j at_i at_j order not_later stands later here =
+      let before = place_before ks i j k n s.each (slice_get_read ks (length ks) i k refl in_i at_i) (slice_get_read ks (length ks) j n refl in_j at_j)
+      (lt_of_le_of_lt not_later (lt_of_lt_of_le order (ge_of_same here))) in
+      let place : (j - 1) + 1 ≡ j = omega (arith, before) in
+      let p = get_or ks (j - 1) k in (
+        before,
+        subst (λ e. IsCut function ks from to (begins_at k from first ∷ slice_range ks (i + 1) e ++ ends_at to n.point ∷ [])) place
+            (cut_places ks i (j - 1) k p n from to first n.point s (omega (arith, before)) (omega (arith, before, in_j)) at_i (get_or_default ks (j - 1) k p (omega (arith, in_j)))
+            (subst (λ e. n ≡ get_or ks e n) (sym place) at_j) order stands (inl (same_sym here, refl)) later),
+      )
+
+  -- where it ends after a knot
+  pub cut_after_knot : (ks : List (Knot P)) (i j : ℕ) (k n : Knot P) (from to : Frac) (first : P) → IsSignal function ks → i < length ks → j < length ks
+      → k ≡ get_or ks i k → n ≡ get_or ks j n → value from <ʳ value to → time k ≤ʳ value from → StandsFrom k from first
+      → ((b : Knot P) → slice_get ks (i + 1) ≡ Some b → value from <ʳ time b) → time n <ʳ value to → ((b : Knot P) → slice_get ks (j + 1) ≡ Some b → value to <ʳ time b) → value to ≤ʳ stop ks
+      → (i ≤ j) × (j + 1 < length ks) × IsCut function ks from to (begins_at k from first ∷ slice_range ks (i + 1) (j + 1) ++ ends_at to n.after ∷ [])
+  cut_after_knot ks i j k n from to first s in_i in_j at_i at_j order not_later stands later before_to after_to last =
+      let here = slice_get_read ks (length ks) j n refl in_j at_j in
+      let more = not_last ks j n (value to) here in_j last before_to in
+      let m = get_or ks (j + 1) k in
+      let next = slice_get-get_or ks (j + 1) k more in
+      let before = place_before ks i (j + 1) k m s.each (slice_get_read ks (length ks) i k refl in_i at_i) next (lt_of_le_of_lt not_later (lt_of_lt_of_le order (le_of_lt (after_to m next)))) in (
+        omega (arith, before),
+        more,
+        cut_places ks i j k n m from to first n.after s (omega (arith, before)) more at_i at_j (get_or_default ks (j + 1) k m more) order stands
+            (inr (before_to, after_to m next, refl)) later,
+      )

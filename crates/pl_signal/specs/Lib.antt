@@ -1,0 +1,6 @@
+pub mod Knots
+pub mod Limits
+pub mod Building
+pub mod Moves
+pub mod Cuts
+pub mod Wide

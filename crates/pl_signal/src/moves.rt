@@ -1,0 +1,124 @@
+//! Signals on a part of their domain, and moved in time.
+ghost use Rattle.std.specs.Prelude.{◌≡◌, ◌<◌, ◌≤◌, ◌^◌, ◌++◌, ◌∷◌, [], ◌⊎◌, length, slice_range, IfOk};
+ghost use Rattle.rational.specs.Time.{◌≤ʳ◌, ◌<ʳ◌, ◌≈◌};
+ghost use Rattle.frac128.specs.Value.{value};
+ghost use Rattle.pl_signal.specs.Knots.{start, stop, time, HasShape, IsSignal, IsWorth};
+ghost use Rattle.pl_signal.specs.Cuts.{IsCut, StandsFrom};
+ghost use Rattle.pl_signal.specs.Moves.{Tells};
+
+use crate::signal::place_of;
+use crate::{Knot, Signal};
+use frac128::{Frac, Memory};
+use std::alloc::Global;
+use std::cmp::Ordering;
+use value_laws::Shape;
+
+impl<P: Shape> Signal<P> {
+    /// The signal on the part of its domain from `from` to `to`.
+    pub fn restrict(&self, from: &Frac, to: &Frac) -> Result<Signal<P>, Memory>
+        requires order { value from.now ≤ʳ value to.now }
+        requires first { start self.now ≤ʳ value from.now }
+        requires last { value to.now ≤ʳ stop self.now }
+        ensures worth { IfOk result (Tells P.function (IsWorth P.function self.now) (value from.now) (value to.now)) }
+        ensures shapes { IfOk result (λ r. (p : P) → HasShape r p → HasShape self.now p) }
+    {
+        let knots = cut(self.alloc, &self.knots, from, to)?;
+        Ok(Signal::from_knots(self.alloc, knots))
+    }
+}
+
+/// The knots of the signal on the stretch.
+fn cut<P: Shape>(
+    alloc: Global,
+    knots: &[Knot<P>],
+    from: &Frac,
+    to: &Frac,
+) -> Result<Vec<Knot<P>>, Memory>
+    requires signal { IsSignal P.function knots.now }
+    requires order { value from.now ≤ʳ value to.now }
+    requires first { start knots.now ≤ʳ value from.now }
+    requires last { value to.now ≤ʳ stop knots.now }
+    ensures { IfOk result (λ r. IsCut P.function knots.now from.now to.now r.items) }
+{
+    let i = place_of(knots, from);
+    let begin = &knots[i];
+    let point = shape_from(begin, from);
+    if let Ordering::Equal = from.cmp(to) {
+        return instant(alloc, from, point);
+    }
+    let first = Knot {
+        time: *from,
+        point,
+        after: begin.after,
+    };
+    let j = place_of(knots, to);
+    let end = &knots[j];
+    if let Ordering::Equal = end.time.cmp(to) {
+        return between(alloc, first, knots, i + 1, j, ending(to, end.point));
+    }
+    between(alloc, first, knots, i + 1, j + 1, ending(to, end.after))
+}
+
+/// The shape that stands at a time not before the knot and before the next one.
+fn shape_from<P: Shape>(knot: &Knot<P>, t: &Frac) -> P
+    requires { time knot.now ≤ʳ value t.now }
+    ensures { StandsFrom knot.now t.now result }
+{
+    match knot.time.cmp(t) {
+        Ordering::Equal => knot.point,
+        _ => knot.after,
+    }
+}
+
+/// The last knot of a signal.
+fn ending<P: Shape>(at: &Frac, point: P) -> Knot<P>
+    ensures { result ≡ record { time = at.now; point = point; after = point } }
+{
+    Knot {
+        time: *at,
+        point,
+        after: point,
+    }
+}
+
+/// The knots of a signal of one instant.
+fn instant<P: Shape>(alloc: Global, at: &Frac, point: P) -> Result<Vec<Knot<P>>, Memory>
+    ensures { IfOk result (λ r. r.items ≡ record { time = at.now; point = point; after = point } ∷ []) }
+{
+    let mut knots = Vec::new(alloc);
+    if knots.push(ending(at, point)).is_err() {
+        return Err(Memory);
+    }
+    Ok(knots)
+}
+
+/// The knots from the place `from` up to `to`, with a first and a last one about them, in one allocation.
+fn between<P: Shape>(
+    alloc: Global,
+    first: Knot<P>,
+    knots: &[Knot<P>],
+    from: usize,
+    to: usize,
+    last: Knot<P>,
+) -> Result<Vec<Knot<P>>, Memory>
+    requires after_one { 0 < from }
+    requires order { from ≤ to }
+    requires before_one { to < length knots.now }
+    requires few { length knots.now < 2 ^ 64 }
+    ensures { IfOk result (λ r. r.items ≡ first ∷ slice_range knots.now from to ++ last ∷ []) }
+{
+    let inner = &knots[from..to];
+    let Ok(mut built) = Vec::with_capacity(alloc, to - from + 2) else {
+        return Err(Memory);
+    };
+    if built.push(first).is_err() {
+        return Err(Memory);
+    }
+    if built.extend_from_slice(inner).is_err() {
+        return Err(Memory);
+    }
+    if built.push(last).is_err() {
+        return Err(Memory);
+    }
+    Ok(built)
+}

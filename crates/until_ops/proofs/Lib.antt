@@ -1,0 +1,5 @@
+mod Composition
+mod SignalComposition
+mod Forward
+mod Gaps
+mod Points

@@ -1,0 +1,24 @@
+//! The laws of bounded until and since. Each is the contract of a call that does nothing, so that the gate proves it for every
+//! kind of value.
+ghost use Rattle.std.specs.Prelude.{List};
+ghost use Rattle.rational.specs.Time.{Rational};
+ghost use Rattle.pl_signal.specs.declared.knot.Knot.{Knot};
+ghost use Rattle.pl_signal.specs.Knots.{IsSignal, IsWorth, start, stop};
+ghost use Rattle.until_ops.specs.Composition.{HasUntilToEnd, HasSinceFromStart, UntilIsComposed, SinceIsComposed};
+
+use value_laws::Shape;
+
+/// At each time, the value of a bounded until is the least of the Sup of its right side over the window and of the Inf, from now
+/// up to where the window begins, of the until to the end. It holds for empty and clipped windows too.
+pub fn until_is_composed<P: Shape>()
+    ensures { (p q : List (Knot P)) → IsSignal P.function p
+        → HasUntilToEnd P.lowest P.highest (start p) (stop p) (IsWorth P.function p) (IsWorth P.function q)
+        → UntilIsComposed P.lowest P.highest (start p) (stop p) (IsWorth P.function p) (IsWorth P.function q) }
+{}
+
+/// The mirror image for since, whose window may reach back to the start.
+pub fn since_is_composed<P: Shape>()
+    ensures { (p q : List (Knot P)) → IsSignal P.function p
+        → HasSinceFromStart P.lowest P.highest (start p) (stop p) (IsWorth P.function p) (IsWorth P.function q)
+        → SinceIsComposed P.lowest P.highest (start p) (stop p) (IsWorth P.function p) (IsWorth P.function q) }
+{}

@@ -1,0 +1,4 @@
+//! `until` and `since` over signals.
+#![tactic(auto)]
+
+pub mod laws;
