@@ -1,8 +1,8 @@
-use Rattle.std.proofs.Common.{◌≡◌, ◌+◌, ℕ, ◌-◌, ◌<◌, ◌≤◌, ◌^◌, List, length, get_or, Some, ◌-ℤ◌, refl, sym, ◌∙◌, ap, subst, arith, rules, of_z, to_z, w64}
+use Rattle.std.proofs.Common.{◌≡◌, ◌+◌, ℕ, ◌-◌, ◌<◌, ◌≤◌, ◌^◌, List, length, get_or, Some, ◌-ℤ◌, sym, subst, arith, rules, of_z, to_z, w64}
 use Rattle.std.proofs.lemmas.Int.{to_z-of_z}
 use Rattle.std.specs.Int.RustNames.{unsigned_abs}
 use Rattle.std.specs.Prelude.{slice_get}
-use Rattle.rational.specs.Rational.{subtract, whole, FitsFloor, IsWithin}
+use Rattle.rational.specs.Rational.{subtract, whole, FitsFloor}
 use Rattle.std.proofs.lemmas.Option.{slice_get-get_or}
 use Rattle.rational.specs.Time.{◌≈◌}
 use Rattle.rational.proofs.Order.{same_sym}
