@@ -1,17 +1,15 @@
 -- A signal has a Sup and an Inf over every interval.
 use Rattle.std.proofs.Common.{◌⊎◌, inl, inr, List, [], ◌∷◌, Bool, true, false}
 use Rattle.rational.specs.Time.{Rational, Within, Interval, IsIn, Precedes, ◌≤ʳ◌, ◌<ʳ◌, ◌≈◌}
-use Rattle.rational.specs.Rational.{middle}
-use Rattle.rational.specs.Line.{at}
-use Rattle.rational.specs.Extended.{Extended, minus_infinity, finite, infinity, ◌≤ᵉ◌, ◌<ᵉ◌, ◌≈ᵉ◌, IsLeast, IsGreatest, IsSup, IsInf, Affine, always_low, affine, always_high, Passes, value_at}
+use Rattle.rational.specs.Extended.{Extended, minus_infinity, finite, infinity, ◌≤ᵉ◌, ◌<ᵉ◌, IsLeast, IsGreatest, IsSup, IsInf, Affine, Passes, value_at}
 use Rattle.rational.specs.Windows.{Window, IsSupOver, IsInfOver}
-use Rattle.rational.proofs.Order.{le_or_lt, lt_or_same_or_gt, le_refl, le_of_lt, le_of_same, ge_of_same, le_trans, lt_of_lt_of_le, lt_of_le_of_lt, not_lt_of_le, same_of_le, same_refl, same_sym, same_trans, left_of_middle, right_of_middle}
-use Rattle.rational.proofs.ExtendedLemmas.{le_totalᵉ, le_reflᵉ, le_transᵉ, clashᵉ}
-use Rattle.rational.proofs.AffineLemmas.{same_reflᵉ, same_symᵉ, same_transᵉ, value_same, lies_between, near_start, near_stop, above_start, above_stop, lt_leᵉ}
+use Rattle.rational.proofs.Order.{le_or_lt, le_refl, le_of_lt, le_of_same, ge_of_same, le_trans, lt_of_lt_of_le, lt_of_le_of_lt, not_lt_of_le, same_of_le, same_refl, same_sym, same_trans}
+use Rattle.rational.proofs.ExtendedLemmas.{le_totalᵉ, le_reflᵉ, le_transᵉ}
+use Rattle.rational.proofs.AffineLemmas.{same_reflᵉ, value_same, lies_between, near_start, near_stop, above_start, above_stop, lt_leᵉ}
 use Rattle.rational.proofs.TimeLemmas.{IsIn-same, precedes_le, precedes_of_lt}
 use Rattle.rational.proofs.Sups.{lt_of_le_of_ltᵉ, sup_of_none, inf_of_none, sup_of_union, inf_of_union, sup_same, inf_same}
 use Rattle.pl_signal.specs.declared.knot.Knot.{Knot}
-use Rattle.pl_signal.specs.Knots.{time, IsAt, IsBetween, IsInGap, IsWorth}
+use Rattle.pl_signal.specs.Knots.{time, IsInGap, IsWorth}
 
 le_of_ltᵉ : (v w : Extended) → v <ᵉ w → v ≤ᵉ w
 le_of_ltᵉ minus_infinity w h = tt

@@ -1,5 +1,4 @@
 -- The causes for which one step may refuse: a crossing or a value in play that needs a denominator of 2^60 or more.
-use Rattle.std.specs.Prelude.{◌⊎◌}
 use Rattle.rational.specs.Rational.{Rational}
 use Rattle.rational.specs.Extended.{Affine}
 use Rattle.rational.specs.InPlay.{Step, IsInPlay, IsWideCrossing, IsWideValue}
