@@ -1,8 +1,8 @@
 -- Signals moved in time, knot by knot.
-use Rattle.std.proofs.Common.{◌≡◌, ℕ, zero, suc, ◌+◌, ◌*◌, ◌<◌, ◌^◌, ◌⊎◌, inl, inr, List, [], ◌∷◌, length, Some, ℤ, pos, neg_ℤ, refl, sym, ◌∙◌, ap, subst, arith, Bool, IsTrue}
+use Rattle.std.proofs.Common.{◌≡◌, ℕ, zero, suc, ◌+◌, ◌-◌, ◌*◌, ◌<◌, ◌^◌, ◌⊎◌, inl, inr, List, [], ◌∷◌, length, Some, ℤ, pos, neg_ℤ, refl, sym, ◌∙◌, ap, subst, arith, Bool, IsTrue, get_or}
 use Rattle.std.specs.Prelude.{slice_get}
 use Rattle.std.specs.Int.{w64}
-use Rattle.std.proofs.lemmas.Option.{slice_get_past}
+use Rattle.std.proofs.lemmas.Option.{slice_get_past, slice_get-get_or}
 use Rattle.rational.specs.Rational.{Rational, part_above, part_below, add, subtract, whole, FitsFloor, IsWithin}
 use Rattle.rational.specs.Time.{Within, ◌≤ʳ◌, ◌<ʳ◌, ◌≈◌}
 use Rattle.rational.specs.Extended.{Extended, Affine, value_at, ◌≈ᵉ◌}
@@ -194,3 +194,10 @@ module _ {P : Type 0} (function : P → Affine) where
   -- where a list begins and ends that was made of one knot
   pub only_ends : (built : List (Knot P)) (point : P) (at : Frac) → built ≡ record { time = at; point = point; after = point } ∷ [] → (start built ≡ value at) × (stop built ≡ value at)
   only_ends built point at e = (ap (λ ks. start ks) e, ap (λ ks. stop ks) e)
+
+  -- the knot before the place that is the length
+  pub last_of : (ks : List (Knot P)) (n : ℕ) → 0 < length ks → n ≡ length ks → (k : Knot P) × (slice_get ks (n - 1) ≡ Some k) × (stop ks ≡ time k)
+  last_of [] n some e = absurd (omega arith)
+  last_of (k ∷ ks) n some e =
+      let here = slice_get-get_or (k ∷ ks) (n - 1) k (omega (arith, some, e)) in
+      (get_or (k ∷ ks) (n - 1) k, here, last_is (k ∷ ks) (n - 1) (get_or (k ∷ ks) (n - 1) k) here (omega (arith, some, e)))
