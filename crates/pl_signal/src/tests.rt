@@ -1,199 +1,186 @@
-ghost use Rattle.std.specs.Prelude.{◌^◌, pos};
-ghost use Rattle.rational.specs.Rational.{◌≈◌, whole, IsWithin};
+ghost use Rattle.std.specs.Prelude.{◌≡◌, ◌^◌, IsTrue};
+ghost use Rattle.rational.specs.Rational.{IsWithin};
 ghost use Rattle.frac128.specs.Value.{value};
+ghost use Rattle.pl_signal.specs.Knots.{stop};
 
-use super::*;
-use frac128::{Frac, Memory, Ramp};
+use crate::{Builder, Signal};
+use frac128::{Frac, Ramp};
 use std::alloc::Global;
 use std::cmp::Ordering;
-use std::test::Fail;
+use std::process::Abort;
 use value_laws::{Kleene, Margin, Shape, Truth};
 
-/// A whole time.
-fn time(n: u32) -> Frac
-    ensures is { value result ≈ whole (pos n) }
-    ensures within { IsWithin (2 ^ 34) (value result) }
+/// Whether the time is within 2^34.
+fn is_near(t: &Frac) -> bool
+    ensures { IsTrue result → IsWithin (2 ^ 34) (value t.now) }
 {
-    Frac::of(i64::from(n))
-}
-
-/// The signal with `first` at 0, and then for each entry a shape on the gap up to a time, and a point there.
-fn built<P: Shape>(alloc: Global, first: P, steps: &[(P, u32, P)]) -> Result<Signal<P>, Memory> {
-    let mut last = time(0);
-    let mut built = Builder::start(alloc, last, first)?;
-    for (after, at, point) in steps {
-        let at = time(*at);
-        if let Ordering::Less = last.cmp(&at) {
-            built.step(*after, at, *point)?;
-            last = at;
-        }
+    let (low, high) = (Frac::of(-(1 << 34)), Frac::of(1 << 34));
+    if let Ordering::Greater = low.cmp(t) {
+        return false;
     }
-    Ok(built.finish())
+    if let Ordering::Greater = t.cmp(&high) {
+        return false;
+    }
+    true
 }
 
-/// The part of the signal between two whole times, where these lie in its domain.
-fn part<P: Shape>(s: &Signal<P>, from: u32, to: u32) -> Result<Option<Signal<P>>, Memory> {
-    let (from, to) = (time(from), time(to));
+/// A signal by its first instant and its steps: a shape up to a time, and the shape there. A test ends where they are not allowed.
+fn signal<P: Shape>(
+    rt: &impl Abort,
+    alloc: Global,
+    from: i64,
+    first: P,
+    steps: &[(P, i64, P)],
+) -> Signal<P> {
+    let mut last = Frac::of(from);
+    let Ok(mut built) = Builder::start(alloc, last, first) else {
+        panic!(rt; "memory");
+    };
+    for (after, at, point) in steps {
+        let at = Frac::of(*at);
+        assert!(rt; is_near(&last));
+        let Ordering::Less = last.cmp(&at) else {
+            panic!(rt; "order");
+        };
+        assert!(rt; built.step(*after, at, *point).is_ok(), "memory");
+        last = at;
+    }
+    built.finish()
+}
+
+/// The shape at a time.
+fn read<P: Shape>(rt: &impl Abort, s: &Signal<P>, num: i64, den: i64) -> P {
+    assert!(rt; den > 0);
+    let Ok(t) = Frac::make(i128::from(num), i128::from(den)) else {
+        panic!(rt; "wide");
+    };
+    match s.at(&t) {
+        Some(p) => p,
+        None => panic!(rt; "outside"),
+    }
+}
+
+/// The signal on a part of its domain. A test ends where the part is not allowed.
+fn cut<P: Shape>(rt: &impl Abort, s: &Signal<P>, from: i64, to: i64) -> Signal<P> {
+    let (from, to) = (Frac::of(from), Frac::of(to));
+    if let Ordering::Greater = from.cmp(&to) {
+        panic!(rt; "order");
+    }
     if let Ordering::Greater = s.start().cmp(&from) {
-        return Ok(None);
+        panic!(rt; "before");
     }
     if let Ordering::Greater = to.cmp(&s.stop()) {
-        return Ok(None);
+        panic!(rt; "after");
     }
-    if let Ordering::Greater = from.cmp(&to) {
-        return Ok(None);
-    }
-    let part = s.restrict(&from, &to)?;
-    Ok(Some(part))
-}
-
-/// The truth at n/2; None outside of the domain.
-fn truth_at(s: &Signal<Truth>, halves: u32) -> Option<bool> {
-    let Ok(t) = Frac::make(i128::from(halves), 2) else {
-        return None;
+    let Ok(part) = s.restrict(&from, &to) else {
+        panic!(rt; "memory");
     };
-    s.at(&t).map(|p| p.holds())
-}
-
-/// The order of the margin at a whole time and a number; None outside of the domain.
-fn against(s: &Signal<Margin>, t: u32, n: i32) -> Option<Ordering> {
-    let t = time(t);
-    let p = s.at(&t)?;
-    Some(Margin::cmp_at(&p, &Margin::Fixed(Frac::of(i64::from(n))), &t))
+    part
 }
 
 #[test]
-fn knots_stay_where_they_are_needed(rt: HostRuntime) -> Result<(), Fail> {
+fn knots_that_are_not_needed_leave(rt: HostRuntime) {
     let (yes, no) = (Truth::of(true), Truth::of(false));
-    let rows: [(usize, [(Truth, u32, Truth); 3]); 5] = [
-        (2, [(yes, 3, yes), (yes, 5, yes), (yes, 9, yes)]),
-        (3, [(yes, 3, no), (yes, 5, yes), (yes, 9, yes)]),
-        (3, [(yes, 3, yes), (no, 5, no), (no, 9, no)]),
-        (4, [(yes, 3, yes), (no, 5, yes), (yes, 9, no)]),
-        (2, [(no, 3, no), (no, 5, no), (no, 9, yes)]),
-    ];
-    for (len, steps) in rows {
-        let Ok(s) = built(rt.alloc(), yes, &steps) else {
-            assert!(&rt; false);
-            return Ok(());
-        };
-        assert!(&rt; s.len() == len);
-    }
-    Ok(())
-}
+    let merged = signal(
+        &rt,
+        rt.alloc(),
+        0,
+        yes,
+        &[(yes, 3, yes), (yes, 5, yes), (no, 7, no)],
+    );
+    assert!(&rt; merged.len() == 3, "3 leaves, and 5 stays");
+    assert!(&rt; merged.knot(1).time == Frac::of(5));
+    let kept = signal(&rt, rt.alloc(), 0, yes, &[(yes, 3, no), (yes, 5, yes)]);
+    assert!(&rt; kept.len() == 3, "the value at 3 is another");
+    assert!(&rt; !read(&rt, &kept, 3, 1).holds());
+    assert!(&rt; read(&rt, &kept, 7, 2).holds());
 
-#[test]
-fn pieces_of_one_line_are_one_piece(rt: HostRuntime) -> Result<(), Fail> {
     let rise = Margin::Ramp(Ramp::make(0, 0, 1, 1));
-    let same = Margin::Ramp(Ramp::make(4, 4, 2, 2));
-    let steep = Margin::Ramp(Ramp::make(0, 0, 2, 1));
-    let (five, high) = (Margin::Fixed(Frac::of(5)), Margin::High);
-    let rows: [(usize, Margin, [(Margin, u32, Margin); 2]); 6] = [
-        (2, rise, [(rise, 5, same), (same, 9, rise)]),
-        (2, rise, [(rise, 5, five), (same, 9, rise)]),
-        (3, rise, [(rise, 5, high), (same, 9, rise)]),
-        (3, rise, [(rise, 5, five), (steep, 9, rise)]),
-        (2, high, [(high, 5, high), (high, 9, five)]),
-        (3, high, [(high, 5, five), (high, 9, high)]),
-    ];
-    for (len, first, steps) in rows {
-        let Ok(s) = built(rt.alloc(), first, &steps) else {
-            assert!(&rt; false);
-            return Ok(());
-        };
-        assert!(&rt; s.len() == len);
-    }
-    Ok(())
+    let also = Margin::Ramp(Ramp::make(10, 10, 2, 2));
+    let line = signal(
+        &rt,
+        rt.alloc(),
+        0,
+        rise,
+        &[(rise, 4, Margin::Fixed(Frac::of(4))), (also, 9, rise)],
+    );
+    assert!(&rt;
+        line.len() == 2,
+        "one line, by other corners and a constant at 4"
+    );
+    let jump = signal(
+        &rt,
+        rt.alloc(),
+        0,
+        rise,
+        &[(rise, 4, Margin::Fixed(Frac::of(5))), (also, 9, rise)],
+    );
+    assert!(&rt; jump.len() == 3);
+    let high = signal(
+        &rt,
+        rt.alloc(),
+        0,
+        Margin::High,
+        &[
+            (Margin::High, 4, Margin::High),
+            (Margin::High, 9, Margin::Low),
+        ],
+    );
+    assert!(&rt; high.len() == 2, "infinite pieces");
+
+    let maybe = Kleene::of(None);
+    let open = signal(
+        &rt,
+        rt.alloc(),
+        0,
+        maybe,
+        &[(maybe, 1, maybe), (Kleene::of(Some(true)), 2, maybe)],
+    );
+    assert!(&rt; open.len() == 3);
 }
 
 #[test]
-fn a_signal_is_read_at_each_time(rt: HostRuntime) -> Result<(), Fail> {
+fn a_signal_is_read_at_each_time(rt: HostRuntime) {
     let (yes, no) = (Truth::of(true), Truth::of(false));
-    let Ok(s) = built(rt.alloc(), no, &[(yes, 2, no), (no, 4, yes), (yes, 6, no)]) else {
-        assert!(&rt; false);
-        return Ok(());
-    };
-    let rows = [
-        (0, Some(false)),
-        (1, Some(true)),
-        (3, Some(true)),
-        (4, Some(false)),
-        (5, Some(false)),
-        (7, Some(false)),
-        (8, Some(true)),
-        (9, Some(true)),
-        (11, Some(true)),
-        (12, Some(false)),
-        (13, None),
-    ];
-    for (halves, holds) in rows {
-        assert!(&rt; truth_at(&s, halves) == holds);
-    }
-    let rise = Margin::Ramp(Ramp::make(0, 0, 2, 1));
-    let Ok(m) = built(rt.alloc(), Margin::Low, &[(rise, 3, Margin::High)]) else {
-        assert!(&rt; false);
-        return Ok(());
-    };
-    assert!(&rt; against(&m, 0, -7) == Some(Ordering::Less));
-    assert!(&rt; against(&m, 2, 4) == Some(Ordering::Equal));
-    assert!(&rt; against(&m, 3, 7) == Some(Ordering::Greater));
-    assert!(&rt; against(&m, 4, 7) == None);
-    let unknown = Kleene::of(None);
-    let Ok(k) = built(rt.alloc(), unknown, &[]) else {
-        assert!(&rt; false);
-        return Ok(());
-    };
-    assert!(&rt; k.len() == 1 && k.at(&Frac::of(0)).is_some() && k.at(&Frac::of(1)).is_none());
-    Ok(())
+    let s = signal(&rt, rt.alloc(), 2, no, &[(yes, 5, no), (no, 7, yes)]);
+    assert!(&rt; s.start() == Frac::of(2) && s.stop() == Frac::of(7));
+    assert!(&rt; !read(&rt, &s, 2, 1).holds());
+    assert!(&rt; read(&rt, &s, 5, 2).holds());
+    assert!(&rt; !read(&rt, &s, 5, 1).holds());
+    assert!(&rt; !read(&rt, &s, 13, 2).holds());
+    assert!(&rt; read(&rt, &s, 7, 1).holds());
+    assert!(&rt; s.at(&Frac::of(1)).is_none());
+    assert!(&rt; s.at(&Frac::of(8)).is_none());
+    let instant = signal(&rt, rt.alloc(), 3, yes, &[]);
+    assert!(&rt; instant.len() == 1 && instant.start() == instant.stop());
+    assert!(&rt; read(&rt, &instant, 3, 1).holds());
+    assert!(&rt; instant.at(&Frac::of(4)).is_none());
 }
 
 #[test]
-fn a_part_keeps_its_ends(rt: HostRuntime) -> Result<(), Fail> {
-    let (yes, no) = (Truth::of(true), Truth::of(false));
-    let Ok(s) = built(rt.alloc(), no, &[(yes, 2, no), (yes, 4, yes), (no, 6, yes)]) else {
-        assert!(&rt; false);
-        return Ok(());
-    };
-    let rows: [(u32, u32, usize, [(u32, Option<bool>); 4]); 4] = [
-        (
-            0,
-            6,
-            4,
-            [
-                (0, Some(false)),
-                (4, Some(false)),
-                (8, Some(true)),
-                (12, Some(true)),
-            ],
-        ),
-        (
-            1,
-            3,
-            3,
-            [
-                (1, None),
-                (2, Some(true)),
-                (4, Some(false)),
-                (6, Some(true)),
-            ],
-        ),
-        (
-            2,
-            4,
-            2,
-            [(3, None), (4, Some(false)), (8, Some(true)), (9, None)],
-        ),
-        (4, 4, 1, [(7, None), (8, Some(true)), (9, None), (10, None)]),
-    ];
-    for (from, to, len, reads) in rows {
-        let Ok(Some(p)) = part(&s, from, to) else {
-            assert!(&rt; false);
-            return Ok(());
-        };
-        assert!(&rt; p.len() == len);
-        for (halves, holds) in reads {
-            assert!(&rt; truth_at(&p, halves) == holds);
-        }
-    }
-    Ok(())
+fn a_part_keeps_its_ends(rt: HostRuntime) {
+    let rise = Margin::Ramp(Ramp::make(0, 0, 1, 1));
+    let five = Margin::Fixed(Frac::of(5));
+    let s = signal(
+        &rt,
+        rt.alloc(),
+        0,
+        rise,
+        &[(rise, 5, Margin::Low), (five, 9, Margin::High)],
+    );
+    let part = cut(&rt, &s, 2, 9);
+    assert!(&rt; part.len() == 3 && part.start() == Frac::of(2));
+    assert!(&rt;
+        Margin::same(&read(&rt, &part, 9, 1), &Margin::High),
+        "the point at the end"
+    );
+    assert!(&rt; Margin::same(&read(&rt, &part, 5, 1), &Margin::Low));
+    let whole = cut(&rt, &s, 0, 9);
+    assert!(&rt; whole.len() == 3);
+    let inner = cut(&rt, &s, 6, 7);
+    assert!(&rt; inner.len() == 2 && Margin::same(&read(&rt, &inner, 7, 1), &five));
+    let up_to = cut(&rt, &s, 1, 5);
+    assert!(&rt; up_to.len() == 2 && Margin::same(&read(&rt, &up_to, 5, 1), &Margin::Low));
+    let instant = cut(&rt, &s, 3, 3);
+    assert!(&rt; instant.len() == 1 && Margin::same(&read(&rt, &instant, 3, 1), &rise));
 }
