@@ -1,5 +1,5 @@
 -- The fields of a header, one after another.
-use Rattle.std.proofs.Common.{◌≡◌, ℕ, ◌⊎◌, inl, inr, zero, suc, ◌+◌, ◌-◌, ◌<◌, ◌≤◌, Bool, true, false, List, [], ◌∷◌, ◌++◌, map, length, take, drop, get_or, refl, sym, ap, ◌∙◌, subst, arith, Option, Some, None, append_assoc, nat_eq}
+use Rattle.std.proofs.Common.{◌≡◌, ℕ, ◌⊎◌, inl, inr, suc, ◌+◌, ◌-◌, ◌<◌, ◌≤◌, Bool, true, false, List, [], ◌∷◌, ◌++◌, map, length, take, drop, get_or, refl, sym, ap, ◌∙◌, subst, arith, append_assoc, nat_eq}
 use lib.Pointwise.{pointwise}
 use Rattle.std.specs.Prelude.{codes, decimal, ◌==◌, ◌≢◌, bytes_eq, ◌||◌, All}
 use Rattle.std.proofs.lemmas.List.{append-nil, take-append-drop, drop_more, drop_at, get_or-take, length-take-le}

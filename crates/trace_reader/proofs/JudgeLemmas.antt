@@ -1,5 +1,5 @@
 -- What a line of a trace comes to.
-use Rattle.std.proofs.Common.{◌≡◌, ℕ, ◌⊎◌, inl, inr, zero, suc, ◌+◌, ◌<◌, ◌≤◌, Bool, true, false, List, [], ◌∷◌, length, refl, sym, ap, ◌∙◌, subst, arith, Option, Some, None}
+use Rattle.std.proofs.Common.{◌≡◌, ℕ, inl, inr, zero, suc, ◌+◌, ◌<◌, ◌≤◌, true, false, List, refl, sym, ap, ◌∙◌, subst, arith, Option, Some, None}
 use Rattle.std.specs.Prelude.{Result, Ok, Err, is_some, option_map}
 use Rattle.std.proofs.lemmas.Bool.{false≢true}
 use Rattle.stl_syntax.specs.Trace.{Row}
@@ -9,7 +9,7 @@ use Rattle.trace_reader.specs.TraceRefusals.{RowFault, HeaderFault}
 use Rattle.trace_reader.specs.LineParts.{whole_line, fields_of}
 use Rattle.trace_reader.specs.Headings.{Scaled}
 use Rattle.trace_reader.specs.RowLines.{IsRowRead, FieldFaults}
-use Rattle.trace_reader.specs.Progress.{Progress, last_of, Judges, JudgesHeading, JudgesRow, blank, heading, row, bad_heading, bad_row}
+use Rattle.trace_reader.specs.Progress.{Progress, last_of, Judges, JudgesHeading, JudgesRow, heading, row, bad_heading, bad_row}
 use Rattle.trace_reader.specs.declared.refusal.Limits.{Limits}
 use Rattle.trace_reader.specs.declared.refusal.TraceKind.{TraceKind}
 use Rattle.trace_reader.specs.declared.refusal.TraceKind.TheVariants.{TooManyRows, TimeNotRising}

@@ -1,10 +1,10 @@
 -- A fault of a line is never the one of a trace without rows.
-use Rattle.std.proofs.Common.{◌≡◌, ℕ, ◌⊎◌, inl, inr, suc, List, [], ◌∷◌, sym, ◌∙◌, Option}
+use Rattle.std.proofs.Common.{◌≡◌, ℕ, inl, inr, suc, List, [], ◌∷◌, sym, ◌∙◌, Option}
 use Rattle.std.specs.Prelude.{Err, ◌≢◌, ℤ}
 use Rattle.stl_syntax.specs.declared.scale.Scale.{Scale}
 use Rattle.trace_reader.specs.TraceText.{Heading, fields, scale_of}
 use Rattle.trace_reader.specs.LineParts.{whole_line}
-use Rattle.trace_reader.specs.TraceRefusals.{HeaderFault, NameFaults, TimeFault, ColumnFault, ColumnFaults, RowFault, NumberFault, NumberFaults, ValueFaults}
+use Rattle.trace_reader.specs.TraceRefusals.{HeaderFault, ColumnFault, ColumnFaults, RowFault, NumberFault, NumberFaults, ValueFaults}
 use Rattle.trace_reader.specs.Progress.{Progress, last_of, Judges, bad_heading, bad_row}
 use Rattle.trace_reader.specs.declared.refusal.Limits.{Limits}
 use Rattle.trace_reader.specs.declared.refusal.TraceKind.{TraceKind}

@@ -1,11 +1,11 @@
 -- Numbers with decimals, digit by digit.
-use Rattle.std.proofs.Common.{◌≡◌, ℕ, ◌⊎◌, inl, inr, zero, suc, ◌+◌, ◌-◌, ◌*◌, ◌^◌, ◌<◌, ◌≤◌, min, Bool, true, false, List, [], ◌∷◌, ◌++◌, length, take, drop, reverse, get_or, refl, sym, ap, ◌∙◌, subst, arith, lit<, mul-le-mul, ℤ, pos, negsuc, if◌then◌else◌}
+use Rattle.std.proofs.Common.{◌≡◌, ℕ, ◌⊎◌, inl, inr, zero, suc, ◌+◌, ◌-◌, ◌*◌, ◌^◌, ◌<◌, ◌≤◌, min, Bool, true, false, List, [], ◌∷◌, ◌++◌, length, take, drop, reverse, get_or, refl, sym, ap, ◌∙◌, subst, arith, lit<, mul-le-mul, ℤ, pos, negsuc}
 use Rattle.std.specs.Prelude.{neg_ℤ, ◌==◌, ◌*ℤ◌, ◌<ℤ◌}
 use Rattle.std.proofs.lemmas.Int.{ints}
-use Rattle.std.proofs.lemmas.List.{take-append-drop, take_all, take_more, drop_at, length-take-le, get_or_at}
+use Rattle.std.proofs.lemmas.List.{take-append-drop, take_more, drop_at, length-take-le}
 use Rattle.std.proofs.lemmas.Bool.{cases_eq, cases_Bool, false≢true}
 use Rattle.std.proofs.Math.Nat.{one-le-pow, pow-le-pow_right}
-use Rattle.stl_syntax.specs.Characters.{is_digit, all, StopsAt, after_first, decimal_value, without_zeros, IsNumeral, integer, decimal, ticks, signed_ticks}
+use Rattle.stl_syntax.specs.Characters.{is_digit, all, StopsAt, after_first, decimal_value, without_zeros, IsNumeral, integer, decimal, ticks}
 use Rattle.trace_reader.specs.TraceText.{IsNumber, plain, plus, minus, IsInTicks}
 use Rattle.trace_reader.specs.LineParts.{signed}
 use Rattle.trace_reader.specs.TraceRefusals.{NumberFault}
@@ -15,7 +15,7 @@ use Rattle.trace_reader.specs.declared.refusal.TraceKind.TheVariants.{OutOfRange
 use Rattle.trace_reader.proofs.DigitLemmas.{all_ends, front_ends, decimal_value-push}
 use Rattle.trace_reader.proofs.PlainText.{all-reverse}
 use Rattle.trace_reader.proofs.TraceRefusalExamples.{first_byte, numeral_begins}
-use Rattle.trace_reader.proofs.TraceRefusalLaw.{numeral-unique, number-unique, ticks-unique}
+use Rattle.trace_reader.proofs.TraceRefusalLaw.{numeral-unique, ticks-unique}
 
 -- a number without a sign is digits, or digits, a point and digits
 pub numeral_cases : {text : List ℕ} {n k : ℕ} → IsNumeral text n k → (len : ℕ) → all is_digit (take len text) ≡ true → StopsAt is_digit (drop len text)
@@ -82,7 +82,7 @@ whole_read (c ∷ ds) most digits v r some h value is = (
   integer h,
   omega arith,
   rw is (scaled_same v (decimal_value 0 (c ∷ ds)) (10 ^ digits) (one-le-pow digits 10 (lit< tt)) value
-  ∙ ap (λ j. min (decimal_value 0 (c ∷ ds) * 10 ^ j) 4294967296) (let e : digits ≡ digits - 0 = omega arith in e)),
+      ∙ ap (λ j. min (decimal_value 0 (c ∷ ds) * 10 ^ j) 4294967296) (let e : digits ≡ digits - 0 = omega arith in e)),
 )
 
 -- digits, a point and digits

@@ -149,9 +149,10 @@ row_fields line r h =
 
 is_row : (n : List ℕ) (line : Line) (r : Row) → IsRowLine line.bytes r → IsRow no_digits (heading_of n) (fields line) r
 is_row n line r h =
-    rw ((row_fields line r h).0)
-    ((pos r.time, 0, plain_number (numeral h.time), lit≤ tt, sym (one_tick (pos r.time))),
-    (h.value, [], (h.value, 0, number h.number, lit≤ tt, sym (one_tick h.value)), refl, h.values))
+    rw ((row_fields line r h).0) (
+      (pos r.time, 0, plain_number (numeral h.time), lit≤ tt, sym (one_tick (pos r.time))),
+      (h.value, [], (h.value, 0, number h.number, lit≤ tt, sym (one_tick h.value)), refl, h.values),
+    )
 
 row_lines : (n : List ℕ) {ls : List Line} {rows : List Row} → ArePlainRows ls rows → AreRowLines no_digits (heading_of n) ls rows
 row_lines n none = no_rows

@@ -1,19 +1,16 @@
 -- What a reader stands for after more bytes of a line, after its LF, and at the end.
-use Rattle.std.proofs.Common.{◌≡◌, ℕ, ◌⊎◌, inl, inr, zero, suc, ◌+◌, ◌-◌, ◌<◌, ◌≤◌, Bool, true, false, List, [], ◌∷◌, ◌++◌, length, refl, sym, ap, ◌∙◌, subst, arith, Option, Some, None, append_assoc, add-one}
-use Rattle.std.specs.Prelude.{All, Ok, Err, IsSome, Result}
+use Rattle.std.proofs.Common.{◌≡◌, ℕ, inl, inr, zero, suc, ◌+◌, ◌<◌, ◌≤◌, Bool, true, false, List, [], ◌∷◌, ◌++◌, length, refl, sym, ap, ◌∙◌, subst, arith, Option, Some, None, append_assoc, add-one}
+use Rattle.std.specs.Prelude.{Ok, Err, IsSome}
 use Rattle.std.proofs.lemmas.List.{append-nil, length_push, length-append, same_from_push}
 use Rattle.std.proofs.lemmas.List.Elements.{All-nil, All-append, All-push}
 use Rattle.std.proofs.lemmas.Bool.{false≢true}
 use Rattle.stl_syntax.specs.Choice.{◌or_else◌, Where}
-use Rattle.stl_syntax.specs.Trace.{Row, Header, last_time, IsInRange, AreRowsAfter}
-use Rattle.stl_syntax.specs.declared.scale.Scale.{Scale}
-use Rattle.trace_reader.specs.TraceText.{Line, lines, is_blank_line, fields, Heading, IsHeading, scale_of, AreTraceLines, TraceOf, none}
-use Rattle.trace_reader.specs.TraceRefusals.{LineFault, InLine, HeaderFault, RowFault, FaultFrom, FaultAfter, IsFirstFault, HasTrace}
+use Rattle.stl_syntax.specs.Trace.{Row, last_time, IsInRange, AreRowsAfter}
+use Rattle.trace_reader.specs.TraceText.{lines, fields, Heading, scale_of, AreTraceLines, TraceOf, none}
+use Rattle.trace_reader.specs.TraceRefusals.{RowFault, FaultFrom, IsFirstFault, HasTrace}
 use Rattle.trace_reader.specs.Sofar.{AreRowsSoFar}
-use Rattle.trace_reader.specs.Cut.{Cut, begun_after}
+use Rattle.trace_reader.specs.Cut.{begun_after}
 use Rattle.trace_reader.specs.Plain.{HasNoFeed, rows_after}
-use Rattle.trace_reader.specs.PlainReading.{Fits}
-use Rattle.trace_reader.specs.LineParts.{whole_line}
 use Rattle.trace_reader.specs.Progress.{Progress, last_of, Judges, blank, heading, row, bad_heading, bad_row}
 use Rattle.trace_reader.specs.Reader.{Reader, StandsFor, HasTaken, GoesOn, FaultsOn, ReadsOn, AreRising, IsFaultOfAll, IsNextRow, header_of, last_seen}
 use Rattle.trace_reader.specs.Reading.{made, IsLineRefusal, HasEnded}
@@ -23,7 +20,6 @@ use Rattle.trace_reader.specs.declared.refusal.TraceKind.{TraceKind}
 use Rattle.trace_reader.specs.declared.refusal.TraceKind.TheVariants.{TooManyLines, LineTooLong, Empty, NoRows}
 use Rattle.trace_reader.specs.declared.event.Event.{Event}
 use Rattle.trace_reader.specs.declared.event.Event.TheVariants.{Nothing, Header as IsTheHeader, Row as IsARow}
-use Rattle.trace_reader.specs.declared.reading.Reading.{Reading}
 use Rattle.trace_reader.proofs.LineLemmas.{done, rest, lines-nil, lines-rest, lines-append, lines-line}
 use Rattle.trace_reader.proofs.FaultStays.{grows}
 use Rattle.trace_reader.proofs.PlainLines.{last_row, last_time-push}
@@ -216,9 +212,11 @@ module _ (limits : Limits) (old : Progress) (begun : ℕ) (line bytes : List ℕ
     pub closed_breaks : (x : TraceRefusal) → IsLineRefusal limits (begun_after begun line (length part + 1)) (length line + length part) x → IsFaultOfAll limits old.least taken_bytes x
     closed_breaks x (at, f) more ended =
         subst (λ ls. FaultFrom limits old.least ended 1 ls x) (sym (closed ended more)) (t.goes_on.faults ended (done text ∷ lines ended more) x
-        (line_bad limits old.least old.heading rows ended (suc (length t.front)) (done text) (lines ended more) x
-        (at ∙ number, subst (λ n. (Where (limits.lines < suc (length t.front)) TooManyLines or_else Where (4096 < n) LineTooLong) x.kind) (sym (length-append line part))
-        (subst (λ n. (Where (limits.lines < n) TooManyLines or_else Where (4096 < (length line + length part)) LineTooLong) x.kind) number f))))
+        (line_bad limits old.least old.heading rows ended (suc (length t.front)) (done text) (lines ended more) x (
+          at ∙ number,
+          subst (λ n. (Where (limits.lines < suc (length t.front)) TooManyLines or_else Where (4096 < n) LineTooLong) x.kind) (sym (length-append line part))
+              (subst (λ n. (Where (limits.lines < n) TooManyLines or_else Where (4096 < (length line + length part)) LineTooLong) x.kind) number f),
+        )))
 
   -- a limit broken by a line that goes on
   pub going_breaks : (part : List ℕ) → HasNoFeed part → begun ≤ limits.lines → length line ≤ 4096 → (x : TraceRefusal)

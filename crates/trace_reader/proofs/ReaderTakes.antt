@@ -1,5 +1,5 @@
 -- A reader takes the bytes up to an LF, or bytes without one.
-use Rattle.std.proofs.Common.{◌≡◌, ℕ, ◌⊎◌, inl, inr, zero, suc, ◌+◌, ◌-◌, ◌<◌, ◌≤◌, Bool, true, false, List, [], ◌∷◌, ◌++◌, length, refl, sym, ap, ◌∙◌, subst, arith, Option, Some, None, append_assoc, take, drop}
+use Rattle.std.proofs.Common.{◌≡◌, ℕ, ◌⊎◌, inl, inr, ◌+◌, ◌<◌, ◌≤◌, Bool, true, false, List, [], ◌∷◌, ◌++◌, length, refl, sym, ap, ◌∙◌, subst, arith, Option, Some, None, append_assoc, take, drop}
 use Rattle.std.specs.Prelude.{Ok, Err, IsSome, Result, IfOk, IfErr, is_some, option_copied, option_map}
 use Rattle.std.specs.Borrow.{Bor}
 use Rattle.std.proofs.lemmas.Bool.{false≢true, cases_eq, eq-eqb, ne_eqb}
@@ -13,7 +13,7 @@ use Rattle.trace_reader.specs.PlainReading.{Fits}
 use Rattle.trace_reader.specs.TraceRefusals.{IsFirstFault}
 use Rattle.trace_reader.specs.Progress.{Progress, Judges, blank, heading, row, bad_heading, bad_row}
 use Rattle.trace_reader.specs.Reader.{Reader, StandsFor, HasTaken, IsFaultOfAll, HasCome, EndsWithFeed, feed}
-use Rattle.trace_reader.specs.Reading.{made, state, HasEnded, IsWithin, IsStart, IsLineRefusal, Holds, Finishes}
+use Rattle.trace_reader.specs.Reading.{made, state, HasEnded, IsWithin, IsStart, IsLineRefusal}
 use Rattle.trace_reader.specs.declared.refusal.Limits.{Limits}
 use Rattle.trace_reader.specs.declared.refusal.TraceRefusal.{TraceRefusal}
 use Rattle.trace_reader.specs.declared.refusal.TraceKind.{TraceKind}
@@ -102,7 +102,7 @@ module _ (limits : Limits) (old new : Reading) (w : IsWithin limits old) where
 
     pub finish_fault : (x : TraceRefusal)
         → (IsLineRefusal limits new.lines.begun (length old.lines.line + length part) x × (new.table ≡ old.table))
-          ⊎ (Fits limits new.lines.begun (length old.lines.line + length part) × (x.line ≡ new.lines.begun) × Judges limits (old.lines.line ++ part) old.table new.table (Err x.kind))
+        ⊎ (Fits limits new.lines.begun (length old.lines.line + length part) × (x.line ≡ new.lines.begun) × Judges limits (old.lines.line ++ part) old.table new.table (Err x.kind))
         → (bytes : List ℕ) (rows : List Row) → StandsFor (state limits old) bytes rows → IsFaultOfAll limits old.table.least (bytes ++ (part ++ 10 ∷ [])) x
     finish_fault x (inl (f, same)) bytes rows s =
         closed_breaks limits old.table old.lines.begun old.lines.line bytes rows s.taken part free x (subst (λ b. IsLineRefusal limits b (length old.lines.line + length part) x) begun f)
@@ -111,7 +111,7 @@ module _ (limits : Limits) (old new : Reading) (w : IsWithin limits old) where
 
     pub finish_kept : (x : TraceRefusal)
         → (IsLineRefusal limits new.lines.begun (length old.lines.line + length part) x × (new.table ≡ old.table))
-          ⊎ (Fits limits new.lines.begun (length old.lines.line + length part) × (x.line ≡ new.lines.begun) × Judges limits (old.lines.line ++ part) old.table new.table (Err x.kind))
+        ⊎ (Fits limits new.lines.begun (length old.lines.line + length part) × (x.line ≡ new.lines.begun) × Judges limits (old.lines.line ++ part) old.table new.table (Err x.kind))
         → (x.line ≡ new.lines.begun) × (new.table ≡ record old.table { fresh = new.table.fresh }) × (new.table.least ≡ old.table.least)
     finish_kept x (inl (f, same)) =
         (f.0, same ∙ ap (λ (b : Bool). record old.table { fresh = b }) (sym (ap (λ (p : Progress). p.fresh) same)), ap (λ (p : Progress). p.least) same)

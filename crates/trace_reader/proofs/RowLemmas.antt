@@ -1,5 +1,5 @@
 -- The fields of a row, one after another.
-use Rattle.std.proofs.Common.{◌≡◌, ℕ, ◌⊎◌, inl, inr, suc, ◌+◌, List, [], ◌∷◌, ◌++◌, length, take, drop, get_or, refl, sym, ap, ◌∙◌, subst, arith, ℤ, pos, negsuc, append_assoc, Option, Some, None, true, false, map, ◌<◌}
+use Rattle.std.proofs.Common.{◌≡◌, ℕ, inl, inr, suc, List, [], ◌∷◌, ◌++◌, length, refl, sym, subst, arith, ℤ, pos, negsuc, append_assoc, Option, Some, None, true, false, map, ◌<◌}
 use Rattle.std.specs.Prelude.{is_some, option_copied}
 use Rattle.std.specs.Borrow.{Bor}
 use Rattle.std.proofs.lemmas.Bool.{false≢true}

@@ -1,5 +1,5 @@
 -- A heading as it is kept, and as it is being read.
-use Rattle.std.specs.Prelude.{◌≡◌, ℕ, suc, ◌+◌, ◌≤◌, List, [], ◌∷◌, ◌++◌, map, All, codes, length, vec_len, vec_capacity}
+use Rattle.std.specs.Prelude.{◌≡◌, ℕ, ◌+◌, ◌≤◌, List, [], ◌∷◌, ◌++◌, map, All, codes, length, vec_len, vec_capacity}
 use Rattle.stl_syntax.specs.Characters.{is_among}
 use Rattle.stl_syntax.specs.Trace.{Column, Header}
 use Rattle.stl_syntax.specs.declared.scale.Scale.{Scale}

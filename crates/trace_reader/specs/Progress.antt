@@ -1,12 +1,10 @@
 -- What the lines of a trace come to, one after another.
-use Rattle.std.specs.Prelude.{◌≡◌, ℕ, zero, suc, ◌+◌, ◌<◌, Bool, true, false, List, length, Option, Some, None, Result, Ok, Err, IsSome}
-use Rattle.std.specs.Option.{ForSome}
+use Rattle.std.specs.Prelude.{◌≡◌, ℕ, zero, suc, ◌+◌, ◌<◌, Bool, true, false, List, length, Option, Some, None, Result, Ok, Err}
 use Rattle.stl_syntax.specs.Trace.{Row, IsInRange}
 use Rattle.stl_syntax.specs.declared.scale.Scale.{Scale}
 use Rattle.trace_reader.specs.TraceText.{Heading, IsHeading, IsRow, fields, is_blank_line, scale_of}
 use Rattle.trace_reader.specs.TraceRefusals.{HeaderFault, RowFault}
 use Rattle.trace_reader.specs.LineParts.{whole_line, fields_of}
-use Rattle.trace_reader.specs.Headings.{Scaled}
 use Rattle.trace_reader.specs.declared.refusal.Limits.{Limits}
 use Rattle.trace_reader.specs.declared.refusal.TraceKind.{TraceKind}
 use Rattle.trace_reader.specs.declared.event.Event.{Event}

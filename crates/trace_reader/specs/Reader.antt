@@ -1,11 +1,11 @@
 -- A reader of traces, and the bytes that it stands for.
-use Rattle.std.specs.Prelude.{◌≡◌, ◌↔◌, ℕ, suc, ◌<◌, Bool, true, false, List, [], ◌∷◌, ◌++◌, length, All, Option, Some, None, option_map, IsSome}
+use Rattle.std.specs.Prelude.{◌≡◌, ℕ, suc, ◌<◌, Bool, true, false, List, [], ◌∷◌, ◌++◌, length, All, Option, Some, None, option_map, IsSome}
 use Rattle.stl_syntax.specs.Trace.{Row, Header, last_time, AreInRange}
 use Rattle.stl_syntax.specs.declared.scale.Scale.{Scale}
 use Rattle.trace_reader.specs.Sofar.{AreRowsSoFar}
 use Rattle.trace_reader.specs.TraceText.{Line, lines, is_blank_line, Heading, scale_of, AreRowLines, AreTraceLines, TraceOf}
 use Rattle.trace_reader.specs.TraceRefusals.{FaultFrom, FaultAfter, IsFirstFault, HasTrace}
-use Rattle.trace_reader.specs.Plain.{HasNoFeed, rows_after}
+use Rattle.trace_reader.specs.Plain.{HasNoFeed}
 use Rattle.trace_reader.specs.declared.refusal.Limits.{Limits}
 use Rattle.trace_reader.specs.declared.refusal.TraceRefusal.{TraceRefusal}
 use Rattle.trace_reader.specs.declared.event.Event.{Event}

@@ -1,5 +1,5 @@
 -- The fields of a row as they are read, one after another.
-use Rattle.std.specs.Prelude.{◌≡◌, ◌≢◌, ℕ, suc, ℤ, List, [], ◌∷◌, ◌++◌, length}
+use Rattle.std.specs.Prelude.{◌≡◌, ◌≢◌, ℕ, suc, ℤ, List, ◌++◌, length}
 use Rattle.stl_syntax.specs.Choice.{◌or_else◌, Where}
 use Rattle.stl_syntax.specs.Trace.{Row, IsInRange}
 use Rattle.stl_syntax.specs.declared.scale.Scale.{Scale}

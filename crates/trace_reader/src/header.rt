@@ -34,7 +34,6 @@ impl Model for Header {
 impl Label {
     ghost use Rattle.std.specs.Prelude.{◌≡◌, IfOk};
     ghost use Rattle.trace_reader.specs.Labels.{column_of};
-
     ghost use Rattle.std.specs.Prelude.{bytes_eq};
 
     /// A column with that name.

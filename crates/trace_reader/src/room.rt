@@ -107,8 +107,9 @@ impl HeadingRoom {
         requires name { IsName name.now }
         requires digits { digits ≤ 6 }
         ensures { self.new ≡ record {
-            columns = self.old.columns ++ record { name = name.now; step = step } ∷ [];
-            digits = self.old.digits ++ digits ∷ [] } }
+          columns = self.old.columns ++ record { name = name.now; step = step } ∷ [];
+          digits = self.old.digits ++ digits ∷ [];
+        } }
     {
         let Some(room) = self.spare.pop() else {
             unreachable!()

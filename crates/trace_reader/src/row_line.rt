@@ -38,7 +38,7 @@ impl Heading {
         ensures { MatchResult result
             (λ _. IsRowRead self.now (fields_of (Some text.now)) row.new)
             (λ e. length (fields_of (Some text.now)) ≡ suc (length self.now.heading.columns)
-                → NumberFaults self.now.scale self.now.heading (fields_of (Some text.now)) e) }
+            → NumberFaults self.now.scale self.now.heading (fields_of (Some text.now)) e) }
     {
         let scale = self.scale();
         let (first, mut left) = cut_field(text);

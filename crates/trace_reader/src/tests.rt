@@ -1,5 +1,7 @@
 ghost use Rattle.std.specs.Prelude.{◌≡◌, ◌<◌, ◌≤◌, ◌^◌, IsSome};
 
+mod traces;
+
 use super::*;
 use std::alloc::{AllocError, Global};
 use std::process::Abort;

@@ -38,14 +38,22 @@ impl TwoRows {
     pub(crate) fn last(&self) -> &Row
         ensures { result.now ≡ self.now.last }
     {
-        if self.turned { &self.second } else { &self.first }
+        if self.turned {
+            &self.second
+        } else {
+            &self.first
+        }
     }
 
     /// The row that is being read.
     pub(crate) fn next(&self) -> &Row
         ensures { result.now ≡ self.now.next }
     {
-        if self.turned { &self.first } else { &self.second }
+        if self.turned {
+            &self.first
+        } else {
+            &self.second
+        }
     }
 
     /// Reads the fields of a row.

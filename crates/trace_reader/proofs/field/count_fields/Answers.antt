@@ -1,5 +1,5 @@
 -- One byte more.
-use Rattle.std.proofs.Common.{◌≡◌, ◌+◌, ◌∷◌, length, drop, get_or, sym, ap, ◌∙◌, arith}
+use Rattle.std.proofs.Common.{◌≡◌, ◌+◌, ◌∷◌, length, drop, get_or, ap, arith}
 use Rattle.std.proofs.lemmas.List.{drop_all}
 use Rattle.trace_reader.specs.TraceText.{split}
 use Rattle.trace_reader.proofs.FieldLemmas.{split-comma, split-other, split_more, fields_count}

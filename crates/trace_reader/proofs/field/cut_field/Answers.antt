@@ -1,8 +1,5 @@
 -- The text up to its first comma.
-use Rattle.std.proofs.Common.{◌∷◌, [], ◌∙◌, take, drop, ap, sym, ◌+◌}
-use Rattle.std.specs.Prelude.{Some}
 use Rattle.std.proofs.lemmas.List.{take_rest}
-use Rattle.trace_reader.specs.LineParts.{fields_of}
 use Rattle.trace_reader.proofs.FieldLemmas.{first_field, last_field}
 use Rattle.trace_reader.proofs.field.cut_field.Goals as goal
 

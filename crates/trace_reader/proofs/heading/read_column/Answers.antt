@@ -1,6 +1,6 @@
 -- A name, a mode and decimals.
-use Rattle.std.proofs.Common.{◌≡◌, ◌∙◌, sym, true, false, refl}
-use Rattle.trace_reader.specs.TraceText.{IsName, IsColumn}
+use Rattle.std.proofs.Common.{◌∙◌, sym, true, false, refl}
+use Rattle.trace_reader.specs.TraceText.{IsName}
 use Rattle.trace_reader.proofs.HeadingLemmas.{column_is, column_bad, column_same, column_sound, among_time, among_columns}
 use Rattle.trace_reader.proofs.heading.read_column.Goals as goal
 use Rattle.trace_reader.proofs.heading.read_column.Goals.{then-is_time-via-then-is_time, then-is_time-via-else-is_time+then-has}

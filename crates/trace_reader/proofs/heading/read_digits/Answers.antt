@@ -1,6 +1,5 @@
 -- A colon and a digit.
-use Rattle.std.proofs.Common.{◌≡◌, ◌∷◌, [], List, ℕ, ◌-◌, length, ap, ◌∙◌, sym, subst, refl, arith}
-use Rattle.std.proofs.lemmas.Bool.{false≢true}
+use Rattle.std.proofs.Common.{◌≡◌, ◌∷◌, [], ◌-◌, ap, ◌∙◌, sym, subst, arith}
 use Rattle.std.proofs.lemmas.List.{nil_from_length}
 use Rattle.trace_reader.specs.TraceText.{IsDigits, no_digits}
 use Rattle.trace_reader.proofs.HeadingLemmas.{digits_of, no_digits_in, no_digits_one, empty_is, is_empty}
@@ -17,12 +16,12 @@ pub returns-then-colon-ne58 : goal.returns-then-colon-ne58
 returns-then-colon-ne58 c =
     let whole : c.args.text.now ≡ c.in-Some.colon.now ∷ c.in_ok-digit.digit.now ∷ c.in_ok-digit.others.now = c.in-Some.ensures.cases.0 ∙ ap (λ t. c.in-Some.colon.now ∷ t) c.in_ok-digit.ensures.cases.0 in
     no_digits_in c.args.text.now c.in-Some.colon.now c.in_ok-digit.digit.now c.in_ok-digit.others.now whole (λ a l low high.
-      elim c.then-colon-ne58.branch [
-        | then-colon-ne58-via-then-colon-ne58 w ↦ w.if-colon-ne58.true a
-        | then-colon-ne58-via-else-colon-ne58+then-not-is_empty w ↦ empty_is c.in_ok-digit.others.now w.is_empty.result w.is_empty.ensures w.if-not-is_empty.true l
-        | then-colon-ne58-via-else-colon-ne58+else-not-is_empty+then-digit-lt48 w ↦ omega (arith, low, w.if-digit-lt48.true)
-        | then-colon-ne58-via-else-colon-ne58+else-not-is_empty+else-digit-lt48+then-digit-gt54 w ↦ omega (arith, high, w.if-digit-gt54.true)
-      ])
+    elim c.then-colon-ne58.branch [
+      | then-colon-ne58-via-then-colon-ne58 w ↦ w.if-colon-ne58.true a
+      | then-colon-ne58-via-else-colon-ne58+then-not-is_empty w ↦ empty_is c.in_ok-digit.others.now w.is_empty.result w.is_empty.ensures w.if-not-is_empty.true l
+      | then-colon-ne58-via-else-colon-ne58+else-not-is_empty+then-digit-lt48 w ↦ omega (arith, low, w.if-digit-lt48.true)
+      | then-colon-ne58-via-else-colon-ne58+else-not-is_empty+else-digit-lt48+then-digit-gt54 w ↦ omega (arith, high, w.if-digit-gt54.true)
+    ])
 
 pub returns : goal.returns
 returns c =

@@ -1,5 +1,5 @@
 -- The fields of a header, in order.
-use Rattle.std.proofs.Common.{◌≡◌, ◌∷◌, [], ◌+◌, ◌≤◌, ℕ, List, length, ap, ◌∙◌, sym, subst, arith}
+use Rattle.std.proofs.Common.{◌≡◌, ◌∷◌, [], ◌+◌, ◌≤◌, length, ap, ◌∙◌, sym, subst, arith}
 use Rattle.std.specs.Prelude.{option_copied, Some}
 use Rattle.std.proofs.lemmas.Result.{err_from_is_err_and}
 use Rattle.std.proofs.lemmas.List.{nil_from_length, length_push}
@@ -56,7 +56,7 @@ loop-place-preserved c =
       omega (arith, n, old.0),
       omega (arith, w, old.1),
       left_more fields c.loop-place.place (c.loop-place.place + 1) field more c.loop-place.room c.read_column.new.room
-      (subst (λ t. AreColumnsLeft fields c.loop-place.place t c.loop-place.room) left old.2) m (omega arith),
+          (subst (λ t. AreColumnsLeft fields c.loop-place.place t c.loop-place.room) left old.2) m (omega arith),
     )
 
 pub read_column-requires : goal.read_column-requires

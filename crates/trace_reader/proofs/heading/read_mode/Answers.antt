@@ -1,5 +1,5 @@
 -- A mode, and decimals.
-use Rattle.std.proofs.Common.{◌≡◌, ◌∷◌, [], false, sym, subst, refl, arith}
+use Rattle.std.proofs.Common.{[], refl}
 use Rattle.std.specs.Prelude.{codes}
 use Rattle.trace_reader.specs.TraceText.{no_mode, ramp, step}
 use Rattle.trace_reader.proofs.DigitLemmas.{after_prefix}

@@ -1,7 +1,7 @@
 -- The time, and its decimals.
 use Rattle.std.proofs.Common.{◌≡◌, ◌∙◌, sym}
 use Rattle.std.specs.Prelude.{codes}
-use Rattle.trace_reader.proofs.HeadingLemmas.{is_time_name, other_name, time_is, time_sound, time_bad}
+use Rattle.trace_reader.proofs.HeadingLemmas.{is_time_name, time_is, time_sound, time_bad}
 use Rattle.trace_reader.proofs.heading.read_time_field.Goals as goal
 
 pub returns-in-Some : goal.returns-in-Some

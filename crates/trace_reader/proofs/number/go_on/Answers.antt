@@ -16,4 +16,3 @@ loop-byte-preserved c =
       | then-sum-lt-BEYOND w ↦ (omega (arith, v, d.0, d.1, old.0, w.sum-is, w.if-sum-lt-BEYOND.true), omega (arith, d.0, d.1, w.sum-is, w.if-sum-lt-BEYOND.true))
       | else-sum-lt-BEYOND w ↦ (omega (arith, v, d.0, d.1, old.0, w.sum-is, w.if-sum-lt-BEYOND.false), omega (arith, old.1, w.sum-is))
     ]
-

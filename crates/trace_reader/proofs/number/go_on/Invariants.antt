@@ -1,5 +1,5 @@
-use Rattle.std.proofs.Common.{◌≡◌, ◌≤◌, drop, take, min, true}
-use Rattle.stl_syntax.specs.Characters.{decimal_value, is_digit, all}
+use Rattle.std.proofs.Common.{◌≡◌, ◌≤◌, take, min}
+use Rattle.stl_syntax.specs.Characters.{decimal_value}
 use Rattle.trace_reader.proofs.number.go_on.Given as goal
 
 abbrev pub invariant-loop-byte : goal.invariant-loop-byte

@@ -1,7 +1,7 @@
 -- A point and digits.
-use Rattle.std.proofs.Common.{◌≡◌, ◌∷◌, ◌∙◌, ap, sym, subst, true, true≢false, arith}
+use Rattle.std.proofs.Common.{◌≡◌, ◌∙◌, ap, sym, subst, true}
 use Rattle.stl_syntax.specs.Characters.{is_digit, all, without_zeros}
-use Rattle.trace_reader.proofs.NumberLemmas.{point_first, some_first}
+use Rattle.trace_reader.proofs.NumberLemmas.{some_first}
 use Rattle.trace_reader.proofs.number.read_decimals.Goals as goal
 
 pub returns : goal.returns

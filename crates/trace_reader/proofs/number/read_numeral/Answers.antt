@@ -1,5 +1,5 @@
 -- Digits, or digits, a point and digits.
-use Rattle.std.proofs.Common.{◌≡◌, ◌∷◌, ◌∙◌, ◌-◌, ◌*◌, ◌^◌, length, take, drop, min, sym, ap, subst, inl, inr, arith, true}
+use Rattle.std.proofs.Common.{◌≡◌, ◌∷◌, ◌∙◌, ◌-◌, ◌*◌, ◌^◌, length, take, min, sym, ap, subst, inl, inr, arith, true}
 use Rattle.std.proofs.lemmas.List.{take_all, take_rest, length-take-le}
 use Rattle.stl_syntax.specs.Characters.{is_digit, all, decimal_value, without_zeros}
 use Rattle.trace_reader.proofs.NumberLemmas.{numeral_cases, whole_read, decimal_read, shortened_digits, parted, decimal_places, IsRead}

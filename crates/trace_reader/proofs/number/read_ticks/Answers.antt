@@ -1,7 +1,6 @@
 -- A sign and a numeral.
-use Rattle.std.proofs.Common.{◌≡◌, ◌∷◌, ◌∙◌, ap, sym, subst, refl, inl, inr}
-use Rattle.trace_reader.specs.TraceText.{IsInTicks}
-use Rattle.trace_reader.proofs.NumberLemmas.{IsRead, minus_read, plus_read, plain_read, no_signed, no_plain}
+use Rattle.std.proofs.Common.{◌≡◌, ◌∷◌, ◌∙◌, ap, inl, inr}
+use Rattle.trace_reader.proofs.NumberLemmas.{minus_read, plus_read, plain_read, no_signed, no_plain}
 use Rattle.trace_reader.proofs.number.read_ticks.Goals as goal
 use Rattle.trace_reader.proofs.number.read_ticks.Goals.{then-first-eq43, else-first-eq43}
 

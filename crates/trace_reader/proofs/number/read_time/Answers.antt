@@ -1,5 +1,5 @@
 -- A time is within its limits, or not.
-use Rattle.std.proofs.Common.{◌≡◌, ◌⊎◌, ◌∙◌, ap, sym, subst, inl, inr, arith, pos, true, false}
+use Rattle.std.proofs.Common.{◌≡◌, subst, inl, inr, arith, pos, true}
 use Rattle.std.specs.Prelude.{◌<ℤ◌, ◌<◌}
 use Rattle.std.proofs.lemmas.Int.{ints}
 use Rattle.trace_reader.specs.TraceText.{IsInTicks}

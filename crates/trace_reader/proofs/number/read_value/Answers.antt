@@ -1,10 +1,9 @@
 -- A value is within its limits, or not.
-use Rattle.std.proofs.Common.{◌≡◌, ◌⊎◌, ◌∙◌, ap, sym, subst, inl, inr, arith, pos, negsuc, true, false, w32}
-use Rattle.std.specs.Prelude.{◌<ℤ◌, ◌<◌, ◌≤◌}
+use Rattle.std.proofs.Common.{◌≡◌, subst, inl, inr, arith, pos, negsuc, true, w32}
+use Rattle.std.specs.Prelude.{◌<◌, ◌≤◌}
 use Rattle.std.proofs.lemmas.Int.{ints, to_z-of_z}
 use Rattle.trace_reader.specs.TraceText.{IsInTicks}
 use Rattle.trace_reader.specs.LineParts.{signed}
-use Rattle.trace_reader.specs.FieldFaults.{IsFieldRead}
 use Rattle.trace_reader.proofs.DigitLemmas.{value_fits}
 use Rattle.trace_reader.proofs.NumberLemmas.{within, outside, small_negative, large_signed}
 use Rattle.trace_reader.proofs.number.read_value.Goals as goal

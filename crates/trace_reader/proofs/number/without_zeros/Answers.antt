@@ -1,5 +1,5 @@
 -- Zeros at the end.
-use Rattle.std.proofs.Common.{◌==◌, ◌∙◌, sym, arith}
+use Rattle.std.proofs.Common.{◌==◌, sym, arith}
 use Rattle.std.proofs.lemmas.Bool.{eq-eqb, ne_eqb}
 use Rattle.trace_reader.proofs.FieldLemmas.{front_of, all_longer}
 use Rattle.trace_reader.proofs.number.without_zeros.Goals as goal

@@ -1,15 +1,13 @@
 -- The end of the bytes.
-use Rattle.std.proofs.Common.{◌≡◌, ◌∙◌, [], ap, sym, subst, refl, arith, true, Some}
+use Rattle.std.proofs.Common.{◌≡◌, ◌∙◌, [], ap, sym, subst, refl, arith, true}
 use Rattle.std.specs.Prelude.{IsSome}
 use Rattle.std.proofs.lemmas.Result.{err_from_is_err_and}
-use Rattle.stl_syntax.specs.declared.scale.Scale.{Scale}
 use Rattle.trace_reader.specs.TraceText.{TraceOf}
 use Rattle.trace_reader.specs.TraceRefusals.{IsFirstFault}
 use Rattle.trace_reader.specs.Plain.{rows_after}
 use Rattle.trace_reader.specs.Reader.{header_of, IsNextRow}
-use Rattle.trace_reader.specs.Reading.{IsWhole, HasEnded}
+use Rattle.trace_reader.specs.Reading.{IsWhole}
 use Rattle.trace_reader.specs.declared.refusal.TraceRefusal.{TraceRefusal}
-use Rattle.trace_reader.specs.declared.event.Event.TheVariants.{Row as IsARow}
 use Rattle.trace_reader.proofs.ReaderSteps.{no_header, no_rows, read_whole, has_trace, next_row}
 use Rattle.trace_reader.proofs.ReaderTakes.{header_none, header_some, rows_same, no_rows_left}
 use Rattle.trace_reader.proofs.reading.Reading.last.Goals as goal
@@ -46,9 +44,12 @@ returns-then-count-eq0-clause-header c = λ is bytes rows s.
     let (g, n) = header_some c.header.result new.table.heading (header_of new.table.least) c.header.ensures c.if-is_none.ensures in
     let after = rows_after c.in_ok-event.event rows new.table.row in
     let h = e.ok bytes rows s in
-    let none : after ≡ [] = no_rows_left c.in_ok-event.event rows new.table.row new.table.count h.taken.count (sym c.count.ensures ∙ c.if-count-eq0.true) in
-    (g, n, subst (λ rs. TraceOf bytes true new.table.least (header_of new.table.least g) rs) none
-    (read_whole c.args.limits.now new.table new.lines.begun bytes after h g n))
+    let none : after ≡ [] = no_rows_left c.in_ok-event.event rows new.table.row new.table.count h.taken.count (sym c.count.ensures ∙ c.if-count-eq0.true) in (
+      g,
+      n,
+      subst (λ rs. TraceOf bytes true new.table.least (header_of new.table.least g) rs) none
+          (read_whole c.args.limits.now new.table new.lines.begun bytes after h g n),
+    )
 
 pub returns-in-Row-clause-ok : goal.returns-in-Row-clause-ok
 returns-in-Row-clause-ok c = λ bytes rows s.

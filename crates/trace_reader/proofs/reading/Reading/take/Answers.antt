@@ -6,7 +6,6 @@ use Rattle.stl_syntax.specs.Trace.{Row}
 use Rattle.trace_reader.specs.Plain.{rows_after, through_feed}
 use Rattle.trace_reader.specs.Reader.{StandsFor, IsFaultOfAll, HasCome}
 use Rattle.trace_reader.specs.Reading.{state}
-use Rattle.trace_reader.specs.declared.event.Event.TheVariants.{Nothing}
 use Rattle.trace_reader.proofs.ReaderTakes.{through_parts, fault_on, come_on, take_on}
 use Rattle.trace_reader.proofs.reading.Reading.take.Goals as goal
 

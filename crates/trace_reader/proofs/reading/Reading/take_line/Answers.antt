@@ -1,5 +1,5 @@
 -- A piece up to its first LF, or the whole of it.
-use Rattle.std.proofs.Common.{◌≡◌, ◌++◌, length, take, subst, sym, ◌∙◌, arith}
+use Rattle.std.proofs.Common.{◌++◌, length, take, subst, sym, ◌∙◌, arith}
 use Rattle.std.proofs.lemmas.Result.{err_from_is_err_and}
 use Rattle.std.proofs.lemmas.List.{take_all}
 use Rattle.trace_reader.specs.Plain.{rows_after}

@@ -1,9 +1,9 @@
 -- The fields of a row, in order.
-use Rattle.std.proofs.Common.{◌≡◌, ◌∷◌, ◌++◌, [], ◌+◌, ◌≤◌, ℕ, List, Option, length, get_or, drop, ap, ◌∙◌, sym, subst, arith, w32, pos, negsuc}
+use Rattle.std.proofs.Common.{◌≡◌, ◌∷◌, ◌++◌, [], ◌+◌, ◌≤◌, length, get_or, drop, ap, ◌∙◌, sym, subst, arith, w32, pos, negsuc}
 use Rattle.std.specs.Prelude.{option_copied, Some, All, nat_abs}
 use Rattle.std.proofs.lemmas.Int.{to_z-of_z}
 use Rattle.std.proofs.lemmas.Result.{err_from_is_err_and}
-use Rattle.std.proofs.lemmas.List.{nil_from_length, length_push, drop_more, drop_all}
+use Rattle.std.proofs.lemmas.List.{length_push, drop_more, drop_all}
 use Rattle.std.proofs.lemmas.List.Elements.{All-push}
 use Rattle.stl_syntax.specs.Trace.{Row}
 use Rattle.stl_syntax.specs.declared.scale.Scale.{Scale}
@@ -13,7 +13,7 @@ use Rattle.trace_reader.specs.TraceRefusals.{NumberFault}
 use Rattle.trace_reader.specs.RowLines.{AreValuesLeft}
 use Rattle.trace_reader.proofs.DigitLemmas.{value_fits}
 use Rattle.trace_reader.proofs.HeadingLemmas.{after_first_field}
-use Rattle.trace_reader.proofs.RowLemmas.{start_values, values_more, values_bad, values_read, values_sound, row_is, time_bad, value_bad, numbers_sound, left_some, left_none, is_some_copied, row_made}
+use Rattle.trace_reader.proofs.RowLemmas.{values_more, values_bad, values_read, values_sound, row_is, value_bad, numbers_sound, left_some, left_none, is_some_copied, row_made}
 use Rattle.trace_reader.proofs.room.Heading.read_fields.Goals as goal
 
 pub returns-in_err-read_value : goal.returns-in_err-read_value

@@ -1,5 +1,5 @@
 -- A row that came can be taken.
-use Rattle.std.proofs.Common.{◌++◌, take}
+use Rattle.std.proofs.Common.{take}
 use Rattle.trace_reader.specs.Reading.{state}
 use Rattle.trace_reader.proofs.ReaderSteps.{next_row}
 use Rattle.trace_reader.proofs.ReaderTakes.{came_some, going_on}

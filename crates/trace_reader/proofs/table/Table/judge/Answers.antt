@@ -1,12 +1,10 @@
 -- A blank line, the header or a row.
-use Rattle.std.proofs.Common.{◌≡◌, ◌∙◌, ap, sym, subst, refl, arith, Some, None, Option, Bool, true, false}
-use Rattle.std.specs.Prelude.{option_map, is_some}
+use Rattle.std.proofs.Common.{◌≡◌, ◌∙◌, ap, sym, refl, false}
 use Rattle.stl_syntax.specs.Characters.{is_space, all}
 use Rattle.trace_reader.specs.TraceText.{is_blank_line}
 use Rattle.trace_reader.specs.LineParts.{whole_line}
-use Rattle.trace_reader.specs.Headings.{Scaled}
 use Rattle.trace_reader.specs.Progress.{Progress, blank}
-use Rattle.trace_reader.proofs.JudgeLemmas.{judged_heading, judged_row, map_none, map_some}
+use Rattle.trace_reader.proofs.JudgeLemmas.{judged_heading, judged_row, map_none}
 use Rattle.trace_reader.proofs.table.Table.judge.Goals as goal
 
 pub returns-then-is_blank : goal.returns-then-is_blank
