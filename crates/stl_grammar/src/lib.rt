@@ -1,6 +1,10 @@
 //! The text of formulas.
 #![tactic(auto)]
 
+mod chars;
 mod fault;
+mod lexer;
+mod number;
+mod token;
 
 pub use fault::{FormulaFault, What};

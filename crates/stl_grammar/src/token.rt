@@ -1,0 +1,46 @@
+use stl_syntax::Rel;
+
+/// A word of the grammar, which names no column.
+#[derive(Clone, Copy, Debug, PartialEq, Eq)]
+pub(crate) enum Keyword {
+    True,
+    False,
+    Not,
+    And,
+    Or,
+    Implies,
+    Until,
+    Since,
+    Eventually,
+    Always,
+    Once,
+    Historically,
+    Inf,
+}
+
+/// A token of a text; a name is told by its place.
+#[derive(Clone, Copy)]
+pub(crate) enum Token {
+    Keyword(Keyword),
+    Name { from: usize, to: usize },
+    /// A number, of which so many of the last digits are decimals.
+    Number { value: u32, decimals: u8 },
+    /// A number that passes every limit.
+    Large,
+    Relation(Rel),
+    OpenParen,
+    CloseParen,
+    OpenBracket,
+    CloseBracket,
+    Comma,
+    Star,
+    Plus,
+    Minus,
+}
+
+/// The first token of a text, and how many of its bytes it has.
+#[derive(Clone, Copy)]
+pub(crate) struct Lexeme {
+    pub(crate) token: Token,
+    pub(crate) len: usize,
+}
