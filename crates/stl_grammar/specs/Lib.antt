@@ -1,3 +1,4 @@
 pub mod Tokens
 pub mod Grammar
 pub mod FormulaRefusals
+pub mod Machine
