@@ -1,3 +1,5 @@
 pub mod GrammarExamples
 pub mod RefusalExamples
 pub mod RefusalLaw
+pub mod WordKinds
+pub mod MachineRuns
