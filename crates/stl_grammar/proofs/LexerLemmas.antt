@@ -1,17 +1,18 @@
 -- The first token of a text.
 use Rattle.std.proofs.Common.{◌≡◌, ℕ, suc, zero, ◌+◌, ◌-◌, ◌<◌, ◌≤◌, min, Bool, true, false, List, [], ◌∷◌, ◌++◌, length, take, drop, get_or, refl, sym, ap, ◌∙◌, arith, append_assoc}
-use Rattle.std.specs.Prelude.{◌==◌, MatchBool}
+use Rattle.std.specs.Prelude.{◌==◌, ◌||◌, nat_lt, nat_le, IsTrue, MatchBool}
 use Rattle.std.proofs.lemmas.Bool.{eqb-true}
 use Rattle.std.proofs.lemmas.Bool.Decides.{nat_tests}
 use Rattle.std.proofs.lemmas.List.{take-append-drop, drop_more, drop-drop, length-take-le, append-nil, take_at, take_all, length-drop}
 use Rattle.stl_syntax.specs.Characters.{is_digit, begins_word, goes_on_word, all, StopsAt, decimal_value, without_zeros, begins_decimals, is_among}
 use Rattle.stl_grammar.specs.Tokens.{Token, word, number, relation, decimal_number, IsToken, a_word, an_integer, a_decimal}
-use Rattle.stl_grammar.specs.Grammar.{reserved}
-use Rattle.stl_grammar.specs.Told.{Tells, TellsNumber, spelling, IsLexeme, has_equal}
+use Rattle.stl_syntax.specs.Names.{reserved, is_name}
+use Rattle.stl_grammar.specs.declared.decimal.Decimal.{Decimal}
+use Rattle.stl_grammar.specs.Told.{Tells, TellsNumber, IsNumber, IsLarge, spelling, IsLexeme, has_equal}
 use Rattle.stl_syntax.proofs.DecimalLemmas.{all-without_zeros}
 use Rattle.stl_grammar.specs.declared.token.Keyword.{Keyword}
 use Rattle.stl_grammar.specs.declared.token.Token.{Token as Code}
-use Rattle.stl_grammar.specs.declared.token.Token.TheVariants.{Keyword as IsKeyword, Number, Large, Relation, Name}
+use Rattle.stl_grammar.specs.declared.token.Token.TheVariants.{Keyword as IsKeyword, Number, Relation, Name}
 use Rattle.stl_grammar.proofs.NumberLemmas.{decimal_value-min, decimal_value-append}
 use Rattle.stl_syntax.specs.declared.rel.Rel.{Rel}
 
@@ -59,10 +60,13 @@ a_relation text (b ∷ d ∷ more) c strict weak code len l e h k m = rw e (by_s
     by_second false f m = strict_relation text (d ∷ more) c strict code len f k m
 
 -- the token of a number
-pub tells_number : (text : List ℕ) (v n k : ℕ) (code : Code) → min v 4294967296 ≡ min n 4294967296 → TellsNumber v k code → Tells text code (number n k)
-tells_number text v n k (Number a b) e h = let same : a ≡ n = omega (arith, e, h.0, h.2) in rw (same, h.1) refl
-tells_number text v n k Large e h = (n, k, refl, grind (arith, nat_tests, h, e))
-tells_number text v n k _ e h = absurd h
+pub tells_number : (v n k : ℕ) (d : Decimal) → min v 4294967296 ≡ min n 4294967296 → TellsNumber v k d → IsNumber d (number n k)
+tells_number v n k d e h = by_size (nat_le d.decimals 6) h
+  where
+    by_size : (q : Bool) → MatchBool q ((d.value ≡ v) × (d.decimals ≡ k) × (v < 4294967296)) (IsTrue (nat_lt 6 k || nat_lt 4294967295 v))
+        → MatchBool q (number n k ≡ number d.value d.decimals) (IsLarge (number n k))
+    by_size true h = let same : d.value ≡ n = omega (arith, e, h.0, h.2) in rw (same, h.1) refl
+    by_size false h = (n, k, refl, grind (arith, nat_tests, h, e))
 
 whole_token : (whole after : List ℕ) → 0 < length whole → all is_digit whole ≡ true → StopsAt is_digit after → begins_decimals after ≡ false
     → IsToken whole after (decimal_number whole [])
@@ -90,8 +94,8 @@ module _ (text rest : List ℕ) (w v : ℕ) (some : 0 < length rest) (first : is
   digits : 0 < length (take w rest)
   digits = omega (arith, length-take-le w rest within, front_some is_digit rest w some first stops)
 
-  pub whole_lexeme : (code : Code) → begins_decimals (drop w rest) ≡ false → TellsNumber v 0 code → IsLexeme text rest code w
-  whole_lexeme code b h =
+  pub whole_lexeme : (d : Decimal) → begins_decimals (drop w rest) ≡ false → TellsNumber v 0 d → IsLexeme text rest (Number d) w
+  whole_lexeme d b h =
       record {
         bytes = take w rest;
         after = drop w rest;
@@ -99,14 +103,14 @@ module _ (text rest : List ℕ) (w v : ℕ) (some : 0 < length rest) (first : is
         splits = sym (take-append-drop w rest);
         size = length-take-le w rest within;
         reads = whole_token (take w rest) (drop w rest) digits front stops b;
-        tells = tells_number text v _ 0 code (rw append-nil value) h;
+        tells = tells_number v _ 0 d (rw append-nil value) h;
       }
 
   -- with l decimals, of which k are kept
-  pub decimal_lexeme : (l k u : ℕ) (code : Code) → begins_decimals (drop w rest) ≡ true → l ≤ length (drop (w + 1) rest) → all is_digit (take l (drop (w + 1) rest)) ≡ true
+  pub decimal_lexeme : (l k u : ℕ) (d : Decimal) → begins_decimals (drop w rest) ≡ true → l ≤ length (drop (w + 1) rest) → all is_digit (take l (drop (w + 1) rest)) ≡ true
       → StopsAt is_digit (drop l (drop (w + 1) rest)) → k ≤ length (take l (drop (w + 1) rest)) → take k (take l (drop (w + 1) rest)) ≡ without_zeros (take l (drop (w + 1) rest))
-      → min u 4294967296 ≡ min (decimal_value v (take k (take l (drop (w + 1) rest)))) 4294967296 → TellsNumber u k code → IsLexeme text rest code (w + 1 + l)
-  decimal_lexeme l k u code b m f s n z e h =
+      → min u 4294967296 ≡ min (decimal_value v (take k (take l (drop (w + 1) rest)))) 4294967296 → TellsNumber u k d → IsLexeme text rest (Number d) (w + 1 + l)
+  decimal_lexeme l k u d b m f s n z e h =
       let p = point_at (drop w rest) b in
       let same : drop 1 (drop w rest) ≡ drop (w + 1) rest = drop-drop 1 w rest in
       let starts : drop w rest ≡ 46 ∷ drop (w + 1) rest = rw same at p.0 in
@@ -126,7 +130,7 @@ module _ (text rest : List ℕ) (w v : ℕ) (some : 0 < length rest) (first : is
             ∙ ap (λ xs. take w rest ++ 46 ∷ xs) (take-append-drop l (drop (w + 1) rest)) ∙ ap (λ xs. take w rest ++ xs) (sym starts) ∙ take-append-drop w rest);
         size = length_two (take w rest) fraction w l (length-take-le w rest within) size;
         reads = decimal_token (take w rest) fraction (drop l (drop (w + 1) rest)) digits (omega (arith, size, front_some is_digit (drop (w + 1) rest) l more digit s)) front f s;
-        tells = tells_number text u _ _ code exact (rw kept h);
+        tells = tells_number u _ _ d exact (rw kept h);
       }
     where
       length_two : (xs ys : List ℕ) (a b : ℕ) → length xs ≡ a → length ys ≡ b → length (xs ++ 46 ∷ ys) ≡ a + 1 + b
@@ -135,16 +139,16 @@ module _ (text rest : List ℕ) (w v : ℕ) (some : 0 < length rest) (first : is
       length_two (x ∷ xs) ys (suc a) b h k = omega (arith, length_two xs ys a b (omega (arith, h)) k)
 
   -- the same of slices that are these
-  pub decimal_lexeme_of : (others decimals : List ℕ) → others ≡ drop w rest → decimals ≡ drop 1 others → (l k u : ℕ) (code : Code)
+  pub decimal_lexeme_of : (others decimals : List ℕ) → others ≡ drop w rest → decimals ≡ drop 1 others → (l k u : ℕ) (d : Decimal)
       → begins_decimals others ≡ true → l ≤ length decimals → all is_digit (take l decimals) ≡ true → StopsAt is_digit (drop l decimals)
       → k ≤ length (take l decimals) → take k (take l decimals) ≡ without_zeros (take l decimals)
-      → min u 4294967296 ≡ min (decimal_value v (take k (take l decimals))) 4294967296 → TellsNumber u k code → IsLexeme text rest code (w + 1 + l)
-  decimal_lexeme_of others decimals o d l k u code b m f s n z e h =
-      let i : decimals ≡ drop (w + 1) rest = d ∙ ap (drop 1) o ∙ drop-drop 1 w rest in
-      decimal_lexeme l k u code (rw o at b) (rw i at m) (rw i at f) (rw i at s) (rw i at n) (rw i at z) (rw i at e) h
+      → min u 4294967296 ≡ min (decimal_value v (take k (take l decimals))) 4294967296 → TellsNumber u k d → IsLexeme text rest (Number d) (w + 1 + l)
+  decimal_lexeme_of others decimals o i l k u d b m f s n z e h =
+      let e' : decimals ≡ drop (w + 1) rest = i ∙ ap (drop 1) o ∙ drop-drop 1 w rest in
+      decimal_lexeme l k u d (rw o at b) (rw e' at m) (rw e' at f) (rw e' at s) (rw e' at n) (rw e' at z) (rw e' at e) h
 
-  pub whole_lexeme_of : (others : List ℕ) → others ≡ drop w rest → (code : Code) → begins_decimals others ≡ false → TellsNumber v 0 code → IsLexeme text rest code w
-  whole_lexeme_of others o code b h = whole_lexeme code (rw o at b) h
+  pub whole_lexeme_of : (others : List ℕ) → others ≡ drop w rest → (d : Decimal) → begins_decimals others ≡ false → TellsNumber v 0 d → IsLexeme text rest (Number d) w
+  whole_lexeme_of others o d b h = whole_lexeme d (rw o at b) h
 
 -- decimals that are kept are digits
 pub kept_digits : (fraction : List ℕ) (k : ℕ) → all is_digit fraction ≡ true → take k fraction ≡ without_zeros fraction → all is_digit (take k fraction) ≡ true
@@ -174,9 +178,13 @@ module _ (text : List ℕ) (at n : ℕ) (place : at < length text) (first : begi
       let e : at + (1 + n) - at ≡ 1 + n = omega arith in
       rw (e, splits) (take_at bytes (drop n more) (1 + n) size)
 
+  good_name : is_among bytes reserved ≡ false → IsTrue (is_name bytes)
+  unfolding bytes
+  good_name h = let e : goes_on_word (get_or text at 0) ≡ true = rw first refl in rw (first, front, h) refl
+
   pub keyword_lexeme : (w : Keyword) → take (at + (1 + n) - at) (drop at text) ≡ spelling w → IsLexeme text (drop at text) (IsKeyword w) (1 + n)
   keyword_lexeme w h = read (IsKeyword w) (ap word (sym cut ∙ h))
 
   pub name_lexeme : is_among (take (at + (1 + n) - at) (drop at text)) reserved ≡ false → IsLexeme text (drop at text) (Name at (at + (1 + n))) (1 + n)
   name_lexeme h =
-      read (Name at (at + (1 + n))) (bytes, refl, record { free = rw cut at h; after = drop n more; stands = splits; ends = omega (arith, size) })
+      read (Name at (at + (1 + n))) (bytes, refl, record { good = good_name (rw cut at h); after = drop n more; stands = splits; ends = omega (arith, size) })

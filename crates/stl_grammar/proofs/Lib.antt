@@ -3,3 +3,5 @@ pub mod RefusalExamples
 pub mod RefusalLaw
 pub mod NumberLemmas
 pub mod LexerLemmas
+pub mod WordKinds
+pub mod MachineRuns

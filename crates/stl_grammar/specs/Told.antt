@@ -1,12 +1,13 @@
 -- How the code tells tokens.
-use Rattle.std.specs.Prelude.{◌≡◌, ℕ, ◌+◌, ◌||◌, ◌==◌, ◌<◌, ◌≤◌, nat_lt, Bool, false, List, ◌∷◌, ◌++◌, length, drop, codes, IsTrue}
+use Rattle.std.specs.Prelude.{◌≡◌, ℕ, ◌+◌, ◌||◌, ◌==◌, ◌<◌, ◌≤◌, nat_lt, nat_le, MatchBool, Bool, false, List, ◌∷◌, ◌++◌, length, drop, codes, IsTrue}
 use Rattle.stl_syntax.specs.Characters.{is_among}
 use Rattle.stl_grammar.specs.Tokens.{Token, word, number, relation, open_paren, close_paren, open_bracket, close_bracket, comma, star, plus, minus, IsToken}
-use Rattle.stl_grammar.specs.Grammar.{reserved}
+use Rattle.stl_syntax.specs.Names.{is_name}
 use Rattle.stl_grammar.specs.declared.token.Keyword.{Keyword}
 use Rattle.stl_grammar.specs.declared.token.Keyword.TheVariants.{True, False, Not, And, Or, Implies, Until, Since, Eventually, Always, Once, Historically, Inf}
+use Rattle.stl_grammar.specs.declared.decimal.Decimal.{Decimal}
 use Rattle.stl_grammar.specs.declared.token.Token.{Token as Code}
-use Rattle.stl_grammar.specs.declared.token.Token.TheVariants.{Keyword as IsKeyword, Name, Number, Large, Relation, OpenParen, CloseParen, OpenBracket, CloseBracket, Comma, Star, Plus, Minus}
+use Rattle.stl_grammar.specs.declared.token.Token.TheVariants.{Keyword as IsKeyword, Name, Number, Relation, OpenParen, CloseParen, OpenBracket, CloseBracket, Comma, Star, Plus, Minus}
 
 -- how a word of the grammar is spelled
 abbrev pub spelling : Keyword → List ℕ
@@ -26,7 +27,7 @@ spelling Inf = codes "inf"
 
 -- a name that stands in the text from one place up to another
 pub record IsNameAt (text : List ℕ) (from to : ℕ) (name : List ℕ) : Type 0 where
-  pub free : is_among name reserved ≡ false
+  pub good : IsTrue (is_name name)
   pub after : List ℕ
   pub stands : drop from text ≡ name ++ after
   pub ends : from + length name ≡ to
@@ -35,12 +36,15 @@ pub record IsNameAt (text : List ℕ) (from to : ℕ) (name : List ℕ) : Type 0
 abbrev pub IsLarge : Token → Type 0
 IsLarge t = (n : ℕ) × (k : ℕ) × (t ≡ number n k) × IsTrue (nat_lt 6 k || nat_lt 4294967295 n)
 
+-- the token of a number; one of 7 decimals stands for a large one
+abbrev pub IsNumber : Decimal → Token → Type 0
+IsNumber d t = MatchBool (nat_le d.decimals 6) (t ≡ number d.value d.decimals) (IsLarge t)
+
 -- the token that the code tells, in this text
 abbrev pub Tells : List ℕ → Code → Token → Type 0
 Tells text (IsKeyword w) t = t ≡ word (spelling w)
 Tells text (Name from to) t = (name : List ℕ) × (t ≡ word name) × IsNameAt text from to name
-Tells text (Number n k) t = t ≡ number n k
-Tells text Large t = IsLarge t
+Tells text (Number d) t = IsNumber d t
 Tells text (Relation r) t = t ≡ relation r
 Tells text OpenParen t = t ≡ open_paren
 Tells text CloseParen t = t ≡ close_paren
@@ -52,10 +56,15 @@ Tells text Plus t = t ≡ plus
 Tells text Minus t = t ≡ minus
 
 -- the code tells a number: the value, and how many of its last digits are decimals
-abbrev pub TellsNumber : ℕ → ℕ → Code → Type 0
-TellsNumber value decimals (Number n k) = (n ≡ value) × (k ≡ decimals) × (value < 4294967296) × (decimals ≤ 6)
-TellsNumber value decimals Large = IsTrue (nat_lt 6 decimals || nat_lt 4294967295 value)
-TellsNumber value decimals _ = ⊥
+abbrev pub TellsNumber : ℕ → ℕ → Decimal → Type 0
+TellsNumber value decimals d = MatchBool (nat_le d.decimals 6)
+    ((d.value ≡ value) × (d.decimals ≡ decimals) × (value < 4294967296))
+    (IsTrue (nat_lt 6 decimals || nat_lt 4294967295 value))
+
+-- the second byte is =
+abbrev pub has_equal : List ℕ → Bool
+has_equal (c ∷ d ∷ more) = d == 61
+has_equal rest = false
 
 -- the code tells the first token of `rest`, which has so many bytes
 pub record IsLexeme (text rest : List ℕ) (code : Code) (len : ℕ) : Type 0 where
@@ -66,8 +75,3 @@ pub record IsLexeme (text rest : List ℕ) (code : Code) (len : ℕ) : Type 0 wh
   pub size : length bytes ≡ len
   pub reads : IsToken bytes after token
   pub tells : Tells text code token
-
--- the second byte is =
-abbrev pub has_equal : List ℕ → Bool
-has_equal (c ∷ d ∷ more) = d == 61
-has_equal rest = false

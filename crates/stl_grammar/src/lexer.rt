@@ -57,7 +57,7 @@ fn number_lexeme(rest: &[u8]) -> Lexeme
     let others = &rest[whole..];
     if !begins_decimals(others) {
         return Lexeme {
-            token: number(value, 0),
+            token: Token::Number(number(value, 0)),
             len: whole,
         };
     }
@@ -66,7 +66,7 @@ fn number_lexeme(rest: &[u8]) -> Lexeme
     let fraction = &decimals[..len];
     let kept = kept_decimals(fraction);
     Lexeme {
-        token: number(value_after(value, &fraction[..kept]), kept),
+        token: Token::Number(number(value_after(value, &fraction[..kept]), kept)),
         len: whole + 1 + len,
     }
 }

@@ -2,6 +2,7 @@
 #![tactic(auto)]
 
 mod chars;
+mod decimal;
 mod fault;
 mod lexer;
 mod number;

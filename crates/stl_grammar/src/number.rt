@@ -3,7 +3,7 @@ ghost use Rattle.stl_syntax.specs.Characters.{is_digit, all, decimal_value, with
 ghost use Rattle.stl_grammar.specs.Told.{TellsNumber};
 
 use crate::chars;
-use crate::token::Token;
+use crate::decimal::Decimal;
 
 /// A number above all that a formula may have; a value that reached it is not told exactly.
 const BEYOND: u64 = 4_294_967_296;
@@ -47,14 +47,17 @@ pub(crate) fn begins_decimals(text: &[u8]) -> bool
     }
 }
 
-/// The token of a number with so many decimals.
-pub(crate) fn number(value: u64, decimals: usize) -> Token
+/// The number with this value and so many decimals.
+pub(crate) fn number(value: u64, decimals: usize) -> Decimal
     ensures { TellsNumber value decimals result }
 {
     if value >= BEYOND || decimals > MOST_DECIMALS {
-        return Token::Large;
+        return Decimal {
+            value: 0,
+            decimals: 7,
+        };
     }
-    Token::Number {
+    Decimal {
         value: value as u32,
         decimals: decimals as u8,
     }

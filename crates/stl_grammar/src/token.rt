@@ -1,7 +1,8 @@
+use crate::decimal::Decimal;
 use stl_syntax::Rel;
 
 /// A word of the grammar, which names no column.
-#[derive(Clone, Copy, Debug, PartialEq, Eq)]
+#[derive(Clone, Copy)]
 pub(crate) enum Keyword {
     True,
     False,
@@ -23,10 +24,7 @@ pub(crate) enum Keyword {
 pub(crate) enum Token {
     Keyword(Keyword),
     Name { from: usize, to: usize },
-    /// A number, of which so many of the last digits are decimals.
-    Number { value: u32, decimals: u8 },
-    /// A number that passes every limit.
-    Large,
+    Number(Decimal),
     Relation(Rel),
     OpenParen,
     CloseParen,
