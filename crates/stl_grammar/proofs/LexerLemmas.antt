@@ -1,6 +1,7 @@
 -- The first token of a text.
-use Rattle.std.proofs.Common.{◌≡◌, ℕ, suc, zero, ◌+◌, ◌-◌, ◌<◌, ◌≤◌, min, Bool, true, false, List, [], ◌∷◌, ◌++◌, length, take, drop, get_or, refl, sym, ap, ◌∙◌, arith, append_assoc}
+use Rattle.std.proofs.Common.{◌≡◌, ℕ, suc, zero, ◌+◌, ◌-◌, ◌<◌, ◌≤◌, min, Bool, true, false, List, [], ◌∷◌, ◌++◌, lit<, length, take, drop, get_or, refl, sym, ap, ◌∙◌, arith, append_assoc}
 use Rattle.std.specs.Prelude.{◌==◌, ◌||◌, nat_lt, nat_le, IsTrue, MatchBool}
+use Rattle.std.specs.Str.{IsAscii}
 use Rattle.std.proofs.lemmas.Bool.{eqb-true}
 use Rattle.std.proofs.lemmas.Bool.Decides.{nat_tests}
 use Rattle.std.proofs.lemmas.List.{take-append-drop, drop_more, drop-drop, length-take-le, append-nil, take_at, take_all, length-drop}
@@ -188,3 +189,21 @@ module _ (text : List ℕ) (at n : ℕ) (place : at < length text) (first : begi
   pub name_lexeme : is_among (take (at + (1 + n) - at) (drop at text)) reserved ≡ false → IsLexeme text (drop at text) (Name at (at + (1 + n))) (1 + n)
   name_lexeme h =
       read (Name at (at + (1 + n))) (bytes, refl, record { good = good_name (rw cut at h); after = drop n more; stands = splits; ends = omega (arith, size) })
+
+word_ascii : (c : ℕ) → goes_on_word c ≡ true → c < 128
+word_ascii c h = grind (arith, nat_tests, h)
+
+words_ascii : (text : List ℕ) → all goes_on_word text ≡ true → (i : ℕ) → get_or text i 0 < 128
+words_ascii [] h i = lit< tt
+words_ascii (c ∷ text) h zero = word_ascii c (let a : goes_on_word c ≡ true = grind (arith, h) in a)
+words_ascii (c ∷ text) h (suc i) = words_ascii text (let a : all goes_on_word text ≡ true = grind (arith, h) in a) i
+
+begins_goes_on : (c : ℕ) → begins_word c ≡ true → goes_on_word c ≡ true
+begins_goes_on c h = rw h refl
+
+-- a name is of ASCII bytes
+pub name_ascii : (text : List ℕ) → IsTrue (is_name text) → IsAscii text
+name_ascii [] h = absurd (cc)
+name_ascii (c ∷ rest) h =
+    let a : begins_word c ≡ true = grind (arith, h) in let b : all goes_on_word rest ≡ true = grind (arith, h) in
+    words_ascii (c ∷ rest) (rw (begins_goes_on c a, b) refl)

@@ -3,3 +3,5 @@ pub mod Grammar
 pub mod FormulaRefusals
 pub mod Told
 pub mod Machine
+pub mod Sums
+pub mod Parsing

@@ -3,9 +3,14 @@
 
 mod chars;
 mod decimal;
+mod draft;
 mod fault;
+mod frames;
 mod lexer;
 mod number;
+mod parser;
+mod place;
+mod shapes;
 mod token;
 
 pub use fault::{FormulaFault, What};
