@@ -5,3 +5,4 @@ pub mod NumberLemmas
 pub mod LexerLemmas
 pub mod WordKinds
 pub mod MachineRuns
+pub mod FrameLemmas

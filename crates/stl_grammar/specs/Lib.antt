@@ -5,3 +5,4 @@ pub mod Told
 pub mod Machine
 pub mod Sums
 pub mod Parsing
+pub mod Judging

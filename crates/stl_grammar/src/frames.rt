@@ -1,4 +1,6 @@
-ghost use Rattle.std.specs.Prelude.{◌≡◌, ◌≤◌, ◌<◌, ◌∷◌, [], IfOk, MatchOption};
+ghost use Rattle.std.specs.Prelude.{◌≡◌, ◌≤◌, ◌<◌, ◌∷◌, [], length, IfOk, MatchOption};
+ghost use Rattle.stl_grammar.specs.Judging.{marks_of, marks_in, parens_in};
+ghost use Rattle.stl_grammar.specs.Machine.{in_paren};
 ghost use Rattle.stl_grammar.specs.Parsing.{infix_rank, top_rank, rank as frame_rank};
 
 use crate::draft::{Frame, Infix};
@@ -9,15 +11,20 @@ use std::marker::Model;
 #[derive(Drop)]
 pub(crate) struct Frames {
     frames: Vec<Frame>,
+    pending: usize,
+    parens: usize,
 }
 
 impl Model for Frames {
     ghost use Rattle.std.specs.Prelude.{List, reverse};
     ghost use Rattle.stl_grammar.specs.declared.draft.Frame.{Frame};
+    ghost use Rattle.stl_grammar.specs.Judging.{AreCounted};
 
     ghost Value = { List Frame };
 
     ghost view = { λ f. reverse f.frames.items };
+
+    ghost invariant = { λ f. AreCounted f.pending f.parens (reverse f.frames.items) };
 }
 
 /// How tightly a two-operand operator binds.
@@ -43,12 +50,37 @@ fn rank(frame: Frame) -> u8
     }
 }
 
+/// How many of what is open may be at most 64: one, but none for `and`, `or`, `until` and `since`.
+fn marks(frame: Frame) -> usize
+    ensures { result ≡ marks_in frame }
+{
+    match frame {
+        Frame::Paren | Frame::Prefix(_) => 1,
+        Frame::Infix { operator, .. } => match operator {
+            Infix::Implies => 1,
+            _ => 0,
+        },
+    }
+}
+
+/// How many of what is open are parentheses.
+fn parens(frame: Frame) -> usize
+    ensures { result ≡ parens_in frame }
+{
+    match frame {
+        Frame::Paren => 1,
+        _ => 0,
+    }
+}
+
 impl Frames {
     pub(crate) fn new(alloc: Global) -> Frames
         ensures { result ≡ [] }
     {
         Frames {
             frames: Vec::new(alloc),
+            pending: 0,
+            parens: 0,
         }
     }
 
@@ -56,7 +88,24 @@ impl Frames {
         ensures { IfOk result (λ _. self.new ≡ frame ∷ self.old) }
     {
         self.frames.push(frame)?;
+        prove!(self.frames.len() > 0);
+        self.pending += marks(frame);
+        self.parens += parens(frame);
         Ok(())
+    }
+
+    /// How many are pending: parentheses, one-operand operators and `implies`.
+    pub(crate) fn pending(&self) -> usize
+        ensures { result ≡ length (marks_of self.now) }
+    {
+        self.pending
+    }
+
+    /// Whether a parenthesis is open.
+    pub(crate) fn has_paren(&self) -> bool
+        ensures { result ≡ in_paren (marks_of self.now) }
+    {
+        self.parens > 0
     }
 
     /// How tightly the last one binds.
@@ -73,7 +122,10 @@ impl Frames {
     pub(crate) fn pop(&mut self) -> Option<Frame>
         ensures { MatchOption result ((self.old ≡ []) × (self.new ≡ [])) (λ f. self.old ≡ f ∷ self.new) }
     {
-        self.frames.pop()
+        let frame = self.frames.pop()?;
+        self.pending -= marks(frame);
+        self.parens -= parens(frame);
+        Some(frame)
     }
 
     /// Takes the last one away, where it binds at least so tightly.
@@ -85,6 +137,6 @@ impl Frames {
         if rank(*self.frames.last()?) < least {
             return None;
         }
-        self.frames.pop()
+        self.pop()
     }
 }
