@@ -3,3 +3,4 @@ pub mod RefusalExamples
 pub mod RefusalLaw
 pub mod WordKinds
 pub mod MachineRuns
+pub mod MachineBegins
