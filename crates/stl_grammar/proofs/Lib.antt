@@ -4,3 +4,4 @@ pub mod RefusalLaw
 pub mod WordKinds
 pub mod MachineRuns
 pub mod MachineBegins
+pub mod MachineView
