@@ -6,3 +6,5 @@ pub mod LexerLemmas
 pub mod WordKinds
 pub mod MachineRuns
 pub mod FrameLemmas
+pub mod MachineBegins
+pub mod MachineView

@@ -1,6 +1,6 @@
 -- The machine reads every formula.
-use Rattle.std.proofs.Common.{◌≡◌, ℕ, suc, ◌+◌, List, [], ◌∷◌, ◌++◌, length, refl, ap, ◌∙◌, Bool, true, false, arith, append_assoc, length-append}
-use Rattle.std.specs.Prelude.{codes, reverse, Option, Some}
+use Rattle.std.proofs.Common.{◌≡◌, ℕ, suc, ◌+◌, List, [], ◌∷◌, ◌++◌, length, refl, ap, sym, ◌∙◌, Bool, true, false, arith, append_assoc, length-append}
+use Rattle.std.specs.Prelude.{codes, reverse, Option, Some, None}
 use Rattle.std.proofs.lemmas.List.{reverse-append}
 use Rattle.stl_syntax.specs.declared.scale.Scale.{Scale}
 use Rattle.stl_syntax.specs.declared.node.Node.{Node}
@@ -11,7 +11,8 @@ use Rattle.stl_grammar.specs.Grammar.{name as term_name, none as no_terms}
 use Rattle.stl_grammar.specs.Grammar.{IsFutureWindow, bound, IsPastWindow, nothing, bounded, unbounded, IsFuture, IsPast}
 use Rattle.stl_grammar.specs.Grammar.IsPast.{nothing as since_nothing, bounded as since_bounded, unbounded as since_unbounded}
 use Rattle.stl_grammar.specs.Grammar.{IsFormula, IsDisjunct, IsConjunct, IsTimed, IsOperand, disjunct, implies, conjunct, or, timed, and, operand, until, since, not, eventually, always, once, historically, always_true, always_false, parens, atom}
-use Rattle.stl_grammar.specs.Machine.{kind, Owner, of_until, of_since, of_future, of_past, looks_back, Place, at_operand, at_bound, at_term, at_sign, at_constant, at_end, Mark, paren, operator, implication, State, start, without_operators, closed, step_from, run, in_paren}
+use Rattle.stl_grammar.specs.Machine.{kind, Owner, of_until, of_since, of_future, of_past, looks_back, Place, at_operand, at_bound, at_term, at_sign, at_constant, at_end, Mark, paren, operator, implication, State, start, without_operators, closed, step, step_from, run, in_paren, ends_at}
+use Rattle.stl_grammar.specs.FormulaRefusals.{MayBegin, MayEnd}
 use Rattle.stl_grammar.proofs.WordKinds.{name_kind}
 
 -- the state after tokens, the first one first
@@ -273,3 +274,37 @@ mutual
       go_then (st at_operand false (paren h ∷ marks) n) (st at_end r.0 r.1 (n + length ns)) (st at_end h (without_operators marks) (n + length ns)) ts (close_paren ∷ []) r.3
       (implied_closes r.2 (n + length ns))
   operand_runs (atom a) h marks n = atom_runs a h marks n ∙ count_is at_end h (without_operators marks) _ _ (omega arith)
+
+go_none : (ts : List Token) → go None ts ≡ None
+go_none [] = refl
+go_none (t ∷ ts) = go_none ts
+
+-- where the machine stops, no formula begins so
+pub run_stops : (before : List Token) → run before ≡ None → ¬ MayBegin before
+run_stops before e m =
+    let r = formula_runs m.2 [] 0 in
+    let z : go (Some start) (reverse before ++ m.0) ≡ None = go_append (Some start) (reverse before) m.0 ∙ (ap (λ o. go o m.0) (sym (run_go before) ∙ e) ∙ go_none m.0) in
+    cc (r.3)
+
+pub step_stops : (before : List Token) (s : State) (t : Token) → run before ≡ Some s → step s t ≡ None → ¬ MayBegin (t ∷ before)
+step_stops before s t e f = run_stops (t ∷ before) (ap (λ o. step_from o t) e ∙ f)
+
+-- at the end of a formula an operand has ended outside parentheses
+formula_state : (before : List Token) (s : State) → run before ≡ Some s → {c : Scale} {nodes : List Node} → IsFormula c 0 (reverse before) nodes
+    → (ends_at s.place s.marks ≡ true) × (s.nodes ≡ length nodes)
+formula_state before s e {c} {nodes} f =
+    let r = formula_runs f [] 0 in
+    let x : Some s ≡ st at_end r.0 r.1 (0 + length nodes) = sym e ∙ (run_go before ∙ r.3) in
+    let y : s ≡ record { place = at_end; had = r.0; marks = r.1; nodes = 0 + length nodes } = cc in
+    let z : in_paren r.1 ≡ false = implied_nothing r.2 in
+    (rw (y, z) refl, rw y (omega arith))
+
+pub run_goes_on : (before : List Token) (s : State) → run before ≡ Some s → ends_at s.place s.marks ≡ false → ¬ MayEnd before
+run_goes_on before s e f m = let x = formula_state before s e m.1 in cc (x.0)
+
+-- a formula's tokens make as many nodes as it has
+pub formula_nodes : (before : List Token) (s : State) → run before ≡ Some s → {c : Scale} {nodes : List Node} → IsFormula c 0 (reverse before) nodes → s.nodes ≡ length nodes
+formula_nodes before s e f = (formula_state before s e f).1
+
+pub step_runs : (before : List Token) (s : State) (t : Token) → run before ≡ Some s → run (t ∷ before) ≡ step s t
+step_runs before s t e = ap (λ o. step_from o t) e
