@@ -6,6 +6,7 @@ mod decimal;
 mod draft;
 mod fault;
 mod frames;
+mod judge;
 mod lexer;
 mod number;
 mod parser;
