@@ -181,15 +181,16 @@ abbrev pub disorder_in : Place → Token → Bool
 disorder_in (High of low_in low) (Number d) = nat_lt (d.value * 10 ^ low.decimals) (low.value * 10 ^ d.decimals)
 disorder_in place t = false
 
+-- the refusals of a token that come last
+abbrev pub late_in : Place → ℕ → Token → ℕ → Option FormulaFault
+late_in place n t at =
+    if fifth_in place n t then Some (TooManyTerms at) else if bad_in place t then Some (BadNumber at) else if disorder_in place t then Some (BoundOrder at) else None
+
 -- the refusal after a step
 abbrev pub refused_after : Parse → Token → ℕ → Option Parse → Option FormulaFault
 refused_after p t at None = Some (Expected at (expected_in p))
 refused_after p t at (Some q) =
-    if nat_lt 64 (depth_of q) then Some (TooDeep at)
-    else if nat_lt 256 q.made then Some (TooManyNodes at)
-    else if fifth_in p.place (length p.terms) t then Some (TooManyTerms at)
-    else if bad_in p.place t then Some (BadNumber at)
-    else if disorder_in p.place t then Some (BoundOrder at) else None
+    if nat_lt 64 (depth_of q) then Some (TooDeep at) else if nat_lt 256 q.made then Some (TooManyNodes at) else late_in p.place (length p.terms) t at
 
 -- the refusal of a token at a place, before the rest of the text
 abbrev pub refused : List ℕ → Parse → Token → List ℕ → ℕ → Option FormulaFault

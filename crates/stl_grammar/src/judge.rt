@@ -1,17 +1,15 @@
 ghost use Rattle.std.specs.Prelude.{◌≡◌, ◌⊎◌, ◌≤◌, ◌<◌, ◌*◌, ◌^◌, length, nat_lt, not, true, false, Some, None, MatchResult};
 ghost use Rattle.stl_grammar.specs.FormulaRefusals.{opens_bound as begins_bound, passes_limit};
+ghost use Rattle.stl_grammar.specs.Parsing.{parse_step, IsKnown};
 ghost use Rattle.stl_grammar.specs.Told.{spelling};
-ghost use Rattle.stl_grammar.specs.Judging.{bad_in, disorder_in, future_in, is_beside as stands_beside, back_is_beside as back_beside, in_bound as bound_at};
+ghost use Rattle.stl_grammar.specs.Judging.{bad_in, disorder_in, fifth_in, late_in, refused, unbounded_in, future_in};
 
 use crate::chars::is_blank;
 use crate::decimal::Decimal;
 use crate::fault::{FormulaFault, What};
 use crate::parser::Parser;
-use crate::place::{Back, Place, Timed};
+use crate::place::{Place, Timed};
 use crate::token::{Keyword, Token};
-
-/// How much may be pending.
-const MOST_PENDING: usize = 64;
 
 /// How many nodes a formula may have.
 const MOST_NODES: u32 = 256;
@@ -100,37 +98,79 @@ fn is_out_of_order(place: Place, token: Token) -> bool
     }
 }
 
-/// Whether the operator stands beside an operand.
-fn is_beside(of: Timed) -> bool
-    ensures { result ≡ stands_beside of }
+/// Whether the token is an operator that looks ahead without a bound, or the end of its bound that is infinite.
+fn is_unbounded(place: Place, token: Token, rest: &[u8]) -> bool
+    ensures { result ≡ unbounded_in place token rest.now }
 {
-    match of {
-        Timed::Until | Timed::Since => true,
+    match token {
+        Token::Keyword(word) => match word {
+            Keyword::Until | Keyword::Eventually | Keyword::Always => !opens_bound(word, rest),
+            Keyword::Inf => is_future_end(place),
+            _ => false,
+        },
         _ => false,
     }
 }
 
-/// Whether the operator that looks back stands beside an operand.
-fn back_is_beside(of: Back) -> bool
-    ensures { result ≡ back_beside of }
+/// Whether the token is a sign after the fourth term.
+fn begins_fifth_term(place: Place, terms: usize, token: Token) -> bool
+    ensures { result ≡ fifth_in place terms token }
 {
-    match of {
-        Back::Since => true,
+    match (place, token) {
+        (Place::Sign, Token::Plus | Token::Minus) => terms == MOST_TERMS,
         _ => false,
     }
 }
 
-/// In a bound, whether it is that of an operator beside an operand.
-fn in_bound(place: Place) -> Option<bool>
-    ensures { result ≡ bound_at place }
+/// The refusals that are tried last.
+fn late_fault(place: Place, terms: usize, token: Token, at: u32) -> Option<FormulaFault>
+    ensures { result ≡ late_in place terms token at }
 {
-    match place {
-        Place::Bound { of }
-        | Place::Low { of, .. }
-        | Place::Comma { of, .. }
-        | Place::High { of, .. }
-        | Place::Closing { of, .. } => Some(is_beside(of)),
-        Place::ClosingInf { of, .. } => Some(back_is_beside(of)),
-        _ => None,
+    if begins_fifth_term(place, terms, token) {
+        return Some(FormulaFault::TooManyTerms { at });
+    }
+    if is_bad_number(place, token) {
+        return Some(FormulaFault::BadNumber { at });
+    }
+    if is_out_of_order(place, token) {
+        return Some(FormulaFault::BoundOrder { at });
+    }
+    None
+}
+
+/// Takes a token at place `at` of the text, before the rest of it, or refuses it.
+pub(crate) fn take(
+    parser: &mut Parser,
+    text: &[u8],
+    token: Token,
+    rest: &[u8],
+    at: u32,
+) -> Result<(), FormulaFault>
+    requires made { parser.old.made ≤ 256 }
+    requires known { IsKnown text.now token }
+    ensures { MatchResult result
+        (λ _. (refused text.now parser.old token rest.now at ≡ None) × (parse_step text.now parser.old token ≡ Some parser.new))
+        (λ e. (e ≡ FormulaFault.Memory) ⊎ (refused text.now parser.old token rest.now at ≡ Some e)) }
+{
+    let place = parser.place();
+    if is_unbounded(place, token, rest) {
+        return Err(FormulaFault::UnboundedFuture { at });
+    }
+    let what = parser.expected();
+    let late = late_fault(place, parser.terms(), token, at);
+    match parser.step(text, token) {
+        Ok(true) => {}
+        Ok(false) => return Err(FormulaFault::Expected { at, what }),
+        Err(_) => return Err(FormulaFault::Memory),
+    }
+    if parser.is_too_deep() {
+        return Err(FormulaFault::TooDeep { at });
+    }
+    if parser.made() > MOST_NODES {
+        return Err(FormulaFault::TooManyNodes { at });
+    }
+    match late {
+        Some(fault) => Err(fault),
+        None => Ok(()),
     }
 }

@@ -4,16 +4,20 @@ ghost use Rattle.stl_grammar.specs.Parsing.{signed, between, may_be_open as may_
 
 use crate::decimal::Decimal;
 use crate::draft::{Draft, Frame, Infix, Past, Prefix, Sum, Window};
+use crate::fault::What;
 use crate::frames::Frames;
 use crate::place::{Back, Place, Timed};
 use crate::shapes::{
-    back, back_frame, bounded_frame, closing, coefficient, may_be_open, next_place, opening,
-    past_may_be_open, settle,
+    back, back_frame, bounded_frame, closing, coefficient, in_bound, may_be_open, next_place,
+    opening, past_may_be_open, settle,
 };
 use crate::token::{Keyword, Token};
 use std::alloc::{AllocError, Global};
 use std::marker::Model;
 use stl_syntax::{Rel, Term};
+
+/// How much may be pending.
+const MOST_PENDING: usize = 64;
 
 /// A parser of tokens, which reads them once, from the left.
 #[derive(Drop)]
@@ -61,7 +65,9 @@ fn make_term(
 }
 
 impl Parser {
-    ghost use Rattle.std.specs.Prelude.{List, ℕ, suc, Some, None, MatchBool, true, false, take, drop};
+    ghost use Rattle.std.specs.Prelude.{List, ℕ, suc, Some, None, MatchBool, true, false, take, drop, nat_lt};
+    ghost use Rattle.stl_grammar.specs.Judging.{depth_of, expected_in, place_at, marks_of};
+    ghost use Rattle.stl_grammar.specs.Machine.{ends_at};
     ghost use Rattle.stl_grammar.specs.Parsing.{Parse, settled, moved, begun, opened as opened_by, completed, with_term, begin_keyword as keyword_begins, begin_operand as operand_begins, begin_bound as bound_begins, end_bound as bound_ends, end_atom as atom_ends, joined as joined_by, closed, after_keyword as keyword_after, after_operand as operand_after, move_to as moves_to, step_constant as constant_step, step_term as term_step, parse_step, Gives, IsKnown, back_frame as frame_back, bounded_frame as frame_of, next_place as place_after, opening as opening_of, closing as closing_of};
 
     /// Before the first token.
@@ -75,6 +81,71 @@ impl Parser {
             drafts: Vec::new(alloc),
             terms: Vec::new(alloc),
             made: 0,
+        }
+    }
+
+    /// What comes next.
+    pub(crate) fn place(&self) -> Place
+        ensures { result ≡ self.now.place }
+    {
+        self.place
+    }
+
+    /// How many terms the atom has so far.
+    pub(crate) fn terms(&self) -> usize
+        ensures { result ≡ length self.now.terms }
+    {
+        self.terms.len()
+    }
+
+    /// How many nodes were begun.
+    pub(crate) fn made(&self) -> u32
+        ensures { result ≡ self.now.made }
+    {
+        self.made
+    }
+
+    /// Whether more than 64 parentheses, one-operand operators and `implies` are pending.
+    pub(crate) fn is_too_deep(&self) -> bool
+        ensures { result ≡ nat_lt 64 (depth_of self.now) }
+    {
+        match in_bound(self.place) {
+            Some(false) => self.frames.pending() >= MOST_PENDING,
+            _ => self.frames.pending() > MOST_PENDING,
+        }
+    }
+
+    /// What is expected.
+    pub(crate) fn expected(&self) -> What
+        ensures { result ≡ expected_in self.now }
+    {
+        match self.place {
+            Place::Operand | Place::Bound { .. } => What::Operand,
+            Place::Low { .. } | Place::High { .. } => What::Number,
+            Place::Comma { .. } => What::Comma,
+            Place::Closing { .. } | Place::ClosingInf { .. } => What::Bracket,
+            Place::Term { .. } => What::Term,
+            Place::Star { .. } => What::Star,
+            Place::Name { .. } => What::Name,
+            Place::Sign => What::Relation,
+            Place::Constant { .. } | Place::Number { .. } => What::Constant,
+            Place::End => {
+                if self.frames.has_paren() {
+                    What::Paren
+                } else {
+                    What::End
+                }
+            }
+        }
+    }
+
+    /// Whether the tokens so far are a formula.
+    pub(crate) fn is_whole(&self) -> bool
+        ensures { result ≡ ends_at (place_at self.now.place (length self.now.terms)) (marks_of self.now.frames) }
+    {
+        match self.place {
+            Place::End => !self.frames.has_paren(),
+            _ => false,
         }
     }
 

@@ -1,4 +1,5 @@
 ghost use Rattle.std.specs.Prelude.{◌≡◌, ◌<◌, ◌≤◌, IfOk};
+ghost use Rattle.stl_grammar.specs.Judging.{is_beside as stands_beside, back_is_beside as back_beside, in_bound as bound_at};
 ghost use Rattle.stl_grammar.specs.Parsing.{rank, back as back_of, may_be_open as may_be_out, back_may_be_open, opening as opening_of, closing as closing_of, bounded_frame as frame_of, back_frame as frame_back, next_place as place_after, coefficient as coefficient_of, node_of_frame, settled_frames, settled_drafts};
 
 use crate::decimal::Decimal;
@@ -173,4 +174,39 @@ pub(crate) fn settle(
         drafts.push(node_of(frame, last))?;
     }
     Ok(())
+}
+
+/// Whether the operator stands beside an operand.
+fn is_beside(of: Timed) -> bool
+    ensures { result ≡ stands_beside of }
+{
+    match of {
+        Timed::Until | Timed::Since => true,
+        _ => false,
+    }
+}
+
+/// Whether the operator that looks back stands beside an operand.
+fn back_is_beside(of: Back) -> bool
+    ensures { result ≡ back_beside of }
+{
+    match of {
+        Back::Since => true,
+        _ => false,
+    }
+}
+
+/// In a bound, whether it is that of an operator beside an operand.
+pub(crate) fn in_bound(place: Place) -> Option<bool>
+    ensures { result ≡ bound_at place }
+{
+    match place {
+        Place::Bound { of }
+        | Place::Low { of, .. }
+        | Place::Comma { of, .. }
+        | Place::High { of, .. }
+        | Place::Closing { of, .. } => Some(is_beside(of)),
+        Place::ClosingInf { of, .. } => Some(back_is_beside(of)),
+        _ => None,
+    }
 }
