@@ -8,3 +8,4 @@ pub mod MachineRuns
 pub mod FrameLemmas
 pub mod MachineBegins
 pub mod MachineView
+pub mod ParserView
