@@ -9,3 +9,4 @@ pub mod FrameLemmas
 pub mod MachineBegins
 pub mod MachineView
 pub mod ParserView
+pub mod ParserFit

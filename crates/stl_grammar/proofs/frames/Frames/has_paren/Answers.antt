@@ -1,4 +1,4 @@
-use Rattle.stl_grammar.proofs.ParserView.{view_step}
+use Rattle.stl_grammar.proofs.ParserFit.{fit_step}
 use Rattle.std.proofs.Common.{◌≡◌, ◌∙◌, ap}
 use Rattle.std.specs.Prelude.{nat_lt}
 use Rattle.stl_grammar.proofs.FrameLemmas.{paren_counted}
