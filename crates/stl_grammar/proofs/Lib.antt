@@ -5,3 +5,4 @@ pub mod WordKinds
 pub mod MachineRuns
 pub mod MachineBegins
 pub mod MachineView
+pub mod OneParse
