@@ -6,3 +6,4 @@ pub mod MachineRuns
 pub mod MachineBegins
 pub mod MachineView
 pub mod OneParse
+pub mod LawProofs

@@ -178,8 +178,8 @@ hole_and pre ts h t = record {
   forms = h.forms;
   disjuncts = h.disjuncts;
   conjuncts = λ us u.
-    let e : h.c ++ (ts ++ word (codes "and") ∷ []) ++ us ≡ h.c ++ ts ++ word (codes "and") ∷ us = simp append_assoc in
-    rw e (an_and (h.c ++ ts) us (h.conjuncts ts t) u);
+      let e : h.c ++ (ts ++ word (codes "and") ∷ []) ++ us ≡ h.c ++ ts ++ word (codes "and") ∷ us = simp append_assoc in
+      rw e (an_and (h.c ++ ts) us (h.conjuncts ts t) u);
 }
 
 hole_or : (pre ts : List Token) → TimedHole pre → ATimed ts → TimedHole (pre ++ (ts ++ word (codes "or") ∷ []))
@@ -190,8 +190,8 @@ hole_or pre ts h t = record {
   is = rw h.is (simp (append_assoc, append-nil {A = Token}));
   forms = h.forms;
   disjuncts = λ us u.
-    let e : h.p ++ (h.c ++ (ts ++ word (codes "or") ∷ [])) ++ us ≡ h.p ++ (h.c ++ ts) ++ word (codes "or") ∷ us = simp append_assoc in
-    rw e (an_or (h.p ++ (h.c ++ ts)) us (h.disjuncts (h.c ++ ts) (h.conjuncts ts t)) u);
+      let e : h.p ++ (h.c ++ (ts ++ word (codes "or") ∷ [])) ++ us ≡ h.p ++ (h.c ++ ts) ++ word (codes "or") ∷ us = simp append_assoc in
+      rw e (an_or (h.p ++ (h.c ++ ts)) us (h.disjuncts (h.c ++ ts) (h.conjuncts ts t)) u);
   conjuncts = λ us u. a_conjunct us u;
 }
 
@@ -202,8 +202,8 @@ hole_implies pre ts h t = record {
   c = [];
   is = rw h.is (simp (append_assoc, append-nil {A = Token}));
   forms = λ us u.
-    let e : h.q ++ (h.p ++ (h.c ++ (ts ++ word (codes "implies") ∷ []))) ++ us ≡ h.q ++ (h.p ++ (h.c ++ ts) ++ word (codes "implies") ∷ us) = simp append_assoc in
-    rw e (h.forms (h.p ++ (h.c ++ ts) ++ word (codes "implies") ∷ us) (an_implies (h.p ++ (h.c ++ ts)) us (h.disjuncts (h.c ++ ts) (h.conjuncts ts t)) u));
+      let e : h.q ++ (h.p ++ (h.c ++ (ts ++ word (codes "implies") ∷ []))) ++ us ≡ h.q ++ (h.p ++ (h.c ++ ts) ++ word (codes "implies") ∷ us) = simp append_assoc in
+      rw e (h.forms (h.p ++ (h.c ++ ts) ++ word (codes "implies") ∷ us) (an_implies (h.p ++ (h.c ++ ts)) us (h.disjuncts (h.c ++ ts) (h.conjuncts ts t)) u));
   disjuncts = λ us u. a_disjunct us u;
   conjuncts = λ us u. a_conjunct us u;
 }

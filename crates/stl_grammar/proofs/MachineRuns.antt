@@ -190,52 +190,65 @@ count_is p h marks n m e = ap (λ x. st p h marks x) e
 
 mutual
   unfolding kind
+
   formula_runs : {s : Scale} {k : ℕ} {ts : List Token} {ns : List Node} → IsFormula s k ts ns → (marks : List Mark) (n : ℕ)
       → (h : Bool) × (all : List Mark) × Implied (without_operators marks) all × (go (st at_operand false marks n) ts ≡ st at_end h all (n + length ns))
   formula_runs (disjunct {ns = ns} d) marks n = let r = disjunct_runs d marks n in (r.0, without_operators marks, here, r.1)
   formula_runs (implies {k = k} {ts = ts} {us} {ns} {ms} d f) marks n =
       let r = disjunct_runs d marks n in
-      let q = formula_runs f (implication ∷ without_operators marks) (suc (n + length ns)) in
-      (q.0, q.1, more q.2, go_then (st at_operand false marks n) (st at_end r.0 (without_operators marks) (n + length ns)) (st at_end q.0 q.1 _) ts (word (codes "implies") ∷ us) r.1
-        (q.3 ∙ count_is at_end q.0 q.1 _ _ (one_after n ns ms (Implies (top k ns) (top (k + length ns) ms)))))
+      let q = formula_runs f (implication ∷ without_operators marks) (suc (n + length ns)) in (
+        q.0,
+        q.1,
+        more q.2,
+        go_then (st at_operand false marks n) (st at_end r.0 (without_operators marks) (n + length ns)) (st at_end q.0 q.1 _) ts (word (codes "implies") ∷ us) r.1
+            (q.3 ∙ count_is at_end q.0 q.1 _ _ (one_after n ns ms (Implies (top k ns) (top (k + length ns) ms)))),
+      )
 
   disjunct_runs : {s : Scale} {k : ℕ} {ts : List Token} {ns : List Node} → IsDisjunct s k ts ns → (marks : List Mark) (n : ℕ)
       → (h : Bool) × (go (st at_operand false marks n) ts ≡ st at_end h (without_operators marks) (n + length ns))
   disjunct_runs (conjunct c) marks n = conjunct_runs c marks n
   disjunct_runs (or {k = k} {ts = ts} {us} {ns} {ms} d c) marks n =
       let r = disjunct_runs d marks n in
-      let q = conjunct_runs c (without_operators marks) (suc (n + length ns)) in
-      (q.0, go_then (st at_operand false marks n) (st at_end r.0 (without_operators marks) (n + length ns)) (st at_end q.0 (without_operators marks) _) ts (word (codes "or") ∷ us) r.1
-        (rw without_twice at q.1 ∙ count_is at_end q.0 (without_operators marks) _ _ (one_after n ns ms (Or (top k ns) (top (k + length ns) ms)))))
+      let q = conjunct_runs c (without_operators marks) (suc (n + length ns)) in (
+        q.0,
+        go_then (st at_operand false marks n) (st at_end r.0 (without_operators marks) (n + length ns)) (st at_end q.0 (without_operators marks) _) ts (word (codes "or") ∷ us) r.1
+            (rw without_twice at q.1 ∙ count_is at_end q.0 (without_operators marks) _ _ (one_after n ns ms (Or (top k ns) (top (k + length ns) ms)))),
+      )
 
   conjunct_runs : {s : Scale} {k : ℕ} {ts : List Token} {ns : List Node} → IsConjunct s k ts ns → (marks : List Mark) (n : ℕ)
       → (h : Bool) × (go (st at_operand false marks n) ts ≡ st at_end h (without_operators marks) (n + length ns))
   conjunct_runs (timed t) marks n = timed_runs t marks n
   conjunct_runs (and {k = k} {ts = ts} {us} {ns} {ms} c t) marks n =
       let r = conjunct_runs c marks n in
-      let q = timed_runs t (without_operators marks) (suc (n + length ns)) in
-      (q.0, go_then (st at_operand false marks n) (st at_end r.0 (without_operators marks) (n + length ns)) (st at_end q.0 (without_operators marks) _) ts (word (codes "and") ∷ us) r.1
-        (rw without_twice at q.1 ∙ count_is at_end q.0 (without_operators marks) _ _ (one_after n ns ms (And (top k ns) (top (k + length ns) ms)))))
+      let q = timed_runs t (without_operators marks) (suc (n + length ns)) in (
+        q.0,
+        go_then (st at_operand false marks n) (st at_end r.0 (without_operators marks) (n + length ns)) (st at_end q.0 (without_operators marks) _) ts (word (codes "and") ∷ us) r.1
+            (rw without_twice at q.1 ∙ count_is at_end q.0 (without_operators marks) _ _ (one_after n ns ms (And (top k ns) (top (k + length ns) ms)))),
+      )
 
   timed_runs : {s : Scale} {k : ℕ} {ts : List Token} {ns : List Node} → IsTimed s k ts ns → (marks : List Mark) (n : ℕ)
       → (h : Bool) × (go (st at_operand false marks n) ts ≡ st at_end h (without_operators marks) (n + length ns))
   timed_runs (operand p) marks n = (false, operand_runs p false marks n)
   timed_runs (until {k = k} {a = a} {b} {ts = ts} {us} {vs} {ns} {ms} p w q) marks n =
       let r = operand_runs p false marks n in
-      let e = operand_runs q true (without_operators marks) (suc (n + length ns)) in
-      (true, go_then (st at_operand false marks n) (st at_operand true (without_operators marks) (suc (n + length ns))) (st at_end true (without_operators marks) _)
-        (ts ++ (word (codes "until") ∷ us)) vs
-        (go_then (st at_operand false marks n) (st at_end false (without_operators marks) (n + length ns)) (st at_operand true (without_operators marks) (suc (n + length ns)))
-          ts (word (codes "until") ∷ us) r (until_runs w true (without_operators marks) (suc (n + length ns))))
-        (rw without_twice at e ∙ count_is at_end true (without_operators marks) _ _ (one_after n ns ms (Until (top k ns) (top (k + length ns) ms) a b))))
+      let e = operand_runs q true (without_operators marks) (suc (n + length ns)) in (
+        true,
+        go_then (st at_operand false marks n) (st at_operand true (without_operators marks) (suc (n + length ns))) (st at_end true (without_operators marks) _)
+            (ts ++ (word (codes "until") ∷ us)) vs
+            (go_then (st at_operand false marks n) (st at_end false (without_operators marks) (n + length ns)) (st at_operand true (without_operators marks) (suc (n + length ns)))
+            ts (word (codes "until") ∷ us) r (until_runs w true (without_operators marks) (suc (n + length ns))))
+            (rw without_twice at e ∙ count_is at_end true (without_operators marks) _ _ (one_after n ns ms (Until (top k ns) (top (k + length ns) ms) a b))),
+      )
   timed_runs (since {k = k} {a = a} {b} {ts = ts} {us} {vs} {ns} {ms} p w q) marks n =
       let r = operand_runs p false marks n in
-      let e = operand_runs q true (without_operators marks) (suc (n + length ns)) in
-      (true, rw (append_assoc ts (word (codes "since") ∷ us) vs) (
-        go_then (st at_operand false marks n) (st at_end false (without_operators marks) (n + length ns)) (st at_end true (without_operators marks) _)
-          ts (word (codes "since") ∷ (us ++ vs)) r
-          (since_runs w q true (without_operators marks) (suc (n + length ns))
-            ∙ (rw without_twice at e ∙ count_is at_end true (without_operators marks) _ _ (one_after n ns ms (Since (top k ns) (top (k + length ns) ms) a b))))))
+      let e = operand_runs q true (without_operators marks) (suc (n + length ns)) in (
+        true,
+        rw (append_assoc ts (word (codes "since") ∷ us) vs) (
+            go_then (st at_operand false marks n) (st at_end false (without_operators marks) (n + length ns)) (st at_end true (without_operators marks) _)
+            ts (word (codes "since") ∷ (us ++ vs)) r
+            (since_runs w q true (without_operators marks) (suc (n + length ns))
+            ∙ (rw without_twice at e ∙ count_is at_end true (without_operators marks) _ _ (one_after n ns ms (Since (top k ns) (top (k + length ns) ms) a b))))),
+      )
 
   operand_runs : {s : Scale} {k : ℕ} {ts : List Token} {ns : List Node} → IsOperand s k ts ns → (h : Bool) (marks : List Mark) (n : ℕ)
       → go (st at_operand h marks n) ts ≡ st at_end h (without_operators marks) (n + length ns)

@@ -299,13 +299,22 @@ module _ (h : Bool) (marks : List Mark) (n : ℕ) (before : List Token) where
     terms = z;
   })
   begin_view p b q c z open_paren next e = same_view _ next _ e (record {
-    shape = an_operand a_parenthesis; pend = ap (λ x. a_paren ∷ x) q; count = count_token open_paren Operand before n (begins_expected before b) c; terms = refl;
+    shape = an_operand a_parenthesis;
+    pend = ap (λ x. a_paren ∷ x) q;
+    count = count_token open_paren Operand before n (begins_expected before b) c;
+    terms = refl;
   })
   begin_view p b q c z plus next e = same_view _ next _ e (record {
-    shape = first_term a_plus b; pend = q; count = count_token plus Operand before n (begins_expected before b) c; terms = z;
+    shape = first_term a_plus b;
+    pend = q;
+    count = count_token plus Operand before n (begins_expected before b) c;
+    terms = z;
   })
   begin_view p b q c z minus next e = same_view _ next _ e (record {
-    shape = first_term a_minus b; pend = q; count = count_token minus Operand before n (begins_expected before b) c; terms = z;
+    shape = first_term a_minus b;
+    pend = q;
+    count = count_token minus Operand before n (begins_expected before b) c;
+    terms = z;
   })
   begin_view p b q c z _ next e = absurd (cc)
 
@@ -458,10 +467,16 @@ module _ (h : Bool) (marks : List Mark) (n : ℕ) where
   sign_view : {m : ℕ} {before : List Token} → Shape (at_sign m) before → pending before ≡ all_pending marks → nodes_made before ≡ n → terms_made before ≡ m
       → (t : Token) (next : State) → step_at (at_sign m) (there (at_sign m)) t ≡ Some next → View next (t ∷ before)
   sign_view (a_sign {w = w} {before = more} f) q c z plus next e = same_view _ next _ e (record {
-    shape = next_term a_plus; pend = q; count = count_token plus Relation (word w ∷ more) n (expected_word w a_name more f) c; terms = z;
+    shape = next_term a_plus;
+    pend = q;
+    count = count_token plus Relation (word w ∷ more) n (expected_word w a_name more f) c;
+    terms = z;
   })
   sign_view (a_sign {w = w} {before = more} f) q c z minus next e = same_view _ next _ e (record {
-    shape = next_term a_minus; pend = q; count = count_token minus Relation (word w ∷ more) n (expected_word w a_name more f) c; terms = z;
+    shape = next_term a_minus;
+    pend = q;
+    count = count_token minus Relation (word w ∷ more) n (expected_word w a_name more f) c;
+    terms = z;
   })
   sign_view (a_sign f) q c z (relation r) next e = same_view _ next _ e (record { shape = the_constant; pend = q; count = c; terms = refl })
   sign_view (a_sign f) q c z _ next e = absurd (cc)

@@ -224,7 +224,7 @@ module _ (R : ℕ → List Token → List Node → Type 0) (w : List ℕ) (node 
   more_same n words fresh same k r r' (more {ns = ns} {ms} {us = us} {ts} q m) (more {ms = ms'} {us = us'} {ts = ts'} q' m') l f g h =
       let e : us ++ ts ++ r ≡ us' ++ ts' ++ r' = cc in
       let x = same (k + length ns) us us' (ts ++ r) (ts' ++ r') ms ms' (omega (arith, length-append us ts)) (more_ends k m words r f) (more_ends k m' words r' g) q q'
-          (sym (append_assoc us ts r) ∙ (e ∙ append_assoc us' ts' r')) in
+      (sym (append_assoc us ts r) ∙ (e ∙ append_assoc us' ts' r')) in
       more_same n words fresh same k r r' m (rw x.0 m') (omega (arith, length-append us ts)) f g x.1
 
 no_until : ¬ OneOf (codes "until") after_timed
@@ -329,16 +329,26 @@ Listed R w node k ts ns = (vs : List Token) × (us : List Token) × (ms : List N
 conjunct_list : {s : Scale} {k : ℕ} {ts : List Token} {ns : List Node} → IsConjunct s k ts ns → Listed (IsTimed s) (codes "and") And k ts ns
 conjunct_list (timed {ts = ts} {ns} t) = (ts, [], ns, t, none, sym (append-nil ts))
 conjunct_list {s} {k} (and {ts = ts} {us} {ns} {ms} c t) =
-    let x = conjunct_list c in
-    (x.0, x.1 ++ word (codes "and") ∷ us, x.2, x.3, more_last (IsTimed s) (codes "and") And k x.4 us ms t,
-      ap (λ z. z ++ word (codes "and") ∷ us) x.5 ∙ append_assoc x.0 x.1 (word (codes "and") ∷ us))
+    let x = conjunct_list c in (
+      x.0,
+      x.1 ++ word (codes "and") ∷ us,
+      x.2,
+      x.3,
+      more_last (IsTimed s) (codes "and") And k x.4 us ms t,
+      ap (λ z. z ++ word (codes "and") ∷ us) x.5 ∙ append_assoc x.0 x.1 (word (codes "and") ∷ us),
+    )
 
 disjunct_list : {s : Scale} {k : ℕ} {ts : List Token} {ns : List Node} → IsDisjunct s k ts ns → Listed (IsConjunct s) (codes "or") Or k ts ns
 disjunct_list (conjunct {ts = ts} {ns} t) = (ts, [], ns, t, none, sym (append-nil ts))
 disjunct_list {s} {k} (or {ts = ts} {us} {ns} {ms} c t) =
-    let x = disjunct_list c in
-    (x.0, x.1 ++ word (codes "or") ∷ us, x.2, x.3, more_last (IsConjunct s) (codes "or") Or k x.4 us ms t,
-      ap (λ z. z ++ word (codes "or") ∷ us) x.5 ∙ append_assoc x.0 x.1 (word (codes "or") ∷ us))
+    let x = disjunct_list c in (
+      x.0,
+      x.1 ++ word (codes "or") ∷ us,
+      x.2,
+      x.3,
+      more_last (IsConjunct s) (codes "or") Or k x.4 us ms t,
+      ap (λ z. z ++ word (codes "or") ∷ us) x.5 ∙ append_assoc x.0 x.1 (word (codes "or") ∷ us),
+    )
 
 module _ (R : ℕ → List Token → List Node → Type 0) (w : List ℕ) (node : ℕ → ℕ → Node) (words : List (List ℕ)) (fresh : ¬ OneOf w words) where
   listed_same : (n : ℕ) → Same R (w ∷ words) n → (k : ℕ) (ts us r r' : List Token) (ns ms : List Node) → length ts ≤ n → Ends words r → Ends words r'
@@ -373,7 +383,7 @@ module _ (s : Scale) (n : ℕ) (same : OperandSame s n) where
       let j : length ts ≤ n = omega (arith, length-append ts (word (codes "implies") ∷ vs)) in
       let i : length vs ≤ n = omega (arith, length-append ts (word (codes "implies") ∷ vs)) in
       let x = disjunct_same k ts us (word (codes "implies") ∷ vs ++ r) (word (codes "implies") ∷ xs ++ r') ns ms j (inl refl) (inl refl) p q
-          (sym (append_assoc ts (word (codes "implies") ∷ vs) r) ∙ (h ∙ append_assoc us (word (codes "implies") ∷ xs) r')) in
+      (sym (append_assoc ts (word (codes "implies") ∷ vs) r) ∙ (h ∙ append_assoc us (word (codes "implies") ∷ xs) r')) in
       let y = formula_same (k + length ns) r r' i f g e (rw x.0 d) (same_rest _ _ _ _ x.1) in
       (rw (x.0, y.0) refl, y.1)
 
@@ -438,7 +448,7 @@ operand_same s (suc n) k ts us r r' ns ms l (parens {ts = vs} p) (parens {ts = x
     let e : vs ++ close_paren ∷ [] ++ r ≡ xs ++ close_paren ∷ [] ++ r' = same_rest _ _ _ _ h in
     let j : length vs ≤ n = omega (arith, length-append vs (close_paren ∷ [])) in
     let x = formula_same s n (operand_same s n) k (close_paren ∷ r) (close_paren ∷ r') j tt tt p q
-        (sym (append_assoc vs (close_paren ∷ []) r) ∙ (e ∙ append_assoc xs (close_paren ∷ []) r')) in
+    (sym (append_assoc vs (close_paren ∷ []) r) ∙ (e ∙ append_assoc xs (close_paren ∷ []) r')) in
     (x.0, same_rest _ _ _ _ x.1)
 operand_same s (suc n) k ts us r r' ns ms l (parens {ts = vs} p) (atom a) h = absurd (atom_paren (vs ++ close_paren ∷ [] ++ r) r' a h)
 operand_same s (suc n) k ts us r r' ns ms l (parens p) _ h = absurd (apart (ts ++ r) (us ++ r') refl h)
