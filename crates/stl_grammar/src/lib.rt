@@ -1,7 +1,18 @@
 //! The text of formulas.
 #![tactic(auto)]
 
+mod chars;
+mod decimal;
+mod draft;
 mod fault;
+mod frames;
+mod judge;
 pub mod laws;
+mod lexer;
+mod number;
+mod parser;
+mod place;
+mod shapes;
+mod token;
 
 pub use fault::{FormulaFault, What};

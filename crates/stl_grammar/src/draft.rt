@@ -1,0 +1,98 @@
+use crate::decimal::Decimal;
+use std::marker::Model;
+use stl_syntax::{Rel, Term};
+
+/// A bound of two numbers, with each end in or out.
+#[derive(Clone, Copy)]
+pub(crate) struct Window {
+    pub(crate) low: Decimal,
+    pub(crate) high: Decimal,
+    pub(crate) low_in: bool,
+    pub(crate) high_in: bool,
+}
+
+/// The bound of an operator that looks back.
+#[derive(Clone, Copy)]
+pub(crate) enum Past {
+    /// It was left out.
+    Whole,
+    /// It has no upper end.
+    From { low: Decimal, low_in: bool },
+    Within(Window),
+}
+
+/// A one-operand operator.
+#[derive(Clone, Copy)]
+pub(crate) enum Prefix {
+    Not,
+    Eventually(Window),
+    Always(Window),
+    Once(Past),
+    Historically(Past),
+}
+
+/// A two-operand operator; the ends of a bound are in.
+#[derive(Clone, Copy)]
+pub(crate) enum Infix {
+    And,
+    Or,
+    Implies,
+    Until(Window),
+    Since(Past),
+}
+
+/// What is open: a parenthesis, or an operator whose last operand is not at its end.
+#[derive(Clone, Copy)]
+pub(crate) enum Frame {
+    Paren,
+    Prefix(Prefix),
+    Infix { operator: Infix, left: usize },
+}
+
+/// A sum of terms that is compared with a number, its sign told apart.
+#[derive(Drop)]
+pub(crate) struct Sum {
+    terms: Vec<Term>,
+    rel: Rel,
+    negative: bool,
+    limit: Decimal,
+}
+
+impl Model for Sum {
+    ghost use Rattle.stl_grammar.specs.Sums.{Comparison};
+
+    ghost Value = { Comparison };
+
+    ghost view = { λ s. record { terms = s.terms.items; rel = s.rel; negative = s.negative; limit = s.limit } };
+}
+
+impl Sum {
+    ghost use Rattle.std.specs.Prelude.{◌≡◌};
+
+    pub(crate) fn new(terms: Vec<Term>, rel: Rel, negative: bool, limit: Decimal) -> Sum
+        ensures { result ≡ record { terms = terms.items; rel = rel; negative = negative; limit = limit } }
+    {
+        Sum {
+            terms,
+            rel,
+            negative,
+            limit,
+        }
+    }
+}
+
+/// A node whose numbers are not in ticks yet.
+#[derive(Drop)]
+pub(crate) enum Draft {
+    Const(bool),
+    Sum(Sum),
+    One {
+        operator: Prefix,
+        of: usize,
+    },
+    Two {
+        operator: Infix,
+        left: usize,
+        right: usize,
+    },
+}
