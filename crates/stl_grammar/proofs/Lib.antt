@@ -10,3 +10,5 @@ pub mod MachineBegins
 pub mod MachineView
 pub mod ParserView
 pub mod ParserFit
+pub mod OneParse
+pub mod LawProofs

@@ -3,6 +3,7 @@ pub mod Grammar
 pub mod FormulaRefusals
 pub mod Told
 pub mod Machine
+pub mod Laws
 pub mod Sums
 pub mod Parsing
 pub mod Judging

@@ -7,6 +7,7 @@ mod draft;
 mod fault;
 mod frames;
 mod judge;
+pub mod laws;
 mod lexer;
 mod number;
 mod parser;
