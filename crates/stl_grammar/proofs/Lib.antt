@@ -12,3 +12,4 @@ pub mod ParserView
 pub mod ParserFit
 pub mod OneParse
 pub mod LawProofs
+pub mod JudgeLaw
