@@ -305,3 +305,190 @@ last_one P a false y r e = absurd (cc)
 none_of : {A : Type 0} (a : A) (b : Bool) (rest : Option A) → (if b then Some a else rest) ≡ None → (b ≡ false) × (rest ≡ None)
 none_of a true rest e = absurd (cc)
 none_of a false rest e = (refl, e)
+
+some_same : {A : Type 0} (a b : A) → Some a ≡ Some b → a ≡ b
+some_same a b e = cc
+
+-- a token after tokens that led to the parser's state
+module _ (text rest : List ℕ) (before : List Token) (p : Parse) (c : Code) (t : Token) (at : ℕ) (runs : run before ≡ Some (state_of p)) (fit : IsFit p) (tells : Tells text c t) where
+  known : IsKnown text c
+  known = tells_known text c t tells
+
+  stepped : Alike (option_map state_of (parse_step text p c)) (step (state_of p) t)
+  stepped = by_kind (tells_plain text c t tells)
+    where
+      same : (o : Option State) → Alike o o
+      same None = tt
+      same (Some a) = (refl, refl)
+
+      large : (c : Code) → TellsLarge c t → IsKnown text c → Alike (option_map state_of (parse_step text p c)) (step (state_of p) t)
+      large (Number d) (e, (n, k, f, l)) sees = rw (view_step text p (Number d) sees fit, f) (numbers_alike (state_of p).place (state_of p) d.value d.decimals n k)
+      large _ h sees = absurd h
+
+      by_kind : (t ≡ plain text c) ⊎ TellsLarge c t → Alike (option_map state_of (parse_step text p c)) (step (state_of p) t)
+      by_kind (inl e) = rw (view_step text p c known fit, e) (same (step (state_of p) (plain text c)))
+      by_kind (inr h) = large c h known
+
+  stops : parse_step text p c ≡ None → ¬ MayBegin (t ∷ before)
+  stops e = by_step (step (state_of p) t) refl (rw e at stepped)
+    where
+      by_step : (o : Option State) → step (state_of p) t ≡ o → Alike None o → ¬ MayBegin (t ∷ before)
+      by_step None e h = step_stops before (state_of p) t runs e
+      by_step (Some next) e h = absurd h
+
+  goes : (q : Parse) → parse_step text p c ≡ Some q → MayBegin (t ∷ before) × (length (pending (t ∷ before)) ≡ depth_of q) × (nodes_made (t ∷ before) ≡ q.made)
+  goes q e = by_step (step (state_of p) t) refl (rw e at stepped)
+    where
+      by_step : (o : Option State) → step (state_of p) t ≡ o → Alike (Some (state_of q)) o → MayBegin (t ∷ before) × (length (pending (t ∷ before)) ≡ depth_of q) × (nodes_made (t ∷ before) ≡ q.made)
+      by_step None e h = absurd h
+      by_step (Some next) e h =
+          let r : run (t ∷ before) ≡ Some next = step_runs before (state_of p) t runs ∙ e in
+          (step_begins before (state_of p) next t runs e, run_depth (t ∷ before) next r ∙ ap length (sym h.0), run_nodes (t ∷ before) next r ∙ sym h.1)
+
+  unbounded : is_unbounded before t rest ≡ unbounded_in p.place c rest
+  unbounded = by_kind (tells_plain text c t tells)
+    where
+      future : begins_future_bound before ≡ future_in p.place
+      future = run_future before (state_of p) runs ∙ future_same p.place (length p.terms)
+
+      large : (c : Code) → TellsLarge c t → is_unbounded before t rest ≡ unbounded_in p.place c rest
+      large (Number d) (e, (n, k, f, l)) = rw f refl
+      large _ h = absurd h
+
+      by_kind : (t ≡ plain text c) ⊎ TellsLarge c t → is_unbounded before t rest ≡ unbounded_in p.place c rest
+      by_kind (inl e) = rw e (unbounded_same text rest before p.place c known future)
+      by_kind (inr h) = large c h
+
+  fifth : begins_fifth_term before t ≡ fifth_in p.place (length p.terms) c
+  fifth = run_fifth before (state_of p) runs t ∙ by_kind (tells_plain text c t tells)
+    where
+      large : (c : Code) → TellsLarge c t → fifth_at (place_at p.place (length p.terms)) t ≡ fifth_in p.place (length p.terms) c
+      large (Number d) (e, (n, k, f, l)) = rw f (fifth_number p.place (length p.terms) n k d)
+      large _ h = absurd h
+
+      by_kind : (t ≡ plain text c) ⊎ TellsLarge c t → fifth_at (place_at p.place (length p.terms)) t ≡ fifth_in p.place (length p.terms) c
+      by_kind (inl e) = rw e (fifth_same text p.place (length p.terms) c)
+      by_kind (inr h) = large c h
+
+  bad : is_bad_number before t ≡ bad_in p.place c
+  bad = by_kind (tells_plain text c t tells)
+    where
+      exact : (c : Code) → is_bad_number before (plain text c) ≡ bad_in p.place c
+      exact (Number d) = run_bad_number before (state_of p) runs d.value d.decimals ∙ passes_same p.place (length p.terms) (state_of p).marks d.value d.decimals
+      exact (IsKeyword w) = refl
+      exact (Name from to) = refl
+      exact (Relation r) = refl
+      exact OpenParen = refl
+      exact CloseParen = refl
+      exact OpenBracket = refl
+      exact CloseBracket = refl
+      exact Comma = refl
+      exact Star = refl
+      exact Plus = refl
+      exact Minus = refl
+
+      large : (c : Code) → TellsLarge c t → is_bad_number before t ≡ bad_in p.place c
+      large (Number d) (e, (n, k, f, l)) =
+          rw (f, code_passes (number_in p.place) d.value d.decimals e) (run_bad_number before (state_of p) runs n k ∙ passes_large (expected_at (state_of p).place (state_of p).marks) n k l)
+      large _ h = absurd h
+
+      by_kind : (t ≡ plain text c) ⊎ TellsLarge c t → is_bad_number before t ≡ bad_in p.place c
+      by_kind (inl e) = rw e (exact c)
+      by_kind (inr h) = large c h
+
+  -- a number that is not refused is told exactly
+  pub exact_where_good : bad_in p.place c ≡ false → t ≡ plain text c
+  exact_where_good g = by_kind (tells_plain text c t tells)
+    where
+      large : (c : Code) → TellsLarge c t → bad_in p.place c ≡ false → t ≡ plain text c
+      large (Number d) (e, (n, k, f, l)) g = absurd (let h = code_passes (number_in p.place) d.value d.decimals e in cc)
+      large _ h g = absurd h
+
+      by_kind : (t ≡ plain text c) ⊎ TellsLarge c t → t ≡ plain text c
+      by_kind (inl e) = e
+      by_kind (inr h) = large c h g
+
+  disorder : bad_in p.place c ≡ false → is_out_of_order before t ≡ disorder_in p.place c
+  disorder g = run_disorder before (state_of p) runs t ∙ rw (exact_where_good g) (disorder_same text p.place (length p.terms) c)
+
+  late : (r : FormulaFault) → late_in p.place (length p.terms) c at ≡ Some r
+      → (Where (IsTrue (begins_fifth_term before t)) (TooManyTerms at)
+      or_else Where (IsTrue (is_bad_number before t)) (BadNumber at)
+      or_else Where (IsTrue (is_out_of_order before t)) (BoundOrder at)) r
+  late =
+      choose (IsTrue (begins_fifth_term before t)) (TooManyTerms at) _ (fifth_in p.place (length p.terms) c) (λ e. fifth ∙ e) (λ e h. let x = sym fifth ∙ h in cc) _
+      (by_bad (bad_in p.place c) refl)
+    where
+      by_bad : (b : Bool) → bad_in p.place c ≡ b → (r : FormulaFault) → (if b then Some (BadNumber at) else if disorder_in p.place c then Some (BoundOrder at) else None) ≡ Some r
+          → (Where (IsTrue (is_bad_number before t)) (BadNumber at) or_else Where (IsTrue (is_out_of_order before t)) (BoundOrder at)) r
+      by_bad true e r h = inl (bad ∙ e, sym (some_same _ _ h))
+      by_bad false e r h =
+          inr (
+            passed (IsTrue (is_bad_number before t)) (BadNumber at) (λ x. let y = sym bad ∙ x in cc),
+            last_one (IsTrue (is_out_of_order before t)) (BoundOrder at) (disorder_in p.place c) (λ d. disorder e ∙ d) r h,
+          )
+
+  -- what the parser refuses is refused
+  pub judged : (r : FormulaFault) → refused text p c rest at ≡ Some r → RefusedAt before t rest at r
+  judged =
+      choose (IsTrue (is_unbounded before t rest)) (UnboundedFuture at) _ (unbounded_in p.place c rest) (λ e. unbounded ∙ e) (λ e h. let x = sym unbounded ∙ h in cc) _
+      (by_step (parse_step text p c) refl)
+    where
+      deep : (q : Parse) → parse_step text p c ≡ Some q → nat_lt 64 (depth_of q) ≡ true → 64 < length (pending (t ∷ before))
+      deep q e h = let g = (goes q e).1 in grind (arith, nat_tests, h, g)
+
+      flat : (q : Parse) → parse_step text p c ≡ Some q → nat_lt 64 (depth_of q) ≡ false → ¬ (64 < length (pending (t ∷ before)))
+      flat q e h l = let g = (goes q e).1 in let k : depth_of q ≤ 64 = grind (arith, nat_tests, h) in omega (arith, g, l)
+
+      many : (q : Parse) → parse_step text p c ≡ Some q → nat_lt 256 q.made ≡ true → 256 < nodes_made (t ∷ before)
+      many q e h = let g = (goes q e).2 in grind (arith, nat_tests, h, g)
+
+      few : (q : Parse) → parse_step text p c ≡ Some q → nat_lt 256 q.made ≡ false → ¬ (256 < nodes_made (t ∷ before))
+      few q e h l = let g = (goes q e).2 in let k : q.made ≤ 256 = grind (arith, nat_tests, h) in omega (arith, g, l)
+
+      by_step : (o : Option Parse) → parse_step text p c ≡ o → (r : FormulaFault) → refused_after p c at o ≡ Some r
+          → (Where (¬ MayBegin (t ∷ before)) (Expected at (expected before))
+          or_else Where (64 < length (pending (t ∷ before))) (TooDeep at)
+          or_else Where (256 < nodes_made (t ∷ before)) (TooManyNodes at)
+          or_else Where (IsTrue (begins_fifth_term before t)) (TooManyTerms at)
+          or_else Where (IsTrue (is_bad_number before t)) (BadNumber at)
+          or_else Where (IsTrue (is_out_of_order before t)) (BoundOrder at)) r
+      by_step None e r h =
+          inl (stops e, sym (some_same _ _ h) ∙ ap (Expected at) (sym (run_expected before (state_of p) runs ∙ expected_same p.place 0 p refl)))
+      by_step (Some q) e r h =
+          inr (
+            passed (¬ MayBegin (t ∷ before)) _ (λ n. n (goes q e).0),
+            choose (64 < length (pending (t ∷ before))) (TooDeep at) _ (nat_lt 64 (depth_of q)) (deep q e) (flat q e) _
+            (choose (256 < nodes_made (t ∷ before)) (TooManyNodes at) _ (nat_lt 256 q.made) (many q e) (few q e) _ late) r h,
+          )
+
+  -- what follows from no refusal
+  pub record IsTaken (q : Parse) : Type 0 where
+    pub exact : t ≡ plain text c
+    pub next : run (t ∷ before) ≡ Some (state_of q)
+    pub free : (x : FormulaFault) → ¬ RefusedAt before t rest at x
+    pub few : q.made ≤ 256
+    pub good : bad_in p.place c ≡ false
+    pub order : disorder_in p.place c ≡ false
+
+  pub taken : (q : Parse) → refused text p c rest at ≡ None → parse_step text p c ≡ Some q → IsTaken q
+  taken q e f =
+      let a = none_of _ _ _ e in
+      let b : refused_after p c at (Some q) ≡ None = rw f at a.1 in
+      let d = none_of _ _ _ b in
+      let m = none_of _ _ _ d.1 in
+      let l = none_of _ _ _ m.1 in
+      let n = none_of _ _ _ l.1 in
+      let o = none_of _ _ _ n.1 in
+      let g = goes q f in
+      let deep : depth_of q ≤ 64 = let x : nat_lt 64 (depth_of q) ≡ false = d.0 in grind (arith, nat_tests, x) in
+      let made : q.made ≤ 256 = let x : nat_lt 256 q.made ≡ false = m.0 in grind (arith, nat_tests, x) in
+      let same : t ≡ plain text c = exact_where_good n.0 in
+      record {
+        exact = same;
+        next = step_runs before (state_of p) t runs ∙ (ap (step (state_of p)) same ∙ (sym (view_step text p c known fit) ∙ ap (option_map state_of) f));
+        free = not_refused before t rest at (unbounded ∙ a.0) g.0 (omega (arith, g.1, deep)) (omega (arith, g.2, made)) (fifth ∙ l.0) (bad ∙ n.0) (disorder n.0 ∙ o.0);
+        few = made;
+        good = n.0;
+        order = o.0;
+      }

@@ -1,4 +1,3 @@
-use Rattle.stl_grammar.proofs.JudgeLaw.{choose}
 use Rattle.std.proofs.Common.{◌≡◌, ◌∙◌, ap}
 use Rattle.std.specs.Prelude.{nat_lt}
 use Rattle.stl_grammar.proofs.FrameLemmas.{paren_counted}
