@@ -13,7 +13,8 @@ use Rattle.stl_grammar.specs.Machine as Machine
 use Rattle.stl_grammar.specs.Machine.{State, Mark, Owner, of_until, of_since, of_future, of_past, step_bound, step_at, at_operand, at_bound, at_low, at_comma, at_high, at_closing, at_term, at_star, at_name, at_sign, at_constant, at_number, at_end, kind, run, step, expected_at, fifth_at, disorder_at, future_at, in_paren}
 use Rattle.stl_grammar.specs.Parsing.{Parse, parse_step, between, IsKnown}
 use Rattle.stl_grammar.specs.Judging.{state_of, refused, refused_after, late_in, unbounded_in, fifth_in, bad_in, disorder_in, future_in, expected_in, depth_of, place_at, marks_of, number_in, owner}
-use Rattle.stl_grammar.proofs.ParserView.{plain, IsFit, view_step, free_name, known_kind}
+use Rattle.stl_grammar.specs.Taken.{plain}
+use Rattle.stl_grammar.proofs.ParserView.{IsFit, view_step, free_name, known_kind}
 use Rattle.stl_grammar.proofs.ParserFit.{Holds}
 use Rattle.stl_grammar.proofs.RefusalExamples.{passed, not_refused}
 use Rattle.stl_grammar.proofs.WordKinds.{name_kind, among_ahead, among_inf}
@@ -103,7 +104,7 @@ future_same (Constant rel) n = refl
 future_same (AtNumber rel negative) n = refl
 future_same End n = refl
 
-expected_same : (place : Place) (n : ℕ) (p : Parse) → p.place ≡ place → expected_at (state_of p).place (state_of p).marks ≡ expected_in p
+pub expected_same : (place : Place) (n : ℕ) (p : Parse) → p.place ≡ place → expected_at (state_of p).place (state_of p).marks ≡ expected_in p
 expected_same Operand n p e = rw e refl
 expected_same (Bound of) n p e = rw e refl
 expected_same (Low of i) n p e = rw e refl
@@ -459,7 +460,7 @@ module _ (text rest : List ℕ) (before : List Token) (p : Parse) (c : Code) (t 
           inr (
             passed (¬ MayBegin (t ∷ before)) _ (λ n. n (goes q e).0),
             choose (64 < length (pending (t ∷ before))) (TooDeep at) _ (nat_lt 64 (depth_of q)) (deep q e) (flat q e) _
-            (choose (256 < nodes_made (t ∷ before)) (TooManyNodes at) _ (nat_lt 256 q.made) (many q e) (few q e) _ late) r h,
+                (choose (256 < nodes_made (t ∷ before)) (TooManyNodes at) _ (nat_lt 256 q.made) (many q e) (few q e) _ late) r h,
           )
 
   -- what follows from no refusal

@@ -13,3 +13,4 @@ pub mod ParserFit
 pub mod OneParse
 pub mod LawProofs
 pub mod JudgeLaw
+pub mod ReadLaw

@@ -369,7 +369,6 @@ left_out text BSince frames drafts made t h s = begin_fit text Operand (Between 
 left_out text BOnce frames drafts made t h s = begin_fit text Operand (back_frame BOnce Whole (length drafts - 1) ∷ frames) drafts made t h
 left_out text BHistorically frames drafts made t h s = begin_fit text Operand (back_frame BHistorically Whole (length drafts - 1) ∷ frames) drafts made t h
 
-
 pub bound_TUntil : (text : List ℕ) (frames : List Frame) (drafts : List Draft) (terms : List Term) (made : ℕ) (t : Code) → IsFit (record { place = Bound TUntil; frames = frames; drafts = drafts; terms = terms; made = made })
     → Holds IsFit (parse_step text (record { place = Bound TUntil; frames = frames; drafts = drafts; terms = terms; made = made }) t)
 bound_TUntil text frames drafts terms made (IsKeyword w) h = tt
@@ -482,7 +481,7 @@ fit_step text p t h = by_place p.place p.frames p.drafts p.terms p.made h
     by_place (AtTerm negative) frames drafts terms made h = term_fit text negative frames drafts terms made t h
     by_place (AtStar negative coef) frames drafts terms made h = star_fit text negative coef frames drafts terms made t h
     by_place (AtName negative coef) frames drafts terms made h = name_fit text negative coef frames drafts terms made t h
-    by_place Sign frames drafts terms made h = sign_fit text  frames drafts terms made t h
+    by_place Sign frames drafts terms made h = sign_fit text frames drafts terms made t h
     by_place (Constant rel) frames drafts terms made h = constant_fit text rel frames drafts terms made t h
     by_place (AtNumber rel negative) frames drafts terms made h = number_fit text rel negative frames drafts terms made t h
-    by_place End frames drafts terms made h = end_fit text  frames drafts terms made t h
+    by_place End frames drafts terms made h = end_fit text frames drafts terms made t h

@@ -13,6 +13,7 @@ use Rattle.stl_grammar.specs.Machine as Machine
 use Rattle.stl_grammar.specs.Machine.{Kind, kind, a_name, State, Mark, paren, operator, implication, at_operand, at_bound, at_low, at_comma, at_high, at_closing, at_term, at_star, at_name, at_sign, at_constant, at_number, at_end, without_operators, step}
 use Rattle.stl_grammar.specs.Parsing.{Parse, parse_step, begin_operand, closed, settled, settled_frames, rank, infix_rank, top_rank, between, IsKnown, coefficient, bounded_frame, back_frame, may_be_open, back_may_be_open}
 use Rattle.stl_grammar.specs.Judging.{state_of, marks_of, had_of, is_timed, with_mark, owner, back_owner, is_beside, back_is_beside, place_at}
+use Rattle.stl_grammar.specs.Taken.{plain}
 use Rattle.stl_grammar.proofs.WordKinds.{name_kind}
 use Rattle.stl_grammar.specs.declared.decimal.Decimal.{Decimal}
 use Rattle.stl_grammar.specs.declared.token.Keyword.{Keyword}
@@ -34,21 +35,6 @@ use Rattle.stl_grammar.specs.declared.place.Place.{Place}
 use Rattle.stl_grammar.specs.declared.place.Place.TheVariants.{Operand, Bound, Low, Comma as AtComma, High, Closing, ClosingInf, Term as AtTerm, Star as AtStar, Name as AtName, Sign, Constant, Number as AtNumber, End}
 use Rattle.stl_syntax.specs.declared.atom.Term.{Term}
 use Rattle.stl_syntax.specs.declared.rel.Rel.{Rel}
-
--- the token of a text that the code tells, where it tells it exactly
-abbrev pub plain : List ℕ → Code → Tokens.Token
-plain text (IsKeyword w) = word (spelling w)
-plain text (Name from to) = word (between from to text)
-plain text (Number d) = number d.value d.decimals
-plain text (Relation r) = relation r
-plain text OpenParen = open_paren
-plain text CloseParen = close_paren
-plain text OpenBracket = open_bracket
-plain text CloseBracket = close_bracket
-plain text Comma = comma
-plain text Star = star
-plain text Plus = plus
-plain text Minus = minus
 
 -- what binds the left operand of an operator less tightly may stand before it
 abbrev pub left_rank : Infix → ℕ
@@ -545,7 +531,6 @@ left_out text BSince q frames drafts made t k h s =
 left_out text BOnce q frames drafts made t k h s = begin_view text Operand q (back_frame BOnce Whole (length drafts - 1) ∷ frames) drafts made t k h
 left_out text BHistorically q frames drafts made t k h s = begin_view text Operand q (back_frame BHistorically Whole (length drafts - 1) ∷ frames) drafts made t k h
 
-
 pub bound_TUntil : (text : List ℕ) (frames : List Frame) (drafts : List Draft) (terms : List Term) (made : ℕ) (t : Code) → IsKnown text t → IsFit (record { place = Bound TUntil; frames = frames; drafts = drafts; terms = terms; made = made })
     → option_map state_of (parse_step text (record { place = Bound TUntil; frames = frames; drafts = drafts; terms = terms; made = made }) t)
     ≡ step (state_of (record { place = Bound TUntil; frames = frames; drafts = drafts; terms = terms; made = made })) (plain text t)
@@ -665,7 +650,7 @@ view_step text p t k h = by_place p.place p.frames p.drafts p.terms p.made h
     by_place (AtTerm negative) frames drafts terms made h = term_view text negative frames drafts terms made t k h
     by_place (AtStar negative coef) frames drafts terms made h = star_view text negative coef frames drafts terms made t k h
     by_place (AtName negative coef) frames drafts terms made h = name_view text negative coef frames drafts terms made t k h
-    by_place Sign frames drafts terms made h = sign_view text  frames drafts terms made t k h
+    by_place Sign frames drafts terms made h = sign_view text frames drafts terms made t k h
     by_place (Constant rel) frames drafts terms made h = constant_view text rel frames drafts terms made t k h
     by_place (AtNumber rel negative) frames drafts terms made h = number_view text rel negative frames drafts terms made t k h
-    by_place End frames drafts terms made h = end_view text  frames drafts terms made t k h
+    by_place End frames drafts terms made h = end_view text frames drafts terms made t k h

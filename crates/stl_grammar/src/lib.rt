@@ -12,6 +12,7 @@ mod lexer;
 mod number;
 mod parser;
 mod place;
+mod reader;
 mod shapes;
 mod token;
 
