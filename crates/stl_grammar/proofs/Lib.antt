@@ -10,3 +10,4 @@ pub mod MachineBegins
 pub mod MachineView
 pub mod OneParse
 pub mod LawProofs
+pub mod Rescaled

@@ -7,3 +7,5 @@ pub mod Laws
 pub mod Sums
 pub mod Parsing
 pub mod Judging
+pub mod Drafts
+pub mod Taken
