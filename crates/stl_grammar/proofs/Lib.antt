@@ -11,3 +11,5 @@ pub mod MachineView
 pub mod OneParse
 pub mod LawProofs
 pub mod Rescaled
+pub mod ParserReads
+pub mod ParserNodes
