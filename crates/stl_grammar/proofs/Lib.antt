@@ -14,3 +14,6 @@ pub mod OneParse
 pub mod LawProofs
 pub mod JudgeLaw
 pub mod ReadLaw
+pub mod Rescaled
+pub mod ParserReads
+pub mod ParserNodes

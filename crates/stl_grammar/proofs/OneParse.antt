@@ -92,7 +92,7 @@ window_same r r' (bound outside inside) (bound outside outside) h = absurd (cc)
 window_same r r' (bound outside outside) (bound outside inside) h = absurd (cc)
 
 -- a bracket comes first
-abbrev begins_bracket : List Token → Bool
+abbrev pub begins_bracket : List Token → Bool
 begins_bracket (open_bracket ∷ ts) = true
 begins_bracket (close_bracket ∷ ts) = true
 begins_bracket _ = false
@@ -142,7 +142,7 @@ since_same r r' since_bounded since_unbounded h f g = absurd (cc)
 since_same r r' since_unbounded since_bounded h f g = absurd (cc)
 
 -- the first token of an operand
-operand_bracket : {s : Scale} {k : ℕ} {ts : List Token} {ns : List Node} (r : List Token) → IsOperand s k ts ns → begins_bracket (ts ++ r) ≡ false
+pub operand_bracket : {s : Scale} {k : ℕ} {ts : List Token} {ns : List Node} (r : List Token) → IsOperand s k ts ns → begins_bracket (ts ++ r) ≡ false
 operand_bracket r (not p) = refl
 operand_bracket r (eventually b p) = refl
 operand_bracket r (always b p) = refl
@@ -387,7 +387,7 @@ module _ (s : Scale) (n : ℕ) (same : OperandSame s n) where
       let y = formula_same (k + length ns) r r' i f g e (rw x.0 d) (same_rest _ _ _ _ x.1) in
       (rw (x.0, y.0) refl, y.1)
 
-operand_length : {s : Scale} {k : ℕ} {ts : List Token} {ns : List Node} → IsOperand s k ts ns → 1 ≤ length ts
+pub operand_length : {s : Scale} {k : ℕ} {ts : List Token} {ns : List Node} → IsOperand s k ts ns → 1 ≤ length ts
 operand_length (not p) = omega arith
 operand_length (eventually b p) = omega arith
 operand_length (always b p) = omega arith

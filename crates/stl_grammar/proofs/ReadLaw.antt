@@ -164,7 +164,7 @@ module _ (text : List ℕ) (at : ℕ) (p : Parse) (codes : List Code) (h : HasRe
       let long : length text - at ≡ length x.bytes + length x.after = sym (length-drop at text) ∙ (ap length x.splits ∙ length-append x.bytes x.after) in
       record {
         before = x.token ∷ h.before;
-        taken = more f.code h.taken x.tells k.good k.order f.step;
+        taken = more x.token f.code h.taken x.tells k.good k.order f.step;
         runs = k.next;
         fit = kept (parse_step text p f.code) q f.step (fit_step text p f.code h.fit);
         few = k.few;

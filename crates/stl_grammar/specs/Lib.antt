@@ -9,3 +9,4 @@ pub mod Parsing
 pub mod Judging
 pub mod Taken
 pub mod Reading
+pub mod Drafts

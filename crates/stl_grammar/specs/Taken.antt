@@ -31,5 +31,5 @@ empty_parse = record { place = Operand; frames = []; drafts = []; terms = []; ma
 -- the tokens before a place, the last one first, and the parser after them
 pub data Taken (text : List ℕ) : List Tokens.Token → Parse → Type 0 where
   none : Taken text [] empty_parse
-  more : {before : List Tokens.Token} {p q : Parse} {t : Tokens.Token} (c : Code) → Taken text before p → Tells text c t → bad_in p.place c ≡ false
+  more : {before : List Tokens.Token} {p q : Parse} (t : Tokens.Token) (c : Code) → Taken text before p → Tells text c t → bad_in p.place c ≡ false
       → disorder_in p.place c ≡ false → parse_step text p c ≡ Some q → Taken text (t ∷ before) q
