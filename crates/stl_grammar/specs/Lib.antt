@@ -10,3 +10,4 @@ pub mod Judging
 pub mod Taken
 pub mod Reading
 pub mod Drafts
+pub mod Building

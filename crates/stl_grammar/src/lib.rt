@@ -3,6 +3,7 @@
 
 mod chars;
 mod decimal;
+mod digits;
 mod draft;
 mod fault;
 mod frames;
@@ -14,6 +15,7 @@ mod parser;
 mod place;
 mod reader;
 mod shapes;
+mod ticks;
 mod token;
 
 pub use fault::{FormulaFault, What};
