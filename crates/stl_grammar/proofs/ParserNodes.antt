@@ -1,33 +1,31 @@
 -- A parser that has taken a formula's tokens keeps the formula's nodes.
-use Rattle.std.proofs.Common.{◌≡◌, ℕ, zero, suc, ◌+◌, ◌-◌, ◌<◌, ◌≤◌, List, [], ◌∷◌, ◌++◌, length, refl, ap, sym, ◌∙◌, Bool, true, false, pos, arith, append_assoc, length-append, inl, inr, ◌⊎◌, if◌then◌else◌, ◌||◌}
-use Rattle.std.specs.Prelude.{codes, reverse, nat_le, nat_lt, neg_ℤ, ℤ, Option, Some, None}
+use Rattle.std.proofs.Common.{◌≡◌, ℕ, suc, ◌+◌, ◌-◌, ◌<◌, ◌≤◌, List, [], ◌∷◌, ◌++◌, length, refl, ap, sym, ◌∙◌, Bool, true, false, arith, append_assoc, length-append, inl, inr, ◌⊎◌, ◌||◌}
+use Rattle.std.specs.Prelude.{codes, reverse, nat_le, nat_lt, ℤ, Option, Some, None}
 use Rattle.std.proofs.lemmas.List.{append-nil}
 use Rattle.std.proofs.lemmas.Bool.{or_parts}
 use Rattle.std.proofs.lemmas.Bool.Decides.{nat_tests}
-use Rattle.stl_syntax.specs.Characters.{is_among, ticks}
-use Rattle.stl_syntax.specs.Names.{reserved}
+use Rattle.stl_syntax.specs.Characters.{ticks}
 use Rattle.stl_syntax.specs.declared.scale.Scale.{Scale}
 use Rattle.stl_syntax.specs.declared.atom.Atom.{Atom}
 use Rattle.stl_syntax.specs.declared.atom.Term.{Term}
 use Rattle.stl_syntax.specs.declared.rel.Rel.{Rel}
 use Rattle.stl_syntax.specs.declared.node.Node.{Node}
-use Rattle.stl_syntax.specs.declared.node.Node.TheVariants.{Const as TheConst, Atom as Leaf, Not as TheNot, And as TheAnd, Or as TheOr, Implies as TheImplies, Until as TheUntil, Eventually as TheEventually, Always as TheAlways, Since as TheSince, Once as TheOnce, Historically as TheHistorically}
-use Rattle.stl_grammar.specs.Grammar.{top, Token, word, number, relation, open_paren, close_paren, open_bracket, close_bracket, comma, star, plus, minus}
+use Rattle.stl_syntax.specs.declared.node.Node.TheVariants.{Atom as Leaf, Not as TheNot, And as TheAnd, Or as TheOr, Implies as TheImplies, Until as TheUntil, Eventually as TheEventually, Always as TheAlways, Since as TheSince, Once as TheOnce, Historically as TheHistorically}
+use Rattle.stl_grammar.specs.Grammar.{top, Token, word, number, relation, close_paren, open_bracket, close_bracket, comma}
 use Rattle.stl_grammar.specs.Grammar.{IsConstant, plain, positive, negative, IsTerm, scaled, AreTerms, more_plus, more_minus, IsAtom, first, signed as signed_atom, IsOpening, IsClosing, inside, outside}
 use Rattle.stl_grammar.specs.Grammar.{name as term_name, none as no_terms}
 use Rattle.stl_grammar.specs.Grammar.{IsFutureWindow, bound, IsPastWindow, nothing, bounded, unbounded, IsFuture, IsPast}
 use Rattle.stl_grammar.specs.Grammar.IsPast.{nothing as since_nothing, bounded as since_bounded, unbounded as since_unbounded}
 use Rattle.stl_grammar.specs.Grammar.{IsFormula, IsDisjunct, IsConjunct, IsTimed, IsOperand, disjunct, implies, conjunct, or, timed, and, operand, until, since, not, eventually, always, once, historically, always_true, always_false, parens, atom}
-use Rattle.stl_grammar.specs.Sums.{Comparison}
 use Rattle.stl_grammar.specs.Told.{Tells}
-use Rattle.stl_grammar.specs.Taken.{Taken, empty_parse}
-use Rattle.stl_grammar.specs.Drafts.{ticks_of, limit_of, past_low, past_high, past_low_in, past_high_in, one_in, two_in, node_in, nodes_in}
-use Rattle.stl_grammar.specs.Parsing.{Parse, infix_rank, rank, top_rank, node_of_frame, settled_drafts, settled_frames, settled, coefficient, signed, with_term, may_be_open, back, opening, closing, bounded_frame, back_frame, parse_step, between}
+use Rattle.stl_grammar.specs.Taken.{Taken}
+use Rattle.stl_grammar.specs.Drafts.{ticks_of, past_low, past_high, past_low_in, past_high_in, one_in, two_in, node_in, nodes_in}
+use Rattle.stl_grammar.specs.Parsing.{Parse, infix_rank, rank, top_rank, node_of_frame, settled_drafts, settled_frames, settled, coefficient, signed, may_be_open, back, bounded_frame, back_frame, parse_step, between}
 use Rattle.stl_grammar.specs.Judging.{bad_in}
 use Rattle.stl_grammar.specs.declared.decimal.Decimal.{Decimal}
 use Rattle.stl_grammar.specs.declared.token.Keyword.TheVariants.{True, False, Not, And, Or, Implies, Until, Since, Eventually, Always, Once, Historically, Inf}
 use Rattle.stl_grammar.specs.declared.token.Token.{Token as Code}
-use Rattle.stl_grammar.specs.declared.token.Token.TheVariants.{Keyword as IsKeyword, Name, Number, Relation, OpenParen, CloseParen, OpenBracket, CloseBracket, Comma, Star, Plus, Minus}
+use Rattle.stl_grammar.specs.declared.token.Token.TheVariants.{Keyword as IsKeyword, Number, Relation, OpenParen, CloseParen, OpenBracket, CloseBracket, Comma, Star, Plus, Minus}
 use Rattle.stl_grammar.specs.declared.draft.Window.{Window}
 use Rattle.stl_grammar.specs.declared.draft.Past.{Past}
 use Rattle.stl_grammar.specs.declared.draft.Past.TheVariants.{Whole, From, Within}
@@ -46,7 +44,9 @@ use Rattle.stl_grammar.specs.declared.place.Back.TheVariants.{Since as BSince, O
 use Rattle.stl_grammar.specs.declared.place.Place.{Place}
 use Rattle.stl_grammar.specs.declared.place.Place.TheVariants.{Operand, Bound, Low, Comma as AtComma, High, Closing, ClosingInf, Term as AtTerm, Star as AtStar, Name as AtName, Sign, Constant, Number as AtNumber, End}
 use Rattle.stl_grammar.proofs.OneParse.{begins_bracket, operand_bracket, operand_length}
-use Rattle.stl_grammar.proofs.ParserReads.{Reads, done, reads, taken_reads, reads_split, reads_none, keyword_told, relation_told, open_paren_told, close_paren_told, open_bracket_told, close_bracket_told, comma_told, star_told, plus_told, minus_told, stepped, stepped_number, stepped_name}
+use Rattle.stl_grammar.specs.FormulaRefusals.{MayEnd}
+use Rattle.stl_grammar.proofs.Rescaled.{rescaled}
+use Rattle.stl_grammar.proofs.ParserReads.{Reads, reads, taken_reads, reads_split, reads_none, keyword_told, relation_told, open_paren_told, close_paren_told, open_bracket_told, close_bracket_told, comma_told, star_told, plus_told, minus_told, stepped, stepped_number, stepped_name}
 
 -- frames that bind less tightly stay
 frames_stay : (r : ℕ) (frames : List Frame) → top_rank frames < r → settled_frames r frames ≡ frames
@@ -490,3 +490,121 @@ implies_step text m frames drafts e = ap (λ z. parse_step text z (IsKeyword Imp
 close_step : (text : List ℕ) (m : Parse) (frames : List Frame) (drafts : List Draft) → Ended 1 m (Opened ∷ frames) drafts
     → parse_step text m CloseParen ≡ Some (settled 5 (at End frames drafts [] m.made))
 close_step text m frames drafts e = ap (λ z. parse_step text z CloseParen) (parts m e.place e.terms) ∙ rw (e.frame, e.draft) refl
+
+-- the tokens of a formula leave its nodes
+module _ (text : List ℕ) (s : Scale) where
+  mutual
+    formula_left : {k : ℕ} {ts : List Token} {ns : List Node} → IsFormula s k ts ns → (frames : List Frame) (drafts : List Draft) (n : ℕ) (q : Parse) → top_rank frames < 2
+        → length drafts ≡ k → Reads text (at Operand frames drafts [] n) ts q
+        → (xs : List Draft) × (nodes_in s xs ≡ ns) × Ended 1 q (settled_frames 1 frames) (settled_drafts 1 frames (drafts ++ xs))
+    formula_left (disjunct d) frames drafts n q l e r =
+        let x = disjunct_left d frames drafts n q l e r in (x.0, x.1, ended_less 1 2 q frames (drafts ++ x.0) (omega arith) x.2)
+    formula_left {k} (implies {ts = ts} {us} {ns} {ms} d f) frames drafts n q l e r =
+        let sp = reads_split ts (word (codes "implies") ∷ us) r in
+        let (xs, g, h) = disjunct_left d frames drafts n sp.0 l e sp.1 in
+        let step = stepped sp.2 (IsKeyword Implies) (joined_to Then frames (drafts ++ xs) sp.0.made) (λ c j. keyword_told text Implies c j) (implies_step text sp.0 frames (drafts ++ xs) h) in
+        let (ys, i, j) = formula_left f (Between Then (length (drafts ++ xs) - 1) ∷ frames) (drafts ++ xs) (suc sp.0.made) q (omega arith) (count_is s k drafts xs ns e g) step in
+        let last : Draft = Two Then (length (drafts ++ xs) - 1) (length (drafts ++ xs ++ ys) - 1) in
+        let y : Ended 1 q (settled_frames 1 frames) (settled_drafts 1 frames (drafts ++ xs ++ ys ++ last ∷ [])) = j in
+        (
+          xs ++ ys ++ last ∷ [],
+          two_nodes s k ns ms drafts xs ys Then (TheImplies (top k ns) (top (k + length ns) ms)) e g i refl,
+          rw (two_drafts drafts xs ys last) at y,
+        )
+
+    disjunct_left : {k : ℕ} {ts : List Token} {ns : List Node} → IsDisjunct s k ts ns → (frames : List Frame) (drafts : List Draft) (n : ℕ) (q : Parse) → top_rank frames < 2
+        → length drafts ≡ k → Reads text (at Operand frames drafts [] n) ts q → Leaves s 2 ns frames drafts q
+    disjunct_left (conjunct c) frames drafts n q l e r =
+        let x = conjunct_left c frames drafts n q (omega arith) e r in (x.0, x.1, ended_stays 2 3 q frames (drafts ++ x.0) (omega arith) l x.2)
+    disjunct_left {k} (or {ts = ts} {us} {ns} {ms} d c) frames drafts n q l e r =
+        let sp = reads_split ts (word (codes "or") ∷ us) r in
+        let (xs, g, h) = disjunct_left d frames drafts n sp.0 l e sp.1 in
+        let step = stepped sp.2 (IsKeyword Or) (joined_to Either frames (drafts ++ xs) sp.0.made) (λ c j. keyword_told text Or c j) (or_step text sp.0 frames (drafts ++ xs) h) in
+        let (ys, i, j) = conjunct_left c (Between Either (length (drafts ++ xs) - 1) ∷ frames) (drafts ++ xs) (suc sp.0.made) q (omega arith) (count_is s k drafts xs ns e g) step in
+        two_ends s k ns ms frames drafts xs ys Either (TheOr (top k ns) (top (k + length ns) ms)) 3 q e g i refl (omega arith) l j
+
+    conjunct_left : {k : ℕ} {ts : List Token} {ns : List Node} → IsConjunct s k ts ns → (frames : List Frame) (drafts : List Draft) (n : ℕ) (q : Parse) → top_rank frames < 3
+        → length drafts ≡ k → Reads text (at Operand frames drafts [] n) ts q → Leaves s 3 ns frames drafts q
+    conjunct_left (timed t) frames drafts n q l e r =
+        let x = timed_left t frames drafts n q (omega arith) e r in (x.0, x.1, ended_stays 3 4 q frames (drafts ++ x.0) (omega arith) l x.2)
+    conjunct_left {k} (and {ts = ts} {us} {ns} {ms} c t) frames drafts n q l e r =
+        let sp = reads_split ts (word (codes "and") ∷ us) r in
+        let (xs, g, h) = conjunct_left c frames drafts n sp.0 l e sp.1 in
+        let step = stepped sp.2 (IsKeyword And) (joined_to Both frames (drafts ++ xs) sp.0.made) (λ c j. keyword_told text And c j) (and_step text sp.0 frames (drafts ++ xs) h) in
+        let (ys, i, j) = timed_left t (Between Both (length (drafts ++ xs) - 1) ∷ frames) (drafts ++ xs) (suc sp.0.made) q (omega arith) (count_is s k drafts xs ns e g) step in
+        two_ends s k ns ms frames drafts xs ys Both (TheAnd (top k ns) (top (k + length ns) ms)) 4 q e g i refl (omega arith) l j
+
+    timed_left : {k : ℕ} {ts : List Token} {ns : List Node} → IsTimed s k ts ns → (frames : List Frame) (drafts : List Draft) (n : ℕ) (q : Parse) → top_rank frames < 4
+        → length drafts ≡ k → Reads text (at Operand frames drafts [] n) ts q → Leaves s 4 ns frames drafts q
+    timed_left (operand p) frames drafts n q l e r =
+        let (xs, j, f, g) = operand_left p frames drafts n q e r in
+        (xs, f, ended_stays 4 5 q frames (drafts ++ xs) (omega arith) l (operand_ended q frames (drafts ++ xs) j (omega arith) g))
+    timed_left {k} (until {a = a} {b} {ts = ts} {us} {vs} {ns} {ms} p b' p') frames drafts n q l e r =
+        let sp = reads_split ts (word (codes "until") ∷ (us ++ vs)) (rw (append_assoc ts (word (codes "until") ∷ us) vs) at r) in
+        let (xs, j, f, g) = operand_left p frames drafts n sp.0 e sp.1 in
+        let at_end : Reads text (at End frames (drafts ++ xs) [] j) (word (codes "until") ∷ (us ++ vs)) q = rw (← operand_state frames (drafts ++ xs) j (omega arith), ← g) sp.2 in
+        let step = stepped at_end (IsKeyword Until) (at (Bound TUntil) frames (drafts ++ xs) [] (suc j)) (λ c h. keyword_told text Until c h) (until_step text frames (drafts ++ xs) j l) in
+        let (w, low, high, c, d, more) = until_reads text frames (drafts ++ xs) (suc j) vs b' step in
+        let (ys, i, f', g') = operand_left p' (Between (UpTo w) (length (drafts ++ xs) - 1) ∷ frames) (drafts ++ xs) (suc j) q (count_is s k drafts xs ns e f) more in
+        two_ends s k ns ms frames drafts xs ys (UpTo w) (TheUntil (top k ns) (top (k + length ns) ms) a b) 5 q e f f' (rw (low, high) refl) (omega arith) l
+        (operand_ended q (Between (UpTo w) (length (drafts ++ xs) - 1) ∷ frames) (drafts ++ xs ++ ys) i (omega arith) g')
+    timed_left {k} (since {a = a} {b} {ts = ts} {us} {vs} {ns} {ms} p b' p') frames drafts n q l e r =
+        let sp = reads_split ts (word (codes "since") ∷ (us ++ vs)) (rw (append_assoc ts (word (codes "since") ∷ us) vs) at r) in
+        let (xs, j, f, g) = operand_left p frames drafts n sp.0 e sp.1 in
+        let at_end : Reads text (at End frames (drafts ++ xs) [] j) (word (codes "since") ∷ (us ++ vs)) q = rw (← operand_state frames (drafts ++ xs) j (omega arith), ← g) sp.2 in
+        let step = stepped at_end (IsKeyword Since) (at (Bound TSince) frames (drafts ++ xs) [] (suc j)) (λ c h. keyword_told text Since c h) (since_step text frames (drafts ++ xs) j l) in
+        let (z, low, high, c, d, more) = since_reads text frames (drafts ++ xs) (suc j) vs b' p' step in
+        let (ys, i, f', g') = operand_left p' (Between (After z) (length (drafts ++ xs) - 1) ∷ frames) (drafts ++ xs) (suc j) q (count_is s k drafts xs ns e f) more in
+        two_ends s k ns ms frames drafts xs ys (After z) (TheSince (top k ns) (top (k + length ns) ms) a b) 5 q e f f' (rw (low, high) refl) (omega arith) l
+        (operand_ended q (Between (After z) (length (drafts ++ xs) - 1) ∷ frames) (drafts ++ xs ++ ys) i (omega arith) g')
+
+    operand_left : {k : ℕ} {ts : List Token} {ns : List Node} → IsOperand s k ts ns → (frames : List Frame) (drafts : List Draft) (n : ℕ) (q : Parse) → length drafts ≡ k
+        → Reads text (at Operand frames drafts [] n) ts q → OperandEnds s ns frames drafts q
+    operand_left {k} (not {ts = ts} {ns} p) frames drafts n q e r =
+        let step = stepped r (IsKeyword Not) (at Operand (Before Negation ∷ frames) drafts [] (suc n)) (λ c h. keyword_told text Not c h) refl in
+        one_ends s k ns frames drafts q Negation (TheNot (top k ns)) e (operand_left p (Before Negation ∷ frames) drafts (suc n) q e step) refl
+    operand_left {k} (eventually {a = a} {b} {a_in} {b_in} {ts} {us} {ns} b' p) frames drafts n q e r =
+        let step = stepped r (IsKeyword Eventually) (at (Bound TEventually) frames drafts [] (suc n)) (λ c h. keyword_told text Eventually c h) refl in
+        let (w, low, high, c, d, more) = future_reads text frames drafts (suc n) ts TEventually refl b' step in
+        one_ends s k ns frames drafts q (AtSome w) (TheEventually (top k ns) a b a_in b_in) e (operand_left p (Before (AtSome w) ∷ frames) drafts (suc n) q e more)
+        (rw (low, high, c, d) refl)
+    operand_left {k} (always {a = a} {b} {a_in} {b_in} {ts} {us} {ns} b' p) frames drafts n q e r =
+        let step = stepped r (IsKeyword Always) (at (Bound TAlways) frames drafts [] (suc n)) (λ c h. keyword_told text Always c h) refl in
+        let (w, low, high, c, d, more) = future_reads text frames drafts (suc n) ts TAlways refl b' step in
+        one_ends s k ns frames drafts q (AtEach w) (TheAlways (top k ns) a b a_in b_in) e (operand_left p (Before (AtEach w) ∷ frames) drafts (suc n) q e more)
+        (rw (low, high, c, d) refl)
+    operand_left {k} (once {a = a} {b} {a_in} {b_in} {ts} {us} {ns} b' p) frames drafts n q e r =
+        let step = stepped r (IsKeyword Once) (at (Bound TOnce) frames drafts [] (suc n)) (λ c h. keyword_told text Once c h) refl in
+        let (z, low, high, c, d, more) = past_reads text frames drafts (suc n) ts TOnce BOnce refl refl (inl refl) b' p step in
+        one_ends s k ns frames drafts q (BackAtSome z) (TheOnce (top k ns) a b a_in b_in) e (operand_left p (Before (BackAtSome z) ∷ frames) drafts (suc n) q e more)
+        (rw (low, high, c, d) refl)
+    operand_left {k} (historically {a = a} {b} {a_in} {b_in} {ts} {us} {ns} b' p) frames drafts n q e r =
+        let step = stepped r (IsKeyword Historically) (at (Bound THistorically) frames drafts [] (suc n)) (λ c h. keyword_told text Historically c h) refl in
+        let (z, low, high, c, d, more) = past_reads text frames drafts (suc n) ts THistorically BHistorically refl refl (inr refl) b' p step in
+        one_ends s k ns frames drafts q (BackAtEach z) (TheHistorically (top k ns) a b a_in b_in) e (operand_left p (Before (BackAtEach z) ∷ frames) drafts (suc n) q e more)
+        (rw (low, high, c, d) refl)
+    operand_left always_true frames drafts n q e r =
+        let step = stepped r (IsKeyword True) (settled 5 (at End frames (drafts ++ Const true ∷ []) [] (suc n))) (λ c h. keyword_told text True c h) refl in
+        (Const true ∷ [], suc n, refl, sym (reads_none step))
+    operand_left always_false frames drafts n q e r =
+        let step = stepped r (IsKeyword False) (settled 5 (at End frames (drafts ++ Const false ∷ []) [] (suc n))) (λ c h. keyword_told text False c h) refl in
+        (Const false ∷ [], suc n, refl, sym (reads_none step))
+    operand_left (parens {ts = ts} {ns} f) frames drafts n q e r =
+        let step = stepped r OpenParen (at Operand (Opened ∷ frames) drafts [] n) (λ c h. open_paren_told text c h) refl in
+        let sp = reads_split ts (close_paren ∷ []) step in
+        let (xs, g, h) = formula_left f (Opened ∷ frames) drafts n sp.0 (omega arith) e sp.1 in
+        let end = stepped sp.2 CloseParen (settled 5 (at End frames (drafts ++ xs) [] sp.0.made)) (λ c j. close_paren_told text c j) (close_step text sp.0 frames (drafts ++ xs) h) in
+        (xs, sp.0.made, g, sym (reads_none end))
+    operand_left (atom a) frames drafts n q e r = atom_reads text frames drafts n s a r
+
+-- a parser that has taken a formula's tokens keeps no operator and the formula's nodes, once what is open came to its end
+pub taken_nodes : (text : List ℕ) (s : Scale) {before : List Token} {p : Parse} {ns : List Node} → Taken text before p → IsFormula s 0 (reverse before) ns
+    → (p.place ≡ End) × (settled_frames 1 p.frames ≡ []) × (nodes_in s (settled_drafts 1 p.frames p.drafts) ≡ ns)
+taken_nodes text s {p = p} {ns} k f =
+    let (xs, g, h) = formula_left text s f [] [] 0 p (omega arith) refl (taken_reads k) in
+    (h.place, h.frame, ap (λ z. nodes_in s z) h.draft ∙ g)
+
+-- these nodes are the formula of the tokens, at each scale
+pub taken_formula : (text : List ℕ) {before : List Token} {p : Parse} → Taken text before p → MayEnd before → (s : Scale)
+    → IsFormula s 0 (reverse before) (nodes_in s (settled_drafts 1 p.frames p.drafts))
+taken_formula text k m s = let x = rescaled m.1 s in let y = taken_nodes text s k x.1 in rw y.2 x.1
