@@ -8,8 +8,12 @@ pub mod MachineRuns
 pub mod FrameLemmas
 pub mod MachineBegins
 pub mod MachineView
+pub mod ParserView
+pub mod ParserFit
 pub mod OneParse
 pub mod LawProofs
+pub mod JudgeLaw
+pub mod ReadLaw
 pub mod Rescaled
 pub mod ParserReads
 pub mod ParserNodes

@@ -1,5 +1,5 @@
 -- Digits and the numbers that they are.
-use Rattle.std.proofs.Common.{◌≡◌, ℕ, ◌+◌, ◌-◌, ◌*◌, min, Bool, true, List, [], ◌∷◌, ◌++◌, refl, arith}
+use Rattle.std.proofs.Common.{◌≤◌, ◌≡◌, ℕ, ◌+◌, ◌-◌, ◌*◌, min, Bool, true, List, [], ◌∷◌, ◌++◌, refl, arith}
 use Rattle.stl_syntax.specs.Characters.{all, decimal_value}
 
 pub all-push : (p : ℕ → Bool) (xs : List ℕ) (c : ℕ) → all p xs ≡ true → p c ≡ true → all p (xs ++ c ∷ []) ≡ true
@@ -16,3 +16,7 @@ decimal_value-min v n (c ∷ digits) h = decimal_value-min (10 * v + (c - 48)) (
 pub decimal_value-append : (n : ℕ) (xs ys : List ℕ) → decimal_value n (xs ++ ys) ≡ decimal_value (decimal_value n xs) ys
 decimal_value-append n [] ys = refl
 decimal_value-append n (x ∷ xs) ys = decimal_value-append (10 * n + (x - 48)) xs ys
+
+-- a power of ten up to the sixth
+pub small_power : (d k : ℕ) → d ≤ 6 → 10 ^ (d - k) ≤ 1000000
+small_power d k h = pow-le-pow_right (omega arith) (omega (arith, h))

@@ -120,7 +120,10 @@ ended_less r s q frames drafts l e = record {
 
 ended_stays : (r s : ℕ) (q : Parse) (frames : List Frame) (drafts : List Draft) → r ≤ s → top_rank frames < r → Ended s q frames drafts → Ended r q frames drafts
 ended_stays r s q frames drafts l t e = let x = ended_less r s q frames drafts l e in record {
-  place = x.place; terms = x.terms; frame = x.frame ∙ frames_stay r frames t; draft = x.draft ∙ drafts_stay r frames drafts t;
+  place = x.place;
+  terms = x.terms;
+  frame = x.frame ∙ frames_stay r frames t;
+  draft = x.draft ∙ drafts_stay r frames drafts t;
 }
 
 -- an operand of these nodes has come to its end
@@ -131,12 +134,11 @@ OperandEnds s ns frames drafts q = (xs : List Draft) × (j : ℕ) × (nodes_in s
 one_ends : (s : Scale) (k : ℕ) (ns : List Node) (frames : List Frame) (drafts : List Draft) (q : Parse) (o : Prefix) (x : Node) → length drafts ≡ k
     → OperandEnds s ns (Before o ∷ frames) drafts q → one_in s.time o (top k ns) ≡ x → OperandEnds s (ns ++ x ∷ []) frames drafts q
 one_ends s k ns frames drafts q o x e (xs, j, f, g) h =
-    let d : Draft = One o (length (drafts ++ xs) - 1) in
-    (
+    let d : Draft = One o (length (drafts ++ xs) - 1) in (
       xs ++ d ∷ [],
       j,
       nodes_append s xs (d ∷ []) ∙ (ap (λ z. z ++ one_in s.time o (length (drafts ++ xs) - 1) ∷ []) f
-        ∙ (ap (λ z. ns ++ one_in s.time o z ∷ []) (last_is s k drafts xs ns e f) ∙ ap (λ z. ns ++ z ∷ []) h)),
+          ∙ (ap (λ z. ns ++ one_in s.time o z ∷ []) (last_is s k drafts xs ns e f) ∙ ap (λ z. ns ++ z ∷ []) h)),
       g ∙ ap (λ z. settled 5 (at End frames z [] j)) (append_assoc drafts xs (d ∷ [])),
     )
 

@@ -7,5 +7,7 @@ pub mod Laws
 pub mod Sums
 pub mod Parsing
 pub mod Judging
-pub mod Drafts
 pub mod Taken
+pub mod Reading
+pub mod Drafts
+pub mod Building

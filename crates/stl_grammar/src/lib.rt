@@ -3,6 +3,7 @@
 
 mod chars;
 mod decimal;
+mod digits;
 mod draft;
 mod fault;
 mod frames;
@@ -12,7 +13,9 @@ mod lexer;
 mod number;
 mod parser;
 mod place;
+mod reader;
 mod shapes;
+mod ticks;
 mod token;
 
 pub use fault::{FormulaFault, What};
