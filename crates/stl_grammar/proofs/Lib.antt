@@ -17,3 +17,4 @@ pub mod ReadLaw
 pub mod Rescaled
 pub mod ParserReads
 pub mod ParserNodes
+pub mod TokensTaken

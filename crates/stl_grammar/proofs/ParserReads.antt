@@ -34,7 +34,7 @@ reads_last t c (reads d g a f r) h b e = reads d g a f (reads_last t c r h b e)
 
 pub taken_reads : {text : List ℕ} {before : List Token} {p : Parse} → Taken text before p → Reads text empty_parse (reverse before) p
 taken_reads none = done
-taken_reads (more {before = before} t c k h b e) =
+taken_reads (more {before = before} t c k h b o e) =
     let x : reverse (t ∷ before) ≡ reverse before ++ t ∷ [] = reverse-append (t ∷ []) before in
     rw x (reads_last t c (taken_reads k) h b e)
 
