@@ -1,7 +1,7 @@
 -- What a parser makes of tokens that the code tells: the code of a token, and the state after it.
-use Rattle.std.proofs.Common.{◌≡◌, ℕ, suc, ◌+◌, ◌-◌, ◌<◌, ◌≤◌, List, [], ◌∷◌, ◌++◌, length, take, drop, refl, ap, sym, ◌∙◌, Bool, true, false, arith, append_assoc, length-append, ◌||◌, if◌then◌else◌}
-use Rattle.std.specs.Prelude.{codes, bytes_eq, reverse, nat_le, nat_lt, Option, Some, None, IsTrue, MatchBool}
-use Rattle.std.proofs.lemmas.List.{append-nil, reverse-append}
+use Rattle.std.proofs.Common.{◌≡◌, ℕ, ◌-◌, List, [], ◌∷◌, ◌++◌, length, refl, ap, sym, ◌∙◌, Bool, true, false, arith, if◌then◌else◌}
+use Rattle.std.specs.Prelude.{codes, bytes_eq, reverse, nat_le, nat_lt, Option, Some, None, IsTrue}
+use Rattle.std.proofs.lemmas.List.{reverse-append}
 use Rattle.std.proofs.Math.Seq.{take-append_seam}
 use Rattle.std.proofs.lemmas.Bool.Decides.{nat_tests}
 use Rattle.stl_syntax.specs.Characters.{is_among}
@@ -10,7 +10,7 @@ use Rattle.stl_syntax.specs.declared.rel.Rel.{Rel}
 use Rattle.stl_grammar.specs.Tokens.{Token, word, number, relation, open_paren, close_paren, open_bracket, close_bracket, comma, star, plus, minus}
 use Rattle.stl_grammar.specs.Told.{Tells, spelling, IsNumber, IsNameAt}
 use Rattle.stl_grammar.specs.Taken.{Taken, none, more, empty_parse}
-use Rattle.stl_grammar.specs.Parsing.{Parse, parse_step, between, coefficient}
+use Rattle.stl_grammar.specs.Parsing.{Parse, parse_step, between}
 use Rattle.stl_grammar.specs.Judging.{bad_in, number_in}
 use Rattle.stl_grammar.specs.FormulaRefusals.{passes_limit}
 use Rattle.stl_grammar.specs.declared.decimal.Decimal.{Decimal}
@@ -19,7 +19,7 @@ use Rattle.stl_grammar.specs.declared.token.Keyword.TheVariants.{True, False, No
 use Rattle.stl_grammar.specs.declared.token.Token.{Token as Code}
 use Rattle.stl_grammar.specs.declared.token.Token.TheVariants.{Keyword as IsKeyword, Name, Number, Relation, OpenParen, CloseParen, OpenBracket, CloseBracket, Comma, Star, Plus, Minus}
 use Rattle.stl_grammar.specs.declared.place.Place.{Place}
-use Rattle.stl_grammar.specs.declared.place.Place.TheVariants.{Operand, Bound, Low, Comma as AtComma, High, Closing, ClosingInf, Term as AtTerm, Star as AtStar, Name as AtName, Sign, Constant, Number as AtNumber, End}
+use Rattle.stl_grammar.specs.declared.place.Place.TheVariants.{Low, High, Constant, Number as AtNumber}
 
 -- the tokens lead from one state to another, the first one first
 pub data Reads (text : List ℕ) : Parse → List Token → Parse → Type 0 where
@@ -34,7 +34,7 @@ reads_last t c (reads d g a f r) h b e = reads d g a f (reads_last t c r h b e)
 
 pub taken_reads : {text : List ℕ} {before : List Token} {p : Parse} → Taken text before p → Reads text empty_parse (reverse before) p
 taken_reads none = done
-taken_reads (more {before = before} t c k h b e) =
+taken_reads (more {before = before} t c k h b o e) =
     let x : reverse (t ∷ before) ≡ reverse before ++ t ∷ [] = reverse-append (t ∷ []) before in
     rw x (reads_last t c (taken_reads k) h b e)
 

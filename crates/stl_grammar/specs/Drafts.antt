@@ -1,5 +1,5 @@
 -- The nodes that a parser keeps without their scale, as nodes in ticks of one. A helper for the contracts of the code.
-use Rattle.std.specs.Prelude.{ℕ, Bool, true, false, if◌then◌else◌, List, [], ◌∷◌, ℤ, pos, neg_ℤ, Option, Some, None, map}
+use Rattle.std.specs.Prelude.{ℕ, Bool, true, if◌then◌else◌, List, [], ◌∷◌, ℤ, pos, neg_ℤ, Option, Some, None}
 use Rattle.stl_syntax.specs.Characters.{ticks}
 use Rattle.stl_syntax.specs.declared.scale.Scale.{Scale}
 use Rattle.stl_syntax.specs.declared.node.Node.{Node}

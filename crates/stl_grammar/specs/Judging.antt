@@ -1,16 +1,15 @@
 -- What a parser refuses: a helper for the contracts of the code.
-use Rattle.std.specs.Prelude.{◌≡◌, ℕ, suc, ◌*◌, ◌^◌, ◌+◌, ◌||◌, ◌==◌, nat_le, nat_lt, not, Bool, true, false, if◌then◌else◌, List, [], ◌∷◌, length, Option, Some, None}
+use Rattle.std.specs.Prelude.{◌≡◌, ℕ, ◌*◌, ◌^◌, ◌+◌, ◌||◌, ◌==◌, nat_lt, not, Bool, true, false, if◌then◌else◌, List, [], ◌∷◌, length, Option, Some, None}
 use Rattle.stl_grammar.specs.FormulaRefusals.{passes_limit, opens_bound}
 use Rattle.stl_grammar.specs.Told.{spelling}
 use Rattle.stl_grammar.specs.Machine as Machine
 use Rattle.stl_grammar.specs.Machine.{State, Mark, Owner, paren, operator, implication, of_until, of_since, of_future, of_past, at_operand, at_bound, at_low, at_comma, at_high, at_closing, at_term, at_star, at_name, at_sign, at_constant, at_number, at_end, expected_at, looks_back}
 use Rattle.stl_grammar.specs.Parsing.{Parse, parse_step}
-use Rattle.stl_grammar.specs.declared.decimal.Decimal.{Decimal}
-use Rattle.stl_grammar.specs.declared.token.Keyword.TheVariants.{True, False, Not, And, Or, Implies, Until, Since, Eventually, Always, Once, Historically, Inf}
+use Rattle.stl_grammar.specs.declared.token.Keyword.TheVariants.{Until, Eventually, Always, Inf}
 use Rattle.stl_grammar.specs.declared.token.Token.{Token}
-use Rattle.stl_grammar.specs.declared.token.Token.TheVariants.{Keyword as IsKeyword, Name, Number, Relation, OpenParen, CloseParen, OpenBracket, CloseBracket, Comma, Star, Plus, Minus}
+use Rattle.stl_grammar.specs.declared.token.Token.TheVariants.{Keyword as IsKeyword, Number, Plus, Minus}
 use Rattle.stl_grammar.specs.declared.draft.Infix.{Infix}
-use Rattle.stl_grammar.specs.declared.draft.Infix.TheVariants.{And as Both, Or as Either, Implies as Then, Until as UpTo, Since as After}
+use Rattle.stl_grammar.specs.declared.draft.Infix.TheVariants.{Implies as Then, Until as UpTo, Since as After}
 use Rattle.stl_grammar.specs.declared.draft.Frame.{Frame}
 use Rattle.stl_grammar.specs.declared.draft.Frame.TheVariants.{Paren as Opened, Prefix as Before, Infix as Between}
 use Rattle.stl_grammar.specs.declared.place.Timed.{Timed}

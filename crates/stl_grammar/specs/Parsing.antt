@@ -1,9 +1,8 @@
 -- A parser of tokens: what it keeps, and what each token makes of it. A helper for the contracts of the code.
-use Rattle.std.specs.Prelude.{◌≡◌, ℕ, suc, ◌+◌, ◌-◌, nat_le, ◌≤◌, MatchBool, IsTrue, Bool, true, false, if◌then◌else◌, List, [], ◌∷◌, ◌++◌, length, take, drop, ℤ, pos, neg_ℤ, Option, Some, None, option_map}
+use Rattle.std.specs.Prelude.{◌≡◌, ℕ, suc, ◌-◌, nat_le, ◌≤◌, MatchBool, IsTrue, Bool, true, false, if◌then◌else◌, List, [], ◌∷◌, ◌++◌, length, take, drop, ℤ, pos, neg_ℤ, Option, Some, None, option_map}
 use Rattle.stl_syntax.specs.declared.atom.Term.{Term}
 use Rattle.stl_syntax.specs.declared.rel.Rel.{Rel}
 use Rattle.stl_syntax.specs.Names.{is_name}
-use Rattle.stl_grammar.specs.Sums.{Comparison}
 use Rattle.stl_grammar.specs.declared.decimal.Decimal.{Decimal}
 use Rattle.stl_grammar.specs.declared.token.Keyword.{Keyword}
 use Rattle.stl_grammar.specs.declared.token.Keyword.TheVariants.{True, False, Not, And, Or, Implies, Until, Since, Eventually, Always, Once, Historically, Inf}
@@ -12,7 +11,6 @@ use Rattle.stl_grammar.specs.declared.token.Token.TheVariants.{Keyword as IsKeyw
 use Rattle.stl_grammar.specs.declared.draft.Window.{Window}
 use Rattle.stl_grammar.specs.declared.draft.Past.{Past}
 use Rattle.stl_grammar.specs.declared.draft.Past.TheVariants.{Whole, From, Within}
-use Rattle.stl_grammar.specs.declared.draft.Prefix.{Prefix}
 use Rattle.stl_grammar.specs.declared.draft.Prefix.TheVariants.{Not as Negation, Eventually as AtSome, Always as AtEach, Once as BackAtSome, Historically as BackAtEach}
 use Rattle.stl_grammar.specs.declared.draft.Infix.{Infix}
 use Rattle.stl_grammar.specs.declared.draft.Infix.TheVariants.{And as Both, Or as Either, Implies as Then, Until as UpTo, Since as After}

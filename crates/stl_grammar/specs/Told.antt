@@ -1,6 +1,5 @@
 -- How the code tells tokens.
-use Rattle.std.specs.Prelude.{◌≡◌, ℕ, ◌+◌, ◌||◌, ◌==◌, ◌<◌, ◌≤◌, nat_lt, nat_le, MatchBool, Bool, false, List, ◌∷◌, ◌++◌, length, drop, codes, IsTrue}
-use Rattle.stl_syntax.specs.Characters.{is_among}
+use Rattle.std.specs.Prelude.{◌≡◌, ℕ, ◌+◌, ◌||◌, ◌==◌, ◌<◌, nat_lt, nat_le, MatchBool, Bool, false, List, ◌∷◌, ◌++◌, length, drop, codes, IsTrue}
 use Rattle.stl_grammar.specs.Tokens.{Token, word, number, relation, open_paren, close_paren, open_bracket, close_bracket, comma, star, plus, minus, IsToken}
 use Rattle.stl_syntax.specs.Names.{is_name}
 use Rattle.stl_grammar.specs.declared.token.Keyword.{Keyword}

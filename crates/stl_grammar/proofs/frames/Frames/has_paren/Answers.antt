@@ -1,4 +1,4 @@
-use Rattle.std.proofs.Common.{◌≡◌, ◌∙◌, ap}
+use Rattle.std.proofs.Common.{◌∙◌, ap}
 use Rattle.std.specs.Prelude.{nat_lt}
 use Rattle.stl_grammar.proofs.FrameLemmas.{paren_counted}
 use Rattle.stl_grammar.proofs.frames.Frames.has_paren.Goals as goal
