@@ -19,3 +19,5 @@ pub mod ParserReads
 pub mod ParserNodes
 pub mod BuildLemmas
 pub mod TokensTaken
+pub mod DigitsTold
+pub mod FinishLaw
