@@ -18,3 +18,4 @@ pub mod Rescaled
 pub mod ParserReads
 pub mod ParserNodes
 pub mod TokensTaken
+pub mod ReadNodes

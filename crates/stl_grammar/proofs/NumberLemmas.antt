@@ -1,5 +1,6 @@
 -- Digits and the numbers that they are.
-use Rattle.std.proofs.Common.{◌≤◌, ◌≡◌, ℕ, ◌+◌, ◌-◌, ◌*◌, min, Bool, true, List, [], ◌∷◌, ◌++◌, refl, arith}
+use Rattle.std.proofs.Common.{◌≡◌, ◌≤◌, ◌^◌, ℕ, ◌+◌, ◌-◌, ◌*◌, min, Bool, true, List, [], ◌∷◌, ◌++◌, refl, arith}
+use Rattle.std.proofs.Math.Nat.{pow-le-pow_right}
 use Rattle.stl_syntax.specs.Characters.{all, decimal_value}
 
 pub all-push : (p : ℕ → Bool) (xs : List ℕ) (c : ℕ) → all p xs ≡ true → p c ≡ true → all p (xs ++ c ∷ []) ≡ true
