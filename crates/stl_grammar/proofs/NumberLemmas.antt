@@ -20,4 +20,4 @@ decimal_value-append n (x ∷ xs) ys = decimal_value-append (10 * n + (x - 48)) 
 
 -- a power of ten up to the sixth
 pub small_power : (d k : ℕ) → d ≤ 6 → 10 ^ (d - k) ≤ 1000000
-small_power d k h = pow-le-pow_right (omega arith) (omega (arith, h))
+small_power d k h = pow-le-pow_right {n = 10} (omega arith) {i = d - k} {j = 6} (omega (arith, h))
