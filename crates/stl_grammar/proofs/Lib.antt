@@ -21,3 +21,4 @@ pub mod BuildLemmas
 pub mod TokensTaken
 pub mod DigitsTold
 pub mod FinishLaw
+pub mod ReadNodes

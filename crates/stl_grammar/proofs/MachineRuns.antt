@@ -38,19 +38,19 @@ run_go (t ∷ before) =
 abbrev pub st : Place → Bool → List Mark → ℕ → Option State
 st p h marks n = Some (record { place = p; had = h; marks = marks; nodes = n })
 
-constant_runs : {digits : ℕ} {vs : List Token} {c : _} → IsConstant digits vs c → (h : Bool) (marks : List Mark) (n : ℕ)
+pub constant_runs : {digits : ℕ} {vs : List Token} {c : _} → IsConstant digits vs c → (h : Bool) (marks : List Mark) (n : ℕ)
     → go (st at_constant h marks n) vs ≡ st at_end h (without_operators marks) n
 constant_runs plain h marks n = refl
 constant_runs positive h marks n = refl
 constant_runs negative h marks n = refl
 
-term_runs : {ts : List Token} {k : ℕ} {w : List ℕ} → IsTerm ts k w → (j : ℕ) (h : Bool) (marks : List Mark) (n : ℕ)
+pub term_runs : {ts : List Token} {k : ℕ} {w : List ℕ} → IsTerm ts k w → (j : ℕ) (h : Bool) (marks : List Mark) (n : ℕ)
     → go (st (at_term j) h marks n) ts ≡ st (at_sign (suc j)) h marks n
 term_runs (term_name {w = w} e) j h marks n = rw (name_kind w e) refl
 term_runs (scaled {w = w} e) j h marks n = rw (name_kind w e) refl
 
 -- further terms, up to the relation
-terms_run : {us : List Token} {terms : _} → AreTerms us terms → (j : ℕ) (h : Bool) (marks : List Mark) (n : ℕ)
+pub terms_run : {us : List Token} {terms : _} → AreTerms us terms → (j : ℕ) (h : Bool) (marks : List Mark) (n : ℕ)
     → (i : ℕ) × (go (st (at_sign j) h marks n) us ≡ st (at_sign i) h marks n)
 terms_run no_terms j h marks n = (j, refl)
 terms_run (more_plus {ts = ts} {us} t u) j h marks n =
@@ -61,12 +61,12 @@ terms_run (more_minus {ts = ts} {us} t u) j h marks n =
     (r.0, go_then (st (at_term j) h marks n) (st (at_sign (suc j)) h marks n) (st (at_sign r.0) h marks n) ts us (term_runs t j h marks n) r.1)
 
 -- an atom: its first term makes the node
-first_runs : {ts : List Token} {k : ℕ} {w : List ℕ} → IsTerm ts k w → (h : Bool) (marks : List Mark) (n : ℕ)
+pub first_runs : {ts : List Token} {k : ℕ} {w : List ℕ} → IsTerm ts k w → (h : Bool) (marks : List Mark) (n : ℕ)
     → go (st at_operand h marks n) ts ≡ st (at_sign 1) h marks (suc n)
 first_runs (term_name {w = w} e) h marks n = rw (name_kind w e) refl
 first_runs (scaled {w = w} e) h marks n = rw (name_kind w e) refl
 
-signed_runs : {us : List Token} {t : _} {terms : _} → AreTerms us (t ∷ terms) → (h : Bool) (marks : List Mark) (n : ℕ)
+pub signed_runs : {us : List Token} {t : _} {terms : _} → AreTerms us (t ∷ terms) → (h : Bool) (marks : List Mark) (n : ℕ)
     → (i : ℕ) × (go (st at_operand h marks n) us ≡ st (at_sign i) h marks (suc n))
 signed_runs (more_plus {ts = ts} {us} t u) h marks n =
     let r = terms_run u 1 h marks (suc n) in
@@ -88,14 +88,14 @@ atom_runs (signed {us = us} {vs} {rel = rel} u c) h marks n =
     (constant_runs c h marks (suc n))
 
 -- bounds
-window_runs : {digits a b : ℕ} {us : List Token} {a_in b_in : Bool} → IsFutureWindow digits us a b a_in b_in → (h : Bool) (marks : List Mark) (n : ℕ)
+pub window_runs : {digits a b : ℕ} {us : List Token} {a_in b_in : Bool} → IsFutureWindow digits us a b a_in b_in → (h : Bool) (marks : List Mark) (n : ℕ)
     → go (st (at_bound of_future) h marks n) us ≡ st at_operand h marks n
 window_runs (bound inside inside) h marks n = refl
 window_runs (bound inside outside) h marks n = refl
 window_runs (bound outside inside) h marks n = refl
 window_runs (bound outside outside) h marks n = refl
 
-until_runs : {digits a b : ℕ} {us : List Token} → IsFuture digits us a b → (h : Bool) (marks : List Mark) (n : ℕ)
+pub until_runs : {digits a b : ℕ} {us : List Token} → IsFuture digits us a b → (h : Bool) (marks : List Mark) (n : ℕ)
     → go (st (at_bound of_until) h marks n) us ≡ st at_operand h marks n
 until_runs (bound inside inside) h marks n = refl
 
@@ -159,7 +159,7 @@ since_runs since_bounded p h marks n = refl
 since_runs since_unbounded p h marks n = refl
 
 -- the first marks, up to the others, are each of an `implies`
-data Implied : List Mark → List Mark → Type 0 where
+pub data Implied : List Mark → List Mark → Type 0 where
   here : {marks : List Mark} → Implied marks marks
   more : {marks all : List Mark} → Implied (implication ∷ marks) all → Implied marks all
 
@@ -191,7 +191,7 @@ count_is p h marks n m e = ap (λ x. st p h marks x) e
 mutual
   unfolding kind
 
-  formula_runs : {s : Scale} {k : ℕ} {ts : List Token} {ns : List Node} → IsFormula s k ts ns → (marks : List Mark) (n : ℕ)
+  pub formula_runs : {s : Scale} {k : ℕ} {ts : List Token} {ns : List Node} → IsFormula s k ts ns → (marks : List Mark) (n : ℕ)
       → (h : Bool) × (all : List Mark) × Implied (without_operators marks) all × (go (st at_operand false marks n) ts ≡ st at_end h all (n + length ns))
   formula_runs (disjunct {ns = ns} d) marks n = let r = disjunct_runs d marks n in (r.0, without_operators marks, here, r.1)
   formula_runs (implies {k = k} {ts = ts} {us} {ns} {ms} d f) marks n =
@@ -204,7 +204,7 @@ mutual
             (q.3 ∙ count_is at_end q.0 q.1 _ _ (one_after n ns ms (Implies (top k ns) (top (k + length ns) ms)))),
       )
 
-  disjunct_runs : {s : Scale} {k : ℕ} {ts : List Token} {ns : List Node} → IsDisjunct s k ts ns → (marks : List Mark) (n : ℕ)
+  pub disjunct_runs : {s : Scale} {k : ℕ} {ts : List Token} {ns : List Node} → IsDisjunct s k ts ns → (marks : List Mark) (n : ℕ)
       → (h : Bool) × (go (st at_operand false marks n) ts ≡ st at_end h (without_operators marks) (n + length ns))
   disjunct_runs (conjunct c) marks n = conjunct_runs c marks n
   disjunct_runs (or {k = k} {ts = ts} {us} {ns} {ms} d c) marks n =
@@ -215,7 +215,7 @@ mutual
             (rw without_twice at q.1 ∙ count_is at_end q.0 (without_operators marks) _ _ (one_after n ns ms (Or (top k ns) (top (k + length ns) ms)))),
       )
 
-  conjunct_runs : {s : Scale} {k : ℕ} {ts : List Token} {ns : List Node} → IsConjunct s k ts ns → (marks : List Mark) (n : ℕ)
+  pub conjunct_runs : {s : Scale} {k : ℕ} {ts : List Token} {ns : List Node} → IsConjunct s k ts ns → (marks : List Mark) (n : ℕ)
       → (h : Bool) × (go (st at_operand false marks n) ts ≡ st at_end h (without_operators marks) (n + length ns))
   conjunct_runs (timed t) marks n = timed_runs t marks n
   conjunct_runs (and {k = k} {ts = ts} {us} {ns} {ms} c t) marks n =
@@ -226,7 +226,7 @@ mutual
             (rw without_twice at q.1 ∙ count_is at_end q.0 (without_operators marks) _ _ (one_after n ns ms (And (top k ns) (top (k + length ns) ms)))),
       )
 
-  timed_runs : {s : Scale} {k : ℕ} {ts : List Token} {ns : List Node} → IsTimed s k ts ns → (marks : List Mark) (n : ℕ)
+  pub timed_runs : {s : Scale} {k : ℕ} {ts : List Token} {ns : List Node} → IsTimed s k ts ns → (marks : List Mark) (n : ℕ)
       → (h : Bool) × (go (st at_operand false marks n) ts ≡ st at_end h (without_operators marks) (n + length ns))
   timed_runs (operand p) marks n = (false, operand_runs p false marks n)
   timed_runs (until {k = k} {a = a} {b} {ts = ts} {us} {vs} {ns} {ms} p w q) marks n =
@@ -250,7 +250,7 @@ mutual
             ∙ (rw without_twice at e ∙ count_is at_end true (without_operators marks) _ _ (one_after n ns ms (Since (top k ns) (top (k + length ns) ms) a b))))),
       )
 
-  operand_runs : {s : Scale} {k : ℕ} {ts : List Token} {ns : List Node} → IsOperand s k ts ns → (h : Bool) (marks : List Mark) (n : ℕ)
+  pub operand_runs : {s : Scale} {k : ℕ} {ts : List Token} {ns : List Node} → IsOperand s k ts ns → (h : Bool) (marks : List Mark) (n : ℕ)
       → go (st at_operand h marks n) ts ≡ st at_end h (without_operators marks) (n + length ns)
   operand_runs (not {k = k} {ts} {ns} p) h marks n = operand_runs p h (operator ∷ marks) (suc n) ∙ count_is at_end h (without_operators marks) _ _ (one_more n ns (Not (top k ns)))
   operand_runs (eventually {k = k} {a} {b} {a_in} {b_in} {ts} {us} {ns} w p) h marks n =

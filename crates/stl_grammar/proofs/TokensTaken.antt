@@ -1,13 +1,13 @@
 -- What holds of the tokens of a text that is not refused.
-use Rattle.std.proofs.Common.{◌≡◌, ℕ, suc, ◌+◌, ◌<◌, ◌≤◌, List, [], ◌∷◌, ◌++◌, length, refl, ap, sym, ◌∙◌, Bool, true, false, inl, inr, arith}
-use Rattle.std.specs.Prelude.{reverse, nat_lt, Option, Some, None, max, ◌||◌}
+use Rattle.std.proofs.Common.{◌≡◌, ℕ, suc, ◌+◌, ◌<◌, ◌≤◌, List, [], ◌∷◌, length, refl, Bool, true, false, inl, inr, arith}
+use Rattle.std.specs.Prelude.{nat_lt}
 use Rattle.std.proofs.lemmas.Bool.{or_parts}
 use Rattle.std.proofs.lemmas.Bool.Decides.{nat_tests}
-use Rattle.stl_grammar.specs.Tokens.{Token, word, number, relation, open_paren, close_paren, open_bracket, close_bracket, comma, star, plus, minus, IsToken, Lexes, nothing, blank as skip, token}
+use Rattle.stl_grammar.specs.Tokens.{Token, word, number, relation, comma, plus, minus, Lexes, nothing, blank as skip, token}
 use Rattle.stl_grammar.specs.Grammar.{first_decimals, value_digits, time_digits}
-use Rattle.stl_grammar.specs.FormulaRefusals.{MayBegin, RefusedAt, TokenFault, blank, here, later, at_end, is_unbounded, expected, pending, nodes_made, begins_fifth_term, passes_limit, is_bad_number, is_out_of_order}
+use Rattle.stl_grammar.specs.FormulaRefusals.{MayBegin, RefusedAt, TokenFault, blank, here, later, is_unbounded, expected, pending, nodes_made, begins_fifth_term, passes_limit, is_bad_number, is_out_of_order}
 use Rattle.stl_grammar.specs.declared.fault.What.{What}
-use Rattle.stl_grammar.specs.declared.fault.What.TheVariants.{Operand, Number, Comma, Bracket, Star, Name, Term, Relation, Constant, Paren, End}
+use Rattle.stl_grammar.specs.declared.fault.What.TheVariants.{Number, Constant}
 use Rattle.stl_grammar.specs.declared.fault.FormulaFault.{FormulaFault}
 use Rattle.stl_grammar.specs.declared.fault.FormulaFault.TheVariants.{Expected, BadNumber, BoundOrder, UnboundedFuture, TooManyTerms, TooDeep, TooManyNodes}
 
