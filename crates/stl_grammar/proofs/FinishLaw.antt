@@ -18,6 +18,7 @@ use Rattle.stl_grammar.proofs.RefusalExamples.{passed}
 use Rattle.stl_grammar.proofs.LawProofs.{one_formula}
 use Rattle.stl_grammar.proofs.ParserNodes.{taken_formula}
 use Rattle.stl_grammar.proofs.TokensTaken.{digits_small}
+use Rattle.stl_grammar.proofs.ReadNodes.{nodes_ready}
 use Rattle.stl_grammar.proofs.DigitsTold.{time_same, value_same}
 use Rattle.stl_grammar.specs.declared.token.Token.{Token as Code}
 use Rattle.stl_grammar.specs.declared.fault.FormulaFault.{FormulaFault}
@@ -45,6 +46,10 @@ module _ (text : List ℕ) (p : Parse) (codes : List Code) (h : IsRead text p co
   parsed : IsFormula (scale_of codes) 0 (reverse h.before) nodes
   unfolding nodes
   parsed = taken_formula text h.taken h.ended (scale_of codes)
+
+  pub read_nodes : AreNodes (nodes_in (scale_of codes) (settled_drafts 1 p.frames p.drafts))
+  unfolding nodes
+  read_nodes = nodes_ready text (scale_of codes) h.lexed h.free parsed (omega (arith, time_is))
 
   same_scale : (t v u w : ℕ) → t ≡ u → v ≡ w → ◌≡◌ {A = Scale} (record { time = t; value = v }) (record { time = u; value = w })
   same_scale t v u w e f = rw (e, f) refl
@@ -81,7 +86,7 @@ module _ (text : List ℕ) (short : length text ≤ 8192) (some : all is_blank t
       sound r (inl (l, e)) = no_long l
       sound r (inr (_, inl (l, e))) = no_empty l
       sound r (inr (_, inr (_, inl t))) = free r t
-      sound r (inr (_, inr (_, inr (_, (g, (x, t)))))) = let e : g ≡ f = one_formula text g f x k.parsed in k.small r (subst (λ z. IsTooLarge ConstantTooLarge ReachTooLarge z.nodes r) e t)
+      sound r (inr (_, inr (_, inr (_, (g, x, t))))) = let e : g ≡ f = one_formula text g f x k.parsed in k.small r (subst (λ z. IsTooLarge ConstantTooLarge ReachTooLarge z.nodes r) e t)
 
   pub token_fault : (r : FormulaFault) → TokenFault [] 0 text r → IsFormulaFault text r
   token_fault r t = inr (passed _ _ no_long, inr (passed _ _ no_empty, inl t))
