@@ -22,3 +22,6 @@ mod token;
 
 pub use fault::{FormulaFault, What};
 pub use text::parse;
+
+#[cfg(test)]
+mod tests;
