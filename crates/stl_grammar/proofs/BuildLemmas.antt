@@ -1,13 +1,13 @@
 -- The nodes of drafts, one after another.
-use Rattle.std.proofs.Common.{◌≡◌, ℕ, zero, suc, ◌+◌, ◌-◌, ◌*◌, ◌<◌, ◌≤◌, List, [], ◌∷◌, ◌++◌, length, take, drop, get_or, reverse, refl, sym, ap, ◌∙◌, subst, Bool, true, false, arith, append_assoc, inl, inr}
-use Rattle.std.specs.Prelude.{All, Some, None, slice_get, nat_lt, nat_abs, sum_by, IsTrue}
+use Rattle.std.proofs.Common.{◌≡◌, ℕ, zero, suc, ◌+◌, ◌<◌, ◌≤◌, List, [], ◌∷◌, ◌++◌, length, take, drop, get_or, reverse, refl, sym, ap, ◌∙◌, subst, true, false, arith, append_assoc, inl, inr}
+use Rattle.std.specs.Prelude.{All, Some, slice_get, nat_abs}
 use Rattle.std.proofs.lemmas.Bool.Decides.{nat_tests}
-use Rattle.std.proofs.lemmas.List.{take_more, take_all, take_at, drop_more, take-append-drop, length-append, length_push, reverse-append, length-take-le}
+use Rattle.std.proofs.lemmas.List.{take_more, take_at, drop_more, take-append-drop, length-append, reverse-append, length-take-le}
 use Rattle.std.proofs.lemmas.List.Elements.{All-nil, All-cons, All-head, All-tail, All-same, All-append, All-weaker}
 use Rattle.std.proofs.lemmas.List.Sums.{sum_by-append}
 use Rattle.stl_syntax.specs.Formula.{IsFirst}
 use Rattle.stl_syntax.specs.Limits.{own_reach, reach, HasLargeConstant, IsTooLarge}
-use Rattle.stl_syntax.specs.PostOrder.{IsPostOrder, MayFollow, children}
+use Rattle.stl_syntax.specs.PostOrder.{MayFollow, children}
 use Rattle.stl_syntax.specs.WellFormed.{HasBounds}
 use Rattle.stl_syntax.specs.declared.scale.Scale.{Scale}
 use Rattle.stl_syntax.specs.declared.node.Node.{Node}

@@ -1,9 +1,8 @@
 -- The digits of the tokens, told by the code's tokens.
-use Rattle.std.proofs.Common.{◌≡◌, ℕ, max, List, [], ◌∷◌, map, refl, sym, ap, ◌∙◌}
-use Rattle.stl_grammar.specs.Tokens.{Token}
+use Rattle.std.proofs.Common.{◌≡◌, ℕ, max, List, [], ◌∷◌, map, refl, ap, ◌∙◌}
 use Rattle.stl_grammar.specs.Grammar.{first_decimals, value_digits, time_digits}
 use Rattle.stl_grammar.specs.Taken.{plain}
-use Rattle.stl_grammar.specs.Building.{decimals_of, decimals_first, value_decimals, about_comma, time_decimals}
+use Rattle.stl_grammar.specs.Building.{decimals_first, value_decimals, time_decimals}
 use Rattle.stl_grammar.specs.declared.token.Token.{Token as Code}
 use Rattle.stl_grammar.specs.declared.token.Token.TheVariants.{Keyword as IsKeyword, Name, Number, Relation, OpenParen, CloseParen, OpenBracket, CloseBracket, Comma, Star, Plus, Minus}
 

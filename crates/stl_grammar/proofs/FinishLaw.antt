@@ -1,5 +1,5 @@
 -- The formula of a text that was read.
-use Rattle.std.proofs.Common.{◌≡◌, ℕ, ◌<◌, ◌≤◌, List, [], map, reverse, refl, sym, ap, ◌∙◌, subst, Bool, true, false, arith, inl, inr, ◌⊎◌, length}
+use Rattle.std.proofs.Common.{◌≡◌, ℕ, ◌<◌, ◌≤◌, List, [], reverse, refl, sym, ap, ◌∙◌, subst, true, false, arith, inl, inr, length}
 use Rattle.std.specs.Prelude.{IsTrue}
 use Rattle.stl_syntax.specs.Characters.{is_blank, all}
 use Rattle.stl_syntax.specs.Formula.{Formula}
@@ -7,7 +7,6 @@ use Rattle.stl_syntax.specs.Limits.{IsTooLarge}
 use Rattle.stl_syntax.specs.WellFormed.{IsScale}
 use Rattle.stl_syntax.specs.declared.scale.Scale.{Scale}
 use Rattle.stl_syntax.specs.declared.node.Node.{Node}
-use Rattle.stl_grammar.specs.Tokens.{Token}
 use Rattle.stl_grammar.specs.Grammar.{IsFormula, FormulaText, time_digits, value_digits}
 use Rattle.stl_grammar.specs.FormulaRefusals.{IsFormulaOf, IsFormulaFault, IsLateFault, TokenFault}
 use Rattle.stl_grammar.specs.Parsing.{Parse, settled_drafts}

@@ -1,5 +1,5 @@
 -- What the reading of a text comes to. A helper for the contracts of the code.
-use Rattle.std.specs.Prelude.{◌≡◌, ℕ, ◌+◌, ◌⊎◌, List, [], ◌∷◌, ◌++◌, drop, map, reverse, Option, Some, None}
+use Rattle.std.specs.Prelude.{◌≡◌, ℕ, ◌+◌, ◌⊎◌, List, [], ◌∷◌, ◌++◌, drop, map, reverse, Some, None}
 use Rattle.stl_grammar.specs.Tokens as Tokens
 use Rattle.stl_grammar.specs.Tokens.{Lexes}
 use Rattle.stl_grammar.specs.FormulaRefusals.{BeginsNoToken, TokenFault, MayEnd}

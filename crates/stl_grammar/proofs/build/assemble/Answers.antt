@@ -1,6 +1,6 @@
 -- The last of the drafts that are left is the next node.
-use Rattle.std.proofs.Common.{◌≡◌, ◌++◌, ◌∷◌, [], ◌≤◌, List, ap, sym, ◌∙◌, reverse, length}
-use Rattle.std.proofs.lemmas.List.{reverse-reverse, append-nil}
+use Rattle.std.proofs.Common.{◌≡◌, ◌++◌, ◌∷◌, [], List, ap, ◌∙◌, reverse}
+use Rattle.std.proofs.lemmas.List.{reverse-reverse}
 use Rattle.stl_grammar.specs.Drafts.{nodes_in, node_in}
 use Rattle.stl_grammar.proofs.BuildLemmas.{ready, pushed}
 use Rattle.stl_grammar.proofs.build.assemble.Goals as goal

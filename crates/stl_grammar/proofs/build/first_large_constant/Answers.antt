@@ -1,5 +1,5 @@
 -- None of the constants before the place is large.
-use Rattle.std.proofs.Common.{sym, ◌∙◌, subst, take, false}
+use Rattle.std.proofs.Common.{sym, ◌∙◌, subst, false}
 use Rattle.std.proofs.lemmas.List.{take_all}
 use Rattle.std.specs.Prelude.{All}
 use Rattle.std.proofs.Common.{◌≡◌}

@@ -3,11 +3,9 @@ use Rattle.std.proofs.Common.{◌≡◌, ℕ, List, ap, sym, ◌∙◌, subst, r
 use Rattle.std.proofs.lemmas.Result.{IfOk-weaker, IfErr-weaker}
 use Rattle.stl_syntax.specs.WellFormed.{IsScale}
 use Rattle.stl_syntax.specs.declared.scale.Scale.{Scale}
-use Rattle.stl_grammar.specs.Parsing.{settled_drafts}
 use Rattle.stl_grammar.specs.Building.{AreNodes, IsBuilt, time_decimals, value_decimals}
 use Rattle.stl_grammar.specs.Drafts.{nodes_in}
 use Rattle.stl_grammar.specs.declared.token.Token.{Token}
-use Rattle.stl_grammar.specs.declared.draft.Draft.{Draft}
 use Rattle.stl_grammar.proofs.FinishLaw.{scale_of, read_scale, read_nodes, built_parsed, late_fault}
 use Rattle.stl_grammar.proofs.text.finish.Goals as goal
 
