@@ -1,12 +1,11 @@
 -- Texts of formulas with their nodes, and the bytes of a trace.
-use Rattle.std.proofs.Common.{[], ◌∷◌, ◌++◌, pos, refl, true, lit≤, lit<}
+use Rattle.std.proofs.Common.{[], ◌∷◌, pos, refl, true}
 use Rattle.std.specs.Prelude.{codes}
 use Rattle.stl_grammar.specs.Tokens.{nothing, blank as skip, token, a_word, an_integer, a_decimal, at_least}
 use Rattle.stl_grammar.specs.Grammar.{FormulaText, disjunct, conjunct, timed, operand, not, always_true, atom, first}
 use Rattle.stl_grammar.specs.Grammar.{name as term_name, none as no_terms, plain as no_sign}
-use Rattle.stl_syntax.specs.Characters.{integer}
 use Rattle.stl_syntax.specs.declared.node.Node.TheVariants.{Const, Atom as Leaf, Not}
-use Rattle.stl_syntax.proofs.Examples.{at_least_5, rise, x_column, no_digits}
+use Rattle.stl_syntax.proofs.Examples.{at_least_5, no_digits}
 
 x_text : FormulaText (codes "x >= 5") (record { nodes = Leaf at_least_5 ∷ []; scale = no_digits })
 x_text = record {

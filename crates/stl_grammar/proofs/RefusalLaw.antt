@@ -1,11 +1,10 @@
 -- At most one refusal of a token stands first.
-use Rattle.std.proofs.Common.{◌≡◌, ℕ, List, [], ◌∷◌, ◌++◌, refl, ap, sym, ◌∙◌, inl, inr, Bool, true, false, if◌then◌else◌, arith, append_assoc}
+use Rattle.std.proofs.Common.{◌≡◌, ℕ, List, [], ◌∷◌, ◌++◌, refl, ap, sym, ◌∙◌, Bool, true, false, if◌then◌else◌, arith, append_assoc}
 use Rattle.std.proofs.lemmas.List.{append_cancel_right}
 use Rattle.std.specs.Prelude.{◌==◌, Option, Some, None}
 use Rattle.stl_syntax.specs.Characters.{is_blank, is_digit, begins_word, goes_on_word, all, StopsAt, after_first, begins_decimals, without_zeros}
 use Rattle.stl_syntax.proofs.ChoiceLemmas.{AtMostOne, where-unique, or_else-unique}
-use Rattle.stl_syntax.proofs.CharacterLemmas.{span_of, span_all, span_whole, after_all}
-use Rattle.stl_syntax.specs.Choice.{◌or_else◌, Where}
+use Rattle.stl_syntax.proofs.CharacterLemmas.{span_of, span_all, after_all}
 use Rattle.stl_grammar.specs.Tokens.{Token, word, relation, open_paren, close_paren, open_bracket, close_bracket, comma, star, plus, minus, decimal_number, IsToken, a_word, an_integer, a_decimal, at_least, at_most, above, below, paren, paren_end, bracket, bracket_end, a_comma, a_star, a_plus, a_minus}
 use Rattle.stl_grammar.specs.Tokens.{Lexes, nothing, token, blank as skip}
 use Rattle.stl_syntax.specs.Formula.{Formula}

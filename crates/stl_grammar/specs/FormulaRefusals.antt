@@ -1,5 +1,5 @@
 -- The first refusal of a text that is no formula within the limits.
-use Rattle.std.specs.Prelude.{◌≡◌, ℕ, suc, ◌+◌, ◌*◌, ◌^◌, ◌<◌, ◌&&◌, ◌||◌, ◌==◌, nat_lt, not, Bool, true, false, if◌then◌else◌, List, [], ◌∷◌, ◌++◌, length, reverse, nat_abs, codes, Option, Some, None, option_map, IsTrue}
+use Rattle.std.specs.Prelude.{◌≡◌, ℕ, suc, ◌+◌, ◌*◌, ◌^◌, ◌<◌, ◌&&◌, ◌||◌, ◌==◌, nat_lt, not, Bool, true, false, if◌then◌else◌, List, [], ◌∷◌, ◌++◌, length, reverse, codes, IsTrue}
 use Rattle.stl_syntax.specs.Characters.{is_blank, all, after_first}
 use Rattle.stl_syntax.specs.Limits.{IsTooLarge}
 use Rattle.stl_syntax.specs.Choice.{◌or_else◌, Where}
@@ -8,7 +8,6 @@ use Rattle.stl_syntax.specs.Formula.{Formula}
 use Rattle.stl_grammar.specs.Grammar.{reserved, IsFormula, FormulaText}
 use Rattle.stl_syntax.specs.Characters.{is_among}
 use Rattle.stl_syntax.specs.declared.node.Node.{Node}
-use Rattle.stl_syntax.specs.declared.node.Node.TheVariants.{Atom as Leaf, Until, Eventually, Always, Since, Once, Historically}
 use Rattle.stl_grammar.specs.declared.fault.What.{What}
 use Rattle.stl_grammar.specs.declared.fault.What.TheVariants.{Operand, Number, Comma, Bracket, Star, Name, Term, Relation, Constant, Paren, End}
 use Rattle.stl_grammar.specs.declared.fault.FormulaFault.{FormulaFault}

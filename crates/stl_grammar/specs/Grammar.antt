@@ -1,5 +1,5 @@
 -- The grammar of formulas: the nodes that a list of tokens stands for, with their numbers in ticks of a scale.
-use Rattle.std.specs.Prelude.{◌≡◌, ℕ, ◌+◌, ◌-◌, max, ◌||◌, Bool, true, false, List, [], ◌∷◌, ◌++◌, length, ℤ, pos, neg_ℤ, codes, bytes_eq, Option, Some, None}
+use Rattle.std.specs.Prelude.{◌≡◌, ℕ, ◌+◌, max, Bool, true, false, List, [], ◌∷◌, ◌++◌, length, ℤ, pos, neg_ℤ, codes, Option, Some, None}
 use Rattle.stl_syntax.specs.Characters.{ticks, is_among}
 pub use Rattle.stl_syntax.specs.Names.{reserved}
 pub use Rattle.stl_syntax.specs.PostOrder.{top}

@@ -1,6 +1,27 @@
 //! The text of formulas.
 #![tactic(auto)]
 
+mod build;
+mod chars;
+mod decimal;
+mod digits;
+mod draft;
 mod fault;
+mod frames;
+mod judge;
+pub mod laws;
+mod lexer;
+mod number;
+mod parser;
+mod place;
+mod reader;
+mod shapes;
+mod text;
+mod ticks;
+mod token;
 
 pub use fault::{FormulaFault, What};
+pub use text::parse;
+
+#[cfg(test)]
+mod tests;

@@ -11,6 +11,7 @@ pub mod PrintLemmas
 pub mod PrintedText
 pub mod PrintLaw
 pub mod TreeLaw
+pub mod TreeOrder
 pub mod TruthLemmas
 pub mod SupInfLemmas
 pub mod KnotsLemmas

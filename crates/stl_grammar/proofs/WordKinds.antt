@@ -1,0 +1,119 @@
+-- What a word is, and the lists of words that hold it.
+use Rattle.std.proofs.Common.{◌≡◌, ℕ, List, [], ◌∷◌, refl, Bool, true, false, inl, inr, ◌⊎◌}
+use Rattle.std.specs.Prelude.{codes, bytes_eq}
+use Rattle.std.proofs.lemmas.Bool.{or_parts}
+use Rattle.std.proofs.lemmas.Slice.Eq.{bytes_eq-Decides}
+use Rattle.stl_syntax.specs.Characters.{is_among}
+use Rattle.stl_syntax.specs.Names.{reserved}
+use Rattle.stl_grammar.specs.FormulaRefusals.{constants, prefixes, ahead}
+use Rattle.stl_grammar.specs.Machine.{Kind, kind, a_constant, a_negation, an_implication, an_until, a_future, a_past, an_inf, a_name}
+
+-- the word is one of the words
+abbrev pub OneOf : List ℕ → List (List ℕ) → Type 0
+OneOf w [] = ⊥
+OneOf w (v ∷ words) = (w ≡ v) ⊎ OneOf w words
+
+among_one : (w : List ℕ) (words : List (List ℕ)) → is_among w words ≡ true → OneOf w words
+among_one w [] h = cc
+among_one w (v ∷ words) h = split (bytes_eq w v) refl (λ k. among_one w words k)
+  where
+    split : (b : Bool) → bytes_eq w v ≡ b → (is_among w words ≡ true → OneOf w words) → OneOf w (v ∷ words)
+    split true e f = inl ((bytes_eq-Decides w v).0 e)
+    split false e f = inr (f (rw e at h))
+
+-- the word is none of the words
+abbrev pub NoneOf : List ℕ → List (List ℕ) → Type 0
+NoneOf w [] = Unit {0}
+NoneOf w (v ∷ words) = (bytes_eq w v ≡ false) × NoneOf w words
+
+among_none : (w : List ℕ) (words : List (List ℕ)) → is_among w words ≡ false → NoneOf w words
+among_none w [] h = tt
+among_none w (v ∷ words) h = let p = or_parts (bytes_eq w v) (is_among w words) h in (p.0, among_none w words p.1)
+
+-- what holds of each word of the grammar, and of each name, holds of every word
+pub by_words : (P : List ℕ → Type 0) → P (codes "true") → P (codes "false") → P (codes "not") → P (codes "and") → P (codes "or") → P (codes "implies")
+    → P (codes "until") → P (codes "since") → P (codes "eventually") → P (codes "always") → P (codes "once") → P (codes "historically") → P (codes "inf")
+    → ((w : List ℕ) → is_among w reserved ≡ false → P w) → (w : List ℕ) → P w
+by_words P t f n a o i u s e l c y x name w = split (is_among w reserved) refl
+  where
+    one : OneOf w reserved → P w
+    one (inl h) = rw h t
+    one (inr (inl h)) = rw h f
+    one (inr (inr (inl h))) = rw h n
+    one (inr (inr (inr (inl h)))) = rw h a
+    one (inr (inr (inr (inr (inl h))))) = rw h o
+    one (inr (inr (inr (inr (inr (inl h)))))) = rw h i
+    one (inr (inr (inr (inr (inr (inr (inl h))))))) = rw h u
+    one (inr (inr (inr (inr (inr (inr (inr (inl h)))))))) = rw h s
+    one (inr (inr (inr (inr (inr (inr (inr (inr (inl h))))))))) = rw h e
+    one (inr (inr (inr (inr (inr (inr (inr (inr (inr (inl h)))))))))) = rw h l
+    one (inr (inr (inr (inr (inr (inr (inr (inr (inr (inr (inl h))))))))))) = rw h c
+    one (inr (inr (inr (inr (inr (inr (inr (inr (inr (inr (inr (inl h)))))))))))) = rw h y
+    one (inr (inr (inr (inr (inr (inr (inr (inr (inr (inr (inr (inr (inl h))))))))))))) = rw h x
+    one (inr (inr (inr (inr (inr (inr (inr (inr (inr (inr (inr (inr (inr h))))))))))))) = absurd h
+
+    split : (b : Bool) → is_among w reserved ≡ b → P w
+    split true h = one (among_one w reserved h)
+    split false h = name w h
+
+pub name_kind : (w : List ℕ) → is_among w reserved ≡ false → kind w ≡ a_name
+unfolding kind
+name_kind w h = let (t, (f, (n, (a, (o, (i, (u, (s, (e, (l, (c, (y, (x, z))))))))))))) = among_none w reserved h in rw (t, f, n, a, o, i, u, s, e, l, c, y, x) refl
+
+-- the lists of words by the kind
+abbrev pub ends_operand : Kind → Bool
+ends_operand a_constant = true
+ends_operand _ = false
+
+abbrev pub has_operand : Kind → Bool
+has_operand a_negation = true
+has_operand a_future = true
+has_operand a_past = true
+has_operand _ = false
+
+abbrev pub is_implication : Kind → Bool
+is_implication an_implication = true
+is_implication _ = false
+
+abbrev pub is_inf : Kind → Bool
+is_inf an_inf = true
+is_inf _ = false
+
+abbrev pub looks_ahead : Kind → Bool
+looks_ahead an_until = true
+looks_ahead a_future = true
+looks_ahead _ = false
+
+abbrev pub is_word : Kind → Bool
+is_word a_name = false
+is_word _ = true
+
+pub among_constants : (w : List ℕ) → is_among w constants ≡ ends_operand (kind w)
+unfolding kind
+among_constants = by_words (λ w. is_among w constants ≡ ends_operand (kind w)) refl refl refl refl refl refl refl refl refl refl refl refl refl
+    (λ w h. let (t, (f, (n, (a, (o, (i, (u, (s, (e, (l, (c, (y, (x, z))))))))))))) = among_none w reserved h in rw (t, f, n, a, o, i, u, s, e, l, c, y, x) refl)
+
+pub among_prefixes : (w : List ℕ) → is_among w prefixes ≡ has_operand (kind w)
+unfolding kind
+among_prefixes = by_words (λ w. is_among w prefixes ≡ has_operand (kind w)) refl refl refl refl refl refl refl refl refl refl refl refl refl
+    (λ w h. let (t, (f, (n, (a, (o, (i, (u, (s, (e, (l, (c, (y, (x, z))))))))))))) = among_none w reserved h in rw (t, f, n, a, o, i, u, s, e, l, c, y, x) refl)
+
+pub among_implies : (w : List ℕ) → is_among w (codes "implies" ∷ []) ≡ is_implication (kind w)
+unfolding kind
+among_implies = by_words (λ w. is_among w (codes "implies" ∷ []) ≡ is_implication (kind w)) refl refl refl refl refl refl refl refl refl refl refl refl refl
+    (λ w h. let (t, (f, (n, (a, (o, (i, (u, (s, (e, (l, (c, (y, (x, z))))))))))))) = among_none w reserved h in rw (t, f, n, a, o, i, u, s, e, l, c, y, x) refl)
+
+pub among_inf : (w : List ℕ) → is_among w (codes "inf" ∷ []) ≡ is_inf (kind w)
+unfolding kind
+among_inf = by_words (λ w. is_among w (codes "inf" ∷ []) ≡ is_inf (kind w)) refl refl refl refl refl refl refl refl refl refl refl refl refl
+    (λ w h. let (t, (f, (n, (a, (o, (i, (u, (s, (e, (l, (c, (y, (x, z))))))))))))) = among_none w reserved h in rw (t, f, n, a, o, i, u, s, e, l, c, y, x) refl)
+
+pub among_ahead : (w : List ℕ) → is_among w ahead ≡ looks_ahead (kind w)
+unfolding kind
+among_ahead = by_words (λ w. is_among w ahead ≡ looks_ahead (kind w)) refl refl refl refl refl refl refl refl refl refl refl refl refl
+    (λ w h. let (t, (f, (n, (a, (o, (i, (u, (s, (e, (l, (c, (y, (x, z))))))))))))) = among_none w reserved h in rw (t, f, n, a, o, i, u, s, e, l, c, y, x) refl)
+
+pub among_reserved : (w : List ℕ) → is_among w reserved ≡ is_word (kind w)
+unfolding kind
+among_reserved = by_words (λ w. is_among w reserved ≡ is_word (kind w)) refl refl refl refl refl refl refl refl refl refl refl refl refl
+    (λ w h. rw (h, name_kind w h) refl)

@@ -1,0 +1,15 @@
+-- One more byte.
+use Rattle.std.proofs.Common.{◌≡◌, take, get_or, true}
+use Rattle.std.proofs.lemmas.List.{take_more}
+use Rattle.stl_syntax.specs.Characters.{is_digit}
+use Rattle.stl_grammar.proofs.NumberLemmas.{all-push}
+use Rattle.stl_grammar.proofs.chars.digits_len.Goals as goal
+
+pub loop-i-preserved : goal.loop-i-preserved
+loop-i-preserved c =
+    let text = c.args.text.now in
+    let i = c.loop-i.i in
+    let b = get_or text i 0 in
+    let t = take_more text i 0 c.loop-i-test.true in
+    let good : is_digit b ≡ true = cc (c.is_digit.ensures) in
+    rw t (all-push is_digit (take i text) b c.loop-i.invariant good)

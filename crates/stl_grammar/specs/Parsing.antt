@@ -1,0 +1,267 @@
+-- A parser of tokens: what it keeps, and what each token makes of it. A helper for the contracts of the code.
+use Rattle.std.specs.Prelude.{◌≡◌, ℕ, suc, ◌-◌, nat_le, ◌≤◌, MatchBool, IsTrue, Bool, true, false, if◌then◌else◌, List, [], ◌∷◌, ◌++◌, length, take, drop, ℤ, pos, neg_ℤ, Option, Some, None, option_map}
+use Rattle.stl_syntax.specs.declared.atom.Term.{Term}
+use Rattle.stl_syntax.specs.declared.rel.Rel.{Rel}
+use Rattle.stl_syntax.specs.Names.{is_name}
+use Rattle.stl_grammar.specs.declared.decimal.Decimal.{Decimal}
+use Rattle.stl_grammar.specs.declared.token.Keyword.{Keyword}
+use Rattle.stl_grammar.specs.declared.token.Keyword.TheVariants.{True, False, Not, And, Or, Implies, Until, Since, Eventually, Always, Once, Historically, Inf}
+use Rattle.stl_grammar.specs.declared.token.Token.{Token}
+use Rattle.stl_grammar.specs.declared.token.Token.TheVariants.{Keyword as IsKeyword, Name, Number, Relation, OpenParen, CloseParen, OpenBracket, CloseBracket, Comma, Star, Plus, Minus}
+use Rattle.stl_grammar.specs.declared.draft.Window.{Window}
+use Rattle.stl_grammar.specs.declared.draft.Past.{Past}
+use Rattle.stl_grammar.specs.declared.draft.Past.TheVariants.{Whole, From, Within}
+use Rattle.stl_grammar.specs.declared.draft.Prefix.TheVariants.{Not as Negation, Eventually as AtSome, Always as AtEach, Once as BackAtSome, Historically as BackAtEach}
+use Rattle.stl_grammar.specs.declared.draft.Infix.{Infix}
+use Rattle.stl_grammar.specs.declared.draft.Infix.TheVariants.{And as Both, Or as Either, Implies as Then, Until as UpTo, Since as After}
+use Rattle.stl_grammar.specs.declared.draft.Frame.{Frame}
+use Rattle.stl_grammar.specs.declared.draft.Frame.TheVariants.{Paren as Opened, Prefix as Before, Infix as Between}
+use Rattle.stl_grammar.specs.declared.draft.Draft.{Draft}
+use Rattle.stl_grammar.specs.declared.draft.Draft.TheVariants.{Const, Sum, One, Two}
+use Rattle.stl_grammar.specs.declared.place.Timed.{Timed}
+use Rattle.stl_grammar.specs.declared.place.Timed.TheVariants.{Until as TUntil, Since as TSince, Eventually as TEventually, Always as TAlways, Once as TOnce, Historically as THistorically}
+use Rattle.stl_grammar.specs.declared.place.Back.{Back}
+use Rattle.stl_grammar.specs.declared.place.Back.TheVariants.{Since as BSince, Once as BOnce, Historically as BHistorically}
+use Rattle.stl_grammar.specs.declared.place.Place.{Place}
+use Rattle.stl_grammar.specs.declared.place.Place.TheVariants.{Operand, Bound, Low, Comma as AtComma, High, Closing, ClosingInf, Term as AtTerm, Star as AtStar, Name as AtName, Sign, Constant, Number as AtNumber, End}
+
+-- what comes next, what is open, the last first, the nodes, the terms of an atom that is not at its end, and how many nodes were begun
+pub record Parse : Type 0 where
+  pub place : Place
+  pub frames : List Frame
+  pub drafts : List Draft
+  pub terms : List Term
+  pub made : ℕ
+
+-- how tightly an operator binds; `implies` groups to the right
+abbrev pub infix_rank : Infix → ℕ
+infix_rank Then = 1
+infix_rank Either = 2
+infix_rank Both = 3
+infix_rank (UpTo w) = 4
+infix_rank (After b) = 4
+
+abbrev pub rank : Frame → ℕ
+rank Opened = 0
+rank (Before o) = 5
+rank (Between o left) = infix_rank o
+
+abbrev pub top_rank : List Frame → ℕ
+top_rank [] = 0
+top_rank (f ∷ frames) = rank f
+
+-- the node of an operator whose last operand stands at place `last`; a parenthesis makes none
+abbrev pub node_of_frame : Frame → ℕ → Draft
+node_of_frame Opened last = Const true
+node_of_frame (Before o) last = One o last
+node_of_frame (Between o left) last = Two o left last
+
+-- the nodes after the frames of at least this rank came to their end
+abbrev pub settled_drafts : ℕ → List Frame → List Draft → List Draft
+settled_drafts r [] drafts = drafts
+settled_drafts r (f ∷ frames) drafts = if nat_le r (rank f) then settled_drafts r frames (drafts ++ node_of_frame f (length drafts - 1) ∷ []) else drafts
+
+-- and the frames that are left
+abbrev pub settled_frames : ℕ → List Frame → List Frame
+settled_frames r [] = []
+settled_frames r (f ∷ frames) = if nat_le r (rank f) then settled_frames r frames else f ∷ frames
+
+-- the operators of at least this rank come to their end
+abbrev pub settled : ℕ → Parse → Parse
+settled r p = record { place = p.place; frames = settled_frames r p.frames; drafts = settled_drafts r p.frames p.drafts; terms = p.terms; made = p.made }
+
+-- at another place; with one node more begun
+abbrev pub moved : Place → Parse → Parse
+moved place p = record { place = place; frames = p.frames; drafts = p.drafts; terms = p.terms; made = p.made }
+
+abbrev pub begun : Place → Parse → Parse
+begun place p = record { place = place; frames = p.frames; drafts = p.drafts; terms = p.terms; made = suc p.made }
+
+-- an operand is to follow what opens
+abbrev pub opened : Frame → Parse → Parse
+opened f p = record { place = Operand; frames = f ∷ p.frames; drafts = p.drafts; terms = p.terms; made = p.made }
+
+-- the operand of one node is at its end, and with it the one-operand operators before it
+abbrev pub completed : Draft → Parse → Parse
+completed d p = settled 5 (record { place = End; frames = p.frames; drafts = p.drafts ++ d ∷ []; terms = []; made = p.made })
+
+-- a coefficient, which is refused above 16
+abbrev pub coefficient : Decimal → ℕ
+coefficient d = if nat_le d.value 16 then d.value else 16
+
+abbrev pub signed : Bool → ℕ → ℤ
+signed negative n = if negative then neg_ℤ (pos n) else pos n
+
+-- one term more
+abbrev pub with_term : Bool → ℕ → List ℕ → Parse → Parse
+with_term negative n name p =
+    record { place = Sign; frames = p.frames; drafts = p.drafts; terms = p.terms ++ record { coef = signed negative n; name = name } ∷ []; made = p.made }
+
+-- the bytes from one place up to another
+abbrev pub between : ℕ → ℕ → List ℕ → List ℕ
+between from to text = take (to - from) (drop from text)
+
+-- the operator as one that looks back
+abbrev pub back : Timed → Option Back
+back TUntil = None
+back TSince = Some BSince
+back TEventually = None
+back TAlways = None
+back TOnce = Some BOnce
+back THistorically = Some BHistorically
+
+-- the ends of its bound may be out
+abbrev pub may_be_open : Timed → Bool
+may_be_open TUntil = false
+may_be_open TSince = false
+may_be_open _ = true
+
+abbrev pub back_may_be_open : Back → Bool
+back_may_be_open BSince = false
+back_may_be_open _ = true
+
+-- whether the end is in, where the token is a bracket that opens a bound; or one that closes it
+abbrev pub opening : Bool → Token → Option Bool
+opening free OpenBracket = Some true
+opening free CloseBracket = if free then Some false else None
+opening free _ = None
+
+abbrev pub closing : Bool → Token → Option Bool
+closing free CloseBracket = Some true
+closing free OpenBracket = if free then Some false else None
+closing free _ = None
+
+-- an operator with its bound
+abbrev pub bounded_frame : Timed → Window → ℕ → Frame
+bounded_frame TUntil w left = Between (UpTo w) left
+bounded_frame TSince w left = Between (After (Within w)) left
+bounded_frame TEventually w left = Before (AtSome w)
+bounded_frame TAlways w left = Before (AtEach w)
+bounded_frame TOnce w left = Before (BackAtSome (Within w))
+bounded_frame THistorically w left = Before (BackAtEach (Within w))
+
+abbrev pub back_frame : Back → Past → ℕ → Frame
+back_frame BSince b left = Between (After b) left
+back_frame BOnce b left = Before (BackAtSome b)
+back_frame BHistorically b left = Before (BackAtEach b)
+
+-- where a token changes the place alone
+abbrev pub next_place : Place → Token → Option Place
+next_place (Low of low_in) (Number low) = Some (AtComma of low_in low)
+next_place (AtComma of low_in low) Comma = Some (High of low_in low)
+next_place (High of low_in low) (Number high) = Some (Closing of low_in low high)
+next_place (High of low_in low) (IsKeyword Inf) = option_map (λ b. ClosingInf b low_in low) (back of)
+next_place (AtTerm negative) (Number coef) = Some (AtStar negative coef)
+next_place (AtStar negative coef) Star = Some (AtName negative coef)
+next_place Sign Plus = Some (AtTerm false)
+next_place Sign Minus = Some (AtTerm true)
+next_place Sign (Relation rel) = Some (Constant rel)
+next_place (Constant rel) Plus = Some (AtNumber rel false)
+next_place (Constant rel) Minus = Some (AtNumber rel true)
+next_place _ _ = None
+
+-- an operand begins with a word of the grammar
+abbrev pub begin_keyword : Parse → Keyword → Option Parse
+begin_keyword p True = Some (completed (Const true) (begun End p))
+begin_keyword p False = Some (completed (Const false) (begun End p))
+begin_keyword p Not = Some (opened (Before Negation) (begun Operand p))
+begin_keyword p Eventually = Some (begun (Bound TEventually) p)
+begin_keyword p Always = Some (begun (Bound TAlways) p)
+begin_keyword p Once = Some (begun (Bound TOnce) p)
+begin_keyword p Historically = Some (begun (Bound THistorically) p)
+begin_keyword p _ = None
+
+-- an operand begins
+abbrev pub begin_operand : List ℕ → Parse → Token → Option Parse
+begin_operand text p (IsKeyword w) = begin_keyword p w
+begin_operand text p (Name from to) = Some (with_term false 1 (between from to text) (begun Sign p))
+begin_operand text p (Number coef) = Some (begun (AtStar false coef) p)
+begin_operand text p OpenParen = Some (opened Opened p)
+begin_operand text p Plus = Some (begun (AtTerm false) p)
+begin_operand text p Minus = Some (begun (AtTerm true) p)
+begin_operand text p _ = None
+
+-- a bound begins, or where it may be left out, an operand
+abbrev pub begin_bound : List ℕ → Timed → Parse → Token → Option Parse
+begin_bound text of p t = by_opening (opening (may_be_open of) t) (back of)
+  where
+    by_opening : Option Bool → Option Back → Option Parse
+    by_opening (Some low_in) b = Some (moved (Low of low_in) p)
+    by_opening None None = None
+    by_opening None (Some b) = begin_operand text (opened (back_frame b Whole (length p.drafts - 1)) p) t
+
+-- a bound ends
+abbrev pub end_bound : Option Bool → (Bool → Frame) → Parse → Option Parse
+end_bound None frame p = None
+end_bound (Some high_in) frame p = Some (opened (frame high_in) p)
+
+-- an atom ends with its number
+abbrev pub end_atom : Rel → Bool → Parse → Decimal → Parse
+end_atom rel negative p d = completed (Sum (record { terms = p.terms; rel = rel; negative = negative; limit = d })) p
+
+-- an operand that is to follow a two-operand operator without a bound
+abbrev pub joined : ℕ → Infix → Parse → Parse
+joined r o p = opened (Between o (length (settled r p).drafts - 1)) (begun Operand (settled r p))
+
+-- a parenthesis ends
+abbrev pub closed : Parse → Option Parse
+closed p = by_frames p.frames
+  where
+    by_frames : List Frame → Option Parse
+    by_frames (Opened ∷ frames) = Some (settled 5 (record { place = End; frames = frames; drafts = p.drafts; terms = p.terms; made = p.made }))
+    by_frames _ = None
+
+-- after a whole operand
+abbrev pub after_keyword : Parse → Keyword → Option Parse
+after_keyword p And = Some (joined 3 Both p)
+after_keyword p Or = Some (joined 2 Either p)
+after_keyword p Implies = Some (joined 2 Then p)
+after_keyword p Until = if nat_le 4 (top_rank p.frames) then None else Some (begun (Bound TUntil) p)
+after_keyword p Since = if nat_le 4 (top_rank p.frames) then None else Some (begun (Bound TSince) p)
+after_keyword p _ = None
+
+abbrev pub after_operand : Parse → Token → Option Parse
+after_operand p (IsKeyword w) = after_keyword p w
+after_operand p CloseParen = closed (settled 1 p)
+after_operand p _ = None
+
+-- at another place, where there is one
+abbrev pub move_to : Parse → Option Place → Option Parse
+move_to p o = option_map (λ place. moved place p) o
+
+-- a number that ends an atom, or another token
+abbrev pub step_constant : Parse → Place → Rel → Bool → Token → Option Parse
+step_constant p place rel negative (Number d) = Some (end_atom rel negative p d)
+step_constant p place rel negative t = move_to p (next_place place t)
+
+-- a name that ends a term, or another token
+abbrev pub step_term : List ℕ → Parse → Place → Bool → ℕ → Token → Option Parse
+step_term text p place negative n (Name from to) = Some (with_term negative n (between from to text) p)
+step_term text p place negative n t = move_to p (next_place place t)
+
+-- one token more
+abbrev pub parse_step : List ℕ → Parse → Token → Option Parse
+parse_step text p t = by_place p.place
+  where
+    by_place : Place → Option Parse
+    by_place Operand = begin_operand text p t
+    by_place (Bound of) = begin_bound text of p t
+    by_place (Closing of low_in low high) =
+        end_bound (closing (may_be_open of) t)
+        (λ high_in. bounded_frame of (record { low = low; high = high; low_in = low_in; high_in = high_in }) (length p.drafts - 1)) p
+    by_place (ClosingInf of low_in low) = end_bound (closing (back_may_be_open of) t) (λ high_in. back_frame of (From low low_in) (length p.drafts - 1)) p
+    by_place (AtTerm negative) = step_term text p (AtTerm negative) negative 1 t
+    by_place (AtName negative coef) = step_term text p (AtName negative coef) negative (coefficient coef) t
+    by_place (Constant rel) = step_constant p (Constant rel) rel false t
+    by_place (AtNumber rel negative) = step_constant p (AtNumber rel negative) rel negative t
+    by_place End = after_operand p t
+    by_place place = move_to p (next_place place t)
+
+-- what a step comes to: the new state, where the token may follow
+abbrev pub Gives : Option Parse → Bool → Parse → Type 0
+Gives o taken new = MatchBool taken (o ≡ Some new) (o ≡ None)
+
+-- a name of the text that the token tells
+abbrev pub IsKnown : List ℕ → Token → Type 0
+IsKnown text (Name from to) = (from ≤ to) × (to ≤ length text) × IsTrue (is_name (between from to text))
+IsKnown text _ = Unit {0}

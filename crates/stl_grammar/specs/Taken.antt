@@ -1,0 +1,35 @@
+-- The tokens that a parser took, and what it made of them. A helper for the contracts of the code.
+use Rattle.std.specs.Prelude.{◌≡◌, ℕ, false, List, [], ◌∷◌, Some}
+use Rattle.stl_grammar.specs.Tokens as Tokens
+use Rattle.stl_grammar.specs.Tokens.{word, number, relation, open_paren, close_paren, open_bracket, close_bracket, comma, star, plus, minus}
+use Rattle.stl_grammar.specs.Told.{Tells, spelling}
+use Rattle.stl_grammar.specs.Parsing.{Parse, parse_step, between}
+use Rattle.stl_grammar.specs.Judging.{bad_in, disorder_in}
+use Rattle.stl_grammar.specs.declared.token.Token.{Token as Code}
+use Rattle.stl_grammar.specs.declared.token.Token.TheVariants.{Keyword as IsKeyword, Name, Number, Relation, OpenParen, CloseParen, OpenBracket, CloseBracket, Comma, Star, Plus, Minus}
+use Rattle.stl_grammar.specs.declared.place.Place.TheVariants.{Operand}
+
+-- the token of a text that the code tells, where it tells it exactly
+abbrev pub plain : List ℕ → Code → Tokens.Token
+plain text (IsKeyword w) = word (spelling w)
+plain text (Name from to) = word (between from to text)
+plain text (Number d) = number d.value d.decimals
+plain text (Relation r) = relation r
+plain text OpenParen = open_paren
+plain text CloseParen = close_paren
+plain text OpenBracket = open_bracket
+plain text CloseBracket = close_bracket
+plain text Comma = comma
+plain text Star = star
+plain text Plus = plus
+plain text Minus = minus
+
+-- before the first token
+abbrev pub empty_parse : Parse
+empty_parse = record { place = Operand; frames = []; drafts = []; terms = []; made = 0 }
+
+-- the tokens before a place, the last one first, and the parser after them
+pub data Taken (text : List ℕ) : List Tokens.Token → Parse → Type 0 where
+  none : Taken text [] empty_parse
+  more : {before : List Tokens.Token} {p q : Parse} (t : Tokens.Token) (c : Code) → Taken text before p → Tells text c t → bad_in p.place c ≡ false
+      → disorder_in p.place c ≡ false → parse_step text p c ≡ Some q → Taken text (t ∷ before) q

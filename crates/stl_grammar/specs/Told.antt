@@ -1,0 +1,76 @@
+-- How the code tells tokens.
+use Rattle.std.specs.Prelude.{◌≡◌, ℕ, ◌+◌, ◌||◌, ◌==◌, ◌<◌, nat_lt, nat_le, MatchBool, Bool, false, List, ◌∷◌, ◌++◌, length, drop, codes, IsTrue}
+use Rattle.stl_grammar.specs.Tokens.{Token, word, number, relation, open_paren, close_paren, open_bracket, close_bracket, comma, star, plus, minus, IsToken}
+use Rattle.stl_syntax.specs.Names.{is_name}
+use Rattle.stl_grammar.specs.declared.token.Keyword.{Keyword}
+use Rattle.stl_grammar.specs.declared.token.Keyword.TheVariants.{True, False, Not, And, Or, Implies, Until, Since, Eventually, Always, Once, Historically, Inf}
+use Rattle.stl_grammar.specs.declared.decimal.Decimal.{Decimal}
+use Rattle.stl_grammar.specs.declared.token.Token.{Token as Code}
+use Rattle.stl_grammar.specs.declared.token.Token.TheVariants.{Keyword as IsKeyword, Name, Number, Relation, OpenParen, CloseParen, OpenBracket, CloseBracket, Comma, Star, Plus, Minus}
+
+-- how a word of the grammar is spelled
+abbrev pub spelling : Keyword → List ℕ
+spelling True = codes "true"
+spelling False = codes "false"
+spelling Not = codes "not"
+spelling And = codes "and"
+spelling Or = codes "or"
+spelling Implies = codes "implies"
+spelling Until = codes "until"
+spelling Since = codes "since"
+spelling Eventually = codes "eventually"
+spelling Always = codes "always"
+spelling Once = codes "once"
+spelling Historically = codes "historically"
+spelling Inf = codes "inf"
+
+-- a name that stands in the text from one place up to another
+pub record IsNameAt (text : List ℕ) (from to : ℕ) (name : List ℕ) : Type 0 where
+  pub good : IsTrue (is_name name)
+  pub after : List ℕ
+  pub stands : drop from text ≡ name ++ after
+  pub ends : from + length name ≡ to
+
+-- a number past every limit
+abbrev pub IsLarge : Token → Type 0
+IsLarge t = (n : ℕ) × (k : ℕ) × (t ≡ number n k) × IsTrue (nat_lt 6 k || nat_lt 4294967295 n)
+
+-- the token of a number; one of 7 decimals stands for a large one
+abbrev pub IsNumber : Decimal → Token → Type 0
+IsNumber d t = MatchBool (nat_le d.decimals 6) (t ≡ number d.value d.decimals) (IsLarge t)
+
+-- the token that the code tells, in this text
+abbrev pub Tells : List ℕ → Code → Token → Type 0
+Tells text (IsKeyword w) t = t ≡ word (spelling w)
+Tells text (Name from to) t = (name : List ℕ) × (t ≡ word name) × IsNameAt text from to name
+Tells text (Number d) t = IsNumber d t
+Tells text (Relation r) t = t ≡ relation r
+Tells text OpenParen t = t ≡ open_paren
+Tells text CloseParen t = t ≡ close_paren
+Tells text OpenBracket t = t ≡ open_bracket
+Tells text CloseBracket t = t ≡ close_bracket
+Tells text Comma t = t ≡ comma
+Tells text Star t = t ≡ star
+Tells text Plus t = t ≡ plus
+Tells text Minus t = t ≡ minus
+
+-- the code tells a number: the value, and how many of its last digits are decimals
+abbrev pub TellsNumber : ℕ → ℕ → Decimal → Type 0
+TellsNumber value decimals d = MatchBool (nat_le d.decimals 6)
+    ((d.value ≡ value) × (d.decimals ≡ decimals) × (value < 4294967296))
+    (IsTrue (nat_lt 6 decimals || nat_lt 4294967295 value))
+
+-- the second byte is =
+abbrev pub has_equal : List ℕ → Bool
+has_equal (c ∷ d ∷ more) = d == 61
+has_equal rest = false
+
+-- the code tells the first token of `rest`, which has so many bytes
+pub record IsLexeme (text rest : List ℕ) (code : Code) (len : ℕ) : Type 0 where
+  pub bytes : List ℕ
+  pub after : List ℕ
+  pub token : Token
+  pub splits : rest ≡ bytes ++ after
+  pub size : length bytes ≡ len
+  pub reads : IsToken bytes after token
+  pub tells : Tells text code token

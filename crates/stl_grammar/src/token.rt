@@ -1,0 +1,44 @@
+use crate::decimal::Decimal;
+use stl_syntax::Rel;
+
+/// A word of the grammar, which names no column.
+#[derive(Clone, Copy)]
+pub(crate) enum Keyword {
+    True,
+    False,
+    Not,
+    And,
+    Or,
+    Implies,
+    Until,
+    Since,
+    Eventually,
+    Always,
+    Once,
+    Historically,
+    Inf,
+}
+
+/// A token of a text; a name is told by its place.
+#[derive(Clone, Copy)]
+pub(crate) enum Token {
+    Keyword(Keyword),
+    Name { from: usize, to: usize },
+    Number(Decimal),
+    Relation(Rel),
+    OpenParen,
+    CloseParen,
+    OpenBracket,
+    CloseBracket,
+    Comma,
+    Star,
+    Plus,
+    Minus,
+}
+
+/// The first token of a text, and how many of its bytes it has.
+#[derive(Clone, Copy)]
+pub(crate) struct Lexeme {
+    pub(crate) token: Token,
+    pub(crate) len: usize,
+}
