@@ -19,3 +19,4 @@ pub mod ParserReads
 pub mod ParserNodes
 pub mod TokensTaken
 pub mod ReadNodes
+pub mod PrintedTokens
