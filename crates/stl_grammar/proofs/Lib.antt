@@ -20,3 +20,4 @@ pub mod ParserNodes
 pub mod TokensTaken
 pub mod ReadNodes
 pub mod PrintedTokens
+pub mod PrintedRead

@@ -1,7 +1,7 @@
 -- The tokens of printed pieces of text, whatever text follows them.
 use Rattle.std.proofs.Common.{◌≡◌, ℕ, zero, suc, ◌+◌, ◌-◌, ◌*◌, ◌^◌, ◌/◌, ◌%◌, ◌<◌, ◌≤◌, List, [], ◌∷◌, ◌++◌, length, refl, ap, sym, ◌∙◌, Bool, true, false, ◌||◌, ◌&&◌, inl, inr, ◌⊎◌, arith, append_assoc, length-append, lit<, pow-add}
 use Rattle.std.specs.Prelude.{codes, decimal, ◌==◌, not, IsTrue}
-use Rattle.std.proofs.Math.Nat.{one-le-pow, eq_of_mul-eq-mul_right}
+use Rattle.std.proofs.Math.Nat.{one-le-pow, pow-suc, eq_of_mul-eq-mul_right, mul-le-mul_right, mul-le-mul_left, le_of_mul-le-mul_right}
 use Rattle.std.proofs.lemmas.List.{append-nil}
 use Rattle.std.proofs.lemmas.Fmt.{decimal_by_steps}
 use Rattle.std.proofs.lemmas.Bool.{or_parts, and_parts, cases_order}
@@ -43,8 +43,12 @@ then_any x y ts us h k z vs l = rw (append_assoc x y z, append_assoc ts us vs) (
 pub parted_any : (x y : List ℕ) (ts us : List Token) → Lexed x ts → Parts y → LexedAny y us → LexedAny (x ++ y) (ts ++ us)
 parted_any x y ts us h p k z vs l = rw (append_assoc x y z, append_assoc ts us vs) (h (y ++ z) (us ++ vs) (p z) (k z vs l))
 
-pub parted : (x y : List ℕ) (ts us : List Token) → Lexed x ts → Parts y → Lexed y us → Lexed (x ++ y) (ts ++ us)
-parted x y ts us h p k z vs s l = rw (append_assoc x y z, append_assoc ts us vs) (h (y ++ z) (us ++ vs) (p z) (k z vs s l))
+pub parted : (x y : List ℕ) (ts us : List Token) → Lexed x ts → ((z : List ℕ) → Separates z → Separates (y ++ z)) → Lexed y us → Lexed (x ++ y) (ts ++ us)
+parted x y ts us h p k z vs s l = rw (append_assoc x y z, append_assoc ts us vs) (h (y ++ z) (us ++ vs) (p z s) (k z vs s l))
+
+-- a blank after it
+pub spaced : (x : List ℕ) (ts : List Token) → Lexed x ts → LexedAny (x ++ codes " ") ts
+spaced x ts h z us l = rw (append_assoc x (codes " ") z) (h (32 ∷ z) us (refl, refl) (blank refl l))
 
 pub lexed_whole : (x : List ℕ) (ts : List Token) → Lexed x ts → Lexes x ts
 lexed_whole x ts h = rw (append-nil, append-nil) at (h [] [] tt nothing)
@@ -164,3 +168,96 @@ pub integer_text : (n : ℕ) → n < 2 ^ 64 → Lexed (decimal n) (number n 0 �
 integer_text n l = let w = whole_is n l in
     let e : decimal_value 0 (w.first ∷ w.rest ++ []) ≡ n = ap (λ z. decimal_value 0 z) (append-nil (w.first ∷ w.rest)) ∙ w.value in
     rw w.is (rw e at (integer_lexed w.first w.rest w.digits))
+
+-- a number of ticks as a decimal
+value_append : (n : ℕ) (xs ys : List ℕ) → decimal_value n (xs ++ ys) ≡ decimal_value (decimal_value n xs) ys
+value_append n [] ys = refl
+value_append n (x ∷ xs) ys = value_append (10 * n + (x - 48)) xs ys
+
+value_least : (w : ℕ) (xs : List ℕ) → w * 10 ^ length xs ≤ decimal_value w xs
+value_least w [] = omega arith
+value_least w (x ∷ xs) =
+    let a = value_least (10 * w + (x - 48)) xs in
+    let b : 10 * w * 10 ^ length xs ≤ (10 * w + (x - 48)) * 10 ^ length xs = mul-le-mul_right (10 ^ length xs) (omega arith) in
+    let c : w * 10 ^ suc (length xs) ≡ 10 * w * 10 ^ length xs = ap (λ z. w * z) (pow-suc 10 (length xs)) ∙ omega arith in
+    omega (arith, a, b, c)
+
+some_power : (digits : ℕ) → 0 < 10 ^ digits
+some_power digits = one-le-pow digits 10 (lit< tt)
+
+whole_least : (n w v p q : ℕ) → 0 < p → 0 < q → n * q ≡ v * p → w * q ≤ v → w ≤ n
+whole_least n w v p q a b e l =
+    let x : w * q * 1 ≤ w * q * p = mul-le-mul_left (w * q) a in
+    let y : w * q * p ≤ v * p = mul-le-mul_right p l in
+    let z : w * q ≤ n * q = omega (arith, e, x, y) in
+    le_of_mul-le-mul_right z b
+
+split_power : (d k : ℕ) → k ≤ d → 10 ^ d ≡ 10 ^ (d - k) * 10 ^ k
+split_power d k l = let e : d ≡ d - k + k = omega arith in ap (λ z. 10 ^ z) e ∙ pow-add 10 (d - k) k
+
+shorter : (n v d k : ℕ) → k ≤ d → n * 10 ^ k ≡ v * 10 ^ d → v * 10 ^ (d - k) ≡ n
+shorter n v d k l e =
+    let f : v * 10 ^ (d - k) * 10 ^ k ≡ n * 10 ^ k = assoc v (10 ^ (d - k)) (10 ^ k) ∙ (ap (λ z. v * z) (sym (split_power d k l)) ∙ sym e) in
+    eq_of_mul-eq-mul_right (10 ^ k) (some_power k) (v * 10 ^ (d - k)) n f
+  where
+    assoc : (a b c : ℕ) → a * b * c ≡ a * (b * c)
+    assoc a b c = omega arith
+
+-- the decimals of a number are no more than the digits
+few_decimals : (digits n : ℕ) (text : List ℕ) (h : IsDecimalText digits n text) → length h.decimals ≤ digits
+few_decimals digits n text h = by_order (cases_order (length h.decimals) digits)
+  where
+    too_long : digits < length h.decimals → ⊥
+    too_long l =
+        let e : decimal_value h.whole h.decimals ≡ n * 10 ^ (length h.decimals - digits) =
+            sym (shorter (decimal_value h.whole h.decimals) n (length h.decimals) digits (omega arith) (sym h.same)) in
+        longer n h.whole (length h.decimals - digits) h.decimals (omega arith) h.are_digits h.fewest e (omega arith)
+
+    by_order : (length h.decimals ≡ digits) ⊎ ((length h.decimals < digits) ⊎ (digits < length h.decimals)) → length h.decimals ≤ digits
+    by_order (inl e) = omega arith
+    by_order (inr (inl l)) = omega arith
+    by_order (inr (inr l)) = absurd (too_long l)
+
+-- the number token of a printed number
+abbrev pub NumberOf : ℕ → ℕ → List ℕ → Type 0
+NumberOf digits n text = (v : ℕ) × (k : ℕ) × Lexed text (number v k ∷ []) × (ticks digits v k ≡ n) × (k ≤ digits) × ((k ≡ digits) ⊎ (n % 10 ≡ 0))
+
+full_or : (n v d k : ℕ) → k ≤ d → v * 10 ^ (d - k) ≡ n → (k ≡ d) ⊎ (n % 10 ≡ 0)
+full_or n v d k l e = by_order (cases_order k d)
+  where
+    tens : k < d → n % 10 ≡ 0
+    tens m =
+        let i : d - k ≡ suc (d - k - 1) = omega arith in
+        let f : v * 10 ^ (d - k) ≡ v * 10 ^ (d - k - 1) * 10 = ap (λ z. v * 10 ^ z) i ∙ (ap (λ z. v * z) (pow-suc 10 (d - k - 1)) ∙ omega arith) in
+        omega (arith, e, f)
+
+    by_order : (k ≡ d) ⊎ ((k < d) ⊎ (d < k)) → (k ≡ d) ⊎ (n % 10 ≡ 0)
+    by_order (inl e) = inl e
+    by_order (inr (inl m)) = inr (tens m)
+    by_order (inr (inr m)) = absurd (omega arith)
+
+number_at : (digits n : ℕ) (text : List ℕ) (h : IsDecimalText digits n text) (w : IsWhole h.whole (decimal h.whole)) (ds : List ℕ) → h.decimals ≡ ds
+    → Lexed text (number (decimal_value h.whole h.decimals) (length h.decimals) ∷ [])
+number_at digits n text h w [] e =
+    let t : text ≡ w.first ∷ w.rest = h.is ∙ (ap (λ z. decimal h.whole ++ after_point z) e ∙ (append-nil (decimal h.whole) ∙ w.is)) in
+    let v : decimal_value 0 (w.first ∷ w.rest ++ []) ≡ decimal_value h.whole h.decimals =
+        ap (λ z. decimal_value 0 z) (append-nil (w.first ∷ w.rest)) ∙ (w.value ∙ ap (λ z. decimal_value h.whole z) (sym e)) in
+    let k : 0 ≡ length h.decimals = ap (λ z. length z) (sym e) in
+    rw t (rw (v, k) at (integer_lexed w.first w.rest w.digits))
+number_at digits n text h w (d ∷ ds) e =
+    let a : all is_digit (d ∷ ds) ≡ true = ap (λ z. all is_digit z) (sym e) ∙ h.are_digits in
+    let f : without_zeros (d ∷ ds) ≡ h.decimals = ap (λ z. without_zeros z) (sym e) ∙ h.fewest in
+    let t : text ≡ w.first ∷ w.rest ++ 46 ∷ d ∷ ds = h.is ∙ (ap (λ z. decimal h.whole ++ after_point z) e ∙ ap (λ z. z ++ 46 ∷ d ∷ ds) w.is) in
+    let v : decimal_value 0 (w.first ∷ w.rest ++ without_zeros (d ∷ ds)) ≡ decimal_value h.whole h.decimals =
+        ap (λ z. decimal_value 0 (w.first ∷ w.rest ++ z)) f ∙ (value_append 0 (w.first ∷ w.rest) h.decimals ∙ ap (λ z. decimal_value z h.decimals) w.value) in
+    let k : length (without_zeros (d ∷ ds)) ≡ length h.decimals = ap (λ z. length z) f in
+    rw t (rw (v, k) at (decimals_lexed w.first w.rest d ds w.digits a))
+
+pub number_text : (digits n : ℕ) (text : List ℕ) → n < 2 ^ 64 → IsDecimalText digits n text → NumberOf digits n text
+number_text digits n text l h =
+    let q : h.whole ≤ n = whole_least n h.whole (decimal_value h.whole h.decimals) (10 ^ digits) (10 ^ length h.decimals) (some_power digits) (some_power (length h.decimals)) h.same
+        (value_least h.whole h.decimals) in
+    let w = whole_is h.whole (omega (arith, q)) in
+    let m = few_decimals digits n text h in
+    let e = shorter n (decimal_value h.whole h.decimals) digits (length h.decimals) m h.same in
+    (decimal_value h.whole h.decimals, length h.decimals, number_at digits n text h w h.decimals refl, e, m, full_or n (decimal_value h.whole h.decimals) digits (length h.decimals) m e)
