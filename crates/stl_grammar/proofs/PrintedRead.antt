@@ -9,7 +9,11 @@ use Rattle.stl_syntax.specs.Characters.{ticks, is_among}
 use Rattle.stl_syntax.specs.Names.{reserved, is_name}
 use Rattle.stl_syntax.specs.Formula.{Formula, Subformula, constant, negation, conjunction, disjunction, implication, tree_of, subformula, root, HasChildrenBelow}
 use Rattle.stl_syntax.specs.Formula.{atom as atom_tree, until as until_tree, since as since_tree, eventually as eventually_tree, always as always_tree, once as once_tree, historically as historically_tree}
-use Rattle.stl_syntax.specs.PostOrder.{children, top, IsTreeFrom, leaf, one, two}
+use Rattle.std.proofs.lemmas.List.Sums.{sum_by-cons}
+use Rattle.stl_syntax.proofs.FormulaLemmas.{subformula-at}
+use Rattle.stl_syntax.proofs.PostOrderLemmas.{placed}
+use Rattle.stl_syntax.proofs.TreeLaw.{one_tree}
+use Rattle.stl_syntax.specs.PostOrder.{children, IsPostOrder, top, IsTreeFrom, leaf, one, two}
 use Rattle.stl_syntax.specs.WellFormed.{IsTermInLimits, IsAtomInLimits, IsLeafInLimits, HasBounds, IsInOrder, IsInWhereInfinite, IsWellFormed}
 use Rattle.stl_syntax.specs.Limits.{own_reach, reach_of_bound, reach}
 use Rattle.stl_syntax.specs.Print.{IsDecimalText, IsConstantText, relation_text, scaled_text, first_term, further_terms, terms_text, IsAtomText, opening, closing, IsUpperText, IsBoundText, IsPastBoundText, has_two, InParens, Before, Between, Bare, Bounded, IsPrinted, IsPrintedFormula}
@@ -399,3 +403,142 @@ module _ (s : Scale) (at : ℕ → Subformula) where
   one_read k i ns (Implies p q) text e f r h = absurd (cc)
   one_read k i ns (Until p q a b) text e f r h = absurd (cc)
   one_read k i ns (Since p q a b) text e f r h = absurd (cc)
+
+  -- a word between two operands
+  joined_lexed : (x w y : List ℕ) (ts us vs : List Token) → Lexed x ts → Lexed w us → Lexed y vs → Lexed (x ++ codes " " ++ w ++ codes " " ++ y) (ts ++ (us ++ vs))
+  joined_lexed x w y ts us vs a b c = rw (append_assoc ts us vs) at (between_read x w y ts us vs a b c)
+
+  and_read : (k : ℕ) (ns ms : List Node) (text : List ℕ) → Reads k ns (top k ns) → Reads (k + length ns) ms (top (k + length ns) ms)
+      → IsPrinted s (conjunction (at (top k ns)) (at (top (k + length ns) ms))) text → Parsed s k true text (ns ++ ms ++ And (top k ns) (top (k + length ns) ms) ∷ [])
+  and_read k ns ms text f g (x, w, y, h, i, j, e) =
+      let (ts, a, d) = in_parens_read s k (has_two (at (top k ns))) (IsPrinted s (at (top k ns))) x ns f h in
+      let (us, b, c) = in_parens_read s (k + length ns) (has_two (at (top (k + length ns) ms))) (IsPrinted s (at (top (k + length ns) ms))) y ms g j in
+      (
+        ts ++ word (codes "and") ∷ us,
+        rw (e, i) (joined_lexed x (codes "and") y ts (word (codes "and") ∷ []) us a lexed_and b),
+        disjunct (conjunct (and (timed (operand d)) (operand c))),
+      )
+
+  or_read : (k : ℕ) (ns ms : List Node) (text : List ℕ) → Reads k ns (top k ns) → Reads (k + length ns) ms (top (k + length ns) ms)
+      → IsPrinted s (disjunction (at (top k ns)) (at (top (k + length ns) ms))) text → Parsed s k true text (ns ++ ms ++ Or (top k ns) (top (k + length ns) ms) ∷ [])
+  or_read k ns ms text f g (x, w, y, h, i, j, e) =
+      let (ts, a, d) = in_parens_read s k (has_two (at (top k ns))) (IsPrinted s (at (top k ns))) x ns f h in
+      let (us, b, c) = in_parens_read s (k + length ns) (has_two (at (top (k + length ns) ms))) (IsPrinted s (at (top (k + length ns) ms))) y ms g j in
+      (
+        ts ++ word (codes "or") ∷ us,
+        rw (e, i) (joined_lexed x (codes "or") y ts (word (codes "or") ∷ []) us a lexed_or b),
+        disjunct (or (conjunct (timed (operand d))) (timed (operand c))),
+      )
+
+  implies_read : (k : ℕ) (ns ms : List Node) (text : List ℕ) → Reads k ns (top k ns) → Reads (k + length ns) ms (top (k + length ns) ms)
+      → IsPrinted s (implication (at (top k ns)) (at (top (k + length ns) ms))) text → Parsed s k true text (ns ++ ms ++ Implies (top k ns) (top (k + length ns) ms) ∷ [])
+  implies_read k ns ms text f g (x, w, y, h, i, j, e) =
+      let (ts, a, d) = in_parens_read s k (has_two (at (top k ns))) (IsPrinted s (at (top k ns))) x ns f h in
+      let (us, b, c) = in_parens_read s (k + length ns) (has_two (at (top (k + length ns) ms))) (IsPrinted s (at (top (k + length ns) ms))) y ms g j in
+      (
+        ts ++ word (codes "implies") ∷ us,
+        rw (e, i) (joined_lexed x (codes "implies") y ts (word (codes "implies") ∷ []) us a lexed_implies b),
+        implies (conjunct (timed (operand d))) (whole_formula (operand c)),
+      )
+
+  until_tree_read : (k : ℕ) (ns ms : List Node) (l r : ℕ) (text : List ℕ) → l < 2 ^ 64 → r < 2 ^ 64 → Reads k ns (top k ns) → Reads (k + length ns) ms (top (k + length ns) ms)
+      → IsPrinted s (until_tree l r (at (top k ns)) (at (top (k + length ns) ms))) text → Parsed s k true text (ns ++ ms ++ Until (top k ns) (top (k + length ns) ms) l r ∷ [])
+  until_tree_read k ns ms l r text m n f g (x, w, y, h, (bd, i, iw), j, e) =
+      let (ts, a, d) = in_parens_read s k (has_two (at (top k ns))) (IsPrinted s (at (top k ns))) x ns f h in
+      let (us, b, c) = in_parens_read s (k + length ns) (has_two (at (top (k + length ns) ms))) (IsPrinted s (at (top (k + length ns) ms))) y ms g j in
+      let (vs, z, p, v) = until_read s l r bd m n i in
+      let q = any_lexed (codes "until" ++ bd) (word (codes "until") ∷ vs) (parted_any (codes "until") bd (word (codes "until") ∷ []) vs lexed_until p z) in
+      (
+        ts ++ word (codes "until") ∷ vs ++ us,
+        rw (e, iw) (between_read x (codes "until" ++ bd) y ts (word (codes "until") ∷ vs) us a q b),
+        whole_formula (until d v c),
+      )
+
+  since_tree_read : (k : ℕ) (ns ms : List Node) (l : ℕ) (r : Option ℕ) (text : List ℕ) → l < 2 ^ 64 → ((n : ℕ) → r ≡ Some n → n < 2 ^ 64) → Reads k ns (top k ns)
+      → Reads (k + length ns) ms (top (k + length ns) ms) → IsPrinted s (since_tree l r (at (top k ns)) (at (top (k + length ns) ms))) text
+      → Parsed s k true text (ns ++ ms ++ Since (top k ns) (top (k + length ns) ms) l r ∷ [])
+  since_tree_read k ns ms l r text m n f g (x, w, y, h, (bd, i, iw), j, e) =
+      let (ts, a, d) = in_parens_read s k (has_two (at (top k ns))) (IsPrinted s (at (top k ns))) x ns f h in
+      let (us, b, c) = in_parens_read s (k + length ns) (has_two (at (top (k + length ns) ms))) (IsPrinted s (at (top (k + length ns) ms))) y ms g j in
+      let (vs, z, v) = since_read s l r bd m n i in
+      (
+        ts ++ word (codes "since") ∷ vs ++ us,
+        rw (e, iw) (between_read x (codes "since" ++ bd) y ts (word (codes "since") ∷ vs) us a (z (codes "since") (word (codes "since") ∷ []) lexed_since) b),
+        whole_formula (since d v c),
+      )
+
+  two_read : (k i : ℕ) (ns ms : List Node) (n : Node) (text : List ℕ) → children n ≡ top k ns ∷ top (k + length ns) ms ∷ [] → IsFit n → Reads k ns (top k ns)
+      → Reads (k + length ns) ms (top (k + length ns) ms) → IsPrinted s (tree_of at i n) text → Parsed s k (has_two (tree_of at i n)) text (ns ++ ms ++ n ∷ [])
+  two_read k i ns ms (And p q) text e f r t h = let g : p ≡ top k ns = cc in let j : q ≡ top (k + length ns) ms = cc in rw (g, j) (and_read k ns ms text r t (rw (g, j) at h))
+  two_read k i ns ms (Or p q) text e f r t h = let g : p ≡ top k ns = cc in let j : q ≡ top (k + length ns) ms = cc in rw (g, j) (or_read k ns ms text r t (rw (g, j) at h))
+  two_read k i ns ms (Implies p q) text e f r t h = let g : p ≡ top k ns = cc in let j : q ≡ top (k + length ns) ms = cc in rw (g, j) (implies_read k ns ms text r t (rw (g, j) at h))
+  two_read k i ns ms (Until p q a b) text e f r t h =
+      let g : p ≡ top k ns = cc in let j : q ≡ top (k + length ns) ms = cc in
+      rw (g, j) (until_tree_read k ns ms a b text (omega (arith, f.bounds, f.reach)) (omega (arith, f.reach)) r t (rw (g, j) at h))
+  two_read k i ns ms (Since p q a b) text e f r t h =
+      let g : p ≡ top k ns = cc in let j : q ≡ top (k + length ns) ms = cc in let z = past_small a b f.bounds f.reach in
+      rw (g, j) (since_tree_read k ns ms a b text z.0 z.1 r t (rw (g, j) at h))
+  two_read k i ns ms (Const b) text e f r t h = absurd (cc)
+  two_read k i ns ms (Leaf a) text e f r t h = absurd (cc)
+  two_read k i ns ms (Not p) text e f r t h = absurd (cc)
+  two_read k i ns ms (Eventually p a b a_in b_in) text e f r t h = absurd (cc)
+  two_read k i ns ms (Always p a b a_in b_in) text e f r t h = absurd (cc)
+  two_read k i ns ms (Once p a b a_in b_in) text e f r t h = absurd (cc)
+  two_read k i ns ms (Historically p a b a_in b_in) text e f r t h = absurd (cc)
+
+-- the node at the end of a piece of the nodes
+seam : (xs ys : List Node) (n : Node) → slice_get (xs ++ n ∷ ys) (length xs) ≡ Some n
+seam [] ys n = refl
+seam (x ∷ xs) ys n = seam xs ys n
+
+module _ (s : Scale) (all : List Node) (order : IsPostOrder all) where
+  node_is : (i : ℕ) (n : Node) → slice_get all i ≡ Some n → subformula all i ≡ tree_of (subformula all) i n
+  node_is i n e = subformula-at all i n e (placed all i n order e)
+
+  last_is : (pre ns post : List Node) (k : ℕ) (n : Node) → all ≡ pre ++ (ns ++ n ∷ []) ++ post → length pre ≡ k
+      → subformula all (top k (ns ++ n ∷ [])) ≡ tree_of (subformula all) (top k (ns ++ n ∷ [])) n
+  last_is pre ns post k n e l =
+      let a : all ≡ pre ++ ns ++ n ∷ post = e ∙ simp append_assoc in
+      let i : top k (ns ++ n ∷ []) ≡ length (pre ++ ns) = omega (arith, l, length-append pre ns, length-append ns (n ∷ [])) in
+      let f : slice_get all (length (pre ++ ns)) ≡ Some n = ap (λ z. slice_get z (length (pre ++ ns))) a ∙ seam (pre ++ ns) post n in
+      node_is (top k (ns ++ n ∷ [])) n (ap (λ z. slice_get all z) i ∙ f)
+
+  tree_read : {k : ℕ} {ns : List Node} → IsTreeFrom k ns → (pre post : List Node) → all ≡ pre ++ ns ++ post → length pre ≡ k → All IsFit ns → (text : List ℕ)
+      → IsPrinted s (subformula all (top k ns)) text → Parsed s k (has_two (subformula all (top k ns))) text ns
+  tree_read {k} (leaf n e) pre post a l f text h =
+      let b = last_is pre [] post k n a l in
+      let x = leaf_read s (subformula all) k (top k (n ∷ [])) n text e (All-head IsFit n [] f) (rw b at h) in rw b x
+  tree_read {k} (one {ns = ns} n t e) pre post a l f text h =
+      let b = last_is pre ns post k n a l in
+      let r = λ (inner : List ℕ) (i : IsPrinted s (subformula all (top k ns)) inner). tree_read t pre (n ∷ post) (a ∙ simp append_assoc) l (all_left IsFit ns (n ∷ []) f) inner i in
+      let x = one_read s (subformula all) k (top k (ns ++ n ∷ [])) ns n text e (all_last IsFit ns n f) r (rw b at h) in rw b x
+  tree_read {k} (two {ns = ns} {ms} n t u e) pre post a l f text h =
+      let b = last_is pre (ns ++ ms) post k n a l in
+      let g = all_left IsFit (ns ++ ms) (n ∷ []) f in
+      let r = λ (inner : List ℕ) (i : IsPrinted s (subformula all (top k ns)) inner). tree_read t pre (ms ++ n ∷ post) (a ∙ simp append_assoc) l (all_left IsFit ns ms g) inner i in
+      let q = λ (inner : List ℕ) (i : IsPrinted s (subformula all (top (k + length ns) ms)) inner).
+          tree_read u (pre ++ ns) (n ∷ post) (a ∙ simp append_assoc) (omega (arith, l, length-append pre ns)) (all_right IsFit ns ms g) inner i in
+      let x = two_read s (subformula all) k (top k (ns ++ ms ++ n ∷ [])) ns ms n text e (all_last IsFit (ns ++ ms) n f) r q (rw b at h) in rw b x
+
+-- a node's own reach is at most the sum
+each_reach : (nodes : List Node) → reach nodes ≤ 4294967295 → All (λ n. own_reach n ≤ 4294967295) nodes
+each_reach [] h = All-nil (λ n. own_reach n ≤ 4294967295)
+each_reach (n ∷ nodes) h =
+    let e : reach (n ∷ nodes) ≡ own_reach n + reach nodes = sum_by-cons own_reach n nodes in
+    All-cons (λ n. own_reach n ≤ 4294967295) n nodes (omega (arith, e)) (each_reach nodes (omega (arith, e)))
+
+all_fit : (nodes : List Node) → All IsLeafInLimits nodes → All HasBounds nodes → All (λ n. own_reach n ≤ 4294967295) nodes → All IsFit nodes
+all_fit [] a b c = All-nil IsFit
+all_fit (n ∷ nodes) a b c =
+    All-cons IsFit n nodes (record { atom = All-head IsLeafInLimits n nodes a; bounds = All-head HasBounds n nodes b; reach = All-head (λ n. own_reach n ≤ 4294967295) n nodes c })
+    (all_fit nodes (All-tail IsLeafInLimits n nodes a) (All-tail HasBounds n nodes b) (All-tail (λ n. own_reach n ≤ 4294967295) n nodes c))
+
+-- the printed text of a formula has tokens that are its nodes
+pub printed_read : (f : Formula) (text : List ℕ) → IsWellFormed f → IsPrintedFormula f text → (ts : List Token) × Lexes text ts × IsFormula f.scale 0 ts f.nodes
+printed_read f text w h =
+    let t = one_tree f.nodes w.nodes.post_order w.root in
+    let fit = all_fit f.nodes w.nodes.atoms w.nodes.bounds (each_reach f.nodes w.nodes.reach) in
+    let i : length f.nodes - 1 ≡ top 0 f.nodes = omega arith in
+    let x = tree_read f.scale f.nodes w.nodes.post_order t [] [] (sym (append-nil f.nodes)) refl fit text (rw (ap (λ z. subformula f.nodes z) i) at h) in
+    let (ts, y, d) = parsed_formula f.scale 0 (has_two (subformula f.nodes (top 0 f.nodes))) text f.nodes x in
+    (ts, lexed_whole text ts y, d)
