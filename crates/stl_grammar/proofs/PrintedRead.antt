@@ -29,16 +29,18 @@ use Rattle.stl_grammar.specs.Grammar.{name as term_name, none as no_terms}
 use Rattle.stl_grammar.specs.Grammar.{IsFutureWindow, bound, IsPastWindow, nothing, bounded, unbounded, IsFuture, IsPast}
 use Rattle.stl_grammar.specs.Grammar.IsPast.{nothing as since_nothing, bounded as since_bounded, unbounded as since_unbounded}
 use Rattle.stl_grammar.specs.Grammar.{IsFormula, IsDisjunct, IsConjunct, IsTimed, IsOperand, disjunct, implies, conjunct, or, timed, and, operand, until, since, not, eventually, always, once, historically, always_true, always_false, parens, atom}
+use Rattle.stl_grammar.specs.Grammar.{first_decimals, time_digits}
 use Rattle.stl_grammar.specs.Tokens.{blank}
+use Rattle.stl_grammar.proofs.TokenEnds.{formula_ends, operand_ends, IsShort, short_joined, short_word, short_parens, short_atom, short_signed, short_window, short_past, short_since}
 use Rattle.stl_grammar.proofs.PrintedTokens.{Separates, Lexed, LexedAny, Parts, any_lexed, then_lexed, then_any, parted_any, parted, spaced, lexed_whole, lexed_word, lexed_name, blank_lexed, paren_lexed, paren_end_lexed, bracket_lexed, bracket_end_lexed, comma_lexed, star_lexed, plus_lexed, minus_lexed, relation_lexed, integer_text, NumberOf, number_text}
 
 -- a constant
-limit_read : (digits : ℕ) (c : ℤ) (text : List ℕ) → nat_abs c ≤ 1073741824 → IsConstantText digits c text → (ts : List Token) × Lexed text ts × IsConstant digits ts c
-limit_read digits (pos n) text l h = let (v, k, x, e, m, f) = number_text digits n text (omega arith) h in (number v k ∷ [], x, rw (ap pos (sym e)) plain)
+limit_read : (digits : ℕ) (c : ℤ) (text : List ℕ) → nat_abs c ≤ 1073741824 → IsConstantText digits c text → (ts : List Token) × Lexed text ts × IsConstant digits ts c × (first_decimals ts ≤ digits)
+limit_read digits (pos n) text l h = let (v, k, x, e, m, f) = number_text digits n text (omega arith) h in (number v k ∷ [], x, rw (ap pos (sym e)) plain, m)
 limit_read digits (negsuc n) text l (size, h, t) =
     let (v, k, x, e, m, f) = number_text digits (suc n) size (omega arith) h in
     let g : neg_ℤ (pos (ticks digits v k)) ≡ negsuc n = ap (λ z. neg_ℤ (pos z)) e in
-    (minus ∷ number v k ∷ [], rw t (then_lexed (codes "-") size (minus ∷ []) (number v k ∷ []) minus_lexed x), rw (sym g) negative)
+    (minus ∷ number v k ∷ [], rw t (then_lexed (codes "-") size (minus ∷ []) (number v k ∷ []) minus_lexed x), rw (sym g) negative, m)
 
 -- a term without its sign
 term_read : (k : ℕ) (name : List ℕ) → k ≤ 16 → IsTrue (is_name name) → (ts : List Token) × Lexed (scaled_text k name) ts × IsTerm ts k name
@@ -90,11 +92,12 @@ further_read (t ∷ terms) h =
 abbrev TermsRead : List Term → Type 0
 TermsRead terms = (us : List Token) × Lexed (terms_text terms) us
     × ((digits : ℕ) (rel : Rel) (vs : List Token) (c : ℤ) → IsConstant digits vs c → IsAtom digits (us ++ relation rel ∷ vs) (record { terms = terms; rel = rel; limit = c }))
+    × ((s : Scale) (digits : ℕ) (rel : Rel) (vs : List Token) (c : ℤ) → IsConstant digits vs c → first_decimals vs ≤ s.value → IsShort s (us ++ relation rel ∷ vs))
 
 first_one : (c : ℤ) (name : List ℕ) (terms : List Term) → nat_abs c ≤ 16 → IsTrue (is_name name) → FurtherRead terms → TermsRead (record { coef = c; name = name } ∷ terms)
 first_one (pos k) name terms l h (us, x, a) =
     let (ts, y, t) = term_read k name l h in
-    (ts ++ us, parted (scaled_text k name) (further_terms terms) ts us y (further_separates terms) x, λ digits rel vs c i. first t a i)
+    (ts ++ us, parted (scaled_text k name) (further_terms terms) ts us y (further_separates terms) x, λ digits rel vs c i. first t a i, λ s digits rel vs c i l. short_atom s rel t a i l)
 first_one (negsuc k) name terms l h (us, x, a) =
     let (ts, y, t) = term_read (suc k) name l h in
     let m = parted (scaled_text (suc k) name) (further_terms terms) ts us y (further_separates terms) x in
@@ -102,6 +105,7 @@ first_one (negsuc k) name terms l h (us, x, a) =
       minus ∷ ts ++ us,
       (then_lexed (codes "-") (scaled_text (suc k) name ++ further_terms terms) (minus ∷ []) (ts ++ us) minus_lexed m),
       λ digits rel vs c i. signed (more_minus t a) i,
+      λ s digits rel vs c i l. short_signed s rel (more_minus t a) i l,
     )
 
 terms_read : (terms : List Term) → 0 < length terms → All IsTermInLimits terms → TermsRead terms
@@ -110,14 +114,14 @@ terms_read (t ∷ terms) l h =
     let g = All-head IsTermInLimits t terms h in
     first_one t.coef t.name terms g.coef g.name (further_read terms (All-tail IsTermInLimits t terms h))
 
-atom_read : (s : Scale) (a : Atom) (text : List ℕ) → IsAtomInLimits a → IsAtomText s a text → (ts : List Token) × Lexed text ts × IsAtom s.value ts a
+atom_read : (s : Scale) (a : Atom) (text : List ℕ) → IsAtomInLimits a → IsAtomText s a text → (ts : List Token) × Lexed text ts × IsAtom s.value ts a × IsShort s ts
 atom_read s a text g (limit, h, e) =
-    let (us, x, make) = terms_read a.terms g.some g.terms in
-    let (vs, y, c) = limit_read s.value a.limit limit g.limit h in
+    let (us, x, make, short) = terms_read a.terms g.some g.terms in
+    let (vs, y, c, few) = limit_read s.value a.limit limit g.limit h in
     let m = then_lexed (terms_text a.terms ++ codes " ") (relation_text a.rel) us (relation a.rel ∷ []) (spaced (terms_text a.terms) us x) (relation_lexed a.rel) in
     let n = then_lexed (terms_text a.terms ++ codes " " ++ relation_text a.rel ++ codes " ") limit (us ++ relation a.rel ∷ []) vs
         (spaced (terms_text a.terms ++ codes " " ++ relation_text a.rel) (us ++ relation a.rel ∷ []) m) y in
-    (us ++ relation a.rel ∷ vs, rw e (rw (append_assoc us (relation a.rel ∷ []) vs) at n), make s.value a.rel vs a.limit c)
+    (us ++ relation a.rel ∷ vs, rw e (rw (append_assoc us (relation a.rel ∷ []) vs) at n), make s.value a.rel vs a.limit c, short s s.value a.rel vs a.limit c few)
 
 -- bounds
 abbrev opening_read : (b : Bool) → (t : Token) × LexedAny (opening b) (t ∷ []) × IsOpening t b
@@ -134,7 +138,7 @@ opening_parts false rest z = (refl, refl)
 
 -- a bound with two numbers
 abbrev FutureRead : Scale → ℕ → ℕ → Bool → Bool → List ℕ → Type 0
-FutureRead s a b a_in b_in text = (us : List Token) × LexedAny text us × Parts text × IsFutureWindow s.time us a b a_in b_in
+FutureRead s a b a_in b_in text = (us : List Token) × LexedAny text us × Parts text × IsFutureWindow s.time us a b a_in b_in × (time_digits us ≤ s.time)
 
 -- brackets about two pieces
 about : (a_in b_in : Bool) (low high : List ℕ) (t u : Token) → Lexed low (t ∷ []) → Lexed high (u ∷ [])
@@ -151,17 +155,29 @@ about_parts : (a_in b_in : Bool) (low high : List ℕ) → Parts (opening a_in +
 about_parts true b_in low high z = (refl, refl)
 about_parts false b_in low high z = (refl, refl)
 
+bound_time : (a_in b_in : Bool) (v i w j d : ℕ) → i ≤ d → j ≤ d → time_digits ((opening_read a_in).0 ∷ number v i ∷ comma ∷ number w j ∷ (closing_read b_in).0 ∷ []) ≤ d
+bound_time true true v i w j d l m = omega arith
+bound_time true false v i w j d l m = omega arith
+bound_time false true v i w j d l m = omega arith
+bound_time false false v i w j d l m = omega arith
+
+inf_time : (a_in b_in : Bool) (v i d : ℕ) → i ≤ d → time_digits ((opening_read a_in).0 ∷ number v i ∷ comma ∷ word (codes "inf") ∷ (closing_read b_in).0 ∷ []) ≤ d
+inf_time true true v i d l = omega arith
+inf_time true false v i d l = omega arith
+inf_time false true v i d l = omega arith
+inf_time false false v i d l = omega arith
+
 future_read : (s : Scale) (a b : ℕ) (a_in b_in : Bool) (text : List ℕ) → a < 2 ^ 64 → b < 2 ^ 64 → IsBoundText s a (Some b) a_in b_in text → FutureRead s a b a_in b_in text
 future_read s a b a_in b_in text l m (low, high, h, k, e) =
     let (v, i, x, f, f1, f2) = number_text s.time a low l h in
     let (w, j, y, g, g1, g2) = number_text s.time b high m k in
     let d : IsFutureWindow s.time ((opening_read a_in).0 ∷ number v i ∷ comma ∷ number w j ∷ (closing_read b_in).0 ∷ []) (ticks s.time v i) (ticks s.time w j) a_in b_in =
         bound (opening_read a_in).2 (closing_read b_in).2 in
-    (_, rw e (about a_in b_in low high (number v i) (number w j) x y), rw e (about_parts a_in b_in low high), rw (f, g) at d)
+    (_, rw e (about a_in b_in low high (number v i) (number w j) x y), rw e (about_parts a_in b_in low high), rw (f, g) at d, bound_time a_in b_in v i w j s.time f1 g1)
 
 -- the bound of an operator that looks back
 abbrev PastRead : Scale → ℕ → Option ℕ → Bool → Bool → List ℕ → Type 0
-PastRead s a b a_in b_in text = (us : List Token) × ((x : List ℕ) (ts : List Token) → Lexed x ts → Lexed (x ++ text) (ts ++ us)) × IsPastWindow s.time us a b a_in b_in
+PastRead s a b a_in b_in text = (us : List Token) × ((x : List ℕ) (ts : List Token) → Lexed x ts → Lexed (x ++ text) (ts ++ us)) × IsPastWindow s.time us a b a_in b_in × (time_digits us ≤ s.time)
 
 of_future : {d a b : ℕ} {us : List Token} {x y : Bool} → IsFutureWindow d us a b x y → IsPastWindow d us a (Some b) x y
 of_future (bound o c) = bounded o c
@@ -169,8 +185,8 @@ of_future (bound o c) = bounded o c
 past_bound : (s : Scale) (a : ℕ) (b : Option ℕ) (a_in b_in : Bool) (text : List ℕ) → a < 2 ^ 64 → IsInWhereInfinite b b_in → ((n : ℕ) → b ≡ Some n → n < 2 ^ 64)
     → IsBoundText s a b a_in b_in text → PastRead s a b a_in b_in text
 past_bound s a (Some b) a_in b_in text l i m h =
-    let (us, x, p, w) = future_read s a b a_in b_in text l (m b refl) h in
-    (us, λ y ts k. any_lexed (y ++ text) (ts ++ us) (parted_any y text ts us k p x), of_future w)
+    let (us, x, p, w, sh) = future_read s a b a_in b_in text l (m b refl) h in
+    (us, λ y ts k. any_lexed (y ++ text) (ts ++ us) (parted_any y text ts us k p x), of_future w, sh)
 past_bound s a None a_in b_in text l i m (low, high, h, k, e) =
     let (v, j, x, f, f1, f2) = number_text s.time a low l h in
     let inf : Lexed high (word (codes "inf") ∷ []) = rw k (lexed_word 105 (codes "nf") refl refl) in
@@ -180,7 +196,7 @@ past_bound s a None a_in b_in text l i m (low, high, h, k, e) =
     let z : LexedAny text us = rw e (about a_in b_in low high (number v j) (word (codes "inf")) x inf) in
     let parts : Parts text = rw e (about_parts a_in b_in low high) in
     let w : IsPastWindow s.time us a None a_in b_in = subst (λ y. IsPastWindow s.time us a None a_in y) (sym i) (rw f at d) in
-    (us, λ y ts q. any_lexed (y ++ text) (ts ++ us) (parted_any y text ts us q parts z), w)
+    (us, λ y ts q. any_lexed (y ++ text) (ts ++ us) (parted_any y text ts us q parts z), w, inf_time a_in b_in v j s.time f1)
 
 past_read : (s : Scale) (a : ℕ) (b : Option ℕ) (a_in b_in : Bool) (text : List ℕ) → a < 2 ^ 64 → IsInWhereInfinite b b_in → ((n : ℕ) → b ≡ Some n → n < 2 ^ 64)
     → IsPastBoundText s a b a_in b_in text → PastRead s a b a_in b_in text
@@ -193,12 +209,12 @@ past_read s a None a_in b_in text l i m h = split ((a == 0) && a_in) refl
         let p = and_parts (a == 0) a_in e in
         let z : a ≡ 0 = eqb-true a 0 p.0 in
         let w : IsPastWindow s.time [] a None a_in b_in = rw (z, p.1, i) nothing in
-        ([], λ y ts q. rw (t, append-nil y, append-nil ts) q, w)
+        ([], λ y ts q. rw (t, append-nil y, append-nil ts) q, w, omega arith)
     split false e = past_bound s a None a_in b_in text l i m (rw e at h)
 
 -- the bound of `since` is closed
 abbrev SinceRead : Scale → ℕ → Option ℕ → List ℕ → Type 0
-SinceRead s a b text = (us : List Token) × ((x : List ℕ) (ts : List Token) → Lexed x ts → Lexed (x ++ text) (ts ++ us)) × IsPast s.time us a b
+SinceRead s a b text = (us : List Token) × ((x : List ℕ) (ts : List Token) → Lexed x ts → Lexed (x ++ text) (ts ++ us)) × IsPast s.time us a b × (time_digits us ≤ s.time)
 
 since_bound : (s : Scale) (a : ℕ) (b : Option ℕ) (text : List ℕ) → a < 2 ^ 64 → ((n : ℕ) → b ≡ Some n → n < 2 ^ 64) → IsBoundText s a b true true text → SinceRead s a b text
 since_bound s a (Some b) text l m (low, high, h, k, e) =
@@ -208,7 +224,7 @@ since_bound s a (Some b) text l m (low, high, h, k, e) =
     let us : List Token = open_bracket ∷ number v i ∷ comma ∷ number w j ∷ close_bracket ∷ [] in
     let z : LexedAny text us = rw e (about true true low high (number v i) (number w j) x y) in
     let parts : Parts text = rw e (about_parts true true low high) in
-    (us, λ y ts q. any_lexed (y ++ text) (ts ++ us) (parted_any y text ts us q parts z), rw (f, g) at d)
+    (us, λ y ts q. any_lexed (y ++ text) (ts ++ us) (parted_any y text ts us q parts z), rw (f, g) at d, bound_time true true v i w j s.time f1 g1)
 since_bound s a None text l m (low, high, h, k, e) =
     let (v, j, x, f, f1, f2) = number_text s.time a low l h in
     let inf : Lexed high (word (codes "inf") ∷ []) = rw k (lexed_word 105 (codes "nf") refl refl) in
@@ -216,7 +232,7 @@ since_bound s a None text l m (low, high, h, k, e) =
     let us : List Token = open_bracket ∷ number v j ∷ comma ∷ word (codes "inf") ∷ close_bracket ∷ [] in
     let z : LexedAny text us = rw e (about true true low high (number v j) (word (codes "inf")) x inf) in
     let parts : Parts text = rw e (about_parts true true low high) in
-    (us, λ y ts q. any_lexed (y ++ text) (ts ++ us) (parted_any y text ts us q parts z), rw f at d)
+    (us, λ y ts q. any_lexed (y ++ text) (ts ++ us) (parted_any y text ts us q parts z), rw f at d, inf_time true true v j s.time f1)
 
 since_read : (s : Scale) (a : ℕ) (b : Option ℕ) (text : List ℕ) → a < 2 ^ 64 → ((n : ℕ) → b ≡ Some n → n < 2 ^ 64) → IsPastBoundText s a b true true text → SinceRead s a b text
 since_read s a (Some b) text l m h = since_bound s a (Some b) text l m h
@@ -228,38 +244,38 @@ since_read s a None text l m h = split ((a == 0) && true) refl
         let p = and_parts (a == 0) true e in
         let z : a ≡ 0 = eqb-true a 0 p.0 in
         let w : IsPast s.time [] a None = rw z since_nothing in
-        ([], λ y ts q. rw (t, append-nil y, append-nil ts) q, w)
+        ([], λ y ts q. rw (t, append-nil y, append-nil ts) q, w, omega arith)
     split false e = since_bound s a None text l m (rw e at h)
 
 until_read : (s : Scale) (a b : ℕ) (text : List ℕ) → a < 2 ^ 64 → b < 2 ^ 64 → IsBoundText s a (Some b) true true text
-    → (us : List Token) × LexedAny text us × Parts text × IsFuture s.time us a b
-until_read s a b text l m h = let (us, x, p, w) = future_read s a b true true text l m h in (us, x, p, w)
+    → (us : List Token) × LexedAny text us × Parts text × IsFuture s.time us a b × (time_digits us ≤ s.time)
+until_read s a b text l m h = let (us, x, p, w, sh) = future_read s a b true true text l m h in (us, x, p, w, sh)
 
 -- what a tree's text is read as
 abbrev Parsed : Scale → ℕ → Bool → List ℕ → List Node → Type 0
-Parsed s k true text ns = (ts : List Token) × Lexed text ts × IsFormula s k ts ns
-Parsed s k false text ns = (ts : List Token) × Lexed text ts × IsOperand s k ts ns
+Parsed s k true text ns = (ts : List Token) × Lexed text ts × IsFormula s k ts ns × IsShort s ts
+Parsed s k false text ns = (ts : List Token) × Lexed text ts × IsOperand s k ts ns × IsShort s ts
 
 -- and the same in parentheses where it has two operands
 abbrev OperandRead : Scale → ℕ → List ℕ → List Node → Type 0
-OperandRead s k text ns = (ts : List Token) × Lexed text ts × IsOperand s k ts ns
+OperandRead s k text ns = (ts : List Token) × Lexed text ts × IsOperand s k ts ns × IsShort s ts
 
 in_parens_read : (s : Scale) (k : ℕ) (two : Bool) (P : List ℕ → Type 0) (text : List ℕ) (ns : List Node) → ((inner : List ℕ) → P inner → Parsed s k two inner ns) → InParens two P text
     → OperandRead s k text ns
 in_parens_read s k true P text ns f (inner, h, e) =
-    let (ts, x, d) = f inner h in
+    let (ts, x, d, sh) = f inner h in
     let a = then_lexed (codes "(") inner (open_paren ∷ []) ts paren_lexed x in
     let b = parted_any (codes "(" ++ inner) (codes ")") (open_paren ∷ ts) (close_paren ∷ []) a (λ z. (refl, refl)) paren_end_lexed in
-    (open_paren ∷ ts ++ close_paren ∷ [], rw e (any_lexed (codes "(" ++ inner ++ codes ")") (open_paren ∷ ts ++ close_paren ∷ []) b), parens d)
-in_parens_read s k false P text ns f (inner, h, e) = let (ts, x, d) = f inner h in (ts, rw e x, d)
+    (open_paren ∷ ts ++ close_paren ∷ [], rw e (any_lexed (codes "(" ++ inner ++ codes ")") (open_paren ∷ ts ++ close_paren ∷ []) b), parens d, short_parens s ts (formula_ends d) sh)
+in_parens_read s k false P text ns f (inner, h, e) = let (ts, x, d, sh) = f inner h in (ts, rw e x, d, sh)
 
 -- a formula of an operand
 whole_formula : {s : Scale} {k : ℕ} {ts : List Token} {ns : List Node} → IsTimed s k ts ns → IsFormula s k ts ns
 whole_formula t = disjunct (conjunct (timed t))
 
-parsed_formula : (s : Scale) (k : ℕ) (two : Bool) (text : List ℕ) (ns : List Node) → Parsed s k two text ns → (ts : List Token) × Lexed text ts × IsFormula s k ts ns
+parsed_formula : (s : Scale) (k : ℕ) (two : Bool) (text : List ℕ) (ns : List Node) → Parsed s k two text ns → (ts : List Token) × Lexed text ts × IsFormula s k ts ns × IsShort s ts
 parsed_formula s k true text ns h = h
-parsed_formula s k false text ns (ts, x, p) = (ts, x, whole_formula (operand p))
+parsed_formula s k false text ns (ts, x, p, sh) = (ts, x, whole_formula (operand p), sh)
 
 -- a word, and an operand after it
 before_read : (word_text x : List ℕ) (ts us : List Token) → Lexed word_text ts → Lexed x us → Lexed (word_text ++ codes " " ++ x) (ts ++ us)
@@ -328,9 +344,9 @@ past_small a (Some b) o r = (omega arith, λ n e. let f : b ≡ n = cc in omega 
 
 module _ (s : Scale) (at : ℕ → Subformula) where
   leaf_read : (k i : ℕ) (n : Node) (text : List ℕ) → children n ≡ [] → IsFit n → IsPrinted s (tree_of at i n) text → Parsed s k (has_two (tree_of at i n)) text (n ∷ [])
-  leaf_read k i (Const true) text e f h = (word (codes "true") ∷ [], rw h lexed_true, always_true)
-  leaf_read k i (Const false) text e f h = (word (codes "false") ∷ [], rw h lexed_false, always_false)
-  leaf_read k i (Leaf a) text e f h = let (ts, x, d) = atom_read s a text f.atom h in (ts, x, atom d)
+  leaf_read k i (Const true) text e f h = (word (codes "true") ∷ [], rw h lexed_true, always_true, record { time = omega arith; value = omega arith })
+  leaf_read k i (Const false) text e f h = (word (codes "false") ∷ [], rw h lexed_false, always_false, record { time = omega arith; value = omega arith })
+  leaf_read k i (Leaf a) text e f h = let (ts, x, d, sh) = atom_read s a text f.atom h in (ts, x, atom d, sh)
   leaf_read k i (Not p) text e f h = absurd (cc)
   leaf_read k i (And p q) text e f h = absurd (cc)
   leaf_read k i (Or p q) text e f h = absurd (cc)
@@ -348,41 +364,42 @@ module _ (s : Scale) (at : ℕ → Subformula) where
 
   not_read : (k : ℕ) (ns : List Node) (text : List ℕ) → Reads k ns (top k ns) → IsPrinted s (negation (at (top k ns))) text → Parsed s k false text (ns ++ Not (top k ns) ∷ [])
   not_read k ns text f (w, x, g, h, e) =
-      let (ts, y, d) = in_parens_read s k (has_two (at (top k ns))) (IsPrinted s (at (top k ns))) x ns f h in
-      (word (codes "not") ∷ ts, rw (e, g) (before_read (codes "not") x (word (codes "not") ∷ []) ts lexed_not y), not d)
+      let (ts, y, d, sh) = in_parens_read s k (has_two (at (top k ns))) (IsPrinted s (at (top k ns))) x ns f h in
+      (word (codes "not") ∷ ts, rw (e, g) (before_read (codes "not") x (word (codes "not") ∷ []) ts lexed_not y), not d, short_word s (codes "not") ts sh)
 
   eventually_read : (k : ℕ) (ns : List Node) (a b : ℕ) (a_in b_in : Bool) (text : List ℕ) → a < 2 ^ 64 → b < 2 ^ 64 → Reads k ns (top k ns)
       → IsPrinted s (eventually_tree a b a_in b_in (at (top k ns))) text → Parsed s k false text (ns ++ Eventually (top k ns) a b a_in b_in ∷ [])
   eventually_read k ns a b a_in b_in text l m f (w, x, (bd, g, gw), h, e) =
-      let (ts, y, d) = in_parens_read s k (has_two (at (top k ns))) (IsPrinted s (at (top k ns))) x ns f h in
-      let (us, z, p, v) = future_read s a b a_in b_in bd l m g in
+      let (ts, y, d, sh) = in_parens_read s k (has_two (at (top k ns))) (IsPrinted s (at (top k ns))) x ns f h in
+      let (us, z, p, v, few) = future_read s a b a_in b_in bd l m g in
       let q = any_lexed (codes "eventually" ++ bd) (word (codes "eventually") ∷ us) (parted_any (codes "eventually") bd (word (codes "eventually") ∷ []) us lexed_eventually p z) in
-      (word (codes "eventually") ∷ us ++ ts, rw (e, gw) (before_read (codes "eventually" ++ bd) x (word (codes "eventually") ∷ us) ts q y), eventually v d)
+      (word (codes "eventually") ∷ us ++ ts, rw (e, gw) (before_read (codes "eventually" ++ bd) x (word (codes "eventually") ∷ us) ts q y), eventually v d, short_word s (codes "eventually") (us ++ ts) (short_window s ts v few sh))
 
   always_read : (k : ℕ) (ns : List Node) (a b : ℕ) (a_in b_in : Bool) (text : List ℕ) → a < 2 ^ 64 → b < 2 ^ 64 → Reads k ns (top k ns)
       → IsPrinted s (always_tree a b a_in b_in (at (top k ns))) text → Parsed s k false text (ns ++ Always (top k ns) a b a_in b_in ∷ [])
   always_read k ns a b a_in b_in text l m f (w, x, (bd, g, gw), h, e) =
-      let (ts, y, d) = in_parens_read s k (has_two (at (top k ns))) (IsPrinted s (at (top k ns))) x ns f h in
-      let (us, z, p, v) = future_read s a b a_in b_in bd l m g in
+      let (ts, y, d, sh) = in_parens_read s k (has_two (at (top k ns))) (IsPrinted s (at (top k ns))) x ns f h in
+      let (us, z, p, v, few) = future_read s a b a_in b_in bd l m g in
       let q = any_lexed (codes "always" ++ bd) (word (codes "always") ∷ us) (parted_any (codes "always") bd (word (codes "always") ∷ []) us lexed_always p z) in
-      (word (codes "always") ∷ us ++ ts, rw (e, gw) (before_read (codes "always" ++ bd) x (word (codes "always") ∷ us) ts q y), always v d)
+      (word (codes "always") ∷ us ++ ts, rw (e, gw) (before_read (codes "always" ++ bd) x (word (codes "always") ∷ us) ts q y), always v d, short_word s (codes "always") (us ++ ts) (short_window s ts v few sh))
 
   once_read : (k : ℕ) (ns : List Node) (a : ℕ) (b : Option ℕ) (a_in b_in : Bool) (text : List ℕ) → a < 2 ^ 64 → ((n : ℕ) → b ≡ Some n → n < 2 ^ 64) → IsInWhereInfinite b b_in
       → Reads k ns (top k ns) → IsPrinted s (once_tree a b a_in b_in (at (top k ns))) text → Parsed s k false text (ns ++ Once (top k ns) a b a_in b_in ∷ [])
   once_read k ns a b a_in b_in text l m i f (w, x, (bd, g, gw), h, e) =
-      let (ts, y, d) = in_parens_read s k (has_two (at (top k ns))) (IsPrinted s (at (top k ns))) x ns f h in
-      let (us, z, v) = past_read s a b a_in b_in bd l i m g in
-      (word (codes "once") ∷ us ++ ts, rw (e, gw) (before_read (codes "once" ++ bd) x (word (codes "once") ∷ us) ts (z (codes "once") (word (codes "once") ∷ []) lexed_once) y), once v d)
+      let (ts, y, d, sh) = in_parens_read s k (has_two (at (top k ns))) (IsPrinted s (at (top k ns))) x ns f h in
+      let (us, z, v, few) = past_read s a b a_in b_in bd l i m g in
+      (word (codes "once") ∷ us ++ ts, rw (e, gw) (before_read (codes "once" ++ bd) x (word (codes "once") ∷ us) ts (z (codes "once") (word (codes "once") ∷ []) lexed_once) y), once v d, short_word s (codes "once") (us ++ ts) (short_past s ts v few sh))
 
   historically_read : (k : ℕ) (ns : List Node) (a : ℕ) (b : Option ℕ) (a_in b_in : Bool) (text : List ℕ) → a < 2 ^ 64 → ((n : ℕ) → b ≡ Some n → n < 2 ^ 64) → IsInWhereInfinite b b_in
       → Reads k ns (top k ns) → IsPrinted s (historically_tree a b a_in b_in (at (top k ns))) text → Parsed s k false text (ns ++ Historically (top k ns) a b a_in b_in ∷ [])
   historically_read k ns a b a_in b_in text l m i f (w, x, (bd, g, gw), h, e) =
-      let (ts, y, d) = in_parens_read s k (has_two (at (top k ns))) (IsPrinted s (at (top k ns))) x ns f h in
-      let (us, z, v) = past_read s a b a_in b_in bd l i m g in
+      let (ts, y, d, sh) = in_parens_read s k (has_two (at (top k ns))) (IsPrinted s (at (top k ns))) x ns f h in
+      let (us, z, v, few) = past_read s a b a_in b_in bd l i m g in
       (
         word (codes "historically") ∷ us ++ ts,
         rw (e, gw) (before_read (codes "historically" ++ bd) x (word (codes "historically") ∷ us) ts (z (codes "historically") (word (codes "historically") ∷ []) lexed_historically) y),
         historically v d,
+        short_word s (codes "historically") (us ++ ts) (short_past s ts v few sh),
       )
 
   one_read : (k i : ℕ) (ns : List Node) (n : Node) (text : List ℕ) → children n ≡ top k ns ∷ [] → IsFit n → Reads k ns (top k ns) → IsPrinted s (tree_of at i n) text
@@ -411,60 +428,65 @@ module _ (s : Scale) (at : ℕ → Subformula) where
   and_read : (k : ℕ) (ns ms : List Node) (text : List ℕ) → Reads k ns (top k ns) → Reads (k + length ns) ms (top (k + length ns) ms)
       → IsPrinted s (conjunction (at (top k ns)) (at (top (k + length ns) ms))) text → Parsed s k true text (ns ++ ms ++ And (top k ns) (top (k + length ns) ms) ∷ [])
   and_read k ns ms text f g (x, w, y, h, i, j, e) =
-      let (ts, a, d) = in_parens_read s k (has_two (at (top k ns))) (IsPrinted s (at (top k ns))) x ns f h in
-      let (us, b, c) = in_parens_read s (k + length ns) (has_two (at (top (k + length ns) ms))) (IsPrinted s (at (top (k + length ns) ms))) y ms g j in
+      let (ts, a, d, sh) = in_parens_read s k (has_two (at (top k ns))) (IsPrinted s (at (top k ns))) x ns f h in
+      let (us, b, c, sh2) = in_parens_read s (k + length ns) (has_two (at (top (k + length ns) ms))) (IsPrinted s (at (top (k + length ns) ms))) y ms g j in
       (
         ts ++ word (codes "and") ∷ us,
         rw (e, i) (joined_lexed x (codes "and") y ts (word (codes "and") ∷ []) us a lexed_and b),
         disjunct (conjunct (and (timed (operand d)) (operand c))),
+        short_joined s ts (word (codes "and") ∷ us) (operand_ends d) refl sh (short_word s (codes "and") us sh2),
       )
 
   or_read : (k : ℕ) (ns ms : List Node) (text : List ℕ) → Reads k ns (top k ns) → Reads (k + length ns) ms (top (k + length ns) ms)
       → IsPrinted s (disjunction (at (top k ns)) (at (top (k + length ns) ms))) text → Parsed s k true text (ns ++ ms ++ Or (top k ns) (top (k + length ns) ms) ∷ [])
   or_read k ns ms text f g (x, w, y, h, i, j, e) =
-      let (ts, a, d) = in_parens_read s k (has_two (at (top k ns))) (IsPrinted s (at (top k ns))) x ns f h in
-      let (us, b, c) = in_parens_read s (k + length ns) (has_two (at (top (k + length ns) ms))) (IsPrinted s (at (top (k + length ns) ms))) y ms g j in
+      let (ts, a, d, sh) = in_parens_read s k (has_two (at (top k ns))) (IsPrinted s (at (top k ns))) x ns f h in
+      let (us, b, c, sh2) = in_parens_read s (k + length ns) (has_two (at (top (k + length ns) ms))) (IsPrinted s (at (top (k + length ns) ms))) y ms g j in
       (
         ts ++ word (codes "or") ∷ us,
         rw (e, i) (joined_lexed x (codes "or") y ts (word (codes "or") ∷ []) us a lexed_or b),
         disjunct (or (conjunct (timed (operand d))) (timed (operand c))),
+        short_joined s ts (word (codes "or") ∷ us) (operand_ends d) refl sh (short_word s (codes "or") us sh2),
       )
 
   implies_read : (k : ℕ) (ns ms : List Node) (text : List ℕ) → Reads k ns (top k ns) → Reads (k + length ns) ms (top (k + length ns) ms)
       → IsPrinted s (implication (at (top k ns)) (at (top (k + length ns) ms))) text → Parsed s k true text (ns ++ ms ++ Implies (top k ns) (top (k + length ns) ms) ∷ [])
   implies_read k ns ms text f g (x, w, y, h, i, j, e) =
-      let (ts, a, d) = in_parens_read s k (has_two (at (top k ns))) (IsPrinted s (at (top k ns))) x ns f h in
-      let (us, b, c) = in_parens_read s (k + length ns) (has_two (at (top (k + length ns) ms))) (IsPrinted s (at (top (k + length ns) ms))) y ms g j in
+      let (ts, a, d, sh) = in_parens_read s k (has_two (at (top k ns))) (IsPrinted s (at (top k ns))) x ns f h in
+      let (us, b, c, sh2) = in_parens_read s (k + length ns) (has_two (at (top (k + length ns) ms))) (IsPrinted s (at (top (k + length ns) ms))) y ms g j in
       (
         ts ++ word (codes "implies") ∷ us,
         rw (e, i) (joined_lexed x (codes "implies") y ts (word (codes "implies") ∷ []) us a lexed_implies b),
         implies (conjunct (timed (operand d))) (whole_formula (operand c)),
+        short_joined s ts (word (codes "implies") ∷ us) (operand_ends d) refl sh (short_word s (codes "implies") us sh2),
       )
 
   until_tree_read : (k : ℕ) (ns ms : List Node) (l r : ℕ) (text : List ℕ) → l < 2 ^ 64 → r < 2 ^ 64 → Reads k ns (top k ns) → Reads (k + length ns) ms (top (k + length ns) ms)
       → IsPrinted s (until_tree l r (at (top k ns)) (at (top (k + length ns) ms))) text → Parsed s k true text (ns ++ ms ++ Until (top k ns) (top (k + length ns) ms) l r ∷ [])
   until_tree_read k ns ms l r text m n f g (x, w, y, h, (bd, i, iw), j, e) =
-      let (ts, a, d) = in_parens_read s k (has_two (at (top k ns))) (IsPrinted s (at (top k ns))) x ns f h in
-      let (us, b, c) = in_parens_read s (k + length ns) (has_two (at (top (k + length ns) ms))) (IsPrinted s (at (top (k + length ns) ms))) y ms g j in
-      let (vs, z, p, v) = until_read s l r bd m n i in
+      let (ts, a, d, sh) = in_parens_read s k (has_two (at (top k ns))) (IsPrinted s (at (top k ns))) x ns f h in
+      let (us, b, c, sh2) = in_parens_read s (k + length ns) (has_two (at (top (k + length ns) ms))) (IsPrinted s (at (top (k + length ns) ms))) y ms g j in
+      let (vs, z, p, v, few) = until_read s l r bd m n i in
       let q = any_lexed (codes "until" ++ bd) (word (codes "until") ∷ vs) (parted_any (codes "until") bd (word (codes "until") ∷ []) vs lexed_until p z) in
       (
         ts ++ word (codes "until") ∷ vs ++ us,
         rw (e, iw) (between_read x (codes "until" ++ bd) y ts (word (codes "until") ∷ vs) us a q b),
         whole_formula (until d v c),
+        rw (append_assoc ts (word (codes "until") ∷ vs) us) (short_joined s ts (word (codes "until") ∷ (vs ++ us)) (operand_ends d) refl sh (short_word s (codes "until") (vs ++ us) (short_window s us v few sh2))),
       )
 
   since_tree_read : (k : ℕ) (ns ms : List Node) (l : ℕ) (r : Option ℕ) (text : List ℕ) → l < 2 ^ 64 → ((n : ℕ) → r ≡ Some n → n < 2 ^ 64) → Reads k ns (top k ns)
       → Reads (k + length ns) ms (top (k + length ns) ms) → IsPrinted s (since_tree l r (at (top k ns)) (at (top (k + length ns) ms))) text
       → Parsed s k true text (ns ++ ms ++ Since (top k ns) (top (k + length ns) ms) l r ∷ [])
   since_tree_read k ns ms l r text m n f g (x, w, y, h, (bd, i, iw), j, e) =
-      let (ts, a, d) = in_parens_read s k (has_two (at (top k ns))) (IsPrinted s (at (top k ns))) x ns f h in
-      let (us, b, c) = in_parens_read s (k + length ns) (has_two (at (top (k + length ns) ms))) (IsPrinted s (at (top (k + length ns) ms))) y ms g j in
-      let (vs, z, v) = since_read s l r bd m n i in
+      let (ts, a, d, sh) = in_parens_read s k (has_two (at (top k ns))) (IsPrinted s (at (top k ns))) x ns f h in
+      let (us, b, c, sh2) = in_parens_read s (k + length ns) (has_two (at (top (k + length ns) ms))) (IsPrinted s (at (top (k + length ns) ms))) y ms g j in
+      let (vs, z, v, few) = since_read s l r bd m n i in
       (
         ts ++ word (codes "since") ∷ vs ++ us,
         rw (e, iw) (between_read x (codes "since" ++ bd) y ts (word (codes "since") ∷ vs) us a (z (codes "since") (word (codes "since") ∷ []) lexed_since) b),
         whole_formula (since d v c),
+        rw (append_assoc ts (word (codes "since") ∷ vs) us) (short_joined s ts (word (codes "since") ∷ (vs ++ us)) (operand_ends d) refl sh (short_word s (codes "since") (vs ++ us) (short_since s us v few sh2))),
       )
 
   two_read : (k i : ℕ) (ns ms : List Node) (n : Node) (text : List ℕ) → children n ≡ top k ns ∷ top (k + length ns) ms ∷ [] → IsFit n → Reads k ns (top k ns)
@@ -534,11 +556,11 @@ all_fit (n ∷ nodes) a b c =
     (all_fit nodes (All-tail IsLeafInLimits n nodes a) (All-tail HasBounds n nodes b) (All-tail (λ n. own_reach n ≤ 4294967295) n nodes c))
 
 -- the printed text of a formula has tokens that are its nodes
-pub printed_read : (f : Formula) (text : List ℕ) → IsWellFormed f → IsPrintedFormula f text → (ts : List Token) × Lexes text ts × IsFormula f.scale 0 ts f.nodes
+pub printed_read : (f : Formula) (text : List ℕ) → IsWellFormed f → IsPrintedFormula f text → (ts : List Token) × Lexes text ts × IsFormula f.scale 0 ts f.nodes × IsShort f.scale ts
 printed_read f text w h =
     let t = one_tree f.nodes w.nodes.post_order w.root in
     let fit = all_fit f.nodes w.nodes.atoms w.nodes.bounds (each_reach f.nodes w.nodes.reach) in
     let i : length f.nodes - 1 ≡ top 0 f.nodes = omega arith in
     let x = tree_read f.scale f.nodes w.nodes.post_order t [] [] (sym (append-nil f.nodes)) refl fit text (rw (ap (λ z. subformula f.nodes z) i) at h) in
-    let (ts, y, d) = parsed_formula f.scale 0 (has_two (subformula f.nodes (top 0 f.nodes))) text f.nodes x in
-    (ts, lexed_whole text ts y, d)
+    let (ts, y, d, sh) = parsed_formula f.scale 0 (has_two (subformula f.nodes (top 0 f.nodes))) text f.nodes x in
+    (ts, lexed_whole text ts y, d, sh)
