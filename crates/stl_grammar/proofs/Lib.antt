@@ -22,3 +22,4 @@ pub mod TokensTaken
 pub mod ReadNodes
 pub mod PrintedTokens
 pub mod PrintedRead
+pub mod LeastDigits
