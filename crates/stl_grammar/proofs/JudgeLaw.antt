@@ -1,33 +1,30 @@
 -- A parser refuses a token as the refusals say.
-use Rattle.std.proofs.Common.{◌≡◌, ℕ, suc, zero, ◌+◌, ◌-◌, ◌*◌, ◌^◌, ◌<◌, ◌≤◌, List, [], ◌∷◌, ◌++◌, length, take, drop, refl, sym, ap, ◌∙◌, subst, Bool, true, false, if◌then◌else◌, arith, inl, inr, ◌⊎◌}
-use Rattle.std.specs.Prelude.{nat_le, nat_lt, ◌&&◌, ◌||◌, not, Option, Some, None, option_map, IsTrue, MatchBool, codes}
+use Rattle.std.proofs.Common.{◌≡◌, ℕ, ◌+◌, ◌-◌, ◌<◌, ◌≤◌, List, [], ◌∷◌, length, refl, sym, ap, ◌∙◌, subst, Bool, true, false, if◌then◌else◌, arith, inl, inr, ◌⊎◌}
+use Rattle.std.specs.Prelude.{nat_le, nat_lt, ◌||◌, not, Option, Some, None, option_map, IsTrue, MatchBool, codes}
 use Rattle.std.proofs.lemmas.Bool.Decides.{nat_tests}
 use Rattle.std.proofs.lemmas.List.{take_at, length-append, length-drop}
 use Rattle.stl_syntax.specs.Characters.{is_among}
 use Rattle.stl_syntax.specs.Choice.{◌or_else◌, Where}
-use Rattle.stl_syntax.specs.Names.{reserved, is_name}
-use Rattle.stl_grammar.specs.Tokens.{Token, word, number, relation, open_paren, close_paren, open_bracket, close_bracket, comma, star, plus, minus}
+use Rattle.stl_syntax.specs.Names.{is_name}
+use Rattle.stl_grammar.specs.Tokens.{Token, word, number}
 use Rattle.stl_grammar.specs.FormulaRefusals.{MayBegin, RefusedAt, pending, nodes_made, expected, is_unbounded, begins_fifth_term, is_bad_number, is_out_of_order, begins_future_bound, passes_limit, opens_bound, ahead}
 use Rattle.stl_grammar.specs.Told.{Tells, IsLarge, spelling}
 use Rattle.stl_grammar.specs.Machine as Machine
 use Rattle.stl_grammar.specs.Machine.{State, Mark, Owner, of_until, of_since, of_future, of_past, step_bound, step_at, at_operand, at_bound, at_low, at_comma, at_high, at_closing, at_term, at_star, at_name, at_sign, at_constant, at_number, at_end, kind, run, step, expected_at, fifth_at, disorder_at, future_at, in_paren}
 use Rattle.stl_grammar.specs.Parsing.{Parse, parse_step, between, IsKnown}
-use Rattle.stl_grammar.specs.Judging.{state_of, refused, refused_after, late_in, unbounded_in, fifth_in, bad_in, disorder_in, future_in, expected_in, depth_of, place_at, marks_of, number_in, owner}
+use Rattle.stl_grammar.specs.Judging.{state_of, refused, refused_after, late_in, unbounded_in, fifth_in, bad_in, disorder_in, future_in, expected_in, depth_of, place_at, number_in}
 use Rattle.stl_grammar.specs.Taken.{plain}
-use Rattle.stl_grammar.proofs.ParserView.{IsFit, view_step, free_name, known_kind}
-use Rattle.stl_grammar.proofs.ParserFit.{Holds}
+use Rattle.stl_grammar.proofs.ParserView.{IsFit, view_step, known_kind}
 use Rattle.stl_grammar.proofs.RefusalExamples.{passed, not_refused}
-use Rattle.stl_grammar.proofs.WordKinds.{name_kind, among_ahead, among_inf}
+use Rattle.stl_grammar.proofs.WordKinds.{among_ahead, among_inf}
 use Rattle.stl_grammar.proofs.MachineBegins.{step_begins}
 use Rattle.stl_grammar.proofs.MachineRuns.{step_stops, step_runs}
 use Rattle.stl_grammar.proofs.MachineView.{run_expected, run_depth, run_nodes, run_bad_number, run_fifth, run_disorder, run_future}
 use Rattle.stl_grammar.specs.declared.decimal.Decimal.{Decimal}
-use Rattle.stl_grammar.specs.declared.token.Keyword.{Keyword}
 use Rattle.stl_grammar.specs.declared.token.Keyword.TheVariants.{True, False, Not, And, Or, Implies, Until, Since, Eventually, Always, Once, Historically, Inf}
 use Rattle.stl_grammar.specs.declared.token.Token.{Token as Code}
 use Rattle.stl_grammar.specs.declared.token.Token.TheVariants.{Keyword as IsKeyword, Name, Number, Relation, OpenParen, CloseParen, OpenBracket, CloseBracket, Comma, Star, Plus, Minus}
 use Rattle.stl_grammar.specs.declared.place.Place.{Place}
-use Rattle.stl_grammar.specs.declared.place.Timed.TheVariants.{Until as TUntil, Since as TSince, Eventually as TEventually, Always as TAlways, Once as TOnce, Historically as THistorically}
 use Rattle.stl_grammar.specs.declared.place.Place.TheVariants.{Operand, Bound, Low, Comma as AtComma, High, Closing, ClosingInf, Term as AtTerm, Star as AtStar, Name as AtName, Sign, Constant, Number as AtNumber, End}
 use Rattle.stl_grammar.specs.declared.fault.What.{What}
 use Rattle.stl_grammar.specs.declared.fault.What.TheVariants.{Operand as WhatOperand, Number as WhatNumber, Comma as WhatComma, Bracket as WhatBracket, Star as WhatStar, Name as WhatName, Term as WhatTerm, Relation as WhatRelation, Constant as WhatConstant, Paren as WhatParen, End as WhatEnd}

@@ -18,7 +18,10 @@ pub mod ReadLaw
 pub mod Rescaled
 pub mod ParserReads
 pub mod ParserNodes
+pub mod BuildLemmas
 pub mod TokensTaken
+pub mod DigitsTold
+pub mod FinishLaw
 pub mod ReadNodes
 pub mod PrintedTokens
 pub mod PrintedRead

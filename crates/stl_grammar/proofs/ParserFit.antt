@@ -1,19 +1,15 @@
 -- A parser of tokens keeps its frames in order.
-use Rattle.std.proofs.Common.{◌≡◌, ℕ, suc, zero, ◌+◌, ◌-◌, ◌<◌, ◌≤◌, List, [], ◌∷◌, ◌++◌, length, refl, sym, ap, ◌∙◌, Bool, true, false, if◌then◌else◌, arith, cond}
-use Rattle.std.specs.Prelude.{nat_le, nat_lt, ◌&&◌, not, Option, Some, None, option_map, IsTrue}
-use Rattle.std.proofs.lemmas.Bool.{and_parts}
+use Rattle.std.proofs.Common.{◌≡◌, ℕ, suc, ◌-◌, ◌<◌, List, [], ◌∷◌, length, refl, Bool, true, false, if◌then◌else◌, arith}
+use Rattle.std.specs.Prelude.{nat_le, nat_lt, Option, Some, None}
 use Rattle.std.proofs.lemmas.Bool.Decides.{nat_tests}
-use Rattle.stl_grammar.specs.Parsing.{Parse, parse_step, begin_operand, closed, settled, settled_frames, rank, infix_rank, top_rank, between, IsKnown, coefficient, bounded_frame, back_frame, may_be_open, back_may_be_open}
-use Rattle.stl_grammar.specs.Judging.{state_of, marks_of, had_of, is_timed, with_mark, owner, back_owner, is_beside, back_is_beside, place_at}
+use Rattle.stl_grammar.specs.Parsing.{Parse, parse_step, begin_operand, closed, settled_frames, rank, infix_rank, top_rank, back_frame}
+use Rattle.stl_grammar.specs.Judging.{is_beside, back_is_beside}
 use Rattle.stl_grammar.specs.declared.decimal.Decimal.{Decimal}
-use Rattle.stl_grammar.specs.declared.token.Keyword.{Keyword}
 use Rattle.stl_grammar.specs.declared.token.Keyword.TheVariants.{True, False, Not, And, Or, Implies, Until, Since, Eventually, Always, Once, Historically, Inf}
 use Rattle.stl_grammar.specs.declared.token.Token.{Token as Code}
 use Rattle.stl_grammar.specs.declared.token.Token.TheVariants.{Keyword as IsKeyword, Name, Number, Relation, OpenParen, CloseParen, OpenBracket, CloseBracket, Comma, Star, Plus, Minus}
-use Rattle.stl_grammar.specs.declared.draft.Window.{Window}
-use Rattle.stl_grammar.specs.declared.draft.Infix.{Infix}
 use Rattle.stl_grammar.specs.declared.draft.Infix.TheVariants.{And as Both, Or as Either, Implies as Then, Until as UpTo, Since as After}
-use Rattle.stl_grammar.specs.declared.draft.Past.TheVariants.{Whole, From, Within}
+use Rattle.stl_grammar.specs.declared.draft.Past.TheVariants.{Whole}
 use Rattle.stl_grammar.specs.declared.draft.Frame.{Frame}
 use Rattle.stl_grammar.specs.declared.draft.Frame.TheVariants.{Paren as Opened, Prefix as Before, Infix as Between}
 use Rattle.stl_grammar.specs.declared.draft.Draft.{Draft}
@@ -25,7 +21,7 @@ use Rattle.stl_grammar.specs.declared.place.Place.{Place}
 use Rattle.stl_grammar.specs.declared.place.Place.TheVariants.{Operand, Bound, Low, Comma as AtComma, High, Closing, ClosingInf, Term as AtTerm, Star as AtStar, Name as AtName, Sign, Constant, Number as AtNumber, End}
 use Rattle.stl_syntax.specs.declared.atom.Term.{Term}
 use Rattle.stl_syntax.specs.declared.rel.Rel.{Rel}
-use Rattle.stl_grammar.proofs.ParserView.{ordered, left_rank, order_next, StandsBeside, FitsPlace, IsFit}
+use Rattle.stl_grammar.proofs.ParserView.{ordered, order_next, StandsBeside, IsFit}
 
 -- what holds of the state after a step, if there is one
 abbrev pub Holds : (Parse → Type 0) → Option Parse → Type 0

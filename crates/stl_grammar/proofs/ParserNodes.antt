@@ -157,7 +157,7 @@ window low high low_in high_in = record { low = low; high = high; low_in = low_i
 
 closing_step : (text : List ℕ) (of : Timed) (x : Bool) (low high : Decimal) (frames : List Frame) (drafts : List Draft) (n : ℕ) → may_be_open of ≡ true
     → parse_step text (at (Closing of x low high) frames drafts [] n) OpenBracket
-      ≡ Some (at Operand (bounded_frame of (window low high x false) (length drafts - 1) ∷ frames) drafts [] n)
+    ≡ Some (at Operand (bounded_frame of (window low high x false) (length drafts - 1) ∷ frames) drafts [] n)
 closing_step text TUntil x low high frames drafts n e = absurd (cc)
 closing_step text TSince x low high frames drafts n e = absurd (cc)
 closing_step text TEventually x low high frames drafts n e = refl
@@ -222,9 +222,11 @@ module _ (text : List ℕ) (frames : List Frame) (drafts : List Draft) (n : ℕ)
   infinite {a = a} {j} of b e x r =
       let u = stepped_number r in
       let y = u.4 (at (AtComma of x u.0) frames drafts [] n) refl in
-      let z = stepped y Comma (at (High of x u.0) frames drafts [] n) (λ c h. comma_told text c h) refl in
-      (u.0, is_number u.0 a j u.1 u.2,
-        stepped z (IsKeyword Inf) (at (ClosingInf b x u.0) frames drafts [] n) (λ c h. keyword_told text Inf c h) (inf_step text of b x u.0 frames drafts n e))
+      let z = stepped y Comma (at (High of x u.0) frames drafts [] n) (λ c h. comma_told text c h) refl in (
+        u.0,
+        is_number u.0 a j u.1 u.2,
+        stepped z (IsKeyword Inf) (at (ClosingInf b x u.0) frames drafts [] n) (λ c h. keyword_told text Inf c h) (inf_step text of b x u.0 frames drafts n e),
+      )
 
   -- the bracket before a bound, and the one after it
   opens_bound : {q : Parse} {t : Token} {ts : List Token} {x : Bool} (of : Timed) → may_be_open of ≡ true → IsOpening t x → Reads text (at (Bound of) frames drafts [] n) (t ∷ ts) q
@@ -454,8 +456,7 @@ two_ends s k ns ms frames drafts xs ys o x r q e f g h l t d =
     let y = ended_less (infix_rank o) r q (Between o (length (drafts ++ xs) - 1) ∷ frames) (drafts ++ xs ++ ys) l d in
     let a : settled_frames (infix_rank o) (Between o (length (drafts ++ xs) - 1) ∷ frames) ≡ frames = rw (le_self (infix_rank o)) (frames_stay (infix_rank o) frames t) in
     let b : settled_drafts (infix_rank o) (Between o (length (drafts ++ xs) - 1) ∷ frames) (drafts ++ xs ++ ys) ≡ drafts ++ (xs ++ ys ++ last ∷ []) =
-        rw (le_self (infix_rank o)) (drafts_stay (infix_rank o) frames (drafts ++ xs ++ ys ++ last ∷ []) t ∙ two_drafts drafts xs ys last) in
-    (
+    rw (le_self (infix_rank o)) (drafts_stay (infix_rank o) frames (drafts ++ xs ++ ys ++ last ∷ []) t ∙ two_drafts drafts xs ys last) in (
       xs ++ ys ++ last ∷ [],
       two_nodes s k ns ms drafts xs ys o x e f g h,
       record { place = y.place; terms = y.terms; frame = y.frame ∙ a; draft = y.draft ∙ b },
@@ -507,8 +508,7 @@ module _ (text : List ℕ) (s : Scale) where
         let step = stepped sp.2 (IsKeyword Implies) (joined_to Then frames (drafts ++ xs) sp.0.made) (λ c j. keyword_told text Implies c j) (implies_step text sp.0 frames (drafts ++ xs) h) in
         let (ys, i, j) = formula_left f (Between Then (length (drafts ++ xs) - 1) ∷ frames) (drafts ++ xs) (suc sp.0.made) q (omega arith) (count_is s k drafts xs ns e g) step in
         let last : Draft = Two Then (length (drafts ++ xs) - 1) (length (drafts ++ xs ++ ys) - 1) in
-        let y : Ended 1 q (settled_frames 1 frames) (settled_drafts 1 frames (drafts ++ xs ++ ys ++ last ∷ [])) = j in
-        (
+        let y : Ended 1 q (settled_frames 1 frames) (settled_drafts 1 frames (drafts ++ xs ++ ys ++ last ∷ [])) = j in (
           xs ++ ys ++ last ∷ [],
           two_nodes s k ns ms drafts xs ys Then (TheImplies (top k ns) (top (k + length ns) ms)) e g i refl,
           rw (two_drafts drafts xs ys last) at y,

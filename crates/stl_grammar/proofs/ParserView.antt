@@ -1,29 +1,26 @@
 -- What a parser of tokens keeps is the state of the machine.
-use Rattle.std.proofs.Common.{◌≡◌, ℕ, suc, zero, ◌+◌, ◌-◌, ◌<◌, ◌≤◌, List, [], ◌∷◌, ◌++◌, length, refl, sym, ap, ◌∙◌, Bool, true, false, if◌then◌else◌, arith, cond}
-use Rattle.std.specs.Prelude.{nat_le, nat_lt, ◌&&◌, not, Option, Some, None, option_map, IsTrue}
+use Rattle.std.proofs.Common.{◌≡◌, ℕ, suc, ◌-◌, ◌<◌, List, [], ◌∷◌, ◌++◌, length, refl, sym, ap, Bool, true, false, if◌then◌else◌, arith}
+use Rattle.std.specs.Prelude.{nat_le, nat_lt, ◌&&◌, not, Some, None, option_map, IsTrue}
 use Rattle.std.proofs.lemmas.Bool.{and_parts}
 use Rattle.std.proofs.lemmas.Bool.Decides.{nat_tests}
 use Rattle.std.proofs.lemmas.List.{length_push}
 use Rattle.stl_syntax.specs.Characters.{is_among, begins_word, goes_on_word, all}
 use Rattle.stl_syntax.specs.Names.{reserved, is_name}
-use Rattle.stl_grammar.specs.Tokens as Tokens
-use Rattle.stl_grammar.specs.Tokens.{word, number, relation, open_paren, close_paren, open_bracket, close_bracket, comma, star, plus, minus}
+use Rattle.stl_grammar.specs.Tokens.{word}
 use Rattle.stl_grammar.specs.Told.{spelling}
 use Rattle.stl_grammar.specs.Machine as Machine
 use Rattle.stl_grammar.specs.Machine.{Kind, kind, a_name, State, Mark, paren, operator, implication, at_operand, at_bound, at_low, at_comma, at_high, at_closing, at_term, at_star, at_name, at_sign, at_constant, at_number, at_end, without_operators, step}
-use Rattle.stl_grammar.specs.Parsing.{Parse, parse_step, begin_operand, closed, settled, settled_frames, rank, infix_rank, top_rank, between, IsKnown, coefficient, bounded_frame, back_frame, may_be_open, back_may_be_open}
-use Rattle.stl_grammar.specs.Judging.{state_of, marks_of, had_of, is_timed, with_mark, owner, back_owner, is_beside, back_is_beside, place_at}
+use Rattle.stl_grammar.specs.Parsing.{Parse, parse_step, begin_operand, closed, settled_frames, top_rank, between, IsKnown, back_frame}
+use Rattle.stl_grammar.specs.Judging.{state_of, marks_of, had_of, owner, is_beside, back_is_beside}
 use Rattle.stl_grammar.specs.Taken.{plain}
 use Rattle.stl_grammar.proofs.WordKinds.{name_kind}
 use Rattle.stl_grammar.specs.declared.decimal.Decimal.{Decimal}
-use Rattle.stl_grammar.specs.declared.token.Keyword.{Keyword}
 use Rattle.stl_grammar.specs.declared.token.Keyword.TheVariants.{True, False, Not, And, Or, Implies, Until, Since, Eventually, Always, Once, Historically, Inf}
 use Rattle.stl_grammar.specs.declared.token.Token.{Token as Code}
 use Rattle.stl_grammar.specs.declared.token.Token.TheVariants.{Keyword as IsKeyword, Name, Number, Relation, OpenParen, CloseParen, OpenBracket, CloseBracket, Comma, Star, Plus, Minus}
-use Rattle.stl_grammar.specs.declared.draft.Window.{Window}
 use Rattle.stl_grammar.specs.declared.draft.Infix.{Infix}
 use Rattle.stl_grammar.specs.declared.draft.Infix.TheVariants.{And as Both, Or as Either, Implies as Then, Until as UpTo, Since as After}
-use Rattle.stl_grammar.specs.declared.draft.Past.TheVariants.{Whole, From, Within}
+use Rattle.stl_grammar.specs.declared.draft.Past.TheVariants.{Whole}
 use Rattle.stl_grammar.specs.declared.draft.Frame.{Frame}
 use Rattle.stl_grammar.specs.declared.draft.Frame.TheVariants.{Paren as Opened, Prefix as Before, Infix as Between}
 use Rattle.stl_grammar.specs.declared.draft.Draft.{Draft}

@@ -1,19 +1,18 @@
 -- The reading of a text, token by token.
-use Rattle.std.proofs.Common.{◌≡◌, ℕ, suc, ◌+◌, ◌-◌, ◌<◌, ◌≤◌, List, [], ◌∷◌, ◌++◌, length, take, drop, get_or, reverse, map, refl, sym, ap, ◌∙◌, subst, Bool, true, false, arith, inl, inr, ◌⊎◌, append_assoc}
+use Rattle.std.proofs.Common.{◌≡◌, ℕ, suc, ◌+◌, ◌-◌, ◌<◌, ◌≤◌, List, [], ◌∷◌, ◌++◌, length, drop, get_or, reverse, map, refl, sym, ap, ◌∙◌, subst, true, false, arith, inl, inr, append_assoc}
 use Rattle.std.specs.Prelude.{Option, Some, None}
 use Rattle.std.proofs.lemmas.List.{drop_more, drop-drop, drop_at, length-append, length-drop, drop_all, append-nil, reverse-append, map-append}
 use Rattle.stl_syntax.specs.Characters.{is_blank}
 use Rattle.stl_grammar.specs.Tokens.{Token, IsToken, a_word, an_integer, a_decimal, at_least, at_most, above, below, paren, paren_end, bracket, bracket_end, a_comma, a_star, a_plus, a_minus, Lexes, nothing, token, blank as skip}
 use Rattle.stl_grammar.specs.FormulaRefusals.{TokenFault, blank, bad_byte, here, later, at_end, BeginsNoToken, MayEnd, RefusedAt, expected}
-use Rattle.stl_grammar.specs.Told.{IsLexeme}
-use Rattle.stl_grammar.specs.Machine.{run, start, ends_at}
-use Rattle.stl_grammar.specs.Parsing.{Parse, parse_step, IsKnown}
+use Rattle.stl_grammar.specs.Machine.{run, ends_at}
+use Rattle.stl_grammar.specs.Parsing.{Parse, parse_step}
 use Rattle.stl_grammar.specs.Judging.{state_of, refused, expected_in, place_at, marks_of}
 use Rattle.stl_grammar.specs.Taken.{Taken, none, more, plain, empty_parse}
 use Rattle.stl_grammar.specs.Reading.{Advances, Refuses, Stops, IsRead}
 use Rattle.stl_grammar.proofs.ParserView.{IsFit}
 use Rattle.stl_grammar.proofs.ParserFit.{Holds, fit_step}
-use Rattle.stl_grammar.proofs.JudgeLaw.{tells_known, judged, taken, IsTaken, expected_same}
+use Rattle.stl_grammar.proofs.JudgeLaw.{judged, taken, IsTaken, expected_same}
 use Rattle.stl_grammar.proofs.MachineBegins.{run_ends}
 use Rattle.stl_grammar.proofs.MachineRuns.{run_goes_on}
 use Rattle.stl_grammar.proofs.MachineView.{run_expected}

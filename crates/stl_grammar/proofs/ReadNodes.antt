@@ -245,6 +245,7 @@ two_good ns ms n h k g = one_good (ns ++ ms) n (All-append IsGood ns ms h k) g
 
 mutual
   unfolding kind
+
   formula_good : {s : Scale} {k : ℕ} {ts : List Token} {ns : List Node} → IsFormula s k ts ns → (marks : List Mark) (n : ℕ) → Fine (st at_operand false marks n) ts → Covers s.time ts
       → All IsGood ns
   formula_good (disjunct d) marks n f c = disjunct_good d marks n f c
@@ -287,7 +288,7 @@ mutual
       let r = operand_runs p false marks n in
       let y : Fine (st at_end false (without_operators marks) (n + length ns)) (word (codes "until") ∷ us) = rw r at z.1 in
       let e : go (st at_operand false marks n) (ts ++ (word (codes "until") ∷ us)) ≡ st at_operand true (without_operators marks) (suc (n + length ns)) =
-          go_append (st at_operand false marks n) ts (word (codes "until") ∷ us) ∙ (ap (λ o. go o (word (codes "until") ∷ us)) r ∙ until_runs w true (without_operators marks) (suc (n + length ns))) in
+      go_append (st at_operand false marks n) ts (word (codes "until") ∷ us) ∙ (ap (λ o. go o (word (codes "until") ∷ us)) r ∙ until_runs w true (without_operators marks) (suc (n + length ns))) in
       let d = covers_left s.time (ts ++ (word (codes "until") ∷ us)) vs c in
       two_good ns ms (Until (top k ns) (top (k + length ns) ms) a b) (operand_good p false marks n z.0 (covers_left s.time ts (word (codes "until") ∷ us) d))
       (operand_good q true (without_operators marks) (suc (n + length ns)) (rw e at x.1) (covers_right s.time (ts ++ (word (codes "until") ∷ us)) vs c))
@@ -339,7 +340,7 @@ free_few : (before ts : List Token) → AreFree before ts → nodes_made before 
 free_few before [] h l = l
 free_few before (t ∷ ts) h l =
     let e : reverse (t ∷ ts) ++ before ≡ reverse ts ++ t ∷ before =
-        ap (λ z. z ++ before) (reverse-append (t ∷ []) ts) ∙ append_assoc (reverse ts) (t ∷ []) before in
+    ap (λ z. z ++ before) (reverse-append (t ∷ []) ts) ∙ append_assoc (reverse ts) (t ∷ []) before in
     rw e (free_few (t ∷ before) ts h.1 h.0.few)
 
 -- the nodes of a text that is not refused may be built

@@ -32,11 +32,11 @@ is_free before t text p h =
     let c : ¬ (64 < length (pending (t ∷ before))) = λ x. h (TooDeep p) (inr (λ y g. a g.0, inr (λ y g. b g.0, inl (x, refl)))) in
     let d : ¬ (256 < nodes_made (t ∷ before)) = λ x. h (TooManyNodes p) (inr (λ y g. a g.0, inr (λ y g. b g.0, inr (λ y g. c g.0, inl (x, refl))))) in
     let e : ¬ (begins_fifth_term before t ≡ true) =
-        λ x. h (TooManyTerms p) (inr (λ y g. a g.0, inr (λ y g. b g.0, inr (λ y g. c g.0, inr (λ y g. d g.0, inl (x, refl)))))) in
+    λ x. h (TooManyTerms p) (inr (λ y g. a g.0, inr (λ y g. b g.0, inr (λ y g. c g.0, inr (λ y g. d g.0, inl (x, refl)))))) in
     let f : ¬ (is_bad_number before t ≡ true) =
-        λ x. h (BadNumber p) (inr (λ y g. a g.0, inr (λ y g. b g.0, inr (λ y g. c g.0, inr (λ y g. d g.0, inr (λ y g. e g.0, inl (x, refl))))))) in
+    λ x. h (BadNumber p) (inr (λ y g. a g.0, inr (λ y g. b g.0, inr (λ y g. c g.0, inr (λ y g. d g.0, inr (λ y g. e g.0, inl (x, refl))))))) in
     let k : ¬ (is_out_of_order before t ≡ true) =
-        λ x. h (BoundOrder p) (inr (λ y g. a g.0, inr (λ y g. b g.0, inr (λ y g. c g.0, inr (λ y g. d g.0, inr (λ y g. e g.0, inr (λ y g. f g.0, (x, refl)))))))) in
+    λ x. h (BoundOrder p) (inr (λ y g. a g.0, inr (λ y g. b g.0, inr (λ y g. c g.0, inr (λ y g. d g.0, inr (λ y g. e g.0, inr (λ y g. f g.0, (x, refl)))))))) in
     record { few = by_order _ _ d; terms = by_test _ e; small = by_test _ f; order = by_test _ k }
 
 -- no token is refused, after those before them

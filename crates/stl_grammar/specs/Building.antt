@@ -1,12 +1,16 @@
 -- The nodes of a formula that may be built. A helper for the contracts of the code.
-use Rattle.std.specs.Prelude.{◌≡◌, ℕ, ◌<◌, ◌≤◌, nat_lt, nat_abs, max, Bool, true, false, List, [], ◌∷◌, length, All, ℤ, pos, neg_ℤ, if◌then◌else◌}
-use Rattle.stl_syntax.specs.Limits.{own_reach, reach, HasLargeConstant}
+use Rattle.std.specs.Prelude.{◌≡◌, ℕ, ◌<◌, ◌≤◌, nat_lt, nat_abs, max, Bool, false, List, [], ◌∷◌, length, All, ℤ, pos, neg_ℤ, if◌then◌else◌}
+use Rattle.stl_syntax.specs.Formula.{Formula}
+use Rattle.stl_syntax.specs.Limits.{own_reach, IsTooLarge}
+use Rattle.stl_syntax.specs.declared.scale.Scale.{Scale}
+use Rattle.stl_grammar.specs.declared.fault.FormulaFault.{FormulaFault}
+use Rattle.stl_grammar.specs.declared.fault.FormulaFault.TheVariants.{ConstantTooLarge, ReachTooLarge}
 use Rattle.stl_syntax.specs.PostOrder.{children, IsPostOrder}
 use Rattle.stl_syntax.specs.WellFormed.{HasBounds, HasOneRoot}
 use Rattle.stl_syntax.specs.declared.node.Node.{Node}
-use Rattle.stl_syntax.specs.declared.node.Node.TheVariants.{Const, Atom as Leaf, Not, And, Or, Implies, Until, Eventually, Always, Since, Once, Historically}
+use Rattle.stl_syntax.specs.declared.node.Node.TheVariants.{Atom as Leaf}
 use Rattle.stl_grammar.specs.declared.token.Token.{Token}
-use Rattle.stl_grammar.specs.declared.token.Token.TheVariants.{Keyword as IsKeyword, Name, Number, Relation, OpenParen, CloseParen, OpenBracket, CloseBracket, Comma, Star, Plus, Minus}
+use Rattle.stl_grammar.specs.declared.token.Token.TheVariants.{Number, Relation, Comma, Plus, Minus}
 
 -- one to four terms
 abbrev pub HasFewTerms : Node → Type 0
@@ -37,6 +41,12 @@ pub record AreNodes (ns : List Node) : Type 0 where
   pub root : HasOneRoot ns
   pub bounds : All HasBounds ns
   pub terms : All HasFewTerms ns
+
+-- the formula of these nodes, of which none is too large
+pub record IsBuilt (s : Scale) (ns : List Node) (f : Formula) : Type 0 where
+  pub nodes : f.nodes ≡ ns
+  pub scale : f.scale ≡ s
+  pub small : (r : FormulaFault) → ¬ IsTooLarge ConstantTooLarge ReachTooLarge ns r
 
 -- the decimals of the number with which the tokens begin, after a sign or without one
 abbrev pub decimals_of : List Token → ℕ

@@ -1,15 +1,18 @@
 -- What the reading of a text comes to. A helper for the contracts of the code.
-use Rattle.std.specs.Prelude.{◌≡◌, ℕ, ◌+◌, ◌⊎◌, List, [], ◌∷◌, ◌++◌, drop, map, reverse, Option, Some, None}
+use Rattle.std.specs.Prelude.{◌≡◌, ℕ, ◌+◌, ◌⊎◌, List, [], ◌∷◌, ◌++◌, drop, map, reverse, Some, None}
 use Rattle.stl_grammar.specs.Tokens as Tokens
 use Rattle.stl_grammar.specs.Tokens.{Lexes}
 use Rattle.stl_grammar.specs.FormulaRefusals.{BeginsNoToken, TokenFault, MayEnd}
+use Rattle.stl_syntax.specs.Formula.{Formula}
+use Rattle.stl_syntax.specs.Limits.{IsTooLarge}
+use Rattle.stl_grammar.specs.Grammar.{FormulaText}
 use Rattle.stl_grammar.specs.Told.{IsLexeme}
 use Rattle.stl_grammar.specs.Parsing.{Parse, parse_step}
 use Rattle.stl_grammar.specs.Judging.{refused}
 use Rattle.stl_grammar.specs.Taken.{Taken, plain}
 use Rattle.stl_grammar.specs.declared.token.Token.{Token}
 use Rattle.stl_grammar.specs.declared.fault.FormulaFault.{FormulaFault}
-use Rattle.stl_grammar.specs.declared.fault.FormulaFault.TheVariants.{BadByte}
+use Rattle.stl_grammar.specs.declared.fault.FormulaFault.TheVariants.{BadByte, ConstantTooLarge, ReachTooLarge}
 
 -- one token of the text was taken, from place `at` up to place `to`
 pub record Advances (text : List ℕ) (at to : ℕ) (old new : Parse) (codes later : List Token) : Type 0 where
@@ -40,3 +43,8 @@ pub record IsRead (text : List ℕ) (p : Parse) (codes : List Token) : Type 0 wh
   pub lexed : Lexes text (reverse before)
   pub ended : MayEnd before
   pub free : (r : FormulaFault) → ¬ TokenFault [] 0 text r
+
+-- the formula of the text, of which nothing is too large
+pub record IsParsed (text : List ℕ) (f : Formula) : Type 0 where
+  pub parsed : FormulaText text f
+  pub small : (r : FormulaFault) → ¬ IsTooLarge ConstantTooLarge ReachTooLarge f.nodes r

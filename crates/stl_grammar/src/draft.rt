@@ -1,6 +1,7 @@
 use crate::decimal::Decimal;
+use crate::ticks::{constant, constant_size};
 use std::marker::Model;
-use stl_syntax::{Rel, Term};
+use stl_syntax::{Atom, Rel, Term, make_atom};
 
 /// A bound of two numbers, with each end in or out.
 #[derive(Clone, Copy)]
@@ -67,7 +68,8 @@ impl Model for Sum {
 }
 
 impl Sum {
-    ghost use Rattle.std.specs.Prelude.{◌≡◌};
+    ghost use Rattle.std.specs.Prelude.{◌≡◌, ◌≤◌, ◌<◌, nat_lt, nat_abs, length};
+    ghost use Rattle.stl_grammar.specs.Drafts.{limit_of};
 
     pub(crate) fn new(terms: Vec<Term>, rel: Rel, negative: bool, limit: Decimal) -> Sum
         ensures { result ≡ record { terms = terms.items; rel = rel; negative = negative; limit = limit } }
@@ -78,6 +80,31 @@ impl Sum {
             negative,
             limit,
         }
+    }
+
+    /// Whether the constant in ticks passes its limit.
+    pub(crate) fn is_large(&self, digits: u8) -> bool
+        requires { digits ≤ 6 }
+        ensures { result ≡ nat_lt 1073741824 (nat_abs (limit_of digits self.now)) }
+    {
+        constant_size(self.limit, digits) > 1_073_741_824
+    }
+
+    /// The atom, with its constant in ticks.
+    pub(crate) fn into_atom(self, digits: u8) -> Atom
+        requires digits { digits ≤ 6 }
+        requires some { 0 < length self.terms }
+        requires few { length self.terms ≤ 4 }
+        requires limit { nat_abs (limit_of digits self) ≤ 1073741824 }
+        ensures { result ≡ record { terms = self.terms; rel = self.rel; limit = limit_of digits self } }
+    {
+        let Sum {
+            terms,
+            rel,
+            negative,
+            limit,
+        } = self;
+        make_atom(terms, rel, constant(negative, constant_size(limit, digits)))
     }
 }
 

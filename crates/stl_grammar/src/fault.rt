@@ -1,5 +1,5 @@
 /// What a formula's text is expected to go on with.
-#[derive(Drop)]
+#[derive(Clone, Copy, Debug, PartialEq, Eq)]
 pub enum What {
     Operand,
     Number,
@@ -15,7 +15,7 @@ pub enum What {
 }
 
 /// Why a text is no formula.
-#[derive(Drop)]
+#[derive(Clone, Copy, Debug, PartialEq, Eq)]
 pub enum FormulaFault {
     Empty,
     BadByte { at: u32 },

@@ -1,6 +1,7 @@
 //! The text of formulas.
 #![tactic(auto)]
 
+mod build;
 mod chars;
 mod decimal;
 mod digits;
@@ -15,7 +16,12 @@ mod parser;
 mod place;
 mod reader;
 mod shapes;
+mod text;
 mod ticks;
 mod token;
 
 pub use fault::{FormulaFault, What};
+pub use text::parse;
+
+#[cfg(test)]
+mod tests;

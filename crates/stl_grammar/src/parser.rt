@@ -68,7 +68,7 @@ impl Parser {
     ghost use Rattle.std.specs.Prelude.{List, ℕ, suc, Some, None, MatchBool, true, false, take, drop, nat_lt};
     ghost use Rattle.stl_grammar.specs.Judging.{depth_of, expected_in, place_at, marks_of};
     ghost use Rattle.stl_grammar.specs.Machine.{ends_at};
-    ghost use Rattle.stl_grammar.specs.Parsing.{Parse, settled, moved, begun, opened as opened_by, completed, with_term, begin_keyword as keyword_begins, begin_operand as operand_begins, begin_bound as bound_begins, end_bound as bound_ends, end_atom as atom_ends, joined as joined_by, closed, after_keyword as keyword_after, after_operand as operand_after, move_to as moves_to, step_constant as constant_step, step_term as term_step, parse_step, Gives, IsKnown, back_frame as frame_back, bounded_frame as frame_of, next_place as place_after, opening as opening_of, closing as closing_of};
+    ghost use Rattle.stl_grammar.specs.Parsing.{Parse, settled, settled_drafts, moved, begun, opened as opened_by, completed, with_term, begin_keyword as keyword_begins, begin_operand as operand_begins, begin_bound as bound_begins, end_bound as bound_ends, end_atom as atom_ends, joined as joined_by, closed, after_keyword as keyword_after, after_operand as operand_after, move_to as moves_to, step_constant as constant_step, step_term as term_step, parse_step, Gives, IsKnown, back_frame as frame_back, bounded_frame as frame_of, next_place as place_after, opening as opening_of, closing as closing_of};
 
     /// Before the first token.
     pub(crate) fn new(alloc: Global) -> Parser
@@ -482,5 +482,18 @@ impl Parser {
             Place::End => self.after_operand(token),
             place => Ok(self.move_to(next_place(place, token))),
         }
+    }
+
+    /// The nodes, once the whole text was read.
+    pub(crate) fn finish(self) -> Result<Vec<Draft>, AllocError>
+        ensures { IfOk result (λ v. v.items ≡ settled_drafts 1 self.frames self.drafts) }
+    {
+        let Parser {
+            mut frames,
+            mut drafts,
+            ..
+        } = self;
+        settle(&mut frames, &mut drafts, 1)?;
+        Ok(drafts)
     }
 }

@@ -1,4 +1,4 @@
-ghost use Rattle.std.specs.Prelude.{◌≡◌, ◌≤◌, ◌-◌, ◌*◌, ◌^◌};
+ghost use Rattle.std.specs.Prelude.{◌≡◌, ◌≤◌, ℕ, ◌-◌, ◌*◌, ◌^◌};
 ghost use Rattle.stl_syntax.specs.Limits.{own_reach as reach_of, reach_of_bound};
 ghost use Rattle.stl_syntax.specs.WellFormed.{IsInOrder, HasBounds};
 ghost use Rattle.stl_grammar.specs.Building.{signed_size};
@@ -27,7 +27,7 @@ fn product(value: u32, power: u64) -> u64
 }
 
 /// The number in ticks of so many digits.
-pub(crate) fn ticks(number: Decimal, digits: u8) -> u64
+fn ticks(number: Decimal, digits: u8) -> u64
     requires { digits ≤ 6 }
     ensures value { result ≡ ticks_of digits number }
     ensures small { result ≤ 4294967295000000 }
@@ -68,6 +68,53 @@ fn ends_in(past: Past) -> (bool, bool)
         Past::Whole => (true, true),
         Past::From { low_in, .. } => (low_in, true),
         Past::Within(window) => (window.low_in, window.high_in),
+    }
+}
+
+/// The constant of a comparison in ticks, without its sign.
+pub(crate) fn constant_size(number: Decimal, digits: u8) -> u64
+    requires { digits ≤ 6 }
+    ensures { result ≡ ticks_of digits number }
+{
+    ticks(number, digits)
+}
+
+/// What a bound that looks back adds to the reach.
+fn past_reach(past: Past, digits: u8) -> u64
+    requires { digits ≤ 6 }
+    ensures value { result ≡ reach_of_bound (past_low digits past) (past_high digits past) }
+    ensures small { result ≤ 4294967295000000 }
+{
+    match past {
+        Past::Whole => 0,
+        Past::From { low, .. } => ticks(low, digits),
+        Past::Within(window) => ticks(window.high, digits),
+    }
+}
+
+/// What a one-operand operator adds to the reach.
+pub(crate) fn one_reach(operator: Prefix, digits: u8) -> u64
+    requires { digits ≤ 6 }
+    ensures value { (of : ℕ) → result ≡ reach_of (one_in digits operator of) }
+    ensures small { result ≤ 4294967295000000 }
+{
+    match operator {
+        Prefix::Not => 0,
+        Prefix::Eventually(window) | Prefix::Always(window) => ticks(window.high, digits),
+        Prefix::Once(past) | Prefix::Historically(past) => past_reach(past, digits),
+    }
+}
+
+/// What a two-operand operator adds to the reach.
+pub(crate) fn two_reach(operator: Infix, digits: u8) -> u64
+    requires { digits ≤ 6 }
+    ensures value { (left right : ℕ) → result ≡ reach_of (two_in digits operator left right) }
+    ensures small { result ≤ 4294967295000000 }
+{
+    match operator {
+        Infix::And | Infix::Or | Infix::Implies => 0,
+        Infix::Until(window) => ticks(window.high, digits),
+        Infix::Since(past) => past_reach(past, digits),
     }
 }
 

@@ -1,7 +1,6 @@
 -- The text is read token by token.
-use Rattle.std.proofs.Common.{◌≡◌, ◌<◌, ap, sym, ◌∙◌, arith, inl, inr}
+use Rattle.std.proofs.Common.{sym, ◌∙◌, arith, inl, inr}
 use Rattle.stl_grammar.proofs.ReadLaw.{read_nothing, read_blank, read_token, read_stops, read_all, read_part, advances_some}
-use Rattle.stl_grammar.specs.declared.fault.FormulaFault.TheVariants.{Expected}
 use Rattle.stl_grammar.proofs.reader.read.Goals as goal
 
 pub loop-at-init : goal.loop-at-init

@@ -1,5 +1,5 @@
 -- A power of ten up to the sixth.
-use Rattle.std.proofs.Common.{◌≤◌, ◌-◌, ◌^◌, ◌∙◌, ap, sym, subst}
+use Rattle.std.proofs.Common.{◌≤◌, ◌^◌, ◌∙◌, ap, sym, subst}
 use Rattle.stl_grammar.proofs.NumberLemmas.{small_power}
 use Rattle.stl_grammar.proofs.ticks.power.Goals as goal
 

@@ -1,5 +1,5 @@
 -- A product of two bounded numbers.
-use Rattle.std.proofs.Common.{◌≤◌, arith}
+use Rattle.std.proofs.Common.{arith}
 use Rattle.std.proofs.Math.Nat.{mul-le-mul_left}
 use Rattle.stl_grammar.proofs.ticks.product.Goals as goal
 
