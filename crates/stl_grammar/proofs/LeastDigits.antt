@@ -1,24 +1,21 @@
 -- Where the tokens of a formula have fewer decimals than the scale has digits, its numbers are multiples of ten.
 use Rattle.std.proofs.Common.{◌≡◌, ℕ, zero, suc, ◌+◌, ◌-◌, ◌*◌, ◌^◌, ◌%◌, ◌<◌, ◌≤◌, List, [], ◌∷◌, ◌++◌, length, refl, ap, sym, ◌∙◌, Bool, true, false, pos, arith, append_assoc, inl, inr, ◌⊎◌}
-use Rattle.std.specs.Prelude.{codes, nat_abs, neg_ℤ, Option, Some, None, All}
+use Rattle.std.specs.Prelude.{codes, nat_abs, neg_ℤ, Option, All}
 use Rattle.std.proofs.Math.Nat.{pow-suc}
 use Rattle.std.proofs.lemmas.List.{append-nil}
 use Rattle.std.proofs.lemmas.Bool.{cases_order}
 use Rattle.stl_syntax.specs.declared.rel.Rel.{Rel}
 use Rattle.std.proofs.lemmas.List.Elements.{All-append, All-cons, All-nil, All-head, All-tail, All-weaker}
 use Rattle.stl_syntax.specs.Characters.{ticks}
-use Rattle.stl_syntax.specs.Formula.{Formula}
-use Rattle.stl_syntax.specs.WellFormed.{IsWellFormed}
-use Rattle.stl_syntax.specs.Print.{IsPrintedFormula}
 use Rattle.stl_syntax.specs.declared.scale.Scale.{Scale}
 use Rattle.stl_syntax.specs.declared.node.Node.{Node}
 use Rattle.stl_syntax.specs.declared.node.Node.TheVariants.{Const, Atom as Leaf, Not, And, Or, Implies, Until, Eventually, Always, Since, Once, Historically}
-use Rattle.stl_grammar.specs.Grammar.{top, Token, word, number, relation, open_paren, close_paren, open_bracket, close_bracket, comma, star, plus, minus, first_decimals, value_digits, time_digits, FormulaText}
+use Rattle.stl_grammar.specs.Grammar.{top, Token, word, number, relation, open_paren, close_paren, open_bracket, close_bracket, comma, plus, minus, first_decimals, value_digits, time_digits}
 use Rattle.stl_grammar.specs.Grammar.{IsConstant, plain, positive, negative, IsAtom, first, signed}
-use Rattle.stl_grammar.specs.Grammar.{IsFutureWindow, bound, IsPastWindow, nothing, bounded, unbounded, IsFuture, IsPast}
+use Rattle.stl_grammar.specs.Grammar.{IsFutureWindow, bound, IsPastWindow, nothing, bounded, unbounded, IsPast}
 use Rattle.stl_grammar.specs.Grammar.IsPast.{nothing as since_nothing, bounded as since_bounded, unbounded as since_unbounded}
 use Rattle.stl_grammar.specs.Grammar.{IsFormula, IsDisjunct, IsConjunct, IsTimed, IsOperand, disjunct, implies, conjunct, or, timed, and, operand, until, since, not, eventually, always, once, historically, always_true, always_false, parens, atom}
-use Rattle.stl_grammar.specs.Laws.{with_upper, bounds_of, constants_of, Any, IsUneven, NeedsDigits, HasLeastScale, PrintedTextsAreRead}
+use Rattle.stl_grammar.specs.Laws.{with_upper, bounds_of, constants_of, Any, IsUneven, NeedsDigits, PrintedTextsAreRead}
 use Rattle.stl_grammar.proofs.PrintedRead.{printed_read}
 
 -- a number with fewer decimals is a multiple of ten ticks
@@ -47,11 +44,11 @@ record IsLow (dt dv : ℕ) (ts : List Token) : Type 0 where
 low_left : (dt dv : ℕ) (ts us : List Token) → IsLow dt dv (ts ++ us) → IsLow dt dv ts
 low_left dt dv ts us h = record {
   time = λ pre post a j e.
-    let x = h.time pre (post ++ us) a j (ap (λ z. z ++ us) e ∙ append_assoc pre (number a j ∷ comma ∷ post) us) in
-    let y = first_grows post us in (x.0, omega (arith, x.1, y));
+      let x = h.time pre (post ++ us) a j (ap (λ z. z ++ us) e ∙ append_assoc pre (number a j ∷ comma ∷ post) us) in
+      let y = first_grows post us in (x.0, omega (arith, x.1, y));
   value = λ pre post r e.
-    let x = h.value pre (post ++ us) r (ap (λ z. z ++ us) e ∙ append_assoc pre (relation r ∷ post) us) in
-    let y = first_grows post us in omega (arith, x, y);
+      let x = h.value pre (post ++ us) r (ap (λ z. z ++ us) e ∙ append_assoc pre (relation r ∷ post) us) in
+      let y = first_grows post us in omega (arith, x, y);
 }
 
 low_right : (dt dv : ℕ) (ts us : List Token) → IsLow dt dv (ts ++ us) → IsLow dt dv us

@@ -1,14 +1,13 @@
 -- The printed text of a formula is read as its nodes.
-use Rattle.std.proofs.Common.{◌≡◌, ℕ, zero, suc, ◌+◌, ◌-◌, ◌^◌, ◌<◌, ◌≤◌, List, [], ◌∷◌, ◌++◌, length, refl, ap, sym, subst, ◌∙◌, Bool, true, false, ◌&&◌, pos, negsuc, arith, append_assoc, length-append, lit<, if◌then◌else◌}
-use Rattle.std.specs.Prelude.{codes, decimal, ◌==◌, nat_abs, neg_ℤ, ℤ, Option, Some, None, All, IsTrue, MatchBool, slice_get}
+use Rattle.std.proofs.Common.{◌≡◌, ℕ, suc, ◌+◌, ◌-◌, ◌^◌, ◌<◌, ◌≤◌, List, [], ◌∷◌, ◌++◌, length, refl, ap, sym, subst, ◌∙◌, Bool, true, false, ◌&&◌, pos, negsuc, arith, append_assoc, length-append}
+use Rattle.std.specs.Prelude.{codes, decimal, ◌==◌, nat_abs, neg_ℤ, ℤ, Option, Some, None, All, IsTrue, slice_get}
 use Rattle.std.proofs.lemmas.List.{append-nil}
 use Rattle.std.proofs.lemmas.List.Elements.{All-head, All-tail, All-cons, All-nil}
 use Rattle.std.proofs.lemmas.Bool.{eqb-true, and_parts}
-use Rattle.std.proofs.lemmas.Bool.Decides.{nat_tests}
-use Rattle.stl_syntax.specs.Characters.{ticks, is_among}
-use Rattle.stl_syntax.specs.Names.{reserved, is_name}
-use Rattle.stl_syntax.specs.Formula.{Formula, Subformula, constant, negation, conjunction, disjunction, implication, tree_of, subformula, root, HasChildrenBelow}
-use Rattle.stl_syntax.specs.Formula.{atom as atom_tree, until as until_tree, since as since_tree, eventually as eventually_tree, always as always_tree, once as once_tree, historically as historically_tree}
+use Rattle.stl_syntax.specs.Characters.{ticks}
+use Rattle.stl_syntax.specs.Names.{is_name}
+use Rattle.stl_syntax.specs.Formula.{Formula, Subformula, negation, conjunction, disjunction, implication, tree_of, subformula}
+use Rattle.stl_syntax.specs.Formula.{until as until_tree, since as since_tree, eventually as eventually_tree, always as always_tree, once as once_tree, historically as historically_tree}
 use Rattle.std.proofs.lemmas.List.Sums.{sum_by-cons}
 use Rattle.stl_syntax.proofs.FormulaLemmas.{subformula-at}
 use Rattle.stl_syntax.proofs.PostOrderLemmas.{placed}
@@ -16,7 +15,7 @@ use Rattle.stl_syntax.proofs.TreeLaw.{one_tree}
 use Rattle.stl_syntax.specs.PostOrder.{children, IsPostOrder, top, IsTreeFrom, leaf, one, two}
 use Rattle.stl_syntax.specs.WellFormed.{IsTermInLimits, IsAtomInLimits, IsLeafInLimits, HasBounds, IsInOrder, IsInWhereInfinite, IsWellFormed}
 use Rattle.stl_syntax.specs.Limits.{own_reach, reach_of_bound, reach}
-use Rattle.stl_syntax.specs.Print.{IsDecimalText, IsConstantText, relation_text, scaled_text, first_term, further_terms, terms_text, IsAtomText, opening, closing, IsUpperText, IsBoundText, IsPastBoundText, has_two, InParens, Before, Between, Bare, Bounded, IsPrinted, IsPrintedFormula}
+use Rattle.stl_syntax.specs.Print.{IsConstantText, relation_text, scaled_text, further_terms, terms_text, IsAtomText, opening, closing, IsBoundText, IsPastBoundText, has_two, InParens, IsPrinted, IsPrintedFormula}
 use Rattle.stl_syntax.specs.declared.scale.Scale.{Scale}
 use Rattle.stl_syntax.specs.declared.atom.Atom.{Atom}
 use Rattle.stl_syntax.specs.declared.atom.Term.{Term}
@@ -28,11 +27,11 @@ use Rattle.stl_grammar.specs.Grammar.{IsConstant, plain, negative, IsTerm, scale
 use Rattle.stl_grammar.specs.Grammar.{name as term_name, none as no_terms}
 use Rattle.stl_grammar.specs.Grammar.{IsFutureWindow, bound, IsPastWindow, nothing, bounded, unbounded, IsFuture, IsPast}
 use Rattle.stl_grammar.specs.Grammar.IsPast.{nothing as since_nothing, bounded as since_bounded, unbounded as since_unbounded}
-use Rattle.stl_grammar.specs.Grammar.{IsFormula, IsDisjunct, IsConjunct, IsTimed, IsOperand, disjunct, implies, conjunct, or, timed, and, operand, until, since, not, eventually, always, once, historically, always_true, always_false, parens, atom}
+use Rattle.stl_grammar.specs.Grammar.{IsFormula, IsTimed, IsOperand, disjunct, implies, conjunct, or, timed, and, operand, until, since, not, eventually, always, once, historically, always_true, always_false, parens, atom}
 use Rattle.stl_grammar.specs.Grammar.{first_decimals, time_digits}
 use Rattle.stl_grammar.specs.Tokens.{blank}
 use Rattle.stl_grammar.proofs.TokenEnds.{formula_ends, operand_ends, IsShort, short_joined, short_word, short_parens, short_atom, short_signed, short_window, short_past, short_since}
-use Rattle.stl_grammar.proofs.PrintedTokens.{Separates, Lexed, LexedAny, Parts, any_lexed, then_lexed, then_any, parted_any, parted, spaced, lexed_whole, lexed_word, lexed_name, blank_lexed, paren_lexed, paren_end_lexed, bracket_lexed, bracket_end_lexed, comma_lexed, star_lexed, plus_lexed, minus_lexed, relation_lexed, integer_text, NumberOf, number_text}
+use Rattle.stl_grammar.proofs.PrintedTokens.{Separates, Lexed, LexedAny, Parts, any_lexed, then_lexed, parted_any, parted, spaced, lexed_whole, lexed_word, lexed_name, paren_lexed, paren_end_lexed, bracket_lexed, bracket_end_lexed, comma_lexed, star_lexed, plus_lexed, minus_lexed, relation_lexed, integer_text, number_text}
 
 -- a constant
 limit_read : (digits : ℕ) (c : ℤ) (text : List ℕ) → nat_abs c ≤ 1073741824 → IsConstantText digits c text → (ts : List Token) × Lexed text ts × IsConstant digits ts c × (first_decimals ts ≤ digits)
@@ -100,8 +99,7 @@ first_one (pos k) name terms l h (us, x, a) =
     (ts ++ us, parted (scaled_text k name) (further_terms terms) ts us y (further_separates terms) x, λ digits rel vs c i. first t a i, λ s digits rel vs c i l. short_atom s rel t a i l)
 first_one (negsuc k) name terms l h (us, x, a) =
     let (ts, y, t) = term_read (suc k) name l h in
-    let m = parted (scaled_text (suc k) name) (further_terms terms) ts us y (further_separates terms) x in
-    (
+    let m = parted (scaled_text (suc k) name) (further_terms terms) ts us y (further_separates terms) x in (
       minus ∷ ts ++ us,
       (then_lexed (codes "-") (scaled_text (suc k) name ++ further_terms terms) (minus ∷ []) (ts ++ us) minus_lexed m),
       λ digits rel vs c i. signed (more_minus t a) i,
@@ -120,7 +118,7 @@ atom_read s a text g (limit, h, e) =
     let (vs, y, c, few) = limit_read s.value a.limit limit g.limit h in
     let m = then_lexed (terms_text a.terms ++ codes " ") (relation_text a.rel) us (relation a.rel ∷ []) (spaced (terms_text a.terms) us x) (relation_lexed a.rel) in
     let n = then_lexed (terms_text a.terms ++ codes " " ++ relation_text a.rel ++ codes " ") limit (us ++ relation a.rel ∷ []) vs
-        (spaced (terms_text a.terms ++ codes " " ++ relation_text a.rel) (us ++ relation a.rel ∷ []) m) y in
+    (spaced (terms_text a.terms ++ codes " " ++ relation_text a.rel) (us ++ relation a.rel ∷ []) m) y in
     (us ++ relation a.rel ∷ vs, rw e (rw (append_assoc us (relation a.rel ∷ []) vs) at n), make s.value a.rel vs a.limit c, short s s.value a.rel vs a.limit c few)
 
 -- bounds
@@ -172,7 +170,7 @@ future_read s a b a_in b_in text l m (low, high, h, k, e) =
     let (v, i, x, f, f1, f2) = number_text s.time a low l h in
     let (w, j, y, g, g1, g2) = number_text s.time b high m k in
     let d : IsFutureWindow s.time ((opening_read a_in).0 ∷ number v i ∷ comma ∷ number w j ∷ (closing_read b_in).0 ∷ []) (ticks s.time v i) (ticks s.time w j) a_in b_in =
-        bound (opening_read a_in).2 (closing_read b_in).2 in
+    bound (opening_read a_in).2 (closing_read b_in).2 in
     (_, rw e (about a_in b_in low high (number v i) (number w j) x y), rw e (about_parts a_in b_in low high), rw (f, g) at d, bound_time a_in b_in v i w j s.time f1 g1)
 
 -- the bound of an operator that looks back
@@ -191,7 +189,7 @@ past_bound s a None a_in b_in text l i m (low, high, h, k, e) =
     let (v, j, x, f, f1, f2) = number_text s.time a low l h in
     let inf : Lexed high (word (codes "inf") ∷ []) = rw k (lexed_word 105 (codes "nf") refl refl) in
     let d : IsPastWindow s.time ((opening_read a_in).0 ∷ number v j ∷ comma ∷ word (codes "inf") ∷ (closing_read b_in).0 ∷ []) (ticks s.time v j) None a_in true =
-        unbounded (opening_read a_in).2 (closing_read b_in).2 in
+    unbounded (opening_read a_in).2 (closing_read b_in).2 in
     let us : List Token = (opening_read a_in).0 ∷ number v j ∷ comma ∷ word (codes "inf") ∷ (closing_read b_in).0 ∷ [] in
     let z : LexedAny text us = rw e (about a_in b_in low high (number v j) (word (codes "inf")) x inf) in
     let parts : Parts text = rw e (about_parts a_in b_in low high) in
@@ -394,8 +392,7 @@ module _ (s : Scale) (at : ℕ → Subformula) where
       → Reads k ns (top k ns) → IsPrinted s (historically_tree a b a_in b_in (at (top k ns))) text → Parsed s k false text (ns ++ Historically (top k ns) a b a_in b_in ∷ [])
   historically_read k ns a b a_in b_in text l m i f (w, x, (bd, g, gw), h, e) =
       let (ts, y, d, sh) = in_parens_read s k (has_two (at (top k ns))) (IsPrinted s (at (top k ns))) x ns f h in
-      let (us, z, v, few) = past_read s a b a_in b_in bd l i m g in
-      (
+      let (us, z, v, few) = past_read s a b a_in b_in bd l i m g in (
         word (codes "historically") ∷ us ++ ts,
         rw (e, gw) (before_read (codes "historically" ++ bd) x (word (codes "historically") ∷ us) ts (z (codes "historically") (word (codes "historically") ∷ []) lexed_historically) y),
         historically v d,
@@ -429,8 +426,7 @@ module _ (s : Scale) (at : ℕ → Subformula) where
       → IsPrinted s (conjunction (at (top k ns)) (at (top (k + length ns) ms))) text → Parsed s k true text (ns ++ ms ++ And (top k ns) (top (k + length ns) ms) ∷ [])
   and_read k ns ms text f g (x, w, y, h, i, j, e) =
       let (ts, a, d, sh) = in_parens_read s k (has_two (at (top k ns))) (IsPrinted s (at (top k ns))) x ns f h in
-      let (us, b, c, sh2) = in_parens_read s (k + length ns) (has_two (at (top (k + length ns) ms))) (IsPrinted s (at (top (k + length ns) ms))) y ms g j in
-      (
+      let (us, b, c, sh2) = in_parens_read s (k + length ns) (has_two (at (top (k + length ns) ms))) (IsPrinted s (at (top (k + length ns) ms))) y ms g j in (
         ts ++ word (codes "and") ∷ us,
         rw (e, i) (joined_lexed x (codes "and") y ts (word (codes "and") ∷ []) us a lexed_and b),
         disjunct (conjunct (and (timed (operand d)) (operand c))),
@@ -441,8 +437,7 @@ module _ (s : Scale) (at : ℕ → Subformula) where
       → IsPrinted s (disjunction (at (top k ns)) (at (top (k + length ns) ms))) text → Parsed s k true text (ns ++ ms ++ Or (top k ns) (top (k + length ns) ms) ∷ [])
   or_read k ns ms text f g (x, w, y, h, i, j, e) =
       let (ts, a, d, sh) = in_parens_read s k (has_two (at (top k ns))) (IsPrinted s (at (top k ns))) x ns f h in
-      let (us, b, c, sh2) = in_parens_read s (k + length ns) (has_two (at (top (k + length ns) ms))) (IsPrinted s (at (top (k + length ns) ms))) y ms g j in
-      (
+      let (us, b, c, sh2) = in_parens_read s (k + length ns) (has_two (at (top (k + length ns) ms))) (IsPrinted s (at (top (k + length ns) ms))) y ms g j in (
         ts ++ word (codes "or") ∷ us,
         rw (e, i) (joined_lexed x (codes "or") y ts (word (codes "or") ∷ []) us a lexed_or b),
         disjunct (or (conjunct (timed (operand d))) (timed (operand c))),
@@ -453,8 +448,7 @@ module _ (s : Scale) (at : ℕ → Subformula) where
       → IsPrinted s (implication (at (top k ns)) (at (top (k + length ns) ms))) text → Parsed s k true text (ns ++ ms ++ Implies (top k ns) (top (k + length ns) ms) ∷ [])
   implies_read k ns ms text f g (x, w, y, h, i, j, e) =
       let (ts, a, d, sh) = in_parens_read s k (has_two (at (top k ns))) (IsPrinted s (at (top k ns))) x ns f h in
-      let (us, b, c, sh2) = in_parens_read s (k + length ns) (has_two (at (top (k + length ns) ms))) (IsPrinted s (at (top (k + length ns) ms))) y ms g j in
-      (
+      let (us, b, c, sh2) = in_parens_read s (k + length ns) (has_two (at (top (k + length ns) ms))) (IsPrinted s (at (top (k + length ns) ms))) y ms g j in (
         ts ++ word (codes "implies") ∷ us,
         rw (e, i) (joined_lexed x (codes "implies") y ts (word (codes "implies") ∷ []) us a lexed_implies b),
         implies (conjunct (timed (operand d))) (whole_formula (operand c)),
@@ -467,8 +461,7 @@ module _ (s : Scale) (at : ℕ → Subformula) where
       let (ts, a, d, sh) = in_parens_read s k (has_two (at (top k ns))) (IsPrinted s (at (top k ns))) x ns f h in
       let (us, b, c, sh2) = in_parens_read s (k + length ns) (has_two (at (top (k + length ns) ms))) (IsPrinted s (at (top (k + length ns) ms))) y ms g j in
       let (vs, z, p, v, few) = until_read s l r bd m n i in
-      let q = any_lexed (codes "until" ++ bd) (word (codes "until") ∷ vs) (parted_any (codes "until") bd (word (codes "until") ∷ []) vs lexed_until p z) in
-      (
+      let q = any_lexed (codes "until" ++ bd) (word (codes "until") ∷ vs) (parted_any (codes "until") bd (word (codes "until") ∷ []) vs lexed_until p z) in (
         ts ++ word (codes "until") ∷ vs ++ us,
         rw (e, iw) (between_read x (codes "until" ++ bd) y ts (word (codes "until") ∷ vs) us a q b),
         whole_formula (until d v c),
@@ -481,8 +474,7 @@ module _ (s : Scale) (at : ℕ → Subformula) where
   since_tree_read k ns ms l r text m n f g (x, w, y, h, (bd, i, iw), j, e) =
       let (ts, a, d, sh) = in_parens_read s k (has_two (at (top k ns))) (IsPrinted s (at (top k ns))) x ns f h in
       let (us, b, c, sh2) = in_parens_read s (k + length ns) (has_two (at (top (k + length ns) ms))) (IsPrinted s (at (top (k + length ns) ms))) y ms g j in
-      let (vs, z, v, few) = since_read s l r bd m n i in
-      (
+      let (vs, z, v, few) = since_read s l r bd m n i in (
         ts ++ word (codes "since") ∷ vs ++ us,
         rw (e, iw) (between_read x (codes "since" ++ bd) y ts (word (codes "since") ∷ vs) us a (z (codes "since") (word (codes "since") ∷ []) lexed_since) b),
         whole_formula (since d v c),
@@ -539,7 +531,7 @@ module _ (s : Scale) (all : List Node) (order : IsPostOrder all) where
       let g = all_left IsFit (ns ++ ms) (n ∷ []) f in
       let r = λ (inner : List ℕ) (i : IsPrinted s (subformula all (top k ns)) inner). tree_read t pre (ms ++ n ∷ post) (a ∙ simp append_assoc) l (all_left IsFit ns ms g) inner i in
       let q = λ (inner : List ℕ) (i : IsPrinted s (subformula all (top (k + length ns) ms)) inner).
-          tree_read u (pre ++ ns) (n ∷ post) (a ∙ simp append_assoc) (omega (arith, l, length-append pre ns)) (all_right IsFit ns ms g) inner i in
+      tree_read u (pre ++ ns) (n ∷ post) (a ∙ simp append_assoc) (omega (arith, l, length-append pre ns)) (all_right IsFit ns ms g) inner i in
       let x = two_read s (subformula all) k (top k (ns ++ ms ++ n ∷ [])) ns ms n text e (all_last IsFit (ns ++ ms) n f) r q (rw b at h) in rw b x
 
 -- a node's own reach is at most the sum

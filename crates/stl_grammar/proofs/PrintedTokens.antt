@@ -1,5 +1,5 @@
 -- The tokens of printed pieces of text, whatever text follows them.
-use Rattle.std.proofs.Common.{◌≡◌, ℕ, zero, suc, ◌+◌, ◌-◌, ◌*◌, ◌^◌, ◌/◌, ◌%◌, ◌<◌, ◌≤◌, List, [], ◌∷◌, ◌++◌, length, refl, ap, sym, ◌∙◌, Bool, true, false, ◌||◌, ◌&&◌, inl, inr, ◌⊎◌, arith, append_assoc, length-append, lit<, pow-add}
+use Rattle.std.proofs.Common.{◌≡◌, ℕ, suc, ◌+◌, ◌-◌, ◌*◌, ◌^◌, ◌/◌, ◌%◌, ◌<◌, ◌≤◌, List, [], ◌∷◌, ◌++◌, length, refl, ap, sym, ◌∙◌, Bool, true, false, ◌||◌, ◌&&◌, inl, inr, ◌⊎◌, arith, append_assoc, lit<, pow-add}
 use Rattle.std.specs.Prelude.{codes, decimal, ◌==◌, not, IsTrue}
 use Rattle.std.proofs.Math.Nat.{one-le-pow, pow-suc, eq_of_mul-eq-mul_right, mul-le-mul_right, mul-le-mul_left, le_of_mul-le-mul_right}
 use Rattle.std.proofs.lemmas.List.{append-nil}
@@ -13,7 +13,7 @@ use Rattle.stl_syntax.specs.declared.rel.Rel.{Rel}
 use Rattle.stl_syntax.specs.declared.rel.Rel.TheVariants.{AtLeast, Above, AtMost, Below}
 use Rattle.stl_syntax.proofs.PrintLaw.{longer}
 use Rattle.stl_syntax.proofs.DecimalLemmas.{decimal_value-push}
-use Rattle.stl_grammar.specs.Tokens.{Token, word, number, relation, open_paren, close_paren, open_bracket, close_bracket, comma, star, plus, minus, decimal_number, IsToken, a_word, an_integer, a_decimal, at_least, at_most, above, below, paren, paren_end, bracket, bracket_end, a_comma, a_star, a_plus, a_minus, Lexes, nothing, token, blank}
+use Rattle.stl_grammar.specs.Tokens.{Token, word, number, relation, open_paren, close_paren, open_bracket, close_bracket, comma, star, plus, minus, a_word, an_integer, a_decimal, at_least, at_most, above, below, paren, paren_end, bracket, bracket_end, a_comma, a_star, a_plus, a_minus, Lexes, nothing, token, blank}
 
 -- the text goes on no word, number or relation before it
 abbrev pub Separates : List ℕ → Type 0
@@ -210,7 +210,7 @@ few_decimals digits n text h = by_order (cases_order (length h.decimals) digits)
     too_long : digits < length h.decimals → ⊥
     too_long l =
         let e : decimal_value h.whole h.decimals ≡ n * 10 ^ (length h.decimals - digits) =
-            sym (shorter (decimal_value h.whole h.decimals) n (length h.decimals) digits (omega arith) (sym h.same)) in
+        sym (shorter (decimal_value h.whole h.decimals) n (length h.decimals) digits (omega arith) (sym h.same)) in
         longer n h.whole (length h.decimals - digits) h.decimals (omega arith) h.are_digits h.fewest e (omega arith)
 
     by_order : (length h.decimals ≡ digits) ⊎ ((length h.decimals < digits) ⊎ (digits < length h.decimals)) → length h.decimals ≤ digits
@@ -241,7 +241,7 @@ number_at : (digits n : ℕ) (text : List ℕ) (h : IsDecimalText digits n text)
 number_at digits n text h w [] e =
     let t : text ≡ w.first ∷ w.rest = h.is ∙ (ap (λ z. decimal h.whole ++ after_point z) e ∙ (append-nil (decimal h.whole) ∙ w.is)) in
     let v : decimal_value 0 (w.first ∷ w.rest ++ []) ≡ decimal_value h.whole h.decimals =
-        ap (λ z. decimal_value 0 z) (append-nil (w.first ∷ w.rest)) ∙ (w.value ∙ ap (λ z. decimal_value h.whole z) (sym e)) in
+    ap (λ z. decimal_value 0 z) (append-nil (w.first ∷ w.rest)) ∙ (w.value ∙ ap (λ z. decimal_value h.whole z) (sym e)) in
     let k : 0 ≡ length h.decimals = ap (λ z. length z) (sym e) in
     rw t (rw (v, k) at (integer_lexed w.first w.rest w.digits))
 number_at digits n text h w (d ∷ ds) e =
@@ -249,14 +249,14 @@ number_at digits n text h w (d ∷ ds) e =
     let f : without_zeros (d ∷ ds) ≡ h.decimals = ap (λ z. without_zeros z) (sym e) ∙ h.fewest in
     let t : text ≡ w.first ∷ w.rest ++ 46 ∷ d ∷ ds = h.is ∙ (ap (λ z. decimal h.whole ++ after_point z) e ∙ ap (λ z. z ++ 46 ∷ d ∷ ds) w.is) in
     let v : decimal_value 0 (w.first ∷ w.rest ++ without_zeros (d ∷ ds)) ≡ decimal_value h.whole h.decimals =
-        ap (λ z. decimal_value 0 (w.first ∷ w.rest ++ z)) f ∙ (value_append 0 (w.first ∷ w.rest) h.decimals ∙ ap (λ z. decimal_value z h.decimals) w.value) in
+    ap (λ z. decimal_value 0 (w.first ∷ w.rest ++ z)) f ∙ (value_append 0 (w.first ∷ w.rest) h.decimals ∙ ap (λ z. decimal_value z h.decimals) w.value) in
     let k : length (without_zeros (d ∷ ds)) ≡ length h.decimals = ap (λ z. length z) f in
     rw t (rw (v, k) at (decimals_lexed w.first w.rest d ds w.digits a))
 
 pub number_text : (digits n : ℕ) (text : List ℕ) → n < 2 ^ 64 → IsDecimalText digits n text → NumberOf digits n text
 number_text digits n text l h =
     let q : h.whole ≤ n = whole_least n h.whole (decimal_value h.whole h.decimals) (10 ^ digits) (10 ^ length h.decimals) (some_power digits) (some_power (length h.decimals)) h.same
-        (value_least h.whole h.decimals) in
+    (value_least h.whole h.decimals) in
     let w = whole_is h.whole (omega (arith, q)) in
     let m = few_decimals digits n text h in
     let e = shorter n (decimal_value h.whole h.decimals) digits (length h.decimals) m h.same in

@@ -1,15 +1,13 @@
 -- First refusals of small texts.
-use Rattle.std.proofs.Common.{◌≡◌, ap, ℕ, ◌≤◌, inl, inr, List, [], ◌∷◌, ◌++◌, length, refl, Bool, true, false, lit≤, arith}
+use Rattle.std.proofs.Common.{◌≡◌, ap, ℕ, ◌≤◌, inl, inr, List, [], ◌∷◌, length, refl, true, false, lit≤, arith}
 use Rattle.std.specs.Prelude.{codes, pos}
 use Rattle.stl_syntax.specs.Characters.{ticks}
 use Rattle.stl_syntax.specs.Choice.{Where}
-use Rattle.stl_grammar.specs.Tokens.{Token, word, number, relation, close_paren, open_bracket, close_bracket, comma, a_word, an_integer, a_decimal, at_least, bracket, a_comma}
-use Rattle.stl_grammar.specs.Grammar.{IsConstant, plain, positive, negative, IsAtom, IsFormula, IsDisjunct, IsConjunct, IsTimed, IsOperand, disjunct, implies, conjunct, or, timed, and, operand, until, since, not, eventually, always, once, historically, always_true, always_false, parens, atom, first, signed, bound, inside}
+use Rattle.stl_grammar.specs.Tokens.{Token, word, number, relation, open_bracket, close_bracket, comma, a_word, an_integer, a_decimal, at_least, bracket, a_comma}
+use Rattle.stl_grammar.specs.Grammar.{plain, IsFormula, disjunct, conjunct, timed, operand, eventually, always_true, atom, first, bound, inside}
 use Rattle.stl_grammar.specs.Grammar.{name as term_name, none as no_terms}
 use Rattle.stl_grammar.specs.FormulaRefusals.{MayBegin, MayEnd, BeginsNoToken, RefusedAt, here, later, at_end, blank, bad_byte, IsFormulaFault, is_unbounded, pending, nodes_made, begins_fifth_term, is_bad_number, is_out_of_order}
 use Rattle.stl_grammar.proofs.TokenEnds.{can_end, ends_well, formula_ends}
-use Rattle.stl_syntax.specs.declared.scale.Scale.{Scale}
-use Rattle.stl_syntax.specs.declared.node.Node.{Node}
 use Rattle.stl_syntax.specs.declared.node.Node.TheVariants.{Const, Atom as Leaf, Eventually}
 use Rattle.stl_syntax.specs.declared.rel.Rel.TheVariants.{AtLeast}
 use Rattle.stl_grammar.specs.declared.fault.What.TheVariants.{Constant}

@@ -1,12 +1,12 @@
 -- The last token of a formula.
-use Rattle.std.proofs.Common.{◌≡◌, ℕ, List, [], ◌∷◌, ◌++◌, refl, Bool, true, false, max, ◌≤◌, ◌+◌, arith, ap, sym, ◌∙◌, append_assoc}
+use Rattle.std.proofs.Common.{◌≡◌, ℕ, List, [], ◌∷◌, ◌++◌, refl, Bool, true, false, max, ◌≤◌, arith, ap, ◌∙◌, append_assoc}
 use Rattle.std.specs.Prelude.{codes}
 use Rattle.stl_syntax.specs.declared.scale.Scale.{Scale}
 use Rattle.stl_syntax.specs.declared.node.Node.{Node}
-use Rattle.stl_grammar.specs.Tokens.{Token, word, number, relation, open_paren, close_paren, open_bracket, close_bracket, comma, star, plus, minus}
+use Rattle.stl_grammar.specs.Tokens.{Token, word, number, relation, open_paren, close_paren, comma, plus, minus}
 use Rattle.stl_grammar.specs.Grammar.{IsConstant, plain, positive, negative, IsTerm, scaled, AreTerms, more_plus, more_minus, IsAtom, IsFormula, IsDisjunct, IsConjunct, IsTimed, IsOperand, disjunct, implies, conjunct, or, timed, and, operand, until, since, not, eventually, always, once, historically, always_true, always_false, parens, atom, first, signed, first_decimals, value_digits, time_digits}
 use Rattle.stl_grammar.specs.Grammar.{name as term_name, none as no_terms}
-use Rattle.stl_grammar.specs.Grammar.{IsOpening, IsClosing, inside, outside, IsFutureWindow, bound, IsPastWindow, nothing, bounded, unbounded, IsFuture, IsPast}
+use Rattle.stl_grammar.specs.Grammar.{inside, outside, IsFutureWindow, bound, IsPastWindow, nothing, bounded, unbounded, IsPast}
 use Rattle.stl_grammar.specs.Grammar.IsPast.{nothing as since_nothing, bounded as since_bounded, unbounded as since_unbounded}
 
 -- the last token may be that of a formula
@@ -81,7 +81,6 @@ mutual
   operand_ends (parens {ts = ts} f) = after_one _ (ts ++ close_paren ∷ []) (after_some ts (close_paren ∷ []) paren_ends)
   operand_ends (atom a) = atom_ends a
 
-
 -- tokens that do not begin with a comma
 abbrev pub begins_comma : List Token → Bool
 begins_comma (comma ∷ ts) = true
@@ -145,7 +144,8 @@ pub record IsShort (s : Scale) (ts : List Token) : Type 0 where
 
 pub short_joined : (s : Scale) (ts us : List Token) → ends_well ts ≡ true → begins_comma us ≡ false → IsShort s ts → IsShort s us → IsShort s (ts ++ us)
 short_joined s ts us h e a b = record {
-  time = let f = time_append ts us h e in omega (arith, f, a.time, b.time); value = let f = value_append ts us h in omega (arith, f, a.value, b.value);
+  time = let f = time_append ts us h e in omega (arith, f, a.time, b.time);
+  value = let f = value_append ts us h in omega (arith, f, a.value, b.value);
 }
 
 pub short_word : (s : Scale) (w : List ℕ) (ts : List Token) → IsShort s ts → IsShort s (word w ∷ ts)

@@ -48,7 +48,7 @@ IsUneven x = ¬ (x % 10 ≡ 0)
 abbrev pub NeedsDigits : ℕ → (Node → List ℕ) → List Node → Type 0
 NeedsDigits digits numbers nodes = (digits ≡ 0) ⊎ Any (λ n. Any IsUneven (numbers n)) nodes
 
--- the scale is the least that holds the formula's numbers, as that of each formula that was read is
+-- the scale is the least that holds the formula's numbers
 pub record HasLeastScale (f : Formula) : Type 0 where
   pub time : NeedsDigits f.scale.time bounds_of f.nodes
   pub value : NeedsDigits f.scale.value constants_of f.nodes
