@@ -26,3 +26,4 @@ pub mod ReadNodes
 pub mod PrintedTokens
 pub mod PrintedRead
 pub mod LeastDigits
+pub mod ReadScale
