@@ -67,7 +67,7 @@ time_low (word w ∷ pre) post a j = time_low pre post a j
 time_low (relation r ∷ pre) post a j = time_low pre post a j
 time_low (t ∷ pre) post a j = time_low pre post a j
 
-value_low : (pre post : List Token) (r : Rel) → first_decimals post ≤ value_digits (pre ++ relation r ∷ post)
+pub value_low : (pre post : List Token) (r : Rel) → first_decimals post ≤ value_digits (pre ++ relation r ∷ post)
 value_low [] post r = omega arith
 value_low (relation q ∷ pre) post r = let x = value_low pre post r in omega (arith, x)
 value_low (word w ∷ pre) post r = value_low pre post r

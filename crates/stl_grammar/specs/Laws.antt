@@ -53,6 +53,10 @@ pub record HasLeastScale (f : Formula) : Type 0 where
   pub time : NeedsDigits f.scale.time bounds_of f.nodes
   pub value : NeedsDigits f.scale.value constants_of f.nodes
 
+-- the scale of a formula that was read is the least
+abbrev pub ReadScalesAreLeast : Type 0
+ReadScalesAreLeast = (f : Formula) (text : List ℕ) → FormulaText text f → HasLeastScale f
+
 -- the printed text of a formula is a text of it
 abbrev pub PrintedTextsAreRead : Type 0
 PrintedTextsAreRead = (f : Formula) (text : List ℕ) → IsWellFormed f → HasLeastScale f → IsPrintedFormula f text → FormulaText text f
