@@ -1,4 +1,5 @@
 pub mod GrammarExamples
+pub mod TokenEnds
 pub mod RefusalExamples
 pub mod RefusalLaw
 pub mod NumberLemmas
@@ -22,3 +23,7 @@ pub mod TokensTaken
 pub mod DigitsTold
 pub mod FinishLaw
 pub mod ReadNodes
+pub mod PrintedTokens
+pub mod PrintedRead
+pub mod LeastDigits
+pub mod ReadScale

@@ -1,91 +1,18 @@
 -- First refusals of small texts.
-use Rattle.std.proofs.Common.{◌≡◌, ap, ℕ, ◌≤◌, inl, inr, List, [], ◌∷◌, ◌++◌, length, refl, Bool, true, false, lit≤, arith}
+use Rattle.std.proofs.Common.{◌≡◌, ap, ℕ, ◌≤◌, inl, inr, List, [], ◌∷◌, length, refl, true, false, lit≤, arith}
 use Rattle.std.specs.Prelude.{codes, pos}
 use Rattle.stl_syntax.specs.Characters.{ticks}
 use Rattle.stl_syntax.specs.Choice.{Where}
-use Rattle.stl_grammar.specs.Tokens.{Token, word, number, relation, close_paren, open_bracket, close_bracket, comma, a_word, an_integer, a_decimal, at_least, bracket, a_comma}
-use Rattle.stl_grammar.specs.Grammar.{IsConstant, plain, positive, negative, IsAtom, IsFormula, IsDisjunct, IsConjunct, IsTimed, IsOperand, disjunct, implies, conjunct, or, timed, and, operand, until, since, not, eventually, always, once, historically, always_true, always_false, parens, atom, first, signed, bound, inside}
+use Rattle.stl_grammar.specs.Tokens.{Token, word, number, relation, open_bracket, close_bracket, comma, a_word, an_integer, a_decimal, at_least, bracket, a_comma}
+use Rattle.stl_grammar.specs.Grammar.{plain, IsFormula, disjunct, conjunct, timed, operand, eventually, always_true, atom, first, bound, inside}
 use Rattle.stl_grammar.specs.Grammar.{name as term_name, none as no_terms}
 use Rattle.stl_grammar.specs.FormulaRefusals.{MayBegin, MayEnd, BeginsNoToken, RefusedAt, here, later, at_end, blank, bad_byte, IsFormulaFault, is_unbounded, pending, nodes_made, begins_fifth_term, is_bad_number, is_out_of_order}
-use Rattle.stl_syntax.specs.declared.scale.Scale.{Scale}
-use Rattle.stl_syntax.specs.declared.node.Node.{Node}
+use Rattle.stl_grammar.proofs.TokenEnds.{can_end, ends_well, formula_ends}
 use Rattle.stl_syntax.specs.declared.node.Node.TheVariants.{Const, Atom as Leaf, Eventually}
 use Rattle.stl_syntax.specs.declared.rel.Rel.TheVariants.{AtLeast}
 use Rattle.stl_grammar.specs.declared.fault.What.TheVariants.{Constant}
 use Rattle.stl_grammar.specs.declared.fault.FormulaFault.{FormulaFault}
 use Rattle.stl_grammar.specs.declared.fault.FormulaFault.TheVariants.{Empty, BadByte, Expected, UnboundedFuture, BoundOrder, BadNumber}
-
--- the last token may be that of a formula
-can_end : Token → Bool
-can_end (word w) = true
-can_end (number n k) = true
-can_end close_paren = true
-can_end _ = false
-
-ends_well : List Token → Bool
-ends_well [] = false
-ends_well (t ∷ []) = can_end t
-ends_well (t ∷ u ∷ ts) = ends_well (u ∷ ts)
-
-after_one : (t : Token) (ts : List Token) → ends_well ts ≡ true → ends_well (t ∷ ts) ≡ true
-unfolding ends_well
-after_one t [] h = absurd (cc)
-after_one t (u ∷ ts) h = h
-
-after_some : (ts us : List Token) → ends_well us ≡ true → ends_well (ts ++ us) ≡ true
-after_some [] us h = h
-after_some (t ∷ ts) us h = after_one t (ts ++ us) (after_some ts us h)
-
-constant_ends : {digits : ℕ} {ts : List Token} {c : _} → IsConstant digits ts c → ends_well ts ≡ true
-unfolding ends_well can_end
-constant_ends plain = refl
-constant_ends positive = refl
-constant_ends negative = refl
-
-atom_ends : {digits : ℕ} {ts : List Token} {a : _} → IsAtom digits ts a → ends_well ts ≡ true
-atom_ends (first {ts = ts} {us} {vs} {rel = rel} t u c) = after_some (ts ++ us) (relation rel ∷ vs) (after_one (relation rel) vs (constant_ends c))
-atom_ends (signed {us = us} {vs} {rel = rel} u c) = after_some us (relation rel ∷ vs) (after_one (relation rel) vs (constant_ends c))
-
-true_ends : ends_well (word (codes "true") ∷ []) ≡ true
-unfolding ends_well can_end
-true_ends = refl
-
-false_ends : ends_well (word (codes "false") ∷ []) ≡ true
-unfolding ends_well can_end
-false_ends = refl
-
-paren_ends : ends_well (close_paren ∷ []) ≡ true
-unfolding ends_well can_end
-paren_ends = refl
-
-mutual
-  formula_ends : {s : Scale} {k : ℕ} {ts : List Token} {ns : List Node} → IsFormula s k ts ns → ends_well ts ≡ true
-  formula_ends (disjunct d) = disjunct_ends d
-  formula_ends (implies {ts = ts} {us} d f) = after_some ts (word (codes "implies") ∷ us) (after_one _ us (formula_ends f))
-
-  disjunct_ends : {s : Scale} {k : ℕ} {ts : List Token} {ns : List Node} → IsDisjunct s k ts ns → ends_well ts ≡ true
-  disjunct_ends (conjunct c) = conjunct_ends c
-  disjunct_ends (or {ts = ts} {us} d c) = after_some ts (word (codes "or") ∷ us) (after_one _ us (conjunct_ends c))
-
-  conjunct_ends : {s : Scale} {k : ℕ} {ts : List Token} {ns : List Node} → IsConjunct s k ts ns → ends_well ts ≡ true
-  conjunct_ends (timed t) = timed_ends t
-  conjunct_ends (and {ts = ts} {us} c t) = after_some ts (word (codes "and") ∷ us) (after_one _ us (timed_ends t))
-
-  timed_ends : {s : Scale} {k : ℕ} {ts : List Token} {ns : List Node} → IsTimed s k ts ns → ends_well ts ≡ true
-  timed_ends (operand o) = operand_ends o
-  timed_ends (until {ts = ts} {us} {vs} o b p) = after_some (ts ++ (word (codes "until") ∷ us)) vs (operand_ends p)
-  timed_ends (since {ts = ts} {us} {vs} o b p) = after_some (ts ++ (word (codes "since") ∷ us)) vs (operand_ends p)
-
-  operand_ends : {s : Scale} {k : ℕ} {ts : List Token} {ns : List Node} → IsOperand s k ts ns → ends_well ts ≡ true
-  operand_ends (not {ts = ts} o) = after_one _ ts (operand_ends o)
-  operand_ends (eventually {ts = ts} {us} b o) = after_one _ (us ++ ts) (after_some us ts (operand_ends o))
-  operand_ends (always {ts = ts} {us} b o) = after_one _ (us ++ ts) (after_some us ts (operand_ends o))
-  operand_ends (once {ts = ts} {us} b o) = after_one _ (us ++ ts) (after_some us ts (operand_ends o))
-  operand_ends (historically {ts = ts} {us} b o) = after_one _ (us ++ ts) (after_some us ts (operand_ends o))
-  operand_ends always_true = true_ends
-  operand_ends always_false = false_ends
-  operand_ends (parens {ts = ts} f) = after_one _ (ts ++ close_paren ∷ []) (after_some ts (close_paren ∷ []) paren_ends)
-  operand_ends (atom a) = atom_ends a
 
 -- a token at which no refusal stands
 pub not_refused : (before : List Token) (t : Token) (text : List ℕ) (p : ℕ) → is_unbounded before t text ≡ false → MayBegin (t ∷ before)

@@ -1,5 +1,5 @@
 //! Laws of the grammar. Each is the contract of a call that does nothing, so that the gate proves it.
-ghost use Rattle.stl_grammar.specs.Laws.{OneFormula, OneRefusal};
+ghost use Rattle.stl_grammar.specs.Laws.{OneFormula, OneRefusal, PrintedTextsAreRead, ReadScalesAreLeast};
 
 /// A text is that of at most one formula.
 pub fn one_formula()
@@ -9,4 +9,15 @@ pub fn one_formula()
 /// A text has at most one first refusal.
 pub fn one_refusal()
     ensures { OneRefusal }
+{}
+
+/// The ticks of a formula that was read are as coarse as its numbers allow.
+pub fn read_scales_are_least()
+    ensures { ReadScalesAreLeast }
+{}
+
+/// The printed text of a formula, in ticks that are as coarse as its numbers allow, is a text of that formula; by the law of
+/// one formula, of no other.
+pub fn printed_texts_are_read()
+    ensures { PrintedTextsAreRead }
 {}

@@ -62,7 +62,7 @@ last_digit [] c h = h
 last_digit (x ∷ front) c h = last_digit front c (and_parts (is_digit x) (all is_digit (front ++ c ∷ [])) h).1
 
 -- with more places than another decimal of the same value, the last digit is 0
-longer : (w v k : ℕ) (xs : List ℕ) → 0 < k → all is_digit xs ≡ true → without_zeros xs ≡ xs → decimal_value v xs ≡ w * 10 ^ k → 0 < length xs → ⊥
+pub longer : (w v k : ℕ) (xs : List ℕ) → 0 < k → all is_digit xs ≡ true → without_zeros xs ≡ xs → decimal_value v xs ≡ w * 10 ^ k → 0 < length xs → ⊥
 longer w v k xs some digits fewest e l = by_last (last_of xs)
   where
     by_last : (xs ≡ []) ⊎ ((front : List ℕ) × (c : ℕ) × (xs ≡ front ++ c ∷ [])) → ⊥

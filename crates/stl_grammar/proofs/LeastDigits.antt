@@ -1,0 +1,222 @@
+-- Where the tokens of a formula have fewer decimals than the scale has digits, its numbers are multiples of ten.
+use Rattle.std.proofs.Common.{◌≡◌, ℕ, zero, suc, ◌+◌, ◌-◌, ◌*◌, ◌^◌, ◌%◌, ◌<◌, ◌≤◌, List, [], ◌∷◌, ◌++◌, length, refl, ap, sym, ◌∙◌, Bool, true, false, pos, arith, append_assoc, inl, inr, ◌⊎◌}
+use Rattle.std.specs.Prelude.{codes, nat_abs, neg_ℤ, Option, All}
+use Rattle.std.proofs.Math.Nat.{pow-suc}
+use Rattle.std.proofs.lemmas.List.{append-nil}
+use Rattle.std.proofs.lemmas.Bool.{cases_order}
+use Rattle.stl_syntax.specs.declared.rel.Rel.{Rel}
+use Rattle.std.proofs.lemmas.List.Elements.{All-append, All-cons, All-nil, All-head, All-tail, All-weaker}
+use Rattle.stl_syntax.specs.Characters.{ticks}
+use Rattle.stl_syntax.specs.declared.scale.Scale.{Scale}
+use Rattle.stl_syntax.specs.declared.node.Node.{Node}
+use Rattle.stl_syntax.specs.declared.node.Node.TheVariants.{Const, Atom as Leaf, Not, And, Or, Implies, Until, Eventually, Always, Since, Once, Historically}
+use Rattle.stl_grammar.specs.Grammar.{top, Token, word, number, relation, open_paren, close_paren, open_bracket, close_bracket, comma, plus, minus, first_decimals, value_digits, time_digits}
+use Rattle.stl_grammar.specs.Grammar.{IsConstant, plain, positive, negative, IsAtom, first, signed}
+use Rattle.stl_grammar.specs.Grammar.{IsFutureWindow, bound, IsPastWindow, nothing, bounded, unbounded, IsPast}
+use Rattle.stl_grammar.specs.Grammar.IsPast.{nothing as since_nothing, bounded as since_bounded, unbounded as since_unbounded}
+use Rattle.stl_grammar.specs.Grammar.{IsFormula, IsDisjunct, IsConjunct, IsTimed, IsOperand, disjunct, implies, conjunct, or, timed, and, operand, until, since, not, eventually, always, once, historically, always_true, always_false, parens, atom}
+use Rattle.stl_grammar.specs.Laws.{with_upper, bounds_of, constants_of, Any, IsUneven, NeedsDigits, PrintedTextsAreRead}
+use Rattle.stl_grammar.proofs.PrintedRead.{printed_read}
+
+-- a number with fewer decimals is a multiple of ten ticks
+ticks_ten : (digits a j : ℕ) → j < digits → ticks digits a j % 10 ≡ 0
+ticks_ten digits a j l =
+    let i : digits - j ≡ suc (digits - j - 1) = omega arith in
+    let f : a * 10 ^ (digits - j) ≡ a * 10 ^ (digits - j - 1) * 10 = ap (λ z. a * 10 ^ z) i ∙ (ap (λ z. a * z) (pow-suc 10 (digits - j - 1)) ∙ omega arith) in
+    omega (arith, f)
+
+first_grows : (ts us : List Token) → first_decimals ts ≤ first_decimals (ts ++ us)
+first_grows [] us = omega arith
+first_grows (number n k ∷ ts) us = omega arith
+first_grows (plus ∷ []) us = omega arith
+first_grows (minus ∷ []) us = omega arith
+first_grows (plus ∷ number n k ∷ ts) us = omega arith
+first_grows (minus ∷ number n k ∷ ts) us = omega arith
+first_grows (plus ∷ u ∷ ts) us = omega arith
+first_grows (minus ∷ u ∷ ts) us = omega arith
+first_grows (t ∷ ts) us = omega arith
+
+-- the decimals about commas, and after relations, are at most so many
+record IsLow (dt dv : ℕ) (ts : List Token) : Type 0 where
+  time : (pre post : List Token) (a j : ℕ) → ts ≡ pre ++ number a j ∷ comma ∷ post → (j ≤ dt) × (first_decimals post ≤ dt)
+  value : (pre post : List Token) (r : _) → ts ≡ pre ++ relation r ∷ post → first_decimals post ≤ dv
+
+low_left : (dt dv : ℕ) (ts us : List Token) → IsLow dt dv (ts ++ us) → IsLow dt dv ts
+low_left dt dv ts us h = record {
+  time = λ pre post a j e.
+      let x = h.time pre (post ++ us) a j (ap (λ z. z ++ us) e ∙ append_assoc pre (number a j ∷ comma ∷ post) us) in
+      let y = first_grows post us in (x.0, omega (arith, x.1, y));
+  value = λ pre post r e.
+      let x = h.value pre (post ++ us) r (ap (λ z. z ++ us) e ∙ append_assoc pre (relation r ∷ post) us) in
+      let y = first_grows post us in omega (arith, x, y);
+}
+
+low_right : (dt dv : ℕ) (ts us : List Token) → IsLow dt dv (ts ++ us) → IsLow dt dv us
+low_right dt dv ts us h = record {
+  time = λ pre post a j e. h.time (ts ++ pre) post a j (ap (λ z. ts ++ z) e ∙ sym (append_assoc ts pre (number a j ∷ comma ∷ post)));
+  value = λ pre post r e. h.value (ts ++ pre) post r (ap (λ z. ts ++ z) e ∙ sym (append_assoc ts pre (relation r ∷ post)));
+}
+
+low_rest : (dt dv : ℕ) (t : Token) (ts : List Token) → IsLow dt dv (t ∷ ts) → IsLow dt dv ts
+low_rest dt dv t ts h = low_right dt dv (t ∷ []) ts h
+
+time_low : (pre post : List Token) (a j : ℕ) → (j ≤ time_digits (pre ++ number a j ∷ comma ∷ post)) × (first_decimals post ≤ time_digits (pre ++ number a j ∷ comma ∷ post))
+time_low [] post a j = (omega arith, omega arith)
+time_low (number n i ∷ pre) post a j = let x = time_low pre post a j in (omega (arith, x.0), omega (arith, x.1))
+time_low (word w ∷ pre) post a j = time_low pre post a j
+time_low (relation r ∷ pre) post a j = time_low pre post a j
+time_low (t ∷ pre) post a j = time_low pre post a j
+
+pub value_low : (pre post : List Token) (r : Rel) → first_decimals post ≤ value_digits (pre ++ relation r ∷ post)
+value_low [] post r = omega arith
+value_low (relation q ∷ pre) post r = let x = value_low pre post r in omega (arith, x)
+value_low (word w ∷ pre) post r = value_low pre post r
+value_low (number n k ∷ pre) post r = value_low pre post r
+value_low (t ∷ pre) post r = value_low pre post r
+
+whole_low : (ts : List Token) → IsLow (time_digits ts) (value_digits ts) ts
+whole_low ts = record {
+  time = λ pre post a j e. let x = time_low pre post a j in let f = ap time_digits e in (omega (arith, x.0, f), omega (arith, x.1, f));
+  value = λ pre post r e. let x = value_low pre post r in let f = ap value_digits e in omega (arith, x, f);
+}
+
+-- all are multiples of ten
+abbrev Tens : List ℕ → Type 0
+Tens [] = Unit {0}
+Tens (x ∷ xs) = (x % 10 ≡ 0) × Tens xs
+
+abs_ticks : {d : ℕ} {vs : List Token} {c : _} (us : List Token) → IsConstant d vs c → first_decimals (vs ++ us) < d → nat_abs c % 10 ≡ 0
+abs_ticks {d} us (plain {n = n} {k}) l = ticks_ten d n k l
+abs_ticks {d} us (positive {n = n} {k}) l = ticks_ten d n k l
+abs_ticks {d} us (negative {n = n} {k}) l = ap (λ z. z % 10) (abs_neg (ticks d n k)) ∙ ticks_ten d n k l
+  where
+    abs_neg : (x : ℕ) → nat_abs (neg_ℤ (pos x)) ≡ x
+    abs_neg zero = refl
+    abs_neg (suc x) = refl
+
+module _ (s : Scale) (dt dv : ℕ) where
+  -- the node's numbers are multiples of ten where the decimals are fewer
+  abbrev IsTen : Node → Type 0
+  IsTen n = (dt < s.time → Tens (bounds_of n)) × (dv < s.value → Tens (constants_of n))
+
+  abbrev Low : List Token → Type 0
+  Low ts = IsLow dt dv ts
+
+  one_ten : (ns : List Node) (n : Node) → All IsTen ns → IsTen n → All IsTen (ns ++ n ∷ [])
+  one_ten ns n h g = All-append IsTen ns (n ∷ []) h (All-cons IsTen n [] g (All-nil IsTen))
+
+  two_ten : (ns ms : List Node) (n : Node) → All IsTen ns → All IsTen ms → IsTen n → All IsTen (ns ++ ms ++ n ∷ [])
+  two_ten ns ms n h k g = one_ten (ns ++ ms) n (All-append IsTen ns ms h k) g
+
+  window_ten : {us : List Token} {a b : ℕ} {x y : Bool} → IsFutureWindow s.time us a b x y → Low us → dt < s.time → Tens (a ∷ b ∷ [])
+  window_ten (bound {a = a} {j} {b} {k} {x} {y} o c) h l =
+      let z = h.time (x ∷ []) (number b k ∷ y ∷ []) a j refl in (ticks_ten s.time a j (omega (arith, z.0)), (ticks_ten s.time b k (omega (arith, z.1)), tt))
+
+  past_ten : {us : List Token} {a : ℕ} {b : Option ℕ} {x y : Bool} → IsPastWindow s.time us a b x y → Low us → dt < s.time → Tens (with_upper a b)
+  past_ten nothing h l = (omega arith, tt)
+  past_ten (bounded {a = a} {j} {b} {k} {x} {y} o c) h l =
+      let z = h.time (x ∷ []) (number b k ∷ y ∷ []) a j refl in (ticks_ten s.time a j (omega (arith, z.0)), (ticks_ten s.time b k (omega (arith, z.1)), tt))
+  past_ten (unbounded {a = a} {j} {x} {y} o c) h l =
+      let z = h.time (x ∷ []) (word (codes "inf") ∷ y ∷ []) a j refl in (ticks_ten s.time a j (omega (arith, z.0)), tt)
+
+  since_ten : {us : List Token} {a : ℕ} {b : Option ℕ} → IsPast s.time us a b → Low us → dt < s.time → Tens (with_upper a b)
+  since_ten since_nothing h l = (omega arith, tt)
+  since_ten (since_bounded {a = a} {j} {b} {k}) h l =
+      let z = h.time (open_bracket ∷ []) (number b k ∷ close_bracket ∷ []) a j refl in
+      (ticks_ten s.time a j (omega (arith, z.0)), (ticks_ten s.time b k (omega (arith, z.1)), tt))
+  since_ten (since_unbounded {a = a} {j}) h l =
+      let z = h.time (open_bracket ∷ []) (word (codes "inf") ∷ close_bracket ∷ []) a j refl in (ticks_ten s.time a j (omega (arith, z.0)), tt)
+
+  atom_ten : {ts : List Token} {a : _} → IsAtom s.value ts a → Low ts → dv < s.value → Tens (constants_of (Leaf a))
+  atom_ten (first {ts = ts} {us = us} {vs = vs} {rel = rel} t u c) h l =
+      let z = h.value (ts ++ us) vs rel refl in let y = first_grows vs [] in
+      (abs_ticks [] c (rw (append-nil vs) (omega (arith, z))), tt)
+  atom_ten (signed {us = us} {vs = vs} {rel = rel} u c) h l =
+      let z = h.value us vs rel refl in (abs_ticks [] c (rw (append-nil vs) (omega (arith, z))), tt)
+
+  mutual
+    formula_ten : {k : ℕ} {ts : List Token} {ns : List Node} → IsFormula s k ts ns → Low ts → All IsTen ns
+    formula_ten (disjunct d) h = disjunct_ten d h
+    formula_ten (implies {k = k} {ts = ts} {us} {ns} {ms} d g) h =
+        two_ten ns ms (Implies (top k ns) (top (k + length ns) ms)) (disjunct_ten d (low_left dt dv ts (word (codes "implies") ∷ us) h))
+        (formula_ten g (low_rest dt dv (word (codes "implies")) us (low_right dt dv ts (word (codes "implies") ∷ us) h))) (λ i. tt, λ i. tt)
+
+    disjunct_ten : {k : ℕ} {ts : List Token} {ns : List Node} → IsDisjunct s k ts ns → Low ts → All IsTen ns
+    disjunct_ten (conjunct d) h = conjunct_ten d h
+    disjunct_ten (or {k = k} {ts = ts} {us} {ns} {ms} d g) h =
+        two_ten ns ms (Or (top k ns) (top (k + length ns) ms)) (disjunct_ten d (low_left dt dv ts (word (codes "or") ∷ us) h))
+        (conjunct_ten g (low_rest dt dv (word (codes "or")) us (low_right dt dv ts (word (codes "or") ∷ us) h))) (λ i. tt, λ i. tt)
+
+    conjunct_ten : {k : ℕ} {ts : List Token} {ns : List Node} → IsConjunct s k ts ns → Low ts → All IsTen ns
+    conjunct_ten (timed d) h = timed_ten d h
+    conjunct_ten (and {k = k} {ts = ts} {us} {ns} {ms} d g) h =
+        two_ten ns ms (And (top k ns) (top (k + length ns) ms)) (conjunct_ten d (low_left dt dv ts (word (codes "and") ∷ us) h))
+        (timed_ten g (low_rest dt dv (word (codes "and")) us (low_right dt dv ts (word (codes "and") ∷ us) h))) (λ i. tt, λ i. tt)
+
+    timed_ten : {k : ℕ} {ts : List Token} {ns : List Node} → IsTimed s k ts ns → Low ts → All IsTen ns
+    timed_ten (operand p) h = operand_ten p h
+    timed_ten (until {k = k} {a = a} {b} {ts = ts} {us} {vs} {ns} {ms} p w q) h =
+        let l = low_left dt dv (ts ++ (word (codes "until") ∷ us)) vs h in
+        let m = low_rest dt dv (word (codes "until")) us (low_right dt dv ts (word (codes "until") ∷ us) l) in
+        two_ten ns ms (Until (top k ns) (top (k + length ns) ms) a b) (operand_ten p (low_left dt dv ts (word (codes "until") ∷ us) l))
+        (operand_ten q (low_right dt dv (ts ++ (word (codes "until") ∷ us)) vs h)) (λ i. window_ten w m i, λ i. tt)
+    timed_ten (since {k = k} {a = a} {b} {ts = ts} {us} {vs} {ns} {ms} p w q) h =
+        let l = low_left dt dv (ts ++ (word (codes "since") ∷ us)) vs h in
+        let m = low_rest dt dv (word (codes "since")) us (low_right dt dv ts (word (codes "since") ∷ us) l) in
+        two_ten ns ms (Since (top k ns) (top (k + length ns) ms) a b) (operand_ten p (low_left dt dv ts (word (codes "since") ∷ us) l))
+        (operand_ten q (low_right dt dv (ts ++ (word (codes "since") ∷ us)) vs h)) (λ i. since_ten w m i, λ i. tt)
+
+    operand_ten : {k : ℕ} {ts : List Token} {ns : List Node} → IsOperand s k ts ns → Low ts → All IsTen ns
+    operand_ten (not {k = k} {ts} {ns} p) h = one_ten ns (Not (top k ns)) (operand_ten p (low_rest dt dv (word (codes "not")) ts h)) (λ i. tt, λ i. tt)
+    operand_ten (eventually {k = k} {a} {b} {a_in} {b_in} {ts} {us} {ns} w p) h =
+        let l = low_rest dt dv (word (codes "eventually")) (us ++ ts) h in
+        one_ten ns (Eventually (top k ns) a b a_in b_in) (operand_ten p (low_right dt dv us ts l)) (λ i. window_ten w (low_left dt dv us ts l) i, λ i. tt)
+    operand_ten (always {k = k} {a} {b} {a_in} {b_in} {ts} {us} {ns} w p) h =
+        let l = low_rest dt dv (word (codes "always")) (us ++ ts) h in
+        one_ten ns (Always (top k ns) a b a_in b_in) (operand_ten p (low_right dt dv us ts l)) (λ i. window_ten w (low_left dt dv us ts l) i, λ i. tt)
+    operand_ten (once {k = k} {a} {b} {a_in} {b_in} {ts} {us} {ns} w p) h =
+        let l = low_rest dt dv (word (codes "once")) (us ++ ts) h in
+        one_ten ns (Once (top k ns) a b a_in b_in) (operand_ten p (low_right dt dv us ts l)) (λ i. past_ten w (low_left dt dv us ts l) i, λ i. tt)
+    operand_ten (historically {k = k} {a} {b} {a_in} {b_in} {ts} {us} {ns} w p) h =
+        let l = low_rest dt dv (word (codes "historically")) (us ++ ts) h in
+        one_ten ns (Historically (top k ns) a b a_in b_in) (operand_ten p (low_right dt dv us ts l)) (λ i. past_ten w (low_left dt dv us ts l) i, λ i. tt)
+    operand_ten always_true h = All-cons IsTen (Const true) [] (λ i. tt, λ i. tt) (All-nil IsTen)
+    operand_ten always_false h = All-cons IsTen (Const false) [] (λ i. tt, λ i. tt) (All-nil IsTen)
+    operand_ten (parens {ts = ts} f) h = formula_ten f (low_left dt dv ts (close_paren ∷ []) (low_rest dt dv open_paren (ts ++ close_paren ∷ []) h))
+    operand_ten (atom {a = a} x) h = All-cons IsTen (Leaf a) [] (λ i. tt, λ i. atom_ten x h i) (All-nil IsTen)
+
+-- where all numbers are multiples of ten, none is not
+no_uneven : (xs : List ℕ) → Tens xs → ¬ Any IsUneven xs
+no_uneven [] h a = a
+no_uneven (x ∷ xs) h (inl a) = a h.0
+no_uneven (x ∷ xs) h (inr a) = no_uneven xs h.1 a
+
+no_node : (numbers : Node → List ℕ) (ns : List Node) → All (λ n. Tens (numbers n)) ns → ¬ Any (λ n. Any IsUneven (numbers n)) ns
+no_node numbers [] h a = a
+no_node numbers (n ∷ ns) h (inl a) = no_uneven (numbers n) (All-head (λ n. Tens (numbers n)) n ns h) a
+no_node numbers (n ∷ ns) h (inr a) = no_node numbers ns (All-tail (λ n. Tens (numbers n)) n ns h) a
+
+-- digits that are needed are there
+digits_there : (digits low : ℕ) (numbers : Node → List ℕ) (ns : List Node) → low ≤ digits → (low < digits → All (λ n. Tens (numbers n)) ns) → NeedsDigits digits numbers ns → digits ≡ low
+digits_there digits low numbers ns l h (inl e) = omega arith
+digits_there digits low numbers ns l h (inr a) = by_order (cases_order digits low)
+  where
+    by_order : (digits ≡ low) ⊎ ((digits < low) ⊎ (low < digits)) → digits ≡ low
+    by_order (inl e) = e
+    by_order (inr (inl m)) = absurd (omega arith)
+    by_order (inr (inr m)) = absurd (no_node numbers ns (h m) a)
+
+scale_is : (s : Scale) (t v : ℕ) → s.time ≡ t → s.value ≡ v → s ≡ record { time = t; value = v }
+scale_is s t v e f = ap (λ z. scale_by z s.value) e ∙ ap (λ z. scale_by t z) f
+  where
+    scale_by : ℕ → ℕ → Scale
+    scale_by t v = record { time = t; value = v }
+
+pub printed_texts_are_read : PrintedTextsAreRead
+printed_texts_are_read f text w least h =
+    let (ts, l, d, short) = printed_read f text w h in
+    let all = formula_ten f.scale (time_digits ts) (value_digits ts) d (whole_low ts) in
+    let P = IsTen f.scale (time_digits ts) (value_digits ts) in
+    let time = digits_there f.scale.time (time_digits ts) bounds_of f.nodes short.time (λ m. All-weaker P (λ n. Tens (bounds_of n)) (λ n g. g.0 m) f.nodes all) least.time in
+    let value = digits_there f.scale.value (value_digits ts) constants_of f.nodes short.value (λ m. All-weaker P (λ n. Tens (constants_of n)) (λ n g. g.1 m) f.nodes all) least.value in
+    record { tokens = ts; lexed = l; scale = scale_is f.scale (time_digits ts) (value_digits ts) time value; parsed = d }

@@ -1,0 +1,224 @@
+-- The last token of a formula.
+use Rattle.std.proofs.Common.{◌≡◌, ℕ, List, [], ◌∷◌, ◌++◌, refl, Bool, true, false, max, ◌≤◌, arith, ap, ◌∙◌, append_assoc}
+use Rattle.std.specs.Prelude.{codes}
+use Rattle.stl_syntax.specs.declared.scale.Scale.{Scale}
+use Rattle.stl_syntax.specs.declared.node.Node.{Node}
+use Rattle.stl_grammar.specs.Tokens.{Token, word, number, relation, open_paren, close_paren, comma, plus, minus}
+use Rattle.stl_grammar.specs.Grammar.{IsConstant, plain, positive, negative, IsTerm, scaled, AreTerms, more_plus, more_minus, IsAtom, IsFormula, IsDisjunct, IsConjunct, IsTimed, IsOperand, disjunct, implies, conjunct, or, timed, and, operand, until, since, not, eventually, always, once, historically, always_true, always_false, parens, atom, first, signed, first_decimals, value_digits, time_digits}
+use Rattle.stl_grammar.specs.Grammar.{name as term_name, none as no_terms}
+use Rattle.stl_grammar.specs.Grammar.{inside, outside, IsFutureWindow, bound, IsPastWindow, nothing, bounded, unbounded, IsPast}
+use Rattle.stl_grammar.specs.Grammar.IsPast.{nothing as since_nothing, bounded as since_bounded, unbounded as since_unbounded}
+
+-- the last token may be that of a formula
+unfoldable pub can_end : Token → Bool
+can_end (word w) = true
+can_end (number n k) = true
+can_end close_paren = true
+can_end _ = false
+
+unfoldable pub ends_well : List Token → Bool
+ends_well [] = false
+ends_well (t ∷ []) = can_end t
+ends_well (t ∷ u ∷ ts) = ends_well (u ∷ ts)
+
+pub after_one : (t : Token) (ts : List Token) → ends_well ts ≡ true → ends_well (t ∷ ts) ≡ true
+unfolding ends_well
+after_one t [] h = absurd (cc)
+after_one t (u ∷ ts) h = h
+
+pub after_some : (ts us : List Token) → ends_well us ≡ true → ends_well (ts ++ us) ≡ true
+after_some [] us h = h
+after_some (t ∷ ts) us h = after_one t (ts ++ us) (after_some ts us h)
+
+constant_ends : {digits : ℕ} {ts : List Token} {c : _} → IsConstant digits ts c → ends_well ts ≡ true
+unfolding ends_well can_end
+constant_ends plain = refl
+constant_ends positive = refl
+constant_ends negative = refl
+
+atom_ends : {digits : ℕ} {ts : List Token} {a : _} → IsAtom digits ts a → ends_well ts ≡ true
+atom_ends (first {ts = ts} {us} {vs} {rel = rel} t u c) = after_some (ts ++ us) (relation rel ∷ vs) (after_one (relation rel) vs (constant_ends c))
+atom_ends (signed {us = us} {vs} {rel = rel} u c) = after_some us (relation rel ∷ vs) (after_one (relation rel) vs (constant_ends c))
+
+true_ends : ends_well (word (codes "true") ∷ []) ≡ true
+unfolding ends_well can_end
+true_ends = refl
+
+false_ends : ends_well (word (codes "false") ∷ []) ≡ true
+unfolding ends_well can_end
+false_ends = refl
+
+paren_ends : ends_well (close_paren ∷ []) ≡ true
+unfolding ends_well can_end
+paren_ends = refl
+
+mutual
+  pub formula_ends : {s : Scale} {k : ℕ} {ts : List Token} {ns : List Node} → IsFormula s k ts ns → ends_well ts ≡ true
+  formula_ends (disjunct d) = disjunct_ends d
+  formula_ends (implies {ts = ts} {us} d f) = after_some ts (word (codes "implies") ∷ us) (after_one _ us (formula_ends f))
+
+  pub disjunct_ends : {s : Scale} {k : ℕ} {ts : List Token} {ns : List Node} → IsDisjunct s k ts ns → ends_well ts ≡ true
+  disjunct_ends (conjunct c) = conjunct_ends c
+  disjunct_ends (or {ts = ts} {us} d c) = after_some ts (word (codes "or") ∷ us) (after_one _ us (conjunct_ends c))
+
+  pub conjunct_ends : {s : Scale} {k : ℕ} {ts : List Token} {ns : List Node} → IsConjunct s k ts ns → ends_well ts ≡ true
+  conjunct_ends (timed t) = timed_ends t
+  conjunct_ends (and {ts = ts} {us} c t) = after_some ts (word (codes "and") ∷ us) (after_one _ us (timed_ends t))
+
+  pub timed_ends : {s : Scale} {k : ℕ} {ts : List Token} {ns : List Node} → IsTimed s k ts ns → ends_well ts ≡ true
+  timed_ends (operand o) = operand_ends o
+  timed_ends (until {ts = ts} {us} {vs} o b p) = after_some (ts ++ (word (codes "until") ∷ us)) vs (operand_ends p)
+  timed_ends (since {ts = ts} {us} {vs} o b p) = after_some (ts ++ (word (codes "since") ∷ us)) vs (operand_ends p)
+
+  pub operand_ends : {s : Scale} {k : ℕ} {ts : List Token} {ns : List Node} → IsOperand s k ts ns → ends_well ts ≡ true
+  operand_ends (not {ts = ts} o) = after_one _ ts (operand_ends o)
+  operand_ends (eventually {ts = ts} {us} b o) = after_one _ (us ++ ts) (after_some us ts (operand_ends o))
+  operand_ends (always {ts = ts} {us} b o) = after_one _ (us ++ ts) (after_some us ts (operand_ends o))
+  operand_ends (once {ts = ts} {us} b o) = after_one _ (us ++ ts) (after_some us ts (operand_ends o))
+  operand_ends (historically {ts = ts} {us} b o) = after_one _ (us ++ ts) (after_some us ts (operand_ends o))
+  operand_ends always_true = true_ends
+  operand_ends always_false = false_ends
+  operand_ends (parens {ts = ts} f) = after_one _ (ts ++ close_paren ∷ []) (after_some ts (close_paren ∷ []) paren_ends)
+  operand_ends (atom a) = atom_ends a
+
+-- tokens that do not begin with a comma
+abbrev pub begins_comma : List Token → Bool
+begins_comma (comma ∷ ts) = true
+begins_comma _ = false
+
+-- the digits of tokens after the end of an operand
+tail_ends : (t u : Token) (ts : List Token) → ends_well (t ∷ u ∷ ts) ≡ true → ends_well (u ∷ ts) ≡ true
+unfolding ends_well
+tail_ends t u ts h = h
+
+first_append : (ts us : List Token) → ends_well ts ≡ true → first_decimals (ts ++ us) ≡ first_decimals ts
+unfolding ends_well can_end
+first_append [] us h = absurd (cc)
+first_append (plus ∷ []) us h = absurd (cc)
+first_append (minus ∷ []) us h = absurd (cc)
+first_append (plus ∷ u ∷ ts) us h = by_next u
+  where
+    by_next : (u : Token) → first_decimals (plus ∷ u ∷ ts ++ us) ≡ first_decimals (plus ∷ u ∷ ts)
+    by_next (number n k) = refl
+    by_next _ = refl
+first_append (minus ∷ u ∷ ts) us h = by_next u
+  where
+    by_next : (u : Token) → first_decimals (minus ∷ u ∷ ts ++ us) ≡ first_decimals (minus ∷ u ∷ ts)
+    by_next (number n k) = refl
+    by_next _ = refl
+first_append (_ ∷ ts) us h = refl
+
+pub value_append : (ts us : List Token) → ends_well ts ≡ true → value_digits (ts ++ us) ≡ max (value_digits ts) (value_digits us)
+unfolding ends_well can_end
+value_append [] us h = absurd (cc)
+value_append (word w ∷ []) us h = omega arith
+value_append (number n k ∷ []) us h = omega arith
+value_append (close_paren ∷ []) us h = omega arith
+value_append (_ ∷ []) us h = absurd (cc)
+value_append (relation r ∷ u ∷ ts) us h =
+    let f = first_append (u ∷ ts) us h in let g = value_append (u ∷ ts) us h in omega (arith, f, g)
+value_append (_ ∷ u ∷ ts) us h = value_append (u ∷ ts) us h
+
+number_before : (n k : ℕ) (us : List Token) → begins_comma us ≡ false → time_digits (number n k ∷ us) ≡ time_digits us
+number_before n k [] h = omega arith
+number_before n k (comma ∷ us) h = absurd (cc)
+number_before n k (u ∷ us) h = omega arith
+
+pub time_append : (ts us : List Token) → ends_well ts ≡ true → begins_comma us ≡ false → time_digits (ts ++ us) ≡ max (time_digits ts) (time_digits us)
+unfolding ends_well can_end
+time_append [] us h e = absurd (cc)
+time_append (word w ∷ []) us h e = omega arith
+time_append (number n k ∷ []) us h e = let f = number_before n k us e in omega (arith, f)
+time_append (close_paren ∷ []) us h e = omega arith
+time_append (_ ∷ []) us h e = absurd (cc)
+time_append (number n k ∷ comma ∷ []) us h e = absurd (cc)
+time_append (number n k ∷ comma ∷ u ∷ ts) us h e =
+    let f = first_append (u ∷ ts) us h in let g = time_append (comma ∷ u ∷ ts) us h e in omega (arith, f, g)
+time_append (number n k ∷ u ∷ ts) us h e = let g = time_append (u ∷ ts) us h e in omega (arith, g)
+time_append (_ ∷ u ∷ ts) us h e = time_append (u ∷ ts) us h e
+
+-- the decimals of the tokens are no more than the scale's digits
+pub record IsShort (s : Scale) (ts : List Token) : Type 0 where
+  pub time : time_digits ts ≤ s.time
+  pub value : value_digits ts ≤ s.value
+
+pub short_joined : (s : Scale) (ts us : List Token) → ends_well ts ≡ true → begins_comma us ≡ false → IsShort s ts → IsShort s us → IsShort s (ts ++ us)
+short_joined s ts us h e a b = record {
+  time = let f = time_append ts us h e in omega (arith, f, a.time, b.time);
+  value = let f = value_append ts us h in omega (arith, f, a.value, b.value);
+}
+
+pub short_word : (s : Scale) (w : List ℕ) (ts : List Token) → IsShort s ts → IsShort s (word w ∷ ts)
+short_word s w ts a = record { time = a.time; value = a.value }
+
+pub short_parens : (s : Scale) (ts : List Token) → ends_well ts ≡ true → IsShort s ts → IsShort s (open_paren ∷ ts ++ close_paren ∷ [])
+short_parens s ts h a =
+    let b : IsShort s (close_paren ∷ []) = record { time = omega arith; value = omega arith } in
+    let c = short_joined s ts (close_paren ∷ []) h refl a b in record { time = c.time; value = c.value }
+
+-- an atom's tokens have the decimals of its constant
+term_value : {ts : List Token} {k : ℕ} {w : List ℕ} (us : List Token) → IsTerm ts k w → value_digits (ts ++ us) ≡ value_digits us
+term_value us (term_name e) = refl
+term_value us (scaled e) = refl
+
+term_time : {ts : List Token} {k : ℕ} {w : List ℕ} (us : List Token) → IsTerm ts k w → time_digits (ts ++ us) ≡ time_digits us
+term_time us (term_name e) = refl
+term_time us (scaled e) = omega arith
+
+terms_value : {ts : List Token} {terms : _} (us : List Token) → AreTerms ts terms → value_digits (ts ++ us) ≡ value_digits us
+terms_value us no_terms = refl
+terms_value us (more_plus {ts = ts} {us = vs} t u) = ap value_digits (append_assoc ts vs us) ∙ (term_value (vs ++ us) t ∙ terms_value us u)
+terms_value us (more_minus {ts = ts} {us = vs} t u) = ap value_digits (append_assoc ts vs us) ∙ (term_value (vs ++ us) t ∙ terms_value us u)
+
+terms_time : {ts : List Token} {terms : _} (us : List Token) → AreTerms ts terms → time_digits (ts ++ us) ≡ time_digits us
+terms_time us no_terms = refl
+terms_time us (more_plus {ts = ts} {us = vs} t u) = ap time_digits (append_assoc ts vs us) ∙ (term_time (vs ++ us) t ∙ terms_time us u)
+terms_time us (more_minus {ts = ts} {us = vs} t u) = ap time_digits (append_assoc ts vs us) ∙ (term_time (vs ++ us) t ∙ terms_time us u)
+
+constant_time : {d : ℕ} {vs : List Token} {c : _} → IsConstant d vs c → time_digits vs ≡ 0
+constant_time plain = refl
+constant_time positive = refl
+constant_time negative = refl
+
+constant_value : {d : ℕ} {vs : List Token} {c : _} → IsConstant d vs c → value_digits vs ≡ 0
+constant_value plain = refl
+constant_value positive = refl
+constant_value negative = refl
+
+pub short_atom : {d : ℕ} (s : Scale) {ts us vs : List Token} {k : ℕ} {w : List ℕ} {terms : _} {c : _} (rel : _) → IsTerm ts k w → AreTerms us terms → IsConstant d vs c
+    → first_decimals vs ≤ s.value → IsShort s (ts ++ us ++ relation rel ∷ vs)
+short_atom s {ts} {us} {vs} rel t u c l =
+    let e : ts ++ us ++ relation rel ∷ vs ≡ ts ++ (us ++ relation rel ∷ vs) = append_assoc ts us (relation rel ∷ vs) in
+    let f = ap time_digits e ∙ (term_time (us ++ relation rel ∷ vs) t ∙ (terms_time (relation rel ∷ vs) u ∙ constant_time c)) in
+    let g = ap value_digits e ∙ (term_value (us ++ relation rel ∷ vs) t ∙ terms_value (relation rel ∷ vs) u) in
+    let i = constant_value c in
+    record { time = omega (arith, f); value = omega (arith, g, i, l) }
+
+pub short_signed : {d : ℕ} (s : Scale) {us vs : List Token} {terms : _} {c : _} (rel : _) → AreTerms us terms → IsConstant d vs c → first_decimals vs ≤ s.value
+    → IsShort s (us ++ relation rel ∷ vs)
+short_signed s {us} {vs} rel u c l =
+    let f = terms_time (relation rel ∷ vs) u ∙ constant_time c in let g = terms_value (relation rel ∷ vs) u in let i = constant_value c in
+    record { time = omega (arith, f); value = omega (arith, g, i, l) }
+
+-- a bound before an operand
+pub short_window : {d a b : ℕ} {us : List Token} {x y : Bool} (s : Scale) (ts : List Token) → IsFutureWindow d us a b x y → time_digits us ≤ s.time → IsShort s ts → IsShort s (us ++ ts)
+short_window s ts (bound inside inside) l a = let t = a.time in record { time = omega arith; value = a.value }
+short_window s ts (bound inside outside) l a = let t = a.time in record { time = omega arith; value = a.value }
+short_window s ts (bound outside inside) l a = let t = a.time in record { time = omega arith; value = a.value }
+short_window s ts (bound outside outside) l a = let t = a.time in record { time = omega arith; value = a.value }
+
+pub short_past : {d a : ℕ} {b : _} {us : List Token} {x y : Bool} (s : Scale) (ts : List Token) → IsPastWindow d us a b x y → time_digits us ≤ s.time → IsShort s ts → IsShort s (us ++ ts)
+short_past s ts nothing l a = a
+short_past s ts (bounded inside inside) l a = let t = a.time in record { time = omega arith; value = a.value }
+short_past s ts (bounded inside outside) l a = let t = a.time in record { time = omega arith; value = a.value }
+short_past s ts (bounded outside inside) l a = let t = a.time in record { time = omega arith; value = a.value }
+short_past s ts (bounded outside outside) l a = let t = a.time in record { time = omega arith; value = a.value }
+short_past s ts (unbounded inside inside) l a = let t = a.time in record { time = omega arith; value = a.value }
+short_past s ts (unbounded inside outside) l a = let t = a.time in record { time = omega arith; value = a.value }
+short_past s ts (unbounded outside inside) l a = let t = a.time in record { time = omega arith; value = a.value }
+short_past s ts (unbounded outside outside) l a = let t = a.time in record { time = omega arith; value = a.value }
+
+pub short_since : {d a : ℕ} {b : _} {us : List Token} (s : Scale) (ts : List Token) → IsPast d us a b → time_digits us ≤ s.time → IsShort s ts → IsShort s (us ++ ts)
+short_since s ts since_nothing l a = a
+short_since s ts since_bounded l a = let t = a.time in record { time = omega arith; value = a.value }
+short_since s ts since_unbounded l a = let t = a.time in record { time = omega arith; value = a.value }
