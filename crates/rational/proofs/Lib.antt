@@ -1,6 +1,7 @@
 pub mod Order
 pub mod Field
 pub mod Lines
+pub mod Multiples
 pub mod Mixed
 pub mod Compare
 pub mod Sup

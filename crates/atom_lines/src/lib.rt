@@ -1,0 +1,9 @@
+//! Atoms over the rows of a trace: their truth and their margins at rows, on the gaps between rows, and over a whole trace.
+#![tactic(auto)]
+
+mod bound;
+mod tied;
+mod tying;
+
+pub use bound::Bound;
+pub use tying::{BindFault, bind};
