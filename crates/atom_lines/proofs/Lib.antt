@@ -1,1 +1,6 @@
 pub mod TyingLemmas
+pub mod Columns
+pub mod SumLemmas
+pub mod Signs
+pub mod Crossings
+pub mod Margins

@@ -2,8 +2,12 @@
 #![tactic(auto)]
 
 mod bound;
+mod gap;
+mod margin;
 mod tied;
+mod truth;
 mod tying;
 
 pub use bound::Bound;
+pub use truth::TruthPiece;
 pub use tying::{BindFault, bind};
