@@ -1,5 +1,5 @@
 -- What a column is at the time of a row, and on the gap between two neighbouring rows.
-use Rattle.std.proofs.Common.{◌≡◌, ℕ, zero, suc, ℤ, pos, ◌+◌, ◌-◌, ◌*◌, ◌<◌, ◌≤◌, ◌-ℤ◌, Bool, true, false, List, [], ◌∷◌, length, Some, None, if◌then◌else◌, refl, sym, ap, subst, ◌∙◌, arith}
+use Rattle.std.proofs.Common.{◌≡◌, ℕ, zero, suc, ℤ, pos, ◌+◌, ◌-◌, ◌*◌, ◌<◌, ◌≤◌, ◌-ℤ◌, Bool, true, false, List, [], ◌∷◌, length, get_or, Some, None, if◌then◌else◌, refl, sym, ap, subst, ◌∙◌, arith}
 use Rattle.std.specs.Prelude.{slice_get, bytes_eq, ◌≢◌}
 use Rattle.std.proofs.lemmas.Bool.{true≢false, false_from_ne_true}
 use Rattle.std.proofs.lemmas.Option.{same_Some}
@@ -104,3 +104,14 @@ pub value_of_name : (tr : Trace) (name : List ℕ) (t : Rational) (place : ℕ) 
     → value_of tr name t ≡ column_value step place tr.rows t
 unfolding value_of
 value_of_name tr name t place step h = among tr.header.columns 0 tr.rows name t place step place h (omega arith)
+
+widths_after : (n time : ℕ) (rows : List Row) (k : ℕ) (d : Row) → AreRowsAfter n time rows → k < length rows → length (get_or rows k d).values ≡ n
+widths_after n time [] k d ok h = absurd (omega arith)
+widths_after n time (r ∷ rows) zero d ok h = ok.1
+widths_after n time (r ∷ rows) (suc k) d ok h = widths_after n r.time rows k d ok.2 (omega arith)
+
+-- each row has a value for each column
+pub row_width : (n : ℕ) (rows : List Row) (k : ℕ) (d : Row) → AreRows n rows → k < length rows → length (get_or rows k d).values ≡ n
+row_width n [] k d ok h = absurd ok
+row_width n (r ∷ rows) zero d ok h = ok.0
+row_width n (r ∷ rows) (suc k) d ok h = widths_after n r.time rows k d ok.1 (omega arith)

@@ -4,3 +4,4 @@ pub mod SumLemmas
 pub mod Signs
 pub mod Crossings
 pub mod Margins
+pub mod Adding

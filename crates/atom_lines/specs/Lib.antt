@@ -1,6 +1,7 @@
 pub mod Binding
 pub mod Faults
 pub mod Sums
+pub mod Rows
 pub mod Told
 pub mod Gaps
 pub mod Pieces

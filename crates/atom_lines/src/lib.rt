@@ -2,8 +2,10 @@
 #![tactic(auto)]
 
 mod bound;
+mod cells;
 mod gap;
 mod margin;
+mod sum;
 mod tied;
 mod truth;
 mod tying;
