@@ -1,9 +1,10 @@
 -- A comparison with 0 depends on the sign alone.
-use Rattle.std.proofs.Common.{◌≡◌, ◌≢◌, Bool, true, false, pos, sym, ◌∙◌, arith}
+use Rattle.std.proofs.Common.{◌≡◌, ◌≢◌, ◌⊎◌, inl, inr, Bool, true, false, pos, sym, ◌∙◌, arith}
 use Rattle.std.proofs.lemmas.Bool.{true≢false, false≢true}
 use Rattle.std.specs.declared.cmp.Ordering.{Ordering}
 use Rattle.std.specs.declared.cmp.Ordering.TheVariants.{Less, Equal, Greater}
-use Rattle.rational.specs.Rational.{Rational, whole, IsOrder}
+use Rattle.rational.specs.Rational.{Rational, ◌<ʳ◌, ◌≈◌, whole, IsOrder}
+use Rattle.rational.proofs.Order.{lt_or_same_or_gt, lt_of_le_of_lt, lt_of_lt_of_le, le_of_same, ge_of_same, same_trans, same_sym}
 use Rattle.stl_syntax.specs.Truth.{compares}
 use Rattle.stl_syntax.specs.declared.rel.Rel.{Rel}
 use Rattle.stl_syntax.specs.declared.rel.Rel.TheVariants.{AtLeast, Above, AtMost, Below}
@@ -50,3 +51,12 @@ turns_over Below e = true≢false e
 
 pub compare_apart : (rel : Rel) (y z : Rational) → IsOrder Less y (whole (pos 0)) → IsOrder Greater z (whole (pos 0)) → compares rel y ≢ compares rel z
 compare_apart rel y z h k e = turns_over rel (sym (by_sign rel Less y h) ∙ e ∙ by_sign rel Greater z k)
+
+-- nor does it depend on the pair
+pub compare_same : (rel : Rel) {y z : Rational} → y ≈ z → compares rel y ≡ compares rel z
+compare_same rel {y} {z} e = by_order (lt_or_same_or_gt y (whole (pos 0)))
+  where
+    by_order : (y <ʳ whole (pos 0)) ⊎ (y ≈ whole (pos 0)) ⊎ (whole (pos 0) <ʳ y) → compares rel y ≡ compares rel z
+    by_order (inl h) = compare_alike rel Less y z h (lt_of_le_of_lt (ge_of_same e) h)
+    by_order (inr (inl h)) = compare_alike rel Equal y z h (same_trans (same_sym e) h)
+    by_order (inr (inr h)) = compare_alike rel Greater y z h (lt_of_lt_of_le h (le_of_same e))

@@ -5,4 +5,5 @@ pub mod Rows
 pub mod Told
 pub mod Gaps
 pub mod Pieces
+pub mod Points
 pub mod Signs

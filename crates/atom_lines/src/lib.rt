@@ -5,11 +5,13 @@ mod bound;
 mod cells;
 mod gap;
 mod margin;
+mod points;
 mod sum;
 mod tied;
 mod truth;
 mod tying;
 
 pub use bound::Bound;
+pub use points::{margin_piece, margin_point, truth_piece, truth_point};
 pub use truth::TruthPiece;
 pub use tying::{BindFault, bind};
