@@ -4,3 +4,5 @@ pub mod Values
 pub mod Reading
 pub mod Telling
 pub mod Cutting
+pub mod Moving
+pub mod SupLemmas

@@ -155,3 +155,15 @@ module _ {P : Type 0} (function : P → Affine) where
   pub start_first : (ks : List (Knot P)) (i : ℕ) (k : Knot P) → Each (IsKnot function) ks → slice_get ks i ≡ Some k → start ks ≤ʳ time k
   start_first [] i k h e = absurd (cc)
   start_first (l ∷ ks) i k h e = rising_places (l ∷ ks) 0 i l k h refl e (omega arith)
+
+  rises_at : (ks : List (Knot P)) (i : ℕ) (k n : Knot P) → Each (IsKnot function) ks → slice_get ks i ≡ Some k → slice_get ks (suc i) ≡ Some n → time k <ʳ time n
+  rises_at [] i k n h e f = absurd (cc)
+  rises_at (l ∷ ks) zero k n h e f = subst (λ k. time k <ʳ time n) (some_is e) (first_rises l ks 0 n h f)
+  rises_at (l ∷ ks) (suc i) k n h e f = rises_at ks i k n h.1 e f
+
+  -- the times rise from place to place
+  pub next_rises : (ks : List (Knot P)) (i : ℕ) (k n : Knot P) → Each (IsKnot function) ks → slice_get ks i ≡ Some k → slice_get ks (i + 1) ≡ Some n → time k <ʳ time n
+  next_rises ks i k n h e f = rises_at ks i k n h e (subst (λ p. slice_get ks p ≡ Some n) next f)
+    where
+      next : i + 1 ≡ suc i
+      next = omega arith

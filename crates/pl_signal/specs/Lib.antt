@@ -3,3 +3,4 @@ pub mod Limits
 pub mod Building
 pub mod Moves
 pub mod Cuts
+pub mod Wide

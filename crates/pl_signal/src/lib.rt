@@ -2,10 +2,13 @@
 #![tactic(auto)]
 
 mod builder;
+mod faults;
 mod knot;
+pub mod laws;
 mod moves;
 mod signal;
 
 pub use builder::Builder;
+pub use faults::{OpFault, WidePair};
 pub use knot::Knot;
 pub use signal::Signal;

@@ -1,13 +1,16 @@
 //! Signals on a part of their domain, and moved in time.
-ghost use Rattle.std.specs.Prelude.{◌≡◌, ◌<◌, ◌≤◌, ◌^◌, ◌++◌, ◌∷◌, [], ◌⊎◌, length, slice_range, IfOk};
+ghost use Rattle.std.specs.Prelude.{◌≡◌, ◌<◌, ◌≤◌, ◌^◌, ◌++◌, ◌∷◌, [], ◌⊎◌, length, slice_range, IfOk, ℤ, ◌-ℤ◌};
+ghost use Rattle.std.specs.Int.RustNames.{unsigned_abs};
+ghost use Rattle.rational.specs.Rational.{add, subtract, whole, IsWithin};
 ghost use Rattle.rational.specs.Time.{◌≤ʳ◌, ◌<ʳ◌, ◌≈◌};
 ghost use Rattle.frac128.specs.Value.{value};
 ghost use Rattle.pl_signal.specs.Knots.{start, stop, time, HasShape, IsSignal, IsWorth};
+ghost use Rattle.pl_signal.specs.Limits.{IsLimited};
 ghost use Rattle.pl_signal.specs.Cuts.{IsCut, StandsFrom};
-ghost use Rattle.pl_signal.specs.Moves.{Tells};
+ghost use Rattle.pl_signal.specs.Moves.{Tells, BasesFrom};
 
 use crate::signal::place_of;
-use crate::{Knot, Signal};
+use crate::{Builder, Knot, Signal};
 use frac128::{Frac, Memory};
 use std::alloc::Global;
 use std::cmp::Ordering;
@@ -24,6 +27,34 @@ impl<P: Shape> Signal<P> {
     {
         let knots = cut(self.alloc, &self.knots, from, to)?;
         Ok(Signal::from_knots(self.alloc, knots))
+    }
+
+    /// The signal that is at `t` what this one is at `about - t`.
+    ///
+    /// The base of each of its moving shapes is `about` less that of a moving shape of this signal.
+    pub fn mirror(&self, about: i64) -> Result<Signal<P>, Memory>
+        requires limited { IsLimited P.function self.now }
+        requires bases { (p : P) → HasShape self.now p → unsigned_abs (about -ℤ P.base p) ≤ 2 ^ 34 }
+        requires from_within { IsWithin (2 ^ 34) (subtract (whole about) (stop self.now)) }
+        requires to_within { IsWithin (2 ^ 34) (subtract (whole about) (start self.now)) }
+        ensures worth { IfOk result (Tells P.function (λ t v. IsWorth P.function self.now (subtract (whole about) t) v)
+            (subtract (whole about) (stop self.now)) (subtract (whole about) (start self.now))) }
+        ensures bases { IfOk result (BasesFrom P.moves P.base (λ b. about -ℤ b) self.now) }
+    {
+        let mut i = self.len() - 1;
+        let last = self.knot(i);
+        let mut built = Builder::start(
+            self.alloc,
+            last.time.mirror(about),
+            last.point.mirror(about),
+        )?;
+        while i > 0 {
+            i -= 1;
+            let knot = self.knot(i);
+            let after = knot.after.mirror(about);
+            built.step(after, knot.time.mirror(about), knot.point.mirror(about))?;
+        }
+        Ok(built.finish())
     }
 }
 
