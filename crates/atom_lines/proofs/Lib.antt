@@ -5,3 +5,4 @@ pub mod Signs
 pub mod Crossings
 pub mod Margins
 pub mod Adding
+pub mod Tellings

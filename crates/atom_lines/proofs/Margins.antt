@@ -8,7 +8,8 @@ use Rattle.rational.specs.Extended.{finite, ◌≈ᵉ◌}
 use Rattle.rational.proofs.Mixed.{parts}
 use Rattle.rational.proofs.Order.{same_trans, same_sym, same_refl}
 use Rattle.rational.proofs.Field.{same_negate}
-use Rattle.rational.proofs.Lines.{at_level, at_constant}
+use Rattle.rational.proofs.Lines.{at_level, at_constant, same_ramp}
+use Rattle.frac128.proofs.Moves.{negated as negated_ramp}
 use Rattle.rational.proofs.AffineLemmas.{finite_same}
 use Rattle.frac128.specs.Line.{line, base, base_value, rise_in_run, run_time}
 use Rattle.frac128.specs.declared.ramp.Ramp.{Ramp}
@@ -56,28 +57,6 @@ margin_level rel g v m e f h t =
     level : at (along g) t ≈ whole g.from
     level = same_trans (at_level t (whole (pos g.first)) (along g) flat) (at_first g)
 
-ramp_alike : (t0 v0 rise : ℤ) (run : ℕ) (p : 0 < run) (t0' v0' rise' : ℤ) (run' : ℕ) (p' : 0 < run') (t : Rational) → t0' ≡ t0 → v0' ≡ v0 → rise' ≡ rise → run' ≡ run
-    → at (ramp_line t0' v0' rise' run' p') t ≈ at (ramp_line t0 v0 rise run p) t
-ramp_alike t0 v0 rise run p t0' v0' rise' run' p' t a b c d =
-    subst (λ z. at (ramp_line z v0' rise' run' p') t ≈ at (ramp_line t0 v0 rise run p) t) (sym a)
-    (subst (λ z. at (ramp_line t0 z rise' run' p') t ≈ at (ramp_line t0 v0 rise run p) t) (sym b)
-    (subst (λ z. at (ramp_line t0 v0 z run' p') t ≈ at (ramp_line t0 v0 rise run p) t) (sym c)
-    (subst (λ n. (q : 0 < n) → at (ramp_line t0 v0 rise n q) t ≈ at (ramp_line t0 v0 rise run p) t) (sym d) (λ q. record { same = refl }) p')))
-
-above_neg : (z : ℤ) → part_above (neg_ℤ z) ≡ part_below z
-above_neg (pos zero) = refl
-above_neg (pos (suc n)) = refl
-above_neg (negsuc n) = refl
-
-below_neg : (z : ℤ) → part_below (neg_ℤ z) ≡ part_above z
-below_neg (pos zero) = refl
-below_neg (pos (suc n)) = refl
-below_neg (negsuc n) = refl
-
-ramp_negated : (t0 v0 rise v0' rise' : ℤ) (run : ℕ) (p : 0 < run) (t : Rational) → v0' ≡ neg_ℤ v0 → rise' ≡ neg_ℤ rise
-    → at (ramp_line t0 v0' rise' run p) t ≈ negate (at (ramp_line t0 v0 rise run p) t)
-ramp_negated t0 v0 rise v0' rise' run p t a b = rw (a, b, above_neg v0, below_neg v0, above_neg rise, below_neg rise) (omega arith)
-
 pub margin_ramp : (rel : Rel) (g : Gap) (f : Ramp) → base f ≡ pos g.first → base_value f ≡ signed rel g.from → rise_in_run f ≡ signed rel g.to -ℤ signed rel g.from
     → run_time f ≡ g.second - g.first → (t : Rational) → finite (at (line f) t) ≈ᵉ finite (margin rel (at (along g) t))
 margin_ramp rel g f a b c d t = finite_same (by_rel rel b c)
@@ -86,10 +65,10 @@ margin_ramp rel g f a b c d t = finite_same (by_rel rel b c)
     q = sub-pos_iff_lt.1 g.rising
 
     plain : (v0 rise : ℤ) → base_value f ≡ v0 → rise_in_run f ≡ rise → at (line f) t ≈ at (ramp_line (pos g.first) v0 rise (g.second - g.first) q) t
-    plain v0 rise b c = ramp_alike (pos g.first) v0 rise (g.second - g.first) q f.t0 f.v0 f.rise f.run f.positive t a b c d
+    plain v0 rise b c = same_ramp (pos g.first) v0 rise (g.second - g.first) q f.t0 f.v0 f.rise f.run f.positive t a b c d
 
     turned : (v0 rise : ℤ) → base_value f ≡ v0 → rise_in_run f ≡ rise → v0 ≡ neg_ℤ g.from → rise ≡ neg_ℤ (g.to -ℤ g.from) → at (line f) t ≈ negate (at (along g) t)
-    turned v0 rise b c e h = same_trans (plain v0 rise b c) (ramp_negated (pos g.first) g.from (g.to -ℤ g.from) v0 rise (g.second - g.first) q t e h)
+    turned v0 rise b c e h = same_trans (plain v0 rise b c) (negated_ramp (pos g.first) g.from (g.to -ℤ g.from) (pos g.first) v0 rise (g.second - g.first) q q t refl e h)
 
     by_rel : (rel : Rel) → base_value f ≡ signed rel g.from → rise_in_run f ≡ signed rel g.to -ℤ signed rel g.from → at (line f) t ≈ margin rel (at (along g) t)
     by_rel AtLeast b c = plain g.from (g.to -ℤ g.from) b c
@@ -103,3 +82,10 @@ rise_within AtLeast e f n h = h
 rise_within Above e f n h = h
 rise_within AtMost e f n h = omega (arith, ints, h)
 rise_within Below e f n h = omega (arith, ints, h)
+
+-- nor does a margin's
+pub signed_size : (rel : Rel) (n : ℤ) → nat_abs (signed rel n) ≡ nat_abs n
+signed_size AtLeast n = refl
+signed_size Above n = refl
+signed_size AtMost n = omega (arith, ints)
+signed_size Below n = omega (arith, ints)

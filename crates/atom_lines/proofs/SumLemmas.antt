@@ -16,6 +16,10 @@ use Rattle.atom_lines.specs.declared.tied.BoundTerm.{BoundTerm}
 use Rattle.atom_lines.specs.declared.tied.BoundAtom.{BoundAtom}
 use Rattle.atom_lines.specs.Binding.{Binding, IsColumn, AreTied, IsAtomTied, IsFor, HasRow, AreNeighbours}
 use Rattle.atom_lines.specs.Sums.{cell, sum_over, reach}
+use Rattle.atom_lines.specs.declared.gap.Gap.{Gap}
+use Rattle.atom_lines.specs.Gaps.{along}
+use Rattle.rational.proofs.Lines.{same_ramp}
+use Rattle.std.proofs.Math.Nat.{sub-pos_iff_lt}
 use Rattle.atom_lines.proofs.Columns.{value_at_row, value_in_gap, piece_on_way, value_of_name}
 
 -- each column is x of the way from its value among the first values to where it goes
@@ -95,3 +99,15 @@ module _ (b : Binding) (i : ℕ) (k : BoundAtom) (here : slice_get b.atoms i ≡
   expression_in_gap r s p t has low high =
       same_trans (expression_on_way a k tr t (passed (pos r.time) (s.time - r.time) p t) r.values s.values tied (gap_on_way tr r s t p for.rows has low high))
       (same_sym (way_ramp (pos r.time) (reach k r.values r.values) (reach k r.values s.values) (s.time - r.time) p t))
+
+  -- so it is on the line of the gap
+  pub expression_along : (g : Gap) (r s : Row) (t : Rational) → g.first ≡ r.time → g.second ≡ s.time → g.from ≡ reach k r.values r.values → g.to ≡ reach k r.values s.values
+      → AreNeighbours tr r s → row_time r <ʳ t → t <ʳ row_time s → expression a tr t ≈ at (along g) t
+  expression_along g r s t e h f l has low high =
+      same_trans (expression_in_gap r s later t has low high)
+      (same_sym (same_ramp (pos r.time) (reach k r.values r.values) (reach k r.values s.values -ℤ reach k r.values r.values) (s.time - r.time) later
+      (pos g.first) g.from (g.to -ℤ g.from) (g.second - g.first) (sub-pos_iff_lt.1 g.rising) t
+      (ap (λ n. pos n) e) f (ap (λ z. z -ℤ g.from) l ∙ ap (λ z. reach k r.values s.values -ℤ z) f) (ap (λ n. n - g.first) h ∙ ap (λ n. s.time - n) e)))
+    where
+      later : 0 < s.time - r.time
+      later = let x = g.rising in omega (arith, x, e, h)

@@ -6,4 +6,6 @@ pub mod Told
 pub mod Gaps
 pub mod Pieces
 pub mod Points
+pub mod Growing
+pub mod AtomSignals
 pub mod Signs

@@ -5,7 +5,9 @@ mod bound;
 mod cells;
 mod gap;
 mod margin;
+mod piecewise;
 mod points;
+mod signal;
 mod sum;
 mod tied;
 mod truth;
@@ -13,5 +15,6 @@ mod tying;
 
 pub use bound::Bound;
 pub use points::{margin_piece, margin_point, truth_piece, truth_point};
+pub use signal::{AtomShape, atom_signal};
 pub use truth::TruthPiece;
 pub use tying::{BindFault, bind};
