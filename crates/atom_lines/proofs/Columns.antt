@@ -115,3 +115,13 @@ pub row_width : (n : ℕ) (rows : List Row) (k : ℕ) (d : Row) → AreRows n ro
 row_width n [] k d ok h = absurd ok
 row_width n (r ∷ rows) zero d ok h = ok.0
 row_width n (r ∷ rows) (suc k) d ok h = widths_after n r.time rows k d ok.1 (omega arith)
+
+rise_after : (n time : ℕ) (r : Row) (rows : List Row) (k : ℕ) (d : Row) → AreRowsAfter n r.time rows → suc k < length (r ∷ rows) → (get_or (r ∷ rows) k d).time < (get_or (r ∷ rows) (suc k) d).time
+rise_after n time r [] k d ok h = absurd (omega arith)
+rise_after n time r (s ∷ rows) zero d ok h = ok.0
+rise_after n time r (s ∷ rows) (suc k) d ok h = rise_after n time s rows k d ok.2 (omega arith)
+
+-- each row is later than the one before it
+pub next_row : (n : ℕ) (rows : List Row) (k : ℕ) (d : Row) → AreRows n rows → suc k < length rows → (get_or rows k d).time < (get_or rows (suc k) d).time
+next_row n [] k d ok h = absurd ok
+next_row n (r ∷ rows) k d ok h = rise_after n r.time r rows k d ok.1 h

@@ -6,3 +6,4 @@ pub mod Crossings
 pub mod Margins
 pub mod Adding
 pub mod Tellings
+pub mod GrowingLemmas

@@ -1,5 +1,6 @@
 //! The values of a row, by the places of its columns.
 ghost use Rattle.std.specs.Prelude.{◌≡◌, ◌<◌, ◌≤◌, List, ℤ, pos, length, nat_abs, slice_index_or};
+ghost use Rattle.stl_syntax.specs.Trace.{IsTrace};
 ghost use Rattle.atom_lines.specs.Rows.{values_at};
 
 use trace_reader::{Row, Trace};
@@ -46,6 +47,7 @@ pub(crate) fn row_at<'a>(trace: &'a Trace, row: usize) -> TraceRow<'a>
     requires { row < length trace.now.rows }
     ensures trace { result.trace.now ≡ trace.now }
     ensures row { result.row ≡ row }
+    ensures rows { IsTrace trace.now }
 {
     let _ = trace.rows();
     TraceRow { trace, row }
