@@ -46,7 +46,7 @@ front-line front line k l e w =
     ]
 
 -- a line that goes on keeps its bytes
-grows : (ended : Bool) (line more : List ℕ) → HasNoFeed line → 0 < length line → (l : Line) × (ls : List Line) × (lines ended (line ++ more) ≡ l ∷ ls) × (length line ≤ length l.bytes)
+pub grows : (ended : Bool) (line more : List ℕ) → HasNoFeed line → 0 < length line → (l : Line) × (ls : List Line) × (lines ended (line ++ more) ≡ l ∷ ls) × (length line ≤ length l.bytes)
 grows ended [] more h some = absurd (omega arith)
 grows ended (x ∷ []) more h some =
     let e = lines-other ended x more (All-head (λ c. c ≡ 10 → ⊥) x [] h) in by_lines (lines ended more) e

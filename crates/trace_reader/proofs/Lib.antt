@@ -12,3 +12,12 @@ pub mod FeedLemmas
 pub mod PlainLaws
 pub mod FaultStays
 pub mod PlainText
+pub mod FieldLemmas
+pub mod NumberLemmas
+pub mod HeadingLemmas
+pub mod RowLemmas
+pub mod JudgeLemmas
+pub mod GoesOnLemmas
+pub mod ReaderSteps
+pub mod ReaderTakes
+pub mod KindLemmas

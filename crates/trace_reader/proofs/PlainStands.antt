@@ -42,14 +42,14 @@ open-closed : (bytes part : List ℕ) → IsOpenLine (bytes ++ (part ++ 10 ∷ [
 open-closed bytes part = subst (λ b. IsOpenLine b []) (append_assoc bytes part (10 ∷ [])) (later (bytes ++ part) (All-nil (λ c. c ≡ 10 → ⊥)))
 
 -- the lines begun
-begun-going : (front : List Line) (begun : ℕ) (line part : List ℕ) → begun ≡ length (front ++ rest false line)
+pub begun-going : (front : List Line) (begun : ℕ) (line part : List ℕ) → begun ≡ length (front ++ rest false line)
     → begun_after begun line (length part) ≡ length (front ++ rest false (line ++ part))
 begun-going front begun [] [] h = h
 begun-going front begun [] (c ∷ cs) h = ap suc (h ∙ ap length (append-nil front)) ∙ sym (length_push front (record { bytes = c ∷ cs; whole = false }) ∙ add-one (length front))
 begun-going front begun (c ∷ cs) part h =
     h ∙ (length_push front (record { bytes = c ∷ cs; whole = false }) ∙ sym (length_push front (record { bytes = c ∷ (cs ++ part); whole = false })))
 
-begun-closed : (front : List Line) (begun n : ℕ) (line text : List ℕ) → begun ≡ length (front ++ rest false line)
+pub begun-closed : (front : List Line) (begun n : ℕ) (line text : List ℕ) → begun ≡ length (front ++ rest false line)
     → begun_after begun line (n + 1) ≡ length (front ++ done text ∷ [])
 begun-closed front begun n [] text h =
     rw add-one (ap suc (h ∙ ap length (append-nil front)) ∙ sym (length_push front (done text) ∙ add-one (length front)))

@@ -1,5 +1,5 @@
 -- Lines of the plain form are those of a trace.
-use Rattle.std.proofs.Common.{◌≡◌, ℕ, ◌<◌, ◌&&◌, not, eqb, Bool, true, false, List, [], ◌∷◌, ◌++◌, map, reverse, length, refl, sym, ap, ◌∙◌, subst, arith, Option, ℤ, pos}
+use Rattle.std.proofs.Common.{◌≡◌, ℕ, ◌<◌, ◌&&◌, not, eqb, Bool, true, false, List, [], ◌∷◌, ◌++◌, map, reverse, length, refl, sym, ap, ◌∙◌, subst, arith, lit≤, Option, ℤ, pos}
 use Rattle.std.specs.Prelude.{codes, ◌*ℤ◌}
 use Rattle.std.proofs.lemmas.List.{append-nil, reverse-append, reverse-reverse}
 use Rattle.std.proofs.Math.IntN.{*ℤ-one}
@@ -22,7 +22,7 @@ is_solid c = not (is_space c) && not (eqb c 13)
 abbrev is_inner : ℕ → Bool
 is_inner c = is_solid c && not (eqb c 44)
 
-all-append : (p : ℕ → Bool) (xs ys : List ℕ) → all p xs ≡ true → all p ys ≡ true → all p (xs ++ ys) ≡ true
+pub all-append : (p : ℕ → Bool) (xs ys : List ℕ) → all p xs ≡ true → all p ys ≡ true → all p (xs ++ ys) ≡ true
 all-append p [] ys h k = k
 all-append p (x ∷ xs) ys h k =
     let a : p x ≡ true = grind (arith, h) in let b : all p xs ≡ true = grind (arith, h) in
@@ -34,7 +34,7 @@ all-weaker p q w (x ∷ xs) h =
     let a : p x ≡ true = grind (arith, h) in let b : all p xs ≡ true = grind (arith, h) in
     rw (w x a, all-weaker p q w xs b) refl
 
-all-reverse : (p : ℕ → Bool) (xs : List ℕ) → all p xs ≡ true → all p (reverse xs) ≡ true
+pub all-reverse : (p : ℕ → Bool) (xs : List ℕ) → all p xs ≡ true → all p (reverse xs) ≡ true
 all-reverse p [] h = refl
 all-reverse p (x ∷ xs) h =
     let a : p x ≡ true = grind (arith, h) in let b : all p xs ≡ true = grind (arith, h) in
@@ -147,15 +147,17 @@ row_fields line r h =
     let back = whole_inner h.number in
     (two-fields line h.front h.back h.written front back, two-shown line h.front h.back h.written front back)
 
-is_row : (line : Line) (r : Row) → IsRowLine line.bytes r → IsRow no_digits (fields line) r
-is_row line r h =
-    rw ((row_fields line r h).0)
-    ((pos r.time, 0, plain_number (numeral h.time), sym (one_tick (pos r.time))), (h.value, [], (h.value, 0, number h.number, sym (one_tick h.value)), refl, h.values))
+is_row : (n : List ℕ) (line : Line) (r : Row) → IsRowLine line.bytes r → IsRow no_digits (heading_of n) (fields line) r
+is_row n line r h =
+    rw ((row_fields line r h).0) (
+      (pos r.time, 0, plain_number (numeral h.time), lit≤ tt, sym (one_tick (pos r.time))),
+      (h.value, [], (h.value, 0, number h.number, lit≤ tt, sym (one_tick h.value)), refl, h.values),
+    )
 
-row_lines : {ls : List Line} {rows : List Row} → ArePlainRows ls rows → AreRowLines no_digits ls rows
-row_lines none = no_rows
-row_lines (unfinished d) = unfinished_row d
-row_lines (row {line = l} {r = r} d h more) = row_line d (row_fields l r h).1 (is_row l r h) (row_lines more)
+row_lines : (n : List ℕ) {ls : List Line} {rows : List Row} → ArePlainRows ls rows → AreRowLines no_digits (heading_of n) ls rows
+row_lines n none = no_rows
+row_lines n (unfinished d) = unfinished_row d
+row_lines n (row {line = l} {r = r} d h more) = row_line d (row_fields l r h).1 (is_row n l r h) (row_lines n more)
 
 -- all bytes of the form are the text of a trace
 pub plain_text : (limits : Limits) (bytes : List ℕ) (header : Option Header) (rows : List Row) → IsPlain limits true bytes header rows → IsTextOf bytes header rows
@@ -165,6 +167,6 @@ plain_text limits bytes header rows p = by_lines (lines true bytes) header rows 
     by_lines ls h rs none k some e = absurd (omega arith)
     by_lines ls h rs (unfinished d) k some e = absurd (omega arith)
     by_lines ls h rs (heading {line = l} {name = n} d is more) k some e = record {
-      read = rw e (trace_heading {line = l} (heading_of n) d (header_heading l n is).1 (rw ((header_heading l n is).0) (is_heading n is.good)) (row_lines more));
+      read = rw e (trace_heading {line = l} (heading_of n) d (header_heading l n is).1 (rw ((header_heading l n is).0) (is_heading n is.good)) (row_lines n more));
       rising = record { rows = sofar-some 1 rs k some };
     }

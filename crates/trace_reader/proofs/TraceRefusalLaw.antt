@@ -3,14 +3,15 @@ use Rattle.std.proofs.Common.{◌≡◌, ℕ, zero, suc, ◌+◌, ◌-◌, ◌�
 use Rattle.std.specs.Prelude.{codes, decimal, not, ◌==◌, Option, Some, None, MatchBool}
 use Rattle.std.specs.Fmt.{digits}
 use Rattle.stl_syntax.specs.Characters.{is_digit, goes_on_word, all, StopsAt, after_first, decimal_value, without_zeros, IsNumeral, integer, decimal as with_point}
-use Rattle.stl_syntax.specs.Trace.{Column, Row}
+use Rattle.stl_syntax.specs.Trace.{Column, Row, Header, Trace}
 use Rattle.trace_reader.specs.TraceText.{IsNumber, plain, plus, minus, IsName, name, IsMode, no_mode, ramp, step, IsDigits, no_digits, with_digits, IsTimeField, time, IsColumn, column, Heading, AreColumns, IsHeading, IsInTicks, AreInTicks, IsRow}
-use Rattle.trace_reader.specs.TraceText.{Line, lines, is_blank_line, fields, scale_of}
+use Rattle.trace_reader.specs.TraceText.{Line, lines, is_blank_line, fields, scale_of, AreRowLines, none, unfinished, blank as blank_line, row as a_row, AreTraceLines, heading as a_heading, IsTraceText}
 use Rattle.trace_reader.specs.TraceRefusals.{name_part, ColumnFault, ColumnFaults, NameFaults, HeaderFault, NumberFault, ValueFaults, NumberFaults, RowFault, InLine, LineFault, InWhole, FaultAfter, FaultFrom, IsFirstFault}
 use Rattle.trace_reader.specs.declared.refusal.Limits.{Limits}
 use Rattle.trace_reader.specs.declared.refusal.TraceRefusal.{TraceRefusal}
 use Rattle.trace_reader.specs.declared.refusal.TraceKind.{TraceKind}
 use Rattle.stl_syntax.specs.declared.scale.Scale.{Scale}
+use Rattle.std.proofs.lemmas.Bool.{false≢true}
 use Rattle.stl_syntax.proofs.ChoiceLemmas.{AtMostOne, where-unique, or_else-unique}
 use Rattle.stl_syntax.proofs.CharacterLemmas.{span_of, span_all, span_whole, after_all}
 use Rattle.trace_reader.proofs.TraceRefusalExamples.{first_byte, numeral_begins}
@@ -29,10 +30,10 @@ unfolding numeral_of
 numeral_is (integer {c = c} {digits = some} h) = rw (span_whole is_digit (c ∷ some) h, after_whole is_digit (c ∷ some) h) refl
 numeral_is (with_point c some d more h k) = rw (span_all is_digit (c ∷ some) (46 ∷ d ∷ more) h refl, after_all is_digit (c ∷ some) (46 ∷ d ∷ more) h refl) refl
 
-numeral-unique : {text : List ℕ} {n k n' k' : ℕ} → IsNumeral text n k → IsNumeral text n' k' → (n ≡ n') × (k ≡ k')
+pub numeral-unique : {text : List ℕ} {n k n' k' : ℕ} → IsNumeral text n k → IsNumeral text n' k' → (n ≡ n') × (k ≡ k')
 numeral-unique h h' = let e = sym (numeral_is h) ∙ numeral_is h' in (ap (λ p. p.0) e, ap (λ p. p.1) e)
 
-number-unique : {text : List ℕ} {v v' : ℤ} {k k' : ℕ} → IsNumber text v k → IsNumber text v' k' → (v ≡ v') × (k ≡ k')
+pub number-unique : {text : List ℕ} {v v' : ℤ} {k k' : ℕ} → IsNumber text v k → IsNumber text v' k' → (v ≡ v') × (k ≡ k')
 number-unique (plain h) (plain h') = let e = numeral-unique h h' in (ap pos e.0, e.1)
 number-unique (plain h) (plus h') = absurd (let e = numeral_begins h in cc)
 number-unique (plain h) (minus h') = absurd (let e = numeral_begins h in cc)
@@ -41,13 +42,15 @@ number-unique (plus h) (plus h') = let e = numeral-unique h h' in (ap pos e.0, e
 number-unique (minus h) (plain h') = absurd (let e = numeral_begins h' in cc)
 number-unique (minus h) (minus h') = let e = numeral-unique h h' in (rw e.0 refl, e.1)
 
-ticks-unique : (digits : ℕ) (f : List ℕ) → AtMostOne (IsInTicks digits f)
-ticks-unique d f v v' (n, k, h, e) (n', k', h', e') = let u = number-unique h h' in e ∙ rw (u.0, u.1) (sym e')
+pub ticks-unique : (digits most : ℕ) (f : List ℕ) → AtMostOne (IsInTicks digits most f)
+ticks-unique d m f v v' (n, k, h, l, e) (n', k', h', l', e') = let u = number-unique h h' in e ∙ rw (u.0, u.1) (sym e')
 
-values-unique : (digits : ℕ) (fields : List (List ℕ)) → AtMostOne (AreInTicks digits fields)
-values-unique d [] v v' e e' = e ∙ sym e'
-values-unique d (f ∷ fields) v v' (a, more, h, k, e) (a', more', h', k', e') =
-    let u = ticks-unique d f a a' h h' in let w = values-unique d fields more more' k k' in e ∙ rw (u, w) (sym e')
+values-unique : (digits : ℕ) (most : List ℕ) (fields : List (List ℕ)) → AtMostOne (AreInTicks digits most fields)
+values-unique d [] [] v v' e e' = e ∙ sym e'
+values-unique d [] (f ∷ fields) v v' h h' = absurd h
+values-unique d (m ∷ most) [] v v' h h' = absurd h
+values-unique d (m ∷ most) (f ∷ fields) v v' (a, more, h, k, e) (a', more', h', k', e') =
+    let u = ticks-unique d m f a a' h h' in let w = values-unique d most fields more more' k k' in e ∙ rw (u, w) (sym e')
 
 pos-injective : (a b : ℕ) → pos a ≡ pos b → a ≡ b
 pos-injective a b e = cc
@@ -55,11 +58,11 @@ pos-injective a b e = cc
 abbrev made : ℕ → List ℤ → Row
 made t v = record { time = t; values = v }
 
-row-unique : (s : Scale) (fields : List (List ℕ)) → AtMostOne (IsRow s fields)
-row-unique s [] r r' h h' = absurd h
-row-unique s (f ∷ fields) r r' h h' =
-    let a : r.time ≡ r'.time = pos-injective r.time r'.time (ticks-unique s.time f (pos r.time) (pos r'.time) h.0 h'.0) in
-    let b : r.values ≡ r'.values = values-unique s.value fields r.values r'.values h.1 h'.1 in
+pub row-unique : (s : Scale) (h : Heading) (fields : List (List ℕ)) → AtMostOne (IsRow s h fields)
+row-unique s h [] r r' k k' = absurd k
+row-unique s h (f ∷ fields) r r' k k' =
+    let a : r.time ≡ r'.time = pos-injective r.time r'.time (ticks-unique s.time h.time_digits f (pos r.time) (pos r'.time) k.0 k'.0) in
+    let b : r.values ≡ r'.values = values-unique s.value h.digits fields r.values r'.values k.1 k'.1 in
     ap (λ t. made t r.values) a ∙ ap (λ v. made r'.time v) b
 
 -- what follows a name in a header field
@@ -75,7 +78,7 @@ mode_of : List ℕ → Bool
 mode_of [] = false
 mode_of (c ∷ rest) = first_byte rest == 115
 
-digit_text : (n : ℕ) → n ≤ 6 → decimal n ≡ (48 + n) ∷ []
+pub digit_text : (n : ℕ) → n ≤ 6 → decimal n ≡ (48 + n) ∷ []
 unfolding digits
 digit_text zero h = refl
 digit_text (suc zero) h = refl
@@ -155,7 +158,7 @@ columns-unique (f ∷ fields) ks ks' ns ns' (k, n, more, rest, h, g, e, d) (k', 
 abbrev made_heading : ℕ → List Column → List ℕ → Heading
 made_heading t ks ns = record { time_digits = t; columns = ks; digits = ns }
 
-heading-unique : (fields : List (List ℕ)) → AtMostOne (IsHeading fields)
+pub heading-unique : (fields : List (List ℕ)) → AtMostOne (IsHeading fields)
 heading-unique [] h h' a b = absurd a
 heading-unique (f ∷ fields) h h' a b =
     let t = time-unique a.0 b.0 refl in let w = columns-unique fields h.columns h'.columns h.digits h'.digits a.1 b.1 in
@@ -217,7 +220,7 @@ after-unique limits s h ended n count last (line ∷ more) =
     or_else-unique _ _ (in_line-unique n _ (line_fault-unique limits n line))
     (in_whole-unique line _ _ (after-unique limits s h ended (suc n) count last more)
     (or_else-unique _ _ (in_line-unique n _ (row_fault-unique limits s h count last (fields line)))
-    (of_one (IsRow s (fields line)) (λ x. FaultAfter limits s h ended (suc n) (suc count) (Some x.time) more) (row-unique s (fields line))
+    (of_one (IsRow s h (fields line)) (λ x. FaultAfter limits s h ended (suc n) (suc count) (Some x.time) more) (row-unique s h (fields line))
     (λ x. after-unique limits s h ended (suc n) (suc count) (Some x.time) more))))
 
 from-unique : (limits : Limits) (least : Scale) (ended : Bool) (n : ℕ) (all_lines : List Line) → AtMostOne (FaultFrom limits least ended n all_lines)
@@ -232,3 +235,38 @@ from-unique limits least ended n (line ∷ more) =
 -- the first fault of the bytes is determined
 pub FirstFault-unique : (bytes : List ℕ) (ended : Bool) (limits : Limits) (least : Scale) → AtMostOne (IsFirstFault bytes ended limits least)
 FirstFault-unique bytes ended limits least = from-unique limits least ended 1 (lines ended bytes)
+
+-- the lines of rows are those of one list of rows
+row_lines-unique : (s : Scale) (h : Heading) {all_lines : List Line} {rows rows' : List Row} → AreRowLines s h all_lines rows → AreRowLines s h all_lines rows' → rows ≡ rows'
+row_lines-unique s h none none = refl
+row_lines-unique s h (unfinished w) (unfinished w') = refl
+row_lines-unique s h (unfinished w) (blank_line w' b m) = absurd (false≢true (sym w ∙ w'))
+row_lines-unique s h (unfinished w) (a_row w' b r m) = absurd (false≢true (sym w ∙ w'))
+row_lines-unique s h (blank_line w b m) (unfinished w') = absurd (false≢true (sym w' ∙ w))
+row_lines-unique s h (a_row w b r m) (unfinished w') = absurd (false≢true (sym w' ∙ w))
+row_lines-unique s h (blank_line w b m) (blank_line w' b' m') = row_lines-unique s h m m'
+row_lines-unique s h (blank_line w b m) (a_row w' b' r' m') = absurd (false≢true (sym b' ∙ b))
+row_lines-unique s h (a_row w b r m) (blank_line w' b' m') = absurd (false≢true (sym b ∙ b'))
+row_lines-unique s h (a_row {line = l} {r = x} {rows = rows} w b k m) (a_row {r = y} {rows = rows'} w' b' k' m') =
+    ap (λ (z : Row). z ∷ rows) (row-unique s h (fields l) x y k k') ∙ ap (λ zs. y ∷ zs) (row_lines-unique s h m m')
+
+-- so are those of a trace
+trace_lines-unique : (least : Scale) {all_lines : List Line} {g g' : Header} {rows rows' : List Row} → AreTraceLines least all_lines g rows → AreTraceLines least all_lines g' rows'
+    → (g ≡ g') × (rows ≡ rows')
+trace_lines-unique least (blank_line w b m) (blank_line w' b' m') = trace_lines-unique least m m'
+trace_lines-unique least (blank_line w b m) (a_heading h w' b' k' m') = absurd (false≢true (sym b' ∙ b))
+trace_lines-unique least (a_heading h w b k m) (blank_line w' b' m') = absurd (false≢true (sym b ∙ b'))
+trace_lines-unique least (a_heading {line = l} {more = ls} {rows = rows} h w b k m) (a_heading {rows = rows'} h' w' b' k' m') =
+    let e : h ≡ h' = heading-unique (fields l) h h' k k' in (
+      ap (λ (x : Heading). record { columns = x.columns; scale = scale_of least x }) e,
+      row_lines-unique (scale_of least h') h' (subst (λ (x : Heading). AreRowLines (scale_of least x) x ls rows) e m) m',
+    )
+
+abbrev made_trace : Header → List Row → Trace
+made_trace g rows = record { header = g; rows = rows }
+
+-- bytes have at most one trace
+pub Trace-unique : (bytes : List ℕ) (least : Scale) → AtMostOne (IsTraceText bytes least)
+Trace-unique bytes least t u a b =
+    let e = trace_lines-unique least a.read b.read in
+    ap (λ g. made_trace g t.rows) e.0 ∙ ap (λ rows. made_trace u.header rows) e.1

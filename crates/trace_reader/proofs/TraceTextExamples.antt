@@ -11,7 +11,7 @@ unfolding lines fields
 rise_bytes = record {
   read = blank refl refl (heading (record { time_digits = 0; columns = x_column ∷ []; digits = 0 ∷ [] }) refl refl
       (time no_field_digits, (x_column, 0, [], [], column (codes "x") (name refl refl (lit≤ tt)) no_mode no_field_digits, (refl, refl), refl, refl))
-      (row refl refl ((pos 0, 0, plain (integer refl), refl), (pos 0, [], (pos 0, 0, plain (integer refl), refl), refl, refl))
-      (row refl refl ((pos 10, 0, plus (integer refl), refl), (pos 10, [], (pos 10, 0, plain (integer refl), refl), refl, refl)) none)));
+      (row refl refl ((pos 0, 0, plain (integer refl), lit≤ tt, refl), (pos 0, [], (pos 0, 0, plain (integer refl), lit≤ tt, refl), refl, refl))
+      (row refl refl ((pos 10, 0, plus (integer refl), lit≤ tt, refl), (pos 10, [], (pos 10, 0, plain (integer refl), lit≤ tt, refl), refl, refl)) none)));
   rising = record { rows = (refl, (lit< tt, refl, tt)) };
 }

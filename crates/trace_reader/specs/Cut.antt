@@ -2,6 +2,8 @@
 use Rattle.std.specs.Prelude.{ℕ, suc, ◌<◌, ◌≤◌, List, []}
 use Rattle.trace_reader.specs.declared.line.LineFault.{LineFault}
 use Rattle.trace_reader.specs.declared.line.LineFault.TheVariants.{TooMany, TooLong}
+use Rattle.trace_reader.specs.declared.refusal.TraceKind.{TraceKind}
+use Rattle.trace_reader.specs.declared.refusal.TraceKind.TheVariants.{TooManyLines, LineTooLong}
 
 -- how many lines were begun, and the bytes of the last one, where it is not whole
 pub record Cut : Type 0 where
@@ -17,3 +19,8 @@ begun_after begun _ _ = begun
 abbrev pub IsLineFault : ℕ → ℕ → ℕ → LineFault → Type 0
 IsLineFault most begun size TooMany = most < begun
 IsLineFault most begun size TooLong = (begun ≤ most) × (4096 < size)
+
+-- the kind of refusal
+abbrev pub kind_of : LineFault → TraceKind
+kind_of TooMany = TooManyLines
+kind_of TooLong = LineTooLong

@@ -9,3 +9,13 @@ pub mod PlainProgress
 pub mod PlainTable
 pub mod PlainReading
 pub mod PlainReader
+pub mod LineParts
+pub mod FieldFaults
+pub mod Headings
+pub mod RowLines
+pub mod Progress
+pub mod Two
+pub mod TraceTable
+pub mod Reader
+pub mod Reading
+pub mod ReaderParts

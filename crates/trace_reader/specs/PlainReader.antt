@@ -2,7 +2,7 @@
 use Rattle.std.specs.Prelude.{◌≡◌, ◌^◌, ◌≤◌, false}
 use Rattle.trace_reader.specs.Plain.{Reader}
 use Rattle.trace_reader.specs.PlainReading.{state, IsWithin}
-use Rattle.trace_reader.specs.declared.plain.Rows.TheInside.{Inside}
+use Rattle.trace_reader.specs.declared.plain.PlainRows.TheInside.{Inside}
 
 abbrev pub reader_of : Inside → Reader
 reader_of a = record (state a.limits a.reading) { refused = a.refused; ended = a.ended }

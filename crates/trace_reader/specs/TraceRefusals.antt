@@ -1,9 +1,9 @@
 -- The first fault of a trace's bytes, with its line and field.
-use Rattle.std.specs.Prelude.{◌≡◌, ◌≢◌, ◌⊎◌, ℕ, suc, ◌-◌, ◌<◌, ◌≤◌, ◌==◌, Bool, if◌then◌else◌, List, [], ◌∷◌, length, ℤ, pos, negsuc, ◌<ℤ◌, codes, Option, Some, None, IsTrue, MatchBool}
+use Rattle.std.specs.Prelude.{◌≡◌, ◌≢◌, ◌⊎◌, ℕ, suc, ◌-◌, ◌<◌, ◌≤◌, ◌==◌, Bool, if◌then◌else◌, List, [], ◌∷◌, length, ℤ, pos, negsuc, ◌<ℤ◌, codes, Option, Some, None, IsTrue, MatchBool, true}
 use Rattle.stl_syntax.specs.Choice.{◌or_else◌, Where, Nothing}
 use Rattle.stl_syntax.specs.Characters.{is_among}
-use Rattle.stl_syntax.specs.Trace.{Column, Row}
-use Rattle.trace_reader.specs.TraceText.{Line, lines, is_blank_line, fields, IsNumber, IsName, IsTimeField, IsColumn, Heading, IsHeading, scale_of, IsInTicks, IsRow}
+use Rattle.stl_syntax.specs.Trace.{Column, Row, Trace}
+use Rattle.trace_reader.specs.TraceText.{Line, lines, is_blank_line, fields, IsNumber, IsName, IsTimeField, IsColumn, Heading, IsHeading, scale_of, IsInTicks, IsRow, IsTraceText}
 use Rattle.stl_syntax.specs.declared.scale.Scale.{Scale}
 use Rattle.trace_reader.specs.declared.refusal.Limits.{Limits}
 use Rattle.trace_reader.specs.declared.refusal.TraceRefusal.{TraceRefusal}
@@ -46,7 +46,7 @@ HeaderFault header = Where (65 < length header) (TooManyColumns (length header -
 abbrev pub NumberFault : ℕ → ℕ → ℤ → ℤ → ℕ → List ℕ → TraceKind → Type 0
 NumberFault digits n low high i f =
     Where (¬ ((v : ℤ) × (k : ℕ) × IsNumber f v k × (k ≤ n))) (BadNumber i)
-    or_else Where ((v : ℤ) × IsInTicks digits f v × ((v <ℤ low) ⊎ (high <ℤ v))) (OutOfRange i)
+    or_else Where ((v : ℤ) × IsInTicks digits n f v × ((v <ℤ low) ⊎ (high <ℤ v))) (OutOfRange i)
 
 -- the faults of the values from field i on, in order
 abbrev pub ValueFaults : Scale → ℕ → List ℕ → List (List ℕ) → TraceKind → Type 0
@@ -59,9 +59,9 @@ NumberFaults s h [] = Nothing
 NumberFaults s h (f ∷ more) = NumberFault s.time h.time_digits (pos 0) (pos 4294967295) 1 f or_else ValueFaults s 2 h.digits more
 
 -- the row's time is not greater than the one before it
-abbrev pub IsNotRising : Scale → Option ℕ → List (List ℕ) → Type 0
-IsNotRising s None row = ⊥
-IsNotRising s (Some last) row = (r : Row) × IsRow s row r × (r.time ≤ last)
+abbrev pub IsNotRising : Scale → Heading → Option ℕ → List (List ℕ) → Type 0
+IsNotRising s h None row = ⊥
+IsNotRising s h (Some last) row = (r : Row) × IsRow s h row r × (r.time ≤ last)
 
 -- the faults of a row after `count` rows, the last of them at the time `last`
 abbrev pub RowFault : Limits → Scale → Heading → ℕ → Option ℕ → List (List ℕ) → TraceKind → Type 0
@@ -69,7 +69,7 @@ RowFault limits s h count last row =
     Where (limits.rows ≤ count) TooManyRows
     or_else Where (length row ≢ suc (length h.columns)) (WrongCount (length row))
     or_else NumberFaults s h row
-    or_else Where (IsNotRising s last row) TimeNotRising
+    or_else Where (IsNotRising s h last row) TimeNotRising
 
 -- a fault in line n
 abbrev pub InLine : ℕ → (TraceKind → Type 0) → TraceRefusal → Type 0
@@ -90,7 +90,7 @@ FaultAfter limits s h ended n count last (line ∷ more) =
     InLine n (LineFault limits n line)
     or_else InWhole line (FaultAfter limits s h ended (suc n) count last more)
     (InLine n (RowFault limits s h count last (fields line))
-    or_else (λ r. (x : Row) × IsRow s (fields line) x × FaultAfter limits s h ended (suc n) (suc count) (Some x.time) more r))
+    or_else (λ r. (x : Row) × IsRow s h (fields line) x × FaultAfter limits s h ended (suc n) (suc count) (Some x.time) more r))
 
 -- the first fault from line n on, where no line before it was the header
 abbrev pub FaultFrom : Limits → Scale → Bool → ℕ → List Line → TraceRefusal → Type 0
@@ -104,3 +104,8 @@ FaultFrom limits least ended n (line ∷ more) =
 -- the first fault of the bytes, which the input may have ended, with the least scale that is asked for
 abbrev pub IsFirstFault : List ℕ → Bool → Limits → Scale → TraceRefusal → Type 0
 IsFirstFault bytes ended limits least = FaultFrom limits least ended 1 (lines ended bytes)
+
+-- the bytes, all of them, are those of the trace, and have no fault
+pub record HasTrace (bytes : List ℕ) (limits : Limits) (least : Scale) (tr : Trace) : Type 0 where
+  pub text : IsTraceText bytes least tr
+  pub sound : (r : TraceRefusal) → ¬ IsFirstFault bytes true limits least r

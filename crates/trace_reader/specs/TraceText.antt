@@ -104,34 +104,36 @@ greatest n (m ∷ more) = greatest (max n m) more
 abbrev pub scale_of : Scale → Heading → Scale
 scale_of least h = record { time = max h.time_digits least.time; value = greatest least.value h.digits }
 
--- the field is a number of so many ticks
-abbrev pub IsInTicks : ℕ → List ℕ → ℤ → Type 0
-IsInTicks digits f v = (n : ℤ) × (k : ℕ) × IsNumber f n k × (v ≡ signed_ticks digits n k)
+-- the field is a number of so many ticks, with at most `most` decimals
+abbrev pub IsInTicks : ℕ → ℕ → List ℕ → ℤ → Type 0
+IsInTicks digits most f v = (n : ℤ) × (k : ℕ) × IsNumber f n k × (k ≤ most) × (v ≡ signed_ticks digits n k)
 
--- the fields are numbers of so many ticks
-abbrev pub AreInTicks : ℕ → List (List ℕ) → List ℤ → Type 0
-AreInTicks digits [] values = values ≡ []
-AreInTicks digits (f ∷ others) values = (v : ℤ) × (more : List ℤ) × IsInTicks digits f v × AreInTicks digits others more × (values ≡ v ∷ more)
+-- the fields are numbers of so many ticks, one for each column, with at most its decimals
+abbrev pub AreInTicks : ℕ → List ℕ → List (List ℕ) → List ℤ → Type 0
+AreInTicks digits [] [] values = values ≡ []
+AreInTicks digits (most ∷ others) (f ∷ fields) values =
+    (v : ℤ) × (more : List ℤ) × IsInTicks digits most f v × AreInTicks digits others fields more × (values ≡ v ∷ more)
+AreInTicks digits _ _ values = ⊥
 
--- the fields are those of the row, in ticks of the scale
-abbrev pub IsRow : Scale → List (List ℕ) → Row → Type 0
-IsRow s [] r = ⊥
-IsRow s (f ∷ others) r = IsInTicks s.time f (pos r.time) × AreInTicks s.value others r.values
+-- under this heading the fields are those of the row, in ticks of the scale
+abbrev pub IsRow : Scale → Heading → List (List ℕ) → Row → Type 0
+IsRow s h [] r = ⊥
+IsRow s h (f ∷ others) r = IsInTicks s.time h.time_digits f (pos r.time) × AreInTicks s.value h.digits others r.values
 
 -- each whole line that is not blank is a row
-pub data AreRowLines (s : Scale) : List Line → List Row → Type 0 where
-  none : AreRowLines s [] []
-  unfinished : {line : Line} → line.whole ≡ false → AreRowLines s (line ∷ []) []
-  blank : {line : Line} {more : List Line} {rows : List Row} → line.whole ≡ true → is_blank_line line ≡ true → AreRowLines s more rows → AreRowLines s (line ∷ more) rows
-  row : {line : Line} {more : List Line} {r : Row} {rows : List Row} → line.whole ≡ true → is_blank_line line ≡ false → IsRow s (fields line) r
-      → AreRowLines s more rows → AreRowLines s (line ∷ more) (r ∷ rows)
+pub data AreRowLines (s : Scale) (h : Heading) : List Line → List Row → Type 0 where
+  none : AreRowLines s h [] []
+  unfinished : {line : Line} → line.whole ≡ false → AreRowLines s h (line ∷ []) []
+  blank : {line : Line} {more : List Line} {rows : List Row} → line.whole ≡ true → is_blank_line line ≡ true → AreRowLines s h more rows → AreRowLines s h (line ∷ more) rows
+  row : {line : Line} {more : List Line} {r : Row} {rows : List Row} → line.whole ≡ true → is_blank_line line ≡ false → IsRow s h (fields line) r
+      → AreRowLines s h more rows → AreRowLines s h (line ∷ more) (r ∷ rows)
 
 -- the first whole line that is not blank is the header
 pub data AreTraceLines (least : Scale) : List Line → Header → List Row → Type 0 where
   blank : {line : Line} {more : List Line} {header : Header} {rows : List Row} → line.whole ≡ true → is_blank_line line ≡ true
       → AreTraceLines least more header rows → AreTraceLines least (line ∷ more) header rows
   heading : {line : Line} {more : List Line} {rows : List Row} (h : Heading) → line.whole ≡ true → is_blank_line line ≡ false
-      → IsHeading (fields line) h → AreRowLines (scale_of least h) more rows
+      → IsHeading (fields line) h → AreRowLines (scale_of least h) h more rows
       → AreTraceLines least (line ∷ more) (record { columns = h.columns; scale = scale_of least h }) rows
 
 -- the header and the rows of these bytes, which the input may have ended, with a scale of at least `least`

@@ -34,6 +34,21 @@ impl Model for Header {
 impl Label {
     ghost use Rattle.std.specs.Prelude.{◌≡◌, IfOk};
     ghost use Rattle.trace_reader.specs.Labels.{column_of};
+    ghost use Rattle.std.specs.Prelude.{bytes_eq};
+
+    /// A column with that name.
+    pub(crate) fn new(name: String, step: bool) -> Label
+        ensures { column_of result ≡ record { name = string_bytes name; step = step } }
+    {
+        Label { name, step }
+    }
+
+    /// Whether the column has that name.
+    pub(crate) fn is_named(&self, name: &[u8]) -> bool
+        ensures { result ≡ bytes_eq name.now (column_of self.now).name }
+    {
+        self.name.as_bytes() == name
+    }
 
     fn copy(&self, alloc: Global) -> Result<Label, Memory>
         ensures { IfOk result (λ l. column_of l ≡ column_of self.now) }
@@ -46,8 +61,20 @@ impl Label {
 }
 
 impl Header {
-    ghost use Rattle.std.specs.Prelude.{◌≡◌, ◌<◌, length, IfOk, slice_index_or};
+    ghost use Rattle.std.specs.Prelude.{◌≡◌, ◌<◌, length, map, IfOk, slice_index_or};
     ghost use Rattle.stl_syntax.specs.Trace.{Column};
+    ghost use Rattle.trace_reader.specs.Labels.{column_of};
+
+    /// A header of these columns.
+    pub(crate) fn of(alloc: Global, labels: Vec<Label>, scale: Scale) -> Header
+        ensures { result ≡ record { columns = map column_of labels.items; scale = scale } }
+    {
+        Header {
+            alloc,
+            labels,
+            scale,
+        }
+    }
 
     /// How many columns there are beside the time.
     pub fn columns(&self) -> usize

@@ -1,7 +1,9 @@
 //! Laws of the definitions, each the contract of a function that does nothing.
 
-ghost use Rattle.std.specs.Prelude.{ℕ, List, ◌++◌, Bool, true, false, Option};
-ghost use Rattle.stl_syntax.specs.Trace.{Row as Values, Header as Columns};
+ghost use Rattle.std.specs.Prelude.{◌≡◌, ℕ, List, ◌++◌, Bool, true, false, Option};
+ghost use Rattle.stl_syntax.specs.Trace.{Row as Values, Header as Columns, Trace as Table};
+ghost use Rattle.stl_syntax.specs.declared.scale.Scale.{Scale as Ticks};
+ghost use Rattle.trace_reader.specs.TraceText.{IsTraceText};
 ghost use Rattle.trace_reader.specs.Plain.{IsPlain, IsTextOf, HasFault};
 ghost use Rattle.trace_reader.specs.declared.refusal.Limits.{Limits as Bounds};
 
@@ -21,4 +23,9 @@ pub fn fault_stays()
 pub fn plain_is_a_trace()
     ensures { (limits : Bounds) (bytes : List ℕ) (header : Option Columns) (rows : List Values)
         → IsPlain limits true bytes header rows → IsTextOf bytes header rows }
+{}
+
+/// Bytes have at most one trace.
+pub fn at_most_one_trace()
+    ensures { (bytes : List ℕ) (least : Ticks) (t u : Table) → IsTraceText bytes least t → IsTraceText bytes least u → t ≡ u }
 {}

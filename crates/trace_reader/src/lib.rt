@@ -3,23 +3,33 @@
 
 mod digits;
 mod event;
+mod field;
 mod header;
+mod heading;
 pub mod laws;
 mod line;
 mod name;
+mod number;
 mod plain;
 mod plain_line;
 mod plain_reading;
 mod plain_table;
+mod reading;
 mod refusal;
+mod room;
 mod row;
+mod row_line;
+mod rows;
+mod table;
 #[cfg(test)]
 mod tests;
 mod trace;
+mod two_rows;
 
 pub use event::{Event, Took};
 pub use header::Header;
-pub use plain::{NotPlain, Rows};
+pub use plain::{NotPlain, PlainRows};
 pub use refusal::{Limits, TraceKind, TraceRefusal};
 pub use row::Row;
+pub use rows::Rows;
 pub use trace::Trace;

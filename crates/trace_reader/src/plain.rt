@@ -10,14 +10,14 @@ pub struct NotPlain;
 
 /// Reads a plain trace piece by piece: the header `time,NAME`, and rows `TIME,VALUE` of whole numbers at rising times.
 #[derive(Drop)]
-pub struct Rows {
+pub struct PlainRows {
     limits: Limits,
     reading: PlainReading,
     refused: bool,
     ended: bool,
 }
 
-impl Model for Rows {
+impl Model for PlainRows {
     ghost use Rattle.trace_reader.specs.Plain.{Reader};
 
     ghost Value = { Reader };
@@ -29,7 +29,7 @@ impl Model for Rows {
     ghost invariant = { IsReader };
 }
 
-impl Rows {
+impl PlainRows {
     ghost use Rattle.std.specs.Prelude.{◌≡◌, ◌↔◌, ◌^◌, ◌<◌, ◌≤◌, List, [], ◌++◌, ℕ, take, length, Some, IsSome, IfOk, IsErr, OnOk, OnErr, true, false};
     ghost use Rattle.stl_syntax.specs.Trace.{Row as Values};
     ghost use Rattle.trace_reader.specs.TraceText.{lines};
@@ -37,13 +37,13 @@ impl Rows {
 
     /// A reader of a trace with at most so many rows and lines, which has read nothing.
     /// It reserves its memory, and the other calls take none.
-    pub fn new(alloc: Global, limits: Limits) -> Result<Rows, Memory>
+    pub fn new(alloc: Global, limits: Limits) -> Result<PlainRows, Memory>
         requires rows { limits.rows ≤ 2 ^ 32 }
         requires lines { limits.lines ≤ 2 ^ 33 }
         ensures limits { IfOk result (λ r. r.limits ≡ limits) }
         ensures empty { IfOk result (λ r. StandsFor r [] []) }
     {
-        Ok(Rows {
+        Ok(PlainRows {
             limits,
             reading: PlainReading::new(alloc)?,
             refused: false,

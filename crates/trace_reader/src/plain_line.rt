@@ -30,7 +30,7 @@ fn read_size(text: &[u8]) -> Option<u32>
 }
 
 /// A size as a value.
-fn value_of(size: u32) -> i32
+pub(crate) fn value_of(size: u32) -> i32
     requires { size ≤ 16777216 }
     ensures value { result ≡ pos size }
     ensures small { nat_abs result ≤ 16777216 }
@@ -39,7 +39,7 @@ fn value_of(size: u32) -> i32
 }
 
 /// The opposite of a size.
-fn opposite_of(size: u32) -> i32
+pub(crate) fn opposite_of(size: u32) -> i32
     requires { size ≤ 16777216 }
     ensures value { result ≡ neg_ℤ (pos size) }
     ensures small { nat_abs result ≤ 16777216 }

@@ -1,12 +1,12 @@
 /// How many rows and lines a trace may have.
-#[derive(Clone, Copy)]
+#[derive(Clone, Copy, Debug, PartialEq, Eq)]
 pub struct Limits {
     pub rows: u64,
     pub lines: u64,
 }
 
 /// What is wrong in a line of a trace.
-#[derive(Drop)]
+#[derive(Clone, Copy, Debug, PartialEq, Eq)]
 pub enum TraceKind {
     Empty,
     BadName { field: u32 },
@@ -24,7 +24,7 @@ pub enum TraceKind {
 }
 
 /// The first fault of a trace's bytes, and its line.
-#[derive(Drop)]
+#[derive(Clone, Copy, Debug, PartialEq, Eq)]
 pub struct TraceRefusal {
     pub line: u64,
     pub kind: TraceKind,

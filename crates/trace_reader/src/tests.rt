@@ -1,12 +1,14 @@
 ghost use Rattle.std.specs.Prelude.{◌≡◌, ◌<◌, ◌≤◌, ◌^◌, IsSome};
 
+mod traces;
+
 use super::*;
 use std::alloc::{AllocError, Global};
 use std::process::Abort;
 use std::test::Fail;
 
 /// Adds what a reader came to.
-fn tell(said: &mut String, reader: &Rows, event: Event) -> Result<(), AllocError>
+fn tell(said: &mut String, reader: &PlainRows, event: Event) -> Result<(), AllocError>
     requires header { event ≡ Event.Header → IsSome reader.now.header }
     requires row { event ≡ Event.Row → 0 < reader.now.count }
 {
@@ -38,7 +40,7 @@ fn told(alloc: Global, text: &[u8], most: usize, rows: u64) -> Result<String, Al
 {
     let mut said = String::new(alloc);
     let limits = Limits { rows, lines: 100 };
-    let Ok(mut reader) = Rows::new(alloc, limits) else {
+    let Ok(mut reader) = PlainRows::new(alloc, limits) else {
         return Err(AllocError);
     };
     let mut rest = text;
@@ -179,7 +181,7 @@ fn a_line_has_at_most_4096_bytes_and_a_name_64(rt: HostRuntime) -> Result<(), Fa
 #[test]
 fn a_refusal_comes_again(rt: HostRuntime) -> Result<(), Fail> {
     let limits = Limits { rows: 9, lines: 2 };
-    let Ok(mut reader) = Rows::new(rt.alloc(), limits) else {
+    let Ok(mut reader) = PlainRows::new(rt.alloc(), limits) else {
         return Err(Fail::from(AllocError));
     };
     let took = reader.push(b"time,x\n0,1\n1,2\n").ok();
@@ -209,7 +211,7 @@ fn a_refusal_comes_again(rt: HostRuntime) -> Result<(), Fail> {
 #[test]
 fn copies_of_a_header_and_a_row_make_a_trace(rt: HostRuntime) -> Result<(), Fail> {
     let limits = Limits { rows: 9, lines: 9 };
-    let Ok(mut reader) = Rows::new(rt.alloc(), limits) else {
+    let Ok(mut reader) = PlainRows::new(rt.alloc(), limits) else {
         return Err(Fail::from(AllocError));
     };
     let header = match reader.push(b"time,x\n") {

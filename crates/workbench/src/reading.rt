@@ -7,7 +7,7 @@ ghost use Rattle.workbench.specs.Reading.{IsReadWhole, IsStop, IsWhole, IsRefuse
 
 use io_edge::Source;
 use std::alloc::Global;
-use trace_reader::{Event, Header, Limits, Row, Rows, Trace};
+use trace_reader::{Event, Header, Limits, PlainRows, Row, Trace};
 
 /// Why no trace was read.
 #[derive(Clone, Copy)]
@@ -55,7 +55,7 @@ fn keep(trace: &mut Option<Trace>, row: &Row) -> Result<(), Stop>
 /// A reader, and what is kept of the trace that it has read.
 #[derive(Drop)]
 struct Reading {
-    rows: Rows,
+    rows: PlainRows,
     trace: Option<Trace>,
 }
 
@@ -154,7 +154,7 @@ pub(crate) fn read_trace<S: Source>(
     ensures later { S.faults input.old ≤ S.faults input.new }
     ensures unread { result ≡ Err Stop.Unread → Rose (S.faults input.old) (S.faults input.new) }
 {
-    let Ok(rows) = Rows::new(alloc, limits) else {
+    let Ok(rows) = PlainRows::new(alloc, limits) else {
         return Err(Stop::NoMemory);
     };
     let mut reading = Reading { rows, trace: None };

@@ -1,0 +1,66 @@
+use crate::field::{count_fields, cut_field};
+use crate::number::{read_time, read_value};
+use crate::room::Heading;
+use crate::{Row, TraceKind};
+
+impl Heading {
+    ghost use Rattle.std.specs.Prelude.{◌≡◌, ◌≤◌, suc, length, Some, MatchResult};
+    ghost use Rattle.trace_reader.specs.LineParts.{fields_of};
+    ghost use Rattle.trace_reader.specs.TraceRefusals.{NumberFaults};
+    ghost use Rattle.trace_reader.specs.RowLines.{IsRowRead, FieldFaults};
+
+    /// Reads the fields of a row into `row`.
+    ///
+    /// # Errors
+    /// The first fault of the fields; then `row` is no row that was read.
+    pub(crate) fn read_row(&self, row: &mut Row, text: &[u8]) -> Result<(), TraceKind>
+        requires { length text.now ≤ 4096 }
+        ensures { MatchResult result
+            (λ _. IsRowRead self.now (fields_of (Some text.now)) row.new)
+            (FieldFaults self.now (fields_of (Some text.now))) }
+    {
+        match self.read_fields(row, text) {
+            Ok(()) => Ok(()),
+            Err(kind) => {
+                let count = count_fields(text);
+                if count as usize == self.columns() + 1 {
+                    Err(kind)
+                } else {
+                    Err(TraceKind::WrongCount { got: count })
+                }
+            }
+        }
+    }
+
+    /// Reads the fields one after another, up to the first fault in one or to a wrong number of them.
+    fn read_fields(&self, row: &mut Row, text: &[u8]) -> Result<(), TraceKind>
+        requires { length text.now ≤ 4096 }
+        ensures { MatchResult result
+            (λ _. IsRowRead self.now (fields_of (Some text.now)) row.new)
+            (λ e. length (fields_of (Some text.now)) ≡ suc (length self.now.heading.columns)
+            → NumberFaults self.now.scale self.now.heading (fields_of (Some text.now)) e) }
+    {
+        let scale = self.scale();
+        let (first, mut left) = cut_field(text);
+        let time = read_time(first, self.time_digits(), scale.time)?;
+        row.begin(time);
+        let mut place = 2;
+        for most in self.digits() {
+            let Some(rest) = left else {
+                return Err(TraceKind::WrongCount {
+                    got: count_fields(text),
+                });
+            };
+            let (field, later) = cut_field(rest);
+            row.add(read_value(field, place, *most, scale.value)?);
+            place += 1;
+            left = later;
+        }
+        if left.is_some() {
+            return Err(TraceKind::WrongCount {
+                got: count_fields(text),
+            });
+        }
+        Ok(())
+    }
+}

@@ -1,0 +1,82 @@
+use crate::room::Heading;
+use crate::{Row, TraceKind};
+use std::marker::Model;
+
+/// The last row, and room for the one that is being read.
+#[derive(Drop)]
+pub(crate) struct TwoRows {
+    first: Row,
+    second: Row,
+    turned: bool,
+}
+
+impl Model for TwoRows {
+    ghost use Rattle.trace_reader.specs.Two.{Two, two_of};
+
+    ghost Value = { Two };
+
+    ghost view = { two_of };
+}
+
+impl TwoRows {
+    ghost use Rattle.std.specs.Prelude.{◌≡◌, ◌≤◌, [], length, Some, MatchResult};
+    ghost use Rattle.trace_reader.specs.LineParts.{fields_of};
+    ghost use Rattle.trace_reader.specs.RowLines.{IsRowRead, FieldFaults};
+
+    /// Two rows at time 0 without values.
+    pub(crate) fn new() -> TwoRows
+        ensures { result.last ≡ record { time = 0; values = [] } }
+    {
+        TwoRows {
+            first: Row::new(),
+            second: Row::new(),
+            turned: false,
+        }
+    }
+
+    /// The last row.
+    pub(crate) fn last(&self) -> &Row
+        ensures { result.now ≡ self.now.last }
+    {
+        if self.turned {
+            &self.second
+        } else {
+            &self.first
+        }
+    }
+
+    /// The row that is being read.
+    pub(crate) fn next(&self) -> &Row
+        ensures { result.now ≡ self.now.next }
+    {
+        if self.turned {
+            &self.first
+        } else {
+            &self.second
+        }
+    }
+
+    /// Reads the fields of a row.
+    ///
+    /// # Errors
+    /// The first fault of the fields.
+    pub(crate) fn read(&mut self, heading: &Heading, text: &[u8]) -> Result<(), TraceKind>
+        requires { length text.now ≤ 4096 }
+        ensures cases { MatchResult result
+            (λ _. IsRowRead heading.now (fields_of (Some text.now)) self.new.next)
+            (FieldFaults heading.now (fields_of (Some text.now))) }
+        ensures last { self.new.last ≡ self.old.last }
+    {
+        if self.turned {
+            return heading.read_row(&mut self.first, text);
+        }
+        heading.read_row(&mut self.second, text)
+    }
+
+    /// The row that was read becomes the last one.
+    pub(crate) fn turn(&mut self)
+        ensures { self.new.last ≡ self.old.next }
+    {
+        self.turned = !self.turned;
+    }
+}
