@@ -1,14 +1,17 @@
 -- Signals moved in time, knot by knot.
-use Rattle.std.proofs.Common.{◌≡◌, ℕ, zero, suc, ◌+◌, ◌*◌, ◌<◌, ◌^◌, ◌⊎◌, inl, inr, List, [], ◌∷◌, length, Some, ℤ, pos, neg_ℤ, refl, sym, ◌∙◌, ap, subst, arith, Bool, IsTrue}
+use Rattle.std.proofs.Common.{◌≡◌, ℕ, zero, suc, ◌+◌, ◌-◌, ◌*◌, ◌<◌, ◌^◌, ◌⊎◌, inl, inr, List, [], ◌∷◌, length, Some, ℤ, pos, neg_ℤ, refl, sym, ◌∙◌, ap, subst, arith, Bool, IsTrue, get_or, negsuc, ◌≤ℤ◌, ◌-ℤ◌, ◌≤◌}
 use Rattle.std.specs.Prelude.{slice_get}
 use Rattle.std.specs.Int.{w64}
-use Rattle.std.proofs.lemmas.Option.{slice_get_past}
+use Rattle.std.proofs.lemmas.Option.{slice_get_past, slice_get-get_or}
+use Rattle.std.proofs.lemmas.Int.{ints}
+use Rattle.std.specs.Prelude.{FitsSigned}
+use Rattle.std.proofs.Common.{le_of_mul-le-mul_right}
 use Rattle.rational.specs.Rational.{Rational, part_above, part_below, add, subtract, whole, FitsFloor, IsWithin}
 use Rattle.rational.specs.Time.{Within, ◌≤ʳ◌, ◌<ʳ◌, ◌≈◌}
 use Rattle.rational.specs.Extended.{Extended, Affine, value_at, ◌≈ᵉ◌}
 use Rattle.rational.proofs.Mixed.{parts}
 use Rattle.rational.proofs.Order.{le_trans, lt_of_lt_of_le, lt_of_le_of_lt, le_of_same, ge_of_same, same_refl, same_sym, same_trans}
-use Rattle.rational.proofs.Shift.{le_whole, lt_whole, lt_shift, same_shift}
+use Rattle.rational.proofs.Shift.{shift_back, le_shift, le_whole, lt_whole, lt_shift, same_shift}
 use Rattle.rational.proofs.AffineLemmas.{same_symᵉ, same_transᵉ, value_same}
 use Rattle.frac128.specs.Value.{value}
 use Rattle.frac128.specs.declared.frac.Frac.{Frac}
@@ -16,7 +19,7 @@ use Rattle.pl_signal.specs.declared.knot.Knot.{Knot}
 use Rattle.pl_signal.specs.Knots.{time, start, stop, HasShape, IsWorth, IsSignal}
 use Rattle.pl_signal.specs.Limits.{IsLimited}
 use Rattle.pl_signal.specs.Building.{GoesOn}
-use Rattle.pl_signal.specs.Moves.{BasesFrom}
+use Rattle.pl_signal.specs.Moves.{BasesFrom, Tells}
 use Rattle.pl_signal.proofs.Values.{next_rises, stop_at, worth_within, worth_at, worth_between, worth_same, one_value}
 use Rattle.pl_signal.proofs.Telling.{IsFunction, TellsSoFar, tells_on}
 
@@ -194,3 +197,62 @@ module _ {P : Type 0} (function : P → Affine) where
   -- where a list begins and ends that was made of one knot
   pub only_ends : (built : List (Knot P)) (point : P) (at : Frac) → built ≡ record { time = at; point = point; after = point } ∷ [] → (start built ≡ value at) × (stop built ≡ value at)
   only_ends built point at e = (ap (λ ks. start ks) e, ap (λ ks. stop ks) e)
+
+  -- the knot before the place that is the length
+  pub last_of : (ks : List (Knot P)) (n : ℕ) → 0 < length ks → n ≡ length ks → (k : Knot P) × (slice_get ks (n - 1) ≡ Some k) × (stop ks ≡ time k)
+  last_of [] n some e = absurd (omega arith)
+  last_of (k ∷ ks) n some e =
+      let here = slice_get-get_or (k ∷ ks) (n - 1) k (omega (arith, some, e)) in
+      (get_or (k ∷ ks) (n - 1) k, here, last_is (k ∷ ks) (n - 1) (get_or (k ∷ ks) (n - 1) k) here (omega (arith, some, e)))
+
+-- a move between two times within 2^34 is not large
+step_small : {t : Rational} (n : ℕ) → IsWithin (2 ^ 34) t → IsWithin (2 ^ 34) (add t (whole (negsuc n))) → suc n ≤ 2 ^ 35
+step_small {t} n h k = le_of_mul-le-mul_right {k = t.den} (omega (arith, h.1.le, k.0.le)) t.positive
+
+pub move_above : {t : Rational} (z : ℤ) → IsWithin (2 ^ 34) t → IsWithin (2 ^ 34) (add t (whole z)) → neg_ℤ (pos (2 ^ 35)) ≤ℤ z
+move_above (pos n) h k = record { le = tt }
+move_above (negsuc n) h k = let s = step_small n h k in omega (arith, ints, s)
+
+pub back_fits : {t : Rational} (z : ℤ) → IsWithin (2 ^ 34) t → IsWithin (2 ^ 34) (add t (whole z)) → FitsSigned w64 z → FitsSigned w64 (pos 0 -ℤ z)
+back_fits z h k f = let low = move_above z h k in omega (arith, ints, low)
+
+pub minus_is : (z : ℤ) → pos 0 -ℤ z ≡ neg_ℤ z
+minus_is z = omega (arith, ints)
+
+-- back from a moved time
+pub shift_back' : {t u : Rational} (z : ℤ) → add t (whole z) ≈ u → t ≈ add u (whole (neg_ℤ z))
+shift_back' {t} {u} z e = same_trans (same_sym (shift_back t z)) (same_shift (neg_ℤ z) e)
+
+-- a knot moved back lies between the ends moved back
+pub shifted_within : {P : Type 0} (function : P → Affine) (ks : List (Knot P)) (i : ℕ) (k : Knot P) (z : ℤ) {from : Rational} → IsSignal function ks → slice_get ks i ≡ Some k → add from (whole z) ≈ start ks
+    → IsWithin (2 ^ 34) from → IsWithin (2 ^ 34) (add (stop ks) (whole (neg_ℤ z))) → IsWithin (2 ^ 34) (add (time k) (whole (neg_ℤ z)))
+shifted_within function ks i k z {from} s e begins low high =
+    let w = at_knot_within function ks i k s e in
+    (le_trans low.0 (le_trans (le_of_same (shift_back' z begins)) (le_shift (neg_ℤ z) w.above)), le_trans (le_shift (neg_ℤ z) w.below) high.1)
+
+-- what tells a part of a signal moved tells the signal moved
+pub tells_through : {P : Type 0} (function : P → Affine) (ks part new : List (Knot P)) (z : ℤ) (from to low high : Rational) → Tells function (IsWorth function ks) low high part
+    → Tells function (λ t v. IsWorth function part (add t (whole z)) v) from (add (stop part) (whole (neg_ℤ z))) new → low ≈ add from (whole z) → high ≈ add to (whole z)
+    → Tells function (λ t v. IsWorth function ks (add t (whole z)) v) from to new
+tells_through function ks part new z from to low high p r begins ends = record {
+  signal = r.signal;
+  begins = r.begins;
+  ends = same_trans r.ends last;
+  worth = λ t v. (
+    λ w. let h = (r.worth t v).0 w in (record { above = h.0.above; below = le_trans h.0.below (le_of_same last) }, ((p.worth (add t (whole z)) v).0 h.1).1),
+    λ h. (r.worth t v).1 (
+      record { above = h.0.above; below = le_trans h.0.below (ge_of_same last) },
+      (p.worth (add t (whole z)) v).1 (record { above = le_trans (le_of_same begins) (le_shift z h.0.above); below = le_trans (le_shift z h.0.below) (ge_of_same ends) }, h.1),
+    ),
+  );
+}
+  where
+    last : add (stop part) (whole (neg_ℤ z)) ≈ to
+    last = same_sym (shift_back' z (same_trans (same_sym ends) (same_sym p.ends)))
+
+pub bases_through : {P : Type 0} (moves : P → Bool) (base : P → ℤ) (made : ℤ → ℤ) (ks part new : List (Knot P)) → ((p : P) → HasShape part p → HasShape ks p) → BasesFrom moves base made part new → BasesFrom moves base made ks new
+bases_through moves base made ks part new inside h = λ p m n. let q = h p m n in (q.0, inside q.0 q.1, q.2, q.3)
+
+-- a time in the domain of a limited signal is within 2^34
+pub clip_within : {P : Type 0} (function : P → Affine) (ks : List (Knot P)) {t : Rational} → 0 < length ks → IsLimited function ks → start ks ≤ʳ t → t ≤ʳ stop ks → IsWithin (2 ^ 34) t
+clip_within function ks some h a b = (le_trans (limited_start function ks some h).0 a, le_trans b (limited_stop function ks some h).1)

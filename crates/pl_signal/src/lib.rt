@@ -12,3 +12,6 @@ pub use builder::Builder;
 pub use faults::{OpFault, WidePair};
 pub use knot::Knot;
 pub use signal::Signal;
+
+#[cfg(test)]
+mod tests;

@@ -1,5 +1,5 @@
 //! Signals on a part of their domain, and moved in time.
-ghost use Rattle.std.specs.Prelude.{◌≡◌, ◌<◌, ◌≤◌, ◌^◌, ◌++◌, ◌∷◌, [], ◌⊎◌, length, slice_range, IfOk, ℤ, ◌-ℤ◌};
+ghost use Rattle.std.specs.Prelude.{◌≡◌, ◌<◌, ◌≤◌, ◌^◌, ◌++◌, ◌∷◌, [], ◌⊎◌, length, slice_range, IfOk, ℤ, ◌-ℤ◌, neg_ℤ};
 ghost use Rattle.std.specs.Int.RustNames.{unsigned_abs};
 ghost use Rattle.rational.specs.Rational.{add, subtract, whole, IsWithin};
 ghost use Rattle.rational.specs.Time.{◌≤ʳ◌, ◌<ʳ◌, ◌≈◌};
@@ -29,6 +29,27 @@ impl<P: Shape> Signal<P> {
         Ok(Signal::from_knots(self.alloc, knots))
     }
 
+    /// The signal from `from` to `to` that is at `t` what this one is at `t + by`.
+    ///
+    /// The base of each of its moving shapes is `by` less than that of a moving shape of this signal.
+    pub fn shift_clip(&self, by: i64, from: &Frac, to: &Frac) -> Result<Signal<P>, Memory>
+        requires limited { IsLimited P.function self.now }
+        requires bases { (p : P) → HasShape self.now p → unsigned_abs (P.base p -ℤ by) ≤ 2 ^ 34 }
+        requires order { value from.now ≤ʳ value to.now }
+        requires first { start self.now ≤ʳ add (value from.now) (whole by) }
+        requires last { add (value to.now) (whole by) ≤ʳ stop self.now }
+        requires from_within { IsWithin (2 ^ 34) (value from.now) }
+        requires to_within { IsWithin (2 ^ 34) (value to.now) }
+        ensures worth { IfOk result
+            (Tells P.function (λ t v. IsWorth P.function self.now (add t (whole by)) v) (value from.now) (value to.now)) }
+        ensures bases { IfOk result (BasesFrom P.moves P.base (λ b. b -ℤ by) self.now) }
+    {
+        let _ = self.len();
+        let (begin, end) = (from.shift(by), to.shift(by));
+        let part = self.restrict(&begin, &end)?;
+        shifted(&part, by, from)
+    }
+
     /// The signal that is at `t` what this one is at `about - t`.
     ///
     /// The base of each of its moving shapes is `about` less that of a moving shape of this signal.
@@ -56,6 +77,29 @@ impl<P: Shape> Signal<P> {
         }
         Ok(built.finish())
     }
+}
+
+/// The whole signal moved, so that it begins at `from`.
+fn shifted<P: Shape>(s: &Signal<P>, by: i64, from: &Frac) -> Result<Signal<P>, Memory>
+    requires bases { (p : P) → HasShape s.now p → unsigned_abs (P.base p -ℤ by) ≤ 2 ^ 34 }
+    requires begins { add (value from.now) (whole by) ≈ start s.now }
+    requires start_within { IsWithin (2 ^ 34) (start s.now) }
+    requires from_within { IsWithin (2 ^ 34) (value from.now) }
+    requires to_within { IsWithin (2 ^ 34) (add (stop s.now) (whole (neg_ℤ by))) }
+    ensures worth { IfOk result (Tells P.function (λ t v. IsWorth P.function s.now (add t (whole by)) v)
+        (value from.now) (add (stop s.now) (whole (neg_ℤ by)))) }
+    ensures bases { IfOk result (BasesFrom P.moves P.base (λ b. b -ℤ by) s.now) }
+{
+    let back = -by;
+    let count = s.len();
+    let mut built = Builder::start(s.alloc, *from, s.knot(0).point.shift(by))?;
+    for i in 1..count {
+        let before = s.knot(i - 1);
+        let knot = s.knot(i);
+        let after = before.after.shift(by);
+        built.step(after, knot.time.shift(back), knot.point.shift(by))?;
+    }
+    Ok(built.finish())
 }
 
 /// The knots of the signal on the stretch.

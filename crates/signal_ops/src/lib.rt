@@ -1,13 +1,9 @@
-// A library with one function.
+//! Signals negated, and the least and the greatest of two, at each time.
 #![tactic(auto)]
 
-ghost use Rattle.std.specs.Prelude.{◌≡◌};
-ghost use Rattle.signal_ops.specs.Echo.{echo_of};
+mod joining;
+mod negation;
+mod pointwise;
 
-// The `ensures` clause is the contract: what `echo` returns is `echo_of` of its argument, a definition
-// in `specs/Echo.antt`, which a caller's clause can cite too.
-pub fn echo(x: usize) -> usize
-    ensures { result ≡ echo_of x }
-{
-    x
-}
+pub use negation::neg;
+pub use pointwise::{lower, upper};

@@ -1,0 +1,4 @@
+pub mod Choices
+pub mod Negating
+pub mod JoiningLemmas
+pub mod CombiningLemmas

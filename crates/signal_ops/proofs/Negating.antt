@@ -1,0 +1,93 @@
+-- A signal negated knot by knot.
+use Rattle.std.proofs.Common.{◌≡◌, ℕ, zero, suc, ◌+◌, ◌^◌, inl, inr, List, [], ◌∷◌, Some, refl, sym, subst, arith}
+use Rattle.std.specs.Prelude.{slice_get}
+use Rattle.rational.specs.Time.{Rational, ◌≈◌}
+use Rattle.rational.specs.Extended.{Extended, minus_infinity, finite, infinity, ◌≈ᵉ◌, opposite, Affine, value_at}
+use Rattle.rational.specs.Affine.{IsBounded, HasBoundedLevel}
+use Rattle.rational.proofs.Order.{le_trans, ge_of_same, lt_of_le_of_lt, same_refl}
+use Rattle.rational.proofs.AffineLemmas.{same_symᵉ, same_transᵉ, opposite_same}
+use Rattle.pl_signal.specs.declared.knot.Knot.{Knot}
+use Rattle.pl_signal.specs.Knots.{time, stop, IsWorth, IsSignal}
+use Rattle.pl_signal.specs.Limits.{IsLimited}
+use Rattle.pl_signal.specs.Building.{GoesOn}
+use Rattle.pl_signal.proofs.Values.{worth_at, worth_between, worth_same, one_value}
+use Rattle.pl_signal.proofs.Telling.{IsFunction, TellsSoFar, tells_on}
+use Rattle.signal_ops.specs.Pointwise.{Negated}
+
+turned : (v w : Extended) → v ≈ᵉ opposite w → w ≈ᵉ opposite v
+turned v w h = same_symᵉ (opposite v) w (twice w (opposite v) (opposite_same v (opposite w) h))
+  where
+    twice : (w x : Extended) → x ≈ᵉ opposite (opposite w) → x ≈ᵉ w
+    twice minus_infinity x h = h
+    twice (finite y) x h = h
+    twice infinity x h = h
+
+double : (v w : Extended) → w ≈ᵉ opposite (opposite v) → w ≈ᵉ v
+double minus_infinity w h = h
+double (finite y) w h = h
+double infinity w h = h
+
+from_opposites : (v w : Extended) → opposite v ≈ᵉ opposite w → v ≈ᵉ w
+from_opposites v w h = same_symᵉ w v (double v w (turned (opposite v) w h))
+
+-- what is bounded stays so by another pair
+bounded_same : (n : ℕ) (v w : Extended) → v ≈ᵉ w → IsBounded n v → IsBounded n w
+bounded_same n v minus_infinity e h = tt
+bounded_same n v infinity e h = tt
+bounded_same n minus_infinity (finite y) e h = absurd e.at_least
+bounded_same n (finite x) (finite y) e h = (le_trans h.0 e.at_most, le_trans e.at_least h.1)
+bounded_same n infinity (finite y) e h = absurd e.at_most
+
+pub level_bounded : (n : ℕ) (f : Affine) (t : Rational) → IsBounded n (value_at f t) → HasBoundedLevel n f
+level_bounded n f t h = λ steady u. bounded_same n (value_at f t) (value_at f u) (steady t u) h
+
+module _ {P : Type 0} (function : P → Affine) where
+  -- the shapes of a limited signal have bounded levels
+  pub point_bounded : (ks : List (Knot P)) (i : ℕ) (k : Knot P) → IsLimited function ks → slice_get ks i ≡ Some k → HasBoundedLevel (2 ^ 31) (function k.point)
+  point_bounded [] i k h e = absurd (cc)
+  point_bounded (l ∷ ks) zero k h e = let s : l ≡ k = cc in subst (λ k. HasBoundedLevel (2 ^ 31) (function k.point)) s (level_bounded (2 ^ 31) (function l.point) (time l) h.0.point)
+  point_bounded (l ∷ ks) (suc i) k h e = point_bounded ks i k h.1 e
+
+  after_at : (ks : List (Knot P)) (i : ℕ) (k n : Knot P) → IsLimited function ks → slice_get ks i ≡ Some k → slice_get ks (suc i) ≡ Some n → HasBoundedLevel (2 ^ 31) (function k.after)
+  after_at [] i k n h e f = absurd (cc)
+  after_at (l ∷ []) zero k n h e f = absurd (cc)
+  after_at (l ∷ m ∷ ks) zero k n h e f = let s : l ≡ k = cc in subst (λ k. HasBoundedLevel (2 ^ 31) (function k.after)) s (level_bounded (2 ^ 31) (function l.after) (time l) h.0.limits.0)
+  after_at (l ∷ ks) (suc i) k n h e f = after_at ks i k n h.1 e f
+
+  pub after_bounded : (ks : List (Knot P)) (i : ℕ) (k n : Knot P) → IsLimited function ks → slice_get ks i ≡ Some k → slice_get ks (i + 1) ≡ Some n → HasBoundedLevel (2 ^ 31) (function k.after)
+  after_bounded ks i k n h e f = after_at ks i k n h e (subst (λ j. slice_get ks j ≡ Some n) next f)
+    where
+      next : i + 1 ≡ suc i
+      next = omega arith
+
+  pub negated_is_function : (ks : List (Knot P)) → IsSignal function ks → IsFunction (Negated (IsWorth function ks))
+  negated_is_function ks s = record {
+    alike = λ t u v w e f h. worth_same function ks (opposite v) (opposite w) e (opposite_same v w f) h;
+    one = λ t v w a b. from_opposites v w (one_value function ks t (opposite v) (opposite w) s a b);
+  }
+
+  -- the first knot
+  pub negated_first : (ks built : List (Knot P)) (k : Knot P) (point : P) → IsSignal function ks → slice_get ks 0 ≡ Some k → ((t : Rational) → value_at (function point) t ≈ᵉ opposite (value_at (function k.point) t))
+      → built ≡ record { time = k.time; point = point; after = point } ∷ [] → TellsSoFar function (Negated (IsWorth function ks)) built
+  negated_first ks built k point s at_0 points e = subst (TellsSoFar function (Negated (IsWorth function ks))) (sym e) (record {
+    signal = record { some = omega arith; each = (record { rising = tt; needed = tt; ends = refl }, tt) };
+    worth = by_knot;
+  })
+    where
+      by_knot : (t : Rational) (v : Extended) → IsWorth function (record { time = k.time; point = point; after = point } ∷ []) t v → Negated (IsWorth function ks) t v
+      by_knot t v (inl w) = worth_same function ks (value_at (function k.point) t) (opposite v) (same_refl t)
+          (turned v (value_at (function k.point) t) (same_transᵉ v (value_at (function point) t) (opposite (value_at (function k.point) t)) w.worth (points t))) (worth_at function ks 0 k t at_0 w.when)
+      by_knot t v (inr (inl w)) = absurd w
+      by_knot t v (inr (inr w)) = absurd w
+
+  -- one knot more
+  pub negated_on : (ks old new : List (Knot P)) (i : ℕ) (k n : Knot P) (after point : P) → IsSignal function ks → slice_get ks i ≡ Some k → slice_get ks (i + 1) ≡ Some n
+      → TellsSoFar function (Negated (IsWorth function ks)) old → stop old ≈ time k
+      → ((t : Rational) → value_at (function after) t ≈ᵉ opposite (value_at (function k.after) t)) → ((t : Rational) → value_at (function point) t ≈ᵉ opposite (value_at (function n.point) t))
+      → GoesOn function old after n.time point new → TellsSoFar function (Negated (IsWorth function ks)) new
+  negated_on ks old new i k n after point s at_i at_next so_far stops afters points on =
+      tells_on function (Negated (IsWorth function ks)) old new after point n.time (negated_is_function ks s) so_far on
+      (λ t a b. worth_same function ks (value_at (function k.after) t) (opposite (value_at (function after) t)) (same_refl t)
+      (turned (value_at (function after) t) (value_at (function k.after) t) (afters t)) (worth_between function ks i k n t at_i at_next (lt_of_le_of_lt (ge_of_same stops) a) b))
+      (worth_same function ks (value_at (function n.point) (time n)) (opposite (value_at (function point) (time n))) (same_refl (time n))
+      (turned (value_at (function point) (time n)) (value_at (function n.point) (time n)) (points (time n))) (worth_at function ks (i + 1) n (time n) at_next (same_refl (time n))))
