@@ -1,5 +1,5 @@
 -- How a signal of an atom grows over the gaps of a trace.
-use Rattle.std.proofs.Common.{◌≡◌, ℕ, zero, suc, ℤ, pos, ◌+◌, ◌-◌, ◌<◌, ◌≤◌, ◌^◌, ◌≤ℤ◌, ◌<ℤ◌, ◌-ℤ◌, ◌⊎◌, inl, inr, Bool, true, false, List, [], ◌∷◌, length, get_or, Some, refl, sym, ap, subst, ◌∙◌, arith}
+use Rattle.std.proofs.Common.{◌≡◌, ℕ, zero, suc, ℤ, pos, nat_abs, ◌+◌, ◌-◌, ◌<◌, ◌≤◌, ◌^◌, ◌≤ℤ◌, ◌<ℤ◌, ◌-ℤ◌, ◌⊎◌, inl, inr, Bool, true, false, List, [], ◌∷◌, length, get_or, Some, refl, sym, ap, subst, ◌∙◌, arith}
 use Rattle.std.specs.Prelude.{slice_get, IsTrue}
 use Rattle.std.proofs.lemmas.Int.{ints}
 use Rattle.std.proofs.lemmas.Option.{slice_get-get_or}
@@ -41,6 +41,8 @@ use Rattle.atom_lines.specs.Told.{Told, by_truth, worth, reading_of}
 use Rattle.atom_lines.specs.Growing.{IsRowBase, IsReach, GoesAlong, HasGrown}
 use Rattle.atom_lines.specs.AtomSignals.{IsAtomSignal}
 use Rattle.atom_lines.proofs.SumLemmas.{tied, expression_at_row, expression_along}
+use Rattle.rational.specs.Affine.{IsBounded}
+use Rattle.atom_lines.proofs.Limited.{bounded_equal, worth_bounded, along_within, limited}
 use Rattle.atom_lines.proofs.Tellings.{worth_same, gives, given, within_same, within_whole}
 
 -- a truth is worth what its comparison is
@@ -87,13 +89,14 @@ module _ {P : Type 0} (function : P → Affine) (base : P → ℤ) (told : Told)
   second = whole (pos g.second)
 
   -- over one shape
-  pub goes_one : (old new : List (Knot P)) (after point : P) (end : Frac) → stop old ≈ first → value end ≈ second → GoesOn function old after end point new
+  pub goes_one : (old new : List (Knot P)) (after point : P) (end : Frac) → g.second < 2 ^ 32 → stop old ≈ first → value end ≈ second → GoesOn function old after end point new
       → ((t : Rational) → first <ʳ t → t <ʳ second → value_at (function after) t ≈ᵉ worth told rel (at (along g) t)) → ((t : Rational) → value_at (function point) t ≈ᵉ worth told rel (whole next))
       → IsRowBase (base after) → IsRowBase (base point) → GoesAlong function base told rel g next old new
-  goes_one old new after point end e h on gap here b c = record {
+  goes_one old new after point end m e h on gap here b c = record {
     signal = on.signal;
     begins = on.begins;
     ends = subst (λ x. x ≈ second) (sym on.ends) h;
+    late = row_within g.second m (subst (λ x. x ≈ second) (sym on.ends) h);
     worth = λ t v w. by_part t v ((on.worth t v).0 w);
     bases = λ p s. by_shape p (on.shapes p s);
   }
@@ -116,17 +119,18 @@ module _ {P : Type 0} (function : P → Affine) (base : P → ℤ) (told : Told)
   Part old t v = IsWorth function old t v ⊎ ((stop old <ʳ t) × (t <ʳ second) × (v ≈ᵉ worth told rel (at (along g) t))) ⊎ ((t ≈ second) × (v ≈ᵉ worth told rel (whole next)))
 
   -- over two, with a point between them
-  pub goes_two : (old mid new : List (Knot P)) (before there after point : P) (turn end : Frac) → stop old ≈ first → value end ≈ second → first <ʳ value turn → value turn <ʳ second
+  pub goes_two : (old mid new : List (Knot P)) (before there after point : P) (turn end : Frac) → g.second < 2 ^ 32 → stop old ≈ first → value end ≈ second → first <ʳ value turn → value turn <ʳ second
       → GoesOn function old before turn there mid → GoesOn function mid after end point new
       → ((t : Rational) → first <ʳ t → t <ʳ value turn → value_at (function before) t ≈ᵉ worth told rel (at (along g) t))
       → ((t : Rational) → t ≈ value turn → value_at (function there) t ≈ᵉ worth told rel (at (along g) t))
       → ((t : Rational) → value turn <ʳ t → t <ʳ second → value_at (function after) t ≈ᵉ worth told rel (at (along g) t))
       → ((t : Rational) → value_at (function point) t ≈ᵉ worth told rel (whole next))
       → ((p : P) → IsRowBase (base p)) → GoesAlong function base told rel g next old new
-  goes_two old mid new before there after point turn end e h low high on off until_then at_turn from_then here b = record {
+  goes_two old mid new before there after point turn end m e h low high on off until_then at_turn from_then here b = record {
     signal = off.signal;
     begins = off.begins ∙ on.begins;
     ends = subst (λ x. x ≈ second) (sym off.ends) h;
+    late = row_within g.second m (subst (λ x. x ≈ second) (sym off.ends) h);
     worth = λ t v w. by_part t v ((off.worth t v).0 w);
     bases = λ p s. inr (b p);
   }
@@ -166,13 +170,16 @@ module _ {P : Type 0} (function : P → Affine) (base : P → ℤ) (told_as : To
       let one : v ≈ᵉ worth told_as a.rel (whole next) = subst (λ q. v ≈ᵉ worth told_as q (whole next)) (tied b i k here a tr for).rel w in
       gives told_as tr i a t v (same_transᵉ v (worth told_as a.rel (whole next)) (worth told_as a.rel (expression a tr t)) one (worth_same told_as a.rel (same_sym is)))
 
-  pub begun : (from : ℤ) (at : Frac) (point : P) → 0 < length tr.rows → from ≡ reach k (values_at tr 0) (values_at tr 0) → value at ≈ row_time (row_of tr 0)
+  pub begun : (from : ℤ) (at : Frac) (point : P) (n : ℕ) → n < 2 ^ 32 → value at ≈ whole (pos n) → nat_abs from ≤ 2 ^ 31 → 0 < length tr.rows → from ≡ reach k (values_at tr 0) (values_at tr 0) → value at ≈ row_time (row_of tr 0)
       → ((t : Rational) → value_at (function point) t ≈ᵉ worth told_as k.rel (whole from)) → IsRowBase (base point)
       → HasGrown function base told_as b i tr 0 (record { time = at; point = point; after = point } ∷ [])
-  begun from at point some e when w c = record {
+  begun from at point n time is size some e when w c = record {
     signal = record { some = omega arith; each = (record { rising = tt; needed = tt; ends = refl }, tt) };
     begins = subst (λ n. value at ≈ whole (pos n)) (sym (first_time_at tr.rows (record { time = 0; values = [] }) some)) when;
     ends = when;
+    early = row_within n time is;
+    late = row_within n time is;
+    small = small;
     bases = by_shape;
     worth = λ a for t v h. by_part a for t v h;
   }
@@ -182,18 +189,28 @@ module _ {P : Type 0} (function : P → Affine) (base : P → ℤ) (told_as : To
       by_shape p (inr (inl s)) = subst (λ q. IsRowBase (base q)) (sym s) c
       by_shape p (inr (inr s)) = absurd s
 
+      small : (t : Rational) (v : Extended) → IsWorth function (record { time = at; point = point; after = point } ∷ []) t v → IsBounded (2 ^ 31) v
+      small t v (inl x) =
+          bounded_equal (2 ^ 31) v (worth told_as k.rel (whole from)) (same_transᵉ v (value_at (function point) t) (worth told_as k.rel (whole from)) x.worth (w t))
+          (worth_bounded told_as k.rel (whole from) (within_whole (2 ^ 31) from size))
+      small t v (inr (inl x)) = absurd x
+      small t v (inr (inr x)) = absurd x
+
       by_part : (a : Atom) → IsFor b i a tr → (t : Rational) (v : Extended) → IsWorth function (record { time = at; point = point; after = point } ∷ []) t v → Gives (reading_of told_as tr) i a t v
       by_part a for t v (inl x) = at_row 0 from a for some e t v (same_trans x.when when) (same_transᵉ v (value_at (function point) t) (worth told_as k.rel (whole from)) x.worth (w t))
       by_part a for t v (inr (inl x)) = absurd x
       by_part a for t v (inr (inr x)) = absurd x
 
-  pub grown_on : (r n : ℕ) (g : Gap) (next : ℤ) (old new : List (Knot P)) → r ≡ suc n → r < length tr.rows → g.first ≡ (row_of tr n).time → g.second ≡ (row_of tr r).time
+  pub grown_on : (r n : ℕ) (g : Gap) (next : ℤ) (old new : List (Knot P)) → nat_abs next ≤ 2 ^ 31 → r ≡ suc n → r < length tr.rows → g.first ≡ (row_of tr n).time → g.second ≡ (row_of tr r).time
       → g.from ≡ reach k (values_at tr n) (values_at tr n) → g.to ≡ reach k (values_at tr n) (values_at tr r) → next ≡ reach k (values_at tr r) (values_at tr r)
       → HasGrown function base told_as b i tr n old → GoesAlong function base told_as k.rel g next old new → HasGrown function base told_as b i tr r new
-  grown_on r n g next old new e within f s from to at_next grown goes = record {
+  grown_on r n g next old new size e within f s from to at_next grown goes = record {
     signal = goes.signal;
     begins = subst (λ x. x ≈ trace.start tr) (sym goes.begins) grown.begins;
     ends = subst (λ m. stop new ≈ whole (pos m)) s goes.ends;
+    early = subst (IsWithin (2 ^ 34)) (sym goes.begins) grown.early;
+    late = goes.late;
+    small = λ t v h. small t v (goes.worth t v h);
     bases = λ p h. by_shape p (goes.bases p h);
     worth = λ a for t v h. by_part a for t v (goes.worth t v h);
   }
@@ -201,6 +218,15 @@ module _ {P : Type 0} (function : P → Affine) (base : P → ℤ) (told_as : To
       by_shape : (p : P) → HasShape old p ⊎ IsRowBase (base p) → IsRowBase (base p)
       by_shape p (inl h) = grown.bases p h
       by_shape p (inr h) = h
+
+      small : (t : Rational) (v : Extended)
+          → IsWorth function old t v ⊎ ((stop old <ʳ t) × (t <ʳ whole (pos g.second)) × (v ≈ᵉ worth told_as k.rel (at (along g) t))) ⊎ ((t ≈ whole (pos g.second)) × (v ≈ᵉ worth told_as k.rel (whole next)))
+          → IsBounded (2 ^ 31) v
+      small t v (inl w) = grown.small t v w
+      small t v (inr (inl (low, high, w))) =
+          let past : whole (pos g.first) <ʳ t = subst (λ m. whole (pos m) <ʳ t) (sym f) (lt_of_le_of_lt (ge_of_same grown.ends) low) in
+          bounded_equal (2 ^ 31) v (worth told_as k.rel (at (along g) t)) w (worth_bounded told_as k.rel (at (along g) t) (along_within g t past high))
+      small t v (inr (inr (when, w))) = bounded_equal (2 ^ 31) v (worth told_as k.rel (whole next)) w (worth_bounded told_as k.rel (whole next) (within_whole (2 ^ 31) next size))
 
       has : AreNeighbours tr (row_of tr n) (row_of tr r)
       has = (n, slice_get-get_or tr.rows n (record { time = 0; values = [] }) (omega (arith, e, within)),
@@ -238,6 +264,7 @@ whole_signal function base told_as b i tr n s e grown = record {
   tells = λ a for. told function (Gives (reading_of told_as tr) i a) (trace.start tr) (trace.stop tr) s (given_is_function told_as tr i a)
       (record { signal = grown.signal; worth = grown.worth a for }) grown.begins ends;
   bases = grown.bases;
+  limited = limited function s grown.signal grown.small grown.early grown.late;
 }
   where
     ends : stop s ≈ trace.stop tr

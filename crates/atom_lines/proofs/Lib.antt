@@ -6,4 +6,5 @@ pub mod Crossings
 pub mod Margins
 pub mod Adding
 pub mod Tellings
+pub mod Limited
 pub mod GrowingLemmas

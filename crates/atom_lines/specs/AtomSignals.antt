@@ -21,3 +21,4 @@ module _ {P : Type 0} (function : P → Affine) (base : P → ℤ) where
     pub ends : knots.stop s ≈ stop tr
     pub tells : (a : Atom) → IsFor b i a tr → Tells function (Gives (reading tr) i a) (start tr) (stop tr) s
     pub bases : (p : P) → HasShape s p → (pos 0 ≤ℤ base p) × (base p <ℤ pos (2 ^ 32))
+    pub limited : IsLimited function s

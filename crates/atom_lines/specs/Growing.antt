@@ -1,6 +1,8 @@
 -- A signal of an atom that grows row by row. What the calls keep; the meaning stands in `AtomSignals`.
 use Rattle.std.specs.Prelude.{◌≡◌, ◌⊎◌, ◌≤◌, ◌^◌, ℕ, ℤ, pos, ◌≤ℤ◌, ◌<ℤ◌, nat_abs, List, Some, slice_get}
 use Rattle.rational.specs.Time.{Rational, ◌<ʳ◌, ◌≈◌, whole}
+use Rattle.rational.specs.Rational.{IsWithin}
+use Rattle.rational.specs.Affine.{IsBounded}
 use Rattle.rational.specs.Line.{at}
 use Rattle.rational.specs.Extended.{Extended, Affine, ◌≈ᵉ◌}
 use Rattle.pl_signal.specs.declared.knot.Knot.{Knot}
@@ -37,6 +39,7 @@ module _ {P : Type 0} (function : P → Affine) (base : P → ℤ) where
     pub signal : IsSignal function new
     pub begins : start new ≡ start old
     pub ends : stop new ≈ whole (pos g.second)
+    pub late : IsWithin (2 ^ 34) (stop new)
     pub worth : (t : Rational) (v : Extended) → IsWorth function new t v
         → IsWorth function old t v ⊎ ((stop old <ʳ t) × (t <ʳ whole (pos g.second)) × (v ≈ᵉ worth told rel (at (along g) t))) ⊎ ((t ≈ whole (pos g.second)) × (v ≈ᵉ worth told rel (whole next)))
     pub bases : (p : P) → HasShape new p → HasShape old p ⊎ IsRowBase (base p)
@@ -46,5 +49,8 @@ module _ {P : Type 0} (function : P → Affine) (base : P → ℤ) where
     pub signal : IsSignal function s
     pub begins : start s ≈ trace.start tr
     pub ends : stop s ≈ row_time (row_of tr k)
+    pub early : IsWithin (2 ^ 34) (start s)
+    pub late : IsWithin (2 ^ 34) (stop s)
+    pub small : (t : Rational) (v : Extended) → IsWorth function s t v → IsBounded (2 ^ 31) v
     pub bases : (p : P) → HasShape s p → IsRowBase (base p)
     pub worth : (a : Atom) → IsFor b i a tr → (t : Rational) (v : Extended) → IsWorth function s t v → Gives (reading_of told tr) i a t v

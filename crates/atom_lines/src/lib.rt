@@ -18,3 +18,6 @@ pub use points::{margin_piece, margin_point, truth_piece, truth_point};
 pub use signal::{AtomShape, atom_signal};
 pub use truth::TruthPiece;
 pub use tying::{BindFault, bind};
+
+#[cfg(test)]
+mod tests;

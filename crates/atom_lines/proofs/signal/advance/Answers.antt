@@ -1,4 +1,4 @@
-use Rattle.std.proofs.Common.{rules, ◌≡◌, ◌<◌, ◌∙◌, ◌-◌, suc, List, ap, sym, subst, pos, refl, length, get_or, to_z, of_z, [], arith}
+use Rattle.std.proofs.Common.{rules, ◌≡◌, ◌<◌, ◌≤◌, ◌^◌, nat_abs, ◌∙◌, ◌-◌, suc, List, ap, sym, subst, pos, refl, length, get_or, to_z, of_z, [], arith}
 use Rattle.std.specs.Prelude.{ℤ}
 use Rattle.std.specs.Int.{w64}
 use Rattle.std.proofs.lemmas.Int.{to_z-of_z}
@@ -6,6 +6,7 @@ use Rattle.stl_syntax.specs.Trace.{Row, Trace, IsTrace}
 use Rattle.atom_lines.specs.Rows.{row_of, values_at}
 use Rattle.atom_lines.specs.Sums.{reach}
 use Rattle.atom_lines.specs.Growing.{GoesAlong}
+use Rattle.atom_lines.proofs.Adding.{reach_small}
 use Rattle.atom_lines.proofs.Columns.{next_row}
 use Rattle.atom_lines.proofs.GrowingLemmas.{grown_on}
 use Rattle.atom_lines.proofs.signal.advance.Goals as goal
@@ -38,5 +39,7 @@ returns-clause-grown g c =
     let same : to_z w64 (of_z w64 c.reach_of-next.result) ≡ c.reach_of-next.result = search (rules, to_z-of_z) in
     let goes : GoesAlong g.P.Shape.function g.P.Shape.base g.P.Piecewise.told k.rel c.gap_on-gap.result c.reach_of-next.result c.args.signal.now c.go_on.new.signal =
     subst (λ n. GoesAlong g.P.Shape.function g.P.Shape.base g.P.Piecewise.told k.rel c.gap_on-gap.result n c.args.signal.now c.go_on.new.signal) same c.in_ok-go_on.ensures in
+    let size : nat_abs c.reach_of-next.result ≤ 2 ^ 31 =
+    subst (λ n. nat_abs n ≤ 2 ^ 31) (sym c.reach_of-next.ensures.value) (reach_small k (values_at y.trace.now y.row) (values_at y.trace.now y.row) c.atom-atom.ensures.sound.limit c.reach_of-next.ensures.small) in
     grown_on g.P.Shape.function g.P.Shape.base g.P.Piecewise.told b c.args.node tr k c.atom-atom.ensures.at c.args.r (c.args.r - 1) c.gap_on-gap.result c.reach_of-next.result c.args.signal.now c.go_on.new.signal
-    e c.requires.within (c.gap_on-gap.ensures.first ∙ c.time.ensures d) (c.gap_on-gap.ensures.second ∙ c.time-2.ensures d) from to next c.requires.grown goes
+    size e c.requires.within (c.gap_on-gap.ensures.first ∙ c.time.ensures d) (c.gap_on-gap.ensures.second ∙ c.time-2.ensures d) from to next c.requires.grown goes

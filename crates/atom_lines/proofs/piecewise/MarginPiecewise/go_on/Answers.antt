@@ -25,9 +25,10 @@ returns c =
     let is : value c.of-end.result ≈ whole (pos g.second) = rw end at c.of-end.ensures.value in
     let same : to_z w64 (of_z w64 c.args.next) ≡ c.args.next = search (rules, to_z-of_z) in
     let first : g.first < 4294967296 = omega arith in
+    let second : g.second < 4294967296 = omega arith in
     let here : (t : Rational) → value_at (margin_function c.margin_at.result) t ≈ᵉ worth by_margin c.args.rel (whole c.args.next) =
     λ t. subst (λ n. value_at (margin_function c.margin_at.result) t ≈ᵉ worth by_margin c.args.rel (whole n)) same (c.margin_at.ensures.worth t) in
     on_ok_weaker c.step.result
-    (λ on. goes_one margin_function margin_base by_margin c.args.rel g c.args.next c.args.signal.now c.step.new.self c.margin_between.result c.margin_at.result c.of-end.result c.requires.begins is on
+    (λ on. goes_one margin_function margin_base by_margin c.args.rel g c.args.next c.args.signal.now c.step.new.self c.margin_between.result c.margin_at.result c.of-end.result second c.requires.begins is on
     (λ t a b. c.margin_between.ensures.worth t) here
     (margin_row_base c.margin_between.result g.first first c.margin_between.ensures.base) (margin_row_base c.margin_at.result g.first first (λ r. absurd (true≢false (sym r ∙ c.margin_at.ensures.level)))) ) c.step.ensures.ok
