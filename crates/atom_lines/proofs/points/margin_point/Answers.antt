@@ -1,0 +1,27 @@
+use Rattle.std.proofs.Common.{rules, ◌≡◌, ◌∙◌, ap, sym, subst, to_z, of_z}
+use Rattle.std.specs.Int.{w64}
+use Rattle.std.proofs.lemmas.Int.{to_z-of_z}
+use Rattle.rational.specs.Rational.{whole}
+use Rattle.rational.specs.Extended.{finite, value_at, ◌≈ᵉ◌}
+use Rattle.rational.proofs.Order.{same_sym}
+use Rattle.rational.proofs.AffineLemmas.{same_transᵉ, finite_same}
+use Rattle.value_laws.specs.Margins.{margin_function}
+use Rattle.stl_syntax.specs.Truth.{expression}
+use Rattle.stl_syntax.specs.SupInf.{margin}
+use Rattle.atom_lines.specs.Sums.{reach}
+use Rattle.atom_lines.proofs.Margins.{margin_same}
+use Rattle.atom_lines.proofs.SumLemmas.{tied, expression_at_row}
+use Rattle.atom_lines.proofs.points.margin_point.Goals as goal
+
+pub returns-clause-margin : goal.returns-clause-margin
+returns-clause-margin c = λ a tr t for has e.
+    let b = c.args.bound.now in
+    let k = c.atom-atom.result.now in
+    let r = c.args.row.now in
+    let f = margin_function c.margin_at.result in
+    let sum : to_z w64 (of_z w64 c.reach_of.result) ≡ reach k r.values r.values = search (rules, to_z-of_z) in
+    let rel = (tied b c.args.node k c.atom-atom.ensures.at a tr for).rel in
+    let here : value_at f t ≈ᵉ finite (margin a.rel (whole (reach k r.values r.values))) =
+    subst (λ q. value_at f t ≈ᵉ finite (margin q (whole (reach k r.values r.values)))) rel (subst (λ n. value_at f t ≈ᵉ finite (margin k.rel (whole n))) sum (c.margin_at.ensures.worth t)) in
+    same_transᵉ (value_at f t) (finite (margin a.rel (whole (reach k r.values r.values)))) (finite (margin a.rel (expression a tr t))) here
+    (finite_same (margin_same a.rel (same_sym (expression_at_row b c.args.node k c.atom-atom.ensures.at a tr for r t has e))))

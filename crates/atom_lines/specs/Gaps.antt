@@ -1,0 +1,13 @@
+-- The gap between two rows, and an atom's sum, less its constant, on it.
+use Rattle.std.specs.Prelude.{◌≡◌, ◌-◌, ◌<◌, pos, ◌-ℤ◌, ◌⊎◌, ◌<ℤ◌}
+use Rattle.std.proofs.Math.Nat.{sub-pos_iff_lt}
+use Rattle.rational.specs.Line.{Line, ramp_line}
+use Rattle.atom_lines.specs.declared.gap.Gap.{Gap}
+
+-- the line of the sum
+abbrev pub along : Gap → Line
+along g = ramp_line (pos g.first) g.from (g.to -ℤ g.from) (g.second - g.first) (sub-pos_iff_lt.1 g.rising)
+
+-- the sum has opposite signs at the two ends
+abbrev pub Passes : Gap → Type 0
+Passes g = ((g.from <ℤ pos 0) × (pos 0 <ℤ g.to)) ⊎ ((pos 0 <ℤ g.from) × (g.to <ℤ pos 0))

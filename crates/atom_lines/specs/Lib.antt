@@ -1,0 +1,11 @@
+pub mod Binding
+pub mod Faults
+pub mod Sums
+pub mod Rows
+pub mod Told
+pub mod Gaps
+pub mod Pieces
+pub mod Points
+pub mod Growing
+pub mod AtomSignals
+pub mod Signs

@@ -1,0 +1,23 @@
+//! Atoms over the rows of a trace: their truth and their margins at rows, on the gaps between rows, and over a whole trace.
+#![tactic(auto)]
+
+mod bound;
+mod cells;
+mod gap;
+mod margin;
+mod piecewise;
+mod points;
+mod signal;
+mod sum;
+mod tied;
+mod truth;
+mod tying;
+
+pub use bound::Bound;
+pub use points::{margin_piece, margin_point, truth_piece, truth_point};
+pub use signal::{AtomShape, atom_signal};
+pub use truth::TruthPiece;
+pub use tying::{BindFault, bind};
+
+#[cfg(test)]
+mod tests;

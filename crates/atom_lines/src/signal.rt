@@ -1,0 +1,161 @@
+//! The signal of an atom over a whole trace.
+ghost use Rattle.std.specs.Prelude.{◌≡◌, ◌<◌, ◌-◌, length, IfOk};
+ghost use Rattle.stl_syntax.specs.Trace.{Trace as Table};
+ghost use Rattle.stl_syntax.specs.SupInf.{Reading};
+ghost use Rattle.atom_lines.specs.Binding.{IsAtomNode};
+ghost use Rattle.atom_lines.specs.AtomSignals.{IsAtomSignal};
+ghost use Rattle.atom_lines.specs.Growing.{HasGrown, IsReachAt};
+ghost use Rattle.atom_lines.specs.Told.{reading_of};
+
+use crate::bound::Bound;
+use crate::cells::row_at;
+use crate::piecewise::Piecewise;
+use crate::points::gap_on;
+use crate::sum::reach_of;
+use crate::tied::BoundAtom;
+use frac128::{Frac, Memory};
+use pl_signal::{Builder, Signal};
+use std::alloc::Global;
+use trace_reader::Trace;
+use value_laws::{Margin, Shape, Truth};
+
+/// A shape in which an atom is told over a whole trace: by its truth or by its margin.
+pub trait AtomShape: Shape {
+    /// How the trace is read: as truths, 1 and -1, or as margins.
+    ghost reading: { Table → Reading };
+
+    /// The atom's truth or margin at every time of the trace.
+    fn of_atom(
+        alloc: Global,
+        bound: &Bound,
+        node: u32,
+        trace: &Trace,
+    ) -> Result<Signal<Self>, Memory>
+        requires atom { IsAtomNode bound.now node }
+        requires columns { length trace.now.header.columns ≡ bound.now.width }
+        requires some { 0 < length trace.now.rows }
+        ensures { IfOk result (IsAtomSignal Self.function Self.base reading bound.now node trace.now) };
+}
+
+impl AtomShape for Truth {
+    ghost use Rattle.stl_syntax.specs.SupInf.{truths};
+
+    ghost reading = { truths };
+
+    fn of_atom(
+        alloc: Global,
+        bound: &Bound,
+        node: u32,
+        trace: &Trace,
+    ) -> Result<Signal<Truth>, Memory> {
+        signal_of::<Truth>(alloc, bound, node, trace)
+    }
+}
+
+impl AtomShape for Margin {
+    ghost use Rattle.stl_syntax.specs.SupInf.{margins};
+
+    ghost reading = { margins };
+
+    fn of_atom(
+        alloc: Global,
+        bound: &Bound,
+        node: u32,
+        trace: &Trace,
+    ) -> Result<Signal<Margin>, Memory> {
+        signal_of::<Margin>(alloc, bound, node, trace)
+    }
+}
+
+/// The signal of the atom at a node over the whole trace, in one pass over the rows.
+///
+/// It has the knots that are needed and no others. The trace has a row, and the columns of the header that was bound.
+pub fn atom_signal<P: AtomShape>(
+    alloc: Global,
+    bound: &Bound,
+    node: u32,
+    trace: &Trace,
+) -> Result<Signal<P>, Memory>
+    requires atom { IsAtomNode bound.now node }
+    requires columns { length trace.now.header.columns ≡ bound.now.width }
+    requires some { 0 < length trace.now.rows }
+    ensures { IfOk result (IsAtomSignal P.function P.base P.reading bound.now node trace.now) }
+{
+    P::of_atom(alloc, bound, node, trace)
+}
+
+/// Goes on to row `r`, where the sum at the row before is `from`. The answer is the sum at row `r`.
+fn advance<P: Piecewise>(
+    signal: &mut Builder<P>,
+    bound: &Bound,
+    node: u32,
+    trace: &Trace,
+    r: usize,
+    from: i64,
+) -> Result<i64, Memory>
+    requires atom { IsAtomNode bound.now node }
+    requires columns { length trace.now.header.columns ≡ bound.now.width }
+    requires later { 0 < r }
+    requires within { r < length trace.now.rows }
+    requires from { IsReachAt bound.now node trace.now (r - 1) from }
+    requires grown { HasGrown P.function P.base P.told bound.now node trace.now (r - 1) signal.old }
+    ensures next { IfOk result (IsReachAt bound.now node trace.now r) }
+    ensures grown { IfOk result (λ _. HasGrown P.function P.base P.told bound.now node trace.now r signal.new) }
+{
+    let atom = bound.atom(node);
+    let first = row_at(trace, r - 1);
+    let second = row_at(trace, r);
+    let gap = gap_on(atom, trace.time(r - 1), from, &first, trace.time(r), &second);
+    let next = reach_of(atom, &second, &second);
+    P::go_on(signal, atom.rel, &gap, next)?;
+    Ok(next)
+}
+
+/// The sum at the first row.
+fn first_sum(bound: &Bound, node: u32, trace: &Trace) -> i64
+    requires atom { IsAtomNode bound.now node }
+    requires columns { length trace.now.header.columns ≡ bound.now.width }
+    requires some { 0 < length trace.now.rows }
+    ensures { IsReachAt bound.now node trace.now 0 result }
+{
+    let row = row_at(trace, 0);
+    reach_of(bound.atom(node), &row, &row)
+}
+
+/// The signal at the first row alone, where the sum is `from`.
+fn begin<P: Piecewise>(
+    alloc: Global,
+    bound: &Bound,
+    node: u32,
+    trace: &Trace,
+    from: i64,
+) -> Result<Builder<P>, Memory>
+    requires atom { IsAtomNode bound.now node }
+    requires some { 0 < length trace.now.rows }
+    requires from { IsReachAt bound.now node trace.now 0 from }
+    ensures { IfOk result (HasGrown P.function P.base P.told bound.now node trace.now 0) }
+{
+    let atom = bound.atom(node);
+    let at = Frac::of(i64::from(trace.time(0)));
+    Builder::start(alloc, at, P::point(atom.rel, from))
+}
+
+/// The signal of the atom at a node, row by row.
+fn signal_of<P: Piecewise>(
+    alloc: Global,
+    bound: &Bound,
+    node: u32,
+    trace: &Trace,
+) -> Result<Signal<P>, Memory>
+    requires atom { IsAtomNode bound.now node }
+    requires columns { length trace.now.header.columns ≡ bound.now.width }
+    requires some { 0 < length trace.now.rows }
+    ensures { IfOk result (IsAtomSignal P.function P.base (reading_of P.told) bound.now node trace.now) }
+{
+    let mut from = first_sum(bound, node, trace);
+    let mut signal = begin::<P>(alloc, bound, node, trace, from)?;
+    for r in 1..trace.rows() {
+        from = advance(&mut signal, bound, node, trace, r, from)?;
+    }
+    Ok(signal.finish())
+}

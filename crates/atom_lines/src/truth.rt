@@ -1,0 +1,79 @@
+//! The truth of atoms.
+ghost use Rattle.std.specs.Prelude.{◌≡◌, ◌↔◌, ◌≤◌, ◌^◌, pos, IsTrue};
+ghost use Rattle.rational.specs.Rational.{◌≈◌, whole};
+ghost use Rattle.rational.specs.Line.{at};
+ghost use Rattle.frac128.specs.Value.{value, denominator};
+ghost use Rattle.stl_syntax.specs.Truth.{compares};
+ghost use Rattle.atom_lines.specs.Gaps.{along, Passes};
+ghost use Rattle.atom_lines.specs.Pieces.{TellsGap};
+
+use crate::gap::Gap;
+use frac128::Frac;
+use stl_syntax::Rel;
+use value_laws::Truth;
+
+/// An atom's truth on the open gap between two rows.
+#[derive(Clone, Copy, Debug)]
+pub enum TruthPiece {
+    /// One truth on the whole gap.
+    Whole(Truth),
+    /// The truth turns over at the time `at`, which lies inside the gap: it is `before` up to that time, `point` at it, and `after`
+    /// from it on.
+    Split {
+        before: Truth,
+        at: Frac,
+        point: Truth,
+        after: Truth,
+    },
+}
+
+/// The truth of a comparison whose sum lies `value` above its constant.
+pub(crate) fn truth_at(rel: Rel, value: i64) -> Truth
+    ensures { result.holds ≡ compares rel (whole value) }
+{
+    let holds = match rel {
+        Rel::AtLeast => value >= 0,
+        Rel::Above => value > 0,
+        Rel::AtMost => value <= 0,
+        Rel::Below => value < 0,
+    };
+    Truth::of(holds)
+}
+
+/// The time inside the gap at which a sum that changes its sign is 0.
+fn crossing(gap: &Gap) -> Frac
+    requires { Passes gap.now }
+    ensures zero { at (along gap.now) (value result) ≈ whole (pos 0) }
+    ensures small { denominator result ≤ 2 ^ 31 }
+{
+    let before = gap.from.unsigned_abs();
+    let rise = before + gap.to.unsigned_abs();
+    let num = u128::from(gap.first) * u128::from(rise)
+        + u128::from(before) * u128::from(gap.second - gap.first);
+    match Frac::make(num as i128, i128::from(rise)) {
+        Ok(time) => time,
+        Err(_) => unreachable!(),
+    }
+}
+
+/// Whether the sum has opposite signs at the two ends.
+fn changes_sign(gap: &Gap) -> bool
+    ensures { IsTrue result ↔ Passes gap.now }
+{
+    gap.from < 0 && gap.to > 0 || gap.from > 0 && gap.to < 0
+}
+
+/// The truth of a comparison on the open gap.
+pub(crate) fn truth_between(rel: Rel, gap: &Gap) -> TruthPiece
+    ensures { TellsGap (whole (pos gap.now.first)) (whole (pos gap.now.second)) (λ t. compares rel (at (along gap.now) t)) result }
+{
+    if changes_sign(gap) {
+        return TruthPiece::Split {
+            before: truth_at(rel, gap.from),
+            at: crossing(gap),
+            point: truth_at(rel, 0),
+            after: truth_at(rel, gap.to),
+        };
+    }
+    TruthPiece::Whole(truth_at(rel, gap.from + gap.to))
+}
