@@ -69,7 +69,7 @@ number_exact digits decimals h = by_case (without_ends decimals)
         let a : all is_digit (w.front ++ w.last ∷ []) ≡ true = ap (λ z. all is_digit z) (sym w.is) ∙ all-without_zeros decimals h in
         let d = last_digit w.front w.last a in
         let e : decimal_value 0 (digits ++ without_zeros decimals) ≡ decimal_value 0 (digits ++ w.front ++ w.last ∷ []) =
-            ap (λ z. decimal_value 0 (digits ++ z)) w.is ∙ ap (λ z. decimal_value 0 z) (sym (append_assoc digits w.front (w.last ∷ []))) in
+        ap (λ z. decimal_value 0 (digits ++ z)) w.is ∙ ap (λ z. decimal_value 0 z) (sym (append_assoc digits w.front (w.last ∷ []))) in
         inr (λ x. last_uneven 0 (digits ++ w.front) w.last d w.other (ap (λ z. z % 10) (sym e) ∙ x))
       where
         last_digit : (front : List ℕ) (c : ℕ) → all is_digit (front ++ c ∷ []) ≡ true → is_digit c ≡ true
@@ -215,20 +215,23 @@ module _ (s : Scale) (some : 0 < s.time) where
     formula_any : {k : ℕ} {ts : List Token} {ns : List Node} → IsFormula s k ts ns → AreExact ts → time_digits ts ≡ s.time → Any HasUnevenBound ns
     formula_any (disjunct d) x e = disjunct_any d x e
     formula_any (implies {k = k} {ts = ts} {us} {ns} {ms} d g) x e = elim (by_sides ts us (codes "implies") (disjunct_ends d) e) [
-      inl f ↦ in_left HasUnevenBound ns ms _ (disjunct_any d (exact_left ts (word (codes "implies") ∷ us) x) f)
-      | inr f ↦ in_right HasUnevenBound ns ms _ (formula_any g (exact_right ts (word (codes "implies") ∷ us) x) f) ]
+      | inl f ↦ in_left HasUnevenBound ns ms _ (disjunct_any d (exact_left ts (word (codes "implies") ∷ us) x) f)
+      | inr f ↦ in_right HasUnevenBound ns ms _ (formula_any g (exact_right ts (word (codes "implies") ∷ us) x) f)
+    ]
 
     disjunct_any : {k : ℕ} {ts : List Token} {ns : List Node} → IsDisjunct s k ts ns → AreExact ts → time_digits ts ≡ s.time → Any HasUnevenBound ns
     disjunct_any (conjunct d) x e = conjunct_any d x e
     disjunct_any (or {k = k} {ts = ts} {us} {ns} {ms} d g) x e = elim (by_sides ts us (codes "or") (disjunct_ends d) e) [
-      inl f ↦ in_left HasUnevenBound ns ms _ (disjunct_any d (exact_left ts (word (codes "or") ∷ us) x) f)
-      | inr f ↦ in_right HasUnevenBound ns ms _ (conjunct_any g (exact_right ts (word (codes "or") ∷ us) x) f) ]
+      | inl f ↦ in_left HasUnevenBound ns ms _ (disjunct_any d (exact_left ts (word (codes "or") ∷ us) x) f)
+      | inr f ↦ in_right HasUnevenBound ns ms _ (conjunct_any g (exact_right ts (word (codes "or") ∷ us) x) f)
+    ]
 
     conjunct_any : {k : ℕ} {ts : List Token} {ns : List Node} → IsConjunct s k ts ns → AreExact ts → time_digits ts ≡ s.time → Any HasUnevenBound ns
     conjunct_any (timed d) x e = timed_any d x e
     conjunct_any (and {k = k} {ts = ts} {us} {ns} {ms} d g) x e = elim (by_sides ts us (codes "and") (conjunct_ends d) e) [
-      inl f ↦ in_left HasUnevenBound ns ms _ (conjunct_any d (exact_left ts (word (codes "and") ∷ us) x) f)
-      | inr f ↦ in_right HasUnevenBound ns ms _ (timed_any g (exact_right ts (word (codes "and") ∷ us) x) f) ]
+      | inl f ↦ in_left HasUnevenBound ns ms _ (conjunct_any d (exact_left ts (word (codes "and") ∷ us) x) f)
+      | inr f ↦ in_right HasUnevenBound ns ms _ (timed_any g (exact_right ts (word (codes "and") ∷ us) x) f)
+    ]
 
     timed_any : {k : ℕ} {ts : List Token} {ns : List Node} → IsTimed s k ts ns → AreExact ts → time_digits ts ≡ s.time → Any HasUnevenBound ns
     timed_any (operand p) x e = operand_any p x e
@@ -238,35 +241,43 @@ module _ (s : Scale) (some : 0 < s.time) where
         let z : AreExact (us ++ vs) = exact_right ts (word (codes "until") ∷ (us ++ vs)) y in
         let n : Node = Until (top k ns) (top (k + length ns) ms) a b in
         elim (by_sides ts (us ++ vs) (codes "until") (operand_ends p) f) [
-          inl g ↦ in_left HasUnevenBound ns ms n (operand_any p (exact_left ts (word (codes "until") ∷ (us ++ vs)) y) g)
+          | inl g ↦ in_left HasUnevenBound ns ms n (operand_any p (exact_left ts (word (codes "until") ∷ (us ++ vs)) y) g)
           | inr g ↦ elim (of_max (time_digits us) (time_digits vs) s.time (sym (window_max vs w) ∙ g)) [
-            inl h ↦ in_last HasUnevenBound (ns ++ ms) n (window_any w (exact_left us vs z) some h)
-            | inr h ↦ in_right HasUnevenBound ns ms n (operand_any q (exact_right us vs z) h) ] ]
+            | inl h ↦ in_last HasUnevenBound (ns ++ ms) n (window_any w (exact_left us vs z) some h)
+            | inr h ↦ in_right HasUnevenBound ns ms n (operand_any q (exact_right us vs z) h)
+          ]
+        ]
     timed_any (since {k = k} {a = a} {b} {ts = ts} {us} {vs} {ns} {ms} p w q) x e =
         let y : AreExact (ts ++ word (codes "since") ∷ (us ++ vs)) = rw (append_assoc ts (word (codes "since") ∷ us) vs) at x in
         let f : time_digits (ts ++ word (codes "since") ∷ (us ++ vs)) ≡ s.time = ap time_digits (sym (append_assoc ts (word (codes "since") ∷ us) vs)) ∙ e in
         let z : AreExact (us ++ vs) = exact_right ts (word (codes "since") ∷ (us ++ vs)) y in
         let n : Node = Since (top k ns) (top (k + length ns) ms) a b in
         elim (by_sides ts (us ++ vs) (codes "since") (operand_ends p) f) [
-          inl g ↦ in_left HasUnevenBound ns ms n (operand_any p (exact_left ts (word (codes "since") ∷ (us ++ vs)) y) g)
+          | inl g ↦ in_left HasUnevenBound ns ms n (operand_any p (exact_left ts (word (codes "since") ∷ (us ++ vs)) y) g)
           | inr g ↦ elim (of_max (time_digits us) (time_digits vs) s.time (sym (since_max vs w) ∙ g)) [
-            inl h ↦ in_last HasUnevenBound (ns ++ ms) n (since_any w (exact_left us vs z) some h)
-            | inr h ↦ in_right HasUnevenBound ns ms n (operand_any q (exact_right us vs z) h) ] ]
+            | inl h ↦ in_last HasUnevenBound (ns ++ ms) n (since_any w (exact_left us vs z) some h)
+            | inr h ↦ in_right HasUnevenBound ns ms n (operand_any q (exact_right us vs z) h)
+          ]
+        ]
 
     operand_any : {k : ℕ} {ts : List Token} {ns : List Node} → IsOperand s k ts ns → AreExact ts → time_digits ts ≡ s.time → Any HasUnevenBound ns
     operand_any (not {k = k} {ts} {ns} p) x e = any_left HasUnevenBound ns (Not (top k ns) ∷ []) (operand_any p x e)
     operand_any (eventually {k = k} {a} {b} {a_in} {b_in} {ts} {us} {ns} w p) x e = elim (of_max (time_digits us) (time_digits ts) s.time (sym (window_max ts w) ∙ e)) [
-      inl h ↦ in_last HasUnevenBound ns (Eventually (top k ns) a b a_in b_in) (window_any w (exact_left us ts x) some h)
-      | inr h ↦ any_left HasUnevenBound ns (Eventually (top k ns) a b a_in b_in ∷ []) (operand_any p (exact_right us ts x) h) ]
+      | inl h ↦ in_last HasUnevenBound ns (Eventually (top k ns) a b a_in b_in) (window_any w (exact_left us ts x) some h)
+      | inr h ↦ any_left HasUnevenBound ns (Eventually (top k ns) a b a_in b_in ∷ []) (operand_any p (exact_right us ts x) h)
+    ]
     operand_any (always {k = k} {a} {b} {a_in} {b_in} {ts} {us} {ns} w p) x e = elim (of_max (time_digits us) (time_digits ts) s.time (sym (window_max ts w) ∙ e)) [
-      inl h ↦ in_last HasUnevenBound ns (Always (top k ns) a b a_in b_in) (window_any w (exact_left us ts x) some h)
-      | inr h ↦ any_left HasUnevenBound ns (Always (top k ns) a b a_in b_in ∷ []) (operand_any p (exact_right us ts x) h) ]
+      | inl h ↦ in_last HasUnevenBound ns (Always (top k ns) a b a_in b_in) (window_any w (exact_left us ts x) some h)
+      | inr h ↦ any_left HasUnevenBound ns (Always (top k ns) a b a_in b_in ∷ []) (operand_any p (exact_right us ts x) h)
+    ]
     operand_any (once {k = k} {a} {b} {a_in} {b_in} {ts} {us} {ns} w p) x e = elim (of_max (time_digits us) (time_digits ts) s.time (sym (past_max ts w) ∙ e)) [
-      inl h ↦ in_last HasUnevenBound ns (Once (top k ns) a b a_in b_in) (past_any w (exact_left us ts x) some h)
-      | inr h ↦ any_left HasUnevenBound ns (Once (top k ns) a b a_in b_in ∷ []) (operand_any p (exact_right us ts x) h) ]
+      | inl h ↦ in_last HasUnevenBound ns (Once (top k ns) a b a_in b_in) (past_any w (exact_left us ts x) some h)
+      | inr h ↦ any_left HasUnevenBound ns (Once (top k ns) a b a_in b_in ∷ []) (operand_any p (exact_right us ts x) h)
+    ]
     operand_any (historically {k = k} {a} {b} {a_in} {b_in} {ts} {us} {ns} w p) x e = elim (of_max (time_digits us) (time_digits ts) s.time (sym (past_max ts w) ∙ e)) [
-      inl h ↦ in_last HasUnevenBound ns (Historically (top k ns) a b a_in b_in) (past_any w (exact_left us ts x) some h)
-      | inr h ↦ any_left HasUnevenBound ns (Historically (top k ns) a b a_in b_in ∷ []) (operand_any p (exact_right us ts x) h) ]
+      | inl h ↦ in_last HasUnevenBound ns (Historically (top k ns) a b a_in b_in) (past_any w (exact_left us ts x) some h)
+      | inr h ↦ any_left HasUnevenBound ns (Historically (top k ns) a b a_in b_in ∷ []) (operand_any p (exact_right us ts x) h)
+    ]
     operand_any always_true x e = absurd (omega (arith, e))
     operand_any always_false x e = absurd (omega (arith, e))
     operand_any (parens {ts = ts} f) x e =
@@ -328,20 +339,23 @@ module _ (s : Scale) (some : 0 < s.value) where
     formula_value : {k : ℕ} {ts : List Token} {ns : List Node} → IsFormula s k ts ns → AreExact ts → value_digits ts ≡ s.value → Any HasUnevenConstant ns
     formula_value (disjunct d) x e = disjunct_value d x e
     formula_value (implies {k = k} {ts = ts} {us} {ns} {ms} d g) x e = elim (value_sides ts us (codes "implies") (disjunct_ends d) e) [
-      inl f ↦ in_left HasUnevenConstant ns ms _ (disjunct_value d (exact_left ts (word (codes "implies") ∷ us) x) f)
-      | inr f ↦ in_right HasUnevenConstant ns ms _ (formula_value g (exact_right ts (word (codes "implies") ∷ us) x) f) ]
+      | inl f ↦ in_left HasUnevenConstant ns ms _ (disjunct_value d (exact_left ts (word (codes "implies") ∷ us) x) f)
+      | inr f ↦ in_right HasUnevenConstant ns ms _ (formula_value g (exact_right ts (word (codes "implies") ∷ us) x) f)
+    ]
 
     disjunct_value : {k : ℕ} {ts : List Token} {ns : List Node} → IsDisjunct s k ts ns → AreExact ts → value_digits ts ≡ s.value → Any HasUnevenConstant ns
     disjunct_value (conjunct d) x e = conjunct_value d x e
     disjunct_value (or {k = k} {ts = ts} {us} {ns} {ms} d g) x e = elim (value_sides ts us (codes "or") (disjunct_ends d) e) [
-      inl f ↦ in_left HasUnevenConstant ns ms _ (disjunct_value d (exact_left ts (word (codes "or") ∷ us) x) f)
-      | inr f ↦ in_right HasUnevenConstant ns ms _ (conjunct_value g (exact_right ts (word (codes "or") ∷ us) x) f) ]
+      | inl f ↦ in_left HasUnevenConstant ns ms _ (disjunct_value d (exact_left ts (word (codes "or") ∷ us) x) f)
+      | inr f ↦ in_right HasUnevenConstant ns ms _ (conjunct_value g (exact_right ts (word (codes "or") ∷ us) x) f)
+    ]
 
     conjunct_value : {k : ℕ} {ts : List Token} {ns : List Node} → IsConjunct s k ts ns → AreExact ts → value_digits ts ≡ s.value → Any HasUnevenConstant ns
     conjunct_value (timed d) x e = timed_value d x e
     conjunct_value (and {k = k} {ts = ts} {us} {ns} {ms} d g) x e = elim (value_sides ts us (codes "and") (conjunct_ends d) e) [
-      inl f ↦ in_left HasUnevenConstant ns ms _ (conjunct_value d (exact_left ts (word (codes "and") ∷ us) x) f)
-      | inr f ↦ in_right HasUnevenConstant ns ms _ (timed_value g (exact_right ts (word (codes "and") ∷ us) x) f) ]
+      | inl f ↦ in_left HasUnevenConstant ns ms _ (conjunct_value d (exact_left ts (word (codes "and") ∷ us) x) f)
+      | inr f ↦ in_right HasUnevenConstant ns ms _ (timed_value g (exact_right ts (word (codes "and") ∷ us) x) f)
+    ]
 
     timed_value : {k : ℕ} {ts : List Token} {ns : List Node} → IsTimed s k ts ns → AreExact ts → value_digits ts ≡ s.value → Any HasUnevenConstant ns
     timed_value (operand p) x e = operand_value p x e
@@ -351,16 +365,18 @@ module _ (s : Scale) (some : 0 < s.value) where
         let z : AreExact (us ++ vs) = exact_right ts (word (codes "until") ∷ (us ++ vs)) y in
         let n : Node = Until (top k ns) (top (k + length ns) ms) a b in
         elim (value_sides ts (us ++ vs) (codes "until") (operand_ends p) f) [
-          inl g ↦ in_left HasUnevenConstant ns ms n (operand_value p (exact_left ts (word (codes "until") ∷ (us ++ vs)) y) g)
-          | inr g ↦ in_right HasUnevenConstant ns ms n (operand_value q (exact_right us vs z) (sym (window_value vs w) ∙ g)) ]
+          | inl g ↦ in_left HasUnevenConstant ns ms n (operand_value p (exact_left ts (word (codes "until") ∷ (us ++ vs)) y) g)
+          | inr g ↦ in_right HasUnevenConstant ns ms n (operand_value q (exact_right us vs z) (sym (window_value vs w) ∙ g))
+        ]
     timed_value (since {k = k} {a = a} {b} {ts = ts} {us} {vs} {ns} {ms} p w q) x e =
         let y : AreExact (ts ++ word (codes "since") ∷ (us ++ vs)) = rw (append_assoc ts (word (codes "since") ∷ us) vs) at x in
         let f : value_digits (ts ++ word (codes "since") ∷ (us ++ vs)) ≡ s.value = ap value_digits (sym (append_assoc ts (word (codes "since") ∷ us) vs)) ∙ e in
         let z : AreExact (us ++ vs) = exact_right ts (word (codes "since") ∷ (us ++ vs)) y in
         let n : Node = Since (top k ns) (top (k + length ns) ms) a b in
         elim (value_sides ts (us ++ vs) (codes "since") (operand_ends p) f) [
-          inl g ↦ in_left HasUnevenConstant ns ms n (operand_value p (exact_left ts (word (codes "since") ∷ (us ++ vs)) y) g)
-          | inr g ↦ in_right HasUnevenConstant ns ms n (operand_value q (exact_right us vs z) (sym (since_value vs w) ∙ g)) ]
+          | inl g ↦ in_left HasUnevenConstant ns ms n (operand_value p (exact_left ts (word (codes "since") ∷ (us ++ vs)) y) g)
+          | inr g ↦ in_right HasUnevenConstant ns ms n (operand_value q (exact_right us vs z) (sym (since_value vs w) ∙ g))
+        ]
 
     operand_value : {k : ℕ} {ts : List Token} {ns : List Node} → IsOperand s k ts ns → AreExact ts → value_digits ts ≡ s.value → Any HasUnevenConstant ns
     operand_value (not {k = k} {ts} {ns} p) x e = any_left HasUnevenConstant ns (Not (top k ns) ∷ []) (operand_value p x e)
