@@ -1,10 +1,9 @@
 -- Texts of formulas with their nodes, and the bytes of a trace.
-use Rattle.std.proofs.Common.{[], ◌∷◌, pos, refl, true, inl, inr}
+use Rattle.std.proofs.Common.{[], ◌∷◌, pos, refl, true}
 use Rattle.std.specs.Prelude.{codes}
 use Rattle.stl_grammar.specs.Tokens.{nothing, blank as skip, token, a_word, an_integer, a_decimal, at_least}
 use Rattle.stl_grammar.specs.Grammar.{FormulaText, disjunct, conjunct, timed, operand, not, always_true, atom, first}
 use Rattle.stl_grammar.specs.Grammar.{name as term_name, none as no_terms, plain as no_sign}
-use Rattle.stl_grammar.specs.Laws.{HasLeastScale, NeedsDigits, constants_of}
 use Rattle.stl_syntax.specs.declared.node.Node.TheVariants.{Const, Atom as Leaf, Not}
 use Rattle.stl_syntax.proofs.Examples.{at_least_5, no_digits}
 
@@ -32,13 +31,3 @@ not_text = record {
   scale = refl;
   parsed = disjunct (conjunct (timed (operand (not {ns = Const true ∷ []} always_true))));
 }
-
--- 5 in tenths is 50, for which units would do
-coarse : ¬ HasLeastScale (record { nodes = Leaf (record at_least_5 { limit = pos 50 }) ∷ []; scale = record { time = 0; value = 1 } })
-coarse h = none h.value
-  where
-    none : ¬ NeedsDigits 1 constants_of (Leaf (record at_least_5 { limit = pos 50 }) ∷ [])
-    none (inl e) = cc
-    none (inr (inl (inl f))) = f refl
-    none (inr (inl (inr f))) = f
-    none (inr (inr f)) = f
