@@ -154,7 +154,7 @@ first_time_at : (rows : List Row) (d : Row) → 0 < length rows → first_time r
 first_time_at [] d h = absurd (omega arith)
 first_time_at (r ∷ rows) d h = refl
 
-last_time_at : (time : ℕ) (rows : List Row) (n : ℕ) (d : Row) → length rows ≡ suc n → last_time time rows ≡ (get_or rows n d).time
+pub last_time_at : (time : ℕ) (rows : List Row) (n : ℕ) (d : Row) → length rows ≡ suc n → last_time time rows ≡ (get_or rows n d).time
 last_time_at time [] n d h = absurd (omega arith)
 last_time_at time (r ∷ []) n d h = let e : n ≡ 0 = omega (arith, h) in subst (λ m. r.time ≡ (get_or (r ∷ []) m d).time) (sym e) refl
 last_time_at time (r ∷ s ∷ rows) zero d h = absurd (omega (arith, h))
