@@ -10,7 +10,7 @@ use Rattle.rational.specs.Line.{at}
 use Rattle.rational.proofs.Mixed.{parts}
 use Rattle.rational.proofs.Order.{le_trans, lt_of_le_of_lt, le_of_same, ge_of_same, same_refl, same_sym, same_trans}
 use Rattle.rational.proofs.Lines.{same_at}
-use Rattle.rational.proofs.Multiples.{on_way, passed, way_starts}
+use Rattle.atom_lines.proofs.Multiples.{on_way, passed, way_starts}
 use Rattle.rational.proofs.TimeLemmas.{less_in, less_no}
 use Rattle.stl_syntax.specs.Trace.{Column, Row, Trace, AreRows, AreRowsAfter, row_time, value, line_between, piece, value_from, column_value, value_among, value_of}
 use Rattle.atom_lines.specs.Binding.{IsColumn}

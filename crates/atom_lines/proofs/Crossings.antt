@@ -10,8 +10,9 @@ use Rattle.rational.specs.Line.{Line, at, ramp_line, Rises, Falls}
 use Rattle.rational.proofs.Mixed.{parts}
 use Rattle.rational.proofs.Order.{le_of_same, ge_of_same, le_trans, lt_of_lt_of_le, lt_of_le_of_lt, same_trans, same_sym, same_refl}
 use Rattle.rational.proofs.Shift.{le_whole, lt_whole}
-use Rattle.rational.proofs.Lines.{same_at, lt_at, lt_at_falls, lt_at_cancel, lt_at_cancel_falls, root_at, root_at_falls, at_ramp_base, at_ramp_end}
-use Rattle.rational.proofs.Between.{above_between, below_between, level_between}
+use Rattle.rational.proofs.Lines.{same_at, lt_at, lt_at_falls, lt_at_cancel, root_at, root_at_falls, at_ramp_base, at_ramp_end}
+use Rattle.atom_lines.proofs.Ramps.{lt_at_cancel_falls}
+use Rattle.atom_lines.proofs.Between.{above_between, below_between, level_between}
 use Rattle.frac128.specs.Value.{value, denominator}
 use Rattle.frac128.specs.declared.frac.Frac.{Frac}
 use Rattle.stl_syntax.specs.Truth.{compares}
@@ -176,9 +177,11 @@ module _ (g : Gap) where
       by_sum : AreBelow g.from g.to ⊎ AreZero g.from g.to ⊎ AreAbove g.from g.to → (o : Ordering) × IsOrder o (at (along g) t) (whole (pos 0)) × IsOrder o (whole (g.from +ℤ g.to)) (whole (pos 0))
       by_sum (inl s) =
           (Less, below_between (along g) a b (le_trans (le_of_same at_first) (le_whole s.first)) (le_trans (le_of_same at_second) (le_whole s.second)) (below_one s.one), lt_whole s.sum)
-      by_sum (inr (inl s)) =
-          (Equal, level_between (along g) a b (subst (λ z. at (along g) first ≈ whole z) s.first at_first) (subst (λ z. at (along g) second ≈ whole z) s.second at_second),
-            subst (λ z. whole z ≈ whole (pos 0)) (sym s.sum) (same_refl (whole (pos 0))))
+      by_sum (inr (inl s)) = (
+        Equal,
+        level_between (along g) a b (subst (λ z. at (along g) first ≈ whole z) s.first at_first) (subst (λ z. at (along g) second ≈ whole z) s.second at_second),
+        subst (λ z. whole z ≈ whole (pos 0)) (sym s.sum) (same_refl (whole (pos 0))),
+      )
       by_sum (inr (inr s)) =
           (Greater, above_between (along g) a b (le_trans (le_whole s.first) (ge_of_same at_first)) (le_trans (le_whole s.second) (ge_of_same at_second)) (above_one s.one), lt_whole s.sum)
 

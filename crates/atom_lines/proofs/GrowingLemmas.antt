@@ -229,8 +229,11 @@ module _ {P : Type 0} (function : P → Affine) (base : P → ℤ) (told_as : To
       small t v (inr (inr (when, w))) = bounded_equal (2 ^ 31) v (worth told_as k.rel (whole next)) w (worth_bounded told_as k.rel (whole next) (within_whole (2 ^ 31) next size))
 
       has : AreNeighbours tr (row_of tr n) (row_of tr r)
-      has = (n, slice_get-get_or tr.rows n (record { time = 0; values = [] }) (omega (arith, e, within)),
-          subst (λ m. slice_get tr.rows m ≡ Some (row_of tr r)) e (slice_get-get_or tr.rows r (record { time = 0; values = [] }) within))
+      has = (
+        n,
+        slice_get-get_or tr.rows n (record { time = 0; values = [] }) (omega (arith, e, within)),
+        subst (λ m. slice_get tr.rows m ≡ Some (row_of tr r)) e (slice_get-get_or tr.rows r (record { time = 0; values = [] }) within),
+      )
 
       by_part : (a : Atom) → IsFor b i a tr → (t : Rational) (v : Extended)
           → IsWorth function old t v ⊎ ((stop old <ʳ t) × (t <ʳ whole (pos g.second)) × (v ≈ᵉ worth told_as k.rel (at (along g) t))) ⊎ ((t ≈ whole (pos g.second)) × (v ≈ᵉ worth told_as k.rel (whole next)))

@@ -98,12 +98,14 @@ module _ {P : Type 0} (function : P → Affine) where
       (record { when = (low, high); point = w (time k) (value_at (function k.point) (time k)) (inl (record { when = same_refl (time k); worth = same_reflᵉ (value_at (function k.point) (time k)) })); limits = tt }, tt)
   limited_from k (n ∷ ks) h w low high =
       let on : (t : Rational) → time k <ʳ t → t <ʳ time n → IsBounded (2 ^ 31) (value_at (function k.after) t) =
-      λ t a b. w t (value_at (function k.after) t) (inr (inl (record { after = a; before = b; worth = same_reflᵉ (value_at (function k.after) t) }))) in
-      (record {
-        when = (low, le_trans (to_stop function k (n ∷ ks) h) high);
-        point = w (time k) (value_at (function k.point) (time k)) (inl (record { when = same_refl (time k); worth = same_reflᵉ (value_at (function k.point) (time k)) }));
-        limits = (bounded_start (2 ^ 31) (function k.after) (time k) (time n) h.0.rising on, bounded_stop (2 ^ 31) (function k.after) (time k) (time n) h.0.rising on);
-      }, limited_from n ks h.1 (λ t v x. w t v (inr (inr x))) (le_trans low (le_of_lt h.0.rising)) high)
+      λ t a b. w t (value_at (function k.after) t) (inr (inl (record { after = a; before = b; worth = same_reflᵉ (value_at (function k.after) t) }))) in (
+        record {
+          when = (low, le_trans (to_stop function k (n ∷ ks) h) high);
+          point = w (time k) (value_at (function k.point) (time k)) (inl (record { when = same_refl (time k); worth = same_reflᵉ (value_at (function k.point) (time k)) }));
+          limits = (bounded_start (2 ^ 31) (function k.after) (time k) (time n) h.0.rising on, bounded_stop (2 ^ 31) (function k.after) (time k) (time n) h.0.rising on);
+        },
+        limited_from n ks h.1 (λ t v x. w t v (inr (inr x))) (le_trans low (le_of_lt h.0.rising)) high,
+      )
 
   -- a signal with bounded values has bounded limits
   pub limited : (ks : List (Knot P)) → IsSignal function ks → ((t : Rational) (v : Extended) → IsWorth function ks t v → IsBounded (2 ^ 31) v) → IsWithin (2 ^ 34) (start ks) → IsWithin (2 ^ 34) (stop ks)

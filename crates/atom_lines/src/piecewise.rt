@@ -27,12 +27,7 @@ pub(crate) trait Piecewise: Shape {
         ensures base { IsRowBase (Self.base result) };
 
     /// Goes on over a gap; at its end the sum lies `next` above the constant.
-    fn go_on(
-        signal: &mut Builder<Self>,
-        rel: Rel,
-        gap: &Gap,
-        next: i64,
-    ) -> Result<(), Memory>
+    fn go_on(signal: &mut Builder<Self>, rel: Rel, gap: &Gap, next: i64) -> Result<(), Memory>
         requires next { unsigned_abs next ≤ 2 ^ 31 }
         requires begins { stop signal.old ≈ whole (pos gap.now.first) }
         ensures { OnOk result (GoesAlong Self.function Self.base told rel gap.now next signal.old signal.new) };
@@ -47,12 +42,7 @@ impl Piecewise for Truth {
         truth_at(rel, value)
     }
 
-    fn go_on(
-        signal: &mut Builder<Truth>,
-        rel: Rel,
-        gap: &Gap,
-        next: i64,
-    ) -> Result<(), Memory> {
+    fn go_on(signal: &mut Builder<Truth>, rel: Rel, gap: &Gap, next: i64) -> Result<(), Memory> {
         let end = Frac::of(i64::from(gap.second));
         let last = truth_at(rel, next);
         match truth_between(rel, gap) {
@@ -79,12 +69,7 @@ impl Piecewise for Margin {
         margin_at(rel, value)
     }
 
-    fn go_on(
-        signal: &mut Builder<Margin>,
-        rel: Rel,
-        gap: &Gap,
-        next: i64,
-    ) -> Result<(), Memory> {
+    fn go_on(signal: &mut Builder<Margin>, rel: Rel, gap: &Gap, next: i64) -> Result<(), Memory> {
         let end = Frac::of(i64::from(gap.second));
         signal.step(margin_between(rel, gap), end, margin_at(rel, next))
     }

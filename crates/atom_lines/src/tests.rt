@@ -142,11 +142,17 @@ fn told(alloc: Global, signal: &Signal<Truth>) -> Result<String, AllocError> {
 }
 
 const RISE: &str = "time,x\n0,0\n10,10\n";
+
 const TRIANGLE: &str = "time,x\n0,0\n5,5\n10,0\n";
+
 const FLAT: &str = "time,x\n0,3\n2,3\n7,3\n";
+
 const STEPS: &str = "time,y:step\n0,0\n4,1\n6,0\n";
+
 const MIXED: &str = "time,x,y:step\n0,0,0\n4,8,1\n6,8,0\n";
-const LARGE: &str = "time,x,y,z,w:step\n0,16777216,16777216,16777216,16777216\n4294967295,-16777216,-16777216,-16777216,16777216\n";
+
+const LARGE: &str =
+    "time,x,y,z,w:step\n0,16777216,16777216,16777216,16777216\n4294967295,-16777216,-16777216,-16777216,16777216\n";
 
 #[test]
 fn truth_at_every_time(rt: HostRuntime) -> Result<(), Fail> {
@@ -164,15 +170,39 @@ fn truth_at_every_time(rt: HostRuntime) -> Result<(), Fail> {
         (TRIANGLE, &[(1, 0)], Rel::Above, 5, "0:FF 10:FF "),
         (TRIANGLE, &[(1, 0)], Rel::Below, 5, "0:TT 5:FT 10:TT "),
         (TRIANGLE, &[(0, 0)], Rel::AtLeast, 0, "0:TT 10:TT "),
-        (TRIANGLE, &[(1, 0), (1, 0), (-2, 0)], Rel::Above, -1, "0:TT 10:TT "),
-        (TRIANGLE, &[(2, 0), (-1, 0)], Rel::AtLeast, 4, "0:FF 4:TT 6:TF 10:FF "),
+        (
+            TRIANGLE,
+            &[(1, 0), (1, 0), (-2, 0)],
+            Rel::Above,
+            -1,
+            "0:TT 10:TT ",
+        ),
+        (
+            TRIANGLE,
+            &[(2, 0), (-1, 0)],
+            Rel::AtLeast,
+            4,
+            "0:FF 4:TT 6:TF 10:FF ",
+        ),
         (FLAT, &[(1, 0)], Rel::AtLeast, 3, "0:TT 7:TT "),
         (FLAT, &[(1, 0)], Rel::Above, 3, "0:FF 7:FF "),
         (FLAT, &[(1, 0)], Rel::AtMost, 3, "0:TT 7:TT "),
         (FLAT, &[(1, 0)], Rel::Below, 3, "0:FF 7:FF "),
         (STEPS, &[(1, 1)], Rel::AtLeast, 1, "0:FF 4:TT 6:FF "),
-        (MIXED, &[(2, 0), (-3, 1)], Rel::AtLeast, 1, "0:FF 0+1/4:TT 6:TT "),
-        (MIXED, &[(2, 0), (-3, 1)], Rel::Above, 13, "0:FF 3+1/4:FT 4:FF 6:TT "),
+        (
+            MIXED,
+            &[(2, 0), (-3, 1)],
+            Rel::AtLeast,
+            1,
+            "0:FF 0+1/4:TT 6:TT ",
+        ),
+        (
+            MIXED,
+            &[(2, 0), (-3, 1)],
+            Rel::Above,
+            13,
+            "0:FF 3+1/4:FT 4:FF 6:TT ",
+        ),
         ("time,x\n100,7\n", &[(1, 0)], Rel::AtLeast, 7, "100:TT "),
         (
             LARGE,
@@ -208,7 +238,11 @@ fn truth_at_every_time(rt: HostRuntime) -> Result<(), Fail> {
 
 #[test]
 fn margins_are_ramps_and_constants(rt: HostRuntime) -> Result<(), Fail> {
-    let trace = read(&rt, rt.alloc(), "time,x,y:step\n0,0,4\n5,5,4\n10,10,4\n12,10,1\n")?;
+    let trace = read(
+        &rt,
+        rt.alloc(),
+        "time,x,y:step\n0,0,4\n5,5,4\n10,10,4\n12,10,1\n",
+    )?;
     let below = comparison(&rt, rt.alloc(), &[(2, 0), (-1, 1)], Rel::Below, 1)?;
     let signal = signal::<Margin>(&rt, rt.alloc(), &below, &trace)?;
     assert!(&rt; signal.len() == 3);
@@ -227,7 +261,11 @@ fn an_unknown_column_is_named(rt: HostRuntime) -> Result<(), Fail> {
         ("time,x,y\n0,1,1\n", &[(1, 0), (1, 1)], None),
         ("time,x,y\n0,1,1\n", &[(1, 0), (1, 2), (1, 3)], Some(1)),
         ("time,x,y\n0,1,1\n", &[(1, 3)], Some(0)),
-        ("time,y,yy,x\n0,1,1,1\n", &[(1, 0), (1, 1), (1, 0), (1, 2)], Some(3)),
+        (
+            "time,y,yy,x\n0,1,1,1\n",
+            &[(1, 0), (1, 1), (1, 0), (1, 2)],
+            Some(3),
+        ),
     ];
     for (text, terms, want) in table {
         let formula = comparison(&rt, rt.alloc(), terms, Rel::Above, 0)?;

@@ -1,8 +1,6 @@
 pub mod Order
 pub mod Field
 pub mod Lines
-pub mod Multiples
-pub mod Between
 pub mod Mixed
 pub mod Compare
 pub mod Sup
