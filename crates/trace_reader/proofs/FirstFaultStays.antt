@@ -1,8 +1,7 @@
 -- The first fault of bytes is that of all bytes that begin with them.
-use Rattle.std.proofs.Common.{◌≡◌, ℕ, ◌⊎◌, inl, inr, suc, ◌-◌, ◌<◌, ◌≤◌, Bool, true, false, List, [], ◌∷◌, ◌++◌, length, sym, ap, ◌∙◌, subst, arith, Option, Some, None}
+use Rattle.std.proofs.Common.{ℕ, inl, inr, suc, ◌≤◌, Bool, true, false, List, [], ◌∷◌, ◌++◌, length, sym, subst, arith, Option, Some, None}
 use Rattle.std.specs.Prelude.{MatchBool}
 use Rattle.std.proofs.lemmas.Bool.{false≢true}
-use Rattle.stl_syntax.specs.Choice.{◌or_else◌, Where}
 use Rattle.stl_syntax.specs.Trace.{Row}
 use Rattle.stl_syntax.specs.declared.scale.Scale.{Scale}
 use Rattle.trace_reader.specs.TraceText.{Line, lines, is_blank_line, Heading, scale_of}
@@ -11,7 +10,7 @@ use Rattle.trace_reader.specs.Plain.{HasNoFeed}
 use Rattle.trace_reader.specs.declared.refusal.Limits.{Limits}
 use Rattle.trace_reader.specs.declared.refusal.TraceRefusal.{TraceRefusal}
 use Rattle.trace_reader.proofs.LineLemmas.{rest}
-use Rattle.trace_reader.proofs.PlainLines.{Parts, parts, lines-now}
+use Rattle.trace_reader.proofs.PlainLines.{parts, lines-now}
 use Rattle.trace_reader.proofs.FaultStays.{grows, open_line}
 
 either : (b : Bool) (A B C D : Type 0) → (A → C) → (B → D) → MatchBool b A B → MatchBool b C D
