@@ -17,7 +17,7 @@ one_more x (first {line} free) (inl e) = (line, subst (λ c. IsOpenLine (c ∷ l
 one_more x (first {line} free) (inr e) = (x ∷ line, first (All-cons (λ c. c ≡ 10 → ⊥) x line e free))
 one_more x (later before {line} free) e = (line, later (x ∷ before) free)
 
-open_line : (bytes : List ℕ) → (line : List ℕ) × IsOpenLine bytes line
+pub open_line : (bytes : List ℕ) → (line : List ℕ) × IsOpenLine bytes line
 open_line [] = ([], first (All-nil (λ c. c ≡ 10 → ⊥)))
 open_line (x ∷ bytes) = let (line, o) = open_line bytes in one_more x o (cases_eq x 10)
 

@@ -21,3 +21,4 @@ pub mod GoesOnLemmas
 pub mod ReaderSteps
 pub mod ReaderTakes
 pub mod KindLemmas
+pub mod FirstFaultStays
