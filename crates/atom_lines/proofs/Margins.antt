@@ -9,8 +9,7 @@ use Rattle.rational.proofs.Mixed.{parts}
 use Rattle.rational.proofs.Order.{same_trans, same_sym, same_refl}
 use Rattle.rational.proofs.Field.{same_negate}
 use Rattle.rational.proofs.Lines.{at_level, at_constant}
-use Rattle.atom_lines.proofs.Ramps.{same_ramp}
-use Rattle.frac128.proofs.Moves.{negated as negated_ramp}
+use Rattle.atom_lines.proofs.Ramps.{same_ramp, negated_ramp}
 use Rattle.rational.proofs.AffineLemmas.{finite_same}
 use Rattle.frac128.specs.Line.{line, base, base_value, rise_in_run, run_time}
 use Rattle.frac128.specs.declared.ramp.Ramp.{Ramp}

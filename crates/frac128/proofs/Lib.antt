@@ -4,7 +4,7 @@ mod Making
 mod Rests
 mod Ratios
 mod Ahead
-pub mod Moves
+mod Moves
 mod Gaps
 mod RampGaps
 mod Meets
