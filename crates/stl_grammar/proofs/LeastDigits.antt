@@ -217,6 +217,6 @@ printed_texts_are_read f text w least h =
     let (ts, l, d, short) = printed_read f text w h in
     let all = formula_ten f.scale (time_digits ts) (value_digits ts) d (whole_low ts) in
     let P = IsTen f.scale (time_digits ts) (value_digits ts) in
-    let time = digits_there f.scale.time (time_digits ts) bounds_of f.nodes short.time (λ m. All-weaker P (λ n. Tens (bounds_of n)) (λ n g. g.0 m) f.nodes all) least.time in
-    let value = digits_there f.scale.value (value_digits ts) constants_of f.nodes short.value (λ m. All-weaker P (λ n. Tens (constants_of n)) (λ n g. g.1 m) f.nodes all) least.value in
+    let time = digits_there f.scale.time (time_digits ts) bounds_of f.nodes short.short.time (λ m. All-weaker P (λ n. Tens (bounds_of n)) (λ n g. g.0 m) f.nodes all) least.time in
+    let value = digits_there f.scale.value (value_digits ts) constants_of f.nodes short.short.value (λ m. All-weaker P (λ n. Tens (constants_of n)) (λ n g. g.1 m) f.nodes all) least.value in
     record { tokens = ts; lexed = l; scale = scale_is f.scale (time_digits ts) (value_digits ts) time value; parsed = d }

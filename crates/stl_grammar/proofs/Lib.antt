@@ -23,7 +23,10 @@ pub mod TokensTaken
 pub mod DigitsTold
 pub mod FinishLaw
 pub mod ReadNodes
+pub mod TokenNeat
 pub mod PrintedTokens
 pub mod PrintedRead
 pub mod LeastDigits
 pub mod ReadScale
+pub mod PrintedFine
+pub mod PrintedLaw

@@ -30,7 +30,8 @@ use Rattle.stl_grammar.specs.Grammar.IsPast.{nothing as since_nothing, bounded a
 use Rattle.stl_grammar.specs.Grammar.{IsFormula, IsTimed, IsOperand, disjunct, implies, conjunct, or, timed, and, operand, until, since, not, eventually, always, once, historically, always_true, always_false, parens, atom}
 use Rattle.stl_grammar.specs.Grammar.{first_decimals, time_digits}
 use Rattle.stl_grammar.specs.Tokens.{blank}
-use Rattle.stl_grammar.proofs.TokenEnds.{formula_ends, operand_ends, IsShort, short_joined, short_word, short_parens, short_atom, short_signed, short_window, short_past, short_since}
+use Rattle.stl_grammar.proofs.TokenEnds.{formula_ends, operand_ends, short_atom, short_signed}
+use Rattle.stl_grammar.proofs.TokenNeat.{ArePlain, IsNeat, constant_plain, neat_joined, neat_word, neat_parens, neat_window, neat_past, neat_since}
 use Rattle.stl_grammar.proofs.PrintedTokens.{Separates, Lexed, LexedAny, Parts, any_lexed, then_lexed, parted_any, parted, spaced, lexed_whole, lexed_word, lexed_name, paren_lexed, paren_end_lexed, bracket_lexed, bracket_end_lexed, comma_lexed, star_lexed, plus_lexed, minus_lexed, relation_lexed, integer_text, number_text}
 
 -- a constant
@@ -41,20 +42,27 @@ limit_read digits (negsuc n) text l (size, h, t) =
     let g : neg_ℤ (pos (ticks digits v k)) ≡ negsuc n = ap (λ z. neg_ℤ (pos z)) e in
     (minus ∷ number v k ∷ [], rw t (then_lexed (codes "-") size (minus ∷ []) (number v k ∷ []) minus_lexed x), rw (sym g) negative, m)
 
+-- no coefficient among these tokens has decimals, whatever follows them
+abbrev PlainBefore : List Token → Type 0
+PlainBefore ts = (zs : List Token) → ArePlain zs → ArePlain (ts ++ zs)
+
+plain_both : (ts us : List Token) → PlainBefore ts → PlainBefore us → PlainBefore (ts ++ us)
+plain_both ts us f g zs p = rw (append_assoc ts us zs) (f (us ++ zs) (g zs p))
+
 -- a term without its sign
-term_read : (k : ℕ) (name : List ℕ) → k ≤ 16 → IsTrue (is_name name) → (ts : List Token) × Lexed (scaled_text k name) ts × IsTerm ts k name
+term_read : (k : ℕ) (name : List ℕ) → k ≤ 16 → IsTrue (is_name name) → (ts : List Token) × Lexed (scaled_text k name) ts × IsTerm ts k name × PlainBefore ts
 term_read k name l h = split (k == 1) refl
   where
-    split : (b : Bool) → (k == 1) ≡ b → (ts : List Token) × Lexed (scaled_text k name) ts × IsTerm ts k name
+    split : (b : Bool) → (k == 1) ≡ b → (ts : List Token) × Lexed (scaled_text k name) ts × IsTerm ts k name × PlainBefore ts
     split true e =
         let f : k ≡ 1 = eqb-true k 1 e in
         let n = lexed_name name h in
-        (word name ∷ [], rw e n.0, rw f (term_name n.1))
+        (word name ∷ [], rw e n.0, rw f (term_name n.1), λ zs p. p)
     split false e =
         let n = lexed_name name h in
         let a = then_lexed (codes "*") name (star ∷ []) (word name ∷ []) star_lexed n.0 in
         let b = parted (decimal k) (codes "*" ++ name) (number k 0 ∷ []) (star ∷ word name ∷ []) (integer_text k (omega arith)) (λ z s. (refl, refl)) a in
-        (number k 0 ∷ star ∷ word name ∷ [], rw e (rw (append_assoc (decimal k) (codes "*") name) b), scaled n.1)
+        (number k 0 ∷ star ∷ word name ∷ [], rw e (rw (append_assoc (decimal k) (codes "*") name) b), scaled n.1, λ zs p. (refl, p))
 
 -- further terms
 sign_lexed : (c : ℕ) (t : Token) → LexedAny (c ∷ []) (t ∷ []) → LexedAny (32 ∷ c ∷ 32 ∷ []) (t ∷ [])
@@ -69,20 +77,20 @@ further_separates (t ∷ terms) z s = by_sign t.coef t.name
     by_sign (negsuc k) name = (refl, refl)
 
 abbrev FurtherRead : List Term → Type 0
-FurtherRead terms = (us : List Token) × Lexed (further_terms terms) us × AreTerms us terms
+FurtherRead terms = (us : List Token) × Lexed (further_terms terms) us × AreTerms us terms × PlainBefore us
 
 further_one : (c : ℤ) (name : List ℕ) (terms : List Term) → nat_abs c ≤ 16 → IsTrue (is_name name) → FurtherRead terms → FurtherRead (record { coef = c; name = name } ∷ terms)
-further_one (pos k) name terms l h (us, x, a) =
-    let (ts, y, t) = term_read k name l h in
+further_one (pos k) name terms l h (us, x, a, pl) =
+    let (ts, y, t, pt) = term_read k name l h in
     let m = parted (scaled_text k name) (further_terms terms) ts us y (further_separates terms) x in
-    (plus ∷ ts ++ us, (then_lexed (codes " + ") (scaled_text k name ++ further_terms terms) (plus ∷ []) (ts ++ us) (sign_lexed 43 plus plus_lexed) m), more_plus t a)
-further_one (negsuc k) name terms l h (us, x, a) =
-    let (ts, y, t) = term_read (suc k) name l h in
+    (plus ∷ ts ++ us, (then_lexed (codes " + ") (scaled_text k name ++ further_terms terms) (plus ∷ []) (ts ++ us) (sign_lexed 43 plus plus_lexed) m), more_plus t a, plain_both ts us pt pl)
+further_one (negsuc k) name terms l h (us, x, a, pl) =
+    let (ts, y, t, pt) = term_read (suc k) name l h in
     let m = parted (scaled_text (suc k) name) (further_terms terms) ts us y (further_separates terms) x in
-    (minus ∷ ts ++ us, (then_lexed (codes " - ") (scaled_text (suc k) name ++ further_terms terms) (minus ∷ []) (ts ++ us) (sign_lexed 45 minus minus_lexed) m), more_minus t a)
+    (minus ∷ ts ++ us, (then_lexed (codes " - ") (scaled_text (suc k) name ++ further_terms terms) (minus ∷ []) (ts ++ us) (sign_lexed 45 minus minus_lexed) m), more_minus t a, plain_both ts us pt pl)
 
 further_read : (terms : List Term) → All IsTermInLimits terms → FurtherRead terms
-further_read [] h = ([], λ z vs s l. l, no_terms)
+further_read [] h = ([], λ z vs s l. l, no_terms, λ zs p. p)
 further_read (t ∷ terms) h =
     let g = All-head IsTermInLimits t terms h in
     further_one t.coef t.name terms g.coef g.name (further_read terms (All-tail IsTermInLimits t terms h))
@@ -91,19 +99,19 @@ further_read (t ∷ terms) h =
 abbrev TermsRead : List Term → Type 0
 TermsRead terms = (us : List Token) × Lexed (terms_text terms) us
     × ((digits : ℕ) (rel : Rel) (vs : List Token) (c : ℤ) → IsConstant digits vs c → IsAtom digits (us ++ relation rel ∷ vs) (record { terms = terms; rel = rel; limit = c }))
-    × ((s : Scale) (digits : ℕ) (rel : Rel) (vs : List Token) (c : ℤ) → IsConstant digits vs c → first_decimals vs ≤ s.value → IsShort s (us ++ relation rel ∷ vs))
+    × ((s : Scale) (digits : ℕ) (rel : Rel) (vs : List Token) (c : ℤ) → IsConstant digits vs c → first_decimals vs ≤ s.value → IsNeat s (us ++ relation rel ∷ vs))
 
 first_one : (c : ℤ) (name : List ℕ) (terms : List Term) → nat_abs c ≤ 16 → IsTrue (is_name name) → FurtherRead terms → TermsRead (record { coef = c; name = name } ∷ terms)
-first_one (pos k) name terms l h (us, x, a) =
-    let (ts, y, t) = term_read k name l h in
-    (ts ++ us, parted (scaled_text k name) (further_terms terms) ts us y (further_separates terms) x, λ digits rel vs c i. first t a i, λ s digits rel vs c i l. short_atom s rel t a i l)
-first_one (negsuc k) name terms l h (us, x, a) =
-    let (ts, y, t) = term_read (suc k) name l h in
+first_one (pos k) name terms l h (us, x, a, pl) =
+    let (ts, y, t, pt) = term_read k name l h in
+    (ts ++ us, parted (scaled_text k name) (further_terms terms) ts us y (further_separates terms) x, λ digits rel vs c i. first t a i, λ s digits rel vs c i l. record { short = short_atom s rel t a i l; plain = plain_both ts us pt pl (relation rel ∷ vs) (constant_plain rel i) })
+first_one (negsuc k) name terms l h (us, x, a, pl) =
+    let (ts, y, t, pt) = term_read (suc k) name l h in
     let m = parted (scaled_text (suc k) name) (further_terms terms) ts us y (further_separates terms) x in (
       minus ∷ ts ++ us,
       (then_lexed (codes "-") (scaled_text (suc k) name ++ further_terms terms) (minus ∷ []) (ts ++ us) minus_lexed m),
       λ digits rel vs c i. signed (more_minus t a) i,
-      λ s digits rel vs c i l. short_signed s rel (more_minus t a) i l,
+      λ s digits rel vs c i l. record { short = short_signed s rel (more_minus t a) i l; plain = plain_both ts us pt pl (relation rel ∷ vs) (constant_plain rel i) },
     )
 
 terms_read : (terms : List Term) → 0 < length terms → All IsTermInLimits terms → TermsRead terms
@@ -112,7 +120,7 @@ terms_read (t ∷ terms) l h =
     let g = All-head IsTermInLimits t terms h in
     first_one t.coef t.name terms g.coef g.name (further_read terms (All-tail IsTermInLimits t terms h))
 
-atom_read : (s : Scale) (a : Atom) (text : List ℕ) → IsAtomInLimits a → IsAtomText s a text → (ts : List Token) × Lexed text ts × IsAtom s.value ts a × IsShort s ts
+atom_read : (s : Scale) (a : Atom) (text : List ℕ) → IsAtomInLimits a → IsAtomText s a text → (ts : List Token) × Lexed text ts × IsAtom s.value ts a × IsNeat s ts
 atom_read s a text g (limit, h, e) =
     let (us, x, make, short) = terms_read a.terms g.some g.terms in
     let (vs, y, c, few) = limit_read s.value a.limit limit g.limit h in
@@ -251,12 +259,12 @@ until_read s a b text l m h = let (us, x, p, w, sh) = future_read s a b true tru
 
 -- what a tree's text is read as
 abbrev Parsed : Scale → ℕ → Bool → List ℕ → List Node → Type 0
-Parsed s k true text ns = (ts : List Token) × Lexed text ts × IsFormula s k ts ns × IsShort s ts
-Parsed s k false text ns = (ts : List Token) × Lexed text ts × IsOperand s k ts ns × IsShort s ts
+Parsed s k true text ns = (ts : List Token) × Lexed text ts × IsFormula s k ts ns × IsNeat s ts
+Parsed s k false text ns = (ts : List Token) × Lexed text ts × IsOperand s k ts ns × IsNeat s ts
 
 -- and the same in parentheses where it has two operands
 abbrev OperandRead : Scale → ℕ → List ℕ → List Node → Type 0
-OperandRead s k text ns = (ts : List Token) × Lexed text ts × IsOperand s k ts ns × IsShort s ts
+OperandRead s k text ns = (ts : List Token) × Lexed text ts × IsOperand s k ts ns × IsNeat s ts
 
 in_parens_read : (s : Scale) (k : ℕ) (two : Bool) (P : List ℕ → Type 0) (text : List ℕ) (ns : List Node) → ((inner : List ℕ) → P inner → Parsed s k two inner ns) → InParens two P text
     → OperandRead s k text ns
@@ -264,14 +272,14 @@ in_parens_read s k true P text ns f (inner, h, e) =
     let (ts, x, d, sh) = f inner h in
     let a = then_lexed (codes "(") inner (open_paren ∷ []) ts paren_lexed x in
     let b = parted_any (codes "(" ++ inner) (codes ")") (open_paren ∷ ts) (close_paren ∷ []) a (λ z. (refl, refl)) paren_end_lexed in
-    (open_paren ∷ ts ++ close_paren ∷ [], rw e (any_lexed (codes "(" ++ inner ++ codes ")") (open_paren ∷ ts ++ close_paren ∷ []) b), parens d, short_parens s ts (formula_ends d) sh)
+    (open_paren ∷ ts ++ close_paren ∷ [], rw e (any_lexed (codes "(" ++ inner ++ codes ")") (open_paren ∷ ts ++ close_paren ∷ []) b), parens d, neat_parens s ts (formula_ends d) sh)
 in_parens_read s k false P text ns f (inner, h, e) = let (ts, x, d, sh) = f inner h in (ts, rw e x, d, sh)
 
 -- a formula of an operand
 whole_formula : {s : Scale} {k : ℕ} {ts : List Token} {ns : List Node} → IsTimed s k ts ns → IsFormula s k ts ns
 whole_formula t = disjunct (conjunct (timed t))
 
-parsed_formula : (s : Scale) (k : ℕ) (two : Bool) (text : List ℕ) (ns : List Node) → Parsed s k two text ns → (ts : List Token) × Lexed text ts × IsFormula s k ts ns × IsShort s ts
+parsed_formula : (s : Scale) (k : ℕ) (two : Bool) (text : List ℕ) (ns : List Node) → Parsed s k two text ns → (ts : List Token) × Lexed text ts × IsFormula s k ts ns × IsNeat s ts
 parsed_formula s k true text ns h = h
 parsed_formula s k false text ns (ts, x, p, sh) = (ts, x, whole_formula (operand p), sh)
 
@@ -320,20 +328,20 @@ lexed_false : Lexed (codes "false") (word (codes "false") ∷ [])
 lexed_false = lexed_word 102 (codes "alse") refl refl
 
 -- a node whose numbers are within their limits
-record IsFit (n : Node) : Type 0 where
-  atom : IsLeafInLimits n
-  bounds : HasBounds n
-  reach : own_reach n ≤ 4294967295
+pub record IsFit (n : Node) : Type 0 where
+  pub atom : IsLeafInLimits n
+  pub bounds : HasBounds n
+  pub reach : own_reach n ≤ 4294967295
 
-all_left : (P : Node → Type 0) (xs ys : List Node) → All P (xs ++ ys) → All P xs
+pub all_left : (P : Node → Type 0) (xs ys : List Node) → All P (xs ++ ys) → All P xs
 all_left P [] ys h = All-nil P
 all_left P (x ∷ xs) ys h = All-cons P x xs (All-head P x (xs ++ ys) h) (all_left P xs ys (All-tail P x (xs ++ ys) h))
 
-all_right : (P : Node → Type 0) (xs ys : List Node) → All P (xs ++ ys) → All P ys
+pub all_right : (P : Node → Type 0) (xs ys : List Node) → All P (xs ++ ys) → All P ys
 all_right P [] ys h = h
 all_right P (x ∷ xs) ys h = all_right P xs ys (All-tail P x (xs ++ ys) h)
 
-all_last : (P : Node → Type 0) (xs : List Node) (n : Node) → All P (xs ++ n ∷ []) → P n
+pub all_last : (P : Node → Type 0) (xs : List Node) (n : Node) → All P (xs ++ n ∷ []) → P n
 all_last P xs n h = All-head P n [] (all_right P xs (n ∷ []) h)
 
 past_small : (a : ℕ) (b : Option ℕ) → IsInOrder a b → reach_of_bound a b ≤ 4294967295 → (a < 2 ^ 64) × ((n : ℕ) → b ≡ Some n → n < 2 ^ 64)
@@ -342,8 +350,8 @@ past_small a (Some b) o r = (omega arith, λ n e. let f : b ≡ n = cc in omega 
 
 module _ (s : Scale) (at : ℕ → Subformula) where
   leaf_read : (k i : ℕ) (n : Node) (text : List ℕ) → children n ≡ [] → IsFit n → IsPrinted s (tree_of at i n) text → Parsed s k (has_two (tree_of at i n)) text (n ∷ [])
-  leaf_read k i (Const true) text e f h = (word (codes "true") ∷ [], rw h lexed_true, always_true, record { time = omega arith; value = omega arith })
-  leaf_read k i (Const false) text e f h = (word (codes "false") ∷ [], rw h lexed_false, always_false, record { time = omega arith; value = omega arith })
+  leaf_read k i (Const true) text e f h = (word (codes "true") ∷ [], rw h lexed_true, always_true, record { short = record { time = omega arith; value = omega arith }; plain = tt })
+  leaf_read k i (Const false) text e f h = (word (codes "false") ∷ [], rw h lexed_false, always_false, record { short = record { time = omega arith; value = omega arith }; plain = tt })
   leaf_read k i (Leaf a) text e f h = let (ts, x, d, sh) = atom_read s a text f.atom h in (ts, x, atom d, sh)
   leaf_read k i (Not p) text e f h = absurd (cc)
   leaf_read k i (And p q) text e f h = absurd (cc)
@@ -363,7 +371,7 @@ module _ (s : Scale) (at : ℕ → Subformula) where
   not_read : (k : ℕ) (ns : List Node) (text : List ℕ) → Reads k ns (top k ns) → IsPrinted s (negation (at (top k ns))) text → Parsed s k false text (ns ++ Not (top k ns) ∷ [])
   not_read k ns text f (w, x, g, h, e) =
       let (ts, y, d, sh) = in_parens_read s k (has_two (at (top k ns))) (IsPrinted s (at (top k ns))) x ns f h in
-      (word (codes "not") ∷ ts, rw (e, g) (before_read (codes "not") x (word (codes "not") ∷ []) ts lexed_not y), not d, short_word s (codes "not") ts sh)
+      (word (codes "not") ∷ ts, rw (e, g) (before_read (codes "not") x (word (codes "not") ∷ []) ts lexed_not y), not d, neat_word s (codes "not") ts sh)
 
   eventually_read : (k : ℕ) (ns : List Node) (a b : ℕ) (a_in b_in : Bool) (text : List ℕ) → a < 2 ^ 64 → b < 2 ^ 64 → Reads k ns (top k ns)
       → IsPrinted s (eventually_tree a b a_in b_in (at (top k ns))) text → Parsed s k false text (ns ++ Eventually (top k ns) a b a_in b_in ∷ [])
@@ -371,7 +379,7 @@ module _ (s : Scale) (at : ℕ → Subformula) where
       let (ts, y, d, sh) = in_parens_read s k (has_two (at (top k ns))) (IsPrinted s (at (top k ns))) x ns f h in
       let (us, z, p, v, few) = future_read s a b a_in b_in bd l m g in
       let q = any_lexed (codes "eventually" ++ bd) (word (codes "eventually") ∷ us) (parted_any (codes "eventually") bd (word (codes "eventually") ∷ []) us lexed_eventually p z) in
-      (word (codes "eventually") ∷ us ++ ts, rw (e, gw) (before_read (codes "eventually" ++ bd) x (word (codes "eventually") ∷ us) ts q y), eventually v d, short_word s (codes "eventually") (us ++ ts) (short_window s ts v few sh))
+      (word (codes "eventually") ∷ us ++ ts, rw (e, gw) (before_read (codes "eventually" ++ bd) x (word (codes "eventually") ∷ us) ts q y), eventually v d, neat_word s (codes "eventually") (us ++ ts) (neat_window s ts v few sh))
 
   always_read : (k : ℕ) (ns : List Node) (a b : ℕ) (a_in b_in : Bool) (text : List ℕ) → a < 2 ^ 64 → b < 2 ^ 64 → Reads k ns (top k ns)
       → IsPrinted s (always_tree a b a_in b_in (at (top k ns))) text → Parsed s k false text (ns ++ Always (top k ns) a b a_in b_in ∷ [])
@@ -379,14 +387,14 @@ module _ (s : Scale) (at : ℕ → Subformula) where
       let (ts, y, d, sh) = in_parens_read s k (has_two (at (top k ns))) (IsPrinted s (at (top k ns))) x ns f h in
       let (us, z, p, v, few) = future_read s a b a_in b_in bd l m g in
       let q = any_lexed (codes "always" ++ bd) (word (codes "always") ∷ us) (parted_any (codes "always") bd (word (codes "always") ∷ []) us lexed_always p z) in
-      (word (codes "always") ∷ us ++ ts, rw (e, gw) (before_read (codes "always" ++ bd) x (word (codes "always") ∷ us) ts q y), always v d, short_word s (codes "always") (us ++ ts) (short_window s ts v few sh))
+      (word (codes "always") ∷ us ++ ts, rw (e, gw) (before_read (codes "always" ++ bd) x (word (codes "always") ∷ us) ts q y), always v d, neat_word s (codes "always") (us ++ ts) (neat_window s ts v few sh))
 
   once_read : (k : ℕ) (ns : List Node) (a : ℕ) (b : Option ℕ) (a_in b_in : Bool) (text : List ℕ) → a < 2 ^ 64 → ((n : ℕ) → b ≡ Some n → n < 2 ^ 64) → IsInWhereInfinite b b_in
       → Reads k ns (top k ns) → IsPrinted s (once_tree a b a_in b_in (at (top k ns))) text → Parsed s k false text (ns ++ Once (top k ns) a b a_in b_in ∷ [])
   once_read k ns a b a_in b_in text l m i f (w, x, (bd, g, gw), h, e) =
       let (ts, y, d, sh) = in_parens_read s k (has_two (at (top k ns))) (IsPrinted s (at (top k ns))) x ns f h in
       let (us, z, v, few) = past_read s a b a_in b_in bd l i m g in
-      (word (codes "once") ∷ us ++ ts, rw (e, gw) (before_read (codes "once" ++ bd) x (word (codes "once") ∷ us) ts (z (codes "once") (word (codes "once") ∷ []) lexed_once) y), once v d, short_word s (codes "once") (us ++ ts) (short_past s ts v few sh))
+      (word (codes "once") ∷ us ++ ts, rw (e, gw) (before_read (codes "once" ++ bd) x (word (codes "once") ∷ us) ts (z (codes "once") (word (codes "once") ∷ []) lexed_once) y), once v d, neat_word s (codes "once") (us ++ ts) (neat_past s ts v few sh))
 
   historically_read : (k : ℕ) (ns : List Node) (a : ℕ) (b : Option ℕ) (a_in b_in : Bool) (text : List ℕ) → a < 2 ^ 64 → ((n : ℕ) → b ≡ Some n → n < 2 ^ 64) → IsInWhereInfinite b b_in
       → Reads k ns (top k ns) → IsPrinted s (historically_tree a b a_in b_in (at (top k ns))) text → Parsed s k false text (ns ++ Historically (top k ns) a b a_in b_in ∷ [])
@@ -396,7 +404,7 @@ module _ (s : Scale) (at : ℕ → Subformula) where
         word (codes "historically") ∷ us ++ ts,
         rw (e, gw) (before_read (codes "historically" ++ bd) x (word (codes "historically") ∷ us) ts (z (codes "historically") (word (codes "historically") ∷ []) lexed_historically) y),
         historically v d,
-        short_word s (codes "historically") (us ++ ts) (short_past s ts v few sh),
+        neat_word s (codes "historically") (us ++ ts) (neat_past s ts v few sh),
       )
 
   one_read : (k i : ℕ) (ns : List Node) (n : Node) (text : List ℕ) → children n ≡ top k ns ∷ [] → IsFit n → Reads k ns (top k ns) → IsPrinted s (tree_of at i n) text
@@ -430,7 +438,7 @@ module _ (s : Scale) (at : ℕ → Subformula) where
         ts ++ word (codes "and") ∷ us,
         rw (e, i) (joined_lexed x (codes "and") y ts (word (codes "and") ∷ []) us a lexed_and b),
         disjunct (conjunct (and (timed (operand d)) (operand c))),
-        short_joined s ts (word (codes "and") ∷ us) (operand_ends d) refl sh (short_word s (codes "and") us sh2),
+        neat_joined s ts (word (codes "and") ∷ us) (operand_ends d) refl refl sh (neat_word s (codes "and") us sh2),
       )
 
   or_read : (k : ℕ) (ns ms : List Node) (text : List ℕ) → Reads k ns (top k ns) → Reads (k + length ns) ms (top (k + length ns) ms)
@@ -441,7 +449,7 @@ module _ (s : Scale) (at : ℕ → Subformula) where
         ts ++ word (codes "or") ∷ us,
         rw (e, i) (joined_lexed x (codes "or") y ts (word (codes "or") ∷ []) us a lexed_or b),
         disjunct (or (conjunct (timed (operand d))) (timed (operand c))),
-        short_joined s ts (word (codes "or") ∷ us) (operand_ends d) refl sh (short_word s (codes "or") us sh2),
+        neat_joined s ts (word (codes "or") ∷ us) (operand_ends d) refl refl sh (neat_word s (codes "or") us sh2),
       )
 
   implies_read : (k : ℕ) (ns ms : List Node) (text : List ℕ) → Reads k ns (top k ns) → Reads (k + length ns) ms (top (k + length ns) ms)
@@ -452,7 +460,7 @@ module _ (s : Scale) (at : ℕ → Subformula) where
         ts ++ word (codes "implies") ∷ us,
         rw (e, i) (joined_lexed x (codes "implies") y ts (word (codes "implies") ∷ []) us a lexed_implies b),
         implies (conjunct (timed (operand d))) (whole_formula (operand c)),
-        short_joined s ts (word (codes "implies") ∷ us) (operand_ends d) refl sh (short_word s (codes "implies") us sh2),
+        neat_joined s ts (word (codes "implies") ∷ us) (operand_ends d) refl refl sh (neat_word s (codes "implies") us sh2),
       )
 
   until_tree_read : (k : ℕ) (ns ms : List Node) (l r : ℕ) (text : List ℕ) → l < 2 ^ 64 → r < 2 ^ 64 → Reads k ns (top k ns) → Reads (k + length ns) ms (top (k + length ns) ms)
@@ -465,7 +473,7 @@ module _ (s : Scale) (at : ℕ → Subformula) where
         ts ++ word (codes "until") ∷ vs ++ us,
         rw (e, iw) (between_read x (codes "until" ++ bd) y ts (word (codes "until") ∷ vs) us a q b),
         whole_formula (until d v c),
-        rw (append_assoc ts (word (codes "until") ∷ vs) us) (short_joined s ts (word (codes "until") ∷ (vs ++ us)) (operand_ends d) refl sh (short_word s (codes "until") (vs ++ us) (short_window s us v few sh2))),
+        rw (append_assoc ts (word (codes "until") ∷ vs) us) (neat_joined s ts (word (codes "until") ∷ (vs ++ us)) (operand_ends d) refl refl sh (neat_word s (codes "until") (vs ++ us) (neat_window s us v few sh2))),
       )
 
   since_tree_read : (k : ℕ) (ns ms : List Node) (l : ℕ) (r : Option ℕ) (text : List ℕ) → l < 2 ^ 64 → ((n : ℕ) → r ≡ Some n → n < 2 ^ 64) → Reads k ns (top k ns)
@@ -478,7 +486,7 @@ module _ (s : Scale) (at : ℕ → Subformula) where
         ts ++ word (codes "since") ∷ vs ++ us,
         rw (e, iw) (between_read x (codes "since" ++ bd) y ts (word (codes "since") ∷ vs) us a (z (codes "since") (word (codes "since") ∷ []) lexed_since) b),
         whole_formula (since d v c),
-        rw (append_assoc ts (word (codes "since") ∷ vs) us) (short_joined s ts (word (codes "since") ∷ (vs ++ us)) (operand_ends d) refl sh (short_word s (codes "since") (vs ++ us) (short_since s us v few sh2))),
+        rw (append_assoc ts (word (codes "since") ∷ vs) us) (neat_joined s ts (word (codes "since") ∷ (vs ++ us)) (operand_ends d) refl refl sh (neat_word s (codes "since") (vs ++ us) (neat_since s us v few sh2))),
       )
 
   two_read : (k i : ℕ) (ns ms : List Node) (n : Node) (text : List ℕ) → children n ≡ top k ns ∷ top (k + length ns) ms ∷ [] → IsFit n → Reads k ns (top k ns)
@@ -535,20 +543,20 @@ module _ (s : Scale) (all : List Node) (order : IsPostOrder all) where
       let x = two_read s (subformula all) k (top k (ns ++ ms ++ n ∷ [])) ns ms n text e (all_last IsFit (ns ++ ms) n f) r q (rw b at h) in rw b x
 
 -- a node's own reach is at most the sum
-each_reach : (nodes : List Node) → reach nodes ≤ 4294967295 → All (λ n. own_reach n ≤ 4294967295) nodes
+pub each_reach : (nodes : List Node) → reach nodes ≤ 4294967295 → All (λ n. own_reach n ≤ 4294967295) nodes
 each_reach [] h = All-nil (λ n. own_reach n ≤ 4294967295)
 each_reach (n ∷ nodes) h =
     let e : reach (n ∷ nodes) ≡ own_reach n + reach nodes = sum_by-cons own_reach n nodes in
     All-cons (λ n. own_reach n ≤ 4294967295) n nodes (omega (arith, e)) (each_reach nodes (omega (arith, e)))
 
-all_fit : (nodes : List Node) → All IsLeafInLimits nodes → All HasBounds nodes → All (λ n. own_reach n ≤ 4294967295) nodes → All IsFit nodes
+pub all_fit : (nodes : List Node) → All IsLeafInLimits nodes → All HasBounds nodes → All (λ n. own_reach n ≤ 4294967295) nodes → All IsFit nodes
 all_fit [] a b c = All-nil IsFit
 all_fit (n ∷ nodes) a b c =
     All-cons IsFit n nodes (record { atom = All-head IsLeafInLimits n nodes a; bounds = All-head HasBounds n nodes b; reach = All-head (λ n. own_reach n ≤ 4294967295) n nodes c })
     (all_fit nodes (All-tail IsLeafInLimits n nodes a) (All-tail HasBounds n nodes b) (All-tail (λ n. own_reach n ≤ 4294967295) n nodes c))
 
 -- the printed text of a formula has tokens that are its nodes
-pub printed_read : (f : Formula) (text : List ℕ) → IsWellFormed f → IsPrintedFormula f text → (ts : List Token) × Lexes text ts × IsFormula f.scale 0 ts f.nodes × IsShort f.scale ts
+pub printed_read : (f : Formula) (text : List ℕ) → IsWellFormed f → IsPrintedFormula f text → (ts : List Token) × Lexes text ts × IsFormula f.scale 0 ts f.nodes × IsNeat f.scale ts
 printed_read f text w h =
     let t = one_tree f.nodes w.nodes.post_order w.root in
     let fit = all_fit f.nodes w.nodes.atoms w.nodes.bounds (each_reach f.nodes w.nodes.reach) in

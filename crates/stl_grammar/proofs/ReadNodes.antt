@@ -108,10 +108,10 @@ covers_all ts digits l pre post a j b k e =
     (omega (arith, x.0, f), omega (arith, x.1, f))
 
 -- numbers in order are in order in ticks
-power_parts : (d j : ℕ) → j ≤ d → 10 ^ (d - j) * 10 ^ j ≡ 10 ^ d
+pub power_parts : (d j : ℕ) → j ≤ d → 10 ^ (d - j) * 10 ^ j ≡ 10 ^ d
 power_parts d j l = let e : d ≡ d - j + j = omega arith in sym (ap (λ z. 10 ^ z) e ∙ pow-add 10 (d - j) j)
 
-cross : (a b p q j k e : ℕ) → p * j ≡ e → q * k ≡ e → 0 < j → 0 < k → a * k ≤ b * j → a * p ≤ b * q
+pub cross : (a b p q j k e : ℕ) → p * j ≡ e → q * k ≡ e → 0 < j → 0 < k → a * k ≤ b * j → a * p ≤ b * q
 cross a b p q j k e f g x y h =
     let l : a * k * e ≤ b * j * e = mul-le-mul_right e h in
     let m : a * p * (j * k) ≡ a * k * e = let z : a * p * (j * k) ≡ a * k * (p * j) = omega arith in z ∙ ap (λ w. a * k * w) f in
@@ -156,7 +156,7 @@ same_begin a_past p h marks n = refl
 same_begin an_inf p h marks n = refl
 same_begin a_name p h marks n = refl
 
-skips : (o : Owner) → looks_back o ≡ true → (h : Bool) (marks : List Mark) (n : ℕ) (t : Token) (ts : List Token) → begins_bracket (t ∷ ts) ≡ false
+pub skips : (o : Owner) → looks_back o ≡ true → (h : Bool) (marks : List Mark) (n : ℕ) (t : Token) (ts : List Token) → begins_bracket (t ∷ ts) ≡ false
     → step_from (st (at_bound o) h marks n) t ≡ step_from (st at_operand h marks n) t
 skips o e h marks n (word w) ts f = rw e (same_begin (kind w) (at_bound o) h marks n)
 skips o e h marks n open_bracket ts f = absurd (cc)

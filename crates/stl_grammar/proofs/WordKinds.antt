@@ -79,6 +79,10 @@ abbrev pub is_inf : Kind → Bool
 is_inf an_inf = true
 is_inf _ = false
 
+abbrev pub is_until : Kind → Bool
+is_until an_until = true
+is_until _ = false
+
 abbrev pub looks_ahead : Kind → Bool
 looks_ahead an_until = true
 looks_ahead a_future = true
@@ -106,6 +110,11 @@ among_implies = by_words (λ w. is_among w (codes "implies" ∷ []) ≡ is_impli
 pub among_inf : (w : List ℕ) → is_among w (codes "inf" ∷ []) ≡ is_inf (kind w)
 unfolding kind
 among_inf = by_words (λ w. is_among w (codes "inf" ∷ []) ≡ is_inf (kind w)) refl refl refl refl refl refl refl refl refl refl refl refl refl
+    (λ w h. let (t, (f, (n, (a, (o, (i, (u, (s, (e, (l, (c, (y, (x, z))))))))))))) = among_none w reserved h in rw (t, f, n, a, o, i, u, s, e, l, c, y, x) refl)
+
+pub among_until : (w : List ℕ) → is_among w (codes "until" ∷ []) ≡ is_until (kind w)
+unfolding kind
+among_until = by_words (λ w. is_among w (codes "until" ∷ []) ≡ is_until (kind w)) refl refl refl refl refl refl refl refl refl refl refl refl refl
     (λ w h. let (t, (f, (n, (a, (o, (i, (u, (s, (e, (l, (c, (y, (x, z))))))))))))) = among_none w reserved h in rw (t, f, n, a, o, i, u, s, e, l, c, y, x) refl)
 
 pub among_ahead : (w : List ℕ) → is_among w ahead ≡ looks_ahead (kind w)

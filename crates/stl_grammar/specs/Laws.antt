@@ -8,6 +8,7 @@ use Rattle.stl_syntax.specs.Formula.{Formula}
 use Rattle.stl_grammar.specs.Grammar.{FormulaText}
 use Rattle.stl_grammar.specs.FormulaRefusals.{IsFormulaFault}
 use Rattle.stl_grammar.specs.declared.fault.FormulaFault.{FormulaFault}
+use Rattle.stl_grammar.specs.declared.fault.FormulaFault.TheVariants.{TooLong, TooDeep}
 
 -- a text is that of at most one formula
 abbrev pub OneFormula : Type 0
@@ -60,3 +61,12 @@ ReadScalesAreLeast = (f : Formula) (text : List ℕ) → FormulaText text f → 
 -- the printed text of a formula is a text of it
 abbrev pub PrintedTextsAreRead : Type 0
 PrintedTextsAreRead = (f : Formula) (text : List ℕ) → IsWellFormed f → HasLeastScale f → IsPrintedFormula f text → FormulaText text f
+
+-- the refusal of a text that has too many bytes, or that leaves too much pending
+abbrev pub IsTooLongOrDeep : FormulaFault → Type 0
+IsTooLongOrDeep r = ((n : ℕ) × (r ≡ TooLong n)) ⊎ ((p : ℕ) × (r ≡ TooDeep p))
+
+-- and it is refused for its length or its depth alone
+abbrev pub PrintedTextsAreFormulas : Type 0
+PrintedTextsAreFormulas =
+    (f : Formula) (text : List ℕ) (r : FormulaFault) → IsWellFormed f → HasLeastScale f → IsPrintedFormula f text → IsFormulaFault text r → IsTooLongOrDeep r

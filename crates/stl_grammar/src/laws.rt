@@ -1,5 +1,5 @@
 //! Laws of the grammar. Each is the contract of a call that does nothing, so that the gate proves it.
-ghost use Rattle.stl_grammar.specs.Laws.{OneFormula, OneRefusal, PrintedTextsAreRead, ReadScalesAreLeast};
+ghost use Rattle.stl_grammar.specs.Laws.{OneFormula, OneRefusal, PrintedTextsAreFormulas, PrintedTextsAreRead, ReadScalesAreLeast};
 
 /// A text is that of at most one formula.
 pub fn one_formula()
@@ -20,4 +20,10 @@ pub fn read_scales_are_least()
 /// one formula, of no other.
 pub fn printed_texts_are_read()
     ensures { PrintedTextsAreRead }
+{}
+
+/// The printed text of a formula, in ticks that are as coarse as its numbers allow, is refused only as too long or as too deep: so
+/// `parse` gives that formula back, or says that its text passes one of these two limits.
+pub fn printed_texts_are_formulas()
+    ensures { PrintedTextsAreFormulas }
 {}
