@@ -291,6 +291,53 @@ fn refuses_what_passes_a_limit(rt: HostRuntime) {
     }
 }
 
+/// A formula whose parentheses are those that it needs is printed as it was written.
+#[test]
+fn reads_what_is_printed(rt: HostRuntime) -> Result<(), Fail> {
+    let texts = [
+        "x >= 3",
+        "q >= 1",
+        "z >= 1",
+        "0*x >= 0",
+        "2*x - 3*y >= 1",
+        "x >= 1 and true",
+        "x >= 5 and y >= 1",
+        "x >= 5 or y >= 1",
+        "not (x >= 5 or x < 1)",
+        "eventually[0,3] x >= 5",
+        "eventually[0,3] x >= 0",
+        "eventually[1,2] q >= 1",
+        "eventually[2,2] x >= 5",
+        "eventually]0,2] x >= 7",
+        "eventually[0,2[ x >= 5",
+        "eventually[0,4294967295] x >= 0",
+        "always[0,10] x <= 5",
+        "always[3,4] false",
+        "always[3,4] x >= 0",
+        "always[0,100000] x >= 1",
+        "always[0,200000] x >= 0",
+        "always[0,1500] (brake >= 1 implies eventually[0,199] speed <= 100)",
+        "always[0,1500] (brake >= 1 implies eventually[0,200] speed <= 100)",
+        "once[1,2] q >= 1",
+        "historically[0,1] x >= 1",
+        "historically]0,1[ x >= 1",
+        "p >= 1 since q >= 1",
+        "p >= 1 until[0,8] q >= 1",
+        "x >= 1 until[0,6] x >= 5",
+        "x >= 0 until[0,10] x <= 3",
+        "true until[8,9] x >= 0",
+    ];
+    for text in texts {
+        compare(&rt, text, text, Scale { time: 0, value: 0 })?;
+    }
+    compare(
+        &rt,
+        "(always[0,1000] eventually[0,1048575] x >= 0) and y >= 0",
+        "always[0,1000] eventually[0,1048575] x >= 0 and y >= 0",
+        Scale { time: 0, value: 0 },
+    )
+}
+
 #[test]
 fn reads_long_texts(rt: HostRuntime) -> Result<(), Fail> {
     let alloc = rt.alloc();
