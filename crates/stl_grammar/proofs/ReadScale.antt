@@ -1,6 +1,6 @@
 -- The scale of a formula that was read is the least that holds its numbers.
-use Rattle.std.proofs.Common.{◌≡◌, ℕ, zero, suc, ◌+◌, ◌-◌, ◌*◌, ◌^◌, ◌%◌, ◌<◌, ◌≤◌, List, [], ◌∷◌, ◌++◌, length, reverse, refl, ap, sym, ◌∙◌, Bool, true, false, pos, max, arith, append_assoc, inl, inr, ◌⊎◌}
-use Rattle.std.specs.Prelude.{codes, ◌==◌, nat_abs, neg_ℤ, Option}
+use Rattle.std.proofs.Common.{◌≡◌, ℕ, zero, suc, ◌+◌, ◌-◌, ◌*◌, ◌^◌, ◌%◌, ◌<◌, ◌≤◌, List, [], ◌∷◌, ◌++◌, length, reverse, refl, ap, sym, ◌∙◌, Bool, true, false, max, arith, append_assoc, inl, inr, ◌⊎◌}
+use Rattle.std.specs.Prelude.{codes, ◌==◌, nat_abs, Option}
 use Rattle.std.proofs.lemmas.List.{reverse-append}
 use Rattle.std.proofs.lemmas.Bool.{cases_order, and_parts}
 use Rattle.std.proofs.lemmas.Bool.Decides.{nat_tests}
@@ -16,6 +16,7 @@ use Rattle.stl_grammar.specs.Grammar.{inside, outside, IsFutureWindow, bound, Is
 use Rattle.stl_grammar.specs.Grammar.IsPast.{nothing as since_nothing, bounded as since_bounded, unbounded as since_unbounded}
 use Rattle.stl_grammar.specs.Grammar.{IsFormula, IsDisjunct, IsConjunct, IsTimed, IsOperand, disjunct, implies, conjunct, or, timed, and, operand, until, since, not, eventually, always, once, historically, always_true, always_false, parens, atom}
 use Rattle.stl_grammar.specs.Laws.{with_upper, bounds_of, constants_of, Any, IsUneven, NeedsDigits, ReadScalesAreLeast}
+use Rattle.stl_grammar.proofs.NumberLemmas.{abs_neg}
 use Rattle.stl_grammar.proofs.LeastDigits.{value_low}
 use Rattle.stl_grammar.proofs.TokenEnds.{ends_well, formula_ends, disjunct_ends, conjunct_ends, operand_ends, time_append, value_append, short_atom, short_signed}
 
@@ -290,10 +291,6 @@ constant_any : {d : ℕ} {vs : List Token} {c : _} → IsConstant d vs c → Are
 constant_any {d} (plain {n = n} {k}) h l e = ticks_full d n k e l h.0
 constant_any {d} (positive {n = n} {k}) h l e = ticks_full d n k e l h.0
 constant_any {d} (negative {n = n} {k}) h l e = λ x. ticks_full d n k e l h.0 (ap (λ z. z % 10) (sym (abs_neg (ticks d n k))) ∙ x)
-  where
-    abs_neg : (x : ℕ) → nat_abs (neg_ℤ (pos x)) ≡ x
-    abs_neg zero = refl
-    abs_neg (suc x) = refl
 
 -- a constant that has all the digits
 abbrev HasUnevenConstant : Node → Type 0
