@@ -1,6 +1,6 @@
 -- Where the tokens of a formula have fewer decimals than the scale has digits, its numbers are multiples of ten.
-use Rattle.std.proofs.Common.{◌≡◌, ℕ, zero, suc, ◌+◌, ◌-◌, ◌*◌, ◌^◌, ◌%◌, ◌<◌, ◌≤◌, List, [], ◌∷◌, ◌++◌, length, refl, ap, sym, ◌∙◌, Bool, true, false, pos, arith, append_assoc, inl, inr, ◌⊎◌}
-use Rattle.std.specs.Prelude.{codes, nat_abs, neg_ℤ, Option, All}
+use Rattle.std.proofs.Common.{◌≡◌, ℕ, suc, ◌+◌, ◌-◌, ◌*◌, ◌^◌, ◌%◌, ◌<◌, ◌≤◌, List, [], ◌∷◌, ◌++◌, length, refl, ap, sym, ◌∙◌, Bool, true, false, arith, append_assoc, inl, inr, ◌⊎◌}
+use Rattle.std.specs.Prelude.{codes, nat_abs, Option, All}
 use Rattle.std.proofs.Math.Nat.{pow-suc}
 use Rattle.std.proofs.lemmas.List.{append-nil}
 use Rattle.std.proofs.lemmas.Bool.{cases_order}
@@ -16,6 +16,7 @@ use Rattle.stl_grammar.specs.Grammar.{IsFutureWindow, bound, IsPastWindow, nothi
 use Rattle.stl_grammar.specs.Grammar.IsPast.{nothing as since_nothing, bounded as since_bounded, unbounded as since_unbounded}
 use Rattle.stl_grammar.specs.Grammar.{IsFormula, IsDisjunct, IsConjunct, IsTimed, IsOperand, disjunct, implies, conjunct, or, timed, and, operand, until, since, not, eventually, always, once, historically, always_true, always_false, parens, atom}
 use Rattle.stl_grammar.specs.Laws.{with_upper, bounds_of, constants_of, Any, IsUneven, NeedsDigits, PrintedTextsAreRead}
+use Rattle.stl_grammar.proofs.NumberLemmas.{abs_neg}
 use Rattle.stl_grammar.proofs.PrintedRead.{printed_read}
 
 -- a number with fewer decimals is a multiple of ten ticks
@@ -89,10 +90,6 @@ abs_ticks : {d : ℕ} {vs : List Token} {c : _} (us : List Token) → IsConstant
 abs_ticks {d} us (plain {n = n} {k}) l = ticks_ten d n k l
 abs_ticks {d} us (positive {n = n} {k}) l = ticks_ten d n k l
 abs_ticks {d} us (negative {n = n} {k}) l = ap (λ z. z % 10) (abs_neg (ticks d n k)) ∙ ticks_ten d n k l
-  where
-    abs_neg : (x : ℕ) → nat_abs (neg_ℤ (pos x)) ≡ x
-    abs_neg zero = refl
-    abs_neg (suc x) = refl
 
 module _ (s : Scale) (dt dv : ℕ) where
   -- the node's numbers are multiples of ten where the decimals are fewer

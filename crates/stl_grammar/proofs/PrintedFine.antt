@@ -1,5 +1,5 @@
 -- The tokens of nodes within their limits, with few decimals: no number passes its limit, no bound is out of order, and no fifth term begins.
-use Rattle.std.proofs.Common.{◌≡◌, ℕ, suc, zero, ◌+◌, ◌-◌, ◌*◌, ◌^◌, ◌<◌, ◌≤◌, List, [], ◌∷◌, ◌++◌, length, refl, ap, sym, ◌∙◌, Bool, true, false, arith, append_assoc, lit<}
+use Rattle.std.proofs.Common.{◌≡◌, ℕ, suc, ◌+◌, ◌-◌, ◌*◌, ◌^◌, ◌<◌, ◌≤◌, List, [], ◌∷◌, ◌++◌, length, refl, ap, sym, ◌∙◌, Bool, true, false, arith, append_assoc, lit<}
 use Rattle.std.specs.Prelude.{codes, nat_lt, nat_abs, neg_ℤ, pos, Option, Some, None, All, ◌==◌, ◌||◌}
 use Rattle.std.proofs.Math.Nat.{mul-le-mul_right, one-le-pow}
 use Rattle.std.proofs.lemmas.Bool.Decides.{nat_tests}
@@ -23,6 +23,7 @@ use Rattle.stl_grammar.specs.declared.fault.What.{What}
 use Rattle.stl_grammar.specs.declared.fault.What.TheVariants.{Number, Constant}
 use Rattle.stl_grammar.specs.FormulaRefusals.{passes_limit}
 use Rattle.stl_grammar.specs.Machine.{kind, Owner, of_until, of_since, of_future, of_past, looks_back, at_operand, at_bound, at_term, at_sign, at_constant, at_end, Mark, paren, operator, implication, State, without_operators, step_from, expected_at, fifth_at, disorder_at}
+use Rattle.stl_grammar.proofs.NumberLemmas.{abs_neg}
 use Rattle.stl_grammar.proofs.OneParse.{begins_bracket, operand_bracket}
 use Rattle.stl_grammar.proofs.MachineRuns.{go, go_then, st, term_runs, first_runs, terms_run, signed_runs, window_runs, until_runs, formula_runs, disjunct_runs, conjunct_runs, operand_runs}
 use Rattle.stl_grammar.proofs.ReadNodes.{power_parts, cross, skips}
@@ -203,10 +204,6 @@ since_fine s {ts = ts} (since_unbounded {a = a} {j}) p d c o l h marks n f =
     let z = bound_fine s.time a j d (c (open_bracket ∷ []) (word (codes "inf") ∷ close_bracket ∷ ts) (low a j) refl) l in ((refl, refl, refl), ((refl, refl, z), ((refl, refl, refl), ((refl, refl, refl), ((refl, refl, refl), f)))))
 
 -- atoms
-abs_neg : (x : ℕ) → nat_abs (neg_ℤ (pos x)) ≡ x
-abs_neg zero = refl
-abs_neg (suc x) = refl
-
 term_fine : (s : Scale) {ts : List Token} {k : ℕ} {w : List ℕ} → IsTerm ts k w → k ≤ 16 → Pieces s ts → (j : ℕ) (h : Bool) (marks : List Mark) (n : ℕ) → Fine (st (at_term j) h marks n) ts
 term_fine s (term_name e) l c j h marks n = ((refl, refl, refl), tt)
 term_fine s (scaled {n = i} {k} {w} e) l c j h marks n =

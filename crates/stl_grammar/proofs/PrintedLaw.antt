@@ -1,7 +1,7 @@
 -- A printed text is refused only as too long or too deep.
-use Rattle.std.proofs.Common.{◌≡◌, ℕ, suc, ◌+◌, ◌≤◌, List, [], ◌∷◌, ◌++◌, length, refl, ap, sym, ◌∙◌, Bool, true, false, if◌then◌else◌, inl, inr, ◌⊎◌, arith, append_assoc}
+use Rattle.std.proofs.Common.{◌≡◌, ℕ, suc, ◌+◌, ◌≤◌, List, [], ◌∷◌, ◌++◌, length, refl, ap, sym, ◌∙◌, Bool, true, false, if◌then◌else◌, inl, inr, ◌⊎◌, arith}
 use Rattle.std.specs.Prelude.{codes, reverse, nat_lt, nat_abs, not, ◌&&◌, ◌||◌, Option, Some, None}
-use Rattle.std.proofs.lemmas.List.{append-nil, reverse-append, reverse-reverse}
+use Rattle.std.proofs.lemmas.List.{append-nil, reverse-reverse}
 use Rattle.std.proofs.lemmas.Bool.Decides.{nat_tests}
 use Rattle.std.proofs.lemmas.List.Elements.{All-weaker}
 use Rattle.stl_syntax.specs.Characters.{is_blank, is_among, all}
@@ -22,6 +22,7 @@ use Rattle.stl_grammar.proofs.MachineRuns.{go, st, run_go, formula_runs, run_sto
 use Rattle.stl_grammar.proofs.MachineView.{run_expected, run_nodes, run_fifth, run_disorder, run_future}
 use Rattle.stl_grammar.proofs.PrintedFine.{bad_of, FineAt, Fine, neat_pieces, formula_fine}
 use Rattle.stl_grammar.proofs.PrintedRead.{each_reach, all_fit, printed_read}
+use Rattle.stl_grammar.proofs.ReadNodes.{reverse_more}
 use Rattle.stl_grammar.proofs.RefusalLaw.{token-unique, no_token_at_blank, no_token_at_end}
 use Rattle.stl_grammar.proofs.Rescaled.{rescaled}
 use Rattle.stl_grammar.proofs.WordKinds.{is_inf, looks_ahead, among_ahead, among_inf, among_until}
@@ -31,9 +32,7 @@ abbrev Goes : List Token → List Token → Type 0
 Goes before ts = (nodes : List Node) × IsFormula (record { time = 0; value = 0 }) 0 (reverse before ++ ts) nodes
 
 goes_on : (before : List Token) (t : Token) (ts : List Token) → Goes before (t ∷ ts) → Goes (t ∷ before) ts
-goes_on before t ts g =
-    let e : reverse (t ∷ before) ++ ts ≡ reverse before ++ t ∷ ts = ap (λ z. z ++ ts) (reverse-append (t ∷ []) before) ∙ append_assoc (reverse before) (t ∷ []) ts in
-    (g.0, rw e g.1)
+goes_on before t ts g = (g.0, rw (reverse_more t before ts) g.1)
 
 may_begin : (before ts : List Token) → Goes before ts → MayBegin before
 may_begin before ts g = (ts, g.0, g.1)
@@ -186,9 +185,6 @@ refused_deep before t {text} {ts} p r l g few fine x = by_fault (state_after bef
     by_fault (s, e) (inr (_, inr (_, inr (_, inr (_, inr (_, inr (_, (a, b)))))))) =
         let f = rw e at fine in let z : false ≡ true = sym f.1 ∙ (sym (run_disorder before s e t) ∙ a) in absurd (cc)
 
-shifted : (t : Token) (ts before : List Token) → reverse (t ∷ ts) ++ before ≡ reverse ts ++ t ∷ before
-shifted t ts before = ap (λ z. z ++ before) (reverse-append (t ∷ []) ts) ∙ append_assoc (reverse ts) (t ∷ []) before
-
 -- and so is the text
 only_deep : {text : List ℕ} {ts : List Token} → Lexes text ts → (before : List Token) (p : ℕ) (r : FormulaFault) → Goes before ts → nodes_made (reverse ts ++ before) ≤ 256 → Fine (run before) ts
     → TokenFault before p text r → IsTooLongOrDeep r
@@ -204,12 +200,12 @@ only_deep (token {t = t} bytes text e k l) before p r g few fine (bad_byte c n) 
 only_deep (token {t = t} bytes text e k l) before p r g few fine (at_end n) = absurd (no_token_at_end bytes text t e k)
 only_deep (token {t = t} {tokens = ts} {whole = whole} bytes text e k l) before p r g few fine (here t' bytes' text' e' k' x) =
     let u = token-unique whole bytes bytes' text text' t t' e k e' k' in
-    let m : nodes_made (reverse ts ++ t ∷ before) ≤ 256 = rw (← shifted t ts before) few in
+    let m : nodes_made (reverse ts ++ t ∷ before) ≤ 256 = rw (← reverse_more t ts before) few in
     let n = made_more (reverse ts) (t ∷ before) in
     refused_deep before t p r l g (omega (arith, m, n)) fine.0 (rw (u.0, u.1) x)
 only_deep (token {t = t} {tokens = ts} {whole = whole} bytes text e k l) before p r g few fine (later t' bytes' text' e' k' y z) =
     let u = token-unique whole bytes bytes' text text' t t' e k e' k' in
-    only_deep l (t ∷ before) (p + length bytes) r (goes_on before t ts g) (rw (← shifted t ts before) few) fine.1 (rw (u.0, u.1, u.2) z)
+    only_deep l (t ∷ before) (p + length bytes) r (goes_on before t ts g) (rw (← reverse_more t ts before) few) fine.1 (rw (u.0, u.1, u.2) z)
 
 -- blanks have no tokens, and a formula has some
 blank_tokens : {text : List ℕ} {ts : List Token} → Lexes text ts → all is_blank text ≡ true → ts ≡ []

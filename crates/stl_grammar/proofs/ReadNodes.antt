@@ -335,13 +335,14 @@ mutual
       formula_good g (paren h ∷ marks) n x.0 (covers_left s.time ts (close_paren ∷ []) (covers_rest s.time open_paren (ts ++ close_paren ∷ []) c))
   operand_good (atom {a = a} x) h marks n f c = All-cons IsGood (Leaf a) [] (tt, atom_few x h marks n f) (All-nil IsGood)
 
+-- a list taken from its first element, the last one first
+pub reverse_more : (t : Token) (ts before : List Token) → reverse (t ∷ ts) ++ before ≡ reverse ts ++ t ∷ before
+reverse_more t ts before = ap (λ z. z ++ before) (reverse-append (t ∷ []) ts) ∙ append_assoc (reverse ts) (t ∷ []) before
+
 -- the tokens of a text that is not refused make few nodes
 free_few : (before ts : List Token) → AreFree before ts → nodes_made before ≤ 256 → nodes_made (reverse ts ++ before) ≤ 256
 free_few before [] h l = l
-free_few before (t ∷ ts) h l =
-    let e : reverse (t ∷ ts) ++ before ≡ reverse ts ++ t ∷ before =
-    ap (λ z. z ++ before) (reverse-append (t ∷ []) ts) ∙ append_assoc (reverse ts) (t ∷ []) before in
-    rw e (free_few (t ∷ before) ts h.1 h.0.few)
+free_few before (t ∷ ts) h l = rw (reverse_more t ts before) (free_few (t ∷ before) ts h.1 h.0.few)
 
 -- the nodes of a text that is not refused may be built
 pub nodes_ready : (text : List ℕ) (s : Scale) {ts : List Token} {ns : List Node} → Lexes text ts → ((r : FormulaFault) → ¬ TokenFault [] 0 text r) → IsFormula s 0 ts ns

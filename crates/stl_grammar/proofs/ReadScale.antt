@@ -1,25 +1,24 @@
 -- The scale of a formula that was read is the least that holds its numbers.
-use Rattle.std.proofs.Common.{◌≡◌, ℕ, zero, suc, ◌+◌, ◌-◌, ◌*◌, ◌^◌, ◌%◌, ◌<◌, ◌≤◌, List, [], ◌∷◌, ◌++◌, length, reverse, refl, ap, sym, ◌∙◌, Bool, true, false, pos, max, arith, append_assoc, inl, inr, ◌⊎◌}
-use Rattle.std.specs.Prelude.{codes, ◌==◌, nat_abs, neg_ℤ, Option, Some, None}
-use Rattle.std.proofs.lemmas.List.{append-nil, reverse-append}
+use Rattle.std.proofs.Common.{◌≡◌, ℕ, zero, suc, ◌+◌, ◌-◌, ◌*◌, ◌^◌, ◌%◌, ◌<◌, ◌≤◌, List, [], ◌∷◌, ◌++◌, length, reverse, refl, ap, sym, ◌∙◌, Bool, true, false, max, arith, append_assoc, inl, inr, ◌⊎◌}
+use Rattle.std.specs.Prelude.{codes, ◌==◌, nat_abs, Option}
+use Rattle.std.proofs.lemmas.List.{reverse-append}
 use Rattle.std.proofs.lemmas.Bool.{cases_order, and_parts}
 use Rattle.std.proofs.lemmas.Bool.Decides.{nat_tests}
 use Rattle.stl_syntax.specs.Characters.{is_digit, all, decimal_value, without_zeros, after_first, ticks}
-use Rattle.stl_syntax.specs.Formula.{Formula}
 use Rattle.stl_syntax.specs.declared.scale.Scale.{Scale}
-use Rattle.stl_syntax.specs.declared.rel.Rel.{Rel}
 use Rattle.stl_syntax.specs.declared.node.Node.{Node}
-use Rattle.stl_syntax.specs.declared.node.Node.TheVariants.{Const, Atom as Leaf, Not, And, Or, Implies, Until, Eventually, Always, Since, Once, Historically}
+use Rattle.stl_syntax.specs.declared.node.Node.TheVariants.{Atom as Leaf, Not, Until, Eventually, Always, Since, Once, Historically}
 use Rattle.stl_syntax.proofs.DecimalLemmas.{decimal_value-push, all-without_zeros}
-use Rattle.stl_grammar.specs.Tokens.{IsToken, a_word, an_integer, a_decimal, at_least, at_most, above, below, paren, paren_end, bracket, bracket_end, a_comma, a_star, a_plus, a_minus, Lexes, nothing as no_text, token, blank}
-use Rattle.stl_grammar.specs.Grammar.{top, Token, word, number, relation, open_paren, close_paren, open_bracket, close_bracket, comma, star, plus, minus, first_decimals, value_digits, time_digits, FormulaText}
+use Rattle.stl_grammar.specs.Tokens.{a_word, an_integer, a_decimal, at_least, at_most, above, below, paren, paren_end, bracket, bracket_end, a_comma, a_star, a_plus, a_minus, Lexes, nothing as no_text, token, blank}
+use Rattle.stl_grammar.specs.Grammar.{top, Token, word, number, relation, close_paren, first_decimals, value_digits, time_digits}
 use Rattle.stl_grammar.specs.Grammar.{IsConstant, plain, positive, negative, IsAtom, first, signed}
-use Rattle.stl_grammar.specs.Grammar.{IsOpening, IsClosing, inside, outside, IsFutureWindow, bound, IsPastWindow, nothing, bounded, unbounded, IsFuture, IsPast}
+use Rattle.stl_grammar.specs.Grammar.{inside, outside, IsFutureWindow, bound, IsPastWindow, nothing, bounded, unbounded, IsPast}
 use Rattle.stl_grammar.specs.Grammar.IsPast.{nothing as since_nothing, bounded as since_bounded, unbounded as since_unbounded}
 use Rattle.stl_grammar.specs.Grammar.{IsFormula, IsDisjunct, IsConjunct, IsTimed, IsOperand, disjunct, implies, conjunct, or, timed, and, operand, until, since, not, eventually, always, once, historically, always_true, always_false, parens, atom}
-use Rattle.stl_grammar.specs.Laws.{with_upper, bounds_of, constants_of, Any, IsUneven, NeedsDigits, HasLeastScale, ReadScalesAreLeast}
+use Rattle.stl_grammar.specs.Laws.{with_upper, bounds_of, constants_of, Any, IsUneven, NeedsDigits, ReadScalesAreLeast}
+use Rattle.stl_grammar.proofs.NumberLemmas.{abs_neg}
 use Rattle.stl_grammar.proofs.LeastDigits.{value_low}
-use Rattle.stl_grammar.proofs.TokenEnds.{ends_well, formula_ends, disjunct_ends, conjunct_ends, timed_ends, operand_ends, begins_comma, time_append, value_append, short_atom, short_signed}
+use Rattle.stl_grammar.proofs.TokenEnds.{ends_well, formula_ends, disjunct_ends, conjunct_ends, operand_ends, time_append, value_append, short_atom, short_signed}
 
 -- a decimal whose last digit is no zero is no multiple of ten
 last_uneven : (v : ℕ) (front : List ℕ) (c : ℕ) → is_digit c ≡ true → (c ≡ 48 → ⊥) → IsUneven (decimal_value v (front ++ c ∷ []))
@@ -292,10 +291,6 @@ constant_any : {d : ℕ} {vs : List Token} {c : _} → IsConstant d vs c → Are
 constant_any {d} (plain {n = n} {k}) h l e = ticks_full d n k e l h.0
 constant_any {d} (positive {n = n} {k}) h l e = ticks_full d n k e l h.0
 constant_any {d} (negative {n = n} {k}) h l e = λ x. ticks_full d n k e l h.0 (ap (λ z. z % 10) (sym (abs_neg (ticks d n k))) ∙ x)
-  where
-    abs_neg : (x : ℕ) → nat_abs (neg_ℤ (pos x)) ≡ x
-    abs_neg zero = refl
-    abs_neg (suc x) = refl
 
 -- a constant that has all the digits
 abbrev HasUnevenConstant : Node → Type 0

@@ -66,7 +66,7 @@ PrintedTextsAreRead = (f : Formula) (text : List ℕ) → IsWellFormed f → Has
 abbrev pub IsTooLongOrDeep : FormulaFault → Type 0
 IsTooLongOrDeep r = ((n : ℕ) × (r ≡ TooLong n)) ⊎ ((p : ℕ) × (r ≡ TooDeep p))
 
--- and it is refused for its length or its depth alone
+-- the printed text of a formula is refused for its length or its depth alone
 abbrev pub PrintedTextsAreFormulas : Type 0
 PrintedTextsAreFormulas =
     (f : Formula) (text : List ℕ) (r : FormulaFault) → IsWellFormed f → HasLeastScale f → IsPrintedFormula f text → IsFormulaFault text r → IsTooLongOrDeep r

@@ -22,8 +22,9 @@ pub fn printed_texts_are_read()
     ensures { PrintedTextsAreRead }
 {}
 
-/// The printed text of a formula, in ticks that are as coarse as its numbers allow, is refused only as too long or as too deep: so
-/// `parse` gives that formula back, or says that its text passes one of these two limits.
+/// The printed text of a formula, in ticks that are as coarse as its numbers allow, is refused only as too long (more than 8192
+/// bytes) or too deep (more than 64 parentheses and operators pending). So `parse` gives that formula back, or says that its text
+/// passes one of these two limits.
 pub fn printed_texts_are_formulas()
     ensures { PrintedTextsAreFormulas }
 {}
