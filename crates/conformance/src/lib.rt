@@ -6,4 +6,6 @@ mod shapes;
 pub use shapes::greater_at;
 
 #[cfg(test)]
-mod tests;
+mod shape_tests;
+#[cfg(test)]
+mod signal_tests;
