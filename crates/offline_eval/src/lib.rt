@@ -1,0 +1,10 @@
+//! The signal of each node of a formula, from the signals of its atoms.
+#![tactic(auto)]
+
+mod atoms;
+mod evaluation;
+mod faults;
+
+pub use atoms::Atoms;
+pub use evaluation::{Evaluated, eval};
+pub use faults::{EvalFault, WideCause};
