@@ -4,3 +4,4 @@ pub mod Parts
 pub mod Spans
 pub mod Tops
 pub mod Fractions
+pub mod SignalLaw

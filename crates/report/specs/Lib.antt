@@ -4,3 +4,5 @@ pub mod Report
 pub mod Units
 pub mod Appended
 pub mod Numbers
+pub mod SignalVerdicts
+pub mod Laws
