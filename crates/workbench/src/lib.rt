@@ -2,10 +2,14 @@
 #![tactic(auto)]
 
 mod answer;
+mod case;
+mod fault;
+mod formula;
+mod line;
+mod not_built;
 mod output;
-mod plain_formula;
 mod reading;
-mod spans;
+mod texts;
 mod top;
 mod words;
 
