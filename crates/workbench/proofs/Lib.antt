@@ -6,3 +6,8 @@ pub mod Lacking
 pub mod LineTexts
 pub mod FaultLines
 pub mod Endings
+pub mod HeaderLines
+pub mod FaultPlaces
+pub mod Sizes
+pub mod OneLine
+pub mod Feeding

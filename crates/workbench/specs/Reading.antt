@@ -75,6 +75,7 @@ IsTied f (Some h) bytes rows (Some c) = IsCase f c × (c.trace.rows ≡ rows) ×
 -- the reader took these bytes, and this is what was kept of them
 pub record IsKept (f : Formula) (reader : Reader) (case : Option Case) (bytes : List ℕ) : Type 0 where
   pub rows : List Row
+  pub ticks : IsScale f.scale
   pub least : reader.least ≡ f.scale
   pub stands : StandsFor reader bytes rows
   pub tied : IsTied f reader.heading bytes rows case

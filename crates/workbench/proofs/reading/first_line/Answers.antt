@@ -1,3 +1,7 @@
+use Rattle.workbench.proofs.Feeding.{no_lack}
+use Rattle.workbench.proofs.Sizes.{few_bytes}
+use Rattle.workbench.proofs.FaultPlaces.{after_header}
+use Rattle.workbench.proofs.HeaderLines.{header_once}
 use Rattle.std.proofs.Common.{sym, ◌∙◌}
 use Rattle.trace_reader.proofs.FeedLemmas.{none-all, at-taken, at-through}
 use Rattle.workbench.proofs.reading.first_line.Goals as goal
