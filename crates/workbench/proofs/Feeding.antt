@@ -13,9 +13,10 @@ use Rattle.stl_syntax.specs.declared.scale.Scale.{Scale}
 use Rattle.trace_reader.specs.TraceText.{Line, lines, Heading, scale_of, TraceOf}
 use Rattle.trace_reader.specs.TraceRefusals.{FaultFrom, IsFirstFault}
 use Rattle.trace_reader.specs.Plain.{HasNoFeed, through_feed, rows_after}
-use Rattle.trace_reader.specs.Reader.{Reader, StandsFor, IsFaultOfAll, EndsWithFeed, IsNextRow, HasRead, header_of}
+use Rattle.trace_reader.specs.Reader.{Reader, StandsFor, IsFaultOfAll, EndsWithFeed, IsNextRow, HasRead, HasCome, header_of, header_read}
 use Rattle.trace_reader.specs.declared.refusal.Limits.{Limits}
 use Rattle.trace_reader.specs.declared.refusal.TraceRefusal.{TraceRefusal}
+use Rattle.trace_reader.specs.declared.event.Event.{Event}
 use Rattle.trace_reader.specs.declared.event.Event.TheVariants.{Nothing, Header as IsTheHeader, Row as IsARow}
 use Rattle.trace_reader.proofs.LineLemmas.{done, lines-append}
 use Rattle.trace_reader.proofs.ReaderTakes.{through_parts}
@@ -26,7 +27,7 @@ use Rattle.workbench.specs.declared.case.Case.{Case}
 use Rattle.workbench.specs.declared.fault.TraceFault.TheVariants.{Trace as InTrace}
 use Rattle.workbench.specs.declared.fault.Stop.{Stop}
 use Rattle.workbench.specs.declared.fault.Stop.TheVariants.{Fault as Faulty, Unread, Unwritten, NoMemory}
-use Rattle.workbench.proofs.HeaderLines.{IsBlank, header_once, header_read, header_stays, header_within, header_after, ticks_small, heading_is}
+use Rattle.workbench.proofs.HeaderLines.{IsBlank, header_once, header_read as header_of_lines, header_stays, header_within, header_after, ticks_small, heading_is}
 use Rattle.workbench.proofs.FaultPlaces.{IsAtEndOf, after_header, fault_within}
 use Rattle.workbench.proofs.OneLine.{IsOneLine, through_line, closed_line, one_at_most, fed_line, taken_of, left_over}
 
@@ -59,7 +60,7 @@ header_goes_on {f} {bytes} more t = record {
 pub same_header : {f : Formula} {bytes : List ℕ} {header : Header} → IsHeaderOf f bytes header → (ended : Bool) (h : Heading) {rows : List Row}
     → TraceOf bytes ended f.scale (header_of f.scale h) rows → header ≡ header_of f.scale h
 same_header {f} {bytes} t ended h read =
-    let (n, g, at, e) = header_read read in
+    let (n, g, at, e) = header_of_lines read in
     let mine = subst (λ b. IsHeaderAt (lines ended b) t.line t.heading) (append-nil bytes) (t.at ended []) in
     t.is ∙ ap (header_of f.scale) (header_once mine at).1 ∙ sym e
 
@@ -126,7 +127,7 @@ pub header_came : (old new : Reader) (bytes taken w : List ℕ) (rows later : Li
     → StandsFor new (bytes ++ taken) later → new.heading ≡ Some h → HasNoFeed w → taken ≡ w ++ 10 ∷ []
     → (g : Heading) × (header_of new.least h ≡ header_of new.least g) × HasHeaderLine new.limits new.least (bytes ++ taken) new.begun g
 header_came old new bytes taken w rows later h s first t some free is =
-    let (n, g, at, e) = header_read (subst (λ o. HasRead o new.least (bytes ++ taken) later) some t.read) in
+    let (n, g, at, e) = header_of_lines (subst (λ o. HasRead o new.least (bytes ++ taken) later) some t.read) in
     (g, e, line n g at)
   where
     all : List Line
@@ -242,3 +243,88 @@ kept_row f old new case bytes more r k s least same can = record {
   tied = subst (λ o. IsTied f o (bytes ++ more) (k.rows ++ r ∷ []) (option_map (with_row r) case)) (sym same)
       (tied_on f old.heading bytes more (k.rows ++ r ∷ []) (option_map (with_row r) case) (with_next f old.heading bytes k.rows case r k.tied can));
 }
+
+-- a push of a line's bytes that came to the header
+pub record HeaderStep (f : Formula) (old new : Reader) (rows : List Row) (bytes piece : List ℕ) (k : ℕ) (header : Header) : Type 0 where
+  pub heading : Heading
+  pub some : new.heading ≡ Some heading
+  pub first : old.heading ≡ None
+  pub columns : Heading
+  pub is : header ≡ header_of f.scale columns
+  pub line : HasHeaderLine old.limits f.scale (bytes ++ take k piece) new.begun columns
+  pub stands : StandsFor new (bytes ++ take k piece) rows
+  pub ticks : IsScale (scale_of f.scale columns)
+  pub left : bytes ++ piece ≡ (bytes ++ take k piece) ++ drop k piece
+
+pub header_step : (f : Formula) (old new : Reader) (case : Option Case) (bytes piece line : List ℕ) (k : ℕ) (event : Event) (header : Header) (kept : IsKept f old case bytes)
+    → line ≡ through_feed piece → k ≤ length line → event ≡ IsTheHeader → HasCome event old new (take k line)
+    → StandsFor new (bytes ++ take k line) (rows_after event kept.rows new.row) → new.limits ≡ old.limits → new.least ≡ old.least → header_read new ≡ Some header
+    → HeaderStep f old new kept.rows bytes piece k header
+header_step f old new case bytes piece line k event header kept one within is came stands limits least read = by_parts (heading_of new.least new.heading header read)
+  where
+    short : k ≤ length (through_feed piece)
+    short = subst (λ l. k ≤ length l) one within
+
+    same : take k line ≡ take k piece
+    same = ap (take k) one ∙ taken_of k piece short
+
+    here : HasCome IsTheHeader old new (take k line)
+    here = subst (λ (e : Event). HasCome e old new (take k line)) is came
+
+    closed : (w : List ℕ) × HasNoFeed w × (take k (through_feed piece) ≡ w ++ 10 ∷ [])
+    closed = fed_line k (through_feed piece) (through_line piece) (subst (λ l. EndsWithFeed (take k l)) one here.4)
+
+    after : StandsFor new (bytes ++ take k piece) kept.rows
+    after = subst (λ t. StandsFor new (bytes ++ t) kept.rows) same (subst (λ (e : Event). StandsFor new (bytes ++ take k line) (rows_after e kept.rows new.row)) is stands)
+
+    scale : new.least ≡ f.scale
+    scale = least ∙ kept.least
+
+    by_parts : (h : Heading) × (new.heading ≡ Some h) × (header ≡ header_of new.least h) → HeaderStep f old new kept.rows bytes piece k header
+    by_parts (h, some, e) =
+        let (w, free, taken) = closed in
+        let (g, agrees, at) = header_came old new bytes (take k piece) w kept.rows kept.rows h kept.stands here.0 after some free (sym (taken_of k piece short) ∙ taken) in
+        let line = subst (λ (s : Scale). HasHeaderLine old.limits s (bytes ++ take k piece) new.begun g) scale (subst (λ (l : Limits). HasHeaderLine l new.least (bytes ++ take k piece) new.begun g) limits at) in
+        record {
+          heading = h;
+          some = some;
+          first = here.0;
+          columns = g;
+          is = e ∙ agrees ∙ ap (λ (s : Scale). header_of s g) scale;
+          line = line;
+          stands = after;
+          ticks = header_ticks line kept.ticks;
+          left = left_over bytes piece k short ∙ ap (λ t. (bytes ++ t) ++ drop k piece) (taken_of k piece short);
+        }
+
+-- a push of a line's bytes that came to a row
+pub record RowStep (old new : Reader) (case : Option Case) (rows : List Row) (bytes piece : List ℕ) (k : ℕ) : Type 0 where
+  pub same : new.heading ≡ old.heading
+  pub stands : StandsFor new (bytes ++ take k piece) (rows ++ new.row ∷ [])
+  pub can : CanKeep case new.row
+
+pub row_step : (f : Formula) (old new : Reader) (case : Option Case) (bytes piece line : List ℕ) (k : ℕ) (event : Event) (kept : IsKept f old case bytes)
+    → line ≡ through_feed piece → k ≤ length line → event ≡ IsARow → HasCome event old new (take k line)
+    → StandsFor new (bytes ++ take k line) (rows_after event kept.rows new.row) → IsNextRow event new.heading kept.rows new.row → RowStep old new case kept.rows bytes piece k
+row_step f old new case bytes piece line k event kept one within is came stands next = record {
+  same = here.1;
+  stands = subst (λ t. StandsFor new (bytes ++ t) (kept.rows ++ new.row ∷ [])) same
+      (subst (λ (e : Event). StandsFor new (bytes ++ take k line) (rows_after e kept.rows new.row)) is stands);
+  can = can_keep f old case bytes new.heading new.row kept here.1 (subst (λ (e : Event). IsNextRow e new.heading kept.rows new.row) is next);
+}
+  where
+    same : take k line ≡ take k piece
+    same = ap (take k) one ∙ taken_of k piece (subst (λ l. k ≤ length l) one within)
+
+    here : HasCome IsARow old new (take k line)
+    here = subst (λ (e : Event). HasCome e old new (take k line)) is came
+
+-- a push of a line's bytes that came to nothing
+pub nothing_step : (f : Formula) (old new : Reader) (case : Option Case) (bytes piece line : List ℕ) (k : ℕ) (event : Event) (kept : IsKept f old case bytes)
+    → line ≡ through_feed piece → k ≤ length line → event ≡ Nothing → HasCome event old new (take k line)
+    → StandsFor new (bytes ++ take k line) (rows_after event kept.rows new.row) → new.least ≡ old.least → IsKept f new case (bytes ++ take k piece)
+nothing_step f old new case bytes piece line k event kept one within is came stands least =
+    let same : take k line ≡ take k piece = ap (take k) one ∙ taken_of k piece (subst (λ l. k ≤ length l) one within) in
+    let here : HasCome Nothing old new (take k line) = subst (λ (e : Event). HasCome e old new (take k line)) is came in
+    let after = subst (λ (e : Event). StandsFor new (bytes ++ take k line) (rows_after e kept.rows new.row)) is stands in
+    kept_on f old new case bytes (take k piece) kept (subst (λ t. StandsFor new (bytes ++ t) kept.rows) same after) least here.0

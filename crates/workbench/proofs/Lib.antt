@@ -11,3 +11,4 @@ pub mod FaultPlaces
 pub mod Sizes
 pub mod OneLine
 pub mod Feeding
+pub mod Fed

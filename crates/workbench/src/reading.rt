@@ -15,7 +15,9 @@ use trace_reader::{Event, Limits, Rows, TraceKind, TraceRefusal};
 
 /// The bytes of a piece up to and with its first LF, or all where there is none.
 fn first_line(piece: &[u8]) -> &[u8]
-    ensures { result.now ≡ through_feed piece.now }
+    ensures line { result.now ≡ through_feed piece.now }
+    ensures short { length result.now ≤ length piece.now }
+    ensures some { 0 < length piece.now → 0 < length result.now }
 {
     match memchr(b'\n', piece) {
         Some(at) => &piece[..at + 1],
