@@ -66,7 +66,7 @@ same_header {f} {bytes} t ended h read =
 
 -- where no header was read, the lines that are whole are blank, and the others come after them
 module _ {r : Reader} {bytes : List ℕ} {rows : List Row} (s : StandsFor r bytes rows) (first : r.heading ≡ None) where
-  blank_front : All IsBlank s.taken.front
+  pub blank_front : All IsBlank s.taken.front
   blank_front = (s.taken.goes_on.blank first).0
 
   pub header_beyond : (ended : Bool) (more : List ℕ) {n : ℕ} {h : Heading} → IsHeaderAt (lines ended (bytes ++ more)) n h → length s.taken.front < n

@@ -12,3 +12,4 @@ pub mod Sizes
 pub mod OneLine
 pub mod Feeding
 pub mod Fed
+pub mod Ends
