@@ -13,3 +13,5 @@ pub mod OneLine
 pub mod Feeding
 pub mod Fed
 pub mod Ends
+pub mod Progress
+pub mod LastFaults
