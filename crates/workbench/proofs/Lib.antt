@@ -15,3 +15,5 @@ pub mod Fed
 pub mod Ends
 pub mod Progress
 pub mod LastFaults
+pub mod FaultsStay
+pub mod Runs

@@ -148,9 +148,9 @@ IsToldRightly words left left_after ended told told_after faults faults_after st
     → (line : List ℕ) × IsErrLine words left left_after ended status line × IsMessage line message faults faults_after
 
 -- the line was written, or where the count of faults rose a part of it
-pub data IsSaid (told told_after : Option (List ℕ)) (faults faults_after : ℕ) (line : List ℕ) : Type 0 where
-  whole : Appends told told_after line → IsSaid told told_after faults faults_after line
-  part : IsPartWritten told told_after line → Rose faults faults_after → IsSaid told told_after faults faults_after line
+pub data IsSaid (told told_after : Option (List ℕ)) (faults faults_after : ℕ) : List ℕ → Type 0 where
+  whole : {line : List ℕ} → Appends told told_after line → IsSaid told told_after faults faults_after line
+  part : {line : List ℕ} → IsPartWritten told told_after line → Rose faults faults_after → IsSaid told told_after faults faults_after line
 
 -- how the writing of an answer ends
 pub data IsWrittenWith (holds : Bool) (text : List ℕ) (held held_after : Option (List ℕ)) : Result Bool Stop → Type 0 where
