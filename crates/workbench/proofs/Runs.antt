@@ -351,3 +351,19 @@ module _ (words : List (List ℕ)) (left left_after : Option (List ℕ)) (ended 
   pub run_told : {status : ℕ} {line : List ℕ} {told told_after : Option (List ℕ)} {faults faults_after : ℕ} → Run status line → IsSaid told told_after faults faults_after line
       → IsToldRightly words left left_after ended told told_after faults faults_after status
   run_told {line = line} r said message got = (line, run_line r, message_of said message got)
+
+-- how a check ends the run
+pub checked_run : (words : List (List ℕ)) (left left_after : Option (List ℕ)) (ended : Bool) (held held_after : Option (List ℕ)) (f : Formula) (ending : Result Bool Stop) (status : ℕ) (line : List ℕ)
+    → status ≡ status_of ending → AskFor words f → IsEnding f left left_after ended held held_after ending → IsEndLine f ending line → IsRun words left left_after ended held held_after status line
+checked_run words left left_after ended held held_after f ending status line e ask end told =
+    subst (λ s. IsRun words left left_after ended held held_after s line) (sym e) (checked f ending ask end told)
+
+pub not_early : (status n : ℕ) → (status ≡ 3) ⊎ (status ≡ 7) → (n ≡ 5) ⊎ (n ≡ 6) → status ≢ n
+not_early status n (inl a) (inl b) e = omega (arith, a, b, e)
+not_early status n (inl a) (inr b) e = omega (arith, a, b, e)
+not_early status n (inr a) (inl b) e = omega (arith, a, b, e)
+not_early status n (inr a) (inr b) e = omega (arith, a, b, e)
+
+pub not_small : (status : ℕ) → (status ≡ 3) ⊎ (status ≡ 7) → ¬ (status ≤ 1)
+not_small status (inl a) e = omega (arith, a, e)
+not_small status (inr a) e = omega (arith, a, e)

@@ -75,7 +75,8 @@ fn say<E: Sink>(err: &mut E, line: &Line<'_>)
 
 /// The status of a refusal of the formula.
 fn formula_status(fault: FormulaFault) -> u8
-    ensures { result ≡ status_of_fault fault }
+    ensures status { result ≡ status_of_fault fault }
+    ensures few { (result ≡ 3) ⊎ (result ≡ 7) }
 {
     match fault {
         FormulaFault::Memory => 7,
@@ -87,6 +88,7 @@ fn formula_status(fault: FormulaFault) -> u8
 fn refuse<E: Sink>(err: &mut E, bad: BadFormula) -> u8
     ensures ended { (text : List ℕ) → IsBadFormula text bad
         → (line : List ℕ) × IsBadEnd text result line × IsSaid (E.written err.old) (E.written err.new) (E.faults err.old) (E.faults err.new) line }
+    ensures few { (result ≡ 3) ⊎ (result ≡ 7) }
     ensures later { E.faults err.old ≤ E.faults err.new }
 {
     match bad {

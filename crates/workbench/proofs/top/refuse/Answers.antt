@@ -5,7 +5,7 @@ use Rattle.workbench.proofs.top.refuse.Goals as goal
 pub returns-in-Refused-clause-ended : goal.returns-in-Refused-clause-ended
 returns-in-Refused-clause-ended g c = λ text h. (
   line_text c.formula_line.result,
-  refused_told text c.args.bad c.in-Refused.fault (line_text c.formula_line.result) c.formula_status.result c.in-Refused.is c.formula_line.ensures c.formula_status.ensures h,
+  refused_told text c.args.bad c.in-Refused.fault (line_text c.formula_line.result) c.formula_status.result c.in-Refused.is c.formula_line.ensures c.formula_status.ensures.status h,
   c.say.ensures.said,
 )
 
