@@ -1,18 +1,18 @@
 -- Values within their limits, on gaps and at the ends of gaps.
-use Rattle.std.proofs.Common.{ℕ, ℤ, pos, negsuc, neg_ℤ, nat_abs, ◌≤◌, ◌^◌, ◌⊎◌, inl, inr, Bool, true, false, List, [], ◌∷◌, arith}
+use Rattle.std.proofs.Common.{ℕ, pos, negsuc, neg_ℤ, nat_abs, ◌≤◌, ◌^◌, ◌⊎◌, inl, inr, Bool, true, false, List, [], ◌∷◌, arith}
 use Rattle.std.proofs.lemmas.Int.{ints}
-use Rattle.rational.specs.Time.{Rational, ◌≤ʳ◌, ◌<ʳ◌, ◌≈◌, whole}
+use Rattle.rational.specs.Time.{Rational, ◌≤ʳ◌, ◌<ʳ◌, whole}
 use Rattle.rational.specs.Rational.{IsWithin}
-use Rattle.rational.specs.Line.{Line, at}
-use Rattle.rational.specs.Extended.{Extended, minus_infinity, finite, infinity, Affine, always_low, affine, always_high, value_at, ◌≈ᵉ◌}
+use Rattle.rational.specs.Line.{at}
+use Rattle.rational.specs.Extended.{Extended, finite, Affine, always_low, affine, always_high, value_at}
 use Rattle.rational.specs.Affine.{IsBounded}
-use Rattle.rational.proofs.Order.{le_or_lt, le_trans, le_of_same, ge_of_same, le_of_lt, not_lt_of_le, same_refl, same_of_le}
+use Rattle.rational.proofs.Order.{le_or_lt, le_trans, le_of_same, ge_of_same, le_of_lt, not_lt_of_le, same_refl}
 use Rattle.rational.proofs.Field.{le_negate}
 use Rattle.rational.proofs.AffineLemmas.{same_reflᵉ, near_start, near_stop, above_start, above_stop, lies_between}
 use Rattle.value_laws.specs.Values.{truth_value}
 use Rattle.pl_signal.specs.declared.knot.Knot.{Knot}
 use Rattle.pl_signal.specs.Knots.{time, start, stop, Each, IsKnot, IsSignal, IsWorth}
-use Rattle.pl_signal.specs.Limits.{HasBoundedLimits, IsLimitedKnot, IsLimited}
+use Rattle.pl_signal.specs.Limits.{IsLimitedKnot, IsLimited}
 use Rattle.pl_signal.proofs.Values.{to_stop}
 use Rattle.stl_syntax.specs.Truth.{compares}
 use Rattle.stl_syntax.specs.SupInf.{margin}
@@ -22,15 +22,7 @@ use Rattle.atom_lines.specs.declared.gap.Gap.{Gap}
 use Rattle.atom_lines.specs.Gaps.{along}
 use Rattle.atom_lines.specs.Told.{Told, by_truth, by_margin, worth}
 use Rattle.atom_lines.proofs.Crossings.{at_first, at_second}
-use Rattle.atom_lines.proofs.Tellings.{bounded_same, within_whole}
-
--- a bounded value by another pair
-pub bounded_equal : (n : ℕ) (v w : Extended) → v ≈ᵉ w → IsBounded n w → IsBounded n v
-bounded_equal n minus_infinity w e h = tt
-bounded_equal n (finite x) minus_infinity e h = absurd e.at_most
-bounded_equal n (finite x) (finite y) e h = bounded_same n (finite x) y e h
-bounded_equal n (finite x) infinity e h = absurd e.at_least
-bounded_equal n infinity w e h = tt
+use Rattle.rational.proofs.Mixed.{within_whole}
 
 truth_within : (b : Bool) → IsWithin (2 ^ 31) (whole (truth_value b))
 truth_within true = let h : nat_abs (pos 1) ≤ 2 ^ 31 = omega (arith, ints) in within_whole (2 ^ 31) (pos 1) h

@@ -14,3 +14,6 @@ pub mod LevelLemmas
 pub mod Lowest
 pub mod Meetings
 pub mod Sups
+pub mod Between
+pub mod Ways
+pub mod AffineMeetings

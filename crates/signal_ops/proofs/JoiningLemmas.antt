@@ -1,10 +1,11 @@
 -- One gap of the least or the greatest of two signals.
-use Rattle.std.proofs.Common.{◌≡◌, ℕ, ◌⊎◌, inl, inr, List, Bool, true, false, refl, sym, ◌∙◌, subst}
-use Rattle.rational.specs.Rational.{Rational, IsWithin, ◌<ʳ◌, ◌≈◌}
+use Rattle.std.proofs.Common.{◌≡◌, ◌⊎◌, inl, inr, List, Bool, true, false, refl, sym, ◌∙◌, subst}
+use Rattle.rational.specs.Rational.{Rational, ◌<ʳ◌, ◌≈◌}
 use Rattle.rational.specs.Extended.{Extended, ◌≈ᵉ◌, Affine, value_at, Passes}
 use Rattle.rational.specs.Affine.{MeetAlone}
-use Rattle.rational.proofs.Order.{le_trans, le_of_lt, lt_trans, lt_of_le_of_lt, lt_of_lt_of_le, le_of_same, ge_of_same, same_refl}
+use Rattle.rational.proofs.Order.{lt_trans, lt_of_le_of_lt, lt_of_lt_of_le, le_of_same, ge_of_same, same_refl}
 use Rattle.rational.proofs.ExtendedLemmas.{le_transᵉ}
+use Rattle.rational.proofs.AffineMeetings.{alone_swap}
 use Rattle.rational.proofs.AffineLemmas.{same_symᵉ, same_transᵉ, value_same}
 use Rattle.frac128.specs.Value.{value}
 use Rattle.frac128.specs.declared.frac.Frac.{Frac}
@@ -12,16 +13,12 @@ use Rattle.pl_signal.specs.declared.knot.Knot.{Knot}
 use Rattle.pl_signal.specs.Knots.{stop, HasShape, IsWorth}
 use Rattle.pl_signal.specs.Building.{GoesOn}
 use Rattle.signal_ops.specs.Joining.{IsChosen, Joins}
-use Rattle.signal_ops.proofs.Choices.{IsTaken, chosen_first, chosen_second, taken_between, taken_same, meet_swap}
+use Rattle.signal_ops.proofs.Choices.{IsTaken, chosen_first, chosen_second, taken_between, taken_same}
 
 -- the chosen value by another pair
 pub chosen_same : (b : Bool) (x y v w : Extended) → v ≈ᵉ w → IsChosen b x y v → IsChosen b x y w
 chosen_same true x y v w e h = record { left = le_transᵉ w v x e.at_least h.left; right = le_transᵉ w v y e.at_least h.right; one_of = elim h.one_of [ inl l ↦ inl (le_transᵉ x v w l e.at_most) | inr l ↦ inr (le_transᵉ y v w l e.at_most) ] }
 chosen_same false x y v w e h = record { left = le_transᵉ x v w h.left e.at_most; right = le_transᵉ y v w h.right e.at_most; one_of = elim h.one_of [ inl l ↦ inl (le_transᵉ w v x e.at_least l) | inr l ↦ inr (le_transᵉ w v y e.at_least l) ] }
-
--- a time between two that are within n is so too
-pub within_between : (n : ℕ) {a t b : Rational} → IsWithin n a → IsWithin n b → a <ʳ t → t <ʳ b → IsWithin n t
-within_between n h k a b = (le_trans h.0 (le_of_lt a), le_trans (le_of_lt b) k.1)
 
 -- a value is of the old signal, of the gap or of its end
 abbrev IsPiece : {P : Type 0} → (P → Affine) → Bool → List (Knot P) → P → P → P → Frac → Rational → Extended → Type 0
@@ -123,13 +120,13 @@ module _ {P : Type 0} (function : P → Affine) where
       joins_two b old half new p q p q point middle to on on' (inl (refl, refl)) (subst (λ s. s <ʳ value middle) (sym e) m.after) m.before
       (λ t x y. chosen_first b (value_at (function p) t) (value_at (function q) t) (taken_between b (function p) (function q) (value from) t (value middle) (subst (λ s. s <ʳ t) e x) y h (meeting b (function p) (function q) (value from) (value to) (value middle) (value middle) m (same_refl (value middle)))))
       (λ t x. chosen_first b (value_at (function p) t) (value_at (function q) t) (meeting b (function p) (function q) (value from) (value to) (value middle) t m x))
-      (λ t x y. chosen_second b (value_at (function p) t) (value_at (function q) t) (taken_between b (function q) (function p) (value middle) t (value to) x y (meeting b (function q) (function p) (value from) (value to) (value middle) (value middle) (meet_swap m) (same_refl (value middle))) k))
+      (λ t x y. chosen_second b (value_at (function p) t) (value_at (function q) t) (taken_between b (function q) (function p) (value middle) t (value to) x y (meeting b (function q) (function p) (value from) (value to) (value middle) (value middle) (alone_swap m) (same_refl (value middle))) k))
 
   pub second_then : (b : Bool) (old half new : List (Knot P)) (p q point : P) (from to middle : Frac) → stop old ≡ value from → IsTaken b (value_at (function q) (value from)) (value_at (function p) (value from))
       → IsTaken b (value_at (function p) (value to)) (value_at (function q) (value to)) → MeetAlone (function p) (function q) (value from) (value to) (value middle)
       → GoesOn function old q middle q half → GoesOn function half p to point new → Joins function b old p q to point new
   second_then b old half new p q point from to middle e h k m on on' =
       joins_two b old half new p q q p point middle to on on' (inr (refl, refl)) (subst (λ s. s <ʳ value middle) (sym e) m.after) m.before
-      (λ t x y. chosen_second b (value_at (function p) t) (value_at (function q) t) (taken_between b (function q) (function p) (value from) t (value middle) (subst (λ s. s <ʳ t) e x) y h (meeting b (function q) (function p) (value from) (value to) (value middle) (value middle) (meet_swap m) (same_refl (value middle)))))
-      (λ t x. chosen_second b (value_at (function p) t) (value_at (function q) t) (meeting b (function q) (function p) (value from) (value to) (value middle) t (meet_swap m) x))
+      (λ t x y. chosen_second b (value_at (function p) t) (value_at (function q) t) (taken_between b (function q) (function p) (value from) t (value middle) (subst (λ s. s <ʳ t) e x) y h (meeting b (function q) (function p) (value from) (value to) (value middle) (value middle) (alone_swap m) (same_refl (value middle)))))
+      (λ t x. chosen_second b (value_at (function p) t) (value_at (function q) t) (meeting b (function q) (function p) (value from) (value to) (value middle) t (alone_swap m) x))
       (λ t x y. chosen_first b (value_at (function p) t) (value_at (function q) t) (taken_between b (function p) (function q) (value middle) t (value to) x y (meeting b (function p) (function q) (value from) (value to) (value middle) (value middle) m (same_refl (value middle))) k))

@@ -1,6 +1,7 @@
 use Rattle.frac128.specs.Value.{value}
 use Rattle.rational.specs.Affine.{MeetAlone}
-use Rattle.signal_ops.proofs.Choices.{meets, none_says}
+use Rattle.rational.proofs.AffineMeetings.{meets}
+use Rattle.signal_ops.proofs.Choices.{none_says}
 use Rattle.signal_ops.proofs.joining.crossing.Goals as goal
 
 pub unreachable-requires : goal.unreachable-requires

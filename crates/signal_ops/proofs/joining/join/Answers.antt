@@ -3,18 +3,20 @@ use Rattle.rational.specs.Rational.{IsWithin}
 use Rattle.rational.specs.Extended.{value_at}
 use Rattle.frac128.specs.Value.{value}
 use Rattle.signal_ops.proofs.Choices.{taken_first, taken_second, taken_of_less, taken_of_equal, taken_of_greater}
-use Rattle.signal_ops.proofs.JoiningLemmas.{within_between, all_first, all_second, first_then, second_then}
+use Rattle.rational.proofs.Order.{le_of_lt}
+use Rattle.rational.proofs.Mixed.{within_between}
+use Rattle.signal_ops.proofs.JoiningLemmas.{all_first, all_second, first_then, second_then}
 use Rattle.signal_ops.proofs.joining.join.Goals as goal
 
 pub step-requires-in-Greater-favour-clause-limited : goal.step-requires-in-Greater-favour-clause-limited
 step-requires-in-Greater-favour-clause-limited g c =
     subst (IsWithin (2 ^ 34)) (sym c.in_ok-step-in-Greater-favour.ensures.ok.ends)
-    (within_between (2 ^ 34) c.requires.from_within c.requires.to_within c.in_ok-middle-in-Greater-favour.ensures.after c.in_ok-middle-in-Greater-favour.ensures.before)
+    (within_between (2 ^ 34) c.requires.from_within c.requires.to_within (le_of_lt c.in_ok-middle-in-Greater-favour.ensures.after) (le_of_lt c.in_ok-middle-in-Greater-favour.ensures.before))
 
 pub step-requires-in-Less-favour-2-clause-limited : goal.step-requires-in-Less-favour-2-clause-limited
 step-requires-in-Less-favour-2-clause-limited g c =
     subst (IsWithin (2 ^ 34)) (sym c.in_ok-step-in-Less-favour.ensures.ok.ends)
-    (within_between (2 ^ 34) c.requires.from_within c.requires.to_within c.in_ok-middle-in-Less-favour.ensures.after c.in_ok-middle-in-Less-favour.ensures.before)
+    (within_between (2 ^ 34) c.requires.from_within c.requires.to_within (le_of_lt c.in_ok-middle-in-Less-favour.ensures.after) (le_of_lt c.in_ok-middle-in-Less-favour.ensures.before))
 
 pub returns-in_ok-step-in-Greater-favour-2-clause-ok : goal.returns-in_ok-step-in-Greater-favour-2-clause-ok
 returns-in_ok-step-in-Greater-favour-2-clause-ok g c =
