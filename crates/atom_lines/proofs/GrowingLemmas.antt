@@ -41,7 +41,8 @@ use Rattle.atom_lines.specs.Growing.{IsRowBase, GoesAlong, HasGrown}
 use Rattle.atom_lines.specs.AtomSignals.{IsAtomSignal}
 use Rattle.atom_lines.proofs.SumLemmas.{tied, expression_at_row, expression_along}
 use Rattle.rational.specs.Affine.{IsBounded}
-use Rattle.atom_lines.proofs.Limited.{worth_bounded, along_within, limited}
+use Rattle.atom_lines.proofs.Limited.{worth_bounded, along_within}
+use Rattle.pl_signal.proofs.Limits.{limited}
 use Rattle.atom_lines.proofs.Tellings.{worth_same, gives, given}
 
 -- a truth is worth what its comparison is

@@ -17,3 +17,5 @@ pub mod Sups
 pub mod Between
 pub mod Ways
 pub mod AffineMeetings
+pub mod LimitLemmas
+pub mod Bounds
