@@ -7,3 +7,5 @@ pub mod Steady
 pub mod NodeLemmas
 pub mod Places
 pub mod Evaluating
+pub mod Never
+pub mod Having

@@ -1,16 +1,17 @@
 -- Counting along the nodes of a formula, and the signal of an atom's place.
-use Rattle.std.proofs.Common.{◌≡◌, ℕ, ℤ, zero, suc, ◌+◌, false, cond, List, [], ◌∷◌, take, drop, Some, ap, sym, ◌∙◌, subst, refl, arith, add-zero}
+use Rattle.std.proofs.Common.{◌≡◌, ℕ, ℤ, zero, suc, ◌+◌, false, cond, List, [], ◌∷◌, take, drop, Some, ap, sym, ◌∙◌, subst, refl, arith, add-zero, ◌<◌, ◌++◌, length, ◌⊎◌, inl, inr, true}
 use Rattle.std.specs.Prelude.{slice_get, sum_by, Result, Ok, Err, OnOk}
 use Rattle.std.proofs.lemmas.Option.{slice_get_within, get_or_from_slice_get}
 use Rattle.std.proofs.lemmas.List.Sums.{sum_by_more}
 use Rattle.rational.specs.Extended.{Affine}
 use Rattle.pl_signal.specs.declared.knot.Knot.{Knot}
+use Rattle.pl_signal.specs.Moves.{Tells}
 use Rattle.stl_syntax.specs.Formula.{subformula, tree_of, atom}
-use Rattle.stl_syntax.specs.SupInf.{Setting}
+use Rattle.stl_syntax.specs.SupInf.{Setting, Gives}
 use Rattle.stl_syntax.specs.declared.atom.Atom.{Atom}
 use Rattle.stl_syntax.specs.declared.node.Node.{Node}
 use Rattle.stl_syntax.specs.declared.node.Node.TheVariants.{Const, Atom as Leaf, Not, And, Or, Implies, Until, Eventually, Always, Since, Once, Historically}
-use Rattle.offline_eval.specs.Inputs.{is_atom, atoms_before, TellAtoms}
+use Rattle.offline_eval.specs.Inputs.{is_atom, atoms_before, TellAtoms, TellAtomsBelow}
 use Rattle.offline_eval.specs.Making.{AreSound, TellsValue}
 use Rattle.offline_eval.specs.Places.{reach_before, TakesOwn, PlaceStaysSound}
 use Rattle.offline_eval.proofs.Sound.{sound_more}
@@ -54,6 +55,27 @@ drop_at (y ∷ all) (suc k) x rest e =
     let next : suc (k + 1) ≡ suc k + 1 = omega arith in
     (on.0, on.1 ∙ ap (λ n. drop n (y ∷ all)) next)
 
+some_same : {X : Type 0} {x y : X} → Some x ≡ Some y → x ≡ y
+some_same e = cc
+
+same_leaf : {a b : Atom} → Some (Leaf a) ≡ Some (Leaf b) → a ≡ b
+same_leaf e = cc
+
+before_or_here : (i j : ℕ) → j < i + 1 → (j < i) ⊎ (j ≡ i)
+before_or_here i j h = grind (arith, h)
+
+in_front : {X : Type 0} (xs : List X) (x : X) (k : ℕ) (y : X) → slice_get xs k ≡ Some y → slice_get (xs ++ x ∷ []) k ≡ Some y
+in_front [] x k y e = absurd cc
+in_front (z ∷ xs) x zero y e = e
+in_front (z ∷ xs) x (suc k) y e = in_front xs x k y e
+
+last_of : {X : Type 0} (xs : List X) (x : X) (k : ℕ) → k ≡ length xs → slice_get (xs ++ x ∷ []) k ≡ Some x
+last_of xs x k e = subst (λ n. slice_get (xs ++ x ∷ []) n ≡ Some x) (sym e) (at_end xs x)
+  where
+    at_end : {X : Type 0} (xs : List X) (x : X) → slice_get (xs ++ x ∷ []) (length xs) ≡ Some x
+    at_end [] x = refl
+    at_end (z ∷ xs) x = at_end xs x
+
 module _ {P : Type 0} where
   pub atom_takes : (nodes : List Node) (i : ℕ) (a : Atom) (x : List (Knot P)) (old new : List (List (Knot P))) → slice_get nodes i ≡ Some (Leaf a) → old ≡ x ∷ new → TakesOwn nodes i old new
   atom_takes nodes i a x old new at e all left = (drop_at all (atoms_before nodes i) x new (sym e ∙ left)).1 ∙ ap (λ n. drop n all) (sym (atoms_on_atom nodes i a at))
@@ -72,6 +94,26 @@ module _ {P : Type 0} (function : P → Affine) where
       let here = (drop_at all (atoms_before nodes i) x new (sym e ∙ left)).0 in
       let same : o.0 ≡ x = some_same (sym o.1 ∙ here) in
       subst (λ f. TellsValue function s f x) (sym tree) (subst (TellsValue function s (atom i a)) same o.2)
+
+  pub told_none : (nodes : List Node) (s : Setting) → TellAtomsBelow function 0 nodes [] s
+  told_none nodes s i a h at = absurd (omega (arith, h))
+
+  pub told_atom : (nodes : List Node) (s : Setting) (i : ℕ) (a : Atom) (xs : List (List (Knot P))) (x : List (Knot P)) → slice_get nodes i ≡ Some (Leaf a) → length xs ≡ atoms_before nodes i → TellAtomsBelow function i nodes xs s
+      → Tells function (Gives s.atoms i a) s.from s.to x → TellAtomsBelow function (i + 1) nodes (xs ++ x ∷ []) s
+  told_atom nodes s i a xs x at count told tells j b h at_j = by_place (before_or_here i j h)
     where
-      some_same : {X : Type 0} {x y : X} → Some x ≡ Some y → x ≡ y
-      some_same e = cc
+      by_place : (j < i) ⊎ (j ≡ i) → (y : List (Knot P)) × (slice_get (xs ++ x ∷ []) (atoms_before nodes j) ≡ Some y) × Tells function (Gives s.atoms j b) s.from s.to y
+      by_place (inl k) = let o = told j b k at_j in (o.0, in_front xs x (atoms_before nodes j) o.0 o.1, o.2)
+      by_place (inr k) =
+          let same : b ≡ a = same_leaf (sym at_j ∙ ap (slice_get nodes) k ∙ at) in
+          (x, last_of xs x (atoms_before nodes j) (ap (atoms_before nodes) k ∙ sym count), subst (λ m. Tells function (Gives s.atoms m b) s.from s.to x) (sym k) (subst (λ c. Tells function (Gives s.atoms i c) s.from s.to x) (sym same) tells))
+
+  pub told_other : (nodes : List Node) (s : Setting) (i : ℕ) (n : Node) (xs : List (List (Knot P))) → slice_get nodes i ≡ Some n → is_atom n ≡ false → TellAtomsBelow function i nodes xs s → TellAtomsBelow function (i + 1) nodes xs s
+  told_other nodes s i n xs at other told j b h at_j = by_place (before_or_here i j h)
+    where
+      by_place : (j < i) ⊎ (j ≡ i) → (y : List (Knot P)) × (slice_get xs (atoms_before nodes j) ≡ Some y) × Tells function (Gives s.atoms j b) s.from s.to y
+      by_place (inl k) = told j b k at_j
+      by_place (inr k) = absurd (clash (ap is_atom (some_same (sym at_j ∙ ap (slice_get nodes) k ∙ at)) ∙ other))
+        where
+          clash : true ≡ false → ⊥
+          clash e = cc

@@ -5,6 +5,7 @@ mod atoms;
 mod connectives;
 mod evaluation;
 mod faults;
+pub mod laws;
 mod nodes;
 
 pub use atoms::Atoms;
