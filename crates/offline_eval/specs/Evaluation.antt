@@ -1,0 +1,37 @@
+-- What the signals of a formula's nodes tell, and for what an evaluation may be refused.
+use Rattle.std.specs.Prelude.{◌≡◌, ◌<◌, ℕ, false, List, length, Some, slice_get}
+use Rattle.rational.specs.Extended.{Affine}
+use Rattle.frac128.specs.Value.{value}
+use Rattle.pl_signal.specs.declared.knot.Knot.{Knot}
+use Rattle.pl_signal.specs.declared.faults.WidePair.{WidePair}
+use Rattle.pl_signal.specs.declared.faults.WidePair.TheVariants.{Cross, Value}
+use Rattle.pl_signal.specs.Moves.{Tells}
+use Rattle.stl_syntax.specs.Formula.{subformula}
+use Rattle.stl_syntax.specs.SupInf.{Setting, SupInf}
+use Rattle.stl_syntax.specs.WideCause.{IsCrossingCause, IsValueCause}
+use Rattle.stl_syntax.specs.declared.node.Node.{Node}
+use Rattle.offline_eval.specs.Inputs.{is_atom}
+use Rattle.offline_eval.specs.Making.{IsPointwise}
+use Rattle.offline_eval.specs.declared.faults.EvalFault.{EvalFault}
+use Rattle.offline_eval.specs.declared.faults.EvalFault.TheVariants as F
+
+-- no node is until, since or one over a window
+abbrev pub IsBuilt : List Node → Type 0
+IsBuilt nodes = (i : ℕ) (n : Node) → slice_get nodes i ≡ Some n → is_atom n ≡ false → IsPointwise n
+
+module _ {P : Type 0} (function : P → Affine) where
+  -- the signal at each node's place tells over the domain the value of the node's subformula
+  abbrev pub TellNodes : List Node → List (List (Knot P)) → Setting → Type 0
+  TellNodes nodes signals s =
+      (i : ℕ) → i < length nodes
+      → (x : List (Knot P)) × (slice_get signals i ≡ Some x) × Tells function (SupInf (subformula nodes i) s) s.from s.to x
+
+  -- the pair is in play at the node, and needs its denominator
+  abbrev pub IsCauseAt : List Node → Setting → ℕ → WidePair P → Type 0
+  IsCauseAt nodes s i (Cross p q a b den) = IsCrossingCause nodes s i (function p) (function q) (value a) (value b) den
+  IsCauseAt nodes s i (Value p at den) = IsValueCause nodes s i (function p) (value at) den
+
+  -- a fault is want of memory, or keeps a node and a pair in play there
+  abbrev pub IsFault : List Node → Setting → EvalFault P → Type 0
+  IsFault nodes s F.Memory = Unit {0}
+  IsFault nodes s (F.Wide c) = (c.node < length nodes) × IsCauseAt nodes s c.node c.pair

@@ -1,0 +1,13 @@
+//! The signal of each node of a formula, from the signals of its atoms.
+#![tactic(auto)]
+
+mod atoms;
+mod connectives;
+mod evaluation;
+mod faults;
+pub mod laws;
+mod nodes;
+
+pub use atoms::Atoms;
+pub use evaluation::{Evaluated, eval};
+pub use faults::{EvalFault, WideCause};
