@@ -9,7 +9,7 @@ use Rattle.rational.proofs.TimeLemmas.{later_le}
 use Rattle.rational.proofs.ExtendedLemmas.{le_totalᵉ, clashᵉ, le_reflᵉ, le_transᵉ}
 use Rattle.rational.proofs.Sups.{lt_of_lt_of_leᵉ, lt_of_le_of_ltᵉ}
 
-le_of_ltᵉ : (v w : Extended) → v <ᵉ w → v ≤ᵉ w
+pub le_of_ltᵉ : (v w : Extended) → v <ᵉ w → v ≤ᵉ w
 le_of_ltᵉ minus_infinity w h = tt
 le_of_ltᵉ (finite x) minus_infinity h = absurd h
 le_of_ltᵉ (finite x) (finite y) h = le_of_lt h

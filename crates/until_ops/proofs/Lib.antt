@@ -3,3 +3,9 @@ mod SignalComposition
 mod Forward
 mod Gaps
 mod Points
+mod Choices
+mod JoiningLemmas
+mod PlaceLemmas
+mod LimitLemmas
+mod CourseLemmas
+mod OnwardLemmas

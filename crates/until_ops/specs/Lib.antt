@@ -1,1 +1,4 @@
 pub mod Composition
+pub mod Untils
+pub mod Joining
+pub mod Courses

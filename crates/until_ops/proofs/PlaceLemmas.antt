@@ -1,0 +1,89 @@
+-- The places of two signals that are read side by side.
+use Rattle.std.proofs.Common.{◌≡◌, ℕ, ◌+◌, ◌-◌, ◌<◌, ◌≤◌, ◌⊎◌, inl, inr, List, [], ◌∷◌, length, get_or, Some, Bool, true, false, refl, sym, ◌∙◌, subst, arith}
+use Rattle.std.specs.Prelude.{slice_get, Result, Ok, Err, OnOk}
+use Rattle.std.specs.declared.cmp.Ordering.{Ordering}
+use Rattle.std.specs.declared.cmp.Ordering.TheVariants.{Less, Equal, Greater}
+use Rattle.std.proofs.lemmas.Bool.{cases_lt}
+use Rattle.std.proofs.lemmas.Option.{slice_get_past, slice_get-get_or}
+use Rattle.rational.specs.Rational.{IsOrder}
+use Rattle.rational.specs.Time.{Rational, ◌≤ʳ◌, ◌<ʳ◌, ◌≈◌}
+use Rattle.rational.specs.Extended.{Extended, ◌≤ᵉ◌, ◌≈ᵉ◌, Affine, value_at, Passes}
+use Rattle.rational.proofs.Order.{le_trans, le_of_lt, le_of_same, ge_of_same, lt_of_lt_of_le, lt_of_le_of_lt, not_lt_of_le, same_of_le, same_refl, same_sym}
+use Rattle.rational.proofs.ExtendedLemmas.{le_transᵉ}
+use Rattle.rational.proofs.AffineLemmas.{same_symᵉ, same_transᵉ, same_reflᵉ, value_same}
+use Rattle.frac128.specs.Value.{value}
+use Rattle.frac128.specs.declared.frac.Frac.{Frac}
+use Rattle.pl_signal.specs.declared.knot.Knot.{Knot}
+use Rattle.pl_signal.specs.declared.faults.WidePair.TheVariants.{Cross, Value}
+use Rattle.pl_signal.specs.declared.faults.OpFault.{OpFault}
+use Rattle.pl_signal.specs.declared.faults.OpFault.TheVariants as F
+use Rattle.pl_signal.specs.Knots.{time, start, stop, HasShape, IsWorth, IsSignal}
+use Rattle.pl_signal.proofs.Values.{next_rises, stop_at, worth_at, worth_between, worth_same, one_value}
+use Rattle.pl_signal.proofs.Telling.{IsFunction, TellsSoFar}
+use Rattle.until_ops.specs.Joining.{IsChosen, ChosenOf, IsPlace, Joins, IsGapFault}
+use Rattle.until_ops.proofs.JoiningLemmas.{chosen_same}
+
+-- what is not before and not at one time is later
+pub later_than : (o : Ordering) {a b : Rational} → IsOrder o a b → b ≤ʳ a → ¬ (o ≡ Equal) → b <ʳ a
+later_than Less h k n = absurd (not_lt_of_le k h)
+later_than Equal h k n = absurd (n refl)
+later_than Greater h k n = h
+
+-- what is said of an answer
+pub ok_says : {A E : Type 0} (X : Type 0) (r : Result A E) → ((e : E) → r ≡ Err e → ⊥) → OnOk r X → X
+ok_says X (Ok a) n h = h
+ok_says X (Err e) n h = absurd (n e refl)
+
+pub earlier_after : {at to x y : Rational} → at <ʳ x → at <ʳ y → (to ≡ x) ⊎ (to ≡ y) → at <ʳ to
+earlier_after {at = at} h k (inl e) = subst (λ t. at <ʳ t) (sym e) h
+earlier_after {at = at} h k (inr e) = subst (λ t. at <ʳ t) (sym e) k
+
+module _ {P : Type 0} (function : P → Affine) where
+  -- both next knots cannot be later than the earlier of them
+  pub not_both : (ks ls : List (Knot P)) (i j : ℕ) (k l : Knot P) (to : Rational) → slice_get ks i ≡ Some k → slice_get ls j ≡ Some l → (to ≡ time k) ⊎ (to ≡ time l)
+      → ¬ (((k : Knot P) → slice_get ks i ≡ Some k → to <ʳ time k) × ((l : Knot P) → slice_get ls j ≡ Some l → to <ʳ time l))
+  not_both ks ls i j k l to h m (inl e) b = not_lt_of_le (le_of_same (subst (λ t. time k ≈ t) (sym e) (same_refl (time k)))) (b.0 k h)
+  not_both ks ls i j k l to h m (inr e) b = not_lt_of_le (le_of_same (subst (λ t. time l ≈ t) (sym e) (same_refl (time l)))) (b.1 l m)
+
+  -- the place at a time in the last knot
+  pub at_stop : (ks : List (Knot P)) (i : ℕ) (t : Rational) → 0 < length ks → IsPlace ks t i → length ks ≤ i + 1 → t ≤ʳ stop ks → t ≈ stop ks
+  at_stop [] i t some p last h = absurd (omega arith)
+  at_stop (k ∷ ks) i t some p last h =
+      let here = slice_get-get_or (k ∷ ks) i k p.inside in
+      same_of_le h (subst (λ s. s ≤ʳ t) (sym (stop_at function (k ∷ ks) i (get_or (k ∷ ks) i k) here (slice_get_past (k ∷ ks) (i + 1) last))) (p.not_later (get_or (k ∷ ks) i k) here))
+
+  -- the place at the first time
+  pub first_place : (ks : List (Knot P)) (k : Knot P) (t : Rational) → IsSignal function ks → slice_get ks 0 ≡ Some k → time k ≈ t → IsPlace ks t 0
+  first_place ks k t s h e = record {
+    inside = s.some;
+    not_later = λ n m. let same : k ≡ n = cc in subst (λ n. time n ≤ʳ t) same (le_of_same e);
+    later = λ n m. lt_of_le_of_lt (ge_of_same e) (next_rises function ks 0 k n s.each h m);
+  }
+
+  -- the place at a time at which the next knot stands
+  pub place_next : (ks : List (Knot P)) (i : ℕ) (n : Knot P) (to : Rational) → IsSignal function ks → i + 1 < length ks → slice_get ks (i + 1) ≡ Some n → time n ≈ to → IsPlace ks to (i + 1)
+  place_next ks i n to s more at_next e = record {
+    inside = more;
+    not_later = λ k h. let same : n ≡ k = cc in subst (λ k. time k ≤ʳ to) same (le_of_same e);
+    later = λ k h. lt_of_le_of_lt (ge_of_same e) (next_rises function ks (i + 1) n k s.each at_next h);
+  }
+
+  -- the place at a time before the next knot
+  pub place_stays : (ks : List (Knot P)) (i : ℕ) (n : Knot P) (from to : Rational) → IsPlace ks from i → from <ʳ to → slice_get ks (i + 1) ≡ Some n → to <ʳ time n → IsPlace ks to i
+  place_stays ks i n from to p order at_next before = record {
+    inside = p.inside;
+    not_later = λ k h. le_trans (p.not_later k h) (le_of_lt order);
+    later = λ k h. let same : n ≡ k = cc in subst (λ k. to <ʳ time k) same before;
+  }
+
+  -- a signal that goes on beyond a time has a knot after its place there
+  pub more_knots : (ks : List (Knot P)) (i : ℕ) (k : Knot P) (t : Rational) → IsPlace ks t i → slice_get ks i ≡ Some k → t <ʳ stop ks → i + 1 < length ks
+  more_knots ks i k t p at_i beyond = elim (cases_lt (i + 1) (length ks)) as (λ v. i + 1 < length ks) [
+    | inl l ↦ l
+    | inr l ↦ absurd (not_lt_of_le (subst (λ s. s ≤ʳ t) (sym (stop_at function ks i k at_i (slice_get_past ks (i + 1) l))) (p.not_later k at_i)) beyond)
+  ]
+
+  -- on the gap up to the next knot a signal is worth what its shape there is
+  pub part_on_gap : (ks : List (Knot P)) (i : ℕ) (k n : Knot P) (from to t : Rational) → IsPlace ks from i → slice_get ks i ≡ Some k → slice_get ks (i + 1) ≡ Some n → to ≤ʳ time n → from <ʳ t → t <ʳ to
+      → IsWorth function ks t (value_at (function k.after) t)
+  part_on_gap ks i k n from to t p at_i at_next before h l = worth_between function ks i k n t at_i at_next (lt_of_le_of_lt (p.not_later k at_i) h) (lt_of_lt_of_le l before)
