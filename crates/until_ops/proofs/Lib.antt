@@ -9,3 +9,7 @@ mod PlaceLemmas
 mod LimitLemmas
 mod CourseLemmas
 mod OnwardLemmas
+mod EventLemmas
+mod PlayLemmas
+mod SinceLemmas
+mod WalkLemmas

@@ -2,3 +2,4 @@ pub mod Composition
 pub mod Untils
 pub mod Joining
 pub mod Courses
+pub mod Walks

@@ -4,3 +4,6 @@
 mod course;
 mod joining;
 pub mod laws;
+mod since;
+
+pub use since::since_from_start;
