@@ -1,16 +1,16 @@
 -- What a since is on a gap: the ways in which it is the least or the greatest of two shapes.
-use Rattle.std.proofs.Common.{◌≡◌, ◌⊎◌, inl, inr, Bool, true, false, refl}
+use Rattle.std.proofs.Common.{◌≡◌, ◌⊎◌, inl, inr, true, false, refl}
 use Rattle.std.specs.declared.cmp.Ordering.{Ordering}
 use Rattle.std.specs.declared.cmp.Ordering.TheVariants.{Less, Equal, Greater}
 use Rattle.rational.specs.Rational.{Rational, ◌<ʳ◌, ◌≤ʳ◌}
-use Rattle.rational.specs.Extended.{Extended, ◌≤ᵉ◌, ◌<ᵉ◌, ◌≈ᵉ◌, IsLeast, IsGreatest, Affine, value_at}
-use Rattle.rational.specs.Affine.{IsOrderᵉ, IsTrend, IsSteady}
-use Rattle.rational.proofs.Order.{le_or_lt, le_of_lt, same_of_le, lt_or_same_or_gt, not_lt_of_le}
-use Rattle.rational.proofs.ExtendedLemmas.{le_transᵉ, le_reflᵉ, clashᵉ}
+use Rattle.rational.specs.Extended.{Extended, ◌≤ᵉ◌, ◌≈ᵉ◌, IsLeast, IsGreatest, Affine, value_at}
+use Rattle.rational.specs.Affine.{IsOrderᵉ, IsTrend}
+use Rattle.rational.proofs.Order.{le_or_lt, same_of_le}
+use Rattle.rational.proofs.ExtendedLemmas.{le_transᵉ}
 use Rattle.rational.proofs.AffineLemmas.{value_same, lies_between}
 use Rattle.pl_signal.proofs.SupLemmas.{greatest_of}
 use Rattle.until_ops.specs.Joining.{IsChosen}
-use Rattle.until_ops.specs.Courses.{Climbs, Sinks, IsBelow, InOrder, IsOnward}
+use Rattle.until_ops.specs.Courses.{Climbs, Sinks, IsBelow, IsOnward}
 use Rattle.until_ops.proofs.Choices.{between}
 use Rattle.until_ops.proofs.Composition.{le_of_ltᵉ}
 

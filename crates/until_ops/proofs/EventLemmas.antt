@@ -1,25 +1,24 @@
 -- The events of two signals: knots, at which a signal is not affine, and crossings.
-use Rattle.std.proofs.Common.{◌≡◌, ℕ, zero, suc, ◌+◌, ◌<◌, ◌≤◌, ◌⊎◌, inl, inr, List, [], ◌∷◌, length, get_or, Some, None, refl, sym, subst, ap, pos, arith}
+use Rattle.std.proofs.Common.{◌≡◌, ℕ, zero, suc, ◌+◌, ◌<◌, ◌≤◌, ◌⊎◌, inl, inr, List, [], ◌∷◌, length, get_or, Some, sym, subst, pos, arith}
 use Rattle.std.specs.Prelude.{slice_get}
 use Rattle.std.proofs.lemmas.Bool.{cases_lt}
 use Rattle.std.proofs.lemmas.Option.{slice_get_past, slice_get-get_or}
 use Rattle.rational.specs.Rational.{Rational, middle, subtract, whole, ◌<ʳ◌, ◌≤ʳ◌, ◌≈◌}
-use Rattle.rational.specs.Time.{Within}
 use Rattle.rational.specs.Line.{Line, at, gap_line}
 use Rattle.rational.specs.Extended.{Extended, ◌≤ᵉ◌, ◌<ᵉ◌, ◌≈ᵉ◌, Affine, always_low, affine, always_high, value_at}
 use Rattle.rational.specs.Affine.{AreSame}
 use Rattle.rational.specs.InPlay.{IsLineOn, IsPart, IsBreakpoint, start, stop, inner, IsCrossing}
 use Rattle.rational.specs.Windows.{Function}
-use Rattle.rational.proofs.Order.{le_or_lt, le_refl, le_of_lt, le_of_same, ge_of_same, le_trans, lt_of_lt_of_le, lt_of_le_of_lt, lt_trans, not_lt_of_le, left_of_middle, right_of_middle, same_refl, same_sym, same_trans}
+use Rattle.rational.proofs.Order.{le_or_lt, le_refl, le_of_lt, le_of_same, ge_of_same, le_trans, lt_of_lt_of_le, lt_of_le_of_lt, lt_trans, left_of_middle, right_of_middle, same_refl, same_trans}
 use Rattle.rational.proofs.Lines.{at_gap}
 use Rattle.rational.proofs.Sup.{below_an_end}
-use Rattle.rational.proofs.ExtendedLemmas.{le_totalᵉ, le_transᵉ, clashᵉ}
-use Rattle.rational.proofs.AffineLemmas.{same_reflᵉ, same_symᵉ, same_transᵉ, affine_unique, value_same}
+use Rattle.rational.proofs.ExtendedLemmas.{le_totalᵉ, clashᵉ}
+use Rattle.rational.proofs.AffineLemmas.{same_reflᵉ, same_symᵉ, same_transᵉ, affine_unique}
 use Rattle.pl_signal.specs.declared.knot.Knot.{Knot}
 use Rattle.pl_signal.specs.Knots as K
 use Rattle.pl_signal.specs.Knots.{time, Each, IsWorth, IsKnot, IsSignal, CanBeLeftOut}
 use Rattle.pl_signal.proofs.Values.{one_value, worth_at, worth_between, next_rises, stop_at}
-use Rattle.pl_signal.proofs.Moving.{at_knot_within, first_is}
+use Rattle.pl_signal.proofs.Moving.{at_knot_within}
 use Rattle.until_ops.specs.Courses.{IsBelow, InOrder}
 
 -- two affine functions that have one value at two times are one

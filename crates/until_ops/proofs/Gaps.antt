@@ -1,6 +1,6 @@
 -- The value of a since on a gap on which both sides are affine.
 use Rattle.std.proofs.Common.{◌⊎◌, inl, inr, Bool, true, false}
-use Rattle.rational.specs.Time.{Rational, ◌≤ʳ◌, ◌<ʳ◌, Interval, IsIn}
+use Rattle.rational.specs.Time.{Rational, ◌<ʳ◌, Interval, IsIn}
 use Rattle.rational.specs.Extended.{Extended, ◌≤ᵉ◌, ◌<ᵉ◌, IsLeast, IsGreatest, Affine, value_at, Passes}
 use Rattle.rational.specs.Windows.{Function, IsSupOver, IsInfOver}
 use Rattle.rational.proofs.Order.{le_refl, le_of_lt, lt_of_lt_of_le}
@@ -12,7 +12,6 @@ use Rattle.pl_signal.proofs.SupLemmas.{at_most_an_end}
 use Rattle.until_ops.specs.Courses.{Climbs, Sinks}
 use Rattle.until_ops.proofs.Composition.{least_of, below_least}
 use Rattle.until_ops.proofs.Forward.{upto, after, Reach}
-
 
 -- on the interval the function is that of the line
 pub record IsOn (on : Interval) (F : Function) (f : Affine) : Type 0 where

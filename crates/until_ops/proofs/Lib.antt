@@ -13,3 +13,7 @@ mod EventLemmas
 mod PlayLemmas
 mod SinceLemmas
 mod WalkLemmas
+mod MirrorLemmas
+mod BackLemmas
+mod BoundLemmas
+mod UntilLemmas

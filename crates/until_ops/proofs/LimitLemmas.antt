@@ -1,10 +1,10 @@
 -- Signals with limited values.
-use Rattle.std.proofs.Common.{◌≡◌, ℕ, zero, suc, ◌+◌, ◌^◌, ◌⊎◌, inl, inr, List, [], ◌∷◌, Some, refl, sym, subst, arith}
+use Rattle.std.proofs.Common.{◌≡◌, ℕ, zero, suc, ◌+◌, ◌^◌, ◌⊎◌, inl, inr, List, [], ◌∷◌, Some, subst, arith}
 use Rattle.std.specs.Prelude.{slice_get}
 use Rattle.rational.specs.Rational.{IsWithin}
-use Rattle.rational.specs.Time.{Rational, ◌≤ʳ◌, ◌<ʳ◌, ◌≈◌}
+use Rattle.rational.specs.Time.{Rational, ◌≤ʳ◌, ◌<ʳ◌}
 use Rattle.rational.specs.Line.{at}
-use Rattle.rational.specs.Extended.{Extended, minus_infinity, finite, infinity, ◌≤ᵉ◌, ◌≈ᵉ◌, Affine, always_low, affine, always_high, value_at}
+use Rattle.rational.specs.Extended.{Extended, minus_infinity, finite, infinity, ◌≈ᵉ◌, Affine, always_low, affine, always_high, value_at}
 use Rattle.rational.specs.Affine.{IsBounded, HasBoundedLevel}
 use Rattle.rational.proofs.Order.{le_or_lt, le_trans, le_of_lt, same_of_le}
 use Rattle.rational.proofs.AffineLemmas.{same_symᵉ, same_transᵉ, value_same, lies_between}

@@ -1,19 +1,16 @@
 -- A since that goes on over a gap on which both of its sides are affine and in one order.
-use Rattle.std.proofs.Common.{◌⊎◌, inl, inr, Bool, true, false}
-use Rattle.rational.specs.Time.{Rational, Within, Interval, IsIn, ◌≤ʳ◌, ◌<ʳ◌, ◌≈◌}
+use Rattle.std.proofs.Common.{◌⊎◌, inl, inr, Bool, true}
+use Rattle.rational.specs.Time.{Rational, Within, Interval, IsIn, ◌≤ʳ◌, ◌<ʳ◌}
 use Rattle.rational.specs.Line.{Line, at}
-use Rattle.rational.specs.Extended.{Extended, ◌≤ᵉ◌, ◌<ᵉ◌, ◌≈ᵉ◌, IsLeast, IsGreatest, Affine, always_low, affine, always_high, value_at}
-use Rattle.rational.specs.Windows.{Function, IsSupOver, IsInfOver, IsDownTo, SinceFromStart}
+use Rattle.rational.specs.Extended.{Extended, ◌≤ᵉ◌, IsLeast, Affine, always_low, affine, always_high, value_at}
+use Rattle.rational.specs.Windows.{Function, IsInfOver, IsDownTo, SinceFromStart}
 use Rattle.rational.proofs.Order.{le_or_lt, le_of_lt, le_of_same, same_of_le}
 use Rattle.rational.proofs.Lines.{slope_of, lt_at, lt_at_falls, at_level, same_at}
 use Rattle.rational.proofs.ExtendedLemmas.{le_transᵉ, le_reflᵉ}
-use Rattle.rational.proofs.AffineLemmas.{value_same, finite_same}
-use Rattle.rational.proofs.TimeLemmas.{precedes_le}
 use Rattle.rational.proofs.WindowLemmas.{sup_alike, inf_over_alike}
 use Rattle.pl_signal.proofs.SupLemmas.{greatest_of, least_of}
-use Rattle.until_ops.specs.Courses.{Climbs, Sinks, IsBelow, InOrder, IsOnward}
+use Rattle.until_ops.specs.Courses.{Climbs, Sinks, InOrder, IsOnward}
 use Rattle.until_ops.proofs.Choices.{between}
-use Rattle.until_ops.proofs.CourseLemmas.{below_on}
 use Rattle.until_ops.proofs.Forward.{upto, after, Reach, Since, goes_on}
 use Rattle.until_ops.proofs.Gaps.{IsOn, gap_climbing, gap_sinking, sup_of_left, sup_of_right, sup_of_sinking}
 

@@ -1,5 +1,5 @@
 -- The places of two signals that are read side by side.
-use Rattle.std.proofs.Common.{◌≡◌, ℕ, ◌+◌, ◌-◌, ◌<◌, ◌≤◌, ◌⊎◌, inl, inr, List, [], ◌∷◌, length, get_or, Some, Bool, true, false, refl, sym, ◌∙◌, subst, arith}
+use Rattle.std.proofs.Common.{◌≡◌, ℕ, ◌+◌, ◌<◌, ◌≤◌, ◌⊎◌, inl, inr, List, [], ◌∷◌, length, get_or, Some, refl, sym, subst, arith}
 use Rattle.std.specs.Prelude.{slice_get, Result, Ok, Err, OnOk}
 use Rattle.std.specs.declared.cmp.Ordering.{Ordering}
 use Rattle.std.specs.declared.cmp.Ordering.TheVariants.{Less, Equal, Greater}
@@ -7,21 +7,12 @@ use Rattle.std.proofs.lemmas.Bool.{cases_lt}
 use Rattle.std.proofs.lemmas.Option.{slice_get_past, slice_get-get_or}
 use Rattle.rational.specs.Rational.{IsOrder}
 use Rattle.rational.specs.Time.{Rational, ◌≤ʳ◌, ◌<ʳ◌, ◌≈◌}
-use Rattle.rational.specs.Extended.{Extended, ◌≤ᵉ◌, ◌≈ᵉ◌, Affine, value_at, Passes}
-use Rattle.rational.proofs.Order.{le_trans, le_of_lt, le_of_same, ge_of_same, lt_of_lt_of_le, lt_of_le_of_lt, not_lt_of_le, same_of_le, same_refl, same_sym}
-use Rattle.rational.proofs.ExtendedLemmas.{le_transᵉ}
-use Rattle.rational.proofs.AffineLemmas.{same_symᵉ, same_transᵉ, same_reflᵉ, value_same}
-use Rattle.frac128.specs.Value.{value}
-use Rattle.frac128.specs.declared.frac.Frac.{Frac}
+use Rattle.rational.specs.Extended.{Affine, value_at}
+use Rattle.rational.proofs.Order.{le_trans, le_of_lt, le_of_same, ge_of_same, lt_of_lt_of_le, lt_of_le_of_lt, not_lt_of_le, same_of_le, same_refl}
 use Rattle.pl_signal.specs.declared.knot.Knot.{Knot}
-use Rattle.pl_signal.specs.declared.faults.WidePair.TheVariants.{Cross, Value}
-use Rattle.pl_signal.specs.declared.faults.OpFault.{OpFault}
-use Rattle.pl_signal.specs.declared.faults.OpFault.TheVariants as F
-use Rattle.pl_signal.specs.Knots.{time, start, stop, HasShape, IsWorth, IsSignal}
-use Rattle.pl_signal.proofs.Values.{next_rises, stop_at, worth_at, worth_between, worth_same, one_value}
-use Rattle.pl_signal.proofs.Telling.{IsFunction, TellsSoFar}
-use Rattle.until_ops.specs.Joining.{IsChosen, ChosenOf, IsPlace, Joins, IsGapFault}
-use Rattle.until_ops.proofs.JoiningLemmas.{chosen_same}
+use Rattle.pl_signal.specs.Knots.{time, stop, IsWorth, IsSignal}
+use Rattle.pl_signal.proofs.Values.{next_rises, stop_at, worth_between}
+use Rattle.until_ops.specs.Joining.{IsPlace}
 
 -- what is not before and not at one time is later
 pub later_than : (o : Ordering) {a b : Rational} → IsOrder o a b → b ≤ʳ a → ¬ (o ≡ Equal) → b <ʳ a

@@ -1,25 +1,24 @@
 -- What is in play in a since from the start, and the causes for which it may be refused.
-use Rattle.std.proofs.Common.{◌≡◌, ℕ, ◌⊎◌, inl, inr, List, Bool, refl, sym, subst}
-use Rattle.rational.specs.Rational.{Rational, middle, ◌<ʳ◌, ◌≤ʳ◌, ◌≈◌}
+use Rattle.std.proofs.Common.{◌⊎◌, inl, inr, List, Bool, sym, subst}
+use Rattle.rational.specs.Rational.{Rational, middle, ◌<ʳ◌, ◌≤ʳ◌}
 use Rattle.rational.specs.Time.{Within}
 use Rattle.rational.specs.Line.{constant}
 use Rattle.rational.specs.Extended.{Extended, finite, ◌≈ᵉ◌, Affine, affine, value_at}
 use Rattle.rational.specs.InPlay.{IsLineOn, IsBreakpoint, IsCrossing, IsConstant, IsPrevious, IsInPlay, IsWideCrossing, IsWideValue}
 use Rattle.rational.proofs.Order.{le_trans, le_of_lt, lt_of_lt_of_le, lt_of_le_of_lt, lt_trans, left_of_middle, right_of_middle, same_refl}
 use Rattle.rational.proofs.Lines.{at_constant}
-use Rattle.rational.proofs.AffineLemmas.{same_reflᵉ, same_symᵉ, same_transᵉ, finite_same}
+use Rattle.rational.proofs.AffineLemmas.{same_reflᵉ, same_symᵉ, finite_same}
 use Rattle.frac128.specs.Value.{value}
-use Rattle.frac128.specs.declared.frac.Frac.{Frac}
 use Rattle.pl_signal.specs.declared.knot.Knot.{Knot}
 use Rattle.pl_signal.specs.declared.faults.WidePair.TheVariants.{Cross, Value}
 use Rattle.pl_signal.specs.declared.faults.OpFault.{OpFault}
 use Rattle.pl_signal.specs.declared.faults.OpFault.TheVariants as F
 use Rattle.pl_signal.specs.Knots.{start, stop, IsWorth}
-use Rattle.pl_signal.specs.Wide.{HasCause, IsWideCause}
+use Rattle.pl_signal.specs.Wide.{HasCause}
 use Rattle.pl_signal.proofs.Telling.{IsFunction}
 use Rattle.until_ops.specs.declared.course.Gap.{Gap}
 use Rattle.until_ops.specs.Joining.{IsGapFault}
-use Rattle.until_ops.specs.Courses.{InOrder, IsOfGap, IsPlayed, IsCourseFault, IsValueFault}
+use Rattle.until_ops.specs.Courses.{InOrder, IsOfGap, IsPlayed, IsCourseFault}
 use Rattle.until_ops.specs.Untils.{SinceOf, SinceStep}
 use Rattle.until_ops.specs.Walks.{IsPairWithin}
 use Rattle.until_ops.proofs.EventLemmas.{not_crossed}
@@ -74,8 +73,10 @@ module _ {P : Type 0} (function : P → Affine) (lowest highest : Extended) (p q
     -- and its times lie in the domain
     pub cross_within : (x y : P) (e : OpFault P) → IsGapFault function x y gap.from gap.to e → IsPairWithin (start p) (stop p) e
     cross_within x y F.Memory h = tt
-    cross_within x y (F.Wide (Cross a b c d den)) (e, f, i, j, m) =
-        (subst (λ c. start p ≤ʳ value c) (sym i) on.inside.above, subst (λ d. value d ≤ʳ stop p) (sym j) on.below)
+    cross_within x y (F.Wide (Cross a b c d den)) (e, f, i, j, m) = (
+      subst (λ c. Within (start p) (stop p) (value c)) (sym i) on.inside,
+      subst (λ d. Within (start p) (stop p) (value d)) (sym j) (record { above = le_trans on.inside.above (le_of_lt on.later); below = on.below }),
+    )
     cross_within x y (F.Wide (Value a b den)) h = absurd h
 
     pub value_within : (e : OpFault P) → IsCourseFault function gap e → IsPairWithin (start p) (stop p) e
@@ -101,24 +102,42 @@ module _ {P : Type 0} (function : P → Affine) (lowest highest : Extended) (p q
       constant_plays : (o : P) (line : Affine) (v : Extended) (tau : Rational) → IsOfGap function gap o → IsConstant line v → v ≈ᵉ value_at (function o) (value gap.from) → value gap.from <ʳ tau → tau <ʳ value gap.to
           → InPlay tau line
       constant_plays o line v tau (inl e) is same a b =
-          inr (inr (value gap.from, previous tau a b, v, is, inr (inr (inl (alike.alike (value gap.from) (value gap.from) (value_at (function gap.before) (value gap.from)) v (same_refl (value gap.from))
-          (same_symᵉ v (value_at (function gap.before) (value gap.from)) (subst (λ o. v ≈ᵉ value_at (function o) (value gap.from)) e same)) on.here)))))
+          inr (inr (
+            value gap.from,
+            previous tau a b,
+            v,
+            is,
+            inr (inr (inl (alike.alike (value gap.from) (value gap.from) (value_at (function gap.before) (value gap.from)) v (same_refl (value gap.from))
+                (same_symᵉ v (value_at (function gap.before) (value gap.from)) (subst (λ o. v ≈ᵉ value_at (function o) (value gap.from)) e same)) on.here))),
+          ))
       constant_plays o line v tau (inr (inl e)) is same a b =
-          inr (inr (value gap.from, previous tau a b, v, is, inl (inr (record {
-            b = value gap.to;
-            below = on.later;
-            line = function gap.left;
-            on = on.left_on;
-            value = subst (λ o. v ≈ᵉ value_at (function o) (value gap.from)) e same;
-          }))))
+          inr (inr (
+            value gap.from,
+            previous tau a b,
+            v,
+            is,
+            inl (inr (record {
+              b = value gap.to;
+              below = on.later;
+              line = function gap.left;
+              on = on.left_on;
+              value = subst (λ o. v ≈ᵉ value_at (function o) (value gap.from)) e same;
+            })),
+          ))
       constant_plays o line v tau (inr (inr e)) is same a b =
-          inr (inr (value gap.from, previous tau a b, v, is, inr (inl (inr (record {
-            b = value gap.to;
-            below = on.later;
-            line = function gap.right;
-            on = on.right_on;
-            value = subst (λ o. v ≈ᵉ value_at (function o) (value gap.from)) e same;
-          })))))
+          inr (inr (
+            value gap.from,
+            previous tau a b,
+            v,
+            is,
+            inr (inl (inr (record {
+              b = value gap.to;
+              below = on.later;
+              line = function gap.right;
+              on = on.right_on;
+              value = subst (λ o. v ≈ᵉ value_at (function o) (value gap.from)) e same;
+            }))),
+          ))
 
       -- what the since is made of on a gap is in play there
       pub played : (moves : P → Bool) (x : P) → IsPlayed function moves gap x → (tau : Rational) → value gap.from <ʳ tau → tau <ʳ value gap.to → InPlay tau (function x)

@@ -1,27 +1,26 @@
 -- The since of two signals on a gap, at its end, and as a function of time.
-use Rattle.std.proofs.Common.{◌≡◌, ℕ, ◌^◌, ◌⊎◌, inl, inr, List, Bool, true, false, refl, sym, subst}
-use Rattle.rational.specs.Rational.{Rational, ◌<ʳ◌, ◌≤ʳ◌, ◌≈◌}
-use Rattle.rational.specs.Time.{Within, Interval, IsIn}
-use Rattle.rational.specs.Extended.{Extended, ◌≤ᵉ◌, ◌≈ᵉ◌, IsLeast, IsGreatest, Affine, value_at, Passes}
-use Rattle.rational.specs.Affine.{IsBounded}
+use Rattle.std.proofs.Common.{inl, inr, List, Bool, true, false}
+use Rattle.rational.specs.Rational.{Rational, ◌<ʳ◌}
+use Rattle.rational.specs.Time.{Interval, IsIn}
+use Rattle.rational.specs.Extended.{Extended, ◌≤ᵉ◌, IsLeast, IsGreatest, Affine, value_at}
 use Rattle.rational.specs.InPlay.{IsLineOn}
-use Rattle.rational.specs.Windows.{Function, IsInfOver, IsDownTo, SinceFromStart}
-use Rattle.rational.proofs.Order.{le_refl, le_of_lt, le_of_same, ge_of_same, le_trans, lt_of_le_of_lt, lt_trans, same_refl, same_sym}
-use Rattle.rational.proofs.ExtendedLemmas.{le_transᵉ, le_reflᵉ, Sup-unique}
-use Rattle.rational.proofs.AffineLemmas.{same_reflᵉ, same_symᵉ, same_transᵉ, value_same}
+use Rattle.rational.specs.Windows.{Function, IsInfOver, SinceFromStart}
+use Rattle.rational.proofs.Order.{le_of_lt, le_trans, lt_of_le_of_lt, same_refl, same_sym}
+use Rattle.rational.proofs.ExtendedLemmas.{Sup-unique}
+use Rattle.rational.proofs.AffineLemmas.{same_reflᵉ, same_transᵉ}
 use Rattle.rational.proofs.Sups.{sup_value_same}
 use Rattle.rational.proofs.WindowLemmas.{sup_alike, to_same, down_to_same}
 use Rattle.frac128.specs.Value.{value}
 use Rattle.pl_signal.specs.declared.knot.Knot.{Knot}
-use Rattle.pl_signal.specs.Knots.{start, stop, IsSignal, IsWorth}
+use Rattle.pl_signal.specs.Knots.{start, IsSignal, IsWorth}
 use Rattle.pl_signal.proofs.Values.{one_value, worth_same}
-use Rattle.pl_signal.proofs.SupLemmas.{signal_inf, least_of, greatest_of}
+use Rattle.pl_signal.proofs.SupLemmas.{signal_inf}
 use Rattle.pl_signal.proofs.Telling.{IsFunction}
 use Rattle.until_ops.specs.declared.course.Gap.{Gap}
-use Rattle.until_ops.specs.Courses.{IsBelow, InOrder, IsOnward, IsPointOf}
+use Rattle.until_ops.specs.Courses.{InOrder, IsOnward}
 use Rattle.until_ops.specs.Untils.{SinceOf}
 use Rattle.until_ops.proofs.Choices.{between}
-use Rattle.until_ops.proofs.Forward.{upto, after, Since}
+use Rattle.until_ops.proofs.Forward.{after, Since}
 use Rattle.until_ops.proofs.Gaps.{IsOn}
 use Rattle.until_ops.proofs.Points.{HasOneValue, at_start, at_point}
 use Rattle.until_ops.proofs.OnwardLemmas.{goes_onward, since_of, of_since}

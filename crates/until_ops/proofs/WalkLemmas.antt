@@ -1,31 +1,29 @@
 -- How a walk along two signals stands: at the first instant, and from event to event.
-use Rattle.std.proofs.Common.{◌≡◌, ℕ, zero, suc, ◌+◌, ◌-◌, ◌*◌, ◌<◌, ◌≤◌, ◌^◌, ◌⊎◌, inl, inr, List, [], ◌∷◌, length, Some, Bool, IsTrue, true, false, ℤ, refl, sym, ◌∙◌, subst, ap, arith}
+use Rattle.std.proofs.Common.{◌≡◌, ℕ, ◌+◌, ◌-◌, ◌*◌, ◌<◌, ◌^◌, ◌⊎◌, inl, inr, List, [], ◌∷◌, length, Some, Bool, IsTrue, true, false, ℤ, refl, sym, ◌∙◌, subst, ap, arith}
 use Rattle.std.specs.Prelude.{slice_get, MatchBool}
 use Rattle.rational.specs.Rational.{Rational, IsWithin, ◌<ʳ◌, ◌≤ʳ◌, ◌≈◌}
-use Rattle.rational.specs.Time.{Within, missing}
-use Rattle.rational.specs.Extended.{Extended, ◌≤ᵉ◌, ◌≈ᵉ◌, IsLeast, Affine, value_at, Passes}
+use Rattle.rational.specs.Time.{missing}
+use Rattle.rational.specs.Extended.{Extended, ◌≤ᵉ◌, IsLeast, Affine, value_at, Passes}
 use Rattle.rational.specs.Affine.{IsBounded, HasBoundedLevel, MeetAlone}
 use Rattle.rational.specs.InPlay.{IsLineOn, IsBreakpoint, IsCrossing}
 use Rattle.rational.specs.InPlay as I
-use Rattle.rational.proofs.Order.{le_refl, le_of_lt, le_of_same, ge_of_same, le_trans, lt_of_lt_of_le, lt_of_le_of_lt, lt_trans, not_lt_of_le, same_of_le, same_refl, same_sym, same_trans}
-use Rattle.rational.proofs.ExtendedLemmas.{le_transᵉ}
+use Rattle.rational.proofs.Order.{le_refl, le_of_lt, le_of_same, ge_of_same, le_trans, lt_of_lt_of_le, not_lt_of_le, same_refl, same_sym}
 use Rattle.rational.proofs.AffineLemmas.{same_reflᵉ, same_symᵉ, same_transᵉ, value_same}
 use Rattle.frac128.specs.Value.{value}
 use Rattle.frac128.specs.declared.frac.Frac.{Frac}
 use Rattle.pl_signal.specs.declared.knot.Knot.{Knot}
 use Rattle.pl_signal.specs.Knots.{time, start, stop, HasShape, IsWorth, IsSignal}
-use Rattle.pl_signal.specs.Limits.{IsLimited}
-use Rattle.pl_signal.proofs.Values.{worth_at, worth_between, shape_at, shape_after}
+use Rattle.pl_signal.proofs.Values.{worth_at, shape_at, shape_after}
 use Rattle.pl_signal.proofs.Moving.{first_is, same_knot, at_knot_within, clip_within}
 use Rattle.until_ops.specs.declared.course.Course.{Course}
 use Rattle.until_ops.specs.declared.course.Gap.{Gap}
 use Rattle.until_ops.specs.declared.course.Turn.{Turn}
 use Rattle.until_ops.specs.declared.since.Stand.{Stand}
 use Rattle.until_ops.specs.Joining.{IsChosen, IsPlace, Joins}
-use Rattle.until_ops.specs.Courses.{InOrder, IsOnward, IsPointOf, IsOfGap, IsPlayed, IsCourse, IsTurn, IsGap}
+use Rattle.until_ops.specs.Courses.{IsPointOf, IsOfGap, IsPlayed, IsCourse, IsTurn, IsGap}
 use Rattle.until_ops.specs.Untils.{SinceOf, BasesOfTwo}
 use Rattle.until_ops.specs.Walks.{AreSides, CrossHere, BreakHere, Stands, rest}
-use Rattle.until_ops.proofs.LimitLemmas.{bounded_same, level_bounded, after_bounded, after_small, worth_bounded, point_small}
+use Rattle.until_ops.proofs.LimitLemmas.{bounded_same, level_bounded, after_small, worth_bounded, point_small}
 use Rattle.until_ops.proofs.PlaceLemmas.{first_place, earlier_after, more_knots, not_both, part_on_gap}
 use Rattle.until_ops.proofs.PlayLemmas.{Follows}
 use Rattle.until_ops.proofs.SinceLemmas.{since_is_function, start_value, gap_value, end_value}

@@ -1,9 +1,9 @@
 -- What a since is on a gap on which both sides are affine and in one order: the least or the greatest of two shapes.
-use Rattle.std.specs.Prelude.{◌≡◌, ◌⊎◌, ◌≤◌, ◌^◌, ℕ, Bool, false, MatchBool}
+use Rattle.std.specs.Prelude.{◌≡◌, ◌⊎◌, ◌≤◌, ◌^◌, Bool, false, MatchBool}
 use Rattle.rational.specs.Rational.{Rational, ◌<ʳ◌, ◌≤ʳ◌, IsWithin}
 use Rattle.rational.specs.Time.{HasDenominator}
 use Rattle.rational.specs.Extended.{Extended, finite, ◌≤ᵉ◌, ◌≈ᵉ◌, IsLeast, IsGreatest, Affine, value_at}
-use Rattle.rational.specs.Affine.{IsBounded, HasBoundedLevel, MeetAlone}
+use Rattle.rational.specs.Affine.{IsBounded, MeetAlone}
 use Rattle.frac128.specs.Value.{value}
 use Rattle.frac128.specs.declared.frac.Frac.{Frac}
 use Rattle.pl_signal.specs.declared.faults.WidePair.TheVariants.{Cross, Value}

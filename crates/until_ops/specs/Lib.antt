@@ -3,3 +3,4 @@ pub mod Untils
 pub mod Joining
 pub mod Courses
 pub mod Walks
+pub mod Mirrors

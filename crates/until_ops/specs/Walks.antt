@@ -1,7 +1,7 @@
 -- How a since is walked through: where the walk stands, and what it says when it stops.
 use Rattle.std.specs.Prelude.{◌≡◌, ◌⊎◌, ◌+◌, ◌-◌, ◌*◌, ◌^◌, ℕ, List, Bool, false, MatchBool, length, Some, slice_get}
-use Rattle.rational.specs.Rational.{Rational, IsWithin}
-use Rattle.rational.specs.Time.{Within, ◌≤ʳ◌, ◌≈◌, missing}
+use Rattle.rational.specs.Rational.{Rational}
+use Rattle.rational.specs.Time.{Within, ◌≈◌, missing}
 use Rattle.rational.specs.Extended.{Extended, Affine, value_at}
 use Rattle.rational.specs.Affine.{IsBounded}
 use Rattle.rational.specs.InPlay.{IsBreakpoint, IsCrossing}
@@ -18,10 +18,14 @@ use Rattle.until_ops.specs.Joining.{IsPlace}
 use Rattle.until_ops.specs.Untils.{SinceOf}
 
 -- the times of the pair lie from the one to the other
+abbrev pub PairWithin : {P : Type 0} → Rational → Rational → WidePair P → Type 0
+PairWithin from to (Cross p q a b den) = Within from to (value a) × Within from to (value b)
+PairWithin from to (Value p at den) = Within from to (value at)
+
+-- the times of a pair that is refused do
 abbrev pub IsPairWithin : {P : Type 0} → Rational → Rational → OpFault P → Type 0
 IsPairWithin from to F.Memory = Unit {0}
-IsPairWithin from to (F.Wide (Cross p q a b den)) = (from ≤ʳ value a) × (value b ≤ʳ to)
-IsPairWithin from to (F.Wide (Value p at den)) = Within from to (value at)
+IsPairWithin from to (F.Wide pair) = PairWithin from to pair
 
 -- what remains of both signals, and of the crossing before the next knot
 abbrev pub rest : {P : Type 0} → List (Knot P) → List (Knot P) → Stand P → ℕ

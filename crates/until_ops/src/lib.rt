@@ -5,5 +5,7 @@ mod course;
 mod joining;
 pub mod laws;
 mod since;
+mod until;
 
 pub use since::since_from_start;
+pub use until::until_to_end;

@@ -73,7 +73,12 @@ fn first<P: Shape>(p: &Signal<P>, q: &Signal<P>) -> Stand<P>
 }
 
 /// Goes on to the next event: a knot of one of the two, or a crossing of their parts before that.
-fn walk<P: Shape>(p: &Signal<P>, q: &Signal<P>, built: &mut Builder<P>, now: &Stand<P>) -> Result<Stand<P>, OpFault<P>>
+fn walk<P: Shape>(
+    p: &Signal<P>,
+    q: &Signal<P>,
+    built: &mut Builder<P>,
+    now: &Stand<P>,
+) -> Result<Stand<P>, OpFault<P>>
     requires sides { AreSides P.function p.now q.now }
     requires stands { Stands P.function P.moves P.lowest P.highest p.now q.now built.old now.now }
     requires more { now.now.left + 1 < length p.now }
@@ -99,7 +104,15 @@ fn walk<P: Shape>(p: &Signal<P>, q: &Signal<P>, built: &mut Builder<P>, now: &St
     let left = advance(p, now.left, &now.at, &turn.time);
     let right = advance(q, now.right, &now.at, &turn.time);
     let value = point(&course, &left.shape, &right.shape, &turn.time);
-    join(course.least, built, &course.first, &course.second, &now.at, &turn.time, value)?;
+    join(
+        course.least,
+        built,
+        &course.first,
+        &course.second,
+        &now.at,
+        &turn.time,
+        value,
+    )?;
     Ok(Stand {
         left: left.place,
         right: right.place,

@@ -1,4 +1,4 @@
-use Rattle.std.proofs.Common.{◌≡◌, inl, inr, refl, sym, subst, rules, true}
+use Rattle.std.proofs.Common.{inl, inr, refl, sym, subst, rules}
 use Rattle.rational.specs.Extended.{value_at}
 use Rattle.frac128.specs.Value.{value}
 use Rattle.rational.proofs.Order.{le_of_lt}

@@ -1,4 +1,4 @@
-use Rattle.std.proofs.Common.{◌≡◌, ◌+◌, ◌≤◌, length, inl, inr, refl, sym, subst, arith}
+use Rattle.std.proofs.Common.{◌+◌, ◌≤◌, length, sym, subst, arith}
 use Rattle.rational.specs.Time.{◌≈◌}
 use Rattle.frac128.specs.Value.{value}
 use Rattle.pl_signal.specs.Knots.{start, stop, IsWorth}

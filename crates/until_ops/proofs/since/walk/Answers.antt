@@ -1,4 +1,4 @@
-use Rattle.std.proofs.Common.{◌+◌, ◌<◌, length, rules, subst}
+use Rattle.std.proofs.Common.{◌+◌, rules, subst}
 use Rattle.rational.specs.Time.{◌≤ʳ◌}
 use Rattle.rational.proofs.Order.{le_refl, le_trans, le_of_lt, le_of_same, lt_of_lt_of_le}
 use Rattle.frac128.specs.Value.{value}
@@ -306,5 +306,5 @@ returns-clause-nearer g c =
     } in
     nearer g.P.Shape.function g.P.Shape.moves g.P.Shape.lowest g.P.Shape.highest g.met.P.Shape.lowest_is_least g.met.P.Shape.highest_is_greatest c.args.p.now c.args.q.now c.len.ensures.signal c.len-2.ensures.signal c.requires.sides c.args.built.now c.args.now.now c.requires.stands c.knot.result c.knot-2.result c.knot-3.result c.knot-4.result c.earlier-next.result at c.in_ok-turn.turn c.in_ok-turn.ensures c.in_ok-course.course c.in_ok-course.ensures c.advance-left.result.place c.advance-right.result.place c.advance-left.result.shape c.advance-right.result.shape c.point-value.result left right c.point-value.ensures.one c.point-value.ensures.value c.requires.more
     (more_knots g.P.Shape.function c.args.q.now c.args.now.now.right c.knot-2.result (value c.args.now.now.at) c.requires.stands.right c.knot-2.ensures
-        (lt_of_lt_of_le (c.requires.stands.left.later c.knot-3.result c.knot-3.ensures)
-        (le_trans (at_knot_within g.P.Shape.function c.args.p.now (c.args.now.now.left + 1) c.knot-3.result c.len.ensures.signal c.knot-3.ensures).below (le_of_same c.requires.sides.ends))))
+    (lt_of_lt_of_le (c.requires.stands.left.later c.knot-3.result c.knot-3.ensures)
+    (le_trans (at_knot_within g.P.Shape.function c.args.p.now (c.args.now.now.left + 1) c.knot-3.result c.len.ensures.signal c.knot-3.ensures).below (le_of_same c.requires.sides.ends))))
