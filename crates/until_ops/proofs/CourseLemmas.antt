@@ -1,5 +1,5 @@
 -- What a since is on a gap: the ways in which it is the least or the greatest of two shapes.
-use Rattle.std.proofs.Common.{◌≡◌, ◌⊎◌, inl, inr, true, false, refl}
+use Rattle.std.proofs.Common.{◌≡◌, ◌⊎◌, inl, inr, refl}
 use Rattle.std.specs.declared.cmp.Ordering.{Ordering}
 use Rattle.std.specs.declared.cmp.Ordering.TheVariants.{Less, Equal, Greater}
 use Rattle.rational.specs.Rational.{Rational, ◌<ʳ◌, ◌≤ʳ◌}
@@ -8,11 +8,12 @@ use Rattle.rational.specs.Affine.{IsOrderᵉ, IsTrend}
 use Rattle.rational.proofs.Order.{le_or_lt, same_of_le}
 use Rattle.rational.proofs.ExtendedLemmas.{le_transᵉ}
 use Rattle.rational.proofs.AffineLemmas.{value_same, lies_between}
-use Rattle.pl_signal.proofs.SupLemmas.{greatest_of}
-use Rattle.until_ops.specs.Joining.{IsChosen}
+use Rattle.rational.proofs.ExtendedLemmas.{greatest_of}
+use Rattle.pl_signal.specs.declared.joining.Side.TheVariants.{Least, Greatest}
+use Rattle.pl_signal.specs.Joining.{IsChosen}
 use Rattle.until_ops.specs.Courses.{Climbs, Sinks, IsBelow, IsOnward}
-use Rattle.until_ops.proofs.Choices.{between}
-use Rattle.until_ops.proofs.Composition.{le_of_ltᵉ}
+use Rattle.rational.proofs.AffineMeetings.{between}
+use Rattle.rational.proofs.ExtendedLemmas.{le_of_ltᵉ}
 
 -- what is not above is at most
 pub not_above : (o : Ordering) (v w : Extended) → IsOrderᵉ o v w → ¬ (o ≡ Greater) → v ≤ᵉ w
@@ -53,7 +54,7 @@ module _ (r : Extended) (f h : Affine) (t0 t : Rational) (v low top : Extended) 
   onward made = let g = greatest_of top (value_at h t) in record { low = low; top = top; high = g.0; is_low = is_low; is_top = is_top; is_high = g.1; is_value = made g.0 g.1 }
 
   -- the left side alone, where that is at most the start or the right side
-  pub by_left : (value_at f t ≤ᵉ top) ⊎ (value_at f t ≤ᵉ value_at h t) → IsChosen true (value_at f t) (value_at f t) v → IsOnward r f h t0 t v
+  pub by_left : (value_at f t ≤ᵉ top) ⊎ (value_at f t ≤ᵉ value_at h t) → IsChosen Least (value_at f t) (value_at f t) v → IsOnward r f h t0 t v
   by_left under c = onward (λ high g. record {
     left = c.left;
     right = le_transᵉ v (value_at f t) high c.left (elim under [ inl k ↦ le_transᵉ (value_at f t) top high k g.left | inr k ↦ le_transᵉ (value_at f t) (value_at h t) high k g.right ]);
@@ -61,7 +62,7 @@ module _ (r : Extended) (f h : Affine) (t0 t : Rational) (v low top : Extended) 
   })
 
   -- the least of the left side and of where it starts, while the right side sinks
-  pub by_top : (x : Extended) → x ≈ᵉ top → value_at h t ≤ᵉ value_at h t0 → IsChosen true (value_at f t) x v → IsOnward r f h t0 t v
+  pub by_top : (x : Extended) → x ≈ᵉ top → value_at h t ≤ᵉ value_at h t0 → IsChosen Least (value_at f t) x v → IsOnward r f h t0 t v
   by_top x e sinks c = onward (λ high g. record {
     left = c.left;
     right = le_transᵉ v x high c.right (le_transᵉ x top high e.at_most g.left);
@@ -78,7 +79,7 @@ module _ (r : Extended) (f h : Affine) (t0 t : Rational) (v low top : Extended) 
 
   module _ (climbs : value_at h t0 ≤ᵉ value_at h t) (under : value_at h t ≤ᵉ value_at f t) where
     -- the right side alone, where it starts above what was before
-    pub by_right : low ≤ᵉ value_at h t0 → IsChosen true (value_at h t) (value_at h t) v → IsOnward r f h t0 t v
+    pub by_right : low ≤ᵉ value_at h t0 → IsChosen Least (value_at h t) (value_at h t) v → IsOnward r f h t0 t v
     by_right lower c = onward (λ high g. record {
       left = le_transᵉ v (value_at h t) (value_at f t) c.left under;
       right = le_transᵉ v (value_at h t) high c.left g.right;
@@ -95,7 +96,7 @@ module _ (r : Extended) (f h : Affine) (t0 t : Rational) (v low top : Extended) 
 
     module _ (x : Extended) (same : x ≈ᵉ low) (higher : value_at h t0 ≤ᵉ low) where
       -- the greatest of the start and of the right side, where the start is not above the left side
-      pub by_low_over : x ≤ᵉ value_at f t → IsChosen false x (value_at h t) v → IsOnward r f h t0 t v
+      pub by_low_over : x ≤ᵉ value_at f t → IsChosen Greatest x (value_at h t) v → IsOnward r f h t0 t v
       by_low_over within c = onward (λ high g. record {
         left = elim c.one_of [ inl k ↦ le_transᵉ v x (value_at f t) k within | inr k ↦ le_transᵉ v (value_at h t) (value_at f t) k under ];
         right = elim c.one_of [ inl k ↦ le_transᵉ v x high k (le_transᵉ x low high same.at_most (le_transᵉ low top high is_top.left g.left)) | inr k ↦ le_transᵉ v (value_at h t) high k g.right ];
@@ -106,7 +107,7 @@ module _ (r : Extended) (f h : Affine) (t0 t : Rational) (v low top : Extended) 
       })
 
       -- the least of the start and of the left side, where the right side stays below the start
-      pub by_low_under : value_at h t ≤ᵉ x → IsChosen true (value_at f t) x v → IsOnward r f h t0 t v
+      pub by_low_under : value_at h t ≤ᵉ x → IsChosen Least (value_at f t) x v → IsOnward r f h t0 t v
       by_low_under below c = onward (λ high g. record {
         left = c.left;
         right = le_transᵉ v x high c.right (le_transᵉ x low high same.at_most (le_transᵉ low top high is_top.left g.left));

@@ -3,9 +3,6 @@ mod SignalComposition
 mod Forward
 mod Gaps
 mod Points
-mod Choices
-mod JoiningLemmas
-mod PlaceLemmas
 mod LimitLemmas
 mod CourseLemmas
 mod OnwardLemmas

@@ -8,9 +8,9 @@ use Rattle.rational.proofs.Order.{le_or_lt, le_of_lt, le_of_same, same_of_le}
 use Rattle.rational.proofs.Lines.{slope_of, lt_at, lt_at_falls, at_level, same_at}
 use Rattle.rational.proofs.ExtendedLemmas.{le_transᵉ, le_reflᵉ}
 use Rattle.rational.proofs.WindowLemmas.{sup_alike, inf_over_alike}
-use Rattle.pl_signal.proofs.SupLemmas.{greatest_of, least_of}
+use Rattle.rational.proofs.ExtendedLemmas.{greatest_of, least_of}
 use Rattle.until_ops.specs.Courses.{Climbs, Sinks, InOrder, IsOnward}
-use Rattle.until_ops.proofs.Choices.{between}
+use Rattle.rational.proofs.AffineMeetings.{between}
 use Rattle.until_ops.proofs.Forward.{upto, after, Reach, Since, goes_on}
 use Rattle.until_ops.proofs.Gaps.{IsOn, gap_climbing, gap_sinking, sup_of_left, sup_of_right, sup_of_sinking}
 

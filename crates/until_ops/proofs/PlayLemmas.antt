@@ -1,5 +1,5 @@
 -- What is in play in a since from the start, and the causes for which it may be refused.
-use Rattle.std.proofs.Common.{◌⊎◌, inl, inr, List, Bool, sym, subst}
+use Rattle.std.proofs.Common.{◌≡◌, ◌⊎◌, inl, inr, List, Bool, sym, subst}
 use Rattle.rational.specs.Rational.{Rational, middle, ◌<ʳ◌, ◌≤ʳ◌}
 use Rattle.rational.specs.Time.{Within}
 use Rattle.rational.specs.Line.{constant}
@@ -9,6 +9,7 @@ use Rattle.rational.proofs.Order.{le_trans, le_of_lt, lt_of_lt_of_le, lt_of_le_o
 use Rattle.rational.proofs.Lines.{at_constant}
 use Rattle.rational.proofs.AffineLemmas.{same_reflᵉ, same_symᵉ, finite_same}
 use Rattle.frac128.specs.Value.{value}
+use Rattle.frac128.specs.declared.frac.Frac.{Frac}
 use Rattle.pl_signal.specs.declared.knot.Knot.{Knot}
 use Rattle.pl_signal.specs.declared.faults.WidePair.TheVariants.{Cross, Value}
 use Rattle.pl_signal.specs.declared.faults.OpFault.{OpFault}
@@ -17,7 +18,7 @@ use Rattle.pl_signal.specs.Knots.{start, stop, IsWorth}
 use Rattle.pl_signal.specs.Wide.{HasCause}
 use Rattle.pl_signal.proofs.Telling.{IsFunction}
 use Rattle.until_ops.specs.declared.course.Gap.{Gap}
-use Rattle.until_ops.specs.Joining.{IsGapFault}
+use Rattle.pl_signal.specs.Joining.{IsGapFault}
 use Rattle.until_ops.specs.Courses.{InOrder, IsOfGap, IsPlayed, IsCourseFault}
 use Rattle.until_ops.specs.Untils.{SinceOf, SinceStep}
 use Rattle.until_ops.specs.Walks.{IsPairWithin}
@@ -48,36 +49,36 @@ module _ {P : Type 0} (function : P → Affine) (lowest highest : Extended) (p q
 
     -- a crossing on the gap of two shapes that are in play there is a cause
     pub cross_cause : (x y : P) → ((tau : Rational) → value gap.from <ʳ tau → tau <ʳ value gap.to → InPlay tau (function x)) → ((tau : Rational) → value gap.from <ʳ tau → tau <ʳ value gap.to → InPlay tau (function y))
-        → (e : OpFault P) → IsGapFault function x y gap.from gap.to e → HasCause function (SinceStep function lowest highest p q) (start p) (stop p) e
-    cross_cause x y plays plays' F.Memory h = tt
-    cross_cause x y plays plays' (F.Wide (Cross a b c d den)) (e, f, i, j, m) =
+        → (at : Frac) → value at ≡ value gap.from → (e : OpFault P) → IsGapFault function x y at gap.to e → HasCause function (SinceStep function lowest highest p q) (start p) (stop p) e
+    cross_cause x y plays plays' at here F.Memory h = tt
+    cross_cause x y plays plays' at here (F.Wide (Cross a b c d den)) (e, f, i, j, m) =
         subst (λ a. IsWideCrossing InPlay (start p) (stop p) (function a) (function b) (value c) (value d) den) (sym e)
         (subst (λ b. IsWideCrossing InPlay (start p) (stop p) (function x) (function b) (value c) (value d) den) (sym f)
         (subst (λ c. IsWideCrossing InPlay (start p) (stop p) (function x) (function y) (value c) (value d) den) (sym i)
-        (subst (λ d. IsWideCrossing InPlay (start p) (stop p) (function x) (function y) (value gap.from) (value d) den) (sym j)
-        (record {
+        (subst (λ d. IsWideCrossing InPlay (start p) (stop p) (function x) (function y) (value at) (value d) den) (sym j)
+        (let after = subst (λ t. t <ʳ m.0) here m.1.after in record {
           tau = m.0;
-          after_start = lt_of_le_of_lt on.inside.above m.1.after;
+          after_start = lt_of_le_of_lt on.inside.above after;
           before_stop = lt_of_lt_of_le m.1.before on.below;
           above = m.1.after;
           below = m.1.before;
-          first = plays m.0 m.1.after m.1.before;
-          second = plays' m.0 m.1.after m.1.before;
+          first = plays m.0 after m.1.before;
+          second = plays' m.0 after m.1.before;
           meet = m.1.meet;
           alone = m.1.alone;
           denominator = m.2;
           wide = m.3;
         }))))
-    cross_cause x y plays plays' (F.Wide (Value a b den)) h = absurd h
+    cross_cause x y plays plays' at here (F.Wide (Value a b den)) h = absurd h
 
     -- and its times lie in the domain
-    pub cross_within : (x y : P) (e : OpFault P) → IsGapFault function x y gap.from gap.to e → IsPairWithin (start p) (stop p) e
-    cross_within x y F.Memory h = tt
-    cross_within x y (F.Wide (Cross a b c d den)) (e, f, i, j, m) = (
-      subst (λ c. Within (start p) (stop p) (value c)) (sym i) on.inside,
+    pub cross_within : (x y : P) (at : Frac) → value at ≡ value gap.from → (e : OpFault P) → IsGapFault function x y at gap.to e → IsPairWithin (start p) (stop p) e
+    cross_within x y at here F.Memory h = tt
+    cross_within x y at here (F.Wide (Cross a b c d den)) (e, f, i, j, m) = (
+      subst (λ c. Within (start p) (stop p) (value c)) (sym i) (subst (λ t. Within (start p) (stop p) t) (sym here) on.inside),
       subst (λ d. Within (start p) (stop p) (value d)) (sym j) (record { above = le_trans on.inside.above (le_of_lt on.later); below = on.below }),
     )
-    cross_within x y (F.Wide (Value a b den)) h = absurd h
+    cross_within x y at here (F.Wide (Value a b den)) h = absurd h
 
     pub value_within : (e : OpFault P) → IsCourseFault function gap e → IsPairWithin (start p) (stop p) e
     value_within F.Memory h = tt

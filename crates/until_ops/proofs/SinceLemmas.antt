@@ -19,7 +19,7 @@ use Rattle.pl_signal.proofs.Telling.{IsFunction}
 use Rattle.until_ops.specs.declared.course.Gap.{Gap}
 use Rattle.until_ops.specs.Courses.{InOrder, IsOnward}
 use Rattle.until_ops.specs.Untils.{SinceOf}
-use Rattle.until_ops.proofs.Choices.{between}
+use Rattle.rational.proofs.AffineMeetings.{between}
 use Rattle.until_ops.proofs.Forward.{after, Since}
 use Rattle.until_ops.proofs.Gaps.{IsOn}
 use Rattle.until_ops.proofs.Points.{HasOneValue, at_start, at_point}

@@ -7,7 +7,7 @@ use Rattle.rational.specs.Extended.{Extended, Affine}
 use Rattle.rational.specs.Affine.{IsBounded}
 use Rattle.rational.proofs.Order.{le_of_same, ge_of_same, le_trans, same_sym, same_trans}
 use Rattle.rational.proofs.Field.{le_negate, same_negate}
-use Rattle.rational.proofs.Mixed.{within_negate}
+use Rattle.rational.proofs.Mixed.{within_negate, within_same}
 use Rattle.rational.proofs.AffineLemmas.{same_reflᵉ}
 use Rattle.pl_signal.specs.declared.knot.Knot.{Knot}
 use Rattle.pl_signal.specs.declared.faults.WidePair.TheVariants.{Cross, Value}
@@ -17,12 +17,11 @@ use Rattle.pl_signal.specs.Knots.{start, stop, HasShape, IsSignal, IsWorth}
 use Rattle.pl_signal.specs.Limits.{IsLimited}
 use Rattle.pl_signal.specs.Moves.{Tells, BasesFrom}
 use Rattle.pl_signal.proofs.Values.{worth_within, worth_same}
-use Rattle.pl_signal.proofs.Moving.{within_same, limited_start, limited_stop}
 use Rattle.pl_signal.proofs.Telling.{told}
 use Rattle.until_ops.specs.Untils.{SinceOf, UntilOf, BasesOfTwo}
 use Rattle.until_ops.specs.Walks.{IsPairWithin}
-use Rattle.until_ops.proofs.LimitLemmas.{worth_bounded}
-use Rattle.until_ops.proofs.BoundLemmas.{limited, since_bounded}
+use Rattle.pl_signal.proofs.Limits.{limited, limited_start, limited_stop, worth_bounded}
+use Rattle.until_ops.proofs.BoundLemmas.{since_bounded}
 use Rattle.until_ops.proofs.MirrorLemmas.{RunsBack, about_zero, until_runs_back, until_is_function}
 
 -- about 0 a number stays within a limit
@@ -62,9 +61,9 @@ module _ {P : Type 0} (function : P → Affine) where
     }
 
     pub mirror_limited : IsLimited function ks → IsLimited function new
-    mirror_limited h = limited function new tells.signal (λ t v w. worth_bounded function ks (negate t) v h (runs_back.out t v w))
-        (within_same (2 ^ 34) (same_sym mirror_starts) (within_negate (2 ^ 34) (limited_stop function ks is.some h)))
-        (within_same (2 ^ 34) (same_sym mirror_stops) (within_negate (2 ^ 34) (limited_start function ks is.some h)))
+    mirror_limited h = limited function new tells.signal (λ t v w. worth_bounded function ks h (negate t) v (runs_back.out t v w))
+        (within_same (2 ^ 34) (same_sym mirror_starts) (within_negate (2 ^ 34) (limited_stop function ks is h)))
+        (within_same (2 ^ 34) (same_sym mirror_stops) (within_negate (2 ^ 34) (limited_start function ks is h)))
 
   module _ (lowest highest : Extended) (p q left right : List (Knot P)) (is_p : IsSignal function p) (is_q : IsSignal function q) (p_tells : IsMirrored p left) (q_tells : IsMirrored q right) where
     pub since_back : RunsBack (UntilOf function lowest highest p q) (SinceOf function lowest highest left right)
@@ -75,8 +74,8 @@ module _ {P : Type 0} (function : P → Affine) where
     pub since_limited : (since : List (Knot P)) → Tells function (SinceOf function lowest highest left right) (start left) (stop left) since → IsLimited function left → IsLimited function right → IsBounded (2 ^ 31) lowest → IsBounded (2 ^ 31) highest
         → IsLimited function since
     since_limited since tells l r low high = limited function since tells.signal
-        (λ t v w. since_bounded (2 ^ 31) lowest highest (start left) (IsWorth function left) (IsWorth function right) low high (λ t v h. worth_bounded function left t v l h) (λ t v h. worth_bounded function right t v r h) t v ((tells.worth t v).0 w).1)
-        (within_same (2 ^ 34) (same_sym tells.begins) (limited_start function left p_tells.signal.some l)) (within_same (2 ^ 34) (same_sym tells.ends) (limited_stop function left p_tells.signal.some l))
+        (λ t v w. since_bounded (2 ^ 31) lowest highest (start left) (IsWorth function left) (IsWorth function right) low high (worth_bounded function left l) (worth_bounded function right r) t v ((tells.worth t v).0 w).1)
+        (within_same (2 ^ 34) (same_sym tells.begins) (limited_start function left p_tells.signal l)) (within_same (2 ^ 34) (same_sym tells.ends) (limited_stop function left p_tells.signal l))
 
     -- and mirrored it is the until
     pub until_told : (since new : List (Knot P)) → Tells function (SinceOf function lowest highest left right) (start left) (stop left) since → IsMirrored since new → Tells function (UntilOf function lowest highest p q) (start p) (stop p) new

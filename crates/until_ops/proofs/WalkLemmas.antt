@@ -7,8 +7,8 @@ use Rattle.rational.specs.Extended.{Extended, ◌≤ᵉ◌, IsLeast, Affine, val
 use Rattle.rational.specs.Affine.{IsBounded, HasBoundedLevel, MeetAlone}
 use Rattle.rational.specs.InPlay.{IsLineOn, IsBreakpoint, IsCrossing}
 use Rattle.rational.specs.InPlay as I
-use Rattle.rational.proofs.Order.{le_refl, le_of_lt, le_of_same, ge_of_same, le_trans, lt_of_lt_of_le, not_lt_of_le, same_refl, same_sym}
-use Rattle.rational.proofs.AffineLemmas.{same_reflᵉ, same_symᵉ, same_transᵉ, value_same}
+use Rattle.rational.proofs.Order.{le_refl, le_of_lt, ge_of_same, le_trans, lt_of_lt_of_le, not_lt_of_le, same_refl, same_sym}
+use Rattle.rational.proofs.AffineLemmas.{bounded_same, same_reflᵉ, same_symᵉ, same_transᵉ, value_same}
 use Rattle.frac128.specs.Value.{value}
 use Rattle.frac128.specs.declared.frac.Frac.{Frac}
 use Rattle.pl_signal.specs.declared.knot.Knot.{Knot}
@@ -19,15 +19,18 @@ use Rattle.until_ops.specs.declared.course.Course.{Course}
 use Rattle.until_ops.specs.declared.course.Gap.{Gap}
 use Rattle.until_ops.specs.declared.course.Turn.{Turn}
 use Rattle.until_ops.specs.declared.since.Stand.{Stand}
-use Rattle.until_ops.specs.Joining.{IsChosen, IsPlace, Joins}
+use Rattle.pl_signal.specs.Joining.{IsChosen, Joins}
+use Rattle.pl_signal.specs.Limits.{IsLimited}
+use Rattle.pl_signal.specs.Places.{IsPlace}
 use Rattle.until_ops.specs.Courses.{IsPointOf, IsOfGap, IsPlayed, IsCourse, IsTurn, IsGap}
 use Rattle.until_ops.specs.Untils.{SinceOf, BasesOfTwo}
 use Rattle.until_ops.specs.Walks.{AreSides, CrossHere, BreakHere, Stands, rest}
-use Rattle.until_ops.proofs.LimitLemmas.{bounded_same, level_bounded, after_small, worth_bounded, point_small}
-use Rattle.until_ops.proofs.PlaceLemmas.{first_place, earlier_after, more_knots, not_both, part_on_gap}
+use Rattle.until_ops.proofs.LimitLemmas.{level_bounded, after_small}
+use Rattle.pl_signal.proofs.Limits.{breakpoint_at, worth_bounded}
+use Rattle.pl_signal.proofs.Places.{first_place, earlier_after, not_both, part_on_gap}
 use Rattle.until_ops.proofs.PlayLemmas.{Follows}
 use Rattle.until_ops.proofs.SinceLemmas.{since_is_function, start_value, gap_value, end_value}
-use Rattle.until_ops.proofs.EventLemmas.{knot_breaks, breakpoint_same}
+use Rattle.until_ops.proofs.EventLemmas.{breakpoint_same}
 
 -- a moving shape of the two has its own base
 pub bases_of_stand : {P : Type 0} (moves : P → Bool) (base : P → ℤ) (p q built : List (Knot P)) → ((x : P) → HasShape built x → HasShape p x ⊎ HasShape q x ⊎ (moves x ≡ false)) → BasesOfTwo moves base p q built
@@ -69,6 +72,10 @@ fewer_by_crossing n m i j a b (inr e) (inl f) = omega (arith, e.0, f)
 fewer_by_crossing n m i j a b (inr e) (inr f) = omega (arith, e.0, f.0)
 
 module _ {P : Type 0} (function : P → Affine) where
+  -- a point of a limited signal is bounded
+  point_small : (ks : List (Knot P)) (i : ℕ) (k : Knot P) → IsLimited function ks → slice_get ks i ≡ Some k → IsBounded (2 ^ 31) (value_at (function k.point) (time k))
+  point_small ks i k h e = worth_bounded function ks h (time k) (value_at (function k.point) (time k)) (worth_at function ks i k (time k) e (same_refl (time k)))
+
   module _ (moves : P → Bool) (lowest highest : Extended) (least : (p : P) (t : Rational) → lowest ≤ᵉ value_at (function p) t) (most : (p : P) (t : Rational) → value_at (function p) t ≤ᵉ highest)
       (p q : List (Knot P)) (is_p : IsSignal function p) (is_q : IsSignal function q) (sides : AreSides function p q) where
     -- the first instant
@@ -123,8 +130,8 @@ module _ {P : Type 0} (function : P → Affine) where
 
         small : (v ≡ l.point) ⊎ (v ≡ k.point) → IsBounded (2 ^ 31) (value_at (function v) (time k))
         small (inl f) = subst (λ v. IsBounded (2 ^ 31) (value_at (function v) (time k))) (sym f)
-            (bounded_same (2 ^ 31) (value_at (function l.point) (time l)) (value_at (function l.point) (time k)) (value_same (function l.point) (same_sym together)) (point_small function q 0 l sides.right at_l))
-        small (inr f) = subst (λ v. IsBounded (2 ^ 31) (value_at (function v) (time k))) (sym f) (point_small function p 0 k sides.left at_k)
+            (bounded_same (2 ^ 31) (value_at (function l.point) (time k)) (value_at (function l.point) (time l)) (value_same (function l.point) together) (point_small q 0 l sides.right at_l))
+        small (inr f) = subst (λ v. IsBounded (2 ^ 31) (value_at (function v) (time k))) (sym f) (point_small p 0 k sides.left at_k)
 
     module _ (built : List (Knot P)) (now : Stand P) (s : Stands function moves lowest highest p q built now) (k l m n : Knot P) (next : Frac) (at : IsAt p q now k l m n next) where
       pub begins_before : value now.at <ʳ value next
@@ -186,7 +193,7 @@ module _ {P : Type 0} (function : P → Affine) where
       played_small to x t (inl e) a b = subst (λ x. IsBounded (2 ^ 31) (value_at (function x) t)) (sym e) (left_small t a b)
       played_small to x t (inr (inl e)) a b = subst (λ x. IsBounded (2 ^ 31) (value_at (function x) t)) (sym e) (right_small t a b)
       played_small to x t (inr (inr (o, of_gap, fixed, still))) a b =
-          bounded_same (2 ^ 31) (value_at (function o) (value now.at)) (value_at (function x) t) (same_symᵉ (value_at (function x) t) (value_at (function o) (value now.at)) (fixed t)) (of_gap_small to o of_gap)
+          bounded_same (2 ^ 31) (value_at (function x) t) (value_at (function o) (value now.at)) (fixed t) (of_gap_small to o of_gap)
 
       pub played_level : (to : Frac) (x : P) → IsPlayed function moves (gap_to to) x → HasBoundedLevel (2 ^ 31) (function x)
       played_level to x played = level_bounded (2 ^ 31) (function x) (value now.at) (played_small to x (value now.at) played (le_refl (value now.at)) (le_of_lt begins_before))
@@ -200,7 +207,7 @@ module _ {P : Type 0} (function : P → Affine) where
       module _ (turn : Turn) (is : IsTurn (function k.after) (function l.after) now.at next turn) (course : Course P) (goes : IsCourse function moves (gap_to turn.time) course)
           (a b : ℕ) (x y v : P) (read : IsRead function p now.left (value turn.time) a x) (read' : IsRead function q now.right (value turn.time) b y)
           (one : (v ≡ course.first) ⊎ (v ≡ course.second) ⊎ (v ≡ x) ⊎ (v ≡ y))
-          (point : IsPointOf course.least (value_at (function course.first) (value turn.time)) (value_at (function course.second) (value turn.time)) (value_at (function x) (value turn.time)) (value_at (function y) (value turn.time)) (value_at (function v) (value turn.time))) where
+          (point : IsPointOf course.side (value_at (function course.first) (value turn.time)) (value_at (function course.second) (value turn.time)) (value_at (function x) (value turn.time)) (value_at (function y) (value turn.time)) (value_at (function v) (value turn.time))) where
         follows : Follows function lowest highest p q (gap_to turn.time)
         follows = gap_follows turn.time is.after is.not_later
 
@@ -211,8 +218,8 @@ module _ {P : Type 0} (function : P → Affine) where
         small : (v ≡ course.first) ⊎ (v ≡ course.second) ⊎ (v ≡ x) ⊎ (v ≡ y) → IsBounded (2 ^ 31) (value_at (function v) (value turn.time))
         small (inl e) = subst (λ v. IsBounded (2 ^ 31) (value_at (function v) (value turn.time))) (sym e) (played_small turn.time course.first (value turn.time) goes.first (le_of_lt is.after) is.not_later)
         small (inr (inl e)) = subst (λ v. IsBounded (2 ^ 31) (value_at (function v) (value turn.time))) (sym e) (played_small turn.time course.second (value turn.time) goes.second (le_of_lt is.after) is.not_later)
-        small (inr (inr (inl e))) = subst (λ v. IsBounded (2 ^ 31) (value_at (function v) (value turn.time))) (sym e) (worth_bounded function p (value turn.time) (value_at (function x) (value turn.time)) sides.left read.worth)
-        small (inr (inr (inr e))) = subst (λ v. IsBounded (2 ^ 31) (value_at (function v) (value turn.time))) (sym e) (worth_bounded function q (value turn.time) (value_at (function y) (value turn.time)) sides.right read'.worth)
+        small (inr (inr (inl e))) = subst (λ v. IsBounded (2 ^ 31) (value_at (function v) (value turn.time))) (sym e) (worth_bounded function p sides.left (value turn.time) (value_at (function x) (value turn.time)) read.worth)
+        small (inr (inr (inr e))) = subst (λ v. IsBounded (2 ^ 31) (value_at (function v) (value turn.time))) (sym e) (worth_bounded function q sides.right (value turn.time) (value_at (function y) (value turn.time)) read'.worth)
 
         point_shape : (v ≡ course.first) ⊎ (v ≡ course.second) ⊎ (v ≡ x) ⊎ (v ≡ y) → HasShape p v ⊎ HasShape q v ⊎ (moves v ≡ false)
         point_shape (inl e) = subst (λ v. HasShape p v ⊎ HasShape q v ⊎ (moves v ≡ false)) (sym e) (played_shape turn.time course.first goes.first)
@@ -245,19 +252,16 @@ module _ {P : Type 0} (function : P → Affine) where
             there = ap (λ t. value t) e
 
             by_knot : (value next ≡ time m) ⊎ (value next ≡ time n) → BreakHere function p q after_now
-            by_knot (inl f) = inl (subst (λ t. IsBreakpoint (IsWorth function p) (start p) (stop p) t) (sym (there ∙ f)) (knot_breaks function p now.left m is_p at.at_m (more_knots function p now.left k (value now.at) s.left at.at_k (lt_of_lt_of_le begins_before next_stop))))
+            by_knot (inl f) = inl (subst (λ t. IsBreakpoint (IsWorth function p) (start p) (stop p) t) (sym (there ∙ f)) (breakpoint_at function p (now.left + 1) m is_p at.at_m))
             by_knot (inr f) = inr (subst (λ t. IsBreakpoint (IsWorth function q) (start p) (stop p) t) (sym (there ∙ f))
-                (breakpoint_same (IsWorth function q) (start q) (stop q) (start p) (stop p) (time n) (same_sym sides.begins) (same_sym sides.ends) (knot_breaks function q now.right n is_q at.at_n more_right)))
-              where
-                more_right : now.right + 1 < length q
-                more_right = more_knots function q now.right l (value now.at) s.right at.at_l (lt_of_lt_of_le begins_before (le_trans next_stop (le_of_same sides.ends)))
+                (breakpoint_same (IsWorth function q) (start q) (stop q) (start p) (stop p) (time n) (same_sym sides.begins) (same_sym sides.ends) (breakpoint_at function q (now.right + 1) n is_q at.at_n)))
 
-        pub walked : (new : List (Knot P)) → Joins function course.least built course.first course.second turn.time v new → Stands function moves lowest highest p q new after_now
+        pub walked : (new : List (Knot P)) → Joins function course.side built course.first course.second turn.time v new → Stands function moves lowest highest p q new after_now
         walked new joins = record {
           signal = joins.signal;
           begins = subst (λ t. t ≈ start p) (sym joins.begins) s.begins;
           ends = joins.ends;
-          worth = λ t w h. by_part t w (joins.worth t w h);
+          worth = λ t w h. by_part t w ((joins.worth t w).0 h);
           shapes = λ r h. by_shape r (joins.shapes r h);
           inside = record { above = le_trans s.inside.above (le_of_lt is.after); below = le_trans is.not_later next_stop };
           here = here;
@@ -268,7 +272,7 @@ module _ {P : Type 0} (function : P → Affine) where
         }
           where
             by_part : (t : Rational) (w : Extended)
-                → IsWorth function built t w ⊎ ((stop built <ʳ t) × (t <ʳ value turn.time) × IsChosen course.least (value_at (function course.first) t) (value_at (function course.second) t) w) ⊎ ((t ≈ value turn.time) × Passes (function v) t w)
+                → IsWorth function built t w ⊎ ((stop built <ʳ t) × (t <ʳ value turn.time) × IsChosen course.side (value_at (function course.first) t) (value_at (function course.second) t) w) ⊎ ((t ≈ value turn.time) × Passes (function v) t w)
                 → SinceOf function lowest highest p q t w
             by_part t w (inl h) = s.worth t w h
             by_part t w (inr (inl h)) =

@@ -12,7 +12,8 @@ use Rattle.pl_signal.specs.declared.faults.OpFault.TheVariants as F
 use Rattle.until_ops.specs.declared.course.Course.{Course}
 use Rattle.until_ops.specs.declared.course.Gap.{Gap}
 use Rattle.until_ops.specs.declared.course.Turn.{Turn}
-use Rattle.until_ops.specs.Joining.{IsChosen}
+use Rattle.pl_signal.specs.declared.joining.Side.{Side}
+use Rattle.pl_signal.specs.Joining.{IsChosen}
 
 -- f grows with time, or stays; it shrinks, or stays
 abbrev pub Climbs : Affine → Type 0
@@ -40,11 +41,11 @@ pub record IsOnward (r : Extended) (f h : Affine) (t0 t : Rational) (v : Extende
   pub is_high : IsGreatest top (value_at h t) high
   pub is_value : IsLeast (value_at f t) high v
 
--- v is the value at a time of a since that has the limit least or greatest of x and y there, with p and q at that time
-pub record IsPointOf (least : Bool) (x y p q v : Extended) : Type 0 where
+-- v is the value at a time of a since that has the least or the greatest of x and y for its limit there, with p and q at that time
+pub record IsPointOf (side : Side) (x y p q v : Extended) : Type 0 where
   pub limit : Extended
   pub most : Extended
-  pub is_limit : IsChosen least x y limit
+  pub is_limit : IsChosen side x y limit
   pub is_most : IsGreatest q limit most
   pub is_value : IsLeast p most v
 
@@ -102,5 +103,5 @@ module _ {P : Type 0} (function : P → Affine) where
       pub first : IsPlayed gap course.first
       pub second : IsPlayed gap course.second
       pub onward : (t : Rational) (v : Extended) → value gap.from <ʳ t → t ≤ʳ value gap.to
-          → IsChosen course.least (value_at (function course.first) t) (value_at (function course.second) t) v
+          → IsChosen course.side (value_at (function course.first) t) (value_at (function course.second) t) v
           → IsOnward (value_at (function gap.before) (value gap.from)) (function gap.left) (function gap.right) (value gap.from) t v

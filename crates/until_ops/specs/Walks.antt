@@ -14,7 +14,7 @@ use Rattle.pl_signal.specs.declared.faults.OpFault.TheVariants as F
 use Rattle.pl_signal.specs.Knots.{start, stop, HasShape, IsSignal, IsWorth}
 use Rattle.pl_signal.specs.Limits.{IsLimited}
 use Rattle.until_ops.specs.declared.since.Stand.{Stand}
-use Rattle.until_ops.specs.Joining.{IsPlace}
+use Rattle.pl_signal.specs.Places.{IsPlace}
 use Rattle.until_ops.specs.Untils.{SinceOf}
 
 -- the times of the pair lie from the one to the other

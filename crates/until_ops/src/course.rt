@@ -1,16 +1,16 @@
 //! What a since is on a gap on which both of its sides are affine.
-ghost use Rattle.std.specs.Prelude.{◌≡◌, ◌⊎◌, ◌^◌, true, false, IsTrue, MatchBool, MatchResult};
+ghost use Rattle.std.specs.Prelude.{◌≡◌, ◌⊎◌, ◌^◌, false, IsTrue, MatchBool, MatchResult};
 ghost use Rattle.rational.specs.Rational.{IsWithin};
 ghost use Rattle.rational.specs.Time.{◌<ʳ◌};
 ghost use Rattle.rational.specs.Extended.{value_at, ◌≤ᵉ◌};
 ghost use Rattle.rational.specs.Affine.{IsBounded, HasBoundedLevel};
 ghost use Rattle.frac128.specs.Value.{value};
-ghost use Rattle.until_ops.specs.Joining.{IsGapFault};
+ghost use Rattle.pl_signal.specs.declared.joining.Side.TheVariants.{Least};
+ghost use Rattle.pl_signal.specs.Joining.{IsGapFault};
 ghost use Rattle.until_ops.specs.Courses.{InOrder, IsBelow, IsCourse, IsCourseFault, IsFixed, IsGap, IsPointOf, IsStart, IsTurn, IsValueFault, Climbs, Sinks};
 
-use crate::joining::{chosen, crossing};
 use frac128::Frac;
-use pl_signal::{OpFault, WidePair};
+use pl_signal::{OpFault, Side, WidePair, chosen, crossing};
 use std::cmp::Ordering;
 use value_laws::Shape;
 
@@ -34,7 +34,7 @@ pub(crate) struct Gap<P> {
 /// The least of two shapes at each time, or the greatest.
 #[derive(Clone, Copy)]
 pub(crate) struct Course<P> {
-    pub(crate) least: bool,
+    pub(crate) side: Side,
     pub(crate) first: P,
     pub(crate) second: P,
 }
@@ -127,10 +127,10 @@ fn constant<P: Shape>(x: &P, at: &Frac) -> Result<P, OpFault<P>>
 
 /// The one shape alone.
 fn only<P: Copy>(x: &P) -> Course<P>
-    ensures { result ≡ record { least = true; first = x.now; second = x.now } }
+    ensures { result ≡ record { side = Least; first = x.now; second = x.now } }
 {
     Course {
-        least: true,
+        side: Side::Least,
         first: *x,
         second: *x,
     }
@@ -147,8 +147,8 @@ pub(crate) fn course_over<P: Shape>(gap: &Gap<P>) -> Result<Course<P>, OpFault<P
     if is_under(&gap.left, &gap.right, &gap.from, &gap.to) {
         return Ok(only(&gap.left));
     }
-    let low = chosen(true, &gap.before, &gap.left, &gap.from);
-    let top = chosen(false, &low, &gap.right, &gap.from);
+    let low = chosen(Side::Least, &gap.before, &gap.left, &gap.from);
+    let top = chosen(Side::Greatest, &low, &gap.right, &gap.from);
     if stays_under(&gap.left, &top, &gap.from) {
         return Ok(only(&gap.left));
     }
@@ -167,7 +167,7 @@ fn above<P: Shape>(gap: &Gap<P>, low: &P, top: &P) -> Result<Course<P>, OpFault<
     if let Ordering::Less = gap.right.rises() {
         let level = constant(top, &gap.from)?;
         return Ok(Course {
-            least: true,
+            side: Side::Least,
             first: gap.left,
             second: level,
         });
@@ -192,13 +192,13 @@ fn raised<P: Shape>(gap: &Gap<P>, low: &P, top: &P) -> Result<Course<P>, OpFault
     let level = constant(low, &gap.from)?;
     if let Ordering::Greater = P::cmp_at(&level, &gap.left, &gap.to) {
         return Ok(Course {
-            least: true,
+            side: Side::Least,
             first: gap.left,
             second: level,
         });
     }
     Ok(Course {
-        least: false,
+        side: Side::Greatest,
         first: level,
         second: gap.right,
     })
@@ -208,12 +208,12 @@ fn raised<P: Shape>(gap: &Gap<P>, low: &P, top: &P) -> Result<Course<P>, OpFault
 pub(crate) fn point<P: Shape>(course: &Course<P>, left: &P, right: &P, at: &Frac) -> P
     requires { IsWithin (2 ^ 34) (value at.now) }
     ensures one { (result ≡ course.now.first) ⊎ (result ≡ course.now.second) ⊎ (result ≡ left.now) ⊎ (result ≡ right.now) }
-    ensures value { IsPointOf course.now.least
+    ensures value { IsPointOf course.now.side
         (value_at (P.function course.now.first) (value at.now)) (value_at (P.function course.now.second) (value at.now))
         (value_at (P.function left.now) (value at.now)) (value_at (P.function right.now) (value at.now))
         (value_at (P.function result) (value at.now)) }
 {
-    let limit = chosen(course.least, &course.first, &course.second, at);
-    let most = chosen(false, right, &limit, at);
-    chosen(true, left, &most, at)
+    let limit = chosen(course.side, &course.first, &course.second, at);
+    let most = chosen(Side::Greatest, right, &limit, at);
+    chosen(Side::Least, left, &most, at)
 }

@@ -2,7 +2,6 @@
 #![tactic(auto)]
 
 mod course;
-mod joining;
 pub mod laws;
 mod since;
 mod until;

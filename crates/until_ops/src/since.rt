@@ -10,9 +10,8 @@ ghost use Rattle.until_ops.specs.Untils.{BasesOfTwo, SinceOf, SinceStep};
 ghost use Rattle.until_ops.specs.Walks.{AreSides, IsPairWithin, Stands, rest};
 
 use crate::course::{Gap, course_over, point, turning};
-use crate::joining::{advance, chosen, earlier, join};
 use frac128::Frac;
-use pl_signal::{Builder, OpFault, Signal};
+use pl_signal::{Builder, OpFault, Side, Signal, chosen, earlier};
 use value_laws::Shape;
 
 /// Where a walk along both signals stands: the places of their last knots that are not later than `at`, a shape with the since's
@@ -67,7 +66,7 @@ fn first<P: Shape>(p: &Signal<P>, q: &Signal<P>) -> Stand<P>
         left: 0,
         right: 0,
         at: x.time,
-        value: chosen(true, &y.point, &x.point, &x.time),
+        value: chosen(Side::Least, &y.point, &x.point, &x.time),
         met: false,
     }
 }
@@ -101,15 +100,13 @@ fn walk<P: Shape>(
         to: turn.time,
     };
     let course = course_over(&gap)?;
-    let left = advance(p, now.left, &now.at, &turn.time);
-    let right = advance(q, now.right, &now.at, &turn.time);
+    let left = p.advance(now.left, &turn.time);
+    let right = q.advance(now.right, &turn.time);
     let value = point(&course, &left.shape, &right.shape, &turn.time);
-    join(
-        course.least,
-        built,
+    built.join(
+        course.side,
         &course.first,
         &course.second,
-        &now.at,
         &turn.time,
         value,
     )?;

@@ -3,7 +3,7 @@ use Rattle.rational.specs.Extended.{value_at}
 use Rattle.frac128.specs.Value.{value}
 use Rattle.rational.proofs.Order.{le_of_lt}
 use Rattle.until_ops.specs.Courses.{IsCourse}
-use Rattle.until_ops.proofs.Composition.{le_of_ltᵉ}
+use Rattle.rational.proofs.ExtendedLemmas.{le_of_ltᵉ}
 use Rattle.until_ops.proofs.CourseLemmas.{not_above, sinks_of, climbs_of, below_on, by_top, by_right}
 use Rattle.until_ops.proofs.course.above.Goals as goal
 

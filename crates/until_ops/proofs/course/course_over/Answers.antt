@@ -3,7 +3,7 @@ use Rattle.rational.specs.Extended.{value_at}
 use Rattle.frac128.specs.Value.{value}
 use Rattle.rational.proofs.Order.{le_of_lt}
 use Rattle.rational.proofs.ExtendedLemmas.{le_transᵉ}
-use Rattle.pl_signal.proofs.SupLemmas.{greatest_of, least_of}
+use Rattle.rational.proofs.ExtendedLemmas.{greatest_of, least_of}
 use Rattle.until_ops.specs.Courses.{IsCourse}
 use Rattle.until_ops.proofs.CourseLemmas.{below_on, by_left}
 use Rattle.until_ops.proofs.course.course_over.Goals as goal

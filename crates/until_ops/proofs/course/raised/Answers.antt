@@ -3,7 +3,7 @@ use Rattle.rational.specs.Extended.{value_at}
 use Rattle.frac128.specs.Value.{value}
 use Rattle.rational.proofs.Order.{le_of_lt}
 use Rattle.rational.proofs.ExtendedLemmas.{le_transᵉ}
-use Rattle.until_ops.proofs.Composition.{le_of_ltᵉ}
+use Rattle.rational.proofs.ExtendedLemmas.{le_of_ltᵉ}
 use Rattle.until_ops.proofs.CourseLemmas.{not_above, below_on, by_low_over, by_low_under, within_ends}
 use Rattle.until_ops.proofs.course.raised.Goals as goal
 

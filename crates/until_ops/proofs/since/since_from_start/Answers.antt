@@ -5,7 +5,7 @@ use Rattle.pl_signal.specs.Knots.{start, stop, IsWorth}
 use Rattle.pl_signal.specs.Moves.{Tells}
 use Rattle.pl_signal.proofs.Telling.{told}
 use Rattle.until_ops.specs.Untils.{SinceOf, BasesOfTwo}
-use Rattle.until_ops.proofs.PlaceLemmas.{at_stop}
+use Rattle.pl_signal.proofs.Places.{at_stop}
 use Rattle.until_ops.proofs.SinceLemmas.{since_is_function}
 use Rattle.until_ops.proofs.WalkLemmas.{bases_of_stand}
 use Rattle.until_ops.proofs.since.since_from_start.Goals as goal
