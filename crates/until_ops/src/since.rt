@@ -46,7 +46,8 @@ pub fn since_from_start<P: Shape>(p: &Signal<P>, q: &Signal<P>) -> Result<Signal
 {
     let last = p.len() - 1;
     let mut now = first(p, q);
-    let mut built = Builder::start(p.alloc(), now.at, now.value)?;
+    let room = p.len().saturating_add(q.len());
+    let mut built = Builder::with_room(p.alloc(), now.at, now.value, room)?;
     while now.left < last {
         now = walk(p, q, &mut built, &now)?;
     }
