@@ -5,11 +5,9 @@ use Rattle.rational.specs.Extended.{Extended, ◌≤ᵉ◌, ◌<ᵉ◌, IsLeast,
 use Rattle.rational.specs.Windows.{Function, IsSupOver, IsInfOver}
 use Rattle.rational.proofs.Order.{le_refl, le_of_lt, lt_of_lt_of_le}
 use Rattle.rational.proofs.TimeLemmas.{precedes_le, precedes_of_lt}
-use Rattle.rational.proofs.ExtendedLemmas.{le_transᵉ, Inf-unique}
-use Rattle.rational.proofs.AffineLemmas.{near_start, near_stop, above_start, above_stop}
-use Rattle.rational.proofs.Sups.{lt_of_lt_of_leᵉ}
-use Rattle.pl_signal.proofs.SupLemmas.{at_most_an_end}
-use Rattle.until_ops.proofs.Composition.{least_of, below_least}
+use Rattle.rational.proofs.ExtendedLemmas.{le_transᵉ, lt_of_lt_of_leᵉ, least_of, Inf-unique}
+use Rattle.rational.proofs.AffineLemmas.{near_start, near_stop, above_start, above_stop, at_most_an_end}
+use Rattle.until_ops.proofs.Composition.{below_least}
 use Rattle.until_ops.proofs.Forward.{upto, after, Reach}
 
 -- the function grows with time, or stays; it shrinks, or stays

@@ -1,7 +1,8 @@
 use Rattle.frac128.specs.Value.{value}
 use Rattle.rational.specs.Affine.{MeetAlone}
-use Rattle.signal_ops.proofs.Choices.{meets, none_says}
-use Rattle.signal_ops.proofs.joining.crossing.Goals as goal
+use Rattle.rational.proofs.AffineMeetings.{meets}
+use Rattle.pl_signal.proofs.Choices.{none_says}
+use Rattle.pl_signal.proofs.joining.crossing.Goals as goal
 
 pub unreachable-requires : goal.unreachable-requires
 unreachable-requires g c =

@@ -1,7 +1,6 @@
 -- The number part of the way from one whole number to another, and what becomes of it under sums and multiples.
-use Rattle.std.proofs.Common.{◌≡◌, ◌≢◌, ℕ, ℤ, pos, ◌+ℤ◌, ◌-ℤ◌, ◌*ℤ◌, ◌+◌, ◌*◌, ◌<◌, suc, arith, ap, refl}
-use Rattle.std.proofs.Math.Nat.{zero-lt-suc}
-use Rattle.rational.specs.Rational.{Rational, ◌≈◌, add, subtract, multiply, negate, whole, ratio, part_above, part_below}
+use Rattle.std.proofs.Common.{◌≡◌, ℕ, ℤ, pos, ◌+ℤ◌, ◌-ℤ◌, ◌*ℤ◌, ◌+◌, ◌*◌, ◌<◌, arith, ap}
+use Rattle.rational.specs.Rational.{Rational, ◌≈◌, add, subtract, multiply, whole, ratio, part_above, part_below}
 use Rattle.rational.specs.Time.{times}
 use Rattle.rational.specs.Line.{at, ramp_line}
 use Rattle.rational.proofs.Mixed.{parts, mul_parts}
