@@ -1,17 +1,16 @@
 -- Signals whose knots are within the limits, one by one.
-use Rattle.std.proofs.Common.{◌≡◌, ℕ, zero, suc, ◌+◌, ◌<◌, ◌≤◌, ◌^◌, ℤ, pos, neg_ℤ, ◌-ℤ◌, List, [], ◌∷◌, length, Some, refl, arith, lit<, subst}
+use Rattle.std.proofs.Common.{◌≡◌, ℕ, suc, ◌+◌, ◌<◌, ◌≤◌, ◌^◌, ℤ, List, [], ◌∷◌, length, Some, refl, arith, lit<, subst}
 use Rattle.std.specs.Int.{w64}
 use Rattle.std.specs.Prelude.{slice_get}
 use Rattle.std.specs.Int.RustNames.{unsigned_abs}
 use Rattle.std.specs.declared.cmp.Ordering.{Ordering}
 use Rattle.std.specs.declared.cmp.Ordering.TheVariants.{Less, Equal, Greater}
-use Rattle.rational.specs.Rational.{Rational, IsOrder, IsWithin, FitsFloor, whole, add, subtract, ◌≤ʳ◌, ◌<ʳ◌, ◌≈◌}
+use Rattle.rational.specs.Rational.{Rational, IsOrder, IsWithin, FitsFloor, whole, add, subtract, ◌≤ʳ◌}
 use Rattle.rational.specs.Extended.{Affine}
 use Rattle.rational.proofs.Order.{le_of_lt, le_of_same, ge_of_same}
 use Rattle.rational.proofs.Mixed.{fits_of_within, within_add, within_negate, within_whole, within_more}
 use Rattle.pl_signal.specs.declared.knot.Knot.{Knot}
-use Rattle.pl_signal.specs.Knots.{time, Each}
-use Rattle.pl_signal.specs.Limits.{HasBoundedLimits, IsLimitedKnot, IsLimited}
+use Rattle.pl_signal.specs.Limits.{IsLimitedKnot, IsLimited}
 use Rattle.conformance.specs.Tables.{IsSmall, IsLimitedAt}
 
 -- not later, by an answer

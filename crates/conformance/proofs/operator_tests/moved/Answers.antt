@@ -1,7 +1,7 @@
-use Rattle.std.proofs.Common.{to_z, of_z, subst, arith, ℤ}
+use Rattle.std.proofs.Common.{to_z, of_z, subst, arith}
 use Rattle.std.specs.Int.{w64}
 use Rattle.std.proofs.lemmas.Int.{ints}
-use Rattle.rational.specs.Rational.{Rational, add, whole, ◌≤ʳ◌}
+use Rattle.rational.specs.Rational.{add, whole, ◌≤ʳ◌}
 use Rattle.rational.proofs.Order.{le_trans, le_of_same, ge_of_same}
 use Rattle.frac128.specs.Value.{value}
 use Rattle.conformance.proofs.Limits.{moved_fits}

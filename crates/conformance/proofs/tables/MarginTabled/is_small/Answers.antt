@@ -1,4 +1,4 @@
-use Rattle.std.proofs.Common.{◌≡◌, ◌^◌, sym, subst}
+use Rattle.std.proofs.Common.{◌^◌, sym, subst}
 use Rattle.rational.specs.Affine.{IsBounded}
 use Rattle.rational.specs.Extended.{value_at}
 use Rattle.rational.proofs.Order.{same_sym}
