@@ -1,1 +1,3 @@
 pub mod SupParts
+pub mod SupBounds
+pub mod SupTelling
