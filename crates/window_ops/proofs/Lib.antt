@@ -1,3 +1,4 @@
 pub mod SupParts
 pub mod SupBounds
 pub mod SupTelling
+pub mod SupInstants

@@ -2,13 +2,12 @@
 use Rattle.std.proofs.Common.{ℕ, pos, neg_ℤ, ◌^◌, ◌⊎◌, inl, inr, List, [], ◌∷◌}
 use Rattle.rational.specs.Time.{Rational, ◌≤ʳ◌, ◌<ʳ◌, whole}
 use Rattle.rational.specs.Rational.{IsWithin}
-use Rattle.rational.specs.Extended.{Extended, minus_infinity, finite, infinity, Affine, always_low, affine, always_high, value_at, Passes, ◌≤ᵉ◌, ◌<ᵉ◌, ◌≈ᵉ◌, IsSup, IsGreatest}
+use Rattle.rational.specs.Extended.{Extended, minus_infinity, finite, infinity, Affine, always_low, affine, always_high, value_at, ◌≤ᵉ◌, ◌<ᵉ◌, ◌≈ᵉ◌, IsSup, IsGreatest}
 use Rattle.rational.specs.Line.{at}
 use Rattle.rational.specs.Affine.{IsBounded}
 use Rattle.rational.specs.Windows.{Function}
 use Rattle.rational.specs.InPlay.{IsLineOn, IsLeftLimit, IsRightLimit}
 use Rattle.rational.proofs.Order.{le_or_lt, le_trans, le_of_lt, not_lt_of_le, same_refl}
-use Rattle.rational.proofs.ExtendedLemmas.{le_transᵉ}
 use Rattle.rational.proofs.AffineLemmas.{same_reflᵉ, same_symᵉ, value_same, near_start, near_stop, above_start, above_stop, lies_between}
 use Rattle.pl_signal.specs.declared.knot.Knot.{Knot}
 use Rattle.pl_signal.specs.Knots.{time, start, stop, Each, IsKnot, IsSignal, IsWorth}

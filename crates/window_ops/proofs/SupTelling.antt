@@ -1,7 +1,7 @@
 -- Signals that tell the Sup over a window ahead.
 use Rattle.std.proofs.Common.{ℕ, ◌<◌, ◌^◌, inl, inr, List, Bool}
 use Rattle.rational.specs.Rational.{IsWithin}
-use Rattle.rational.specs.Time.{Rational, Within, ◌≈◌}
+use Rattle.rational.specs.Time.{Rational, Within}
 use Rattle.rational.specs.Extended.{Extended, Affine}
 use Rattle.rational.specs.Affine.{IsBounded}
 use Rattle.rational.specs.Windows.{Function, Ahead}
@@ -19,7 +19,7 @@ use Rattle.signal_ops.specs.Pointwise.{GreatestOf}
 use Rattle.window_ops.specs.Parts.{AtLowEnd, AtHighEnd, AmongKnots, IsAbout}
 use Rattle.window_ops.specs.Windows.{SupAhead}
 use Rattle.window_ops.proofs.SupParts.{sup_of_parts}
-use Rattle.window_ops.proofs.SupBounds.{HasBoundedValues, sup_bounded, greatest_bounded, right_limit_bounded, left_limit_bounded, worth_bounded, limited_by_values}
+use Rattle.window_ops.proofs.SupBounds.{HasBoundedValues, sup_bounded, greatest_bounded, right_limit_bounded, left_limit_bounded, limited_by_values}
 
 -- the Sup over a window has one value at each time
 pub ahead_is_function : (from to : Rational) (F : Function) (lowest : Extended) (a b : ℕ) (low_in high_in : Bool) → IsFunction (SupAhead from to F lowest a b low_in high_in)
