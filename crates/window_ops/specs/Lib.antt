@@ -2,3 +2,4 @@ pub mod Windows
 pub mod Parts
 pub mod Conditions
 pub mod Frozen
+pub mod Named
