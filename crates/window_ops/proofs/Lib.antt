@@ -1,0 +1,2 @@
+pub mod EndsLimits
+pub mod EndsLimited
