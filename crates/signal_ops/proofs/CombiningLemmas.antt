@@ -21,7 +21,7 @@ use Rattle.pl_signal.specs.Knots.{time, start, stop, HasShape, IsWorth, IsSignal
 use Rattle.pl_signal.proofs.Values.{next_rises, stop_at, worth_at, worth_between, worth_same, one_value}
 use Rattle.pl_signal.proofs.Telling.{IsFunction, TellsSoFar}
 use Rattle.signal_ops.specs.Joining.{IsChosen, ChosenOf, IsPlace, Joins, IsGapFault}
-use Rattle.signal_ops.specs.Pointwise.{IsFault, IsWideMeeting}
+use Rattle.signal_ops.specs.Pointwise.{IsFault, IsWideMeeting, NamesShapes}
 use Rattle.signal_ops.proofs.JoiningLemmas.{chosen_same}
 
 -- what is not before and not at one time is later
@@ -178,3 +178,9 @@ module _ {P : Type 0} (function : P → Affine) where
       (subst (λ d. IsWideMeeting function (IsWorth function ks) (IsWorth function ls) (start ks) (stop ks) p q (value from) (value d) den) (sym j)
       (record { after_start = above; before_stop = below; left = left; right = right; at = m.0; meet = m.1; denominator = m.2; wide = m.3 }))))
   fault_of_gap ks ls p q from to (F.Wide (Value a b den)) h above below left right = absurd h
+
+  -- and it names a shape of each
+  pub names_of_gap : (ks ls : List (Knot P)) (p q : P) (from to : Frac) (e : OpFault P) → IsGapFault function p q from to e → HasShape ks p → HasShape ls q → NamesShapes ks ls e
+  names_of_gap ks ls p q from to F.Memory h left right = tt
+  names_of_gap ks ls p q from to (F.Wide (Cross a b c d den)) (e, f, i, j, m) left right = (subst (HasShape ks) (sym e) left, subst (HasShape ls) (sym f) right)
+  names_of_gap ks ls p q from to (F.Wide (Value a b den)) h left right = absurd h

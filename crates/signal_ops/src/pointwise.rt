@@ -5,7 +5,7 @@ ghost use Rattle.pl_signal.specs.Knots.{HasShape, IsWorth, start, stop};
 ghost use Rattle.pl_signal.specs.Limits.{IsLimited};
 ghost use Rattle.pl_signal.specs.Moves.{Tells};
 ghost use Rattle.signal_ops.specs.Joining.{ChosenOf};
-ghost use Rattle.signal_ops.specs.Pointwise.{GreatestOf, IsFault, LeastOf};
+ghost use Rattle.signal_ops.specs.Pointwise.{GreatestOf, IsFault, LeastOf, NamesShapes};
 
 use crate::joining::{advance, chosen, earlier, join};
 use pl_signal::{Builder, OpFault, Signal};
@@ -25,6 +25,7 @@ pub fn lower<P: Shape>(a: &Signal<P>, b: &Signal<P>) -> Result<Signal<P>, OpFaul
     ensures shapes { IfOk result (λ r. (p : P) → HasShape r p → HasShape a.now p ⊎ HasShape b.now p) }
     ensures wide { IfErr result
         (IsFault P.function (IsWorth P.function a.now) (IsWorth P.function b.now) (start a.now) (stop a.now)) }
+    ensures named { IfErr result (NamesShapes a.now b.now) }
 {
     combined(true, a, b)
 }
@@ -43,6 +44,7 @@ pub fn upper<P: Shape>(a: &Signal<P>, b: &Signal<P>) -> Result<Signal<P>, OpFaul
     ensures shapes { IfOk result (λ r. (p : P) → HasShape r p → HasShape a.now p ⊎ HasShape b.now p) }
     ensures wide { IfErr result
         (IsFault P.function (IsWorth P.function a.now) (IsWorth P.function b.now) (start a.now) (stop a.now)) }
+    ensures named { IfErr result (NamesShapes a.now b.now) }
 {
     combined(false, a, b)
 }
@@ -58,6 +60,7 @@ fn combined<P: Shape>(least: bool, a: &Signal<P>, b: &Signal<P>) -> Result<Signa
     ensures shapes { IfOk result (λ r. (p : P) → HasShape r p → HasShape a.now p ⊎ HasShape b.now p) }
     ensures wide { IfErr result
         (IsFault P.function (IsWorth P.function a.now) (IsWorth P.function b.now) (start a.now) (stop a.now)) }
+    ensures named { IfErr result (NamesShapes a.now b.now) }
 {
     let last = a.len() - 1;
     let _ = b.len();

@@ -4,6 +4,10 @@
 mod ends;
 // mod instant;
 mod middle;
+mod negated;
+mod past;
 mod window;
 
-pub use window::{inf_past, inf_window, sup_past, sup_window};
+pub use negated::{inf_past, inf_window};
+pub use past::sup_past;
+pub use window::sup_window;

@@ -9,7 +9,7 @@ use Rattle.pl_signal.proofs.Telling.{told}
 use Rattle.pl_signal.proofs.Moving.{at_knot_within, limited_at, first_is, same_knot, only_ends}
 use Rattle.signal_ops.specs.Joining.{ChosenOf, Joins}
 use Rattle.signal_ops.proofs.Negating.{after_bounded}
-use Rattle.signal_ops.proofs.CombiningLemmas.{ok_says, earlier_after, nearer, not_both, at_stop, first_place, first_shapes, joined_shapes, more_knots, part_on_gap, chosen_is_function, tells_joined, tells_chosen, fault_of_gap}
+use Rattle.signal_ops.proofs.CombiningLemmas.{ok_says, earlier_after, nearer, not_both, at_stop, first_place, first_shapes, joined_shapes, more_knots, part_on_gap, chosen_is_function, tells_joined, tells_chosen, fault_of_gap, names_of_gap}
 use Rattle.signal_ops.proofs.pointwise.combined.Goals as goal
 
 pub loop-i-init : goal.loop-i-init
@@ -92,6 +92,11 @@ returns-in-Err-clause-wide g c =
     fault_of_gap g.P.Shape.function c.args.a.now c.args.b.now c.knot.result.after c.knot-in-loop-i.result.after c.loop-i.at c.earlier-to.result c.in-Err.fault c.in-Err.ensures.wide c.loop-i.invariant.above (le_trans c.earlier-to.ensures.left stop_a)
     (λ t h l. part_on_gap g.P.Shape.function c.args.a.now c.loop-i.i c.knot.result c.knot-in-loop-i-2.result (value c.loop-i.at) (value c.earlier-to.result) t c.loop-i.invariant.left c.knot.ensures c.knot-in-loop-i-2.ensures c.earlier-to.ensures.left h l)
     (λ t h l. part_on_gap g.P.Shape.function c.args.b.now c.loop-i.j c.knot-in-loop-i.result c.knot-in-loop-i-3.result (value c.loop-i.at) (value c.earlier-to.result) t c.loop-i.invariant.right c.knot-in-loop-i.ensures c.knot-in-loop-i-3.ensures c.earlier-to.ensures.right h l)
+
+pub returns-in-Err-clause-named : goal.returns-in-Err-clause-named
+returns-in-Err-clause-named g c =
+    names_of_gap g.P.Shape.function c.args.a.now c.args.b.now c.knot.result.after c.knot-in-loop-i.result.after c.loop-i.at c.earlier-to.result c.in-Err.fault c.in-Err.ensures.wide
+    (shape_after g.P.Shape.function c.args.a.now c.loop-i.i c.knot.result c.knot.ensures) (shape_after g.P.Shape.function c.args.b.now c.loop-i.j c.knot-in-loop-i.result c.knot-in-loop-i.ensures)
 
 pub loop-i-smaller : goal.loop-i-smaller
 loop-i-smaller g c =
