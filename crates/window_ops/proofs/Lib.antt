@@ -1,5 +1,4 @@
 pub mod SupParts
-pub mod SupBounds
 pub mod SupTelling
 pub mod SupInstants
 pub mod EndsLimits

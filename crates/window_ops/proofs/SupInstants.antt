@@ -23,7 +23,7 @@ use Rattle.pl_signal.proofs.Telling.{IsFunction, TellsSoFar, tells_on, told, wor
 use Rattle.pl_signal.proofs.Moving.{moved_on, moved_first}
 use Rattle.window_ops.specs.Instants.{Least, ThenLeast}
 use Rattle.window_ops.specs.Windows.{SupAhead}
-use Rattle.window_ops.proofs.SupBounds.{HasBoundedValues, bounded_same}
+use Rattle.window_ops.proofs.EndsLimited.{HasBounded, bounded_same}
 
 pub least_is_function : (lowest : Extended) → IsFunction (Least lowest)
 least_is_function lowest = record {
@@ -31,7 +31,7 @@ least_is_function lowest = record {
   one = λ t v w a b. same_transᵉ v lowest w a (same_symᵉ w lowest b);
 }
 
-pub then_least_bounded : (n : ℕ) (lowest : Extended) (F : Function) (to : Rational) → IsBounded n lowest → HasBoundedValues n F → HasBoundedValues n (ThenLeast lowest F to)
+pub then_least_bounded : (n : ℕ) (lowest : Extended) (F : Function) (to : Rational) → IsBounded n lowest → HasBounded n F → HasBounded n (ThenLeast lowest F to)
 then_least_bounded n lowest F to low small t v (inl h) = small t v h
 then_least_bounded n lowest F to low small t v (inr h) = bounded_same n v lowest h.1 low
 

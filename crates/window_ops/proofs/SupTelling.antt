@@ -2,7 +2,7 @@
 use Rattle.std.proofs.Common.{ℕ, ◌<◌, ◌^◌, inl, inr, List, Bool}
 use Rattle.rational.specs.Rational.{IsWithin}
 use Rattle.rational.specs.Time.{Rational, Within}
-use Rattle.rational.specs.Extended.{Extended, Affine}
+use Rattle.rational.specs.Extended.{Extended, Affine, IsGreatest}
 use Rattle.rational.specs.Affine.{IsBounded}
 use Rattle.rational.specs.Windows.{Function, Ahead}
 use Rattle.rational.proofs.Order.{same_sym, same_trans}
@@ -19,7 +19,7 @@ use Rattle.signal_ops.specs.Pointwise.{GreatestOf}
 use Rattle.window_ops.specs.Parts.{AtLowEnd, AtHighEnd, AmongKnots, IsAbout}
 use Rattle.window_ops.specs.Windows.{SupAhead}
 use Rattle.window_ops.proofs.SupParts.{sup_of_parts}
-use Rattle.window_ops.proofs.SupBounds.{HasBoundedValues, sup_bounded, greatest_bounded, right_limit_bounded, left_limit_bounded, limited_by_values}
+use Rattle.window_ops.proofs.EndsLimited.{HasBounded, bounded_same, sup_bounded, right_limit_bounded, left_limit_bounded, limited}
 
 -- the Sup over a window has one value at each time
 pub ahead_is_function : (from to : Rational) (F : Function) (lowest : Extended) (a b : ℕ) (low_in high_in : Bool) → IsFunction (SupAhead from to F lowest a b low_in high_in)
@@ -28,30 +28,37 @@ ahead_is_function from to F lowest a b low_in high_in = record {
   one = λ t v w h k. record { at_most = Sup-unique lowest v w h k; at_least = Sup-unique lowest w v k h };
 }
 
-module _ (n : ℕ) (lowest : Extended) (low : IsBounded n lowest) (F : Function) (small : HasBoundedValues n F) where
+module _ (n : ℕ) (lowest : Extended) (low : IsBounded n lowest) (F : Function) (small : HasBounded n F) where
   -- the parts of the Sup over a window of bounded values are bounded
-  pub low_end_bounded : (a : ℕ) (low_in : Bool) → HasBoundedValues n (AtLowEnd lowest F a low_in)
-  low_end_bounded a low_in t r s = sup_bounded n lowest r low (λ v m. elim m [ inl h ↦ small _ v h.1 | inr h ↦ right_limit_bounded F n small _ v h ]) s
+  pub low_end_bounded : (a : ℕ) (low_in : Bool) → HasBounded n (AtLowEnd lowest F a low_in)
+  low_end_bounded a low_in t r s = sup_bounded n _ lowest r low (λ v m. elim m [ inl h ↦ small _ v h.1 | inr h ↦ right_limit_bounded n F _ v small h ]) s
 
-  pub high_end_bounded : (b : ℕ) (high_in : Bool) → HasBoundedValues n (AtHighEnd lowest F b high_in)
-  high_end_bounded b high_in t r s = sup_bounded n lowest r low (λ v m. elim m [ inl h ↦ small _ v h.1 | inr h ↦ left_limit_bounded F n small _ v h ]) s
+  pub high_end_bounded : (b : ℕ) (high_in : Bool) → HasBounded n (AtHighEnd lowest F b high_in)
+  high_end_bounded b high_in t r s = sup_bounded n _ lowest r low (λ v m. elim m [ inl h ↦ small _ v h.1 | inr h ↦ left_limit_bounded n F _ v small h ]) s
 
-pub greatest_of_bounded : (n : ℕ) (F G : Function) → HasBoundedValues n F → HasBoundedValues n G → HasBoundedValues n (GreatestOf F G)
+-- the greatest of two bounded values
+greatest_bounded : (n : ℕ) (x y m : Extended) → IsBounded n x → IsBounded n y → IsGreatest x y m → IsBounded n m
+greatest_bounded n x y m a b g = elim g.one_of [
+  | inl h ↦ bounded_same n m x (record { at_most = h; at_least = g.left }) a
+  | inr h ↦ bounded_same n m y (record { at_most = h; at_least = g.right }) b
+]
+
+pub greatest_of_bounded : (n : ℕ) (F G : Function) → HasBounded n F → HasBounded n G → HasBounded n (GreatestOf F G)
 greatest_of_bounded n F G f g t v (x, y, h, k, m) = greatest_bounded n x y v (f t x h) (g t y k) m
 
 module _ {P : Type 0} (function : P → Affine) where
-  about_bounded : (n : ℕ) (knots : List (Knot P)) → HasBoundedValues n (IsWorth function knots) → (u : Rational) (v : Extended) → IsAbout function knots u v → IsBounded n v
+  about_bounded : (n : ℕ) (knots : List (Knot P)) → HasBounded n (IsWorth function knots) → (u : Rational) (v : Extended) → IsAbout function knots u v → IsBounded n v
   about_bounded n knots small u v (inl h) = small u v h
-  about_bounded n knots small u v (inr (inl h)) = left_limit_bounded (IsWorth function knots) n small u v h
-  about_bounded n knots small u v (inr (inr h)) = right_limit_bounded (IsWorth function knots) n small u v h
+  about_bounded n knots small u v (inr (inl h)) = left_limit_bounded n (IsWorth function knots) u v small h
+  about_bounded n knots small u v (inr (inr h)) = right_limit_bounded n (IsWorth function knots) u v small h
 
-  pub among_bounded : (n : ℕ) (lowest : Extended) → IsBounded n lowest → (knots : List (Knot P)) → HasBoundedValues n (IsWorth function knots) → (a b : ℕ) → HasBoundedValues n (AmongKnots function lowest knots a b)
-  among_bounded n lowest low knots small a b t r s = sup_bounded n lowest r low (λ v (u, i, h, k, m). about_bounded n knots small u v m) s
+  pub among_bounded : (n : ℕ) (lowest : Extended) → IsBounded n lowest → (knots : List (Knot P)) → HasBounded n (IsWorth function knots) → (a b : ℕ) → HasBounded n (AmongKnots function lowest knots a b)
+  among_bounded n lowest low knots small a b t r s = sup_bounded n _ lowest r low (λ v (u, i, h, k, m). about_bounded n knots small u v m) s
 
   -- a signal that tells a function with bounded values is limited
-  pub limited_as_told : (F : Function) (from to : Rational) (knots : List (Knot P)) → Tells function F from to knots → HasBoundedValues (2 ^ 31) F → IsWithin (2 ^ 34) from → IsWithin (2 ^ 34) to → IsLimited function knots
+  pub limited_as_told : (F : Function) (from to : Rational) (knots : List (Knot P)) → Tells function F from to knots → HasBounded (2 ^ 31) F → IsWithin (2 ^ 34) from → IsWithin (2 ^ 34) to → IsLimited function knots
   limited_as_told F from to knots r small h k =
-      limited_by_values function knots r.signal (λ t v w. small t v ((r.worth t v).0 w).1) (within_same (2 ^ 34) (same_sym r.begins) h) (within_same (2 ^ 34) (same_sym r.ends) k)
+      limited function knots r.signal (λ t v w. small t v ((r.worth t v).0 w).1) (within_same (2 ^ 34) (same_sym r.begins) h) (within_same (2 ^ 34) (same_sym r.ends) k)
 
   -- a signal that tells what implies another function tells that one
   pub retold : (F G : Function) (from to : Rational) (knots : List (Knot P)) → Tells function F from to knots → IsFunction G → ((t : Rational) (v : Extended) → Within from to t → F t v → G t v) → Tells function G from to knots
