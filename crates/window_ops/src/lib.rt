@@ -2,7 +2,7 @@
 #![tactic(auto)]
 
 mod ends;
-// mod instant;
+mod instant;
 mod middle;
 mod negated;
 mod past;
