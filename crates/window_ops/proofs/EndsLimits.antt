@@ -1,13 +1,13 @@
 -- One-sided limits of functions of time, and those of a signal.
-use Rattle.std.proofs.Common.{◌≡◌, ℕ, ◌+◌, ◌⊎◌, inl, inr, List, Some}
+use Rattle.std.proofs.Common.{◌≡◌, ℕ, ◌+◌, inl, inr, List, Some}
 use Rattle.std.specs.Prelude.{slice_get}
 use Rattle.rational.specs.Rational.{middle}
 use Rattle.rational.specs.Time.{Rational, ◌≤ʳ◌, ◌<ʳ◌, ◌≈◌}
-use Rattle.rational.specs.Extended.{Extended, ◌≤ᵉ◌, ◌≈ᵉ◌, Affine, value_at}
+use Rattle.rational.specs.Extended.{Extended, ◌≈ᵉ◌, Affine, value_at}
 use Rattle.rational.specs.Affine.{AreSame}
 use Rattle.rational.specs.Windows.{Function}
 use Rattle.rational.specs.InPlay.{IsLineOn, IsLeftLimit, IsRightLimit}
-use Rattle.rational.proofs.Order.{le_refl, le_or_lt, le_of_lt, le_of_same, ge_of_same, le_trans, lt_trans, lt_of_lt_of_le, lt_of_le_of_lt, not_lt_of_le, left_of_middle, right_of_middle}
+use Rattle.rational.proofs.Order.{le_refl, le_or_lt, le_of_lt, le_of_same, ge_of_same, lt_trans, lt_of_lt_of_le, lt_of_le_of_lt, not_lt_of_le, left_of_middle, right_of_middle}
 use Rattle.rational.proofs.AffineLemmas.{same_reflᵉ, same_symᵉ, same_transᵉ, value_same, affine_unique}
 use Rattle.pl_signal.specs.declared.knot.Knot.{Knot}
 use Rattle.pl_signal.specs.Knots.{time, start, stop, IsSignal, IsWorth}

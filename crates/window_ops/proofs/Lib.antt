@@ -1,2 +1,4 @@
 pub mod EndsLimits
 pub mod EndsLimited
+pub mod EndsSups
+pub mod EndsAhead
