@@ -3,3 +3,5 @@ pub mod SupTelling
 pub mod SupInstants
 pub mod EndsLimits
 pub mod EndsLimited
+pub mod EndsSups
+pub mod EndsAhead
