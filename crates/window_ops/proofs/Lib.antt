@@ -1,1 +1,3 @@
 pub mod SupParts
+pub mod MiddleLimits
+pub mod InPlay
