@@ -1,16 +1,16 @@
 -- What a signal is about a time: its limits at a knot, that its knots are breakpoints, and what lies near.
-use Rattle.std.proofs.Common.{◌≡◌, ℕ, zero, suc, ◌+◌, ◌*◌, ◌<◌, ◌≤◌, ◌⊎◌, inl, inr, List, [], ◌∷◌, length, get_or, Some, refl, sym, subst, arith}
+use Rattle.std.proofs.Common.{◌≡◌, ℕ, zero, suc, ◌+◌, ◌*◌, ◌<◌, ◌⊎◌, inl, inr, List, [], ◌∷◌, length, get_or, Some, refl, sym, subst, arith}
 use Rattle.std.specs.Prelude.{slice_get}
 use Rattle.std.proofs.lemmas.Bool.{cases_lt}
 use Rattle.std.proofs.lemmas.Option.{slice_get_past, slice_get-get_or}
 use Rattle.rational.specs.Rational.{middle}
-use Rattle.rational.specs.Time.{Rational, Within, ◌≤ʳ◌, ◌<ʳ◌, ◌≈◌, later}
+use Rattle.rational.specs.Time.{Rational, ◌≤ʳ◌, ◌<ʳ◌, ◌≈◌, later}
 use Rattle.rational.specs.Line.{Line, at, constant}
-use Rattle.rational.specs.Extended.{Extended, minus_infinity, finite, infinity, ◌≤ᵉ◌, ◌<ᵉ◌, ◌≈ᵉ◌, Affine, always_low, affine, always_high, value_at, Passes, IsSup}
+use Rattle.rational.specs.Extended.{Extended, minus_infinity, finite, infinity, ◌≤ᵉ◌, ◌<ᵉ◌, ◌≈ᵉ◌, Affine, always_low, affine, always_high, value_at, IsSup}
 use Rattle.rational.specs.Affine.{AreSame}
 use Rattle.rational.specs.Windows.{Function}
 use Rattle.rational.specs.InPlay.{Follows, IsLineOn, IsPart, IsLeftLimit, IsRightLimit, IsBreakpoint, start, stop, inner}
-use Rattle.rational.proofs.Order.{lt_or_same_or_gt, le_refl, le_of_lt, lt_trans, le_trans, lt_of_lt_of_le, lt_of_le_of_lt, not_lt_of_le, le_of_same, ge_of_same, same_refl, same_sym, left_of_middle, right_of_middle}
+use Rattle.rational.proofs.Order.{le_refl, le_of_lt, lt_trans, lt_of_lt_of_le, lt_of_le_of_lt, not_lt_of_le, le_of_same, ge_of_same, same_refl, same_sym, same_trans, left_of_middle, right_of_middle}
 use Rattle.rational.proofs.ExtendedLemmas.{le_totalᵉ, le_reflᵉ, le_transᵉ, clashᵉ}
 use Rattle.rational.proofs.Lines.{at_constant}
 use Rattle.rational.proofs.AffineLemmas.{same_reflᵉ, same_symᵉ, same_transᵉ, finite_same, value_same}
@@ -108,6 +108,23 @@ module _ (F : Function) (one : (t : Rational) (v w : Extended) → F t v → F t
       let w = on_f t (lt_of_le_of_lt a_l x) (lt_of_lt_of_le y r_b) in
       same_transᵉ (value_at f t) w.0 (value_at g t) (same_symᵉ w.0 (value_at f t) w.2) (followed t w.0 g (on_g t (lt_of_le_of_lt c_l x) (lt_of_lt_of_le y r_d)) w.1))
 
+  -- a limit where the function is a line on that side
+  pub left_limit_on_line : (a b u : Rational) (v : Extended) (line : Affine) → a <ʳ u → u ≤ʳ b → IsLineOn F a b line → IsLeftLimit F u v → v ≈ᵉ value_at line u
+  left_limit_on_line a b u v line above below on l =
+      let m = later_of_two l.a a u l.above above in
+      same_transᵉ v (value_at l.line u) (value_at line u) l.value (lines_same l.a u a b m.0 u l.line line m.3 m.1 m.2 (le_refl u) below l.on on u)
+
+  pub right_limit_on_line : (a b u : Rational) (v : Extended) (line : Affine) → a ≤ʳ u → u <ʳ b → IsLineOn F a b line → IsRightLimit F u v → v ≈ᵉ value_at line u
+  right_limit_on_line a b u v line above below on l =
+      let m = earlier_of_two l.b b u l.below below in
+      same_transᵉ v (value_at l.line u) (value_at line u) l.value (lines_same u l.b a b u m.0 l.line line m.3 (le_refl u) above m.1 m.2 l.on on u)
+
+-- whether a knot stands at a time does not depend on its pair
+pub knot_time_same : {P : Type 0} (ks : List (Knot P)) {u w : Rational} → u ≈ w → IsKnotTime ks w → IsKnotTime ks u
+knot_time_same [] e h = absurd h
+knot_time_same (k ∷ ks) e (inl h) = inl (same_trans e h)
+knot_time_same (k ∷ ks) e (inr h) = inr (knot_time_same ks e h)
+
 module _ {P : Type 0} (function : P → Affine) where
   -- the times of knots, by their places
   pub knot_at : (ks : List (Knot P)) (u : Rational) → IsKnotTime ks u → (i : ℕ) × (k : Knot P) × (slice_get ks i ≡ Some k) × (u ≈ time k)
@@ -165,7 +182,7 @@ module _ {P : Type 0} (function : P → Affine) where
   ]
 
   module _ (ks : List (Knot P)) (signal : IsSignal function ks) where
-    one : (t : Rational) (v w : Extended) → IsWorth function ks t v → IsWorth function ks t w → v ≈ᵉ w
+    pub one : (t : Rational) (v w : Extended) → IsWorth function ks t v → IsWorth function ks t w → v ≈ᵉ w
     one t v w a b = one_value function ks t v w signal a b
 
     -- limits come from within the domain
@@ -177,16 +194,21 @@ module _ {P : Type 0} (function : P → Affine) where
     limit_before_stop u v l = let w = l.on (middle u l.b) (left_of_middle l.below) (right_of_middle l.below) in
         lt_of_lt_of_le (left_of_middle l.below) (worth_within function ks (middle u l.b) w.0 signal w.1).below
 
+    -- beyond the last knot there is no limit
+    pub no_limit_beyond : (u : Rational) (v : Extended) → K.stop ks <ʳ u → ¬ IsLeftLimit (IsWorth function ks) u v
+    no_limit_beyond u v h l =
+        let m = later_of_two l.a (K.stop ks) u l.above h in
+        let w = l.on (middle m.0 u) (lt_of_le_of_lt m.1 (left_of_middle m.3)) (right_of_middle m.3) in
+        not_lt_of_le (worth_within function ks (middle m.0 u) w.0 signal w.1).below (lt_of_le_of_lt m.2 (left_of_middle m.3))
+
     -- the value and the limits at a knot
     pub value_at_knot : (i : ℕ) (k : Knot P) (u : Rational) (v : Extended) → slice_get ks i ≡ Some k → u ≈ time k → IsWorth function ks u v → v ≈ᵉ value_at (function k.point) u
     value_at_knot i k u v h e w = one u v (value_at (function k.point) u) w (worth_at function ks i k u h e)
 
     pub left_limit_is : (i : ℕ) (k n : Knot P) (u : Rational) (v : Extended) → slice_get ks i ≡ Some k → slice_get ks (i + 1) ≡ Some n → u ≈ time n
         → IsLeftLimit (IsWorth function ks) u v → v ≈ᵉ value_at (function k.after) u
-    left_limit_is i k n u v h j e l =
-        let m = later_of_two l.a (time k) u l.above (lt_of_lt_of_le (next_rises function ks i k n signal.each h j) (ge_of_same e)) in
-        same_transᵉ v (value_at l.line u) (value_at (function k.after) u) l.value
-        (lines_same (IsWorth function ks) one l.a u (time k) (time n) m.0 u l.line (function k.after) m.3 m.1 m.2 (le_refl u) (le_of_same e) l.on (line_between ks i k n h j) u)
+    left_limit_is i k n u v h j e l = left_limit_on_line (IsWorth function ks) one (time k) (time n) u v (function k.after)
+        (lt_of_lt_of_le (next_rises function ks i k n signal.each h j) (ge_of_same e)) (le_of_same e) (line_between ks i k n h j) l
 
     pub left_limit_at : (i : ℕ) (k n : Knot P) (u : Rational) → slice_get ks i ≡ Some k → slice_get ks (i + 1) ≡ Some n → u ≈ time n
         → IsLeftLimit (IsWorth function ks) u (value_at (function k.after) u)
@@ -200,10 +222,8 @@ module _ {P : Type 0} (function : P → Affine) where
 
     pub right_limit_is : (i : ℕ) (k n : Knot P) (u : Rational) (v : Extended) → slice_get ks i ≡ Some k → slice_get ks (i + 1) ≡ Some n → u ≈ time k
         → IsRightLimit (IsWorth function ks) u v → v ≈ᵉ value_at (function k.after) u
-    right_limit_is i k n u v h j e l =
-        let m = earlier_of_two l.b (time n) u l.below (lt_of_le_of_lt (le_of_same e) (next_rises function ks i k n signal.each h j)) in
-        same_transᵉ v (value_at l.line u) (value_at (function k.after) u) l.value
-        (lines_same (IsWorth function ks) one u l.b (time k) (time n) u m.0 l.line (function k.after) m.3 (le_refl u) (ge_of_same e) m.1 m.2 l.on (line_between ks i k n h j) u)
+    right_limit_is i k n u v h j e l = right_limit_on_line (IsWorth function ks) one (time k) (time n) u v (function k.after)
+        (ge_of_same e) (lt_of_le_of_lt (le_of_same e) (next_rises function ks i k n signal.each h j)) (line_between ks i k n h j) l
 
     pub right_limit_at : (i : ℕ) (k n : Knot P) (u : Rational) → slice_get ks i ≡ Some k → slice_get ks (i + 1) ≡ Some n → u ≈ time k
         → IsRightLimit (IsWorth function ks) u (value_at (function k.after) u)
