@@ -1,3 +1,4 @@
 pub mod SupParts
 pub mod MiddleLimits
 pub mod InPlay
+pub mod InPlayNames
