@@ -5,3 +5,6 @@ pub mod EndsLimits
 pub mod EndsLimited
 pub mod EndsSups
 pub mod EndsAhead
+pub mod MiddleLimits
+pub mod InPlay
+pub mod InPlayNames
