@@ -1,22 +1,25 @@
 -- Signals that tell the Sup over a window ahead.
-use Rattle.std.proofs.Common.{ℕ, ◌<◌, ◌^◌, inl, inr, List, Bool}
+use Rattle.std.proofs.Common.{◌≡◌, ◌⊎◌, ℤ, pos, false, IsTrue, sym, ◌∙◌, ℕ, ◌<◌, ◌^◌, inl, inr, List, Bool}
 use Rattle.rational.specs.Rational.{IsWithin}
-use Rattle.rational.specs.Time.{Rational, Within}
+use Rattle.std.specs.Prelude.{◌-ℤ◌}
+use Rattle.std.proofs.lemmas.Bool.{false≢true}
+use Rattle.rational.specs.Time.{◌≤ʳ◌, ◌<ʳ◌, later, Rational, Within}
 use Rattle.rational.specs.Extended.{Extended, Affine, IsGreatest}
 use Rattle.rational.specs.Affine.{IsBounded}
 use Rattle.rational.specs.Windows.{Function, Ahead}
-use Rattle.rational.proofs.Order.{same_sym, same_trans}
+use Rattle.rational.proofs.Order.{le_or_lt, same_sym, same_trans}
 use Rattle.rational.proofs.ExtendedLemmas.{Sup-unique}
 use Rattle.rational.proofs.Sups.{sup_value_same}
 use Rattle.rational.proofs.WindowLemmas.{ahead_same, sup_over_alike}
 use Rattle.pl_signal.specs.declared.knot.Knot.{Knot}
-use Rattle.pl_signal.specs.Knots.{start, stop, IsSignal, IsWorth}
+use Rattle.pl_signal.specs.Knots.{HasShape, start, stop, IsSignal, IsWorth}
 use Rattle.pl_signal.specs.Limits.{IsLimited}
-use Rattle.pl_signal.specs.Moves.{Tells}
+use Rattle.pl_signal.specs.Moves.{BasesFrom, Tells}
 use Rattle.pl_signal.proofs.Moving.{within_same}
 use Rattle.pl_signal.proofs.Telling.{IsFunction, told}
 use Rattle.signal_ops.specs.Pointwise.{GreatestOf}
 use Rattle.window_ops.specs.Parts.{AtLowEnd, AtHighEnd, AmongKnots, IsAbout}
+use Rattle.window_ops.specs.Conditions.{BasesReached}
 use Rattle.window_ops.specs.Windows.{SupAhead}
 use Rattle.window_ops.proofs.SupParts.{sup_of_parts}
 use Rattle.window_ops.proofs.EndsLimited.{HasBounded, bounded_same, sup_bounded, right_limit_bounded, left_limit_bounded, limited}
@@ -27,14 +30,6 @@ ahead_is_function from to F lowest a b low_in high_in = record {
   alike = λ t u v w e f h. sup_value_same v w f (sup_over_alike (Ahead from to a b low_in high_in t) (Ahead from to a b low_in high_in u) F lowest v (λ x m. ahead_same e m) (λ x m. ahead_same (same_sym e) m) h);
   one = λ t v w h k. record { at_most = Sup-unique lowest v w h k; at_least = Sup-unique lowest w v k h };
 }
-
-module _ (n : ℕ) (lowest : Extended) (low : IsBounded n lowest) (F : Function) (small : HasBounded n F) where
-  -- the parts of the Sup over a window of bounded values are bounded
-  pub low_end_bounded : (a : ℕ) (low_in : Bool) → HasBounded n (AtLowEnd lowest F a low_in)
-  low_end_bounded a low_in t r s = sup_bounded n _ lowest r low (λ v m. elim m [ inl h ↦ small _ v h.1 | inr h ↦ right_limit_bounded n F _ v small h ]) s
-
-  pub high_end_bounded : (b : ℕ) (high_in : Bool) → HasBounded n (AtHighEnd lowest F b high_in)
-  high_end_bounded b high_in t r s = sup_bounded n _ lowest r low (λ v m. elim m [ inl h ↦ small _ v h.1 | inr h ↦ left_limit_bounded n F _ v small h ]) s
 
 -- the greatest of two bounded values
 greatest_bounded : (n : ℕ) (x y m : Extended) → IsBounded n x → IsBounded n y → IsGreatest x y m → IsBounded n m
@@ -82,3 +77,22 @@ module _ {P : Type 0} (function : P → Affine) where
       by_parts t v (m', z, in_ends, in_among, g) =
           let (x, y, in_low, in_high, k) = ((e.worth t m').0 in_ends).1 in
           sup_of_parts function lowest knots a b low_in high_in t x y z m' v signal order ((l.worth t x).0 in_low).1 ((h.worth t y).0 in_high).1 ((m.worth t z).0 in_among).1 k g
+
+-- the bases of the greatest of the three parts
+pub bases_reached : {P : Type 0} (moves : P → Bool) (base : P → ℤ) (a b : ℕ) (knots low high ends among new : List (Knot P)) → BasesFrom moves base (λ k. k -ℤ pos a) knots low → BasesFrom moves base (λ k. k -ℤ pos b) knots high
+    → (stop knots <ʳ later (start knots) b → (p : P) → HasShape high p → moves p ≡ false) → ((p : P) → HasShape ends p → HasShape low p ⊎ HasShape high p) → ((p : P) → HasShape among p → moves p ≡ false)
+    → ((p : P) → HasShape new p → HasShape ends p ⊎ HasShape among p) → BasesReached moves base a b knots new
+bases_reached {P} moves base a b knots low high ends among new from_low from_high beyond of_ends still of_new p h m = by_part (of_new p h)
+  where
+    by_order : HasShape high p → (later (start knots) b ≤ʳ stop knots) ⊎ (stop knots <ʳ later (start knots) b)
+        → (q : P) × HasShape knots q × IsTrue (moves q) × ((base p ≡ base q -ℤ pos a) ⊎ ((base p ≡ base q -ℤ pos b) × (later (start knots) b ≤ʳ stop knots)))
+    by_order k (inl o) = let q = from_high p k m in (q.0, q.1, q.2, inr (q.3, o))
+    by_order k (inr o) = absurd (false≢true (sym (beyond o p k) ∙ m))
+
+    by_end : HasShape low p ⊎ HasShape high p → (q : P) × HasShape knots q × IsTrue (moves q) × ((base p ≡ base q -ℤ pos a) ⊎ ((base p ≡ base q -ℤ pos b) × (later (start knots) b ≤ʳ stop knots)))
+    by_end (inl k) = let q = from_low p k m in (q.0, q.1, q.2, inl q.3)
+    by_end (inr k) = by_order k (le_or_lt (later (start knots) b) (stop knots))
+
+    by_part : HasShape ends p ⊎ HasShape among p → (q : P) × HasShape knots q × IsTrue (moves q) × ((base p ≡ base q -ℤ pos a) ⊎ ((base p ≡ base q -ℤ pos b) × (later (start knots) b ≤ʳ stop knots)))
+    by_part (inl k) = by_end (of_ends p k)
+    by_part (inr k) = absurd (false≢true (sym (still p k) ∙ m))
