@@ -2,3 +2,4 @@ pub mod EndsLimits
 pub mod EndsLimited
 pub mod EndsSups
 pub mod EndsAhead
+pub mod NegateFunctions
