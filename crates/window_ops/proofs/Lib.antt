@@ -3,3 +3,4 @@ pub mod EndsLimited
 pub mod EndsSups
 pub mod EndsAhead
 pub mod NegateFunctions
+pub mod NegateFaults

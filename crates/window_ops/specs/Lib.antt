@@ -4,3 +4,4 @@ pub mod Conditions
 pub mod Frozen
 pub mod Named
 pub mod Ends
+pub mod Negated
