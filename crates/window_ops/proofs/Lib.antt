@@ -4,3 +4,4 @@ pub mod EndsSups
 pub mod EndsAhead
 pub mod NegateFunctions
 pub mod NegateFaults
+pub mod NegateTellings

@@ -2,7 +2,7 @@
 use Rattle.std.proofs.Common.{◌≡◌, ℕ, ◌^◌, ℤ, pos, ◌⊎◌, inl, inr, Bool, true, sym, subst}
 use Rattle.std.specs.Prelude.{Option, IfSome}
 use Rattle.rational.specs.Time.{Rational, shifted, ◌<ʳ◌, ◌≈◌}
-use Rattle.rational.specs.Extended.{Extended, finite, ◌≈ᵉ◌, Affine, value_at, Passes}
+use Rattle.rational.specs.Extended.{finite, Affine, value_at}
 use Rattle.rational.specs.Affine.{IsBounded, HasBoundedLevel}
 use Rattle.rational.specs.Windows.{Function, Window, Ahead, Behind}
 use Rattle.rational.specs.InPlay.{Step, window_ahead, window_behind, IsLeftLimit, IsRightLimit, IsEndPart, IsEndBehind, IsValueWithin, IsLimitWithin, IsInPlay, IsWideCrossing, IsWideValue}
@@ -11,7 +11,7 @@ use Rattle.frac128.specs.Value.{value}
 use Rattle.pl_signal.specs.declared.faults.WidePair.TheVariants.{Cross, Value}
 use Rattle.pl_signal.specs.declared.faults.OpFault.{OpFault}
 use Rattle.pl_signal.specs.declared.faults.OpFault.TheVariants as F
-use Rattle.pl_signal.specs.Wide.{IsWideCause, HasCause}
+use Rattle.pl_signal.specs.Wide.{HasCause}
 use Rattle.signal_ops.proofs.Negating.{level_bounded}
 use Rattle.window_ops.specs.Negated.{HaveBoundedLevels, IsNegated}
 use Rattle.window_ops.proofs.EndsLimited.{HasBounded, bounded_same, right_limit_bounded, left_limit_bounded}

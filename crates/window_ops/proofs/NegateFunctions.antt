@@ -1,14 +1,14 @@
 -- What is in play in a window over the negated function is, negated, in play over the function.
-use Rattle.std.proofs.Common.{◌≡◌, ℕ, zero, suc, ℤ, pos, negsuc, neg_ℤ, nat_abs, ◌<◌, ◌⊎◌, inl, inr, Bool, true, refl, sym, subst, arith}
+use Rattle.std.proofs.Common.{◌≡◌, ℕ, zero, suc, ℤ, pos, negsuc, neg_ℤ, nat_abs, ◌<◌, ◌⊎◌, inl, inr, Bool, true, refl, subst}
 use Rattle.std.specs.Prelude.{Option, IfSome}
 use Rattle.rational.specs.Rational.{negate, ratio}
-use Rattle.rational.specs.Time.{Rational, Within, Divides, HasDenominator, shifted, ◌≤ʳ◌, ◌<ʳ◌, ◌≈◌}
+use Rattle.rational.specs.Time.{Rational, Within, Divides, HasDenominator, shifted, ◌<ʳ◌, ◌≈◌}
 use Rattle.rational.specs.Line.{negate_line}
-use Rattle.rational.specs.Extended.{Extended, minus_infinity, finite, infinity, ◌≤ᵉ◌, ◌≈ᵉ◌, opposite, Affine, always_low, affine, always_high, value_at, Passes}
+use Rattle.rational.specs.Extended.{Extended, minus_infinity, finite, infinity, ◌≈ᵉ◌, opposite, Affine, always_low, affine, always_high, value_at, Passes}
 use Rattle.rational.specs.Windows.{Function, Window, Ahead, Behind}
-use Rattle.rational.specs.InPlay.{IsLineOn, IsPart, IsBreakpoint, IsLeftLimit, IsRightLimit, IsConstant, IsMoved, Step, window_ahead, window_behind, HasTime, IsEndPart, IsEndBehind, IsValueWithin, IsLimitWithin, IsInPlay, IsWideCrossing, IsWideValue}
+use Rattle.rational.specs.InPlay.{IsLineOn, IsPart, IsBreakpoint, IsLeftLimit, IsRightLimit, IsMoved, window_ahead, window_behind, IsEndPart, IsEndBehind, IsValueWithin, IsLimitWithin, IsInPlay, IsWideCrossing, IsWideValue}
 use Rattle.rational.specs.InPlay.IsBreakpoint.{start, stop, inner}
-use Rattle.rational.proofs.Order.{le_trans, le_of_same, ge_of_same, lt_of_lt_of_le, lt_of_le_of_lt, same_sym, same_trans}
+use Rattle.rational.proofs.Order.{le_trans, le_of_same, ge_of_same, lt_of_lt_of_le, lt_of_le_of_lt, same_trans}
 use Rattle.rational.proofs.Field.{same_negate}
 use Rattle.rational.proofs.Lines.{at_negate}
 use Rattle.rational.proofs.AffineLemmas.{same_reflᵉ, same_symᵉ, same_transᵉ, finite_same, opposite_same}
@@ -54,6 +54,13 @@ part_opposite P Q line line' u n e h = record { a = h.a; b = h.b; above = h.abov
 pub within_same_ends : {from to from' to' u : Rational} → from ≈ from' → to ≈ to' → Within from to u → Within from' to' u
 within_same_ends e f w = record { above = le_trans (ge_of_same e) w.above; below = le_trans w.below (le_of_same f) }
 
+-- windows on one domain, its ends by two pairs
+pub ahead_alike : {from to from' to' : Rational} (a b : ℕ) (a_in b_in : Bool) (tau u : Rational) → from ≈ from' → to ≈ to' → Ahead from to a b a_in b_in tau u → Ahead from' to' a b a_in b_in tau u
+ahead_alike a b a_in b_in tau u e f h = record { inside = within_same_ends e f h.inside; begins = h.begins; ends = h.ends }
+
+pub behind_alike : {from to from' to' : Rational} (a : ℕ) (b : Option ℕ) (a_in b_in : Bool) (tau u : Rational) → from ≈ from' → to ≈ to' → Behind from to a b a_in b_in tau u → Behind from' to' a b a_in b_in tau u
+behind_alike a b a_in b_in tau u e f h = record { inside = within_same_ends e f h.inside; begins = h.begins; ends = h.ends }
+
 -- the two functions on one domain, its ends by two pairs
 module _ (P Q : Function) (from to from' to' : Rational) (n : AreOpposite P Q) (e : from ≈ from') (f : to ≈ to') where
   breakpoint_opposite : (u : Rational) → IsBreakpoint P from to u → IsBreakpoint Q from' to' u
@@ -97,33 +104,27 @@ module _ (P Q : Function) (from to from' to' : Rational) (n : AreOpposite P Q) (
       by_side (inl (a, g, l)) = inl (lt_of_le_of_lt (ge_of_same e) a, g, left_limit_opposite u v l)
       by_side (inr (a, g, l)) = inr (lt_of_lt_of_le a (le_of_same f), g, right_limit_opposite u v l)
 
-  ahead_alike : (a b : ℕ) (a_in b_in : Bool) (tau u : Rational) → Ahead from to a b a_in b_in tau u → Ahead from' to' a b a_in b_in tau u
-  ahead_alike a b a_in b_in tau u h = record { inside = within_same_ends e f h.inside; begins = h.begins; ends = h.ends }
-
-  behind_alike : (a : ℕ) (b : Option ℕ) (a_in b_in : Bool) (tau u : Rational) → Behind from to a b a_in b_in tau u → Behind from' to' a b a_in b_in tau u
-  behind_alike a b a_in b_in tau u h = record { inside = within_same_ends e f h.inside; begins = h.begins; ends = h.ends }
-
   pub ahead_in_play : (a b : ℕ) (a_in b_in : Bool) (tau : Rational) (line line' : Affine) → IsOpposite line line' → IsInPlay (window_ahead P a b a_in b_in) from to tau line → IsInPlay (window_ahead Q a b a_in b_in) from' to' tau line'
-  ahead_in_play a b a_in b_in tau line line' o ((u, has), h) = ((u, ahead_alike a b a_in b_in tau u has), by_kind h)
+  ahead_in_play a b a_in b_in tau line line' o ((u, has), h) = ((u, ahead_alike a b a_in b_in tau u e f has), by_kind h)
     where
       by_kind : IsEndPart P from to tau line (λ k. (k ≡ pos a) ⊎ (k ≡ pos b)) ⊎ IsValueWithin P from to (Ahead from to a b a_in b_in tau) line
           ⊎ IsLimitWithin P from to (Ahead from to a b true true tau) (λ u. shifted tau (pos a) <ʳ u) (λ u. u <ʳ shifted tau (pos b)) line
           → IsEndPart Q from' to' tau line' (λ k. (k ≡ pos a) ⊎ (k ≡ pos b)) ⊎ IsValueWithin Q from' to' (Ahead from' to' a b a_in b_in tau) line'
           ⊎ IsLimitWithin Q from' to' (Ahead from' to' a b true true tau) (λ u. shifted tau (pos a) <ʳ u) (λ u. u <ʳ shifted tau (pos b)) line'
       by_kind (inl m) = inl (end_opposite tau line line' (λ k. (k ≡ pos a) ⊎ (k ≡ pos b)) o m)
-      by_kind (inr (inl m)) = inr (inl (value_opposite (Ahead from to a b a_in b_in tau) (Ahead from' to' a b a_in b_in tau) line line' (λ u w. ahead_alike a b a_in b_in tau u w) o m))
-      by_kind (inr (inr m)) = inr (inr (limit_opposite (Ahead from to a b true true tau) (Ahead from' to' a b true true tau) (λ u. shifted tau (pos a) <ʳ u) (λ u. u <ʳ shifted tau (pos b)) line line' (λ u w. ahead_alike a b true true tau u w) o m))
+      by_kind (inr (inl m)) = inr (inl (value_opposite (Ahead from to a b a_in b_in tau) (Ahead from' to' a b a_in b_in tau) line line' (λ u w. ahead_alike a b a_in b_in tau u e f w) o m))
+      by_kind (inr (inr m)) = inr (inr (limit_opposite (Ahead from to a b true true tau) (Ahead from' to' a b true true tau) (λ u. shifted tau (pos a) <ʳ u) (λ u. u <ʳ shifted tau (pos b)) line line' (λ u w. ahead_alike a b true true tau u e f w) o m))
 
   pub behind_in_play : (a : ℕ) (b : Option ℕ) (a_in b_in : Bool) (tau : Rational) (line line' : Affine) → IsOpposite line line' → IsInPlay (window_behind P a b a_in b_in) from to tau line → IsInPlay (window_behind Q a b a_in b_in) from' to' tau line'
-  behind_in_play a b a_in b_in tau line line' o ((u, has), h) = ((u, behind_alike a b a_in b_in tau u has), by_kind h)
+  behind_in_play a b a_in b_in tau line line' o ((u, has), h) = ((u, behind_alike a b a_in b_in tau u e f has), by_kind h)
     where
       by_kind : IsEndPart P from to tau line (IsEndBehind a b) ⊎ IsValueWithin P from to (Behind from to a b a_in b_in tau) line
           ⊎ IsLimitWithin P from to (Behind from to a b true true tau) (λ u. IfSome b (λ b. tau <ʳ shifted u (pos b))) (λ u. shifted u (pos a) <ʳ tau) line
           → IsEndPart Q from' to' tau line' (IsEndBehind a b) ⊎ IsValueWithin Q from' to' (Behind from' to' a b a_in b_in tau) line'
           ⊎ IsLimitWithin Q from' to' (Behind from' to' a b true true tau) (λ u. IfSome b (λ b. tau <ʳ shifted u (pos b))) (λ u. shifted u (pos a) <ʳ tau) line'
       by_kind (inl m) = inl (end_opposite tau line line' (IsEndBehind a b) o m)
-      by_kind (inr (inl m)) = inr (inl (value_opposite (Behind from to a b a_in b_in tau) (Behind from' to' a b a_in b_in tau) line line' (λ u w. behind_alike a b a_in b_in tau u w) o m))
-      by_kind (inr (inr m)) = inr (inr (limit_opposite (Behind from to a b true true tau) (Behind from' to' a b true true tau) (λ u. IfSome b (λ b. tau <ʳ shifted u (pos b))) (λ u. shifted u (pos a) <ʳ tau) line line' (λ u w. behind_alike a b true true tau u w) o m))
+      by_kind (inr (inl m)) = inr (inl (value_opposite (Behind from to a b a_in b_in tau) (Behind from' to' a b a_in b_in tau) line line' (λ u w. behind_alike a b a_in b_in tau u e f w) o m))
+      by_kind (inr (inr m)) = inr (inr (limit_opposite (Behind from to a b true true tau) (Behind from' to' a b true true tau) (λ u. IfSome b (λ b. tau <ʳ shifted u (pos b))) (λ u. shifted u (pos a) <ʳ tau) line line' (λ u w. behind_alike a b true true tau u e f w) o m))
 
 -- a number and minus it have one denominator in lowest terms
 size_negated : (z : ℤ) → nat_abs (neg_ℤ z) ≡ nat_abs z
