@@ -5,3 +5,4 @@ pub mod EndsAhead
 pub mod NegateFunctions
 pub mod NegateFaults
 pub mod NegateTellings
+pub mod MirrorTimes

@@ -137,7 +137,7 @@ negated_ratio (pos zero) d p = record { same = refl }
 negated_ratio (pos (suc n)) d p = record { same = refl }
 negated_ratio (negsuc n) d p = record { same = refl }
 
-denominator_negated : (x : Rational) (den : ℕ) → HasDenominator x den → HasDenominator (negate x) den
+pub denominator_negated : (x : Rational) (den : ℕ) → HasDenominator x den → HasDenominator (negate x) den
 denominator_negated x den (num, low, e) = (
   neg_ℤ num,
   record { positive = low.positive; coprime = λ k i j. low.coprime k (subst (Divides k) (size_negated num) i) j },

@@ -5,3 +5,4 @@ pub mod Frozen
 pub mod Named
 pub mod Ends
 pub mod Negated
+pub mod Mirrored
