@@ -6,3 +6,4 @@ pub mod NegateFunctions
 pub mod NegateFaults
 pub mod NegateTellings
 pub mod MirrorTimes
+pub mod MirrorFunctions

@@ -66,7 +66,7 @@ within_turned e f g w = record {
 }
 
 -- a time of a domain is before one of it and 2^32 more
-before_reach : {from to t u : Rational} → whole (pos 0) ≤ʳ from → to <ʳ whole (pos (2 ^ 32)) → from ≤ʳ t → u ≤ʳ to → u <ʳ later t (2 ^ 32)
+pub before_reach : {from to t u : Rational} → whole (pos 0) ≤ʳ from → to <ʳ whole (pos (2 ^ 32)) → from ≤ʳ t → u ≤ʳ to → u <ʳ later t (2 ^ 32)
 before_reach {from} {to} {t} {u} low high a b = less (le_trans low a) (lt_of_le_of_lt b high)
   where
     less : {t u : Rational} → whole (pos 0) ≤ʳ t → u <ʳ whole (pos (2 ^ 32)) → u <ʳ later t (2 ^ 32)
