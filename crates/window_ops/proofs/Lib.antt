@@ -1,3 +1,6 @@
+pub mod SupParts
+pub mod SupTelling
+pub mod SupInstants
 pub mod EndsLimits
 pub mod EndsLimited
 pub mod EndsSups
@@ -7,3 +10,6 @@ pub mod NegateFaults
 pub mod NegateTellings
 pub mod MirrorTimes
 pub mod MirrorFunctions
+pub mod MiddleLimits
+pub mod InPlay
+pub mod InPlayNames

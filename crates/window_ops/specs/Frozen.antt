@@ -7,12 +7,14 @@ use Rattle.pl_signal.specs.declared.knot.Knot.{Knot}
 use Rattle.pl_signal.specs.declared.faults.WidePair.TheVariants.{Cross, Value}
 use Rattle.pl_signal.specs.declared.faults.OpFault.{OpFault}
 use Rattle.pl_signal.specs.declared.faults.OpFault.TheVariants as F
-use Rattle.pl_signal.specs.Knots.{start}
+use Rattle.pl_signal.specs.Knots.{HasShape, start}
 use Rattle.window_ops.specs.Parts.{IsKnotTime, IsAbout}
 
 module _ {P : Type 0} (function : P → Affine) where
-  -- the value of p at a knot later than the start and a, where it is the signal's value or a limit, needs the denominator
+  -- the value of p, a shape of the signal, at a knot later than the start and a, where it is the signal's value or a limit, needs the
+  -- denominator
   pub record IsWideAtKnot (knots : List (Knot P)) (a : ℕ) (p : P) (u : Rational) (den : ℕ) : Type 0 where
+    pub shape : HasShape knots p
     pub knot : IsKnotTime knots u
     pub late : later (start knots) a <ʳ u
     pub about : IsAbout function knots u (value_at (function p) u)

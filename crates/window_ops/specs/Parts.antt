@@ -2,7 +2,7 @@
 -- at the knots strictly between them. Each is a function of time.
 use Rattle.std.specs.Prelude.{◌⊎◌, ℕ, Bool, IsTrue, List, [], ◌∷◌}
 use Rattle.rational.specs.Time.{Rational, ◌<ʳ◌, ◌≈◌, later}
-use Rattle.rational.specs.Extended.{Extended, Affine, IsSup}
+use Rattle.rational.specs.Extended.{Extended, ◌≈ᵉ◌, Affine, IsSup}
 use Rattle.rational.specs.Windows.{Function}
 use Rattle.rational.specs.InPlay.{IsLeftLimit, IsRightLimit}
 use Rattle.pl_signal.specs.declared.knot.Knot.{Knot}
@@ -26,7 +26,14 @@ module _ {P : Type 0} (function : P → Affine) where
   abbrev pub IsAbout : List (Knot P) → Rational → Extended → Type 0
   IsAbout knots u v = IsWorth function knots u v ⊎ IsLeftLimit (IsWorth function knots) u v ⊎ IsRightLimit (IsWorth function knots) u v
 
+  -- v is the value or a limit at a knot strictly between t + a and t + b
+  abbrev pub IsAmong : List (Knot P) → ℕ → ℕ → Function
+  IsAmong knots a b t v = (u : Rational) × IsKnotTime knots u × (later t a <ʳ u) × (u <ʳ later t b) × IsAbout knots u v
+
   -- at t the Sup of the values and limits at the knots strictly between t + a and t + b
   abbrev pub AmongKnots : Extended → List (Knot P) → ℕ → ℕ → Function
-  AmongKnots lowest knots a b t r =
-      IsSup lowest (λ v. (u : Rational) × IsKnotTime knots u × (later t a <ʳ u) × (u <ʳ later t b) × IsAbout knots u v) r
+  AmongKnots lowest knots a b t r = IsSup lowest (IsAmong knots a b t) r
+
+  -- v is the least value, or such a value or limit
+  abbrev pub IsLeastOrAmong : Extended → List (Knot P) → ℕ → ℕ → Function
+  IsLeastOrAmong lowest knots a b t v = (v ≈ᵉ lowest) ⊎ IsAmong knots a b t v

@@ -2,6 +2,7 @@
 #![tactic(auto)]
 
 mod ends;
+mod instant;
 mod middle;
 mod negated;
 mod past;

@@ -1,11 +1,12 @@
 //! The greatest of what a signal is at the knots strictly inside a window.
 ghost use Rattle.std.specs.Prelude.{◌≡◌, ◌<◌, ◌≤◌, ◌^◌, pos, false, IfOk, IfErr};
 ghost use Rattle.rational.specs.Rational.{whole};
-ghost use Rattle.rational.specs.Time.{◌≤ʳ◌};
+ghost use Rattle.rational.specs.Time.{Rational, ◌≤ʳ◌};
+ghost use Rattle.rational.specs.Extended.{Extended};
 ghost use Rattle.pl_signal.specs.Knots.{HasShape, IsWorth, start, stop};
 ghost use Rattle.pl_signal.specs.Limits.{IsLimited};
 ghost use Rattle.pl_signal.specs.Moves.{Tells};
-ghost use Rattle.window_ops.specs.Parts.{AmongKnots};
+ghost use Rattle.window_ops.specs.Parts.{AmongKnots, IsLeastOrAmong};
 ghost use Rattle.window_ops.specs.Frozen.{IsKnotFault};
 
 use pl_signal::{OpFault, Signal};
@@ -21,6 +22,7 @@ pub(crate) fn among_knots<P: Shape>(s: &Signal<P>, a: u64, b: u64) -> Result<Sig
     requires order { a < b }
     requires small { b ≤ 2 ^ 32 }
     ensures worth { IfOk result (Tells P.function (AmongKnots P.function P.lowest s.now a b) (start s.now) (stop s.now)) }
+    ensures one { IfOk result (λ r. (t : Rational) (v : Extended) → IsWorth P.function r t v → IsLeastOrAmong P.function P.lowest s.now a b t v) }
     ensures still { IfOk result (λ r. (p : P) → HasShape r p → P.moves p ≡ false) }
     ensures wide { IfErr result (IsKnotFault P.function s.now a) }
 {
