@@ -13,3 +13,5 @@ pub mod MirrorFunctions
 pub mod MiddleLimits
 pub mod InPlay
 pub mod InPlayNames
+pub mod MirrorTellings
+pub mod MirrorBases

@@ -99,7 +99,7 @@ module _ {P : Type 0} (function : P → Affine) where
 
 -- the bases of a negated signal, and of what is made of it
 module _ {P : Type 0} (moves : P → Bool) (base : P → ℤ) where
-  by_kind : (p : P) (Q : Type 0) → (IsTrue (moves p) → Q) → (moves p ≡ false → Q) → Q
+  pub by_kind : (p : P) (Q : Type 0) → (IsTrue (moves p) → Q) → (moves p ≡ false → Q) → Q
   by_kind p Q f g = by_value (moves p) refl
     where
       by_value : (b : Bool) → moves p ≡ b → Q
