@@ -3,12 +3,11 @@ use Rattle.std.proofs.Common.{◌≡◌, ℕ, ◌-◌, ◌^◌, ◌≤◌, ℤ, 
 use Rattle.std.specs.Prelude.{Option, Some, None}
 use Rattle.std.specs.Int.RustNames.{unsigned_abs}
 use Rattle.std.proofs.lemmas.Int.{ints}
-use Rattle.rational.specs.Rational.{IsWithin, whole}
+use Rattle.rational.specs.Rational.{whole}
 use Rattle.rational.specs.Time.{later, ◌≤ʳ◌, ◌<ʳ◌}
 use Rattle.rational.specs.Extended.{Affine}
 use Rattle.rational.specs.InPlay.{Step}
 use Rattle.rational.proofs.Order.{le_refl, le_trans, le_of_lt, lt_trans, not_lt_of_le}
-use Rattle.frac128.specs.Value.{value}
 use Rattle.pl_signal.specs.declared.knot.Knot.{Knot}
 use Rattle.pl_signal.specs.declared.faults.WidePair.TheVariants.{Cross, Value}
 use Rattle.pl_signal.specs.declared.faults.OpFault.{OpFault}
@@ -18,7 +17,7 @@ use Rattle.pl_signal.specs.Moves.{BasesFrom}
 use Rattle.pl_signal.specs.Wide.{HasCause}
 use Rattle.window_ops.specs.Conditions.{AreNear, BasesReached, BasesBehind, HaveRoom}
 use Rattle.window_ops.specs.Named.{IsMovedFrom, NamesMoved}
-use Rattle.window_ops.specs.Mirrored.{IsReach, HasTurn, CanTurn}
+use Rattle.window_ops.specs.Mirrored.{IsReach, HasTurn, CanTurnFault}
 use Rattle.window_ops.proofs.EndsAhead.{domain_within}
 use Rattle.window_ops.proofs.NegateTellings.{by_kind}
 use Rattle.window_ops.proofs.MirrorTimes.{before_reach}
@@ -112,7 +111,7 @@ module _ {P : Type 0} (moves : P → Bool) (base : P → ℤ) (others : (p : P) 
 
     -- of what a fault names
     pub can_turn : (function : P → Affine) (step : Step) (a b : ℕ) (fault : OpFault P) → a ≤ 2 ^ 32 → b ≤ 2 ^ 32 → whole (pos 0) ≤ʳ start ns → stop ns <ʳ whole (pos (2 ^ 32))
-        → HasCause function step (start ns) (stop ns) fault → NamesMoved moves base a b ns fault → CanTurn base fault
+        → HasCause function step (start ns) (stop ns) fault → NamesMoved moves base a b ns fault → CanTurnFault base fault
     can_turn function step a b F.Memory small small' low high cause named = tt
     can_turn function step a b (F.Wide (Cross p q from to den)) small small' low high cause (moved, moved', after, before) =
         let order = lt_trans cause.above cause.below in (

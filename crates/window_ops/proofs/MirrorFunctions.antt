@@ -1,14 +1,14 @@
 -- What is in play in a window ahead over the mirrored function is, mirrored, in play in the window behind over the function.
-use Rattle.std.proofs.Common.{◌≡◌, ℕ, ◌*◌, ◌+◌, ◌-◌, ◌^◌, ◌≤◌, ℤ, pos, neg_ℤ, ◌⊎◌, inl, inr, Bool, true, sym, ap, subst, arith, false}
+use Rattle.std.proofs.Common.{◌≡◌, ℕ, ◌*◌, ◌+◌, ◌-◌, ◌^◌, ℤ, pos, neg_ℤ, ◌⊎◌, inl, inr, Bool, true, sym, ap, subst, arith, false}
 use Rattle.std.specs.Prelude.{Option, Some, None, IfSome}
 use Rattle.rational.specs.Rational.{whole}
-use Rattle.rational.specs.Time.{Rational, Within, shifted, later, ◌≤ʳ◌, ◌<ʳ◌, ◌≈◌}
+use Rattle.rational.specs.Time.{Rational, shifted, later, ◌≤ʳ◌, ◌<ʳ◌, ◌≈◌}
 use Rattle.rational.specs.Line.{Line}
 use Rattle.rational.specs.Extended.{Extended, minus_infinity, finite, infinity, ◌≈ᵉ◌, Affine, always_low, affine, always_high, value_at, Passes}
 use Rattle.rational.specs.Windows.{Function, Window, Ahead, Behind}
-use Rattle.rational.specs.InPlay.{IsLineOn, IsPart, IsBreakpoint, IsLeftLimit, IsRightLimit, IsConstant, IsMoved, Step, window_ahead, window_behind, HasTime, IsEndPart, IsEndBehind, IsValueWithin, IsLimitWithin, IsInPlay, IsWideCrossing, IsWideValue}
+use Rattle.rational.specs.InPlay.{IsLineOn, IsPart, IsBreakpoint, IsLeftLimit, IsRightLimit, IsConstant, IsMoved, window_ahead, window_behind, IsEndPart, IsEndBehind, IsValueWithin, IsLimitWithin, IsInPlay, IsWideCrossing, IsWideValue}
 use Rattle.rational.specs.InPlay.IsBreakpoint.{start, stop, inner}
-use Rattle.rational.proofs.Order.{le_trans, le_of_lt, le_of_same, ge_of_same, lt_of_lt_of_le, lt_of_le_of_lt, not_lt_of_le, same_refl, same_sym, same_trans}
+use Rattle.rational.proofs.Order.{le_of_same, ge_of_same, lt_of_lt_of_le, lt_of_le_of_lt, not_lt_of_le, same_refl, same_sym, same_trans}
 use Rattle.rational.proofs.TimeLemmas.{same_shifted}
 use Rattle.rational.proofs.AffineLemmas.{same_reflᵉ, same_symᵉ, same_transᵉ, finite_same, value_same}
 use Rattle.window_ops.specs.Mirrored.{mirrored, IsTurned, IsReach}
@@ -169,7 +169,7 @@ module _ (P Q : Function) (from to from' to' : Rational) (n : AreTurned P Q) (e 
 
 -- a cause is one for the mirrored function, where what is in play is, mirrored
 module _ (InPlay InPlay' : Rational → Affine → Type 0) (from to from' to' : Rational) (e : from' ≈ mirrored to) (f : to' ≈ mirrored from)
-  (played : (tau : Rational) (line line' : Affine) → from <ʳ tau → IsTurned line line' → InPlay tau line → InPlay' (mirrored tau) line') where
+    (played : (tau : Rational) (line line' : Affine) → from <ʳ tau → IsTurned line line' → InPlay tau line → InPlay' (mirrored tau) line') where
   pub crossing_turned : (p q p' q' : Affine) (a b a' b' : Rational) (den : ℕ) → IsTurned p p' → IsTurned q q' → a' ≈ mirrored b → b' ≈ mirrored a → IsWideCrossing InPlay from to p q a b den → IsWideCrossing InPlay' from' to' p' q' a' b' den
   crossing_turned p q p' q' a b a' b' den o o' g i h = record {
     tau = mirrored h.tau;

@@ -1,15 +1,12 @@
 -- The Sup over a window behind is that over a window ahead of the mirrored signal, and so are its bases and causes.
-use Rattle.std.proofs.Common.{◌≡◌, ℕ, ◌-◌, ◌+◌, ◌^◌, ◌≤◌, ℤ, pos, neg_ℤ, ◌-ℤ◌, ◌+ℤ◌, ◌≤ℤ◌, ◌⊎◌, inl, inr, List, [], ◌∷◌, Bool, true, false, IsTrue, refl, sym, ◌∙◌, ap, subst, arith}
-use Rattle.std.specs.Prelude.{Option, Some, None}
-use Rattle.std.specs.Int.RustNames.{unsigned_abs}
-use Rattle.std.proofs.lemmas.Int.{ints}
+use Rattle.std.proofs.Common.{ℕ, ◌^◌, pos, List, Bool, sym, ◌∙◌, ap, subst}
+use Rattle.std.specs.Prelude.{Option}
 use Rattle.rational.specs.Rational.{IsWithin, whole}
-use Rattle.rational.specs.Time.{Rational, Within, later, ◌≤ʳ◌, ◌<ʳ◌, ◌≈◌}
-use Rattle.rational.specs.Extended.{Extended, ◌≈ᵉ◌, Affine, IsSup}
-use Rattle.rational.specs.Affine.{IsBounded}
+use Rattle.rational.specs.Time.{Rational, Within, ◌≤ʳ◌, ◌<ʳ◌, ◌≈◌}
+use Rattle.rational.specs.Extended.{Extended, Affine}
 use Rattle.rational.specs.Windows.{Function, Ahead, Behind, IsSupOver}
-use Rattle.rational.specs.InPlay.{Step, window_ahead, window_behind, IsInPlay}
-use Rattle.rational.proofs.Order.{le_trans, le_of_lt, le_of_same, ge_of_same, lt_of_lt_of_le, not_lt_of_le, same_refl, same_sym, same_trans}
+use Rattle.rational.specs.InPlay.{window_ahead, window_behind, IsInPlay}
+use Rattle.rational.proofs.Order.{le_trans, le_of_lt, le_of_same, ge_of_same, same_refl, same_sym, same_trans}
 use Rattle.rational.proofs.ExtendedLemmas.{Sup-unique}
 use Rattle.rational.proofs.AffineLemmas.{same_reflᵉ}
 use Rattle.rational.proofs.Sups.{sup_same, sup_value_same}
@@ -19,16 +16,15 @@ use Rattle.pl_signal.specs.declared.knot.Knot.{Knot}
 use Rattle.pl_signal.specs.declared.faults.WidePair.TheVariants.{Cross, Value}
 use Rattle.pl_signal.specs.declared.faults.OpFault.{OpFault}
 use Rattle.pl_signal.specs.declared.faults.OpFault.TheVariants as F
-use Rattle.pl_signal.specs.Knots.{start, stop, HasShape, IsSignal, IsWorth}
+use Rattle.pl_signal.specs.Knots.{start, stop, IsSignal, IsWorth}
 use Rattle.pl_signal.specs.Limits.{IsLimited}
-use Rattle.pl_signal.specs.Moves.{Tells, BasesFrom}
+use Rattle.pl_signal.specs.Moves.{Tells}
 use Rattle.pl_signal.specs.Wide.{HasCause}
 use Rattle.pl_signal.proofs.Values.{worth_within, worth_same}
 use Rattle.pl_signal.proofs.Telling.{IsFunction, told}
-use Rattle.pl_signal.proofs.Moving.{limited_start, limited_stop, within_same}
 use Rattle.window_ops.specs.Mirrored.{mirrored, IsReach, IsTurnedFault}
-use Rattle.window_ops.proofs.EndsLimited.{HasBounded, worth_bounded}
-use Rattle.window_ops.proofs.EndsAhead.{limited_by, start_to_stop}
+use Rattle.window_ops.proofs.EndsLimited.{worth_bounded}
+use Rattle.window_ops.proofs.EndsAhead.{limited_by}
 use Rattle.window_ops.proofs.MirrorTimes.{mirrored_twice, mirrored_le, mirrored_same, mirrored_back, behind_of_ahead, ahead_of_behind}
 use Rattle.window_ops.proofs.MirrorFunctions.{AreTurned, behind_in_play, crossing_turned, wide_value_turned}
 
@@ -95,11 +91,11 @@ module _ {P : Type 0} (function : P → Affine) where
   pub cause_behind : (A B : Function) (from to from' to' : Rational) (a b : ℕ) (c : Option ℕ) (a_in b_in : Bool) (fault other : OpFault P) → AreTurned A B → IsReach c b → whole (pos 0) ≤ʳ from → to <ʳ whole (pos (2 ^ 32))
       → from' ≈ mirrored to → to' ≈ mirrored from → IsTurnedFault function fault other → HasCause function (window_ahead A a b a_in b_in) from to fault → HasCause function (window_behind B a c a_in b_in) from' to' other
   cause_behind A B from to from' to' a b c a_in b_in F.Memory other n reach low high e f is w = subst (HasCause function (window_behind B a c a_in b_in) from' to') (sym is) tt
-  cause_behind A B from to from' to' a b c a_in b_in (F.Wide (Cross p q x y den)) other n reach low high e f (p', q', x', y', is, o, o', g, h) w =
-      subst (HasCause function (window_behind B a c a_in b_in) from' to') (sym is)
+  cause_behind A B from to from' to' a b c a_in b_in (F.Wide (Cross p q x y den)) other n reach low high e f (pair, is, (p', q', x', y', made, o, o', g, h)) w =
+      subst (HasCause function (window_behind B a c a_in b_in) from' to') (sym (is ∙ ap F.Wide made))
       (crossing_turned (IsInPlay (window_ahead A a b a_in b_in) from to) (IsInPlay (window_behind B a c a_in b_in) from' to') from to from' to' e f
       (λ tau line line' after o k. behind_in_play A B from to from' to' n e f a b c a_in b_in tau line line' reach low high (le_of_lt after) o k) (function p) (function q) (function p') (function q') (value x) (value y) (value x') (value y') den o o' g h w)
-  cause_behind A B from to from' to' a b c a_in b_in (F.Wide (Value p x den)) other n reach low high e f (p', x', is, o, g) w =
-      subst (HasCause function (window_behind B a c a_in b_in) from' to') (sym is)
+  cause_behind A B from to from' to' a b c a_in b_in (F.Wide (Value p x den)) other n reach low high e f (pair, is, (p', x', made, o, g)) w =
+      subst (HasCause function (window_behind B a c a_in b_in) from' to') (sym (is ∙ ap F.Wide made))
       (wide_value_turned (IsInPlay (window_ahead A a b a_in b_in) from to) (IsInPlay (window_behind B a c a_in b_in) from' to') from to from' to' e f
       (λ tau line line' after o k. behind_in_play A B from to from' to' n e f a b c a_in b_in tau line line' reach low high (le_of_lt after) o k) (function p) (function p') (value x) (value x') den o g w)

@@ -1,17 +1,17 @@
 -- Times mirrored about 2^32 - 1.
-use Rattle.std.proofs.Common.{◌≡◌, ℕ, zero, suc, ℤ, pos, negsuc, neg_ℤ, nat_abs, ◌+ℤ◌, ◌+◌, ◌-◌, ◌*◌, ◌<◌, ◌≤◌, ◌^◌, ◌⊎◌, inl, inr, Bool, true, false, refl, sym, ap, subst, arith}
+use Rattle.std.proofs.Common.{◌≡◌, ℕ, zero, suc, ℤ, pos, negsuc, neg_ℤ, nat_abs, ◌+ℤ◌, ◌+◌, ◌-◌, ◌*◌, ◌<◌, ◌≤◌, ◌^◌, ◌⊎◌, inl, inr, Bool, true, false, sym, ap, subst, arith}
 use Prim.Native.Nat.{◌∣◌}
 use Rattle.std.specs.Prelude.{Option, Some, None, IfSome}
 use Rattle.std.proofs.lemmas.Bool.{cases_lt}
 use Rattle.std.proofs.lemmas.Int.{ints}
 use Rattle.std.proofs.Math.Nat.{dvd-add_iff_left, dvd-mul_left_of_dvd}
-use Rattle.rational.specs.Rational.{part_above, part_below, whole, ratio, add, negate, subtract}
+use Rattle.rational.specs.Rational.{part_above, part_below, whole, ratio, add, negate}
 use Rattle.rational.specs.Time.{Rational, Within, Precedes, HasDenominator, IsLowest, shifted, later, ◌≤ʳ◌, ◌<ʳ◌, ◌≈◌}
 use Rattle.rational.specs.Windows.{Ahead, Behind}
-use Rattle.rational.proofs.Order.{le_trans, le_of_same, ge_of_same, lt_of_lt_of_le, lt_of_le_of_lt, le_of_lt, same_refl, same_sym, same_trans}
+use Rattle.rational.proofs.Order.{le_trans, le_of_same, ge_of_same, lt_of_lt_of_le, lt_of_le_of_lt, same_refl, same_sym, same_trans}
 use Rattle.rational.proofs.Mixed.{parts}
 use Rattle.rational.proofs.Field.{same_add}
-use Rattle.rational.proofs.Lowest.{dvd_of_Divides, Divides_of_dvd, coprime}
+use Rattle.rational.proofs.Lowest.{dvd_of_Divides, Divides_of_dvd}
 use Rattle.rational.proofs.TimeLemmas.{same_later, precedes_of_lt}
 use Rattle.window_ops.specs.Mirrored.{mirrored, IsReach}
 use Rattle.window_ops.proofs.NegateFunctions.{denominator_negated}
@@ -64,6 +64,18 @@ within_turned e f g w = record {
   above = le_trans (le_of_same e) (le_trans (mirrored_le w.below) (ge_of_same g));
   below = le_trans (le_of_same g) (le_trans (mirrored_le w.above) (ge_of_same f));
 }
+
+-- the domain mirrored lies from 0 on and before 2^32
+pub turned_first : {t : Rational} → t ≤ʳ whole (pos (2 ^ 32 - 1)) → whole (pos 0) ≤ʳ mirrored t
+turned_first {t} h = record { le = let l = h.le in omega (arith, l) }
+
+pub turned_last : {t : Rational} → whole (pos 0) ≤ʳ t → mirrored t <ʳ whole (pos (2 ^ 32))
+turned_last {t} h = record { lt = let l = h.le in let p = t.positive in omega (arith, l, p) }
+
+-- the one bound is at most as long as the window reaches
+pub reach_order : (a b : ℕ) (c : Option ℕ) → IsReach c b → IfSome c (λ c. a ≤ c) → a ≤ 2 ^ 32 → a ≤ b
+reach_order a b None r h small = subst (λ n. a ≤ n) (sym r) small
+reach_order a b (Some c) r h small = subst (λ n. a ≤ n) (sym r) h
 
 -- a time of a domain is before one of it and 2^32 more
 pub before_reach : {from to t u : Rational} → whole (pos 0) ≤ʳ from → to <ʳ whole (pos (2 ^ 32)) → from ≤ʳ t → u ≤ʳ to → u <ʳ later t (2 ^ 32)
