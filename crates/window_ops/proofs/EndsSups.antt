@@ -25,8 +25,8 @@ use Rattle.pl_signal.proofs.Values.{worth_at, worth_between, worth_same, one_val
 use Rattle.pl_signal.proofs.Telling.{IsFunction, TellsSoFar, tells_on, told}
 use Rattle.pl_signal.proofs.Moving.{first_is, last_is, same_knot}
 use Rattle.window_ops.specs.declared.ends.Side.{Side}
-use Rattle.window_ops.specs.declared.ends.Side.TheVariants.{Left, Right}
-use Rattle.window_ops.specs.Ends.{IsLimitFrom, Beside}
+use Rattle.window_ops.specs.declared.ends.Side.TheVariants.{Left, Right, Neither}
+use Rattle.window_ops.specs.Ends.{IsLimitFrom, TakesOne, Beside}
 use Rattle.window_ops.proofs.EndsLimits.{right_limit_one, left_limit_one, right_limit_same, left_limit_same, right_limit_in, left_limit_in, no_value_after, no_right_limit, no_left_limit, no_left_limit_after}
 use Rattle.window_ops.proofs.EndsLimited.{HasBounded, worth_bounded, right_limit_bounded, left_limit_bounded, sup_bounded}
 
@@ -61,6 +61,7 @@ sup_with {Q} {L} counts a b r e h k g = sup_same forth back (sup_of_union a b r 
 limit_from_same : (F : Function) {t u : Rational} (side : Side) (v w : Extended) → t ≈ u → v ≈ᵉ w → IsLimitFrom side F t v → IsLimitFrom side F u w
 limit_from_same F Left v w e f h = left_limit_same v w e f h
 limit_from_same F Right v w e f h = right_limit_same v w e f h
+limit_from_same F Neither v w e f h = absurd h
 
 module _ {P : Type 0} (function : P → Affine) (lowest : Extended) where
   -- at the first knot there is no limit from the left, and at the last none from the right
@@ -95,20 +96,31 @@ module _ {P : Type 0} (function : P → Affine) (lowest : Extended) where
       sup_of_only lowest (value_at (function k.point) (time k)) least here (λ w m. one_value function ks (time k) w (value_at (function k.point) (time k)) s m here)
 
   -- in a gap the value and both limits are one
-  pub beside_in_gap : (side : Side) (counts : Bool) (ks : List (Knot P)) (i : ℕ) (k n : Knot P) (t : Rational) → IsSignal function ks → slice_get ks i ≡ Some k → slice_get ks (i + 1) ≡ Some n → time k <ʳ t → t <ʳ time n
+  pub beside_in_gap : (side : Side) (counts : Bool) (ks : List (Knot P)) (i : ℕ) (k n : Knot P) (t : Rational) → TakesOne side counts → IsSignal function ks → slice_get ks i ≡ Some k → slice_get ks (i + 1) ≡ Some n → time k <ʳ t → t <ʳ time n
       → lowest ≤ᵉ value_at (function k.after) t → Beside lowest (IsWorth function ks) side counts t (value_at (function k.after) t)
-  beside_in_gap side counts ks i k n t s h j a b least = record { at_least = least; bound = bound; reached = λ w l m. (value_at (function k.after) t, inr (limit side), m) }
+  beside_in_gap side counts ks i k n t takes s h j a b least = record { at_least = least; bound = bound; reached = λ w l m. (value_at (function k.after) t, some side takes, m) }
     where
-      limit : (side : Side) → IsLimitFrom side (IsWorth function ks) t (value_at (function k.after) t)
-      limit Left = left_limit_in function ks i k n t h j a (le_of_lt b)
-      limit Right = right_limit_in function ks i k n t h j (le_of_lt a) b
+      here : IsWorth function ks t (value_at (function k.after) t)
+      here = worth_between function ks i k n t h j a b
+
+      left : IsLeftLimit (IsWorth function ks) t (value_at (function k.after) t)
+      left = left_limit_in function ks i k n t h j a (le_of_lt b)
+
+      right : IsRightLimit (IsWorth function ks) t (value_at (function k.after) t)
+      right = right_limit_in function ks i k n t h j (le_of_lt a) b
+
+      some : (side : Side) → TakesOne side counts → (IsTrue counts × IsWorth function ks t (value_at (function k.after) t)) ⊎ IsLimitFrom side (IsWorth function ks) t (value_at (function k.after) t)
+      some Left e = inr left
+      some Right e = inr right
+      some Neither e = inl (e, here)
 
       one : (side : Side) (v : Extended) → IsLimitFrom side (IsWorth function ks) t v → v ≈ᵉ value_at (function k.after) t
-      one Left v l = left_limit_one v (value_at (function k.after) t) (λ t v w a b. one_value function ks t v w s a b) l (limit Left)
-      one Right v l = right_limit_one v (value_at (function k.after) t) (λ t v w a b. one_value function ks t v w s a b) l (limit Right)
+      one Left v l = left_limit_one v (value_at (function k.after) t) (λ t v w a b. one_value function ks t v w s a b) l left
+      one Right v l = right_limit_one v (value_at (function k.after) t) (λ t v w a b. one_value function ks t v w s a b) l right
+      one Neither v l = absurd l
 
       bound : (v : Extended) → (IsTrue counts × IsWorth function ks t v) ⊎ IsLimitFrom side (IsWorth function ks) t v → v ≤ᵉ value_at (function k.after) t
-      bound v (inl m) = (one_value function ks t v (value_at (function k.after) t) s m.1 (worth_between function ks i k n t h j a b)).at_most
+      bound v (inl m) = (one_value function ks t v (value_at (function k.after) t) s m.1 here).at_most
       bound v (inr l) = (one side v l).at_most
 
   -- after the signal's end there is neither
@@ -118,6 +130,7 @@ module _ {P : Type 0} (function : P → Affine) (lowest : Extended) where
       no_limit : (side : Side) (w : Extended) → ¬ (IsLimitFrom side (IsWorth function ks) t w)
       no_limit Left w l = no_left_limit_after function ks t w s h l
       no_limit Right w l = no_right_limit function ks t w s (le_of_lt h) l
+      no_limit Neither w l = l
 
       none : (w : Extended) → ¬ ((IsTrue counts × IsWorth function ks t w) ⊎ IsLimitFrom side (IsWorth function ks) t w)
       none w (inl m) = no_value_after function ks t w s h m.1
@@ -139,19 +152,20 @@ module _ {P : Type 0} (function : P → Affine) (lowest : Extended) where
       by_limit : (side : Side) (v : Extended) → IsLimitFrom side (IsWorth function ks) t v → IsBounded (2 ^ 31) v
       by_limit Left v l = left_limit_bounded (2 ^ 31) (IsWorth function ks) t v (worth_bounded function ks h) l
       by_limit Right v l = right_limit_bounded (2 ^ 31) (IsWorth function ks) t v (worth_bounded function ks h) l
+      by_limit Neither v l = absurd l
 
       member : (v : Extended) → (IsTrue counts × IsWorth function ks t v) ⊎ IsLimitFrom side (IsWorth function ks) t v → IsBounded (2 ^ 31) v
       member v (inl m) = worth_bounded function ks h t v m.1
       member v (inr l) = by_limit side v l
 
   -- one knot more
-  pub beside_on : (side : Side) (counts : Bool) (ks old new : List (Knot P)) (i : ℕ) (k n : Knot P) (point : P) → IsSignal function ks → slice_get ks i ≡ Some k → slice_get ks (i + 1) ≡ Some n
+  pub beside_on : (side : Side) (counts : Bool) (ks old new : List (Knot P)) (i : ℕ) (k n : Knot P) (point : P) → TakesOne side counts → IsSignal function ks → slice_get ks i ≡ Some k → slice_get ks (i + 1) ≡ Some n
       → ((t : Rational) → lowest ≤ᵉ value_at (function k.after) t) → TellsSoFar function (Beside lowest (IsWorth function ks) side counts) old → stop old ≈ time k
       → Beside lowest (IsWorth function ks) side counts (time n) (value_at (function point) (time n)) → GoesOn function old k.after n.time point new
       → TellsSoFar function (Beside lowest (IsWorth function ks) side counts) new
-  beside_on side counts ks old new i k n point s h j least so_far stops here on =
+  beside_on side counts ks old new i k n point takes s h j least so_far stops here on =
       tells_on function (Beside lowest (IsWorth function ks) side counts) old new k.after point n.time (beside_is_function side counts ks s) so_far on
-      (λ t a b. beside_in_gap side counts ks i k n t s h j (lt_of_le_of_lt (ge_of_same stops) a) b (least t)) here
+      (λ t a b. beside_in_gap side counts ks i k n t takes s h j (lt_of_le_of_lt (ge_of_same stops) a) b (least t)) here
 
   -- the first knot
   pub beside_first : (side : Side) (counts : Bool) (ks built : List (Knot P)) (k : Knot P) (point : P) → IsSignal function ks → Beside lowest (IsWorth function ks) side counts (time k) (value_at (function point) (time k))

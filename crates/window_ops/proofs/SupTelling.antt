@@ -25,8 +25,8 @@ use Rattle.window_ops.proofs.SupParts.{sup_of_parts}
 use Rattle.window_ops.proofs.EndsLimited.{HasBounded, bounded_same, sup_bounded, right_limit_bounded, left_limit_bounded, limited}
 
 -- the Sup over a window has one value at each time
-pub ahead_is_function : (from to : Rational) (F : Function) (lowest : Extended) (a b : ℕ) (low_in high_in : Bool) → IsFunction (SupAhead from to F lowest a b low_in high_in)
-ahead_is_function from to F lowest a b low_in high_in = record {
+pub sup_is_function : (from to : Rational) (F : Function) (lowest : Extended) (a b : ℕ) (low_in high_in : Bool) → IsFunction (SupAhead from to F lowest a b low_in high_in)
+sup_is_function from to F lowest a b low_in high_in = record {
   alike = λ t u v w e f h. sup_value_same v w f (sup_over_alike (Ahead from to a b low_in high_in t) (Ahead from to a b low_in high_in u) F lowest v (λ x m. ahead_same e m) (λ x m. ahead_same (same_sym e) m) h);
   one = λ t v w h k. record { at_most = Sup-unique lowest v w h k; at_least = Sup-unique lowest w v k h };
 }
@@ -67,7 +67,7 @@ module _ {P : Type 0} (function : P → Affine) where
       → Tells function (GreatestOf (IsWorth function low) (IsWorth function high)) (start low) (stop low) ends
       → Tells function (GreatestOf (IsWorth function ends) (IsWorth function among)) (start ends) (stop ends) new
       → Tells function (SupAhead (start knots) (stop knots) (IsWorth function knots) lowest a b low_in high_in) (start knots) (stop knots) new
-  parts_told lowest knots low high ends among new a b low_in high_in signal order l h m e n = told function Sup (start knots) (stop knots) new (ahead_is_function (start knots) (stop knots) (IsWorth function knots) lowest a b low_in high_in)
+  parts_told lowest knots low high ends among new a b low_in high_in signal order l h m e n = told function Sup (start knots) (stop knots) new (sup_is_function (start knots) (stop knots) (IsWorth function knots) lowest a b low_in high_in)
       (record { signal = n.signal; worth = λ t v w. by_parts t v ((n.worth t v).0 w).1 }) (same_trans n.begins (same_trans e.begins l.begins)) (same_trans n.ends (same_trans e.ends l.ends))
     where
       Sup : Function

@@ -8,9 +8,9 @@ ghost use Rattle.pl_signal.specs.declared.knot.Knot.{Knot};
 ghost use Rattle.pl_signal.specs.Knots.{HasShape, IsSignal, IsWorth, start, stop, time};
 ghost use Rattle.pl_signal.specs.Limits.{IsLimited};
 ghost use Rattle.pl_signal.specs.Moves.{BasesFrom, Tells};
-ghost use Rattle.window_ops.specs.Parts.{AtHighEnd, AtLowEnd};
+ghost use Rattle.window_ops.specs.Parts.{AtHighEnd, AtInstant, AtLowEnd};
 ghost use Rattle.window_ops.specs.Conditions.{HaveRoom};
-ghost use Rattle.window_ops.specs.Ends.{Beside, IsLimitFrom};
+ghost use Rattle.window_ops.specs.Ends.{Beside, IsLimitFrom, TakesOne};
 
 use frac128::{Frac, Memory};
 use pl_signal::{Builder, Signal};
@@ -18,11 +18,12 @@ use std::alloc::Global;
 use std::cmp::Ordering;
 use value_laws::Shape;
 
-/// The side from which a limit is taken.
+/// The side from which a limit is taken, if any is.
 #[derive(Clone, Copy)]
 enum Side {
     Left,
     Right,
+    Neither,
 }
 
 /// At each time `t` the Sup of the value at `t + a`, where that time counts, and of the limit there from the right.
@@ -54,6 +55,19 @@ pub(crate) fn at_high_end<P: Shape>(s: &Signal<P>, b: u64, b_in: bool) -> Result
     beside_ahead(s, b, Side::Left, b_in)
 }
 
+/// At each time `t` the value at `t + a`, and the least value where that time lies beyond the domain.
+pub(crate) fn at_instant<P: Shape>(s: &Signal<P>, a: u64) -> Result<Signal<P>, Memory>
+    requires limited { IsLimited P.function s.now }
+    requires first { whole (pos 0) ≤ʳ start s.now }
+    requires last { stop s.now ≤ʳ whole (pos (2 ^ 32)) }
+    requires small { a ≤ 2 ^ 32 }
+    requires bases { HaveRoom P.base a s.now }
+    ensures worth { IfOk result (Tells P.function (AtInstant P.lowest (IsWorth P.function s.now) a) (start s.now) (stop s.now)) }
+    ensures bases { IfOk result (BasesFrom P.moves P.base (λ k. k -ℤ pos a) s.now) }
+{
+    beside_ahead(s, a, Side::Neither, true)
+}
+
 /// At each time `t` the Sup of the value at `t + by`, where that time counts, and of the limit there from the side.
 fn beside_ahead<P: Shape>(
     s: &Signal<P>,
@@ -61,6 +75,7 @@ fn beside_ahead<P: Shape>(
     side: Side,
     counts: bool,
 ) -> Result<Signal<P>, Memory>
+    requires taken { TakesOne side counts }
     requires limited { IsLimited P.function s.now }
     requires first { whole (pos 0) ≤ʳ start s.now }
     requires last { stop s.now ≤ʳ whole (pos (2 ^ 32)) }
@@ -81,7 +96,11 @@ fn beside_ahead<P: Shape>(
 }
 
 /// The least value at each time between the two.
-fn least_between<P: Shape>(alloc: Global, from: &Frac, to: &Frac) -> Result<Signal<P>, Memory>
+pub(crate) fn least_between<P: Shape>(
+    alloc: Global,
+    from: &Frac,
+    to: &Frac,
+) -> Result<Signal<P>, Memory>
     requires order { value from.now ≤ʳ value to.now }
     requires from_within { IsWithin (2 ^ 34) (value from.now) }
     ensures worth { IfOk result (Tells P.function (λ t v. v ≈ᵉ P.lowest) (value from.now) (value to.now)) }
@@ -103,6 +122,7 @@ fn beside_until<P: Shape>(
     side: Side,
     counts: bool,
 ) -> Result<Signal<P>, Memory>
+    requires taken { TakesOne side counts }
     requires limited { IsLimited P.function s.now }
     requires order { stop s.now ≤ʳ value until.now }
     ensures worth { IfOk result
@@ -120,6 +140,7 @@ fn beside_until<P: Shape>(
 
 /// At each time the Sup of the signal's value there, where it counts, and of its limit from the side.
 fn beside<P: Shape>(s: &Signal<P>, side: Side, counts: bool) -> Result<Builder<P>, Memory>
+    requires taken { TakesOne side counts }
     requires limited { IsLimited P.function s.now }
     ensures worth { IfOk result
         (Tells P.function (Beside P.lowest (IsWorth P.function s.now) side counts) (start s.now) (stop s.now)) }
@@ -177,5 +198,6 @@ fn limit_at_knot<P: Shape>(s: &Signal<P>, i: usize, side: Side) -> P
             }
             s.knot(i).after
         }
+        Side::Neither => P::least(),
     }
 }

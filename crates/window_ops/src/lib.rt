@@ -2,7 +2,6 @@
 #![tactic(auto)]
 
 mod ends;
-mod instant;
 mod middle;
 mod negated;
 mod past;

@@ -1,18 +1,17 @@
 //! The Sup over a window ahead.
-ghost use Rattle.std.specs.Prelude.{◌<◌, ◌≤◌, ◌^◌, pos, IfOk, IfErr};
+ghost use Rattle.std.specs.Prelude.{◌<◌, ◌≤◌, ◌^◌, ◌-ℤ◌, pos, IfOk, IfErr};
 ghost use Rattle.rational.specs.Rational.{whole};
 ghost use Rattle.rational.specs.Time.{◌≤ʳ◌, ◌<ʳ◌};
 ghost use Rattle.rational.specs.InPlay.{window_ahead};
 ghost use Rattle.pl_signal.specs.Knots.{IsWorth, start, stop};
 ghost use Rattle.pl_signal.specs.Limits.{IsLimited};
-ghost use Rattle.pl_signal.specs.Moves.{Tells};
+ghost use Rattle.pl_signal.specs.Moves.{BasesFrom, Tells};
 ghost use Rattle.pl_signal.specs.Wide.{HasCause};
 ghost use Rattle.window_ops.specs.Conditions.{AreNear, BasesAhead, BasesReached, HaveRoom};
 ghost use Rattle.window_ops.specs.Named.{NamesMoved};
 ghost use Rattle.window_ops.specs.Windows.{SupAhead};
 
-use crate::ends::{at_high_end, at_low_end};
-use crate::instant::sup_at;
+use crate::ends::{at_high_end, at_instant, at_low_end, least_between};
 use crate::middle::among_knots;
 use frac128::Memory;
 use pl_signal::{OpFault, Signal};
@@ -65,12 +64,28 @@ pub(crate) fn sup_ahead<P: Shape>(
     ensures wide { IfErr result (HasCause P.function (window_ahead (IsWorth P.function s.now) a b low_in high_in) (start s.now) (stop s.now)) }
 {
     if a == b {
-        return match sup_at(s, a, low_in, high_in) {
-            Ok(sup) => Ok(sup),
-            Err(Memory) => Err(OpFault::Memory),
-        };
+        return Ok(sup_at(s, a, low_in, high_in)?);
     }
     sup_between(s, a, b, low_in, high_in)
+}
+
+/// The Sup over the window of the one instant `t + a`: the value there. Where an end is out, or `t + a` lies beyond the domain, the
+/// window is empty and the Sup is the least value.
+fn sup_at<P: Shape>(s: &Signal<P>, a: u64, low_in: bool, high_in: bool) -> Result<Signal<P>, Memory>
+    requires limited { IsLimited P.function s.now }
+    requires first { whole (pos 0) ≤ʳ start s.now }
+    requires last { stop s.now ≤ʳ whole (pos (2 ^ 32)) }
+    requires small { a ≤ 2 ^ 32 }
+    requires bases { HaveRoom P.base a s.now }
+    ensures worth { IfOk result (Tells P.function (SupAhead (start s.now) (stop s.now) (IsWorth P.function s.now) P.lowest a a low_in high_in)
+        (start s.now) (stop s.now)) }
+    ensures bases { IfOk result (BasesFrom P.moves P.base (λ k. k -ℤ pos a) s.now) }
+{
+    let (from, to) = (s.start(), s.stop());
+    if low_in && high_in {
+        return at_instant(s, a);
+    }
+    least_between(s.alloc(), &from, &to)
 }
 
 /// The Sup over a window ahead whose ends are two times: the greatest of what the signal is at either end and at the knots between.

@@ -38,7 +38,7 @@ loop-i-preserved g c =
     let stops = c.loop-i.invariant.ends (c.loop-i.i - 1) c.knot-after.result place c.knot-after.ensures in
     let on = c.in_ok-step.ensures.ok in
     record {
-      tells = beside_on g.P.Shape.function g.P.Shape.lowest c.args.side c.args.counts c.args.s.now c.loop-i.built c.step.new.self (c.loop-i.i - 1) c.knot-after.result c.knot-knot.result c.at_knot-in-loop-i.result c.len-count.ensures.signal
+      tells = beside_on g.P.Shape.function g.P.Shape.lowest c.args.side c.args.counts c.args.s.now c.loop-i.built c.step.new.self (c.loop-i.i - 1) c.knot-after.result c.knot-knot.result c.at_knot-in-loop-i.result c.requires.taken c.len-count.ensures.signal
           c.knot-after.ensures next (λ t. g.met.P.Shape.lowest_is_least c.knot-after.result.after t) c.loop-i.invariant.tells stops (c.at_knot-in-loop-i.ensures.value c.knot-knot.result c.knot-knot.ensures) on;
       begins = subst (λ s. s ≈ start c.args.s.now) (sym on.begins) c.loop-i.invariant.begins;
       ends = λ j k e h. subst (λ s. s ≈ time k) (sym on.ends)

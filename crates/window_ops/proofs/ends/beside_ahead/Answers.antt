@@ -43,7 +43,7 @@ least_between-requires-clause-from_within g c =
     subst (IsWithin (2 ^ 34)) (sym c.start-start.ensures.value) (domain_within c.requires.first (le_trans (start_to_stop g.P.Shape.function c.args.s.now c.start-start.ensures.signal) c.requires.last))
 
 pub beside_until-requires : goal.beside_until-requires
-beside_until-requires g c = record { limited = c.requires.limited; order = le_trans (later_from (stop c.args.s.now) c.args.by) (ge_of_same stops) }
+beside_until-requires g c = record { taken = c.requires.taken; limited = c.requires.limited; order = le_trans (later_from (stop c.args.s.now) c.args.by) (ge_of_same stops) }
   where
     later_from : (t : Rational) (n : ℕ) → t ≤ʳ later t n
     later_from t n = omega arith

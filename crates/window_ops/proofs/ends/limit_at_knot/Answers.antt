@@ -6,7 +6,7 @@ use Rattle.pl_signal.specs.Knots.{time, IsWorth}
 use Rattle.pl_signal.proofs.Values.{shape_after}
 use Rattle.pl_signal.proofs.Moving.{same_knot}
 use Rattle.window_ops.specs.Ends.{IsLimitFrom}
-use Rattle.window_ops.proofs.EndsSups.{left_at_first, right_at_last, left_at_knot, right_at_knot}
+use Rattle.window_ops.proofs.EndsSups.{sup_of_no_value, left_at_first, right_at_last, left_at_knot, right_at_knot}
 use Rattle.window_ops.proofs.ends.limit_at_knot.Goals as goal
 
 pub returns-then-i-eq0-clause-value : goal.returns-then-i-eq0-clause-value
@@ -42,3 +42,8 @@ returns-else-i-count-clause-value g c = λ k h.
     (subst (λ side. IsSup g.P.Shape.lowest (IsLimitFrom side (IsWorth g.P.Shape.function c.args.s.now) (time c.knot-in-Right.result)) (value_at (g.P.Shape.function c.knot-in-Right.result.after) (time c.knot-in-Right.result))) (sym c.in-Right.is)
     (right_at_knot g.P.Shape.function g.P.Shape.lowest c.args.s.now c.args.i c.knot-in-Right.result (get_or c.args.s.now (c.args.i + 1) c.knot-in-Right.result) c.len-count.ensures.signal c.knot-in-Right.ensures
     (slice_get-get_or c.args.s.now (c.args.i + 1) c.knot-in-Right.result more) (g.met.P.Shape.lowest_is_least c.knot-in-Right.result.after (time c.knot-in-Right.result))))
+
+pub returns-in-Neither-clause-value : goal.returns-in-Neither-clause-value
+returns-in-Neither-clause-value g c = λ k h.
+    subst (λ side. IsSup g.P.Shape.lowest (IsLimitFrom side (IsWorth g.P.Shape.function c.args.s.now) (time k)) (value_at (g.P.Shape.function c.least-in-Neither.result) (time k))) (sym c.in-Neither.is)
+    (sup_of_no_value g.P.Shape.lowest (value_at (g.P.Shape.function c.least-in-Neither.result) (time k)) (c.least-in-Neither.ensures.value (time k)) (λ w l. l))
