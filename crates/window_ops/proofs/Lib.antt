@@ -5,6 +5,13 @@ pub mod EndsLimits
 pub mod EndsLimited
 pub mod EndsSups
 pub mod EndsAhead
+pub mod NegateFunctions
+pub mod NegateFaults
+pub mod NegateTellings
+pub mod MirrorTimes
+pub mod MirrorFunctions
 pub mod MiddleLimits
 pub mod InPlay
 pub mod InPlayNames
+pub mod MirrorTellings
+pub mod MirrorBases

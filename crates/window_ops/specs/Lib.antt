@@ -4,3 +4,5 @@ pub mod Conditions
 pub mod Frozen
 pub mod Named
 pub mod Ends
+pub mod Negated
+pub mod Mirrored
