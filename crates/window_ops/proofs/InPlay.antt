@@ -133,7 +133,7 @@ IsLike tau A line = Near tau (λ t. (x : Extended) → A t x → x ≈ᵉ value_
 like_same : (A : Function) (tau from to : Rational) (line like : Affine) → from <ʳ tau → tau <ʳ to → ((t : Rational) → from <ʳ t → t <ʳ to → A t (value_at line t)) → IsLike tau A like → AreSame line like
 like_same A tau from to line like above below on near =
     let n = near_both tau (λ t. (from <ʳ t) × (t <ʳ to)) (λ t. (x : Extended) → A t x → x ≈ᵉ value_at like t) (λ t. value_at line t ≈ᵉ value_at like t)
-        (λ t m k. k (value_at line t) (on t m.0 m.1)) (near_between tau from to above below) near in
+    (λ t m k. k (value_at line t) (on t m.0 m.1)) (near_between tau from to above below) near in
     agree_same line like n.from n.to (lt_trans n.above n.below) n.holds
 
 -- the greatest of two values is one of them
@@ -210,17 +210,33 @@ module _ {P : Type 0} (function : P → Affine) (knots : List (Knot P)) (a b : �
           ⊎ IsValueWithin (IsWorth function knots) (start knots) (stop knots) (Ahead (start knots) (stop knots) a b low_in high_in tau) line
           ⊎ IsLimitWithin (IsWorth function knots) (start knots) (stop knots) (Ahead (start knots) (stop knots) a b true true tau) (λ u. shifted tau (pos a) <ʳ u) (λ u. u <ʳ shifted tau (pos b)) line
       by_kind (inl w) = inr (inl (u, breakpoint function knots signal u knot, window_time tau u inside h k, v, w, level))
-      by_kind (inr (inl l)) = inr (inr (u, breakpoint function knots signal u knot, closed, v,
-          inl (limit_after_start function knots signal u v l, lt_of_le_of_lt (ge_of_same (later_shifted tau a)) h, l), level))
-      by_kind (inr (inr l)) = inr (inr (u, breakpoint function knots signal u knot, closed, v,
-          inr (limit_before_stop function knots signal u v l, lt_of_lt_of_le k (le_of_same (later_shifted tau b)), l), level))
+      by_kind (inr (inl l)) = inr (inr (
+        u,
+        breakpoint function knots signal u knot,
+        closed,
+        v,
+        inl (limit_after_start function knots signal u v l, lt_of_le_of_lt (ge_of_same (later_shifted tau a)) h, l),
+        level,
+      ))
+      by_kind (inr (inr l)) = inr (inr (
+        u,
+        breakpoint function knots signal u knot,
+        closed,
+        v,
+        inr (limit_before_stop function knots signal u v l, lt_of_lt_of_le k (le_of_same (later_shifted tau b)), l),
+        level,
+      ))
 
   -- a time of the domain from which a knot later than the start and a lies strictly inside the window
   time_before : (u : Rational) → later (start knots) a <ʳ u → u ≤ʳ stop knots → (tau : Rational) × (start knots <ʳ tau) × (tau <ʳ stop knots) × (later tau a <ʳ u) × (u <ʳ later tau b)
   time_before u late inside =
-      let l = later_of_two (start knots) (earlier u b) (earlier u a) (earlier_of_later a late) (earlier_lt u a b order) in
-      (middle l.0 (earlier u a), lt_of_le_of_lt l.1 (left_of_middle l.3), lt_of_lt_of_le (right_of_middle l.3) (le_trans (earlier_le u a) inside), later_of_earlier a (right_of_middle l.3),
-      later_from_earlier b (lt_of_le_of_lt l.2 (left_of_middle l.3)))
+      let l = later_of_two (start knots) (earlier u b) (earlier u a) (earlier_of_later a late) (earlier_lt u a b order) in (
+        middle l.0 (earlier u a),
+        lt_of_le_of_lt l.1 (left_of_middle l.3),
+        lt_of_lt_of_le (right_of_middle l.3) (le_trans (earlier_le u a) inside),
+        later_of_earlier a (right_of_middle l.3),
+        later_from_earlier b (lt_of_le_of_lt l.2 (left_of_middle l.3)),
+      )
 
   -- a refused value at a knot
   pub knots_in_play : (e : OpFault P) → IsKnotFault function knots a e → HasCause function (window_ahead (IsWorth function knots) a b low_in high_in) (start knots) (stop knots) e
@@ -267,15 +283,18 @@ module _ {P : Type 0} (function : P → Affine) (knots : List (Knot P)) (a b : �
     -- a part at an end is in play
     part_in_play : (tau : Rational) (k : ℕ) (v : Extended) (line : Affine) → (k ≡ a) ⊎ (k ≡ b) → (i : IsInside function knots (later tau k) v)
         → (x : (u : Rational) × (i.from <ʳ u) × (u <ʳ i.to) × (later tau a <ʳ u) × (u <ʳ later tau b)) → AreSame line (ahead i.line k) → InPlay tau line
-    part_in_play tau k v line which i x same = ((x.0, window_time tau x.0 (worth_within function knots x.0 there.0 signal there.1) x.3 x.4), inl (
-      pos k,
-      elim which as (λ w. (pos k ≡ pos a) ⊎ (pos k ≡ pos b)) [ inl e ↦ inl (ap pos e) | inr e ↦ inr (ap pos e) ],
-      i.line,
-      here,
-      record { a = i.from; b = i.to; above = lt_of_lt_of_le i.above (le_of_same (later_shifted tau k)); below = lt_of_le_of_lt (ge_of_same (later_shifted tau k)) i.below; on = i.on },
-      λ t. same_transᵉ (value_at i.line (shifted t (pos k))) (value_at i.line (later t k)) (value_at line t) (value_same i.line (same_sym (later_shifted t k)))
-          (same_symᵉ (value_at line t) (value_at i.line (later t k)) (same_transᵉ (value_at line t) (value_at (ahead i.line k) t) (value_at i.line (later t k)) (same t) (ahead_is i.line k t))),
-    ))
+    part_in_play tau k v line which i x same = (
+      (x.0, window_time tau x.0 (worth_within function knots x.0 there.0 signal there.1) x.3 x.4),
+      inl (
+        pos k,
+        elim which as (λ w. (pos k ≡ pos a) ⊎ (pos k ≡ pos b)) [ inl e ↦ inl (ap pos e) | inr e ↦ inr (ap pos e) ],
+        i.line,
+        here,
+        record { a = i.from; b = i.to; above = lt_of_lt_of_le i.above (le_of_same (later_shifted tau k)); below = lt_of_le_of_lt (ge_of_same (later_shifted tau k)) i.below; on = i.on },
+        λ t. same_transᵉ (value_at i.line (shifted t (pos k))) (value_at i.line (later t k)) (value_at line t) (value_same i.line (same_sym (later_shifted t k)))
+            (same_symᵉ (value_at line t) (value_at i.line (later t k)) (same_transᵉ (value_at line t) (value_at (ahead i.line k) t) (value_at i.line (later t k)) (same t) (ahead_is i.line k t))),
+      ),
+    )
       where
         there : Follows (IsWorth function knots) i.line x.0
         there = i.on x.0 x.1 x.2
@@ -306,17 +325,20 @@ module _ {P : Type 0} (function : P → Affine) (knots : List (Knot P)) (a b : �
         by_place : ((v : Extended) × IsInside function knots (later tau a) v) ⊎ (stop knots <ʳ later tau a)
             → (like : Affine) × IsLike tau (AtLowEnd lowest (IsWorth function knots) a low_in) like × ((line : Affine) → AreSame line like → Known tau line)
         by_place (inl (v, i)) =
-            let r = earlier_of_two i.to (later tau b) (later tau a) i.below (later_lt tau a b order) in
-            (ahead i.line a,
-            near_both tau (λ t. i.from <ʳ later t a) (λ t. later t a <ʳ i.to) (λ t. (x : Extended) → AtLowEnd lowest (IsWorth function knots) a low_in t x → x ≈ᵉ value_at (ahead i.line a) t)
-                (inside i.from i.to i.line i.on) (near_after tau i.from a i.above) (near_before tau i.to a i.below),
-            λ line same. inl (part_in_play tau a v line (inl refl) i
-                (middle (later tau a) r.0, lt_trans i.above (left_of_middle r.3), lt_of_lt_of_le (right_of_middle r.3) r.1, left_of_middle r.3, lt_of_lt_of_le (right_of_middle r.3) r.2) same))
-        by_place (inr h) = (level_of lowest,
-            near_map tau (λ t. stop knots <ʳ later t a) (λ t. (x : Extended) → AtLowEnd lowest (IsWorth function knots) a low_in t x → x ≈ᵉ value_at (level_of lowest) t)
-                (λ t m x s. same_transᵉ x lowest (value_at (level_of lowest) t) (sup_of_nothing lowest x (nothing t m) s) (same_symᵉ (value_at (level_of lowest) t) lowest (level_of_is lowest t)))
-                (near_after tau (stop knots) a h),
-            λ line same. inr (λ t. same_transᵉ (value_at line t) (value_at (level_of lowest) t) lowest (same t) (level_of_is lowest t)))
+            let r = earlier_of_two i.to (later tau b) (later tau a) i.below (later_lt tau a b order) in (
+              ahead i.line a,
+              near_both tau (λ t. i.from <ʳ later t a) (λ t. later t a <ʳ i.to) (λ t. (x : Extended) → AtLowEnd lowest (IsWorth function knots) a low_in t x → x ≈ᵉ value_at (ahead i.line a) t)
+                  (inside i.from i.to i.line i.on) (near_after tau i.from a i.above) (near_before tau i.to a i.below),
+              λ line same. inl (part_in_play tau a v line (inl refl) i
+                  (middle (later tau a) r.0, lt_trans i.above (left_of_middle r.3), lt_of_lt_of_le (right_of_middle r.3) r.1, left_of_middle r.3, lt_of_lt_of_le (right_of_middle r.3) r.2) same),
+            )
+        by_place (inr h) = (
+          level_of lowest,
+          near_map tau (λ t. stop knots <ʳ later t a) (λ t. (x : Extended) → AtLowEnd lowest (IsWorth function knots) a low_in t x → x ≈ᵉ value_at (level_of lowest) t)
+              (λ t m x s. same_transᵉ x lowest (value_at (level_of lowest) t) (sup_of_nothing lowest x (nothing t m) s) (same_symᵉ (value_at (level_of lowest) t) lowest (level_of_is lowest t)))
+              (near_after tau (stop knots) a h),
+          λ line same. inr (λ t. same_transᵉ (value_at line t) (value_at (level_of lowest) t) lowest (same t) (level_of_is lowest t)),
+        )
           where
             nothing : (t : Rational) → stop knots <ʳ later t a → (v : Extended) → ¬ ((IsTrue low_in × IsWorth function knots (later t a) v) ⊎ IsRightLimit (IsWorth function knots) (later t a) v)
             nothing t m v (inl w) = not_lt_of_le (worth_within function knots (later t a) v signal w.1).below m
@@ -344,17 +366,20 @@ module _ {P : Type 0} (function : P → Affine) (knots : List (Knot P)) (a b : �
         by_place : ((v : Extended) × IsInside function knots (later tau b) v) ⊎ (stop knots <ʳ later tau b)
             → (like : Affine) × IsLike tau (AtHighEnd lowest (IsWorth function knots) b high_in) like × ((line : Affine) → AreSame line like → Known tau line)
         by_place (inl (v, i)) =
-            let l = later_of_two i.from (later tau a) (later tau b) i.above (later_lt tau a b order) in
-            (ahead i.line b,
-            near_both tau (λ t. i.from <ʳ later t b) (λ t. later t b <ʳ i.to) (λ t. (x : Extended) → AtHighEnd lowest (IsWorth function knots) b high_in t x → x ≈ᵉ value_at (ahead i.line b) t)
-                (inside i.from i.to i.line i.on) (near_after tau i.from b i.above) (near_before tau i.to b i.below),
-            λ line same. inl (part_in_play tau b v line (inr refl) i
-                (middle l.0 (later tau b), lt_of_le_of_lt l.1 (left_of_middle l.3), lt_trans (right_of_middle l.3) i.below, lt_of_le_of_lt l.2 (left_of_middle l.3), right_of_middle l.3) same))
-        by_place (inr h) = (level_of lowest,
-            near_map tau (λ t. stop knots <ʳ later t b) (λ t. (x : Extended) → AtHighEnd lowest (IsWorth function knots) b high_in t x → x ≈ᵉ value_at (level_of lowest) t)
-                (λ t m x s. same_transᵉ x lowest (value_at (level_of lowest) t) (sup_of_nothing lowest x (nothing t m) s) (same_symᵉ (value_at (level_of lowest) t) lowest (level_of_is lowest t)))
-                (near_after tau (stop knots) b h),
-            λ line same. inr (λ t. same_transᵉ (value_at line t) (value_at (level_of lowest) t) lowest (same t) (level_of_is lowest t)))
+            let l = later_of_two i.from (later tau a) (later tau b) i.above (later_lt tau a b order) in (
+              ahead i.line b,
+              near_both tau (λ t. i.from <ʳ later t b) (λ t. later t b <ʳ i.to) (λ t. (x : Extended) → AtHighEnd lowest (IsWorth function knots) b high_in t x → x ≈ᵉ value_at (ahead i.line b) t)
+                  (inside i.from i.to i.line i.on) (near_after tau i.from b i.above) (near_before tau i.to b i.below),
+              λ line same. inl (part_in_play tau b v line (inr refl) i
+                  (middle l.0 (later tau b), lt_of_le_of_lt l.1 (left_of_middle l.3), lt_trans (right_of_middle l.3) i.below, lt_of_le_of_lt l.2 (left_of_middle l.3), right_of_middle l.3) same),
+            )
+        by_place (inr h) = (
+          level_of lowest,
+          near_map tau (λ t. stop knots <ʳ later t b) (λ t. (x : Extended) → AtHighEnd lowest (IsWorth function knots) b high_in t x → x ≈ᵉ value_at (level_of lowest) t)
+              (λ t m x s. same_transᵉ x lowest (value_at (level_of lowest) t) (sup_of_nothing lowest x (nothing t m) s) (same_symᵉ (value_at (level_of lowest) t) lowest (level_of_is lowest t)))
+              (near_after tau (stop knots) b h),
+          λ line same. inr (λ t. same_transᵉ (value_at line t) (value_at (level_of lowest) t) lowest (same t) (level_of_is lowest t)),
+        )
           where
             nothing : (t : Rational) → stop knots <ʳ later t b → (v : Extended) → ¬ ((IsTrue high_in × IsWorth function knots (later t b) v) ⊎ IsLeftLimit (IsWorth function knots) (later t b) v)
             nothing t m v (inl w) = not_lt_of_le (worth_within function knots (later t b) v signal w.1).below m
@@ -403,7 +428,7 @@ module _ {P : Type 0} (function : P → Affine) (knots : List (Knot P)) (a b : �
             alike t low high x s =
                 let v = value_at (function q) tau in
                 let at_tau : AmongKnots function lowest knots a b tau x = sup_same (λ w (u, knot, h, k, about). (u, knot, (low u knot).before_back h, (high u knot).after_back k, about))
-                    (λ w (u, knot, h, k, about). (u, knot, (low u knot).before h, (high u knot).after k, about)) s in
+                (λ w (u, knot, h, k, about). (u, knot, (low u knot).before h, (high u knot).after k, about)) s in
                 let here = told tau (on tau above below) in
                 same_transᵉ x v (value_at (level_of v) t) (record { at_most = Sup-unique lowest x v at_tau here; at_least = Sup-unique lowest v x here at_tau })
                 (same_symᵉ (value_at (level_of v) t) v (level_of_is v t))
@@ -428,9 +453,9 @@ module _ {P : Type 0} (function : P → Affine) (knots : List (Knot P)) (a b : �
           let r = high_end h.at den after h.denominator h.wide in
           crossing_in_play p q (value from) (value to) h.at den first last h.meet h.denominator h.wide
           (l.2 (function p) (like_same (AtLowEnd lowest (IsWorth function knots) a low_in) h.at (value from) (value to) (function p) l.0 h.meet.after h.meet.before
-              (λ t x y. ((tells_low.worth t (value_at (function p) t)).0 (h.left t x y)).1) l.1))
+          (λ t x y. ((tells_low.worth t (value_at (function p) t)).0 (h.left t x y)).1) l.1))
           (r.2 (function q) (like_same (AtHighEnd lowest (IsWorth function knots) b high_in) h.at (value from) (value to) (function q) r.0 h.meet.after h.meet.before
-              (λ t x y. ((tells_high.worth t (value_at (function q) t)).0 (h.right t x y)).1) r.1))
+          (λ t x y. ((tells_high.worth t (value_at (function q) t)).0 (h.right t x y)).1) r.1))
 
       -- what the greatest of the two is near tau
       both_known : (both : List (Knot P)) → Tells function (GreatestOf (IsWorth function low) (IsWorth function high)) (start low) (stop low) both
@@ -441,12 +466,12 @@ module _ {P : Type 0} (function : P → Affine) (knots : List (Knot P)) (a b : �
           let l = low_end tau den after has wide in
           let r = high_end tau den after has wide in
           let n = near_both tau (λ t. (x : Extended) → AtLowEnd lowest (IsWorth function knots) a low_in t x → x ≈ᵉ value_at l.0 t) (λ t. (x : Extended) → AtHighEnd lowest (IsWorth function knots) b high_in t x → x ≈ᵉ value_at r.0 t)
-              (λ t. from <ʳ t → t <ʳ to → (value_at (function p) t ≈ᵉ value_at l.0 t) ⊎ (value_at (function p) t ≈ᵉ value_at r.0 t))
-              (λ t like like' x y. one_of_ends t (value_at l.0 t) (value_at r.0 t) like like' ((tells.worth t (value_at (function p) t)).0 (on t x y)).1) l.1 r.1 in
+          (λ t. from <ʳ t → t <ʳ to → (value_at (function p) t ≈ᵉ value_at l.0 t) ⊎ (value_at (function p) t ≈ᵉ value_at r.0 t))
+          (λ t like like' x y. one_of_ends t (value_at l.0 t) (value_at r.0 t) like like' ((tells.worth t (value_at (function p) t)).0 (on t x y)).1) l.1 r.1 in
           let low_side = later_of_two n.from from tau n.above above in
           let high_side = earlier_of_two n.to to tau n.below below in
           elim (one_of_two (function p) l.0 r.0 low_side.0 high_side.0 (lt_trans low_side.3 high_side.3)
-              (λ t x y. n.holds t (lt_of_le_of_lt low_side.1 x) (lt_of_lt_of_le y high_side.1) (lt_of_le_of_lt low_side.2 x) (lt_of_lt_of_le y high_side.2))) [
+          (λ t x y. n.holds t (lt_of_le_of_lt low_side.1 x) (lt_of_lt_of_le y high_side.1) (lt_of_le_of_lt low_side.2 x) (lt_of_lt_of_le y high_side.2))) [
             | inl same ↦ l.2 (function p) same
             | inr same ↦ r.2 (function p) same
           ]

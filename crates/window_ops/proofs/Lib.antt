@@ -2,3 +2,4 @@ pub mod SupParts
 pub mod MiddleLimits
 pub mod InPlay
 pub mod InPlayNames
+pub mod MiddleFrozen

@@ -2,7 +2,7 @@
 use Rattle.std.proofs.Common.{◌≡◌, ℕ, zero, suc, ◌+◌, ◌*◌, ◌<◌, ◌⊎◌, inl, inr, List, [], ◌∷◌, length, get_or, Some, refl, sym, subst, arith}
 use Rattle.std.specs.Prelude.{slice_get}
 use Rattle.std.proofs.lemmas.Bool.{cases_lt}
-use Rattle.std.proofs.lemmas.Option.{slice_get_past, slice_get-get_or}
+use Rattle.std.proofs.lemmas.Option.{slice_get_past, slice_get-get_or, slice_get_within}
 use Rattle.rational.specs.Rational.{middle}
 use Rattle.rational.specs.Time.{Rational, ◌≤ʳ◌, ◌<ʳ◌, ◌≈◌, later}
 use Rattle.rational.specs.Line.{Line, at, constant}
@@ -173,13 +173,6 @@ module _ {P : Type 0} (function : P → Affine) where
   first_time : (ks : List (Knot P)) (k : Knot P) (u : Rational) → slice_get ks 0 ≡ Some k → u ≈ time k → u ≈ K.start ks
   first_time [] k u h e = absurd (cc)
   first_time (l ∷ ks) k u h e = let s : l ≡ k = cc in subst (λ l. u ≈ time l) (sym s) e
-
-  -- a place at which a knot stands
-  pub place_inside : (ks : List (Knot P)) (i : ℕ) (k : Knot P) → slice_get ks i ≡ Some k → i < length ks
-  place_inside ks i k h = elim (cases_lt i (length ks)) as (λ v. i < length ks) [
-    | inl l ↦ l
-    | inr l ↦ let none = slice_get_past ks i l in absurd (cc)
-  ]
 
   module _ (ks : List (Knot P)) (signal : IsSignal function ks) where
     pub one : (t : Rational) (v w : Extended) → IsWorth function ks t v → IsWorth function ks t w → v ≈ᵉ w

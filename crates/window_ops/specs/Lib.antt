@@ -3,3 +3,4 @@ pub mod Parts
 pub mod Conditions
 pub mod Frozen
 pub mod Named
+pub mod Passing
