@@ -3,3 +3,4 @@ pub mod MiddleLimits
 pub mod InPlay
 pub mod InPlayNames
 pub mod MiddleFrozen
+pub mod MiddlePassing

@@ -2,6 +2,7 @@
 #![tactic(auto)]
 
 mod ends;
+mod events;
 mod frozen;
 mod middle;
 mod negated;
