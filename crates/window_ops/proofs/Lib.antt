@@ -4,3 +4,4 @@ pub mod InPlay
 pub mod InPlayNames
 pub mod MiddleFrozen
 pub mod MiddlePassing
+pub mod MiddleTelling

@@ -1,9 +1,9 @@
 -- How many knots a moving window has reached and left behind.
-use Rattle.std.proofs.Common.{◌≡◌, ℕ, ◌+◌, ◌-◌, ◌<◌, ◌≤◌, ◌^◌, ◌⊎◌, inl, inr, List, length, get_or, Some, ℤ, pos, neg_ℤ, sym, ap, ◌∙◌, subst, arith}
+use Rattle.std.proofs.Common.{◌≡◌, ℕ, zero, suc, ◌+◌, ◌-◌, ◌<◌, ◌≤◌, ◌^◌, ◌⊎◌, inl, inr, List, [], ◌∷◌, refl, length, get_or, Some, ℤ, pos, neg_ℤ, sym, ap, ◌∙◌, subst, arith}
 use Rattle.std.specs.Prelude.{slice_get}
 use Rattle.std.proofs.lemmas.Bool.{cases_lt}
 use Rattle.std.proofs.lemmas.Option.{slice_get-get_or, slice_get_within}
-use Rattle.rational.specs.Rational.{add, whole, FitsFloor}
+use Rattle.rational.specs.Rational.{add, whole, FitsFloor, IsWithin}
 use Rattle.rational.specs.Time.{Rational, ◌≤ʳ◌, ◌<ʳ◌, ◌≈◌, later}
 use Rattle.rational.specs.Extended.{Affine}
 use Rattle.rational.proofs.Order.{le_refl, le_of_lt, lt_trans, le_trans, lt_of_lt_of_le, lt_of_le_of_lt, not_lt_of_le, le_of_same, ge_of_same, same_trans}
@@ -44,6 +44,19 @@ fits_earlier {t} k from to small = fits_of_within (
   le_trans (record { le = omega arith }) (le_add from (le_whole {j = neg_ℤ (pos (2 ^ 32))} {k = neg_ℤ (pos k)} (omega (arith, ints)))),
   le_trans (le_add to (le_whole {j = neg_ℤ (pos k)} {k = pos 0} (omega (arith, ints)))) (record { le = omega arith }),
 )
+
+-- a time from 0 to 2^32 is within 2^34
+pub near_of_domain : {t : Rational} → whole (pos 0) ≤ʳ t → t ≤ʳ whole (pos (2 ^ 32)) → IsWithin (2 ^ 34) t
+near_of_domain {t} from to = (
+  le_trans (le_whole {j = neg_ℤ (pos (2 ^ 34))} {k = pos 0} (record { le = tt })) from,
+  le_trans to (le_whole {j = pos (2 ^ 32)} {k = pos (2 ^ 34)} (record { le = tt })),
+)
+
+-- a place of a list has an item
+pub item_at : {X : Type 0} (xs : List X) (i : ℕ) → i < length xs → (x : X) × (slice_get xs i ≡ Some x)
+item_at [] i h = absurd (omega arith)
+item_at (x ∷ xs) zero h = (x, refl)
+item_at (x ∷ xs) (suc i) h = item_at xs i (omega arith)
 
 module _ {P : Type 0} (function : P → Affine) (ks : List (Knot P)) (signal : IsSignal function ks) where
   -- the times rise strictly from place to place
@@ -113,6 +126,27 @@ module _ {P : Type 0} (function : P → Affine) (ks : List (Knot P)) (signal : I
   start_in_domain {u} e first last =
       let k = first_is function ks signal.some in
       subst (λ u. (whole (pos 0) ≤ʳ u) × (u ≤ʳ whole (pos (2 ^ 32)))) (sym (e ∙ k.2)) (in_domain 0 k.0 first last k.1)
+
+  -- the first time is not after the last
+  pub start_before_stop : start ks ≤ʳ stop ks
+  start_before_stop = let k = first_is function ks signal.some in (subst (λ u. u ≤ʳ stop ks) (sym k.2) (at_knot_within function ks 0 k.0 signal k.1).below)
+
+  -- more are passed at a later time
+  pub passed_order : {x y : Rational} (n m : ℕ) → HasPassed ks x n → HasPassed ks y m → x ≤ʳ y → n ≤ m
+  passed_order {x} {y} n m h j le = elim (cases_lt m n) as (λ v. n ≤ m) [
+    | inl l ↦
+        let k = item_at ks m (let inside = h.inside in omega arith) in
+        absurd (not_lt_of_le (le_trans (h.passed m k.0 k.1 l) le) (j.coming m k.0 k.1 (omega arith)))
+    | inr l ↦ l
+  ]
+
+  pub met_order : {x y : Rational} (n m : ℕ) → HasPassed ks x n → HasMet ks y m → x <ʳ y → n ≤ m
+  met_order {x} {y} n m h j lt = elim (cases_lt m n) as (λ v. n ≤ m) [
+    | inl l ↦
+        let k = item_at ks m (let inside = h.inside in omega arith) in
+        absurd (not_lt_of_le (le_trans (j.coming m k.0 k.1 (omega arith)) (h.passed m k.0 k.1 l)) lt)
+    | inr l ↦ l
+  ]
 
   pub first_passed : (i : ℕ) (k : Knot P) {x : Rational} (by : ℕ) → slice_get ks i ≡ Some k → i < 1 → x ≈ later (start ks) by → time k ≤ʳ x
   first_passed i k {x} by h below e =
