@@ -1,8 +1,8 @@
 -- The greatest of a signal's value and its limits at a knot, by the shapes about it.
-use Rattle.std.proofs.Common.{◌≡◌, ℕ, zero, suc, ◌+◌, ◌≤◌, ◌<◌, ◌^◌, ◌⊎◌, inl, inr, List, [], ◌∷◌, ◌++◌, length, Some, refl, sym, ap, subst, arith}
+use Rattle.std.proofs.Common.{◌≡◌, ℕ, zero, suc, ◌+◌, ◌≤◌, ◌^◌, ◌⊎◌, inl, inr, List, [], ◌∷◌, ◌++◌, length, Some, refl, sym, ap, subst, arith}
 use Rattle.std.specs.Prelude.{slice_get}
 use Rattle.std.proofs.lemmas.Option.{slice_get_past}
-use Rattle.rational.specs.Time.{Rational, ◌≈◌, ◌<ʳ◌, later, HasDenominator}
+use Rattle.rational.specs.Time.{Rational, ◌<ʳ◌, later, HasDenominator}
 use Rattle.rational.specs.Extended.{Extended, finite, ◌≤ᵉ◌, ◌≈ᵉ◌, Affine, value_at, IsGreatest}
 use Rattle.rational.specs.Affine.{IsBounded}
 use Rattle.rational.proofs.Order.{le_refl, same_refl, not_lt_of_le}
@@ -10,7 +10,7 @@ use Rattle.rational.proofs.ExtendedLemmas.{le_transᵉ}
 use Rattle.rational.proofs.AffineLemmas.{same_symᵉ}
 use Rattle.value_laws.proofs.LawProofs.{fixed_is_constant}
 use Rattle.pl_signal.specs.declared.knot.Knot.{Knot}
-use Rattle.pl_signal.specs.Knots.{time, start, stop, HasShape, IsSignal}
+use Rattle.pl_signal.specs.Knots.{time, start, HasShape, IsSignal}
 use Rattle.pl_signal.specs.Limits.{IsLimited}
 use Rattle.pl_signal.proofs.Values.{worth_at, stop_at}
 use Rattle.window_ops.specs.Parts.{IsAbout}

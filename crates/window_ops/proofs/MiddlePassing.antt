@@ -1,12 +1,12 @@
 -- How many knots a moving window has reached and left behind.
-use Rattle.std.proofs.Common.{◌≡◌, ℕ, zero, suc, ◌+◌, ◌-◌, ◌<◌, ◌≤◌, ◌^◌, ◌⊎◌, inl, inr, List, [], ◌∷◌, refl, length, get_or, Some, ℤ, pos, neg_ℤ, sym, ap, ◌∙◌, subst, arith}
+use Rattle.std.proofs.Common.{◌≡◌, ℕ, zero, suc, ◌+◌, ◌-◌, ◌<◌, ◌≤◌, ◌^◌, inl, inr, List, [], ◌∷◌, refl, length, get_or, Some, pos, neg_ℤ, sym, ap, ◌∙◌, subst, arith}
 use Rattle.std.specs.Prelude.{slice_get}
 use Rattle.std.proofs.lemmas.Bool.{cases_lt}
 use Rattle.std.proofs.lemmas.Option.{slice_get-get_or, slice_get_within}
 use Rattle.rational.specs.Rational.{add, whole, FitsFloor, IsWithin}
 use Rattle.rational.specs.Time.{Rational, ◌≤ʳ◌, ◌<ʳ◌, ◌≈◌, later}
 use Rattle.rational.specs.Extended.{Affine}
-use Rattle.rational.proofs.Order.{le_refl, le_of_lt, lt_trans, le_trans, lt_of_lt_of_le, lt_of_le_of_lt, not_lt_of_le, le_of_same, ge_of_same, same_trans}
+use Rattle.rational.proofs.Order.{le_of_lt, le_trans, lt_of_lt_of_le, lt_of_le_of_lt, not_lt_of_le, le_of_same, ge_of_same, same_trans}
 use Rattle.rational.proofs.Shift.{same_shift, le_whole}
 use Rattle.rational.proofs.Field.{le_add}
 use Rattle.std.specs.Int.{w64}

@@ -1,13 +1,14 @@
 -- The constants of knots tell, where the knots inside the window are those of a range of places, the Sup of the values and limits there.
-use Rattle.std.proofs.Common.{◌≡◌, ℕ, zero, suc, ◌+◌, ◌-◌, ◌<◌, ◌≤◌, ◌⊎◌, inl, inr, List, [], ◌∷◌, length, get_or, Some, pos, Bool, false, refl, sym, ◌∙◌, subst, arith}
+use Rattle.std.proofs.Common.{◌≡◌, ℕ, ◌+◌, ◌-◌, ◌<◌, ◌≤◌, ◌⊎◌, inl, inr, List, [], ◌∷◌, length, get_or, Some, pos, Bool, false, All, refl, sym, ◌∙◌, subst, arith}
 use Rattle.std.specs.Prelude.{slice_get}
 use Rattle.std.proofs.lemmas.Bool.{cases_lt}
 use Rattle.std.proofs.lemmas.Option.{slice_get-get_or, slice_get_within}
 use Rattle.rational.specs.Rational.{whole}
-use Rattle.rational.specs.Time.{Rational, ◌≤ʳ◌, ◌<ʳ◌, ◌≈◌, later}
-use Rattle.rational.specs.Extended.{Extended, ◌≤ᵉ◌, ◌<ᵉ◌, ◌≈ᵉ◌, Affine, value_at, Passes, IsSup}
+use Rattle.rational.specs.Time.{Rational, ◌<ʳ◌, ◌≈◌, later}
+use Rattle.rational.specs.Extended.{Extended, ◌≤ᵉ◌, ◌≈ᵉ◌, Affine, value_at}
+use Rattle.rational.specs.Affine.{IsSteady}
 use Rattle.rational.specs.Windows.{Function}
-use Rattle.rational.proofs.Order.{le_refl, le_of_lt, le_trans, lt_of_lt_of_le, lt_of_le_of_lt, not_lt_of_le, le_of_same, ge_of_same, same_refl, same_sym}
+use Rattle.rational.proofs.Order.{le_of_lt, le_trans, lt_of_lt_of_le, lt_of_le_of_lt, not_lt_of_le, le_of_same, ge_of_same, same_refl, same_sym}
 use Rattle.rational.proofs.ExtendedLemmas.{le_transᵉ, Sup-unique}
 use Rattle.rational.proofs.AffineLemmas.{same_reflᵉ, same_symᵉ, same_transᵉ, value_same}
 use Rattle.rational.proofs.Sups.{sup_same, sup_value_same, sup_of_none}
@@ -25,7 +26,6 @@ use Rattle.window_ops.specs.Frozen.{AreFrozen, IsFrozen, IsTop}
 use Rattle.window_ops.specs.Passing.{HasPassed, HasMet, IsAfter, IsNext}
 use Rattle.window_ops.proofs.MiddleLimits.{about_same, is_knot_time, knot_at}
 use Rattle.window_ops.proofs.MiddlePassing.{item_at, passes_stay, meets, later_strict}
-use Rattle.window_ops.proofs.SupParts.{later_lt}
 
 module _ {P : Type 0} (function : P → Affine) where
   -- a value or a limit at a time written by another pair
@@ -92,10 +92,14 @@ module _ {P : Type 0} (function : P → Affine) where
     inside_range : (t u : Rational) (lo hi : ℕ) (v : Extended) → HasPassed ks (later t a) lo → HasMet ks (later t b) hi → IsKnotTime ks u → later t a <ʳ u → u <ʳ later t b
         → (i : ℕ) × (n : Knot P) × (slice_get ks i ≡ Some n) × (u ≈ time n) × (lo ≤ i) × (i < hi)
     inside_range t u lo hi v left met knot h k =
-        let n = knot_at function ks u knot in
-        (n.0, n.1, n.2, n.3,
-        elim (cases_lt n.0 lo) as (λ x. lo ≤ n.0) [ inl l ↦ absurd (not_lt_of_le (le_trans (le_of_same n.3) (left.passed n.0 n.1 n.2 l)) h) | inr l ↦ l ],
-        elim (cases_lt n.0 hi) as (λ x. n.0 < hi) [ inl l ↦ l | inr l ↦ absurd (not_lt_of_le (le_trans (met.coming n.0 n.1 n.2 l) (ge_of_same n.3)) k) ])
+        let n = knot_at function ks u knot in (
+          n.0,
+          n.1,
+          n.2,
+          n.3,
+          elim (cases_lt n.0 lo) as (λ x. lo ≤ n.0) [ inl l ↦ absurd (not_lt_of_le (le_trans (le_of_same n.3) (left.passed n.0 n.1 n.2 l)) h) | inr l ↦ l ],
+          elim (cases_lt n.0 hi) as (λ x. n.0 < hi) [ inl l ↦ l | inr l ↦ absurd (not_lt_of_le (le_trans (met.coming n.0 n.1 n.2 l) (ge_of_same n.3)) k) ],
+        )
 
     -- so the greatest of their constants is the Sup
     pub top_tells : (least : (p : P) (t : Rational) → lowest ≤ᵉ value_at (function p) t) (t : Rational) (first lo hi : ℕ) (shapes : List P) (p : P) → HasPassed ks (later t a) lo → HasMet ks (later t b) hi → first ≤ lo → first + length shapes ≡ length ks → AreFrozen function ks first shapes
@@ -114,8 +118,13 @@ module _ {P : Type 0} (function : P → Affine) where
             here = frozen m k p at_k is
 
             member : IsAmong function ks a b t (value_at (function p) t)
-            member = (time k, is_knot_time function ks (first + m) k (time k) at_k (same_refl (time k)), left.coming (first + m) k at_k low, met.met (first + m) k at_k high,
-                about_same function ks (time k) (value_at (function p) (time k)) (value_at (function p) t) (here.steady (time k) t) here.value.about)
+            member = (
+              time k,
+              is_knot_time function ks (first + m) k (time k) at_k (same_refl (time k)),
+              left.coming (first + m) k at_k low,
+              met.met (first + m) k at_k high,
+              about_same function ks (time k) (value_at (function p) (time k)) (value_at (function p) t) (here.steady (time k) t) here.value.about,
+            )
 
             bound : (v : Extended) → IsAmong function ks a b t v → v ≤ᵉ value_at (function p) t
             bound v (u, knot, h, l, about) =
@@ -171,6 +180,11 @@ module _ {P : Type 0} (function : P → Affine) where
     -- a signal that tells it over the domain
     pub sup_told : (built : List (Knot P)) → TellsSoFar function IsReachedSup built → start built ≈ start ks → stop built ≈ stop ks → Tells function (AmongKnots function lowest ks a b) (start ks) (stop ks) built
     sup_told built so_far begins ends = told function (AmongKnots function lowest ks a b) (start ks) (stop ks) built sup_is_function (record { signal = so_far.signal; worth = λ t v w. (so_far.worth t v w).0 }) begins ends
+
+  -- the constants of knots are constant
+  pub all_steady : (ks : List (Knot P)) (first : ℕ) (shapes : List P) → first + length shapes ≡ length ks → AreFrozen function ks first shapes → All (λ p. IsSteady (function p)) shapes
+  all_steady ks first shapes count frozen i d h =
+      let k = item_at ks (first + i) (omega arith) in (frozen i k.0 (get_or shapes i d) k.1 (slice_get-get_or shapes i d h)).steady
 
   -- constant shapes alone
   pub still_first : (moves : P → Bool) (built : List (Knot P)) (at : Frac) (point : P) → moves point ≡ false → built ≡ record { time = at; point = point; after = point } ∷ [] → (p : P) → HasShape built p → moves p ≡ false

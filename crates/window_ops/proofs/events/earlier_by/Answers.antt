@@ -1,4 +1,4 @@
-use Rattle.std.proofs.Common.{◌≡◌, ◌≤◌, ◌^◌, ◌-ℤ◌, ◌∙◌, ap, pos, ℕ, neg_ℤ, sym, subst, arith, to_z, of_z, w64, FitsSigned}
+use Rattle.std.proofs.Common.{◌≡◌, ◌≤◌, ◌^◌, ◌-ℤ◌, ◌∙◌, ap, pos, ℕ, neg_ℤ, sym, subst, arith, to_z, of_z, w64}
 use Rattle.std.proofs.lemmas.Int.{to_z_pos, to_z-of_z, ints}
 use Rattle.rational.specs.Rational.{add, whole, FitsFloor}
 use Rattle.rational.specs.Time.{◌≈◌}

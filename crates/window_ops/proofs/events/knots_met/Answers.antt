@@ -1,5 +1,5 @@
-use Rattle.std.proofs.Common.{◌≡◌, ◌-◌, subst, arith}
-use Rattle.rational.specs.Time.{◌≈◌, ◌≤ʳ◌, later}
+use Rattle.std.proofs.Common.{◌-◌, subst, arith}
+use Rattle.rational.specs.Time.{◌≈◌, later}
 use Rattle.rational.proofs.Order.{le_trans, ge_of_same, lt_of_lt_of_le, le_of_same, same_trans}
 use Rattle.frac128.specs.Value.{value}
 use Rattle.pl_signal.proofs.Reading.{earlier}

@@ -1,7 +1,6 @@
-use Rattle.std.proofs.Common.{◌≡◌, ◌<◌, ◌≤◌, length, Some, subst, arith}
+use Rattle.std.proofs.Common.{◌≡◌, ◌≤◌, subst, arith}
 use Rattle.std.proofs.lemmas.Option.{slice_get_within}
 use Rattle.rational.specs.Time.{◌≈◌, ◌<ʳ◌, later}
-use Rattle.rational.proofs.Order.{lt_of_lt_of_le}
 use Rattle.frac128.specs.Value.{value}
 use Rattle.pl_signal.specs.Knots.{time}
 use Rattle.window_ops.proofs.MiddlePassing.{start_in_domain, first_passed, passed_until}

@@ -1,7 +1,7 @@
-use Rattle.std.proofs.Common.{◌≡◌, ◌<◌, ◌≤◌, length, Some, subst, arith}
+use Rattle.std.proofs.Common.{◌≡◌, subst, arith}
 use Rattle.std.proofs.lemmas.Option.{slice_get_within}
-use Rattle.rational.specs.Time.{◌≈◌, ◌<ʳ◌, later}
-use Rattle.rational.proofs.Order.{le_of_lt, le_of_same, ge_of_same, lt_of_lt_of_le, same_trans}
+use Rattle.rational.specs.Time.{◌<ʳ◌, later}
+use Rattle.rational.proofs.Order.{le_of_lt, le_of_same, lt_of_lt_of_le, same_trans}
 use Rattle.rational.proofs.TimeLemmas.{same_later}
 use Rattle.frac128.specs.Value.{value}
 use Rattle.pl_signal.specs.Knots.{time}

@@ -1,5 +1,4 @@
 use Rattle.std.proofs.Common.{◌≡◌, subst}
-use Rattle.pl_signal.specs.declared.knot.Knot.{Knot}
 use Rattle.pl_signal.specs.Knots.{time}
 use Rattle.pl_signal.proofs.Moving.{limited_at}
 use Rattle.window_ops.specs.Frozen.{IsFrozen}

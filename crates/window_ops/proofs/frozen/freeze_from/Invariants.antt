@@ -1,4 +1,4 @@
-use Rattle.std.proofs.Common.{◌≡◌, ◌+◌, ◌-◌, false, All, vec_len, length}
+use Rattle.std.proofs.Common.{◌≡◌, ◌+◌, ◌-◌, false, All, length}
 use Rattle.std.specs.Vec.{vec_capacity}
 use Rattle.window_ops.specs.Frozen.{AreFrozen}
 use Rattle.window_ops.proofs.frozen.freeze_from.Given as goal

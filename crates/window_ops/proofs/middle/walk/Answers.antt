@@ -1,7 +1,7 @@
-use Rattle.std.proofs.Common.{◌≡◌, ◌+◌, ◌<◌, ◌≤◌, ◌∷◌, [], length, pos, false, ◌^◌, sym, ◌∙◌, subst, arith}
+use Rattle.std.proofs.Common.{◌≡◌, ◌≤◌, pos, false, ◌^◌, sym, ◌∙◌, subst, arith}
 use Rattle.rational.specs.Time.{◌≤ʳ◌, ◌<ʳ◌, ◌≈◌, Rational, later}
 use Rattle.rational.specs.Rational.{whole}
-use Rattle.rational.proofs.Order.{le_refl, le_of_lt, le_trans, lt_of_le_of_lt, same_refl}
+use Rattle.rational.proofs.Order.{le_refl, le_of_lt, le_trans, same_refl}
 use Rattle.frac128.specs.Value.{value}
 use Rattle.pl_signal.specs.Knots.{start, stop, HasShape, IsWorth}
 use Rattle.pl_signal.specs.Moves.{Tells}
@@ -22,7 +22,7 @@ greatest-point-requires-clause-order g c = met_order g.P.Shape.function c.args.s
 pub greatest-point-requires-clause-high : goal.greatest-point-requires-clause-high
 greatest-point-requires-clause-high g c =
     let order : c.args.first ≤ c.knots_met-met.result = met_order g.P.Shape.function c.args.s.now c.len-count.ensures.signal c.args.first c.knots_met-met.result c.requires.left c.knots_met-met.ensures.met
-        (later_lt (start c.args.s.now) c.args.a c.args.b c.requires.order) in
+    (later_lt (start c.args.s.now) c.args.a c.args.b c.requires.order) in
     let none = c.requires.high in omega (arith, order, none)
 
 pub loop-left-init : goal.loop-left-init
@@ -151,8 +151,8 @@ returns-clause-worth g c =
     (Tells f (AmongKnots f g.P.Shape.lowest ks c.args.a c.args.b) (start ks) (stop ks))
     (λ r h.
     let end = finished f g.P.Shape.lowest ks c.args.a c.args.b g.met.P.Shape.lowest_is_least c.len-count.ensures.signal c.loop-left.built r (value c.loop-left.at) c.stop.result c.args.first c.loop-left.left c.loop-left.reached
-        c.args.shapes.now c.loop-left.after c.loop-left.invariant.first_left c.requires.count c.requires.frozen c.loop-left.invariant.tells c.loop-left.invariant.here
-        (let all = c.loop-left-test.false in let count = c.len-count.ensures.value in omega arith) c.loop-left.invariant.now c.loop-left.invariant.top c.loop-left.invariant.begins c.stop.ensures.value h in
+    c.args.shapes.now c.loop-left.after c.loop-left.invariant.first_left c.requires.count c.requires.frozen c.loop-left.invariant.tells c.loop-left.invariant.here
+    (let all = c.loop-left-test.false in let count = c.len-count.ensures.value in omega arith) c.loop-left.invariant.now c.loop-left.invariant.top c.loop-left.invariant.begins c.stop.ensures.value h in
     sup_told f g.P.Shape.lowest ks c.args.a c.args.b r end.0 end.1 end.2) c.ended.ensures
 
 pub returns-clause-one : goal.returns-clause-one
@@ -163,8 +163,8 @@ returns-clause-one g c =
     (λ r. (t : Rational) (v : Extended) → IsWorth f r t v → IsLeastOrAmong f g.P.Shape.lowest ks c.args.a c.args.b t v)
     (λ r h t v w.
     let end = finished f g.P.Shape.lowest ks c.args.a c.args.b g.met.P.Shape.lowest_is_least c.len-count.ensures.signal c.loop-left.built r (value c.loop-left.at) c.stop.result c.args.first c.loop-left.left c.loop-left.reached
-        c.args.shapes.now c.loop-left.after c.loop-left.invariant.first_left c.requires.count c.requires.frozen c.loop-left.invariant.tells c.loop-left.invariant.here
-        (let all = c.loop-left-test.false in let count = c.len-count.ensures.value in omega arith) c.loop-left.invariant.now c.loop-left.invariant.top c.loop-left.invariant.begins c.stop.ensures.value h in
+    c.args.shapes.now c.loop-left.after c.loop-left.invariant.first_left c.requires.count c.requires.frozen c.loop-left.invariant.tells c.loop-left.invariant.here
+    (let all = c.loop-left-test.false in let count = c.len-count.ensures.value in omega arith) c.loop-left.invariant.now c.loop-left.invariant.top c.loop-left.invariant.begins c.stop.ensures.value h in
     (end.0.worth t v w).1) c.ended.ensures
 
 pub returns-clause-still : goal.returns-clause-still
