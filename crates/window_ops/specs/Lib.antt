@@ -4,3 +4,6 @@ pub mod Conditions
 pub mod Frozen
 pub mod Named
 pub mod Passing
+pub mod Ends
+pub mod Negated
+pub mod Mirrored

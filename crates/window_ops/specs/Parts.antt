@@ -16,6 +16,10 @@ AtLowEnd lowest F a a_in t r = IsSup lowest (λ v. (IsTrue a_in × F (later t a)
 abbrev pub AtHighEnd : Extended → Function → ℕ → Bool → Function
 AtHighEnd lowest F b b_in t r = IsSup lowest (λ v. (IsTrue b_in × F (later t b) v) ⊎ IsLeftLimit F (later t b) v) r
 
+-- at t the value at t + a, and the least value where there is none
+abbrev pub AtInstant : Extended → Function → ℕ → Function
+AtInstant lowest F a t r = IsSup lowest (F (later t a)) r
+
 -- u is the time of a knot
 abbrev pub IsKnotTime : {P : Type 0} → List (Knot P) → Rational → Type 0
 IsKnotTime [] u = ⊥
