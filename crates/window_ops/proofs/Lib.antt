@@ -13,5 +13,8 @@ pub mod MirrorFunctions
 pub mod MiddleLimits
 pub mod InPlay
 pub mod InPlayNames
+pub mod MiddleFrozen
+pub mod MiddlePassing
+pub mod MiddleTelling
 pub mod MirrorTellings
 pub mod MirrorBases

@@ -174,13 +174,6 @@ module _ {P : Type 0} (function : P → Affine) where
   first_time [] k u h e = absurd (cc)
   first_time (l ∷ ks) k u h e = let s : l ≡ k = cc in subst (λ l. u ≈ time l) (sym s) e
 
-  -- a place at which a knot stands
-  pub place_inside : (ks : List (Knot P)) (i : ℕ) (k : Knot P) → slice_get ks i ≡ Some k → i < length ks
-  place_inside ks i k h = elim (cases_lt i (length ks)) as (λ v. i < length ks) [
-    | inl l ↦ l
-    | inr l ↦ let none = slice_get_past ks i l in absurd (cc)
-  ]
-
   module _ (ks : List (Knot P)) (signal : IsSignal function ks) where
     pub one : (t : Rational) (v w : Extended) → IsWorth function ks t v → IsWorth function ks t w → v ≈ᵉ w
     one t v w a b = one_value function ks t v w signal a b

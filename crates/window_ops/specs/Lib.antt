@@ -3,6 +3,7 @@ pub mod Parts
 pub mod Conditions
 pub mod Frozen
 pub mod Named
+pub mod Passing
 pub mod Ends
 pub mod Negated
 pub mod Mirrored

@@ -2,6 +2,8 @@
 #![tactic(auto)]
 
 mod ends;
+mod events;
+mod frozen;
 mod middle;
 mod negated;
 mod past;
