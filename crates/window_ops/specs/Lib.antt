@@ -1,0 +1,4 @@
+pub mod Windows
+pub mod Parts
+pub mod Conditions
+pub mod Frozen
