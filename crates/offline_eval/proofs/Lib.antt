@@ -11,4 +11,5 @@ pub mod Never
 pub mod Having
 pub mod Stretches
 pub mod InPlay
-pub mod Windows
+pub mod WindowLemmas
+pub mod UntilLemmas

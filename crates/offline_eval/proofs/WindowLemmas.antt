@@ -1,6 +1,6 @@
 -- The Sup and the Inf over a window of a signal, as functions over the domain of a setting.
 use Rattle.std.proofs.Common.{◌≡◌, ◌⊎◌, inl, inr, ℕ, ℤ, pos, ◌+◌, ◌≤◌, ◌<◌, ◌^◌, ◌-ℤ◌, ◌+ℤ◌, Bool, List, sym, subst, arith}
-use Rattle.std.specs.Prelude.{Option, Some, None, IsTrue}
+use Rattle.std.specs.Prelude.{Option, Some, None, IfSome, IsTrue}
 use Rattle.std.proofs.lemmas.Int.{ints}
 use Rattle.rational.specs.Time.{Rational, Within, ◌<ʳ◌, ◌≈◌}
 use Rattle.rational.specs.Extended.{Extended, Affine}
@@ -44,14 +44,14 @@ module _ {P : Type 0} (function : P → Affine) where
   }
 
   -- the Sup over a window of what a signal tells
-  sup_of : (F : Function) (from to : Rational) (x : List (Knot P)) (W W' : Window) (lowest r : Extended) → Tells function F from to x → ((u : Rational) → W u → W' u) → ((u : Rational) → W' u → W u) → ((u : Rational) → W' u → Within from to u)
+  pub sup_of : (F : Function) (from to : Rational) (x : List (Knot P)) (W W' : Window) (lowest r : Extended) → Tells function F from to x → ((u : Rational) → W u → W' u) → ((u : Rational) → W' u → W u) → ((u : Rational) → W' u → Within from to u)
       → (IsSupOver lowest W (IsWorth function x) r → IsSupOver lowest W' F r) × (IsSupOver lowest W' F r → IsSupOver lowest W (IsWorth function x) r)
   sup_of F from to x W W' lowest r tells forth back inside = (
     sup_alike lowest r (λ v (u, w, f). (u, forth u w, ((tells.worth u v).0 f).1)) (λ v (u, w, f). (u, back u w, (tells.worth u v).1 (inside u w, f))),
     sup_alike lowest r (λ v (u, w, f). (u, back u w, (tells.worth u v).1 (inside u w, f))) (λ v (u, w, f). (u, forth u w, ((tells.worth u v).0 f).1)),
   )
 
-  inf_of : (F : Function) (from to : Rational) (x : List (Knot P)) (W W' : Window) (highest r : Extended) → Tells function F from to x → ((u : Rational) → W u → W' u) → ((u : Rational) → W' u → W u) → ((u : Rational) → W' u → Within from to u)
+  pub inf_of : (F : Function) (from to : Rational) (x : List (Knot P)) (W W' : Window) (highest r : Extended) → Tells function F from to x → ((u : Rational) → W u → W' u) → ((u : Rational) → W' u → W u) → ((u : Rational) → W' u → Within from to u)
       → (IsInfOver highest W (IsWorth function x) r → IsInfOver highest W' F r) × (IsInfOver highest W' F r → IsInfOver highest W (IsWorth function x) r)
   inf_of F from to x W W' highest r tells forth back inside = (
     inf_alike highest r (λ v (u, w, f). (u, forth u w, ((tells.worth u v).0 f).1)) (λ v (u, w, f). (u, back u w, (tells.worth u v).1 (inside u w, f))),
@@ -117,13 +117,32 @@ moved_more : (a b : ℕ) (old new : ℤ) → a ≤ b → new ≡ old +ℤ pos a 
 moved_more a b old new o e = record { not_less = omega (arith, ints, o, e); not_more = omega (arith, ints, o, e) }
 
 module _ {P : Type 0} (moves : P → Bool) (base : P → ℤ) where
-  pub ahead_moved : (a b : ℕ) (x r : List (Knot P)) → a ≤ b → BasesAhead moves base a b x r → (p : P) → HasShape r p → IsTrue (moves p) → (q : P) × HasShape x q × IsMovedBy b (base q) (base p)
-  ahead_moved a b x r o bases p h m = let f = bases p h m in (f.0, f.1, moved_ahead a b (base f.0) (base p) o f.3)
+  -- the shape of the old signal from which one of the new signal was made
+  abbrev pub ComesFrom : ℕ → List (Knot P) → P → Type 0
+  ComesFrom own x p = (q : P) × HasShape x q × IsTrue (moves q) × IsMovedBy own (base q) (base p)
 
-  pub behind_moved : (a : ℕ) (b : Option ℕ) (x r : List (Knot P)) → IsInOrder a b → BasesBehind moves base a b x r → (p : P) → HasShape r p → IsTrue (moves p) → (q : P) × HasShape x q × IsMovedBy (reach_of_bound a b) (base q) (base p)
-  behind_moved a None x r o bases p h m = let f = bases p h m in (f.0, f.1, moved_more a a (base f.0) (base p) (omega arith) f.3)
-  behind_moved a (Some b) x r o bases p h m = let f = bases p h m in (f.0, f.1, by_one (base f.0) (base p) f.3)
+  pub ahead_from : (a b : ℕ) (x r : List (Knot P)) → a ≤ b → BasesAhead moves base a b x r → (p : P) → HasShape r p → IsTrue (moves p) → ComesFrom b x p
+  ahead_from a b x r o bases p h m = let f = bases p h m in (f.0, f.1, f.2, moved_ahead a b (base f.0) (base p) o f.3)
+
+  pub behind_from : (a : ℕ) (b : Option ℕ) (x r : List (Knot P)) → IsInOrder a b → BasesBehind moves base a b x r → (p : P) → HasShape r p → IsTrue (moves p) → ComesFrom (reach_of_bound a b) x p
+  behind_from a None x r o bases p h m = let f = bases p h m in (f.0, f.1, f.2, moved_more a a (base f.0) (base p) (omega arith) f.3)
+  behind_from a (Some b) x r o bases p h m = let f = bases p h m in (f.0, f.1, f.2, by_one (base f.0) (base p) f.3)
     where
       by_one : (old new : ℤ) → (new ≡ old +ℤ pos a) ⊎ (new ≡ old +ℤ pos b) → IsMovedBy b old new
       by_one old new (inl e) = moved_more a b old new o e
       by_one old new (inr e) = moved_more b b old new (omega arith) e
+
+  pub ahead_moved : (a b : ℕ) (x r : List (Knot P)) → a ≤ b → BasesAhead moves base a b x r → (p : P) → HasShape r p → IsTrue (moves p) → (q : P) × HasShape x q × IsMovedBy b (base q) (base p)
+  ahead_moved a b x r o bases p h m = let f = ahead_from a b x r o bases p h m in (f.0, f.1, f.3)
+
+  pub behind_moved : (a : ℕ) (b : Option ℕ) (x r : List (Knot P)) → IsInOrder a b → BasesBehind moves base a b x r → (p : P) → HasShape r p → IsTrue (moves p) → (q : P) × HasShape x q × IsMovedBy (reach_of_bound a b) (base q) (base p)
+  behind_moved a b x r o bases p h m = let f = behind_from a b x r o bases p h m in (f.0, f.1, f.3)
+
+-- bounds in order
+pub in_order : (a : ℕ) (b : Option ℕ) → IsInOrder a b → IfSome b (λ b. a ≤ b)
+in_order a None h = tt
+in_order a (Some b) h = h
+
+pub reach_of_order : (a : ℕ) (b : Option ℕ) → IsInOrder a b → a ≤ reach_of_bound a b
+reach_of_order a None h = omega arith
+reach_of_order a (Some b) h = h
