@@ -1,11 +1,11 @@
 -- What is in play in a step over one function is in play in the step over another that agrees with it on the domain.
 use Rattle.std.proofs.Common.{◌≡◌, ◌⊎◌, inl, inr, ℕ, ℤ, pos, Bool, true}
 use Rattle.std.specs.Prelude.{Option, IfSome}
-use Rattle.rational.specs.Time.{Rational, Within, shifted, ◌≤ʳ◌, ◌<ʳ◌, ◌≈◌}
-use Rattle.rational.specs.Extended.{Extended, Affine}
+use Rattle.rational.specs.Time.{Rational, shifted, ◌<ʳ◌, ◌≈◌}
+use Rattle.rational.specs.Extended.{Affine}
 use Rattle.rational.specs.Windows.{Function, Window, Ahead, Behind}
-use Rattle.rational.specs.InPlay.{IsBreakpoint, start, stop, inner, IsLeftLimit, IsRightLimit, IsConstant, IsMoved, Step, of_two, window_ahead, window_behind, until_end, since_start, IsEndBehind, HasTime, IsEndPart, IsValueWithin, IsLimitWithin, IsNext, IsPrevious, IsCrossing, IsInPlay, IsWideCrossing, IsWideValue}
-use Rattle.rational.proofs.Order.{le_trans, le_of_lt, lt_of_le_of_lt, lt_of_lt_of_le, lt_trans, le_of_same, ge_of_same, same_trans}
+use Rattle.rational.specs.InPlay.{IsBreakpoint, start, stop, inner, IsLeftLimit, IsRightLimit, Step, window_ahead, window_behind, until_end, since_start, IsEndBehind, IsEndPart, IsValueWithin, IsLimitWithin, IsNext, IsPrevious, IsCrossing, IsInPlay, IsWideCrossing, IsWideValue}
+use Rattle.rational.proofs.Order.{lt_of_le_of_lt, lt_of_lt_of_le, lt_trans, le_of_same, ge_of_same, same_trans}
 use Rattle.offline_eval.proofs.Along.{within_same_ends}
 use Rattle.offline_eval.proofs.Stretches.{IsOn, line_along, part_along, breakpoint_along, left_along, right_along, AreAlike, left_within, right_within}
 

@@ -1,11 +1,10 @@
 -- Functions that agree between two times have the same breakpoints, parts and limits there.
-use Rattle.std.proofs.Common.{◌⊎◌, inl, inr, ℕ, ℤ, pos, Bool, true}
-use Rattle.std.specs.Prelude.{Option, Some, None}
-use Rattle.rational.specs.Time.{Rational, Within, shifted, ◌≤ʳ◌, ◌<ʳ◌, ◌≈◌}
+use Rattle.std.proofs.Common.{◌⊎◌, inl, inr}
+use Rattle.rational.specs.Time.{Rational, Within, ◌≤ʳ◌, ◌<ʳ◌, ◌≈◌}
 use Rattle.rational.specs.Extended.{Extended, Affine}
-use Rattle.rational.specs.Windows.{Function, Window, Ahead, Behind}
-use Rattle.rational.specs.InPlay.{Follows, IsLineOn, IsPart, IsBreakpoint, start, stop, inner, IsLeftLimit, IsRightLimit, IsConstant, IsMoved, Step, of_two, window_ahead, window_behind, until_end, since_start, IsEndBehind, HasTime, IsEndPart, IsValueWithin, IsLimitWithin, IsNext, IsPrevious, IsCrossing, IsInPlay, IsWideCrossing, IsWideValue}
-use Rattle.rational.proofs.Order.{le_or_lt, lt_or_same_or_gt, le_trans, le_of_lt, le_refl, lt_of_le_of_lt, lt_of_lt_of_le, lt_trans, le_of_same, ge_of_same, same_trans, same_sym, not_lt_of_le}
+use Rattle.rational.specs.Windows.{Function}
+use Rattle.rational.specs.InPlay.{IsLineOn, IsPart, IsBreakpoint, start, stop, inner, IsLeftLimit, IsRightLimit}
+use Rattle.rational.proofs.Order.{le_or_lt, lt_or_same_or_gt, le_trans, le_of_lt, le_refl, lt_of_le_of_lt, lt_of_lt_of_le, same_sym, not_lt_of_le}
 
 -- a time that is later than neither is the later of the two
 record IsLaterOf (a b c : Rational) : Type 0 where

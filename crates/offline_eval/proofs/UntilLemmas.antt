@@ -1,15 +1,15 @@
 -- Until and since over a window, composed of windows and of until to the end and since from the start.
-use Rattle.std.proofs.Common.{◌≡◌, ◌⊎◌, inl, inr, ℕ, ℤ, pos, neg_ℤ, ◌+◌, ◌≤◌, ◌<◌, ◌^◌, ◌-ℤ◌, ◌+ℤ◌, ◌≤ℤ◌, Bool, true, false, List, refl, sym, subst, arith}
-use Rattle.std.specs.Prelude.{Option, Some, None, IfSome, IsTrue}
+use Rattle.std.proofs.Common.{◌≡◌, ◌⊎◌, inl, inr, ℕ, ℤ, pos, neg_ℤ, ◌≤◌, ◌^◌, ◌≤ℤ◌, Bool, true, false, List, refl, sym, subst, arith}
+use Rattle.std.specs.Prelude.{Option, Some, IfSome, IsTrue}
 use Rattle.std.proofs.lemmas.Int.{ints}
-use Rattle.rational.specs.Time.{Rational, Within, whole, ◌≤ʳ◌, ◌<ʳ◌, ◌≈◌}
-use Rattle.rational.specs.Extended.{Extended, ◌≤ᵉ◌, ◌<ᵉ◌, ◌≈ᵉ◌, Affine, IsSup, IsLeast}
+use Rattle.rational.specs.Time.{Rational, Within, ◌≈◌}
+use Rattle.rational.specs.Extended.{Extended, ◌≤ᵉ◌, ◌<ᵉ◌, ◌≈ᵉ◌, Affine, IsSup}
 use Rattle.rational.specs.Affine.{IsBounded}
 use Rattle.rational.specs.Windows.{Function, Window, Ahead, Behind, IsSupOver, IsInfOver, IsUntil, IsSince, UntilToEnd, SinceFromStart, IsUpTo, IsDownTo}
 use Rattle.rational.specs.InPlay.{until_end, since_start, window_ahead, window_behind}
 use Rattle.rational.proofs.Order.{le_trans, le_of_same, ge_of_same, lt_of_le_of_lt, same_refl, same_sym, same_trans}
 use Rattle.rational.proofs.ExtendedLemmas.{le_totalᵉ, clashᵉ}
-use Rattle.rational.proofs.WindowLemmas.{sup_alike, inf_alike}
+use Rattle.rational.proofs.WindowLemmas.{sup_alike}
 use Rattle.pl_signal.specs.declared.knot.Knot.{Knot}
 use Rattle.pl_signal.specs.declared.faults.OpFault.{OpFault}
 use Rattle.pl_signal.specs.Knots.{start, stop, HasShape, IsWorth, IsSignal}
@@ -19,7 +19,6 @@ use Rattle.pl_signal.specs.Wide.{HasCause}
 use Rattle.pl_signal.proofs.Values.{every_time, worth_same, worth_within}
 use Rattle.signal_ops.specs.Pointwise.{LeastOf, IsFault}
 use Rattle.window_ops.specs.Windows.{SupAhead, InfAhead, SupBehind, InfBehind}
-use Rattle.window_ops.specs.Conditions.{AreNear, BasesAhead, BasesBehind}
 use Rattle.until_ops.specs.Composition.{HasUntilToEnd, HasSinceFromStart, UntilIsComposed, SinceIsComposed}
 use Rattle.until_ops.specs.Untils.{BasesOfTwo, UntilOf, SinceOf, UntilStep, SinceStep}
 use Rattle.stl_syntax.specs.Formula.{Subformula, until, since}

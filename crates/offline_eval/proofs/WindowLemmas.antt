@@ -1,16 +1,15 @@
 -- The Sup and the Inf over a window of a signal, as functions over the domain of a setting.
-use Rattle.std.proofs.Common.{◌≡◌, ◌⊎◌, inl, inr, ℕ, ℤ, pos, ◌+◌, ◌≤◌, ◌<◌, ◌^◌, ◌-ℤ◌, ◌+ℤ◌, Bool, List, sym, subst, arith}
+use Rattle.std.proofs.Common.{◌≡◌, ◌⊎◌, inl, inr, ℕ, ℤ, pos, ◌≤◌, ◌^◌, ◌-ℤ◌, ◌+ℤ◌, Bool, List, arith}
 use Rattle.std.specs.Prelude.{Option, Some, None, IfSome, IsTrue}
 use Rattle.std.proofs.lemmas.Int.{ints}
 use Rattle.rational.specs.Time.{Rational, Within, ◌<ʳ◌, ◌≈◌}
 use Rattle.rational.specs.Extended.{Extended, Affine}
 use Rattle.rational.specs.Affine.{IsBounded}
-use Rattle.rational.specs.Windows.{Function, Window, Ahead, Behind, IsSupOver, IsInfOver, IsUntil, IsSince, UntilToEnd, SinceFromStart, IsUpTo, IsDownTo}
+use Rattle.rational.specs.Windows.{Function, Window, Ahead, Behind, IsSupOver, IsInfOver}
 use Rattle.rational.specs.InPlay.{Step, window_ahead, window_behind, IsInPlay}
 use Rattle.rational.proofs.Order.{le_trans, le_of_same, ge_of_same, same_sym}
 use Rattle.rational.proofs.WindowLemmas.{sup_alike, inf_alike}
 use Rattle.pl_signal.specs.declared.knot.Knot.{Knot}
-use Rattle.pl_signal.specs.declared.faults.WidePair.{WidePair}
 use Rattle.pl_signal.specs.declared.faults.WidePair.TheVariants.{Cross, Value}
 use Rattle.pl_signal.specs.declared.faults.OpFault.{OpFault}
 use Rattle.pl_signal.specs.declared.faults.OpFault.TheVariants as F
@@ -27,7 +26,7 @@ use Rattle.stl_syntax.specs.WideCause.{IsStepOf}
 use Rattle.stl_syntax.specs.Limits.{reach_of_bound}
 use Rattle.stl_syntax.specs.WellFormed.{IsInOrder}
 use Rattle.offline_eval.specs.Making.{IsFaultOf}
-use Rattle.offline_eval.proofs.Along.{AgreeOn, tells_along, within_same_ends}
+use Rattle.offline_eval.proofs.Along.{tells_along, within_same_ends}
 use Rattle.offline_eval.proofs.Bounds.{sup_bounded, inf_bounded}
 use Rattle.offline_eval.proofs.Limits.{values_bounded}
 use Rattle.offline_eval.proofs.Sound.{IsMovedBy}

@@ -1,11 +1,10 @@
-use Rattle.std.proofs.Common.{◌≤◌, ℕ, Some, arith}
+use Rattle.std.proofs.Common.{◌≤◌, ℕ, arith}
 use Rattle.std.proofs.lemmas.Result.{IfOk-weaker, IfErr-weaker}
 use Rattle.rational.proofs.Order.{same_trans, same_sym}
 use Rattle.pl_signal.specs.Limits.{IsLimited}
-use Rattle.stl_syntax.specs.Limits.{reach_of_bound}
 use Rattle.offline_eval.proofs.Pointwise.{ok_both, err_same, least_of_bounded}
 use Rattle.offline_eval.proofs.Sound.{limited_along, stay_sound}
-use Rattle.offline_eval.proofs.WindowLemmas.{sup_over_bounded, inf_over_bounded, ahead_from, in_order, reach_of_order}
+use Rattle.offline_eval.proofs.WindowLemmas.{sup_over_bounded, inf_over_bounded, ahead_from}
 use Rattle.offline_eval.proofs.UntilLemmas.{to_end_fit, composed_moved, has_to_end, until_in, until_within_fault, to_end_fault, until_kept_fault, until_least_fault}
 use Rattle.offline_eval.proofs.untils.bounded_until.Goals as goal
 

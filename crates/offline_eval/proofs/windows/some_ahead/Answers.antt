@@ -1,9 +1,8 @@
-use Rattle.std.proofs.Common.{◌≡◌, sym, subst}
+use Rattle.std.proofs.Common.{sym, subst}
 use Rattle.std.proofs.lemmas.Result.{IfOk-weaker, IfErr-weaker}
 use Rattle.rational.specs.Windows.{Ahead, IsSupOver}
 use Rattle.pl_signal.specs.Moves.{Tells}
 use Rattle.stl_syntax.specs.Formula.{eventually}
-use Rattle.stl_syntax.specs.Limits.{reach_of_bound}
 use Rattle.stl_syntax.specs.SupInf.{SupInf}
 use Rattle.offline_eval.proofs.Sound.{stays_sound, limited_along}
 use Rattle.offline_eval.proofs.Pointwise.{ok_both}
