@@ -4,3 +4,7 @@ pub mod Parts
 pub mod Spans
 pub mod Tops
 pub mod Fractions
+pub mod SignalLaw
+pub mod Spellings
+pub mod Lines
+pub mod Advances

@@ -4,3 +4,6 @@ pub mod Report
 pub mod Units
 pub mod Appended
 pub mod Numbers
+pub mod SignalVerdicts
+pub mod Spelling
+pub mod Laws

@@ -1,9 +1,13 @@
 //! The texts of verdicts, margins and explanations.
 #![tactic(auto)]
 
+pub mod laws;
 mod number;
+mod signal;
+mod spelling;
 mod verdict;
 
+pub use signal::put_verdicts;
 pub use verdict::{put_start, put_verdict};
 
 #[cfg(test)]

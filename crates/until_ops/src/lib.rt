@@ -1,7 +1,10 @@
 //! `until` and `since` over signals.
 #![tactic(auto)]
 
+mod course;
 pub mod laws;
-mod untils;
+mod since;
+mod until;
 
-pub use untils::{since_from_start, until_to_end};
+pub use since::since_from_start;
+pub use until::until_to_end;
