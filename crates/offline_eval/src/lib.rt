@@ -2,8 +2,13 @@
 #![tactic(auto)]
 
 mod atoms;
+mod connectives;
 mod evaluation;
 mod faults;
+pub mod laws;
+mod nodes;
+mod untils;
+mod windows;
 
 pub use atoms::Atoms;
 pub use evaluation::{Evaluated, eval};
