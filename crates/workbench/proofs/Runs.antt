@@ -12,17 +12,15 @@ use Rattle.stl_grammar.specs.FormulaRefusals.{IsFormulaOf, IsFormulaFault}
 use Rattle.stl_grammar.proofs.LawProofs.{one_formula}
 use Rattle.report.specs.Report.{Out, check}
 use Rattle.workbench.specs.Words.{AskCheck}
-use Rattle.workbench.specs.NotBuilt.{IsTimed, IsBuilt, IsNotBuilt}
 use Rattle.workbench.specs.InputFaults.{Fault, fault_text, whole_limits, IsInputFault}
 use Rattle.workbench.specs.Answers.{HoldsAtStart, IsJudged}
 use Rattle.workbench.specs.Cases.{IsFault}
 use Rattle.workbench.specs.Reading.{IsRead, IsReadWhole, IsReadFault, IsReadInPart, IsWhole, IsSound, IsStop}
 use Rattle.workbench.specs.Writing.{IsPartWritten}
-use Rattle.workbench.specs.Run.{IsAskedFor, HasBadText, AreNoForm, AskForBad, AskFor, Took, Got, IsChecked, IsCutOff, IsBadRightly, IsBadWhereDue, IsRefusedRightly, IsRefusedWhereDue, IsAnsweredWhereDue, IsAnsweredRightly, IsCutOffRightly, check_usage, IsErrLine, nothing, no_form, bad_text, first_fault, unread, unwritten, no_memory, IsMessage, IsToldRightly, IsSaid, whole, part, IsWrittenWith, all_of_it, a_part, IsEnding, judged, stopped, status_of, status_of_stop, IsEndLine, IsStopLine, EndsSoundly, IsBadEnd, refused, no_room, IsRun, no_words, no_formula, checked}
+use Rattle.workbench.specs.Run.{AreNoForm, AskForBad, AskFor, Took, Got, IsChecked, IsCutOff, IsBadRightly, IsBadWhereDue, IsRefusedRightly, IsRefusedWhereDue, IsAnsweredWhereDue, IsAnsweredRightly, IsCutOffRightly, check_usage, IsErrLine, nothing, no_form, bad_text, first_fault, unread, unwritten, no_memory, IsMessage, IsToldRightly, IsSaid, whole, part, IsWrittenWith, all_of_it, a_part, IsEnding, judged, stopped, status_of, status_of_stop, IsEndLine, IsStopLine, EndsSoundly, IsBadEnd, refused, no_room, IsRun, no_words, no_formula, checked}
 use Rattle.workbench.specs.declared.case.Case.{Case}
 use Rattle.workbench.specs.declared.fault.Stop.{Stop}
 use Rattle.workbench.specs.declared.fault.Stop.TheVariants.{Fault as Faulty, Unread, Unwritten, NoMemory}
-use Rattle.workbench.proofs.Columns.{All-get}
 use Rattle.workbench.proofs.FaultsStay.{unsound}
 
 -- words ask for one text
@@ -33,17 +31,11 @@ one_text {words} {text} {other} a b = let e = sym a ∙ b in cc
 pub ask_once : {words : List (List ℕ)} {f g : Formula} → AskFor words f → AskFor words g → f ≡ g
 ask_once {words} {f} {g} a b =
     let same = one_text a.form b.form in
-    one_formula b.text f g (subst (λ t. FormulaText t f) same a.is.is.read) b.is.is.read
+    one_formula b.text f g (subst (λ t. FormulaText t f) same a.is.read) b.is.read
 
 -- a text that is refused asks for no formula
 pub not_both : {words : List (List ℕ)} {f : Formula} {line : List ℕ} → AskFor words f → ¬ AskForBad words line
-not_both {words} {f} {line} a b = by_bad b.bad (subst (λ t. IsAskedFor t f) (one_text a.form b.form) a.is)
-  where
-    by_bad : HasBadText b.text line → IsAskedFor b.text f → ⊥
-    by_bad (inl (r, fault, e)) is = is.is.sound r fault
-    by_bad (inr (g, i, of, first, e)) is =
-        let same = one_formula b.text f g is.is.read of.read in
-        All-get (λ n. ¬ IsTimed n) g.nodes i first.node (subst (λ (h : Formula). IsBuilt h) same is.built) first.at first.is
+not_both {words} {f} {line} a b = let (r, fault, e) = b.bad in (subst (λ t. IsFormulaOf t f) (one_text a.form b.form) a.is).sound r fault
 
 -- told bytes that were taken are those that were consumed
 pub took_is : {before after : Option (List ℕ)} {bytes read : List ℕ} → Took before after bytes → Consumes before after read → read ≡ bytes

@@ -16,13 +16,13 @@ returns-in-Ok-clause-ran g c =
       told.0,
       checked_run (map string_bytes c.args.words.now) (g.S.Source.left c.args.input.now) (g.S.Source.left c.check-ending.new.input) (g.S.Source.ended c.check-ending.new.input)
       (g.K.Sink.written c.args.out.now) (g.K.Sink.written c.check-ending.new.out) c.in-Ok.formula c.check-ending.result c.finish.result told.0 c.finish.ensures.status
-      (record { text = c.in-Some.text.now; form = c.in-Some.ensures; is = c.in-Ok.ensures }) c.check-ending.ensures.ending told.1,
+      (record { text = c.in-Some.text.now; form = c.in-Some.ensures; is = c.in-Ok.ensures.ok }) c.check-ending.ensures.ending told.1,
       told.2,
     )
 
 pub returns-in-Err-clause-ran : goal.returns-in-Err-clause-ran
 returns-in-Err-clause-ran g c =
-    let told = c.refuse.ensures.ended c.in-Some.text.now c.in-Err.ensures in
+    let told = c.refuse.ensures.ended c.in-Some.text.now c.in-Err.ensures.fault in
     (told.0, no_formula c.in-Some.text.now c.in-Some.ensures told.1, told.2)
 
 pub returns-in-Err-clause-read : goal.returns-in-Err-clause-read
