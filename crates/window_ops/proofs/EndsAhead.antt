@@ -13,13 +13,13 @@ use Rattle.rational.proofs.Order.{le_refl, le_trans, le_of_lt, ge_of_same, same_
 use Rattle.rational.proofs.AffineLemmas.{same_reflᵉ, same_symᵉ}
 use Rattle.rational.proofs.Shift.{le_shift}
 use Rattle.rational.proofs.TimeLemmas.{same_later, later-add}
+use Rattle.rational.proofs.Mixed.{within_same}
 use Rattle.pl_signal.specs.declared.knot.Knot.{Knot}
 use Rattle.pl_signal.specs.Knots.{start, stop, HasShape, IsSignal, IsWorth}
 use Rattle.pl_signal.proofs.Values.{to_stop}
 use Rattle.pl_signal.specs.Limits.{IsLimited}
 use Rattle.pl_signal.specs.Moves.{Tells, BasesFrom}
 use Rattle.pl_signal.proofs.Telling.{IsFunction}
-use Rattle.pl_signal.proofs.Moving.{within_same}
 use Rattle.window_ops.proofs.EndsLimited.{HasBounded, limited}
 
 -- a bound that is read as a signed number

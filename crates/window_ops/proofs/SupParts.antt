@@ -8,9 +8,9 @@ use Rattle.rational.specs.Extended.{Extended, Affine, Passes, value_at, ◌≤�
 use Rattle.rational.specs.Windows.{Function, Ahead, IsSupOver}
 use Rattle.rational.specs.InPlay.{IsLineOn, IsLeftLimit, IsRightLimit}
 use Rattle.rational.proofs.Order.{le_or_lt, lt_or_same_or_gt, le_refl, le_of_lt, lt_trans, lt_of_lt_of_le, lt_of_le_of_lt, not_lt_of_le, le_of_same, same_refl, same_sym}
-use Rattle.rational.proofs.ExtendedLemmas.{le_reflᵉ, le_transᵉ}
+use Rattle.rational.proofs.ExtendedLemmas.{le_reflᵉ, le_transᵉ, lt_of_lt_of_leᵉ}
 use Rattle.rational.proofs.AffineLemmas.{same_reflᵉ, lies_between, near_start, near_stop}
-use Rattle.rational.proofs.Sups.{lt_of_lt_of_leᵉ, sup_of_union}
+use Rattle.rational.proofs.Sups.{sup_of_union}
 use Rattle.rational.proofs.TimeLemmas.{precedes_of_lt, precedes_le}
 use Rattle.pl_signal.specs.declared.knot.Knot.{Knot}
 use Rattle.pl_signal.specs.Knots.{time, start, stop, IsSignal, IsWorth}

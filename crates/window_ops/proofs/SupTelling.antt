@@ -11,11 +11,11 @@ use Rattle.rational.proofs.Order.{le_or_lt, same_sym, same_trans}
 use Rattle.rational.proofs.ExtendedLemmas.{Sup-unique}
 use Rattle.rational.proofs.Sups.{sup_value_same}
 use Rattle.rational.proofs.WindowLemmas.{ahead_same, sup_over_alike}
+use Rattle.rational.proofs.Mixed.{within_same}
 use Rattle.pl_signal.specs.declared.knot.Knot.{Knot}
 use Rattle.pl_signal.specs.Knots.{HasShape, start, stop, IsSignal, IsWorth}
 use Rattle.pl_signal.specs.Limits.{IsLimited}
 use Rattle.pl_signal.specs.Moves.{BasesFrom, Tells}
-use Rattle.pl_signal.proofs.Moving.{within_same}
 use Rattle.pl_signal.proofs.Telling.{IsFunction, told}
 use Rattle.signal_ops.specs.Pointwise.{GreatestOf}
 use Rattle.window_ops.specs.Parts.{AtLowEnd, AtHighEnd, AmongKnots, IsAbout}

@@ -4,7 +4,7 @@ use Rattle.rational.proofs.ExtendedLemmas.{le_reflᵉ}
 use Rattle.pl_signal.specs.Knots.{time, IsWorth}
 use Rattle.pl_signal.proofs.Values.{shape_at}
 use Rattle.pl_signal.proofs.Moving.{limited_at, same_knot}
-use Rattle.signal_ops.proofs.Choices.{taken_of_less, taken_second}
+use Rattle.pl_signal.proofs.Choices.{taken_of_less, taken_second}
 use Rattle.window_ops.specs.Ends.{Beside}
 use Rattle.window_ops.proofs.EndsSups.{sup_with, point_at_knot}
 use Rattle.window_ops.proofs.ends.at_knot.Goals as goal

@@ -2,11 +2,12 @@ use Rattle.std.proofs.Common.{◌≡◌, ℕ, ◌+◌, ◌-◌, ◌^◌, length,
 use Rattle.std.specs.Prelude.{slice_get}
 use Rattle.rational.specs.Time.{◌≈◌}
 use Rattle.rational.proofs.Order.{same_refl, same_sym, le_of_same, lt_of_le_of_lt}
+use Rattle.rational.proofs.Mixed.{within_same}
 use Rattle.pl_signal.specs.declared.knot.Knot.{Knot}
 use Rattle.pl_signal.specs.Knots.{time, start, stop, IsWorth}
 use Rattle.pl_signal.proofs.Values.{shape_after, next_rises}
 use Rattle.pl_signal.proofs.Telling.{told}
-use Rattle.pl_signal.proofs.Moving.{limited_at, within_same, last_of, same_knot, only_ends, first_is}
+use Rattle.pl_signal.proofs.Moving.{limited_at, last_of, same_knot, only_ends, first_is}
 use Rattle.window_ops.specs.Ends.{Beside}
 use Rattle.window_ops.proofs.EndsSups.{beside_first, beside_on, beside_is_function, shapes_first, shapes_on}
 use Rattle.window_ops.proofs.ends.beside.Goals as goal

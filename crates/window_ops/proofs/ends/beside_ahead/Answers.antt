@@ -9,12 +9,12 @@ use Rattle.rational.specs.Windows.{Function}
 use Rattle.rational.proofs.Order.{le_refl, le_trans, le_of_same, ge_of_same, lt_of_lt_of_le, not_lt_of_le, same_sym, same_trans}
 use Rattle.rational.proofs.AffineLemmas.{same_reflᵉ}
 use Rattle.rational.proofs.TimeLemmas.{later_le}
+use Rattle.rational.proofs.Mixed.{fits_of_within, within_same}
 use Rattle.frac128.specs.Value.{value}
 use Rattle.pl_signal.specs.declared.knot.Knot.{Knot}
 use Rattle.pl_signal.specs.Knots.{start, stop, IsWorth}
 use Rattle.pl_signal.specs.Moves.{Tells, BasesFrom}
 use Rattle.pl_signal.proofs.Telling.{IsFunction}
-use Rattle.pl_signal.proofs.Moving.{fits_of_within, within_same}
 use Rattle.window_ops.specs.Ends.{Beside}
 use Rattle.window_ops.proofs.EndsLimited.{bounded_same}
 use Rattle.window_ops.proofs.EndsSups.{beside_is_function, beside_bounded, beside_after}

@@ -2,11 +2,12 @@ use Rattle.std.proofs.Common.{◌≡◌, ◌⊎◌, ◌^◌, List, inr, false, s
 use Rattle.rational.specs.Rational.{IsOrder}
 use Rattle.rational.specs.Time.{◌<ʳ◌}
 use Rattle.rational.proofs.Order.{same_sym, le_of_same, lt_of_le_of_lt, same_refl}
+use Rattle.rational.proofs.Mixed.{within_same}
 use Rattle.frac128.specs.Value.{value}
 use Rattle.pl_signal.specs.declared.knot.Knot.{Knot}
 use Rattle.pl_signal.specs.Knots.{start, stop, HasShape, IsWorth}
 use Rattle.pl_signal.specs.Moves.{Tells}
-use Rattle.pl_signal.proofs.Moving.{limited_stop, within_same}
+use Rattle.pl_signal.proofs.Moving.{limited_stop}
 use Rattle.window_ops.specs.Ends.{Beside}
 use Rattle.window_ops.proofs.EndsSups.{beside_beyond, told_to, same_of_order, shapes_on}
 use Rattle.window_ops.proofs.ends.beside_until.Goals as goal

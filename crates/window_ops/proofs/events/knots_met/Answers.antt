@@ -1,8 +1,8 @@
 use Rattle.std.proofs.Common.{◌-◌, subst, arith}
+use Rattle.pl_signal.proofs.ReadingLemmas.{earlier}
 use Rattle.rational.specs.Time.{◌≈◌, later}
 use Rattle.rational.proofs.Order.{le_trans, ge_of_same, lt_of_lt_of_le, le_of_same, same_trans}
 use Rattle.frac128.specs.Value.{value}
-use Rattle.pl_signal.proofs.Reading.{earlier}
 use Rattle.window_ops.proofs.MiddlePassing.{start_in_domain, met_before, met_all}
 use Rattle.window_ops.proofs.events.knots_met.Goals as goal
 

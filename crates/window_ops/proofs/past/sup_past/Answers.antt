@@ -4,10 +4,10 @@ use Rattle.rational.specs.Time.{Rational, ◌≤ʳ◌}
 use Rattle.rational.specs.Windows.{Ahead}
 use Rattle.rational.specs.InPlay.{window_ahead, window_behind}
 use Rattle.rational.proofs.Order.{le_trans, le_of_lt, le_of_same, ge_of_same, lt_of_le_of_lt, same_sym, same_trans}
+use Rattle.rational.proofs.Mixed.{within_same}
 use Rattle.pl_signal.specs.Knots.{start, stop, IsWorth}
 use Rattle.pl_signal.specs.Moves.{Tells}
 use Rattle.pl_signal.specs.Wide.{HasCause}
-use Rattle.pl_signal.proofs.Moving.{within_same}
 use Rattle.window_ops.specs.Conditions.{BasesBehind}
 use Rattle.window_ops.specs.Windows.{SupBehind}
 use Rattle.window_ops.specs.Mirrored.{mirrored}
