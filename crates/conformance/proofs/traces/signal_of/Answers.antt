@@ -1,6 +1,6 @@
-use Rattle.std.proofs.Common.{◌≡◌, ◌∙◌, ap, Some}
+use Rattle.std.proofs.Common.{◌∙◌, ap, Some}
 use Rattle.stl_syntax.specs.declared.node.Node.{Node}
-use Rattle.conformance.proofs.signal_tests.signal_of.Goals as goal
+use Rattle.conformance.proofs.traces.signal_of.Goals as goal
 
 pub atom_signal-requires-clause-atom : goal.atom_signal-requires-clause-atom
 atom_signal-requires-clause-atom g c =

@@ -1,7 +1,7 @@
 use Rattle.std.proofs.Common.{◌≡◌, ◌-◌, ◌∙◌, suc, [], sym, length, arith}
 use Rattle.stl_syntax.specs.Trace.{Row}
 use Rattle.atom_lines.proofs.GrowingLemmas.{last_time_at}
-use Rattle.conformance.proofs.signal_tests.last_of.Goals as goal
+use Rattle.conformance.proofs.traces.last_of.Goals as goal
 
 pub returns : goal.returns
 returns c =
