@@ -1,7 +1,7 @@
 -- What a column is at the time of a row, and on the gap between two neighbouring rows.
-use Rattle.std.proofs.Common.{◌≡◌, ℕ, zero, suc, ℤ, pos, ◌+◌, ◌-◌, ◌*◌, ◌<◌, ◌≤◌, ◌-ℤ◌, Bool, true, false, List, [], ◌∷◌, length, get_or, Some, None, if◌then◌else◌, refl, sym, ap, subst, ◌∙◌, arith}
-use Rattle.std.specs.Prelude.{slice_get, bytes_eq, ◌≢◌}
-use Rattle.std.proofs.lemmas.Bool.{true≢false, false_from_ne_true}
+use Rattle.std.proofs.Common.{◌≡◌, ℕ, zero, suc, ℤ, pos, ◌+◌, ◌-◌, ◌*◌, ◌<◌, ◌≤◌, ◌-ℤ◌, Bool, true, false, List, [], ◌∷◌, length, get_or, Some, if◌then◌else◌, sym, ap, subst, ◌∙◌, arith}
+use Rattle.std.specs.Prelude.{slice_get, bytes_eq}
+use Rattle.std.proofs.lemmas.Bool.{false_from_ne_true}
 use Rattle.std.proofs.lemmas.Option.{same_Some}
 use Rattle.std.proofs.lemmas.Slice.Eq.{bytes_eq-Decides}
 use Rattle.rational.specs.Time.{Rational, ◌≤ʳ◌, ◌<ʳ◌, ◌≈◌, whole}
@@ -10,7 +10,7 @@ use Rattle.rational.specs.Line.{at}
 use Rattle.rational.proofs.Mixed.{parts}
 use Rattle.rational.proofs.Order.{le_trans, lt_of_le_of_lt, le_of_same, ge_of_same, same_refl, same_sym, same_trans}
 use Rattle.rational.proofs.Lines.{same_at}
-use Rattle.atom_lines.proofs.Multiples.{on_way, passed, way_starts}
+use Rattle.rational.proofs.Ways.{on_way, passed, way_starts}
 use Rattle.rational.proofs.TimeLemmas.{less_in, less_no}
 use Rattle.stl_syntax.specs.Trace.{Column, Row, Trace, AreRows, AreRowsAfter, row_time, value, line_between, piece, value_from, column_value, value_among, value_of}
 use Rattle.atom_lines.specs.Binding.{IsColumn}

@@ -1,26 +1,22 @@
 -- Where an atom's sum passes 0 on a gap, and its sign elsewhere.
-use Rattle.std.proofs.Common.{◌≡◌, ◌≢◌, ℕ, zero, suc, ℤ, pos, negsuc, ◌+◌, ◌-◌, ◌*◌, ◌<◌, ◌≤◌, ◌^◌, ◌+ℤ◌, ◌-ℤ◌, ◌<ℤ◌, ◌≤ℤ◌, ◌⊎◌, inl, inr, Bool, refl, sym, ap, subst, ◌∙◌, arith}
+use Rattle.std.proofs.Common.{◌≡◌, ◌≢◌, ℕ, zero, suc, ℤ, pos, negsuc, ◌+◌, ◌-◌, ◌*◌, ◌<◌, ◌+ℤ◌, ◌-ℤ◌, ◌<ℤ◌, ◌≤ℤ◌, ◌⊎◌, inl, inr, Bool, refl, sym, ap, subst, arith}
 use Rattle.std.specs.Int.RustNames.{unsigned_abs}
 use Rattle.std.proofs.lemmas.Int.{ints}
 use Rattle.std.proofs.Math.Nat.{zero-lt-suc, sub-pos_iff_lt}
 use Rattle.std.specs.declared.cmp.Ordering.{Ordering}
 use Rattle.std.specs.declared.cmp.Ordering.TheVariants.{Less, Equal, Greater}
-use Rattle.rational.specs.Rational.{Rational, ◌≤ʳ◌, ◌<ʳ◌, ◌≈◌, add, whole, ratio, fraction, IsOrder, part_above, part_below}
-use Rattle.rational.specs.Line.{Line, at, ramp_line, Rises, Falls}
+use Rattle.rational.specs.Rational.{Rational, ◌<ʳ◌, ◌≈◌, add, whole, ratio, fraction, IsOrder, part_above, part_below}
+use Rattle.rational.specs.Line.{at, Rises, Falls}
 use Rattle.rational.proofs.Mixed.{parts}
-use Rattle.rational.proofs.Order.{le_of_same, ge_of_same, le_trans, lt_of_lt_of_le, lt_of_le_of_lt, same_trans, same_sym, same_refl}
+use Rattle.rational.proofs.Order.{le_of_same, ge_of_same, le_trans, lt_of_lt_of_le, lt_of_le_of_lt, same_trans, same_refl}
 use Rattle.rational.proofs.Shift.{le_whole, lt_whole}
 use Rattle.rational.proofs.Lines.{same_at, lt_at, lt_at_falls, lt_at_cancel, root_at, root_at_falls, at_ramp_base, at_ramp_end}
-use Rattle.atom_lines.proofs.Ramps.{lt_at_cancel_falls}
-use Rattle.atom_lines.proofs.Between.{above_between, below_between, level_between}
-use Rattle.frac128.specs.Value.{value, denominator}
-use Rattle.frac128.specs.declared.frac.Frac.{Frac}
+use Rattle.rational.proofs.Lines.{lt_at_cancel_falls}
+use Rattle.rational.proofs.Between.{above_between, below_between, level_between}
 use Rattle.stl_syntax.specs.Truth.{compares}
 use Rattle.stl_syntax.specs.declared.rel.Rel.{Rel}
-use Rattle.value_laws.specs.declared.truth.Truth.{Truth}
 use Rattle.atom_lines.specs.declared.gap.Gap.{Gap}
 use Rattle.atom_lines.specs.Gaps.{along, Passes}
-use Rattle.atom_lines.specs.Pieces.{IsSplit}
 use Rattle.atom_lines.proofs.Signs.{compare_alike, compare_apart}
 
 -- two whole numbers on one side of 0

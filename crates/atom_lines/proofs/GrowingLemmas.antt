@@ -1,17 +1,17 @@
 -- How a signal of an atom grows over the gaps of a trace.
-use Rattle.std.proofs.Common.{◌≡◌, ℕ, zero, suc, ℤ, pos, nat_abs, ◌+◌, ◌-◌, ◌<◌, ◌≤◌, ◌^◌, ◌≤ℤ◌, ◌<ℤ◌, ◌-ℤ◌, ◌⊎◌, inl, inr, Bool, true, false, List, [], ◌∷◌, length, get_or, Some, refl, sym, ap, subst, ◌∙◌, arith}
+use Rattle.std.proofs.Common.{◌≡◌, ℕ, zero, suc, ℤ, pos, nat_abs, ◌<◌, ◌≤◌, ◌^◌, ◌<ℤ◌, ◌⊎◌, inl, inr, Bool, true, false, List, [], ◌∷◌, length, get_or, Some, refl, sym, subst, ◌∙◌, arith}
 use Rattle.std.specs.Prelude.{slice_get, IsTrue}
 use Rattle.std.proofs.lemmas.Int.{ints}
 use Rattle.std.proofs.lemmas.Option.{slice_get-get_or}
-use Rattle.rational.specs.Time.{Rational, Within, ◌≤ʳ◌, ◌<ʳ◌, ◌≈◌, whole}
+use Rattle.rational.specs.Time.{Rational, ◌<ʳ◌, ◌≈◌, whole}
 use Rattle.rational.specs.Rational.{IsWithin}
 use Rattle.rational.specs.Line.{at}
 use Rattle.rational.specs.Extended.{Extended, Affine, value_at, Passes, finite, ◌≈ᵉ◌}
 use Rattle.rational.specs.Affine.{level}
-use Rattle.rational.specs.Windows.{Function}
-use Rattle.rational.proofs.Order.{le_of_same, ge_of_same, le_trans, lt_of_lt_of_le, lt_of_le_of_lt, lt_trans, same_trans, same_sym, same_refl, le_of_lt}
+use Rattle.rational.proofs.Order.{le_of_same, ge_of_same, le_trans, lt_of_lt_of_le, lt_of_le_of_lt, lt_trans, same_trans, same_sym, le_of_lt}
 use Rattle.rational.proofs.Shift.{lt_whole}
-use Rattle.rational.proofs.AffineLemmas.{same_reflᵉ, same_symᵉ, same_transᵉ}
+use Rattle.rational.proofs.Mixed.{within_same, within_whole}
+use Rattle.rational.proofs.AffineLemmas.{same_symᵉ, same_transᵉ, bounded_same}
 use Rattle.rational.proofs.LevelLemmas.{level_is}
 use Rattle.frac128.specs.Value.{value}
 use Rattle.frac128.specs.declared.frac.Frac.{Frac}
@@ -20,10 +20,9 @@ use Rattle.value_laws.specs.declared.truth.Truth.{Truth}
 use Rattle.value_laws.specs.declared.margin.Margin.{Margin}
 use Rattle.value_laws.specs.Margins.{is_ramp, margin_base, others_base}
 use Rattle.pl_signal.specs.declared.knot.Knot.{Knot}
-use Rattle.pl_signal.specs.Knots.{start, stop, HasShape, IsSignal, IsWorth}
+use Rattle.pl_signal.specs.Knots.{stop, HasShape, IsWorth}
 use Rattle.pl_signal.specs.Building.{GoesOn}
-use Rattle.pl_signal.specs.Moves.{Tells}
-use Rattle.pl_signal.proofs.Telling.{IsFunction, TellsSoFar, told}
+use Rattle.pl_signal.proofs.Telling.{IsFunction, told}
 use Rattle.stl_syntax.specs.Trace.{Row, Trace, IsTrace, AreRows, row_time, first_time, last_time}
 use Rattle.stl_syntax.specs.Trace as trace
 use Rattle.stl_syntax.specs.Truth.{compares, expression}
@@ -38,12 +37,13 @@ use Rattle.atom_lines.specs.Gaps.{along}
 use Rattle.atom_lines.specs.Rows.{row_of, values_at}
 use Rattle.atom_lines.specs.Sums.{reach}
 use Rattle.atom_lines.specs.Told.{Told, by_truth, worth, reading_of}
-use Rattle.atom_lines.specs.Growing.{IsRowBase, IsReach, GoesAlong, HasGrown}
+use Rattle.atom_lines.specs.Growing.{IsRowBase, GoesAlong, HasGrown}
 use Rattle.atom_lines.specs.AtomSignals.{IsAtomSignal}
 use Rattle.atom_lines.proofs.SumLemmas.{tied, expression_at_row, expression_along}
 use Rattle.rational.specs.Affine.{IsBounded}
-use Rattle.atom_lines.proofs.Limited.{bounded_equal, worth_bounded, along_within, limited}
-use Rattle.atom_lines.proofs.Tellings.{worth_same, gives, given, within_same, within_whole}
+use Rattle.atom_lines.proofs.Limited.{worth_bounded, along_within}
+use Rattle.pl_signal.proofs.Limits.{limited}
+use Rattle.atom_lines.proofs.Tellings.{worth_same, gives, given}
 
 -- a truth is worth what its comparison is
 pub truth_worth : (w : Truth) (rel : Rel) (y t : Rational) → compares rel y ≡ w.holds → value_at (level (truth_value w.holds)) t ≈ᵉ worth by_truth rel y
@@ -191,7 +191,7 @@ module _ {P : Type 0} (function : P → Affine) (base : P → ℤ) (told_as : To
 
       small : (t : Rational) (v : Extended) → IsWorth function (record { time = at; point = point; after = point } ∷ []) t v → IsBounded (2 ^ 31) v
       small t v (inl x) =
-          bounded_equal (2 ^ 31) v (worth told_as k.rel (whole from)) (same_transᵉ v (value_at (function point) t) (worth told_as k.rel (whole from)) x.worth (w t))
+          bounded_same (2 ^ 31) v (worth told_as k.rel (whole from)) (same_transᵉ v (value_at (function point) t) (worth told_as k.rel (whole from)) x.worth (w t))
           (worth_bounded told_as k.rel (whole from) (within_whole (2 ^ 31) from size))
       small t v (inr (inl x)) = absurd x
       small t v (inr (inr x)) = absurd x
@@ -225,8 +225,8 @@ module _ {P : Type 0} (function : P → Affine) (base : P → ℤ) (told_as : To
       small t v (inl w) = grown.small t v w
       small t v (inr (inl (low, high, w))) =
           let past : whole (pos g.first) <ʳ t = subst (λ m. whole (pos m) <ʳ t) (sym f) (lt_of_le_of_lt (ge_of_same grown.ends) low) in
-          bounded_equal (2 ^ 31) v (worth told_as k.rel (at (along g) t)) w (worth_bounded told_as k.rel (at (along g) t) (along_within g t past high))
-      small t v (inr (inr (when, w))) = bounded_equal (2 ^ 31) v (worth told_as k.rel (whole next)) w (worth_bounded told_as k.rel (whole next) (within_whole (2 ^ 31) next size))
+          bounded_same (2 ^ 31) v (worth told_as k.rel (at (along g) t)) w (worth_bounded told_as k.rel (at (along g) t) (along_within g t past high))
+      small t v (inr (inr (when, w))) = bounded_same (2 ^ 31) v (worth told_as k.rel (whole next)) w (worth_bounded told_as k.rel (whole next) (within_whole (2 ^ 31) next size))
 
       has : AreNeighbours tr (row_of tr n) (row_of tr r)
       has = (

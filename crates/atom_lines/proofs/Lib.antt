@@ -1,6 +1,3 @@
-pub mod Ramps
-pub mod Between
-pub mod Multiples
 pub mod TyingLemmas
 pub mod Columns
 pub mod SumLemmas

@@ -1,15 +1,16 @@
 -- The margin of an atom on a gap.
-use Rattle.std.proofs.Common.{◌≡◌, ℕ, zero, suc, ℤ, pos, negsuc, neg_ℤ, nat_abs, ◌+◌, ◌-◌, ◌*◌, ◌<◌, ◌≤◌, ◌-ℤ◌, refl, sym, ap, subst, ◌∙◌, arith}
+use Rattle.std.proofs.Common.{◌≡◌, ℕ, zero, suc, ℤ, pos, negsuc, neg_ℤ, nat_abs, ◌-◌, ◌<◌, ◌≤◌, ◌-ℤ◌, refl, sym, subst, ◌∙◌, arith}
 use Rattle.std.proofs.lemmas.Int.{ints}
 use Rattle.std.proofs.Math.Nat.{sub-pos_iff_lt}
-use Rattle.rational.specs.Rational.{Rational, ◌≈◌, negate, whole, part_above, part_below}
-use Rattle.rational.specs.Line.{Line, at, ramp_line, constant, Level}
+use Rattle.rational.specs.Rational.{Rational, ◌≈◌, negate, whole}
+use Rattle.rational.specs.Line.{at, ramp_line, constant, Level}
 use Rattle.rational.specs.Extended.{finite, ◌≈ᵉ◌}
 use Rattle.rational.proofs.Mixed.{parts}
 use Rattle.rational.proofs.Order.{same_trans, same_sym, same_refl}
 use Rattle.rational.proofs.Field.{same_negate}
 use Rattle.rational.proofs.Lines.{at_level, at_constant}
-use Rattle.atom_lines.proofs.Ramps.{same_ramp, negated_ramp}
+use Rattle.rational.proofs.Lines.{same_ramp}
+use Rattle.frac128.proofs.Moves.{negated as negated_ramp}
 use Rattle.rational.proofs.AffineLemmas.{finite_same}
 use Rattle.frac128.specs.Line.{line, base, base_value, rise_in_run, run_time}
 use Rattle.frac128.specs.declared.ramp.Ramp.{Ramp}

@@ -1,14 +1,14 @@
 -- An atom's sum, less its constant, at a row and on the gap between two rows.
-use Rattle.std.proofs.Common.{◌≡◌, ℕ, suc, ℤ, pos, ◌+◌, ◌-◌, ◌<◌, ◌+ℤ◌, ◌-ℤ◌, ◌*ℤ◌, Bool, true, false, List, [], ◌∷◌, length, Some, if◌then◌else◌, refl, sym, ap, subst, ◌∙◌, arith}
+use Rattle.std.proofs.Common.{◌≡◌, ℕ, ℤ, pos, ◌-◌, ◌<◌, ◌-ℤ◌, ◌*ℤ◌, Bool, true, false, List, [], ◌∷◌, length, Some, if◌then◌else◌, refl, sym, ap, subst, ◌∙◌, arith}
 use Rattle.std.specs.Prelude.{slice_get}
 use Rattle.std.proofs.lemmas.Option.{same_Some}
-use Rattle.rational.specs.Time.{Rational, ◌≤ʳ◌, ◌<ʳ◌, ◌≈◌, whole, add, subtract, times}
+use Rattle.rational.specs.Time.{Rational, ◌<ʳ◌, ◌≈◌, whole, subtract, times}
 use Rattle.rational.specs.Line.{at, ramp_line}
-use Rattle.rational.proofs.Order.{le_of_lt, le_of_same, same_refl, same_sym, same_trans}
+use Rattle.rational.proofs.Order.{le_of_lt, same_refl, same_sym, same_trans}
 use Rattle.rational.proofs.Field.{same_add, same_subtract}
 use Rattle.rational.proofs.TimeLemmas.{same_times}
-use Rattle.atom_lines.proofs.Multiples.{on_way, passed, way_starts, way_sum, way_times, way_less, way_ramp}
-use Rattle.stl_syntax.specs.Trace.{Column, Row, Trace, IsTrace, row_time, value, value_of, column_value, piece}
+use Rattle.rational.proofs.Ways.{on_way, passed, way_starts, way_sum, way_times, way_less, way_ramp}
+use Rattle.stl_syntax.specs.Trace.{Column, Row, Trace, IsTrace, row_time, value, value_of, piece}
 use Rattle.stl_syntax.specs.Truth.{sum_at, expression}
 use Rattle.stl_syntax.specs.declared.atom.Atom.{Atom}
 use Rattle.stl_syntax.specs.declared.atom.Term.{Term}
@@ -18,7 +18,7 @@ use Rattle.atom_lines.specs.Binding.{Binding, IsColumn, AreTied, IsAtomTied, IsF
 use Rattle.atom_lines.specs.Sums.{cell, sum_over, reach}
 use Rattle.atom_lines.specs.declared.gap.Gap.{Gap}
 use Rattle.atom_lines.specs.Gaps.{along}
-use Rattle.atom_lines.proofs.Ramps.{same_ramp}
+use Rattle.rational.proofs.Lines.{same_ramp}
 use Rattle.std.proofs.Math.Nat.{sub-pos_iff_lt}
 use Rattle.atom_lines.proofs.Columns.{value_at_row, value_in_gap, piece_on_way, value_of_name}
 

@@ -1,30 +1,24 @@
 -- What an atom is worth: the truth or the margin of its expression, as a trace gives it.
-use Rattle.std.proofs.Common.{◌≡◌, ℕ, ℤ, pos, neg_ℤ, nat_abs, ◌≤◌, ◌≤ℤ◌, ◌^◌, ◌⊎◌, inl, inr, Bool, true, false, refl, sym, ap, subst, ◌∙◌, arith}
+use Rattle.std.proofs.Common.{◌≡◌, ℕ, ◌⊎◌, inl, inr, Bool, true, false, refl, sym, subst, ◌∙◌}
 use Rattle.std.specs.Prelude.{IsTrue, IsFalse}
-use Rattle.std.proofs.lemmas.Bool.{true≢false, cases_eq}
-use Rattle.std.proofs.lemmas.Int.{ints}
+use Rattle.std.proofs.lemmas.Bool.{true≢false}
 use Rattle.rational.specs.Time.{Rational, ◌<ʳ◌, ◌≈◌, whole}
-use Rattle.rational.specs.Rational.{IsWithin}
 use Rattle.rational.specs.Line.{at}
-use Rattle.rational.specs.Extended.{Extended, minus_infinity, finite, infinity, ◌≈ᵉ◌}
-use Rattle.rational.specs.Affine.{IsBounded}
-use Rattle.rational.specs.Windows.{Function}
-use Rattle.rational.proofs.Order.{le_trans, lt_trans, lt_of_lt_of_le, lt_of_le_of_lt, le_of_same, ge_of_same, same_of_le, same_trans}
-use Rattle.rational.proofs.Shift.{le_whole}
-use Rattle.rational.proofs.AffineLemmas.{same_reflᵉ, same_symᵉ, same_transᵉ, finite_same}
+use Rattle.rational.specs.Extended.{Extended, finite, ◌≈ᵉ◌}
+use Rattle.rational.proofs.Order.{lt_trans, lt_of_lt_of_le, lt_of_le_of_lt, le_of_same, ge_of_same}
+use Rattle.rational.proofs.AffineLemmas.{same_reflᵉ, finite_same}
 use Rattle.value_laws.specs.Values.{truth_value}
-use Rattle.stl_syntax.specs.Trace.{Row, Trace, row_time}
-use Rattle.stl_syntax.specs.Truth.{compares, expression, holds_at}
-use Rattle.stl_syntax.specs.SupInf.{margin, Gives, one, minus_one}
+use Rattle.stl_syntax.specs.Trace.{Trace}
+use Rattle.stl_syntax.specs.Truth.{compares, expression}
+use Rattle.stl_syntax.specs.SupInf.{Gives, one, minus_one}
 use Rattle.stl_syntax.specs.declared.atom.Atom.{Atom}
 use Rattle.stl_syntax.specs.declared.rel.Rel.{Rel}
-use Rattle.stl_syntax.proofs.TruthLemmas.{same_expression}
 use Rattle.atom_lines.specs.declared.truth.TruthPiece.{TruthPiece}
 use Rattle.atom_lines.specs.declared.truth.TruthPiece.TheVariants.{Whole, Split}
 use Rattle.atom_lines.specs.Told.{Told, by_truth, by_margin, worth, reading_of}
 use Rattle.atom_lines.specs.Pieces.{TellsGap}
 use Rattle.atom_lines.proofs.Signs.{compare_same}
-use Rattle.atom_lines.proofs.Margins.{margin_same, margin_whole}
+use Rattle.atom_lines.proofs.Margins.{margin_same}
 
 -- what an atom is worth does not depend on the pair
 pub worth_same : (told : Told) (rel : Rel) {y z : Rational} → y ≈ z → worth told rel y ≈ᵉ worth told rel z
@@ -62,18 +56,3 @@ gap_same from to test other (Split before at point after) same h = record {
   turns = h.turns;
   small = h.small;
 }
-
--- a value is bounded where the number that it is is so
-pub bounded_same : (n : ℕ) (v : Extended) (x : Rational) → v ≈ᵉ finite x → IsWithin n x → IsBounded n v
-bounded_same n minus_infinity x e h = tt
-bounded_same n (finite y) x e h = let s : y ≈ x = same_of_le e.at_most e.at_least in (le_trans h.0 (ge_of_same s), le_trans (le_of_same s) h.1)
-bounded_same n infinity x e h = tt
-
-pub within_whole : (n : ℕ) (z : ℤ) → nat_abs z ≤ n → IsWithin n (whole z)
-within_whole n z h =
-    let low : neg_ℤ (pos n) ≤ℤ z = omega (arith, ints, h) in
-    let high : z ≤ℤ pos n = omega (arith, ints, h) in
-    (le_whole low, le_whole high)
-
-pub within_same : (n : ℕ) {x y : Rational} → x ≈ y → IsWithin n x → IsWithin n y
-within_same n e h = (le_trans h.0 (le_of_same e), le_trans (ge_of_same e) h.1)

@@ -1,8 +1,7 @@
 -- A formula's atoms with a header's columns in place of names, and which rows of a trace stand for them.
-use Rattle.std.specs.Prelude.{◌≡◌, ◌≢◌, ℕ, zero, suc, ◌<◌, ◌≤◌, nat_abs, Bool, List, [], ◌∷◌, length, Option, Some, None, All, slice_get}
+use Rattle.std.specs.Prelude.{◌≡◌, ◌≢◌, ℕ, zero, suc, Bool, List, [], ◌∷◌, length, Option, Some, slice_get}
 use Rattle.stl_syntax.specs.Trace.{Column, Row, Header, Trace, IsTrace}
 use Rattle.stl_syntax.specs.Formula.{Formula}
-use Rattle.stl_syntax.specs.Binding.{IsUnknown}
 use Rattle.stl_syntax.specs.declared.atom.Atom.{Atom}
 use Rattle.stl_syntax.specs.declared.atom.Term.{Term}
 use Rattle.stl_syntax.specs.declared.node.Node.TheVariants.{Atom as Leaf}

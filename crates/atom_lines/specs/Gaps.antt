@@ -1,5 +1,5 @@
 -- The gap between two rows, and an atom's sum, less its constant, on it.
-use Rattle.std.specs.Prelude.{◌≡◌, ◌-◌, ◌<◌, pos, ◌-ℤ◌, ◌⊎◌, ◌<ℤ◌}
+use Rattle.std.specs.Prelude.{◌-◌, pos, ◌-ℤ◌, ◌⊎◌, ◌<ℤ◌}
 use Rattle.std.proofs.Math.Nat.{sub-pos_iff_lt}
 use Rattle.rational.specs.Line.{Line, ramp_line}
 use Rattle.atom_lines.specs.declared.gap.Gap.{Gap}

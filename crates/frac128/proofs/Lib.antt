@@ -4,7 +4,7 @@ mod Making
 mod Rests
 mod Ratios
 mod Ahead
-mod Moves
+pub mod Moves
 mod Gaps
 mod RampGaps
 mod Meets

@@ -1,18 +1,8 @@
 -- A ramp that is negated, moved or turned over in time.
-use Rattle.std.proofs.Common.{◌≡◌, ℕ, ℤ, pos, negsuc, zero, suc, ◌-ℤ◌, neg_ℤ, ◌+◌, ◌*◌, ◌<◌, arith, refl, ap}
+use Rattle.std.proofs.Common.{◌≡◌, ℕ, ℤ, ◌-ℤ◌, neg_ℤ, ◌+◌, ◌*◌, ◌<◌, arith, ap}
 use Rattle.rational.specs.Rational.{Rational, part_above, part_below, whole, add, negate, subtract, ◌≈◌}
 use Rattle.rational.specs.Line.{ramp_line, at}
-use Rattle.rational.proofs.Mixed.{parts}
-
-above_neg : (z : ℤ) → part_above (neg_ℤ z) ≡ part_below z
-above_neg (pos zero) = refl
-above_neg (pos (suc n)) = refl
-above_neg (negsuc n) = refl
-
-below_neg : (z : ℤ) → part_below (neg_ℤ z) ≡ part_above z
-below_neg (pos zero) = refl
-below_neg (pos (suc n)) = refl
-below_neg (negsuc n) = refl
+use Rattle.rational.proofs.Mixed.{parts, above_neg, below_neg}
 
 pub negated : (t0 v0 rise t0' v0' rise' : ℤ) (run : ℕ) (p p' : 0 < run) (t : Rational) → t0' ≡ t0 → v0' ≡ neg_ℤ v0 → rise' ≡ neg_ℤ rise → at (ramp_line t0' v0' rise' run p') t ≈ negate (at (ramp_line t0 v0 rise run p) t)
 negated t0 v0 rise t0' v0' rise' run p p' t h j k = rw (h, j, k, above_neg v0, below_neg v0, above_neg rise, below_neg rise) (omega arith)

@@ -1,2 +1,4 @@
 pub mod Inputs
+pub mod Making
 pub mod Evaluation
+pub mod Places

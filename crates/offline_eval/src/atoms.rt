@@ -1,16 +1,17 @@
 //! The signals of a formula's atoms.
-ghost use Rattle.std.specs.Prelude.{◌≡◌, ◌∷◌, ◌++◌, [], OnOk, OnErr};
+ghost use Rattle.std.specs.Prelude.{◌≡◌, ◌<◌, ◌∷◌, ◌++◌, [], length, OnOk, OnErr};
 
 use frac128::Memory;
 use pl_signal::Signal;
 use std::alloc::Global;
+use std::collections::VecDeque;
 use std::marker::Model;
 use value_laws::Shape;
 
 /// One signal for each atom of a formula, in post-order. Contracts see it as the list of the signals.
 #[derive(Drop)]
 pub struct Atoms<P: Shape> {
-    signals: Vec<Signal<P>>,
+    signals: VecDeque<Signal<P>>,
 }
 
 impl<P: Shape> Model for Atoms<P> {
@@ -28,7 +29,7 @@ impl<P: Shape> Atoms<P> {
         ensures { result ≡ [] }
     {
         Atoms {
-            signals: Vec::new(alloc),
+            signals: VecDeque::new(alloc),
         }
     }
 
@@ -37,9 +38,19 @@ impl<P: Shape> Atoms<P> {
         ensures ok { OnOk result (self.new ≡ self.old ++ signal ∷ []) }
         ensures err { OnErr result (self.new ≡ self.old) }
     {
-        if self.signals.push(signal).is_err() {
+        if self.signals.push_back(signal).is_err() {
             return Err(Memory);
         }
         Ok(())
+    }
+    /// Takes out the first signal.
+    pub(crate) fn take(&mut self) -> Signal<P>
+        requires { 0 < length self.old }
+        ensures { self.old ≡ result ∷ self.new }
+    {
+        match self.signals.pop_front() {
+            Some(signal) => signal,
+            None => unreachable!(),
+        }
     }
 }

@@ -1,16 +1,21 @@
 //! The evaluation of a formula.
-ghost use Rattle.std.specs.Prelude.{◌≡◌, ◌+◌, ◌<◌, ◌≤◌, All, Some, slice_get, length, IfOk, IfErr};
+ghost use Rattle.std.specs.Prelude.{◌≡◌, ◌+◌, ◌<◌, ◌≤◌, All, Some, slice_get, length, OnOk, IfOk, IfErr};
 ghost use Rattle.stl_syntax.specs.SupInf.{Setting};
+ghost use Rattle.stl_syntax.specs.declared.atom.Atom.{Atom};
+ghost use Rattle.stl_syntax.specs.declared.node.Node.TheVariants.{Atom as Leaf};
 ghost use Rattle.offline_eval.specs.Inputs.{atoms_before, IsInput, IsOver, TellAtoms};
-ghost use Rattle.offline_eval.specs.Evaluation.{IsFault, TellNodes};
+ghost use Rattle.offline_eval.specs.Evaluation.{IsBuilt, IsFault, TellNodes};
+ghost use Rattle.offline_eval.specs.Making.{AreSound, fault_at};
+ghost use Rattle.offline_eval.specs.Places.{FaultOfPlace, PlaceStaysSound, TakesOwn, TellsPlace};
 
-use crate::{Atoms, EvalFault};
+use crate::nodes::of_node;
+use crate::{Atoms, EvalFault, WideCause};
 use frac128::Steps;
-use pl_signal::Signal;
+use pl_signal::{OpFault, Signal};
 use std::alloc::Global;
 use std::marker::Model;
 use std::sync::ledger::Ledger;
-use stl_syntax::Formula;
+use stl_syntax::{Formula, Node};
 use value_laws::Shape;
 
 /// The signal of each node of a formula. Contracts see it as the list of the signals, each at the place of its node.
@@ -38,6 +43,44 @@ impl<P: Shape> Evaluated<P> {
     }
 }
 
+/// The signal of the node at place `i`; that of an atom is the next of `atoms`.
+fn next_signal<P: Shape>(
+    alloc: Global,
+    formula: &Formula,
+    i: u32,
+    from: u32,
+    to: u32,
+    done: &[Signal<P>],
+    atoms: &mut Atoms<P>,
+) -> Result<Signal<P>, OpFault<P>>
+    requires order { from ≤ to }
+    requires inside { i < length formula.now.nodes }
+    requires built { IsBuilt formula.now.nodes }
+    requires place { length done.now ≡ i }
+    requires left { (a : Atom) → slice_get formula.now.nodes i ≡ Some (Leaf a) → 0 < length atoms.old }
+    requires inputs { AreSound P.function P.base from to 0 atoms.old }
+    requires sound { AreSound P.function P.base from to 4294967295 done.now }
+    ensures rest { OnOk result (TakesOwn formula.now.nodes i atoms.old atoms.new) }
+    ensures sound { IfOk result (PlaceStaysSound P.function P.base from to formula.now.nodes i done.now) }
+    ensures told { IfOk result (TellsPlace P.function P.lowest P.highest from to formula.now.nodes i atoms.old done.now) }
+    ensures wide { IfErr result (FaultOfPlace P.function P.lowest P.highest from to formula.now.nodes i done.now) }
+{
+    match formula.node(i) {
+        Node::Atom(_) => Ok(atoms.take()),
+        node => of_node(alloc, from, to, node, done),
+    }
+}
+
+/// The fault at its node.
+fn at_node<P>(node: u32, fault: OpFault<P>) -> EvalFault<P>
+    ensures { result ≡ fault_at node fault }
+{
+    match fault {
+        OpFault::Memory => EvalFault::Memory,
+        OpFault::Wide(pair) => EvalFault::Wide(WideCause { node, pair }),
+    }
+}
+
 /// The signal of each node of the formula, over the domain from `from` to `to`, both in ticks.
 ///
 /// In every setting over that domain in which the atoms' signals tell the atoms, each node's signal tells the sup-inf value of its
@@ -53,6 +96,7 @@ pub fn eval<P: Shape, L: Ledger>(
     requires order { from ≤ to }
     requires count { length atoms ≡ atoms_before formula.now.nodes (length formula.now.nodes) }
     requires inputs { All (IsInput P.function P.base from to) atoms }
+    requires built { IsBuilt formula.now.nodes }
     ensures count { IfOk result (λ r. length r ≡ length formula.now.nodes) }
     ensures told { IfOk result (λ r. (s : Setting) → IsOver P.lowest P.highest from to s
         → TellAtoms P.function formula.now.nodes atoms s → TellNodes P.function formula.now.nodes r s) }
@@ -60,8 +104,21 @@ pub fn eval<P: Shape, L: Ledger>(
         → TellAtoms P.function formula.now.nodes atoms s → IsFault P.function formula.now.nodes s e) }
     ensures steps { steps.new ≡ steps.old + 1 }
 {
-    let _ = (alloc, formula.len(), from, to);
-    drop(atoms);
     steps.tick();
-    Err(EvalFault::Memory)
+    let mut rest = atoms;
+    let count = formula.len();
+    let Ok(mut done) = Vec::with_capacity(alloc, count as usize) else {
+        return Err(EvalFault::Memory);
+    };
+    for i in 0..count {
+        match next_signal(alloc, formula, i, from, to, &done, &mut rest) {
+            Ok(signal) => {
+                if done.push(signal).is_err() {
+                    return Err(EvalFault::Memory);
+                }
+            }
+            Err(fault) => return Err(at_node(i, fault)),
+        }
+    }
+    Ok(Evaluated { signals: done })
 }

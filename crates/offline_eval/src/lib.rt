@@ -2,8 +2,11 @@
 #![tactic(auto)]
 
 mod atoms;
+mod connectives;
 mod evaluation;
 mod faults;
+pub mod laws;
+mod nodes;
 
 pub use atoms::Atoms;
 pub use evaluation::{Evaluated, eval};

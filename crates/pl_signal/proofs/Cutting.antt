@@ -15,7 +15,7 @@ use Rattle.pl_signal.specs.Knots.{time, stop, HasShape, Each, IsWorth, NextIsNee
 use Rattle.pl_signal.specs.Cuts.{StandsFrom, IsCut}
 use Rattle.pl_signal.proofs.KnotLemmas.{each_end, replaced_end, worth_in, worth_end, shape_in, shape_front, shape_end, stop_end, some_in_end}
 use Rattle.pl_signal.proofs.BuildingLemmas.{ends_at}
-use Rattle.pl_signal.proofs.Reading.{IsReading, read_point, read_after, read_none}
+use Rattle.pl_signal.proofs.ReadingLemmas.{IsReading, read_point, read_after, read_none}
 use Rattle.pl_signal.proofs.Telling.{told_alike}
 use Rattle.pl_signal.proofs.Values.{start_first, stop_at, rising_places, worth_same}
 

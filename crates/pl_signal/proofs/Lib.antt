@@ -1,8 +1,12 @@
 pub mod KnotLemmas
 pub mod BuildingLemmas
 pub mod Values
-pub mod Reading
+pub mod ReadingLemmas
 pub mod Telling
 pub mod Cutting
 pub mod Moving
 pub mod SupLemmas
+pub mod Choices
+pub mod JoiningLemmas
+pub mod Places
+pub mod Limits

@@ -6,12 +6,12 @@ use Rattle.std.proofs.lemmas.Option.{slice_get_past, slice_get-get_or}
 use Rattle.std.proofs.lemmas.Int.{ints}
 use Rattle.std.specs.Prelude.{FitsSigned}
 use Rattle.std.proofs.Common.{le_of_mul-le-mul_right}
-use Rattle.rational.specs.Rational.{Rational, part_above, part_below, add, subtract, whole, FitsFloor, IsWithin}
+use Rattle.rational.specs.Rational.{Rational, part_above, part_below, add, subtract, whole, IsWithin}
 use Rattle.rational.specs.Time.{Within, ◌≤ʳ◌, ◌<ʳ◌, ◌≈◌}
 use Rattle.rational.specs.Extended.{Extended, Affine, value_at, ◌≈ᵉ◌}
 use Rattle.rational.proofs.Mixed.{parts}
 use Rattle.rational.proofs.Order.{le_trans, lt_of_lt_of_le, lt_of_le_of_lt, le_of_same, ge_of_same, same_refl, same_sym, same_trans}
-use Rattle.rational.proofs.Shift.{shift_back, le_shift, le_whole, lt_whole, lt_shift, same_shift}
+use Rattle.rational.proofs.Shift.{shift_back, le_shift, lt_shift, same_shift}
 use Rattle.rational.proofs.AffineLemmas.{same_symᵉ, same_transᵉ, value_same}
 use Rattle.frac128.specs.Value.{value}
 use Rattle.frac128.specs.declared.frac.Frac.{Frac}
@@ -22,16 +22,6 @@ use Rattle.pl_signal.specs.Building.{GoesOn}
 use Rattle.pl_signal.specs.Moves.{BasesFrom, Tells}
 use Rattle.pl_signal.proofs.Values.{next_rises, stop_at, worth_within, worth_at, worth_between, worth_same, one_value}
 use Rattle.pl_signal.proofs.Telling.{IsFunction, TellsSoFar, tells_on}
-
--- a number within 2^34 has a floor that fits
-pub fits_of_within : {a : Rational} → IsWithin (2 ^ 34) a → FitsFloor w64 a
-fits_of_within {a} h = (
-  le_trans (le_whole {j = neg_ℤ (pos (2 ^ 63))} {k = neg_ℤ (pos (2 ^ 34))} (record { le = tt })) h.0,
-  lt_of_le_of_lt h.1 (lt_whole {j = pos (2 ^ 34)} {k = pos (2 ^ 63)} (record { lt = tt })),
-)
-
-pub within_same : (n : ℕ) {a b : Rational} → a ≈ b → IsWithin n a → IsWithin n b
-within_same n e h = (le_trans h.0 (le_of_same e), le_trans (ge_of_same e) h.1)
 
 -- moved by z and back
 pub shift_forth : (t : Rational) (z : ℤ) → add (add t (whole (neg_ℤ z))) (whole z) ≈ t

@@ -1,109 +1,21 @@
 -- A signal has a Sup and an Inf over every interval.
-use Rattle.std.proofs.Common.{◌⊎◌, inl, inr, List, [], ◌∷◌, Bool, true, false}
-use Rattle.rational.specs.Time.{Rational, Within, Interval, IsIn, Precedes, ◌≤ʳ◌, ◌<ʳ◌, ◌≈◌}
-use Rattle.rational.specs.Extended.{Extended, minus_infinity, finite, infinity, ◌≤ᵉ◌, ◌<ᵉ◌, IsLeast, IsGreatest, IsSup, IsInf, Affine, Passes, value_at}
+use Rattle.std.proofs.Common.{◌⊎◌, inl, inr, List, [], ◌∷◌, false}
+use Rattle.rational.specs.Time.{Rational, Within, Interval, IsIn, ◌<ʳ◌, ◌≈◌}
+use Rattle.rational.specs.Extended.{Extended, ◌≤ᵉ◌, ◌<ᵉ◌, IsLeast, IsGreatest, IsSup, IsInf, Affine, Passes, value_at}
 use Rattle.rational.specs.Windows.{Window, IsSupOver, IsInfOver}
-use Rattle.rational.proofs.Order.{le_or_lt, le_refl, le_of_lt, le_of_same, ge_of_same, le_trans, lt_of_lt_of_le, lt_of_le_of_lt, not_lt_of_le, same_of_le, same_refl, same_sym, same_trans}
-use Rattle.rational.proofs.ExtendedLemmas.{le_totalᵉ, le_reflᵉ, le_transᵉ}
-use Rattle.rational.proofs.AffineLemmas.{same_reflᵉ, value_same, lies_between, near_start, near_stop, above_start, above_stop, lt_leᵉ}
-use Rattle.rational.proofs.TimeLemmas.{IsIn-same, precedes_le, precedes_of_lt}
-use Rattle.rational.proofs.Sups.{lt_of_le_of_ltᵉ, sup_of_none, inf_of_none, sup_of_union, inf_of_union, sup_same, inf_same}
+use Rattle.rational.proofs.Order.{le_or_lt, le_of_lt, le_of_same, ge_of_same, le_trans, lt_of_lt_of_le, lt_of_le_of_lt, same_of_le, same_refl, same_sym, same_trans}
+use Rattle.rational.proofs.ExtendedLemmas.{le_transᵉ, lt_of_lt_of_leᵉ, lt_of_le_of_ltᵉ, greatest_of, least_of}
+use Rattle.rational.proofs.AffineLemmas.{value_same, near_start, near_stop, above_start, above_stop, passes, at_most_an_end, at_least_an_end}
+use Rattle.rational.proofs.TimeLemmas.{IsIn-same, precedes_le, precedes_of_lt, decided_order, decided_in, IsLater, later_of, IsEarlier, earlier_of}
+use Rattle.rational.proofs.Sups.{sup_of_none, inf_of_none, sup_of_union, inf_of_union, sup_same, inf_same}
 use Rattle.pl_signal.specs.declared.knot.Knot.{Knot}
 use Rattle.pl_signal.specs.Knots.{time, IsInGap, IsWorth}
-
-le_of_ltᵉ : (v w : Extended) → v <ᵉ w → v ≤ᵉ w
-le_of_ltᵉ minus_infinity w h = tt
-le_of_ltᵉ (finite x) minus_infinity h = h
-le_of_ltᵉ (finite x) (finite y) h = le_of_lt h
-le_of_ltᵉ (finite x) infinity h = tt
-le_of_ltᵉ infinity w h = absurd h
-
--- of two values one is the greatest, and one the least
-pub greatest_of : (v w : Extended) → (r : Extended) × IsGreatest v w r
-greatest_of v w = elim (le_totalᵉ v w) [
-  | inl h ↦ (w, record { left = h; right = le_reflᵉ w; one_of = inr (le_reflᵉ w) })
-  | inr h ↦ (v, record { left = le_reflᵉ v; right = le_of_ltᵉ w v h; one_of = inl (le_reflᵉ v) })
-]
-
-pub least_of : (v w : Extended) → (r : Extended) × IsLeast v w r
-least_of v w = elim (le_totalᵉ v w) [
-  | inl h ↦ (v, record { left = le_reflᵉ v; right = h; one_of = inl (le_reflᵉ v) })
-  | inr h ↦ (w, record { left = le_of_ltᵉ w v h; right = le_reflᵉ w; one_of = inr (le_reflᵉ w) })
-]
-
--- whether a time lies in an interval is decided
-decided_order : (b : Bool) (t u : Rational) → Precedes b t u ⊎ ¬ (Precedes b t u)
-decided_order true t u = elim (le_or_lt t u) [ inl h ↦ inl h | inr h ↦ inr (λ k. not_lt_of_le k h) ]
-decided_order false t u = elim (le_or_lt u t) [ inl h ↦ inr (λ k. not_lt_of_le h k) | inr h ↦ inl h ]
-
-decided_in : (on : Interval) (t : Rational) → IsIn on t ⊎ ¬ (IsIn on t)
-decided_in on t = both (decided_order on.from_in on.from t) (decided_order on.to_in t on.to)
-  where
-    both : Precedes on.from_in on.from t ⊎ ¬ (Precedes on.from_in on.from t) → Precedes on.to_in t on.to ⊎ ¬ (Precedes on.to_in t on.to) → IsIn on t ⊎ ¬ (IsIn on t)
-    both (inl h) (inl k) = inl (record { above = h; below = k })
-    both (inl h) (inr k) = inr (λ i. k i.below)
-    both (inr h) k = inr (λ i. h i.above)
-
--- the later of two times, and the earlier
-record IsLater (t u a : Rational) : Type 0 where
-  pub left : t ≤ʳ a
-  pub right : u ≤ʳ a
-  pub least : (x : Rational) → t ≤ʳ x → u ≤ʳ x → a ≤ʳ x
-
-later_of : (t u : Rational) → (a : Rational) × IsLater t u a
-later_of t u = elim (le_or_lt t u) [
-  | inl h ↦ (u, record { left = h; right = le_refl u; least = λ x a b. b })
-  | inr h ↦ (t, record { left = le_refl t; right = le_of_lt h; least = λ x a b. a })
-]
-
-record IsEarlier (t u a : Rational) : Type 0 where
-  pub left : a ≤ʳ t
-  pub right : a ≤ʳ u
-  pub most : (x : Rational) → x ≤ʳ t → x ≤ʳ u → x ≤ʳ a
-
-earlier_of : (t u : Rational) → (a : Rational) × IsEarlier t u a
-earlier_of t u = elim (le_or_lt t u) [
-  | inl h ↦ (t, record { left = le_refl t; right = h; most = λ x a b. a })
-  | inr h ↦ (u, record { left = le_of_lt h; right = le_refl u; most = λ x a b. b })
-]
-
-passes : (f : Affine) (t : Rational) → Passes f t (value_at f t)
-passes f t = same_reflᵉ (value_at f t)
 
 -- the times of an interval on an open gap
 record OnGap (on : Interval) (l r u : Rational) : Type 0 where
   pub inside : IsIn on u
   pub after : l <ʳ u
   pub before : u <ʳ r
-
--- between two times a function lies between its values there, the ends with it
-pub at_most_an_end : (f : Affine) (a b u : Rational) → a ≤ʳ u → u ≤ʳ b → (value_at f u ≤ᵉ value_at f a) ⊎ (value_at f u ≤ᵉ value_at f b)
-at_most_an_end f a b u h k = by_left (le_or_lt u a)
-  where
-    strictly : a <ʳ u → u <ʳ b → (value_at f u ≤ᵉ value_at f a) ⊎ (value_at f u ≤ᵉ value_at f b)
-    strictly h k = elim (lies_between f a u b h k) [ inl m ↦ inr m.1 | inr m ↦ inl m.1 ]
-
-    by_right : a <ʳ u → (b ≤ʳ u) ⊎ (u <ʳ b) → (value_at f u ≤ᵉ value_at f a) ⊎ (value_at f u ≤ᵉ value_at f b)
-    by_right h (inl m) = inr (value_same f (same_of_le k m)).at_most
-    by_right h (inr m) = strictly h m
-
-    by_left : (u ≤ʳ a) ⊎ (a <ʳ u) → (value_at f u ≤ᵉ value_at f a) ⊎ (value_at f u ≤ᵉ value_at f b)
-    by_left (inl m) = inl (value_same f (same_of_le m h)).at_most
-    by_left (inr m) = by_right m (le_or_lt b u)
-
-at_least_an_end : (f : Affine) (a b u : Rational) → a ≤ʳ u → u ≤ʳ b → (value_at f a ≤ᵉ value_at f u) ⊎ (value_at f b ≤ᵉ value_at f u)
-at_least_an_end f a b u h k = by_left (le_or_lt u a)
-  where
-    strictly : a <ʳ u → u <ʳ b → (value_at f a ≤ᵉ value_at f u) ⊎ (value_at f b ≤ᵉ value_at f u)
-    strictly h k = elim (lies_between f a u b h k) [ inl m ↦ inl m.0 | inr m ↦ inr m.0 ]
-
-    by_right : a <ʳ u → (b ≤ʳ u) ⊎ (u <ʳ b) → (value_at f a ≤ᵉ value_at f u) ⊎ (value_at f b ≤ᵉ value_at f u)
-    by_right h (inl m) = inr (value_same f (same_of_le k m)).at_least
-    by_right h (inr m) = strictly h m
-
-    by_left : (u ≤ʳ a) ⊎ (a <ʳ u) → (value_at f a ≤ᵉ value_at f u) ⊎ (value_at f b ≤ᵉ value_at f u)
-    by_left (inl m) = inl (value_same f (same_of_le m h)).at_least
-    by_left (inr m) = by_right m (le_or_lt b u)
 
 -- over times that hold an open interval, and none outside its closure
 sup_between : (W : Window) (f : Affine) (lowest : Extended) (a b : Rational) → ((t : Rational) → lowest ≤ᵉ value_at f t) → a <ʳ b
@@ -120,8 +32,8 @@ sup_between W f lowest a b least order inner outer =
     found w (t, h, k, l) = (value_at f t, (t, inner t h k, passes f t), l)
 
     reached : (s : Extended) → (s ≤ᵉ value_at f a) ⊎ (s ≤ᵉ value_at f b) → (w : Extended) → w <ᵉ s → (v : Extended) × ((u : Rational) × W u × Passes f u v) × (w <ᵉ v)
-    reached s (inl e) w k = found w (near_start f a b w order (lt_leᵉ w s (value_at f a) k e))
-    reached s (inr e) w k = found w (near_stop f a b w order (lt_leᵉ w s (value_at f b) k e))
+    reached s (inl e) w k = found w (near_start f a b w order (lt_of_lt_of_leᵉ w s (value_at f a) k e))
+    reached s (inr e) w k = found w (near_stop f a b w order (lt_of_lt_of_leᵉ w s (value_at f b) k e))
 
 inf_between : (W : Window) (f : Affine) (highest : Extended) (a b : Rational) → ((t : Rational) → value_at f t ≤ᵉ highest) → a <ʳ b
     → ((u : Rational) → a <ʳ u → u <ʳ b → W u) → ((u : Rational) → W u → Within a b u) → (r : Extended) × IsInfOver highest W (Passes f) r

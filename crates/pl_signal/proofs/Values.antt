@@ -8,7 +8,7 @@ use Rattle.rational.proofs.AffineLemmas.{same_reflᵉ, same_transᵉ, same_sym�
 use Rattle.pl_signal.specs.declared.knot.Knot.{Knot}
 use Rattle.pl_signal.specs.Knots.{time, start, stop, HasShape, Each, IsWorth, IsKnot, IsSignal}
 
-some_is : {X : Type 0} {a b : X} → Some a ≡ Some b → a ≡ b
+pub some_is : {X : Type 0} {a b : X} → Some a ≡ Some b → a ≡ b
 some_is h = cc
 
 module _ {P : Type 0} (function : P → Affine) where

@@ -4,3 +4,5 @@ pub mod Building
 pub mod Moves
 pub mod Cuts
 pub mod Wide
+pub mod Places
+pub mod Joining

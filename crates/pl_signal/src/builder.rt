@@ -1,15 +1,18 @@
 //! How signals are built.
-ghost use Rattle.std.specs.Prelude.{◌≡◌, ◌<◌, ◌∷◌, ◌++◌, [], ◌^◌, ◌↔◌, List, length, IsTrue, IfOk, OnOk, OnErr};
+ghost use Rattle.std.specs.Prelude.{◌≡◌, ◌<◌, ◌≤◌, ◌+◌, ◌∷◌, ◌++◌, [], ◌^◌, ◌↔◌, List, length, IsTrue, IfOk, IfErr, OnOk, OnErr, vec_len, vec_capacity};
 ghost use Rattle.rational.specs.Rational.{IsWithin};
 ghost use Rattle.rational.specs.Time.{◌<ʳ◌};
 ghost use Rattle.rational.specs.Extended.{value_at, ◌≈ᵉ◌};
-ghost use Rattle.rational.specs.Affine.{AreSame};
+ghost use Rattle.rational.specs.Affine.{AreSame, HasBoundedLevel};
 ghost use Rattle.frac128.specs.Value.{value};
 ghost use Rattle.pl_signal.specs.declared.knot.Knot.{Knot};
 ghost use Rattle.pl_signal.specs.Knots.{stop, IsSignal};
-ghost use Rattle.pl_signal.specs.Building.{GoesOn};
+ghost use Rattle.frac128.specs.declared.frac.Frac.{Frac};
+ghost use Rattle.pl_signal.specs.Building.{Continues, GoesOn, MiddleIsBetween};
+ghost use Rattle.pl_signal.specs.Joining.{IsGapFault, Joins};
 
-use crate::{Knot, Signal};
+use crate::joining::{Pieces, pieces_over};
+use crate::{Knot, OpFault, Side, Signal};
 use frac128::{Frac, Memory};
 use std::alloc::Global;
 use std::marker::Model;
@@ -40,16 +43,27 @@ impl<P: Shape> Builder<P> {
     pub fn start(alloc: Global, at: Frac, point: P) -> Result<Builder<P>, Memory>
         ensures { IfOk result (λ b. b ≡ record { time = at; point = point; after = point } ∷ []) }
     {
-        let mut knots = Vec::new(alloc);
-        let only = Knot {
-            time: at,
-            point,
-            after: point,
-        };
-        if knots.push(only).is_err() {
+        let knots = Vec::new(alloc);
+        begun(alloc, knots, at, point)
+    }
+
+    /// The signal of one instant, with memory at once for as many knots as `room` says. A signal that is built of no more asks
+    /// for memory only here.
+    pub fn with_room(alloc: Global, at: Frac, point: P, room: usize) -> Result<Builder<P>, Memory>
+        ensures { IfOk result (λ b. b ≡ record { time = at; point = point; after = point } ∷ []) }
+    {
+        let Ok(knots) = Vec::with_capacity(alloc, room) else {
             return Err(Memory);
-        }
-        Ok(Builder { alloc, knots })
+        };
+        begun(alloc, knots, at, point)
+    }
+
+    /// The time of the last knot so far.
+    pub fn stop(&self) -> Frac
+        ensures value { value result ≡ stop self.now }
+        ensures signal { IsSignal P.function self.now }
+    {
+        self.knots[self.knots.len() - 1].time
     }
 
     /// Goes on from the last time: `after` on the open gap up to `at`, and `point` there. Without memory for it the signal
@@ -62,22 +76,34 @@ impl<P: Shape> Builder<P> {
         ensures ok { OnOk result (GoesOn P.function self.old after at point self.new) }
         ensures err { OnErr result (self.new ≡ self.old) }
     {
-        let end = Knot {
-            time: at,
-            point,
-            after: point,
-        };
-        let last = self.knots.len() - 1;
-        if last == 0 {
-            append(&mut self.knots, after, end)?;
-            return Ok(());
+        if self.knots.reserve(1).is_err() {
+            return Err(Memory);
         }
-        let spare = can_be_left_out(&self.knots[last - 1].after, &self.knots[last], &after);
-        if spare {
-            self.knots[last] = end;
-            return Ok(());
+        go_on(&mut self.knots, after, at, point);
+        Ok(())
+    }
+
+    /// Goes on from the last time: the least of the two shapes at each time, or the greatest, on the open gap up to `to`, and
+    /// `point` there. With an `Err` the signal stays as it was.
+    ///
+    /// It is refused as `Wide` only where the two cross on the gap, at a time that needs a denominator of 2^60 or more.
+    pub fn join(&mut self, side: Side, p: &P, q: &P, to: &Frac, point: P) -> Result<(), OpFault<P>>
+        requires order { stop self.old <ʳ value to.now }
+        requires from_within { IsWithin (2 ^ 34) (stop self.old) }
+        requires to_within { IsWithin (2 ^ 34) (value to.now) }
+        requires first { HasBoundedLevel (2 ^ 31) (P.function p.now) }
+        requires second { HasBoundedLevel (2 ^ 31) (P.function q.now) }
+        ensures ok { OnOk result (Joins P.function side self.old p.now q.now to.now point self.new) }
+        ensures err { OnErr result (self.new ≡ self.old) }
+        ensures wide { IfErr result
+            (λ e. (from : Frac) × (value from ≡ stop self.old) × IsGapFault P.function p.now q.now from to.now e) }
+    {
+        let from = self.stop();
+        let taken = pieces_over(side, p, q, &from, to)?;
+        if self.knots.reserve(2).is_err() {
+            return Err(OpFault::Memory);
         }
-        append(&mut self.knots, after, end)?;
+        put_pieces(&mut self.knots, &taken, *to, point);
         Ok(())
     }
 
@@ -91,6 +117,78 @@ impl<P: Shape> Builder<P> {
     }
 }
 
+/// The signal of one instant, whose knots come into `knots`.
+fn begun<P: Shape>(
+    alloc: Global,
+    mut knots: Vec<Knot<P>>,
+    at: Frac,
+    point: P,
+) -> Result<Builder<P>, Memory>
+    requires { knots.items ≡ [] }
+    ensures { IfOk result (λ b. b ≡ record { time = at; point = point; after = point } ∷ []) }
+{
+    let only = Knot {
+        time: at,
+        point,
+        after: point,
+    };
+    if knots.push(only).is_err() {
+        return Err(Memory);
+    }
+    Ok(Builder { alloc, knots })
+}
+
+/// Goes on with the pieces up to `to`, and with `point` there. There is room for two knots.
+fn put_pieces<P: Shape>(knots: &mut Vec<Knot<P>>, pieces: &Pieces<P>, to: Frac, point: P)
+    requires signal { IsSignal P.function knots.old.items }
+    requires room { vec_len knots.old + 2 ≤ vec_capacity knots.old }
+    requires from_within { IsWithin (2 ^ 34) (stop knots.old.items) }
+    requires to_within { IsWithin (2 ^ 34) (value to) }
+    requires order { stop knots.old.items <ʳ value to }
+    requires between { MiddleIsBetween pieces.now (stop knots.old.items) (value to) }
+    ensures { Continues P.function knots.old.items pieces.now to point knots.new.items }
+{
+    match *pieces {
+        Pieces::Whole(shape) => go_on(knots, shape, to, point),
+        Pieces::Split {
+            first,
+            middle,
+            second,
+        } => {
+            go_on(knots, first, middle, first);
+            go_on(knots, second, to, point);
+        }
+    }
+}
+
+/// Goes on from the last knot. There is room for one more.
+fn go_on<P: Shape>(knots: &mut Vec<Knot<P>>, after: P, at: Frac, point: P)
+    requires signal { IsSignal P.function knots.old.items }
+    requires room { vec_len knots.old < vec_capacity knots.old }
+    requires limited { IsWithin (2 ^ 34) (stop knots.old.items) }
+    requires later { stop knots.old.items <ʳ value at }
+    ensures on { GoesOn P.function knots.old.items after at point knots.new.items }
+    ensures one_more { vec_len knots.new ≤ vec_len knots.old + 1 }
+    ensures room { vec_capacity knots.new ≡ vec_capacity knots.old }
+{
+    let end = Knot {
+        time: at,
+        point,
+        after: point,
+    };
+    let last = knots.len() - 1;
+    if last == 0 {
+        append(knots, after, end);
+        return;
+    }
+    let spare = can_be_left_out(&knots[last - 1].after, &knots[last], &after);
+    if spare {
+        knots[last] = end;
+        return;
+    }
+    append(knots, after, end);
+}
+
 /// Whether the shape before the knot, the knot's point and the shape after it are of one function.
 fn can_be_left_out<P: Shape>(before: &P, knot: &Knot<P>, after: &P) -> bool
     requires { IsWithin (2 ^ 34) (value knot.now.time) }
@@ -101,18 +199,17 @@ fn can_be_left_out<P: Shape>(before: &P, knot: &Knot<P>, after: &P) -> bool
     P::same(before, after) && P::cmp_at(before, &knot.point, &knot.time).is_eq()
 }
 
-/// Puts the shape after the last knot, and the new end behind it.
-fn append<P: Shape>(knots: &mut Vec<Knot<P>>, after: P, end: Knot<P>) -> Result<(), Memory>
-    requires { 0 < length knots.old.items }
-    ensures ok { OnOk result ((front : List (Knot P)) (last : Knot P)
+/// Puts the shape after the last knot, and the new end behind it. There is room for it.
+fn append<P: Shape>(knots: &mut Vec<Knot<P>>, after: P, end: Knot<P>)
+    requires some { 0 < length knots.old.items }
+    requires room { vec_len knots.old < vec_capacity knots.old }
+    ensures put { (front : List (Knot P)) (last : Knot P)
         → knots.old.items ≡ front ++ last ∷ []
-        → knots.new.items ≡ front ++ record { time = last.time; point = last.point; after = after } ∷ end ∷ []) }
-    ensures err { OnErr result (knots.new.items ≡ knots.old.items) }
+        → knots.new.items ≡ front ++ record { time = last.time; point = last.point; after = after } ∷ end ∷ [] }
+    ensures one_more { vec_len knots.new ≡ vec_len knots.old + 1 }
+    ensures room { vec_capacity knots.new ≡ vec_capacity knots.old }
 {
     let last = knots.len() - 1;
-    if knots.push(end).is_err() {
-        return Err(Memory);
-    }
+    knots.push_reserved(end);
     knots[last].after = after;
-    Ok(())
 }

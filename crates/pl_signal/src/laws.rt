@@ -1,10 +1,14 @@
 //! The laws of signals. Each is the contract of a call that does nothing, so that the gate proves it for every kind of value.
-ghost use Rattle.std.specs.Prelude.{◌≡◌, ◌+◌, ℕ, List, Some, slice_get};
-ghost use Rattle.rational.specs.Time.{Rational, Within, Interval, IsIn, ◌<ʳ◌, ◌≈◌};
-ghost use Rattle.rational.specs.Extended.{Extended, value_at, ◌≈ᵉ◌};
+ghost use Rattle.std.specs.Prelude.{◌≡◌, ◌⊎◌, ◌+◌, ◌^◌, ℕ, List, Some, slice_get};
+ghost use Rattle.rational.specs.Time.{Rational, Within, Interval, IsIn, ◌<ʳ◌, ◌≤ʳ◌, ◌≈◌};
+ghost use Rattle.rational.specs.Rational.{IsWithin};
+ghost use Rattle.rational.specs.Extended.{Affine, Extended, value_at, ◌≈ᵉ◌};
+ghost use Rattle.rational.specs.Affine.{AreSame, IsBounded};
+ghost use Rattle.rational.specs.InPlay.{IsBreakpoint, IsLeftLimit, IsPart, IsRightLimit};
 ghost use Rattle.rational.specs.Windows.{IsInfOver, IsSupOver};
 ghost use Rattle.pl_signal.specs.declared.knot.Knot.{Knot};
 ghost use Rattle.pl_signal.specs.Knots.{IsSignal, IsWorth, start, stop, time};
+ghost use Rattle.pl_signal.specs.Limits.{IsLimited};
 
 use value_laws::Shape;
 
@@ -30,6 +34,48 @@ pub fn by_places<P: Shape>()
         → IsWorth P.function knots t (value_at (P.function k.after) t) }
     ensures rising { (knots : List (Knot P)) (i : ℕ) (k n : Knot P) → IsSignal P.function knots → slice_get knots i ≡ Some k
         → slice_get knots (i + 1) ≡ Some n → time k <ʳ time n }
+    ensures found { (knots : List (Knot P)) (t : Rational) → IsSignal P.function knots → Within (start knots) (stop knots) t
+        → ((i : ℕ) × (k : Knot P) × (slice_get knots i ≡ Some k) × (t ≈ time k))
+        ⊎ ((i : ℕ) × (k n : Knot P) × (slice_get knots i ≡ Some k) × (slice_get knots (i + 1) ≡ Some n) × (time k <ʳ t) × (t <ʳ time n)) }
+{}
+
+/// One-sided limits. On the gap behind a knot, and at both of its ends, the limits are the values of the shape after the knot.
+/// From each side there is one limit at a time.
+pub fn limits<P: Shape>()
+    ensures left { (knots : List (Knot P)) (i : ℕ) (k n : Knot P) (t : Rational) → slice_get knots i ≡ Some k
+        → slice_get knots (i + 1) ≡ Some n → time k <ʳ t → t ≤ʳ time n
+        → IsLeftLimit (IsWorth P.function knots) t (value_at (P.function k.after) t) }
+    ensures right { (knots : List (Knot P)) (i : ℕ) (k n : Knot P) (t : Rational) → slice_get knots i ≡ Some k
+        → slice_get knots (i + 1) ≡ Some n → time k ≤ʳ t → t <ʳ time n
+        → IsRightLimit (IsWorth P.function knots) t (value_at (P.function k.after) t) }
+    ensures one_left { (knots : List (Knot P)) (t : Rational) (v w : Extended) → IsSignal P.function knots
+        → IsLeftLimit (IsWorth P.function knots) t v → IsLeftLimit (IsWorth P.function knots) t w → v ≈ᵉ w }
+    ensures one_right { (knots : List (Knot P)) (t : Rational) (v w : Extended) → IsSignal P.function knots
+        → IsRightLimit (IsWorth P.function knots) t v → IsRightLimit (IsWorth P.function knots) t w → v ≈ᵉ w }
+{}
+
+/// Where a signal is affine. Each of its knots is a breakpoint, and on the gap behind a knot the shape after the knot is the part
+/// about each time. About a time there is one part.
+pub fn parts<P: Shape>()
+    ensures breakpoint { (knots : List (Knot P)) (i : ℕ) (k : Knot P) → IsSignal P.function knots → slice_get knots i ≡ Some k
+        → IsBreakpoint (IsWorth P.function knots) (start knots) (stop knots) (time k) }
+    ensures part { (knots : List (Knot P)) (i : ℕ) (k n : Knot P) (t : Rational) → slice_get knots i ≡ Some k
+        → slice_get knots (i + 1) ≡ Some n → time k <ʳ t → t <ʳ time n
+        → IsPart (IsWorth P.function knots) t (P.function k.after) }
+    ensures one { (knots : List (Knot P)) (t : Rational) (f g : Affine) → IsSignal P.function knots
+        → IsPart (IsWorth P.function knots) t f → IsPart (IsWorth P.function knots) t g → AreSame f g }
+{}
+
+/// A signal is limited where it begins and ends within 2^34 and each of its values is infinite or within 2^31, and only there:
+/// its one-sided limits need no words of their own.
+pub fn limited<P: Shape>()
+    ensures limited { (knots : List (Knot P)) → IsSignal P.function knots
+        → IsWithin (2 ^ 34) (start knots) → IsWithin (2 ^ 34) (stop knots)
+        → ((t : Rational) (v : Extended) → IsWorth P.function knots t v → IsBounded (2 ^ 31) v) → IsLimited P.function knots }
+    ensures times { (knots : List (Knot P)) → IsSignal P.function knots → IsLimited P.function knots
+        → IsWithin (2 ^ 34) (start knots) × IsWithin (2 ^ 34) (stop knots) }
+    ensures values { (knots : List (Knot P)) (t : Rational) (v : Extended) → IsLimited P.function knots
+        → IsWorth P.function knots t v → IsBounded (2 ^ 31) v }
 {}
 
 /// A signal has a Sup and an Inf over every interval, closed, half-open or open, empty or not.

@@ -3,14 +3,18 @@
 
 mod builder;
 mod faults;
+mod joining;
 mod knot;
 pub mod laws;
 mod moves;
+mod reading;
 mod signal;
 
 pub use builder::Builder;
 pub use faults::{OpFault, WidePair};
+pub use joining::{Side, chosen, crossing, favour};
 pub use knot::Knot;
+pub use reading::{Reading, earlier};
 pub use signal::Signal;
 
 #[cfg(test)]

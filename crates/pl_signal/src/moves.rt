@@ -64,10 +64,11 @@ impl<P: Shape> Signal<P> {
     {
         let mut i = self.len() - 1;
         let last = self.knot(i);
-        let mut built = Builder::start(
+        let mut built = Builder::with_room(
             self.alloc,
             last.time.mirror(about),
             last.point.mirror(about),
+            self.knots.len(),
         )?;
         while i > 0 {
             i -= 1;
@@ -92,7 +93,7 @@ fn shifted<P: Shape>(s: &Signal<P>, by: i64, from: &Frac) -> Result<Signal<P>, M
 {
     let back = -by;
     let count = s.len();
-    let mut built = Builder::start(s.alloc, *from, s.knot(0).point.shift(by))?;
+    let mut built = Builder::with_room(s.alloc, *from, s.knot(0).point.shift(by), count)?;
     for i in 1..count {
         let before = s.knot(i - 1);
         let knot = s.knot(i);

@@ -1,16 +1,17 @@
 -- Laws of affine and constantly infinite functions.
-use Rattle.std.proofs.Common.{◌⊎◌, inl, inr, arith}
+use Rattle.std.proofs.Common.{◌⊎◌, inl, inr, ℕ, arith}
 use Rattle.std.specs.declared.cmp.Ordering.{Ordering}
 use Rattle.std.specs.declared.cmp.Ordering.TheVariants.{Less, Equal, Greater}
 use Rattle.rational.specs.Rational.{Rational, ◌<ʳ◌, ◌≤ʳ◌, ◌≈◌, middle, negate}
 use Rattle.rational.specs.Line.{Line, at, Rises, Falls, Level, negate_line}
-use Rattle.rational.specs.Extended.{Extended, minus_infinity, finite, infinity, ◌≤ᵉ◌, ◌<ᵉ◌, ◌≈ᵉ◌, opposite, Affine, always_low, affine, always_high, value_at}
-use Rattle.rational.specs.Affine.{IsOrderᵉ, IsSteady, MeetAlone}
-use Rattle.rational.proofs.Order.{le_of_same, ge_of_same, le_of_lt, same_of_le, not_lt_of_le, lt_of_lt_of_le, left_of_middle, right_of_middle}
+use Rattle.rational.specs.Extended.{Extended, minus_infinity, finite, infinity, ◌≤ᵉ◌, ◌<ᵉ◌, ◌≈ᵉ◌, opposite, Affine, always_low, affine, always_high, value_at, Passes}
+use Rattle.rational.specs.Affine.{IsOrderᵉ, IsBounded, IsSteady, MeetAlone}
+use Rattle.rational.proofs.Order.{le_or_lt, le_of_same, ge_of_same, le_of_lt, same_of_le, not_lt_of_le, lt_of_lt_of_le, left_of_middle, right_of_middle}
 use Rattle.rational.proofs.Field.{lt_negate}
+use Rattle.rational.proofs.Mixed.{within_same}
 use Rattle.rational.proofs.Sup.{near_left}
 use Rattle.rational.proofs.Lines.{same_at, same_lines, slope_of, lt_at, lt_at_falls, at_level, at_negate, near_right}
-use Rattle.rational.proofs.ExtendedLemmas.{le_totalᵉ, le_reflᵉ, le_transᵉ, clashᵉ, opposite_le'}
+use Rattle.rational.proofs.ExtendedLemmas.{le_totalᵉ, le_reflᵉ, le_transᵉ, clashᵉ, opposite_le', opposite_twice}
 
 pub same_reflᵉ : (v : Extended) → v ≈ᵉ v
 same_reflᵉ v = record { at_most = le_reflᵉ v; at_least = le_reflᵉ v }
@@ -24,31 +25,32 @@ same_transᵉ u v w h k = record { at_most = le_transᵉ u v w h.at_most k.at_mo
 pub finite_same : {x y : Rational} → x ≈ y → finite x ≈ᵉ finite y
 finite_same e = record { at_most = le_of_same e; at_least = ge_of_same e }
 
+pub same_of_finite : {x y : Rational} → finite x ≈ᵉ finite y → x ≈ y
+same_of_finite e = same_of_le e.at_most e.at_least
+
+-- a bounded value by another pair
+pub bounded_same : (n : ℕ) (v w : Extended) → v ≈ᵉ w → IsBounded n w → IsBounded n v
+bounded_same n minus_infinity w e h = tt
+bounded_same n (finite x) minus_infinity e h = absurd e.at_most
+bounded_same n (finite x) (finite y) e h = within_same n (same_of_le e.at_least e.at_most) h
+bounded_same n (finite x) infinity e h = absurd e.at_least
+bounded_same n infinity w e h = tt
+
+pub passes : (f : Affine) (t : Rational) → Passes f t (value_at f t)
+passes f t = same_reflᵉ (value_at f t)
+
 pub opposite_same : (v w : Extended) → v ≈ᵉ w → opposite v ≈ᵉ opposite w
 opposite_same v w h = record { at_most = opposite_le' w v h.at_least; at_least = opposite_le' v w h.at_most }
+
+-- a value is the opposite of its opposite
+pub opposite_back : (v w : Extended) → v ≈ᵉ opposite w → w ≈ᵉ opposite v
+opposite_back v w h = let e = opposite_same v (opposite w) h in same_symᵉ (opposite v) w (rw opposite_twice at e)
 
 -- a function has one value at one time, by whichever pair the time is written
 pub value_same : {t u : Rational} (f : Affine) → t ≈ u → value_at f t ≈ᵉ value_at f u
 value_same always_low e = record { at_most = tt; at_least = tt }
 value_same (affine f) e = finite_same (same_at f e)
 value_same always_high e = record { at_most = tt; at_least = tt }
-
-pub lt_leᵉ : (u v w : Extended) → u <ᵉ v → v ≤ᵉ w → u <ᵉ w
-lt_leᵉ minus_infinity minus_infinity w h k = absurd h
-lt_leᵉ minus_infinity (finite y) minus_infinity h k = absurd k
-lt_leᵉ minus_infinity (finite y) (finite z) h k = tt
-lt_leᵉ minus_infinity (finite y) infinity h k = tt
-lt_leᵉ minus_infinity infinity minus_infinity h k = absurd k
-lt_leᵉ minus_infinity infinity (finite z) h k = absurd k
-lt_leᵉ minus_infinity infinity infinity h k = tt
-lt_leᵉ (finite x) minus_infinity w h k = absurd h
-lt_leᵉ (finite x) (finite y) minus_infinity h k = absurd k
-lt_leᵉ (finite x) (finite y) (finite z) h k = lt_of_lt_of_le h k
-lt_leᵉ (finite x) (finite y) infinity h k = tt
-lt_leᵉ (finite x) infinity minus_infinity h k = absurd k
-lt_leᵉ (finite x) infinity (finite z) h k = absurd k
-lt_leᵉ (finite x) infinity infinity h k = tt
-lt_leᵉ infinity v w h k = absurd h
 
 -- equal values are ordered alike
 pub order_sameᵉ : (o : Ordering) (v v' w w' : Extended) → v ≈ᵉ v' → w ≈ᵉ w' → IsOrderᵉ o v w → IsOrderᵉ o v' w'
@@ -83,6 +85,35 @@ lies_between (affine f) l t r h k = by_slope (slope_of f)
     by_slope (inl p) = inl (le_of_lt (lt_at f p h), le_of_lt (lt_at f p k))
     by_slope (inr (inl p)) = inl (le_of_same (at_level l t f p), le_of_same (at_level t r f p))
     by_slope (inr (inr p)) = inr (le_of_lt (lt_at_falls f p k), le_of_lt (lt_at_falls f p h))
+
+-- between two times a function lies between its values there, the ends with it
+pub at_most_an_end : (f : Affine) (a b u : Rational) → a ≤ʳ u → u ≤ʳ b → (value_at f u ≤ᵉ value_at f a) ⊎ (value_at f u ≤ᵉ value_at f b)
+at_most_an_end f a b u h k = by_left (le_or_lt u a)
+  where
+    strictly : a <ʳ u → u <ʳ b → (value_at f u ≤ᵉ value_at f a) ⊎ (value_at f u ≤ᵉ value_at f b)
+    strictly h k = elim (lies_between f a u b h k) [ inl m ↦ inr m.1 | inr m ↦ inl m.1 ]
+
+    by_right : a <ʳ u → (b ≤ʳ u) ⊎ (u <ʳ b) → (value_at f u ≤ᵉ value_at f a) ⊎ (value_at f u ≤ᵉ value_at f b)
+    by_right h (inl m) = inr (value_same f (same_of_le k m)).at_most
+    by_right h (inr m) = strictly h m
+
+    by_left : (u ≤ʳ a) ⊎ (a <ʳ u) → (value_at f u ≤ᵉ value_at f a) ⊎ (value_at f u ≤ᵉ value_at f b)
+    by_left (inl m) = inl (value_same f (same_of_le m h)).at_most
+    by_left (inr m) = by_right m (le_or_lt b u)
+
+pub at_least_an_end : (f : Affine) (a b u : Rational) → a ≤ʳ u → u ≤ʳ b → (value_at f a ≤ᵉ value_at f u) ⊎ (value_at f b ≤ᵉ value_at f u)
+at_least_an_end f a b u h k = by_left (le_or_lt u a)
+  where
+    strictly : a <ʳ u → u <ʳ b → (value_at f a ≤ᵉ value_at f u) ⊎ (value_at f b ≤ᵉ value_at f u)
+    strictly h k = elim (lies_between f a u b h k) [ inl m ↦ inl m.0 | inr m ↦ inr m.0 ]
+
+    by_right : a <ʳ u → (b ≤ʳ u) ⊎ (u <ʳ b) → (value_at f a ≤ᵉ value_at f u) ⊎ (value_at f b ≤ᵉ value_at f u)
+    by_right h (inl m) = inr (value_same f (same_of_le k m)).at_least
+    by_right h (inr m) = strictly h m
+
+    by_left : (u ≤ʳ a) ⊎ (a <ʳ u) → (value_at f a ≤ᵉ value_at f u) ⊎ (value_at f b ≤ᵉ value_at f u)
+    by_left (inl m) = inl (value_same f (same_of_le m h)).at_least
+    by_left (inr m) = by_right m (le_or_lt b u)
 
 -- a time strictly between at which something holds
 abbrev pub Inside : Rational → Rational → (Rational → Type 0) → Type 0

@@ -1,9 +1,9 @@
 -- Laws of the order of extended values, and that a Sup and an Inf are unique.
-use Rattle.std.proofs.Common.{◌⊎◌, inl, inr, arith}
+use Rattle.std.proofs.Common.{◌≡◌, ◌⊎◌, inl, inr, refl, arith}
 use Rattle.rational.specs.Time.{Rational, negate, ◌≤ʳ◌}
-use Rattle.rational.specs.Extended.{Extended, minus_infinity, finite, infinity, ◌≤ᵉ◌, ◌<ᵉ◌, opposite, IsSup, IsInf}
-use Rattle.rational.proofs.Order.{le_or_lt, le_trans, le_refl, not_lt_of_le}
-use Rattle.rational.proofs.Field.{le_negate}
+use Rattle.rational.specs.Extended.{Extended, minus_infinity, finite, infinity, ◌≤ᵉ◌, ◌<ᵉ◌, opposite, IsLeast, IsGreatest, IsSup, IsInf}
+use Rattle.rational.proofs.Order.{le_or_lt, le_of_lt, le_trans, le_refl, not_lt_of_le}
+use Rattle.rational.proofs.Field.{le_negate, lt_negate}
 
 pub le_totalᵉ : (v w : Extended) → (v ≤ᵉ w) ⊎ (w <ᵉ v)
 le_totalᵉ minus_infinity w = inl tt
@@ -41,6 +41,40 @@ le_transᵉ infinity minus_infinity w h k = absurd h
 le_transᵉ infinity (finite y) w h k = absurd h
 le_transᵉ infinity infinity w h k = k
 
+pub le_of_ltᵉ : (v w : Extended) → v <ᵉ w → v ≤ᵉ w
+le_of_ltᵉ minus_infinity w h = tt
+le_of_ltᵉ (finite x) minus_infinity h = absurd h
+le_of_ltᵉ (finite x) (finite y) h = le_of_lt h
+le_of_ltᵉ (finite x) infinity h = tt
+le_of_ltᵉ infinity w h = absurd h
+
+pub lt_of_lt_of_leᵉ : (u v w : Extended) → u <ᵉ v → v ≤ᵉ w → u <ᵉ w
+lt_of_lt_of_leᵉ u v w h k = by_order (le_totalᵉ w u)
+  where
+    by_order : (w ≤ᵉ u) ⊎ (u <ᵉ w) → u <ᵉ w
+    by_order (inl l) = clashᵉ u v h (le_transᵉ v w u k l)
+    by_order (inr l) = l
+
+pub lt_of_le_of_ltᵉ : (u v w : Extended) → u ≤ᵉ v → v <ᵉ w → u <ᵉ w
+lt_of_le_of_ltᵉ u v w h k = by_order (le_totalᵉ w u)
+  where
+    by_order : (w ≤ᵉ u) ⊎ (u <ᵉ w) → u <ᵉ w
+    by_order (inl l) = clashᵉ v w k (le_transᵉ w u v l h)
+    by_order (inr l) = l
+
+-- of two values one is the greatest, and one the least
+pub greatest_of : (v w : Extended) → (r : Extended) × IsGreatest v w r
+greatest_of v w = elim (le_totalᵉ v w) [
+  | inl h ↦ (w, record { left = h; right = le_reflᵉ w; one_of = inr (le_reflᵉ w) })
+  | inr h ↦ (v, record { left = le_reflᵉ v; right = le_of_ltᵉ w v h; one_of = inl (le_reflᵉ v) })
+]
+
+pub least_of : (v w : Extended) → (r : Extended) × IsLeast v w r
+least_of v w = elim (le_totalᵉ v w) [
+  | inl h ↦ (v, record { left = le_reflᵉ v; right = h; one_of = inl (le_reflᵉ v) })
+  | inr h ↦ (w, record { left = le_of_ltᵉ w v h; right = le_reflᵉ w; one_of = inr (le_reflᵉ w) })
+]
+
 negated_le : (x y : Rational) → negate y ≤ʳ negate x → x ≤ʳ y
 negated_le x y h = omega arith
 
@@ -63,6 +97,20 @@ opposite_le' (finite x) infinity h = tt
 opposite_le' infinity minus_infinity h = absurd h
 opposite_le' infinity (finite y) h = absurd h
 opposite_le' infinity infinity h = tt
+
+pub lt_opposite : (v w : Extended) → v <ᵉ w → opposite w <ᵉ opposite v
+lt_opposite minus_infinity minus_infinity h = absurd h
+lt_opposite minus_infinity (finite y) h = tt
+lt_opposite minus_infinity infinity h = tt
+lt_opposite (finite x) minus_infinity h = absurd h
+lt_opposite (finite x) (finite y) h = lt_negate h
+lt_opposite (finite x) infinity h = tt
+lt_opposite infinity w h = absurd h
+
+pub opposite_twice : (v : Extended) → opposite (opposite v) ≡ v
+opposite_twice minus_infinity = refl
+opposite_twice (finite x) = refl
+opposite_twice infinity = refl
 
 -- there is at most one Sup, and at most one Inf
 pub Sup-unique : {P : Extended → Type 0} (lowest r r' : Extended) → IsSup lowest P r → IsSup lowest P r' → r ≤ᵉ r'

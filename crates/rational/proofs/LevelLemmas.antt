@@ -6,8 +6,8 @@ use Rattle.std.specs.declared.cmp.Ordering.{Ordering}
 use Rattle.std.specs.declared.cmp.Ordering.TheVariants.{Less, Equal, Greater}
 use Rattle.std.specs.Ordering.{MatchOrdering, int_cmp, is_eq}
 use Rattle.std.proofs.lemmas.Cmp.{int_ranked}
-use Rattle.rational.specs.Rational.{Rational, ◌<ʳ◌, ◌≈◌, whole, negate}
-use Rattle.rational.specs.Extended.{Extended, finite, ◌≈ᵉ◌, ◌<ᵉ◌, ◌≤ᵉ◌, opposite, value_at}
+use Rattle.rational.specs.Rational.{Rational, ◌≈◌, whole, negate}
+use Rattle.rational.specs.Extended.{finite, ◌≈ᵉ◌, ◌≤ᵉ◌, opposite, value_at}
 use Rattle.rational.specs.Affine.{IsOrderᵉ, IsSteady, AreSame, level}
 use Rattle.rational.proofs.Shift.{lt_whole, le_whole}
 use Rattle.rational.proofs.Lines.{at_constant}

@@ -14,3 +14,8 @@ pub mod LevelLemmas
 pub mod Lowest
 pub mod Meetings
 pub mod Sups
+pub mod Between
+pub mod Ways
+pub mod AffineMeetings
+pub mod LimitLemmas
+pub mod Bounds

@@ -4,9 +4,9 @@ use Prim.Native.Nat.{◌∣◌}
 use Rattle.std.specs.Int.{IsGcd}
 use Rattle.std.proofs.lemmas.Int.{ints}
 use Rattle.std.proofs.lemmas.Nat.{div-add-mod', mod_below, mod-mul-add}
-use Rattle.std.proofs.lemmas.Nat.Gcd.{IsGcd-from_zero, IsGcd-from_mod, dvd_antisymm, mod-eq-zero_of_dvd}
+use Rattle.std.proofs.lemmas.Nat.Gcd.{le_of_dvd, IsGcd-from_zero, IsGcd-from_mod, dvd_antisymm, mod-eq-zero_of_dvd}
 use Rattle.std.proofs.Math.Nat.{dvd-mul_left, dvd-mul_right, zero-lt-suc, mul-lt-mul_of_pos_right, dvd-add_iff_left, dvd-add_iff_right, dvd-mul_left_of_dvd, mul-dvd-mul_right, dvd_of_mul-dvd-mul_right, eq-one_of_dvd-one, eq-zero_of_zero-dvd, div-mul_cancel}
-use Rattle.rational.specs.Rational.{Rational, ◌≈◌, part_above, part_below, ratio, mixed}
+use Rattle.rational.specs.Rational.{Rational, ◌≈◌, part_above, part_below, ratio, fraction, mixed}
 use Rattle.rational.specs.Time.{Divides, IsLowest, HasDenominator}
 use Rattle.rational.proofs.Order.{same_sym, same_trans}
 use Rattle.rational.proofs.Mixed.{parts, neg_parts}
@@ -172,3 +172,8 @@ has_denominator a = let h = of_ratio (pos a.up -ℤ pos a.down) a.den a.positive
       where
         step : part_above (pos a.up -ℤ pos a.down) + a.down ≡ a.up + part_below (pos a.up -ℤ pos a.down)
         step = omega (arith, parts)
+
+-- a fraction in lowest terms has no larger denominator
+pub denominator_at_most : (num den : ℤ) (k d : ℕ) → HasDenominator (fraction num den) d → den ≡ pos k → 0 < k → d ≤ k
+denominator_at_most num den zero d h e p = absurd (omega arith)
+denominator_at_most num den (suc k) d h e p = le_of_dvd p (denominator_divides num (suc k) d (zero-lt-suc k) (subst (λ n. HasDenominator (fraction num n) d) e h))

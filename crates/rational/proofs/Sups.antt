@@ -1,29 +1,14 @@
 -- Laws of Sup and Inf: of unions, of negated sets, and of a line over a window.
-use Rattle.std.proofs.Common.{◌≡◌, ◌⊎◌, inl, inr, refl, sym, subst}
+use Rattle.std.proofs.Common.{◌⊎◌, inl, inr, sym, subst}
 use Rattle.rational.specs.Rational.{negate, middle, ◌≤ʳ◌, ◌<ʳ◌}
 use Rattle.rational.specs.Time.{Rational, Within, IsIn, gap, closed}
 use Rattle.rational.specs.Line.{Line, Rises, Level, Falls, at, negate_line}
 use Rattle.rational.specs.Extended.{Extended, minus_infinity, finite, infinity, ◌≤ᵉ◌, ◌<ᵉ◌, ◌≈ᵉ◌, opposite, IsLeast, IsGreatest, IsSup, IsInf, affine, Passes}
 use Rattle.rational.specs.Windows.{Window, IsSupOver, IsInfOver}
 use Rattle.rational.proofs.Order.{le_refl, le_of_lt, le_of_same, ge_of_same, le_or_lt, same_of_le, left_of_middle, right_of_middle}
-use Rattle.rational.proofs.Field.{lt_negate}
 use Rattle.rational.proofs.Lines.{same_at, near_right, at_negate, slope_of, lt_at, lt_at_falls}
 use Rattle.rational.proofs.Sup.{near_left, below_an_end}
-use Rattle.rational.proofs.ExtendedLemmas.{le_totalᵉ, clashᵉ, le_reflᵉ, le_transᵉ, opposite_le, opposite_le'}
-
-pub lt_of_lt_of_leᵉ : (u v w : Extended) → u <ᵉ v → v ≤ᵉ w → u <ᵉ w
-lt_of_lt_of_leᵉ u v w h k = by_order (le_totalᵉ w u)
-  where
-    by_order : (w ≤ᵉ u) ⊎ (u <ᵉ w) → u <ᵉ w
-    by_order (inl l) = clashᵉ u v h (le_transᵉ v w u k l)
-    by_order (inr l) = l
-
-pub lt_of_le_of_ltᵉ : (u v w : Extended) → u ≤ᵉ v → v <ᵉ w → u <ᵉ w
-lt_of_le_of_ltᵉ u v w h k = by_order (le_totalᵉ w u)
-  where
-    by_order : (w ≤ᵉ u) ⊎ (u <ᵉ w) → u <ᵉ w
-    by_order (inl l) = clashᵉ v w k (le_transᵉ w u v l h)
-    by_order (inr l) = l
+use Rattle.rational.proofs.ExtendedLemmas.{clashᵉ, le_reflᵉ, le_transᵉ, lt_of_lt_of_leᵉ, lt_of_le_of_ltᵉ, lt_opposite, opposite_le, opposite_le', opposite_twice}
 
 -- sets with the same members have one Sup
 pub sup_same : {P Q : Extended → Type 0} {lowest r : Extended} → ((v : Extended) → P v → Q v) → ((v : Extended) → Q v → P v) → IsSup lowest P r → IsSup lowest Q r
@@ -139,20 +124,6 @@ sup_of_line {W} {l} {r} lowest s f on h g = record { at_least = h; bound = bound
     near w m (inl e) = found w (near_end f l r w on.order (inl (lt_of_lt_of_leᵉ w s (finite (at f l)) m e)))
     near w m (inr e) = found w (near_end f l r w on.order (inr (lt_of_lt_of_leᵉ w s (finite (at f r)) m e)))
 
-lt_opposite : (v w : Extended) → v <ᵉ w → opposite w <ᵉ opposite v
-lt_opposite minus_infinity minus_infinity h = absurd h
-lt_opposite minus_infinity (finite y) h = tt
-lt_opposite minus_infinity infinity h = tt
-lt_opposite (finite x) minus_infinity h = absurd h
-lt_opposite (finite x) (finite y) h = lt_negate h
-lt_opposite (finite x) infinity h = tt
-lt_opposite infinity w h = absurd h
-
-opposite_twice : (v : Extended) → opposite (opposite v) ≡ v
-opposite_twice minus_infinity = refl
-opposite_twice (finite x) = refl
-opposite_twice infinity = refl
-
 -- the Inf is minus the Sup of the negated values
 pub inf_of_opposite : {P : Extended → Type 0} (highest r : Extended) → IsSup (opposite highest) (λ v. P (opposite v)) (opposite r) → IsInf highest P r
 inf_of_opposite {P} highest r h = record {
@@ -241,8 +212,3 @@ spans_closed l r h = record {
 
 pub spans_within : (l r : Rational) → l <ʳ r → Spans (Within l r) l r
 spans_within l r h = record { order = h; inner = λ u a b. record { above = le_of_lt a; below = le_of_lt b }; outer = λ u m. m }
-
-pub at_most_infinity : (v : Extended) → v ≤ᵉ infinity
-at_most_infinity minus_infinity = tt
-at_most_infinity (finite x) = tt
-at_most_infinity infinity = tt

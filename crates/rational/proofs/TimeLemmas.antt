@@ -2,8 +2,8 @@
 use Rattle.std.proofs.Common.{◌≡◌, ℕ, ℤ, pos, ◌*◌, ◌⊎◌, arith, ap, sym, ◌∙◌, inl, inr, Bool, true, false, ◌&&◌, IsTrue, refl}
 use Rattle.std.proofs.Props.{props}
 use Rattle.rational.specs.Rational.{part_above, part_below}
-use Rattle.rational.proofs.Order.{lt_or_same_or_gt, not_lt_of_le, le_or_lt, le_trans, lt_of_le_of_lt, lt_of_lt_of_le, le_of_lt, le_of_same, ge_of_same, same_sym}
-use Rattle.rational.specs.Time.{Rational, ◌≤ʳ◌, ◌<ʳ◌, ◌≈◌, Interval, IsIn, IsNotEmpty, Precedes, add, whole, shifted, later, times, less, HasTimeBetween}
+use Rattle.rational.proofs.Order.{lt_or_same_or_gt, not_lt_of_le, le_or_lt, le_refl, le_trans, lt_of_le_of_lt, lt_of_lt_of_le, le_of_lt, le_of_same, ge_of_same, same_sym}
+use Rattle.rational.specs.Time.{Rational, Within, ◌≤ʳ◌, ◌<ʳ◌, ◌≈◌, Interval, IsIn, IsNotEmpty, Precedes, add, whole, shifted, later, times, less, HasTimeBetween}
 
 pub later_le : {t u : Rational} (k : ℕ) → t ≤ʳ u → later t k ≤ʳ later u k
 later_le {t} {u} k h = record { le = omega (arith, h.le) }
@@ -95,3 +95,43 @@ shifted-add t k = omega arith
 
 pub later-add : (t : Rational) (k : ℕ) → later t k ≈ add t (whole (pos k))
 later-add t k = omega arith
+
+-- whether a time lies in an interval is decided
+pub decided_order : (b : Bool) (t u : Rational) → Precedes b t u ⊎ ¬ (Precedes b t u)
+decided_order true t u = elim (le_or_lt t u) [ inl h ↦ inl h | inr h ↦ inr (λ k. not_lt_of_le k h) ]
+decided_order false t u = elim (le_or_lt u t) [ inl h ↦ inr (λ k. not_lt_of_le h k) | inr h ↦ inl h ]
+
+pub decided_in : (on : Interval) (t : Rational) → IsIn on t ⊎ ¬ (IsIn on t)
+decided_in on t = both (decided_order on.from_in on.from t) (decided_order on.to_in t on.to)
+  where
+    both : Precedes on.from_in on.from t ⊎ ¬ (Precedes on.from_in on.from t) → Precedes on.to_in t on.to ⊎ ¬ (Precedes on.to_in t on.to) → IsIn on t ⊎ ¬ (IsIn on t)
+    both (inl h) (inl k) = inl (record { above = h; below = k })
+    both (inl h) (inr k) = inr (λ i. k i.below)
+    both (inr h) k = inr (λ i. h i.above)
+
+-- the later of two times, and the earlier
+pub record IsLater (t u a : Rational) : Type 0 where
+  pub left : t ≤ʳ a
+  pub right : u ≤ʳ a
+  pub least : (x : Rational) → t ≤ʳ x → u ≤ʳ x → a ≤ʳ x
+
+pub later_of : (t u : Rational) → (a : Rational) × IsLater t u a
+later_of t u = elim (le_or_lt t u) [
+  | inl h ↦ (u, record { left = h; right = le_refl u; least = λ x a b. b })
+  | inr h ↦ (t, record { left = le_refl t; right = le_of_lt h; least = λ x a b. a })
+]
+
+pub record IsEarlier (t u a : Rational) : Type 0 where
+  pub left : a ≤ʳ t
+  pub right : a ≤ʳ u
+  pub most : (x : Rational) → x ≤ʳ t → x ≤ʳ u → x ≤ʳ a
+
+pub earlier_of : (t u : Rational) → (a : Rational) × IsEarlier t u a
+earlier_of t u = elim (le_or_lt t u) [
+  | inl h ↦ (t, record { left = le_refl t; right = h; most = λ x a b. a })
+  | inr h ↦ (u, record { left = le_of_lt h; right = le_refl u; most = λ x a b. b })
+]
+
+-- a time between two times of a stretch is in it
+pub within_stretch : {from to t u v : Rational} → Within from to t → Within from to u → Within t u v → Within from to v
+within_stretch h k l = record { above = le_trans h.above l.above; below = le_trans l.below k.below }

@@ -2,7 +2,7 @@
 use Rattle.std.proofs.Common.{ℕ, Bool}
 use Rattle.std.specs.Prelude.{Option, Some, None}
 use Rattle.rational.specs.Time.{Rational, ◌≈◌, Within, later}
-use Rattle.rational.specs.Extended.{Extended, ◌<ᵉ◌, IsSup, IsInf}
+use Rattle.rational.specs.Extended.{Extended, IsSup, IsInf}
 use Rattle.rational.specs.Windows.{Ahead, Behind, Window, Function, IsSupOver, IsInfOver, IsUpTo, IsDownTo}
 use Rattle.rational.proofs.Order.{le_of_same, ge_of_same, le_trans, same_sym}
 use Rattle.rational.proofs.TimeLemmas.{same_later, precedes_after, precedes_before}

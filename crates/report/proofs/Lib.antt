@@ -5,3 +5,6 @@ pub mod Spans
 pub mod Tops
 pub mod Fractions
 pub mod SignalLaw
+pub mod Spellings
+pub mod Lines
+pub mod Advances

@@ -5,4 +5,5 @@ pub mod Units
 pub mod Appended
 pub mod Numbers
 pub mod SignalVerdicts
+pub mod Spelling
 pub mod Laws

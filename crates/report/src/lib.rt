@@ -4,6 +4,7 @@
 pub mod laws;
 mod number;
 mod signal;
+mod spelling;
 mod verdict;
 
 pub use signal::put_verdicts;

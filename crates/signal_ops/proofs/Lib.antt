@@ -1,4 +1,2 @@
-pub mod Choices
 pub mod Negating
-pub mod JoiningLemmas
 pub mod CombiningLemmas

@@ -2,10 +2,11 @@
 use Rattle.std.proofs.Common.{◌≡◌, ℕ, zero, suc, ◌+◌, ◌^◌, inl, inr, List, [], ◌∷◌, Some, refl, sym, subst, arith}
 use Rattle.std.specs.Prelude.{slice_get}
 use Rattle.rational.specs.Time.{Rational, ◌≈◌}
-use Rattle.rational.specs.Extended.{Extended, minus_infinity, finite, infinity, ◌≈ᵉ◌, opposite, Affine, value_at}
+use Rattle.rational.specs.Extended.{Extended, ◌≈ᵉ◌, opposite, Affine, value_at}
 use Rattle.rational.specs.Affine.{IsBounded, HasBoundedLevel}
-use Rattle.rational.proofs.Order.{le_trans, ge_of_same, lt_of_le_of_lt, same_refl}
-use Rattle.rational.proofs.AffineLemmas.{same_symᵉ, same_transᵉ, opposite_same}
+use Rattle.rational.proofs.Order.{ge_of_same, lt_of_le_of_lt, same_refl}
+use Rattle.rational.proofs.AffineLemmas.{same_symᵉ, same_transᵉ, bounded_same, opposite_back, opposite_same}
+use Rattle.rational.proofs.ExtendedLemmas.{opposite_twice}
 use Rattle.pl_signal.specs.declared.knot.Knot.{Knot}
 use Rattle.pl_signal.specs.Knots.{time, stop, IsWorth, IsSignal}
 use Rattle.pl_signal.specs.Limits.{IsLimited}
@@ -14,32 +15,11 @@ use Rattle.pl_signal.proofs.Values.{worth_at, worth_between, worth_same, one_val
 use Rattle.pl_signal.proofs.Telling.{IsFunction, TellsSoFar, tells_on}
 use Rattle.signal_ops.specs.Pointwise.{Negated}
 
-turned : (v w : Extended) → v ≈ᵉ opposite w → w ≈ᵉ opposite v
-turned v w h = same_symᵉ (opposite v) w (twice w (opposite v) (opposite_same v (opposite w) h))
-  where
-    twice : (w x : Extended) → x ≈ᵉ opposite (opposite w) → x ≈ᵉ w
-    twice minus_infinity x h = h
-    twice (finite y) x h = h
-    twice infinity x h = h
-
-double : (v w : Extended) → w ≈ᵉ opposite (opposite v) → w ≈ᵉ v
-double minus_infinity w h = h
-double (finite y) w h = h
-double infinity w h = h
-
 from_opposites : (v w : Extended) → opposite v ≈ᵉ opposite w → v ≈ᵉ w
-from_opposites v w h = same_symᵉ w v (double v w (turned (opposite v) w h))
-
--- what is bounded stays so by another pair
-bounded_same : (n : ℕ) (v w : Extended) → v ≈ᵉ w → IsBounded n v → IsBounded n w
-bounded_same n v minus_infinity e h = tt
-bounded_same n v infinity e h = tt
-bounded_same n minus_infinity (finite y) e h = absurd e.at_least
-bounded_same n (finite x) (finite y) e h = (le_trans h.0 e.at_most, le_trans e.at_least h.1)
-bounded_same n infinity (finite y) e h = absurd e.at_most
+from_opposites v w h = let e = opposite_back (opposite v) w h in same_symᵉ w v (rw opposite_twice at e)
 
 pub level_bounded : (n : ℕ) (f : Affine) (t : Rational) → IsBounded n (value_at f t) → HasBoundedLevel n f
-level_bounded n f t h = λ steady u. bounded_same n (value_at f t) (value_at f u) (steady t u) h
+level_bounded n f t h = λ steady u. bounded_same n (value_at f u) (value_at f t) (steady u t) h
 
 module _ {P : Type 0} (function : P → Affine) where
   -- the shapes of a limited signal have bounded levels
@@ -76,7 +56,7 @@ module _ {P : Type 0} (function : P → Affine) where
     where
       by_knot : (t : Rational) (v : Extended) → IsWorth function (record { time = k.time; point = point; after = point } ∷ []) t v → Negated (IsWorth function ks) t v
       by_knot t v (inl w) = worth_same function ks (value_at (function k.point) t) (opposite v) (same_refl t)
-          (turned v (value_at (function k.point) t) (same_transᵉ v (value_at (function point) t) (opposite (value_at (function k.point) t)) w.worth (points t))) (worth_at function ks 0 k t at_0 w.when)
+          (opposite_back v (value_at (function k.point) t) (same_transᵉ v (value_at (function point) t) (opposite (value_at (function k.point) t)) w.worth (points t))) (worth_at function ks 0 k t at_0 w.when)
       by_knot t v (inr (inl w)) = absurd w
       by_knot t v (inr (inr w)) = absurd w
 
@@ -88,6 +68,6 @@ module _ {P : Type 0} (function : P → Affine) where
   negated_on ks old new i k n after point s at_i at_next so_far stops afters points on =
       tells_on function (Negated (IsWorth function ks)) old new after point n.time (negated_is_function ks s) so_far on
       (λ t a b. worth_same function ks (value_at (function k.after) t) (opposite (value_at (function after) t)) (same_refl t)
-      (turned (value_at (function after) t) (value_at (function k.after) t) (afters t)) (worth_between function ks i k n t at_i at_next (lt_of_le_of_lt (ge_of_same stops) a) b))
+      (opposite_back (value_at (function after) t) (value_at (function k.after) t) (afters t)) (worth_between function ks i k n t at_i at_next (lt_of_le_of_lt (ge_of_same stops) a) b))
       (worth_same function ks (value_at (function n.point) (time n)) (opposite (value_at (function point) (time n))) (same_refl (time n))
-      (turned (value_at (function point) (time n)) (value_at (function n.point) (time n)) (points (time n))) (worth_at function ks (i + 1) n (time n) at_next (same_refl (time n))))
+      (opposite_back (value_at (function point) (time n)) (value_at (function n.point) (time n)) (points (time n))) (worth_at function ks (i + 1) n (time n) at_next (same_refl (time n))))

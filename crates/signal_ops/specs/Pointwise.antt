@@ -1,5 +1,5 @@
 -- The least and the greatest of two functions of time at each time, the negation of one, and when a step over two may refuse.
-use Rattle.std.specs.Prelude.{◌≤◌, ◌^◌, ℕ}
+use Rattle.std.specs.Prelude.{◌≤◌, ◌^◌, ℕ, List}
 use Rattle.rational.specs.Rational.{Rational, ◌<ʳ◌, ◌≤ʳ◌}
 use Rattle.rational.specs.Time.{HasDenominator}
 use Rattle.rational.specs.Extended.{Extended, Affine, value_at, IsLeast, IsGreatest, opposite}
@@ -9,6 +9,8 @@ use Rattle.frac128.specs.Value.{value}
 use Rattle.pl_signal.specs.declared.faults.WidePair.TheVariants.{Cross, Value}
 use Rattle.pl_signal.specs.declared.faults.OpFault.{OpFault}
 use Rattle.pl_signal.specs.declared.faults.OpFault.TheVariants as F
+use Rattle.pl_signal.specs.declared.knot.Knot.{Knot}
+use Rattle.pl_signal.specs.Knots.{HasShape}
 
 -- at each time the least of the two values there
 abbrev pub LeastOf : Function → Function → Function
@@ -43,3 +45,9 @@ module _ {P : Type 0} (function : P → Affine) where
   IsFault A B start stop F.Memory = Unit {0}
   IsFault A B start stop (F.Wide (Cross p q from to den)) = IsWideMeeting A B start stop p q (value from) (value to) den
   IsFault A B start stop (F.Wide (Value p at den)) = ⊥
+
+-- the crossing that a fault names is that of a shape of each signal
+abbrev pub NamesShapes : {P : Type 0} → List (Knot P) → List (Knot P) → OpFault P → Type 0
+NamesShapes a b F.Memory = Unit {0}
+NamesShapes a b (F.Wide (Cross p q from to den)) = HasShape a p × HasShape b q
+NamesShapes a b (F.Wide (Value p at den)) = ⊥

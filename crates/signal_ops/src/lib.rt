@@ -1,7 +1,6 @@
 //! Signals negated, and the least and the greatest of two, at each time.
 #![tactic(auto)]
 
-mod joining;
 mod negation;
 mod pointwise;
 

@@ -17,7 +17,7 @@ pub fn neg<P: Shape>(s: &Signal<P>) -> Result<Signal<P>, Memory>
 {
     let count = s.len();
     let first = s.knot(0);
-    let mut built = Builder::start(s.alloc(), first.time, first.point.neg())?;
+    let mut built = Builder::with_room(s.alloc(), first.time, first.point.neg(), count)?;
     for i in 1..count {
         let after = s.knot(i - 1).after.neg();
         let knot = s.knot(i);

@@ -4,11 +4,12 @@ ghost use Rattle.rational.specs.Time.{◌≈◌};
 ghost use Rattle.pl_signal.specs.Knots.{HasShape, IsWorth, start, stop};
 ghost use Rattle.pl_signal.specs.Limits.{IsLimited};
 ghost use Rattle.pl_signal.specs.Moves.{Tells};
-ghost use Rattle.signal_ops.specs.Joining.{ChosenOf};
-ghost use Rattle.signal_ops.specs.Pointwise.{GreatestOf, IsFault, LeastOf};
+ghost use Rattle.pl_signal.specs.Joining.{ChosenOf};
+ghost use Rattle.pl_signal.specs.Wide.{HasCause};
+ghost use Rattle.rational.specs.InPlay.{of_two};
+ghost use Rattle.signal_ops.specs.Pointwise.{GreatestOf, IsFault, LeastOf, NamesShapes};
 
-use crate::joining::{advance, chosen, earlier, join};
-use pl_signal::{Builder, OpFault, Signal};
+use pl_signal::{Builder, OpFault, Side, Signal, chosen, earlier};
 use value_laws::Shape;
 
 /// The least of two signals at each time; both have one domain. Each of its shapes is a shape of one of them.
@@ -25,8 +26,11 @@ pub fn lower<P: Shape>(a: &Signal<P>, b: &Signal<P>) -> Result<Signal<P>, OpFaul
     ensures shapes { IfOk result (λ r. (p : P) → HasShape r p → HasShape a.now p ⊎ HasShape b.now p) }
     ensures wide { IfErr result
         (IsFault P.function (IsWorth P.function a.now) (IsWorth P.function b.now) (start a.now) (stop a.now)) }
+    ensures named { IfErr result (NamesShapes a.now b.now) }
+    ensures cause { IfErr result (HasCause P.function (of_two (IsWorth P.function a.now) (IsWorth P.function b.now))
+        (start a.now) (stop a.now)) }
 {
-    combined(true, a, b)
+    combined(Side::Least, a, b)
 }
 
 /// The greatest of two signals at each time; both have one domain. Each of its shapes is a shape of one of them.
@@ -43,39 +47,41 @@ pub fn upper<P: Shape>(a: &Signal<P>, b: &Signal<P>) -> Result<Signal<P>, OpFaul
     ensures shapes { IfOk result (λ r. (p : P) → HasShape r p → HasShape a.now p ⊎ HasShape b.now p) }
     ensures wide { IfErr result
         (IsFault P.function (IsWorth P.function a.now) (IsWorth P.function b.now) (start a.now) (stop a.now)) }
+    ensures named { IfErr result (NamesShapes a.now b.now) }
+    ensures cause { IfErr result (HasCause P.function (of_two (IsWorth P.function a.now) (IsWorth P.function b.now))
+        (start a.now) (stop a.now)) }
 {
-    combined(false, a, b)
+    combined(Side::Greatest, a, b)
 }
 
 /// What is chosen of the two at each time, in one pass over both lists of knots.
-fn combined<P: Shape>(least: bool, a: &Signal<P>, b: &Signal<P>) -> Result<Signal<P>, OpFault<P>>
+fn combined<P: Shape>(side: Side, a: &Signal<P>, b: &Signal<P>) -> Result<Signal<P>, OpFault<P>>
     requires left { IsLimited P.function a.now }
     requires right { IsLimited P.function b.now }
     requires begins { start a.now ≈ start b.now }
     requires ends { stop a.now ≈ stop b.now }
     ensures worth { IfOk result
-        (Tells P.function (ChosenOf least (IsWorth P.function a.now) (IsWorth P.function b.now)) (start a.now) (stop a.now)) }
+        (Tells P.function (ChosenOf side (IsWorth P.function a.now) (IsWorth P.function b.now)) (start a.now) (stop a.now)) }
     ensures shapes { IfOk result (λ r. (p : P) → HasShape r p → HasShape a.now p ⊎ HasShape b.now p) }
     ensures wide { IfErr result
         (IsFault P.function (IsWorth P.function a.now) (IsWorth P.function b.now) (start a.now) (stop a.now)) }
+    ensures named { IfErr result (NamesShapes a.now b.now) }
 {
     let last = a.len() - 1;
     let _ = b.len();
     let (x, y) = (a.knot(0), b.knot(0));
-    let mut at = x.time;
-    let mut built = Builder::start(a.alloc(), at, chosen(least, &x.point, &y.point, &at))?;
+    let first = chosen(side, &x.point, &y.point, &x.time);
+    let room = a.len().saturating_add(b.len());
+    let mut built = Builder::with_room(a.alloc(), x.time, first, room)?;
     let mut i = 0;
     let mut j = 0;
     while i < last {
         let (p, q) = (a.knot(i).after, b.knot(j).after);
         let to = earlier(&a.knot(i + 1).time, &b.knot(j + 1).time);
-        let left = advance(a, i, &at, &to);
-        let right = advance(b, j, &at, &to);
-        let point = chosen(least, &left.shape, &right.shape, &to);
-        if let Err(fault) = join(least, &mut built, &p, &q, &at, &to, point) {
-            return Err(fault);
-        }
-        at = to;
+        let left = a.advance(i, &to);
+        let right = b.advance(j, &to);
+        let point = chosen(side, &left.shape, &right.shape, &to);
+        built.join(side, &p, &q, &to, point)?;
         i = left.place;
         j = right.place;
     }

@@ -3,9 +3,10 @@ use Rattle.std.proofs.Common.{◌≡◌, ℕ, ◌⊎◌, inl, inr, Bool, true, f
 use Rattle.std.proofs.lemmas.Bool.{cases_order}
 use Rattle.rational.specs.Rational.{Rational}
 use Rattle.rational.specs.Time.{Precedes, Interval, IsIn}
-use Rattle.rational.specs.Extended.{Extended, ◌≈ᵉ◌}
+use Rattle.rational.specs.Extended.{Extended}
 use Rattle.rational.proofs.Order.{le_or_lt, not_lt_of_le}
-use Rattle.rational.proofs.ExtendedLemmas.{le_reflᵉ, le_transᵉ}
+use Rattle.rational.proofs.AffineLemmas.{same_reflᵉ}
+use Rattle.rational.proofs.ExtendedLemmas.{le_transᵉ}
 use Rattle.frac128.specs.Spans.{interval}
 use Rattle.stl_syntax.specs.Trace.{Trace}
 use Rattle.stl_syntax.specs.Truth.{holds_at}
@@ -38,9 +39,6 @@ told_covered (e ∷ items) i t = by_first (cases_order e.node i) (told_inside (i
     by_first (inl s) (inl m) (inr h) = inl (inl (s, m))
     by_first (inl s) (inr m) (inr h) = inr (λ c. elim c [ inl k ↦ m k.1 | inr k ↦ h k ])
     by_first (inr l) m (inr h) = inr (λ c. elim c [ inl k ↦ elim l [ inl x ↦ omega (arith, k.0) | inr x ↦ omega (arith, k.0) ] | inr k ↦ h k ])
-
-same_reflᵉ : (v : Extended) → v ≈ᵉ v
-same_reflᵉ v = record { at_most = le_reflᵉ v; at_least = le_reflᵉ v }
 
 -- a trace with items gives each atom a value at each time
 pub certainties_give : (tr : Trace) (items : List Item) (i : ℕ) (a : Atom) (t : Rational) → (r : Extended) × Gives (certainties tr items) i a t r

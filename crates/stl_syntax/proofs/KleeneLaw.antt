@@ -1,16 +1,16 @@
 -- With atoms read as 1, -1 and 0 the Sup-Inf value is 1 exactly on what is certainly true, and -1 exactly on what is certainly false.
-use Rattle.std.proofs.Common.{◌≡◌, ◌⊎◌, inl, inr, arith, true, false, lit≤, lit<, refl, sym, ◌∙◌, List}
+use Rattle.std.proofs.Common.{◌⊎◌, inl, inr, true, false, lit≤, lit<, refl, sym, ◌∙◌, List}
 use Rattle.rational.specs.Time.{Rational, Within}
 use Rattle.rational.specs.Windows.{Ahead, Behind, Function, Window, IsSupOver, IsInfOver, IsUpTo, IsDownTo}
 use Rattle.stl_syntax.specs.Trace.{Trace, start, stop}
 use Rattle.stl_syntax.specs.Formula.{Subformula, constant, atom, negation, conjunction, disjunction, implication, until, eventually, always, since, once, historically}
-use Rattle.rational.specs.Extended.{Extended, minus_infinity, finite, infinity, ◌≤ᵉ◌, ◌<ᵉ◌, ◌≈ᵉ◌, opposite, IsLeast, IsGreatest}
+use Rattle.rational.specs.Extended.{Extended, ◌≤ᵉ◌, ◌<ᵉ◌, ◌≈ᵉ◌, opposite, IsLeast, IsGreatest}
 use Rattle.stl_syntax.specs.SupInf.{Setting, SupInf, one, minus_one, zero_value, HasValues, HasInfs, certainty_setting}
 use Rattle.stl_syntax.specs.Kleene.{Must, MustNot}
 use Rattle.stl_syntax.specs.declared.items.Item.{Item}
-use Rattle.rational.proofs.ExtendedLemmas.{le_totalᵉ, clashᵉ, le_reflᵉ, le_transᵉ, opposite_le'}
+use Rattle.rational.proofs.ExtendedLemmas.{le_totalᵉ, clashᵉ, le_reflᵉ, le_transᵉ, least_of, lt_opposite, opposite_le', opposite_twice}
+use Rattle.rational.proofs.TimeLemmas.{within_stretch}
 use Rattle.stl_syntax.proofs.TruthLaw.{has_value}
-use Rattle.rational.proofs.Order.{le_trans, le_of_lt}
 
 -- v is 1 and P is certain, or v is -1 and N is certain, or v is 0 and neither is
 abbrev pub Tells3 : Extended → Type 0 → Type 0 → Type 0
@@ -103,31 +103,17 @@ sup_tells3 W F P N r tells has h = by_low (le_totalᵉ r minus_one)
         ))
     by_low (inr l) = by_zero l (le_totalᵉ r zero_value)
 
-pub opposite_twice : (v : Extended) → opposite (opposite v) ≡ v
-opposite_twice minus_infinity = refl
-opposite_twice (finite x) = refl
-opposite_twice infinity = refl
-
-pub opposite_lt : (v w : Extended) → v <ᵉ w → opposite w <ᵉ opposite v
-opposite_lt minus_infinity minus_infinity h = h
-opposite_lt minus_infinity (finite y) h = tt
-opposite_lt minus_infinity infinity h = tt
-opposite_lt (finite x) minus_infinity h = h
-opposite_lt (finite x) (finite y) h = record { lt = omega (arith, h.lt) }
-opposite_lt (finite x) infinity h = tt
-opposite_lt infinity w h = absurd h
-
 -- the opposite of an Inf is the Sup of the opposite function
 opposite_of_inf : (W : Window) (F : Function) (r : Extended) → IsInfOver one W F r → IsSupOver minus_one W (λ u v. F u (opposite v)) (opposite r)
 opposite_of_inf W F r h = record {
   at_least = opposite_le' r one h.at_most;
   bound = λ v. λ (u, w, f). let e = opposite_le' r (opposite v) (h.bound (opposite v) (u, w, f)) in rw opposite_twice at e;
-  reached = λ w l k. below w (h.reached (opposite w) (let e = opposite_lt w (opposite r) k in rw opposite_twice at e) (opposite_le' minus_one w l));
+  reached = λ w l k. below w (h.reached (opposite w) (let e = lt_opposite w (opposite r) k in rw opposite_twice at e) (opposite_le' minus_one w l));
 }
   where
     below : (w : Extended) → (v : Extended) × ((u : Rational) × W u × F u v) × (v <ᵉ opposite w)
         → (v : Extended) × ((u : Rational) × W u × F u (opposite v)) × (w <ᵉ v)
-    below w (v, (u, m, f), l) = (opposite v, (u, m, rw opposite_twice f), (let e = opposite_lt v (opposite w) l in rw opposite_twice at e))
+    below w (v, (u, m, f), l) = (opposite v, (u, m, rw opposite_twice f), (let e = lt_opposite v (opposite w) l in rw opposite_twice at e))
 
 opposite_tells3 : (v : Extended) (P N : Type 0) → Tells3 v P N → Tells3 (opposite v) N P
 opposite_tells3 v P N (inl (e, p, n)) = inr (inl (record { at_most = opposite_le' one v e.at_least; at_least = opposite_le' v one e.at_most }, p, n))
@@ -219,25 +205,8 @@ greatest_tells3 v w r P N Q M d e l =
     flipped (inl x) = inl (opposite_le' r v x)
     flipped (inr x) = inr (opposite_le' r w x)
 
-pub lt_le : (v w : Extended) → v <ᵉ w → v ≤ᵉ w
-lt_le minus_infinity w h = tt
-lt_le (finite x) minus_infinity h = absurd h
-lt_le (finite x) (finite y) h = le_of_lt h
-lt_le (finite x) infinity h = tt
-lt_le infinity w h = absurd h
-
-pub least_exists : (v w : Extended) → (r : Extended) × IsLeast v w r
-least_exists v w = by_order (le_totalᵉ v w)
-  where
-    by_order : (v ≤ᵉ w) ⊎ (w <ᵉ v) → (r : Extended) × IsLeast v w r
-    by_order (inl l) = (v, record { left = le_reflᵉ v; right = l; one_of = inl (le_reflᵉ v) })
-    by_order (inr l) = (w, record { left = lt_le w v l; right = le_reflᵉ w; one_of = inr (le_reflᵉ w) })
-
 implies_tells3 : (v w r : Extended) (P N Q M : Type 0) → Tells3 v P N → Tells3 w Q M → IsGreatest (opposite v) w r → Tells3 r (N ⊎ Q) (P × M)
 implies_tells3 v w r P N Q M d e l = greatest_tells3 (opposite v) w r N P Q M (opposite_tells3 v P N d) e l
-
-pub between : {from to t u v : Rational} → Within from to t → Within from to u → Within t u v → Within from to v
-between h k l = record { above = le_trans h.above l.above; below = le_trans l.below k.below }
 
 module _ (items : List Item) (tr : Trace) where
   abbrev setting : Setting
@@ -279,8 +248,8 @@ module _ (items : List Item) (tr : Trace) where
       (λ u. MustNot q items tr u ⊎ ((v : Rational) × Within t u v × MustNot p items tr v)) r
       (λ u v m. λ (x, y, k, i, l). least_tells3 x y v _ _ _ _ (SupInf-certain q ok.2 more.2 u x m.inside k)
       (inf_tells3 (Within t u) (SupInf p setting) (λ x. Must p items tr x) (λ x. MustNot p items tr x) y
-      (λ x z n f. SupInf-certain p ok.1 more.1 x z (between w m.inside n) f) (λ x n. has_value p setting ok.1 x (between w m.inside n)) i) l)
-      (λ u m. let x = has_value q setting ok.2 u m.inside in let y = more.0 t u w m.inside in let v = least_exists x.0 y.0 in (v.0, (x.0, y.0, x.1, y.1, v.1))) h)
+      (λ x z n f. SupInf-certain p ok.1 more.1 x z (within_stretch w m.inside n) f) (λ x n. has_value p setting ok.1 x (within_stretch w m.inside n)) i) l)
+      (λ u m. let x = has_value q setting ok.2 u m.inside in let y = more.0 t u w m.inside in let v = least_of x.0 y.0 in (v.0, (x.0, y.0, x.1, y.1, v.1))) h)
   SupInf-certain (since a b p q) ok more t r w h =
       retold3 r _ _ (Must (since a b p q) items tr t) (MustNot (since a b p q) items tr t)
       (λ (u, m, k). (u, m, k.0, k.1)) (λ (u, m, k, l). (u, m, (k, l))) (λ f. f) (λ f. f)
@@ -289,5 +258,5 @@ module _ (items : List Item) (tr : Trace) where
       (λ u. MustNot q items tr u ⊎ ((v : Rational) × Within u t v × MustNot p items tr v)) r
       (λ u v m. λ (x, y, k, i, l). least_tells3 x y v _ _ _ _ (SupInf-certain q ok.2 more.2 u x m.inside k)
       (inf_tells3 (Within u t) (SupInf p setting) (λ x. Must p items tr x) (λ x. MustNot p items tr x) y
-      (λ x z n f. SupInf-certain p ok.1 more.1 x z (between m.inside w n) f) (λ x n. has_value p setting ok.1 x (between m.inside w n)) i) l)
-      (λ u m. let x = has_value q setting ok.2 u m.inside in let y = more.0 u t m.inside w in let v = least_exists x.0 y.0 in (v.0, (x.0, y.0, x.1, y.1, v.1))) h)
+      (λ x z n f. SupInf-certain p ok.1 more.1 x z (within_stretch m.inside w n) f) (λ x n. has_value p setting ok.1 x (within_stretch m.inside w n)) i) l)
+      (λ u m. let x = has_value q setting ok.2 u m.inside in let y = more.0 u t m.inside w in let v = least_of x.0 y.0 in (v.0, (x.0, y.0, x.1, y.1, v.1))) h)

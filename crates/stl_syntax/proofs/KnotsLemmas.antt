@@ -1,10 +1,9 @@
 -- A list of knots gives at most one value at a time.
 use Rattle.std.proofs.Common.{◌≡◌, ℕ, inl, inr, List, [], ◌∷◌}
 use Rattle.std.specs.Prelude.{Option, Some, slice_get}
-use Rattle.rational.specs.Rational.{Rational, ◌≤ʳ◌, ◌<ʳ◌}
-use Rattle.rational.proofs.Order.{le_of_same, ge_of_same, le_trans, le_of_lt, not_lt_of_le, same_of_le}
-use Rattle.rational.proofs.Lines.{same_lines}
-use Rattle.rational.specs.Extended.{Extended, ◌≤ᵉ◌, ◌≈ᵉ◌, Affine, always_low, affine, always_high, value_at}
+use Rattle.rational.specs.Rational.{Rational, ◌≤ʳ◌}
+use Rattle.rational.proofs.Order.{le_of_same, ge_of_same, le_trans, le_of_lt, not_lt_of_le}
+use Rattle.rational.specs.Extended.{Extended, ◌≤ᵉ◌, value_at}
 use Rattle.stl_syntax.specs.Knots.{Knot, Piece, Knots, ReadsFrom, AreKnotsFrom, AreKnots}
 use Rattle.stl_syntax.specs.SupInf.{signals}
 use Rattle.rational.proofs.AffineLemmas.{affine_unique, same_symᵉ, same_transᵉ}

@@ -4,7 +4,7 @@ use Rattle.rational.specs.Time.{Rational, ◌≤ʳ◌, ◌<ʳ◌, closed, later}
 use Rattle.rational.specs.Windows.{Ahead}
 use Rattle.rational.specs.Extended.{Extended, minus_infinity, infinity, ◌≈ᵉ◌, Affine, always_low, affine, always_high, value_at}
 use Rattle.rational.proofs.Order.{le_of_lt, le_trans}
-use Rattle.rational.proofs.ExtendedLemmas.{le_reflᵉ}
+use Rattle.rational.proofs.AffineLemmas.{same_reflᵉ}
 use Rattle.frac128.specs.Value.{value}
 use Rattle.stl_syntax.specs.Trace.{start, stop}
 use Rattle.stl_syntax.specs.Formula.{Subformula, constant, always}
@@ -75,9 +75,6 @@ late_knots = record {
       ∷ record { from = infinity; to = infinity; next = record { time = at_time 10; value = infinity } } ∷ [];
 }
 
-same : (v : Extended) → v ≈ᵉ v
-same v = record { at_most = le_reflᵉ v; at_least = le_reflᵉ v }
-
 not_one_line : (g : Affine) → minus_infinity ≈ᵉ value_at g (at_time 0) → infinity ≈ᵉ value_at g (at_time 10) → ⊥
 not_one_line always_low h k = k.at_most
 not_one_line (affine f) h k = k.at_most
@@ -90,14 +87,14 @@ late_margins = (
   inr (
     (
       record { lt = lit< tt },
-      λ t h k. (minus_infinity, early_value t (le_of_lt h) (le_of_lt k), record { after = h; before = k; through = always_low; from = same minus_infinity; to = same minus_infinity; value = same minus_infinity }),
+      λ t h k. (minus_infinity, early_value t (le_of_lt h) (le_of_lt k), record { after = h; before = k; through = always_low; from = same_reflᵉ minus_infinity; to = same_reflᵉ minus_infinity; value = same_reflᵉ minus_infinity }),
     ),
     early_value (at_time 9) (omega arith) (omega arith),
     (
       (λ n. not_one_line n.through n.begins n.ends),
       (
         record { lt = lit< tt },
-        λ t h k. (infinity, late_value t h, record { after = h; before = k; through = always_high; from = same infinity; to = same infinity; value = same infinity }),
+        λ t h k. (infinity, late_value t h, record { after = h; before = k; through = always_high; from = same_reflᵉ infinity; to = same_reflᵉ infinity; value = same_reflᵉ infinity }),
       ),
       late_value (at_time 10) (record { lt = lit< tt }),
       record { same = refl },

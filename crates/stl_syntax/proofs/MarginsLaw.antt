@@ -7,7 +7,7 @@ use Rattle.stl_syntax.specs.Trace.{Trace, start, stop}
 use Rattle.stl_syntax.specs.Formula.{Subformula}
 use Rattle.stl_syntax.specs.Knots.{Knot, Piece, Knots, IsInside}
 use Rattle.stl_syntax.specs.SupInf.{Robustness}
-use Rattle.stl_syntax.specs.Verdicts.{AreOneLine, IsRobust, IsRobustInside, PiecesGoOn, TellsAfter, DescribesMargins, KnotsAlike, PiecesAlike}
+use Rattle.stl_syntax.specs.Verdicts.{IsRobust, IsRobustInside, PiecesGoOn, TellsAfter, DescribesMargins, KnotsAlike, PiecesAlike}
 use Rattle.stl_syntax.proofs.SupInfLemmas.{SupInf-unique, margins_give_one}
 use Rattle.stl_syntax.proofs.TimeLaw.{SupInf-same}
 use Rattle.rational.proofs.AffineLemmas.{affine_unique, same_symᵉ, same_transᵉ, value_same}

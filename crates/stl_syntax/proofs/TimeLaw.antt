@@ -2,11 +2,10 @@
 use Rattle.std.proofs.Common.{◌≡◌, ℕ, inl, inr, Bool, true, false, IsTrue, List, [], ◌∷◌, sym, ◌∙◌, refl}
 use Rattle.rational.specs.Rational.{Rational, ◌≈◌}
 use Rattle.rational.specs.Time.{IsIn}
-use Rattle.rational.specs.Extended.{Extended, finite, ◌≈ᵉ◌, opposite, Affine, always_low, affine, always_high, value_at}
+use Rattle.rational.specs.Extended.{Extended, finite, opposite, value_at}
 use Rattle.rational.specs.Windows.{Ahead, Behind}
 use Rattle.rational.proofs.Order.{le_of_same, ge_of_same, same_sym, same_trans, lt_of_le_of_lt, lt_of_lt_of_le}
 use Rattle.rational.proofs.Field.{same_negate}
-use Rattle.rational.proofs.Lines.{same_at}
 use Rattle.rational.proofs.TimeLemmas.{precedes_after, precedes_before}
 use Rattle.rational.proofs.AffineLemmas.{same_transᵉ, finite_same, value_same}
 use Rattle.rational.proofs.WindowLemmas.{ahead_same, behind_same, from_same, to_same, sup_alike, sup_over_alike, inf_over_alike, up_to_same, down_to_same}

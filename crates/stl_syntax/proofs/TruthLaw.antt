@@ -7,8 +7,8 @@ use Rattle.stl_syntax.specs.Formula.{Subformula, constant, atom, negation, conju
 use Rattle.rational.specs.Extended.{Extended, ◌≤ᵉ◌, ◌<ᵉ◌, ◌≈ᵉ◌, opposite, IsLeast, IsGreatest}
 use Rattle.stl_syntax.specs.SupInf.{Setting, SupInf, one, minus_one, HasValue, HasValues, truth_setting}
 use Rattle.stl_syntax.specs.Truth.{Truth}
+use Rattle.rational.proofs.TimeLemmas.{within_stretch}
 use Rattle.rational.proofs.ExtendedLemmas.{le_totalᵉ, clashᵉ, le_reflᵉ, le_transᵉ, opposite_le, opposite_le'}
-use Rattle.rational.proofs.Order.{le_trans}
 
 -- v is 1 and P holds, or v is -1 and P does not hold
 abbrev pub Tells : Extended → Type 0 → Type 0
@@ -169,10 +169,6 @@ retold : (r : Extended) (P Q : Type 0) → (P → Q) → (Q → P) → Tells r P
 retold r P Q f g (inl (e, p)) = inl (e, f p)
 retold r P Q f g (inr (e, p)) = inr (e, λ q. p (g q))
 
--- a time between two times of the domain is in it
-between : {from to t u v : Rational} → Within from to t → Within from to u → Within t u v → Within from to v
-between h k l = record { above = le_trans h.above l.above; below = le_trans l.below k.below }
-
 up_to_tells : (P Q : Function) (A B : Rational → Type 0) (t u : Rational) (v : Extended)
     → ((w : Rational) (x : Extended) → Within t u w → P w x → Tells x (A w)) → ((w : Rational) → Within t u w → (x : Extended) × P w x)
     → ((x : Extended) → Q u x → Tells x (B u))
@@ -259,8 +255,8 @@ SupInf-truth (until a b p q) tr ok t r w h =
     (sup_tells (Ahead (start tr) (stop tr) a b true true t) (IsUpTo one (SupInf p (truth_setting tr)) (SupInf q (truth_setting tr)) t)
     (λ u. Truth q tr u × ((v : Rational) → Within t u v → Truth p tr v)) r
     (λ u v m. up_to_tells (SupInf p (truth_setting tr)) (SupInf q (truth_setting tr)) (λ x. Truth p tr x) (λ x. Truth q tr x) t u v
-    (λ x y n f. SupInf-truth p tr ok.1 x y (between w m.inside n) f)
-    (λ x n. has_value p (truth_setting tr) ok.1 x (between w m.inside n))
+    (λ x y n f. SupInf-truth p tr ok.1 x y (within_stretch w m.inside n) f)
+    (λ x n. has_value p (truth_setting tr) ok.1 x (within_stretch w m.inside n))
     (λ x f. SupInf-truth q tr ok.2 u x m.inside f))
     (λ u m k. let f = has_value q (truth_setting tr) ok.2 u m.inside in (
       one,
@@ -268,7 +264,7 @@ SupInf-truth (until a b p q) tr ok t r w h =
         f.0,
         one,
         f.1,
-        inf_of_ones (Within t u) (SupInf p (truth_setting tr)) (λ x. Truth p tr x) (λ x y n g. SupInf-truth p tr ok.1 x y (between w m.inside n) g) k.1,
+        inf_of_ones (Within t u) (SupInf p (truth_setting tr)) (λ x. Truth p tr x) (λ x y n g. SupInf-truth p tr ok.1 x y (within_stretch w m.inside n) g) k.1,
         least_of_ones f.0 (is_one f.0 (Truth q tr u) k.0 (SupInf-truth q tr ok.2 u f.0 m.inside f.1)),
       ),
       one_is_one,
@@ -278,8 +274,8 @@ SupInf-truth (since a b p q) tr ok t r w h =
     (sup_tells (Behind (start tr) (stop tr) a b true true t) (IsDownTo one (SupInf p (truth_setting tr)) (SupInf q (truth_setting tr)) t)
     (λ u. Truth q tr u × ((v : Rational) → Within u t v → Truth p tr v)) r
     (λ u v m. down_to_tells (SupInf p (truth_setting tr)) (SupInf q (truth_setting tr)) (λ x. Truth p tr x) (λ x. Truth q tr x) t u v
-    (λ x y n f. SupInf-truth p tr ok.1 x y (between m.inside w n) f)
-    (λ x n. has_value p (truth_setting tr) ok.1 x (between m.inside w n))
+    (λ x y n f. SupInf-truth p tr ok.1 x y (within_stretch m.inside w n) f)
+    (λ x n. has_value p (truth_setting tr) ok.1 x (within_stretch m.inside w n))
     (λ x f. SupInf-truth q tr ok.2 u x m.inside f))
     (λ u m k. let f = has_value q (truth_setting tr) ok.2 u m.inside in (
       one,
@@ -287,7 +283,7 @@ SupInf-truth (since a b p q) tr ok t r w h =
         f.0,
         one,
         f.1,
-        inf_of_ones (Within u t) (SupInf p (truth_setting tr)) (λ x. Truth p tr x) (λ x y n g. SupInf-truth p tr ok.1 x y (between m.inside w n) g) k.1,
+        inf_of_ones (Within u t) (SupInf p (truth_setting tr)) (λ x. Truth p tr x) (λ x y n g. SupInf-truth p tr ok.1 x y (within_stretch m.inside w n) g) k.1,
         least_of_ones f.0 (is_one f.0 (Truth q tr u) k.0 (SupInf-truth q tr ok.2 u f.0 m.inside f.1)),
       ),
       one_is_one,

@@ -2,27 +2,11 @@
 use Rattle.std.proofs.Common.{◌⊎◌, inl, inr, ℕ, ◌+◌, ◌*◌, ◌≤◌, arith, mul-le-mul_right}
 use Rattle.std.specs.Prelude.{Option, Some, None, true, IfSome}
 use Rattle.rational.specs.Time.{Rational, ◌≤ʳ◌, ◌<ʳ◌, Within, later}
-use Rattle.rational.specs.Extended.{Extended, minus_infinity, finite, infinity, ◌≤ᵉ◌, ◌<ᵉ◌, IsLeast, IsSup, IsInf}
+use Rattle.rational.specs.Extended.{Extended, ◌≤ᵉ◌, ◌<ᵉ◌, IsLeast, IsSup, IsInf}
 use Rattle.rational.specs.Windows.{Function, Window, Ahead, Behind, IsSupOver, IsInfOver, IsUntil, IsSince, UntilToEnd, SinceFromStart}
 use Rattle.rational.proofs.Order.{le_of_lt, le_or_lt, le_trans, le_refl, not_lt_of_le}
 use Rattle.rational.proofs.TimeLemmas.{later_le}
-use Rattle.rational.proofs.ExtendedLemmas.{le_totalᵉ, clashᵉ, le_reflᵉ, le_transᵉ}
-use Rattle.rational.proofs.Sups.{lt_of_lt_of_leᵉ, lt_of_le_of_ltᵉ}
-
-le_of_ltᵉ : (v w : Extended) → v <ᵉ w → v ≤ᵉ w
-le_of_ltᵉ minus_infinity w h = tt
-le_of_ltᵉ (finite x) minus_infinity h = absurd h
-le_of_ltᵉ (finite x) (finite y) h = le_of_lt h
-le_of_ltᵉ (finite x) infinity h = tt
-le_of_ltᵉ infinity w h = absurd h
-
--- two values have a least one
-pub least_of : (v w : Extended) → (r : Extended) × IsLeast v w r
-least_of v w = by_order (le_totalᵉ v w)
-  where
-    by_order : (v ≤ᵉ w) ⊎ (w <ᵉ v) → (r : Extended) × IsLeast v w r
-    by_order (inl l) = (v, record { left = le_reflᵉ v; right = l; one_of = inl (le_reflᵉ v) })
-    by_order (inr l) = (w, record { left = le_of_ltᵉ w v l; right = le_reflᵉ w; one_of = inr (le_reflᵉ w) })
+use Rattle.rational.proofs.ExtendedLemmas.{le_totalᵉ, clashᵉ, le_reflᵉ, le_transᵉ, lt_of_lt_of_leᵉ, lt_of_le_of_ltᵉ, least_of}
 
 -- a value below the least of two is below both, and one below both is below it
 pub below_least : (v w r x : Extended) → IsLeast v w r → x <ᵉ v → x <ᵉ w → x <ᵉ r

@@ -1,23 +1,15 @@
 -- The value of a since on a gap on which both sides are affine.
 use Rattle.std.proofs.Common.{◌⊎◌, inl, inr, Bool, true, false}
-use Rattle.rational.specs.Time.{Rational, ◌≤ʳ◌, ◌<ʳ◌, Interval, IsIn}
+use Rattle.rational.specs.Time.{Rational, ◌<ʳ◌, Interval, IsIn}
 use Rattle.rational.specs.Extended.{Extended, ◌≤ᵉ◌, ◌<ᵉ◌, IsLeast, IsGreatest, Affine, value_at, Passes}
 use Rattle.rational.specs.Windows.{Function, IsSupOver, IsInfOver}
 use Rattle.rational.proofs.Order.{le_refl, le_of_lt, lt_of_lt_of_le}
 use Rattle.rational.proofs.TimeLemmas.{precedes_le, precedes_of_lt}
-use Rattle.rational.proofs.ExtendedLemmas.{le_transᵉ, Inf-unique}
-use Rattle.rational.proofs.AffineLemmas.{near_start, near_stop, above_start, above_stop}
-use Rattle.rational.proofs.Sups.{lt_of_lt_of_leᵉ}
-use Rattle.pl_signal.proofs.SupLemmas.{at_most_an_end}
-use Rattle.until_ops.proofs.Composition.{least_of, below_least}
+use Rattle.rational.proofs.ExtendedLemmas.{le_transᵉ, lt_of_lt_of_leᵉ, least_of, Inf-unique}
+use Rattle.rational.proofs.AffineLemmas.{near_start, near_stop, above_start, above_stop, at_most_an_end}
+use Rattle.until_ops.specs.Courses.{Climbs, Sinks}
+use Rattle.until_ops.proofs.Composition.{below_least}
 use Rattle.until_ops.proofs.Forward.{upto, after, Reach}
-
--- the function grows with time, or stays; it shrinks, or stays
-abbrev pub Climbs : Affine → Type 0
-Climbs f = (t u : Rational) → t ≤ʳ u → value_at f t ≤ᵉ value_at f u
-
-abbrev pub Sinks : Affine → Type 0
-Sinks f = (t u : Rational) → t ≤ʳ u → value_at f u ≤ᵉ value_at f t
 
 -- on the interval the function is that of the line
 pub record IsOn (on : Interval) (F : Function) (f : Affine) : Type 0 where
@@ -53,7 +45,7 @@ module _ (highest : Extended) (P : Function) (f : Affine) (inside : Bool) (t0 t 
           (value_at f z.0, (z.0, record { above = le_of_lt z.1; below = z.2 }, on.back z.0 (record { above = lt_of_lt_of_le h.above (le_of_lt z.1); below = z.2 })), z.3)
 
   -- its Inf over the whole gap
-  gap_climbing : Climbs f → IsInfOver highest (IsIn (after inside t0 t)) P (value_at f t0)
+  pub gap_climbing : Climbs f → IsInfOver highest (IsIn (after inside t0 t)) P (value_at f t0)
   gap_climbing climbs = record {
     at_most = most t0;
     bound = λ v m. le_transᵉ (value_at f t0) (value_at f m.0) v (climbs t0 m.0 (le_of_lt m.1.above)) (on.out m.0 v m.1 m.2).at_least;
@@ -62,7 +54,7 @@ module _ (highest : Extended) (P : Function) (f : Affine) (inside : Bool) (t0 t 
         (value_at f z.0, (z.0, m, on.back z.0 m), z.3);
   }
 
-  gap_sinking : Sinks f → IsInfOver highest (IsIn (after inside t0 t)) P (value_at f t)
+  pub gap_sinking : Sinks f → IsInfOver highest (IsIn (after inside t0 t)) P (value_at f t)
   gap_sinking sinks = record {
     at_most = most t;
     bound = λ v m. le_transᵉ (value_at f t) (value_at f m.0) v (sinks m.0 t (precedes_le inside m.0 t m.1.below)) (on.out m.0 v m.1 m.2).at_least;
@@ -92,7 +84,7 @@ module _ (lowest highest : Extended) (P Q : Function) (f h : Affine) (inside : B
       ])
 
   -- P climbs: what is reached from u is the least of both at u. Where P is below Q all over the gap, the Sup is P's at its end
-  sup_of_left : Climbs f → ((u : Rational) → t0 <ʳ u → u <ʳ t → value_at f u ≤ᵉ value_at h u) → lowest ≤ᵉ value_at f t
+  pub sup_of_left : Climbs f → ((u : Rational) → t0 <ʳ u → u <ʳ t → value_at f u ≤ᵉ value_at h u) → lowest ≤ᵉ value_at f t
       → IsSupOver lowest (IsIn (after inside t0 t)) (Reach lowest highest P Q inside t) (value_at f t)
   sup_of_left climbs under low = record {
     at_least = low;
@@ -104,7 +96,7 @@ module _ (lowest highest : Extended) (P Q : Function) (f h : Affine) (inside : B
   }
 
   -- where Q is below P all over the gap, the Sup is the greater of Q's values at the ends
-  sup_of_right : Climbs f → ((u : Rational) → t0 <ʳ u → u <ʳ t → value_at h u ≤ᵉ value_at f u) → (g : Extended) → IsGreatest (value_at h t0) (value_at h t) g → lowest ≤ᵉ g
+  pub sup_of_right : Climbs f → ((u : Rational) → t0 <ʳ u → u <ʳ t → value_at h u ≤ᵉ value_at f u) → (g : Extended) → IsGreatest (value_at h t0) (value_at h t) g → lowest ≤ᵉ g
       → IsSupOver lowest (IsIn (after inside t0 t)) (Reach lowest highest P Q inside t) g
   sup_of_right climbs under g greatest low = record {
     at_least = low;
@@ -121,7 +113,7 @@ module _ (lowest highest : Extended) (P Q : Function) (f h : Affine) (inside : B
       by_end w o (inr e) = found w (near_stop h t0 t w later (lt_of_lt_of_leᵉ w g (value_at h t) o e))
 
   -- P sinks: what is reached from u is the least of Q at u and of P at the end
-  sup_of_sinking : Sinks f → (k g : Extended) → IsGreatest (value_at h t0) (value_at h t) k → IsLeast k (value_at f t) g → lowest ≤ᵉ g
+  pub sup_of_sinking : Sinks f → (k g : Extended) → IsGreatest (value_at h t0) (value_at h t) k → IsLeast k (value_at f t) g → lowest ≤ᵉ g
       → IsSupOver lowest (IsIn (after inside t0 t)) (Reach lowest highest P Q inside t) g
   sup_of_sinking sinks k g greatest least low = record {
     at_least = low;

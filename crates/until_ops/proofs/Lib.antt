@@ -3,3 +3,14 @@ mod SignalComposition
 mod Forward
 mod Gaps
 mod Points
+mod LimitLemmas
+mod CourseLemmas
+mod OnwardLemmas
+mod EventLemmas
+mod PlayLemmas
+mod SinceLemmas
+mod WalkLemmas
+mod MirrorLemmas
+mod BackLemmas
+mod BoundLemmas
+mod UntilLemmas

@@ -4,9 +4,8 @@ use Rattle.rational.specs.Time.{Rational, ◌≤ʳ◌, ◌<ʳ◌, ◌≈◌, Int
 use Rattle.rational.specs.Extended.{Extended, ◌≤ᵉ◌, ◌<ᵉ◌, IsLeast, IsGreatest}
 use Rattle.rational.specs.Windows.{Function, IsInfOver}
 use Rattle.rational.proofs.Order.{le_or_lt, le_refl, le_of_lt, same_of_le, same_sym}
-use Rattle.rational.proofs.ExtendedLemmas.{le_transᵉ}
-use Rattle.rational.proofs.Sups.{lt_of_lt_of_leᵉ}
-use Rattle.until_ops.proofs.Composition.{least_of, below_least, at_most_inf}
+use Rattle.rational.proofs.ExtendedLemmas.{le_transᵉ, lt_of_lt_of_leᵉ, least_of}
+use Rattle.until_ops.proofs.Composition.{below_least, at_most_inf}
 use Rattle.until_ops.proofs.Forward.{upto, Reach, Since}
 
 -- the function has one value at each time, whatever the pair

@@ -1,1 +1,5 @@
 pub mod Composition
+pub mod Untils
+pub mod Courses
+pub mod Walks
+pub mod Mirrors

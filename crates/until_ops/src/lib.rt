@@ -1,4 +1,10 @@
 //! `until` and `since` over signals.
 #![tactic(auto)]
 
+mod course;
 pub mod laws;
+mod since;
+mod until;
+
+pub use since::since_from_start;
+pub use until::until_to_end;

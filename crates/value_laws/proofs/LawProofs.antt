@@ -1,23 +1,15 @@
 -- The laws of shapes, from the laws of affine functions.
 use Rattle.std.proofs.Common.{◌⊎◌, inl, inr}
 use Rattle.rational.specs.Rational.{add}
-use Rattle.rational.specs.Extended.{Extended, minus_infinity, finite, infinity, ◌≤ᵉ◌, ◌<ᵉ◌, ◌≈ᵉ◌, opposite, value_at}
+use Rattle.rational.specs.Extended.{◌≤ᵉ◌, ◌<ᵉ◌, ◌≈ᵉ◌, opposite, value_at}
 use Rattle.rational.proofs.Field.{add_assoc}
 use Rattle.rational.proofs.ExtendedLemmas.{le_totalᵉ, le_transᵉ, opposite_le'}
 use Rattle.rational.proofs.AffineLemmas
 use Rattle.value_laws.specs.Laws.{NegationIsExact, MovesAreExact, OrderIsTotal, MeetOnce, LiesBetween, ComesClose, FixedIsConstant}
 
-opposite_twice : (v w : Extended) → w ≈ᵉ opposite v → v ≈ᵉ opposite w
-opposite_twice v w h = AffineLemmas.same_symᵉ (opposite w) v (twice v (opposite w) (AffineLemmas.opposite_same w (opposite v) h))
-  where
-    twice : (v x : Extended) → x ≈ᵉ opposite (opposite v) → x ≈ᵉ v
-    twice minus_infinity x h = h
-    twice (finite y) x h = h
-    twice infinity x h = h
-
 pub negation_is_exact : NegationIsExact
 negation_is_exact f g e = (
-  (λ t. opposite_twice (value_at f t) (value_at g t) (e t)),
+  (λ t. AffineLemmas.opposite_back (value_at g t) (value_at f t) (e t)),
   λ h k d t l. le_transᵉ (value_at k t) (opposite (value_at h t)) (value_at g t) (d t).at_most
       (le_transᵉ (opposite (value_at h t)) (opposite (value_at f t)) (value_at g t) (opposite_le' (value_at f t) (value_at h t) l) (e t).at_least),
 )

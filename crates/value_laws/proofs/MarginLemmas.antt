@@ -1,5 +1,5 @@
 -- Comparisons, trends and meetings of lines, said of margins as functions of time.
-use Rattle.std.proofs.Common.{◌≡◌, ◌⊎◌, ℕ, inl, inr, pos, refl, Bool, true, false, lit<, lit≤, arith, ap, ◌*◌}
+use Rattle.std.proofs.Common.{◌≡◌, ◌⊎◌, ℕ, inl, inr, pos, refl, Bool, true, false, lit<, arith, ap, ◌*◌}
 use Rattle.std.specs.Prelude.{◌↔◌, IsTrue, Result, Ok, Err, Option, Some, None, MatchResult, MatchOption, ◌^◌, ◌≤◌}
 use Rattle.std.specs.declared.cmp.Ordering.{Ordering}
 use Rattle.std.specs.declared.cmp.Ordering.TheVariants.{Less, Equal, Greater}
@@ -9,11 +9,12 @@ use Rattle.rational.specs.Time.{HasDenominator}
 use Rattle.rational.specs.Line.{Line, at, constant, Rises, Falls, Level, CrossAt}
 use Rattle.rational.specs.Extended.{Extended, minus_infinity, finite, infinity, ◌≈ᵉ◌, opposite, Affine, always_low, affine, always_high, value_at}
 use Rattle.rational.specs.Affine.{IsOrderᵉ, IsSteady, IsTrend, AreSame, MeetAlone, HasBoundedLevel}
-use Rattle.rational.proofs.Order.{same_of_le, same_sym, same_trans, not_lt_of_le, ge_of_same, le_of_same, le_trans}
+use Rattle.rational.proofs.Order.{same_sym, same_trans, not_lt_of_le, ge_of_same, le_of_same}
 use Rattle.rational.proofs.Field.{same_negate}
 use Rattle.rational.proofs.Lines.{at_constant, at_level, lt_at, lt_at_falls, slope_of}
-use Rattle.rational.proofs.Mixed.{within_same, within_of_small, neg_parts}
-use Rattle.rational.proofs.AffineLemmas.{finite_same, same_reflᵉ, same_symᵉ, same_transᵉ, order_sameᵉ, steady_never_meet_alone}
+use Rattle.rational.proofs.Mixed.{within_same, within_whole, neg_parts}
+use Rattle.rational.proofs.AffineMeetings.{alone_swap}
+use Rattle.rational.proofs.AffineLemmas.{finite_same, same_of_finite, same_reflᵉ, same_symᵉ, same_transᵉ, order_sameᵉ, steady_never_meet_alone}
 use Rattle.frac128.specs.Value.{value}
 use Rattle.frac128.specs.Line.{line}
 use Rattle.frac128.specs.declared.frac.Frac.{Frac}
@@ -57,31 +58,20 @@ line_trend Less f h = λ t u l. lt_at_falls f h l
 line_trend Equal f h = λ t u. finite_same (at_level t u f h)
 line_trend Greater f h = λ t u l. lt_at f h l
 
-finite_is : (x y : Rational) → finite x ≈ᵉ finite y → x ≈ y
-finite_is x y h = same_of_le h.at_most h.at_least
-
 -- lines that cross meet alone, and the other way round
 pub meet_of_cross : (f g : Line) (l r t : Rational) → CrossAt f g l r t → MeetAlone (affine f) (affine g) l r t
 meet_of_cross f g l r t h = record {
   after = h.after;
   before = h.before;
   meet = finite_same h.meet.equal;
-  alone = λ u e. h.meet.alone u (finite_is (at f u) (at g u) e);
+  alone = λ u e. h.meet.alone u (same_of_finite e);
 }
 
 pub cross_of_meet : (f g : Line) (l r t : Rational) → MeetAlone (affine f) (affine g) l r t → CrossAt f g l r t
 cross_of_meet f g l r t h = record {
   after = h.after;
   before = h.before;
-  meet = record { equal = finite_is (at f t) (at g t) h.meet; alone = λ u e. h.alone u (finite_same e) };
-}
-
-pub meet_swap : (f g : Affine) (l r t : Rational) → MeetAlone f g l r t → MeetAlone g f l r t
-meet_swap f g l r t h = record {
-  after = h.after;
-  before = h.before;
-  meet = same_symᵉ (value_at f t) (value_at g t) h.meet;
-  alone = λ u e. h.alone u (same_symᵉ (value_at g u) (value_at f u) e);
+  meet = record { equal = same_of_finite h.meet; alone = λ u e. h.alone u (finite_same e) };
 }
 
 -- what a meeting of two functions between l and r comes to
@@ -101,9 +91,9 @@ meeting_of_crossing f g l r (Ok (Some t)) h = meet_of_cross f g l r (value t) h
 meeting_of_crossing f g l r (Err e) h = (h.0, meet_of_cross f g l r h.0 h.1, h.2, h.3)
 
 pub meeting_swap : (f g : Affine) (l r : Rational) (x : Result (Option Frac) WideFrac) → IsMeeting f g l r x → IsMeeting g f l r x
-meeting_swap f g l r (Ok None) h = λ t m. h t (meet_swap g f l r t m)
-meeting_swap f g l r (Ok (Some t)) h = meet_swap f g l r (value t) h
-meeting_swap f g l r (Err e) h = (h.0, meet_swap f g l r h.0 h.1, h.2, h.3)
+meeting_swap f g l r (Ok None) h = λ t m. h t (alone_swap m)
+meeting_swap f g l r (Ok (Some t)) h = alone_swap h
+meeting_swap f g l r (Err e) h = (h.0, alone_swap h.1, h.2, h.3)
 
 steady_low : IsSteady always_low
 steady_low t u = same_reflᵉ minus_infinity
@@ -180,12 +170,12 @@ mirrored_constant m c t h =
 
 -- lines and constants that are one function
 pub same_lines_values : (b : Bool) (f g : Line) → (IsTrue b ↔ ((t : Rational) → at f t ≈ at g t)) → IsTrue b ↔ AreSame (affine f) (affine g)
-same_lines_values b f g e = (λ h t. finite_same (e.0 h t), λ h. e.1 (λ t. finite_is (at f t) (at g t) (h t)))
+same_lines_values b f g e = (λ h t. finite_same (e.0 h t), λ h. e.1 (λ t. same_of_finite (h t)))
 
 pub same_line_constant : (b : Bool) (f : Line) (c : Rational) → (IsTrue b ↔ ((t : Rational) → at f t ≈ c)) → IsTrue b ↔ AreSame (affine f) (affine (constant c))
 same_line_constant b f c e = (
   λ h t. finite_same (same_trans (e.0 h t) (same_sym (at_constant c t))),
-  λ h. e.1 (λ t. same_trans (finite_is (at f t) (at (constant c) t) (h t)) (at_constant c t)),
+  λ h. e.1 (λ t. same_trans (same_of_finite (h t)) (at_constant c t)),
 )
 
 pub same_swap : (b : Bool) (f g : Affine) → (IsTrue b ↔ AreSame f g) → IsTrue b ↔ AreSame g f
@@ -196,13 +186,9 @@ held c d s = same_transᵉ (finite c) (finite (at (constant c) c)) (finite d) (s
     (same_transᵉ (finite (at (constant c) c)) (finite (at (constant d) c)) (finite d) (s c) (constant_is d c))
 
 pub same_constants : (o : Ordering) (c d : Rational) → IsOrder o c d → IsTrue (is_eq o) ↔ AreSame (affine (constant c)) (affine (constant d))
-same_constants Less c d h = (λ b. absurd (let x : false ≡ true = b in cc), λ s. absurd (not_lt_of_le (ge_of_same (finite_is c d (held c d s))) h))
+same_constants Less c d h = (λ b. absurd (let x : false ≡ true = b in cc), λ s. absurd (not_lt_of_le (ge_of_same (same_of_finite (held c d s))) h))
 same_constants Equal c d h = (λ b t. finite_same (same_trans (at_constant c t) (same_trans h (same_sym (at_constant d t)))), λ s. refl)
-same_constants Greater c d h = (λ b. absurd (let x : false ≡ true = b in cc), λ s. absurd (not_lt_of_le (le_of_same (finite_is c d (held c d s))) h))
-
--- within 2^31 is within 2^32
-pub within_more : (c : Rational) → IsWithin (2 ^ 31) c → IsWithin (2 ^ 32) c
-within_more c h = (le_trans (record { le = lit≤ tt }) h.0, le_trans h.1 (record { le = lit≤ tt }))
+same_constants Greater c d h = (λ b. absurd (let x : false ≡ true = b in cc), λ s. absurd (not_lt_of_le (le_of_same (same_of_finite (held c d s))) h))
 
 -- a line is no constant and no infinite margin, and a constant is no infinite one
 pub line_apart : (f : Ramp) (q : Margin) → ((c : Frac) → q ≡ Fixed c → ⊥) → ((g : Ramp) → q ≡ Sloping g → ⊥) → ¬ AreSame (margin_function (Sloping f)) (margin_function q)
@@ -243,13 +229,13 @@ bounded_ramp f h t = by_slope (slope_of (line f))
     later = record { lt = lit< tt }
 
     same_ends : at (line f) zero ≈ at (line f) unit
-    same_ends = finite_is (at (line f) zero) (at (line f) unit) (h zero unit)
+    same_ends = same_of_finite (h zero unit)
 
     begins : at (line f) (whole f.t0) ≈ whole f.v0
     begins = record { same = omega arith }
 
     small : IsWithin (2 ^ 31) (whole f.v0)
-    small = within_of_small (2 ^ 31) f.v0 f.small_v0
+    small = within_whole (2 ^ 31) f.v0 f.small_v0
 
     by_slope : Rises (line f) ⊎ Level (line f) ⊎ Falls (line f) → IsWithin (2 ^ 31) (at (line f) t)
     by_slope (inl p) = absurd (not_lt_of_le (ge_of_same same_ends) (lt_at (line f) p later))

@@ -2,23 +2,15 @@
 use Rattle.std.proofs.Common.{subst, take, ◌-◌, ◌∙◌, ◌≡◌, ℕ, suc, ◌+◌, ◌<◌, ◌≤◌, ◌⊎◌, inl, inr, Bool, true, false, List, [], ◌∷◌, ◌++◌, refl, sym, ap, arith, length, if◌then◌else◌}
 use Rattle.std.specs.Prelude.{nat_lt, slice_get, Some, All, slice_index_or}
 use Rattle.std.proofs.lemmas.List.Elements.{All-nil, All-cons}
-use Rattle.rational.specs.Extended.{Extended, minus_infinity, finite, infinity, Affine, ◌<ᵉ◌, ◌≤ᵉ◌}
+use Rattle.rational.specs.Extended.{Extended, Affine, ◌≤ᵉ◌}
 use Rattle.std.proofs.Math.Seq.{take-length}
 use Rattle.std.proofs.lemmas.List.{take_more}
-use Rattle.rational.proofs.Order.{le_of_lt}
-use Rattle.rational.proofs.ExtendedLemmas.{le_transᵉ, le_reflᵉ}
+use Rattle.rational.proofs.ExtendedLemmas.{le_transᵉ, le_reflᵉ, le_of_ltᵉ}
 use Rattle.rational.specs.Affine.{IsOrderᵉ}
 use Rattle.std.specs.declared.cmp.Ordering.{Ordering}
 use Rattle.std.proofs.Common.{Less, Equal, Greater}
 use Rattle.window_extrema.specs.Range.{IsAtMost, IsGreatestOf}
 use Rattle.window_extrema.specs.Stairs.{AreStairs, AreStairsTo, from_place}
-
-pub le_of_ltᵉ : (v w : Extended) → v <ᵉ w → v ≤ᵉ w
-le_of_ltᵉ minus_infinity w h = tt
-le_of_ltᵉ (finite x) minus_infinity h = absurd h
-le_of_ltᵉ (finite x) (finite y) h = le_of_lt h
-le_of_ltᵉ (finite x) infinity h = tt
-le_of_ltᵉ infinity w h = absurd h
 
 pub at_most_where_not_less : (o : Ordering) (v w : Extended) → IsOrderᵉ o v w → (o ≡ Less → ⊥) → w ≤ᵉ v
 at_most_where_not_less Less v w h n = absurd (n refl)

@@ -1,9 +1,9 @@
-use Rattle.std.proofs.Common.{rules, ◌≡◌, ◌∙◌, ◌<◌, ◌≤◌, ◌-◌, ◌-ℤ◌, ap, sym, subst, pos, nat_abs, arith, to_z, of_z}
+use Rattle.std.proofs.Common.{rules, ◌≡◌, ◌∙◌, ◌≤◌, ◌-ℤ◌, ap, sym, pos, nat_abs, arith, to_z, of_z}
 use Rattle.std.specs.Int.{w64}
 use Rattle.std.proofs.lemmas.Int.{to_z-of_z, ints}
 use Rattle.rational.specs.Rational.{◌≈◌, whole}
 use Rattle.frac128.specs.Value.{value}
-use Rattle.frac128.specs.Line.{base, base_value, rise_in_run, run_time}
+use Rattle.frac128.specs.Line.{rise_in_run}
 use Rattle.atom_lines.specs.Signs.{signed}
 use Rattle.atom_lines.proofs.Margins.{margin_level, margin_ramp, rise_within}
 use Rattle.atom_lines.proofs.margin.margin_between.Goals as goal

@@ -1,5 +1,5 @@
-use Rattle.std.proofs.Common.{◌≡◌, ◌≤◌, ◌^◌, ◌∙◌, ap, sym, subst, pos, nat_abs}
-use Rattle.rational.specs.Rational.{Rational, whole, ◌≈◌, IsWithin}
+use Rattle.std.proofs.Common.{◌≤◌, ◌^◌, sym, subst, pos}
+use Rattle.rational.specs.Rational.{whole, ◌≈◌}
 use Rattle.rational.specs.Line.{at}
 use Rattle.rational.specs.Extended.{finite, value_at, ◌≈ᵉ◌}
 use Rattle.rational.proofs.Order.{same_sym, same_trans}
@@ -13,7 +13,8 @@ use Rattle.atom_lines.specs.Signs.{signed}
 use Rattle.atom_lines.proofs.Crossings.{at_first, at_second}
 use Rattle.atom_lines.proofs.Margins.{margin_same, margin_whole, signed_size}
 use Rattle.atom_lines.proofs.SumLemmas.{tied, expression_along}
-use Rattle.atom_lines.proofs.Tellings.{bounded_same, within_whole, within_same}
+use Rattle.rational.proofs.Mixed.{within_whole, within_same}
+use Rattle.rational.proofs.AffineLemmas.{bounded_same}
 use Rattle.atom_lines.proofs.points.margin_piece.Goals as goal
 
 pub returns-clause-margin : goal.returns-clause-margin
@@ -38,7 +39,7 @@ returns-clause-from c =
     let h = c.gap_of.ensures in
     let f = margin_function c.margin_between.result in
     let there : at (along g) (row_time r) ≈ whole g.from = subst (λ n. at (along g) (whole (pos n)) ≈ whole g.from) h.first (at_first g) in
-    bounded_same (2 ^ 31) (value_at f (row_time r)) (margin k.rel (at (along g) (row_time r))) (c.margin_between.ensures.worth (row_time r))
+    bounded_same (2 ^ 31) (value_at f (row_time r)) (finite (margin k.rel (at (along g) (row_time r)))) (c.margin_between.ensures.worth (row_time r))
     (within_same (2 ^ 31) (same_trans (margin_whole k.rel g.from) (margin_same k.rel (same_sym there)))
     (within_whole (2 ^ 31) (signed k.rel g.from) (subst (λ n. n ≤ 2 ^ 31) (sym (signed_size k.rel g.from)) g.small_from)))
 
@@ -50,6 +51,6 @@ returns-clause-to c =
     let h = c.gap_of.ensures in
     let f = margin_function c.margin_between.result in
     let there : at (along g) (row_time s) ≈ whole g.to = subst (λ n. at (along g) (whole (pos n)) ≈ whole g.to) h.second (at_second g) in
-    bounded_same (2 ^ 31) (value_at f (row_time s)) (margin k.rel (at (along g) (row_time s))) (c.margin_between.ensures.worth (row_time s))
+    bounded_same (2 ^ 31) (value_at f (row_time s)) (finite (margin k.rel (at (along g) (row_time s)))) (c.margin_between.ensures.worth (row_time s))
     (within_same (2 ^ 31) (same_trans (margin_whole k.rel g.to) (margin_same k.rel (same_sym there)))
     (within_whole (2 ^ 31) (signed k.rel g.to) (subst (λ n. n ≤ 2 ^ 31) (sym (signed_size k.rel g.to)) g.small_to)))

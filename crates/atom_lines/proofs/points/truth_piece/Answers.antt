@@ -1,8 +1,8 @@
-use Rattle.std.proofs.Common.{◌≡◌, ◌∙◌, ap, sym, subst, pos}
-use Rattle.rational.specs.Rational.{Rational, whole}
+use Rattle.std.proofs.Common.{◌∙◌, ap, sym, subst, pos}
+use Rattle.rational.specs.Rational.{whole}
 use Rattle.rational.specs.Line.{at}
 use Rattle.stl_syntax.specs.Trace.{row_time}
-use Rattle.stl_syntax.specs.Truth.{compares, expression, holds_at}
+use Rattle.stl_syntax.specs.Truth.{compares, holds_at}
 use Rattle.atom_lines.specs.Gaps.{along}
 use Rattle.atom_lines.specs.Pieces.{TellsGap}
 use Rattle.atom_lines.proofs.Signs.{compare_same}

@@ -1,8 +1,8 @@
-use Rattle.std.proofs.Common.{rules, ◌≡◌, ◌∙◌, ap, sym, subst, to_z, of_z}
+use Rattle.std.proofs.Common.{rules, ◌≡◌, ◌∙◌, ap, sym, to_z, of_z}
 use Rattle.std.specs.Int.{w64}
 use Rattle.std.proofs.lemmas.Int.{to_z-of_z}
 use Rattle.rational.specs.Rational.{whole}
-use Rattle.stl_syntax.specs.Truth.{compares, expression}
+use Rattle.stl_syntax.specs.Truth.{compares}
 use Rattle.atom_lines.specs.Sums.{reach}
 use Rattle.atom_lines.proofs.Signs.{compare_same}
 use Rattle.atom_lines.proofs.SumLemmas.{tied, expression_at_row}

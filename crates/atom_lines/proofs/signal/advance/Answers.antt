@@ -1,9 +1,8 @@
-use Rattle.std.proofs.Common.{rules, ◌≡◌, ◌<◌, ◌≤◌, ◌^◌, nat_abs, ◌∙◌, ◌-◌, suc, List, ap, sym, subst, pos, refl, length, get_or, to_z, of_z, [], arith}
-use Rattle.std.specs.Prelude.{ℤ}
+use Rattle.std.proofs.Common.{rules, ◌≡◌, ◌<◌, ◌≤◌, ◌^◌, nat_abs, ◌∙◌, ◌-◌, suc, ap, sym, subst, length, get_or, to_z, of_z, [], arith}
 use Rattle.std.specs.Int.{w64}
 use Rattle.std.proofs.lemmas.Int.{to_z-of_z}
-use Rattle.stl_syntax.specs.Trace.{Row, Trace, IsTrace}
-use Rattle.atom_lines.specs.Rows.{row_of, values_at}
+use Rattle.stl_syntax.specs.Trace.{Row, Trace}
+use Rattle.atom_lines.specs.Rows.{values_at}
 use Rattle.atom_lines.specs.Sums.{reach}
 use Rattle.atom_lines.specs.Growing.{GoesAlong}
 use Rattle.atom_lines.proofs.Adding.{reach_small}

@@ -1,6 +1,6 @@
-use Rattle.std.proofs.Common.{rules, ◌≡◌, ◌<◌, ◌≤◌, ◌*◌, ◌+◌, ◌^◌, ◌+ℤ◌, ◌*ℤ◌, List, pos, false, drop, length, get_or, subst, nat_abs, to_z, of_z, sym, ap, ◌∙◌, arith}
+use Rattle.std.proofs.Common.{rules, ◌≡◌, ◌<◌, ◌+ℤ◌, ◌*ℤ◌, List, pos, false, length, get_or, subst, to_z, of_z}
 use Rattle.std.specs.Int.{w64}
-use Rattle.std.proofs.lemmas.Int.{to_z-of_z, ints}
+use Rattle.std.proofs.lemmas.Int.{to_z-of_z}
 use Rattle.atom_lines.specs.declared.tied.BoundTerm.{BoundTerm}
 use Rattle.atom_lines.specs.Sums.{sum_over, cell}
 use Rattle.atom_lines.proofs.Adding.{add_term, size_more}

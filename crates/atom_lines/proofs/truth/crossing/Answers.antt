@@ -1,10 +1,9 @@
-use Rattle.std.proofs.Common.{rules, ◌≡◌, ◌<◌, ◌≤◌, ◌^◌, ◌+◌, ◌*◌, ◌-◌, ◌∙◌, pos, refl, subst, sym, arith, to_z, of_z}
-use Rattle.std.specs.Int.{w128, w64}
+use Rattle.std.proofs.Common.{rules, ◌≡◌, ◌+◌, ◌*◌, ◌-◌, pos, refl, arith, to_z, of_z}
+use Rattle.std.specs.Int.{w128}
 use Rattle.std.specs.Int.RustNames.{unsigned_abs}
 use Rattle.std.proofs.lemmas.Int.{ints, to_z-of_z}
-use Rattle.rational.specs.Rational.{fraction}
 use Rattle.rational.proofs.Lowest.{denominator_same}
-use Rattle.atom_lines.proofs.Ramps.{denominator_at_most}
+use Rattle.rational.proofs.Lowest.{denominator_at_most}
 use Rattle.frac128.specs.Value.{value, denominator}
 use Rattle.frac128.proofs.Fractions.{HasDenominator-value}
 use Rattle.atom_lines.proofs.Crossings.{rise_size, size_positive, crossing_zero}

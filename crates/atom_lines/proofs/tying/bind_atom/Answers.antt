@@ -1,15 +1,14 @@
-use Rattle.std.proofs.Common.{rules, ◌≡◌, ◌+◌, ◌∷◌, [], ◌++◌, ◌∙◌, ap, sym, subst, length, take, get_or, nat_abs, ◌≤◌, true, not, to_z, of_z, w32, refl, arith}
-use Rattle.std.specs.Prelude.{is_ok, All, slice_get}
+use Rattle.std.proofs.Common.{rules, ◌≡◌, ◌+◌, ◌∷◌, [], ◌++◌, ◌∙◌, ap, sym, subst, length, take, get_or, nat_abs, ◌≤◌, true, not, to_z, of_z, w32, arith}
+use Rattle.std.specs.Prelude.{is_ok, All}
 use Rattle.std.proofs.lemmas.Int.{to_z-of_z}
 use Rattle.std.proofs.lemmas.List.{take_all}
 use Rattle.std.proofs.lemmas.List.Elements.{All-push}
 use Rattle.stl_syntax.specs.Trace.{Column}
 use Rattle.stl_syntax.specs.Binding.{HasColumn}
-use Rattle.stl_syntax.specs.declared.atom.Term.{Term}
 use Rattle.atom_lines.specs.declared.tied.BoundTerm.{BoundTerm}
-use Rattle.atom_lines.specs.Binding.{IsColumn, IsTied, AreTied}
+use Rattle.atom_lines.specs.Binding.{IsColumn, AreTied}
 use Rattle.atom_lines.specs.Sums.{IsTermSound}
-use Rattle.atom_lines.proofs.TyingLemmas.{within, among, tied_more, tied_length, take_on, first_lacking}
+use Rattle.atom_lines.proofs.TyingLemmas.{within, among, tied_more, tied_length, take_on}
 use Rattle.atom_lines.proofs.tying.bind_atom.Goals as goal
 
 pub step-requires : goal.step-requires

@@ -1,11 +1,10 @@
-use Rattle.std.proofs.Common.{◌≡◌, ℕ, ◌+◌, ◌-◌, ◌<◌, ◌≤◌, ◌^◌, List, length, get_or, Some, to_z, of_z, w64, refl, subst, sym, ◌∙◌, ap, rules, arith, neg_ℤ}
+use Rattle.std.proofs.Common.{◌≡◌, ℕ, ◌+◌, ◌-◌, ◌≤◌, ◌^◌, length, Some, to_z, of_z, w64, lit<, subst, sym, ◌∙◌, ap, rules, arith, neg_ℤ}
 use Rattle.std.proofs.lemmas.Int.{to_z-of_z}
-use Rattle.std.proofs.lemmas.Option.{slice_get-get_or}
 use Rattle.std.specs.Prelude.{FitsSigned, pos, ◌-ℤ◌, slice_get}
 use Rattle.std.specs.Int.RustNames.{unsigned_abs}
-use Rattle.rational.specs.Rational.{add, whole, FitsFloor, IsWithin}
+use Rattle.rational.specs.Rational.{add, whole, FitsFloor}
 use Rattle.rational.specs.Time.{◌≈◌}
-use Rattle.rational.proofs.Order.{same_refl, same_sym, same_trans}
+use Rattle.rational.proofs.Order.{same_refl, same_sym}
 use Rattle.rational.proofs.Shift.{same_shift}
 use Rattle.frac128.specs.Value.{value}
 use Rattle.pl_signal.specs.declared.knot.Knot.{Knot}
@@ -13,7 +12,8 @@ use Rattle.pl_signal.specs.Knots.{time, start, stop, IsWorth}
 use Rattle.pl_signal.specs.Moves.{Tells, BasesFrom}
 use Rattle.pl_signal.proofs.Values.{shape_at, shape_after}
 use Rattle.pl_signal.proofs.Telling.{told}
-use Rattle.pl_signal.proofs.Moving.{back_fits, minus_is, within_same, fits_of_within, shifted_within, shift_first, shift_on, shift_later, shift_back', moved_is_function, first_is, last_of, same_knot, only_ends, bases_first, bases_on}
+use Rattle.rational.proofs.Mixed.{fits_of_within, within_same}
+use Rattle.pl_signal.proofs.Moving.{back_fits, minus_is, shifted_within, shift_first, shift_on, shift_later, shift_back', moved_is_function, first_is, last_of, same_knot, only_ends, bases_first, bases_on}
 use Rattle.pl_signal.proofs.moves.shifted.Goals as goal
 
 before_one : (j i : ℕ) → j + 1 ≡ i + 1 → j ≡ i
@@ -41,7 +41,7 @@ pub shift-requires-in-loop-i : goal.shift-requires-in-loop-i
 shift-requires-in-loop-i g c =
     let e : to_z w64 (of_z w64 c.args.by) ≡ c.args.by = search (rules, to_z-of_z) in
     let w : to_z w64 (of_z w64 (pos 0 -ℤ (to_z w64 (of_z w64 c.args.by)))) ≡ neg_ℤ (to_z w64 (of_z w64 c.args.by)) = to_z-of_z w64 (pos 0 -ℤ (to_z w64 (of_z w64 c.args.by))) (subst (λ z. FitsSigned w64 (pos 0 -ℤ z)) (sym e) (back_fits c.args.by c.requires.from_within (within_same (2 ^ 34) (same_sym c.requires.begins) c.requires.start_within) c.ranges.by)) ∙ minus_is (to_z w64 (of_z w64 c.args.by)) in
-    subst (λ y. FitsFloor w64 (add (value c.knot-knot.result.time) (whole y))) (sym (w ∙ ap neg_ℤ e)) (fits_of_within (shifted_within g.P.Shape.function c.args.s.now c.loop-i.i c.knot-knot.result c.args.by {from = value c.args.from.now} c.len-count.ensures.signal c.knot-knot.ensures c.requires.begins c.requires.from_within c.requires.to_within))
+    subst (λ y. FitsFloor w64 (add (value c.knot-knot.result.time) (whole y))) (sym (w ∙ ap neg_ℤ e)) (fits_of_within w64 (2 ^ 34) (lit< tt) (shifted_within g.P.Shape.function c.args.s.now c.loop-i.i c.knot-knot.result c.args.by {from = value c.args.from.now} c.len-count.ensures.signal c.knot-knot.ensures c.requires.begins c.requires.from_within c.requires.to_within))
 
 pub shift-requires-in-loop-i-2 : goal.shift-requires-in-loop-i-2
 shift-requires-in-loop-i-2 g c =

@@ -8,7 +8,8 @@ use Rattle.pl_signal.specs.Knots.{time, start, stop, IsWorth}
 use Rattle.pl_signal.specs.Moves.{Tells, BasesFrom}
 use Rattle.pl_signal.proofs.Values.{shape_at, shape_after, next_rises}
 use Rattle.pl_signal.proofs.Telling.{told}
-use Rattle.pl_signal.proofs.Moving.{limited_at, within_same, last_of, same_knot, only_ends, bases_first, bases_on, first_is}
+use Rattle.rational.proofs.Mixed.{within_same}
+use Rattle.pl_signal.proofs.Moving.{limited_at, last_of, same_knot, only_ends, bases_first, bases_on, first_is}
 use Rattle.signal_ops.specs.Pointwise.{Negated}
 use Rattle.signal_ops.proofs.Negating.{point_bounded, after_bounded, negated_is_function, negated_first, negated_on}
 use Rattle.signal_ops.proofs.negation.neg.Goals as goal

@@ -5,7 +5,8 @@ use Rattle.std.proofs.lemmas.Option.{slice_get_read}
 use Rattle.std.proofs.lemmas.List.Elements.{All-take}
 use Rattle.window_extrema.specs.Range.{IsAtMost}
 use Rattle.window_extrema.specs.Stairs.{AreStairs, AreStairsTo}
-use Rattle.window_extrema.proofs.StairLemmas.{empty_list, le_of_ltᵉ, last_apart, without_last, with_first, with_last, some_same, at_most_where_not_less}
+use Rattle.rational.proofs.ExtendedLemmas.{le_of_ltᵉ}
+use Rattle.window_extrema.proofs.StairLemmas.{empty_list, last_apart, without_last, with_first, with_last, some_same, at_most_where_not_less}
 use Rattle.window_extrema.proofs.queue.drop_smaller.Goals as goal
 
 -- src/queue.rt:28:5

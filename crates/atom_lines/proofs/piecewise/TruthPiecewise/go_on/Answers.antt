@@ -2,14 +2,13 @@ use Rattle.std.proofs.Common.{rules, ◌≡◌, ◌<◌, ◌^◌, ◌∙◌, ap,
 use Rattle.std.specs.Int.{w64}
 use Rattle.std.proofs.lemmas.Int.{to_z-of_z}
 use Rattle.std.proofs.lemmas.Result.{on_ok_weaker}
-use Rattle.rational.specs.Rational.{Rational, ◌≈◌, ◌<ʳ◌, whole, IsWithin}
+use Rattle.rational.specs.Rational.{◌≈◌, ◌<ʳ◌, whole, IsWithin}
 use Rattle.rational.specs.Line.{at}
-use Rattle.rational.specs.Extended.{value_at, ◌≈ᵉ◌}
 use Rattle.rational.proofs.Order.{lt_of_le_of_lt, lt_of_lt_of_le, le_of_same, ge_of_same}
 use Rattle.frac128.specs.Value.{value}
 use Rattle.stl_syntax.specs.Truth.{compares}
 use Rattle.atom_lines.specs.Gaps.{along}
-use Rattle.atom_lines.specs.Told.{by_truth, worth}
+use Rattle.atom_lines.specs.Told.{by_truth}
 use Rattle.atom_lines.proofs.GrowingLemmas.{before_end, row_within, between_within, goes_one, goes_two, truth_worth, zero_base}
 use Rattle.atom_lines.proofs.piecewise.TruthPiecewise.go_on.Goals as goal
 

@@ -4,7 +4,7 @@ use Rattle.std.proofs.lemmas.Option.{slice_get_read}
 use Rattle.rational.specs.Time.{Within, ◌<ʳ◌}
 use Rattle.frac128.specs.Value.{value}
 use Rattle.pl_signal.specs.Knots.{time, start, stop}
-use Rattle.pl_signal.proofs.Reading.{earlier, IsReading, read_point, read_after, read_none}
+use Rattle.pl_signal.proofs.ReadingLemmas.{earlier, IsReading, read_point, read_after, read_none}
 use Rattle.pl_signal.proofs.signal.Signal.at.Goals as goal
 
 pub returns-in-Equal : goal.returns-in-Equal

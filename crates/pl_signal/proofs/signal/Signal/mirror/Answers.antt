@@ -1,4 +1,4 @@
-use Rattle.std.proofs.Common.{◌≡◌, ◌+◌, ℕ, ◌-◌, ◌<◌, ◌≤◌, ◌^◌, List, length, get_or, Some, ◌-ℤ◌, sym, subst, arith, rules, of_z, to_z, w64}
+use Rattle.std.proofs.Common.{◌≡◌, ◌+◌, ℕ, ◌-◌, ◌<◌, ◌≤◌, ◌^◌, List, length, get_or, Some, ◌-ℤ◌, sym, subst, arith, rules, of_z, to_z, w64, lit<}
 use Rattle.std.proofs.lemmas.Int.{to_z-of_z}
 use Rattle.std.specs.Int.RustNames.{unsigned_abs}
 use Rattle.std.specs.Prelude.{slice_get}
@@ -9,7 +9,8 @@ use Rattle.rational.proofs.Order.{same_sym}
 use Rattle.frac128.specs.Value.{value}
 use Rattle.pl_signal.specs.Knots.{time, start, stop, IsWorth}
 use Rattle.pl_signal.specs.Moves.{Tells, BasesFrom}
-use Rattle.pl_signal.proofs.Moving.{fits_of_within, within_same, mirror_within, mirror_first, mirror_same, mirror_later, mirror_on, moved_is_function, first_is, last_is, only_ends, same_knot, bases_first, bases_on}
+use Rattle.rational.proofs.Mixed.{fits_of_within, within_same}
+use Rattle.pl_signal.proofs.Moving.{mirror_within, mirror_first, mirror_same, mirror_later, mirror_on, moved_is_function, first_is, last_is, only_ends, same_knot, bases_first, bases_on}
 use Rattle.pl_signal.proofs.Telling.{told}
 use Rattle.pl_signal.proofs.Values.{shape_at, shape_after}
 use Rattle.pl_signal.proofs.signal.Signal.mirror.Goals as goal
@@ -18,7 +19,7 @@ pub mirror-requires : goal.mirror-requires
 mirror-requires g c =
     let e : to_z w64 (of_z w64 c.args.about) ≡ c.args.about = search (rules, to_z-of_z) in
     subst (λ z. FitsFloor w64 (subtract (whole z) (value c.knot-last.result.time))) (sym e)
-    (fits_of_within (mirror_within g.P.Shape.function (2 ^ 34) c.args.about c.args.self.now (c.len-i.result - 1) c.knot-last.result c.len-i.ensures.signal c.knot-last.ensures c.requires.from_within c.requires.to_within))
+    (fits_of_within w64 (2 ^ 34) (lit< tt) (mirror_within g.P.Shape.function (2 ^ 34) c.args.about c.args.self.now (c.len-i.result - 1) c.knot-last.result c.len-i.ensures.signal c.knot-last.ensures c.requires.from_within c.requires.to_within))
 
 pub mirror-requires-2 : goal.mirror-requires-2
 mirror-requires-2 g c =
@@ -34,7 +35,7 @@ pub mirror-requires-in-loop-i : goal.mirror-requires-in-loop-i
 mirror-requires-in-loop-i g c =
     let e : to_z w64 (of_z w64 c.args.about) ≡ c.args.about = search (rules, to_z-of_z) in
     subst (λ z. FitsFloor w64 (subtract (whole z) (value c.knot-knot.result.time))) (sym e)
-    (fits_of_within (mirror_within g.P.Shape.function (2 ^ 34) c.args.about c.args.self.now (c.loop-i.i - 1) c.knot-knot.result c.len-i.ensures.signal c.knot-knot.ensures c.requires.from_within c.requires.to_within))
+    (fits_of_within w64 (2 ^ 34) (lit< tt) (mirror_within g.P.Shape.function (2 ^ 34) c.args.about c.args.self.now (c.loop-i.i - 1) c.knot-knot.result c.len-i.ensures.signal c.knot-knot.ensures c.requires.from_within c.requires.to_within))
 
 pub mirror-requires-in-loop-i-2 : goal.mirror-requires-in-loop-i-2
 mirror-requires-in-loop-i-2 g c =

@@ -1,27 +1,28 @@
-use Rattle.std.proofs.Common.{◌≡◌, ◌<◌, ◌≤◌, ◌^◌, length, to_z, of_z, w64, refl, subst, sym, rules, neg_ℤ}
+use Rattle.std.proofs.Common.{◌≡◌, ◌≤◌, ◌^◌, to_z, of_z, w64, lit<, subst, sym, rules}
 use Rattle.std.proofs.lemmas.Int.{to_z-of_z}
 use Rattle.std.proofs.lemmas.Result.{IfOk-weaker}
 use Rattle.std.specs.Prelude.{◌-ℤ◌}
 use Rattle.std.specs.Int.RustNames.{unsigned_abs}
-use Rattle.rational.specs.Rational.{add, whole, FitsFloor, IsWithin}
+use Rattle.rational.specs.Rational.{add, whole, FitsFloor}
 use Rattle.rational.specs.Time.{◌≈◌}
 use Rattle.rational.proofs.Order.{le_trans, le_of_same, ge_of_same, same_sym, same_trans}
 use Rattle.rational.proofs.Shift.{le_shift}
 use Rattle.frac128.specs.Value.{value}
-use Rattle.pl_signal.specs.Knots.{start, stop, IsWorth, HasShape}
+use Rattle.pl_signal.specs.Knots.{IsWorth}
 use Rattle.pl_signal.specs.Moves.{Tells, BasesFrom}
-use Rattle.pl_signal.proofs.Moving.{fits_of_within, within_same, clip_within, shift_back', tells_through, bases_through}
+use Rattle.rational.proofs.Mixed.{fits_of_within, within_same}
+use Rattle.pl_signal.proofs.Moving.{clip_within, shift_back', tells_through, bases_through}
 use Rattle.pl_signal.proofs.signal.Signal.shift_clip.Goals as goal
 
 pub shift-begin-requires : goal.shift-begin-requires
 shift-begin-requires g c =
     let e : to_z w64 (of_z w64 c.args.by) ≡ c.args.by = search (rules, to_z-of_z) in
-    subst (λ z. FitsFloor w64 (add (value c.args.from.now) (whole z))) (sym e) (fits_of_within (clip_within g.P.Shape.function c.args.self.now c.len.ensures.signal.some c.requires.limited c.requires.first (le_trans (le_shift c.args.by c.requires.order) c.requires.last)))
+    subst (λ z. FitsFloor w64 (add (value c.args.from.now) (whole z))) (sym e) (fits_of_within w64 (2 ^ 34) (lit< tt) (clip_within g.P.Shape.function c.args.self.now c.len.ensures.signal.some c.requires.limited c.requires.first (le_trans (le_shift c.args.by c.requires.order) c.requires.last)))
 
 pub shift-end-requires : goal.shift-end-requires
 shift-end-requires g c =
     let e : to_z w64 (of_z w64 c.args.by) ≡ c.args.by = search (rules, to_z-of_z) in
-    subst (λ z. FitsFloor w64 (add (value c.args.to.now) (whole z))) (sym e) (fits_of_within (clip_within g.P.Shape.function c.args.self.now c.len.ensures.signal.some c.requires.limited (le_trans c.requires.first (le_shift c.args.by c.requires.order)) c.requires.last))
+    subst (λ z. FitsFloor w64 (add (value c.args.to.now) (whole z))) (sym e) (fits_of_within w64 (2 ^ 34) (lit< tt) (clip_within g.P.Shape.function c.args.self.now c.len.ensures.signal.some c.requires.limited (le_trans c.requires.first (le_shift c.args.by c.requires.order)) c.requires.last))
 
 pub restrict-requires : goal.restrict-requires
 restrict-requires g c =

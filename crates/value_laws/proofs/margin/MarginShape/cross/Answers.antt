@@ -1,20 +1,21 @@
 use Rattle.frac128.specs.Value.{value}
 use Rattle.frac128.specs.Line.{line}
-use Rattle.std.proofs.Common.{◌^◌, refl}
+use Rattle.std.proofs.Common.{◌^◌, lit≤, refl}
 use Rattle.rational.specs.Line.{constant}
 use Rattle.rational.specs.Extended.{affine}
-use Rattle.value_laws.proofs.MarginLemmas.{bounded_constant, within_more, meeting_of_crossing, meeting_swap, constant_never_meets, infinite_never_meets}
+use Rattle.rational.proofs.Mixed.{within_more}
+use Rattle.value_laws.proofs.MarginLemmas.{bounded_constant, meeting_of_crossing, meeting_swap, constant_never_meets, infinite_never_meets}
 use Rattle.value_laws.proofs.margin.MarginShape.cross.Goals as goal
 
 pub meet_const-requires-clause-constant : goal.meet_const-requires-clause-constant
 meet_const-requires-clause-constant c =
     let v = value c.in-Ramp-Fixed.c in
-    within_more v (bounded_constant (2 ^ 31) v (let r = c.requires.second in rw c.in-Ramp-Fixed.is-1 at r))
+    within_more (2 ^ 31) (2 ^ 32) (lit≤ tt) (bounded_constant (2 ^ 31) v (let r = c.requires.second in rw c.in-Ramp-Fixed.is-1 at r))
 
 pub meet_const-requires-in-Fixed-Ramp-clause-constant : goal.meet_const-requires-in-Fixed-Ramp-clause-constant
 meet_const-requires-in-Fixed-Ramp-clause-constant c =
     let v = value c.in-Fixed-Ramp.c in
-    within_more v (bounded_constant (2 ^ 31) v (let r = c.requires.first in rw c.in-Fixed-Ramp.is-0 at r))
+    within_more (2 ^ 31) (2 ^ 32) (lit≤ tt) (bounded_constant (2 ^ 31) v (let r = c.requires.first in rw c.in-Fixed-Ramp.is-0 at r))
 
 pub returns-in-Ramp-Ramp-clause-time : goal.returns-in-Ramp-Ramp-clause-time
 returns-in-Ramp-Ramp-clause-time c =

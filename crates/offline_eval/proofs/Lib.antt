@@ -1,0 +1,11 @@
+pub mod Limits
+pub mod Bounds
+pub mod Along
+pub mod Sound
+pub mod Pointwise
+pub mod Steady
+pub mod NodeLemmas
+pub mod Places
+pub mod Evaluating
+pub mod Never
+pub mod Having

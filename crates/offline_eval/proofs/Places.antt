@@ -1,0 +1,119 @@
+-- Counting along the nodes of a formula, and the signal of an atom's place.
+use Rattle.std.proofs.Common.{◌≡◌, ℕ, ℤ, zero, suc, ◌+◌, false, cond, List, [], ◌∷◌, take, drop, Some, ap, sym, ◌∙◌, subst, refl, arith, add-zero, ◌<◌, ◌++◌, length, ◌⊎◌, inl, inr, true}
+use Rattle.std.specs.Prelude.{slice_get, sum_by, Result, Ok, Err, OnOk}
+use Rattle.std.proofs.lemmas.Option.{slice_get_within, get_or_from_slice_get}
+use Rattle.std.proofs.lemmas.List.Sums.{sum_by_more}
+use Rattle.rational.specs.Extended.{Affine}
+use Rattle.pl_signal.specs.declared.knot.Knot.{Knot}
+use Rattle.pl_signal.specs.Moves.{Tells}
+use Rattle.stl_syntax.specs.Formula.{subformula, tree_of, atom}
+use Rattle.stl_syntax.specs.SupInf.{Setting, Gives}
+use Rattle.stl_syntax.specs.declared.atom.Atom.{Atom}
+use Rattle.stl_syntax.specs.declared.node.Node.{Node}
+use Rattle.stl_syntax.specs.declared.node.Node.TheVariants.{Const, Atom as Leaf, Not, And, Or, Implies, Until, Eventually, Always, Since, Once, Historically}
+use Rattle.offline_eval.specs.Inputs.{is_atom, atoms_before, TellAtoms, TellAtomsBelow}
+use Rattle.offline_eval.specs.Making.{AreSound, TellsValue}
+use Rattle.offline_eval.specs.Places.{reach_before, TakesOwn, PlaceStaysSound}
+use Rattle.offline_eval.proofs.Sound.{sound_more}
+
+-- what holds anyway holds where an answer is Ok
+pub on_ok : {A E : Type 0} (r : Result A E) {X : Type 0} → X → OnOk r X
+on_ok (Ok a) x = x
+on_ok (Err e) x = tt
+
+-- a sum goes on by the next node
+pub sum_on : (f : Node → ℕ) (nodes : List Node) (i : ℕ) (n : Node) → slice_get nodes i ≡ Some n → sum_by f (take (i + 1) nodes) ≡ sum_by f (take i nodes) + f n
+sum_on f nodes i n at = sum_by_more f nodes i n (slice_get_within nodes i n at) ∙ ap (λ m. sum_by f (take i nodes) + f m) (get_or_from_slice_get nodes i n n at)
+
+pub atoms_on_atom : (nodes : List Node) (i : ℕ) (a : Atom) → slice_get nodes i ≡ Some (Leaf a) → atoms_before nodes (i + 1) ≡ atoms_before nodes i + 1
+atoms_on_atom nodes i a at = sum_on (λ n. cond (is_atom n) 1 0) nodes i (Leaf a) at
+
+pub atoms_on_other : (nodes : List Node) (i : ℕ) (n : Node) → slice_get nodes i ≡ Some n → is_atom n ≡ false → atoms_before nodes (i + 1) ≡ atoms_before nodes i
+atoms_on_other nodes i n at other = sum_on (λ n. cond (is_atom n) 1 0) nodes i n at ∙ ap (λ b. atoms_before nodes i + cond b 1 0) other ∙ add-zero (atoms_before nodes i)
+
+pub not_atom : (n : Node) → ((a : Atom) → n ≡ Leaf a → ⊥) → is_atom n ≡ false
+not_atom (Leaf a) other = absurd (other a refl)
+not_atom (Const b) other = refl
+not_atom (Not p) other = refl
+not_atom (And p q) other = refl
+not_atom (Or p q) other = refl
+not_atom (Implies p q) other = refl
+not_atom (Until p q a b) other = refl
+not_atom (Eventually p a b c d) other = refl
+not_atom (Always p a b c d) other = refl
+not_atom (Since p q a b) other = refl
+not_atom (Once p a b c d) other = refl
+not_atom (Historically p a b c d) other = refl
+
+-- what stands first behind the first k stands at place k
+pub drop_at : {X : Type 0} (all : List X) (k : ℕ) (x : X) (rest : List X) → x ∷ rest ≡ drop k all → (slice_get all k ≡ Some x) × (rest ≡ drop (k + 1) all)
+drop_at [] zero x rest e = absurd cc
+drop_at [] (suc k) x rest e = absurd cc
+drop_at (y ∷ all) zero x rest e = (let same : x ≡ y = cc in ap (λ z. Some z) (sym same), cc)
+drop_at (y ∷ all) (suc k) x rest e =
+    let on = drop_at all k x rest e in
+    let next : suc (k + 1) ≡ suc k + 1 = omega arith in
+    (on.0, on.1 ∙ ap (λ n. drop n (y ∷ all)) next)
+
+some_same : {X : Type 0} {x y : X} → Some x ≡ Some y → x ≡ y
+some_same e = cc
+
+same_leaf : {a b : Atom} → Some (Leaf a) ≡ Some (Leaf b) → a ≡ b
+same_leaf e = cc
+
+before_or_here : (i j : ℕ) → j < i + 1 → (j < i) ⊎ (j ≡ i)
+before_or_here i j h = grind (arith, h)
+
+in_front : {X : Type 0} (xs : List X) (x : X) (k : ℕ) (y : X) → slice_get xs k ≡ Some y → slice_get (xs ++ x ∷ []) k ≡ Some y
+in_front [] x k y e = absurd cc
+in_front (z ∷ xs) x zero y e = e
+in_front (z ∷ xs) x (suc k) y e = in_front xs x k y e
+
+last_of : {X : Type 0} (xs : List X) (x : X) (k : ℕ) → k ≡ length xs → slice_get (xs ++ x ∷ []) k ≡ Some x
+last_of xs x k e = subst (λ n. slice_get (xs ++ x ∷ []) n ≡ Some x) (sym e) (at_end xs x)
+  where
+    at_end : {X : Type 0} (xs : List X) (x : X) → slice_get (xs ++ x ∷ []) (length xs) ≡ Some x
+    at_end [] x = refl
+    at_end (z ∷ xs) x = at_end xs x
+
+module _ {P : Type 0} where
+  pub atom_takes : (nodes : List Node) (i : ℕ) (a : Atom) (x : List (Knot P)) (old new : List (List (Knot P))) → slice_get nodes i ≡ Some (Leaf a) → old ≡ x ∷ new → TakesOwn nodes i old new
+  atom_takes nodes i a x old new at e all left = (drop_at all (atoms_before nodes i) x new (sym e ∙ left)).1 ∙ ap (λ n. drop n all) (sym (atoms_on_atom nodes i a at))
+
+  pub other_takes : (nodes : List Node) (i : ℕ) (n : Node) (old : List (List (Knot P))) → slice_get nodes i ≡ Some n → is_atom n ≡ false → TakesOwn nodes i old old
+  other_takes nodes i n old at other all left = left ∙ ap (λ n. drop n all) (sym (atoms_on_other nodes i n at other))
+
+module _ {P : Type 0} (function : P → Affine) where
+  pub atom_sound : (base : P → ℤ) (from to : ℕ) (nodes : List Node) (i : ℕ) (x : List (Knot P)) (old new xs : List (List (Knot P))) → old ≡ x ∷ new → AreSound function base from to 0 old → PlaceStaysSound function base from to nodes i xs x
+  atom_sound base from to nodes i x old new xs e sound all = sound_more function base from to 0 (reach_before nodes (i + 1)) x (omega arith) (sound 0 x (subst (λ o. slice_get o 0 ≡ Some x) (sym e) refl))
+
+  pub atom_told : (nodes : List Node) (i : ℕ) (a : Atom) (x : List (Knot P)) (old new all : List (List (Knot P))) (s : Setting) → slice_get nodes i ≡ Some (Leaf a) → subformula nodes i ≡ tree_of (subformula nodes) i (Leaf a)
+      → old ≡ x ∷ new → old ≡ drop (atoms_before nodes i) all → TellAtoms function nodes all s → TellsValue function s (subformula nodes i) x
+  atom_told nodes i a x old new all s at tree e left told =
+      let o = told i a (slice_get_within nodes i (Leaf a) at) at in
+      let here = (drop_at all (atoms_before nodes i) x new (sym e ∙ left)).0 in
+      let same : o.0 ≡ x = some_same (sym o.1 ∙ here) in
+      subst (λ f. TellsValue function s f x) (sym tree) (subst (TellsValue function s (atom i a)) same o.2)
+
+  pub told_none : (nodes : List Node) (s : Setting) → TellAtomsBelow function 0 nodes [] s
+  told_none nodes s i a h at = absurd (omega (arith, h))
+
+  pub told_atom : (nodes : List Node) (s : Setting) (i : ℕ) (a : Atom) (xs : List (List (Knot P))) (x : List (Knot P)) → slice_get nodes i ≡ Some (Leaf a) → length xs ≡ atoms_before nodes i → TellAtomsBelow function i nodes xs s
+      → Tells function (Gives s.atoms i a) s.from s.to x → TellAtomsBelow function (i + 1) nodes (xs ++ x ∷ []) s
+  told_atom nodes s i a xs x at count told tells j b h at_j = by_place (before_or_here i j h)
+    where
+      by_place : (j < i) ⊎ (j ≡ i) → (y : List (Knot P)) × (slice_get (xs ++ x ∷ []) (atoms_before nodes j) ≡ Some y) × Tells function (Gives s.atoms j b) s.from s.to y
+      by_place (inl k) = let o = told j b k at_j in (o.0, in_front xs x (atoms_before nodes j) o.0 o.1, o.2)
+      by_place (inr k) =
+          let same : b ≡ a = same_leaf (sym at_j ∙ ap (slice_get nodes) k ∙ at) in
+          (x, last_of xs x (atoms_before nodes j) (ap (atoms_before nodes) k ∙ sym count), subst (λ m. Tells function (Gives s.atoms m b) s.from s.to x) (sym k) (subst (λ c. Tells function (Gives s.atoms i c) s.from s.to x) (sym same) tells))
+
+  pub told_other : (nodes : List Node) (s : Setting) (i : ℕ) (n : Node) (xs : List (List (Knot P))) → slice_get nodes i ≡ Some n → is_atom n ≡ false → TellAtomsBelow function i nodes xs s → TellAtomsBelow function (i + 1) nodes xs s
+  told_other nodes s i n xs at other told j b h at_j = by_place (before_or_here i j h)
+    where
+      by_place : (j < i) ⊎ (j ≡ i) → (y : List (Knot P)) × (slice_get xs (atoms_before nodes j) ≡ Some y) × Tells function (Gives s.atoms j b) s.from s.to y
+      by_place (inl k) = told j b k at_j
+      by_place (inr k) = absurd (clash (ap is_atom (some_same (sym at_j ∙ ap (slice_get nodes) k ∙ at)) ∙ other))
+        where
+          clash : true ≡ false → ⊥
+          clash e = cc

@@ -1,0 +1,112 @@
+-- Negation, and the least and the greatest of two, as formulas.
+use Rattle.std.proofs.Common.{◌≡◌, inl, inr, ℕ, ◌^◌, List, refl, sym, subst}
+use Rattle.std.specs.Prelude.{Result, IfOk, Ok, Err}
+use Rattle.rational.specs.Time.{Rational, Within}
+use Rattle.rational.specs.Extended.{Extended, minus_infinity, finite, infinity, Affine, value_at, opposite, IsGreatest}
+use Rattle.rational.specs.Windows.{Function}
+use Rattle.rational.specs.Affine.{IsBounded}
+use Rattle.rational.specs.InPlay.{of_two, IsInPlay, IsWideCrossing}
+use Rattle.rational.proofs.Order.{le_trans, lt_of_le_of_lt, lt_of_lt_of_le, le_of_same, ge_of_same, same_refl}
+use Rattle.rational.proofs.AffineLemmas.{same_reflᵉ}
+use Rattle.frac128.specs.Value.{value}
+use Rattle.frac128.specs.declared.frac.Frac.{Frac}
+use Rattle.pl_signal.specs.declared.faults.WidePair.TheVariants.{Cross, Value}
+use Rattle.pl_signal.specs.declared.faults.OpFault.{OpFault}
+use Rattle.pl_signal.specs.declared.faults.OpFault.TheVariants as F
+use Rattle.pl_signal.specs.declared.knot.Knot.{Knot}
+use Rattle.pl_signal.specs.Knots.{start, stop, IsWorth}
+use Rattle.pl_signal.specs.Limits.{IsLimited}
+use Rattle.pl_signal.specs.Moves.{Tells}
+use Rattle.stl_syntax.specs.Formula.{negation, conjunction, disjunction, implication}
+use Rattle.stl_syntax.specs.SupInf.{SupInf}
+use Rattle.signal_ops.specs.Pointwise.{Negated, LeastOf, GreatestOf, IsWideMeeting, IsFault}
+use Rattle.offline_eval.specs.Making.{TellsOne, TellsTwo, FaultOfTwo}
+use Rattle.offline_eval.proofs.Along.{tells_along}
+use Rattle.offline_eval.proofs.Bounds.{opposite_bounded, least_bounded, greatest_bounded}
+use Rattle.offline_eval.proofs.Limits.{values_bounded}
+
+-- what follows from both facts of an answer
+pub ok_both : {A E : Type 0} (r : Result A E) {X Y Z : A → Type 0} → IfOk r X → IfOk r Y → ((a : A) → X a → Y a → Z a) → IfOk r Z
+ok_both (Ok a) x y f = f a x y
+ok_both (Err e) x y f = tt
+
+module _ {P : Type 0} (function : P → Affine) where
+  pub negated_bounded : (x : List (Knot P)) → IsLimited function x → (t : Rational) (v : Extended) → Negated (IsWorth function x) t v → IsBounded (2 ^ 31) v
+  negated_bounded x l t v w = opposite_bounded v (values_bounded function x t (opposite v) l w)
+
+  pub least_of_bounded : (x y : List (Knot P)) → IsLimited function x → IsLimited function y → (t : Rational) (v : Extended) → LeastOf (IsWorth function x) (IsWorth function y) t v → IsBounded (2 ^ 31) v
+  least_of_bounded x y l m t v (a, b, f, g, h) = least_bounded (2 ^ 31) a b v h (values_bounded function x t a l f) (values_bounded function y t b m g)
+
+  pub greatest_of_bounded : (x y : List (Knot P)) → IsLimited function x → IsLimited function y → (t : Rational) (v : Extended) → GreatestOf (IsWorth function x) (IsWorth function y) t v → IsBounded (2 ^ 31) v
+  greatest_of_bounded x y l m t v (a, b, f, g, h) = greatest_bounded (2 ^ 31) a b v h (values_bounded function x t a l f) (values_bounded function y t b m g)
+
+  -- a signal that tells a function is worth at a time of the domain just what the function says
+  pub value_of : (F : Function) (from to : Rational) (x : List (Knot P)) (t : Rational) (v : Extended) → Tells function F from to x → Within from to t → (IsWorth function x t v → F t v) × (F t v → IsWorth function x t v)
+  value_of F from to x t v tells i = (λ w. ((tells.worth t v).0 w).1, λ f. (tells.worth t v).1 (i, f))
+
+module _ {P : Type 0} (function : P → Affine) (lowest highest : Extended) where
+  pub told_negated : (x r : List (Knot P)) → Tells function (Negated (IsWorth function x)) (start x) (stop x) r → TellsOne function lowest highest negation x r
+  told_negated x r made s p ends tells = tells_along function (Negated (IsWorth function x)) (SupInf (negation p) s) (start x) (stop x) s.from s.to r made tells.begins tells.ends
+      (λ t v i. value_of function (SupInf p s) s.from s.to x t (opposite v) tells i)
+
+  pub told_both : (x y r : List (Knot P)) → Tells function (LeastOf (IsWorth function x) (IsWorth function y)) (start x) (stop x) r → TellsTwo function lowest highest conjunction x y r
+  told_both x y r made s p q ends left right = tells_along function (LeastOf (IsWorth function x) (IsWorth function y)) (SupInf (conjunction p q) s) (start x) (stop x) s.from s.to r made left.begins left.ends
+      (λ t v i. (
+        λ (a, b, f, g, h). (a, b, (value_of function (SupInf p s) s.from s.to x t a left i).0 f, (value_of function (SupInf q s) s.from s.to y t b right i).0 g, h),
+        λ (a, b, f, g, h). (a, b, (value_of function (SupInf p s) s.from s.to x t a left i).1 f, (value_of function (SupInf q s) s.from s.to y t b right i).1 g, h),
+      ))
+
+  pub told_either : (x y r : List (Knot P)) → Tells function (GreatestOf (IsWorth function x) (IsWorth function y)) (start x) (stop x) r → TellsTwo function lowest highest disjunction x y r
+  told_either x y r made s p q ends left right = tells_along function (GreatestOf (IsWorth function x) (IsWorth function y)) (SupInf (disjunction p q) s) (start x) (stop x) s.from s.to r made left.begins left.ends
+      (λ t v i. (
+        λ (a, b, f, g, h). (a, b, (value_of function (SupInf p s) s.from s.to x t a left i).0 f, (value_of function (SupInf q s) s.from s.to y t b right i).0 g, h),
+        λ (a, b, f, g, h). (a, b, (value_of function (SupInf p s) s.from s.to x t a left i).1 f, (value_of function (SupInf q s) s.from s.to y t b right i).1 g, h),
+      ))
+
+twice_opposite : (v : Extended) → opposite (opposite v) ≡ v
+twice_opposite minus_infinity = refl
+twice_opposite (finite x) = refl
+twice_opposite infinity = refl
+
+module _ {P : Type 0} (function : P → Affine) where
+  -- where two parts meet, both are in play
+  met : (F G : Function) (from to : Rational) (x y : List (Knot P)) (p q : P) (a b : Frac) (den : ℕ) → Tells function F from to x → Tells function G from to y
+      → IsWideMeeting function (IsWorth function x) (IsWorth function y) (start x) (stop x) p q (value a) (value b) den
+      → IsWideCrossing (IsInPlay (of_two F G) from to) from to (function p) (function q) (value a) (value b) den
+  met F G from to x y p q a b den left right m = record {
+    tau = m.at;
+    after_start = lt_of_le_of_lt (le_trans (ge_of_same left.begins) m.after_start) m.meet.after;
+    before_stop = lt_of_lt_of_le m.meet.before (le_trans m.before_stop (le_of_same left.ends));
+    above = m.meet.after;
+    below = m.meet.before;
+    first = inl (record { a = value a; b = value b; above = m.meet.after; below = m.meet.before; on = λ t h k. (value_at (function p) t, ((left.worth t (value_at (function p) t)).0 (m.left t h k)).1, same_reflᵉ (value_at (function p) t)) });
+    second = inr (record { a = value a; b = value b; above = m.meet.after; below = m.meet.before; on = λ t h k. (value_at (function q) t, ((right.worth t (value_at (function q) t)).0 (m.right t h k)).1, same_reflᵉ (value_at (function q) t)) });
+    meet = m.meet.meet;
+    alone = m.meet.alone;
+    denominator = m.denominator;
+    wide = m.wide;
+  }
+
+  pub fault_both : (lowest highest : Extended) (x y : List (Knot P)) (e : OpFault P) → IsFault function (IsWorth function x) (IsWorth function y) (start x) (stop x) e → FaultOfTwo function lowest highest conjunction x y e
+  fault_both lowest highest x y F.Memory h s p q ends left right = tt
+  fault_both lowest highest x y (F.Wide (Cross a b l r den)) h s p q ends left right = met (SupInf p s) (SupInf q s) s.from s.to x y a b l r den left right h
+  fault_both lowest highest x y (F.Wide (Value a at den)) h s p q ends left right = absurd h
+
+  pub fault_either : (lowest highest : Extended) (x y : List (Knot P)) (e : OpFault P) → IsFault function (IsWorth function x) (IsWorth function y) (start x) (stop x) e → FaultOfTwo function lowest highest disjunction x y e
+  fault_either lowest highest x y F.Memory h s p q ends left right = tt
+  fault_either lowest highest x y (F.Wide (Cross a b l r den)) h s p q ends left right = met (SupInf p s) (SupInf q s) s.from s.to x y a b l r den left right h
+  fault_either lowest highest x y (F.Wide (Value a at den)) h s p q ends left right = absurd h
+
+  -- `p implies q` is `not p or q`
+  pub told_implied : (lowest highest : Extended) (x y n r : List (Knot P)) → TellsOne function lowest highest negation x n → TellsTwo function lowest highest disjunction n y r → TellsTwo function lowest highest implication x y r
+  told_implied lowest highest x y n r turned made s p q ends left right =
+      tells_along function (SupInf (disjunction (negation p) q) s) (SupInf (implication p q) s) s.from s.to s.from s.to r (made s (negation p) q ends (turned s p ends left) right) (same_refl s.from) (same_refl s.to)
+      (λ t v i. (
+        λ (a, b, f, g, h). (opposite a, b, f, g, subst (λ a. IsGreatest a b v) (sym (twice_opposite a)) h),
+        λ (a, b, f, g, h). (opposite a, b, subst (SupInf p s t) (sym (twice_opposite a)) f, g, h),
+      ))
+
+  pub fault_implied : (lowest highest : Extended) (x y n : List (Knot P)) (e : OpFault P) → TellsOne function lowest highest negation x n → FaultOfTwo function lowest highest disjunction n y e → FaultOfTwo function lowest highest implication x y e
+  fault_implied lowest highest x y n F.Memory turned h s p q ends left right = tt
+  fault_implied lowest highest x y n (F.Wide (Cross a b l r den)) turned h s p q ends left right = h s (negation p) q ends (turned s p ends left) right
+  fault_implied lowest highest x y n (F.Wide (Value a at den)) turned h s p q ends left right = h s (negation p) q ends (turned s p ends left) right

@@ -1,0 +1,101 @@
+-- What the signals that are made on the way keep.
+use Rattle.std.proofs.Common.{◌≡◌, ℕ, ℤ, pos, neg_ℤ, ◌+◌, ◌≤◌, ◌^◌, ◌≤ℤ◌, ◌<ℤ◌, ◌-ℤ◌, ◌+ℤ◌, ◌⊎◌, inl, inr, Bool, true, false, List, [], ◌∷◌, refl, arith}
+use Rattle.std.specs.Prelude.{IsTrue}
+use Rattle.std.proofs.lemmas.Int.{ints}
+use Rattle.rational.specs.Time.{Rational, whole, ◌≈◌}
+use Rattle.rational.specs.Rational.{IsWithin}
+use Rattle.rational.specs.Extended.{Extended, Affine}
+use Rattle.rational.specs.Affine.{IsBounded}
+use Rattle.rational.specs.Windows.{Function}
+use Rattle.rational.proofs.Order.{le_trans, le_of_same, ge_of_same, same_trans, same_sym}
+use Rattle.pl_signal.specs.declared.knot.Knot.{Knot}
+use Rattle.pl_signal.specs.Knots.{start, stop, HasShape}
+use Rattle.pl_signal.specs.Limits.{IsLimited}
+use Rattle.pl_signal.specs.Moves.{Tells}
+use Rattle.offline_eval.specs.Making.{IsSound, StaysSound, StaySound}
+use Rattle.offline_eval.proofs.Limits.{limited}
+
+-- the bases that a signal may have whose shapes were moved by at most `reach`
+abbrev pub IsReached : ℕ → ℤ → Type 0
+IsReached reach b = (neg_ℤ (pos reach) ≤ℤ b) × (b <ℤ pos (2 ^ 32 + reach))
+
+pub reached_more : (reach more : ℕ) (b : ℤ) → reach ≤ more → IsReached reach b → IsReached more b
+reached_more reach more b h (low, high) = (omega (arith, ints, h, low), omega (arith, ints, h, high))
+
+pub reached_zero : (reach : ℕ) (b : ℤ) → b ≡ pos 0 → IsReached reach b
+reached_zero reach b e = (omega (arith, ints, e), omega (arith, ints, e))
+
+pub same_within : {a b : Rational} → a ≈ b → IsWithin (2 ^ 34) a → IsWithin (2 ^ 34) b
+same_within e h = (le_trans h.0 (le_of_same e), le_trans (ge_of_same e) h.1)
+
+module _ {P : Type 0} (function : P → Affine) where
+  limited_stop_from : (k : Knot P) (ks : List (Knot P)) → IsLimited function (k ∷ ks) → IsWithin (2 ^ 34) (stop (k ∷ ks))
+  limited_stop_from k [] l = l.0.when
+  limited_stop_from k (n ∷ ks) l = limited_stop_from n ks l.1
+
+  zero_within : IsWithin (2 ^ 34) (whole (pos 0))
+  zero_within = (omega arith, omega arith)
+
+  -- a limited signal lies within 2^34
+  pub ends_within : (x : List (Knot P)) → IsLimited function x → IsWithin (2 ^ 34) (start x) × IsWithin (2 ^ 34) (stop x)
+  ends_within [] l = (zero_within, zero_within)
+  ends_within (k ∷ ks) l = (l.0.when, limited_stop_from k ks l)
+
+  -- a signal over the same domain with bounded values is limited too
+  pub limited_along : (F : Function) (x r : List (Knot P)) → IsLimited function x → Tells function F (start x) (stop x) r → ((t : Rational) (v : Extended) → F t v → IsBounded (2 ^ 31) v) → IsLimited function r
+  limited_along F x r l tells bounded =
+      let within = ends_within x l in
+      limited function r tells.signal (λ t v w. bounded t v ((tells.worth t v).0 w).1) (same_within (same_sym tells.begins) within.0) (same_within (same_sym tells.ends) within.1)
+
+-- the base is that of the old shape, but for a move by at most `own`
+pub record IsMovedBy (own : ℕ) (old new : ℤ) : Type 0 where
+  pub not_less : (old -ℤ pos own) ≤ℤ new
+  pub not_more : new ≤ℤ (old +ℤ pos own)
+
+pub reached_moved : (reach own : ℕ) (old new : ℤ) → IsReached reach old → IsMovedBy own old new → IsReached (reach + own) new
+reached_moved reach own old new (low, high) m = let a = m.not_less in let b = m.not_more in (omega (arith, ints, low, a), omega (arith, ints, high, b))
+
+pub not_moved : (old new : ℤ) → new ≡ old → IsMovedBy 0 old new
+not_moved old new e = record { not_less = omega (arith, ints, e); not_more = omega (arith, ints, e) }
+
+module _ {P : Type 0} (function : P → Affine) (base : P → ℤ) (moves : P → Bool) (others : (p : P) → moves p ≡ false → base p ≡ pos 0) where
+  -- what holds of the bases of the moving shapes holds of all
+  all_reached : (reach : ℕ) (p : P) → (IsTrue (moves p) → IsReached reach (base p)) → IsReached reach (base p)
+  all_reached reach p moving = by_test (moves p) refl
+    where
+      by_test : (b : Bool) → moves p ≡ b → IsReached reach (base p)
+      by_test true e = moving e
+      by_test false e = reached_zero reach (base p) (others p e)
+
+  -- each moving shape has the base of a shape of the old signal, moved by at most `own`
+  abbrev pub MovedFrom : ℕ → List (Knot P) → List (Knot P) → Type 0
+  MovedFrom own x r = (p : P) → HasShape r p → IsTrue (moves p) → (q : P) × HasShape x q × IsMovedBy own (base q) (base p)
+
+  pub stays_sound : (own : ℕ) (x r : List (Knot P)) → start r ≈ start x → stop r ≈ stop x → IsLimited function r → MovedFrom own x r → StaysSound function base own x r
+  stays_sound own x r begins ends limited moved from to reach s = record {
+    begins = same_trans begins s.begins;
+    ends = same_trans ends s.ends;
+    limited = limited;
+    bases = λ p h. all_reached (reach + own) p (λ m. let o = moved p h m in reached_moved reach own (base o.0) (base p) (s.bases o.0 o.1) o.2);
+  }
+
+  -- each moving shape has the base of a shape of one of the two old signals, moved by at most `own`
+  abbrev pub MovedFromTwo : ℕ → List (Knot P) → List (Knot P) → List (Knot P) → Type 0
+  MovedFromTwo own x y r = (p : P) → HasShape r p → IsTrue (moves p) → (q : P) × (HasShape x q ⊎ HasShape y q) × IsMovedBy own (base q) (base p)
+
+  pub stay_sound : (own : ℕ) (x y r : List (Knot P)) → start r ≈ start x → stop r ≈ stop x → IsLimited function r → MovedFromTwo own x y r → StaySound function base own x y r
+  stay_sound own x y r begins ends limited moved from to reach s u = record {
+    begins = same_trans begins s.begins;
+    ends = same_trans ends s.ends;
+    limited = limited;
+    bases = λ p h. all_reached (reach + own) p (λ m. let o = moved p h m in reached_moved reach own (base o.0) (base p) (of_one o.0 o.1) o.2);
+  }
+    where
+      of_one : (q : P) → HasShape x q ⊎ HasShape y q → IsReached reach (base q)
+      of_one q (inl h) = s.bases q h
+      of_one q (inr h) = u.bases q h
+
+module _ {P : Type 0} (function : P → Affine) (base : P → ℤ) where
+  -- a sound signal is sound with a larger reach
+  pub sound_more : (from to reach more : ℕ) (x : List (Knot P)) → reach ≤ more → IsSound function base from to reach x → IsSound function base from to more x
+  sound_more from to reach more x h s = record { begins = s.begins; ends = s.ends; limited = s.limited; bases = λ p i. reached_more reach more (base p) h (s.bases p i) }

@@ -1,0 +1,126 @@
+-- A signal that is one shape over the whole domain.
+use Rattle.std.proofs.Common.{◌≡◌, ◌⊎◌, inl, inr, ℕ, ℤ, pos, neg_ℤ, ◌<ℤ◌, ◌≤ℤ◌, Bool, true, false, ◌<◌, ◌≤◌, ◌^◌, List, [], ◌∷◌, sym, subst, arith}
+use Rattle.std.proofs.lemmas.Int.{ints}
+use Rattle.rational.specs.Time.{Rational, whole, ◌<ʳ◌, ◌≈◌}
+use Rattle.std.specs.Prelude.{MatchBool}
+use Rattle.rational.specs.Rational.{IsWithin}
+use Rattle.rational.specs.Affine.{IsBounded}
+use Rattle.rational.specs.Extended.{Extended, Affine, value_at, ◌≈ᵉ◌, Passes}
+use Rattle.rational.proofs.Order.{same_trans, same_refl, le_trans, lt_of_le_of_lt, lt_of_lt_of_le, le_of_same, ge_of_same}
+use Rattle.rational.proofs.Shift.{le_whole, lt_whole}
+use Rattle.rational.proofs.AffineLemmas.{same_symᵉ, same_transᵉ, value_same}
+use Rattle.frac128.specs.Value.{value}
+use Rattle.frac128.specs.declared.frac.Frac.{Frac}
+use Rattle.pl_signal.specs.declared.knot.Knot.{Knot}
+use Rattle.pl_signal.specs.Knots.{start, stop, HasShape, IsSignal, IsWorth}
+use Rattle.pl_signal.specs.Building.{GoesOn}
+use Rattle.pl_signal.specs.Moves.{Tells}
+use Rattle.stl_syntax.specs.Formula.{constant}
+use Rattle.stl_syntax.specs.SupInf.{Setting, SupInf}
+use Rattle.offline_eval.specs.Inputs.{IsOver}
+use Rattle.offline_eval.specs.Making.{IsSound, TellsValue}
+use Rattle.offline_eval.proofs.Along.{tells_along}
+use Rattle.offline_eval.proofs.Limits.{limited, bounded_equal}
+use Rattle.offline_eval.proofs.Sound.{reached_zero}
+use Rattle.pl_signal.proofs.Telling.{IsFunction, told}
+
+-- a signal of one instant
+abbrev pub instant : {P : Type 0} → Frac → P → List (Knot P)
+instant at p = record { time = at; point = p; after = p } ∷ []
+
+pub tick_within : {a : Rational} (n : ℕ) → n < 2 ^ 32 → a ≈ whole (pos n) → IsWithin (2 ^ 34) a
+tick_within n h e = (le_trans (le_whole (low n)) (ge_of_same e), le_trans (le_of_same e) (le_whole (high n h)))
+  where
+    low : (n : ℕ) → neg_ℤ (pos (2 ^ 34)) ≤ℤ pos n
+    low n = omega (arith, ints)
+
+    high : (n : ℕ) → n < 2 ^ 32 → pos n ≤ℤ pos (2 ^ 34)
+    high n h = omega (arith, ints, h)
+
+pub tick_order : {a b : Rational} (n m : ℕ) → n < m → a ≈ whole (pos n) → b ≈ whole (pos m) → a <ʳ b
+tick_order {a} {b} n m h e f = lt_of_le_of_lt (le_of_same e) (lt_of_lt_of_le (lt_whole (below n m h)) (ge_of_same f))
+  where
+    below : (n m : ℕ) → n < m → pos n <ℤ pos m
+    below n m h = omega (arith, ints, h)
+
+module _ {P : Type 0} (function : P → Affine) where
+  line_is_function : (p : P) → IsFunction (Passes (function p))
+  line_is_function p = record {
+    alike = λ t u v w e f h. same_transᵉ w v (value_at (function p) u) (same_symᵉ v w f) (same_transᵉ v (value_at (function p) t) (value_at (function p) u) h (value_same (function p) e));
+    one = λ t v w a b. same_transᵉ v (value_at (function p) t) w a (same_symᵉ w (value_at (function p) t) b);
+  }
+
+  instant_worth : (at : Frac) (p : P) (t : Rational) (v : Extended) → IsWorth function (instant at p) t v → Passes (function p) t v
+  instant_worth at p t v (inl w) = w.worth
+  instant_worth at p t v (inr (inl w)) = absurd w
+  instant_worth at p t v (inr (inr w)) = absurd w
+
+  instant_shape : (at : Frac) (p q : P) → HasShape (instant at p) q → q ≡ p
+  instant_shape at p q (inl e) = e
+  instant_shape at p q (inr (inl e)) = e
+  instant_shape at p q (inr (inr e)) = absurd e
+
+  -- where the domain is one instant
+  pub steady_once : (r : List (Knot P)) (at : Frac) (p : P) (from to : Rational) → IsSignal function r → r ≡ instant at p → value at ≈ from → from ≈ to → Tells function (Passes (function p)) from to r
+  steady_once r at p from to signal e begins ends =
+      told function (Passes (function p)) from to r (line_is_function p) (record { signal = signal; worth = λ t v w. instant_worth at p t v (subst (λ r. IsWorth function r t v) e w) })
+      (subst (λ r. start r ≈ from) (sym e) begins) (subst (λ r. stop r ≈ to) (sym e) (same_trans begins ends))
+
+  pub steady_once_shapes : (r : List (Knot P)) (at : Frac) (p : P) → r ≡ instant at p → (q : P) → HasShape r q → q ≡ p
+  steady_once_shapes r at p e q h = instant_shape at p q (subst (λ r. HasShape r q) e h)
+
+  -- where it is longer
+  pub steady_twice : (old new : List (Knot P)) (at till : Frac) (p : P) (from to : Rational) → old ≡ instant at p → GoesOn function old p till p new → value at ≈ from → value till ≈ to → Tells function (Passes (function p)) from to new
+  steady_twice old new at till p from to e on begins ends =
+      told function (Passes (function p)) from to new (line_is_function p) (record { signal = on.signal; worth = λ t v w. by_part t v ((on.worth t v).0 w) })
+      (subst (λ s. s ≈ from) (sym on.begins) (subst (λ r. start r ≈ from) (sym e) begins)) (subst (λ s. s ≈ to) (sym on.ends) ends)
+    where
+      by_part : (t : Rational) (v : Extended) → IsWorth function old t v ⊎ ((stop old <ʳ t) × (t <ʳ value till) × Passes (function p) t v) ⊎ ((t ≈ value till) × Passes (function p) t v) → Passes (function p) t v
+      by_part t v (inl w) = instant_worth at p t v (subst (λ r. IsWorth function r t v) e w)
+      by_part t v (inr (inl w)) = w.2
+      by_part t v (inr (inr w)) = w.1
+
+  pub steady_twice_shapes : (old new : List (Knot P)) (at till : Frac) (p : P) → old ≡ instant at p → GoesOn function old p till p new → (q : P) → HasShape new q → q ≡ p
+  steady_twice_shapes old new at till p e on q h = by_part (on.shapes q h)
+    where
+      by_part : HasShape old q ⊎ (q ≡ p) ⊎ (q ≡ p) → q ≡ p
+      by_part (inl w) = instant_shape at p q (subst (λ r. HasShape r q) e w)
+      by_part (inr (inl w)) = w
+      by_part (inr (inr w)) = w
+
+  -- it is sound, since its one shape is bounded and does not move
+  pub steady_sound : (base : P → ℤ) (from to : ℕ) (r : List (Knot P)) (p : P) → from ≤ to → to < 2 ^ 32 → Tells function (Passes (function p)) (whole (pos from)) (whole (pos to)) r
+      → ((q : P) → HasShape r q → q ≡ p) → base p ≡ pos 0 → ((t : Rational) → IsBounded (2 ^ 31) (value_at (function p) t)) → IsSound function base from to 0 r
+  steady_sound base from to r p order small tells shapes still bounded = record {
+    begins = tells.begins;
+    ends = tells.ends;
+    limited = limited function r tells.signal (λ t v w. bounded_equal (2 ^ 31) v (value_at (function p) t) ((tells.worth t v).0 w).1 (bounded t))
+        (tick_within from (omega (arith, order, small)) tells.begins) (tick_within to small tells.ends);
+    bases = λ q h. reached_zero 0 (base q) (subst (λ q. base q ≡ pos 0) (sym (shapes q h)) still);
+  }
+
+-- true has the greatest value, and false the least
+pub told_constant : {P : Type 0} (function : P → Affine) (lowest highest : Extended) (from to : ℕ) (holds : Bool) (p : P) (r : List (Knot P)) → Tells function (Passes (function p)) (whole (pos from)) (whole (pos to)) r
+    → MatchBool holds ((t : Rational) → value_at (function p) t ≈ᵉ highest) ((t : Rational) → value_at (function p) t ≈ᵉ lowest) → (s : Setting) → IsOver lowest highest from to s → TellsValue function s (constant holds) r
+told_constant function lowest highest from to holds p r tells value s over =
+    tells_along function (Passes (function p)) (SupInf (constant holds) s) (whole (pos from)) (whole (pos to)) s.from s.to r tells (same_of (sym over.from)) (same_of (sym over.to)) (λ t v i. by_value holds value t v)
+  where
+    same_of : {a b : Rational} → a ≡ b → a ≈ b
+    same_of {a} e = subst (λ b. a ≈ b) e (same_refl a)
+
+    by_value : (holds : Bool) → MatchBool holds ((t : Rational) → value_at (function p) t ≈ᵉ highest) ((t : Rational) → value_at (function p) t ≈ᵉ lowest) → (t : Rational) (v : Extended)
+        → (Passes (function p) t v → SupInf (constant holds) s t v) × (SupInf (constant holds) s t v → Passes (function p) t v)
+    by_value true h t v = (
+      λ w. same_transᵉ v (value_at (function p) t) s.highest w (subst (λ x. value_at (function p) t ≈ᵉ x) (sym over.highest) (h t)),
+      λ w. same_transᵉ v s.highest (value_at (function p) t) w (same_symᵉ (value_at (function p) t) s.highest (subst (λ x. value_at (function p) t ≈ᵉ x) (sym over.highest) (h t))),
+    )
+    by_value false h t v = (
+      λ w. same_transᵉ v (value_at (function p) t) s.lowest w (subst (λ x. value_at (function p) t ≈ᵉ x) (sym over.lowest) (h t)),
+      λ w. same_transᵉ v s.lowest (value_at (function p) t) w (same_symᵉ (value_at (function p) t) s.lowest (subst (λ x. value_at (function p) t ≈ᵉ x) (sym over.lowest) (h t))),
+    )
+
+-- the extreme values are bounded
+pub extreme_bounded : (f : Affine) (lowest highest : Extended) (holds : Bool) → IsBounded (2 ^ 31) lowest → IsBounded (2 ^ 31) highest
+    → MatchBool holds ((t : Rational) → value_at f t ≈ᵉ highest) ((t : Rational) → value_at f t ≈ᵉ lowest) → (t : Rational) → IsBounded (2 ^ 31) (value_at f t)
+extreme_bounded f lowest highest true low high h t = bounded_equal (2 ^ 31) (value_at f t) highest (h t) high
+extreme_bounded f lowest highest false low high h t = bounded_equal (2 ^ 31) (value_at f t) lowest (h t) low

@@ -1,0 +1,43 @@
+use Rattle.std.proofs.Common.{◌≡◌, ◌∙◌, sym, ap, subst, Some}
+use Rattle.std.specs.Prelude.{slice_get}
+use Rattle.std.proofs.lemmas.Result.{IfOk-weaker, IfErr-weaker}
+use Rattle.stl_syntax.specs.declared.node.Node.TheVariants.{Atom as Leaf}
+use Rattle.stl_syntax.specs.Formula.{subformula, tree_of, HasChildrenBelow}
+use Rattle.stl_syntax.specs.Limits.{own_reach}
+use Rattle.offline_eval.specs.Making.{IsSound, TellsValue, IsFaultOf}
+use Rattle.offline_eval.specs.Places.{reach_before}
+use Rattle.offline_eval.proofs.Places.{on_ok, atom_takes, other_takes, atom_sound, atom_told, not_atom, sum_on}
+use Rattle.offline_eval.proofs.evaluation.next_signal.Goals as goal
+
+pub take-requires : goal.take-requires
+take-requires g c = c.requires.left c.in-Atom.field-0 (c.node.ensures.node ∙ ap (λ n. Some n) c.in-Atom.is)
+
+pub of_node-requires-clause-kind : goal.of_node-requires-clause-kind
+of_node-requires-clause-kind g c = c.requires.built c.args.i c.node.result.now c.node.ensures.node (not_atom c.node.result.now c.in_default.not-Atom)
+
+pub of_node-requires-clause-children : goal.of_node-requires-clause-children
+of_node-requires-clause-children g c = subst (λ i. HasChildrenBelow i c.node.result.now) (sym c.requires.place) c.node.ensures.below
+
+pub returns-in-Atom : goal.returns-in-Atom
+returns-in-Atom g c =
+    let nodes = c.args.formula.now.nodes in
+    let at : slice_get nodes c.args.i ≡ Some (Leaf c.in-Atom.field-0) = c.node.ensures.node ∙ ap (λ n. Some n) c.in-Atom.is in
+    record {
+      rest = atom_takes nodes c.args.i c.in-Atom.field-0 c.take.result c.args.atoms.now c.take.new.self at c.take.ensures;
+      sound = atom_sound g.P.Shape.function g.P.Shape.base c.args.from c.args.to nodes c.args.i c.take.result c.args.atoms.now c.take.new.self c.args.done.now c.take.ensures c.requires.inputs;
+      told = λ s all over left atoms before. atom_told g.P.Shape.function nodes c.args.i c.in-Atom.field-0 c.take.result c.args.atoms.now c.take.new.self all s at
+          (c.node.ensures.subformula ∙ ap (tree_of (subformula nodes) c.args.i) c.in-Atom.is) c.take.ensures left atoms;
+      wide = tt;
+    }
+
+pub returns-in_default : goal.returns-in_default
+returns-in_default g c =
+    let nodes = c.args.formula.now.nodes in
+    let n = c.node.result.now in
+    let f = g.P.Shape.function in
+    record {
+      rest = on_ok c.of_node.result (other_takes nodes c.args.i n c.args.atoms.now c.node.ensures.node (not_atom n c.in_default.not-Atom));
+      sound = IfOk-weaker c.of_node.result _ _ (λ r h all. subst (λ k. IsSound f g.P.Shape.base c.args.from c.args.to k r) (sym (sum_on own_reach nodes c.args.i n c.node.ensures.node)) (h (reach_before nodes c.args.i) all)) c.of_node.ensures.sound;
+      told = IfOk-weaker c.of_node.result _ _ (λ r h s all over left atoms before. subst (λ t. TellsValue f s t r) (sym c.node.ensures.subformula) (h s (subformula nodes) c.args.i over before)) c.of_node.ensures.told;
+      wide = IfErr-weaker c.of_node.result _ _ (λ e h s over before. subst (λ t. IsFaultOf f s t e) (sym c.node.ensures.subformula) (h s (subformula nodes) c.args.i over before)) c.of_node.ensures.wide;
+    }

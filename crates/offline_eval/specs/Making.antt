@@ -1,0 +1,125 @@
+-- What the signals that are made on the way keep, and what a signal that is made from those of a node's children tells.
+use Rattle.std.specs.Prelude.{◌≡◌, ℕ, ℤ, pos, neg_ℤ, ◌+◌, ◌^◌, ◌≤ℤ◌, ◌<ℤ◌, List, Some, slice_get}
+use Rattle.rational.specs.Time.{whole, ◌≈◌, ◌≤ʳ◌, ◌<ʳ◌}
+use Rattle.rational.specs.Extended.{Extended, Affine}
+use Rattle.pl_signal.specs.declared.knot.Knot.{Knot}
+use Rattle.frac128.specs.Value.{value}
+use Rattle.pl_signal.specs.declared.faults.WidePair.{WidePair}
+use Rattle.pl_signal.specs.declared.faults.WidePair.TheVariants.{Cross, Value}
+use Rattle.pl_signal.specs.declared.faults.OpFault.{OpFault}
+use Rattle.pl_signal.specs.declared.faults.OpFault.TheVariants as F
+use Rattle.pl_signal.specs.Knots.{start, stop, HasShape}
+use Rattle.pl_signal.specs.Limits.{IsLimited}
+use Rattle.pl_signal.specs.Moves.{Tells}
+use Rattle.rational.specs.InPlay.{IsWideCrossing, IsWideValue}
+use Rattle.stl_syntax.specs.WideCause.{IsInPlayAt}
+use Rattle.stl_syntax.specs.Formula.{Subformula, tree_of}
+use Rattle.stl_syntax.specs.Limits.{own_reach}
+use Rattle.stl_syntax.specs.declared.node.Node.{Node}
+use Rattle.stl_syntax.specs.declared.node.Node.TheVariants.{Const, Not, And, Or, Implies}
+use Rattle.offline_eval.specs.Inputs.{IsOver}
+use Rattle.offline_eval.specs.declared.faults.EvalFault.{EvalFault}
+use Rattle.offline_eval.specs.declared.faults.EvalFault.TheVariants as E
+use Rattle.stl_syntax.specs.SupInf.{Setting, SupInf}
+
+-- the setting has these least and greatest values
+pub record HasEnds (least greatest : Extended) (s : Setting) : Type 0 where
+  pub lowest : s.lowest ≡ least
+  pub highest : s.highest ≡ greatest
+
+-- the node is a constant or a connective
+abbrev pub IsPointwise : Node → Type 0
+IsPointwise (Const b) = Unit {0}
+IsPointwise (Not p) = Unit {0}
+IsPointwise (And p q) = Unit {0}
+IsPointwise (Or p q) = Unit {0}
+IsPointwise (Implies p q) = Unit {0}
+IsPointwise n = ⊥
+
+module _ {P : Type 0} (function : P → Affine) where
+  -- two signals over one domain, with limited values
+  pub record MayMeet (x y : List (Knot P)) : Type 0 where
+    pub left : IsLimited function x
+    pub right : IsLimited function y
+    pub begins : start x ≈ start y
+    pub ends : stop x ≈ stop y
+
+module _ {P : Type 0} (function : P → Affine) (base : P → ℤ) where
+  -- what every step asks of a signal: times of 32 bits, limited values, and bases that windows may move
+  pub record IsFit (x : List (Knot P)) : Type 0 where
+    pub limited : IsLimited function x
+    pub first : whole (pos 0) ≤ʳ start x
+    pub last : stop x <ʳ whole (pos (2 ^ 32))
+    pub near : (p : P) → HasShape x p → (neg_ℤ (pos (2 ^ 32)) ≤ℤ base p) × (base p ≤ℤ pos (2 ^ 33))
+
+  -- a signal over the domain, with limited values, whose bases windows have moved by at most `reach`
+  pub record IsSound (from to reach : ℕ) (x : List (Knot P)) : Type 0 where
+    pub begins : start x ≈ whole (pos from)
+    pub ends : stop x ≈ whole (pos to)
+    pub limited : IsLimited function x
+    pub bases : (p : P) → HasShape x p → (neg_ℤ (pos reach) ≤ℤ base p) × (base p <ℤ pos (2 ^ 32 + reach))
+
+  -- so is each of the signals
+  abbrev pub AreSound : ℕ → ℕ → ℕ → List (List (Knot P)) → Type 0
+  AreSound from to reach xs = (k : ℕ) (x : List (Knot P)) → slice_get xs k ≡ Some x → IsSound from to reach x
+
+  -- the new signal is sound where the old one is, over the same domain, with a reach that grows by `own`
+  abbrev pub StaysSound : ℕ → List (Knot P) → List (Knot P) → Type 0
+  StaysSound own x r = (from to reach : ℕ) → IsSound from to reach x → IsSound from to (reach + own) r
+
+  -- the same for a signal that is made of two
+  abbrev pub StaySound : ℕ → List (Knot P) → List (Knot P) → List (Knot P) → Type 0
+  StaySound own x y r = (from to reach : ℕ) → IsSound from to reach x → IsSound from to reach y → IsSound from to (reach + own) r
+
+  -- the new signal is sound where the old ones are, with a reach that grows by what the node adds
+  abbrev pub NodeStaysSound : ℕ → ℕ → Node → List (List (Knot P)) → List (Knot P) → Type 0
+  NodeStaysSound from to n xs r = (reach : ℕ) → AreSound from to reach xs → IsSound from to (reach + own_reach n) r
+
+module _ {P : Type 0} (function : P → Affine) where
+  -- the signal tells the value of the formula over the domain
+  abbrev pub TellsValue : Setting → Subformula → List (Knot P) → Type 0
+  TellsValue s p x = Tells function (SupInf p s) s.from s.to x
+
+  -- the signals tell the formulas at their places
+  abbrev pub TellAt : Setting → (ℕ → Subformula) → List (List (Knot P)) → Type 0
+  TellAt s at xs = (k : ℕ) (x : List (Knot P)) → slice_get xs k ≡ Some x → TellsValue s (at k) x
+
+  -- the pair is in play in one of the steps by which the formula's value is made, and needs its denominator
+  abbrev pub IsCauseOf : Setting → Subformula → WidePair P → Type 0
+  IsCauseOf s f (Cross p q a b den) = IsWideCrossing (IsInPlayAt f s) s.from s.to (function p) (function q) (value a) (value b) den
+  IsCauseOf s f (Value p at den) = IsWideValue (IsInPlayAt f s) s.from s.to (function p) (value at) den
+
+  -- a fault is want of memory, or a pair that is in play where the formula's value is made, and needs its denominator
+  abbrev pub IsFaultOf : Setting → Subformula → OpFault P → Type 0
+  IsFaultOf s p F.Memory = Unit {0}
+  IsFaultOf s p (F.Wide pair) = IsCauseOf s p pair
+
+module _ {P : Type 0} (function : P → Affine) (lowest highest : Extended) where
+  -- where x tells a formula, r tells the formula that is made of it
+  abbrev pub TellsOne : (Subformula → Subformula) → List (Knot P) → List (Knot P) → Type 0
+  TellsOne make x r = (s : Setting) (p : Subformula) → HasEnds lowest highest s → TellsValue function s p x → TellsValue function s (make p) r
+
+  -- where x and y tell two formulas, r tells the formula that is made of them
+  abbrev pub TellsTwo : (Subformula → Subformula → Subformula) → List (Knot P) → List (Knot P) → List (Knot P) → Type 0
+  TellsTwo make x y r = (s : Setting) (p q : Subformula) → HasEnds lowest highest s → TellsValue function s p x → TellsValue function s q y → TellsValue function s (make p q) r
+
+  -- where x tells a formula, the fault is one of the formula that is made of it
+  abbrev pub FaultOfOne : (Subformula → Subformula) → List (Knot P) → OpFault P → Type 0
+  FaultOfOne make x e = (s : Setting) (p : Subformula) → HasEnds lowest highest s → TellsValue function s p x → IsFaultOf function s (make p) e
+
+  -- where x and y tell two formulas, the fault is one of the formula that is made of them
+  abbrev pub FaultOfTwo : (Subformula → Subformula → Subformula) → List (Knot P) → List (Knot P) → OpFault P → Type 0
+  FaultOfTwo make x y e = (s : Setting) (p q : Subformula) → HasEnds lowest highest s → TellsValue function s p x → TellsValue function s q y → IsFaultOf function s (make p q) e
+
+  -- where the signals tell the formulas at their places, r tells the formula of the node
+  abbrev pub TellsNode : ℕ → ℕ → Node → List (List (Knot P)) → List (Knot P) → Type 0
+  TellsNode from to n xs r = (s : Setting) (at : ℕ → Subformula) (i : ℕ) → IsOver lowest highest from to s → TellAt function s at xs → TellsValue function s (tree_of at i n) r
+
+  -- there the fault is one of the formula of the node
+  abbrev pub FaultOfNode : ℕ → ℕ → Node → List (List (Knot P)) → OpFault P → Type 0
+  FaultOfNode from to n xs e = (s : Setting) (at : ℕ → Subformula) (i : ℕ) → IsOver lowest highest from to s → TellAt function s at xs → IsFaultOf function s (tree_of at i n) e
+
+-- the fault of an operator at the node of that place
+abbrev pub fault_at : {P : Type 0} → ℕ → OpFault P → EvalFault P
+fault_at i F.Memory = E.Memory
+fault_at i (F.Wide pair) = E.Wide (record { node = i; pair = pair })

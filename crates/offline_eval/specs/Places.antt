@@ -1,0 +1,35 @@
+-- What the signal that is made at a place of a formula takes, keeps and tells.
+use Rattle.std.specs.Prelude.{◌≡◌, ℕ, ℤ, ◌+◌, List, take, drop, sum_by}
+use Rattle.rational.specs.Extended.{Extended, Affine}
+use Rattle.pl_signal.specs.declared.knot.Knot.{Knot}
+use Rattle.pl_signal.specs.declared.faults.OpFault.{OpFault}
+use Rattle.stl_syntax.specs.Formula.{subformula}
+use Rattle.stl_syntax.specs.Limits.{own_reach}
+use Rattle.stl_syntax.specs.SupInf.{Setting}
+use Rattle.stl_syntax.specs.declared.node.Node.{Node}
+use Rattle.offline_eval.specs.Inputs.{atoms_before, IsOver, TellAtoms}
+use Rattle.offline_eval.specs.Making.{AreSound, IsSound, TellAt, TellsValue, IsFaultOf}
+
+-- what the first nodes add to the reach
+abbrev pub reach_before : List Node → ℕ → ℕ
+reach_before nodes i = sum_by own_reach (take i nodes)
+
+-- of the signals that are left for the atoms from place i on, those are left after it that are for the atoms behind it
+abbrev pub TakesOwn : {P : Type 0} → List Node → ℕ → List (List (Knot P)) → List (List (Knot P)) → Type 0
+TakesOwn {P} nodes i old new = (all : List (List (Knot P))) → old ≡ drop (atoms_before nodes i) all → new ≡ drop (atoms_before nodes (i + 1)) all
+
+module _ {P : Type 0} (function : P → Affine) (base : P → ℤ) where
+  -- the new signal is sound where those before it are
+  abbrev pub PlaceStaysSound : ℕ → ℕ → List Node → ℕ → List (List (Knot P)) → List (Knot P) → Type 0
+  PlaceStaysSound from to nodes i xs r = AreSound function base from to (reach_before nodes i) xs → IsSound function base from to (reach_before nodes (i + 1)) r
+
+module _ {P : Type 0} (function : P → Affine) (lowest highest : Extended) where
+  -- where the atoms' signals tell the atoms, and the signals before it tell their nodes, the new signal tells its node
+  abbrev pub TellsPlace : ℕ → ℕ → List Node → ℕ → List (List (Knot P)) → List (List (Knot P)) → List (Knot P) → Type 0
+  TellsPlace from to nodes i left xs r =
+      (s : Setting) (all : List (List (Knot P))) → IsOver lowest highest from to s → left ≡ drop (atoms_before nodes i) all → TellAtoms function nodes all s
+      → TellAt function s (subformula nodes) xs → TellsValue function s (subformula nodes i) r
+
+  -- there a fault is one of its node
+  abbrev pub FaultOfPlace : ℕ → ℕ → List Node → ℕ → List (List (Knot P)) → OpFault P → Type 0
+  FaultOfPlace from to nodes i xs e = (s : Setting) → IsOver lowest highest from to s → TellAt function s (subformula nodes) xs → IsFaultOf function s (subformula nodes i) e

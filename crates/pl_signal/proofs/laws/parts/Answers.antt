@@ -1,0 +1,9 @@
+use Rattle.pl_signal.proofs.Limits.{breakpoint_at, part_in, part_one}
+use Rattle.pl_signal.proofs.laws.parts.Goals as goal
+
+pub returns : goal.returns
+returns g c = record {
+  breakpoint = breakpoint_at g.P.Shape.function;
+  part = part_in g.P.Shape.function;
+  one = part_one g.P.Shape.function;
+}

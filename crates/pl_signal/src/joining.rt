@@ -1,0 +1,129 @@
+//! The least and the greatest of two shapes over an open gap.
+ghost use Rattle.std.specs.Prelude.{◌≡◌, ◌⊎◌, ◌^◌, MatchResult};
+ghost use Rattle.rational.specs.Rational.{IsWithin};
+ghost use Rattle.rational.specs.Time.{◌<ʳ◌};
+ghost use Rattle.rational.specs.Extended.{value_at};
+ghost use Rattle.rational.specs.Affine.{HasBoundedLevel, MeetAlone};
+ghost use Rattle.frac128.specs.Value.{value};
+ghost use Rattle.pl_signal.specs.Joining.{IsChosen, IsFavour, IsGapFault, IsPieces, TurnsOver};
+
+use crate::{OpFault, WidePair};
+use frac128::Frac;
+use std::cmp::Ordering;
+use value_laws::Shape;
+
+/// Which of two values is wanted at a time.
+#[derive(Clone, Copy, Debug)]
+pub enum Side {
+    /// The least of the two.
+    Least,
+    /// The greatest of the two.
+    Greatest,
+}
+
+/// What is wanted of two shapes, over an open gap.
+#[derive(Clone, Copy)]
+pub(crate) enum Pieces<P> {
+    /// One of the two all over.
+    Whole(P),
+    /// One up to the crossing and at it, and the other after it.
+    Split { first: P, middle: Frac, second: P },
+}
+
+/// The order of the two at `t`, turned over where the greatest is wanted: `Less` where the first is to be taken.
+pub fn favour<P: Shape>(side: Side, p: &P, q: &P, t: &Frac) -> Ordering
+    requires { IsWithin (2 ^ 34) (value t.now) }
+    ensures { IsFavour side result (value_at (P.function p.now) (value t.now)) (value_at (P.function q.now) (value t.now)) }
+{
+    match side {
+        Side::Least => P::cmp_at(p, q, t),
+        Side::Greatest => P::cmp_at(q, p, t),
+    }
+}
+
+/// The one of the two that is taken at `t`.
+pub fn chosen<P: Shape>(side: Side, p: &P, q: &P, t: &Frac) -> P
+    requires { IsWithin (2 ^ 34) (value t.now) }
+    ensures one { (result ≡ p.now) ⊎ (result ≡ q.now) }
+    ensures value { IsChosen side (value_at (P.function p.now) (value t.now)) (value_at (P.function q.now) (value t.now))
+        (value_at (P.function result) (value t.now)) }
+{
+    match favour(side, p, q, t) {
+        Ordering::Greater => *q,
+        _ => *p,
+    }
+}
+
+/// The time at which the two cross between `from` and `to`, where their order turns over between them.
+///
+/// It is refused as `Wide` exactly where that time needs a denominator of 2^60 or more.
+pub fn crossing<P: Shape>(p: &P, q: &P, from: &Frac, to: &Frac) -> Result<Frac, OpFault<P>>
+    requires order { value from.now <ʳ value to.now }
+    requires from_within { IsWithin (2 ^ 34) (value from.now) }
+    requires to_within { IsWithin (2 ^ 34) (value to.now) }
+    requires first { HasBoundedLevel (2 ^ 31) (P.function p.now) }
+    requires second { HasBoundedLevel (2 ^ 31) (P.function q.now) }
+    requires turned { TurnsOver (P.function p.now) (P.function q.now) (value from.now) (value to.now) }
+    ensures { MatchResult result
+        (λ t. MeetAlone (P.function p.now) (P.function q.now) (value from.now) (value to.now) (value t))
+        (IsGapFault P.function p.now q.now from.now to.now) }
+{
+    match P::cross(p, q, from, to) {
+        Ok(Some(t)) => Ok(t),
+        Ok(None) => unreachable!(),
+        Err(wide) => Err(OpFault::Wide(WidePair::Cross {
+            p: *p,
+            q: *q,
+            from: *from,
+            to: *to,
+            den: wide.den,
+        })),
+    }
+}
+
+/// What is taken of the two at each time between `from` and `to`.
+pub(crate) fn pieces_over<P: Shape>(
+    side: Side,
+    p: &P,
+    q: &P,
+    from: &Frac,
+    to: &Frac,
+) -> Result<Pieces<P>, OpFault<P>>
+    requires order { value from.now <ʳ value to.now }
+    requires from_within { IsWithin (2 ^ 34) (value from.now) }
+    requires to_within { IsWithin (2 ^ 34) (value to.now) }
+    requires first { HasBoundedLevel (2 ^ 31) (P.function p.now) }
+    requires second { HasBoundedLevel (2 ^ 31) (P.function q.now) }
+    ensures { MatchResult result
+        (IsPieces P.function side p.now q.now (value from.now) (value to.now))
+        (IsGapFault P.function p.now q.now from.now to.now) }
+{
+    match favour(side, p, q, from) {
+        Ordering::Less => match favour(side, p, q, to) {
+            Ordering::Greater => {
+                let middle = crossing(p, q, from, to)?;
+                Ok(Pieces::Split {
+                    first: *p,
+                    middle,
+                    second: *q,
+                })
+            }
+            _ => Ok(Pieces::Whole(*p)),
+        },
+        Ordering::Equal => match favour(side, p, q, to) {
+            Ordering::Greater => Ok(Pieces::Whole(*q)),
+            _ => Ok(Pieces::Whole(*p)),
+        },
+        Ordering::Greater => match favour(side, p, q, to) {
+            Ordering::Less => {
+                let middle = crossing(p, q, from, to)?;
+                Ok(Pieces::Split {
+                    first: *q,
+                    middle,
+                    second: *p,
+                })
+            }
+            _ => Ok(Pieces::Whole(*q)),
+        },
+    }
+}

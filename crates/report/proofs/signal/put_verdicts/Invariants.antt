@@ -1,0 +1,9 @@
+use Rattle.std.proofs.Common.{◌-◌, List}
+use Rattle.stl_syntax.specs.Texts.{AreVerdictLines}
+use Rattle.stl_syntax.specs.declared.items.Verdict.{Verdict}
+use Rattle.report.specs.Appended.{Grew}
+use Rattle.report.proofs.Advances.{IsSpelledTo}
+use Rattle.report.proofs.signal.put_verdicts.Given as goal
+
+abbrev pub invariant-loop-i : goal.invariant-loop-i
+invariant-loop-i l = (verdicts : List Verdict) × IsSpelledTo l.s (l.i - 1) verdicts l.span × Grew (AreVerdictLines l.scale verdicts) l.initial.text l.text

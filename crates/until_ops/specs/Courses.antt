@@ -1,0 +1,107 @@
+-- What a since is on a gap on which both sides are affine and in one order: the least or the greatest of two shapes.
+use Rattle.std.specs.Prelude.{◌≡◌, ◌⊎◌, ◌≤◌, ◌^◌, Bool, false, MatchBool}
+use Rattle.rational.specs.Rational.{Rational, ◌<ʳ◌, ◌≤ʳ◌, IsWithin}
+use Rattle.rational.specs.Time.{HasDenominator}
+use Rattle.rational.specs.Extended.{Extended, finite, ◌≤ᵉ◌, ◌≈ᵉ◌, IsLeast, IsGreatest, Affine, value_at}
+use Rattle.rational.specs.Affine.{IsBounded, MeetAlone}
+use Rattle.frac128.specs.Value.{value}
+use Rattle.frac128.specs.declared.frac.Frac.{Frac}
+use Rattle.pl_signal.specs.declared.faults.WidePair.TheVariants.{Cross, Value}
+use Rattle.pl_signal.specs.declared.faults.OpFault.{OpFault}
+use Rattle.pl_signal.specs.declared.faults.OpFault.TheVariants as F
+use Rattle.until_ops.specs.declared.course.Course.{Course}
+use Rattle.until_ops.specs.declared.course.Gap.{Gap}
+use Rattle.until_ops.specs.declared.course.Turn.{Turn}
+use Rattle.pl_signal.specs.declared.joining.Side.{Side}
+use Rattle.pl_signal.specs.Joining.{IsChosen}
+
+-- f grows with time, or stays; it shrinks, or stays
+abbrev pub Climbs : Affine → Type 0
+Climbs f = (t u : Rational) → t ≤ʳ u → value_at f t ≤ᵉ value_at f u
+
+abbrev pub Sinks : Affine → Type 0
+Sinks f = (t u : Rational) → t ≤ʳ u → value_at f u ≤ᵉ value_at f t
+
+-- at both times f is at most h
+pub record IsBelow (f h : Affine) (l r : Rational) : Type 0 where
+  pub left : value_at f l ≤ᵉ value_at h l
+  pub right : value_at f r ≤ᵉ value_at h r
+
+-- at both times the two are in one order
+abbrev pub InOrder : Affine → Affine → Rational → Rational → Type 0
+InOrder f h l r = IsBelow f h l r ⊎ IsBelow h f l r
+
+-- v is the value at t of a since that is worth r at t0, where from there on its left side is f and its right side h, in one order
+pub record IsOnward (r : Extended) (f h : Affine) (t0 t : Rational) (v : Extended) : Type 0 where
+  pub low : Extended
+  pub top : Extended
+  pub high : Extended
+  pub is_low : IsLeast r (value_at f t0) low
+  pub is_top : IsGreatest low (value_at h t0) top
+  pub is_high : IsGreatest top (value_at h t) high
+  pub is_value : IsLeast (value_at f t) high v
+
+-- v is the value at a time of a since that has the least or the greatest of x and y for its limit there, with p and q at that time
+pub record IsPointOf (side : Side) (x y p q v : Extended) : Type 0 where
+  pub limit : Extended
+  pub most : Extended
+  pub is_limit : IsChosen side x y limit
+  pub is_most : IsGreatest q limit most
+  pub is_value : IsLeast p most v
+
+-- the next time at which the two come out of order, or where nothing does so before it, the next time
+pub record IsTurn (f h : Affine) (from next : Frac) (turn : Turn) : Type 0 where
+  pub after : value from <ʳ value turn.time
+  pub not_later : value turn.time ≤ʳ value next
+  pub in_order : InOrder f h (value from) (value turn.time)
+  pub kind : MatchBool turn.met (MeetAlone f h (value from) (value next) (value turn.time)) (turn.time ≡ next)
+
+module _ {P : Type 0} (function : P → Affine) where
+  -- x is at every time what o is at the time `at`
+  abbrev pub IsFixed : P → Rational → P → Type 0
+  IsFixed o at x = (u : Rational) → value_at (function x) u ≈ᵉ value_at (function o) at
+
+  -- want of memory, or the value of x at the time, which needs the denominator
+  abbrev pub IsValueFault : P → Frac → OpFault P → Type 0
+  IsValueFault x from F.Memory = Unit {0}
+  IsValueFault x from (F.Wide (Cross a b c d den)) = ⊥
+  IsValueFault x from (F.Wide (Value o at den)) =
+      (o ≡ x) × (at ≡ from) × ((v : Rational) × (value_at (function x) (value from) ≈ᵉ finite v) × HasDenominator v den × (2 ^ 60 ≤ den))
+
+  -- one of the three shapes that tell of a gap
+  abbrev pub IsOfGap : Gap P → P → Type 0
+  IsOfGap gap o = (o ≡ gap.before) ⊎ (o ≡ gap.left) ⊎ (o ≡ gap.right)
+
+  -- times and values are within the limits, and both sides in one order
+  pub record IsGap (gap : Gap P) : Type 0 where
+    pub later : value gap.from <ʳ value gap.to
+    pub from_within : IsWithin (2 ^ 34) (value gap.from)
+    pub to_within : IsWithin (2 ^ 34) (value gap.to)
+    pub before_small : IsBounded (2 ^ 31) (value_at (function gap.before) (value gap.from))
+    pub left_small : IsBounded (2 ^ 31) (value_at (function gap.left) (value gap.from))
+    pub right_small : IsBounded (2 ^ 31) (value_at (function gap.right) (value gap.from))
+    pub in_order : InOrder (function gap.left) (function gap.right) (value gap.from) (value gap.to)
+
+  -- low is the least of what was before and of the left side as the gap begins, and top the greatest of that and of the right side
+  pub record IsStart (gap : Gap P) (low top : P) : Type 0 where
+    pub low_of : IsOfGap gap low
+    pub top_of : IsOfGap gap top
+    pub is_low : IsLeast (value_at (function gap.before) (value gap.from)) (value_at (function gap.left) (value gap.from)) (value_at (function low) (value gap.from))
+    pub is_top : IsGreatest (value_at (function low) (value gap.from)) (value_at (function gap.right) (value gap.from)) (value_at (function top) (value gap.from))
+
+  -- want of memory, or the value that one of the three shapes has as the gap begins
+  abbrev pub IsCourseFault : Gap P → OpFault P → Type 0
+  IsCourseFault gap fault = (o : P) × IsOfGap gap o × IsValueFault o gap.from fault
+
+  module _ (moves : P → Bool) where
+    -- one of both sides, or a constant with a value that one of the three shapes has as the gap begins
+    abbrev pub IsPlayed : Gap P → P → Type 0
+    IsPlayed gap x = (x ≡ gap.left) ⊎ (x ≡ gap.right) ⊎ ((o : P) × IsOfGap gap o × IsFixed o (value gap.from) x × (moves x ≡ false))
+
+    -- at each time of the gap, and as it ends, the since is the least or the greatest of the two
+    pub record IsCourse (gap : Gap P) (course : Course P) : Type 0 where
+      pub first : IsPlayed gap course.first
+      pub second : IsPlayed gap course.second
+      pub onward : (t : Rational) (v : Extended) → value gap.from <ʳ t → t ≤ʳ value gap.to
+          → IsChosen course.side (value_at (function course.first) t) (value_at (function course.second) t) v
+          → IsOnward (value_at (function gap.before) (value gap.from)) (function gap.left) (function gap.right) (value gap.from) t v

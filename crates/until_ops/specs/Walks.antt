@@ -1,0 +1,63 @@
+-- How a since is walked through: where the walk stands, and what it says when it stops.
+use Rattle.std.specs.Prelude.{◌≡◌, ◌⊎◌, ◌+◌, ◌-◌, ◌*◌, ◌^◌, ℕ, List, Bool, false, MatchBool, length, Some, slice_get}
+use Rattle.rational.specs.Rational.{Rational}
+use Rattle.rational.specs.Time.{Within, ◌≈◌, missing}
+use Rattle.rational.specs.Extended.{Extended, Affine, value_at}
+use Rattle.rational.specs.Affine.{IsBounded}
+use Rattle.rational.specs.InPlay.{IsBreakpoint, IsCrossing}
+use Rattle.frac128.specs.Value.{value}
+use Rattle.pl_signal.specs.declared.knot.Knot.{Knot}
+use Rattle.pl_signal.specs.declared.faults.WidePair.{WidePair}
+use Rattle.pl_signal.specs.declared.faults.WidePair.TheVariants.{Cross, Value}
+use Rattle.pl_signal.specs.declared.faults.OpFault.{OpFault}
+use Rattle.pl_signal.specs.declared.faults.OpFault.TheVariants as F
+use Rattle.pl_signal.specs.Knots.{start, stop, HasShape, IsSignal, IsWorth}
+use Rattle.pl_signal.specs.Limits.{IsLimited}
+use Rattle.until_ops.specs.declared.since.Stand.{Stand}
+use Rattle.pl_signal.specs.Places.{IsPlace}
+use Rattle.until_ops.specs.Untils.{SinceOf}
+
+-- the times of the pair lie from the one to the other
+abbrev pub PairWithin : {P : Type 0} → Rational → Rational → WidePair P → Type 0
+PairWithin from to (Cross p q a b den) = Within from to (value a) × Within from to (value b)
+PairWithin from to (Value p at den) = Within from to (value at)
+
+-- the times of a pair that is refused do
+abbrev pub IsPairWithin : {P : Type 0} → Rational → Rational → OpFault P → Type 0
+IsPairWithin from to F.Memory = Unit {0}
+IsPairWithin from to (F.Wide pair) = PairWithin from to pair
+
+-- what remains of both signals, and of the crossing before the next knot
+abbrev pub rest : {P : Type 0} → List (Knot P) → List (Knot P) → Stand P → ℕ
+rest p q now = 2 * ((length p - now.left) + (length q - now.right)) + missing now.met
+
+module _ {P : Type 0} (function : P → Affine) where
+  -- two limited signals over one domain
+  pub record AreSides (p q : List (Knot P)) : Type 0 where
+    pub left : IsLimited function p
+    pub right : IsLimited function q
+    pub begins : start p ≈ start q
+    pub ends : stop p ≈ stop q
+
+  -- the parts of both signals from here on cross here
+  abbrev pub CrossHere : List (Knot P) → List (Knot P) → Stand P → Type 0
+  CrossHere p q now = (k l : Knot P) → slice_get p now.left ≡ Some k → slice_get q now.right ≡ Some l → IsCrossing (function k.after) (function l.after) (value now.at)
+
+  -- one of the signals is not affine here, or begins or ends
+  abbrev pub BreakHere : List (Knot P) → List (Knot P) → Stand P → Type 0
+  BreakHere p q now = IsBreakpoint (IsWorth function p) (start p) (stop p) (value now.at) ⊎ IsBreakpoint (IsWorth function q) (start p) (stop p) (value now.at)
+
+  module _ (moves : P → Bool) (lowest highest : Extended) where
+    -- the signal built so far is the since up to here, which is an event of both signals
+    pub record Stands (p q built : List (Knot P)) (now : Stand P) : Type 0 where
+      pub signal : IsSignal function built
+      pub begins : start built ≈ start p
+      pub ends : stop built ≡ value now.at
+      pub worth : (t : Rational) (v : Extended) → IsWorth function built t v → SinceOf function lowest highest p q t v
+      pub shapes : (x : P) → HasShape built x → HasShape p x ⊎ HasShape q x ⊎ (moves x ≡ false)
+      pub inside : Within (start p) (stop p) (value now.at)
+      pub here : SinceOf function lowest highest p q (value now.at) (value_at (function now.value) (value now.at))
+      pub small : IsBounded (2 ^ 31) (value_at (function now.value) (value now.at))
+      pub left : IsPlace p (value now.at) now.left
+      pub right : IsPlace q (value now.at) now.right
+      pub event : MatchBool now.met (CrossHere p q now) (BreakHere p q now)

@@ -1,0 +1,82 @@
+//! Until to the end.
+ghost use Rattle.std.specs.Prelude.{◌^◌, pos, neg_ℤ, IfOk, IfErr};
+ghost use Rattle.rational.specs.Rational.{whole};
+ghost use Rattle.rational.specs.Time.{◌≈◌};
+ghost use Rattle.pl_signal.specs.Knots.{start, stop};
+ghost use Rattle.pl_signal.specs.Limits.{IsLimited};
+ghost use Rattle.pl_signal.specs.Moves.{Tells};
+ghost use Rattle.pl_signal.specs.Wide.{HasCause};
+ghost use Rattle.until_ops.specs.Mirrors.{IsTurnedFault, IsTurnedPair};
+ghost use Rattle.until_ops.specs.Untils.{BasesOfTwo, UntilOf, UntilStep};
+ghost use Rattle.until_ops.specs.Walks.{IsPairWithin, PairWithin};
+
+use crate::since_from_start;
+use pl_signal::{OpFault, Signal, WidePair};
+use value_laws::Shape;
+
+/// At each time t the greatest value, over the times u from t to the end, of the least of `q` at u and of all values of `p` from
+/// t to u (the Sup and the Inf of them). Both have one domain, and so has the result.
+///
+/// Each of its shapes is constant, or a moving shape with the base of a moving shape of one of the two. It is refused as `Wide`
+/// only where a function in play in this step has a crossing or a constant value there that needs a denominator of 2^60 or more.
+///
+/// Definition: Donzé, Ferrère and Maler 2013, with the closed until and the finite domain of this project's profile.
+pub fn until_to_end<P: Shape>(p: &Signal<P>, q: &Signal<P>) -> Result<Signal<P>, OpFault<P>>
+    requires left { IsLimited P.function p.now }
+    requires right { IsLimited P.function q.now }
+    requires begins { start p.now ≈ start q.now }
+    requires ends { stop p.now ≈ stop q.now }
+    ensures worth { IfOk result
+        (Tells P.function (UntilOf P.function P.lowest P.highest p.now q.now) (start p.now) (stop p.now)) }
+    ensures bases { IfOk result (BasesOfTwo P.moves P.base p.now q.now) }
+    ensures wide { IfErr result
+        (HasCause P.function (UntilStep P.function P.lowest P.highest p.now q.now) (start p.now) (stop p.now)) }
+    ensures pair { IfErr result (IsPairWithin (start p.now) (stop p.now)) }
+{
+    let _ = p.len();
+    let _ = q.len();
+    let left = p.mirror(0)?;
+    let right = q.mirror(0)?;
+    match since_from_start(&left, &right) {
+        Ok(since) => Ok(since.mirror(0)?),
+        Err(fault) => Err(turned(&fault)),
+    }
+}
+
+/// The fault with time running back.
+fn turned<P: Shape>(fault: &OpFault<P>) -> OpFault<P>
+    requires { IsPairWithin (whole (neg_ℤ (pos (2 ^ 34)))) (whole (pos (2 ^ 34))) fault.now }
+    ensures { IsTurnedFault P.function fault.now result }
+{
+    match fault {
+        OpFault::Memory => OpFault::Memory,
+        OpFault::Wide(pair) => OpFault::Wide(turned_pair(pair)),
+    }
+}
+
+/// The pair with time running back.
+fn turned_pair<P: Shape>(pair: &WidePair<P>) -> WidePair<P>
+    requires { PairWithin (whole (neg_ℤ (pos (2 ^ 34)))) (whole (pos (2 ^ 34))) pair.now }
+    ensures { IsTurnedPair P.function pair.now result }
+{
+    match *pair {
+        WidePair::Cross {
+            p,
+            q,
+            from,
+            to,
+            den,
+        } => WidePair::Cross {
+            p: p.mirror(0),
+            q: q.mirror(0),
+            from: to.mirror(0),
+            to: from.mirror(0),
+            den,
+        },
+        WidePair::Value { p, at, den } => WidePair::Value {
+            p: p.mirror(0),
+            at: at.mirror(0),
+            den,
+        },
+    }
+}
