@@ -13,3 +13,4 @@ pub mod OneLine
 pub mod Feeding
 pub mod Fed
 pub mod Ends
+pub mod Judged
