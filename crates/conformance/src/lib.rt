@@ -6,6 +6,16 @@ mod shapes;
 pub use shapes::greater_at;
 
 #[cfg(test)]
+mod operator_tests;
+#[cfg(test)]
+mod run_tests;
+#[cfg(test)]
 mod shape_tests;
 #[cfg(test)]
 mod signal_tests;
+#[cfg(test)]
+mod tables;
+#[cfg(test)]
+mod traces;
+#[cfg(test)]
+mod verdict_tests;

@@ -1,18 +1,16 @@
 -- Formulas whose nodes are told by signals have values and Infs.
-use Rattle.std.proofs.Common.{◌≡◌, ℕ, ◌+◌, ◌<◌, ◌≤◌, zero, suc, true, List, length, get_or, Some, ap, sym, subst, refl, arith}
+use Rattle.std.proofs.Common.{◌≡◌, ℕ, ◌<◌, ◌≤◌, zero, suc, true, List, length, get_or, Some, sym, subst, arith}
 use Rattle.std.specs.Prelude.{slice_get}
 use Rattle.std.proofs.lemmas.Option.{slice_get-get_or}
-use Rattle.rational.specs.Time.{Rational, Within, IsIn, closed}
+use Rattle.rational.specs.Time.{Rational, Within, closed}
 use Rattle.rational.specs.Extended.{Extended, Affine, value_at, ◌≤ᵉ◌}
 use Rattle.rational.specs.Windows.{IsInfOver}
 use Rattle.rational.proofs.Order.{le_trans, le_of_same, ge_of_same}
 use Rattle.rational.proofs.WindowLemmas.{inf_alike}
 use Rattle.pl_signal.specs.declared.knot.Knot.{Knot}
-use Rattle.pl_signal.specs.Knots.{IsWorth, start, stop}
-use Rattle.pl_signal.specs.Moves.{Tells}
 use Rattle.pl_signal.proofs.Values.{every_time}
 use Rattle.pl_signal.proofs.SupLemmas.{signal_inf}
-use Rattle.stl_syntax.specs.Formula.{Subformula, subformula, tree_of, HasChildrenBelow, constant, atom, negation, conjunction, disjunction, implication, until, eventually, always, since, once, historically}
+use Rattle.stl_syntax.specs.Formula.{Subformula, subformula, tree_of, HasChildrenBelow}
 use Rattle.stl_syntax.specs.PostOrder.{IsPostOrder}
 use Rattle.stl_syntax.specs.SupInf.{Setting, SupInf, HasValue, HasValues, HasInf, HasInfs}
 use Rattle.stl_syntax.specs.declared.node.Node.{Node}

@@ -9,3 +9,7 @@ pub mod Places
 pub mod Evaluating
 pub mod Never
 pub mod Having
+pub mod Stretches
+pub mod InPlay
+pub mod WindowLemmas
+pub mod UntilLemmas

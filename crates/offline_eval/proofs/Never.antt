@@ -1,18 +1,16 @@
 -- Shapes that are constant whole numbers have no cause for a refusal.
-use Rattle.std.proofs.Common.{◌≡◌, ℕ, ℤ, ◌≤◌, ◌<◌, ◌^◌, List, sym, subst, refl, arith}
-use Rattle.rational.specs.Rational.{ratio}
-use Rattle.rational.specs.Time.{Rational, whole, ◌≈◌, IsLowest, HasDenominator}
-use Rattle.rational.specs.Extended.{Extended, finite, Affine, value_at, ◌≈ᵉ◌}
+use Rattle.std.proofs.Common.{◌≡◌, ℕ, ℤ, List, arith}
+use Rattle.rational.specs.Time.{Rational, whole}
+use Rattle.rational.specs.Extended.{finite, Affine, value_at, ◌≈ᵉ◌}
 use Rattle.rational.specs.Affine.{level}
 use Rattle.rational.specs.InPlay.{IsWideCrossing, IsWideValue}
-use Rattle.rational.proofs.Order.{same_of_le, same_refl}
+use Rattle.rational.proofs.Order.{same_of_le}
 use Rattle.rational.proofs.AffineLemmas.{same_transᵉ, steady_never_meet_alone}
 use Rattle.rational.proofs.LevelLemmas.{level_is, level_steady}
 use Rattle.rational.proofs.Lowest.{lowest_whole, denominator_unique}
 use Rattle.frac128.specs.Value.{value}
 use Rattle.pl_signal.specs.declared.faults.WidePair.{WidePair}
 use Rattle.pl_signal.specs.declared.faults.WidePair.TheVariants.{Cross, Value}
-use Rattle.stl_syntax.specs.Formula.{subformula}
 use Rattle.stl_syntax.specs.SupInf.{Setting}
 use Rattle.stl_syntax.specs.declared.node.Node.{Node}
 use Rattle.offline_eval.specs.Evaluation.{IsCauseAt}

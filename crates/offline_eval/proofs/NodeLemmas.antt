@@ -1,8 +1,10 @@
 -- What the signal of a node keeps and tells, from the signals of its children among those before it.
-use Rattle.std.proofs.Common.{◌≡◌, ℕ, ℤ, ◌+◌, List, Some, sym, subst}
+use Rattle.std.proofs.Common.{◌≡◌, ℕ, ℤ, pos, neg_ℤ, ◌+◌, ◌<◌, ◌^◌, ◌≤ℤ◌, ◌<ℤ◌, arith, List, Some, sym, subst}
 use Rattle.std.specs.Prelude.{slice_get}
 use Rattle.rational.specs.Extended.{Extended, Affine}
-use Rattle.rational.proofs.Order.{same_trans, same_sym}
+use Rattle.rational.proofs.Order.{same_trans, same_sym, le_trans, lt_of_le_of_lt, le_of_same, ge_of_same}
+use Rattle.rational.proofs.Shift.{le_whole, lt_whole}
+use Rattle.std.proofs.lemmas.Int.{ints}
 use Rattle.pl_signal.specs.declared.knot.Knot.{Knot}
 use Rattle.pl_signal.specs.declared.faults.OpFault.{OpFault}
 use Rattle.stl_syntax.specs.Formula.{Subformula, tree_of}
@@ -10,7 +12,7 @@ use Rattle.stl_syntax.specs.Limits.{own_reach}
 use Rattle.stl_syntax.specs.SupInf.{Setting}
 use Rattle.stl_syntax.specs.declared.node.Node.{Node}
 use Rattle.offline_eval.specs.Inputs.{IsOver}
-use Rattle.offline_eval.specs.Making.{HasEnds, MayMeet, IsSound, StaysSound, StaySound, NodeStaysSound, TellsValue, IsFaultOf, TellsOne, TellsTwo, FaultOfOne, FaultOfTwo, TellsNode, FaultOfNode}
+use Rattle.offline_eval.specs.Making.{HasEnds, MayMeet, IsFit, AreFit, IsSound, StaysSound, StaySound, NodeStaysSound, TellsValue, IsFaultOf, TellsOne, TellsTwo, FaultOfOne, FaultOfTwo, TellsNode, FaultOfNode}
 
 ends_of : {lowest highest : Extended} {from to : ℕ} {s : Setting} → IsOver lowest highest from to s → HasEnds lowest highest s
 ends_of over = record { lowest = over.lowest; highest = over.highest }
@@ -19,6 +21,27 @@ module _ {P : Type 0} (function : P → Affine) (base : P → ℤ) (from to : �
   -- two sound signals are over one domain
   pub may_meet : (reach : ℕ) (x y : List (Knot P)) → IsSound function base from to reach x → IsSound function base from to reach y → MayMeet function x y
   may_meet reach x y s u = record { left = s.limited; right = u.limited; begins = same_trans s.begins (same_sym u.begins); ends = same_trans s.ends (same_sym u.ends) }
+
+  -- a sound signal is fit for every step
+  pub fit_of : (x : List (Knot P)) → to < 2 ^ 32 → IsSound function base from to 4294967295 x → IsFit function base x
+  fit_of x small s = record {
+    limited = s.limited;
+    first = le_trans (le_whole (from_zero from)) (ge_of_same s.begins);
+    last = lt_of_le_of_lt (le_of_same s.ends) (lt_whole (below to small));
+    near = λ p h. near_reached (base p) (s.bases p h);
+  }
+    where
+      from_zero : (n : ℕ) → pos 0 ≤ℤ pos n
+      from_zero n = omega (arith, ints)
+
+      below : (n : ℕ) → n < 2 ^ 32 → pos n <ℤ pos (2 ^ 32)
+      below n h = omega (arith, ints, h)
+
+      near_reached : (b : ℤ) → (neg_ℤ (pos 4294967295) ≤ℤ b) × (b <ℤ pos (2 ^ 32 + 4294967295)) → (neg_ℤ (pos (2 ^ 32)) ≤ℤ b) × (b ≤ℤ pos (2 ^ 33))
+      near_reached b (low, high) = (omega (arith, ints, low), omega (arith, ints, high))
+
+  pub are_fit : (x y : List (Knot P)) → to < 2 ^ 32 → IsSound function base from to 4294967295 x → IsSound function base from to 4294967295 y → AreFit function base x y
+  are_fit x y small s u = record { left = fit_of x small s; right = fit_of y small u; begins = same_trans s.begins (same_sym u.begins); ends = same_trans s.ends (same_sym u.ends) }
 
   pub none_sound : (n : Node) (xs : List (List (Knot P))) (r : List (Knot P)) → ((reach : ℕ) → IsSound function base from to reach r) → NodeStaysSound function base from to n xs r
   none_sound n xs r sound reach all = sound (reach + own_reach n)

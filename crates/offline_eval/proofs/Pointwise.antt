@@ -1,11 +1,11 @@
 -- Negation, and the least and the greatest of two, as formulas.
 use Rattle.std.proofs.Common.{◌≡◌, inl, inr, ℕ, ◌^◌, List, refl, sym, subst}
-use Rattle.std.specs.Prelude.{Result, IfOk, Ok, Err}
+use Rattle.std.specs.Prelude.{Result, IfOk, IfErr, IsErrAnd, Ok, Err}
 use Rattle.rational.specs.Time.{Rational, Within}
 use Rattle.rational.specs.Extended.{Extended, minus_infinity, finite, infinity, Affine, value_at, opposite, IsGreatest}
 use Rattle.rational.specs.Windows.{Function}
 use Rattle.rational.specs.Affine.{IsBounded}
-use Rattle.rational.specs.InPlay.{of_two, IsInPlay, IsWideCrossing}
+use Rattle.rational.specs.InPlay.{Step, of_two, IsInPlay, IsWideCrossing}
 use Rattle.rational.proofs.Order.{le_trans, lt_of_le_of_lt, lt_of_lt_of_le, le_of_same, ge_of_same, same_refl}
 use Rattle.rational.proofs.AffineLemmas.{same_reflᵉ}
 use Rattle.frac128.specs.Value.{value}
@@ -17,10 +17,12 @@ use Rattle.pl_signal.specs.declared.knot.Knot.{Knot}
 use Rattle.pl_signal.specs.Knots.{start, stop, IsWorth}
 use Rattle.pl_signal.specs.Limits.{IsLimited}
 use Rattle.pl_signal.specs.Moves.{Tells}
-use Rattle.stl_syntax.specs.Formula.{negation, conjunction, disjunction, implication}
-use Rattle.stl_syntax.specs.SupInf.{SupInf}
+use Rattle.stl_syntax.specs.Formula.{Subformula, negation, conjunction, disjunction, implication}
+use Rattle.stl_syntax.specs.SupInf.{Setting, SupInf}
 use Rattle.signal_ops.specs.Pointwise.{Negated, LeastOf, GreatestOf, IsWideMeeting, IsFault}
-use Rattle.offline_eval.specs.Making.{TellsOne, TellsTwo, FaultOfTwo}
+use Rattle.stl_syntax.specs.WideCause.{IsStepOf}
+use Rattle.offline_eval.specs.Making.{TellsOne, TellsTwo, FaultOfTwo, IsFaultOf}
+use Rattle.offline_eval.proofs.InPlay.{crossing_along}
 use Rattle.offline_eval.proofs.Along.{tells_along}
 use Rattle.offline_eval.proofs.Bounds.{opposite_bounded, least_bounded, greatest_bounded}
 use Rattle.offline_eval.proofs.Limits.{values_bounded}
@@ -29,6 +31,11 @@ use Rattle.offline_eval.proofs.Limits.{values_bounded}
 pub ok_both : {A E : Type 0} (r : Result A E) {X Y Z : A → Type 0} → IfOk r X → IfOk r Y → ((a : A) → X a → Y a → Z a) → IfOk r Z
 ok_both (Ok a) x y f = f a x y
 ok_both (Err e) x y f = tt
+
+-- what holds of the error that is handed on
+pub err_same : {A E : Type 0} (r : Result A E) (e : E) (X : E → Type 0) → IsErrAnd r (λ y. y ≡ e) → X e → IfErr r X
+err_same (Ok a) e X h x = absurd h
+err_same (Err y) e X h x = subst X (sym h) x
 
 module _ {P : Type 0} (function : P → Affine) where
   pub negated_bounded : (x : List (Knot P)) → IsLimited function x → (t : Rational) (v : Extended) → Negated (IsWorth function x) t v → IsBounded (2 ^ 31) v
@@ -110,3 +117,11 @@ module _ {P : Type 0} (function : P → Affine) where
   fault_implied lowest highest x y n F.Memory turned h s p q ends left right = tt
   fault_implied lowest highest x y n (F.Wide (Cross a b l r den)) turned h s p q ends left right = h s (negation p) q ends (turned s p ends left) right
   fault_implied lowest highest x y n (F.Wide (Value a at den)) turned h s p q ends left right = h s (negation p) q ends (turned s p ends left) right
+
+  -- the crossing of two signals is a fault of a formula that has their least or greatest among its steps
+  pub meeting_fault : (A B : Function) (x y : List (Knot P)) (p : Subformula) (s : Setting) (e : OpFault P) → Tells function A s.from s.to x → Tells function B s.from s.to y
+      → ((C : Step → Type 0) → C (of_two A B) → IsStepOf p s C) → IsFault function (IsWorth function x) (IsWorth function y) (start x) (stop x) e → IsFaultOf function s p e
+  meeting_fault A B x y p s F.Memory left right is h = tt
+  meeting_fault A B x y p s (F.Wide (Cross a b l r den)) left right is h = crossing_along _ _ s.from s.to s.from s.to (same_refl s.from) (same_refl s.to)
+      (λ tau line k l i. is (λ step. IsInPlay step s.from s.to tau line) i) (function a) (function b) (value l) (value r) den (met A B s.from s.to x y a b l r den left right h)
+  meeting_fault A B x y p s (F.Wide (Value a at den)) left right is h = absurd h

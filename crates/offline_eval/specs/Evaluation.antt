@@ -1,5 +1,5 @@
 -- What the signals of a formula's nodes tell, and for what an evaluation may be refused.
-use Rattle.std.specs.Prelude.{◌≡◌, ◌<◌, ℕ, false, List, length, Some, slice_get}
+use Rattle.std.specs.Prelude.{◌≡◌, ◌<◌, ℕ, List, length, Some, slice_get}
 use Rattle.rational.specs.Extended.{Affine}
 use Rattle.frac128.specs.Value.{value}
 use Rattle.pl_signal.specs.declared.knot.Knot.{Knot}
@@ -10,14 +10,8 @@ use Rattle.stl_syntax.specs.Formula.{subformula}
 use Rattle.stl_syntax.specs.SupInf.{Setting, SupInf}
 use Rattle.stl_syntax.specs.WideCause.{IsCrossingCause, IsValueCause}
 use Rattle.stl_syntax.specs.declared.node.Node.{Node}
-use Rattle.offline_eval.specs.Inputs.{is_atom}
-use Rattle.offline_eval.specs.Making.{IsPointwise}
 use Rattle.offline_eval.specs.declared.faults.EvalFault.{EvalFault}
 use Rattle.offline_eval.specs.declared.faults.EvalFault.TheVariants as F
-
--- no node is until, since or one over a window
-abbrev pub IsBuilt : List Node → Type 0
-IsBuilt nodes = (i : ℕ) (n : Node) → slice_get nodes i ≡ Some n → is_atom n ≡ false → IsPointwise n
 
 module _ {P : Type 0} (function : P → Affine) where
   -- the signal at each node's place tells over the domain the value of the node's subformula

@@ -16,7 +16,7 @@ use Rattle.stl_syntax.specs.WideCause.{IsInPlayAt}
 use Rattle.stl_syntax.specs.Formula.{Subformula, tree_of}
 use Rattle.stl_syntax.specs.Limits.{own_reach}
 use Rattle.stl_syntax.specs.declared.node.Node.{Node}
-use Rattle.stl_syntax.specs.declared.node.Node.TheVariants.{Const, Not, And, Or, Implies}
+use Rattle.stl_syntax.specs.declared.node.Node.TheVariants.{Until, Eventually, Always, Since, Once, Historically}
 use Rattle.offline_eval.specs.Inputs.{IsOver}
 use Rattle.offline_eval.specs.declared.faults.EvalFault.{EvalFault}
 use Rattle.offline_eval.specs.declared.faults.EvalFault.TheVariants as E
@@ -27,14 +27,19 @@ pub record HasEnds (least greatest : Extended) (s : Setting) : Type 0 where
   pub lowest : s.lowest ≡ least
   pub highest : s.highest ≡ greatest
 
--- the node is a constant or a connective
-abbrev pub IsPointwise : Node → Type 0
-IsPointwise (Const b) = Unit {0}
-IsPointwise (Not p) = Unit {0}
-IsPointwise (And p q) = Unit {0}
-IsPointwise (Or p q) = Unit {0}
-IsPointwise (Implies p q) = Unit {0}
-IsPointwise n = ⊥
+-- the node looks ahead
+abbrev pub IsAhead : Node → Type 0
+IsAhead (Until p q a b) = Unit {0}
+IsAhead (Eventually p a b a_in b_in) = Unit {0}
+IsAhead (Always p a b a_in b_in) = Unit {0}
+IsAhead n = ⊥
+
+-- the node looks behind
+abbrev pub IsBehind : Node → Type 0
+IsBehind (Since p q a b) = Unit {0}
+IsBehind (Once p a b a_in b_in) = Unit {0}
+IsBehind (Historically p a b a_in b_in) = Unit {0}
+IsBehind n = ⊥
 
 module _ {P : Type 0} (function : P → Affine) where
   -- two signals over one domain, with limited values
@@ -51,6 +56,13 @@ module _ {P : Type 0} (function : P → Affine) (base : P → ℤ) where
     pub first : whole (pos 0) ≤ʳ start x
     pub last : stop x <ʳ whole (pos (2 ^ 32))
     pub near : (p : P) → HasShape x p → (neg_ℤ (pos (2 ^ 32)) ≤ℤ base p) × (base p ≤ℤ pos (2 ^ 33))
+
+  -- two such signals over one domain
+  pub record AreFit (x y : List (Knot P)) : Type 0 where
+    pub left : IsFit x
+    pub right : IsFit y
+    pub begins : start x ≈ start y
+    pub ends : stop x ≈ stop y
 
   -- a signal over the domain, with limited values, whose bases windows have moved by at most `reach`
   pub record IsSound (from to reach : ℕ) (x : List (Knot P)) : Type 0 where

@@ -4,7 +4,7 @@ ghost use Rattle.stl_syntax.specs.SupInf.{Setting};
 ghost use Rattle.stl_syntax.specs.declared.atom.Atom.{Atom};
 ghost use Rattle.stl_syntax.specs.declared.node.Node.TheVariants.{Atom as Leaf};
 ghost use Rattle.offline_eval.specs.Inputs.{atoms_before, IsInput, IsOver, TellAtoms};
-ghost use Rattle.offline_eval.specs.Evaluation.{IsBuilt, IsFault, TellNodes};
+ghost use Rattle.offline_eval.specs.Evaluation.{IsFault, TellNodes};
 ghost use Rattle.offline_eval.specs.Making.{AreSound, fault_at};
 ghost use Rattle.offline_eval.specs.Places.{FaultOfPlace, PlaceStaysSound, TakesOwn, TellsPlace};
 
@@ -55,7 +55,6 @@ fn next_signal<P: Shape>(
 ) -> Result<Signal<P>, OpFault<P>>
     requires order { from ≤ to }
     requires inside { i < length formula.now.nodes }
-    requires built { IsBuilt formula.now.nodes }
     requires place { length done.now ≡ i }
     requires left { (a : Atom) → slice_get formula.now.nodes i ≡ Some (Leaf a) → 0 < length atoms.old }
     requires inputs { AreSound P.function P.base from to 0 atoms.old }
@@ -96,7 +95,6 @@ pub fn eval<P: Shape, L: Ledger>(
     requires order { from ≤ to }
     requires count { length atoms ≡ atoms_before formula.now.nodes (length formula.now.nodes) }
     requires inputs { All (IsInput P.function P.base from to) atoms }
-    requires built { IsBuilt formula.now.nodes }
     ensures count { IfOk result (λ r. length r ≡ length formula.now.nodes) }
     ensures told { IfOk result (λ r. (s : Setting) → IsOver P.lowest P.highest from to s
         → TellAtoms P.function formula.now.nodes atoms s → TellNodes P.function formula.now.nodes r s) }

@@ -7,6 +7,8 @@ mod evaluation;
 mod faults;
 pub mod laws;
 mod nodes;
+mod untils;
+mod windows;
 
 pub use atoms::Atoms;
 pub use evaluation::{Evaluated, eval};

@@ -1,9 +1,13 @@
 //! The signal of one node.
-ghost use Rattle.std.specs.Prelude.{◌≤◌, length, IfOk, IfErr};
+ghost use Rattle.std.specs.Prelude.{◌≡◌, ◌≤◌, false, length, IfOk, IfErr};
 ghost use Rattle.stl_syntax.specs.Formula.{HasChildrenBelow};
-ghost use Rattle.offline_eval.specs.Making.{AreSound, FaultOfNode, IsPointwise, NodeStaysSound, TellsNode};
+ghost use Rattle.stl_syntax.specs.WellFormed.{HasBounds};
+ghost use Rattle.offline_eval.specs.Inputs.{is_atom};
+ghost use Rattle.offline_eval.specs.Making.{AreSound, FaultOfNode, IsAhead, IsBehind, NodeStaysSound, TellsNode};
 
 use crate::connectives::{both, either, implied, negated, settled};
+use crate::untils::{bounded_since, bounded_until};
+use crate::windows::{each_ahead, each_behind, some_ahead, some_behind};
 use pl_signal::{OpFault, Signal};
 use std::alloc::Global;
 use stl_syntax::Node;
@@ -18,7 +22,8 @@ pub(crate) fn of_node<P: Shape>(
     done: &[Signal<P>],
 ) -> Result<Signal<P>, OpFault<P>>
     requires order { from ≤ to }
-    requires kind { IsPointwise node.now }
+    requires kind { is_atom node.now ≡ false }
+    requires bounds { HasBounds node.now }
     requires children { HasChildrenBelow (length done.now) node.now }
     requires sound { AreSound P.function P.base from to 4294967295 done.now }
     ensures sound { IfOk result (NodeStaysSound P.function P.base from to node.now done.now) }
@@ -31,6 +36,89 @@ pub(crate) fn of_node<P: Shape>(
         Node::And(p, q) => both(&done[*p as usize], &done[*q as usize]),
         Node::Or(p, q) => either(&done[*p as usize], &done[*q as usize]),
         Node::Implies(p, q) => implied(&done[*p as usize], &done[*q as usize]),
+        Node::Until { .. } | Node::Eventually { .. } | Node::Always { .. } => of_future(
+            from, to, node, done,
+        ),
+        _ => of_past(from, to, node, done),
+    }
+}
+
+/// The signal of a node over a window ahead, from those of the nodes before it.
+fn of_future<P: Shape>(
+    from: u32,
+    to: u32,
+    node: &Node,
+    done: &[Signal<P>],
+) -> Result<Signal<P>, OpFault<P>>
+    requires kind { IsAhead node.now }
+    requires bounds { HasBounds node.now }
+    requires children { HasChildrenBelow (length done.now) node.now }
+    requires sound { AreSound P.function P.base from to 4294967295 done.now }
+    ensures sound { IfOk result (NodeStaysSound P.function P.base from to node.now done.now) }
+    ensures told { IfOk result (TellsNode P.function P.lowest P.highest from to node.now done.now) }
+    ensures wide { IfErr result (FaultOfNode P.function P.lowest P.highest from to node.now done.now) }
+{
+    match node {
+        Node::Until {
+            left,
+            right,
+            low,
+            high,
+        } => { bounded_until(&done[*left as usize], &done[*right as usize], *low, *high) }
+        Node::Eventually {
+            of,
+            low,
+            high,
+            low_in,
+            high_in,
+        } => { some_ahead(&done[*of as usize], *low, *high, *low_in, *high_in) }
+        Node::Always {
+            of,
+            low,
+            high,
+            low_in,
+            high_in,
+        } => { each_ahead(&done[*of as usize], *low, *high, *low_in, *high_in) }
+        _ => unreachable!(),
+    }
+}
+
+/// The signal of a node over a window behind, from those of the nodes before it.
+fn of_past<P: Shape>(
+    from: u32,
+    to: u32,
+    node: &Node,
+    done: &[Signal<P>],
+) -> Result<Signal<P>, OpFault<P>>
+    requires kind { IsBehind node.now }
+    requires bounds { HasBounds node.now }
+    requires children { HasChildrenBelow (length done.now) node.now }
+    requires sound { AreSound P.function P.base from to 4294967295 done.now }
+    ensures sound { IfOk result (NodeStaysSound P.function P.base from to node.now done.now) }
+    ensures told { IfOk result (TellsNode P.function P.lowest P.highest from to node.now done.now) }
+    ensures wide { IfErr result (FaultOfNode P.function P.lowest P.highest from to node.now done.now) }
+{
+    match node {
+        Node::Since {
+            left,
+            right,
+            low,
+            high,
+        } => { bounded_since(&done[*left as usize], &done[*right as usize], *low, *high) }
+        Node::Once {
+            of,
+            low,
+            high,
+            low_in,
+            high_in,
+        } => { some_behind(&done[*of as usize], *low, *high, *low_in, *high_in) }
+        Node::Historically {
+            of,
+            low,
+            high,
+            low_in,
+            high_in,
+        } => { each_behind(&done[*of as usize], *low, *high, *low_in, *high_in) }
         _ => unreachable!(),
     }
 }

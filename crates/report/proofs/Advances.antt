@@ -161,10 +161,12 @@ module _ (knots : List (Knot Truth)) where
       let point = going gap.new n.0.time false n.0.point.holds
       (room_after_gap o gap.new k.time n.0.time k.after.holds gap.ended room (next_rises truth_function knots i k n.0 signal.each s.is n.1) gap.goes) in
       let more = told_to_end left (i + 1) ((verdicts ++ listed gap.ended) ++ listed point.ended) point.new signal (omega arith)
-      (spelled_advance i verdicts o point.new k n.0 gap.ended point.ended signal s.is n.1 (record { inside = gap.new; gap = gap.goes; point = point.goes }) s) in (
-        (listed gap.ended ++ listed point.ended) ++ more.0,
-        subst (λ ws. DescribesFunction (IsWorth truth_function knots) ws (closed (start knots) (stop knots))) (together verdicts (listed gap.ended) (listed point.ended) more.0) more.1,
-      )
+      (spelled_advance i verdicts o point.new k n.0 gap.ended point.ended signal s.is n.1 (record { inside = gap.new; gap = gap.goes; point = point.goes }) s) in
+      ((listed gap.ended ++ listed point.ended) ++ more.0, regroup verdicts (listed gap.ended) (listed point.ended) more.0 more.1)
     where
       together : (a b c d : List Verdict) → ((a ++ b) ++ c) ++ d ≡ a ++ ((b ++ c) ++ d)
       together a b c d = simp append_assoc
+
+      regroup : (a b c d : List Verdict) → DescribesFunction (IsWorth truth_function knots) (((a ++ b) ++ c) ++ d) (closed (start knots) (stop knots))
+          → DescribesFunction (IsWorth truth_function knots) (a ++ ((b ++ c) ++ d)) (closed (start knots) (stop knots))
+      regroup a b c d h = subst (λ ws. DescribesFunction (IsWorth truth_function knots) ws (closed (start knots) (stop knots))) (together a b c d) h

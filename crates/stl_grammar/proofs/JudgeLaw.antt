@@ -14,6 +14,7 @@ use Rattle.stl_grammar.specs.Machine.{State, Mark, Owner, of_until, of_since, of
 use Rattle.stl_grammar.specs.Parsing.{Parse, parse_step, between, IsKnown}
 use Rattle.stl_grammar.specs.Judging.{state_of, refused, refused_after, late_in, unbounded_in, fifth_in, bad_in, disorder_in, future_in, expected_in, depth_of, place_at, number_in}
 use Rattle.stl_grammar.specs.Taken.{plain}
+use Rattle.stl_syntax.proofs.PostOrderLemmas.{or_false}
 use Rattle.stl_grammar.proofs.ParserView.{IsFit, view_step, known_kind}
 use Rattle.stl_grammar.proofs.RefusalExamples.{passed, not_refused}
 use Rattle.stl_grammar.proofs.WordKinds.{among_ahead, among_inf}
@@ -80,10 +81,6 @@ tells_known text Comma t h = tt
 tells_known text Star t h = tt
 tells_known text Plus t h = tt
 tells_known text Minus t h = tt
-
-or_none : (b : Bool) → (b || false) ≡ b
-or_none true = refl
-or_none false = refl
 
 future_same : (place : Place) (n : ℕ) → future_at (place_at place n) ≡ future_in place
 future_same Operand n = refl
@@ -234,10 +231,10 @@ unbounded_same text rest before place (IsKeyword Not) k f = refl
 unbounded_same text rest before place (IsKeyword And) k f = refl
 unbounded_same text rest before place (IsKeyword Or) k f = refl
 unbounded_same text rest before place (IsKeyword Implies) k f = refl
-unbounded_same text rest before place (IsKeyword Until) k f = or_none (not (opens_bound (spelling Until) rest))
+unbounded_same text rest before place (IsKeyword Until) k f = or_false (not (opens_bound (spelling Until) rest))
 unbounded_same text rest before place (IsKeyword Since) k f = refl
-unbounded_same text rest before place (IsKeyword Eventually) k f = or_none (not (opens_bound (spelling Eventually) rest))
-unbounded_same text rest before place (IsKeyword Always) k f = or_none (not (opens_bound (spelling Always) rest))
+unbounded_same text rest before place (IsKeyword Eventually) k f = or_false (not (opens_bound (spelling Eventually) rest))
+unbounded_same text rest before place (IsKeyword Always) k f = or_false (not (opens_bound (spelling Always) rest))
 unbounded_same text rest before place (IsKeyword Once) k f = refl
 unbounded_same text rest before place (IsKeyword Historically) k f = refl
 unbounded_same text rest before place (IsKeyword Inf) k f = f

@@ -1,5 +1,5 @@
 -- The first token of a text.
-use Rattle.std.proofs.Common.{◌≡◌, ℕ, suc, zero, ◌+◌, ◌-◌, ◌<◌, ◌≤◌, min, Bool, true, false, List, [], ◌∷◌, ◌++◌, lit<, length, take, drop, get_or, refl, sym, ap, ◌∙◌, arith, append_assoc}
+use Rattle.std.proofs.Common.{◌≡◌, ℕ, suc, zero, ◌+◌, ◌-◌, ◌<◌, ◌≤◌, min, Bool, true, false, List, [], ◌∷◌, ◌++◌, length, take, drop, get_or, refl, sym, ap, ◌∙◌, arith, append_assoc}
 use Rattle.std.specs.Prelude.{◌==◌, ◌||◌, nat_lt, nat_le, IsTrue, MatchBool}
 use Rattle.std.specs.Str.{IsAscii}
 use Rattle.std.proofs.lemmas.Bool.{eqb-true}
@@ -14,7 +14,8 @@ use Rattle.stl_syntax.proofs.DecimalLemmas.{all-without_zeros}
 use Rattle.stl_grammar.specs.declared.token.Keyword.{Keyword}
 use Rattle.stl_grammar.specs.declared.token.Token.{Token as Code}
 use Rattle.stl_grammar.specs.declared.token.Token.TheVariants.{Keyword as IsKeyword, Number, Relation, Name}
-use Rattle.stl_grammar.proofs.NumberLemmas.{decimal_value-min, decimal_value-append}
+use Rattle.stl_syntax.proofs.DecimalLemmas.{decimal_value-min, decimal_value-append}
+use Rattle.stl_syntax.proofs.CharacterLemmas.{words_ascii, begins_goes_on}
 use Rattle.stl_syntax.specs.declared.rel.Rel.{Rel}
 
 -- what begins with such a byte, and stops after n of them
@@ -189,17 +190,6 @@ module _ (text : List ℕ) (at n : ℕ) (place : at < length text) (first : begi
   pub name_lexeme : is_among (take (at + (1 + n) - at) (drop at text)) reserved ≡ false → IsLexeme text (drop at text) (Name at (at + (1 + n))) (1 + n)
   name_lexeme h =
       read (Name at (at + (1 + n))) (bytes, refl, record { good = good_name (rw cut at h); after = drop n more; stands = splits; ends = omega (arith, size) })
-
-word_ascii : (c : ℕ) → goes_on_word c ≡ true → c < 128
-word_ascii c h = grind (arith, nat_tests, h)
-
-words_ascii : (text : List ℕ) → all goes_on_word text ≡ true → (i : ℕ) → get_or text i 0 < 128
-words_ascii [] h i = lit< tt
-words_ascii (c ∷ text) h zero = word_ascii c (let a : goes_on_word c ≡ true = grind (arith, h) in a)
-words_ascii (c ∷ text) h (suc i) = words_ascii text (let a : all goes_on_word text ≡ true = grind (arith, h) in a) i
-
-begins_goes_on : (c : ℕ) → begins_word c ≡ true → goes_on_word c ≡ true
-begins_goes_on c h = rw h refl
 
 -- a name is of ASCII bytes
 pub name_ascii : (text : List ℕ) → IsTrue (is_name text) → IsAscii text

@@ -19,7 +19,7 @@ use Rattle.stl_grammar.specs.Grammar.IsPast.{nothing as since_nothing, bounded a
 use Rattle.stl_grammar.specs.Grammar.{IsFormula, IsDisjunct, IsConjunct, IsTimed, IsOperand, disjunct, implies, conjunct, or, timed, and, operand, until, since, not, eventually, always, once, historically, always_true, always_false, parens, atom}
 use Rattle.stl_grammar.specs.Told.{Tells}
 use Rattle.stl_grammar.specs.Taken.{Taken}
-use Rattle.stl_grammar.specs.Drafts.{ticks_of, past_low, past_high, past_low_in, past_high_in, one_in, two_in, node_in, nodes_in}
+use Rattle.stl_grammar.specs.Drafts.{ticks_of, past_low, past_high, past_low_in, past_high_in, one_in, two_in, nodes_in}
 use Rattle.stl_grammar.specs.Parsing.{Parse, infix_rank, rank, top_rank, node_of_frame, settled_drafts, settled_frames, settled, coefficient, signed, may_be_open, back, bounded_frame, back_frame, parse_step, between}
 use Rattle.stl_grammar.specs.Judging.{bad_in}
 use Rattle.stl_grammar.specs.declared.decimal.Decimal.{Decimal}
@@ -43,6 +43,7 @@ use Rattle.stl_grammar.specs.declared.place.Back.{Back}
 use Rattle.stl_grammar.specs.declared.place.Back.TheVariants.{Since as BSince, Once as BOnce, Historically as BHistorically}
 use Rattle.stl_grammar.specs.declared.place.Place.{Place}
 use Rattle.stl_grammar.specs.declared.place.Place.TheVariants.{Operand, Bound, Low, Comma as AtComma, High, Closing, ClosingInf, Term as AtTerm, Star as AtStar, Name as AtName, Sign, Constant, Number as AtNumber, End}
+use Rattle.stl_grammar.proofs.BuildLemmas.{nodes_in-append, length-nodes_in}
 use Rattle.stl_grammar.proofs.OneParse.{begins_bracket, operand_bracket, operand_length}
 use Rattle.stl_grammar.specs.FormulaRefusals.{MayEnd}
 use Rattle.stl_grammar.proofs.Rescaled.{rescaled}
@@ -79,16 +80,8 @@ drafts_twice r s (f ∷ frames) drafts l = split (nat_le s (rank f)) refl (λ x.
     split false e h = rw e refl
 
 -- nodes of drafts
-nodes_append : (s : Scale) (xs ys : List Draft) → nodes_in s (xs ++ ys) ≡ nodes_in s xs ++ nodes_in s ys
-nodes_append s [] ys = refl
-nodes_append s (x ∷ xs) ys = ap (λ z. node_in s x ∷ z) (nodes_append s xs ys)
-
-nodes_length : (s : Scale) (xs : List Draft) → length (nodes_in s xs) ≡ length xs
-nodes_length s [] = refl
-nodes_length s (x ∷ xs) = ap (λ n. suc n) (nodes_length s xs)
-
 same_length : (s : Scale) (xs : List Draft) (ns : List Node) → nodes_in s xs ≡ ns → length xs ≡ length ns
-same_length s xs ns e = sym (nodes_length s xs) ∙ ap (λ z. length z) e
+same_length s xs ns e = sym (length-nodes_in s xs) ∙ ap (λ z. length z) e
 
 -- the place of the last draft
 last_is : (s : Scale) (k : ℕ) (drafts xs : List Draft) (ns : List Node) → length drafts ≡ k → nodes_in s xs ≡ ns → length (drafts ++ xs) - 1 ≡ top k ns
@@ -137,7 +130,7 @@ one_ends s k ns frames drafts q o x e (xs, j, f, g) h =
     let d : Draft = One o (length (drafts ++ xs) - 1) in (
       xs ++ d ∷ [],
       j,
-      nodes_append s xs (d ∷ []) ∙ (ap (λ z. z ++ one_in s.time o (length (drafts ++ xs) - 1) ∷ []) f
+      nodes_in-append s xs (d ∷ []) ∙ (ap (λ z. z ++ one_in s.time o (length (drafts ++ xs) - 1) ∷ []) f
           ∙ (ap (λ z. ns ++ one_in s.time o z ∷ []) (last_is s k drafts xs ns e f) ∙ ap (λ z. ns ++ z ∷ []) h)),
       g ∙ ap (λ z. settled 5 (at End frames z [] j)) (append_assoc drafts xs (d ∷ [])),
     )
@@ -436,8 +429,8 @@ two_nodes : (s : Scale) (k : ℕ) (ns ms : List Node) (drafts xs ys : List Draft
 two_nodes s k ns ms drafts xs ys o x e f g h =
     let i : length (drafts ++ xs) - 1 ≡ top k ns = last_is s k drafts xs ns e f in
     let j : length (drafts ++ xs ++ ys) - 1 ≡ top (k + length ns) ms = last_is s (k + length ns) (drafts ++ xs) ys ms (count_is s k drafts xs ns e f) g in
-    nodes_append s (xs ++ ys) (Two o (length (drafts ++ xs) - 1) (length (drafts ++ xs ++ ys) - 1) ∷ [])
-    ∙ (ap (λ z. z ++ two_in s.time o (length (drafts ++ xs) - 1) (length (drafts ++ xs ++ ys) - 1) ∷ []) (nodes_append s xs ys ∙ (ap (λ z. z ++ nodes_in s ys) f ∙ ap (λ z. ns ++ z) g))
+    nodes_in-append s (xs ++ ys) (Two o (length (drafts ++ xs) - 1) (length (drafts ++ xs ++ ys) - 1) ∷ [])
+    ∙ (ap (λ z. z ++ two_in s.time o (length (drafts ++ xs) - 1) (length (drafts ++ xs ++ ys) - 1) ∷ []) (nodes_in-append s xs ys ∙ (ap (λ z. z ++ nodes_in s ys) f ∙ ap (λ z. ns ++ z) g))
     ∙ ap (λ z. ns ++ ms ++ z ∷ []) (ap (λ z. two_in s.time o z (length (drafts ++ xs ++ ys) - 1)) i ∙ (ap (λ z. two_in s.time o (top k ns) z) j ∙ h)))
 
 two_drafts : (drafts xs ys : List Draft) (d : Draft) → drafts ++ xs ++ ys ++ d ∷ [] ≡ drafts ++ (xs ++ ys ++ d ∷ [])

@@ -12,7 +12,7 @@ use Rattle.stl_syntax.specs.Print.{IsDecimalText, after_point, relation_text}
 use Rattle.stl_syntax.specs.declared.rel.Rel.{Rel}
 use Rattle.stl_syntax.specs.declared.rel.Rel.TheVariants.{AtLeast, Above, AtMost, Below}
 use Rattle.stl_syntax.proofs.PrintLaw.{longer}
-use Rattle.stl_syntax.proofs.DecimalLemmas.{decimal_value-push}
+use Rattle.stl_syntax.proofs.DecimalLemmas.{decimal_value-push, decimal_value-append}
 use Rattle.stl_grammar.specs.Tokens.{Token, word, number, relation, open_paren, close_paren, open_bracket, close_bracket, comma, star, plus, minus, a_word, an_integer, a_decimal, at_least, at_most, above, below, paren, paren_end, bracket, bracket_end, a_comma, a_star, a_plus, a_minus, Lexes, nothing, token, blank}
 
 -- the text goes on no word, number or relation before it
@@ -170,10 +170,6 @@ integer_text n l = let w = whole_is n l in
     rw w.is (rw e at (integer_lexed w.first w.rest w.digits))
 
 -- a number of ticks as a decimal
-value_append : (n : ℕ) (xs ys : List ℕ) → decimal_value n (xs ++ ys) ≡ decimal_value (decimal_value n xs) ys
-value_append n [] ys = refl
-value_append n (x ∷ xs) ys = value_append (10 * n + (x - 48)) xs ys
-
 value_least : (w : ℕ) (xs : List ℕ) → w * 10 ^ length xs ≤ decimal_value w xs
 value_least w [] = omega arith
 value_least w (x ∷ xs) =
@@ -249,7 +245,7 @@ number_at digits n text h w (d ∷ ds) e =
     let f : without_zeros (d ∷ ds) ≡ h.decimals = ap (λ z. without_zeros z) (sym e) ∙ h.fewest in
     let t : text ≡ w.first ∷ w.rest ++ 46 ∷ d ∷ ds = h.is ∙ (ap (λ z. decimal h.whole ++ after_point z) e ∙ ap (λ z. z ++ 46 ∷ d ∷ ds) w.is) in
     let v : decimal_value 0 (w.first ∷ w.rest ++ without_zeros (d ∷ ds)) ≡ decimal_value h.whole h.decimals =
-    ap (λ z. decimal_value 0 (w.first ∷ w.rest ++ z)) f ∙ (value_append 0 (w.first ∷ w.rest) h.decimals ∙ ap (λ z. decimal_value z h.decimals) w.value) in
+    ap (λ z. decimal_value 0 (w.first ∷ w.rest ++ z)) f ∙ (decimal_value-append 0 (w.first ∷ w.rest) h.decimals ∙ ap (λ z. decimal_value z h.decimals) w.value) in
     let k : length (without_zeros (d ∷ ds)) ≡ length h.decimals = ap (λ z. length z) f in
     rw t (rw (v, k) at (decimals_lexed w.first w.rest d ds w.digits a))
 

@@ -1,10 +1,11 @@
 -- Decimals without the zeros at their end.
-use Rattle.std.proofs.Common.{◌≡◌, ◌≢◌, ℕ, zero, suc, ◌+◌, ◌-◌, ◌*◌, ◌/◌, ◌%◌, ◌^◌, ◌<◌, ◌≤◌, Bool, true, false, List, [], ◌∷◌, ◌++◌, length, reverse, refl, sym, ◌∙◌, ap, arith, ◌⊎◌, inl, inr, lit<}
-use Rattle.std.proofs.lemmas.Bool.{ne_eqb, eqb-true, le-leb, cases_Bool, and_parts, and_from}
+use Rattle.std.proofs.Common.{◌≡◌, ◌≢◌, ℕ, zero, suc, ◌+◌, ◌-◌, ◌*◌, ◌/◌, ◌%◌, ◌^◌, ◌<◌, ◌≤◌, Bool, true, false, List, [], ◌∷◌, ◌++◌, length, min, reverse, refl, sym, ◌∙◌, ap, arith, ◌⊎◌, inl, inr, lit<}
+use Rattle.std.proofs.lemmas.Bool.{ne_eqb, eqb-true, le-leb, cases_Bool, and_from}
 use Rattle.std.proofs.lemmas.List.{reverse-append, reverse-reverse, length-reverse, length_push}
 use Rattle.std.proofs.Math.Nat.{pow-suc, pow-zero, one-le-pow}
 use Rattle.std.specs.Prelude.{◌==◌}
 use Rattle.stl_syntax.specs.Characters.{after_first, without_zeros, is_digit, all, decimal_value}
+use Rattle.stl_syntax.proofs.CharacterLemmas.{all-append, all-reverse, all-after_first}
 use Rattle.stl_syntax.specs.Print.{IsDecimalText}
 use Rattle.stl_syntax.specs.Printing.{last_digits, decimal_text}
 
@@ -30,6 +31,16 @@ without_zeros-less k n some zero_digit = by_place k some
 pub decimal_value-push : (w : ℕ) (xs : List ℕ) (c : ℕ) → decimal_value w (xs ++ c ∷ []) ≡ 10 * decimal_value w xs + (c - 48)
 decimal_value-push w [] c = refl
 decimal_value-push w (x ∷ xs) c = decimal_value-push (10 * w + (x - 48)) xs c
+
+-- more digits
+pub decimal_value-append : (w : ℕ) (xs ys : List ℕ) → decimal_value w (xs ++ ys) ≡ decimal_value (decimal_value w xs) ys
+decimal_value-append w [] ys = refl
+decimal_value-append w (x ∷ xs) ys = decimal_value-append (10 * w + (x - 48)) xs ys
+
+-- numbers that are the same below a limit stay so after more digits
+pub decimal_value-min : (v n : ℕ) (digits : List ℕ) → min v 4294967296 ≡ min n 4294967296 → min (decimal_value v digits) 4294967296 ≡ min (decimal_value n digits) 4294967296
+decimal_value-min v n [] h = h
+decimal_value-min v n (c ∷ digits) h = decimal_value-min (10 * v + (c - 48)) (10 * n + (c - 48)) digits (omega (arith, h))
 
 pub length-last_digits : (k n : ℕ) → length (last_digits k n) ≡ k
 length-last_digits zero n = refl
@@ -73,24 +84,6 @@ pub without_zeros-without_zeros : (xs : List ℕ) → without_zeros (without_zer
 without_zeros-without_zeros xs =
     ap (λ ys. reverse (after_first (λ c. c == 48) ys)) (reverse-reverse (after_first (λ c. c == 48) (reverse xs)))
     ∙ ap reverse (after_first-after_first (λ c. c == 48) (reverse xs))
-
-all-append : (p : ℕ → Bool) (xs ys : List ℕ) → all p xs ≡ true → all p ys ≡ true → all p (xs ++ ys) ≡ true
-all-append p [] ys h k = k
-all-append p (c ∷ xs) ys h k = let parts = and_parts (p c) (all p xs) h in and_from (p c) (all p (xs ++ ys)) parts.0 (all-append p xs ys parts.1 k)
-
-all-reverse : (p : ℕ → Bool) (xs : List ℕ) → all p xs ≡ true → all p (reverse xs) ≡ true
-all-reverse p [] h = refl
-all-reverse p (c ∷ xs) h =
-    let parts = and_parts (p c) (all p xs) h in
-    rw (reverse-append (c ∷ []) xs) (all-append p (reverse xs) (c ∷ []) (all-reverse p xs parts.1) (and_from (p c) true parts.0 refl))
-
-all-after_first : (p q : ℕ → Bool) (xs : List ℕ) → all p xs ≡ true → all p (after_first q xs) ≡ true
-all-after_first p q [] h = refl
-all-after_first p q (c ∷ xs) h = by_test (all-after_first p q xs (and_parts (p c) (all p xs) h).1) (cases_Bool (q c))
-  where
-    by_test : all p (after_first q xs) ≡ true → (q c ≡ true) ⊎ (q c ≡ false) → all p (after_first q (c ∷ xs)) ≡ true
-    by_test less (inl t) = rw t less
-    by_test less (inr f) = rw f h
 
 -- decimals are digits
 pub all-without_zeros : (xs : List ℕ) → all is_digit xs ≡ true → all is_digit (without_zeros xs) ≡ true

@@ -2,7 +2,7 @@
 use Rattle.std.proofs.Common.{ℕ, Bool, List, [], ◌∷◌, refl, true, false, arith, lit<, inr}
 use Rattle.rational.specs.Time.{Rational, ◌≤ʳ◌, ◌<ʳ◌, closed, later}
 use Rattle.rational.specs.Windows.{Ahead}
-use Rattle.rational.specs.Extended.{Extended, minus_infinity, infinity, ◌≈ᵉ◌, Affine, always_low, affine, always_high, value_at}
+use Rattle.rational.specs.Extended.{minus_infinity, infinity, ◌≈ᵉ◌, Affine, always_low, affine, always_high, value_at}
 use Rattle.rational.proofs.Order.{le_of_lt, le_trans}
 use Rattle.rational.proofs.AffineLemmas.{same_reflᵉ}
 use Rattle.frac128.specs.Value.{value}

@@ -1,7 +1,7 @@
 -- The items that an explanation keeps, and the traces that agree with them.
 use Rattle.std.specs.Prelude.{◌≡◌, ◌⊎◌, ℕ, suc, ◌+◌, ◌*◌, ◌-◌, ◌<◌, ◌≤◌, List, [], ◌∷◌, ◌++◌, length, reverse, MatchBool}
 use Rattle.rational.specs.Time.{Rational, Interval, IsIn, BeginAlike, EndAlike}
-use Rattle.stl_syntax.specs.Trace.{Trace, IsLike, start, stop}
+use Rattle.stl_syntax.specs.Trace.{Trace, IsLike, start}
 use Rattle.stl_syntax.specs.Formula.{Subformula, subformula, root}
 use Rattle.stl_syntax.specs.Truth.{Truth}
 use Rattle.stl_syntax.specs.Kleene.{MustNot}

@@ -1,5 +1,5 @@
 -- Robustness as a stream: the points and the open gaps of a stretch.
-use Rattle.std.specs.Prelude.{◌≡◌, ◌⊎◌, ℕ, ℤ, Bool, true, false, List, [], ◌∷◌, ◌++◌, length, int_lt, Option, Some, None, MatchBool}
+use Rattle.std.specs.Prelude.{◌≡◌, ℕ, ℤ, Bool, true, false, List, [], ◌++◌, length, int_lt, Option, Some, None, MatchBool}
 use Rattle.rational.specs.Time.{Rational, ◌≈◌, whole}
 use Rattle.stl_syntax.specs.Trace.{Header, Row, Trace, AreRows, start}
 use Rattle.stl_syntax.specs.Formula.{Subformula}

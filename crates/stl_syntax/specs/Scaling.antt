@@ -1,6 +1,5 @@
 -- A formula counted in smaller ticks.
-use Rattle.std.specs.Prelude.{◌≡◌, ◌⊎◌, ℕ, ◌*◌, ◌-◌, ◌^◌, Bool, false, nat_lt, pos, ◌*ℤ◌, nat_abs, map, option_map, All, IfSome}
-use Rattle.rational.specs.Time.{Divides}
+use Rattle.std.specs.Prelude.{ℕ, ◌*◌, ◌-◌, ◌^◌, Bool, false, nat_lt, pos, ◌*ℤ◌, nat_abs, map, option_map}
 use Rattle.stl_syntax.specs.declared.atom.Atom.{Atom}
 use Rattle.stl_syntax.specs.declared.node.Node.{Node}
 use Rattle.stl_syntax.specs.declared.node.Node.TheVariants.{Atom as Leaf, Until, Eventually, Always, Since, Once, Historically}
@@ -33,23 +32,3 @@ scaled f scale = record {
 abbrev pub has_large_constant : ℕ → Node → Bool
 has_large_constant k (Leaf a) = nat_lt 1073741824 (nat_abs a.limit * k)
 has_large_constant k n = false
-
--- k divides each finite bound of the node
-abbrev pub DividesBounds : ℕ → Node → Type 0
-DividesBounds k (Until p q a b) = Divides k a × Divides k b
-DividesBounds k (Eventually p a b a_in b_in) = Divides k a × Divides k b
-DividesBounds k (Always p a b a_in b_in) = Divides k a × Divides k b
-DividesBounds k (Since p q a b) = Divides k a × IfSome b (Divides k)
-DividesBounds k (Once p a b a_in b_in) = Divides k a × IfSome b (Divides k)
-DividesBounds k (Historically p a b a_in b_in) = Divides k a × IfSome b (Divides k)
-DividesBounds k n = Unit {0}
-
--- k divides the node's constant
-abbrev pub DividesConstant : ℕ → Node → Type 0
-DividesConstant k (Leaf a) = Divides k (nat_abs a.limit)
-DividesConstant k n = Unit {0}
-
--- no scale of fewer digits holds the formula's numbers
-pub record IsLeastScale (f : Formula) : Type 0 where
-  pub time : (f.scale.time ≡ 0) ⊎ (¬ All (DividesBounds 10) f.nodes)
-  pub value : (f.scale.value ≡ 0) ⊎ (¬ All (DividesConstant 10) f.nodes)

@@ -8,16 +8,6 @@ use Rattle.stl_syntax.specs.Characters.{is_digit, all, StopsAt, decimal_value}
 use Rattle.stl_syntax.specs.Trace.{Row}
 use Rattle.trace_reader.specs.Plain.{AreDigits, digits, IsWhole, IsRowLine}
 
-pub all-push : (p : ℕ → Bool) (xs : List ℕ) (c : ℕ) → all p xs ≡ true → p c ≡ true → all p (xs ++ c ∷ []) ≡ true
-all-push p [] c h k = rw k refl
-all-push p (x ∷ xs) c h k =
-    let a : p x ≡ true = grind (arith, h) in let b : all p xs ≡ true = grind (arith, h) in
-    rw (a, all-push p xs c b k) refl
-
-pub decimal_value-push : (n : ℕ) (xs : List ℕ) (c : ℕ) → decimal_value n (xs ++ c ∷ []) ≡ 10 * decimal_value n xs + (c - 48)
-decimal_value-push n [] c = refl
-decimal_value-push n (x ∷ xs) c = decimal_value-push (10 * n + (x - 48)) xs c
-
 -- a text of such bytes ends where one of another kind would stand
 pub all_ends : (p : ℕ → Bool) (xs : List ℕ) (n : ℕ) → all p xs ≡ true → StopsAt p (drop n xs) → length xs ≤ n
 all_ends p [] n h s = omega arith

@@ -5,11 +5,10 @@ use Rattle.std.proofs.lemmas.List.{take-append-drop, take_more, drop_more, rever
 use Rattle.std.proofs.lemmas.List.Elements.{All-head, All-tail, All-from_get_or}
 use Rattle.std.proofs.lemmas.Bool.{cases_eq, eq-eqb, ne_eqb, eqb-true}
 use Rattle.stl_syntax.specs.Characters.{all, StopsAt, after_first}
-use Rattle.stl_syntax.proofs.CharacterLemmas.{after_all}
 use Rattle.memchr.specs.Find.{is_byte, Nowhere, NoneBefore, Passes}
 use Rattle.trace_reader.specs.TraceText.{split, trim}
 use Rattle.trace_reader.specs.LineParts.{fields_of}
-use Rattle.trace_reader.proofs.PlainText.{all-reverse}
+use Rattle.stl_syntax.proofs.CharacterLemmas.{after_all, all-reverse}
 
 -- a byte of another kind comes last
 stops_before : (p : ℕ → Bool) (text : List ℕ) (n : ℕ) → n ≤ length text → (0 < n → p (get_or text (n - 1) 0) ≡ false) → StopsAt p (reverse (take n text))

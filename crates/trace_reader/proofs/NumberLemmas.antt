@@ -12,8 +12,8 @@ use Rattle.trace_reader.specs.TraceRefusals.{NumberFault}
 use Rattle.trace_reader.specs.FieldFaults.{IsFieldRead}
 use Rattle.trace_reader.specs.declared.refusal.TraceKind.{TraceKind}
 use Rattle.trace_reader.specs.declared.refusal.TraceKind.TheVariants.{OutOfRange}
-use Rattle.trace_reader.proofs.DigitLemmas.{all_ends, front_ends, decimal_value-push}
-use Rattle.trace_reader.proofs.PlainText.{all-reverse}
+use Rattle.stl_syntax.proofs.DecimalLemmas.{decimal_value-push, decimal_value-append, decimal_value-min}
+use Rattle.trace_reader.proofs.DigitLemmas.{all_ends, front_ends}
 use Rattle.trace_reader.proofs.TraceRefusalExamples.{first_byte, numeral_begins}
 use Rattle.trace_reader.proofs.TraceRefusalLaw.{numeral-unique, ticks-unique}
 
@@ -24,11 +24,6 @@ numeral_cases (integer {c = c} {digits = ds} h) len t s = let e = all_ends is_di
 numeral_cases (decimal c ds d more h k) len t s =
     let l : length (c ∷ ds) ≡ len = front_ends is_digit (c ∷ ds) 46 (d ∷ more) len h refl t s in
     (omega (arith, l), inr (d, more, drop_at (c ∷ ds) (46 ∷ d ∷ more) len l, k))
-
--- values that are the same below the limit
-pub value_same : (a b : ℕ) (ds : List ℕ) → min a 4294967296 ≡ min b 4294967296 → min (decimal_value a ds) 4294967296 ≡ min (decimal_value b ds) 4294967296
-value_same a b [] h = h
-value_same a b (d ∷ ds) h = value_same (10 * a + (d - 48)) (10 * b + (d - 48)) ds (omega (arith, h))
 
 scaled_same : (a b p : ℕ) → 0 < p → min a 4294967296 ≡ min b 4294967296 → min (a * p) 4294967296 ≡ min (b * p) 4294967296
 scaled_same a b zero some h = absurd (omega (arith, some))
@@ -52,21 +47,6 @@ pub digit_at : (text : List ℕ) (n : ℕ) → all is_digit text ≡ true → n 
 digit_at [] n h l = absurd (omega (arith, l))
 digit_at (c ∷ text) zero h l = let a : is_digit c ≡ true = grind (arith, h) in (grind (arith, a), grind (arith, a))
 digit_at (c ∷ text) (suc n) h l = let b : all is_digit text ≡ true = grind (arith, h) in digit_at text n b (omega (arith, l))
-
-decimal_value-append : (v : ℕ) (xs ys : List ℕ) → decimal_value v (xs ++ ys) ≡ decimal_value (decimal_value v xs) ys
-decimal_value-append v [] ys = refl
-decimal_value-append v (x ∷ xs) ys = decimal_value-append (10 * v + (x - 48)) xs ys
-
-all-after : (p q : ℕ → Bool) (xs : List ℕ) → all p xs ≡ true → all p (after_first q xs) ≡ true
-all-after p q [] h = refl
-all-after p q (x ∷ xs) h = let b : all p xs ≡ true = grind (arith, h) in by_test (all-after p q xs b) (cases_Bool (q x))
-  where
-    by_test : all p (after_first q xs) ≡ true → (q x ≡ true) ⊎ (q x ≡ false) → all p (after_first q (x ∷ xs)) ≡ true
-    by_test k (inl e) = rw e k
-    by_test k (inr e) = rw e h
-
-pub shortened_digits : (xs : List ℕ) → all is_digit xs ≡ true → all is_digit (without_zeros xs) ≡ true
-shortened_digits xs h = all-reverse is_digit (after_first (λ c. c == 48) (reverse xs)) (all-after is_digit (λ c. c == 48) (reverse xs) (all-reverse is_digit xs h))
 
 -- the ticks of a number without a sign
 abbrev pub IsRead : List ℕ → ℕ → ℕ → ℕ → Type 0
@@ -94,7 +74,7 @@ decimal_read (c ∷ ds) d more most digits v s r some h k value sum few is =
     let zs = without_zeros (d ∷ more) in
     let n : decimal_value 0 ((c ∷ ds) ++ zs) ≡ decimal_value (decimal_value 0 (c ∷ ds)) zs = decimal_value-append 0 (c ∷ ds) zs in
     let same : min s 4294967296 ≡ min (decimal_value 0 ((c ∷ ds) ++ zs)) 4294967296 =
-    sum ∙ (value_same v (decimal_value 0 (c ∷ ds)) zs value ∙ ap (λ x. min x 4294967296) (sym n)) in (
+    sum ∙ (decimal_value-min v (decimal_value 0 (c ∷ ds)) zs value ∙ ap (λ x. min x 4294967296) (sym n)) in (
       decimal_value 0 ((c ∷ ds) ++ zs),
       length zs,
       decimal c ds d more h k,

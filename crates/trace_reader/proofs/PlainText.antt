@@ -10,6 +10,7 @@ use Rattle.trace_reader.specs.TraceText.{Line, lines, split, trim, content, is_b
 use Rattle.trace_reader.specs.Sofar.{AreRowsSoFar}
 use Rattle.trace_reader.specs.Plain.{no_digits, AreDigits, digits, IsWhole, plain, minus, IsHeaderLine, IsRowLine, ArePlainRows, none, unfinished, row, ArePlainLines, heading, IsPlain, IsTextOf}
 use Rattle.trace_reader.specs.declared.refusal.Limits.{Limits}
+use Rattle.stl_syntax.proofs.CharacterLemmas.{all-append, all-reverse}
 use Rattle.trace_reader.proofs.NameLemmas.{name_words}
 use Rattle.trace_reader.proofs.DigitLemmas.{digits_are}
 use Rattle.trace_reader.proofs.TableLemmas.{sofar-some}
@@ -22,23 +23,11 @@ is_solid c = not (is_space c) && not (eqb c 13)
 abbrev is_inner : ℕ → Bool
 is_inner c = is_solid c && not (eqb c 44)
 
-pub all-append : (p : ℕ → Bool) (xs ys : List ℕ) → all p xs ≡ true → all p ys ≡ true → all p (xs ++ ys) ≡ true
-all-append p [] ys h k = k
-all-append p (x ∷ xs) ys h k =
-    let a : p x ≡ true = grind (arith, h) in let b : all p xs ≡ true = grind (arith, h) in
-    rw (a, all-append p xs ys b k) refl
-
 all-weaker : (p q : ℕ → Bool) → ((c : ℕ) → p c ≡ true → q c ≡ true) → (xs : List ℕ) → all p xs ≡ true → all q xs ≡ true
 all-weaker p q w [] h = refl
 all-weaker p q w (x ∷ xs) h =
     let a : p x ≡ true = grind (arith, h) in let b : all p xs ≡ true = grind (arith, h) in
     rw (w x a, all-weaker p q w xs b) refl
-
-pub all-reverse : (p : ℕ → Bool) (xs : List ℕ) → all p xs ≡ true → all p (reverse xs) ≡ true
-all-reverse p [] h = refl
-all-reverse p (x ∷ xs) h =
-    let a : p x ≡ true = grind (arith, h) in let b : all p xs ≡ true = grind (arith, h) in
-    rw (reverse-append (x ∷ []) xs) (all-append p (reverse xs) (x ∷ []) (all-reverse p xs b) (rw a refl))
 
 solid_no_space : (c : ℕ) → is_solid c ≡ true → is_space c ≡ false
 solid_no_space c h = grind (arith, nat_tests, h)

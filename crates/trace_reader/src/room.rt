@@ -3,14 +3,12 @@ ghost use Rattle.std.specs.String.{string_bytes, string_capacity};
 
 use crate::Header;
 use crate::header::Label;
+use crate::name::LONGEST_NAME;
 use crate::row::MOST_COLUMNS;
 use frac128::Memory;
 use std::alloc::Global;
 use std::marker::Model;
 use stl_syntax::Scale;
-
-/// The most bytes of a column's name.
-const LONGEST_NAME: usize = 64;
 
 /// Memory for the name of a column.
 #[derive(Drop)]

@@ -14,3 +14,5 @@ mod MirrorLemmas
 mod BackLemmas
 mod BoundLemmas
 mod UntilLemmas
+mod Existence
+mod SignalExistence

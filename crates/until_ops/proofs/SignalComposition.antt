@@ -23,7 +23,7 @@ module _ {P : Type 0} (function : P → Affine) (lowest highest : Extended) (lea
   order (k ∷ knots) signal = le_transᵉ lowest (value_at (function k.point) (time k)) highest (least k.point (time k)) (greatest k.point (time k))
 
   -- a signal is worth at least the lowest value
-  at_least_lowest : (p : List (Knot P)) (s : Rational) (v : Extended) → IsWorth function p s v → lowest ≤ᵉ v
+  pub at_least_lowest : (p : List (Knot P)) (s : Rational) (v : Extended) → IsWorth function p s v → lowest ≤ᵉ v
   at_least_lowest [] s v h = absurd h
   at_least_lowest (k ∷ knots) s v (inl h) = le_transᵉ lowest (value_at (function k.point) s) v (least k.point s) h.worth.at_least
   at_least_lowest (k ∷ []) s v (inr (inl h)) = absurd h

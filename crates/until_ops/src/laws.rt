@@ -1,7 +1,7 @@
 //! The laws of bounded until and since. Each is the contract of a call that does nothing, so that the gate proves it for every
 //! kind of value.
 ghost use Rattle.std.specs.Prelude.{List};
-ghost use Rattle.rational.specs.Time.{Rational};
+ghost use Rattle.rational.specs.Time.{◌≈◌};
 ghost use Rattle.pl_signal.specs.declared.knot.Knot.{Knot};
 ghost use Rattle.pl_signal.specs.Knots.{IsSignal, IsWorth, start, stop};
 ghost use Rattle.until_ops.specs.Composition.{HasUntilToEnd, HasSinceFromStart, UntilIsComposed, SinceIsComposed};
@@ -21,4 +21,16 @@ pub fn since_is_composed<P: Shape>()
     ensures { (p q : List (Knot P)) → IsSignal P.function p
         → HasSinceFromStart P.lowest P.highest (start p) (stop p) (IsWorth P.function p) (IsWorth P.function q)
         → SinceIsComposed P.lowest P.highest (start p) (stop p) (IsWorth P.function p) (IsWorth P.function q) }
+{}
+
+/// An until to the end of two signals over one domain has a value at each time of it.
+pub fn until_has_values<P: Shape>()
+    ensures { (p q : List (Knot P)) → IsSignal P.function p → IsSignal P.function q → start p ≈ start q → stop p ≈ stop q
+        → HasUntilToEnd P.lowest P.highest (start p) (stop p) (IsWorth P.function p) (IsWorth P.function q) }
+{}
+
+/// A since from the start of two signals over one domain has a value at each time of it.
+pub fn since_has_values<P: Shape>()
+    ensures { (p q : List (Knot P)) → IsSignal P.function p → IsSignal P.function q → start p ≈ start q → stop p ≈ stop q
+        → HasSinceFromStart P.lowest P.highest (start p) (stop p) (IsWorth P.function p) (IsWorth P.function q) }
 {}

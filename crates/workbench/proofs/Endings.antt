@@ -1,19 +1,19 @@
 -- How a run ends: what was written, and the status and the line of what was refused.
-use Rattle.std.proofs.Common.{◌≡◌, ◌⊎◌, inl, inr, ℕ, Bool, List, refl, sym, ap, ◌∙◌, subst, Result, Ok, Err}
+use Rattle.std.proofs.Common.{◌≡◌, ◌⊎◌, inl, inr, ℕ, ◌<◌, Bool, List, [], ◌∷◌, length, arith, refl, sym, ap, ◌∙◌, subst, Result, Ok, Err}
 use Rattle.std.specs.Prelude.{Option}
 use Rattle.std.specs.Io.KnownBytes.{Appends}
+use Rattle.std.proofs.KnownBytes.{Appends-nil}
 use Rattle.io_edge.specs.Causes.{HasCause}
 use Rattle.stl_syntax.specs.Formula.{Formula}
+use Rattle.stl_syntax.specs.Trace.{Row, AreRows}
 use Rattle.stl_grammar.specs.FormulaRefusals.{IsFormulaOf, IsFormulaFault}
 use Rattle.stl_grammar.specs.declared.fault.FormulaFault.{FormulaFault}
 use Rattle.stl_grammar.specs.declared.fault.FormulaFault.TheVariants.{Empty, BadByte, Expected, BadNumber, BoundOrder, UnboundedFuture, TooManyTerms, TooLong, TooDeep, TooManyNodes, ReachTooLarge, ConstantTooLarge, Memory}
 use Rattle.workbench.specs.ErrTexts.{formula_fault_text, out_of_memory}
-use Rattle.workbench.specs.NotBuilt.{IsNotBuilt, not_built_text}
 use Rattle.workbench.specs.Writing.{IsPartWritten, IsWritten}
-use Rattle.workbench.specs.Run.{IsSaid, whole, part, IsWrittenWith, all_of_it, a_part, IsBadFormula, IsBadEnd, refused, no_room, status_of_fault}
+use Rattle.workbench.specs.Run.{IsSaid, whole, part, IsWrittenWith, all_of_it, a_part, IsBadEnd, refused, no_room, status_of_fault, IsEndLine}
+use Rattle.workbench.specs.declared.fault.Stop.{Stop}
 use Rattle.workbench.specs.declared.fault.Stop.TheVariants.{Unwritten}
-use Rattle.workbench.specs.declared.formula.BadFormula.{BadFormula}
-use Rattle.workbench.specs.declared.formula.BadFormula.TheVariants.{Refused, NotBuilt}
 
 -- what came of writing a line
 pub said : {T E : Type 0} (told told_after : Option (List ℕ)) (faults faults_after : ℕ) (r : Result T E) (line : List ℕ)
@@ -54,16 +54,19 @@ refused_end text r (inr h) = by_case (memory_or r)
   where
     by_case : (r ≡ Memory) ⊎ (status_of_fault r ≡ 3) → IsBadEnd text (status_of_fault r) (formula_fault_text r)
     by_case (inl e) = out_of_room text r e
-    by_case (inr e) = subst (λ s. IsBadEnd text s (formula_fault_text r)) (sym e) (refused (inl (r, h, refl)))
+    by_case (inr e) = subst (λ s. IsBadEnd text s (formula_fault_text r)) (sym e) (refused (r, h, refl))
 
 -- how a text that gives no formula ends, once its line was told
-pub refused_told : (text : List ℕ) (bad : BadFormula) (r : FormulaFault) (line : List ℕ) (status : ℕ) → bad ≡ Refused r → line ≡ formula_fault_text r → status ≡ status_of_fault r
-    → IsBadFormula text bad → IsBadEnd text status line
-refused_told text bad r line status e told s h =
-    subst (λ n. IsBadEnd text n line) (sym s)
-    (subst (λ l. IsBadEnd text (status_of_fault r) l) (sym told) (refused_end text r (subst (λ (b : BadFormula). IsBadFormula text b) e h)))
+pub refused_told : (text : List ℕ) (r : FormulaFault) (line : List ℕ) (status : ℕ) → line ≡ formula_fault_text r → status ≡ status_of_fault r
+    → (r ≡ Memory) ⊎ IsFormulaFault text r → IsBadEnd text status line
+refused_told text r line status told s h =
+    subst (λ n. IsBadEnd text n line) (sym s) (subst (λ l. IsBadEnd text (status_of_fault r) l) (sym told) (refused_end text r h))
 
-pub not_built_told : (text : List ℕ) (bad : BadFormula) (i : ℕ) (line : List ℕ) → bad ≡ NotBuilt i → line ≡ not_built_text i → IsBadFormula text bad → IsBadEnd text 3 line
-not_built_told text bad i line e told h =
-    let (f, is, first) = subst (λ (b : BadFormula). IsBadFormula text b) e h in
-    refused (inr (f, i, is, first, told))
+-- nothing is told of an answer
+pub told_nothing : (f : Formula) (e : Result Bool Stop) (b : Bool) (told : Option (List ℕ)) (faults : ℕ) → e ≡ Ok b → (line : List ℕ) × IsEndLine f e line × IsSaid told told faults faults line
+told_nothing f e b told faults same = ([], subst (λ (x : Result Bool Stop). IsEndLine f x []) (sym same) refl, whole (Appends-nil told))
+
+-- a trace has a row
+pub some_rows : (width : ℕ) (rows : List Row) → AreRows width rows → 0 < length rows
+some_rows width [] h = absurd h
+some_rows width (r ∷ rows) h = omega arith

@@ -13,4 +13,8 @@ pub mod OneLine
 pub mod Feeding
 pub mod Fed
 pub mod Ends
+pub mod Progress
+pub mod LastFaults
+pub mod FaultsStay
+pub mod Runs
 pub mod Judged

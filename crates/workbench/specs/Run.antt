@@ -10,34 +10,19 @@ use Rattle.stl_grammar.specs.declared.fault.FormulaFault.{FormulaFault}
 use Rattle.stl_grammar.specs.declared.fault.FormulaFault.TheVariants as fault
 use Rattle.report.specs.Report.{Out, check}
 use Rattle.workbench.specs.Words.{AskCheck}
-use Rattle.workbench.specs.NotBuilt.{IsBuilt, IsNotBuilt, not_built_text}
 use Rattle.workbench.specs.InputFaults.{Fault, fault_text, whole_limits, IsInputFault}
 use Rattle.workbench.specs.Answers.{HoldsAtStart, IsJudged}
 use Rattle.workbench.specs.Cases.{IsFault}
 use Rattle.workbench.specs.Reading.{IsWhole, IsSound, IsReadWhole, IsStop}
 use Rattle.workbench.specs.Writing.{IsPartWritten}
 use Rattle.workbench.specs.declared.case.Case.{Case}
-use Rattle.workbench.specs.declared.formula.BadFormula.{BadFormula}
-use Rattle.workbench.specs.declared.formula.BadFormula.TheVariants.{Refused, NotBuilt}
 use Rattle.workbench.specs.declared.fault.Stop.{Stop}
 use Rattle.workbench.specs.declared.fault.Stop.TheVariants.{Fault as Faulty, Unread, Unwritten, NoMemory}
 use Rattle.workbench.specs.ErrTexts.{formula_fault_text, out_of_memory, read_fault, write_fault}
 
--- the text is that of the formula, which can be judged
-pub record IsAskedFor (text : List ℕ) (f : Formula) : Type 0 where
-  pub is : IsFormulaOf text f
-  pub built : IsBuilt f
-
--- the text is refused with this line, or its formula can't be judged yet
+-- the text is refused with this line
 abbrev pub HasBadText : List ℕ → List ℕ → Type 0
-HasBadText text line =
-    ((r : FormulaFault) × IsFormulaFault text r × (line ≡ formula_fault_text r))
-    ⊎ ((f : Formula) × (i : ℕ) × IsFormulaOf text f × IsNotBuilt f i × (line ≡ not_built_text i))
-
--- why a text gives no formula to judge
-abbrev pub IsBadFormula : List ℕ → BadFormula → Type 0
-IsBadFormula text (Refused r) = (r ≡ fault.Memory) ⊎ IsFormulaFault text r
-IsBadFormula text (NotBuilt i) = (f : Formula) × IsFormulaOf text f × IsNotBuilt f i
+HasBadText text line = (r : FormulaFault) × IsFormulaFault text r × (line ≡ formula_fault_text r)
 
 -- the words are not `check` and one more
 abbrev pub AreNoForm : List (List ℕ) → Type 0
@@ -53,7 +38,7 @@ pub record AskForBad (words : List (List ℕ)) (line : List ℕ) : Type 0 where
 pub record AskFor (words : List (List ℕ)) (f : Formula) : Type 0 where
   pub text : List ℕ
   pub form : AskCheck words text
-  pub is : IsAskedFor text f
+  pub is : IsFormulaOf text f
 
 -- the device told its bytes, and these were taken from their front
 pub record Took (before after : Option (List ℕ)) (bytes : List ℕ) : Type 0 where
@@ -148,9 +133,9 @@ IsToldRightly words left left_after ended told told_after faults faults_after st
     → (line : List ℕ) × IsErrLine words left left_after ended status line × IsMessage line message faults faults_after
 
 -- the line was written, or where the count of faults rose a part of it
-pub data IsSaid (told told_after : Option (List ℕ)) (faults faults_after : ℕ) (line : List ℕ) : Type 0 where
-  whole : Appends told told_after line → IsSaid told told_after faults faults_after line
-  part : IsPartWritten told told_after line → Rose faults faults_after → IsSaid told told_after faults faults_after line
+pub data IsSaid (told told_after : Option (List ℕ)) (faults faults_after : ℕ) : List ℕ → Type 0 where
+  whole : {line : List ℕ} → Appends told told_after line → IsSaid told told_after faults faults_after line
+  part : {line : List ℕ} → IsPartWritten told told_after line → Rose faults faults_after → IsSaid told told_after faults faults_after line
 
 -- how the writing of an answer ends
 pub data IsWrittenWith (holds : Bool) (text : List ℕ) (held held_after : Option (List ℕ)) : Result Bool Stop → Type 0 where

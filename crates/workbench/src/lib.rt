@@ -4,9 +4,7 @@
 mod answer;
 mod case;
 mod fault;
-mod formula;
 mod line;
-mod not_built;
 mod output;
 mod reading;
 mod texts;
@@ -14,6 +12,3 @@ mod top;
 mod words;
 
 pub use top::run;
-
-#[cfg(test)]
-mod tests;

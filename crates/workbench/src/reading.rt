@@ -77,12 +77,17 @@ impl Reading {
         requires { refusal.kind ≡ NoRows → HasHeader formula.now self.now.rows }
         ensures { IsLastFault formula.now self.now.rows self.now.case refusal result }
     {
-        if self.case.is_none() && matches!(refusal.kind, TraceKind::NoRows) {
-            if let Err(stop) = begin(alloc, formula, self.rows.header(), refusal.line) {
-                return stop;
-            }
+        let own = Stop::Fault(TraceFault::Trace(refusal));
+        let TraceKind::NoRows = refusal.kind else {
+            return own;
+        };
+        if self.case.is_some() {
+            return own;
         }
-        Stop::Fault(TraceFault::Trace(refusal))
+        if let Err(stop) = begin(alloc, formula, self.rows.header(), refusal.line) {
+            return stop;
+        }
+        own
     }
 
     /// Keeps a last row without LF, where the bytes end here.
@@ -94,7 +99,8 @@ impl Reading {
     {
         match self.rows.end() {
             Ok(Event::Row) => keep(&mut self.case, self.rows.row()),
-            Ok(_) => Ok(()),
+            Ok(Event::Nothing) => Ok(()),
+            Ok(Event::Header) => unreachable!(),
             Err(refusal) => Err(self.last_fault(alloc, refusal, formula)),
         }
     }

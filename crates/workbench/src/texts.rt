@@ -5,7 +5,6 @@ ghost use Rattle.workbench.specs.Cases.{IsFault, IsNamed};
 ghost use Rattle.workbench.specs.ErrTexts.{formula_fault_text, trace_fault_text, unknown_text, unit_fault_text, what_text, out_of_memory};
 ghost use Rattle.workbench.specs.InputFaults.{Fault as FirstFault, fault_text};
 ghost use Rattle.workbench.specs.Lines.{line_text};
-ghost use Rattle.workbench.specs.NotBuilt.{not_built_text};
 
 use crate::fault::TraceFault;
 use crate::line::{Detail, Line};
@@ -67,13 +66,6 @@ pub(crate) fn formula_line(fault: FormulaFault) -> Line<'static>
         ),
         FormulaFault::Memory => Line::plain(NO_MEMORY),
     }
-}
-
-/// The line of a node that is not built.
-pub(crate) fn not_built_line(node: u32) -> Line<'static>
-    ensures { line_text result ≡ not_built_text node }
-{
-    Line::numbered(b"formula: node ", u64::from(node), b" not built\n")
 }
 
 /// A line about line `n` of the trace.

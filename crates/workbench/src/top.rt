@@ -3,20 +3,20 @@ ghost use Rattle.std.specs.Prelude.{◌≡◌, ◌≢◌, ◌⊎◌, ◌↔◌, 
 ghost use Rattle.std.specs.Io.KnownBytes.{IsAtEnd};
 ghost use Rattle.io_edge.specs.Causes.{Rose};
 ghost use Rattle.stl_syntax.specs.Formula.{Formula as Parsed};
-ghost use Rattle.workbench.specs.Run.{AreNoForm, IsBadFormula, IsBadRightly, IsBadWhereDue, IsRefusedRightly, IsRefusedWhereDue, IsAnsweredWhereDue, IsAnsweredRightly, IsCutOffRightly, IsToldRightly, IsSaid, IsWrittenWith, IsEnding, IsRun, IsBadEnd, IsEndLine, IsStopLine, HasFault, EndsSoundly, check_usage, status_of, status_of_stop, status_of_fault};
+ghost use Rattle.workbench.specs.Run.{AreNoForm, IsBadRightly, IsBadWhereDue, IsRefusedRightly, IsRefusedWhereDue, IsAnsweredWhereDue, IsAnsweredRightly, IsCutOffRightly, IsToldRightly, IsSaid, IsWrittenWith, IsEnding, IsRun, IsBadEnd, IsEndLine, IsStopLine, HasFault, EndsSoundly, check_usage, status_of, status_of_stop, status_of_fault};
+ghost use Rattle.stl_grammar.specs.FormulaRefusals.{IsFormulaFault};
 ghost use Rattle.workbench.specs.Lines.{line_text};
 
 use crate::answer::{Answer, judge};
 use crate::fault::Stop;
-use crate::formula::{BadFormula, read_formula};
 use crate::line::{Line, write_line};
 use crate::output::write_all;
 use crate::reading::read_trace;
-use crate::texts::{NO_MEMORY, fault_line, formula_line, not_built_line};
+use crate::texts::{NO_MEMORY, fault_line, formula_line};
 use crate::words::formula_word;
 use io_edge::{Sink, Source};
 use std::alloc::Global;
-use stl_grammar::FormulaFault;
+use stl_grammar::{FormulaFault, parse};
 use stl_syntax::Formula;
 use trace_reader::Limits;
 
@@ -75,7 +75,8 @@ fn say<E: Sink>(err: &mut E, line: &Line<'_>)
 
 /// The status of a refusal of the formula.
 fn formula_status(fault: FormulaFault) -> u8
-    ensures { result ≡ status_of_fault fault }
+    ensures status { result ≡ status_of_fault fault }
+    ensures few { (result ≡ 3) ⊎ (result ≡ 7) }
 {
     match fault {
         FormulaFault::Memory => 7,
@@ -84,21 +85,14 @@ fn formula_status(fault: FormulaFault) -> u8
 }
 
 /// The status of a text that gives no formula; the reason is told.
-fn refuse<E: Sink>(err: &mut E, bad: BadFormula) -> u8
-    ensures ended { (text : List ℕ) → IsBadFormula text bad
+fn refuse<E: Sink>(err: &mut E, fault: FormulaFault) -> u8
+    ensures ended { (text : List ℕ) → (fault ≡ FormulaFault.Memory) ⊎ IsFormulaFault text fault
         → (line : List ℕ) × IsBadEnd text result line × IsSaid (E.written err.old) (E.written err.new) (E.faults err.old) (E.faults err.new) line }
+    ensures few { (result ≡ 3) ⊎ (result ≡ 7) }
     ensures later { E.faults err.old ≤ E.faults err.new }
 {
-    match bad {
-        BadFormula::Refused(fault) => {
-            say(err, &formula_line(fault));
-            formula_status(fault)
-        }
-        BadFormula::NotBuilt(node) => {
-            say(err, &not_built_line(node));
-            3
-        }
-    }
+    say(err, &formula_line(fault));
+    formula_status(fault)
 }
 
 /// The line of a reason to stop.
@@ -167,12 +161,12 @@ fn obey<S: Source, K: Sink, E: Sink>(
         say(err, &Line::plain(USAGE));
         return 2;
     };
-    match read_formula(alloc, text) {
+    match parse(alloc, text) {
         Ok(formula) => {
             let ending = check(alloc, &formula, input, out);
             finish(err, &formula, ending)
         }
-        Err(bad) => refuse(err, bad),
+        Err(fault) => refuse(err, fault),
     }
 }
 
@@ -182,7 +176,7 @@ fn obey<S: Source, K: Sink, E: Sink>(
 /// - 0 and 1: `out` got the verdicts over the whole trace and the truth at its start, which is true for 0 and false for 1. The
 ///   input was read to its end.
 /// - 2: the words are not `check` and one more.
-/// - 3: the formula is refused, or it has a temporal operator, which is not built yet.
+/// - 3: the formula is refused.
 /// - 4: the bytes that were read have a first fault: of the trace, a column of the formula that the header lacks, or numbers of
 ///   the formula that do not fit in the header's ticks.
 /// - 5: `input` failed.

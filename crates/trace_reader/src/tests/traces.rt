@@ -350,6 +350,41 @@ fn decimals_are_counted_in_ticks(rt: HostRuntime) -> Result<(), Fail> {
     Ok(())
 }
 
+/// The header of bytes that have no row, and nothing of other bytes.
+fn header_alone(alloc: Global, text: &str) -> Result<String, AllocError> {
+    let mut said = String::new(alloc);
+    let Ok(mut reader) = Rows::new(alloc, LARGE, WHOLE) else {
+        return Err(AllocError);
+    };
+    let Ok(_) = reader.push(text.as_bytes()) else {
+        return Ok(said);
+    };
+    match reader.end() {
+        Ok(_) => {}
+        Err(refusal) => match refusal.kind {
+            TraceKind::NoRows => tell_header(&mut said, reader.header())?,
+            _ => {}
+        },
+    }
+    Ok(said)
+}
+
+#[test]
+fn a_trace_without_rows_has_its_header(rt: HostRuntime) -> Result<(), Fail> {
+    for (text, want) in [
+        ("time", "0/0 "),
+        ("time,x", "0/0,x "),
+        ("time,x\n", "0/0,x "),
+        ("\ntime:1,x:step:2\n \n", "1/2,x_ "),
+        ("", ""),
+        ("x,y\n", ""),
+    ] {
+        let said = header_alone(rt.alloc(), text)?;
+        assert_eq!(&rt; said.as_str(), want, "{text:?}");
+    }
+    Ok(())
+}
+
 #[test]
 fn rows_and_lines_have_limits(rt: HostRuntime) -> Result<(), Fail> {
     let two_rows = Limits { rows: 2, lines: 9 };

@@ -13,7 +13,7 @@ pub take-requires : goal.take-requires
 take-requires g c = c.requires.left c.in-Atom.field-0 (c.node.ensures.node ∙ ap (λ n. Some n) c.in-Atom.is)
 
 pub of_node-requires-clause-kind : goal.of_node-requires-clause-kind
-of_node-requires-clause-kind g c = c.requires.built c.args.i c.node.result.now c.node.ensures.node (not_atom c.node.result.now c.in_default.not-Atom)
+of_node-requires-clause-kind g c = not_atom c.node.result.now c.in_default.not-Atom
 
 pub of_node-requires-clause-children : goal.of_node-requires-clause-children
 of_node-requires-clause-children g c = subst (λ i. HasChildrenBelow i c.node.result.now) (sym c.requires.place) c.node.ensures.below

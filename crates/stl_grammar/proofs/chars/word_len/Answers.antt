@@ -2,7 +2,7 @@
 use Rattle.std.proofs.Common.{◌≡◌, take, get_or, true}
 use Rattle.std.proofs.lemmas.List.{take_more}
 use Rattle.stl_syntax.specs.Characters.{goes_on_word}
-use Rattle.stl_grammar.proofs.NumberLemmas.{all-push}
+use Rattle.stl_syntax.proofs.CharacterLemmas.{all-push}
 use Rattle.stl_grammar.proofs.chars.word_len.Goals as goal
 
 pub loop-i-preserved : goal.loop-i-preserved

@@ -2,7 +2,8 @@
 use Rattle.std.proofs.Common.{◌≡◌, ◌+◌, ◌-◌, ◌*◌, ap, ◌∙◌, take, get_or, true, arith}
 use Rattle.std.proofs.lemmas.List.{take_more}
 use Rattle.stl_syntax.specs.Characters.{is_digit, decimal_value}
-use Rattle.trace_reader.proofs.DigitLemmas.{all-push, decimal_value-push}
+use Rattle.stl_syntax.proofs.CharacterLemmas.{all-push}
+use Rattle.stl_syntax.proofs.DecimalLemmas.{decimal_value-push}
 use Rattle.trace_reader.proofs.digits.leading_digits.Goals as goal
 use Rattle.trace_reader.proofs.digits.leading_digits.Goals.{then-value-lt-BEYOND, else-value-lt-BEYOND}
 

@@ -2,7 +2,8 @@
 use Rattle.std.proofs.Common.{◌≡◌, ◌∷◌, ◌∙◌, ◌-◌, ◌*◌, ◌^◌, length, take, min, sym, ap, subst, inl, inr, arith, true}
 use Rattle.std.proofs.lemmas.List.{take_all, take_rest, length-take-le}
 use Rattle.stl_syntax.specs.Characters.{is_digit, all, decimal_value, without_zeros}
-use Rattle.trace_reader.proofs.NumberLemmas.{numeral_cases, whole_read, decimal_read, shortened_digits, parted, decimal_places, IsRead}
+use Rattle.stl_syntax.proofs.DecimalLemmas.{all-without_zeros}
+use Rattle.trace_reader.proofs.NumberLemmas.{numeral_cases, whole_read, decimal_read, parted, decimal_places, IsRead}
 use Rattle.trace_reader.proofs.number.read_numeral.Goals as goal
 
 pub returns-then-whole-eq0 : goal.returns-then-whole-eq0
@@ -47,7 +48,7 @@ returns-then-decimals-most c = λ n k h few.
 pub go_on-requires-clause-digits : goal.go_on-requires-clause-digits
 go_on-requires-clause-digits c =
     let (d, more, is, digits, short) = rw take_rest at c.in_ok-decimals.ensures in
-    rw short (shortened_digits (d ∷ more) digits)
+    rw short (all-without_zeros (d ∷ more) digits)
 
 pub returns : goal.returns
 returns c =

@@ -1,0 +1,46 @@
+-- Signals whose knots are within the limits, one by one.
+use Rattle.std.proofs.Common.{◌≡◌, ℕ, suc, ◌+◌, ◌<◌, ◌≤◌, ◌^◌, ℤ, List, [], ◌∷◌, length, Some, refl, arith, lit<, subst}
+use Rattle.std.specs.Int.{w64}
+use Rattle.std.specs.Prelude.{slice_get}
+use Rattle.std.specs.Int.RustNames.{unsigned_abs}
+use Rattle.std.specs.declared.cmp.Ordering.{Ordering}
+use Rattle.std.specs.declared.cmp.Ordering.TheVariants.{Less, Equal, Greater}
+use Rattle.rational.specs.Rational.{Rational, IsOrder, IsWithin, FitsFloor, whole, add, subtract, ◌≤ʳ◌}
+use Rattle.rational.specs.Extended.{Affine}
+use Rattle.rational.proofs.Order.{le_of_lt, le_of_same, ge_of_same}
+use Rattle.rational.proofs.Mixed.{fits_of_within, within_add, within_negate, within_whole, within_more}
+use Rattle.pl_signal.specs.declared.knot.Knot.{Knot}
+use Rattle.pl_signal.specs.Limits.{IsLimitedKnot, IsLimited}
+use Rattle.conformance.specs.Tables.{IsSmall, IsLimitedAt}
+
+-- not later, by an answer
+pub not_after : (o : Ordering) (a b : Rational) → IsOrder o a b → ¬ (o ≡ Greater) → a ≤ʳ b
+not_after Less a b h n = le_of_lt h
+not_after Equal a b h n = le_of_same h
+not_after Greater a b h n = absurd (n refl)
+
+pub not_before : (o : Ordering) (a b : Rational) → IsOrder o a b → ¬ (o ≡ Less) → b ≤ʳ a
+not_before Less a b h n = absurd (n refl)
+not_before Equal a b h n = ge_of_same h
+not_before Greater a b h n = le_of_lt h
+
+-- a near time read backwards
+pub mirrored_within : (t : Rational) (about : ℤ) → unsigned_abs about ≤ 2 ^ 31 → IsWithin (2 ^ 33) t → IsWithin (2 ^ 34) (subtract (whole about) t)
+mirrored_within t about h k = within_more (2 ^ 31 + 2 ^ 33) (2 ^ 34) (omega arith) (within_add (2 ^ 31) (2 ^ 33) (within_whole (2 ^ 31) about h) (within_negate (2 ^ 33) k))
+
+module _ {P : Type 0} (function : P → Affine) where
+  -- knots that are limited at each place from one on
+  pub limited_of_places : (ks : List (Knot P)) → ((i : ℕ) → i < length ks → IsLimitedAt function ks i) → IsLimited function ks
+  limited_of_places [] h = tt
+  limited_of_places (k ∷ ks) h = (first ks (h 0 (omega arith)), limited_of_places ks (λ i l m e. later i (h (suc i) (omega arith) m e)))
+    where
+      first : (ks : List (Knot P)) → IsLimitedAt function (k ∷ ks) 0 → IsLimitedKnot function k ks
+      first [] s = let small = s k refl in record { when = small.when; point = small.point; limits = tt }
+      first (n ∷ ks) s = let small = s k refl in let limits = small.limits n refl in record { when = small.when; point = small.point; limits = (limits.first, limits.last) }
+
+      later : {m : Knot P} (i : ℕ) → IsSmall function (k ∷ ks) (suc i) m → IsSmall function ks i m
+      later i s = record { when = s.when; point = s.point; limits = λ n e. s.limits n (subst (λ p. slice_get (k ∷ ks) p ≡ Some n) (let a : suc (i + 1) ≡ suc i + 1 = omega arith in a) e) }
+
+-- a near time moved by a number of ticks has a floor that fits
+pub moved_fits : (t : Rational) (by : ℤ) → unsigned_abs by ≤ 2 ^ 31 → IsWithin (2 ^ 33) t → FitsFloor w64 (add t (whole by))
+moved_fits t by h k = fits_of_within w64 (2 ^ 33 + 2 ^ 31) (lit< tt) (within_add (2 ^ 33) (2 ^ 31) k (within_whole (2 ^ 31) by h))

@@ -1,0 +1,78 @@
+//! The signals of the operators over a window.
+ghost use Rattle.std.specs.Prelude.{◌≤◌, IfOk, IfErr};
+ghost use Rattle.stl_syntax.specs.Formula.{eventually, always, once, historically};
+ghost use Rattle.stl_syntax.specs.Limits.{reach_of_bound};
+ghost use Rattle.stl_syntax.specs.WellFormed.{IsInOrder};
+ghost use Rattle.offline_eval.specs.Making.{FaultOfOne, IsFit, StaysSound, TellsOne};
+
+use pl_signal::{OpFault, Signal};
+use value_laws::Shape;
+use window_ops::{inf_past, inf_window, sup_past, sup_window};
+
+/// Eventually: the Sup over the window ahead.
+pub(crate) fn some_ahead<P: Shape>(
+    x: &Signal<P>,
+    low: u32,
+    high: u32,
+    low_in: bool,
+    high_in: bool,
+) -> Result<Signal<P>, OpFault<P>>
+    requires fit { IsFit P.function P.base x.now }
+    requires order { low ≤ high }
+    ensures sound { IfOk result (StaysSound P.function P.base high x.now) }
+    ensures told { IfOk result (TellsOne P.function P.lowest P.highest (eventually low high low_in high_in) x.now) }
+    ensures wide { IfErr result (FaultOfOne P.function P.lowest P.highest (eventually low high low_in high_in) x.now) }
+{
+    sup_window(x, low, high, low_in, high_in)
+}
+
+/// Always: the Inf over the window ahead.
+pub(crate) fn each_ahead<P: Shape>(
+    x: &Signal<P>,
+    low: u32,
+    high: u32,
+    low_in: bool,
+    high_in: bool,
+) -> Result<Signal<P>, OpFault<P>>
+    requires fit { IsFit P.function P.base x.now }
+    requires order { low ≤ high }
+    ensures sound { IfOk result (StaysSound P.function P.base high x.now) }
+    ensures told { IfOk result (TellsOne P.function P.lowest P.highest (always low high low_in high_in) x.now) }
+    ensures wide { IfErr result (FaultOfOne P.function P.lowest P.highest (always low high low_in high_in) x.now) }
+{
+    inf_window(x, low, high, low_in, high_in)
+}
+
+/// Once: the Sup over the window behind.
+pub(crate) fn some_behind<P: Shape>(
+    x: &Signal<P>,
+    low: u32,
+    high: Option<u32>,
+    low_in: bool,
+    high_in: bool,
+) -> Result<Signal<P>, OpFault<P>>
+    requires fit { IsFit P.function P.base x.now }
+    requires order { IsInOrder low high }
+    ensures sound { IfOk result (StaysSound P.function P.base (reach_of_bound low high) x.now) }
+    ensures told { IfOk result (TellsOne P.function P.lowest P.highest (once low high low_in high_in) x.now) }
+    ensures wide { IfErr result (FaultOfOne P.function P.lowest P.highest (once low high low_in high_in) x.now) }
+{
+    sup_past(x, low, high, low_in, high_in)
+}
+
+/// Historically: the Inf over the window behind.
+pub(crate) fn each_behind<P: Shape>(
+    x: &Signal<P>,
+    low: u32,
+    high: Option<u32>,
+    low_in: bool,
+    high_in: bool,
+) -> Result<Signal<P>, OpFault<P>>
+    requires fit { IsFit P.function P.base x.now }
+    requires order { IsInOrder low high }
+    ensures sound { IfOk result (StaysSound P.function P.base (reach_of_bound low high) x.now) }
+    ensures told { IfOk result (TellsOne P.function P.lowest P.highest (historically low high low_in high_in) x.now) }
+    ensures wide { IfErr result (FaultOfOne P.function P.lowest P.highest (historically low high low_in high_in) x.now) }
+{
+    inf_past(x, low, high, low_in, high_in)
+}
