@@ -1,11 +1,11 @@
 -- Values within their limits: opposite ones, and the least and the greatest of two.
 use Rattle.std.proofs.Common.{ℕ, pos, neg_ℤ, ◌^◌, ◌⊎◌, inl, inr}
 use Rattle.rational.specs.Rational.{◌≤ʳ◌, ◌<ʳ◌, whole}
-use Rattle.rational.specs.Extended.{Extended, minus_infinity, finite, infinity, ◌≤ᵉ◌, ◌<ᵉ◌, opposite, IsLeast, IsGreatest, IsSup, IsInf}
+use Rattle.rational.specs.Extended.{Extended, minus_infinity, finite, infinity, ◌≤ᵉ◌, ◌<ᵉ◌, opposite, IsLeast, IsGreatest, IsInf}
 use Rattle.rational.specs.Affine.{IsBounded}
 use Rattle.rational.proofs.Order.{le_or_lt, le_trans, not_lt_of_le}
 use Rattle.rational.proofs.Field.{le_negate}
-use Rattle.offline_eval.proofs.Limits.{bounded_equal}
+use Rattle.rational.proofs.AffineLemmas.{bounded_same}
 
 -- minus a bounded value is bounded
 pub opposite_bounded : (v : Extended) → IsBounded (2 ^ 31) (opposite v) → IsBounded (2 ^ 31) v
@@ -18,52 +18,18 @@ pub least_bounded : (n : ℕ) (v w r : Extended) → IsLeast v w r → IsBounded
 least_bounded n v w r least h k = by_one least.one_of
   where
     by_one : (v ≤ᵉ r) ⊎ (w ≤ᵉ r) → IsBounded n r
-    by_one (inl e) = bounded_equal n r v (record { at_most = least.left; at_least = e }) h
-    by_one (inr e) = bounded_equal n r w (record { at_most = least.right; at_least = e }) k
+    by_one (inl e) = bounded_same n r v (record { at_most = least.left; at_least = e }) h
+    by_one (inr e) = bounded_same n r w (record { at_most = least.right; at_least = e }) k
 
 -- and so is the greatest
 pub greatest_bounded : (n : ℕ) (v w r : Extended) → IsGreatest v w r → IsBounded n v → IsBounded n w → IsBounded n r
 greatest_bounded n v w r greatest h k = by_one greatest.one_of
   where
     by_one : (r ≤ᵉ v) ⊎ (r ≤ᵉ w) → IsBounded n r
-    by_one (inl e) = bounded_equal n r v (record { at_most = e; at_least = greatest.left }) h
-    by_one (inr e) = bounded_equal n r w (record { at_most = e; at_least = greatest.right }) k
+    by_one (inl e) = bounded_same n r v (record { at_most = e; at_least = greatest.left }) h
+    by_one (inr e) = bounded_same n r w (record { at_most = e; at_least = greatest.right }) k
 
--- a Sup of bounded values is bounded
-pub sup_bounded : (n : ℕ) (lowest : Extended) (V : Extended → Type 0) (r : Extended) → IsSup lowest V r → IsBounded n lowest → ((v : Extended) → V v → IsBounded n v) → IsBounded n r
-sup_bounded n lowest V minus_infinity sup low all = tt
-sup_bounded n lowest V infinity sup low all = tt
-sup_bounded n lowest V (finite x) sup low all = (not_below (le_or_lt (whole (neg_ℤ (pos n))) x), not_above (le_or_lt x (whole (pos n))))
-  where
-    lowest_at_most : (l : Extended) → l ≤ᵉ finite x → IsBounded n l → l ≤ᵉ finite (whole (pos n))
-    lowest_at_most minus_infinity h b = tt
-    lowest_at_most (finite y) h b = b.1
-    lowest_at_most infinity h b = absurd h
-
-    member_above : (v : Extended) → finite (whole (pos n)) <ᵉ v → v ≤ᵉ finite x → IsBounded n v → ⊥
-    member_above minus_infinity h k b = h
-    member_above (finite y) h k b = not_lt_of_le b.1 h
-    member_above infinity h k b = k
-
-    not_above : (x ≤ʳ whole (pos n)) ⊎ (whole (pos n) <ʳ x) → x ≤ʳ whole (pos n)
-    not_above (inl h) = h
-    not_above (inr h) = let m = sup.reached (finite (whole (pos n))) (lowest_at_most lowest sup.at_least low) h in absurd (member_above m.0 m.2 (sup.bound m.0 m.1) (all m.0 m.1))
-
-    member_below : (v : Extended) → minus_infinity <ᵉ v → v ≤ᵉ finite x → IsBounded n v → whole (neg_ℤ (pos n)) ≤ʳ x
-    member_below minus_infinity h k b = absurd h
-    member_below (finite y) h k b = le_trans b.0 k
-    member_below infinity h k b = absurd k
-
-    from_lowest : (l : Extended) → l ≤ᵉ finite x → IsBounded n l → ((w : Extended) → l ≤ᵉ w → w <ᵉ finite x → (v : Extended) × V v × (w <ᵉ v)) → whole (neg_ℤ (pos n)) ≤ʳ x
-    from_lowest minus_infinity h b reached = let m = reached minus_infinity tt tt in member_below m.0 m.2 (sup.bound m.0 m.1) (all m.0 m.1)
-    from_lowest (finite y) h b reached = le_trans b.0 h
-    from_lowest infinity h b reached = absurd h
-
-    not_below : (whole (neg_ℤ (pos n)) ≤ʳ x) ⊎ (x <ʳ whole (neg_ℤ (pos n))) → whole (neg_ℤ (pos n)) ≤ʳ x
-    not_below (inl h) = h
-    not_below (inr h) = from_lowest lowest sup.at_least low sup.reached
-
--- and so is an Inf
+-- an Inf of bounded values is bounded
 pub inf_bounded : (n : ℕ) (highest : Extended) (V : Extended → Type 0) (r : Extended) → IsInf highest V r → IsBounded n highest → ((v : Extended) → V v → IsBounded n v) → IsBounded n r
 inf_bounded n highest V minus_infinity inf high all = tt
 inf_bounded n highest V infinity inf high all = tt

@@ -1,4 +1,3 @@
-pub mod Limits
 pub mod Bounds
 pub mod Along
 pub mod Sound

@@ -1,12 +1,13 @@
 -- Negation, and the least and the greatest of two, as formulas.
-use Rattle.std.proofs.Common.{◌≡◌, inl, inr, ℕ, ◌^◌, List, refl, sym, subst}
+use Rattle.std.proofs.Common.{◌≡◌, inl, inr, ℕ, ◌^◌, List, sym, subst}
 use Rattle.std.specs.Prelude.{Result, IfOk, IfErr, IsErrAnd, Ok, Err}
 use Rattle.rational.specs.Time.{Rational, Within}
-use Rattle.rational.specs.Extended.{Extended, minus_infinity, finite, infinity, Affine, value_at, opposite, IsGreatest}
+use Rattle.rational.specs.Extended.{Extended, Affine, value_at, opposite, IsGreatest}
 use Rattle.rational.specs.Windows.{Function}
 use Rattle.rational.specs.Affine.{IsBounded}
 use Rattle.rational.specs.InPlay.{Step, of_two, IsInPlay, IsWideCrossing}
 use Rattle.rational.proofs.Order.{le_trans, lt_of_le_of_lt, lt_of_lt_of_le, le_of_same, ge_of_same, same_refl}
+use Rattle.rational.proofs.ExtendedLemmas.{opposite_twice}
 use Rattle.rational.proofs.AffineLemmas.{same_reflᵉ}
 use Rattle.frac128.specs.Value.{value}
 use Rattle.frac128.specs.declared.frac.Frac.{Frac}
@@ -25,7 +26,7 @@ use Rattle.offline_eval.specs.Making.{TellsOne, TellsTwo, FaultOfTwo, IsFaultOf}
 use Rattle.offline_eval.proofs.InPlay.{crossing_along}
 use Rattle.offline_eval.proofs.Along.{tells_along}
 use Rattle.offline_eval.proofs.Bounds.{opposite_bounded, least_bounded, greatest_bounded}
-use Rattle.offline_eval.proofs.Limits.{values_bounded}
+use Rattle.pl_signal.proofs.Limits.{worth_bounded}
 
 -- what follows from both facts of an answer
 pub ok_both : {A E : Type 0} (r : Result A E) {X Y Z : A → Type 0} → IfOk r X → IfOk r Y → ((a : A) → X a → Y a → Z a) → IfOk r Z
@@ -39,13 +40,13 @@ err_same (Err y) e X h x = subst X (sym h) x
 
 module _ {P : Type 0} (function : P → Affine) where
   pub negated_bounded : (x : List (Knot P)) → IsLimited function x → (t : Rational) (v : Extended) → Negated (IsWorth function x) t v → IsBounded (2 ^ 31) v
-  negated_bounded x l t v w = opposite_bounded v (values_bounded function x t (opposite v) l w)
+  negated_bounded x l t v w = opposite_bounded v (worth_bounded function x l t (opposite v) w)
 
   pub least_of_bounded : (x y : List (Knot P)) → IsLimited function x → IsLimited function y → (t : Rational) (v : Extended) → LeastOf (IsWorth function x) (IsWorth function y) t v → IsBounded (2 ^ 31) v
-  least_of_bounded x y l m t v (a, b, f, g, h) = least_bounded (2 ^ 31) a b v h (values_bounded function x t a l f) (values_bounded function y t b m g)
+  least_of_bounded x y l m t v (a, b, f, g, h) = least_bounded (2 ^ 31) a b v h (worth_bounded function x l t a f) (worth_bounded function y m t b g)
 
   pub greatest_of_bounded : (x y : List (Knot P)) → IsLimited function x → IsLimited function y → (t : Rational) (v : Extended) → GreatestOf (IsWorth function x) (IsWorth function y) t v → IsBounded (2 ^ 31) v
-  greatest_of_bounded x y l m t v (a, b, f, g, h) = greatest_bounded (2 ^ 31) a b v h (values_bounded function x t a l f) (values_bounded function y t b m g)
+  greatest_of_bounded x y l m t v (a, b, f, g, h) = greatest_bounded (2 ^ 31) a b v h (worth_bounded function x l t a f) (worth_bounded function y m t b g)
 
   -- a signal that tells a function is worth at a time of the domain just what the function says
   pub value_of : (F : Function) (from to : Rational) (x : List (Knot P)) (t : Rational) (v : Extended) → Tells function F from to x → Within from to t → (IsWorth function x t v → F t v) × (F t v → IsWorth function x t v)
@@ -69,11 +70,6 @@ module _ {P : Type 0} (function : P → Affine) (lowest highest : Extended) wher
         λ (a, b, f, g, h). (a, b, (value_of function (SupInf p s) s.from s.to x t a left i).0 f, (value_of function (SupInf q s) s.from s.to y t b right i).0 g, h),
         λ (a, b, f, g, h). (a, b, (value_of function (SupInf p s) s.from s.to x t a left i).1 f, (value_of function (SupInf q s) s.from s.to y t b right i).1 g, h),
       ))
-
-twice_opposite : (v : Extended) → opposite (opposite v) ≡ v
-twice_opposite minus_infinity = refl
-twice_opposite (finite x) = refl
-twice_opposite infinity = refl
 
 module _ {P : Type 0} (function : P → Affine) where
   -- where two parts meet, both are in play
@@ -109,8 +105,8 @@ module _ {P : Type 0} (function : P → Affine) where
   told_implied lowest highest x y n r turned made s p q ends left right =
       tells_along function (SupInf (disjunction (negation p) q) s) (SupInf (implication p q) s) s.from s.to s.from s.to r (made s (negation p) q ends (turned s p ends left) right) (same_refl s.from) (same_refl s.to)
       (λ t v i. (
-        λ (a, b, f, g, h). (opposite a, b, f, g, subst (λ a. IsGreatest a b v) (sym (twice_opposite a)) h),
-        λ (a, b, f, g, h). (opposite a, b, subst (SupInf p s t) (sym (twice_opposite a)) f, g, h),
+        λ (a, b, f, g, h). (opposite a, b, f, g, subst (λ a. IsGreatest a b v) (sym (opposite_twice a)) h),
+        λ (a, b, f, g, h). (opposite a, b, subst (SupInf p s t) (sym (opposite_twice a)) f, g, h),
       ))
 
   pub fault_implied : (lowest highest : Extended) (x y n : List (Knot P)) (e : OpFault P) → TellsOne function lowest highest negation x n → FaultOfTwo function lowest highest disjunction n y e → FaultOfTwo function lowest highest implication x y e

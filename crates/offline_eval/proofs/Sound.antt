@@ -13,7 +13,7 @@ use Rattle.pl_signal.specs.Knots.{start, stop, HasShape}
 use Rattle.pl_signal.specs.Limits.{IsLimited}
 use Rattle.pl_signal.specs.Moves.{Tells}
 use Rattle.offline_eval.specs.Making.{IsSound, StaysSound, StaySound}
-use Rattle.offline_eval.proofs.Limits.{limited}
+use Rattle.pl_signal.proofs.Limits.{limited}
 
 -- the bases that a signal may have whose shapes were moved by at most `reach`
 abbrev pub IsReached : ℕ → ℤ → Type 0

@@ -8,7 +8,7 @@ use Rattle.rational.specs.Affine.{IsBounded}
 use Rattle.rational.specs.Extended.{Extended, Affine, value_at, ◌≈ᵉ◌, Passes}
 use Rattle.rational.proofs.Order.{same_trans, same_refl, le_trans, lt_of_le_of_lt, lt_of_lt_of_le, le_of_same, ge_of_same}
 use Rattle.rational.proofs.Shift.{le_whole, lt_whole}
-use Rattle.rational.proofs.AffineLemmas.{same_symᵉ, same_transᵉ, value_same}
+use Rattle.rational.proofs.AffineLemmas.{bounded_same, same_symᵉ, same_transᵉ, value_same}
 use Rattle.frac128.specs.Value.{value}
 use Rattle.frac128.specs.declared.frac.Frac.{Frac}
 use Rattle.pl_signal.specs.declared.knot.Knot.{Knot}
@@ -20,7 +20,7 @@ use Rattle.stl_syntax.specs.SupInf.{Setting, SupInf}
 use Rattle.offline_eval.specs.Inputs.{IsOver}
 use Rattle.offline_eval.specs.Making.{IsSound, TellsValue}
 use Rattle.offline_eval.proofs.Along.{tells_along}
-use Rattle.offline_eval.proofs.Limits.{limited, bounded_equal}
+use Rattle.pl_signal.proofs.Limits.{limited}
 use Rattle.offline_eval.proofs.Sound.{reached_zero}
 use Rattle.pl_signal.proofs.Telling.{IsFunction, told}
 
@@ -94,7 +94,7 @@ module _ {P : Type 0} (function : P → Affine) where
   steady_sound base from to r p order small tells shapes still bounded = record {
     begins = tells.begins;
     ends = tells.ends;
-    limited = limited function r tells.signal (λ t v w. bounded_equal (2 ^ 31) v (value_at (function p) t) ((tells.worth t v).0 w).1 (bounded t))
+    limited = limited function r tells.signal (λ t v w. bounded_same (2 ^ 31) v (value_at (function p) t) ((tells.worth t v).0 w).1 (bounded t))
         (tick_within from (omega (arith, order, small)) tells.begins) (tick_within to small tells.ends);
     bases = λ q h. reached_zero 0 (base q) (subst (λ q. base q ≡ pos 0) (sym (shapes q h)) still);
   }
@@ -122,5 +122,5 @@ told_constant function lowest highest from to holds p r tells value s over =
 -- the extreme values are bounded
 pub extreme_bounded : (f : Affine) (lowest highest : Extended) (holds : Bool) → IsBounded (2 ^ 31) lowest → IsBounded (2 ^ 31) highest
     → MatchBool holds ((t : Rational) → value_at f t ≈ᵉ highest) ((t : Rational) → value_at f t ≈ᵉ lowest) → (t : Rational) → IsBounded (2 ^ 31) (value_at f t)
-extreme_bounded f lowest highest true low high h t = bounded_equal (2 ^ 31) (value_at f t) highest (h t) high
-extreme_bounded f lowest highest false low high h t = bounded_equal (2 ^ 31) (value_at f t) lowest (h t) low
+extreme_bounded f lowest highest true low high h t = bounded_same (2 ^ 31) (value_at f t) highest (h t) high
+extreme_bounded f lowest highest false low high h t = bounded_same (2 ^ 31) (value_at f t) lowest (h t) low

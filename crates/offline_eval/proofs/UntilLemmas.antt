@@ -3,12 +3,13 @@ use Rattle.std.proofs.Common.{◌≡◌, ◌⊎◌, inl, inr, ℕ, ℤ, pos, neg
 use Rattle.std.specs.Prelude.{Option, Some, IfSome, IsTrue}
 use Rattle.std.proofs.lemmas.Int.{ints}
 use Rattle.rational.specs.Time.{Rational, Within, ◌≈◌}
-use Rattle.rational.specs.Extended.{Extended, ◌≤ᵉ◌, ◌<ᵉ◌, ◌≈ᵉ◌, Affine, IsSup}
+use Rattle.rational.specs.Extended.{Extended, ◌≈ᵉ◌, Affine, IsSup}
 use Rattle.rational.specs.Affine.{IsBounded}
 use Rattle.rational.specs.Windows.{Function, Window, Ahead, Behind, IsSupOver, IsInfOver, IsUntil, IsSince, UntilToEnd, SinceFromStart, IsUpTo, IsDownTo}
 use Rattle.rational.specs.InPlay.{until_end, since_start, window_ahead, window_behind}
 use Rattle.rational.proofs.Order.{le_trans, le_of_same, ge_of_same, lt_of_le_of_lt, same_refl, same_sym, same_trans}
-use Rattle.rational.proofs.ExtendedLemmas.{le_totalᵉ, clashᵉ}
+use Rattle.rational.proofs.ExtendedLemmas.{Sup-unique}
+use Rattle.rational.proofs.TimeLemmas.{within_stretch}
 use Rattle.rational.proofs.WindowLemmas.{sup_alike}
 use Rattle.pl_signal.specs.declared.knot.Knot.{Knot}
 use Rattle.pl_signal.specs.declared.faults.OpFault.{OpFault}
@@ -26,24 +27,18 @@ use Rattle.stl_syntax.specs.SupInf.{Setting, SupInf}
 use Rattle.stl_syntax.specs.WideCause.{until_to_end, since_from_start, always_ahead, sup_ahead, inf_behind, sup_behind}
 use Rattle.offline_eval.specs.Making.{HasEnds, IsFit, AreFit, IsFaultOf}
 use Rattle.offline_eval.proofs.Along.{within_same_ends, tells_along}
-use Rattle.offline_eval.proofs.Bounds.{sup_bounded, least_bounded}
+use Rattle.rational.proofs.Bounds.{sup_bounded}
+use Rattle.offline_eval.proofs.Bounds.{least_bounded}
 use Rattle.offline_eval.proofs.InPlay.{ahead_ends, behind_ends, until_along, since_along}
-use Rattle.offline_eval.proofs.Limits.{values_bounded}
+use Rattle.pl_signal.proofs.Limits.{worth_bounded}
 use Rattle.offline_eval.proofs.Pointwise.{meeting_fault}
 use Rattle.offline_eval.proofs.Sound.{IsMovedBy, limited_along}
 use Rattle.offline_eval.proofs.Stretches.{IsOn, AreAlike}
 use Rattle.offline_eval.proofs.WindowLemmas.{on_of, inf_of, inf_over_bounded, cause_of, ahead_cause, behind_cause, sup_ahead_told, inf_ahead_told, sup_behind_told, inf_behind_told, ComesFrom}
 
 -- a set has one Sup
-sup_most : {V : Extended → Type 0} (lowest r w : Extended) → IsSup lowest V r → IsSup lowest V w → r ≤ᵉ w
-sup_most lowest r w h k = by_order (le_totalᵉ r w)
-  where
-    by_order : (r ≤ᵉ w) ⊎ (w <ᵉ r) → r ≤ᵉ w
-    by_order (inl l) = l
-    by_order (inr l) = let m = h.reached w k.at_least l in clashᵉ w m.0 m.2 (k.bound m.0 m.1)
-
 pub one_sup : {V : Extended → Type 0} (lowest r w : Extended) → IsSup lowest V r → IsSup lowest V w → r ≈ᵉ w
-one_sup lowest r w h k = record { at_most = sup_most lowest r w h k; at_least = sup_most lowest w r k h }
+one_sup lowest r w h k = record { at_most = Sup-unique lowest r w h k; at_least = Sup-unique lowest w r k h }
 
 module _ {P : Type 0} (function : P → Affine) where
   -- a signal whose values are those of a function that has one value at a time tells it
@@ -62,19 +57,16 @@ module _ {P : Type 0} (function : P → Affine) where
           worth_same function x o.0 v (same_refl t) (one t o.0 v (forth t o.0 o.1) f) o.1
 
   module _ (lowest highest : Extended) (F G : Function) (from to : Rational) (x y : List (Knot P)) (left : Tells function F from to x) (right : Tells function G from to y) where
-    within_between : {t u v : Rational} → Within from to t → Within from to u → Within t u v → Within from to v
-    within_between i j w = record { above = le_trans i.above w.above; below = le_trans w.below j.below }
-
     up_to_of : (t u : Rational) (v : Extended) → Within from to t → Within from to u → (IsUpTo highest (IsWorth function x) (IsWorth function y) t u v → IsUpTo highest F G t u v) × (IsUpTo highest F G t u v → IsUpTo highest (IsWorth function x) (IsWorth function y) t u v)
     up_to_of t u v i j = (
-      λ (a, b, q, p, l). (a, b, ((right.worth u a).0 q).1, (inf_of function F from to x (Within t u) (Within t u) highest b left (λ w k. k) (λ w k. k) (λ w k. within_between i j k)).0 p, l),
-      λ (a, b, q, p, l). (a, b, (right.worth u a).1 (j, q), (inf_of function F from to x (Within t u) (Within t u) highest b left (λ w k. k) (λ w k. k) (λ w k. within_between i j k)).1 p, l),
+      λ (a, b, q, p, l). (a, b, ((right.worth u a).0 q).1, (inf_of function F from to x (Within t u) (Within t u) highest b left (λ w k. k) (λ w k. k) (λ w k. within_stretch i j k)).0 p, l),
+      λ (a, b, q, p, l). (a, b, (right.worth u a).1 (j, q), (inf_of function F from to x (Within t u) (Within t u) highest b left (λ w k. k) (λ w k. k) (λ w k. within_stretch i j k)).1 p, l),
     )
 
     down_to_of : (t u : Rational) (v : Extended) → Within from to t → Within from to u → (IsDownTo highest (IsWorth function x) (IsWorth function y) t u v → IsDownTo highest F G t u v) × (IsDownTo highest F G t u v → IsDownTo highest (IsWorth function x) (IsWorth function y) t u v)
     down_to_of t u v i j = (
-      λ (a, b, q, p, l). (a, b, ((right.worth u a).0 q).1, (inf_of function F from to x (Within u t) (Within u t) highest b left (λ w k. k) (λ w k. k) (λ w k. within_between j i k)).0 p, l),
-      λ (a, b, q, p, l). (a, b, (right.worth u a).1 (j, q), (inf_of function F from to x (Within u t) (Within u t) highest b left (λ w k. k) (λ w k. k) (λ w k. within_between j i k)).1 p, l),
+      λ (a, b, q, p, l). (a, b, ((right.worth u a).0 q).1, (inf_of function F from to x (Within u t) (Within u t) highest b left (λ w k. k) (λ w k. k) (λ w k. within_stretch j i k)).0 p, l),
+      λ (a, b, q, p, l). (a, b, (right.worth u a).1 (j, q), (inf_of function F from to x (Within u t) (Within u t) highest b left (λ w k. k) (λ w k. k) (λ w k. within_stretch j i k)).1 p, l),
     )
 
     until_of : (W W' : Window) (t : Rational) (v : Extended) → Within from to t → ((u : Rational) → W u → W' u) → ((u : Rational) → W' u → W u) → ((u : Rational) → W' u → Within from to u)
@@ -207,13 +199,13 @@ module _ {P : Type 0} (function : P → Affine) where
   -- the values of until to the end and of since from the start are bounded
   to_end_bounded : (lowest highest : Extended) (x y : List (Knot P)) → IsBounded (2 ^ 31) lowest → IsBounded (2 ^ 31) highest → IsLimited function x → IsLimited function y
       → (t : Rational) (v : Extended) → UntilOf function lowest highest x y t v → IsBounded (2 ^ 31) v
-  to_end_bounded lowest highest x y low high l m t v sup = sup_bounded (2 ^ 31) lowest _ v sup low
-      (λ z (u, w, (a, b, q, p, least)). least_bounded (2 ^ 31) a b z least (values_bounded function y u a m q) (inf_over_bounded function highest x (Within t u) b high l p))
+  to_end_bounded lowest highest x y low high l m t v sup = sup_bounded (2 ^ 31) _ lowest v low
+      (λ z (u, w, (a, b, q, p, least)). least_bounded (2 ^ 31) a b z least (worth_bounded function y m u a q) (inf_over_bounded function highest x (Within t u) b high l p)) sup
 
   from_start_bounded : (lowest highest : Extended) (x y : List (Knot P)) → IsBounded (2 ^ 31) lowest → IsBounded (2 ^ 31) highest → IsLimited function x → IsLimited function y
       → (t : Rational) (v : Extended) → SinceOf function lowest highest x y t v → IsBounded (2 ^ 31) v
-  from_start_bounded lowest highest x y low high l m t v sup = sup_bounded (2 ^ 31) lowest _ v sup low
-      (λ z (u, w, (a, b, q, p, least)). least_bounded (2 ^ 31) a b z least (values_bounded function y u a m q) (inf_over_bounded function highest x (Within u t) b high l p))
+  from_start_bounded lowest highest x y low high l m t v sup = sup_bounded (2 ^ 31) _ lowest v low
+      (λ z (u, w, (a, b, q, p, least)). least_bounded (2 ^ 31) a b z least (worth_bounded function y m u a q) (inf_over_bounded function highest x (Within u t) b high l p)) sup
 
   module _ (base : P → ℤ) (moves : P → Bool) (others : (p : P) → moves p ≡ false → base p ≡ pos 0) where
     near_zero : (b : ℤ) → b ≡ pos 0 → (neg_ℤ (pos (2 ^ 32)) ≤ℤ b) × (b ≤ℤ pos (2 ^ 33))

@@ -27,8 +27,9 @@ use Rattle.stl_syntax.specs.Limits.{reach_of_bound}
 use Rattle.stl_syntax.specs.WellFormed.{IsInOrder}
 use Rattle.offline_eval.specs.Making.{IsFaultOf}
 use Rattle.offline_eval.proofs.Along.{tells_along, within_same_ends}
-use Rattle.offline_eval.proofs.Bounds.{sup_bounded, inf_bounded}
-use Rattle.offline_eval.proofs.Limits.{values_bounded}
+use Rattle.rational.proofs.Bounds.{sup_bounded}
+use Rattle.offline_eval.proofs.Bounds.{inf_bounded}
+use Rattle.pl_signal.proofs.Limits.{worth_bounded}
 use Rattle.offline_eval.proofs.Sound.{IsMovedBy}
 use Rattle.offline_eval.proofs.Stretches.{IsOn}
 use Rattle.offline_eval.proofs.InPlay.{ahead_ends, behind_ends, ahead_along, behind_along, crossing_along, value_along}
@@ -84,10 +85,10 @@ module _ {P : Type 0} (function : P → Affine) where
 
   -- the Sup and the Inf over a window of a limited signal are bounded
   pub sup_over_bounded : (lowest : Extended) (x : List (Knot P)) (W : Window) (r : Extended) → IsBounded (2 ^ 31) lowest → IsLimited function x → IsSupOver lowest W (IsWorth function x) r → IsBounded (2 ^ 31) r
-  sup_over_bounded lowest x W r low limited sup = sup_bounded (2 ^ 31) lowest _ r sup low (λ v (u, w, f). values_bounded function x u v limited f)
+  sup_over_bounded lowest x W r low limited sup = sup_bounded (2 ^ 31) _ lowest r low (λ v (u, w, f). worth_bounded function x limited u v f) sup
 
   pub inf_over_bounded : (highest : Extended) (x : List (Knot P)) (W : Window) (r : Extended) → IsBounded (2 ^ 31) highest → IsLimited function x → IsInfOver highest W (IsWorth function x) r → IsBounded (2 ^ 31) r
-  inf_over_bounded highest x W r high limited inf = inf_bounded (2 ^ 31) highest _ r inf high (λ v (u, w, f). values_bounded function x u v limited f)
+  inf_over_bounded highest x W r high limited inf = inf_bounded (2 ^ 31) highest _ r inf high (λ v (u, w, f). worth_bounded function x limited u v f)
 
   -- a cause in a step that is one of the formula's is a fault of the formula
   pub cause_of : (step other : Step) (from to : Rational) (p : Subformula) (s : Setting) (e : OpFault P) → from ≈ s.from → to ≈ s.to
