@@ -17,3 +17,4 @@ pub mod Progress
 pub mod LastFaults
 pub mod FaultsStay
 pub mod Runs
+pub mod Judged

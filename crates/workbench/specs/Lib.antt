@@ -10,3 +10,4 @@ pub mod Lines
 pub mod Reading
 pub mod Cases
 pub mod Run
+pub mod Judging
