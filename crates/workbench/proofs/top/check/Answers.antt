@@ -4,8 +4,11 @@ use Rattle.workbench.proofs.Endings.{some_rows}
 use Rattle.workbench.proofs.Runs.{not_unread, only_unwritten}
 use Rattle.workbench.proofs.top.check.Goals as goal
 
-pub judge-requires : goal.judge-requires
-judge-requires g c = let t = c.in-Ok.ensures.read.whole.trace in some_rows _ c.in-Ok.case.trace.rows t.text.rising.rows
+pub judge-requires-clause-case : goal.judge-requires-clause-case
+judge-requires-clause-case g c = (c.args.formula.now, c.in-Ok.ensures.read.case)
+
+pub judge-requires-clause-some : goal.judge-requires-clause-some
+judge-requires-clause-some g c = let t = c.in-Ok.ensures.read.whole.trace in some_rows _ c.in-Ok.case.trace.rows t.text.rising.rows
 
 pub returns-in-Err-clause-ending : goal.returns-in-Err-clause-ending
 returns-in-Err-clause-ending g c = stopped c.in-Err.stop c.in-Err.ensures.read
