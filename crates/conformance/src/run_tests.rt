@@ -609,6 +609,30 @@ fn traces_have_limits(rt: HostRuntime) -> Result<(), Fail> {
     Ok(())
 }
 
+/// Rows at the times from 0 on, whose values go to and fro between 0 and 1.
+fn to_and_fro(alloc: Global, rows: usize) -> Result<String, AllocError> {
+    let mut text = String::from_str(alloc, "time,x:step\n")?;
+    for k in 0..rows {
+        write!(text, "{k},{}\n", k % 2)?;
+    }
+    Ok(text)
+}
+
+#[test]
+fn a_long_window_over_many_rows_is_judged(rt: HostRuntime) -> Result<(), Fail> {
+    let alloc = rt.alloc();
+    let input = to_and_fro(alloc, 32_768)?;
+    let case = Case {
+        words: &["check", "always[0,100000] x >= 1"],
+        input: input.as_str(),
+        out: "[0,32767) false\n[32767,32767] true\nstart false\n",
+        err: "",
+        status: 1,
+    };
+    assert!(rt; agrees(alloc, case, pieces(4096))?);
+    Ok(())
+}
+
 fn refused<'a>(words: &'a [&'a str], err: &'a str, status: u8) -> Case<'a> {
     Case {
         words,
