@@ -86,9 +86,12 @@ ended_is f bytes limits h later c fits rows header same whole = record {
 
 module _ (f : Formula) (old new : Reader) (case : Option Case) (bytes : List ℕ) (k : IsKept f old case bytes) (limits : new.limits ≡ old.limits) (least : new.least ≡ old.least) where
   as_whole : (later : List Row) → IsWholeTrace new bytes later → (h : Heading) × (new.heading ≡ Some h) × HasTrace bytes old.limits f.scale (record { header = header_of f.scale h; rows = later })
-  as_whole later (h, some, whole) =
-      (h, some, subst (λ (s : Scale). HasTrace bytes old.limits s (record { header = header_of s h; rows = later })) (least ∙ k.least)
-      (subst (λ (l : Limits). HasTrace bytes l new.least (record { header = header_of new.least h; rows = later })) limits whole))
+  as_whole later (h, some, whole) = (
+    h,
+    some,
+    subst (λ (s : Scale). HasTrace bytes old.limits s (record { header = header_of s h; rows = later })) (least ∙ k.least)
+        (subst (λ (l : Limits). HasTrace bytes l new.least (record { header = header_of new.least h; rows = later })) limits whole),
+  )
 
   -- without a row more
   pub ended_now : IsWholeTrace new bytes k.rows → MatchOption case ⊥ (IsEnded old.limits f bytes)
@@ -139,9 +142,12 @@ module _ (f : Formula) (old new : Reader) (case : Option Case) (bytes : List ℕ
         let (n, g, at, e) = header_read read in
         let mine : h' ≡ h = (let p = sym some' ∙ some in cc) in
         let place : n ≡ length (lines true bytes) = last_header k.stands none at in
-        let told : x.line ≡ length (lines true bytes) = line ∙ sym (lines_count k.stands) in
-        (g, subst (λ m. IsHeaderAt (lines true bytes) m g) (place ∙ sym told) at,
-        ap (λ (y : Heading). header_of f.scale y) (sym mine) ∙ ap (λ (s : Scale). header_of s h') (sym (least ∙ k.least)) ∙ e ∙ ap (λ (s : Scale). header_of s g) (least ∙ k.least), told)
+        let told : x.line ≡ length (lines true bytes) = line ∙ sym (lines_count k.stands) in (
+          g,
+          subst (λ m. IsHeaderAt (lines true bytes) m g) (place ∙ sym told) at,
+          ap (λ (y : Heading). header_of f.scale y) (sym mine) ∙ ap (λ (s : Scale). header_of s h') (sym (least ∙ k.least)) ∙ e ∙ ap (λ (s : Scale). header_of s g) (least ∙ k.least),
+          told,
+        )
 
     no_lack_now : ((o : Option Heading) → old.heading ≡ o → IsTied f o bytes k.rows case → (y : Fault) → ¬ IsLack old.limits f bytes true y) → IsInputFault old.limits f bytes true (of_trace x)
     no_lack_now none = inr (λ y lack. none old.heading refl k.tied y lack, (x, here, refl))
@@ -172,8 +178,8 @@ module _ (f : Formula) (old new : Reader) (case : Option Case) (bytes : List ℕ
         let first_none = tied_case old.heading k.tied none in
         let (g, at, agree, told) = in_last first_none end h some in
         let clean : (r : TraceRefusal) → ¬ FaultFrom old.limits f.scale false 1 (take x.line (lines true bytes)) r =
-            λ r fault. clean_from old.limits f.scale x end 1 (lines true bytes) here r
-            (subst (λ ls. FaultFrom old.limits f.scale false 1 ls r) (take_all x.line (lines true bytes) (omega (arith, told))) fault) in
+        λ r fault. clean_from old.limits f.scale x end 1 (lines true bytes) here r
+        (subst (λ ls. FaultFrom old.limits f.scale false 1 ls r) (take_all x.line (lines true bytes) (omega (arith, told))) fault) in
         (y, is, inl (x.line, g, at, lacking_same f x.line h g y agree lacking, clean))
     from_header Unread h none end some no_begin = no_begin
     from_header Unwritten h none end some no_begin = no_begin

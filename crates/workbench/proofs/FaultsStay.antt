@@ -32,9 +32,13 @@ lack_stays limits f bytes more ended x (n, h, at, lacking, clean) =
     let front = header_in_front p.front line (subst (λ ls. IsHeaderAt ls n h) now at) in
     let within = (header_within front).1 in
     let same : take n (lines ended (bytes ++ more)) ≡ take n (lines false bytes) =
-    ap (take n) (p.joins ended more) ∙ take-append-le n p.front (lines ended (line ++ more)) within ∙ sym (ap (take n) now ∙ take-append-le n p.front (rest false line) within) in
-    (n, h, subst (λ ls. IsHeaderAt ls n h) (sym (p.joins ended more)) (header_stays (lines ended (line ++ more)) front), lacking,
-    λ r fault. clean r (subst (λ ls. FaultFrom limits f.scale false 1 ls r) same fault))
+    ap (take n) (p.joins ended more) ∙ take-append-le n p.front (lines ended (line ++ more)) within ∙ sym (ap (take n) now ∙ take-append-le n p.front (rest false line) within) in (
+      n,
+      h,
+      subst (λ ls. IsHeaderAt ls n h) (sym (p.joins ended more)) (header_stays (lines ended (line ++ more)) front),
+      lacking,
+      λ r fault. clean r (subst (λ ls. FaultFrom limits f.scale false 1 ls r) same fault),
+    )
 
 -- bytes that begin with a fault have one
 pub unsound : (limits : Limits) (f : Formula) (bytes more : List ℕ) (x : Fault) → IsInputFault limits f bytes false x → ¬ IsSound limits f (bytes ++ more) true

@@ -185,13 +185,17 @@ kept_begun f old new case bytes more n h g c k first s least some line begun = r
   ticks = k.ticks;
   least = least;
   stands = subst (StandsFor new more) (k.stands.taken.goes_on.blank first).1 s;
-  tied = subst (λ o. IsTied f o more [] (Some c)) (sym some) (begun.case, ap (λ (t : Trace). t.rows) begun.trace, record {
-    line = n;
-    heading = g;
-    is = ap (λ (t : Trace). t.header) begun.trace;
-    at = line.at;
-    fits = begun.fits;
-  });
+  tied = subst (λ o. IsTied f o more [] (Some c)) (sym some) (
+    begun.case,
+    ap (λ (t : Trace). t.rows) begun.trace,
+    record {
+      line = n;
+      heading = g;
+      is = ap (λ (t : Trace). t.header) begun.trace;
+      at = line.at;
+      fits = begun.fits;
+    },
+  );
 }
 
 -- what goes on

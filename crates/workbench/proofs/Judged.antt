@@ -106,10 +106,17 @@ at_start (l ∷ ks) k h t e =
 some_is : {X : Type 0} {x y : X} → Some x ≡ Some y → x ≡ y
 some_is e = cc
 
-module _ (c : Case) (f : Formula) (case : IsCase f c) (values : HasValues (root c.formula.nodes) (truth_setting c.trace))
-  (x : List (Knot Truth)) (tells : Tells truth_function (SupInf (root c.formula.nodes) (truth_setting c.trace)) (start c.trace) (stop c.trace) x)
-  (holds : Bool) (text : List ℕ) (is : IsSignalText truth_function c.formula.scale x holds text) where
+-- the root's signal tells the whole formula
+pub root_told : (c : Case) (signals : List (List (Knot Truth))) → AreNodesOf truth_function c signals → 0 < length c.formula.nodes
+    → (x : List (Knot Truth)) → slice_get signals (length c.formula.nodes - 1) ≡ Some x
+    → Tells truth_function (SupInf (root c.formula.nodes) (truth_setting c.trace)) (start c.trace) (stop c.trace) x
+root_told c signals all some x is =
+    let node = all.told (length c.formula.nodes - 1) (omega (arith, some)) in
+    subst (Tells truth_function (SupInf (root c.formula.nodes) (truth_setting c.trace)) (start c.trace) (stop c.trace)) (some_is (sym node.1 ∙ is)) node.2
 
+module _ (c : Case) (f : Formula) (case : IsCase f c) (values : HasValues (root c.formula.nodes) (truth_setting c.trace))
+    (x : List (Knot Truth)) (tells : Tells truth_function (SupInf (root c.formula.nodes) (truth_setting c.trace)) (start c.trace) (stop c.trace) x)
+    (holds : Bool) (text : List ℕ) (is : IsSignalText truth_function c.formula.scale x holds text) where
   -- what is worth the sign of a truth is that truth
   truth_at : (holds : Bool) (t : Rational) → knots.IsWorth truth_function x t (sign_of holds)
       → MatchBool holds (Holds (root c.formula.nodes) c.trace t) (¬ Holds (root c.formula.nodes) c.trace t)
@@ -128,9 +135,18 @@ module _ (c : Case) (f : Formula) (case : IsCase f c) (values : HasValues (root 
 
   own : Over c.formula
   unfolding Over
-  own = (now, (is.lines.verdicts, is.body, start_line holds,
+  own = (
+    now,
+    (
+      is.lines.verdicts,
+      is.body,
+      start_line holds,
       signal_describes truth_function (root c.formula.nodes) c.trace x values tells is.lines.verdicts is.lines.described,
-      is.lines.lines, (holds, now, refl), is.parts))
+      is.lines.lines,
+      (holds, now, refl),
+      is.parts,
+    ),
+  )
 
   pub judged : IsJudged f c.trace holds text
   unfolding Over

@@ -87,11 +87,15 @@ module _ {limits : Limits} {f : Formula} {before now : Option (List ℕ)} {reade
 -- why the reading stopped
 pub stop_from : (l limits : Limits) (f : Formula) (before after : Option (List ℕ)) (ended known : Bool) (bytes : List ℕ) (e : Stop) → l ≡ limits → ended ≡ known
     → IsRefused l f known bytes e → IsRead before after ended bytes → IsStop limits f before after ended e
-stop_from l limits f before after ended known bytes (Faulty fault) s k (x, is, first) read = (x, is, record {
-  bytes = bytes;
-  read = read;
-  fault = subst (λ (m : Limits). IsInputFault m f bytes ended x) s (subst (λ b. IsInputFault l f bytes b x) (sym k) first);
-})
+stop_from l limits f before after ended known bytes (Faulty fault) s k (x, is, first) read = (
+  x,
+  is,
+  record {
+    bytes = bytes;
+    read = read;
+    fault = subst (λ (m : Limits). IsInputFault m f bytes ended x) s (subst (λ b. IsInputFault l f bytes b x) (sym k) first);
+  },
+)
 stop_from l limits f before after ended known bytes Unread s k r read = absurd r
 stop_from l limits f before after ended known bytes Unwritten s k r read = absurd r
 stop_from l limits f before after ended known bytes NoMemory s k r read = tt

@@ -183,9 +183,11 @@ module _ (words : List (List ℕ)) (left left_after : Option (List ℕ)) (ended 
   run_refused (no_words none) s g bytes ask took = absurd (none ask.text ask.form)
   run_refused (no_formula text form end) s g bytes ask took = absurd (elim (bad_end end) [ inl e ↦ omega (arith, e, s) | inr e ↦ omega (arith, e, s) ])
   run_refused (checked f ending a e told) s g bytes ask took =
-      let (x, read) = fault_of f ending e s in
-      (x, subst (λ (h : Formula). IsInputFault whole_limits h bytes ended x) (ask_once a ask)
-      (subst (λ b. IsInputFault whole_limits f b ended x) (took_is took read.read.moved) read.fault))
+      let (x, read) = fault_of f ending e s in (
+        x,
+        subst (λ (h : Formula). IsInputFault whole_limits h bytes ended x) (ask_once a ask)
+            (subst (λ b. IsInputFault whole_limits f b ended x) (took_is took read.read.moved) read.fault),
+      )
 
   -- where there is one
   due : (f : Formula) (e : Result Bool Stop) → Ending f e → (bytes : List ℕ) (x : Fault) → Took left left_after bytes → IsInputFault whole_limits f bytes ended x → (status_of e ≡ 4) ⊎ (status_of e ≡ 7)

@@ -3,7 +3,6 @@ ghost use Rattle.std.specs.Prelude.{◌≡◌, ◌≤◌, ◌<◌, ◌+◌, leng
 ghost use Rattle.stl_syntax.specs.Formula.{Formula as Parsed};
 ghost use Rattle.stl_syntax.specs.Trace.{first_time, last_time};
 ghost use Rattle.atom_lines.specs.Binding.{IsBound};
-ghost use Rattle.offline_eval.specs.Evaluation.{IsBuilt};
 ghost use Rattle.workbench.specs.Cases.{IsCase};
 ghost use Rattle.workbench.specs.Answers.{IsJudged};
 ghost use Rattle.workbench.specs.Judging.{AreAtomsOf, AreNodesOf, IsSignalText};
@@ -11,6 +10,7 @@ ghost use Rattle.workbench.specs.Judging.{AreAtomsOf, AreNodesOf, IsSignalText};
 use crate::case::Case;
 use atom_lines::atom_signal;
 use frac128::{Memory, Steps};
+use offline_eval::laws::told_have_values;
 use offline_eval::{Atoms, EvalFault, Evaluated, eval};
 use pl_signal::Signal;
 use report::{put_start, put_verdicts};
@@ -46,12 +46,7 @@ fn last(trace: &Trace) -> u32
 }
 
 /// Adds the signal of the node, where it is an atom.
-fn add_atom(
-    alloc: Global,
-    case: &Case,
-    i: u32,
-    atoms: &mut Atoms<Truth>,
-) -> Result<(), Memory>
+fn add_atom(alloc: Global, case: &Case, i: u32, atoms: &mut Atoms<Truth>) -> Result<(), Memory>
     requires bound { IsBound case.now.bound case.now.formula case.now.trace.header }
     requires some { 0 < length case.now.trace.rows }
     requires inside { i < length case.now.formula.nodes }
@@ -86,7 +81,9 @@ fn atoms_of(alloc: Global, case: &Case) -> Result<Atoms<Truth>, Memory>
 fn nodes_of<L: Ledger>(alloc: Global, case: &Case, blank: Blank) -> Result<Evaluated<Truth>, Memory>
     requires bound { IsBound case.now.bound case.now.formula case.now.trace.header }
     requires some { 0 < length case.now.trace.rows }
-    requires built { IsBuilt case.now.formula.nodes }
+    requires name { blank.name ≡ L.name }
+    requires parts { blank.parts ≡ L.parts }
+    requires shares { 0 < blank.parts }
     ensures { IfOk result (AreNodesOf ⟦<Truth as Shape>⟧.function case.now) }
 {
     let atoms = atoms_of(alloc, case)?;
@@ -116,11 +113,11 @@ fn answer_of(alloc: Global, scale: Scale, s: &Signal<Truth>) -> Result<Answer, M
 pub(crate) fn judge(alloc: Global, case: &Case) -> Result<Answer, Memory>
     requires case { (f : Parsed) × IsCase f case.now }
     requires some { 0 < length case.now.trace.rows }
-    requires built { IsBuilt case.now.formula.nodes }
     ensures { IfOk result (λ a. (f : Parsed) → IsCase f case.now → IsJudged f case.now.trace a.holds a.text) }
 {
     let scale = case.formula.scale();
     let root = case.formula.len() - 1;
     let nodes = nodes_of::<Brand>(alloc, case, Blank::new(1))?;
+    told_have_values::<Truth>();
     answer_of(alloc, scale, nodes.signal(root))
 }

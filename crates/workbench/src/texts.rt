@@ -76,12 +76,7 @@ fn in_line(n: u64, message: &'static [u8]) -> Line<'static>
 }
 
 /// A line about line `n` of the trace, and one number more.
-fn with_number(
-    n: u64,
-    middle: &'static [u8],
-    number: u64,
-    tail: &'static [u8],
-) -> Line<'static>
+fn with_number(n: u64, middle: &'static [u8], number: u64, tail: &'static [u8]) -> Line<'static>
     ensures { line_text result ≡ codes "line " ++ (decimal n ++ (middle.now ++ (decimal number ++ tail.now))) }
 {
     Line {

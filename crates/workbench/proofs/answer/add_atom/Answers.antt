@@ -18,7 +18,7 @@ returns-in_ok-signal-in-Atom c =
     let rows = c.rows.ensures.trace (let e = c.rows.ensures.count in let some = c.requires.some in omega arith) in
     on_ok_weaker c.add.result
     (λ e. subst (AreAtomsOf truth_function (λ p. pos 0) c.args.case.now (c.args.i + 1)) (sym e)
-    (atom_on truth_function (λ p. pos 0) c.args.case.now c.args.i c.in-Atom.field-0 c.args.atoms.now c.in_ok-signal-in-Atom.signal at c.requires.bound rows (c.in_ok-signal-in-Atom.ensures tt) c.requires.before))
+    (atom_on truth_function (λ p. pos 0) c.args.case.now c.args.i c.in-Atom.field-0 c.args.atoms.now c.in_ok-signal-in-Atom.signal at c.requires.bound rows c.in_ok-signal-in-Atom.ensures c.requires.before))
     c.add.ensures.ok
 
 pub returns-in_default : goal.returns-in_default

@@ -15,8 +15,8 @@ returns-in-Ok-clause-ran g c =
     let told = c.finish.ensures.said in (
       told.0,
       checked_run (map string_bytes c.args.words.now) (g.S.Source.left c.args.input.now) (g.S.Source.left c.check-ending.new.input) (g.S.Source.ended c.check-ending.new.input)
-      (g.K.Sink.written c.args.out.now) (g.K.Sink.written c.check-ending.new.out) c.in-Ok.formula c.check-ending.result c.finish.result told.0 c.finish.ensures.status
-      (record { text = c.in-Some.text.now; form = c.in-Some.ensures; is = c.in-Ok.ensures.ok }) c.check-ending.ensures.ending told.1,
+          (g.K.Sink.written c.args.out.now) (g.K.Sink.written c.check-ending.new.out) c.in-Ok.formula c.check-ending.result c.finish.result told.0 c.finish.ensures.status
+          (record { text = c.in-Some.text.now; form = c.in-Some.ensures; is = c.in-Ok.ensures.ok }) c.check-ending.ensures.ending told.1,
       told.2,
     )
 

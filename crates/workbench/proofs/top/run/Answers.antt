@@ -38,9 +38,9 @@ returns-clause-cut_off g c = run_cut_off (map string_bytes c.args.words.now) (g.
 pub returns-clause-words : goal.returns-clause-words
 returns-clause-words g c = (
   run_words (map string_bytes c.args.words.now) (g.S.Source.left c.args.input.now) (g.S.Source.left c.obey.new.input) (g.S.Source.ended c.obey.new.input)
-    (g.K.Sink.written c.args.out.now) (g.K.Sink.written c.obey.new.out) c.obey.ensures.ran.1,
+      (g.K.Sink.written c.args.out.now) (g.K.Sink.written c.obey.new.out) c.obey.ensures.ran.1,
   run_no_words (map string_bytes c.args.words.now) (g.S.Source.left c.args.input.now) (g.S.Source.left c.obey.new.input) (g.S.Source.ended c.obey.new.input)
-    (g.K.Sink.written c.args.out.now) (g.K.Sink.written c.obey.new.out) c.obey.ensures.ran.1,
+      (g.K.Sink.written c.args.out.now) (g.K.Sink.written c.obey.new.out) c.obey.ensures.ran.1,
 )
 
 pub returns-clause-answer_due : goal.returns-clause-answer_due
