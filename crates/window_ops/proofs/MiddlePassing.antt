@@ -1,5 +1,5 @@
 -- How many knots a moving window has reached and left behind.
-use Rattle.std.proofs.Common.{◌≡◌, ℕ, zero, suc, ◌+◌, ◌-◌, ◌<◌, ◌≤◌, ◌^◌, inl, inr, List, [], ◌∷◌, refl, length, get_or, Some, pos, neg_ℤ, sym, ap, ◌∙◌, subst, arith}
+use Rattle.std.proofs.Common.{◌≡◌, ℕ, zero, suc, ◌+◌, ◌-◌, ◌<◌, ◌≤◌, ◌^◌, inl, inr, List, [], ◌∷◌, refl, length, get_or, Some, pos, neg_ℤ, sym, ap, ◌∙◌, subst, arith, lit<}
 use Rattle.std.specs.Prelude.{slice_get}
 use Rattle.std.proofs.lemmas.Bool.{cases_lt}
 use Rattle.std.proofs.lemmas.Option.{slice_get-get_or, slice_get_within}
@@ -35,13 +35,13 @@ later_back {t} {u} k e = same_trans (later-add t k) (same_trans (same_shift (pos
 
 -- times of a domain, moved by no more than its length, have floors that fit
 pub fits_later : {t : Rational} (k : ℕ) → whole (pos 0) ≤ʳ t → t ≤ʳ whole (pos (2 ^ 32)) → k ≤ 2 ^ 32 → FitsFloor w64 (add t (whole (pos k)))
-fits_later {t} k from to small = fits_of_within (
+fits_later {t} k from to small = fits_of_within w64 (2 ^ 34) (lit< tt) (
   le_trans (le_whole {j = neg_ℤ (pos (2 ^ 34))} {k = pos 0} (record { le = tt })) (le_trans from (record { le = omega arith })),
   le_trans (le_add to (le_whole {j = pos k} {k = pos (2 ^ 32)} (omega (arith, ints)))) (record { le = omega arith }),
 )
 
 pub fits_earlier : {t : Rational} (k : ℕ) → whole (pos 0) ≤ʳ t → t ≤ʳ whole (pos (2 ^ 32)) → k ≤ 2 ^ 32 → FitsFloor w64 (add t (whole (neg_ℤ (pos k))))
-fits_earlier {t} k from to small = fits_of_within (
+fits_earlier {t} k from to small = fits_of_within w64 (2 ^ 34) (lit< tt) (
   le_trans (record { le = omega arith }) (le_add from (le_whole {j = neg_ℤ (pos (2 ^ 32))} {k = neg_ℤ (pos k)} (omega (arith, ints)))),
   le_trans (le_add to (le_whole {j = neg_ℤ (pos k)} {k = pos 0} (omega (arith, ints)))) (record { le = omega arith }),
 )

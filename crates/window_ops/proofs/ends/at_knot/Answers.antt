@@ -1,6 +1,7 @@
-use Rattle.std.proofs.Common.{◌≡◌, inl, inr, sym, subst, true}
+use Rattle.std.proofs.Common.{◌≡◌, inl, inr, sym, subst}
 use Rattle.rational.specs.Extended.{value_at}
 use Rattle.rational.proofs.ExtendedLemmas.{le_reflᵉ}
+use Rattle.pl_signal.specs.declared.joining.Side.TheVariants.{Least}
 use Rattle.pl_signal.specs.Knots.{time, IsWorth}
 use Rattle.pl_signal.proofs.Values.{shape_at}
 use Rattle.pl_signal.proofs.Moving.{limited_at, same_knot}
@@ -24,7 +25,7 @@ returns-in-Less-clause-value g c = λ k h.
     subst (λ k. Beside g.P.Shape.lowest (IsWorth g.P.Shape.function c.args.s.now) c.args.side c.args.counts (time k) (value_at (g.P.Shape.function c.knot-knot.result.point) (time k))) (sym same)
     (sup_with c.args.counts x y y c.if-not-counts.false (c.limit_at_knot-limit.ensures.value c.knot-knot.result c.knot-knot.ensures)
     (point_at_knot g.P.Shape.function g.P.Shape.lowest c.args.s.now c.args.i c.knot-knot.result c.requires.signal c.knot-knot.ensures (g.met.P.Shape.lowest_is_least c.knot-knot.result.point t))
-    (record { left = taken_of_less true x y c.in-Less.ensures; right = le_reflᵉ y; one_of = inr (le_reflᵉ y) }))
+    (record { left = taken_of_less Least x y c.in-Less.ensures; right = le_reflᵉ y; one_of = inr (le_reflᵉ y) }))
 
 pub returns-in_default-clause-shape : goal.returns-in_default-clause-shape
 returns-in_default-clause-shape g c = c.limit_at_knot-limit.ensures.shape
@@ -38,4 +39,4 @@ returns-in_default-clause-value g c = λ k h.
     subst (λ k. Beside g.P.Shape.lowest (IsWorth g.P.Shape.function c.args.s.now) c.args.side c.args.counts (time k) (value_at (g.P.Shape.function c.limit_at_knot-limit.result) (time k))) (sym same)
     (sup_with c.args.counts x y x c.if-not-counts.false (c.limit_at_knot-limit.ensures.value c.knot-knot.result c.knot-knot.ensures)
     (point_at_knot g.P.Shape.function g.P.Shape.lowest c.args.s.now c.args.i c.knot-knot.result c.requires.signal c.knot-knot.ensures (g.met.P.Shape.lowest_is_least c.knot-knot.result.point t))
-    (record { left = le_reflᵉ x; right = taken_second true c.cmp_at.result x y c.cmp_at.ensures c.in_default.not-Less; one_of = inl (le_reflᵉ x) }))
+    (record { left = le_reflᵉ x; right = taken_second Least c.cmp_at.result x y c.cmp_at.ensures c.in_default.not-Less; one_of = inl (le_reflᵉ x) }))

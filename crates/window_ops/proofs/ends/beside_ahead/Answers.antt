@@ -1,4 +1,4 @@
-use Rattle.std.proofs.Common.{◌≡◌, ℕ, ◌^◌, List, pos, ◌-ℤ◌, sym, subst, to_z, w64, arith}
+use Rattle.std.proofs.Common.{◌≡◌, ℕ, ◌^◌, List, pos, ◌-ℤ◌, sym, subst, to_z, w64, arith, lit<}
 use Rattle.std.proofs.lemmas.Result.{IfOk-weaker}
 use Rattle.std.specs.Int.RustNames.{unsigned_abs}
 use Rattle.std.specs.Prelude.{◌≤◌}
@@ -26,13 +26,13 @@ shift-requires g c =
     let first = c.requires.first in
     let last = le_trans (start_to_stop g.P.Shape.function c.args.s.now c.start-start.ensures.signal) c.requires.last in
     subst (λ z. FitsFloor w64 (add (value c.start-start.result) (whole z))) (sym (bound_is c.args.by c.requires.small))
-    (subst (λ u. FitsFloor w64 (add u (whole (pos c.args.by)))) (sym c.start-start.ensures.value) (fits_of_within (moved_within c.args.by first last c.requires.small)))
+    (subst (λ u. FitsFloor w64 (add u (whole (pos c.args.by)))) (sym c.start-start.ensures.value) (fits_of_within w64 (2 ^ 34) (lit< tt) (moved_within c.args.by first last c.requires.small)))
 
 pub shift-requires-2 : goal.shift-requires-2
 shift-requires-2 g c =
     let first = le_trans c.requires.first (start_to_stop g.P.Shape.function c.args.s.now c.start-start.ensures.signal) in
     subst (λ z. FitsFloor w64 (add (value c.stop-stop.result) (whole z))) (sym (bound_is c.args.by c.requires.small))
-    (subst (λ u. FitsFloor w64 (add u (whole (pos c.args.by)))) (sym c.stop-stop.ensures.value) (fits_of_within (moved_within c.args.by first c.requires.last c.requires.small)))
+    (subst (λ u. FitsFloor w64 (add u (whole (pos c.args.by)))) (sym c.stop-stop.ensures.value) (fits_of_within w64 (2 ^ 34) (lit< tt) (moved_within c.args.by first c.requires.last c.requires.small)))
 
 pub least_between-requires-clause-order : goal.least_between-requires-clause-order
 least_between-requires-clause-order g c =
