@@ -1,9 +1,9 @@
 -- What the signal of a node keeps and tells, from the signals of its children among those before it.
-use Rattle.std.proofs.Common.{◌≡◌, ℕ, ℤ, pos, neg_ℤ, ◌+◌, ◌<◌, ◌^◌, ◌≤ℤ◌, ◌<ℤ◌, arith, List, Some, sym, subst}
+use Rattle.std.proofs.Common.{◌≡◌, ℕ, ℤ, pos, neg_ℤ, ◌+◌, ◌-◌, ◌<◌, ◌^◌, ◌≤ℤ◌, ◌<ℤ◌, arith, List, Some, sym, subst}
 use Rattle.std.specs.Prelude.{slice_get}
 use Rattle.rational.specs.Extended.{Extended, Affine}
-use Rattle.rational.proofs.Order.{same_trans, same_sym, le_trans, lt_of_le_of_lt, le_of_same, ge_of_same}
-use Rattle.rational.proofs.Shift.{le_whole, lt_whole}
+use Rattle.rational.proofs.Order.{same_trans, same_sym, le_trans, le_of_same, ge_of_same}
+use Rattle.rational.proofs.Shift.{le_whole}
 use Rattle.std.proofs.lemmas.Int.{ints}
 use Rattle.pl_signal.specs.declared.knot.Knot.{Knot}
 use Rattle.pl_signal.specs.declared.faults.OpFault.{OpFault}
@@ -27,14 +27,14 @@ module _ {P : Type 0} (function : P → Affine) (base : P → ℤ) (from to : �
   fit_of x small s = record {
     limited = s.limited;
     first = le_trans (le_whole (from_zero from)) (ge_of_same s.begins);
-    last = lt_of_le_of_lt (le_of_same s.ends) (lt_whole (below to small));
+    last = le_trans (le_of_same s.ends) (le_whole (below to small));
     near = λ p h. near_reached (base p) (s.bases p h);
   }
     where
       from_zero : (n : ℕ) → pos 0 ≤ℤ pos n
       from_zero n = omega (arith, ints)
 
-      below : (n : ℕ) → n < 2 ^ 32 → pos n <ℤ pos (2 ^ 32)
+      below : (n : ℕ) → n < 2 ^ 32 → pos n ≤ℤ pos (2 ^ 32 - 1)
       below n h = omega (arith, ints, h)
 
       near_reached : (b : ℤ) → (neg_ℤ (pos 4294967295) ≤ℤ b) × (b <ℤ pos (2 ^ 32 + 4294967295)) → (neg_ℤ (pos (2 ^ 32)) ≤ℤ b) × (b ≤ℤ pos (2 ^ 33))

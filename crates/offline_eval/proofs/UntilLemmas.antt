@@ -7,7 +7,7 @@ use Rattle.rational.specs.Extended.{Extended, ◌≈ᵉ◌, Affine, IsSup}
 use Rattle.rational.specs.Affine.{IsBounded}
 use Rattle.rational.specs.Windows.{Function, Window, Ahead, Behind, IsSupOver, IsInfOver, IsUntil, IsSince, UntilToEnd, SinceFromStart, IsUpTo, IsDownTo}
 use Rattle.rational.specs.InPlay.{until_end, since_start, window_ahead, window_behind}
-use Rattle.rational.proofs.Order.{le_trans, le_of_same, ge_of_same, lt_of_le_of_lt, same_refl, same_sym, same_trans}
+use Rattle.rational.proofs.Order.{le_trans, le_of_same, ge_of_same, same_refl, same_sym, same_trans}
 use Rattle.rational.proofs.ExtendedLemmas.{Sup-unique}
 use Rattle.rational.proofs.TimeLemmas.{within_stretch}
 use Rattle.rational.proofs.WindowLemmas.{sup_alike}
@@ -228,7 +228,7 @@ module _ {P : Type 0} (function : P → Affine) where
     to_end_fit lowest highest x y r low high fit made bases = record {
       limited = limited_along function (UntilOf function lowest highest x y) x r fit.left.limited made (to_end_bounded lowest highest x y low high fit.left.limited fit.right.limited);
       first = le_trans fit.left.first (ge_of_same made.begins);
-      last = lt_of_le_of_lt (le_of_same made.ends) fit.left.last;
+      last = le_trans (le_of_same made.ends) fit.left.last;
       near = near_of_two x y r fit.left fit.right bases;
     }
 
@@ -237,7 +237,7 @@ module _ {P : Type 0} (function : P → Affine) where
     from_start_fit lowest highest x y r low high fit made bases = record {
       limited = limited_along function (SinceOf function lowest highest x y) x r fit.left.limited made (from_start_bounded lowest highest x y low high fit.left.limited fit.right.limited);
       first = le_trans fit.left.first (ge_of_same made.begins);
-      last = lt_of_le_of_lt (le_of_same made.ends) fit.left.last;
+      last = le_trans (le_of_same made.ends) fit.left.last;
       near = near_of_two x y r fit.left fit.right bases;
     }
 

@@ -1,13 +1,14 @@
 -- The Sup and the Inf over a window of a signal, as functions over the domain of a setting.
-use Rattle.std.proofs.Common.{◌≡◌, ◌⊎◌, inl, inr, ℕ, ℤ, pos, ◌≤◌, ◌^◌, ◌-ℤ◌, ◌+ℤ◌, Bool, List, arith}
+use Rattle.std.proofs.Common.{◌≡◌, ◌⊎◌, inl, inr, ℕ, ℤ, pos, ◌≤◌, ◌^◌, ◌-◌, ◌-ℤ◌, ◌+ℤ◌, Bool, List, arith}
 use Rattle.std.specs.Prelude.{Option, Some, None, IfSome, IsTrue}
 use Rattle.std.proofs.lemmas.Int.{ints}
-use Rattle.rational.specs.Time.{Rational, Within, ◌<ʳ◌, ◌≈◌}
+use Rattle.rational.specs.Time.{Rational, Within, whole, ◌≤ʳ◌, ◌<ʳ◌, ◌≈◌}
 use Rattle.rational.specs.Extended.{Extended, Affine}
 use Rattle.rational.specs.Affine.{IsBounded}
 use Rattle.rational.specs.Windows.{Function, Window, Ahead, Behind, IsSupOver, IsInfOver}
 use Rattle.rational.specs.InPlay.{Step, window_ahead, window_behind, IsInPlay}
-use Rattle.rational.proofs.Order.{le_trans, le_of_same, ge_of_same, same_sym}
+use Rattle.rational.proofs.Order.{le_trans, lt_of_le_of_lt, le_of_same, ge_of_same, same_sym}
+use Rattle.rational.proofs.Shift.{lt_whole}
 use Rattle.rational.proofs.WindowLemmas.{sup_alike, inf_alike}
 use Rattle.pl_signal.specs.declared.knot.Knot.{Knot}
 use Rattle.pl_signal.specs.declared.faults.WidePair.TheVariants.{Cross, Value}
@@ -33,6 +34,10 @@ use Rattle.pl_signal.proofs.Limits.{worth_bounded}
 use Rattle.offline_eval.proofs.Sound.{IsMovedBy}
 use Rattle.offline_eval.proofs.Stretches.{IsOn}
 use Rattle.offline_eval.proofs.InPlay.{ahead_ends, behind_ends, ahead_along, behind_along, crossing_along, value_along}
+
+-- what ends by the last tick ends before the tick after it
+pub before_end : {t : Rational} → t ≤ʳ whole (pos (2 ^ 32 - 1)) → t <ʳ whole (pos (2 ^ 32))
+before_end h = lt_of_le_of_lt h (lt_whole {j = pos (2 ^ 32 - 1)} {k = pos (2 ^ 32)} (omega (arith, ints)))
 
 module _ {P : Type 0} (function : P → Affine) where
   -- a signal is what it tells on the domain, and nothing elsewhere

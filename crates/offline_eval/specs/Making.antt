@@ -1,6 +1,6 @@
 -- What the signals that are made on the way keep, and what a signal that is made from those of a node's children tells.
-use Rattle.std.specs.Prelude.{◌≡◌, ℕ, ℤ, pos, neg_ℤ, ◌+◌, ◌^◌, ◌≤ℤ◌, ◌<ℤ◌, List, Some, slice_get}
-use Rattle.rational.specs.Time.{whole, ◌≈◌, ◌≤ʳ◌, ◌<ʳ◌}
+use Rattle.std.specs.Prelude.{◌≡◌, ℕ, ℤ, pos, neg_ℤ, ◌+◌, ◌-◌, ◌^◌, ◌≤ℤ◌, ◌<ℤ◌, List, Some, slice_get}
+use Rattle.rational.specs.Time.{whole, ◌≈◌, ◌≤ʳ◌}
 use Rattle.rational.specs.Extended.{Extended, Affine}
 use Rattle.pl_signal.specs.declared.knot.Knot.{Knot}
 use Rattle.frac128.specs.Value.{value}
@@ -54,7 +54,7 @@ module _ {P : Type 0} (function : P → Affine) (base : P → ℤ) where
   pub record IsFit (x : List (Knot P)) : Type 0 where
     pub limited : IsLimited function x
     pub first : whole (pos 0) ≤ʳ start x
-    pub last : stop x <ʳ whole (pos (2 ^ 32))
+    pub last : stop x ≤ʳ whole (pos (2 ^ 32 - 1))
     pub near : (p : P) → HasShape x p → (neg_ℤ (pos (2 ^ 32)) ≤ℤ base p) × (base p ≤ℤ pos (2 ^ 33))
 
   -- two such signals over one domain

@@ -4,9 +4,12 @@ use Rattle.rational.proofs.Order.{same_trans, same_sym}
 use Rattle.pl_signal.specs.Limits.{IsLimited}
 use Rattle.offline_eval.proofs.Pointwise.{ok_both, err_same, least_of_bounded}
 use Rattle.offline_eval.proofs.Sound.{limited_along, stay_sound}
-use Rattle.offline_eval.proofs.WindowLemmas.{sup_over_bounded, inf_over_bounded, ahead_from}
+use Rattle.offline_eval.proofs.WindowLemmas.{before_end, sup_over_bounded, inf_over_bounded, ahead_from}
 use Rattle.offline_eval.proofs.UntilLemmas.{to_end_fit, composed_moved, has_to_end, until_in, until_within_fault, to_end_fault, until_kept_fault, until_least_fault}
 use Rattle.offline_eval.proofs.untils.bounded_until.Goals as goal
+
+pub sup_window-requires-clause-last : goal.sup_window-requires-clause-last
+sup_window-requires-clause-last g c = before_end c.requires.fit.right.last
 
 pub inf_window-requires-clause-limited : goal.inf_window-requires-clause-limited
 inf_window-requires-clause-limited g c = (to_end_fit g.P.Shape.function g.P.Shape.base g.P.Shape.moves g.met.P.Shape.base_of_others g.P.Shape.lowest g.P.Shape.highest c.args.x.now c.args.y.now c.in_ok-to_end.to_end g.met.P.Shape.lowest_bounded g.met.P.Shape.highest_bounded c.requires.fit c.in_ok-to_end.ensures.worth c.in_ok-to_end.ensures.bases).limited
@@ -15,7 +18,7 @@ pub inf_window-requires-clause-first : goal.inf_window-requires-clause-first
 inf_window-requires-clause-first g c = (to_end_fit g.P.Shape.function g.P.Shape.base g.P.Shape.moves g.met.P.Shape.base_of_others g.P.Shape.lowest g.P.Shape.highest c.args.x.now c.args.y.now c.in_ok-to_end.to_end g.met.P.Shape.lowest_bounded g.met.P.Shape.highest_bounded c.requires.fit c.in_ok-to_end.ensures.worth c.in_ok-to_end.ensures.bases).first
 
 pub inf_window-requires-clause-last : goal.inf_window-requires-clause-last
-inf_window-requires-clause-last g c = (to_end_fit g.P.Shape.function g.P.Shape.base g.P.Shape.moves g.met.P.Shape.base_of_others g.P.Shape.lowest g.P.Shape.highest c.args.x.now c.args.y.now c.in_ok-to_end.to_end g.met.P.Shape.lowest_bounded g.met.P.Shape.highest_bounded c.requires.fit c.in_ok-to_end.ensures.worth c.in_ok-to_end.ensures.bases).last
+inf_window-requires-clause-last g c = before_end (to_end_fit g.P.Shape.function g.P.Shape.base g.P.Shape.moves g.met.P.Shape.base_of_others g.P.Shape.lowest g.P.Shape.highest c.args.x.now c.args.y.now c.in_ok-to_end.to_end g.met.P.Shape.lowest_bounded g.met.P.Shape.highest_bounded c.requires.fit c.in_ok-to_end.ensures.worth c.in_ok-to_end.ensures.bases).last
 
 pub inf_window-requires-clause-near : goal.inf_window-requires-clause-near
 inf_window-requires-clause-near g c = (to_end_fit g.P.Shape.function g.P.Shape.base g.P.Shape.moves g.met.P.Shape.base_of_others g.P.Shape.lowest g.P.Shape.highest c.args.x.now c.args.y.now c.in_ok-to_end.to_end g.met.P.Shape.lowest_bounded g.met.P.Shape.highest_bounded c.requires.fit c.in_ok-to_end.ensures.worth c.in_ok-to_end.ensures.bases).near
