@@ -8,6 +8,8 @@ pub use shapes::greater_at;
 #[cfg(test)]
 mod operator_tests;
 #[cfg(test)]
+mod run_tests;
+#[cfg(test)]
 mod shape_tests;
 #[cfg(test)]
 mod signal_tests;

@@ -1,64 +1,84 @@
--- A column's value between two neighbouring rows is that of the line through both.
-use Rattle.std.proofs.Common.{◌≡◌, ℕ, zero, suc, pos, ◌+◌, ◌-◌, ◌<◌, ◌≤◌, inl, inr, List, [], ◌∷◌, length, get_or, false, arith, sym, subst}
-use Rattle.rational.specs.Time.{Rational, ◌≤ʳ◌, ◌<ʳ◌, ◌≈◌, whole}
-use Rattle.rational.specs.Line.{Line, at}
-use Rattle.rational.proofs.Order.{le_or_lt, le_trans, same_refl, same_sym, same_trans, same_of_le, lt_of_le_of_lt, le_of_same}
-use Rattle.rational.proofs.Lines.{same_at}
-use Rattle.rational.proofs.TimeLemmas.{less_in, less_no}
-use Rattle.stl_syntax.specs.Trace.{Row, AreRowsAfter, row_time, value, line_between, value_from}
-use Rattle.workbench.proofs.Ramps.{starts, ends}
+-- A formula in smaller ticks names the same columns.
+use Rattle.std.proofs.Common.{◌≡◌, ℕ, List, [], ◌∷◌, take, map, refl, sym, ap, ◌∙◌, subst}
+use Rattle.std.specs.Prelude.{◌-◌, ◌^◌, All, Some, slice_get}
+use Rattle.std.proofs.lemmas.List.{take-map}
+use Rattle.std.proofs.lemmas.List.Elements.{All-get_or, All-nil, All-cons, All-head, All-tail}
+use Rattle.std.proofs.lemmas.Option.{slice_get_within, get_or_from_slice_get}
+use Rattle.stl_syntax.specs.Trace.{Column, Header}
+use Rattle.stl_syntax.specs.Formula.{Formula}
+use Rattle.stl_syntax.specs.Scaling.{scaled, scaled_atom, scaled_node}
+use Rattle.stl_syntax.specs.Binding.{HasColumn, HasColumns, IsUnknown, IsUnitFault}
+use Rattle.stl_syntax.specs.declared.scale.Scale.{Scale}
+use Rattle.stl_syntax.specs.declared.scale.UnitFault.{UnitFault}
+use Rattle.stl_syntax.specs.declared.atom.Atom.{Atom}
+use Rattle.stl_syntax.specs.declared.atom.Term.{Term}
+use Rattle.stl_syntax.specs.declared.node.Node.{Node}
+use Rattle.stl_syntax.specs.declared.node.Node.TheVariants.{Const, Atom as Leaf, Not, And, Or, Implies, Until, Eventually, Always, Since, Once, Historically}
+use Rattle.stl_syntax.proofs.ScalingLemmas.{scaled_at}
 
--- the line of the first column from row r to row s
-abbrev pub line_of : Row → Row → Line
-line_of r s = line_between r.time (value r 0) (s.time - suc r.time) (value s 0)
+-- what holds of all holds of each
+pub All-get : {A : Type 0} (P : A → Type 0) (xs : List A) (i : ℕ) (x : A) → All P xs → slice_get xs i ≡ Some x → P x
+All-get P xs i x all e = subst P (get_or_from_slice_get xs i x x e) (All-get_or P xs i x (slice_get_within xs i x e) all)
 
-pub line_starts : (r s : Row) (t : Rational) → t ≈ row_time r → at (line_of r s) t ≈ whole (value r 0)
-line_starts r s t e = same_trans (same_at (line_of r s) e) (starts r.time (s.time - suc r.time) (value r 0) (value s 0))
+node_unscaled : (cs : List Column) (k m : ℕ) (n : Node) → HasColumns cs (scaled_node k m n) → HasColumns cs n
+node_unscaled cs k m (Const b) h = tt
+node_unscaled cs k m (Leaf a) h = h
+node_unscaled cs k m (Not p) h = tt
+node_unscaled cs k m (And p q) h = tt
+node_unscaled cs k m (Or p q) h = tt
+node_unscaled cs k m (Implies p q) h = tt
+node_unscaled cs k m (Until p q a b) h = tt
+node_unscaled cs k m (Eventually p a b a_in b_in) h = tt
+node_unscaled cs k m (Always p a b a_in b_in) h = tt
+node_unscaled cs k m (Since p q a b) h = tt
+node_unscaled cs k m (Once p a b a_in b_in) h = tt
+node_unscaled cs k m (Historically p a b a_in b_in) h = tt
 
-pub line_ends : (r s : Row) (t : Rational) → r.time < s.time → t ≈ row_time s → at (line_of r s) t ≈ whole (value s 0)
-line_ends r s t h e =
-    let later : r.time + suc (s.time - suc r.time) ≡ s.time = omega arith in
-    let there : t ≈ whole (pos (r.time + suc (s.time - suc r.time))) = subst (λ n. t ≈ whole (pos n)) (sym later) e in
-    same_trans (same_at (line_of r s) there) (ends r.time (s.time - suc r.time) (value r 0) (value s 0))
+pub columns_unscaled : (cs : List Column) (k m : ℕ) (nodes : List Node) → All (HasColumns cs) (map (scaled_node k m) nodes) → All (HasColumns cs) nodes
+columns_unscaled cs k m [] h = All-nil (HasColumns cs)
+columns_unscaled cs k m (n ∷ nodes) h =
+    All-cons (HasColumns cs) n nodes (node_unscaled cs k m n (All-head (HasColumns cs) (scaled_node k m n) (map (scaled_node k m) nodes) h))
+    (columns_unscaled cs k m nodes (All-tail (HasColumns cs) (scaled_node k m n) (map (scaled_node k m) nodes) h))
 
-rows_rise : (r s : Row) → r.time < s.time → row_time r <ʳ row_time s
-rows_rise r s h = record { lt = omega arith }
+-- the terms of the atom that a scaled node is
+Unscaled : Node → Atom → Type 0
+Unscaled old owner = (a : Atom) × (old ≡ Leaf a) × (a.terms ≡ owner.terms)
 
-rows_stay : (r s : Row) → r.time ≤ s.time → row_time r ≤ʳ row_time s
-rows_stay r s h = record { le = omega arith }
+leaf_unscaled : (k m : ℕ) (owner : Atom) (old : Node) → Leaf owner ≡ scaled_node k m old → Unscaled old owner
+unfolding Unscaled
+leaf_unscaled k m owner (Const b) e = absurd (let f = e in cc)
+leaf_unscaled k m owner (Leaf a) e = (a, refl, let f : owner ≡ scaled_atom m a = (let g = e in cc) in sym (ap (λ (x : Atom). x.terms) f))
+leaf_unscaled k m owner (Not p) e = absurd (let f = e in cc)
+leaf_unscaled k m owner (And p q) e = absurd (let f = e in cc)
+leaf_unscaled k m owner (Or p q) e = absurd (let f = e in cc)
+leaf_unscaled k m owner (Implies p q) e = absurd (let f = e in cc)
+leaf_unscaled k m owner (Until p q a b) e = absurd (let f = e in cc)
+leaf_unscaled k m owner (Eventually p a b a_in b_in) e = absurd (let f = e in cc)
+leaf_unscaled k m owner (Always p a b a_in b_in) e = absurd (let f = e in cc)
+leaf_unscaled k m owner (Since p q a b) e = absurd (let f = e in cc)
+leaf_unscaled k m owner (Once p a b a_in b_in) e = absurd (let f = e in cc)
+leaf_unscaled k m owner (Historically p a b a_in b_in) e = absurd (let f = e in cc)
 
--- at a row's time the column has the row's value
-pub at_row : (n : ℕ) (r : Row) (rows : List Row) (t : Rational) → AreRowsAfter n r.time rows → t ≈ row_time r → value_from false 0 r rows t ≈ whole (value r 0)
-at_row n r [] t ok e = same_refl (whole (value r 0))
-at_row n r (s ∷ rows) t ok e =
-    let soon : t <ʳ row_time s = lt_of_le_of_lt (le_of_same e) (rows_rise r s ok.0) in
-    rw (less_in t (row_time s) soon) (line_starts r s t e)
+-- a column that the scaled formula lacks is one that the formula lacks
+pub unknown_unscaled : (cs : List Column) (f : Formula) (s : Scale) (atom term : ℕ) (name : List ℕ) → IsUnknown cs (scaled f s) atom term name → IsUnknown cs f atom term name
+unfolding Unscaled
+unknown_unscaled cs f s atom term name u =
+    let k = 10 ^ (s.time - f.scale.time) in
+    let m = 10 ^ (s.value - f.scale.value) in
+    let (old, found, is) = scaled_at k m f.nodes atom (Leaf u.owner) u.at_atom in
+    let (a, e, same) = leaf_unscaled k m u.owner old is in
+    record {
+      owner = a;
+      lacking = u.lacking;
+      at_atom = found ∙ ap (λ n. Some n) e;
+      at_term = ap (λ ts. slice_get ts term) same ∙ u.at_term;
+      named = u.named;
+      no_column = u.no_column;
+      terms_before = subst (λ ts. All (HasColumn cs) (take term ts)) (sym same) u.terms_before;
+      nodes_before = columns_unscaled cs k m (take atom f.nodes) (subst (λ ns. All (HasColumns cs) ns) (take-map (scaled_node k m) atom f.nodes) u.nodes_before);
+    }
 
--- the times of rows do not fall
-later_row : (n : ℕ) (r : Row) (rows : List Row) (k : ℕ) (d : Row) → AreRowsAfter n r.time rows → k < length (r ∷ rows) → r.time ≤ (get_or (r ∷ rows) k d).time
-later_row n r rows zero d ok h = omega arith
-later_row n r [] (suc k) d ok h = absurd (omega arith)
-later_row n r (s ∷ rows) (suc k) d ok h = let e = later_row n s rows k d ok.2 (omega arith) in let f = ok.0 in omega arith
-
--- the column's value from row k to the next row
-pub value_in_gap : (n : ℕ) (r : Row) (rows : List Row) (k : ℕ) (d : Row) (t : Rational) → AreRowsAfter n r.time rows → suc k < length (r ∷ rows)
-    → row_time (get_or (r ∷ rows) k d) ≤ʳ t → t ≤ʳ row_time (get_or (r ∷ rows) (suc k) d)
-    → value_from false 0 r rows t ≈ at (line_of (get_or (r ∷ rows) k d) (get_or (r ∷ rows) (suc k) d)) t
-value_in_gap n r [] k d t ok h low high = absurd (omega arith)
-value_in_gap n r (s ∷ rows) zero d t ok h low high = elim (le_or_lt (row_time s) t) as (λ v. value_from false 0 r (s ∷ rows) t ≈ at (line_of r s) t) [
-  | inl g ↦
-      let there = same_of_le high g in
-      rw (less_no t (row_time s) g) (same_trans (at_row n s rows t ok.2 there) (same_sym (line_ends r s t ok.0 there)))
-  | inr l ↦ rw (less_in t (row_time s) l) (same_refl (at (line_of r s) t))
-]
-value_in_gap n r (s ∷ rows) (suc k) d t ok h low high =
-    let first = later_row n s rows k d ok.2 (omega arith) in
-    let reached : row_time s ≤ʳ t = le_trans (rows_stay s (get_or (s ∷ rows) k d) first) low in
-    rw (less_no t (row_time s) reached) (value_in_gap n s rows k d t ok.2 (omega arith) low high)
-
--- each row is later than the one before it
-pub next_row : (n : ℕ) (r : Row) (rows : List Row) (k : ℕ) (d : Row) → AreRowsAfter n r.time rows → suc k < length (r ∷ rows)
-    → (get_or (r ∷ rows) k d).time < (get_or (r ∷ rows) (suc k) d).time
-next_row n r [] k d ok h = absurd (omega arith)
-next_row n r (s ∷ rows) zero d ok h = ok.0
-next_row n r (s ∷ rows) (suc k) d ok h = next_row n s rows k d ok.2 (omega arith)
+-- where each term names a column, none is lacking
+pub none_unknown : (cs : List Column) (f : Formula) → All (HasColumns cs) f.nodes → (atom term : ℕ) (name : List ℕ) → ¬ IsUnknown cs f atom term name
+none_unknown cs f all atom term name u =
+    u.no_column (All-get (HasColumn cs) u.owner.terms term u.lacking (All-get (HasColumns cs) f.nodes atom (Leaf u.owner) all u.at_atom) u.at_term)

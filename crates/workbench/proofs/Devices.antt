@@ -1,5 +1,5 @@
 -- What writes and reads came to, one after the other.
-use Rattle.std.proofs.Common.{◌≡◌, ℕ, ◌+◌, ◌-◌, ◌<◌, ◌≤◌, List, [], length, take, drop, sym, ap, subst, arith, take-append-drop, take-add, length-drop, take_all, Ok, Err, Result}
+use Rattle.std.proofs.Common.{◌≡◌, ℕ, ◌+◌, ◌-◌, ◌<◌, ◌≤◌, List, [], ◌∷◌, ◌++◌, append_assoc, refl, ◌∙◌, length, take, drop, sym, ap, subst, arith, take-append-drop, take-add, length-drop, take_all, Ok, Err, Result}
 use Rattle.std.specs.Prelude.{Option}
 use Rattle.std.specs.Io.KnownBytes.{Appends, Keeps}
 use Rattle.std.specs.Result.{IsErr}
@@ -38,3 +38,43 @@ next_take a b c text at n p q = subst (Appends a c) (sym (take-add at n text)) (
 -- the slice from a place on
 pub rest_is : (text : List ℕ) (at : ℕ) → take (length text - at) (drop at text) ≡ drop at text
 rest_is text at = take_all (length text - at) (drop at text) (omega (arith, length-drop at text))
+
+append_missing : (xs ys : List ℕ) → (xs ≡ [] → ⊥) → xs ++ ys ≡ [] → ⊥
+append_missing [] ys h e = h refl
+append_missing (x ∷ xs) ys h e = let f = e in cc
+
+-- a part of a text is a part of a longer one
+pub part_more : (a b : Option (List ℕ)) (x y : List ℕ) → IsPartWritten a b x → IsPartWritten a b (x ++ y)
+part_more a b x y p = record {
+  front = p.front;
+  back = p.back ++ y;
+  parts = ap (λ t. t ++ y) p.parts ∙ append_assoc p.front p.back y;
+  missing = append_missing p.back y p.missing;
+  wrote = p.wrote;
+}
+
+-- what was written after a text that was written
+pub written_on : {T E : Type 0} (a b c : Option (List ℕ)) (x y : List ℕ) (r : Result T E) → Appends a b x → IsWritten b c r y → IsWritten a c r (x ++ y)
+written_on a b c x y (Ok v) w h = Appends-trans a b c x y w h
+written_on a b c x y (Err v) w h = record {
+  front = x ++ h.front;
+  back = h.back;
+  parts = ap (λ t. x ++ t) h.parts ∙ sym (append_assoc x h.front h.back);
+  missing = h.missing;
+  wrote = Appends-trans a b c x h.front w h.wrote;
+}
+
+-- and a failure in it
+pub part_on : (a b c : Option (List ℕ)) (x y : List ℕ) → Appends a b x → IsPartWritten b c y → IsPartWritten a c (x ++ y)
+part_on a b c x y w h = record {
+  front = x ++ h.front;
+  back = h.back;
+  parts = ap (λ t. x ++ t) h.parts ∙ sym (append_assoc x h.front h.back);
+  missing = h.missing;
+  wrote = Appends-trans a b c x h.front w h.wrote;
+}
+
+-- a failure after calls in which no count fell
+pub cause_on : {T E : Type 0} (before between now : ℕ) (r : Result T E) → before ≤ between → HasCause between now r → HasCause before now r
+cause_on before between now (Ok x) l h = let k = h.later in record { later = omega (arith, l); failed = tt }
+cause_on before between now (Err x) l h = let k = h.later in let m = h.failed in record { later = omega (arith, l); failed = omega (arith, l, m) }

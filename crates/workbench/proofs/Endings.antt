@@ -1,53 +1,72 @@
--- How a check of a plain formula ends.
-use Rattle.std.proofs.Common.{◌≡◌, ◌≢◌, ◌⊎◌, inl, inr, ℕ, ℤ, ◌≤◌, Bool, true, false, List, Option, refl, sym, ap, subst, arith}
+-- How a run ends: what was written, and the status and the line of what was refused.
+use Rattle.std.proofs.Common.{◌≡◌, ◌⊎◌, inl, inr, ℕ, ◌<◌, Bool, List, [], ◌∷◌, length, arith, refl, sym, ap, ◌∙◌, subst, Result, Ok, Err}
+use Rattle.std.specs.Prelude.{Option}
 use Rattle.std.specs.Io.KnownBytes.{Appends}
-use Rattle.stl_syntax.specs.Trace.{Trace}
-use Rattle.trace_reader.specs.Plain.{name_of}
-use Rattle.workbench.specs.PlainFormula.{plain_formula}
-use Rattle.workbench.specs.InputFaults.{whole_limits}
-use Rattle.workbench.specs.Answers.{IsJudged}
-use Rattle.workbench.specs.Reading.{IsReadWhole, IsStop}
-use Rattle.workbench.specs.Writing.{IsPartWritten}
-use Rattle.workbench.specs.PlainRun.{IsWrittenWith, whole, part, IsEnding, written, stopped, status_of_truth, status_of_stop}
-use Rattle.workbench.specs.declared.reading.Stop.{Stop}
+use Rattle.std.proofs.KnownBytes.{Appends-nil}
+use Rattle.io_edge.specs.Causes.{HasCause}
+use Rattle.stl_syntax.specs.Formula.{Formula}
+use Rattle.stl_syntax.specs.Trace.{Row, AreRows}
+use Rattle.stl_grammar.specs.FormulaRefusals.{IsFormulaOf, IsFormulaFault}
+use Rattle.stl_grammar.specs.declared.fault.FormulaFault.{FormulaFault}
+use Rattle.stl_grammar.specs.declared.fault.FormulaFault.TheVariants.{Empty, BadByte, Expected, BadNumber, BoundOrder, UnboundedFuture, TooManyTerms, TooLong, TooDeep, TooManyNodes, ReachTooLarge, ConstantTooLarge, Memory}
+use Rattle.workbench.specs.ErrTexts.{formula_fault_text, out_of_memory}
+use Rattle.workbench.specs.Writing.{IsPartWritten, IsWritten}
+use Rattle.workbench.specs.Run.{IsSaid, whole, part, IsWrittenWith, all_of_it, a_part, IsBadEnd, refused, no_room, status_of_fault, IsEndLine}
+use Rattle.workbench.specs.declared.fault.Stop.{Stop}
+use Rattle.workbench.specs.declared.fault.Stop.TheVariants.{Unwritten}
 
-pub written_whole : (holds : Bool) (text piece : List ℕ) (held held_after : Option (List ℕ)) (s : ℕ) → piece ≡ text → Appends held held_after piece → s ≡ status_of_truth holds
-    → IsWrittenWith holds text held held_after s
-written_whole holds text piece held held_after s e wrote status =
-    subst (λ s. IsWrittenWith holds text held held_after s) (sym status) (whole (subst (λ t. Appends held held_after t) e wrote))
+-- what came of writing a line
+pub said : {T E : Type 0} (told told_after : Option (List ℕ)) (faults faults_after : ℕ) (r : Result T E) (line : List ℕ)
+    → IsWritten told told_after r line → HasCause faults faults_after r → IsSaid told told_after faults faults_after line
+said told told_after faults faults_after (Ok x) line w c = whole w
+said told told_after faults faults_after (Err x) line w c = part w c.failed
+
+pub written_whole : (holds : Bool) (text piece : List ℕ) (held held_after : Option (List ℕ)) → piece ≡ text → Appends held held_after piece
+    → IsWrittenWith holds text held held_after (Ok holds)
+written_whole holds text piece held held_after e wrote = all_of_it (subst (λ t. Appends held held_after t) e wrote)
 
 pub written_part : (holds : Bool) (text piece : List ℕ) (held held_after : Option (List ℕ)) → piece ≡ text → IsPartWritten held held_after piece
-    → IsWrittenWith holds text held held_after 6
-written_part holds text piece held held_after e wrote = part (subst (λ t. IsPartWritten held held_after t) e wrote)
+    → IsWrittenWith holds text held held_after (Err Unwritten)
+written_part holds text piece held held_after e wrote = a_part (subst (λ t. IsPartWritten held held_after t) e wrote)
 
--- the statuses of what was written
-pub written_status : {holds : Bool} {text : List ℕ} {held held_after : Option (List ℕ)} {s : ℕ} → IsWrittenWith holds text held held_after s → (s ≤ 1) ⊎ (s ≡ 6)
-written_status {holds = true} (whole wrote) = inl (omega arith)
-written_status {holds = false} (whole wrote) = inl (omega arith)
-written_status (part wrote) = inr refl
+memory_or : (r : FormulaFault) → (r ≡ Memory) ⊎ (status_of_fault r ≡ 3)
+memory_or Empty = inr refl
+memory_or (BadByte p) = inr refl
+memory_or (Expected p w) = inr refl
+memory_or (BadNumber p) = inr refl
+memory_or (BoundOrder p) = inr refl
+memory_or (UnboundedFuture p) = inr refl
+memory_or (TooManyTerms p) = inr refl
+memory_or (TooLong n) = inr refl
+memory_or (TooDeep p) = inr refl
+memory_or (TooManyNodes p) = inr refl
+memory_or (ReachTooLarge n) = inr refl
+memory_or (ConstantTooLarge i) = inr refl
+memory_or Memory = inl refl
 
-pub not_five : {holds : Bool} {text : List ℕ} {held held_after : Option (List ℕ)} {s : ℕ} → IsWrittenWith holds text held held_after s → s ≡ 5 → ⊥
-not_five w e = split (written_status w) e
+out_of_room : (text : List ℕ) (r : FormulaFault) → r ≡ Memory → IsBadEnd text (status_of_fault r) (formula_fault_text r)
+out_of_room text r e = subst (λ (r : FormulaFault). IsBadEnd text (status_of_fault r) (formula_fault_text r)) (sym e) no_room
+
+-- a refusal, with its status and its line
+pub refused_end : (text : List ℕ) (r : FormulaFault) → (r ≡ Memory) ⊎ IsFormulaFault text r → IsBadEnd text (status_of_fault r) (formula_fault_text r)
+refused_end text r (inl e) = out_of_room text r e
+refused_end text r (inr h) = by_case (memory_or r)
   where
-    split : {s : ℕ} → (s ≤ 1) ⊎ (s ≡ 6) → s ≡ 5 → ⊥
-    split (inl small) e = omega (arith, small, e)
-    split (inr six) e = omega (arith, six, e)
+    by_case : (r ≡ Memory) ⊎ (status_of_fault r ≡ 3) → IsBadEnd text (status_of_fault r) (formula_fault_text r)
+    by_case (inl e) = out_of_room text r e
+    by_case (inr e) = subst (λ s. IsBadEnd text s (formula_fault_text r)) (sym e) (refused (r, h, refl))
 
-pub only_six : {holds : Bool} {text : List ℕ} {held held_after : Option (List ℕ)} {s : ℕ} → IsWrittenWith holds text held held_after s → 2 ≤ s → s ≢ 6 → ⊥
-only_six w large other = split (written_status w) large other
-  where
-    split : {s : ℕ} → (s ≤ 1) ⊎ (s ≡ 6) → 2 ≤ s → s ≢ 6 → ⊥
-    split (inl small) large other = omega (arith, small, large)
-    split (inr six) large other = other six
+-- how a text that gives no formula ends, once its line was told
+pub refused_told : (text : List ℕ) (r : FormulaFault) (line : List ℕ) (status : ℕ) → line ≡ formula_fault_text r → status ≡ status_of_fault r
+    → (r ≡ Memory) ⊎ IsFormulaFault text r → IsBadEnd text status line
+refused_told text r line status told s h =
+    subst (λ n. IsBadEnd text n line) (sym s) (subst (λ l. IsBadEnd text (status_of_fault r) l) (sym told) (refused_end text r h))
 
-pub ending_written : (name : List ℕ) (limit read_limit : ℤ) (left left_after : Option (List ℕ)) (ended : Bool) (held held_after : Option (List ℕ)) (s : ℕ) (tr : Trace) (holds : Bool) (text : List ℕ)
-    → read_limit ≡ limit → IsReadWhole whole_limits name left left_after ended tr → IsJudged (plain_formula (name_of tr.header) read_limit) tr holds text
-    → IsWrittenWith holds text held held_after s → IsEnding name limit left left_after ended held held_after s
-ending_written name limit read_limit left left_after ended held held_after s tr holds text e read judged wrote =
-    written holds text read (subst (λ n. IsJudged (plain_formula n limit) tr holds text) (ap name_of read.whole.column)
-    (subst (λ n. IsJudged (plain_formula (name_of tr.header) n) tr holds text) e judged)) wrote
+-- nothing is told of an answer
+pub told_nothing : (f : Formula) (e : Result Bool Stop) (b : Bool) (told : Option (List ℕ)) (faults : ℕ) → e ≡ Ok b → (line : List ℕ) × IsEndLine f e line × IsSaid told told faults faults line
+told_nothing f e b told faults same = ([], subst (λ (x : Result Bool Stop). IsEndLine f x []) (sym same) refl, whole (Appends-nil told))
 
-pub ending_stopped : (name : List ℕ) (limit : ℤ) (left left_after : Option (List ℕ)) (ended : Bool) (held held_after : Option (List ℕ)) (s : ℕ) (stop : Stop)
-    → IsStop whole_limits name left left_after ended stop → s ≡ status_of_stop stop → IsEnding name limit left left_after ended held held_after s
-ending_stopped name limit left left_after ended held held_after s stop is status =
-    subst (λ s. IsEnding name limit left left_after ended held held_after s) (sym status) (stopped stop is)
+-- a trace has a row
+pub some_rows : (width : ℕ) (rows : List Row) → AreRows width rows → 0 < length rows
+some_rows width [] h = absurd h
+some_rows width (r ∷ rows) h = omega arith

@@ -1,73 +1,65 @@
 -- How far the reading of a source has come.
-use Rattle.std.proofs.Common.{◌≡◌, ℕ, suc, ◌+◌, ◌*◌, ◌<◌, ◌≤◌, ◌⊎◌, inl, inr, Bool, true, false, List, [], ◌∷◌, ◌++◌, length, take, refl, sym, ap, ◌∙◌, subst, arith, append-nil, length-append, Some, None, Ok, Err, Result}
-use Rattle.std.specs.Prelude.{Option, All, MatchOption, MatchResult}
+use Rattle.std.proofs.Common.{◌≡◌, ℕ, suc, ◌+◌, ◌*◌, ◌<◌, ◌≤◌, inl, inr, Bool, true, false, List, [], ◌∷◌, ◌++◌, length, take, refl, sym, ap, ◌∙◌, subst, arith, append-nil, length-append, Some, None, Ok, Err, Result}
+use Rattle.std.specs.Prelude.{Option, MatchOption, MatchResult}
 use Rattle.std.specs.Io.KnownBytes.{Consumes, Keeps, IsAtEnd}
 use Rattle.std.proofs.KnownBytes.{Consumes-trans, Consumes-kept}
-use Rattle.std.proofs.lemmas.Bool.{false≢true, cases_eq}
+use Rattle.std.proofs.lemmas.Bool.{false≢true}
 use Rattle.std.proofs.lemmas.List.{length-take-le}
-use Rattle.std.proofs.lemmas.List.Elements.{All-head, All-tail}
+use Rattle.stl_syntax.specs.Formula.{Formula}
 use Rattle.stl_syntax.specs.Trace.{Row, Header, Trace}
-use Rattle.trace_reader.specs.TraceText.{Line, lines}
-use Rattle.trace_reader.specs.Plain.{Reader, StandsFor, IsPlain, IsShort, ArePlainLines, none, unfinished, heading}
+use Rattle.stl_syntax.specs.WellFormed.{IsScale}
+use Rattle.stl_syntax.specs.declared.scale.Scale.{Scale}
+use Rattle.trace_reader.specs.TraceText.{Line, Heading, lines, AreTraceLines, blank, heading}
+use Rattle.trace_reader.specs.TraceRefusals.{IsFirstFault}
+use Rattle.trace_reader.specs.Reader.{Reader, StandsFor, HasRead}
 use Rattle.trace_reader.specs.declared.refusal.Limits.{Limits}
-use Rattle.trace_reader.proofs.LineLemmas.{put, lines-nil, lines-feed, lines-other}
-use Rattle.workbench.specs.declared.reading.Stop.{Stop}
-use Rattle.workbench.specs.declared.reading.Stop.TheVariants.{NotPlain, Unread, NoMemory}
-use Rattle.workbench.specs.Reading.{IsRead, IsReadWhole, IsReadInPart, IsStop, IsRefused, IsKept, HasKept, IsWhole, IsAbout, kept}
+use Rattle.trace_reader.proofs.LineLemmas.{lines-nil}
+use Rattle.workbench.specs.InputFaults.{Fault, IsLack, IsInputFault}
+use Rattle.workbench.specs.Reading.{IsRead, IsReadWhole, IsReadInPart, IsSound, IsStop, IsRefused, IsKept, HasKept, IsTied, IsEnded, IsWhole}
+use Rattle.workbench.specs.declared.case.Case.{Case}
+use Rattle.workbench.specs.declared.fault.Stop.{Stop}
+use Rattle.workbench.specs.declared.fault.Stop.TheVariants.{Fault as Faulty, Unread, Unwritten, NoMemory}
+use Rattle.workbench.proofs.HeaderLines.{no_header}
+use Rattle.workbench.proofs.Sizes.{few_bytes}
+use Rattle.workbench.proofs.Feeding.{no_lack}
+
+-- bytes that were kept have no fault so far
+pub sound_so_far : (f : Formula) (reader : Reader) (case : Option Case) (bytes : List ℕ) (k : IsKept f reader case bytes) → IsSound reader.limits f bytes false
+sound_so_far f reader case bytes k x (inl lack) = by_heading reader.heading k.stands.read k.tied
+  where
+    by_heading : (o : Option Heading) → HasRead o reader.least bytes k.rows → IsTied f o bytes k.rows case → ⊥
+    by_heading None read t = no_header (lines false bytes) read.0 lack.2
+    by_heading (Some h) read t = by_case case t
+      where
+        by_case : (c : Option Case) → IsTied f (Some h) bytes k.rows c → ⊥
+        by_case None t = t
+        by_case (Some c) t = no_lack t.2 reader.limits false [] x (subst (λ b. IsLack reader.limits f b false x) (sym (append-nil bytes)) lack)
+sound_so_far f reader case bytes k x (inr (known, (r, first, e))) = k.stands.sound r (subst (λ (s : Scale). IsFirstFault bytes false reader.limits s r) (sym k.least) first)
 
 -- some bytes were read and kept, in so many reads
-pub record Progress (limits : Limits) (name : List ℕ) (before now : Option (List ℕ)) (reader : Reader) (trace : Option Trace) (reads : ℕ) : Type 0 where
+pub record Progress (limits : Limits) (f : Formula) (before now : Option (List ℕ)) (reader : Reader) (case : Option Case) (reads : ℕ) : Type 0 where
   pub bytes : List ℕ
   pub moved : Consumes before now bytes
-  pub is : IsKept name reader trace bytes
+  pub is : IsKept f reader case bytes
   pub same_limits : reader.limits ≡ limits
   pub enough : reads ≤ length bytes
 
--- the bytes of lines, with an LF each
-weigh : List Line → ℕ
-weigh [] = 0
-weigh (l ∷ ls) = suc (length l.bytes) + weigh ls
-
-weigh-put : (x : ℕ) (ls : List Line) → suc (weigh ls) ≤ weigh (put false x ls)
-unfolding weigh
-weigh-put x [] = omega arith
-weigh-put x (l ∷ ls) = omega arith
-
-weigh-lines : (bytes : List ℕ) → length bytes ≤ weigh (lines false bytes)
-unfolding weigh
-weigh-lines [] = omega arith
-weigh-lines (x ∷ xs) = by_test (weigh-lines xs) (cases_eq x 10)
-  where
-    by_test : length xs ≤ weigh (lines false xs) → (x ≡ 10) ⊎ (x ≡ 10 → ⊥) → length (x ∷ xs) ≤ weigh (lines false (x ∷ xs))
-    by_test h (inl e) = rw (e, lines-feed false xs) (omega (arith, h))
-    by_test h (inr e) = rw (lines-other false x xs e) (omega (arith, h, weigh-put x (lines false xs)))
-
-weigh-short : (ls : List Line) → All IsShort ls → weigh ls ≤ 4097 * length ls
-unfolding weigh
-weigh-short [] a = omega arith
-weigh-short (l ∷ ls) a = omega (arith, All-head IsShort l ls a, weigh-short ls (All-tail IsShort l ls a))
-
-module _ {limits : Limits} {name : List ℕ} {before now : Option (List ℕ)} {reader : Reader} {trace : Option Trace} {reads : ℕ} (p : Progress limits name before now reader trace reads) where
+module _ {limits : Limits} {f : Formula} {before now : Option (List ℕ)} {reader : Reader} {case : Option Case} {reads : ℕ} (p : Progress limits f before now reader case reads) where
   -- lines are short and not many, so the reads are few
   pub few_reads : limits.lines ≤ 8589934592 → 18446744073709551615 ≤ reads → ⊥
   few_reads n r =
       let few : reader.limits.lines ≤ 8589934592 = rw (p.same_limits) n in
-      omega (arith, p.enough, weigh-lines p.bytes, weigh-short (lines false p.bytes) p.is.stands.read.short, p.is.stands.read.line_limit)
+      omega (arith, r, p.enough, few_bytes reader.limits reader.least reader.heading p.bytes p.is.rows p.is.stands.read p.is.stands.sound)
 
-  pub has_kept : HasKept name reader trace
+  pub has_kept : HasKept f reader case
   has_kept = record { bytes = p.bytes; is = p.is }
 
-  pub read_in_part : (after : Option (List ℕ)) (ended : Bool) → Keeps now after → ended ≡ false → IsReadInPart limits name before after ended
+  pub read_in_part : (after : Option (List ℕ)) (ended : Bool) → Keeps now after → ended ≡ false → IsReadInPart limits f before after ended
   read_in_part after ended k e = record {
     bytes = p.bytes;
     read = record { moved = Consumes-kept before now after p.bytes p.moved k; all = λ t. absurd (false≢true (sym e ∙ t)) };
     goes_on = e;
-    plain = record {
-      header = reader.header;
-      rows = p.is.rows;
-      plain = subst (λ (x : Limits). IsPlain x false p.bytes reader.header p.is.rows) p.same_limits p.is.stands.read;
-      column = p.is.column;
-    };
+    sound = subst (λ (x : Limits). IsSound x f p.bytes false) p.same_limits (sound_so_far f reader case p.bytes p.is);
   }
 
   pub read_all : (after : Option (List ℕ)) (ended : Bool) (empty : List ℕ) → empty ≡ [] → Consumes now after empty → IsAtEnd after → IsRead before after ended p.bytes
@@ -82,8 +74,8 @@ module _ {limits : Limits} {name : List ℕ} {before now : Option (List ℕ)} {r
     all = λ t. absurd (false≢true (sym e ∙ t));
   }
 
-  pub go_on : (after : Option (List ℕ)) (piece : List ℕ) (later : Reader) (kept : Option Trace) → Consumes now after piece → 0 < length piece
-      → IsKept name later kept (p.bytes ++ piece) → later.limits ≡ reader.limits → Progress limits name before after later kept (reads + 1)
+  pub go_on : (after : Option (List ℕ)) (piece : List ℕ) (later : Reader) (kept : Option Case) → Consumes now after piece → 0 < length piece
+      → IsKept f later kept (p.bytes ++ piece) → later.limits ≡ reader.limits → Progress limits f before after later kept (reads + 1)
   go_on after piece later kept c n k l = record {
     bytes = p.bytes ++ piece;
     moved = Consumes-trans before now after p.bytes piece p.moved c;
@@ -93,38 +85,45 @@ module _ {limits : Limits} {name : List ℕ} {before now : Option (List ℕ)} {r
   }
 
 -- why the reading stopped
-pub stop_from : (l limits : Limits) (name : List ℕ) (before after : Option (List ℕ)) (ended known : Bool) (bytes : List ℕ) (e : Stop) → l ≡ limits → ended ≡ known
-    → IsRefused l name known bytes e → IsRead before after ended bytes → IsStop limits name before after ended e
-stop_from l limits name before after ended known bytes NotPlain s k r read = record {
-  bytes = bytes;
-  read = read;
-  refusal = subst (λ (x : Limits). IsRefused x name ended bytes NotPlain) s (subst (λ b. IsRefused l name b bytes NotPlain) (sym k) r);
-}
-stop_from l limits name before after ended known bytes Unread s k r read = absurd r
-stop_from l limits name before after ended known bytes NoMemory s k r read = tt
+pub stop_from : (l limits : Limits) (f : Formula) (before after : Option (List ℕ)) (ended known : Bool) (bytes : List ℕ) (e : Stop) → l ≡ limits → ended ≡ known
+    → IsRefused l f known bytes e → IsRead before after ended bytes → IsStop limits f before after ended e
+stop_from l limits f before after ended known bytes (Faulty fault) s k (x, is, first) read = (
+  x,
+  is,
+  record {
+    bytes = bytes;
+    read = read;
+    fault = subst (λ (m : Limits). IsInputFault m f bytes ended x) s (subst (λ b. IsInputFault l f bytes b x) (sym k) first);
+  },
+)
+stop_from l limits f before after ended known bytes Unread s k r read = absurd r
+stop_from l limits f before after ended known bytes Unwritten s k r read = absurd r
+stop_from l limits f before after ended known bytes NoMemory s k r read = tt
 
-pub end_from : (l limits : Limits) (name : List ℕ) (before after : Option (List ℕ)) (ended : Bool) (bytes : List ℕ) (r : Result (Unit {0}) Stop) (trace : Option Trace)
+pub end_from : (l limits : Limits) (f : Formula) (before after : Option (List ℕ)) (ended : Bool) (bytes : List ℕ) (r : Result (Unit {0}) Stop) (case : Option Case)
     → l ≡ limits → ended ≡ true → IsRead before after ended bytes
-    → MatchResult r (λ _. MatchOption trace ⊥ (IsWhole l name bytes)) (IsRefused l name true bytes)
-    → MatchResult r (λ _. MatchOption trace ⊥ (IsReadWhole limits name before after ended)) (IsStop limits name before after ended)
-end_from l limits name before after ended bytes (Ok x) None s k read m = absurd m
-end_from l limits name before after ended bytes (Ok x) (Some t) s k read m = record {
+    → MatchResult r (λ _. MatchOption case ⊥ (IsEnded l f bytes)) (IsRefused l f true bytes)
+    → MatchResult r (λ _. MatchOption case ⊥ (IsReadWhole limits f before after ended)) (IsStop limits f before after ended)
+end_from l limits f before after ended bytes (Ok x) None s k read m = absurd m
+end_from l limits f before after ended bytes (Ok x) (Some c) s k read m = record {
   bytes = bytes;
   read = read;
   came_to_end = k;
-  whole = subst (λ (y : Limits). IsWhole y name bytes t) s m;
+  whole = subst (λ (y : Limits). IsWhole y f bytes c.trace) s m.whole;
+  case = m.case;
 }
-end_from l limits name before after ended bytes (Err e) trace s k read m = stop_from l limits name before after ended true bytes e s k m read
+end_from l limits f before after ended bytes (Err e) case s k read m = stop_from l limits f before after ended true bytes e s k m read
 
 -- a refusal is no fault of the source
-pub not_unread : (l : Limits) (name : List ℕ) (ended : Bool) (bytes : List ℕ) (e : Stop) → IsRefused l name ended bytes e → ◌≡◌ {A = Result (Unit {0}) Stop} (Err e) (Err Unread) → ⊥
-not_unread l name ended bytes NotPlain r same = let f = same in cc
-not_unread l name ended bytes Unread r same = r
-not_unread l name ended bytes NoMemory r same = let f = same in cc
+pub not_unread : (l : Limits) (f : Formula) (ended : Bool) (bytes : List ℕ) (e : Stop) → IsRefused l f ended bytes e → ◌≡◌ {A = Result (Unit {0}) Stop} (Err e) (Err Unread) → ⊥
+not_unread l f ended bytes (Faulty fault) r same = let k = same in cc
+not_unread l f ended bytes Unread r same = r
+not_unread l f ended bytes Unwritten r same = r
+not_unread l f ended bytes NoMemory r same = let k = same in cc
 
-pub end_not_unread : (l : Limits) (name : List ℕ) (ended : Bool) (bytes : List ℕ) (P : Unit {0} → Type 0) (r : Result (Unit {0}) Stop) → MatchResult r P (IsRefused l name ended bytes) → r ≡ Err Unread → ⊥
-end_not_unread l name ended bytes P (Ok x) m same = let f = same in cc
-end_not_unread l name ended bytes P (Err e) m same = not_unread l name ended bytes e m same
+pub end_not_unread : (l : Limits) (f : Formula) (ended : Bool) (bytes : List ℕ) (P : Unit {0} → Type 0) (r : Result (Unit {0}) Stop) → MatchResult r P (IsRefused l f ended bytes) → r ≡ Err Unread → ⊥
+end_not_unread l f ended bytes P (Ok x) m same = let k = same in cc
+end_not_unread l f ended bytes P (Err e) m same = not_unread l f ended bytes e m same
 
 pub none_taken : (n : ℕ) (buf : List ℕ) → n ≡ 0 → take n buf ≡ []
 none_taken n buf e = subst (λ m. take m buf ≡ []) (sym e) refl
@@ -136,18 +135,22 @@ pub not_true : (b : Bool) → (b ≡ true → ⊥) → b ≡ false
 not_true true h = absurd (h refl)
 not_true false h = refl
 
-nothing : {ls : List Line} {header : Option Header} {rows : List Row} → ArePlainLines ls header rows → ls ≡ [] → header ≡ None
-nothing none e = refl
-nothing (unfinished w) e = refl
-nothing (heading w h rs) e = absurd (let f = e in cc)
-
 -- before the first read
-pub at_first : (name : List ℕ) (reader : Reader) → StandsFor reader [] [] → IsKept name reader None []
-at_first name reader s =
-    let no_header : reader.header ≡ None = nothing s.read.read (lines-nil false) in
+pub at_first : (f : Formula) (reader : Reader) → reader.least ≡ f.scale → IsScale f.scale → StandsFor reader [] [] → IsKept f reader None []
+at_first f reader least ticks s =
+    let no_heading : reader.heading ≡ None = none reader.heading refl in
     record {
       rows = [];
+      ticks = ticks;
+      least = least;
       stands = s;
-      column = subst (IsAbout name) (sym no_header) tt;
-      rows_kept = ap (λ (x : Option Header). kept x []) (sym no_header);
+      tied = subst (λ o. IsTied f o [] [] None) (sym no_heading) refl;
     }
+  where
+    none : (o : Option Heading) → reader.heading ≡ o → reader.heading ≡ None
+    none None e = e
+    none (Some h) e = absurd (empty (lines-nil false) (subst (λ o. HasRead o reader.least [] []) e s.read))
+      where
+        empty : {ls : List Line} {header : Header} → ls ≡ [] → AreTraceLines reader.least ls header [] → ⊥
+        empty e (blank w b m) = let k = e in cc
+        empty e (heading g w b k m) = let k = e in cc

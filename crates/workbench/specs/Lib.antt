@@ -3,10 +3,11 @@ pub mod Generator
 pub mod Commands
 pub mod InputFaults
 pub mod Sessions
-pub mod PlainFormula
-pub mod Spelling
 pub mod Words
 pub mod Writing
 pub mod Answers
-pub mod PlainRun
+pub mod Lines
 pub mod Reading
+pub mod Cases
+pub mod Run
+pub mod Judging

@@ -1,110 +1,104 @@
--- Reading a plain trace of one column from a source.
-use Rattle.std.specs.Prelude.{◌≡◌, ◌≢◌, ◌⊎◌, ℕ, ◌<◌, Bool, true, false, List, [], ◌∷◌, ◌++◌, length, Option, Some, None, IfSome, option_map}
+-- Reading the trace of a formula from a source.
+use Rattle.std.specs.Prelude.{◌≡◌, ℕ, Bool, true, false, List, ◌++◌, Option, Some, None}
 use Rattle.std.specs.Io.KnownBytes.{Consumes, IsAtEnd}
-use Rattle.stl_syntax.specs.Trace.{Row, Header, Trace, last_time}
-use Rattle.trace_reader.specs.Plain.{Reader, StandsFor, IsPlain, HasFault, header_of, name_of}
+use Rattle.stl_syntax.specs.Formula.{Formula}
+use Rattle.stl_syntax.specs.Trace.{Row, Trace}
+use Rattle.stl_syntax.specs.WellFormed.{IsScale}
+use Rattle.trace_reader.specs.TraceText.{Heading, scale_of}
+use Rattle.trace_reader.specs.TraceRefusals.{HasTrace}
+use Rattle.trace_reader.specs.Reader.{Reader, StandsFor}
 use Rattle.trace_reader.specs.declared.refusal.Limits.{Limits}
-use Rattle.workbench.specs.declared.reading.Stop.{Stop}
-use Rattle.workbench.specs.declared.reading.Stop.TheVariants.{NotPlain, Unread, NoMemory}
+use Rattle.trace_reader.specs.declared.refusal.TraceRefusal.{TraceRefusal}
+use Rattle.trace_reader.specs.declared.refusal.TraceKind.TheVariants.{NoRows}
+use Rattle.workbench.specs.InputFaults.{Fault, IsInputFault}
+use Rattle.workbench.specs.Cases.{IsFault, IsCase, IsHeaderOf, IsLacking, IsNoBegin}
+use Rattle.workbench.specs.declared.case.Case.{Case}
+use Rattle.workbench.specs.declared.fault.TraceFault.TheVariants.{Trace as InTrace}
+use Rattle.workbench.specs.declared.fault.Stop.{Stop}
+use Rattle.workbench.specs.declared.fault.Stop.TheVariants.{Fault as Faulty, Unread, Unwritten, NoMemory}
 
 -- these bytes were read, and they are all where the source came to its end
 pub record IsRead (before after : Option (List ℕ)) (ended : Bool) (bytes : List ℕ) : Type 0 where
   pub moved : Consumes before after bytes
   pub all : ended ≡ true → IsAtEnd after
 
--- the header, once it was read, has this one column
-abbrev pub IsAbout : List ℕ → Option Header → Type 0
-IsAbout name header = IfSome header (λ h. h ≡ header_of name)
+-- the bytes, which the input may have ended, have no fault for the formula
+abbrev pub IsSound : Limits → Formula → List ℕ → Bool → Type 0
+IsSound limits f bytes ended = (x : Fault) → ¬ IsInputFault limits f bytes ended x
 
--- the bytes so far are of the plain form, with no header yet or one of this column
-pub record IsPlainSoFar (limits : Limits) (name bytes : List ℕ) : Type 0 where
-  pub header : Option Header
-  pub rows : List Row
-  pub plain : IsPlain limits false bytes header rows
-  pub column : IsAbout name header
-
--- the bytes begin with a trace of another column
-pub record HasOtherColumn (limits : Limits) (name bytes : List ℕ) : Type 0 where
-  pub front : List ℕ
-  pub back : List ℕ
-  pub other : List ℕ
-  pub rows : List Row
-  pub parts : bytes ≡ front ++ back
-  pub plain : IsPlain limits false front (Some (header_of other)) rows
-  pub differs : other ≢ name
-
--- the bytes, which the input may have ended, are of no plain trace of this column
-abbrev pub HasRefusal : Limits → List ℕ → Bool → List ℕ → Type 0
-HasRefusal limits name ended bytes = HasFault limits ended bytes ⊎ HasOtherColumn limits name bytes
-
--- the bytes, all of them, are those of a trace of this column
-pub record IsWhole (limits : Limits) (name bytes : List ℕ) (trace : Trace) : Type 0 where
-  pub plain : IsPlain limits true bytes (Some trace.header) trace.rows
-  pub column : trace.header ≡ header_of name
+-- the bytes, all of them, are those of the trace, and have no fault for the formula
+pub record IsWhole (limits : Limits) (f : Formula) (bytes : List ℕ) (tr : Trace) : Type 0 where
+  pub trace : HasTrace bytes limits f.scale tr
+  pub sound : IsSound limits f bytes true
 
 -- the source came to its end, and its bytes are those of the trace
-pub record IsReadWhole (limits : Limits) (name : List ℕ) (before after : Option (List ℕ)) (ended : Bool) (trace : Trace) : Type 0 where
+pub record IsReadWhole (limits : Limits) (f : Formula) (before after : Option (List ℕ)) (ended : Bool) (c : Case) : Type 0 where
   pub bytes : List ℕ
   pub read : IsRead before after ended bytes
   pub came_to_end : ended ≡ true
-  pub whole : IsWhole limits name bytes trace
+  pub whole : IsWhole limits f bytes c.trace
+  pub case : IsCase f c
 
--- the bytes that were read are refused
-pub record IsReadRefused (limits : Limits) (name : List ℕ) (before after : Option (List ℕ)) (ended : Bool) : Type 0 where
+-- the bytes that were read have this first fault
+pub record IsReadFault (limits : Limits) (f : Formula) (before after : Option (List ℕ)) (ended : Bool) (x : Fault) : Type 0 where
   pub bytes : List ℕ
   pub read : IsRead before after ended bytes
-  pub refusal : HasRefusal limits name ended bytes
+  pub fault : IsInputFault limits f bytes ended x
 
 -- the source failed before its end, and the bytes that were read have no fault
-pub record IsReadInPart (limits : Limits) (name : List ℕ) (before after : Option (List ℕ)) (ended : Bool) : Type 0 where
+pub record IsReadInPart (limits : Limits) (f : Formula) (before after : Option (List ℕ)) (ended : Bool) : Type 0 where
   pub bytes : List ℕ
   pub read : IsRead before after ended bytes
   pub goes_on : ended ≡ false
-  pub plain : IsPlainSoFar limits name bytes
+  pub sound : IsSound limits f bytes false
 
 -- why the reading stopped
-abbrev pub IsStop : Limits → List ℕ → Option (List ℕ) → Option (List ℕ) → Bool → Stop → Type 0
-IsStop limits name before after ended NotPlain = IsReadRefused limits name before after ended
-IsStop limits name before after ended Unread = IsReadInPart limits name before after ended
-IsStop limits name before after ended NoMemory = Unit {0}
+abbrev pub IsStop : Limits → Formula → Option (List ℕ) → Option (List ℕ) → Bool → Stop → Type 0
+IsStop limits f before after ended (Faulty fault) = (x : Fault) × IsFault f fault x × IsReadFault limits f before after ended x
+IsStop limits f before after ended Unread = IsReadInPart limits f before after ended
+IsStop limits f before after ended Unwritten = ⊥
+IsStop limits f before after ended NoMemory = Unit {0}
 
 -- these bytes were handed over, and may have ended; a trace was not made of them for this reason
-abbrev pub IsRefused : Limits → List ℕ → Bool → List ℕ → Stop → Type 0
-IsRefused limits name ended bytes NotPlain = HasRefusal limits name ended bytes
-IsRefused limits name ended bytes Unread = ⊥
-IsRefused limits name ended bytes NoMemory = Unit {0}
+abbrev pub IsRefused : Limits → Formula → Bool → List ℕ → Stop → Type 0
+IsRefused limits f ended bytes (Faulty fault) = (x : Fault) × IsFault f fault x × IsInputFault limits f bytes ended x
+IsRefused limits f ended bytes Unread = ⊥
+IsRefused limits f ended bytes Unwritten = ⊥
+IsRefused limits f ended bytes NoMemory = Unit {0}
 
--- what is kept of a trace: nothing before its header
-abbrev pub kept : Option Header → List Row → Option Trace
-kept header rows = option_map (λ h. record { header = h; rows = rows }) header
+-- once the header was read, there is a case of it with the rows
+abbrev pub IsTied : Formula → Option Heading → List ℕ → List Row → Option Case → Type 0
+IsTied f None bytes rows case = case ≡ None
+IsTied f (Some h) bytes rows None = ⊥
+IsTied f (Some h) bytes rows (Some c) = IsCase f c × (c.trace.rows ≡ rows) × IsHeaderOf f bytes c.trace.header
 
 -- the reader took these bytes, and this is what was kept of them
-pub record IsKept (name : List ℕ) (reader : Reader) (trace : Option Trace) (bytes : List ℕ) : Type 0 where
+pub record IsKept (f : Formula) (reader : Reader) (case : Option Case) (bytes : List ℕ) : Type 0 where
   pub rows : List Row
+  pub ticks : IsScale f.scale
+  pub least : reader.least ≡ f.scale
   pub stands : StandsFor reader bytes rows
-  pub column : IsAbout name reader.header
-  pub rows_kept : trace ≡ kept reader.header rows
+  pub tied : IsTied f reader.heading bytes rows case
 
 -- the reader took some bytes, and this is what was kept of them
-pub record HasKept (name : List ℕ) (reader : Reader) (trace : Option Trace) : Type 0 where
+pub record HasKept (f : Formula) (reader : Reader) (case : Option Case) : Type 0 where
   pub bytes : List ℕ
-  pub is : IsKept name reader trace bytes
+  pub is : IsKept f reader case bytes
 
--- a header of another column, or no memory
-abbrev pub IsNoBegin : List ℕ → Header → Stop → Type 0
-IsNoBegin name header NotPlain = name_of header ≢ name
-IsNoBegin name header Unread = ⊥
-IsNoBegin name header NoMemory = Unit {0}
+-- the header that a reader has read, in ticks of at most six digits
+pub record HasHeader (f : Formula) (reader : Reader) : Type 0 where
+  pub heading : Heading
+  pub read : reader.heading ≡ Some heading
+  pub least : reader.least ≡ f.scale
+  pub ticks : IsScale (scale_of f.scale heading)
 
--- the trace with one more row
-abbrev pub with_row : Row → Trace → Trace
-with_row r t = record t { rows = t.rows ++ r ∷ [] }
+-- the first fault of all bytes, where the reader ended with this one: what a header without rows lacks comes before it
+pub data IsLastFault (f : Formula) (reader : Reader) (case : Option Case) (r : TraceRefusal) : Stop → Type 0 where
+  of_header : {stop : Stop} (h : Heading) → case ≡ None → r.kind ≡ NoRows → reader.heading ≡ Some h → IsNoBegin f r.line h stop → IsLastFault f reader case r stop
+  own : (case ≡ None → r.kind ≡ NoRows → (h : Heading) → reader.heading ≡ Some h → (x : Fault) → ¬ IsLacking f r.line h x)
+      → IsLastFault f reader case r (Faulty (InTrace r))
 
--- a trace that can take the row: one value, at a later time
-abbrev pub Takes : Row → Trace → Type 0
-Takes r t = (length r.values ≡ length t.header.columns) × (0 < length t.rows → last_time 0 t.rows < r.time)
-
--- a trace was begun, which can take the row
-abbrev pub CanKeep : Option Trace → Row → Type 0
-CanKeep None r = ⊥
-CanKeep (Some t) r = Takes r t
+-- the bytes, all of them, are those of the case's trace
+pub record IsEnded (limits : Limits) (f : Formula) (bytes : List ℕ) (c : Case) : Type 0 where
+  pub whole : IsWhole limits f bytes c.trace
+  pub case : IsCase f c

@@ -1,26 +1,25 @@
-//! The answer of `check` for a plain formula and a trace.
-ghost use Rattle.std.specs.Prelude.{◌≡◌, ◌≤◌, ◌<◌, ◌^◌, ◌++◌, ℕ, List, length, nat_abs, IfOk, OnOk, MatchBool};
-ghost use Rattle.rational.specs.Time.{closed};
-ghost use Rattle.report.specs.Appended.{Grew};
-ghost use Rattle.stl_syntax.specs.Formula.{Subformula};
-ghost use Rattle.stl_syntax.specs.Trace.{Trace as Table, start, stop};
-ghost use Rattle.stl_syntax.specs.Truth.{Truth};
-ghost use Rattle.stl_syntax.specs.Texts.{AreVerdictLines, start_line};
-ghost use Rattle.stl_syntax.specs.Verdicts.{Describes};
-ghost use Rattle.trace_reader.specs.Plain.{no_digits, name_of};
-ghost use Rattle.workbench.specs.PlainFormula.{plain_formula};
-ghost use Rattle.workbench.specs.Spelling.{IsPlainTrace};
+//! The answer of `check` for a formula and a trace.
+ghost use Rattle.std.specs.Prelude.{◌≡◌, ◌≤◌, ◌<◌, ◌+◌, length, IfOk, OnOk};
+ghost use Rattle.stl_syntax.specs.Formula.{Formula as Parsed};
+ghost use Rattle.stl_syntax.specs.Trace.{first_time, last_time};
+ghost use Rattle.atom_lines.specs.Binding.{IsBound};
+ghost use Rattle.workbench.specs.Cases.{IsCase};
 ghost use Rattle.workbench.specs.Answers.{IsJudged};
+ghost use Rattle.workbench.specs.Judging.{AreAtomsOf, AreNodesOf, IsSignalText};
 
-use crate::spans::verdicts;
-use frac128::Memory;
-use report::{put_start, put_verdict};
+use crate::case::Case;
+use atom_lines::atom_signal;
+use frac128::{Memory, Steps};
+use offline_eval::laws::told_have_values;
+use offline_eval::{Atoms, EvalFault, Evaluated, eval};
+use pl_signal::Signal;
+use report::{put_start, put_verdicts};
 use std::alloc::Global;
-use stl_syntax::{Scale, Text, Verdict};
+use std::marker::Brand;
+use std::sync::ledger::{Blank, Ledger};
+use stl_syntax::{Node, Scale, Text};
 use trace_reader::Trace;
-
-/// Ticks of whole units.
-const NO_DIGITS: Scale = Scale { time: 0, value: 0 };
+use value_laws::{Shape, Truth};
 
 /// The truth at the start, and the text that tells it after the verdicts.
 #[derive(Drop)]
@@ -29,49 +28,96 @@ pub(crate) struct Answer {
     pub(crate) text: Text,
 }
 
-/// The truth at the start, which the first of the verdicts tells.
-fn holds_at_start(verdicts: &[Verdict]) -> bool
-    requires { (p : Subformula) × (tr : Table) × Describes verdicts.now p tr (closed (start tr) (stop tr)) }
-    ensures { (p : Subformula) (tr : Table) → Describes verdicts.now p tr (closed (start tr) (stop tr))
-        → MatchBool result (Truth p tr (start tr)) (¬ Truth p tr (start tr)) }
+/// The time of the first row.
+fn first(trace: &Trace) -> u32
+    requires { 0 < length trace.now.rows }
+    ensures { result ≡ first_time trace.now.rows }
 {
-    match verdicts {
-        [first, ..] => first.holds,
-        [] => unreachable!(),
+    trace.time(0)
+}
+
+/// The time of the last row.
+fn last(trace: &Trace) -> u32
+    requires { 0 < length trace.now.rows }
+    ensures last { result ≡ last_time 0 trace.now.rows }
+    ensures later { first_time trace.now.rows ≤ result }
+{
+    trace.time(trace.rows() - 1)
+}
+
+/// Adds the signal of the node, where it is an atom.
+fn add_atom(alloc: Global, case: &Case, i: u32, atoms: &mut Atoms<Truth>) -> Result<(), Memory>
+    requires bound { IsBound case.now.bound case.now.formula case.now.trace.header }
+    requires some { 0 < length case.now.trace.rows }
+    requires inside { i < length case.now.formula.nodes }
+    requires before { AreAtomsOf ⟦<Truth as Shape>⟧.function ⟦<Truth as Shape>⟧.base case.now i atoms.old }
+    ensures { OnOk result (AreAtomsOf ⟦<Truth as Shape>⟧.function ⟦<Truth as Shape>⟧.base case.now (i + 1) atoms.new) }
+{
+    let _ = case.trace.rows();
+    match case.formula.node(i) {
+        Node::Atom(_) => {
+            let signal = atom_signal::<Truth>(alloc, &case.bound, i, &case.trace)?;
+            atoms.add(signal)
+        }
+        _ => Ok(()),
     }
 }
 
-/// Appends the lines of the verdicts.
-fn put_verdicts(text: &mut Text, verdicts: &[Verdict]) -> Result<(), Memory>
-    ensures { OnOk result (Grew (AreVerdictLines no_digits verdicts.now) text.old text.new) }
+/// The signals of the formula's atoms over the trace.
+fn atoms_of(alloc: Global, case: &Case) -> Result<Atoms<Truth>, Memory>
+    requires bound { IsBound case.now.bound case.now.formula case.now.trace.header }
+    requires some { 0 < length case.now.trace.rows }
+    ensures { IfOk result
+        (AreAtomsOf ⟦<Truth as Shape>⟧.function ⟦<Truth as Shape>⟧.base case.now (length case.now.formula.nodes)) }
 {
-    for v in verdicts {
-        put_verdict(text, v, NO_DIGITS)?;
+    let mut atoms = Atoms::new(alloc);
+    for i in 0..case.formula.len() {
+        add_atom(alloc, case, i, &mut atoms)?;
     }
-    Ok(())
+    Ok(atoms)
 }
 
-/// The answer that the verdicts give.
-fn tell(alloc: Global, verdicts: &[Verdict]) -> Result<Answer, Memory>
-    requires { (p : Subformula) × (tr : Table) × Describes verdicts.now p tr (closed (start tr) (stop tr)) }
-    ensures truth { IfOk result (λ a. (p : Subformula) (tr : Table) → Describes verdicts.now p tr (closed (start tr) (stop tr))
-        → MatchBool a.holds (Truth p tr (start tr)) (¬ Truth p tr (start tr))) }
-    ensures text { IfOk result (λ a. (body : List ℕ) × AreVerdictLines no_digits verdicts.now body × (a.text ≡ body ++ start_line a.holds)) }
+/// A signal for each node, with the truth of its formula at every time of the trace. Truth is never refused as `Wide`.
+fn nodes_of<L: Ledger>(alloc: Global, case: &Case, blank: Blank) -> Result<Evaluated<Truth>, Memory>
+    requires bound { IsBound case.now.bound case.now.formula case.now.trace.header }
+    requires some { 0 < length case.now.trace.rows }
+    requires name { blank.name ≡ L.name }
+    requires parts { blank.parts ≡ L.parts }
+    requires shares { 0 < blank.parts }
+    ensures { IfOk result (AreNodesOf ⟦<Truth as Shape>⟧.function case.now) }
 {
-    let holds = holds_at_start(verdicts);
+    let atoms = atoms_of(alloc, case)?;
+    let (from, to) = (first(&case.trace), last(&case.trace));
+    let mut steps: Steps<L> = Steps::new(blank);
+    match eval(alloc, &case.formula, from, to, atoms, &mut steps) {
+        Ok(done) => Ok(done),
+        Err(EvalFault::Memory) => Err(Memory),
+        Err(EvalFault::Wide(_)) => unreachable!(),
+    }
+}
+
+/// The text that a signal of truth gives, with times in units of the scale.
+fn answer_of(alloc: Global, scale: Scale, s: &Signal<Truth>) -> Result<Answer, Memory>
+    requires { scale.time ≤ 6 }
+    ensures { IfOk result (λ a. IsSignalText ⟦<Truth as Shape>⟧.function scale s.now a.holds a.text) }
+{
+    let _ = s.len();
     let mut text = Text::new(alloc);
-    put_verdicts(&mut text, verdicts)?;
+    put_verdicts(&mut text, s, scale)?;
+    let holds = s.knot(0).point.holds();
     put_start(&mut text, holds)?;
     Ok(Answer { holds, text })
 }
 
-/// Judges the trace by the plain formula about its column.
-pub(crate) fn judge(alloc: Global, trace: &Trace, limit: i32) -> Result<Answer, Memory>
-    requires plain { IsPlainTrace trace.now }
-    requires some { 0 < length trace.now.rows }
-    requires limit { nat_abs limit ≤ 2 ^ 30 }
-    ensures { IfOk result (λ a. IsJudged (plain_formula (name_of trace.now.header) limit) trace.now a.holds a.text) }
+/// Judges a trace that has a row by the formula that is bound to it.
+pub(crate) fn judge(alloc: Global, case: &Case) -> Result<Answer, Memory>
+    requires case { (f : Parsed) × IsCase f case.now }
+    requires some { 0 < length case.now.trace.rows }
+    ensures { IfOk result (λ a. (f : Parsed) → IsCase f case.now → IsJudged f case.now.trace a.holds a.text) }
 {
-    let verdicts = verdicts(alloc, trace, limit)?;
-    tell(alloc, &verdicts)
+    let scale = case.formula.scale();
+    let root = case.formula.len() - 1;
+    let nodes = nodes_of::<Brand>(alloc, case, Blank::new(1))?;
+    told_have_values::<Truth>();
+    answer_of(alloc, scale, nodes.signal(root))
 }

@@ -2,14 +2,13 @@
 #![tactic(auto)]
 
 mod answer;
+mod case;
+mod fault;
+mod line;
 mod output;
-mod plain_formula;
 mod reading;
-mod spans;
+mod texts;
 mod top;
 mod words;
 
 pub use top::run;
-
-#[cfg(test)]
-mod tests;

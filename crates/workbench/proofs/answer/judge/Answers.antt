@@ -1,17 +1,21 @@
-use Rattle.std.proofs.Common.{◌≡◌, to_z, of_z, arith, subst}
-use Rattle.std.specs.Int.{w32}
-use Rattle.std.proofs.lemmas.Int.{ints}
-use Rattle.rational.specs.Time.{closed}
-use Rattle.stl_syntax.specs.Trace.{start, stop}
-use Rattle.stl_syntax.specs.Verdicts.{Describes}
-use Rattle.workbench.specs.Spelling.{plain_root}
-use Rattle.workbench.proofs.Starts.{judged_result}
+use Rattle.std.proofs.Common.{◌≡◌, ◌-◌, ◌<◌, ◌∙◌, length, Some, sym, ap, subst, refl, arith}
+use Rattle.std.specs.Prelude.{slice_get}
+use Rattle.std.proofs.lemmas.Result.{IfOk-weaker}
+use Rattle.stl_syntax.specs.SupInf.{truth_setting}
+use Rattle.workbench.specs.Judging.{IsSignalText}
+use Rattle.workbench.proofs.Judged.{truth_function, root_told, judged}
 use Rattle.workbench.proofs.answer.judge.Goals as goal
 
 pub returns : goal.returns
 returns c =
-    let tr = c.args.trace.now in
-    let limit_is : to_z w32 (of_z w32 c.args.limit) ≡ c.args.limit = omega (arith, ints) in
-    let told = subst (λ n. Describes c.in_ok-verdicts.verdicts.items (plain_root tr n) tr (closed (start tr) (stop tr))) limit_is (c.in_ok-verdicts.ensures) in
-    judged_result tr c.args.limit c.in_ok-verdicts.verdicts.items c.tell.result c.requires.plain.one_ramp told (rw (← c.deref.ensures.value) c.tell.ensures.truth)
-    (rw (← c.deref.ensures.value) c.tell.ensures.text)
+    let case = c.args.case.now in
+    let nodes = case.formula.nodes in
+    let some : 0 < length nodes = c.len-root.ensures.well_formed.some in
+    let x = c.signal.result.now in
+    let at : slice_get c.in_ok-nodes.nodes (length nodes - 1) ≡ Some x = subst (λ n. slice_get c.in_ok-nodes.nodes (n - 1) ≡ Some x) c.len-root.ensures.count c.signal.ensures in
+    let all = c.in_ok-nodes.ensures in
+    let values = (c.told_have_values.ensures nodes c.in_ok-nodes.nodes (truth_setting case.trace) c.len-root.ensures.well_formed.nodes.post_order refl all.told (length nodes - 1) (omega (arith, some))).0 in
+    IfOk-weaker c.answer_of.result _ _
+    (λ a is f is_case. judged case f is_case values x (root_told case c.in_ok-nodes.nodes all some x at) a.holds a.text
+    (subst (λ s. IsSignalText truth_function s x a.holds a.text) c.scale-scale.ensures.scale is))
+    c.answer_of.ensures

@@ -1,54 +1,35 @@
-use Rattle.std.proofs.Common.{◌≡◌, to_z, of_z, inl, inr, arith, subst}
-use Rattle.std.specs.Int.{w32}
-use Rattle.std.proofs.lemmas.Int.{ints}
-use Rattle.workbench.specs.PlainRun.{IsEnding}
-use Rattle.workbench.proofs.PlainRuns.{run-status, run-no_form, run-all_read, run-refused, run-due, run-answered, run-cut_off, other-due, not_other}
+use Rattle.std.proofs.Common.{map, subst, inl, inr, refl}
+use Rattle.std.specs.Prelude.{string_bytes}
+use Rattle.workbench.specs.Run.{IsSaid, check_usage, no_words, no_formula}
+use Rattle.workbench.proofs.Runs.{ends_soundly, checked_run, not_early, not_small}
 use Rattle.workbench.proofs.top.obey.Goals as goal
-use Rattle.workbench.proofs.top.obey.Goals.{After-check}
-use Rattle.workbench.proofs.top.obey.Given as given
 
-ending : (g : given.Over) (c : After-check g) → IsEnding c.in-Some-plain_formula.formula.name.now c.in-Some-plain_formula.formula.limit (g.S.Source.left c.args.input.now)
-    (g.S.Source.left c.check.new.input) (g.S.Source.ended c.check.new.input) (g.K.Sink.written c.args.out.now) (g.K.Sink.written c.check.new.out) c.check.result
-ending g c =
-    let limit_is : to_z w32 (of_z w32 c.in-Some-plain_formula.formula.limit) ≡ c.in-Some-plain_formula.formula.limit = omega (arith, ints) in
-    subst (λ l. IsEnding c.in-Some-plain_formula.formula.name.now l (g.S.Source.left c.args.input.now) (g.S.Source.left c.check.new.input) (g.S.Source.ended c.check.new.input)
-    (g.K.Sink.written c.args.out.now) (g.K.Sink.written c.check.new.out) c.check.result) limit_is c.check.ensures.ending
+pub finish-requires : goal.finish-requires
+finish-requires g c = ends_soundly c.check-ending.ensures.ending
 
-pub returns-in_default-plain_formula-clause-due : goal.returns-in_default-plain_formula-clause-due
-returns-in_default-plain_formula-clause-due g c = other-due c.in-Some.ensures c.in_default-plain_formula.ensures
+pub returns-in_default-clause-ran : goal.returns-in_default-clause-ran
+returns-in_default-clause-ran g c = (check_usage, no_words c.in_default.ensures, subst (λ l. IsSaid (g.E.Sink.written c.args.err.now) (g.E.Sink.written c.say.new.err) (g.E.Sink.faults c.args.err.now) (g.E.Sink.faults c.say.new.err) l) c.plain.ensures c.say.ensures.said)
 
-pub returns-clause-status : goal.returns-clause-status
-returns-clause-status g c = run-status c.in-Some.ensures c.in-Some-plain_formula.ensures (ending g c)
+pub returns-in-Ok-clause-ran : goal.returns-in-Ok-clause-ran
+returns-in-Ok-clause-ran g c =
+    let told = c.finish.ensures.said in (
+      told.0,
+      checked_run (map string_bytes c.args.words.now) (g.S.Source.left c.args.input.now) (g.S.Source.left c.check-ending.new.input) (g.S.Source.ended c.check-ending.new.input)
+          (g.K.Sink.written c.args.out.now) (g.K.Sink.written c.check-ending.new.out) c.in-Ok.formula c.check-ending.result c.finish.result told.0 c.finish.ensures.status
+          (record { text = c.in-Some.text.now; form = c.in-Some.ensures; is = c.in-Ok.ensures.ok }) c.check-ending.ensures.ending told.1,
+      told.2,
+    )
 
-pub returns-clause-words : goal.returns-clause-words
-returns-clause-words g c = (
-  λ two. absurd (run-no_form c.in-Some.ensures c.in-Some-plain_formula.ensures (ending g c) (omega arith) (omega arith) two),
-  λ none. absurd (none c.in-Some.text.now c.in-Some.ensures),
-)
+pub returns-in-Err-clause-ran : goal.returns-in-Err-clause-ran
+returns-in-Err-clause-ran g c =
+    let told = c.refuse.ensures.ended c.in-Some.text.now c.in-Err.ensures.fault in
+    (told.0, no_formula c.in-Some.text.now c.in-Some.ensures told.1, told.2)
 
-pub returns-clause-formula : goal.returns-clause-formula
-returns-clause-formula g c = (
-  λ three. absurd (run-no_form c.in-Some.ensures c.in-Some-plain_formula.ensures (ending g c) (omega arith) (omega arith) three),
-  λ other. absurd (not_other c.in-Some.ensures c.in-Some-plain_formula.ensures other),
-)
+pub returns-in-Err-clause-read : goal.returns-in-Err-clause-read
+returns-in-Err-clause-read g c = λ e. absurd (not_early c.refuse.result 5 c.refuse.ensures.few (inl refl) e)
 
-pub returns-clause-refused : goal.returns-clause-refused
-returns-clause-refused g c = run-refused c.in-Some.ensures c.in-Some-plain_formula.ensures (ending g c)
+pub returns-in-Err-clause-write : goal.returns-in-Err-clause-write
+returns-in-Err-clause-write g c = λ e. absurd (not_early c.refuse.result 6 c.refuse.ensures.few (inr refl) e)
 
-pub returns-clause-due : goal.returns-clause-due
-returns-clause-due g c = run-due c.in-Some.ensures c.in-Some-plain_formula.ensures (ending g c)
-
-pub returns-clause-answered : goal.returns-clause-answered
-returns-clause-answered g c = run-answered c.in-Some.ensures c.in-Some-plain_formula.ensures (ending g c)
-
-pub returns-clause-cut_off : goal.returns-clause-cut_off
-returns-clause-cut_off g c = run-cut_off c.in-Some.ensures c.in-Some-plain_formula.ensures (ending g c)
-
-pub returns-clause-unread : goal.returns-clause-unread
-returns-clause-unread g c = λ h. elim h as (λ v. c.check.new.input ≡ c.args.input.now) [
-  | inl two ↦ absurd (run-no_form c.in-Some.ensures c.in-Some-plain_formula.ensures (ending g c) (omega arith) (omega arith) two)
-  | inr three ↦ absurd (run-no_form c.in-Some.ensures c.in-Some-plain_formula.ensures (ending g c) (omega arith) (omega arith) three)
-]
-
-pub returns-clause-all_read : goal.returns-clause-all_read
-returns-clause-all_read g c = run-all_read c.in-Some.ensures c.in-Some-plain_formula.ensures (ending g c)
+pub returns-in-Err-clause-quiet : goal.returns-in-Err-clause-quiet
+returns-in-Err-clause-quiet g c = λ e. absurd (not_small c.refuse.result c.refuse.ensures.few e)

@@ -2,14 +2,14 @@ use Rattle.std.proofs.Common.{◌≤◌, ◌++◌, length, take, drop, refl, sym
 use Rattle.std.proofs.lemmas.Result.{err_from_is_err_and}
 use Rattle.workbench.specs.Reading.{IsKept}
 use Rattle.workbench.proofs.Devices.{rest_is}
-use Rattle.workbench.proofs.Feeding.{fed, fed_err}
+use Rattle.workbench.proofs.Fed.{fed, fed_err}
 use Rattle.workbench.proofs.reading.Reading.feed.Goals as goal
 
 pub loop-at-init : goal.loop-at-init
 loop-at-init c = record {
   within = omega arith;
   limits = refl;
-  taken = λ bytes k. subst (λ b. IsKept c.args.name.now c.args.self.now.rows c.args.self.now.trace b) (sym (append-nil bytes)) k;
+  taken = λ bytes k. subst (λ b. IsKept c.args.formula.now c.args.self.now.rows c.args.self.now.case b) (sym (append-nil bytes)) k;
 }
 
 pub step-requires : goal.step-requires
@@ -21,7 +21,7 @@ step-requires c = record {
 pub returns-in_err-at-clause-taken : goal.returns-in_err-at-clause-taken
 returns-in_err-at-clause-taken c =
     let p = err_from_is_err_and c.from_residual.result c.from_residual.ensures.1 in
-    rw (p.1, p.2) (λ bytes k. fed_err c.args.name.now c.loop-at.self.rows.limits c.args.self.now.rows.limits bytes c.args.piece.now c.loop-at.at c.in_err-at.field-0.0
+    rw (p.1, p.2) (λ bytes k. fed_err c.args.formula.now c.loop-at.self.rows.limits c.args.self.now.rows.limits bytes c.args.piece.now c.loop-at.at c.in_err-at.field-0.0
     c.loop-at.invariant.limits
     (c.in_err-at.ensures.taken (bytes ++ take c.loop-at.at c.args.piece.now) (c.loop-at.invariant.taken bytes k)))
 
@@ -36,13 +36,13 @@ loop-at-preserved c =
     record {
       within = omega (arith, length-drop c.loop-at.at c.args.piece.now);
       limits = c.in_ok-at.ensures.limits ∙ c.loop-at.invariant.limits;
-      taken = λ bytes k. subst (λ b. IsKept c.args.name.now c.step.new.self.rows c.step.new.self.trace b)
+      taken = λ bytes k. subst (λ b. IsKept c.args.formula.now c.step.new.self.rows c.step.new.self.case b)
           (fed bytes c.args.piece.now c.loop-at.at c.in_ok-at.field-0)
           (c.in_ok-at.ensures.taken (bytes ++ take c.loop-at.at c.args.piece.now) (c.loop-at.invariant.taken bytes k));
     }
 
 pub returns-clause-taken : goal.returns-clause-taken
-returns-clause-taken c = λ bytes k. subst (λ b. IsKept c.args.name.now c.loop-at.self.rows c.loop-at.self.trace (bytes ++ b))
+returns-clause-taken c = λ bytes k. subst (λ b. IsKept c.args.formula.now c.loop-at.self.rows c.loop-at.self.case (bytes ++ b))
     (take_all c.loop-at.at c.args.piece.now c.loop-at-test.false) (c.loop-at.invariant.taken bytes k)
 
 pub returns-clause-limits : goal.returns-clause-limits

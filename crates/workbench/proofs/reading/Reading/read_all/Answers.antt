@@ -28,8 +28,8 @@ returns-then-count-eq0-clause-read g c =
     let p = c.loop-reads.invariant.progress in
     let size : 0 < length c.read.new.buf = let a = c.loop-reads.invariant.size in let b = c.read.auto.buf in omega arith in
     let ended = c.in-Ok.ensures.end.1 (c.if-count-eq0.true, size) in
-    end_from c.loop-reads.self.rows.limits c.args.self.now.rows.limits c.args.name.now (g.S.Source.left c.args.input.now) (g.S.Source.left c.read.new.self)
-    (g.S.Source.ended c.read.new.self) p.bytes c.finish.result c.finish.new.self.trace p.same_limits ended
+    end_from c.loop-reads.self.rows.limits c.args.self.now.rows.limits c.args.formula.now (g.S.Source.left c.args.input.now) (g.S.Source.left c.read.new.self)
+    (g.S.Source.ended c.read.new.self) p.bytes c.finish.result c.finish.new.self.case p.same_limits ended
     (read_all p _ _ (take c.in-Ok.count c.read.new.buf) (none_taken c.in-Ok.count c.read.new.buf c.if-count-eq0.true) c.in-Ok.ensures.bytes.0
     (c.in-Ok.ensures.bytes.1 c.if-count-eq0.true size))
     (c.finish.ensures p.bytes p.is)
@@ -40,7 +40,7 @@ returns-then-count-eq0-clause-later g c = let h = c.in-Ok.ensures.cause.later in
 pub returns-then-count-eq0-clause-unread : goal.returns-then-count-eq0-clause-unread
 returns-then-count-eq0-clause-unread g c =
     let p = c.loop-reads.invariant.progress in
-    λ same. absurd (end_not_unread c.loop-reads.self.rows.limits c.args.name.now true p.bytes _ c.finish.result (c.finish.ensures p.bytes p.is) same)
+    λ same. absurd (end_not_unread c.loop-reads.self.rows.limits c.args.formula.now true p.bytes _ c.finish.result (c.finish.ensures p.bytes p.is) same)
 
 pub feed-requires : goal.feed-requires
 feed-requires g c = has_kept c.loop-reads.invariant.progress
@@ -50,7 +50,7 @@ returns-in_err-feed-clause-read g c =
     let p = c.loop-reads.invariant.progress in
     let e = err_from_is_err_and c.from_residual.result c.from_residual.ensures.1 in
     let goes_on = not_true (g.S.Source.ended c.read.new.self) (λ t. c.if-count-eq0.false (c.in-Ok.ensures.end.0 t).0) in
-    rw (e.1, e.2) (stop_from c.loop-reads.self.rows.limits c.args.self.now.rows.limits c.args.name.now (g.S.Source.left c.args.input.now)
+    rw (e.1, e.2) (stop_from c.loop-reads.self.rows.limits c.args.self.now.rows.limits c.args.formula.now (g.S.Source.left c.args.input.now)
     (g.S.Source.left c.read.new.self) (g.S.Source.ended c.read.new.self) false (p.bytes ++ take c.in-Ok.count c.read.new.buf) c.in_err-feed.field-0.0
     p.same_limits goes_on (c.in_err-feed.ensures.taken p.bytes p.is)
     (read_more p _ _ (take c.in-Ok.count c.read.new.buf) c.in-Ok.ensures.bytes.0 goes_on))
@@ -62,7 +62,7 @@ pub returns-in_err-feed-clause-unread : goal.returns-in_err-feed-clause-unread
 returns-in_err-feed-clause-unread g c =
     let p = c.loop-reads.invariant.progress in
     let e = err_from_is_err_and c.from_residual.result c.from_residual.ensures.1 in
-    rw (e.1, e.2) (λ same. absurd (not_unread c.loop-reads.self.rows.limits c.args.name.now false (p.bytes ++ take c.in-Ok.count c.read.new.buf)
+    rw (e.1, e.2) (λ same. absurd (not_unread c.loop-reads.self.rows.limits c.args.formula.now false (p.bytes ++ take c.in-Ok.count c.read.new.buf)
     c.in_err-feed.field-0.0 (c.in_err-feed.ensures.taken p.bytes p.is) same))
 
 pub loop-reads-preserved : goal.loop-reads-preserved
@@ -70,7 +70,7 @@ loop-reads-preserved g c =
     let p = c.loop-reads.invariant.progress in
     let cause = c.in-Ok.ensures.cause.later in
     record {
-      progress = go_on p (g.S.Source.left c.read.new.self) (take c.in-Ok.count c.read.new.buf) c.feed.new.self.rows c.feed.new.self.trace c.in-Ok.ensures.bytes.0
+      progress = go_on p (g.S.Source.left c.read.new.self) (take c.in-Ok.count c.read.new.buf) c.feed.new.self.rows c.feed.new.self.case c.in-Ok.ensures.bytes.0
           (some_taken c.in-Ok.count c.read.new.buf c.if-count-eq0.false c.in-Ok.ensures.bound.0) (c.in_ok-feed.ensures.taken p.bytes p.is) c.in_ok-feed.ensures.limits;
       later = omega arith;
       size = c.read.auto.buf ∙ c.loop-reads.invariant.size;

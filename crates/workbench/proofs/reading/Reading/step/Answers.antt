@@ -1,28 +1,77 @@
-use Rattle.std.proofs.Common.{◌++◌, take, refl, ap, subst}
+use Rattle.std.proofs.Common.{false, Option, ◌++◌, take, drop, refl, sym, ap, ◌∙◌, subst}
 use Rattle.std.proofs.lemmas.Result.{err_from_is_err_and}
-use Rattle.trace_reader.specs.Plain.{StandsFor, IsEvent, rows_after}
-use Rattle.trace_reader.specs.declared.event.Event.{Event}
-use Rattle.workbench.proofs.Feeding.{refused_push, begun, stop_begin}
+use Rattle.std.specs.Prelude.{option_map}
+use Rattle.stl_syntax.specs.Trace.{Row}
+use Rattle.trace_reader.specs.Plain.{through_feed}
+use Rattle.trace_reader.specs.Reader.{IsFaultOfAll}
+use Rattle.workbench.specs.Cases.{IsNoBegin, IsBegun, CanKeep, with_row}
+use Rattle.trace_reader.specs.declared.refusal.Limits.{Limits}
+use Rattle.workbench.specs.declared.case.Case.{Case}
+use Rattle.workbench.specs.InputFaults.{of_trace}
+use Rattle.workbench.specs.Reading.{IsKept}
+use Rattle.workbench.proofs.Feeding.{HasHeaderLine, HeaderStep, RowStep, refused_push, stop_begin, header_step, row_step, nothing_step, kept_begun, kept_row}
 use Rattle.workbench.proofs.reading.Reading.step.Goals as goal
 
-pub returns-in_default-clause-taken : goal.returns-in_default-clause-taken
-returns-in_default-clause-taken c = λ bytes k.
-    refused_push c.args.self.now.rows.limits c.args.name.now bytes c.args.piece.now ((c.in_default.ensures.refused bytes k.rows k.stands).0 refl)
+pub returns-in-Err-clause-taken : goal.returns-in-Err-clause-taken
+returns-in-Err-clause-taken c = λ bytes k.
+    let old = c.args.self.now.rows in
+    let fault = subst (λ l. IsFaultOfAll old.limits old.least (bytes ++ l) c.in-Err.refusal) c.first_line.ensures.line (c.in-Err.ensures.fault bytes k.rows k.stands) in
+    (of_trace c.in-Err.refusal, refl, refused_push c.args.formula.now old c.args.self.now.case bytes c.args.piece.now c.in-Err.refusal k fault)
+
+pub begin-requires : goal.begin-requires
+begin-requires c =
+    let k = c.requires.is in
+    let ok = c.in-Ok.ensures in
+    let s = header_step c.args.formula.now c.args.self.now.rows c.push.new.self c.args.self.now.case c.requires.bytes c.args.piece.now c.first_line.result.now c.in-Ok.took.bytes
+    c.in-Ok.took.event c.header.result.now k c.first_line.ensures.line ok.within.0 c.in-Header.is ok.came (ok.ok c.requires.bytes k.rows k.stands) ok.kept.0 ok.kept.1 c.header.ensures in
+    (s.columns, s.is, s.ticks)
 
 pub returns-in_err-begin-in-Header-clause-taken : goal.returns-in_err-begin-in-Header-clause-taken
 returns-in_err-begin-in-Header-clause-taken c =
     let p = err_from_is_err_and c.from_residual.result c.from_residual.ensures.1 in
+    let f = c.args.formula.now in
+    let piece = c.args.piece.now in
+    let at = c.in-Ok.took.bytes in
+    let ok = c.in-Ok.ensures in
+    let stop = c.in_err-begin-in-Header.field-0.0 in
     rw (p.1, p.2) (λ bytes k.
-    let after = subst (StandsFor c.push.new.self (bytes ++ take c.in-Ok.took.bytes c.args.piece.now))
-    (ap (λ (x : Event). rows_after x k.rows c.push.new.self.row) c.in-Header.is) (c.in-Ok.ensures.ok bytes k.rows k.stands) in
-    stop_begin c.args.self.now.rows.limits c.args.name.now bytes c.args.piece.now c.in-Ok.took.bytes c.push.new.self k.rows c.header.result.now
-    c.in_err-begin-in-Header.field-0.0 after c.in-Ok.ensures.limits c.header.ensures.value c.header.ensures.one_ramp c.in_err-begin-in-Header.ensures)
+    let s = header_step f c.args.self.now.rows c.push.new.self c.args.self.now.case bytes piece c.first_line.result.now at
+    c.in-Ok.took.event c.header.result.now k c.first_line.ensures.line ok.within.0 c.in-Header.is ok.came (ok.ok bytes k.rows k.stands) ok.kept.0 ok.kept.1 c.header.ensures in
+    stop_begin f c.args.self.now.rows.limits false (bytes ++ take at piece) (drop at piece) (bytes ++ piece) c.push.new.self.begun s.columns stop s.left s.line
+    (subst (λ n. IsNoBegin f n s.columns stop) c.line.ensures (c.in_err-begin-in-Header.ensures s.columns s.is)))
+
+pub keep-requires : goal.keep-requires
+keep-requires c =
+    let k = c.requires.is in
+    let ok = c.in-Ok.ensures in
+    let s = row_step c.args.formula.now c.args.self.now.rows c.push.new.self c.args.self.now.case c.requires.bytes c.args.piece.now c.first_line.result.now c.in-Ok.took.bytes
+    c.in-Ok.took.event k c.first_line.ensures.line ok.within.0 c.in-Row.is ok.came (ok.ok c.requires.bytes k.rows k.stands) (ok.next c.requires.bytes k.rows k.stands) in
+    subst (λ (r : Row). CanKeep c.args.self.now.case r) (sym c.row.ensures) s.can
+
+pub returns-in-Nothing-clause-taken : goal.returns-in-Nothing-clause-taken
+returns-in-Nothing-clause-taken c = λ bytes k.
+    let ok = c.in-Ok.ensures in
+    nothing_step c.args.formula.now c.args.self.now.rows c.push.new.self c.args.self.now.case bytes c.args.piece.now c.first_line.result.now c.in-Ok.took.bytes
+    c.in-Ok.took.event k c.first_line.ensures.line ok.within.0 c.in-Nothing.is ok.came (ok.ok bytes k.rows k.stands) ok.kept.1
 
 pub returns-in_ok-begin-in-Header-clause-taken : goal.returns-in_ok-begin-in-Header-clause-taken
 returns-in_ok-begin-in-Header-clause-taken c = λ bytes k.
-    let after = subst (StandsFor c.push.new.self (bytes ++ take c.in-Ok.took.bytes c.args.piece.now))
-    (ap (λ (x : Event). rows_after x k.rows c.push.new.self.row) c.in-Header.is) (c.in-Ok.ensures.ok bytes k.rows k.stands) in
-    let event = subst (λ (x : Event). IsEvent x c.args.self.now.rows.header c.args.piece.now) c.in-Header.is c.in-Ok.ensures.event in
-    begun c.args.name.now bytes (bytes ++ take c.in-Ok.took.bytes c.args.piece.now) c.args.self.now.rows c.push.new.self c.args.self.now.trace
-    c.in_ok-begin-in-Header.field-0 c.header.result.now k event.1 after c.header.ensures.value c.header.ensures.one_ramp
-    c.in_ok-begin-in-Header.ensures.1 c.in_ok-begin-in-Header.ensures.0
+    let f = c.args.formula.now in
+    let ok = c.in-Ok.ensures in
+    let piece = c.args.piece.now in
+    let at = c.in-Ok.took.bytes in
+    let new = c.push.new.self in
+    let s = header_step f c.args.self.now.rows new c.args.self.now.case bytes piece c.first_line.result.now at
+    c.in-Ok.took.event c.header.result.now k c.first_line.ensures.line ok.within.0 c.in-Header.is ok.came (ok.ok bytes k.rows k.stands) ok.kept.0 ok.kept.1 c.header.ensures in
+    kept_begun f c.args.self.now.rows new c.args.self.now.case bytes (bytes ++ take at piece) new.begun s.heading s.columns c.in_ok-begin-in-Header.field-0 k s.first s.stands
+    (ok.kept.1 ∙ k.least) s.some (subst (λ (l : Limits). HasHeaderLine l f.scale (bytes ++ take at piece) new.begun s.columns) (sym ok.kept.0) s.line)
+    (subst (λ n. IsBegun f n s.columns c.in_ok-begin-in-Header.field-0) c.line.ensures (c.in_ok-begin-in-Header.ensures s.columns s.is))
+
+pub returns-in_ok-keep-in-Row-clause-taken : goal.returns-in_ok-keep-in-Row-clause-taken
+returns-in_ok-keep-in-Row-clause-taken c = λ bytes k.
+    let ok = c.in-Ok.ensures in
+    let s = row_step c.args.formula.now c.args.self.now.rows c.push.new.self c.args.self.now.case bytes c.args.piece.now c.first_line.result.now c.in-Ok.took.bytes
+    c.in-Ok.took.event k c.first_line.ensures.line ok.within.0 c.in-Row.is ok.came (ok.ok bytes k.rows k.stands) (ok.next bytes k.rows k.stands) in
+    subst (λ (o : Option Case). IsKept c.args.formula.now c.push.new.self o (bytes ++ take c.in-Ok.took.bytes c.args.piece.now))
+    (sym (c.in_ok-keep-in-Row.ensures.ok ∙ ap (λ (r : Row). option_map (with_row r) c.args.self.now.case) c.row.ensures))
+    (kept_row c.args.formula.now c.args.self.now.rows c.push.new.self c.args.self.now.case bytes (take c.in-Ok.took.bytes c.args.piece.now) c.push.new.self.row k s.stands ok.kept.1 s.same s.can)

@@ -1,0 +1,153 @@
+-- The answer of a case: the times of its trace, the signals of its atoms, and what the root's signal tells of the formula.
+use Rattle.std.proofs.Common.{◌≡◌, ℕ, ℤ, zero, suc, ◌+◌, ◌-◌, ◌<◌, ◌≤◌, Bool, true, false, List, [], ◌∷◌, ◌++◌, length, Some, refl, sym, ap, ◌∙◌, subst, arith, length-append, inl}
+use Rattle.std.specs.Prelude.{slice_get, slice_index_or, All, MatchBool}
+use Rattle.std.proofs.lemmas.List.Elements.{All-push}
+use Rattle.rational.specs.Time.{Rational, Within, closed, ◌≈◌}
+use Rattle.rational.specs.Extended.{Affine, value_at, ◌≈ᵉ◌}
+use Rattle.rational.specs.Affine.{level}
+use Rattle.rational.proofs.Order.{same_refl, same_sym}
+use Rattle.rational.proofs.AffineLemmas.{same_reflᵉ, same_symᵉ}
+use Rattle.rational.proofs.LevelLemmas.{level_is}
+use Rattle.pl_signal.specs.declared.knot.Knot.{Knot}
+use Rattle.pl_signal.specs.Knots as knots
+use Rattle.pl_signal.specs.Moves.{Tells}
+use Rattle.value_laws.specs.declared.truth.Truth.{Truth}
+use Rattle.value_laws.specs.Values.{truth_value}
+use Rattle.stl_syntax.specs.Trace.{Row, Trace, AreRowsAfter, AreRows, IsTrace, first_time, last_time, start, stop}
+use Rattle.stl_syntax.specs.Formula.{Formula, root, subformula}
+use Rattle.stl_syntax.specs.PostOrder.{IsPostOrder}
+use Rattle.stl_syntax.specs.Truth.{Truth as Holds}
+use Rattle.stl_syntax.specs.SupInf.{SupInf, HasValues, one, minus_one, truths, truth_setting}
+use Rattle.stl_syntax.specs.Scaling.{scaled}
+use Rattle.stl_syntax.specs.Texts.{start_line, AreVerdictLines, IsStartLine}
+use Rattle.stl_syntax.specs.Verdicts.{Describes}
+use Rattle.stl_syntax.specs.declared.items.Verdict.{Verdict}
+use Rattle.stl_syntax.specs.declared.atom.Atom.{Atom}
+use Rattle.stl_syntax.specs.declared.node.Node.{Node}
+use Rattle.stl_syntax.specs.declared.node.Node.TheVariants.{Atom as Leaf}
+use Rattle.stl_syntax.specs.declared.scale.Scale.{Scale}
+use Rattle.stl_syntax.proofs.LawProofs.{truth_by_values}
+use Rattle.atom_lines.specs.Binding.{IsBound, IsFor}
+use Rattle.atom_lines.specs.AtomSignals.{IsAtomSignal}
+use Rattle.offline_eval.specs.Inputs.{is_atom, atoms_before, IsInput}
+use Rattle.offline_eval.proofs.Places.{atoms_on_atom, atoms_on_other, told_none, told_atom, told_other}
+use Rattle.report.specs.SignalVerdicts.{sign_of}
+use Rattle.report.specs.Report.{Out, check}
+use Rattle.report.proofs.SignalLaw.{signal_describes}
+use Rattle.workbench.specs.declared.case.Case.{Case}
+use Rattle.workbench.specs.Cases.{IsCase}
+use Rattle.workbench.specs.Answers.{HoldsAtStart, IsJudged}
+use Rattle.workbench.specs.Judging.{AreAtomsOf, AreNodesOf, IsSignalText}
+
+-- a row for places behind the last one
+pub no_row : Row
+no_row = record { time = 0; values = [] }
+
+pub first_is : (rows : List Row) → 0 < length rows → (slice_index_or rows 0 no_row).time ≡ first_time rows
+first_is [] some = absurd (omega (arith, some))
+first_is (r ∷ rows) some = refl
+
+pub last_is : (time : ℕ) (rows : List Row) (n : ℕ) → length rows ≡ suc n → (slice_index_or rows n no_row).time ≡ last_time time rows
+last_is time [] n h = absurd (omega (arith, h))
+last_is time (r ∷ []) n h = let e : n ≡ 0 = omega (arith, h) in subst (λ m. (slice_index_or (r ∷ []) m no_row).time ≡ r.time) (sym e) refl
+last_is time (r ∷ s ∷ rows) zero h = absurd (omega (arith, h))
+last_is time (r ∷ s ∷ rows) (suc n) h = last_is r.time (s ∷ rows) n (omega (arith, h))
+
+rising : (width time : ℕ) (rows : List Row) → AreRowsAfter width time rows → time ≤ last_time time rows
+rising width time [] h = omega arith
+rising width time (r ∷ rows) h = let more = rising width r.time rows h.2 in omega (arith, more, h.0)
+
+up_to_last : (width : ℕ) (rows : List Row) → AreRows width rows → first_time rows ≤ last_time 0 rows
+up_to_last width [] h = absurd h
+up_to_last width (r ∷ rows) h = rising width r.time rows h.1
+
+pub first_to_last : (t : Trace) → IsTrace t → first_time t.rows ≤ last_time 0 t.rows
+first_to_last t ok = up_to_last (length t.header.columns) t.rows ok.rows
+
+module _ (function : Truth → Affine) (base : Truth → ℤ) (c : Case) where
+  pub no_atoms : AreAtomsOf function base c 0 []
+  no_atoms = record { count = refl; inputs = λ k d h. absurd (omega (arith, h)); told = told_none function c.formula.nodes (truth_setting c.trace) }
+
+  -- with the signal of the next atom the signals are those of one node more
+  pub atom_on : (i : ℕ) (a : Atom) (signals : List (List (Knot Truth))) (x : List (Knot Truth))
+      → slice_get c.formula.nodes i ≡ Some (Leaf a) → IsBound c.bound c.formula c.trace.header → IsTrace c.trace
+      → IsAtomSignal function base truths c.bound i c.trace x → AreAtomsOf function base c i signals → AreAtomsOf function base c (i + 1) (signals ++ x ∷ [])
+  atom_on i a signals x at bound rows is before = record {
+    count = let e = length-append signals (x ∷ []) in let f = before.count in let g = atoms_on_atom c.formula.nodes i a at in omega (arith, e, f, g);
+    inputs = All-push (IsInput function base (first_time c.trace.rows) (last_time 0 c.trace.rows)) signals x before.inputs (record { begins = is.begins; ends = is.ends; bases = is.bases; limited = is.limited });
+    told = told_atom function c.formula.nodes (truth_setting c.trace) i a signals x at before.count before.told (is.tells a (record { formula = c.formula; bound = bound; node = at; rows = rows }));
+  }
+
+  -- a node of another kind needs none
+  pub other_on : (i : ℕ) (n : Node) (signals : List (List (Knot Truth))) → slice_get c.formula.nodes i ≡ Some n → is_atom n ≡ false
+      → AreAtomsOf function base c i signals → AreAtomsOf function base c (i + 1) signals
+  other_on i n signals at other before = record {
+    count = before.count ∙ sym (atoms_on_other c.formula.nodes i n at other);
+    inputs = before.inputs;
+    told = told_other function c.formula.nodes (truth_setting c.trace) i n signals at other before.told;
+  }
+
+-- a truth's function of time
+abbrev pub truth_function : Truth → Affine
+truth_function p = level (truth_value p.holds)
+
+sign_passes : (holds : Bool) (t : Rational) → sign_of holds ≈ᵉ value_at (level (truth_value holds)) t
+sign_passes true t = same_symᵉ (value_at (level (truth_value true)) t) one (level_is (truth_value true) t)
+sign_passes false t = same_symᵉ (value_at (level (truth_value false)) t) minus_one (level_is (truth_value false) t)
+
+-- what a signal of truth is worth at its start
+pub at_start : (ks : List (Knot Truth)) (k : Knot Truth) → slice_get ks 0 ≡ Some k → (t : Rational) → t ≈ knots.start ks
+    → knots.IsWorth truth_function ks t (sign_of k.point.holds)
+at_start [] k h t e = absurd cc
+at_start (l ∷ ks) k h t e =
+    let same : l ≡ k = cc in
+    subst (λ m. knots.IsWorth truth_function (l ∷ ks) t (sign_of m.point.holds)) same (inl (record { when = e; worth = sign_passes l.point.holds t }))
+
+some_is : {X : Type 0} {x y : X} → Some x ≡ Some y → x ≡ y
+some_is e = cc
+
+-- the root's signal tells the whole formula
+pub root_told : (c : Case) (signals : List (List (Knot Truth))) → AreNodesOf truth_function c signals → 0 < length c.formula.nodes
+    → (x : List (Knot Truth)) → slice_get signals (length c.formula.nodes - 1) ≡ Some x
+    → Tells truth_function (SupInf (root c.formula.nodes) (truth_setting c.trace)) (start c.trace) (stop c.trace) x
+root_told c signals all some x is =
+    let node = all.told (length c.formula.nodes - 1) (omega (arith, some)) in
+    subst (Tells truth_function (SupInf (root c.formula.nodes) (truth_setting c.trace)) (start c.trace) (stop c.trace)) (some_is (sym node.1 ∙ is)) node.2
+
+module _ (c : Case) (f : Formula) (case : IsCase f c) (values : HasValues (root c.formula.nodes) (truth_setting c.trace))
+    (x : List (Knot Truth)) (tells : Tells truth_function (SupInf (root c.formula.nodes) (truth_setting c.trace)) (start c.trace) (stop c.trace) x)
+    (holds : Bool) (text : List ℕ) (is : IsSignalText truth_function c.formula.scale x holds text) where
+  -- what is worth the sign of a truth is that truth
+  truth_at : (holds : Bool) (t : Rational) → knots.IsWorth truth_function x t (sign_of holds)
+      → MatchBool holds (Holds (root c.formula.nodes) c.trace t) (¬ Holds (root c.formula.nodes) c.trace t)
+  truth_at true t h = let w = (tells.worth t one).0 h in (truth_by_values (root c.formula.nodes) c.trace values t one w.0 w.1).holds.0 (same_reflᵉ one)
+  truth_at false t h = let w = (tells.worth t minus_one).0 h in (truth_by_values (root c.formula.nodes) c.trace values t minus_one w.0 w.1).fails.0 (same_reflᵉ minus_one)
+
+  now : MatchBool holds (Holds (root c.formula.nodes) c.trace (start c.trace)) (¬ Holds (root c.formula.nodes) c.trace (start c.trace))
+  now = truth_at holds (start c.trace) (is.first (start c.trace) (same_sym tells.begins))
+
+  -- the truth and the text over given nodes, with times in units of a scale
+  Over : Formula → Type 0
+  Over g =
+      MatchBool holds (Holds (root g.nodes) c.trace (start c.trace)) (¬ Holds (root g.nodes) c.trace (start c.trace))
+      × ((verdicts : List Verdict) × (body line : List ℕ) × Describes verdicts (root g.nodes) c.trace (closed (start c.trace) (stop c.trace))
+      × AreVerdictLines g.scale verdicts body × IsStartLine (root g.nodes) c.trace line × (text ≡ body ++ line))
+
+  own : Over c.formula
+  unfolding Over
+  own = (
+    now,
+    (
+      is.lines.verdicts,
+      is.body,
+      start_line holds,
+      signal_describes truth_function (root c.formula.nodes) c.trace x values tells is.lines.verdicts is.lines.described,
+      is.lines.lines,
+      (holds, now, refl),
+      is.parts,
+    ),
+  )
+
+  pub judged : IsJudged f c.trace holds text
+  unfolding Over
+  judged = let over = subst Over case.formula own in record { truth = over.0; written = over.1 }
