@@ -6,12 +6,11 @@ use Rattle.stl_syntax.specs.Trace.{Row}
 use Rattle.stl_syntax.specs.declared.scale.Scale.{Scale}
 use Rattle.trace_reader.specs.TraceText.{Line, lines, is_blank_line, Heading, scale_of}
 use Rattle.trace_reader.specs.TraceRefusals.{LineFault, InLine, FaultFrom, FaultAfter, IsFirstFault}
-use Rattle.trace_reader.specs.Plain.{HasNoFeed}
+use Rattle.trace_reader.specs.Feeds.{HasNoFeed}
 use Rattle.trace_reader.specs.declared.refusal.Limits.{Limits}
 use Rattle.trace_reader.specs.declared.refusal.TraceRefusal.{TraceRefusal}
 use Rattle.trace_reader.proofs.LineLemmas.{rest}
-use Rattle.trace_reader.proofs.PlainLines.{parts, lines-now}
-use Rattle.trace_reader.proofs.FaultStays.{grows, open_line}
+use Rattle.trace_reader.proofs.OpenLines.{parts, lines-now, grows, open_line}
 
 either : (b : Bool) (A B C D : Type 0) → (A → C) → (B → D) → MatchBool b A B → MatchBool b C D
 either true A B C D f g m = f m

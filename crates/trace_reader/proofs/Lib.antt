@@ -5,13 +5,8 @@ pub mod DigitLemmas
 pub mod NameLemmas
 pub mod LineLemmas
 pub mod TableLemmas
-pub mod PlainLines
-pub mod PlainSteps
-pub mod PlainStands
 pub mod FeedLemmas
-pub mod PlainLaws
-pub mod FaultStays
-pub mod PlainText
+pub mod OpenLines
 pub mod FieldLemmas
 pub mod NumberLemmas
 pub mod HeadingLemmas

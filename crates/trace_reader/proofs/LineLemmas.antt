@@ -1,10 +1,12 @@
 -- The lines of bytes that go on: lines that are whole stay as they are.
-use Rattle.std.proofs.Common.{◌≡◌, ℕ, ◌⊎◌, inl, inr, Bool, true, false, List, [], ◌∷◌, ◌++◌, refl, sym, ap, ◌∙◌}
+use Rattle.std.proofs.Common.{◌≡◌, ℕ, suc, ◌⊎◌, inl, inr, Bool, true, false, List, [], ◌∷◌, ◌++◌, length, ◌+◌, ◌<◌, add-one, arith, refl, sym, ap, ◌∙◌}
 use Rattle.std.proofs.lemmas.Bool.{cases_eq, eq-eqb, ne_eqb}
 use Rattle.std.specs.Prelude.{All}
+use Rattle.std.proofs.lemmas.List.{append-nil, length_push}
 use Rattle.std.proofs.lemmas.List.Elements.{All-nil, All-cons, All-head, All-tail}
 use Rattle.trace_reader.specs.TraceText.{Line, split, lines}
-use Rattle.trace_reader.specs.Plain.{HasNoFeed}
+use Rattle.trace_reader.specs.Feeds.{HasNoFeed}
+use Rattle.trace_reader.specs.Cut.{begun_after}
 
 -- a cut text has a first part
 split_some : (xs : List ℕ) → (p : List ℕ) × (ps : List (List ℕ)) × (split 10 xs ≡ p ∷ ps)
@@ -100,3 +102,22 @@ lines-rest ended (x ∷ xs) h = lines-other ended x xs (All-head (λ c. c ≡ 10
 pub lines-line : (xs : List ℕ) → HasNoFeed xs → lines false (xs ++ 10 ∷ []) ≡ done xs ∷ []
 lines-line [] h = lines-feed false [] ∙ ap (λ ls. done [] ∷ ls) (lines-nil false)
 lines-line (x ∷ xs) h = lines-other false x (xs ++ 10 ∷ []) (All-head (λ c. c ≡ 10 → ⊥) x xs h) ∙ ap (put false x) (lines-line xs (All-tail (λ c. c ≡ 10 → ⊥) x xs h))
+
+-- the lines begun
+pub begun-going : (front : List Line) (begun : ℕ) (line part : List ℕ) → begun ≡ length (front ++ rest false line)
+    → begun_after begun line (length part) ≡ length (front ++ rest false (line ++ part))
+begun-going front begun [] [] h = h
+begun-going front begun [] (c ∷ cs) h = ap suc (h ∙ ap length (append-nil front)) ∙ sym (length_push front (record { bytes = c ∷ cs; whole = false }) ∙ add-one (length front))
+begun-going front begun (c ∷ cs) part h =
+    h ∙ (length_push front (record { bytes = c ∷ cs; whole = false }) ∙ sym (length_push front (record { bytes = c ∷ (cs ++ part); whole = false })))
+
+pub begun-closed : (front : List Line) (begun n : ℕ) (line text : List ℕ) → begun ≡ length (front ++ rest false line)
+    → begun_after begun line (n + 1) ≡ length (front ++ done text ∷ [])
+begun-closed front begun n [] text h =
+    rw add-one (ap suc (h ∙ ap length (append-nil front)) ∙ sym (length_push front (done text) ∙ add-one (length front)))
+begun-closed front begun n (c ∷ cs) text h =
+    h ∙ (length_push front (record { bytes = c ∷ cs; whole = false }) ∙ sym (length_push front (done text)))
+
+pub some_bytes : (line : List ℕ) → (line ≡ [] → ⊥) → 0 < length line
+some_bytes [] h = absurd (h refl)
+some_bytes (c ∷ cs) h = omega arith

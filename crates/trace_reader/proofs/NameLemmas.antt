@@ -1,7 +1,6 @@
 -- Names of columns.
-use Rattle.std.proofs.Common.{◌≡◌, ℕ, zero, suc, ◌<◌, ◌≤◌, List, [], ◌∷◌, length, get_or, true, lit<, refl, arith}
+use Rattle.std.proofs.Common.{◌≡◌, ℕ, ◌≤◌, List, ◌∷◌, length, true, refl}
 use Rattle.std.specs.Str.{IsAscii}
-use Rattle.std.proofs.lemmas.Bool.Decides.{nat_tests}
 use Rattle.stl_syntax.specs.Characters.{begins_word, goes_on_word, all}
 use Rattle.stl_syntax.proofs.CharacterLemmas.{words_ascii, begins_goes_on}
 use Rattle.trace_reader.specs.TraceText.{IsName, name}

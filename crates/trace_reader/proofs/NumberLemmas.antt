@@ -1,11 +1,11 @@
 -- Numbers with decimals, digit by digit.
-use Rattle.std.proofs.Common.{◌≡◌, ℕ, ◌⊎◌, inl, inr, zero, suc, ◌+◌, ◌-◌, ◌*◌, ◌^◌, ◌<◌, ◌≤◌, min, Bool, true, false, List, [], ◌∷◌, ◌++◌, length, take, drop, reverse, get_or, refl, sym, ap, ◌∙◌, subst, arith, lit<, mul-le-mul, ℤ, pos, negsuc}
+use Rattle.std.proofs.Common.{◌≡◌, ℕ, ◌⊎◌, inl, inr, zero, suc, ◌+◌, ◌-◌, ◌*◌, ◌^◌, ◌<◌, ◌≤◌, min, Bool, true, false, List, [], ◌∷◌, ◌++◌, length, take, drop, get_or, refl, sym, ap, ◌∙◌, subst, arith, lit<, mul-le-mul, ℤ, pos, negsuc}
 use Rattle.std.specs.Prelude.{neg_ℤ, ◌==◌, ◌*ℤ◌, ◌<ℤ◌}
 use Rattle.std.proofs.lemmas.Int.{ints}
 use Rattle.std.proofs.lemmas.List.{take-append-drop, take_more, drop_at, length-take-le}
-use Rattle.std.proofs.lemmas.Bool.{cases_eq, cases_Bool, false≢true}
+use Rattle.std.proofs.lemmas.Bool.{cases_eq, false≢true}
 use Rattle.std.proofs.Math.Nat.{one-le-pow, pow-le-pow_right}
-use Rattle.stl_syntax.specs.Characters.{is_digit, all, StopsAt, after_first, decimal_value, without_zeros, IsNumeral, integer, decimal, ticks}
+use Rattle.stl_syntax.specs.Characters.{is_digit, all, StopsAt, decimal_value, without_zeros, IsNumeral, integer, decimal, ticks}
 use Rattle.trace_reader.specs.TraceText.{IsNumber, plain, plus, minus, IsInTicks}
 use Rattle.trace_reader.specs.LineParts.{signed}
 use Rattle.trace_reader.specs.TraceRefusals.{NumberFault}

@@ -10,7 +10,7 @@ use Rattle.trace_reader.specs.TraceText.{lines, fields, Heading, scale_of, AreTr
 use Rattle.trace_reader.specs.TraceRefusals.{RowFault, FaultFrom, IsFirstFault, HasTrace}
 use Rattle.trace_reader.specs.Sofar.{AreRowsSoFar}
 use Rattle.trace_reader.specs.Cut.{begun_after}
-use Rattle.trace_reader.specs.Plain.{HasNoFeed, rows_after}
+use Rattle.trace_reader.specs.Feeds.{HasNoFeed, rows_after}
 use Rattle.trace_reader.specs.Progress.{Progress, last_of, Judges, blank, heading, row, bad_heading, bad_row}
 use Rattle.trace_reader.specs.Reader.{Reader, StandsFor, HasTaken, GoesOn, FaultsOn, ReadsOn, AreRising, IsFaultOfAll, IsNextRow, header_of, last_seen}
 use Rattle.trace_reader.specs.Reading.{made, IsLineRefusal, HasEnded}
@@ -21,9 +21,9 @@ use Rattle.trace_reader.specs.declared.refusal.TraceKind.TheVariants.{TooManyLin
 use Rattle.trace_reader.specs.declared.event.Event.{Event}
 use Rattle.trace_reader.specs.declared.event.Event.TheVariants.{Nothing, Header as IsTheHeader, Row as IsARow}
 use Rattle.trace_reader.proofs.LineLemmas.{done, rest, lines-nil, lines-rest, lines-append, lines-line}
-use Rattle.trace_reader.proofs.FaultStays.{grows}
-use Rattle.trace_reader.proofs.PlainLines.{last_row, last_time-push}
-use Rattle.trace_reader.proofs.PlainStands.{begun-going, begun-closed}
+use Rattle.trace_reader.proofs.OpenLines.{grows}
+use Rattle.trace_reader.proofs.TableLemmas.{last_row, last_time-push}
+use Rattle.trace_reader.proofs.LineLemmas.{begun-going, begun-closed}
 use Rattle.trace_reader.proofs.TableLemmas.{sofar-push, sofar-some}
 use Rattle.trace_reader.proofs.GoesOnLemmas.{line_bad, heading_bad, row_bad, goes_blank, goes_heading, goes_row, goes_start, rest_sound, reads_so_far}
 

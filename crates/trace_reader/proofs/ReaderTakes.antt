@@ -8,8 +8,8 @@ use Rattle.stl_syntax.specs.Trace.{Row, Header}
 use Rattle.trace_reader.specs.TraceText.{Heading}
 use Rattle.stl_syntax.specs.declared.scale.Scale.{Scale}
 use Rattle.trace_reader.specs.Cut.{Cut, begun_after}
-use Rattle.trace_reader.specs.Plain.{HasNoFeed, rows_after, through_feed}
-use Rattle.trace_reader.specs.PlainReading.{Fits}
+use Rattle.trace_reader.specs.Feeds.{HasNoFeed, rows_after, through_feed}
+use Rattle.trace_reader.specs.Cut.{Fits}
 use Rattle.trace_reader.specs.TraceRefusals.{IsFirstFault}
 use Rattle.trace_reader.specs.Progress.{Progress, Judges, blank, heading, row, bad_heading, bad_row}
 use Rattle.trace_reader.specs.Reader.{Reader, StandsFor, HasTaken, IsFaultOfAll, HasCome, EndsWithFeed, feed}

@@ -6,7 +6,6 @@ use Rattle.std.proofs.lemmas.List.Elements.{All-append}
 use Rattle.std.proofs.lemmas.Nat.{mul-add-lt}
 use Rattle.stl_syntax.specs.Trace.{Row, Header, Trace, AreRowsAfter, AreRows, last_time}
 use Rattle.trace_reader.specs.Table.{rows_of}
-use Rattle.trace_reader.specs.Plain.{IsRowLine}
 use Rattle.trace_reader.specs.Sofar.{AreRowsSoFar}
 
 -- what is there
@@ -63,10 +62,6 @@ pub sofar-some : (width : ℕ) (rows : List Row) → AreRowsSoFar width rows →
 sofar-some width [] h l = absurd (omega arith)
 sofar-some width (r ∷ rows) h l = h
 
--- the row of a line has a small value
-pub row_small : {line : List ℕ} {t : ℕ} {v : ℤ} → IsRowLine line (row_with t (v ∷ [])) → nat_abs v ≤ 16777216
-row_small {v = v} h = let e : v ≡ h.value = ap (λ vs. get_or vs 0 (pos 0)) h.values in rw e h.small
-
 -- a row more in the lists of a table
 module _ (width : ℕ) (times times' : List ℕ) (values values' : List ℤ) (r : Row) (full : length values ≡ length times * width)
     (fits : length r.values ≡ width) (in_times : times' ≡ times ++ r.time ∷ []) (in_values : values' ≡ values ++ r.values) where
@@ -87,3 +82,13 @@ module _ (width : ℕ) (times times' : List ℕ) (values values' : List ℤ) (r 
 pub place_within : (width k c n rows : ℕ) → k < rows → c < width → n ≡ rows * width → k * width + c < n
 place_within width k c n rows h l e =
     omega (arith, mul-add-lt k width c rows h l, e)
+
+-- rows that are not none have a last one
+pub last_row : (rows : List Row) → 0 < length rows → (before : List Row) × (r : Row) × (rows ≡ before ++ r ∷ [])
+last_row [] h = absurd (omega arith)
+last_row (r ∷ []) h = ([], r, refl)
+last_row (r ∷ s ∷ rows) h = let (before, t, e) = last_row (s ∷ rows) (omega arith) in (r ∷ before, t, ap (λ rs. r ∷ rs) e)
+
+pub last_time-push : (t : ℕ) (before : List Row) (r : Row) → last_time t (before ++ r ∷ []) ≡ r.time
+last_time-push t [] r = refl
+last_time-push t (s ∷ before) r = last_time-push s.time before r

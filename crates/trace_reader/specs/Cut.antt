@@ -2,6 +2,7 @@
 use Rattle.std.specs.Prelude.{ℕ, suc, ◌<◌, ◌≤◌, List, []}
 use Rattle.trace_reader.specs.declared.line.LineFault.{LineFault}
 use Rattle.trace_reader.specs.declared.line.LineFault.TheVariants.{TooMany, TooLong}
+use Rattle.trace_reader.specs.declared.refusal.Limits.{Limits}
 use Rattle.trace_reader.specs.declared.refusal.TraceKind.{TraceKind}
 use Rattle.trace_reader.specs.declared.refusal.TraceKind.TheVariants.{TooManyLines, LineTooLong}
 
@@ -24,3 +25,8 @@ IsLineFault most begun size TooLong = (begun ≤ most) × (4096 < size)
 abbrev pub kind_of : LineFault → TraceKind
 kind_of TooMany = TooManyLines
 kind_of TooLong = LineTooLong
+
+-- a line of `size` bytes, the last of `begun`, is within the limits
+pub record Fits (limits : Limits) (begun size : ℕ) : Type 0 where
+  pub count : begun ≤ limits.lines
+  pub short : size ≤ 4096

@@ -3,12 +3,8 @@ pub mod TraceRefusals
 pub mod Sofar
 pub mod Labels
 pub mod Table
-pub mod Plain
+pub mod Feeds
 pub mod Cut
-pub mod PlainProgress
-pub mod PlainTable
-pub mod PlainReading
-pub mod PlainReader
 pub mod LineParts
 pub mod FieldFaults
 pub mod Headings

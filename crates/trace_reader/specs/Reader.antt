@@ -5,7 +5,7 @@ use Rattle.stl_syntax.specs.declared.scale.Scale.{Scale}
 use Rattle.trace_reader.specs.Sofar.{AreRowsSoFar}
 use Rattle.trace_reader.specs.TraceText.{Line, lines, is_blank_line, Heading, scale_of, AreRowLines, AreTraceLines, TraceOf}
 use Rattle.trace_reader.specs.TraceRefusals.{FaultFrom, FaultAfter, IsFirstFault, HasTrace}
-use Rattle.trace_reader.specs.Plain.{HasNoFeed}
+use Rattle.trace_reader.specs.Feeds.{HasNoFeed}
 use Rattle.trace_reader.specs.declared.refusal.Limits.{Limits}
 use Rattle.trace_reader.specs.declared.refusal.TraceRefusal.{TraceRefusal}
 use Rattle.trace_reader.specs.declared.event.Event.{Event}

@@ -6,7 +6,7 @@ use Rattle.trace_reader.specs.Reader.{Reader, HasTaken, header_of}
 use Rattle.stl_syntax.specs.Trace.{Row}
 use Rattle.trace_reader.specs.TraceText.{lines, Heading, TraceOf}
 use Rattle.trace_reader.specs.TraceRefusals.{HasTrace}
-use Rattle.trace_reader.specs.PlainReading.{Fits}
+use Rattle.trace_reader.specs.Cut.{Fits}
 use Rattle.trace_reader.specs.Progress.{Progress, Judges}
 use Rattle.trace_reader.specs.declared.refusal.Limits.{Limits}
 use Rattle.trace_reader.specs.declared.refusal.TraceRefusal.{TraceRefusal}

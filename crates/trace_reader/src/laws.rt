@@ -6,26 +6,7 @@ ghost use Rattle.stl_syntax.specs.declared.scale.Scale.{Scale as Ticks};
 ghost use Rattle.trace_reader.specs.TraceText.{IsTraceText};
 ghost use Rattle.trace_reader.specs.TraceRefusals.{IsFirstFault};
 ghost use Rattle.trace_reader.specs.declared.refusal.TraceRefusal.{TraceRefusal as Refusal};
-ghost use Rattle.trace_reader.specs.Plain.{IsPlain, IsTextOf, HasFault};
 ghost use Rattle.trace_reader.specs.declared.refusal.Limits.{Limits as Bounds};
-
-/// Bytes of the plain form have no fault of it.
-pub fn plain_has_no_fault()
-    ensures { (limits : Bounds) (ended : Bool) (bytes : List ℕ) (header : Option Columns) (rows : List Values)
-        → IsPlain limits ended bytes header rows → ¬ HasFault limits ended bytes }
-{}
-
-/// A fault of bytes is one of all bytes that begin with them.
-pub fn fault_stays()
-    ensures { (limits : Bounds) (bytes : List ℕ) (ended : Bool) (more : List ℕ)
-        → HasFault limits false bytes → HasFault limits ended (bytes ++ more) }
-{}
-
-/// Bytes of the plain form that are all of the input are the text of a trace.
-pub fn plain_is_a_trace()
-    ensures { (limits : Bounds) (bytes : List ℕ) (header : Option Columns) (rows : List Values)
-        → IsPlain limits true bytes header rows → IsTextOf bytes header rows }
-{}
 
 /// Bytes have at most one trace.
 pub fn at_most_one_trace()

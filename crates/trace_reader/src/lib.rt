@@ -10,10 +10,6 @@ pub mod laws;
 mod line;
 mod name;
 mod number;
-mod plain;
-mod plain_line;
-mod plain_reading;
-mod plain_table;
 mod reading;
 mod refusal;
 mod room;
@@ -28,7 +24,6 @@ mod two_rows;
 
 pub use event::{Event, Took};
 pub use header::Header;
-pub use plain::{NotPlain, PlainRows};
 pub use refusal::{Limits, TraceKind, TraceRefusal};
 pub use row::Row;
 pub use rows::Rows;

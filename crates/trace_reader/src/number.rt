@@ -1,4 +1,4 @@
-ghost use Rattle.std.specs.Prelude.{◌≡◌, ◌≤◌, ◌*◌, ◌^◌, ◌∷◌, ℕ, ℤ, pos, negsuc, List, length, min, true, MatchOption, MatchResult, IfOk, nat_abs};
+ghost use Rattle.std.specs.Prelude.{◌≡◌, ◌≤◌, ◌*◌, ◌^◌, ◌∷◌, ℕ, ℤ, pos, negsuc, neg_ℤ, List, length, min, true, MatchOption, MatchResult, IfOk, nat_abs};
 ghost use Rattle.stl_syntax.specs.Characters.{is_digit, all, decimal_value, without_zeros as shortened, IsNumeral, ticks};
 ghost use Rattle.trace_reader.specs.TraceText.{IsNumber, IsInTicks};
 ghost use Rattle.trace_reader.specs.LineParts.{signed};
@@ -7,7 +7,6 @@ ghost use Rattle.trace_reader.specs.FieldFaults.{IsFieldRead};
 
 use crate::TraceKind;
 use crate::digits::{BEYOND, leading_digits};
-use crate::plain_line::{opposite_of, value_of};
 use crate::row::LARGEST;
 
 /// A number of ticks: its sign, and its size, which is told exactly below `BEYOND`.
@@ -123,6 +122,24 @@ fn read_ticks(field: &[u8], most: u8, digits: u8) -> Option<Ticks>
         negative: false,
         size,
     })
+}
+
+/// A size as a value.
+fn value_of(size: u32) -> i32
+    requires { size ≤ 16777216 }
+    ensures value { result ≡ pos size }
+    ensures small { nat_abs result ≤ 16777216 }
+{
+    size as i32
+}
+
+/// The opposite of a size.
+fn opposite_of(size: u32) -> i32
+    requires { size ≤ 16777216 }
+    ensures value { result ≡ neg_ℤ (pos size) }
+    ensures small { nat_abs result ≤ 16777216 }
+{
+    -(size as i32)
 }
 
 /// The time in field 1 of a row, in ticks of 1/10^digits, where it may have at most `most` decimals.

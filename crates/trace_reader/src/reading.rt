@@ -15,7 +15,7 @@ pub(crate) struct Reading {
 
 ghost use Rattle.std.specs.Prelude.{◌≡◌, ◌≢◌, ◌+◌, ◌^◌, ◌<◌, ◌≤◌, ◌++◌, [], ℕ, List, Bool, Some, None, true, false, length, take, IsSome, IfOk, IfErr, OnOk, OnErr};
 ghost use Rattle.stl_syntax.specs.Trace.{Row as Values};
-ghost use Rattle.trace_reader.specs.Plain.{through_feed, rows_after};
+ghost use Rattle.trace_reader.specs.Feeds.{through_feed, rows_after};
 ghost use Rattle.trace_reader.specs.Reader.{StandsFor, IsFaultOfAll, HasCome, IsNextRow, header_of};
 
 impl Reading {

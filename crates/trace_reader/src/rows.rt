@@ -30,7 +30,7 @@ impl Model for Rows {
 impl Rows {
     ghost use Rattle.std.specs.Prelude.{◌≡◌, ◌^◌, ◌<◌, ◌≤◌, List, [], ◌++◌, ℕ, take, length, Some, None, IsSome, IfOk, IfErr, OnOk, OnErr, MatchOption, Err, true, false};
     ghost use Rattle.stl_syntax.specs.Trace.{Row as Values};
-    ghost use Rattle.trace_reader.specs.Plain.{rows_after};
+    ghost use Rattle.trace_reader.specs.Feeds.{rows_after};
     ghost use Rattle.trace_reader.specs.TraceRefusals.{IsFirstFault};
     ghost use Rattle.trace_reader.specs.Reader.{StandsFor, IsFaultOfAll, HasCome, IsNextRow, IsWholeTrace, HasWholeHeader, HasEndedWith, header_read};
     ghost use Rattle.trace_reader.specs.declared.refusal.TraceKind.TheVariants.{NoRows};

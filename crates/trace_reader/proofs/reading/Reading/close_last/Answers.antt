@@ -2,10 +2,10 @@
 use Rattle.std.proofs.Common.{◌++◌, [], sym, ap, subst, refl}
 use Rattle.std.proofs.lemmas.Bool.{false≢true}
 use Rattle.trace_reader.specs.Reading.{JudgesLine, HasEnded}
-use Rattle.trace_reader.specs.Plain.{rows_after}
+use Rattle.trace_reader.specs.Feeds.{rows_after}
 use Rattle.trace_reader.specs.Cut.{Cut}
 use Rattle.trace_reader.proofs.KindLemmas.{judged_kind}
-use Rattle.trace_reader.proofs.PlainStands.{some_bytes}
+use Rattle.trace_reader.proofs.LineLemmas.{some_bytes}
 use Rattle.trace_reader.proofs.ReaderTakes.{last_between, last_closed, last_bad, if_ok, if_err}
 use Rattle.trace_reader.proofs.reading.Reading.close_last.Goals as goal
 

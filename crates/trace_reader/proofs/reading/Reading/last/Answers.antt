@@ -4,7 +4,7 @@ use Rattle.std.specs.Prelude.{IsSome}
 use Rattle.std.proofs.lemmas.Result.{err_from_is_err_and}
 use Rattle.trace_reader.specs.TraceText.{TraceOf}
 use Rattle.trace_reader.specs.TraceRefusals.{IsFirstFault}
-use Rattle.trace_reader.specs.Plain.{rows_after}
+use Rattle.trace_reader.specs.Feeds.{rows_after}
 use Rattle.trace_reader.specs.Reader.{header_of, IsNextRow}
 use Rattle.trace_reader.specs.Reading.{IsWhole}
 use Rattle.trace_reader.specs.declared.refusal.TraceRefusal.{TraceRefusal}

@@ -3,7 +3,7 @@ use Rattle.std.proofs.Common.{◌≡◌, ◌++◌, ◌+◌, ◌≤◌, ◌<◌, 
 use Rattle.std.proofs.lemmas.Result.{err_from_is_err_and}
 use Rattle.std.proofs.lemmas.List.{take_rest, take-append-drop, length-drop}
 use Rattle.stl_syntax.specs.Trace.{Row}
-use Rattle.trace_reader.specs.Plain.{rows_after, through_feed}
+use Rattle.trace_reader.specs.Feeds.{rows_after, through_feed}
 use Rattle.trace_reader.specs.Reader.{StandsFor, IsFaultOfAll, HasCome}
 use Rattle.trace_reader.specs.Reading.{state}
 use Rattle.trace_reader.proofs.ReaderTakes.{through_parts, fault_on, come_on, take_on}

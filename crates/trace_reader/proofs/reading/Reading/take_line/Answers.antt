@@ -2,7 +2,7 @@
 use Rattle.std.proofs.Common.{◌++◌, length, take, subst, sym, ◌∙◌, arith}
 use Rattle.std.proofs.lemmas.Result.{err_from_is_err_and}
 use Rattle.std.proofs.lemmas.List.{take_all}
-use Rattle.trace_reader.specs.Plain.{rows_after}
+use Rattle.trace_reader.specs.Feeds.{rows_after}
 use Rattle.trace_reader.specs.Reader.{StandsFor, IsFaultOfAll, HasCome}
 use Rattle.trace_reader.specs.Reading.{state}
 use Rattle.trace_reader.proofs.FeedLemmas.{none-free, none-all, at-free, at-taken, at-through}
