@@ -9,7 +9,7 @@ use Rattle.stl_syntax.specs.WellFormed.{IsScale}
 use Rattle.stl_syntax.specs.declared.scale.Scale.{Scale}
 use Rattle.trace_reader.specs.TraceText.{Line, lines, Heading, scale_of, TraceOf, AreTraceLines}
 use Rattle.trace_reader.specs.TraceRefusals.{FaultFrom, IsFirstFault, HasTrace}
-use Rattle.trace_reader.specs.Plain.{HasNoFeed, rows_after}
+use Rattle.trace_reader.specs.Feeds.{HasNoFeed, rows_after}
 use Rattle.trace_reader.specs.Reader.{Reader, StandsFor, IsNextRow, IsWholeTrace, HasWholeHeader, header_of}
 use Rattle.trace_reader.specs.declared.refusal.Limits.{Limits}
 use Rattle.trace_reader.specs.declared.refusal.TraceRefusal.{TraceRefusal}

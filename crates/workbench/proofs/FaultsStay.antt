@@ -8,10 +8,9 @@ use Rattle.trace_reader.specs.TraceText.{Line, lines, Heading}
 use Rattle.trace_reader.specs.TraceRefusals.{FaultFrom, IsFirstFault}
 use Rattle.trace_reader.specs.declared.refusal.Limits.{Limits}
 use Rattle.trace_reader.specs.declared.refusal.TraceRefusal.{TraceRefusal}
-use Rattle.trace_reader.proofs.FaultStays.{open_line}
 use Rattle.trace_reader.proofs.FirstFaultStays.{first_fault_stays}
 use Rattle.trace_reader.proofs.LineLemmas.{rest}
-use Rattle.trace_reader.proofs.PlainLines.{parts, lines-now}
+use Rattle.trace_reader.proofs.OpenLines.{parts, lines-now, open_line}
 use Rattle.workbench.specs.InputFaults.{Fault, of_trace, IsHeaderAt, here, later, IsLack, IsInputFault}
 use Rattle.workbench.specs.Reading.{IsSound}
 use Rattle.workbench.proofs.HeaderLines.{header_stays, header_within}

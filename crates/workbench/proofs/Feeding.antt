@@ -12,7 +12,7 @@ use Rattle.stl_syntax.specs.WellFormed.{IsScale}
 use Rattle.stl_syntax.specs.declared.scale.Scale.{Scale}
 use Rattle.trace_reader.specs.TraceText.{Line, lines, Heading, scale_of, TraceOf}
 use Rattle.trace_reader.specs.TraceRefusals.{FaultFrom, IsFirstFault}
-use Rattle.trace_reader.specs.Plain.{HasNoFeed, through_feed, rows_after}
+use Rattle.trace_reader.specs.Feeds.{HasNoFeed, through_feed, rows_after}
 use Rattle.trace_reader.specs.Reader.{Reader, StandsFor, IsFaultOfAll, EndsWithFeed, IsNextRow, HasRead, HasCome, header_of, header_read}
 use Rattle.trace_reader.specs.declared.refusal.Limits.{Limits}
 use Rattle.trace_reader.specs.declared.refusal.TraceRefusal.{TraceRefusal}

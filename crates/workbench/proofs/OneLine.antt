@@ -5,7 +5,7 @@ use Rattle.std.proofs.lemmas.Bool.{cases_eq, eq-eqb, ne_eqb}
 use Rattle.std.proofs.lemmas.List.{take-append-le, take_all}
 use Rattle.std.proofs.lemmas.List.Elements.{All-nil, All-cons, All-head, All-tail, All-append, All-take}
 use Rattle.trace_reader.specs.TraceText.{Line, lines}
-use Rattle.trace_reader.specs.Plain.{HasNoFeed, through_feed}
+use Rattle.trace_reader.specs.Feeds.{HasNoFeed, through_feed}
 use Rattle.trace_reader.specs.Reader.{EndsWithFeed, feed}
 use Rattle.trace_reader.proofs.LineLemmas.{done, rest, lines-nil, lines-append, lines-rest, lines-line}
 use Rattle.trace_reader.proofs.ReaderTakes.{through_parts}

@@ -1,7 +1,7 @@
 //! Reading the trace of a formula from a source.
 ghost use Rattle.std.specs.Prelude.{◌≡◌, ◌^◌, ◌<◌, ◌≤◌, List, ℕ, [], ◌++◌, length, take, true, false, MatchResult, MatchOption, Err};
 ghost use Rattle.io_edge.specs.Causes.{Rose};
-ghost use Rattle.trace_reader.specs.Plain.{through_feed};
+ghost use Rattle.trace_reader.specs.Feeds.{through_feed};
 ghost use Rattle.trace_reader.specs.declared.refusal.TraceKind.TheVariants.{NoRows};
 ghost use Rattle.workbench.specs.Reading.{IsReadWhole, IsStop, IsEnded, IsRefused, IsKept, HasKept, HasHeader, IsLastFault};
 

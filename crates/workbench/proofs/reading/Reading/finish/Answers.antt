@@ -1,7 +1,7 @@
 use Rattle.std.proofs.Common.{◌≡◌, ◌++◌, ◌∷◌, [], ap, sym, ◌∙◌, subst, Option}
 use Rattle.std.specs.Prelude.{option_map, OnOk}
 use Rattle.stl_syntax.specs.Trace.{Row}
-use Rattle.trace_reader.specs.Plain.{rows_after}
+use Rattle.trace_reader.specs.Feeds.{rows_after}
 use Rattle.trace_reader.specs.Reader.{IsWholeTrace, IsNextRow, HasEndedWith}
 use Rattle.trace_reader.specs.declared.event.Event.{Event}
 use Rattle.workbench.specs.Cases.{CanKeep, with_row}

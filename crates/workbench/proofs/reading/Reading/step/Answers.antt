@@ -2,7 +2,7 @@ use Rattle.std.proofs.Common.{false, Option, ◌++◌, take, drop, refl, sym, ap
 use Rattle.std.proofs.lemmas.Result.{err_from_is_err_and}
 use Rattle.std.specs.Prelude.{option_map}
 use Rattle.stl_syntax.specs.Trace.{Row}
-use Rattle.trace_reader.specs.Plain.{through_feed}
+use Rattle.trace_reader.specs.Feeds.{through_feed}
 use Rattle.trace_reader.specs.Reader.{IsFaultOfAll}
 use Rattle.workbench.specs.Cases.{IsNoBegin, IsBegun, CanKeep, with_row}
 use Rattle.trace_reader.specs.declared.refusal.Limits.{Limits}
