@@ -14,6 +14,10 @@ mod shape_tests;
 #[cfg(test)]
 mod signal_tests;
 #[cfg(test)]
+mod slow;
+#[cfg(test)]
+mod slow_tests;
+#[cfg(test)]
 mod tables;
 #[cfg(test)]
 mod traces;

@@ -6,17 +6,17 @@ use workbench::run;
 
 /// What is asked, what is read, and what is to be written.
 #[derive(Clone, Copy)]
-struct Case<'a> {
-    words: &'a [&'a str],
-    input: &'a str,
-    out: &'a str,
-    err: &'a str,
-    status: u8,
+pub(crate) struct Case<'a> {
+    pub(crate) words: &'a [&'a str],
+    pub(crate) input: &'a str,
+    pub(crate) out: &'a str,
+    pub(crate) err: &'a str,
+    pub(crate) status: u8,
 }
 
 /// How a run's devices behave: most bytes a call, and the call of each that fails, 0 for none.
 #[derive(Clone, Copy)]
-struct Devices {
+pub(crate) struct Devices {
     read_most: usize,
     write_most: usize,
     read_fails: u64,
@@ -25,7 +25,7 @@ struct Devices {
 }
 
 /// Pieces of this size, and no fault.
-fn pieces(most: usize) -> Devices {
+pub(crate) fn pieces(most: usize) -> Devices {
     Devices {
         read_most: most,
         write_most: most,
@@ -52,7 +52,7 @@ fn sink(alloc: Global, most: usize, fails: u64) -> Result<MemSink, Fail> {
 }
 
 /// Whether the run writes what is expected, and answers the status.
-fn agrees(alloc: Global, case: Case<'_>, devices: Devices) -> Result<bool, Fail> {
+pub(crate) fn agrees(alloc: Global, case: Case<'_>, devices: Devices) -> Result<bool, Fail> {
     let words = strings(alloc, case.words)?;
     let bytes = Vec::from_slice(alloc, case.input.as_bytes())?;
     let fails = Vec::from_slice(alloc, &[devices.read_fails])?;

@@ -1,0 +1,231 @@
+//! Each temporal operator against a plain and slow evaluation, over generated cases.
+use super::run_tests::{Case, agrees, pieces};
+use super::slow::{Bound, Temporal, judged, verdicts};
+use std::alloc::{AllocError, Global};
+use std::test::Fail;
+
+/// Numbers that look random, the same in each run.
+#[derive(Drop)]
+struct Dice {
+    state: u64,
+}
+
+impl Dice {
+    /// A number below `faces`, or 0 where that is 0.
+    fn roll(&mut self, faces: u8) -> u8 {
+        self.state = self
+            .state
+            .wrapping_mul(6_364_136_223_846_793_005)
+            .wrapping_add(1_442_695_040_888_963_407);
+        let high = (self.state >> 33) as u32;
+        (high % u32::from(faces.max(1))) as u8
+    }
+
+    /// Whether an even number came.
+    fn flip(&mut self) -> bool {
+        self.roll(2) == 0
+    }
+
+    /// A number from -1 to 1.
+    fn level(&mut self) -> i64 {
+        i64::from(self.roll(3)) - 1
+    }
+}
+
+/// A trace of a ramp and a step column, and the sign of each at each eighth of a tick.
+#[derive(Drop)]
+struct Recording {
+    input: String,
+    first: u8,
+    ramp: Vec<i64>,
+    step: Vec<i64>,
+}
+
+impl Recording {
+    /// The eighths of the ticks from a row to the next, which is left out.
+    fn gap(&mut self, ticks: u8, (x, q): (i64, i64), next: i64) -> Result<(), AllocError> {
+        let eighths = u32::from(ticks) * 8;
+        for e in 0..eighths {
+            self.ramp
+                .push(x * i64::from(eighths - e) + next * i64::from(e))?;
+            self.step.push(q)?;
+        }
+        Ok(())
+    }
+}
+
+/// A trace of at most four rows, one to three ticks apart, whose values are from -1 to 1.
+fn generated(alloc: Global, dice: &mut Dice) -> Result<Recording, AllocError> {
+    let first = dice.roll(3);
+    let (mut x, mut q) = (dice.level(), dice.level());
+    let mut made = Recording {
+        input: format!(in alloc; "time,x,q:step\n{first},{x},{q}\n")?,
+        first,
+        ramp: Vec::new(alloc),
+        step: Vec::new(alloc),
+    };
+    let mut time = u32::from(first);
+    for _ in 0..dice.roll(4) {
+        let ticks = dice.roll(3).saturating_add(1);
+        let (next_x, next_q) = (dice.level(), dice.level());
+        made.gap(ticks, (x, q), next_x)?;
+        time = time.wrapping_add(u32::from(ticks));
+        (x, q) = (next_x, next_q);
+        write!(made.input, "{time},{x},{q}\n")?;
+    }
+    made.ramp.push(x)?;
+    made.step.push(q)?;
+    Ok(made)
+}
+
+/// A formula, and the truth that the slow evaluation gives it at each eighth of a tick.
+#[derive(Drop)]
+struct Judged {
+    text: String,
+    truth: Vec<bool>,
+}
+
+/// An atom that compares a column with 0.
+fn atom(alloc: Global, dice: &mut Dice, of: &Recording) -> Result<Judged, AllocError> {
+    let (name, levels) = if dice.flip() {
+        ("x", &of.ramp)
+    } else {
+        ("q", &of.step)
+    };
+    let (sign, strict) = (dice.flip(), dice.flip());
+    let rel = match (sign, strict) {
+        (true, true) => ">",
+        (true, false) => ">=",
+        (false, true) => "<",
+        (false, false) => "<=",
+    };
+    let mut truth = Vec::new(alloc);
+    for level in levels.iter() {
+        let beyond = if sign { *level > 0 } else { *level < 0 };
+        truth.push(beyond || (!strict && *level == 0))?;
+    }
+    Ok(Judged {
+        text: format!(in alloc; "{name} {rel} 0")?,
+        truth,
+    })
+}
+
+/// A bound of at most five ticks, with open ends where the operator has them.
+fn bound(dice: &mut Dice, operator: Temporal) -> Bound {
+    let low = dice.roll(3);
+    let wide = dice.roll(4);
+    let closed = operator.joins() || wide == 0;
+    let low_in = closed || dice.flip();
+    if operator.is_past() && dice.roll(4) == 0 {
+        return Bound {
+            low,
+            high: None,
+            low_in,
+            high_in: true,
+        };
+    }
+    Bound {
+        low,
+        high: Some(low.saturating_add(wide)),
+        low_in,
+        high_in: closed || dice.flip(),
+    }
+}
+
+/// The text of a bound.
+fn bound_text(alloc: Global, bound: &Bound) -> Result<String, AllocError> {
+    let open = if bound.low_in { "[" } else { "]" };
+    let close = if bound.high_in { "]" } else { "[" };
+    let low = bound.low;
+    match bound.high {
+        Some(high) => format!(in alloc; "{open}{low},{high}{close}"),
+        None => format!(in alloc; "{open}{low},inf{close}"),
+    }
+}
+
+/// The operator on two formulas, or on the right one.
+fn joined(
+    alloc: Global,
+    dice: &mut Dice,
+    operator: Temporal,
+    left: &Judged,
+    right: &Judged,
+) -> Result<Judged, AllocError> {
+    let bound = bound(dice, operator);
+    let word = operator.word();
+    let within = bound_text(alloc, &bound)?;
+    let (p, q) = (left.text.as_str(), right.text.as_str());
+    let text = if operator.joins() {
+        format!(in alloc; "({p}) {word}{within} ({q})")?
+    } else {
+        format!(in alloc; "{word}{within} ({q})")?
+    };
+    Ok(Judged {
+        text,
+        truth: judged(alloc, operator, &bound, &left.truth, &right.truth)?,
+    })
+}
+
+const OPERATORS: [Temporal; 6] = [
+    Temporal::Eventually,
+    Temporal::Always,
+    Temporal::Until,
+    Temporal::Once,
+    Temporal::Historically,
+    Temporal::Since,
+];
+
+/// Whether `check` writes what the slow evaluation says.
+fn is_so(alloc: Global, of: &Recording, formula: &Judged) -> Result<bool, Fail> {
+    let out = verdicts(alloc, usize::from(of.first) * 2, &formula.truth)?;
+    let holds = formula.truth[0];
+    let case = Case {
+        words: &["check", formula.text.as_str()],
+        input: of.input.as_str(),
+        out: out.as_str(),
+        err: "",
+        status: if holds { 0 } else { 1 },
+    };
+    agrees(alloc, case, pieces(7))
+}
+
+#[test]
+fn each_temporal_operator_is_judged_as_a_slow_evaluation_does(rt: HostRuntime) -> Result<(), Fail> {
+    let alloc = rt.alloc();
+    let mut dice = Dice { state: 2004 };
+    for case in 0..40 {
+        for inner in OPERATORS {
+            let of = generated(alloc, &mut dice)?;
+            let (p, q) = (atom(alloc, &mut dice, &of)?, atom(alloc, &mut dice, &of)?);
+            let one = joined(alloc, &mut dice, inner, &p, &q)?;
+            let text = one.text.as_str();
+            assert!(rt; is_so(alloc, &of, &one)?, "case {case}: {text}");
+        }
+    }
+    Ok(())
+}
+
+#[test]
+fn a_temporal_operator_in_another_is_judged_as_a_slow_evaluation_does(
+    rt: HostRuntime,
+) -> Result<(), Fail> {
+    let alloc = rt.alloc();
+    let mut dice = Dice { state: 2013 };
+    for case in 0..6 {
+        for inner in OPERATORS {
+            for outer in OPERATORS {
+                let of = generated(alloc, &mut dice)?;
+                let (p, q) = (atom(alloc, &mut dice, &of)?, atom(alloc, &mut dice, &of)?);
+                let one = joined(alloc, &mut dice, inner, &p, &q)?;
+                let two = if dice.flip() {
+                    joined(alloc, &mut dice, outer, &p, &one)?
+                } else {
+                    joined(alloc, &mut dice, outer, &one, &q)?
+                };
+                let text = two.text.as_str();
+                assert!(rt; is_so(alloc, &of, &two)?, "case {case}: {text}");
+            }
+        }
+    }
+    Ok(())
+}
