@@ -15,14 +15,14 @@ pub(crate) struct Bound {
 impl Bound {
     /// Whether it holds a distance in eighths of a tick.
     fn holds(&self, eighths: usize) -> bool {
-        let low = usize::from(self.low) * 8;
+        let low = usize::from(self.low).saturating_mul(8);
         if eighths < low || (eighths == low && !self.low_in) {
             return false;
         }
         let Some(high) = self.high else {
             return true;
         };
-        let high = usize::from(high) * 8;
+        let high = usize::from(high).saturating_mul(8);
         eighths < high || (eighths == high && self.high_in)
     }
 }
@@ -170,15 +170,21 @@ fn put_span(
 pub(crate) fn verdicts(alloc: Global, first: usize, truth: &[bool]) -> Result<String, AllocError> {
     let mut text = String::new(alloc);
     let mut from = 0;
-    for cell in 0..truth.len() / 2 + 1 {
-        let value = truth[2 * cell];
-        let next = 2 * cell + 2;
-        if next < truth.len() && truth[next] == value {
+    for i in 0..truth.len() {
+        let value = truth[i];
+        if i % 2 == 1 {
             continue;
         }
-        put_span(&mut text, first, (from, cell), value)?;
-        from = cell + 1;
+        if let Some(next) = truth.get(i.saturating_add(2))
+            && *next == value
+        {
+            continue;
+        }
+        put_span(&mut text, first, (from, i / 2), value)?;
+        from = i / 2 + 1;
     }
-    write!(text, "start {}\n", truth[0])?;
+    if let Some(value) = truth.first() {
+        write!(text, "start {value}\n")?;
+    }
     Ok(text)
 }

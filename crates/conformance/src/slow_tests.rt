@@ -46,8 +46,9 @@ impl Recording {
     fn gap(&mut self, ticks: u8, (x, q): (i64, i64), next: i64) -> Result<(), AllocError> {
         let eighths = u32::from(ticks) * 8;
         for e in 0..eighths {
+            let before = x.saturating_mul(i64::from(eighths - e));
             self.ramp
-                .push(x * i64::from(eighths - e) + next * i64::from(e))?;
+                .push(before.saturating_add(next.saturating_mul(i64::from(e))))?;
             self.step.push(q)?;
         }
         Ok(())
@@ -178,13 +179,15 @@ const OPERATORS: [Temporal; 6] = [
 /// Whether `check` writes what the slow evaluation says.
 fn is_so(alloc: Global, of: &Recording, formula: &Judged) -> Result<bool, Fail> {
     let out = verdicts(alloc, usize::from(of.first) * 2, &formula.truth)?;
-    let holds = formula.truth[0];
+    let Some(holds) = formula.truth.first() else {
+        return Ok(false);
+    };
     let case = Case {
         words: &["check", formula.text.as_str()],
         input: of.input.as_str(),
         out: out.as_str(),
         err: "",
-        status: if holds { 0 } else { 1 },
+        status: if *holds { 0 } else { 1 },
     };
     agrees(alloc, case, pieces(7))
 }
