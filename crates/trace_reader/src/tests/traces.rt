@@ -1,5 +1,5 @@
 //! Traces read by `Rows`, cut in every way, with answers by hand.
-ghost use Rattle.std.specs.Prelude.{◌≡◌, ◌<◌, ◌≤◌, ◌^◌, IsSome};
+ghost use Rattle.std.specs.Prelude.{◌≡◌, ◌<◌, ◌≤◌, ◌^◌, IsSome, IsTrue, false};
 
 use crate::*;
 use std::alloc::{AllocError, Global};
@@ -152,201 +152,191 @@ const LARGE: Limits = Limits {
     lines: 8_589_934_592,
 };
 
+/// Traces, and what is told of them.
+const READ: [(&str, &str); 13] = [
+    ("time,x\n0,0\n10,10\n", "0/0,x 0:0 10:10 end 3"),
+    ("time,x\n0,0\n10,10", "0/0,x 0:0 10:10 end 3"),
+    ("time\n3\n4\n", "0/0 3 4 end 3"),
+    (
+        "time,b:step,s:ramp,x\n0,1,2,3\n1,-1,-2,-3",
+        "0/0,b_,s,x 0:1:2:3 1:-1:-2:-3 end 3",
+    ),
+    (
+        "\n \t\r\n time , x \r\n\n0 ,\t+0\r\n  \n+1,-0\r",
+        "0/0,x 0:0 1:0 end 7",
+    ),
+    (
+        "time,until,a.b_9\n007,0000,-0012\n",
+        "0/0,until,a.b_9 7:0:-12 end 2",
+    ),
+    ("time,x\n-0,1\n", "0/0,x 0:1 end 2"),
+    ("time,x\n0,1\n \n\t", "0/0,x 0:1 end 4"),
+    (
+        "time,x\n4294967295,-16777216\n",
+        "0/0,x 4294967295:-16777216 end 2",
+    ),
+    ("time,x,X\n0,16777216,1\n", "0/0,x,X 0:16777216:1 end 2"),
+    ("time,x\n0,\r\n", "0/0,x line 2: field 2: bad number"),
+    ("time,x\n0,1\r\r\n", "0/0,x line 2: field 2: bad number"),
+    (
+        "time,x\r\n0,1\n1\r,1\n",
+        "0/0,x 0:1 line 3: field 1: bad number",
+    ),
+];
+
 #[test]
 fn reads_traces_of_many_columns(rt: HostRuntime) -> Result<(), Fail> {
-    compare(
-        &rt,
-        LARGE,
-        WHOLE,
-        &[
-            ("time,x\n0,0\n10,10\n", "0/0,x 0:0 10:10 end 3"),
-            ("time,x\n0,0\n10,10", "0/0,x 0:0 10:10 end 3"),
-            ("time\n3\n4\n", "0/0 3 4 end 3"),
-            (
-                "time,b:step,s:ramp,x\n0,1,2,3\n1,-1,-2,-3",
-                "0/0,b_,s,x 0:1:2:3 1:-1:-2:-3 end 3",
-            ),
-            (
-                "\n \t\r\n time , x \r\n\n0 ,\t+0\r\n  \n+1,-0\r",
-                "0/0,x 0:0 1:0 end 7",
-            ),
-            (
-                "time,until,a.b_9\n007,0000,-0012\n",
-                "0/0,until,a.b_9 7:0:-12 end 2",
-            ),
-            ("time,x\n-0,1\n", "0/0,x 0:1 end 2"),
-            ("time,x\n0,1\n \n\t", "0/0,x 0:1 end 4"),
-            (
-                "time,x\n4294967295,-16777216\n",
-                "0/0,x 4294967295:-16777216 end 2",
-            ),
-            ("time,x,X\n0,16777216,1\n", "0/0,x,X 0:16777216:1 end 2"),
-            ("time,x\n0,\r\n", "0/0,x line 2: field 2: bad number"),
-            ("time,x\n0,1\r\r\n", "0/0,x line 2: field 2: bad number"),
-            (
-                "time,x\r\n0,1\n1\r,1\n",
-                "0/0,x 0:1 line 3: field 1: bad number",
-            ),
-        ],
-    )?;
+    compare(&rt, LARGE, WHOLE, &READ)?;
     Ok(())
 }
+
+/// The beginnings of one trace, and what is told of them.
+const BEGUN: [(&str, &str); 16] = [
+    ("", "line 0: no header"),
+    ("t", "line 1: field 1: bad name"),
+    ("ti", "line 1: field 1: bad name"),
+    ("tim", "line 1: field 1: bad name"),
+    ("time", "line 1: no rows"),
+    ("time,", "line 1: field 2: bad name"),
+    ("time,x", "line 1: no rows"),
+    ("time,x\n", "0/0,x line 1: no rows"),
+    ("time,x\n0", "0/0,x line 2: 1 fields"),
+    ("time,x\n0,", "0/0,x line 2: field 2: bad number"),
+    ("time,x\n0,0", "0/0,x 0:0 end 2"),
+    ("time,x\n0,0\n", "0/0,x 0:0 end 2"),
+    ("time,x\n0,0\n1", "0/0,x 0:0 line 3: 1 fields"),
+    ("time,x\n0,0\n10", "0/0,x 0:0 line 3: 1 fields"),
+    ("time,x\n0,0\n10,", "0/0,x 0:0 line 3: field 2: bad number"),
+    ("time,x\n0,0\n10,1", "0/0,x 0:0 10:1 end 3"),
+];
 
 #[test]
 fn every_beginning_of_a_trace_has_its_answer(rt: HostRuntime) -> Result<(), Fail> {
-    compare(
-        &rt,
-        LARGE,
-        WHOLE,
-        &[
-            ("", "line 0: no header"),
-            ("t", "line 1: field 1: bad name"),
-            ("ti", "line 1: field 1: bad name"),
-            ("tim", "line 1: field 1: bad name"),
-            ("time", "line 1: no rows"),
-            ("time,", "line 1: field 2: bad name"),
-            ("time,x", "line 1: no rows"),
-            ("time,x\n", "0/0,x line 1: no rows"),
-            ("time,x\n0", "0/0,x line 2: 1 fields"),
-            ("time,x\n0,", "0/0,x line 2: field 2: bad number"),
-            ("time,x\n0,0", "0/0,x 0:0 end 2"),
-            ("time,x\n0,0\n", "0/0,x 0:0 end 2"),
-            ("time,x\n0,0\n1", "0/0,x 0:0 line 3: 1 fields"),
-            ("time,x\n0,0\n10", "0/0,x 0:0 line 3: 1 fields"),
-            ("time,x\n0,0\n10,", "0/0,x 0:0 line 3: field 2: bad number"),
-            ("time,x\n0,0\n10,1", "0/0,x 0:0 10:1 end 3"),
-        ],
-    )?;
+    compare(&rt, LARGE, WHOLE, &BEGUN)?;
     Ok(())
 }
+
+/// Bytes with a fault, and what is told up to the first.
+const FAULTY: [(&str, &str); 33] = [
+    ("\n\n", "line 2: no header"),
+    ("\n\n ", "line 3: no header"),
+    ("\ntime,x\n\n \n", "0/0,x line 4: no rows"),
+    ("time,time\n", "line 1: field 2: same name"),
+    ("time,x,y,x\n", "line 1: field 4: same name"),
+    ("time,x:jump\n", "line 1: field 2: bad mode"),
+    ("time,x:\n", "line 1: field 2: bad mode"),
+    ("time,x:ramp:\n", "line 1: field 2: bad mode"),
+    ("time,time:jump\n", "line 1: field 2: bad mode"),
+    ("time:step,x\n", "line 1: field 1: bad mode"),
+    ("time,2x\n", "line 1: field 2: bad name"),
+    ("time,x y\n", "line 1: field 2: bad name"),
+    ("time,:ramp\n", "line 1: field 2: bad name"),
+    ("Time,x\n", "line 1: field 1: bad name"),
+    ("timex\n", "line 1: field 1: bad name"),
+    ("time,x,x,2\n", "line 1: field 3: same name"),
+    ("time,x\n0,1.5\n", "0/0,x line 2: field 2: bad number"),
+    ("time,x\n0,+\n", "0/0,x line 2: field 2: bad number"),
+    ("time,x\n0,1,\n", "0/0,x line 2: 3 fields"),
+    ("time,x\nzz,1,2\n", "0/0,x line 2: 3 fields"),
+    ("time,x,y\n0,zz\n", "0/0,x,y line 2: 2 fields"),
+    ("time,x\n-1,0\n", "0/0,x line 2: field 1: out of range"),
+    ("time,x\n-1,zz\n", "0/0,x line 2: field 1: out of range"),
+    (
+        "time,x\n4294967296,0\n",
+        "0/0,x line 2: field 1: out of range",
+    ),
+    (
+        "time,x\n0,16777217\n",
+        "0/0,x line 2: field 2: out of range",
+    ),
+    (
+        "time,x\n0,-16777217\n",
+        "0/0,x line 2: field 2: out of range",
+    ),
+    (
+        "time,x\n0,18446744073709551617\n",
+        "0/0,x line 2: field 2: out of range",
+    ),
+    (
+        "time,x,y\n0,99999999,zz\n",
+        "0/0,x,y line 2: field 2: out of range",
+    ),
+    (
+        "time,x,y\n0,zz,99999999\n",
+        "0/0,x,y line 2: field 2: bad number",
+    ),
+    (
+        "time,x\n0,0\n0,zz\n",
+        "0/0,x 0:0 line 3: field 2: bad number",
+    ),
+    (
+        "time,x\n0,0\n5,1\n5,2\n",
+        "0/0,x 0:0 5:1 line 4: time not rising",
+    ),
+    (
+        "time,x\n0,0\n5,1\n4,2",
+        "0/0,x 0:0 5:1 line 4: time not rising",
+    ),
+    (
+        "time,x\n0,0\n4294967295,16777217\n",
+        "0/0,x 0:0 line 3: field 2: out of range",
+    ),
+];
 
 #[test]
 fn the_first_fault_is_told(rt: HostRuntime) -> Result<(), Fail> {
-    compare(
-        &rt,
-        LARGE,
-        WHOLE,
-        &[
-            ("\n\n", "line 2: no header"),
-            ("\n\n ", "line 3: no header"),
-            ("\ntime,x\n\n \n", "0/0,x line 4: no rows"),
-            ("time,time\n", "line 1: field 2: same name"),
-            ("time,x,y,x\n", "line 1: field 4: same name"),
-            ("time,x:jump\n", "line 1: field 2: bad mode"),
-            ("time,x:\n", "line 1: field 2: bad mode"),
-            ("time,x:ramp:\n", "line 1: field 2: bad mode"),
-            ("time,time:jump\n", "line 1: field 2: bad mode"),
-            ("time:step,x\n", "line 1: field 1: bad mode"),
-            ("time,2x\n", "line 1: field 2: bad name"),
-            ("time,x y\n", "line 1: field 2: bad name"),
-            ("time,:ramp\n", "line 1: field 2: bad name"),
-            ("Time,x\n", "line 1: field 1: bad name"),
-            ("timex\n", "line 1: field 1: bad name"),
-            ("time,x,x,2\n", "line 1: field 3: same name"),
-            ("time,x\n0,1.5\n", "0/0,x line 2: field 2: bad number"),
-            ("time,x\n0,+\n", "0/0,x line 2: field 2: bad number"),
-            ("time,x\n0,1,\n", "0/0,x line 2: 3 fields"),
-            ("time,x\nzz,1,2\n", "0/0,x line 2: 3 fields"),
-            ("time,x,y\n0,zz\n", "0/0,x,y line 2: 2 fields"),
-            ("time,x\n-1,0\n", "0/0,x line 2: field 1: out of range"),
-            ("time,x\n-1,zz\n", "0/0,x line 2: field 1: out of range"),
-            (
-                "time,x\n4294967296,0\n",
-                "0/0,x line 2: field 1: out of range",
-            ),
-            (
-                "time,x\n0,16777217\n",
-                "0/0,x line 2: field 2: out of range",
-            ),
-            (
-                "time,x\n0,-16777217\n",
-                "0/0,x line 2: field 2: out of range",
-            ),
-            (
-                "time,x\n0,18446744073709551617\n",
-                "0/0,x line 2: field 2: out of range",
-            ),
-            (
-                "time,x,y\n0,99999999,zz\n",
-                "0/0,x,y line 2: field 2: out of range",
-            ),
-            (
-                "time,x,y\n0,zz,99999999\n",
-                "0/0,x,y line 2: field 2: bad number",
-            ),
-            (
-                "time,x\n0,0\n0,zz\n",
-                "0/0,x 0:0 line 3: field 2: bad number",
-            ),
-            (
-                "time,x\n0,0\n5,1\n5,2\n",
-                "0/0,x 0:0 5:1 line 4: time not rising",
-            ),
-            (
-                "time,x\n0,0\n5,1\n4,2",
-                "0/0,x 0:0 5:1 line 4: time not rising",
-            ),
-            (
-                "time,x\n0,0\n4294967295,16777217\n",
-                "0/0,x 0:0 line 3: field 2: out of range",
-            ),
-        ],
-    )?;
+    compare(&rt, LARGE, WHOLE, &FAULTY)?;
     Ok(())
 }
 
+/// Traces with decimals, where a tick is a unit at most.
+const DECIMAL: [(&str, &str); 12] = [
+    (
+        "time:3,brake:step,speed:1\n0,0,30.0\n1,1,30\n1.3,1,0\n2,0,0\n",
+        "3/1,brake_,speed 0:0:300 1000:10:300 1300:10:0 2000:0:0 end 5",
+    ),
+    ("time:0,x:ramp:6\n0,-0.000001\n", "0/6,x 0:-1 end 2"),
+    ("time:6,x:step:0\n0.000001,1.0\n", "6/0,x_ 1:1 end 2"),
+    (
+        "time:1,x:1\n0.10,30.00\n+00.2,-.5\n",
+        "1/1,x 1:300 line 3: field 2: bad number",
+    ),
+    ("time,x:1\n0,1.\n", "0/1,x line 2: field 2: bad number"),
+    ("time,x:1\n0,0.05\n", "0/1,x line 2: field 2: bad number"),
+    (
+        "time,x,y:2\n0,0.5,1\n",
+        "0/2,x,y line 2: field 2: bad number",
+    ),
+    ("time,x:7\n", "line 1: field 2: bad mode"),
+    ("time,x:03\n", "line 1: field 2: bad mode"),
+    ("time,x:2:step\n", "line 1: field 2: bad mode"),
+    (
+        "time,x:2\n0,167772.16\n1,167772.17\n",
+        "0/2,x 0:16777216 line 3: field 2: out of range",
+    ),
+    (
+        "time:1,x\n429496729.5,0\n429496729.6,0\n",
+        "1/0,x 4294967295:0 line 3: field 1: out of range",
+    ),
+];
+
+/// Traces where a tick is at most a hundredth of a unit of time, and a tenth of one of value.
+const FINER: [(&str, &str); 5] = [
+    ("time,x\n1,2\n", "2/1,x 100:20 end 2"),
+    ("time:3,x:2\n1,2\n", "3/2,x 1000:200 end 2"),
+    ("time,x\n0,1.5\n", "2/1,x line 2: field 2: bad number"),
+    (
+        "time,x\n0,16777216\n",
+        "2/1,x line 2: field 2: out of range",
+    ),
+    ("time,x\n0,1677721.7\n", "2/1,x line 2: field 2: bad number"),
+];
+
 #[test]
 fn decimals_are_counted_in_ticks(rt: HostRuntime) -> Result<(), Fail> {
-    compare(
-        &rt,
-        LARGE,
-        WHOLE,
-        &[
-            (
-                "time:3,brake:step,speed:1\n0,0,30.0\n1,1,30\n1.3,1,0\n2,0,0\n",
-                "3/1,brake_,speed 0:0:300 1000:10:300 1300:10:0 2000:0:0 end 5",
-            ),
-            ("time:0,x:ramp:6\n0,-0.000001\n", "0/6,x 0:-1 end 2"),
-            ("time:6,x:step:0\n0.000001,1.0\n", "6/0,x_ 1:1 end 2"),
-            (
-                "time:1,x:1\n0.10,30.00\n+00.2,-.5\n",
-                "1/1,x 1:300 line 3: field 2: bad number",
-            ),
-            ("time,x:1\n0,1.\n", "0/1,x line 2: field 2: bad number"),
-            ("time,x:1\n0,0.05\n", "0/1,x line 2: field 2: bad number"),
-            (
-                "time,x,y:2\n0,0.5,1\n",
-                "0/2,x,y line 2: field 2: bad number",
-            ),
-            ("time,x:7\n", "line 1: field 2: bad mode"),
-            ("time,x:03\n", "line 1: field 2: bad mode"),
-            ("time,x:2:step\n", "line 1: field 2: bad mode"),
-            (
-                "time,x:2\n0,167772.16\n1,167772.17\n",
-                "0/2,x 0:16777216 line 3: field 2: out of range",
-            ),
-            (
-                "time:1,x\n429496729.5,0\n429496729.6,0\n",
-                "1/0,x 4294967295:0 line 3: field 1: out of range",
-            ),
-        ],
-    )?;
+    compare(&rt, LARGE, WHOLE, &DECIMAL)?;
     let tenth = Scale { time: 2, value: 1 };
-    compare(
-        &rt,
-        LARGE,
-        tenth,
-        &[
-            ("time,x\n1,2\n", "2/1,x 100:20 end 2"),
-            ("time:3,x:2\n1,2\n", "3/2,x 1000:200 end 2"),
-            ("time,x\n0,1.5\n", "2/1,x line 2: field 2: bad number"),
-            (
-                "time,x\n0,16777216\n",
-                "2/1,x line 2: field 2: out of range",
-            ),
-            ("time,x\n0,1677721.7\n", "2/1,x line 2: field 2: bad number"),
-        ],
-    )?;
+    compare(&rt, LARGE, tenth, &FINER)?;
     Ok(())
 }
 
@@ -369,54 +359,53 @@ fn header_alone(alloc: Global, text: &str) -> Result<String, AllocError> {
     Ok(said)
 }
 
+/// Bytes without rows, and their header.
+const HEADED: [(&str, &str); 6] = [
+    ("time", "0/0 "),
+    ("time,x", "0/0,x "),
+    ("time,x\n", "0/0,x "),
+    ("\ntime:1,x:step:2\n \n", "1/2,x_ "),
+    ("", ""),
+    ("x,y\n", ""),
+];
+
 #[test]
 fn a_trace_without_rows_has_its_header(rt: HostRuntime) -> Result<(), Fail> {
-    for (text, want) in [
-        ("time", "0/0 "),
-        ("time,x", "0/0,x "),
-        ("time,x\n", "0/0,x "),
-        ("\ntime:1,x:step:2\n \n", "1/2,x_ "),
-        ("", ""),
-        ("x,y\n", ""),
-    ] {
+    for (text, want) in HEADED {
         let said = header_alone(rt.alloc(), text)?;
         assert_eq!(&rt; said.as_str(), want, "{text:?}");
     }
     Ok(())
 }
 
+/// Traces where two rows are let through.
+const TWO_ROWS: [(&str, &str); 2] = [
+    (
+        "time,x\n0,0\n1,1\nzz\n",
+        "0/0,x 0:0 1:1 line 4: too many rows",
+    ),
+    ("time,x\n0,0\n1,1\n\n \n", "0/0,x 0:0 1:1 end 5"),
+];
+
+/// Traces where four lines are let through.
+const FOUR_LINES: [(&str, &str); 3] = [
+    ("time,x\n\n0,0\n1,1\n", "0/0,x 0:0 1:1 end 4"),
+    (
+        "time,x\n\n0,0\n1,1\nz",
+        "0/0,x 0:0 1:1 line 5: too many lines",
+    ),
+    (
+        "time,x\n\n0,0\n1,1\n\n",
+        "0/0,x 0:0 1:1 line 5: too many lines",
+    ),
+];
+
 #[test]
 fn rows_and_lines_have_limits(rt: HostRuntime) -> Result<(), Fail> {
     let two_rows = Limits { rows: 2, lines: 9 };
-    compare(
-        &rt,
-        two_rows,
-        WHOLE,
-        &[
-            (
-                "time,x\n0,0\n1,1\nzz\n",
-                "0/0,x 0:0 1:1 line 4: too many rows",
-            ),
-            ("time,x\n0,0\n1,1\n\n \n", "0/0,x 0:0 1:1 end 5"),
-        ],
-    )?;
+    compare(&rt, two_rows, WHOLE, &TWO_ROWS)?;
     let four_lines = Limits { rows: 2, lines: 4 };
-    compare(
-        &rt,
-        four_lines,
-        WHOLE,
-        &[
-            ("time,x\n\n0,0\n1,1\n", "0/0,x 0:0 1:1 end 4"),
-            (
-                "time,x\n\n0,0\n1,1\nz",
-                "0/0,x 0:0 1:1 line 5: too many lines",
-            ),
-            (
-                "time,x\n\n0,0\n1,1\n\n",
-                "0/0,x 0:0 1:1 line 5: too many lines",
-            ),
-        ],
-    )?;
+    compare(&rt, four_lines, WHOLE, &FOUR_LINES)?;
     Ok(())
 }
 
@@ -436,55 +425,58 @@ fn filled(
     Ok(text)
 }
 
-#[test]
-fn lines_names_and_columns_have_limits(rt: HostRuntime) -> Result<(), Fail> {
-    let alloc = rt.alloc();
-    let cases = [
-        (
-            filled(alloc, "time,x\n0,", '0', 4094, "\n")?,
-            "0/0,x 0:0 end 2",
-        ),
-        (
-            filled(alloc, "time,x\n0,", '0', 4095, "\n")?,
-            "0/0,x line 2: line too long",
-        ),
-        (
-            filled(alloc, "time,x\n0,", '0', 4095, "")?,
-            "0/0,x line 2: line too long",
-        ),
-        (
-            filled(alloc, "time,x\n0,", '0', 4094, "\r\n")?,
-            "0/0,x line 2: line too long",
-        ),
-        (
-            filled(alloc, "time,x\n0,", '0', 4093, "\r\n")?,
-            "0/0,x 0:0 end 2",
-        ),
-        (
-            filled(alloc, "time,x\n0,0.", '0', 4092, "\n")?,
-            "0/0,x 0:0 end 2",
-        ),
-        (
-            filled(alloc, "time,x\n0,1", '0', 4093, "\n")?,
-            "0/0,x line 2: field 2: out of range",
-        ),
-        (
-            filled(alloc, "time,", 'n', 65, "\n")?,
-            "line 1: field 2: bad name",
-        ),
-        (filled(alloc, "", ' ', 4096, "\ntime\n0")?, "0/0 0 end 3"),
-        (
-            filled(alloc, "", ' ', 4097, "\ntime\n0")?,
-            "line 1: line too long",
-        ),
-    ];
-    for (text, want) in &cases {
-        for most in [1, 7, 4000, 5000] {
-            let cut = Cut { first: most, most };
-            let said = told(alloc, text.as_bytes(), cut, LARGE, WHOLE)?;
-            assert_eq!(&rt; said.as_str(), *want, "by {most}");
-        }
+/// A front, so many of one byte, and a back; and what is told of that text.
+const LONG: [(&str, char, usize, &str, &str); 10] = [
+    ("time,x\n0,", '0', 4094, "\n", "0/0,x 0:0 end 2"),
+    ("time,x\n0,", '0', 4095, "\n", "0/0,x line 2: line too long"),
+    ("time,x\n0,", '0', 4095, "", "0/0,x line 2: line too long"),
+    (
+        "time,x\n0,",
+        '0',
+        4094,
+        "\r\n",
+        "0/0,x line 2: line too long",
+    ),
+    ("time,x\n0,", '0', 4093, "\r\n", "0/0,x 0:0 end 2"),
+    ("time,x\n0,0.", '0', 4092, "\n", "0/0,x 0:0 end 2"),
+    (
+        "time,x\n0,1",
+        '0',
+        4093,
+        "\n",
+        "0/0,x line 2: field 2: out of range",
+    ),
+    ("time,", 'n', 65, "\n", "line 1: field 2: bad name"),
+    ("", ' ', 4096, "\ntime\n0", "0/0 0 end 3"),
+    ("", ' ', 4097, "\ntime\n0", "line 1: line too long"),
+];
+
+/// Compares what is told of a text by pieces of some sizes.
+fn compare_in_pieces<R: Abort + AllocGlobal>(
+    rt: &R,
+    text: &[u8],
+    want: &str,
+) -> Result<(), AllocError> {
+    for most in [1, 7, 4000, 5000] {
+        let cut = Cut { first: most, most };
+        let said = told(rt.alloc(), text, cut, LARGE, WHOLE)?;
+        assert_eq!(rt; said.as_str(), want, "by {most}");
     }
+    Ok(())
+}
+
+#[test]
+fn lines_and_names_have_limits(rt: HostRuntime) -> Result<(), Fail> {
+    for (front, byte, count, back, want) in LONG {
+        let text = filled(rt.alloc(), front, byte, count, back)?;
+        compare_in_pieces(&rt, text.as_bytes(), want)?;
+    }
+    Ok(())
+}
+
+#[test]
+fn a_name_may_have_64_bytes(rt: HostRuntime) -> Result<(), Fail> {
+    let alloc = rt.alloc();
     let name = filled(alloc, "time,", 'n', 64, "\n0,1")?;
     let cut = Cut { first: 3, most: 50 };
     let said = told(alloc, name.as_bytes(), cut, LARGE, WHOLE)?;
@@ -522,38 +514,84 @@ fn a_trace_has_at_most_64_columns(rt: HostRuntime) -> Result<(), Fail> {
     Ok(())
 }
 
+/// Whether the reader takes so many bytes of a piece, and comes to the event.
+fn takes(reader: &mut Rows, piece: &[u8], bytes: usize, event: Event) -> bool
+    requires { reader.old.ended ≡ false }
+    ensures { reader.new.ended ≡ false }
+{
+    match reader.push(piece) {
+        Ok(took) => took == Took { bytes, event },
+        Err(_) => false,
+    }
+}
+
+/// Whether the reader answers a piece with the refusal, at its line.
+fn refuses(reader: &mut Rows, piece: &[u8], want: TraceRefusal) -> bool
+    requires { reader.old.ended ≡ false }
+    ensures { reader.new.ended ≡ false }
+{
+    match reader.push(piece) {
+        Ok(_) => false,
+        Err(refusal) => refusal == want && reader.line() == want.line,
+    }
+}
+
+/// Whether the reader answers the end with the refusal, at its line.
+fn ends_refused(reader: &mut Rows, want: TraceRefusal) -> bool
+    requires { reader.old.ended ≡ false }
+    ensures { IsTrue result → reader.new.ended ≡ false }
+{
+    match reader.end() {
+        Ok(_) => false,
+        Err(refusal) => refusal == want && reader.line() == want.line,
+    }
+}
+
 #[test]
 fn a_refusal_is_answered_again(rt: HostRuntime) -> Result<(), Fail> {
     let limits = Limits { rows: 9, lines: 9 };
     let Ok(mut reader) = Rows::new(rt.alloc(), limits, WHOLE) else {
         return Err(Fail::from(AllocError));
     };
-    let refusal = Some(TraceRefusal {
+    let refusal = TraceRefusal {
         line: 4,
         kind: TraceKind::BadNumber { field: 2 },
-    });
-    let took = reader.push(b"\ntime,x\n").ok();
-    assert!(&rt;
-        took == Some(Took {
-            bytes: 8,
-            event: Event::Header
-        })
-    );
-    let took = reader.push(b"0,1\n1,zz\n").ok();
-    assert!(&rt;
-        took == Some(Took {
-            bytes: 4,
-            event: Event::Row
-        })
-    );
-    assert!(&rt; reader.push(b"1,zz\n2,2\n").err() == refusal);
-    assert!(&rt; reader.line() == 4);
-    assert!(&rt; reader.push(b"").err() == refusal);
-    assert!(&rt; reader.push(b"9,9\n").err() == refusal);
-    assert!(&rt; reader.end().err() == refusal);
-    assert!(&rt; reader.end().err() == refusal);
-    assert!(&rt; reader.line() == 4);
+    };
+    assert!(&rt; takes(&mut reader, b"\ntime,x\n", 8, Event::Header));
+    assert!(&rt; takes(&mut reader, b"0,1\n1,zz\n", 4, Event::Row));
+    assert!(&rt; refuses(&mut reader, b"1,zz\n2,2\n", refusal));
+    assert!(&rt; refuses(&mut reader, b"", refusal));
+    assert!(&rt; refuses(&mut reader, b"9,9\n", refusal));
+    assert!(&rt; ends_refused(&mut reader, refusal));
+    assert!(&rt; ends_refused(&mut reader, refusal));
     Ok(())
+}
+
+/// A copy of the header, where a piece ends with it.
+fn copied_header(reader: &mut Rows, piece: &[u8]) -> Option<Header>
+    requires { reader.old.ended ≡ false }
+    ensures { reader.new.ended ≡ false }
+{
+    match reader.push(piece) {
+        Ok(took) => match took.event {
+            Event::Header => reader.header().copy().ok(),
+            _ => None,
+        },
+        Err(_) => None,
+    }
+}
+
+/// A copy of the row, where a piece ends with one.
+fn copied_row(reader: &mut Rows, piece: &[u8]) -> Option<Row>
+    requires { reader.old.ended ≡ false }
+{
+    match reader.push(piece) {
+        Ok(took) => match took.event {
+            Event::Row => reader.row().copy().ok(),
+            _ => None,
+        },
+        Err(_) => None,
+    }
 }
 
 #[test]
@@ -562,22 +600,11 @@ fn copies_of_what_was_read_make_a_trace(rt: HostRuntime) -> Result<(), Fail> {
     let Ok(mut reader) = Rows::new(rt.alloc(), LARGE, least) else {
         return Err(Fail::from(AllocError));
     };
-    let header = match reader.push(b"time,x:2,b:step\n") {
-        Ok(took) => match took.event {
-            Event::Header => reader.header().copy().ok(),
-            _ => None,
-        },
-        Err(_) => None,
+    let Some(header) = copied_header(&mut reader, b"time,x:2,b:step\n") else {
+        panic!(&rt; "no header");
     };
-    let row = match reader.push(b"4,-0.5,1\n") {
-        Ok(took) => match took.event {
-            Event::Row => reader.row().copy().ok(),
-            _ => None,
-        },
-        Err(_) => None,
-    };
-    let (Some(header), Some(row)) = (header, row) else {
-        panic!(&rt; "not read");
+    let Some(row) = copied_row(&mut reader, b"4,-0.5,1\n") else {
+        panic!(&rt; "no row");
     };
     assert!(&rt; header.scale() == Scale { time: 1, value: 2 } && header.columns() == 2);
     assert!(&rt; row.time() == 40 && row.columns() == 2);
