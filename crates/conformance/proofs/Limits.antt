@@ -1,5 +1,6 @@
 -- Signals whose knots are within the limits, one by one.
-use Rattle.std.proofs.Common.{◌≡◌, ℕ, suc, ◌+◌, ◌<◌, ◌≤◌, ◌^◌, ℤ, List, [], ◌∷◌, length, Some, refl, arith, lit<, subst}
+use Rattle.std.proofs.Common.{◌≡◌, ℕ, suc, ◌+◌, ◌<◌, ◌≤◌, ◌^◌, ℤ, ◌≤ℤ◌, neg_ℤ, pos, List, [], ◌∷◌, length, Some, refl, arith, lit<, subst}
+use Rattle.std.proofs.lemmas.Int.{ints}
 use Rattle.std.specs.Int.{w64}
 use Rattle.std.specs.Prelude.{slice_get}
 use Rattle.std.specs.Int.RustNames.{unsigned_abs}
@@ -44,3 +45,7 @@ module _ {P : Type 0} (function : P → Affine) where
 -- a near time moved by a number of ticks has a floor that fits
 pub moved_fits : (t : Rational) (by : ℤ) → unsigned_abs by ≤ 2 ^ 31 → IsWithin (2 ^ 33) t → FitsFloor w64 (add t (whole by))
 moved_fits t by h k = fits_of_within w64 (2 ^ 33 + 2 ^ 31) (lit< tt) (within_add (2 ^ 33) (2 ^ 31) k (within_whole (2 ^ 31) by h))
+
+-- a small base is near enough for windows
+pub near_of_small : (b : ℤ) → unsigned_abs b ≤ 2 ^ 31 → (neg_ℤ (pos (2 ^ 32)) ≤ℤ b) × (b ≤ℤ pos (2 ^ 33))
+near_of_small b h = (omega (arith, ints, h), omega (arith, ints, h))

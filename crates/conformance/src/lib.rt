@@ -23,3 +23,5 @@ mod tables;
 mod traces;
 #[cfg(test)]
 mod verdict_tests;
+#[cfg(test)]
+mod window_tests;
