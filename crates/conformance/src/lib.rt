@@ -18,4 +18,6 @@ mod tables;
 #[cfg(test)]
 mod traces;
 #[cfg(test)]
+mod until_tests;
+#[cfg(test)]
 mod verdict_tests;
