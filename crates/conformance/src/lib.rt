@@ -6,6 +6,8 @@ mod shapes;
 pub use shapes::greater_at;
 
 #[cfg(test)]
+mod eval_tests;
+#[cfg(test)]
 mod operator_tests;
 #[cfg(test)]
 mod run_tests;

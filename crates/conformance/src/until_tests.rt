@@ -54,8 +54,7 @@ fn check<P: Tabled>(
     what: Made,
     cases: &[(&[Row<P::Word>], &[Row<P::Word>], &[Row<P::Word>])],
 ) -> Result<(), Fail> {
-    for row in 0..cases.len() {
-        let (left, right, want) = cases[row];
+    for (row, &(left, right, want)) in cases.iter().enumerate() {
         let made = of_two::<P>(rt, alloc, what, left, right)?;
         assert!(rt; is_told(rt, &made, want), "row {row}");
     }
