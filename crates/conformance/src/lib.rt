@@ -6,6 +6,8 @@ mod shapes;
 pub use shapes::greater_at;
 
 #[cfg(test)]
+mod eval_tests;
+#[cfg(test)]
 mod operator_tests;
 #[cfg(test)]
 mod run_tests;
@@ -21,6 +23,8 @@ mod slow_tests;
 mod tables;
 #[cfg(test)]
 mod traces;
+#[cfg(test)]
+mod until_tests;
 #[cfg(test)]
 mod verdict_tests;
 #[cfg(test)]

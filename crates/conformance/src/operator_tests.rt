@@ -250,6 +250,32 @@ fn three_values_are_joined_as_kleene_has_it(rt: HostRuntime) -> Result<(), Fail>
     Ok(())
 }
 
+#[test]
+fn three_values_are_negated(rt: HostRuntime) -> Result<(), Fail> {
+    let table: [(&[Row<Option<bool>>], Made, &[Row<Option<bool>>]); 2] = [
+        (
+            &[
+                (0, 1, YES, None),
+                (9, 2, None, YES),
+                (5, 1, NO, NO),
+                (8, 1, YES, NO),
+            ],
+            Made::Negated,
+            &[
+                (0, 1, NO, None),
+                (9, 2, None, NO),
+                (5, 1, YES, YES),
+                (8, 1, NO, NO),
+            ],
+        ),
+        (&[(7, 2, None, None)], Made::Negated, &[(7, 2, None, None)]),
+    ];
+    for (row, case) in table.into_iter().enumerate() {
+        check_one::<Kleene>(&rt, rt.alloc(), row, case)?;
+    }
+    Ok(())
+}
+
 /// `v` at the time `t`, and more by `rise` with each tick.
 const fn line(t: i32, v: i32, rise: i32) -> Level {
     Level::Line { t, v, rise, run: 1 }

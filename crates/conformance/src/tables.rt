@@ -67,6 +67,20 @@ pub(crate) enum Level {
     High,
 }
 
+/// `v` at the time 0, and more by `rise` with each tick.
+macro_rules! line {
+    ($v:expr, $rise:expr) => {
+        Level::Line {
+            t: 0,
+            v: $v,
+            rise: $rise,
+            run: 1,
+        }
+    };
+}
+
+pub(crate) use line;
+
 impl Tabled for Margin {
     type Word = Level;
 

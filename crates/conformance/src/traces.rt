@@ -1,7 +1,7 @@
 //! Traces that are read from text, and the signals of atoms on them.
-ghost use Rattle.std.specs.Prelude.{◌≡◌, ◌<◌, length, IfOk, MatchOption};
+ghost use Rattle.std.specs.Prelude.{◌≡◌, ◌<◌, ◌^◌, pos, ◌≤ℤ◌, ◌<ℤ◌, length, IfOk, MatchOption};
 ghost use Rattle.rational.specs.Rational.{◌≈◌};
-ghost use Rattle.pl_signal.specs.Knots.{start as first, stop as last};
+ghost use Rattle.pl_signal.specs.Knots.{start as first, stop as last, HasShape};
 ghost use Rattle.pl_signal.specs.Limits.{IsLimited};
 ghost use Rattle.stl_syntax.specs.Trace.{last_time, start, stop};
 ghost use Rattle.atom_lines.specs.Binding.{IsBound};
@@ -84,6 +84,7 @@ pub(crate) fn signal_of<P: AtomShape>(
     requires node { node < length formula.now.nodes }
     requires some { 0 < length trace.now.rows }
     ensures limited { IfOk result (IsLimited P.function) }
+    ensures bases { IfOk result (λ s. (p : P) → HasShape s p → (pos 0 ≤ℤ P.base p) × (P.base p <ℤ pos (2 ^ 32))) }
     ensures begins { IfOk result (λ s. first s ≈ start trace.now) }
     ensures ends { IfOk result (λ s. last s ≈ stop trace.now) }
 {

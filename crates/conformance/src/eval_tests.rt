@@ -1,0 +1,761 @@
+//! Whole formulas over the signals of their atoms, as tables of knots, with answers by hand.
+ghost use Rattle.std.specs.Prelude.{◌≡◌, ◌+◌, ◌<◌, ◌≤◌, pos, length, IfOk, OnOk};
+ghost use Rattle.rational.specs.Time.{whole, ◌≈◌};
+ghost use Rattle.frac128.specs.Value.{value};
+ghost use Rattle.pl_signal.specs.Knots.{start, stop};
+ghost use Rattle.atom_lines.specs.Binding.{IsBound};
+ghost use Rattle.conformance.specs.Inputs.{AreInputs};
+
+use super::tables::{Level, Tabled, is_told, line, signal};
+use super::traces::{read, signal_of};
+use atom_lines::{AtomShape, Bound, bind};
+use frac128::{Frac, Steps};
+use offline_eval::{Atoms, Evaluated, eval};
+use pl_signal::Signal;
+use std::alloc::Global;
+use std::cmp::Ordering;
+use std::marker::Brand;
+use std::process::Abort;
+use std::sync::ledger::{Blank, Ledger};
+use std::test::Fail;
+use stl_grammar::parse;
+use stl_syntax::{Formula, Node};
+use trace_reader::Trace;
+use value_laws::{Kleene, Margin, Shape, Truth};
+
+/// A knot in a table: its time as a fraction, the shape there and the shape after it.
+type Row<W> = (i64, i64, W, W);
+
+/// The first and the last time of a domain, in ticks.
+#[derive(Clone, Copy)]
+struct Domain {
+    from: u32,
+    to: u32,
+}
+
+/// The formula of a text.
+fn parsed(rt: &impl Abort, alloc: Global, text: &str) -> Formula {
+    match parse(alloc, text) {
+        Ok(formula) => formula,
+        Err(_) => panic!(rt; "{text}"),
+    }
+}
+
+/// A time of whole ticks.
+fn tick(n: u32) -> Frac
+    ensures { value result ≈ whole (pos n) }
+{
+    Frac::of(i64::from(n))
+}
+
+/// Stops where the signal is over another domain.
+fn expect_over<P: Shape>(rt: &impl Abort, s: &Signal<P>, over: Domain)
+    ensures begins { start s.now ≈ whole (pos over.from) }
+    ensures ends { stop s.now ≈ whole (pos over.to) }
+{
+    let Ordering::Equal = s.start().cmp(&tick(over.from)) else {
+        panic!(rt; "from");
+    };
+    let Ordering::Equal = s.stop().cmp(&tick(over.to)) else {
+        panic!(rt; "to");
+    };
+}
+
+/// Adds the signal of the node, where it is an atom, from a trace.
+fn add_atom<P: AtomShape>(
+    rt: &impl Abort,
+    alloc: Global,
+    formula: &Formula,
+    bound: &Bound,
+    i: u32,
+    trace: &Trace,
+    over: Domain,
+    atoms: &mut Atoms<P>,
+) -> Result<(), Fail>
+    requires bound { IsBound bound.now formula.now trace.now.header }
+    requires some { 0 < length trace.now.rows }
+    requires inside { i < length formula.now.nodes }
+    requires before { AreInputs P.function P.base over.from over.to formula.now.nodes i atoms.old }
+    ensures { OnOk result (AreInputs P.function P.base over.from over.to formula.now.nodes (i + 1) atoms.new) }
+{
+    match formula.node(i) {
+        Node::Atom(_) => {
+            let signal = signal_of::<P>(rt, alloc, formula, bound, i, trace)?;
+            expect_over(rt, &signal, over);
+            atoms.add(signal)?;
+            Ok(())
+        }
+        _ => Ok(()),
+    }
+}
+
+/// Adds the signal of the node, where it is an atom, from the next of the tables. The answer is how many of them were used.
+fn add_table(
+    rt: &impl Abort,
+    alloc: Global,
+    formula: &Formula,
+    i: u32,
+    tables: &[&[Row<Option<bool>>]],
+    used: usize,
+    over: Domain,
+    atoms: &mut Atoms<Kleene>,
+) -> Result<usize, Fail>
+    requires inside { i < length formula.now.nodes }
+    requires before { AreInputs ⟦<Kleene as Shape>⟧.function ⟦<Kleene as Shape>⟧.base over.from over.to formula.now.nodes i atoms.old }
+    ensures { OnOk result
+        (AreInputs ⟦<Kleene as Shape>⟧.function ⟦<Kleene as Shape>⟧.base over.from over.to formula.now.nodes (i + 1) atoms.new) }
+{
+    match formula.node(i) {
+        Node::Atom(_) => {
+            assert!(rt; used < tables.len(), "tables");
+            let signal = signal::<Kleene>(rt, alloc, tables[used])?;
+            expect_over(rt, &signal, over);
+            atoms.add(signal)?;
+            Ok(used + 1)
+        }
+        _ => Ok(used),
+    }
+}
+
+/// The signal of each node.
+fn evaluated<P: Shape, L: Ledger>(
+    rt: &impl Abort,
+    alloc: Global,
+    formula: &Formula,
+    over: Domain,
+    atoms: Atoms<P>,
+    blank: Blank,
+) -> Evaluated<P>
+    requires order { over.from ≤ over.to }
+    requires inputs { AreInputs P.function P.base over.from over.to formula.now.nodes (length formula.now.nodes) atoms }
+    requires name { blank.name ≡ L.name }
+    requires parts { blank.parts ≡ L.parts }
+    requires shares { 0 < blank.parts }
+    ensures { length result ≡ length formula.now.nodes }
+{
+    let mut steps: Steps<L> = Steps::new(blank);
+    match eval(alloc, formula, over.from, over.to, atoms, &mut steps) {
+        Ok(nodes) => nodes,
+        Err(_) => panic!(rt; "refused"),
+    }
+}
+
+/// The signal of each node over a trace.
+fn over_trace<P: AtomShape>(
+    rt: &impl Abort,
+    alloc: Global,
+    formula: &Formula,
+    trace: &Trace,
+) -> Result<Evaluated<P>, Fail>
+    ensures { IfOk result (λ r. length r ≡ length formula.now.nodes) }
+{
+    let Ok(bound) = bind(alloc, formula, trace.header()) else {
+        panic!(rt; "not bound");
+    };
+    assert!(rt; trace.rows() > 0);
+    let over = Domain {
+        from: trace.time(0),
+        to: trace.time(trace.rows() - 1),
+    };
+    assert!(rt; over.from <= over.to);
+    let mut atoms = Atoms::new(alloc);
+    for i in 0..formula.len() {
+        add_atom(rt, alloc, formula, &bound, i, trace, over, &mut atoms)?;
+    }
+    Ok(evaluated::<P, Brand>(rt, alloc, formula, over, atoms, Blank::new(1)))
+}
+
+/// The signal of each node over the domain, where the tables say what the atoms are, in post-order.
+fn over_tables(
+    rt: &impl Abort,
+    alloc: Global,
+    formula: &Formula,
+    tables: &[&[Row<Option<bool>>]],
+    over: Domain,
+) -> Result<Evaluated<Kleene>, Fail>
+    requires { over.from ≤ over.to }
+    ensures { IfOk result (λ r. length r ≡ length formula.now.nodes) }
+{
+    let mut atoms = Atoms::new(alloc);
+    let mut used = 0;
+    for i in 0..formula.len() {
+        used = add_table(rt, alloc, formula, i, tables, used, over, &mut atoms)?;
+    }
+    assert!(rt; used == tables.len(), "tables");
+    Ok(evaluated::<Kleene, Brand>(rt, alloc, formula, over, atoms, Blank::new(1)))
+}
+
+/// Whether the signal of the node at the place, or of the root, has the knots of the table and no others.
+fn has_knots<P: Tabled>(
+    rt: &impl Abort,
+    nodes: &Evaluated<P>,
+    root: u32,
+    place: Option<u32>,
+    want: &[Row<P::Word>],
+) -> bool
+    requires { length nodes.now ≡ root + 1 }
+{
+    let place = place.unwrap_or(root);
+    assert!(rt; place <= root, "place");
+    is_told(rt, nodes.signal(place), want)
+}
+
+/// Fails where a formula over a trace has a node with other knots than those of the case.
+fn check_traces<P: AtomShape + Tabled>(
+    rt: &impl Abort,
+    alloc: Global,
+    cases: &[(&str, &str, Option<u32>, &[Row<P::Word>])],
+) -> Result<(), Fail> {
+    for &(text, trace, place, want) in cases {
+        let formula = parsed(rt, alloc, text);
+        let trace = read(rt, alloc, trace)?;
+        let nodes = over_trace::<P>(rt, alloc, &formula, &trace)?;
+        let root = formula.len() - 1;
+        assert!(rt; has_knots(rt, &nodes, root, place, want), "{text}");
+    }
+    Ok(())
+}
+
+const LOW: Level = Level::Low;
+
+const HIGH: Level = Level::High;
+
+/// Nothing that is read, after the last knot.
+const END: Level = Level::Low;
+
+/// `x` rises from 0 to 8, and `y` falls from 8 to 0.
+const RAMPS: &str = "time,x,y\n0,0,8\n8,8,0\n";
+
+/// `x` is 3 before 4, -2 before 8, and 5 at 8.
+const STEPS: &str = "time,x:step\n0,3\n4,-2\n8,5\n";
+
+/// `x` rises from 0 to 4, from the time 2 to the time 6.
+const LATE: &str = "time,x\n2,0\n6,4\n";
+
+/// `x` is 7 at the time 5, and there is no other time.
+const INSTANT: &str = "time,x\n5,7\n";
+
+/// A formula, a trace, the place of a node or the root, and the knots of its signal.
+type Case<W> = (&'static str, &'static str, Option<u32>, &'static [Row<W>]);
+
+const MARGINS: [Case<Level>; 28] = [
+    (
+        "not x >= 3",
+        RAMPS,
+        None,
+        &[
+            (0, 1, Level::Is(3), line!(3, -1)),
+            (8, 1, Level::Is(-5), END),
+        ],
+    ),
+    (
+        "x >= 3 and y >= 2",
+        RAMPS,
+        None,
+        &[
+            (0, 1, Level::Is(-3), line!(-3, 1)),
+            (9, 2, line!(-3, 1), line!(6, -1)),
+            (8, 1, Level::Is(-2), END),
+        ],
+    ),
+    (
+        "x >= 3 or y >= 2",
+        RAMPS,
+        None,
+        &[
+            (0, 1, Level::Is(6), line!(6, -1)),
+            (9, 2, line!(-3, 1), line!(-3, 1)),
+            (8, 1, Level::Is(5), END),
+        ],
+    ),
+    (
+        "x <= 1 implies y >= 4",
+        RAMPS,
+        None,
+        &[
+            (0, 1, Level::Is(4), line!(4, -1)),
+            (5, 2, line!(4, -1), line!(-1, 1)),
+            (8, 1, Level::Is(7), END),
+        ],
+    ),
+    (
+        "eventually[1,3] x >= 3",
+        RAMPS,
+        None,
+        &[
+            (0, 1, Level::Is(0), line!(0, 1)),
+            (5, 1, Level::Is(5), Level::Is(5)),
+            (7, 1, Level::Is(5), LOW),
+            (8, 1, LOW, END),
+        ],
+    ),
+    (
+        "always[1,3] x >= 3",
+        RAMPS,
+        None,
+        &[
+            (0, 1, Level::Is(-2), line!(-2, 1)),
+            (7, 1, Level::Is(5), HIGH),
+            (8, 1, HIGH, END),
+        ],
+    ),
+    (
+        "once[1,3] x >= 3",
+        RAMPS,
+        None,
+        &[
+            (0, 1, LOW, LOW),
+            (1, 1, Level::Is(-3), line!(-4, 1)),
+            (8, 1, Level::Is(4), END),
+        ],
+    ),
+    (
+        "historically[1,3] x >= 3",
+        RAMPS,
+        None,
+        &[
+            (0, 1, HIGH, HIGH),
+            (1, 1, Level::Is(-3), Level::Is(-3)),
+            (3, 1, Level::Is(-3), line!(-6, 1)),
+            (8, 1, Level::Is(2), END),
+        ],
+    ),
+    (
+        "x >= 2 until[1,3] y >= 2",
+        RAMPS,
+        None,
+        &[
+            (0, 1, Level::Is(-2), line!(-2, 1)),
+            (7, 2, line!(-2, 1), line!(5, -1)),
+            (7, 1, Level::Is(-2), LOW),
+            (8, 1, LOW, END),
+        ],
+    ),
+    (
+        "y >= 1 until[1,3] x >= 1",
+        RAMPS,
+        None,
+        &[
+            (0, 1, Level::Is(2), line!(2, 1)),
+            (1, 1, Level::Is(3), Level::Is(3)),
+            (3, 1, Level::Is(3), line!(6, -1)),
+            (7, 1, Level::Is(-1), LOW),
+            (8, 1, LOW, END),
+        ],
+    ),
+    (
+        "y >= 1 since[1,3] x >= 1",
+        RAMPS,
+        None,
+        &[
+            (0, 1, LOW, LOW),
+            (1, 1, Level::Is(-1), line!(-2, 1)),
+            (9, 2, line!(-2, 1), line!(7, -1)),
+            (8, 1, Level::Is(-1), END),
+        ],
+    ),
+    (
+        "x >= 1 since[1,3] y >= 1",
+        RAMPS,
+        None,
+        &[
+            (0, 1, LOW, LOW),
+            (1, 1, Level::Is(-1), line!(-2, 1)),
+            (5, 1, Level::Is(3), Level::Is(3)),
+            (7, 1, Level::Is(3), line!(10, -1)),
+            (8, 1, Level::Is(2), END),
+        ],
+    ),
+    (
+        "x >= 2 until[0,0] y >= 2",
+        RAMPS,
+        None,
+        &[
+            (0, 1, Level::Is(-2), line!(-2, 1)),
+            (4, 1, Level::Is(2), line!(6, -1)),
+            (8, 1, Level::Is(-2), END),
+        ],
+    ),
+    (
+        "y >= 1 since x >= 1",
+        RAMPS,
+        None,
+        &[
+            (0, 1, Level::Is(-1), line!(-1, 1)),
+            (4, 1, Level::Is(3), line!(7, -1)),
+            (8, 1, Level::Is(-1), END),
+        ],
+    ),
+    (
+        "historically x >= 3",
+        RAMPS,
+        None,
+        &[
+            (0, 1, Level::Is(-3), Level::Is(-3)),
+            (8, 1, Level::Is(-3), END),
+        ],
+    ),
+    (
+        "once[2,inf[ y >= 2",
+        RAMPS,
+        None,
+        &[
+            (0, 1, LOW, LOW),
+            (2, 1, Level::Is(6), Level::Is(6)),
+            (8, 1, Level::Is(6), END),
+        ],
+    ),
+    (
+        "eventually]0,2] x >= 0",
+        STEPS,
+        None,
+        &[
+            (0, 1, Level::Is(3), Level::Is(3)),
+            (4, 1, Level::Is(-2), Level::Is(-2)),
+            (6, 1, Level::Is(5), Level::Is(5)),
+            (8, 1, LOW, END),
+        ],
+    ),
+    (
+        "eventually[0,2[ x >= 0",
+        STEPS,
+        None,
+        &[
+            (0, 1, Level::Is(3), Level::Is(3)),
+            (4, 1, Level::Is(-2), Level::Is(-2)),
+            (6, 1, Level::Is(-2), Level::Is(5)),
+            (8, 1, Level::Is(5), END),
+        ],
+    ),
+    (
+        "once]0,1] x >= 0",
+        STEPS,
+        None,
+        &[
+            (0, 1, LOW, Level::Is(3)),
+            (5, 1, Level::Is(-2), Level::Is(-2)),
+            (8, 1, Level::Is(-2), END),
+        ],
+    ),
+    (
+        "always[0,1] x >= 0",
+        STEPS,
+        None,
+        &[
+            (0, 1, Level::Is(3), Level::Is(3)),
+            (3, 1, Level::Is(-2), Level::Is(-2)),
+            (8, 1, Level::Is(5), END),
+        ],
+    ),
+    (
+        "eventually[1,2] not historically[0,1] x >= 3",
+        RAMPS,
+        None,
+        &[
+            (0, 1, Level::Is(3), line!(3, -1)),
+            (7, 1, Level::Is(-4), LOW),
+            (8, 1, LOW, END),
+        ],
+    ),
+    (
+        "eventually[1,2] not historically[0,1] x >= 3",
+        RAMPS,
+        Some(1),
+        &[
+            (0, 1, Level::Is(-3), Level::Is(-3)),
+            (1, 1, Level::Is(-3), line!(-4, 1)),
+            (8, 1, Level::Is(4), END),
+        ],
+    ),
+    ("true", LATE, None, &[(2, 1, HIGH, HIGH), (6, 1, HIGH, END)]),
+    (
+        "false or x >= 1",
+        LATE,
+        None,
+        &[
+            (2, 1, Level::Is(-1), line!(-3, 1)),
+            (6, 1, Level::Is(3), END),
+        ],
+    ),
+    (
+        "true until[1,3] x >= 1",
+        LATE,
+        None,
+        &[
+            (2, 1, Level::Is(2), line!(0, 1)),
+            (3, 1, Level::Is(3), Level::Is(3)),
+            (5, 1, Level::Is(3), LOW),
+            (6, 1, LOW, END),
+        ],
+    ),
+    (
+        "eventually[0,2] x >= 3",
+        INSTANT,
+        None,
+        &[(5, 1, Level::Is(4), END)],
+    ),
+    ("always[1,2] x >= 3", INSTANT, None, &[(5, 1, HIGH, END)]),
+    (
+        "x >= 3 since[0,1] x >= 5",
+        INSTANT,
+        None,
+        &[(5, 1, Level::Is(2), END)],
+    ),
+];
+
+#[test]
+fn margins_of_formulas_are_told(rt: HostRuntime) -> Result<(), Fail> {
+    check_traces::<Margin>(&rt, rt.alloc(), &MARGINS)
+}
+
+const TRUTHS: [Case<bool>; 4] = [
+    (
+        "eventually[1,3] x >= 6",
+        RAMPS,
+        None,
+        &[
+            (0, 1, false, false),
+            (3, 1, true, true),
+            (7, 1, true, false),
+            (8, 1, false, false),
+        ],
+    ),
+    (
+        "x >= 3 until[1,2] y < 3",
+        RAMPS,
+        None,
+        &[
+            (0, 1, false, false),
+            (3, 1, false, true),
+            (7, 1, true, false),
+            (8, 1, false, false),
+        ],
+    ),
+    (
+        "x <= 5 since[2,4] y >= 6",
+        RAMPS,
+        None,
+        &[
+            (0, 1, false, false),
+            (2, 1, true, true),
+            (5, 1, true, false),
+            (8, 1, false, false),
+        ],
+    ),
+    (
+        "historically[0,2] (x > 1 or y > 7)",
+        RAMPS,
+        None,
+        &[
+            (0, 1, true, true),
+            (1, 1, false, false),
+            (3, 1, false, true),
+            (8, 1, true, true),
+        ],
+    ),
+];
+
+#[test]
+fn truths_of_formulas_are_told(rt: HostRuntime) -> Result<(), Fail> {
+    check_traces::<Truth>(&rt, rt.alloc(), &TRUTHS)
+}
+
+/// Fails where a formula over the signals of tables has a node with other knots than those of the case.
+fn check_tables(rt: &impl Abort, alloc: Global, cases: &[Known]) -> Result<(), Fail> {
+    for &(text, tables, place, want) in cases {
+        let formula = parsed(rt, alloc, text);
+        let nodes = over_tables(rt, alloc, &formula, tables, Domain { from: 0, to: 8 })?;
+        let root = formula.len() - 1;
+        assert!(rt; has_knots(rt, &nodes, root, place, want), "{text}");
+    }
+    Ok(())
+}
+
+/// A formula, the tables of its atoms, the place of a node or the root, and the knots of its signal.
+type Known = (
+    &'static str,
+    &'static [&'static [Row<Option<bool>>]],
+    Option<u32>,
+    &'static [Row<Option<bool>>],
+);
+
+const YES: Option<bool> = Some(true);
+
+const NO: Option<bool> = Some(false);
+
+/// True before 3, unknown up to 5, and false after it.
+const P: [Row<Option<bool>>; 4] = [
+    (0, 1, YES, YES),
+    (3, 1, None, None),
+    (5, 1, None, NO),
+    (8, 1, NO, NO),
+];
+
+/// Minus the one before.
+const NOT_P: [Row<Option<bool>>; 4] = [
+    (0, 1, NO, NO),
+    (3, 1, None, None),
+    (5, 1, None, YES),
+    (8, 1, YES, YES),
+];
+
+/// False up to 2, true before 4, unknown before 8, and true at 8.
+const Q: [Row<Option<bool>>; 4] = [
+    (0, 1, NO, NO),
+    (2, 1, NO, YES),
+    (4, 1, None, None),
+    (8, 1, YES, YES),
+];
+
+/// Whether `Q` holds from one to two ticks later.
+const Q_AHEAD: [Row<Option<bool>>; 5] = [
+    (0, 1, NO, YES),
+    (3, 1, None, None),
+    (6, 1, YES, YES),
+    (7, 1, YES, NO),
+    (8, 1, NO, NO),
+];
+
+const KNOWN: [Known; 16] = [
+    ("not p >= 0", &[&P], None, &NOT_P),
+    (
+        "p >= 0 and q >= 0",
+        &[&P, &Q],
+        None,
+        &[
+            (0, 1, NO, NO),
+            (2, 1, NO, YES),
+            (3, 1, None, None),
+            (5, 1, None, NO),
+            (8, 1, NO, NO),
+        ],
+    ),
+    (
+        "not (p >= 0 and q >= 0)",
+        &[&P, &Q],
+        Some(2),
+        &[
+            (0, 1, NO, NO),
+            (2, 1, NO, YES),
+            (3, 1, None, None),
+            (5, 1, None, NO),
+            (8, 1, NO, NO),
+        ],
+    ),
+    (
+        "p >= 0 or q >= 0",
+        &[&P, &Q],
+        None,
+        &[(0, 1, YES, YES), (4, 1, None, None), (8, 1, YES, YES)],
+    ),
+    (
+        "p >= 0 implies q >= 0",
+        &[&P, &Q],
+        None,
+        &[
+            (0, 1, NO, NO),
+            (2, 1, NO, YES),
+            (4, 1, None, None),
+            (5, 1, None, YES),
+            (8, 1, YES, YES),
+        ],
+    ),
+    ("eventually[1,2] q >= 0", &[&Q], None, &Q_AHEAD),
+    (
+        "always[1,2] p >= 0",
+        &[&P],
+        None,
+        &[
+            (0, 1, YES, YES),
+            (1, 1, None, None),
+            (3, 1, None, NO),
+            (7, 1, NO, YES),
+            (8, 1, YES, YES),
+        ],
+    ),
+    (
+        "once[1,2] q >= 0",
+        &[&Q],
+        None,
+        &[
+            (0, 1, NO, NO),
+            (3, 1, NO, YES),
+            (6, 1, None, None),
+            (8, 1, None, None),
+        ],
+    ),
+    (
+        "historically[1,2] p >= 0",
+        &[&P],
+        None,
+        &[
+            (0, 1, YES, YES),
+            (4, 1, None, None),
+            (6, 1, None, NO),
+            (8, 1, NO, NO),
+        ],
+    ),
+    (
+        "p >= 0 until[1,2] q >= 0",
+        &[&P, &Q],
+        None,
+        &[
+            (0, 1, NO, YES),
+            (2, 1, None, None),
+            (4, 1, None, NO),
+            (8, 1, NO, NO),
+        ],
+    ),
+    (
+        "p >= 0 since[1,2] q >= 0",
+        &[&P, &Q],
+        None,
+        &[
+            (0, 1, NO, NO),
+            (3, 1, NO, None),
+            (5, 1, None, NO),
+            (8, 1, NO, NO),
+        ],
+    ),
+    (
+        "q >= 0 since[1,2] p >= 0",
+        &[&Q, &P],
+        None,
+        &[
+            (0, 1, NO, NO),
+            (3, 1, NO, YES),
+            (4, 1, None, None),
+            (7, 1, None, NO),
+            (8, 1, NO, NO),
+        ],
+    ),
+    (
+        "eventually]0,2] q >= 0",
+        &[&Q],
+        None,
+        &[
+            (0, 1, NO, YES),
+            (4, 1, None, None),
+            (6, 1, YES, YES),
+            (8, 1, NO, NO),
+        ],
+    ),
+    ("true until[1,2] q >= 0", &[&Q], None, &Q_AHEAD),
+    ("p >= 0 implies false", &[&P], None, &NOT_P),
+    (
+        "p >= 0 and not p >= 0",
+        &[&P, &P],
+        None,
+        &[
+            (0, 1, NO, NO),
+            (3, 1, None, None),
+            (5, 1, None, NO),
+            (8, 1, NO, NO),
+        ],
+    ),
+];
+
+#[test]
+fn unknowns_of_formulas_are_told(rt: HostRuntime) -> Result<(), Fail> {
+    check_tables(&rt, rt.alloc(), &KNOWN)
+}
