@@ -18,6 +18,9 @@ use window_ops::{inf_past, inf_window, sup_past, sup_window};
 /// A knot in a table: its time as a fraction, the shape there and the shape after it.
 type Row<W> = (i64, i64, W, W);
 
+/// A signal, what is taken of it, and the signal that is wanted.
+type Case<'a, W> = (&'a [Row<W>], Over, &'a [Row<W>]);
+
 /// The bounds of a window, in ticks: from the nearer to the farther.
 #[derive(Clone, Copy)]
 enum Window {
@@ -44,31 +47,16 @@ impl Ends {
     }
 }
 
+/// The least upper bound or the greatest lower bound.
+#[derive(Clone, Copy)]
+enum Taken {
+    Sup,
+    Inf,
+}
+
 /// What is taken over a window.
 #[derive(Clone, Copy)]
-struct Over {
-    least: bool,
-    window: Window,
-    ends: Ends,
-}
-
-/// The Sup over a window.
-const fn sup(window: Window, ends: Ends) -> Over {
-    Over {
-        least: false,
-        window,
-        ends,
-    }
-}
-
-/// The Inf over a window.
-const fn inf(window: Window, ends: Ends) -> Over {
-    Over {
-        least: true,
-        window,
-        ends,
-    }
-}
+struct Over(Taken, Window, Ends);
 
 /// The last instant that windows know.
 const LAST: i64 = 4_294_967_295;
@@ -103,13 +91,13 @@ fn ahead<P: Shape>(
     requires limited { IsLimited P.function s.now }
     requires bases { AreNear P.base s.now }
 {
-    let (near_in, far_in) = (over.ends.near_in(), over.ends.far_in());
+    let Over(what, _, ends) = over;
+    let (near_in, far_in) = (ends.near_in(), ends.far_in());
     expect_domain(rt, s);
     assert!(rt; near <= far);
-    if over.least {
-        inf_window(s, near, far, near_in, far_in)
-    } else {
-        sup_window(s, near, far, near_in, far_in)
+    match what {
+        Taken::Sup => sup_window(s, near, far, near_in, far_in),
+        Taken::Inf => inf_window(s, near, far, near_in, far_in),
     }
 }
 
@@ -124,25 +112,26 @@ fn behind<P: Shape>(
     requires limited { IsLimited P.function s.now }
     requires bases { AreNear P.base s.now }
 {
-    let (near_in, far_in) = (over.ends.near_in(), over.ends.far_in());
+    let Over(what, _, ends) = over;
+    let (near_in, far_in) = (ends.near_in(), ends.far_in());
     expect_domain(rt, s);
     expect_bounds(rt, near, far);
-    if over.least {
-        inf_past(s, near, far, near_in, far_in)
-    } else {
-        sup_past(s, near, far, near_in, far_in)
+    match what {
+        Taken::Sup => sup_past(s, near, far, near_in, far_in),
+        Taken::Inf => inf_past(s, near, far, near_in, far_in),
     }
 }
 
 /// What is taken of the signal of a table.
-fn taken<P: Tabled>(
+fn over_window<P: Tabled>(
     rt: &impl Abort,
     alloc: Global,
     rows: &[Row<P::Word>],
     over: Over,
 ) -> Result<Signal<P>, Fail> {
     let s = signal::<P>(rt, alloc, rows)?;
-    let made = match over.window {
+    let Over(_, window, _) = over;
+    let made = match window {
         Window::Ahead(near, far) => ahead(rt, &s, near, far, over),
         Window::Behind(near, far) => behind(rt, &s, near, far, over),
     };
@@ -157,144 +146,169 @@ fn check<P: Tabled>(
     rt: &impl Abort,
     alloc: Global,
     row: usize,
-    (rows, over, want): (&[Row<P::Word>], Over, &[Row<P::Word>]),
+    (rows, over, want): Case<P::Word>,
 ) -> Result<(), Fail> {
-    let made = taken::<P>(rt, alloc, rows, over)?;
+    let made = over_window::<P>(rt, alloc, rows, over)?;
     assert!(rt; is_told(rt, &made, want), "row {row}");
     Ok(())
 }
 
+const NEVER: [Row<bool>; 2] = [(0, 1, false, false), (10, 1, false, false)];
+
+const ALWAYS: [Row<bool>; 2] = [(0, 1, true, true), (10, 1, true, true)];
+
+const AT_START: [Row<bool>; 2] = [(0, 1, true, false), (10, 1, false, false)];
+
+const TWICE: [Row<bool>; 4] = [
+    (0, 1, false, false),
+    (4, 1, true, false),
+    (7, 1, true, false),
+    (10, 1, false, false),
+];
+
+const BUT_TWICE: [Row<bool>; 4] = [
+    (0, 1, true, true),
+    (4, 1, false, true),
+    (7, 1, false, true),
+    (10, 1, true, true),
+];
+
+const AFTER_4: [Row<bool>; 3] = [
+    (0, 1, false, false),
+    (4, 1, false, true),
+    (10, 1, true, true),
+];
+
+const FROM_3_TO_5: [Row<bool>; 4] = [
+    (0, 1, false, false),
+    (3, 1, true, true),
+    (5, 1, false, false),
+    (10, 1, false, false),
+];
+
+const TRUTHS: [Case<'static, bool>; 16] = [
+    (
+        &TWICE,
+        Over(Taken::Sup, Window::Ahead(0, 0), Ends::Both),
+        &TWICE,
+    ),
+    (
+        &ALWAYS,
+        Over(Taken::Sup, Window::Ahead(4, 4), Ends::Far),
+        &NEVER,
+    ),
+    (
+        &NEVER,
+        Over(Taken::Inf, Window::Ahead(4, 4), Ends::Both),
+        &[
+            (0, 1, false, false),
+            (6, 1, false, true),
+            (10, 1, true, true),
+        ],
+    ),
+    (
+        &ALWAYS,
+        Over(Taken::Sup, Window::Ahead(10, 20), Ends::Both),
+        &AT_START,
+    ),
+    (
+        &NEVER,
+        Over(Taken::Inf, Window::Behind(10, Some(20)), Ends::Far),
+        &ALWAYS,
+    ),
+    (
+        &[(5, 1, true, true)],
+        Over(Taken::Sup, Window::Ahead(0, 3), Ends::Far),
+        &[(5, 1, false, false)],
+    ),
+    (
+        &[(5, 1, false, false)],
+        Over(Taken::Inf, Window::Behind(0, None), Ends::Both),
+        &[(5, 1, false, false)],
+    ),
+    (
+        &TWICE,
+        Over(Taken::Sup, Window::Ahead(1, 4), Ends::Both),
+        &[
+            (0, 1, true, true),
+            (6, 1, true, false),
+            (10, 1, false, false),
+        ],
+    ),
+    (
+        &TWICE,
+        Over(Taken::Sup, Window::Ahead(1, 4), Ends::Neither),
+        &[
+            (0, 1, false, true),
+            (3, 1, false, true),
+            (6, 1, false, false),
+            (10, 1, false, false),
+        ],
+    ),
+    (
+        &TWICE,
+        Over(Taken::Sup, Window::Behind(1, Some(4)), Ends::Near),
+        &[
+            (0, 1, false, false),
+            (5, 1, true, true),
+            (10, 1, true, true),
+        ],
+    ),
+    (
+        &BUT_TWICE,
+        Over(Taken::Inf, Window::Behind(1, Some(4)), Ends::Far),
+        &[
+            (0, 1, true, true),
+            (5, 1, true, false),
+            (10, 1, false, false),
+        ],
+    ),
+    (
+        &AFTER_4,
+        Over(Taken::Sup, Window::Ahead(0, 2), Ends::Neither),
+        &[
+            (0, 1, false, false),
+            (2, 1, false, true),
+            (10, 1, false, false),
+        ],
+    ),
+    (
+        &FROM_3_TO_5,
+        Over(Taken::Inf, Window::Ahead(0, 2), Ends::Near),
+        &[
+            (0, 1, false, false),
+            (3, 1, true, false),
+            (10, 1, false, false),
+        ],
+    ),
+    (
+        &AT_START,
+        Over(Taken::Sup, Window::Behind(0, None), Ends::Near),
+        &ALWAYS,
+    ),
+    (
+        &TWICE,
+        Over(Taken::Sup, Window::Behind(2, None), Ends::Neither),
+        &[
+            (0, 1, false, false),
+            (6, 1, false, true),
+            (10, 1, true, true),
+        ],
+    ),
+    (
+        &[(0, 1, false, true), (LAST, 1, true, true)],
+        Over(
+            Taken::Inf,
+            Window::Behind(4_294_967_295, Some(4_294_967_295)),
+            Ends::Both,
+        ),
+        &[(0, 1, true, true), (LAST, 1, false, false)],
+    ),
+];
+
 #[test]
 fn truths_over_windows_with_either_end_in_or_out(rt: HostRuntime) -> Result<(), Fail> {
-    let never = [(0, 1, false, false), (10, 1, false, false)];
-    let always = [(0, 1, true, true), (10, 1, true, true)];
-    let at_start = [(0, 1, true, false), (10, 1, false, false)];
-    let twice = [
-        (0, 1, false, false),
-        (4, 1, true, false),
-        (7, 1, true, false),
-        (10, 1, false, false),
-    ];
-    let but_twice = [
-        (0, 1, true, true),
-        (4, 1, false, true),
-        (7, 1, false, true),
-        (10, 1, true, true),
-    ];
-    let after_4 = [
-        (0, 1, false, false),
-        (4, 1, false, true),
-        (10, 1, true, true),
-    ];
-    let from_3_to_5 = [
-        (0, 1, false, false),
-        (3, 1, true, true),
-        (5, 1, false, false),
-        (10, 1, false, false),
-    ];
-    let table: [(&[Row<bool>], Over, &[Row<bool>]); 16] = [
-        (&twice, sup(Window::Ahead(0, 0), Ends::Both), &twice),
-        (&always, sup(Window::Ahead(4, 4), Ends::Far), &never),
-        (
-            &never,
-            inf(Window::Ahead(4, 4), Ends::Both),
-            &[
-                (0, 1, false, false),
-                (6, 1, false, true),
-                (10, 1, true, true),
-            ],
-        ),
-        (&always, sup(Window::Ahead(10, 20), Ends::Both), &at_start),
-        (
-            &never,
-            inf(Window::Behind(10, Some(20)), Ends::Far),
-            &always,
-        ),
-        (
-            &[(5, 1, true, true)],
-            sup(Window::Ahead(0, 3), Ends::Far),
-            &[(5, 1, false, false)],
-        ),
-        (
-            &[(5, 1, false, false)],
-            inf(Window::Behind(0, None), Ends::Both),
-            &[(5, 1, false, false)],
-        ),
-        (
-            &twice,
-            sup(Window::Ahead(1, 4), Ends::Both),
-            &[
-                (0, 1, true, true),
-                (6, 1, true, false),
-                (10, 1, false, false),
-            ],
-        ),
-        (
-            &twice,
-            sup(Window::Ahead(1, 4), Ends::Neither),
-            &[
-                (0, 1, false, true),
-                (3, 1, false, true),
-                (6, 1, false, false),
-                (10, 1, false, false),
-            ],
-        ),
-        (
-            &twice,
-            sup(Window::Behind(1, Some(4)), Ends::Near),
-            &[
-                (0, 1, false, false),
-                (5, 1, true, true),
-                (10, 1, true, true),
-            ],
-        ),
-        (
-            &but_twice,
-            inf(Window::Behind(1, Some(4)), Ends::Far),
-            &[
-                (0, 1, true, true),
-                (5, 1, true, false),
-                (10, 1, false, false),
-            ],
-        ),
-        (
-            &after_4,
-            sup(Window::Ahead(0, 2), Ends::Neither),
-            &[
-                (0, 1, false, false),
-                (2, 1, false, true),
-                (10, 1, false, false),
-            ],
-        ),
-        (
-            &from_3_to_5,
-            inf(Window::Ahead(0, 2), Ends::Near),
-            &[
-                (0, 1, false, false),
-                (3, 1, true, false),
-                (10, 1, false, false),
-            ],
-        ),
-        (&at_start, sup(Window::Behind(0, None), Ends::Near), &always),
-        (
-            &twice,
-            sup(Window::Behind(2, None), Ends::Neither),
-            &[
-                (0, 1, false, false),
-                (6, 1, false, true),
-                (10, 1, true, true),
-            ],
-        ),
-        (
-            &[(0, 1, false, true), (LAST, 1, true, true)],
-            inf(
-                Window::Behind(4_294_967_295, Some(4_294_967_295)),
-                Ends::Both,
-            ),
-            &[(0, 1, true, true), (LAST, 1, false, false)],
-        ),
-    ];
-    for (row, case) in table.into_iter().enumerate() {
+    for (row, case) in TRUTHS.into_iter().enumerate() {
         check::<Truth>(&rt, rt.alloc(), row, case)?;
     }
     Ok(())
@@ -304,117 +318,121 @@ const YES: Option<bool> = Some(true);
 
 const NO: Option<bool> = Some(false);
 
+const GROWING_AFTER: [Row<Option<bool>>; 4] = [
+    (2, 1, NO, NO),
+    (5, 1, NO, None),
+    (8, 1, None, YES),
+    (12, 1, YES, YES),
+];
+
+const GROWING: [Row<Option<bool>>; 4] = [
+    (2, 1, NO, NO),
+    (5, 1, None, None),
+    (8, 1, YES, YES),
+    (12, 1, YES, YES),
+];
+
+const INSTANTS: [Row<Option<bool>>; 4] = [
+    (2, 1, None, None),
+    (4, 1, YES, None),
+    (7, 1, NO, None),
+    (12, 1, None, None),
+];
+
+const THREE_VALUES: [Case<'static, Option<bool>>; 9] = [
+    (
+        &GROWING,
+        Over(Taken::Sup, Window::Ahead(1, 2), Ends::Both),
+        &[
+            (2, 1, NO, NO),
+            (3, 1, None, None),
+            (6, 1, YES, YES),
+            (11, 1, YES, NO),
+            (12, 1, NO, NO),
+        ],
+    ),
+    (
+        &GROWING_AFTER,
+        Over(Taken::Inf, Window::Ahead(1, 2), Ends::Neither),
+        &[
+            (2, 1, NO, NO),
+            (4, 1, None, None),
+            (7, 1, YES, YES),
+            (12, 1, YES, YES),
+        ],
+    ),
+    (
+        &GROWING_AFTER,
+        Over(Taken::Sup, Window::Behind(1, Some(2)), Ends::Both),
+        &[
+            (2, 1, NO, NO),
+            (6, 1, NO, None),
+            (9, 1, None, YES),
+            (12, 1, YES, YES),
+        ],
+    ),
+    (
+        &GROWING_AFTER,
+        Over(Taken::Inf, Window::Behind(1, Some(2)), Ends::Near),
+        &[
+            (2, 1, YES, YES),
+            (3, 1, NO, NO),
+            (7, 1, None, None),
+            (10, 1, YES, YES),
+            (12, 1, YES, YES),
+        ],
+    ),
+    (
+        &INSTANTS,
+        Over(Taken::Sup, Window::Ahead(0, 3), Ends::Far),
+        &[(2, 1, YES, YES), (4, 1, None, None), (12, 1, NO, NO)],
+    ),
+    (
+        &INSTANTS,
+        Over(Taken::Inf, Window::Ahead(0, 3), Ends::Near),
+        &[
+            (2, 1, None, None),
+            (4, 1, None, NO),
+            (7, 1, NO, None),
+            (12, 1, None, None),
+        ],
+    ),
+    (
+        &INSTANTS,
+        Over(Taken::Sup, Window::Behind(1, Some(1)), Ends::Near),
+        &[(2, 1, NO, NO), (12, 1, NO, NO)],
+    ),
+    (
+        &INSTANTS,
+        Over(Taken::Inf, Window::Behind(1, Some(1)), Ends::Both),
+        &[
+            (2, 1, YES, YES),
+            (3, 1, None, None),
+            (5, 1, YES, None),
+            (8, 1, NO, None),
+            (12, 1, None, None),
+        ],
+    ),
+    (
+        &[
+            (2, 1, NO, NO),
+            (9, 2, None, NO),
+            (8, 1, YES, NO),
+            (12, 1, NO, NO),
+        ],
+        Over(Taken::Sup, Window::Behind(1, None), Ends::Both),
+        &[
+            (2, 1, NO, NO),
+            (11, 2, None, None),
+            (9, 1, YES, YES),
+            (12, 1, YES, YES),
+        ],
+    ),
+];
+
 #[test]
 fn three_values_over_windows_at_jumps_and_instants(rt: HostRuntime) -> Result<(), Fail> {
-    let growing = [
-        (2, 1, NO, NO),
-        (5, 1, None, None),
-        (8, 1, YES, YES),
-        (12, 1, YES, YES),
-    ];
-    let growing_after = [
-        (2, 1, NO, NO),
-        (5, 1, NO, None),
-        (8, 1, None, YES),
-        (12, 1, YES, YES),
-    ];
-    let instants = [
-        (2, 1, None, None),
-        (4, 1, YES, None),
-        (7, 1, NO, None),
-        (12, 1, None, None),
-    ];
-    let table: [(&[Row<Option<bool>>], Over, &[Row<Option<bool>>]); 9] = [
-        (
-            &growing,
-            sup(Window::Ahead(1, 2), Ends::Both),
-            &[
-                (2, 1, NO, NO),
-                (3, 1, None, None),
-                (6, 1, YES, YES),
-                (11, 1, YES, NO),
-                (12, 1, NO, NO),
-            ],
-        ),
-        (
-            &growing_after,
-            inf(Window::Ahead(1, 2), Ends::Neither),
-            &[
-                (2, 1, NO, NO),
-                (4, 1, None, None),
-                (7, 1, YES, YES),
-                (12, 1, YES, YES),
-            ],
-        ),
-        (
-            &growing_after,
-            sup(Window::Behind(1, Some(2)), Ends::Both),
-            &[
-                (2, 1, NO, NO),
-                (6, 1, NO, None),
-                (9, 1, None, YES),
-                (12, 1, YES, YES),
-            ],
-        ),
-        (
-            &growing_after,
-            inf(Window::Behind(1, Some(2)), Ends::Near),
-            &[
-                (2, 1, YES, YES),
-                (3, 1, NO, NO),
-                (7, 1, None, None),
-                (10, 1, YES, YES),
-                (12, 1, YES, YES),
-            ],
-        ),
-        (
-            &instants,
-            sup(Window::Ahead(0, 3), Ends::Far),
-            &[(2, 1, YES, YES), (4, 1, None, None), (12, 1, NO, NO)],
-        ),
-        (
-            &instants,
-            inf(Window::Ahead(0, 3), Ends::Near),
-            &[
-                (2, 1, None, None),
-                (4, 1, None, NO),
-                (7, 1, NO, None),
-                (12, 1, None, None),
-            ],
-        ),
-        (
-            &instants,
-            sup(Window::Behind(1, Some(1)), Ends::Near),
-            &[(2, 1, NO, NO), (12, 1, NO, NO)],
-        ),
-        (
-            &instants,
-            inf(Window::Behind(1, Some(1)), Ends::Both),
-            &[
-                (2, 1, YES, YES),
-                (3, 1, None, None),
-                (5, 1, YES, None),
-                (8, 1, NO, None),
-                (12, 1, None, None),
-            ],
-        ),
-        (
-            &[
-                (2, 1, NO, NO),
-                (9, 2, None, NO),
-                (8, 1, YES, NO),
-                (12, 1, NO, NO),
-            ],
-            sup(Window::Behind(1, None), Ends::Both),
-            &[
-                (2, 1, NO, NO),
-                (11, 2, None, None),
-                (9, 1, YES, YES),
-                (12, 1, YES, YES),
-            ],
-        ),
-    ];
-    for (row, case) in table.into_iter().enumerate() {
+    for (row, case) in THREE_VALUES.into_iter().enumerate() {
         check::<Kleene>(&rt, rt.alloc(), row, case)?;
     }
     Ok(())
@@ -454,10 +472,10 @@ fn margins_over_windows_that_rise_and_fall(rt: HostRuntime) -> Result<(), Fail> 
         (5, 1, zero, twofold),
         (10, 1, Level::Is(10), low),
     ];
-    let table: [(&[Row<Level>], Over, &[Row<Level>]); 5] = [
+    let table: [Case<Level>; 5] = [
         (
             &peak,
-            sup(Window::Ahead(1, 3), Ends::Both),
+            Over(Taken::Sup, Window::Ahead(1, 3), Ends::Both),
             &[
                 (0, 1, Level::Is(3), line(0, 3, 1)),
                 (3, 1, Level::Is(6), Level::Is(6)),
@@ -468,7 +486,7 @@ fn margins_over_windows_that_rise_and_fall(rt: HostRuntime) -> Result<(), Fail> 
         ),
         (
             &steep,
-            inf(Window::Ahead(1, 2), Ends::Both),
+            Over(Taken::Inf, Window::Ahead(1, 2), Ends::Both),
             &[
                 (0, 1, slow(-1), slow(-1)),
                 (17, 4, slow(-1), line(6, 0, -2)),
@@ -479,7 +497,7 @@ fn margins_over_windows_that_rise_and_fall(rt: HostRuntime) -> Result<(), Fail> 
         ),
         (
             &valley,
-            sup(Window::Behind(1, Some(5)), Ends::Both),
+            Over(Taken::Sup, Window::Behind(1, Some(5)), Ends::Both),
             &[
                 (0, 1, low, low),
                 (1, 1, Level::Is(5), Level::Is(5)),
@@ -490,7 +508,7 @@ fn margins_over_windows_that_rise_and_fall(rt: HostRuntime) -> Result<(), Fail> 
         ),
         (
             &valley,
-            inf(Window::Behind(2, None), Ends::Both),
+            Over(Taken::Inf, Window::Behind(2, None), Ends::Both),
             &[
                 (0, 1, high, high),
                 (2, 1, Level::Is(5), line(7, 0, -1)),
@@ -500,7 +518,7 @@ fn margins_over_windows_that_rise_and_fall(rt: HostRuntime) -> Result<(), Fail> 
         ),
         (
             &[(7, 2, up, up)],
-            sup(Window::Behind(0, Some(5)), Ends::Both),
+            Over(Taken::Sup, Window::Behind(0, Some(5)), Ends::Both),
             &[(7, 2, up, up)],
         ),
     ];
@@ -522,11 +540,15 @@ fn margins_over_windows_at_jumps_and_infinite_pieces(rt: HostRuntime) -> Result<
         (6, 1, low, minus_one),
         (10, 1, two, low),
     ];
-    let table: [(&[Row<Level>], Over, &[Row<Level>]); 8] = [
-        (&saw, inf(Window::Behind(0, Some(0)), Ends::Both), &saw),
+    let table: [Case<Level>; 8] = [
         (
             &saw,
-            sup(Window::Ahead(3, 3), Ends::Both),
+            Over(Taken::Inf, Window::Behind(0, Some(0)), Ends::Both),
+            &saw,
+        ),
+        (
+            &saw,
+            Over(Taken::Sup, Window::Ahead(3, 3), Ends::Both),
             &[
                 (0, 1, Level::Is(3), line(0, 3, 1)),
                 (2, 1, one, line(2, 0, 1)),
@@ -536,7 +558,7 @@ fn margins_over_windows_at_jumps_and_infinite_pieces(rt: HostRuntime) -> Result<
         ),
         (
             &saw,
-            sup(Window::Ahead(0, 2), Ends::Near),
+            Over(Taken::Sup, Window::Ahead(0, 2), Ends::Near),
             &[
                 (0, 1, two, line(0, 2, 1)),
                 (3, 1, five, five),
@@ -547,7 +569,7 @@ fn margins_over_windows_at_jumps_and_infinite_pieces(rt: HostRuntime) -> Result<
         ),
         (
             &saw,
-            inf(Window::Ahead(0, 2), Ends::Far),
+            Over(Taken::Inf, Window::Ahead(0, 2), Ends::Far),
             &[
                 (0, 1, zero, up),
                 (3, 1, one, zero),
@@ -557,7 +579,7 @@ fn margins_over_windows_at_jumps_and_infinite_pieces(rt: HostRuntime) -> Result<
         ),
         (
             &saw,
-            sup(Window::Behind(0, Some(2)), Ends::Far),
+            Over(Taken::Sup, Window::Behind(0, Some(2)), Ends::Far),
             &[
                 (0, 1, low, up),
                 (5, 1, five, five),
@@ -567,7 +589,7 @@ fn margins_over_windows_at_jumps_and_infinite_pieces(rt: HostRuntime) -> Result<
         ),
         (
             &saw,
-            inf(Window::Behind(0, Some(2)), Ends::Near),
+            Over(Taken::Inf, Window::Behind(0, Some(2)), Ends::Near),
             &[
                 (0, 1, zero, zero),
                 (2, 1, zero, line(2, 0, 1)),
@@ -578,7 +600,7 @@ fn margins_over_windows_at_jumps_and_infinite_pieces(rt: HostRuntime) -> Result<
         ),
         (
             &infinite,
-            sup(Window::Ahead(1, 2), Ends::Both),
+            Over(Taken::Sup, Window::Ahead(1, 2), Ends::Both),
             &[
                 (0, 1, low, low),
                 (2, 1, Level::Is(3), high),
@@ -590,7 +612,7 @@ fn margins_over_windows_at_jumps_and_infinite_pieces(rt: HostRuntime) -> Result<
         ),
         (
             &infinite,
-            inf(Window::Ahead(1, 2), Ends::Neither),
+            Over(Taken::Inf, Window::Ahead(1, 2), Ends::Neither),
             &[
                 (0, 1, low, low),
                 (3, 1, high, high),
@@ -614,7 +636,7 @@ fn a_long_window_over_many_changes_holds_only_at_the_last(rt: HostRuntime) -> Re
         let holds = k % 2 == 1;
         rows.push((i64::from(k), 1, holds, holds))?;
     }
-    let over = inf(Window::Ahead(0, 100_000), Ends::Both);
+    let over = Over(Taken::Inf, Window::Ahead(0, 100_000), Ends::Both);
     let want = [(0, 1, false, false), (32_767, 1, true, true)];
     check::<Truth>(&rt, rt.alloc(), 0, (&rows, over, &want))
 }
@@ -626,7 +648,7 @@ fn a_long_window_over_many_steps_down_is_worth_the_last(rt: HostRuntime) -> Resu
         let step = Level::Is((199_999 - k) as i32);
         rows.push((i64::from(k), 1, step, step))?;
     }
-    let over = inf(Window::Ahead(0, 200_000), Ends::Both);
+    let over = Over(Taken::Inf, Window::Ahead(0, 200_000), Ends::Both);
     let zero = Level::Is(0);
     let want = [(0, 1, zero, zero), (199_999, 1, zero, zero)];
     check::<Margin>(&rt, rt.alloc(), 0, (&rows, over, &want))

@@ -1,5 +1,5 @@
 use Rattle.conformance.proofs.Limits.{near_of_small}
-use Rattle.conformance.proofs.window_tests.taken.Goals as goal
+use Rattle.conformance.proofs.window_tests.over_window.Goals as goal
 
 pub ahead-made-requires-clause-bases : goal.ahead-made-requires-clause-bases
 ahead-made-requires-clause-bases g c = λ p h. near_of_small _ (c.in_ok-s.ensures.bases p h)
