@@ -1,5 +1,5 @@
 -- The signals that tests give to an evaluation, one by one.
-use Rattle.std.proofs.Common.{◌≡◌, ℕ, ℤ, ◌+◌, false, List, [], ◌∷◌, ◌++◌, length, Some, refl, sym, ◌∙◌, arith, length-append}
+use Rattle.std.proofs.Common.{◌≡◌, ℕ, ℤ, ◌+◌, false, List, [], ◌∷◌, ◌++◌, Some, sym, ◌∙◌, arith, length-append}
 use Rattle.std.specs.Prelude.{slice_get}
 use Rattle.std.proofs.lemmas.List.Elements.{All-push}
 use Rattle.rational.specs.Extended.{Affine}
@@ -12,9 +12,6 @@ use Rattle.offline_eval.proofs.Places.{atoms_on_atom, atoms_on_other}
 use Rattle.conformance.specs.Inputs.{AreInputs}
 
 module _ {P : Type 0} (function : P → Affine) (base : P → ℤ) (from to : ℕ) (nodes : List Node) where
-  pub no_inputs : AreInputs function base from to nodes 0 []
-  no_inputs = record { count = refl; inputs = λ k d h. absurd (omega (arith, h)) }
-
   -- the next node is an atom
   pub input_on : (i : ℕ) (a : Atom) (signals : List (List (Knot P))) (x : List (Knot P)) → slice_get nodes i ≡ Some (Leaf a)
       → IsInput function base from to x → AreInputs function base from to nodes i signals → AreInputs function base from to nodes (i + 1) (signals ++ x ∷ [])
