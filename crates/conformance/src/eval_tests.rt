@@ -1,204 +1,14 @@
 //! Whole formulas over the signals of their atoms, as tables of knots, with answers by hand.
-ghost use Rattle.std.specs.Prelude.{◌≡◌, ◌+◌, ◌<◌, ◌≤◌, pos, length, IfOk, OnOk};
-ghost use Rattle.rational.specs.Time.{whole, ◌≈◌};
-ghost use Rattle.frac128.specs.Value.{value};
-ghost use Rattle.pl_signal.specs.Knots.{start, stop};
-ghost use Rattle.atom_lines.specs.Binding.{IsBound};
-ghost use Rattle.conformance.specs.Inputs.{AreInputs};
-
-use super::tables::{Level, Tabled, is_told, line, signal};
-use super::traces::{read, signal_of};
-use atom_lines::{AtomShape, Bound, bind};
-use frac128::{Frac, Steps};
-use offline_eval::{Atoms, Evaluated, eval};
-use pl_signal::Signal;
+use super::evals::{Domain, Row, has_knots, over_tables, over_trace, parsed};
+use super::tables::{Level, Tabled, line};
+use super::traces::read;
+use atom_lines::AtomShape;
+use offline_eval::EvalFault;
+use pl_signal::WidePair;
 use std::alloc::Global;
-use std::cmp::Ordering;
-use std::marker::Brand;
 use std::process::Abort;
-use std::sync::ledger::{Blank, Ledger};
 use std::test::Fail;
-use stl_grammar::parse;
-use stl_syntax::{Formula, Node};
-use trace_reader::Trace;
-use value_laws::{Kleene, Margin, Shape, Truth};
-
-/// A knot in a table: its time as a fraction, the shape there and the shape after it.
-type Row<W> = (i64, i64, W, W);
-
-/// The first and the last time of a domain, in ticks.
-#[derive(Clone, Copy)]
-struct Domain {
-    from: u32,
-    to: u32,
-}
-
-/// The formula of a text.
-fn parsed(rt: &impl Abort, alloc: Global, text: &str) -> Formula {
-    match parse(alloc, text) {
-        Ok(formula) => formula,
-        Err(_) => panic!(rt; "{text}"),
-    }
-}
-
-/// A time of whole ticks.
-fn tick(n: u32) -> Frac
-    ensures { value result ≈ whole (pos n) }
-{
-    Frac::of(i64::from(n))
-}
-
-/// Stops where the signal is over another domain.
-fn expect_over<P: Shape>(rt: &impl Abort, s: &Signal<P>, over: Domain)
-    ensures begins { start s.now ≈ whole (pos over.from) }
-    ensures ends { stop s.now ≈ whole (pos over.to) }
-{
-    let Ordering::Equal = s.start().cmp(&tick(over.from)) else {
-        panic!(rt; "from");
-    };
-    let Ordering::Equal = s.stop().cmp(&tick(over.to)) else {
-        panic!(rt; "to");
-    };
-}
-
-/// Adds the signal of the node, where it is an atom, from a trace.
-fn add_atom<P: AtomShape>(
-    rt: &impl Abort,
-    alloc: Global,
-    formula: &Formula,
-    bound: &Bound,
-    i: u32,
-    trace: &Trace,
-    over: Domain,
-    atoms: &mut Atoms<P>,
-) -> Result<(), Fail>
-    requires bound { IsBound bound.now formula.now trace.now.header }
-    requires some { 0 < length trace.now.rows }
-    requires inside { i < length formula.now.nodes }
-    requires before { AreInputs P.function P.base over.from over.to formula.now.nodes i atoms.old }
-    ensures { OnOk result (AreInputs P.function P.base over.from over.to formula.now.nodes (i + 1) atoms.new) }
-{
-    match formula.node(i) {
-        Node::Atom(_) => {
-            let signal = signal_of::<P>(rt, alloc, formula, bound, i, trace)?;
-            expect_over(rt, &signal, over);
-            atoms.add(signal)?;
-            Ok(())
-        }
-        _ => Ok(()),
-    }
-}
-
-/// Adds the signal of the node, where it is an atom, from the next of the tables. The answer is how many of them were used.
-fn add_table(
-    rt: &impl Abort,
-    alloc: Global,
-    formula: &Formula,
-    i: u32,
-    tables: &[&[Row<Option<bool>>]],
-    used: usize,
-    over: Domain,
-    atoms: &mut Atoms<Kleene>,
-) -> Result<usize, Fail>
-    requires inside { i < length formula.now.nodes }
-    requires before { AreInputs ⟦<Kleene as Shape>⟧.function ⟦<Kleene as Shape>⟧.base over.from over.to formula.now.nodes i atoms.old }
-    ensures { OnOk result
-        (AreInputs ⟦<Kleene as Shape>⟧.function ⟦<Kleene as Shape>⟧.base over.from over.to formula.now.nodes (i + 1) atoms.new) }
-{
-    match formula.node(i) {
-        Node::Atom(_) => {
-            assert!(rt; used < tables.len(), "tables");
-            let signal = signal::<Kleene>(rt, alloc, tables[used])?;
-            expect_over(rt, &signal, over);
-            atoms.add(signal)?;
-            Ok(used + 1)
-        }
-        _ => Ok(used),
-    }
-}
-
-/// The signal of each node.
-fn evaluated<P: Shape, L: Ledger>(
-    rt: &impl Abort,
-    alloc: Global,
-    formula: &Formula,
-    over: Domain,
-    atoms: Atoms<P>,
-    blank: Blank,
-) -> Evaluated<P>
-    requires order { over.from ≤ over.to }
-    requires inputs { AreInputs P.function P.base over.from over.to formula.now.nodes (length formula.now.nodes) atoms }
-    requires name { blank.name ≡ L.name }
-    requires parts { blank.parts ≡ L.parts }
-    requires shares { 0 < blank.parts }
-    ensures { length result ≡ length formula.now.nodes }
-{
-    let mut steps: Steps<L> = Steps::new(blank);
-    match eval(alloc, formula, over.from, over.to, atoms, &mut steps) {
-        Ok(nodes) => nodes,
-        Err(_) => panic!(rt; "refused"),
-    }
-}
-
-/// The signal of each node over a trace.
-fn over_trace<P: AtomShape>(
-    rt: &impl Abort,
-    alloc: Global,
-    formula: &Formula,
-    trace: &Trace,
-) -> Result<Evaluated<P>, Fail>
-    ensures { IfOk result (λ r. length r ≡ length formula.now.nodes) }
-{
-    let Ok(bound) = bind(alloc, formula, trace.header()) else {
-        panic!(rt; "not bound");
-    };
-    assert!(rt; trace.rows() > 0);
-    let over = Domain {
-        from: trace.time(0),
-        to: trace.time(trace.rows() - 1),
-    };
-    assert!(rt; over.from <= over.to);
-    let mut atoms = Atoms::new(alloc);
-    for i in 0..formula.len() {
-        add_atom(rt, alloc, formula, &bound, i, trace, over, &mut atoms)?;
-    }
-    Ok(evaluated::<P, Brand>(rt, alloc, formula, over, atoms, Blank::new(1)))
-}
-
-/// The signal of each node over the domain, where the tables say what the atoms are, in post-order.
-fn over_tables(
-    rt: &impl Abort,
-    alloc: Global,
-    formula: &Formula,
-    tables: &[&[Row<Option<bool>>]],
-    over: Domain,
-) -> Result<Evaluated<Kleene>, Fail>
-    requires { over.from ≤ over.to }
-    ensures { IfOk result (λ r. length r ≡ length formula.now.nodes) }
-{
-    let mut atoms = Atoms::new(alloc);
-    let mut used = 0;
-    for i in 0..formula.len() {
-        used = add_table(rt, alloc, formula, i, tables, used, over, &mut atoms)?;
-    }
-    assert!(rt; used == tables.len(), "tables");
-    Ok(evaluated::<Kleene, Brand>(rt, alloc, formula, over, atoms, Blank::new(1)))
-}
-
-/// Whether the signal of the node at the place, or of the root, has the knots of the table and no others.
-fn has_knots<P: Tabled>(
-    rt: &impl Abort,
-    nodes: &Evaluated<P>,
-    root: u32,
-    place: Option<u32>,
-    want: &[Row<P::Word>],
-) -> bool
-    requires { length nodes.now ≡ root + 1 }
-{
-    let place = place.unwrap_or(root);
-    assert!(rt; place <= root, "place");
-    is_told(rt, nodes.signal(place), want)
-}
+use value_laws::{Margin, Truth};
 
 /// Fails where a formula over a trace has a node with other knots than those of the case.
 fn check_traces<P: AtomShape + Tabled>(
@@ -209,7 +19,9 @@ fn check_traces<P: AtomShape + Tabled>(
     for &(text, trace, place, want) in cases {
         let formula = parsed(rt, alloc, text);
         let trace = read(rt, alloc, trace)?;
-        let nodes = over_trace::<P>(rt, alloc, &formula, &trace)?;
+        let Ok(nodes) = over_trace::<P>(rt, alloc, &formula, &trace)? else {
+            panic!(rt; "refused: {text}");
+        };
         let root = formula.len() - 1;
         assert!(rt; has_knots(rt, &nodes, root, place, want), "{text}");
     }
@@ -502,6 +314,51 @@ const MARGINS: [Case<Level>; 28] = [
         &[(5, 1, Level::Is(2), END)],
     ),
 ];
+
+/// The node and the denominator for which a formula over a trace is refused, where it is.
+fn refused_at(
+    rt: &impl Abort,
+    alloc: Global,
+    text: &str,
+    trace: &str,
+) -> Result<Option<(u32, u128)>, Fail> {
+    let formula = parsed(rt, alloc, text);
+    let trace = read(rt, alloc, trace)?;
+    let Err(fault) = over_trace::<Margin>(rt, alloc, &formula, &trace)? else {
+        return Ok(None);
+    };
+    let EvalFault::Wide(cause) = fault else {
+        panic!(rt; "memory");
+    };
+    let WidePair::Cross { den, .. } = cause.pair else {
+        panic!(rt; "no crossing");
+    };
+    Ok(Some((cause.node, den)))
+}
+
+/// Over 2147483647 ticks `x` rises by 2^25, and over the 2147483629 ticks after them `y` falls by 2^25.
+const STEEP: &str =
+    "time,x,y\n0,-16777216,0\n2147483647,16777216,16777216\n4294967276,0,-16777216\n";
+
+/// The same, but `y` falls by one less; then the crossing's denominator in lowest terms is below 2^60.
+const LESS_STEEP: &str =
+    "time,x,y\n0,-16777216,0\n2147483647,16777216,16777216\n4294967276,0,-16777215\n";
+
+#[test]
+fn a_crossing_that_needs_too_much_is_refused_at_its_node(rt: HostRuntime) -> Result<(), Fail> {
+    let text = "16*x >= 1 and eventually[2147483647,2147483647] 16*y >= 0";
+    let table = [
+        (STEEP, Some((3, 2_305_842_998_476_275_712))),
+        (LESS_STEEP, None),
+    ];
+    for (trace, want) in table {
+        assert!(&rt;
+            refused_at(&rt, rt.alloc(), text, trace)? == want,
+            "{trace}"
+        );
+    }
+    Ok(())
+}
 
 #[test]
 fn margins_of_formulas_are_told(rt: HostRuntime) -> Result<(), Fail> {

@@ -8,6 +8,8 @@ pub use shapes::greater_at;
 #[cfg(test)]
 mod eval_tests;
 #[cfg(test)]
+mod evals;
+#[cfg(test)]
 mod operator_tests;
 #[cfg(test)]
 mod run_tests;

@@ -1,5 +1,5 @@
 use Rattle.conformance.specs.Inputs.{AreInputs}
-use Rattle.conformance.proofs.eval_tests.over_trace.Given as goal
+use Rattle.conformance.proofs.evals.over_trace.Given as goal
 
 abbrev pub invariant-loop-i : goal.invariant-loop-i
 invariant-loop-i g l = AreInputs g.P.Shape.function g.P.Shape.base l.over.from l.over.to l.formula.nodes l.i l.atoms

@@ -3,7 +3,7 @@ use Rattle.rational.specs.Rational.{IsOrder}
 use Rattle.rational.specs.Time.{whole, ◌≈◌}
 use Rattle.rational.proofs.Order.{same_trans}
 use Rattle.frac128.specs.Value.{value}
-use Rattle.conformance.proofs.eval_tests.expect_over.Goals as goal
+use Rattle.conformance.proofs.evals.expect_over.Goals as goal
 
 pub returns-clause-begins : goal.returns-clause-begins
 returns-clause-begins g c =

@@ -3,7 +3,7 @@ use Rattle.rational.specs.Affine.{level}
 use Rattle.value_laws.specs.Values.{kleene_value}
 use Rattle.value_laws.specs.declared.kleene.Kleene.{Kleene}
 use Rattle.conformance.specs.Inputs.{AreInputs}
-use Rattle.conformance.proofs.eval_tests.over_tables.Given as goal
+use Rattle.conformance.proofs.evals.over_tables.Given as goal
 
 abbrev pub invariant-loop-i : goal.invariant-loop-i
 invariant-loop-i g l = AreInputs (λ (p : Kleene). level (kleene_value p.known)) (λ p. pos 0) l.over.from l.over.to l.formula.nodes l.i l.atoms

@@ -3,7 +3,7 @@ use Rattle.stl_syntax.specs.declared.node.Node.{Node}
 use Rattle.offline_eval.proofs.Places.{not_atom}
 use Rattle.conformance.specs.Inputs.{AreInputs}
 use Rattle.conformance.proofs.Inputs.{input_on, other_on}
-use Rattle.conformance.proofs.eval_tests.add_atom.Goals as goal
+use Rattle.conformance.proofs.evals.add_atom.Goals as goal
 
 pub returns-in_ok-add-in-Atom : goal.returns-in_ok-add-in-Atom
 returns-in_ok-add-in-Atom g c =
