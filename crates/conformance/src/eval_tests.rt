@@ -1,6 +1,6 @@
 //! Whole formulas over the signals of their atoms, as tables of knots, with answers by hand.
-use super::evals::{Domain, Row, has_knots, over_tables, over_trace, parsed};
-use super::tables::{Level, Tabled, line};
+use super::evals::{Domain, has_knots, over_tables, over_trace, parsed};
+use super::tables::{END, HIGH, LOW, Level, NO, Row, Tabled, YES, line};
 use super::traces::read;
 use atom_lines::AtomShape;
 use offline_eval::EvalFault;
@@ -27,13 +27,6 @@ fn check_traces<P: AtomShape + Tabled>(
     }
     Ok(())
 }
-
-const LOW: Level = Level::Low;
-
-const HIGH: Level = Level::High;
-
-/// Nothing that is read, after the last knot.
-const END: Level = Level::Low;
 
 /// `x` rises from 0 to 8, and `y` falls from 8 to 0.
 const RAMPS: &str = "time,x,y\n0,0,8\n8,8,0\n";
@@ -435,10 +428,6 @@ type Known = (
     Option<u32>,
     &'static [Row<Option<bool>>],
 );
-
-const YES: Option<bool> = Some(true);
-
-const NO: Option<bool> = Some(false);
 
 /// True before 3, unknown up to 5, and false after it.
 const P: [Row<Option<bool>>; 4] = [

@@ -6,7 +6,7 @@ ghost use Rattle.pl_signal.specs.Knots.{start, stop};
 ghost use Rattle.atom_lines.specs.Binding.{IsBound};
 ghost use Rattle.conformance.specs.Inputs.{AreInputs};
 
-use super::tables::{Tabled, is_told, signal};
+use super::tables::{Row, Tabled, is_told, signal};
 use super::traces::signal_of;
 use atom_lines::{AtomShape, Bound, bind};
 use frac128::{Frac, Steps};
@@ -22,9 +22,6 @@ use stl_grammar::parse;
 use stl_syntax::{Formula, Node};
 use trace_reader::Trace;
 use value_laws::{Kleene, Shape};
-
-/// A knot in a table: its time as a fraction, the shape there and the shape after it.
-pub(crate) type Row<W> = (i64, i64, W, W);
 
 /// The first and the last time of a domain, in ticks.
 #[derive(Clone, Copy)]

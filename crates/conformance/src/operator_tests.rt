@@ -6,7 +6,7 @@ ghost use Rattle.frac128.specs.Value.{value};
 ghost use Rattle.pl_signal.specs.Knots.{HasShape};
 ghost use Rattle.pl_signal.specs.Limits.{IsLimited};
 
-use super::tables::{Level, Tabled, expect_near, expect_order, is_told, signal};
+use super::tables::{Level, NO, Row, Tabled, YES, expect_near, expect_order, is_told, signal};
 use frac128::Frac;
 use pl_signal::Signal;
 use signal_ops::{lower, neg, upper};
@@ -15,9 +15,6 @@ use std::cmp::Ordering;
 use std::process::Abort;
 use std::test::Fail;
 use value_laws::{Kleene, Margin, Shape, Truth};
-
-/// A knot in a table: its time as a fraction, the shape there and the shape after it.
-type Row<W> = (i64, i64, W, W);
 
 /// What is made of one signal.
 #[derive(Clone, Copy)]
@@ -172,10 +169,6 @@ fn truths_are_joined_where_knots_merge(rt: HostRuntime) -> Result<(), Fail> {
     }
     Ok(())
 }
-
-const YES: Option<bool> = Some(true);
-
-const NO: Option<bool> = Some(false);
 
 #[test]
 fn three_values_are_joined_as_kleene_has_it(rt: HostRuntime) -> Result<(), Fail> {

@@ -58,6 +58,14 @@ impl Tabled for Kleene {
     }
 }
 
+/// A knot in a table: its time as a fraction, the shape there and the shape after it.
+pub(crate) type Row<W> = (i64, i64, W, W);
+
+/// Three-valued truth in a table; None is unknown.
+pub(crate) const YES: Option<bool> = Some(true);
+
+pub(crate) const NO: Option<bool> = Some(false);
+
 /// A margin in a table: infinite, a number, or the line that is `v` at the time `t` and rises by `rise` in `run` ticks.
 #[derive(Clone, Copy)]
 pub(crate) enum Level {
@@ -80,6 +88,14 @@ macro_rules! line {
 }
 
 pub(crate) use line;
+
+/// Margins that are infinite.
+pub(crate) const LOW: Level = Level::Low;
+
+pub(crate) const HIGH: Level = Level::High;
+
+/// Nothing that is read, after the last knot.
+pub(crate) const END: Level = Level::Low;
 
 impl Tabled for Margin {
     type Word = Level;
@@ -195,7 +211,7 @@ fn time(rt: &impl Abort, num: i64, den: i64) -> Frac {
 pub(crate) fn signal<P: Tabled>(
     rt: &impl Abort,
     alloc: Global,
-    rows: &[(i64, i64, P::Word, P::Word)],
+    rows: &[Row<P::Word>],
 ) -> Result<Signal<P>, Fail>
     ensures limited { IfOk result (IsLimited P.function) }
     ensures bases { IfOk result (λ s. (p : P) → HasShape s p → unsigned_abs (P.base p) ≤ 2 ^ 31) }
@@ -221,11 +237,7 @@ pub(crate) fn signal<P: Tabled>(
 }
 
 /// Whether the signal has the knots of the table and no others. What the last row says after its time is not read.
-pub(crate) fn is_told<P: Tabled>(
-    rt: &impl Abort,
-    s: &Signal<P>,
-    rows: &[(i64, i64, P::Word, P::Word)],
-) -> bool {
+pub(crate) fn is_told<P: Tabled>(rt: &impl Abort, s: &Signal<P>, rows: &[Row<P::Word>]) -> bool {
     if s.len() != rows.len() {
         return false;
     }

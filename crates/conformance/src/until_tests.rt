@@ -1,5 +1,5 @@
 //! Until up to the end and since from the start, as tables of knots, with answers by hand.
-use super::tables::{Level, Tabled, is_told, line, signal};
+use super::tables::{END, HIGH, LOW, Level, NO, Row, Tabled, YES, is_told, line, signal};
 use pl_signal::Signal;
 use std::alloc::Global;
 use std::cmp::Ordering;
@@ -7,9 +7,6 @@ use std::process::Abort;
 use std::test::Fail;
 use until_ops::{since_from_start, until_to_end};
 use value_laws::{Kleene, Margin, Truth};
-
-/// A knot in a table: its time as a fraction, the shape there and the shape after it.
-type Row<W> = (i64, i64, W, W);
 
 /// The left side, the right side, and the answer.
 type Case<W> = (&'static [Row<W>], &'static [Row<W>], &'static [Row<W>]);
@@ -60,13 +57,6 @@ fn check<P: Tabled>(
     }
     Ok(())
 }
-
-const LOW: Level = Level::Low;
-
-const HIGH: Level = Level::High;
-
-/// Nothing that is read, after the last knot.
-const END: Level = Level::Low;
 
 /// Infinite, with an instant of -inf at 4.
 const CUT: [Row<Level>; 3] = [(0, 1, HIGH, HIGH), (4, 1, LOW, HIGH), (8, 1, HIGH, END)];
@@ -577,10 +567,6 @@ fn truths_are_kept_until_and_since(rt: HostRuntime) -> Result<(), Fail> {
     check::<Truth>(&rt, rt.alloc(), Made::Until, &TRUE_UNTILS)?;
     check::<Truth>(&rt, rt.alloc(), Made::Since, &TRUE_SINCES)
 }
-
-const YES: Option<bool> = Some(true);
-
-const NO: Option<bool> = Some(false);
 
 /// True, unknown after 3, false after 6.
 const FADING: [Row<Option<bool>>; 4] = [

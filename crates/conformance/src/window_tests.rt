@@ -6,7 +6,7 @@ ghost use Rattle.pl_signal.specs.Knots.{start, stop};
 ghost use Rattle.pl_signal.specs.Limits.{IsLimited};
 ghost use Rattle.window_ops.specs.Conditions.{AreNear};
 
-use super::tables::{Level, Tabled, expect_order, is_told, signal};
+use super::tables::{Level, NO, Row, Tabled, YES, expect_order, is_told, signal};
 use frac128::Frac;
 use pl_signal::{OpFault, Signal};
 use std::alloc::Global;
@@ -14,9 +14,6 @@ use std::process::Abort;
 use std::test::Fail;
 use value_laws::{Kleene, Margin, Shape, Truth};
 use window_ops::{inf_past, inf_window, sup_past, sup_window};
-
-/// A knot in a table: its time as a fraction, the shape there and the shape after it.
-type Row<W> = (i64, i64, W, W);
 
 /// A signal, what is taken of it, and the signal that is wanted.
 type Case<'a, W> = (&'a [Row<W>], Over, &'a [Row<W>]);
@@ -313,10 +310,6 @@ fn truths_over_windows_with_either_end_in_or_out(rt: HostRuntime) -> Result<(), 
     }
     Ok(())
 }
-
-const YES: Option<bool> = Some(true);
-
-const NO: Option<bool> = Some(false);
 
 const GROWING_AFTER: [Row<Option<bool>>; 4] = [
     (2, 1, NO, NO),
