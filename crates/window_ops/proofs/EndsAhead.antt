@@ -14,13 +14,14 @@ use Rattle.rational.proofs.AffineLemmas.{same_reflᵉ, same_symᵉ}
 use Rattle.rational.proofs.Shift.{le_shift}
 use Rattle.rational.proofs.TimeLemmas.{same_later, later-add}
 use Rattle.rational.proofs.Mixed.{within_same}
+use Rattle.rational.proofs.Bounds.{HasBounded}
 use Rattle.pl_signal.specs.declared.knot.Knot.{Knot}
 use Rattle.pl_signal.specs.Knots.{start, stop, HasShape, IsSignal, IsWorth}
 use Rattle.pl_signal.proofs.Values.{to_stop}
 use Rattle.pl_signal.specs.Limits.{IsLimited}
 use Rattle.pl_signal.specs.Moves.{Tells, BasesFrom}
 use Rattle.pl_signal.proofs.Telling.{IsFunction}
-use Rattle.window_ops.proofs.EndsLimited.{HasBounded, limited}
+use Rattle.pl_signal.proofs.Limits.{limited}
 
 -- a bound that is read as a signed number
 pub bound_is : (n : ℕ) → n ≤ 2 ^ 32 → to_z w64 n ≡ pos n

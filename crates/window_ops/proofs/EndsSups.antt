@@ -14,6 +14,8 @@ use Rattle.rational.proofs.Order.{le_refl, le_of_lt, le_of_same, ge_of_same, le_
 use Rattle.rational.proofs.ExtendedLemmas.{Sup-unique}
 use Rattle.rational.proofs.AffineLemmas.{same_reflᵉ, same_symᵉ, same_transᵉ, value_same}
 use Rattle.rational.proofs.Sups.{sup_same, sup_value_same, sup_of_none, sup_of_union}
+use Rattle.rational.proofs.LimitLemmas.{right_limit_one, left_limit_one, right_limit_same, left_limit_same}
+use Rattle.rational.proofs.Bounds.{HasBounded, right_limit_bounded, left_limit_bounded, sup_bounded}
 use Rattle.frac128.specs.Value.{value}
 use Rattle.frac128.specs.declared.frac.Frac.{Frac}
 use Rattle.pl_signal.specs.declared.knot.Knot.{Knot}
@@ -24,11 +26,10 @@ use Rattle.pl_signal.specs.Moves.{Tells}
 use Rattle.pl_signal.proofs.Values.{worth_at, worth_between, worth_same, one_value, next_rises}
 use Rattle.pl_signal.proofs.Telling.{IsFunction, TellsSoFar, tells_on, told}
 use Rattle.pl_signal.proofs.Moving.{first_is, last_is, same_knot}
+use Rattle.pl_signal.proofs.Limits.{right_limit_in, left_limit_in, no_value_after, no_right_limit, no_left_limit, no_left_limit_after, worth_bounded}
 use Rattle.window_ops.specs.declared.ends.Side.{Side}
 use Rattle.window_ops.specs.declared.ends.Side.TheVariants.{Left, Right, Neither}
 use Rattle.window_ops.specs.Ends.{IsLimitFrom, TakesOne, Beside}
-use Rattle.window_ops.proofs.EndsLimits.{right_limit_one, left_limit_one, right_limit_same, left_limit_same, right_limit_in, left_limit_in, no_value_after, no_right_limit, no_left_limit, no_left_limit_after}
-use Rattle.window_ops.proofs.EndsLimited.{HasBounded, worth_bounded, right_limit_bounded, left_limit_bounded, sup_bounded}
 
 -- the Sup of one value
 pub sup_of_only : {Q : Extended → Type 0} (lowest v : Extended) → lowest ≤ᵉ v → Q v → ((w : Extended) → Q w → w ≈ᵉ v) → IsSup lowest Q v

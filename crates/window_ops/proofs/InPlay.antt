@@ -18,6 +18,7 @@ use Rattle.rational.proofs.Shift.{le_shift_cancel}
 use Rattle.rational.proofs.Mixed.{mixed_shift}
 use Rattle.std.proofs.lemmas.Int.{ints}
 use Rattle.rational.proofs.AffineLemmas.{same_reflᵉ, same_symᵉ, same_transᵉ, finite_same, value_same, lies_between}
+use Rattle.rational.proofs.LimitLemmas.{earlier_end, later_end}
 use Rattle.frac128.specs.Value.{value}
 use Rattle.frac128.specs.declared.frac.Frac.{Frac}
 use Rattle.pl_signal.specs.declared.knot.Knot.{Knot}
@@ -31,7 +32,7 @@ use Rattle.pl_signal.proofs.Values.{every_time, worth_within, worth_at}
 use Rattle.signal_ops.specs.Pointwise.{IsFault, GreatestOf}
 use Rattle.window_ops.specs.Parts.{AtLowEnd, AtHighEnd, IsKnotTime, IsAbout, AmongKnots, IsLeastOrAmong}
 use Rattle.window_ops.specs.Frozen.{IsKnotFault}
-use Rattle.window_ops.proofs.SupParts.{later_lt, later_of_two, earlier_of_two, placed, IsInside}
+use Rattle.window_ops.proofs.SupParts.{later_from, later_lt, placed, IsInside}
 use Rattle.window_ops.proofs.MiddleLimits.{agree_same, one_of_two, level_of, level_of_is, ahead, ahead_is, sup_of_nothing, sup_of_one, stop_is_knot, worth_least, about_same, limit_after_start, limit_before_stop, breakpoint, knot_at, knot_time_same, one, followed, left_limit_on_line, right_limit_on_line, no_limit_beyond}
 
 -- u less k
@@ -56,9 +57,6 @@ earlier_lt u a b h = let m = mul-lt-mul_of_pos_right (mul-lt-mul_of_pos_right h 
 earlier_le : (u : Rational) (k : ℕ) → earlier u k ≤ʳ u
 earlier_le u k = record { le = omega arith }
 
-later_from : (t : Rational) (k : ℕ) → t ≤ʳ later t k
-later_from t k = record { le = omega arith }
-
 later_shifted : (t : Rational) (k : ℕ) → later t k ≈ shifted t (pos k)
 later_shifted t k = omega arith
 
@@ -78,14 +76,14 @@ record Near (tau : Rational) (Q : Rational → Type 0) : Type 0 where
 
 near_both : (tau : Rational) (Q R S : Rational → Type 0) → ((t : Rational) → Q t → R t → S t) → Near tau Q → Near tau R → Near tau S
 near_both tau Q R S join m n =
-    let l = later_of_two m.from n.from tau m.above n.above in
-    let r = earlier_of_two m.to n.to tau m.below n.below in
+    let l = later_end m.above n.above in
+    let r = earlier_end m.below n.below in
     record {
       from = l.0;
       to = r.0;
-      above = l.3;
-      below = r.3;
-      holds = λ t a b. join t (m.holds t (lt_of_le_of_lt l.1 a) (lt_of_lt_of_le b r.1)) (n.holds t (lt_of_le_of_lt l.2 a) (lt_of_lt_of_le b r.2));
+      above = l.1;
+      below = r.1;
+      holds = λ t a b. join t (m.holds t (lt_of_le_of_lt l.2 a) (lt_of_lt_of_le b r.2)) (n.holds t (lt_of_le_of_lt l.3 a) (lt_of_lt_of_le b r.3));
     }
 
 near_map : (tau : Rational) (Q R : Rational → Type 0) → ((t : Rational) → Q t → R t) → Near tau Q → Near tau R
@@ -230,12 +228,12 @@ module _ {P : Type 0} (function : P → Affine) (knots : List (Knot P)) (a b : �
   -- a time of the domain from which a knot later than the start and a lies strictly inside the window
   time_before : (u : Rational) → later (start knots) a <ʳ u → u ≤ʳ stop knots → (tau : Rational) × (start knots <ʳ tau) × (tau <ʳ stop knots) × (later tau a <ʳ u) × (u <ʳ later tau b)
   time_before u late inside =
-      let l = later_of_two (start knots) (earlier u b) (earlier u a) (earlier_of_later a late) (earlier_lt u a b order) in (
+      let l = later_end (earlier_of_later a late) (earlier_lt u a b order) in (
         middle l.0 (earlier u a),
-        lt_of_le_of_lt l.1 (left_of_middle l.3),
-        lt_of_lt_of_le (right_of_middle l.3) (le_trans (earlier_le u a) inside),
-        later_of_earlier a (right_of_middle l.3),
-        later_from_earlier b (lt_of_le_of_lt l.2 (left_of_middle l.3)),
+        lt_of_le_of_lt l.2 (left_of_middle l.1),
+        lt_of_lt_of_le (right_of_middle l.1) (le_trans (earlier_le u a) inside),
+        later_of_earlier a (right_of_middle l.1),
+        later_from_earlier b (lt_of_le_of_lt l.3 (left_of_middle l.1)),
       )
 
   -- a refused value at a knot
@@ -325,12 +323,12 @@ module _ {P : Type 0} (function : P → Affine) (knots : List (Knot P)) (a b : �
         by_place : ((v : Extended) × IsInside function knots (later tau a) v) ⊎ (stop knots <ʳ later tau a)
             → (like : Affine) × IsLike tau (AtLowEnd lowest (IsWorth function knots) a low_in) like × ((line : Affine) → AreSame line like → Known tau line)
         by_place (inl (v, i)) =
-            let r = earlier_of_two i.to (later tau b) (later tau a) i.below (later_lt tau a b order) in (
+            let r = earlier_end i.below (later_lt tau a b order) in (
               ahead i.line a,
               near_both tau (λ t. i.from <ʳ later t a) (λ t. later t a <ʳ i.to) (λ t. (x : Extended) → AtLowEnd lowest (IsWorth function knots) a low_in t x → x ≈ᵉ value_at (ahead i.line a) t)
                   (inside i.from i.to i.line i.on) (near_after tau i.from a i.above) (near_before tau i.to a i.below),
               λ line same. inl (part_in_play tau a v line (inl refl) i
-                  (middle (later tau a) r.0, lt_trans i.above (left_of_middle r.3), lt_of_lt_of_le (right_of_middle r.3) r.1, left_of_middle r.3, lt_of_lt_of_le (right_of_middle r.3) r.2) same),
+                  (middle (later tau a) r.0, lt_trans i.above (left_of_middle r.1), lt_of_lt_of_le (right_of_middle r.1) r.2, left_of_middle r.1, lt_of_lt_of_le (right_of_middle r.1) r.3) same),
             )
         by_place (inr h) = (
           level_of lowest,
@@ -366,12 +364,12 @@ module _ {P : Type 0} (function : P → Affine) (knots : List (Knot P)) (a b : �
         by_place : ((v : Extended) × IsInside function knots (later tau b) v) ⊎ (stop knots <ʳ later tau b)
             → (like : Affine) × IsLike tau (AtHighEnd lowest (IsWorth function knots) b high_in) like × ((line : Affine) → AreSame line like → Known tau line)
         by_place (inl (v, i)) =
-            let l = later_of_two i.from (later tau a) (later tau b) i.above (later_lt tau a b order) in (
+            let l = later_end i.above (later_lt tau a b order) in (
               ahead i.line b,
               near_both tau (λ t. i.from <ʳ later t b) (λ t. later t b <ʳ i.to) (λ t. (x : Extended) → AtHighEnd lowest (IsWorth function knots) b high_in t x → x ≈ᵉ value_at (ahead i.line b) t)
                   (inside i.from i.to i.line i.on) (near_after tau i.from b i.above) (near_before tau i.to b i.below),
               λ line same. inl (part_in_play tau b v line (inr refl) i
-                  (middle l.0 (later tau b), lt_of_le_of_lt l.1 (left_of_middle l.3), lt_trans (right_of_middle l.3) i.below, lt_of_le_of_lt l.2 (left_of_middle l.3), right_of_middle l.3) same),
+                  (middle l.0 (later tau b), lt_of_le_of_lt l.2 (left_of_middle l.1), lt_trans (right_of_middle l.1) i.below, lt_of_le_of_lt l.3 (left_of_middle l.1), right_of_middle l.1) same),
             )
         by_place (inr h) = (
           level_of lowest,
@@ -468,10 +466,10 @@ module _ {P : Type 0} (function : P → Affine) (knots : List (Knot P)) (a b : �
           let n = near_both tau (λ t. (x : Extended) → AtLowEnd lowest (IsWorth function knots) a low_in t x → x ≈ᵉ value_at l.0 t) (λ t. (x : Extended) → AtHighEnd lowest (IsWorth function knots) b high_in t x → x ≈ᵉ value_at r.0 t)
           (λ t. from <ʳ t → t <ʳ to → (value_at (function p) t ≈ᵉ value_at l.0 t) ⊎ (value_at (function p) t ≈ᵉ value_at r.0 t))
           (λ t like like' x y. one_of_ends t (value_at l.0 t) (value_at r.0 t) like like' ((tells.worth t (value_at (function p) t)).0 (on t x y)).1) l.1 r.1 in
-          let low_side = later_of_two n.from from tau n.above above in
-          let high_side = earlier_of_two n.to to tau n.below below in
-          elim (one_of_two (function p) l.0 r.0 low_side.0 high_side.0 (lt_trans low_side.3 high_side.3)
-          (λ t x y. n.holds t (lt_of_le_of_lt low_side.1 x) (lt_of_lt_of_le y high_side.1) (lt_of_le_of_lt low_side.2 x) (lt_of_lt_of_le y high_side.2))) [
+          let low_side = later_end n.above above in
+          let high_side = earlier_end n.below below in
+          elim (one_of_two (function p) l.0 r.0 low_side.0 high_side.0 (lt_trans low_side.1 high_side.1)
+          (λ t x y. n.holds t (lt_of_le_of_lt low_side.2 x) (lt_of_lt_of_le y high_side.2) (lt_of_le_of_lt low_side.3 x) (lt_of_lt_of_le y high_side.3))) [
             | inl same ↦ l.2 (function p) same
             | inr same ↦ r.2 (function p) same
           ]

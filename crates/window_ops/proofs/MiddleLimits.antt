@@ -14,13 +14,13 @@ use Rattle.rational.proofs.Order.{le_refl, le_of_lt, lt_trans, lt_of_lt_of_le, l
 use Rattle.rational.proofs.ExtendedLemmas.{le_totalᵉ, le_reflᵉ, le_transᵉ, clashᵉ}
 use Rattle.rational.proofs.Lines.{at_constant}
 use Rattle.rational.proofs.AffineLemmas.{same_reflᵉ, same_symᵉ, same_transᵉ, finite_same, value_same}
+use Rattle.rational.proofs.LimitLemmas.{earlier_end, later_end}
 use Rattle.value_laws.proofs.LawProofs.{meet_once}
 use Rattle.pl_signal.specs.declared.knot.Knot.{Knot}
 use Rattle.pl_signal.specs.Knots.{time, Each, IsKnot, IsSignal, IsWorth, CanBeLeftOut}
 use Rattle.pl_signal.specs.Knots as K
 use Rattle.pl_signal.proofs.Values.{worth_at, worth_between, worth_within, worth_same, one_value, next_rises, stop_at}
 use Rattle.window_ops.specs.Parts.{IsKnotTime, IsAbout}
-use Rattle.window_ops.proofs.SupParts.{later_of_two, earlier_of_two}
 
 -- two functions that agree on an open interval are one
 pub agree_same : (f g : Affine) (l r : Rational) → l <ʳ r → ((t : Rational) → l <ʳ t → t <ʳ r → value_at f t ≈ᵉ value_at g t) → AreSame f g
@@ -111,13 +111,13 @@ module _ (F : Function) (one : (t : Rational) (v w : Extended) → F t v → F t
   -- a limit where the function is a line on that side
   pub left_limit_on_line : (a b u : Rational) (v : Extended) (line : Affine) → a <ʳ u → u ≤ʳ b → IsLineOn F a b line → IsLeftLimit F u v → v ≈ᵉ value_at line u
   left_limit_on_line a b u v line above below on l =
-      let m = later_of_two l.a a u l.above above in
-      same_transᵉ v (value_at l.line u) (value_at line u) l.value (lines_same l.a u a b m.0 u l.line line m.3 m.1 m.2 (le_refl u) below l.on on u)
+      let m = later_end l.above above in
+      same_transᵉ v (value_at l.line u) (value_at line u) l.value (lines_same l.a u a b m.0 u l.line line m.1 m.2 m.3 (le_refl u) below l.on on u)
 
   pub right_limit_on_line : (a b u : Rational) (v : Extended) (line : Affine) → a ≤ʳ u → u <ʳ b → IsLineOn F a b line → IsRightLimit F u v → v ≈ᵉ value_at line u
   right_limit_on_line a b u v line above below on l =
-      let m = earlier_of_two l.b b u l.below below in
-      same_transᵉ v (value_at l.line u) (value_at line u) l.value (lines_same u l.b a b u m.0 l.line line m.3 (le_refl u) above m.1 m.2 l.on on u)
+      let m = earlier_end l.below below in
+      same_transᵉ v (value_at l.line u) (value_at line u) l.value (lines_same u l.b a b u m.0 l.line line m.1 (le_refl u) above m.2 m.3 l.on on u)
 
 -- whether a knot stands at a time does not depend on its pair
 pub knot_time_same : {P : Type 0} (ks : List (Knot P)) {u w : Rational} → u ≈ w → IsKnotTime ks w → IsKnotTime ks u
@@ -190,9 +190,9 @@ module _ {P : Type 0} (function : P → Affine) where
     -- beyond the last knot there is no limit
     pub no_limit_beyond : (u : Rational) (v : Extended) → K.stop ks <ʳ u → ¬ IsLeftLimit (IsWorth function ks) u v
     no_limit_beyond u v h l =
-        let m = later_of_two l.a (K.stop ks) u l.above h in
-        let w = l.on (middle m.0 u) (lt_of_le_of_lt m.1 (left_of_middle m.3)) (right_of_middle m.3) in
-        not_lt_of_le (worth_within function ks (middle m.0 u) w.0 signal w.1).below (lt_of_le_of_lt m.2 (left_of_middle m.3))
+        let m = later_end l.above h in
+        let w = l.on (middle m.0 u) (lt_of_le_of_lt m.2 (left_of_middle m.1)) (right_of_middle m.1) in
+        not_lt_of_le (worth_within function ks (middle m.0 u) w.0 signal w.1).below (lt_of_le_of_lt m.3 (left_of_middle m.1))
 
     -- the value and the limits at a knot
     pub value_at_knot : (i : ℕ) (k : Knot P) (u : Rational) (v : Extended) → slice_get ks i ≡ Some k → u ≈ time k → IsWorth function ks u v → v ≈ᵉ value_at (function k.point) u
@@ -248,13 +248,13 @@ module _ {P : Type 0} (function : P → Affine) where
 
         before : AreSame line (function k.after)
         before =
-            let x = later_of_two part.a (time k) u part.above (lt_of_lt_of_le (next_rises function ks i k n signal.each h j) (ge_of_same e)) in
-            lines_same (IsWorth function ks) one part.a part.b (time k) (time n) x.0 u line (function k.after) x.3 x.1 x.2 (le_of_lt part.below) (le_of_same e) part.on (line_between ks i k n h j)
+            let x = later_end part.above (lt_of_lt_of_le (next_rises function ks i k n signal.each h j) (ge_of_same e)) in
+            lines_same (IsWorth function ks) one part.a part.b (time k) (time n) x.0 u line (function k.after) x.1 x.2 x.3 (le_of_lt part.below) (le_of_same e) part.on (line_between ks i k n h j)
 
         after : AreSame line (function n.after)
         after =
-            let x = earlier_of_two part.b (time m) u part.below (lt_of_le_of_lt (le_of_same e) (next_rises function ks (i + 1) n m signal.each j next)) in
-            lines_same (IsWorth function ks) one part.a part.b (time n) (time m) u x.0 line (function n.after) x.3 (le_of_lt part.above) (ge_of_same e) x.1 x.2 part.on (line_between ks (i + 1) n m j next)
+            let x = earlier_end part.below (lt_of_le_of_lt (le_of_same e) (next_rises function ks (i + 1) n m signal.each j next)) in
+            lines_same (IsWorth function ks) one part.a part.b (time n) (time m) u x.0 line (function n.after) x.1 (le_of_lt part.above) (ge_of_same e) x.2 x.3 part.on (line_between ks (i + 1) n m j next)
 
         at_u : value_at (function k.after) u ≈ᵉ value_at (function n.point) u
         at_u = let w = part.on u part.above part.below in

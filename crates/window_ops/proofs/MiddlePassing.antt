@@ -3,7 +3,7 @@ use Rattle.std.proofs.Common.{◌≡◌, ℕ, zero, suc, ◌+◌, ◌-◌, ◌<�
 use Rattle.std.specs.Prelude.{slice_get}
 use Rattle.std.proofs.lemmas.Bool.{cases_lt}
 use Rattle.std.proofs.lemmas.Option.{slice_get-get_or, slice_get_within}
-use Rattle.rational.specs.Rational.{add, whole, FitsFloor, IsWithin}
+use Rattle.rational.specs.Rational.{add, whole, FitsFloor}
 use Rattle.rational.specs.Time.{Rational, ◌≤ʳ◌, ◌<ʳ◌, ◌≈◌, later}
 use Rattle.rational.specs.Extended.{Affine}
 use Rattle.rational.proofs.Order.{le_of_lt, le_trans, lt_of_lt_of_le, lt_of_le_of_lt, not_lt_of_le, le_of_same, ge_of_same, same_trans}
@@ -17,14 +17,11 @@ use Rattle.pl_signal.specs.declared.knot.Knot.{Knot}
 use Rattle.pl_signal.specs.Knots.{time, start, stop, IsSignal}
 use Rattle.pl_signal.proofs.Values.{next_rises, rising_places}
 use Rattle.pl_signal.proofs.Moving.{shift_forth, at_knot_within, first_is}
-use Rattle.window_ops.proofs.SupParts.{later_lt}
+use Rattle.window_ops.proofs.SupParts.{later_from, later_lt}
 use Rattle.window_ops.specs.Passing.{HasPassed, HasMet, IsAfter, IsNext}
 
 pub later_strict : {t u : Rational} (k : ℕ) → t <ʳ u → later t k <ʳ later u k
 later_strict {t} {u} k h = record { lt = omega (arith, h.lt) }
-
-later_from : (t : Rational) (k : ℕ) → t ≤ʳ later t k
-later_from t k = record { le = omega arith }
 
 pub later_cancel : {t u : Rational} (k : ℕ) → later t k <ʳ later u k → t <ʳ u
 later_cancel {t} {u} k h = record { lt = omega (arith, h.lt) }
@@ -44,13 +41,6 @@ pub fits_earlier : {t : Rational} (k : ℕ) → whole (pos 0) ≤ʳ t → t ≤�
 fits_earlier {t} k from to small = fits_of_within w64 (2 ^ 34) (lit< tt) (
   le_trans (record { le = omega arith }) (le_add from (le_whole {j = neg_ℤ (pos (2 ^ 32))} {k = neg_ℤ (pos k)} (omega (arith, ints)))),
   le_trans (le_add to (le_whole {j = neg_ℤ (pos k)} {k = pos 0} (omega (arith, ints)))) (record { le = omega arith }),
-)
-
--- a time from 0 to 2^32 is within 2^34
-pub near_of_domain : {t : Rational} → whole (pos 0) ≤ʳ t → t ≤ʳ whole (pos (2 ^ 32)) → IsWithin (2 ^ 34) t
-near_of_domain {t} from to = (
-  le_trans (le_whole {j = neg_ℤ (pos (2 ^ 34))} {k = pos 0} (record { le = tt })) from,
-  le_trans to (le_whole {j = pos (2 ^ 32)} {k = pos (2 ^ 34)} (record { le = tt })),
 )
 
 -- a place of a list has an item

@@ -22,8 +22,8 @@ use Rattle.pl_signal.specs.Moves.{Tells}
 use Rattle.pl_signal.specs.Wide.{HasCause}
 use Rattle.pl_signal.proofs.Values.{worth_within, worth_same}
 use Rattle.pl_signal.proofs.Telling.{IsFunction, told}
+use Rattle.pl_signal.proofs.Limits.{worth_bounded}
 use Rattle.window_ops.specs.Mirrored.{mirrored, IsReach, IsTurnedFault}
-use Rattle.window_ops.proofs.EndsLimited.{worth_bounded}
 use Rattle.window_ops.proofs.EndsAhead.{limited_by}
 use Rattle.window_ops.proofs.MirrorTimes.{mirrored_twice, mirrored_le, mirrored_same, mirrored_back, behind_of_ahead, ahead_of_behind}
 use Rattle.window_ops.proofs.MirrorFunctions.{AreTurned, behind_in_play, crossing_turned, wide_value_turned}

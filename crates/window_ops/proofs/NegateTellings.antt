@@ -11,6 +11,7 @@ use Rattle.rational.proofs.ExtendedLemmas.{le_transᵉ, opposite_le', Inf-unique
 use Rattle.rational.proofs.AffineLemmas.{same_reflᵉ, opposite_same}
 use Rattle.rational.proofs.Sups.{sup_same, inf_of_opposite, inf_value_same}
 use Rattle.rational.proofs.WindowLemmas.{inf_over_alike}
+use Rattle.rational.proofs.Bounds.{sup_bounded}
 use Rattle.pl_signal.specs.declared.knot.Knot.{Knot}
 use Rattle.pl_signal.specs.Knots.{start, stop, IsSignal, IsWorth}
 use Rattle.pl_signal.specs.Limits.{IsLimited}
@@ -18,9 +19,9 @@ use Rattle.pl_signal.specs.Moves.{Tells, BasesFrom}
 use Rattle.pl_signal.proofs.Values.{worth_within, worth_same}
 use Rattle.pl_signal.proofs.Telling.{IsFunction, told}
 use Rattle.pl_signal.proofs.Moving.{limited_start, limited_stop}
+use Rattle.pl_signal.proofs.Limits.{worth_bounded}
 use Rattle.signal_ops.specs.Pointwise.{Negated}
 use Rattle.window_ops.specs.Conditions.{AreNear, BasesAhead, BasesBehind}
-use Rattle.window_ops.proofs.EndsLimited.{worth_bounded, sup_bounded}
 use Rattle.window_ops.proofs.EndsAhead.{limited_by}
 use Rattle.window_ops.proofs.NegateFunctions.{AreOpposite, opposite_back}
 

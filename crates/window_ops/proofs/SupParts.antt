@@ -11,6 +11,7 @@ use Rattle.rational.proofs.Order.{le_or_lt, lt_or_same_or_gt, le_refl, le_of_lt,
 use Rattle.rational.proofs.ExtendedLemmas.{le_reflᵉ, le_transᵉ, lt_of_lt_of_leᵉ}
 use Rattle.rational.proofs.AffineLemmas.{same_reflᵉ, lies_between, near_start, near_stop}
 use Rattle.rational.proofs.Sups.{sup_of_union}
+use Rattle.rational.proofs.LimitLemmas.{earlier_end, later_end}
 use Rattle.rational.proofs.TimeLemmas.{precedes_of_lt, precedes_le}
 use Rattle.pl_signal.specs.declared.knot.Knot.{Knot}
 use Rattle.pl_signal.specs.Knots.{time, start, stop, IsSignal, IsWorth}
@@ -26,32 +27,28 @@ sup_by_candidates r above close s = record {
   reached = λ w h k. let c = s.reached w h k in close c.0 w c.1 c.2;
 }
 
--- a longer way leads later
+-- a way leads to the same time or later, and a longer way leads later
+pub later_from : (t : Rational) (k : ℕ) → t ≤ʳ later t k
+later_from t k = record { le = omega arith }
+
 pub later_lt : (t : Rational) (a b : ℕ) → a < b → later t a <ʳ later t b
 later_lt t a b h = let m = mul-lt-mul_of_pos_right (mul-lt-mul_of_pos_right h t.positive) t.positive in record { lt = omega (arith, m) }
-
--- the later of two times, and the earlier, by a time after or before both
-pub later_of_two : (a b u : Rational) → a <ʳ u → b <ʳ u → (l : Rational) × (a ≤ʳ l) × (b ≤ʳ l) × (l <ʳ u)
-later_of_two a b u h k = elim (le_or_lt a b) [ inl o ↦ (b, o, le_refl b, k) | inr o ↦ (a, le_refl a, le_of_lt o, h) ]
-
-pub earlier_of_two : (a b u : Rational) → u <ʳ a → u <ʳ b → (r : Rational) × (r ≤ʳ a) × (r ≤ʳ b) × (u <ʳ r)
-earlier_of_two a b u h k = elim (le_or_lt a b) [ inl o ↦ (a, le_refl a, o, h) | inr o ↦ (b, le_of_lt o, le_refl b, k) ]
 
 module _ (F : Function) where
   -- below a limit there are values as close as one likes
   pub close_from_right : (u to : Rational) (v w : Extended) → u <ʳ to → IsRightLimit F u v → w <ᵉ v → (s : Rational) × (u <ʳ s) × (s <ʳ to) × ((x : Extended) × F s x × (w <ᵉ x))
   close_from_right u to v w h limit k =
-      let r = earlier_of_two limit.b to u limit.below h in
-      let n = near_start limit.line u r.0 w r.3 (lt_of_lt_of_leᵉ w v (value_at limit.line u) k limit.value.at_most) in
-      let f = limit.on n.0 n.1 (lt_of_lt_of_le n.2 r.1) in
-      (n.0, n.1, lt_of_lt_of_le n.2 r.2, (f.0, f.1, lt_of_lt_of_leᵉ w (value_at limit.line n.0) f.0 n.3 f.2.at_least))
+      let r = earlier_end limit.below h in
+      let n = near_start limit.line u r.0 w r.1 (lt_of_lt_of_leᵉ w v (value_at limit.line u) k limit.value.at_most) in
+      let f = limit.on n.0 n.1 (lt_of_lt_of_le n.2 r.2) in
+      (n.0, n.1, lt_of_lt_of_le n.2 r.3, (f.0, f.1, lt_of_lt_of_leᵉ w (value_at limit.line n.0) f.0 n.3 f.2.at_least))
 
   pub close_from_left : (u from : Rational) (v w : Extended) → from <ʳ u → IsLeftLimit F u v → w <ᵉ v → (s : Rational) × (from <ʳ s) × (s <ʳ u) × ((x : Extended) × F s x × (w <ᵉ x))
   close_from_left u from v w h limit k =
-      let l = later_of_two limit.a from u limit.above h in
-      let n = near_stop limit.line l.0 u w l.3 (lt_of_lt_of_leᵉ w v (value_at limit.line u) k limit.value.at_most) in
-      let f = limit.on n.0 (lt_of_le_of_lt l.1 n.1) n.2 in
-      (n.0, lt_of_le_of_lt l.2 n.1, n.2, (f.0, f.1, lt_of_lt_of_leᵉ w (value_at limit.line n.0) f.0 n.3 f.2.at_least))
+      let l = later_end limit.above h in
+      let n = near_stop limit.line l.0 u w l.1 (lt_of_lt_of_leᵉ w v (value_at limit.line u) k limit.value.at_most) in
+      let f = limit.on n.0 (lt_of_le_of_lt l.2 n.1) n.2 in
+      (n.0, lt_of_le_of_lt l.3 n.1, n.2, (f.0, f.1, lt_of_lt_of_leᵉ w (value_at limit.line n.0) f.0 n.3 f.2.at_least))
 
 module _ {P : Type 0} (function : P → Affine) where
   -- u lies strictly between two knots between which the signal is one line, with the value v at u

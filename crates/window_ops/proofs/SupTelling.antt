@@ -12,17 +12,19 @@ use Rattle.rational.proofs.ExtendedLemmas.{Sup-unique}
 use Rattle.rational.proofs.Sups.{sup_value_same}
 use Rattle.rational.proofs.WindowLemmas.{ahead_same, sup_over_alike}
 use Rattle.rational.proofs.Mixed.{within_same}
+use Rattle.rational.proofs.Bounds.{HasBounded, sup_bounded, right_limit_bounded, left_limit_bounded}
+use Rattle.rational.proofs.AffineLemmas.{bounded_same}
 use Rattle.pl_signal.specs.declared.knot.Knot.{Knot}
 use Rattle.pl_signal.specs.Knots.{HasShape, start, stop, IsSignal, IsWorth}
 use Rattle.pl_signal.specs.Limits.{IsLimited}
 use Rattle.pl_signal.specs.Moves.{BasesFrom, Tells}
 use Rattle.pl_signal.proofs.Telling.{IsFunction, told}
+use Rattle.pl_signal.proofs.Limits.{limited}
 use Rattle.signal_ops.specs.Pointwise.{GreatestOf}
 use Rattle.window_ops.specs.Parts.{AtLowEnd, AtHighEnd, AmongKnots, IsAbout}
 use Rattle.window_ops.specs.Conditions.{BasesReached}
 use Rattle.window_ops.specs.Windows.{SupAhead}
 use Rattle.window_ops.proofs.SupParts.{sup_of_parts}
-use Rattle.window_ops.proofs.EndsLimited.{HasBounded, bounded_same, sup_bounded, right_limit_bounded, left_limit_bounded, limited}
 
 -- the Sup over a window has one value at each time
 pub sup_is_function : (from to : Rational) (F : Function) (lowest : Extended) (a b : ℕ) (low_in high_in : Bool) → IsFunction (SupAhead from to F lowest a b low_in high_in)

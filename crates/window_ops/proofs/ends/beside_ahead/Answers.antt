@@ -7,7 +7,7 @@ use Rattle.rational.specs.Time.{Rational, ◌<ʳ◌, ◌≤ʳ◌, ◌≈◌, lat
 use Rattle.rational.specs.Extended.{◌≈ᵉ◌, Affine}
 use Rattle.rational.specs.Windows.{Function}
 use Rattle.rational.proofs.Order.{le_refl, le_trans, le_of_same, ge_of_same, lt_of_lt_of_le, not_lt_of_le, same_sym, same_trans}
-use Rattle.rational.proofs.AffineLemmas.{same_reflᵉ}
+use Rattle.rational.proofs.AffineLemmas.{same_reflᵉ, bounded_same}
 use Rattle.rational.proofs.TimeLemmas.{later_le}
 use Rattle.rational.proofs.Mixed.{fits_of_within, within_same}
 use Rattle.frac128.specs.Value.{value}
@@ -16,8 +16,8 @@ use Rattle.pl_signal.specs.Knots.{start, stop, IsWorth}
 use Rattle.pl_signal.specs.Moves.{Tells, BasesFrom}
 use Rattle.pl_signal.proofs.Telling.{IsFunction}
 use Rattle.window_ops.specs.Ends.{Beside}
-use Rattle.window_ops.proofs.EndsLimited.{bounded_same}
 use Rattle.window_ops.proofs.EndsSups.{beside_is_function, beside_bounded, beside_after}
+use Rattle.window_ops.proofs.SupParts.{later_from}
 use Rattle.window_ops.proofs.EndsAhead.{bound_is, domain_within, moved_within, moved_is, later_same, not_before, start_to_stop, tells_ahead, limited_by, tells_value, ahead_is_function, bases_moved, room_of}
 use Rattle.window_ops.proofs.ends.beside_ahead.Goals as goal
 
@@ -45,9 +45,6 @@ least_between-requires-clause-from_within g c =
 pub beside_until-requires : goal.beside_until-requires
 beside_until-requires g c = record { taken = c.requires.taken; limited = c.requires.limited; order = le_trans (later_from (stop c.args.s.now) c.args.by) (ge_of_same stops) }
   where
-    later_from : (t : Rational) (n : ℕ) → t ≤ʳ later t n
-    later_from t n = omega arith
-
     stops : value c.shift-2.result ≈ later (stop c.args.s.now) c.args.by
     stops = same_trans (moved_is c.args.by c.requires.small c.stop-stop.ensures.value c.shift-2.ensures.value) (later_same (stop c.args.s.now) c.args.by)
 

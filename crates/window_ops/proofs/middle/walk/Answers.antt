@@ -11,7 +11,8 @@ use Rattle.window_ops.specs.Parts.{AmongKnots, IsLeastOrAmong}
 use Rattle.pl_signal.proofs.Moving.{only_ends}
 use Rattle.window_ops.specs.Passing.{HasPassed, HasMet, IsAfter}
 use Rattle.window_ops.proofs.SupParts.{later_lt}
-use Rattle.window_ops.proofs.MiddlePassing.{start_before_stop, passed_order, met_order, near_of_domain}
+use Rattle.window_ops.proofs.EndsAhead.{domain_within}
+use Rattle.window_ops.proofs.MiddlePassing.{start_before_stop, passed_order, met_order}
 use Rattle.window_ops.proofs.MiddleTelling.{IsReachedSup, reached_is_function, tells_first, top_tells, tells_event, Ends, finished, sup_told, still_first, still_on, still_end}
 use Rattle.window_ops.proofs.middle.walk.Goals as goal
 
@@ -83,7 +84,7 @@ pub greatest-point-requires-in-loop-left-clause-high : goal.greatest-point-requi
 greatest-point-requires-in-loop-left-clause-high g c = omega (arith, c.loop-left.invariant.high)
 
 pub step-requires-clause-limited : goal.step-requires-clause-limited
-step-requires-clause-limited g c = near_of_domain (subst (λ u. whole (pos 0) ≤ʳ u) (sym c.loop-left.invariant.here) (le_trans c.requires.first c.loop-left.invariant.from)) (subst (λ u. u ≤ʳ whole (pos (2 ^ 32))) (sym c.loop-left.invariant.here) (le_trans c.loop-left.invariant.domain c.requires.last))
+step-requires-clause-limited g c = domain_within (subst (λ u. whole (pos 0) ≤ʳ u) (sym c.loop-left.invariant.here) (le_trans c.requires.first c.loop-left.invariant.from)) (subst (λ u. u ≤ʳ whole (pos (2 ^ 32))) (sym c.loop-left.invariant.here) (le_trans c.loop-left.invariant.domain c.requires.last))
 
 pub step-requires-clause-later : goal.step-requires-clause-later
 step-requires-clause-later g c = subst (λ u. u <ʳ value c.next_event-event.result.at) (sym c.loop-left.invariant.here) (c.next_event-event.ensures (value c.loop-left.at) c.loop-left.invariant.now).order
@@ -141,7 +142,7 @@ pub ended-requires-clause-order : goal.ended-requires-clause-order
 ended-requires-clause-order g c = subst (λ u. value c.loop-left.at ≤ʳ u) (sym c.stop.ensures.value) c.loop-left.invariant.domain
 
 pub ended-requires-clause-limited : goal.ended-requires-clause-limited
-ended-requires-clause-limited g c = near_of_domain (le_trans c.requires.first c.loop-left.invariant.from) (le_trans c.loop-left.invariant.domain c.requires.last)
+ended-requires-clause-limited g c = domain_within (le_trans c.requires.first c.loop-left.invariant.from) (le_trans c.loop-left.invariant.domain c.requires.last)
 
 pub returns-clause-worth : goal.returns-clause-worth
 returns-clause-worth g c =

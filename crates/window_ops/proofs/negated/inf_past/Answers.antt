@@ -4,7 +4,7 @@ use Rattle.rational.proofs.Order.{le_trans, le_of_same, ge_of_same, same_sym}
 use Rattle.rational.proofs.WindowLemmas.{behind_same}
 use Rattle.pl_signal.specs.Knots.{start, stop, IsWorth}
 use Rattle.pl_signal.proofs.Telling.{worth_is_function}
-use Rattle.window_ops.proofs.EndsLimited.{worth_bounded}
+use Rattle.pl_signal.proofs.Limits.{worth_bounded}
 use Rattle.window_ops.proofs.NegateFunctions.{AreOpposite, behind_alike}
 use Rattle.window_ops.proofs.NegateFaults.{behind_cause_bounded, behind_cause_opposite}
 use Rattle.window_ops.proofs.NegateTellings.{negated_opposite, sup_limited, tells_inf, bases_behind_negated}

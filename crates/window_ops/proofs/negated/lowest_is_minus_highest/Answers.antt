@@ -1,7 +1,7 @@
 use Rattle.std.proofs.Common.{◌^◌, pos}
 use Rattle.rational.specs.Rational.{whole}
 use Rattle.rational.specs.Extended.{value_at}
-use Rattle.window_ops.proofs.EndsLimited.{bounded_same}
+use Rattle.rational.proofs.AffineLemmas.{bounded_same}
 use Rattle.window_ops.proofs.NegateTellings.{ends_opposite}
 use Rattle.window_ops.proofs.negated.lowest_is_minus_highest.Goals as goal
 

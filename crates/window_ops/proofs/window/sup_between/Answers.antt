@@ -4,9 +4,9 @@ use Rattle.std.proofs.lemmas.Result.{IfOk-weaker, IfErr-weaker, err_from_is_err_
 use Rattle.rational.proofs.Order.{same_sym, same_trans}
 use Rattle.pl_signal.proofs.Moving.{limited_start, limited_stop}
 use Rattle.pl_signal.specs.Knots.{start, stop, IsWorth}
+use Rattle.pl_signal.proofs.Limits.{worth_bounded}
 use Rattle.signal_ops.specs.Pointwise.{GreatestOf}
 use Rattle.window_ops.specs.Parts.{AmongKnots}
-use Rattle.window_ops.proofs.EndsLimited.{worth_bounded}
 use Rattle.window_ops.proofs.EndsAhead.{limited_by}
 use Rattle.window_ops.proofs.SupTelling.{among_bounded, greatest_of_bounded, parts_told, bases_reached}
 use Rattle.window_ops.proofs.InPlay.{knots_in_play, ends_in_play, all_in_play}
