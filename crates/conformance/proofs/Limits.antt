@@ -4,26 +4,12 @@ use Rattle.std.proofs.lemmas.Int.{ints}
 use Rattle.std.specs.Int.{w64}
 use Rattle.std.specs.Prelude.{slice_get}
 use Rattle.std.specs.Int.RustNames.{unsigned_abs}
-use Rattle.std.specs.declared.cmp.Ordering.{Ordering}
-use Rattle.std.specs.declared.cmp.Ordering.TheVariants.{Less, Equal, Greater}
-use Rattle.rational.specs.Rational.{Rational, IsOrder, IsWithin, FitsFloor, whole, add, subtract, ◌≤ʳ◌}
+use Rattle.rational.specs.Rational.{Rational, IsWithin, FitsFloor, whole, add, subtract}
 use Rattle.rational.specs.Extended.{Affine}
-use Rattle.rational.proofs.Order.{le_of_lt, le_of_same, ge_of_same}
 use Rattle.rational.proofs.Mixed.{fits_of_within, within_add, within_negate, within_whole, within_more}
 use Rattle.pl_signal.specs.declared.knot.Knot.{Knot}
 use Rattle.pl_signal.specs.Limits.{IsLimitedKnot, IsLimited}
 use Rattle.conformance.specs.Tables.{IsSmall, IsLimitedAt}
-
--- not later, by an answer
-pub not_after : (o : Ordering) (a b : Rational) → IsOrder o a b → ¬ (o ≡ Greater) → a ≤ʳ b
-not_after Less a b h n = le_of_lt h
-not_after Equal a b h n = le_of_same h
-not_after Greater a b h n = absurd (n refl)
-
-pub not_before : (o : Ordering) (a b : Rational) → IsOrder o a b → ¬ (o ≡ Less) → b ≤ʳ a
-not_before Less a b h n = absurd (n refl)
-not_before Equal a b h n = ge_of_same h
-not_before Greater a b h n = le_of_lt h
 
 -- a near time read backwards
 pub mirrored_within : (t : Rational) (about : ℤ) → unsigned_abs about ≤ 2 ^ 31 → IsWithin (2 ^ 33) t → IsWithin (2 ^ 34) (subtract (whole about) t)

@@ -6,6 +6,7 @@ use Rattle.std.proofs.lemmas.List.Sums.{sum_by_more}
 use Rattle.rational.specs.Extended.{Affine}
 use Rattle.pl_signal.specs.declared.knot.Knot.{Knot}
 use Rattle.pl_signal.specs.Moves.{Tells}
+use Rattle.pl_signal.proofs.Values.{some_is}
 use Rattle.stl_syntax.specs.Formula.{subformula, tree_of, atom}
 use Rattle.stl_syntax.specs.SupInf.{Setting, Gives}
 use Rattle.stl_syntax.specs.declared.atom.Atom.{Atom}
@@ -55,9 +56,6 @@ drop_at (y ∷ all) (suc k) x rest e =
     let next : suc (k + 1) ≡ suc k + 1 = omega arith in
     (on.0, on.1 ∙ ap (λ n. drop n (y ∷ all)) next)
 
-some_same : {X : Type 0} {x y : X} → Some x ≡ Some y → x ≡ y
-some_same e = cc
-
 same_leaf : {a b : Atom} → Some (Leaf a) ≡ Some (Leaf b) → a ≡ b
 same_leaf e = cc
 
@@ -92,7 +90,7 @@ module _ {P : Type 0} (function : P → Affine) where
   atom_told nodes i a x old new all s at tree e left told =
       let o = told i a (slice_get_within nodes i (Leaf a) at) at in
       let here = (drop_at all (atoms_before nodes i) x new (sym e ∙ left)).0 in
-      let same : o.0 ≡ x = some_same (sym o.1 ∙ here) in
+      let same : o.0 ≡ x = some_is (sym o.1 ∙ here) in
       subst (λ f. TellsValue function s f x) (sym tree) (subst (TellsValue function s (atom i a)) same o.2)
 
   pub told_none : (nodes : List Node) (s : Setting) → TellAtomsBelow function 0 nodes [] s
@@ -113,7 +111,7 @@ module _ {P : Type 0} (function : P → Affine) where
     where
       by_place : (j < i) ⊎ (j ≡ i) → (y : List (Knot P)) × (slice_get xs (atoms_before nodes j) ≡ Some y) × Tells function (Gives s.atoms j b) s.from s.to y
       by_place (inl k) = told j b k at_j
-      by_place (inr k) = absurd (clash (ap is_atom (some_same (sym at_j ∙ ap (slice_get nodes) k ∙ at)) ∙ other))
+      by_place (inr k) = absurd (clash (ap is_atom (some_is (sym at_j ∙ ap (slice_get nodes) k ∙ at)) ∙ other))
         where
           clash : true ≡ false → ⊥
           clash e = cc

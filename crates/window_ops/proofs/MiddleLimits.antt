@@ -19,7 +19,8 @@ use Rattle.value_laws.proofs.LawProofs.{meet_once}
 use Rattle.pl_signal.specs.declared.knot.Knot.{Knot}
 use Rattle.pl_signal.specs.Knots.{time, Each, IsKnot, IsSignal, IsWorth, CanBeLeftOut}
 use Rattle.pl_signal.specs.Knots as K
-use Rattle.pl_signal.proofs.Values.{worth_at, worth_between, worth_within, worth_same, one_value, next_rises, stop_at}
+use Rattle.pl_signal.proofs.Values.{worth_at, worth_within, worth_same, one_value, next_rises, stop_at}
+use Rattle.pl_signal.proofs.Limits.{gap_line}
 use Rattle.window_ops.specs.Parts.{IsKnotTime, IsAbout}
 
 -- two functions that agree on an open interval are one
@@ -142,10 +143,6 @@ module _ {P : Type 0} (function : P → Affine) where
   stop_is_knot (k ∷ []) some = inl (same_refl (time k))
   stop_is_knot (k ∷ n ∷ ks) some = inr (stop_is_knot (n ∷ ks) (omega arith))
 
-  -- between two neighbours the signal is the line of the shape between them
-  pub line_between : (ks : List (Knot P)) (i : ℕ) (k n : Knot P) → slice_get ks i ≡ Some k → slice_get ks (i + 1) ≡ Some n → IsLineOn (IsWorth function ks) (time k) (time n) (function k.after)
-  line_between ks i k n h j t a b = (value_at (function k.after) t, worth_between function ks i k n t h j a b, same_reflᵉ (value_at (function k.after) t))
-
   -- no value lies below the least one
   pub worth_least : (lowest : Extended) → ((p : P) (t : Rational) → lowest ≤ᵉ value_at (function p) t) → (ks : List (Knot P)) (t : Rational) (v : Extended) → IsWorth function ks t v → lowest ≤ᵉ v
   worth_least lowest least [] t v w = absurd w
@@ -201,7 +198,7 @@ module _ {P : Type 0} (function : P → Affine) where
     pub left_limit_is : (i : ℕ) (k n : Knot P) (u : Rational) (v : Extended) → slice_get ks i ≡ Some k → slice_get ks (i + 1) ≡ Some n → u ≈ time n
         → IsLeftLimit (IsWorth function ks) u v → v ≈ᵉ value_at (function k.after) u
     left_limit_is i k n u v h j e l = left_limit_on_line (IsWorth function ks) one (time k) (time n) u v (function k.after)
-        (lt_of_lt_of_le (next_rises function ks i k n signal.each h j) (ge_of_same e)) (le_of_same e) (line_between ks i k n h j) l
+        (lt_of_lt_of_le (next_rises function ks i k n signal.each h j) (ge_of_same e)) (le_of_same e) (gap_line function ks i k n h j) l
 
     pub left_limit_at : (i : ℕ) (k n : Knot P) (u : Rational) → slice_get ks i ≡ Some k → slice_get ks (i + 1) ≡ Some n → u ≈ time n
         → IsLeftLimit (IsWorth function ks) u (value_at (function k.after) u)
@@ -209,14 +206,14 @@ module _ {P : Type 0} (function : P → Affine) where
       a = time k;
       above = lt_of_lt_of_le (next_rises function ks i k n signal.each h j) (ge_of_same e);
       line = function k.after;
-      on = λ t x y. line_between ks i k n h j t x (lt_of_lt_of_le y (le_of_same e));
+      on = λ t x y. gap_line function ks i k n h j t x (lt_of_lt_of_le y (le_of_same e));
       value = same_reflᵉ (value_at (function k.after) u);
     }
 
     pub right_limit_is : (i : ℕ) (k n : Knot P) (u : Rational) (v : Extended) → slice_get ks i ≡ Some k → slice_get ks (i + 1) ≡ Some n → u ≈ time k
         → IsRightLimit (IsWorth function ks) u v → v ≈ᵉ value_at (function k.after) u
     right_limit_is i k n u v h j e l = right_limit_on_line (IsWorth function ks) one (time k) (time n) u v (function k.after)
-        (ge_of_same e) (lt_of_le_of_lt (le_of_same e) (next_rises function ks i k n signal.each h j)) (line_between ks i k n h j) l
+        (ge_of_same e) (lt_of_le_of_lt (le_of_same e) (next_rises function ks i k n signal.each h j)) (gap_line function ks i k n h j) l
 
     pub right_limit_at : (i : ℕ) (k n : Knot P) (u : Rational) → slice_get ks i ≡ Some k → slice_get ks (i + 1) ≡ Some n → u ≈ time k
         → IsRightLimit (IsWorth function ks) u (value_at (function k.after) u)
@@ -224,7 +221,7 @@ module _ {P : Type 0} (function : P → Affine) where
       b = time n;
       below = lt_of_le_of_lt (le_of_same e) (next_rises function ks i k n signal.each h j);
       line = function k.after;
-      on = λ t x y. line_between ks i k n h j t (lt_of_le_of_lt (ge_of_same e) x) y;
+      on = λ t x y. gap_line function ks i k n h j t (lt_of_le_of_lt (ge_of_same e) x) y;
       value = same_reflᵉ (value_at (function k.after) u);
     }
 
@@ -249,12 +246,12 @@ module _ {P : Type 0} (function : P → Affine) where
         before : AreSame line (function k.after)
         before =
             let x = later_end part.above (lt_of_lt_of_le (next_rises function ks i k n signal.each h j) (ge_of_same e)) in
-            lines_same (IsWorth function ks) one part.a part.b (time k) (time n) x.0 u line (function k.after) x.1 x.2 x.3 (le_of_lt part.below) (le_of_same e) part.on (line_between ks i k n h j)
+            lines_same (IsWorth function ks) one part.a part.b (time k) (time n) x.0 u line (function k.after) x.1 x.2 x.3 (le_of_lt part.below) (le_of_same e) part.on (gap_line function ks i k n h j)
 
         after : AreSame line (function n.after)
         after =
             let x = earlier_end part.below (lt_of_le_of_lt (le_of_same e) (next_rises function ks (i + 1) n m signal.each j next)) in
-            lines_same (IsWorth function ks) one part.a part.b (time n) (time m) u x.0 line (function n.after) x.1 (le_of_lt part.above) (ge_of_same e) x.2 x.3 part.on (line_between ks (i + 1) n m j next)
+            lines_same (IsWorth function ks) one part.a part.b (time n) (time m) u x.0 line (function n.after) x.1 (le_of_lt part.above) (ge_of_same e) x.2 x.3 part.on (gap_line function ks (i + 1) n m j next)
 
         at_u : value_at (function k.after) u ≈ᵉ value_at (function n.point) u
         at_u = let w = part.on u part.above part.below in

@@ -4,14 +4,12 @@ use Rattle.std.specs.Prelude.{◌-◌, ◌^◌, All, Some, slice_get}
 use Rattle.std.proofs.lemmas.List.{take-map}
 use Rattle.std.proofs.lemmas.List.Elements.{All-get_or, All-nil, All-cons, All-head, All-tail}
 use Rattle.std.proofs.lemmas.Option.{slice_get_within, get_or_from_slice_get}
-use Rattle.stl_syntax.specs.Trace.{Column, Header}
+use Rattle.stl_syntax.specs.Trace.{Column}
 use Rattle.stl_syntax.specs.Formula.{Formula}
 use Rattle.stl_syntax.specs.Scaling.{scaled, scaled_atom, scaled_node}
-use Rattle.stl_syntax.specs.Binding.{HasColumn, HasColumns, IsUnknown, IsUnitFault}
+use Rattle.stl_syntax.specs.Binding.{HasColumn, HasColumns, IsUnknown}
 use Rattle.stl_syntax.specs.declared.scale.Scale.{Scale}
-use Rattle.stl_syntax.specs.declared.scale.UnitFault.{UnitFault}
 use Rattle.stl_syntax.specs.declared.atom.Atom.{Atom}
-use Rattle.stl_syntax.specs.declared.atom.Term.{Term}
 use Rattle.stl_syntax.specs.declared.node.Node.{Node}
 use Rattle.stl_syntax.specs.declared.node.Node.TheVariants.{Const, Atom as Leaf, Not, And, Or, Implies, Until, Eventually, Always, Since, Once, Historically}
 use Rattle.stl_syntax.proofs.ScalingLemmas.{scaled_at}

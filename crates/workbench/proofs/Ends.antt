@@ -1,5 +1,5 @@
 -- What the end of the bytes comes to.
-use Rattle.std.proofs.Common.{◌≡◌, ◌⊎◌, inl, inr, ℕ, suc, ◌+◌, ◌<◌, ◌≤◌, Bool, true, false, List, [], ◌∷◌, ◌++◌, length, take, refl, sym, ap, ◌∙◌, subst, arith, append-nil, length-append, Option, Some, None, Result, Ok, Err}
+use Rattle.std.proofs.Common.{◌≡◌, ◌⊎◌, inl, inr, ℕ, ◌+◌, ◌<◌, ◌≤◌, Bool, true, false, List, [], ◌∷◌, ◌++◌, length, take, refl, sym, ap, ◌∙◌, subst, arith, append-nil, length-append, Option, Some, None, Result, Ok, Err}
 use Rattle.std.specs.Prelude.{MatchOption, MatchResult, OnOk, IfErr, option_map}
 use Rattle.std.proofs.lemmas.List.{take_all}
 use Rattle.std.proofs.lemmas.List.Elements.{All-nil}
@@ -7,9 +7,8 @@ use Rattle.stl_syntax.specs.Formula.{Formula}
 use Rattle.stl_syntax.specs.Trace.{Row, Header, Trace, AreRows, last_time}
 use Rattle.stl_syntax.specs.WellFormed.{IsScale}
 use Rattle.stl_syntax.specs.declared.scale.Scale.{Scale}
-use Rattle.trace_reader.specs.TraceText.{Line, lines, Heading, scale_of, TraceOf, AreTraceLines}
+use Rattle.trace_reader.specs.TraceText.{lines, Heading, scale_of, AreTraceLines}
 use Rattle.trace_reader.specs.TraceRefusals.{FaultFrom, IsFirstFault, HasTrace}
-use Rattle.trace_reader.specs.Feeds.{HasNoFeed, rows_after}
 use Rattle.trace_reader.specs.Reader.{Reader, StandsFor, IsNextRow, IsWholeTrace, HasWholeHeader, header_of}
 use Rattle.trace_reader.specs.declared.refusal.Limits.{Limits}
 use Rattle.trace_reader.specs.declared.refusal.TraceRefusal.{TraceRefusal}
@@ -17,10 +16,9 @@ use Rattle.trace_reader.specs.declared.refusal.TraceKind.TheVariants.{NoRows}
 use Rattle.trace_reader.specs.declared.event.Event.TheVariants.{Row as IsARow}
 use Rattle.trace_reader.proofs.LineLemmas.{rest, lines-rest}
 use Rattle.workbench.specs.InputFaults.{Fault, of_trace, IsHeaderAt, IsLack, IsInputFault}
-use Rattle.workbench.specs.Cases.{IsFault, IsLacking, IsCase, IsNoBegin, IsHeaderOf, with_row, Takes, CanKeep}
-use Rattle.workbench.specs.Reading.{IsSound, IsWhole, IsEnded, IsRefused, IsTied, IsKept, HasHeader, IsLastFault, of_header, own}
+use Rattle.workbench.specs.Cases.{IsLacking, IsCase, IsNoBegin, IsHeaderOf, with_row, CanKeep}
+use Rattle.workbench.specs.Reading.{IsEnded, IsRefused, IsTied, IsKept, HasHeader, IsLastFault, of_header, own}
 use Rattle.workbench.specs.declared.case.Case.{Case}
-use Rattle.workbench.specs.declared.fault.TraceFault.TheVariants.{Trace as InTrace}
 use Rattle.workbench.specs.declared.fault.Stop.{Stop}
 use Rattle.workbench.specs.declared.fault.Stop.TheVariants.{Fault as Faulty, Unread, Unwritten, NoMemory}
 use Rattle.workbench.proofs.HeaderLines.{header_once, header_read, header_within, no_rows_in, heading_is, ticks_small}

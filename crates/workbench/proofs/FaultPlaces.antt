@@ -1,14 +1,14 @@
 -- In which line the first fault of a trace stands: after a header that has none before it, and among the lines.
-use Rattle.std.proofs.Common.{◌≡◌, ◌⊎◌, inl, inr, ℕ, suc, ◌+◌, ◌-◌, ◌<◌, ◌≤◌, Bool, true, false, List, [], ◌∷◌, ◌++◌, length, take, refl, sym, ap, ◌∙◌, subst, arith, Option, Some, None}
-use Rattle.std.specs.Prelude.{MatchBool, IsTrue, Err, ◌≢◌}
+use Rattle.std.proofs.Common.{◌≡◌, ◌⊎◌, inl, inr, ℕ, suc, ◌+◌, ◌≤◌, Bool, true, false, List, [], ◌∷◌, length, take, refl, sym, ap, ◌∙◌, subst, arith, Option, Some, None}
+use Rattle.std.specs.Prelude.{MatchBool, IsTrue, ◌≢◌}
 use Rattle.std.proofs.lemmas.Bool.{false≢true}
 use Rattle.stl_syntax.specs.Choice.{◌or_else◌}
 use Rattle.stl_syntax.specs.Trace.{Row}
 use Rattle.stl_syntax.specs.declared.scale.Scale.{Scale}
 use Rattle.trace_reader.specs.TraceText.{Line, is_blank_line, fields, Heading, IsHeading, IsRow, scale_of}
-use Rattle.trace_reader.specs.TraceRefusals.{InLine, InWhole, LineFault, HeaderFault, RowFault, FaultFrom, FaultAfter}
+use Rattle.trace_reader.specs.TraceRefusals.{InLine, LineFault, HeaderFault, RowFault, FaultFrom, FaultAfter}
 use Rattle.trace_reader.specs.LineParts.{whole_line}
-use Rattle.trace_reader.specs.Progress.{Progress, last_of, bad_heading, bad_row}
+use Rattle.trace_reader.specs.Progress.{last_of, bad_heading, bad_row}
 use Rattle.trace_reader.specs.declared.refusal.Limits.{Limits}
 use Rattle.trace_reader.specs.declared.refusal.TraceRefusal.{TraceRefusal}
 use Rattle.trace_reader.specs.declared.refusal.TraceKind.{TraceKind}

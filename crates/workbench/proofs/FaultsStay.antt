@@ -1,13 +1,11 @@
 -- What a header lacks in the first bytes it lacks in all bytes that begin with them.
-use Rattle.std.proofs.Common.{◌≡◌, ℕ, ◌+◌, ◌≤◌, Bool, true, false, List, [], ◌∷◌, ◌++◌, length, take, refl, sym, ap, ◌∙◌, subst, inl, inr}
-use Rattle.std.specs.Prelude.{All}
+use Rattle.std.proofs.Common.{◌≡◌, ℕ, Bool, true, false, List, [], ◌∷◌, ◌++◌, take, refl, sym, ap, ◌∙◌, subst, inl, inr}
 use Rattle.std.proofs.lemmas.Bool.{false≢true}
 use Rattle.std.proofs.lemmas.List.{take-append-le}
 use Rattle.stl_syntax.specs.Formula.{Formula}
 use Rattle.trace_reader.specs.TraceText.{Line, lines, Heading}
-use Rattle.trace_reader.specs.TraceRefusals.{FaultFrom, IsFirstFault}
+use Rattle.trace_reader.specs.TraceRefusals.{FaultFrom}
 use Rattle.trace_reader.specs.declared.refusal.Limits.{Limits}
-use Rattle.trace_reader.specs.declared.refusal.TraceRefusal.{TraceRefusal}
 use Rattle.trace_reader.proofs.FirstFaultStays.{first_fault_stays}
 use Rattle.trace_reader.proofs.LineLemmas.{rest}
 use Rattle.trace_reader.proofs.OpenLines.{parts, lines-now, open_line}

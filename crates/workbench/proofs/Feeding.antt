@@ -1,6 +1,6 @@
 -- What is kept of a trace while its bytes come in.
-use Rattle.std.proofs.Common.{◌≡◌, ◌⊎◌, inl, inr, ℕ, suc, ◌+◌, ◌<◌, ◌≤◌, Bool, true, false, List, [], ◌∷◌, ◌++◌, length, take, drop, refl, sym, ap, ◌∙◌, subst, arith, append_assoc, append-nil, length-append, Option, Some, None}
-use Rattle.std.specs.Prelude.{All, IsTrue, IsSome, option_map}
+use Rattle.std.proofs.Common.{◌≡◌, ◌⊎◌, inl, inr, ℕ, suc, ◌+◌, ◌<◌, ◌≤◌, Bool, false, List, [], ◌∷◌, ◌++◌, length, take, drop, refl, sym, ap, ◌∙◌, subst, arith, append_assoc, append-nil, length-append, Option, Some, None}
+use Rattle.std.specs.Prelude.{All, option_map}
 use Rattle.std.proofs.lemmas.Bool.{false≢true}
 use Rattle.std.proofs.Math.Seq.{take-append_seam}
 use Rattle.stl_syntax.specs.Formula.{Formula}
@@ -18,18 +18,17 @@ use Rattle.trace_reader.specs.declared.refusal.Limits.{Limits}
 use Rattle.trace_reader.specs.declared.refusal.TraceRefusal.{TraceRefusal}
 use Rattle.trace_reader.specs.declared.event.Event.{Event}
 use Rattle.trace_reader.specs.declared.event.Event.TheVariants.{Nothing, Header as IsTheHeader, Row as IsARow}
-use Rattle.trace_reader.proofs.LineLemmas.{done, lines-append}
+use Rattle.trace_reader.proofs.LineLemmas.{lines-append}
 use Rattle.trace_reader.proofs.ReaderTakes.{through_parts}
-use Rattle.workbench.specs.InputFaults.{Fault, of_trace, unknown, unit, IsHeaderAt, IsLack, IsTraceFault, IsInputFault}
-use Rattle.workbench.specs.Cases.{IsFault, IsLacking, IsCase, IsBegun, IsNoBegin, IsHeaderOf, with_row, Takes, CanKeep}
+use Rattle.workbench.specs.InputFaults.{Fault, of_trace, unknown, unit, IsHeaderAt, IsLack, IsInputFault}
+use Rattle.workbench.specs.Cases.{IsLacking, IsBegun, IsNoBegin, IsHeaderOf, with_row, CanKeep}
 use Rattle.workbench.specs.Reading.{IsRefused, IsTied, IsKept}
 use Rattle.workbench.specs.declared.case.Case.{Case}
-use Rattle.workbench.specs.declared.fault.TraceFault.TheVariants.{Trace as InTrace}
 use Rattle.workbench.specs.declared.fault.Stop.{Stop}
 use Rattle.workbench.specs.declared.fault.Stop.TheVariants.{Fault as Faulty, Unread, Unwritten, NoMemory}
 use Rattle.workbench.proofs.HeaderLines.{IsBlank, header_once, header_read as header_of_lines, header_stays, header_within, header_after, ticks_small, heading_is}
 use Rattle.workbench.proofs.FaultPlaces.{IsAtEndOf, after_header, fault_within}
-use Rattle.workbench.proofs.OneLine.{IsOneLine, through_line, closed_line, one_at_most, fed_line, taken_of, left_over}
+use Rattle.workbench.proofs.OneLine.{IsOneLine, through_line, one_at_most, fed_line, taken_of, left_over}
 
 Lacks : Formula → ℕ → Header → Fault → Type 0
 Lacks f n header =

@@ -1,12 +1,12 @@
 -- Where the header stands among the lines of a trace.
-use Rattle.std.proofs.Common.{◌≡◌, ℕ, suc, ◌+◌, ◌<◌, ◌≤◌, Bool, true, false, List, [], ◌∷◌, ◌++◌, length, refl, sym, ap, ◌∙◌, subst, arith, max}
+use Rattle.std.proofs.Common.{◌≡◌, ℕ, suc, ◌<◌, ◌≤◌, true, List, [], ◌∷◌, ◌++◌, length, refl, sym, ap, ◌∙◌, subst, arith, max}
 use Rattle.std.specs.Prelude.{All}
 use Rattle.std.proofs.lemmas.Bool.{false≢true}
 use Rattle.std.proofs.lemmas.List.Elements.{All-head, All-tail}
 use Rattle.stl_syntax.specs.Trace.{Column, Header, Row}
 use Rattle.stl_syntax.specs.WellFormed.{IsScale}
 use Rattle.stl_syntax.specs.declared.scale.Scale.{Scale}
-use Rattle.trace_reader.specs.TraceText.{Line, is_blank_line, fields, Heading, IsHeading, IsDigits, no_digits, with_digits, IsTimeField, time, IsColumn, column, AreColumns, greatest, scale_of, AreTraceLines, blank, heading, AreRowLines, none}
+use Rattle.trace_reader.specs.TraceText.{Line, is_blank_line, fields, Heading, IsHeading, IsDigits, no_digits, with_digits, IsTimeField, time, column, AreColumns, greatest, scale_of, AreTraceLines, blank, heading, none}
 use Rattle.trace_reader.specs.Reader.{header_of, IsBlankSoFar}
 use Rattle.trace_reader.proofs.TraceRefusalLaw.{heading-unique}
 use Rattle.workbench.specs.InputFaults.{IsHeaderAt, here, later}

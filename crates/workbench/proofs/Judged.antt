@@ -1,42 +1,39 @@
 -- The answer of a case: the times of its trace, the signals of its atoms, and what the root's signal tells of the formula.
-use Rattle.std.proofs.Common.{◌≡◌, ℕ, ℤ, zero, suc, ◌+◌, ◌-◌, ◌<◌, ◌≤◌, Bool, true, false, List, [], ◌∷◌, ◌++◌, length, Some, refl, sym, ap, ◌∙◌, subst, arith, length-append, inl}
-use Rattle.std.specs.Prelude.{slice_get, slice_index_or, All, MatchBool}
+use Rattle.std.proofs.Common.{◌≡◌, ℕ, ℤ, zero, suc, ◌+◌, ◌-◌, ◌<◌, ◌≤◌, Bool, true, false, List, [], ◌∷◌, ◌++◌, length, Some, refl, sym, ◌∙◌, subst, arith, length-append, inl}
+use Rattle.std.specs.Prelude.{slice_get, slice_index_or, MatchBool}
 use Rattle.std.proofs.lemmas.List.Elements.{All-push}
-use Rattle.rational.specs.Time.{Rational, Within, closed, ◌≈◌}
+use Rattle.rational.specs.Time.{Rational, closed, ◌≈◌}
 use Rattle.rational.specs.Extended.{Affine, value_at, ◌≈ᵉ◌}
 use Rattle.rational.specs.Affine.{level}
-use Rattle.rational.proofs.Order.{same_refl, same_sym}
+use Rattle.rational.proofs.Order.{same_sym}
 use Rattle.rational.proofs.AffineLemmas.{same_reflᵉ, same_symᵉ}
 use Rattle.rational.proofs.LevelLemmas.{level_is}
 use Rattle.pl_signal.specs.declared.knot.Knot.{Knot}
 use Rattle.pl_signal.specs.Knots as knots
 use Rattle.pl_signal.specs.Moves.{Tells}
+use Rattle.pl_signal.proofs.Values.{some_is}
 use Rattle.value_laws.specs.declared.truth.Truth.{Truth}
 use Rattle.value_laws.specs.Values.{truth_value}
 use Rattle.stl_syntax.specs.Trace.{Row, Trace, AreRowsAfter, AreRows, IsTrace, first_time, last_time, start, stop}
-use Rattle.stl_syntax.specs.Formula.{Formula, root, subformula}
-use Rattle.stl_syntax.specs.PostOrder.{IsPostOrder}
+use Rattle.stl_syntax.specs.Formula.{Formula, root}
 use Rattle.stl_syntax.specs.Truth.{Truth as Holds}
 use Rattle.stl_syntax.specs.SupInf.{SupInf, HasValues, one, minus_one, truths, truth_setting}
-use Rattle.stl_syntax.specs.Scaling.{scaled}
 use Rattle.stl_syntax.specs.Texts.{start_line, AreVerdictLines, IsStartLine}
 use Rattle.stl_syntax.specs.Verdicts.{Describes}
 use Rattle.stl_syntax.specs.declared.items.Verdict.{Verdict}
 use Rattle.stl_syntax.specs.declared.atom.Atom.{Atom}
 use Rattle.stl_syntax.specs.declared.node.Node.{Node}
 use Rattle.stl_syntax.specs.declared.node.Node.TheVariants.{Atom as Leaf}
-use Rattle.stl_syntax.specs.declared.scale.Scale.{Scale}
 use Rattle.stl_syntax.proofs.LawProofs.{truth_by_values}
-use Rattle.atom_lines.specs.Binding.{IsBound, IsFor}
+use Rattle.atom_lines.specs.Binding.{IsBound}
 use Rattle.atom_lines.specs.AtomSignals.{IsAtomSignal}
-use Rattle.offline_eval.specs.Inputs.{is_atom, atoms_before, IsInput}
+use Rattle.offline_eval.specs.Inputs.{is_atom, IsInput}
 use Rattle.offline_eval.proofs.Places.{atoms_on_atom, atoms_on_other, told_none, told_atom, told_other}
 use Rattle.report.specs.SignalVerdicts.{sign_of}
-use Rattle.report.specs.Report.{Out, check}
 use Rattle.report.proofs.SignalLaw.{signal_describes}
 use Rattle.workbench.specs.declared.case.Case.{Case}
 use Rattle.workbench.specs.Cases.{IsCase}
-use Rattle.workbench.specs.Answers.{HoldsAtStart, IsJudged}
+use Rattle.workbench.specs.Answers.{IsJudged}
 use Rattle.workbench.specs.Judging.{AreAtomsOf, AreNodesOf, IsSignalText}
 
 -- a row for places behind the last one
@@ -102,9 +99,6 @@ at_start [] k h t e = absurd cc
 at_start (l ∷ ks) k h t e =
     let same : l ≡ k = cc in
     subst (λ m. knots.IsWorth truth_function (l ∷ ks) t (sign_of m.point.holds)) same (inl (record { when = e; worth = sign_passes l.point.holds t }))
-
-some_is : {X : Type 0} {x y : X} → Some x ≡ Some y → x ≡ y
-some_is e = cc
 
 -- the root's signal tells the whole formula
 pub root_told : (c : Case) (signals : List (List (Knot Truth))) → AreNodesOf truth_function c signals → 0 < length c.formula.nodes

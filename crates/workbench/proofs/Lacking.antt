@@ -15,7 +15,7 @@ use Rattle.workbench.specs.InputFaults.{Fault, unknown, unit}
 use Rattle.atom_lines.specs.Faults.{IsBindFault}
 use Rattle.atom_lines.specs.declared.tying.BindFault.{BindFault}
 use Rattle.atom_lines.specs.declared.tying.BindFault.TheVariants.{UnknownColumn, Memory}
-use Rattle.workbench.specs.Cases.{stop_of, stop_of_unit, IsNamed, IsNoBegin, IsBegun, IsLacking, IsCase}
+use Rattle.workbench.specs.Cases.{stop_of, stop_of_unit, IsNamed, IsNoBegin, IsBegun, IsLacking}
 use Rattle.workbench.specs.declared.case.Case.{Case}
 use Rattle.workbench.specs.declared.fault.TraceFault.TheVariants.{Unit as InTicks}
 use Rattle.workbench.specs.declared.fault.Stop.TheVariants.{Fault as Faulty}

@@ -1,5 +1,5 @@
 -- The first fault of all bytes: the one that the reader ended with, or what a header without rows lacks.
-use Rattle.std.proofs.Common.{◌≡◌, ℕ, Bool, true, false, List, refl, sym, ap, ◌∙◌, subst, Option, Some, None}
+use Rattle.std.proofs.Common.{◌≡◌, true, false, refl, sym, ap, ◌∙◌, subst, Option, Some, None}
 use Rattle.std.specs.Prelude.{is_some}
 use Rattle.std.proofs.lemmas.Bool.{false≢true}
 use Rattle.stl_syntax.specs.Formula.{Formula}
@@ -9,8 +9,7 @@ use Rattle.trace_reader.specs.TraceText.{Heading}
 use Rattle.trace_reader.specs.Reader.{Reader, header_of, header_read}
 use Rattle.trace_reader.specs.declared.refusal.TraceRefusal.{TraceRefusal}
 use Rattle.trace_reader.specs.declared.refusal.TraceKind.TheVariants.{NoRows}
-use Rattle.workbench.specs.InputFaults.{Fault}
-use Rattle.workbench.specs.Cases.{IsLacking, IsBegun, IsNoBegin}
+use Rattle.workbench.specs.Cases.{IsBegun, IsNoBegin}
 use Rattle.workbench.specs.Reading.{HasHeader, IsLastFault, of_header, own}
 use Rattle.workbench.specs.declared.case.Case.{Case}
 use Rattle.workbench.specs.declared.fault.TraceFault.TheVariants.{Trace as InTrace}

@@ -1,10 +1,9 @@
 -- Bytes of one line at most.
-use Rattle.std.proofs.Common.{◌≡◌, ◌⊎◌, inl, inr, ℕ, suc, ◌+◌, ◌<◌, ◌≤◌, Bool, true, false, List, [], ◌∷◌, ◌++◌, length, take, drop, refl, sym, ap, ◌∙◌, subst, arith, append_assoc, append-nil, take-append-drop, length-append}
-use Rattle.std.specs.Prelude.{All}
+use Rattle.std.proofs.Common.{◌≡◌, ◌⊎◌, inl, inr, ℕ, ◌<◌, ◌≤◌, Bool, false, List, [], ◌∷◌, ◌++◌, length, take, drop, refl, sym, ap, ◌∙◌, subst, arith, append_assoc, append-nil, take-append-drop, length-append}
 use Rattle.std.proofs.lemmas.Bool.{cases_eq, eq-eqb, ne_eqb}
 use Rattle.std.proofs.lemmas.List.{take-append-le, take_all}
 use Rattle.std.proofs.lemmas.List.Elements.{All-nil, All-cons, All-head, All-tail, All-append, All-take}
-use Rattle.trace_reader.specs.TraceText.{Line, lines}
+use Rattle.trace_reader.specs.TraceText.{lines}
 use Rattle.trace_reader.specs.Feeds.{HasNoFeed, through_feed}
 use Rattle.trace_reader.specs.Reader.{EndsWithFeed, feed}
 use Rattle.trace_reader.proofs.LineLemmas.{done, rest, lines-nil, lines-append, lines-rest, lines-line}

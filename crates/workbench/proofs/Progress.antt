@@ -1,12 +1,12 @@
 -- How far the reading of a source has come.
-use Rattle.std.proofs.Common.{◌≡◌, ℕ, suc, ◌+◌, ◌*◌, ◌<◌, ◌≤◌, inl, inr, Bool, true, false, List, [], ◌∷◌, ◌++◌, length, take, refl, sym, ap, ◌∙◌, subst, arith, append-nil, length-append, Some, None, Ok, Err, Result}
+use Rattle.std.proofs.Common.{◌≡◌, ℕ, ◌+◌, ◌<◌, ◌≤◌, inl, inr, Bool, true, false, List, [], ◌++◌, length, take, refl, sym, ap, ◌∙◌, subst, arith, append-nil, length-append, Some, None, Ok, Err, Result}
 use Rattle.std.specs.Prelude.{Option, MatchOption, MatchResult}
 use Rattle.std.specs.Io.KnownBytes.{Consumes, Keeps, IsAtEnd}
 use Rattle.std.proofs.KnownBytes.{Consumes-trans, Consumes-kept}
 use Rattle.std.proofs.lemmas.Bool.{false≢true}
 use Rattle.std.proofs.lemmas.List.{length-take-le}
 use Rattle.stl_syntax.specs.Formula.{Formula}
-use Rattle.stl_syntax.specs.Trace.{Row, Header, Trace}
+use Rattle.stl_syntax.specs.Trace.{Header}
 use Rattle.stl_syntax.specs.WellFormed.{IsScale}
 use Rattle.stl_syntax.specs.declared.scale.Scale.{Scale}
 use Rattle.trace_reader.specs.TraceText.{Line, Heading, lines, AreTraceLines, blank, heading}
@@ -14,7 +14,7 @@ use Rattle.trace_reader.specs.TraceRefusals.{IsFirstFault}
 use Rattle.trace_reader.specs.Reader.{Reader, StandsFor, HasRead}
 use Rattle.trace_reader.specs.declared.refusal.Limits.{Limits}
 use Rattle.trace_reader.proofs.LineLemmas.{lines-nil}
-use Rattle.workbench.specs.InputFaults.{Fault, IsLack, IsInputFault}
+use Rattle.workbench.specs.InputFaults.{IsLack, IsInputFault}
 use Rattle.workbench.specs.Reading.{IsRead, IsReadWhole, IsReadInPart, IsSound, IsStop, IsRefused, IsKept, HasKept, IsTied, IsEnded, IsWhole}
 use Rattle.workbench.specs.declared.case.Case.{Case}
 use Rattle.workbench.specs.declared.fault.Stop.{Stop}

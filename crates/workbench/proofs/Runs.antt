@@ -1,23 +1,21 @@
 -- What follows for a run from how it ends.
-use Rattle.std.proofs.Common.{◌≡◌, ◌≢◌, ◌⊎◌, inl, inr, ℕ, zero, suc, ◌≤◌, Bool, true, false, MatchBool, IsTrue, List, [], ◌∷◌, ◌++◌, length, refl, sym, ap, ◌∙◌, subst, arith, append-nil, Result, Ok, Err, Some, None}
+use Rattle.std.proofs.Common.{◌≡◌, ◌≢◌, ◌⊎◌, inl, inr, ℕ, ◌≤◌, Bool, true, false, MatchBool, List, [], ◌++◌, refl, sym, ap, ◌∙◌, subst, arith, append-nil, Result, Ok, Err, Some, None}
 use Rattle.std.specs.Prelude.{Option, IsErr}
-use Rattle.std.proofs.lemmas.Bool.{false≢true}
 use Rattle.std.proofs.lemmas.List.{append_cancel_left, append_cancel_right}
 use Rattle.std.specs.Io.KnownBytes.{Appends, Consumes, IsAtEnd}
 use Rattle.io_edge.specs.Causes.{Rose}
 use Rattle.stl_syntax.specs.Formula.{Formula}
 use Rattle.stl_syntax.specs.Trace.{Trace}
 use Rattle.stl_grammar.specs.Grammar.{FormulaText}
-use Rattle.stl_grammar.specs.FormulaRefusals.{IsFormulaOf, IsFormulaFault}
+use Rattle.stl_grammar.specs.FormulaRefusals.{IsFormulaOf}
 use Rattle.stl_grammar.proofs.LawProofs.{one_formula}
 use Rattle.report.specs.Report.{Out, check}
 use Rattle.workbench.specs.Words.{AskCheck}
-use Rattle.workbench.specs.InputFaults.{Fault, fault_text, whole_limits, IsInputFault}
+use Rattle.workbench.specs.InputFaults.{Fault, whole_limits, IsInputFault}
 use Rattle.workbench.specs.Answers.{HoldsAtStart, IsJudged}
-use Rattle.workbench.specs.Cases.{IsFault}
-use Rattle.workbench.specs.Reading.{IsRead, IsReadWhole, IsReadFault, IsReadInPart, IsWhole, IsSound, IsStop}
+use Rattle.workbench.specs.Reading.{IsReadWhole, IsReadFault, IsWhole, IsSound, IsStop}
 use Rattle.workbench.specs.Writing.{IsPartWritten}
-use Rattle.workbench.specs.Run.{AreNoForm, AskForBad, AskFor, Took, Got, IsChecked, IsCutOff, IsBadRightly, IsBadWhereDue, IsRefusedRightly, IsRefusedWhereDue, IsAnsweredWhereDue, IsAnsweredRightly, IsCutOffRightly, check_usage, IsErrLine, nothing, no_form, bad_text, first_fault, unread, unwritten, no_memory, IsMessage, IsToldRightly, IsSaid, whole, part, IsWrittenWith, all_of_it, a_part, IsEnding, judged, stopped, status_of, status_of_stop, IsEndLine, IsStopLine, EndsSoundly, IsBadEnd, refused, no_room, IsRun, no_words, no_formula, checked}
+use Rattle.workbench.specs.Run.{AreNoForm, AskForBad, AskFor, Took, Got, IsChecked, IsCutOff, IsBadRightly, IsBadWhereDue, IsRefusedRightly, IsRefusedWhereDue, IsAnsweredWhereDue, IsAnsweredRightly, IsCutOffRightly, IsErrLine, nothing, no_form, bad_text, first_fault, unread, unwritten, no_memory, IsMessage, IsToldRightly, IsSaid, whole, part, IsWrittenWith, all_of_it, a_part, IsEnding, judged, stopped, status_of, status_of_stop, IsEndLine, IsStopLine, EndsSoundly, IsBadEnd, refused, no_room, IsRun, no_words, no_formula, checked}
 use Rattle.workbench.specs.declared.case.Case.{Case}
 use Rattle.workbench.specs.declared.fault.Stop.{Stop}
 use Rattle.workbench.specs.declared.fault.Stop.TheVariants.{Fault as Faulty, Unread, Unwritten, NoMemory}

@@ -1,12 +1,12 @@
 -- Bytes without a fault are few: their lines are short, and not many.
-use Rattle.std.proofs.Common.{◌≡◌, ◌⊎◌, inl, inr, ℕ, suc, ◌+◌, ◌*◌, ◌<◌, ◌≤◌, Bool, true, false, List, [], ◌∷◌, length, refl, sym, ◌∙◌, subst, arith, Option, Some, None}
-use Rattle.std.specs.Prelude.{All, MatchBool, IsTrue}
-use Rattle.std.proofs.lemmas.Bool.{false≢true, cases_eq, cases_order}
+use Rattle.std.proofs.Common.{◌≡◌, ◌⊎◌, inl, inr, ℕ, suc, ◌+◌, ◌*◌, ◌<◌, ◌≤◌, false, List, [], ◌∷◌, length, refl, arith, Option, Some, None}
+use Rattle.std.specs.Prelude.{All, IsTrue}
+use Rattle.std.proofs.lemmas.Bool.{cases_eq, cases_order}
 use Rattle.std.proofs.lemmas.List.Elements.{All-head, All-tail}
 use Rattle.stl_syntax.specs.Trace.{Row, Header}
 use Rattle.stl_syntax.specs.declared.scale.Scale.{Scale}
-use Rattle.trace_reader.specs.TraceText.{Line, lines, is_blank_line, fields, Heading, IsHeading, IsRow, scale_of, AreRowLines, none, unfinished, row, blank as blank_row, AreTraceLines, heading, blank}
-use Rattle.trace_reader.specs.TraceRefusals.{InLine, LineFault, HeaderFault, RowFault, FaultFrom, FaultAfter}
+use Rattle.trace_reader.specs.TraceText.{Line, lines, is_blank_line, Heading, scale_of, AreRowLines, none, unfinished, row, blank as blank_row, AreTraceLines, heading, blank}
+use Rattle.trace_reader.specs.TraceRefusals.{InLine, LineFault, FaultFrom, FaultAfter}
 use Rattle.trace_reader.specs.Reader.{IsBlankSoFar, HasRead}
 use Rattle.trace_reader.specs.declared.refusal.Limits.{Limits}
 use Rattle.trace_reader.specs.declared.refusal.TraceRefusal.{TraceRefusal}

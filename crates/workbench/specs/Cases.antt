@@ -1,5 +1,5 @@
 -- A formula over a header: what the header lacks for it, and the formula bound to it.
-use Rattle.std.specs.Prelude.{◌≡◌, ◌≢◌, ℕ, Bool, List, [], ◌∷◌, ◌++◌, length, ◌<◌, Option, Some, None, option_map, slice_get}
+use Rattle.std.specs.Prelude.{◌≡◌, ℕ, Bool, List, [], ◌∷◌, ◌++◌, length, ◌<◌, Option, Some, None, slice_get}
 use Rattle.stl_syntax.specs.Choice.{◌or_else◌}
 use Rattle.stl_syntax.specs.Formula.{Formula}
 use Rattle.stl_syntax.specs.Scaling.{scaled}

@@ -1,7 +1,5 @@
-use Rattle.std.proofs.Common.{rules, ◌≡◌, ◌+◌, ◌<◌, [], ◌∷◌, ◌++◌, Some, pos, ap, sym, subst, ◌∙◌, arith, OnOk}
-use Rattle.std.specs.Prelude.{slice_get}
+use Rattle.std.proofs.Common.{◌+◌, Some, pos, ap, sym, subst, ◌∙◌, arith}
 use Rattle.std.proofs.lemmas.Result.{on_ok_weaker}
-use Rattle.stl_syntax.specs.declared.node.Node.TheVariants.{Atom as Leaf}
 use Rattle.offline_eval.proofs.Places.{not_atom}
 use Rattle.workbench.specs.Judging.{AreAtomsOf}
 use Rattle.workbench.proofs.Judged.{truth_function, atom_on, other_on}

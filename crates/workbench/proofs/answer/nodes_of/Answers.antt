@@ -1,4 +1,4 @@
-use Rattle.std.proofs.Common.{◌≡◌, pos, sym, ap, subst, refl}
+use Rattle.std.proofs.Common.{pos, sym, ap, subst, refl}
 use Rattle.rational.specs.Time.{whole}
 use Rattle.stl_syntax.specs.SupInf.{truth_setting}
 use Rattle.value_laws.specs.Values.{truth_value}

@@ -1,8 +1,7 @@
 use Rattle.std.proofs.Common.{◌≤◌, ◌≡◌, sym, ap, ◌∙◌, subst, ◌⊎◌, []}
-use Rattle.std.specs.Prelude.{All}
 use Rattle.stl_syntax.specs.Trace.{Header}
 use Rattle.stl_syntax.specs.Scaling.{scaled}
-use Rattle.stl_syntax.specs.Binding.{HasColumns, IsUnitFault}
+use Rattle.stl_syntax.specs.Binding.{IsUnitFault}
 use Rattle.stl_syntax.specs.declared.scale.Scale.{Scale}
 use Rattle.stl_syntax.specs.declared.scale.UnitFault.{UnitFault}
 use Rattle.stl_syntax.specs.declared.scale.UnitFault.TheVariants.{Memory}

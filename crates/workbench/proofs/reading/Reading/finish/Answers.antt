@@ -1,11 +1,10 @@
-use Rattle.std.proofs.Common.{◌≡◌, ◌++◌, ◌∷◌, [], ap, sym, ◌∙◌, subst, Option}
+use Rattle.std.proofs.Common.{◌≡◌, sym, ◌∙◌, subst}
 use Rattle.std.specs.Prelude.{option_map, OnOk}
 use Rattle.stl_syntax.specs.Trace.{Row}
 use Rattle.trace_reader.specs.Feeds.{rows_after}
 use Rattle.trace_reader.specs.Reader.{IsWholeTrace, IsNextRow, HasEndedWith}
 use Rattle.trace_reader.specs.declared.event.Event.{Event}
 use Rattle.workbench.specs.Cases.{CanKeep, with_row}
-use Rattle.workbench.specs.declared.case.Case.{Case}
 use Rattle.workbench.proofs.Ends.{ended_now, ended_row, end_can, has_header, refused_end, kept_last}
 use Rattle.workbench.proofs.reading.Reading.finish.Goals as goal
 

@@ -2,14 +2,13 @@ use Rattle.std.proofs.Common.{false, Option, ◌++◌, take, drop, refl, sym, ap
 use Rattle.std.proofs.lemmas.Result.{err_from_is_err_and}
 use Rattle.std.specs.Prelude.{option_map}
 use Rattle.stl_syntax.specs.Trace.{Row}
-use Rattle.trace_reader.specs.Feeds.{through_feed}
 use Rattle.trace_reader.specs.Reader.{IsFaultOfAll}
 use Rattle.workbench.specs.Cases.{IsNoBegin, IsBegun, CanKeep, with_row}
 use Rattle.trace_reader.specs.declared.refusal.Limits.{Limits}
 use Rattle.workbench.specs.declared.case.Case.{Case}
 use Rattle.workbench.specs.InputFaults.{of_trace}
 use Rattle.workbench.specs.Reading.{IsKept}
-use Rattle.workbench.proofs.Feeding.{HasHeaderLine, HeaderStep, RowStep, refused_push, stop_begin, header_step, row_step, nothing_step, kept_begun, kept_row}
+use Rattle.workbench.proofs.Feeding.{HasHeaderLine, refused_push, stop_begin, header_step, row_step, nothing_step, kept_begun, kept_row}
 use Rattle.workbench.proofs.reading.Reading.step.Goals as goal
 
 pub returns-in-Err-clause-taken : goal.returns-in-Err-clause-taken
