@@ -1,4 +1,3 @@
-pub mod Bounds
 pub mod Along
 pub mod Sound
 pub mod Pointwise

@@ -9,6 +9,7 @@ use Rattle.rational.specs.InPlay.{Step, of_two, IsInPlay, IsWideCrossing}
 use Rattle.rational.proofs.Order.{le_trans, lt_of_le_of_lt, lt_of_lt_of_le, le_of_same, ge_of_same, same_refl}
 use Rattle.rational.proofs.ExtendedLemmas.{opposite_twice}
 use Rattle.rational.proofs.AffineLemmas.{same_reflᵉ}
+use Rattle.rational.proofs.Bounds.{opposite_bounded, least_bounded, greatest_bounded}
 use Rattle.frac128.specs.Value.{value}
 use Rattle.frac128.specs.declared.frac.Frac.{Frac}
 use Rattle.pl_signal.specs.declared.faults.WidePair.TheVariants.{Cross, Value}
@@ -25,7 +26,6 @@ use Rattle.stl_syntax.specs.WideCause.{IsStepOf}
 use Rattle.offline_eval.specs.Making.{TellsOne, TellsTwo, FaultOfTwo, IsFaultOf}
 use Rattle.offline_eval.proofs.InPlay.{crossing_along}
 use Rattle.offline_eval.proofs.Along.{tells_along}
-use Rattle.offline_eval.proofs.Bounds.{opposite_bounded, least_bounded, greatest_bounded}
 use Rattle.pl_signal.proofs.Limits.{worth_bounded}
 
 -- what follows from both facts of an answer
@@ -40,7 +40,7 @@ err_same (Err y) e X h x = subst X (sym h) x
 
 module _ {P : Type 0} (function : P → Affine) where
   pub negated_bounded : (x : List (Knot P)) → IsLimited function x → (t : Rational) (v : Extended) → Negated (IsWorth function x) t v → IsBounded (2 ^ 31) v
-  negated_bounded x l t v w = opposite_bounded v (worth_bounded function x l t (opposite v) w)
+  negated_bounded x l t v w = opposite_bounded (2 ^ 31) v (worth_bounded function x l t (opposite v) w)
 
   pub least_of_bounded : (x y : List (Knot P)) → IsLimited function x → IsLimited function y → (t : Rational) (v : Extended) → LeastOf (IsWorth function x) (IsWorth function y) t v → IsBounded (2 ^ 31) v
   least_of_bounded x y l m t v (a, b, f, g, h) = least_bounded (2 ^ 31) a b v h (worth_bounded function x l t a f) (worth_bounded function y m t b g)

@@ -13,7 +13,7 @@ use Rattle.pl_signal.specs.Knots.{start, stop, HasShape}
 use Rattle.pl_signal.specs.Limits.{IsLimited}
 use Rattle.pl_signal.specs.Moves.{Tells}
 use Rattle.offline_eval.specs.Making.{IsSound, StaysSound, StaySound}
-use Rattle.pl_signal.proofs.Limits.{limited}
+use Rattle.pl_signal.proofs.Limits.{limited, limited_last}
 
 -- the bases that a signal may have whose shapes were moved by at most `reach`
 abbrev pub IsReached : ℕ → ℤ → Type 0
@@ -29,17 +29,13 @@ pub same_within : {a b : Rational} → a ≈ b → IsWithin (2 ^ 34) a → IsWit
 same_within e h = (le_trans h.0 (le_of_same e), le_trans (ge_of_same e) h.1)
 
 module _ {P : Type 0} (function : P → Affine) where
-  limited_stop_from : (k : Knot P) (ks : List (Knot P)) → IsLimited function (k ∷ ks) → IsWithin (2 ^ 34) (stop (k ∷ ks))
-  limited_stop_from k [] l = l.0.when
-  limited_stop_from k (n ∷ ks) l = limited_stop_from n ks l.1
-
   zero_within : IsWithin (2 ^ 34) (whole (pos 0))
   zero_within = (omega arith, omega arith)
 
   -- a limited signal lies within 2^34
   pub ends_within : (x : List (Knot P)) → IsLimited function x → IsWithin (2 ^ 34) (start x) × IsWithin (2 ^ 34) (stop x)
   ends_within [] l = (zero_within, zero_within)
-  ends_within (k ∷ ks) l = (l.0.when, limited_stop_from k ks l)
+  ends_within (k ∷ ks) l = (l.0.when, limited_last function k ks l)
 
   -- a signal over the same domain with bounded values is limited too
   pub limited_along : (F : Function) (x r : List (Knot P)) → IsLimited function x → Tells function F (start x) (stop x) r → ((t : Rational) (v : Extended) → F t v → IsBounded (2 ^ 31) v) → IsLimited function r

@@ -27,8 +27,7 @@ use Rattle.stl_syntax.specs.SupInf.{Setting, SupInf}
 use Rattle.stl_syntax.specs.WideCause.{until_to_end, since_from_start, always_ahead, sup_ahead, inf_behind, sup_behind}
 use Rattle.offline_eval.specs.Making.{HasEnds, IsFit, AreFit, IsFaultOf}
 use Rattle.offline_eval.proofs.Along.{within_same_ends, tells_along}
-use Rattle.rational.proofs.Bounds.{sup_bounded}
-use Rattle.offline_eval.proofs.Bounds.{least_bounded}
+use Rattle.rational.proofs.Bounds.{sup_bounded, least_bounded}
 use Rattle.offline_eval.proofs.InPlay.{ahead_ends, behind_ends, until_along, since_along}
 use Rattle.pl_signal.proofs.Limits.{worth_bounded}
 use Rattle.offline_eval.proofs.Pointwise.{meeting_fault}

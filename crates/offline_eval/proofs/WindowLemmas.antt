@@ -28,8 +28,7 @@ use Rattle.stl_syntax.specs.Limits.{reach_of_bound}
 use Rattle.stl_syntax.specs.WellFormed.{IsInOrder}
 use Rattle.offline_eval.specs.Making.{IsFaultOf}
 use Rattle.offline_eval.proofs.Along.{tells_along, within_same_ends}
-use Rattle.rational.proofs.Bounds.{sup_bounded}
-use Rattle.offline_eval.proofs.Bounds.{inf_bounded}
+use Rattle.rational.proofs.Bounds.{sup_bounded, inf_bounded}
 use Rattle.pl_signal.proofs.Limits.{worth_bounded}
 use Rattle.offline_eval.proofs.Sound.{IsMovedBy}
 use Rattle.offline_eval.proofs.Stretches.{IsOn}

@@ -78,12 +78,31 @@ module _ {P : Type 0} (function : P → Affine) where
   limited [] s w a b = tt
   limited (k ∷ ks) s w a b = limited_from k ks s.each w a.0 b.1
 
+  -- the value and the limits at a limited knot are bounded
+  pub point_bounded : (ks : List (Knot P)) (i : ℕ) (k : Knot P) → IsLimited function ks → slice_get ks i ≡ Some k → IsBounded (2 ^ 31) (value_at (function k.point) (time k))
+  point_bounded [] i k h e = absurd (cc)
+  point_bounded (l ∷ ks) zero k h e = let s : l ≡ k = cc in subst (λ k. IsBounded (2 ^ 31) (value_at (function k.point) (time k))) s h.0.point
+  point_bounded (l ∷ ks) (suc i) k h e = point_bounded ks i k h.1 e
+
+  limits_at : (ks : List (Knot P)) (i : ℕ) (k n : Knot P) → IsLimited function ks → slice_get ks i ≡ Some k → slice_get ks (suc i) ≡ Some n
+      → IsBounded (2 ^ 31) (value_at (function k.after) (time k)) × IsBounded (2 ^ 31) (value_at (function k.after) (time n))
+  limits_at [] i k n h e f = absurd (cc)
+  limits_at (l ∷ []) zero k n h e f = absurd (cc)
+  limits_at (l ∷ m ∷ ks) zero k n h e f = let s : l ≡ k = cc in let r : m ≡ n = cc in
+      subst (λ k. IsBounded (2 ^ 31) (value_at (function k.after) (time k)) × IsBounded (2 ^ 31) (value_at (function k.after) (time n))) s
+      (subst (λ n. IsBounded (2 ^ 31) (value_at (function l.after) (time l)) × IsBounded (2 ^ 31) (value_at (function l.after) (time n))) r h.0.limits)
+  limits_at (l ∷ ks) (suc i) k n h e f = limits_at ks i k n h.1 e f
+
+  pub limits_bounded : (ks : List (Knot P)) (i : ℕ) (k n : Knot P) → IsLimited function ks → slice_get ks i ≡ Some k → slice_get ks (i + 1) ≡ Some n
+      → IsBounded (2 ^ 31) (value_at (function k.after) (time k)) × IsBounded (2 ^ 31) (value_at (function k.after) (time n))
+  limits_bounded ks i k n h e f = let s : i + 1 ≡ suc i = omega arith in limits_at ks i k n h e (subst (λ p. slice_get ks p ≡ Some n) s f)
+
   -- the times of a limited signal are within 2^34
   pub limited_start : (ks : List (Knot P)) → IsSignal function ks → IsLimited function ks → IsWithin (2 ^ 34) (start ks)
   limited_start [] s h = let some = s.some in absurd (omega arith)
   limited_start (k ∷ ks) s h = h.0.when
 
-  limited_last : (k : Knot P) (ks : List (Knot P)) → IsLimited function (k ∷ ks) → IsWithin (2 ^ 34) (stop (k ∷ ks))
+  pub limited_last : (k : Knot P) (ks : List (Knot P)) → IsLimited function (k ∷ ks) → IsWithin (2 ^ 34) (stop (k ∷ ks))
   limited_last k [] h = h.0.when
   limited_last k (n ∷ ks) h = limited_last n ks h.1
 
@@ -91,7 +110,7 @@ module _ {P : Type 0} (function : P → Affine) where
   limited_stop [] s h = let some = s.some in absurd (omega arith)
   limited_stop (k ∷ ks) s h = limited_last k ks h
 
-  signal_one : (ks : List (Knot P)) → IsSignal function ks → HasOneValue (IsWorth function ks)
+  pub signal_one : (ks : List (Knot P)) → IsSignal function ks → HasOneValue (IsWorth function ks)
   signal_one ks s = λ t v w a b. one_value function ks t v w s a b
 
   -- on the gap after a knot the shape there is the part about each time
@@ -105,7 +124,7 @@ module _ {P : Type 0} (function : P → Affine) where
       let F = IsWorth function ks in
       lines_same F f g (signal_one ks s) c.1 (line_on_part F f c.2 (le_of_lt p.below) p.on) (line_on_part F g c.3 (le_of_lt q.below) q.on)
 
-  needed_at : (ks : List (Knot P)) (i : ℕ) (b k n : Knot P) → Each (IsKnot function) ks → slice_get ks i ≡ Some b → slice_get ks (suc i) ≡ Some k → slice_get ks (suc (suc i)) ≡ Some n → ¬ CanBeLeftOut function b k
+  pub needed_at : (ks : List (Knot P)) (i : ℕ) (b k n : Knot P) → Each (IsKnot function) ks → slice_get ks i ≡ Some b → slice_get ks (suc i) ≡ Some k → slice_get ks (suc (suc i)) ≡ Some n → ¬ CanBeLeftOut function b k
   needed_at [] i b k n h e f g = absurd (cc)
   needed_at (l ∷ []) zero b k n h e f g = absurd (cc)
   needed_at (l ∷ m ∷ []) zero b k n h e f g = absurd (cc)

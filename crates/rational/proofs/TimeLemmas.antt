@@ -1,9 +1,16 @@
 -- Moves and multiples of a number do not depend on its pair.
-use Rattle.std.proofs.Common.{◌≡◌, ℕ, ℤ, pos, ◌*◌, ◌⊎◌, arith, ap, sym, ◌∙◌, inl, inr, Bool, true, false, ◌&&◌, IsTrue, refl}
+use Rattle.std.proofs.Common.{◌≡◌, ℕ, ℤ, pos, ◌*◌, ◌≤◌, ◌⊎◌, arith, mul-le-mul_right, ap, sym, ◌∙◌, inl, inr, Bool, true, false, ◌&&◌, IsTrue, refl}
 use Rattle.std.proofs.Props.{props}
 use Rattle.rational.specs.Rational.{part_above, part_below}
 use Rattle.rational.proofs.Order.{lt_or_same_or_gt, not_lt_of_le, le_or_lt, le_refl, le_trans, lt_of_le_of_lt, lt_of_lt_of_le, le_of_lt, le_of_same, ge_of_same, same_sym}
 use Rattle.rational.specs.Time.{Rational, Within, ◌≤ʳ◌, ◌<ʳ◌, ◌≈◌, Interval, IsIn, IsNotEmpty, Precedes, add, whole, shifted, later, times, less, HasTimeBetween}
+
+-- a way leads to the same time or later, and a longer way no less far
+pub later_from : (t : Rational) (k : ℕ) → t ≤ʳ later t k
+later_from t k = record { le = omega arith }
+
+pub later_more : (t : Rational) (j k : ℕ) → j ≤ k → later t j ≤ʳ later t k
+later_more t j k h = record { le = omega (arith, mul-le-mul_right (t.den * t.den) h) }
 
 pub later_le : {t u : Rational} (k : ℕ) → t ≤ʳ u → later t k ≤ʳ later u k
 later_le {t} {u} k h = record { le = omega (arith, h.le) }

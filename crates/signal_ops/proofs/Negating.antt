@@ -3,10 +3,11 @@ use Rattle.std.proofs.Common.{◌≡◌, ℕ, zero, suc, ◌+◌, ◌^◌, inl, 
 use Rattle.std.specs.Prelude.{slice_get}
 use Rattle.rational.specs.Time.{Rational, ◌≈◌}
 use Rattle.rational.specs.Extended.{Extended, ◌≈ᵉ◌, opposite, Affine, value_at}
-use Rattle.rational.specs.Affine.{IsBounded, HasBoundedLevel}
+use Rattle.rational.specs.Affine.{HasBoundedLevel}
 use Rattle.rational.proofs.Order.{ge_of_same, lt_of_le_of_lt, same_refl}
-use Rattle.rational.proofs.AffineLemmas.{same_symᵉ, same_transᵉ, bounded_same, opposite_back, opposite_same}
+use Rattle.rational.proofs.AffineLemmas.{same_symᵉ, same_transᵉ, opposite_back, opposite_same}
 use Rattle.rational.proofs.ExtendedLemmas.{opposite_twice}
+use Rattle.rational.proofs.Bounds.{level_bounded}
 use Rattle.pl_signal.specs.declared.knot.Knot.{Knot}
 use Rattle.pl_signal.specs.Knots.{time, stop, IsWorth, IsSignal}
 use Rattle.pl_signal.specs.Limits.{IsLimited}
@@ -17,9 +18,6 @@ use Rattle.signal_ops.specs.Pointwise.{Negated}
 
 from_opposites : (v w : Extended) → opposite v ≈ᵉ opposite w → v ≈ᵉ w
 from_opposites v w h = let e = opposite_back (opposite v) w h in same_symᵉ w v (rw opposite_twice at e)
-
-pub level_bounded : (n : ℕ) (f : Affine) (t : Rational) → IsBounded n (value_at f t) → HasBoundedLevel n f
-level_bounded n f t h = λ steady u. bounded_same n (value_at f u) (value_at f t) (steady u t) h
 
 module _ {P : Type 0} (function : P → Affine) where
   -- the shapes of a limited signal have bounded levels

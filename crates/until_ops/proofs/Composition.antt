@@ -1,11 +1,11 @@
 -- A bounded `until` is the least of a Sup over its window and of the Infs of the `until` to the end, and a bounded `since` likewise.
-use Rattle.std.proofs.Common.{◌⊎◌, inl, inr, ℕ, ◌+◌, ◌*◌, ◌≤◌, arith, mul-le-mul_right}
+use Rattle.std.proofs.Common.{◌⊎◌, inl, inr, ℕ, ◌+◌, ◌*◌, ◌≤◌, arith}
 use Rattle.std.specs.Prelude.{Option, Some, None, true, IfSome}
 use Rattle.rational.specs.Time.{Rational, ◌≤ʳ◌, ◌<ʳ◌, Within, later}
 use Rattle.rational.specs.Extended.{Extended, ◌≤ᵉ◌, ◌<ᵉ◌, IsLeast, IsSup, IsInf}
 use Rattle.rational.specs.Windows.{Function, Window, Ahead, Behind, IsSupOver, IsInfOver, IsUntil, IsSince, UntilToEnd, SinceFromStart}
 use Rattle.rational.proofs.Order.{le_of_lt, le_or_lt, le_trans, le_refl, not_lt_of_le}
-use Rattle.rational.proofs.TimeLemmas.{later_le}
+use Rattle.rational.proofs.TimeLemmas.{later_le, later_from, later_more}
 use Rattle.rational.proofs.ExtendedLemmas.{le_totalᵉ, clashᵉ, le_reflᵉ, le_transᵉ, lt_of_lt_of_leᵉ, lt_of_le_of_ltᵉ, least_of}
 
 -- a value below the least of two is below both, and one below both is below it
@@ -176,13 +176,6 @@ at_later t = omega arith
 later_zero : (t : Rational) → later t 0 ≤ʳ t
 later_zero t = omega arith
 
-before_later : (t : Rational) (k : ℕ) → t ≤ʳ later t k
-before_later t k = omega arith
-
-later_rises : (t : Rational) (j k : ℕ) → j ≤ k → later t j ≤ʳ later t k
-later_rises t j k h = omega (arith, mul-le-mul_right (t.den * t.den) h)
-
--- t, and k before it
 abbrev earlier : Rational → ℕ → Rational
 earlier t k = record { up = t.up; down = t.down + k * t.den; den = t.den; positive = t.positive }
 
@@ -222,8 +215,8 @@ until_is_composed lowest highest P Q from to t a b o inside order low infs value
 
     lies : later t a ≤ʳ to → Lies lowest highest P Q Within W Near (λ s u. Within s to u) t (later t a)
     lies h = record {
-      at_start = record { inside = inside; begins = later_zero t; ends = before_later t a };
-      at_begin = record { inside = record { above = le_trans inside.above (before_later t a); below = h }; begins = later_rises t 0 a (omega arith); ends = le_refl (later t a) };
+      at_start = record { inside = inside; begins = later_zero t; ends = later_from t a };
+      at_begin = record { inside = record { above = le_trans inside.above (later_from t a); below = h }; begins = later_more t 0 a (omega arith); ends = le_refl (later t a) };
       beyond = λ s u n w. record { above = le_trans n.ends w.begins; below = w.inside.below };
       sub = λ s u v n w k. record { above = le_trans (in_time s n) k.above; below = k.below };
       first = λ s u n k. record { above = le_refl s; below = k.above };
@@ -237,7 +230,7 @@ until_is_composed lowest highest P Q from to t a b o inside order low infs value
 
         by_end : (u w : Rational) → W u → Within (later t a) to w → (w ≤ʳ later t b) ⊎ (later t b <ʳ w)
             → W w ⊎ ((v : Rational) → Within (later t a) u v → Within (later t a) w v)
-        by_end u w k l (inl m) = inl (record { inside = record { above = le_trans inside.above (le_trans (before_later t a) l.above); below = l.below }; begins = l.above; ends = m })
+        by_end u w k l (inl m) = inl (record { inside = record { above = le_trans inside.above (le_trans (later_from t a) l.above); below = l.below }; begins = l.above; ends = m })
         by_end u w k l (inr m) = inr (λ v n. record { above = n.above; below = le_trans n.below (le_trans k.ends (le_of_lt m)) })
 
     has : Has lowest highest P Q Within W Near (λ s u. Within s to u) t (later t a)
@@ -293,7 +286,7 @@ since_is_composed lowest highest P Q from to t a b o inside order low infs value
 
     lies : from ≤ʳ m → Lies lowest highest P Q Back W Near Beyond t m
     lies h = record {
-      at_start = record { inside = inside; begins = before_later t a; ends = later_zero t };
+      at_start = record { inside = inside; begins = later_from t a; ends = later_zero t };
       at_begin = record { inside = record { above = h; below = le_trans (earlier_before t a) inside.below }; begins = earlier_later t a; ends = le_trans (later_zero m) (earlier_before t a) };
       beyond = λ s u n w. record { above = w.inside.above; below = le_trans (at_begin u w) (earlier_of_later s t a n.begins) };
       sub = λ s u v n w k. record { above = k.above; below = le_trans k.below (in_time s n) };

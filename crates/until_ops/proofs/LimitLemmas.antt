@@ -1,19 +1,17 @@
 -- Signals with limited values: their shapes on gaps are bounded.
-use Rattle.std.proofs.Common.{◌≡◌, ℕ, zero, suc, ◌+◌, ◌^◌, ◌⊎◌, inl, inr, List, [], ◌∷◌, Some, subst, arith}
+use Rattle.std.proofs.Common.{◌≡◌, ℕ, ◌+◌, ◌^◌, ◌⊎◌, inl, inr, List, Some}
 use Rattle.std.specs.Prelude.{slice_get}
 use Rattle.rational.specs.Time.{Rational, ◌≤ʳ◌, ◌<ʳ◌}
 use Rattle.rational.specs.Extended.{Affine, value_at}
 use Rattle.rational.specs.Affine.{IsBounded, HasBoundedLevel}
 use Rattle.rational.proofs.Order.{le_or_lt, le_refl, le_of_lt, same_of_le}
 use Rattle.rational.proofs.AffineLemmas.{bounded_same, value_same}
-use Rattle.rational.proofs.Bounds.{bounded_between}
+use Rattle.rational.proofs.Bounds.{bounded_between, level_bounded}
 use Rattle.pl_signal.specs.declared.knot.Knot.{Knot}
 use Rattle.pl_signal.specs.Knots.{time, IsSignal}
 use Rattle.pl_signal.specs.Limits.{IsLimited}
 use Rattle.pl_signal.proofs.Values.{next_rises}
-
-pub level_bounded : (n : ℕ) (f : Affine) (t : Rational) → IsBounded n (value_at f t) → HasBoundedLevel n f
-level_bounded n f t h = λ steady u. bounded_same n (value_at f u) (value_at f t) (steady u t) h
+use Rattle.pl_signal.proofs.Limits.{limits_bounded}
 
 -- a function that is bounded at both ends is so between them, ends included
 bounded_upto : (n : ℕ) (f : Affine) (l u r : Rational) → l ≤ʳ u → u ≤ʳ r → IsBounded n (value_at f l) → IsBounded n (value_at f r) → IsBounded n (value_at f u)
@@ -28,24 +26,10 @@ bounded_upto n f l u r h k a b = by_left (le_or_lt u l)
     by_left (inr x) = by_right x (le_or_lt r u)
 
 module _ {P : Type 0} (function : P → Affine) where
-  limits_at : (ks : List (Knot P)) (i : ℕ) (k n : Knot P) → IsLimited function ks → slice_get ks i ≡ Some k → slice_get ks (suc i) ≡ Some n
-      → IsBounded (2 ^ 31) (value_at (function k.after) (time k)) × IsBounded (2 ^ 31) (value_at (function k.after) (time n))
-  limits_at [] i k n h e f = absurd (cc)
-  limits_at (l ∷ []) zero k n h e f = absurd (cc)
-  limits_at (l ∷ m ∷ ks) zero k n h e f =
-      let s : l ≡ k = cc in
-      let r : m ≡ n = cc in
-      subst (λ k. IsBounded (2 ^ 31) (value_at (function k.after) (time k)) × IsBounded (2 ^ 31) (value_at (function k.after) (time n))) s
-      (subst (λ n. IsBounded (2 ^ 31) (value_at (function l.after) (time l)) × IsBounded (2 ^ 31) (value_at (function l.after) (time n))) r h.0.limits)
-  limits_at (l ∷ ks) (suc i) k n h e f = limits_at ks i k n h.1 e f
-
   -- the shape after a knot is bounded up to the next knot
   pub after_small : (ks : List (Knot P)) (i : ℕ) (k n : Knot P) (u : Rational) → IsLimited function ks → slice_get ks i ≡ Some k → slice_get ks (i + 1) ≡ Some n → time k ≤ʳ u → u ≤ʳ time n
       → IsBounded (2 ^ 31) (value_at (function k.after) u)
-  after_small ks i k n u h e f a b = let m = limits_at ks i k n h e (subst (λ j. slice_get ks j ≡ Some n) next f) in bounded_upto (2 ^ 31) (function k.after) (time k) u (time n) a b m.0 m.1
-    where
-      next : i + 1 ≡ suc i
-      next = omega arith
+  after_small ks i k n u h e f a b = let m = limits_bounded function ks i k n h e f in bounded_upto (2 ^ 31) (function k.after) (time k) u (time n) a b m.0 m.1
 
   -- and its level is
   pub after_bounded : (ks : List (Knot P)) (i : ℕ) (k n : Knot P) → IsSignal function ks → IsLimited function ks → slice_get ks i ≡ Some k → slice_get ks (i + 1) ≡ Some n → HasBoundedLevel (2 ^ 31) (function k.after)

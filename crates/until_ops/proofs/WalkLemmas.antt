@@ -9,6 +9,7 @@ use Rattle.rational.specs.InPlay.{IsLineOn, IsBreakpoint, IsCrossing}
 use Rattle.rational.specs.InPlay as I
 use Rattle.rational.proofs.Order.{le_refl, le_of_lt, ge_of_same, le_trans, lt_of_lt_of_le, not_lt_of_le, same_refl, same_sym}
 use Rattle.rational.proofs.AffineLemmas.{bounded_same, same_reflᵉ, same_symᵉ, same_transᵉ, value_same}
+use Rattle.rational.proofs.Bounds.{level_bounded}
 use Rattle.frac128.specs.Value.{value}
 use Rattle.frac128.specs.declared.frac.Frac.{Frac}
 use Rattle.pl_signal.specs.declared.knot.Knot.{Knot}
@@ -20,13 +21,12 @@ use Rattle.until_ops.specs.declared.course.Gap.{Gap}
 use Rattle.until_ops.specs.declared.course.Turn.{Turn}
 use Rattle.until_ops.specs.declared.since.Stand.{Stand}
 use Rattle.pl_signal.specs.Joining.{IsChosen, Joins}
-use Rattle.pl_signal.specs.Limits.{IsLimited}
 use Rattle.pl_signal.specs.Places.{IsPlace}
 use Rattle.until_ops.specs.Courses.{IsPointOf, IsOfGap, IsPlayed, IsCourse, IsTurn, IsGap}
 use Rattle.until_ops.specs.Untils.{SinceOf, BasesOfTwo}
 use Rattle.until_ops.specs.Walks.{AreSides, CrossHere, BreakHere, Stands, rest}
-use Rattle.until_ops.proofs.LimitLemmas.{level_bounded, after_small}
-use Rattle.pl_signal.proofs.Limits.{breakpoint_at, worth_bounded}
+use Rattle.until_ops.proofs.LimitLemmas.{after_small}
+use Rattle.pl_signal.proofs.Limits.{breakpoint_at, worth_bounded, point_bounded}
 use Rattle.pl_signal.proofs.Places.{first_place, earlier_after, not_both, part_on_gap}
 use Rattle.until_ops.proofs.PlayLemmas.{Follows}
 use Rattle.until_ops.proofs.SinceLemmas.{since_is_function, start_value, gap_value, end_value}
@@ -72,10 +72,6 @@ fewer_by_crossing n m i j a b (inr e) (inl f) = omega (arith, e.0, f)
 fewer_by_crossing n m i j a b (inr e) (inr f) = omega (arith, e.0, f.0)
 
 module _ {P : Type 0} (function : P → Affine) where
-  -- a point of a limited signal is bounded
-  point_small : (ks : List (Knot P)) (i : ℕ) (k : Knot P) → IsLimited function ks → slice_get ks i ≡ Some k → IsBounded (2 ^ 31) (value_at (function k.point) (time k))
-  point_small ks i k h e = worth_bounded function ks h (time k) (value_at (function k.point) (time k)) (worth_at function ks i k (time k) e (same_refl (time k)))
-
   module _ (moves : P → Bool) (lowest highest : Extended) (least : (p : P) (t : Rational) → lowest ≤ᵉ value_at (function p) t) (most : (p : P) (t : Rational) → value_at (function p) t ≤ᵉ highest)
       (p q : List (Knot P)) (is_p : IsSignal function p) (is_q : IsSignal function q) (sides : AreSides function p q) where
     -- the first instant
@@ -130,8 +126,8 @@ module _ {P : Type 0} (function : P → Affine) where
 
         small : (v ≡ l.point) ⊎ (v ≡ k.point) → IsBounded (2 ^ 31) (value_at (function v) (time k))
         small (inl f) = subst (λ v. IsBounded (2 ^ 31) (value_at (function v) (time k))) (sym f)
-            (bounded_same (2 ^ 31) (value_at (function l.point) (time k)) (value_at (function l.point) (time l)) (value_same (function l.point) together) (point_small q 0 l sides.right at_l))
-        small (inr f) = subst (λ v. IsBounded (2 ^ 31) (value_at (function v) (time k))) (sym f) (point_small p 0 k sides.left at_k)
+            (bounded_same (2 ^ 31) (value_at (function l.point) (time k)) (value_at (function l.point) (time l)) (value_same (function l.point) together) (point_bounded function q 0 l sides.right at_l))
+        small (inr f) = subst (λ v. IsBounded (2 ^ 31) (value_at (function v) (time k))) (sym f) (point_bounded function p 0 k sides.left at_k)
 
     module _ (built : List (Knot P)) (now : Stand P) (s : Stands function moves lowest highest p q built now) (k l m n : Knot P) (next : Frac) (at : IsAt p q now k l m n next) where
       pub begins_before : value now.at <ʳ value next

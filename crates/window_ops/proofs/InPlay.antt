@@ -13,7 +13,7 @@ use Rattle.rational.proofs.ExtendedLemmas.{le_transᵉ, Sup-unique}
 use Rattle.rational.proofs.Lines.{at_constant}
 use Rattle.rational.proofs.Sups.{sup_same}
 use Rattle.rational.proofs.Lowest.{denominator_unique, denominator_of_mixed}
-use Rattle.rational.proofs.TimeLemmas.{precedes_of_lt, later-add}
+use Rattle.rational.proofs.TimeLemmas.{precedes_of_lt, later-add, later_from}
 use Rattle.rational.proofs.Shift.{le_shift_cancel}
 use Rattle.rational.proofs.Mixed.{mixed_shift}
 use Rattle.std.proofs.lemmas.Int.{ints}
@@ -32,7 +32,7 @@ use Rattle.pl_signal.proofs.Values.{every_time, worth_within, worth_at}
 use Rattle.signal_ops.specs.Pointwise.{IsFault, GreatestOf}
 use Rattle.window_ops.specs.Parts.{AtLowEnd, AtHighEnd, IsKnotTime, IsAbout, AmongKnots, IsLeastOrAmong}
 use Rattle.window_ops.specs.Frozen.{IsKnotFault}
-use Rattle.window_ops.proofs.SupParts.{later_from, later_lt, placed, IsInside}
+use Rattle.window_ops.proofs.SupParts.{later_lt, placed, IsInside}
 use Rattle.window_ops.proofs.MiddleLimits.{agree_same, one_of_two, level_of, level_of_is, ahead, ahead_is, sup_of_nothing, sup_of_one, stop_is_knot, worth_least, about_same, limit_after_start, limit_before_stop, breakpoint, knot_at, knot_time_same, one, followed, left_limit_on_line, right_limit_on_line, no_limit_beyond}
 
 -- u less k

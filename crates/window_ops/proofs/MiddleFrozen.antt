@@ -11,7 +11,6 @@ use Rattle.rational.proofs.AffineLemmas.{same_symᵉ}
 use Rattle.value_laws.proofs.LawProofs.{fixed_is_constant}
 use Rattle.pl_signal.specs.declared.knot.Knot.{Knot}
 use Rattle.pl_signal.specs.Knots.{time, start, HasShape, IsSignal}
-use Rattle.pl_signal.specs.Limits.{IsLimited}
 use Rattle.pl_signal.proofs.Values.{worth_at, stop_at}
 use Rattle.window_ops.specs.Parts.{IsAbout}
 use Rattle.window_ops.specs.Frozen.{AreFrozen, IsGreatestAbout, IsFrozen, IsWideAtKnot}
@@ -32,25 +31,6 @@ module _ {P : Type 0} (function : P → Affine) where
   pub one_bounded : (t : Rational) (p q r : P) → IsBounded (2 ^ 31) (value_at (function p) t) → IsBounded (2 ^ 31) (value_at (function q) t) → (r ≡ p) ⊎ (r ≡ q) → IsBounded (2 ^ 31) (value_at (function r) t)
   one_bounded t p q r h k (inl e) = subst (λ r. IsBounded (2 ^ 31) (value_at (function r) t)) (sym e) h
   one_bounded t p q r h k (inr e) = subst (λ r. IsBounded (2 ^ 31) (value_at (function r) t)) (sym e) k
-
-  -- the value and the limits at a limited knot are bounded
-  pub point_bounded : (ks : List (Knot P)) (i : ℕ) (k : Knot P) → IsLimited function ks → slice_get ks i ≡ Some k → IsBounded (2 ^ 31) (value_at (function k.point) (time k))
-  point_bounded [] i k h e = absurd (cc)
-  point_bounded (l ∷ ks) zero k h e = let s : l ≡ k = cc in subst (λ k. IsBounded (2 ^ 31) (value_at (function k.point) (time k))) s h.0.point
-  point_bounded (l ∷ ks) (suc i) k h e = point_bounded ks i k h.1 e
-
-  limits_at : (ks : List (Knot P)) (i : ℕ) (k n : Knot P) → IsLimited function ks → slice_get ks i ≡ Some k → slice_get ks (suc i) ≡ Some n
-      → IsBounded (2 ^ 31) (value_at (function k.after) (time k)) × IsBounded (2 ^ 31) (value_at (function k.after) (time n))
-  limits_at [] i k n h e f = absurd (cc)
-  limits_at (l ∷ []) zero k n h e f = absurd (cc)
-  limits_at (l ∷ m ∷ ks) zero k n h e f = let s : l ≡ k = cc in let r : m ≡ n = cc in
-      subst (λ k. IsBounded (2 ^ 31) (value_at (function k.after) (time k)) × IsBounded (2 ^ 31) (value_at (function k.after) (time n))) s
-      (subst (λ n. IsBounded (2 ^ 31) (value_at (function l.after) (time l)) × IsBounded (2 ^ 31) (value_at (function l.after) (time n))) r h.0.limits)
-  limits_at (l ∷ ks) (suc i) k n h e f = limits_at ks i k n h.1 e f
-
-  pub limits_bounded : (ks : List (Knot P)) (i : ℕ) (k n : Knot P) → IsLimited function ks → slice_get ks i ≡ Some k → slice_get ks (i + 1) ≡ Some n
-      → IsBounded (2 ^ 31) (value_at (function k.after) (time k)) × IsBounded (2 ^ 31) (value_at (function k.after) (time n))
-  limits_bounded ks i k n h e f = let s : i + 1 ≡ suc i = omega arith in limits_at ks i k n h e (subst (λ p. slice_get ks p ≡ Some n) s f)
 
   module _ (ks : List (Knot P)) (signal : IsSignal function ks) where
     one_about : (u : Rational) (x y v : Extended) → IsAbout function ks u x → IsAbout function ks u y → IsGreatest x y v → IsAbout function ks u v

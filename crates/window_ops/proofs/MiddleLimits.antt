@@ -20,7 +20,7 @@ use Rattle.pl_signal.specs.declared.knot.Knot.{Knot}
 use Rattle.pl_signal.specs.Knots.{time, Each, IsKnot, IsSignal, IsWorth, CanBeLeftOut}
 use Rattle.pl_signal.specs.Knots as K
 use Rattle.pl_signal.proofs.Values.{worth_at, worth_within, worth_same, one_value, next_rises, stop_at}
-use Rattle.pl_signal.proofs.Limits.{gap_line}
+use Rattle.pl_signal.proofs.Limits.{gap_line, needed_at}
 use Rattle.window_ops.specs.Parts.{IsKnotTime, IsAbout}
 
 -- two functions that agree on an open interval are one
@@ -157,16 +157,6 @@ module _ {P : Type 0} (function : P → Affine) where
   about_same ks u v w e (inr (inl h)) = inr (inl (record { a = h.a; above = h.above; line = h.line; on = h.on; value = same_transᵉ w v (value_at h.line u) (same_symᵉ v w e) h.value }))
   about_same ks u v w e (inr (inr h)) = inr (inr (record { b = h.b; below = h.below; line = h.line; on = h.on; value = same_transᵉ w v (value_at h.line u) (same_symᵉ v w e) h.value }))
 
-  -- a knot between two others is needed
-  needed_at : (ks : List (Knot P)) (i : ℕ) (k n m : Knot P) → Each (IsKnot function) ks → slice_get ks i ≡ Some k → slice_get ks (suc i) ≡ Some n → slice_get ks (suc (suc i)) ≡ Some m → ¬ CanBeLeftOut function k n
-  needed_at [] i k n m each h j l = absurd (cc)
-  needed_at (x ∷ []) zero k n m each h j l = absurd (cc)
-  needed_at (x ∷ y ∷ []) zero k n m each h j l = absurd (cc)
-  needed_at (x ∷ y ∷ z ∷ xs) zero k n m each h j l =
-      let first : x ≡ k = cc in let second : y ≡ n = cc in
-      subst (λ k. ¬ CanBeLeftOut function k n) first (subst (λ n. ¬ CanBeLeftOut function x n) second each.0.needed)
-  needed_at (x ∷ xs) (suc i) k n m each h j l = needed_at xs i k n m each.1 h j l
-
   first_time : (ks : List (Knot P)) (k : Knot P) (u : Rational) → slice_get ks 0 ≡ Some k → u ≈ time k → u ≈ K.start ks
   first_time [] k u h e = absurd (cc)
   first_time (l ∷ ks) k u h e = let s : l ≡ k = cc in subst (λ l. u ≈ time l) (sym s) e
@@ -228,7 +218,7 @@ module _ {P : Type 0} (function : P → Affine) where
     -- a knot is a breakpoint
     not_affine : (i : ℕ) (k n m : Knot P) (u : Rational) → slice_get ks i ≡ Some k → slice_get ks (i + 1) ≡ Some n → slice_get ks (i + 2) ≡ Some m → u ≈ time n
         → (line : Affine) → ¬ IsPart (IsWorth function ks) u line
-    not_affine i k n m u h j l e line part = needed_at ks i k n m signal.each h (subst (λ p. slice_get ks p ≡ Some n) one_more j) (subst (λ p. slice_get ks p ≡ Some m) two_more l) (record {
+    not_affine i k n m u h j l e line part = needed_at function ks i k n m signal.each h (subst (λ p. slice_get ks p ≡ Some n) one_more j) (subst (λ p. slice_get ks p ≡ Some m) two_more l) (record {
       here = same_transᵉ (value_at (function k.after) (time n)) (value_at (function k.after) u) (value_at (function n.point) (time n)) (value_same (function k.after) (same_sym e))
           (same_transᵉ (value_at (function k.after) u) (value_at (function n.point) u) (value_at (function n.point) (time n)) at_u (value_same (function n.point) e));
       on = λ t. same_transᵉ (value_at (function k.after) t) (value_at line t) (value_at (function n.after) t) (same_symᵉ (value_at line t) (value_at (function k.after) t) (before t)) (after t);

@@ -11,13 +11,13 @@ use Rattle.rational.proofs.Shift.{same_shift, le_whole}
 use Rattle.rational.proofs.Field.{le_add}
 use Rattle.std.specs.Int.{w64}
 use Rattle.std.proofs.lemmas.Int.{ints}
-use Rattle.rational.proofs.TimeLemmas.{later-add, later_le}
+use Rattle.rational.proofs.TimeLemmas.{later-add, later_le, later_from}
 use Rattle.rational.proofs.Mixed.{fits_of_within}
 use Rattle.pl_signal.specs.declared.knot.Knot.{Knot}
 use Rattle.pl_signal.specs.Knots.{time, start, stop, IsSignal}
 use Rattle.pl_signal.proofs.Values.{next_rises, rising_places}
 use Rattle.pl_signal.proofs.Moving.{shift_forth, at_knot_within, first_is}
-use Rattle.window_ops.proofs.SupParts.{later_from, later_lt}
+use Rattle.window_ops.proofs.SupParts.{later_lt}
 use Rattle.window_ops.specs.Passing.{HasPassed, HasMet, IsAfter, IsNext}
 
 pub later_strict : {t u : Rational} (k : ℕ) → t <ʳ u → later t k <ʳ later u k

@@ -7,13 +7,12 @@ use Rattle.rational.specs.Affine.{IsBounded, HasBoundedLevel}
 use Rattle.rational.specs.Windows.{Function, Window, Ahead, Behind}
 use Rattle.rational.specs.InPlay.{Step, window_ahead, window_behind, IsLeftLimit, IsRightLimit, IsEndPart, IsEndBehind, IsValueWithin, IsLimitWithin, IsInPlay, IsWideCrossing, IsWideValue}
 use Rattle.rational.proofs.AffineLemmas.{same_symᵉ, same_transᵉ, bounded_same}
-use Rattle.rational.proofs.Bounds.{HasBounded, right_limit_bounded, left_limit_bounded}
+use Rattle.rational.proofs.Bounds.{HasBounded, right_limit_bounded, left_limit_bounded, level_bounded}
 use Rattle.frac128.specs.Value.{value}
 use Rattle.pl_signal.specs.declared.faults.WidePair.TheVariants.{Cross, Value}
 use Rattle.pl_signal.specs.declared.faults.OpFault.{OpFault}
 use Rattle.pl_signal.specs.declared.faults.OpFault.TheVariants as F
 use Rattle.pl_signal.specs.Wide.{HasCause}
-use Rattle.signal_ops.proofs.Negating.{level_bounded}
 use Rattle.window_ops.specs.Negated.{HaveBoundedLevels, IsNegated}
 use Rattle.window_ops.proofs.NegateFunctions.{AreOpposite, ahead_in_play, behind_in_play, crossing_opposite, wide_value_opposite}
 use Rattle.value_laws.specs.Laws.{IsOpposite}

@@ -27,10 +27,7 @@ sup_by_candidates r above close s = record {
   reached = λ w h k. let c = s.reached w h k in close c.0 w c.1 c.2;
 }
 
--- a way leads to the same time or later, and a longer way leads later
-pub later_from : (t : Rational) (k : ℕ) → t ≤ʳ later t k
-later_from t k = record { le = omega arith }
-
+-- a longer way leads later
 pub later_lt : (t : Rational) (a b : ℕ) → a < b → later t a <ʳ later t b
 later_lt t a b h = let m = mul-lt-mul_of_pos_right (mul-lt-mul_of_pos_right h t.positive) t.positive in record { lt = omega (arith, m) }
 

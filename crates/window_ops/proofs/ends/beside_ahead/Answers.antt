@@ -8,7 +8,7 @@ use Rattle.rational.specs.Extended.{◌≈ᵉ◌, Affine}
 use Rattle.rational.specs.Windows.{Function}
 use Rattle.rational.proofs.Order.{le_refl, le_trans, le_of_same, ge_of_same, lt_of_lt_of_le, not_lt_of_le, same_sym, same_trans}
 use Rattle.rational.proofs.AffineLemmas.{same_reflᵉ, bounded_same}
-use Rattle.rational.proofs.TimeLemmas.{later_le}
+use Rattle.rational.proofs.TimeLemmas.{later_le, later_from}
 use Rattle.rational.proofs.Mixed.{fits_of_within, within_same}
 use Rattle.frac128.specs.Value.{value}
 use Rattle.pl_signal.specs.declared.knot.Knot.{Knot}
@@ -17,7 +17,6 @@ use Rattle.pl_signal.specs.Moves.{Tells, BasesFrom}
 use Rattle.pl_signal.proofs.Telling.{IsFunction}
 use Rattle.window_ops.specs.Ends.{Beside}
 use Rattle.window_ops.proofs.EndsSups.{beside_is_function, beside_bounded, beside_after}
-use Rattle.window_ops.proofs.SupParts.{later_from}
 use Rattle.window_ops.proofs.EndsAhead.{bound_is, domain_within, moved_within, moved_is, later_same, not_before, start_to_stop, tells_ahead, limited_by, tells_value, ahead_is_function, bases_moved, room_of}
 use Rattle.window_ops.proofs.ends.beside_ahead.Goals as goal
 

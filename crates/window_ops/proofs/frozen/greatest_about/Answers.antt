@@ -6,8 +6,9 @@ use Rattle.rational.specs.Affine.{IsBounded}
 use Rattle.pl_signal.specs.Knots.{time}
 use Rattle.pl_signal.proofs.Values.{shape_at, shape_after}
 use Rattle.pl_signal.proofs.Moving.{limited_at}
+use Rattle.pl_signal.proofs.Limits.{point_bounded, limits_bounded}
 use Rattle.window_ops.specs.Frozen.{IsGreatestAbout}
-use Rattle.window_ops.proofs.MiddleFrozen.{one_shape, one_bounded, point_bounded, limits_bounded, greatest_at_last, greatest_inside}
+use Rattle.window_ops.proofs.MiddleFrozen.{one_shape, one_bounded, greatest_at_last, greatest_inside}
 use Rattle.window_ops.proofs.frozen.greatest_about.Goals as goal
 
 place_after : (i : ℕ) → 0 < i → i ≡ i - 1 + 1
