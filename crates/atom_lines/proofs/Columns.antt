@@ -8,19 +8,12 @@ use Rattle.rational.specs.Time.{Rational, ◌≤ʳ◌, ◌<ʳ◌, ◌≈◌, who
 use Rattle.rational.specs.Rational.{part_above, part_below}
 use Rattle.rational.specs.Line.{at}
 use Rattle.rational.proofs.Mixed.{parts}
-use Rattle.rational.proofs.Order.{le_trans, lt_of_le_of_lt, le_of_same, ge_of_same, same_refl, same_sym, same_trans}
-use Rattle.rational.proofs.Lines.{same_at}
+use Rattle.rational.proofs.Order.{le_trans, lt_of_le_of_lt, le_of_same, ge_of_same, same_refl, same_sym}
 use Rattle.rational.proofs.Ways.{on_way, passed, way_starts}
 use Rattle.rational.proofs.TimeLemmas.{less_in, less_no}
 use Rattle.stl_syntax.specs.Trace.{Column, Row, Trace, AreRows, AreRowsAfter, row_time, value, line_between, piece, value_from, column_value, value_among, value_of}
+use Rattle.stl_syntax.proofs.PrefixLaw.{piece_starts}
 use Rattle.atom_lines.specs.Binding.{IsColumn}
-
-starts : (from gap : ℕ) (v w : ℤ) → at (line_between from v gap w) (whole (pos from)) ≈ whole v
-starts from gap v w = record { same = omega arith }
-
-at_start : (step : Bool) (c : ℕ) (r s : Row) (t : Rational) → t ≈ row_time r → piece step c r s t ≈ whole (value r c)
-at_start true c r s t e = same_refl (whole (value r c))
-at_start false c r s t e = same_trans (same_at (line_between r.time (value r c) (s.time - suc r.time) (value s c)) e) (starts r.time (s.time - suc r.time) (value r c) (value s c))
 
 rows_rise : (r s : Row) → r.time < s.time → row_time r <ʳ row_time s
 rows_rise r s h = record { lt = omega arith }
@@ -38,7 +31,7 @@ at_row : (n : ℕ) (step : Bool) (c : ℕ) (r : Row) (rows : List Row) (t : Rati
 at_row n step c r [] t ok e = same_refl (whole (value r c))
 at_row n step c r (s ∷ rows) t ok e =
     let soon : t <ʳ row_time s = lt_of_le_of_lt (le_of_same e) (rows_rise r s ok.0) in
-    rw (less_in t (row_time s) soon) (at_start step c r s t e)
+    rw (less_in t (row_time s) soon) (piece_starts step c r s t e)
 
 from_at_row : (n : ℕ) (step : Bool) (c : ℕ) (r : Row) (rows : List Row) (k : ℕ) (q : Row) (t : Rational) → AreRowsAfter n r.time rows → slice_get (r ∷ rows) k ≡ Some q
     → t ≈ row_time q → value_from step c r rows t ≈ whole (value q c)

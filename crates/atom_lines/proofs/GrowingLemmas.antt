@@ -10,7 +10,7 @@ use Rattle.rational.specs.Extended.{Extended, Affine, value_at, Passes, finite, 
 use Rattle.rational.specs.Affine.{level}
 use Rattle.rational.proofs.Order.{le_of_same, ge_of_same, le_trans, lt_of_lt_of_le, lt_of_le_of_lt, lt_trans, same_trans, same_sym, le_of_lt}
 use Rattle.rational.proofs.Shift.{lt_whole}
-use Rattle.rational.proofs.Mixed.{within_same, within_whole}
+use Rattle.rational.proofs.Mixed.{within_whole, tick_within}
 use Rattle.rational.proofs.AffineLemmas.{same_symᵉ, same_transᵉ, bounded_same}
 use Rattle.rational.proofs.LevelLemmas.{level_is}
 use Rattle.frac128.specs.Value.{value}
@@ -49,10 +49,6 @@ use Rattle.atom_lines.proofs.Tellings.{worth_same, gives, given}
 pub truth_worth : (w : Truth) (rel : Rel) (y t : Rational) → compares rel y ≡ w.holds → value_at (level (truth_value w.holds)) t ≈ᵉ worth by_truth rel y
 truth_worth w rel y t e =
     subst (λ b. value_at (level (truth_value w.holds)) t ≈ᵉ finite (whole (truth_value b))) (sym e) (level_is (truth_value w.holds) t)
-
--- the times of rows are within the limits
-pub row_within : {x : Rational} (n : ℕ) → n < 2 ^ 32 → x ≈ whole (pos n) → IsWithin (2 ^ 34) x
-row_within {x} n h e = within_same (2 ^ 34) (same_sym e) (within_whole (2 ^ 34) (pos n) (omega (arith, ints, h)))
 
 pub before_end : {x y : Rational} (g : Gap) → x ≈ whole (pos g.first) → y ≈ whole (pos g.second) → x <ʳ y
 before_end g e h =
@@ -96,7 +92,7 @@ module _ {P : Type 0} (function : P → Affine) (base : P → ℤ) (told : Told)
     signal = on.signal;
     begins = on.begins;
     ends = subst (λ x. x ≈ second) (sym on.ends) h;
-    late = row_within g.second m (subst (λ x. x ≈ second) (sym on.ends) h);
+    late = tick_within g.second m (subst (λ x. x ≈ second) (sym on.ends) h);
     worth = λ t v w. by_part t v ((on.worth t v).0 w);
     bases = λ p s. by_shape p (on.shapes p s);
   }
@@ -130,7 +126,7 @@ module _ {P : Type 0} (function : P → Affine) (base : P → ℤ) (told : Told)
     signal = off.signal;
     begins = off.begins ∙ on.begins;
     ends = subst (λ x. x ≈ second) (sym off.ends) h;
-    late = row_within g.second m (subst (λ x. x ≈ second) (sym off.ends) h);
+    late = tick_within g.second m (subst (λ x. x ≈ second) (sym off.ends) h);
     worth = λ t v w. by_part t v ((off.worth t v).0 w);
     bases = λ p s. inr (b p);
   }
@@ -177,8 +173,8 @@ module _ {P : Type 0} (function : P → Affine) (base : P → ℤ) (told_as : To
     signal = record { some = omega arith; each = (record { rising = tt; needed = tt; ends = refl }, tt) };
     begins = subst (λ n. value at ≈ whole (pos n)) (sym (first_time_at tr.rows (record { time = 0; values = [] }) some)) when;
     ends = when;
-    early = row_within n time is;
-    late = row_within n time is;
+    early = tick_within n time is;
+    late = tick_within n time is;
     small = small;
     bases = by_shape;
     worth = λ a for t v h. by_part a for t v h;

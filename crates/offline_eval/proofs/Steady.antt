@@ -1,14 +1,14 @@
 -- A signal that is one shape over the whole domain.
-use Rattle.std.proofs.Common.{◌≡◌, ◌⊎◌, inl, inr, ℕ, ℤ, pos, neg_ℤ, ◌<ℤ◌, ◌≤ℤ◌, Bool, true, false, ◌<◌, ◌≤◌, ◌^◌, List, [], ◌∷◌, sym, subst, arith}
+use Rattle.std.proofs.Common.{◌≡◌, ◌⊎◌, inl, inr, ℕ, ℤ, pos, ◌<ℤ◌, Bool, true, false, ◌<◌, ◌≤◌, ◌^◌, List, [], ◌∷◌, sym, subst, arith}
 use Rattle.std.proofs.lemmas.Int.{ints}
 use Rattle.rational.specs.Time.{Rational, whole, ◌<ʳ◌, ◌≈◌}
 use Rattle.std.specs.Prelude.{MatchBool}
-use Rattle.rational.specs.Rational.{IsWithin}
 use Rattle.rational.specs.Affine.{IsBounded}
 use Rattle.rational.specs.Extended.{Extended, Affine, value_at, ◌≈ᵉ◌, Passes}
-use Rattle.rational.proofs.Order.{same_trans, same_refl, le_trans, lt_of_le_of_lt, lt_of_lt_of_le, le_of_same, ge_of_same}
-use Rattle.rational.proofs.Shift.{le_whole, lt_whole}
+use Rattle.rational.proofs.Order.{same_trans, same_refl, lt_of_le_of_lt, lt_of_lt_of_le, le_of_same, ge_of_same}
+use Rattle.rational.proofs.Shift.{lt_whole}
 use Rattle.rational.proofs.AffineLemmas.{bounded_same, same_symᵉ, same_transᵉ, value_same}
+use Rattle.rational.proofs.Mixed.{tick_within}
 use Rattle.frac128.specs.Value.{value}
 use Rattle.frac128.specs.declared.frac.Frac.{Frac}
 use Rattle.pl_signal.specs.declared.knot.Knot.{Knot}
@@ -27,15 +27,6 @@ use Rattle.pl_signal.proofs.Telling.{IsFunction, told}
 -- a signal of one instant
 abbrev pub instant : {P : Type 0} → Frac → P → List (Knot P)
 instant at p = record { time = at; point = p; after = p } ∷ []
-
-pub tick_within : {a : Rational} (n : ℕ) → n < 2 ^ 32 → a ≈ whole (pos n) → IsWithin (2 ^ 34) a
-tick_within n h e = (le_trans (le_whole (low n)) (ge_of_same e), le_trans (le_of_same e) (le_whole (high n h)))
-  where
-    low : (n : ℕ) → neg_ℤ (pos (2 ^ 34)) ≤ℤ pos n
-    low n = omega (arith, ints)
-
-    high : (n : ℕ) → n < 2 ^ 32 → pos n ≤ℤ pos (2 ^ 34)
-    high n h = omega (arith, ints, h)
 
 pub tick_order : {a b : Rational} (n m : ℕ) → n < m → a ≈ whole (pos n) → b ≈ whole (pos m) → a <ʳ b
 tick_order {a} {b} n m h e f = lt_of_le_of_lt (le_of_same e) (lt_of_lt_of_le (lt_whole (below n m h)) (ge_of_same f))

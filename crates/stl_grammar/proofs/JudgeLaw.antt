@@ -3,6 +3,7 @@ use Rattle.std.proofs.Common.{◌≡◌, ℕ, ◌+◌, ◌-◌, ◌<◌, ◌≤�
 use Rattle.std.specs.Prelude.{nat_le, nat_lt, ◌||◌, not, Option, Some, None, option_map, IsTrue, MatchBool, codes}
 use Rattle.std.proofs.lemmas.Bool.Decides.{nat_tests}
 use Rattle.std.proofs.lemmas.List.{take_at, length-append, length-drop}
+use Rattle.std.proofs.lemmas.Option.{same_Some}
 use Rattle.stl_syntax.specs.Characters.{is_among}
 use Rattle.stl_syntax.specs.Choice.{◌or_else◌, Where}
 use Rattle.stl_syntax.specs.Names.{is_name}
@@ -301,9 +302,6 @@ none_of : {A : Type 0} (a : A) (b : Bool) (rest : Option A) → (if b then Some 
 none_of a true rest e = absurd (cc)
 none_of a false rest e = (refl, e)
 
-some_same : {A : Type 0} (a b : A) → Some a ≡ Some b → a ≡ b
-some_same a b e = cc
-
 -- a token after tokens that led to the parser's state
 module _ (text rest : List ℕ) (before : List Token) (p : Parse) (c : Code) (t : Token) (at : ℕ) (runs : run before ≡ Some (state_of p)) (fit : IsFit p) (tells : Tells text c t) where
   known : IsKnown text c
@@ -416,7 +414,7 @@ module _ (text rest : List ℕ) (before : List Token) (p : Parse) (c : Code) (t 
     where
       by_bad : (b : Bool) → bad_in p.place c ≡ b → (r : FormulaFault) → (if b then Some (BadNumber at) else if disorder_in p.place c then Some (BoundOrder at) else None) ≡ Some r
           → (Where (IsTrue (is_bad_number before t)) (BadNumber at) or_else Where (IsTrue (is_out_of_order before t)) (BoundOrder at)) r
-      by_bad true e r h = inl (bad ∙ e, sym (some_same _ _ h))
+      by_bad true e r h = inl (bad ∙ e, sym (same_Some _ _ h))
       by_bad false e r h =
           inr (
             passed (IsTrue (is_bad_number before t)) (BadNumber at) (λ x. let y = sym bad ∙ x in cc),
@@ -449,7 +447,7 @@ module _ (text rest : List ℕ) (before : List Token) (p : Parse) (c : Code) (t 
           or_else Where (IsTrue (is_bad_number before t)) (BadNumber at)
           or_else Where (IsTrue (is_out_of_order before t)) (BoundOrder at)) r
       by_step None e r h =
-          inl (stops e, sym (some_same _ _ h) ∙ ap (Expected at) (sym (run_expected before (state_of p) runs ∙ expected_same p.place 0 p refl)))
+          inl (stops e, sym (same_Some _ _ h) ∙ ap (Expected at) (sym (run_expected before (state_of p) runs ∙ expected_same p.place 0 p refl)))
       by_step (Some q) e r h =
           inr (
             passed (¬ MayBegin (t ∷ before)) _ (λ n. n (goes q e).0),

@@ -115,7 +115,7 @@ answers_stay p header r rows tr ended t ok c h = by_more (going_on header r rows
         let after = rows_after header r rows more (rw e at ok) in
         let both = Truth-settled header (length header.columns) r rows more after p t h in rw e both
 
-last_from : (n time : ℕ) (rows : List Row) → AreRowsAfter n time rows → time ≤ last_time time rows
+pub last_from : (n time : ℕ) (rows : List Row) → AreRowsAfter n time rows → time ≤ last_time time rows
 last_from n time [] ok = omega arith
 last_from n time (r ∷ rows) ok = let h = last_from n r.time rows ok.2 in let k = ok.0 in omega arith
 

@@ -12,14 +12,14 @@ use Rattle.stl_syntax.specs.Formula.{Subformula, constant, atom, negation, conju
 use Rattle.stl_syntax.specs.Truth.{sum_at, expression, Truth}
 use Rattle.stl_syntax.specs.declared.atom.Term.{Term}
 use Rattle.stl_syntax.specs.declared.atom.Atom.{Atom}
-use Rattle.rational.proofs.TimeLemmas.{same_times, less_in, less_no, precedes_le}
+use Rattle.rational.proofs.TimeLemmas.{same_times, less_in, less_no, precedes_le, later_more}
 use Rattle.stl_syntax.proofs.TruthLemmas.{compares_same, chosen}
 
 -- a ramp has at its first row that row's value
 ramp_starts : (c : ℕ) (r s : Row) → at (line_between r.time (value r c) (s.time - suc r.time) (value s c)) (row_time r) ≈ whole (value r c)
 ramp_starts c r s = record { same = omega arith }
 
-piece_starts : (step : Bool) (c : ℕ) (r s : Row) (t : Rational) → t ≈ row_time r → piece step c r s t ≈ whole (value r c)
+pub piece_starts : (step : Bool) (c : ℕ) (r s : Row) (t : Rational) → t ≈ row_time r → piece step c r s t ≈ whole (value r c)
 piece_starts true c r s t e = same_refl (whole (value r c))
 piece_starts false c r s t e = same_trans (same_at (line_between r.time (value r c) (s.time - suc r.time) (value s c)) e) (ramp_starts c r s)
 
@@ -102,9 +102,6 @@ module _ (header : Header) (n : ℕ) (r : Row) (rows more : List Row) (ok : AreR
 
   later_later : (t u : Rational) (j k : ℕ) → u ≤ʳ later t j → later u k ≤ʳ later t (j + k)
   later_later t u j k h = record { le = omega (arith, h.le) }
-
-  later_more : (t : Rational) (j k : ℕ) → j ≤ k → later t j ≤ʳ later t k
-  later_more t j k h = record { le = omega (arith, mul-le-mul_right (t.den * t.den) h) }
 
   now : (k : ℕ) (t : Rational) → Known k t → t ≤ʳ whole (pos (last_time r.time rows))
   now k t h = le_trans (record { le = omega (arith, mul-le-mul_right (t.den * t.den) (let z : 0 ≤ k = omega arith in z)) }) h.1

@@ -24,10 +24,6 @@ use Rattle.pl_signal.proofs.Limits.{limited, limited_start, limited_stop, worth_
 use Rattle.until_ops.proofs.BoundLemmas.{since_bounded}
 use Rattle.until_ops.proofs.MirrorLemmas.{RunsBack, about_zero, until_runs_back, until_is_function}
 
--- about 0 a number stays within a limit
-pub mirror_within : (n : ℕ) (t : Rational) → IsWithin n t → IsWithin n (subtract (whole (pos 0)) t)
-mirror_within n t h = within_same n (same_sym (about_zero t)) (within_negate n h)
-
 -- the pair of a domain within 2^34 lies within 2^34
 pub pair_near : {A : Type 0} (n : ℕ) (from to : Rational) (e : OpFault A) → IsWithin n from → IsWithin n to → IsPairWithin from to e → IsPairWithin (whole (neg_ℤ (pos n))) (whole (pos n)) e
 pair_near n from to F.Memory a b h = tt

@@ -2,16 +2,15 @@
 use Rattle.std.proofs.Common.{◌≡◌, ℕ, ◌^◌, ℤ, pos, neg_ℤ, ◌-ℤ◌, ◌+ℤ◌, ◌≤ℤ◌, ◌⊎◌, inl, inr, List, Bool, true, false, IsTrue, refl, sym, ◌∙◌, ap, subst}
 use Rattle.std.specs.Prelude.{Option, Some, None}
 use Rattle.rational.specs.Time.{Rational, ◌≈◌}
-use Rattle.rational.specs.Extended.{Extended, minus_infinity, finite, infinity, ◌≤ᵉ◌, ◌≈ᵉ◌, opposite, Affine, IsSup}
+use Rattle.rational.specs.Extended.{Extended, ◌≤ᵉ◌, ◌≈ᵉ◌, opposite, Affine, IsSup}
 use Rattle.rational.specs.Affine.{IsBounded}
 use Rattle.rational.specs.Windows.{Function, Window, IsSupOver, IsInfOver}
 use Rattle.rational.proofs.Order.{same_refl, same_sym, same_trans}
-use Rattle.rational.proofs.Mixed.{within_negate}
 use Rattle.rational.proofs.ExtendedLemmas.{le_transᵉ, opposite_le', Inf-unique}
 use Rattle.rational.proofs.AffineLemmas.{same_reflᵉ, opposite_same}
 use Rattle.rational.proofs.Sups.{sup_same, inf_of_opposite, inf_value_same}
 use Rattle.rational.proofs.WindowLemmas.{inf_over_alike}
-use Rattle.rational.proofs.Bounds.{sup_bounded}
+use Rattle.rational.proofs.Bounds.{sup_bounded, opposite_bounded}
 use Rattle.pl_signal.specs.declared.knot.Knot.{Knot}
 use Rattle.pl_signal.specs.Knots.{start, stop, IsSignal, IsWorth}
 use Rattle.pl_signal.specs.Limits.{IsLimited}
@@ -27,11 +26,6 @@ use Rattle.window_ops.proofs.NegateFunctions.{AreOpposite, opposite_back}
 
 opposite_twice : (v : Extended) → opposite (opposite v) ≈ᵉ v
 opposite_twice v = opposite_back v (opposite (opposite v)) (same_reflᵉ (opposite (opposite v)))
-
-opposite_bounded : (n : ℕ) (v : Extended) → IsBounded n (opposite v) → IsBounded n v
-opposite_bounded n minus_infinity h = tt
-opposite_bounded n (finite x) h = within_negate n h
-opposite_bounded n infinity h = tt
 
 -- the least value is minus the greatest, where minus the least is not above the greatest and minus the greatest not below the least
 pub ends_opposite : (lowest highest least minus_least greatest minus_greatest : Extended) → least ≈ᵉ lowest → minus_least ≈ᵉ opposite least → minus_least ≤ᵉ highest → greatest ≈ᵉ highest → minus_greatest ≈ᵉ opposite greatest

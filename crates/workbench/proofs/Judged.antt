@@ -14,7 +14,7 @@ use Rattle.pl_signal.specs.Moves.{Tells}
 use Rattle.pl_signal.proofs.Values.{some_is}
 use Rattle.value_laws.specs.declared.truth.Truth.{Truth}
 use Rattle.value_laws.specs.Values.{truth_value}
-use Rattle.stl_syntax.specs.Trace.{Row, Trace, AreRowsAfter, AreRows, IsTrace, first_time, last_time, start, stop}
+use Rattle.stl_syntax.specs.Trace.{Row, Trace, AreRows, IsTrace, first_time, last_time, start, stop}
 use Rattle.stl_syntax.specs.Formula.{Formula, root}
 use Rattle.stl_syntax.specs.Truth.{Truth as Holds}
 use Rattle.stl_syntax.specs.SupInf.{SupInf, HasValues, one, minus_one, truths, truth_setting}
@@ -24,7 +24,7 @@ use Rattle.stl_syntax.specs.declared.items.Verdict.{Verdict}
 use Rattle.stl_syntax.specs.declared.atom.Atom.{Atom}
 use Rattle.stl_syntax.specs.declared.node.Node.{Node}
 use Rattle.stl_syntax.specs.declared.node.Node.TheVariants.{Atom as Leaf}
-use Rattle.stl_syntax.proofs.LawProofs.{truth_by_values}
+use Rattle.stl_syntax.proofs.LawProofs.{truth_by_values, last_from}
 use Rattle.atom_lines.specs.Binding.{IsBound}
 use Rattle.atom_lines.specs.AtomSignals.{IsAtomSignal}
 use Rattle.offline_eval.specs.Inputs.{is_atom, IsInput}
@@ -50,13 +50,9 @@ last_is time (r ∷ []) n h = let e : n ≡ 0 = omega (arith, h) in subst (λ m.
 last_is time (r ∷ s ∷ rows) zero h = absurd (omega (arith, h))
 last_is time (r ∷ s ∷ rows) (suc n) h = last_is r.time (s ∷ rows) n (omega (arith, h))
 
-rising : (width time : ℕ) (rows : List Row) → AreRowsAfter width time rows → time ≤ last_time time rows
-rising width time [] h = omega arith
-rising width time (r ∷ rows) h = let more = rising width r.time rows h.2 in omega (arith, more, h.0)
-
 up_to_last : (width : ℕ) (rows : List Row) → AreRows width rows → first_time rows ≤ last_time 0 rows
 up_to_last width [] h = absurd h
-up_to_last width (r ∷ rows) h = rising width r.time rows h.1
+up_to_last width (r ∷ rows) h = last_from width r.time rows h.1
 
 pub first_to_last : (t : Trace) → IsTrace t → first_time t.rows ≤ last_time 0 t.rows
 first_to_last t ok = up_to_last (length t.header.columns) t.rows ok.rows

@@ -5,7 +5,8 @@ use Rattle.rational.specs.Rational.{IsWithin}
 use Rattle.frac128.specs.Value.{value}
 use Rattle.pl_signal.specs.Knots.{stop, HasShape}
 use Rattle.pl_signal.specs.Moves.{Tells}
-use Rattle.offline_eval.proofs.Steady.{tick_within, tick_order, steady_once, steady_once_shapes, steady_twice, steady_twice_shapes}
+use Rattle.rational.proofs.Mixed.{tick_within}
+use Rattle.offline_eval.proofs.Steady.{tick_order, steady_once, steady_once_shapes, steady_twice, steady_twice_shapes}
 use Rattle.offline_eval.proofs.connectives.steady.Goals as goal
 
 pub step-requires-clause-limited : goal.step-requires-clause-limited

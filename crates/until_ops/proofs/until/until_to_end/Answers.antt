@@ -1,20 +1,21 @@
 use Rattle.std.proofs.Common.{◌^◌}
 use Rattle.rational.proofs.Order.{same_refl, same_sym, same_trans}
 use Rattle.rational.proofs.Field.{same_negate}
+use Rattle.value_laws.proofs.MarginLemmas.{within_opposite}
 use Rattle.pl_signal.specs.Knots.{start, stop, IsWorth}
 use Rattle.pl_signal.proofs.Limits.{limited_start, limited_stop}
 use Rattle.until_ops.specs.Untils.{SinceOf, UntilOf}
 use Rattle.until_ops.proofs.BackLemmas.{cause_back, pair_turned}
-use Rattle.until_ops.proofs.UntilLemmas.{mirror_limited, mirror_starts, mirror_stops, mirror_within, pair_near, runs_back, since_back, since_limited, until_bases, until_told}
+use Rattle.until_ops.proofs.UntilLemmas.{mirror_limited, mirror_starts, mirror_stops, pair_near, runs_back, since_back, since_limited, until_bases, until_told}
 use Rattle.until_ops.proofs.until.until_to_end.Goals as goal
 
 pub mirror-requires-clause-from_within : goal.mirror-requires-clause-from_within
 mirror-requires-clause-from_within g c =
-    mirror_within (2 ^ 34) (stop c.args.p.now) (limited_stop g.P.Shape.function c.args.p.now c.len.ensures.signal c.requires.left)
+    within_opposite (2 ^ 34) (stop c.args.p.now) (limited_stop g.P.Shape.function c.args.p.now c.len.ensures.signal c.requires.left)
 
 pub mirror-requires-2-clause-from_within : goal.mirror-requires-2-clause-from_within
 mirror-requires-2-clause-from_within g c =
-    mirror_within (2 ^ 34) (stop c.args.q.now) (limited_stop g.P.Shape.function c.args.q.now c.len-2.ensures.signal c.requires.right)
+    within_opposite (2 ^ 34) (stop c.args.q.now) (limited_stop g.P.Shape.function c.args.q.now c.len-2.ensures.signal c.requires.right)
 
 pub since_from_start-requires-clause-left : goal.since_from_start-requires-clause-left
 since_from_start-requires-clause-left g c =
@@ -38,11 +39,11 @@ mirror-requires-in-Ok-clause-limited g c =
 
 pub mirror-requires-in-Ok-clause-from_within : goal.mirror-requires-in-Ok-clause-from_within
 mirror-requires-in-Ok-clause-from_within g c =
-    mirror_within (2 ^ 34) (stop c.in-Ok.since) (limited_stop g.P.Shape.function c.in-Ok.since c.in-Ok.ensures.worth.signal (since_limited g.P.Shape.function g.P.Shape.lowest g.P.Shape.highest c.args.p.now c.args.q.now c.in_ok-left.left c.in_ok-right.right c.len.ensures.signal c.len-2.ensures.signal c.in_ok-left.ensures.worth c.in_ok-right.ensures.worth c.in-Ok.since c.in-Ok.ensures.worth (mirror_limited g.P.Shape.function c.args.p.now c.in_ok-left.left c.len.ensures.signal c.in_ok-left.ensures.worth c.requires.left) (mirror_limited g.P.Shape.function c.args.q.now c.in_ok-right.right c.len-2.ensures.signal c.in_ok-right.ensures.worth c.requires.right) g.met.P.Shape.lowest_bounded g.met.P.Shape.highest_bounded))
+    within_opposite (2 ^ 34) (stop c.in-Ok.since) (limited_stop g.P.Shape.function c.in-Ok.since c.in-Ok.ensures.worth.signal (since_limited g.P.Shape.function g.P.Shape.lowest g.P.Shape.highest c.args.p.now c.args.q.now c.in_ok-left.left c.in_ok-right.right c.len.ensures.signal c.len-2.ensures.signal c.in_ok-left.ensures.worth c.in_ok-right.ensures.worth c.in-Ok.since c.in-Ok.ensures.worth (mirror_limited g.P.Shape.function c.args.p.now c.in_ok-left.left c.len.ensures.signal c.in_ok-left.ensures.worth c.requires.left) (mirror_limited g.P.Shape.function c.args.q.now c.in_ok-right.right c.len-2.ensures.signal c.in_ok-right.ensures.worth c.requires.right) g.met.P.Shape.lowest_bounded g.met.P.Shape.highest_bounded))
 
 pub mirror-requires-in-Ok-clause-to_within : goal.mirror-requires-in-Ok-clause-to_within
 mirror-requires-in-Ok-clause-to_within g c =
-    mirror_within (2 ^ 34) (start c.in-Ok.since) (limited_start g.P.Shape.function c.in-Ok.since c.in-Ok.ensures.worth.signal (since_limited g.P.Shape.function g.P.Shape.lowest g.P.Shape.highest c.args.p.now c.args.q.now c.in_ok-left.left c.in_ok-right.right c.len.ensures.signal c.len-2.ensures.signal c.in_ok-left.ensures.worth c.in_ok-right.ensures.worth c.in-Ok.since c.in-Ok.ensures.worth (mirror_limited g.P.Shape.function c.args.p.now c.in_ok-left.left c.len.ensures.signal c.in_ok-left.ensures.worth c.requires.left) (mirror_limited g.P.Shape.function c.args.q.now c.in_ok-right.right c.len-2.ensures.signal c.in_ok-right.ensures.worth c.requires.right) g.met.P.Shape.lowest_bounded g.met.P.Shape.highest_bounded))
+    within_opposite (2 ^ 34) (start c.in-Ok.since) (limited_start g.P.Shape.function c.in-Ok.since c.in-Ok.ensures.worth.signal (since_limited g.P.Shape.function g.P.Shape.lowest g.P.Shape.highest c.args.p.now c.args.q.now c.in_ok-left.left c.in_ok-right.right c.len.ensures.signal c.len-2.ensures.signal c.in_ok-left.ensures.worth c.in_ok-right.ensures.worth c.in-Ok.since c.in-Ok.ensures.worth (mirror_limited g.P.Shape.function c.args.p.now c.in_ok-left.left c.len.ensures.signal c.in_ok-left.ensures.worth c.requires.left) (mirror_limited g.P.Shape.function c.args.q.now c.in_ok-right.right c.len-2.ensures.signal c.in_ok-right.ensures.worth c.requires.right) g.met.P.Shape.lowest_bounded g.met.P.Shape.highest_bounded))
 
 pub returns-in-Ok-clause-worth : goal.returns-in-Ok-clause-worth
 returns-in-Ok-clause-worth g c =

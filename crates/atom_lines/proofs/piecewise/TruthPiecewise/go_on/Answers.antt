@@ -5,11 +5,12 @@ use Rattle.std.proofs.lemmas.Result.{on_ok_weaker}
 use Rattle.rational.specs.Rational.{◌≈◌, ◌<ʳ◌, whole, IsWithin}
 use Rattle.rational.specs.Line.{at}
 use Rattle.rational.proofs.Order.{lt_of_le_of_lt, lt_of_lt_of_le, le_of_same, ge_of_same}
+use Rattle.rational.proofs.Mixed.{tick_within}
 use Rattle.frac128.specs.Value.{value}
 use Rattle.stl_syntax.specs.Truth.{compares}
 use Rattle.atom_lines.specs.Gaps.{along}
 use Rattle.atom_lines.specs.Told.{by_truth}
-use Rattle.atom_lines.proofs.GrowingLemmas.{before_end, row_within, between_within, goes_one, goes_two, truth_worth, zero_base}
+use Rattle.atom_lines.proofs.GrowingLemmas.{before_end, between_within, goes_one, goes_two, truth_worth, zero_base}
 use Rattle.atom_lines.proofs.piecewise.TruthPiecewise.go_on.Goals as goal
 
 pub step-requires-clause-later : goal.step-requires-clause-later
@@ -23,7 +24,7 @@ pub step-requires-in-Split-clause-limited : goal.step-requires-in-Split-clause-l
 step-requires-in-Split-clause-limited c =
     let g = c.args.gap.now in
     let first : g.first < 4294967296 = omega arith in
-    row_within g.first first c.requires.begins
+    tick_within g.first first c.requires.begins
 
 pub step-requires-in-Split-clause-later : goal.step-requires-in-Split-clause-later
 step-requires-in-Split-clause-later c = lt_of_le_of_lt (le_of_same c.requires.begins) c.in-Split.ensures.after_first
