@@ -10,7 +10,7 @@ through-none : (xs : List ℕ) → HasNoFeed xs → through_feed xs ≡ xs
 through-none [] h = refl
 through-none (x ∷ xs) h = rw (ne_eqb x 10 (All-head (λ c. c ≡ 10 → ⊥) x xs h), through-none xs (All-tail (λ c. c ≡ 10 → ⊥) x xs h)) refl
 
-through-at : (xs more : List ℕ) → HasNoFeed xs → through_feed (xs ++ 10 ∷ more) ≡ xs ++ 10 ∷ []
+pub through-at : (xs more : List ℕ) → HasNoFeed xs → through_feed (xs ++ 10 ∷ more) ≡ xs ++ 10 ∷ []
 through-at [] more h = refl
 through-at (x ∷ xs) more h = rw (ne_eqb x 10 (All-head (λ c. c ≡ 10 → ⊥) x xs h), through-at xs more (All-tail (λ c. c ≡ 10 → ⊥) x xs h)) refl
 

@@ -41,11 +41,11 @@ pub after_none : (p : ℕ → Bool) (c : ℕ) (text : List ℕ) → p c ≡ fals
 after_none p c text h = rw h refl
 
 -- a text without commas is one part
-split-none : (xs : List ℕ) → All (λ c. c ≡ 44 → ⊥) xs → split 44 xs ≡ xs ∷ []
+pub split-none : (xs : List ℕ) → All (λ c. c ≡ 44 → ⊥) xs → split 44 xs ≡ xs ∷ []
 split-none [] h = refl
 split-none (x ∷ xs) h = rw (ne_eqb x 44 (All-head (λ c. c ≡ 44 → ⊥) x xs h), split-none xs (All-tail (λ c. c ≡ 44 → ⊥) x xs h)) refl
 
-split-at : (xs ys : List ℕ) → All (λ c. c ≡ 44 → ⊥) xs → split 44 (xs ++ 44 ∷ ys) ≡ xs ∷ split 44 ys
+pub split-at : (xs ys : List ℕ) → All (λ c. c ≡ 44 → ⊥) xs → split 44 (xs ++ 44 ∷ ys) ≡ xs ∷ split 44 ys
 split-at [] ys h = refl
 split-at (x ∷ xs) ys h = rw (ne_eqb x 44 (All-head (λ c. c ≡ 44 → ⊥) x xs h), split-at xs ys (All-tail (λ c. c ≡ 44 → ⊥) x xs h)) refl
 

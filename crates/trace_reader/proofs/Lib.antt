@@ -17,3 +17,4 @@ pub mod ReaderSteps
 pub mod ReaderTakes
 pub mod KindLemmas
 pub mod FirstFaultStays
+pub mod PlainLemmas

@@ -1,6 +1,7 @@
 pub mod TraceText
 pub mod TraceRefusals
 pub mod Sofar
+pub mod Plain
 pub mod Labels
 pub mod Table
 pub mod Feeds

@@ -10,6 +10,7 @@ pub mod laws;
 mod line;
 mod name;
 mod number;
+mod plain;
 mod reading;
 mod refusal;
 mod room;

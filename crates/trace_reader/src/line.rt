@@ -90,6 +90,14 @@ impl Lines {
         Ok(())
     }
 
+    /// Counts a line that is whole.
+    pub(crate) fn pass(&mut self)
+        requires { self.old.begun < 2 ^ 33 }
+        ensures { self.new ≡ record self.old { begun = self.old.begun + 1 } }
+    {
+        self.begun += 1;
+    }
+
     /// Adds bytes to the line.
     pub(crate) fn add(&mut self, part: &[u8])
         requires { length self.old.line + length part.now ≤ 4096 }

@@ -69,11 +69,14 @@ fn go_on(value: u64, digits: &[u8]) -> u64
 }
 
 /// A value with so many zeros more.
-fn scaled(value: u64, places: u8) -> u64
+pub(crate) fn scaled(value: u64, places: u8) -> u64
     requires value { value ≤ 42949672969 }
     requires places { places ≤ 6 }
     ensures { result ≡ value * 10 ^ places }
 {
+    if places == 0 {
+        return value;
+    }
     value * 10u64.pow(u32::from(places))
 }
 
@@ -125,7 +128,7 @@ fn read_ticks(field: &[u8], most: u8, digits: u8) -> Option<Ticks>
 }
 
 /// A size as a value.
-fn value_of(size: u32) -> i32
+pub(crate) fn value_of(size: u32) -> i32
     requires { size ≤ 16777216 }
     ensures value { result ≡ pos size }
     ensures small { nat_abs result ≤ 16777216 }
@@ -134,7 +137,7 @@ fn value_of(size: u32) -> i32
 }
 
 /// The opposite of a size.
-fn opposite_of(size: u32) -> i32
+pub(crate) fn opposite_of(size: u32) -> i32
     requires { size ≤ 16777216 }
     ensures value { result ≡ neg_ℤ (pos size) }
     ensures small { nat_abs result ≤ 16777216 }

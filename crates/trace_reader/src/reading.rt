@@ -13,7 +13,7 @@ pub(crate) struct Reading {
     pub(crate) table: Table,
 }
 
-ghost use Rattle.std.specs.Prelude.{◌≡◌, ◌≢◌, ◌+◌, ◌^◌, ◌<◌, ◌≤◌, ◌++◌, [], ℕ, List, Bool, Some, None, true, false, length, take, IsSome, IfOk, IfErr, OnOk, OnErr};
+ghost use Rattle.std.specs.Prelude.{◌≡◌, ◌≢◌, ◌+◌, ◌^◌, ◌<◌, ◌≤◌, ◌++◌, [], ℕ, List, Bool, Some, None, true, false, length, take, IsSome, IfOk, IfErr, OnOk, OnErr, MatchOption};
 ghost use Rattle.stl_syntax.specs.Trace.{Row as Values};
 ghost use Rattle.trace_reader.specs.Feeds.{through_feed, rows_after};
 ghost use Rattle.trace_reader.specs.Reader.{StandsFor, IsFaultOfAll, HasCome, IsNextRow, header_of};
@@ -23,6 +23,7 @@ impl Reading {
     ghost use Rattle.trace_reader.specs.TraceRefusals.{IsFirstFault};
     ghost use Rattle.trace_reader.specs.declared.refusal.TraceKind.TheVariants.{NoRows};
     ghost use Rattle.trace_reader.specs.Progress.{Judges};
+    ghost use Rattle.trace_reader.specs.Plain.{IsRowTaken};
     ghost use Rattle.trace_reader.specs.Cut.{begun_after, kind_of};
 
     /// Nothing read yet; all memory is reserved.
@@ -118,8 +119,22 @@ impl Reading {
         judged
     }
 
-    /// Takes the bytes up to and with the first LF, or all where there is none.
-    fn take_line(&mut self, limits: &Limits, piece: &[u8]) -> Result<Took, TraceRefusal>
+    /// Takes the line that the piece begins with, where it is a row of plain numbers without a fault. Else nothing changes.
+    fn take_plain(&mut self, limits: &Limits, piece: &[u8]) -> Option<usize>
+        requires { IsWithin limits.now self.old }
+        ensures row { MatchOption result (self.new ≡ self.old) (λ n. IsRowTaken limits.now piece.now n self.old.table self.new.table) }
+        ensures lines { MatchOption result (Unit {0}) (λ _. (self.old.lines.line ≡ []) × (self.new.lines ≡ record { begun = self.old.lines.begun + 1; line = [] }) × (self.new.lines.begun ≤ limits.now.lines)) }
+    {
+        if !self.lines.is_between() || self.lines.begun() >= limits.lines {
+            return None;
+        }
+        let size = self.table.read_plain(limits, piece)?;
+        self.lines.pass();
+        Some(size)
+    }
+
+    /// Looks for the first LF, and takes the bytes up to and with it, or all where there is none.
+    fn find_line(&mut self, limits: &Limits, piece: &[u8]) -> Result<Took, TraceRefusal>
         requires { IsWithin limits.now self.old }
         ensures bytes { IfOk result (λ t. take t.bytes piece.now ≡ through_feed piece.now) }
         ensures size { IfOk result (λ t. (t.bytes ≤ length piece.now) × (0 < length piece.now → 0 < t.bytes)) }
@@ -148,6 +163,30 @@ impl Reading {
                     event,
                 })
             }
+        }
+    }
+
+    /// Takes the bytes up to and with the first LF, or all where there is none.
+    fn take_line(&mut self, limits: &Limits, piece: &[u8]) -> Result<Took, TraceRefusal>
+        requires { IsWithin limits.now self.old }
+        ensures bytes { IfOk result (λ t. take t.bytes piece.now ≡ through_feed piece.now) }
+        ensures size { IfOk result (λ t. (t.bytes ≤ length piece.now) × (0 < length piece.now → 0 < t.bytes)) }
+        ensures came { IfOk result (λ t. HasCome t.event (state limits.now self.old) (state limits.now self.new) (through_feed piece.now)) }
+        ensures ok { IfOk result (λ t. (bytes : List ℕ) (rows : List Values) → StandsFor (state limits.now self.old) bytes rows
+            → StandsFor (state limits.now self.new) (bytes ++ through_feed piece.now) (rows_after t.event rows self.new.table.row)) }
+        ensures within { OnOk result (IsWithin limits.now self.new) }
+        ensures fault { IfErr result (λ x. (bytes : List ℕ) (rows : List Values) → StandsFor (state limits.now self.old) bytes rows
+            → IsFaultOfAll limits.now self.old.table.least (bytes ++ through_feed piece.now) x) }
+        ensures line { IfErr result (λ x. x.line ≡ self.new.lines.begun) }
+        ensures table { OnErr result (self.new.table ≡ record self.old.table { fresh = self.new.table.fresh }) }
+        ensures least { self.new.table.least ≡ self.old.table.least }
+    {
+        match self.take_plain(limits, piece) {
+            Some(bytes) => Ok(Took {
+                bytes,
+                event: Event::Row,
+            }),
+            None => self.find_line(limits, piece),
         }
     }
 

@@ -1,10 +1,12 @@
 use crate::field::{count_fields, cut_field};
 use crate::number::{read_time, read_value};
+use crate::plain::{line_end, plain_time, plain_value};
 use crate::room::Heading;
 use crate::{Row, TraceKind};
 
 impl Heading {
-    ghost use Rattle.std.specs.Prelude.{◌≡◌, ◌≤◌, suc, length, Some, MatchResult};
+    ghost use Rattle.std.specs.Prelude.{◌≡◌, ◌≤◌, suc, length, Some, MatchResult, MatchOption};
+    ghost use Rattle.trace_reader.specs.Plain.{IsPlainRow};
     ghost use Rattle.trace_reader.specs.LineParts.{fields_of};
     ghost use Rattle.trace_reader.specs.TraceRefusals.{NumberFaults};
     ghost use Rattle.trace_reader.specs.RowLines.{IsRowRead, FieldFaults};
@@ -62,5 +64,26 @@ impl Heading {
             });
         }
         Ok(())
+    }
+
+    /// Reads a row of plain numbers that the piece begins with, and answers how many bytes it has with its LF.
+    /// What it does not read may be a row all the same.
+    #[inline(never)]
+    pub(crate) fn read_plain(&self, row: &mut Row, piece: &[u8]) -> Option<usize>
+        ensures { MatchOption result (Unit {0}) (λ n. IsPlainRow self.now piece.now n row.new) }
+    {
+        let scale = self.scale();
+        let first = plain_time(piece, scale.time)?;
+        row.begin(first.time);
+        let mut at = first.len;
+        for _most in self.digits() {
+            if piece[at] != b',' {
+                return None;
+            }
+            let next = plain_value(&piece[at + 1..], scale.value)?;
+            row.add(next.value);
+            at += next.len + 1;
+        }
+        line_end(piece, at)
     }
 }

@@ -31,8 +31,9 @@ impl Model for Table {
 }
 
 impl Table {
-    ghost use Rattle.std.specs.Prelude.{◌≡◌, ◌^◌, ◌<◌, ◌≤◌, [], Some, None, IsSome, IfOk, option_copied, option_map, length, true, false};
+    ghost use Rattle.std.specs.Prelude.{◌≡◌, ◌^◌, ◌<◌, ◌≤◌, [], Some, None, IsSome, IfOk, option_copied, option_map, length, true, false, MatchOption};
     ghost use Rattle.trace_reader.specs.TraceText.{is_blank_line};
+    ghost use Rattle.trace_reader.specs.Plain.{IsRowTaken};
     ghost use Rattle.trace_reader.specs.LineParts.{whole_line};
     ghost use Rattle.trace_reader.specs.Headings.{header_with};
     ghost use Rattle.trace_reader.specs.Progress.{Judges, JudgesHeading, JudgesRow};
@@ -129,5 +130,26 @@ impl Table {
         self.rows.turn();
         self.count += 1;
         Ok(Event::Row)
+    }
+
+    /// Reads a line that the piece begins with, where it is a row of plain numbers without a fault, and answers how many bytes it
+    /// has with its LF. Else nothing changes.
+    pub(crate) fn read_plain(&mut self, limits: &Limits, piece: &[u8]) -> Option<usize>
+        requires most { limits.now.rows ≤ 2 ^ 32 }
+        ensures { MatchOption result (self.new ≡ self.old) (λ n. IsRowTaken limits.now piece.now n self.old self.new) }
+    {
+        if self.count >= limits.rows {
+            return None;
+        }
+        let Some(heading) = &self.heading else {
+            return None;
+        };
+        let size = self.rows.read_plain(heading, piece)?;
+        if self.count != 0 && self.rows.next().time() <= self.rows.last().time() {
+            return None;
+        }
+        self.rows.turn();
+        self.count += 1;
+        Some(size)
     }
 }

@@ -23,6 +23,22 @@ impl Model for Trace {
     ghost invariant = { IsTable };
 }
 
+ghost use Rattle.std.specs.Prelude.{◌≡◌, ◌≤◌, ◌+◌, ◌++◌, length, vec_len, vec_capacity};
+
+/// Adds values for which there is room, one by one: rows are short.
+#[inline(always)]
+fn add_all(values: &mut Vec<i32>, more: &[i32])
+    requires { vec_len values.old + length more.now ≤ vec_capacity values.old }
+    ensures { values.new.items ≡ values.old.items ++ more.now }
+{
+    for value in more {
+        match values.push(*value) {
+            Ok(()) => {}
+            Err(_) => unreachable!(),
+        }
+    }
+}
+
 impl Trace {
     ghost use Rattle.std.specs.Prelude.{◌≡◌, ◌<◌, ◌≤◌, ◌++◌, ◌∷◌, [], length, nat_abs, slice_index_or, OnOk, OnErr};
     ghost use Rattle.stl_syntax.specs.Trace.{Row as Values, value, last_time, IsTrace};
@@ -39,20 +55,18 @@ impl Trace {
     }
 
     /// Adds a row with as many values as the header has columns, later than the rows before it.
+    #[inline(always)]
     pub fn push(&mut self, row: &Row) -> Result<(), Memory>
         requires width { length row.now.values ≡ length self.old.header.columns }
         requires later { 0 < length self.old.rows → last_time 0 self.old.rows < row.now.time }
         ensures ok { OnOk result (self.new ≡ record self.old { rows = self.old.rows ++ row.now ∷ [] }) }
         ensures err { OnErr result (self.new ≡ self.old) }
     {
-        self.times.try_reserve(1).map_err(|_| Memory)?;
-        self.values
-            .extend_from_slice(row.values())
-            .map_err(|_| Memory)?;
-        match self.times.push(row.time()) {
-            Ok(()) => Ok(()),
-            Err(_) => unreachable!(),
-        }
+        let values = row.values();
+        self.values.try_reserve(values.len()).map_err(|_| Memory)?;
+        self.times.push(row.time()).map_err(|_| Memory)?;
+        add_all(&mut self.values, values);
+        Ok(())
     }
 
     /// How many rows there are.

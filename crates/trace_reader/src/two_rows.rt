@@ -19,7 +19,8 @@ impl Model for TwoRows {
 }
 
 impl TwoRows {
-    ghost use Rattle.std.specs.Prelude.{◌≡◌, ◌≤◌, [], length, Some, MatchResult};
+    ghost use Rattle.std.specs.Prelude.{◌≡◌, ◌≤◌, [], length, Some, MatchResult, MatchOption};
+    ghost use Rattle.trace_reader.specs.Plain.{IsPlainRow};
     ghost use Rattle.trace_reader.specs.LineParts.{fields_of};
     ghost use Rattle.trace_reader.specs.RowLines.{IsRowRead, FieldFaults};
 
@@ -71,6 +72,17 @@ impl TwoRows {
             return heading.read_row(&mut self.first, text);
         }
         heading.read_row(&mut self.second, text)
+    }
+
+    /// Reads a row of plain numbers that the piece begins with, and answers how many bytes it has with its LF.
+    pub(crate) fn read_plain(&mut self, heading: &Heading, piece: &[u8]) -> Option<usize>
+        ensures row { MatchOption result (Unit {0}) (λ n. IsPlainRow heading.now piece.now n self.new.next) }
+        ensures last { self.new.last ≡ self.old.last }
+    {
+        if self.turned {
+            return heading.read_plain(&mut self.first, piece);
+        }
+        heading.read_plain(&mut self.second, piece)
     }
 
     /// The row that was read becomes the last one.

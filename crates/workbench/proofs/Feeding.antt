@@ -1,6 +1,6 @@
 -- What is kept of a trace while its bytes come in.
 use Rattle.std.proofs.Common.{◌≡◌, ◌⊎◌, inl, inr, ℕ, suc, ◌+◌, ◌<◌, ◌≤◌, Bool, false, List, [], ◌∷◌, ◌++◌, length, take, drop, refl, sym, ap, ◌∙◌, subst, arith, append_assoc, append-nil, length-append, Option, Some, None}
-use Rattle.std.specs.Prelude.{All, option_map}
+use Rattle.std.specs.Prelude.{All, option_map, MatchOption}
 use Rattle.std.proofs.lemmas.Bool.{false≢true}
 use Rattle.std.proofs.Math.Seq.{take-append_seam}
 use Rattle.stl_syntax.specs.Formula.{Formula}
@@ -115,6 +115,40 @@ refused_push f r case bytes piece x k fault = inr (λ y lack. by_heading r.headi
         by_case : (c : Option Case) → IsTied f (Some h) bytes k.rows c → ⊥
         by_case None t = t
         by_case (Some c) t = no_lack t.2 r.limits false piece y lack
+
+-- the bytes to read next: a line at most where there is no case yet, and else the whole piece
+abbrev pub IsNext : Option Case → List ℕ → List ℕ → Type 0
+IsNext case piece line = MatchOption case (line ≡ through_feed piece) (λ _. line ≡ piece)
+
+-- a refusal of the bytes to read next
+pub refused_next : (f : Formula) (r : Reader) (case : Option Case) (bytes piece line : List ℕ) (x : TraceRefusal) → IsKept f r case bytes → IsNext case piece line
+    → IsFaultOfAll r.limits r.least (bytes ++ line) x → IsInputFault r.limits f (bytes ++ piece) false (of_trace x)
+refused_next f r None bytes piece line x k e fault = refused_push f r None bytes piece x k (subst (λ l. IsFaultOfAll r.limits r.least (bytes ++ l) x) e fault)
+refused_next f r (Some c) bytes piece line x k e fault = inr (λ y lack. by_heading r.heading k.tied y lack, (x, whole_fault, refl))
+  where
+    all : IsFaultOfAll r.limits r.least (bytes ++ piece) x
+    all = subst (λ l. IsFaultOfAll r.limits r.least (bytes ++ l) x) e fault
+
+    whole_fault : IsFirstFault (bytes ++ piece) false r.limits f.scale x
+    whole_fault =
+        subst (λ b. IsFirstFault b false r.limits f.scale x) (append-nil (bytes ++ piece))
+        (subst (λ s. IsFirstFault ((bytes ++ piece) ++ []) false r.limits s x) k.least (all [] false))
+
+    by_heading : (o : Option Heading) → IsTied f o bytes k.rows (Some c) → (y : Fault) → ¬ IsLack r.limits f (bytes ++ piece) false y
+    by_heading None t y lack = absurd (let j = t in cc)
+    by_heading (Some h) t y lack = no_lack t.2 r.limits false piece y lack
+
+-- a front of the bytes to read next is one of the piece
+pub front_same : (case : Option Case) (piece line : List ℕ) (k : ℕ) → IsNext case piece line → k ≤ length line → take k line ≡ take k piece
+front_same None piece line k one within = ap (take k) one ∙ taken_of k piece (subst (λ l. k ≤ length l) one within)
+front_same (Some c) piece line k e within = ap (take k) e
+
+-- where no header was read there is no case, and so a line at most comes next
+pub first_next : (f : Formula) (o : Option Heading) (bytes : List ℕ) (rows : List Row) (case : Option Case) (piece line : List ℕ) → IsTied f o bytes rows case → o ≡ None → IsNext case piece line
+    → line ≡ through_feed piece
+first_next f o bytes rows None piece line t e n = n
+first_next f None bytes rows (Some c) piece line t e n = absurd (let j = t in cc)
+first_next f (Some h) bytes rows (Some c) piece line t e n = absurd (let j = e in cc)
 
 -- the header that came with the last line of some bytes
 pub record HasHeaderLine (limits : Limits) (least : Scale) (bytes : List ℕ) (n : ℕ) (h : Heading) : Type 0 where
@@ -307,27 +341,23 @@ pub record RowStep (old new : Reader) (case : Option Case) (rows : List Row) (by
   pub can : CanKeep case new.row
 
 pub row_step : (f : Formula) (old new : Reader) (case : Option Case) (bytes piece line : List ℕ) (k : ℕ) (event : Event) (kept : IsKept f old case bytes)
-    → line ≡ through_feed piece → k ≤ length line → event ≡ IsARow → HasCome event old new (take k line)
+    → take k line ≡ take k piece → event ≡ IsARow → HasCome event old new (take k line)
     → StandsFor new (bytes ++ take k line) (rows_after event kept.rows new.row) → IsNextRow event new.heading kept.rows new.row → RowStep old new case kept.rows bytes piece k
-row_step f old new case bytes piece line k event kept one within is came stands next = record {
+row_step f old new case bytes piece line k event kept same is came stands next = record {
   same = here.1;
   stands = subst (λ t. StandsFor new (bytes ++ t) (kept.rows ++ new.row ∷ [])) same
       (subst (λ (e : Event). StandsFor new (bytes ++ take k line) (rows_after e kept.rows new.row)) is stands);
   can = can_keep f old case bytes new.heading new.row kept here.1 (subst (λ (e : Event). IsNextRow e new.heading kept.rows new.row) is next);
 }
   where
-    same : take k line ≡ take k piece
-    same = ap (take k) one ∙ taken_of k piece (subst (λ l. k ≤ length l) one within)
-
     here : HasCome IsARow old new (take k line)
     here = subst (λ (e : Event). HasCome e old new (take k line)) is came
 
 -- a push of a line's bytes that came to nothing
 pub nothing_step : (f : Formula) (old new : Reader) (case : Option Case) (bytes piece line : List ℕ) (k : ℕ) (event : Event) (kept : IsKept f old case bytes)
-    → line ≡ through_feed piece → k ≤ length line → event ≡ Nothing → HasCome event old new (take k line)
+    → take k line ≡ take k piece → event ≡ Nothing → HasCome event old new (take k line)
     → StandsFor new (bytes ++ take k line) (rows_after event kept.rows new.row) → new.least ≡ old.least → IsKept f new case (bytes ++ take k piece)
-nothing_step f old new case bytes piece line k event kept one within is came stands least =
-    let same : take k line ≡ take k piece = ap (take k) one ∙ taken_of k piece (subst (λ l. k ≤ length l) one within) in
+nothing_step f old new case bytes piece line k event kept same is came stands least =
     let here : HasCome Nothing old new (take k line) = subst (λ (e : Event). HasCome e old new (take k line)) is came in
     let after = subst (λ (e : Event). StandsFor new (bytes ++ take k line) (rows_after e kept.rows new.row)) is stands in
     kept_on f old new case bytes (take k piece) kept (subst (λ t. StandsFor new (bytes ++ t) kept.rows) same after) least here.0

@@ -86,6 +86,7 @@ pub(crate) fn begin(
 }
 
 /// Adds a row to a case that was begun.
+#[inline(always)]
 pub(crate) fn keep(case: &mut Option<Case>, row: &Row) -> Result<(), Stop>
     requires { CanKeep case.old row.now }
     ensures ok { OnOk result (case.new ≡ option_map (with_row row.now) case.old) }

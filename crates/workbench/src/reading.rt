@@ -25,6 +25,19 @@ fn first_line(piece: &[u8]) -> &[u8]
     }
 }
 
+/// The bytes of a piece to read next: of one line at most, where the header was not read yet. So it is seen before anything of a
+/// later line.
+fn next_bytes<'a>(case: &Option<Case>, piece: &'a [u8]) -> &'a [u8]
+    ensures line { MatchOption case.now (result.now ≡ through_feed piece.now) (λ _. result.now ≡ piece.now) }
+    ensures short { length result.now ≤ length piece.now }
+    ensures some { 0 < length piece.now → 0 < length result.now }
+{
+    if case.is_some() {
+        return piece;
+    }
+    first_line(piece)
+}
+
 /// A reader, and what is kept of the trace that it has read.
 #[derive(Drop)]
 struct Reading {
@@ -33,7 +46,7 @@ struct Reading {
 }
 
 impl Reading {
-    /// Takes some bytes of a piece, of one line at most, and answers how many. So the header is seen before anything of a later line.
+    /// Takes some bytes of a piece, up to the header's line or a row's at most, and answers how many.
     fn step(&mut self, alloc: Global, piece: &[u8], formula: &Formula) -> Result<usize, Stop>
         requires { HasKept formula.now self.old.rows self.old.case }
         ensures taken { (bytes : List ℕ) → IsKept formula.now self.old.rows self.old.case bytes → MatchResult result
@@ -43,7 +56,7 @@ impl Reading {
         ensures progress { MatchResult result (λ n. 0 < length piece.now → 0 < n) (λ _. Unit {0}) }
         ensures limits { self.new.rows.limits ≡ self.old.rows.limits }
     {
-        let took = match self.rows.push(first_line(piece)) {
+        let took = match self.rows.push(next_bytes(&self.case, piece)) {
             Ok(took) => took,
             Err(refusal) => return Err(Stop::Fault(TraceFault::Trace(refusal))),
         };

@@ -1,81 +1,48 @@
--- A piece up to its first LF, or the whole of it.
-use Rattle.std.proofs.Common.{◌++◌, length, take, subst, sym, ◌∙◌, arith}
-use Rattle.std.proofs.lemmas.Result.{err_from_is_err_and}
-use Rattle.std.proofs.lemmas.List.{take_all}
-use Rattle.trace_reader.specs.Feeds.{rows_after}
-use Rattle.trace_reader.specs.Reader.{StandsFor, IsFaultOfAll, HasCome}
+-- A row of plain numbers that a piece begins with.
+use Rattle.std.proofs.Common.{◌≡◌, ◌++◌, ◌∷◌, [], ◌+◌, ℕ, List, length, drop, subst, sym, ap, ◌∙◌, arith, append_assoc, add-one, Ok}
+use Rattle.std.proofs.lemmas.List.{take-append-drop}
+use Rattle.trace_reader.specs.Feeds.{through_feed}
+use Rattle.trace_reader.specs.Plain.{IsWholeLine}
+use Rattle.trace_reader.specs.Cut.{Cut, begun_after}
+use Rattle.trace_reader.specs.Progress.{Judges}
+use Rattle.trace_reader.specs.Reader.{StandsFor, HasCome}
 use Rattle.trace_reader.specs.Reading.{state}
-use Rattle.trace_reader.proofs.FeedLemmas.{none-free, none-all, at-free, at-taken, at-through}
-use Rattle.trace_reader.proofs.ReaderTakes.{hold_stands, hold_fault, finish_stands, finish_fault, judged_come}
+use Rattle.trace_reader.specs.declared.event.Event.TheVariants.{Row as IsARow}
+use Rattle.trace_reader.proofs.FeedLemmas.{through-at}
+use Rattle.trace_reader.proofs.ReaderTakes.{finish_stands, judged_come}
 use Rattle.trace_reader.proofs.reading.Reading.take_line.Goals as goal
 
-pub returns-in_err-hold-in-None-clause-fault : goal.returns-in_err-hold-in-None-clause-fault
-returns-in_err-hold-in-None-clause-fault c =
-    let piece = c.args.piece.now in
+line_through : (piece line : List ℕ) (n : ℕ) → IsWholeLine piece line n → through_feed piece ≡ line ++ 10 ∷ []
+line_through piece line n w =
+    ap through_feed (sym (take-append-drop n piece) ∙ (ap (λ t. t ++ drop n piece) w.taken ∙ append_assoc line (10 ∷ []) (drop n piece))) ∙ through-at line (drop n piece) w.free
+
+begun_one : (b n : ℕ) (line : List ℕ) → line ≡ [] → b + 1 ≡ begun_after b line (n + 1)
+begun_one b n line e = subst (λ l. b + 1 ≡ begun_after b l (n + 1)) (sym e) (add-one b ∙ ap (begun_after b []) (sym (add-one n)))
+
+pub returns-in-Some-clause-bytes : goal.returns-in-Some-clause-bytes
+returns-in-Some-clause-bytes c =
+    let r = c.in-Some.ensures.row in
+    r.whole.taken ∙ sym (line_through c.args.piece.now r.line c.in-Some.bytes r.whole)
+
+pub returns-in-Some-clause-came : goal.returns-in-Some-clause-came
+returns-in-Some-clause-came c =
+    let r = c.in-Some.ensures.row in
     let limits = c.args.limits.now in
     let old = c.args.self.now in
-    let new = c.hold.new.self in
-    let h = c.in-None.ensures in
-    let p = err_from_is_err_and c.from_residual.result c.from_residual.ensures.1 in
-    let e = c.in_err-hold-in-None.ensures in
-    rw (p.1, p.2) (λ bytes rows s. subst (λ t. IsFaultOfAll limits old.table.least (bytes ++ t) c.in_err-hold-in-None.field-0.0) (sym (none-all piece h))
-    (hold_fault limits old new c.requires piece (none-free piece h) e.begun c.in_err-hold-in-None.field-0.0 e.held bytes rows s))
+    let new = c.take_plain.new.self in
+    subst (HasCome IsARow (state limits old) (state limits new)) (sym (line_through c.args.piece.now r.line c.in-Some.bytes r.whole))
+    (judged_come {limits = limits} old new r.line r.judged)
 
-pub returns-in_err-event-in-Some-clause-fault : goal.returns-in_err-event-in-Some-clause-fault
-returns-in_err-event-in-Some-clause-fault c =
-    let piece = c.args.piece.now in
-    let at = c.in-Some.at in
+pub returns-in-Some-clause-ok : goal.returns-in-Some-clause-ok
+returns-in-Some-clause-ok c = λ bytes rows s.
+    let r = c.in-Some.ensures.row in
+    let l = c.in-Some.ensures.lines in
     let limits = c.args.limits.now in
     let old = c.args.self.now in
-    let new = c.finish.new.self in
-    let h = c.in-Some.ensures in
-    let p = err_from_is_err_and c.from_residual-in_err-event-in-Some.result c.from_residual-in_err-event-in-Some.ensures.1 in
-    let e = c.in_err-event-in-Some.ensures in
-    let x = c.in_err-event-in-Some.field-0.0 in
-    rw (p.1, p.2) (λ bytes rows s. subst (λ t. IsFaultOfAll limits old.table.least (bytes ++ t) x) (sym (at-through piece at h.0 h.1))
-    (finish_fault limits old new c.requires (take at piece) (at-free piece at h.0 h.1) e.begun x e.finished bytes rows s))
-
-pub returns-in_ok-hold-in-None-clause-bytes : goal.returns-in_ok-hold-in-None-clause-bytes
-returns-in_ok-hold-in-None-clause-bytes c =
-    let piece = c.args.piece.now in
-    take_all (length piece) piece (omega arith) ∙ sym (none-all piece c.in-None.ensures)
-
-pub returns-in_ok-hold-in-None-clause-ok : goal.returns-in_ok-hold-in-None-clause-ok
-returns-in_ok-hold-in-None-clause-ok c = λ bytes rows s.
-    let piece = c.args.piece.now in
-    let limits = c.args.limits.now in
-    let new = c.hold.new.self in
-    let h = c.in-None.ensures in
-    let e = c.in_ok-hold-in-None.ensures in
-    subst (λ t. StandsFor (state limits new) (bytes ++ t) rows) (sym (none-all piece h))
-    (hold_stands limits c.args.self.now new c.requires piece (none-free piece h) e.begun e.held.0 e.held.1 e.table bytes rows s)
-
-pub returns-in_ok-event-in-Some-clause-bytes : goal.returns-in_ok-event-in-Some-clause-bytes
-returns-in_ok-event-in-Some-clause-bytes c =
-    let piece = c.args.piece.now in
-    let at = c.in-Some.at in
-    let h = c.in-Some.ensures in
-    at-taken piece at h.0 h.1 ∙ sym (at-through piece at h.0 h.1)
-
-pub returns-in_ok-event-in-Some-clause-came : goal.returns-in_ok-event-in-Some-clause-came
-returns-in_ok-event-in-Some-clause-came c =
-    let piece = c.args.piece.now in
-    let at = c.in-Some.at in
-    let h = c.in-Some.ensures in
-    let limits = c.args.limits.now in
-    let old = c.args.self.now in
-    let new = c.finish.new.self in
-    subst (HasCome c.in_ok-event-in-Some.event (state limits old) (state limits new)) (sym (at-through piece at h.0 h.1))
-    (judged_come {limits = limits} old new (take at piece) c.in_ok-event-in-Some.ensures.finished.2)
-
-pub returns-in_ok-event-in-Some-clause-ok : goal.returns-in_ok-event-in-Some-clause-ok
-returns-in_ok-event-in-Some-clause-ok c = λ bytes rows s.
-    let piece = c.args.piece.now in
-    let at = c.in-Some.at in
-    let h = c.in-Some.ensures in
-    let limits = c.args.limits.now in
-    let new = c.finish.new.self in
-    let e = c.in_ok-event-in-Some.ensures in
-    let event = c.in_ok-event-in-Some.event in
-    subst (λ t. StandsFor (state limits new) (bytes ++ t) (rows_after event rows new.table.row)) (sym (at-through piece at h.0 h.1))
-    (finish_stands limits c.args.self.now new c.requires (take at piece) (at-free piece at h.0 h.1) e.begun event e.finished.0 e.finished.1 e.finished.2 bytes rows s)
+    let new = c.take_plain.new.self in
+    let begun : new.lines.begun ≡ begun_after old.lines.begun old.lines.line (length r.line + 1) =
+    ap (λ (x : Cut). x.begun) l.1 ∙ begun_one old.lines.begun (length r.line) old.lines.line l.0 in
+    let judged = subst (λ t. Judges limits t old.table new.table (Ok IsARow)) (ap (λ t. t ++ r.line) (sym l.0)) r.judged in
+    subst (λ t. StandsFor (state limits new) (bytes ++ t) (rows ++ new.table.row ∷ [])) (sym (line_through c.args.piece.now r.line c.in-Some.bytes r.whole))
+    (finish_stands limits old new c.requires r.line r.whole.free begun IsARow (record { count = l.2; short = omega (arith, ap length l.0, r.whole.short) })
+    (ap (λ (x : Cut). x.line) l.1) judged bytes rows s)
