@@ -27,7 +27,7 @@ part_err a b text (Err x) e p = p
 -- a count that rose late rose
 pub cause_err : {T E : Type 0} (before between now : ℕ) (r : Result T E) → IsErr r → before ≤ between → between ≤ now → Rose between now → HasCause before now r
 cause_err before between now (Ok x) e l m h = absurd (let f = e in cc)
-cause_err before between now (Err x) e l m h = record { later = omega (arith, l, m); failed = omega (arith, l, h) }
+cause_err before between now (Err x) e l m h = record { later = omega (arith, l, m); failed = omega (arith, l, h); still = tt }
 
 pub whole : (a b : Option (List ℕ)) (text : List ℕ) (at : ℕ) → length text ≤ at → Appends a b (take at text) → Appends a b text
 whole a b text at h w = subst (Appends a b) (take_all at text h) w
@@ -73,8 +73,3 @@ part_on a b c x y w h = record {
   missing = h.missing;
   wrote = Appends-trans a b c x h.front w h.wrote;
 }
-
--- a failure after calls in which no count fell
-pub cause_on : {T E : Type 0} (before between now : ℕ) (r : Result T E) → before ≤ between → HasCause between now r → HasCause before now r
-cause_on before between now (Ok x) l h = let k = h.later in record { later = omega (arith, l); failed = tt }
-cause_on before between now (Err x) l h = let k = h.later in let m = h.failed in record { later = omega (arith, l); failed = omega (arith, l, m) }

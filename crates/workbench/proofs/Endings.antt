@@ -11,7 +11,8 @@ use Rattle.stl_grammar.specs.declared.fault.FormulaFault.{FormulaFault}
 use Rattle.stl_grammar.specs.declared.fault.FormulaFault.TheVariants.{Empty, BadByte, Expected, BadNumber, BoundOrder, UnboundedFuture, TooManyTerms, TooLong, TooDeep, TooManyNodes, ReachTooLarge, ConstantTooLarge, Memory}
 use Rattle.workbench.specs.ErrTexts.{formula_fault_text}
 use Rattle.workbench.specs.Writing.{IsPartWritten, IsWritten}
-use Rattle.workbench.specs.Run.{IsSaid, whole, part, IsWrittenWith, all_of_it, a_part, IsBadEnd, refused, no_room, status_of_fault, IsEndLine}
+use Rattle.workbench.specs.Wholes.{IsWrittenWith, all_of_it, a_part, IsBadEnd, refused, no_room, status_of_fault, IsEndLine}
+use Rattle.workbench.specs.Saying.{IsSaid, whole, part}
 use Rattle.workbench.specs.declared.fault.Stop.{Stop}
 use Rattle.workbench.specs.declared.fault.Stop.TheVariants.{Unwritten}
 

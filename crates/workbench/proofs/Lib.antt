@@ -16,5 +16,8 @@ pub mod Ends
 pub mod Progress
 pub mod LastFaults
 pub mod FaultsStay
-pub mod Runs
+pub mod RunEnds
+pub mod CheckPromises
+pub mod StreamSteps
+pub mod Due
 pub mod Judged

@@ -1,5 +1,5 @@
 -- How far the reading of a source has come.
-use Rattle.std.proofs.Common.{◌≡◌, ℕ, ◌+◌, ◌<◌, ◌≤◌, inl, inr, Bool, true, false, List, [], ◌++◌, length, take, refl, sym, ap, ◌∙◌, subst, arith, append-nil, length-append, Some, None, Ok, Err, Result}
+use Rattle.std.proofs.Common.{◌≡◌, ℕ, ◌+◌, ◌<◌, ◌≤◌, inl, inr, Bool, true, false, List, [], ◌++◌, length, take, length-take, refl, sym, ap, ◌∙◌, subst, arith, append-nil, length-append, Some, None, Ok, Err, Result}
 use Rattle.std.specs.Prelude.{Option, MatchOption, MatchResult}
 use Rattle.std.specs.Io.KnownBytes.{Consumes, Keeps, IsAtEnd}
 use Rattle.std.proofs.KnownBytes.{Consumes-trans, Consumes-kept}
@@ -15,7 +15,7 @@ use Rattle.trace_reader.specs.Reader.{Reader, StandsFor, HasRead}
 use Rattle.trace_reader.specs.declared.refusal.Limits.{Limits}
 use Rattle.trace_reader.proofs.LineLemmas.{lines-nil}
 use Rattle.workbench.specs.InputFaults.{IsLack, IsInputFault}
-use Rattle.workbench.specs.Reading.{IsRead, IsReadWhole, IsReadInPart, IsSound, IsStop, IsRefused, IsKept, HasKept, IsTied, IsEnded, IsWhole}
+use Rattle.workbench.specs.Reading.{IsRead, IsReadPromptly, IsReadWhole, IsReadInPart, IsSound, IsStop, IsRefused, IsKept, HasKept, IsTied, IsEnded, IsWhole}
 use Rattle.workbench.specs.declared.case.Case.{Case}
 use Rattle.workbench.specs.declared.fault.Stop.{Stop}
 use Rattle.workbench.specs.declared.fault.Stop.TheVariants.{Fault as Faulty, Unread, Unwritten, NoMemory}
@@ -74,6 +74,27 @@ module _ {limits : Limits} {f : Formula} {before now : Option (List ℕ)} {reade
     all = λ t. absurd (false≢true (sym e ∙ t));
   }
 
+  -- nothing was wrong before a piece, or at the end before it
+  pub prompt_piece : (piece : List ℕ) (ended : Bool) → length piece ≤ 4096 → ended ≡ false → IsReadPromptly limits f (p.bytes ++ piece) ended
+  prompt_piece piece ended short e = record {
+    before = p.bytes;
+    piece = piece;
+    parts = refl;
+    short = short;
+    at_end = λ t. absurd (false≢true (sym e ∙ t));
+    sound = subst (λ (x : Limits). IsSound x f p.bytes false) p.same_limits (sound_so_far f reader case p.bytes p.is);
+  }
+
+  pub prompt_end : (ended : Bool) → IsReadPromptly limits f p.bytes ended
+  prompt_end ended = record {
+    before = p.bytes;
+    piece = [];
+    parts = sym (append-nil p.bytes);
+    short = omega arith;
+    at_end = λ _. refl;
+    sound = subst (λ (x : Limits). IsSound x f p.bytes false) p.same_limits (sound_so_far f reader case p.bytes p.is);
+  }
+
   pub go_on : (after : Option (List ℕ)) (piece : List ℕ) (later : Reader) (kept : Option Case) → Consumes now after piece → 0 < length piece
       → IsKept f later kept (p.bytes ++ piece) → later.limits ≡ reader.limits → Progress limits f before after later kept (reads + 1)
   go_on after piece later kept c n k l = record {
@@ -86,33 +107,34 @@ module _ {limits : Limits} {f : Formula} {before now : Option (List ℕ)} {reade
 
 -- why the reading stopped
 pub stop_from : (l limits : Limits) (f : Formula) (before after : Option (List ℕ)) (ended known : Bool) (bytes : List ℕ) (e : Stop) → l ≡ limits → ended ≡ known
-    → IsRefused l f known bytes e → IsRead before after ended bytes → IsStop limits f before after ended e
-stop_from l limits f before after ended known bytes (Faulty fault) s k (x, is, first) read = (
+    → IsRefused l f known bytes e → IsRead before after ended bytes → IsReadPromptly limits f bytes ended → IsStop limits f before after ended e
+stop_from l limits f before after ended known bytes (Faulty fault) s k (x, is, first) read prompt = (
   x,
   is,
   record {
     bytes = bytes;
     read = read;
     fault = subst (λ (m : Limits). IsInputFault m f bytes ended x) s (subst (λ b. IsInputFault l f bytes b x) (sym k) first);
+    prompt = prompt;
   },
 )
-stop_from l limits f before after ended known bytes Unread s k r read = absurd r
-stop_from l limits f before after ended known bytes Unwritten s k r read = absurd r
-stop_from l limits f before after ended known bytes NoMemory s k r read = tt
+stop_from l limits f before after ended known bytes Unread s k r read prompt = absurd r
+stop_from l limits f before after ended known bytes Unwritten s k r read prompt = absurd r
+stop_from l limits f before after ended known bytes NoMemory s k r read prompt = (bytes, read.moved)
 
 pub end_from : (l limits : Limits) (f : Formula) (before after : Option (List ℕ)) (ended : Bool) (bytes : List ℕ) (r : Result (Unit {0}) Stop) (case : Option Case)
-    → l ≡ limits → ended ≡ true → IsRead before after ended bytes
+    → l ≡ limits → ended ≡ true → IsRead before after ended bytes → IsReadPromptly limits f bytes ended
     → MatchResult r (λ _. MatchOption case ⊥ (IsEnded l f bytes)) (IsRefused l f true bytes)
     → MatchResult r (λ _. MatchOption case ⊥ (IsReadWhole limits f before after ended)) (IsStop limits f before after ended)
-end_from l limits f before after ended bytes (Ok x) None s k read m = absurd m
-end_from l limits f before after ended bytes (Ok x) (Some c) s k read m = record {
+end_from l limits f before after ended bytes (Ok x) None s k read prompt m = absurd m
+end_from l limits f before after ended bytes (Ok x) (Some c) s k read prompt m = record {
   bytes = bytes;
   read = read;
   came_to_end = k;
   whole = subst (λ (y : Limits). IsWhole y f bytes c.trace) s m.whole;
   case = m.case;
 }
-end_from l limits f before after ended bytes (Err e) case s k read m = stop_from l limits f before after ended true bytes e s k m read
+end_from l limits f before after ended bytes (Err e) case s k read prompt m = stop_from l limits f before after ended true bytes e s k m read prompt
 
 -- a refusal is no fault of the source
 pub not_unread : (l : Limits) (f : Formula) (ended : Bool) (bytes : List ℕ) (e : Stop) → IsRefused l f ended bytes e → ◌≡◌ {A = Result (Unit {0}) Stop} (Err e) (Err Unread) → ⊥
@@ -127,6 +149,10 @@ end_not_unread l f ended bytes P (Err e) m same = not_unread l f ended bytes e m
 
 pub none_taken : (n : ℕ) (buf : List ℕ) → n ≡ 0 → take n buf ≡ []
 none_taken n buf e = subst (λ m. take m buf ≡ []) (sym e) refl
+
+-- no more was taken than the buffer has
+pub short_taken : (n : ℕ) (buf : List ℕ) → length buf ≡ 4096 → length (take n buf) ≤ 4096
+short_taken n buf e = omega (arith, e, length-take n buf)
 
 pub some_taken : (n : ℕ) (buf : List ℕ) → (n ≡ 0 → ⊥) → n ≤ length buf → 0 < length (take n buf)
 some_taken n buf d h = omega (arith, d, length-take-le n buf h)

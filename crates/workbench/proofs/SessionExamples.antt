@@ -9,7 +9,12 @@ use Rattle.trace_reader.specs.TraceText.{Line, lines, fields, Heading}
 use Rattle.trace_reader.specs.TraceRefusals.{FaultFrom}
 use Rattle.workbench.specs.InputFaults.{stream_limits, IsHeaderAt, here, later, Fault, unknown, IsInputFault, no_header_yet, faulted_header}
 use Rattle.stl_syntax.specs.Binding.{IsUnknown}
-use Rattle.workbench.specs.Sessions.{Tagged, is_tag_byte, IsTagged, alone, followed, tag, Alone, MuxText, FaultOfInput, bad_tag}
+use Rattle.std.proofs.lemmas.Bool.{false≢true}
+use Rattle.report.specs.Report.{robust}
+use Rattle.workbench.specs.Requests.{verdicts, stream, sessions, whole}
+use Rattle.workbench.specs.Owed.{Owes, not_yet, sound as no_lines_fault}
+use Rattle.workbench.specs.Settled.{HasFault, IsSettled, faulty, answered}
+use Rattle.workbench.specs.Sessions.{none, Tagged, is_tag_byte, IsTagged, alone, followed, tag, Alone, MuxText, FaultOfInput, bad_tag}
 use Rattle.stl_syntax.specs.declared.rel.Rel.TheVariants.{AtLeast}
 use Rattle.stl_syntax.specs.declared.node.Node.TheVariants.{Atom as Leaf}
 use Rattle.trace_reader.specs.declared.refusal.TraceRefusal.{TraceRefusal}
@@ -30,14 +35,15 @@ has_line (later a b c) e = cc
 no_heading : (n : ℕ) (h : Heading) → ¬ IsHeaderAt [] n h
 no_heading n h a = has_line a refl
 
+no_fault : (x : Fault) → ¬ IsInputFault stream_limits z_formula [] false x
+unfolding lines
+no_fault x (inl (n, h, a, l, k)) = no_heading n h a
+no_fault x (inr (_, (r, (e, (t, z)), y))) = cc
+
 -- before its header a session writes nothing
 nothing_yet : Alone z_formula [] false []
 unfolding lines
 nothing_yet = (None, [], false, [], [], no_header_yet no_fault no_heading, refl, inl (no_fault, refl), refl)
-  where
-    no_fault : (x : Fault) → ¬ IsInputFault stream_limits z_formula [] false x
-    no_fault x (inl (n, h, a, l, k)) = no_heading n h a
-    no_fault x (inr (_, (r, (e, (t, z)), y))) = cc
 
 -- the header itself is sound
 sound : (r : TraceRefusal) → ¬ FaultFrom stream_limits no_digits false 1 (record { bytes = codes "time,x"; whole = true } ∷ []) r
@@ -93,3 +99,41 @@ tag_begins (followed content (tag h k)) = grind (arith, h)
 
 no_tag : FaultOfInput 1 [] (record { bytes = codes "-a 0,0"; whole = true } ∷ []) (bad_tag 1)
 no_tag = inr ((λ x h. omega arith), inr ((λ x h. omega arith), (refl, inl ((λ h. let e = tag_begins h.1 in cc), refl))))
+
+-- ---- the same as requests
+
+-- `watch` is owed nothing before the header
+watch_begins : Owes (stream verdicts z_formula) [] false []
+unfolding lines
+watch_begins = record { header = None; rows = []; whole = false; before = no_header_yet no_fault no_heading; is = refl }
+
+-- `watch` of a header without its column ends with 4 and one line, and writes nothing
+watch_lacks : IsSettled x_bytes false (stream verdicts z_formula) 4 unknown_z []
+unfolding lines fields digits
+watch_lacks = faulty (lack, lacking false, refl) (record {
+  before = [];
+  piece = x_bytes;
+  parts = refl;
+  short = lit≤ tt;
+  at_end = λ e. absurd (false≢true e);
+  sound = λ line h. no_fault h.0 h.1;
+}) (record { header = None; rows = []; whole = false; before = faulted_header lack (lacking false) no_heading; is = refl })
+
+-- `mux` of no bytes ends with 0 and writes nothing
+mux_of_nothing : IsSettled [] true (sessions z_formula) 0 [] []
+unfolding lines
+mux_of_nothing = answered (
+  refl,
+  refl,
+  record { tagged = []; whole = true; before = no_lines_fault (λ x h. h) none; is = ([], [], refl, refl, refl) },
+  λ x h. h,
+)
+
+-- `mux` of a line without a tag has a fault
+mux_without_tag : HasFault (sessions z_formula) (codes "-a 0,0" ++ newline) false (codes "line 1: bad tag" ++ newline)
+unfolding lines digits
+mux_without_tag = (bad_tag 1, no_tag, refl)
+
+-- `robust` is owed nothing before the end
+robust_waits : Owes (whole robust z_formula) x_bytes false []
+robust_waits = not_yet

@@ -9,5 +9,12 @@ pub mod Answers
 pub mod Lines
 pub mod Reading
 pub mod Cases
-pub mod Run
+pub mod Saying
+pub mod Requests
+pub mod Owed
+pub mod Settled
+pub mod Running
+pub mod Wholes
+pub mod Pushing
+pub mod Promises
 pub mod Judging

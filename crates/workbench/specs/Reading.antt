@@ -1,5 +1,5 @@
 -- Reading the trace of a formula from a source.
-use Rattle.std.specs.Prelude.{◌≡◌, ℕ, Bool, true, false, List, Option, Some, None}
+use Rattle.std.specs.Prelude.{◌≡◌, ℕ, ◌≤◌, Bool, true, false, List, [], ◌++◌, length, Option, Some, None}
 use Rattle.std.specs.Io.KnownBytes.{Consumes, IsAtEnd}
 use Rattle.stl_syntax.specs.Formula.{Formula}
 use Rattle.stl_syntax.specs.Trace.{Row, Trace}
@@ -39,11 +39,21 @@ pub record IsReadWhole (limits : Limits) (f : Formula) (before after : Option (L
   pub whole : IsWhole limits f bytes c.trace
   pub case : IsCase f c
 
+-- no fault was there before the last piece, of at most 4,096 bytes
+pub record IsReadPromptly (limits : Limits) (f : Formula) (bytes : List ℕ) (ended : Bool) : Type 0 where
+  pub before : List ℕ
+  pub piece : List ℕ
+  pub parts : bytes ≡ before ++ piece
+  pub short : length piece ≤ 4096
+  pub at_end : ended ≡ true → piece ≡ []
+  pub sound : IsSound limits f before false
+
 -- the bytes that were read have this first fault
 pub record IsReadFault (limits : Limits) (f : Formula) (before after : Option (List ℕ)) (ended : Bool) (x : Fault) : Type 0 where
   pub bytes : List ℕ
   pub read : IsRead before after ended bytes
   pub fault : IsInputFault limits f bytes ended x
+  pub prompt : IsReadPromptly limits f bytes ended
 
 -- the source failed before its end, and the bytes that were read have no fault
 pub record IsReadInPart (limits : Limits) (f : Formula) (before after : Option (List ℕ)) (ended : Bool) : Type 0 where
@@ -57,7 +67,7 @@ abbrev pub IsStop : Limits → Formula → Option (List ℕ) → Option (List �
 IsStop limits f before after ended (Faulty fault) = (x : Fault) × IsFault f fault x × IsReadFault limits f before after ended x
 IsStop limits f before after ended Unread = IsReadInPart limits f before after ended
 IsStop limits f before after ended Unwritten = ⊥
-IsStop limits f before after ended NoMemory = Unit {0}
+IsStop limits f before after ended NoMemory = (bytes : List ℕ) × Consumes before after bytes
 
 -- these bytes were handed over, and may have ended; a trace was not made of them for this reason
 abbrev pub IsRefused : Limits → Formula → Bool → List ℕ → Stop → Type 0

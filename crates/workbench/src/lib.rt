@@ -4,9 +4,12 @@
 mod answer;
 mod case;
 mod fault;
+pub mod laws;
 mod line;
 mod output;
 mod reading;
+mod request;
+mod stream;
 mod texts;
 mod top;
 mod words;

@@ -1,5 +1,5 @@
 //! Reading the trace of a formula from a source.
-ghost use Rattle.std.specs.Prelude.{◌≡◌, ◌^◌, ◌<◌, ◌≤◌, List, ℕ, [], ◌++◌, length, take, true, false, MatchResult, MatchOption, Err};
+ghost use Rattle.std.specs.Prelude.{◌≡◌, ◌≢◌, ◌^◌, ◌<◌, ◌≤◌, List, ℕ, [], ◌++◌, length, take, true, false, MatchResult, MatchOption, Err};
 ghost use Rattle.io_edge.specs.Causes.{Rose};
 ghost use Rattle.trace_reader.specs.Feeds.{through_feed};
 ghost use Rattle.trace_reader.specs.declared.refusal.TraceKind.TheVariants.{NoRows};
@@ -132,6 +132,7 @@ impl Reading {
             (λ stop. IsStop self.old.rows.limits formula.now (S.left input.old) (S.left input.new) (S.ended input.new) stop) }
         ensures later { S.faults input.old ≤ S.faults input.new }
         ensures unread { result ≡ Err Stop.Unread → Rose (S.faults input.old) (S.faults input.new) }
+        ensures still { result ≢ Err Stop.Unread → S.faults input.new ≡ S.faults input.old }
     {
         let mut buffer = [0u8; 4096];
         for _reads in 0..u64::MAX {
@@ -164,6 +165,7 @@ pub(crate) fn read_trace<S: Source>(
         (λ stop. IsStop limits formula.now (S.left input.old) (S.left input.new) (S.ended input.new) stop) }
     ensures later { S.faults input.old ≤ S.faults input.new }
     ensures unread { result ≡ Err Stop.Unread → Rose (S.faults input.old) (S.faults input.new) }
+    ensures still { result ≢ Err Stop.Unread → S.faults input.new ≡ S.faults input.old }
 {
     let Ok(rows) = Rows::new(alloc, limits, formula.scale()) else {
         return Err(Stop::NoMemory);

@@ -1,19 +1,24 @@
 //! The one call: it does all that the program does.
-ghost use Rattle.std.specs.Prelude.{◌≡◌, ◌≢◌, ◌⊎◌, ◌↔◌, ◌≤◌, ℕ, List, true, map, string_bytes, Ok, Err, IsErr};
-ghost use Rattle.std.specs.Io.KnownBytes.{IsAtEnd};
+ghost use Rattle.std.specs.Prelude.{◌≡◌, ◌≢◌, ◌⊎◌, ◌≤◌, ℕ, List, map, string_bytes, MatchResult, length, ◌<◌, Err, IsErr};
 ghost use Rattle.io_edge.specs.Causes.{Rose};
+ghost use Rattle.io_edge.specs.Calls.{drained, filled};
 ghost use Rattle.stl_syntax.specs.Formula.{Formula as Parsed};
-ghost use Rattle.workbench.specs.Run.{AreNoForm, IsBadRightly, IsBadWhereDue, IsRefusedRightly, IsRefusedWhereDue, IsAnsweredWhereDue, IsAnsweredRightly, IsCutOffRightly, IsToldRightly, IsSaid, IsWrittenWith, IsEnding, IsRun, IsBadEnd, IsEndLine, IsStopLine, HasFault, EndsSoundly, check_usage, status_of, status_of_stop, status_of_fault};
+ghost use Rattle.workbench.specs.Saying.{IsSaid};
 ghost use Rattle.stl_grammar.specs.FormulaRefusals.{IsFormulaFault};
+ghost use Rattle.workbench.specs.Cases.{IsCase};
 ghost use Rattle.workbench.specs.Lines.{line_text};
+ghost use Rattle.workbench.specs.Requests.{AreHeld};
+ghost use Rattle.workbench.specs.Running.{IsRun};
+ghost use Rattle.workbench.specs.Wholes.{command_of, IsAnswerOf, IsUnanswered, IsWrittenWith, IsWholeEnd, IsBadEnd, IsEndLine, IsStopLine, HasFaultFor, EndsSoundly, status_of, status_of_stop, status_of_fault};
 
 use crate::answer::{Answer, judge};
+use crate::case::Case;
 use crate::fault::Stop;
 use crate::line::{Line, write_line};
 use crate::output::write_all;
 use crate::reading::read_trace;
+use crate::request::{Command, asked};
 use crate::texts::{NO_MEMORY, fault_line, formula_line};
-use crate::words::formula_word;
 use io_edge::{Sink, Source};
 use std::alloc::Global;
 use stl_grammar::{FormulaFault, parse};
@@ -33,6 +38,7 @@ const USAGE: &[u8] = b"usage: check F\n";
 fn write_answer<K: Sink>(out: &mut K, answer: &Answer) -> Result<bool, Stop>
     ensures written { IsWrittenWith answer.now.holds answer.now.text (K.written out.old) (K.written out.new) result }
     ensures cause { result ≡ Err Stop.Unwritten → Rose (K.faults out.old) (K.faults out.new) }
+    ensures still { result ≢ Err Stop.Unwritten → K.faults out.new ≡ K.faults out.old }
     ensures later { K.faults out.old ≤ K.faults out.new }
 {
     match write_all(out, answer.text.bytes()) {
@@ -41,16 +47,34 @@ fn write_answer<K: Sink>(out: &mut K, answer: &Answer) -> Result<bool, Stop>
     }
 }
 
-/// Judges the trace that the input holds by a formula: the truth at its start, once the whole text is written.
-fn check<S: Source, K: Sink>(
+/// The answer of a command for a trace that has a row, or why there is none.
+fn answer(alloc: Global, command: Command, case: &Case) -> Result<Answer, Stop>
+    requires case { (f : Parsed) × IsCase f case.now }
+    requires some { 0 < length case.now.trace.rows }
+    ensures { (f : Parsed) → IsCase f case.now → MatchResult result
+        (λ a. IsAnswerOf (command_of command) f case.now.trace a.holds a.text) (IsUnanswered (command_of command) f case.now.trace) }
+{
+    match command {
+        Command::Check => match judge(alloc, case) {
+            Ok(answer) => Ok(answer),
+            Err(_) => Err(Stop::NoMemory),
+        },
+    }
+}
+
+/// Reads the whole trace, answers and writes.
+fn whole<S: Source, K: Sink>(
     alloc: Global,
+    command: Command,
     formula: &Formula,
     input: &mut S,
     out: &mut K,
 ) -> Result<bool, Stop>
-    ensures ending { IsEnding formula.now (S.left input.old) (S.left input.new) (S.ended input.new) (K.written out.old) (K.written out.new) result }
+    ensures ending { IsWholeEnd (command_of command) formula.now (drained S.left S.ended S.faults input.old input.new) (filled K.written K.faults out.old out.new) result }
     ensures read { result ≡ Err Stop.Unread → Rose (S.faults input.old) (S.faults input.new) }
     ensures write { result ≡ Err Stop.Unwritten → Rose (K.faults out.old) (K.faults out.new) }
+    ensures read_due { result ≢ Err Stop.Unread → S.faults input.new ≡ S.faults input.old }
+    ensures write_due { result ≢ Err Stop.Unwritten → K.faults out.new ≡ K.faults out.old }
     ensures input_later { S.faults input.old ≤ S.faults input.new }
     ensures out_later { K.faults out.old ≤ K.faults out.new }
     ensures nothing { IsErr result → result ≢ Err Stop.Unwritten → out.new ≡ out.old }
@@ -59,9 +83,9 @@ fn check<S: Source, K: Sink>(
         Ok(case) => case,
         Err(stop) => return Err(stop),
     };
-    match judge(alloc, &case) {
+    match answer(alloc, command, &case) {
         Ok(answer) => write_answer(out, &answer),
-        Err(_) => Err(Stop::NoMemory),
+        Err(stop) => Err(stop),
     }
 }
 
@@ -97,7 +121,7 @@ fn refuse<E: Sink>(err: &mut E, fault: FormulaFault) -> u8
 
 /// The line of a reason to stop.
 fn stop_line(formula: &Formula, stop: Stop) -> Line<'_>
-    requires { HasFault formula.now stop }
+    requires { HasFaultFor formula.now stop }
     ensures { IsStopLine formula.now stop (line_text result) }
 {
     match stop {
@@ -138,53 +162,21 @@ fn finish<E: Sink>(err: &mut E, formula: &Formula, ending: Result<bool, Stop>) -
     }
 }
 
-/// Does what the words ask for, and says the status.
-fn obey<S: Source, K: Sink, E: Sink>(
-    alloc: Global,
-    words: &[String],
-    input: &mut S,
-    out: &mut K,
-    err: &mut E,
-) -> u8
-    ensures ran { (line : List ℕ) × IsRun (map string_bytes words.now) (S.left input.old) (S.left input.new) (S.ended input.new) (K.written out.old) (K.written out.new) result line
-        × IsSaid (E.written err.old) (E.written err.new) (E.faults err.old) (E.faults err.new) line }
-    ensures read { result ≡ 5 → Rose (S.faults input.old) (S.faults input.new) }
-    ensures write { result ≡ 6 → Rose (K.faults out.old) (K.faults out.new) }
-    ensures unread { (result ≡ 2) ⊎ (result ≡ 3) → input.new ≡ input.old }
-    ensures nothing { 2 ≤ result → result ≢ 6 → out.new ≡ out.old }
-    ensures quiet { result ≤ 1 → err.new ≡ err.old }
-    ensures input_later { S.faults input.old ≤ S.faults input.new }
-    ensures out_later { K.faults out.old ≤ K.faults out.new }
-    ensures err_later { E.faults err.old ≤ E.faults err.new }
-{
-    let Some(text) = formula_word(words) else {
-        say(err, &Line::plain(USAGE));
-        return 2;
-    };
-    match parse(alloc, text) {
-        Ok(formula) => {
-            let ending = check(alloc, &formula, input, out);
-            finish(err, &formula, ending)
-        }
-        Err(fault) => refuse(err, fault),
-    }
-}
-
-/// Does all that the program does for its words, and answers the status with which it ends: the words ask for `check F`, and
-/// `input` is a trace's bytes.
+/// Does all that the program does for its words, and answers the status with which it ends.
 ///
-/// - 0 and 1: `out` got the verdicts over the whole trace and the truth at its start, which is true for 0 and false for 1. The
-///   input was read to its end.
-/// - 2: the words are not `check` and one more.
+/// - 0 and 1: `out` got the whole text of the command. The input was read to its end.
+/// - 2: the words are of no form.
 /// - 3: the formula is refused.
 /// - 4: the bytes that were read have a first fault: of the trace, a column of the formula that the header lacks, or numbers of
 ///   the formula that do not fit in the header's ticks.
 /// - 5: `input` failed.
 /// - 6: `out` failed, after a first part of the text.
 /// - 7: memory was wanting.
+/// - 8: the robustness needs too large a denominator.
+/// - 9: an explanation would have too many cells.
 ///
 /// From 2 on `err` gets one line; a fault of `err` changes no status. The words are judged first, then the formula, then the bytes
-/// in their order, and nothing is written to `out` before all of them.
+/// in their order.
 pub fn run<S: Source, K: Sink, E: Sink>(
     alloc: Global,
     words: &[String],
@@ -192,32 +184,33 @@ pub fn run<S: Source, K: Sink, E: Sink>(
     out: &mut K,
     err: &mut E,
 ) -> u8
-    // Which status comes, and when.
-    ensures status { result ≤ 7 }
-    ensures words { result ≡ 2 ↔ AreNoForm (map string_bytes words.now) }
-    ensures formula { IsBadRightly (map string_bytes words.now) result }
-    ensures formula_due { IsBadWhereDue (map string_bytes words.now) result }
-    ensures refused { IsRefusedRightly (map string_bytes words.now) (S.left input.old) (S.left input.new) (S.ended input.new) result }
-    ensures due { IsRefusedWhereDue (map string_bytes words.now) (S.left input.old) (S.left input.new) (S.ended input.new) result }
-    ensures answer_due { IsAnsweredWhereDue (map string_bytes words.now) (S.left input.old) (S.faults input.old) (S.faults input.new) (K.faults out.old) (K.faults out.new) result }
-    ensures read { result ≡ 5 → Rose (S.faults input.old) (S.faults input.new) }
-    ensures write { result ≡ 6 → Rose (K.faults out.old) (K.faults out.new) }
+    // What the words ask for came to an end with this status, and with these bytes, this text and this line.
+    ensures ran { IsRun (map string_bytes words.now) (drained S.left S.ended S.faults input.old input.new)
+        (filled K.written K.faults out.old out.new) (filled E.written E.faults err.old err.new) result }
 
-    // What was read.
+    // A device that failed is told.
+    ensures read_due { result ≢ 5 → S.faults input.new ≡ S.faults input.old }
+    ensures write_due { result ≢ 6 → K.faults out.new ≡ K.faults out.old }
+
+    // What was not touched, also of devices that do not tell their bytes.
     ensures unread { (result ≡ 2) ⊎ (result ≡ 3) → input.new ≡ input.old }
-    ensures all_read { (result ≤ 1) ⊎ (result ≡ 6) → (S.ended input.new ≡ true) × IsAtEnd (S.left input.new) }
-
-    // What was written.
-    ensures answered { IsAnsweredRightly (map string_bytes words.now) (S.left input.old) (S.left input.new) (K.written out.old) (K.written out.new) result }
-    ensures cut_off { IsCutOffRightly (map string_bytes words.now) (S.left input.old) (S.left input.new) (K.written out.old) (K.written out.new) result }
-    ensures nothing { 2 ≤ result → result ≢ 6 → out.new ≡ out.old }
+    ensures nothing { 2 ≤ result → result ≢ 6 → (result ≤ 3) ⊎ AreHeld (map string_bytes words.now) → out.new ≡ out.old }
     ensures quiet { result ≤ 1 → err.new ≡ err.old }
-    ensures told { IsToldRightly (map string_bytes words.now) (S.left input.old) (S.left input.new) (S.ended input.new) (E.written err.old) (E.written err.new) (E.faults err.old) (E.faults err.new) result }
 
     // Counts of faults never fall.
     ensures input_later { S.faults input.old ≤ S.faults input.new }
     ensures out_later { K.faults out.old ≤ K.faults out.new }
     ensures err_later { E.faults err.old ≤ E.faults err.new }
 {
-    obey(alloc, words, input, out, err)
+    let Some(asked) = asked(words) else {
+        say(err, &Line::plain(USAGE));
+        return 2;
+    };
+    match parse(alloc, asked.text) {
+        Ok(formula) => {
+            let ending = whole(alloc, asked.command, &formula, input, out);
+            finish(err, &formula, ending)
+        }
+        Err(fault) => refuse(err, fault),
+    }
 }

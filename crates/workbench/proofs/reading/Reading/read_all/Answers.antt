@@ -1,13 +1,13 @@
 use Rattle.std.proofs.Common.{◌<◌, false, true, ◌++◌, length, take, refl, ◌∙◌, arith}
 use Rattle.std.proofs.KnownBytes.{Consumes-nil}
 use Rattle.std.proofs.lemmas.Result.{err_from_is_err_and}
-use Rattle.workbench.proofs.Progress.{few_reads, has_kept, read_in_part, read_all, read_more, go_on, stop_from, end_from, not_unread, end_not_unread, none_taken, some_taken, not_true}
+use Rattle.workbench.proofs.Progress.{few_reads, has_kept, read_in_part, read_all, read_more, go_on, stop_from, end_from, not_unread, end_not_unread, none_taken, some_taken, short_taken, prompt_piece, prompt_end, not_true}
 use Rattle.workbench.proofs.reading.Reading.read_all.Goals as goal
 
 pub loop-reads-init : goal.loop-reads-init
 loop-reads-init g c = record {
   progress = record { bytes = _; moved = Consumes-nil (g.S.Source.left c.args.input.now); is = c.requires.empty; same_limits = refl; enough = omega arith };
-  later = omega arith;
+  still = refl;
   size = refl;
 }
 
@@ -15,10 +15,13 @@ pub returns-in_default-clause-read : goal.returns-in_default-clause-read
 returns-in_default-clause-read g c = read_in_part c.loop-reads.invariant.progress _ _ c.in_default.ensures.bytes c.in_default.ensures.end
 
 pub returns-in_default-clause-later : goal.returns-in_default-clause-later
-returns-in_default-clause-later g c = let h = c.in_default.ensures.cause.later in omega arith
+returns-in_default-clause-later g c = let h = c.in_default.ensures.cause.later in let same = c.loop-reads.invariant.still in omega arith
 
 pub returns-in_default-clause-unread : goal.returns-in_default-clause-unread
-returns-in_default-clause-unread g c = λ _. let h = c.in_default.ensures.cause.failed in omega arith
+returns-in_default-clause-unread g c = λ _. let h = c.in_default.ensures.cause.failed in let same = c.loop-reads.invariant.still in omega arith
+
+pub returns-in_default-clause-still : goal.returns-in_default-clause-still
+returns-in_default-clause-still g c = λ other. absurd (other refl)
 
 pub finish-requires : goal.finish-requires
 finish-requires g c = has_kept c.loop-reads.invariant.progress
@@ -32,10 +35,14 @@ returns-then-count-eq0-clause-read g c =
     (g.S.Source.ended c.read.new.self) p.bytes c.finish.result c.finish.new.self.case p.same_limits ended
     (read_all p _ _ (take c.in-Ok.count c.read.new.buf) (none_taken c.in-Ok.count c.read.new.buf c.if-count-eq0.true) c.in-Ok.ensures.bytes.0
     (c.in-Ok.ensures.bytes.1 c.if-count-eq0.true size))
+    (prompt_end p (g.S.Source.ended c.read.new.self))
     (c.finish.ensures p.bytes p.is)
 
 pub returns-then-count-eq0-clause-later : goal.returns-then-count-eq0-clause-later
-returns-then-count-eq0-clause-later g c = let h = c.in-Ok.ensures.cause.later in omega arith
+returns-then-count-eq0-clause-later g c = let h = c.in-Ok.ensures.cause.later in let same = c.loop-reads.invariant.still in omega arith
+
+pub returns-then-count-eq0-clause-still : goal.returns-then-count-eq0-clause-still
+returns-then-count-eq0-clause-still g c = λ _. c.in-Ok.ensures.cause.still ∙ c.loop-reads.invariant.still
 
 pub returns-then-count-eq0-clause-unread : goal.returns-then-count-eq0-clause-unread
 returns-then-count-eq0-clause-unread g c =
@@ -53,10 +60,14 @@ returns-in_err-feed-clause-read g c =
     rw (e.1, e.2) (stop_from c.loop-reads.self.rows.limits c.args.self.now.rows.limits c.args.formula.now (g.S.Source.left c.args.input.now)
     (g.S.Source.left c.read.new.self) (g.S.Source.ended c.read.new.self) false (p.bytes ++ take c.in-Ok.count c.read.new.buf) c.in_err-feed.field-0.0
     p.same_limits goes_on (c.in_err-feed.ensures.taken p.bytes p.is)
-    (read_more p _ _ (take c.in-Ok.count c.read.new.buf) c.in-Ok.ensures.bytes.0 goes_on))
+    (read_more p _ _ (take c.in-Ok.count c.read.new.buf) c.in-Ok.ensures.bytes.0 goes_on)
+    (prompt_piece p (take c.in-Ok.count c.read.new.buf) (g.S.Source.ended c.read.new.self) (short_taken c.in-Ok.count c.read.new.buf (c.read.auto.buf ∙ c.loop-reads.invariant.size)) goes_on))
 
 pub returns-in_err-feed-clause-later : goal.returns-in_err-feed-clause-later
-returns-in_err-feed-clause-later g c = let h = c.in-Ok.ensures.cause.later in omega arith
+returns-in_err-feed-clause-later g c = let h = c.in-Ok.ensures.cause.later in let same = c.loop-reads.invariant.still in omega arith
+
+pub returns-in_err-feed-clause-still : goal.returns-in_err-feed-clause-still
+returns-in_err-feed-clause-still g c = λ _. c.in-Ok.ensures.cause.still ∙ c.loop-reads.invariant.still
 
 pub returns-in_err-feed-clause-unread : goal.returns-in_err-feed-clause-unread
 returns-in_err-feed-clause-unread g c =
@@ -68,11 +79,10 @@ returns-in_err-feed-clause-unread g c =
 pub loop-reads-preserved : goal.loop-reads-preserved
 loop-reads-preserved g c =
     let p = c.loop-reads.invariant.progress in
-    let cause = c.in-Ok.ensures.cause.later in
     record {
       progress = go_on p (g.S.Source.left c.read.new.self) (take c.in-Ok.count c.read.new.buf) c.feed.new.self.rows c.feed.new.self.case c.in-Ok.ensures.bytes.0
           (some_taken c.in-Ok.count c.read.new.buf c.if-count-eq0.false c.in-Ok.ensures.bound.0) (c.in_ok-feed.ensures.taken p.bytes p.is) c.in_ok-feed.ensures.limits;
-      later = omega arith;
+      still = c.in-Ok.ensures.cause.still ∙ c.loop-reads.invariant.still;
       size = c.read.auto.buf ∙ c.loop-reads.invariant.size;
     }
 

@@ -1,10 +1,10 @@
-use Rattle.std.proofs.Common.{◌≡◌, length, ◌≤◌}
+use Rattle.std.proofs.Common.{◌≡◌, length}
 use Rattle.workbench.proofs.Progress.{Progress}
 use Rattle.workbench.proofs.reading.Reading.read_all.Given as goal
 
 abbrev pub invariant-loop-reads : goal.invariant-loop-reads
 invariant-loop-reads g l = record {
   progress : Progress l.initial.self.rows.limits l.formula (g.S.Source.left l.initial.input) (g.S.Source.left l.input) l.self.rows l.self.case l._reads;
-  later : g.S.Source.faults l.initial.input ≤ g.S.Source.faults l.input;
+  still : g.S.Source.faults l.input ≡ g.S.Source.faults l.initial.input;
   size : length l.buffer ≡ 4096;
 }

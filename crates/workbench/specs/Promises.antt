@@ -1,4 +1,4 @@
--- What `run` does with the words `check F`.
+-- The promises of the command `check`, clause by clause.
 use Rattle.std.specs.Prelude.{◌≡◌, ◌≢◌, ◌⊎◌, ℕ, ◌≤◌, Bool, true, false, List, [], ◌++◌, codes, Option, Some, Result, Ok, Err}
 use Rattle.std.specs.Io.KnownBytes.{Appends}
 use Rattle.io_edge.specs.Causes.{Rose}
@@ -12,12 +12,7 @@ use Rattle.report.specs.Report.{Out, check}
 use Rattle.workbench.specs.Words.{AskCheck}
 use Rattle.workbench.specs.InputFaults.{Fault, fault_text, whole_limits, IsInputFault}
 use Rattle.workbench.specs.Answers.{HoldsAtStart, IsJudged}
-use Rattle.workbench.specs.Cases.{IsFault}
 use Rattle.workbench.specs.Reading.{IsWhole, IsSound, IsReadWhole, IsStop}
-use Rattle.workbench.specs.Writing.{IsPartWritten}
-use Rattle.workbench.specs.declared.case.Case.{Case}
-use Rattle.workbench.specs.declared.fault.Stop.{Stop}
-use Rattle.workbench.specs.declared.fault.Stop.TheVariants.{Fault as Faulty, Unread, Unwritten, NoMemory}
 use Rattle.workbench.specs.ErrTexts.{formula_fault_text, out_of_memory, read_fault, write_fault}
 
 -- the text is refused with this line
@@ -131,71 +126,3 @@ abbrev pub IsToldRightly : List (List ℕ) → Option (List ℕ) → Option (Lis
 IsToldRightly words left left_after ended told told_after faults faults_after status =
     (message : List ℕ) → Got told told_after message
     → (line : List ℕ) × IsErrLine words left left_after ended status line × IsMessage line message faults faults_after
-
--- the line was written, or where the count of faults rose a part of it
-pub data IsSaid (told told_after : Option (List ℕ)) (faults faults_after : ℕ) : List ℕ → Type 0 where
-  whole : {line : List ℕ} → Appends told told_after line → IsSaid told told_after faults faults_after line
-  part : {line : List ℕ} → IsPartWritten told told_after line → Rose faults faults_after → IsSaid told told_after faults faults_after line
-
--- how the writing of an answer ends
-pub data IsWrittenWith (holds : Bool) (text : List ℕ) (held held_after : Option (List ℕ)) : Result Bool Stop → Type 0 where
-  all_of_it : Appends held held_after text → IsWrittenWith holds text held held_after (Ok holds)
-  a_part : IsPartWritten held held_after text → IsWrittenWith holds text held held_after (Err Unwritten)
-
--- how a check of a formula ends: what was read, and what was written
-pub data IsEnding (f : Formula) (left left_after : Option (List ℕ)) (ended : Bool) (held held_after : Option (List ℕ)) : Result Bool Stop → Type 0 where
-  judged : {ending : Result Bool Stop} (c : Case) (holds : Bool) (text : List ℕ) → IsReadWhole whole_limits f left left_after ended c
-      → IsJudged f c.trace holds text → IsWrittenWith holds text held held_after ending → IsEnding f left left_after ended held held_after ending
-  stopped : (stop : Stop) → IsStop whole_limits f left left_after ended stop → IsEnding f left left_after ended held held_after (Err stop)
-
--- the status of a refusal of the formula
-abbrev pub status_of_fault : FormulaFault → ℕ
-status_of_fault fault.Memory = 7
-status_of_fault r = 3
-
--- the status of a reason to stop
-abbrev pub status_of_stop : Stop → ℕ
-status_of_stop (Faulty fault) = 4
-status_of_stop Unread = 5
-status_of_stop Unwritten = 6
-status_of_stop NoMemory = 7
-
--- the status of an ending
-abbrev pub status_of : Result Bool Stop → ℕ
-status_of (Ok true) = 0
-status_of (Ok false) = 1
-status_of (Err stop) = status_of_stop stop
-
--- the line of a reason to stop
-abbrev pub IsStopLine : Formula → Stop → List ℕ → Type 0
-IsStopLine f (Faulty fault) line = (x : Fault) → IsFault f fault x → line ≡ fault_text x
-IsStopLine f Unread line = line ≡ read_fault
-IsStopLine f Unwritten line = line ≡ write_fault
-IsStopLine f NoMemory line = line ≡ out_of_memory
-
--- the line of an ending
-abbrev pub IsEndLine : Formula → Result Bool Stop → List ℕ → Type 0
-IsEndLine f (Ok holds) line = line ≡ []
-IsEndLine f (Err stop) line = IsStopLine f stop line
-
--- a fault that is stored stands for one
-abbrev pub HasFault : Formula → Stop → Type 0
-HasFault f (Faulty fault) = (x : Fault) × IsFault f fault x
-HasFault f stop = Unit {0}
-
--- so for an ending
-abbrev pub EndsSoundly : Formula → Result Bool Stop → Type 0
-EndsSoundly f (Ok holds) = Unit {0}
-EndsSoundly f (Err stop) = HasFault f stop
-
--- how a text that gives no formula ends: its status and its line
-pub data IsBadEnd (text : List ℕ) : ℕ → List ℕ → Type 0 where
-  refused : {line : List ℕ} → HasBadText text line → IsBadEnd text 3 line
-  no_room : IsBadEnd text 7 out_of_memory
-
--- how a run ends: its status and its line
-pub data IsRun (words : List (List ℕ)) (left left_after : Option (List ℕ)) (ended : Bool) (held held_after : Option (List ℕ)) : ℕ → List ℕ → Type 0 where
-  no_words : AreNoForm words → IsRun words left left_after ended held held_after 2 check_usage
-  no_formula : {status : ℕ} {line : List ℕ} (text : List ℕ) → AskCheck words text → IsBadEnd text status line → IsRun words left left_after ended held held_after status line
-  checked : {line : List ℕ} (f : Formula) (ending : Result Bool Stop) → AskFor words f → IsEnding f left left_after ended held held_after ending
-      → IsEndLine f ending line → IsRun words left left_after ended held held_after (status_of ending) line

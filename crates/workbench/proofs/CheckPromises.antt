@@ -1,0 +1,444 @@
+-- The promises of `check`, each from how a run ends.
+use Rattle.std.proofs.Common.{◌≡◌, ◌≢◌, ◌⊎◌, inl, inr, ℕ, ◌≤◌, Bool, true, false, List, [], ◌∷◌, ◌++◌, refl, sym, ap, ◌∙◌, subst, arith, append-nil, Some, None}
+use Rattle.std.specs.Prelude.{Option}
+use Rattle.std.proofs.lemmas.Bool.{false≢true}
+use Rattle.std.proofs.lemmas.List.{append_cancel_left, append_cancel_right}
+use Rattle.std.specs.Io.KnownBytes.{Appends, Consumes, IsAtEnd}
+use Rattle.io_edge.specs.Causes.{Rose}
+use Rattle.io_edge.specs.Calls.{Drained, Filled, HasFailed, HasRefused}
+use Rattle.stl_syntax.specs.Formula.{Formula}
+use Rattle.stl_syntax.specs.Trace.{Trace}
+use Rattle.stl_grammar.specs.Grammar.{FormulaText}
+use Rattle.stl_grammar.specs.FormulaRefusals.{IsFormulaOf}
+use Rattle.stl_grammar.proofs.LawProofs.{one_formula}
+use Rattle.report.specs.Report.{Command, check, robust, explain, json, table, Out}
+use Rattle.workbench.specs.Words.{AskCheck}
+use Rattle.workbench.specs.Commands.{Judge, judge, IsForm}
+use Rattle.workbench.specs.Commands as word
+use Rattle.workbench.specs.Requests.{Request, no_form, refused, whole, stream, sessions, generated, Stream, verdicts, early, margins, Asks, AreNone, IsAsked, IsBuilt, IsRefusal, AreHeld, word_of, has_input, usage_line}
+use Rattle.workbench.specs.Owed.{Owes, OwesAtEnd, not_yet, faulty as faulty_at_end, too_many, at_end}
+use Rattle.workbench.specs.Settled.{TellsTruth, HasFault, IsSettled, none, bad, faulty, answered, wide, overfull}
+use Rattle.workbench.specs.Running.{IsBegun, IsEnd, settled, unread, unwritten, no_memory, HasEnded, asked, unknown, IsRun}
+use Rattle.workbench.specs.Saying.{IsSaid, whole as all_said, part as part_said}
+use Rattle.workbench.specs.InputFaults.{Fault, fault_text, whole_limits, IsInputFault}
+use Rattle.workbench.specs.Answers.{HoldsAtStart}
+use Rattle.workbench.specs.Reading.{IsWhole, IsSound}
+use Rattle.workbench.specs.ErrTexts.{out_of_memory, read_fault, write_fault}
+use Rattle.workbench.specs.Promises as old
+use Rattle.workbench.specs.Promises.{AreNoForm, AskForBad, AskFor, Took, Got, IsChecked, IsCutOff, IsErrLine, IsMessage}
+use Rattle.workbench.proofs.FaultsStay.{unsound}
+use Rattle.workbench.proofs.RunEnds.{check_asked, none_asked, asked_check}
+
+-- words ask for one text
+one_text : {words : List (List ℕ)} {text other : List ℕ} → AskCheck words text → AskCheck words other → text ≡ other
+one_text {words} {text} {other} a b = let e = sym a ∙ b in cc
+
+-- and for one formula
+ask_once : {words : List (List ℕ)} {f g : Formula} → AskFor words f → AskFor words g → f ≡ g
+ask_once {words} {f} {g} a b =
+    let same = one_text a.form b.form in
+    one_formula b.text f g (subst (λ t. FormulaText t f) same a.is.read) b.is.read
+
+-- a text that is refused asks for no formula
+not_both : {words : List (List ℕ)} {f : Formula} {line : List ℕ} → AskFor words f → ¬ AskForBad words line
+not_both {words} {f} {line} a b = let (r, fault, e) = b.bad in (subst (λ t. IsFormulaOf t f) (one_text a.form b.form) a.is).sound r fault
+
+-- told bytes that were taken are those that were consumed
+took_is : {before after : Option (List ℕ)} {bytes read : List ℕ} → Took before after bytes → Consumes before after read → read ≡ bytes
+took_is {before} {after} {bytes} {read} t h =
+    let told : Consumes (Some (bytes ++ t.left)) (Some t.left) read = subst (λ a. Consumes (Some (bytes ++ t.left)) a read) t.now (subst (λ b. Consumes b after read) t.was h) in
+    append_cancel_right read bytes t.left (sym told)
+
+-- told bytes that were got are those that were appended
+got_is : {before after : Option (List ℕ)} {bytes text : List ℕ} → Got before after bytes → Appends before after text → text ≡ bytes
+got_is {before} {after} {bytes} {text} g h =
+    let told : Appends (Some g.held) (Some (g.held ++ bytes)) text = subst (λ a. Appends (Some g.held) a text) g.now (subst (λ b. Appends b after text) g.was h) in
+    append_cancel_left g.held text bytes (sym told)
+
+-- the bytes that were there are those that were consumed, and the others
+consumed : (before after : Option (List ℕ)) (bytes read : List ℕ) → before ≡ Some bytes → Consumes before after read → (left : List ℕ) × (after ≡ Some left) × (bytes ≡ read ++ left)
+consumed None after bytes read e h = absurd (let k = e in cc)
+consumed (Some xs) None bytes read e h = absurd h
+consumed (Some xs) (Some ys) bytes read e h = (ys, refl, (let k : bytes ≡ xs = (let j = e in cc) in k) ∙ h)
+
+-- ---- what is built: words of no form, a text that is refused, and `check`
+
+pub data IsBuiltRequest : Request → Type 0 where
+  of_none : IsBuiltRequest no_form
+  of_bad : (line : List ℕ) → IsBuiltRequest (refused line)
+  of_check : (f : Formula) → IsBuiltRequest (whole check f)
+
+built : (words : List (List ℕ)) (request : Request) → Asks words request → IsBuiltRequest request
+built words no_form a = of_none
+built words (refused line) a = of_bad line
+built words (whole check f) a = of_check f
+built words (whole robust f) a = absurd a.form.built
+built words (whole explain f) a = absurd a.form.built
+built words (whole json f) a = absurd a.form.built
+built words (whole table f) a = absurd a.form.built
+built words (stream verdicts f) a = absurd a.form.built
+built words (stream early f) a = absurd a.form.built
+built words (stream margins f) a = absurd a.form.built
+built words (sessions f) a = absurd a.form.built
+built words (generated n rows) a = absurd a.built
+
+no_form_of : {words : List (List ℕ)} → AreNone words → AreNoForm words
+no_form_of h text a = h (judge word.check text) (asked_check a)
+
+bad_of : {words : List (List ℕ)} (line : List ℕ) → Asks words (refused line) → AskForBad words line
+bad_of {words} line a = by_command a.command a.form a.is
+  where
+    by_command : (command : Judge) → IsAsked words (judge command a.text) → IsRefusal command a.text line → AskForBad words line
+    by_command word.check form (inl b) = record { text = a.text; form = check_asked form; bad = b }
+    by_command word.check form (inr (f, i, is, unserved, e)) = absurd unserved
+    by_command word.watch form is = absurd form.built
+    by_command word.robust form is = absurd form.built
+    by_command word.explain form is = absurd form.built
+    by_command word.json form is = absurd form.built
+    by_command word.table form is = absurd form.built
+    by_command word.early form is = absurd form.built
+    by_command word.mux form is = absurd form.built
+    by_command word.rwatch form is = absurd form.built
+
+-- how a run of the words ends, in the words of `check`
+pub data Seen (words : List (List ℕ)) (i : Drained) (o : Filled) (bytes text : List ℕ) : ℕ → List ℕ → Type 0 where
+  s_none : AreNoForm words → Seen words i o bytes text 2 usage_line
+  s_bad : {line : List ℕ} → AskForBad words line → Seen words i o bytes text 3 line
+  s_early : (¬ AreNoForm words) → Seen words i o bytes text 7 out_of_memory
+  s_fault : (f : Formula) (x : Fault) → AskFor words f → IsInputFault whole_limits f bytes i.ended x → (i.ended ≡ true → IsAtEnd i.after)
+      → Seen words i o bytes text 4 (fault_text x)
+  s_answer : {status : ℕ} (f : Formula) (tr : Trace) → AskFor words f → IsWhole whole_limits f bytes tr → Out check f tr text → TellsTruth f tr status
+      → i.ended ≡ true → IsAtEnd i.after → Seen words i o bytes text status []
+  s_unread : (f : Formula) → AskFor words f → i.ended ≡ false → HasFailed i → IsSound whole_limits f bytes false → Seen words i o bytes text 5 read_fault
+  s_unwritten : (f : Formula) (tr : Trace) (rest : List ℕ) → AskFor words f → IsWhole whole_limits f bytes tr → Out check f tr (text ++ rest) → rest ≢ [] → HasRefused o
+      → i.ended ≡ true → IsAtEnd i.after → Seen words i o bytes text 6 write_fault
+  s_no_memory : (f : Formula) → AskFor words f → Seen words i o bytes text 7 out_of_memory
+
+some_more : (text rest : List ℕ) → rest ≢ [] → text ++ rest ≡ [] → ⊥
+some_more [] rest h e = h e
+some_more (x ∷ text) rest h e = cc
+
+module _ {words : List (List ℕ)} {i : Drained} {o : Filled} {bytes : List ℕ} where
+  seen_none : {text : List ℕ} {status : ℕ} {line : List ℕ} → AreNone words → IsEnd no_form i o bytes text status line → Seen words i o bytes text status line
+  seen_none h (settled none) = s_none (no_form_of h)
+  seen_none h (settled (faulty fault prompt owed)) = absurd fault
+  seen_none h (settled (answered is)) = absurd is
+  seen_none h (settled (wide n den is)) = absurd is
+  seen_none h (settled (overfull n is)) = absurd is
+  seen_none h (unread has ended failed sound owed) = absurd (false≢true has)
+  seen_none {text = text} h (unwritten rest some failed begun timely) = absurd (some_more text rest some begun.owed)
+  seen_none h (no_memory known begun timely) = absurd (known refl)
+
+  seen_bad : {text : List ℕ} {status : ℕ} {line : List ℕ} (l : List ℕ) → AskForBad words l → IsEnd (refused l) i o bytes text status line → Seen words i o bytes text status line
+  seen_bad l b (settled bad) = s_bad b
+  seen_bad l b (settled (faulty fault prompt owed)) = absurd fault
+  seen_bad l b (settled (answered is)) = absurd is
+  seen_bad l b (settled (wide n den is)) = absurd is
+  seen_bad l b (settled (overfull n is)) = absurd is
+  seen_bad l b (unread has ended failed sound owed) = absurd (false≢true has)
+  seen_bad {text = text} l b (unwritten rest some failed begun timely) = absurd (some_more text rest some begun.owed)
+  seen_bad l b (no_memory known begun timely) = s_early (λ h. h b.text b.form)
+
+  seen_cut : {text : List ℕ} (f : Formula) (rest : List ℕ) (ask : AskFor words f) → rest ≢ [] → HasRefused o → (i.ended ≡ true → IsAtEnd i.after) → (b : IsBegun (whole check f) bytes i.ended text rest)
+      → Seen words i o bytes text 6 write_fault
+  seen_cut {text} f rest ask some failed at b = by_owed b.seen b.seen_end (text ++ rest) refl refl refl b.owed
+    where
+      by_owed : (seen : List ℕ) (e : Bool) (all : List ℕ) → b.seen ≡ seen → b.seen_end ≡ e → text ++ rest ≡ all → OwesAtEnd check f seen e all → Seen words i o bytes text 6 write_fault
+      by_owed seen false all p q s not_yet = absurd (some_more text rest some s)
+      by_owed seen true all p q s (faulty_at_end x fault) = absurd (some_more text rest some s)
+      by_owed seen true all p q s (too_many tr n trace many) = absurd (some_more text rest some s)
+      by_owed seen true all p q s (at_end tr trace few written) =
+          let all_read = b.at_end q in
+          let same : bytes ≡ seen = b.parts ∙ ap (λ l. b.seen ++ l) all_read.1 ∙ append-nil b.seen ∙ p in
+          s_unwritten f tr rest ask (subst (λ bs. IsWhole whole_limits f bs tr) (sym same) trace) (subst (λ t. Out check f tr t) (sym s) written) some failed all_read.0 (at all_read.0)
+
+  seen_check : {text : List ℕ} {status : ℕ} {line : List ℕ} (f : Formula) → AskFor words f → (status ≢ 7 → i.ended ≡ true → IsAtEnd i.after) → IsEnd (whole check f) i o bytes text status line
+      → Seen words i o bytes text status line
+  seen_check {text = text} f ask at (settled (faulty {line = line} (x, fault, e) prompt owed)) =
+      subst (λ l. Seen words i o bytes text 4 l) (sym e) (s_fault f x ask fault (at (λ k. omega (arith, k))))
+  seen_check f ask at (settled {status = status} (answered (ended, is))) = s_answer f is.tr ask is.trace is.written is.verdict ended (at (not_seven status is.verdict) ended)
+    where
+      not_seven : (s : ℕ) → TellsTruth f is.tr s → s ≢ 7
+      not_seven s (inl h) k = let a = h.0 in omega (arith, a, k)
+      not_seven s (inr h) k = let a = h.0 in omega (arith, a, k)
+  seen_check f ask at (settled (wide n den (ended, e, is))) = absurd is.cause
+  seen_check f ask at (settled (overfull n (ended, (t, trace, many)))) = absurd many
+  seen_check f ask at (unread has ended failed sound owed) = s_unread f ask ended failed (λ x fault. sound (fault_text x) (x, fault, refl))
+  seen_check f ask at (unwritten rest some failed begun timely) = seen_cut f rest ask some failed (at (λ k. omega (arith, k))) begun
+  seen_check f ask at (no_memory known begun timely) = s_no_memory f ask
+
+  seen_request : {text : List ℕ} {status : ℕ} {line : List ℕ} (request : Request) → IsBuiltRequest request → Asks words request → (status ≢ 7 → has_input request ≡ true → i.ended ≡ true → IsAtEnd i.after)
+      → IsEnd request i o bytes text status line → Seen words i o bytes text status line
+  seen_request no_form of_none a at end = seen_none a end
+  seen_request (refused l) (of_bad l') a at end = seen_bad l (bad_of l a) end
+  seen_request (whole check f) (of_check g) a at end = seen_check f (record { text = a.text; form = check_asked a.form; is = a.is }) (λ n. at n refl) end
+  seen_request (whole robust f) b a at end = elim b [ ]
+  seen_request (whole explain f) b a at end = elim b [ ]
+  seen_request (whole json f) b a at end = elim b [ ]
+  seen_request (whole table f) b a at end = elim b [ ]
+  seen_request (stream k f) b a at end = elim b [ ]
+  seen_request (sessions f) b a at end = elim b [ ]
+  seen_request (generated n rows) b a at end = elim b [ ]
+
+  pub seen_ended : {text : List ℕ} {status : ℕ} {line : List ℕ} → HasEnded words i o bytes text status line → Seen words i o bytes text status line
+  seen_ended (asked request a nothing at end) = seen_request request (built words request a) a at end
+  seen_ended (unknown some nothing) = s_early (λ h. some (none_asked h))
+
+-- ---- the promises
+
+small : {status : ℕ} (f : Formula) (tr : Trace) → TellsTruth f tr status → status ≤ 1
+small f tr (inl h) = let a = h.0 in omega (arith, a)
+small f tr (inr h) = let a = h.0 in omega (arith, a)
+
+not_answer : (status : ℕ) → 2 ≤ status → status ≢ 6 → (status ≤ 1) ⊎ (status ≡ 6) → ⊥
+not_answer status a b (inl s) = omega (arith, a, s)
+not_answer status a b (inr s) = b s
+
+fault_for : {words : List (List ℕ)} {f g : Formula} {bytes other : List ℕ} (ended : Bool) (x : Fault) → AskFor words f → AskFor words g → bytes ≡ other → IsInputFault whole_limits f bytes ended x → IsInputFault whole_limits g other ended x
+fault_for {words} {f} {g} {bytes} {other} ended x a b same h =
+    subst (λ (k : Formula). IsInputFault whole_limits k other ended x) (ask_once a b) (subst (λ bs. IsInputFault whole_limits f bs ended x) same h)
+
+whole_for : {words : List (List ℕ)} {f g : Formula} {bytes other : List ℕ} {tr : Trace} → AskFor words f → AskFor words g → bytes ≡ other → IsWhole whole_limits f bytes tr → IsWhole whole_limits g other tr
+whole_for {words} {f} {g} {bytes} {other} {tr} a b same h =
+    subst (λ (k : Formula). IsWhole whole_limits k other tr) (ask_once a b) (subst (λ bs. IsWhole whole_limits f bs tr) same h)
+
+-- a whole trace has no fault
+sound_end : {words : List (List ℕ)} {f g : Formula} {bytes other : List ℕ} {tr : Trace} {ended : Bool} (x : Fault) → AskFor words f → AskFor words g → bytes ≡ other → IsWhole whole_limits f bytes tr → ended ≡ true
+    → IsInputFault whole_limits g other ended x → ⊥
+sound_end {words} {f} {g} {bytes} {other} {tr} {ended} x a b same trace e fault =
+    (whole_for a b same trace).sound x (subst (λ (k : Bool). IsInputFault whole_limits g other k x) e fault)
+
+module _ (words : List (List ℕ)) (i : Drained) (o e : Filled) where
+  abbrev See : List ℕ → List ℕ → ℕ → List ℕ → Type 0
+  See bytes text status line = Seen words i o bytes text status line
+
+  seen : {status : ℕ} (r : IsRun words i o e status) → See r.bytes r.text status r.line
+  seen r = seen_ended r.ended
+
+  module _ {bytes text : List ℕ} where
+    bound : {status : ℕ} {line : List ℕ} → See bytes text status line → status ≤ 7
+    bound (s_none h) = omega arith
+    bound (s_bad b) = omega arith
+    bound (s_early h) = omega arith
+    bound (s_fault f x a fault at) = omega arith
+    bound (s_answer f tr a trace written truth ended at) = omega (arith, small f tr truth)
+    bound (s_unread f a ended failed sound) = omega arith
+    bound (s_unwritten f tr rest a trace written some failed ended at) = omega arith
+    bound (s_no_memory f a) = omega arith
+
+    words_of : {status : ℕ} {line : List ℕ} → See bytes text status line → status ≡ 2 → AreNoForm words
+    words_of (s_none h) s = h
+    words_of (s_bad b) s = absurd (omega (arith, s))
+    words_of (s_early h) s = absurd (omega (arith, s))
+    words_of (s_fault f x a fault at) s = absurd (omega (arith, s))
+    words_of (s_answer f tr a trace written truth ended at) s = absurd (omega (arith, s, small f tr truth))
+    words_of (s_unread f a ended failed sound) s = absurd (omega (arith, s))
+    words_of (s_unwritten f tr rest a trace written some failed ended at) s = absurd (omega (arith, s))
+    words_of (s_no_memory f a) s = absurd (omega (arith, s))
+
+    no_words_of : {status : ℕ} {line : List ℕ} → See bytes text status line → AreNoForm words → status ≡ 2
+    no_words_of (s_none h) n = refl
+    no_words_of (s_bad b) n = absurd (n b.text b.form)
+    no_words_of (s_early h) n = absurd (h n)
+    no_words_of (s_fault f x a fault at) n = absurd (n a.text a.form)
+    no_words_of (s_answer f tr a trace written truth ended at) n = absurd (n a.text a.form)
+    no_words_of (s_unread f a ended failed sound) n = absurd (n a.text a.form)
+    no_words_of (s_unwritten f tr rest a trace written some failed ended at) n = absurd (n a.text a.form)
+    no_words_of (s_no_memory f a) n = absurd (n a.text a.form)
+
+    bad_rightly : {status : ℕ} {line : List ℕ} → See bytes text status line → old.IsBadRightly words status
+    bad_rightly (s_none h) s = absurd (omega (arith, s))
+    bad_rightly (s_bad {line = line} b) s = (line, b)
+    bad_rightly (s_early h) s = absurd (omega (arith, s))
+    bad_rightly (s_fault f x a fault at) s = absurd (omega (arith, s))
+    bad_rightly (s_answer f tr a trace written truth ended at) s = absurd (omega (arith, s, small f tr truth))
+    bad_rightly (s_unread f a ended failed sound) s = absurd (omega (arith, s))
+    bad_rightly (s_unwritten f tr rest a trace written some failed ended at) s = absurd (omega (arith, s))
+    bad_rightly (s_no_memory f a) s = absurd (omega (arith, s))
+
+    bad_due : {status : ℕ} {line : List ℕ} → See bytes text status line → old.IsBadWhereDue words status
+    bad_due (s_none h) l b = absurd (h b.text b.form)
+    bad_due (s_bad b') l b = inl refl
+    bad_due (s_early h) l b = inr refl
+    bad_due (s_fault f x a fault at) l b = absurd (not_both a b)
+    bad_due (s_answer f tr a trace written truth ended at) l b = absurd (not_both a b)
+    bad_due (s_unread f a ended failed sound) l b = absurd (not_both a b)
+    bad_due (s_unwritten f tr rest a trace written some failed ended at) l b = absurd (not_both a b)
+    bad_due (s_no_memory f a) l b = inr refl
+
+    refused_rightly : {status : ℕ} {line : List ℕ} → Consumes i.before i.after bytes → See bytes text status line → old.IsRefusedRightly words i.before i.after i.ended status
+    refused_rightly moved (s_none h) s g bs ask took = absurd (h ask.text ask.form)
+    refused_rightly moved (s_bad b) s g bs ask took = absurd (omega (arith, s))
+    refused_rightly moved (s_early h) s g bs ask took = absurd (omega (arith, s))
+    refused_rightly moved (s_fault f x a fault at) s g bs ask took = (x, fault_for i.ended x a ask (took_is took moved) fault)
+    refused_rightly moved (s_answer f tr a trace written truth ended at) s g bs ask took = absurd (omega (arith, s, small f tr truth))
+    refused_rightly moved (s_unread f a ended failed sound) s g bs ask took = absurd (omega (arith, s))
+    refused_rightly moved (s_unwritten f tr rest a trace written some failed ended at) s g bs ask took = absurd (omega (arith, s))
+    refused_rightly moved (s_no_memory f a) s g bs ask took = absurd (omega (arith, s))
+
+    refused_due : {status : ℕ} {line : List ℕ} → Consumes i.before i.after bytes → See bytes text status line → old.IsRefusedWhereDue words i.before i.after i.ended status
+    refused_due moved (s_none h) g bs x ask took fault = absurd (h ask.text ask.form)
+    refused_due moved (s_bad b) g bs x ask took fault = absurd (not_both ask b)
+    refused_due moved (s_early h) g bs x ask took fault = inr refl
+    refused_due moved (s_fault f y a known at) g bs x ask took fault = inl refl
+    refused_due moved (s_answer f tr a trace written truth ended at) g bs x ask took fault = absurd (sound_end x a ask (took_is took moved) trace ended fault)
+    refused_due moved (s_unread f a ended failed sound) g bs x ask took fault =
+        absurd (sound x (subst (λ (k : Bool). IsInputFault whole_limits f bytes k x) ended
+        (subst (λ (k : Formula). IsInputFault whole_limits k bytes i.ended x) (ask_once ask a) (subst (λ b. IsInputFault whole_limits g b i.ended x) (sym (took_is took moved)) fault))))
+    refused_due moved (s_unwritten f tr rest a trace written some failed ended at) g bs x ask took fault = absurd (sound_end x a ask (took_is took moved) trace ended fault)
+    refused_due moved (s_no_memory f a) g bs x ask took fault = inr refl
+
+    answered_due : {status : ℕ} {line : List ℕ} → Consumes i.before i.after bytes → See bytes text status line
+        → old.IsAnsweredWhereDue words i.before i.faults i.faults_after o.faults o.faults_after status
+    answered_due moved (s_none h) g bs ask here sound calm quiet = absurd (h ask.text ask.form)
+    answered_due moved (s_bad b) g bs ask here sound calm quiet = absurd (not_both ask b)
+    answered_due moved (s_early h) g bs ask here sound calm quiet = inr refl
+    answered_due moved (s_fault f x a fault at) g bs ask here sound calm quiet =
+        let (rest, after, e) = consumed i.before i.after bs bytes here moved in
+        absurd (by_end i.ended refl (fault_for i.ended x a ask refl fault) rest after e)
+      where
+        by_end : (b : Bool) → i.ended ≡ b → IsInputFault whole_limits g bytes b x → (rest : List ℕ) → i.after ≡ Some rest → bs ≡ bytes ++ rest → ⊥
+        by_end false s fault rest after e = unsound whole_limits g bytes rest x fault (subst (λ k. IsSound whole_limits g k true) e sound)
+        by_end true s fault rest after e =
+            let nothing_left : rest ≡ [] = subst IsAtEnd after (at s) in
+            sound x (subst (λ k. IsInputFault whole_limits g k true x) (sym (e ∙ ap (λ r. bytes ++ r) nothing_left ∙ append-nil bytes)) fault)
+    answered_due moved (s_answer f tr a trace written truth ended at) g bs ask here sound calm quiet = inl (small f tr truth)
+    answered_due moved (s_unread f a ended failed sound') g bs ask here sound calm quiet = absurd (calm failed)
+    answered_due moved (s_unwritten f tr rest a trace written some failed ended at) g bs ask here sound calm quiet = absurd (quiet failed)
+    answered_due moved (s_no_memory f a) g bs ask here sound calm quiet = inr refl
+
+    five : {status : ℕ} {line : List ℕ} → See bytes text status line → status ≡ 5 → HasFailed i
+    five (s_none h) s = absurd (omega (arith, s))
+    five (s_bad b) s = absurd (omega (arith, s))
+    five (s_early h) s = absurd (omega (arith, s))
+    five (s_fault f x a fault at) s = absurd (omega (arith, s))
+    five (s_answer f tr a trace written truth ended at) s = absurd (omega (arith, s, small f tr truth))
+    five (s_unread f a ended failed sound) s = failed
+    five (s_unwritten f tr rest a trace written some failed ended at) s = absurd (omega (arith, s))
+    five (s_no_memory f a) s = absurd (omega (arith, s))
+
+    six : {status : ℕ} {line : List ℕ} → See bytes text status line → status ≡ 6 → HasRefused o
+    six (s_none h) s = absurd (omega (arith, s))
+    six (s_bad b) s = absurd (omega (arith, s))
+    six (s_early h) s = absurd (omega (arith, s))
+    six (s_fault f x a fault at) s = absurd (omega (arith, s))
+    six (s_answer f tr a trace written truth ended at) s = absurd (omega (arith, s, small f tr truth))
+    six (s_unread f a ended failed sound) s = absurd (omega (arith, s))
+    six (s_unwritten f tr rest a trace written some failed ended at) s = failed
+    six (s_no_memory f a) s = absurd (omega (arith, s))
+
+    all_read : {status : ℕ} {line : List ℕ} → See bytes text status line → (status ≤ 1) ⊎ (status ≡ 6) → (i.ended ≡ true) × IsAtEnd i.after
+    all_read (s_none h) s = absurd (not_answer 2 (omega arith) (λ k. omega (arith, k)) s)
+    all_read (s_bad b) s = absurd (not_answer 3 (omega arith) (λ k. omega (arith, k)) s)
+    all_read (s_early h) s = absurd (not_answer 7 (omega arith) (λ k. omega (arith, k)) s)
+    all_read (s_fault f x a fault at) s = absurd (not_answer 4 (omega arith) (λ k. omega (arith, k)) s)
+    all_read (s_answer f tr a trace written truth ended at) s = (ended, at)
+    all_read (s_unread f a ended failed sound) s = absurd (not_answer 5 (omega arith) (λ k. omega (arith, k)) s)
+    all_read (s_unwritten f tr rest a trace written some failed ended at) s = (ended, at)
+    all_read (s_no_memory f a) s = absurd (not_answer 7 (omega arith) (λ k. omega (arith, k)) s)
+
+    answered_rightly : {status : ℕ} {line : List ℕ} → Consumes i.before i.after bytes → Appends o.before o.after text → See bytes text status line
+        → old.IsAnsweredRightly words i.before i.after o.before o.after status
+    answered_rightly moved grew (s_none h) s g bs t ask took got = absurd (omega (arith, s))
+    answered_rightly moved grew (s_bad b) s g bs t ask took got = absurd (omega (arith, s))
+    answered_rightly moved grew (s_early h) s g bs t ask took got = absurd (omega (arith, s))
+    answered_rightly moved grew (s_fault f x a fault at) s g bs t ask took got = absurd (omega (arith, s))
+    answered_rightly moved grew (s_answer {status = status} f tr a trace written truth ended at) s g bs t ask took got =
+        subst (λ (k : Formula). IsChecked k bs t status) (ask_once a ask) (record {
+          tr = tr;
+          trace = subst (λ b. IsWhole whole_limits f b tr) (took_is took moved) trace;
+          written = subst (λ x. Out check f tr x) (got_is got grew) written;
+          truth = truth;
+        })
+    answered_rightly moved grew (s_unread f a ended failed sound) s g bs t ask took got = absurd (omega (arith, s))
+    answered_rightly moved grew (s_unwritten f tr rest a trace written some failed ended at) s g bs t ask took got = absurd (omega (arith, s))
+    answered_rightly moved grew (s_no_memory f a) s g bs t ask took got = absurd (omega (arith, s))
+
+    cut_off_rightly : {status : ℕ} {line : List ℕ} → Consumes i.before i.after bytes → Appends o.before o.after text → See bytes text status line
+        → old.IsCutOffRightly words i.before i.after o.before o.after status
+    cut_off_rightly moved grew (s_none h) s g bs t ask took got = absurd (omega (arith, s))
+    cut_off_rightly moved grew (s_bad b) s g bs t ask took got = absurd (omega (arith, s))
+    cut_off_rightly moved grew (s_early h) s g bs t ask took got = absurd (omega (arith, s))
+    cut_off_rightly moved grew (s_fault f x a fault at) s g bs t ask took got = absurd (omega (arith, s))
+    cut_off_rightly moved grew (s_answer f tr a trace written truth ended at) s g bs t ask took got = absurd (omega (arith, s, small f tr truth))
+    cut_off_rightly moved grew (s_unread f a ended failed sound) s g bs t ask took got = absurd (omega (arith, s))
+    cut_off_rightly moved grew (s_unwritten f tr rest a trace written some failed ended at) s g bs t ask took got =
+        subst (λ (k : Formula). IsCutOff k bs t) (ask_once a ask) (record {
+          tr = tr;
+          trace = subst (λ b. IsWhole whole_limits f b tr) (took_is took moved) trace;
+          rest = rest;
+          missing = some;
+          written = subst (λ x. Out check f tr (x ++ rest)) (got_is got grew) written;
+        })
+    cut_off_rightly moved grew (s_no_memory f a) s g bs t ask took got = absurd (omega (arith, s))
+
+    line_of : {status : ℕ} {line : List ℕ} → Consumes i.before i.after bytes → See bytes text status line → IsErrLine words i.before i.after i.ended status line
+    line_of moved (s_none h) = old.no_form
+    line_of moved (s_bad b) = old.bad_text b
+    line_of moved (s_early h) = old.no_memory
+    line_of moved (s_fault f x a fault at) = old.first_fault (λ g bs ask took. (x, fault_for i.ended x a ask (took_is took moved) fault, refl))
+    line_of moved (s_answer f tr a trace written truth ended at) = old.nothing (small f tr truth)
+    line_of moved (s_unread f a ended failed sound) = old.unread
+    line_of moved (s_unwritten f tr rest a trace written some failed ended at) = old.unwritten
+    line_of moved (s_no_memory f a) = old.no_memory
+
+  message_of : {told told_after : Option (List ℕ)} {faults faults_after : ℕ} {line : List ℕ} → IsSaid told told_after faults faults_after line → (message : List ℕ) → Got told told_after message
+      → IsMessage line message faults faults_after
+  message_of (all_said {line = line} w) message got = record { rest = []; parts = got_is got w ∙ sym (append-nil message); complete = λ rose. refl }
+  message_of (part_said p rose) message got = record { rest = p.back; parts = p.parts ∙ ap (λ t. t ++ p.back) (got_is got p.wrote); complete = λ calm. absurd (calm rose) }
+
+  module _ {status : ℕ} (r : IsRun words i o e status) where
+    pub run_bound : status ≤ 7
+    run_bound = bound (seen r)
+
+    pub run_words : status ≡ 2 → AreNoForm words
+    run_words = words_of (seen r)
+
+    pub run_no_words : AreNoForm words → status ≡ 2
+    run_no_words = no_words_of (seen r)
+
+    pub run_bad : old.IsBadRightly words status
+    run_bad = bad_rightly (seen r)
+
+    pub run_bad_due : old.IsBadWhereDue words status
+    run_bad_due = bad_due (seen r)
+
+    pub run_refused : old.IsRefusedRightly words i.before i.after i.ended status
+    run_refused = refused_rightly r.moved (seen r)
+
+    pub run_due : old.IsRefusedWhereDue words i.before i.after i.ended status
+    run_due = refused_due r.moved (seen r)
+
+    pub run_answer_due : old.IsAnsweredWhereDue words i.before i.faults i.faults_after o.faults o.faults_after status
+    run_answer_due = answered_due r.moved (seen r)
+
+    pub run_read : status ≡ 5 → Rose i.faults i.faults_after
+    run_read = five (seen r)
+
+    pub run_write : status ≡ 6 → Rose o.faults o.faults_after
+    run_write = six (seen r)
+
+    pub run_all_read : (status ≤ 1) ⊎ (status ≡ 6) → (i.ended ≡ true) × IsAtEnd i.after
+    run_all_read = all_read (seen r)
+
+    pub run_answered : old.IsAnsweredRightly words i.before i.after o.before o.after status
+    run_answered = answered_rightly r.moved r.grew (seen r)
+
+    pub run_cut_off : old.IsCutOffRightly words i.before i.after o.before o.after status
+    run_cut_off = cut_off_rightly r.moved r.grew (seen r)
+
+    pub run_told : old.IsToldRightly words i.before i.after i.ended e.before e.after e.faults e.faults_after status
+    run_told message got = (r.line, line_of r.moved (seen r), message_of r.said message got)
+
+-- only `check` is built, which is no stream
+pub all_held : (words : List (List ℕ)) → AreHeld words
+all_held words (judge word.check text) a = refl
+all_held words (judge word.watch text) a = absurd a.built
+all_held words (judge word.robust text) a = absurd a.built
+all_held words (judge word.explain text) a = absurd a.built
+all_held words (judge word.json text) a = absurd a.built
+all_held words (judge word.table text) a = absurd a.built
+all_held words (judge word.early text) a = absurd a.built
+all_held words (judge word.mux text) a = absurd a.built
+all_held words (judge word.rwatch text) a = absurd a.built
+all_held words (word.generate n rows) a = absurd a.built

@@ -1,0 +1,309 @@
+-- How a run ends, from how its parts do.
+use Rattle.std.proofs.Common.{◌≡◌, ◌≢◌, ◌⊎◌, inl, inr, ℕ, ◌≤◌, ◌-◌, Bool, true, false, List, [], ◌++◌, length, refl, sym, ap, ◌∙◌, subst, arith, append-nil, Result, Ok, Err}
+use Rattle.std.specs.Prelude.{Option, MatchBool, IsErr}
+use Rattle.std.specs.Io.KnownBytes.{Appends, Consumes, IsAtEnd}
+use Rattle.std.proofs.KnownBytes.{Appends-nil, Consumes-nil}
+use Rattle.std.proofs.lemmas.Bool.{false≢true}
+use Rattle.io_edge.specs.Calls.{Drained, Filled, HasFailed, HasRefused}
+use Rattle.stl_syntax.specs.Formula.{Formula}
+use Rattle.stl_syntax.specs.Trace.{Trace}
+use Rattle.report.specs.Report.{Command, check, robust, explain, json, table, Out}
+use Rattle.workbench.specs.Answers.{HoldsAtStart, IsJudged}
+use Rattle.workbench.specs.Words.{AskCheck}
+use Rattle.workbench.specs.Commands.{Judge, Form, judge, generate, IsForm, of_formula}
+use Rattle.workbench.specs.Commands as word
+use Rattle.workbench.specs.Requests.{Request, no_form, refused as bad_request, whole as of_whole, IsAsked, AreNone, AreFor, word_of, has_input, usage_line, IsUnserved}
+use Rattle.workbench.specs.Owed.{Owes, OwesAtEnd, not_yet, faulty as faulty_at_end, at_end as owed_at_end}
+use Rattle.workbench.specs.Settled.{HasFault, IsPrompt, IsSettled, none, bad, faulty, answered as settled_answer}
+use Rattle.workbench.specs.Running.{IsBegun, IsTimely, IsEnd, settled, unread, unwritten, no_memory, HasEnded, asked, unknown, IsRun}
+use Rattle.workbench.specs.Saying.{IsSaid}
+use Rattle.workbench.specs.InputFaults.{Fault, fault_text, whole_limits, IsInputFault}
+use Rattle.workbench.specs.Reading.{IsReadWhole, IsReadPromptly, IsStop, IsWhole}
+use Rattle.workbench.specs.Writing.{IsPartWritten}
+use Rattle.workbench.specs.declared.request.Command.{Command as Word}
+use Rattle.workbench.specs.declared.request.Command.TheVariants.{Check}
+use Rattle.workbench.specs.Wholes.{command_of, status_of_truth, IsAnswerOf, IsUnanswered, IsWrittenWith, all_of_it, a_part, IsWholeEnd, answered, unanswered, stopped, status_of, status_of_stop, IsEndLine, IsStopLine, HasFaultFor, EndsSoundly, IsBadEnd, refused, no_room}
+use Rattle.workbench.specs.declared.case.Case.{Case}
+use Rattle.workbench.specs.declared.fault.Stop.{Stop}
+use Rattle.workbench.specs.declared.fault.Stop.TheVariants.{Fault as Faulty, Unread, Unwritten, NoMemory}
+use Rattle.workbench.specs.ErrTexts.{out_of_memory, read_fault, write_fault}
+
+-- ---- words
+
+-- the words `check` and one more are of a form that is built
+pub asked_check : {words : List (List ℕ)} {text : List ℕ} → AskCheck words text → IsAsked words (judge word.check text)
+asked_check {words} {text} e = record { built = tt; is = subst (λ ws. IsForm ws (judge word.check text)) (sym e) (of_formula word.check) }
+
+is_check : {words : List (List ℕ)} {text : List ℕ} → IsForm words (judge word.check text) → AskCheck words text
+is_check (of_formula word.check) = refl
+
+-- and they alone
+pub check_asked : {words : List (List ℕ)} {text : List ℕ} → IsAsked words (judge word.check text) → AskCheck words text
+check_asked a = is_check a.is
+
+pub none_asked : {words : List (List ℕ)} → ((text : List ℕ) → ¬ AskCheck words text) → AreNone words
+none_asked h (judge word.check text) a = h text (check_asked a)
+none_asked h (judge word.watch text) a = a.built
+none_asked h (judge word.robust text) a = a.built
+none_asked h (judge word.explain text) a = a.built
+none_asked h (judge word.json text) a = a.built
+none_asked h (judge word.table text) a = a.built
+none_asked h (judge word.early text) a = a.built
+none_asked h (judge word.mux text) a = a.built
+none_asked h (judge word.rwatch text) a = a.built
+none_asked h (generate n rows) a = a.built
+
+-- a command that holds the whole trace serves each formula
+pub serves : (c : Command) (f : Formula) (i : ℕ) → ¬ IsUnserved (word_of c) f i
+serves check f i h = h
+serves robust f i h = h
+serves explain f i h = h
+serves json f i h = h
+serves table f i h = h
+
+-- ---- parts
+
+timely : (c : Command) (f : Formula) (bytes text : List ℕ) → IsTimely (of_whole c f) bytes text
+timely c f bytes text = ([], text, refl, refl)
+
+pub written_ok : {holds : Bool} {text : List ℕ} {held held_after : Option (List ℕ)} {e : Result Bool Stop} → IsWrittenWith holds text held held_after e
+    → ((e ≡ Ok holds) × Appends held held_after text) ⊎ ((e ≡ Err Unwritten) × IsPartWritten held held_after text)
+written_ok (all_of_it w) = inl (refl, w)
+written_ok (a_part w) = inr (refl, w)
+
+pub not_unread : {holds : Bool} {text : List ℕ} {held held_after : Option (List ℕ)} {e : Result Bool Stop} → IsWrittenWith holds text held held_after e → e ≢ Err Unread
+not_unread (all_of_it w) same = let k = same in cc
+not_unread (a_part w) same = let k = same in cc
+
+pub only_unwritten : {holds : Bool} {text : List ℕ} {held held_after : Option (List ℕ)} {e : Result Bool Stop} → IsWrittenWith holds text held held_after e → IsErr e → e ≢ Err Unwritten → ⊥
+only_unwritten (all_of_it w) err other = let k = err in cc
+only_unwritten (a_part w) err other = other refl
+
+kept_all : (before after : Option (List ℕ)) → after ≡ before → Appends before after []
+kept_all before after e = subst (λ a. Appends before a []) (sym e) (Appends-nil before)
+
+kept_left : (before after : Option (List ℕ)) → after ≡ before → Consumes before after []
+kept_left before after e = subst (λ a. Consumes before a []) (sym e) (Consumes-nil before)
+
+pub not_stopped : (c : Command) (f : Formula) (tr : Trace) (stop : Stop) → IsUnanswered c f tr stop → (stop ≢ Unread) × (stop ≢ Unwritten)
+not_stopped c f tr (Faulty fault) is = absurd is
+not_stopped c f tr Unread is = absurd is
+not_stopped c f tr Unwritten is = absurd is
+not_stopped c f tr NoMemory is = (λ e. let k = e in cc, λ e. let k = e in cc)
+
+-- the answer of `check`
+pub check_answer : (f : Formula) (tr : Trace) (holds : Bool) (text : List ℕ) → IsJudged f tr holds text → IsAnswerOf check f tr holds text
+check_answer f tr true text j = record { verdict = inl (refl, j.truth); written = j.written; few = λ n h. h }
+check_answer f tr false text j = record { verdict = inr (refl, j.truth); written = j.written; few = λ n h. h }
+
+-- and so of its word
+pub word_answer : (w : Word) (f : Formula) (tr : Trace) (holds : Bool) (text : List ℕ) → IsJudged f tr holds text → IsAnswerOf (command_of w) f tr holds text
+word_answer Check = check_answer
+
+-- an ending that stopped at a fault has one
+pub ends_soundly : {c : Command} {f : Formula} {i : Drained} {o : Filled} {e : Result Bool Stop} → IsWholeEnd c f i o e → EndsSoundly f e
+ends_soundly (answered k holds text read a (all_of_it w)) = tt
+ends_soundly (answered k holds text read a (a_part w)) = tt
+ends_soundly (unanswered k (Faulty fault) read is same) = absurd is
+ends_soundly (unanswered k Unread read is same) = tt
+ends_soundly (unanswered k Unwritten read is same) = tt
+ends_soundly (unanswered k NoMemory read is same) = tt
+ends_soundly (stopped (Faulty fault) is same) = (is.0, is.1)
+ends_soundly (stopped Unread is same) = tt
+ends_soundly (stopped Unwritten is same) = tt
+ends_soundly (stopped NoMemory is same) = tt
+
+-- ---- runs
+
+-- words of no form
+pub none_run : {words : List (List ℕ)} (i : Drained) (o e : Filled) (line : List ℕ) → line ≡ usage_line → AreNone words → i.after ≡ i.before → o.after ≡ o.before
+    → IsSaid e.before e.after e.faults e.faults_after line → IsRun words i o e 2
+none_run i o e line is h same_in same_out said = record {
+  bytes = [];
+  text = [];
+  line = usage_line;
+  moved = kept_left i.before i.after same_in;
+  grew = kept_all o.before o.after same_out;
+  said = subst (λ l. IsSaid e.before e.after e.faults e.faults_after l) is said;
+  ended = asked no_form h (λ _. refl) (λ _ b _. absurd (false≢true b)) (settled none);
+}
+
+-- a text that gives no formula
+pub refused_run : {words : List (List ℕ)} {text : List ℕ} (c : Command) (i : Drained) (o e : Filled) (status : ℕ) (line : List ℕ) → IsAsked words (judge (word_of c) text) → IsBadEnd text status line
+    → i.after ≡ i.before → o.after ≡ o.before → IsSaid e.before e.after e.faults e.faults_after line → IsRun words i o e status
+refused_run {words} {text} c i o e status line form end same_in same_out said = record {
+  bytes = [];
+  text = [];
+  line = line;
+  moved = kept_left i.before i.after same_in;
+  grew = kept_all o.before o.after same_out;
+  said = said;
+  ended = by_end end;
+}
+  where
+    by_end : {status : ℕ} {line : List ℕ} → IsBadEnd text status line → HasEnded words i o [] [] status line
+    by_end (refused {line = line} b) =
+        asked (bad_request line) (record { command = word_of c; text = text; form = form; is = inl b }) (λ _. refl) (λ _ x _. absurd (false≢true x)) (settled bad)
+    by_end no_room = unknown (λ h. h (judge (word_of c) text) form) refl
+
+prompt_of : (c : Command) (f : Formula) (bytes : List ℕ) (ended : Bool) → IsReadPromptly whole_limits f bytes ended → IsPrompt (of_whole c f) bytes ended
+prompt_of c f bytes ended p = record {
+  before = p.before;
+  piece = p.piece;
+  parts = p.parts;
+  short = p.short;
+  at_end = p.at_end;
+  sound = λ line h. p.sound h.0 h.1;
+}
+
+owes_fault : (c : Command) (f : Formula) (bytes : List ℕ) (ended : Bool) (x : Fault) → IsInputFault whole_limits f bytes ended x → OwesAtEnd c f bytes ended []
+owes_fault c f bytes false x h = not_yet
+owes_fault c f bytes true x h = faulty_at_end x h
+
+module _ (words : List (List ℕ)) (c : Command) (f : Formula) (i : Drained) (o e : Filled) (ask : AreFor words (word_of c) f) where
+  -- the end of a request that is known, with what it read and wrote
+  record Ending (status : ℕ) (line : List ℕ) : Type 0 where
+    bytes : List ℕ
+    text : List ℕ
+    moved : Consumes i.before i.after bytes
+    grew : Appends o.before o.after text
+    at_end : status ≢ 7 → i.ended ≡ true → IsAtEnd i.after
+    is : IsEnd (of_whole c f) i o bytes text status line
+
+  told_as : {status : ℕ} {line other : List ℕ} → other ≡ line → Ending status line → Ending status other
+  told_as {status} same x = subst (λ l. Ending status l) (sym same) x
+
+  of_answer : (case : Case) (holds : Bool) (text : List ℕ) → IsReadWhole whole_limits f i.before i.after i.ended case → IsAnswerOf c f case.trace holds text
+      → Appends o.before o.after text → Ending (status_of_truth holds) []
+  of_answer case holds text read a w = record {
+    bytes = read.bytes;
+    text = text;
+    moved = read.read.moved;
+    grew = w;
+    at_end = λ _. read.read.all;
+    is = settled (settled_answer (read.came_to_end, record { tr = case.trace; trace = read.whole; written = a.written; verdict = a.verdict; few = a.few }));
+  }
+
+  of_part : (case : Case) (holds : Bool) (text : List ℕ) → IsReadWhole whole_limits f i.before i.after i.ended case → IsAnswerOf c f case.trace holds text
+      → IsPartWritten o.before o.after text → HasRefused o → Ending 6 write_fault
+  of_part case holds text read a p failed = record {
+    bytes = read.bytes;
+    text = p.front;
+    moved = read.read.moved;
+    grew = p.wrote;
+    at_end = λ _. read.read.all;
+    is = unwritten p.back p.missing failed (record {
+      seen = read.bytes;
+      later = [];
+      parts = sym (append-nil read.bytes);
+      seen_end = true;
+      at_end = λ _. (read.came_to_end, refl);
+      owed = owed_at_end case.trace read.whole a.few (subst (λ t. Out c f case.trace t) p.parts a.written);
+    }) (timely c f read.bytes p.front);
+  }
+
+  of_stop : (stop : Stop) → IsStop whole_limits f i.before i.after i.ended stop → o.after ≡ o.before → (stop ≡ Unread → HasFailed i) → {line : List ℕ} → IsStopLine f stop line
+      → Ending (status_of_stop stop) line
+  of_stop (Faulty fault) (x, is, read) same failed told = told_as (told x is) (record {
+    bytes = read.bytes;
+    text = [];
+    moved = read.read.moved;
+    grew = kept_all o.before o.after same;
+    at_end = λ _. read.read.all;
+    is = settled (faulty (x, read.fault, refl) (prompt_of c f read.bytes i.ended read.prompt) (owes_fault c f read.bytes i.ended x read.fault));
+  })
+  of_stop Unread read same failed told = told_as told (record {
+    bytes = read.bytes;
+    text = [];
+    moved = read.read.moved;
+    grew = kept_all o.before o.after same;
+    at_end = λ _. read.read.all;
+    is = unread refl read.goes_on (failed refl) (λ line h. read.sound h.0 h.1) not_yet;
+  })
+  of_stop Unwritten is same failed told = absurd is
+  of_stop NoMemory (bytes, moved) same failed told = told_as told (record {
+    bytes = bytes;
+    text = [];
+    moved = moved;
+    grew = kept_all o.before o.after same;
+    at_end = λ n. absurd (n refl);
+    is = no_memory (λ k. let h = k in cc) (inl refl) (timely c f bytes []);
+  })
+
+  of_unanswered : (case : Case) (stop : Stop) → IsReadWhole whole_limits f i.before i.after i.ended case → IsUnanswered c f case.trace stop → o.after ≡ o.before → {line : List ℕ} → IsStopLine f stop line
+      → Ending (status_of_stop stop) line
+  of_unanswered case (Faulty fault) read is same told = absurd is
+  of_unanswered case Unread read is same told = absurd is
+  of_unanswered case Unwritten read is same told = absurd is
+  of_unanswered case NoMemory read is same told = of_stop NoMemory (read.bytes, read.read.moved) same (λ k. absurd (let h = k in cc)) told
+
+  of_end : (ending : Result Bool Stop) → IsWholeEnd c f i o ending → (ending ≡ Err Unread → HasFailed i) → (ending ≡ Err Unwritten → HasRefused o) → {line : List ℕ} → IsEndLine f ending line
+      → Ending (status_of ending) line
+  of_end ending (answered case holds text read a (all_of_it w)) failed cut told = told_as told (of_answer case holds text read a w)
+  of_end ending (answered case holds text read a (a_part w)) failed cut told = told_as told (of_part case holds text read a w (cut refl))
+  of_end ending (unanswered case stop read is same) failed cut told = of_unanswered case stop read is same told
+  of_end ending (stopped stop is same) failed cut told = of_stop stop is same (λ k. failed (ap Err k)) told
+
+  -- a request that is known
+  pub known_run : (ending : Result Bool Stop) (status : ℕ) (line : List ℕ) → status ≡ status_of ending → IsWholeEnd c f i o ending → (ending ≡ Err Unread → HasFailed i) → (ending ≡ Err Unwritten → HasRefused o)
+      → IsEndLine f ending line → IsSaid e.before e.after e.faults e.faults_after line → IsRun words i o e status
+  known_run ending status line same end failed cut told said =
+      let x = of_end ending end failed cut told in
+      subst (λ s. IsRun words i o e s) (sym same) (record {
+        bytes = x.bytes;
+        text = x.text;
+        line = line;
+        moved = x.moved;
+        grew = x.grew;
+        said = said;
+        ended = asked (of_whole c f) ask (λ k. absurd (let h = k in cc)) (λ n _. x.at_end n) x.is;
+      })
+
+-- ---- statuses
+
+-- the ending of a status
+pub five_is : (e : Result Bool Stop) → status_of e ≡ 5 → e ≡ Err Unread
+five_is (Ok true) s = absurd (omega (arith, s))
+five_is (Ok false) s = absurd (omega (arith, s))
+five_is (Err (Faulty fault)) s = absurd (omega (arith, s))
+five_is (Err Unread) s = refl
+five_is (Err Unwritten) s = absurd (omega (arith, s))
+five_is (Err NoMemory) s = absurd (omega (arith, s))
+
+pub six_is : (e : Result Bool Stop) → status_of e ≡ 6 → e ≡ Err Unwritten
+six_is (Ok true) s = absurd (omega (arith, s))
+six_is (Ok false) s = absurd (omega (arith, s))
+six_is (Err (Faulty fault)) s = absurd (omega (arith, s))
+six_is (Err Unread) s = absurd (omega (arith, s))
+six_is (Err Unwritten) s = refl
+six_is (Err NoMemory) s = absurd (omega (arith, s))
+
+pub large_is : (e : Result Bool Stop) → 2 ≤ status_of e → IsErr e
+large_is (Ok true) s = absurd (omega (arith, s))
+large_is (Ok false) s = absurd (omega (arith, s))
+large_is (Err stop) s = refl
+
+pub not_six : (e : Result Bool Stop) → status_of e ≢ 6 → e ≢ Err Unwritten
+not_six e other same = other (ap status_of same)
+
+pub not_five : (e : Result Bool Stop) → status_of e ≢ 5 → e ≢ Err Unread
+not_five e other same = other (ap status_of same)
+
+-- no ending has the status of words or of a formula
+pub not_words : (e : Result Bool Stop) → ¬ ((status_of e ≡ 2) ⊎ (status_of e ≡ 3))
+not_words (Ok true) (inl s) = omega (arith, s)
+not_words (Ok true) (inr s) = omega (arith, s)
+not_words (Ok false) (inl s) = omega (arith, s)
+not_words (Ok false) (inr s) = omega (arith, s)
+not_words (Err (Faulty fault)) (inl s) = omega (arith, s)
+not_words (Err (Faulty fault)) (inr s) = omega (arith, s)
+not_words (Err Unread) (inl s) = omega (arith, s)
+not_words (Err Unread) (inr s) = omega (arith, s)
+not_words (Err Unwritten) (inl s) = omega (arith, s)
+not_words (Err Unwritten) (inr s) = omega (arith, s)
+not_words (Err NoMemory) (inl s) = omega (arith, s)
+not_words (Err NoMemory) (inr s) = omega (arith, s)
+
+pub not_small : (status : ℕ) → (status ≡ 3) ⊎ (status ≡ 7) → ¬ (status ≤ 1)
+not_small status (inl a) e = omega (arith, a, e)
+not_small status (inr a) e = omega (arith, a, e)

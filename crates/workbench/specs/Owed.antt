@@ -1,0 +1,98 @@
+-- The text that a request is owed for the bytes so far, which the input may have ended.
+use Rattle.std.specs.Prelude.{◌≡◌, ℕ, ◌-◌, Bool, true, false, List, [], take, Option, Some, None}
+use Rattle.stl_syntax.specs.Formula.{Formula, Subformula, root}
+use Rattle.stl_syntax.specs.Scaling.{scaled}
+use Rattle.stl_syntax.specs.Trace.{Header, Row, Trace}
+use Rattle.stl_syntax.specs.Stream.{IsStreamText}
+use Rattle.stl_syntax.specs.EarlyText.{IsEarlyText}
+use Rattle.stl_syntax.specs.MarginStream.{IsMarginStream}
+use Rattle.trace_reader.specs.TraceText.{lines}
+use Rattle.trace_reader.specs.declared.refusal.Limits.{Limits}
+use Rattle.stl_syntax.specs.Kept.{most_cells, IsTooMany}
+use Rattle.report.specs.Report.{Command, explain, json, Out, nodes_for}
+use Rattle.workbench.specs.Answers.{HoldsAtStart}
+use Rattle.workbench.specs.Requests.{Stream, verdicts, early, margins, Request, no_form, refused, whole, stream, sessions, generated}
+use Rattle.workbench.specs.InputFaults.{Fault, whole_limits, stream_limits, IsInputFault, AreRowsBefore}
+use Rattle.workbench.specs.Reading.{IsWhole}
+use Rattle.workbench.specs.Sessions.{Tagged, AreTagged, MuxText, InputFault, too_many_lines, too_long, bad_tag, too_many_sessions, FaultOfInput}
+use Rattle.workbench.specs.Generator.{IsSummary}
+
+-- the limits of a stream: an early verdict needs the rows so far
+abbrev pub limits_of : Stream → Limits
+limits_of verdicts = stream_limits
+limits_of early = whole_limits
+limits_of margins = stream_limits
+
+-- the text of a stream for rows under a header, with its end where the input has ended
+abbrev pub StreamText : Stream → Subformula → Header → List Row → Bool → List ℕ → Type 0
+StreamText verdicts p header rows ended text = IsStreamText p header rows ended text
+StreamText early p header rows ended text = IsEarlyText p header rows ended text
+StreamText margins p header rows ended text = IsMarginStream p header rows ended text
+
+-- the text of a stream for the rows under a header, once it was read
+abbrev pub StreamOf : Stream → Formula → Option Header → List Row → Bool → List ℕ → Type 0
+StreamOf s f None rows ended text = text ≡ []
+StreamOf s f (Some header) rows ended text = StreamText s (root (scaled f header.scale).nodes) header rows ended text
+
+-- the formula fails at the start, and an explanation would have too many cells
+pub record IsUnexplained (f : Formula) (tr : Trace) (count : ℕ) : Type 0 where
+  pub fails : ¬ HoldsAtStart f tr
+  pub many : IsTooMany (nodes_for f tr) tr most_cells count
+
+-- so for a command that explains
+abbrev pub HasTooMany : Command → Formula → Trace → ℕ → Type 0
+HasTooMany explain f tr count = IsUnexplained f tr count
+HasTooMany json f tr count = IsUnexplained f tr count
+HasTooMany c f tr count = ⊥
+
+-- of a command that holds the whole trace: nothing before the end, nothing where the bytes have a fault, and nothing where it would explain too many cells
+pub data OwesAtEnd (c : Command) (f : Formula) (bytes : List ℕ) : Bool → List ℕ → Type 0 where
+  not_yet : OwesAtEnd c f bytes false []
+  faulty : (x : Fault) → IsInputFault whole_limits f bytes true x → OwesAtEnd c f bytes true []
+  too_many : (tr : Trace) (count : ℕ) → IsWhole whole_limits f bytes tr → HasTooMany c f tr count → OwesAtEnd c f bytes true []
+  at_end : {text : List ℕ} (tr : Trace) → IsWhole whole_limits f bytes tr → ((count : ℕ) → ¬ HasTooMany c f tr count) → Out c f tr text
+      → OwesAtEnd c f bytes true text
+
+-- of a stream: the text of the rows before the first fault, with its end where the input has ended without one
+pub record OwesRows (s : Stream) (f : Formula) (bytes : List ℕ) (ended : Bool) (text : List ℕ) : Type 0 where
+  pub header : Option Header
+  pub rows : List Row
+  pub whole : Bool
+  pub before : AreRowsBefore (limits_of s) f bytes ended header rows whole
+  pub is : StreamOf s f header rows whole text
+
+-- the line of a fault of the input of several sessions
+abbrev pub fault_line : InputFault → ℕ
+fault_line (too_many_lines n) = n
+fault_line (too_long n) = n
+fault_line (bad_tag n) = n
+fault_line (too_many_sessions n) = n
+
+-- the lines of several sessions before the first fault; `whole` where the input has ended and there is none
+pub data AreLinesBefore (bytes : List ℕ) (ended : Bool) : List Tagged → Bool → Type 0 where
+  sound : {tagged : List Tagged} → ((x : InputFault) → ¬ FaultOfInput 1 [] (lines ended bytes) x) → AreTagged (lines ended bytes) tagged
+      → AreLinesBefore bytes ended tagged ended
+  faulted : {tagged : List Tagged} (x : InputFault) → FaultOfInput 1 [] (lines ended bytes) x → AreTagged (take (fault_line x - 1) (lines ended bytes)) tagged
+      → AreLinesBefore bytes ended tagged false
+
+-- of several sessions
+pub record OwesLines (f : Formula) (bytes : List ℕ) (ended : Bool) (text : List ℕ) : Type 0 where
+  pub tagged : List Tagged
+  pub whole : Bool
+  pub before : AreLinesBefore bytes ended tagged whole
+  pub is : MuxText f tagged whole text
+
+-- the text that is owed
+abbrev pub Owes : Request → List ℕ → Bool → List ℕ → Type 0
+Owes no_form bytes ended text = text ≡ []
+Owes (refused line) bytes ended text = text ≡ []
+Owes (whole c f) bytes ended text = OwesAtEnd c f bytes ended text
+Owes (stream s f) bytes ended text = OwesRows s f bytes ended text
+Owes (sessions f) bytes ended text = OwesLines f bytes ended text
+Owes (generated number rows) bytes ended text = IsSummary number rows text
+
+-- the text that must have been written before more than these bytes were read: a stream's for their whole lines
+abbrev pub OwesByThen : Request → List ℕ → List ℕ → Type 0
+OwesByThen (stream s f) bytes text = OwesRows s f bytes false text
+OwesByThen (sessions f) bytes text = OwesLines f bytes false text
+OwesByThen request bytes text = text ≡ []

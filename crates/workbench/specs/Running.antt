@@ -1,0 +1,58 @@
+-- How a run ends.
+use Rattle.std.specs.Prelude.{◌≡◌, ◌≢◌, ◌⊎◌, ℕ, ◌-◌, Bool, true, false, List, [], ◌++◌, length, take}
+use Rattle.std.specs.Io.KnownBytes.{Appends, Consumes, IsAtEnd}
+use Rattle.io_edge.specs.Calls.{Drained, Filled, HasFailed, HasRefused}
+use Rattle.workbench.specs.Requests.{Request, no_form, Asks, AreNone, has_input}
+use Rattle.workbench.specs.Owed.{Owes, OwesByThen}
+use Rattle.workbench.specs.Settled.{HasFault, IsSettled}
+use Rattle.workbench.specs.ErrTexts.{out_of_memory, read_fault, write_fault}
+use Rattle.workbench.specs.Saying.{IsSaid}
+
+-- the text with this rest is owed for the bytes that were answered, which are the first of those that were read
+pub record IsBegun (request : Request) (bytes : List ℕ) (ended : Bool) (text rest : List ℕ) : Type 0 where
+  pub seen : List ℕ
+  pub later : List ℕ
+  pub parts : bytes ≡ seen ++ later
+  pub seen_end : Bool
+  pub at_end : seen_end ≡ true → (ended ≡ true) × (later ≡ [])
+  pub owed : Owes request seen seen_end (text ++ rest)
+
+-- what a stream owed for the whole lines of all but the last 4,096 bytes was written
+abbrev pub IsTimely : Request → List ℕ → List ℕ → Type 0
+IsTimely request bytes text =
+    (short more : List ℕ) × OwesByThen request (take (length bytes - 4096) bytes) short × (text ≡ short ++ more)
+
+-- how a request ends: what was read, what was written, the status and the line
+pub data IsEnd (request : Request) (i : Drained) (o : Filled) (bytes text : List ℕ) : ℕ → List ℕ → Type 0 where
+  settled : {status : ℕ} {line : List ℕ} → IsSettled bytes i.ended request status line text → IsEnd request i o bytes text status line
+  unread : has_input request ≡ true → i.ended ≡ false → HasFailed i → ((line : List ℕ) → ¬ HasFault request bytes false line) → Owes request bytes false text
+      → IsEnd request i o bytes text 5 read_fault
+  unwritten : (rest : List ℕ) → rest ≢ [] → HasRefused o → IsBegun request bytes i.ended text rest → IsTimely request bytes text
+      → IsEnd request i o bytes text 6 write_fault
+  no_memory : request ≢ no_form → (text ≡ []) ⊎ ((rest : List ℕ) × IsBegun request bytes i.ended text rest) → IsTimely request bytes text
+      → IsEnd request i o bytes text 7 out_of_memory
+
+-- how words end: what they ask for ends, or memory was wanting before that was known
+pub data HasEnded (words : List (List ℕ)) (i : Drained) (o : Filled) (bytes : List ℕ) : List ℕ → ℕ → List ℕ → Type 0 where
+  asked : {text : List ℕ} {status : ℕ} {line : List ℕ} (request : Request) → Asks words request
+      → (has_input request ≡ false → bytes ≡ []) → (status ≢ 7 → has_input request ≡ true → i.ended ≡ true → IsAtEnd i.after)
+      → IsEnd request i o bytes text status line → HasEnded words i o bytes text status line
+  unknown : (¬ AreNone words) → bytes ≡ [] → HasEnded words i o bytes [] 7 out_of_memory
+
+-- the run: these bytes were taken from the front of the input, this text was put at the end of the output, and this line on the error stream, or where that failed a part of it
+pub record IsRun (words : List (List ℕ)) (i : Drained) (o e : Filled) (status : ℕ) : Type 0 where
+  pub bytes : List ℕ
+  pub text : List ℕ
+  pub line : List ℕ
+  pub moved : Consumes i.before i.after bytes
+  pub grew : Appends o.before o.after text
+  pub said : IsSaid e.before e.after e.faults e.faults_after line
+  pub ended : HasEnded words i o bytes text status line
+
+-- the last parameter, where K is what it holds and Holds says that it holds what stands for the bytes of a request, all of them
+module _ (K : Type 0) (Holds : Request → List ℕ → K → Type 0) (keeps : Request → Bool) where
+  -- it is left after an answer of a stream, and else as it was
+  abbrev pub IsKeptRightly : Request → List ℕ → ℕ → K → K → Type 0
+  IsKeptRightly request bytes status old new =
+      ((keeps request ≡ true) × ((status ≡ 0) ⊎ (status ≡ 1)) × Holds request bytes new)
+      ⊎ (((keeps request ≡ false) ⊎ ((status ≢ 0) × (status ≢ 1))) × (new ≡ old))

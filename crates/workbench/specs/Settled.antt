@@ -1,0 +1,146 @@
+-- How a request ends by itself, without want of memory and faults of devices: its status, its line on the error stream and its text.
+use Rattle.std.specs.Prelude.{◌≡◌, ◌⊎◌, ℕ, ◌-◌, ◌≤◌, ◌<◌, pos, Bool, true, false, MatchBool, List, [], ◌∷◌, ◌++◌, length, take, Option, Some, None}
+use Rattle.rational.specs.Time.{Rational}
+use Rattle.rational.specs.Extended.{Affine}
+use Rattle.stl_syntax.specs.Formula.{Formula, Subformula, root}
+use Rattle.stl_syntax.specs.Scaling.{scaled}
+use Rattle.stl_syntax.specs.Trace.{Header, Row, Trace, last_time}
+use Rattle.stl_syntax.specs.SupInf.{Setting, margin_setting}
+use Rattle.stl_syntax.specs.WideCause.{IsCrossingCause, IsValueCause}
+use Rattle.stl_syntax.specs.StreamedWide.{IsStreamedCrossing, IsStreamedValue}
+use Rattle.stl_syntax.specs.MarginStream.{IsMarginStream}
+use Rattle.stl_syntax.specs.declared.node.Node.{Node}
+use Rattle.trace_reader.specs.TraceText.{lines}
+use Rattle.report.specs.Report.{Command, check, robust, explain, json, table, Out, nodes_for}
+use Rattle.workbench.specs.Answers.{HoldsAtStart}
+use Rattle.workbench.specs.Requests.{Stream, verdicts, early, margins, Request, no_form, refused, whole, stream, sessions, generated, usage_line}
+use Rattle.workbench.specs.Owed.{limits_of, StreamText, Owes, OwesLines, HasTooMany}
+use Rattle.workbench.specs.InputFaults.{Fault, fault_text, whole_limits, IsInputFault, AreRowsBefore}
+use Rattle.workbench.specs.Reading.{IsWhole}
+use Rattle.workbench.specs.Sessions.{InputFault, FaultOfInput, input_fault_text}
+use Rattle.workbench.specs.Generator.{IsSummary}
+use Rattle.workbench.specs.ErrTexts.{wide_text, too_many_cells_text}
+
+-- the status tells the truth at the start
+abbrev pub TellsTruth : Formula → Trace → ℕ → Type 0
+TellsTruth f tr status = ((status ≡ 0) × HoldsAtStart f tr) ⊎ ((status ≡ 1) × (¬ HoldsAtStart f tr))
+
+-- the status of an answer over the whole trace
+abbrev pub IsVerdict : Command → Formula → Trace → ℕ → Type 0
+IsVerdict check f tr status = TellsTruth f tr status
+IsVerdict robust f tr status = status ≡ 0
+IsVerdict explain f tr status = TellsTruth f tr status
+IsVerdict json f tr status = TellsTruth f tr status
+IsVerdict table f tr status = status ≡ 0
+
+-- the status of a stream that came to its end
+abbrev pub IsLastVerdict : Stream → Formula → Trace → ℕ → Type 0
+IsLastVerdict verdicts f tr status = TellsTruth f tr status
+IsLastVerdict early f tr status = TellsTruth f tr status
+IsLastVerdict margins f tr status = status ≡ 0
+
+-- a pair of functions, or a constant, that is in play at node i needs this denominator
+abbrev pub IsNeeded : List Node → Setting → ℕ → ℕ → Type 0
+IsNeeded nodes s i den =
+    ((p q : Affine) × (a b : Rational) × IsCrossingCause nodes s i p q a b den) ⊎ ((p : Affine) × (u : Rational) × IsValueCause nodes s i p u den)
+
+-- so for a command that writes robustness
+abbrev pub HasWide : Command → Formula → Trace → ℕ → ℕ → Type 0
+HasWide check f tr i den = ⊥
+HasWide explain f tr i den = ⊥
+HasWide c f tr i den = IsNeeded (nodes_for f tr) (margin_setting tr) i den
+
+-- so once rows up to the time `now` have come, or all where the input has ended
+abbrev pub IsNeededByThen : List Node → Trace → Bool → ℕ → ℕ → Type 0
+IsNeededByThen nodes tr ended i den =
+    ((p q : Affine) × (a b : Rational) × IsStreamedCrossing nodes (margin_setting tr) ended (pos (last_time 0 tr.rows)) i p q a b den)
+    ⊎ ((p : Affine) × (u : Rational) × IsStreamedValue nodes (margin_setting tr) ended (pos (last_time 0 tr.rows)) i p u den)
+
+-- the first fault of the bytes, with its line
+abbrev pub HasFault : Request → List ℕ → Bool → List ℕ → Type 0
+HasFault (whole c f) bytes ended line = (x : Fault) × IsInputFault whole_limits f bytes ended x × (line ≡ fault_text x)
+HasFault (stream s f) bytes ended line = (x : Fault) × IsInputFault (limits_of s) f bytes ended x × (line ≡ fault_text x)
+HasFault (sessions f) bytes ended line = (x : InputFault) × FaultOfInput 1 [] (lines ended bytes) x × (line ≡ input_fault_text x)
+HasFault request bytes ended line = ⊥
+
+-- no fault was there before the last piece, of at most 4,096 bytes
+pub record IsPrompt (request : Request) (bytes : List ℕ) (ended : Bool) : Type 0 where
+  pub before : List ℕ
+  pub piece : List ℕ
+  pub parts : bytes ≡ before ++ piece
+  pub short : length piece ≤ 4096
+  pub at_end : ended ≡ true → piece ≡ []
+  pub sound : (line : List ℕ) → ¬ HasFault request before false line
+
+-- the bytes are all of a trace's, and the text is the command's, with its status
+pub record IsAnsweredWhole (c : Command) (f : Formula) (bytes : List ℕ) (status : ℕ) (text : List ℕ) : Type 0 where
+  pub tr : Trace
+  pub trace : IsWhole whole_limits f bytes tr
+  pub written : Out c f tr text
+  pub verdict : IsVerdict c f tr status
+  pub few : (count : ℕ) → ¬ HasTooMany c f tr count
+
+-- so for a stream
+pub record IsAnsweredByRow (s : Stream) (f : Formula) (bytes : List ℕ) (status : ℕ) (text : List ℕ) : Type 0 where
+  pub tr : Trace
+  pub trace : IsWhole (limits_of s) f bytes tr
+  pub written : StreamText s (root (nodes_for f tr)) tr.header tr.rows true text
+  pub verdict : IsLastVerdict s f tr status
+
+-- the answer to a request with its status and its whole text
+abbrev pub IsAnswered : Request → List ℕ → Bool → ℕ → List ℕ → Type 0
+IsAnswered (whole c f) bytes ended status text = (ended ≡ true) × IsAnsweredWhole c f bytes status text
+IsAnswered (stream s f) bytes ended status text = (ended ≡ true) × IsAnsweredByRow s f bytes status text
+IsAnswered (sessions f) bytes ended status text =
+    (ended ≡ true) × (status ≡ 0) × OwesLines f bytes true text × ((x : InputFault) → ¬ FaultOfInput 1 [] (lines true bytes) x)
+IsAnswered (generated number rows) bytes ended status text = (status ≡ 0) × IsSummary number rows text
+IsAnswered request bytes ended status text = ⊥
+
+-- a whole trace whose robustness needs too large a denominator; an explanation with too many cells comes before it
+pub record IsWideWhole (c : Command) (f : Formula) (bytes : List ℕ) (i den : ℕ) : Type 0 where
+  pub tr : Trace
+  pub trace : IsWhole whole_limits f bytes tr
+  pub cause : HasWide c f tr i den
+  pub few : (count : ℕ) → ¬ HasTooMany c f tr count
+
+-- rows of a stream that need too large a denominator: those up to one, which wrote nothing of its own, or all of an input that has ended
+pub data IsWideRows (f : Formula) (header : Header) : Bool → List Row → ℕ → ℕ → List ℕ → Type 0 where
+  at_row : (before : List Row) (r : Row) {i den : ℕ} {text : List ℕ}
+      → IsNeededByThen (scaled f header.scale).nodes (record { header = header; rows = before ++ r ∷ [] }) false i den
+      → IsMarginStream (root (scaled f header.scale).nodes) header before false text → IsWideRows f header false (before ++ r ∷ []) i den text
+  at_end : {rows : List Row} {i den : ℕ} {text : List ℕ} → IsNeededByThen (scaled f header.scale).nodes (record { header = header; rows = rows }) true i den
+      → IsMarginStream (root (scaled f header.scale).nodes) header rows false text → IsWideRows f header true rows i den text
+
+-- they are the first of the rows before the first fault; all of them, and none is a fault, where it came at the end
+pub record IsWideByRow (f : Formula) (bytes : List ℕ) (ended : Bool) (i den : ℕ) (text : List ℕ) : Type 0 where
+  pub header : Header
+  pub all : List Row
+  pub all_whole : Bool
+  pub before : AreRowsBefore (limits_of margins) f bytes ended (Some header) all all_whole
+  pub rows : List Row
+  pub later : List Row
+  pub parts : all ≡ rows ++ later
+  pub closed : Bool
+  pub at_end : closed ≡ true → (all_whole ≡ true) × (later ≡ [])
+  pub cause : IsWideRows f header closed rows i den text
+
+-- the refusal for a denominator, with what was written before it
+abbrev pub IsWide : Request → List ℕ → Bool → ℕ → ℕ → List ℕ → Type 0
+IsWide (whole c f) bytes ended i den text = (ended ≡ true) × (text ≡ []) × IsWideWhole c f bytes i den
+IsWide (stream margins f) bytes ended i den text = IsWideByRow f bytes ended i den text
+IsWide request bytes ended i den text = ⊥
+
+-- the refusal for the number of cells
+abbrev pub IsOverfull : Request → List ℕ → Bool → ℕ → Type 0
+IsOverfull (whole c f) bytes ended count = (ended ≡ true) × ((tr : Trace) × IsWhole whole_limits f bytes tr × HasTooMany c f tr count)
+IsOverfull request bytes ended count = ⊥
+
+-- how a request ends by itself: the status, the line and the text
+pub data IsSettled (bytes : List ℕ) (ended : Bool) : Request → ℕ → List ℕ → List ℕ → Type 0 where
+  none : IsSettled bytes ended no_form 2 usage_line []
+  bad : {line : List ℕ} → IsSettled bytes ended (refused line) 3 line []
+  faulty : {request : Request} {line text : List ℕ} → HasFault request bytes ended line → IsPrompt request bytes ended → Owes request bytes ended text
+      → IsSettled bytes ended request 4 line text
+  answered : {request : Request} {status : ℕ} {text : List ℕ} → IsAnswered request bytes ended status text → IsSettled bytes ended request status [] text
+  wide : {request : Request} (i den : ℕ) {text : List ℕ} → IsWide request bytes ended i den text → IsSettled bytes ended request 8 (wide_text i den) text
+  overfull : {request : Request} (count : ℕ) → IsOverfull request bytes ended count → IsSettled bytes ended request 9 (too_many_cells_text count) []

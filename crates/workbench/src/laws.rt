@@ -1,0 +1,50 @@
+//! Laws of runs. Each is the contract of a call that does nothing, so that the gate proves it.
+ghost use Rattle.std.specs.Prelude.{◌≡◌, ◌⊎◌, ◌≤◌, ℕ, List, true};
+ghost use Rattle.std.specs.Io.KnownBytes.{IsAtEnd};
+ghost use Rattle.io_edge.specs.Calls.{Drained, Filled, HasFailed, HasRefused};
+ghost use Rattle.workbench.specs.Promises.{AreNoForm, IsBadRightly, IsBadWhereDue, IsRefusedRightly, IsRefusedWhereDue, IsAnsweredWhereDue, IsAnsweredRightly, IsCutOffRightly, IsToldRightly};
+ghost use Rattle.stl_syntax.specs.Formula.{Formula};
+ghost use Rattle.report.specs.Report.{Command};
+ghost use Rattle.workbench.specs.Requests.{Request, AreHeld, whole, has_input};
+ghost use Rattle.workbench.specs.Settled.{HasFault};
+ghost use Rattle.workbench.specs.Running.{IsEnd, IsRun};
+
+/// The promises of `check`, clause by clause, follow from how a run ends.
+pub fn check_keeps_its_promises()
+    // Which status comes, and when.
+    ensures status { (words : List (List ℕ)) (i : Drained) (o e : Filled) (status : ℕ) → IsRun words i o e status → status ≤ 7 }
+    ensures words { (words : List (List ℕ)) (i : Drained) (o e : Filled) (status : ℕ) → IsRun words i o e status → status ≡ 2 → AreNoForm words }
+    ensures words_due { (words : List (List ℕ)) (i : Drained) (o e : Filled) (status : ℕ) → IsRun words i o e status → AreNoForm words → status ≡ 2 }
+    ensures formula { (words : List (List ℕ)) (i : Drained) (o e : Filled) (status : ℕ) → IsRun words i o e status → IsBadRightly words status }
+    ensures formula_due { (words : List (List ℕ)) (i : Drained) (o e : Filled) (status : ℕ) → IsRun words i o e status → IsBadWhereDue words status }
+    ensures refused { (words : List (List ℕ)) (i : Drained) (o e : Filled) (status : ℕ) → IsRun words i o e status → IsRefusedRightly words i.before i.after i.ended status }
+    ensures due { (words : List (List ℕ)) (i : Drained) (o e : Filled) (status : ℕ) → IsRun words i o e status → IsRefusedWhereDue words i.before i.after i.ended status }
+    ensures answer_due { (words : List (List ℕ)) (i : Drained) (o e : Filled) (status : ℕ) → IsRun words i o e status
+        → IsAnsweredWhereDue words i.before i.faults i.faults_after o.faults o.faults_after status }
+    ensures read { (words : List (List ℕ)) (i : Drained) (o e : Filled) (status : ℕ) → IsRun words i o e status → status ≡ 5 → HasFailed i }
+    ensures write { (words : List (List ℕ)) (i : Drained) (o e : Filled) (status : ℕ) → IsRun words i o e status → status ≡ 6 → HasRefused o }
+
+    // What was read, and what was written.
+    ensures all_read { (words : List (List ℕ)) (i : Drained) (o e : Filled) (status : ℕ) → IsRun words i o e status
+        → (status ≤ 1) ⊎ (status ≡ 6) → (i.ended ≡ true) × IsAtEnd i.after }
+    ensures answered { (words : List (List ℕ)) (i : Drained) (o e : Filled) (status : ℕ) → IsRun words i o e status
+        → IsAnsweredRightly words i.before i.after o.before o.after status }
+    ensures cut_off { (words : List (List ℕ)) (i : Drained) (o e : Filled) (status : ℕ) → IsRun words i o e status
+        → IsCutOffRightly words i.before i.after o.before o.after status }
+    ensures told { (words : List (List ℕ)) (i : Drained) (o e : Filled) (status : ℕ) → IsRun words i o e status
+        → IsToldRightly words i.before i.after i.ended e.before e.after e.faults e.faults_after status }
+    ensures held { (words : List (List ℕ)) → AreHeld words }
+{}
+
+/// Where the bytes that were read have a fault, a command that holds the whole trace ends with 4, or for want of memory.
+pub fn a_fault_is_told()
+    ensures { (c : Command) (f : Formula) (i : Drained) (o : Filled) (bytes text line told : List ℕ) (status : ℕ)
+        → IsEnd (whole c f) i o bytes text status told → HasFault (whole c f) bytes i.ended line → (status ≡ 4) ⊎ (status ≡ 7) }
+{}
+
+/// Where the bytes that were read have no fault and no device failed, every command with input ends with an answer, with 8 or 9, or
+/// for want of memory.
+pub fn an_answer_is_due()
+    ensures { (request : Request) (i : Drained) (o : Filled) (bytes text line : List ℕ) (status : ℕ) → IsEnd request i o bytes text status line → has_input request ≡ true
+        → ((l : List ℕ) → ¬ HasFault request bytes i.ended l) → (¬ HasFailed i) → (¬ HasRefused o) → (status ≤ 1) ⊎ (7 ≤ status) }
+{}
