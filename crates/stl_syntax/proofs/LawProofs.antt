@@ -7,10 +7,10 @@ use Rattle.rational.proofs.ExtendedLemmas.{clashᵉ, le_transᵉ}
 use Rattle.stl_syntax.specs.Trace.{Header, Row, Trace, IsTrace, Continues, AreRowsAfter, row_time, last_time, start}
 use Rattle.stl_syntax.specs.Formula.{root}
 use Rattle.stl_syntax.specs.Truth.{Truth}
-use Rattle.stl_syntax.specs.SupInf.{Reading, margins, truths, certainties, signals, one, zero_value, minus_one}
+use Rattle.stl_syntax.specs.SupInf.{Robustness, Reading, margins, truths, certainties, signals, one, zero_value, minus_one}
 use Rattle.stl_syntax.specs.Early.{Decides}
 use Rattle.stl_syntax.specs.Kleene.{Must, MustNot}
-use Rattle.stl_syntax.specs.Laws.{TruthIsOfTimes, ValuesAreOfTimes, CertaintyIsOfTimes, IsReadable, OneValue, CertaintyHasValues, IsToldByValue, TruthByValues, IsToldCertain, CertaintyByValues, CertaintyIsTruth, ExplanationsHold, AnswersStay, DecisionsStay, MarginsHold, OneListOfVerdicts, OneListOfMargins}
+use Rattle.stl_syntax.specs.Laws.{TruthIsOfTimes, ValuesAreOfTimes, CertaintyIsOfTimes, IsReadable, OneValue, CertaintyHasValues, IsToldByValue, TruthByValues, IsToldCertain, CertaintyByValues, CertaintyIsTruth, ExplanationsHold, AnswersStay, DecisionsStay, MarginsHold, OneListOfVerdicts, OneListOfMargins, AnsweredMarginsStay}
 use Rattle.stl_syntax.proofs.TruthLemmas.{Truth-same}
 use Rattle.stl_syntax.proofs.TimeLaw.{SupInf-same, Must-same, MustNot-same}
 use Rattle.stl_syntax.proofs.SupInfLemmas.{GivesOne, SupInf-unique, margins_give_one, truths_give_one}
@@ -21,6 +21,7 @@ use Rattle.stl_syntax.proofs.KleeneLaw.{Tells3, SupInf-certain}
 use Rattle.stl_syntax.proofs.KleeneLemmas.{clear, clear_not, certain_not}
 use Rattle.stl_syntax.proofs.StandsLemmas.{stands}
 use Rattle.stl_syntax.proofs.PrefixLaw.{Truth-settled}
+use Rattle.stl_syntax.proofs.MarginsStay.{Margins-settled}
 use Rattle.stl_syntax.proofs.EarlyLaw.{Decides-truth, Decides-stays}
 use Rattle.stl_syntax.proofs.MarginLaw.{SupInf-margin}
 use Rattle.stl_syntax.proofs.VerdictsLaw.{Describes-unique}
@@ -113,8 +114,18 @@ answers_stay p header r rows tr ended t ok c h = by_more (going_on header r rows
         → Truth p (record { header = header; rows = r ∷ rows }) t ↔ Truth p tr t
     by_more (more, e) =
         let after = rows_after header r rows more (rw e at ok) in
-        let both = Truth-settled header (length header.columns) r rows more after p t h in rw e both
+        let both = Truth-settled header (length header.columns) r rows more after p t (record { after = h.0; before = h.1 }) in rw e both
 
+pub answered_margins_stay : AnsweredMarginsStay
+answered_margins_stay p header r rows tr ended t v ok c h = by_more (going_on header r rows tr ended c)
+  where
+    by_more : (more : List Row) × (tr ≡ record { header = header; rows = r ∷ (rows ++ more) })
+        → Robustness p (record { header = header; rows = r ∷ rows }) t v ↔ Robustness p tr t v
+    by_more (more, e) =
+        let after = rows_after header r rows more (rw e at ok) in
+        let both = Margins-settled header (length header.columns) r rows more after p t (record { after = h.0; before = h.1 }) v in rw e both
+
+-- the time of the last row is not before the first
 pub last_from : (n time : ℕ) (rows : List Row) → AreRowsAfter n time rows → time ≤ last_time time rows
 last_from n time [] ok = omega arith
 last_from n time (r ∷ rows) ok = let h = last_from n r.time rows ok.2 in let k = ok.0 in omega arith

@@ -22,7 +22,8 @@ use Rattle.stl_syntax.specs.declared.rel.Rel.{Rel}
 use Rattle.stl_syntax.specs.declared.rel.Rel.TheVariants.{AtLeast, Above, AtMost, Below}
 use Rattle.stl_syntax.proofs.TruthLemmas.{same_expression, compares_same}
 
-margin_same : {x y : Rational} (rel : Rel) → x ≈ y → margin rel x ≈ margin rel y
+-- equal numbers have equal margins
+pub margin_same : {x y : Rational} (rel : Rel) → x ≈ y → margin rel x ≈ margin rel y
 margin_same AtLeast e = e
 margin_same Above e = e
 margin_same AtMost e = same_negate e
@@ -61,7 +62,8 @@ bool_same true c f g = sym (f refl)
 bool_same false true f g = g refl
 bool_same false false f g = refl
 
-holds_same : {t u : Rational} (a : Atom) (tr : Trace) → t ≈ u → holds_at a tr t ≡ holds_at a tr u
+-- an atom's test does not depend on the pair by which a time is written
+pub holds_same : {t u : Rational} (a : Atom) (tr : Trace) → t ≈ u → holds_at a tr t ≡ holds_at a tr u
 holds_same {t} {u} a tr e =
     bool_same (holds_at a tr t) (holds_at a tr u) (compares_same a.rel (expression a tr t) (expression a tr u) (same_expression a tr e))
     (compares_same a.rel (expression a tr u) (expression a tr t) (same_sym (same_expression a tr e)))
