@@ -1,3 +1,4 @@
 pub mod Values
 pub mod Margins
 pub mod Laws
+pub mod Members
