@@ -2,7 +2,7 @@
 use Rattle.std.proofs.Common.{◌≡◌, ◌⊎◌, inl, inr, List, [], ◌∷◌, Some, refl, sym, ◌∙◌, subst, arith}
 use Rattle.std.specs.Prelude.{slice_get, Result, Ok, Err, IfErr}
 use Rattle.rational.specs.Time.{Rational, ◌≤ʳ◌, ◌<ʳ◌, ◌≈◌}
-use Rattle.rational.specs.Extended.{Extended, Affine, value_at, Passes}
+use Rattle.rational.specs.Extended.{Extended, value_at, Passes}
 use Rattle.rational.specs.InPlay.{of_two}
 use Rattle.rational.specs.Windows.{Function}
 use Rattle.rational.proofs.Order.{lt_of_lt_of_le, lt_of_le_of_lt, same_refl, same_sym}

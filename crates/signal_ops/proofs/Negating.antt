@@ -2,7 +2,7 @@
 use Rattle.std.proofs.Common.{◌≡◌, ℕ, zero, suc, ◌+◌, ◌^◌, inl, inr, List, [], ◌∷◌, Some, refl, sym, subst, arith}
 use Rattle.std.specs.Prelude.{slice_get}
 use Rattle.rational.specs.Time.{Rational, ◌≈◌}
-use Rattle.rational.specs.Extended.{Extended, ◌≈ᵉ◌, opposite, Affine, value_at}
+use Rattle.rational.specs.Extended.{Extended, ◌≈ᵉ◌, opposite, value_at}
 use Rattle.rational.specs.Affine.{HasBoundedLevel}
 use Rattle.rational.proofs.Order.{ge_of_same, lt_of_le_of_lt, same_refl}
 use Rattle.rational.proofs.AffineLemmas.{same_symᵉ, same_transᵉ, opposite_back, opposite_same}

@@ -2,7 +2,7 @@
 use Rattle.std.specs.Prelude.{◌≤◌, ◌^◌, ℕ, List}
 use Rattle.rational.specs.Rational.{Rational, ◌<ʳ◌, ◌≤ʳ◌}
 use Rattle.rational.specs.Time.{HasDenominator}
-use Rattle.rational.specs.Extended.{Extended, Affine, value_at, IsLeast, IsGreatest, opposite}
+use Rattle.rational.specs.Extended.{Extended, value_at, IsLeast, IsGreatest, opposite}
 use Rattle.rational.specs.Affine.{MeetAlone}
 use Rattle.rational.specs.Windows.{Function}
 use Rattle.frac128.specs.Value.{value}
