@@ -15,4 +15,4 @@ unreachable-requires g c =
     (record { lowest = refl; highest = refl; from = ap (λ n. whole (pos n)) (sym c.first-from.ensures); to = ap (λ n. whole (pos n)) (sym c.last-to.ensures.last) })
     c.in_ok-atoms.ensures.told in
     let wide = subst (IsFault truth_shape case.formula.nodes s) c.in-Err-Wide.field-0-is fault in
-    levels_are_never_wide (λ p. truth_value p.holds) case.formula.nodes s c.in-Err-Wide.field-0-0.node c.in-Err-Wide.field-0-0.pair wide.1
+    levels_are_never_wide truth_shape (λ p. truth_value p.holds) (λ p. refl) case.formula.nodes s c.in-Err-Wide.field-0-0.node c.in-Err-Wide.field-0-0.pair wide.1
