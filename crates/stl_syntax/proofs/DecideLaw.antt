@@ -1,16 +1,16 @@
 -- What rows answer they settle, one way or the other.
-use Rattle.std.proofs.Common.{◌⊎◌, inl, inr, ℕ, ◌+◌, ◌-◌, max, true, false, refl, sym, ◌∙◌, lit<, arith}
-use Rattle.rational.specs.Time.{Rational, Within, ◌≤ʳ◌, later}
+use Rattle.std.proofs.Common.{◌⊎◌, inl, inr, ◌+◌, ◌-◌, max, true, false, refl, sym, ◌∙◌, lit<, arith}
+use Rattle.rational.specs.Time.{Rational, Within}
 use Rattle.rational.specs.Windows.{Ahead, Behind, IsUpTo, IsDownTo}
 use Rattle.rational.specs.Extended.{Extended, ◌≈ᵉ◌, ◌<ᵉ◌}
-use Rattle.rational.proofs.Order.{le_refl, le_trans}
-use Rattle.rational.proofs.TimeLemmas.{later_from, within_stretch}
+use Rattle.rational.proofs.Order.{le_refl}
+use Rattle.rational.proofs.TimeLemmas.{within_stretch}
 use Rattle.rational.proofs.ExtendedLemmas.{clashᵉ, le_transᵉ, least_of}
 use Rattle.stl_syntax.specs.Trace.{Trace, start, stop}
 use Rattle.stl_syntax.specs.Formula.{Subformula, constant, atom, negation, conjunction, disjunction, implication, until, eventually, always, since, once, historically, horizon}
 use Rattle.stl_syntax.specs.SupInf.{Setting, SupInf, one, minus_one, zero_value, HasValues, HasInfs, truth_setting}
 use Rattle.stl_syntax.specs.Truth.{Truth}
-use Rattle.stl_syntax.specs.Early.{OpenAhead, OpenBehind, IsSure, Settled, SettledNot, Decides}
+use Rattle.stl_syntax.specs.Early.{IsSure, Settled, SettledNot, Decides}
 use Rattle.stl_syntax.specs.Laws.{AnsweredIsSettled, RowsDecide}
 use Rattle.stl_syntax.proofs.TruthLaw.{Tells, SupInf-truth, has_value}
 use Rattle.stl_syntax.proofs.KleeneLaw.{Tells3, sup_tells3, inf_tells3, least_tells3, greatest_tells3, implies_tells3, opposite_tells3', retold3}
@@ -88,7 +88,9 @@ module _ (tr : Trace) where
       (λ u z w. λ (x, y, k, i, l). least_tells3 x y z _ _ _ _ (decided q ok.2 more.2 u x (until_right p q b h w.inside.above w.ends) k)
       (inf_tells3 (Within t u) (SupInf p setting) (λ x. Settled p tr x) (λ x. SettledNot p tr x) y
       (λ x z n f. decided p ok.1 more.1 x z (until_left p q b h w.ends n) f) (λ x n. has_value p setting ok.1 x (within_stretch here w.inside n)) i) l)
-      (λ u w. let x = has_value q setting ok.2 u w.inside in let y = more.0 t u here w.inside in let v = least_of x.0 y.0 in (v.0, (x.0, y.0, x.1, y.1, v.1))) v)
+      (λ u w.
+      let x = has_value q setting ok.2 u w.inside in
+      let y = more.0 t u here w.inside in let v = least_of x.0 y.0 in (v.0, (x.0, y.0, x.1, y.1, v.1))) v)
   decided (since a b p q) ok more t r h v =
       let now = reach_now (max (horizon p) (horizon q - a)) h in
       let here : Within from to t = record { above = h.after; below = now } in
@@ -101,11 +103,14 @@ module _ (tr : Trace) where
       (λ u z w. λ (x, y, k, i, l). least_tells3 x y z _ _ _ _ (decided q ok.2 more.2 u x (since_right p q a h w.inside.above w.ends) k)
       (inf_tells3 (Within u t) (SupInf p setting) (λ x. Settled p tr x) (λ x. SettledNot p tr x) y
       (λ x z n f. decided p ok.1 more.1 x z (since_left p q a h w.inside.above n) f) (λ x n. has_value p setting ok.1 x (within_stretch w.inside here n)) i) l)
-      (λ u w. let x = has_value q setting ok.2 u w.inside in let y = more.0 u t w.inside here in let v = least_of x.0 y.0 in (v.0, (x.0, y.0, x.1, y.1, v.1))) v)
+      (λ u w.
+      let x = has_value q setting ok.2 u w.inside in
+      let y = more.0 u t w.inside here in let v = least_of x.0 y.0 in (v.0, (x.0, y.0, x.1, y.1, v.1))) v)
 
 two_apart : {X : Type 0} (r x y : Extended) → r ≈ᵉ x → r ≈ᵉ y → y <ᵉ x → X
 two_apart r x y h k l = clashᵉ y x l (le_transᵉ x r y h.at_least k.at_most)
 
+-- the law on what is answered
 pub answered_is_settled : AnsweredIsSettled
 answered_is_settled p tr t h ok more = by_value (has_value p (truth_setting tr) ok t here)
   where
@@ -129,6 +134,7 @@ answered_is_settled p tr t h ok more = by_value (has_value p (truth_setting tr) 
     by_value : (r : Extended) × SupInf p (truth_setting tr) t r → Goal
     by_value (r, v) = by_both r (decided tr p ok more t r reach v) (SupInf-truth p tr ok t r here v)
 
+-- the law on rows up to the start and the horizon
 pub rows_decide : RowsDecide
 rows_decide p tr h ok more = by_settled (answered_is_settled p tr (start tr) (le_refl (start tr), h) ok more)
   where

@@ -1,14 +1,14 @@
 -- In the run that a stream drives the front of each node is the last row's time less the horizon, and that time itself after the end.
-use Rattle.std.proofs.Common.{◌≡◌, refl, sym, ap, subst, ◌∙◌, ℕ, zero, suc, ◌<◌, ◌≤◌, ◌+◌, ◌-◌, max, Bool, true, false, Option, Some, None, List, [], ◌∷◌, ◌++◌, length, take as first, ℤ, pos, neg_ℤ, ◌+ℤ◌, ◌-ℤ◌, ◌<ℤ◌, ◌≤ℤ◌, ◌≢◌, ◌⊎◌, inl, inr, All, arith, append_assoc, length-append}
+use Rattle.std.proofs.Common.{◌≡◌, refl, sym, ap, subst, ◌∙◌, ℕ, zero, suc, ◌<◌, ◌+◌, ◌-◌, max, Bool, true, false, Some, None, List, [], ◌∷◌, ◌++◌, length, take as first, ℤ, pos, neg_ℤ, ◌+ℤ◌, ◌-ℤ◌, ◌<ℤ◌, ◌≤ℤ◌, ◌≢◌, inl, inr, All, arith, append_assoc, length-append}
 use Rattle.std.proofs.Math.Seq.{get_or-append_seam}
 use Rattle.std.proofs.lemmas.List.{length_push, length-take-le}
 use Rattle.std.proofs.lemmas.Bool.{cases_lt, eq-eqb}
-use Rattle.std.specs.Prelude.{int_lt, cond, ◌&&◌, ◌==◌, not, slice_index_or, slice_get}
+use Rattle.std.specs.Prelude.{int_lt, cond, ◌&&◌, ◌==◌, slice_index_or, slice_get}
 use Rattle.std.proofs.lemmas.Int.{ints}
 use Rattle.stl_syntax.specs.Trace.{Header, Row, last_time}
 use Rattle.stl_syntax.specs.Formula.{Subformula, subformula, horizon, tree_of, HasChildrenBelow}
 use Rattle.stl_syntax.specs.PostOrder.{IsPostOrder, children}
-use Rattle.stl_syntax.specs.Network.{Event, row, step, close, take, Front, least, moved_by, State, last_row, open_number, same_front, all_at_end, allowed, allowed_at, is_atom, node_is_atom, initial, after_event, state_from, state}
+use Rattle.stl_syntax.specs.Network.{Event, row, step, close, Front, least, moved_by, State, last_row, open_number, same_front, all_at_end, allowed, allowed_at, is_atom, node_is_atom, initial, after_event, state_from, state}
 use Rattle.stl_syntax.specs.Driven.{steps_of, takes, pass_of, IsDriven, nothing, by_row, by_end}
 use Rattle.stl_syntax.specs.StreamedWide.{front_at}
 use Rattle.stl_syntax.specs.Laws.{FrontsAreTimes}
@@ -92,7 +92,8 @@ last_appended [] r closed fronts = refl
 last_appended (q ∷ rows) r closed fronts = ap (λ t. Some (pos t)) (time_appended q.time rows r)
 
 -- the state after events and then others
-state_on : (nodes : List Node) (s : State) (events others : List Event) → state_from nodes s (events ++ others) ≡ state_from nodes (state_from nodes s events) others
+state_on : (nodes : List Node) (s : State) (events others : List Event)
+    → state_from nodes s (events ++ others) ≡ state_from nodes (state_from nodes s events) others
 state_on nodes s [] others = refl
 state_on nodes s (e ∷ events) others = state_on nodes (after_event nodes s e) events others
 
@@ -149,7 +150,8 @@ module _ (nodes : List Node) (order : IsPostOrder nodes) (ended : Bool) (l : ℤ
     atoms = λ j g a. by_place j g a (j == k) refl;
   }
     where
-      by_place : (j : ℕ) → j < length nodes → node_is_atom nodes j ≡ true → (t : Bool) → (j == k) ≡ t → cond (j == k) (allowed_at nodes s k) (s.fronts j) ≡ Target j
+      by_place : (j : ℕ) → j < length nodes → node_is_atom nodes j ≡ true → (t : Bool) → (j == k) ≡ t
+          → cond (j == k) (allowed_at nodes s k) (s.fronts j) ≡ Target j
       by_place j g a false x = subst (λ t. cond t (allowed_at nodes s k) (s.fronts j) ≡ Target j) (sym x) (pass.atoms j g a)
       by_place j g a true x = absurd (let e : j ≡ k = grind (arith, x) in let f = ap (node_is_atom nodes) e in cc)
 
@@ -212,8 +214,9 @@ steps_keep nodes k [] s = (refl, refl)
 steps_keep nodes k (n ∷ rest) s =
     elim (is_atom n) as (λ t. ((state_from nodes s (cond t (steps_of (suc k) rest) (step k ∷ steps_of (suc k) rest))).rows ≡ s.rows)
     × ((state_from nodes s (cond t (steps_of (suc k) rest) (step k ∷ steps_of (suc k) rest))).closed ≡ s.closed)) [
-      true ↦ steps_keep nodes (suc k) rest s
-    | false ↦ steps_keep nodes (suc k) rest (after_event nodes s (step k)) ]
+      | true ↦ steps_keep nodes (suc k) rest s
+      | false ↦ steps_keep nodes (suc k) rest (after_event nodes s (step k))
+    ]
 
 -- an event, the steps and the takes
 after_pass : (nodes : List Node) (s : State) (e : Event) (n : ℕ)
@@ -257,8 +260,8 @@ at_row nodes rows r s order at = record {
   rows_are = kept.0 ∙ ap (λ x. x ++ r ∷ []) at.rows_are;
   closed = kept.1 ∙ at.closed;
   fronts = λ some i h.
-    stepped nodes order false (pos r.time) 0 [] nodes refl refl (after_event nodes s (row r)) passing (λ j g. absurd (omega arith)) i h
-    ∙ ap (λ t. Some (front_at false (pos t) (subformula nodes i))) (sym (time_appended 0 rows r));
+      stepped nodes order false (pos r.time) 0 [] nodes refl refl (after_event nodes s (row r)) passing (λ j g. absurd (omega arith)) i h
+      ∙ ap (λ t. Some (front_at false (pos t) (subformula nodes i))) (sym (time_appended 0 rows r));
 }
   where
     kept : ((state_from nodes (after_event nodes s (row r)) (steps_of 0 nodes)).rows ≡ s.rows ++ r ∷ [])
@@ -283,7 +286,7 @@ at_close nodes rows s order some at = record {
   rows_are = kept.0 ∙ at.rows_are;
   closed = kept.1;
   fronts = λ more i h.
-    stepped nodes order true (pos (last_time 0 rows)) 0 [] nodes refl refl (after_event nodes s close) passing (λ j g. absurd (omega arith)) i h;
+      stepped nodes order true (pos (last_time 0 rows)) 0 [] nodes refl refl (after_event nodes s close) passing (λ j g. absurd (omega arith)) i h;
 }
   where
     kept : ((state_from nodes (after_event nodes s close) (steps_of 0 nodes)).rows ≡ s.rows)
@@ -311,6 +314,7 @@ driven {nodes = nodes} order (by_end {rows = rows} {events = events} n before so
     let same = state_on nodes initial events (pass_of close nodes n) ∙ after_pass nodes s close n in
     subst (IsAt nodes rows true) (sym same) (at_close nodes rows s order some (driven order before))
 
+-- the law on fronts
 pub fronts_are_times : FrontsAreTimes
 unfolding state
 fronts_are_times nodes header rows ended events i order d some h = (driven order d).fronts some i h

@@ -198,6 +198,7 @@ least_tells3 v w r P N Q M (inr (inr (d, p, n))) (inr (inr (e, q, m))) l =
     neither a b (inl x) = a x
     neither a b (inr x) = b x
 
+-- the greatest of two values tells that one is so
 pub greatest_tells3 : (v w r : Extended) (P N Q M : Type 0) → Tells3 v P N → Tells3 w Q M → IsGreatest v w r → Tells3 r (P ⊎ Q) (N × M)
 greatest_tells3 v w r P N Q M d e l =
     opposite_tells3' r (N × M) (P ⊎ Q)
@@ -208,6 +209,7 @@ greatest_tells3 v w r P N Q M d e l =
     flipped (inl x) = inl (opposite_le' r v x)
     flipped (inr x) = inr (opposite_le' r w x)
 
+-- and with the first one turned, that it implies the second
 pub implies_tells3 : (v w r : Extended) (P N Q M : Type 0) → Tells3 v P N → Tells3 w Q M → IsGreatest (opposite v) w r → Tells3 r (N ⊎ Q) (P × M)
 implies_tells3 v w r P N Q M d e l = greatest_tells3 (opposite v) w r N P Q M (opposite_tells3 v P N d) e l
 

@@ -1,7 +1,7 @@
 -- An answered robustness is the robustness in every trace that goes on from the rows.
 use Rattle.std.proofs.Common.{ℕ, ◌+◌, ◌-◌, pos, List, ◌∷◌, ◌++◌, Bool, true, false, arith, max}
 use Rattle.std.specs.Prelude.{◌↔◌, Option}
-use Rattle.rational.specs.Time.{Rational, ◌≤ʳ◌, Within, whole, later}
+use Rattle.rational.specs.Time.{Rational, ◌≤ʳ◌, Within, whole}
 use Rattle.rational.specs.Extended.{Extended, finite, opposite, minus_infinity, infinity}
 use Rattle.rational.specs.Windows.{Ahead, Behind, Function, Window, IsSupOver, IsInfOver, IsUpTo, IsDownTo}
 use Rattle.rational.proofs.Order.{same_sym}
@@ -134,7 +134,7 @@ module _ (header : Header) (n : ℕ) (r : Row) (rows more : List Row) (ok : AreR
       inf_stays (behind_same (SupInf p short) (SupInf p long) a (horizon p) b a_in b_in t h (λ u k. Margins-settled p u k)) infinity v
   Margins-settled (until a b p q) t h v =
       let same : AreSame (Ahead from to a b true true t) (Ahead from end a b true true t) (IsUpTo infinity (SupInf p short) (SupInf q short) t)
-          (IsUpTo infinity (SupInf p long) (SupInf q long) t) =
+      (IsUpTo infinity (SupInf p long) (SupInf q long) t) =
       record {
         forth = λ u w. ahead_longer further w;
         back = λ u w. ahead_shorter (max (horizon p) (horizon q)) h w;
@@ -144,7 +144,7 @@ module _ (header : Header) (n : ℕ) (r : Row) (rows more : List Row) (ok : AreR
       sup_stays same minus_infinity v
   Margins-settled (since a b p q) t h v =
       let same : AreSame (Behind from to a b true true t) (Behind from end a b true true t) (IsDownTo infinity (SupInf p short) (SupInf q short) t)
-          (IsDownTo infinity (SupInf p long) (SupInf q long) t) =
+      (IsDownTo infinity (SupInf p long) (SupInf q long) t) =
       record {
         forth = λ u w. behind_longer further w;
         back = λ u w. behind_shorter (reach_now (max (horizon p) (horizon q - a)) h) w;

@@ -19,6 +19,7 @@ use Rattle.stl_syntax.proofs.TruthLemmas.{compares_same, chosen}
 ramp_starts : (c : ℕ) (r s : Row) → at (line_between r.time (value r c) (s.time - suc r.time) (value s c)) (row_time r) ≈ whole (value r c)
 ramp_starts c r s = record { same = omega arith }
 
+-- each column has at a row the row's value
 pub piece_starts : (step : Bool) (c : ℕ) (r s : Row) (t : Rational) → t ≈ row_time r → piece step c r s t ≈ whole (value r c)
 piece_starts true c r s t e = same_refl (whole (value r c))
 piece_starts false c r s t e = same_trans (same_at (line_between r.time (value r c) (s.time - suc r.time) (value s c)) e) (ramp_starts c r s)
@@ -73,11 +74,13 @@ module _ (header : Header) (n : ℕ) (r : Row) (rows more : List Row) (ok : AreR
   same_sum [] t h k = same_refl (whole (pos 0))
   same_sum (x ∷ terms) t h k = same_add (same_times x.coef (same_column x.name t h k)) (same_sum terms t h k)
 
+  -- an atom's expression is the same up to the last row
   pub same_atom : (a : Atom) (t : Rational) → row_time r ≤ʳ t → t ≤ʳ whole (pos (last_time r.time rows))
       → expression a (trace header (r ∷ rows)) t ≈ expression a (trace header (r ∷ (rows ++ more))) t
   unfolding expression
   same_atom a t h k = same_subtract (same_sum a.terms t h k) (same_refl (whole a.limit))
 
+  -- more rows end no earlier
   pub longer : whole (pos (last_time r.time rows)) ≤ʳ whole (pos (last_time r.time (rows ++ more)))
   longer = let h = last_grows n r.time rows more ok in record { le = omega arith }
 

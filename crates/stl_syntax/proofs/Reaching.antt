@@ -44,22 +44,24 @@ pub reach_end : {from to t : Rational} (b k : ℕ) → Reaches from to (b + k) t
 reach_end {t = t} b k h = le_trans (later_more t b (b + k) (omega arith)) h.before
 
 module _ {from to t u : Rational} (p q : Subformula) where
-  -- what until reads of its left child, from t to a time of the window, and of its right one there
+  -- what until reads of its left child, from t to a time of the window
   pub until_left : {v : Rational} (b : ℕ) → Reaches from to (b + max (horizon p) (horizon q)) t → u ≤ʳ later t b → Within t u v → Reaches from to (horizon p) v
   until_left b h e w =
       let m = max (horizon p) (horizon q) in
       reach_less (horizon p) m (omega arith) (reach_ahead b m h (le_trans h.after w.above) (le_trans w.below e))
 
+  -- and of its right child there
   pub until_right : (b : ℕ) → Reaches from to (b + max (horizon p) (horizon q)) t → from ≤ʳ u → u ≤ʳ later t b → Reaches from to (horizon q) u
   until_right b h g e =
       let m = max (horizon p) (horizon q) in reach_less (horizon q) m (omega arith) (reach_ahead b m h g e)
 
-  -- and what since reads
+  -- what since reads of its left child
   pub since_left : {v : Rational} (a : ℕ) → Reaches from to (max (horizon p) (horizon q - a)) t → from ≤ʳ u → Within u t v → Reaches from to (horizon p) v
   since_left a h g w =
       let m = max (horizon p) (horizon q - a) in
       reach_less (horizon p) m (omega arith) (reach_before m h (le_trans g w.above) w.below)
 
+  -- and of its right one
   pub since_right : (a : ℕ) → Reaches from to (max (horizon p) (horizon q - a)) t → from ≤ʳ u → later u a ≤ʳ t → Reaches from to (horizon q) u
   since_right a h g e =
       let m = max (horizon p) (horizon q - a) in

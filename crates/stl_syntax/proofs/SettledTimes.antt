@@ -1,16 +1,17 @@
 -- What is settled does not depend on the pair by which a time is written.
 use Rattle.std.proofs.Common.{ℕ, inl, inr, Bool, true, sym, ◌∙◌}
 use Rattle.std.specs.Prelude.{Option, Some, None}
-use Rattle.rational.specs.Time.{Rational, Within, later, ◌≈◌, ◌≤ʳ◌}
+use Rattle.rational.specs.Time.{Rational, Within, later, ◌≈◌}
 use Rattle.rational.proofs.Order.{le_trans, le_of_same, ge_of_same, same_sym}
 use Rattle.rational.proofs.TimeLemmas.{later_le, precedes_after, precedes_before}
-use Rattle.stl_syntax.specs.Trace.{Trace, start, stop}
+use Rattle.stl_syntax.specs.Trace.{Trace, start}
 use Rattle.stl_syntax.specs.Formula.{Subformula, constant, atom, negation, conjunction, disjunction, implication, until, eventually, always, since, once, historically}
 use Rattle.stl_syntax.specs.Early.{Settled, SettledNot, OpenAhead, OpenBehind, IsSure}
 use Rattle.stl_syntax.specs.Laws.{SettledIsOfTimes}
 use Rattle.stl_syntax.proofs.TimeLaw.{holds_same}
 
-open_ahead_same : {t u : Rational} (from : Rational) (a b : ℕ) (a_in b_in : Bool) (x : Rational) → t ≈ u → OpenAhead from a b a_in b_in t x → OpenAhead from a b a_in b_in u x
+open_ahead_same : {t u : Rational} (from : Rational) (a b : ℕ) (a_in b_in : Bool) (x : Rational) → t ≈ u
+    → OpenAhead from a b a_in b_in t x → OpenAhead from a b a_in b_in u x
 open_ahead_same {t} {u} from a b a_in b_in x e w = record {
   after = w.after;
   begins = precedes_after a_in (later u a) (later t a) x (later_le a (ge_of_same e)) w.begins;
@@ -54,8 +55,10 @@ mutual
   same (always a b a_in b_in p) tr e h = λ x w. h x (open_ahead_same (start tr) a b a_in b_in x (same_sym e) w)
   same (once a b a_in b_in p) tr e (x, w, s, h) = (x, open_behind_same (start tr) a b a_in b_in x e w, sure_same tr x e s, h)
   same (historically a b a_in b_in p) tr e h = λ x w. h x (open_behind_same (start tr) a b a_in b_in x (same_sym e) w)
-  same (until a b p q) tr e (x, w, s, h, k) = (x, open_ahead_same (start tr) a b true true x e w, sure_same tr x e s, h, λ v l. k v (from_same x v (same_sym e) l))
-  same (since a b p q) tr e (x, w, s, h, k) = (x, open_behind_same (start tr) a b true true x e w, sure_same tr x e s, h, λ v l. k v (to_same x v (same_sym e) l))
+  same (until a b p q) tr e (x, w, s, h, k) =
+      (x, open_ahead_same (start tr) a b true true x e w, sure_same tr x e s, h, λ v l. k v (from_same x v (same_sym e) l))
+  same (since a b p q) tr e (x, w, s, h, k) =
+      (x, open_behind_same (start tr) a b true true x e w, sure_same tr x e s, h, λ v l. k v (to_same x v (same_sym e) l))
 
   same_not : {t u : Rational} (p : Subformula) (tr : Trace) → t ≈ u → SettledNot p tr t → SettledNot p tr u
   same_not (constant b) tr e h = h
@@ -74,5 +77,6 @@ mutual
   same_not (since a b p q) tr e h =
       λ x w. elim (h x (open_behind_same (start tr) a b true true x (same_sym e) w)) [ inl m ↦ inl m | inr m ↦ inr (m.0, to_same x m.0 e m.1, m.2) ]
 
+-- the law on the pairs of a time
 pub settled_is_of_times : SettledIsOfTimes
 settled_is_of_times p tr t u e = (same p tr e, same_not p tr e)
