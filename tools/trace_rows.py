@@ -18,6 +18,7 @@ MOST_TIME = 4_294_967_295
 MOST_VALUE = 16_777_216
 LONGEST_LINE = 4_096
 NAME = re.compile(r"[A-Za-z_][A-Za-z0-9_.]{0,63}\Z")
+NUMBER = re.compile(r"[+-]?([0-9]+\.?[0-9]*|\.[0-9]+)([eE][+-]?[0-9]{1,3})?\Z")
 
 
 class Refused(Exception):
@@ -48,7 +49,10 @@ class Column:
 
     def number(self, place, value, rounding):
         """The number with the column's decimals; one that has more is rounded where that is allowed, and else refused."""
-        value *= self.factor
+        if self.factor != 1:
+            value *= self.factor
+        if value and value.adjusted() > 20:
+            raise Refused(f"{place}: {self.name}: {short(value)} is out of range")
         unit = Decimal(1).scaleb(-self.decimals)
         near = value.quantize(unit, rounding=decimal.ROUND_HALF_EVEN)
         if near != value:
@@ -60,19 +64,15 @@ class Column:
 
 def short(value):
     """A number for a message, cut where it has many digits."""
-    text = f"{value:f}"
+    text = f"{value:f}" if abs(value.adjusted()) < 20 else f"{value:.3e}"
     return text if len(text) <= 20 else text[:20] + ".."
 
 
 def decimal_of(place, name, text):
     """The decimal that a field of a table holds."""
-    try:
-        value = Decimal(text.strip())
-    except decimal.InvalidOperation:
-        raise Refused(f"{place}: {name}: {text.strip()!r} is no number") from None
-    if not value.is_finite():
-        raise Refused(f"{place}: {name}: {text.strip()} is no number")
-    return value
+    if not NUMBER.match(text.strip()):
+        raise Refused(f"{place}: {name}: {text.strip()!r} is no number")
+    return Decimal(text.strip())
 
 
 class Rows:
@@ -132,7 +132,7 @@ class Rows:
         sys.stdout.write("\n".join(self.lines) + "\n")
         for column in [self.time, *self.columns]:
             if column.moved:
-                print(f"{tool}: {column.name}: rounded by at most {column.moved.normalize():f}", file=sys.stderr)
+                print(f"{tool}: {column.name}: rounded by at most {short(column.moved.normalize())}", file=sys.stderr)
 
 
 def options(about):
