@@ -1,12 +1,13 @@
 -- The Inf over the window of one time: the value there.
 use Rattle.std.proofs.Common.{◌≡◌, ℕ, inl, inr, List, [], ◌∷◌, true, Some, arith}
 use Rattle.rational.specs.Time.{Rational, Within, ◌≈◌, later}
-use Rattle.rational.specs.Extended.{Extended, Affine, value_at, ◌≤ᵉ◌}
+use Rattle.rational.specs.Extended.{Extended, value_at, ◌≤ᵉ◌}
 use Rattle.rational.specs.Windows.{Function, Window, Ahead, Behind, IsInfOver}
 use Rattle.rational.proofs.Order.{same_of_le, le_trans, same_sym, same_trans, le_of_same, ge_of_same}
 use Rattle.rational.proofs.ExtendedLemmas.{le_reflᵉ as le_refl, le_transᵉ, Inf-unique}
 use Rattle.rational.proofs.Sups.{inf_value_same}
 use Rattle.rational.proofs.WindowLemmas.{ahead_same, behind_same, inf_over_alike}
+use Rattle.value_laws.specs.Members.{ShapeOf, ShapeLaws}
 use Rattle.pl_signal.specs.declared.knot.Knot.{Knot}
 use Rattle.pl_signal.specs.Knots.{start, stop, IsSignal, IsWorth}
 use Rattle.pl_signal.specs.Moves.{Tells}
@@ -39,29 +40,29 @@ inf_is_function from to F highest = (
   },
 )
 
-module _ {P : Type 0} (function : P → Affine) (highest : Extended) (most : (p : P) (t : Rational) → value_at (function p) t ≤ᵉ highest) where
+module _ {P : Type 0} (shape : ShapeOf P) (laws : ShapeLaws shape) where
   -- no value of a signal lies above the greatest
-  worth_at_most : (ks : List (Knot P)) (t : Rational) (v : Extended) → IsWorth function ks t v → v ≤ᵉ highest
+  worth_at_most : (ks : List (Knot P)) (t : Rational) (v : Extended) → IsWorth shape ks t v → v ≤ᵉ shape.highest
   worth_at_most [] t v h = absurd h
-  worth_at_most (k ∷ ks) t v (inl h) = le_transᵉ v (value_at (function k.point) t) highest h.worth.at_most (most k.point t)
+  worth_at_most (k ∷ ks) t v (inl h) = le_transᵉ v (value_at (shape.function k.point) t) shape.highest h.worth.at_most (laws.highest_is_greatest k.point t)
   worth_at_most (k ∷ []) t v (inr (inl h)) = absurd h
-  worth_at_most (k ∷ n ∷ ks) t v (inr (inl h)) = le_transᵉ v (value_at (function k.after) t) highest h.worth.at_most (most k.after t)
+  worth_at_most (k ∷ n ∷ ks) t v (inr (inl h)) = le_transᵉ v (value_at (shape.function k.after) t) shape.highest h.worth.at_most (laws.highest_is_greatest k.after t)
   worth_at_most (k ∷ ks) t v (inr (inr h)) = worth_at_most ks t v h
 
   -- a signal tells its own Inf over the one time ahead
-  pub tells_inf_ahead : (ks new : List (Knot P)) → IsSignal function ks → Tells function (IsWorth function ks) (start ks) (stop ks) new
-      → Tells function (InfAhead (start ks) (stop ks) (IsWorth function ks) highest 0 0 true true) (start ks) (stop ks) new
-  tells_inf_ahead ks new s h = retold function (IsWorth function ks) (InfAhead (start ks) (stop ks) (IsWorth function ks) highest 0 0 true true) (start ks) (stop ks) new h
-      (inf_is_function (start ks) (stop ks) (IsWorth function ks) highest).0
-      (λ t v w k. inf_at (Ahead (start ks) (stop ks) 0 0 true true t) (IsWorth function ks) highest v t (worth_is_function function ks s) (worth_at_most ks t v k) k
+  pub tells_inf_ahead : (ks new : List (Knot P)) → IsSignal shape ks → Tells shape (IsWorth shape ks) (start ks) (stop ks) new
+      → Tells shape (InfAhead (start ks) (stop ks) (IsWorth shape ks) shape.highest 0 0 true true) (start ks) (stop ks) new
+  tells_inf_ahead ks new s h = retold shape (IsWorth shape ks) (InfAhead (start ks) (stop ks) (IsWorth shape ks) shape.highest 0 0 true true) (start ks) (stop ks) new h
+      (inf_is_function (start ks) (stop ks) (IsWorth shape ks) shape.highest).0
+      (λ t v w k. inf_at (Ahead (start ks) (stop ks) 0 0 true true t) (IsWorth shape ks) shape.highest v t (worth_is_function shape ks s) (worth_at_most ks t v k) k
       (record { inside = w; begins = le_of_same (later_none t); ends = ge_of_same (later_none t) })
       (λ u m. same_of_le (le_trans m.ends (le_of_same (later_none t))) (le_trans (ge_of_same (later_none t)) m.begins)))
 
   -- and over the one time behind
-  pub tells_inf_behind : (ks new : List (Knot P)) → IsSignal function ks → Tells function (IsWorth function ks) (start ks) (stop ks) new
-      → Tells function (InfBehind (start ks) (stop ks) (IsWorth function ks) highest 0 (Some 0) true true) (start ks) (stop ks) new
-  tells_inf_behind ks new s h = retold function (IsWorth function ks) (InfBehind (start ks) (stop ks) (IsWorth function ks) highest 0 (Some 0) true true) (start ks) (stop ks) new h
-      (inf_is_function (start ks) (stop ks) (IsWorth function ks) highest).1
-      (λ t v w k. inf_at (Behind (start ks) (stop ks) 0 (Some 0) true true t) (IsWorth function ks) highest v t (worth_is_function function ks s) (worth_at_most ks t v k) k
+  pub tells_inf_behind : (ks new : List (Knot P)) → IsSignal shape ks → Tells shape (IsWorth shape ks) (start ks) (stop ks) new
+      → Tells shape (InfBehind (start ks) (stop ks) (IsWorth shape ks) shape.highest 0 (Some 0) true true) (start ks) (stop ks) new
+  tells_inf_behind ks new s h = retold shape (IsWorth shape ks) (InfBehind (start ks) (stop ks) (IsWorth shape ks) shape.highest 0 (Some 0) true true) (start ks) (stop ks) new h
+      (inf_is_function (start ks) (stop ks) (IsWorth shape ks) shape.highest).1
+      (λ t v w k. inf_at (Behind (start ks) (stop ks) 0 (Some 0) true true t) (IsWorth shape ks) shape.highest v t (worth_is_function shape ks s) (worth_at_most ks t v k) k
       (record { inside = w; begins = ge_of_same (later_none t); ends = le_of_same (later_none t) })
       (λ u m. same_of_le (le_trans (ge_of_same (later_none u)) m.ends) (le_trans m.begins (le_of_same (later_none u)))))

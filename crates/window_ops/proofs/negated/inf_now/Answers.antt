@@ -11,18 +11,18 @@ use Rattle.window_ops.proofs.negated.inf_now.Goals as goal
 pub restrict-requires-clause-order : goal.restrict-requires-clause-order
 restrict-requires-clause-order g c =
     subst (λ u. u ≤ʳ value c.stop-to.result) (sym c.start-from.ensures.value) (subst (λ u. start c.args.s.now ≤ʳ u) (sym c.stop-to.ensures.value)
-    (start_to_stop g.P.Shape.function c.args.s.now c.start-from.ensures.signal))
+    (start_to_stop g.P.Shape c.args.s.now c.start-from.ensures.signal))
 
 pub returns-clause-ahead : goal.returns-clause-ahead
 returns-clause-ahead g c = IfOk-weaker c.restrict.result _ _
-    (λ r h. tells_inf_ahead g.P.Shape.function g.P.Shape.highest g.met.P.Shape.highest_is_greatest c.args.s.now r c.start-from.ensures.signal
-    (subst (λ u. Tells g.P.Shape.function (IsWorth g.P.Shape.function c.args.s.now) u (stop c.args.s.now) r) c.start-from.ensures.value
-    (subst (λ u. Tells g.P.Shape.function (IsWorth g.P.Shape.function c.args.s.now) (value c.start-from.result) u r) c.stop-to.ensures.value h)))
+    (λ r h. tells_inf_ahead g.P.Shape (assumption g.met.P.Shape) c.args.s.now r c.start-from.ensures.signal
+    (subst (λ u. Tells g.P.Shape (IsWorth g.P.Shape c.args.s.now) u (stop c.args.s.now) r) c.start-from.ensures.value
+    (subst (λ u. Tells g.P.Shape (IsWorth g.P.Shape c.args.s.now) (value c.start-from.result) u r) c.stop-to.ensures.value h)))
     c.restrict.ensures.worth
 
 pub returns-clause-behind : goal.returns-clause-behind
 returns-clause-behind g c = IfOk-weaker c.restrict.result _ _
-    (λ r h. tells_inf_behind g.P.Shape.function g.P.Shape.highest g.met.P.Shape.highest_is_greatest c.args.s.now r c.start-from.ensures.signal
-    (subst (λ u. Tells g.P.Shape.function (IsWorth g.P.Shape.function c.args.s.now) u (stop c.args.s.now) r) c.start-from.ensures.value
-    (subst (λ u. Tells g.P.Shape.function (IsWorth g.P.Shape.function c.args.s.now) (value c.start-from.result) u r) c.stop-to.ensures.value h)))
+    (λ r h. tells_inf_behind g.P.Shape (assumption g.met.P.Shape) c.args.s.now r c.start-from.ensures.signal
+    (subst (λ u. Tells g.P.Shape (IsWorth g.P.Shape c.args.s.now) u (stop c.args.s.now) r) c.start-from.ensures.value
+    (subst (λ u. Tells g.P.Shape (IsWorth g.P.Shape c.args.s.now) (value c.start-from.result) u r) c.stop-to.ensures.value h)))
     c.restrict.ensures.worth
