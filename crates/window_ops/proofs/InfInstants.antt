@@ -1,9 +1,9 @@
 -- The Inf over the window of one time: the value there.
-use Rattle.std.proofs.Common.{◌≡◌, ℕ, inl, inr, List, [], ◌∷◌, true, Some, arith}
-use Rattle.rational.specs.Time.{Rational, Within, ◌≈◌, later}
+use Rattle.std.proofs.Common.{inl, inr, List, [], ◌∷◌, true, Some, arith}
+use Rattle.rational.specs.Time.{Rational, ◌≈◌, later}
 use Rattle.rational.specs.Extended.{Extended, value_at, ◌≤ᵉ◌}
 use Rattle.rational.specs.Windows.{Function, Window, Ahead, Behind, IsInfOver}
-use Rattle.rational.proofs.Order.{same_of_le, le_trans, same_sym, same_trans, le_of_same, ge_of_same}
+use Rattle.rational.proofs.Order.{same_of_le, le_trans, same_sym, le_of_same, ge_of_same}
 use Rattle.rational.proofs.ExtendedLemmas.{le_reflᵉ as le_refl, le_transᵉ, Inf-unique}
 use Rattle.rational.proofs.Sups.{inf_value_same}
 use Rattle.rational.proofs.WindowLemmas.{ahead_same, behind_same, inf_over_alike}

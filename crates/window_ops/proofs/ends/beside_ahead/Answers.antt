@@ -19,7 +19,6 @@ use Rattle.pl_signal.proofs.Telling.{IsFunction}
 use Rattle.window_ops.specs.Ends.{Beside}
 use Rattle.window_ops.proofs.EndsSups.{beside_is_function, beside_bounded, beside_after}
 use Rattle.window_ops.proofs.EndsAhead.{bound_is, domain_within, moved_within, moved_is, later_same, not_before, start_to_stop, tells_ahead, limited_by, tells_value, ahead_is_function, bases_moved, room_of}
-use Rattle.pl_signal.specs.Knots.{HasShape}
 use Rattle.pl_signal.specs.Limits.{IsLimited}
 use Rattle.window_ops.proofs.InfInstants.{later_none}
 use Rattle.window_ops.proofs.SupTelling.{retold}

@@ -69,7 +69,7 @@ zero_is (Some n) h = ap Some (grind (arith, h))
 pub returns-then-high_in-clause-worth : goal.returns-then-high_in-clause-worth
 returns-then-high_in-clause-worth g c =
     let told = λ (a : ℕ) (b : Option ℕ) (i j : Bool). Tells g.P.Shape (InfBehind (start c.args.s.now) (stop c.args.s.now) (IsWorth g.P.Shape c.args.s.now) g.P.Shape.highest a b i j)
-        (start c.args.s.now) (stop c.args.s.now) c.in_ok-inf_now.field-0 in
+    (start c.args.s.now) (stop c.args.s.now) c.in_ok-inf_now.field-0 in
     subst (λ i. told c.args.a c.args.b i c.args.high_in) (sym c.if-low_in.true) (subst (λ j. told c.args.a c.args.b true j) (sym c.if-high_in.true)
     (subst (λ b. told c.args.a b true true) (sym bound) (subst (λ a. told a (Some 0) true true) (sym low) c.in_ok-inf_now.ensures.behind)))
   where

@@ -1,4 +1,4 @@
-use Rattle.std.proofs.Common.{◌≡◌, ℕ, Bool, Option, Some, true, sym, subst, arith}
+use Rattle.std.proofs.Common.{◌≡◌, ℕ, Bool, true, sym, subst, arith}
 use Rattle.rational.specs.Time.{◌≈◌}
 use Rattle.rational.specs.Windows.{Ahead}
 use Rattle.rational.proofs.Order.{le_trans, le_of_same, ge_of_same, lt_of_le_of_lt, same_sym}
@@ -62,7 +62,7 @@ returns-in-Ok-clause-bases g c = bases_ahead_negated g.P.Shape c.args.a c.args.b
 pub returns-then-high_in-clause-worth : goal.returns-then-high_in-clause-worth
 returns-then-high_in-clause-worth g c =
     let told = λ (a : ℕ) (b : ℕ) (i j : Bool). Tells g.P.Shape (InfAhead (start c.args.s.now) (stop c.args.s.now) (IsWorth g.P.Shape c.args.s.now) g.P.Shape.highest a b i j)
-        (start c.args.s.now) (stop c.args.s.now) c.in_ok-inf_now.field-0 in
+    (start c.args.s.now) (stop c.args.s.now) c.in_ok-inf_now.field-0 in
     subst (λ i. told c.args.a c.args.b i c.args.high_in) (sym c.if-low_in.true) (subst (λ j. told c.args.a c.args.b true j) (sym c.if-high_in.true)
     (subst (λ b. told c.args.a b true true) (sym bound) (subst (λ a. told a 0 true true) (sym low) c.in_ok-inf_now.ensures.ahead)))
   where
