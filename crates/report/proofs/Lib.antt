@@ -17,3 +17,5 @@ pub mod FinerMargins
 pub mod KnotsChange
 pub mod FinerKnots
 pub mod FinerRobust
+pub mod FinerVerdicts
+pub mod FinerCheck
