@@ -29,7 +29,7 @@ module _ {P : Type 0} (shape : ShapeOf P) where
       (o.0, ((tells.worth t o.0).0 o.1).1)
 
   -- and an Inf between each two
-  pub has_inf :  ((q : P) (t : Rational) → value_at (shape.function q) t ≤ᵉ shape.highest) → (p : Subformula) (s : Setting) (x : List (Knot P)) → s.highest ≡ shape.highest → TellsValue shape s p x → HasInf p s
+  pub has_inf : ((q : P) (t : Rational) → value_at (shape.function q) t ≤ᵉ shape.highest) → (p : Subformula) (s : Setting) (x : List (Knot P)) → s.highest ≡ shape.highest → TellsValue shape s p x → HasInf p s
   has_inf most p s x e tells t u i j =
       let y = signal_inf shape most x (closed t u) in (
         y.0,
