@@ -29,7 +29,7 @@ module _ {P : Type 0} (shape : ShapeOf P) where
       (o.0, ((tells.worth t o.0).0 o.1).1)
 
   -- and an Inf between each two
-  pub has_inf :  ((q : P) (t : Rational) → value_at (shape.function q) t ≤ᵉ shape.highest) → (p : Subformula) (s : Setting) (x : List (Knot P)) → s.highest ≡ shape.highest → TellsValue shape s p x → HasInf p s
+  pub has_inf : ((q : P) (t : Rational) → value_at (shape.function q) t ≤ᵉ shape.highest) → (p : Subformula) (s : Setting) (x : List (Knot P)) → s.highest ≡ shape.highest → TellsValue shape s p x → HasInf p s
   has_inf most p s x e tells t u i j =
       let y = signal_inf shape most x (closed t u) in (
         y.0,
@@ -72,5 +72,6 @@ module _ {P : Type 0} (shape : ShapeOf P) (laws : ShapeLaws shape) (nodes : List
       let both = both_of (subformula nodes) k node s children (λ j l. below_has n j (omega (arith, h, l)) (omega (arith, within))) (subst (λ p. HasValue p s) tree value) in
       (subst (HasBoth s) (sym tree) both, has_inf shape laws.highest_is_greatest (subformula nodes k) s x.0 e x.2)
 
+  -- so for every node
   pub all_have : (i : ℕ) → i < length nodes → HasValues (subformula nodes i) s × HasInfs (subformula nodes i) s
   all_have i inside = (below_has (suc i) i (omega arith) (omega (arith, inside))).0

@@ -109,6 +109,7 @@ module _ {P : Type 0} (shape : ShapeOf P) where
   joins b old new p q point to (Whole s) is on = joins_whole b old new p q s point to is on
   joins b old new p q point to (Split first middle second) is (half, on, on') = joins_split b old half new p q first second point middle to is on on'
 
+  -- the middle of pieces lies on the gap
   pub middle_between : (b : Side) (p q : P) (from to : Rational) (pieces : Pieces P) → IsPieces shape b p q from to pieces → MiddleIsBetween pieces from to
   middle_between b p q from to (Whole s) is = tt
   middle_between b p q from to (Split first middle second) is = (is.after, is.before)
@@ -118,6 +119,7 @@ module _ {P : Type 0} (shape : ShapeOf P) where
       → IsPieces shape b p q from to (Whole p)
   whole_first b p q from to h k = (inl refl, λ t x y. chosen_first b (value_at (shape.function p) t) (value_at (shape.function q) t) (taken_between b (shape.function p) (shape.function q) from t to x y h k))
 
+  -- the second throughout
   pub whole_second : (b : Side) (p q : P) (from to : Rational) → IsTaken b (value_at (shape.function q) from) (value_at (shape.function p) from) → IsTaken b (value_at (shape.function q) to) (value_at (shape.function p) to)
       → IsPieces shape b p q from to (Whole q)
   whole_second b p q from to h k = (inr refl, λ t x y. chosen_second b (value_at (shape.function p) t) (value_at (shape.function q) t) (taken_between b (shape.function q) (shape.function p) from t to x y h k))
@@ -126,6 +128,7 @@ module _ {P : Type 0} (shape : ShapeOf P) where
   meeting b f g l r m t alone e = taken_same b (value_at f t) (value_at g t)
       (same_transᵉ (value_at f t) (value_at f m) (value_at g t) (value_same f e) (same_transᵉ (value_at f m) (value_at g m) (value_at g t) alone.meet (same_symᵉ (value_at g t) (value_at g m) (value_same g e))))
 
+  -- the first, and then the second
   pub split_first : (b : Side) (p q : P) (from to : Rational) (middle : Frac) → IsTaken b (value_at (shape.function p) from) (value_at (shape.function q) from) → IsTaken b (value_at (shape.function q) to) (value_at (shape.function p) to)
       → MeetAlone (shape.function p) (shape.function q) from to (value middle) → IsPieces shape b p q from to (Split p middle q)
   split_first b p q from to middle h k m = record {
@@ -137,6 +140,7 @@ module _ {P : Type 0} (shape : ShapeOf P) where
     from_then = λ t x y. chosen_second b (value_at (shape.function p) t) (value_at (shape.function q) t) (taken_between b (shape.function q) (shape.function p) (value middle) t to x y (meeting b (shape.function q) (shape.function p) from to (value middle) (value middle) (alone_swap m) (same_refl (value middle))) k);
   }
 
+  -- the second, and then the first
   pub split_second : (b : Side) (p q : P) (from to : Rational) (middle : Frac) → IsTaken b (value_at (shape.function q) from) (value_at (shape.function p) from) → IsTaken b (value_at (shape.function p) to) (value_at (shape.function q) to)
       → MeetAlone (shape.function p) (shape.function q) from to (value middle) → IsPieces shape b p q from to (Split q middle p)
   split_second b p q from to middle h k m = record {

@@ -31,19 +31,24 @@ shift_forth t z = record { same = omega (arith, ap (λ n. n * (t.den * t.den)) s
     step : part_above z + part_above (neg_ℤ z) ≡ part_below z + part_below (neg_ℤ z)
     step = omega (arith, parts)
 
+-- a mirror turns the order round
 pub mirror_lt : {t u : Rational} (z : ℤ) → t <ʳ u → subtract (whole z) u <ʳ subtract (whole z) t
 mirror_lt {t} {u} z h = record { lt = omega (arith, h.lt) }
 
+-- so where they may be equal
 pub mirror_le : {t u : Rational} (z : ℤ) → t ≤ʳ u → subtract (whole z) u ≤ʳ subtract (whole z) t
 mirror_le {t} {u} z h = record { le = omega (arith, h.le) }
 
+-- equal times have equal mirror images
 pub mirror_same : {t u : Rational} (z : ℤ) → t ≈ u → subtract (whole z) t ≈ subtract (whole z) u
 mirror_same {t} {u} z h = record { same = omega (arith, h.same) }
 
+-- mirrored twice is as before
 pub mirror_twice : (t : Rational) (z : ℤ) → subtract (whole z) (subtract (whole z) t) ≈ t
 mirror_twice t z = omega arith
 
 module _ {P : Type 0} (shape : ShapeOf P) where
+  -- a moved signal is a function of time
   pub moved_is_function : (ks : List (Knot P)) (back : Rational → Rational) → ((t u : Rational) → t ≈ u → back t ≈ back u) → IsSignal shape ks → IsFunction (λ t v. IsWorth shape ks (back t) v)
   moved_is_function ks back alike s = record {
     alike = λ t u v w e f h. worth_same shape ks v w (alike t u e) f h;
@@ -87,15 +92,18 @@ module _ {P : Type 0} (shape : ShapeOf P) where
   limited_at (l ∷ ks) zero k h e = let s : l ≡ k = cc in subst (λ k. IsWithin (2 ^ 34) (time k)) s h.0.when
   limited_at (l ∷ ks) (suc i) k h e = limited_at ks i k h.1 e
 
+  -- so for the start
   pub limited_start : (ks : List (Knot P)) → 0 < length ks → IsLimited shape ks → IsWithin (2 ^ 34) (start ks)
   limited_start [] some h = absurd (omega arith)
   limited_start (k ∷ ks) some h = h.0.when
 
+  -- and for the stop
   pub limited_stop : (ks : List (Knot P)) → 0 < length ks → IsLimited shape ks → IsWithin (2 ^ 34) (stop ks)
   limited_stop [] some h = absurd (omega arith)
   limited_stop (k ∷ []) some h = h.0.when
   limited_stop (k ∷ n ∷ ks) some h = limited_stop (n ∷ ks) (omega arith) h.1
 
+  -- the time of a knot lies in the domain
   pub at_knot_within : (ks : List (Knot P)) (i : ℕ) (k : Knot P) → IsSignal shape ks → slice_get ks i ≡ Some k → Within (start ks) (stop ks) (time k)
   at_knot_within ks i k s e = worth_within shape ks (time k) (value_at (shape.function k.point) (time k)) s (worth_at shape ks i k (time k) e (same_refl (time k)))
 
@@ -110,9 +118,11 @@ module _ {P : Type 0} (shape : ShapeOf P) where
   first_is [] some = absurd (omega arith)
   first_is (k ∷ ks) some = (k, refl, refl)
 
+  -- and the stop is the time of the last
   pub last_is : (ks : List (Knot P)) (i : ℕ) (k : Knot P) → slice_get ks i ≡ Some k → i + 1 ≡ length ks → stop ks ≡ time k
   last_is ks i k e n = stop_at shape ks i k e (slice_get_past ks (i + 1) (omega (arith, n)))
 
+  -- a mirrored signal goes on by one knot
   pub mirror_on : (ks old new : List (Knot P)) (z : ℤ) (i : ℕ) (k n : Knot P) (after point : P) (at : Frac) → IsSignal shape ks → slice_get ks i ≡ Some k → slice_get ks (i + 1) ≡ Some n
       → TellsSoFar shape (λ t v. IsWorth shape ks (subtract (whole z) t) v) old → stop old ≈ subtract (whole z) (time n) → value at ≈ subtract (whole z) (time k)
       → ((t : Rational) → value_at (shape.function after) t ≈ᵉ value_at (shape.function k.after) (subtract (whole z) t)) → ((t : Rational) → value_at (shape.function point) t ≈ᵉ value_at (shape.function k.point) (subtract (whole z) t))
@@ -124,10 +134,12 @@ module _ {P : Type 0} (shape : ShapeOf P) where
       here : subtract (whole z) (value at) ≈ time k
       here = same_trans (mirror_same z arrives) (mirror_twice (time k) z)
 
+  -- to a later time
   pub mirror_later : (ks : List (Knot P)) (z : ℤ) (i : ℕ) (k n : Knot P) {from at : Rational} → IsSignal shape ks → slice_get ks i ≡ Some k → slice_get ks (i + 1) ≡ Some n
       → from ≈ subtract (whole z) (time n) → at ≈ subtract (whole z) (time k) → from <ʳ at
   mirror_later ks z i k n s at_i at_next e f = lt_of_le_of_lt (le_of_same e) (lt_of_lt_of_le (mirror_lt z (next_rises shape ks i k n s.each at_i at_next)) (ge_of_same f))
 
+  -- a shifted signal goes on by one knot
   pub shift_on : (ks old new : List (Knot P)) (z : ℤ) (i : ℕ) (k n : Knot P) (after point : P) (at : Frac) → IsSignal shape ks → slice_get ks i ≡ Some k → slice_get ks (i + 1) ≡ Some n
       → TellsSoFar shape (λ t v. IsWorth shape ks (add t (whole z)) v) old → stop old ≈ add (time k) (whole (neg_ℤ z)) → value at ≈ add (time n) (whole (neg_ℤ z))
       → ((t : Rational) → value_at (shape.function after) t ≈ᵉ value_at (shape.function k.after) (add t (whole z))) → ((t : Rational) → value_at (shape.function point) t ≈ᵉ value_at (shape.function n.point) (add t (whole z)))
@@ -139,6 +151,7 @@ module _ {P : Type 0} (shape : ShapeOf P) where
       here : add (value at) (whole z) ≈ time n
       here = same_trans (same_shift z arrives) (shift_forth (time n) z)
 
+  -- to a later time
   pub shift_later : (ks : List (Knot P)) (z : ℤ) (i : ℕ) (k n : Knot P) {from at : Rational} → IsSignal shape ks → slice_get ks i ≡ Some k → slice_get ks (i + 1) ≡ Some n
       → from ≈ add (time k) (whole z) → at ≈ add (time n) (whole z) → from <ʳ at
   shift_later ks z i k n s at_i at_next e f = lt_of_le_of_lt (le_of_same e) (lt_of_lt_of_le (lt_shift z (next_rises shape ks i k n s.each at_i at_next)) (ge_of_same f))
@@ -154,6 +167,7 @@ module _ {P : Type 0} (shape : ShapeOf P) where
       by_shape r m (inr (inl e)) = let f = from_p (subst (λ x. IsTrue (shape.moves x)) e m) in (p, has_p, f.0, ap shape.base e ∙ f.1)
       by_shape r m (inr (inr e)) = let f = from_q (subst (λ x. IsTrue (shape.moves x)) e m) in (q, has_q, f.0, ap shape.base e ∙ f.1)
 
+  -- so for the first knot
   pub bases_first : (made : ℤ → ℤ) (ks : List (Knot P)) (point q : P) (at : Frac)
       → HasShape ks q → (IsTrue (shape.moves point) → IsTrue (shape.moves q) × (shape.base point ≡ made (shape.base q))) → BasesFrom shape made ks (record { time = at; point = point; after = point } ∷ [])
   bases_first made ks point q at has_q from_q = by_shape
@@ -174,6 +188,7 @@ module _ {P : Type 0} (shape : ShapeOf P) where
       subst (TellsSoFar shape (λ t v. IsWorth shape ks (subtract (whole z) t) v)) (sym e)
       (moved_first ks (λ t. subtract (whole z) t) i m point at (moved_is_function ks (λ t. subtract (whole z) t) (λ t u e. mirror_same z e) s) at_i (same_trans (mirror_same z arrives) (mirror_twice (time m) z)) points)
 
+  -- and of a shifted one
   pub shift_first : (ks built : List (Knot P)) (z : ℤ) (i : ℕ) (m : Knot P) (point : P) (at : Frac) → IsSignal shape ks → slice_get ks i ≡ Some m → add (value at) (whole z) ≈ time m
       → ((t : Rational) → value_at (shape.function point) t ≈ᵉ value_at (shape.function m.point) (add t (whole z))) → built ≡ record { time = at; point = point; after = point } ∷ []
       → TellsSoFar shape (λ t v. IsWorth shape ks (add t (whole z)) v) built
@@ -200,13 +215,16 @@ module _ {P : Type 0} (shape : ShapeOf P) where
 step_small : {t : Rational} (n : ℕ) → IsWithin (2 ^ 34) t → IsWithin (2 ^ 34) (add t (whole (negsuc n))) → suc n ≤ 2 ^ 35
 step_small {t} n h k = le_of_mul-le-mul_right {k = t.den} (omega (arith, h.1.le, k.0.le)) t.positive
 
+-- a move within the limits is not below -2^35
 pub move_above : {t : Rational} (z : ℤ) → IsWithin (2 ^ 34) t → IsWithin (2 ^ 34) (add t (whole z)) → neg_ℤ (pos (2 ^ 35)) ≤ℤ z
 move_above (pos n) h k = record { le = tt }
 move_above (negsuc n) h k = let s = step_small n h k in omega (arith, ints, s)
 
+-- and the move back fits where it does
 pub back_fits : {t : Rational} (z : ℤ) → IsWithin (2 ^ 34) t → IsWithin (2 ^ 34) (add t (whole z)) → FitsSigned w64 z → FitsSigned w64 (pos 0 -ℤ z)
 back_fits z h k f = let low = move_above z h k in omega (arith, ints, low)
 
+-- 0 less a number is minus it
 pub minus_is : (z : ℤ) → pos 0 -ℤ z ≡ neg_ℤ z
 minus_is z = omega (arith, ints)
 
@@ -241,6 +259,7 @@ tells_through shape ks part new z from to low high p r begins ends = record {
     last : add (stop part) (whole (neg_ℤ z)) ≈ to
     last = same_sym (shift_back' z (same_trans (same_sym ends) (same_sym p.ends)))
 
+-- the bases of a part are bases of the whole
 pub bases_through : {P : Type 0} (shape : ShapeOf P) (made : ℤ → ℤ) (ks part new : List (Knot P)) → ((p : P) → HasShape part p → HasShape ks p) → BasesFrom shape made part new → BasesFrom shape made ks new
 bases_through shape made ks part new inside h = λ p m n. let q = h p m n in (q.0, inside q.0 q.1, q.2, q.3)
 

@@ -24,10 +24,12 @@ use Rattle.pl_signal.proofs.Choices.{chosen_same, chosen_once}
 use Rattle.signal_ops.specs.Pointwise.{IsFault, IsWideMeeting, NamesShapes}
 
 module _ {P : Type 0} (shape : ShapeOf P) where
+  -- what is chosen of two shapes is a shape of one of the signals
   pub chosen_shapes : (ks ls : List (Knot P)) (x y point r : P) → HasShape ks x → HasShape ls y → (point ≡ x) ⊎ (point ≡ y) → r ≡ point → HasShape ks r ⊎ HasShape ls r
   chosen_shapes ks ls x y point r h k (inl e) f = inl (subst (HasShape ks) (sym (f ∙ e)) h)
   chosen_shapes ks ls x y point r h k (inr e) f = inr (subst (HasShape ls) (sym (f ∙ e)) k)
 
+  -- so at the first knot
   pub first_shapes : (ks ls built : List (Knot P)) (x y point : P) (at : Frac) → HasShape ks x → HasShape ls y → (point ≡ x) ⊎ (point ≡ y) → built ≡ record { time = at; point = point; after = point } ∷ []
       → (r : P) → HasShape built r → HasShape ks r ⊎ HasShape ls r
   first_shapes ks ls built x y point at h k one e r m = by_part (subst (λ os. HasShape os r) e m)
@@ -37,6 +39,7 @@ module _ {P : Type 0} (shape : ShapeOf P) where
       by_part (inr (inl f)) = chosen_shapes ks ls x y point r h k one f
       by_part (inr (inr f)) = absurd f
 
+  -- and so once a gap is joined
   pub joined_shapes : (b : Side) (ks ls old new : List (Knot P)) (p q point x y : P) (to : Frac) → ((r : P) → HasShape old r → HasShape ks r ⊎ HasShape ls r) → Joins shape b old p q to point new
       → HasShape ks p → HasShape ls q → HasShape ks x → HasShape ls y → (point ≡ x) ⊎ (point ≡ y) → (r : P) → HasShape new r → HasShape ks r ⊎ HasShape ls r
   joined_shapes b ks ls old new p q point x y to so_far joins hp hq hx hy one r h = by_part (joins.shapes r h)
@@ -47,6 +50,7 @@ module _ {P : Type 0} (shape : ShapeOf P) where
       by_part (inr (inr (inl e))) = inr (subst (HasShape ls) (sym e) hq)
       by_part (inr (inr (inr e))) = chosen_shapes ks ls x y point r hx hy one e
 
+  -- what is chosen of two signals is a function of time
   pub chosen_is_function : (b : Side) (ks ls : List (Knot P)) → IsSignal shape ks → IsSignal shape ls → IsFunction (ChosenOf b (IsWorth shape ks) (IsWorth shape ls))
   chosen_is_function b ks ls s r = record {
     alike = λ t u v w e f (x, y, h, k, m). (x, y, worth_same shape ks x x e (same_reflᵉ x) h, worth_same shape ls y y e (same_reflᵉ y) k, chosen_same b x y v w f m);
@@ -126,6 +130,7 @@ module _ {P : Type 0} (shape : ShapeOf P) where
   }
   cause_of_fault A B from to (F.Wide (Value p at den)) h = absurd h
 
+  -- so for an answer that may be refused
   pub causes_of_faults : {R : Type 0} (A B : Function) (from to : Rational) (r : Result R (OpFault P)) → IfErr r (IsFault shape A B from to) → IfErr r (HasCause shape (of_two A B) from to)
   causes_of_faults A B from to (Ok x) h = h
   causes_of_faults A B from to (Err e) h = cause_of_fault A B from to e h

@@ -33,12 +33,14 @@ module _ {P : Type 0} (shape : ShapeOf P) where
   after_at (l ∷ m ∷ ks) zero k n h e f = let s : l ≡ k = cc in subst (λ k. HasBoundedLevel (2 ^ 31) (shape.function k.after)) s (level_bounded (2 ^ 31) (shape.function l.after) (time l) h.0.limits.0)
   after_at (l ∷ ks) (suc i) k n h e f = after_at ks i k n h.1 e f
 
+  -- so for the shape of a gap
   pub after_bounded : (ks : List (Knot P)) (i : ℕ) (k n : Knot P) → IsLimited shape ks → slice_get ks i ≡ Some k → slice_get ks (i + 1) ≡ Some n → HasBoundedLevel (2 ^ 31) (shape.function k.after)
   after_bounded ks i k n h e f = after_at ks i k n h e (subst (λ j. slice_get ks j ≡ Some n) next f)
     where
       next : i + 1 ≡ suc i
       next = omega arith
 
+  -- minus a signal is a function of time
   pub negated_is_function : (ks : List (Knot P)) → IsSignal shape ks → IsFunction (Negated (IsWorth shape ks))
   negated_is_function ks s = record {
     alike = λ t u v w e f h. worth_same shape ks (opposite v) (opposite w) e (opposite_same v w f) h;

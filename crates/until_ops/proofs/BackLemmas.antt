@@ -25,6 +25,7 @@ use Rattle.until_ops.proofs.MirrorLemmas.{RunsBack, other_way, turned_affine}
 abbrev pub IsBack : Affine → Affine → Type 0
 IsBack f g = (t : Rational) → value_at g t ≈ᵉ value_at f (negate t)
 
+-- running back is of both
 pub back_other : (f g : Affine) → IsBack f g → IsBack g f
 back_other f g h = λ t. same_symᵉ (value_at g (negate t)) (value_at f t) (h (negate t))
 
@@ -35,11 +36,13 @@ lt_negated : {a b : Rational} → a <ʳ negate b → b <ʳ negate a
 lt_negated {a} {b} h = lt_negate h
 
 module _ (P P' : Function) (back : RunsBack P P') (f g : Affine) (turned : IsBack f g) where
+  -- a line runs back to a line
   pub line_back : (a b : Rational) → IsLineOn P' a b f → IsLineOn P (negate b) (negate a) g
   line_back a b on = λ t h k.
       let x = on (negate t) (lt_negated k) (negated_lt h) in
       (x.0, back.out (negate t) x.0 x.1, same_transᵉ x.0 (value_at f (negate t)) (value_at g t) x.2 (same_symᵉ (value_at g t) (value_at f (negate t)) (turned t)))
 
+  -- and a part to a part
   pub part_back : (tau : Rational) → IsPart P' tau f → IsPart P (negate tau) g
   part_back tau part = record { a = negate part.b; b = negate part.a; above = lt_negate part.below; below = lt_negate part.above; on = line_back part.a part.b part.on }
 
@@ -123,6 +126,7 @@ module _ (P P' Q Q' R R' : Function) (p_back : RunsBack P P') (q_back : RunsBack
   abbrev After : Rational → Affine → Type 0
   After tau line = IsInPlay (until_end P Q R) from to tau line
 
+  -- a crossing that is in play
   pub crossing_cause : (f g f' g' : Affine) (a b a' b' : Rational) (den : ℕ) → IsBack f' f → IsBack g' g → a ≈ negate b' → b ≈ negate a'
       → IsWideCrossing Before from' to' f' g' a' b' den → IsWideCrossing After from to f g a b den
   crossing_cause f g f' g' a b a' b' den h k e e' w = record {
@@ -155,6 +159,7 @@ module _ (P P' Q Q' R R' : Function) (p_back : RunsBack P P') (q_back : RunsBack
       denominator_back : (t : Rational) (den : ℕ) → HasDenominator t den → HasDenominator (negate t) den
       denominator_back t den (num, lowest, same) = (neg_ℤ num, lowest_back num den lowest, same_trans (same_negate same) (ratio_back num den lowest.positive))
 
+  -- a constant that is in play
   pub value_cause : (f f' : Affine) (u u' : Rational) (den : ℕ) → IsBack f' f → u ≈ negate u' → IsWideValue Before from' to' f' u' den → IsWideValue After from to f u den
   value_cause f f' u u' den h e w =
       let g = turned_affine w.line in
@@ -172,6 +177,7 @@ module _ (P P' Q Q' R R' : Function) (p_back : RunsBack P P') (q_back : RunsBack
         wide = w.wide;
       }
 
+  -- the cause of a refusal
   pub pair_back : {A : Type 0} (shape : ShapeOf A) (old new : WidePair A) → IsTurnedPair shape old new → IsWideCause shape (since_start P' Q' R') from' to' old → IsWideCause shape (until_end P Q R) from to new
   pair_back shape (Cross p q a b den) (Cross p' q' a' b' den') (f, g, e, e', same) h =
       subst (λ d. IsWideCrossing After from to (shape.function p') (shape.function q') (value a') (value b') d) (sym same)

@@ -28,12 +28,19 @@ use Rattle.until_ops.proofs.EventLemmas.{not_crossed}
 module _ {P : Type 0} (shape : ShapeOf P) (p q : List (Knot P)) where
   -- a gap between events, on which both signals are worth their shapes, after a time at which the since is worth the shape before
   pub record Follows (gap : Gap P) : Type 0 where
+    -- the gap has times
     pub later : value gap.from <ʳ value gap.to
+    -- it begins in the domain
     pub inside : Within (start p) (stop p) (value gap.from)
+    -- and ends in it
     pub below : value gap.to ≤ʳ stop p
+    -- the left side is a line on it
     pub left_on : IsLineOn (IsWorth shape p) (value gap.from) (value gap.to) (shape.function gap.left)
+    -- and so is the right side
     pub right_on : IsLineOn (IsWorth shape q) (value gap.from) (value gap.to) (shape.function gap.right)
+    -- what the since is worth where it begins
     pub here : SinceOf shape p q (value gap.from) (value_at (shape.function gap.before) (value gap.from))
+    -- there a breakpoint of a side lies, or the two cross
     pub event : IsBreakpoint (IsWorth shape p) (start p) (stop p) (value gap.from) ⊎ IsBreakpoint (IsWorth shape q) (start p) (stop p) (value gap.from)
         ⊎ IsCrossing (shape.function gap.left) (shape.function gap.right) (value gap.from)
 
@@ -45,6 +52,7 @@ module _ {P : Type 0} (shape : ShapeOf P) (p q : List (Knot P)) where
     pub left_plays : (tau : Rational) → value gap.from <ʳ tau → tau <ʳ value gap.to → InPlay tau (shape.function gap.left)
     left_plays tau a b = inl (record { a = value gap.from; b = value gap.to; above = a; below = b; on = on.left_on })
 
+    -- so for the right side
     pub right_plays : (tau : Rational) → value gap.from <ʳ tau → tau <ʳ value gap.to → InPlay tau (shape.function gap.right)
     right_plays tau a b = inr (inl (record { a = value gap.from; b = value gap.to; above = a; below = b; on = on.right_on }))
 
@@ -81,6 +89,7 @@ module _ {P : Type 0} (shape : ShapeOf P) (p q : List (Knot P)) where
     )
     cross_within x y at here (F.Wide (Value a b den)) h = absurd h
 
+    -- so for a constant
     pub value_within : (e : OpFault P) → IsCourseFault shape gap e → IsPairWithin (start p) (stop p) e
     value_within F.Memory h = tt
     value_within (F.Wide (Cross a b c d den)) (o, is, h) = absurd h

@@ -39,12 +39,15 @@ module _ {P : Type 0} (shape : ShapeOf P) where
   IsMirrored ks new = Tells shape (λ t v. IsWorth shape ks (subtract (whole (pos 0)) t) v) (subtract (whole (pos 0)) (stop ks)) (subtract (whole (pos 0)) (start ks)) new
 
   module _ (ks new : List (Knot P)) (is : IsSignal shape ks) (tells : IsMirrored ks new) where
+    -- a mirrored signal starts at minus the end
     pub mirror_starts : start new ≈ negate (stop ks)
     mirror_starts = same_trans tells.begins (about_zero (stop ks))
 
+    -- and ends at minus the start
     pub mirror_stops : stop new ≈ negate (start ks)
     mirror_stops = same_trans tells.ends (about_zero (start ks))
 
+    -- it runs back
     pub runs_back : RunsBack (IsWorth shape ks) (IsWorth shape new)
     runs_back = record {
       out = λ t v w. worth_same shape ks v v (about_zero t) (same_reflᵉ v) ((tells.worth t v).0 w).1;
@@ -56,12 +59,14 @@ module _ {P : Type 0} (shape : ShapeOf P) where
           );
     }
 
+    -- and stays limited
     pub mirror_limited : IsLimited shape ks → IsLimited shape new
     mirror_limited h = limited shape new tells.signal (λ t v w. worth_bounded shape ks h (negate t) v (runs_back.out t v w))
         (within_same (2 ^ 34) (same_sym mirror_starts) (within_negate (2 ^ 34) (limited_stop shape ks is h)))
         (within_same (2 ^ 34) (same_sym mirror_stops) (within_negate (2 ^ 34) (limited_start shape ks is h)))
 
   module _ (p q left right : List (Knot P)) (is_p : IsSignal shape p) (is_q : IsSignal shape q) (p_tells : IsMirrored p left) (q_tells : IsMirrored q right) where
+    -- the until runs back to the since of both mirrored
     pub since_back : RunsBack (UntilOf shape p q) (SinceOf shape left right)
     since_back = until_runs_back shape.lowest shape.highest (IsWorth shape p) (IsWorth shape left) (IsWorth shape q) (IsWorth shape right) (runs_back p left is_p p_tells) (runs_back q right is_q q_tells) (stop p) (start left)
         (same_sym (same_negate (mirror_starts p left is_p p_tells)))

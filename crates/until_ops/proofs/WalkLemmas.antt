@@ -44,19 +44,30 @@ bases_of_stand {P} shape p q built shapes = λ x h m. by_shape x m (shapes x h)
 
 -- the knots at the places of a walk and behind them, and the earlier of the times of the latter
 pub record IsAt {P : Type 0} (p q : List (Knot P)) (now : Stand P) (k l m n : Knot P) (next : Frac) : Type 0 where
+  -- the knot of the left signal
   pub at_k : slice_get p now.left ≡ Some k
+  -- and of the right one
   pub at_l : slice_get q now.right ≡ Some l
+  -- the next knot of the left signal
   pub at_m : slice_get p (now.left + 1) ≡ Some m
+  -- and of the right one
   pub at_n : slice_get q (now.right + 1) ≡ Some n
+  -- the next event is not after the one
   pub left : value next ≤ʳ time m
+  -- nor after the other
   pub right : value next ≤ʳ time n
+  -- and is one of them
   pub one : (value next ≡ time m) ⊎ (value next ≡ time n)
 
 -- a signal read at a time, as `advance` gives it
 pub record IsRead {P : Type 0} (shape : ShapeOf P) (ks : List (Knot P)) (i : ℕ) (to : Rational) (j : ℕ) (x : P) : Type 0 where
+  -- the place in the list
   pub place : IsPlace ks to j
+  -- what the signal is worth there
   pub worth : IsWorth shape ks to (value_at (shape.function x) to)
+  -- a shape of it
   pub of : HasShape ks x
+  -- one place on, where the next knot is not later
   pub moved : (j ≡ i + 1) ⊎ ((j ≡ i) × ((k : Knot P) → slice_get ks (i + 1) ≡ Some k → to <ʳ time k))
 
 -- one of the two places goes on, or a crossing is passed by
@@ -131,9 +142,11 @@ module _ {P : Type 0} (shape : ShapeOf P) where
         small (inr f) = subst (λ v. IsBounded (2 ^ 31) (value_at (shape.function v) (time k))) (sym f) (point_bounded shape p 0 k sides.left at_k)
 
     module _ (built : List (Knot P)) (now : Stand P) (s : Stands shape p q built now) (k l m n : Knot P) (next : Frac) (at : IsAt p q now k l m n next) where
+      -- the next event is later
       pub begins_before : value now.at <ʳ value next
       begins_before = earlier_after {to = value next} (s.left.later m at.at_m) (s.right.later n at.at_n) at.one
 
+      -- and not after the end
       pub next_stop : value next ≤ʳ stop p
       next_stop = le_trans at.left (at_knot_within shape p (now.left + 1) m is_p at.at_m).below
 
@@ -151,6 +164,7 @@ module _ {P : Type 0} (shape : ShapeOf P) where
       event_of false e (inl h) = inl h
       event_of false e (inr h) = inr (inl h)
 
+      -- the gap up to it follows
       pub gap_follows : (to : Frac) → value now.at <ʳ value to → value to ≤ʳ value next → Follows shape p q (gap_to to)
       gap_follows to a b = record {
         later = a;
@@ -169,6 +183,7 @@ module _ {P : Type 0} (shape : ShapeOf P) where
       right_small : (t : Rational) → value now.at ≤ʳ t → t ≤ʳ value next → IsBounded (2 ^ 31) (value_at (shape.function l.after) t)
       right_small t a b = after_small shape q now.right l n t sides.right at.at_l at.at_n (le_trans (s.right.not_later l at.at_l) a) (le_trans b at.right)
 
+      -- the gap up to a turn is one of the walk
       pub is_gap : (turn : Turn) → IsTurn (shape.function k.after) (shape.function l.after) now.at next turn → IsGap shape (gap_to turn.time)
       is_gap turn is = record {
         later = is.after;
@@ -192,6 +207,7 @@ module _ {P : Type 0} (shape : ShapeOf P) where
       played_small to x t (inr (inr (o, of_gap, fixed, still))) a b =
           bounded_same (2 ^ 31) (value_at (shape.function x) t) (value_at (shape.function o) (value now.at)) (fixed t) (of_gap_small to o of_gap)
 
+      -- a shape that is in play on it is bounded
       pub played_level : (to : Frac) (x : P) → IsPlayed shape (gap_to to) x → HasBoundedLevel (2 ^ 31) (shape.function x)
       played_level to x played = level_bounded (2 ^ 31) (shape.function x) (value now.at) (played_small to x (value now.at) played (le_refl (value now.at)) (le_of_lt begins_before))
 
@@ -253,6 +269,7 @@ module _ {P : Type 0} (shape : ShapeOf P) where
             by_knot (inr f) = inr (subst (λ t. IsBreakpoint (IsWorth shape q) (start p) (stop p) t) (sym (there ∙ f))
                 (breakpoint_same (IsWorth shape q) (start q) (stop q) (start p) (stop p) (time n) (same_sym sides.begins) (same_sym sides.ends) (breakpoint_at shape q (now.right + 1) n is_q at.at_n)))
 
+        -- and so the walk stands after it
         pub walked : (new : List (Knot P)) → Joins shape course.side built course.first course.second turn.time v new → Stands shape p q new after_now
         walked new joins = record {
           signal = joins.signal;
