@@ -1,3 +1,4 @@
+//! A row: a time and a value for each column, in ticks.
 use frac128::Memory;
 use std::marker::Model;
 

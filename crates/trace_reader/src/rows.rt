@@ -1,3 +1,4 @@
+//! The reader of a trace, piece by piece.
 use crate::reading::Reading;
 use crate::{Event, Header, Limits, Row, Took, TraceRefusal};
 use frac128::Memory;
