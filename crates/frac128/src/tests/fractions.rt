@@ -1,3 +1,4 @@
+//! Fractions against values that were worked out elsewhere.
 use super::times::{fraction, moved, time, turned};
 use crate::{Frac, Ratio, WideFrac, cmp_ratio, gcd, gcd_of_words};
 use std::cmp::Ordering;
