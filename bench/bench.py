@@ -21,7 +21,7 @@ TEN = "always[0,50] (x >= 0 or y <= 40) and (y >= 10 since x <= 200) and not onc
 ATOM = "x >= 0"
 CASES = [
     ("atom", ATOM, "walk cross steps alt"),
-    ("response", "always (brake >= 1 implies eventually[0,100] speed <= 10)", "auto"),
+    ("response", "always[0,10000000] (brake >= 1 implies eventually[0,100] speed <= 10)", "auto"),
     ("ten nodes", TEN, "walk cross steps alt"),
     ("until", "x >= 0 until[10,2000] y >= 500", "walk cross alt"),
     ("since", "x >= 0 since[10,2000] y >= 500", "walk cross alt"),
