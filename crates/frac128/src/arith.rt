@@ -38,8 +38,8 @@ pub(crate) fn sum_of_products(a: i128, b: i128, c: i128, d: i128) -> i128
     a * b + c * d
 }
 
-/// The greatest common divisor of two numbers of 128 bits: by Euclid until both have 64, and then by `gcd_of_words`.
-pub fn gcd(a: u128, b: u128) -> u128
+/// The greatest common divisor of two numbers of 128 bits: by Euclid until both have 64, and then by `gcd`.
+pub fn gcd_of_wide(a: u128, b: u128) -> u128
     ensures { IsGcd a b result }
 {
     let mut x = a;
@@ -53,15 +53,15 @@ pub fn gcd(a: u128, b: u128) -> u128
         return x;
     }
     if x >= 1 << 64 {
-        return u128::from(gcd_of_words(y as u64, (x % y) as u64));
+        return u128::from(gcd(y as u64, (x % y) as u64));
     }
-    u128::from(gcd_of_words(x as u64, y as u64))
+    u128::from(gcd(x as u64, y as u64))
 }
 
 /// The greatest common divisor of `a` and `b`; of a number and 0 it is the number.
 ///
 /// It goes by halving: factors of two are told by the lowest bits, so that no division is needed.
-pub fn gcd_of_words(a: u64, b: u64) -> u64
+pub fn gcd(a: u64, b: u64) -> u64
     ensures { IsGcd a b result }
 {
     if a == 0 {

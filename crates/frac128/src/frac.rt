@@ -5,7 +5,7 @@ ghost use Rattle.std.specs.Int.RustNames.{unsigned_abs};
 ghost use Rattle.rational.specs.Rational.{IsOrder, fraction};
 ghost use Rattle.frac128.specs.Lowest.{HasDenominator, IsLowest, IsWide};
 
-use crate::arith::{gcd, gcd_of_words, split, sum_of_products};
+use crate::arith::{gcd, gcd_of_wide, split, sum_of_products};
 use std::cmp::Ordering;
 
 /// Want of memory.
@@ -79,7 +79,7 @@ impl Frac {
     {
         let (whole, rest) = split(num, den);
         let all = den.unsigned_abs();
-        let common = gcd(rest, all);
+        let common = gcd_of_wide(rest, all);
         let reduced = all / common;
         if reduced >= 1 << 60 {
             return Err(WideFrac { den: reduced });
@@ -97,7 +97,7 @@ impl Frac {
         requires small { den < 2 ^ 60 }
         ensures { value result ≈ fraction (whole *ℤ pos den +ℤ pos rest) (pos den) }
     {
-        let common = gcd_of_words(rest, den);
+        let common = gcd(rest, den);
         Frac {
             whole,
             rest: rest / common,

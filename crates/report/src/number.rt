@@ -7,7 +7,7 @@ ghost use Rattle.stl_syntax.specs.Texts.{fraction_text, IsNumberText};
 ghost use Rattle.report.specs.Appended.{Grew, GrewInPart};
 ghost use Rattle.report.specs.Numbers.{signed, IsInUnits};
 
-use frac128::{Frac, Memory, gcd_of_words};
+use frac128::{Frac, Memory, gcd};
 use itoa::Buffer;
 use stl_syntax::Text;
 
@@ -47,7 +47,7 @@ fn common_with(size: u128, tens: u64) -> u64
     ensures common { IsGcd size tens result }
     ensures some { 0 < result }
 {
-    gcd_of_words(tens, remainder(size, tens))
+    gcd(tens, remainder(size, tens))
 }
 
 /// The number times its denominator, by its sign and its size.

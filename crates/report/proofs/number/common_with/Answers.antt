@@ -5,14 +5,14 @@ use Rattle.rational.proofs.Lowest.{gcd_pos}
 use Rattle.report.proofs.number.common_with.Goals as goal
 
 -- the common divisors of the remainder are those of the size
-common : (c : goal.After-gcd_of_words) → IsGcd c.args.size c.args.tens c.gcd_of_words.result
+common : (c : goal.After-gcd) → IsGcd c.args.size c.args.tens c.gcd.result
 common c =
-    IsGcd-from_mod c.args.size c.args.tens c.gcd_of_words.result
-    (subst (λ x. IsGcd c.args.tens x c.gcd_of_words.result) c.remainder.ensures c.gcd_of_words.ensures)
+    IsGcd-from_mod c.args.size c.args.tens c.gcd.result
+    (subst (λ x. IsGcd c.args.tens x c.gcd.result) c.remainder.ensures c.gcd.ensures)
 
 pub returns-clause-common : goal.returns-clause-common
 unfolding common
 returns-clause-common c = common c
 
 pub returns-clause-some : goal.returns-clause-some
-returns-clause-some c = gcd_pos c.args.size c.args.tens c.gcd_of_words.result c.requires (common c)
+returns-clause-some c = gcd_pos c.args.size c.args.tens c.gcd.result c.requires (common c)
