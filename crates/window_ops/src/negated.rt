@@ -1,10 +1,10 @@
 //! The Inf over a window ahead or behind, as minus the Sup of the negated signal.
-ghost use Rattle.std.specs.Prelude.{◌≤◌, ◌^◌, ◌-◌, pos, IfSome, IfOk, IfErr};
+ghost use Rattle.std.specs.Prelude.{◌≤◌, ◌^◌, ◌-◌, pos, true, Some, IfSome, IfOk, IfErr};
 ghost use Rattle.rational.specs.Rational.{whole};
 ghost use Rattle.rational.specs.Time.{◌≤ʳ◌, ◌<ʳ◌};
 ghost use Rattle.rational.specs.InPlay.{window_ahead, window_behind};
 ghost use Rattle.rational.specs.Extended.{opposite, ◌≈ᵉ◌};
-ghost use Rattle.pl_signal.specs.Knots.{IsSignal, IsWorth, start, stop};
+ghost use Rattle.pl_signal.specs.Knots.{HasShape, IsSignal, IsWorth, start, stop};
 ghost use Rattle.pl_signal.specs.Limits.{IsLimited};
 ghost use Rattle.pl_signal.specs.Moves.{BasesFrom, Tells};
 ghost use Rattle.pl_signal.specs.Wide.{HasCause};
@@ -31,16 +31,19 @@ pub fn inf_window<P: Shape>(
     low_in: bool,
     high_in: bool,
 ) -> Result<Signal<P>, OpFault<P>>
-    requires limited { IsLimited P.function s.now }
+    requires limited { IsLimited P.Shape s.now }
     requires first { whole (pos 0) ≤ʳ start s.now }
     requires last { stop s.now <ʳ whole (pos (2 ^ 32)) }
-    requires near { AreNear P.base s.now }
+    requires near { AreNear P.Shape s.now }
     requires order { a ≤ b }
-    ensures worth { IfOk result (Tells P.function (InfAhead (start s.now) (stop s.now) (IsWorth P.function s.now) P.highest a b low_in high_in)
+    ensures worth { IfOk result (Tells P.Shape (InfAhead (start s.now) (stop s.now) (IsWorth P.Shape s.now) P.highest a b low_in high_in)
         (start s.now) (stop s.now)) }
-    ensures bases { IfOk result (BasesAhead P.moves P.base a b s.now) }
-    ensures wide { IfErr result (HasCause P.function (window_ahead (IsWorth P.function s.now) a b low_in high_in) (start s.now) (stop s.now)) }
+    ensures bases { IfOk result (BasesAhead P.Shape a b s.now) }
+    ensures wide { IfErr result (HasCause P.Shape (window_ahead (IsWorth P.Shape s.now) a b low_in high_in) (start s.now) (stop s.now)) }
 {
+    if b == 0 && low_in && high_in {
+        return Ok(inf_now(s)?);
+    }
     lowest_is_minus_highest::<P>();
     let negated = minus(s)?;
     match sup_window(&negated, a, b, low_in, high_in) {
@@ -60,16 +63,19 @@ pub fn inf_past<P: Shape>(
     low_in: bool,
     high_in: bool,
 ) -> Result<Signal<P>, OpFault<P>>
-    requires limited { IsLimited P.function s.now }
+    requires limited { IsLimited P.Shape s.now }
     requires first { whole (pos 0) ≤ʳ start s.now }
     requires last { stop s.now ≤ʳ whole (pos (2 ^ 32 - 1)) }
-    requires near { AreNear P.base s.now }
+    requires near { AreNear P.Shape s.now }
     requires order { IfSome b (λ b. a ≤ b) }
-    ensures worth { IfOk result (Tells P.function (InfBehind (start s.now) (stop s.now) (IsWorth P.function s.now) P.highest a b low_in high_in)
+    ensures worth { IfOk result (Tells P.Shape (InfBehind (start s.now) (stop s.now) (IsWorth P.Shape s.now) P.highest a b low_in high_in)
         (start s.now) (stop s.now)) }
-    ensures bases { IfOk result (BasesBehind P.moves P.base a b s.now) }
-    ensures wide { IfErr result (HasCause P.function (window_behind (IsWorth P.function s.now) a b low_in high_in) (start s.now) (stop s.now)) }
+    ensures bases { IfOk result (BasesBehind P.Shape a b s.now) }
+    ensures wide { IfErr result (HasCause P.Shape (window_behind (IsWorth P.Shape s.now) a b low_in high_in) (start s.now) (stop s.now)) }
 {
+    if b == Some(0) && low_in && high_in {
+        return Ok(inf_now(s)?);
+    }
     lowest_is_minus_highest::<P>();
     let negated = minus(s)?;
     match sup_past(&negated, a, b, low_in, high_in) {
@@ -78,15 +84,27 @@ pub fn inf_past<P: Shape>(
     }
 }
 
+/// The Inf over the window of the one time `t`, ahead or behind: the signal itself.
+fn inf_now<P: Shape>(s: &Signal<P>) -> Result<Signal<P>, Memory>
+    ensures ahead { IfOk result (Tells P.Shape (InfAhead (start s.now) (stop s.now) (IsWorth P.Shape s.now) P.highest 0 0 true true)
+        (start s.now) (stop s.now)) }
+    ensures behind { IfOk result (Tells P.Shape (InfBehind (start s.now) (stop s.now) (IsWorth P.Shape s.now) P.highest 0 (Some 0) true true)
+        (start s.now) (stop s.now)) }
+    ensures shapes { IfOk result (λ r. (p : P) → HasShape r p → HasShape s.now p) }
+{
+    let (from, to) = (s.start(), s.stop());
+    s.restrict(&from, &to)
+}
+
 /// Minus the signal. What a window asks of the signal it may ask of this one.
 fn minus<P: Shape>(s: &Signal<P>) -> Result<Signal<P>, Memory>
-    requires limited { IsLimited P.function s.now }
-    requires near { AreNear P.base s.now }
-    ensures signal { IsSignal P.function s.now }
-    ensures worth { IfOk result (Tells P.function (Negated (IsWorth P.function s.now)) (start s.now) (stop s.now)) }
-    ensures limited { IfOk result (λ r. IsLimited P.function r) }
-    ensures near { IfOk result (λ r. AreNear P.base r) }
-    ensures bases { IfOk result (BasesFrom P.moves P.base (λ b. b) s.now) }
+    requires limited { IsLimited P.Shape s.now }
+    requires near { AreNear P.Shape s.now }
+    ensures signal { IsSignal P.Shape s.now }
+    ensures worth { IfOk result (Tells P.Shape (Negated (IsWorth P.Shape s.now)) (start s.now) (stop s.now)) }
+    ensures limited { IfOk result (λ r. IsLimited P.Shape r) }
+    ensures near { IfOk result (λ r. AreNear P.Shape r) }
+    ensures bases { IfOk result (BasesFrom P.Shape (λ b. b) s.now) }
 {
     let _ = s.len();
     neg(s)
@@ -94,8 +112,8 @@ fn minus<P: Shape>(s: &Signal<P>) -> Result<Signal<P>, Memory>
 
 /// The fault with its shapes negated.
 fn negated_fault<P: Shape>(fault: OpFault<P>) -> OpFault<P>
-    requires { HaveBoundedLevels P.function fault }
-    ensures { IsNegated P.function fault result }
+    requires { HaveBoundedLevels P.Shape fault }
+    ensures { IsNegated P.Shape fault result }
 {
     match fault {
         OpFault::Memory => OpFault::Memory,
