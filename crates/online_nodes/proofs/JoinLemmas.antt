@@ -1,33 +1,5 @@
 -- A connective over its two inputs, verdict by verdict.
-use Rattle.std.proofs.Common.{
-  ◌≡◌,
-  ◌≢◌,
-  ◌⊎◌,
-  inl,
-  inr,
-  ℕ,
-  suc,
-  ◌+◌,
-  ◌<◌,
-  ◌≤◌,
-  Bool,
-  List,
-  [],
-  ◌∷◌,
-  ◌++◌,
-  drop,
-  length,
-  Some,
-  slice_get,
-  refl,
-  sym,
-  ap,
-  subst,
-  ◌∙◌,
-  arith,
-  append_assoc,
-  length-append,
-}
+use Rattle.std.proofs.Common.{◌≡◌, ◌≢◌, ◌⊎◌, inl, inr, ℕ, ◌+◌, ◌<◌, ◌≤◌, List, [], ◌∷◌, ◌++◌, drop, length, Some, slice_get, refl, sym, ap, subst, ◌∙◌, arith, append_assoc, length-append}
 use Rattle.std.proofs.lemmas.List.{append-nil}
 use Rattle.rational.specs.Rational.{Rational}
 use Rattle.frac128.specs.Spans.{interval}
@@ -35,9 +7,9 @@ use Rattle.stl_syntax.specs.Trace.{Trace}
 use Rattle.stl_syntax.specs.Formula.{Subformula}
 use Rattle.stl_syntax.specs.Truth.{Truth}
 use Rattle.stl_syntax.specs.declared.items.Verdict.{Verdict}
-use Rattle.online_nodes.specs.Cuts.{Place, place, begins, ends, After, Upto, AtMost, Before, Same}
-use Rattle.online_nodes.specs.Held.{Held, fresh_at, edge_at}
-use Rattle.online_nodes.specs.Reading.{AllAre, Is, Tells}
+use Rattle.online_nodes.specs.Cuts.{Place, place, ends, After, Upto, AtMost, Before}
+use Rattle.online_nodes.specs.Held.{Held, fresh_at}
+use Rattle.online_nodes.specs.Reading.{AllAre}
 use Rattle.online_nodes.specs.Written.{HasAnswer, HasTold, IsSound, Reaches}
 use Rattle.online_nodes.specs.Working.{HasWorked}
 use Rattle.online_nodes.specs.Joins.{joined, IsJoinOf, IsReadTo, IsJoining, HasPaused, HasReadBoth, HasFilled, HasJoined}

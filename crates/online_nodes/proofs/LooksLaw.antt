@@ -1,32 +1,7 @@
 -- The four windows look through their places, and the connectives join: each by the definition of truth.
-use Rattle.std.proofs.Common.{
-  ◌≡◌,
-  ◌⊎◌,
-  inl,
-  inr,
-  refl,
-  sym,
-  ap,
-  subst,
-  Bool,
-  true,
-  false,
-  not,
-  ◌&&◌,
-  ◌||◌,
-  ℕ,
-  ℤ,
-  pos,
-  neg_ℤ,
-  Option,
-  Some,
-  None,
-  ◌+◌,
-  ◌*◌,
-  arith,
-}
-use Rattle.std.specs.Prelude.{MatchBool, IfSome}
-use Rattle.rational.specs.Rational.{Rational, ◌≤ʳ◌, ◌<ʳ◌, ◌≈◌, add, whole}
+use Rattle.std.proofs.Common.{inl, inr, Bool, true, false, not, ℕ, pos, neg_ℤ, Option, Some, None, arith}
+use Rattle.std.specs.Prelude.{IfSome}
+use Rattle.rational.specs.Rational.{Rational, ◌≤ʳ◌, ◌<ʳ◌, add, whole}
 use Rattle.rational.specs.Time.{Within, Precedes, later}
 use Rattle.rational.specs.Windows.{Ahead, Behind}
 use Rattle.rational.proofs.Order.{le_trans, le_of_same, ge_of_same, lt_of_le_of_lt, lt_of_lt_of_le, le_or_lt, not_lt_of_le}
@@ -46,10 +21,10 @@ use Rattle.stl_syntax.specs.Formula.{
   since,
 }
 use Rattle.stl_syntax.specs.Truth.{Truth}
-use Rattle.online_nodes.specs.Cuts.{Place, After, Upto}
-use Rattle.online_nodes.specs.Reading.{Truths, Is, Looks, IsUntilOf, IsSinceOf}
+use Rattle.online_nodes.specs.Cuts.{After, Upto}
+use Rattle.online_nodes.specs.Reading.{Looks, IsUntilOf, IsSinceOf}
 use Rattle.online_nodes.specs.Sweeps.{Counted}
-use Rattle.online_nodes.specs.Joins.{joined, IsJoinOf}
+use Rattle.online_nodes.specs.Joins.{IsJoinOf}
 use Rattle.online_nodes.specs.Negations.{IsNotOf}
 use Rattle.online_nodes.specs.Looking.{place_at, past_begin}
 use Rattle.online_nodes.specs.declared.join.Join.TheVariants.{And, Or, Implies}

@@ -1,42 +1,18 @@
 -- A window swept verdict by verdict.
-use Rattle.std.proofs.Common.{
-  ◌≡◌,
-  ◌≢◌,
-  ℕ,
-  suc,
-  ◌+◌,
-  ◌*◌,
-  ◌<◌,
-  ◌≤◌,
-  List,
-  [],
-  ◌++◌,
-  drop,
-  length,
-  Some,
-  slice_get,
-  refl,
-  sym,
-  ap,
-  subst,
-  ◌∙◌,
-  arith,
-  append_assoc,
-  length-append,
-}
+use Rattle.std.proofs.Common.{◌≡◌, ◌≢◌, ℕ, ◌+◌, ◌*◌, ◌<◌, ◌≤◌, List, [], ◌++◌, drop, length, refl, sym, ap, subst, ◌∙◌, arith, append_assoc, length-append}
 use Rattle.std.proofs.lemmas.List.{append-nil}
 use Rattle.stl_syntax.specs.Trace.{Trace}
 use Rattle.stl_syntax.specs.Formula.{Subformula}
 use Rattle.stl_syntax.specs.declared.items.Verdict.{Verdict}
 use Rattle.online_nodes.specs.Cuts.{Place, place, Upto, AtMost}
 use Rattle.online_nodes.specs.Held.{Held, fresh_at}
-use Rattle.online_nodes.specs.Sweeps.{FitsIn, HasEnded, HasRead, HasStopped, HasSwept, IsSwept, IsWindowOf}
+use Rattle.online_nodes.specs.Sweeps.{HasEnded, HasRead, HasStopped, HasSwept, IsSwept, IsWindowOf}
 use Rattle.online_nodes.specs.Working.{HasWorked}
 use Rattle.online_nodes.specs.Written.{HasGot, IsSound}
 use Rattle.online_nodes.specs.declared.cut.Cut.{Cut}
 use Rattle.online_nodes.specs.declared.window.Window.{Window}
 use Rattle.online_nodes.specs.declared.window.Sweep.{Sweep}
-use Rattle.online_nodes.proofs.DroppingLemmas.{drop-drop, slice_get-drop}
+use Rattle.online_nodes.proofs.DroppingLemmas.{drop-drop}
 use Rattle.online_nodes.proofs.GotLemmas.{got-other}
 use Rattle.online_nodes.proofs.WorkLemmas.{worked_none, worked_put, worked_both}
 

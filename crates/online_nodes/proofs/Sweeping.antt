@@ -1,32 +1,6 @@
 -- One verdict of the input more.
-use Rattle.std.proofs.Common.{
-  ◌≡◌,
-  ◌⊎◌,
-  inl,
-  inr,
-  refl,
-  sym,
-  ◌∙◌,
-  ap,
-  subst,
-  Bool,
-  true,
-  false,
-  not,
-  List,
-  [],
-  ◌∷◌,
-  ◌++◌,
-  Option,
-  Some,
-  None,
-  ℤ,
-  ℕ,
-  suc,
-  drop,
-  arith,
-}
-use Rattle.std.specs.Prelude.{MatchBool, slice_get, length, ◌<◌}
+use Rattle.std.proofs.Common.{◌≡◌, inl, inr, refl, sym, ap, subst, Bool, true, false, not, List, [], ◌∷◌, Option, Some, None, ℤ, suc, drop, arith}
+use Rattle.std.specs.Prelude.{slice_get, length, ◌<◌}
 use mathlib.Core.Bool.{beq}
 use Rattle.std.specs.Int.{w64}
 use Rattle.rational.specs.Rational.{Rational, FitsFloor, add, whole}
@@ -36,23 +10,13 @@ use Rattle.stl_syntax.specs.Formula.{Subformula}
 use Rattle.stl_syntax.specs.Truth.{Truth}
 use Rattle.stl_syntax.specs.declared.items.Verdict.{Verdict}
 use Rattle.online_nodes.specs.Cuts.{Place, place, begins, ends, After, Upto, Before, Same, moved_begin, moved_end}
-use Rattle.online_nodes.specs.Reading.{Truths, Is, AllAre, Tells, Looks, Remembers, Knows, MeetsAfter, MeetsUpto}
+use Rattle.online_nodes.specs.Reading.{AllAre, Tells, Remembers, MeetsAfter, MeetsUpto}
 use Rattle.online_nodes.specs.Written.{HasTold}
 use Rattle.online_nodes.specs.Sweeps.{low_place, high_place, Counted, IsWindowOf, IsSwept, Settles}
 use Rattle.online_nodes.specs.declared.window.Window.{Window}
 use Rattle.online_nodes.specs.declared.window.Sweep.{Sweep}
-use Rattle.online_nodes.specs.declared.cut.Cut.{Cut}
-use Rattle.online_nodes.proofs.PlaceLemmas.{
-  sides,
-  not_both,
-  same_before,
-  before_same,
-  same_places,
-  after_same,
-  upto_same,
-  upto_of_before,
-}
-use Rattle.online_nodes.proofs.WindowLaw.{before_it, settled, remembers_of, knows_passed, knows_entered, knows_later}
+use Rattle.online_nodes.proofs.PlaceLemmas.{sides, not_both, same_before, same_places, after_same, upto_same, upto_of_before}
+use Rattle.online_nodes.proofs.WindowLaw.{before_it, settled, remembers_of, knows_passed, knows_entered}
 use Rattle.online_nodes.proofs.WindowPlaces.{meets_after, meets_upto}
 
 pub no_first : (l : List Verdict) → slice_get l 0 ≡ None → l ≡ []

@@ -1,5 +1,5 @@
 -- How a window is swept over its input, one verdict at a time.
-use Rattle.std.specs.Prelude.{◌≡◌, ℕ, suc, ◌+◌, ◌*◌, ◌≤◌, Bool, true, false, not, neg_ℤ, List, ◌++◌, drop, length}
+use Rattle.std.specs.Prelude.{◌≡◌, suc, ◌+◌, ◌*◌, ◌≤◌, Bool, true, false, not, neg_ℤ, List, ◌++◌, drop, length}
 use Rattle.std.specs.Int.{w64}
 use Rattle.rational.specs.Rational.{Rational, FitsFloor, add, whole}
 use Rattle.frac128.specs.Value.{value}

@@ -1,4 +1,4 @@
-ghost use Rattle.std.specs.Prelude.{◌≡◌, ◌<◌, length, IfOk, IfSome};
+ghost use Rattle.std.specs.Prelude.{◌≡◌, ◌<◌, length, IfOk, IfSome, OnOk};
 ghost use Rattle.online_nodes.specs.Cuts.{place, AtMost};
 ghost use Rattle.online_nodes.specs.Written.{IsSound};
 
@@ -39,7 +39,7 @@ fn stretch(from: Cut, to: Cut) -> Option<Out>
 /// Joins the first two edges from 0 to 5, onto the third.
 fn join_all(edges: &mut Edges, join: Join) -> Result<(), Fail>
     requires { length edges.old.edges ≡ 3 }
-    ensures { length edges.new.edges ≡ 3 }
+    ensures { OnOk result (length edges.new.edges ≡ 3) }
 {
     let out = stretch(Cut::before_whole(0), Cut::after_whole(5)).ok_or("empty")?;
     let out = connect(edges, join, Inputs { left: 0, right: 1 }, out)?;
@@ -50,7 +50,7 @@ fn join_all(edges: &mut Edges, join: Join) -> Result<(), Fail>
 /// Denies the first edge from 0 to 5, onto the third.
 fn deny_all(edges: &mut Edges) -> Result<(), Fail>
     requires { length edges.old.edges ≡ 3 }
-    ensures { length edges.new.edges ≡ 3 }
+    ensures { OnOk result (length edges.new.edges ≡ 3) }
 {
     let out = stretch(Cut::before_whole(0), Cut::after_whole(5)).ok_or("empty")?;
     let out = negate(edges, 0, out)?;

@@ -1,6 +1,6 @@
-use Rattle.std.proofs.Common.{◌≡◌, refl, sym, ap, subst, ◌∙◌, arith}
+use Rattle.std.proofs.Common.{sym, subst, ◌∙◌}
 use Rattle.online_nodes.specs.declared.cut.Cut.{Cut}
-use Rattle.online_nodes.specs.Cuts.{Place, place, Upto, AtMost}
+use Rattle.online_nodes.specs.Cuts.{place, Upto, AtMost}
 use Rattle.online_nodes.specs.Written.{HasAnswer}
 use Rattle.online_nodes.specs.Joins.{joined}
 use Rattle.online_nodes.proofs.EdgesLemmas.{empty_of_none}

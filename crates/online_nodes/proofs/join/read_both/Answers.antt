@@ -1,8 +1,8 @@
-use Rattle.std.proofs.Common.{◌≡◌, refl, sym, ap, subst, ◌∙◌, Some, slice_get, length, arith}
+use Rattle.std.proofs.Common.{refl, sym, subst, ◌∙◌, arith}
 use Rattle.frac128.specs.Spans.{interval}
 use Rattle.stl_syntax.specs.declared.items.Verdict.{Verdict}
 use Rattle.online_nodes.specs.declared.cut.Cut.{Cut}
-use Rattle.online_nodes.specs.Cuts.{Place, place, ends, AtMost, Before, Upto}
+use Rattle.online_nodes.specs.Cuts.{place, ends, AtMost, Before, Upto}
 use Rattle.online_nodes.specs.Held.{fresh_at}
 use Rattle.online_nodes.specs.Written.{HasAnswer}
 use Rattle.online_nodes.proofs.GotLemmas.{got-length}

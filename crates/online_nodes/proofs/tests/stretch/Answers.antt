@@ -1,4 +1,4 @@
-use Rattle.std.proofs.Common.{sym, ap, subst}
+use Rattle.std.proofs.Common.{sym, subst}
 use Rattle.online_nodes.specs.Cuts.{place, AtMost}
 use Rattle.online_nodes.specs.Written.{IsSound}
 use Rattle.online_nodes.specs.declared.writer.Out.{Out}

@@ -1,5 +1,4 @@
-use Rattle.std.proofs.Common.{refl, sym, ◌∙◌, ap, subst, ◌≡◌, ◌++◌, ℕ, ◌⊎◌, inl, inr, arith}
-use Rattle.rational.specs.Rational.{Rational}
+use Rattle.std.proofs.Common.{sym, subst, ◌≡◌, inl, inr, arith}
 use Rattle.online_nodes.specs.Cuts.{place, Upto}
 use Rattle.online_nodes.specs.declared.cut.Cut.{Cut}
 use Rattle.online_nodes.proofs.GotLemmas.{got-length}

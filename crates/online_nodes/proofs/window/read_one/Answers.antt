@@ -1,43 +1,12 @@
-use Rattle.std.proofs.Common.{
-  rules,
-  refl,
-  sym,
-  ◌∙◌,
-  ap,
-  subst,
-  ◌≡◌,
-  ◌≢◌,
-  List,
-  [],
-  ◌∷◌,
-  ◌++◌,
-  not,
-  arith,
-  ℤ,
-  ℕ,
-  to_z,
-  of_z,
-  length,
-  ◌<◌,
-  drop,
-  ◌⊎◌,
-  inl,
-  inr,
-  to_z-of_z,
-  slice_get,
-  Some,
-}
+use Rattle.std.proofs.Common.{rules, refl, sym, ◌∙◌, ap, subst, ◌≡◌, [], ◌∷◌, ◌++◌, arith, to_z, of_z, length, drop, inl, inr, to_z-of_z}
 use Rattle.std.specs.Int.{w64}
 use Rattle.std.proofs.lemmas.List.{append-nil}
 use Rattle.std.proofs.lemmas.Option.{slice_get_within}
-use Rattle.rational.specs.Rational.{Rational}
 use Rattle.frac128.specs.Value.{value}
 use Rattle.frac128.specs.Spans.{interval}
-use Rattle.stl_syntax.specs.declared.items.Verdict.{Verdict}
 use Rattle.online_nodes.specs.declared.cut.Cut.{Cut}
-use Rattle.online_nodes.specs.Cuts.{Place, place, ends, Upto, After, Before, begins}
+use Rattle.online_nodes.specs.Cuts.{Place, place, ends, Upto, Before, begins}
 use Rattle.online_nodes.specs.Held.{fresh_at}
-use Rattle.online_nodes.specs.Written.{HasTold}
 use Rattle.online_nodes.specs.Sweeps.{IsSwept}
 use Rattle.online_nodes.proofs.Sweeping.{
   no_first,
@@ -57,7 +26,7 @@ use Rattle.online_nodes.proofs.Sweeping.{
 use Rattle.online_nodes.proofs.PlaceLemmas.{sides, not_both, at_most_of_not_before}
 use Rattle.online_nodes.proofs.GotLemmas.{got-length, got-other}
 use Rattle.online_nodes.proofs.WorkLemmas.{HasPassed, worked_pass}
-use Rattle.online_nodes.proofs.SaidLemmas.{HasAnswers, answered_twice, on_err, passed-fresh, passed-one, worked_read}
+use Rattle.online_nodes.proofs.SaidLemmas.{answered_twice, on_err, passed-fresh, passed-one, worked_read}
 use Rattle.online_nodes.proofs.window.read_one.Goals as goal
 
 pub returns-in_default-clause-read : goal.returns-in_default-clause-read
