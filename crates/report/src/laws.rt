@@ -5,5 +5,5 @@ use value_laws::Shape;
 
 /// Where a signal tells a formula with atoms read as 1 and -1, verdicts that describe the signal describe the formula.
 pub fn signals_describe<P: Shape>()
-    ensures { SignalsDescribe P.function }
+    ensures { SignalsDescribe P.Shape }
 {}
