@@ -1,5 +1,6 @@
 -- The three-valued signal of one atom grows along its cells.
 use Rattle.std.proofs.Common.{◌≡◌, ℕ, zero, suc, ◌+◌, ◌<◌, ◌≤◌, ◌^◌, ◌⊎◌, inl, inr, Bool, true, false, List, [], ◌∷◌, ◌++◌, length, Some, None, refl, sym, subst, ap, ◌∙◌, arith, pos, negsuc, get_or, lit≤, rules, length-append}
+use Rattle.value_laws.specs.Kinds.{kleene_shape}
 use Rattle.std.specs.Prelude.{slice_get, slice_index, Option, MatchBool, IsTrue, IsFalse}
 use Rattle.std.proofs.lemmas.Option.{slice_get_within, slice_get-get_or, get_or_from_slice_get}
 use Rattle.rational.specs.Rational.{IsWithin}
@@ -40,7 +41,6 @@ use Rattle.implicants.specs.Runs.{IsRun, begins, AreAllCells}
 use Rattle.implicants.specs.Certainty.{stays, known_at, EndsAt, IsAtomCertainty}
 use Rattle.implicants.proofs.Strips.{IsCellOn, in_cut, in_gap, point_at, gap_at, length_here, to_last, one_cell}
 use Rattle.implicants.proofs.Covering.{IsOver, to_remaining, from_remaining, from_at, to_covered, of_covered}
-use Rattle.implicants.proofs.Telling.{kleene_function}
 
 -- places in joined lists
 get_right : (xs ys : List Item) (k : ℕ) → slice_get (xs ++ ys) (length xs + k) ≡ slice_get ys k
@@ -179,9 +179,9 @@ module _ (nodes : List Node) (tr : Trace) (items : List Item) (left : ℕ) (mark
 
   -- what the cell says is what the items leave certain
   gives_cell : (run : IsRun nodes tr items i from to) (a : Atom) (c : ℕ) (e : Item) (t : Rational) (p : Kleene) → subformula nodes i ≡ atom i a → slice_get run.here c ≡ Some e → e.node ≡ i → IsSo nodes tr e
-      → IsIn (interval e.on) t → p.known ≡ known_at (stays left marks (from + c)) e → Gives (certainties tr left_over) i a t (value_at (kleene_function p) t)
+      → IsIn (interval e.on) t → p.known ≡ known_at (stays left marks (from + c)) e → Gives (certainties tr left_over) i a t (value_at (kleene_shape.function p) t)
   gives_cell run a c e t p tree s n so inside known =
-      gives_alike tr left_over i a t (value_at (kleene_function p) t) (finite (whole (kleene_value p.known))) (level_is (kleene_value p.known) t)
+      gives_alike tr left_over i a t (value_at (kleene_shape.function p) t) (finite (whole (kleene_value p.known))) (level_is (kleene_value p.known) t)
       (subst (λ o. Gives (certainties tr left_over) i a t (finite (whole (kleene_value o)))) (sym known) (by_stay (stays left marks (from + c)) refl))
     where
       truth : MatchBool e.holds (IsTrue (holds_at a tr t)) (¬ IsTrue (holds_at a tr t))
@@ -206,10 +206,10 @@ module _ (nodes : List Node) (tr : Trace) (items : List Item) (left : ℕ) (mark
     pub t : Rational
     pub at : c ≡ from + suc (k + k)
     pub cut : slice_get run.times k ≡ Some t
-    pub signal : IsSignal kleene_function s
+    pub signal : IsSignal kleene_shape s
     pub begins : knots.start s ≈ start tr
     pub ends : knots.stop s ≈ t
-    pub worth : (a : Atom) → subformula nodes i ≡ atom i a → (u : Rational) (v : Extended) → IsWorth kleene_function s u v → Gives (certainties tr left_over) i a u v
+    pub worth : (a : Atom) → subformula nodes i ≡ atom i a → (u : Rational) (v : Extended) → IsWorth kleene_shape s u v → Gives (certainties tr left_over) i a u v
 
   -- the item at a place is the cell of the run there
   pub is_cell : (run : IsRun nodes tr items i from to) (c : ℕ) (e f : Item) → slice_get run.here c ≡ Some e → f ≡ get_or items (from + c) f → f ≡ e
@@ -234,7 +234,7 @@ module _ (nodes : List Node) (tr : Trace) (items : List Item) (left : ℕ) (mark
 
   pub grown_first : (run : IsRun nodes tr items i from to) (s : List (Knot Kleene)) (at : Frac) (p : Kleene) (f : Item) → i < length nodes → start tr ≤ʳ stop tr
       → f ≡ get_or items from f → at ≡ f.on.from → ((e : Item) → slice_get items from ≡ Some e → p.known ≡ known_at (stays left marks from) e)
-      → s ≡ record { time = at; point = p; after = p } ∷ [] → IsSignal kleene_function s → IsGrown (from + 1) s
+      → s ≡ record { time = at; point = p; after = p } ∷ [] → IsSignal kleene_shape s → IsGrown (from + 1) s
   grown_first run s at p f l o is_f is_at known made signal = record {
     run = run;
     k = 0;
@@ -244,7 +244,7 @@ module _ (nodes : List Node) (tr : Trace) (items : List Item) (left : ℕ) (mark
     signal = signal;
     begins = subst (λ x. knots.start x ≈ start tr) (sym made) (same_trans time cut.2);
     ends = subst (λ x. knots.stop x ≈ t) (sym made) time;
-    worth = λ a tree u v w. by_worth a tree u v (subst (λ x. IsWorth kleene_function x u v) made w);
+    worth = λ a tree u v w. by_worth a tree u v (subst (λ x. IsWorth kleene_shape x u v) made w);
   }
     where
       cut : (t : Rational) × (slice_get run.times 0 ≡ Some t) × (t ≈ start tr)
@@ -265,9 +265,9 @@ module _ (nodes : List Node) (tr : Trace) (items : List Item) (left : ℕ) (mark
       time : value at ≈ cut.0
       time = subst (λ x. value x ≈ cut.0) (sym (is_at ∙ ap (λ x. x.on.from) same)) cell.2.begin.time
 
-      by_worth : (a : Atom) → subformula nodes i ≡ atom i a → (u : Rational) (v : Extended) → IsWorth kleene_function (record { time = at; point = p; after = p } ∷ []) u v → Gives (certainties tr left_over) i a u v
+      by_worth : (a : Atom) → subformula nodes i ≡ atom i a → (u : Rational) (v : Extended) → IsWorth kleene_shape (record { time = at; point = p; after = p } ∷ []) u v → Gives (certainties tr left_over) i a u v
       by_worth a tree u v (inl w) =
-          gives_alike tr left_over i a u v (value_at (kleene_function p) u) w.worth
+          gives_alike tr left_over i a u v (value_at (kleene_shape.function p) u) w.worth
           (gives_cell run a 0 cell.0 u p tree cell.1 cell.2.node cell.2.so (in_cut_cell cell.0 cut.0 u cell.2 (same_trans w.when time))
           (subst (λ n. p.known ≡ known_at (stays left marks n) cell.0) (sym place) (known cell.0 (subst (λ n. slice_get items n ≡ Some cell.0) place (run_item run 0 cell.0 cell.1)))))
       by_worth a tree u v (inr (inl w)) = absurd w
@@ -339,7 +339,7 @@ module _ (nodes : List Node) (tr : Trace) (items : List Item) (left : ℕ) (mark
   pub grown_more : (c : ℕ) (s x : List (Knot Kleene)) (g : IsGrown c s) (n : IsNext c s g) (f : Item) (p q : Kleene) → f ≡ get_or items (c + 1) f
       → ((e : Item) → slice_get items c ≡ Some e → p.known ≡ known_at (stays left marks c) e)
       → ((e : Item) → slice_get items (c + 1) ≡ Some e → q.known ≡ known_at (stays left marks (c + 1)) e)
-      → GoesOn kleene_function s p f.on.from q x → IsGrown (c + 2) x
+      → GoesOn kleene_shape s p f.on.from q x → IsGrown (c + 2) x
   grown_more c s x g n f p q h known known_next on = record {
     run = g.run;
     k = suc g.k;
@@ -362,16 +362,16 @@ module _ (nodes : List Node) (tr : Trace) (items : List Item) (left : ℕ) (mark
       next = let at = g.at in omega (arith, at)
 
       by_part : (a : Atom) → subformula nodes i ≡ atom i a → (u : Rational) (v : Extended)
-          → IsWorth kleene_function s u v ⊎ ((knots.stop s <ʳ u) × (u <ʳ value f.on.from) × Passes (kleene_function p) u v) ⊎ ((u ≈ value f.on.from) × Passes (kleene_function q) u v)
+          → IsWorth kleene_shape s u v ⊎ ((knots.stop s <ʳ u) × (u <ʳ value f.on.from) × Passes (kleene_shape.function p) u v) ⊎ ((u ≈ value f.on.from) × Passes (kleene_shape.function q) u v)
           → Gives (certainties tr left_over) i a u v
       by_part a tree u v (inl w) = g.worth a tree u v w
       by_part a tree u v (inr (inl w)) =
-          gives_alike tr left_over i a u v (value_at (kleene_function p) u) w.2
+          gives_alike tr left_over i a u v (value_at (kleene_shape.function p) u) w.2
           (gives_cell g.run a (suc (g.k + g.k)) n.gap_cell u p tree n.gap_here n.gap_is.node n.gap_is.so
           (in_gap_cell n.gap_cell g.t n.u u n.gap_is (lt_of_le_of_lt (ge_of_same g.ends) w.0) (lt_of_lt_of_le w.1 (le_of_same time)))
           (subst (λ m. p.known ≡ known_at (stays left marks m) n.gap_cell) here (known n.gap_cell (subst (λ m. slice_get items m ≡ Some n.gap_cell) (sym here) (run_item g.run (suc (g.k + g.k)) n.gap_cell n.gap_here)))))
       by_part a tree u v (inr (inr w)) =
-          gives_alike tr left_over i a u v (value_at (kleene_function q) u) w.1
+          gives_alike tr left_over i a u v (value_at (kleene_shape.function q) u) w.1
           (gives_cell g.run a (suc g.k + suc g.k) n.point_cell u q tree n.point_here n.point_is.node n.point_is.so (in_cut_cell n.point_cell n.u u n.point_is (same_trans w.0 time))
           (subst (λ m. q.known ≡ known_at (stays left marks m) n.point_cell) next (known_next n.point_cell (subst (λ m. slice_get items m ≡ Some n.point_cell) (sym next) (run_item g.run (suc g.k + suc g.k) n.point_cell n.point_here)))))
 
@@ -424,16 +424,16 @@ module _ (nodes : List Node) (tr : Trace) (items : List Item) (left : ℕ) (mark
 
   -- a signal over the domain that says nothing else
   made_certain : (a : Atom) (s : List (Knot Kleene)) → slice_get nodes i ≡ Some (Leaf a) → subformula nodes i ≡ atom i a → first_time tr.rows < 2 ^ 32 → last_time 0 tr.rows < 2 ^ 32
-      → IsSignal kleene_function s → knots.start s ≈ start tr → knots.stop s ≈ stop tr
-      → ((a : Atom) → subformula nodes i ≡ atom i a → (u : Rational) (v : Extended) → IsWorth kleene_function s u v → Gives (certainties tr left_over) i a u v)
-      → IsAtomCertainty kleene_function (λ p. pos 0) nodes tr left_over i s
+      → IsSignal kleene_shape s → knots.start s ≈ start tr → knots.stop s ≈ stop tr
+      → ((a : Atom) → subformula nodes i ≡ atom i a → (u : Rational) (v : Extended) → IsWorth kleene_shape s u v → Gives (certainties tr left_over) i a u v)
+      → IsAtomCertainty kleene_shape nodes tr left_over i s
   made_certain a s at tree x y signal begins ends worth = record {
     begins = begins;
     ends = ends;
-    tells = λ b same. told kleene_function (Gives (certainties tr left_over) i b) (start tr) (stop tr) s (is_function b)
+    tells = λ b same. told kleene_shape (Gives (certainties tr left_over) i b) (start tr) (stop tr) s (is_function b)
         (record { signal = signal; worth = worth b (subst (λ z. subformula nodes i ≡ atom i z) (leaf_same a b (sym at ∙ same)) tree) }) begins ends;
     bases = λ p h. (record { le = tt }, search rules);
-    limited = limited kleene_function s signal (λ t v w. bounded_gives a t v (worth a tree t v w))
+    limited = limited kleene_shape s signal (λ t v w. bounded_gives a t v (worth a tree t v w))
         (tick_within (first_time tr.rows) x begins) (tick_within (last_time 0 tr.rows) y ends);
   }
     where
@@ -441,28 +441,28 @@ module _ (nodes : List Node) (tr : Trace) (items : List Item) (left : ℕ) (mark
       leaf_same a b e = cc
 
   pub grown_end : (a : Atom) (c : ℕ) (s x : List (Knot Kleene)) (g : IsGrown c s) → slice_get nodes i ≡ Some (Leaf a) → subformula nodes i ≡ atom i a → i < length nodes → to ≤ c + 1
-      → start tr ≤ʳ stop tr → first_time tr.rows < 2 ^ 32 → last_time 0 tr.rows < 2 ^ 32 → EndsAt kleene_function (last_time 0 tr.rows) s x
-      → IsAtomCertainty kleene_function (λ p. pos 0) nodes tr left_over i x
+      → start tr ≤ʳ stop tr → first_time tr.rows < 2 ^ 32 → last_time 0 tr.rows < 2 ^ 32 → EndsAt kleene_shape (last_time 0 tr.rows) s x
+      → IsAtomCertainty kleene_shape nodes tr left_over i x
   grown_end a c s x g at tree l m o y z (inl (late, same)) =
-      subst (IsAtomCertainty kleene_function (λ p. pos 0) nodes tr left_over i) (sym same)
+      subst (IsAtomCertainty kleene_shape nodes tr left_over i) (sym same)
       (made_certain a s at tree y z g.signal g.begins (same_of_le (grown_within c s g o).below late) g.worth)
   grown_end a c s x g at tree l m o y z (inr (early, (t, p, time, none, on))) =
       made_certain a x at tree y z on.signal (subst (λ r. r ≈ start tr) (sym on.begins) g.begins) (subst (λ r. r ≈ stop tr) (sym on.ends) time) (λ b same u v w. by_part b same u v ((on.worth u v).0 w))
     where
-      unknown : (b : Atom) (u : Rational) (v : Extended) → knots.stop s <ʳ u → v ≈ᵉ value_at (kleene_function p) u → Gives (certainties tr left_over) i b u v
+      unknown : (b : Atom) (u : Rational) (v : Extended) → knots.stop s <ʳ u → v ≈ᵉ value_at (kleene_shape.function p) u → Gives (certainties tr left_over) i b u v
       unknown b u v late e =
-          inr (inr (end_uncovered c s g l m u late, subst (λ k. v ≈ᵉ finite (whole (kleene_value k))) none (same_transᵉ v (value_at (kleene_function p) u) (finite (whole (kleene_value p.known))) e (level_is (kleene_value p.known) u))))
+          inr (inr (end_uncovered c s g l m u late, subst (λ k. v ≈ᵉ finite (whole (kleene_value k))) none (same_transᵉ v (value_at (kleene_shape.function p) u) (finite (whole (kleene_value p.known))) e (level_is (kleene_value p.known) u))))
 
       by_part : (b : Atom) → subformula nodes i ≡ atom i b → (u : Rational) (v : Extended)
-          → IsWorth kleene_function s u v ⊎ ((knots.stop s <ʳ u) × (u <ʳ value t) × Passes (kleene_function p) u v) ⊎ ((u ≈ value t) × Passes (kleene_function p) u v)
+          → IsWorth kleene_shape s u v ⊎ ((knots.stop s <ʳ u) × (u <ʳ value t) × Passes (kleene_shape.function p) u v) ⊎ ((u ≈ value t) × Passes (kleene_shape.function p) u v)
           → Gives (certainties tr left_over) i b u v
       by_part b same u v (inl w) = g.worth b same u v w
       by_part b same u v (inr (inl w)) = unknown b u v w.0 w.2
       by_part b same u v (inr (inr w)) = unknown b u v (lt_of_lt_of_le early (le_trans (ge_of_same time) (ge_of_same w.0))) w.1
 
 -- one knot is a signal
-pub one_knot : (at : Frac) (p : Kleene) (s : List (Knot Kleene)) → s ≡ record { time = at; point = p; after = p } ∷ [] → IsSignal kleene_function s
-one_knot at p s h = subst (IsSignal kleene_function) (sym h) (record { some = omega arith; each = (record { rising = tt; needed = tt; ends = refl }, tt) })
+pub one_knot : (at : Frac) (p : Kleene) (s : List (Knot Kleene)) → s ≡ record { time = at; point = p; after = p } ∷ [] → IsSignal kleene_shape s
+one_knot at p s h = subst (IsSignal kleene_shape) (sym h) (record { some = omega arith; each = (record { rising = tt; needed = tt; ends = refl }, tt) })
 
 -- an atom of the formula, and the ends of the trace
 pub record IsGround (nodes : List Node) (tr : Trace) (i : ℕ) : Type 0 where

@@ -1,5 +1,6 @@
 -- The cut times of a node: the times of the knots of its signal, and the cut times that its parent hands down.
 use Rattle.std.proofs.Common.{◌≡◌, ℕ, zero, suc, ◌+◌, ◌<◌, ◌≤◌, ◌⊎◌, inl, inr, List, [], ◌∷◌, length, map, Some, None, ℤ, refl, sym, ap, subst, ◌∙◌, arith, get_or}
+use Rattle.value_laws.specs.Kinds.{truth_shape}
 use Rattle.std.specs.Prelude.{slice_get, Contains}
 use Rattle.std.proofs.lemmas.Option.{slice_get_within, slice_get_cases, slice_get-get_or}
 use Rattle.rational.specs.Time.{Rational, Within, shifted, ◌<ʳ◌, ◌≤ʳ◌, ◌≈◌}
@@ -22,7 +23,6 @@ use Rattle.stl_syntax.specs.declared.node.Node.{Node}
 use Rattle.stl_syntax.specs.declared.node.Node.TheVariants.{Const, Atom as Leaf, Not, And, Or, Implies, Until, Eventually, Always, Since, Once, Historically}
 use Rattle.stl_syntax.proofs.PostOrderLemmas.{placed}
 use Rattle.implicants.specs.Cuts.{times_of, Adds, IsHandedDown}
-use Rattle.implicants.proofs.TruthSignals.{truth_function}
 use Rattle.implicants.proofs.Changes.{knot_is_change, change_is_knot}
 
 -- a child stands before its parent
@@ -82,7 +82,7 @@ knot_among (l ∷ x) t zero k at e = let same : l ≡ k = cc in inl (subst (λ n
 knot_among (l ∷ x) t (suc m) k at e = inr (knot_among x t m k at e)
 
 module _ (nodes : List Node) (tr : Trace) (i : ℕ) (x : List (Knot Truth)) (below : suc i < length nodes) (values : HasValues (subformula nodes i) (truth_setting tr))
-    (tells : Tells truth_function (SupInf (subformula nodes i) (truth_setting tr)) (start tr) (stop tr) x) where
+    (tells : Tells truth_shape (SupInf (subformula nodes i) (truth_setting tr)) (start tr) (stop tr) x) where
   -- the time of each knot is a cut time
   pub knot_is_cut : (m : ℕ) (k : Knot Truth) → slice_get x m ≡ Some k → IsCut nodes tr i (time k)
   knot_is_cut zero k at = first below (same_trans (start_is x k at) tells.begins)
@@ -104,7 +104,7 @@ module _ (nodes : List Node) (tr : Trace) (i : ℕ) (x : List (Knot Truth)) (bel
           (subst (λ p. slice_get x p ≡ Some k) (let e : suc m ≡ m + 1 = omega arith in e) at)
           (subst (λ p. slice_get x p ≡ Some n) (let e : suc (suc m) ≡ m + 1 + 1 = omega arith in e) next))
       by_next (inr (l, e)) =
-          last below (subst (λ s. s ≈ stop tr) (stop_at truth_function x (suc m) k at (subst (λ p. slice_get x p ≡ None) (let e : suc (suc m) ≡ suc m + 1 = omega arith in e) e)) tells.ends)
+          last below (subst (λ s. s ≈ stop tr) (stop_at truth_shape x (suc m) k at (subst (λ p. slice_get x p ≡ None) (let e : suc (suc m) ≡ suc m + 1 = omega arith in e) e)) tells.ends)
 
   -- the times of the knots and those that are handed down are the cut times
   pub cuts_of : (cuts : ℕ → List Rational) (made times : List Rational) → IsPostOrder nodes → ((j : ℕ) → i < j → j < length nodes → AreCuts nodes tr j (cuts j))

@@ -1,7 +1,7 @@
 -- The cells of all atoms, gathered node by node.
-use Rattle.std.proofs.Common.{◌≡◌, ℕ, zero, suc, ◌+◌, ◌<◌, ◌≤◌, ◌⊎◌, inl, inr, List, [], ◌∷◌, ◌++◌, length, length-append, take, Some, Bool, false, refl, sym, ap, subst, ◌∙◌, arith, get_or, append_assoc}
+use Rattle.std.proofs.Common.{◌≡◌, ℕ, zero, suc, ◌+◌, ◌<◌, ◌≤◌, ◌⊎◌, inl, inr, List, [], ◌∷◌, ◌++◌, length, length-append, take, Some, None, Bool, false, refl, sym, ap, subst, ◌∙◌, arith, get_or, append_assoc}
 use Rattle.std.specs.Prelude.{slice_get, slice_index}
-use Rattle.std.proofs.lemmas.Option.{same_Some, slice_get_within, get_or_from_slice_get}
+use Rattle.std.proofs.lemmas.Option.{same_Some, slice_get_within, slice_get_cases, get_or_from_slice_get}
 use Rattle.std.proofs.lemmas.List.{take_more, take_all, append-nil, get_or_push, get_or_append_left, length-take-le}
 use Rattle.rational.specs.Time.{Rational, IsIn, Interval}
 use Rattle.frac128.specs.Spans.{interval}
@@ -160,6 +160,18 @@ module _ (nodes : List Node) (tr : Trace) where
       by_part : (i : ℕ) (t : Rational) → IsCovered items i t ⊎ IsCovered new i t → i < here + 1
       by_part i t (inl c) = let l = before.below i t c in omega (arith, l)
       by_part i t (inr c) = let e = new_node here n new i t made c in omega (arith, e)
+
+  pub below_step : (here : ℕ) (items new : List Item) (ends more : List ℕ) → here < length nodes → AddsNode nodes tr here items new → more ≡ ends ++ length new ∷ []
+      → AreCellsBelow nodes tr here items ends → AreCellsBelow nodes tr (here + 1) new more
+  below_step here items new ends more l adds grew before = by_node (slice_get_cases nodes here).1
+    where
+      by_node : ((n : Node) × (here < length nodes) × (slice_get nodes here ≡ Some n) × (get_or nodes here n ≡ n)) ⊎ ((length nodes ≤ here) × (slice_get nodes here ≡ None))
+          → AreCellsBelow nodes tr (here + 1) new more
+      by_node (inr (past, none)) = absurd (omega (arith, l, past))
+      by_node (inl (n, inside, at, e)) =
+          let put = adds n at in
+          subst (λ ms. AreCellsBelow nodes tr (here + 1) new ms) (sym grew)
+          (subst (λ is. AreCellsBelow nodes tr (here + 1) is (ends ++ length is ∷ [])) (sym put.1) (below_more here items put.0 ends n at put.2 before))
 
   -- after the last node all cells stand
   pub below_all : (here : ℕ) (items : List Item) (ends : List ℕ) → here ≡ length nodes → AreCellsBelow nodes tr here items ends → AreAllCells nodes tr items ends

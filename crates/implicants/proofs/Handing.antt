@@ -12,7 +12,7 @@ use Rattle.rational.proofs.Order.{le_trans, le_of_same, ge_of_same, same_refl}
 use Rattle.rational.proofs.Mixed.{within_between, tick_within}
 use Rattle.frac128.specs.Value.{value}
 use Rattle.frac128.specs.declared.frac.Frac.{Frac}
-use Rattle.stl_syntax.specs.Trace.{Trace, start, stop, first_time, last_time}
+use Rattle.stl_syntax.specs.Trace.{Trace, IsTrace, start, stop, first_time, last_time}
 use Rattle.stl_syntax.specs.Formula.{HasChildrenBelow}
 use Rattle.stl_syntax.specs.PostOrder.{IsPostOrder}
 use Rattle.stl_syntax.specs.Cells.{AreCuts, AreAllCut, IsAmong, IsChild, shifts}
@@ -23,6 +23,7 @@ use Rattle.implicants.specs.Cuts.{times_of, cuts_at, list_times, Adds, AreNear, 
 use Rattle.implicants.specs.Explaining.{AreFewCells}
 use Rattle.implicants.proofs.Moving.{adds_none, adds_same, adds_then}
 use Rattle.implicants.proofs.Cutting.{child_before}
+use Rattle.implicants.proofs.Ends.{first_to_last}
 use Rattle.implicants.proofs.Certain.{cut_within, start_cut}
 
 module _ (nodes : List Node) (from to : Rational) (cuts : ℕ → List Rational) (i : ℕ) where
@@ -230,11 +231,11 @@ module _ (nodes : List Node) (tr : Trace) where
         here = omega arith
 
     pub passed : most_cells < sum → IsTooMany nodes tr most_cells sum
-    passed more = record {
+    passed above = record {
       place = length nodes - 1 - depth;
       before = count;
       within = next.before.few;
-      passed = more;
+      passed = above;
       count_before = subst (λ n. CellCount nodes tr n count) (let s : length nodes - 1 - depth + 1 ≡ suc (length nodes - 1 - depth) = omega arith in s) counted_before;
       count_here = counted_here;
     }
@@ -271,3 +272,7 @@ ends_of tr m n from to a b e f x y h = record {
 pub all_three : {T E : Type 0} {A B C Q : T → Type 0} (r : Result T E) → IfOk r A → IfOk r B → IfOk r C → ((x : T) → A x → B x → C x → Q x) → IfOk r Q
 all_three (Ok x) a b c f = f x a b c
 all_three (Err e) a b c f = tt
+
+-- a trace ends no earlier than it starts
+pub rise_of : (tr : Trace) → IsTrace tr → start tr ≤ʳ stop tr
+rise_of tr is = let k = first_to_last tr is in record { le = omega (arith, k) }

@@ -1,5 +1,6 @@
 -- The cells of one node, listed along its signal.
 use Rattle.std.proofs.Common.{◌≡◌, ℕ, zero, suc, ◌+◌, ◌-◌, ◌<◌, ◌≤◌, ◌⊎◌, inl, inr, Bool, true, false, List, [], ◌∷◌, ◌++◌, length, map, take, drop, Some, None, refl, sym, ap, subst, ◌∙◌, arith, get_or, append_assoc}
+use Rattle.value_laws.specs.Kinds.{truth_shape}
 use Rattle.std.specs.Prelude.{slice_get, MatchBool}
 use Rattle.std.specs.Option.{option_map}
 use Rattle.std.proofs.lemmas.Option.{same_Some, slice_get_within, slice_get_cases, slice_get-get_or, slice_get-map}
@@ -35,7 +36,7 @@ use Rattle.stl_syntax.specs.declared.items.Item.{Item}
 use Rattle.stl_syntax.specs.declared.node.Node.{Node}
 use Rattle.implicants.specs.Cuts.{times_of}
 use Rattle.implicants.specs.Runs.{IsPlaceOf, IsUpTo}
-use Rattle.implicants.proofs.TruthSignals.{truth_function, truth_of}
+use Rattle.implicants.proofs.TruthSignals.{truth_of}
 use Rattle.implicants.proofs.Cutting.{knot_is_cut, root_cut_start}
 use Rattle.implicants.proofs.Certain.{rising_first, first_cut, start_cut, cut_at, cut_within}
 
@@ -116,16 +117,16 @@ module _ (nodes : List Node) (tr : Trace) (i : ℕ) where
     pub place_of : (t : Frac) → get_or times (k - 1) t ≡ t → IsPlaceOf x place (value t)
 
   module _ (x : List (Knot Truth)) (values : HasValues (subformula nodes i) (truth_setting tr))
-      (tells : Tells truth_function (SupInf (subformula nodes i) (truth_setting tr)) (start tr) (stop tr) x) where
-    truth_by : (t : Rational) (q : Truth) → IsWorth truth_function x t (value_at (truth_function q) t) → IsTruth q.holds t
+      (tells : Tells truth_shape (SupInf (subformula nodes i) (truth_setting tr)) (start tr) (stop tr) x) where
+    truth_by : (t : Rational) (q : Truth) → IsWorth truth_shape x t (value_at (truth_shape.function q) t) → IsTruth q.holds t
     truth_by t q w = truth_of (subformula nodes i) tr x t q values tells w
 
     -- at one time
-    pub at_instant : (u t : Rational) (q : Truth) → IsWorth truth_function x u (value_at (truth_function q) u) → IsIn (closed u u) t → IsTruth q.holds t
+    pub at_instant : (u t : Rational) (q : Truth) → IsWorth truth_shape x u (value_at (truth_shape.function q) u) → IsIn (closed u u) t → IsTruth q.holds t
     at_instant u t q w inside =
-        truth_by t q (worth_same truth_function x (value_at (truth_function q) u) (value_at (truth_function q) t) (same_of_le inside.above inside.below) level_same w)
+        truth_by t q (worth_same truth_shape x (value_at (truth_shape.function q) u) (value_at (truth_shape.function q) t) (same_of_le inside.above inside.below) level_same w)
       where
-        level_same : value_at (truth_function q) u ≈ᵉ value_at (truth_function q) t
+        level_same : value_at (truth_shape.function q) u ≈ᵉ value_at (truth_shape.function q) t
         level_same =
             let c = truth_value q.holds in
             same_transᵉ (value_at (level c) u) (finite (whole c)) (value_at (level c) t) (level_is c u) (same_symᵉ (value_at (level c) t) (finite (whole c)) (level_is c t))
@@ -138,7 +139,7 @@ module _ (nodes : List Node) (tr : Trace) (i : ℕ) where
       pub next : (v : Rational) → IsCut nodes tr i v → t <ʳ v → u ≤ʳ v
       pub within : u ≤ʳ stop tr
 
-    module _ (place : ℕ) (k : Knot Truth) (t u : Rational) (at : slice_get x place ≡ Some k) (step : IsStep place t u) where
+    module _ (place : ℕ) (t u : Rational) (step : IsStep place t u) where
       -- the next knot is not before the next cut time
       next_knot : (n : Knot Truth) → slice_get x (place + 1) ≡ Some n → u ≤ʳ time n
       next_knot n h = step.next (time n) (knot_is_cut nodes tr i x step.below values tells (place + 1) n h) (step.place_of.next n h)
@@ -146,9 +147,12 @@ module _ (nodes : List Node) (tr : Trace) (i : ℕ) where
       pub step_up_to : IsUpTo x place u
       step_up_to = record { here = λ n h. le_trans (step.place_of.here n h) (le_of_lt step.rises); next = next_knot }
 
+      pub step_within : u ≤ʳ knots.stop x
+      step_within = le_trans step.within (ge_of_same tells.ends)
+
       -- so the gap has one truth
-      pub in_the_gap : (v : Rational) → IsIn (gap t u) v → IsTruth k.after.holds v
-      in_the_gap v inside = by_next (slice_get_cases x (place + 1)).1
+      pub in_the_gap : (k : Knot Truth) (v : Rational) → slice_get x place ≡ Some k → IsIn (gap t u) v → IsTruth k.after.holds v
+      in_the_gap k v at inside = by_next (slice_get_cases x (place + 1)).1
         where
           low : time k ≤ʳ t
           low = step.place_of.here k at
@@ -156,9 +160,9 @@ module _ (nodes : List Node) (tr : Trace) (i : ℕ) where
           by_next : ((n : Knot Truth) × (place + 1 < length x) × (slice_get x (place + 1) ≡ Some n) × (get_or x (place + 1) n ≡ n)) ⊎ ((length x ≤ place + 1) × (slice_get x (place + 1) ≡ None))
               → IsTruth k.after.holds v
           by_next (inl (n, l, h, e)) =
-              truth_by v k.after (worth_between truth_function x place k n v at h (lt_of_le_of_lt low inside.above) (lt_of_lt_of_le inside.below (next_knot n h)))
+              truth_by v k.after (worth_between truth_shape x place k n v at h (lt_of_le_of_lt low inside.above) (lt_of_lt_of_le inside.below (next_knot n h)))
           by_next (inr (l, none)) =
-              let ends : knots.stop x ≡ time k = stop_at truth_function x place k at none in
+              let ends : knots.stop x ≡ time k = stop_at truth_shape x place k at none in
               let late : stop tr ≤ʳ time k = subst (λ s. stop tr ≤ʳ s) ends (ge_of_same tells.ends) in
               absurd (lt_irrefl (lt_of_le_of_lt (le_trans (le_trans step.within late) low) step.rises))
 
@@ -171,7 +175,7 @@ module _ (nodes : List Node) (tr : Trace) (i : ℕ) where
         here = e ∷ [];
         all = grew;
         cells_are = subst (λ ts. ItemsOn nodes tr i (cells ts) (e ∷ [])) (sym (first_time times (some_times times cuts) is))
-            (one_item (closed (value t) (value t)) k.point.holds e item (λ v inside. at_instant (value t) v k.point (worth_at truth_function x 0 k (value t) at begin) inside));
+            (one_item (closed (value t) (value t)) k.point.holds e item (λ v inside. at_instant (value t) v k.point (worth_at truth_shape x 0 k (value t) at begin) inside));
         inside = slice_get_within x 0 k at;
         place_of = λ u e. subst (λ w. IsPlaceOf x 0 (value w)) (one_of times 0 t u (some_times times cuts) (sym is) e) (record { here = λ n h. same_knot n h; next = λ n h. later n h });
       }
@@ -207,7 +211,7 @@ module _ (nodes : List Node) (tr : Trace) (i : ℕ) where
           same_knot n h = let e : k ≡ n = same_Some k n (sym at ∙ h) in subst (λ m. time m ≤ʳ value t) e (ge_of_same begin)
 
           later : (n : Knot Truth) → slice_get x (0 + 1) ≡ Some n → value t <ʳ time n
-          later n h = lt_of_le_of_lt (le_of_same begin) (next_rises truth_function x 0 k n tells.signal.each at h)
+          later n h = lt_of_le_of_lt (le_of_same begin) (next_rises truth_shape x 0 k n tells.signal.each at h)
 
       -- the step from one cut time to the next
       pub step_of : (k place : ℕ) (mid : List Item) (t u : Frac) → IsPostOrder nodes → i < length nodes → start tr ≤ʳ stop tr → AreCuts nodes tr i (times_of times) → IsListed x times old k place mid
@@ -254,7 +258,7 @@ module _ (nodes : List Node) (tr : Trace) (i : ℕ) where
       -- the gap behind a cut time, and the next cut time
       pub listed_on : (k place next : ℕ) (mid new : List Item) (t u : Frac) (n : Knot Truth) (q : Truth) (e f : Item) → k < length times → get_or times (k - 1) t ≡ t → get_or times k u ≡ u
           → IsStep place (value t) (value u) → IsListed x times old k place mid → slice_get x place ≡ Some n → next < length x → IsPlaceOf x next (value u)
-          → IsItem (gap (value t) (value u)) n.after.holds e → IsWorth truth_function x (value u) (value_at (truth_function q) (value u)) → IsItem (closed (value u) (value u)) q.holds f
+          → IsItem (gap (value t) (value u)) n.after.holds e → IsWorth truth_shape x (value u) (value_at (truth_shape.function q) (value u)) → IsItem (closed (value u) (value u)) q.holds f
           → new ≡ (mid ++ e ∷ []) ++ f ∷ [] → IsListed x times old (k + 1) next new
       listed_on k place next mid new t u n q e f more is_t is_u step listed at inside place_of is_e worth is_f grew = record {
         some = omega arith;
@@ -263,7 +267,7 @@ module _ (nodes : List Node) (tr : Trace) (i : ℕ) where
         cells_are = subst (λ c. ItemsOn nodes tr i c (listed.here ++ e ∷ f ∷ [])) (sym cells_more)
             (items_join (cells (times_of (take k times))) (gap (value t) (value u) ∷ closed (value u) (value u) ∷ []) listed.here (e ∷ f ∷ []) listed.cells_are
             (items_join (gap (value t) (value u) ∷ []) (closed (value u) (value u) ∷ []) (e ∷ []) (f ∷ [])
-            (one_item (gap (value t) (value u)) n.after.holds e is_e (λ v h. in_the_gap place n (value t) (value u) at step v h))
+            (one_item (gap (value t) (value u)) n.after.holds e is_e (λ v h. in_the_gap place (value t) (value u) step n v at h))
             (one_item (closed (value u) (value u)) q.holds f is_f (λ v h. at_instant (value u) v q worth h))));
         inside = inside;
         place_of = λ w h. subst (λ v. IsPlaceOf x next (value v)) (same_at w h) place_of;
@@ -290,10 +294,10 @@ module _ (nodes : List Node) (tr : Trace) (i : ℕ) where
               ∙ ap (λ ts. cells ts ++ gap (value t) (value u) ∷ closed (value u) (value u) ∷ []) (sym (ap times_of first_ones ∙ map-append value (take (k - 1) times) (t ∷ [])))
 
 -- the last knot that is not later than a time
-pub place_next : (x : List (Knot Truth)) (place : ℕ) (t : Rational) (n : Knot Truth) → IsSignal truth_function x → slice_get x (place + 1) ≡ Some n → time n ≈ t → IsPlaceOf x (place + 1) t
+pub place_next : (x : List (Knot Truth)) (place : ℕ) (t : Rational) (n : Knot Truth) → IsSignal truth_shape x → slice_get x (place + 1) ≡ Some n → time n ≈ t → IsPlaceOf x (place + 1) t
 place_next x place t n signal at e = record {
   here = λ k h. let same : n ≡ k = same_Some n k (sym at ∙ h) in subst (λ m. time m ≤ʳ t) same (le_of_same e);
-  next = λ k h. lt_of_le_of_lt (ge_of_same e) (next_rises truth_function x (place + 1) n k signal.each at h);
+  next = λ k h. lt_of_le_of_lt (ge_of_same e) (next_rises truth_shape x (place + 1) n k signal.each at h);
 }
 
 pub place_stays : (x : List (Knot Truth)) (place : ℕ) (t : Rational) → IsUpTo x place t → ((n : Knot Truth) → slice_get x (place + 1) ≡ Some n → ¬ (time n ≈ t)) → IsPlaceOf x place t
@@ -305,11 +309,11 @@ place_stays x place t up other = record { here = up.here; next = λ n h. by_orde
     by_order n h (inr (inr l)) = absurd (not_lt_of_le (up.next n h) l)
 
 -- what a signal is worth there
-pub worth_here : (x : List (Knot Truth)) (place : ℕ) (t : Rational) (k : Knot Truth) → slice_get x place ≡ Some k → time k ≈ t → IsWorth truth_function x t (value_at (truth_function k.point) t)
-worth_here x place t k at e = worth_at truth_function x place k t at (same_sym e)
+pub worth_here : (x : List (Knot Truth)) (place : ℕ) (t : Rational) (k : Knot Truth) → slice_get x place ≡ Some k → time k ≈ t → IsWorth truth_shape x t (value_at (truth_shape.function k.point) t)
+worth_here x place t k at e = worth_at truth_shape x place k t at (same_sym e)
 
 pub worth_after : (x : List (Knot Truth)) (place : ℕ) (t : Rational) (k : Knot Truth) → slice_get x place ≡ Some k → (¬ (time k ≈ t)) → IsPlaceOf x place t → t ≤ʳ knots.stop x
-    → IsWorth truth_function x t (value_at (truth_function k.after) t)
+    → IsWorth truth_shape x t (value_at (truth_shape.function k.after) t)
 worth_after x place t k at other place_of within = by_next (slice_get_cases x (place + 1)).1
   where
     early : time k <ʳ t
@@ -321,9 +325,9 @@ worth_after x place t k at other place_of within = by_next (slice_get_cases x (p
         by_order (inr (inr l)) = absurd (not_lt_of_le (place_of.here k at) l)
 
     by_next : ((n : Knot Truth) × (place + 1 < length x) × (slice_get x (place + 1) ≡ Some n) × (get_or x (place + 1) n ≡ n)) ⊎ ((length x ≤ place + 1) × (slice_get x (place + 1) ≡ None))
-        → IsWorth truth_function x t (value_at (truth_function k.after) t)
-    by_next (inl (n, l, h, e)) = worth_between truth_function x place k n t at h early (place_of.next n h)
-    by_next (inr (l, none)) = absurd (not_lt_of_le (subst (λ s. t ≤ʳ s) (stop_at truth_function x place k at none) within) early)
+        → IsWorth truth_shape x t (value_at (truth_shape.function k.after) t)
+    by_next (inl (n, l, h, e)) = worth_between truth_shape x place k n t at h early (place_of.next n h)
+    by_next (inr (l, none)) = absurd (not_lt_of_le (subst (λ s. t ≤ʳ s) (stop_at truth_shape x place k at none) within) early)
 
 -- a test by an order
 pub same_told : (o : Ordering) (b : Bool) {t u : Rational} → IsOrder o t u → b ≡ is_eq o → b ≡ true → t ≈ u

@@ -147,10 +147,10 @@ knot_on x old new i k at before step =
     ∙ sym (map_more (λ n. n.time) x i k (slice_get_within x i k at) ∙ ap (λ n. map (λ n. n.time) (take i x) ++ n.time ∷ []) (get_or_from_slice_get x i k k at))
 
 -- one more of the moves
-pub moves_on : (from to : Rational) (times : List Rational) (ks : List ℤ) (i : ℕ) (k : ℤ) (old mid new : List Rational) → i < length ks → k ≡ get_or ks i k
-    → Adds (IsMovedBy from to times (take i ks)) old mid → Adds (IsMoved from to times k) mid new → Adds (IsMovedBy from to times (take (i + 1) ks)) old new
-moves_on from to times ks i k old mid new l is before here =
-    subst (λ ms. Adds (IsMovedBy from to times ms) old new) (sym (take_more ks i k l ∙ ap (λ m. take i ks ++ m ∷ []) (sym is)))
+pub moves_on : (from to : Rational) (times : List Rational) (ks : List ℤ) (i : ℕ) (k d : ℤ) (old mid new : List Rational) → i < length ks
+    → Adds (IsMovedBy from to times (take i ks)) old mid → Adds (IsMoved from to times k) mid new → k ≡ get_or ks i d → Adds (IsMovedBy from to times (take (i + 1) ks)) old new
+moves_on from to times ks i k d old mid new l before here is =
+    subst (λ ms. Adds (IsMovedBy from to times ms) old new) (sym (take_more ks i d l ∙ ap (λ m. take i ks ++ m ∷ []) (sym is)))
     (adds_same join split (adds_then before here))
   where
     join : (t : Rational) → IsMovedBy from to times (take i ks) t ⊎ IsMoved from to times k t → IsMovedBy from to times (take i ks ++ k ∷ []) t

@@ -9,7 +9,7 @@ ghost use Rattle.pl_signal.specs.Knots.{stop, IsWorth};
 ghost use Rattle.pl_signal.specs.Moves.{Tells};
 ghost use Rattle.stl_syntax.specs.Trace.{start as start_of, stop as stop_of};
 ghost use Rattle.stl_syntax.specs.Formula.{subformula};
-ghost use Rattle.stl_syntax.specs.SupInf.{SupInf, truth_setting};
+ghost use Rattle.stl_syntax.specs.SupInf.{SupInf, HasValues, truth_setting};
 ghost use Rattle.stl_syntax.specs.Cells.{AreCuts, cells};
 ghost use Rattle.stl_syntax.specs.Kept.{AllCells, ItemsOn};
 ghost use Rattle.stl_syntax.specs.declared.items.Item.{Item as Cell};
@@ -80,7 +80,7 @@ fn truth_at(signal: &Signal<Truth>, place: usize, t: &Frac) -> bool
     requires place { IsPlaceOf signal.now place (value t.now) }
     requires within { value t.now ≤ʳ stop signal.now }
     ensures { (q : Told) × (q.holds ≡ result)
-        × IsWorth ⟦<Truth as Shape>⟧.function signal.now (value t.now) (value_at (⟦<Truth as Shape>⟧.function q) (value t.now)) }
+        × IsWorth ⟦<Truth as Shape>⟧ signal.now (value t.now) (value_at (⟦<Truth as Shape>⟧.function q) (value t.now)) }
 {
     let knot = signal.knot(place);
     if knot.time.cmp(t).is_eq() {
@@ -112,20 +112,25 @@ fn add_cells(
     requires inside { node < length formula.now.nodes }
     requires some { 0 < length trace.now.rows }
     requires cuts { AreCuts formula.now.nodes trace.now node (times_of times.now) }
-    requires told { Tells ⟦<Truth as Shape>⟧.function (SupInf (subformula formula.now.nodes node) (truth_setting trace.now))
+    requires many { 0 < length times.now }
+    requires values { HasValues (subformula formula.now.nodes node) (truth_setting trace.now) }
+    requires told { Tells ⟦<Truth as Shape>⟧ (SupInf (subformula formula.now.nodes node) (truth_setting trace.now))
         (start_of trace.now) (stop_of trace.now) signal.now }
     ensures { OnOk result ((here : List Cell) × (items.new.items ≡ items.old.items ++ here)
         × ItemsOn formula.now.nodes trace.now node (cells (times_of times.now)) here) }
 {
     let _ = (trace.rows(), formula.len(), signal.len());
-    told_have_values::<Truth>();
     let mut place = 0;
-    push_item(items, node, instant(times[0]), signal.knot(0).point.holds())?;
+    let first = times[0];
+    push_item(items, node, instant(first), signal.knot(0).point.holds())?;
     for k in 1..times.len() {
-        let gap = gap_between(times[k - 1], times[k]);
-        push_item(items, node, gap, signal.knot(place).after.holds())?;
-        place = place_at(signal, place, &times[k]);
-        push_item(items, node, instant(times[k]), truth_at(signal, place, &times[k]))?;
+        let before = times[k - 1];
+        let next = times[k];
+        let after = signal.knot(place).after.holds();
+        push_item(items, node, gap_between(before, next), after)?;
+        place = place_at(signal, place, &next);
+        let here = truth_at(signal, place, &next);
+        push_item(items, node, instant(next), here)?;
     }
     Ok(())
 }
@@ -142,9 +147,11 @@ fn add_atom(
     requires inside { i < length formula.now.nodes }
     requires some { 0 < length trace.now.rows }
     requires cuts { AreCuts formula.now.nodes trace.now i (times_of times.now) }
-    requires told { AreTruths ⟦<Truth as Shape>⟧.function formula.now.nodes trace.now nodes.now }
+    requires told { AreTruths ⟦<Truth as Shape>⟧ formula.now.nodes trace.now nodes.now }
     ensures { OnOk result (AddsNode formula.now.nodes trace.now i items.old.items items.new.items) }
 {
+    let _ = formula.len();
+    told_have_values::<Truth>();
     match formula.node(i) {
         Node::Atom(_) => add_cells(formula, trace, i, times, nodes.signal(i), items),
         _ => Ok(()),
@@ -160,7 +167,7 @@ fn all_cells(
     cuts: &[Vec<Frac>],
 ) -> Result<Cells, Memory>
     requires some { 0 < length trace.now.rows }
-    requires told { AreTruths ⟦<Truth as Shape>⟧.function formula.now.nodes trace.now nodes.now }
+    requires told { AreTruths ⟦<Truth as Shape>⟧ formula.now.nodes trace.now nodes.now }
     requires cuts { AreCutsFrom formula.now.nodes trace.now 0 cuts.now }
     ensures { IfOk result (λ cells. AreAllCells formula.now.nodes trace.now cells.all.items cells.ends.items) }
 {
@@ -187,7 +194,7 @@ pub(crate) fn cells_of(
     nodes: &Evaluated<Truth>,
 ) -> Result<Cells, ExplainFault>
     requires some { 0 < length trace.now.rows }
-    requires told { AreTruths ⟦<Truth as Shape>⟧.function formula.now.nodes trace.now nodes.now }
+    requires told { AreTruths ⟦<Truth as Shape>⟧ formula.now.nodes trace.now nodes.now }
     ensures { MatchResult result
         (λ cells. AreAllCells formula.now.nodes trace.now cells.all.items cells.ends.items × AreFewCells formula.now.nodes trace.now)
         (IsCellFault formula.now.nodes trace.now) }

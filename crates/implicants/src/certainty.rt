@@ -44,7 +44,7 @@ fn shape_at(cells: &Cells, left: usize, kept: &[bool], c: usize) -> Kleene
 /// Ends a signal at `to`; behind the last cell nothing is known.
 fn ended(mut signal: Builder<Kleene>, to: u32) -> Result<Signal<Kleene>, Memory>
     requires { IsWithin (2 ^ 34) (stop signal) }
-    ensures { IfOk result (EndsAt ⟦<Kleene as Shape>⟧.function to signal) }
+    ensures { IfOk result (EndsAt ⟦<Kleene as Shape>⟧ to signal) }
 {
     let at = tick(to);
     if signal.stop().cmp(&at).is_lt() {
@@ -80,7 +80,7 @@ fn atom_of(
     requires cells { AreAllCells formula.now.nodes trace.now cells.now.all.items cells.now.ends.items }
     requires marks { length kept.now ≡ length cells.now.all.items }
     requires atom { (a : Atom) × (slice_get formula.now.nodes i ≡ Some (Leaf a)) }
-    ensures { IfOk result (IsAtomCertainty ⟦<Kleene as Shape>⟧.function ⟦<Kleene as Shape>⟧.base formula.now.nodes trace.now
+    ensures { IfOk result (IsAtomCertainty ⟦<Kleene as Shape>⟧ formula.now.nodes trace.now
         (remaining left kept.now cells.now.all.items) i) }
 {
     let _ = (trace.rows(), first(trace));
@@ -114,9 +114,9 @@ fn add_atom(
     requires cells { AreAllCells formula.now.nodes trace.now cells.now.all.items cells.now.ends.items }
     requires marks { length kept.now ≡ length cells.now.all.items }
     requires inside { i < length formula.now.nodes }
-    requires before { AreAtomCertainties ⟦<Kleene as Shape>⟧.function ⟦<Kleene as Shape>⟧.base formula.now.nodes trace.now
+    requires before { AreAtomCertainties ⟦<Kleene as Shape>⟧ formula.now.nodes trace.now
         (remaining left kept.now cells.now.all.items) i atoms.old }
-    ensures { OnOk result (AreAtomCertainties ⟦<Kleene as Shape>⟧.function ⟦<Kleene as Shape>⟧.base formula.now.nodes trace.now
+    ensures { OnOk result (AreAtomCertainties ⟦<Kleene as Shape>⟧ formula.now.nodes trace.now
         (remaining left kept.now cells.now.all.items) (i + 1) atoms.new) }
 {
     match formula.node(i) {
@@ -140,7 +140,7 @@ fn atoms_of(
     requires some { 0 < length trace.now.rows }
     requires cells { AreAllCells formula.now.nodes trace.now cells.now.all.items cells.now.ends.items }
     requires marks { length kept.now ≡ length cells.now.all.items }
-    ensures { IfOk result (AreAtomCertainties ⟦<Kleene as Shape>⟧.function ⟦<Kleene as Shape>⟧.base formula.now.nodes trace.now
+    ensures { IfOk result (AreAtomCertainties ⟦<Kleene as Shape>⟧ formula.now.nodes trace.now
         (remaining left kept.now cells.now.all.items) (length formula.now.nodes)) }
 {
     let mut atoms = Atoms::new(alloc);

@@ -96,8 +96,8 @@ fn knot_times(alloc: Global, signal: &Signal<Truth>) -> Result<Vec<Frac>, Memory
 /// Appends a move.
 #[tactic(auto, using(crate::proofs::Moving::near_more))]
 fn push_move(moves: &mut Vec<i64>, by: i64) -> Result<(), Memory>
-    requires move { IsNearMove by }
-    requires moves { AreNearMoves moves.old.items }
+    requires bound { IsNearMove by }
+    requires before { AreNearMoves moves.old.items }
     ensures put { OnOk result (moves.new.items ≡ moves.old.items ++ by ∷ []) }
     ensures near { OnOk result (AreNearMoves moves.new.items) }
 {
@@ -181,8 +181,9 @@ fn add_moves(
     ensures { OnOk result
         (Adds (IsMovedBy (value from.now) (value to.now) (times_of parent.now) moves.now) (times_of times.old.items) (times_of times.new.items)) }
 {
-    for by in moves {
-        add_moved(times, parent, *by, from, to)?;
+    for k in 0..moves.len() {
+        let by = moves[k];
+        add_moved(times, parent, by, from, to)?;
     }
     Ok(())
 }
@@ -243,7 +244,7 @@ fn cuts_of(
     done: &[Vec<Frac>],
 ) -> Result<Vec<Frac>, Memory>
     requires some { 0 < length trace.now.rows }
-    requires told { AreTruths ⟦<Truth as Shape>⟧.function formula.now.nodes trace.now nodes.now }
+    requires told { AreTruths ⟦<Truth as Shape>⟧ formula.now.nodes trace.now nodes.now }
     requires done { AreCutsFrom formula.now.nodes trace.now (i + 1) done.now }
     ensures { IfOk result (λ times. AreCuts formula.now.nodes trace.now i (times_of times.items)) }
 {
@@ -272,7 +273,7 @@ pub(crate) fn all_cuts(
     nodes: &Evaluated<Truth>,
 ) -> Result<Vec<Vec<Frac>>, ExplainFault>
     requires some { 0 < length trace.now.rows }
-    requires told { AreTruths ⟦<Truth as Shape>⟧.function formula.now.nodes trace.now nodes.now }
+    requires told { AreTruths ⟦<Truth as Shape>⟧ formula.now.nodes trace.now nodes.now }
     ensures { MatchResult result
         (λ cuts. AreCutsFrom formula.now.nodes trace.now 0 cuts.items × AreFewCells formula.now.nodes trace.now)
         (IsCellFault formula.now.nodes trace.now) }

@@ -1,4 +1,4 @@
-use Rattle.std.proofs.Common.{◌≡◌, suc, ◌+◌, ◌<◌, [], ◌∷◌, length, Some, pos, refl, sym, ap, subst, arith}
+use Rattle.std.proofs.Common.{rules, ◌≡◌, suc, ◌+◌, ◌<◌, [], ◌∷◌, length, Some, pos, refl, sym, ap, subst, arith}
 use Rattle.std.specs.Prelude.{slice_get}
 use Rattle.rational.specs.Time.{Within, whole}
 use Rattle.rational.proofs.Order.{le_refl, le_trans, le_of_same, ge_of_same, same_refl}
@@ -21,7 +21,7 @@ returns-then-i-count c =
     let inside : Within (value from) (value c.tick-to.result) (value from) =
         record { above = le_refl (value from); below = le_trans (le_of_same ends.begin) (le_trans ends.rise (ge_of_same ends.end)) } in
     let root : suc c.args.i ≡ length nodes = (let t = c.if-i-count.true in let n = c.len-count.ensures.count in omega (arith, t, n)) in
-    let put : c.push_within.new.times.items ≡ from ∷ [] = ? in
+    let put : c.push_within.new.times.items ≡ from ∷ [] = search (rules, c.in_ok-push_within.ensures.inside inside, c.new-times.ensures.items) in
     subst (λ xs. AreCuts nodes tr c.args.i (times_of xs)) (sym put) (root_cuts nodes tr c.args.i (value from) c.len-count.ensures.well_formed.nodes.post_order root ends.begin)
 
 pub add_handed_down-requires-clause-limited : goal.add_handed_down-requires-clause-limited
