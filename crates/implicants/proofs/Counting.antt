@@ -19,7 +19,8 @@ rising_rest x [] r = tt
 rising_rest x (y ∷ xs) r = r.1
 
 -- rising times with the same members are equally many
-pub same_length : (xs ys : List Rational) → AreRisingTimes xs → AreRisingTimes ys → ((t : Rational) → IsAmong xs t → IsAmong ys t) → ((t : Rational) → IsAmong ys t → IsAmong xs t)
+pub same_length : (xs ys : List Rational) → AreRisingTimes xs → AreRisingTimes ys → ((t : Rational) → IsAmong xs t → IsAmong ys t)
+    → ((t : Rational) → IsAmong ys t → IsAmong xs t)
     → length xs ≡ length ys
 same_length [] [] r s f g = refl
 same_length [] (y ∷ ys) r s f g = absurd (g y (inl (same_refl y)))

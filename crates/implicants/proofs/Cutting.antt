@@ -45,7 +45,8 @@ child_before j i (Since p q a b) h (inr c) = subst (λ k. k < j) c h.1
 child_before j i (Once p a b x y) h c = subst (λ k. k < j) c h
 child_before j i (Historically p a b x y) h c = subst (λ k. k < j) c h
 
-pub among_cut : (nodes : List Node) (tr : Trace) (i : ℕ) (times : List Rational) (t : Rational) → AreAllCut nodes tr i times → IsAmong times t → (u : Rational) × (t ≈ u) × IsCut nodes tr i u
+pub among_cut : (nodes : List Node) (tr : Trace) (i : ℕ) (times : List Rational) (t : Rational) → AreAllCut nodes tr i times → IsAmong times t
+    → (u : Rational) × (t ≈ u) × IsCut nodes tr i u
 among_cut nodes tr i [] t c m = absurd m
 among_cut nodes tr i (u ∷ times) t c (inl m) = (u, m, c.0)
 among_cut nodes tr i (u ∷ times) t c (inr m) = among_cut nodes tr i times t c.1 m
@@ -65,12 +66,14 @@ cut_same nodes tr i t u e (change n c) = change n (record {
 cut_same nodes tr i t u e (moved n k at child shift cut f w) =
     moved n k at child shift cut (same_trans e f) (record { above = le_trans w.above (ge_of_same e); below = le_trans (le_of_same e) w.below })
 
-all_cut : (nodes : List Node) (tr : Trace) (i : ℕ) (times : List Rational) → ((t : Rational) → IsAmong times t → IsCut nodes tr i t) → AreAllCut nodes tr i times
+all_cut : (nodes : List Node) (tr : Trace) (i : ℕ) (times : List Rational) → ((t : Rational) → IsAmong times t → IsCut nodes tr i t)
+    → AreAllCut nodes tr i times
 all_cut nodes tr i [] f = tt
 all_cut nodes tr i (t ∷ times) f = (f t (inl (same_refl t)), all_cut nodes tr i times (λ u m. f u (inr m)))
 
 -- what is among the times of knots is the time of one
-among_knots : (x : List (Knot Truth)) (t : Rational) → IsAmong (times_of (map (λ k. k.time) x)) t → (m : ℕ) × (k : Knot Truth) × (slice_get x m ≡ Some k) × (t ≈ time k)
+among_knots : (x : List (Knot Truth)) (t : Rational) → IsAmong (times_of (map (λ k. k.time) x)) t
+    → (m : ℕ) × (k : Knot Truth) × (slice_get x m ≡ Some k) × (t ≈ time k)
 among_knots [] t m = absurd m
 among_knots (k ∷ x) t (inl e) = (0, k, refl, e)
 among_knots (k ∷ x) t (inr m) = let r = among_knots x t m in (suc r.0, r.1, r.2, r.3)
@@ -81,7 +84,8 @@ knot_among [] t (suc m) k at e = absurd cc
 knot_among (l ∷ x) t zero k at e = let same : l ≡ k = cc in inl (subst (λ n. t ≈ time n) (sym same) e)
 knot_among (l ∷ x) t (suc m) k at e = inr (knot_among x t m k at e)
 
-module _ (nodes : List Node) (tr : Trace) (i : ℕ) (x : List (Knot Truth)) (below : suc i < length nodes) (values : HasValues (subformula nodes i) (truth_setting tr))
+module _ (nodes : List Node) (tr : Trace) (i : ℕ) (x : List (Knot Truth)) (below : suc i < length nodes)
+    (values : HasValues (subformula nodes i) (truth_setting tr))
     (tells : Tells truth_shape (SupInf (subformula nodes i) (truth_setting tr)) (start tr) (stop tr) x) where
   -- the time of each knot is a cut time
   pub knot_is_cut : (m : ℕ) (k : Knot Truth) → slice_get x m ≡ Some k → IsCut nodes tr i (time k)
@@ -98,18 +102,21 @@ module _ (nodes : List Node) (tr : Trace) (i : ℕ) (x : List (Knot Truth)) (bel
       at_before : slice_get x m ≡ Some (get_or x m k)
       at_before = slice_get-get_or x m k (let l = slice_get_within x (suc m) k at in omega (arith, l))
 
-      by_next : ((n : Knot Truth) × (suc (suc m) < length x) × (slice_get x (suc (suc m)) ≡ Some n) × (get_or x (suc (suc m)) n ≡ n)) ⊎ ((length x ≤ suc (suc m)) × (slice_get x (suc (suc m)) ≡ None)) → IsCut nodes tr i (time k)
+      by_next : ((n : Knot Truth) × (suc (suc m) < length x) × (slice_get x (suc (suc m)) ≡ Some n) × (get_or x (suc (suc m)) n ≡ n)) ⊎
+          ((length x ≤ suc (suc m)) × (slice_get x (suc (suc m)) ≡ None)) → IsCut nodes tr i (time k)
       by_next (inl (n, l, next, e)) =
           change below (knot_is_change (subformula nodes i) tr x values tells m (get_or x m k) k n at_before
           (subst (λ p. slice_get x p ≡ Some k) (let e : suc m ≡ m + 1 = omega arith in e) at)
           (subst (λ p. slice_get x p ≡ Some n) (let e : suc (suc m) ≡ m + 1 + 1 = omega arith in e) next))
       by_next (inr (l, e)) =
-          last below (subst (λ s. s ≈ stop tr) (stop_at truth_shape x (suc m) k at (subst (λ p. slice_get x p ≡ None) (let e : suc (suc m) ≡ suc m + 1 = omega arith in e) e)) tells.ends)
+          last below (subst (λ s. s ≈ stop tr) (stop_at truth_shape x (suc m) k at
+              (subst (λ p. slice_get x p ≡ None) (let e : suc (suc m) ≡ suc m + 1 = omega arith in e) e)) tells.ends)
 
   -- the times of the knots and those that are handed down are the cut times
   pub cuts_of : (cuts : ℕ → List Rational) (made times : List Rational) → IsPostOrder nodes → ((j : ℕ) → i < j → j < length nodes → AreCuts nodes tr j (cuts j))
       → Adds (IsHandedDown nodes (start tr) (stop tr) cuts i) (times_of (map (λ k. k.time) x)) made
-      → AreRisingTimes times → ((t : Rational) → IsAmong made t → IsAmong times t) → ((t : Rational) → IsAmong times t → IsAmong made t) → AreCuts nodes tr i times
+      → AreRisingTimes times → ((t : Rational) → IsAmong made t → IsAmong times t) → ((t : Rational) → IsAmong times t → IsAmong made t)
+          → AreCuts nodes tr i times
   cuts_of cuts made times post above adds rising here only = record {
     rising = rising;
     sound = all_cut nodes tr i times (λ t m. by_source t (adds.only t (only t m)));
@@ -145,7 +152,8 @@ module _ (nodes : List Node) (tr : Trace) (i : ℕ) (x : List (Knot Truth)) (bel
       complete t (last n e) = let k = last_knot x tells.signal.some in of_knot t k.0 k.1 k.2 (same_trans e (same_trans (same_sym tells.ends) k.3))
       complete t (change n e) = let k = change_is_knot (subformula nodes i) tr x values tells t e in of_knot t k.0 k.1 k.2 k.3
       complete t (moved {j} {u} n k at child shift cut e w) =
-          here t (adds.put t (record { j = j; n = n; at = at; child = child; moved = (k, shift, record { u = u; cut = (parent j n at child).complete u cut; is = e; inside = w }) }))
+          here t (adds.put t (record { j = j; n = n; at = at; child = child; moved =
+              (k, shift, record { u = u; cut = (parent j n at child).complete u cut; is = e; inside = w }) }))
 
 -- the root is cut at the start alone
 pub root_cuts : (nodes : List Node) (tr : Trace) (i : ℕ) (t : Rational) → IsPostOrder nodes → suc i ≡ length nodes → t ≈ start tr → AreCuts nodes tr i (t ∷ [])

@@ -52,25 +52,28 @@ module _ (nodes : List Node) (tr : Trace) where
   new_node j (Once p x y a b) new i t h c = none_new new i j t h c
   new_node j (Historically p x y a b) new i t h c = none_new new i j t h c
 
+  at_next : (j : ℕ) (ns : List Node) (n : Node) (new : List Item) → AllCells nodes tr (j + suc (length ns)) (n ∷ []) new
+      → AllCells nodes tr (suc j + length ns) (n ∷ []) new
+  at_next j ns n new k = subst (λ m. AllCells nodes tr m (n ∷ []) new) (let e : j + suc (length ns) ≡ suc j + length ns = omega arith in e) k
+
   -- one node more at the end
-  all_on : (j : ℕ) (ns : List Node) (n : Node) (items new : List Item) → AllCells nodes tr j ns items → AllCells nodes tr (j + length ns) (n ∷ []) new → AllCells nodes tr j (ns ++ n ∷ []) (items ++ new)
-  all_on j [] n items new h k = subst (AllCells nodes tr j (n ∷ [])) (sym (ap (λ xs. xs ++ new) h)) (subst (λ m. AllCells nodes tr m (n ∷ []) new) (let e : j + 0 ≡ j = omega arith in e) k)
+  all_on : (j : ℕ) (ns : List Node) (n : Node) (items new : List Item) → AllCells nodes tr j ns items
+      → AllCells nodes tr (j + length ns) (n ∷ []) new → AllCells nodes tr j (ns ++ n ∷ []) (items ++ new)
+  all_on j [] n items new h k = subst (AllCells nodes tr j (n ∷ [])) (sym (ap (λ xs. xs ++ new) h))
+      (subst (λ m. AllCells nodes tr m (n ∷ []) new) (let e : j + 0 ≡ j = omega arith in e) k)
   all_on j (Leaf a ∷ ns) n items new (times, here, later, cuts, on, e, rest) k =
-      (times, here, later ++ new, cuts, on, (ap (λ xs. xs ++ new) e ∙ append_assoc here later new), all_on (suc j) ns n later new rest (later_place j ns n new k))
-    where
-      later_place : (j : ℕ) (ns : List Node) (n : Node) (new : List Item) → AllCells nodes tr (j + suc (length ns)) (n ∷ []) new → AllCells nodes tr (suc j + length ns) (n ∷ []) new
-      later_place j ns n new k = subst (λ m. AllCells nodes tr m (n ∷ []) new) (let e : j + suc (length ns) ≡ suc j + length ns = omega arith in e) k
-  all_on j (Const b ∷ ns) n items new h k = all_on (suc j) ns n items new h (subst (λ m. AllCells nodes tr m (n ∷ []) new) (let e : j + suc (length ns) ≡ suc j + length ns = omega arith in e) k)
-  all_on j (Not p ∷ ns) n items new h k = all_on (suc j) ns n items new h (subst (λ m. AllCells nodes tr m (n ∷ []) new) (let e : j + suc (length ns) ≡ suc j + length ns = omega arith in e) k)
-  all_on j (And p q ∷ ns) n items new h k = all_on (suc j) ns n items new h (subst (λ m. AllCells nodes tr m (n ∷ []) new) (let e : j + suc (length ns) ≡ suc j + length ns = omega arith in e) k)
-  all_on j (Or p q ∷ ns) n items new h k = all_on (suc j) ns n items new h (subst (λ m. AllCells nodes tr m (n ∷ []) new) (let e : j + suc (length ns) ≡ suc j + length ns = omega arith in e) k)
-  all_on j (Implies p q ∷ ns) n items new h k = all_on (suc j) ns n items new h (subst (λ m. AllCells nodes tr m (n ∷ []) new) (let e : j + suc (length ns) ≡ suc j + length ns = omega arith in e) k)
-  all_on j (Until p q x y ∷ ns) n items new h k = all_on (suc j) ns n items new h (subst (λ m. AllCells nodes tr m (n ∷ []) new) (let e : j + suc (length ns) ≡ suc j + length ns = omega arith in e) k)
-  all_on j (Eventually p x y a b ∷ ns) n items new h k = all_on (suc j) ns n items new h (subst (λ m. AllCells nodes tr m (n ∷ []) new) (let e : j + suc (length ns) ≡ suc j + length ns = omega arith in e) k)
-  all_on j (Always p x y a b ∷ ns) n items new h k = all_on (suc j) ns n items new h (subst (λ m. AllCells nodes tr m (n ∷ []) new) (let e : j + suc (length ns) ≡ suc j + length ns = omega arith in e) k)
-  all_on j (Since p q x y ∷ ns) n items new h k = all_on (suc j) ns n items new h (subst (λ m. AllCells nodes tr m (n ∷ []) new) (let e : j + suc (length ns) ≡ suc j + length ns = omega arith in e) k)
-  all_on j (Once p x y a b ∷ ns) n items new h k = all_on (suc j) ns n items new h (subst (λ m. AllCells nodes tr m (n ∷ []) new) (let e : j + suc (length ns) ≡ suc j + length ns = omega arith in e) k)
-  all_on j (Historically p x y a b ∷ ns) n items new h k = all_on (suc j) ns n items new h (subst (λ m. AllCells nodes tr m (n ∷ []) new) (let e : j + suc (length ns) ≡ suc j + length ns = omega arith in e) k)
+      (times, here, later ++ new, cuts, on, (ap (λ xs. xs ++ new) e ∙ append_assoc here later new), all_on (suc j) ns n later new rest (at_next j ns n new k))
+  all_on j (Const b ∷ ns) n items new h k = all_on (suc j) ns n items new h (at_next j ns n new k)
+  all_on j (Not p ∷ ns) n items new h k = all_on (suc j) ns n items new h (at_next j ns n new k)
+  all_on j (And p q ∷ ns) n items new h k = all_on (suc j) ns n items new h (at_next j ns n new k)
+  all_on j (Or p q ∷ ns) n items new h k = all_on (suc j) ns n items new h (at_next j ns n new k)
+  all_on j (Implies p q ∷ ns) n items new h k = all_on (suc j) ns n items new h (at_next j ns n new k)
+  all_on j (Until p q x y ∷ ns) n items new h k = all_on (suc j) ns n items new h (at_next j ns n new k)
+  all_on j (Eventually p x y a b ∷ ns) n items new h k = all_on (suc j) ns n items new h (at_next j ns n new k)
+  all_on j (Always p x y a b ∷ ns) n items new h k = all_on (suc j) ns n items new h (at_next j ns n new k)
+  all_on j (Since p q x y ∷ ns) n items new h k = all_on (suc j) ns n items new h (at_next j ns n new k)
+  all_on j (Once p x y a b ∷ ns) n items new h k = all_on (suc j) ns n items new h (at_next j ns n new k)
+  all_on j (Historically p x y a b ∷ ns) n items new h k = all_on (suc j) ns n items new h (at_next j ns n new k)
 
   pub below_none : AreCellsBelow nodes tr 0 [] []
   below_none = record { cells = refl; count = refl; last = refl; runs = λ i a l. absurd (omega (arith, l)); below = λ i t c. absurd c }
@@ -80,10 +83,12 @@ module _ (nodes : List Node) (tr : Trace) where
   begins_stay ends m zero l = refl
   begins_stay ends m (suc i) l = get_or_append_left ends (m ∷ []) 0 i (omega (arith, l))
 
-  pub below_more : (here : ℕ) (items new : List Item) (ends : List ℕ) (n : Node) → slice_get nodes here ≡ Some n → AllCells nodes tr here (n ∷ []) new → AreCellsBelow nodes tr here items ends
+  pub below_more : (here : ℕ) (items new : List Item) (ends : List ℕ) (n : Node) → slice_get nodes here ≡ Some n
+      → AllCells nodes tr here (n ∷ []) new → AreCellsBelow nodes tr here items ends
       → AreCellsBelow nodes tr (here + 1) (items ++ new) (ends ++ length (items ++ new) ∷ [])
   below_more here items new ends n at made before = record {
-    cells = subst (λ ns. AllCells nodes tr 0 ns (items ++ new)) (sym nodes_more) (all_on 0 (take here nodes) n items new before.cells (subst (λ m. AllCells nodes tr m (n ∷ []) new) (sym taken) made));
+    cells = subst (λ ns. AllCells nodes tr 0 ns (items ++ new)) (sym nodes_more)
+        (all_on 0 (take here nodes) n items new before.cells (subst (λ m. AllCells nodes tr m (n ∷ []) new) (sym taken) made));
     count = let e = length-append ends (length (items ++ new) ∷ []) in let f = before.count in omega (arith, e, f);
     last = subst (λ m. begins grown m ≡ length (items ++ new)) (let e : suc here ≡ here + 1 = omega arith in e) last_is;
     runs = λ i a l is. run_at i a is (earlier_or_here i l);
@@ -131,12 +136,15 @@ module _ (nodes : List Node) (tr : Trace) where
             none_behind = λ t c. c;
           }
 
-      run_at : (i : ℕ) (a : Atom) → slice_get nodes i ≡ Some (Leaf a) → (i < here) ⊎ (i ≡ here) → IsRun nodes tr (items ++ new) i (begins grown i) (slice_index grown i)
+      run_at : (i : ℕ) (a : Atom) → slice_get nodes i ≡ Some (Leaf a) → (i < here) ⊎ (i ≡ here)
+          → IsRun nodes tr (items ++ new) i (begins grown i) (slice_index grown i)
       run_at i a is (inl l) =
           let r = before.runs i a l is in
           let count = before.count in
-          subst (λ from. IsRun nodes tr (items ++ new) i from (slice_index grown i)) (sym (begins_stay ends (length (items ++ new)) i (omega (arith, l, count))))
-          (subst (IsRun nodes tr (items ++ new) i (begins ends i)) (sym (get_or_append_left ends (length (items ++ new) ∷ []) 0 i (omega (arith, l, count)))) (record {
+          subst (λ from. IsRun nodes tr (items ++ new) i from (slice_index grown i))
+              (sym (begins_stay ends (length (items ++ new)) i (omega (arith, l, count))))
+          (subst (IsRun nodes tr (items ++ new) i (begins ends i))
+              (sym (get_or_append_left ends (length (items ++ new) ∷ []) 0 i (omega (arith, l, count)))) (record {
             times = r.times;
             front = r.front;
             here = r.here;
@@ -161,11 +169,13 @@ module _ (nodes : List Node) (tr : Trace) where
       by_part i t (inl c) = let l = before.below i t c in omega (arith, l)
       by_part i t (inr c) = let e = new_node here n new i t made c in omega (arith, e)
 
-  pub below_step : (here : ℕ) (items new : List Item) (ends more : List ℕ) → here < length nodes → AddsNode nodes tr here items new → more ≡ ends ++ length new ∷ []
+  pub below_step : (here : ℕ) (items new : List Item) (ends more : List ℕ) → here < length nodes → AddsNode nodes tr here items new
+      → more ≡ ends ++ length new ∷ []
       → AreCellsBelow nodes tr here items ends → AreCellsBelow nodes tr (here + 1) new more
   below_step here items new ends more l adds grew before = by_node (slice_get_cases nodes here).1
     where
-      by_node : ((n : Node) × (here < length nodes) × (slice_get nodes here ≡ Some n) × (get_or nodes here n ≡ n)) ⊎ ((length nodes ≤ here) × (slice_get nodes here ≡ None))
+      by_node : ((n : Node) × (here < length nodes) × (slice_get nodes here ≡ Some n) × (get_or nodes here n ≡ n)) ⊎
+          ((length nodes ≤ here) × (slice_get nodes here ≡ None))
           → AreCellsBelow nodes tr (here + 1) new more
       by_node (inr (past, none)) = absurd (omega (arith, l, past))
       by_node (inl (n, inside, at, e)) =
@@ -174,7 +184,8 @@ module _ (nodes : List Node) (tr : Trace) where
           (subst (λ is. AreCellsBelow nodes tr (here + 1) is (ends ++ length is ∷ [])) (sym put.1) (below_more here items put.0 ends n at put.2 before))
 
   -- after the last node all cells stand
-  pub below_all : (here : ℕ) (items : List Item) (ends : List ℕ) → here ≡ length nodes → AreCellsBelow nodes tr here items ends → AreAllCells nodes tr items ends
+  pub below_all : (here : ℕ) (items : List Item) (ends : List ℕ) → here ≡ length nodes → AreCellsBelow nodes tr here items ends
+      → AreAllCells nodes tr items ends
   below_all here items ends e all = record {
     cells = subst (λ ns. AllCells nodes tr 0 ns items) (take_all here nodes (omega (arith, e))) all.cells;
     count = all.count ∙ e;

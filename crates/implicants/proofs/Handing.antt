@@ -74,7 +74,8 @@ module _ (nodes : List Node) (from to : Rational) (cuts : ℕ → List Rational)
               absurd (other (subst (λ m. IsChild m i) same h.child))
 
   -- behind the last node nothing more is handed down
-  pub handed_all : (here : ℕ) (old new : List Rational) → length nodes ≤ here → Adds (IsHandedBefore here) old new → Adds (IsHandedDown nodes from to cuts i) old new
+  pub handed_all : (here : ℕ) (old new : List Rational) → length nodes ≤ here → Adds (IsHandedBefore here) old new
+      → Adds (IsHandedDown nodes from to cuts i) old new
   handed_all here old new l before =
       adds_same (λ t h. h.0) (λ t h. (h, let k = slice_get_within nodes h.j h.n h.at in omega (arith, k, l))) before
 
@@ -143,21 +144,25 @@ module _ (nodes : List Node) (tr : Trace) where
       by_place j b (inr a) =
           let count = behind.count in
           let inside : length nodes - 1 - j < length lists = let e = length-map done list_times in omega (arith, a, b, count, e) in
-          subst (AreCuts nodes tr j) (sym (ap (λ xs. get_or xs (length nodes - 1 - j) []) grown ∙ get_or_append_left lists (times_of v.items ∷ []) [] (length nodes - 1 - j) inside)) (behind.cuts j a b)
+          subst (AreCuts nodes tr j) (sym (ap (λ xs. get_or xs (length nodes - 1 - j) []) grown ∙ get_or_append_left lists (times_of v.items ∷ [])
+              [] (length nodes - 1 - j) inside)) (behind.cuts j a b)
       by_place j b (inl e) =
           let count = behind.count in
           let place : length lists ≡ length nodes - 1 - j = let f = length-map done list_times in omega (arith, e, b, count, f) in
-          subst (AreCuts nodes tr j) (sym (ap (λ xs. get_or xs (length nodes - 1 - j) []) grown ∙ get_or_push lists (times_of v.items) [] (length nodes - 1 - j) place))
+          subst (AreCuts nodes tr j) (sym (ap (λ xs. get_or xs (length nodes - 1 - j) []) grown ∙ get_or_push lists (times_of v.items) []
+              (length nodes - 1 - j) place))
           (subst (λ k. AreCuts nodes tr k (times_of v.items)) (sym e) here)
 
   -- cut times are near
-  near_cuts : (i : ℕ) (xs : List Frac) → start tr ≤ʳ stop tr → IsWithin (2 ^ 34) (start tr) → IsWithin (2 ^ 34) (stop tr) → AreAllCut nodes tr i (times_of xs) → AreNear xs
+  near_cuts : (i : ℕ) (xs : List Frac) → start tr ≤ʳ stop tr → IsWithin (2 ^ 34) (start tr) → IsWithin (2 ^ 34) (stop tr)
+      → AreAllCut nodes tr i (times_of xs) → AreNear xs
   near_cuts i [] o a b c = All-nil IsNearTime
   near_cuts i (x ∷ xs) o a b c =
       let w = cut_within nodes tr i (value x) o c.0 in
       All-cons IsNearTime x xs (within_between (2 ^ 34) a b w.above w.below) (near_cuts i xs o a b c.1)
 
-  pub all_near : (here : ℕ) (done : List (Vec Frac Global)) → start tr ≤ʳ stop tr → IsWithin (2 ^ 34) (start tr) → IsWithin (2 ^ 34) (stop tr) → AreCutsFrom nodes tr here done
+  pub all_near : (here : ℕ) (done : List (Vec Frac Global)) → start tr ≤ʳ stop tr → IsWithin (2 ^ 34) (start tr) → IsWithin (2 ^ 34) (stop tr)
+      → AreCutsFrom nodes tr here done
       → All IsNearList done
   all_near here done o a b all = by_list done refl
     where
@@ -171,14 +176,16 @@ module _ (nodes : List Node) (tr : Trace) where
               let here_or_later : here ≤ length nodes - 1 - k = omega (arith, count, l) in
               let inside : length nodes - 1 - k < length nodes = omega (arith, count, l) in
               let cuts = all.cuts (length nodes - 1 - k) here_or_later inside in
-              let is = cuts_at_is (length nodes) done (length nodes - 1 - k) k (get_or done k d) (let e : k ≡ length nodes - 1 - (length nodes - 1 - k) = omega (arith, count, l) in e) l (own k l) in
+              let is = cuts_at_is (length nodes) done (length nodes - 1 - k) k (get_or done k d)
+                  (let e : k ≡ length nodes - 1 - (length nodes - 1 - k) = omega (arith, count, l) in e) l (own k l) in
               near_cuts (length nodes - 1 - k) (get_or done k d).items o a b (subst (AreAllCut nodes tr (length nodes - 1 - k)) is cuts.sound)
             where
               own : (k : ℕ) → k < length done → get_or done k (get_or done k d) ≡ get_or done k d
               own k l = get_or_default done k (get_or done k d) d l
 
   -- the running sum, one node more
-  pub count_more : (i n m : ℕ) (times : List Rational) → CellCount nodes tr (i + 1) n → AreCuts nodes tr i times → m ≡ n + (2 * length times - 1) → CellCount nodes tr i m
+  pub count_more : (i n m : ℕ) (times : List Rational) → CellCount nodes tr (i + 1) n → AreCuts nodes tr i times → m ≡ n + (2 * length times - 1)
+      → CellCount nodes tr i m
   count_more i n m times before cuts e =
       subst (CellCount nodes tr i) (sym e) (more times (subst (λ k. CellCount nodes tr k n) (let s : i + 1 ≡ suc i = omega arith in s) before) cuts)
 
@@ -195,7 +202,8 @@ module _ (nodes : List Node) (tr : Trace) where
 
   pub cuts_begin : (done : List (Vec Frac Global)) → done ≡ [] → AreCutsTo 0 done 0
   cuts_begin done e = record {
-    cuts = subst (AreCutsFrom nodes tr (length nodes - 0)) (sym e) (subst (λ n. AreCutsFrom nodes tr n []) (let s : length nodes ≡ length nodes - 0 = omega arith in s) cuts_none);
+    cuts = subst (AreCutsFrom nodes tr (length nodes - 0)) (sym e)
+        (subst (λ n. AreCutsFrom nodes tr n []) (let s : length nodes ≡ length nodes - 0 = omega arith in s) cuts_none);
     counted = subst (λ n. CellCount nodes tr n 0) (let s : length nodes ≡ length nodes - 0 = omega arith in s) none;
     few = omega arith;
   }
@@ -222,7 +230,8 @@ module _ (nodes : List Node) (tr : Trace) where
 
     pub cuts_on : sum ≤ most_cells → AreCutsTo (depth + 1) (done ++ v ∷ []) sum
     cuts_on few = record {
-      cuts = subst (λ n. AreCutsFrom nodes tr n (done ++ v ∷ [])) here (cuts_more (length nodes - 1 - depth) done v (subst (λ n. AreCutsFrom nodes tr n done) place_is next.before.cuts) next.cuts);
+      cuts = subst (λ n. AreCutsFrom nodes tr n (done ++ v ∷ [])) here
+          (cuts_more (length nodes - 1 - depth) done v (subst (λ n. AreCutsFrom nodes tr n done) place_is next.before.cuts) next.cuts);
       counted = subst (λ n. CellCount nodes tr n sum) here counted_here;
       few = few;
     }
@@ -236,12 +245,14 @@ module _ (nodes : List Node) (tr : Trace) where
       before = count;
       within = next.before.few;
       passed = above;
-      count_before = subst (λ n. CellCount nodes tr n count) (let s : length nodes - 1 - depth + 1 ≡ suc (length nodes - 1 - depth) = omega arith in s) counted_before;
+      count_before = subst (λ n. CellCount nodes tr n count) (let s : length nodes - 1 - depth + 1 ≡ suc (length nodes - 1 - depth) = omega arith in
+          s) counted_before;
       count_here = counted_here;
     }
 
   -- after the last node all are counted
-  pub cuts_end : (depth count : ℕ) (done : List (Vec Frac Global)) → length nodes ≤ depth → AreCutsTo depth done count → AreCutsFrom nodes tr 0 done × AreFewCells nodes tr
+  pub cuts_end : (depth count : ℕ) (done : List (Vec Frac Global)) → length nodes ≤ depth → AreCutsTo depth done count
+      → AreCutsFrom nodes tr 0 done × AreFewCells nodes tr
   cuts_end depth count done l all = (
     subst (λ n. AreCutsFrom nodes tr n done) start_is all.cuts,
     record { cells = count; count = subst (λ n. CellCount nodes tr n count) start_is all.counted; few = all.few },

@@ -51,7 +51,8 @@ rest_rising : (s : Rational) (ts : List Rational) → AreRisingTimes (s ∷ ts) 
 rest_rising s [] r = tt
 rest_rising s (t ∷ ts) r = r.1
 
-adjacent : (ts : List Rational) (t u : Rational) (rest : List Rational) (v : Rational) → AreRisingTimes (ts ++ t ∷ u ∷ rest) → IsAmong (ts ++ t ∷ u ∷ rest) v → t <ʳ v → u ≤ʳ v
+adjacent : (ts : List Rational) (t u : Rational) (rest : List Rational) (v : Rational) → AreRisingTimes (ts ++ t ∷ u ∷ rest)
+    → IsAmong (ts ++ t ∷ u ∷ rest) v → t <ʳ v → u ≤ʳ v
 adjacent [] t u rest v r (inl e) l = absurd (lt_irrefl (lt_of_lt_of_le l (le_of_same e)))
 adjacent [] t u rest v r (inr m) l = rising_first u rest v r.1 m
 adjacent (s ∷ ts) t u rest v r (inl e) l =
@@ -124,12 +125,14 @@ module _ (nodes : List Node) (tr : Trace) (i : ℕ) where
     -- at one time
     pub at_instant : (u t : Rational) (q : Truth) → IsWorth truth_shape x u (value_at (truth_shape.function q) u) → IsIn (closed u u) t → IsTruth q.holds t
     at_instant u t q w inside =
-        truth_by t q (worth_same truth_shape x (value_at (truth_shape.function q) u) (value_at (truth_shape.function q) t) (same_of_le inside.above inside.below) level_same w)
+        truth_by t q (worth_same truth_shape x (value_at (truth_shape.function q) u) (value_at (truth_shape.function q) t)
+            (same_of_le inside.above inside.below) level_same w)
       where
         level_same : value_at (truth_shape.function q) u ≈ᵉ value_at (truth_shape.function q) t
         level_same =
             let c = truth_value q.holds in
-            same_transᵉ (value_at (level c) u) (finite (whole c)) (value_at (level c) t) (level_is c u) (same_symᵉ (value_at (level c) t) (finite (whole c)) (level_is c t))
+            same_transᵉ (value_at (level c) u) (finite (whole c)) (value_at (level c) t) (level_is c u)
+                (same_symᵉ (value_at (level c) t) (finite (whole c)) (level_is c t))
 
     -- where two cut times follow each other: the place in the signal at the first, and that no cut time is between
     pub record IsStep (place : ℕ) (t u : Rational) : Type 0 where
@@ -157,7 +160,8 @@ module _ (nodes : List Node) (tr : Trace) (i : ℕ) where
           low : time k ≤ʳ t
           low = step.place_of.here k at
 
-          by_next : ((n : Knot Truth) × (place + 1 < length x) × (slice_get x (place + 1) ≡ Some n) × (get_or x (place + 1) n ≡ n)) ⊎ ((length x ≤ place + 1) × (slice_get x (place + 1) ≡ None))
+          by_next : ((n : Knot Truth) × (place + 1 < length x) × (slice_get x (place + 1) ≡ Some n) × (get_or x (place + 1) n ≡ n)) ⊎
+              ((length x ≤ place + 1) × (slice_get x (place + 1) ≡ None))
               → IsTruth k.after.holds v
           by_next (inl (n, l, h, e)) =
               truth_by v k.after (worth_between truth_shape x place k n v at h (lt_of_le_of_lt low inside.above) (lt_of_lt_of_le inside.below (next_knot n h)))
@@ -169,15 +173,18 @@ module _ (nodes : List Node) (tr : Trace) (i : ℕ) where
     module _ (times : List Frac) (old : List Item) where
       -- the first cell
       pub listed_first : (t : Frac) (k : Knot Truth) (e : Item) (new : List Item) → i < length nodes → start tr ≤ʳ stop tr → AreCuts nodes tr i (times_of times)
-          → t ≡ get_or times 0 t → slice_get x 0 ≡ Some k → new ≡ old ++ e ∷ [] → IsItem (closed (value t) (value t)) k.point.holds e → IsListed x times old 1 0 new
+          → t ≡ get_or times 0 t → slice_get x 0 ≡ Some k → new ≡ old ++ e ∷ [] → IsItem (closed (value t) (value t)) k.point.holds e → IsListed x
+              times old 1 0 new
       listed_first t k e new l o cuts is at grew item = record {
         some = omega arith;
         here = e ∷ [];
         all = grew;
         cells_are = subst (λ ts. ItemsOn nodes tr i (cells ts) (e ∷ [])) (sym (first_time times (some_times times cuts) is))
-            (one_item (closed (value t) (value t)) k.point.holds e item (λ v inside. at_instant (value t) v k.point (worth_at truth_shape x 0 k (value t) at begin) inside));
+            (one_item (closed (value t) (value t)) k.point.holds e item
+                (λ v inside. at_instant (value t) v k.point (worth_at truth_shape x 0 k (value t) at begin) inside));
         inside = slice_get_within x 0 k at;
-        place_of = λ u e. subst (λ w. IsPlaceOf x 0 (value w)) (one_of times 0 t u (some_times times cuts) (sym is) e) (record { here = λ n h. same_knot n h; next = λ n h. later n h });
+        place_of = λ u e. subst (λ w. IsPlaceOf x 0 (value w)) (one_of times 0 t u (some_times times cuts) (sym is) e)
+            (record { here = λ n h. same_knot n h; next = λ n h. later n h });
       }
         where
           some_times : (xs : List Frac) → AreCuts nodes tr i (times_of xs) → 0 < length xs
@@ -214,13 +221,15 @@ module _ (nodes : List Node) (tr : Trace) (i : ℕ) where
           later n h = lt_of_le_of_lt (le_of_same begin) (next_rises truth_shape x 0 k n tells.signal.each at h)
 
       -- the step from one cut time to the next
-      pub step_of : (k place : ℕ) (mid : List Item) (t u : Frac) → IsPostOrder nodes → i < length nodes → start tr ≤ʳ stop tr → AreCuts nodes tr i (times_of times) → IsListed x times old k place mid
+      pub step_of : (k place : ℕ) (mid : List Item) (t u : Frac) → IsPostOrder nodes → i < length nodes → start tr ≤ʳ stop tr
+          → AreCuts nodes tr i (times_of times) → IsListed x times old k place mid
           → k < length times → get_or times (k - 1) t ≡ t → get_or times k u ≡ u → IsStep place (value t) (value u)
       step_of k place mid t u post l o cuts listed more is_t is_u = record {
         below = below;
         rises = rises;
         place_of = listed.place_of t is_t;
-        next = λ v c lt. adjacent front (value t) (value u) rest v (subst AreRisingTimes parts cuts.rising) (subst (λ ts. IsAmong ts v) parts (cuts.complete v c)) lt;
+        next = λ v c lt. adjacent front (value t) (value u) rest v (subst AreRisingTimes parts cuts.rising)
+            (subst (λ ts. IsAmong ts v) parts (cuts.complete v c)) lt;
         within = (cut_within nodes tr i (value u) o (cut_of u k is_u more)).below;
       }
         where
@@ -240,7 +249,8 @@ module _ (nodes : List Node) (tr : Trace) (i : ℕ) where
           rises = rises_in front (value t) (value u) rest (subst AreRisingTimes parts cuts.rising)
 
           cut_of : (w : Frac) (n : ℕ) → get_or times n w ≡ w → n < length times → IsCut nodes tr i (value w)
-          cut_of w n e l = cut_at nodes tr i (times_of times) n (value w) cuts.sound (slice_get-map value times n ∙ ap (option_map value) (slice_get-get_or times n w l ∙ ap (λ f. Some f) e))
+          cut_of w n e l = cut_at nodes tr i (times_of times) n (value w) cuts.sound
+              (slice_get-map value times n ∙ ap (option_map value) (slice_get-get_or times n w l ∙ ap (λ f. Some f) e))
 
           below : suc i < length nodes
           below = by_place (last_or_less i (length nodes) l)
@@ -256,9 +266,11 @@ module _ (nodes : List Node) (tr : Trace) (i : ℕ) where
                   absurd (lt_irrefl (lt_of_lt_of_le rises (le_of_same (same_trans b (same_sym a)))))
 
       -- the gap behind a cut time, and the next cut time
-      pub listed_on : (k place next : ℕ) (mid new : List Item) (t u : Frac) (n : Knot Truth) (q : Truth) (e f : Item) → k < length times → get_or times (k - 1) t ≡ t → get_or times k u ≡ u
+      pub listed_on : (k place next : ℕ) (mid new : List Item) (t u : Frac) (n : Knot Truth) (q : Truth) (e f : Item) → k < length times
+          → get_or times (k - 1) t ≡ t → get_or times k u ≡ u
           → IsStep place (value t) (value u) → IsListed x times old k place mid → slice_get x place ≡ Some n → next < length x → IsPlaceOf x next (value u)
-          → IsItem (gap (value t) (value u)) n.after.holds e → IsWorth truth_shape x (value u) (value_at (truth_shape.function q) (value u)) → IsItem (closed (value u) (value u)) q.holds f
+          → IsItem (gap (value t) (value u)) n.after.holds e → IsWorth truth_shape x (value u) (value_at (truth_shape.function q) (value u)) →
+              IsItem (closed (value u) (value u)) q.holds f
           → new ≡ (mid ++ e ∷ []) ++ f ∷ [] → IsListed x times old (k + 1) next new
       listed_on k place next mid new t u n q e f more is_t is_u step listed at inside place_of is_e worth is_f grew = record {
         some = omega arith;
@@ -285,22 +297,26 @@ module _ (nodes : List Node) (tr : Trace) (i : ℕ) where
               (take_more times (k - 1) t (omega (arith, more)) ∙ ap (λ w. take (k - 1) times ++ w ∷ []) is_t)
 
           all_ones : take (k + 1) times ≡ take (k - 1) times ++ t ∷ u ∷ []
-          all_ones = take_more times k u more ∙ ap (λ w. take k times ++ w ∷ []) is_u ∙ ap (λ ws. ws ++ u ∷ []) first_ones ∙ append_assoc (take (k - 1) times) (t ∷ []) (u ∷ [])
+          all_ones = take_more times k u more ∙ ap (λ w. take k times ++ w ∷ []) is_u ∙ ap (λ ws. ws ++ u ∷ []) first_ones ∙ append_assoc
+              (take (k - 1) times) (t ∷ []) (u ∷ [])
 
           cells_more : cells (times_of (take (k + 1) times)) ≡ cells (times_of (take k times)) ++ gap (value t) (value u) ∷ closed (value u) (value u) ∷ []
           cells_more =
               ap (λ ws. cells (times_of ws)) all_ones ∙ ap cells (map-append value (take (k - 1) times) (t ∷ u ∷ []))
               ∙ cells_on (times_of (take (k - 1) times)) (value t) (value u)
-              ∙ ap (λ ts. cells ts ++ gap (value t) (value u) ∷ closed (value u) (value u) ∷ []) (sym (ap times_of first_ones ∙ map-append value (take (k - 1) times) (t ∷ [])))
+              ∙ ap (λ ts. cells ts ++ gap (value t) (value u) ∷ closed (value u) (value u) ∷ [])
+                  (sym (ap times_of first_ones ∙ map-append value (take (k - 1) times) (t ∷ [])))
 
 -- the last knot that is not later than a time
-pub place_next : (x : List (Knot Truth)) (place : ℕ) (t : Rational) (n : Knot Truth) → IsSignal truth_shape x → slice_get x (place + 1) ≡ Some n → time n ≈ t → IsPlaceOf x (place + 1) t
+pub place_next : (x : List (Knot Truth)) (place : ℕ) (t : Rational) (n : Knot Truth) → IsSignal truth_shape x → slice_get x (place + 1) ≡ Some n
+    → time n ≈ t → IsPlaceOf x (place + 1) t
 place_next x place t n signal at e = record {
   here = λ k h. let same : n ≡ k = same_Some n k (sym at ∙ h) in subst (λ m. time m ≤ʳ t) same (le_of_same e);
   next = λ k h. lt_of_le_of_lt (ge_of_same e) (next_rises truth_shape x (place + 1) n k signal.each at h);
 }
 
-pub place_stays : (x : List (Knot Truth)) (place : ℕ) (t : Rational) → IsUpTo x place t → ((n : Knot Truth) → slice_get x (place + 1) ≡ Some n → ¬ (time n ≈ t)) → IsPlaceOf x place t
+pub place_stays : (x : List (Knot Truth)) (place : ℕ) (t : Rational) → IsUpTo x place t
+    → ((n : Knot Truth) → slice_get x (place + 1) ≡ Some n → ¬ (time n ≈ t)) → IsPlaceOf x place t
 place_stays x place t up other = record { here = up.here; next = λ n h. by_order n h (lt_or_same_or_gt t (time n)) }
   where
     by_order : (n : Knot Truth) → slice_get x (place + 1) ≡ Some n → (t <ʳ time n) ⊎ (t ≈ time n) ⊎ (time n <ʳ t) → t <ʳ time n
@@ -309,10 +325,12 @@ place_stays x place t up other = record { here = up.here; next = λ n h. by_orde
     by_order n h (inr (inr l)) = absurd (not_lt_of_le (up.next n h) l)
 
 -- what a signal is worth there
-pub worth_here : (x : List (Knot Truth)) (place : ℕ) (t : Rational) (k : Knot Truth) → slice_get x place ≡ Some k → time k ≈ t → IsWorth truth_shape x t (value_at (truth_shape.function k.point) t)
+pub worth_here : (x : List (Knot Truth)) (place : ℕ) (t : Rational) (k : Knot Truth) → slice_get x place ≡ Some k → time k ≈ t
+    → IsWorth truth_shape x t (value_at (truth_shape.function k.point) t)
 worth_here x place t k at e = worth_at truth_shape x place k t at (same_sym e)
 
-pub worth_after : (x : List (Knot Truth)) (place : ℕ) (t : Rational) (k : Knot Truth) → slice_get x place ≡ Some k → (¬ (time k ≈ t)) → IsPlaceOf x place t → t ≤ʳ knots.stop x
+pub worth_after : (x : List (Knot Truth)) (place : ℕ) (t : Rational) (k : Knot Truth) → slice_get x place ≡ Some k → (¬ (time k ≈ t))
+    → IsPlaceOf x place t → t ≤ʳ knots.stop x
     → IsWorth truth_shape x t (value_at (truth_shape.function k.after) t)
 worth_after x place t k at other place_of within = by_next (slice_get_cases x (place + 1)).1
   where
@@ -324,7 +342,8 @@ worth_after x place t k at other place_of within = by_next (slice_get_cases x (p
         by_order (inr (inl e)) = absurd (other e)
         by_order (inr (inr l)) = absurd (not_lt_of_le (place_of.here k at) l)
 
-    by_next : ((n : Knot Truth) × (place + 1 < length x) × (slice_get x (place + 1) ≡ Some n) × (get_or x (place + 1) n ≡ n)) ⊎ ((length x ≤ place + 1) × (slice_get x (place + 1) ≡ None))
+    by_next : ((n : Knot Truth) × (place + 1 < length x) × (slice_get x (place + 1) ≡ Some n) × (get_or x (place + 1) n ≡ n)) ⊎
+        ((length x ≤ place + 1) × (slice_get x (place + 1) ≡ None))
         → IsWorth truth_shape x t (value_at (truth_shape.function k.after) t)
     by_next (inl (n, l, h, e)) = worth_between truth_shape x place k n t at h early (place_of.next n h)
     by_next (inr (l, none)) = absurd (not_lt_of_le (subst (λ s. t ≤ʳ s) (stop_at truth_shape x place k at none) within) early)

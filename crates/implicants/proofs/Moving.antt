@@ -52,7 +52,8 @@ le_told Greater b h e = ((λ k. let x : false ≡ true = sym e ∙ k in absurd (
 pub adds_none : {P : Rational → Type 0} {old : List Rational} → ((t : Rational) → ¬ P t) → Adds P old old
 adds_none never = record { stay = λ t m. m; put = λ t h. absurd (never t h); only = λ t m. inl m }
 
-pub adds_same : {P Q : Rational → Type 0} {old new : List Rational} → ((t : Rational) → P t → Q t) → ((t : Rational) → Q t → P t) → Adds P old new → Adds Q old new
+pub adds_same : {P Q : Rational → Type 0} {old new : List Rational} → ((t : Rational) → P t → Q t) → ((t : Rational) → Q t → P t) → Adds P old new
+    → Adds Q old new
 adds_same f g h = record { stay = h.stay; put = λ t q. h.put t (g t q); only = λ t m. elim (h.only t m) [ inl o ↦ inl o | inr p ↦ inr (f t p) ] }
 
 pub adds_then : {P Q : Rational → Type 0} {old mid new : List Rational} → Adds P old mid → Adds Q mid new → Adds (λ t. P t ⊎ Q t) old new
@@ -83,7 +84,8 @@ adds_one old m = record {
 
 module _ (from to : Rational) (k : ℤ) (old : List Rational) where
   -- one more of the times: it is put where it lies in the domain
-  pub moved_on : (times mid new : List Rational) (u m : Rational) → m ≈ shifted u k → (Within from to m → new ≡ mid ++ m ∷ []) → (¬ Within from to m → new ≡ mid)
+  pub moved_on : (times mid new : List Rational) (u m : Rational) → m ≈ shifted u k → (Within from to m → new ≡ mid ++ m ∷ [])
+      → (¬ Within from to m → new ≡ mid)
       → Adds (IsMoved from to times k) old mid → Adds (IsMoved from to (times ++ u ∷ []) k) old new
   moved_on times mid new u m e f g h = by_order (le_or_lt from m) (le_or_lt m to)
     where
@@ -131,24 +133,29 @@ pub times_more : (xs : List Frac) (i : ℕ) (d : Frac) → i < length xs → tim
 times_more xs i d l = map_more value xs i d l
 
 -- one more of the parent's times, by fractions
-pub frac_on : (from to : Rational) (k : ℤ) (parent old mid new : List Frac) (i : ℕ) (t m : Frac) → i < length parent → t ≡ get_or parent i t → value m ≈ add (value t) (whole k)
+pub frac_on : (from to : Rational) (k : ℤ) (parent old mid new : List Frac) (i : ℕ) (t m : Frac) → i < length parent → t ≡ get_or parent i t
+    → value m ≈ add (value t) (whole k)
     → (Within from to (value m) → new ≡ mid ++ m ∷ []) → (¬ Within from to (value m) → new ≡ mid)
     → Adds (IsMoved from to (times_of (take i parent)) k) (times_of old) (times_of mid)
     → Adds (IsMoved from to (times_of (take (i + 1) parent)) k) (times_of old) (times_of new)
 frac_on from to k parent old mid new i t m l is e f g h =
-    subst (λ ts. Adds (IsMoved from to ts k) (times_of old) (times_of new)) (sym (times_more parent i t l ∙ ap (λ x. times_of (take i parent) ++ value x ∷ []) (sym is)))
-    (moved_on from to k (times_of old) (times_of (take i parent)) (times_of mid) (times_of new) (value t) (value m) (same_trans e (same_sym (shifted-add (value t) k)))
+    subst (λ ts. Adds (IsMoved from to ts k) (times_of old) (times_of new))
+        (sym (times_more parent i t l ∙ ap (λ x. times_of (take i parent) ++ value x ∷ []) (sym is)))
+    (moved_on from to k (times_of old) (times_of (take i parent)) (times_of mid) (times_of new) (value t) (value m)
+        (same_trans e (same_sym (shifted-add (value t) k)))
     (λ w. ap times_of (f w) ∙ map-append value mid (m ∷ [])) (λ w. ap times_of (g w)) h)
 
 -- the times of one more knot
-pub knot_on : (x : List (Knot Truth)) (old new : List Frac) (i : ℕ) (k : Knot Truth) → slice_get x i ≡ Some k → old ≡ map (λ n. n.time) (take i x) → new ≡ old ++ k.time ∷ [] → new ≡ map (λ n. n.time) (take (i + 1) x)
+pub knot_on : (x : List (Knot Truth)) (old new : List Frac) (i : ℕ) (k : Knot Truth) → slice_get x i ≡ Some k → old ≡ map (λ n. n.time) (take i x)
+    → new ≡ old ++ k.time ∷ [] → new ≡ map (λ n. n.time) (take (i + 1) x)
 knot_on x old new i k at before step =
     step ∙ ap (λ ts. ts ++ k.time ∷ []) before
     ∙ sym (map_more (λ n. n.time) x i k (slice_get_within x i k at) ∙ ap (λ n. map (λ n. n.time) (take i x) ++ n.time ∷ []) (get_or_from_slice_get x i k k at))
 
 -- one more of the moves
 pub moves_on : (from to : Rational) (times : List Rational) (ks : List ℤ) (i : ℕ) (k d : ℤ) (old mid new : List Rational) → i < length ks
-    → Adds (IsMovedBy from to times (take i ks)) old mid → Adds (IsMoved from to times k) mid new → k ≡ get_or ks i d → Adds (IsMovedBy from to times (take (i + 1) ks)) old new
+    → Adds (IsMovedBy from to times (take i ks)) old mid → Adds (IsMoved from to times k) mid new → k ≡ get_or ks i d → Adds
+        (IsMovedBy from to times (take (i + 1) ks)) old new
 moves_on from to times ks i k d old mid new l before here is =
     subst (λ ms. Adds (IsMovedBy from to times ms) old new) (sym (take_more ks i d l ∙ ap (λ m. take i ks ++ m ∷ []) (sym is)))
     (adds_same join split (adds_then before here))

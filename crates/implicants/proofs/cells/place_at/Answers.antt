@@ -21,5 +21,6 @@ returns-else-place-knots-clause-place c = elim c.else-place-knots.branch [
       (subst (λ k. time k ≈ value c.args.t.now) (same_Some n w.knot.result (sym at ∙ w.knot.ensures)) same))
   | else-place-knots-via-else-place-knots w ↦
       place_stays c.args.signal.now c.args.place (value c.args.t.now) c.requires.up_to
-      (λ n at same. let l = slice_get_within c.args.signal.now (c.args.place + 1) n at in let count = c.len-knots.ensures.value in let past = w.if-place-knots.false in absurd (omega (arith, l, count, past)))
+      (λ n at same. let l = slice_get_within c.args.signal.now (c.args.place + 1) n at in let count = c.len-knots.ensures.value in let past =
+          w.if-place-knots.false in absurd (omega (arith, l, count, past)))
 ]

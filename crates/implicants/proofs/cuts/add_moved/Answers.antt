@@ -20,12 +20,15 @@ shift-requires c =
 
 pub loop-t-preserved : goal.loop-t-preserved
 loop-t-preserved c =
-    frac_on (value c.args.from.now) (value c.args.to.now) (to_z w64 (of_z w64 c.args.by)) c.args.parent.now c.args.times.now.items c.loop-t.times.items c.push_within.new.times.items c.loop-t.t-index c.t-item.result c.shift.result
+    frac_on (value c.args.from.now) (value c.args.to.now) (to_z w64 (of_z w64 c.args.by)) c.args.parent.now c.args.times.now.items
+        c.loop-t.times.items c.push_within.new.times.items c.loop-t.t-index c.t-item.result c.shift.result
     c.loop-t-test.true c.t-item.is c.shift.ensures.value c.in_ok-push_within.ensures.inside c.in_ok-push_within.ensures.outside c.loop-t.invariant
 
 pub returns : goal.returns
 returns c =
     let same : to_z w64 (of_z w64 c.args.by) ≡ c.args.by = search (rules, to_z-of_z) in
     let all = take_all c.loop-t.t-index c.args.parent.now (let t = c.loop-t-test.false in omega (arith, t)) in
-    let told = subst (λ k. Adds (IsMoved (value c.args.from.now) (value c.args.to.now) (times_of (take c.loop-t.t-index c.args.parent.now)) k) (times_of c.args.times.now.items) (times_of c.loop-t.times.items)) same c.loop-t.invariant in
-    subst (λ ts. Adds (IsMoved (value c.args.from.now) (value c.args.to.now) (times_of ts) c.args.by) (times_of c.args.times.now.items) (times_of c.loop-t.times.items)) all told
+    let told = subst (λ k. Adds (IsMoved (value c.args.from.now) (value c.args.to.now) (times_of (take c.loop-t.t-index c.args.parent.now)) k)
+        (times_of c.args.times.now.items) (times_of c.loop-t.times.items)) same c.loop-t.invariant in
+    subst (λ ts. Adds (IsMoved (value c.args.from.now) (value c.args.to.now) (times_of ts) c.args.by) (times_of c.args.times.now.items)
+        (times_of c.loop-t.times.items)) all told
