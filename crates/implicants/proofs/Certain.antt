@@ -1,12 +1,12 @@
 -- The three-valued signal of one atom grows along its cells.
-use Rattle.std.proofs.Common.{◌≡◌, ℕ, zero, suc, ◌+◌, ◌<◌, ◌≤◌, ◌^◌, ◌⊎◌, inl, inr, Bool, true, false, List, [], ◌∷◌, ◌++◌, length, Some, None, refl, sym, subst, ap, ◌∙◌, arith, pos, negsuc, get_or, lit≤, rules, length-append}
+use Rattle.std.proofs.Common.{◌≡◌, ℕ, zero, suc, ◌+◌, ◌<◌, ◌≤◌, ◌^◌, ◌⊎◌, inl, inr, Bool, true, false, List, [], ◌∷◌, ◌++◌, length, Some, refl, sym, subst, ap, ◌∙◌, arith, pos, negsuc, get_or, lit≤, rules, length-append}
 use Rattle.value_laws.specs.Kinds.{kleene_shape}
-use Rattle.std.specs.Prelude.{slice_get, slice_index, Option, MatchBool, IsTrue, IsFalse}
+use Rattle.std.specs.Prelude.{slice_get, slice_index, MatchBool, IsTrue, IsFalse}
 use Rattle.std.proofs.lemmas.Option.{slice_get_within, slice_get-get_or, get_or_from_slice_get}
 use Rattle.rational.specs.Rational.{IsWithin}
-use Rattle.rational.specs.Time.{Rational, Interval, IsIn, Precedes, BeginAlike, EndAlike, Within, closed, gap, whole, ◌<ʳ◌, ◌≤ʳ◌, ◌≈◌}
+use Rattle.rational.specs.Time.{Rational, IsIn, Precedes, Within, closed, gap, whole, ◌<ʳ◌, ◌≤ʳ◌, ◌≈◌}
 use Rattle.rational.specs.Extended.{Extended, value_at, finite, ◌≈ᵉ◌, Passes}
-use Rattle.rational.proofs.Order.{le_trans, le_of_lt, le_of_same, ge_of_same, lt_of_le_of_lt, lt_of_lt_of_le, le_refl, same_refl, same_sym, same_trans, same_of_le, not_lt_of_le}
+use Rattle.rational.proofs.Order.{le_trans, le_of_lt, le_of_same, ge_of_same, lt_of_le_of_lt, lt_of_lt_of_le, same_refl, same_trans, same_of_le, not_lt_of_le}
 use Rattle.rational.proofs.AffineLemmas.{bounded_same, same_symᵉ, same_transᵉ, same_reflᵉ}
 use Rattle.rational.proofs.LevelLemmas.{level_is}
 use Rattle.rational.specs.Affine.{IsBounded}
@@ -39,7 +39,7 @@ use Rattle.stl_syntax.proofs.CoverLemmas.{certainties_give_one}
 use Rattle.implicants.specs.Keeping.{remaining}
 use Rattle.implicants.specs.Runs.{IsRun, begins, AreAllCells}
 use Rattle.implicants.specs.Certainty.{stays, known_at, EndsAt, IsAtomCertainty}
-use Rattle.implicants.proofs.Strips.{IsCellOn, in_cut, in_gap, point_at, gap_at, length_here, to_last, one_cell}
+use Rattle.implicants.proofs.Strips.{IsCellOn, point_at, gap_at, length_here, to_last, one_cell}
 use Rattle.implicants.proofs.Covering.{IsOver, to_remaining, from_remaining, from_at, to_covered, of_covered}
 
 -- places in joined lists
@@ -127,8 +127,12 @@ start_cut nodes tr i l = by_place (suc_cases (suc i) (length nodes) (omega (arit
 pub first_cut : (nodes : List Node) (tr : Trace) (i : ℕ) (times : List Rational) → i < length nodes → start tr ≤ʳ stop tr → AreCuts nodes tr i times
     → (t : Rational) × (slice_get times 0 ≡ Some t) × (t ≈ start tr)
 first_cut nodes tr i [] l o cuts = absurd (cuts.complete (start tr) (start_cut nodes tr i l))
-first_cut nodes tr i (t ∷ times) l o cuts = (t, refl, same_of_le
-    (rising_first t times (start tr) cuts.rising (cuts.complete (start tr) (start_cut nodes tr i l))) (cut_within nodes tr i t o cuts.sound.0).above)
+first_cut nodes tr i (t ∷ times) l o cuts = (
+  t,
+  refl,
+  same_of_le
+      (rising_first t times (start tr) cuts.rising (cuts.complete (start tr) (start_cut nodes tr i l))) (cut_within nodes tr i t o cuts.sound.0).above,
+)
 
 module _ (nodes : List Node) (tr : Trace) (items : List Item) (left : ℕ) (marks : List Bool) (i from to : ℕ) where
   abbrev pub left_over : List Item
@@ -151,7 +155,7 @@ module _ (nodes : List Node) (tr : Trace) (items : List Item) (left : ℕ) (mark
   pub run_item : (run : IsRun nodes tr items i from to) (c : ℕ) (e : Item) → slice_get run.here c ≡ Some e → slice_get items (from + c) ≡ Some e
   run_item run c e s = subst (λ xs. slice_get xs (from + c) ≡ Some e) (sym run.all)
       (subst (λ n. slice_get (run.front ++ (run.here ++ run.back)) (n + c) ≡ Some e) run.begin
-          (get_right run.front (run.here ++ run.back) c ∙ get_left run.here run.back c e s))
+      (get_right run.front (run.here ++ run.back) c ∙ get_left run.here run.back c e s))
 
   in_run : (run : IsRun nodes tr items i from to) (c : ℕ) (e : Item) (t : Rational) → slice_get items c ≡ Some e → IsOver i t e
       → (k : ℕ) × (c ≡ from + k) × (slice_get run.here k ≡ Some e)
@@ -194,7 +198,7 @@ module _ (nodes : List Node) (tr : Trace) (items : List Item) (left : ℕ) (mark
   gives_cell : (run : IsRun nodes tr items i from to) (a : Atom) (c : ℕ) (e : Item) (t : Rational) (p : Kleene) → subformula nodes i ≡ atom i a
       → slice_get run.here c ≡ Some e → e.node ≡ i → IsSo nodes tr e
       → IsIn (interval e.on) t → p.known ≡ known_at (stays left marks (from + c)) e → Gives (certainties tr left_over) i a t
-          (value_at (kleene_shape.function p) t)
+      (value_at (kleene_shape.function p) t)
   gives_cell run a c e t p tree s n so inside known =
       gives_alike tr left_over i a t (value_at (kleene_shape.function p) t) (finite (whole (kleene_value p.known))) (level_is (kleene_value p.known) t)
       (subst (λ o. Gives (certainties tr left_over) i a t (finite (whole (kleene_value o)))) (sym known) (by_stay (stays left marks (from + c)) refl))
@@ -247,7 +251,7 @@ module _ (nodes : List Node) (tr : Trace) (items : List Item) (left : ℕ) (mark
       let end = run.end in
       let begin = run.begin in
       let all : length items ≡ length run.front + (length run.here + length run.back) = ap length run.all ∙ length-append run.front
-          (run.here ++ run.back) ∙ ap (λ n. length run.front + n) (length-append run.here run.back) in
+      (run.here ++ run.back) ∙ ap (λ n. length run.front + n) (length-append run.here run.back) in
       (omega (arith, two, some, end), omega (arith, all, end, begin))
 
   pub grown_first : (run : IsRun nodes tr items i from to) (s : List (Knot Kleene)) (at : Frac) (p : Kleene) (f : Item) → i < length nodes → start tr ≤ʳ stop tr
@@ -289,7 +293,7 @@ module _ (nodes : List Node) (tr : Trace) (items : List Item) (left : ℕ) (mark
           gives_alike tr left_over i a u v (value_at (kleene_shape.function p) u) w.worth
           (gives_cell run a 0 cell.0 u p tree cell.1 cell.2.node cell.2.so (in_cut_cell cell.0 cut.0 u cell.2 (same_trans w.when time))
           (subst (λ n. p.known ≡ known_at (stays left marks n) cell.0) (sym place)
-              (known cell.0 (subst (λ n. slice_get items n ≡ Some cell.0) place (run_item run 0 cell.0 cell.1)))))
+          (known cell.0 (subst (λ n. slice_get items n ≡ Some cell.0) place (run_item run 0 cell.0 cell.1)))))
       by_worth a tree u v (inr (inl w)) = absurd w
       by_worth a tree u v (inr (inr w)) = absurd w
 
@@ -385,7 +389,7 @@ module _ (nodes : List Node) (tr : Trace) (items : List Item) (left : ℕ) (mark
 
       by_part : (a : Atom) → subformula nodes i ≡ atom i a → (u : Rational) (v : Extended)
           → IsWorth kleene_shape s u v ⊎ ((knots.stop s <ʳ u) × (u <ʳ value f.on.from) × Passes (kleene_shape.function p) u v) ⊎
-              ((u ≈ value f.on.from) × Passes (kleene_shape.function q) u v)
+          ((u ≈ value f.on.from) × Passes (kleene_shape.function q) u v)
           → Gives (certainties tr left_over) i a u v
       by_part a tree u v (inl w) = g.worth a tree u v w
       by_part a tree u v (inr (inl w)) =
@@ -393,15 +397,15 @@ module _ (nodes : List Node) (tr : Trace) (items : List Item) (left : ℕ) (mark
           (gives_cell g.run a (suc (g.k + g.k)) n.gap_cell u p tree n.gap_here n.gap_is.node n.gap_is.so
           (in_gap_cell n.gap_cell g.t n.u u n.gap_is (lt_of_le_of_lt (ge_of_same g.ends) w.0) (lt_of_lt_of_le w.1 (le_of_same time)))
           (subst (λ m. p.known ≡ known_at (stays left marks m) n.gap_cell) here
-              (known n.gap_cell (subst (λ m. slice_get items m ≡ Some n.gap_cell) (sym here)
-              (run_item g.run (suc (g.k + g.k)) n.gap_cell n.gap_here)))))
+          (known n.gap_cell (subst (λ m. slice_get items m ≡ Some n.gap_cell) (sym here)
+          (run_item g.run (suc (g.k + g.k)) n.gap_cell n.gap_here)))))
       by_part a tree u v (inr (inr w)) =
           gives_alike tr left_over i a u v (value_at (kleene_shape.function q) u) w.1
           (gives_cell g.run a (suc g.k + suc g.k) n.point_cell u q tree n.point_here n.point_is.node n.point_is.so
-              (in_cut_cell n.point_cell n.u u n.point_is (same_trans w.0 time))
+          (in_cut_cell n.point_cell n.u u n.point_is (same_trans w.0 time))
           (subst (λ m. q.known ≡ known_at (stays left marks m) n.point_cell) next
-              (known_next n.point_cell (subst (λ m. slice_get items m ≡ Some n.point_cell) (sym next)
-              (run_item g.run (suc g.k + suc g.k) n.point_cell n.point_here)))))
+          (known_next n.point_cell (subst (λ m. slice_get items m ≡ Some n.point_cell) (sym next)
+          (run_item g.run (suc g.k + suc g.k) n.point_cell n.point_here)))))
 
   -- the signal so far ends within the domain
   pub grown_within : (c : ℕ) (s : List (Knot Kleene)) (g : IsGrown c s) → start tr ≤ʳ stop tr → Within (start tr) (stop tr) (knots.stop s)
@@ -414,7 +418,7 @@ module _ (nodes : List Node) (tr : Trace) (items : List Item) (left : ℕ) (mark
   grown_limited c s g o a b =
       let w = grown_within c s g o in
       within_between (2 ^ 34) (tick_within (first_time tr.rows) a (same_refl (start tr)))
-          (tick_within (last_time 0 tr.rows) b (same_refl (stop tr))) w.above w.below
+      (tick_within (last_time 0 tr.rows) b (same_refl (stop tr))) w.above w.below
 
   -- no further than the last cell
   pub grown_to : (c : ℕ) (s : List (Knot Kleene)) (g : IsGrown c s) → i < length nodes → c ≤ to
@@ -481,17 +485,20 @@ module _ (nodes : List Node) (tr : Trace) (items : List Item) (left : ℕ) (mark
       (made_certain a s at tree y z g.signal g.begins (same_of_le (grown_within c s g o).below late) g.worth)
   grown_end a c s x g at tree l m o y z (inr (early, (t, p, time, none, on))) =
       made_certain a x at tree y z on.signal (subst (λ r. r ≈ start tr) (sym on.begins) g.begins) (subst (λ r. r ≈ stop tr) (sym on.ends) time)
-          (λ b same u v w. by_part b same u v ((on.worth u v).0 w))
+      (λ b same u v w. by_part b same u v ((on.worth u v).0 w))
     where
       unknown : (b : Atom) (u : Rational) (v : Extended) → knots.stop s <ʳ u → v ≈ᵉ value_at (kleene_shape.function p) u
           → Gives (certainties tr left_over) i b u v
       unknown b u v late e =
-          inr (inr (end_uncovered c s g l m u late, subst (λ k. v ≈ᵉ finite (whole (kleene_value k))) none
-              (same_transᵉ v (value_at (kleene_shape.function p) u) (finite (whole (kleene_value p.known))) e (level_is (kleene_value p.known) u))))
+          inr (inr (
+            end_uncovered c s g l m u late,
+            subst (λ k. v ≈ᵉ finite (whole (kleene_value k))) none
+                (same_transᵉ v (value_at (kleene_shape.function p) u) (finite (whole (kleene_value p.known))) e (level_is (kleene_value p.known) u)),
+          ))
 
       by_part : (b : Atom) → subformula nodes i ≡ atom i b → (u : Rational) (v : Extended)
           → IsWorth kleene_shape s u v ⊎ ((knots.stop s <ʳ u) × (u <ʳ value t) × Passes (kleene_shape.function p) u v) ⊎
-              ((u ≈ value t) × Passes (kleene_shape.function p) u v)
+          ((u ≈ value t) × Passes (kleene_shape.function p) u v)
           → Gives (certainties tr left_over) i b u v
       by_part b same u v (inl w) = g.worth b same u v w
       by_part b same u v (inr (inl w)) = unknown b u v w.0 w.2
@@ -535,4 +542,4 @@ pub read_run : (nodes : List Node) (tr : Trace) (items : List Item) (ends : List
 read_run nodes tr items ends i m n all (a, at) e f =
     let inside : i < length ends = let c = all.count in let l = slice_get_within nodes i (Leaf a) at in omega (arith, c, l) in
     subst (λ x. IsRun nodes tr items i x n) (sym e) (subst (λ x. IsRun nodes tr items i (begins ends i) x) (sym (read_number ends i n f inside))
-        (all.runs i a at))
+    (all.runs i a at))

@@ -1,7 +1,7 @@
 -- Two counts of the same nodes are one, and a sum that passes the limit and one that does not cannot both be.
-use Rattle.std.proofs.Common.{◌≡◌, ℕ, zero, suc, ◌+◌, ◌-◌, ◌*◌, ◌<◌, ◌≤◌, ◌⊎◌, inl, inr, List, [], ◌∷◌, length, refl, sym, ap, subst, ◌∙◌, arith}
-use Rattle.rational.specs.Time.{Rational, ◌<ʳ◌, ◌≤ʳ◌, ◌≈◌}
-use Rattle.rational.proofs.Order.{same_refl, same_sym, same_trans, same_of_le, le_of_lt, lt_irrefl, lt_of_lt_of_le, le_of_same, ge_of_same}
+use Rattle.std.proofs.Common.{◌≡◌, ℕ, suc, ◌+◌, ◌-◌, ◌*◌, ◌<◌, ◌≤◌, ◌⊎◌, inl, inr, List, [], ◌∷◌, length, refl, sym, ap, subst, arith}
+use Rattle.rational.specs.Time.{Rational, ◌<ʳ◌, ◌≈◌}
+use Rattle.rational.proofs.Order.{same_refl, same_sym, same_trans, same_of_le, lt_irrefl, lt_of_lt_of_le, le_of_same}
 use Rattle.stl_syntax.specs.Trace.{Trace}
 use Rattle.stl_syntax.specs.Cells.{IsCut, AreCuts, AreRisingTimes, IsAmong}
 use Rattle.stl_syntax.specs.Kept.{CellCount, none, more, IsTooMany}

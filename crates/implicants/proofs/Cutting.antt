@@ -1,9 +1,9 @@
 -- The cut times of a node: the times of the knots of its signal, and the cut times that its parent hands down.
-use Rattle.std.proofs.Common.{◌≡◌, ℕ, zero, suc, ◌+◌, ◌<◌, ◌≤◌, ◌⊎◌, inl, inr, List, [], ◌∷◌, length, map, Some, None, ℤ, refl, sym, ap, subst, ◌∙◌, arith, get_or}
+use Rattle.std.proofs.Common.{◌≡◌, ℕ, zero, suc, ◌+◌, ◌<◌, ◌≤◌, ◌⊎◌, inl, inr, List, [], ◌∷◌, length, map, Some, None, refl, sym, subst, arith, get_or}
 use Rattle.value_laws.specs.Kinds.{truth_shape}
-use Rattle.std.specs.Prelude.{slice_get, Contains}
+use Rattle.std.specs.Prelude.{slice_get}
 use Rattle.std.proofs.lemmas.Option.{slice_get_within, slice_get_cases, slice_get-get_or}
-use Rattle.rational.specs.Time.{Rational, Within, shifted, ◌<ʳ◌, ◌≤ʳ◌, ◌≈◌}
+use Rattle.rational.specs.Time.{Rational, ◌≈◌}
 use Rattle.rational.proofs.Order.{same_refl, same_sym, same_trans, le_trans, le_of_same, ge_of_same, lt_of_le_of_lt, lt_of_lt_of_le}
 use Rattle.rational.proofs.Field.{same_add}
 use Rattle.rational.proofs.TimeLemmas.{same_shifted}
@@ -12,13 +12,12 @@ use Rattle.pl_signal.specs.Knots as knots
 use Rattle.pl_signal.specs.Knots.{time}
 use Rattle.pl_signal.specs.Moves.{Tells}
 use Rattle.pl_signal.proofs.Values.{stop_at}
-use Rattle.pl_signal.proofs.Limits.{found}
 use Rattle.value_laws.specs.declared.truth.Truth.{Truth}
 use Rattle.stl_syntax.specs.Trace.{Trace, start, stop}
 use Rattle.stl_syntax.specs.Formula.{subformula, HasChildrenBelow}
 use Rattle.stl_syntax.specs.PostOrder.{IsPostOrder}
 use Rattle.stl_syntax.specs.SupInf.{SupInf, HasValues, truth_setting}
-use Rattle.stl_syntax.specs.Cells.{IsCut, IsChild, shifts, IsChange, IsNear, AreCuts, AreAllCut, AreRisingTimes, IsAmong, root_start, first, last, change, moved}
+use Rattle.stl_syntax.specs.Cells.{IsCut, IsChild, IsNear, AreCuts, AreAllCut, AreRisingTimes, IsAmong, root_start, first, last, change, moved}
 use Rattle.stl_syntax.specs.declared.node.Node.{Node}
 use Rattle.stl_syntax.specs.declared.node.Node.TheVariants.{Const, Atom as Leaf, Not, And, Or, Implies, Until, Eventually, Always, Since, Once, Historically}
 use Rattle.stl_syntax.proofs.PostOrderLemmas.{placed}
@@ -110,13 +109,13 @@ module _ (nodes : List Node) (tr : Trace) (i : ℕ) (x : List (Knot Truth)) (bel
           (subst (λ p. slice_get x p ≡ Some n) (let e : suc (suc m) ≡ m + 1 + 1 = omega arith in e) next))
       by_next (inr (l, e)) =
           last below (subst (λ s. s ≈ stop tr) (stop_at truth_shape x (suc m) k at
-              (subst (λ p. slice_get x p ≡ None) (let e : suc (suc m) ≡ suc m + 1 = omega arith in e) e)) tells.ends)
+          (subst (λ p. slice_get x p ≡ None) (let e : suc (suc m) ≡ suc m + 1 = omega arith in e) e)) tells.ends)
 
   -- the times of the knots and those that are handed down are the cut times
   pub cuts_of : (cuts : ℕ → List Rational) (made times : List Rational) → IsPostOrder nodes → ((j : ℕ) → i < j → j < length nodes → AreCuts nodes tr j (cuts j))
       → Adds (IsHandedDown nodes (start tr) (stop tr) cuts i) (times_of (map (λ k. k.time) x)) made
       → AreRisingTimes times → ((t : Rational) → IsAmong made t → IsAmong times t) → ((t : Rational) → IsAmong times t → IsAmong made t)
-          → AreCuts nodes tr i times
+      → AreCuts nodes tr i times
   cuts_of cuts made times post above adds rising here only = record {
     rising = rising;
     sound = all_cut nodes tr i times (λ t m. by_source t (adds.only t (only t m)));
@@ -152,8 +151,14 @@ module _ (nodes : List Node) (tr : Trace) (i : ℕ) (x : List (Knot Truth)) (bel
       complete t (last n e) = let k = last_knot x tells.signal.some in of_knot t k.0 k.1 k.2 (same_trans e (same_trans (same_sym tells.ends) k.3))
       complete t (change n e) = let k = change_is_knot (subformula nodes i) tr x values tells t e in of_knot t k.0 k.1 k.2 k.3
       complete t (moved {j} {u} n k at child shift cut e w) =
-          here t (adds.put t (record { j = j; n = n; at = at; child = child; moved =
-              (k, shift, record { u = u; cut = (parent j n at child).complete u cut; is = e; inside = w }) }))
+          here t (adds.put t (record {
+            j = j;
+            n = n;
+            at = at;
+            child = child;
+            moved =
+                (k, shift, record { u = u; cut = (parent j n at child).complete u cut; is = e; inside = w });
+          }))
 
 -- the root is cut at the start alone
 pub root_cuts : (nodes : List Node) (tr : Trace) (i : ℕ) (t : Rational) → IsPostOrder nodes → suc i ≡ length nodes → t ≈ start tr → AreCuts nodes tr i (t ∷ [])

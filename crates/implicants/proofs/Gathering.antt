@@ -1,10 +1,9 @@
 -- The cells of all atoms, gathered node by node.
-use Rattle.std.proofs.Common.{◌≡◌, ℕ, zero, suc, ◌+◌, ◌<◌, ◌≤◌, ◌⊎◌, inl, inr, List, [], ◌∷◌, ◌++◌, length, length-append, take, Some, None, Bool, false, refl, sym, ap, subst, ◌∙◌, arith, get_or, append_assoc}
+use Rattle.std.proofs.Common.{◌≡◌, ℕ, zero, suc, ◌+◌, ◌<◌, ◌≤◌, ◌⊎◌, inl, inr, List, [], ◌∷◌, ◌++◌, length, length-append, take, Some, None, false, refl, sym, ap, subst, ◌∙◌, arith, get_or, append_assoc}
 use Rattle.std.specs.Prelude.{slice_get, slice_index}
 use Rattle.std.proofs.lemmas.Option.{same_Some, slice_get_within, slice_get_cases, get_or_from_slice_get}
 use Rattle.std.proofs.lemmas.List.{take_more, take_all, append-nil, get_or_push, get_or_append_left, length-take-le}
-use Rattle.rational.specs.Time.{Rational, IsIn, Interval}
-use Rattle.frac128.specs.Spans.{interval}
+use Rattle.rational.specs.Time.{Rational, Interval}
 use Rattle.stl_syntax.specs.Trace.{Trace}
 use Rattle.stl_syntax.specs.Kleene.{IsCovered}
 use Rattle.stl_syntax.specs.Cells.{AreCuts, cells}
@@ -142,9 +141,9 @@ module _ (nodes : List Node) (tr : Trace) where
           let r = before.runs i a l is in
           let count = before.count in
           subst (λ from. IsRun nodes tr (items ++ new) i from (slice_index grown i))
-              (sym (begins_stay ends (length (items ++ new)) i (omega (arith, l, count))))
+          (sym (begins_stay ends (length (items ++ new)) i (omega (arith, l, count))))
           (subst (IsRun nodes tr (items ++ new) i (begins ends i))
-              (sym (get_or_append_left ends (length (items ++ new) ∷ []) 0 i (omega (arith, l, count)))) (record {
+          (sym (get_or_append_left ends (length (items ++ new) ∷ []) 0 i (omega (arith, l, count)))) (record {
             times = r.times;
             front = r.front;
             here = r.here;

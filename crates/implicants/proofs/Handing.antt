@@ -1,25 +1,24 @@
 -- What the nodes behind a place hand down to it, node by node, and the lists of cut times that stand so far.
-use Rattle.std.proofs.Common.{◌≡◌, ℕ, zero, suc, ◌+◌, ◌-◌, ◌*◌, ◌<◌, ◌≤◌, ◌⊎◌, inl, inr, List, [], ◌∷◌, ◌++◌, length, length-append, map, Some, ℤ, refl, sym, ap, subst, ◌∙◌, arith, get_or, ◌^◌, pos, Result, Ok, Err}
+use Rattle.std.proofs.Common.{◌≡◌, ℕ, suc, ◌+◌, ◌-◌, ◌*◌, ◌<◌, ◌≤◌, ◌⊎◌, inl, inr, List, [], ◌∷◌, ◌++◌, length, length-append, map, Some, refl, sym, ap, subst, ◌∙◌, arith, get_or, ◌^◌, pos, Result, Ok, Err}
 use Rattle.std.specs.Prelude.{slice_get, All, IfOk}
 use Rattle.std.specs.declared.vec.Vec.{Vec}
 use Rattle.std.specs.declared.alloc.Global.{Global}
 use Rattle.std.proofs.lemmas.Option.{same_Some, slice_get_within}
 use Rattle.std.proofs.lemmas.List.{get_or-map, get_or_append_left, get_or_push, length-map, map-append, get_or_default}
 use Rattle.std.proofs.lemmas.List.Elements.{All-nil, All-cons, All-from_get_or}
-use Rattle.rational.specs.Time.{Rational, Within, shifted, whole, ◌≤ʳ◌, ◌≈◌}
+use Rattle.rational.specs.Time.{Rational, whole, ◌≤ʳ◌, ◌≈◌}
 use Rattle.rational.specs.Rational.{IsWithin}
 use Rattle.rational.proofs.Order.{le_trans, le_of_same, ge_of_same, same_refl}
 use Rattle.rational.proofs.Mixed.{within_between, tick_within}
 use Rattle.frac128.specs.Value.{value}
 use Rattle.frac128.specs.declared.frac.Frac.{Frac}
 use Rattle.stl_syntax.specs.Trace.{Trace, IsTrace, start, stop, first_time, last_time}
-use Rattle.stl_syntax.specs.Formula.{HasChildrenBelow}
 use Rattle.stl_syntax.specs.PostOrder.{IsPostOrder}
-use Rattle.stl_syntax.specs.Cells.{AreCuts, AreAllCut, IsAmong, IsChild, shifts}
+use Rattle.stl_syntax.specs.Cells.{AreCuts, AreAllCut, IsChild, shifts}
 use Rattle.stl_syntax.specs.Kept.{CellCount, none, more, IsTooMany, most_cells}
 use Rattle.stl_syntax.specs.declared.node.Node.{Node}
 use Rattle.stl_syntax.proofs.PostOrderLemmas.{placed}
-use Rattle.implicants.specs.Cuts.{times_of, cuts_at, list_times, Adds, AreNear, IsNearTime, IsNearList, AreCutsFrom, IsHandedDown, IsMoved, IsMovedBy}
+use Rattle.implicants.specs.Cuts.{times_of, cuts_at, list_times, Adds, AreNear, IsNearTime, IsNearList, AreCutsFrom, IsHandedDown, IsMovedBy}
 use Rattle.implicants.specs.Explaining.{AreFewCells}
 use Rattle.implicants.proofs.Moving.{adds_none, adds_same, adds_then}
 use Rattle.implicants.proofs.Cutting.{child_before}
@@ -90,12 +89,16 @@ handed_alike nodes from to a b cuts i old new e f h = adds_same there back h
       n = h.n;
       at = h.at;
       child = h.child;
-      moved = (h.moved.0, h.moved.1, record {
-        u = m.u;
-        cut = m.cut;
-        is = m.is;
-        inside = record { above = le_trans (ge_of_same e) m.inside.above; below = le_trans m.inside.below (le_of_same f) };
-      });
+      moved = (
+        h.moved.0,
+        h.moved.1,
+        record {
+          u = m.u;
+          cut = m.cut;
+          is = m.is;
+          inside = record { above = le_trans (ge_of_same e) m.inside.above; below = le_trans m.inside.below (le_of_same f) };
+        },
+      );
     }
 
     back : (t : Rational) → IsHandedDown nodes a b cuts i t → IsHandedDown nodes from to cuts i t
@@ -104,12 +107,16 @@ handed_alike nodes from to a b cuts i old new e f h = adds_same there back h
       n = h.n;
       at = h.at;
       child = h.child;
-      moved = (h.moved.0, h.moved.1, record {
-        u = m.u;
-        cut = m.cut;
-        is = m.is;
-        inside = record { above = le_trans (le_of_same e) m.inside.above; below = le_trans m.inside.below (ge_of_same f) };
-      });
+      moved = (
+        h.moved.0,
+        h.moved.1,
+        record {
+          u = m.u;
+          cut = m.cut;
+          is = m.is;
+          inside = record { above = le_trans (le_of_same e) m.inside.above; below = le_trans m.inside.below (ge_of_same f) };
+        },
+      );
     }
 
 -- the list of a node, by its place in the lists that stand
@@ -145,12 +152,12 @@ module _ (nodes : List Node) (tr : Trace) where
           let count = behind.count in
           let inside : length nodes - 1 - j < length lists = let e = length-map done list_times in omega (arith, a, b, count, e) in
           subst (AreCuts nodes tr j) (sym (ap (λ xs. get_or xs (length nodes - 1 - j) []) grown ∙ get_or_append_left lists (times_of v.items ∷ [])
-              [] (length nodes - 1 - j) inside)) (behind.cuts j a b)
+          [] (length nodes - 1 - j) inside)) (behind.cuts j a b)
       by_place j b (inl e) =
           let count = behind.count in
           let place : length lists ≡ length nodes - 1 - j = let f = length-map done list_times in omega (arith, e, b, count, f) in
           subst (AreCuts nodes tr j) (sym (ap (λ xs. get_or xs (length nodes - 1 - j) []) grown ∙ get_or_push lists (times_of v.items) []
-              (length nodes - 1 - j) place))
+          (length nodes - 1 - j) place))
           (subst (λ k. AreCuts nodes tr k (times_of v.items)) (sym e) here)
 
   -- cut times are near
@@ -177,7 +184,7 @@ module _ (nodes : List Node) (tr : Trace) where
               let inside : length nodes - 1 - k < length nodes = omega (arith, count, l) in
               let cuts = all.cuts (length nodes - 1 - k) here_or_later inside in
               let is = cuts_at_is (length nodes) done (length nodes - 1 - k) k (get_or done k d)
-                  (let e : k ≡ length nodes - 1 - (length nodes - 1 - k) = omega (arith, count, l) in e) l (own k l) in
+              (let e : k ≡ length nodes - 1 - (length nodes - 1 - k) = omega (arith, count, l) in e) l (own k l) in
               near_cuts (length nodes - 1 - k) (get_or done k d).items o a b (subst (AreAllCut nodes tr (length nodes - 1 - k)) is cuts.sound)
             where
               own : (k : ℕ) → k < length done → get_or done k (get_or done k d) ≡ get_or done k d

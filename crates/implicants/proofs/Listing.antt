@@ -1,11 +1,11 @@
 -- The cells of one node, listed along its signal.
-use Rattle.std.proofs.Common.{◌≡◌, ℕ, zero, suc, ◌+◌, ◌-◌, ◌<◌, ◌≤◌, ◌⊎◌, inl, inr, Bool, true, false, List, [], ◌∷◌, ◌++◌, length, map, take, drop, Some, None, refl, sym, ap, subst, ◌∙◌, arith, get_or, append_assoc}
+use Rattle.std.proofs.Common.{◌≡◌, ℕ, suc, ◌+◌, ◌-◌, ◌<◌, ◌≤◌, ◌⊎◌, inl, inr, Bool, true, false, List, [], ◌∷◌, ◌++◌, length, take, drop, Some, None, refl, sym, ap, subst, ◌∙◌, arith, get_or, append_assoc}
 use Rattle.value_laws.specs.Kinds.{truth_shape}
 use Rattle.std.specs.Prelude.{slice_get, MatchBool}
 use Rattle.std.specs.Option.{option_map}
 use Rattle.std.proofs.lemmas.Option.{same_Some, slice_get_within, slice_get_cases, slice_get-get_or, slice_get-map}
-use Rattle.std.proofs.lemmas.List.{take_more, map-append, map_more, get_or_default, drop_more, take-append-drop}
-use Rattle.rational.specs.Time.{Rational, Interval, IsIn, BeginAlike, EndAlike, Within, closed, gap, whole, ◌<ʳ◌, ◌≤ʳ◌, ◌≈◌}
+use Rattle.std.proofs.lemmas.List.{take_more, map-append, get_or_default, drop_more, take-append-drop}
+use Rattle.rational.specs.Time.{Rational, Interval, IsIn, BeginAlike, EndAlike, closed, gap, whole, ◌<ʳ◌, ◌≤ʳ◌, ◌≈◌}
 use Rattle.std.specs.declared.cmp.Ordering.{Ordering}
 use Rattle.std.specs.declared.cmp.Ordering.TheVariants.{Less, Equal, Greater}
 use Rattle.std.specs.Ordering.{is_eq}
@@ -15,7 +15,7 @@ use Rattle.rational.specs.Affine.{level}
 use Rattle.rational.proofs.AffineLemmas.{same_symᵉ, same_transᵉ}
 use Rattle.rational.proofs.LevelLemmas.{level_is}
 use Rattle.value_laws.specs.Values.{truth_value}
-use Rattle.rational.proofs.Order.{le_trans, le_refl, le_of_lt, le_of_same, ge_of_same, lt_of_le_of_lt, lt_of_lt_of_le, lt_trans, lt_irrefl, not_lt_of_le, same_refl, same_sym, same_trans, same_of_le, lt_or_same_or_gt, le_or_lt}
+use Rattle.rational.proofs.Order.{le_trans, le_of_lt, le_of_same, ge_of_same, lt_of_le_of_lt, lt_of_lt_of_le, lt_irrefl, not_lt_of_le, same_refl, same_sym, same_trans, same_of_le, lt_or_same_or_gt}
 use Rattle.frac128.specs.Spans.{interval}
 use Rattle.frac128.specs.Value.{value}
 use Rattle.frac128.specs.declared.frac.Frac.{Frac}
@@ -30,8 +30,8 @@ use Rattle.stl_syntax.specs.Formula.{subformula}
 use Rattle.stl_syntax.specs.PostOrder.{IsPostOrder}
 use Rattle.stl_syntax.specs.Truth.{Truth as Holds}
 use Rattle.stl_syntax.specs.SupInf.{SupInf, HasValues, truth_setting}
-use Rattle.stl_syntax.specs.Cells.{IsCut, AreCuts, AreAllCut, AreRisingTimes, IsAmong, cells, root_start, first, last, change, moved}
-use Rattle.stl_syntax.specs.Kept.{IsSo, ItemsOn}
+use Rattle.stl_syntax.specs.Cells.{IsCut, AreCuts, AreRisingTimes, IsAmong, cells}
+use Rattle.stl_syntax.specs.Kept.{ItemsOn}
 use Rattle.stl_syntax.specs.declared.items.Item.{Item}
 use Rattle.stl_syntax.specs.declared.node.Node.{Node}
 use Rattle.implicants.specs.Cuts.{times_of}
@@ -100,13 +100,14 @@ module _ (nodes : List Node) (tr : Trace) (i : ℕ) where
     pub holds : e.holds ≡ b
 
   one_item : (on : Interval) (b : Bool) (e : Item) → IsItem on b e → ((t : Rational) → IsIn on t → IsTruth b t) → ItemsOn nodes tr i (on ∷ []) (e ∷ [])
-  one_item on b e is told =
-      (is.node,
-      subst (λ o. BeginAlike o on) (sym is.on_is) (record { time = same_refl on.from; inside = refl }),
-      subst (λ o. EndAlike o on) (sym is.on_is) (record { time = same_refl on.to; inside = refl }),
-      (λ t inside. subst (λ n. MatchBool e.holds (Holds (subformula nodes n) tr t) (¬ Holds (subformula nodes n) tr t)) (sym is.node)
-      (subst (λ b. IsTruth b t) (sym is.holds) (told t (subst (λ o. IsIn o t) is.on_is inside)))),
-      tt)
+  one_item on b e is told = (
+    is.node,
+    subst (λ o. BeginAlike o on) (sym is.on_is) (record { time = same_refl on.from; inside = refl }),
+    subst (λ o. EndAlike o on) (sym is.on_is) (record { time = same_refl on.to; inside = refl }),
+    (λ t inside. subst (λ n. MatchBool e.holds (Holds (subformula nodes n) tr t) (¬ Holds (subformula nodes n) tr t)) (sym is.node)
+        (subst (λ b. IsTruth b t) (sym is.holds) (told t (subst (λ o. IsIn o t) is.on_is inside)))),
+    tt,
+  )
 
   -- the cells of the first k cut times, and the place of the last of these in the signal
   pub record IsListed (x : List (Knot Truth)) (times : List Frac) (old : List Item) (k place : ℕ) (new : List Item) : Type 0 where
@@ -126,13 +127,13 @@ module _ (nodes : List Node) (tr : Trace) (i : ℕ) where
     pub at_instant : (u t : Rational) (q : Truth) → IsWorth truth_shape x u (value_at (truth_shape.function q) u) → IsIn (closed u u) t → IsTruth q.holds t
     at_instant u t q w inside =
         truth_by t q (worth_same truth_shape x (value_at (truth_shape.function q) u) (value_at (truth_shape.function q) t)
-            (same_of_le inside.above inside.below) level_same w)
+        (same_of_le inside.above inside.below) level_same w)
       where
         level_same : value_at (truth_shape.function q) u ≈ᵉ value_at (truth_shape.function q) t
         level_same =
             let c = truth_value q.holds in
             same_transᵉ (value_at (level c) u) (finite (whole c)) (value_at (level c) t) (level_is c u)
-                (same_symᵉ (value_at (level c) t) (finite (whole c)) (level_is c t))
+            (same_symᵉ (value_at (level c) t) (finite (whole c)) (level_is c t))
 
     -- where two cut times follow each other: the place in the signal at the first, and that no cut time is between
     pub record IsStep (place : ℕ) (t u : Rational) : Type 0 where
@@ -174,14 +175,14 @@ module _ (nodes : List Node) (tr : Trace) (i : ℕ) where
       -- the first cell
       pub listed_first : (t : Frac) (k : Knot Truth) (e : Item) (new : List Item) → i < length nodes → start tr ≤ʳ stop tr → AreCuts nodes tr i (times_of times)
           → t ≡ get_or times 0 t → slice_get x 0 ≡ Some k → new ≡ old ++ e ∷ [] → IsItem (closed (value t) (value t)) k.point.holds e → IsListed x
-              times old 1 0 new
+          times old 1 0 new
       listed_first t k e new l o cuts is at grew item = record {
         some = omega arith;
         here = e ∷ [];
         all = grew;
         cells_are = subst (λ ts. ItemsOn nodes tr i (cells ts) (e ∷ [])) (sym (first_time times (some_times times cuts) is))
             (one_item (closed (value t) (value t)) k.point.holds e item
-                (λ v inside. at_instant (value t) v k.point (worth_at truth_shape x 0 k (value t) at begin) inside));
+            (λ v inside. at_instant (value t) v k.point (worth_at truth_shape x 0 k (value t) at begin) inside));
         inside = slice_get_within x 0 k at;
         place_of = λ u e. subst (λ w. IsPlaceOf x 0 (value w)) (one_of times 0 t u (some_times times cuts) (sym is) e)
             (record { here = λ n h. same_knot n h; next = λ n h. later n h });
@@ -270,7 +271,7 @@ module _ (nodes : List Node) (tr : Trace) (i : ℕ) where
           → get_or times (k - 1) t ≡ t → get_or times k u ≡ u
           → IsStep place (value t) (value u) → IsListed x times old k place mid → slice_get x place ≡ Some n → next < length x → IsPlaceOf x next (value u)
           → IsItem (gap (value t) (value u)) n.after.holds e → IsWorth truth_shape x (value u) (value_at (truth_shape.function q) (value u)) →
-              IsItem (closed (value u) (value u)) q.holds f
+          IsItem (closed (value u) (value u)) q.holds f
           → new ≡ (mid ++ e ∷ []) ++ f ∷ [] → IsListed x times old (k + 1) next new
       listed_on k place next mid new t u n q e f more is_t is_u step listed at inside place_of is_e worth is_f grew = record {
         some = omega arith;
@@ -305,7 +306,7 @@ module _ (nodes : List Node) (tr : Trace) (i : ℕ) where
               ap (λ ws. cells (times_of ws)) all_ones ∙ ap cells (map-append value (take (k - 1) times) (t ∷ u ∷ []))
               ∙ cells_on (times_of (take (k - 1) times)) (value t) (value u)
               ∙ ap (λ ts. cells ts ++ gap (value t) (value u) ∷ closed (value u) (value u) ∷ [])
-                  (sym (ap times_of first_ones ∙ map-append value (take (k - 1) times) (t ∷ [])))
+              (sym (ap times_of first_ones ∙ map-append value (take (k - 1) times) (t ∷ [])))
 
 -- the last knot that is not later than a time
 pub place_next : (x : List (Knot Truth)) (place : ℕ) (t : Rational) (n : Knot Truth) → IsSignal truth_shape x → slice_get x (place + 1) ≡ Some n

@@ -1,6 +1,6 @@
 -- Cut times that are moved, one by one.
-use Rattle.std.proofs.Common.{◌≡◌, ℕ, ◌+◌, ◌<◌, ◌≤◌, ◌^◌, ◌⊎◌, ◌↔◌, inl, inr, Bool, true, false, ℤ, List, [], ◌∷◌, ◌++◌, map, length, take, get_or, refl, sym, ap, subst, ◌∙◌, arith, lit<}
-use Rattle.std.specs.Prelude.{IsTrue, unsigned_abs, slice_get, Some, Contains}
+use Rattle.std.proofs.Common.{◌≡◌, ℕ, ◌+◌, ◌<◌, ◌≤◌, ◌^◌, ◌⊎◌, ◌↔◌, inl, inr, Bool, true, false, ℤ, List, [], ◌∷◌, ◌++◌, map, length, take, get_or, sym, ap, subst, ◌∙◌, arith, lit<}
+use Rattle.std.specs.Prelude.{IsTrue, unsigned_abs, slice_get, Some}
 use Rattle.std.proofs.lemmas.Option.{slice_get_within, get_or_from_slice_get}
 use Rattle.pl_signal.specs.declared.knot.Knot.{Knot}
 use Rattle.value_laws.specs.declared.truth.Truth.{Truth}
@@ -140,9 +140,9 @@ pub frac_on : (from to : Rational) (k : ℤ) (parent old mid new : List Frac) (i
     → Adds (IsMoved from to (times_of (take (i + 1) parent)) k) (times_of old) (times_of new)
 frac_on from to k parent old mid new i t m l is e f g h =
     subst (λ ts. Adds (IsMoved from to ts k) (times_of old) (times_of new))
-        (sym (times_more parent i t l ∙ ap (λ x. times_of (take i parent) ++ value x ∷ []) (sym is)))
+    (sym (times_more parent i t l ∙ ap (λ x. times_of (take i parent) ++ value x ∷ []) (sym is)))
     (moved_on from to k (times_of old) (times_of (take i parent)) (times_of mid) (times_of new) (value t) (value m)
-        (same_trans e (same_sym (shifted-add (value t) k)))
+    (same_trans e (same_sym (shifted-add (value t) k)))
     (λ w. ap times_of (f w) ∙ map-append value mid (m ∷ [])) (λ w. ap times_of (g w)) h)
 
 -- the times of one more knot
@@ -155,7 +155,7 @@ knot_on x old new i k at before step =
 -- one more of the moves
 pub moves_on : (from to : Rational) (times : List Rational) (ks : List ℤ) (i : ℕ) (k d : ℤ) (old mid new : List Rational) → i < length ks
     → Adds (IsMovedBy from to times (take i ks)) old mid → Adds (IsMoved from to times k) mid new → k ≡ get_or ks i d → Adds
-        (IsMovedBy from to times (take (i + 1) ks)) old new
+    (IsMovedBy from to times (take (i + 1) ks)) old new
 moves_on from to times ks i k d old mid new l before here is =
     subst (λ ms. Adds (IsMovedBy from to times ms) old new) (sym (take_more ks i d l ∙ ap (λ m. take i ks ++ m ∷ []) (sym is)))
     (adds_same join split (adds_then before here))

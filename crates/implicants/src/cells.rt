@@ -175,7 +175,14 @@ fn all_cells(
     let mut items = Vec::new(alloc);
     let mut ends = Vec::new(alloc);
     for i in 0..len {
-        add_atom(formula, trace, nodes, i, &cuts[(len - 1 - i) as usize], &mut items)?;
+        add_atom(
+            formula,
+            trace,
+            nodes,
+            i,
+            &cuts[(len - 1 - i) as usize],
+            &mut items,
+        )?;
         if ends.push(items.len()).is_err() {
             return Err(Memory);
         }

@@ -228,7 +228,14 @@ fn add_handed_down(
     for j in i + 1..count {
         let node = formula.node(j);
         if is_child(node, i) {
-            add_from(alloc, node, &done[(count - 1 - j) as usize], times, from, to)?;
+            add_from(
+                alloc,
+                node,
+                &done[(count - 1 - j) as usize],
+                times,
+                from,
+                to,
+            )?;
         }
     }
     Ok(())

@@ -1,4 +1,4 @@
-use Rattle.std.proofs.Common.{length, refl, arith}
+use Rattle.std.proofs.Common.{refl, arith}
 use Rattle.std.proofs.lemmas.List.{length-map}
 use Rattle.frac128.specs.Value.{value}
 use Rattle.stl_syntax.specs.SupInf.{truth_setting}
@@ -16,7 +16,7 @@ add_cells-requires-clause-many c =
 pub add_cells-requires-clause-values : goal.add_cells-requires-clause-values
 add_cells-requires-clause-values c =
     (c.told_have_values.ensures c.args.formula.now.nodes c.args.nodes.now (truth_setting c.args.trace.now)
-        c.len.ensures.well_formed.nodes.post_order refl c.requires.told.told c.args.i c.requires.inside).0
+    c.len.ensures.well_formed.nodes.post_order refl c.requires.told.told c.args.i c.requires.inside).0
 
 pub add_cells-requires-clause-told : goal.add_cells-requires-clause-told
 add_cells-requires-clause-told c =

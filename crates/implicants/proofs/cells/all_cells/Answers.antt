@@ -1,4 +1,4 @@
-use Rattle.std.proofs.Common.{rules, ◌≡◌, ◌-◌, ◌++◌, ◌∷◌, [], length, sym, subst, ap, arith}
+use Rattle.std.proofs.Common.{rules, ◌≡◌, ◌++◌, ◌∷◌, [], length, arith}
 use Rattle.implicants.proofs.Gathering.{below_step, below_all}
 use Rattle.implicants.proofs.cells.all_cells.Goals as goal
 

@@ -1,5 +1,4 @@
-use Rattle.std.proofs.Common.{◌≡◌, ◌+◌, ◌<◌, length, Some, arith, sym, subst, ◌∙◌, ap}
-use Rattle.std.specs.Prelude.{slice_get}
+use Rattle.std.proofs.Common.{◌+◌, arith, sym, subst, ◌∙◌}
 use Rattle.std.proofs.lemmas.Option.{same_Some, slice_get_within}
 use Rattle.frac128.specs.Value.{value}
 use Rattle.pl_signal.specs.Knots.{time}
@@ -22,5 +21,5 @@ returns-else-place-knots-clause-place c = elim c.else-place-knots.branch [
   | else-place-knots-via-else-place-knots w ↦
       place_stays c.args.signal.now c.args.place (value c.args.t.now) c.requires.up_to
       (λ n at same. let l = slice_get_within c.args.signal.now (c.args.place + 1) n at in let count = c.len-knots.ensures.value in let past =
-          w.if-place-knots.false in absurd (omega (arith, l, count, past)))
+      w.if-place-knots.false in absurd (omega (arith, l, count, past)))
 ]

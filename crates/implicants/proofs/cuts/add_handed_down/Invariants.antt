@@ -7,4 +7,4 @@ use Rattle.implicants.proofs.cuts.add_handed_down.Given as goal
 abbrev pub invariant-loop-j : goal.invariant-loop-j
 invariant-loop-j l =
     Adds (IsHandedBefore l.formula.nodes (value l.from) (value l.to) (cuts_at (length l.formula.nodes) l.done) l.i l.j) (times_of l.fn.times.items)
-        (times_of l.times.items)
+    (times_of l.times.items)

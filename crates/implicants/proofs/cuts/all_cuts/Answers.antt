@@ -14,7 +14,7 @@ cuts_of-requires-clause-done c =
     let nodes = c.args.formula.now.nodes in
     let count = c.len-len.ensures.count in
     let place : length nodes - c.loop-depth.depth ≡ c.len-len.result - 1 - c.loop-depth.depth + 1 =
-        (let l = c.loop-depth-test.true in omega (arith, l, count)) in
+    (let l = c.loop-depth-test.true in omega (arith, l, count)) in
     subst (AreCutsFrom nodes c.args.trace.now (c.len-len.result - 1 - c.loop-depth.depth + 1)) (sym c.deref.ensures.value)
     (subst (λ n. AreCutsFrom nodes c.args.trace.now n c.loop-depth.done.items) place c.loop-depth.invariant.cuts)
 
@@ -23,7 +23,7 @@ overflow_sub-count c =
     let nodes = c.args.formula.now.nodes in
     let count = c.len-len.ensures.count in
     let l = some_cut nodes c.args.trace.now (c.len-len.result - 1 - c.loop-depth.depth) (times_of c.in-Ok.times.items)
-        (let t = c.loop-depth-test.true in omega (arith, t, count)) c.in-Ok.ensures in
+    (let t = c.loop-depth-test.true in omega (arith, t, count)) c.in-Ok.ensures in
     let e : c.len.result ≡ length c.in-Ok.times.items = (let k = c.in-Ok.times.ok in c.len.ensures ∙ k.0) in
     let m = length-map c.in-Ok.times.items value in
     omega (arith, l, e, m)
@@ -37,14 +37,14 @@ returns-then-count-gt-MOST_CELLS c =
     let count = c.len-len.ensures.count in
     let many : c.len.result ≡ length v.items = (let k = c.in-Ok.times.ok in c.len.ensures ∙ k.0) in
     let next : IsNextCount nodes tr c.loop-depth.depth c.loop-depth.count c.loop-depth.done.items c.in-Ok.times
-        (c.loop-depth.count + (2 * c.len.result - 1)) = (record {
+    (c.loop-depth.count + (2 * c.len.result - 1)) = (record {
       inside = (let t = c.loop-depth-test.true in omega (arith, t, count));
       before = c.loop-depth.invariant;
       cuts = subst (λ n. AreCuts nodes tr (n - 1 - depth) (times_of v.items)) count c.in-Ok.ensures;
       is = ap (λ n. c.loop-depth.count + (2 * n - 1)) many;
     }) in
     passed nodes tr c.loop-depth.depth c.loop-depth.count c.loop-depth.done.items c.in-Ok.times (c.loop-depth.count + (2 * c.len.result - 1)) next
-        c.if-count-gt-MOST_CELLS.true
+    c.if-count-gt-MOST_CELLS.true
 
 pub loop-depth-preserved : goal.loop-depth-preserved
 loop-depth-preserved c =
@@ -56,7 +56,7 @@ loop-depth-preserved c =
     let sum = c.loop-depth.count + (2 * c.len.result - 1) in
     let many : c.len.result ≡ length v.items = (let k = c.in-Ok.times.ok in c.len.ensures ∙ k.0) in
     let next : IsNextCount nodes tr c.loop-depth.depth c.loop-depth.count c.loop-depth.done.items c.in-Ok.times
-        (c.loop-depth.count + (2 * c.len.result - 1)) = (record {
+    (c.loop-depth.count + (2 * c.len.result - 1)) = (record {
       inside = (let t = c.loop-depth-test.true in omega (arith, t, count));
       before = c.loop-depth.invariant;
       cuts = subst (λ n. AreCuts nodes tr (n - 1 - depth) (times_of v.items)) count c.in-Ok.ensures;
