@@ -1,7 +1,8 @@
 -- Where an atom's sum passes 0 on a gap, and its sign elsewhere.
-use Rattle.std.proofs.Common.{◌≡◌, ◌≢◌, ℕ, zero, suc, ℤ, pos, negsuc, ◌+◌, ◌-◌, ◌*◌, ◌<◌, ◌+ℤ◌, ◌-ℤ◌, ◌<ℤ◌, ◌≤ℤ◌, ◌⊎◌, inl, inr, Bool, refl, sym, ap, subst, arith}
+use Rattle.std.proofs.Common.{◌≡◌, ◌≢◌, ℕ, zero, suc, ℤ, pos, negsuc, ◌+◌, ◌-◌, ◌*◌, ◌/◌, ◌%◌, ◌<◌, ◌+ℤ◌, ◌-ℤ◌, ◌*ℤ◌, ◌<ℤ◌, ◌≤ℤ◌, ◌⊎◌, inl, inr, Bool, refl, sym, ap, ◌∙◌, subst, arith}
 use Rattle.std.specs.Int.RustNames.{unsigned_abs}
 use Rattle.std.proofs.lemmas.Int.{ints}
+use Rattle.std.proofs.lemmas.Nat.{div-add-mod'}
 use Rattle.std.proofs.Math.Nat.{zero-lt-suc, sub-pos_iff_lt}
 use Rattle.std.specs.declared.cmp.Ordering.{Ordering}
 use Rattle.std.specs.declared.cmp.Ordering.TheVariants.{Less, Equal, Greater}
@@ -109,6 +110,14 @@ module _ (g : Gap) where
       none (inr h) = omega (arith, ints, e)
   crossing_zero num den n (suc r) v h e k a b w =
       same_trans (same_at (along g) (subst (λ x. v ≈ fraction x (pos (suc r))) a (subst (λ x. v ≈ fraction num x) b w))) (root n (suc r) (zero-lt-suc r) h e k)
+
+  -- the same, as a whole part and a rest
+  pub crossing_mixed : {w : ℤ} {rest r : ℕ} {v : Rational} → v ≈ fraction (w *ℤ pos r +ℤ pos rest) (pos r) → (b length : ℕ) → Passes g
+      → r ≡ unsigned_abs g.from + unsigned_abs g.to → b ≡ unsigned_abs g.from → length ≡ g.second - g.first
+      → w ≡ pos (g.first + b * length / r) → rest ≡ b * length % r → at (along g) v ≈ whole (pos 0)
+  crossing_mixed {w} {rest} {r} {v} h b length p e f k a m =
+      crossing_zero (w *ℤ pos r +ℤ pos rest) (pos r) (g.first * r + b * length) r v p e (cc)
+      (ap (λ z. z *ℤ pos r +ℤ pos rest) a ∙ ap pos (omega (arith, div-add-mod' (b * length) r, m))) refl h
 
   rising : (g.from <ℤ pos 0) × (pos 0 <ℤ g.to) → Rises (along g)
   rising h = record { rises = omega (arith, parts) }

@@ -6,7 +6,24 @@ use Rattle.std.proofs.lemmas.Int.{ints}
 use Rattle.stl_syntax.specs.Trace.{Header, first_time}
 use Rattle.stl_syntax.specs.Formula.{subformula}
 use Rattle.stl_syntax.specs.Verdicts.{Describes}
-use Rattle.stl_syntax.specs.Network.{Event, step, close, take, Front, State, shown, same_front, allowed_at, answered, after_event, state_from, initial, EmittedAt, EmittedFrom, Emitted}
+use Rattle.stl_syntax.specs.Network.{
+  Event,
+  step,
+  close,
+  take,
+  Front,
+  State,
+  shown,
+  same_front,
+  allowed_at,
+  answered,
+  after_event,
+  state_from,
+  initial,
+  EmittedAt,
+  EmittedFrom,
+  Emitted,
+}
 use Rattle.stl_syntax.specs.declared.items.Verdict.{Verdict}
 use Rattle.stl_syntax.specs.declared.node.Node.{Node}
 use Rattle.online_nodes.proofs.RunLaw.{int_order}

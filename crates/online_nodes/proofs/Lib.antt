@@ -12,3 +12,10 @@ mod SinceLaw
 mod SettledLaw
 mod EdgesLemmas
 mod DroppingLemmas
+mod WorkLemmas
+mod SaidLemmas
+mod Sweeping
+mod SweepLemmas
+mod JoinLemmas
+mod NegationLemmas
+mod LooksLaw

@@ -2,7 +2,22 @@
 use Rattle.std.proofs.Common.{◌≡◌, ◌⊎◌, inl, inr, Bool, true, false, sym, ◌∙◌, refl}
 use Rattle.std.specs.Prelude.{MatchBool}
 use Rattle.rational.specs.Rational.{Rational, ◌≤ʳ◌, ◌<ʳ◌, ◌≈◌, middle}
-use Rattle.rational.proofs.Order.{lt_or_same_or_gt, le_or_lt, le_refl, le_trans, le_of_same, le_of_lt, lt_of_lt_of_le, lt_of_le_of_lt, lt_trans, not_lt_of_le, same_trans, same_sym, left_of_middle, right_of_middle}
+use Rattle.rational.proofs.Order.{
+  lt_or_same_or_gt,
+  le_or_lt,
+  le_refl,
+  le_trans,
+  le_of_same,
+  le_of_lt,
+  lt_of_lt_of_le,
+  lt_of_le_of_lt,
+  lt_trans,
+  not_lt_of_le,
+  same_trans,
+  same_sym,
+  left_of_middle,
+  right_of_middle,
+}
 use Rattle.online_nodes.specs.Cuts.{Place, After, Upto, Before, Same}
 
 -- each time lies on one side of a place

@@ -1,5 +1,29 @@
 -- Where no node can move, each number is the last row's time less the horizon.
-use Rattle.std.proofs.Common.{◌≡◌, refl, sym, ap, subst, ◌∙◌, ℕ, ◌<◌, ◌+◌, ◌-◌, max, Bool, true, false, Some, ℤ, pos, neg_ℤ, ◌+ℤ◌, ◌-ℤ◌, ◌<ℤ◌, ◌≤ℤ◌, arith}
+use Rattle.std.proofs.Common.{
+  ◌≡◌,
+  refl,
+  sym,
+  ap,
+  subst,
+  ◌∙◌,
+  ℕ,
+  ◌<◌,
+  ◌+◌,
+  ◌-◌,
+  max,
+  Bool,
+  true,
+  false,
+  Some,
+  ℤ,
+  pos,
+  neg_ℤ,
+  ◌+ℤ◌,
+  ◌-ℤ◌,
+  ◌<ℤ◌,
+  ◌≤ℤ◌,
+  arith,
+}
 use Rattle.std.specs.Prelude.{int_lt, cond}
 use Rattle.std.proofs.lemmas.Int.{ints}
 use Rattle.stl_syntax.specs.Formula.{Subformula, horizon, tree_of, HasChildrenBelow}

@@ -22,7 +22,17 @@ use Rattle.std.proofs.Common.{
 }
 use Rattle.std.specs.Prelude.{MatchBool}
 use Rattle.rational.specs.Rational.{Rational, ◌≤ʳ◌, ◌<ʳ◌, ◌≈◌, add, whole, part_above, part_below}
-use Rattle.rational.proofs.Order.{lt_or_same_or_gt, le_of_lt, le_of_same, ge_of_same, lt_of_lt_of_le, lt_of_le_of_lt, same_trans, same_sym, not_lt_of_le}
+use Rattle.rational.proofs.Order.{
+  lt_or_same_or_gt,
+  le_of_lt,
+  le_of_same,
+  ge_of_same,
+  lt_of_lt_of_le,
+  lt_of_le_of_lt,
+  same_trans,
+  same_sym,
+  not_lt_of_le,
+}
 use Rattle.rational.proofs.Shift.{lt_shift, same_shift, shift_back}
 use Rattle.rational.proofs.Mixed.{parts}
 use Rattle.online_nodes.specs.Cuts.{Place, moved_begin, moved_end}
@@ -34,16 +44,16 @@ shift_forth t k = record { same = omega (arith, ap (λ n. n * (t.den * t.den)) s
     step : part_above k + part_above (neg_ℤ k) ≡ part_below k + part_below (neg_ℤ k)
     step = omega (arith, parts)
 
-lt_back : (c t : Rational) (k : ℤ) → add c (whole k) <ʳ t → c <ʳ add t (whole (neg_ℤ k))
+pub lt_back : (c t : Rational) (k : ℤ) → add c (whole k) <ʳ t → c <ʳ add t (whole (neg_ℤ k))
 lt_back c t k h = lt_of_le_of_lt (ge_of_same (shift_back c k)) (lt_shift (neg_ℤ k) h)
 
-lt_forth : (c t : Rational) (k : ℤ) → c <ʳ add t (whole (neg_ℤ k)) → add c (whole k) <ʳ t
+pub lt_forth : (c t : Rational) (k : ℤ) → c <ʳ add t (whole (neg_ℤ k)) → add c (whole k) <ʳ t
 lt_forth c t k h = lt_of_lt_of_le (lt_shift k h) (le_of_same (shift_forth t k))
 
-gt_back : (c t : Rational) (k : ℤ) → t <ʳ add c (whole k) → add t (whole (neg_ℤ k)) <ʳ c
+pub gt_back : (c t : Rational) (k : ℤ) → t <ʳ add c (whole k) → add t (whole (neg_ℤ k)) <ʳ c
 gt_back c t k h = lt_of_lt_of_le (lt_shift (neg_ℤ k) h) (le_of_same (shift_back c k))
 
-gt_forth : (c t : Rational) (k : ℤ) → add t (whole (neg_ℤ k)) <ʳ c → t <ʳ add c (whole k)
+pub gt_forth : (c t : Rational) (k : ℤ) → add t (whole (neg_ℤ k)) <ʳ c → t <ʳ add c (whole k)
 gt_forth c t k h = lt_of_le_of_lt (ge_of_same (shift_forth t k)) (lt_shift k h)
 
 same_back : (c t : Rational) (k : ℤ) → add c (whole k) ≈ t → c ≈ add t (whole (neg_ℤ k))

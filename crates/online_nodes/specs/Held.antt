@@ -1,5 +1,26 @@
 -- What the edges of a network hold: of each edge what its reader has read and what it has not, and the number noted last.
-use Rattle.std.specs.Prelude.{◌≡◌, ℕ, ◌*◌, ◌-◌, ◌<◌, ◌^◌, ℤ, List, [], ◌∷◌, ◌++◌, length, drop, Option, Some, None, IfSome, slice_get, slice_index_or, slice_set}
+use Rattle.std.specs.Prelude.{
+  ◌≡◌,
+  ℕ,
+  ◌*◌,
+  ◌-◌,
+  ◌<◌,
+  ◌^◌,
+  ℤ,
+  List,
+  [],
+  ◌∷◌,
+  ◌++◌,
+  length,
+  drop,
+  Option,
+  Some,
+  None,
+  IfSome,
+  slice_get,
+  slice_index_or,
+  slice_set,
+}
 use Rattle.rational.specs.Rational.{◌≤ʳ◌, ◌<ʳ◌, whole}
 use Rattle.frac128.specs.Value.{value}
 use Rattle.stl_syntax.specs.declared.items.Verdict.{Verdict}

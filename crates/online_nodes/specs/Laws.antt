@@ -1,13 +1,13 @@
 -- Laws of runs and of what stands on edges.
-use Rattle.std.specs.Prelude.{◌≡◌, ◌≢◌, ℕ, ◌<◌, false, List, [], ◌∷◌, ◌++◌, length, Some, ℤ, pos, ◌+ℤ◌, ◌≤ℤ◌, if◌then◌else◌}
+use Rattle.std.specs.Prelude.{◌≡◌, ◌≢◌, ℕ, ◌<◌, false, List, [], ◌∷◌, ◌++◌, length, Some, ℤ, pos, ◌+ℤ◌, ◌-ℤ◌, ◌≤ℤ◌, if◌then◌else◌}
 use Rattle.rational.specs.Time.{Rational, ◌≤ʳ◌, left_open, less}
 use Rattle.frac128.specs.Value.{value}
 use Rattle.frac128.specs.Spans.{interval}
 use Rattle.stl_syntax.specs.Trace.{Header, Trace, IsTrace, Continues}
-use Rattle.stl_syntax.specs.Formula.{Subformula, subformula, horizon}
+use Rattle.stl_syntax.specs.Formula.{Subformula, subformula, horizon, tree_of, HasChildrenBelow}
 use Rattle.stl_syntax.specs.PostOrder.{IsPostOrder}
 use Rattle.stl_syntax.specs.Verdicts.{IsTold}
-use Rattle.stl_syntax.specs.Network.{Event, step, take, close, State, last_row, state, IsRun, Emitted}
+use Rattle.stl_syntax.specs.Network.{Event, step, take, close, State, last_row, open_number, state, IsRun, Emitted}
 use Rattle.stl_syntax.specs.Held.{AreMeeting}
 use Rattle.stl_syntax.specs.declared.items.Verdict.{Verdict}
 use Rattle.stl_syntax.specs.declared.node.Node.{Node}
@@ -71,3 +71,10 @@ abbrev pub MeetingIsWhatIsLeft : Type 0
 MeetingIsWhatIsLeft =
     (lo f : Rational) (c : Place) (verdicts : List Verdict) (d : Place) → AreTiles c verdicts d
     → ((t : Rational) → Upto d t → t ≤ʳ f) → AreMeeting (left_open lo f) verdicts (beyond lo verdicts)
+
+-- before the end, a node whose children stand at the last row's time less their horizons may have the last row's time less its own
+abbrev pub OpenNumbersSettle : Type 0
+OpenNumbersSettle =
+    (at : ℕ → Subformula) (s : State) (last : ℤ) (i : ℕ) (n : Node) → last_row s ≡ Some last → HasChildrenBelow i n
+    → ((j : ℕ) → j < i → s.fronts j ≡ Some (last -ℤ pos (horizon (at j))))
+    → open_number n s ≡ Some (last -ℤ pos (horizon (tree_of at i n)))

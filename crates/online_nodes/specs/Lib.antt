@@ -3,3 +3,8 @@ pub mod Reading
 pub mod Held
 pub mod Written
 pub mod Laws
+pub mod Working
+pub mod Sweeps
+pub mod Joins
+pub mod Negations
+pub mod Looking

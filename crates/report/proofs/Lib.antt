@@ -8,3 +8,4 @@ pub mod SignalLaw
 pub mod Spellings
 pub mod Lines
 pub mod Advances
+mod Turns

@@ -6,4 +6,5 @@ pub mod Appended
 pub mod Numbers
 pub mod SignalVerdicts
 pub mod Spelling
+pub mod VerdictLines
 pub mod Laws

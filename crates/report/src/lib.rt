@@ -2,6 +2,7 @@
 #![tactic(auto)]
 
 pub mod laws;
+mod following;
 mod number;
 mod signal;
 mod spelling;

@@ -50,4 +50,11 @@ impl Text {
             Err(_) => Err(Memory),
         }
     }
+
+    /// Takes all bytes away. Their memory stays for what is appended next.
+    pub fn clear(&mut self)
+        ensures { self.new ≡ [] }
+    {
+        self.bytes.clear();
+    }
 }

@@ -1,6 +1,14 @@
 use Rattle.std.proofs.Common.{sym, ap, ◌∙◌, arith, slice_get}
 use Rattle.online_nodes.specs.Held.{edges_of, held_of}
-use Rattle.online_nodes.proofs.EdgesLemmas.{numbered, edge_at-edges_of, take_seen_changes, take_fresh_changes, first_of_both, first_of_first, empty_of_none}
+use Rattle.online_nodes.proofs.EdgesLemmas.{
+  numbered,
+  edge_at-edges_of,
+  take_seen_changes,
+  take_fresh_changes,
+  first_of_both,
+  first_of_first,
+  empty_of_none,
+}
 use Rattle.online_nodes.proofs.edges.Edges.take.Goals as goal
 
 pub overflow_mul-edge : goal.overflow_mul-edge
