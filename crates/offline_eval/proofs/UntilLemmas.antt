@@ -223,19 +223,17 @@ module _ {P : Type 0} (shape : ShapeOf P) where
         by_test false e = near_zero (shape.base p) (laws.base_of_others p e)
 
     -- until to the end of fit signals is fit
-    pub to_end_fit : (x y r : List (Knot P)) → IsBounded (2 ^ 31) shape.lowest → IsBounded (2 ^ 31) shape.highest → AreFit shape x y → Tells shape (UntilOf shape x y) (start x) (stop x) r
-        → BasesOfTwo shape x y r → IsFit shape r
-    to_end_fit x y r low high fit made bases = record {
-      limited = limited_along shape (UntilOf shape x y) x r fit.left.limited made (to_end_bounded x y low high fit.left.limited fit.right.limited);
+    pub to_end_fit : (x y r : List (Knot P)) → AreFit shape x y → Tells shape (UntilOf shape x y) (start x) (stop x) r → BasesOfTwo shape x y r → IsFit shape r
+    to_end_fit x y r fit made bases = record {
+      limited = limited_along shape (UntilOf shape x y) x r fit.left.limited made (to_end_bounded x y laws.lowest_bounded laws.highest_bounded fit.left.limited fit.right.limited);
       first = le_trans fit.left.first (ge_of_same made.begins);
       last = le_trans (le_of_same made.ends) fit.left.last;
       near = near_of_two x y r fit.left fit.right bases;
     }
 
-    pub from_start_fit : (x y r : List (Knot P)) → IsBounded (2 ^ 31) shape.lowest → IsBounded (2 ^ 31) shape.highest → AreFit shape x y → Tells shape (SinceOf shape x y) (start x) (stop x) r
-        → BasesOfTwo shape x y r → IsFit shape r
-    from_start_fit x y r low high fit made bases = record {
-      limited = limited_along shape (SinceOf shape x y) x r fit.left.limited made (from_start_bounded x y low high fit.left.limited fit.right.limited);
+    pub from_start_fit : (x y r : List (Knot P)) → AreFit shape x y → Tells shape (SinceOf shape x y) (start x) (stop x) r → BasesOfTwo shape x y r → IsFit shape r
+    from_start_fit x y r fit made bases = record {
+      limited = limited_along shape (SinceOf shape x y) x r fit.left.limited made (from_start_bounded x y laws.lowest_bounded laws.highest_bounded fit.left.limited fit.right.limited);
       first = le_trans fit.left.first (ge_of_same made.begins);
       last = le_trans (le_of_same made.ends) fit.left.last;
       near = near_of_two x y r fit.left fit.right bases;

@@ -19,3 +19,4 @@ pub mod Ways
 pub mod AffineMeetings
 pub mod LimitLemmas
 pub mod Bounds
+pub mod Sames

@@ -37,14 +37,25 @@ lt_negated {a} {b} h = lt_negate h
 module _ (P P' : Function) (back : RunsBack P P') (f g : Affine) (turned : IsBack f g) where
   pub line_back : (a b : Rational) → IsLineOn P' a b f → IsLineOn P (negate b) (negate a) g
   line_back a b on = λ t h k.
-      let x = on (negate t) (lt_negated k) (negated_lt h) in
-      (x.0, back.out (negate t) x.0 x.1, same_transᵉ x.0 (value_at f (negate t)) (value_at g t) x.2 (same_symᵉ (value_at g t) (value_at f (negate t)) (turned t)))
+      let x = on (negate t) (lt_negated k) (negated_lt h) in (
+        x.0,
+        back.out (negate t) x.0 x.1,
+        same_transᵉ x.0 (value_at f (negate t)) (value_at g t) x.2
+            (same_symᵉ (value_at g t) (value_at f (negate t)) (turned t)),
+      )
 
   pub part_back : (tau : Rational) → IsPart P' tau f → IsPart P (negate tau) g
-  part_back tau part = record { a = negate part.b; b = negate part.a; above = lt_negate part.below; below = lt_negate part.above; on = line_back part.a part.b part.on }
+  part_back tau part = record {
+    a = negate part.b;
+    b = negate part.a;
+    above = lt_negate part.below;
+    below = lt_negate part.above;
+    on = line_back part.a part.b part.on;
+  }
 
 -- a breakpoint
-pub breakpoint_back : (P P' : Function) → RunsBack P P' → (from to from' to' u : Rational) → from ≈ negate to' → to ≈ negate from' → IsBreakpoint P' from' to' u → IsBreakpoint P from to (negate u)
+pub breakpoint_back : (P P' : Function) → RunsBack P P' → (from to from' to' u : Rational) → from ≈ negate to' → to ≈ negate from'
+    → IsBreakpoint P' from' to' u → IsBreakpoint P from to (negate u)
 breakpoint_back P P' back from to from' to' u e f (start s) = stop (same_trans (same_negate s) (same_sym f))
 breakpoint_back P P' back from to from' to' u e f (stop s) = start (same_trans (same_negate s) (same_sym e))
 breakpoint_back P P' back from to from' to' u e f (inner w n) =
@@ -54,7 +65,8 @@ breakpoint_back P P' back from to from' to' u e f (inner w n) =
 -- a crossing
 pub crossing_back : (f g f' g' : Affine) (t : Rational) → IsBack f' f → IsBack g' g → IsCrossing f' g' t → IsCrossing f g (negate t)
 crossing_back f g f' g' t h k c = record {
-  meet = same_transᵉ (value_at f (negate t)) (value_at f' t) (value_at g (negate t)) (h (negate t)) (same_transᵉ (value_at f' t) (value_at g' t) (value_at g (negate t)) c.meet (same_symᵉ (value_at g (negate t)) (value_at g' t) (k (negate t))));
+  meet = same_transᵉ (value_at f (negate t)) (value_at f' t) (value_at g (negate t)) (h (negate t))
+      (same_transᵉ (value_at f' t) (value_at g' t) (value_at g (negate t)) c.meet (same_symᵉ (value_at g (negate t)) (value_at g' t) (k (negate t))));
   elsewhere = negate c.elsewhere;
   apart = λ s. c.apart (same_transᵉ (value_at f' c.elsewhere) (value_at f (negate c.elsewhere)) (value_at g' c.elsewhere)
       (same_symᵉ (value_at f (negate c.elsewhere)) (value_at f' c.elsewhere) (h (negate c.elsewhere)))
@@ -76,7 +88,8 @@ value_back : (P P' : Function) → RunsBack P P' → (u : Rational) (v : Extende
 value_back P P' back u v (inl h) = inl (back.out u v h)
 value_back P P' back u v (inr l) = inr (limit_back P P' back u v l)
 
-module _ (P P' Q Q' R R' : Function) (p_back : RunsBack P P') (q_back : RunsBack Q Q') (r_back : RunsBack R R') (from to from' to' : Rational) (first : from ≈ negate to') (last : to ≈ negate from') where
+module _ (P P' Q Q' R R' : Function) (p_back : RunsBack P P') (q_back : RunsBack Q Q') (r_back : RunsBack R R') (from to from' to' : Rational)
+    (first : from ≈ negate to') (last : to ≈ negate from') where
   within_turned : (u : Rational) → Within from' to' u → Within from to (negate u)
   within_turned u w = record { above = le_trans (le_of_same first) (le_negate w.below); below = le_trans (le_negate w.above) (ge_of_same last) }
 
@@ -91,7 +104,8 @@ module _ (P P' Q Q' R R' : Function) (p_back : RunsBack P P') (q_back : RunsBack
         right = g.0;
         left_on = line_back P P' p_back h.left f.0 f.1 u tau h.left_on;
         right_on = line_back Q Q' q_back h.right g.0 g.1 u tau h.right_on;
-        none_before = λ t a b c. h.none_before (negate t) (lt_negated b) (negated_lt a) (crossing_back h.left h.right f.0 g.0 t (back_other h.left f.0 f.1) (back_other h.right g.0 g.1) c);
+        none_before = λ t a b c. h.none_before (negate t) (lt_negated b) (negated_lt a)
+            (crossing_back h.left h.right f.0 g.0 t (back_other h.left f.0 f.1) (back_other h.right g.0 g.1) c);
         here = elim h.here [
           | inl x ↦ inl (breakpoint_back P P' p_back from to from' to' u first last x)
           | inr x ↦ elim x [
@@ -102,7 +116,8 @@ module _ (P P' Q Q' R R' : Function) (p_back : RunsBack P P') (q_back : RunsBack
       }
 
   -- in play
-  pub play_back : (tau : Rational) (f g : Affine) → IsBack f g → IsInPlay (since_start P' Q' R') from' to' tau f → IsInPlay (until_end P Q R) from to (negate tau) g
+  pub play_back : (tau : Rational) (f g : Affine) → IsBack f g → IsInPlay (since_start P' Q' R') from' to' tau f
+      → IsInPlay (until_end P Q R) from to (negate tau) g
   play_back tau f g turned (inl part) = inl (part_back P P' p_back f g turned tau part)
   play_back tau f g turned (inr (inl part)) = inr (inl (part_back Q Q' q_back f g turned tau part))
   play_back tau f g turned (inr (inr (u, previous, v, is, by))) =
@@ -133,8 +148,12 @@ module _ (P P' Q Q' R R' : Function) (p_back : RunsBack P P') (q_back : RunsBack
     below = lt_of_lt_of_le (lt_negate w.above) (ge_of_same e');
     first = play_back w.tau f' f h w.first;
     second = play_back w.tau g' g k w.second;
-    meet = same_transᵉ (value_at f (negate w.tau)) (value_at f' w.tau) (value_at g (negate w.tau)) (h (negate w.tau)) (same_transᵉ (value_at f' w.tau) (value_at g' w.tau) (value_at g (negate w.tau)) w.meet (same_symᵉ (value_at g (negate w.tau)) (value_at g' w.tau) (k (negate w.tau))));
-    alone = λ t s. same_negate (w.alone (negate t) (same_transᵉ (value_at f' (negate t)) (value_at f t) (value_at g' (negate t)) (same_symᵉ (value_at f t) (value_at f' (negate t)) (h t)) (same_transᵉ (value_at f t) (value_at g t) (value_at g' (negate t)) s (k t))));
+    meet = same_transᵉ (value_at f (negate w.tau)) (value_at f' w.tau) (value_at g (negate w.tau)) (h (negate w.tau))
+        (same_transᵉ (value_at f' w.tau) (value_at g' w.tau) (value_at g (negate w.tau)) w.meet
+        (same_symᵉ (value_at g (negate w.tau)) (value_at g' w.tau) (k (negate w.tau))));
+    alone = λ t s. same_negate
+        (w.alone (negate t) (same_transᵉ (value_at f' (negate t)) (value_at f t) (value_at g' (negate t))
+        (same_symᵉ (value_at f t) (value_at f' (negate t)) (h t)) (same_transᵉ (value_at f t) (value_at g t) (value_at g' (negate t)) s (k t))));
     denominator = denominator_back w.tau den w.denominator;
     wide = w.wide;
   }
@@ -155,7 +174,8 @@ module _ (P P' Q Q' R R' : Function) (p_back : RunsBack P P') (q_back : RunsBack
       denominator_back : (t : Rational) (den : ℕ) → HasDenominator t den → HasDenominator (negate t) den
       denominator_back t den (num, lowest, same) = (neg_ℤ num, lowest_back num den lowest, same_trans (same_negate same) (ratio_back num den lowest.positive))
 
-  pub value_cause : (f f' : Affine) (u u' : Rational) (den : ℕ) → IsBack f' f → u ≈ negate u' → IsWideValue Before from' to' f' u' den → IsWideValue After from to f u den
+  pub value_cause : (f f' : Affine) (u u' : Rational) (den : ℕ) → IsBack f' f → u ≈ negate u' → IsWideValue Before from' to' f' u' den
+      → IsWideValue After from to f u den
   value_cause f f' u u' den h e w =
       let g = turned_affine w.line in
       record {
@@ -164,39 +184,48 @@ module _ (P P' Q Q' R R' : Function) (p_back : RunsBack P P') (q_back : RunsBack
         before_stop = lt_of_lt_of_le (lt_negate w.after_start) (ge_of_same last);
         value = w.value;
         is_value = same_transᵉ (finite w.value) (value_at f' u') (value_at f u) w.is_value
-            (same_symᵉ (value_at f u) (value_at f' u') (same_transᵉ (value_at f u) (value_at f' (negate u)) (value_at f' u') (h u) (value_same f' (same_negate e))));
+            (same_symᵉ (value_at f u) (value_at f' u')
+            (same_transᵉ (value_at f u) (value_at f' (negate u)) (value_at f' u') (h u) (value_same f' (same_negate e))));
         line = g.0;
-        constant = λ t. same_transᵉ (finite w.value) (value_at w.line (negate t)) (value_at g.0 t) (w.constant (negate t)) (same_symᵉ (value_at g.0 t) (value_at w.line (negate t)) (g.1 t));
+        constant = λ t. same_transᵉ (finite w.value) (value_at w.line (negate t)) (value_at g.0 t) (w.constant (negate t))
+            (same_symᵉ (value_at g.0 t) (value_at w.line (negate t)) (g.1 t));
         in_play = play_back w.tau w.line g.0 g.1 w.in_play;
         denominator = w.denominator;
         wide = w.wide;
       }
 
-  pub pair_back : {A : Type 0} (shape : ShapeOf A) (old new : WidePair A) → IsTurnedPair shape old new → IsWideCause shape (since_start P' Q' R') from' to' old → IsWideCause shape (until_end P Q R) from to new
+  pub pair_back : {A : Type 0} (shape : ShapeOf A) (old new : WidePair A) → IsTurnedPair shape old new
+      → IsWideCause shape (since_start P' Q' R') from' to' old → IsWideCause shape (until_end P Q R) from to new
   pair_back shape (Cross p q a b den) (Cross p' q' a' b' den') (f, g, e, e', same) h =
       subst (λ d. IsWideCrossing After from to (shape.function p') (shape.function q') (value a') (value b') d) (sym same)
       (crossing_cause (shape.function p') (shape.function q') (shape.function p) (shape.function q) (value a') (value b') (value a) (value b) den f g e e' h)
   pair_back shape (Cross p q a b den) (Value p' at' den') t h = absurd t
   pair_back shape (Value p at den) (Cross p' q' a' b' den') t h = absurd t
   pair_back shape (Value p at den) (Value p' at' den') (f, e, same) h =
-      subst (λ d. IsWideValue After from to (shape.function p') (value at') d) (sym same) (value_cause (shape.function p') (shape.function p) (value at') (value at) den f e h)
+      subst (λ d. IsWideValue After from to (shape.function p') (value at') d) (sym same)
+      (value_cause (shape.function p') (shape.function p) (value at') (value at) den f e h)
 
   -- a cause
-  pub cause_back : {A : Type 0} (shape : ShapeOf A) (old new : OpFault A) → IsTurnedFault shape old new → HasCause shape (since_start P' Q' R') from' to' old → HasCause shape (until_end P Q R) from to new
+  pub cause_back : {A : Type 0} (shape : ShapeOf A) (old new : OpFault A) → IsTurnedFault shape old new
+      → HasCause shape (since_start P' Q' R') from' to' old → HasCause shape (until_end P Q R) from to new
   cause_back shape F.Memory F.Memory t h = tt
   cause_back shape F.Memory (F.Wide pair) t h = absurd t
   cause_back shape (F.Wide pair) F.Memory t h = tt
   cause_back shape (F.Wide old) (F.Wide new) t h = pair_back shape old new t h
 
 -- and the times of a pair
-pub pair_turned : {A : Type 0} (shape : ShapeOf A) (old new : OpFault A) (from to from' to' : Rational) → from ≈ negate to' → to ≈ negate from' → IsTurnedFault shape old new → IsPairWithin from' to' old → IsPairWithin from to new
+pub pair_turned : {A : Type 0} (shape : ShapeOf A) (old new : OpFault A) (from to from' to' : Rational) → from ≈ negate to' → to ≈ negate from'
+    → IsTurnedFault shape old new → IsPairWithin from' to' old → IsPairWithin from to new
 pair_turned shape F.Memory F.Memory from to from' to' e f t h = tt
 pair_turned shape F.Memory (F.Wide pair) from to from' to' e f t h = absurd t
 pair_turned shape (F.Wide pair) F.Memory from to from' to' e f t h = tt
 pair_turned shape (F.Wide old) (F.Wide new) from to from' to' e f t h = by_pair old new t h
   where
     time_back : (u u' : Rational) → u ≈ negate u' → Within from' to' u' → Within from to u
-    time_back u u' s w = record { above = le_trans (le_of_same e) (le_trans (le_negate w.below) (ge_of_same s)); below = le_trans (le_of_same s) (le_trans (le_negate w.above) (ge_of_same f)) }
+    time_back u u' s w = record {
+      above = le_trans (le_of_same e) (le_trans (le_negate w.below) (ge_of_same s));
+      below = le_trans (le_of_same s) (le_trans (le_negate w.above) (ge_of_same f));
+    }
 
     by_pair : (old new : WidePair _) → IsTurnedPair shape old new → PairWithin from' to' old → PairWithin from to new
     by_pair (Cross p q a b den) (Cross p' q' a' b' den') (x, y, s, s', same) h = (time_back (value a') (value b) s h.1, time_back (value b') (value a) s' h.0)

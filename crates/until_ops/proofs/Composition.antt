@@ -33,7 +33,8 @@ sup_at_most {S} lowest z p h k all = by_order (le_totalᵉ z p)
     by_order (inr l) = let f = h.reached p k l in clashᵉ p f.0 f.2 (all f.0 f.1)
 
 -- what both laws share: `Stretch s u` are the times from s to u, read ahead or back, and `Near` those from t to m, where the window begins
-module _ (lowest highest : Extended) (P Q : Function) (Stretch : Rational → Rational → Window) (W Near : Window) (Beyond : Rational → Window) (t m : Rational) where
+module _ (lowest highest : Extended) (P Q : Function) (Stretch : Rational → Rational → Window) (W Near : Window) (Beyond : Rational → Window)
+    (t m : Rational) where
   -- v is the least of Q at u and the Inf of P on the way from s
   abbrev Reaches : Rational → Rational → Extended → Type 0
   Reaches s u v = (x y : Extended) × Q u x × IsInfOver highest (Stretch s u) P y × IsLeast x y v
@@ -145,7 +146,8 @@ module _ (lowest highest : Extended) (P Q : Function) (Stretch : Rational → Ra
         member : (u : Rational) (x : Extended) → W u → Q u x → w <ᵉ x → (e : Extended) × IsInfOver highest (Stretch t u) P e × (w <ᵉ e) → Member
         member u x o q k e = let n = least_of x e.0 in (n.0, (u, o, (x, e.0, q, e.1, n.1)), below_least x e.0 n.0 w n.1 k e.2)
 
-        at_first : (f : (x : Extended) × ((u : Rational) × W u × Q u x) × (w <ᵉ x)) (g : (v : Extended) × ((u : Rational) × Beyond m u × Reaches m u v) × (w <ᵉ v)) → w <ᵉ g.1.2.1 → w <ᵉ d
+        at_first : (f : (x : Extended) × ((u : Rational) × W u × Q u x) × (w <ᵉ x))
+            (g : (v : Extended) × ((u : Rational) × Beyond m u × Reaches m u v) × (w <ᵉ v)) → w <ᵉ g.1.2.1 → w <ᵉ d
             → W g.1.0 ⊎ ((v : Rational) → Stretch m f.1.0 v → Stretch m g.1.0 v) → Member
         at_first f g near below (inl o) = member g.1.0 g.1.2.0 o g.1.2.2 (lt_of_lt_of_leᵉ w g.0 g.1.2.0 g.2 g.1.2.4.left)
             (inf_above g.1.0 w g.1.2.1 o below near (λ v p s h. g.1.2.3.bound p (v, s, h)))
@@ -156,7 +158,8 @@ module _ (lowest highest : Extended) (P Q : Function) (Stretch : Rational → Ra
     composed = record { at_least = at_least; bound = bound; reached = reached }
 
 -- over no times the least of the Sup and a value that is not below the lowest is the Sup of whatever else is asked for there
-sup_of_empty : {S T : Extended → Type 0} (lowest c d r : Extended) → IsSup lowest S c → ((v : Extended) → ¬ S v) → ((v : Extended) → ¬ T v) → lowest ≤ᵉ d → IsLeast c d r → IsSup lowest T r
+sup_of_empty : {S T : Extended → Type 0} (lowest c d r : Extended) → IsSup lowest S c → ((v : Extended) → ¬ S v) → ((v : Extended) → ¬ T v)
+    → lowest ≤ᵉ d → IsLeast c d r → IsSup lowest T r
 sup_of_empty {S} {T} lowest c d r sup none nothing above least = record {
   at_least = by_one least.one_of;
   bound = λ v m. absurd (nothing v m);
@@ -216,7 +219,11 @@ until_is_composed lowest highest P Q from to t a b o inside order low infs value
     lies : later t a ≤ʳ to → Lies lowest highest P Q Within W Near (λ s u. Within s to u) t (later t a)
     lies h = record {
       at_start = record { inside = inside; begins = later_zero t; ends = later_from t a };
-      at_begin = record { inside = record { above = le_trans inside.above (later_from t a); below = h }; begins = later_more t 0 a (omega arith); ends = le_refl (later t a) };
+      at_begin = record {
+        inside = record { above = le_trans inside.above (later_from t a); below = h };
+        begins = later_more t 0 a (omega arith);
+        ends = le_refl (later t a);
+      };
       beyond = λ s u n w. record { above = le_trans n.ends w.begins; below = w.inside.below };
       sub = λ s u v n w k. record { above = le_trans (in_time s n) k.above; below = k.below };
       first = λ s u n k. record { above = le_refl s; below = k.above };
@@ -225,12 +232,18 @@ until_is_composed lowest highest P Q from to t a b o inside order low infs value
     }
       where
         by_part : {u : Rational} (v : Rational) → W u → Within t u v → (v ≤ʳ later t a) ⊎ (later t a <ʳ v) → Near v ⊎ Within (later t a) u v
-        by_part v w k (inl l) = inl (record { inside = record { above = le_trans inside.above k.above; below = le_trans k.below w.inside.below }; begins = le_trans (later_zero t) k.above; ends = l })
+        by_part v w k (inl l) = inl
+            (record {
+              inside = record { above = le_trans inside.above k.above; below = le_trans k.below w.inside.below };
+              begins = le_trans (later_zero t) k.above;
+              ends = l;
+            })
         by_part v w k (inr l) = inr (record { above = le_of_lt l; below = k.below })
 
         by_end : (u w : Rational) → W u → Within (later t a) to w → (w ≤ʳ later t b) ⊎ (later t b <ʳ w)
             → W w ⊎ ((v : Rational) → Within (later t a) u v → Within (later t a) w v)
-        by_end u w k l (inl m) = inl (record { inside = record { above = le_trans inside.above (le_trans (later_from t a) l.above); below = l.below }; begins = l.above; ends = m })
+        by_end u w k l (inl m) =
+            inl (record { inside = record { above = le_trans inside.above (le_trans (later_from t a) l.above); below = l.below }; begins = l.above; ends = m })
         by_end u w k l (inr m) = inr (λ v n. record { above = n.above; below = le_trans n.below (le_trans k.ends (le_of_lt m)) })
 
     has : Has lowest highest P Q Within W Near (λ s u. Within s to u) t (later t a)
@@ -243,7 +256,8 @@ until_is_composed lowest highest P Q from to t a b o inside order low infs value
 
     by_place : (later t a ≤ʳ to) ⊎ (to <ʳ later t a) → IsUntil lowest highest W P Q t r
     by_place (inl h) = composed lowest highest P Q Within W Near (λ s u. Within s to u) t (later t a) (lies h) has c d r sup inf least
-    by_place (inr h) = sup_of_empty lowest c d r sup (λ v f. empty f.0 f.1) (λ v f. empty f.0 f.1) (at_most_inf highest d lowest inf order (λ v f. f.2.at_least)) least
+    by_place (inr h) = sup_of_empty lowest c d r sup (λ v f. empty f.0 f.1) (λ v f. empty f.0 f.1)
+        (at_most_inf highest d lowest inf order (λ v f. f.2.at_least)) least
       where
         empty : (u : Rational) → ¬ W u
         empty u w = not_lt_of_le (le_trans w.begins w.inside.below) h
@@ -253,7 +267,8 @@ begins_later t u w None h k = tt
 begins_later t u w (Some b) h k = le_trans k (later_le b h)
 
 -- a bounded since is composed of its parts
-pub since_is_composed : (lowest highest : Extended) (P Q : Function) (from to t : Rational) (a : ℕ) (b : Option ℕ) → IfSome b (λ b. a ≤ b) → Within from to t → lowest ≤ᵉ highest
+pub since_is_composed : (lowest highest : Extended) (P Q : Function) (from to t : Rational) (a : ℕ) (b : Option ℕ) → IfSome b (λ b. a ≤ b)
+    → Within from to t → lowest ≤ᵉ highest
     → ((s : Rational) (p : Extended) → Within from to s → P s p → lowest ≤ᵉ p)
     → ((s u : Rational) → from ≤ʳ s → s ≤ʳ u → u ≤ʳ to → (y : Extended) × IsInfOver highest (Within s u) P y)
     → ((s : Rational) → Within from to s → (z : Extended) × SinceFromStart lowest highest from P Q s z)
@@ -287,7 +302,11 @@ since_is_composed lowest highest P Q from to t a b o inside order low infs value
     lies : from ≤ʳ m → Lies lowest highest P Q Back W Near Beyond t m
     lies h = record {
       at_start = record { inside = inside; begins = later_from t a; ends = later_zero t };
-      at_begin = record { inside = record { above = h; below = le_trans (earlier_before t a) inside.below }; begins = earlier_later t a; ends = le_trans (later_zero m) (earlier_before t a) };
+      at_begin = record {
+        inside = record { above = h; below = le_trans (earlier_before t a) inside.below };
+        begins = earlier_later t a;
+        ends = le_trans (later_zero m) (earlier_before t a);
+      };
       beyond = λ s u n w. record { above = w.inside.above; below = le_trans (at_begin u w) (earlier_of_later s t a n.begins) };
       sub = λ s u v n w k. record { above = k.above; below = le_trans k.below (in_time s n) };
       first = λ s u n k. record { above = k.below; below = le_refl s };
@@ -304,7 +323,12 @@ since_is_composed lowest highest P Q from to t a b o inside order low infs value
         by_start u w k l (inr n) = inr (λ v f. record { above = le_trans (le_of_lt n) f.above; below = f.below })
 
         by_part : {u : Rational} (v : Rational) → W u → Within u t v → (m ≤ʳ v) ⊎ (v <ʳ m) → Near v ⊎ Within u m v
-        by_part v w k (inl l) = inl (record { inside = record { above = le_trans w.inside.above k.above; below = le_trans k.below inside.below }; begins = le_trans (earlier_later t a) (later_le a l); ends = le_trans (later_zero v) k.below })
+        by_part v w k (inl l) = inl
+            (record {
+              inside = record { above = le_trans w.inside.above k.above; below = le_trans k.below inside.below };
+              begins = le_trans (earlier_later t a) (later_le a l);
+              ends = le_trans (later_zero v) k.below;
+            })
         by_part v w k (inr l) = inr (record { above = k.above; below = le_of_lt l })
 
     has : Has lowest highest P Q Back W Near Beyond t m
@@ -317,7 +341,8 @@ since_is_composed lowest highest P Q from to t a b o inside order low infs value
 
     by_place : (from ≤ʳ m) ⊎ (m <ʳ from) → IsSince lowest highest W P Q t r
     by_place (inl h) = composed lowest highest P Q Back W Near Beyond t m (lies h) has c d r sup inf least
-    by_place (inr h) = sup_of_empty lowest c d r sup (λ v f. empty f.0 f.1) (λ v f. empty f.0 f.1) (at_most_inf highest d lowest inf order (λ v f. f.2.at_least)) least
+    by_place (inr h) = sup_of_empty lowest c d r sup (λ v f. empty f.0 f.1) (λ v f. empty f.0 f.1)
+        (at_most_inf highest d lowest inf order (λ v f. f.2.at_least)) least
       where
         empty : (u : Rational) → ¬ W u
         empty u w = not_lt_of_le (le_trans w.inside.above (at_begin u w)) h

@@ -53,7 +53,8 @@ strictly always_high g l t r h k a b = a
 pub not_crossed : (f g : Affine) (l t r : Rational) → InOrder f g l r → l <ʳ t → t <ʳ r → ¬ IsCrossing f g t
 not_crossed f g l t r ordered h k c = elim ordered [
   | inl o ↦ one_way f g l t r o h k c.meet (λ s. c.apart (s c.elsewhere))
-  | inr o ↦ one_way g f l t r o h k (same_symᵉ (value_at f t) (value_at g t) c.meet) (λ s. c.apart (same_symᵉ (value_at g c.elsewhere) (value_at f c.elsewhere) (s c.elsewhere)))
+  | inr o ↦ one_way g f l t r o h k (same_symᵉ (value_at f t) (value_at g t) c.meet)
+      (λ s. c.apart (same_symᵉ (value_at g c.elsewhere) (value_at f c.elsewhere) (s c.elsewhere)))
 ]
   where
     one_way : (f g : Affine) (l t r : Rational) → IsBelow f g l r → l <ʳ t → t <ʳ r → value_at f t ≈ᵉ value_at g t → ¬ (AreSame f g) → ⊥

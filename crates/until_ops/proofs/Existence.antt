@@ -18,16 +18,18 @@ use Rattle.until_ops.proofs.Forward.{after}
 use Rattle.until_ops.proofs.Gaps.{IsOn}
 use Rattle.until_ops.proofs.Points.{HasOneValue, at_start, at_point}
 use Rattle.until_ops.proofs.OnwardLemmas.{goes_onward, since_of, of_since}
-use Rattle.until_ops.proofs.SinceLemmas.{since_is_function}
+use Rattle.until_ops.proofs.PlayLemmas.{since_is_function}
 use Rattle.until_ops.proofs.MirrorLemmas.{RunsBack, turned_affine, until_is_function, until_runs_back}
 use Rattle.until_ops.proofs.BackLemmas.{line_back}
 
 -- two functions are in one order at both ends of a gap, or meet in it
 order_or_meeting : (f h : Affine) (l r : Rational) → l <ʳ r → InOrder f h l r ⊎ ((t : Rational) × MeetAlone f h l r t)
-order_or_meeting f h l r o = by_ends (le_totalᵉ (value_at f l) (value_at h l)) (le_totalᵉ (value_at h l) (value_at f l)) (le_totalᵉ (value_at f r) (value_at h r)) (le_totalᵉ (value_at h r) (value_at f r))
+order_or_meeting f h l r o = by_ends (le_totalᵉ (value_at f l) (value_at h l)) (le_totalᵉ (value_at h l) (value_at f l))
+    (le_totalᵉ (value_at f r) (value_at h r)) (le_totalᵉ (value_at h r) (value_at f r))
   where
     by_ends : (value_at f l ≤ᵉ value_at h l) ⊎ (value_at h l <ᵉ value_at f l) → (value_at h l ≤ᵉ value_at f l) ⊎ (value_at f l <ᵉ value_at h l)
-        → (value_at f r ≤ᵉ value_at h r) ⊎ (value_at h r <ᵉ value_at f r) → (value_at h r ≤ᵉ value_at f r) ⊎ (value_at f r <ᵉ value_at h r) → InOrder f h l r ⊎ ((t : Rational) × MeetAlone f h l r t)
+        → (value_at f r ≤ᵉ value_at h r) ⊎ (value_at h r <ᵉ value_at f r) → (value_at h r ≤ᵉ value_at f r) ⊎ (value_at f r <ᵉ value_at h r)
+        → InOrder f h l r ⊎ ((t : Rational) × MeetAlone f h l r t)
     by_ends (inl a) b (inl c) d = inl (inl (record { left = a; right = c }))
     by_ends (inl a) (inl b) (inr c) d = inl (inr (record { left = b; right = le_of_ltᵉ (value_at h r) (value_at f r) c }))
     by_ends (inl a) (inr b) (inr c) d = inr (meets f h l r o (inl (b, c)))
@@ -55,7 +57,8 @@ pub record IsPlain (lowest highest : Extended) (P Q : Function) (l r : Rational)
   pub right_low : (t : Rational) → lowest ≤ᵉ value_at h t
   pub left_high : (t : Rational) → value_at f t ≤ᵉ highest
 
-later_part : (lowest highest : Extended) (P Q : Function) (l m r : Rational) (f h : Affine) → l <ʳ m → IsPlain lowest highest P Q l r f h → IsPlain lowest highest P Q m r f h
+later_part : (lowest highest : Extended) (P Q : Function) (l m r : Rational) (f h : Affine) → l <ʳ m → IsPlain lowest highest P Q l r f h
+    → IsPlain lowest highest P Q m r f h
 later_part lowest highest P Q l m r f h o plain = record {
   left_on = λ t a b. plain.left_on t (lt_trans o a) b;
   right_on = λ t a b. plain.right_on t (lt_trans o a) b;
@@ -116,29 +119,37 @@ module _ (lowest highest : Extended) (P Q : Function) (from to : Rational) (fit 
       let q = fit.q_at t w in
       let most = greatest_of q.0 limit.0 in
       let v = least_of p.0 most.0 in
-      let since = goes_onward lowest highest P Q fit.infs false from l t above a f h (on_part P fit.p_is l t r f b plain.left_on) (on_part Q fit.q_is l t r h b plain.right_on)
+      let since = goes_onward lowest highest P Q fit.infs false from l t above a f h (on_part P fit.p_is l t r f b plain.left_on)
+      (on_part Q fit.q_is l t r h b plain.right_on)
       plain.left_low plain.right_low plain.left_high known.0 limit.0 (since_of lowest highest P Q from l known.0 known.1)
-      (record { low = low.0; top = top.0; high = high.0; is_low = low.1; is_top = top.1; is_high = high.1; is_value = limit.1 }) in_order in
-      (v.0, of_since lowest highest P Q from t v.0 (at_point lowest highest P Q (one_of P fit.p_is) (one_of Q fit.q_is) fit.infs from t w.above limit.0 p.0 q.0 most.0 v.0 since p.1 q.1 p.3 most.1 v.1 p.2))
+      (record { low = low.0; top = top.0; high = high.0; is_low = low.1; is_top = top.1; is_high = high.1; is_value = limit.1 }) in_order in (
+        v.0,
+        of_since lowest highest P Q from t v.0
+            (at_point lowest highest P Q (one_of P fit.p_is) (one_of Q fit.q_is) fit.infs from t w.above limit.0 p.0 q.0 most.0 v.0 since p.1 q.1 p.3 most.1 v.1 p.2),
+      )
 
   -- on a gap, and at its end
   pub known_on : (l t r : Rational) (f h : Affine) → from ≤ʳ l → IsPlain lowest highest P Q l r f h → Known l → l <ʳ t → t ≤ʳ r → r ≤ʳ to → Known t
   known_on l t r f h above plain known a b below = elim (order_or_meeting f h l t a) as (λ v. Known t) [
     | inl o ↦ ordered l t r f h above plain known a b below o
     | inr (m, meet) ↦ ordered m t r f h (le_trans above (le_of_lt meet.after)) (later_part lowest highest P Q l m r f h meet.after plain)
-        (ordered l m r f h above plain known meet.after (le_of_lt (lt_of_lt_of_le meet.before b)) below (order_upto f h l m meet.meet)) meet.before b below (order_from f h m t meet.meet)
+        (ordered l m r f h above plain known meet.after (le_of_lt (lt_of_lt_of_le meet.before b)) below (order_upto f h l m meet.meet)) meet.before b
+        below (order_from f h m t meet.meet)
   ]
 
 -- finitely many gaps from the one time to the other, on each of which both functions are lines
 pub data Cuts (lowest highest : Extended) (P Q : Function) : Rational → Rational → Type 0 where
   done : {l r : Rational} → l ≈ r → Cuts lowest highest P Q l r
-  gap : {l r : Rational} (m : Rational) (f h : Affine) → l <ʳ m → m ≤ʳ r → IsPlain lowest highest P Q l m f h → Cuts lowest highest P Q m r → Cuts lowest highest P Q l r
+  gap : {l r : Rational} (m : Rational) (f h : Affine) → l <ʳ m → m ≤ʳ r → IsPlain lowest highest P Q l m f h → Cuts lowest highest P Q m r
+      → Cuts lowest highest P Q l r
 
 module _ (lowest highest : Extended) (P Q : Function) (from to : Rational) (fit : IsFit lowest highest P Q from to) where
   -- the since has a value at each time from one at which it has
-  pub since_known : (l r : Rational) → Cuts lowest highest P Q l r → from ≤ʳ l → r ≤ʳ to → IsKnown lowest highest P Q from l → (t : Rational) → l ≤ʳ t → t ≤ʳ r → IsKnown lowest highest P Q from t
+  pub since_known : (l r : Rational) → Cuts lowest highest P Q l r → from ≤ʳ l → r ≤ʳ to → IsKnown lowest highest P Q from l → (t : Rational) → l ≤ʳ t
+      → t ≤ʳ r → IsKnown lowest highest P Q from t
   since_known l r (done e) above below known t a b = known_same lowest highest P Q from l t (same_of_le a (le_trans b (ge_of_same e))) known
-  since_known l r (gap m f h o n plain cuts) above below known t a b = by_order (λ x y. since_known m r cuts (le_trans above (le_of_lt o)) below (here m o (le_refl m)) t x y) (le_or_lt m t) (le_or_lt t l)
+  since_known l r (gap m f h o n plain cuts) above below known t a b =
+      by_order (λ x y. since_known m r cuts (le_trans above (le_of_lt o)) below (here m o (le_refl m)) t x y) (le_or_lt m t) (le_or_lt t l)
     where
       here : (t : Rational) → l <ʳ t → t ≤ʳ m → IsKnown lowest highest P Q from t
       here t x y = known_on lowest highest P Q from to fit l t m f h above plain known x y (le_trans n below)
@@ -193,9 +204,11 @@ module _ (lowest highest : Extended) (P Q : Function) (from to : Rational) (fit 
   sides = until_runs_back lowest highest P (Back P) Q (Back Q) (runs P) (runs Q) to (negate to) (same_refl to)
 
   pub known_last : from ≤ʳ to → IsKnownAhead to
-  known_last order = let k = known_first lowest highest (Back P) (Back Q) (negate to) (negate from) back_fit (le_negate order) in (k.0, sides.out (negate to) k.0 k.1)
+  known_last order = let k = known_first lowest highest (Back P) (Back Q) (negate to) (negate from) back_fit (le_negate order) in
+      (k.0, sides.out (negate to) k.0 k.1)
 
-  back_plain : (l r : Rational) (f h : Affine) → IsPlain lowest highest P Q l r f h → (g i : Affine) × IsPlain lowest highest (Back P) (Back Q) (negate r) (negate l) g i
+  back_plain : (l r : Rational) (f h : Affine) → IsPlain lowest highest P Q l r f h → (g i : Affine)
+      × IsPlain lowest highest (Back P) (Back Q) (negate r) (negate l) g i
   back_plain l r f h plain =
       let g = turned_affine f in
       let i = turned_affine h in (
@@ -213,7 +226,8 @@ module _ (lowest highest : Extended) (P Q : Function) (from to : Rational) (fit 
   ahead_on : (l t r : Rational) (f h : Affine) → r ≤ʳ to → IsPlain lowest highest P Q l r f h → IsKnownAhead r → l ≤ʳ t → t <ʳ r → from ≤ʳ l → IsKnownAhead t
   ahead_on l t r f h below plain known a b above =
       let g = back_plain l r f h plain in
-      let k = known_on lowest highest (Back P) (Back Q) (negate to) (negate from) back_fit (negate r) (negate t) (negate l) g.0 g.1 (le_negate below) g.2 (known.0, sides.back r known.0 known.1) (lt_negate b) (le_negate a) (le_negate above) in
+      let k = known_on lowest highest (Back P) (Back Q) (negate to) (negate from) back_fit (negate r) (negate t) (negate l) g.0 g.1
+      (le_negate below) g.2 (known.0, sides.back r known.0 known.1) (lt_negate b) (le_negate a) (le_negate above) in
       (k.0, sides.out (negate t) k.0 k.1)
 
   ahead_same : (t u : Rational) → t ≈ u → IsKnownAhead t → IsKnownAhead u
@@ -222,7 +236,8 @@ module _ (lowest highest : Extended) (P Q : Function) (from to : Rational) (fit 
   -- at each time up to one at which it has
   pub until_known : (l r : Rational) → Cuts lowest highest P Q l r → from ≤ʳ l → r ≤ʳ to → IsKnownAhead r → (t : Rational) → l ≤ʳ t → t ≤ʳ r → IsKnownAhead t
   until_known l r (done e) above below known t a b = ahead_same r t (same_of_le (le_trans (ge_of_same e) a) b) known
-  until_known l r (gap m f h o n plain cuts) above below known t a b = by_order (λ u x y. until_known m r cuts (le_trans above (le_of_lt o)) below known u x y) (le_or_lt m t)
+  until_known l r (gap m f h o n plain cuts) above below known t a b =
+      by_order (λ u x y. until_known m r cuts (le_trans above (le_of_lt o)) below known u x y) (le_or_lt m t)
     where
       by_order : ((u : Rational) → m ≤ʳ u → u ≤ʳ r → IsKnownAhead u) → (m ≤ʳ t) ⊎ (t <ʳ m) → IsKnownAhead t
       by_order later (inl x) = later t x b

@@ -26,7 +26,8 @@ module _ (lowest highest : Extended) (P Q : Function) where
   abbrev pub Since : Bool → Rational → Rational → Extended → Type 0
   Since inside from t r = IsSupOver lowest (IsIn (upto inside from t)) (Reach inside t) r
 
-  module _ (infs : (on : Interval) → (y : Extended) × IsInfOver highest (IsIn on) P y) (inside : Bool) (from t0 t : Rational) (order : from ≤ʳ t0) (later : t0 <ʳ t) where
+  module _ (infs : (on : Interval) → (y : Extended) × IsInfOver highest (IsIn on) P y) (inside : Bool) (from t0 t : Rational) (order : from ≤ʳ t0)
+      (later : t0 <ʳ t) where
     before_end : (u : Rational) → u ≤ʳ t0 → Precedes inside u t
     before_end u h = precedes_of_lt inside u t (lt_of_le_of_lt h later)
 
@@ -35,15 +36,19 @@ module _ (lowest highest : Extended) (P Q : Function) where
     parts u v h (inl k) = inl (record { above = h.above; below = k })
     parts u v h (inr k) = inr (record { above = k; below = h.below })
 
-    module _ (s i k : Extended) (since : Since true from t0 s) (inf : IsInfOver highest (IsIn (after inside t0 t)) P i) (above : lowest ≤ᵉ i) (least : IsLeast s i k) where
+    module _ (s i k : Extended) (since : Since true from t0 s) (inf : IsInfOver highest (IsIn (after inside t0 t)) P i) (above : lowest ≤ᵉ i)
+        (least : IsLeast s i k) where
       -- what was reached before goes on as far as P stays
       earlier_bound : (v : Extended) → ((u : Rational) × IsIn (upto true from t0) u × Reach inside t u v) → v ≤ᵉ k
       earlier_bound v (u, h, (x, y, q, j, l)) =
           let f = infs (upto true u t0) in
           let g = least_of x f.0 in
-          let narrow : y ≤ᵉ f.0 = at_most_inf highest f.0 y f.1 j.at_most (λ p m. j.bound p (m.0, record { above = m.1.above; below = before_end m.0 m.1.below }, m.2)) in
-          let wide : y ≤ᵉ i = at_most_inf highest i y inf j.at_most (λ p m. j.bound p (m.0, record { above = le_trans h.below (le_of_lt m.1.above); below = m.1.below }, m.2)) in
-          let old : v ≤ᵉ s = le_transᵉ v g.0 s (by_one x f.0 g.0 g.1.one_of l.left (le_transᵉ v y f.0 l.right narrow)) (since.bound g.0 (u, h, (x, f.0, q, f.1, g.1))) in
+          let narrow : y ≤ᵉ f.0 = at_most_inf highest f.0 y f.1 j.at_most
+          (λ p m. j.bound p (m.0, record { above = m.1.above; below = before_end m.0 m.1.below }, m.2)) in
+          let wide : y ≤ᵉ i = at_most_inf highest i y inf j.at_most
+          (λ p m. j.bound p (m.0, record { above = le_trans h.below (le_of_lt m.1.above); below = m.1.below }, m.2)) in
+          let old : v ≤ᵉ s = le_transᵉ v g.0 s (by_one x f.0 g.0 g.1.one_of l.left (le_transᵉ v y f.0 l.right narrow))
+          (since.bound g.0 (u, h, (x, f.0, q, f.1, g.1))) in
           by_least old (le_transᵉ v y i l.right wide) least.one_of
         where
           by_one : (a b e : Extended) → (a ≤ᵉ e) ⊎ (b ≤ᵉ e) → v ≤ᵉ a → v ≤ᵉ b → v ≤ᵉ e
@@ -60,16 +65,19 @@ module _ (lowest highest : Extended) (P Q : Function) where
           let below_i : w <ᵉ i = lt_of_lt_of_leᵉ w k i h least.right in
           member below_i (since.reached w l below_s)
         where
-          member : w <ᵉ i → (v : Extended) × ((u : Rational) × IsIn (upto true from t0) u × Reach true t0 u v) × (w <ᵉ v) → (v : Extended) × ((u : Rational) × IsIn (upto true from t0) u × Reach inside t u v) × (w <ᵉ v)
+          member : w <ᵉ i → (v : Extended) × ((u : Rational) × IsIn (upto true from t0) u × Reach true t0 u v) × (w <ᵉ v) → (v : Extended)
+              × ((u : Rational) × IsIn (upto true from t0) u × Reach inside t u v) × (w <ᵉ v)
           member near (v, (u, m, (x, y, q, j, n)), a) =
               let e = infs (upto inside u t) in
               let b = least_of y i in
               let c = least_of x e.0 in
-              let all : b.0 ≤ᵉ e.0 = at_most_inf highest e.0 b.0 e.1 (le_transᵉ b.0 y highest b.1.left j.at_most) (λ p f. by_part y b.0 b.1 j p f.0 f.2 (parts u f.0 f.1 (le_or_lt f.0 t0))) in
+              let all : b.0 ≤ᵉ e.0 = at_most_inf highest e.0 b.0 e.1 (le_transᵉ b.0 y highest b.1.left j.at_most)
+              (λ p f. by_part y b.0 b.1 j p f.0 f.2 (parts u f.0 f.1 (le_or_lt f.0 t0))) in
               let far : w <ᵉ e.0 = lt_of_lt_of_leᵉ w b.0 e.0 (below_least y i b.0 w b.1 (lt_of_lt_of_leᵉ w v y a n.right) near) all in
               (c.0, (u, m, (x, e.0, q, e.1, c.1)), below_least x e.0 c.0 w c.1 (lt_of_lt_of_leᵉ w v x a n.left) far)
             where
-              by_part : (y b : Extended) → IsLeast y i b → IsInfOver highest (IsIn (upto true u t0)) P y → (p : Extended) (z : Rational) → P z p → IsIn (upto true u t0) z ⊎ IsIn (after inside t0 t) z → b ≤ᵉ p
+              by_part : (y b : Extended) → IsLeast y i b → IsInfOver highest (IsIn (upto true u t0)) P y → (p : Extended) (z : Rational) → P z p
+                  → IsIn (upto true u t0) z ⊎ IsIn (after inside t0 t) z → b ≤ᵉ p
               by_part y b least j p z h (inl m) = le_transᵉ b y p least.left (j.bound p (z, m, h))
               by_part y b least j p z h (inr m) = le_transᵉ b i p least.right (inf.bound p (z, m, h))
 

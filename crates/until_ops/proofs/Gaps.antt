@@ -34,15 +34,25 @@ module _ (highest : Extended) (P : Function) (f : Affine) (inside : Bool) (t0 t 
   inf_sinking : Sinks f → (u : Rational) → IsIn (after inside t0 t) u → IsInfOver highest (IsIn (upto inside u t)) P (value_at f t)
   inf_sinking sinks u h = record {
     at_most = most t;
-    bound = λ v m. let p = on.out m.0 v (widened u m.0 h.above m.1) m.2 in le_transᵉ (value_at f t) (value_at f m.0) v (sinks m.0 t (precedes_le inside m.0 t m.1.below)) p.at_least;
+    bound = λ v m. let p = on.out m.0 v (widened u m.0 h.above m.1) m.2 in
+        le_transᵉ (value_at f t) (value_at f m.0) v (sinks m.0 t (precedes_le inside m.0 t m.1.below)) p.at_least;
     reached = λ w l k. reached inside h on w l;
   }
     where
-      reached : (b : Bool) → IsIn (after b t0 t) u → IsOn (after b t0 t) P f → (w : Extended) → value_at f t <ᵉ w → (v : Extended) × ((z : Rational) × IsIn (upto b u t) z × P z v) × (v <ᵉ w)
+      reached : (b : Bool) → IsIn (after b t0 t) u → IsOn (after b t0 t) P f → (w : Extended) → value_at f t <ᵉ w → (v : Extended)
+          × ((z : Rational) × IsIn (upto b u t) z × P z v) × (v <ᵉ w)
       reached true h on w l = (value_at f t, (t, record { above = h.below; below = le_refl t }, on.back t (record { above = later; below = le_refl t })), l)
       reached false h on w l =
-          let z = above_stop f u t w h.below l in
-          (value_at f z.0, (z.0, record { above = le_of_lt z.1; below = z.2 }, on.back z.0 (record { above = lt_of_lt_of_le h.above (le_of_lt z.1); below = z.2 })), z.3)
+          let z = above_stop f u t w h.below l in (
+            value_at f z.0,
+            (
+              z.0,
+              record { above = le_of_lt z.1; below = z.2 },
+              on.back z.0
+                  (record { above = lt_of_lt_of_le h.above (le_of_lt z.1); below = z.2 }),
+            ),
+            z.3,
+          )
 
   -- its Inf over the whole gap
   pub gap_climbing : Climbs f → IsInfOver highest (IsIn (after inside t0 t)) P (value_at f t0)
@@ -69,8 +79,10 @@ module _ (lowest highest : Extended) (P Q : Function) (f h : Affine) (inside : B
   Member w = (v : Extended) × ((u : Rational) × IsIn (after inside t0 t) u × Reach lowest highest P Q inside t u v) × (w <ᵉ v)
 
   -- at a time of the gap, the value that is reached from there where the Inf of P from there is y
-  member : (w y : Extended) (u : Rational) → (m : IsIn (after inside t0 t) u) → IsInfOver highest (IsIn (upto inside u t)) P y → w <ᵉ value_at h u → w <ᵉ y → Member w
-  member w y u m j a b = let l = least_of (value_at h u) y in (l.0, (u, m, (value_at h u, y, q_on.back u m, j, l.1)), below_least (value_at h u) y l.0 w l.1 a b)
+  member : (w y : Extended) (u : Rational) → (m : IsIn (after inside t0 t) u) → IsInfOver highest (IsIn (upto inside u t)) P y → w <ᵉ value_at h u
+      → w <ᵉ y → Member w
+  member w y u m j a b = let l = least_of (value_at h u) y in
+      (l.0, (u, m, (value_at h u, y, q_on.back u m, j, l.1)), below_least (value_at h u) y l.0 w l.1 a b)
 
   inner : (z : Rational) → t0 <ʳ z → z <ʳ t → IsIn (after inside t0 t) z
   inner z a b = record { above = a; below = precedes_of_lt inside z t b }
@@ -89,14 +101,16 @@ module _ (lowest highest : Extended) (P Q : Function) (f h : Affine) (inside : B
   sup_of_left climbs under low = record {
     at_least = low;
     bound = λ v (u, m, (x, y, q, j, l)). le_transᵉ v y (value_at f t) l.right
-        (le_transᵉ y (value_at f u) (value_at f t) (j.bound (value_at f u) (u, record { above = le_refl u; below = m.below }, p_on.back u m)) (climbs u t (precedes_le inside u t m.below)));
+        (le_transᵉ y (value_at f u) (value_at f t) (j.bound (value_at f u) (u, record { above = le_refl u; below = m.below }, p_on.back u m))
+        (climbs u t (precedes_le inside u t m.below)));
     reached = λ w k o. let z = near_stop f t0 t w later o in
         member w (value_at f z.0) z.0 (inner z.0 z.1 z.2) (inf_climbing highest P f inside t0 t later p_on most climbs z.0 (inner z.0 z.1 z.2))
         (lt_of_lt_of_leᵉ w (value_at f z.0) (value_at h z.0) z.3 (under z.0 z.1 z.2)) z.3;
   }
 
   -- where Q is below P all over the gap, the Sup is the greater of Q's values at the ends
-  pub sup_of_right : Climbs f → ((u : Rational) → t0 <ʳ u → u <ʳ t → value_at h u ≤ᵉ value_at f u) → (g : Extended) → IsGreatest (value_at h t0) (value_at h t) g → lowest ≤ᵉ g
+  pub sup_of_right : Climbs f → ((u : Rational) → t0 <ʳ u → u <ʳ t → value_at h u ≤ᵉ value_at f u) → (g : Extended)
+      → IsGreatest (value_at h t0) (value_at h t) g → lowest ≤ᵉ g
       → IsSupOver lowest (IsIn (after inside t0 t)) (Reach lowest highest P Q inside t) g
   sup_of_right climbs under g greatest low = record {
     at_least = low;
@@ -117,7 +131,8 @@ module _ (lowest highest : Extended) (P Q : Function) (f h : Affine) (inside : B
       → IsSupOver lowest (IsIn (after inside t0 t)) (Reach lowest highest P Q inside t) g
   sup_of_sinking sinks k g greatest least low = record {
     at_least = low;
-    bound = λ v (u, m, (x, y, q, j, l)). below_both v (le_transᵉ v x k l.left (q_below u x k m q greatest)) (le_transᵉ v y (value_at f t) l.right (end_below u y m j)) least.one_of;
+    bound = λ v (u, m, (x, y, q, j, l)). below_both v (le_transᵉ v x k l.left (q_below u x k m q greatest))
+        (le_transᵉ v y (value_at f t) l.right (end_below u y m j)) least.one_of;
     reached = λ w n o. by_end w (lt_of_lt_of_leᵉ w g k o least.left) (lt_of_lt_of_leᵉ w g (value_at f t) o least.right) greatest.one_of;
   }
     where

@@ -37,7 +37,8 @@ swap_back e = same_sym (same_negate e)
 pub until_is_function : (lowest highest : Extended) (to : Rational) (P Q : Function) → IsFunction (UntilToEnd lowest highest to P Q)
 until_is_function lowest highest to P Q = record {
   alike = λ t u v w e f h. sup_value_same v w f (sup_alike lowest v
-      (λ x m. (m.0, from_same (same_sym e) m.1, up_to_same highest P Q m.0 x e m.2)) (λ x m. (m.0, from_same e m.1, up_to_same highest P Q m.0 x (same_sym e) m.2)) h);
+      (λ x m. (m.0, from_same (same_sym e) m.1, up_to_same highest P Q m.0 x e m.2))
+      (λ x m. (m.0, from_same e m.1, up_to_same highest P Q m.0 x (same_sym e) m.2)) h);
   one = λ t v w h k. record { at_most = Sup-unique lowest v w h k; at_least = Sup-unique lowest w v k h };
 }
 
@@ -77,5 +78,6 @@ turned_affine (affine f) = (affine (turn f), λ t. finite_same (at_turn f t))
 turned_affine always_high = (always_high, λ t. record { at_most = tt; at_least = tt })
 
 -- a mirrored function runs back
-pub turned_of : (f g : Affine) → ((t : Rational) → value_at g t ≈ᵉ value_at f (subtract (whole (pos 0)) t)) → (t : Rational) → value_at g t ≈ᵉ value_at f (negate t)
+pub turned_of : (f g : Affine) → ((t : Rational) → value_at g t ≈ᵉ value_at f (subtract (whole (pos 0)) t)) → (t : Rational)
+    → value_at g t ≈ᵉ value_at f (negate t)
 turned_of f g h t = same_transᵉ (value_at g t) (value_at f (subtract (whole (pos 0)) t)) (value_at f (negate t)) (h t) (value_same f (about_zero t))

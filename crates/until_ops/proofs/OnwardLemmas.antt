@@ -20,7 +20,8 @@ climbs_of_lines f = elim (slope_of f) as (λ v. ((t u : Rational) → t ≤ʳ u 
   | inl p ↦ inl (λ t u h. elim (le_or_lt u t) as (λ v. at f t ≤ʳ at f u) [ inl k ↦ le_of_same (same_at f (same_of_le h k)) | inr k ↦ le_of_lt (lt_at f p k) ])
   | inr v ↦ elim v as (λ v. ((t u : Rational) → t ≤ʳ u → at f t ≤ʳ at f u) ⊎ ((t u : Rational) → t ≤ʳ u → at f u ≤ʳ at f t)) [
     | inl p ↦ inl (λ t u h. le_of_same (at_level t u f p))
-    | inr p ↦ inr (λ t u h. elim (le_or_lt u t) as (λ v. at f u ≤ʳ at f t) [ inl k ↦ le_of_same (same_at f (same_of_le k h)) | inr k ↦ le_of_lt (lt_at_falls f p k) ])
+    | inr p ↦ inr (λ t u h. elim (le_or_lt u t) as
+        (λ v. at f u ≤ʳ at f t) [ inl k ↦ le_of_same (same_at f (same_of_le k h)) | inr k ↦ le_of_lt (lt_at_falls f p k) ])
   ]
 ]
 
@@ -33,8 +34,10 @@ climbs_or_sinks always_high = inl (λ t u h. tt)
 both : (v a b r : Extended) → IsLeast a b r → v ≤ᵉ a → v ≤ᵉ b → v ≤ᵉ r
 both v a b r least h k = elim least.one_of [ inl e ↦ le_transᵉ v a r h e | inr e ↦ le_transᵉ v b r k e ]
 
-module _ (lowest highest : Extended) (P Q : Function) (infs : (on : Interval) → (y : Extended) × IsInfOver highest (IsIn on) P y) (inside : Bool) (from t0 t : Rational) (order : from ≤ʳ t0) (later : t0 <ʳ t) (f h : Affine)
-    (p_on : IsOn (after inside t0 t) P f) (q_on : IsOn (after inside t0 t) Q h) (least : (u : Rational) → lowest ≤ᵉ value_at f u) (low_right : (u : Rational) → lowest ≤ᵉ value_at h u) (most : (u : Rational) → value_at f u ≤ᵉ highest)
+module _ (lowest highest : Extended) (P Q : Function) (infs : (on : Interval) → (y : Extended) × IsInfOver highest (IsIn on) P y) (inside : Bool)
+    (from t0 t : Rational) (order : from ≤ʳ t0) (later : t0 <ʳ t) (f h : Affine)
+    (p_on : IsOn (after inside t0 t) P f) (q_on : IsOn (after inside t0 t) Q h) (least : (u : Rational) → lowest ≤ᵉ value_at f u)
+    (low_right : (u : Rational) → lowest ≤ᵉ value_at h u) (most : (u : Rational) → value_at f u ≤ᵉ highest)
     (r v : Extended) (since : Since lowest highest P Q true from t0 r) (on : IsOnward r f h t0 t v) where
   r_low : lowest ≤ᵉ r
   r_low = since.at_least
@@ -50,19 +53,22 @@ module _ (lowest highest : Extended) (P Q : Function) (infs : (on : Interval) �
       (sup_of_left lowest highest P Q f h inside t0 t later p_on q_on most climbs (λ u a b. between f h t0 u t a b below.left below.right) (least t))
       (record {
         left = low_v climbs;
-        right = both (value_at f t) (value_at f t) on.high v on.is_value (le_reflᵉ (value_at f t)) (le_transᵉ (value_at f t) (value_at h t) on.high below.right on.is_high.right);
+        right = both (value_at f t) (value_at f t) on.high v on.is_value (le_reflᵉ (value_at f t))
+            (le_transᵉ (value_at f t) (value_at h t) on.high below.right on.is_high.right);
         one_of = inr on.is_value.left;
       })
   climbing climbs (inr below) =
       let g = greatest_of (value_at h t0) (value_at h t) in
       goes_on lowest highest P Q infs inside from t0 t order later r (value_at f t0) on.low since
       (gap_climbing highest P f inside t0 t later p_on most climbs) (least t0) on.is_low g.0 v
-      (sup_of_right lowest highest P Q f h inside t0 t later p_on q_on most climbs (λ u a b. between h f t0 u t a b below.left below.right) g.0 g.1 (le_transᵉ lowest (value_at h t0) g.0 (low_right t0) g.1.left))
+      (sup_of_right lowest highest P Q f h inside t0 t later p_on q_on most climbs (λ u a b. between h f t0 u t a b below.left below.right) g.0 g.1
+      (le_transᵉ lowest (value_at h t0) g.0 (low_right t0) g.1.left))
       (record {
         left = low_v climbs;
         right = elim g.1.one_of [
           | inl e ↦ le_transᵉ g.0 (value_at h t0) v e (both (value_at h t0) (value_at f t) on.high v on.is_value
-              (le_transᵉ (value_at h t0) (value_at f t0) (value_at f t) below.left (climbs t0 t (le_of_lt later))) (le_transᵉ (value_at h t0) on.top on.high on.is_top.right on.is_high.left))
+              (le_transᵉ (value_at h t0) (value_at f t0) (value_at f t) below.left (climbs t0 t (le_of_lt later)))
+              (le_transᵉ (value_at h t0) on.top on.high on.is_top.right on.is_high.left))
           | inr e ↦ le_transᵉ g.0 (value_at h t) v e (both (value_at h t) (value_at f t) on.high v on.is_value below.right on.is_high.right)
         ];
         one_of = elim on.is_high.one_of [
@@ -89,15 +95,19 @@ module _ (lowest highest : Extended) (P Q : Function) (infs : (on : Interval) �
       (sup_of_sinking lowest highest P Q f h inside t0 t later p_on q_on most sinks g.0 m.0 g.1 m.1 (both lowest g.0 (value_at f t) m.0 m.1 low_g (least t)))
       (record {
         left = both k.0 (value_at f t) on.high v on.is_value k.1.right
-            (le_transᵉ k.0 on.low on.high (both k.0 r (value_at f t0) on.low on.is_low k.1.left (le_transᵉ k.0 (value_at f t) (value_at f t0) k.1.right (sinks t0 t (le_of_lt later))))
+            (le_transᵉ k.0 on.low on.high
+            (both k.0 r (value_at f t0) on.low on.is_low k.1.left (le_transᵉ k.0 (value_at f t) (value_at f t0) k.1.right (sinks t0 t (le_of_lt later))))
             (le_transᵉ on.low on.top on.high on.is_top.left on.is_high.left));
         right = both m.0 (value_at f t) on.high v on.is_value m.1.right (le_transᵉ m.0 g.0 on.high m.1.left high_g);
         one_of = elim on.is_high.one_of [
           | inl e ↦ elim on.is_top.one_of [
-            | inl d ↦ inl (both v r (value_at f t) k.0 k.1 (le_transᵉ v on.high r on.is_value.right (le_transᵉ on.high on.top r e (le_transᵉ on.top on.low r d on.is_low.left))) on.is_value.left)
-            | inr d ↦ inr (both v g.0 (value_at f t) m.0 m.1 (le_transᵉ v on.high g.0 on.is_value.right (le_transᵉ on.high on.top g.0 e (le_transᵉ on.top (value_at h t0) g.0 d g.1.left))) on.is_value.left)
+            | inl d ↦ inl (both v r (value_at f t) k.0 k.1
+                (le_transᵉ v on.high r on.is_value.right (le_transᵉ on.high on.top r e (le_transᵉ on.top on.low r d on.is_low.left))) on.is_value.left)
+            | inr d ↦ inr (both v g.0 (value_at f t) m.0 m.1
+                (le_transᵉ v on.high g.0 on.is_value.right (le_transᵉ on.high on.top g.0 e (le_transᵉ on.top (value_at h t0) g.0 d g.1.left))) on.is_value.left)
           ]
-          | inr e ↦ inr (both v g.0 (value_at f t) m.0 m.1 (le_transᵉ v on.high g.0 on.is_value.right (le_transᵉ on.high (value_at h t) g.0 e g.1.right)) on.is_value.left)
+          | inr e ↦ inr (both v g.0 (value_at f t) m.0 m.1
+              (le_transᵉ v on.high g.0 on.is_value.right (le_transᵉ on.high (value_at h t) g.0 e g.1.right)) on.is_value.left)
         ];
       })
 
@@ -121,7 +131,9 @@ module _ (lowest highest : Extended) (P Q : Function) (from t : Rational) (r : E
 
   -- the since from the start, as it is said of signals
   pub since_of : SinceFromStart lowest highest from P Q t r → Since lowest highest P Q true from t r
-  since_of h = sup_alike lowest r (λ v m. (m.0, within_in from t m.0 m.1, reach_of m.0 m.0 v m.2)) (λ v m. (m.0, in_within from t m.0 m.1, down_of m.0 m.0 v m.2)) h
+  since_of h = sup_alike lowest r (λ v m. (m.0, within_in from t m.0 m.1, reach_of m.0 m.0 v m.2))
+      (λ v m. (m.0, in_within from t m.0 m.1, down_of m.0 m.0 v m.2)) h
 
   pub of_since : Since lowest highest P Q true from t r → SinceFromStart lowest highest from P Q t r
-  of_since h = sup_alike lowest r (λ v m. (m.0, in_within from t m.0 m.1, down_of m.0 m.0 v m.2)) (λ v m. (m.0, within_in from t m.0 m.1, reach_of m.0 m.0 v m.2)) h
+  of_since h = sup_alike lowest r (λ v m. (m.0, in_within from t m.0 m.1, down_of m.0 m.0 v m.2))
+      (λ v m. (m.0, within_in from t m.0 m.1, reach_of m.0 m.0 v m.2)) h

@@ -1,5 +1,5 @@
 -- What a since is on a gap on which both sides are affine and in one order: the least or the greatest of two shapes.
-use Rattle.std.specs.Prelude.{◌≡◌, ◌⊎◌, ◌≤◌, ◌^◌, false, MatchBool}
+use Rattle.std.specs.Prelude.{◌≡◌, ◌⊎◌, ◌≤◌, ◌^◌, Bool, false, MatchBool}
 use Rattle.rational.specs.Rational.{Rational, ◌<ʳ◌, ◌≤ʳ◌, IsWithin}
 use Rattle.rational.specs.Time.{HasDenominator}
 use Rattle.rational.specs.Extended.{Extended, finite, ◌≤ᵉ◌, ◌≈ᵉ◌, IsLeast, IsGreatest, Affine, value_at}
@@ -87,8 +87,10 @@ module _ {P : Type 0} (shape : ShapeOf P) where
   pub record IsStart (gap : Gap P) (low top : P) : Type 0 where
     pub low_of : IsOfGap gap low
     pub top_of : IsOfGap gap top
-    pub is_low : IsLeast (value_at (shape.function gap.before) (value gap.from)) (value_at (shape.function gap.left) (value gap.from)) (value_at (shape.function low) (value gap.from))
-    pub is_top : IsGreatest (value_at (shape.function low) (value gap.from)) (value_at (shape.function gap.right) (value gap.from)) (value_at (shape.function top) (value gap.from))
+    pub is_low : IsLeast (value_at (shape.function gap.before) (value gap.from)) (value_at (shape.function gap.left) (value gap.from))
+        (value_at (shape.function low) (value gap.from))
+    pub is_top : IsGreatest (value_at (shape.function low) (value gap.from)) (value_at (shape.function gap.right) (value gap.from))
+        (value_at (shape.function top) (value gap.from))
 
   -- want of memory, or the value that one of the three shapes has as the gap begins
   abbrev pub IsCourseFault : Gap P → OpFault P → Type 0

@@ -1,7 +1,7 @@
 -- A fault told of signals that run back in time.
 use Rattle.std.specs.Prelude.{◌≡◌}
 use Rattle.rational.specs.Rational.{Rational, negate, ◌≈◌}
-use Rattle.rational.specs.Extended.{◌≈ᵉ◌, value_at}
+use Rattle.rational.specs.Extended.{◌≈ᵉ◌, Affine, value_at}
 use Rattle.frac128.specs.Value.{value}
 use Rattle.value_laws.specs.Members.{ShapeOf}
 use Rattle.pl_signal.specs.declared.faults.WidePair.{WidePair}
@@ -16,7 +16,8 @@ module _ {P : Type 0} (shape : ShapeOf P) where
 
   -- the one pair is the other with time running back
   abbrev pub IsTurnedPair : WidePair P → WidePair P → Type 0
-  IsTurnedPair (Cross p q a b den) (Cross p' q' a' b' den') = IsTurned p p' × IsTurned q q' × (value a' ≈ negate (value b)) × (value b' ≈ negate (value a)) × (den' ≡ den)
+  IsTurnedPair (Cross p q a b den) (Cross p' q' a' b' den') = IsTurned p p' × IsTurned q q' × (value a' ≈ negate (value b))
+      × (value b' ≈ negate (value a)) × (den' ≡ den)
   IsTurnedPair (Cross p q a b den) (Value p' at' den') = ⊥
   IsTurnedPair (Value p at den) (Cross p' q' a' b' den') = ⊥
   IsTurnedPair (Value p at den) (Value p' at' den') = IsTurned p p' × (value at' ≈ negate (value at)) × (den' ≡ den)

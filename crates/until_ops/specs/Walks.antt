@@ -1,8 +1,8 @@
 -- How a since is walked through: where the walk stands, and what it says when it stops.
-use Rattle.std.specs.Prelude.{◌≡◌, ◌⊎◌, ◌+◌, ◌-◌, ◌*◌, ◌^◌, ℕ, List, false, MatchBool, length, Some, slice_get}
+use Rattle.std.specs.Prelude.{◌≡◌, ◌⊎◌, ◌+◌, ◌-◌, ◌*◌, ◌^◌, ℕ, List, Bool, false, MatchBool, length, Some, slice_get}
 use Rattle.rational.specs.Rational.{Rational}
 use Rattle.rational.specs.Time.{Within, ◌≈◌, missing}
-use Rattle.rational.specs.Extended.{Extended, value_at}
+use Rattle.rational.specs.Extended.{Extended, Affine, value_at}
 use Rattle.rational.specs.Affine.{IsBounded}
 use Rattle.rational.specs.InPlay.{IsBreakpoint, IsCrossing}
 use Rattle.frac128.specs.Value.{value}
@@ -42,7 +42,8 @@ module _ {P : Type 0} (shape : ShapeOf P) where
 
   -- the parts of both signals from here on cross here
   abbrev pub CrossHere : List (Knot P) → List (Knot P) → Stand P → Type 0
-  CrossHere p q now = (k l : Knot P) → slice_get p now.left ≡ Some k → slice_get q now.right ≡ Some l → IsCrossing (shape.function k.after) (shape.function l.after) (value now.at)
+  CrossHere p q now = (k l : Knot P) → slice_get p now.left ≡ Some k → slice_get q now.right ≡ Some l
+      → IsCrossing (shape.function k.after) (shape.function l.after) (value now.at)
 
   -- one of the signals is not affine here, or begins or ends
   abbrev pub BreakHere : List (Knot P) → List (Knot P) → Stand P → Type 0
