@@ -31,7 +31,8 @@ pub atoms_on_atom : (nodes : List Node) (i : ℕ) (a : Atom) → slice_get nodes
 atoms_on_atom nodes i a at = sum_on (λ n. cond (is_atom n) 1 0) nodes i (Leaf a) at
 
 pub atoms_on_other : (nodes : List Node) (i : ℕ) (n : Node) → slice_get nodes i ≡ Some n → is_atom n ≡ false → atoms_before nodes (i + 1) ≡ atoms_before nodes i
-atoms_on_other nodes i n at other = sum_on (λ n. cond (is_atom n) 1 0) nodes i n at ∙ ap (λ b. atoms_before nodes i + cond b 1 0) other ∙ add-zero (atoms_before nodes i)
+atoms_on_other nodes i n at other = sum_on (λ n. cond (is_atom n) 1 0) nodes i n at ∙ ap (λ b. atoms_before nodes i + cond b 1 0) other ∙ add-zero
+    (atoms_before nodes i)
 
 pub not_atom : (n : Node) → ((a : Atom) → n ≡ Leaf a → ⊥) → is_atom n ≡ false
 not_atom (Leaf a) other = absurd (other a refl)
@@ -76,17 +77,23 @@ last_of xs x k e = subst (λ n. slice_get (xs ++ x ∷ []) n ≡ Some x) (sym e)
     at_end (z ∷ xs) x = at_end xs x
 
 module _ {P : Type 0} where
-  pub atom_takes : (nodes : List Node) (i : ℕ) (a : Atom) (x : List (Knot P)) (old new : List (List (Knot P))) → slice_get nodes i ≡ Some (Leaf a) → old ≡ x ∷ new → TakesOwn nodes i old new
-  atom_takes nodes i a x old new at e all left = (drop_at all (atoms_before nodes i) x new (sym e ∙ left)).1 ∙ ap (λ n. drop n all) (sym (atoms_on_atom nodes i a at))
+  pub atom_takes : (nodes : List Node) (i : ℕ) (a : Atom) (x : List (Knot P)) (old new : List (List (Knot P))) → slice_get nodes i ≡ Some (Leaf a)
+      → old ≡ x ∷ new → TakesOwn nodes i old new
+  atom_takes nodes i a x old new at e all left = (drop_at all (atoms_before nodes i) x new (sym e ∙ left)).1 ∙ ap (λ n. drop n all)
+      (sym (atoms_on_atom nodes i a at))
 
-  pub other_takes : (nodes : List Node) (i : ℕ) (n : Node) (old : List (List (Knot P))) → slice_get nodes i ≡ Some n → is_atom n ≡ false → TakesOwn nodes i old old
+  pub other_takes : (nodes : List Node) (i : ℕ) (n : Node) (old : List (List (Knot P))) → slice_get nodes i ≡ Some n → is_atom n ≡ false
+      → TakesOwn nodes i old old
   other_takes nodes i n old at other all left = left ∙ ap (λ n. drop n all) (sym (atoms_on_other nodes i n at other))
 
 module _ {P : Type 0} (shape : ShapeOf P) where
-  pub atom_sound : (from to : ℕ) (nodes : List Node) (i : ℕ) (x : List (Knot P)) (old new xs : List (List (Knot P))) → old ≡ x ∷ new → AreSound shape from to 0 old → PlaceStaysSound shape from to nodes i xs x
-  atom_sound from to nodes i x old new xs e sound all = sound_more shape from to 0 (reach_before nodes (i + 1)) x (omega arith) (sound 0 x (subst (λ o. slice_get o 0 ≡ Some x) (sym e) refl))
+  pub atom_sound : (from to : ℕ) (nodes : List Node) (i : ℕ) (x : List (Knot P)) (old new xs : List (List (Knot P))) → old ≡ x ∷ new
+      → AreSound shape from to 0 old → PlaceStaysSound shape from to nodes i xs x
+  atom_sound from to nodes i x old new xs e sound all = sound_more shape from to 0 (reach_before nodes (i + 1)) x (omega arith)
+      (sound 0 x (subst (λ o. slice_get o 0 ≡ Some x) (sym e) refl))
 
-  pub atom_told : (nodes : List Node) (i : ℕ) (a : Atom) (x : List (Knot P)) (old new all : List (List (Knot P))) (s : Setting) → slice_get nodes i ≡ Some (Leaf a) → subformula nodes i ≡ tree_of (subformula nodes) i (Leaf a)
+  pub atom_told : (nodes : List Node) (i : ℕ) (a : Atom) (x : List (Knot P)) (old new all : List (List (Knot P))) (s : Setting)
+      → slice_get nodes i ≡ Some (Leaf a) → subformula nodes i ≡ tree_of (subformula nodes) i (Leaf a)
       → old ≡ x ∷ new → old ≡ drop (atoms_before nodes i) all → TellAtoms shape nodes all s → TellsValue shape s (subformula nodes i) x
   atom_told nodes i a x old new all s at tree e left told =
       let o = told i a (slice_get_within nodes i (Leaf a) at) at in
@@ -97,17 +104,24 @@ module _ {P : Type 0} (shape : ShapeOf P) where
   pub told_none : (nodes : List Node) (s : Setting) → TellAtomsBelow shape 0 nodes [] s
   told_none nodes s i a h at = absurd (omega (arith, h))
 
-  pub told_atom : (nodes : List Node) (s : Setting) (i : ℕ) (a : Atom) (xs : List (List (Knot P))) (x : List (Knot P)) → slice_get nodes i ≡ Some (Leaf a) → length xs ≡ atoms_before nodes i → TellAtomsBelow shape i nodes xs s
+  pub told_atom : (nodes : List Node) (s : Setting) (i : ℕ) (a : Atom) (xs : List (List (Knot P))) (x : List (Knot P))
+      → slice_get nodes i ≡ Some (Leaf a) → length xs ≡ atoms_before nodes i → TellAtomsBelow shape i nodes xs s
       → Tells shape (Gives s.atoms i a) s.from s.to x → TellAtomsBelow shape (i + 1) nodes (xs ++ x ∷ []) s
   told_atom nodes s i a xs x at count told tells j b h at_j = by_place (before_or_here i j h)
     where
-      by_place : (j < i) ⊎ (j ≡ i) → (y : List (Knot P)) × (slice_get (xs ++ x ∷ []) (atoms_before nodes j) ≡ Some y) × Tells shape (Gives s.atoms j b) s.from s.to y
+      by_place : (j < i) ⊎ (j ≡ i) → (y : List (Knot P)) × (slice_get (xs ++ x ∷ []) (atoms_before nodes j) ≡ Some y)
+          × Tells shape (Gives s.atoms j b) s.from s.to y
       by_place (inl k) = let o = told j b k at_j in (o.0, in_front xs x (atoms_before nodes j) o.0 o.1, o.2)
       by_place (inr k) =
-          let same : b ≡ a = same_leaf (sym at_j ∙ ap (slice_get nodes) k ∙ at) in
-          (x, last_of xs x (atoms_before nodes j) (ap (atoms_before nodes) k ∙ sym count), subst (λ m. Tells shape (Gives s.atoms m b) s.from s.to x) (sym k) (subst (λ c. Tells shape (Gives s.atoms i c) s.from s.to x) (sym same) tells))
+          let same : b ≡ a = same_leaf (sym at_j ∙ ap (slice_get nodes) k ∙ at) in (
+            x,
+            last_of xs x (atoms_before nodes j) (ap (atoms_before nodes) k ∙ sym count),
+            subst (λ m. Tells shape (Gives s.atoms m b) s.from s.to x)
+                (sym k) (subst (λ c. Tells shape (Gives s.atoms i c) s.from s.to x) (sym same) tells),
+          )
 
-  pub told_other : (nodes : List Node) (s : Setting) (i : ℕ) (n : Node) (xs : List (List (Knot P))) → slice_get nodes i ≡ Some n → is_atom n ≡ false → TellAtomsBelow shape i nodes xs s → TellAtomsBelow shape (i + 1) nodes xs s
+  pub told_other : (nodes : List Node) (s : Setting) (i : ℕ) (n : Node) (xs : List (List (Knot P))) → slice_get nodes i ≡ Some n → is_atom n ≡ false
+      → TellAtomsBelow shape i nodes xs s → TellAtomsBelow shape (i + 1) nodes xs s
   told_other nodes s i n xs at other told j b h at_j = by_place (before_or_here i j h)
     where
       by_place : (j < i) ⊎ (j ≡ i) → (y : List (Knot P)) × (slice_get xs (atoms_before nodes j) ≡ Some y) × Tells shape (Gives s.atoms j b) s.from s.to y

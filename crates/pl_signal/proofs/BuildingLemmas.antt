@@ -124,8 +124,12 @@ module _ {P : Type 0} (shape : ShapeOf P) where
                 (value_at (shape.function l.point) t) here (value_same (shape.function l.point) (same_sym e))));
           }))))
       by_order h (inr (inr b)) =
-          inr (inl (subst (λ s. s <ʳ t) (sym (stop_end xs p (l ∷ []))) b, h.before, same_transᵉ v (value_at (shape.function p.after) t)
-          (value_at (shape.function after) t) h.worth (on t)))
+          inr (inl (
+            subst (λ s. s <ʳ t) (sym (stop_end xs p (l ∷ []))) b,
+            h.before,
+            same_transᵉ v (value_at (shape.function p.after) t)
+                (value_at (shape.function after) t) h.worth (on t),
+          ))
 
       by_end : IsWorth shape (p ∷ ends_at at point ∷ []) t v
           → IsWorth shape (xs ++ p ∷ l ∷ []) t v ⊎ ((stop (xs ++ p ∷ l ∷ []) <ʳ t) × (t <ʳ value at) × Passes (shape.function after) t v)
@@ -162,9 +166,12 @@ module _ {P : Type 0} (shape : ShapeOf P) where
       by_end (inr (inr (inr (inr h)))) = absurd h
   worth_left xs p l after at point t v order later here on (inr (inl h)) =
       worth_end shape xs (p ∷ ends_at at point ∷ []) t v
-      (inr (inl (record { after = lt_trans order (subst (λ s. s <ʳ t) (stop_end xs p (l ∷ [])) h.0); before = h.1;
-      worth = same_transᵉ v (value_at (shape.function after) t) (value_at (shape.function p.after) t) h.2
-          (same_symᵉ (value_at (shape.function p.after) t) (value_at (shape.function after) t) (on t)) })))
+      (inr (inl (record {
+        after = lt_trans order (subst (λ s. s <ʳ t) (stop_end xs p (l ∷ [])) h.0);
+        before = h.1;
+        worth = same_transᵉ v (value_at (shape.function after) t) (value_at (shape.function p.after) t) h.2
+            (same_symᵉ (value_at (shape.function p.after) t) (value_at (shape.function after) t) (on t));
+      })))
   worth_left xs p l after at point t v order later here on (inr (inr h)) =
       worth_end shape xs (p ∷ ends_at at point ∷ []) t v (inr (inr (inl (record { when = h.0; worth = h.1 }))))
 

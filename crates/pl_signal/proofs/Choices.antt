@@ -77,11 +77,17 @@ none_says Y (Some a) e h = absurd (cc)
 -- the chosen value by another pair
 pub chosen_same : (b : Side) (x y v w : Extended) → v ≈ᵉ w → IsChosen b x y v → IsChosen b x y w
 chosen_same Least x y v w e h =
-    record { left = le_transᵉ w v x e.at_least h.left; right = le_transᵉ w v y e.at_least h.right;
-    one_of = elim h.one_of [ inl l ↦ inl (le_transᵉ x v w l e.at_most) | inr l ↦ inr (le_transᵉ y v w l e.at_most) ] }
+    record {
+      left = le_transᵉ w v x e.at_least h.left;
+      right = le_transᵉ w v y e.at_least h.right;
+      one_of = elim h.one_of [ inl l ↦ inl (le_transᵉ x v w l e.at_most) | inr l ↦ inr (le_transᵉ y v w l e.at_most) ];
+    }
 chosen_same Greatest x y v w e h =
-    record { left = le_transᵉ x v w h.left e.at_most; right = le_transᵉ y v w h.right e.at_most;
-    one_of = elim h.one_of [ inl l ↦ inl (le_transᵉ w v x e.at_least l) | inr l ↦ inr (le_transᵉ w v y e.at_least l) ] }
+    record {
+      left = le_transᵉ x v w h.left e.at_most;
+      right = le_transᵉ y v w h.right e.at_most;
+      one_of = elim h.one_of [ inl l ↦ inl (le_transᵉ w v x e.at_least l) | inr l ↦ inr (le_transᵉ w v y e.at_least l) ];
+    }
 
 -- one value is chosen of two
 pub chosen_once : (b : Side) (x y x' y' v w : Extended) → x ≈ᵉ x' → y ≈ᵉ y' → IsChosen b x y v → IsChosen b x' y' w → v ≤ᵉ w

@@ -39,8 +39,11 @@ module _ {P : Type 0} (shape : ShapeOf P) where
   cut_end_worth p n ns to last t v h (inl c) (inr (inr (inl w))) =
       inr (inr (inl (record { when = same_trans w.when c.0; worth = subst (λ p. Passes (shape.function p) t v) c.1 w.worth })))
   cut_end_worth p n ns to last t v h (inr c) (inr (inr (inl w))) =
-      inr (inl (record { after = lt_of_lt_of_le c.0 (ge_of_same w.when); before = lt_of_le_of_lt (le_of_same w.when) c.1;
-      worth = subst (λ p. Passes (shape.function p) t v) c.2 w.worth }))
+      inr (inl (record {
+        after = lt_of_lt_of_le c.0 (ge_of_same w.when);
+        before = lt_of_le_of_lt (le_of_same w.when) c.1;
+        worth = subst (λ p. Passes (shape.function p) t v) c.2 w.worth;
+      }))
   cut_end_worth p n ns to last t v h c (inr (inr (inr (inl w)))) = absurd w
   cut_end_worth p n ns to last t v h c (inr (inr (inr (inr w)))) = absurd w
 
@@ -56,7 +59,7 @@ module _ {P : Type 0} (shape : ShapeOf P) where
           (record { rising = before_cut p n to last order c; needed = tt; ends = tt }, (record { rising = tt; needed = tt; ends = refl }, tt));
     },
     (λ t v w. elim (worth_in shape xs p p (ends_at to last ∷ []) (n ∷ ns) t v refl w)
-    [ inl k ↦ k | inr k ↦ worth_end shape xs (p ∷ n ∷ ns) t v (cut_end_worth p n ns to last t v order c k) ]),
+        [ inl k ↦ k | inr k ↦ worth_end shape xs (p ∷ n ∷ ns) t v (cut_end_worth p n ns to last t v order c k) ]),
     λ q h. elim (shape_in xs (p ∷ ends_at to last ∷ []) q h) [ inl k ↦ shape_front xs (p ∷ n ∷ ns) q k | inr k ↦ shape_end xs (p ∷ n ∷ ns) q (by_end q k c) ],
   )
     where
@@ -82,8 +85,11 @@ module _ {P : Type 0} (shape : ShapeOf P) where
   cut_start_worth k b bs from first t v h (inl c) (inl w) =
       inl (record { when = same_trans w.when (same_sym c.0); worth = subst (λ p. Passes (shape.function p) t v) c.1 w.worth })
   cut_start_worth k b bs from first t v h (inr c) (inl w) =
-      inr (inl (record { after = lt_of_lt_of_le c.0 (ge_of_same w.when); before = lt_of_le_of_lt (le_of_same w.when) h;
-      worth = subst (λ p. Passes (shape.function p) t v) c.1 w.worth }))
+      inr (inl (record {
+        after = lt_of_lt_of_le c.0 (ge_of_same w.when);
+        before = lt_of_le_of_lt (le_of_same w.when) h;
+        worth = subst (λ p. Passes (shape.function p) t v) c.1 w.worth;
+      }))
   cut_start_worth k b bs from first t v h (inl c) (inr (inl w)) =
       inr (inl (record { after = lt_of_le_of_lt (le_of_same c.0) w.after; before = w.before; worth = w.worth }))
   cut_start_worth k b bs from first t v h (inr c) (inr (inl w)) =
@@ -268,7 +274,7 @@ module _ {P : Type 0} (shape : ShapeOf P) where
       let m = get_or ks (j + 1) k in
       let next = slice_get-get_or ks (j + 1) k more in
       let before = place_before ks i (j + 1) k m s.each (slice_get_read ks (length ks) i k refl in_i at_i) next
-          (lt_of_le_of_lt not_later (lt_of_lt_of_le order (le_of_lt (after_to m next)))) in (
+      (lt_of_le_of_lt not_later (lt_of_lt_of_le order (le_of_lt (after_to m next)))) in (
         omega (arith, before),
         more,
         cut_places ks i j k n m from to first n.after s (omega (arith, before)) more at_i at_j (get_or_default ks (j + 1) k m more) order stands

@@ -133,16 +133,20 @@ module _ {P : Type 0} (shape : ShapeOf P) where
   pub whole_first : (b : Side) (p q : P) (from to : Rational) → IsTaken b (value_at (shape.function p) from) (value_at (shape.function q) from)
       → IsTaken b (value_at (shape.function p) to) (value_at (shape.function q) to)
       → IsPieces shape b p q from to (Whole p)
-  whole_first b p q from to h k =
-      (inl refl, λ t x y. chosen_first b (value_at (shape.function p) t) (value_at (shape.function q) t)
-      (taken_between b (shape.function p) (shape.function q) from t to x y h k))
+  whole_first b p q from to h k = (
+    inl refl,
+    λ t x y. chosen_first b (value_at (shape.function p) t) (value_at (shape.function q) t)
+        (taken_between b (shape.function p) (shape.function q) from t to x y h k),
+  )
 
   pub whole_second : (b : Side) (p q : P) (from to : Rational) → IsTaken b (value_at (shape.function q) from) (value_at (shape.function p) from)
       → IsTaken b (value_at (shape.function q) to) (value_at (shape.function p) to)
       → IsPieces shape b p q from to (Whole q)
-  whole_second b p q from to h k =
-      (inr refl, λ t x y. chosen_second b (value_at (shape.function p) t) (value_at (shape.function q) t)
-      (taken_between b (shape.function q) (shape.function p) from t to x y h k))
+  whole_second b p q from to h k = (
+    inr refl,
+    λ t x y. chosen_second b (value_at (shape.function p) t) (value_at (shape.function q) t)
+        (taken_between b (shape.function q) (shape.function p) from t to x y h k),
+  )
 
   meeting : (b : Side) (f g : Affine) (l r m t : Rational) → MeetAlone f g l r m → t ≈ m → IsTaken b (value_at f t) (value_at g t)
   meeting b f g l r m t alone e = taken_same b (value_at f t) (value_at g t)

@@ -27,17 +27,25 @@ module _ {P : Type 0} (shape : ShapeOf P) where
       → time k ≤ʳ t → t <ʳ time n
       → IsRightLimit (IsWorth shape ks) t (value_at (shape.function k.after) t)
   right_limit_in ks i k n t h j a b =
-      record { b = time n; below = b; line = shape.function k.after;
-      on = line_on_part (IsWorth shape ks) (shape.function k.after) a (le_refl (time n)) (gap_line ks i k n h j);
-          value = same_reflᵉ (value_at (shape.function k.after) t) }
+      record {
+        b = time n;
+        below = b;
+        line = shape.function k.after;
+        on = line_on_part (IsWorth shape ks) (shape.function k.after) a (le_refl (time n)) (gap_line ks i k n h j);
+        value = same_reflᵉ (value_at (shape.function k.after) t);
+      }
 
   pub left_limit_in : (ks : List (Knot P)) (i : ℕ) (k n : Knot P) (t : Rational) → slice_get ks i ≡ Some k → slice_get ks (i + 1) ≡ Some n
       → time k <ʳ t → t ≤ʳ time n
       → IsLeftLimit (IsWorth shape ks) t (value_at (shape.function k.after) t)
   left_limit_in ks i k n t h j a b =
-      record { a = time k; above = a; line = shape.function k.after;
-      on = line_on_part (IsWorth shape ks) (shape.function k.after) (le_refl (time k)) b (gap_line ks i k n h j);
-          value = same_reflᵉ (value_at (shape.function k.after) t) }
+      record {
+        a = time k;
+        above = a;
+        line = shape.function k.after;
+        on = line_on_part (IsWorth shape ks) (shape.function k.after) (le_refl (time k)) b (gap_line ks i k n h j);
+        value = same_reflᵉ (value_at (shape.function k.after) t);
+      }
 
   -- outside its domain a signal has no value, from its end on no limit from the right, and up to its start none from the left
   pub no_value_after : (ks : List (Knot P)) (t : Rational) (v : Extended) → IsSignal shape ks → stop ks <ʳ t → ¬ (IsWorth shape ks t v)
@@ -75,10 +83,15 @@ module _ {P : Type 0} (shape : ShapeOf P) where
   limited_from : (k : Knot P) (ks : List (Knot P)) → Each (IsKnot shape) (k ∷ ks) → HasBounded (2 ^ 31) (IsWorth shape (k ∷ ks))
       → whole (neg_ℤ (pos (2 ^ 34))) ≤ʳ time k → stop (k ∷ ks) ≤ʳ whole (pos (2 ^ 34))
       → Each (IsLimitedKnot shape) (k ∷ ks)
-  limited_from k [] h w low high =
-      (record { when = (low, high);
+  limited_from k [] h w low high = (
+    record {
+      when = (low, high);
       point = w (time k) (value_at (shape.function k.point) (time k))
-          (inl (record { when = same_refl (time k); worth = same_reflᵉ (value_at (shape.function k.point) (time k)) })); limits = tt }, tt)
+          (inl (record { when = same_refl (time k); worth = same_reflᵉ (value_at (shape.function k.point) (time k)) }));
+      limits = tt;
+    },
+    tt,
+  )
   limited_from k (n ∷ ks) h w low high =
       let on : (t : Rational) → time k <ʳ t → t <ʳ time n → IsBounded (2 ^ 31) (value_at (shape.function k.after) t) =
       λ t a b. w t (value_at (shape.function k.after) t)
@@ -87,8 +100,11 @@ module _ {P : Type 0} (shape : ShapeOf P) where
           when = (low, le_trans (to_stop shape k (n ∷ ks) h) high);
           point = w (time k) (value_at (shape.function k.point) (time k))
               (inl (record { when = same_refl (time k); worth = same_reflᵉ (value_at (shape.function k.point) (time k)) }));
-          limits = (bounded_start (2 ^ 31) (shape.function k.after) (time k) (time n) h.0.rising on, bounded_stop (2 ^ 31) (shape.function k.after)
-              (time k) (time n) h.0.rising on);
+          limits = (
+            bounded_start (2 ^ 31) (shape.function k.after) (time k) (time n) h.0.rising on,
+            bounded_stop (2 ^ 31) (shape.function k.after)
+                (time k) (time n) h.0.rising on,
+          );
         },
         limited_from n ks h.1 (λ t v x. w t v (inr (inr x))) (le_trans low (le_of_lt h.0.rising)) high,
       )
@@ -163,8 +179,11 @@ module _ {P : Type 0} (shape : ShapeOf P) where
       → slice_get ks (suc (suc i)) ≡ Some n → (line : Affine) → ¬ IsPart (IsWorth shape ks) (time k) line
   no_part ks i b k n s e f g line p =
       needed_at ks i b k n s.each e f g
-      (record { here = here; on = λ t. same_transᵉ (value_at (shape.function b.after) t) (value_at line t) (value_at (shape.function k.after) t)
-      (before t) (after t) })
+      (record {
+        here = here;
+        on = λ t. same_transᵉ (value_at (shape.function b.after) t) (value_at line t) (value_at (shape.function k.after) t)
+            (before t) (after t);
+      })
     where
       next : i + 1 ≡ suc i
       next = omega arith

@@ -125,8 +125,11 @@ module _ {P : Type 0} (shape : ShapeOf P) where
   mirror_on ks old new z i k n after point at s at_i at_next so_far stops arrives afters points on =
       moved_on ks old new (λ t. subtract (whole z) t) i i k n k after point at
       (moved_is_function ks (λ t. subtract (whole z) t) (λ t u e. mirror_same z e) s) so_far on at_i at_next at_i
-      (λ t a b. (lt_of_le_of_lt (ge_of_same here) (mirror_lt z b), lt_of_lt_of_le (mirror_lt z a)
-      (le_of_same (same_trans (mirror_same z stops) (mirror_twice (time n) z))))) here afters points
+      (λ t a b. (
+        lt_of_le_of_lt (ge_of_same here) (mirror_lt z b),
+        lt_of_lt_of_le (mirror_lt z a)
+            (le_of_same (same_trans (mirror_same z stops) (mirror_twice (time n) z))),
+      )) here afters points
     where
       here : subtract (whole z) (value at) ≈ time k
       here = same_trans (mirror_same z arrives) (mirror_twice (time k) z)
@@ -147,8 +150,11 @@ module _ {P : Type 0} (shape : ShapeOf P) where
   shift_on ks old new z i k n after point at s at_i at_next so_far stops arrives afters points on =
       moved_on ks old new (λ t. add t (whole z)) i (i + 1) k n n after point at
       (moved_is_function ks (λ t. add t (whole z)) (λ t u e. same_shift z e) s) so_far on at_i at_next at_next
-      (λ t a b. (lt_of_le_of_lt (ge_of_same (same_trans (same_shift z stops) (shift_forth (time k) z))) (lt_shift z a), lt_of_lt_of_le (lt_shift z b)
-      (le_of_same here))) here afters points
+      (λ t a b. (
+        lt_of_le_of_lt (ge_of_same (same_trans (same_shift z stops) (shift_forth (time k) z))) (lt_shift z a),
+        lt_of_lt_of_le (lt_shift z b)
+            (le_of_same here),
+      )) here afters points
     where
       here : add (value at) (whole z) ≈ time n
       here = same_trans (same_shift z arrives) (shift_forth (time n) z)
@@ -262,7 +268,7 @@ tells_through shape ks part new z from to low high p r begins ends = record {
     λ h. (r.worth t v).1 (
       record { above = h.0.above; below = le_trans h.0.below (ge_of_same last) },
       (p.worth (add t (whole z)) v).1
-      (record { above = le_trans (le_of_same begins) (le_shift z h.0.above); below = le_trans (le_shift z h.0.below) (ge_of_same ends) }, h.1),
+          (record { above = le_trans (le_of_same begins) (le_shift z h.0.above); below = le_trans (le_shift z h.0.below) (ge_of_same ends) }, h.1),
     ),
   );
 }

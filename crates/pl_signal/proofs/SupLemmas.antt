@@ -22,9 +22,14 @@ record OnGap (on : Interval) (l r u : Rational) : Type 0 where
 sup_between : (W : Window) (f : Affine) (lowest : Extended) (a b : Rational) → ((t : Rational) → lowest ≤ᵉ value_at f t) → a <ʳ b
     → ((u : Rational) → a <ʳ u → u <ʳ b → W u) → ((u : Rational) → W u → Within a b u) → (r : Extended) × IsSupOver lowest W (Passes f) r
 sup_between W f lowest a b least order inner outer =
-    let g = greatest_of (value_at f a) (value_at f b) in
-    (g.0, record { at_least = le_transᵉ lowest (value_at f a) g.0 (least a) g.1.left; bound = λ v m. bound g.0 g.1 v m;
-    reached = λ w h k. reached g.0 g.1.one_of w k })
+    let g = greatest_of (value_at f a) (value_at f b) in (
+      g.0,
+      record {
+        at_least = le_transᵉ lowest (value_at f a) g.0 (least a) g.1.left;
+        bound = λ v m. bound g.0 g.1 v m;
+        reached = λ w h k. reached g.0 g.1.one_of w k;
+      },
+    )
   where
     bound : (s : Extended) → IsGreatest (value_at f a) (value_at f b) s → (v : Extended) → ((u : Rational) × W u × Passes f u v) → v ≤ᵉ s
     bound s g v (u, m, p) = le_transᵉ v (value_at f u) s p.at_most
@@ -42,9 +47,14 @@ sup_between W f lowest a b least order inner outer =
 inf_between : (W : Window) (f : Affine) (highest : Extended) (a b : Rational) → ((t : Rational) → value_at f t ≤ᵉ highest) → a <ʳ b
     → ((u : Rational) → a <ʳ u → u <ʳ b → W u) → ((u : Rational) → W u → Within a b u) → (r : Extended) × IsInfOver highest W (Passes f) r
 inf_between W f highest a b most order inner outer =
-    let g = least_of (value_at f a) (value_at f b) in
-    (g.0, record { at_most = le_transᵉ g.0 (value_at f a) highest g.1.left (most a); bound = λ v m. bound g.0 g.1 v m;
-    reached = λ w h k. reached g.0 g.1.one_of w h })
+    let g = least_of (value_at f a) (value_at f b) in (
+      g.0,
+      record {
+        at_most = le_transᵉ g.0 (value_at f a) highest g.1.left (most a);
+        bound = λ v m. bound g.0 g.1 v m;
+        reached = λ w h k. reached g.0 g.1.one_of w h;
+      },
+    )
   where
     bound : (s : Extended) → IsLeast (value_at f a) (value_at f b) s → (v : Extended) → ((u : Rational) × W u × Passes f u v) → s ≤ᵉ v
     bound s g v (u, m, p) = le_transᵉ s (value_at f u) v
@@ -165,17 +175,21 @@ module _ {P : Type 0} (shape : ShapeOf P) where
       → (r : Extended) × IsSup shape.lowest (λ v. (u : Rational) × IsIn on u × IsInGap shape k ks u v) r
   sup_in_gap least k [] on = (shape.lowest, sup_of_none shape.lowest (λ v m. m.2))
   sup_in_gap least k (n ∷ ks) on =
-      let s = sup_on_gap on (time k) (time n) (shape.function k.after) shape.lowest (least k.after) in
-      (s.0, sup_same (λ v (u, g, p). (u, g.inside, record { after = g.after; before = g.before; worth = p }))
-      (λ v (u, i, w). (u, record { inside = i; after = w.after; before = w.before }, w.worth)) s.1)
+      let s = sup_on_gap on (time k) (time n) (shape.function k.after) shape.lowest (least k.after) in (
+        s.0,
+        sup_same (λ v (u, g, p). (u, g.inside, record { after = g.after; before = g.before; worth = p }))
+            (λ v (u, i, w). (u, record { inside = i; after = w.after; before = w.before }, w.worth)) s.1,
+      )
 
   inf_in_gap : ((p : P) (t : Rational) → value_at (shape.function p) t ≤ᵉ shape.highest) → (k : Knot P) (ks : List (Knot P)) (on : Interval)
       → (r : Extended) × IsInf shape.highest (λ v. (u : Rational) × IsIn on u × IsInGap shape k ks u v) r
   inf_in_gap most k [] on = (shape.highest, inf_of_none shape.highest (λ v m. m.2))
   inf_in_gap most k (n ∷ ks) on =
-      let s = inf_on_gap on (time k) (time n) (shape.function k.after) shape.highest (most k.after) in
-      (s.0, inf_same (λ v (u, g, p). (u, g.inside, record { after = g.after; before = g.before; worth = p }))
-      (λ v (u, i, w). (u, record { inside = i; after = w.after; before = w.before }, w.worth)) s.1)
+      let s = inf_on_gap on (time k) (time n) (shape.function k.after) shape.highest (most k.after) in (
+        s.0,
+        inf_same (λ v (u, g, p). (u, g.inside, record { after = g.after; before = g.before; worth = p }))
+            (λ v (u, i, w). (u, record { inside = i; after = w.after; before = w.before }, w.worth)) s.1,
+      )
 
   -- a Sup over every interval
   pub signal_sup : ((p : P) (t : Rational) → shape.lowest ≤ᵉ value_at (shape.function p) t) → (ks : List (Knot P)) (on : Interval)
@@ -183,7 +197,7 @@ module _ {P : Type 0} (shape : ShapeOf P) where
   signal_sup least [] on = (shape.lowest, sup_of_none shape.lowest (λ v m. m.2))
   signal_sup least (k ∷ ks) on =
       let a = sup_of_one (AtInstant on (time k)) (shape.function k.point) shape.lowest (time k) (least k.point) (decided_instant on (time k))
-          (λ u m. m.1) (instant_alike on (time k)) in
+      (λ u m. m.1) (instant_alike on (time k)) in
       let b = sup_in_gap least k ks on in
       let c = signal_sup least ks on in
       let d = greatest_of b.0 c.0 in
@@ -196,7 +210,7 @@ module _ {P : Type 0} (shape : ShapeOf P) where
   signal_inf most [] on = (shape.highest, inf_of_none shape.highest (λ v m. m.2))
   signal_inf most (k ∷ ks) on =
       let a = inf_of_one (AtInstant on (time k)) (shape.function k.point) shape.highest (time k) (most k.point) (decided_instant on (time k))
-          (λ u m. m.1) (instant_alike on (time k)) in
+      (λ u m. m.1) (instant_alike on (time k)) in
       let b = inf_in_gap most k ks on in
       let c = signal_inf most ks on in
       let d = least_of b.0 c.0 in

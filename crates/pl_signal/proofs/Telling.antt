@@ -35,8 +35,12 @@ module _ {P : Type 0} (shape : ShapeOf P) where
   pub told : (F : Function) (from to : Rational) (ks : List (Knot P)) → IsFunction F → TellsSoFar F ks → start ks ≈ from → stop ks ≈ to
       → Tells shape F from to ks
   told F from to ks is s begins ends =
-      record { signal = s.signal; begins = begins; ends = ends;
-      worth = λ t v. (λ w. (between t (worth_within shape ks t v s.signal w), s.worth t v w), λ h. by_value t v h.0 h.1) }
+      record {
+        signal = s.signal;
+        begins = begins;
+        ends = ends;
+        worth = λ t v. (λ w. (between t (worth_within shape ks t v s.signal w), s.worth t v w), λ h. by_value t v h.0 h.1);
+      }
     where
       between : (t : Rational) → Within (start ks) (stop ks) t → Within from to t
       between t w = record { above = le_trans (ge_of_same begins) w.above; below = le_trans w.below (le_of_same ends) }

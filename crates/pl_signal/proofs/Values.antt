@@ -92,8 +92,11 @@ module _ {P : Type 0} (shape : ShapeOf P) where
   worth_same (k ∷ ks) v w e s (inl a) = inl (record { when = same_trans (same_sym e) a.when; worth = passes_same (shape.function k.point) v w e s a.worth })
   worth_same (k ∷ []) v w e s (inr (inl a)) = absurd a
   worth_same (k ∷ n ∷ ks) v w e s (inr (inl a)) =
-      inr (inl (record { after = lt_of_lt_of_le a.after (le_of_same e); before = lt_of_le_of_lt (ge_of_same e) a.before;
-      worth = passes_same (shape.function k.after) v w e s a.worth }))
+      inr (inl (record {
+        after = lt_of_lt_of_le a.after (le_of_same e);
+        before = lt_of_le_of_lt (ge_of_same e) a.before;
+        worth = passes_same (shape.function k.after) v w e s a.worth;
+      }))
   worth_same (k ∷ ks) v w e s (inr (inr a)) = inr (inr (worth_same ks v w e s a))
 
   -- the value at a knot by its place

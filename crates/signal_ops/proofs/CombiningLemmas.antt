@@ -81,9 +81,13 @@ module _ {P : Type 0} (shape : ShapeOf P) where
       (value_at (shape.function point) (time k)) → built ≡ record { time = k.time; point = point; after = point } ∷ []
       → TellsSoFar shape (ChosenOf b (IsWorth shape ks) (IsWorth shape ls)) built
   tells_chosen b ks ls built k l point s r at_k at_l same chosen e =
-      tells_first shape (ChosenOf b (IsWorth shape ks) (IsWorth shape ls)) built point k.time (chosen_is_function b ks ls s r)
-      (value_at (shape.function k.point) (time k), value_at (shape.function l.point) (time k), worth_at shape ks 0 k (time k) at_k (same_refl (time k)),
-      worth_at shape ls 0 l (time k) at_l same, chosen) e
+      tells_first shape (ChosenOf b (IsWorth shape ks) (IsWorth shape ls)) built point k.time (chosen_is_function b ks ls s r) (
+        value_at (shape.function k.point) (time k),
+        value_at (shape.function l.point) (time k),
+        worth_at shape ks 0 k (time k) at_k (same_refl (time k)),
+        worth_at shape ls 0 l (time k) at_l same,
+        chosen,
+      ) e
 
   -- a fault on a gap is a fault of the two signals
   pub fault_of_gap : (ks ls : List (Knot P)) (p q : P) (from to : Frac) (e : OpFault P) → IsGapFault shape p q from to e → start ks ≤ʳ value from
@@ -114,10 +118,20 @@ module _ {P : Type 0} (shape : ShapeOf P) where
     before_stop = lt_of_lt_of_le h.meet.before h.before_stop;
     above = h.meet.after;
     below = h.meet.before;
-    first = inl (record { a = value a; b = value b; above = h.meet.after; below = h.meet.before;
-        on = λ t x y. (value_at (shape.function p) t, h.left t x y, same_reflᵉ (value_at (shape.function p) t)) });
-    second = inr (record { a = value a; b = value b; above = h.meet.after; below = h.meet.before;
-        on = λ t x y. (value_at (shape.function q) t, h.right t x y, same_reflᵉ (value_at (shape.function q) t)) });
+    first = inl (record {
+      a = value a;
+      b = value b;
+      above = h.meet.after;
+      below = h.meet.before;
+      on = λ t x y. (value_at (shape.function p) t, h.left t x y, same_reflᵉ (value_at (shape.function p) t));
+    });
+    second = inr (record {
+      a = value a;
+      b = value b;
+      above = h.meet.after;
+      below = h.meet.before;
+      on = λ t x y. (value_at (shape.function q) t, h.right t x y, same_reflᵉ (value_at (shape.function q) t));
+    });
     meet = h.meet.meet;
     alone = h.meet.alone;
     denominator = h.denominator;

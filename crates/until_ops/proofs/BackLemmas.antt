@@ -3,7 +3,7 @@ use Rattle.std.proofs.Common.{◌≡◌, ℕ, ◌<◌, ◌⊎◌, inl, inr, ℤ,
 use Rattle.std.specs.Prelude.{nat_abs}
 use Rattle.value_laws.specs.Members.{ShapeOf}
 use lib.IntN.{neg_ℤ}
-use Rattle.rational.specs.Rational.{Rational, negate, ratio, ◌<ʳ◌, ◌≈◌}
+use Rattle.rational.specs.Rational.{Rational, negate, ratio, subtract, whole, ◌<ʳ◌, ◌≈◌}
 use Rattle.rational.specs.Time.{Within, Divides, IsLowest, HasDenominator}
 use Rattle.rational.specs.Extended.{Extended, finite, ◌≈ᵉ◌, Affine, value_at}
 use Rattle.rational.specs.InPlay.{IsLineOn, IsPart, IsBreakpoint, start, stop, inner, IsLeftLimit, IsRightLimit, IsCrossing, IsNext, IsPrevious, IsInPlay, since_start, until_end, IsWideCrossing, IsWideValue}
@@ -17,9 +17,9 @@ use Rattle.pl_signal.specs.declared.faults.WidePair.TheVariants.{Cross, Value}
 use Rattle.pl_signal.specs.declared.faults.OpFault.{OpFault}
 use Rattle.pl_signal.specs.declared.faults.OpFault.TheVariants as F
 use Rattle.pl_signal.specs.Wide.{HasCause, IsWideCause}
-use Rattle.until_ops.specs.Mirrors.{IsTurnedPair, IsTurnedFault}
+use Rattle.pl_signal.specs.Faults.{IsMirroredPair, IsPairwise}
 use Rattle.until_ops.specs.Walks.{IsPairWithin, PairWithin}
-use Rattle.until_ops.proofs.MirrorLemmas.{RunsBack, other_way, turned_affine}
+use Rattle.until_ops.proofs.MirrorLemmas.{RunsBack, about_zero, other_way, turned_affine, turned_of}
 
 -- g is f with time running back
 abbrev pub IsBack : Affine → Affine → Type 0
@@ -194,41 +194,37 @@ module _ (P P' Q Q' R R' : Function) (p_back : RunsBack P P') (q_back : RunsBack
         wide = w.wide;
       }
 
-  pub pair_back : {A : Type 0} (shape : ShapeOf A) (old new : WidePair A) → IsTurnedPair shape old new
+  pair_back : {A : Type 0} (shape : ShapeOf A) (old new : WidePair A) → IsMirroredPair shape (pos 0) old new
       → IsWideCause shape (since_start P' Q' R') from' to' old → IsWideCause shape (until_end P Q R) from to new
-  pair_back shape (Cross p q a b den) (Cross p' q' a' b' den') (f, g, e, e', same) h =
-      subst (λ d. IsWideCrossing After from to (shape.function p') (shape.function q') (value a') (value b') d) (sym same)
-      (crossing_cause (shape.function p') (shape.function q') (shape.function p) (shape.function q) (value a') (value b') (value a) (value b) den f g e e' h)
-  pair_back shape (Cross p q a b den) (Value p' at' den') t h = absurd t
-  pair_back shape (Value p at den) (Cross p' q' a' b' den') t h = absurd t
-  pair_back shape (Value p at den) (Value p' at' den') (f, e, same) h =
-      subst (λ d. IsWideValue After from to (shape.function p') (value at') d) (sym same)
-      (value_cause (shape.function p') (shape.function p) (value at') (value at) den f e h)
+  pair_back shape (Cross p q a b den) new (p', q', a', b', same, f, g, e, e') h =
+      subst (IsWideCause shape (until_end P Q R) from to) (sym same)
+      (crossing_cause (shape.function p') (shape.function q') (shape.function p) (shape.function q) (value a') (value b') (value a) (value b) den
+      (turned_of (shape.function p) (shape.function p') f) (turned_of (shape.function q) (shape.function q') g)
+      (same_trans e (about_zero (value b))) (same_trans e' (about_zero (value a))) h)
+  pair_back shape (Value p at den) new (p', at', same, f, e) h =
+      subst (IsWideCause shape (until_end P Q R) from to) (sym same)
+      (value_cause (shape.function p') (shape.function p) (value at') (value at) den
+      (turned_of (shape.function p) (shape.function p') f) (same_trans e (about_zero (value at))) h)
 
   -- a cause
-  pub cause_back : {A : Type 0} (shape : ShapeOf A) (old new : OpFault A) → IsTurnedFault shape old new
+  pub cause_back : {A : Type 0} (shape : ShapeOf A) (old new : OpFault A) → IsPairwise (IsMirroredPair shape (pos 0)) old new
       → HasCause shape (since_start P' Q' R') from' to' old → HasCause shape (until_end P Q R) from to new
-  cause_back shape F.Memory F.Memory t h = tt
-  cause_back shape F.Memory (F.Wide pair) t h = absurd t
-  cause_back shape (F.Wide pair) F.Memory t h = tt
-  cause_back shape (F.Wide old) (F.Wide new) t h = pair_back shape old new t h
+  cause_back shape F.Memory new t h = subst (HasCause shape (until_end P Q R) from to) (sym t) tt
+  cause_back shape (F.Wide old) new (pair, same, t) h = subst (HasCause shape (until_end P Q R) from to) (sym same) (pair_back shape old pair t h)
 
 -- and the times of a pair
 pub pair_turned : {A : Type 0} (shape : ShapeOf A) (old new : OpFault A) (from to from' to' : Rational) → from ≈ negate to' → to ≈ negate from'
-    → IsTurnedFault shape old new → IsPairWithin from' to' old → IsPairWithin from to new
-pair_turned shape F.Memory F.Memory from to from' to' e f t h = tt
-pair_turned shape F.Memory (F.Wide pair) from to from' to' e f t h = absurd t
-pair_turned shape (F.Wide pair) F.Memory from to from' to' e f t h = tt
-pair_turned shape (F.Wide old) (F.Wide new) from to from' to' e f t h = by_pair old new t h
+    → IsPairwise (IsMirroredPair shape (pos 0)) old new → IsPairWithin from' to' old → IsPairWithin from to new
+pair_turned shape F.Memory new from to from' to' e f t h = subst (IsPairWithin from to) (sym t) tt
+pair_turned {A} shape (F.Wide old) new from to from' to' e f (pair, same, t) h = subst (IsPairWithin from to) (sym same) (by_pair old t h)
   where
-    time_back : (u u' : Rational) → u ≈ negate u' → Within from' to' u' → Within from to u
-    time_back u u' s w = record {
+    time_back : (u u' : Rational) → u ≈ subtract (whole (pos 0)) u' → Within from' to' u' → Within from to u
+    time_back u u' is w = let s = same_trans is (about_zero u') in record {
       above = le_trans (le_of_same e) (le_trans (le_negate w.below) (ge_of_same s));
       below = le_trans (le_of_same s) (le_trans (le_negate w.above) (ge_of_same f));
     }
 
-    by_pair : (old new : WidePair _) → IsTurnedPair shape old new → PairWithin from' to' old → PairWithin from to new
-    by_pair (Cross p q a b den) (Cross p' q' a' b' den') (x, y, s, s', same) h = (time_back (value a') (value b) s h.1, time_back (value b') (value a) s' h.0)
-    by_pair (Cross p q a b den) (Value p' at' den') t h = absurd t
-    by_pair (Value p at den) (Cross p' q' a' b' den') t h = absurd t
-    by_pair (Value p at den) (Value p' at' den') (x, s, same) h = time_back (value at') (value at) s h
+    by_pair : (old : WidePair A) → IsMirroredPair shape (pos 0) old pair → PairWithin from' to' old → PairWithin from to pair
+    by_pair (Cross p q a b den) (p', q', a', b', is, x, y, s, s') h =
+        subst (PairWithin from to) (sym is) (time_back (value a') (value b) s h.1, time_back (value b') (value a) s' h.0)
+    by_pair (Value p at den) (p', at', is, x, s) h = subst (PairWithin from to) (sym is) (time_back (value at') (value at) s h)

@@ -1,11 +1,11 @@
 -- A signal that is mirrored about 0 runs back, and stays limited; the until of two signals is the since of the mirrored ones, mirrored.
-use Rattle.std.proofs.Common.{◌≡◌, ℕ, ◌^◌, ◌⊎◌, inl, inr, List, Bool, IsTrue, ℤ, pos, ◌-ℤ◌, arith}
+use Rattle.std.proofs.Common.{◌≡◌, ℕ, ◌≤◌, ◌^◌, ◌⊎◌, inl, inr, List, Bool, IsTrue, ℤ, pos, ◌-ℤ◌, arith}
 use Rattle.value_laws.specs.Members.{ShapeOf, ShapeLaws}
-use lib.IntN.{neg_ℤ}
 use Rattle.std.proofs.lemmas.Int.{ints}
+use Rattle.std.specs.Int.RustNames.{unsigned_abs}
 use Rattle.rational.specs.Rational.{Rational, negate, subtract, whole, IsWithin, ◌≈◌}
-use Rattle.rational.specs.Extended.{Extended, Affine}
-use Rattle.rational.specs.Affine.{IsBounded}
+use Rattle.rational.specs.Time.{Within}
+use Rattle.rational.specs.Extended.{Extended}
 use Rattle.rational.proofs.Order.{le_of_same, ge_of_same, le_trans, same_sym, same_trans}
 use Rattle.rational.proofs.Field.{le_negate, same_negate}
 use Rattle.rational.proofs.Mixed.{within_negate, within_same}
@@ -14,6 +14,7 @@ use Rattle.pl_signal.specs.declared.knot.Knot.{Knot}
 use Rattle.pl_signal.specs.declared.faults.WidePair.TheVariants.{Cross, Value}
 use Rattle.pl_signal.specs.declared.faults.OpFault.{OpFault}
 use Rattle.pl_signal.specs.declared.faults.OpFault.TheVariants as F
+use Rattle.pl_signal.specs.Faults.{CanMirror, OfPair}
 use Rattle.pl_signal.specs.Knots.{start, stop, HasShape, IsSignal, IsWorth}
 use Rattle.pl_signal.specs.Limits.{IsLimited}
 use Rattle.pl_signal.specs.Moves.{Tells, BasesFrom}
@@ -25,15 +26,22 @@ use Rattle.pl_signal.proofs.Limits.{limited, limited_start, limited_stop, worth_
 use Rattle.until_ops.proofs.BoundLemmas.{since_bounded}
 use Rattle.until_ops.proofs.MirrorLemmas.{RunsBack, about_zero, until_runs_back, until_is_function}
 
--- the pair of a domain within 2^34 lies within 2^34
-pub pair_near : {A : Type 0} (n : ℕ) (from to : Rational) (e : OpFault A) → IsWithin n from → IsWithin n to → IsPairWithin from to e
-    → IsPairWithin (whole (neg_ℤ (pos n))) (whole (pos n)) e
-pair_near n from to F.Memory a b h = tt
-pair_near n from to (F.Wide (Cross p q c d den)) a b h = (
-  record { above = le_trans a.0 h.0.above; below = le_trans h.0.below b.1 },
-  record { above = le_trans a.0 h.1.above; below = le_trans h.1.below b.1 },
-)
-pair_near n from to (F.Wide (Value p at den)) a b h = record { above = le_trans a.0 h.above; below = le_trans h.below b.1 }
+-- a fault with times in a domain within 2^34 may be mirrored about 0
+pub can_mirror : {A : Type 0} {shape : ShapeOf A} {from to : Rational} (laws : ShapeLaws shape) (e : OpFault A) → IsWithin (2 ^ 34) from → IsWithin (2 ^ 34) to
+    → IsPairWithin from to e → OfPair (CanMirror shape (pos 0)) e
+can_mirror {A} {shape} {from} {to} laws e low high h = by_fault e h
+  where
+    near : (t : Rational) → Within from to t → IsWithin (2 ^ 34) t
+    near t w = (le_trans low.0 w.above, le_trans w.below high.1)
+
+    size : (b : ℤ) → unsigned_abs b ≤ 2 ^ 34 → unsigned_abs (pos 0 -ℤ b) ≤ 2 ^ 34
+    size b h = omega (arith, ints, h)
+
+    by_fault : (e : OpFault A) → IsPairWithin from to e → OfPair (CanMirror shape (pos 0)) e
+    by_fault F.Memory h = tt
+    by_fault (F.Wide (Cross p q a b den)) h =
+        (size (shape.base p) (laws.base_within p), size (shape.base q) (laws.base_within q), near (value a) h.0, near (value b) h.1)
+    by_fault (F.Wide (Value p at den)) h = (size (shape.base p) (laws.base_within p), near (value at) h)
 
 -- the signal of the one list, which is limited, is that of the other, mirrored about 0
 pub record IsMirrorOf {P : Type 0} (shape : ShapeOf P) (ks new : List (Knot P)) : Type 0 where

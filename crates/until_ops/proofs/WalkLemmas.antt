@@ -360,8 +360,8 @@ module _ {P : Type 0} {shape : ShapeOf P} {p q built : List (Knot P)} {now : Sta
       tells = tells_join shape (SinceOf shape p q) course.side built new course.first course.second v turn.time (is_since shape p q)
           (record { signal = w.stands.signal; worth = w.stands.worth }) joins
           (λ t u after before h.
-              let after' = subst (λ e. e <ʳ t) w.stands.ends after in
-              gap_value w.two follows e.turning.in_order t u after' before (e.goes.onward t u after' (le_of_lt before) h))
+          let after' = subst (λ e. e <ʳ t) w.stands.ends after in
+          gap_value w.two follows e.turning.in_order t u after' before (e.goes.onward t u after' (le_of_lt before) h))
           here
 
       by_shape : (r : P) → HasShape built r ⊎ (r ≡ course.first) ⊎ (r ≡ course.second) ⊎ (r ≡ v) → IsOfSides shape p q r

@@ -61,7 +61,8 @@ returns-in_err-within-clause-wide g c = err_same c.from_residual.result c.in_err
     c.in_err-within.field-0.0 c.in_err-within.ensures.wide)
 
 pub returns-in_err-from_start-clause-wide : goal.returns-in_err-from_start-clause-wide
-returns-in_err-from_start-clause-wide g c = err_same c.from_residual-in_err-from_start.result c.in_err-from_start.field-0.0 _ c.from_residual-in_err-from_start.ensures.1
+returns-in_err-from_start-clause-wide g c =
+    err_same c.from_residual-in_err-from_start.result c.in_err-from_start.field-0.0 _ c.from_residual-in_err-from_start.ensures.1
     (λ s p q ends left right. from_start_fault g.P.Shape c.args.x.now c.args.y.now p q c.args.low c.args.high s c.in_err-from_start.field-0.0
     ends.lowest ends.highest left right c.in_err-from_start.ensures.wide)
 

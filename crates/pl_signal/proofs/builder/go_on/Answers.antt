@@ -17,7 +17,7 @@ can_be_left_out-spare-requires g c =
 pub returns-then-spare-clause-on : goal.returns-then-spare-clause-on
 returns-then-spare-clause-on g c =
     let count : length c.args.knots.now.items ≡ (c.len-last.result - 1 - 1) + 2 = let some = c.requires.signal.some in let n = c.if-last-eq0.false in
-        omega arith in
+    omega arith in
     let place : c.len-last.result - 1 ≡ (c.len-last.result - 1 - 1) + 1 = let n = c.if-last-eq0.false in omega arith in
     step_left g.P.Shape c.args.knots.now.items (c.len-last.result - 1 - 1) (c.len-last.result - 1) c.index.result.now c.index-2.result.now
     c.args.after c.args.at c.args.point count place
@@ -26,7 +26,7 @@ returns-then-spare-clause-on g c =
 pub returns-clause-on : goal.returns-clause-on
 returns-clause-on g c =
     let count : length c.args.knots.now.items ≡ (c.len-last.result - 1 - 1) + 2 = let some = c.requires.signal.some in let n = c.if-last-eq0.false in
-        omega arith in
+    omega arith in
     let place : c.len-last.result - 1 ≡ (c.len-last.result - 1 - 1) + 1 = let n = c.if-last-eq0.false in omega arith in
     step_kept g.P.Shape c.args.knots.now.items c.append-2.new.knots.items (c.len-last.result - 1 - 1) c.index.result.now c.index-2.result.now
     c.args.after c.args.at c.args.point count

@@ -28,7 +28,7 @@ between-requires g c =
     let n = c.index-knots-j.result in
     let at_j : n ≡ get_or c.args.knots.now c.place_of-j.result n = c.index-knots-j.is in
     let all = cut_at_knot g.P.Shape c.args.knots.now c.place_of-i.result c.place_of-j.result k n c.args.from.now c.args.to.now
-        c.shape_from-point.result c.requires.signal
+    c.shape_from-point.result c.requires.signal
     c.place_of-i.ensures.inside c.place_of-j.ensures.inside at_i at_j
     (earlier c.cmp.result c.cmp.ensures c.requires.order c.in_default.not-Equal)
     (c.place_of-i.ensures.not_later k (slice_get_read c.args.knots.now (length c.args.knots.now) c.place_of-i.result k refl c.place_of-i.ensures.inside at_i))
@@ -60,7 +60,7 @@ between-requires-2 g c =
     let n = c.index-knots-j.result in
     let at_j : n ≡ get_or c.args.knots.now c.place_of-j.result n = c.index-knots-j.is in
     let all = cut_after_knot g.P.Shape c.args.knots.now c.place_of-i.result c.place_of-j.result k n c.args.from.now c.args.to.now
-        c.shape_from-point.result c.requires.signal
+    c.shape_from-point.result c.requires.signal
     c.place_of-i.ensures.inside c.place_of-j.ensures.inside at_i at_j
     (earlier c.cmp.result c.cmp.ensures c.requires.order c.in_default.not-Equal)
     (c.place_of-i.ensures.not_later k (slice_get_read c.args.knots.now (length c.args.knots.now) c.place_of-i.result k refl c.place_of-i.ensures.inside at_i))

@@ -44,10 +44,10 @@ pub shift-requires-in-loop-i : goal.shift-requires-in-loop-i
 shift-requires-in-loop-i g c =
     let e : to_z w64 (of_z w64 c.args.by) ≡ c.args.by = search (rules, to_z-of_z) in
     let w : to_z w64 (of_z w64 (pos 0 -ℤ (to_z w64 (of_z w64 c.args.by)))) ≡ neg_ℤ (to_z w64 (of_z w64 c.args.by)) =
-        to_z-of_z w64 (pos 0 -ℤ (to_z w64 (of_z w64 c.args.by)))
-        (subst (λ z. FitsSigned w64 (pos 0 -ℤ z)) (sym e)
-        (back_fits c.args.by c.requires.from_within (within_same (2 ^ 34) (same_sym c.requires.begins) c.requires.start_within) c.ranges.by)) ∙
-        minus_is (to_z w64 (of_z w64 c.args.by)) in
+    to_z-of_z w64 (pos 0 -ℤ (to_z w64 (of_z w64 c.args.by)))
+    (subst (λ z. FitsSigned w64 (pos 0 -ℤ z)) (sym e)
+    (back_fits c.args.by c.requires.from_within (within_same (2 ^ 34) (same_sym c.requires.begins) c.requires.start_within) c.ranges.by)) ∙
+    minus_is (to_z w64 (of_z w64 c.args.by)) in
     subst (λ y. FitsFloor w64 (add (value c.knot-knot.result.time) (whole y))) (sym (w ∙ ap neg_ℤ e))
     (fits_of_within w64 (2 ^ 34) (lit< tt)
     (shifted_within g.P.Shape c.args.s.now c.loop-i.i c.knot-knot.result c.args.by {from = value c.args.from.now} c.len-count.ensures.signal
@@ -73,10 +73,10 @@ pub step-requires-clause-later : goal.step-requires-clause-later
 step-requires-clause-later g c =
     let e : to_z w64 (of_z w64 c.args.by) ≡ c.args.by = search (rules, to_z-of_z) in
     let w : to_z w64 (of_z w64 (pos 0 -ℤ (to_z w64 (of_z w64 c.args.by)))) ≡ neg_ℤ (to_z w64 (of_z w64 c.args.by)) =
-        to_z-of_z w64 (pos 0 -ℤ (to_z w64 (of_z w64 c.args.by)))
-        (subst (λ z. FitsSigned w64 (pos 0 -ℤ z)) (sym e)
-        (back_fits c.args.by c.requires.from_within (within_same (2 ^ 34) (same_sym c.requires.begins) c.requires.start_within) c.ranges.by)) ∙
-        minus_is (to_z w64 (of_z w64 c.args.by)) in
+    to_z-of_z w64 (pos 0 -ℤ (to_z w64 (of_z w64 c.args.by)))
+    (subst (λ z. FitsSigned w64 (pos 0 -ℤ z)) (sym e)
+    (back_fits c.args.by c.requires.from_within (within_same (2 ^ 34) (same_sym c.requires.begins) c.requires.start_within) c.ranges.by)) ∙
+    minus_is (to_z w64 (of_z w64 c.args.by)) in
     let place : c.loop-i.i - 1 + 1 ≡ c.loop-i.i = let low = c.loop-i.auto.i in omega arith in
     let next = subst (λ i. slice_get c.args.s.now i ≡ Some c.knot-knot.result) (sym place) c.knot-knot.ensures in
     let stops = c.loop-i.invariant.ends (c.loop-i.i - 1) c.knot-before.result place c.knot-before.ensures in
@@ -91,7 +91,7 @@ loop-i-init g c =
     let first = first_is g.P.Shape c.args.s.now c.len-count.ensures.signal.some in
     let start_is = first.2 ∙ ap (λ k. time k) (same_knot g.P.Shape c.args.s.now 0 c.knot.ensures first.1) in
     let begins = subst (λ s. add (value c.args.from.now) (whole (to_z w64 (of_z w64 c.args.by))) ≈ s) start_is
-        (subst (λ z. add (value c.args.from.now) (whole z) ≈ start c.args.s.now) (sym e) c.requires.begins) in
+    (subst (λ z. add (value c.args.from.now) (whole z) ≈ start c.args.s.now) (sym e) c.requires.begins) in
     record {
       tells = shift_first g.P.Shape c.args.s.now c.in_ok-built.built (to_z w64 (of_z w64 c.args.by)) 0 c.knot.result c.shift.result c.args.from.now
           c.len-count.ensures.signal c.knot.ensures begins c.shift.ensures.value c.in_ok-built.ensures;
@@ -109,10 +109,10 @@ pub loop-i-preserved : goal.loop-i-preserved
 loop-i-preserved g c =
     let e : to_z w64 (of_z w64 c.args.by) ≡ c.args.by = search (rules, to_z-of_z) in
     let w : to_z w64 (of_z w64 (pos 0 -ℤ (to_z w64 (of_z w64 c.args.by)))) ≡ neg_ℤ (to_z w64 (of_z w64 c.args.by)) =
-        to_z-of_z w64 (pos 0 -ℤ (to_z w64 (of_z w64 c.args.by)))
-        (subst (λ z. FitsSigned w64 (pos 0 -ℤ z)) (sym e)
-        (back_fits c.args.by c.requires.from_within (within_same (2 ^ 34) (same_sym c.requires.begins) c.requires.start_within) c.ranges.by)) ∙
-        minus_is (to_z w64 (of_z w64 c.args.by)) in
+    to_z-of_z w64 (pos 0 -ℤ (to_z w64 (of_z w64 c.args.by)))
+    (subst (λ z. FitsSigned w64 (pos 0 -ℤ z)) (sym e)
+    (back_fits c.args.by c.requires.from_within (within_same (2 ^ 34) (same_sym c.requires.begins) c.requires.start_within) c.ranges.by)) ∙
+    minus_is (to_z w64 (of_z w64 c.args.by)) in
     let place : c.loop-i.i - 1 + 1 ≡ c.loop-i.i = let low = c.loop-i.auto.i in omega arith in
     let next = subst (λ i. slice_get c.args.s.now i ≡ Some c.knot-knot.result) (sym place) c.knot-knot.ensures in
     let stops = c.loop-i.invariant.ends (c.loop-i.i - 1) c.knot-before.result place c.knot-before.ensures in
@@ -138,9 +138,9 @@ pub returns-clause-worth : goal.returns-clause-worth
 returns-clause-worth g c =
     let e : to_z w64 (of_z w64 c.args.by) ≡ c.args.by = search (rules, to_z-of_z) in
     let all : c.loop-i.i ≡ length c.args.s.now = let no_more = c.loop-i-test.false in let most = c.loop-i.auto.i-end in let some =
-        c.len-count.ensures.some in let value = c.len-count.ensures.value in omega arith in
+    c.len-count.ensures.some in let value = c.len-count.ensures.value in omega arith in
     let last : (k : Knot _) × (slice_get c.args.s.now (c.loop-i.i - 1) ≡ Some k) × (stop c.args.s.now ≡ time k) =
-        last_of g.P.Shape c.args.s.now c.loop-i.i c.len-count.ensures.signal.some all in
+    last_of g.P.Shape c.args.s.now c.loop-i.i c.len-count.ensures.signal.some all in
     let place : c.loop-i.i - 1 + 1 ≡ c.loop-i.i = let low = c.loop-i.auto.i in omega arith in
     subst (λ z. Tells g.P.Shape (λ t v. IsWorth g.P.Shape c.args.s.now (add t (whole z)) v) (value c.args.from.now)
     (add (stop c.args.s.now) (whole (neg_ℤ z))) c.finish.result) e

@@ -65,9 +65,9 @@ loop-i-preserved g c =
 pub returns-clause-worth : goal.returns-clause-worth
 returns-clause-worth g c =
     let all : c.loop-i.i ≡ length c.args.s.now = let no_more = c.loop-i-test.false in let most = c.loop-i.auto.i-end in let some =
-        c.len-count.ensures.some in let value = c.len-count.ensures.value in omega arith in
+    c.len-count.ensures.some in let value = c.len-count.ensures.value in omega arith in
     let last : (k : Knot _) × (slice_get c.args.s.now (c.loop-i.i - 1) ≡ Some k) × (stop c.args.s.now ≡ time k) =
-        last_of g.P.Shape c.args.s.now c.loop-i.i c.len-count.ensures.signal.some all in
+    last_of g.P.Shape c.args.s.now c.loop-i.i c.len-count.ensures.signal.some all in
     let place : c.loop-i.i - 1 + 1 ≡ c.loop-i.i = let low = c.loop-i.auto.i in omega arith in
     subst (Tells g.P.Shape (Negated (IsWorth g.P.Shape c.args.s.now)) (start c.args.s.now) (stop c.args.s.now)) (sym c.finish.ensures.value)
     (told g.P.Shape (Negated (IsWorth g.P.Shape c.args.s.now)) (start c.args.s.now) (stop c.args.s.now) c.loop-i.built

@@ -51,7 +51,7 @@ pub knot-requires-in-loop-i-3 : goal.knot-requires-in-loop-i-3
 knot-requires-in-loop-i-3 g c =
     let before_a = c.loop-i.invariant.left.later c.knot-in-loop-i-2.result c.knot-in-loop-i-2.ensures in
     let stop_a = (at_knot_within g.P.Shape c.args.a.now (c.loop-i.i + 1) c.knot-in-loop-i-2.result c.len-last.ensures.signal
-        c.knot-in-loop-i-2.ensures).below in
+    c.knot-in-loop-i-2.ensures).below in
     more_knots g.P.Shape c.args.b.now c.loop-i.j c.knot-in-loop-i.result (stop c.loop-i.built) c.loop-i.invariant.right c.knot-in-loop-i.ensures
     (lt_of_lt_of_le before_a (le_trans stop_a (le_of_same c.requires.ends)))
 
@@ -65,8 +65,11 @@ below g c = le_trans c.earlier-to.ensures.left
     (at_knot_within g.P.Shape c.args.a.now (c.loop-i.i + 1) c.knot-in-loop-i-2.result c.len-last.ensures.signal c.knot-in-loop-i-2.ensures).below
 
 within : (g : Over) (c : After-earlier-to g) → IsWithin (2 ^ 34) (value c.earlier-to.result)
-within g c = (le_trans c.loop-i.invariant.within.0 (le_of_lt (order g c)), le_trans c.earlier-to.ensures.left
-    (limited_at g.P.Shape c.args.a.now (c.loop-i.i + 1) c.knot-in-loop-i-2.result c.requires.left c.knot-in-loop-i-2.ensures).1)
+within g c = (
+  le_trans c.loop-i.invariant.within.0 (le_of_lt (order g c)),
+  le_trans c.earlier-to.ensures.left
+      (limited_at g.P.Shape c.args.a.now (c.loop-i.i + 1) c.knot-in-loop-i-2.result c.requires.left c.knot-in-loop-i-2.ensures).1,
+)
 
 -- both signals on the gap up to it
 left_on : (g : Over) (c : After-earlier-to g) (t : Rational) → stop c.loop-i.built <ʳ t → t <ʳ value c.earlier-to.result
@@ -169,7 +172,7 @@ pub returns-clause-worth : goal.returns-clause-worth
 returns-clause-worth g c =
     let last : length c.args.a.now ≤ c.loop-i.i + 1 = let no_more = c.loop-i-test.false in let count = c.len-last.ensures.value in omega arith in
     let here = at_stop g.P.Shape c.args.a.now c.loop-i.i (stop c.loop-i.built) c.len-last.ensures.signal.some c.loop-i.invariant.left last
-        c.loop-i.invariant.below in
+    c.loop-i.invariant.below in
     subst (Tells g.P.Shape (ChosenOf c.args.side (IsWorth g.P.Shape c.args.a.now) (IsWorth g.P.Shape c.args.b.now)) (start c.args.a.now)
     (stop c.args.a.now)) (sym c.finish.ensures.value)
     (told g.P.Shape (ChosenOf c.args.side (IsWorth g.P.Shape c.args.a.now) (IsWorth g.P.Shape c.args.b.now)) (start c.args.a.now)

@@ -7,7 +7,7 @@ use Rattle.pl_signal.specs.Limits.{IsLimited}
 use Rattle.pl_signal.proofs.Limits.{limited_start, limited_stop}
 use Rattle.until_ops.specs.Untils.{SinceOf, UntilOf}
 use Rattle.until_ops.proofs.BackLemmas.{cause_back, pair_turned}
-use Rattle.until_ops.proofs.UntilLemmas.{AreMirrors, mirror_limited, mirror_starts, mirror_stops, pair_near, runs_back, since_back, since_limited, starts_back, stops_back, until_bases, until_told}
+use Rattle.until_ops.proofs.UntilLemmas.{AreMirrors, can_mirror, mirror_limited, mirror_starts, mirror_stops, runs_back, since_back, since_limited, starts_back, stops_back, until_bases, until_told}
 use Rattle.until_ops.proofs.until.until_to_end.Given.{Over}
 use Rattle.until_ops.proofs.until.until_to_end.Goals.{In_ok-right, In-Ok}
 use Rattle.until_ops.proofs.until.until_to_end.Goals as goal
@@ -64,13 +64,13 @@ returns-in-Ok-clause-bases g c =
     until_bases g.P.Shape c.args.p.now c.args.q.now c.in_ok-left.left c.in_ok-right.right c.in-Ok.since c.in_ok-mirror-in-Ok.field-0
     c.in_ok-left.ensures.bases c.in_ok-right.ensures.bases c.in-Ok.ensures.bases c.in_ok-mirror-in-Ok.ensures.bases
 
-pub turned-requires : goal.turned-requires
-turned-requires g c =
+pub mirrored-requires-clause-pair : goal.mirrored-requires-clause-pair
+mirrored-requires-clause-pair g c =
     let left = c.in_ok-left.left in
     let signal = c.in_ok-left.ensures.worth.signal in
-    let small = mirror_limited (mirrors g (goal.at.turned-requires g c).In_ok-right).of_left in
-    pair_near (2 ^ 34) (start left) (stop left) c.in-Err.fault (limited_start g.P.Shape left signal small)
-    (limited_stop g.P.Shape left signal small) c.in-Err.ensures.pair
+    let m = mirrors g (goal.at.mirrored-requires-clause-pair g c).In_ok-right in
+    let small = mirror_limited m.of_left in
+    can_mirror m.laws c.in-Err.fault (limited_start g.P.Shape left signal small) (limited_stop g.P.Shape left signal small) c.in-Err.ensures.pair
 
 pub returns-clause-wide : goal.returns-clause-wide
 returns-clause-wide g c =
@@ -78,10 +78,10 @@ returns-clause-wide g c =
     cause_back (IsWorth g.P.Shape c.args.p.now) (IsWorth g.P.Shape c.in_ok-left.left) (IsWorth g.P.Shape c.args.q.now) (IsWorth g.P.Shape c.in_ok-right.right)
     (UntilOf g.P.Shape c.args.p.now c.args.q.now) (SinceOf g.P.Shape c.in_ok-left.left c.in_ok-right.right)
     (runs_back m.of_left) (runs_back m.of_right) (since_back m) (start c.args.p.now) (stop c.args.p.now) (start c.in_ok-left.left) (stop c.in_ok-left.left)
-    (starts_back m.of_left) (stops_back m.of_left) g.P.Shape c.in-Err.fault c.turned.result c.turned.ensures c.in-Err.ensures.wide
+    (starts_back m.of_left) (stops_back m.of_left) g.P.Shape c.in-Err.fault c.mirrored.result c.mirrored.ensures c.in-Err.ensures.wide
 
 pub returns-clause-pair : goal.returns-clause-pair
 returns-clause-pair g c =
     let m = mirrors g (goal.at.returns-clause-pair g c).In_ok-right in
-    pair_turned g.P.Shape c.in-Err.fault c.turned.result (start c.args.p.now) (stop c.args.p.now) (start c.in_ok-left.left) (stop c.in_ok-left.left)
-    (starts_back m.of_left) (stops_back m.of_left) c.turned.ensures c.in-Err.ensures.pair
+    pair_turned g.P.Shape c.in-Err.fault c.mirrored.result (start c.args.p.now) (stop c.args.p.now) (start c.in_ok-left.left) (stop c.in_ok-left.left)
+    (starts_back m.of_left) (stops_back m.of_left) c.mirrored.ensures c.in-Err.ensures.pair

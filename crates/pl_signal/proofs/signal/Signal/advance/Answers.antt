@@ -21,10 +21,10 @@ returns-in-Equal-clause-worth g c = worth_at g.P.Shape c.args.self.now (c.args.p
 pub returns : goal.returns
 returns g c =
     let before : value c.args.to.now <ʳ time c.knot-next.result =
-        later_than c.cmp.result c.cmp.ensures (c.requires.next c.knot-next.result c.knot-next.ensures) c.in_default.not-Equal in
+    later_than c.cmp.result c.cmp.ensures (c.requires.next c.knot-next.result c.knot-next.ensures) c.in_default.not-Equal in
     let inside : c.args.place < length c.args.self.now = let more = c.requires.more in omega arith in
     let stays = place_stays g.P.Shape c.args.self.now c.args.place c.knot-next.result
-        (value c.args.to.now) inside c.requires.begun c.knot-next.ensures before in
+    (value c.args.to.now) inside c.requires.begun c.knot-next.ensures before in
     record {
       place = stays;
       shape = shape_after g.P.Shape c.args.self.now c.args.place c.knot.result c.knot.ensures;

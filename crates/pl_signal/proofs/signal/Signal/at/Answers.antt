@@ -35,7 +35,7 @@ returns g c =
     slice_get_read c.self.inside.knots.items (length c.self.inside.knots.items) c.place_of-place.result c.index-knot.result.now refl
     (subst (λ ks. c.place_of-place.result < length ks) c.deref.ensures.value c.place_of-place.ensures.inside) c.index-knot.ensures in
     let more : c.place_of-place.result + 1 < length c.self.inside.knots.items = let n = c.if-place-len.false in let l =
-        c.place_of-place.ensures.inside in let d = c.deref.ensures.len in let m = c.len.ensures in omega arith in
+    c.place_of-place.ensures.inside in let d = c.deref.ensures.len in let m = c.len.ensures in omega arith in
     let order : time c.index-knot.result.now <ʳ value c.args.t.now =
     earlier c.cmp-2.result c.cmp-2.ensures
     (c.place_of-place.ensures.not_later c.index-knot.result.now
