@@ -21,7 +21,7 @@ use Rattle.pl_signal.specs.Wide.{HasCause}
 use Rattle.pl_signal.proofs.Values.{every_time, worth_same, worth_within}
 use Rattle.signal_ops.specs.Pointwise.{LeastOf, IsFault}
 use Rattle.window_ops.specs.Windows.{SupAhead, InfAhead, SupBehind, InfBehind}
-use Rattle.until_ops.specs.Composition.{HasUntilToEnd, HasSinceFromStart, UntilIsComposed, SinceIsComposed}
+use Rattle.rational.specs.UntilParts.{HasUntilToEnd, HasSinceFromStart, UntilIsComposed, SinceIsComposed}
 use Rattle.until_ops.specs.Untils.{BasesOfTwo, UntilOf, SinceOf, UntilStep, SinceStep}
 use Rattle.stl_syntax.specs.Formula.{Subformula, until, since}
 use Rattle.stl_syntax.specs.SupInf.{Setting, SupInf}

@@ -1,5 +1,5 @@
 -- Times of a fault that are mirrored.
-use Rattle.std.proofs.Common.{◌≤◌, ◌^◌, ℤ, w64, lit<, arith}
+use Rattle.std.proofs.Common.{◌+◌, ◌≤◌, ◌^◌, ℤ, w64, lit<}
 use Rattle.std.specs.Int.RustNames.{unsigned_abs}
 use Rattle.rational.specs.Rational.{Rational, IsWithin, FitsFloor, subtract, whole}
 use Rattle.rational.proofs.Mixed.{fits_of_within, within_add, within_negate, within_whole}

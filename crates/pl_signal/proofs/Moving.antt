@@ -1,5 +1,5 @@
 -- Signals moved in time, knot by knot.
-use Rattle.std.proofs.Common.{◌≡◌, ℕ, zero, suc, ◌+◌, ◌-◌, ◌*◌, ◌<◌, ◌^◌, ◌⊎◌, inl, inr, List, [], ◌∷◌, length, Some, ℤ, pos, neg_ℤ, refl, sym, ◌∙◌, ap, subst, arith, IsTrue, get_or, negsuc, ◌≤ℤ◌, ◌-ℤ◌, ◌≤◌}
+use Rattle.std.proofs.Common.{◌≡◌, ℕ, zero, suc, ◌+◌, ◌-◌, ◌*◌, ◌<◌, ◌^◌, ◌⊎◌, inl, inr, List, [], ◌∷◌, length, Some, ℤ, pos, neg_ℤ, refl, ◌∙◌, ap, subst, arith, IsTrue, get_or, negsuc, ◌≤ℤ◌, ◌-ℤ◌, ◌≤◌}
 use Rattle.std.specs.Prelude.{slice_get}
 use Rattle.std.specs.Int.{w64}
 use Rattle.std.proofs.lemmas.Option.{slice_get_past, slice_get-get_or}
@@ -8,11 +8,11 @@ use Rattle.std.specs.Prelude.{FitsSigned}
 use Rattle.std.proofs.Common.{le_of_mul-le-mul_right}
 use Rattle.rational.specs.Rational.{Rational, part_above, part_below, add, subtract, whole, IsWithin}
 use Rattle.rational.specs.Time.{Within, ◌≤ʳ◌, ◌<ʳ◌, ◌≈◌}
-use Rattle.rational.specs.Extended.{Extended, value_at, ◌≈ᵉ◌}
+use Rattle.rational.specs.Extended.{value_at, ◌≈ᵉ◌}
 use Rattle.rational.proofs.Mixed.{parts}
 use Rattle.rational.proofs.Order.{le_trans, lt_of_lt_of_le, lt_of_le_of_lt, le_of_same, ge_of_same, same_refl, same_sym, same_trans}
 use Rattle.rational.proofs.Shift.{shift_back, le_shift, lt_shift, same_shift}
-use Rattle.rational.proofs.AffineLemmas.{same_symᵉ, same_transᵉ, value_same}
+use Rattle.rational.proofs.AffineLemmas.{same_symᵉ}
 use Rattle.rational.proofs.Sames.{symᵉ}
 use Rattle.frac128.specs.Value.{value}
 use Rattle.frac128.specs.declared.frac.Frac.{Frac}

@@ -1,11 +1,12 @@
 -- Signals that tell a function of time, and how they are built.
 use Rattle.std.proofs.Common.{◌≡◌, ◌⊎◌, inl, inr, List, [], ◌∷◌, refl, sym, subst, arith}
 use Rattle.rational.specs.Time.{Rational, Within, ◌<ʳ◌, ◌≈◌}
-use Rattle.rational.specs.Extended.{Extended, Passes, value_at, ◌≈ᵉ◌}
+use Rattle.rational.specs.Extended.{Extended, Passes, value_at}
 use Rattle.rational.specs.Windows.{Function}
 use Rattle.rational.proofs.Order.{le_of_same, ge_of_same, le_trans, same_refl, same_sym}
 use Rattle.rational.proofs.AffineLemmas.{value_same}
 use Rattle.rational.proofs.Sames.{symᵉ, transᵉ}
+pub use Rattle.rational.proofs.TimeFunctions.{IsFunction}
 use Rattle.frac128.specs.Value.{value}
 use Rattle.frac128.specs.declared.frac.Frac.{Frac}
 use Rattle.value_laws.specs.Members.{ShapeOf}
@@ -16,11 +17,6 @@ use Rattle.pl_signal.specs.Knots.{start, stop, IsWorth, IsSignal}
 use Rattle.pl_signal.specs.Building.{GoesOn}
 use Rattle.pl_signal.specs.Moves.{Tells}
 use Rattle.pl_signal.proofs.Values.{worth_within, every_time, one_value, worth_same}
-
--- a function of time with one value at each time, by whichever pairs time and value are written
-pub record IsFunction (F : Function) : Type 0 where
-  pub alike : (t u : Rational) (v w : Extended) → t ≈ u → v ≈ᵉ w → F t v → F u w
-  pub one : (t : Rational) (v w : Extended) → F t v → F t w → v ≈ᵉ w
 
 module _ {P : Type 0} (shape : ShapeOf P) where
   pub worth_is_function : (ks : List (Knot P)) → IsSignal shape ks → IsFunction (IsWorth shape ks)

@@ -108,7 +108,7 @@ impl<P: Shape> OpFault<P> {
         requires { OfPair (HasBoundedLevels P.Shape) self.now }
         ensures { IsPairwise (IsNegatedPair P.Shape) self.now result }
     {
-        match self {
+        match *self {
             OpFault::Memory => OpFault::Memory,
             OpFault::Wide(pair) => OpFault::Wide(pair.negated()),
         }
@@ -120,7 +120,7 @@ impl<P: Shape> OpFault<P> {
         requires pair { OfPair (CanMirror P.Shape about) self.now }
         ensures { IsPairwise (IsMirroredPair P.Shape about) self.now result }
     {
-        match self {
+        match *self {
             OpFault::Memory => OpFault::Memory,
             OpFault::Wide(pair) => OpFault::Wide(pair.mirrored(about)),
         }

@@ -20,3 +20,14 @@ pub mod AffineMeetings
 pub mod LimitLemmas
 pub mod Bounds
 pub mod Sames
+pub mod TimeFunctions
+pub mod UntilComposition
+pub mod SinceForward
+pub mod SinceOnGaps
+pub mod SinceOnward
+pub mod SinceAtPoints
+pub mod Events
+pub mod RunningBack
+pub mod UntilBounds
+pub mod PlayBack
+pub mod UntilExistence

@@ -5,3 +5,5 @@ pub mod Extended
 pub mod Windows
 pub mod Affine
 pub mod InPlay
+pub mod Onward
+pub mod UntilParts

@@ -1,12 +1,12 @@
 -- The least or the greatest of two signals, gap by gap.
-use Rattle.std.proofs.Common.{◌≡◌, ◌⊎◌, inl, inr, List, [], ◌∷◌, Some, refl, sym, ◌∙◌, subst, arith}
+use Rattle.std.proofs.Common.{◌≡◌, ◌⊎◌, inl, inr, List, [], ◌∷◌, Some, sym, ◌∙◌, subst}
 use Rattle.std.specs.Prelude.{slice_get, Result, Ok, Err, IfErr}
 use Rattle.rational.specs.Time.{Rational, ◌≤ʳ◌, ◌<ʳ◌, ◌≈◌}
-use Rattle.rational.specs.Extended.{Extended, value_at, Passes}
+use Rattle.rational.specs.Extended.{value_at}
 use Rattle.rational.specs.InPlay.{of_two}
 use Rattle.rational.specs.Windows.{Function}
-use Rattle.rational.proofs.Order.{lt_of_lt_of_le, lt_of_le_of_lt, same_refl, same_sym}
-use Rattle.rational.proofs.AffineLemmas.{same_symᵉ, same_transᵉ, same_reflᵉ, value_same}
+use Rattle.rational.proofs.Order.{lt_of_lt_of_le, lt_of_le_of_lt, same_refl}
+use Rattle.rational.proofs.AffineLemmas.{same_reflᵉ}
 use Rattle.frac128.specs.Value.{value}
 use Rattle.frac128.specs.declared.frac.Frac.{Frac}
 use Rattle.value_laws.specs.Members.{ShapeOf}

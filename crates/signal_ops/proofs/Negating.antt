@@ -1,11 +1,11 @@
 -- A signal negated knot by knot.
-use Rattle.std.proofs.Common.{◌≡◌, ℕ, zero, suc, ◌+◌, ◌^◌, inl, inr, List, [], ◌∷◌, Some, refl, sym, subst, arith}
+use Rattle.std.proofs.Common.{◌≡◌, ℕ, zero, suc, ◌+◌, ◌^◌, List, [], ◌∷◌, Some, subst, arith}
 use Rattle.std.specs.Prelude.{slice_get}
 use Rattle.rational.specs.Time.{Rational, ◌≈◌}
 use Rattle.rational.specs.Extended.{Extended, ◌≈ᵉ◌, opposite, value_at}
 use Rattle.rational.specs.Affine.{HasBoundedLevel}
 use Rattle.rational.proofs.Order.{ge_of_same, lt_of_le_of_lt, same_refl}
-use Rattle.rational.proofs.AffineLemmas.{same_symᵉ, same_transᵉ, opposite_back, opposite_same}
+use Rattle.rational.proofs.AffineLemmas.{same_symᵉ, opposite_back, opposite_same}
 use Rattle.rational.proofs.ExtendedLemmas.{opposite_twice}
 use Rattle.rational.proofs.Bounds.{level_bounded}
 use Rattle.value_laws.specs.Members.{ShapeOf}

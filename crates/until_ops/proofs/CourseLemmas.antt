@@ -11,7 +11,7 @@ use Rattle.rational.proofs.AffineLemmas.{value_same, lies_between}
 use Rattle.rational.proofs.ExtendedLemmas.{greatest_of}
 use Rattle.pl_signal.specs.declared.joining.Side.TheVariants.{Least, Greatest}
 use Rattle.pl_signal.specs.Joining.{IsChosen}
-use Rattle.until_ops.specs.Courses.{Climbs, Sinks, IsBelow, IsOnward}
+use Rattle.rational.specs.Onward.{Climbs, Sinks, IsBelow, IsOnward}
 use Rattle.rational.proofs.AffineMeetings.{between}
 use Rattle.rational.proofs.ExtendedLemmas.{le_of_ltᵉ}
 

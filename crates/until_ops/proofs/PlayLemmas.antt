@@ -1,18 +1,15 @@
 -- What is in play in a since from the start, and the causes for which it may be refused.
-use Rattle.std.proofs.Common.{◌≡◌, ◌⊎◌, inl, inr, List, Bool, sym, subst}
+use Rattle.std.proofs.Common.{◌≡◌, ◌⊎◌, inl, inr, List, sym, subst}
 use Rattle.rational.specs.Rational.{Rational, middle, ◌<ʳ◌, ◌≤ʳ◌}
 use Rattle.rational.specs.Time.{Within}
 use Rattle.rational.specs.Line.{constant}
-use Rattle.rational.specs.Windows.{Function, SinceFromStart}
 use Rattle.rational.specs.Extended.{Extended, finite, ◌≈ᵉ◌, Affine, affine, value_at}
 use Rattle.rational.specs.InPlay.{IsLineOn, IsBreakpoint, IsCrossing, IsConstant, IsPrevious, IsInPlay, IsWideCrossing, IsWideValue}
-use Rattle.rational.proofs.Order.{le_trans, le_of_lt, lt_of_lt_of_le, lt_of_le_of_lt, lt_trans, left_of_middle, right_of_middle, same_refl, same_sym}
+use Rattle.rational.proofs.Order.{le_trans, le_of_lt, lt_of_lt_of_le, lt_of_le_of_lt, lt_trans, left_of_middle, right_of_middle, same_refl}
 use Rattle.rational.proofs.Lines.{at_constant}
 use Rattle.rational.proofs.AffineLemmas.{same_reflᵉ, finite_same}
 use Rattle.rational.proofs.Sames.{symᵉ}
-use Rattle.rational.proofs.ExtendedLemmas.{Sup-unique}
-use Rattle.rational.proofs.Sups.{sup_value_same}
-use Rattle.rational.proofs.WindowLemmas.{sup_alike, to_same, down_to_same}
+use Rattle.rational.proofs.TimeFunctions.{IsFunction, since_is_function}
 use Rattle.frac128.specs.Value.{value}
 use Rattle.frac128.specs.declared.frac.Frac.{Frac}
 use Rattle.value_laws.specs.Members.{ShapeOf}
@@ -22,22 +19,13 @@ use Rattle.pl_signal.specs.declared.faults.OpFault.{OpFault}
 use Rattle.pl_signal.specs.declared.faults.OpFault.TheVariants as F
 use Rattle.pl_signal.specs.Knots.{start, stop, IsWorth}
 use Rattle.pl_signal.specs.Wide.{HasCause}
-use Rattle.pl_signal.proofs.Telling.{IsFunction}
 use Rattle.until_ops.specs.declared.course.Gap.{Gap}
 use Rattle.pl_signal.specs.Joining.{IsGapFault}
-use Rattle.until_ops.specs.Courses.{InOrder, IsOfGap, IsPlayed, IsCourseFault}
+use Rattle.rational.specs.Onward.{InOrder}
+use Rattle.until_ops.specs.Courses.{IsOfGap, IsPlayed, IsCourseFault}
 use Rattle.until_ops.specs.Untils.{SinceOf, SinceStep}
 use Rattle.until_ops.specs.Walks.{IsPairWithin}
-use Rattle.until_ops.proofs.EventLemmas.{not_crossed}
-
--- a since is a function of time
-pub since_is_function : (lowest highest : Extended) (from : Rational) (P Q : Function) → IsFunction (SinceFromStart lowest highest from P Q)
-since_is_function lowest highest from P Q = record {
-  alike = λ t u v w e f h. sup_value_same v w f (sup_alike lowest v
-      (λ x m. (m.0, to_same (same_sym e) m.1, down_to_same highest P Q m.0 x e m.2))
-      (λ x m. (m.0, to_same e m.1, down_to_same highest P Q m.0 x (same_sym e) m.2)) h);
-  one = λ t v w h k. record { at_most = Sup-unique lowest v w h k; at_least = Sup-unique lowest w v k h };
-}
+use Rattle.rational.proofs.Events.{not_crossed}
 
 module _ {P : Type 0} (shape : ShapeOf P) (p q : List (Knot P)) where
   -- a gap between events, on which both signals are worth their shapes, after a time at which the since is worth the shape before

@@ -1,7 +1,7 @@
 -- The composition of until and since for signals.
 use Rattle.std.proofs.Common.{List, [], ◌∷◌, inl, inr, arith}
 use Rattle.rational.specs.Time.{Rational, Within, IsIn, closed}
-use Rattle.rational.specs.Extended.{Extended, ◌≤ᵉ◌, Affine, value_at}
+use Rattle.rational.specs.Extended.{Extended, ◌≤ᵉ◌, value_at}
 use Rattle.rational.specs.Windows.{IsInfOver}
 use Rattle.rational.proofs.ExtendedLemmas.{le_transᵉ}
 use Rattle.rational.proofs.WindowLemmas.{inf_over_alike}
@@ -9,8 +9,8 @@ use Rattle.value_laws.specs.Members.{ShapeOf, ShapeLaws}
 use Rattle.pl_signal.specs.declared.knot.Knot.{Knot}
 use Rattle.pl_signal.specs.Knots.{IsSignal, IsWorth, start, stop, time}
 use Rattle.pl_signal.proofs.SupLemmas.{signal_inf}
-use Rattle.until_ops.specs.Composition.{HasUntilToEnd, HasSinceFromStart, UntilIsComposed, SinceIsComposed}
-use Rattle.until_ops.proofs.Composition.{until_is_composed, since_is_composed}
+use Rattle.rational.specs.UntilParts.{HasUntilToEnd, HasSinceFromStart, UntilIsComposed, SinceIsComposed}
+use Rattle.rational.proofs.UntilComposition.{until_is_composed, since_is_composed}
 
 module _ {P : Type 0} (shape : ShapeOf P) (laws : ShapeLaws shape) where
   infs : (p : List (Knot P)) (s u : Rational) → (y : Extended) × IsInfOver shape.highest (Within s u) (IsWorth shape p) y

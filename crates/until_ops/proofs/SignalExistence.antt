@@ -3,7 +3,7 @@ use Rattle.std.proofs.Common.{◌≡◌, ℕ, zero, suc, ◌+◌, ◌-◌, ◌<�
 use Rattle.std.specs.Prelude.{slice_get}
 use Rattle.std.proofs.lemmas.Option.{slice_get-get_or}
 use Rattle.rational.specs.Rational.{Rational, ◌<ʳ◌, ◌≤ʳ◌, ◌≈◌}
-use Rattle.rational.specs.Extended.{Extended, ◌≤ᵉ◌, Affine, value_at}
+use Rattle.rational.specs.Extended.{Extended, ◌≤ᵉ◌, value_at}
 use Rattle.rational.proofs.Order.{le_or_lt, le_refl, le_of_lt, le_of_same, ge_of_same, le_trans, lt_of_lt_of_le, lt_of_le_of_lt, same_of_le, same_refl, same_sym}
 use Rattle.rational.proofs.ExtendedLemmas.{le_transᵉ}
 use Rattle.rational.proofs.AffineLemmas.{same_reflᵉ}
@@ -16,8 +16,8 @@ use Rattle.pl_signal.proofs.Moving.{at_knot_within, first_is}
 use Rattle.pl_signal.proofs.Places.{first_place, more_knots, part_on_gap, place_next, place_stays}
 use Rattle.pl_signal.proofs.SupLemmas.{signal_inf}
 use Rattle.pl_signal.proofs.Telling.{worth_is_function}
-use Rattle.until_ops.specs.Composition.{HasUntilToEnd, HasSinceFromStart}
-use Rattle.until_ops.proofs.Existence.{IsPlain, IsFit, Cuts, done, gap, known_first, known_last, since_known, until_known}
+use Rattle.rational.specs.UntilParts.{HasUntilToEnd, HasSinceFromStart}
+use Rattle.rational.proofs.UntilExistence.{IsPlain, IsFit, Cuts, done, gap, known_first, known_last, since_known, until_known}
 use Rattle.until_ops.proofs.SignalComposition.{at_least_lowest}
 
 module _ {P : Type 0} (shape : ShapeOf P) (laws : ShapeLaws shape)

@@ -4,28 +4,24 @@ use Rattle.rational.specs.Rational.{Rational, ◌<ʳ◌}
 use Rattle.rational.specs.Time.{Interval, IsIn}
 use Rattle.rational.specs.Extended.{Extended, ◌≤ᵉ◌, IsLeast, IsGreatest, Affine, value_at}
 use Rattle.rational.specs.InPlay.{IsLineOn}
-use Rattle.rational.specs.Windows.{Function, IsInfOver, SinceFromStart}
-use Rattle.rational.proofs.Order.{le_of_lt, le_trans, lt_of_le_of_lt, same_refl, same_sym}
-use Rattle.rational.proofs.ExtendedLemmas.{Sup-unique}
+use Rattle.rational.specs.Windows.{IsInfOver}
+use Rattle.rational.proofs.Order.{le_of_lt, le_trans, lt_of_le_of_lt, same_refl}
 use Rattle.rational.proofs.AffineLemmas.{same_reflᵉ}
 use Rattle.rational.proofs.Sames.{transᵉ}
-use Rattle.rational.proofs.Sups.{sup_value_same}
-use Rattle.rational.proofs.WindowLemmas.{sup_alike, to_same, down_to_same}
 use Rattle.frac128.specs.Value.{value}
 use Rattle.value_laws.specs.Members.{ShapeOf, ShapeLaws}
 use Rattle.pl_signal.specs.declared.knot.Knot.{Knot}
 use Rattle.pl_signal.specs.Knots.{start, IsSignal, IsWorth}
 use Rattle.pl_signal.proofs.Values.{one_value, worth_same}
 use Rattle.pl_signal.proofs.SupLemmas.{signal_inf}
-use Rattle.pl_signal.proofs.Telling.{IsFunction}
 use Rattle.until_ops.specs.declared.course.Gap.{Gap}
-use Rattle.until_ops.specs.Courses.{InOrder, IsOnward}
+use Rattle.rational.specs.Onward.{InOrder, IsOnward}
 use Rattle.until_ops.specs.Untils.{SinceOf}
 use Rattle.rational.proofs.AffineMeetings.{between}
-use Rattle.until_ops.proofs.Forward.{after, Since}
-use Rattle.until_ops.proofs.Gaps.{IsOn}
-use Rattle.until_ops.proofs.Points.{HasOneValue, at_start, at_point}
-use Rattle.until_ops.proofs.OnwardLemmas.{goes_onward, since_of, of_since}
+use Rattle.rational.proofs.SinceForward.{after, Since}
+use Rattle.rational.proofs.SinceOnGaps.{IsOn}
+use Rattle.rational.proofs.SinceAtPoints.{HasOneValue, at_start, at_point}
+use Rattle.rational.proofs.SinceOnward.{goes_onward, since_of, of_since}
 use Rattle.until_ops.proofs.PlayLemmas.{Follows}
 
 -- the order at both ends holds up to a time between them

@@ -1,15 +1,15 @@
 -- A signal that is mirrored about 0 runs back, and stays limited; the until of two signals is the since of the mirrored ones, mirrored.
-use Rattle.std.proofs.Common.{◌≡◌, ℕ, ◌≤◌, ◌^◌, ◌⊎◌, inl, inr, List, Bool, IsTrue, ℤ, pos, ◌-ℤ◌, arith}
+use Rattle.std.proofs.Common.{◌≡◌, ◌≤◌, ◌^◌, ◌⊎◌, inl, inr, List, IsTrue, ℤ, pos, ◌-ℤ◌, arith}
 use Rattle.value_laws.specs.Members.{ShapeOf, ShapeLaws}
 use Rattle.std.proofs.lemmas.Int.{ints}
 use Rattle.std.specs.Int.RustNames.{unsigned_abs}
 use Rattle.rational.specs.Rational.{Rational, negate, subtract, whole, IsWithin, ◌≈◌}
 use Rattle.rational.specs.Time.{Within}
-use Rattle.rational.specs.Extended.{Extended}
 use Rattle.rational.proofs.Order.{le_of_same, ge_of_same, le_trans, same_sym, same_trans}
 use Rattle.rational.proofs.Field.{le_negate, same_negate}
 use Rattle.rational.proofs.Mixed.{within_negate, within_same}
 use Rattle.rational.proofs.AffineLemmas.{same_reflᵉ}
+use Rattle.frac128.specs.Value.{value}
 use Rattle.pl_signal.specs.declared.knot.Knot.{Knot}
 use Rattle.pl_signal.specs.declared.faults.WidePair.TheVariants.{Cross, Value}
 use Rattle.pl_signal.specs.declared.faults.OpFault.{OpFault}
@@ -23,8 +23,9 @@ use Rattle.pl_signal.proofs.Telling.{told}
 use Rattle.until_ops.specs.Untils.{SinceOf, UntilOf, BasesOfTwo}
 use Rattle.until_ops.specs.Walks.{IsPairWithin}
 use Rattle.pl_signal.proofs.Limits.{limited, limited_start, limited_stop, worth_bounded}
-use Rattle.until_ops.proofs.BoundLemmas.{since_bounded}
-use Rattle.until_ops.proofs.MirrorLemmas.{RunsBack, about_zero, until_runs_back, until_is_function}
+use Rattle.rational.proofs.UntilBounds.{since_bounded}
+use Rattle.rational.proofs.TimeFunctions.{until_is_function}
+use Rattle.rational.proofs.RunningBack.{RunsBack, about_zero, until_runs_back}
 
 -- a fault with times in a domain within 2^34 may be mirrored about 0
 pub can_mirror : {A : Type 0} {shape : ShapeOf A} {from to : Rational} (laws : ShapeLaws shape) (e : OpFault A) → IsWithin (2 ^ 34) from → IsWithin (2 ^ 34) to

@@ -1,22 +1,21 @@
 -- How a walk along two signals stands: at the first instant, and from event to event.
-use Rattle.std.proofs.Common.{◌≡◌, ℕ, ◌+◌, ◌-◌, ◌*◌, ◌<◌, ◌^◌, ◌⊎◌, inl, inr, List, [], ◌∷◌, length, Some, Bool, IsTrue, true, false, ℤ, refl, sym, ◌∙◌, subst, ap, arith}
+use Rattle.std.proofs.Common.{◌≡◌, ℕ, ◌+◌, ◌-◌, ◌*◌, ◌<◌, ◌^◌, ◌⊎◌, inl, inr, List, [], ◌∷◌, length, Some, Bool, IsTrue, true, false, refl, sym, ◌∙◌, subst, ap, arith}
 use Rattle.std.specs.Prelude.{slice_get, MatchBool}
 use Rattle.rational.specs.Rational.{Rational, IsWithin, ◌<ʳ◌, ◌≤ʳ◌, ◌≈◌}
 use Rattle.rational.specs.Time.{missing}
-use Rattle.rational.specs.Extended.{Extended, ◌≤ᵉ◌, IsLeast, Affine, value_at, Passes}
+use Rattle.rational.specs.Extended.{IsLeast, value_at}
 use Rattle.rational.specs.Affine.{IsBounded, HasBoundedLevel, MeetAlone}
 use Rattle.rational.specs.InPlay.{IsLineOn, IsBreakpoint, IsCrossing}
 use Rattle.rational.specs.InPlay as I
 use Rattle.rational.proofs.Order.{le_refl, le_of_lt, le_of_same, ge_of_same, le_trans, lt_of_lt_of_le, not_lt_of_le, same_refl, same_sym, same_trans}
 use Rattle.rational.proofs.AffineLemmas.{bounded_same, same_reflᵉ, value_same}
-use Rattle.rational.proofs.Sames.{symᵉ, transᵉ}
 use Rattle.rational.proofs.Bounds.{level_bounded}
 use Rattle.frac128.specs.Value.{value}
 use Rattle.frac128.specs.declared.frac.Frac.{Frac}
 use Rattle.value_laws.specs.Members.{ShapeOf}
 use Rattle.pl_signal.specs.declared.knot.Knot.{Knot}
 use Rattle.pl_signal.specs.declared.reading.Reading.{Reading}
-use Rattle.pl_signal.specs.Knots.{time, start, stop, HasShape, IsWorth, IsSignal}
+use Rattle.pl_signal.specs.Knots.{time, start, stop, HasShape, IsWorth}
 use Rattle.pl_signal.proofs.Telling.{TellsSoFar, tells_first, tells_join}
 use Rattle.pl_signal.proofs.Values.{worth_at, shape_at, shape_after}
 use Rattle.pl_signal.proofs.Moving.{first_is, same_knot, at_knot_within, clip_within}
@@ -24,7 +23,7 @@ use Rattle.until_ops.specs.declared.course.Course.{Course}
 use Rattle.until_ops.specs.declared.course.Gap.{Gap}
 use Rattle.until_ops.specs.declared.course.Turn.{Turn}
 use Rattle.until_ops.specs.declared.since.Stand.{Stand}
-use Rattle.pl_signal.specs.Joining.{IsChosen, Joins}
+use Rattle.pl_signal.specs.Joining.{Joins}
 use Rattle.pl_signal.specs.Places.{IsPlace}
 use Rattle.until_ops.specs.Courses.{IsPointOf, IsOfGap, IsPlayed, IsCourse, IsTurn, IsGap}
 use Rattle.until_ops.specs.Untils.{SinceOf, BasesOfTwo}
@@ -34,7 +33,7 @@ use Rattle.pl_signal.proofs.Limits.{breakpoint_at, worth_bounded, point_bounded}
 use Rattle.pl_signal.proofs.Places.{first_place, earlier_after, more_knots, not_both, part_on_gap}
 use Rattle.until_ops.proofs.PlayLemmas.{Follows, is_since}
 use Rattle.until_ops.proofs.SinceLemmas.{AreSignals, start_value, gap_value, end_value}
-use Rattle.until_ops.proofs.EventLemmas.{breakpoint_same}
+use Rattle.rational.proofs.Events.{breakpoint_same}
 
 -- a moving shape of the two has its own base
 pub bases_of_stand : {P : Type 0} (shape : ShapeOf P) (p q built : List (Knot P))

@@ -1,6 +1,5 @@
 -- Since from the start and until to the end of two signals, and what their results are made of.
-use Rattle.std.specs.Prelude.{◌≡◌, ◌⊎◌, List, ℤ, Bool, IsTrue}
-use Rattle.rational.specs.Extended.{Extended, Affine}
+use Rattle.std.specs.Prelude.{◌≡◌, ◌⊎◌, List, IsTrue}
 use Rattle.rational.specs.InPlay.{Step, since_start, until_end}
 use Rattle.rational.specs.Windows.{Function, SinceFromStart, UntilToEnd}
 use Rattle.value_laws.specs.Members.{ShapeOf}

@@ -1,8 +1,8 @@
 -- How a since is walked through: where the walk stands, and what it says when it stops.
-use Rattle.std.specs.Prelude.{◌≡◌, ◌⊎◌, ◌+◌, ◌-◌, ◌*◌, ◌^◌, ℕ, List, Bool, false, MatchBool, length, Some, slice_get}
+use Rattle.std.specs.Prelude.{◌≡◌, ◌⊎◌, ◌+◌, ◌-◌, ◌*◌, ◌^◌, ℕ, List, false, MatchBool, length, Some, slice_get}
 use Rattle.rational.specs.Rational.{Rational}
 use Rattle.rational.specs.Time.{Within, ◌≈◌, missing}
-use Rattle.rational.specs.Extended.{Extended, Affine, value_at}
+use Rattle.rational.specs.Extended.{Extended, value_at}
 use Rattle.rational.specs.Affine.{IsBounded}
 use Rattle.rational.specs.InPlay.{IsBreakpoint, IsCrossing}
 use Rattle.frac128.specs.Value.{value}

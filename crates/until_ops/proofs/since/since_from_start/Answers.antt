@@ -1,7 +1,7 @@
 use Rattle.std.proofs.Common.{◌+◌, ◌≤◌, length, sym, subst, arith}
 use Rattle.rational.specs.Time.{◌≈◌}
 use Rattle.frac128.specs.Value.{value}
-use Rattle.pl_signal.specs.Knots.{start, stop, IsWorth}
+use Rattle.pl_signal.specs.Knots.{start, stop}
 use Rattle.pl_signal.specs.Moves.{Tells}
 use Rattle.pl_signal.proofs.Telling.{told}
 use Rattle.until_ops.specs.Untils.{SinceOf, BasesOfTwo}

@@ -3,12 +3,9 @@ use Rattle.rational.specs.Rational.{IsWithin}
 use Rattle.rational.specs.Time.{◌<ʳ◌, ◌≤ʳ◌}
 use Rattle.rational.proofs.Order.{le_refl, le_trans, le_of_lt, le_of_same, lt_of_lt_of_le}
 use Rattle.frac128.specs.Value.{value}
-use Rattle.pl_signal.specs.Knots.{time, start, stop, IsWorth}
-use Rattle.pl_signal.specs.Wide.{HasCause}
+use Rattle.pl_signal.specs.Knots.{time}
 use Rattle.pl_signal.proofs.Moving.{at_knot_within, same_knot}
 use Rattle.pl_signal.proofs.Places.{begun_before, more_knots}
-use Rattle.until_ops.specs.Untils.{SinceStep}
-use Rattle.until_ops.specs.Walks.{IsPairWithin}
 use Rattle.until_ops.proofs.LimitLemmas.{after_bounded}
 use Rattle.until_ops.proofs.PlayLemmas.{Follows, cross_cause, cross_within, left_plays, played, right_plays, value_cause, value_within}
 use Rattle.until_ops.proofs.WalkLemmas.{IsNext, IsWalk, begins_before, gap_follows, gap_to, gap_within, is_gap, more_right, nearer, played_level, starts_within, walked}

@@ -8,11 +8,8 @@ use Rattle.rational.specs.Windows.{Function, IsInfOver, IsUpTo, IsDownTo, UntilT
 use Rattle.rational.proofs.Order.{le_of_same, ge_of_same, le_trans, same_refl, same_sym}
 use Rattle.rational.proofs.Field.{le_negate, same_negate}
 use Rattle.rational.proofs.Sup.{at_turn}
-use Rattle.rational.proofs.ExtendedLemmas.{Sup-unique}
 use Rattle.rational.proofs.AffineLemmas.{same_transᵉ, value_same, finite_same}
-use Rattle.rational.proofs.Sups.{sup_value_same}
-use Rattle.rational.proofs.WindowLemmas.{sup_alike, inf_alike, from_same, up_to_same}
-use Rattle.pl_signal.proofs.Telling.{IsFunction}
+use Rattle.rational.proofs.WindowLemmas.{sup_alike, inf_alike}
 
 -- G is F with time running back
 pub record RunsBack (F G : Function) : Type 0 where
@@ -32,15 +29,6 @@ within_back a b c d z e f w = record { above = le_trans (le_of_same e) (le_negat
 
 swap_back : {a d : Rational} → a ≈ negate d → d ≈ negate a
 swap_back e = same_sym (same_negate e)
-
--- an until is a function of time
-pub until_is_function : (lowest highest : Extended) (to : Rational) (P Q : Function) → IsFunction (UntilToEnd lowest highest to P Q)
-until_is_function lowest highest to P Q = record {
-  alike = λ t u v w e f h. sup_value_same v w f (sup_alike lowest v
-      (λ x m. (m.0, from_same (same_sym e) m.1, up_to_same highest P Q m.0 x e m.2))
-      (λ x m. (m.0, from_same e m.1, up_to_same highest P Q m.0 x (same_sym e) m.2)) h);
-  one = λ t v w h k. record { at_most = Sup-unique lowest v w h k; at_least = Sup-unique lowest w v k h };
-}
 
 module _ (lowest highest : Extended) (P P' Q Q' : Function) (p_back : RunsBack P P') (q_back : RunsBack Q Q') where
   inf_back : (a b c d : Rational) (y : Extended) → a ≈ negate d → b ≈ negate c → IsInfOver highest (Within c d) P' y → IsInfOver highest (Within a b) P y

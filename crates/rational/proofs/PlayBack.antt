@@ -1,25 +1,17 @@
 -- What is in play in a since is so in the until with time running back.
-use Rattle.std.proofs.Common.{◌≡◌, ℕ, ◌<◌, ◌⊎◌, inl, inr, ℤ, pos, negsuc, zero, suc, refl, sym, subst}
+use Rattle.std.proofs.Common.{◌≡◌, ℕ, ◌<◌, ◌⊎◌, inl, inr, ℤ, pos, negsuc, zero, suc, refl, subst}
 use Rattle.std.specs.Prelude.{nat_abs}
-use Rattle.value_laws.specs.Members.{ShapeOf}
 use lib.IntN.{neg_ℤ}
-use Rattle.rational.specs.Rational.{Rational, negate, ratio, subtract, whole, ◌<ʳ◌, ◌≈◌}
+use Rattle.rational.specs.Rational.{Rational, negate, ratio, ◌<ʳ◌, ◌≈◌}
 use Rattle.rational.specs.Time.{Within, Divides, IsLowest, HasDenominator}
 use Rattle.rational.specs.Extended.{Extended, finite, ◌≈ᵉ◌, Affine, value_at}
 use Rattle.rational.specs.InPlay.{IsLineOn, IsPart, IsBreakpoint, start, stop, inner, IsLeftLimit, IsRightLimit, IsCrossing, IsNext, IsPrevious, IsInPlay, since_start, until_end, IsWideCrossing, IsWideValue}
 use Rattle.rational.specs.Windows.{Function}
 use Rattle.rational.proofs.Order.{le_of_same, ge_of_same, le_trans, lt_of_lt_of_le, lt_of_le_of_lt, same_refl, same_sym, same_trans}
 use Rattle.rational.proofs.Field.{lt_negate, le_negate, same_negate}
+use Rattle.rational.proofs.Sames.{symᵉ}
 use Rattle.rational.proofs.AffineLemmas.{same_symᵉ, same_transᵉ, value_same}
-use Rattle.frac128.specs.Value.{value}
-use Rattle.pl_signal.specs.declared.faults.WidePair.{WidePair}
-use Rattle.pl_signal.specs.declared.faults.WidePair.TheVariants.{Cross, Value}
-use Rattle.pl_signal.specs.declared.faults.OpFault.{OpFault}
-use Rattle.pl_signal.specs.declared.faults.OpFault.TheVariants as F
-use Rattle.pl_signal.specs.Wide.{HasCause, IsWideCause}
-use Rattle.pl_signal.specs.Faults.{IsMirroredPair, IsPairwise}
-use Rattle.until_ops.specs.Walks.{IsPairWithin, PairWithin}
-use Rattle.until_ops.proofs.MirrorLemmas.{RunsBack, about_zero, other_way, turned_affine, turned_of}
+use Rattle.rational.proofs.RunningBack.{RunsBack, other_way, turned_affine}
 
 -- g is f with time running back
 abbrev pub IsBack : Affine → Affine → Type 0
@@ -88,10 +80,17 @@ value_back : (P P' : Function) → RunsBack P P' → (u : Rational) (v : Extende
 value_back P P' back u v (inl h) = inl (back.out u v h)
 value_back P P' back u v (inr l) = inr (limit_back P P' back u v l)
 
-module _ (P P' Q Q' R R' : Function) (p_back : RunsBack P P') (q_back : RunsBack Q Q') (r_back : RunsBack R R') (from to from' to' : Rational)
-    (first : from ≈ negate to') (last : to ≈ negate from') where
+-- three functions that run back, over a domain that runs back
+pub record AreBack (P P' Q Q' R R' : Function) (from to from' to' : Rational) : Type 0 where
+  pub left : RunsBack P P'
+  pub right : RunsBack Q Q'
+  pub made : RunsBack R R'
+  pub first : from ≈ negate to'
+  pub last : to ≈ negate from'
+
+module _ {P P' Q Q' R R' : Function} {from to from' to' : Rational} (back : AreBack P P' Q Q' R R' from to from' to') where
   within_turned : (u : Rational) → Within from' to' u → Within from to (negate u)
-  within_turned u w = record { above = le_trans (le_of_same first) (le_negate w.below); below = le_trans (le_negate w.above) (ge_of_same last) }
+  within_turned u w = record { above = le_trans (le_of_same back.first) (le_negate w.below); below = le_trans (le_negate w.above) (ge_of_same back.last) }
 
   next_back : (tau u : Rational) → IsPrevious P' Q' from' to' tau u → IsNext P Q from to (negate tau) (negate u)
   next_back tau u h =
@@ -102,14 +101,14 @@ module _ (P P' Q Q' R R' : Function) (p_back : RunsBack P P') (q_back : RunsBack
         after = lt_negate h.before;
         left = f.0;
         right = g.0;
-        left_on = line_back P P' p_back h.left f.0 f.1 u tau h.left_on;
-        right_on = line_back Q Q' q_back h.right g.0 g.1 u tau h.right_on;
+        left_on = line_back P P' back.left h.left f.0 f.1 u tau h.left_on;
+        right_on = line_back Q Q' back.right h.right g.0 g.1 u tau h.right_on;
         none_before = λ t a b c. h.none_before (negate t) (lt_negated b) (negated_lt a)
             (crossing_back h.left h.right f.0 g.0 t (back_other h.left f.0 f.1) (back_other h.right g.0 g.1) c);
         here = elim h.here [
-          | inl x ↦ inl (breakpoint_back P P' p_back from to from' to' u first last x)
+          | inl x ↦ inl (breakpoint_back P P' back.left from to from' to' u back.first back.last x)
           | inr x ↦ elim x [
-            | inl y ↦ inr (inl (breakpoint_back Q Q' q_back from to from' to' u first last y))
+            | inl y ↦ inr (inl (breakpoint_back Q Q' back.right from to from' to' u back.first back.last y))
             | inr y ↦ inr (inr (crossing_back f.0 g.0 h.left h.right u f.1 g.1 y))
           ]
         ];
@@ -118,42 +117,36 @@ module _ (P P' Q Q' R R' : Function) (p_back : RunsBack P P') (q_back : RunsBack
   -- in play
   pub play_back : (tau : Rational) (f g : Affine) → IsBack f g → IsInPlay (since_start P' Q' R') from' to' tau f
       → IsInPlay (until_end P Q R) from to (negate tau) g
-  play_back tau f g turned (inl part) = inl (part_back P P' p_back f g turned tau part)
-  play_back tau f g turned (inr (inl part)) = inr (inl (part_back Q Q' q_back f g turned tau part))
+  play_back tau f g turned (inl part) = inl (part_back P P' back.left f g turned tau part)
+  play_back tau f g turned (inr (inl part)) = inr (inl (part_back Q Q' back.right f g turned tau part))
   play_back tau f g turned (inr (inr (u, previous, v, is, by))) =
       inr (inr (
         negate u,
         next_back tau u previous,
         v,
-        (λ t. same_transᵉ v (value_at f (negate t)) (value_at g t) (is (negate t)) (same_symᵉ (value_at g t) (value_at f (negate t)) (turned t))),
+        (λ t. same_transᵉ v (value_at f (negate t)) (value_at g t) (is (negate t)) (symᵉ (turned t))),
         elim by [
-          | inl x ↦ inl (value_back P P' p_back u v x)
-          | inr x ↦ elim x [ inl y ↦ inr (inl (value_back Q Q' q_back u v y)) | inr y ↦ inr (inr (value_back R R' r_back u v y)) ]
+          | inl x ↦ inl (value_back P P' back.left u v x)
+          | inr x ↦ elim x [ inl y ↦ inr (inl (value_back Q Q' back.right u v y)) | inr y ↦ inr (inr (value_back R R' back.made u v y)) ]
         ],
       ))
 
-  abbrev Before : Rational → Affine → Type 0
-  Before tau line = IsInPlay (since_start P' Q' R') from' to' tau line
-
-  abbrev After : Rational → Affine → Type 0
-  After tau line = IsInPlay (until_end P Q R) from to tau line
-
   pub crossing_cause : (f g f' g' : Affine) (a b a' b' : Rational) (den : ℕ) → IsBack f' f → IsBack g' g → a ≈ negate b' → b ≈ negate a'
-      → IsWideCrossing Before from' to' f' g' a' b' den → IsWideCrossing After from to f g a b den
+      → IsWideCrossing (IsInPlay (since_start P' Q' R') from' to') from' to' f' g' a' b' den → IsWideCrossing (IsInPlay (until_end P Q R) from to) from to f g a b den
   crossing_cause f g f' g' a b a' b' den h k e e' w = record {
     tau = negate w.tau;
-    after_start = lt_of_le_of_lt (le_of_same first) (lt_negate w.before_stop);
-    before_stop = lt_of_lt_of_le (lt_negate w.after_start) (ge_of_same last);
+    after_start = lt_of_le_of_lt (le_of_same back.first) (lt_negate w.before_stop);
+    before_stop = lt_of_lt_of_le (lt_negate w.after_start) (ge_of_same back.last);
     above = lt_of_le_of_lt (le_of_same e) (lt_negate w.below);
     below = lt_of_lt_of_le (lt_negate w.above) (ge_of_same e');
     first = play_back w.tau f' f h w.first;
     second = play_back w.tau g' g k w.second;
     meet = same_transᵉ (value_at f (negate w.tau)) (value_at f' w.tau) (value_at g (negate w.tau)) (h (negate w.tau))
         (same_transᵉ (value_at f' w.tau) (value_at g' w.tau) (value_at g (negate w.tau)) w.meet
-        (same_symᵉ (value_at g (negate w.tau)) (value_at g' w.tau) (k (negate w.tau))));
+        (symᵉ (k (negate w.tau))));
     alone = λ t s. same_negate
         (w.alone (negate t) (same_transᵉ (value_at f' (negate t)) (value_at f t) (value_at g' (negate t))
-        (same_symᵉ (value_at f t) (value_at f' (negate t)) (h t)) (same_transᵉ (value_at f t) (value_at g t) (value_at g' (negate t)) s (k t))));
+        (symᵉ (h t)) (same_transᵉ (value_at f t) (value_at g t) (value_at g' (negate t)) s (k t))));
     denominator = denominator_back w.tau den w.denominator;
     wide = w.wide;
   }
@@ -174,57 +167,22 @@ module _ (P P' Q Q' R R' : Function) (p_back : RunsBack P P') (q_back : RunsBack
       denominator_back : (t : Rational) (den : ℕ) → HasDenominator t den → HasDenominator (negate t) den
       denominator_back t den (num, lowest, same) = (neg_ℤ num, lowest_back num den lowest, same_trans (same_negate same) (ratio_back num den lowest.positive))
 
-  pub value_cause : (f f' : Affine) (u u' : Rational) (den : ℕ) → IsBack f' f → u ≈ negate u' → IsWideValue Before from' to' f' u' den
-      → IsWideValue After from to f u den
+  pub value_cause : (f f' : Affine) (u u' : Rational) (den : ℕ) → IsBack f' f → u ≈ negate u' → IsWideValue (IsInPlay (since_start P' Q' R') from' to') from' to' f' u' den
+      → IsWideValue (IsInPlay (until_end P Q R) from to) from to f u den
   value_cause f f' u u' den h e w =
       let g = turned_affine w.line in
       record {
         tau = negate w.tau;
-        after_start = lt_of_le_of_lt (le_of_same first) (lt_negate w.before_stop);
-        before_stop = lt_of_lt_of_le (lt_negate w.after_start) (ge_of_same last);
+        after_start = lt_of_le_of_lt (le_of_same back.first) (lt_negate w.before_stop);
+        before_stop = lt_of_lt_of_le (lt_negate w.after_start) (ge_of_same back.last);
         value = w.value;
         is_value = same_transᵉ (finite w.value) (value_at f' u') (value_at f u) w.is_value
-            (same_symᵉ (value_at f u) (value_at f' u')
+            (symᵉ
             (same_transᵉ (value_at f u) (value_at f' (negate u)) (value_at f' u') (h u) (value_same f' (same_negate e))));
         line = g.0;
         constant = λ t. same_transᵉ (finite w.value) (value_at w.line (negate t)) (value_at g.0 t) (w.constant (negate t))
-            (same_symᵉ (value_at g.0 t) (value_at w.line (negate t)) (g.1 t));
+            (symᵉ (g.1 t));
         in_play = play_back w.tau w.line g.0 g.1 w.in_play;
         denominator = w.denominator;
         wide = w.wide;
       }
-
-  pair_back : {A : Type 0} (shape : ShapeOf A) (old new : WidePair A) → IsMirroredPair shape (pos 0) old new
-      → IsWideCause shape (since_start P' Q' R') from' to' old → IsWideCause shape (until_end P Q R) from to new
-  pair_back shape (Cross p q a b den) new (p', q', a', b', same, f, g, e, e') h =
-      subst (IsWideCause shape (until_end P Q R) from to) (sym same)
-      (crossing_cause (shape.function p') (shape.function q') (shape.function p) (shape.function q) (value a') (value b') (value a) (value b) den
-      (turned_of (shape.function p) (shape.function p') f) (turned_of (shape.function q) (shape.function q') g)
-      (same_trans e (about_zero (value b))) (same_trans e' (about_zero (value a))) h)
-  pair_back shape (Value p at den) new (p', at', same, f, e) h =
-      subst (IsWideCause shape (until_end P Q R) from to) (sym same)
-      (value_cause (shape.function p') (shape.function p) (value at') (value at) den
-      (turned_of (shape.function p) (shape.function p') f) (same_trans e (about_zero (value at))) h)
-
-  -- a cause
-  pub cause_back : {A : Type 0} (shape : ShapeOf A) (old new : OpFault A) → IsPairwise (IsMirroredPair shape (pos 0)) old new
-      → HasCause shape (since_start P' Q' R') from' to' old → HasCause shape (until_end P Q R) from to new
-  cause_back shape F.Memory new t h = subst (HasCause shape (until_end P Q R) from to) (sym t) tt
-  cause_back shape (F.Wide old) new (pair, same, t) h = subst (HasCause shape (until_end P Q R) from to) (sym same) (pair_back shape old pair t h)
-
--- and the times of a pair
-pub pair_turned : {A : Type 0} (shape : ShapeOf A) (old new : OpFault A) (from to from' to' : Rational) → from ≈ negate to' → to ≈ negate from'
-    → IsPairwise (IsMirroredPair shape (pos 0)) old new → IsPairWithin from' to' old → IsPairWithin from to new
-pair_turned shape F.Memory new from to from' to' e f t h = subst (IsPairWithin from to) (sym t) tt
-pair_turned {A} shape (F.Wide old) new from to from' to' e f (pair, same, t) h = subst (IsPairWithin from to) (sym same) (by_pair old t h)
-  where
-    time_back : (u u' : Rational) → u ≈ subtract (whole (pos 0)) u' → Within from' to' u' → Within from to u
-    time_back u u' is w = let s = same_trans is (about_zero u') in record {
-      above = le_trans (le_of_same e) (le_trans (le_negate w.below) (ge_of_same s));
-      below = le_trans (le_of_same s) (le_trans (le_negate w.above) (ge_of_same f));
-    }
-
-    by_pair : (old : WidePair A) → IsMirroredPair shape (pos 0) old pair → PairWithin from' to' old → PairWithin from to pair
-    by_pair (Cross p q a b den) (p', q', a', b', is, x, y, s, s') h =
-        subst (PairWithin from to) (sym is) (time_back (value a') (value b) s h.1, time_back (value b') (value a) s' h.0)
-    by_pair (Value p at den) (p', at', is, x, s) h = subst (PairWithin from to) (sym is) (time_back (value at') (value at) s h)

@@ -7,7 +7,7 @@ use Rattle.rational.proofs.Order.{le_or_lt, le_trans, le_of_lt, lt_of_le_of_lt}
 use Rattle.rational.proofs.TimeLemmas.{precedes_of_lt}
 use Rattle.rational.proofs.ExtendedLemmas.{le_transᵉ, lt_of_lt_of_leᵉ, least_of}
 use Rattle.rational.proofs.Sups.{sup_of_union, sup_same}
-use Rattle.until_ops.proofs.Composition.{below_least, at_most_inf}
+use Rattle.rational.proofs.UntilComposition.{below_least, at_most_inf}
 
 -- from u up to t, and t with it or not
 abbrev pub upto : Bool → Rational → Rational → Interval

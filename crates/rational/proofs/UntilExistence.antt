@@ -12,15 +12,16 @@ use Rattle.rational.proofs.ExtendedLemmas.{le_totalᵉ, le_of_ltᵉ, le_transᵉ
 use Rattle.rational.proofs.AffineLemmas.{same_reflᵉ, same_transᵉ}
 use Rattle.rational.proofs.AffineMeetings.{meets}
 use Rattle.rational.proofs.WindowLemmas.{inf_alike}
-use Rattle.until_ops.specs.Courses.{InOrder}
-use Rattle.pl_signal.proofs.Telling.{IsFunction}
-use Rattle.until_ops.proofs.Forward.{after}
-use Rattle.until_ops.proofs.Gaps.{IsOn}
-use Rattle.until_ops.proofs.Points.{HasOneValue, at_start, at_point}
-use Rattle.until_ops.proofs.OnwardLemmas.{goes_onward, since_of, of_since}
-use Rattle.until_ops.proofs.PlayLemmas.{since_is_function}
-use Rattle.until_ops.proofs.MirrorLemmas.{RunsBack, turned_affine, until_is_function, until_runs_back}
-use Rattle.until_ops.proofs.BackLemmas.{line_back}
+use Rattle.rational.specs.Onward.{InOrder}
+use Rattle.rational.proofs.TimeFunctions.{IsFunction}
+use Rattle.rational.proofs.SinceForward.{after}
+use Rattle.rational.proofs.SinceOnGaps.{IsOn}
+use Rattle.rational.proofs.SinceAtPoints.{HasOneValue, at_start, at_point}
+use Rattle.rational.proofs.SinceOnward.{goes_onward, since_of, of_since}
+use Rattle.rational.proofs.TimeFunctions.{since_is_function}
+use Rattle.rational.proofs.TimeFunctions.{until_is_function}
+use Rattle.rational.proofs.RunningBack.{RunsBack, turned_affine, until_runs_back}
+use Rattle.rational.proofs.PlayBack.{line_back}
 
 -- two functions are in one order at both ends of a gap, or meet in it
 order_or_meeting : (f h : Affine) (l r : Rational) → l <ʳ r → InOrder f h l r ⊎ ((t : Rational) × MeetAlone f h l r t)

@@ -11,7 +11,7 @@ use Rattle.rational.proofs.Lines.{at_gap}
 use Rattle.rational.proofs.Sup.{below_an_end}
 use Rattle.rational.proofs.ExtendedLemmas.{le_totalᵉ, clashᵉ}
 use Rattle.rational.proofs.AffineLemmas.{same_symᵉ, affine_unique}
-use Rattle.until_ops.specs.Courses.{IsBelow, InOrder}
+use Rattle.rational.specs.Onward.{IsBelow, InOrder}
 
 -- two affine functions that have one value at two times are one
 pub same_by_two : (f g : Affine) (t u : Rational) → t <ʳ u → value_at f t ≈ᵉ value_at g t → value_at f u ≈ᵉ value_at g u → AreSame f g

@@ -5,8 +5,8 @@ use Rattle.rational.specs.Extended.{Extended, ◌≤ᵉ◌, ◌<ᵉ◌, IsLeast,
 use Rattle.rational.specs.Windows.{Function, IsInfOver}
 use Rattle.rational.proofs.Order.{le_or_lt, le_refl, le_of_lt, same_of_le, same_sym}
 use Rattle.rational.proofs.ExtendedLemmas.{le_transᵉ, lt_of_lt_of_leᵉ, least_of}
-use Rattle.until_ops.proofs.Composition.{below_least, at_most_inf}
-use Rattle.until_ops.proofs.Forward.{upto, Reach, Since}
+use Rattle.rational.proofs.UntilComposition.{below_least, at_most_inf}
+use Rattle.rational.proofs.SinceForward.{upto, Reach, Since}
 
 -- the function has one value at each time, whatever the pair
 pub record HasOneValue (F : Function) : Type 0 where

@@ -7,9 +7,9 @@ use Rattle.rational.proofs.Order.{le_refl, le_of_lt, lt_of_lt_of_le}
 use Rattle.rational.proofs.TimeLemmas.{precedes_le, precedes_of_lt}
 use Rattle.rational.proofs.ExtendedLemmas.{le_transᵉ, lt_of_lt_of_leᵉ, least_of, Inf-unique}
 use Rattle.rational.proofs.AffineLemmas.{near_start, near_stop, above_start, above_stop, at_most_an_end}
-use Rattle.until_ops.specs.Courses.{Climbs, Sinks}
-use Rattle.until_ops.proofs.Composition.{below_least}
-use Rattle.until_ops.proofs.Forward.{upto, after, Reach}
+use Rattle.rational.specs.Onward.{Climbs, Sinks}
+use Rattle.rational.proofs.UntilComposition.{below_least}
+use Rattle.rational.proofs.SinceForward.{upto, after, Reach}
 
 -- on the interval the function is that of the line
 pub record IsOn (on : Interval) (F : Function) (f : Affine) : Type 0 where

@@ -9,10 +9,10 @@ use Rattle.rational.proofs.Lines.{slope_of, lt_at, lt_at_falls, at_level, same_a
 use Rattle.rational.proofs.ExtendedLemmas.{le_transᵉ, le_reflᵉ}
 use Rattle.rational.proofs.WindowLemmas.{sup_alike, inf_over_alike}
 use Rattle.rational.proofs.ExtendedLemmas.{greatest_of, least_of}
-use Rattle.until_ops.specs.Courses.{Climbs, Sinks, InOrder, IsOnward}
+use Rattle.rational.specs.Onward.{Climbs, Sinks, InOrder, IsOnward}
 use Rattle.rational.proofs.AffineMeetings.{between}
-use Rattle.until_ops.proofs.Forward.{upto, after, Reach, Since, goes_on}
-use Rattle.until_ops.proofs.Gaps.{IsOn, gap_climbing, gap_sinking, sup_of_left, sup_of_right, sup_of_sinking}
+use Rattle.rational.proofs.SinceForward.{upto, after, Reach, Since, goes_on}
+use Rattle.rational.proofs.SinceOnGaps.{IsOn, gap_climbing, gap_sinking, sup_of_left, sup_of_right, sup_of_sinking}
 
 -- an affine or constantly infinite function climbs or sinks
 climbs_of_lines : (f : Line) → ((t u : Rational) → t ≤ʳ u → at f t ≤ʳ at f u) ⊎ ((t u : Rational) → t ≤ʳ u → at f u ≤ʳ at f t)
