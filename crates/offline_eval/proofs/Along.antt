@@ -1,7 +1,7 @@
 -- Functions that agree on a domain, and what is told by the one and by the other.
 use Rattle.std.proofs.Common.{List}
 use Rattle.rational.specs.Time.{Rational, Within, ◌≈◌}
-use Rattle.rational.specs.Extended.{Extended, Affine}
+use Rattle.rational.specs.Extended.{Extended}
 use Rattle.rational.specs.Windows.{Function}
 use Rattle.rational.proofs.Order.{le_trans, le_of_same, ge_of_same, same_trans}
 use Rattle.value_laws.specs.Members.{ShapeOf}

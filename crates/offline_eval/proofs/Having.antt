@@ -3,7 +3,7 @@ use Rattle.std.proofs.Common.{◌≡◌, ℕ, ◌<◌, ◌≤◌, zero, suc, tru
 use Rattle.std.specs.Prelude.{slice_get}
 use Rattle.std.proofs.lemmas.Option.{slice_get-get_or}
 use Rattle.rational.specs.Time.{Rational, Within, closed}
-use Rattle.rational.specs.Extended.{Extended, Affine, value_at, ◌≤ᵉ◌}
+use Rattle.rational.specs.Extended.{value_at, ◌≤ᵉ◌}
 use Rattle.rational.specs.Windows.{IsInfOver}
 use Rattle.rational.proofs.Order.{le_trans, le_of_same, ge_of_same}
 use Rattle.rational.proofs.WindowLemmas.{inf_alike}

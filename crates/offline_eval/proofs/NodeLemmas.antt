@@ -1,7 +1,7 @@
 -- What the signal of a node keeps and tells, from the signals of its children among those before it.
 use Rattle.std.proofs.Common.{◌≡◌, ℕ, ℤ, pos, neg_ℤ, ◌+◌, ◌-◌, ◌<◌, ◌^◌, ◌≤ℤ◌, ◌<ℤ◌, arith, List, Some, sym, subst}
 use Rattle.std.specs.Prelude.{slice_get}
-use Rattle.rational.specs.Extended.{Extended, Affine}
+use Rattle.rational.specs.Extended.{Extended}
 use Rattle.rational.proofs.Order.{same_trans, same_sym, le_trans, le_of_same, ge_of_same}
 use Rattle.rational.proofs.Shift.{le_whole}
 use Rattle.std.proofs.lemmas.Int.{ints}

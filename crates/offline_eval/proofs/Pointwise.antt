@@ -2,7 +2,7 @@
 use Rattle.std.proofs.Common.{◌≡◌, inl, inr, ℕ, ◌^◌, List, sym, subst}
 use Rattle.std.specs.Prelude.{Result, IfOk, IfErr, IsErrAnd, Ok, Err}
 use Rattle.rational.specs.Time.{Rational, Within}
-use Rattle.rational.specs.Extended.{Extended, Affine, value_at, opposite, IsGreatest}
+use Rattle.rational.specs.Extended.{Extended, value_at, opposite, IsGreatest}
 use Rattle.rational.specs.Windows.{Function}
 use Rattle.rational.specs.Affine.{IsBounded}
 use Rattle.rational.specs.InPlay.{Step, of_two, IsInPlay, IsWideCrossing}

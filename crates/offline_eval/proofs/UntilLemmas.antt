@@ -3,7 +3,7 @@ use Rattle.std.proofs.Common.{◌≡◌, ◌⊎◌, inl, inr, ℕ, ℤ, pos, neg
 use Rattle.std.specs.Prelude.{Option, Some, IfSome, IsTrue}
 use Rattle.std.proofs.lemmas.Int.{ints}
 use Rattle.rational.specs.Time.{Rational, Within, ◌≈◌}
-use Rattle.rational.specs.Extended.{Extended, ◌≈ᵉ◌, Affine, IsSup}
+use Rattle.rational.specs.Extended.{Extended, ◌≈ᵉ◌, IsSup}
 use Rattle.rational.specs.Affine.{IsBounded}
 use Rattle.rational.specs.Windows.{Function, Window, Ahead, Behind, IsSupOver, IsInfOver, IsUntil, IsSince, UntilToEnd, SinceFromStart, IsUpTo, IsDownTo}
 use Rattle.rational.specs.InPlay.{until_end, since_start, window_ahead, window_behind}

@@ -1,6 +1,5 @@
 -- What the signal that is made at a place of a formula takes, keeps and tells.
-use Rattle.std.specs.Prelude.{◌≡◌, ℕ, ℤ, ◌+◌, List, take, drop, sum_by}
-use Rattle.rational.specs.Extended.{Extended, Affine}
+use Rattle.std.specs.Prelude.{◌≡◌, ℕ, ◌+◌, List, take, drop, sum_by}
 use Rattle.value_laws.specs.Members.{ShapeOf}
 use Rattle.pl_signal.specs.declared.knot.Knot.{Knot}
 use Rattle.pl_signal.specs.declared.faults.OpFault.{OpFault}
