@@ -12,6 +12,7 @@ use Rattle.pl_signal.specs.Moves.{Tells}
 abbrev pub AgreeOn : Rational → Rational → Function → Function → Type 0
 AgreeOn from to F G = (t : Rational) (v : Extended) → Within from to t → (F t v → G t v) × (G t v → F t v)
 
+-- a domain does not depend on the pairs of its ends
 pub within_same_ends : {from from' to to' t : Rational} → from ≈ from' → to ≈ to' → Within from to t → Within from' to' t
 within_same_ends b e w = record { above = le_trans (ge_of_same b) w.above; below = le_trans w.below (le_of_same e) }
 

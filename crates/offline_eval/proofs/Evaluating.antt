@@ -36,6 +36,7 @@ pushed_at (z ∷ xs) y (suc k) x e = by_rest (pushed_at xs y k x e)
     by_rest (inl h) = inl h
     by_rest (inr h) = inr (ap suc h.0, h.1)
 
+-- one more in a list that was pushed to
 pub pushed_count : {X : Type 0} (xs ys : List X) (y : X) (n : ℕ) → length xs ≡ n → ys ≡ xs ++ y ∷ [] → length ys ≡ n + 1
 pushed_count xs ys y n e h = ap length h ∙ length-append xs (y ∷ []) ∙ ap (λ m. m + 1) e
 
@@ -65,21 +66,25 @@ some_left nodes all rest i a count left at =
     by_numbers : (r n k m t : ℕ) → n ≡ t → m ≤ t → m ≡ k + 1 → r ≡ n - k → 0 < r
     by_numbers r n k m t e h f g = omega (arith, e, h, f, g)
 
+-- the bounds before a node sum to no more than all
 pub reach_within : (nodes : List Node) (i : ℕ) → reach nodes ≤ 4294967295 → reach_before nodes i ≤ 4294967295
 reach_within nodes i h = omega (arith, h, sum_by-take-le own_reach nodes i)
 
 module _ {P : Type 0} (shape : ShapeOf P) (from to : ℕ) where
+  -- a signal of an atom is sound
   pub input_sound : (x : List (Knot P)) → IsInput shape from to x → IsSound shape from to 0 x
   input_sound x h = record { begins = h.begins; ends = h.ends; limited = h.limited; bases = λ p i. reached (shape.base p) (h.bases p i) }
     where
       reached : (b : ℤ) → (pos 0 ≤ℤ b) × (b <ℤ pos (2 ^ 32)) → (neg_ℤ (pos 0) ≤ℤ b) × (b <ℤ pos (2 ^ 32 + 0))
       reached b (low, high) = (omega (arith, ints, low), omega (arith, ints, high))
 
+  -- so are those that are left
   pub left_sound : (all rest : List (List (Knot P))) (m : ℕ) → All (IsInput shape from to) all → rest ≡ drop m all → AreSound shape from to 0 rest
   left_sound all rest m inputs left k x at =
       let there = dropped_at m all k x (subst (λ r. slice_get r k ≡ Some x) left at) in
       input_sound x (subst (IsInput shape from to) (get_or_from_slice_get all (m + k) x x there) (inputs (m + k) x (slice_get_within all (m + k) x there)))
 
+  -- sound for a reach is sound for a longer one
   pub all_more : (less more : ℕ) (xs : List (List (Knot P))) → less ≤ more → AreSound shape from to less xs → AreSound shape from to more xs
   all_more less more xs h all k x at = sound_more shape from to less more x h (all k x at)
 

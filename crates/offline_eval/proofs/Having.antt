@@ -82,5 +82,6 @@ module _ {P : Type 0} (shape : ShapeOf P) (laws : ShapeLaws shape) (nodes : List
       (subst (λ p. HasValue p s) tree value) in
       (subst (HasBoth s) (sym tree) both, has_inf shape laws.highest_is_greatest (subformula nodes k) s x.0 e x.2)
 
+  -- so for every node
   pub all_have : (i : ℕ) → i < length nodes → HasValues (subformula nodes i) s × HasInfs (subformula nodes i) s
   all_have i inside = (below_has (suc i) i (omega arith) (omega (arith, inside))).0

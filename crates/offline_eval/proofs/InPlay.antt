@@ -10,9 +10,11 @@ use Rattle.offline_eval.proofs.Along.{within_same_ends}
 use Rattle.offline_eval.proofs.Stretches.{IsOn, line_along, part_along, breakpoint_along, left_along, right_along, AreAlike, left_within, right_within}
 
 module _ (from to from' to' : Rational) (begins : from ≈ from') (ends : to ≈ to') where
+  -- a window ahead does not depend on the pairs of the domain
   pub ahead_ends : {a b : ℕ} {a_in b_in : Bool} {t u : Rational} → Ahead from to a b a_in b_in t u → Ahead from' to' a b a_in b_in t u
   ahead_ends w = record { inside = within_same_ends begins ends w.inside; begins = w.begins; ends = w.ends }
 
+  -- nor does one behind
   pub behind_ends : {a : ℕ} {b : Option ℕ} {a_in b_in : Bool} {t u : Rational} → Behind from to a b a_in b_in t u → Behind from' to' a b a_in b_in t u
   behind_ends w = record { inside = within_same_ends begins ends w.inside; begins = w.begins; ends = w.ends }
 

@@ -42,6 +42,7 @@ module _ {P : Type 0} (shape : ShapeOf P) (from to : ℕ) where
       near_reached : (b : ℤ) → (neg_ℤ (pos 4294967295) ≤ℤ b) × (b <ℤ pos (2 ^ 32 + 4294967295)) → (neg_ℤ (pos (2 ^ 32)) ≤ℤ b) × (b ≤ℤ pos (2 ^ 33))
       near_reached b (low, high) = (omega (arith, ints, low), omega (arith, ints, high))
 
+  -- so for two
   pub are_fit : (x y : List (Knot P)) → to < 2 ^ 32 → IsSound shape from to 4294967295 x → IsSound shape from to 4294967295 y → AreFit shape x y
   are_fit x y small s u = record {
     left = fit_of x small s;

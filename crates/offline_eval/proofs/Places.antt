@@ -26,13 +26,16 @@ on_ok (Err e) x = tt
 pub sum_on : (f : Node → ℕ) (nodes : List Node) (i : ℕ) (n : Node) → slice_get nodes i ≡ Some n → sum_by f (take (i + 1) nodes) ≡ sum_by f (take i nodes) + f n
 sum_on f nodes i n at = sum_by_more f nodes i n (slice_get_within nodes i n at) ∙ ap (λ m. sum_by f (take i nodes) + f m) (get_or_from_slice_get nodes i n n at)
 
+-- one atom more after an atom
 pub atoms_on_atom : (nodes : List Node) (i : ℕ) (a : Atom) → slice_get nodes i ≡ Some (Leaf a) → atoms_before nodes (i + 1) ≡ atoms_before nodes i + 1
 atoms_on_atom nodes i a at = sum_on (λ n. cond (is_atom n) 1 0) nodes i (Leaf a) at
 
+-- and as many as before after another node
 pub atoms_on_other : (nodes : List Node) (i : ℕ) (n : Node) → slice_get nodes i ≡ Some n → is_atom n ≡ false → atoms_before nodes (i + 1) ≡ atoms_before nodes i
 atoms_on_other nodes i n at other = sum_on (λ n. cond (is_atom n) 1 0) nodes i n at ∙ ap (λ b. atoms_before nodes i + cond b 1 0) other ∙ add-zero
     (atoms_before nodes i)
 
+-- what is no leaf is no atom
 pub not_atom : (n : Node) → ((a : Atom) → n ≡ Leaf a → ⊥) → is_atom n ≡ false
 not_atom (Leaf a) other = absurd (other a refl)
 not_atom (Const b) other = refl
@@ -100,6 +103,7 @@ module _ {P : Type 0} (shape : ShapeOf P) where
       let same : o.0 ≡ x = some_is (sym o.1 ∙ here) in
       subst (λ f. TellsValue shape s f x) (sym tree) (subst (TellsValue shape s (atom i a)) same o.2)
 
+  -- before the first node nothing is told
   pub told_none : (nodes : List Node) (s : Setting) → TellAtomsBelow shape 0 nodes [] s
   told_none nodes s i a h at = absurd (omega (arith, h))
 

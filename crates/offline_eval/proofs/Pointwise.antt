@@ -40,6 +40,7 @@ err_same (Ok a) e X h x = absurd h
 err_same (Err y) e X h x = subst X (sym h) x
 
 module _ {P : Type 0} (shape : ShapeOf P) where
+  -- minus a limited signal is bounded
   pub negated_bounded : (x : List (Knot P)) → IsLimited shape x → (t : Rational) (v : Extended) → Negated (IsWorth shape x) t v → IsBounded (2 ^ 31) v
   negated_bounded x l t v w = opposite_bounded (2 ^ 31) v (worth_bounded shape x l t (opposite v) w)
 
@@ -57,11 +58,13 @@ module _ {P : Type 0} (shape : ShapeOf P) where
   value_of F from to x t v tells i = (λ w. ((tells.worth t v).0 w).1, λ f. (tells.worth t v).1 (i, f))
 
 module _ {P : Type 0} (shape : ShapeOf P) where
+  -- negation tells `not`
   pub told_negated : (x r : List (Knot P)) → Tells shape (Negated (IsWorth shape x)) (start x) (stop x) r → TellsOne shape negation x r
   told_negated x r made s p ends tells = tells_along shape (Negated (IsWorth shape x)) (SupInf (negation p) s) (start x)
       (stop x) s.from s.to r made tells.begins tells.ends
       (λ t v i. value_of shape (SupInf p s) s.from s.to x t (opposite v) tells i)
 
+  -- the least tells `and`
   pub told_both : (x y r : List (Knot P)) → Tells shape (LeastOf (IsWorth shape x) (IsWorth shape y)) (start x) (stop x) r → TellsTwo shape conjunction x y r
   told_both x y r made s p q ends left right = tells_along shape (LeastOf (IsWorth shape x) (IsWorth shape y)) (SupInf (conjunction p q) s) (start x)
       (stop x) s.from s.to r made left.begins left.ends

@@ -20,12 +20,15 @@ use Rattle.pl_signal.proofs.Limits.{limited, limited_last}
 abbrev pub IsReached : ℕ → ℤ → Type 0
 IsReached reach b = (neg_ℤ (pos reach) ≤ℤ b) × (b <ℤ pos (2 ^ 32 + reach))
 
+-- what lies within a reach lies within a longer one
 pub reached_more : (reach more : ℕ) (b : ℤ) → reach ≤ more → IsReached reach b → IsReached more b
 reached_more reach more b h (low, high) = (omega (arith, ints, h, low), omega (arith, ints, h, high))
 
+-- 0 lies within every reach
 pub reached_zero : (reach : ℕ) (b : ℤ) → b ≡ pos 0 → IsReached reach b
 reached_zero reach b e = (omega (arith, ints, e), omega (arith, ints, e))
 
+-- whether a time is within its limits does not depend on its pair
 pub same_within : {a b : Rational} → a ≈ b → IsWithin (2 ^ 34) a → IsWithin (2 ^ 34) b
 same_within e h = (le_trans h.0 (le_of_same e), le_trans (ge_of_same e) h.1)
 
@@ -48,12 +51,16 @@ module _ {P : Type 0} (shape : ShapeOf P) where
 
 -- the base is that of the old shape, but for a move by at most `own`
 pub record IsMovedBy (own : ℕ) (old new : ℤ) : Type 0 where
+  -- the base moved back by no more than that
   pub not_less : (old -ℤ pos own) ≤ℤ new
+  -- and on by no more
   pub not_more : new ≤ℤ (old +ℤ pos own)
 
+-- moved by so much, a base lies within that much more
 pub reached_moved : (reach own : ℕ) (old new : ℤ) → IsReached reach old → IsMovedBy own old new → IsReached (reach + own) new
 reached_moved reach own old new (low, high) m = let a = m.not_less in let b = m.not_more in (omega (arith, ints, low, a), omega (arith, ints, high, b))
 
+-- a base that stays is not moved
 pub not_moved : (old new : ℤ) → new ≡ old → IsMovedBy 0 old new
 not_moved old new e = record { not_less = omega (arith, ints, e); not_more = omega (arith, ints, e) }
 
@@ -70,6 +77,7 @@ module _ {P : Type 0} (shape : ShapeOf P) (laws : ShapeLaws shape) where
   abbrev pub MovedFrom : ℕ → List (Knot P) → List (Knot P) → Type 0
   MovedFrom own x r = (p : P) → HasShape r p → IsTrue (shape.moves p) → (q : P) × HasShape x q × IsMovedBy own (shape.base q) (shape.base p)
 
+  -- what a node makes of one signal stays sound
   pub stays_sound : (own : ℕ) (x r : List (Knot P)) → start r ≈ start x → stop r ≈ stop x → IsLimited shape r → MovedFrom own x r → StaysSound shape own x r
   stays_sound own x r begins ends limited moved from to reach s = record {
     begins = same_trans begins s.begins;

@@ -29,6 +29,7 @@ use Rattle.pl_signal.proofs.Telling.{IsFunction, told}
 abbrev pub instant : {P : Type 0} → Frac → P → List (Knot P)
 instant at p = record { time = at; point = p; after = p } ∷ []
 
+-- ticks are ordered as their numbers
 pub tick_order : {a b : Rational} (n m : ℕ) → n < m → a ≈ whole (pos n) → b ≈ whole (pos m) → a <ʳ b
 tick_order {a} {b} n m h e f = lt_of_le_of_lt (le_of_same e) (lt_of_lt_of_le (lt_whole (below n m h)) (ge_of_same f))
   where
@@ -61,6 +62,7 @@ module _ {P : Type 0} (shape : ShapeOf P) where
       (record { signal = signal; worth = λ t v w. instant_worth at p t v (subst (λ r. IsWorth shape r t v) e w) })
       (subst (λ r. start r ≈ from) (sym e) begins) (subst (λ r. stop r ≈ to) (sym e) (same_trans begins ends))
 
+  -- its one shape
   pub steady_once_shapes : (r : List (Knot P)) (at : Frac) (p : P) → r ≡ instant at p → (q : P) → HasShape r q → q ≡ p
   steady_once_shapes r at p e q h = instant_shape at p q (subst (λ r. HasShape r q) e h)
 

@@ -151,6 +151,7 @@ module _ {P : Type 0} (shape : ShapeOf P) where
   abbrev pub ComesFrom : ℕ → List (Knot P) → P → Type 0
   ComesFrom own x p = (q : P) × HasShape x q × IsTrue (shape.moves q) × IsMovedBy own (shape.base q) (shape.base p)
 
+  -- the shapes of a window ahead come from within its bounds
   pub ahead_from : (a b : ℕ) (x r : List (Knot P)) → a ≤ b → BasesAhead shape a b x r → (p : P) → HasShape r p → IsTrue (shape.moves p) → ComesFrom b x p
   ahead_from a b x r o bases p h m = let f = bases p h m in (f.0, f.1, f.2, moved_ahead a b (shape.base f.0) (shape.base p) o f.3)
 
@@ -176,6 +177,7 @@ pub in_order : (a : ℕ) (b : Option ℕ) → IsInOrder a b → IfSome b (λ b. 
 in_order a None h = tt
 in_order a (Some b) h = h
 
+-- the lower bound is within the reach
 pub reach_of_order : (a : ℕ) (b : Option ℕ) → IsInOrder a b → a ≤ reach_of_bound a b
 reach_of_order a None h = omega arith
 reach_of_order a (Some b) h = h

@@ -125,6 +125,7 @@ module _ {P : Type 0} (shape : ShapeOf P) where
   joins b old new p q point to (Whole s) is on = joins_whole b old new p q s point to is on
   joins b old new p q point to (Split first middle second) is (half, on, on') = joins_split b old half new p q first second point middle to is on on'
 
+  -- the middle of pieces lies on the gap
   pub middle_between : (b : Side) (p q : P) (from to : Rational) (pieces : Pieces P) → IsPieces shape b p q from to pieces → MiddleIsBetween pieces from to
   middle_between b p q from to (Whole s) is = tt
   middle_between b p q from to (Split first middle second) is = (is.after, is.before)

@@ -51,16 +51,19 @@ module _ {P : Type 0} (shape : ShapeOf P) where
   pub no_value_after : (ks : List (Knot P)) (t : Rational) (v : Extended) → IsSignal shape ks → stop ks <ʳ t → ¬ (IsWorth shape ks t v)
   no_value_after ks t v s h w = not_lt_of_le (worth_within shape ks t v s w).below h
 
+  -- from the end on there is no limit from the right
   pub no_right_limit : (ks : List (Knot P)) (t : Rational) (v : Extended) → IsSignal shape ks → stop ks ≤ʳ t → ¬ (IsRightLimit (IsWorth shape ks) t v)
   no_right_limit ks t v s h l =
       let w = l.on (middle t l.b) (left_of_middle l.below) (right_of_middle l.below) in
       no_value_after ks (middle t l.b) w.0 s (lt_of_le_of_lt h (left_of_middle l.below)) w.1
 
+  -- up to the start there is none from the left
   pub no_left_limit : (ks : List (Knot P)) (t : Rational) (v : Extended) → IsSignal shape ks → t ≤ʳ start ks → ¬ (IsLeftLimit (IsWorth shape ks) t v)
   no_left_limit ks t v s h l =
       let w = l.on (middle l.a t) (left_of_middle l.above) (right_of_middle l.above) in
       not_lt_of_le (worth_within shape ks (middle l.a t) w.0 s w.1).above (lt_of_lt_of_le (right_of_middle l.above) h)
 
+  -- and none after the end
   pub no_left_limit_after : (ks : List (Knot P)) (t : Rational) (v : Extended) → IsSignal shape ks → stop ks <ʳ t → ¬ (IsLeftLimit (IsWorth shape ks) t v)
   no_left_limit_after ks t v s h l =
       let c = later_end l.above h in
@@ -132,6 +135,7 @@ module _ {P : Type 0} (shape : ShapeOf P) where
       r h.0.limits)
   limits_at (l ∷ ks) (suc i) k n h e f = limits_at ks i k n h.1 e f
 
+  -- so for the limits at both ends of a gap
   pub limits_bounded : (ks : List (Knot P)) (i : ℕ) (k n : Knot P) → IsLimited shape ks → slice_get ks i ≡ Some k → slice_get ks (i + 1) ≡ Some n
       → IsBounded (2 ^ 31) (value_at (shape.function k.after) (time k)) × IsBounded (2 ^ 31) (value_at (shape.function k.after) (time n))
   limits_bounded ks i k n h e f = let s : i + 1 ≡ suc i = omega arith in limits_at ks i k n h e (subst (λ p. slice_get ks p ≡ Some n) s f)
@@ -141,14 +145,17 @@ module _ {P : Type 0} (shape : ShapeOf P) where
   limited_start [] s h = let some = s.some in absurd (omega arith)
   limited_start (k ∷ ks) s h = h.0.when
 
+  -- and so does the last
   pub limited_last : (k : Knot P) (ks : List (Knot P)) → IsLimited shape (k ∷ ks) → IsWithin (2 ^ 34) (stop (k ∷ ks))
   limited_last k [] h = h.0.when
   limited_last k (n ∷ ks) h = limited_last n ks h.1
 
+  -- so for the end of a signal
   pub limited_stop : (ks : List (Knot P)) → IsSignal shape ks → IsLimited shape ks → IsWithin (2 ^ 34) (stop ks)
   limited_stop [] s h = let some = s.some in absurd (omega arith)
   limited_stop (k ∷ ks) s h = limited_last k ks h
 
+  -- a signal has one value at each time
   pub signal_one : (ks : List (Knot P)) → IsSignal shape ks → HasOneValue (IsWorth shape ks)
   signal_one ks s = λ t v w a b. one_value shape ks t v w s a b
 
@@ -262,5 +269,6 @@ module _ {P : Type 0} (shape : ShapeOf P) where
           let up : suc i + 1 ≡ suc (i + 1) = omega arith in
           inr (suc i, l, n, h, subst (λ p. slice_get (k ∷ ks) p ≡ Some n) (sym up) j, a, b)
 
+  -- each time of the domain is found, at a knot or on a gap
   pub found : (ks : List (Knot P)) (t : Rational) → IsSignal shape ks → Within (start ks) (stop ks) t → IsFound ks t
   found ks t s h = let w = every_time shape ks t s h in found_by ks t w.0 w.1

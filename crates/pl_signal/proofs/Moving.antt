@@ -32,15 +32,19 @@ shift_forth t z = record { same = omega (arith, ap (λ n. n * (t.den * t.den)) s
     step : part_above z + part_above (neg_ℤ z) ≡ part_below z + part_below (neg_ℤ z)
     step = omega (arith, parts)
 
+-- a mirror turns the order round
 pub mirror_lt : {t u : Rational} (z : ℤ) → t <ʳ u → subtract (whole z) u <ʳ subtract (whole z) t
 mirror_lt {t} {u} z h = record { lt = omega (arith, h.lt) }
 
+-- so where they may be equal
 pub mirror_le : {t u : Rational} (z : ℤ) → t ≤ʳ u → subtract (whole z) u ≤ʳ subtract (whole z) t
 mirror_le {t} {u} z h = record { le = omega (arith, h.le) }
 
+-- equal times have equal mirror images
 pub mirror_same : {t u : Rational} (z : ℤ) → t ≈ u → subtract (whole z) t ≈ subtract (whole z) u
 mirror_same {t} {u} z h = record { same = omega (arith, h.same) }
 
+-- mirrored twice is as before
 pub mirror_twice : (t : Rational) (z : ℤ) → subtract (whole z) (subtract (whole z) t) ≈ t
 mirror_twice t z = omega arith
 
@@ -87,15 +91,18 @@ module _ {P : Type 0} (shape : ShapeOf P) where
   limited_at (l ∷ ks) zero k h e = let s : l ≡ k = cc in subst (λ k. IsWithin (2 ^ 34) (time k)) s h.0.when
   limited_at (l ∷ ks) (suc i) k h e = limited_at ks i k h.1 e
 
+  -- so for the start
   pub limited_start : (ks : List (Knot P)) → 0 < length ks → IsLimited shape ks → IsWithin (2 ^ 34) (start ks)
   limited_start [] some h = absurd (omega arith)
   limited_start (k ∷ ks) some h = h.0.when
 
+  -- and for the stop
   pub limited_stop : (ks : List (Knot P)) → 0 < length ks → IsLimited shape ks → IsWithin (2 ^ 34) (stop ks)
   limited_stop [] some h = absurd (omega arith)
   limited_stop (k ∷ []) some h = h.0.when
   limited_stop (k ∷ n ∷ ks) some h = limited_stop (n ∷ ks) (omega arith) h.1
 
+  -- the time of a knot lies in the domain
   pub at_knot_within : (ks : List (Knot P)) (i : ℕ) (k : Knot P) → IsSignal shape ks → slice_get ks i ≡ Some k → Within (start ks) (stop ks) (time k)
   at_knot_within ks i k s e = worth_within shape ks (time k) (value_at (shape.function k.point) (time k)) s
       (worth_at shape ks i k (time k) e (same_refl (time k)))
@@ -112,6 +119,7 @@ module _ {P : Type 0} (shape : ShapeOf P) where
   first_is [] some = absurd (omega arith)
   first_is (k ∷ ks) some = (k, refl, refl)
 
+  -- and the stop is the time of the last
   pub last_is : (ks : List (Knot P)) (i : ℕ) (k : Knot P) → slice_get ks i ≡ Some k → i + 1 ≡ length ks → stop ks ≡ time k
   last_is ks i k e n = stop_at shape ks i k e (slice_get_past ks (i + 1) (omega (arith, n)))
 
@@ -179,6 +187,7 @@ module _ {P : Type 0} (shape : ShapeOf P) where
       by_shape r m (inr (inl e)) = let f = from_p (subst (λ x. IsTrue (shape.moves x)) e m) in (p, has_p, f.0, ap shape.base e ∙ f.1)
       by_shape r m (inr (inr e)) = let f = from_q (subst (λ x. IsTrue (shape.moves x)) e m) in (q, has_q, f.0, ap shape.base e ∙ f.1)
 
+  -- so for the first knot
   pub bases_first : (made : ℤ → ℤ) (ks : List (Knot P)) (point q : P) (at : Frac)
       → HasShape ks q → (IsTrue (shape.moves point) → IsTrue (shape.moves q) × (shape.base point ≡ made (shape.base q)))
       → BasesFrom shape made ks (record { time = at; point = point; after = point } ∷ [])
@@ -231,13 +240,16 @@ module _ {P : Type 0} (shape : ShapeOf P) where
 step_small : {t : Rational} (n : ℕ) → IsWithin (2 ^ 34) t → IsWithin (2 ^ 34) (add t (whole (negsuc n))) → suc n ≤ 2 ^ 35
 step_small {t} n h k = le_of_mul-le-mul_right {k = t.den} (omega (arith, h.1.le, k.0.le)) t.positive
 
+-- a move within the limits is not below -2^35
 pub move_above : {t : Rational} (z : ℤ) → IsWithin (2 ^ 34) t → IsWithin (2 ^ 34) (add t (whole z)) → neg_ℤ (pos (2 ^ 35)) ≤ℤ z
 move_above (pos n) h k = record { le = tt }
 move_above (negsuc n) h k = let s = step_small n h k in omega (arith, ints, s)
 
+-- and the move back fits where it does
 pub back_fits : {t : Rational} (z : ℤ) → IsWithin (2 ^ 34) t → IsWithin (2 ^ 34) (add t (whole z)) → FitsSigned w64 z → FitsSigned w64 (pos 0 -ℤ z)
 back_fits z h k f = let low = move_above z h k in omega (arith, ints, low)
 
+-- 0 less a number is minus it
 pub minus_is : (z : ℤ) → pos 0 -ℤ z ≡ neg_ℤ z
 minus_is z = omega (arith, ints)
 

@@ -21,6 +21,7 @@ later_than Less h k n = absurd (not_lt_of_le k h)
 later_than Equal h k n = absurd (n refl)
 later_than Greater h k n = h
 
+-- the earlier of two later times is later
 pub earlier_after : {at to x y : Rational} → at <ʳ x → at <ʳ y → (to ≡ x) ⊎ (to ≡ y) → at <ʳ to
 earlier_after {at = at} h k (inl e) = subst (λ t. at <ʳ t) (sym e) h
 earlier_after {at = at} h k (inr e) = subst (λ t. at <ʳ t) (sym e) k

@@ -14,8 +14,11 @@ use Rattle.pl_signal.specs.Knots.{time, IsInGap, IsWorth}
 
 -- the times of an interval on an open gap
 record OnGap (on : Interval) (l r u : Rational) : Type 0 where
+  -- the time lies in the interval
   pub inside : IsIn on u
+  -- after one end
   pub after : l <ʳ u
+  -- and before the other
   pub before : u <ʳ r
 
 -- over times that hold an open interval, and none outside its closure

@@ -19,12 +19,15 @@ use Rattle.pl_signal.specs.Moves.{Tells}
 use Rattle.pl_signal.proofs.Values.{worth_within, every_time, one_value, worth_same}
 
 module _ {P : Type 0} (shape : ShapeOf P) where
+  -- what a signal is worth is a function of time
   pub worth_is_function : (ks : List (Knot P)) → IsSignal shape ks → IsFunction (IsWorth shape ks)
   worth_is_function ks s = record { alike = λ t u v w e f h. worth_same shape ks v w e f h; one = λ t v w a b. one_value shape ks t v w s a b }
 
   -- all that the signal tells so far is what F says
   pub record TellsSoFar (F : Function) (knots : List (Knot P)) : Type 0 where
+    -- the knots are a signal
     pub signal : IsSignal shape knots
+    -- and all that it is worth is what F says
     pub worth : (t : Rational) (v : Extended) → IsWorth shape knots t v → F t v
 
   -- where all that a signal tells is what F says, it tells F between its ends
@@ -46,6 +49,7 @@ module _ {P : Type 0} (shape : ShapeOf P) where
           let x = every_time shape ks t s.signal (record { above = le_trans (le_of_same begins) w.above; below = le_trans w.below (ge_of_same ends) }) in
           worth_same shape ks x.0 v (same_refl t) (is.one t x.0 v (s.worth t x.0 x.1) a) x.1
 
+  -- a signal that is worth what another is tells it
   pub told_alike : (old new : List (Knot P)) (from to : Rational) → IsSignal shape old → IsSignal shape new → start new ≈ from → stop new ≈ to
       → ((t : Rational) (v : Extended) → IsWorth shape new t v → IsWorth shape old t v) → Tells shape (IsWorth shape old) from to new
   told_alike old new from to is_old is_new begins ends worth = told (IsWorth shape old) from to new (worth_is_function old is_old)

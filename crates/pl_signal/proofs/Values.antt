@@ -9,6 +9,7 @@ use Rattle.value_laws.specs.Members.{ShapeOf}
 use Rattle.pl_signal.specs.declared.knot.Knot.{Knot}
 use Rattle.pl_signal.specs.Knots.{time, start, stop, HasShape, Each, IsWorth, IsKnot, IsSignal}
 
+-- one Option has one content
 pub some_is : {X : Type 0} {a b : X} → Some a ≡ Some b → a ≡ b
 some_is h = cc
 
@@ -18,6 +19,7 @@ module _ {P : Type 0} (shape : ShapeOf P) where
   to_stop k [] h = le_refl (time k)
   to_stop k (n ∷ ks) (h, hs) = le_trans (le_of_lt h.rising) (to_stop n ks hs)
 
+  -- nothing is worth anything before the first knot
   pub not_before : (k : Knot P) (ks : List (Knot P)) (t : Rational) (v : Extended) → Each (IsKnot shape) (k ∷ ks) → IsWorth shape (k ∷ ks) t v → time k ≤ʳ t
   not_before k ks t v h (inl w) = ge_of_same w.when
   not_before k [] t v h (inr (inl w)) = absurd w
@@ -132,6 +134,7 @@ module _ {P : Type 0} (shape : ShapeOf P) where
   shape_at (l ∷ ks) zero k h = inl (sym (ap (λ k. k.point) (some_is h)))
   shape_at (l ∷ ks) (suc i) k h = inr (inr (shape_at ks i k h))
 
+  -- and the one after it
   pub shape_after : (ks : List (Knot P)) (i : ℕ) (k : Knot P) → slice_get ks i ≡ Some k → HasShape ks k.after
   shape_after [] i k h = absurd (cc)
   shape_after (l ∷ ks) zero k h = inr (inl (sym (ap (λ k. k.after) (some_is h))))

@@ -17,6 +17,7 @@ use Rattle.rational.proofs.RunningBack.{RunsBack, other_way, turned_affine}
 abbrev pub IsBack : Affine → Affine → Type 0
 IsBack f g = (t : Rational) → value_at g t ≈ᵉ value_at f (negate t)
 
+-- running back is of both
 pub back_other : (f g : Affine) → IsBack f g → IsBack g f
 back_other f g h = λ t. same_symᵉ (value_at g (negate t)) (value_at f t) (h (negate t))
 
@@ -27,6 +28,7 @@ lt_negated : {a b : Rational} → a <ʳ negate b → b <ʳ negate a
 lt_negated {a} {b} h = lt_negate h
 
 module _ (P P' : Function) (back : RunsBack P P') (f g : Affine) (turned : IsBack f g) where
+  -- a line runs back to a line
   pub line_back : (a b : Rational) → IsLineOn P' a b f → IsLineOn P (negate b) (negate a) g
   line_back a b on = λ t h k.
       let x = on (negate t) (lt_negated k) (negated_lt h) in (
@@ -36,6 +38,7 @@ module _ (P P' : Function) (back : RunsBack P P') (f g : Affine) (turned : IsBac
             (same_symᵉ (value_at g t) (value_at f (negate t)) (turned t)),
       )
 
+  -- and a part to a part
   pub part_back : (tau : Rational) → IsPart P' tau f → IsPart P (negate tau) g
   part_back tau part = record {
     a = negate part.b;

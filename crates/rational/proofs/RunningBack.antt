@@ -13,9 +13,12 @@ use Rattle.rational.proofs.WindowLemmas.{sup_alike, inf_alike}
 
 -- G is F with time running back
 pub record RunsBack (F G : Function) : Type 0 where
+  -- the one function's values are the other's at minus the time
   pub out : (t : Rational) (v : Extended) → G t v → F (negate t) v
+  -- and the other way round
   pub back : (t : Rational) (v : Extended) → F t v → G (negate t) v
 
+-- running back is of both
 pub other_way : {F G : Function} → RunsBack F G → RunsBack G F
 other_way r = record { out = r.back; back = r.out }
 

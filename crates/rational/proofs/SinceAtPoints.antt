@@ -10,6 +10,7 @@ use Rattle.rational.proofs.SinceForward.{upto, Reach, Since}
 
 -- the function has one value at each time, whatever the pair
 pub record HasOneValue (F : Function) : Type 0 where
+  -- values at one time are at most each other
   pub one : (t u : Rational) (v w : Extended) → t ≈ u → F t v → F u w → v ≤ᵉ w
 
 module _ (lowest highest : Extended) (P Q : Function) (p_one : HasOneValue P) (q_one : HasOneValue Q) where

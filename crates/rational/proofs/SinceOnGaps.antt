@@ -13,7 +13,9 @@ use Rattle.rational.proofs.SinceForward.{upto, after, Reach}
 
 -- on the interval the function is that of the line
 pub record IsOn (on : Interval) (F : Function) (f : Affine) : Type 0 where
+  -- the function's values are the line's
   pub out : (u : Rational) (v : Extended) → IsIn on u → F u v → Passes f u v
+  -- and the line's values are the function's
   pub back : (u : Rational) → IsIn on u → F u (value_at f u)
 
 module _ (highest : Extended) (P : Function) (f : Affine) (inside : Bool) (t0 t : Rational) (later : t0 <ʳ t)
@@ -64,6 +66,7 @@ module _ (highest : Extended) (P : Function) (f : Affine) (inside : Bool) (t0 t 
         (value_at f z.0, (z.0, m, on.back z.0 m), z.3);
   }
 
+  -- so where it falls
   pub gap_sinking : Sinks f → IsInfOver highest (IsIn (after inside t0 t)) P (value_at f t)
   gap_sinking sinks = record {
     at_most = most t;

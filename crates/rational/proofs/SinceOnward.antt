@@ -25,6 +25,7 @@ climbs_of_lines f = elim (slope_of f) as (λ v. ((t u : Rational) → t ≤ʳ u 
   ]
 ]
 
+-- a function does not fall, or does not rise
 pub climbs_or_sinks : (f : Affine) → Climbs f ⊎ Sinks f
 climbs_or_sinks always_low = inl (λ t u h. tt)
 climbs_or_sinks (affine f) = climbs_of_lines f
@@ -119,6 +120,7 @@ module _ (lowest highest : Extended) (P Q : Function) (infs : (on : Interval) �
 pub within_in : (u t v : Rational) → Within u t v → IsIn (upto true u t) v
 within_in u t v w = record { above = w.above; below = w.below }
 
+-- and the other way round
 pub in_within : (u t v : Rational) → IsIn (upto true u t) v → Within u t v
 in_within u t v w = record { above = w.above; below = w.below }
 
@@ -134,6 +136,7 @@ module _ (lowest highest : Extended) (P Q : Function) (from t : Rational) (r : E
   since_of h = sup_alike lowest r (λ v m. (m.0, within_in from t m.0 m.1, reach_of m.0 m.0 v m.2))
       (λ v m. (m.0, in_within from t m.0 m.1, down_of m.0 m.0 v m.2)) h
 
+  -- and the other way round
   pub of_since : Since lowest highest P Q true from t r → SinceFromStart lowest highest from P Q t r
   of_since h = sup_alike lowest r (λ v m. (m.0, in_within from t m.0 m.1, down_of m.0 m.0 v m.2))
       (λ v m. (m.0, within_in from t m.0 m.1, reach_of m.0 m.0 v m.2)) h

@@ -52,10 +52,15 @@ order_from f h m r e = elim (le_totalᵉ (value_at f r) (value_at h r)) as (λ v
 
 -- on the gap the two functions are lines, with values between the least and the greatest
 pub record IsPlain (lowest highest : Extended) (P Q : Function) (l r : Rational) (f h : Affine) : Type 0 where
+  -- the left side is a line on the gap
   pub left_on : IsLineOn P l r f
+  -- and so is the right side
   pub right_on : IsLineOn Q l r h
+  -- the left side is at least the lowest value
   pub left_low : (t : Rational) → lowest ≤ᵉ value_at f t
+  -- and so is the right side
   pub right_low : (t : Rational) → lowest ≤ᵉ value_at h t
+  -- the left side is at most the highest
   pub left_high : (t : Rational) → value_at f t ≤ᵉ highest
 
 later_part : (lowest highest : Extended) (P Q : Function) (l m r : Rational) (f h : Affine) → l <ʳ m → IsPlain lowest highest P Q l r f h
@@ -73,10 +78,15 @@ one_of F is = record { one = λ t u v w e h k. (is.one u v w (is.alike t u v v e
 
 -- what the functions have to have: one value at each time, an Inf over each interval, and values between the least and the greatest
 pub record IsFit (lowest highest : Extended) (P Q : Function) (from to : Rational) : Type 0 where
+  -- the left side is a function of time
   pub p_is : IsFunction P
+  -- and so is the right side
   pub q_is : IsFunction Q
+  -- the left side has an Inf over each interval
   pub infs : (on : Interval) → (y : Extended) × IsInfOver highest (IsIn on) P y
+  -- the left side has a value at each time of the domain
   pub p_at : (t : Rational) → Within from to t → (v : Extended) × P t v × (lowest ≤ᵉ v) × (v ≤ᵉ highest)
+  -- and so has the right side
   pub q_at : (t : Rational) → Within from to t → (v : Extended) × Q t v × (lowest ≤ᵉ v)
 
 module _ (lowest highest : Extended) (P Q : Function) (from : Rational) where
@@ -84,6 +94,7 @@ module _ (lowest highest : Extended) (P Q : Function) (from : Rational) where
   abbrev pub IsKnown : Rational → Type 0
   IsKnown t = (v : Extended) × SinceFromStart lowest highest from P Q t v
 
+  -- whether a value is known does not depend on the pair
   pub known_same : (t u : Rational) → t ≈ u → IsKnown t → IsKnown u
   known_same t u e k = (k.0, (since_is_function lowest highest from P Q).alike t u k.0 k.0 e (same_reflᵉ k.0) k.1)
 
@@ -91,6 +102,7 @@ module _ (lowest highest : Extended) (P Q : Function) (from to : Rational) (fit 
   abbrev Known : Rational → Type 0
   Known t = IsKnown lowest highest P Q from t
 
+  -- it is known at the start
   pub known_first : from ≤ʳ to → Known from
   known_first order =
       let w : Within from to from = record { above = le_refl from; below = order } in
@@ -204,6 +216,7 @@ module _ (lowest highest : Extended) (P Q : Function) (from to : Rational) (fit 
   sides : RunsBack (UntilToEnd lowest highest to P Q) (SinceFromStart lowest highest (negate to) (Back P) (Back Q))
   sides = until_runs_back lowest highest P (Back P) Q (Back Q) (runs P) (runs Q) to (negate to) (same_refl to)
 
+  -- and the until has one up to the end
   pub known_last : from ≤ʳ to → IsKnownAhead to
   known_last order = let k = known_first lowest highest (Back P) (Back Q) (negate to) (negate from) back_fit (le_negate order) in
       (k.0, sides.out (negate to) k.0 k.1)

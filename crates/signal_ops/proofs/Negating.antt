@@ -44,6 +44,7 @@ module _ {P : Type 0} (shape : ShapeOf P) where
       next : i + 1 ≡ suc i
       next = omega arith
 
+  -- minus a signal is a function of time
   pub negated_is_function : (ks : List (Knot P)) → IsSignal shape ks → IsFunction (Negated (IsWorth shape ks))
   negated_is_function ks s = record {
     alike = λ t u v w e f h. worth_same shape ks (opposite v) (opposite w) e (opposite_same v w f) h;

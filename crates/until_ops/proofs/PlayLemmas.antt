@@ -30,12 +30,19 @@ use Rattle.rational.proofs.Events.{not_crossed}
 module _ {P : Type 0} (shape : ShapeOf P) (p q : List (Knot P)) where
   -- a gap between events, on which both signals are worth their shapes, after a time at which the since is worth the shape before
   pub record Follows (gap : Gap P) : Type 0 where
+    -- the gap has times
     pub later : value gap.from <ʳ value gap.to
+    -- it begins in the domain
     pub inside : Within (start p) (stop p) (value gap.from)
+    -- and ends in it
     pub below : value gap.to ≤ʳ stop p
+    -- the left side is a line on it
     pub left_on : IsLineOn (IsWorth shape p) (value gap.from) (value gap.to) (shape.function gap.left)
+    -- and so is the right side
     pub right_on : IsLineOn (IsWorth shape q) (value gap.from) (value gap.to) (shape.function gap.right)
+    -- what the since is worth where it begins
     pub here : SinceOf shape p q (value gap.from) (value_at (shape.function gap.before) (value gap.from))
+    -- there a breakpoint of a side lies, or the two cross
     pub event : IsBreakpoint (IsWorth shape p) (start p) (stop p) (value gap.from) ⊎ IsBreakpoint (IsWorth shape q) (start p) (stop p) (value gap.from)
         ⊎ IsCrossing (shape.function gap.left) (shape.function gap.right) (value gap.from)
 

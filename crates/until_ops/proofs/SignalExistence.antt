@@ -155,11 +155,13 @@ module _ {P : Type 0} (shape : ShapeOf P) (laws : ShapeLaws shape)
         (v.0, v.1, at_least_lowest shape laws q t v.0 v.1);
   }
 
+  -- a since of two signals has a value at each time
   pub has_since : HasSinceFromStart shape.lowest shape.highest (start p) (stop p) (IsWorth shape p) (IsWorth shape q)
   has_since t w = since_known shape.lowest shape.highest (IsWorth shape p) (IsWorth shape q) (start p) (stop p) fit (start p) (stop p) all_cuts
       (le_refl (start p)) (le_refl (stop p))
       (known_first shape.lowest shape.highest (IsWorth shape p) (IsWorth shape q) (start p) (stop p) fit in_order) t w.above w.below
 
+  -- so for until
   pub has_until : HasUntilToEnd shape.lowest shape.highest (start p) (stop p) (IsWorth shape p) (IsWorth shape q)
   has_until t w = until_known shape.lowest shape.highest (IsWorth shape p) (IsWorth shape q) (start p) (stop p) fit (start p) (stop p) all_cuts
       (le_refl (start p)) (le_refl (stop p))

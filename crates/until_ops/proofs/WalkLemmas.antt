@@ -48,19 +48,30 @@ bases_of_stand {P} shape p q built shapes = λ x h m. by_shape x m (shapes x h)
 
 -- the knots at the places of a walk and behind them, and the earlier of the times of the latter
 pub record IsAt {P : Type 0} (p q : List (Knot P)) (now : Stand P) (k l m n : Knot P) (next : Frac) : Type 0 where
+  -- the knot of the left signal
   pub at_k : slice_get p now.left ≡ Some k
+  -- and of the right one
   pub at_l : slice_get q now.right ≡ Some l
+  -- the next knot of the left signal
   pub at_m : slice_get p (now.left + 1) ≡ Some m
+  -- and of the right one
   pub at_n : slice_get q (now.right + 1) ≡ Some n
+  -- the next event is not after the one
   pub left : value next ≤ʳ time m
+  -- nor after the other
   pub right : value next ≤ʳ time n
+  -- and is one of them
   pub one : (value next ≡ time m) ⊎ (value next ≡ time n)
 
 -- a signal read at a time, as `advance` gives it
 pub record IsRead {P : Type 0} (shape : ShapeOf P) (ks : List (Knot P)) (i : ℕ) (to : Rational) (j : ℕ) (x : P) : Type 0 where
+  -- the place in the list
   pub place : IsPlace ks to j
+  -- what the signal is worth there
   pub worth : IsWorth shape ks to (value_at (shape.function x) to)
+  -- a shape of it
   pub of : HasShape ks x
+  -- one place on, where the next knot is not later
   pub moved : (j ≡ i + 1) ⊎ ((j ≡ i) × ((k : Knot P) → slice_get ks (i + 1) ≡ Some k → to <ʳ time k))
 
 -- a walk along two signals that stands, and what lies at its places

@@ -10,6 +10,8 @@ use value_laws::Shape;
 
 /// At each time, the value of a bounded until is the least of the Sup of its right side over the window and of the Inf, from now
 /// up to where the window begins, of the until to the end. It holds for empty and clipped windows too.
+///
+/// Source: Donzé, Ferrère and Maler 2013 split a timed until so; finite domains and clipped windows are this project's profile.
 pub fn until_is_composed<P: Shape>()
     ensures { (p q : List (Knot P)) → IsSignal P.Shape p
         → HasUntilToEnd P.lowest P.highest (start p) (stop p) (IsWorth P.Shape p) (IsWorth P.Shape q)

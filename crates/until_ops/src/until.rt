@@ -19,6 +19,10 @@ use value_laws::Shape;
 /// only where a function in play in this step has a crossing or a constant value there that needs a denominator of 2^60 or more.
 ///
 /// Definition: Donzé, Ferrère and Maler 2013, with the closed until and the finite domain of this project's profile.
+///
+/// # Errors
+///
+/// `Wide` for a pair that is in play in this step; `Memory` where memory is wanting.
 pub fn until_to_end<P: Shape>(p: &Signal<P>, q: &Signal<P>) -> Result<Signal<P>, OpFault<P>>
     requires left { IsLimited P.Shape p.now }
     requires right { IsLimited P.Shape q.now }
@@ -31,6 +35,7 @@ pub fn until_to_end<P: Shape>(p: &Signal<P>, q: &Signal<P>) -> Result<Signal<P>,
         (HasCause P.Shape (UntilStep P.Shape p.now q.now) (start p.now) (stop p.now)) }
     ensures pair { IfErr result (IsPairWithin (start p.now) (stop p.now)) }
 {
+    // For the proof alone: that both are signals is a clause of `len`.
     let _ = p.len();
     let _ = q.len();
     let left = p.mirror(0)?;

@@ -1,0 +1,14 @@
+mod PlaceLemmas
+mod Writing
+mod GotLemmas
+mod RunLaw
+mod StayLaw
+mod FrameLaw
+mod HeldLaw
+mod WindowLaw
+mod WindowPlaces
+mod UntilLaw
+mod SinceLaw
+mod SettledLaw
+mod EdgesLemmas
+mod DroppingLemmas

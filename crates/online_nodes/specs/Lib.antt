@@ -1,0 +1,5 @@
+pub mod Cuts
+pub mod Reading
+pub mod Held
+pub mod Written
+pub mod Laws
