@@ -88,6 +88,7 @@ module _ {P : Type 0} (shape : ShapeOf P) (from to : ℕ) where
   pub all_more : (less more : ℕ) (xs : List (List (Knot P))) → less ≤ more → AreSound shape from to less xs → AreSound shape from to more xs
   all_more less more xs h all k x at = sound_more shape from to less more x h (all k x at)
 
+  -- and so with one signal more
   pub all_pushed : (nodes : List Node) (i : ℕ) (xs ys : List (List (Knot P))) (y : List (Knot P)) → i < length nodes → ys ≡ xs ++ y ∷ []
       → AreSound shape from to (reach_before nodes i) xs
       → IsSound shape from to (reach_before nodes (i + 1)) y → AreSound shape from to (reach_before nodes (i + 1)) ys
@@ -101,6 +102,7 @@ module _ {P : Type 0} (shape : ShapeOf P) (from to : ℕ) where
       by_place (inr h) = subst (IsSound shape from to (reach_before nodes (i + 1))) (sym h.1) new
 
 module _ {P : Type 0} (shape : ShapeOf P) where
+  -- the node's signal tells it among all
   pub told_pushed : (nodes : List Node) (s : Setting) (i : ℕ) (xs ys : List (List (Knot P))) (y : List (Knot P)) → length xs ≡ i → ys ≡ xs ++ y ∷ []
       → TellAt shape s (subformula nodes) xs → TellsValue shape s (subformula nodes i) y
       → TellAt shape s (subformula nodes) ys
@@ -116,6 +118,7 @@ module _ {P : Type 0} (shape : ShapeOf P) where
       → TellNodes shape nodes xs s
   all_told nodes s xs count all i inside = let at = slice_get-get_or xs i [] (omega (arith, count, inside)) in (get_or xs i [], at, all i (get_or xs i []) at)
 
+  -- a fault of the node is one of the formula
   pub fault_is : (nodes : List Node) (s : Setting) (i : ℕ) (e : OpFault P) → i < length nodes → IsFaultOf shape s (subformula nodes i) e
       → IsFault shape nodes s (fault_at i e)
   fault_is nodes s i F.Memory inside h = tt

@@ -40,6 +40,7 @@ module _ (from to from' to' : Rational) (begins : from ≈ from') (ends : to ≈
     limit_within line C C' L R w (u, b, i, v, inr (h, r, k), c) =
         (u, break b, w u i, v, inr (lt_of_lt_of_le h (le_of_same ends), r, right_along from to F G on k), c)
 
+    -- in the step of a window ahead
     pub ahead_along : (a b : ℕ) (a_in b_in : Bool) (tau : Rational) (line : Affine) → IsInPlay (window_ahead F a b a_in b_in) from to tau line
         → IsInPlay (window_ahead G a b a_in b_in) from' to' tau line
     ahead_along a b a_in b_in tau line (h, inl p) = ((h.0, ahead_ends h.1), inl (end_part tau line (λ k. (k ≡ pos a) ⊎ (k ≡ pos b)) p))
@@ -52,6 +53,7 @@ module _ (from to from' to' : Rational) (begins : from ≈ from') (ends : to ≈
           (λ u. u <ʳ shifted tau (pos b)) (λ u w. ahead_ends w) p)),
     )
 
+    -- of one behind
     pub behind_along : (a : ℕ) (b : Option ℕ) (a_in b_in : Bool) (tau : Rational) (line : Affine)
         → IsInPlay (window_behind F a b a_in b_in) from to tau line → IsInPlay (window_behind G a b a_in b_in) from' to' tau line
     behind_along a b a_in b_in tau line (h, inl p) = ((h.0, behind_ends h.1), inl (end_part tau line (IsEndBehind a b) p))
@@ -84,6 +86,7 @@ module _ (from to from' to' : Rational) (begins : from ≈ from') (ends : to ≈
         by_kind (inr (inl b)) = inr (inl (break G G' right b))
         by_kind (inr (inr c)) = inr (inr c)
 
+    -- of until to the end
     pub until_along : (tau : Rational) (line : Affine) → from <ʳ tau → IsInPlay (until_end F G R) from to tau line
         → IsInPlay (until_end F' G' R') from' to' tau line
     until_along tau line h (inl p) = inl (part_along from to F F' left p)
@@ -117,6 +120,7 @@ module _ (from to from' to' : Rational) (begins : from ≈ from') (ends : to ≈
         by_kind (inr (inl b)) = inr (inl (break G G' right b))
         by_kind (inr (inr c)) = inr (inr c)
 
+    -- of since from the start
     pub since_along : (tau : Rational) (line : Affine) → tau <ʳ to → IsInPlay (since_start F G R) from to tau line
         → IsInPlay (since_start F' G' R') from' to' tau line
     since_along tau line h (inl p) = inl (part_along from to F F' left p)
@@ -150,6 +154,7 @@ crossing_along Step Other from to from' to' begins ends forth p q a b den w = re
   wide = w.wide;
 }
 
+-- and so for a constant
 pub value_along : (Step Other : Rational → Affine → Type 0) (from to from' to' : Rational) → from ≈ from' → to ≈ to'
     → ((tau : Rational) (line : Affine) → from <ʳ tau → tau <ʳ to → Step tau line → Other tau line)
     → (p : Affine) (u : Rational) (den : ℕ) → IsWideValue Step from to p u den → IsWideValue Other from' to' p u den

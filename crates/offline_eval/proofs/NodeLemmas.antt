@@ -51,14 +51,17 @@ module _ {P : Type 0} (shape : ShapeOf P) (from to : ℕ) where
     ends = same_trans s.ends (same_sym u.ends);
   }
 
+  -- a node without children
   pub none_sound : (n : Node) (xs : List (List (Knot P))) (r : List (Knot P)) → ((reach : ℕ) → IsSound shape from to reach r)
       → NodeStaysSound shape from to n xs r
   none_sound n xs r sound reach all = sound (reach + own_reach n)
 
+  -- with one child
   pub one_sound : (n : Node) (p own : ℕ) (xs : List (List (Knot P))) (x r : List (Knot P)) → slice_get xs p ≡ Some x → own_reach n ≡ own
       → StaysSound shape own x r → NodeStaysSound shape from to n xs r
   one_sound n p own xs x r at e sound reach all = subst (λ k. IsSound shape from to (reach + k) r) (sym e) (sound from to reach (all p x at))
 
+  -- with two children
   pub two_sound : (n : Node) (p q own : ℕ) (xs : List (List (Knot P))) (x y r : List (Knot P)) → slice_get xs p ≡ Some x → slice_get xs q ≡ Some y
       → own_reach n ≡ own
       → StaySound shape own x y r → NodeStaysSound shape from to n xs r
@@ -66,22 +69,26 @@ module _ {P : Type 0} (shape : ShapeOf P) (from to : ℕ) where
       subst (λ k. IsSound shape from to (reach + k) r) (sym e) (sound from to reach (all p x at_p) (all q y at_q))
 
 module _ {P : Type 0} (shape : ShapeOf P) (from to : ℕ) where
+  -- what a node with one child tells
   pub one_told : (n : Node) (p : ℕ) (xs : List (List (Knot P))) (x r : List (Knot P)) (make : Subformula → Subformula) → slice_get xs p ≡ Some x
       → ((at : ℕ → Subformula) (i : ℕ) → tree_of at i n ≡ make (at p))
       → TellsOne shape make x r → TellsNode shape from to n xs r
   one_told n p xs x r make at_p e told s at i over all = subst (λ f. TellsValue shape s f r) (sym (e at i)) (told s (at p) (ends_of over) (all p x at_p))
 
+  -- and its fault
   pub one_fault : (n : Node) (p : ℕ) (xs : List (List (Knot P))) (x : List (Knot P)) (f : OpFault P) (make : Subformula → Subformula)
       → slice_get xs p ≡ Some x → ((at : ℕ → Subformula) (i : ℕ) → tree_of at i n ≡ make (at p))
       → FaultOfOne shape make x f → FaultOfNode shape from to n xs f
   one_fault n p xs x f make at_p e fault s at i over all = subst (λ t. IsFaultOf shape s t f) (sym (e at i)) (fault s (at p) (ends_of over) (all p x at_p))
 
+  -- what a node with two children tells
   pub two_told : (n : Node) (p q : ℕ) (xs : List (List (Knot P))) (x y r : List (Knot P)) (make : Subformula → Subformula → Subformula)
       → slice_get xs p ≡ Some x → slice_get xs q ≡ Some y
       → ((at : ℕ → Subformula) (i : ℕ) → tree_of at i n ≡ make (at p) (at q)) → TellsTwo shape make x y r → TellsNode shape from to n xs r
   two_told n p q xs x y r make at_p at_q e told s at i over all =
       subst (λ f. TellsValue shape s f r) (sym (e at i)) (told s (at p) (at q) (ends_of over) (all p x at_p) (all q y at_q))
 
+  -- and its fault
   pub two_fault : (n : Node) (p q : ℕ) (xs : List (List (Knot P))) (x y : List (Knot P)) (f : OpFault P) (make : Subformula → Subformula → Subformula)
       → slice_get xs p ≡ Some x → slice_get xs q ≡ Some y
       → ((at : ℕ → Subformula) (i : ℕ) → tree_of at i n ≡ make (at p) (at q)) → FaultOfTwo shape make x y f → FaultOfNode shape from to n xs f

@@ -79,21 +79,25 @@ last_of xs x k e = subst (λ n. slice_get (xs ++ x ∷ []) n ≡ Some x) (sym e)
     at_end (z ∷ xs) x = at_end xs x
 
 module _ {P : Type 0} where
+  -- an atom takes the next signal
   pub atom_takes : (nodes : List Node) (i : ℕ) (a : Atom) (x : List (Knot P)) (old new : List (List (Knot P))) → slice_get nodes i ≡ Some (Leaf a)
       → old ≡ x ∷ new → TakesOwn nodes i old new
   atom_takes nodes i a x old new at e all left = (drop_at all (atoms_before nodes i) x new (sym e ∙ left)).1 ∙ ap (λ n. drop n all)
       (sym (atoms_on_atom nodes i a at))
 
+  -- another node takes none
   pub other_takes : (nodes : List Node) (i : ℕ) (n : Node) (old : List (List (Knot P))) → slice_get nodes i ≡ Some n → is_atom n ≡ false
       → TakesOwn nodes i old old
   other_takes nodes i n old at other all left = left ∙ ap (λ n. drop n all) (sym (atoms_on_other nodes i n at other))
 
 module _ {P : Type 0} (shape : ShapeOf P) where
+  -- the signal that an atom takes is sound
   pub atom_sound : (from to : ℕ) (nodes : List Node) (i : ℕ) (x : List (Knot P)) (old new xs : List (List (Knot P))) → old ≡ x ∷ new
       → AreSound shape from to 0 old → PlaceStaysSound shape from to nodes i xs x
   atom_sound from to nodes i x old new xs e sound all = sound_more shape from to 0 (reach_before nodes (i + 1)) x (omega arith)
       (sound 0 x (subst (λ o. slice_get o 0 ≡ Some x) (sym e) refl))
 
+  -- and tells the atom
   pub atom_told : (nodes : List Node) (i : ℕ) (a : Atom) (x : List (Knot P)) (old new all : List (List (Knot P))) (s : Setting)
       → slice_get nodes i ≡ Some (Leaf a) → subformula nodes i ≡ tree_of (subformula nodes) i (Leaf a)
       → old ≡ x ∷ new → old ≡ drop (atoms_before nodes i) all → TellAtoms shape nodes all s → TellsValue shape s (subformula nodes i) x
@@ -107,6 +111,7 @@ module _ {P : Type 0} (shape : ShapeOf P) where
   pub told_none : (nodes : List Node) (s : Setting) → TellAtomsBelow shape 0 nodes [] s
   told_none nodes s i a h at = absurd (omega (arith, h))
 
+  -- after an atom one more is
   pub told_atom : (nodes : List Node) (s : Setting) (i : ℕ) (a : Atom) (xs : List (List (Knot P))) (x : List (Knot P))
       → slice_get nodes i ≡ Some (Leaf a) → length xs ≡ atoms_before nodes i → TellAtomsBelow shape i nodes xs s
       → Tells shape (Gives s.atoms i a) s.from s.to x → TellAtomsBelow shape (i + 1) nodes (xs ++ x ∷ []) s
@@ -123,6 +128,7 @@ module _ {P : Type 0} (shape : ShapeOf P) where
                 (sym k) (subst (λ c. Tells shape (Gives s.atoms i c) s.from s.to x) (sym same) tells),
           )
 
+  -- and after another node as much as before
   pub told_other : (nodes : List Node) (s : Setting) (i : ℕ) (n : Node) (xs : List (List (Knot P))) → slice_get nodes i ≡ Some n → is_atom n ≡ false
       → TellAtomsBelow shape i nodes xs s → TellAtomsBelow shape (i + 1) nodes xs s
   told_other nodes s i n xs at other told j b h at_j = by_place (before_or_here i j h)

@@ -44,10 +44,12 @@ module _ {P : Type 0} (shape : ShapeOf P) where
   pub negated_bounded : (x : List (Knot P)) → IsLimited shape x → (t : Rational) (v : Extended) → Negated (IsWorth shape x) t v → IsBounded (2 ^ 31) v
   negated_bounded x l t v w = opposite_bounded (2 ^ 31) v (worth_bounded shape x l t (opposite v) w)
 
+  -- so is the least of two
   pub least_of_bounded : (x y : List (Knot P)) → IsLimited shape x → IsLimited shape y → (t : Rational) (v : Extended)
       → LeastOf (IsWorth shape x) (IsWorth shape y) t v → IsBounded (2 ^ 31) v
   least_of_bounded x y l m t v (a, b, f, g, h) = least_bounded (2 ^ 31) a b v h (worth_bounded shape x l t a f) (worth_bounded shape y m t b g)
 
+  -- and the greatest
   pub greatest_of_bounded : (x y : List (Knot P)) → IsLimited shape x → IsLimited shape y → (t : Rational) (v : Extended)
       → GreatestOf (IsWorth shape x) (IsWorth shape y) t v → IsBounded (2 ^ 31) v
   greatest_of_bounded x y l m t v (a, b, f, g, h) = greatest_bounded (2 ^ 31) a b v h (worth_bounded shape x l t a f) (worth_bounded shape y m t b g)
@@ -73,6 +75,7 @@ module _ {P : Type 0} (shape : ShapeOf P) where
         λ (a, b, f, g, h). (a, b, (value_of shape (SupInf p s) s.from s.to x t a left i).1 f, (value_of shape (SupInf q s) s.from s.to y t b right i).1 g, h),
       ))
 
+  -- the greatest tells `or`
   pub told_either : (x y r : List (Knot P)) → Tells shape (GreatestOf (IsWorth shape x) (IsWorth shape y)) (start x) (stop x) r
       → TellsTwo shape disjunction x y r
   told_either x y r made s p q ends left right = tells_along shape (GreatestOf (IsWorth shape x) (IsWorth shape y)) (SupInf (disjunction p q) s)
@@ -123,12 +126,14 @@ module _ {P : Type 0} (shape : ShapeOf P) where
     wide = m.wide;
   }
 
+  -- a fault of the least is one of `and`
   pub fault_both : (x y : List (Knot P)) (e : OpFault P) → IsFault shape (IsWorth shape x) (IsWorth shape y) (start x) (stop x) e
       → FaultOfTwo shape conjunction x y e
   fault_both x y F.Memory h s p q ends left right = tt
   fault_both x y (F.Wide (Cross a b l r den)) h s p q ends left right = met (SupInf p s) (SupInf q s) s.from s.to x y a b l r den left right h
   fault_both x y (F.Wide (Value a at den)) h s p q ends left right = absurd h
 
+  -- of the greatest one of `or`
   pub fault_either : (x y : List (Knot P)) (e : OpFault P) → IsFault shape (IsWorth shape x) (IsWorth shape y) (start x) (stop x) e
       → FaultOfTwo shape disjunction x y e
   fault_either x y F.Memory h s p q ends left right = tt
@@ -145,6 +150,7 @@ module _ {P : Type 0} (shape : ShapeOf P) where
         λ (a, b, f, g, h). (opposite a, b, subst (SupInf p s t) (sym (opposite_twice a)) f, g, h),
       ))
 
+  -- and a fault there is one of `implies`
   pub fault_implied : (x y n : List (Knot P)) (e : OpFault P) → TellsOne shape negation x n → FaultOfTwo shape disjunction n y e
       → FaultOfTwo shape implication x y e
   fault_implied x y n F.Memory turned h s p q ends left right = tt

@@ -91,6 +91,7 @@ module _ {P : Type 0} (shape : ShapeOf P) (laws : ShapeLaws shape) where
   MovedFromTwo own x y r = (p : P) → HasShape r p → IsTrue (shape.moves p) → (q : P) × (HasShape x q ⊎ HasShape y q)
       × IsMovedBy own (shape.base q) (shape.base p)
 
+  -- and of two
   pub stay_sound : (own : ℕ) (x y r : List (Knot P)) → start r ≈ start x → stop r ≈ stop x → IsLimited shape r → MovedFromTwo own x y r
       → StaySound shape own x y r
   stay_sound own x y r begins ends limited moved from to reach s u = record {

@@ -79,6 +79,7 @@ module _ {P : Type 0} (shape : ShapeOf P) where
       by_part t v (inr (inl w)) = w.2
       by_part t v (inr (inr w)) = w.1
 
+  -- its one shape
   pub steady_twice_shapes : (old new : List (Knot P)) (at till : Frac) (p : P) → old ≡ instant at p → GoesOn shape old p till p new → (q : P)
       → HasShape new q → q ≡ p
   steady_twice_shapes old new at till p e on q h = by_part (on.shapes q h)

@@ -135,11 +135,13 @@ module _ {P : Type 0} (shape : ShapeOf P) where
         (λ u w. record { above = le_trans (le_of_same left.begins) w.above; below = w.below })
         (λ u w. record { above = w.above; below = le_trans w.below i.below })
 
+    -- the until to the end is that of what the children tell
     pub to_end_told : (r : List (Knot P)) → Tells shape (UntilOf shape x y) (start x) (stop x) r
         → Tells shape (UntilToEnd shape.lowest shape.highest to F G) from to r
     to_end_told r made = tells_along shape (UntilOf shape x y) (UntilToEnd shape.lowest shape.highest to F G) (start x)
         (stop x) from to r made left.begins left.ends to_end_of
 
+    -- so for since from the start
     pub from_start_told : (r : List (Knot P)) → Tells shape (SinceOf shape x y) (start x) (stop x) r
         → Tells shape (SinceFromStart shape.lowest shape.highest from F G) from to r
     from_start_told r made = tells_along shape (SinceOf shape x y) (SinceFromStart shape.lowest shape.highest from F G) (start x)
@@ -151,12 +153,14 @@ module _ {P : Type 0} (shape : ShapeOf P) where
     has_to_end r made t i = let o = every_time shape r t made.signal (within_same_ends (same_sym made.begins) (same_sym made.ends) i) in
         (o.0, ((made.worth t o.0).0 o.1).1)
 
+    -- so for since from the start
     pub has_from_start : (r : List (Knot P)) → Tells shape (SinceOf shape x y) (start x) (stop x) r
         → HasSinceFromStart shape.lowest shape.highest (start x) (stop x) (IsWorth shape x) (IsWorth shape y)
     has_from_start r made t i = let o = every_time shape r t made.signal (within_same_ends (same_sym made.begins) (same_sym made.ends) i) in
         (o.0, ((made.worth t o.0).0 o.1).1)
 
     module _ (c u d r : List (Knot P)) where
+      -- the least of both windows tells the bounded until
       pub until_told : (a b : ℕ) → a ≤ b → Tells shape (SupAhead (start y) (stop y) (IsWorth shape y) shape.lowest a b true true) (start y) (stop y) c
           → Tells shape (UntilOf shape x y) (start x) (stop x) u
           → Tells shape (InfAhead (start u) (stop u) (IsWorth shape u) shape.highest 0 a true true) (start u) (stop u) d
@@ -190,6 +194,7 @@ module _ {P : Type 0} (shape : ShapeOf P) where
               (λ w k. ahead_ends from to (start x) (stop x) (same_sym left.begins) (same_sym left.ends) k) (λ w k. k.inside)).0
               (law t a b p q v j order sup inf least)
 
+      -- so for since
       pub since_told : (a : ℕ) (b : Option ℕ) → IfSome b (λ b. a ≤ b)
           → Tells shape (SupBehind (start y) (stop y) (IsWorth shape y) shape.lowest a b true true) (start y) (stop y) c
           → Tells shape (SinceOf shape x y) (start x) (stop x) u
@@ -254,6 +259,7 @@ module _ {P : Type 0} (shape : ShapeOf P) where
             ((to_end_of (SupInf p s) (SupInf q s) s.from s.to x y left right t v (within_same_ends left.begins left.ends i)).0 w));
       }
 
+  -- for since
   pub from_start_fault : (x y : List (Knot P)) (p q : Subformula) (a : ℕ) (b : Option ℕ) (s : Setting) (e : OpFault P) → s.lowest ≡ shape.lowest
       → s.highest ≡ shape.highest → Tells shape (SupInf p s) s.from s.to x → Tells shape (SupInf q s) s.from s.to y
       → HasCause shape (SinceStep shape x y) (start x) (stop x) e → IsFaultOf shape s (since a b p q) e
@@ -323,6 +329,7 @@ module _ {P : Type 0} (shape : ShapeOf P) where
       near = near_of_two x y r fit.left fit.right bases;
     }
 
+    -- so for since from the start
     pub from_start_fit : (x y r : List (Knot P)) → AreFit shape x y → Tells shape (SinceOf shape x y) (start x) (stop x) r → BasesOfTwo shape x y r
         → IsFit shape r
     from_start_fit x y r fit made bases = record {
@@ -396,11 +403,13 @@ module _ {P : Type 0} (shape : ShapeOf P) (s : Setting) (p q : Subformula) (ends
         → IsFaultOf shape s (until a b p q) e
     until_within_fault a b e h = ahead_cause shape (SupInf q s) y a b true true (until a b p q) s e right (λ C i. inl i) h
 
+    -- of the second window
     pub until_kept_fault : (a b : ℕ) (e : OpFault P) → Tells shape (UntilOf shape x y) (start x) (stop x) u
         → HasCause shape (window_ahead (IsWorth shape u) 0 a true true) (start u) (stop u) e → IsFaultOf shape s (until a b p q) e
     until_kept_fault a b e to_end h = ahead_cause shape (until_to_end s (SupInf p s) (SupInf q s)) u 0 a true true (until a b p q) s e
         (to_end_in u to_end) (λ C i. inr (inr (inl i))) h
 
+    -- of the least of both
     pub until_least_fault : (a b : ℕ) (c d : List (Knot P)) (e : OpFault P)
         → Tells shape (SupAhead (start y) (stop y) (IsWorth shape y) shape.lowest a b true true) (start y) (stop y) c
         → Tells shape (UntilOf shape x y) (start x) (stop x) u
@@ -410,15 +419,18 @@ module _ {P : Type 0} (shape : ShapeOf P) (s : Setting) (p q : Subformula) (ends
         meeting_fault shape (sup_ahead s a b (SupInf q s)) (always_ahead s 0 a (until_to_end s (SupInf p s) (SupInf q s))) c d (until a b p q) s e
         (within_ahead a b c within) (kept_ahead a d to_end kept) (λ C i. inr (inr (inr i))) h
 
+    -- for since: of the first window
     pub since_within_fault : (a : ℕ) (b : Option ℕ) (e : OpFault P) → HasCause shape (window_behind (IsWorth shape y) a b true true) (start y)
         (stop y) e → IsFaultOf shape s (since a b p q) e
     since_within_fault a b e h = behind_cause shape (SupInf q s) y a b true true (since a b p q) s e right (λ C i. inl i) h
 
+    -- of the second one
     pub since_kept_fault : (a : ℕ) (b : Option ℕ) (e : OpFault P) → Tells shape (SinceOf shape x y) (start x) (stop x) u
         → HasCause shape (window_behind (IsWorth shape u) 0 (Some a) true true) (start u) (stop u) e → IsFaultOf shape s (since a b p q) e
     since_kept_fault a b e from_start h = behind_cause shape (since_from_start s (SupInf p s) (SupInf q s)) u 0 (Some a) true true (since a b p q) s e
         (from_start_in u from_start) (λ C i. inr (inr (inl i))) h
 
+    -- of the least of both
     pub since_least_fault : (a : ℕ) (b : Option ℕ) (c d : List (Knot P)) (e : OpFault P)
         → Tells shape (SupBehind (start y) (stop y) (IsWorth shape y) shape.lowest a b true true) (start y) (stop y) c
         → Tells shape (SinceOf shape x y) (start x) (stop x) u
@@ -441,6 +453,7 @@ module _ {P : Type 0} (shape : ShapeOf P) (s : Setting) (p q : Subformula) (ends
         (sym ends.highest)
         (until_told shape (SupInf p s) (SupInf q s) s.from s.to x y left right c u d r a b order within to_end kept made law))
 
+    -- for since
     pub since_in : (a : ℕ) (b : Option ℕ) (c d r : List (Knot P)) → IfSome b (λ b. a ≤ b)
         → Tells shape (SupBehind (start y) (stop y) (IsWorth shape y) shape.lowest a b true true) (start y) (stop y) c
         → Tells shape (SinceOf shape x y) (start x) (stop x) u

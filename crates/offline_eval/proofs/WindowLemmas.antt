@@ -59,6 +59,7 @@ module _ {P : Type 0} (shape : ShapeOf P) where
     sup_alike shape.lowest r (λ v (u, w, f). (u, back u w, (tells.worth u v).1 (inside u w, f))) (λ v (u, w, f). (u, forth u w, ((tells.worth u v).0 f).1)),
   )
 
+  -- so for the Inf
   pub inf_of : (F : Function) (from to : Rational) (x : List (Knot P)) (W W' : Window) (r : Extended) → Tells shape F from to x
       → ((u : Rational) → W u → W' u) → ((u : Rational) → W' u → W u) → ((u : Rational) → W' u → Within from to u)
       → (IsInfOver shape.highest W (IsWorth shape x) r → IsInfOver shape.highest W' F r)
@@ -69,6 +70,7 @@ module _ {P : Type 0} (shape : ShapeOf P) where
   )
 
   module _ (F : Function) (from to : Rational) (x r : List (Knot P)) (tells : Tells shape F from to x) where
+    -- the Sup ahead as a function over the domain
     pub sup_ahead_told : (a b : ℕ) (a_in b_in : Bool) → Tells shape (SupAhead (start x) (stop x) (IsWorth shape x) shape.lowest a b a_in b_in)
         (start x) (stop x) r
         → Tells shape (λ t v. IsSupOver shape.lowest (Ahead from to a b a_in b_in t) F v) from to r
@@ -77,6 +79,7 @@ module _ {P : Type 0} (shape : ShapeOf P) where
         (λ u w. ahead_ends (start x) (stop x) from to tells.begins tells.ends w)
         (λ u w. ahead_ends from to (start x) (stop x) (same_sym tells.begins) (same_sym tells.ends) w) (λ u w. w.inside))
 
+    -- the Inf ahead
     pub inf_ahead_told : (a b : ℕ) (a_in b_in : Bool) → Tells shape (InfAhead (start x) (stop x) (IsWorth shape x) shape.highest a b a_in b_in)
         (start x) (stop x) r
         → Tells shape (λ t v. IsInfOver shape.highest (Ahead from to a b a_in b_in t) F v) from to r
@@ -85,6 +88,7 @@ module _ {P : Type 0} (shape : ShapeOf P) where
         (λ u w. ahead_ends (start x) (stop x) from to tells.begins tells.ends w)
         (λ u w. ahead_ends from to (start x) (stop x) (same_sym tells.begins) (same_sym tells.ends) w) (λ u w. w.inside))
 
+    -- the Sup behind
     pub sup_behind_told : (a : ℕ) (b : Option ℕ) (a_in b_in : Bool)
         → Tells shape (SupBehind (start x) (stop x) (IsWorth shape x) shape.lowest a b a_in b_in) (start x) (stop x) r
         → Tells shape (λ t v. IsSupOver shape.lowest (Behind from to a b a_in b_in t) F v) from to r
@@ -93,6 +97,7 @@ module _ {P : Type 0} (shape : ShapeOf P) where
         (λ u w. behind_ends (start x) (stop x) from to tells.begins tells.ends w)
         (λ u w. behind_ends from to (start x) (stop x) (same_sym tells.begins) (same_sym tells.ends) w) (λ u w. w.inside))
 
+    -- the Inf behind
     pub inf_behind_told : (a : ℕ) (b : Option ℕ) (a_in b_in : Bool)
         → Tells shape (InfBehind (start x) (stop x) (IsWorth shape x) shape.highest a b a_in b_in) (start x) (stop x) r
         → Tells shape (λ t v. IsInfOver shape.highest (Behind from to a b a_in b_in t) F v) from to r
@@ -106,6 +111,7 @@ module _ {P : Type 0} (shape : ShapeOf P) where
       → IsSupOver shape.lowest W (IsWorth shape x) r → IsBounded (2 ^ 31) r
   sup_over_bounded x W r low limited sup = sup_bounded (2 ^ 31) _ shape.lowest r low (λ v (u, w, f). worth_bounded shape x limited u v f) sup
 
+  -- so for the Inf
   pub inf_over_bounded : (x : List (Knot P)) (W : Window) (r : Extended) → IsBounded (2 ^ 31) shape.highest → IsLimited shape x
       → IsInfOver shape.highest W (IsWorth shape x) r → IsBounded (2 ^ 31) r
   inf_over_bounded x W r high limited inf = inf_bounded (2 ^ 31) shape.highest _ r inf high (λ v (u, w, f). worth_bounded shape x limited u v f)
@@ -122,6 +128,7 @@ module _ {P : Type 0} (shape : ShapeOf P) where
       value_along _ _ from to s.from s.to begins ends (λ tau line k l i. is (λ step. IsInPlay step s.from s.to tau line) (forth tau line k l i))
       (shape.function a) (value at) den h
 
+  -- for a window ahead
   pub ahead_cause : (F : Function) (x : List (Knot P)) (a b : ℕ) (a_in b_in : Bool) (p : Subformula) (s : Setting) (e : OpFault P)
       → Tells shape F s.from s.to x → ((C : Step → Type 0) → C (window_ahead F a b a_in b_in) → IsStepOf p s C)
       → HasCause shape (window_ahead (IsWorth shape x) a b a_in b_in) (start x) (stop x) e → IsFaultOf shape s p e
@@ -130,6 +137,7 @@ module _ {P : Type 0} (shape : ShapeOf P) where
       (λ tau line k l i. ahead_along (start x) (stop x) s.from s.to tells.begins tells.ends (IsWorth shape x) F
       (on_of F s.from s.to x tells) a b a_in b_in tau line i) is h
 
+  -- and for one behind
   pub behind_cause : (F : Function) (x : List (Knot P)) (a : ℕ) (b : Option ℕ) (a_in b_in : Bool) (p : Subformula) (s : Setting) (e : OpFault P)
       → Tells shape F s.from s.to x → ((C : Step → Type 0) → C (window_behind F a b a_in b_in) → IsStepOf p s C)
       → HasCause shape (window_behind (IsWorth shape x) a b a_in b_in) (start x) (stop x) e → IsFaultOf shape s p e
@@ -155,6 +163,7 @@ module _ {P : Type 0} (shape : ShapeOf P) where
   pub ahead_from : (a b : ℕ) (x r : List (Knot P)) → a ≤ b → BasesAhead shape a b x r → (p : P) → HasShape r p → IsTrue (shape.moves p) → ComesFrom b x p
   ahead_from a b x r o bases p h m = let f = bases p h m in (f.0, f.1, f.2, moved_ahead a b (shape.base f.0) (shape.base p) o f.3)
 
+  -- so for one behind
   pub behind_from : (a : ℕ) (b : Option ℕ) (x r : List (Knot P)) → IsInOrder a b → BasesBehind shape a b x r → (p : P) → HasShape r p
       → IsTrue (shape.moves p) → ComesFrom (reach_of_bound a b) x p
   behind_from a None x r o bases p h m = let f = bases p h m in (f.0, f.1, f.2, moved_more a a (shape.base f.0) (shape.base p) (omega arith) f.3)
@@ -164,10 +173,12 @@ module _ {P : Type 0} (shape : ShapeOf P) where
       by_one old new (inl e) = moved_more a b old new o e
       by_one old new (inr e) = moved_more b b old new (omega arith) e
 
+  -- and are moved by no more than its bounds
   pub ahead_moved : (a b : ℕ) (x r : List (Knot P)) → a ≤ b → BasesAhead shape a b x r → (p : P) → HasShape r p → IsTrue (shape.moves p) → (q : P)
       × HasShape x q × IsMovedBy b (shape.base q) (shape.base p)
   ahead_moved a b x r o bases p h m = let f = ahead_from a b x r o bases p h m in (f.0, f.1, f.3)
 
+  -- so for one behind
   pub behind_moved : (a : ℕ) (b : Option ℕ) (x r : List (Knot P)) → IsInOrder a b → BasesBehind shape a b x r → (p : P) → HasShape r p
       → IsTrue (shape.moves p) → (q : P) × HasShape x q × IsMovedBy (reach_of_bound a b) (shape.base q) (shape.base p)
   behind_moved a b x r o bases p h m = let f = behind_from a b x r o bases p h m in (f.0, f.1, f.3)

@@ -222,6 +222,7 @@ module _ {P : Type 0} (shape : ShapeOf P) where
   last_time : (xs : List (Knot P)) (p l : Knot P) (at : Frac) → stop (xs ++ p ∷ l ∷ []) <ʳ value at → time l <ʳ value at
   last_time xs p l at h = subst (λ s. s <ʳ value at) (stop_end xs p (l ∷ [])) h
 
+  -- where the last knot is needed
   pub step_kept : (old new : List (Knot P)) (n : ℕ) (p l : Knot P) (after : P) (at : Frac) (point : P) → length old ≡ n + 2 → p ≡ get_or old n p
       → l ≡ get_or old (n + 1) l
       → Each (IsKnot shape) old → stop old <ʳ value at
@@ -238,6 +239,7 @@ module _ {P : Type 0} (shape : ShapeOf P) where
       (last_time (take n old) p l at (subst (λ ks. stop ks <ʳ value at) e later))
       (λ spare. not_spare (spare.here, spare.on))))
 
+  -- and where it leaves
   pub step_left : (old : List (Knot P)) (n m : ℕ) (p l : Knot P) (after : P) (at : Frac) (point : P) → length old ≡ n + 2 → m ≡ n + 1
       → p ≡ get_or old n p → l ≡ get_or old m l
       → Each (IsKnot shape) old → stop old <ʳ value at

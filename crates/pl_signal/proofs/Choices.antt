@@ -55,6 +55,7 @@ taken_second Least Equal x y h n = h.at_least
 taken_second Greatest Equal x y h n = h.at_least
 taken_second b Greater x y h n = taken_of_greater b x y h
 
+-- what is taken at both ends is taken between
 pub taken_between : (b : Side) (f g : Affine) (l t r : Rational) → l <ʳ t → t <ʳ r → IsTaken b (value_at f l) (value_at g l)
     → IsTaken b (value_at f r) (value_at g r) → IsTaken b (value_at f t) (value_at g t)
 taken_between Least f g l t r h k a b = between f g l t r h k a b

@@ -140,6 +140,7 @@ module _ {P : Type 0} (shape : ShapeOf P) where
         (taken_between b (shape.function p) (shape.function q) from t to x y h k),
   )
 
+  -- the second throughout
   pub whole_second : (b : Side) (p q : P) (from to : Rational) → IsTaken b (value_at (shape.function q) from) (value_at (shape.function p) from)
       → IsTaken b (value_at (shape.function q) to) (value_at (shape.function p) to)
       → IsPieces shape b p q from to (Whole q)
@@ -154,6 +155,7 @@ module _ {P : Type 0} (shape : ShapeOf P) where
       (same_transᵉ (value_at f t) (value_at f m) (value_at g t) (value_same f e)
       (same_transᵉ (value_at f m) (value_at g m) (value_at g t) alone.meet (same_symᵉ (value_at g t) (value_at g m) (value_same g e))))
 
+  -- the first, and then the second
   pub split_first : (b : Side) (p q : P) (from to : Rational) (middle : Frac)
       → IsTaken b (value_at (shape.function p) from) (value_at (shape.function q) from)
       → IsTaken b (value_at (shape.function q) to) (value_at (shape.function p) to)
@@ -172,6 +174,7 @@ module _ {P : Type 0} (shape : ShapeOf P) where
         (meeting b (shape.function q) (shape.function p) from to (value middle) (value middle) (alone_swap m) (same_refl (value middle))) k);
   }
 
+  -- the second, and then the first
   pub split_second : (b : Side) (p q : P) (from to : Rational) (middle : Frac)
       → IsTaken b (value_at (shape.function q) from) (value_at (shape.function p) from)
       → IsTaken b (value_at (shape.function p) to) (value_at (shape.function q) to)

@@ -23,6 +23,7 @@ module _ {P : Type 0} (shape : ShapeOf P) where
   gap_line ks i k n h j = λ t a b.
       (value_at (shape.function k.after) t, worth_between shape ks i k n t h j a b, same_reflᵉ (value_at (shape.function k.after) t))
 
+  -- from a knot on, before the next, the limit from the right is the value of the shape
   pub right_limit_in : (ks : List (Knot P)) (i : ℕ) (k n : Knot P) (t : Rational) → slice_get ks i ≡ Some k → slice_get ks (i + 1) ≡ Some n
       → time k ≤ʳ t → t <ʳ time n
       → IsRightLimit (IsWorth shape ks) t (value_at (shape.function k.after) t)
@@ -35,6 +36,7 @@ module _ {P : Type 0} (shape : ShapeOf P) where
         value = same_reflᵉ (value_at (shape.function k.after) t);
       }
 
+  -- after a knot, up to the next, so from the left
   pub left_limit_in : (ks : List (Knot P)) (i : ℕ) (k n : Knot P) (t : Rational) → slice_get ks i ≡ Some k → slice_get ks (i + 1) ≡ Some n
       → time k <ʳ t → t ≤ʳ time n
       → IsLeftLimit (IsWorth shape ks) t (value_at (shape.function k.after) t)
@@ -172,6 +174,7 @@ module _ {P : Type 0} (shape : ShapeOf P) where
       let F = IsWorth shape ks in
       lines_same F f g (signal_one ks s) c.1 (line_on_part F f c.2 (le_of_lt p.below) p.on) (line_on_part F g c.3 (le_of_lt q.below) q.on)
 
+  -- no inner knot can be left out
   pub needed_at : (ks : List (Knot P)) (i : ℕ) (b k n : Knot P) → Each (IsKnot shape) ks → slice_get ks i ≡ Some b → slice_get ks (suc i) ≡ Some k
       → slice_get ks (suc (suc i)) ≡ Some n → ¬ CanBeLeftOut shape b k
   needed_at [] i b k n h e f g = absurd (cc)

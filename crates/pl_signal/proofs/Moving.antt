@@ -49,6 +49,7 @@ pub mirror_twice : (t : Rational) (z : ℤ) → subtract (whole z) (subtract (wh
 mirror_twice t z = omega arith
 
 module _ {P : Type 0} (shape : ShapeOf P) where
+  -- a moved signal is a function of time
   pub moved_is_function : (ks : List (Knot P)) (back : Rational → Rational) → ((t u : Rational) → t ≈ u → back t ≈ back u) → IsSignal shape ks
       → IsFunction (λ t v. IsWorth shape ks (back t) v)
   moved_is_function ks back alike s = record {
@@ -123,6 +124,7 @@ module _ {P : Type 0} (shape : ShapeOf P) where
   pub last_is : (ks : List (Knot P)) (i : ℕ) (k : Knot P) → slice_get ks i ≡ Some k → i + 1 ≡ length ks → stop ks ≡ time k
   last_is ks i k e n = stop_at shape ks i k e (slice_get_past ks (i + 1) (omega (arith, n)))
 
+  -- a mirrored signal goes on by one knot
   pub mirror_on : (ks old new : List (Knot P)) (z : ℤ) (i : ℕ) (k n : Knot P) (after point : P) (at : Frac) → IsSignal shape ks
       → slice_get ks i ≡ Some k → slice_get ks (i + 1) ≡ Some n
       → TellsSoFar shape (λ t v. IsWorth shape ks (subtract (whole z) t) v) old → stop old ≈ subtract (whole z) (time n)
@@ -142,12 +144,14 @@ module _ {P : Type 0} (shape : ShapeOf P) where
       here : subtract (whole z) (value at) ≈ time k
       here = same_trans (mirror_same z arrives) (mirror_twice (time k) z)
 
+  -- to a later time
   pub mirror_later : (ks : List (Knot P)) (z : ℤ) (i : ℕ) (k n : Knot P) {from at : Rational} → IsSignal shape ks → slice_get ks i ≡ Some k
       → slice_get ks (i + 1) ≡ Some n
       → from ≈ subtract (whole z) (time n) → at ≈ subtract (whole z) (time k) → from <ʳ at
   mirror_later ks z i k n s at_i at_next e f =
       lt_of_le_of_lt (le_of_same e) (lt_of_lt_of_le (mirror_lt z (next_rises shape ks i k n s.each at_i at_next)) (ge_of_same f))
 
+  -- a shifted signal goes on by one knot
   pub shift_on : (ks old new : List (Knot P)) (z : ℤ) (i : ℕ) (k n : Knot P) (after point : P) (at : Frac) → IsSignal shape ks
       → slice_get ks i ≡ Some k → slice_get ks (i + 1) ≡ Some n
       → TellsSoFar shape (λ t v. IsWorth shape ks (add t (whole z)) v) old → stop old ≈ add (time k) (whole (neg_ℤ z))
@@ -167,6 +171,7 @@ module _ {P : Type 0} (shape : ShapeOf P) where
       here : add (value at) (whole z) ≈ time n
       here = same_trans (same_shift z arrives) (shift_forth (time n) z)
 
+  -- to a later time
   pub shift_later : (ks : List (Knot P)) (z : ℤ) (i : ℕ) (k n : Knot P) {from at : Rational} → IsSignal shape ks → slice_get ks i ≡ Some k
       → slice_get ks (i + 1) ≡ Some n
       → from ≈ add (time k) (whole z) → at ≈ add (time n) (whole z) → from <ʳ at
@@ -212,6 +217,7 @@ module _ {P : Type 0} (shape : ShapeOf P) where
       moved_first ks built (λ t. subtract (whole z) t) i m point at (moved_is_function ks (λ t. subtract (whole z) t) (λ t u e. mirror_same z e) s) at_i
       (same_trans (mirror_same z arrives) (mirror_twice (time m) z)) points e
 
+  -- and of a shifted one
   pub shift_first : (ks built : List (Knot P)) (z : ℤ) (i : ℕ) (m : Knot P) (point : P) (at : Frac) → IsSignal shape ks → slice_get ks i ≡ Some m
       → add (value at) (whole z) ≈ time m
       → ((t : Rational) → value_at (shape.function point) t ≈ᵉ value_at (shape.function m.point) (add t (whole z)))
@@ -288,6 +294,7 @@ tells_through shape ks part new z from to low high p r begins ends = record {
     last : add (stop part) (whole (neg_ℤ z)) ≈ to
     last = same_sym (shift_back' z (same_trans (same_sym ends) (same_sym p.ends)))
 
+-- the bases of a part are bases of the whole
 pub bases_through : {P : Type 0} (shape : ShapeOf P) (made : ℤ → ℤ) (ks part new : List (Knot P)) → ((p : P) → HasShape part p → HasShape ks p)
     → BasesFrom shape made part new → BasesFrom shape made ks new
 bases_through shape made ks part new inside h = λ p m n. let q = h p m n in (q.0, inside q.0 q.1, q.2, q.3)

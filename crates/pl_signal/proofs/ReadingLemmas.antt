@@ -43,6 +43,7 @@ module _ {P : Type 0} (shape : ShapeOf P) where
       let w = worth_between shape ks i k (get_or ks (i + 1) k) t h next a (b (get_or ks (i + 1) k) next) in
       (worth_within shape ks t (value_at (shape.function k.after) t) s w, shape_after shape ks i k h, w)
 
+  -- after the last knot nothing
   pub read_none : (ks : List (Knot P)) (i : ℕ) (k : Knot P) (t : Rational) → slice_get ks i ≡ Some k → length ks ≡ i + 1 → time k <ʳ t
       → ¬ (Within (start ks) (stop ks) t)
   read_none ks i k t h l a w =

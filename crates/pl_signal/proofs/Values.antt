@@ -27,6 +27,7 @@ module _ {P : Type 0} (shape : ShapeOf P) where
   not_before k (n ∷ ks) t v h (inr (inl w)) = le_of_lt w.after
   not_before k (n ∷ ks) t v h (inr (inr w)) = le_trans (le_of_lt h.0.rising) (not_before n ks t v h.1 w)
 
+  -- nor after the last
   pub not_after : (k : Knot P) (ks : List (Knot P)) (t : Rational) (v : Extended) → Each (IsKnot shape) (k ∷ ks) → IsWorth shape (k ∷ ks) t v
       → t ≤ʳ stop (k ∷ ks)
   not_after k ks t v h (inl w) = le_trans (le_of_same w.when) (to_stop k ks h)

@@ -134,6 +134,7 @@ module _ {P P' Q Q' R R' : Function} {from to from' to' : Rational} (back : AreB
         ],
       ))
 
+  -- a crossing that is in play
   pub crossing_cause : (f g f' g' : Affine) (a b a' b' : Rational) (den : ℕ) → IsBack f' f → IsBack g' g → a ≈ negate b' → b ≈ negate a'
       → IsWideCrossing (IsInPlay (since_start P' Q' R') from' to') from' to' f' g' a' b' den → IsWideCrossing (IsInPlay (until_end P Q R) from to) from to f g a b den
   crossing_cause f g f' g' a b a' b' den h k e e' w = record {
@@ -170,6 +171,7 @@ module _ {P P' Q Q' R R' : Function} {from to from' to' : Rational} (back : AreB
       denominator_back : (t : Rational) (den : ℕ) → HasDenominator t den → HasDenominator (negate t) den
       denominator_back t den (num, lowest, same) = (neg_ℤ num, lowest_back num den lowest, same_trans (same_negate same) (ratio_back num den lowest.positive))
 
+  -- a constant that is in play
   pub value_cause : (f f' : Affine) (u u' : Rational) (den : ℕ) → IsBack f' f → u ≈ negate u' → IsWideValue (IsInPlay (since_start P' Q' R') from' to') from' to' f' u' den
       → IsWideValue (IsInPlay (until_end P Q R) from to) from to f u den
   value_cause f f' u u' den h e w =

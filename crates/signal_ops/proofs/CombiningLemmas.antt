@@ -24,11 +24,13 @@ use Rattle.pl_signal.proofs.Choices.{chosen_same, chosen_once}
 use Rattle.signal_ops.specs.Pointwise.{IsFault, IsWideMeeting, NamesShapes}
 
 module _ {P : Type 0} (shape : ShapeOf P) where
+  -- what is chosen of two shapes is a shape of one of the signals
   pub chosen_shapes : (ks ls : List (Knot P)) (x y point r : P) → HasShape ks x → HasShape ls y → (point ≡ x) ⊎ (point ≡ y) → r ≡ point
       → HasShape ks r ⊎ HasShape ls r
   chosen_shapes ks ls x y point r h k (inl e) f = inl (subst (HasShape ks) (sym (f ∙ e)) h)
   chosen_shapes ks ls x y point r h k (inr e) f = inr (subst (HasShape ls) (sym (f ∙ e)) k)
 
+  -- so at the first knot
   pub first_shapes : (ks ls built : List (Knot P)) (x y point : P) (at : Frac) → HasShape ks x → HasShape ls y → (point ≡ x) ⊎ (point ≡ y)
       → built ≡ record { time = at; point = point; after = point } ∷ []
       → (r : P) → HasShape built r → HasShape ks r ⊎ HasShape ls r
@@ -39,6 +41,7 @@ module _ {P : Type 0} (shape : ShapeOf P) where
       by_part (inr (inl f)) = chosen_shapes ks ls x y point r h k one f
       by_part (inr (inr f)) = absurd f
 
+  -- and so once a gap is joined
   pub joined_shapes : (b : Side) (ks ls old new : List (Knot P)) (p q point x y : P) (to : Frac)
       → ((r : P) → HasShape old r → HasShape ks r ⊎ HasShape ls r) → Joins shape b old p q to point new
       → HasShape ks p → HasShape ls q → HasShape ks x → HasShape ls y → (point ≡ x) ⊎ (point ≡ y) → (r : P) → HasShape new r → HasShape ks r ⊎ HasShape ls r
@@ -50,6 +53,7 @@ module _ {P : Type 0} (shape : ShapeOf P) where
       by_part (inr (inr (inl e))) = inr (subst (HasShape ls) (sym e) hq)
       by_part (inr (inr (inr e))) = chosen_shapes ks ls x y point r hx hy one e
 
+  -- what is chosen of two signals is a function of time
   pub chosen_is_function : (b : Side) (ks ls : List (Knot P)) → IsSignal shape ks → IsSignal shape ls
       → IsFunction (ChosenOf b (IsWorth shape ks) (IsWorth shape ls))
   chosen_is_function b ks ls s r = record {
@@ -139,6 +143,7 @@ module _ {P : Type 0} (shape : ShapeOf P) where
   }
   cause_of_fault A B from to (F.Wide (Value p at den)) h = absurd h
 
+  -- so for an answer that may be refused
   pub causes_of_faults : {R : Type 0} (A B : Function) (from to : Rational) (r : Result R (OpFault P)) → IfErr r (IsFault shape A B from to)
       → IfErr r (HasCause shape (of_two A B) from to)
   causes_of_faults A B from to (Ok x) h = h

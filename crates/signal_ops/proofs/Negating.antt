@@ -37,6 +37,7 @@ module _ {P : Type 0} (shape : ShapeOf P) where
       (level_bounded (2 ^ 31) (shape.function l.after) (time l) h.0.limits.0)
   after_at (l ∷ ks) (suc i) k n h e f = after_at ks i k n h.1 e f
 
+  -- so for the shape of a gap
   pub after_bounded : (ks : List (Knot P)) (i : ℕ) (k n : Knot P) → IsLimited shape ks → slice_get ks i ≡ Some k → slice_get ks (i + 1) ≡ Some n
       → HasBoundedLevel (2 ^ 31) (shape.function k.after)
   after_bounded ks i k n h e f = after_at ks i k n h e (subst (λ j. slice_get ks j ≡ Some n) next f)

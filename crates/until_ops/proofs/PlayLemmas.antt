@@ -60,6 +60,7 @@ module _ {P : Type 0} {shape : ShapeOf P} {p q : List (Knot P)} {gap : Gap P} (o
   pub left_plays : PlaysOn shape p q gap gap.left
   left_plays tau a b = inl (record { a = value gap.from; b = value gap.to; above = a; below = b; on = on.left_on })
 
+  -- so for the right side
   pub right_plays : PlaysOn shape p q gap gap.right
   right_plays tau a b = inr (inl (record { a = value gap.from; b = value gap.to; above = a; below = b; on = on.right_on }))
 
@@ -96,6 +97,7 @@ module _ {P : Type 0} {shape : ShapeOf P} {p q : List (Knot P)} {gap : Gap P} (o
   )
   cross_within x y at here (F.Wide (Value a b den)) h = absurd h
 
+  -- so for a constant
   pub value_within : (e : OpFault P) → IsCourseFault shape gap e → IsPairWithin (start p) (stop p) e
   value_within F.Memory h = tt
   value_within (F.Wide (Cross a b c d den)) (o, is, h) = absurd h

@@ -36,6 +36,7 @@ module _ {P : Type 0} (shape : ShapeOf P) (laws : ShapeLaws shape) where
       le_transᵉ shape.lowest (value_at (shape.function k.after) s) v (laws.lowest_is_least k.after s) h.worth.at_least
   at_least_lowest (k ∷ knots) s v (inr (inr h)) = at_least_lowest knots s v h
 
+  -- a bounded until of signals is composed
   pub until_of_signals : (p q : List (Knot P)) → IsSignal shape p → HasUntilToEnd shape.lowest shape.highest (start p) (stop p) (IsWorth shape p)
       (IsWorth shape q)
       → UntilIsComposed shape.lowest shape.highest (start p) (stop p) (IsWorth shape p) (IsWorth shape q)
@@ -43,6 +44,7 @@ module _ {P : Type 0} (shape : ShapeOf P) (laws : ShapeLaws shape) where
       until_is_composed shape.lowest shape.highest (IsWorth shape p) (IsWorth shape q) (start p) (stop p) t a b o inside (order p signal)
       (λ s v f h. at_least_lowest p s v h) (λ s u f g k. infs p s u) has c d r sup inf h
 
+  -- so for since
   pub since_of_signals : (p q : List (Knot P)) → IsSignal shape p → HasSinceFromStart shape.lowest shape.highest (start p) (stop p) (IsWorth shape p)
       (IsWorth shape q)
       → SinceIsComposed shape.lowest shape.highest (start p) (stop p) (IsWorth shape p) (IsWorth shape q)

@@ -52,9 +52,11 @@ pub record IsMirrorOf {P : Type 0} (shape : ShapeOf P) (ks new : List (Knot P)) 
       (subtract (whole (pos 0)) (stop ks)) (subtract (whole (pos 0)) (start ks)) new
 
 module _ {P : Type 0} {shape : ShapeOf P} {ks new : List (Knot P)} (m : IsMirrorOf shape ks new) where
+  -- a mirrored signal starts at minus the end
   pub mirror_starts : start new ≈ negate (stop ks)
   mirror_starts = same_trans m.tells.begins (about_zero (stop ks))
 
+  -- and ends at minus the start
   pub mirror_stops : stop new ≈ negate (start ks)
   mirror_stops = same_trans m.tells.ends (about_zero (start ks))
 
@@ -65,6 +67,7 @@ module _ {P : Type 0} {shape : ShapeOf P} {ks new : List (Knot P)} (m : IsMirror
   pub stops_back : stop ks ≈ negate (start new)
   stops_back = same_sym (same_negate mirror_starts)
 
+  -- it runs back
   pub runs_back : RunsBack (IsWorth shape ks) (IsWorth shape new)
   runs_back = record {
     out = λ t v w. worth_same shape ks v v (about_zero t) (same_reflᵉ v) ((m.tells.worth t v).0 w).1;
@@ -79,6 +82,7 @@ module _ {P : Type 0} {shape : ShapeOf P} {ks new : List (Knot P)} (m : IsMirror
         );
   }
 
+  -- and stays limited
   pub mirror_limited : IsLimited shape new
   mirror_limited = limited shape new m.tells.signal (λ t v w. worth_bounded shape ks m.limited (negate t) v (runs_back.out t v w))
       (within_same (2 ^ 34) (same_sym mirror_starts) (within_negate (2 ^ 34) (limited_stop shape ks m.signal m.limited)))
@@ -91,6 +95,7 @@ pub record AreMirrors {P : Type 0} (shape : ShapeOf P) (p q left right : List (K
   pub of_right : IsMirrorOf shape q right
 
 module _ {P : Type 0} {shape : ShapeOf P} {p q left right : List (Knot P)} (m : AreMirrors shape p q left right) where
+  -- the until runs back to the since of both mirrored
   pub since_back : RunsBack (UntilOf shape p q) (SinceOf shape left right)
   since_back = until_runs_back shape.lowest shape.highest (IsWorth shape p) (IsWorth shape left) (IsWorth shape q) (IsWorth shape right)
       (runs_back m.of_left) (runs_back m.of_right) (stop p) (start left) (stops_back m.of_left)

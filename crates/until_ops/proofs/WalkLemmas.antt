@@ -174,6 +174,7 @@ gap_to now k l to = record { before = now.value; left = k.after; right = l.after
 
 module _ {P : Type 0} {shape : ShapeOf P} {p q built : List (Knot P)} {now : Stand P} {k l m n : Knot P} {next : Frac}
     (w : IsWalk shape p q built now k l m n next) where
+  -- the next event is later
   pub begins_before : value now.at <ʳ value next
   begins_before = earlier_after {to = value next} (w.stands.left.later m w.at.at_m) (w.stands.right.later n w.at.at_n) w.at.one
 
@@ -234,6 +235,7 @@ module _ {P : Type 0} {shape : ShapeOf P} {p q built : List (Knot P)} {now : Sta
   right_begins : IsSmall shape (value now.at) l.after
   right_begins = right_small (value now.at) (le_refl (value now.at)) (le_of_lt begins_before)
 
+  -- the gap up to a turn is one of the walk
   pub is_gap : (turn : Turn) → IsTurn (shape.function k.after) (shape.function l.after) now.at next turn → IsGap shape (gap_to now k l turn.time)
   is_gap turn is = record {
     later = is.after;
@@ -257,6 +259,7 @@ module _ {P : Type 0} {shape : ShapeOf P} {p q built : List (Knot P)} {now : Sta
   played_small to x t (inr (inr (o, of_gap, fixed, still))) a b =
       bounded_same (2 ^ 31) (value_at (shape.function x) t) (value_at (shape.function o) (value now.at)) (fixed t) (of_gap_small to o of_gap)
 
+  -- a shape that is in play on it is bounded
   pub played_level : (to : Frac) (x : P) → IsPlayed shape (gap_to now k l to) x → HasBoundedLevel (2 ^ 31) (shape.function x)
   played_level to x played = level_bounded (2 ^ 31) (shape.function x) (value now.at)
       (played_small to x (value now.at) played (le_refl (value now.at)) (le_of_lt begins_before))
@@ -348,6 +351,7 @@ module _ {P : Type 0} {shape : ShapeOf P} {p q built : List (Knot P)} {now : Sta
           (breakpoint_same (IsWorth shape q) (start q) (stop q) (start p) (stop p) (time n) (same_sym w.sides.begins) (same_sym w.sides.ends)
           (breakpoint_at shape q (now.right + 1) n w.two.right w.at.at_n)))
 
+  -- and so the walk stands after it
   pub walked : (new : List (Knot P)) → Joins shape course.side built course.first course.second turn.time v new → Stands shape p q new (next_stand turn x y v)
   walked new joins = record {
     signal = tells.signal;
