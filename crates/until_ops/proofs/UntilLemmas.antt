@@ -25,6 +25,7 @@ use Rattle.until_ops.specs.Walks.{IsPairWithin}
 use Rattle.pl_signal.proofs.Limits.{limited, limited_start, limited_stop, worth_bounded}
 use Rattle.rational.proofs.UntilBounds.{since_bounded}
 use Rattle.rational.proofs.TimeFunctions.{until_is_function}
+use Rattle.rational.proofs.PlayBack.{AreBack}
 use Rattle.rational.proofs.RunningBack.{RunsBack, about_zero, until_runs_back}
 
 -- a fault with times in a domain within 2^34 may be mirrored about 0
@@ -64,6 +65,7 @@ module _ {P : Type 0} {shape : ShapeOf P} {ks new : List (Knot P)} (m : IsMirror
   pub starts_back : start ks ≈ negate (stop new)
   starts_back = same_sym (same_negate mirror_stops)
 
+  -- the end of the signal, from the start of the mirrored one
   pub stops_back : stop ks ≈ negate (start new)
   stops_back = same_sym (same_negate mirror_starts)
 
@@ -99,6 +101,17 @@ module _ {P : Type 0} {shape : ShapeOf P} {p q left right : List (Knot P)} (m : 
   pub since_back : RunsBack (UntilOf shape p q) (SinceOf shape left right)
   since_back = until_runs_back shape.lowest shape.highest (IsWorth shape p) (IsWorth shape left) (IsWorth shape q) (IsWorth shape right)
       (runs_back m.of_left) (runs_back m.of_right) (stop p) (start left) (stops_back m.of_left)
+
+  -- so all three run back
+  pub are_back : AreBack (IsWorth shape p) (IsWorth shape left) (IsWorth shape q) (IsWorth shape right) (UntilOf shape p q) (SinceOf shape left right)
+      (start p) (stop p) (start left) (stop left)
+  are_back = record {
+    left = runs_back m.of_left;
+    right = runs_back m.of_right;
+    made = since_back;
+    first = starts_back m.of_left;
+    last = stops_back m.of_left;
+  }
 
   -- the since is limited
   pub since_limited : (since : List (Knot P)) → Tells shape (SinceOf shape left right) (start left) (stop left) since → IsLimited shape since

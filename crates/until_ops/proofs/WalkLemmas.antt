@@ -190,6 +190,7 @@ module _ {P : Type 0} {shape : ShapeOf P} {p q built : List (Knot P)} {now : Sta
   pub gap_within : (t : Rational) → value now.at ≤ʳ t → t ≤ʳ value next → IsWithin (2 ^ 34) t
   gap_within t a b = clip_within shape p w.two.left.some w.sides.left (le_trans w.stands.inside.above a) (le_trans b next_stop)
 
+  -- so is the time at which it stands
   pub starts_within : IsWithin (2 ^ 34) (value now.at)
   starts_within = gap_within (value now.at) (le_refl (value now.at)) (le_of_lt begins_before)
 

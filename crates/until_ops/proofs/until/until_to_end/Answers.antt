@@ -1,14 +1,13 @@
 use Rattle.std.proofs.Common.{◌^◌}
 use Rattle.rational.proofs.Order.{same_sym, same_trans}
 use Rattle.rational.proofs.Field.{same_negate}
-use Rattle.rational.proofs.PlayBack.{AreBack}
 use Rattle.value_laws.proofs.MarginLemmas.{within_opposite}
 use Rattle.pl_signal.specs.Knots.{start, stop, IsWorth}
 use Rattle.pl_signal.specs.Limits.{IsLimited}
 use Rattle.pl_signal.proofs.Limits.{limited_start, limited_stop}
 use Rattle.until_ops.specs.Untils.{SinceOf, UntilOf}
 use Rattle.until_ops.proofs.FaultLemmas.{cause_back, pair_turned}
-use Rattle.until_ops.proofs.UntilLemmas.{AreMirrors, can_mirror, mirror_limited, mirror_starts, mirror_stops, runs_back, since_back, since_limited, starts_back, stops_back, until_bases, until_told}
+use Rattle.until_ops.proofs.UntilLemmas.{AreMirrors, are_back, can_mirror, mirror_limited, mirror_starts, mirror_stops, runs_back, since_back, since_limited, starts_back, stops_back, until_bases, until_told}
 use Rattle.until_ops.proofs.until.until_to_end.Given.{Over}
 use Rattle.until_ops.proofs.until.until_to_end.Goals.{In_ok-right, In-Ok}
 use Rattle.until_ops.proofs.until.until_to_end.Goals as goal
@@ -76,10 +75,7 @@ mirrored-requires-clause-pair g c =
 pub returns-clause-wide : goal.returns-clause-wide
 returns-clause-wide g c =
     let m = mirrors g (goal.at.returns-clause-wide g c).In_ok-right in
-    let back : AreBack (IsWorth g.P.Shape c.args.p.now) (IsWorth g.P.Shape c.in_ok-left.left) (IsWorth g.P.Shape c.args.q.now) (IsWorth g.P.Shape c.in_ok-right.right)
-    (UntilOf g.P.Shape c.args.p.now c.args.q.now) (SinceOf g.P.Shape c.in_ok-left.left c.in_ok-right.right)
-    (start c.args.p.now) (stop c.args.p.now) (start c.in_ok-left.left) (stop c.in_ok-left.left) = record { left = runs_back m.of_left; right = runs_back m.of_right; made = since_back m; first = starts_back m.of_left; last = stops_back m.of_left } in
-    cause_back back g.P.Shape c.in-Err.fault c.mirrored.result c.mirrored.ensures c.in-Err.ensures.wide
+    cause_back (are_back m) g.P.Shape c.in-Err.fault c.mirrored.result c.mirrored.ensures c.in-Err.ensures.wide
 
 pub returns-clause-pair : goal.returns-clause-pair
 returns-clause-pair g c =
