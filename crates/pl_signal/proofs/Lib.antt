@@ -10,3 +10,4 @@ pub mod Choices
 pub mod JoiningLemmas
 pub mod Places
 pub mod Limits
+pub mod PlainLemmas

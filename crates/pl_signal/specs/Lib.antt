@@ -6,3 +6,4 @@ pub mod Cuts
 pub mod Wide
 pub mod Places
 pub mod Joining
+pub mod Plain

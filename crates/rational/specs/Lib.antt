@@ -5,3 +5,4 @@ pub mod Extended
 pub mod Windows
 pub mod Affine
 pub mod InPlay
+pub mod Knots
