@@ -34,7 +34,7 @@ pub(crate) fn sum_of_products(a: i128, b: i128, c: i128, d: i128) -> i128
 }
 
 /// The greatest common divisor, by Euclid, in 64 bits as soon as both numbers have no more.
-pub(crate) fn gcd(a: u128, b: u128) -> u128
+pub fn gcd(a: u128, b: u128) -> u128
     ensures { IsGcd a b result }
 {
     let mut x = a;

@@ -8,6 +8,7 @@ mod ratio;
 mod span;
 mod steps;
 
+pub use arith::gcd;
 pub use frac::{Frac, Memory, WideFrac};
 pub use ramp::Ramp;
 pub use ratio::{Ratio, cmp_ratio};

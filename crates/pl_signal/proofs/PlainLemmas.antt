@@ -39,7 +39,7 @@ module _ {P : Type 0} (function : P → Affine) where
             (same_symᵉ (value_at (function k.after) t) (value_at is.through t) (same t));
       }
 
-  of_between : (k n : Knot P) (t : Rational) (v : Extended) → IsBetween function k n t v → IsInside (plain_knot function k) (plain_piece function k n) t v
+  pub of_between : (k n : Knot P) (t : Rational) (v : Extended) → IsBetween function k n t v → IsInside (plain_knot function k) (plain_piece function k n) t v
   of_between k n t v is = record {
     after = is.after;
     before = is.before;

@@ -6,9 +6,10 @@ use Rattle.pl_signal.specs.declared.knot.Knot.{Knot}
 use Rattle.pl_signal.specs.Knots as knots
 use Rattle.pl_signal.specs.Moves.{Tells}
 use Rattle.stl_syntax.specs.Formula.{Subformula}
-use Rattle.stl_syntax.specs.SupInf.{SupInf, HasValues, truth_setting}
+use Rattle.pl_signal.specs.Plain.{knots_of}
+use Rattle.stl_syntax.specs.SupInf.{SupInf, HasValues, truth_setting, margin_setting}
 use Rattle.stl_syntax.specs.Trace.{Trace, start, stop}
-use Rattle.stl_syntax.specs.Verdicts.{Describes}
+use Rattle.stl_syntax.specs.Verdicts.{Describes, DescribesMargins}
 use Rattle.stl_syntax.specs.declared.items.Verdict.{Verdict}
 use Rattle.report.specs.SignalVerdicts.{DescribesFunction}
 
@@ -19,3 +20,9 @@ SignalsDescribe {P} function =
     → HasValues p (truth_setting tr) → Tells function (SupInf p (truth_setting tr)) (start tr) (stop tr) signal
     → DescribesFunction (knots.IsWorth function signal) verdicts (closed (knots.start signal) (knots.stop signal))
     → Describes verdicts p tr (closed (start tr) (stop tr))
+
+-- where a signal tells a formula with atoms read by their margins, its plain list of knots describes the robustness
+abbrev pub SignalsDescribeMargins : {P : Type 0} → (P → Affine) → Type 0
+SignalsDescribeMargins {P} function =
+    (p : Subformula) (tr : Trace) (signal : List (Knot P)) → Tells function (SupInf p (margin_setting tr)) (start tr) (stop tr) signal
+    → DescribesMargins (knots_of function signal) p tr
