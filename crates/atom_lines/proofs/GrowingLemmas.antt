@@ -19,6 +19,7 @@ use Rattle.value_laws.specs.Values.{truth_value}
 use Rattle.value_laws.specs.declared.truth.Truth.{Truth}
 use Rattle.value_laws.specs.declared.margin.Margin.{Margin}
 use Rattle.value_laws.specs.Margins.{is_ramp, margin_base, others_base}
+use Rattle.value_laws.specs.Members.{ShapeOf}
 use Rattle.pl_signal.specs.declared.knot.Knot.{Knot}
 use Rattle.pl_signal.specs.Knots.{stop, HasShape, IsWorth}
 use Rattle.pl_signal.specs.Building.{GoesOn}
@@ -77,7 +78,7 @@ margin_row_base m n h e = by_kind (cases_eq' (is_ramp m))
     by_kind (inl k) = row_base n (margin_base m) h (e k)
     by_kind (inr k) = subst IsRowBase (sym (others_base m k)) zero_base
 
-module _ {P : Type 0} (function : P → Affine) (base : P → ℤ) (told : Told) (rel : Rel) (g : Gap) (next : ℤ) where
+module _ {P : Type 0} (shape : ShapeOf P) (told : Told) (rel : Rel) (g : Gap) (next : ℤ) where
   abbrev first : Rational
   first = whole (pos g.first)
 
@@ -85,9 +86,9 @@ module _ {P : Type 0} (function : P → Affine) (base : P → ℤ) (told : Told)
   second = whole (pos g.second)
 
   -- over one shape
-  pub goes_one : (old new : List (Knot P)) (after point : P) (end : Frac) → g.second < 2 ^ 32 → stop old ≈ first → value end ≈ second → GoesOn function old after end point new
-      → ((t : Rational) → first <ʳ t → t <ʳ second → value_at (function after) t ≈ᵉ worth told rel (at (along g) t)) → ((t : Rational) → value_at (function point) t ≈ᵉ worth told rel (whole next))
-      → IsRowBase (base after) → IsRowBase (base point) → GoesAlong function base told rel g next old new
+  pub goes_one : (old new : List (Knot P)) (after point : P) (end : Frac) → g.second < 2 ^ 32 → stop old ≈ first → value end ≈ second → GoesOn shape old after end point new
+      → ((t : Rational) → first <ʳ t → t <ʳ second → value_at (shape.function after) t ≈ᵉ worth told rel (at (along g) t)) → ((t : Rational) → value_at (shape.function point) t ≈ᵉ worth told rel (whole next))
+      → IsRowBase (shape.base after) → IsRowBase (shape.base point) → GoesAlong shape told rel g next old new
   goes_one old new after point end m e h on gap here b c = record {
     signal = on.signal;
     begins = on.begins;
@@ -97,31 +98,31 @@ module _ {P : Type 0} (function : P → Affine) (base : P → ℤ) (told : Told)
     bases = λ p s. by_shape p (on.shapes p s);
   }
     where
-      by_part : (t : Rational) (v : Extended) → IsWorth function old t v ⊎ ((stop old <ʳ t) × (t <ʳ value end) × Passes (function after) t v) ⊎ ((t ≈ value end) × Passes (function point) t v)
-          → IsWorth function old t v ⊎ ((stop old <ʳ t) × (t <ʳ second) × (v ≈ᵉ worth told rel (at (along g) t))) ⊎ ((t ≈ second) × (v ≈ᵉ worth told rel (whole next)))
+      by_part : (t : Rational) (v : Extended) → IsWorth shape old t v ⊎ ((stop old <ʳ t) × (t <ʳ value end) × Passes (shape.function after) t v) ⊎ ((t ≈ value end) × Passes (shape.function point) t v)
+          → IsWorth shape old t v ⊎ ((stop old <ʳ t) × (t <ʳ second) × (v ≈ᵉ worth told rel (at (along g) t))) ⊎ ((t ≈ second) × (v ≈ᵉ worth told rel (whole next)))
       by_part t v (inl w) = inl w
       by_part t v (inr (inl (a, z, p))) =
           let soon : t <ʳ second = lt_of_lt_of_le z (le_of_same h) in
-          inr (inl (a, soon, same_transᵉ v (value_at (function after) t) (worth told rel (at (along g) t)) p (gap t (lt_of_le_of_lt (ge_of_same e) a) soon)))
-      by_part t v (inr (inr (a, p))) = inr (inr (same_trans a h, same_transᵉ v (value_at (function point) t) (worth told rel (whole next)) p (here t)))
+          inr (inl (a, soon, same_transᵉ v (value_at (shape.function after) t) (worth told rel (at (along g) t)) p (gap t (lt_of_le_of_lt (ge_of_same e) a) soon)))
+      by_part t v (inr (inr (a, p))) = inr (inr (same_trans a h, same_transᵉ v (value_at (shape.function point) t) (worth told rel (whole next)) p (here t)))
 
-      by_shape : (p : P) → HasShape old p ⊎ (p ≡ after) ⊎ (p ≡ point) → HasShape old p ⊎ IsRowBase (base p)
+      by_shape : (p : P) → HasShape old p ⊎ (p ≡ after) ⊎ (p ≡ point) → HasShape old p ⊎ IsRowBase (shape.base p)
       by_shape p (inl s) = inl s
-      by_shape p (inr (inl s)) = inr (subst (λ q. IsRowBase (base q)) (sym s) b)
-      by_shape p (inr (inr s)) = inr (subst (λ q. IsRowBase (base q)) (sym s) c)
+      by_shape p (inr (inl s)) = inr (subst (λ q. IsRowBase (shape.base q)) (sym s) b)
+      by_shape p (inr (inr s)) = inr (subst (λ q. IsRowBase (shape.base q)) (sym s) c)
 
   -- what the signal is worth so far, on the gap, or at its end
   abbrev Part : List (Knot P) → Rational → Extended → Type 0
-  Part old t v = IsWorth function old t v ⊎ ((stop old <ʳ t) × (t <ʳ second) × (v ≈ᵉ worth told rel (at (along g) t))) ⊎ ((t ≈ second) × (v ≈ᵉ worth told rel (whole next)))
+  Part old t v = IsWorth shape old t v ⊎ ((stop old <ʳ t) × (t <ʳ second) × (v ≈ᵉ worth told rel (at (along g) t))) ⊎ ((t ≈ second) × (v ≈ᵉ worth told rel (whole next)))
 
   -- over two, with a point between them
   pub goes_two : (old mid new : List (Knot P)) (before there after point : P) (turn end : Frac) → g.second < 2 ^ 32 → stop old ≈ first → value end ≈ second → first <ʳ value turn → value turn <ʳ second
-      → GoesOn function old before turn there mid → GoesOn function mid after end point new
-      → ((t : Rational) → first <ʳ t → t <ʳ value turn → value_at (function before) t ≈ᵉ worth told rel (at (along g) t))
-      → ((t : Rational) → t ≈ value turn → value_at (function there) t ≈ᵉ worth told rel (at (along g) t))
-      → ((t : Rational) → value turn <ʳ t → t <ʳ second → value_at (function after) t ≈ᵉ worth told rel (at (along g) t))
-      → ((t : Rational) → value_at (function point) t ≈ᵉ worth told rel (whole next))
-      → ((p : P) → IsRowBase (base p)) → GoesAlong function base told rel g next old new
+      → GoesOn shape old before turn there mid → GoesOn shape mid after end point new
+      → ((t : Rational) → first <ʳ t → t <ʳ value turn → value_at (shape.function before) t ≈ᵉ worth told rel (at (along g) t))
+      → ((t : Rational) → t ≈ value turn → value_at (shape.function there) t ≈ᵉ worth told rel (at (along g) t))
+      → ((t : Rational) → value turn <ʳ t → t <ʳ second → value_at (shape.function after) t ≈ᵉ worth told rel (at (along g) t))
+      → ((t : Rational) → value_at (shape.function point) t ≈ᵉ worth told rel (whole next))
+      → ((p : P) → IsRowBase (shape.base p)) → GoesAlong shape told rel g next old new
   goes_two old mid new before there after point turn end m e h low high on off until_then at_turn from_then here b = record {
     signal = off.signal;
     begins = off.begins ∙ on.begins;
@@ -131,20 +132,20 @@ module _ {P : Type 0} (function : P → Affine) (base : P → ℤ) (told : Told)
     bases = λ p s. inr (b p);
   }
     where
-      by_first : (t : Rational) (v : Extended) → IsWorth function old t v ⊎ ((stop old <ʳ t) × (t <ʳ value turn) × Passes (function before) t v) ⊎ ((t ≈ value turn) × Passes (function there) t v) → Part old t v
+      by_first : (t : Rational) (v : Extended) → IsWorth shape old t v ⊎ ((stop old <ʳ t) × (t <ʳ value turn) × Passes (shape.function before) t v) ⊎ ((t ≈ value turn) × Passes (shape.function there) t v) → Part old t v
       by_first t v (inl w) = inl w
       by_first t v (inr (inl (a, z, p))) =
-          inr (inl (a, lt_trans z high, same_transᵉ v (value_at (function before) t) (worth told rel (at (along g) t)) p (until_then t (lt_of_le_of_lt (ge_of_same e) a) z)))
+          inr (inl (a, lt_trans z high, same_transᵉ v (value_at (shape.function before) t) (worth told rel (at (along g) t)) p (until_then t (lt_of_le_of_lt (ge_of_same e) a) z)))
       by_first t v (inr (inr (a, p))) =
-          inr (inl (lt_of_le_of_lt (le_of_same e) (lt_of_lt_of_le low (ge_of_same a)), lt_of_le_of_lt (le_of_same a) high, same_transᵉ v (value_at (function there) t) (worth told rel (at (along g) t)) p (at_turn t a)))
+          inr (inl (lt_of_le_of_lt (le_of_same e) (lt_of_lt_of_le low (ge_of_same a)), lt_of_le_of_lt (le_of_same a) high, same_transᵉ v (value_at (shape.function there) t) (worth told rel (at (along g) t)) p (at_turn t a)))
 
-      by_part : (t : Rational) (v : Extended) → IsWorth function mid t v ⊎ ((stop mid <ʳ t) × (t <ʳ value end) × Passes (function after) t v) ⊎ ((t ≈ value end) × Passes (function point) t v) → Part old t v
+      by_part : (t : Rational) (v : Extended) → IsWorth shape mid t v ⊎ ((stop mid <ʳ t) × (t <ʳ value end) × Passes (shape.function after) t v) ⊎ ((t ≈ value end) × Passes (shape.function point) t v) → Part old t v
       by_part t v (inl w) = by_first t v ((on.worth t v).0 w)
       by_part t v (inr (inl (a, z, p))) =
           let past : value turn <ʳ t = subst (λ x. x <ʳ t) on.ends a in
           let soon : t <ʳ second = lt_of_lt_of_le z (le_of_same h) in
-          inr (inl (lt_of_le_of_lt (le_of_same e) (lt_trans low past), soon, same_transᵉ v (value_at (function after) t) (worth told rel (at (along g) t)) p (from_then t past soon)))
-      by_part t v (inr (inr (a, p))) = inr (inr (same_trans a h, same_transᵉ v (value_at (function point) t) (worth told rel (whole next)) p (here t)))
+          inr (inl (lt_of_le_of_lt (le_of_same e) (lt_trans low past), soon, same_transᵉ v (value_at (shape.function after) t) (worth told rel (at (along g) t)) p (from_then t past soon)))
+      by_part t v (inr (inr (a, p))) = inr (inr (same_trans a h, same_transᵉ v (value_at (shape.function point) t) (worth told rel (whole next)) p (here t)))
 
 first_time_at : (rows : List Row) (d : Row) → 0 < length rows → first_time rows ≡ (get_or rows 0 d).time
 first_time_at [] d h = absurd (omega arith)
@@ -156,7 +157,7 @@ last_time_at time (r ∷ []) n d h = let e : n ≡ 0 = omega (arith, h) in subst
 last_time_at time (r ∷ s ∷ rows) zero d h = absurd (omega (arith, h))
 last_time_at time (r ∷ s ∷ rows) (suc n) d h = last_time_at r.time (s ∷ rows) n d (omega (arith, h))
 
-module _ {P : Type 0} (function : P → Affine) (base : P → ℤ) (told_as : Told) (b : Binding) (i : ℕ) (tr : Trace) (k : BoundAtom) (here : slice_get b.atoms i ≡ Some (Some k)) where
+module _ {P : Type 0} (shape : ShapeOf P) (told_as : Told) (b : Binding) (i : ℕ) (tr : Trace) (k : BoundAtom) (here : slice_get b.atoms i ≡ Some (Some k)) where
   -- what is worth the sum at a row is what the trace gives there
   at_row : (n : ℕ) (next : ℤ) (a : Atom) → IsFor b i a tr → n < length tr.rows → next ≡ reach k (values_at tr n) (values_at tr n) → (t : Rational) (v : Extended) → t ≈ row_time (row_of tr n)
       → v ≈ᵉ worth told_as k.rel (whole next) → Gives (reading_of told_as tr) i a t v
@@ -167,8 +168,8 @@ module _ {P : Type 0} (function : P → Affine) (base : P → ℤ) (told_as : To
       gives told_as tr i a t v (same_transᵉ v (worth told_as a.rel (whole next)) (worth told_as a.rel (expression a tr t)) one (worth_same told_as a.rel (same_sym is)))
 
   pub begun : (from : ℤ) (at : Frac) (point : P) (n : ℕ) → n < 2 ^ 32 → value at ≈ whole (pos n) → nat_abs from ≤ 2 ^ 31 → 0 < length tr.rows → from ≡ reach k (values_at tr 0) (values_at tr 0) → value at ≈ row_time (row_of tr 0)
-      → ((t : Rational) → value_at (function point) t ≈ᵉ worth told_as k.rel (whole from)) → IsRowBase (base point)
-      → HasGrown function base told_as b i tr 0 (record { time = at; point = point; after = point } ∷ [])
+      → ((t : Rational) → value_at (shape.function point) t ≈ᵉ worth told_as k.rel (whole from)) → IsRowBase (shape.base point)
+      → HasGrown shape told_as b i tr 0 (record { time = at; point = point; after = point } ∷ [])
   begun from at point n time is size some e when w c = record {
     signal = record { some = omega arith; each = (record { rising = tt; needed = tt; ends = refl }, tt) };
     begins = subst (λ n. value at ≈ whole (pos n)) (sym (first_time_at tr.rows (record { time = 0; values = [] }) some)) when;
@@ -180,26 +181,26 @@ module _ {P : Type 0} (function : P → Affine) (base : P → ℤ) (told_as : To
     worth = λ a for t v h. by_part a for t v h;
   }
     where
-      by_shape : (p : P) → (p ≡ point) ⊎ (p ≡ point) ⊎ ⊥ → IsRowBase (base p)
-      by_shape p (inl s) = subst (λ q. IsRowBase (base q)) (sym s) c
-      by_shape p (inr (inl s)) = subst (λ q. IsRowBase (base q)) (sym s) c
+      by_shape : (p : P) → (p ≡ point) ⊎ (p ≡ point) ⊎ ⊥ → IsRowBase (shape.base p)
+      by_shape p (inl s) = subst (λ q. IsRowBase (shape.base q)) (sym s) c
+      by_shape p (inr (inl s)) = subst (λ q. IsRowBase (shape.base q)) (sym s) c
       by_shape p (inr (inr s)) = absurd s
 
-      small : (t : Rational) (v : Extended) → IsWorth function (record { time = at; point = point; after = point } ∷ []) t v → IsBounded (2 ^ 31) v
+      small : (t : Rational) (v : Extended) → IsWorth shape (record { time = at; point = point; after = point } ∷ []) t v → IsBounded (2 ^ 31) v
       small t v (inl x) =
-          bounded_same (2 ^ 31) v (worth told_as k.rel (whole from)) (same_transᵉ v (value_at (function point) t) (worth told_as k.rel (whole from)) x.worth (w t))
+          bounded_same (2 ^ 31) v (worth told_as k.rel (whole from)) (same_transᵉ v (value_at (shape.function point) t) (worth told_as k.rel (whole from)) x.worth (w t))
           (worth_bounded told_as k.rel (whole from) (within_whole (2 ^ 31) from size))
       small t v (inr (inl x)) = absurd x
       small t v (inr (inr x)) = absurd x
 
-      by_part : (a : Atom) → IsFor b i a tr → (t : Rational) (v : Extended) → IsWorth function (record { time = at; point = point; after = point } ∷ []) t v → Gives (reading_of told_as tr) i a t v
-      by_part a for t v (inl x) = at_row 0 from a for some e t v (same_trans x.when when) (same_transᵉ v (value_at (function point) t) (worth told_as k.rel (whole from)) x.worth (w t))
+      by_part : (a : Atom) → IsFor b i a tr → (t : Rational) (v : Extended) → IsWorth shape (record { time = at; point = point; after = point } ∷ []) t v → Gives (reading_of told_as tr) i a t v
+      by_part a for t v (inl x) = at_row 0 from a for some e t v (same_trans x.when when) (same_transᵉ v (value_at (shape.function point) t) (worth told_as k.rel (whole from)) x.worth (w t))
       by_part a for t v (inr (inl x)) = absurd x
       by_part a for t v (inr (inr x)) = absurd x
 
   pub grown_on : (r n : ℕ) (g : Gap) (next : ℤ) (old new : List (Knot P)) → nat_abs next ≤ 2 ^ 31 → r ≡ suc n → r < length tr.rows → g.first ≡ (row_of tr n).time → g.second ≡ (row_of tr r).time
       → g.from ≡ reach k (values_at tr n) (values_at tr n) → g.to ≡ reach k (values_at tr n) (values_at tr r) → next ≡ reach k (values_at tr r) (values_at tr r)
-      → HasGrown function base told_as b i tr n old → GoesAlong function base told_as k.rel g next old new → HasGrown function base told_as b i tr r new
+      → HasGrown shape told_as b i tr n old → GoesAlong shape told_as k.rel g next old new → HasGrown shape told_as b i tr r new
   grown_on r n g next old new size e within f s from to at_next grown goes = record {
     signal = goes.signal;
     begins = subst (λ x. x ≈ trace.start tr) (sym goes.begins) grown.begins;
@@ -211,12 +212,12 @@ module _ {P : Type 0} (function : P → Affine) (base : P → ℤ) (told_as : To
     worth = λ a for t v h. by_part a for t v (goes.worth t v h);
   }
     where
-      by_shape : (p : P) → HasShape old p ⊎ IsRowBase (base p) → IsRowBase (base p)
+      by_shape : (p : P) → HasShape old p ⊎ IsRowBase (shape.base p) → IsRowBase (shape.base p)
       by_shape p (inl h) = grown.bases p h
       by_shape p (inr h) = h
 
       small : (t : Rational) (v : Extended)
-          → IsWorth function old t v ⊎ ((stop old <ʳ t) × (t <ʳ whole (pos g.second)) × (v ≈ᵉ worth told_as k.rel (at (along g) t))) ⊎ ((t ≈ whole (pos g.second)) × (v ≈ᵉ worth told_as k.rel (whole next)))
+          → IsWorth shape old t v ⊎ ((stop old <ʳ t) × (t <ʳ whole (pos g.second)) × (v ≈ᵉ worth told_as k.rel (at (along g) t))) ⊎ ((t ≈ whole (pos g.second)) × (v ≈ᵉ worth told_as k.rel (whole next)))
           → IsBounded (2 ^ 31) v
       small t v (inl w) = grown.small t v w
       small t v (inr (inl (low, high, w))) =
@@ -232,7 +233,7 @@ module _ {P : Type 0} (function : P → Affine) (base : P → ℤ) (told_as : To
       )
 
       by_part : (a : Atom) → IsFor b i a tr → (t : Rational) (v : Extended)
-          → IsWorth function old t v ⊎ ((stop old <ʳ t) × (t <ʳ whole (pos g.second)) × (v ≈ᵉ worth told_as k.rel (at (along g) t))) ⊎ ((t ≈ whole (pos g.second)) × (v ≈ᵉ worth told_as k.rel (whole next)))
+          → IsWorth shape old t v ⊎ ((stop old <ʳ t) × (t <ʳ whole (pos g.second)) × (v ≈ᵉ worth told_as k.rel (at (along g) t))) ⊎ ((t ≈ whole (pos g.second)) × (v ≈ᵉ worth told_as k.rel (whole next)))
           → Gives (reading_of told_as tr) i a t v
       by_part a for t v (inl w) = grown.worth a for t v w
       by_part a for t v (inr (inl (low, high, w))) =
@@ -254,16 +255,16 @@ given_is_function told_as tr i a = record {
 }
 
 -- a signal that has grown to the last row is the atom's
-pub whole_signal : {P : Type 0} (function : P → Affine) (base : P → ℤ) (told_as : Told) (b : Binding) (i : ℕ) (tr : Trace) (n : ℕ) (s : List (Knot P)) → length tr.rows ≡ suc n
-    → HasGrown function base told_as b i tr n s → IsAtomSignal function base (reading_of told_as) b i tr s
-whole_signal function base told_as b i tr n s e grown = record {
+pub whole_signal : {P : Type 0} (shape : ShapeOf P) (told_as : Told) (b : Binding) (i : ℕ) (tr : Trace) (n : ℕ) (s : List (Knot P)) → length tr.rows ≡ suc n
+    → HasGrown shape told_as b i tr n s → IsAtomSignal shape (reading_of told_as) b i tr s
+whole_signal shape told_as b i tr n s e grown = record {
   signal = grown.signal;
   begins = grown.begins;
   ends = ends;
-  tells = λ a for. told function (Gives (reading_of told_as tr) i a) (trace.start tr) (trace.stop tr) s (given_is_function told_as tr i a)
+  tells = λ a for. told shape (Gives (reading_of told_as tr) i a) (trace.start tr) (trace.stop tr) s (given_is_function told_as tr i a)
       (record { signal = grown.signal; worth = grown.worth a for }) grown.begins ends;
   bases = grown.bases;
-  limited = limited function s grown.signal grown.small grown.early grown.late;
+  limited = limited shape s grown.signal grown.small grown.early grown.late;
 }
   where
     ends : stop s ≈ trace.stop tr

@@ -5,6 +5,7 @@ use Rattle.rational.specs.Rational.{IsWithin}
 use Rattle.rational.specs.Affine.{IsBounded}
 use Rattle.rational.specs.Line.{at}
 use Rattle.rational.specs.Extended.{Extended, Affine, ◌≈ᵉ◌}
+use Rattle.value_laws.specs.Members.{ShapeOf}
 use Rattle.pl_signal.specs.declared.knot.Knot.{Knot}
 use Rattle.pl_signal.specs.Knots.{start, stop, HasShape, IsSignal, IsWorth}
 use Rattle.stl_syntax.specs.Trace.{Trace, row_time}
@@ -33,24 +34,24 @@ pub record IsReach (atom : BoundAtom) (tr : Trace) (k : ℕ) (n : ℤ) : Type 0 
 abbrev pub IsReachAt : Binding → ℕ → Trace → ℕ → ℤ → Type 0
 IsReachAt b i tr k n = (atom : BoundAtom) → slice_get b.atoms i ≡ Some (Some atom) → IsReach atom tr k n × (nat_abs atom.limit ≤ 1073741824)
 
-module _ {P : Type 0} (function : P → Affine) (base : P → ℤ) where
+module _ {P : Type 0} (shape : ShapeOf P) where
   -- the signal goes on over the gap, and has at its end what `next` is worth
   pub record GoesAlong (told : Told) (rel : Rel) (g : Gap) (next : ℤ) (old new : List (Knot P)) : Type 0 where
-    pub signal : IsSignal function new
+    pub signal : IsSignal shape new
     pub begins : start new ≡ start old
     pub ends : stop new ≈ whole (pos g.second)
     pub late : IsWithin (2 ^ 34) (stop new)
-    pub worth : (t : Rational) (v : Extended) → IsWorth function new t v
-        → IsWorth function old t v ⊎ ((stop old <ʳ t) × (t <ʳ whole (pos g.second)) × (v ≈ᵉ worth told rel (at (along g) t))) ⊎ ((t ≈ whole (pos g.second)) × (v ≈ᵉ worth told rel (whole next)))
-    pub bases : (p : P) → HasShape new p → HasShape old p ⊎ IsRowBase (base p)
+    pub worth : (t : Rational) (v : Extended) → IsWorth shape new t v
+        → IsWorth shape old t v ⊎ ((stop old <ʳ t) × (t <ʳ whole (pos g.second)) × (v ≈ᵉ worth told rel (at (along g) t))) ⊎ ((t ≈ whole (pos g.second)) × (v ≈ᵉ worth told rel (whole next)))
+    pub bases : (p : P) → HasShape new p → HasShape old p ⊎ IsRowBase (shape.base p)
 
   -- the signal tells the atom from the start of the trace to row k
   pub record HasGrown (told : Told) (b : Binding) (i : ℕ) (tr : Trace) (k : ℕ) (s : List (Knot P)) : Type 0 where
-    pub signal : IsSignal function s
+    pub signal : IsSignal shape s
     pub begins : start s ≈ trace.start tr
     pub ends : stop s ≈ row_time (row_of tr k)
     pub early : IsWithin (2 ^ 34) (start s)
     pub late : IsWithin (2 ^ 34) (stop s)
-    pub small : (t : Rational) (v : Extended) → IsWorth function s t v → IsBounded (2 ^ 31) v
-    pub bases : (p : P) → HasShape s p → IsRowBase (base p)
-    pub worth : (a : Atom) → IsFor b i a tr → (t : Rational) (v : Extended) → IsWorth function s t v → Gives (reading_of told tr) i a t v
+    pub small : (t : Rational) (v : Extended) → IsWorth shape s t v → IsBounded (2 ^ 31) v
+    pub bases : (p : P) → HasShape s p → IsRowBase (shape.base p)
+    pub worth : (a : Atom) → IsFor b i a tr → (t : Rational) (v : Extended) → IsWorth shape s t v → Gives (reading_of told tr) i a t v

@@ -30,7 +30,7 @@ pub(crate) trait Piecewise: Shape {
     fn go_on(signal: &mut Builder<Self>, rel: Rel, gap: &Gap, next: i64) -> Result<(), Memory>
         requires next { unsigned_abs next ≤ 2 ^ 31 }
         requires begins { stop signal.old ≈ whole (pos gap.now.first) }
-        ensures { OnOk result (GoesAlong Self.function Self.base told rel gap.now next signal.old signal.new) };
+        ensures { OnOk result (GoesAlong Self.Shape told rel gap.now next signal.old signal.new) };
 }
 
 impl Piecewise for Truth {

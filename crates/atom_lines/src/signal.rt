@@ -34,7 +34,7 @@ pub trait AtomShape: Shape {
         requires atom { IsAtomNode bound.now node }
         requires columns { length trace.now.header.columns ≡ bound.now.width }
         requires some { 0 < length trace.now.rows }
-        ensures { IfOk result (IsAtomSignal Self.function Self.base reading bound.now node trace.now) };
+        ensures { IfOk result (IsAtomSignal Self.Shape reading bound.now node trace.now) };
 }
 
 impl AtomShape for Truth {
@@ -79,7 +79,7 @@ pub fn atom_signal<P: AtomShape>(
     requires atom { IsAtomNode bound.now node }
     requires columns { length trace.now.header.columns ≡ bound.now.width }
     requires some { 0 < length trace.now.rows }
-    ensures { IfOk result (IsAtomSignal P.function P.base P.reading bound.now node trace.now) }
+    ensures { IfOk result (IsAtomSignal P.Shape P.reading bound.now node trace.now) }
 {
     P::of_atom(alloc, bound, node, trace)
 }
@@ -98,9 +98,9 @@ fn advance<P: Piecewise>(
     requires later { 0 < r }
     requires within { r < length trace.now.rows }
     requires from { IsReachAt bound.now node trace.now (r - 1) from }
-    requires grown { HasGrown P.function P.base P.told bound.now node trace.now (r - 1) signal.old }
+    requires grown { HasGrown P.Shape P.told bound.now node trace.now (r - 1) signal.old }
     ensures next { IfOk result (IsReachAt bound.now node trace.now r) }
-    ensures grown { IfOk result (λ _. HasGrown P.function P.base P.told bound.now node trace.now r signal.new) }
+    ensures grown { IfOk result (λ _. HasGrown P.Shape P.told bound.now node trace.now r signal.new) }
 {
     let atom = bound.atom(node);
     let first = row_at(trace, r - 1);
@@ -140,7 +140,7 @@ fn begin<P: Piecewise>(
     requires atom { IsAtomNode bound.now node }
     requires some { 0 < length trace.now.rows }
     requires from { IsReachAt bound.now node trace.now 0 from }
-    ensures { IfOk result (HasGrown P.function P.base P.told bound.now node trace.now 0) }
+    ensures { IfOk result (HasGrown P.Shape P.told bound.now node trace.now 0) }
 {
     let atom = bound.atom(node);
     let at = Frac::of(i64::from(trace.time(0)));
@@ -157,7 +157,7 @@ fn signal_of<P: Piecewise>(
     requires atom { IsAtomNode bound.now node }
     requires columns { length trace.now.header.columns ≡ bound.now.width }
     requires some { 0 < length trace.now.rows }
-    ensures { IfOk result (IsAtomSignal P.function P.base (reading_of P.told) bound.now node trace.now) }
+    ensures { IfOk result (IsAtomSignal P.Shape (reading_of P.told) bound.now node trace.now) }
 {
     let mut from = first_sum(bound, node, trace);
     let mut signal = begin::<P>(alloc, bound, node, trace, from)?;

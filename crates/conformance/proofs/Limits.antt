@@ -7,6 +7,7 @@ use Rattle.std.specs.Int.RustNames.{unsigned_abs}
 use Rattle.rational.specs.Rational.{Rational, IsWithin, FitsFloor, whole, add, subtract}
 use Rattle.rational.specs.Extended.{Affine}
 use Rattle.rational.proofs.Mixed.{fits_of_within, within_add, within_negate, within_whole, within_more}
+use Rattle.value_laws.specs.Members.{ShapeOf}
 use Rattle.pl_signal.specs.declared.knot.Knot.{Knot}
 use Rattle.pl_signal.specs.Limits.{IsLimitedKnot, IsLimited}
 use Rattle.conformance.specs.Tables.{IsSmall, IsLimitedAt}
@@ -15,17 +16,17 @@ use Rattle.conformance.specs.Tables.{IsSmall, IsLimitedAt}
 pub mirrored_within : (t : Rational) (about : ℤ) → unsigned_abs about ≤ 2 ^ 31 → IsWithin (2 ^ 33) t → IsWithin (2 ^ 34) (subtract (whole about) t)
 mirrored_within t about h k = within_more (2 ^ 31 + 2 ^ 33) (2 ^ 34) (omega arith) (within_add (2 ^ 31) (2 ^ 33) (within_whole (2 ^ 31) about h) (within_negate (2 ^ 33) k))
 
-module _ {P : Type 0} (function : P → Affine) where
+module _ {P : Type 0} (shape : ShapeOf P) where
   -- knots that are limited at each place from one on
-  pub limited_of_places : (ks : List (Knot P)) → ((i : ℕ) → i < length ks → IsLimitedAt function ks i) → IsLimited function ks
+  pub limited_of_places : (ks : List (Knot P)) → ((i : ℕ) → i < length ks → IsLimitedAt shape ks i) → IsLimited shape ks
   limited_of_places [] h = tt
   limited_of_places (k ∷ ks) h = (first ks (h 0 (omega arith)), limited_of_places ks (λ i l m e. later i (h (suc i) (omega arith) m e)))
     where
-      first : (ks : List (Knot P)) → IsLimitedAt function (k ∷ ks) 0 → IsLimitedKnot function k ks
+      first : (ks : List (Knot P)) → IsLimitedAt shape (k ∷ ks) 0 → IsLimitedKnot shape k ks
       first [] s = let small = s k refl in record { when = small.when; point = small.point; limits = tt }
       first (n ∷ ks) s = let small = s k refl in let limits = small.limits n refl in record { when = small.when; point = small.point; limits = (limits.first, limits.last) }
 
-      later : {m : Knot P} (i : ℕ) → IsSmall function (k ∷ ks) (suc i) m → IsSmall function ks i m
+      later : {m : Knot P} (i : ℕ) → IsSmall shape (k ∷ ks) (suc i) m → IsSmall shape ks i m
       later i s = record { when = s.when; point = s.point; limits = λ n e. s.limits n (subst (λ p. slice_get (k ∷ ks) p ≡ Some n) (let a : suc (i + 1) ≡ suc i + 1 = omega arith in a) e) }
 
 -- a near time moved by a number of ticks has a floor that fits

@@ -72,8 +72,8 @@ fn add_atom<P: AtomShape>(
     requires bound { IsBound bound.now formula.now trace.now.header }
     requires some { 0 < length trace.now.rows }
     requires inside { i < length formula.now.nodes }
-    requires before { AreInputs P.function P.base over.from over.to formula.now.nodes i atoms.old }
-    ensures { OnOk result (AreInputs P.function P.base over.from over.to formula.now.nodes (i + 1) atoms.new) }
+    requires before { AreInputs P.Shape over.from over.to formula.now.nodes i atoms.old }
+    ensures { OnOk result (AreInputs P.Shape over.from over.to formula.now.nodes (i + 1) atoms.new) }
 {
     match formula.node(i) {
         Node::Atom(_) => {
@@ -98,9 +98,9 @@ fn add_table(
     atoms: &mut Atoms<Kleene>,
 ) -> Result<usize, Fail>
     requires inside { i < length formula.now.nodes }
-    requires before { AreInputs ⟦<Kleene as Shape>⟧.function ⟦<Kleene as Shape>⟧.base over.from over.to formula.now.nodes i atoms.old }
+    requires before { AreInputs ⟦<Kleene as Shape>⟧ over.from over.to formula.now.nodes i atoms.old }
     ensures { OnOk result
-        (AreInputs ⟦<Kleene as Shape>⟧.function ⟦<Kleene as Shape>⟧.base over.from over.to formula.now.nodes (i + 1) atoms.new) }
+        (AreInputs ⟦<Kleene as Shape>⟧ over.from over.to formula.now.nodes (i + 1) atoms.new) }
 {
     match formula.node(i) {
         Node::Atom(_) => {
@@ -123,7 +123,7 @@ fn evaluated<P: Shape, L: Ledger>(
     blank: Blank,
 ) -> Result<Evaluated<P>, EvalFault<P>>
     requires order { over.from ≤ over.to }
-    requires inputs { AreInputs P.function P.base over.from over.to formula.now.nodes (length formula.now.nodes) atoms }
+    requires inputs { AreInputs P.Shape over.from over.to formula.now.nodes (length formula.now.nodes) atoms }
     requires name { blank.name ≡ L.name }
     requires parts { blank.parts ≡ L.parts }
     requires shares { 0 < blank.parts }

@@ -66,7 +66,7 @@ fn moved<P: Tabled>(
     from: i32,
     to: i32,
 ) -> Result<Signal<P>, Fail>
-    requires limited { IsLimited P.function s.now }
+    requires limited { IsLimited P.Shape s.now }
     requires bases { (p : P) → HasShape s.now p → unsigned_abs (P.base p) ≤ 2 ^ 31 }
 {
     let ticks = i64::from(by);
@@ -79,7 +79,7 @@ fn moved<P: Tabled>(
 
 /// The signal read backwards from a time.
 fn mirrored<P: Tabled>(rt: &impl Abort, s: &Signal<P>, about: i32) -> Result<Signal<P>, Fail>
-    requires limited { IsLimited P.function s.now }
+    requires limited { IsLimited P.Shape s.now }
     requires bases { (p : P) → HasShape s.now p → unsigned_abs (P.base p) ≤ 2 ^ 31 }
 {
     expect_near(rt, &s.start());

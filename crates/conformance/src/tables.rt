@@ -172,7 +172,7 @@ pub(crate) fn expect_order(rt: &impl Abort, a: &Frac, b: &Frac)
 /// Whether the knot at a place is sure to be within the limits.
 fn is_limited_at<P: Tabled>(s: &Signal<P>, i: usize) -> bool
     requires { i < length s.now }
-    ensures { IsTrue result → IsLimitedAt P.function s.now i }
+    ensures { IsTrue result → IsLimitedAt P.Shape s.now i }
 {
     let last = s.len() - 1;
     let knot = s.knot(i);
@@ -188,7 +188,7 @@ fn is_limited_at<P: Tabled>(s: &Signal<P>, i: usize) -> bool
 
 /// Whether the signal is sure to be within the limits.
 fn is_limited<P: Tabled>(s: &Signal<P>) -> bool
-    ensures { IsTrue result → IsLimited P.function s.now }
+    ensures { IsTrue result → IsLimited P.Shape s.now }
 {
     for i in 0..s.len() {
         if !is_limited_at(s, i) {
@@ -213,7 +213,7 @@ pub(crate) fn signal<P: Tabled>(
     alloc: Global,
     rows: &[Row<P::Word>],
 ) -> Result<Signal<P>, Fail>
-    ensures limited { IfOk result (IsLimited P.function) }
+    ensures limited { IfOk result (IsLimited P.Shape) }
     ensures bases { IfOk result (λ s. (p : P) → HasShape s p → unsigned_abs (P.base p) ≤ 2 ^ 31) }
 {
     assert!(rt; !rows.is_empty());

@@ -83,7 +83,7 @@ pub(crate) fn signal_of<P: AtomShape>(
     requires bound { IsBound bound.now formula.now trace.now.header }
     requires node { node < length formula.now.nodes }
     requires some { 0 < length trace.now.rows }
-    ensures limited { IfOk result (IsLimited P.function) }
+    ensures limited { IfOk result (IsLimited P.Shape) }
     ensures bases { IfOk result (λ s. (p : P) → HasShape s p → (pos 0 ≤ℤ P.base p) × (P.base p <ℤ pos (2 ^ 32))) }
     ensures begins { IfOk result (λ s. first s ≈ start trace.now) }
     ensures ends { IfOk result (λ s. last s ≈ stop trace.now) }

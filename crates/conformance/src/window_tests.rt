@@ -85,8 +85,8 @@ fn ahead<P: Shape>(
     far: u32,
     over: Over,
 ) -> Result<Signal<P>, OpFault<P>>
-    requires limited { IsLimited P.function s.now }
-    requires bases { AreNear P.base s.now }
+    requires limited { IsLimited P.Shape s.now }
+    requires bases { AreNear P.Shape s.now }
 {
     let Over(what, _, ends) = over;
     let (near_in, far_in) = (ends.near_in(), ends.far_in());
@@ -106,8 +106,8 @@ fn behind<P: Shape>(
     far: Option<u32>,
     over: Over,
 ) -> Result<Signal<P>, OpFault<P>>
-    requires limited { IsLimited P.function s.now }
-    requires bases { AreNear P.base s.now }
+    requires limited { IsLimited P.Shape s.now }
+    requires bases { AreNear P.Shape s.now }
 {
     let Over(what, _, ends) = over;
     let (near_in, far_in) = (ends.near_in(), ends.far_in());

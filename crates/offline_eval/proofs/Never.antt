@@ -1,29 +1,38 @@
 -- Shapes that are constant whole numbers have no cause for a refusal.
-use Rattle.std.proofs.Common.{◌≡◌, ℕ, ℤ, List, arith}
+use Rattle.std.proofs.Common.{◌≡◌, ℕ, ℤ, List, sym, subst, arith}
 use Rattle.rational.specs.Time.{Rational, whole}
 use Rattle.rational.specs.Extended.{finite, Affine, value_at, ◌≈ᵉ◌}
-use Rattle.rational.specs.Affine.{level}
+use Rattle.rational.specs.Affine.{IsSteady, level}
 use Rattle.rational.specs.InPlay.{IsWideCrossing, IsWideValue}
 use Rattle.rational.proofs.Order.{same_of_le}
 use Rattle.rational.proofs.AffineLemmas.{same_transᵉ, steady_never_meet_alone}
 use Rattle.rational.proofs.LevelLemmas.{level_is, level_steady}
 use Rattle.rational.proofs.Lowest.{lowest_whole, denominator_unique}
 use Rattle.frac128.specs.Value.{value}
+use Rattle.value_laws.specs.Members.{ShapeOf}
 use Rattle.pl_signal.specs.declared.faults.WidePair.{WidePair}
 use Rattle.pl_signal.specs.declared.faults.WidePair.TheVariants.{Cross, Value}
 use Rattle.stl_syntax.specs.SupInf.{Setting}
 use Rattle.stl_syntax.specs.declared.node.Node.{Node}
 use Rattle.offline_eval.specs.Evaluation.{IsCauseAt}
 
-levels_never_cross : (InPlay : Rational → Affine → Type 0) (from to a b : Rational) (n m : ℤ) (den : ℕ) → ¬ IsWideCrossing InPlay from to (level n) (level m) a b den
-levels_never_cross InPlay from to a b n m den w = steady_never_meet_alone (level n) (level m) a b w.tau (level_steady n) (level_steady m) (record { after = w.above; before = w.below; meet = w.meet; alone = w.alone })
+levels_never_cross : (InPlay : Rational → Affine → Type 0) (from to a b : Rational) (f g : Affine) (n m : ℤ) (den : ℕ) → f ≡ level n → g ≡ level m
+    → ¬ IsWideCrossing InPlay from to f g a b den
+levels_never_cross InPlay from to a b f g n m den e h w =
+    steady_never_meet_alone f g a b w.tau (subst IsSteady (sym e) (level_steady n)) (subst IsSteady (sym h) (level_steady m))
+    (record { after = w.above; before = w.below; meet = w.meet; alone = w.alone })
 
-level_never_wide : (InPlay : Rational → Affine → Type 0) (from to u : Rational) (n : ℤ) (den : ℕ) → ¬ IsWideValue InPlay from to (level n) u den
-level_never_wide InPlay from to u n den w =
-    let e : finite w.value ≈ᵉ finite (whole n) = same_transᵉ (finite w.value) (value_at (level n) u) (finite (whole n)) w.is_value (level_is n u) in
+level_never_wide : (InPlay : Rational → Affine → Type 0) (from to u : Rational) (f : Affine) (n : ℤ) (den : ℕ) → f ≡ level n → ¬ IsWideValue InPlay from to f u den
+level_never_wide InPlay from to u f n den h w =
+    let here : value_at f u ≈ᵉ finite (whole n) = subst (λ f. value_at f u ≈ᵉ finite (whole n)) (sym h) (level_is n u) in
+    let e : finite w.value ≈ᵉ finite (whole n) = same_transᵉ (finite w.value) (value_at f u) (finite (whole n)) w.is_value here in
     let one : den ≡ 1 = denominator_unique den 1 (same_of_le e.at_most e.at_least) w.denominator (n, lowest_whole n, record { same = omega arith }) in
     let wide = w.wide in omega (arith, one, wide)
 
-pub levels_are_never_wide : {P : Type 0} (whole_of : P → ℤ) (nodes : List Node) (s : Setting) (i : ℕ) (pair : WidePair P) → ¬ IsCauseAt (λ p. level (whole_of p)) nodes s i pair
-levels_are_never_wide whole_of nodes s i (Cross p q a b den) w = levels_never_cross _ s.from s.to (value a) (value b) (whole_of p) (whole_of q) den w
-levels_are_never_wide whole_of nodes s i (Value p at den) w = level_never_wide _ s.from s.to (value at) (whole_of p) den w
+-- where each shape is at every time the whole number that `whole_of` says, no pair is a cause
+pub levels_are_never_wide : {P : Type 0} (shape : ShapeOf P) (whole_of : P → ℤ) → ((p : P) → shape.function p ≡ level (whole_of p))
+    → (nodes : List Node) (s : Setting) (i : ℕ) (pair : WidePair P) → ¬ IsCauseAt shape nodes s i pair
+levels_are_never_wide shape whole_of is nodes s i (Cross p q a b den) w =
+    levels_never_cross _ s.from s.to (value a) (value b) (shape.function p) (shape.function q) (whole_of p) (whole_of q) den (is p) (is q) w
+levels_are_never_wide shape whole_of is nodes s i (Value p at den) w =
+    level_never_wide _ s.from s.to (value at) (shape.function p) (whole_of p) den (is p) w

@@ -5,6 +5,7 @@ use Rattle.rational.specs.Extended.{Extended, Affine}
 use Rattle.rational.proofs.Order.{same_trans, same_sym, le_trans, le_of_same, ge_of_same}
 use Rattle.rational.proofs.Shift.{le_whole}
 use Rattle.std.proofs.lemmas.Int.{ints}
+use Rattle.value_laws.specs.Members.{ShapeOf}
 use Rattle.pl_signal.specs.declared.knot.Knot.{Knot}
 use Rattle.pl_signal.specs.declared.faults.OpFault.{OpFault}
 use Rattle.stl_syntax.specs.Formula.{Subformula, tree_of}
@@ -17,18 +18,18 @@ use Rattle.offline_eval.specs.Making.{HasEnds, MayMeet, IsFit, AreFit, IsSound, 
 ends_of : {lowest highest : Extended} {from to : ℕ} {s : Setting} → IsOver lowest highest from to s → HasEnds lowest highest s
 ends_of over = record { lowest = over.lowest; highest = over.highest }
 
-module _ {P : Type 0} (function : P → Affine) (base : P → ℤ) (from to : ℕ) where
+module _ {P : Type 0} (shape : ShapeOf P) (from to : ℕ) where
   -- two sound signals are over one domain
-  pub may_meet : (reach : ℕ) (x y : List (Knot P)) → IsSound function base from to reach x → IsSound function base from to reach y → MayMeet function x y
+  pub may_meet : (reach : ℕ) (x y : List (Knot P)) → IsSound shape from to reach x → IsSound shape from to reach y → MayMeet shape x y
   may_meet reach x y s u = record { left = s.limited; right = u.limited; begins = same_trans s.begins (same_sym u.begins); ends = same_trans s.ends (same_sym u.ends) }
 
   -- a sound signal is fit for every step
-  pub fit_of : (x : List (Knot P)) → to < 2 ^ 32 → IsSound function base from to 4294967295 x → IsFit function base x
+  pub fit_of : (x : List (Knot P)) → to < 2 ^ 32 → IsSound shape from to 4294967295 x → IsFit shape x
   fit_of x small s = record {
     limited = s.limited;
     first = le_trans (le_whole (from_zero from)) (ge_of_same s.begins);
     last = le_trans (le_of_same s.ends) (le_whole (below to small));
-    near = λ p h. near_reached (base p) (s.bases p h);
+    near = λ p h. near_reached (shape.base p) (s.bases p h);
   }
     where
       from_zero : (n : ℕ) → pos 0 ≤ℤ pos n
@@ -40,32 +41,32 @@ module _ {P : Type 0} (function : P → Affine) (base : P → ℤ) (from to : �
       near_reached : (b : ℤ) → (neg_ℤ (pos 4294967295) ≤ℤ b) × (b <ℤ pos (2 ^ 32 + 4294967295)) → (neg_ℤ (pos (2 ^ 32)) ≤ℤ b) × (b ≤ℤ pos (2 ^ 33))
       near_reached b (low, high) = (omega (arith, ints, low), omega (arith, ints, high))
 
-  pub are_fit : (x y : List (Knot P)) → to < 2 ^ 32 → IsSound function base from to 4294967295 x → IsSound function base from to 4294967295 y → AreFit function base x y
+  pub are_fit : (x y : List (Knot P)) → to < 2 ^ 32 → IsSound shape from to 4294967295 x → IsSound shape from to 4294967295 y → AreFit shape x y
   are_fit x y small s u = record { left = fit_of x small s; right = fit_of y small u; begins = same_trans s.begins (same_sym u.begins); ends = same_trans s.ends (same_sym u.ends) }
 
-  pub none_sound : (n : Node) (xs : List (List (Knot P))) (r : List (Knot P)) → ((reach : ℕ) → IsSound function base from to reach r) → NodeStaysSound function base from to n xs r
+  pub none_sound : (n : Node) (xs : List (List (Knot P))) (r : List (Knot P)) → ((reach : ℕ) → IsSound shape from to reach r) → NodeStaysSound shape from to n xs r
   none_sound n xs r sound reach all = sound (reach + own_reach n)
 
-  pub one_sound : (n : Node) (p own : ℕ) (xs : List (List (Knot P))) (x r : List (Knot P)) → slice_get xs p ≡ Some x → own_reach n ≡ own → StaysSound function base own x r → NodeStaysSound function base from to n xs r
-  one_sound n p own xs x r at e sound reach all = subst (λ k. IsSound function base from to (reach + k) r) (sym e) (sound from to reach (all p x at))
+  pub one_sound : (n : Node) (p own : ℕ) (xs : List (List (Knot P))) (x r : List (Knot P)) → slice_get xs p ≡ Some x → own_reach n ≡ own → StaysSound shape own x r → NodeStaysSound shape from to n xs r
+  one_sound n p own xs x r at e sound reach all = subst (λ k. IsSound shape from to (reach + k) r) (sym e) (sound from to reach (all p x at))
 
   pub two_sound : (n : Node) (p q own : ℕ) (xs : List (List (Knot P))) (x y r : List (Knot P)) → slice_get xs p ≡ Some x → slice_get xs q ≡ Some y → own_reach n ≡ own
-      → StaySound function base own x y r → NodeStaysSound function base from to n xs r
-  two_sound n p q own xs x y r at_p at_q e sound reach all = subst (λ k. IsSound function base from to (reach + k) r) (sym e) (sound from to reach (all p x at_p) (all q y at_q))
+      → StaySound shape own x y r → NodeStaysSound shape from to n xs r
+  two_sound n p q own xs x y r at_p at_q e sound reach all = subst (λ k. IsSound shape from to (reach + k) r) (sym e) (sound from to reach (all p x at_p) (all q y at_q))
 
-module _ {P : Type 0} (function : P → Affine) (lowest highest : Extended) (from to : ℕ) where
+module _ {P : Type 0} (shape : ShapeOf P) (from to : ℕ) where
   pub one_told : (n : Node) (p : ℕ) (xs : List (List (Knot P))) (x r : List (Knot P)) (make : Subformula → Subformula) → slice_get xs p ≡ Some x → ((at : ℕ → Subformula) (i : ℕ) → tree_of at i n ≡ make (at p))
-      → TellsOne function lowest highest make x r → TellsNode function lowest highest from to n xs r
-  one_told n p xs x r make at_p e told s at i over all = subst (λ f. TellsValue function s f r) (sym (e at i)) (told s (at p) (ends_of over) (all p x at_p))
+      → TellsOne shape make x r → TellsNode shape from to n xs r
+  one_told n p xs x r make at_p e told s at i over all = subst (λ f. TellsValue shape s f r) (sym (e at i)) (told s (at p) (ends_of over) (all p x at_p))
 
   pub one_fault : (n : Node) (p : ℕ) (xs : List (List (Knot P))) (x : List (Knot P)) (f : OpFault P) (make : Subformula → Subformula) → slice_get xs p ≡ Some x → ((at : ℕ → Subformula) (i : ℕ) → tree_of at i n ≡ make (at p))
-      → FaultOfOne function lowest highest make x f → FaultOfNode function lowest highest from to n xs f
-  one_fault n p xs x f make at_p e fault s at i over all = subst (λ t. IsFaultOf function s t f) (sym (e at i)) (fault s (at p) (ends_of over) (all p x at_p))
+      → FaultOfOne shape make x f → FaultOfNode shape from to n xs f
+  one_fault n p xs x f make at_p e fault s at i over all = subst (λ t. IsFaultOf shape s t f) (sym (e at i)) (fault s (at p) (ends_of over) (all p x at_p))
 
   pub two_told : (n : Node) (p q : ℕ) (xs : List (List (Knot P))) (x y r : List (Knot P)) (make : Subformula → Subformula → Subformula) → slice_get xs p ≡ Some x → slice_get xs q ≡ Some y
-      → ((at : ℕ → Subformula) (i : ℕ) → tree_of at i n ≡ make (at p) (at q)) → TellsTwo function lowest highest make x y r → TellsNode function lowest highest from to n xs r
-  two_told n p q xs x y r make at_p at_q e told s at i over all = subst (λ f. TellsValue function s f r) (sym (e at i)) (told s (at p) (at q) (ends_of over) (all p x at_p) (all q y at_q))
+      → ((at : ℕ → Subformula) (i : ℕ) → tree_of at i n ≡ make (at p) (at q)) → TellsTwo shape make x y r → TellsNode shape from to n xs r
+  two_told n p q xs x y r make at_p at_q e told s at i over all = subst (λ f. TellsValue shape s f r) (sym (e at i)) (told s (at p) (at q) (ends_of over) (all p x at_p) (all q y at_q))
 
   pub two_fault : (n : Node) (p q : ℕ) (xs : List (List (Knot P))) (x y : List (Knot P)) (f : OpFault P) (make : Subformula → Subformula → Subformula) → slice_get xs p ≡ Some x → slice_get xs q ≡ Some y
-      → ((at : ℕ → Subformula) (i : ℕ) → tree_of at i n ≡ make (at p) (at q)) → FaultOfTwo function lowest highest make x y f → FaultOfNode function lowest highest from to n xs f
-  two_fault n p q xs x y f make at_p at_q e fault s at i over all = subst (λ t. IsFaultOf function s t f) (sym (e at i)) (fault s (at p) (at q) (ends_of over) (all p x at_p) (all q y at_q))
+      → ((at : ℕ → Subformula) (i : ℕ) → tree_of at i n ≡ make (at p) (at q)) → FaultOfTwo shape make x y f → FaultOfNode shape from to n xs f
+  two_fault n p q xs x y f make at_p at_q e fault s at i over all = subst (λ t. IsFaultOf shape s t f) (sym (e at i)) (fault s (at p) (at q) (ends_of over) (all p x at_p) (all q y at_q))

@@ -4,6 +4,7 @@ use Rattle.std.specs.Prelude.{slice_get, sum_by, Result, Ok, Err, OnOk}
 use Rattle.std.proofs.lemmas.Option.{slice_get_within, get_or_from_slice_get}
 use Rattle.std.proofs.lemmas.List.Sums.{sum_by_more}
 use Rattle.rational.specs.Extended.{Affine}
+use Rattle.value_laws.specs.Members.{ShapeOf}
 use Rattle.pl_signal.specs.declared.knot.Knot.{Knot}
 use Rattle.pl_signal.specs.Moves.{Tells}
 use Rattle.pl_signal.proofs.Values.{some_is}
@@ -81,35 +82,35 @@ module _ {P : Type 0} where
   pub other_takes : (nodes : List Node) (i : ℕ) (n : Node) (old : List (List (Knot P))) → slice_get nodes i ≡ Some n → is_atom n ≡ false → TakesOwn nodes i old old
   other_takes nodes i n old at other all left = left ∙ ap (λ n. drop n all) (sym (atoms_on_other nodes i n at other))
 
-module _ {P : Type 0} (function : P → Affine) where
-  pub atom_sound : (base : P → ℤ) (from to : ℕ) (nodes : List Node) (i : ℕ) (x : List (Knot P)) (old new xs : List (List (Knot P))) → old ≡ x ∷ new → AreSound function base from to 0 old → PlaceStaysSound function base from to nodes i xs x
-  atom_sound base from to nodes i x old new xs e sound all = sound_more function base from to 0 (reach_before nodes (i + 1)) x (omega arith) (sound 0 x (subst (λ o. slice_get o 0 ≡ Some x) (sym e) refl))
+module _ {P : Type 0} (shape : ShapeOf P) where
+  pub atom_sound : (from to : ℕ) (nodes : List Node) (i : ℕ) (x : List (Knot P)) (old new xs : List (List (Knot P))) → old ≡ x ∷ new → AreSound shape from to 0 old → PlaceStaysSound shape from to nodes i xs x
+  atom_sound from to nodes i x old new xs e sound all = sound_more shape from to 0 (reach_before nodes (i + 1)) x (omega arith) (sound 0 x (subst (λ o. slice_get o 0 ≡ Some x) (sym e) refl))
 
   pub atom_told : (nodes : List Node) (i : ℕ) (a : Atom) (x : List (Knot P)) (old new all : List (List (Knot P))) (s : Setting) → slice_get nodes i ≡ Some (Leaf a) → subformula nodes i ≡ tree_of (subformula nodes) i (Leaf a)
-      → old ≡ x ∷ new → old ≡ drop (atoms_before nodes i) all → TellAtoms function nodes all s → TellsValue function s (subformula nodes i) x
+      → old ≡ x ∷ new → old ≡ drop (atoms_before nodes i) all → TellAtoms shape nodes all s → TellsValue shape s (subformula nodes i) x
   atom_told nodes i a x old new all s at tree e left told =
       let o = told i a (slice_get_within nodes i (Leaf a) at) at in
       let here = (drop_at all (atoms_before nodes i) x new (sym e ∙ left)).0 in
       let same : o.0 ≡ x = some_is (sym o.1 ∙ here) in
-      subst (λ f. TellsValue function s f x) (sym tree) (subst (TellsValue function s (atom i a)) same o.2)
+      subst (λ f. TellsValue shape s f x) (sym tree) (subst (TellsValue shape s (atom i a)) same o.2)
 
-  pub told_none : (nodes : List Node) (s : Setting) → TellAtomsBelow function 0 nodes [] s
+  pub told_none : (nodes : List Node) (s : Setting) → TellAtomsBelow shape 0 nodes [] s
   told_none nodes s i a h at = absurd (omega (arith, h))
 
-  pub told_atom : (nodes : List Node) (s : Setting) (i : ℕ) (a : Atom) (xs : List (List (Knot P))) (x : List (Knot P)) → slice_get nodes i ≡ Some (Leaf a) → length xs ≡ atoms_before nodes i → TellAtomsBelow function i nodes xs s
-      → Tells function (Gives s.atoms i a) s.from s.to x → TellAtomsBelow function (i + 1) nodes (xs ++ x ∷ []) s
+  pub told_atom : (nodes : List Node) (s : Setting) (i : ℕ) (a : Atom) (xs : List (List (Knot P))) (x : List (Knot P)) → slice_get nodes i ≡ Some (Leaf a) → length xs ≡ atoms_before nodes i → TellAtomsBelow shape i nodes xs s
+      → Tells shape (Gives s.atoms i a) s.from s.to x → TellAtomsBelow shape (i + 1) nodes (xs ++ x ∷ []) s
   told_atom nodes s i a xs x at count told tells j b h at_j = by_place (before_or_here i j h)
     where
-      by_place : (j < i) ⊎ (j ≡ i) → (y : List (Knot P)) × (slice_get (xs ++ x ∷ []) (atoms_before nodes j) ≡ Some y) × Tells function (Gives s.atoms j b) s.from s.to y
+      by_place : (j < i) ⊎ (j ≡ i) → (y : List (Knot P)) × (slice_get (xs ++ x ∷ []) (atoms_before nodes j) ≡ Some y) × Tells shape (Gives s.atoms j b) s.from s.to y
       by_place (inl k) = let o = told j b k at_j in (o.0, in_front xs x (atoms_before nodes j) o.0 o.1, o.2)
       by_place (inr k) =
           let same : b ≡ a = same_leaf (sym at_j ∙ ap (slice_get nodes) k ∙ at) in
-          (x, last_of xs x (atoms_before nodes j) (ap (atoms_before nodes) k ∙ sym count), subst (λ m. Tells function (Gives s.atoms m b) s.from s.to x) (sym k) (subst (λ c. Tells function (Gives s.atoms i c) s.from s.to x) (sym same) tells))
+          (x, last_of xs x (atoms_before nodes j) (ap (atoms_before nodes) k ∙ sym count), subst (λ m. Tells shape (Gives s.atoms m b) s.from s.to x) (sym k) (subst (λ c. Tells shape (Gives s.atoms i c) s.from s.to x) (sym same) tells))
 
-  pub told_other : (nodes : List Node) (s : Setting) (i : ℕ) (n : Node) (xs : List (List (Knot P))) → slice_get nodes i ≡ Some n → is_atom n ≡ false → TellAtomsBelow function i nodes xs s → TellAtomsBelow function (i + 1) nodes xs s
+  pub told_other : (nodes : List Node) (s : Setting) (i : ℕ) (n : Node) (xs : List (List (Knot P))) → slice_get nodes i ≡ Some n → is_atom n ≡ false → TellAtomsBelow shape i nodes xs s → TellAtomsBelow shape (i + 1) nodes xs s
   told_other nodes s i n xs at other told j b h at_j = by_place (before_or_here i j h)
     where
-      by_place : (j < i) ⊎ (j ≡ i) → (y : List (Knot P)) × (slice_get xs (atoms_before nodes j) ≡ Some y) × Tells function (Gives s.atoms j b) s.from s.to y
+      by_place : (j < i) ⊎ (j ≡ i) → (y : List (Knot P)) × (slice_get xs (atoms_before nodes j) ≡ Some y) × Tells shape (Gives s.atoms j b) s.from s.to y
       by_place (inl k) = told j b k at_j
       by_place (inr k) = absurd (clash (ap is_atom (some_is (sym at_j ∙ ap (slice_get nodes) k ∙ at)) ∙ other))
         where

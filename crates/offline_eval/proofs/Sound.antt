@@ -8,6 +8,7 @@ use Rattle.rational.specs.Extended.{Extended, Affine}
 use Rattle.rational.specs.Affine.{IsBounded}
 use Rattle.rational.specs.Windows.{Function}
 use Rattle.rational.proofs.Order.{le_trans, le_of_same, ge_of_same, same_trans, same_sym}
+use Rattle.value_laws.specs.Members.{ShapeOf, ShapeLaws}
 use Rattle.pl_signal.specs.declared.knot.Knot.{Knot}
 use Rattle.pl_signal.specs.Knots.{start, stop, HasShape}
 use Rattle.pl_signal.specs.Limits.{IsLimited}
@@ -28,20 +29,20 @@ reached_zero reach b e = (omega (arith, ints, e), omega (arith, ints, e))
 pub same_within : {a b : Rational} → a ≈ b → IsWithin (2 ^ 34) a → IsWithin (2 ^ 34) b
 same_within e h = (le_trans h.0 (le_of_same e), le_trans (ge_of_same e) h.1)
 
-module _ {P : Type 0} (function : P → Affine) where
+module _ {P : Type 0} (shape : ShapeOf P) where
   zero_within : IsWithin (2 ^ 34) (whole (pos 0))
   zero_within = (omega arith, omega arith)
 
   -- a limited signal lies within 2^34
-  pub ends_within : (x : List (Knot P)) → IsLimited function x → IsWithin (2 ^ 34) (start x) × IsWithin (2 ^ 34) (stop x)
+  pub ends_within : (x : List (Knot P)) → IsLimited shape x → IsWithin (2 ^ 34) (start x) × IsWithin (2 ^ 34) (stop x)
   ends_within [] l = (zero_within, zero_within)
-  ends_within (k ∷ ks) l = (l.0.when, limited_last function k ks l)
+  ends_within (k ∷ ks) l = (l.0.when, limited_last shape k ks l)
 
   -- a signal over the same domain with bounded values is limited too
-  pub limited_along : (F : Function) (x r : List (Knot P)) → IsLimited function x → Tells function F (start x) (stop x) r → ((t : Rational) (v : Extended) → F t v → IsBounded (2 ^ 31) v) → IsLimited function r
+  pub limited_along : (F : Function) (x r : List (Knot P)) → IsLimited shape x → Tells shape F (start x) (stop x) r → ((t : Rational) (v : Extended) → F t v → IsBounded (2 ^ 31) v) → IsLimited shape r
   limited_along F x r l tells bounded =
       let within = ends_within x l in
-      limited function r tells.signal (λ t v w. bounded t v ((tells.worth t v).0 w).1) (same_within (same_sym tells.begins) within.0) (same_within (same_sym tells.ends) within.1)
+      limited shape r tells.signal (λ t v w. bounded t v ((tells.worth t v).0 w).1) (same_within (same_sym tells.begins) within.0) (same_within (same_sym tells.ends) within.1)
 
 -- the base is that of the old shape, but for a move by at most `own`
 pub record IsMovedBy (own : ℕ) (old new : ℤ) : Type 0 where
@@ -54,44 +55,44 @@ reached_moved reach own old new (low, high) m = let a = m.not_less in let b = m.
 pub not_moved : (old new : ℤ) → new ≡ old → IsMovedBy 0 old new
 not_moved old new e = record { not_less = omega (arith, ints, e); not_more = omega (arith, ints, e) }
 
-module _ {P : Type 0} (function : P → Affine) (base : P → ℤ) (moves : P → Bool) (others : (p : P) → moves p ≡ false → base p ≡ pos 0) where
+module _ {P : Type 0} (shape : ShapeOf P) (laws : ShapeLaws shape) where
   -- what holds of the bases of the moving shapes holds of all
-  all_reached : (reach : ℕ) (p : P) → (IsTrue (moves p) → IsReached reach (base p)) → IsReached reach (base p)
-  all_reached reach p moving = by_test (moves p) refl
+  all_reached : (reach : ℕ) (p : P) → (IsTrue (shape.moves p) → IsReached reach (shape.base p)) → IsReached reach (shape.base p)
+  all_reached reach p moving = by_test (shape.moves p) refl
     where
-      by_test : (b : Bool) → moves p ≡ b → IsReached reach (base p)
+      by_test : (b : Bool) → shape.moves p ≡ b → IsReached reach (shape.base p)
       by_test true e = moving e
-      by_test false e = reached_zero reach (base p) (others p e)
+      by_test false e = reached_zero reach (shape.base p) (laws.base_of_others p e)
 
   -- each moving shape has the base of a shape of the old signal, moved by at most `own`
   abbrev pub MovedFrom : ℕ → List (Knot P) → List (Knot P) → Type 0
-  MovedFrom own x r = (p : P) → HasShape r p → IsTrue (moves p) → (q : P) × HasShape x q × IsMovedBy own (base q) (base p)
+  MovedFrom own x r = (p : P) → HasShape r p → IsTrue (shape.moves p) → (q : P) × HasShape x q × IsMovedBy own (shape.base q) (shape.base p)
 
-  pub stays_sound : (own : ℕ) (x r : List (Knot P)) → start r ≈ start x → stop r ≈ stop x → IsLimited function r → MovedFrom own x r → StaysSound function base own x r
+  pub stays_sound : (own : ℕ) (x r : List (Knot P)) → start r ≈ start x → stop r ≈ stop x → IsLimited shape r → MovedFrom own x r → StaysSound shape own x r
   stays_sound own x r begins ends limited moved from to reach s = record {
     begins = same_trans begins s.begins;
     ends = same_trans ends s.ends;
     limited = limited;
-    bases = λ p h. all_reached (reach + own) p (λ m. let o = moved p h m in reached_moved reach own (base o.0) (base p) (s.bases o.0 o.1) o.2);
+    bases = λ p h. all_reached (reach + own) p (λ m. let o = moved p h m in reached_moved reach own (shape.base o.0) (shape.base p) (s.bases o.0 o.1) o.2);
   }
 
   -- each moving shape has the base of a shape of one of the two old signals, moved by at most `own`
   abbrev pub MovedFromTwo : ℕ → List (Knot P) → List (Knot P) → List (Knot P) → Type 0
-  MovedFromTwo own x y r = (p : P) → HasShape r p → IsTrue (moves p) → (q : P) × (HasShape x q ⊎ HasShape y q) × IsMovedBy own (base q) (base p)
+  MovedFromTwo own x y r = (p : P) → HasShape r p → IsTrue (shape.moves p) → (q : P) × (HasShape x q ⊎ HasShape y q) × IsMovedBy own (shape.base q) (shape.base p)
 
-  pub stay_sound : (own : ℕ) (x y r : List (Knot P)) → start r ≈ start x → stop r ≈ stop x → IsLimited function r → MovedFromTwo own x y r → StaySound function base own x y r
+  pub stay_sound : (own : ℕ) (x y r : List (Knot P)) → start r ≈ start x → stop r ≈ stop x → IsLimited shape r → MovedFromTwo own x y r → StaySound shape own x y r
   stay_sound own x y r begins ends limited moved from to reach s u = record {
     begins = same_trans begins s.begins;
     ends = same_trans ends s.ends;
     limited = limited;
-    bases = λ p h. all_reached (reach + own) p (λ m. let o = moved p h m in reached_moved reach own (base o.0) (base p) (of_one o.0 o.1) o.2);
+    bases = λ p h. all_reached (reach + own) p (λ m. let o = moved p h m in reached_moved reach own (shape.base o.0) (shape.base p) (of_one o.0 o.1) o.2);
   }
     where
-      of_one : (q : P) → HasShape x q ⊎ HasShape y q → IsReached reach (base q)
+      of_one : (q : P) → HasShape x q ⊎ HasShape y q → IsReached reach (shape.base q)
       of_one q (inl h) = s.bases q h
       of_one q (inr h) = u.bases q h
 
-module _ {P : Type 0} (function : P → Affine) (base : P → ℤ) where
+module _ {P : Type 0} (shape : ShapeOf P) where
   -- a sound signal is sound with a larger reach
-  pub sound_more : (from to reach more : ℕ) (x : List (Knot P)) → reach ≤ more → IsSound function base from to reach x → IsSound function base from to more x
-  sound_more from to reach more x h s = record { begins = s.begins; ends = s.ends; limited = s.limited; bases = λ p i. reached_more reach more (base p) h (s.bases p i) }
+  pub sound_more : (from to reach more : ℕ) (x : List (Knot P)) → reach ≤ more → IsSound shape from to reach x → IsSound shape from to more x
+  sound_more from to reach more x h s = record { begins = s.begins; ends = s.ends; limited = s.limited; bases = λ p i. reached_more reach more (shape.base p) h (s.bases p i) }

@@ -11,6 +11,7 @@ use Rattle.rational.proofs.AffineLemmas.{bounded_same, same_symᵉ, same_trans�
 use Rattle.rational.proofs.Mixed.{tick_within}
 use Rattle.frac128.specs.Value.{value}
 use Rattle.frac128.specs.declared.frac.Frac.{Frac}
+use Rattle.value_laws.specs.Members.{ShapeOf}
 use Rattle.pl_signal.specs.declared.knot.Knot.{Knot}
 use Rattle.pl_signal.specs.Knots.{start, stop, HasShape, IsSignal, IsWorth}
 use Rattle.pl_signal.specs.Building.{GoesOn}
@@ -34,14 +35,14 @@ tick_order {a} {b} n m h e f = lt_of_le_of_lt (le_of_same e) (lt_of_lt_of_le (lt
     below : (n m : ℕ) → n < m → pos n <ℤ pos m
     below n m h = omega (arith, ints, h)
 
-module _ {P : Type 0} (function : P → Affine) where
-  line_is_function : (p : P) → IsFunction (Passes (function p))
+module _ {P : Type 0} (shape : ShapeOf P) where
+  line_is_function : (p : P) → IsFunction (Passes (shape.function p))
   line_is_function p = record {
-    alike = λ t u v w e f h. same_transᵉ w v (value_at (function p) u) (same_symᵉ v w f) (same_transᵉ v (value_at (function p) t) (value_at (function p) u) h (value_same (function p) e));
-    one = λ t v w a b. same_transᵉ v (value_at (function p) t) w a (same_symᵉ w (value_at (function p) t) b);
+    alike = λ t u v w e f h. same_transᵉ w v (value_at (shape.function p) u) (same_symᵉ v w f) (same_transᵉ v (value_at (shape.function p) t) (value_at (shape.function p) u) h (value_same (shape.function p) e));
+    one = λ t v w a b. same_transᵉ v (value_at (shape.function p) t) w a (same_symᵉ w (value_at (shape.function p) t) b);
   }
 
-  instant_worth : (at : Frac) (p : P) (t : Rational) (v : Extended) → IsWorth function (instant at p) t v → Passes (function p) t v
+  instant_worth : (at : Frac) (p : P) (t : Rational) (v : Extended) → IsWorth shape (instant at p) t v → Passes (shape.function p) t v
   instant_worth at p t v (inl w) = w.worth
   instant_worth at p t v (inr (inl w)) = absurd w
   instant_worth at p t v (inr (inr w)) = absurd w
@@ -52,26 +53,26 @@ module _ {P : Type 0} (function : P → Affine) where
   instant_shape at p q (inr (inr e)) = absurd e
 
   -- where the domain is one instant
-  pub steady_once : (r : List (Knot P)) (at : Frac) (p : P) (from to : Rational) → IsSignal function r → r ≡ instant at p → value at ≈ from → from ≈ to → Tells function (Passes (function p)) from to r
+  pub steady_once : (r : List (Knot P)) (at : Frac) (p : P) (from to : Rational) → IsSignal shape r → r ≡ instant at p → value at ≈ from → from ≈ to → Tells shape (Passes (shape.function p)) from to r
   steady_once r at p from to signal e begins ends =
-      told function (Passes (function p)) from to r (line_is_function p) (record { signal = signal; worth = λ t v w. instant_worth at p t v (subst (λ r. IsWorth function r t v) e w) })
+      told shape (Passes (shape.function p)) from to r (line_is_function p) (record { signal = signal; worth = λ t v w. instant_worth at p t v (subst (λ r. IsWorth shape r t v) e w) })
       (subst (λ r. start r ≈ from) (sym e) begins) (subst (λ r. stop r ≈ to) (sym e) (same_trans begins ends))
 
   pub steady_once_shapes : (r : List (Knot P)) (at : Frac) (p : P) → r ≡ instant at p → (q : P) → HasShape r q → q ≡ p
   steady_once_shapes r at p e q h = instant_shape at p q (subst (λ r. HasShape r q) e h)
 
   -- where it is longer
-  pub steady_twice : (old new : List (Knot P)) (at till : Frac) (p : P) (from to : Rational) → old ≡ instant at p → GoesOn function old p till p new → value at ≈ from → value till ≈ to → Tells function (Passes (function p)) from to new
+  pub steady_twice : (old new : List (Knot P)) (at till : Frac) (p : P) (from to : Rational) → old ≡ instant at p → GoesOn shape old p till p new → value at ≈ from → value till ≈ to → Tells shape (Passes (shape.function p)) from to new
   steady_twice old new at till p from to e on begins ends =
-      told function (Passes (function p)) from to new (line_is_function p) (record { signal = on.signal; worth = λ t v w. by_part t v ((on.worth t v).0 w) })
+      told shape (Passes (shape.function p)) from to new (line_is_function p) (record { signal = on.signal; worth = λ t v w. by_part t v ((on.worth t v).0 w) })
       (subst (λ s. s ≈ from) (sym on.begins) (subst (λ r. start r ≈ from) (sym e) begins)) (subst (λ s. s ≈ to) (sym on.ends) ends)
     where
-      by_part : (t : Rational) (v : Extended) → IsWorth function old t v ⊎ ((stop old <ʳ t) × (t <ʳ value till) × Passes (function p) t v) ⊎ ((t ≈ value till) × Passes (function p) t v) → Passes (function p) t v
-      by_part t v (inl w) = instant_worth at p t v (subst (λ r. IsWorth function r t v) e w)
+      by_part : (t : Rational) (v : Extended) → IsWorth shape old t v ⊎ ((stop old <ʳ t) × (t <ʳ value till) × Passes (shape.function p) t v) ⊎ ((t ≈ value till) × Passes (shape.function p) t v) → Passes (shape.function p) t v
+      by_part t v (inl w) = instant_worth at p t v (subst (λ r. IsWorth shape r t v) e w)
       by_part t v (inr (inl w)) = w.2
       by_part t v (inr (inr w)) = w.1
 
-  pub steady_twice_shapes : (old new : List (Knot P)) (at till : Frac) (p : P) → old ≡ instant at p → GoesOn function old p till p new → (q : P) → HasShape new q → q ≡ p
+  pub steady_twice_shapes : (old new : List (Knot P)) (at till : Frac) (p : P) → old ≡ instant at p → GoesOn shape old p till p new → (q : P) → HasShape new q → q ≡ p
   steady_twice_shapes old new at till p e on q h = by_part (on.shapes q h)
     where
       by_part : HasShape old q ⊎ (q ≡ p) ⊎ (q ≡ p) → q ≡ p
@@ -80,34 +81,34 @@ module _ {P : Type 0} (function : P → Affine) where
       by_part (inr (inr w)) = w
 
   -- it is sound, since its one shape is bounded and does not move
-  pub steady_sound : (base : P → ℤ) (from to : ℕ) (r : List (Knot P)) (p : P) → from ≤ to → to < 2 ^ 32 → Tells function (Passes (function p)) (whole (pos from)) (whole (pos to)) r
-      → ((q : P) → HasShape r q → q ≡ p) → base p ≡ pos 0 → ((t : Rational) → IsBounded (2 ^ 31) (value_at (function p) t)) → IsSound function base from to 0 r
-  steady_sound base from to r p order small tells shapes still bounded = record {
+  pub steady_sound : (from to : ℕ) (r : List (Knot P)) (p : P) → from ≤ to → to < 2 ^ 32 → Tells shape (Passes (shape.function p)) (whole (pos from)) (whole (pos to)) r
+      → ((q : P) → HasShape r q → q ≡ p) → shape.base p ≡ pos 0 → ((t : Rational) → IsBounded (2 ^ 31) (value_at (shape.function p) t)) → IsSound shape from to 0 r
+  steady_sound from to r p order small tells shapes still bounded = record {
     begins = tells.begins;
     ends = tells.ends;
-    limited = limited function r tells.signal (λ t v w. bounded_same (2 ^ 31) v (value_at (function p) t) ((tells.worth t v).0 w).1 (bounded t))
+    limited = limited shape r tells.signal (λ t v w. bounded_same (2 ^ 31) v (value_at (shape.function p) t) ((tells.worth t v).0 w).1 (bounded t))
         (tick_within from (omega (arith, order, small)) tells.begins) (tick_within to small tells.ends);
-    bases = λ q h. reached_zero 0 (base q) (subst (λ q. base q ≡ pos 0) (sym (shapes q h)) still);
+    bases = λ q h. reached_zero 0 (shape.base q) (subst (λ q. shape.base q ≡ pos 0) (sym (shapes q h)) still);
   }
 
 -- true has the greatest value, and false the least
-pub told_constant : {P : Type 0} (function : P → Affine) (lowest highest : Extended) (from to : ℕ) (holds : Bool) (p : P) (r : List (Knot P)) → Tells function (Passes (function p)) (whole (pos from)) (whole (pos to)) r
-    → MatchBool holds ((t : Rational) → value_at (function p) t ≈ᵉ highest) ((t : Rational) → value_at (function p) t ≈ᵉ lowest) → (s : Setting) → IsOver lowest highest from to s → TellsValue function s (constant holds) r
-told_constant function lowest highest from to holds p r tells value s over =
-    tells_along function (Passes (function p)) (SupInf (constant holds) s) (whole (pos from)) (whole (pos to)) s.from s.to r tells (same_of (sym over.from)) (same_of (sym over.to)) (λ t v i. by_value holds value t v)
+pub told_constant : {P : Type 0} (shape : ShapeOf P) (from to : ℕ) (holds : Bool) (p : P) (r : List (Knot P)) → Tells shape (Passes (shape.function p)) (whole (pos from)) (whole (pos to)) r
+    → MatchBool holds ((t : Rational) → value_at (shape.function p) t ≈ᵉ shape.highest) ((t : Rational) → value_at (shape.function p) t ≈ᵉ shape.lowest) → (s : Setting) → IsOver shape.lowest shape.highest from to s → TellsValue shape s (constant holds) r
+told_constant shape from to holds p r tells value s over =
+    tells_along shape (Passes (shape.function p)) (SupInf (constant holds) s) (whole (pos from)) (whole (pos to)) s.from s.to r tells (same_of (sym over.from)) (same_of (sym over.to)) (λ t v i. by_value holds value t v)
   where
     same_of : {a b : Rational} → a ≡ b → a ≈ b
     same_of {a} e = subst (λ b. a ≈ b) e (same_refl a)
 
-    by_value : (holds : Bool) → MatchBool holds ((t : Rational) → value_at (function p) t ≈ᵉ highest) ((t : Rational) → value_at (function p) t ≈ᵉ lowest) → (t : Rational) (v : Extended)
-        → (Passes (function p) t v → SupInf (constant holds) s t v) × (SupInf (constant holds) s t v → Passes (function p) t v)
+    by_value : (holds : Bool) → MatchBool holds ((t : Rational) → value_at (shape.function p) t ≈ᵉ shape.highest) ((t : Rational) → value_at (shape.function p) t ≈ᵉ shape.lowest) → (t : Rational) (v : Extended)
+        → (Passes (shape.function p) t v → SupInf (constant holds) s t v) × (SupInf (constant holds) s t v → Passes (shape.function p) t v)
     by_value true h t v = (
-      λ w. same_transᵉ v (value_at (function p) t) s.highest w (subst (λ x. value_at (function p) t ≈ᵉ x) (sym over.highest) (h t)),
-      λ w. same_transᵉ v s.highest (value_at (function p) t) w (same_symᵉ (value_at (function p) t) s.highest (subst (λ x. value_at (function p) t ≈ᵉ x) (sym over.highest) (h t))),
+      λ w. same_transᵉ v (value_at (shape.function p) t) s.highest w (subst (λ x. value_at (shape.function p) t ≈ᵉ x) (sym over.highest) (h t)),
+      λ w. same_transᵉ v s.highest (value_at (shape.function p) t) w (same_symᵉ (value_at (shape.function p) t) s.highest (subst (λ x. value_at (shape.function p) t ≈ᵉ x) (sym over.highest) (h t))),
     )
     by_value false h t v = (
-      λ w. same_transᵉ v (value_at (function p) t) s.lowest w (subst (λ x. value_at (function p) t ≈ᵉ x) (sym over.lowest) (h t)),
-      λ w. same_transᵉ v s.lowest (value_at (function p) t) w (same_symᵉ (value_at (function p) t) s.lowest (subst (λ x. value_at (function p) t ≈ᵉ x) (sym over.lowest) (h t))),
+      λ w. same_transᵉ v (value_at (shape.function p) t) s.lowest w (subst (λ x. value_at (shape.function p) t ≈ᵉ x) (sym over.lowest) (h t)),
+      λ w. same_transᵉ v s.lowest (value_at (shape.function p) t) w (same_symᵉ (value_at (shape.function p) t) s.lowest (subst (λ x. value_at (shape.function p) t ≈ᵉ x) (sym over.lowest) (h t))),
     )
 
 -- the extreme values are bounded

@@ -10,6 +10,7 @@ use Rattle.rational.specs.InPlay.{Step, window_ahead, window_behind, IsInPlay}
 use Rattle.rational.proofs.Order.{le_trans, lt_of_le_of_lt, le_of_same, ge_of_same, same_sym}
 use Rattle.rational.proofs.Shift.{lt_whole}
 use Rattle.rational.proofs.WindowLemmas.{sup_alike, inf_alike}
+use Rattle.value_laws.specs.Members.{ShapeOf}
 use Rattle.pl_signal.specs.declared.knot.Knot.{Knot}
 use Rattle.pl_signal.specs.declared.faults.WidePair.TheVariants.{Cross, Value}
 use Rattle.pl_signal.specs.declared.faults.OpFault.{OpFault}
@@ -38,9 +39,9 @@ use Rattle.offline_eval.proofs.InPlay.{ahead_ends, behind_ends, ahead_along, beh
 pub before_end : {t : Rational} → t ≤ʳ whole (pos (2 ^ 32 - 1)) → t <ʳ whole (pos (2 ^ 32))
 before_end h = lt_of_le_of_lt h (lt_whole {j = pos (2 ^ 32 - 1)} {k = pos (2 ^ 32)} (omega (arith, ints)))
 
-module _ {P : Type 0} (function : P → Affine) where
+module _ {P : Type 0} (shape : ShapeOf P) where
   -- a signal is what it tells on the domain, and nothing elsewhere
-  pub on_of : (F : Function) (from to : Rational) (x : List (Knot P)) → Tells function F from to x → IsOn (start x) (stop x) (IsWorth function x) F
+  pub on_of : (F : Function) (from to : Rational) (x : List (Knot P)) → Tells shape F from to x → IsOn (start x) (stop x) (IsWorth shape x) F
   on_of F from to x tells = record {
     inside = λ t v w. let i = ((tells.worth t v).0 w).0 in record { above = le_trans (le_of_same tells.begins) i.above; below = le_trans i.below (ge_of_same tells.ends) };
     forth = λ t v w. ((tells.worth t v).0 w).1;
@@ -48,69 +49,69 @@ module _ {P : Type 0} (function : P → Affine) where
   }
 
   -- the Sup over a window of what a signal tells
-  pub sup_of : (F : Function) (from to : Rational) (x : List (Knot P)) (W W' : Window) (lowest r : Extended) → Tells function F from to x → ((u : Rational) → W u → W' u) → ((u : Rational) → W' u → W u) → ((u : Rational) → W' u → Within from to u)
-      → (IsSupOver lowest W (IsWorth function x) r → IsSupOver lowest W' F r) × (IsSupOver lowest W' F r → IsSupOver lowest W (IsWorth function x) r)
-  sup_of F from to x W W' lowest r tells forth back inside = (
-    sup_alike lowest r (λ v (u, w, f). (u, forth u w, ((tells.worth u v).0 f).1)) (λ v (u, w, f). (u, back u w, (tells.worth u v).1 (inside u w, f))),
-    sup_alike lowest r (λ v (u, w, f). (u, back u w, (tells.worth u v).1 (inside u w, f))) (λ v (u, w, f). (u, forth u w, ((tells.worth u v).0 f).1)),
+  pub sup_of : (F : Function) (from to : Rational) (x : List (Knot P)) (W W' : Window) (r : Extended) → Tells shape F from to x → ((u : Rational) → W u → W' u) → ((u : Rational) → W' u → W u) → ((u : Rational) → W' u → Within from to u)
+      → (IsSupOver shape.lowest W (IsWorth shape x) r → IsSupOver shape.lowest W' F r) × (IsSupOver shape.lowest W' F r → IsSupOver shape.lowest W (IsWorth shape x) r)
+  sup_of F from to x W W' r tells forth back inside = (
+    sup_alike shape.lowest r (λ v (u, w, f). (u, forth u w, ((tells.worth u v).0 f).1)) (λ v (u, w, f). (u, back u w, (tells.worth u v).1 (inside u w, f))),
+    sup_alike shape.lowest r (λ v (u, w, f). (u, back u w, (tells.worth u v).1 (inside u w, f))) (λ v (u, w, f). (u, forth u w, ((tells.worth u v).0 f).1)),
   )
 
-  pub inf_of : (F : Function) (from to : Rational) (x : List (Knot P)) (W W' : Window) (highest r : Extended) → Tells function F from to x → ((u : Rational) → W u → W' u) → ((u : Rational) → W' u → W u) → ((u : Rational) → W' u → Within from to u)
-      → (IsInfOver highest W (IsWorth function x) r → IsInfOver highest W' F r) × (IsInfOver highest W' F r → IsInfOver highest W (IsWorth function x) r)
-  inf_of F from to x W W' highest r tells forth back inside = (
-    inf_alike highest r (λ v (u, w, f). (u, forth u w, ((tells.worth u v).0 f).1)) (λ v (u, w, f). (u, back u w, (tells.worth u v).1 (inside u w, f))),
-    inf_alike highest r (λ v (u, w, f). (u, back u w, (tells.worth u v).1 (inside u w, f))) (λ v (u, w, f). (u, forth u w, ((tells.worth u v).0 f).1)),
+  pub inf_of : (F : Function) (from to : Rational) (x : List (Knot P)) (W W' : Window) (r : Extended) → Tells shape F from to x → ((u : Rational) → W u → W' u) → ((u : Rational) → W' u → W u) → ((u : Rational) → W' u → Within from to u)
+      → (IsInfOver shape.highest W (IsWorth shape x) r → IsInfOver shape.highest W' F r) × (IsInfOver shape.highest W' F r → IsInfOver shape.highest W (IsWorth shape x) r)
+  inf_of F from to x W W' r tells forth back inside = (
+    inf_alike shape.highest r (λ v (u, w, f). (u, forth u w, ((tells.worth u v).0 f).1)) (λ v (u, w, f). (u, back u w, (tells.worth u v).1 (inside u w, f))),
+    inf_alike shape.highest r (λ v (u, w, f). (u, back u w, (tells.worth u v).1 (inside u w, f))) (λ v (u, w, f). (u, forth u w, ((tells.worth u v).0 f).1)),
   )
 
-  module _ (F : Function) (from to : Rational) (x r : List (Knot P)) (tells : Tells function F from to x) where
-    pub sup_ahead_told : (lowest : Extended) (a b : ℕ) (a_in b_in : Bool) → Tells function (SupAhead (start x) (stop x) (IsWorth function x) lowest a b a_in b_in) (start x) (stop x) r
-        → Tells function (λ t v. IsSupOver lowest (Ahead from to a b a_in b_in t) F v) from to r
-    sup_ahead_told lowest a b a_in b_in made = tells_along function _ _ (start x) (stop x) from to r made tells.begins tells.ends
-        (λ t v i. sup_of F from to x (Ahead (start x) (stop x) a b a_in b_in t) (Ahead from to a b a_in b_in t) lowest v tells
+  module _ (F : Function) (from to : Rational) (x r : List (Knot P)) (tells : Tells shape F from to x) where
+    pub sup_ahead_told : (a b : ℕ) (a_in b_in : Bool) → Tells shape (SupAhead (start x) (stop x) (IsWorth shape x) shape.lowest a b a_in b_in) (start x) (stop x) r
+        → Tells shape (λ t v. IsSupOver shape.lowest (Ahead from to a b a_in b_in t) F v) from to r
+    sup_ahead_told a b a_in b_in made = tells_along shape _ _ (start x) (stop x) from to r made tells.begins tells.ends
+        (λ t v i. sup_of F from to x (Ahead (start x) (stop x) a b a_in b_in t) (Ahead from to a b a_in b_in t) v tells
         (λ u w. ahead_ends (start x) (stop x) from to tells.begins tells.ends w) (λ u w. ahead_ends from to (start x) (stop x) (same_sym tells.begins) (same_sym tells.ends) w) (λ u w. w.inside))
 
-    pub inf_ahead_told : (highest : Extended) (a b : ℕ) (a_in b_in : Bool) → Tells function (InfAhead (start x) (stop x) (IsWorth function x) highest a b a_in b_in) (start x) (stop x) r
-        → Tells function (λ t v. IsInfOver highest (Ahead from to a b a_in b_in t) F v) from to r
-    inf_ahead_told highest a b a_in b_in made = tells_along function _ _ (start x) (stop x) from to r made tells.begins tells.ends
-        (λ t v i. inf_of F from to x (Ahead (start x) (stop x) a b a_in b_in t) (Ahead from to a b a_in b_in t) highest v tells
+    pub inf_ahead_told : (a b : ℕ) (a_in b_in : Bool) → Tells shape (InfAhead (start x) (stop x) (IsWorth shape x) shape.highest a b a_in b_in) (start x) (stop x) r
+        → Tells shape (λ t v. IsInfOver shape.highest (Ahead from to a b a_in b_in t) F v) from to r
+    inf_ahead_told a b a_in b_in made = tells_along shape _ _ (start x) (stop x) from to r made tells.begins tells.ends
+        (λ t v i. inf_of F from to x (Ahead (start x) (stop x) a b a_in b_in t) (Ahead from to a b a_in b_in t) v tells
         (λ u w. ahead_ends (start x) (stop x) from to tells.begins tells.ends w) (λ u w. ahead_ends from to (start x) (stop x) (same_sym tells.begins) (same_sym tells.ends) w) (λ u w. w.inside))
 
-    pub sup_behind_told : (lowest : Extended) (a : ℕ) (b : Option ℕ) (a_in b_in : Bool) → Tells function (SupBehind (start x) (stop x) (IsWorth function x) lowest a b a_in b_in) (start x) (stop x) r
-        → Tells function (λ t v. IsSupOver lowest (Behind from to a b a_in b_in t) F v) from to r
-    sup_behind_told lowest a b a_in b_in made = tells_along function _ _ (start x) (stop x) from to r made tells.begins tells.ends
-        (λ t v i. sup_of F from to x (Behind (start x) (stop x) a b a_in b_in t) (Behind from to a b a_in b_in t) lowest v tells
+    pub sup_behind_told : (a : ℕ) (b : Option ℕ) (a_in b_in : Bool) → Tells shape (SupBehind (start x) (stop x) (IsWorth shape x) shape.lowest a b a_in b_in) (start x) (stop x) r
+        → Tells shape (λ t v. IsSupOver shape.lowest (Behind from to a b a_in b_in t) F v) from to r
+    sup_behind_told a b a_in b_in made = tells_along shape _ _ (start x) (stop x) from to r made tells.begins tells.ends
+        (λ t v i. sup_of F from to x (Behind (start x) (stop x) a b a_in b_in t) (Behind from to a b a_in b_in t) v tells
         (λ u w. behind_ends (start x) (stop x) from to tells.begins tells.ends w) (λ u w. behind_ends from to (start x) (stop x) (same_sym tells.begins) (same_sym tells.ends) w) (λ u w. w.inside))
 
-    pub inf_behind_told : (highest : Extended) (a : ℕ) (b : Option ℕ) (a_in b_in : Bool) → Tells function (InfBehind (start x) (stop x) (IsWorth function x) highest a b a_in b_in) (start x) (stop x) r
-        → Tells function (λ t v. IsInfOver highest (Behind from to a b a_in b_in t) F v) from to r
-    inf_behind_told highest a b a_in b_in made = tells_along function _ _ (start x) (stop x) from to r made tells.begins tells.ends
-        (λ t v i. inf_of F from to x (Behind (start x) (stop x) a b a_in b_in t) (Behind from to a b a_in b_in t) highest v tells
+    pub inf_behind_told : (a : ℕ) (b : Option ℕ) (a_in b_in : Bool) → Tells shape (InfBehind (start x) (stop x) (IsWorth shape x) shape.highest a b a_in b_in) (start x) (stop x) r
+        → Tells shape (λ t v. IsInfOver shape.highest (Behind from to a b a_in b_in t) F v) from to r
+    inf_behind_told a b a_in b_in made = tells_along shape _ _ (start x) (stop x) from to r made tells.begins tells.ends
+        (λ t v i. inf_of F from to x (Behind (start x) (stop x) a b a_in b_in t) (Behind from to a b a_in b_in t) v tells
         (λ u w. behind_ends (start x) (stop x) from to tells.begins tells.ends w) (λ u w. behind_ends from to (start x) (stop x) (same_sym tells.begins) (same_sym tells.ends) w) (λ u w. w.inside))
 
   -- the Sup and the Inf over a window of a limited signal are bounded
-  pub sup_over_bounded : (lowest : Extended) (x : List (Knot P)) (W : Window) (r : Extended) → IsBounded (2 ^ 31) lowest → IsLimited function x → IsSupOver lowest W (IsWorth function x) r → IsBounded (2 ^ 31) r
-  sup_over_bounded lowest x W r low limited sup = sup_bounded (2 ^ 31) _ lowest r low (λ v (u, w, f). worth_bounded function x limited u v f) sup
+  pub sup_over_bounded : (x : List (Knot P)) (W : Window) (r : Extended) → IsBounded (2 ^ 31) shape.lowest → IsLimited shape x → IsSupOver shape.lowest W (IsWorth shape x) r → IsBounded (2 ^ 31) r
+  sup_over_bounded x W r low limited sup = sup_bounded (2 ^ 31) _ shape.lowest r low (λ v (u, w, f). worth_bounded shape x limited u v f) sup
 
-  pub inf_over_bounded : (highest : Extended) (x : List (Knot P)) (W : Window) (r : Extended) → IsBounded (2 ^ 31) highest → IsLimited function x → IsInfOver highest W (IsWorth function x) r → IsBounded (2 ^ 31) r
-  inf_over_bounded highest x W r high limited inf = inf_bounded (2 ^ 31) highest _ r inf high (λ v (u, w, f). worth_bounded function x limited u v f)
+  pub inf_over_bounded : (x : List (Knot P)) (W : Window) (r : Extended) → IsBounded (2 ^ 31) shape.highest → IsLimited shape x → IsInfOver shape.highest W (IsWorth shape x) r → IsBounded (2 ^ 31) r
+  inf_over_bounded x W r high limited inf = inf_bounded (2 ^ 31) shape.highest _ r inf high (λ v (u, w, f). worth_bounded shape x limited u v f)
 
   -- a cause in a step that is one of the formula's is a fault of the formula
   pub cause_of : (step other : Step) (from to : Rational) (p : Subformula) (s : Setting) (e : OpFault P) → from ≈ s.from → to ≈ s.to
       → ((tau : Rational) (line : Affine) → from <ʳ tau → tau <ʳ to → IsInPlay step from to tau line → IsInPlay other s.from s.to tau line)
-      → ((C : Step → Type 0) → C other → IsStepOf p s C) → HasCause function step from to e → IsFaultOf function s p e
+      → ((C : Step → Type 0) → C other → IsStepOf p s C) → HasCause shape step from to e → IsFaultOf shape s p e
   cause_of step other from to p s F.Memory begins ends forth is h = tt
-  cause_of step other from to p s (F.Wide (Cross a b l r den)) begins ends forth is h = crossing_along _ _ from to s.from s.to begins ends (λ tau line k l i. is (λ step. IsInPlay step s.from s.to tau line) (forth tau line k l i)) (function a) (function b) (value l) (value r) den h
-  cause_of step other from to p s (F.Wide (Value a at den)) begins ends forth is h = value_along _ _ from to s.from s.to begins ends (λ tau line k l i. is (λ step. IsInPlay step s.from s.to tau line) (forth tau line k l i)) (function a) (value at) den h
+  cause_of step other from to p s (F.Wide (Cross a b l r den)) begins ends forth is h = crossing_along _ _ from to s.from s.to begins ends (λ tau line k l i. is (λ step. IsInPlay step s.from s.to tau line) (forth tau line k l i)) (shape.function a) (shape.function b) (value l) (value r) den h
+  cause_of step other from to p s (F.Wide (Value a at den)) begins ends forth is h = value_along _ _ from to s.from s.to begins ends (λ tau line k l i. is (λ step. IsInPlay step s.from s.to tau line) (forth tau line k l i)) (shape.function a) (value at) den h
 
-  pub ahead_cause : (F : Function) (x : List (Knot P)) (a b : ℕ) (a_in b_in : Bool) (p : Subformula) (s : Setting) (e : OpFault P) → Tells function F s.from s.to x → ((C : Step → Type 0) → C (window_ahead F a b a_in b_in) → IsStepOf p s C)
-      → HasCause function (window_ahead (IsWorth function x) a b a_in b_in) (start x) (stop x) e → IsFaultOf function s p e
-  ahead_cause F x a b a_in b_in p s e tells is h = cause_of (window_ahead (IsWorth function x) a b a_in b_in) (window_ahead F a b a_in b_in) (start x) (stop x) p s e tells.begins tells.ends
-      (λ tau line k l i. ahead_along (start x) (stop x) s.from s.to tells.begins tells.ends (IsWorth function x) F (on_of F s.from s.to x tells) a b a_in b_in tau line i) is h
+  pub ahead_cause : (F : Function) (x : List (Knot P)) (a b : ℕ) (a_in b_in : Bool) (p : Subformula) (s : Setting) (e : OpFault P) → Tells shape F s.from s.to x → ((C : Step → Type 0) → C (window_ahead F a b a_in b_in) → IsStepOf p s C)
+      → HasCause shape (window_ahead (IsWorth shape x) a b a_in b_in) (start x) (stop x) e → IsFaultOf shape s p e
+  ahead_cause F x a b a_in b_in p s e tells is h = cause_of (window_ahead (IsWorth shape x) a b a_in b_in) (window_ahead F a b a_in b_in) (start x) (stop x) p s e tells.begins tells.ends
+      (λ tau line k l i. ahead_along (start x) (stop x) s.from s.to tells.begins tells.ends (IsWorth shape x) F (on_of F s.from s.to x tells) a b a_in b_in tau line i) is h
 
-  pub behind_cause : (F : Function) (x : List (Knot P)) (a : ℕ) (b : Option ℕ) (a_in b_in : Bool) (p : Subformula) (s : Setting) (e : OpFault P) → Tells function F s.from s.to x → ((C : Step → Type 0) → C (window_behind F a b a_in b_in) → IsStepOf p s C)
-      → HasCause function (window_behind (IsWorth function x) a b a_in b_in) (start x) (stop x) e → IsFaultOf function s p e
-  behind_cause F x a b a_in b_in p s e tells is h = cause_of (window_behind (IsWorth function x) a b a_in b_in) (window_behind F a b a_in b_in) (start x) (stop x) p s e tells.begins tells.ends
-      (λ tau line k l i. behind_along (start x) (stop x) s.from s.to tells.begins tells.ends (IsWorth function x) F (on_of F s.from s.to x tells) a b a_in b_in tau line i) is h
+  pub behind_cause : (F : Function) (x : List (Knot P)) (a : ℕ) (b : Option ℕ) (a_in b_in : Bool) (p : Subformula) (s : Setting) (e : OpFault P) → Tells shape F s.from s.to x → ((C : Step → Type 0) → C (window_behind F a b a_in b_in) → IsStepOf p s C)
+      → HasCause shape (window_behind (IsWorth shape x) a b a_in b_in) (start x) (stop x) e → IsFaultOf shape s p e
+  behind_cause F x a b a_in b_in p s e tells is h = cause_of (window_behind (IsWorth shape x) a b a_in b_in) (window_behind F a b a_in b_in) (start x) (stop x) p s e tells.begins tells.ends
+      (λ tau line k l i. behind_along (start x) (stop x) s.from s.to tells.begins tells.ends (IsWorth shape x) F (on_of F s.from s.to x tells) a b a_in b_in tau line i) is h
 
 -- bases that a window moved
 moved_ahead : (a b : ℕ) (old new : ℤ) → a ≤ b → (new ≡ old -ℤ pos a) ⊎ (new ≡ old -ℤ pos b) → IsMovedBy b old new
@@ -120,26 +121,26 @@ moved_ahead a b old new o (inr e) = record { not_less = omega (arith, ints, o, e
 moved_more : (a b : ℕ) (old new : ℤ) → a ≤ b → new ≡ old +ℤ pos a → IsMovedBy b old new
 moved_more a b old new o e = record { not_less = omega (arith, ints, o, e); not_more = omega (arith, ints, o, e) }
 
-module _ {P : Type 0} (moves : P → Bool) (base : P → ℤ) where
+module _ {P : Type 0} (shape : ShapeOf P) where
   -- the shape of the old signal from which one of the new signal was made
   abbrev pub ComesFrom : ℕ → List (Knot P) → P → Type 0
-  ComesFrom own x p = (q : P) × HasShape x q × IsTrue (moves q) × IsMovedBy own (base q) (base p)
+  ComesFrom own x p = (q : P) × HasShape x q × IsTrue (shape.moves q) × IsMovedBy own (shape.base q) (shape.base p)
 
-  pub ahead_from : (a b : ℕ) (x r : List (Knot P)) → a ≤ b → BasesAhead moves base a b x r → (p : P) → HasShape r p → IsTrue (moves p) → ComesFrom b x p
-  ahead_from a b x r o bases p h m = let f = bases p h m in (f.0, f.1, f.2, moved_ahead a b (base f.0) (base p) o f.3)
+  pub ahead_from : (a b : ℕ) (x r : List (Knot P)) → a ≤ b → BasesAhead shape a b x r → (p : P) → HasShape r p → IsTrue (shape.moves p) → ComesFrom b x p
+  ahead_from a b x r o bases p h m = let f = bases p h m in (f.0, f.1, f.2, moved_ahead a b (shape.base f.0) (shape.base p) o f.3)
 
-  pub behind_from : (a : ℕ) (b : Option ℕ) (x r : List (Knot P)) → IsInOrder a b → BasesBehind moves base a b x r → (p : P) → HasShape r p → IsTrue (moves p) → ComesFrom (reach_of_bound a b) x p
-  behind_from a None x r o bases p h m = let f = bases p h m in (f.0, f.1, f.2, moved_more a a (base f.0) (base p) (omega arith) f.3)
-  behind_from a (Some b) x r o bases p h m = let f = bases p h m in (f.0, f.1, f.2, by_one (base f.0) (base p) f.3)
+  pub behind_from : (a : ℕ) (b : Option ℕ) (x r : List (Knot P)) → IsInOrder a b → BasesBehind shape a b x r → (p : P) → HasShape r p → IsTrue (shape.moves p) → ComesFrom (reach_of_bound a b) x p
+  behind_from a None x r o bases p h m = let f = bases p h m in (f.0, f.1, f.2, moved_more a a (shape.base f.0) (shape.base p) (omega arith) f.3)
+  behind_from a (Some b) x r o bases p h m = let f = bases p h m in (f.0, f.1, f.2, by_one (shape.base f.0) (shape.base p) f.3)
     where
       by_one : (old new : ℤ) → (new ≡ old +ℤ pos a) ⊎ (new ≡ old +ℤ pos b) → IsMovedBy b old new
       by_one old new (inl e) = moved_more a b old new o e
       by_one old new (inr e) = moved_more b b old new (omega arith) e
 
-  pub ahead_moved : (a b : ℕ) (x r : List (Knot P)) → a ≤ b → BasesAhead moves base a b x r → (p : P) → HasShape r p → IsTrue (moves p) → (q : P) × HasShape x q × IsMovedBy b (base q) (base p)
+  pub ahead_moved : (a b : ℕ) (x r : List (Knot P)) → a ≤ b → BasesAhead shape a b x r → (p : P) → HasShape r p → IsTrue (shape.moves p) → (q : P) × HasShape x q × IsMovedBy b (shape.base q) (shape.base p)
   ahead_moved a b x r o bases p h m = let f = ahead_from a b x r o bases p h m in (f.0, f.1, f.3)
 
-  pub behind_moved : (a : ℕ) (b : Option ℕ) (x r : List (Knot P)) → IsInOrder a b → BasesBehind moves base a b x r → (p : P) → HasShape r p → IsTrue (moves p) → (q : P) × HasShape x q × IsMovedBy (reach_of_bound a b) (base q) (base p)
+  pub behind_moved : (a : ℕ) (b : Option ℕ) (x r : List (Knot P)) → IsInOrder a b → BasesBehind shape a b x r → (p : P) → HasShape r p → IsTrue (shape.moves p) → (q : P) × HasShape x q × IsMovedBy (reach_of_bound a b) (shape.base q) (shape.base p)
   behind_moved a b x r o bases p h m = let f = behind_from a b x r o bases p h m in (f.0, f.1, f.3)
 
 -- bounds in order

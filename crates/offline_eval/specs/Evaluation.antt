@@ -2,6 +2,7 @@
 use Rattle.std.specs.Prelude.{◌≡◌, ◌<◌, ℕ, List, length, Some, slice_get}
 use Rattle.rational.specs.Extended.{Affine}
 use Rattle.frac128.specs.Value.{value}
+use Rattle.value_laws.specs.Members.{ShapeOf}
 use Rattle.pl_signal.specs.declared.knot.Knot.{Knot}
 use Rattle.pl_signal.specs.declared.faults.WidePair.{WidePair}
 use Rattle.pl_signal.specs.declared.faults.WidePair.TheVariants.{Cross, Value}
@@ -13,17 +14,17 @@ use Rattle.stl_syntax.specs.declared.node.Node.{Node}
 use Rattle.offline_eval.specs.declared.faults.EvalFault.{EvalFault}
 use Rattle.offline_eval.specs.declared.faults.EvalFault.TheVariants as F
 
-module _ {P : Type 0} (function : P → Affine) where
+module _ {P : Type 0} (shape : ShapeOf P) where
   -- the signal at each node's place tells over the domain the value of the node's subformula
   abbrev pub TellNodes : List Node → List (List (Knot P)) → Setting → Type 0
   TellNodes nodes signals s =
       (i : ℕ) → i < length nodes
-      → (x : List (Knot P)) × (slice_get signals i ≡ Some x) × Tells function (SupInf (subformula nodes i) s) s.from s.to x
+      → (x : List (Knot P)) × (slice_get signals i ≡ Some x) × Tells shape (SupInf (subformula nodes i) s) s.from s.to x
 
   -- the pair is in play at the node, and needs its denominator
   abbrev pub IsCauseAt : List Node → Setting → ℕ → WidePair P → Type 0
-  IsCauseAt nodes s i (Cross p q a b den) = IsCrossingCause nodes s i (function p) (function q) (value a) (value b) den
-  IsCauseAt nodes s i (Value p at den) = IsValueCause nodes s i (function p) (value at) den
+  IsCauseAt nodes s i (Cross p q a b den) = IsCrossingCause nodes s i (shape.function p) (shape.function q) (value a) (value b) den
+  IsCauseAt nodes s i (Value p at den) = IsValueCause nodes s i (shape.function p) (value at) den
 
   -- a fault is want of memory, or keeps a node and a pair in play there
   abbrev pub IsFault : List Node → Setting → EvalFault P → Type 0

@@ -2,6 +2,7 @@
 use Rattle.std.specs.Prelude.{◌≡◌, ◌<◌, ◌^◌, ℕ, ℤ, pos, ◌≤ℤ◌, ◌<ℤ◌, Bool, true, false, List, length, take, count_by, Some, slice_get}
 use Rattle.rational.specs.Time.{whole, ◌≈◌}
 use Rattle.rational.specs.Extended.{Extended, Affine}
+use Rattle.value_laws.specs.Members.{ShapeOf}
 use Rattle.pl_signal.specs.declared.knot.Knot.{Knot}
 use Rattle.pl_signal.specs.Knots.{start, stop, HasShape}
 use Rattle.pl_signal.specs.Limits.{IsLimited}
@@ -27,19 +28,19 @@ pub record IsOver (least greatest : Extended) (first last : ℕ) (s : Setting) :
   pub from : s.from ≡ whole (pos first)
   pub to : s.to ≡ whole (pos last)
 
-module _ {P : Type 0} (function : P → Affine) where
+module _ {P : Type 0} (shape : ShapeOf P) where
   -- a signal over the domain; its bases are times of 32 bits, and its values are infinite or within 2^31
-  pub record IsInput (base : P → ℤ) (from to : ℕ) (x : List (Knot P)) : Type 0 where
+  pub record IsInput (from to : ℕ) (x : List (Knot P)) : Type 0 where
     pub begins : start x ≈ whole (pos from)
     pub ends : stop x ≈ whole (pos to)
-    pub bases : (p : P) → HasShape x p → (pos 0 ≤ℤ base p) × (base p <ℤ pos (2 ^ 32))
-    pub limited : IsLimited function x
+    pub bases : (p : P) → HasShape x p → (pos 0 ≤ℤ shape.base p) × (shape.base p <ℤ pos (2 ^ 32))
+    pub limited : IsLimited shape x
 
   -- each atom among the first nodes has its signal, which tells over the domain what the setting's reading gives the atom
   abbrev pub TellAtomsBelow : ℕ → List Node → List (List (Knot P)) → Setting → Type 0
   TellAtomsBelow n nodes signals s =
       (i : ℕ) (a : Atom) → i < n → slice_get nodes i ≡ Some (Leaf a)
-      → (x : List (Knot P)) × (slice_get signals (atoms_before nodes i) ≡ Some x) × Tells function (Gives s.atoms i a) s.from s.to x
+      → (x : List (Knot P)) × (slice_get signals (atoms_before nodes i) ≡ Some x) × Tells shape (Gives s.atoms i a) s.from s.to x
 
   -- so has each atom
   abbrev pub TellAtoms : List Node → List (List (Knot P)) → Setting → Type 0

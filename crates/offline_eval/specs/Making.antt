@@ -2,6 +2,7 @@
 use Rattle.std.specs.Prelude.{◌≡◌, ℕ, ℤ, pos, neg_ℤ, ◌+◌, ◌-◌, ◌^◌, ◌≤ℤ◌, ◌<ℤ◌, List, Some, slice_get}
 use Rattle.rational.specs.Time.{whole, ◌≈◌, ◌≤ʳ◌}
 use Rattle.rational.specs.Extended.{Extended, Affine}
+use Rattle.value_laws.specs.Members.{ShapeOf}
 use Rattle.pl_signal.specs.declared.knot.Knot.{Knot}
 use Rattle.frac128.specs.Value.{value}
 use Rattle.pl_signal.specs.declared.faults.WidePair.{WidePair}
@@ -41,21 +42,21 @@ IsBehind (Once p a b a_in b_in) = Unit {0}
 IsBehind (Historically p a b a_in b_in) = Unit {0}
 IsBehind n = ⊥
 
-module _ {P : Type 0} (function : P → Affine) where
+module _ {P : Type 0} (shape : ShapeOf P) where
   -- two signals over one domain, with limited values
   pub record MayMeet (x y : List (Knot P)) : Type 0 where
-    pub left : IsLimited function x
-    pub right : IsLimited function y
+    pub left : IsLimited shape x
+    pub right : IsLimited shape y
     pub begins : start x ≈ start y
     pub ends : stop x ≈ stop y
 
-module _ {P : Type 0} (function : P → Affine) (base : P → ℤ) where
+module _ {P : Type 0} (shape : ShapeOf P) where
   -- what every step asks of a signal: times of 32 bits, limited values, and bases that windows may move
   pub record IsFit (x : List (Knot P)) : Type 0 where
-    pub limited : IsLimited function x
+    pub limited : IsLimited shape x
     pub first : whole (pos 0) ≤ʳ start x
     pub last : stop x ≤ʳ whole (pos (2 ^ 32 - 1))
-    pub near : (p : P) → HasShape x p → (neg_ℤ (pos (2 ^ 32)) ≤ℤ base p) × (base p ≤ℤ pos (2 ^ 33))
+    pub near : (p : P) → HasShape x p → (neg_ℤ (pos (2 ^ 32)) ≤ℤ shape.base p) × (shape.base p ≤ℤ pos (2 ^ 33))
 
   -- two such signals over one domain
   pub record AreFit (x y : List (Knot P)) : Type 0 where
@@ -68,8 +69,8 @@ module _ {P : Type 0} (function : P → Affine) (base : P → ℤ) where
   pub record IsSound (from to reach : ℕ) (x : List (Knot P)) : Type 0 where
     pub begins : start x ≈ whole (pos from)
     pub ends : stop x ≈ whole (pos to)
-    pub limited : IsLimited function x
-    pub bases : (p : P) → HasShape x p → (neg_ℤ (pos reach) ≤ℤ base p) × (base p <ℤ pos (2 ^ 32 + reach))
+    pub limited : IsLimited shape x
+    pub bases : (p : P) → HasShape x p → (neg_ℤ (pos reach) ≤ℤ shape.base p) × (shape.base p <ℤ pos (2 ^ 32 + reach))
 
   -- so is each of the signals
   abbrev pub AreSound : ℕ → ℕ → ℕ → List (List (Knot P)) → Type 0
@@ -87,10 +88,10 @@ module _ {P : Type 0} (function : P → Affine) (base : P → ℤ) where
   abbrev pub NodeStaysSound : ℕ → ℕ → Node → List (List (Knot P)) → List (Knot P) → Type 0
   NodeStaysSound from to n xs r = (reach : ℕ) → AreSound from to reach xs → IsSound from to (reach + own_reach n) r
 
-module _ {P : Type 0} (function : P → Affine) where
+module _ {P : Type 0} (shape : ShapeOf P) where
   -- the signal tells the value of the formula over the domain
   abbrev pub TellsValue : Setting → Subformula → List (Knot P) → Type 0
-  TellsValue s p x = Tells function (SupInf p s) s.from s.to x
+  TellsValue s p x = Tells shape (SupInf p s) s.from s.to x
 
   -- the signals tell the formulas at their places
   abbrev pub TellAt : Setting → (ℕ → Subformula) → List (List (Knot P)) → Type 0
@@ -98,38 +99,38 @@ module _ {P : Type 0} (function : P → Affine) where
 
   -- the pair is in play in one of the steps by which the formula's value is made, and needs its denominator
   abbrev pub IsCauseOf : Setting → Subformula → WidePair P → Type 0
-  IsCauseOf s f (Cross p q a b den) = IsWideCrossing (IsInPlayAt f s) s.from s.to (function p) (function q) (value a) (value b) den
-  IsCauseOf s f (Value p at den) = IsWideValue (IsInPlayAt f s) s.from s.to (function p) (value at) den
+  IsCauseOf s f (Cross p q a b den) = IsWideCrossing (IsInPlayAt f s) s.from s.to (shape.function p) (shape.function q) (value a) (value b) den
+  IsCauseOf s f (Value p at den) = IsWideValue (IsInPlayAt f s) s.from s.to (shape.function p) (value at) den
 
   -- a fault is want of memory, or a pair that is in play where the formula's value is made, and needs its denominator
   abbrev pub IsFaultOf : Setting → Subformula → OpFault P → Type 0
   IsFaultOf s p F.Memory = Unit {0}
   IsFaultOf s p (F.Wide pair) = IsCauseOf s p pair
 
-module _ {P : Type 0} (function : P → Affine) (lowest highest : Extended) where
+module _ {P : Type 0} (shape : ShapeOf P) where
   -- where x tells a formula, r tells the formula that is made of it
   abbrev pub TellsOne : (Subformula → Subformula) → List (Knot P) → List (Knot P) → Type 0
-  TellsOne make x r = (s : Setting) (p : Subformula) → HasEnds lowest highest s → TellsValue function s p x → TellsValue function s (make p) r
+  TellsOne make x r = (s : Setting) (p : Subformula) → HasEnds shape.lowest shape.highest s → TellsValue shape s p x → TellsValue shape s (make p) r
 
   -- where x and y tell two formulas, r tells the formula that is made of them
   abbrev pub TellsTwo : (Subformula → Subformula → Subformula) → List (Knot P) → List (Knot P) → List (Knot P) → Type 0
-  TellsTwo make x y r = (s : Setting) (p q : Subformula) → HasEnds lowest highest s → TellsValue function s p x → TellsValue function s q y → TellsValue function s (make p q) r
+  TellsTwo make x y r = (s : Setting) (p q : Subformula) → HasEnds shape.lowest shape.highest s → TellsValue shape s p x → TellsValue shape s q y → TellsValue shape s (make p q) r
 
   -- where x tells a formula, the fault is one of the formula that is made of it
   abbrev pub FaultOfOne : (Subformula → Subformula) → List (Knot P) → OpFault P → Type 0
-  FaultOfOne make x e = (s : Setting) (p : Subformula) → HasEnds lowest highest s → TellsValue function s p x → IsFaultOf function s (make p) e
+  FaultOfOne make x e = (s : Setting) (p : Subformula) → HasEnds shape.lowest shape.highest s → TellsValue shape s p x → IsFaultOf shape s (make p) e
 
   -- where x and y tell two formulas, the fault is one of the formula that is made of them
   abbrev pub FaultOfTwo : (Subformula → Subformula → Subformula) → List (Knot P) → List (Knot P) → OpFault P → Type 0
-  FaultOfTwo make x y e = (s : Setting) (p q : Subformula) → HasEnds lowest highest s → TellsValue function s p x → TellsValue function s q y → IsFaultOf function s (make p q) e
+  FaultOfTwo make x y e = (s : Setting) (p q : Subformula) → HasEnds shape.lowest shape.highest s → TellsValue shape s p x → TellsValue shape s q y → IsFaultOf shape s (make p q) e
 
   -- where the signals tell the formulas at their places, r tells the formula of the node
   abbrev pub TellsNode : ℕ → ℕ → Node → List (List (Knot P)) → List (Knot P) → Type 0
-  TellsNode from to n xs r = (s : Setting) (at : ℕ → Subformula) (i : ℕ) → IsOver lowest highest from to s → TellAt function s at xs → TellsValue function s (tree_of at i n) r
+  TellsNode from to n xs r = (s : Setting) (at : ℕ → Subformula) (i : ℕ) → IsOver shape.lowest shape.highest from to s → TellAt shape s at xs → TellsValue shape s (tree_of at i n) r
 
   -- there the fault is one of the formula of the node
   abbrev pub FaultOfNode : ℕ → ℕ → Node → List (List (Knot P)) → OpFault P → Type 0
-  FaultOfNode from to n xs e = (s : Setting) (at : ℕ → Subformula) (i : ℕ) → IsOver lowest highest from to s → TellAt function s at xs → IsFaultOf function s (tree_of at i n) e
+  FaultOfNode from to n xs e = (s : Setting) (at : ℕ → Subformula) (i : ℕ) → IsOver shape.lowest shape.highest from to s → TellAt shape s at xs → IsFaultOf shape s (tree_of at i n) e
 
 -- the fault of an operator at the node of that place
 abbrev pub fault_at : {P : Type 0} → ℕ → OpFault P → EvalFault P

@@ -1,6 +1,7 @@
 -- What the signal that is made at a place of a formula takes, keeps and tells.
 use Rattle.std.specs.Prelude.{◌≡◌, ℕ, ℤ, ◌+◌, List, take, drop, sum_by}
 use Rattle.rational.specs.Extended.{Extended, Affine}
+use Rattle.value_laws.specs.Members.{ShapeOf}
 use Rattle.pl_signal.specs.declared.knot.Knot.{Knot}
 use Rattle.pl_signal.specs.declared.faults.OpFault.{OpFault}
 use Rattle.stl_syntax.specs.Formula.{subformula}
@@ -18,18 +19,18 @@ reach_before nodes i = sum_by own_reach (take i nodes)
 abbrev pub TakesOwn : {P : Type 0} → List Node → ℕ → List (List (Knot P)) → List (List (Knot P)) → Type 0
 TakesOwn {P} nodes i old new = (all : List (List (Knot P))) → old ≡ drop (atoms_before nodes i) all → new ≡ drop (atoms_before nodes (i + 1)) all
 
-module _ {P : Type 0} (function : P → Affine) (base : P → ℤ) where
+module _ {P : Type 0} (shape : ShapeOf P) where
   -- the new signal is sound where those before it are
   abbrev pub PlaceStaysSound : ℕ → ℕ → List Node → ℕ → List (List (Knot P)) → List (Knot P) → Type 0
-  PlaceStaysSound from to nodes i xs r = AreSound function base from to (reach_before nodes i) xs → IsSound function base from to (reach_before nodes (i + 1)) r
+  PlaceStaysSound from to nodes i xs r = AreSound shape from to (reach_before nodes i) xs → IsSound shape from to (reach_before nodes (i + 1)) r
 
-module _ {P : Type 0} (function : P → Affine) (lowest highest : Extended) where
+module _ {P : Type 0} (shape : ShapeOf P) where
   -- where the atoms' signals tell the atoms, and the signals before it tell their nodes, the new signal tells its node
   abbrev pub TellsPlace : ℕ → ℕ → List Node → ℕ → List (List (Knot P)) → List (List (Knot P)) → List (Knot P) → Type 0
   TellsPlace from to nodes i left xs r =
-      (s : Setting) (all : List (List (Knot P))) → IsOver lowest highest from to s → left ≡ drop (atoms_before nodes i) all → TellAtoms function nodes all s
-      → TellAt function s (subformula nodes) xs → TellsValue function s (subformula nodes i) r
+      (s : Setting) (all : List (List (Knot P))) → IsOver shape.lowest shape.highest from to s → left ≡ drop (atoms_before nodes i) all → TellAtoms shape nodes all s
+      → TellAt shape s (subformula nodes) xs → TellsValue shape s (subformula nodes i) r
 
   -- there a fault is one of its node
   abbrev pub FaultOfPlace : ℕ → ℕ → List Node → ℕ → List (List (Knot P)) → OpFault P → Type 0
-  FaultOfPlace from to nodes i xs e = (s : Setting) → IsOver lowest highest from to s → TellAt function s (subformula nodes) xs → IsFaultOf function s (subformula nodes i) e
+  FaultOfPlace from to nodes i xs e = (s : Setting) → IsOver shape.lowest shape.highest from to s → TellAt shape s (subformula nodes) xs → IsFaultOf shape s (subformula nodes i) e

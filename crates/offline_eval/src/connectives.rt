@@ -39,7 +39,7 @@ fn extreme<P: Shape>(holds: bool) -> P
 /// One shape over the whole domain.
 fn steady<P: Shape>(alloc: Global, from: u32, to: u32, point: P) -> Result<Signal<P>, Memory>
     requires { from ≤ to }
-    ensures worth { IfOk result (Tells P.function (Passes (P.function point)) (whole (pos from)) (whole (pos to))) }
+    ensures worth { IfOk result (Tells P.Shape (Passes (P.function point)) (whole (pos from)) (whole (pos to))) }
     ensures shapes { IfOk result (λ r. (p : P) → HasShape r p → p ≡ point) }
 {
     let mut built = Builder::start(alloc, tick_time(from), point)?;
@@ -58,50 +58,50 @@ pub(crate) fn settled<P: Shape>(
     holds: bool,
 ) -> Result<Signal<P>, Memory>
     requires { from ≤ to }
-    ensures sound { IfOk result (IsSound P.function P.base from to 0) }
-    ensures told { IfOk result (λ r. (s : Setting) → IsOver P.lowest P.highest from to s → TellsValue P.function s (constant holds) r) }
+    ensures sound { IfOk result (IsSound P.Shape from to 0) }
+    ensures told { IfOk result (λ r. (s : Setting) → IsOver P.lowest P.highest from to s → TellsValue P.Shape s (constant holds) r) }
 {
     steady(alloc, from, to, extreme(holds))
 }
 
 /// Minus the operand.
 pub(crate) fn negated<P: Shape>(x: &Signal<P>) -> Result<Signal<P>, Memory>
-    requires { IsLimited P.function x.now }
-    ensures limited { IfOk result (IsLimited P.function) }
+    requires { IsLimited P.Shape x.now }
+    ensures limited { IfOk result (IsLimited P.Shape) }
     ensures begins { IfOk result (λ r. start r ≈ start x.now) }
     ensures ends { IfOk result (λ r. stop r ≈ stop x.now) }
-    ensures sound { IfOk result (StaysSound P.function P.base 0 x.now) }
-    ensures told { IfOk result (TellsOne P.function P.lowest P.highest negation x.now) }
+    ensures sound { IfOk result (StaysSound P.Shape 0 x.now) }
+    ensures told { IfOk result (TellsOne P.Shape negation x.now) }
 {
     neg(x)
 }
 
 /// The least of the operands.
 pub(crate) fn both<P: Shape>(x: &Signal<P>, y: &Signal<P>) -> Result<Signal<P>, OpFault<P>>
-    requires { MayMeet P.function x.now y.now }
-    ensures sound { IfOk result (StaySound P.function P.base 0 x.now y.now) }
-    ensures told { IfOk result (TellsTwo P.function P.lowest P.highest conjunction x.now y.now) }
-    ensures wide { IfErr result (FaultOfTwo P.function P.lowest P.highest conjunction x.now y.now) }
+    requires { MayMeet P.Shape x.now y.now }
+    ensures sound { IfOk result (StaySound P.Shape 0 x.now y.now) }
+    ensures told { IfOk result (TellsTwo P.Shape conjunction x.now y.now) }
+    ensures wide { IfErr result (FaultOfTwo P.Shape conjunction x.now y.now) }
 {
     lower(x, y)
 }
 
 /// The greatest of the operands.
 pub(crate) fn either<P: Shape>(x: &Signal<P>, y: &Signal<P>) -> Result<Signal<P>, OpFault<P>>
-    requires { MayMeet P.function x.now y.now }
-    ensures sound { IfOk result (StaySound P.function P.base 0 x.now y.now) }
-    ensures told { IfOk result (TellsTwo P.function P.lowest P.highest disjunction x.now y.now) }
-    ensures wide { IfErr result (FaultOfTwo P.function P.lowest P.highest disjunction x.now y.now) }
+    requires { MayMeet P.Shape x.now y.now }
+    ensures sound { IfOk result (StaySound P.Shape 0 x.now y.now) }
+    ensures told { IfOk result (TellsTwo P.Shape disjunction x.now y.now) }
+    ensures wide { IfErr result (FaultOfTwo P.Shape disjunction x.now y.now) }
 {
     upper(x, y)
 }
 
 /// The greatest of minus the left operand and of the right one.
 pub(crate) fn implied<P: Shape>(x: &Signal<P>, y: &Signal<P>) -> Result<Signal<P>, OpFault<P>>
-    requires { MayMeet P.function x.now y.now }
-    ensures sound { IfOk result (StaySound P.function P.base 0 x.now y.now) }
-    ensures told { IfOk result (TellsTwo P.function P.lowest P.highest implication x.now y.now) }
-    ensures wide { IfErr result (FaultOfTwo P.function P.lowest P.highest implication x.now y.now) }
+    requires { MayMeet P.Shape x.now y.now }
+    ensures sound { IfOk result (StaySound P.Shape 0 x.now y.now) }
+    ensures told { IfOk result (TellsTwo P.Shape implication x.now y.now) }
+    ensures wide { IfErr result (FaultOfTwo P.Shape implication x.now y.now) }
 {
     let fails = negated(x)?;
     either(&fails, y)

@@ -57,12 +57,12 @@ fn next_signal<P: Shape>(
     requires inside { i < length formula.now.nodes }
     requires place { length done.now ≡ i }
     requires left { (a : Atom) → slice_get formula.now.nodes i ≡ Some (Leaf a) → 0 < length atoms.old }
-    requires inputs { AreSound P.function P.base from to 0 atoms.old }
-    requires sound { AreSound P.function P.base from to 4294967295 done.now }
+    requires inputs { AreSound P.Shape from to 0 atoms.old }
+    requires sound { AreSound P.Shape from to 4294967295 done.now }
     ensures rest { OnOk result (TakesOwn formula.now.nodes i atoms.old atoms.new) }
-    ensures sound { IfOk result (PlaceStaysSound P.function P.base from to formula.now.nodes i done.now) }
-    ensures told { IfOk result (TellsPlace P.function P.lowest P.highest from to formula.now.nodes i atoms.old done.now) }
-    ensures wide { IfErr result (FaultOfPlace P.function P.lowest P.highest from to formula.now.nodes i done.now) }
+    ensures sound { IfOk result (PlaceStaysSound P.Shape from to formula.now.nodes i done.now) }
+    ensures told { IfOk result (TellsPlace P.Shape from to formula.now.nodes i atoms.old done.now) }
+    ensures wide { IfErr result (FaultOfPlace P.Shape from to formula.now.nodes i done.now) }
 {
     match formula.node(i) {
         Node::Atom(_) => Ok(atoms.take()),
@@ -94,12 +94,12 @@ pub fn eval<P: Shape, L: Ledger>(
 ) -> Result<Evaluated<P>, EvalFault<P>>
     requires order { from ≤ to }
     requires count { length atoms ≡ atoms_before formula.now.nodes (length formula.now.nodes) }
-    requires inputs { All (IsInput P.function P.base from to) atoms }
+    requires inputs { All (IsInput P.Shape from to) atoms }
     ensures count { IfOk result (λ r. length r ≡ length formula.now.nodes) }
     ensures told { IfOk result (λ r. (s : Setting) → IsOver P.lowest P.highest from to s
-        → TellAtoms P.function formula.now.nodes atoms s → TellNodes P.function formula.now.nodes r s) }
+        → TellAtoms P.Shape formula.now.nodes atoms s → TellNodes P.Shape formula.now.nodes r s) }
     ensures wide { IfErr result (λ e. (s : Setting) → IsOver P.lowest P.highest from to s
-        → TellAtoms P.function formula.now.nodes atoms s → IsFault P.function formula.now.nodes s e) }
+        → TellAtoms P.Shape formula.now.nodes atoms s → IsFault P.Shape formula.now.nodes s e) }
     ensures steps { steps.new ≡ steps.old + 1 }
 {
     steps.tick();

@@ -18,13 +18,13 @@ use value_laws::Shape;
 
 /// The signals of the atoms, added one by one along the nodes of a formula, tell the atoms so far.
 pub fn atoms_grow<P: Shape>()
-    ensures none { (nodes : List Node) (s : Setting) → TellAtomsBelow P.function 0 nodes [] s }
+    ensures none { (nodes : List Node) (s : Setting) → TellAtomsBelow P.Shape 0 nodes [] s }
     ensures atom { (nodes : List Node) (s : Setting) (i : ℕ) (a : Atom) (xs : List (List (Knot P))) (x : List (Knot P))
-        → slice_get nodes i ≡ Some (Leaf a) → length xs ≡ atoms_before nodes i → TellAtomsBelow P.function i nodes xs s
-        → Tells P.function (Gives s.atoms i a) s.from s.to x → TellAtomsBelow P.function (i + 1) nodes (xs ++ x ∷ []) s }
+        → slice_get nodes i ≡ Some (Leaf a) → length xs ≡ atoms_before nodes i → TellAtomsBelow P.Shape i nodes xs s
+        → Tells P.Shape (Gives s.atoms i a) s.from s.to x → TellAtomsBelow P.Shape (i + 1) nodes (xs ++ x ∷ []) s }
     ensures other { (nodes : List Node) (s : Setting) (i : ℕ) (n : Node) (xs : List (List (Knot P)))
-        → slice_get nodes i ≡ Some n → is_atom n ≡ false → TellAtomsBelow P.function i nodes xs s
-        → TellAtomsBelow P.function (i + 1) nodes xs s }
+        → slice_get nodes i ≡ Some n → is_atom n ≡ false → TellAtomsBelow P.Shape i nodes xs s
+        → TellAtomsBelow P.Shape (i + 1) nodes xs s }
     ensures count_atom { (nodes : List Node) (i : ℕ) (a : Atom) → slice_get nodes i ≡ Some (Leaf a)
         → atoms_before nodes (i + 1) ≡ atoms_before nodes i + 1 }
     ensures count_other { (nodes : List Node) (i : ℕ) (n : Node) → slice_get nodes i ≡ Some n → is_atom n ≡ false
@@ -34,18 +34,18 @@ pub fn atoms_grow<P: Shape>()
 /// Where the signals tell the nodes, each subformula has a value at each time of the domain, and an Inf between each two times.
 pub fn told_have_values<P: Shape>()
     ensures { (nodes : List Node) (signals : List (List (Knot P))) (s : Setting) → IsPostOrder nodes → s.highest ≡ P.highest
-        → TellNodes P.function nodes signals s → (i : ℕ) → i < length nodes
+        → TellNodes P.Shape nodes signals s → (i : ℕ) → i < length nodes
         → HasValues (subformula nodes i) s × HasInfs (subformula nodes i) s }
 {}
 
 /// Truth has no cause for a refusal.
 pub fn truth_is_never_wide()
     ensures { (nodes : List Node) (s : Setting) (i : ℕ) (pair : WidePair Truth)
-        → IsCauseAt ⟦<value_laws::Truth as Shape>⟧.function nodes s i pair → ⊥ }
+        → IsCauseAt ⟦<value_laws::Truth as Shape>⟧ nodes s i pair → ⊥ }
 {}
 
 /// Nor has three-valued truth.
 pub fn kleene_is_never_wide()
     ensures { (nodes : List Node) (s : Setting) (i : ℕ) (pair : WidePair Kleene)
-        → IsCauseAt ⟦<value_laws::Kleene as Shape>⟧.function nodes s i pair → ⊥ }
+        → IsCauseAt ⟦<value_laws::Kleene as Shape>⟧ nodes s i pair → ⊥ }
 {}

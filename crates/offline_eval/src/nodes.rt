@@ -25,10 +25,10 @@ pub(crate) fn of_node<P: Shape>(
     requires kind { is_atom node.now ≡ false }
     requires bounds { HasBounds node.now }
     requires children { HasChildrenBelow (length done.now) node.now }
-    requires sound { AreSound P.function P.base from to 4294967295 done.now }
-    ensures sound { IfOk result (NodeStaysSound P.function P.base from to node.now done.now) }
-    ensures told { IfOk result (TellsNode P.function P.lowest P.highest from to node.now done.now) }
-    ensures wide { IfErr result (FaultOfNode P.function P.lowest P.highest from to node.now done.now) }
+    requires sound { AreSound P.Shape from to 4294967295 done.now }
+    ensures sound { IfOk result (NodeStaysSound P.Shape from to node.now done.now) }
+    ensures told { IfOk result (TellsNode P.Shape from to node.now done.now) }
+    ensures wide { IfErr result (FaultOfNode P.Shape from to node.now done.now) }
 {
     match node {
         Node::Const(holds) => Ok(settled(alloc, from, to, *holds)?),
@@ -53,10 +53,10 @@ fn of_future<P: Shape>(
     requires kind { IsAhead node.now }
     requires bounds { HasBounds node.now }
     requires children { HasChildrenBelow (length done.now) node.now }
-    requires sound { AreSound P.function P.base from to 4294967295 done.now }
-    ensures sound { IfOk result (NodeStaysSound P.function P.base from to node.now done.now) }
-    ensures told { IfOk result (TellsNode P.function P.lowest P.highest from to node.now done.now) }
-    ensures wide { IfErr result (FaultOfNode P.function P.lowest P.highest from to node.now done.now) }
+    requires sound { AreSound P.Shape from to 4294967295 done.now }
+    ensures sound { IfOk result (NodeStaysSound P.Shape from to node.now done.now) }
+    ensures told { IfOk result (TellsNode P.Shape from to node.now done.now) }
+    ensures wide { IfErr result (FaultOfNode P.Shape from to node.now done.now) }
 {
     match node {
         Node::Until {
@@ -93,10 +93,10 @@ fn of_past<P: Shape>(
     requires kind { IsBehind node.now }
     requires bounds { HasBounds node.now }
     requires children { HasChildrenBelow (length done.now) node.now }
-    requires sound { AreSound P.function P.base from to 4294967295 done.now }
-    ensures sound { IfOk result (NodeStaysSound P.function P.base from to node.now done.now) }
-    ensures told { IfOk result (TellsNode P.function P.lowest P.highest from to node.now done.now) }
-    ensures wide { IfErr result (FaultOfNode P.function P.lowest P.highest from to node.now done.now) }
+    requires sound { AreSound P.Shape from to 4294967295 done.now }
+    ensures sound { IfOk result (NodeStaysSound P.Shape from to node.now done.now) }
+    ensures told { IfOk result (TellsNode P.Shape from to node.now done.now) }
+    ensures wide { IfErr result (FaultOfNode P.Shape from to node.now done.now) }
 {
     match node {
         Node::Since {

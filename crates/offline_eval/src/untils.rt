@@ -20,11 +20,11 @@ pub(crate) fn bounded_until<P: Shape>(
     low: u32,
     high: u32,
 ) -> Result<Signal<P>, OpFault<P>>
-    requires fit { AreFit P.function P.base x.now y.now }
+    requires fit { AreFit P.Shape x.now y.now }
     requires order { low ≤ high }
-    ensures sound { IfOk result (StaySound P.function P.base high x.now y.now) }
-    ensures told { IfOk result (TellsTwo P.function P.lowest P.highest (until low high) x.now y.now) }
-    ensures wide { IfErr result (FaultOfTwo P.function P.lowest P.highest (until low high) x.now y.now) }
+    ensures sound { IfOk result (StaySound P.Shape high x.now y.now) }
+    ensures told { IfOk result (TellsTwo P.Shape (until low high) x.now y.now) }
+    ensures wide { IfErr result (FaultOfTwo P.Shape (until low high) x.now y.now) }
 {
     until_is_composed::<P>();
     let within = sup_window(y, low, high, true, true)?;
@@ -41,11 +41,11 @@ pub(crate) fn bounded_since<P: Shape>(
     low: u32,
     high: Option<u32>,
 ) -> Result<Signal<P>, OpFault<P>>
-    requires fit { AreFit P.function P.base x.now y.now }
+    requires fit { AreFit P.Shape x.now y.now }
     requires order { IsInOrder low high }
-    ensures sound { IfOk result (StaySound P.function P.base (reach_of_bound low high) x.now y.now) }
-    ensures told { IfOk result (TellsTwo P.function P.lowest P.highest (since low high) x.now y.now) }
-    ensures wide { IfErr result (FaultOfTwo P.function P.lowest P.highest (since low high) x.now y.now) }
+    ensures sound { IfOk result (StaySound P.Shape (reach_of_bound low high) x.now y.now) }
+    ensures told { IfOk result (TellsTwo P.Shape (since low high) x.now y.now) }
+    ensures wide { IfErr result (FaultOfTwo P.Shape (since low high) x.now y.now) }
 {
     since_is_composed::<P>();
     let within = sup_past(y, low, high, true, true)?;

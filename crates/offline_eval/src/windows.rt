@@ -17,11 +17,11 @@ pub(crate) fn some_ahead<P: Shape>(
     low_in: bool,
     high_in: bool,
 ) -> Result<Signal<P>, OpFault<P>>
-    requires fit { IsFit P.function P.base x.now }
+    requires fit { IsFit P.Shape x.now }
     requires order { low ≤ high }
-    ensures sound { IfOk result (StaysSound P.function P.base high x.now) }
-    ensures told { IfOk result (TellsOne P.function P.lowest P.highest (eventually low high low_in high_in) x.now) }
-    ensures wide { IfErr result (FaultOfOne P.function P.lowest P.highest (eventually low high low_in high_in) x.now) }
+    ensures sound { IfOk result (StaysSound P.Shape high x.now) }
+    ensures told { IfOk result (TellsOne P.Shape (eventually low high low_in high_in) x.now) }
+    ensures wide { IfErr result (FaultOfOne P.Shape (eventually low high low_in high_in) x.now) }
 {
     sup_window(x, low, high, low_in, high_in)
 }
@@ -34,11 +34,11 @@ pub(crate) fn each_ahead<P: Shape>(
     low_in: bool,
     high_in: bool,
 ) -> Result<Signal<P>, OpFault<P>>
-    requires fit { IsFit P.function P.base x.now }
+    requires fit { IsFit P.Shape x.now }
     requires order { low ≤ high }
-    ensures sound { IfOk result (StaysSound P.function P.base high x.now) }
-    ensures told { IfOk result (TellsOne P.function P.lowest P.highest (always low high low_in high_in) x.now) }
-    ensures wide { IfErr result (FaultOfOne P.function P.lowest P.highest (always low high low_in high_in) x.now) }
+    ensures sound { IfOk result (StaysSound P.Shape high x.now) }
+    ensures told { IfOk result (TellsOne P.Shape (always low high low_in high_in) x.now) }
+    ensures wide { IfErr result (FaultOfOne P.Shape (always low high low_in high_in) x.now) }
 {
     inf_window(x, low, high, low_in, high_in)
 }
@@ -51,11 +51,11 @@ pub(crate) fn some_behind<P: Shape>(
     low_in: bool,
     high_in: bool,
 ) -> Result<Signal<P>, OpFault<P>>
-    requires fit { IsFit P.function P.base x.now }
+    requires fit { IsFit P.Shape x.now }
     requires order { IsInOrder low high }
-    ensures sound { IfOk result (StaysSound P.function P.base (reach_of_bound low high) x.now) }
-    ensures told { IfOk result (TellsOne P.function P.lowest P.highest (once low high low_in high_in) x.now) }
-    ensures wide { IfErr result (FaultOfOne P.function P.lowest P.highest (once low high low_in high_in) x.now) }
+    ensures sound { IfOk result (StaysSound P.Shape (reach_of_bound low high) x.now) }
+    ensures told { IfOk result (TellsOne P.Shape (once low high low_in high_in) x.now) }
+    ensures wide { IfErr result (FaultOfOne P.Shape (once low high low_in high_in) x.now) }
 {
     sup_past(x, low, high, low_in, high_in)
 }
@@ -68,11 +68,11 @@ pub(crate) fn each_behind<P: Shape>(
     low_in: bool,
     high_in: bool,
 ) -> Result<Signal<P>, OpFault<P>>
-    requires fit { IsFit P.function P.base x.now }
+    requires fit { IsFit P.Shape x.now }
     requires order { IsInOrder low high }
-    ensures sound { IfOk result (StaysSound P.function P.base (reach_of_bound low high) x.now) }
-    ensures told { IfOk result (TellsOne P.function P.lowest P.highest (historically low high low_in high_in) x.now) }
-    ensures wide { IfErr result (FaultOfOne P.function P.lowest P.highest (historically low high low_in high_in) x.now) }
+    ensures sound { IfOk result (StaysSound P.Shape (reach_of_bound low high) x.now) }
+    ensures told { IfOk result (TellsOne P.Shape (historically low high low_in high_in) x.now) }
+    ensures wide { IfErr result (FaultOfOne P.Shape (historically low high low_in high_in) x.now) }
 {
     inf_past(x, low, high, low_in, high_in)
 }

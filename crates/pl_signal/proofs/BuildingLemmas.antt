@@ -2,12 +2,13 @@
 use Rattle.std.proofs.Common.{◌≡◌, ℕ, ◌+◌, ◌⊎◌, inl, inr, List, [], ◌∷◌, ◌++◌, length, get_or, set, take, refl, sym, ◌∙◌, ap, subst, arith, length-append, length-take}
 use Rattle.std.proofs.lemmas.List.{append_assoc, set_at}
 use Rattle.rational.specs.Time.{Rational, ◌<ʳ◌, ◌≈◌}
-use Rattle.rational.specs.Extended.{Extended, Affine, Passes, value_at, ◌≈ᵉ◌}
+use Rattle.rational.specs.Extended.{Extended, Passes, value_at, ◌≈ᵉ◌}
 use Rattle.rational.specs.Affine.{AreSame}
 use Rattle.rational.proofs.Order.{lt_or_same_or_gt, lt_trans, lt_of_lt_of_le, lt_of_le_of_lt, le_of_same, ge_of_same, same_sym}
 use Rattle.rational.proofs.AffineLemmas.{same_transᵉ, same_symᵉ, value_same}
 use Rattle.frac128.specs.Value.{value}
 use Rattle.frac128.specs.declared.frac.Frac.{Frac}
+use Rattle.value_laws.specs.Members.{ShapeOf}
 use Rattle.pl_signal.specs.declared.knot.Knot.{Knot}
 use Rattle.pl_signal.specs.Knots.{time, stop, HasShape, Each, IsBetween, IsWorth, CanBeLeftOut, IsKnot}
 use Rattle.pl_signal.specs.Building.{GoesOn}
@@ -17,38 +18,38 @@ use Rattle.pl_signal.proofs.KnotLemmas.{split_two, read_at, some_in_end, start_k
 abbrev pub ends_at : {P : Type 0} → Frac → P → Knot P
 ends_at at point = record { time = at; point = point; after = point }
 
-module _ {P : Type 0} (function : P → Affine) where
+module _ {P : Type 0} (shape : ShapeOf P) where
   abbrev pub goes_on : Knot P → P → Knot P
   goes_on l after = record { time = l.time; point = l.point; after = after }
 
   -- the values where the last knot stays
   kept_worth : (xs : List (Knot P)) (l : Knot P) (after : P) (at : Frac) (point : P) (t : Rational) (v : Extended)
-      → IsWorth function (xs ++ goes_on l after ∷ ends_at at point ∷ []) t v
-      → IsWorth function (xs ++ l ∷ []) t v ⊎ ((stop (xs ++ l ∷ []) <ʳ t) × (t <ʳ value at) × Passes (function after) t v) ⊎ ((t ≈ value at) × Passes (function point) t v)
-  kept_worth xs l after at point t v h = elim (worth_in function xs (goes_on l after) l (ends_at at point ∷ []) [] t v refl h) [ inl k ↦ inl k | inr k ↦ by_end k ]
+      → IsWorth shape (xs ++ goes_on l after ∷ ends_at at point ∷ []) t v
+      → IsWorth shape (xs ++ l ∷ []) t v ⊎ ((stop (xs ++ l ∷ []) <ʳ t) × (t <ʳ value at) × Passes (shape.function after) t v) ⊎ ((t ≈ value at) × Passes (shape.function point) t v)
+  kept_worth xs l after at point t v h = elim (worth_in shape xs (goes_on l after) l (ends_at at point ∷ []) [] t v refl h) [ inl k ↦ inl k | inr k ↦ by_end k ]
     where
-      by_end : IsWorth function (goes_on l after ∷ ends_at at point ∷ []) t v
-          → IsWorth function (xs ++ l ∷ []) t v ⊎ ((stop (xs ++ l ∷ []) <ʳ t) × (t <ʳ value at) × Passes (function after) t v) ⊎ ((t ≈ value at) × Passes (function point) t v)
-      by_end (inl h) = inl (worth_end function xs (l ∷ []) t v (inl (record { when = h.when; worth = h.worth })))
+      by_end : IsWorth shape (goes_on l after ∷ ends_at at point ∷ []) t v
+          → IsWorth shape (xs ++ l ∷ []) t v ⊎ ((stop (xs ++ l ∷ []) <ʳ t) × (t <ʳ value at) × Passes (shape.function after) t v) ⊎ ((t ≈ value at) × Passes (shape.function point) t v)
+      by_end (inl h) = inl (worth_end shape xs (l ∷ []) t v (inl (record { when = h.when; worth = h.worth })))
       by_end (inr (inl h)) = inr (inl (subst (λ s. s <ʳ t) (sym (stop_end xs l [])) h.after, h.before, h.worth))
       by_end (inr (inr (inl h))) = inr (inr (h.when, h.worth))
       by_end (inr (inr (inr (inl h)))) = absurd h
       by_end (inr (inr (inr (inr h)))) = absurd h
 
   worth_kept : (xs : List (Knot P)) (l : Knot P) (after : P) (at : Frac) (point : P) (t : Rational) (v : Extended)
-      → IsWorth function (xs ++ l ∷ []) t v ⊎ ((stop (xs ++ l ∷ []) <ʳ t) × (t <ʳ value at) × Passes (function after) t v) ⊎ ((t ≈ value at) × Passes (function point) t v)
-      → IsWorth function (xs ++ goes_on l after ∷ ends_at at point ∷ []) t v
-  worth_kept xs l after at point t v (inl h) = elim (worth_in function xs l (goes_on l after) [] (ends_at at point ∷ []) t v refl h) [ inl k ↦ k | inr k ↦ by_end k ]
+      → IsWorth shape (xs ++ l ∷ []) t v ⊎ ((stop (xs ++ l ∷ []) <ʳ t) × (t <ʳ value at) × Passes (shape.function after) t v) ⊎ ((t ≈ value at) × Passes (shape.function point) t v)
+      → IsWorth shape (xs ++ goes_on l after ∷ ends_at at point ∷ []) t v
+  worth_kept xs l after at point t v (inl h) = elim (worth_in shape xs l (goes_on l after) [] (ends_at at point ∷ []) t v refl h) [ inl k ↦ k | inr k ↦ by_end k ]
     where
-      by_end : IsWorth function (l ∷ []) t v → IsWorth function (xs ++ goes_on l after ∷ ends_at at point ∷ []) t v
-      by_end (inl h) = worth_end function xs (goes_on l after ∷ ends_at at point ∷ []) t v (inl (record { when = h.when; worth = h.worth }))
+      by_end : IsWorth shape (l ∷ []) t v → IsWorth shape (xs ++ goes_on l after ∷ ends_at at point ∷ []) t v
+      by_end (inl h) = worth_end shape xs (goes_on l after ∷ ends_at at point ∷ []) t v (inl (record { when = h.when; worth = h.worth }))
       by_end (inr (inl h)) = absurd h
       by_end (inr (inr h)) = absurd h
   worth_kept xs l after at point t v (inr (inl h)) =
-      worth_end function xs (goes_on l after ∷ ends_at at point ∷ []) t v
+      worth_end shape xs (goes_on l after ∷ ends_at at point ∷ []) t v
       (inr (inl (record { after = subst (λ s. s <ʳ t) (stop_end xs l []) h.0; before = h.1; worth = h.2 })))
   worth_kept xs l after at point t v (inr (inr h)) =
-      worth_end function xs (goes_on l after ∷ ends_at at point ∷ []) t v (inr (inr (inl (record { when = h.0; worth = h.1 }))))
+      worth_end shape xs (goes_on l after ∷ ends_at at point ∷ []) t v (inr (inr (inl (record { when = h.0; worth = h.1 }))))
 
   kept_shapes : (xs : List (Knot P)) (l : Knot P) (after : P) (at : Frac) (point p : P) → HasShape (xs ++ goes_on l after ∷ ends_at at point ∷ []) p
       → HasShape (xs ++ l ∷ []) p ⊎ (p ≡ after) ⊎ (p ≡ point)
@@ -61,11 +62,11 @@ module _ {P : Type 0} (function : P → Affine) where
       by_end (inr (inr (inr (inl h)))) = inr (inr h)
       by_end (inr (inr (inr (inr h)))) = absurd h
 
-  last_knots : (l : Knot P) (after : P) (at : Frac) (point : P) → time l <ʳ value at → Each (IsKnot function) (goes_on l after ∷ ends_at at point ∷ [])
+  last_knots : (l : Knot P) (after : P) (at : Frac) (point : P) → time l <ʳ value at → Each (IsKnot shape) (goes_on l after ∷ ends_at at point ∷ [])
   last_knots l after at point h = (record { rising = h; needed = tt; ends = tt }, (record { rising = tt; needed = tt; ends = refl }, tt))
 
-  kept_with : (xs : List (Knot P)) (l : Knot P) (after : P) (at : Frac) (point : P) → Each (IsKnot function) (xs ++ goes_on l after ∷ ends_at at point ∷ [])
-      → GoesOn function (xs ++ l ∷ []) after at point (xs ++ goes_on l after ∷ ends_at at point ∷ [])
+  kept_with : (xs : List (Knot P)) (l : Knot P) (after : P) (at : Frac) (point : P) → Each (IsKnot shape) (xs ++ goes_on l after ∷ ends_at at point ∷ [])
+      → GoesOn shape (xs ++ l ∷ []) after at point (xs ++ goes_on l after ∷ ends_at at point ∷ [])
   kept_with xs l after at point each = record {
     signal = record { some = some_in_end xs (goes_on l after) (ends_at at point ∷ []); each = each };
     begins = start_kept xs (goes_on l after) l (ends_at at point ∷ []) [] refl;
@@ -76,46 +77,46 @@ module _ {P : Type 0} (function : P → Affine) where
 
   -- the first knot stays
   pub first_kept : (l : Knot P) (after : P) (at : Frac) (point : P) → time l <ʳ value at
-      → GoesOn function (l ∷ []) after at point (goes_on l after ∷ ends_at at point ∷ [])
+      → GoesOn shape (l ∷ []) after at point (goes_on l after ∷ ends_at at point ∷ [])
   first_kept l after at point h = kept_with [] l after at point (last_knots l after at point h)
 
   -- a later knot that is needed stays
-  pub last_kept : (xs : List (Knot P)) (p l : Knot P) (after : P) (at : Frac) (point : P) → Each (IsKnot function) (xs ++ p ∷ l ∷ []) → time l <ʳ value at
-      → ¬ CanBeLeftOut function p (goes_on l after)
-      → GoesOn function (xs ++ p ∷ l ∷ []) after at point (xs ++ p ∷ goes_on l after ∷ ends_at at point ∷ [])
+  pub last_kept : (xs : List (Knot P)) (p l : Knot P) (after : P) (at : Frac) (point : P) → Each (IsKnot shape) (xs ++ p ∷ l ∷ []) → time l <ʳ value at
+      → ¬ CanBeLeftOut shape p (goes_on l after)
+      → GoesOn shape (xs ++ p ∷ l ∷ []) after at point (xs ++ p ∷ goes_on l after ∷ ends_at at point ∷ [])
   last_kept xs p l after at point each h n =
-      subst (λ old. GoesOn function old after at point (xs ++ p ∷ goes_on l after ∷ ends_at at point ∷ [])) (append_assoc xs (p ∷ []) (l ∷ []))
-      (subst (λ new. GoesOn function ((xs ++ p ∷ []) ++ l ∷ []) after at point new) (append_assoc xs (p ∷ []) (goes_on l after ∷ ends_at at point ∷ []))
+      subst (λ old. GoesOn shape old after at point (xs ++ p ∷ goes_on l after ∷ ends_at at point ∷ [])) (append_assoc xs (p ∷ []) (l ∷ []))
+      (subst (λ new. GoesOn shape ((xs ++ p ∷ []) ++ l ∷ []) after at point new) (append_assoc xs (p ∷ []) (goes_on l after ∷ ends_at at point ∷ []))
       (kept_with (xs ++ p ∷ []) l after at point
-      (subst (Each (IsKnot function)) (sym (append_assoc xs (p ∷ []) (goes_on l after ∷ ends_at at point ∷ [])))
-      (replaced_end function xs p l (goes_on l after) [] (ends_at at point ∷ []) each
-      (record { rising = (each_end (IsKnot function) xs (p ∷ l ∷ []) each).0.rising; needed = n; ends = tt }, last_knots l after at point h)))))
+      (subst (Each (IsKnot shape)) (sym (append_assoc xs (p ∷ []) (goes_on l after ∷ ends_at at point ∷ [])))
+      (replaced_end shape xs p l (goes_on l after) [] (ends_at at point ∷ []) each
+      (record { rising = (each_end (IsKnot shape) xs (p ∷ l ∷ []) each).0.rising; needed = n; ends = tt }, last_knots l after at point h)))))
 
   -- the values where the last knot leaves
   left_worth : (xs : List (Knot P)) (p l : Knot P) (after : P) (at : Frac) (point : P) (t : Rational) (v : Extended) → time p <ʳ time l
-      → value_at (function p.after) (time l) ≈ᵉ value_at (function l.point) (time l) → AreSame (function p.after) (function after)
-      → IsWorth function (xs ++ p ∷ ends_at at point ∷ []) t v
-      → IsWorth function (xs ++ p ∷ l ∷ []) t v ⊎ ((stop (xs ++ p ∷ l ∷ []) <ʳ t) × (t <ʳ value at) × Passes (function after) t v) ⊎ ((t ≈ value at) × Passes (function point) t v)
-  left_worth xs p l after at point t v order here on h = elim (worth_in function xs p p (ends_at at point ∷ []) (l ∷ []) t v refl h) [ inl k ↦ inl k | inr k ↦ by_end k ]
+      → value_at (shape.function p.after) (time l) ≈ᵉ value_at (shape.function l.point) (time l) → AreSame (shape.function p.after) (shape.function after)
+      → IsWorth shape (xs ++ p ∷ ends_at at point ∷ []) t v
+      → IsWorth shape (xs ++ p ∷ l ∷ []) t v ⊎ ((stop (xs ++ p ∷ l ∷ []) <ʳ t) × (t <ʳ value at) × Passes (shape.function after) t v) ⊎ ((t ≈ value at) × Passes (shape.function point) t v)
+  left_worth xs p l after at point t v order here on h = elim (worth_in shape xs p p (ends_at at point ∷ []) (l ∷ []) t v refl h) [ inl k ↦ inl k | inr k ↦ by_end k ]
     where
-      old : IsWorth function (p ∷ l ∷ []) t v → IsWorth function (xs ++ p ∷ l ∷ []) t v ⊎ ((stop (xs ++ p ∷ l ∷ []) <ʳ t) × (t <ʳ value at) × Passes (function after) t v) ⊎ ((t ≈ value at) × Passes (function point) t v)
-      old k = inl (worth_end function xs (p ∷ l ∷ []) t v k)
+      old : IsWorth shape (p ∷ l ∷ []) t v → IsWorth shape (xs ++ p ∷ l ∷ []) t v ⊎ ((stop (xs ++ p ∷ l ∷ []) <ʳ t) × (t <ʳ value at) × Passes (shape.function after) t v) ⊎ ((t ≈ value at) × Passes (shape.function point) t v)
+      old k = inl (worth_end shape xs (p ∷ l ∷ []) t v k)
 
-      by_order : IsBetween function p (ends_at at point) t v → (t <ʳ time l) ⊎ (t ≈ time l) ⊎ (time l <ʳ t)
-          → IsWorth function (xs ++ p ∷ l ∷ []) t v ⊎ ((stop (xs ++ p ∷ l ∷ []) <ʳ t) × (t <ʳ value at) × Passes (function after) t v) ⊎ ((t ≈ value at) × Passes (function point) t v)
+      by_order : IsBetween shape p (ends_at at point) t v → (t <ʳ time l) ⊎ (t ≈ time l) ⊎ (time l <ʳ t)
+          → IsWorth shape (xs ++ p ∷ l ∷ []) t v ⊎ ((stop (xs ++ p ∷ l ∷ []) <ʳ t) × (t <ʳ value at) × Passes (shape.function after) t v) ⊎ ((t ≈ value at) × Passes (shape.function point) t v)
       by_order h (inl b) = old (inr (inl (record { after = h.after; before = b; worth = h.worth })))
       by_order h (inr (inl e)) =
           old (inr (inr (inl (record {
             when = e;
-            worth = same_transᵉ v (value_at (function p.after) t) (value_at (function l.point) t) h.worth
-                (same_transᵉ (value_at (function p.after) t) (value_at (function p.after) (time l)) (value_at (function l.point) t) (value_same (function p.after) e)
-                (same_transᵉ (value_at (function p.after) (time l)) (value_at (function l.point) (time l)) (value_at (function l.point) t) here (value_same (function l.point) (same_sym e))));
+            worth = same_transᵉ v (value_at (shape.function p.after) t) (value_at (shape.function l.point) t) h.worth
+                (same_transᵉ (value_at (shape.function p.after) t) (value_at (shape.function p.after) (time l)) (value_at (shape.function l.point) t) (value_same (shape.function p.after) e)
+                (same_transᵉ (value_at (shape.function p.after) (time l)) (value_at (shape.function l.point) (time l)) (value_at (shape.function l.point) t) here (value_same (shape.function l.point) (same_sym e))));
           }))))
       by_order h (inr (inr b)) =
-          inr (inl (subst (λ s. s <ʳ t) (sym (stop_end xs p (l ∷ []))) b, h.before, same_transᵉ v (value_at (function p.after) t) (value_at (function after) t) h.worth (on t)))
+          inr (inl (subst (λ s. s <ʳ t) (sym (stop_end xs p (l ∷ []))) b, h.before, same_transᵉ v (value_at (shape.function p.after) t) (value_at (shape.function after) t) h.worth (on t)))
 
-      by_end : IsWorth function (p ∷ ends_at at point ∷ []) t v
-          → IsWorth function (xs ++ p ∷ l ∷ []) t v ⊎ ((stop (xs ++ p ∷ l ∷ []) <ʳ t) × (t <ʳ value at) × Passes (function after) t v) ⊎ ((t ≈ value at) × Passes (function point) t v)
+      by_end : IsWorth shape (p ∷ ends_at at point ∷ []) t v
+          → IsWorth shape (xs ++ p ∷ l ∷ []) t v ⊎ ((stop (xs ++ p ∷ l ∷ []) <ʳ t) × (t <ʳ value at) × Passes (shape.function after) t v) ⊎ ((t ≈ value at) × Passes (shape.function point) t v)
       by_end (inl h) = old (inl h)
       by_end (inr (inl h)) = by_order h (lt_or_same_or_gt t (time l))
       by_end (inr (inr (inl h))) = inr (inr (h.when, h.worth))
@@ -123,30 +124,30 @@ module _ {P : Type 0} (function : P → Affine) where
       by_end (inr (inr (inr (inr h)))) = absurd h
 
   worth_left : (xs : List (Knot P)) (p l : Knot P) (after : P) (at : Frac) (point : P) (t : Rational) (v : Extended) → time p <ʳ time l → time l <ʳ value at
-      → value_at (function p.after) (time l) ≈ᵉ value_at (function l.point) (time l) → AreSame (function p.after) (function after)
-      → IsWorth function (xs ++ p ∷ l ∷ []) t v ⊎ ((stop (xs ++ p ∷ l ∷ []) <ʳ t) × (t <ʳ value at) × Passes (function after) t v) ⊎ ((t ≈ value at) × Passes (function point) t v)
-      → IsWorth function (xs ++ p ∷ ends_at at point ∷ []) t v
-  worth_left xs p l after at point t v order later here on (inl h) = elim (worth_in function xs p p (l ∷ []) (ends_at at point ∷ []) t v refl h) [ inl k ↦ k | inr k ↦ by_end k ]
+      → value_at (shape.function p.after) (time l) ≈ᵉ value_at (shape.function l.point) (time l) → AreSame (shape.function p.after) (shape.function after)
+      → IsWorth shape (xs ++ p ∷ l ∷ []) t v ⊎ ((stop (xs ++ p ∷ l ∷ []) <ʳ t) × (t <ʳ value at) × Passes (shape.function after) t v) ⊎ ((t ≈ value at) × Passes (shape.function point) t v)
+      → IsWorth shape (xs ++ p ∷ ends_at at point ∷ []) t v
+  worth_left xs p l after at point t v order later here on (inl h) = elim (worth_in shape xs p p (l ∷ []) (ends_at at point ∷ []) t v refl h) [ inl k ↦ k | inr k ↦ by_end k ]
     where
-      between : (t <ʳ value at) → (time p <ʳ t) → Passes (function p.after) t v → IsWorth function (xs ++ p ∷ ends_at at point ∷ []) t v
-      between b a w = worth_end function xs (p ∷ ends_at at point ∷ []) t v (inr (inl (record { after = a; before = b; worth = w })))
+      between : (t <ʳ value at) → (time p <ʳ t) → Passes (shape.function p.after) t v → IsWorth shape (xs ++ p ∷ ends_at at point ∷ []) t v
+      between b a w = worth_end shape xs (p ∷ ends_at at point ∷ []) t v (inr (inl (record { after = a; before = b; worth = w })))
 
-      by_end : IsWorth function (p ∷ l ∷ []) t v → IsWorth function (xs ++ p ∷ ends_at at point ∷ []) t v
-      by_end (inl h) = worth_end function xs (p ∷ ends_at at point ∷ []) t v (inl h)
+      by_end : IsWorth shape (p ∷ l ∷ []) t v → IsWorth shape (xs ++ p ∷ ends_at at point ∷ []) t v
+      by_end (inl h) = worth_end shape xs (p ∷ ends_at at point ∷ []) t v (inl h)
       by_end (inr (inl h)) = between (lt_trans h.before later) h.after h.worth
       by_end (inr (inr (inl h))) =
           between (lt_of_le_of_lt (le_of_same h.when) later) (lt_of_lt_of_le order (ge_of_same h.when))
-          (same_transᵉ v (value_at (function l.point) t) (value_at (function p.after) t) h.worth
-          (same_transᵉ (value_at (function l.point) t) (value_at (function l.point) (time l)) (value_at (function p.after) t) (value_same (function l.point) h.when)
-          (same_transᵉ (value_at (function l.point) (time l)) (value_at (function p.after) (time l)) (value_at (function p.after) t)
-          (same_symᵉ (value_at (function p.after) (time l)) (value_at (function l.point) (time l)) here) (value_same (function p.after) (same_sym h.when)))))
+          (same_transᵉ v (value_at (shape.function l.point) t) (value_at (shape.function p.after) t) h.worth
+          (same_transᵉ (value_at (shape.function l.point) t) (value_at (shape.function l.point) (time l)) (value_at (shape.function p.after) t) (value_same (shape.function l.point) h.when)
+          (same_transᵉ (value_at (shape.function l.point) (time l)) (value_at (shape.function p.after) (time l)) (value_at (shape.function p.after) t)
+          (same_symᵉ (value_at (shape.function p.after) (time l)) (value_at (shape.function l.point) (time l)) here) (value_same (shape.function p.after) (same_sym h.when)))))
       by_end (inr (inr (inr (inl h)))) = absurd h
       by_end (inr (inr (inr (inr h)))) = absurd h
   worth_left xs p l after at point t v order later here on (inr (inl h)) =
-      worth_end function xs (p ∷ ends_at at point ∷ []) t v
-      (inr (inl (record { after = lt_trans order (subst (λ s. s <ʳ t) (stop_end xs p (l ∷ [])) h.0); before = h.1; worth = same_transᵉ v (value_at (function after) t) (value_at (function p.after) t) h.2 (same_symᵉ (value_at (function p.after) t) (value_at (function after) t) (on t)) })))
+      worth_end shape xs (p ∷ ends_at at point ∷ []) t v
+      (inr (inl (record { after = lt_trans order (subst (λ s. s <ʳ t) (stop_end xs p (l ∷ [])) h.0); before = h.1; worth = same_transᵉ v (value_at (shape.function after) t) (value_at (shape.function p.after) t) h.2 (same_symᵉ (value_at (shape.function p.after) t) (value_at (shape.function after) t) (on t)) })))
   worth_left xs p l after at point t v order later here on (inr (inr h)) =
-      worth_end function xs (p ∷ ends_at at point ∷ []) t v (inr (inr (inl (record { when = h.0; worth = h.1 }))))
+      worth_end shape xs (p ∷ ends_at at point ∷ []) t v (inr (inr (inl (record { when = h.0; worth = h.1 }))))
 
   left_shapes : (xs : List (Knot P)) (p l : Knot P) (after : P) (at : Frac) (point q : P) → HasShape (xs ++ p ∷ ends_at at point ∷ []) q
       → HasShape (xs ++ p ∷ l ∷ []) q ⊎ (q ≡ after) ⊎ (q ≡ point)
@@ -160,13 +161,13 @@ module _ {P : Type 0} (function : P → Affine) where
       by_end (inr (inr (inr (inr h)))) = absurd h
 
   -- a knot that is not needed leaves
-  pub last_left_out : (xs : List (Knot P)) (p l : Knot P) (after : P) (at : Frac) (point : P) → Each (IsKnot function) (xs ++ p ∷ l ∷ []) → time l <ʳ value at
-      → value_at (function p.after) (time l) ≈ᵉ value_at (function l.point) (time l) → AreSame (function p.after) (function after)
-      → GoesOn function (xs ++ p ∷ l ∷ []) after at point (xs ++ p ∷ ends_at at point ∷ [])
+  pub last_left_out : (xs : List (Knot P)) (p l : Knot P) (after : P) (at : Frac) (point : P) → Each (IsKnot shape) (xs ++ p ∷ l ∷ []) → time l <ʳ value at
+      → value_at (shape.function p.after) (time l) ≈ᵉ value_at (shape.function l.point) (time l) → AreSame (shape.function p.after) (shape.function after)
+      → GoesOn shape (xs ++ p ∷ l ∷ []) after at point (xs ++ p ∷ ends_at at point ∷ [])
   last_left_out xs p l after at point each later here on = record {
     signal = record {
       some = some_in_end xs p (ends_at at point ∷ []);
-      each = replaced_end function xs p l (ends_at at point) [] [] each
+      each = replaced_end shape xs p l (ends_at at point) [] [] each
           (record { rising = lt_trans order later; needed = tt; ends = tt }, (record { rising = tt; needed = tt; ends = refl }, tt));
     };
     begins = start_kept xs p p (ends_at at point ∷ []) (l ∷ []) refl;
@@ -176,13 +177,13 @@ module _ {P : Type 0} (function : P → Affine) where
   }
     where
       order : time p <ʳ time l
-      order = (each_end (IsKnot function) xs (p ∷ l ∷ []) each).0.rising
+      order = (each_end (IsKnot shape) xs (p ∷ l ∷ []) each).0.rising
 
   -- the three cases, by the places in the list
   pub step_first : (old new : List (Knot P)) (after : P) (at : Frac) (point : P) → length old ≡ 1 → stop old <ʳ value at
-      → ((front : List (Knot P)) (last : Knot P) → old ≡ front ++ last ∷ [] → new ≡ front ++ goes_on last after ∷ ends_at at point ∷ []) → GoesOn function old after at point new
+      → ((front : List (Knot P)) (last : Knot P) → old ≡ front ++ last ∷ [] → new ≡ front ++ goes_on last after ∷ ends_at at point ∷ []) → GoesOn shape old after at point new
   step_first [] new after at point count later put = absurd (omega (arith, count))
-  step_first (l ∷ []) new after at point count later put = subst (GoesOn function (l ∷ []) after at point) (sym (put [] l refl)) (first_kept l after at point later)
+  step_first (l ∷ []) new after at point count later put = subst (GoesOn shape (l ∷ []) after at point) (sym (put [] l refl)) (first_kept l after at point later)
   step_first (l ∷ m ∷ ks) new after at point count later put = absurd (omega (arith, count))
 
   split_last : (old : List (Knot P)) (n : ℕ) (p l : Knot P) → length old ≡ n + 2 → p ≡ get_or old n p → l ≡ get_or old (n + 1) l → old ≡ (take n old ++ p ∷ []) ++ l ∷ []
@@ -192,28 +193,28 @@ module _ {P : Type 0} (function : P → Affine) where
   last_time xs p l at h = subst (λ s. s <ʳ value at) (stop_end xs p (l ∷ [])) h
 
   pub step_kept : (old new : List (Knot P)) (n : ℕ) (p l : Knot P) (after : P) (at : Frac) (point : P) → length old ≡ n + 2 → p ≡ get_or old n p → l ≡ get_or old (n + 1) l
-      → Each (IsKnot function) old → stop old <ʳ value at
-      → ¬ ((value_at (function p.after) (time l) ≈ᵉ value_at (function l.point) (time l)) × AreSame (function p.after) (function after))
-      → ((front : List (Knot P)) (last : Knot P) → old ≡ front ++ last ∷ [] → new ≡ front ++ goes_on last after ∷ ends_at at point ∷ []) → GoesOn function old after at point new
+      → Each (IsKnot shape) old → stop old <ʳ value at
+      → ¬ ((value_at (shape.function p.after) (time l) ≈ᵉ value_at (shape.function l.point) (time l)) × AreSame (shape.function p.after) (shape.function after))
+      → ((front : List (Knot P)) (last : Knot P) → old ≡ front ++ last ∷ [] → new ≡ front ++ goes_on last after ∷ ends_at at point ∷ []) → GoesOn shape old after at point new
   step_kept old new n p l after at point count first second each later not_spare put =
       let e = split_two old n p l count first second in
-      subst (λ ks. GoesOn function ks after at point new) (sym e)
-      (subst (GoesOn function (take n old ++ p ∷ l ∷ []) after at point) (sym (put (take n old ++ p ∷ []) l (split_last old n p l count first second) ∙ append_assoc (take n old) (p ∷ []) (goes_on l after ∷ ends_at at point ∷ [])))
-      (last_kept (take n old) p l after at point (subst (Each (IsKnot function)) e each) (last_time (take n old) p l at (subst (λ ks. stop ks <ʳ value at) e later))
+      subst (λ ks. GoesOn shape ks after at point new) (sym e)
+      (subst (GoesOn shape (take n old ++ p ∷ l ∷ []) after at point) (sym (put (take n old ++ p ∷ []) l (split_last old n p l count first second) ∙ append_assoc (take n old) (p ∷ []) (goes_on l after ∷ ends_at at point ∷ [])))
+      (last_kept (take n old) p l after at point (subst (Each (IsKnot shape)) e each) (last_time (take n old) p l at (subst (λ ks. stop ks <ʳ value at) e later))
       (λ spare. not_spare (spare.here, spare.on))))
 
   pub step_left : (old : List (Knot P)) (n m : ℕ) (p l : Knot P) (after : P) (at : Frac) (point : P) → length old ≡ n + 2 → m ≡ n + 1 → p ≡ get_or old n p → l ≡ get_or old m l
-      → Each (IsKnot function) old → stop old <ʳ value at
-      → (value_at (function p.after) (time l) ≈ᵉ value_at (function l.point) (time l)) × AreSame (function p.after) (function after)
-      → GoesOn function old after at point (set old m (ends_at at point))
+      → Each (IsKnot shape) old → stop old <ʳ value at
+      → (value_at (shape.function p.after) (time l) ≈ᵉ value_at (shape.function l.point) (time l)) × AreSame (shape.function p.after) (shape.function after)
+      → GoesOn shape old after at point (set old m (ends_at at point))
   step_left old n m p l after at point count is first read each later spare =
       let second = read_at old is read in
-      subst (λ m. GoesOn function old after at point (set old m (ends_at at point))) (sym is) (
+      subst (λ m. GoesOn shape old after at point (set old m (ends_at at point))) (sym is) (
       let e = split_two old n p l count first second in
       let place : length (take n old ++ p ∷ []) ≡ n + 1 = omega (arith, length-append (take n old) (p ∷ []), length-take n old, count) in
       let new : set old (n + 1) (ends_at at point) ≡ take n old ++ p ∷ ends_at at point ∷ [] =
       ap (λ ks. set ks (n + 1) (ends_at at point)) (split_last old n p l count first second) ∙ set_at (take n old ++ p ∷ []) l [] (ends_at at point) (n + 1) place
       ∙ append_assoc (take n old) (p ∷ []) (ends_at at point ∷ []) in
-      subst (λ ks. GoesOn function ks after at point (set old (n + 1) (ends_at at point))) (sym e)
-      (subst (GoesOn function (take n old ++ p ∷ l ∷ []) after at point) (sym new)
-      (last_left_out (take n old) p l after at point (subst (Each (IsKnot function)) e each) (last_time (take n old) p l at (subst (λ ks. stop ks <ʳ value at) e later)) spare.0 spare.1)))
+      subst (λ ks. GoesOn shape ks after at point (set old (n + 1) (ends_at at point))) (sym e)
+      (subst (GoesOn shape (take n old ++ p ∷ l ∷ []) after at point) (sym new)
+      (last_left_out (take n old) p l after at point (subst (Each (IsKnot shape)) e each) (last_time (take n old) p l at (subst (λ ks. stop ks <ʳ value at) e later)) spare.0 spare.1)))

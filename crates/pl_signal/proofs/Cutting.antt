@@ -5,11 +5,12 @@ use Rattle.std.proofs.lemmas.Bool.{cases_lt}
 use Rattle.std.proofs.lemmas.Option.{slice_get_read, slice_get-get_or, slice_get_past}
 use Rattle.std.proofs.lemmas.List.{append_assoc, take_more, drop_more, take-append-drop, drop-take, get_or_default, get_or-take}
 use Rattle.rational.specs.Time.{Rational, ◌≤ʳ◌, ◌<ʳ◌, ◌≈◌}
-use Rattle.rational.specs.Extended.{Extended, Affine, Passes, value_at}
+use Rattle.rational.specs.Extended.{Extended, Passes, value_at}
 use Rattle.rational.proofs.Order.{le_of_lt, le_of_same, ge_of_same, le_trans, lt_of_lt_of_le, lt_of_le_of_lt, not_lt_of_le, same_refl, same_sym, same_trans}
 use Rattle.rational.proofs.AffineLemmas.{same_symᵉ, same_transᵉ, value_same}
 use Rattle.frac128.specs.Value.{value}
 use Rattle.frac128.specs.declared.frac.Frac.{Frac}
+use Rattle.value_laws.specs.Members.{ShapeOf}
 use Rattle.pl_signal.specs.declared.knot.Knot.{Knot}
 use Rattle.pl_signal.specs.Knots.{time, stop, HasShape, Each, IsWorth, NextIsNeeded, IsKnot, IsSignal}
 use Rattle.pl_signal.specs.Cuts.{StandsFrom, IsCut}
@@ -19,7 +20,7 @@ use Rattle.pl_signal.proofs.ReadingLemmas.{IsReading, read_point, read_after, re
 use Rattle.pl_signal.proofs.Telling.{told_alike}
 use Rattle.pl_signal.proofs.Values.{start_first, stop_at, rising_places, worth_same}
 
-module _ {P : Type 0} (function : P → Affine) where
+module _ {P : Type 0} (shape : ShapeOf P) where
   -- the shape with which a signal that ends after p and before or at n ends at a time
   abbrev pub IsCutBefore : Knot P → Knot P → Frac → P → Type 0
   IsCutBefore p n to last = ((value to ≈ time n) × (last ≡ n.point)) ⊎ ((time p <ʳ value to) × (value to <ʳ time n) × (last ≡ p.after))
@@ -29,32 +30,32 @@ module _ {P : Type 0} (function : P → Affine) where
   before_cut p n to last h (inr c) = c.0
 
   cut_end_worth : (p n : Knot P) (ns : List (Knot P)) (to : Frac) (last : P) (t : Rational) (v : Extended) → time p <ʳ time n → IsCutBefore p n to last
-      → IsWorth function (p ∷ ends_at to last ∷ []) t v → IsWorth function (p ∷ n ∷ ns) t v
+      → IsWorth shape (p ∷ ends_at to last ∷ []) t v → IsWorth shape (p ∷ n ∷ ns) t v
   cut_end_worth p n ns to last t v h c (inl w) = inl w
   cut_end_worth p n ns to last t v h (inl c) (inr (inl w)) = inr (inl (record { after = w.after; before = lt_of_lt_of_le w.before (le_of_same c.0); worth = w.worth }))
   cut_end_worth p n ns to last t v h (inr c) (inr (inl w)) = inr (inl (record { after = w.after; before = lt_of_lt_of_le w.before (le_of_lt c.1); worth = w.worth }))
-  cut_end_worth p n ns to last t v h (inl c) (inr (inr (inl w))) = inr (inr (inl (record { when = same_trans w.when c.0; worth = subst (λ p. Passes (function p) t v) c.1 w.worth })))
+  cut_end_worth p n ns to last t v h (inl c) (inr (inr (inl w))) = inr (inr (inl (record { when = same_trans w.when c.0; worth = subst (λ p. Passes (shape.function p) t v) c.1 w.worth })))
   cut_end_worth p n ns to last t v h (inr c) (inr (inr (inl w))) =
-      inr (inl (record { after = lt_of_lt_of_le c.0 (ge_of_same w.when); before = lt_of_le_of_lt (le_of_same w.when) c.1; worth = subst (λ p. Passes (function p) t v) c.2 w.worth }))
+      inr (inl (record { after = lt_of_lt_of_le c.0 (ge_of_same w.when); before = lt_of_le_of_lt (le_of_same w.when) c.1; worth = subst (λ p. Passes (shape.function p) t v) c.2 w.worth }))
   cut_end_worth p n ns to last t v h c (inr (inr (inr (inl w)))) = absurd w
   cut_end_worth p n ns to last t v h c (inr (inr (inr (inr w)))) = absurd w
 
   -- cut at its end
-  pub cut_end : (xs : List (Knot P)) (p n : Knot P) (ns : List (Knot P)) (to : Frac) (last : P) → IsSignal function (xs ++ p ∷ n ∷ ns) → IsCutBefore p n to last
-      → IsSignal function (xs ++ p ∷ ends_at to last ∷ []) × ((t : Rational) (v : Extended) → IsWorth function (xs ++ p ∷ ends_at to last ∷ []) t v → IsWorth function (xs ++ p ∷ n ∷ ns) t v)
+  pub cut_end : (xs : List (Knot P)) (p n : Knot P) (ns : List (Knot P)) (to : Frac) (last : P) → IsSignal shape (xs ++ p ∷ n ∷ ns) → IsCutBefore p n to last
+      → IsSignal shape (xs ++ p ∷ ends_at to last ∷ []) × ((t : Rational) (v : Extended) → IsWorth shape (xs ++ p ∷ ends_at to last ∷ []) t v → IsWorth shape (xs ++ p ∷ n ∷ ns) t v)
       × ((q : P) → HasShape (xs ++ p ∷ ends_at to last ∷ []) q → HasShape (xs ++ p ∷ n ∷ ns) q)
   cut_end xs p n ns to last s c = (
     record {
       some = some_in_end xs p (ends_at to last ∷ []);
-      each = replaced_end function xs p n (ends_at to last) ns [] s.each
+      each = replaced_end shape xs p n (ends_at to last) ns [] s.each
           (record { rising = before_cut p n to last order c; needed = tt; ends = tt }, (record { rising = tt; needed = tt; ends = refl }, tt));
     },
-    (λ t v w. elim (worth_in function xs p p (ends_at to last ∷ []) (n ∷ ns) t v refl w) [ inl k ↦ k | inr k ↦ worth_end function xs (p ∷ n ∷ ns) t v (cut_end_worth p n ns to last t v order c k) ]),
+    (λ t v w. elim (worth_in shape xs p p (ends_at to last ∷ []) (n ∷ ns) t v refl w) [ inl k ↦ k | inr k ↦ worth_end shape xs (p ∷ n ∷ ns) t v (cut_end_worth p n ns to last t v order c k) ]),
     λ q h. elim (shape_in xs (p ∷ ends_at to last ∷ []) q h) [ inl k ↦ shape_front xs (p ∷ n ∷ ns) q k | inr k ↦ shape_end xs (p ∷ n ∷ ns) q (by_end q k c) ],
   )
     where
       order : time p <ʳ time n
-      order = (each_end (IsKnot function) xs (p ∷ n ∷ ns) s.each).0.rising
+      order = (each_end (IsKnot shape) xs (p ∷ n ∷ ns) s.each).0.rising
 
       of_last : (q : P) → q ≡ last → IsCutBefore p n to last → HasShape (p ∷ n ∷ ns) q
       of_last q e (inl c) = inr (inr (inl (e ∙ c.1)))
@@ -71,28 +72,28 @@ module _ {P : Type 0} (function : P → Affine) where
   begins_at k from first = record { time = from; point = first; after = k.after }
 
   cut_start_worth : (k b : Knot P) (bs : List (Knot P)) (from : Frac) (first : P) (t : Rational) (v : Extended) → value from <ʳ time b → StandsFrom k from first
-      → IsWorth function (begins_at k from first ∷ b ∷ bs) t v → IsWorth function (k ∷ b ∷ bs) t v
-  cut_start_worth k b bs from first t v h (inl c) (inl w) = inl (record { when = same_trans w.when (same_sym c.0); worth = subst (λ p. Passes (function p) t v) c.1 w.worth })
+      → IsWorth shape (begins_at k from first ∷ b ∷ bs) t v → IsWorth shape (k ∷ b ∷ bs) t v
+  cut_start_worth k b bs from first t v h (inl c) (inl w) = inl (record { when = same_trans w.when (same_sym c.0); worth = subst (λ p. Passes (shape.function p) t v) c.1 w.worth })
   cut_start_worth k b bs from first t v h (inr c) (inl w) =
-      inr (inl (record { after = lt_of_lt_of_le c.0 (ge_of_same w.when); before = lt_of_le_of_lt (le_of_same w.when) h; worth = subst (λ p. Passes (function p) t v) c.1 w.worth }))
+      inr (inl (record { after = lt_of_lt_of_le c.0 (ge_of_same w.when); before = lt_of_le_of_lt (le_of_same w.when) h; worth = subst (λ p. Passes (shape.function p) t v) c.1 w.worth }))
   cut_start_worth k b bs from first t v h (inl c) (inr (inl w)) = inr (inl (record { after = lt_of_le_of_lt (le_of_same c.0) w.after; before = w.before; worth = w.worth }))
   cut_start_worth k b bs from first t v h (inr c) (inr (inl w)) = inr (inl (record { after = lt_of_lt_of_le c.0 (le_of_lt w.after); before = w.before; worth = w.worth }))
   cut_start_worth k b bs from first t v h c (inr (inr w)) = inr (inr w)
 
   -- cut at its start
-  pub cut_start : (xs : List (Knot P)) (k b : Knot P) (bs : List (Knot P)) (from : Frac) (first : P) → IsSignal function (xs ++ k ∷ b ∷ bs) → value from <ʳ time b → StandsFrom k from first
-      → IsSignal function (begins_at k from first ∷ b ∷ bs) × ((t : Rational) (v : Extended) → IsWorth function (begins_at k from first ∷ b ∷ bs) t v → IsWorth function (xs ++ k ∷ b ∷ bs) t v)
+  pub cut_start : (xs : List (Knot P)) (k b : Knot P) (bs : List (Knot P)) (from : Frac) (first : P) → IsSignal shape (xs ++ k ∷ b ∷ bs) → value from <ʳ time b → StandsFrom k from first
+      → IsSignal shape (begins_at k from first ∷ b ∷ bs) × ((t : Rational) (v : Extended) → IsWorth shape (begins_at k from first ∷ b ∷ bs) t v → IsWorth shape (xs ++ k ∷ b ∷ bs) t v)
       × ((q : P) → HasShape (begins_at k from first ∷ b ∷ bs) q → HasShape (xs ++ k ∷ b ∷ bs) q)
   cut_start xs k b bs from first s h c = (
     record { some = some_in_end [] (begins_at k from first) (b ∷ bs); each = (record { rising = h; needed = needed_as bs each.0.needed; ends = tt }, each.1) },
-    (λ t v w. worth_end function xs (k ∷ b ∷ bs) t v (cut_start_worth k b bs from first t v h c w)),
+    (λ t v w. worth_end shape xs (k ∷ b ∷ bs) t v (cut_start_worth k b bs from first t v h c w)),
     λ q m. shape_end xs (k ∷ b ∷ bs) q (by_start q m c),
   )
     where
-      each : Each (IsKnot function) (k ∷ b ∷ bs)
-      each = each_end (IsKnot function) xs (k ∷ b ∷ bs) s.each
+      each : Each (IsKnot shape) (k ∷ b ∷ bs)
+      each = each_end (IsKnot shape) xs (k ∷ b ∷ bs) s.each
 
-      needed_as : (bs : List (Knot P)) → NextIsNeeded function k (b ∷ bs) → NextIsNeeded function (begins_at k from first) (b ∷ bs)
+      needed_as : (bs : List (Knot P)) → NextIsNeeded shape k (b ∷ bs) → NextIsNeeded shape (begins_at k from first) (b ∷ bs)
       needed_as [] n = tt
       needed_as (d ∷ bs) n = λ spare. n (record { here = spare.here; on = spare.on })
 
@@ -103,12 +104,12 @@ module _ {P : Type 0} (function : P → Affine) where
 
   -- between a knot k and the knots of D on one side, and n on the other
   cut_both : (xs : List (Knot P)) (k : Knot P) (D : List (Knot P)) (p n : Knot P) (ys ns : List (Knot P)) (from to : Frac) (first last : P)
-      → xs ++ k ∷ D ≡ ys ++ p ∷ [] → IsSignal function (ys ++ p ∷ n ∷ ns) → value from <ʳ value to → StandsFrom k from first → IsCutBefore p n to last
+      → xs ++ k ∷ D ≡ ys ++ p ∷ [] → IsSignal shape (ys ++ p ∷ n ∷ ns) → value from <ʳ value to → StandsFrom k from first → IsCutBefore p n to last
       → ((b : Knot P) (bs : List (Knot P)) → D ≡ b ∷ bs → value from <ʳ time b)
-      → IsCut function (ys ++ p ∷ n ∷ ns) from to (begins_at k from first ∷ D ++ ends_at to last ∷ [])
+      → IsCut shape (ys ++ p ∷ n ∷ ns) from to (begins_at k from first ∷ D ++ ends_at to last ∷ [])
   cut_both xs k D p n ys ns from to first last e s order begins ends later = by_list D e later
     where
-      ended : IsSignal function (ys ++ p ∷ ends_at to last ∷ []) × ((t : Rational) (v : Extended) → IsWorth function (ys ++ p ∷ ends_at to last ∷ []) t v → IsWorth function (ys ++ p ∷ n ∷ ns) t v)
+      ended : IsSignal shape (ys ++ p ∷ ends_at to last ∷ []) × ((t : Rational) (v : Extended) → IsWorth shape (ys ++ p ∷ ends_at to last ∷ []) t v → IsWorth shape (ys ++ p ∷ n ∷ ns) t v)
           × ((q : P) → HasShape (ys ++ p ∷ ends_at to last ∷ []) q → HasShape (ys ++ p ∷ n ∷ ns) q)
       ended = cut_end ys p n ns to last s ends
 
@@ -116,16 +117,16 @@ module _ {P : Type 0} (function : P → Affine) where
       whole_is D e = sym (append_assoc ys (p ∷ []) (ends_at to last ∷ [])) ∙ ap (λ ks. ks ++ ends_at to last ∷ []) (sym e) ∙ append_assoc xs (k ∷ D) (ends_at to last ∷ [])
 
       by_start : (b : Knot P) (bs : List (Knot P)) → ys ++ p ∷ ends_at to last ∷ [] ≡ xs ++ k ∷ b ∷ bs → value from <ʳ time b → stop (b ∷ bs) ≡ value to
-          → IsCut function (ys ++ p ∷ n ∷ ns) from to (begins_at k from first ∷ b ∷ bs)
+          → IsCut shape (ys ++ p ∷ n ∷ ns) from to (begins_at k from first ∷ b ∷ bs)
       by_start b bs same h stops =
-          let started = cut_start xs k b bs from first (subst (IsSignal function) same ended.0) h begins in record {
-            tells = told_alike function (ys ++ p ∷ n ∷ ns) (begins_at k from first ∷ b ∷ bs) (value from) (value to) s started.0 (same_refl (value from)) (subst (λ u. stop (b ∷ bs) ≈ u) stops (same_refl (stop (b ∷ bs))))
-                (λ t v w. ended.1 t v (subst (λ ks. IsWorth function ks t v) (sym same) (started.1 t v w)));
+          let started = cut_start xs k b bs from first (subst (IsSignal shape) same ended.0) h begins in record {
+            tells = told_alike shape (ys ++ p ∷ n ∷ ns) (begins_at k from first ∷ b ∷ bs) (value from) (value to) s started.0 (same_refl (value from)) (subst (λ u. stop (b ∷ bs) ≈ u) stops (same_refl (stop (b ∷ bs))))
+                (λ t v w. ended.1 t v (subst (λ ks. IsWorth shape ks t v) (sym same) (started.1 t v w)));
             shapes = λ q h. ended.2 q (subst (λ ks. HasShape ks q) (sym same) (started.2 q h));
           }
 
       by_list : (D : List (Knot P)) → xs ++ k ∷ D ≡ ys ++ p ∷ [] → ((b : Knot P) (bs : List (Knot P)) → D ≡ b ∷ bs → value from <ʳ time b)
-          → IsCut function (ys ++ p ∷ n ∷ ns) from to (begins_at k from first ∷ D ++ ends_at to last ∷ [])
+          → IsCut shape (ys ++ p ∷ n ∷ ns) from to (begins_at k from first ∷ D ++ ends_at to last ∷ [])
       by_list [] e later = by_start (ends_at to last) [] (whole_is [] e) order refl
       by_list (b ∷ bs) e later = by_start b (bs ++ ends_at to last ∷ []) (whole_is (b ∷ bs) e) (later b bs refl) (stop_end (b ∷ bs) (ends_at to last) [])
 
@@ -139,15 +140,15 @@ module _ {P : Type 0} (function : P → Affine) where
   first_of (k ∷ ks) (suc n) m b bs h = first_of ks n m b bs h
 
   -- by the places of the knots
-  pub cut_places : (ks : List (Knot P)) (i d : ℕ) (k p n : Knot P) (from to : Frac) (first last : P) → IsSignal function ks → i ≤ d → d + 1 < length ks
+  pub cut_places : (ks : List (Knot P)) (i d : ℕ) (k p n : Knot P) (from to : Frac) (first last : P) → IsSignal shape ks → i ≤ d → d + 1 < length ks
       → k ≡ get_or ks i k → p ≡ get_or ks d p → n ≡ get_or ks (d + 1) n → value from <ʳ value to → StandsFrom k from first → IsCutBefore p n to last
       → ((b : Knot P) → slice_get ks (i + 1) ≡ Some b → value from <ʳ time b)
-      → IsCut function ks from to (begins_at k from first ∷ slice_range ks (i + 1) (d + 1) ++ ends_at to last ∷ [])
+      → IsCut shape ks from to (begins_at k from first ∷ slice_range ks (i + 1) (d + 1) ++ ends_at to last ∷ [])
   cut_places ks i d k p n from to first last s le more at_i at_d at_e order begins ends later =
-      subst (λ D. IsCut function ks from to (begins_at k from first ∷ D ++ ends_at to last ∷ [])) middle_is
-      (subst (λ os. IsCut function os from to (begins_at k from first ∷ drop (i + 1) (take (d + 1) ks) ++ ends_at to last ∷ [])) (sym ks_is)
+      subst (λ D. IsCut shape ks from to (begins_at k from first ∷ D ++ ends_at to last ∷ [])) middle_is
+      (subst (λ os. IsCut shape os from to (begins_at k from first ∷ drop (i + 1) (take (d + 1) ks) ++ ends_at to last ∷ [])) (sym ks_is)
       (cut_both (take i (take (d + 1) ks)) k (drop (i + 1) (take (d + 1) ks)) p n (take d ks) (drop (d + 1 + 1) ks) from to first last
-      (sym front_is ∙ front_too) (subst (IsSignal function) ks_is s) order begins ends
+      (sym front_is ∙ front_too) (subst (IsSignal shape) ks_is s) order begins ends
       (λ b bs h. later b (first_of ks (i + 1) (d + 1 - (i + 1)) b bs (sym middle_is ∙ h)))))
     where
       middle_is : drop (i + 1) (take (d + 1) ks) ≡ slice_range ks (i + 1) (d + 1)
@@ -168,10 +169,10 @@ module _ {P : Type 0} (function : P → Affine) where
       front_too = take_more ks d p (omega (arith, more)) ∙ ap (λ q. take d ks ++ q ∷ []) (sym at_d)
 
   -- one instant
-  pub cut_instant : (ks : List (Knot P)) (i : ℕ) (k : Knot P) (from to : Frac) (first : P) → IsSignal function ks → i < length ks → k ≡ get_or ks i k → value from ≈ value to
-      → value from ≤ʳ stop ks → StandsFrom k from first → ((b : Knot P) → slice_get ks (i + 1) ≡ Some b → value from <ʳ time b) → IsCut function ks from to (ends_at from first ∷ [])
+  pub cut_instant : (ks : List (Knot P)) (i : ℕ) (k : Knot P) (from to : Frac) (first : P) → IsSignal shape ks → i < length ks → k ≡ get_or ks i k → value from ≈ value to
+      → value from ≤ʳ stop ks → StandsFrom k from first → ((b : Knot P) → slice_get ks (i + 1) ≡ Some b → value from <ʳ time b) → IsCut shape ks from to (ends_at from first ∷ [])
   cut_instant ks i k from to first s inside at_i same last begins later = record {
-    tells = told_alike function ks (ends_at from first ∷ []) (value from) (value to) s
+    tells = told_alike shape ks (ends_at from first ∷ []) (value from) (value to) s
         (record { some = omega arith; each = (record { rising = tt; needed = tt; ends = refl }, tt) }) (same_refl (value from)) same by_worth;
     shapes = by_shape begins;
   }
@@ -182,16 +183,16 @@ module _ {P : Type 0} (function : P → Affine) where
       more : time k <ʳ value from → i + 1 < length ks
       more h = elim (cases_lt (i + 1) (length ks)) as (λ v. i + 1 < length ks) [
         | inl l ↦ l
-        | inr l ↦ absurd (read_none function ks i k (value from) here (omega (arith, l, inside)) h (record { above = le_trans (start_first function ks i k s.each here) (le_of_lt h); below = last }))
+        | inr l ↦ absurd (read_none shape ks i k (value from) here (omega (arith, l, inside)) h (record { above = le_trans (start_first shape ks i k s.each here) (le_of_lt h); below = last }))
       ]
 
-      reading : StandsFrom k from first → IsReading function ks (value from) first
-      reading (inl c) = subst (IsReading function ks (value from)) (sym c.1) (read_point function ks i k (value from) s here c.0)
-      reading (inr c) = subst (IsReading function ks (value from)) (sym c.1) (read_after function ks i k (value from) s here (more c.0) c.0 later)
+      reading : StandsFrom k from first → IsReading shape ks (value from) first
+      reading (inl c) = subst (IsReading shape ks (value from)) (sym c.1) (read_point shape ks i k (value from) s here c.0)
+      reading (inr c) = subst (IsReading shape ks (value from)) (sym c.1) (read_after shape ks i k (value from) s here (more c.0) c.0 later)
 
-      by_worth : (t : Rational) (v : Extended) → IsWorth function (ends_at from first ∷ []) t v → IsWorth function ks t v
-      by_worth t v (inl w) = worth_same function ks (value_at (function first) (value from)) v (same_sym w.when)
-          (same_symᵉ v (value_at (function first) (value from)) (same_transᵉ v (value_at (function first) t) (value_at (function first) (value from)) w.worth (value_same (function first) w.when))) (reading begins).2
+      by_worth : (t : Rational) (v : Extended) → IsWorth shape (ends_at from first ∷ []) t v → IsWorth shape ks t v
+      by_worth t v (inl w) = worth_same shape ks (value_at (shape.function first) (value from)) v (same_sym w.when)
+          (same_symᵉ v (value_at (shape.function first) (value from)) (same_transᵉ v (value_at (shape.function first) t) (value_at (shape.function first) (value from)) w.worth (value_same (shape.function first) w.when))) (reading begins).2
       by_worth t v (inr (inl w)) = absurd w
       by_worth t v (inr (inr w)) = absurd w
 
@@ -204,37 +205,37 @@ module _ {P : Type 0} (function : P → Affine) where
   pub not_last : (ks : List (Knot P)) (j : ℕ) (k : Knot P) (to : Rational) → slice_get ks j ≡ Some k → j < length ks → to ≤ʳ stop ks → time k <ʳ to → j + 1 < length ks
   not_last ks j k to here inside last h = elim (cases_lt (j + 1) (length ks)) as (λ v. j + 1 < length ks) [
     | inl l ↦ l
-    | inr l ↦ absurd (not_lt_of_le (subst (λ s. to ≤ʳ s) (stop_at function ks j k here (slice_get_past ks (j + 1) l)) last) h)
+    | inr l ↦ absurd (not_lt_of_le (subst (λ s. to ≤ʳ s) (stop_at shape ks j k here (slice_get_past ks (j + 1) l)) last) h)
   ]
 
   -- an earlier knot has an earlier place
-  pub place_before : (ks : List (Knot P)) (i j : ℕ) (k n : Knot P) → Each (IsKnot function) ks → slice_get ks i ≡ Some k → slice_get ks j ≡ Some n → time k <ʳ time n → i < j
+  pub place_before : (ks : List (Knot P)) (i j : ℕ) (k n : Knot P) → Each (IsKnot shape) ks → slice_get ks i ≡ Some k → slice_get ks j ≡ Some n → time k <ʳ time n → i < j
   place_before ks i j k n h e f l = elim (cases_lt i j) as (λ v. i < j) [
     | inl b ↦ b
-    | inr b ↦ absurd (not_lt_of_le (rising_places function ks j i n k h f e b) l)
+    | inr b ↦ absurd (not_lt_of_le (rising_places shape ks j i n k h f e b) l)
   ]
 
   -- where the stretch ends at a knot
-  pub cut_at_knot : (ks : List (Knot P)) (i j : ℕ) (k n : Knot P) (from to : Frac) (first : P) → IsSignal function ks → i < length ks → j < length ks
+  pub cut_at_knot : (ks : List (Knot P)) (i j : ℕ) (k n : Knot P) (from to : Frac) (first : P) → IsSignal shape ks → i < length ks → j < length ks
       → k ≡ get_or ks i k → n ≡ get_or ks j n → value from <ʳ value to → time k ≤ʳ value from → StandsFrom k from first
       → ((b : Knot P) → slice_get ks (i + 1) ≡ Some b → value from <ʳ time b) → time n ≈ value to
-      → (i < j) × IsCut function ks from to (begins_at k from first ∷ slice_range ks (i + 1) j ++ ends_at to n.point ∷ [])
+      → (i < j) × IsCut shape ks from to (begins_at k from first ∷ slice_range ks (i + 1) j ++ ends_at to n.point ∷ [])
   cut_at_knot ks i j k n from to first s in_i in_j at_i at_j order not_later stands later here =
       let before = place_before ks i j k n s.each (slice_get_read ks (length ks) i k refl in_i at_i) (slice_get_read ks (length ks) j n refl in_j at_j)
       (lt_of_le_of_lt not_later (lt_of_lt_of_le order (ge_of_same here))) in
       let place : (j - 1) + 1 ≡ j = omega (arith, before) in
       let p = get_or ks (j - 1) k in (
         before,
-        subst (λ e. IsCut function ks from to (begins_at k from first ∷ slice_range ks (i + 1) e ++ ends_at to n.point ∷ [])) place
+        subst (λ e. IsCut shape ks from to (begins_at k from first ∷ slice_range ks (i + 1) e ++ ends_at to n.point ∷ [])) place
             (cut_places ks i (j - 1) k p n from to first n.point s (omega (arith, before)) (omega (arith, before, in_j)) at_i (get_or_default ks (j - 1) k p (omega (arith, in_j)))
             (subst (λ e. n ≡ get_or ks e n) (sym place) at_j) order stands (inl (same_sym here, refl)) later),
       )
 
   -- where it ends after a knot
-  pub cut_after_knot : (ks : List (Knot P)) (i j : ℕ) (k n : Knot P) (from to : Frac) (first : P) → IsSignal function ks → i < length ks → j < length ks
+  pub cut_after_knot : (ks : List (Knot P)) (i j : ℕ) (k n : Knot P) (from to : Frac) (first : P) → IsSignal shape ks → i < length ks → j < length ks
       → k ≡ get_or ks i k → n ≡ get_or ks j n → value from <ʳ value to → time k ≤ʳ value from → StandsFrom k from first
       → ((b : Knot P) → slice_get ks (i + 1) ≡ Some b → value from <ʳ time b) → time n <ʳ value to → ((b : Knot P) → slice_get ks (j + 1) ≡ Some b → value to <ʳ time b) → value to ≤ʳ stop ks
-      → (i ≤ j) × (j + 1 < length ks) × IsCut function ks from to (begins_at k from first ∷ slice_range ks (i + 1) (j + 1) ++ ends_at to n.after ∷ [])
+      → (i ≤ j) × (j + 1 < length ks) × IsCut shape ks from to (begins_at k from first ∷ slice_range ks (i + 1) (j + 1) ++ ends_at to n.after ∷ [])
   cut_after_knot ks i j k n from to first s in_i in_j at_i at_j order not_later stands later before_to after_to last =
       let here = slice_get_read ks (length ks) j n refl in_j at_j in
       let more = not_last ks j n (value to) here in_j last before_to in

@@ -2,8 +2,9 @@
 use Rattle.std.proofs.Common.{◌≡◌, ℕ, ◌+◌, ◌<◌, ◌⊎◌, inl, inr, List, [], ◌∷◌, ◌++◌, length, get_or, set, take, refl, sym, ◌∙◌, ap, subst, arith, length-append}
 use Rattle.std.proofs.lemmas.List.{take_more, take_all, get_or_at, set_at, append_assoc}
 use Rattle.rational.specs.Time.{Rational, ◌<ʳ◌}
-use Rattle.rational.specs.Extended.{Extended, Affine}
+use Rattle.rational.specs.Extended.{Extended}
 use Rattle.frac128.specs.Value.{value}
+use Rattle.value_laws.specs.Members.{ShapeOf}
 use Rattle.pl_signal.specs.declared.knot.Knot.{Knot}
 use Rattle.pl_signal.specs.Knots.{start, stop, HasShape, Each, IsInGap, IsWorth, IsKnot}
 
@@ -76,28 +77,28 @@ module _ {P : Type 0} where
   each_end Q [] ks h = h
   each_end Q (x ∷ xs) ks h = each_end Q xs ks h.1
 
-module _ {P : Type 0} (function : P → Affine) where
+module _ {P : Type 0} (shape : ShapeOf P) where
   -- the knots before one that both lists have stay in their places
-  pub replaced_end : (xs : List (Knot P)) (p a b : Knot P) (ks ls : List (Knot P)) → Each (IsKnot function) (xs ++ p ∷ a ∷ ks) → Each (IsKnot function) (p ∷ b ∷ ls)
-      → Each (IsKnot function) (xs ++ p ∷ b ∷ ls)
+  pub replaced_end : (xs : List (Knot P)) (p a b : Knot P) (ks ls : List (Knot P)) → Each (IsKnot shape) (xs ++ p ∷ a ∷ ks) → Each (IsKnot shape) (p ∷ b ∷ ls)
+      → Each (IsKnot shape) (xs ++ p ∷ b ∷ ls)
   replaced_end [] p a b ks ls h k = k
   replaced_end (x ∷ []) p a b ks ls (h, hs) k = (record { rising = h.rising; needed = h.needed; ends = tt }, k)
   replaced_end (x ∷ y ∷ []) p a b ks ls (h, hs) k = (record { rising = h.rising; needed = h.needed; ends = tt }, replaced_end (y ∷ []) p a b ks ls hs k)
   replaced_end (x ∷ y ∷ z ∷ xs) p a b ks ls (h, hs) k = (record { rising = h.rising; needed = h.needed; ends = tt }, replaced_end (y ∷ z ∷ xs) p a b ks ls hs k)
 
   pub gap_kept : (x : Knot P) (xs : List (Knot P)) (a b : Knot P) (ks ls : List (Knot P)) (t : Rational) (v : Extended) → a.time ≡ b.time
-      → IsInGap function x (xs ++ a ∷ ks) t v → IsInGap function x (xs ++ b ∷ ls) t v
+      → IsInGap shape x (xs ++ a ∷ ks) t v → IsInGap shape x (xs ++ b ∷ ls) t v
   gap_kept x [] a b ks ls t v e h = record { after = h.after; before = subst (λ w. t <ʳ value w) e h.before; worth = h.worth }
   gap_kept x (y ∷ xs) a b ks ls t v e h = h
 
   -- a value is of the knots before, which both lists have, or of those at the end
   pub worth_in : (xs : List (Knot P)) (a b : Knot P) (ks ls : List (Knot P)) (t : Rational) (v : Extended) → a.time ≡ b.time
-      → IsWorth function (xs ++ a ∷ ks) t v → IsWorth function (xs ++ b ∷ ls) t v ⊎ IsWorth function (a ∷ ks) t v
+      → IsWorth shape (xs ++ a ∷ ks) t v → IsWorth shape (xs ++ b ∷ ls) t v ⊎ IsWorth shape (a ∷ ks) t v
   worth_in [] a b ks ls t v e h = inr h
   worth_in (x ∷ xs) a b ks ls t v e (inl h) = inl (inl h)
   worth_in (x ∷ xs) a b ks ls t v e (inr (inl h)) = inl (inr (inl (gap_kept x xs a b ks ls t v e h)))
   worth_in (x ∷ xs) a b ks ls t v e (inr (inr h)) = elim (worth_in xs a b ks ls t v e h) [ inl k ↦ inl (inr (inr k)) | inr k ↦ inr k ]
 
-  pub worth_end : (xs ks : List (Knot P)) (t : Rational) (v : Extended) → IsWorth function ks t v → IsWorth function (xs ++ ks) t v
+  pub worth_end : (xs ks : List (Knot P)) (t : Rational) (v : Extended) → IsWorth shape ks t v → IsWorth shape (xs ++ ks) t v
   worth_end [] ks t v h = h
   worth_end (x ∷ xs) ks t v h = inr (inr (worth_end xs ks t v h))

@@ -1,5 +1,5 @@
 -- Signals moved in time, knot by knot.
-use Rattle.std.proofs.Common.{◌≡◌, ℕ, zero, suc, ◌+◌, ◌-◌, ◌*◌, ◌<◌, ◌^◌, ◌⊎◌, inl, inr, List, [], ◌∷◌, length, Some, ℤ, pos, neg_ℤ, refl, sym, ◌∙◌, ap, subst, arith, Bool, IsTrue, get_or, negsuc, ◌≤ℤ◌, ◌-ℤ◌, ◌≤◌}
+use Rattle.std.proofs.Common.{◌≡◌, ℕ, zero, suc, ◌+◌, ◌-◌, ◌*◌, ◌<◌, ◌^◌, ◌⊎◌, inl, inr, List, [], ◌∷◌, length, Some, ℤ, pos, neg_ℤ, refl, sym, ◌∙◌, ap, subst, arith, IsTrue, get_or, negsuc, ◌≤ℤ◌, ◌-ℤ◌, ◌≤◌}
 use Rattle.std.specs.Prelude.{slice_get}
 use Rattle.std.specs.Int.{w64}
 use Rattle.std.proofs.lemmas.Option.{slice_get_past, slice_get-get_or}
@@ -8,13 +8,14 @@ use Rattle.std.specs.Prelude.{FitsSigned}
 use Rattle.std.proofs.Common.{le_of_mul-le-mul_right}
 use Rattle.rational.specs.Rational.{Rational, part_above, part_below, add, subtract, whole, IsWithin}
 use Rattle.rational.specs.Time.{Within, ◌≤ʳ◌, ◌<ʳ◌, ◌≈◌}
-use Rattle.rational.specs.Extended.{Extended, Affine, value_at, ◌≈ᵉ◌}
+use Rattle.rational.specs.Extended.{Extended, value_at, ◌≈ᵉ◌}
 use Rattle.rational.proofs.Mixed.{parts}
 use Rattle.rational.proofs.Order.{le_trans, lt_of_lt_of_le, lt_of_le_of_lt, le_of_same, ge_of_same, same_refl, same_sym, same_trans}
 use Rattle.rational.proofs.Shift.{shift_back, le_shift, lt_shift, same_shift}
 use Rattle.rational.proofs.AffineLemmas.{same_symᵉ, same_transᵉ, value_same}
 use Rattle.frac128.specs.Value.{value}
 use Rattle.frac128.specs.declared.frac.Frac.{Frac}
+use Rattle.value_laws.specs.Members.{ShapeOf}
 use Rattle.pl_signal.specs.declared.knot.Knot.{Knot}
 use Rattle.pl_signal.specs.Knots.{time, start, stop, HasShape, IsWorth, IsSignal}
 use Rattle.pl_signal.specs.Limits.{IsLimited}
@@ -42,64 +43,64 @@ mirror_same {t} {u} z h = record { same = omega (arith, h.same) }
 pub mirror_twice : (t : Rational) (z : ℤ) → subtract (whole z) (subtract (whole z) t) ≈ t
 mirror_twice t z = omega arith
 
-module _ {P : Type 0} (function : P → Affine) where
-  pub moved_is_function : (ks : List (Knot P)) (back : Rational → Rational) → ((t u : Rational) → t ≈ u → back t ≈ back u) → IsSignal function ks → IsFunction (λ t v. IsWorth function ks (back t) v)
+module _ {P : Type 0} (shape : ShapeOf P) where
+  pub moved_is_function : (ks : List (Knot P)) (back : Rational → Rational) → ((t u : Rational) → t ≈ u → back t ≈ back u) → IsSignal shape ks → IsFunction (λ t v. IsWorth shape ks (back t) v)
   moved_is_function ks back alike s = record {
-    alike = λ t u v w e f h. worth_same function ks v w (alike t u e) f h;
-    one = λ t v w a b. one_value function ks (back t) v w s a b;
+    alike = λ t u v w e f h. worth_same shape ks v w (alike t u e) f h;
+    one = λ t v w a b. one_value shape ks (back t) v w s a b;
   }
 
   -- one knot more
-  pub moved_on : (ks old new : List (Knot P)) (back : Rational → Rational) (i p : ℕ) (k n m : Knot P) (after point : P) (at : Frac) → IsFunction (λ t v. IsWorth function ks (back t) v)
-      → TellsSoFar function (λ t v. IsWorth function ks (back t) v) old → GoesOn function old after at point new
+  pub moved_on : (ks old new : List (Knot P)) (back : Rational → Rational) (i p : ℕ) (k n m : Knot P) (after point : P) (at : Frac) → IsFunction (λ t v. IsWorth shape ks (back t) v)
+      → TellsSoFar shape (λ t v. IsWorth shape ks (back t) v) old → GoesOn shape old after at point new
       → slice_get ks i ≡ Some k → slice_get ks (i + 1) ≡ Some n → slice_get ks p ≡ Some m
       → ((t : Rational) → stop old <ʳ t → t <ʳ value at → (time k <ʳ back t) × (back t <ʳ time n)) → back (value at) ≈ time m
-      → ((t : Rational) → value_at (function after) t ≈ᵉ value_at (function k.after) (back t)) → ((t : Rational) → value_at (function point) t ≈ᵉ value_at (function m.point) (back t))
-      → TellsSoFar function (λ t v. IsWorth function ks (back t) v) new
+      → ((t : Rational) → value_at (shape.function after) t ≈ᵉ value_at (shape.function k.after) (back t)) → ((t : Rational) → value_at (shape.function point) t ≈ᵉ value_at (shape.function m.point) (back t))
+      → TellsSoFar shape (λ t v. IsWorth shape ks (back t) v) new
   moved_on ks old new back i p k n m after point at is so_far on at_i at_next at_p between arrives afters points =
-      tells_on function (λ t v. IsWorth function ks (back t) v) old new after point at is so_far on
-      (λ t a b. let h = between t a b in worth_same function ks (value_at (function k.after) (back t)) (value_at (function after) t) (same_refl (back t))
-      (same_symᵉ (value_at (function after) t) (value_at (function k.after) (back t)) (afters t)) (worth_between function ks i k n (back t) at_i at_next h.0 h.1))
-      (worth_same function ks (value_at (function m.point) (back (value at))) (value_at (function point) (value at)) (same_refl (back (value at)))
-      (same_symᵉ (value_at (function point) (value at)) (value_at (function m.point) (back (value at))) (points (value at))) (worth_at function ks p m (back (value at)) at_p arrives))
+      tells_on shape (λ t v. IsWorth shape ks (back t) v) old new after point at is so_far on
+      (λ t a b. let h = between t a b in worth_same shape ks (value_at (shape.function k.after) (back t)) (value_at (shape.function after) t) (same_refl (back t))
+      (same_symᵉ (value_at (shape.function after) t) (value_at (shape.function k.after) (back t)) (afters t)) (worth_between shape ks i k n (back t) at_i at_next h.0 h.1))
+      (worth_same shape ks (value_at (shape.function m.point) (back (value at))) (value_at (shape.function point) (value at)) (same_refl (back (value at)))
+      (same_symᵉ (value_at (shape.function point) (value at)) (value_at (shape.function m.point) (back (value at))) (points (value at))) (worth_at shape ks p m (back (value at)) at_p arrives))
 
   -- the first knot
-  pub moved_first : (ks : List (Knot P)) (back : Rational → Rational) (p : ℕ) (m : Knot P) (point : P) (at : Frac) → IsFunction (λ t v. IsWorth function ks (back t) v) → slice_get ks p ≡ Some m
-      → back (value at) ≈ time m → ((t : Rational) → value_at (function point) t ≈ᵉ value_at (function m.point) (back t))
-      → TellsSoFar function (λ t v. IsWorth function ks (back t) v) (record { time = at; point = point; after = point } ∷ [])
+  pub moved_first : (ks : List (Knot P)) (back : Rational → Rational) (p : ℕ) (m : Knot P) (point : P) (at : Frac) → IsFunction (λ t v. IsWorth shape ks (back t) v) → slice_get ks p ≡ Some m
+      → back (value at) ≈ time m → ((t : Rational) → value_at (shape.function point) t ≈ᵉ value_at (shape.function m.point) (back t))
+      → TellsSoFar shape (λ t v. IsWorth shape ks (back t) v) (record { time = at; point = point; after = point } ∷ [])
   moved_first ks back p m point at is at_p arrives points = record {
     signal = record { some = omega arith; each = (record { rising = tt; needed = tt; ends = refl }, tt) };
     worth = by_knot;
   }
     where
-      by_knot : (t : Rational) (v : Extended) → IsWorth function (record { time = at; point = point; after = point } ∷ []) t v → IsWorth function ks (back t) v
-      by_knot t v (inl w) = is.alike (value at) t (value_at (function point) (value at)) v (same_sym w.when)
-          (same_symᵉ v (value_at (function point) (value at)) (same_transᵉ v (value_at (function point) t) (value_at (function point) (value at)) w.worth (value_same (function point) w.when)))
-          (worth_same function ks (value_at (function m.point) (back (value at))) (value_at (function point) (value at)) (same_refl (back (value at)))
-          (same_symᵉ (value_at (function point) (value at)) (value_at (function m.point) (back (value at))) (points (value at))) (worth_at function ks p m (back (value at)) at_p arrives))
+      by_knot : (t : Rational) (v : Extended) → IsWorth shape (record { time = at; point = point; after = point } ∷ []) t v → IsWorth shape ks (back t) v
+      by_knot t v (inl w) = is.alike (value at) t (value_at (shape.function point) (value at)) v (same_sym w.when)
+          (same_symᵉ v (value_at (shape.function point) (value at)) (same_transᵉ v (value_at (shape.function point) t) (value_at (shape.function point) (value at)) w.worth (value_same (shape.function point) w.when)))
+          (worth_same shape ks (value_at (shape.function m.point) (back (value at))) (value_at (shape.function point) (value at)) (same_refl (back (value at)))
+          (same_symᵉ (value_at (shape.function point) (value at)) (value_at (shape.function m.point) (back (value at))) (points (value at))) (worth_at shape ks p m (back (value at)) at_p arrives))
       by_knot t v (inr (inl w)) = absurd w
       by_knot t v (inr (inr w)) = absurd w
 
   -- the times of a limited signal are limited
-  pub limited_at : (ks : List (Knot P)) (i : ℕ) (k : Knot P) → IsLimited function ks → slice_get ks i ≡ Some k → IsWithin (2 ^ 34) (time k)
+  pub limited_at : (ks : List (Knot P)) (i : ℕ) (k : Knot P) → IsLimited shape ks → slice_get ks i ≡ Some k → IsWithin (2 ^ 34) (time k)
   limited_at [] i k h e = absurd (cc)
   limited_at (l ∷ ks) zero k h e = let s : l ≡ k = cc in subst (λ k. IsWithin (2 ^ 34) (time k)) s h.0.when
   limited_at (l ∷ ks) (suc i) k h e = limited_at ks i k h.1 e
 
-  pub limited_start : (ks : List (Knot P)) → 0 < length ks → IsLimited function ks → IsWithin (2 ^ 34) (start ks)
+  pub limited_start : (ks : List (Knot P)) → 0 < length ks → IsLimited shape ks → IsWithin (2 ^ 34) (start ks)
   limited_start [] some h = absurd (omega arith)
   limited_start (k ∷ ks) some h = h.0.when
 
-  pub limited_stop : (ks : List (Knot P)) → 0 < length ks → IsLimited function ks → IsWithin (2 ^ 34) (stop ks)
+  pub limited_stop : (ks : List (Knot P)) → 0 < length ks → IsLimited shape ks → IsWithin (2 ^ 34) (stop ks)
   limited_stop [] some h = absurd (omega arith)
   limited_stop (k ∷ []) some h = h.0.when
   limited_stop (k ∷ n ∷ ks) some h = limited_stop (n ∷ ks) (omega arith) h.1
 
-  pub at_knot_within : (ks : List (Knot P)) (i : ℕ) (k : Knot P) → IsSignal function ks → slice_get ks i ≡ Some k → Within (start ks) (stop ks) (time k)
-  at_knot_within ks i k s e = worth_within function ks (time k) (value_at (function k.point) (time k)) s (worth_at function ks i k (time k) e (same_refl (time k)))
+  pub at_knot_within : (ks : List (Knot P)) (i : ℕ) (k : Knot P) → IsSignal shape ks → slice_get ks i ≡ Some k → Within (start ks) (stop ks) (time k)
+  at_knot_within ks i k s e = worth_within shape ks (time k) (value_at (shape.function k.point) (time k)) s (worth_at shape ks i k (time k) e (same_refl (time k)))
 
   -- a mirrored knot lies between the mirrored ends
-  pub mirror_within : (n : ℕ) (z : ℤ) (ks : List (Knot P)) (i : ℕ) (k : Knot P) → IsSignal function ks → slice_get ks i ≡ Some k → IsWithin n (subtract (whole z) (stop ks)) → IsWithin n (subtract (whole z) (start ks))
+  pub mirror_within : (n : ℕ) (z : ℤ) (ks : List (Knot P)) (i : ℕ) (k : Knot P) → IsSignal shape ks → slice_get ks i ≡ Some k → IsWithin n (subtract (whole z) (stop ks)) → IsWithin n (subtract (whole z) (start ks))
       → IsWithin n (subtract (whole z) (time k))
   mirror_within n z ks i k s e low high =
       let w = at_knot_within ks i k s e in (le_trans low.0 (mirror_le z w.below), le_trans (mirror_le z w.above) high.1)
@@ -110,12 +111,12 @@ module _ {P : Type 0} (function : P → Affine) where
   first_is (k ∷ ks) some = (k, refl, refl)
 
   pub last_is : (ks : List (Knot P)) (i : ℕ) (k : Knot P) → slice_get ks i ≡ Some k → i + 1 ≡ length ks → stop ks ≡ time k
-  last_is ks i k e n = stop_at function ks i k e (slice_get_past ks (i + 1) (omega (arith, n)))
+  last_is ks i k e n = stop_at shape ks i k e (slice_get_past ks (i + 1) (omega (arith, n)))
 
-  pub mirror_on : (ks old new : List (Knot P)) (z : ℤ) (i : ℕ) (k n : Knot P) (after point : P) (at : Frac) → IsSignal function ks → slice_get ks i ≡ Some k → slice_get ks (i + 1) ≡ Some n
-      → TellsSoFar function (λ t v. IsWorth function ks (subtract (whole z) t) v) old → stop old ≈ subtract (whole z) (time n) → value at ≈ subtract (whole z) (time k)
-      → ((t : Rational) → value_at (function after) t ≈ᵉ value_at (function k.after) (subtract (whole z) t)) → ((t : Rational) → value_at (function point) t ≈ᵉ value_at (function k.point) (subtract (whole z) t))
-      → GoesOn function old after at point new → TellsSoFar function (λ t v. IsWorth function ks (subtract (whole z) t) v) new
+  pub mirror_on : (ks old new : List (Knot P)) (z : ℤ) (i : ℕ) (k n : Knot P) (after point : P) (at : Frac) → IsSignal shape ks → slice_get ks i ≡ Some k → slice_get ks (i + 1) ≡ Some n
+      → TellsSoFar shape (λ t v. IsWorth shape ks (subtract (whole z) t) v) old → stop old ≈ subtract (whole z) (time n) → value at ≈ subtract (whole z) (time k)
+      → ((t : Rational) → value_at (shape.function after) t ≈ᵉ value_at (shape.function k.after) (subtract (whole z) t)) → ((t : Rational) → value_at (shape.function point) t ≈ᵉ value_at (shape.function k.point) (subtract (whole z) t))
+      → GoesOn shape old after at point new → TellsSoFar shape (λ t v. IsWorth shape ks (subtract (whole z) t) v) new
   mirror_on ks old new z i k n after point at s at_i at_next so_far stops arrives afters points on =
       moved_on ks old new (λ t. subtract (whole z) t) i i k n k after point at (moved_is_function ks (λ t. subtract (whole z) t) (λ t u e. mirror_same z e) s) so_far on at_i at_next at_i
       (λ t a b. (lt_of_le_of_lt (ge_of_same here) (mirror_lt z b), lt_of_lt_of_le (mirror_lt z a) (le_of_same (same_trans (mirror_same z stops) (mirror_twice (time n) z))))) here afters points
@@ -123,14 +124,14 @@ module _ {P : Type 0} (function : P → Affine) where
       here : subtract (whole z) (value at) ≈ time k
       here = same_trans (mirror_same z arrives) (mirror_twice (time k) z)
 
-  pub mirror_later : (ks : List (Knot P)) (z : ℤ) (i : ℕ) (k n : Knot P) {from at : Rational} → IsSignal function ks → slice_get ks i ≡ Some k → slice_get ks (i + 1) ≡ Some n
+  pub mirror_later : (ks : List (Knot P)) (z : ℤ) (i : ℕ) (k n : Knot P) {from at : Rational} → IsSignal shape ks → slice_get ks i ≡ Some k → slice_get ks (i + 1) ≡ Some n
       → from ≈ subtract (whole z) (time n) → at ≈ subtract (whole z) (time k) → from <ʳ at
-  mirror_later ks z i k n s at_i at_next e f = lt_of_le_of_lt (le_of_same e) (lt_of_lt_of_le (mirror_lt z (next_rises function ks i k n s.each at_i at_next)) (ge_of_same f))
+  mirror_later ks z i k n s at_i at_next e f = lt_of_le_of_lt (le_of_same e) (lt_of_lt_of_le (mirror_lt z (next_rises shape ks i k n s.each at_i at_next)) (ge_of_same f))
 
-  pub shift_on : (ks old new : List (Knot P)) (z : ℤ) (i : ℕ) (k n : Knot P) (after point : P) (at : Frac) → IsSignal function ks → slice_get ks i ≡ Some k → slice_get ks (i + 1) ≡ Some n
-      → TellsSoFar function (λ t v. IsWorth function ks (add t (whole z)) v) old → stop old ≈ add (time k) (whole (neg_ℤ z)) → value at ≈ add (time n) (whole (neg_ℤ z))
-      → ((t : Rational) → value_at (function after) t ≈ᵉ value_at (function k.after) (add t (whole z))) → ((t : Rational) → value_at (function point) t ≈ᵉ value_at (function n.point) (add t (whole z)))
-      → GoesOn function old after at point new → TellsSoFar function (λ t v. IsWorth function ks (add t (whole z)) v) new
+  pub shift_on : (ks old new : List (Knot P)) (z : ℤ) (i : ℕ) (k n : Knot P) (after point : P) (at : Frac) → IsSignal shape ks → slice_get ks i ≡ Some k → slice_get ks (i + 1) ≡ Some n
+      → TellsSoFar shape (λ t v. IsWorth shape ks (add t (whole z)) v) old → stop old ≈ add (time k) (whole (neg_ℤ z)) → value at ≈ add (time n) (whole (neg_ℤ z))
+      → ((t : Rational) → value_at (shape.function after) t ≈ᵉ value_at (shape.function k.after) (add t (whole z))) → ((t : Rational) → value_at (shape.function point) t ≈ᵉ value_at (shape.function n.point) (add t (whole z)))
+      → GoesOn shape old after at point new → TellsSoFar shape (λ t v. IsWorth shape ks (add t (whole z)) v) new
   shift_on ks old new z i k n after point at s at_i at_next so_far stops arrives afters points on =
       moved_on ks old new (λ t. add t (whole z)) i (i + 1) k n n after point at (moved_is_function ks (λ t. add t (whole z)) (λ t u e. same_shift z e) s) so_far on at_i at_next at_next
       (λ t a b. (lt_of_le_of_lt (ge_of_same (same_trans (same_shift z stops) (shift_forth (time k) z))) (lt_shift z a), lt_of_lt_of_le (lt_shift z b) (le_of_same here))) here afters points
@@ -138,46 +139,46 @@ module _ {P : Type 0} (function : P → Affine) where
       here : add (value at) (whole z) ≈ time n
       here = same_trans (same_shift z arrives) (shift_forth (time n) z)
 
-  pub shift_later : (ks : List (Knot P)) (z : ℤ) (i : ℕ) (k n : Knot P) {from at : Rational} → IsSignal function ks → slice_get ks i ≡ Some k → slice_get ks (i + 1) ≡ Some n
+  pub shift_later : (ks : List (Knot P)) (z : ℤ) (i : ℕ) (k n : Knot P) {from at : Rational} → IsSignal shape ks → slice_get ks i ≡ Some k → slice_get ks (i + 1) ≡ Some n
       → from ≈ add (time k) (whole z) → at ≈ add (time n) (whole z) → from <ʳ at
-  shift_later ks z i k n s at_i at_next e f = lt_of_le_of_lt (le_of_same e) (lt_of_lt_of_le (lt_shift z (next_rises function ks i k n s.each at_i at_next)) (ge_of_same f))
+  shift_later ks z i k n s at_i at_next e f = lt_of_le_of_lt (le_of_same e) (lt_of_lt_of_le (lt_shift z (next_rises shape ks i k n s.each at_i at_next)) (ge_of_same f))
 
   -- the bases of a signal that goes on
-  pub bases_on : (moves : P → Bool) (base : P → ℤ) (made : ℤ → ℤ) (ks old new : List (Knot P)) (after point p q : P) (at : Frac) → BasesFrom moves base made ks old → GoesOn function old after at point new
-      → HasShape ks p → (IsTrue (moves after) → IsTrue (moves p) × (base after ≡ made (base p))) → HasShape ks q → (IsTrue (moves point) → IsTrue (moves q) × (base point ≡ made (base q)))
-      → BasesFrom moves base made ks new
-  bases_on moves base made ks old new after point p q at so_far on has_p from_p has_q from_q = λ r h m. by_shape r m (on.shapes r h)
+  pub bases_on : (made : ℤ → ℤ) (ks old new : List (Knot P)) (after point p q : P) (at : Frac) → BasesFrom shape made ks old → GoesOn shape old after at point new
+      → HasShape ks p → (IsTrue (shape.moves after) → IsTrue (shape.moves p) × (shape.base after ≡ made (shape.base p))) → HasShape ks q → (IsTrue (shape.moves point) → IsTrue (shape.moves q) × (shape.base point ≡ made (shape.base q)))
+      → BasesFrom shape made ks new
+  bases_on made ks old new after point p q at so_far on has_p from_p has_q from_q = λ r h m. by_shape r m (on.shapes r h)
     where
-      by_shape : (r : P) → IsTrue (moves r) → HasShape old r ⊎ (r ≡ after) ⊎ (r ≡ point) → (o : P) × HasShape ks o × IsTrue (moves o) × (base r ≡ made (base o))
+      by_shape : (r : P) → IsTrue (shape.moves r) → HasShape old r ⊎ (r ≡ after) ⊎ (r ≡ point) → (o : P) × HasShape ks o × IsTrue (shape.moves o) × (shape.base r ≡ made (shape.base o))
       by_shape r m (inl h) = so_far r h m
-      by_shape r m (inr (inl e)) = let f = from_p (subst (λ x. IsTrue (moves x)) e m) in (p, has_p, f.0, ap base e ∙ f.1)
-      by_shape r m (inr (inr e)) = let f = from_q (subst (λ x. IsTrue (moves x)) e m) in (q, has_q, f.0, ap base e ∙ f.1)
+      by_shape r m (inr (inl e)) = let f = from_p (subst (λ x. IsTrue (shape.moves x)) e m) in (p, has_p, f.0, ap shape.base e ∙ f.1)
+      by_shape r m (inr (inr e)) = let f = from_q (subst (λ x. IsTrue (shape.moves x)) e m) in (q, has_q, f.0, ap shape.base e ∙ f.1)
 
-  pub bases_first : (moves : P → Bool) (base : P → ℤ) (made : ℤ → ℤ) (ks : List (Knot P)) (point q : P) (at : Frac)
-      → HasShape ks q → (IsTrue (moves point) → IsTrue (moves q) × (base point ≡ made (base q))) → BasesFrom moves base made ks (record { time = at; point = point; after = point } ∷ [])
-  bases_first moves base made ks point q at has_q from_q = by_shape
+  pub bases_first : (made : ℤ → ℤ) (ks : List (Knot P)) (point q : P) (at : Frac)
+      → HasShape ks q → (IsTrue (shape.moves point) → IsTrue (shape.moves q) × (shape.base point ≡ made (shape.base q))) → BasesFrom shape made ks (record { time = at; point = point; after = point } ∷ [])
+  bases_first made ks point q at has_q from_q = by_shape
     where
-      of_point : (r : P) → r ≡ point → IsTrue (moves r) → (o : P) × HasShape ks o × IsTrue (moves o) × (base r ≡ made (base o))
-      of_point r e m = let f = from_q (subst (λ x. IsTrue (moves x)) e m) in (q, has_q, f.0, ap base e ∙ f.1)
+      of_point : (r : P) → r ≡ point → IsTrue (shape.moves r) → (o : P) × HasShape ks o × IsTrue (shape.moves o) × (shape.base r ≡ made (shape.base o))
+      of_point r e m = let f = from_q (subst (λ x. IsTrue (shape.moves x)) e m) in (q, has_q, f.0, ap shape.base e ∙ f.1)
 
-      by_shape : (r : P) → HasShape (record { time = at; point = point; after = point } ∷ []) r → IsTrue (moves r) → (o : P) × HasShape ks o × IsTrue (moves o) × (base r ≡ made (base o))
+      by_shape : (r : P) → HasShape (record { time = at; point = point; after = point } ∷ []) r → IsTrue (shape.moves r) → (o : P) × HasShape ks o × IsTrue (shape.moves o) × (shape.base r ≡ made (shape.base o))
       by_shape r (inl e) m = of_point r e m
       by_shape r (inr (inl e)) m = of_point r e m
       by_shape r (inr (inr h)) m = absurd h
 
   -- the first knot of a mirrored signal
-  pub mirror_first : (ks built : List (Knot P)) (z : ℤ) (i : ℕ) (m : Knot P) (point : P) (at : Frac) → IsSignal function ks → slice_get ks i ≡ Some m → value at ≈ subtract (whole z) (time m)
-      → ((t : Rational) → value_at (function point) t ≈ᵉ value_at (function m.point) (subtract (whole z) t)) → built ≡ record { time = at; point = point; after = point } ∷ []
-      → TellsSoFar function (λ t v. IsWorth function ks (subtract (whole z) t) v) built
+  pub mirror_first : (ks built : List (Knot P)) (z : ℤ) (i : ℕ) (m : Knot P) (point : P) (at : Frac) → IsSignal shape ks → slice_get ks i ≡ Some m → value at ≈ subtract (whole z) (time m)
+      → ((t : Rational) → value_at (shape.function point) t ≈ᵉ value_at (shape.function m.point) (subtract (whole z) t)) → built ≡ record { time = at; point = point; after = point } ∷ []
+      → TellsSoFar shape (λ t v. IsWorth shape ks (subtract (whole z) t) v) built
   mirror_first ks built z i m point at s at_i arrives points e =
-      subst (TellsSoFar function (λ t v. IsWorth function ks (subtract (whole z) t) v)) (sym e)
+      subst (TellsSoFar shape (λ t v. IsWorth shape ks (subtract (whole z) t) v)) (sym e)
       (moved_first ks (λ t. subtract (whole z) t) i m point at (moved_is_function ks (λ t. subtract (whole z) t) (λ t u e. mirror_same z e) s) at_i (same_trans (mirror_same z arrives) (mirror_twice (time m) z)) points)
 
-  pub shift_first : (ks built : List (Knot P)) (z : ℤ) (i : ℕ) (m : Knot P) (point : P) (at : Frac) → IsSignal function ks → slice_get ks i ≡ Some m → add (value at) (whole z) ≈ time m
-      → ((t : Rational) → value_at (function point) t ≈ᵉ value_at (function m.point) (add t (whole z))) → built ≡ record { time = at; point = point; after = point } ∷ []
-      → TellsSoFar function (λ t v. IsWorth function ks (add t (whole z)) v) built
+  pub shift_first : (ks built : List (Knot P)) (z : ℤ) (i : ℕ) (m : Knot P) (point : P) (at : Frac) → IsSignal shape ks → slice_get ks i ≡ Some m → add (value at) (whole z) ≈ time m
+      → ((t : Rational) → value_at (shape.function point) t ≈ᵉ value_at (shape.function m.point) (add t (whole z))) → built ≡ record { time = at; point = point; after = point } ∷ []
+      → TellsSoFar shape (λ t v. IsWorth shape ks (add t (whole z)) v) built
   shift_first ks built z i m point at s at_i arrives points e =
-      subst (TellsSoFar function (λ t v. IsWorth function ks (add t (whole z)) v)) (sym e)
+      subst (TellsSoFar shape (λ t v. IsWorth shape ks (add t (whole z)) v)) (sym e)
       (moved_first ks (λ t. add t (whole z)) i m point at (moved_is_function ks (λ t. add t (whole z)) (λ t u e. same_shift z e) s) at_i arrives points)
 
   -- the one knot of a list at a place
@@ -214,17 +215,17 @@ pub shift_back' : {t u : Rational} (z : ℤ) → add t (whole z) ≈ u → t ≈
 shift_back' {t} {u} z e = same_trans (same_sym (shift_back t z)) (same_shift (neg_ℤ z) e)
 
 -- a knot moved back lies between the ends moved back
-pub shifted_within : {P : Type 0} (function : P → Affine) (ks : List (Knot P)) (i : ℕ) (k : Knot P) (z : ℤ) {from : Rational} → IsSignal function ks → slice_get ks i ≡ Some k → add from (whole z) ≈ start ks
+pub shifted_within : {P : Type 0} (shape : ShapeOf P) (ks : List (Knot P)) (i : ℕ) (k : Knot P) (z : ℤ) {from : Rational} → IsSignal shape ks → slice_get ks i ≡ Some k → add from (whole z) ≈ start ks
     → IsWithin (2 ^ 34) from → IsWithin (2 ^ 34) (add (stop ks) (whole (neg_ℤ z))) → IsWithin (2 ^ 34) (add (time k) (whole (neg_ℤ z)))
-shifted_within function ks i k z {from} s e begins low high =
-    let w = at_knot_within function ks i k s e in
+shifted_within shape ks i k z {from} s e begins low high =
+    let w = at_knot_within shape ks i k s e in
     (le_trans low.0 (le_trans (le_of_same (shift_back' z begins)) (le_shift (neg_ℤ z) w.above)), le_trans (le_shift (neg_ℤ z) w.below) high.1)
 
 -- what tells a part of a signal moved tells the signal moved
-pub tells_through : {P : Type 0} (function : P → Affine) (ks part new : List (Knot P)) (z : ℤ) (from to low high : Rational) → Tells function (IsWorth function ks) low high part
-    → Tells function (λ t v. IsWorth function part (add t (whole z)) v) from (add (stop part) (whole (neg_ℤ z))) new → low ≈ add from (whole z) → high ≈ add to (whole z)
-    → Tells function (λ t v. IsWorth function ks (add t (whole z)) v) from to new
-tells_through function ks part new z from to low high p r begins ends = record {
+pub tells_through : {P : Type 0} (shape : ShapeOf P) (ks part new : List (Knot P)) (z : ℤ) (from to low high : Rational) → Tells shape (IsWorth shape ks) low high part
+    → Tells shape (λ t v. IsWorth shape part (add t (whole z)) v) from (add (stop part) (whole (neg_ℤ z))) new → low ≈ add from (whole z) → high ≈ add to (whole z)
+    → Tells shape (λ t v. IsWorth shape ks (add t (whole z)) v) from to new
+tells_through shape ks part new z from to low high p r begins ends = record {
   signal = r.signal;
   begins = r.begins;
   ends = same_trans r.ends last;
@@ -240,9 +241,9 @@ tells_through function ks part new z from to low high p r begins ends = record {
     last : add (stop part) (whole (neg_ℤ z)) ≈ to
     last = same_sym (shift_back' z (same_trans (same_sym ends) (same_sym p.ends)))
 
-pub bases_through : {P : Type 0} (moves : P → Bool) (base : P → ℤ) (made : ℤ → ℤ) (ks part new : List (Knot P)) → ((p : P) → HasShape part p → HasShape ks p) → BasesFrom moves base made part new → BasesFrom moves base made ks new
-bases_through moves base made ks part new inside h = λ p m n. let q = h p m n in (q.0, inside q.0 q.1, q.2, q.3)
+pub bases_through : {P : Type 0} (shape : ShapeOf P) (made : ℤ → ℤ) (ks part new : List (Knot P)) → ((p : P) → HasShape part p → HasShape ks p) → BasesFrom shape made part new → BasesFrom shape made ks new
+bases_through shape made ks part new inside h = λ p m n. let q = h p m n in (q.0, inside q.0 q.1, q.2, q.3)
 
 -- a time in the domain of a limited signal is within 2^34
-pub clip_within : {P : Type 0} (function : P → Affine) (ks : List (Knot P)) {t : Rational} → 0 < length ks → IsLimited function ks → start ks ≤ʳ t → t ≤ʳ stop ks → IsWithin (2 ^ 34) t
-clip_within function ks some h a b = (le_trans (limited_start function ks some h).0 a, le_trans b (limited_stop function ks some h).1)
+pub clip_within : {P : Type 0} (shape : ShapeOf P) (ks : List (Knot P)) {t : Rational} → 0 < length ks → IsLimited shape ks → start ks ≤ʳ t → t ≤ʳ stop ks → IsWithin (2 ^ 34) t
+clip_within shape ks some h a b = (le_trans (limited_start shape ks some h).0 a, le_trans b (limited_stop shape ks some h).1)

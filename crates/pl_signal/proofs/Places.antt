@@ -7,8 +7,9 @@ use Rattle.std.proofs.lemmas.Bool.{cases_lt}
 use Rattle.std.proofs.lemmas.Option.{slice_get_past, slice_get-get_or}
 use Rattle.rational.specs.Rational.{IsOrder}
 use Rattle.rational.specs.Time.{Rational, ◌≤ʳ◌, ◌<ʳ◌, ◌≈◌}
-use Rattle.rational.specs.Extended.{Affine, value_at}
+use Rattle.rational.specs.Extended.{value_at}
 use Rattle.rational.proofs.Order.{le_of_lt, le_of_same, ge_of_same, lt_of_lt_of_le, lt_of_le_of_lt, not_lt_of_le, same_of_le, same_refl}
+use Rattle.value_laws.specs.Members.{ShapeOf}
 use Rattle.pl_signal.specs.declared.knot.Knot.{Knot}
 use Rattle.pl_signal.specs.Knots.{time, stop, IsWorth, IsSignal}
 use Rattle.pl_signal.specs.Places.{IsPlace}
@@ -31,7 +32,7 @@ nearer n m i j i' j' h k (inl e) (inr f) both = omega (arith, h, k, e, f.0)
 nearer n m i j i' j' h k (inr e) (inl f) both = omega (arith, h, k, e.0, f)
 nearer n m i j i' j' h k (inr e) (inr f) both = absurd (both (e.1, f.1))
 
-module _ {P : Type 0} (function : P → Affine) where
+module _ {P : Type 0} (shape : ShapeOf P) where
   -- both next knots cannot be later than the earlier of them
   pub not_both : (ks ls : List (Knot P)) (i j : ℕ) (k l : Knot P) (to : Rational) → slice_get ks i ≡ Some k → slice_get ls j ≡ Some l → (to ≡ time k) ⊎ (to ≡ time l)
       → ¬ (((k : Knot P) → slice_get ks i ≡ Some k → to <ʳ time k) × ((l : Knot P) → slice_get ls j ≡ Some l → to <ʳ time l))
@@ -43,22 +44,22 @@ module _ {P : Type 0} (function : P → Affine) where
   at_stop [] i t some p last h = absurd (omega arith)
   at_stop (k ∷ ks) i t some p last h =
       let here = slice_get-get_or (k ∷ ks) i k p.inside in
-      same_of_le h (subst (λ s. s ≤ʳ t) (sym (stop_at function (k ∷ ks) i (get_or (k ∷ ks) i k) here (slice_get_past (k ∷ ks) (i + 1) last))) (p.not_later (get_or (k ∷ ks) i k) here))
+      same_of_le h (subst (λ s. s ≤ʳ t) (sym (stop_at shape (k ∷ ks) i (get_or (k ∷ ks) i k) here (slice_get_past (k ∷ ks) (i + 1) last))) (p.not_later (get_or (k ∷ ks) i k) here))
 
   -- the place at the first time
-  pub first_place : (ks : List (Knot P)) (k : Knot P) (t : Rational) → IsSignal function ks → slice_get ks 0 ≡ Some k → time k ≈ t → IsPlace ks t 0
+  pub first_place : (ks : List (Knot P)) (k : Knot P) (t : Rational) → IsSignal shape ks → slice_get ks 0 ≡ Some k → time k ≈ t → IsPlace ks t 0
   first_place ks k t s h e = record {
     inside = s.some;
     not_later = λ n m. let same : k ≡ n = cc in subst (λ n. time n ≤ʳ t) same (le_of_same e);
-    later = λ n m. lt_of_le_of_lt (ge_of_same e) (next_rises function ks 0 k n s.each h m);
+    later = λ n m. lt_of_le_of_lt (ge_of_same e) (next_rises shape ks 0 k n s.each h m);
   }
 
   -- the place at a time at which the next knot stands
-  pub place_next : (ks : List (Knot P)) (i : ℕ) (n : Knot P) (to : Rational) → IsSignal function ks → i + 1 < length ks → slice_get ks (i + 1) ≡ Some n → time n ≈ to → IsPlace ks to (i + 1)
+  pub place_next : (ks : List (Knot P)) (i : ℕ) (n : Knot P) (to : Rational) → IsSignal shape ks → i + 1 < length ks → slice_get ks (i + 1) ≡ Some n → time n ≈ to → IsPlace ks to (i + 1)
   place_next ks i n to s more at_next e = record {
     inside = more;
     not_later = λ k h. let same : n ≡ k = cc in subst (λ k. time k ≤ʳ to) same (le_of_same e);
-    later = λ k h. lt_of_le_of_lt (ge_of_same e) (next_rises function ks (i + 1) n k s.each at_next h);
+    later = λ k h. lt_of_le_of_lt (ge_of_same e) (next_rises shape ks (i + 1) n k s.each at_next h);
   }
 
   -- the place at a time before the next knot
@@ -73,13 +74,13 @@ module _ {P : Type 0} (function : P → Affine) where
   pub more_knots : (ks : List (Knot P)) (i : ℕ) (k : Knot P) (t : Rational) → IsPlace ks t i → slice_get ks i ≡ Some k → t <ʳ stop ks → i + 1 < length ks
   more_knots ks i k t p at_i beyond = elim (cases_lt (i + 1) (length ks)) as (λ v. i + 1 < length ks) [
     | inl l ↦ l
-    | inr l ↦ absurd (not_lt_of_le (subst (λ s. s ≤ʳ t) (sym (stop_at function ks i k at_i (slice_get_past ks (i + 1) l))) (p.not_later k at_i)) beyond)
+    | inr l ↦ absurd (not_lt_of_le (subst (λ s. s ≤ʳ t) (sym (stop_at shape ks i k at_i (slice_get_past ks (i + 1) l))) (p.not_later k at_i)) beyond)
   ]
 
   -- on the gap up to the next knot a signal is worth what its shape there is
   pub part_on_gap : (ks : List (Knot P)) (i : ℕ) (k n : Knot P) (from to t : Rational) → IsPlace ks from i → slice_get ks i ≡ Some k → slice_get ks (i + 1) ≡ Some n → to ≤ʳ time n → from <ʳ t → t <ʳ to
-      → IsWorth function ks t (value_at (function k.after) t)
-  part_on_gap ks i k n from to t p at_i at_next before h l = worth_between function ks i k n t at_i at_next (lt_of_le_of_lt (p.not_later k at_i) h) (lt_of_lt_of_le l before)
+      → IsWorth shape ks t (value_at (shape.function k.after) t)
+  part_on_gap ks i k n from to t p at_i at_next before h l = worth_between shape ks i k n t at_i at_next (lt_of_le_of_lt (p.not_later k at_i) h) (lt_of_lt_of_le l before)
 
   -- the knot at a place is before each later time
   pub begun_before : (ks : List (Knot P)) (i : ℕ) (from to : Rational) → IsPlace ks from i → from <ʳ to → (k : Knot P) → slice_get ks i ≡ Some k → time k <ʳ to

@@ -6,8 +6,9 @@ use Rattle.std.specs.declared.cmp.Ordering.TheVariants.{Less, Equal, Greater}
 use Rattle.std.proofs.lemmas.Option.{slice_get_past, slice_get-get_or}
 use Rattle.rational.specs.Rational.{IsOrder}
 use Rattle.rational.specs.Time.{Rational, Within, ◌≤ʳ◌, ◌<ʳ◌, ◌≈◌}
-use Rattle.rational.specs.Extended.{Affine, value_at}
+use Rattle.rational.specs.Extended.{value_at}
 use Rattle.rational.proofs.Order.{not_lt_of_le, same_sym, le_of_lt, le_of_same}
+use Rattle.value_laws.specs.Members.{ShapeOf}
 use Rattle.pl_signal.specs.declared.knot.Knot.{Knot}
 use Rattle.pl_signal.specs.Knots.{time, start, stop, HasShape, IsWorth, IsSignal}
 use Rattle.pl_signal.proofs.Values.{worth_within, worth_at, worth_between, shape_at, shape_after, stop_at}
@@ -24,23 +25,23 @@ not_later Less h n = le_of_lt h
 not_later Equal h n = le_of_same h
 not_later Greater h n = absurd (n refl)
 
-module _ {P : Type 0} (function : P → Affine) where
+module _ {P : Type 0} (shape : ShapeOf P) where
   -- p is a shape of the signal that has its value at t
   abbrev pub IsReading : List (Knot P) → Rational → P → Type 0
-  IsReading ks t p = Within (start ks) (stop ks) t × HasShape ks p × IsWorth function ks t (value_at (function p) t)
+  IsReading ks t p = Within (start ks) (stop ks) t × HasShape ks p × IsWorth shape ks t (value_at (shape.function p) t)
 
-  pub read_point : (ks : List (Knot P)) (i : ℕ) (k : Knot P) (t : Rational) → IsSignal function ks → slice_get ks i ≡ Some k → time k ≈ t → IsReading ks t k.point
+  pub read_point : (ks : List (Knot P)) (i : ℕ) (k : Knot P) (t : Rational) → IsSignal shape ks → slice_get ks i ≡ Some k → time k ≈ t → IsReading ks t k.point
   read_point ks i k t s h e =
-      let w = worth_at function ks i k t h (same_sym e) in (worth_within function ks t (value_at (function k.point) t) s w, shape_at function ks i k h, w)
+      let w = worth_at shape ks i k t h (same_sym e) in (worth_within shape ks t (value_at (shape.function k.point) t) s w, shape_at shape ks i k h, w)
 
-  pub read_after : (ks : List (Knot P)) (i : ℕ) (k : Knot P) (t : Rational) → IsSignal function ks → slice_get ks i ≡ Some k → i + 1 < length ks → time k <ʳ t
+  pub read_after : (ks : List (Knot P)) (i : ℕ) (k : Knot P) (t : Rational) → IsSignal shape ks → slice_get ks i ≡ Some k → i + 1 < length ks → time k <ʳ t
       → ((n : Knot P) → slice_get ks (i + 1) ≡ Some n → t <ʳ time n) → IsReading ks t k.after
   read_after ks i k t s h l a b =
       let next = slice_get-get_or ks (i + 1) k l in
-      let w = worth_between function ks i k (get_or ks (i + 1) k) t h next a (b (get_or ks (i + 1) k) next) in
-      (worth_within function ks t (value_at (function k.after) t) s w, shape_after function ks i k h, w)
+      let w = worth_between shape ks i k (get_or ks (i + 1) k) t h next a (b (get_or ks (i + 1) k) next) in
+      (worth_within shape ks t (value_at (shape.function k.after) t) s w, shape_after shape ks i k h, w)
 
   pub read_none : (ks : List (Knot P)) (i : ℕ) (k : Knot P) (t : Rational) → slice_get ks i ≡ Some k → length ks ≡ i + 1 → time k <ʳ t → ¬ (Within (start ks) (stop ks) t)
   read_none ks i k t h l a w =
-      let last = stop_at function ks i k h (slice_get_past ks (i + 1) (omega (arith, l))) in
+      let last = stop_at shape ks i k h (slice_get_past ks (i + 1) (omega (arith, l))) in
       not_lt_of_le (subst (λ s. t ≤ʳ s) last w.below) a

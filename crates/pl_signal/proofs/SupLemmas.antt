@@ -8,6 +8,7 @@ use Rattle.rational.proofs.ExtendedLemmas.{le_transᵉ, lt_of_lt_of_leᵉ, lt_of
 use Rattle.rational.proofs.AffineLemmas.{value_same, near_start, near_stop, above_start, above_stop, passes, at_most_an_end, at_least_an_end}
 use Rattle.rational.proofs.TimeLemmas.{IsIn-same, precedes_le, precedes_of_lt, decided_order, decided_in, IsLater, later_of, IsEarlier, earlier_of}
 use Rattle.rational.proofs.Sups.{sup_of_none, inf_of_none, sup_of_union, inf_of_union, sup_same, inf_same}
+use Rattle.value_laws.specs.Members.{ShapeOf}
 use Rattle.pl_signal.specs.declared.knot.Knot.{Knot}
 use Rattle.pl_signal.specs.Knots.{time, IsInGap, IsWorth}
 
@@ -132,55 +133,55 @@ decided_instant on t = elim (decided_in on t) [ inl h ↦ inl (h, same_refl t) |
 instant_alike : (on : Interval) (t u v : Rational) → u ≈ v → AtInstant on t u → AtInstant on t v
 instant_alike on t u v e m = (IsIn-same on e m.0, same_trans (same_sym e) m.1)
 
-module _ {P : Type 0} (function : P → Affine) where
+module _ {P : Type 0} (shape : ShapeOf P) where
   -- the values of a signal are those at its first knot, those on the gap behind it, and those of the rest
-  parts_of : (k : Knot P) (ks : List (Knot P)) (on : Interval) (v : Extended) → ((u : Rational) × IsIn on u × IsWorth function (k ∷ ks) u v)
-      → ((u : Rational) × AtInstant on (time k) u × Passes (function k.point) u v) ⊎ (((u : Rational) × IsIn on u × IsInGap function k ks u v) ⊎ ((u : Rational) × IsIn on u × IsWorth function ks u v))
+  parts_of : (k : Knot P) (ks : List (Knot P)) (on : Interval) (v : Extended) → ((u : Rational) × IsIn on u × IsWorth shape (k ∷ ks) u v)
+      → ((u : Rational) × AtInstant on (time k) u × Passes (shape.function k.point) u v) ⊎ (((u : Rational) × IsIn on u × IsInGap shape k ks u v) ⊎ ((u : Rational) × IsIn on u × IsWorth shape ks u v))
   parts_of k ks on v (u, i, inl w) = inl (u, (i, w.when), w.worth)
   parts_of k ks on v (u, i, inr (inl w)) = inr (inl (u, i, w))
   parts_of k ks on v (u, i, inr (inr w)) = inr (inr (u, i, w))
 
   of_parts : (k : Knot P) (ks : List (Knot P)) (on : Interval) (v : Extended)
-      → ((u : Rational) × AtInstant on (time k) u × Passes (function k.point) u v) ⊎ (((u : Rational) × IsIn on u × IsInGap function k ks u v) ⊎ ((u : Rational) × IsIn on u × IsWorth function ks u v))
-      → ((u : Rational) × IsIn on u × IsWorth function (k ∷ ks) u v)
+      → ((u : Rational) × AtInstant on (time k) u × Passes (shape.function k.point) u v) ⊎ (((u : Rational) × IsIn on u × IsInGap shape k ks u v) ⊎ ((u : Rational) × IsIn on u × IsWorth shape ks u v))
+      → ((u : Rational) × IsIn on u × IsWorth shape (k ∷ ks) u v)
   of_parts k ks on v (inl (u, i, w)) = (u, i.0, inl (record { when = i.1; worth = w }))
   of_parts k ks on v (inr (inl (u, i, w))) = (u, i, inr (inl w))
   of_parts k ks on v (inr (inr (u, i, w))) = (u, i, inr (inr w))
 
-  sup_in_gap : (lowest : Extended) → ((p : P) (t : Rational) → lowest ≤ᵉ value_at (function p) t) → (k : Knot P) (ks : List (Knot P)) (on : Interval)
-      → (r : Extended) × IsSup lowest (λ v. (u : Rational) × IsIn on u × IsInGap function k ks u v) r
-  sup_in_gap lowest least k [] on = (lowest, sup_of_none lowest (λ v m. m.2))
-  sup_in_gap lowest least k (n ∷ ks) on =
-      let s = sup_on_gap on (time k) (time n) (function k.after) lowest (least k.after) in
+  sup_in_gap : ((p : P) (t : Rational) → shape.lowest ≤ᵉ value_at (shape.function p) t) → (k : Knot P) (ks : List (Knot P)) (on : Interval)
+      → (r : Extended) × IsSup shape.lowest (λ v. (u : Rational) × IsIn on u × IsInGap shape k ks u v) r
+  sup_in_gap least k [] on = (shape.lowest, sup_of_none shape.lowest (λ v m. m.2))
+  sup_in_gap least k (n ∷ ks) on =
+      let s = sup_on_gap on (time k) (time n) (shape.function k.after) shape.lowest (least k.after) in
       (s.0, sup_same (λ v (u, g, p). (u, g.inside, record { after = g.after; before = g.before; worth = p })) (λ v (u, i, w). (u, record { inside = i; after = w.after; before = w.before }, w.worth)) s.1)
 
-  inf_in_gap : (highest : Extended) → ((p : P) (t : Rational) → value_at (function p) t ≤ᵉ highest) → (k : Knot P) (ks : List (Knot P)) (on : Interval)
-      → (r : Extended) × IsInf highest (λ v. (u : Rational) × IsIn on u × IsInGap function k ks u v) r
-  inf_in_gap highest most k [] on = (highest, inf_of_none highest (λ v m. m.2))
-  inf_in_gap highest most k (n ∷ ks) on =
-      let s = inf_on_gap on (time k) (time n) (function k.after) highest (most k.after) in
+  inf_in_gap : ((p : P) (t : Rational) → value_at (shape.function p) t ≤ᵉ shape.highest) → (k : Knot P) (ks : List (Knot P)) (on : Interval)
+      → (r : Extended) × IsInf shape.highest (λ v. (u : Rational) × IsIn on u × IsInGap shape k ks u v) r
+  inf_in_gap most k [] on = (shape.highest, inf_of_none shape.highest (λ v m. m.2))
+  inf_in_gap most k (n ∷ ks) on =
+      let s = inf_on_gap on (time k) (time n) (shape.function k.after) shape.highest (most k.after) in
       (s.0, inf_same (λ v (u, g, p). (u, g.inside, record { after = g.after; before = g.before; worth = p })) (λ v (u, i, w). (u, record { inside = i; after = w.after; before = w.before }, w.worth)) s.1)
 
   -- a Sup over every interval
-  pub signal_sup : (lowest : Extended) → ((p : P) (t : Rational) → lowest ≤ᵉ value_at (function p) t) → (ks : List (Knot P)) (on : Interval)
-      → (r : Extended) × IsSupOver lowest (IsIn on) (IsWorth function ks) r
-  signal_sup lowest least [] on = (lowest, sup_of_none lowest (λ v m. m.2))
-  signal_sup lowest least (k ∷ ks) on =
-      let a = sup_of_one (AtInstant on (time k)) (function k.point) lowest (time k) (least k.point) (decided_instant on (time k)) (λ u m. m.1) (instant_alike on (time k)) in
-      let b = sup_in_gap lowest least k ks on in
-      let c = signal_sup lowest least ks on in
+  pub signal_sup : ((p : P) (t : Rational) → shape.lowest ≤ᵉ value_at (shape.function p) t) → (ks : List (Knot P)) (on : Interval)
+      → (r : Extended) × IsSupOver shape.lowest (IsIn on) (IsWorth shape ks) r
+  signal_sup least [] on = (shape.lowest, sup_of_none shape.lowest (λ v m. m.2))
+  signal_sup least (k ∷ ks) on =
+      let a = sup_of_one (AtInstant on (time k)) (shape.function k.point) shape.lowest (time k) (least k.point) (decided_instant on (time k)) (λ u m. m.1) (instant_alike on (time k)) in
+      let b = sup_in_gap least k ks on in
+      let c = signal_sup least ks on in
       let d = greatest_of b.0 c.0 in
       let e = greatest_of a.0 d.0 in
       (e.0, sup_same (of_parts k ks on) (parts_of k ks on) (sup_of_union a.0 d.0 e.0 a.1 (sup_of_union b.0 c.0 d.0 b.1 c.1 d.1) e.1))
 
   -- and an Inf
-  pub signal_inf : (highest : Extended) → ((p : P) (t : Rational) → value_at (function p) t ≤ᵉ highest) → (ks : List (Knot P)) (on : Interval)
-      → (r : Extended) × IsInfOver highest (IsIn on) (IsWorth function ks) r
-  signal_inf highest most [] on = (highest, inf_of_none highest (λ v m. m.2))
-  signal_inf highest most (k ∷ ks) on =
-      let a = inf_of_one (AtInstant on (time k)) (function k.point) highest (time k) (most k.point) (decided_instant on (time k)) (λ u m. m.1) (instant_alike on (time k)) in
-      let b = inf_in_gap highest most k ks on in
-      let c = signal_inf highest most ks on in
+  pub signal_inf : ((p : P) (t : Rational) → value_at (shape.function p) t ≤ᵉ shape.highest) → (ks : List (Knot P)) (on : Interval)
+      → (r : Extended) × IsInfOver shape.highest (IsIn on) (IsWorth shape ks) r
+  signal_inf most [] on = (shape.highest, inf_of_none shape.highest (λ v m. m.2))
+  signal_inf most (k ∷ ks) on =
+      let a = inf_of_one (AtInstant on (time k)) (shape.function k.point) shape.highest (time k) (most k.point) (decided_instant on (time k)) (λ u m. m.1) (instant_alike on (time k)) in
+      let b = inf_in_gap most k ks on in
+      let c = signal_inf most ks on in
       let d = least_of b.0 c.0 in
       let e = least_of a.0 d.0 in
       (e.0, inf_same (of_parts k ks on) (parts_of k ks on) (inf_of_union a.0 d.0 e.0 a.1 (inf_of_union b.0 c.0 d.0 b.1 c.1 d.1) e.1))

@@ -1,12 +1,13 @@
 -- Signals that tell a function of time, and how they are built.
 use Rattle.std.proofs.Common.{◌⊎◌, inl, inr, List}
 use Rattle.rational.specs.Time.{Rational, Within, ◌<ʳ◌, ◌≈◌}
-use Rattle.rational.specs.Extended.{Extended, Affine, Passes, value_at, ◌≈ᵉ◌}
+use Rattle.rational.specs.Extended.{Extended, Passes, value_at, ◌≈ᵉ◌}
 use Rattle.rational.specs.Windows.{Function}
 use Rattle.rational.proofs.Order.{le_of_same, ge_of_same, le_trans, same_refl, same_sym}
 use Rattle.rational.proofs.AffineLemmas.{same_transᵉ, same_symᵉ, value_same}
 use Rattle.frac128.specs.Value.{value}
 use Rattle.frac128.specs.declared.frac.Frac.{Frac}
+use Rattle.value_laws.specs.Members.{ShapeOf}
 use Rattle.pl_signal.specs.declared.knot.Knot.{Knot}
 use Rattle.pl_signal.specs.Knots.{start, stop, IsWorth, IsSignal}
 use Rattle.pl_signal.specs.Building.{GoesOn}
@@ -18,39 +19,39 @@ pub record IsFunction (F : Function) : Type 0 where
   pub alike : (t u : Rational) (v w : Extended) → t ≈ u → v ≈ᵉ w → F t v → F u w
   pub one : (t : Rational) (v w : Extended) → F t v → F t w → v ≈ᵉ w
 
-module _ {P : Type 0} (function : P → Affine) where
-  pub worth_is_function : (ks : List (Knot P)) → IsSignal function ks → IsFunction (IsWorth function ks)
-  worth_is_function ks s = record { alike = λ t u v w e f h. worth_same function ks v w e f h; one = λ t v w a b. one_value function ks t v w s a b }
+module _ {P : Type 0} (shape : ShapeOf P) where
+  pub worth_is_function : (ks : List (Knot P)) → IsSignal shape ks → IsFunction (IsWorth shape ks)
+  worth_is_function ks s = record { alike = λ t u v w e f h. worth_same shape ks v w e f h; one = λ t v w a b. one_value shape ks t v w s a b }
 
   -- all that the signal tells so far is what F says
   pub record TellsSoFar (F : Function) (knots : List (Knot P)) : Type 0 where
-    pub signal : IsSignal function knots
-    pub worth : (t : Rational) (v : Extended) → IsWorth function knots t v → F t v
+    pub signal : IsSignal shape knots
+    pub worth : (t : Rational) (v : Extended) → IsWorth shape knots t v → F t v
 
   -- where all that a signal tells is what F says, it tells F between its ends
-  pub told : (F : Function) (from to : Rational) (ks : List (Knot P)) → IsFunction F → TellsSoFar F ks → start ks ≈ from → stop ks ≈ to → Tells function F from to ks
-  told F from to ks is s begins ends = record { signal = s.signal; begins = begins; ends = ends; worth = λ t v. (λ w. (between t (worth_within function ks t v s.signal w), s.worth t v w), λ h. by_value t v h.0 h.1) }
+  pub told : (F : Function) (from to : Rational) (ks : List (Knot P)) → IsFunction F → TellsSoFar F ks → start ks ≈ from → stop ks ≈ to → Tells shape F from to ks
+  told F from to ks is s begins ends = record { signal = s.signal; begins = begins; ends = ends; worth = λ t v. (λ w. (between t (worth_within shape ks t v s.signal w), s.worth t v w), λ h. by_value t v h.0 h.1) }
     where
       between : (t : Rational) → Within (start ks) (stop ks) t → Within from to t
       between t w = record { above = le_trans (ge_of_same begins) w.above; below = le_trans w.below (le_of_same ends) }
 
-      by_value : (t : Rational) (v : Extended) → Within from to t → F t v → IsWorth function ks t v
+      by_value : (t : Rational) (v : Extended) → Within from to t → F t v → IsWorth shape ks t v
       by_value t v w a =
-          let x = every_time function ks t s.signal (record { above = le_trans (le_of_same begins) w.above; below = le_trans w.below (ge_of_same ends) }) in
-          worth_same function ks x.0 v (same_refl t) (is.one t x.0 v (s.worth t x.0 x.1) a) x.1
+          let x = every_time shape ks t s.signal (record { above = le_trans (le_of_same begins) w.above; below = le_trans w.below (ge_of_same ends) }) in
+          worth_same shape ks x.0 v (same_refl t) (is.one t x.0 v (s.worth t x.0 x.1) a) x.1
 
-  pub told_alike : (old new : List (Knot P)) (from to : Rational) → IsSignal function old → IsSignal function new → start new ≈ from → stop new ≈ to
-      → ((t : Rational) (v : Extended) → IsWorth function new t v → IsWorth function old t v) → Tells function (IsWorth function old) from to new
-  told_alike old new from to is_old is_new begins ends worth = told (IsWorth function old) from to new (worth_is_function old is_old) (record { signal = is_new; worth = worth }) begins ends
+  pub told_alike : (old new : List (Knot P)) (from to : Rational) → IsSignal shape old → IsSignal shape new → start new ≈ from → stop new ≈ to
+      → ((t : Rational) (v : Extended) → IsWorth shape new t v → IsWorth shape old t v) → Tells shape (IsWorth shape old) from to new
+  told_alike old new from to is_old is_new begins ends worth = told (IsWorth shape old) from to new (worth_is_function old is_old) (record { signal = is_new; worth = worth }) begins ends
 
   -- it goes on telling F
-  pub tells_on : (F : Function) (old new : List (Knot P)) (after point : P) (at : Frac) → IsFunction F → TellsSoFar F old → GoesOn function old after at point new
-      → ((t : Rational) → stop old <ʳ t → t <ʳ value at → F t (value_at (function after) t)) → F (value at) (value_at (function point) (value at)) → TellsSoFar F new
+  pub tells_on : (F : Function) (old new : List (Knot P)) (after point : P) (at : Frac) → IsFunction F → TellsSoFar F old → GoesOn shape old after at point new
+      → ((t : Rational) → stop old <ʳ t → t <ʳ value at → F t (value_at (shape.function after) t)) → F (value at) (value_at (shape.function point) (value at)) → TellsSoFar F new
   tells_on F old new after point at is s on gap here = record { signal = on.signal; worth = λ t v w. by_part t v ((on.worth t v).0 w) }
     where
-      by_part : (t : Rational) (v : Extended) → IsWorth function old t v ⊎ ((stop old <ʳ t) × (t <ʳ value at) × Passes (function after) t v) ⊎ ((t ≈ value at) × Passes (function point) t v) → F t v
+      by_part : (t : Rational) (v : Extended) → IsWorth shape old t v ⊎ ((stop old <ʳ t) × (t <ʳ value at) × Passes (shape.function after) t v) ⊎ ((t ≈ value at) × Passes (shape.function point) t v) → F t v
       by_part t v (inl w) = s.worth t v w
-      by_part t v (inr (inl w)) = is.alike t t (value_at (function after) t) v (same_refl t) (same_symᵉ v (value_at (function after) t) w.2) (gap t w.0 w.1)
+      by_part t v (inr (inl w)) = is.alike t t (value_at (shape.function after) t) v (same_refl t) (same_symᵉ v (value_at (shape.function after) t) w.2) (gap t w.0 w.1)
       by_part t v (inr (inr w)) =
-          is.alike (value at) t (value_at (function point) (value at)) v (same_sym w.0)
-          (same_symᵉ v (value_at (function point) (value at)) (same_transᵉ v (value_at (function point) t) (value_at (function point) (value at)) w.1 (value_same (function point) w.0))) here
+          is.alike (value at) t (value_at (shape.function point) (value at)) v (same_sym w.0)
+          (same_symᵉ v (value_at (shape.function point) (value at)) (same_transᵉ v (value_at (shape.function point) t) (value_at (shape.function point) (value at)) w.1 (value_same (shape.function point) w.0))) here

@@ -1,30 +1,31 @@
 -- A signal that goes on after its last knot.
 use Rattle.std.specs.Prelude.{◌≡◌, ◌⊎◌, ◌↔◌, List}
 use Rattle.rational.specs.Time.{Rational, ◌<ʳ◌, ◌≈◌}
-use Rattle.rational.specs.Extended.{Extended, Affine, Passes}
+use Rattle.rational.specs.Extended.{Extended, Passes}
 use Rattle.frac128.specs.Value.{value}
 use Rattle.frac128.specs.declared.frac.Frac.{Frac}
+use Rattle.value_laws.specs.Members.{ShapeOf}
 use Rattle.pl_signal.specs.declared.knot.Knot.{Knot}
 use Rattle.pl_signal.specs.declared.joining.Pieces.{Pieces}
 use Rattle.pl_signal.specs.declared.joining.Pieces.TheVariants.{Whole, Split}
 use Rattle.pl_signal.specs.Knots.{start, stop, HasShape, IsSignal, IsWorth}
 
-module _ {P : Type 0} (function : P → Affine) where
+module _ {P : Type 0} (shape : ShapeOf P) where
   -- the new signal is the old one up to its last time, then `after` on the open gap up to the time `at`, and `point` there
   pub record GoesOn (old : List (Knot P)) (after : P) (at : Frac) (point : P) (new : List (Knot P)) : Type 0 where
-    pub signal : IsSignal function new
+    pub signal : IsSignal shape new
     pub begins : start new ≡ start old
     pub ends : stop new ≡ value at
-    pub worth : (t : Rational) (v : Extended) → IsWorth function new t v
-        ↔ (IsWorth function old t v ⊎ ((stop old <ʳ t) × (t <ʳ value at) × Passes (function after) t v) ⊎ ((t ≈ value at) × Passes (function point) t v))
+    pub worth : (t : Rational) (v : Extended) → IsWorth shape new t v
+        ↔ (IsWorth shape old t v ⊎ ((stop old <ʳ t) × (t <ʳ value at) × Passes (shape.function after) t v) ⊎ ((t ≈ value at) × Passes (shape.function point) t v))
     pub shapes : (p : P) → HasShape new p → HasShape old p ⊎ (p ≡ after) ⊎ (p ≡ point)
 
   -- the new signal goes on with the pieces up to the time `to`, and `point` there
   abbrev pub Continues : List (Knot P) → Pieces P → Frac → P → List (Knot P) → Type 0
-  Continues old (Whole shape) to point new = GoesOn old shape to point new
+  Continues old (Whole piece) to point new = GoesOn old piece to point new
   Continues old (Split first middle second) to point new = (half : List (Knot P)) × GoesOn old first middle first half × GoesOn half second to point new
 
 -- where there is a crossing, it lies between the times
 abbrev pub MiddleIsBetween : {P : Type 0} → Pieces P → Rational → Rational → Type 0
-MiddleIsBetween (Whole shape) from to = Unit {0}
+MiddleIsBetween (Whole piece) from to = Unit {0}
 MiddleIsBetween (Split first middle second) from to = (from <ʳ value middle) × (value middle <ʳ to)

@@ -7,6 +7,7 @@ use Rattle.rational.specs.Affine.{IsOrderᵉ, MeetAlone}
 use Rattle.rational.specs.Windows.{Function}
 use Rattle.frac128.specs.Value.{value}
 use Rattle.frac128.specs.declared.frac.Frac.{Frac}
+use Rattle.value_laws.specs.Members.{ShapeOf}
 use Rattle.pl_signal.specs.declared.knot.Knot.{Knot}
 use Rattle.pl_signal.specs.declared.joining.Side.{Side}
 use Rattle.pl_signal.specs.declared.joining.Side.TheVariants.{Least, Greatest}
@@ -35,10 +36,10 @@ ChosenOf side A B t v = (x y : Extended) × A t x × B t y × IsChosen side x y 
 abbrev pub TurnsOver : Affine → Affine → Rational → Rational → Type 0
 TurnsOver f g l r = ((value_at f l <ᵉ value_at g l) × (value_at g r <ᵉ value_at f r)) ⊎ ((value_at g l <ᵉ value_at f l) × (value_at f r <ᵉ value_at g r))
 
-module _ {P : Type 0} (function : P → Affine) where
-  -- at t the shape has what is chosen of p and q
+module _ {P : Type 0} (shape : ShapeOf P) where
+  -- at t the shape `taken` has what is chosen of p and q
   abbrev pub IsTakenAt : Side → P → P → P → Rational → Type 0
-  IsTakenAt side p q shape t = IsChosen side (value_at (function p) t) (value_at (function q) t) (value_at (function shape) t)
+  IsTakenAt side p q taken t = IsChosen side (value_at (shape.function p) t) (value_at (shape.function q) t) (value_at (shape.function taken) t)
 
   -- the one of p and q is taken up to the time and at it, and the other after it
   pub record IsSplit (side : Side) (p q : P) (from to : Rational) (first : P) (middle : Rational) (second : P) : Type 0 where
@@ -51,21 +52,21 @@ module _ {P : Type 0} (function : P → Affine) where
 
   -- the pieces are what is chosen of p and q at each time of the gap
   abbrev pub IsPieces : Side → P → P → Rational → Rational → Pieces P → Type 0
-  IsPieces side p q from to (Whole shape) = ((shape ≡ p) ⊎ (shape ≡ q)) × ((t : Rational) → from <ʳ t → t <ʳ to → IsTakenAt side p q shape t)
+  IsPieces side p q from to (Whole piece) = ((piece ≡ p) ⊎ (piece ≡ q)) × ((t : Rational) → from <ʳ t → t <ʳ to → IsTakenAt side p q piece t)
   IsPieces side p q from to (Split first middle second) = IsSplit side p q from to first (value middle) second
 
   -- the new signal is the old one, then what is chosen of p and q on the open gap up to the time `to`, and `point` there
   pub record Joins (side : Side) (old : List (Knot P)) (p q : P) (to : Frac) (point : P) (new : List (Knot P)) : Type 0 where
-    pub signal : IsSignal function new
+    pub signal : IsSignal shape new
     pub begins : start new ≡ start old
     pub ends : stop new ≡ value to
-    pub worth : (t : Rational) (v : Extended) → IsWorth function new t v
-        ↔ (IsWorth function old t v ⊎ ((stop old <ʳ t) × (t <ʳ value to) × IsChosen side (value_at (function p) t) (value_at (function q) t) v) ⊎ ((t ≈ value to) × Passes (function point) t v))
+    pub worth : (t : Rational) (v : Extended) → IsWorth shape new t v
+        ↔ (IsWorth shape old t v ⊎ ((stop old <ʳ t) × (t <ʳ value to) × IsChosen side (value_at (shape.function p) t) (value_at (shape.function q) t) v) ⊎ ((t ≈ value to) × Passes (shape.function point) t v))
     pub shapes : (r : P) → HasShape new r → HasShape old r ⊎ (r ≡ p) ⊎ (r ≡ q) ⊎ (r ≡ point)
 
   -- want of memory, or the crossing of p and q between the times, with its denominator
   abbrev pub IsGapFault : P → P → Frac → Frac → OpFault P → Type 0
   IsGapFault p q from to F.Memory = Unit {0}
   IsGapFault p q from to (F.Wide (Cross a b c d den)) =
-      (a ≡ p) × (b ≡ q) × (c ≡ from) × (d ≡ to) × ((t : Rational) × MeetAlone (function p) (function q) (value from) (value to) t × HasDenominator t den × (2 ^ 60 ≤ den))
+      (a ≡ p) × (b ≡ q) × (c ≡ from) × (d ≡ to) × ((t : Rational) × MeetAlone (shape.function p) (shape.function q) (value from) (value to) t × HasDenominator t den × (2 ^ 60 ≤ den))
   IsGapFault p q from to (F.Wide (Value a b den)) = ⊥

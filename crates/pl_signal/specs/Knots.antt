@@ -1,9 +1,10 @@
 -- A signal as its knots: what it is worth at a time, from where to where it goes, and when a knot could be left out.
 use Rattle.std.specs.Prelude.{◌≡◌, ◌<◌, ◌⊎◌, List, [], ◌∷◌, length, pos}
 use Rattle.rational.specs.Time.{Rational, ◌<ʳ◌, ◌≈◌, whole}
-use Rattle.rational.specs.Extended.{Extended, ◌≈ᵉ◌, Affine, value_at, Passes}
+use Rattle.rational.specs.Extended.{Extended, ◌≈ᵉ◌, value_at, Passes}
 use Rattle.rational.specs.Affine.{AreSame}
 use Rattle.frac128.specs.Value.{value}
+use Rattle.value_laws.specs.Members.{ShapeOf}
 use Rattle.pl_signal.specs.declared.knot.Knot.{Knot}
 
 module _ {P : Type 0} where
@@ -42,17 +43,17 @@ module _ {P : Type 0} where
   EndsAlike k [] = k.after ≡ k.point
   EndsAlike k (n ∷ knots) = Unit {0}
 
-module _ {P : Type 0} (function : P → Affine) where
+module _ {P : Type 0} (shape : ShapeOf P) where
   -- t is the time of the knot, and v the value of its point
   pub record IsAt (k : Knot P) (t : Rational) (v : Extended) : Type 0 where
     pub when : t ≈ value k.time
-    pub worth : Passes (function k.point) t v
+    pub worth : Passes (shape.function k.point) t v
 
   -- t lies strictly between the two knots, and v is the value of the shape between them
   pub record IsBetween (k n : Knot P) (t : Rational) (v : Extended) : Type 0 where
     pub after : time k <ʳ t
     pub before : t <ʳ time n
-    pub worth : Passes (function k.after) t v
+    pub worth : Passes (shape.function k.after) t v
 
   -- v is the value at t on the open gap after the knot, if a knot follows
   abbrev pub IsInGap : Knot P → List (Knot P) → Rational → Extended → Type 0
@@ -66,8 +67,8 @@ module _ {P : Type 0} (function : P → Affine) where
 
   -- the shape before the knot, its point and the shape after it are of one function
   pub record CanBeLeftOut (before k : Knot P) : Type 0 where
-    pub here : value_at (function before.after) (time k) ≈ᵉ value_at (function k.point) (time k)
-    pub on : AreSame (function before.after) (function k.after)
+    pub here : value_at (shape.function before.after) (time k) ≈ᵉ value_at (shape.function k.point) (time k)
+    pub on : AreSame (shape.function before.after) (shape.function k.after)
 
   -- the next knot, if it is not the last, cannot be left out
   abbrev pub NextIsNeeded : Knot P → List (Knot P) → Type 0

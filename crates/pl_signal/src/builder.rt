@@ -35,7 +35,7 @@ impl<P: Shape> Model for Builder<P> {
 
     ghost view = { λ s. s.knots.items };
 
-    ghost invariant = { λ s. IsSignal P.function s.knots.items };
+    ghost invariant = { λ s. IsSignal P.Shape s.knots.items };
 }
 
 impl<P: Shape> Builder<P> {
@@ -61,7 +61,7 @@ impl<P: Shape> Builder<P> {
     /// The time of the last knot so far.
     pub fn stop(&self) -> Frac
         ensures value { value result ≡ stop self.now }
-        ensures signal { IsSignal P.function self.now }
+        ensures signal { IsSignal P.Shape self.now }
     {
         self.knots[self.knots.len() - 1].time
     }
@@ -73,7 +73,7 @@ impl<P: Shape> Builder<P> {
     pub fn step(&mut self, after: P, at: Frac, point: P) -> Result<(), Memory>
         requires limited { IsWithin (2 ^ 34) (stop self.old) }
         requires later { stop self.old <ʳ value at }
-        ensures ok { OnOk result (GoesOn P.function self.old after at point self.new) }
+        ensures ok { OnOk result (GoesOn P.Shape self.old after at point self.new) }
         ensures err { OnErr result (self.new ≡ self.old) }
     {
         if self.knots.reserve(1).is_err() {
@@ -93,10 +93,10 @@ impl<P: Shape> Builder<P> {
         requires to_within { IsWithin (2 ^ 34) (value to.now) }
         requires first { HasBoundedLevel (2 ^ 31) (P.function p.now) }
         requires second { HasBoundedLevel (2 ^ 31) (P.function q.now) }
-        ensures ok { OnOk result (Joins P.function side self.old p.now q.now to.now point self.new) }
+        ensures ok { OnOk result (Joins P.Shape side self.old p.now q.now to.now point self.new) }
         ensures err { OnErr result (self.new ≡ self.old) }
         ensures wide { IfErr result
-            (λ e. (from : Frac) × (value from ≡ stop self.old) × IsGapFault P.function p.now q.now from to.now e) }
+            (λ e. (from : Frac) × (value from ≡ stop self.old) × IsGapFault P.Shape p.now q.now from to.now e) }
     {
         let from = self.stop();
         let taken = pieces_over(side, p, q, &from, to)?;
@@ -110,7 +110,7 @@ impl<P: Shape> Builder<P> {
     /// The signal that was built.
     pub fn finish(self) -> Signal<P>
         ensures value { result ≡ self }
-        ensures signal { IsSignal P.function result }
+        ensures signal { IsSignal P.Shape result }
     {
         let Builder { alloc, knots } = self;
         Signal::from_knots(alloc, knots)
@@ -140,13 +140,13 @@ fn begun<P: Shape>(
 
 /// Goes on with the pieces up to `to`, and with `point` there. There is room for two knots.
 fn put_pieces<P: Shape>(knots: &mut Vec<Knot<P>>, pieces: &Pieces<P>, to: Frac, point: P)
-    requires signal { IsSignal P.function knots.old.items }
+    requires signal { IsSignal P.Shape knots.old.items }
     requires room { vec_len knots.old + 2 ≤ vec_capacity knots.old }
     requires from_within { IsWithin (2 ^ 34) (stop knots.old.items) }
     requires to_within { IsWithin (2 ^ 34) (value to) }
     requires order { stop knots.old.items <ʳ value to }
     requires between { MiddleIsBetween pieces.now (stop knots.old.items) (value to) }
-    ensures { Continues P.function knots.old.items pieces.now to point knots.new.items }
+    ensures { Continues P.Shape knots.old.items pieces.now to point knots.new.items }
 {
     match *pieces {
         Pieces::Whole(shape) => go_on(knots, shape, to, point),
@@ -163,11 +163,11 @@ fn put_pieces<P: Shape>(knots: &mut Vec<Knot<P>>, pieces: &Pieces<P>, to: Frac, 
 
 /// Goes on from the last knot. There is room for one more.
 fn go_on<P: Shape>(knots: &mut Vec<Knot<P>>, after: P, at: Frac, point: P)
-    requires signal { IsSignal P.function knots.old.items }
+    requires signal { IsSignal P.Shape knots.old.items }
     requires room { vec_len knots.old < vec_capacity knots.old }
     requires limited { IsWithin (2 ^ 34) (stop knots.old.items) }
     requires later { stop knots.old.items <ʳ value at }
-    ensures on { GoesOn P.function knots.old.items after at point knots.new.items }
+    ensures on { GoesOn P.Shape knots.old.items after at point knots.new.items }
     ensures one_more { vec_len knots.new ≤ vec_len knots.old + 1 }
     ensures room { vec_capacity knots.new ≡ vec_capacity knots.old }
 {

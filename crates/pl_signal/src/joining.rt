@@ -66,7 +66,7 @@ pub fn crossing<P: Shape>(p: &P, q: &P, from: &Frac, to: &Frac) -> Result<Frac, 
     requires turned { TurnsOver (P.function p.now) (P.function q.now) (value from.now) (value to.now) }
     ensures { MatchResult result
         (λ t. MeetAlone (P.function p.now) (P.function q.now) (value from.now) (value to.now) (value t))
-        (IsGapFault P.function p.now q.now from.now to.now) }
+        (IsGapFault P.Shape p.now q.now from.now to.now) }
 {
     match P::cross(p, q, from, to) {
         Ok(Some(t)) => Ok(t),
@@ -95,8 +95,8 @@ pub(crate) fn pieces_over<P: Shape>(
     requires first { HasBoundedLevel (2 ^ 31) (P.function p.now) }
     requires second { HasBoundedLevel (2 ^ 31) (P.function q.now) }
     ensures { MatchResult result
-        (IsPieces P.function side p.now q.now (value from.now) (value to.now))
-        (IsGapFault P.function p.now q.now from.now to.now) }
+        (IsPieces P.Shape side p.now q.now (value from.now) (value to.now))
+        (IsGapFault P.Shape p.now q.now from.now to.now) }
 {
     match favour(side, p, q, from) {
         Ordering::Less => match favour(side, p, q, to) {

@@ -16,27 +16,27 @@ use value_laws::Shape;
 
 /// A signal is worth one value at each time of its domain, and nothing outside.
 pub fn one_value<P: Shape>()
-    ensures one { (knots : List (Knot P)) (t : Rational) (v w : Extended) → IsSignal P.function knots
-        → IsWorth P.function knots t v → IsWorth P.function knots t w → v ≈ᵉ w }
-    ensures some { (knots : List (Knot P)) (t : Rational) → IsSignal P.function knots
-        → Within (start knots) (stop knots) t → (v : Extended) × IsWorth P.function knots t v }
-    ensures within { (knots : List (Knot P)) (t : Rational) (v : Extended) → IsSignal P.function knots
-        → IsWorth P.function knots t v → Within (start knots) (stop knots) t }
+    ensures one { (knots : List (Knot P)) (t : Rational) (v w : Extended) → IsSignal P.Shape knots
+        → IsWorth P.Shape knots t v → IsWorth P.Shape knots t w → v ≈ᵉ w }
+    ensures some { (knots : List (Knot P)) (t : Rational) → IsSignal P.Shape knots
+        → Within (start knots) (stop knots) t → (v : Extended) × IsWorth P.Shape knots t v }
+    ensures within { (knots : List (Knot P)) (t : Rational) (v : Extended) → IsSignal P.Shape knots
+        → IsWorth P.Shape knots t v → Within (start knots) (stop knots) t }
     ensures alike { (knots : List (Knot P)) (t u : Rational) (v w : Extended) → t ≈ u → v ≈ᵉ w
-        → IsWorth P.function knots t v → IsWorth P.function knots u w }
+        → IsWorth P.Shape knots t v → IsWorth P.Shape knots u w }
 {}
 
 /// A signal read by the places of its knots: at a knot it is worth what the knot's point is, and on the gap behind it what the
 /// shape after it is.
 pub fn by_places<P: Shape>()
     ensures at { (knots : List (Knot P)) (i : ℕ) (k : Knot P) (t : Rational) → slice_get knots i ≡ Some k → t ≈ time k
-        → IsWorth P.function knots t (value_at (P.function k.point) t) }
+        → IsWorth P.Shape knots t (value_at (P.function k.point) t) }
     ensures between { (knots : List (Knot P)) (i : ℕ) (k n : Knot P) (t : Rational) → slice_get knots i ≡ Some k
         → slice_get knots (i + 1) ≡ Some n → time k <ʳ t → t <ʳ time n
-        → IsWorth P.function knots t (value_at (P.function k.after) t) }
-    ensures rising { (knots : List (Knot P)) (i : ℕ) (k n : Knot P) → IsSignal P.function knots → slice_get knots i ≡ Some k
+        → IsWorth P.Shape knots t (value_at (P.function k.after) t) }
+    ensures rising { (knots : List (Knot P)) (i : ℕ) (k n : Knot P) → IsSignal P.Shape knots → slice_get knots i ≡ Some k
         → slice_get knots (i + 1) ≡ Some n → time k <ʳ time n }
-    ensures found { (knots : List (Knot P)) (t : Rational) → IsSignal P.function knots → Within (start knots) (stop knots) t
+    ensures found { (knots : List (Knot P)) (t : Rational) → IsSignal P.Shape knots → Within (start knots) (stop knots) t
         → ((i : ℕ) × (k : Knot P) × (slice_get knots i ≡ Some k) × (t ≈ time k))
         ⊎ ((i : ℕ) × (k n : Knot P) × (slice_get knots i ≡ Some k) × (slice_get knots (i + 1) ≡ Some n) × (time k <ʳ t) × (t <ʳ time n)) }
 {}
@@ -46,46 +46,46 @@ pub fn by_places<P: Shape>()
 pub fn limits<P: Shape>()
     ensures left { (knots : List (Knot P)) (i : ℕ) (k n : Knot P) (t : Rational) → slice_get knots i ≡ Some k
         → slice_get knots (i + 1) ≡ Some n → time k <ʳ t → t ≤ʳ time n
-        → IsLeftLimit (IsWorth P.function knots) t (value_at (P.function k.after) t) }
+        → IsLeftLimit (IsWorth P.Shape knots) t (value_at (P.function k.after) t) }
     ensures right { (knots : List (Knot P)) (i : ℕ) (k n : Knot P) (t : Rational) → slice_get knots i ≡ Some k
         → slice_get knots (i + 1) ≡ Some n → time k ≤ʳ t → t <ʳ time n
-        → IsRightLimit (IsWorth P.function knots) t (value_at (P.function k.after) t) }
-    ensures one_left { (knots : List (Knot P)) (t : Rational) (v w : Extended) → IsSignal P.function knots
-        → IsLeftLimit (IsWorth P.function knots) t v → IsLeftLimit (IsWorth P.function knots) t w → v ≈ᵉ w }
-    ensures one_right { (knots : List (Knot P)) (t : Rational) (v w : Extended) → IsSignal P.function knots
-        → IsRightLimit (IsWorth P.function knots) t v → IsRightLimit (IsWorth P.function knots) t w → v ≈ᵉ w }
+        → IsRightLimit (IsWorth P.Shape knots) t (value_at (P.function k.after) t) }
+    ensures one_left { (knots : List (Knot P)) (t : Rational) (v w : Extended) → IsSignal P.Shape knots
+        → IsLeftLimit (IsWorth P.Shape knots) t v → IsLeftLimit (IsWorth P.Shape knots) t w → v ≈ᵉ w }
+    ensures one_right { (knots : List (Knot P)) (t : Rational) (v w : Extended) → IsSignal P.Shape knots
+        → IsRightLimit (IsWorth P.Shape knots) t v → IsRightLimit (IsWorth P.Shape knots) t w → v ≈ᵉ w }
 {}
 
 /// Where a signal is affine. Each of its knots is a breakpoint, and on the gap behind a knot the shape after the knot is the part
 /// about each time. About a time there is one part.
 pub fn parts<P: Shape>()
-    ensures breakpoint { (knots : List (Knot P)) (i : ℕ) (k : Knot P) → IsSignal P.function knots → slice_get knots i ≡ Some k
-        → IsBreakpoint (IsWorth P.function knots) (start knots) (stop knots) (time k) }
+    ensures breakpoint { (knots : List (Knot P)) (i : ℕ) (k : Knot P) → IsSignal P.Shape knots → slice_get knots i ≡ Some k
+        → IsBreakpoint (IsWorth P.Shape knots) (start knots) (stop knots) (time k) }
     ensures part { (knots : List (Knot P)) (i : ℕ) (k n : Knot P) (t : Rational) → slice_get knots i ≡ Some k
         → slice_get knots (i + 1) ≡ Some n → time k <ʳ t → t <ʳ time n
-        → IsPart (IsWorth P.function knots) t (P.function k.after) }
-    ensures one { (knots : List (Knot P)) (t : Rational) (f g : Affine) → IsSignal P.function knots
-        → IsPart (IsWorth P.function knots) t f → IsPart (IsWorth P.function knots) t g → AreSame f g }
+        → IsPart (IsWorth P.Shape knots) t (P.function k.after) }
+    ensures one { (knots : List (Knot P)) (t : Rational) (f g : Affine) → IsSignal P.Shape knots
+        → IsPart (IsWorth P.Shape knots) t f → IsPart (IsWorth P.Shape knots) t g → AreSame f g }
 {}
 
 /// A signal is limited where it begins and ends within 2^34 and each of its values is infinite or within 2^31, and only there:
 /// its one-sided limits need no words of their own.
 pub fn limited<P: Shape>()
-    ensures limited { (knots : List (Knot P)) → IsSignal P.function knots
+    ensures limited { (knots : List (Knot P)) → IsSignal P.Shape knots
         → IsWithin (2 ^ 34) (start knots) → IsWithin (2 ^ 34) (stop knots)
-        → ((t : Rational) (v : Extended) → IsWorth P.function knots t v → IsBounded (2 ^ 31) v) → IsLimited P.function knots }
-    ensures times { (knots : List (Knot P)) → IsSignal P.function knots → IsLimited P.function knots
+        → ((t : Rational) (v : Extended) → IsWorth P.Shape knots t v → IsBounded (2 ^ 31) v) → IsLimited P.Shape knots }
+    ensures times { (knots : List (Knot P)) → IsSignal P.Shape knots → IsLimited P.Shape knots
         → IsWithin (2 ^ 34) (start knots) × IsWithin (2 ^ 34) (stop knots) }
-    ensures values { (knots : List (Knot P)) (t : Rational) (v : Extended) → IsLimited P.function knots
-        → IsWorth P.function knots t v → IsBounded (2 ^ 31) v }
+    ensures values { (knots : List (Knot P)) (t : Rational) (v : Extended) → IsLimited P.Shape knots
+        → IsWorth P.Shape knots t v → IsBounded (2 ^ 31) v }
 {}
 
 /// A signal has a Sup and an Inf over every interval, closed, half-open or open, empty or not.
 pub fn sup_and_inf<P: Shape>()
     ensures sup { (knots : List (Knot P)) (on : Interval)
-        → (r : Extended) × IsSupOver P.lowest (IsIn on) (IsWorth P.function knots) r }
+        → (r : Extended) × IsSupOver P.lowest (IsIn on) (IsWorth P.Shape knots) r }
     ensures inf { (knots : List (Knot P)) (on : Interval)
-        → (r : Extended) × IsInfOver P.highest (IsIn on) (IsWorth P.function knots) r }
+        → (r : Extended) × IsInfOver P.highest (IsIn on) (IsWorth P.Shape knots) r }
 {}
 
 /// A signal says the same as the plain list of its knots, with no shape in it: the list rises from where the signal begins to where

@@ -22,7 +22,7 @@ impl<P: Shape> Signal<P> {
         requires order { value from.now ≤ʳ value to.now }
         requires first { start self.now ≤ʳ value from.now }
         requires last { value to.now ≤ʳ stop self.now }
-        ensures worth { IfOk result (Tells P.function (IsWorth P.function self.now) (value from.now) (value to.now)) }
+        ensures worth { IfOk result (Tells P.Shape (IsWorth P.Shape self.now) (value from.now) (value to.now)) }
         ensures shapes { IfOk result (λ r. (p : P) → HasShape r p → HasShape self.now p) }
     {
         let knots = cut(self.alloc, &self.knots, from, to)?;
@@ -33,7 +33,7 @@ impl<P: Shape> Signal<P> {
     ///
     /// The base of each of its moving shapes is `by` less than that of a moving shape of this signal.
     pub fn shift_clip(&self, by: i64, from: &Frac, to: &Frac) -> Result<Signal<P>, Memory>
-        requires limited { IsLimited P.function self.now }
+        requires limited { IsLimited P.Shape self.now }
         requires bases { (p : P) → HasShape self.now p → unsigned_abs (P.base p -ℤ by) ≤ 2 ^ 34 }
         requires order { value from.now ≤ʳ value to.now }
         requires first { start self.now ≤ʳ add (value from.now) (whole by) }
@@ -41,8 +41,8 @@ impl<P: Shape> Signal<P> {
         requires from_within { IsWithin (2 ^ 34) (value from.now) }
         requires to_within { IsWithin (2 ^ 34) (value to.now) }
         ensures worth { IfOk result
-            (Tells P.function (λ t v. IsWorth P.function self.now (add t (whole by)) v) (value from.now) (value to.now)) }
-        ensures bases { IfOk result (BasesFrom P.moves P.base (λ b. b -ℤ by) self.now) }
+            (Tells P.Shape (λ t v. IsWorth P.Shape self.now (add t (whole by)) v) (value from.now) (value to.now)) }
+        ensures bases { IfOk result (BasesFrom P.Shape (λ b. b -ℤ by) self.now) }
     {
         let _ = self.len();
         let (begin, end) = (from.shift(by), to.shift(by));
@@ -54,13 +54,13 @@ impl<P: Shape> Signal<P> {
     ///
     /// The base of each of its moving shapes is `about` less that of a moving shape of this signal.
     pub fn mirror(&self, about: i64) -> Result<Signal<P>, Memory>
-        requires limited { IsLimited P.function self.now }
+        requires limited { IsLimited P.Shape self.now }
         requires bases { (p : P) → HasShape self.now p → unsigned_abs (about -ℤ P.base p) ≤ 2 ^ 34 }
         requires from_within { IsWithin (2 ^ 34) (subtract (whole about) (stop self.now)) }
         requires to_within { IsWithin (2 ^ 34) (subtract (whole about) (start self.now)) }
-        ensures worth { IfOk result (Tells P.function (λ t v. IsWorth P.function self.now (subtract (whole about) t) v)
+        ensures worth { IfOk result (Tells P.Shape (λ t v. IsWorth P.Shape self.now (subtract (whole about) t) v)
             (subtract (whole about) (stop self.now)) (subtract (whole about) (start self.now))) }
-        ensures bases { IfOk result (BasesFrom P.moves P.base (λ b. about -ℤ b) self.now) }
+        ensures bases { IfOk result (BasesFrom P.Shape (λ b. about -ℤ b) self.now) }
     {
         let mut i = self.len() - 1;
         let last = self.knot(i);
@@ -87,9 +87,9 @@ fn shifted<P: Shape>(s: &Signal<P>, by: i64, from: &Frac) -> Result<Signal<P>, M
     requires start_within { IsWithin (2 ^ 34) (start s.now) }
     requires from_within { IsWithin (2 ^ 34) (value from.now) }
     requires to_within { IsWithin (2 ^ 34) (add (stop s.now) (whole (neg_ℤ by))) }
-    ensures worth { IfOk result (Tells P.function (λ t v. IsWorth P.function s.now (add t (whole by)) v)
+    ensures worth { IfOk result (Tells P.Shape (λ t v. IsWorth P.Shape s.now (add t (whole by)) v)
         (value from.now) (add (stop s.now) (whole (neg_ℤ by)))) }
-    ensures bases { IfOk result (BasesFrom P.moves P.base (λ b. b -ℤ by) s.now) }
+    ensures bases { IfOk result (BasesFrom P.Shape (λ b. b -ℤ by) s.now) }
 {
     let back = -by;
     let count = s.len();
@@ -110,11 +110,11 @@ fn cut<P: Shape>(
     from: &Frac,
     to: &Frac,
 ) -> Result<Vec<Knot<P>>, Memory>
-    requires signal { IsSignal P.function knots.now }
+    requires signal { IsSignal P.Shape knots.now }
     requires order { value from.now ≤ʳ value to.now }
     requires first { start knots.now ≤ʳ value from.now }
     requires last { value to.now ≤ʳ stop knots.now }
-    ensures { IfOk result (λ r. IsCut P.function knots.now from.now to.now r.items) }
+    ensures { IfOk result (λ r. IsCut P.Shape knots.now from.now to.now r.items) }
 {
     let i = place_of(knots, from);
     let begin = &knots[i];

@@ -27,7 +27,7 @@ impl<P: Shape> Signal<P> {
         requires next { (k : Knot P) → slice_get self.now (place + 1) ≡ Some k → value to.now ≤ʳ time k }
         ensures place { IsPlace self.now (value to.now) result.place }
         ensures shape { HasShape self.now result.shape }
-        ensures worth { IsWorth P.function self.now (value to.now) (value_at (P.function result.shape) (value to.now)) }
+        ensures worth { IsWorth P.Shape self.now (value to.now) (value_at (P.function result.shape) (value to.now)) }
         ensures moved { (result.place ≡ place + 1)
             ⊎ ((result.place ≡ place) × ((k : Knot P) → slice_get self.now (place + 1) ≡ Some k → value to.now <ʳ time k)) }
     {

@@ -33,7 +33,7 @@ impl<P: Shape> Model for Signal<P> {
 
     ghost view = { λ s. s.knots.items };
 
-    ghost invariant = { λ s. IsSignal P.function s.knots.items };
+    ghost invariant = { λ s. IsSignal P.Shape s.knots.items };
 }
 
 impl<P: Shape> Signal<P> {
@@ -41,7 +41,7 @@ impl<P: Shape> Signal<P> {
     pub fn len(&self) -> usize
         ensures value { result ≡ length self.now }
         ensures some { 0 < result }
-        ensures signal { IsSignal P.function self.now }
+        ensures signal { IsSignal P.Shape self.now }
     {
         self.knots.len()
     }
@@ -62,7 +62,7 @@ impl<P: Shape> Signal<P> {
     /// The time of the first knot.
     pub fn start(&self) -> Frac
         ensures value { value result ≡ start self.now }
-        ensures signal { IsSignal P.function self.now }
+        ensures signal { IsSignal P.Shape self.now }
     {
         self.knots[0].time
     }
@@ -70,7 +70,7 @@ impl<P: Shape> Signal<P> {
     /// The time of the last knot.
     pub fn stop(&self) -> Frac
         ensures value { value result ≡ stop self.now }
-        ensures signal { IsSignal P.function self.now }
+        ensures signal { IsSignal P.Shape self.now }
     {
         self.knots[self.knots.len() - 1].time
     }
@@ -81,7 +81,7 @@ impl<P: Shape> Signal<P> {
             (¬ Within (start self.now) (stop self.now) (value t.now))
             (λ p. Within (start self.now) (stop self.now) (value t.now)
             × HasShape self.now p
-            × IsWorth P.function self.now (value t.now) (value_at (P.function p) (value t.now))) }
+            × IsWorth P.Shape self.now (value t.now) (value_at (P.function p) (value t.now))) }
     {
         if let Ordering::Greater = self.knots[0].time.cmp(t) {
             return None;
@@ -98,7 +98,7 @@ impl<P: Shape> Signal<P> {
     }
 
     pub(crate) fn from_knots(alloc: Global, knots: Vec<Knot<P>>) -> Signal<P>
-        requires { IsSignal P.function knots.items }
+        requires { IsSignal P.Shape knots.items }
         ensures { result ≡ knots.items }
     {
         Signal { alloc, knots }

@@ -12,6 +12,7 @@ use Rattle.frac128.specs.Value.{value}
 use Rattle.frac128.specs.declared.frac.Frac.{Frac}
 use Rattle.value_laws.specs.Values.{truth_value}
 use Rattle.value_laws.specs.declared.truth.Truth.{Truth}
+use Rattle.value_laws.specs.Kinds.{truth_shape}
 use Rattle.pl_signal.specs.declared.knot.Knot.{Knot}
 use Rattle.pl_signal.specs.Knots.{time, start, stop, IsSignal, IsWorth}
 use Rattle.pl_signal.proofs.Values.{worth_at, worth_between, worth_same, next_rises, stop_at}
@@ -61,10 +62,6 @@ going o at at_in truth h = by_truth (differ o.holds truth)
       goes = record { closes = record { from = refl; from_in = refl; to = refl; to_in = refl; holds = refl }; other = e; from = refl; from_in = refl; holds = refl };
     }
 
--- a truth's function of time
-abbrev pub truth_function : Truth → Affine
-truth_function p = level (truth_value p.holds)
-
 -- it has the sign of the truth
 signs : (holds : Bool) (t : Rational) → value_at (level (truth_value holds)) t ≈ᵉ sign_of holds
 signs true t = level_is (truth_value true) t
@@ -86,23 +83,23 @@ module _ (knots : List (Knot Truth)) where
   pub record IsSpelledTo (i : ℕ) (verdicts : List Verdict) (o : OpenSpan) : Type 0 where
     pub last : Knot Truth
     pub is : slice_get knots i ≡ Some last
-    pub spelled : IsSpelled (IsWorth truth_function knots) (start knots) (time last) true verdicts o
+    pub spelled : IsSpelled (IsWorth truth_shape knots) (start knots) (time last) true verdicts o
 
-  point_told : (i : ℕ) (k : Knot Truth) → slice_get knots i ≡ Some k → (t : Rational) → t ≈ time k → IsWorth truth_function knots t (sign_of k.point.holds)
+  point_told : (i : ℕ) (k : Knot Truth) → slice_get knots i ≡ Some k → (t : Rational) → t ≈ time k → IsWorth truth_shape knots t (sign_of k.point.holds)
   point_told i k h t e =
-      worth_same truth_function knots (value_at (truth_function k.point) t) (sign_of k.point.holds) (same_refl t) (signs k.point.holds t) (worth_at truth_function knots i k t h e)
+      worth_same truth_shape knots (value_at (truth_shape.function k.point) t) (sign_of k.point.holds) (same_refl t) (signs k.point.holds t) (worth_at truth_shape knots i k t h e)
 
   gap_told : (i : ℕ) (k n : Knot Truth) → slice_get knots i ≡ Some k → slice_get knots (i + 1) ≡ Some n → (t : Rational) → time k <ʳ t → t <ʳ time n
-      → IsWorth truth_function knots t (sign_of k.after.holds)
+      → IsWorth truth_shape knots t (sign_of k.after.holds)
   gap_told i k n h j t a b =
-      worth_same truth_function knots (value_at (truth_function k.after) t) (sign_of k.after.holds) (same_refl t) (signs k.after.holds t) (worth_between truth_function knots i k n t h j a b)
+      worth_same truth_shape knots (value_at (truth_shape.function k.after) t) (sign_of k.after.holds) (same_refl t) (signs k.after.holds t) (worth_between truth_shape knots i k n t h j a b)
 
   -- the first knot alone
   pub spelled_start : (k : Knot Truth) (o : OpenSpan) → slice_get knots 0 ≡ Some k → o.from ≡ k.time → o.from_in ≡ true → o.holds ≡ k.point.holds → IsSpelledTo 0 [] o
   spelled_start k o h e f g = record {
     last = k;
     is = h;
-    spelled = rw (first_is knots h) (spelled_first (IsWorth truth_function knots) (time k) o (ap value e) f (rw g (point_told 0 k h)));
+    spelled = rw (first_is knots h) (spelled_first (IsWorth truth_shape knots) (time k) o (ap value e) f (rw g (point_told 0 k h)));
   }
     where
       first_is : (ks : List (Knot Truth)) → slice_get ks 0 ≡ Some k → start ks ≡ time k
@@ -116,40 +113,40 @@ module _ (knots : List (Knot Truth)) where
       room_of_precedes (o.from_in && true) (value o.from) (value k.time) (subst (λ (k : Knot Truth). Precedes (o.from_in && true) (value o.from) (time k)) e s.spelled.begun)
 
   -- past the next knot
-  pub spelled_advance : (i : ℕ) (verdicts : List Verdict) (o new : OpenSpan) (k n : Knot Truth) (by_gap by_point : Option Verdict) → IsSignal truth_function knots → slice_get knots i ≡ Some k
+  pub spelled_advance : (i : ℕ) (verdicts : List Verdict) (o new : OpenSpan) (k n : Knot Truth) (by_gap by_point : Option Verdict) → IsSignal truth_shape knots → slice_get knots i ≡ Some k
       → slice_get knots (i + 1) ≡ Some n → IsAdvanced o k n by_gap by_point new → IsSpelledTo i verdicts o → IsSpelledTo (i + 1) ((verdicts ++ listed by_gap) ++ listed by_point) new
   spelled_advance i verdicts o new k n by_gap by_point signal h j a s =
       let e : s.last ≡ k = let g = s.is in cc in
-      let rising = next_rises truth_function knots i k n signal.each h j in
-      let here = subst (λ (k : Knot Truth). IsSpelled (IsWorth truth_function knots) (start knots) (time k) true verdicts o) e s.spelled in
-      let inside = spelled_on (IsWorth truth_function knots) (start knots) verdicts o a.inside k.time true k.after.holds by_gap (time n) false a.gap here rising
+      let rising = next_rises truth_shape knots i k n signal.each h j in
+      let here = subst (λ (k : Knot Truth). IsSpelled (IsWorth truth_shape knots) (start knots) (time k) true verdicts o) e s.spelled in
+      let inside = spelled_on (IsWorth truth_shape knots) (start knots) verdicts o a.inside k.time true k.after.holds by_gap (time n) false a.gap here rising
       (λ t inside. gap_told i k n h j t inside.above inside.below) in
       record {
         last = n;
         is = j;
-        spelled = spelled_on (IsWorth truth_function knots) (start knots) (verdicts ++ listed by_gap) a.inside new n.time false n.point.holds by_point (time n) true a.point inside (le_refl (time n))
+        spelled = spelled_on (IsWorth truth_shape knots) (start knots) (verdicts ++ listed by_gap) a.inside new n.time false n.point.holds by_point (time n) true a.point inside (le_refl (time n))
             (λ t inside. point_told (i + 1) n j t (same_of_le inside.below inside.above));
       }
 
   -- the last span ends with the signal
   pub spelled_stop : (i : ℕ) (verdicts : List Verdict) (o : OpenSpan) (w : Verdict) (at : Frac) → length knots ≤ i + 1 → IsSpelledTo i verdicts o → value at ≡ stop knots → Closes o at true w
-      → DescribesFunction (IsWorth truth_function knots) (verdicts ++ w ∷ []) (closed (start knots) (stop knots))
+      → DescribesFunction (IsWorth truth_shape knots) (verdicts ++ w ∷ []) (closed (start knots) (stop knots))
   spelled_stop i verdicts o w at h s e c =
-      let there : time s.last ≡ value at = sym (e ∙ stop_at truth_function knots i s.last s.is (no_knot_at knots (i + 1) h)) in
-      let here = subst (λ now. IsSpelled (IsWorth truth_function knots) (start knots) now true verdicts o) there s.spelled in
-      subst (λ t. DescribesFunction (IsWorth truth_function knots) (verdicts ++ w ∷ []) (closed (start knots) t)) e (spelled_end (IsWorth truth_function knots) (start knots) at verdicts o w here c)
+      let there : time s.last ≡ value at = sym (e ∙ stop_at truth_shape knots i s.last s.is (no_knot_at knots (i + 1) h)) in
+      let here = subst (λ now. IsSpelled (IsWorth truth_shape knots) (start knots) now true verdicts o) there s.spelled in
+      subst (λ t. DescribesFunction (IsWorth truth_shape knots) (verdicts ++ w ∷ []) (closed (start knots) t)) e (spelled_end (IsWorth truth_shape knots) (start knots) at verdicts o w here c)
 
   pub stop_room : (i : ℕ) (verdicts : List Verdict) (o : OpenSpan) (at : Frac) → length knots ≤ i + 1 → IsSpelledTo i verdicts o → value at ≡ stop knots → HasTimeBetween (value o.from) (value at) (o.from_in && true)
   stop_room i verdicts o at h s e =
-      let there : time s.last ≡ value at = sym (e ∙ stop_at truth_function knots i s.last s.is (no_knot_at knots (i + 1) h)) in
+      let there : time s.last ≡ value at = sym (e ∙ stop_at truth_shape knots i s.last s.is (no_knot_at knots (i + 1) h)) in
       room_of_precedes (o.from_in && true) (value o.from) (value at) (subst (λ now. Precedes (o.from_in && true) (value o.from) now) there s.spelled.begun)
 
   -- from each knot the verdicts can be told to the end
-  pub told_to_end : (left i : ℕ) (verdicts : List Verdict) (o : OpenSpan) → IsSignal truth_function knots → i + suc left ≡ length knots → IsSpelledTo i verdicts o
-      → (later : List Verdict) × DescribesFunction (IsWorth truth_function knots) (verdicts ++ later) (closed (start knots) (stop knots))
+  pub told_to_end : (left i : ℕ) (verdicts : List Verdict) (o : OpenSpan) → IsSignal truth_shape knots → i + suc left ≡ length knots → IsSpelledTo i verdicts o
+      → (later : List Verdict) × DescribesFunction (IsWorth truth_shape knots) (verdicts ++ later) (closed (start knots) (stop knots))
   told_to_end zero i verdicts o signal count s =
       let at = s.last.time in
-      let there : value at ≡ stop knots = sym (stop_at truth_function knots i s.last s.is (no_knot_at knots (i + 1) (omega arith))) in
+      let there : value at ≡ stop knots = sym (stop_at truth_shape knots i s.last s.is (no_knot_at knots (i + 1) (omega arith))) in
       let room = stop_room i verdicts o at (omega arith) s there in
       let w : Verdict = record { on = record { from = o.from; from_in = o.from_in; to = at; to_in = true; not_empty = room }; holds = o.holds } in
       (w ∷ [], spelled_stop i verdicts o w at (omega arith) s there (record { from = refl; from_in = refl; to = refl; to_in = refl; holds = refl }))
@@ -159,7 +156,7 @@ module _ (knots : List (Knot Truth)) where
       let room = room_to i verdicts o k s.is s in
       let gap = going o k.time true k.after.holds room in
       let point = going gap.new n.0.time false n.0.point.holds
-      (room_after_gap o gap.new k.time n.0.time k.after.holds gap.ended room (next_rises truth_function knots i k n.0 signal.each s.is n.1) gap.goes) in
+      (room_after_gap o gap.new k.time n.0.time k.after.holds gap.ended room (next_rises truth_shape knots i k n.0 signal.each s.is n.1) gap.goes) in
       let more = told_to_end left (i + 1) ((verdicts ++ listed gap.ended) ++ listed point.ended) point.new signal (omega arith)
       (spelled_advance i verdicts o point.new k n.0 gap.ended point.ended signal s.is n.1 (record { inside = gap.new; gap = gap.goes; point = point.goes }) s) in
       ((listed gap.ended ++ listed point.ended) ++ more.0, regroup verdicts (listed gap.ended) (listed point.ended) more.0 more.1)
@@ -167,6 +164,6 @@ module _ (knots : List (Knot Truth)) where
       together : (a b c d : List Verdict) → ((a ++ b) ++ c) ++ d ≡ a ++ ((b ++ c) ++ d)
       together a b c d = simp append_assoc
 
-      regroup : (a b c d : List Verdict) → DescribesFunction (IsWorth truth_function knots) (((a ++ b) ++ c) ++ d) (closed (start knots) (stop knots))
-          → DescribesFunction (IsWorth truth_function knots) (a ++ ((b ++ c) ++ d)) (closed (start knots) (stop knots))
-      regroup a b c d h = subst (λ ws. DescribesFunction (IsWorth truth_function knots) ws (closed (start knots) (stop knots))) (together a b c d) h
+      regroup : (a b c d : List Verdict) → DescribesFunction (IsWorth truth_shape knots) (((a ++ b) ++ c) ++ d) (closed (start knots) (stop knots))
+          → DescribesFunction (IsWorth truth_shape knots) (a ++ ((b ++ c) ++ d)) (closed (start knots) (stop knots))
+      regroup a b c d h = subst (λ ws. DescribesFunction (IsWorth truth_shape knots) ws (closed (start knots) (stop knots))) (together a b c d) h

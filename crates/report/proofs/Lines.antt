@@ -6,6 +6,7 @@ use Rattle.rational.specs.Extended.{Affine}
 use Rattle.rational.proofs.Lowest.{has_denominator}
 use Rattle.rational.proofs.Mixed.{mul_parts}
 use Rattle.frac128.specs.Value.{value}
+use Rattle.value_laws.specs.Members.{ShapeOf}
 use Rattle.stl_syntax.specs.Texts.{fraction_text, IsNumberText, IsVerdictLine, AreVerdictLines}
 use Rattle.stl_syntax.specs.declared.items.Verdict.{Verdict}
 use Rattle.stl_syntax.specs.declared.scale.Scale.{Scale}
@@ -80,10 +81,10 @@ lines_part scale vs ws later old mid new (text, h, e) (first, rest, k, f) =
     together a b c d = simp append_assoc
 
 -- lines of verdicts that describe a signal
-pub signal_lines : {P : Type 0} (function : P → Affine) (scale : Scale) (knots : List (Knot P)) (vs : List Verdict) (old new : List ℕ) → DescribesFunction (IsWorth function knots) vs (closed (start knots) (stop knots))
-    → Grew (AreVerdictLines scale vs) old new → Grew (AreSignalLines function scale knots) old new
-signal_lines function scale knots vs old new d (text, h, e) = (text, record { verdicts = vs; described = d; lines = h }, e)
+pub signal_lines : {P : Type 0} (shape : ShapeOf P) (scale : Scale) (knots : List (Knot P)) (vs : List Verdict) (old new : List ℕ) → DescribesFunction (IsWorth shape knots) vs (closed (start knots) (stop knots))
+    → Grew (AreVerdictLines scale vs) old new → Grew (AreSignalLines shape scale knots) old new
+signal_lines shape scale knots vs old new d (text, h, e) = (text, record { verdicts = vs; described = d; lines = h }, e)
 
-pub signal_lines_part : {P : Type 0} (function : P → Affine) (scale : Scale) (knots : List (Knot P)) (vs : List Verdict) (old new : List ℕ) → DescribesFunction (IsWorth function knots) vs (closed (start knots) (stop knots))
-    → GrewInPart (AreVerdictLines scale vs) old new → GrewInPart (AreSignalLines function scale knots) old new
-signal_lines_part function scale knots vs old new d (first, rest, h, e) = (first, rest, record { verdicts = vs; described = d; lines = h }, e)
+pub signal_lines_part : {P : Type 0} (shape : ShapeOf P) (scale : Scale) (knots : List (Knot P)) (vs : List Verdict) (old new : List ℕ) → DescribesFunction (IsWorth shape knots) vs (closed (start knots) (stop knots))
+    → GrewInPart (AreVerdictLines scale vs) old new → GrewInPart (AreSignalLines shape scale knots) old new
+signal_lines_part shape scale knots vs old new d (first, rest, h, e) = (first, rest, record { verdicts = vs; described = d; lines = h }, e)

@@ -2,6 +2,7 @@
 use Rattle.std.specs.Prelude.{List}
 use Rattle.rational.specs.Time.{closed}
 use Rattle.rational.specs.Extended.{Affine}
+use Rattle.value_laws.specs.Members.{ShapeOf}
 use Rattle.pl_signal.specs.declared.knot.Knot.{Knot}
 use Rattle.pl_signal.specs.Knots as knots
 use Rattle.pl_signal.specs.Moves.{Tells}
@@ -14,11 +15,11 @@ use Rattle.stl_syntax.specs.declared.items.Verdict.{Verdict}
 use Rattle.report.specs.SignalVerdicts.{DescribesFunction}
 
 -- where a signal tells a formula with atoms read as 1 and -1, verdicts that describe the signal describe the formula
-abbrev pub SignalsDescribe : {P : Type 0} → (P → Affine) → Type 0
-SignalsDescribe {P} function =
+abbrev pub SignalsDescribe : {P : Type 0} → ShapeOf P → Type 0
+SignalsDescribe {P} shape =
     (p : Subformula) (tr : Trace) (signal : List (Knot P)) (verdicts : List Verdict)
-    → HasValues p (truth_setting tr) → Tells function (SupInf p (truth_setting tr)) (start tr) (stop tr) signal
-    → DescribesFunction (knots.IsWorth function signal) verdicts (closed (knots.start signal) (knots.stop signal))
+    → HasValues p (truth_setting tr) → Tells shape (SupInf p (truth_setting tr)) (start tr) (stop tr) signal
+    → DescribesFunction (knots.IsWorth shape signal) verdicts (closed (knots.start signal) (knots.stop signal))
     → Describes verdicts p tr (closed (start tr) (stop tr))
 
 -- where a signal tells a formula with atoms read by their margins, its plain list of knots describes the robustness

@@ -4,6 +4,7 @@ use Rattle.rational.specs.Time.{Rational, Interval, IsIn, IsNotEmpty, BeginAlike
 use Rattle.rational.specs.Extended.{Extended, Affine}
 use Rattle.rational.specs.Windows.{Function}
 use Rattle.frac128.specs.Spans.{interval}
+use Rattle.value_laws.specs.Members.{ShapeOf}
 use Rattle.pl_signal.specs.declared.knot.Knot.{Knot}
 use Rattle.pl_signal.specs.Knots.{start, stop, IsWorth}
 use Rattle.stl_syntax.specs.SupInf.{one, minus_one}
@@ -32,9 +33,9 @@ module _ (F : Function) where
   DescribesFunction [] stretch = ⊥
   DescribesFunction (v ∷ verdicts) stretch = BeginAlike (interval v.on) stretch × IsToldBy v × GoesOnBy stretch v verdicts
 
-module _ {P : Type 0} (function : P → Affine) where
+module _ {P : Type 0} (shape : ShapeOf P) where
   -- the text is the lines of verdicts that describe what the signal tells from its start to its stop
   pub record AreSignalLines (scale : Scale) (knots : List (Knot P)) (text : List ℕ) : Type 0 where
     pub verdicts : List Verdict
-    pub described : DescribesFunction (IsWorth function knots) verdicts (closed (start knots) (stop knots))
+    pub described : DescribesFunction (IsWorth shape knots) verdicts (closed (start knots) (stop knots))
     pub lines : AreVerdictLines scale verdicts text

@@ -5,7 +5,7 @@ use value_laws::Shape;
 
 /// Where a signal tells a formula with atoms read as 1 and -1, verdicts that describe the signal describe the formula.
 pub fn signals_describe<P: Shape>()
-    ensures { SignalsDescribe P.function }
+    ensures { SignalsDescribe P.Shape }
 {}
 
 /// Where a signal tells a formula with atoms read by their margins, the plain list of its knots describes the robustness: no knot of

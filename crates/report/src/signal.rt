@@ -30,8 +30,8 @@ fn put_ended(text: &mut Text, ended: Option<Verdict>, scale: Scale) -> Result<()
 /// Want of memory. The text then has a first part of the lines.
 pub fn put_verdicts(text: &mut Text, s: &Signal<Truth>, scale: Scale) -> Result<(), Memory>
     requires { scale.time ≤ 6 }
-    ensures ok { OnOk result (Grew (AreSignalLines ⟦<Truth as Shape>⟧.function scale s.now) text.old text.new) }
-    ensures err { OnErr result (GrewInPart (AreSignalLines ⟦<Truth as Shape>⟧.function scale s.now) text.old text.new) }
+    ensures ok { OnOk result (Grew (AreSignalLines ⟦<Truth as Shape>⟧ scale s.now) text.old text.new) }
+    ensures err { OnErr result (GrewInPart (AreSignalLines ⟦<Truth as Shape>⟧ scale s.now) text.old text.new) }
 {
     let knots = s.len();
     let mut span = OpenSpan::start(&s.knot(0));

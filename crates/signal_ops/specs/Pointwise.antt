@@ -2,10 +2,11 @@
 use Rattle.std.specs.Prelude.{◌≤◌, ◌^◌, ℕ, List}
 use Rattle.rational.specs.Rational.{Rational, ◌<ʳ◌, ◌≤ʳ◌}
 use Rattle.rational.specs.Time.{HasDenominator}
-use Rattle.rational.specs.Extended.{Extended, Affine, value_at, IsLeast, IsGreatest, opposite}
+use Rattle.rational.specs.Extended.{Extended, value_at, IsLeast, IsGreatest, opposite}
 use Rattle.rational.specs.Affine.{MeetAlone}
 use Rattle.rational.specs.Windows.{Function}
 use Rattle.frac128.specs.Value.{value}
+use Rattle.value_laws.specs.Members.{ShapeOf}
 use Rattle.pl_signal.specs.declared.faults.WidePair.TheVariants.{Cross, Value}
 use Rattle.pl_signal.specs.declared.faults.OpFault.{OpFault}
 use Rattle.pl_signal.specs.declared.faults.OpFault.TheVariants as F
@@ -24,10 +25,10 @@ GreatestOf A B t v = (x y : Extended) × A t x × B t y × IsGreatest x y v
 abbrev pub Negated : Function → Function
 Negated A t v = A t (opposite v)
 
-module _ {P : Type 0} (function : P → Affine) where
+module _ {P : Type 0} (shape : ShapeOf P) where
   -- the shape is the part of the function on the open gap
   abbrev pub IsPartOnGap : Function → Rational → Rational → P → Type 0
-  IsPartOnGap A from to p = (t : Rational) → from <ʳ t → t <ʳ to → A t (value_at (function p) t)
+  IsPartOnGap A from to p = (t : Rational) → from <ʳ t → t <ʳ to → A t (value_at (shape.function p) t)
 
   -- a part of each function on a common open gap of the domain, and their crossing there, which needs the denominator
   pub record IsWideMeeting (A B : Function) (start stop : Rational) (p q : P) (from to : Rational) (den : ℕ) : Type 0 where
@@ -36,7 +37,7 @@ module _ {P : Type 0} (function : P → Affine) where
     pub left : IsPartOnGap A from to p
     pub right : IsPartOnGap B from to q
     pub at : Rational
-    pub meet : MeetAlone (function p) (function q) from to at
+    pub meet : MeetAlone (shape.function p) (shape.function q) from to at
     pub denominator : HasDenominator at den
     pub wide : 2 ^ 60 ≤ den
 

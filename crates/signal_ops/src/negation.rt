@@ -11,9 +11,9 @@ use value_laws::Shape;
 
 /// The signal that is minus the given one at each time. Its moving shapes have the bases of moving shapes of the given one.
 pub fn neg<P: Shape>(s: &Signal<P>) -> Result<Signal<P>, Memory>
-    requires { IsLimited P.function s.now }
-    ensures worth { IfOk result (Tells P.function (Negated (IsWorth P.function s.now)) (start s.now) (stop s.now)) }
-    ensures bases { IfOk result (BasesFrom P.moves P.base (λ b. b) s.now) }
+    requires { IsLimited P.Shape s.now }
+    ensures worth { IfOk result (Tells P.Shape (Negated (IsWorth P.Shape s.now)) (start s.now) (stop s.now)) }
+    ensures bases { IfOk result (BasesFrom P.Shape (λ b. b) s.now) }
 {
     let count = s.len();
     let first = s.knot(0);

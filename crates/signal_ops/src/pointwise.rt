@@ -17,17 +17,17 @@ use value_laws::Shape;
 /// It is refused as `Wide` only where a part of each on a common open gap have a crossing there whose time needs a denominator
 /// of 2^60 or more.
 pub fn lower<P: Shape>(a: &Signal<P>, b: &Signal<P>) -> Result<Signal<P>, OpFault<P>>
-    requires left { IsLimited P.function a.now }
-    requires right { IsLimited P.function b.now }
+    requires left { IsLimited P.Shape a.now }
+    requires right { IsLimited P.Shape b.now }
     requires begins { start a.now ≈ start b.now }
     requires ends { stop a.now ≈ stop b.now }
     ensures worth { IfOk result
-        (Tells P.function (LeastOf (IsWorth P.function a.now) (IsWorth P.function b.now)) (start a.now) (stop a.now)) }
+        (Tells P.Shape (LeastOf (IsWorth P.Shape a.now) (IsWorth P.Shape b.now)) (start a.now) (stop a.now)) }
     ensures shapes { IfOk result (λ r. (p : P) → HasShape r p → HasShape a.now p ⊎ HasShape b.now p) }
     ensures wide { IfErr result
-        (IsFault P.function (IsWorth P.function a.now) (IsWorth P.function b.now) (start a.now) (stop a.now)) }
+        (IsFault P.Shape (IsWorth P.Shape a.now) (IsWorth P.Shape b.now) (start a.now) (stop a.now)) }
     ensures named { IfErr result (NamesShapes a.now b.now) }
-    ensures cause { IfErr result (HasCause P.function (of_two (IsWorth P.function a.now) (IsWorth P.function b.now))
+    ensures cause { IfErr result (HasCause P.Shape (of_two (IsWorth P.Shape a.now) (IsWorth P.Shape b.now))
         (start a.now) (stop a.now)) }
 {
     combined(Side::Least, a, b)
@@ -38,17 +38,17 @@ pub fn lower<P: Shape>(a: &Signal<P>, b: &Signal<P>) -> Result<Signal<P>, OpFaul
 /// It is refused as `Wide` only where a part of each on a common open gap have a crossing there whose time needs a denominator
 /// of 2^60 or more.
 pub fn upper<P: Shape>(a: &Signal<P>, b: &Signal<P>) -> Result<Signal<P>, OpFault<P>>
-    requires left { IsLimited P.function a.now }
-    requires right { IsLimited P.function b.now }
+    requires left { IsLimited P.Shape a.now }
+    requires right { IsLimited P.Shape b.now }
     requires begins { start a.now ≈ start b.now }
     requires ends { stop a.now ≈ stop b.now }
     ensures worth { IfOk result
-        (Tells P.function (GreatestOf (IsWorth P.function a.now) (IsWorth P.function b.now)) (start a.now) (stop a.now)) }
+        (Tells P.Shape (GreatestOf (IsWorth P.Shape a.now) (IsWorth P.Shape b.now)) (start a.now) (stop a.now)) }
     ensures shapes { IfOk result (λ r. (p : P) → HasShape r p → HasShape a.now p ⊎ HasShape b.now p) }
     ensures wide { IfErr result
-        (IsFault P.function (IsWorth P.function a.now) (IsWorth P.function b.now) (start a.now) (stop a.now)) }
+        (IsFault P.Shape (IsWorth P.Shape a.now) (IsWorth P.Shape b.now) (start a.now) (stop a.now)) }
     ensures named { IfErr result (NamesShapes a.now b.now) }
-    ensures cause { IfErr result (HasCause P.function (of_two (IsWorth P.function a.now) (IsWorth P.function b.now))
+    ensures cause { IfErr result (HasCause P.Shape (of_two (IsWorth P.Shape a.now) (IsWorth P.Shape b.now))
         (start a.now) (stop a.now)) }
 {
     combined(Side::Greatest, a, b)
@@ -56,15 +56,15 @@ pub fn upper<P: Shape>(a: &Signal<P>, b: &Signal<P>) -> Result<Signal<P>, OpFaul
 
 /// What is chosen of the two at each time, in one pass over both lists of knots.
 fn combined<P: Shape>(side: Side, a: &Signal<P>, b: &Signal<P>) -> Result<Signal<P>, OpFault<P>>
-    requires left { IsLimited P.function a.now }
-    requires right { IsLimited P.function b.now }
+    requires left { IsLimited P.Shape a.now }
+    requires right { IsLimited P.Shape b.now }
     requires begins { start a.now ≈ start b.now }
     requires ends { stop a.now ≈ stop b.now }
     ensures worth { IfOk result
-        (Tells P.function (ChosenOf side (IsWorth P.function a.now) (IsWorth P.function b.now)) (start a.now) (stop a.now)) }
+        (Tells P.Shape (ChosenOf side (IsWorth P.Shape a.now) (IsWorth P.Shape b.now)) (start a.now) (stop a.now)) }
     ensures shapes { IfOk result (λ r. (p : P) → HasShape r p → HasShape a.now p ⊎ HasShape b.now p) }
     ensures wide { IfErr result
-        (IsFault P.function (IsWorth P.function a.now) (IsWorth P.function b.now) (start a.now) (stop a.now)) }
+        (IsFault P.Shape (IsWorth P.Shape a.now) (IsWorth P.Shape b.now) (start a.now) (stop a.now)) }
     ensures named { IfErr result (NamesShapes a.now b.now) }
 {
     let last = a.len() - 1;

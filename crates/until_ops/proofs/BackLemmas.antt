@@ -1,6 +1,7 @@
 -- What is in play in a since is so in the until with time running back.
 use Rattle.std.proofs.Common.{◌≡◌, ℕ, ◌<◌, ◌⊎◌, inl, inr, ℤ, pos, negsuc, zero, suc, refl, sym, subst}
 use Rattle.std.specs.Prelude.{nat_abs}
+use Rattle.value_laws.specs.Members.{ShapeOf}
 use lib.IntN.{neg_ℤ}
 use Rattle.rational.specs.Rational.{Rational, negate, ratio, ◌<ʳ◌, ◌≈◌}
 use Rattle.rational.specs.Time.{Within, Divides, IsLowest, HasDenominator}
@@ -171,33 +172,33 @@ module _ (P P' Q Q' R R' : Function) (p_back : RunsBack P P') (q_back : RunsBack
         wide = w.wide;
       }
 
-  pub pair_back : {A : Type 0} (function : A → Affine) (old new : WidePair A) → IsTurnedPair function old new → IsWideCause function (since_start P' Q' R') from' to' old → IsWideCause function (until_end P Q R) from to new
-  pair_back function (Cross p q a b den) (Cross p' q' a' b' den') (f, g, e, e', same) h =
-      subst (λ d. IsWideCrossing After from to (function p') (function q') (value a') (value b') d) (sym same)
-      (crossing_cause (function p') (function q') (function p) (function q) (value a') (value b') (value a) (value b) den f g e e' h)
-  pair_back function (Cross p q a b den) (Value p' at' den') t h = absurd t
-  pair_back function (Value p at den) (Cross p' q' a' b' den') t h = absurd t
-  pair_back function (Value p at den) (Value p' at' den') (f, e, same) h =
-      subst (λ d. IsWideValue After from to (function p') (value at') d) (sym same) (value_cause (function p') (function p) (value at') (value at) den f e h)
+  pub pair_back : {A : Type 0} (shape : ShapeOf A) (old new : WidePair A) → IsTurnedPair shape old new → IsWideCause shape (since_start P' Q' R') from' to' old → IsWideCause shape (until_end P Q R) from to new
+  pair_back shape (Cross p q a b den) (Cross p' q' a' b' den') (f, g, e, e', same) h =
+      subst (λ d. IsWideCrossing After from to (shape.function p') (shape.function q') (value a') (value b') d) (sym same)
+      (crossing_cause (shape.function p') (shape.function q') (shape.function p) (shape.function q) (value a') (value b') (value a) (value b) den f g e e' h)
+  pair_back shape (Cross p q a b den) (Value p' at' den') t h = absurd t
+  pair_back shape (Value p at den) (Cross p' q' a' b' den') t h = absurd t
+  pair_back shape (Value p at den) (Value p' at' den') (f, e, same) h =
+      subst (λ d. IsWideValue After from to (shape.function p') (value at') d) (sym same) (value_cause (shape.function p') (shape.function p) (value at') (value at) den f e h)
 
   -- a cause
-  pub cause_back : {A : Type 0} (function : A → Affine) (old new : OpFault A) → IsTurnedFault function old new → HasCause function (since_start P' Q' R') from' to' old → HasCause function (until_end P Q R) from to new
-  cause_back function F.Memory F.Memory t h = tt
-  cause_back function F.Memory (F.Wide pair) t h = absurd t
-  cause_back function (F.Wide pair) F.Memory t h = tt
-  cause_back function (F.Wide old) (F.Wide new) t h = pair_back function old new t h
+  pub cause_back : {A : Type 0} (shape : ShapeOf A) (old new : OpFault A) → IsTurnedFault shape old new → HasCause shape (since_start P' Q' R') from' to' old → HasCause shape (until_end P Q R) from to new
+  cause_back shape F.Memory F.Memory t h = tt
+  cause_back shape F.Memory (F.Wide pair) t h = absurd t
+  cause_back shape (F.Wide pair) F.Memory t h = tt
+  cause_back shape (F.Wide old) (F.Wide new) t h = pair_back shape old new t h
 
 -- and the times of a pair
-pub pair_turned : {A : Type 0} (function : A → Affine) (old new : OpFault A) (from to from' to' : Rational) → from ≈ negate to' → to ≈ negate from' → IsTurnedFault function old new → IsPairWithin from' to' old → IsPairWithin from to new
-pair_turned function F.Memory F.Memory from to from' to' e f t h = tt
-pair_turned function F.Memory (F.Wide pair) from to from' to' e f t h = absurd t
-pair_turned function (F.Wide pair) F.Memory from to from' to' e f t h = tt
-pair_turned function (F.Wide old) (F.Wide new) from to from' to' e f t h = by_pair old new t h
+pub pair_turned : {A : Type 0} (shape : ShapeOf A) (old new : OpFault A) (from to from' to' : Rational) → from ≈ negate to' → to ≈ negate from' → IsTurnedFault shape old new → IsPairWithin from' to' old → IsPairWithin from to new
+pair_turned shape F.Memory F.Memory from to from' to' e f t h = tt
+pair_turned shape F.Memory (F.Wide pair) from to from' to' e f t h = absurd t
+pair_turned shape (F.Wide pair) F.Memory from to from' to' e f t h = tt
+pair_turned shape (F.Wide old) (F.Wide new) from to from' to' e f t h = by_pair old new t h
   where
     time_back : (u u' : Rational) → u ≈ negate u' → Within from' to' u' → Within from to u
     time_back u u' s w = record { above = le_trans (le_of_same e) (le_trans (le_negate w.below) (ge_of_same s)); below = le_trans (le_of_same s) (le_trans (le_negate w.above) (ge_of_same f)) }
 
-    by_pair : (old new : WidePair _) → IsTurnedPair function old new → PairWithin from' to' old → PairWithin from to new
+    by_pair : (old new : WidePair _) → IsTurnedPair shape old new → PairWithin from' to' old → PairWithin from to new
     by_pair (Cross p q a b den) (Cross p' q' a' b' den') (x, y, s, s', same) h = (time_back (value a') (value b) s h.1, time_back (value b') (value a) s' h.0)
     by_pair (Cross p q a b den) (Value p' at' den') t h = absurd t
     by_pair (Value p at den) (Cross p' q' a' b' den') t h = absurd t

@@ -1,11 +1,12 @@
 -- What a since is on a gap on which both sides are affine and in one order: the least or the greatest of two shapes.
-use Rattle.std.specs.Prelude.{◌≡◌, ◌⊎◌, ◌≤◌, ◌^◌, Bool, false, MatchBool}
+use Rattle.std.specs.Prelude.{◌≡◌, ◌⊎◌, ◌≤◌, ◌^◌, false, MatchBool}
 use Rattle.rational.specs.Rational.{Rational, ◌<ʳ◌, ◌≤ʳ◌, IsWithin}
 use Rattle.rational.specs.Time.{HasDenominator}
 use Rattle.rational.specs.Extended.{Extended, finite, ◌≤ᵉ◌, ◌≈ᵉ◌, IsLeast, IsGreatest, Affine, value_at}
 use Rattle.rational.specs.Affine.{IsBounded, MeetAlone}
 use Rattle.frac128.specs.Value.{value}
 use Rattle.frac128.specs.declared.frac.Frac.{Frac}
+use Rattle.value_laws.specs.Members.{ShapeOf}
 use Rattle.pl_signal.specs.declared.faults.WidePair.TheVariants.{Cross, Value}
 use Rattle.pl_signal.specs.declared.faults.OpFault.{OpFault}
 use Rattle.pl_signal.specs.declared.faults.OpFault.TheVariants as F
@@ -56,17 +57,17 @@ pub record IsTurn (f h : Affine) (from next : Frac) (turn : Turn) : Type 0 where
   pub in_order : InOrder f h (value from) (value turn.time)
   pub kind : MatchBool turn.met (MeetAlone f h (value from) (value next) (value turn.time)) (turn.time ≡ next)
 
-module _ {P : Type 0} (function : P → Affine) where
+module _ {P : Type 0} (shape : ShapeOf P) where
   -- x is at every time what o is at the time `at`
   abbrev pub IsFixed : P → Rational → P → Type 0
-  IsFixed o at x = (u : Rational) → value_at (function x) u ≈ᵉ value_at (function o) at
+  IsFixed o at x = (u : Rational) → value_at (shape.function x) u ≈ᵉ value_at (shape.function o) at
 
   -- want of memory, or the value of x at the time, which needs the denominator
   abbrev pub IsValueFault : P → Frac → OpFault P → Type 0
   IsValueFault x from F.Memory = Unit {0}
   IsValueFault x from (F.Wide (Cross a b c d den)) = ⊥
   IsValueFault x from (F.Wide (Value o at den)) =
-      (o ≡ x) × (at ≡ from) × ((v : Rational) × (value_at (function x) (value from) ≈ᵉ finite v) × HasDenominator v den × (2 ^ 60 ≤ den))
+      (o ≡ x) × (at ≡ from) × ((v : Rational) × (value_at (shape.function x) (value from) ≈ᵉ finite v) × HasDenominator v den × (2 ^ 60 ≤ den))
 
   -- one of the three shapes that tell of a gap
   abbrev pub IsOfGap : Gap P → P → Type 0
@@ -77,31 +78,30 @@ module _ {P : Type 0} (function : P → Affine) where
     pub later : value gap.from <ʳ value gap.to
     pub from_within : IsWithin (2 ^ 34) (value gap.from)
     pub to_within : IsWithin (2 ^ 34) (value gap.to)
-    pub before_small : IsBounded (2 ^ 31) (value_at (function gap.before) (value gap.from))
-    pub left_small : IsBounded (2 ^ 31) (value_at (function gap.left) (value gap.from))
-    pub right_small : IsBounded (2 ^ 31) (value_at (function gap.right) (value gap.from))
-    pub in_order : InOrder (function gap.left) (function gap.right) (value gap.from) (value gap.to)
+    pub before_small : IsBounded (2 ^ 31) (value_at (shape.function gap.before) (value gap.from))
+    pub left_small : IsBounded (2 ^ 31) (value_at (shape.function gap.left) (value gap.from))
+    pub right_small : IsBounded (2 ^ 31) (value_at (shape.function gap.right) (value gap.from))
+    pub in_order : InOrder (shape.function gap.left) (shape.function gap.right) (value gap.from) (value gap.to)
 
   -- low is the least of what was before and of the left side as the gap begins, and top the greatest of that and of the right side
   pub record IsStart (gap : Gap P) (low top : P) : Type 0 where
     pub low_of : IsOfGap gap low
     pub top_of : IsOfGap gap top
-    pub is_low : IsLeast (value_at (function gap.before) (value gap.from)) (value_at (function gap.left) (value gap.from)) (value_at (function low) (value gap.from))
-    pub is_top : IsGreatest (value_at (function low) (value gap.from)) (value_at (function gap.right) (value gap.from)) (value_at (function top) (value gap.from))
+    pub is_low : IsLeast (value_at (shape.function gap.before) (value gap.from)) (value_at (shape.function gap.left) (value gap.from)) (value_at (shape.function low) (value gap.from))
+    pub is_top : IsGreatest (value_at (shape.function low) (value gap.from)) (value_at (shape.function gap.right) (value gap.from)) (value_at (shape.function top) (value gap.from))
 
   -- want of memory, or the value that one of the three shapes has as the gap begins
   abbrev pub IsCourseFault : Gap P → OpFault P → Type 0
   IsCourseFault gap fault = (o : P) × IsOfGap gap o × IsValueFault o gap.from fault
 
-  module _ (moves : P → Bool) where
-    -- one of both sides, or a constant with a value that one of the three shapes has as the gap begins
-    abbrev pub IsPlayed : Gap P → P → Type 0
-    IsPlayed gap x = (x ≡ gap.left) ⊎ (x ≡ gap.right) ⊎ ((o : P) × IsOfGap gap o × IsFixed o (value gap.from) x × (moves x ≡ false))
+  -- one of both sides, or a constant with a value that one of the three shapes has as the gap begins
+  abbrev pub IsPlayed : Gap P → P → Type 0
+  IsPlayed gap x = (x ≡ gap.left) ⊎ (x ≡ gap.right) ⊎ ((o : P) × IsOfGap gap o × IsFixed o (value gap.from) x × (shape.moves x ≡ false))
 
-    -- at each time of the gap, and as it ends, the since is the least or the greatest of the two
-    pub record IsCourse (gap : Gap P) (course : Course P) : Type 0 where
-      pub first : IsPlayed gap course.first
-      pub second : IsPlayed gap course.second
-      pub onward : (t : Rational) (v : Extended) → value gap.from <ʳ t → t ≤ʳ value gap.to
-          → IsChosen course.side (value_at (function course.first) t) (value_at (function course.second) t) v
-          → IsOnward (value_at (function gap.before) (value gap.from)) (function gap.left) (function gap.right) (value gap.from) t v
+  -- at each time of the gap, and as it ends, the since is the least or the greatest of the two
+  pub record IsCourse (gap : Gap P) (course : Course P) : Type 0 where
+    pub first : IsPlayed gap course.first
+    pub second : IsPlayed gap course.second
+    pub onward : (t : Rational) (v : Extended) → value gap.from <ʳ t → t ≤ʳ value gap.to
+        → IsChosen course.side (value_at (shape.function course.first) t) (value_at (shape.function course.second) t) v
+        → IsOnward (value_at (shape.function gap.before) (value gap.from)) (shape.function gap.left) (shape.function gap.right) (value gap.from) t v

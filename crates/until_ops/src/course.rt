@@ -48,7 +48,7 @@ pub(crate) fn turning<P: Shape>(p: &P, q: &P, from: &Frac, next: &Frac) -> Resul
     requires second { HasBoundedLevel (2 ^ 31) (P.function q.now) }
     ensures { MatchResult result
         (IsTurn (P.function p.now) (P.function q.now) from.now next.now)
-        (IsGapFault P.function p.now q.now from.now next.now) }
+        (IsGapFault P.Shape p.now q.now from.now next.now) }
 {
     let none = Turn {
         time: *next,
@@ -112,8 +112,8 @@ fn constant<P: Shape>(x: &P, at: &Frac) -> Result<P, OpFault<P>>
     requires within { IsWithin (2 ^ 34) (value at.now) }
     requires small { IsBounded (2 ^ 31) (value_at (P.function x.now) (value at.now)) }
     ensures { MatchResult result
-        (λ c. IsFixed P.function x.now (value at.now) c × (P.moves c ≡ false))
-        (IsValueFault P.function x.now at.now) }
+        (λ c. IsFixed P.Shape x.now (value at.now) c × (P.moves c ≡ false))
+        (IsValueFault P.Shape x.now at.now) }
 {
     match x.fix(at) {
         Ok(c) => Ok(c),
@@ -139,10 +139,10 @@ fn only<P: Copy>(x: &P) -> Course<P>
 /// What the since is on the gap. It is the left side where that is below the right side all over, or sinks from a time at which
 /// the since is not below it. Else a constant is fixed: what the since cannot sink below.
 pub(crate) fn course_over<P: Shape>(gap: &Gap<P>) -> Result<Course<P>, OpFault<P>>
-    requires { IsGap P.function gap.now }
+    requires { IsGap P.Shape gap.now }
     ensures { MatchResult result
-        (IsCourse P.function P.moves gap.now)
-        (IsCourseFault P.function gap.now) }
+        (IsCourse P.Shape gap.now)
+        (IsCourseFault P.Shape gap.now) }
 {
     if is_under(&gap.left, &gap.right, &gap.from, &gap.to) {
         return Ok(only(&gap.left));
@@ -157,12 +157,12 @@ pub(crate) fn course_over<P: Shape>(gap: &Gap<P>) -> Result<Course<P>, OpFault<P
 
 /// What the since is on a gap on which the right side is not above the left.
 fn above<P: Shape>(gap: &Gap<P>, low: &P, top: &P) -> Result<Course<P>, OpFault<P>>
-    requires gap { IsGap P.function gap.now }
+    requires gap { IsGap P.Shape gap.now }
     requires below { IsBelow (P.function gap.now.right) (P.function gap.now.left) (value gap.now.from) (value gap.now.to) }
-    requires start { IsStart P.function gap.now low.now top.now }
+    requires start { IsStart P.Shape gap.now low.now top.now }
     ensures { MatchResult result
-        (IsCourse P.function P.moves gap.now)
-        (IsCourseFault P.function gap.now) }
+        (IsCourse P.Shape gap.now)
+        (IsCourseFault P.Shape gap.now) }
 {
     if let Ordering::Less = gap.right.rises() {
         let level = constant(top, &gap.from)?;
@@ -180,14 +180,14 @@ fn above<P: Shape>(gap: &Gap<P>, low: &P, top: &P) -> Result<Course<P>, OpFault<
 
 /// What the since is on such a gap where the right side does not sink, and begins below `low`.
 fn raised<P: Shape>(gap: &Gap<P>, low: &P, top: &P) -> Result<Course<P>, OpFault<P>>
-    requires gap { IsGap P.function gap.now }
+    requires gap { IsGap P.Shape gap.now }
     requires below { IsBelow (P.function gap.now.right) (P.function gap.now.left) (value gap.now.from) (value gap.now.to) }
-    requires start { IsStart P.function gap.now low.now top.now }
+    requires start { IsStart P.Shape gap.now low.now top.now }
     requires climbs { Climbs (P.function gap.now.right) }
     requires higher { value_at (P.function gap.now.right) (value gap.now.from) ≤ᵉ value_at (P.function low.now) (value gap.now.from) }
     ensures { MatchResult result
-        (IsCourse P.function P.moves gap.now)
-        (IsCourseFault P.function gap.now) }
+        (IsCourse P.Shape gap.now)
+        (IsCourseFault P.Shape gap.now) }
 {
     let level = constant(low, &gap.from)?;
     if let Ordering::Greater = P::cmp_at(&level, &gap.left, &gap.to) {

@@ -33,15 +33,15 @@ struct Stand<P> {
 ///
 /// Definition: this project's profile, the mirror image of `until_to_end`.
 pub fn since_from_start<P: Shape>(p: &Signal<P>, q: &Signal<P>) -> Result<Signal<P>, OpFault<P>>
-    requires left { IsLimited P.function p.now }
-    requires right { IsLimited P.function q.now }
+    requires left { IsLimited P.Shape p.now }
+    requires right { IsLimited P.Shape q.now }
     requires begins { start p.now ≈ start q.now }
     requires ends { stop p.now ≈ stop q.now }
     ensures worth { IfOk result
-        (Tells P.function (SinceOf P.function P.lowest P.highest p.now q.now) (start p.now) (stop p.now)) }
-    ensures bases { IfOk result (BasesOfTwo P.moves P.base p.now q.now) }
+        (Tells P.Shape (SinceOf P.Shape p.now q.now) (start p.now) (stop p.now)) }
+    ensures bases { IfOk result (BasesOfTwo P.Shape p.now q.now) }
     ensures wide { IfErr result
-        (HasCause P.function (SinceStep P.function P.lowest P.highest p.now q.now) (start p.now) (stop p.now)) }
+        (HasCause P.Shape (SinceStep P.Shape p.now q.now) (start p.now) (stop p.now)) }
     ensures pair { IfErr result (IsPairWithin (start p.now) (stop p.now)) }
 {
     let last = p.len() - 1;
@@ -56,9 +56,9 @@ pub fn since_from_start<P: Shape>(p: &Signal<P>, q: &Signal<P>) -> Result<Signal
 
 /// The first instant, at which the since is the least of both.
 fn first<P: Shape>(p: &Signal<P>, q: &Signal<P>) -> Stand<P>
-    requires { AreSides P.function p.now q.now }
+    requires { AreSides P.Shape p.now q.now }
     ensures { (built : List (Knot P)) → built ≡ record { time = result.at; point = result.value; after = result.value } ∷ []
-        → Stands P.function P.moves P.lowest P.highest p.now q.now built result }
+        → Stands P.Shape p.now q.now built result }
 {
     let _ = p.len();
     let _ = q.len();
@@ -79,13 +79,13 @@ fn walk<P: Shape>(
     built: &mut Builder<P>,
     now: &Stand<P>,
 ) -> Result<Stand<P>, OpFault<P>>
-    requires sides { AreSides P.function p.now q.now }
-    requires stands { Stands P.function P.moves P.lowest P.highest p.now q.now built.old now.now }
+    requires sides { AreSides P.Shape p.now q.now }
+    requires stands { Stands P.Shape p.now q.now built.old now.now }
     requires more { now.now.left + 1 < length p.now }
-    ensures ok { IfOk result (Stands P.function P.moves P.lowest P.highest p.now q.now built.new) }
+    ensures ok { IfOk result (Stands P.Shape p.now q.now built.new) }
     ensures nearer { IfOk result (λ next. rest p.now q.now next < rest p.now q.now now.now) }
     ensures wide { IfErr result
-        (HasCause P.function (SinceStep P.function P.lowest P.highest p.now q.now) (start p.now) (stop p.now)) }
+        (HasCause P.Shape (SinceStep P.Shape p.now q.now) (start p.now) (stop p.now)) }
     ensures pair { IfErr result (IsPairWithin (start p.now) (stop p.now)) }
 {
     let _ = p.len();

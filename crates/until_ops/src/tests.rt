@@ -37,7 +37,7 @@ fn is_near(t: &Frac) -> bool
 /// Whether the signal of shapes with small values is limited.
 fn is_limited<P: Shape>(s: &Signal<P>) -> bool
     requires { (x : P) (t : Rational) → IsBounded (2 ^ 31) (value_at (P.function x) t) }
-    ensures { IsTrue result → IsLimited P.function s.now }
+    ensures { IsTrue result → IsLimited P.Shape s.now }
 {
     if !is_near(&s.start()) {
         return false;

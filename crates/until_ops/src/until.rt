@@ -22,15 +22,15 @@ use value_laws::Shape;
 ///
 /// Definition: Donzé, Ferrère and Maler 2013, with the closed until and the finite domain of this project's profile.
 pub fn until_to_end<P: Shape>(p: &Signal<P>, q: &Signal<P>) -> Result<Signal<P>, OpFault<P>>
-    requires left { IsLimited P.function p.now }
-    requires right { IsLimited P.function q.now }
+    requires left { IsLimited P.Shape p.now }
+    requires right { IsLimited P.Shape q.now }
     requires begins { start p.now ≈ start q.now }
     requires ends { stop p.now ≈ stop q.now }
     ensures worth { IfOk result
-        (Tells P.function (UntilOf P.function P.lowest P.highest p.now q.now) (start p.now) (stop p.now)) }
-    ensures bases { IfOk result (BasesOfTwo P.moves P.base p.now q.now) }
+        (Tells P.Shape (UntilOf P.Shape p.now q.now) (start p.now) (stop p.now)) }
+    ensures bases { IfOk result (BasesOfTwo P.Shape p.now q.now) }
     ensures wide { IfErr result
-        (HasCause P.function (UntilStep P.function P.lowest P.highest p.now q.now) (start p.now) (stop p.now)) }
+        (HasCause P.Shape (UntilStep P.Shape p.now q.now) (start p.now) (stop p.now)) }
     ensures pair { IfErr result (IsPairWithin (start p.now) (stop p.now)) }
 {
     let _ = p.len();
@@ -46,7 +46,7 @@ pub fn until_to_end<P: Shape>(p: &Signal<P>, q: &Signal<P>) -> Result<Signal<P>,
 /// The fault with time running back.
 fn turned<P: Shape>(fault: &OpFault<P>) -> OpFault<P>
     requires { IsPairWithin (whole (neg_ℤ (pos (2 ^ 34)))) (whole (pos (2 ^ 34))) fault.now }
-    ensures { IsTurnedFault P.function fault.now result }
+    ensures { IsTurnedFault P.Shape fault.now result }
 {
     match fault {
         OpFault::Memory => OpFault::Memory,
@@ -57,7 +57,7 @@ fn turned<P: Shape>(fault: &OpFault<P>) -> OpFault<P>
 /// The pair with time running back.
 fn turned_pair<P: Shape>(pair: &WidePair<P>) -> WidePair<P>
     requires { PairWithin (whole (neg_ℤ (pos (2 ^ 34)))) (whole (pos (2 ^ 34))) pair.now }
-    ensures { IsTurnedPair P.function pair.now result }
+    ensures { IsTurnedPair P.Shape pair.now result }
 {
     match *pair {
         WidePair::Cross {

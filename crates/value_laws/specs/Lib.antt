@@ -1,3 +1,5 @@
 pub mod Values
 pub mod Margins
 pub mod Laws
+pub mod Members
+pub mod Kinds

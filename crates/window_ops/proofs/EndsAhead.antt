@@ -1,5 +1,5 @@
 -- A signal read ahead: what a function of time is by a whole number later.
-use Rattle.std.proofs.Common.{◌≡◌, ℕ, ◌^◌, ◌≤◌, ◌⊎◌, inl, inr, List, [], ◌∷◌, Bool, false, IsTrue, ℤ, pos, ◌-ℤ◌, refl, sym, ◌∙◌, subst, arith, to_z, w64, mul-le-mul_right}
+use Rattle.std.proofs.Common.{◌≡◌, ℕ, ◌^◌, ◌≤◌, ◌⊎◌, inl, inr, List, [], ◌∷◌, false, IsTrue, ℤ, pos, ◌-ℤ◌, refl, sym, ◌∙◌, subst, arith, to_z, w64, mul-le-mul_right}
 use Rattle.std.specs.Int.RustNames.{unsigned_abs}
 use Rattle.std.proofs.lemmas.Bool.{false≢true}
 use Rattle.std.proofs.lemmas.Int.{ints, to_z_pos}
@@ -7,7 +7,7 @@ use Rattle.std.specs.declared.cmp.Ordering.{Ordering}
 use Rattle.std.specs.declared.cmp.Ordering.TheVariants.{Less, Equal, Greater}
 use Rattle.rational.specs.Rational.{IsOrder, IsWithin, add}
 use Rattle.rational.specs.Time.{Rational, Within, ◌≤ʳ◌, ◌≈◌, whole, later}
-use Rattle.rational.specs.Extended.{Extended, ◌≈ᵉ◌, Affine}
+use Rattle.rational.specs.Extended.{◌≈ᵉ◌}
 use Rattle.rational.specs.Windows.{Function}
 use Rattle.rational.proofs.Order.{le_refl, le_trans, le_of_lt, ge_of_same, same_sym}
 use Rattle.rational.proofs.AffineLemmas.{same_reflᵉ, same_symᵉ}
@@ -15,6 +15,7 @@ use Rattle.rational.proofs.Shift.{le_shift}
 use Rattle.rational.proofs.TimeLemmas.{same_later, later-add}
 use Rattle.rational.proofs.Mixed.{within_same}
 use Rattle.rational.proofs.Bounds.{HasBounded}
+use Rattle.value_laws.specs.Members.{ShapeOf}
 use Rattle.pl_signal.specs.declared.knot.Knot.{Knot}
 use Rattle.pl_signal.specs.Knots.{start, stop, HasShape, IsSignal, IsWorth}
 use Rattle.pl_signal.proofs.Values.{to_stop}
@@ -49,15 +50,15 @@ not_before Less h n = absurd (n refl)
 not_before Equal h n = ge_of_same h
 not_before Greater h n = le_of_lt h
 
-module _ {P : Type 0} (function : P → Affine) where
+module _ {P : Type 0} (shape : ShapeOf P) where
   -- a signal begins before it ends, or as it ends
-  pub start_to_stop : (ks : List (Knot P)) → IsSignal function ks → start ks ≤ʳ stop ks
+  pub start_to_stop : (ks : List (Knot P)) → IsSignal shape ks → start ks ≤ʳ stop ks
   start_to_stop [] s = le_refl (whole (pos 0))
-  start_to_stop (k ∷ ks) s = to_stop function k ks s.each
+  start_to_stop (k ∷ ks) s = to_stop shape k ks s.each
 
   -- a signal moved tells the function at the moved time
-  pub tells_ahead : (F : Function) (part new : List (Knot P)) (n : ℕ) (from to low high : Rational) → IsFunction F → Tells function F low high part → Tells function (λ t v. IsWorth function part (add t (whole (pos n))) v) from to new
-      → low ≤ʳ add from (whole (pos n)) → add to (whole (pos n)) ≤ʳ high → Tells function (λ t v. F (later t n) v) from to new
+  pub tells_ahead : (F : Function) (part new : List (Knot P)) (n : ℕ) (from to low high : Rational) → IsFunction F → Tells shape F low high part → Tells shape (λ t v. IsWorth shape part (add t (whole (pos n))) v) from to new
+      → low ≤ʳ add from (whole (pos n)) → add to (whole (pos n)) ≤ʳ high → Tells shape (λ t v. F (later t n) v) from to new
   tells_ahead F part new n from to low high is p r begins ends = record {
     signal = r.signal;
     begins = r.begins;
@@ -75,19 +76,19 @@ module _ {P : Type 0} (function : P → Affine) where
   }
 
   -- a signal that tells a function with bounded values is limited
-  pub limited_by : (F : Function) (ks : List (Knot P)) (from to : Rational) → Tells function F from to ks → HasBounded (2 ^ 31) F → IsWithin (2 ^ 34) from → IsWithin (2 ^ 34) to → IsLimited function ks
+  pub limited_by : (F : Function) (ks : List (Knot P)) (from to : Rational) → Tells shape F from to ks → HasBounded (2 ^ 31) F → IsWithin (2 ^ 34) from → IsWithin (2 ^ 34) to → IsLimited shape ks
   limited_by F ks from to t h low high =
-      limited function ks t.signal (λ u v w. h u v ((t.worth u v).0 w).1) (within_same (2 ^ 34) (same_sym t.begins) low) (within_same (2 ^ 34) (same_sym t.ends) high)
+      limited shape ks t.signal (λ u v w. h u v ((t.worth u v).0 w).1) (within_same (2 ^ 34) (same_sym t.begins) low) (within_same (2 ^ 34) (same_sym t.ends) high)
 
   -- the signal of one value tells a function that has that value alone
-  pub tells_value : (F : Function) (new : List (Knot P)) (lowest : Extended) (from to : Rational) → IsFunction F → ((t : Rational) → Within from to t → F t lowest) → Tells function (λ t v. v ≈ᵉ lowest) from to new → Tells function F from to new
-  tells_value F new lowest from to is only r = record {
+  pub tells_value : (F : Function) (new : List (Knot P)) (from to : Rational) → IsFunction F → ((t : Rational) → Within from to t → F t shape.lowest) → Tells shape (λ t v. v ≈ᵉ shape.lowest) from to new → Tells shape F from to new
+  tells_value F new from to is only r = record {
     signal = r.signal;
     begins = r.begins;
     ends = r.ends;
     worth = λ t v. (
-      λ w. let h = (r.worth t v).0 w in (h.0, is.alike t t lowest v (record { same = refl }) (same_symᵉ v lowest h.1) (only t h.0)),
-      λ h. (r.worth t v).1 (h.0, is.one t v lowest h.1 (only t h.0)),
+      λ w. let h = (r.worth t v).0 w in (h.0, is.alike t t shape.lowest v (record { same = refl }) (same_symᵉ v shape.lowest h.1) (only t h.0)),
+      λ h. (r.worth t v).1 (h.0, is.one t v shape.lowest h.1 (only t h.0)),
     );
   }
 
@@ -99,24 +100,24 @@ module _ {P : Type 0} (function : P → Affine) where
   }
 
 -- the bases of the moving shapes of a signal with still ones beside
-pub bases_moved : {P : Type 0} (moves : P → Bool) (base : P → ℤ) (made : ℤ → ℤ) (ks part new : List (Knot P)) → ((p : P) → HasShape part p → HasShape ks p ⊎ (moves p ≡ false)) → BasesFrom moves base made part new → BasesFrom moves base made ks new
-bases_moved {P} moves base made ks part new shapes h = λ p m n. let q = h p m n in (q.0, by_kind q.0 q.2 (shapes q.0 q.1), q.2, q.3)
+pub bases_moved : {P : Type 0} (shape : ShapeOf P) (made : ℤ → ℤ) (ks part new : List (Knot P)) → ((p : P) → HasShape part p → HasShape ks p ⊎ (shape.moves p ≡ false)) → BasesFrom shape made part new → BasesFrom shape made ks new
+bases_moved {P} shape made ks part new shapes h = λ p m n. let q = h p m n in (q.0, by_kind q.0 q.2 (shapes q.0 q.1), q.2, q.3)
   where
-    by_kind : (q : P) → IsTrue (moves q) → HasShape ks q ⊎ (moves q ≡ false) → HasShape ks q
+    by_kind : (q : P) → IsTrue (shape.moves q) → HasShape ks q ⊎ (shape.moves q ≡ false) → HasShape ks q
     by_kind q t (inl m) = m
     by_kind q t (inr e) = absurd (false≢true (sym e ∙ t))
 
-pub bases_still : {P : Type 0} (moves : P → Bool) (base : P → ℤ) (made : ℤ → ℤ) (ks new : List (Knot P)) → ((p : P) → HasShape new p → moves p ≡ false) → BasesFrom moves base made ks new
-bases_still moves base made ks new still = λ p m n. absurd (false≢true (sym (still p m) ∙ n))
+pub bases_still : {P : Type 0} (shape : ShapeOf P) (made : ℤ → ℤ) (ks new : List (Knot P)) → ((p : P) → HasShape new p → shape.moves p ≡ false) → BasesFrom shape made ks new
+bases_still shape made ks new still = λ p m n. absurd (false≢true (sym (still p m) ∙ n))
 
 -- a shape of the signal may be moved, and so may a still one
-pub room_of : {P : Type 0} (moves : P → Bool) (base : P → ℤ) (n : ℕ) (ks part : List (Knot P)) → n ≤ 2 ^ 32 → ((p : P) → moves p ≡ false → base p ≡ pos 0) → ((p : P) → HasShape part p → HasShape ks p ⊎ (moves p ≡ false))
-    → ((p : P) → HasShape ks p → unsigned_abs (base p -ℤ pos n) ≤ 2 ^ 34) → (p : P) → HasShape part p → unsigned_abs (base p -ℤ pos n) ≤ 2 ^ 34
-room_of {P} moves base n ks part small others shapes room p h = by_kind (shapes p h)
+pub room_of : {P : Type 0} (shape : ShapeOf P) (n : ℕ) (ks part : List (Knot P)) → n ≤ 2 ^ 32 → ((p : P) → shape.moves p ≡ false → shape.base p ≡ pos 0) → ((p : P) → HasShape part p → HasShape ks p ⊎ (shape.moves p ≡ false))
+    → ((p : P) → HasShape ks p → unsigned_abs (shape.base p -ℤ pos n) ≤ 2 ^ 34) → (p : P) → HasShape part p → unsigned_abs (shape.base p -ℤ pos n) ≤ 2 ^ 34
+room_of {P} shape n ks part small others shapes room p h = by_kind (shapes p h)
   where
     zero_room : unsigned_abs (pos 0 -ℤ pos n) ≤ 2 ^ 34
     zero_room = omega (arith, ints, small)
 
-    by_kind : HasShape ks p ⊎ (moves p ≡ false) → unsigned_abs (base p -ℤ pos n) ≤ 2 ^ 34
+    by_kind : HasShape ks p ⊎ (shape.moves p ≡ false) → unsigned_abs (shape.base p -ℤ pos n) ≤ 2 ^ 34
     by_kind (inl m) = room p m
     by_kind (inr e) = subst (λ b. unsigned_abs (b -ℤ pos n) ≤ 2 ^ 34) (sym (others p e)) zero_room

@@ -6,7 +6,7 @@ use Rattle.std.specs.declared.cmp.Ordering.{Ordering}
 use Rattle.std.specs.declared.cmp.Ordering.TheVariants.{Less, Equal, Greater}
 use Rattle.rational.specs.Rational.{IsOrder}
 use Rattle.rational.specs.Time.{Rational, ◌≤ʳ◌, ◌<ʳ◌, ◌≈◌}
-use Rattle.rational.specs.Extended.{Extended, ◌≤ᵉ◌, ◌≈ᵉ◌, Affine, value_at, IsSup, IsGreatest}
+use Rattle.rational.specs.Extended.{Extended, ◌≤ᵉ◌, ◌≈ᵉ◌, value_at, IsSup, IsGreatest}
 use Rattle.rational.specs.Affine.{IsBounded}
 use Rattle.rational.specs.Windows.{Function}
 use Rattle.rational.specs.InPlay.{IsLeftLimit, IsRightLimit}
@@ -18,6 +18,7 @@ use Rattle.rational.proofs.LimitLemmas.{right_limit_one, left_limit_one, right_l
 use Rattle.rational.proofs.Bounds.{HasBounded, right_limit_bounded, left_limit_bounded, sup_bounded}
 use Rattle.frac128.specs.Value.{value}
 use Rattle.frac128.specs.declared.frac.Frac.{Frac}
+use Rattle.value_laws.specs.Members.{ShapeOf}
 use Rattle.pl_signal.specs.declared.knot.Knot.{Knot}
 use Rattle.pl_signal.specs.Knots.{time, start, stop, HasShape, IsSignal, IsWorth}
 use Rattle.pl_signal.specs.Limits.{IsLimited}
@@ -64,156 +65,156 @@ limit_from_same F Left v w e f h = left_limit_same v w e f h
 limit_from_same F Right v w e f h = right_limit_same v w e f h
 limit_from_same F Neither v w e f h = absurd h
 
-module _ {P : Type 0} (function : P → Affine) (lowest : Extended) where
+module _ {P : Type 0} (shape : ShapeOf P) where
   -- at the first knot there is no limit from the left, and at the last none from the right
-  pub left_at_first : (ks : List (Knot P)) (k : Knot P) (v : Extended) → IsSignal function ks → slice_get ks 0 ≡ Some k → v ≈ᵉ lowest → IsSup lowest (IsLeftLimit (IsWorth function ks) (time k)) v
+  pub left_at_first : (ks : List (Knot P)) (k : Knot P) (v : Extended) → IsSignal shape ks → slice_get ks 0 ≡ Some k → v ≈ᵉ shape.lowest → IsSup shape.lowest (IsLeftLimit (IsWorth shape ks) (time k)) v
   left_at_first ks k v s h e =
-      let first = first_is function ks s.some in
-      let begins : start ks ≡ time k = subst (λ m. start ks ≡ time m) (same_knot function ks 0 h first.1) first.2 in
-      sup_of_no_value lowest v e (λ w. no_left_limit function ks (time k) w s (subst (λ t. time k ≤ʳ t) (sym begins) (le_refl (time k))))
+      let first = first_is shape ks s.some in
+      let begins : start ks ≡ time k = subst (λ m. start ks ≡ time m) (same_knot shape ks 0 h first.1) first.2 in
+      sup_of_no_value shape.lowest v e (λ w. no_left_limit shape ks (time k) w s (subst (λ t. time k ≤ʳ t) (sym begins) (le_refl (time k))))
 
-  pub right_at_last : (ks : List (Knot P)) (i : ℕ) (k : Knot P) (v : Extended) → IsSignal function ks → slice_get ks i ≡ Some k → i + 1 ≡ length ks → v ≈ᵉ lowest → IsSup lowest (IsRightLimit (IsWorth function ks) (time k)) v
+  pub right_at_last : (ks : List (Knot P)) (i : ℕ) (k : Knot P) (v : Extended) → IsSignal shape ks → slice_get ks i ≡ Some k → i + 1 ≡ length ks → v ≈ᵉ shape.lowest → IsSup shape.lowest (IsRightLimit (IsWorth shape ks) (time k)) v
   right_at_last ks i k v s h last e =
-      sup_of_no_value lowest v e (λ w. no_right_limit function ks (time k) w s (subst (λ t. t ≤ʳ time k) (sym (last_is function ks i k h last)) (le_refl (time k))))
+      sup_of_no_value shape.lowest v e (λ w. no_right_limit shape ks (time k) w s (subst (λ t. t ≤ʳ time k) (sym (last_is shape ks i k h last)) (le_refl (time k))))
 
   -- at the others it is the value of the shape before the knot, or after it
-  pub left_at_knot : (ks : List (Knot P)) (i : ℕ) (m k : Knot P) → IsSignal function ks → slice_get ks i ≡ Some m → slice_get ks (i + 1) ≡ Some k → lowest ≤ᵉ value_at (function m.after) (time k)
-      → IsSup lowest (IsLeftLimit (IsWorth function ks) (time k)) (value_at (function m.after) (time k))
+  pub left_at_knot : (ks : List (Knot P)) (i : ℕ) (m k : Knot P) → IsSignal shape ks → slice_get ks i ≡ Some m → slice_get ks (i + 1) ≡ Some k → shape.lowest ≤ᵉ value_at (shape.function m.after) (time k)
+      → IsSup shape.lowest (IsLeftLimit (IsWorth shape ks) (time k)) (value_at (shape.function m.after) (time k))
   left_at_knot ks i m k s h j least =
-      let limit = left_limit_in function ks i m k (time k) h j (next_rises function ks i m k s.each h j) (le_refl (time k)) in
-      sup_of_only lowest (value_at (function m.after) (time k)) least limit (λ w l. left_limit_one w (value_at (function m.after) (time k)) (λ t v w a b. one_value function ks t v w s a b) l limit)
+      let limit = left_limit_in shape ks i m k (time k) h j (next_rises shape ks i m k s.each h j) (le_refl (time k)) in
+      sup_of_only shape.lowest (value_at (shape.function m.after) (time k)) least limit (λ w l. left_limit_one w (value_at (shape.function m.after) (time k)) (λ t v w a b. one_value shape ks t v w s a b) l limit)
 
-  pub right_at_knot : (ks : List (Knot P)) (i : ℕ) (k n : Knot P) → IsSignal function ks → slice_get ks i ≡ Some k → slice_get ks (i + 1) ≡ Some n → lowest ≤ᵉ value_at (function k.after) (time k)
-      → IsSup lowest (IsRightLimit (IsWorth function ks) (time k)) (value_at (function k.after) (time k))
+  pub right_at_knot : (ks : List (Knot P)) (i : ℕ) (k n : Knot P) → IsSignal shape ks → slice_get ks i ≡ Some k → slice_get ks (i + 1) ≡ Some n → shape.lowest ≤ᵉ value_at (shape.function k.after) (time k)
+      → IsSup shape.lowest (IsRightLimit (IsWorth shape ks) (time k)) (value_at (shape.function k.after) (time k))
   right_at_knot ks i k n s h j least =
-      let limit = right_limit_in function ks i k n (time k) h j (le_refl (time k)) (next_rises function ks i k n s.each h j) in
-      sup_of_only lowest (value_at (function k.after) (time k)) least limit (λ w l. right_limit_one w (value_at (function k.after) (time k)) (λ t v w a b. one_value function ks t v w s a b) l limit)
+      let limit = right_limit_in shape ks i k n (time k) h j (le_refl (time k)) (next_rises shape ks i k n s.each h j) in
+      sup_of_only shape.lowest (value_at (shape.function k.after) (time k)) least limit (λ w l. right_limit_one w (value_at (shape.function k.after) (time k)) (λ t v w a b. one_value shape ks t v w s a b) l limit)
 
   -- the Sup of the value at a knot
-  pub point_at_knot : (ks : List (Knot P)) (i : ℕ) (k : Knot P) → IsSignal function ks → slice_get ks i ≡ Some k → lowest ≤ᵉ value_at (function k.point) (time k)
-      → IsSup lowest (λ v. IsWorth function ks (time k) v) (value_at (function k.point) (time k))
+  pub point_at_knot : (ks : List (Knot P)) (i : ℕ) (k : Knot P) → IsSignal shape ks → slice_get ks i ≡ Some k → shape.lowest ≤ᵉ value_at (shape.function k.point) (time k)
+      → IsSup shape.lowest (λ v. IsWorth shape ks (time k) v) (value_at (shape.function k.point) (time k))
   point_at_knot ks i k s h least =
-      let here = worth_at function ks i k (time k) h (same_refl (time k)) in
-      sup_of_only lowest (value_at (function k.point) (time k)) least here (λ w m. one_value function ks (time k) w (value_at (function k.point) (time k)) s m here)
+      let here = worth_at shape ks i k (time k) h (same_refl (time k)) in
+      sup_of_only shape.lowest (value_at (shape.function k.point) (time k)) least here (λ w m. one_value shape ks (time k) w (value_at (shape.function k.point) (time k)) s m here)
 
   -- in a gap the value and both limits are one
-  pub beside_in_gap : (side : Side) (counts : Bool) (ks : List (Knot P)) (i : ℕ) (k n : Knot P) (t : Rational) → TakesOne side counts → IsSignal function ks → slice_get ks i ≡ Some k → slice_get ks (i + 1) ≡ Some n → time k <ʳ t → t <ʳ time n
-      → lowest ≤ᵉ value_at (function k.after) t → Beside lowest (IsWorth function ks) side counts t (value_at (function k.after) t)
-  beside_in_gap side counts ks i k n t takes s h j a b least = record { at_least = least; bound = bound; reached = λ w l m. (value_at (function k.after) t, some side takes, m) }
+  pub beside_in_gap : (side : Side) (counts : Bool) (ks : List (Knot P)) (i : ℕ) (k n : Knot P) (t : Rational) → TakesOne side counts → IsSignal shape ks → slice_get ks i ≡ Some k → slice_get ks (i + 1) ≡ Some n → time k <ʳ t → t <ʳ time n
+      → shape.lowest ≤ᵉ value_at (shape.function k.after) t → Beside shape.lowest (IsWorth shape ks) side counts t (value_at (shape.function k.after) t)
+  beside_in_gap side counts ks i k n t takes s h j a b least = record { at_least = least; bound = bound; reached = λ w l m. (value_at (shape.function k.after) t, some side takes, m) }
     where
-      here : IsWorth function ks t (value_at (function k.after) t)
-      here = worth_between function ks i k n t h j a b
+      here : IsWorth shape ks t (value_at (shape.function k.after) t)
+      here = worth_between shape ks i k n t h j a b
 
-      left : IsLeftLimit (IsWorth function ks) t (value_at (function k.after) t)
-      left = left_limit_in function ks i k n t h j a (le_of_lt b)
+      left : IsLeftLimit (IsWorth shape ks) t (value_at (shape.function k.after) t)
+      left = left_limit_in shape ks i k n t h j a (le_of_lt b)
 
-      right : IsRightLimit (IsWorth function ks) t (value_at (function k.after) t)
-      right = right_limit_in function ks i k n t h j (le_of_lt a) b
+      right : IsRightLimit (IsWorth shape ks) t (value_at (shape.function k.after) t)
+      right = right_limit_in shape ks i k n t h j (le_of_lt a) b
 
-      some : (side : Side) → TakesOne side counts → (IsTrue counts × IsWorth function ks t (value_at (function k.after) t)) ⊎ IsLimitFrom side (IsWorth function ks) t (value_at (function k.after) t)
+      some : (side : Side) → TakesOne side counts → (IsTrue counts × IsWorth shape ks t (value_at (shape.function k.after) t)) ⊎ IsLimitFrom side (IsWorth shape ks) t (value_at (shape.function k.after) t)
       some Left e = inr left
       some Right e = inr right
       some Neither e = inl (e, here)
 
-      one : (side : Side) (v : Extended) → IsLimitFrom side (IsWorth function ks) t v → v ≈ᵉ value_at (function k.after) t
-      one Left v l = left_limit_one v (value_at (function k.after) t) (λ t v w a b. one_value function ks t v w s a b) l left
-      one Right v l = right_limit_one v (value_at (function k.after) t) (λ t v w a b. one_value function ks t v w s a b) l right
+      one : (side : Side) (v : Extended) → IsLimitFrom side (IsWorth shape ks) t v → v ≈ᵉ value_at (shape.function k.after) t
+      one Left v l = left_limit_one v (value_at (shape.function k.after) t) (λ t v w a b. one_value shape ks t v w s a b) l left
+      one Right v l = right_limit_one v (value_at (shape.function k.after) t) (λ t v w a b. one_value shape ks t v w s a b) l right
       one Neither v l = absurd l
 
-      bound : (v : Extended) → (IsTrue counts × IsWorth function ks t v) ⊎ IsLimitFrom side (IsWorth function ks) t v → v ≤ᵉ value_at (function k.after) t
-      bound v (inl m) = (one_value function ks t v (value_at (function k.after) t) s m.1 here).at_most
+      bound : (v : Extended) → (IsTrue counts × IsWorth shape ks t v) ⊎ IsLimitFrom side (IsWorth shape ks) t v → v ≤ᵉ value_at (shape.function k.after) t
+      bound v (inl m) = (one_value shape ks t v (value_at (shape.function k.after) t) s m.1 here).at_most
       bound v (inr l) = (one side v l).at_most
 
   -- after the signal's end there is neither
-  pub beside_after : (side : Side) (counts : Bool) (ks : List (Knot P)) (t : Rational) (v : Extended) → IsSignal function ks → stop ks <ʳ t → v ≈ᵉ lowest → Beside lowest (IsWorth function ks) side counts t v
-  beside_after side counts ks t v s h e = sup_of_no_value lowest v e none
+  pub beside_after : (side : Side) (counts : Bool) (ks : List (Knot P)) (t : Rational) (v : Extended) → IsSignal shape ks → stop ks <ʳ t → v ≈ᵉ shape.lowest → Beside shape.lowest (IsWorth shape ks) side counts t v
+  beside_after side counts ks t v s h e = sup_of_no_value shape.lowest v e none
     where
-      no_limit : (side : Side) (w : Extended) → ¬ (IsLimitFrom side (IsWorth function ks) t w)
-      no_limit Left w l = no_left_limit_after function ks t w s h l
-      no_limit Right w l = no_right_limit function ks t w s (le_of_lt h) l
+      no_limit : (side : Side) (w : Extended) → ¬ (IsLimitFrom side (IsWorth shape ks) t w)
+      no_limit Left w l = no_left_limit_after shape ks t w s h l
+      no_limit Right w l = no_right_limit shape ks t w s (le_of_lt h) l
       no_limit Neither w l = l
 
-      none : (w : Extended) → ¬ ((IsTrue counts × IsWorth function ks t w) ⊎ IsLimitFrom side (IsWorth function ks) t w)
-      none w (inl m) = no_value_after function ks t w s h m.1
+      none : (w : Extended) → ¬ ((IsTrue counts × IsWorth shape ks t w) ⊎ IsLimitFrom side (IsWorth shape ks) t w)
+      none w (inl m) = no_value_after shape ks t w s h m.1
       none w (inr l) = no_limit side w l
 
-  pub beside_is_function : (side : Side) (counts : Bool) (ks : List (Knot P)) → IsSignal function ks → IsFunction (Beside lowest (IsWorth function ks) side counts)
+  pub beside_is_function : (side : Side) (counts : Bool) (ks : List (Knot P)) → IsSignal shape ks → IsFunction (Beside shape.lowest (IsWorth shape ks) side counts)
   beside_is_function side counts ks s = record {
     alike = λ t u v w e f h. sup_value_same v w f (sup_same (moved t u e) (moved u t (same_sym e)) h);
-    one = λ t v w a b. record { at_most = Sup-unique lowest v w a b; at_least = Sup-unique lowest w v b a };
+    one = λ t v w a b. record { at_most = Sup-unique shape.lowest v w a b; at_least = Sup-unique shape.lowest w v b a };
   }
     where
-      moved : (t u : Rational) → t ≈ u → (v : Extended) → (IsTrue counts × IsWorth function ks t v) ⊎ IsLimitFrom side (IsWorth function ks) t v → (IsTrue counts × IsWorth function ks u v) ⊎ IsLimitFrom side (IsWorth function ks) u v
-      moved t u e v (inl m) = inl (m.0, worth_same function ks v v e (same_reflᵉ v) m.1)
-      moved t u e v (inr l) = inr (limit_from_same (IsWorth function ks) side v v e (same_reflᵉ v) l)
+      moved : (t u : Rational) → t ≈ u → (v : Extended) → (IsTrue counts × IsWorth shape ks t v) ⊎ IsLimitFrom side (IsWorth shape ks) t v → (IsTrue counts × IsWorth shape ks u v) ⊎ IsLimitFrom side (IsWorth shape ks) u v
+      moved t u e v (inl m) = inl (m.0, worth_same shape ks v v e (same_reflᵉ v) m.1)
+      moved t u e v (inr l) = inr (limit_from_same (IsWorth shape ks) side v v e (same_reflᵉ v) l)
 
-  pub beside_bounded : (side : Side) (counts : Bool) (ks : List (Knot P)) → IsLimited function ks → IsBounded (2 ^ 31) lowest → HasBounded (2 ^ 31) (Beside lowest (IsWorth function ks) side counts)
-  beside_bounded side counts ks h low t v b = sup_bounded (2 ^ 31) (λ v. (IsTrue counts × IsWorth function ks t v) ⊎ IsLimitFrom side (IsWorth function ks) t v) lowest v low member b
+  pub beside_bounded : (side : Side) (counts : Bool) (ks : List (Knot P)) → IsLimited shape ks → IsBounded (2 ^ 31) shape.lowest → HasBounded (2 ^ 31) (Beside shape.lowest (IsWorth shape ks) side counts)
+  beside_bounded side counts ks h low t v b = sup_bounded (2 ^ 31) (λ v. (IsTrue counts × IsWorth shape ks t v) ⊎ IsLimitFrom side (IsWorth shape ks) t v) shape.lowest v low member b
     where
-      by_limit : (side : Side) (v : Extended) → IsLimitFrom side (IsWorth function ks) t v → IsBounded (2 ^ 31) v
-      by_limit Left v l = left_limit_bounded (2 ^ 31) (IsWorth function ks) t v (worth_bounded function ks h) l
-      by_limit Right v l = right_limit_bounded (2 ^ 31) (IsWorth function ks) t v (worth_bounded function ks h) l
+      by_limit : (side : Side) (v : Extended) → IsLimitFrom side (IsWorth shape ks) t v → IsBounded (2 ^ 31) v
+      by_limit Left v l = left_limit_bounded (2 ^ 31) (IsWorth shape ks) t v (worth_bounded shape ks h) l
+      by_limit Right v l = right_limit_bounded (2 ^ 31) (IsWorth shape ks) t v (worth_bounded shape ks h) l
       by_limit Neither v l = absurd l
 
-      member : (v : Extended) → (IsTrue counts × IsWorth function ks t v) ⊎ IsLimitFrom side (IsWorth function ks) t v → IsBounded (2 ^ 31) v
-      member v (inl m) = worth_bounded function ks h t v m.1
+      member : (v : Extended) → (IsTrue counts × IsWorth shape ks t v) ⊎ IsLimitFrom side (IsWorth shape ks) t v → IsBounded (2 ^ 31) v
+      member v (inl m) = worth_bounded shape ks h t v m.1
       member v (inr l) = by_limit side v l
 
   -- one knot more
-  pub beside_on : (side : Side) (counts : Bool) (ks old new : List (Knot P)) (i : ℕ) (k n : Knot P) (point : P) → TakesOne side counts → IsSignal function ks → slice_get ks i ≡ Some k → slice_get ks (i + 1) ≡ Some n
-      → ((t : Rational) → lowest ≤ᵉ value_at (function k.after) t) → TellsSoFar function (Beside lowest (IsWorth function ks) side counts) old → stop old ≈ time k
-      → Beside lowest (IsWorth function ks) side counts (time n) (value_at (function point) (time n)) → GoesOn function old k.after n.time point new
-      → TellsSoFar function (Beside lowest (IsWorth function ks) side counts) new
+  pub beside_on : (side : Side) (counts : Bool) (ks old new : List (Knot P)) (i : ℕ) (k n : Knot P) (point : P) → TakesOne side counts → IsSignal shape ks → slice_get ks i ≡ Some k → slice_get ks (i + 1) ≡ Some n
+      → ((t : Rational) → shape.lowest ≤ᵉ value_at (shape.function k.after) t) → TellsSoFar shape (Beside shape.lowest (IsWorth shape ks) side counts) old → stop old ≈ time k
+      → Beside shape.lowest (IsWorth shape ks) side counts (time n) (value_at (shape.function point) (time n)) → GoesOn shape old k.after n.time point new
+      → TellsSoFar shape (Beside shape.lowest (IsWorth shape ks) side counts) new
   beside_on side counts ks old new i k n point takes s h j least so_far stops here on =
-      tells_on function (Beside lowest (IsWorth function ks) side counts) old new k.after point n.time (beside_is_function side counts ks s) so_far on
+      tells_on shape (Beside shape.lowest (IsWorth shape ks) side counts) old new k.after point n.time (beside_is_function side counts ks s) so_far on
       (λ t a b. beside_in_gap side counts ks i k n t takes s h j (lt_of_le_of_lt (ge_of_same stops) a) b (least t)) here
 
   -- the first knot
-  pub beside_first : (side : Side) (counts : Bool) (ks built : List (Knot P)) (k : Knot P) (point : P) → IsSignal function ks → Beside lowest (IsWorth function ks) side counts (time k) (value_at (function point) (time k))
-      → built ≡ record { time = k.time; point = point; after = point } ∷ [] → TellsSoFar function (Beside lowest (IsWorth function ks) side counts) built
-  beside_first side counts ks built k point s here e = subst (TellsSoFar function (Beside lowest (IsWorth function ks) side counts)) (sym e) (record {
+  pub beside_first : (side : Side) (counts : Bool) (ks built : List (Knot P)) (k : Knot P) (point : P) → IsSignal shape ks → Beside shape.lowest (IsWorth shape ks) side counts (time k) (value_at (shape.function point) (time k))
+      → built ≡ record { time = k.time; point = point; after = point } ∷ [] → TellsSoFar shape (Beside shape.lowest (IsWorth shape ks) side counts) built
+  beside_first side counts ks built k point s here e = subst (TellsSoFar shape (Beside shape.lowest (IsWorth shape ks) side counts)) (sym e) (record {
     signal = record { some = omega arith; each = (record { rising = tt; needed = tt; ends = refl }, tt) };
     worth = by_knot;
   })
     where
-      by_knot : (t : Rational) (v : Extended) → IsWorth function (record { time = k.time; point = point; after = point } ∷ []) t v → Beside lowest (IsWorth function ks) side counts t v
-      by_knot t v (inl w) = (beside_is_function side counts ks s).alike (time k) t (value_at (function point) (time k)) v (same_sym w.when)
-          (same_symᵉ v (value_at (function point) (time k)) (same_transᵉ v (value_at (function point) t) (value_at (function point) (time k)) w.worth (value_same (function point) w.when))) here
+      by_knot : (t : Rational) (v : Extended) → IsWorth shape (record { time = k.time; point = point; after = point } ∷ []) t v → Beside shape.lowest (IsWorth shape ks) side counts t v
+      by_knot t v (inl w) = (beside_is_function side counts ks s).alike (time k) t (value_at (shape.function point) (time k)) v (same_sym w.when)
+          (same_symᵉ v (value_at (shape.function point) (time k)) (same_transᵉ v (value_at (shape.function point) t) (value_at (shape.function point) (time k)) w.worth (value_same (shape.function point) w.when))) here
       by_knot t v (inr (inl w)) = absurd w
       by_knot t v (inr (inr w)) = absurd w
 
   -- after the end
-  pub beside_beyond : (side : Side) (counts : Bool) (ks old new : List (Knot P)) (least : P) (until : Frac) → IsSignal function ks → ((t : Rational) → value_at (function least) t ≈ᵉ lowest)
-      → Tells function (Beside lowest (IsWorth function ks) side counts) (start ks) (stop ks) old → stop ks <ʳ value until → GoesOn function old least until least new
-      → Tells function (Beside lowest (IsWorth function ks) side counts) (start ks) (value until) new
+  pub beside_beyond : (side : Side) (counts : Bool) (ks old new : List (Knot P)) (least : P) (until : Frac) → IsSignal shape ks → ((t : Rational) → value_at (shape.function least) t ≈ᵉ shape.lowest)
+      → Tells shape (Beside shape.lowest (IsWorth shape ks) side counts) (start ks) (stop ks) old → stop ks <ʳ value until → GoesOn shape old least until least new
+      → Tells shape (Beside shape.lowest (IsWorth shape ks) side counts) (start ks) (value until) new
   beside_beyond side counts ks old new least until s values t later on =
-      told function (Beside lowest (IsWorth function ks) side counts) (start ks) (value until) new (beside_is_function side counts ks s)
-      (tells_on function (Beside lowest (IsWorth function ks) side counts) old new least least until (beside_is_function side counts ks s) (record { signal = t.signal; worth = λ u v w. ((t.worth u v).0 w).1 }) on
-      (λ u a b. beside_after side counts ks u (value_at (function least) u) s (lt_of_le_of_lt (ge_of_same t.ends) a) (values u))
-      (beside_after side counts ks (value until) (value_at (function least) (value until)) s later (values (value until))))
+      told shape (Beside shape.lowest (IsWorth shape ks) side counts) (start ks) (value until) new (beside_is_function side counts ks s)
+      (tells_on shape (Beside shape.lowest (IsWorth shape ks) side counts) old new least least until (beside_is_function side counts ks s) (record { signal = t.signal; worth = λ u v w. ((t.worth u v).0 w).1 }) on
+      (λ u a b. beside_after side counts ks u (value_at (shape.function least) u) s (lt_of_le_of_lt (ge_of_same t.ends) a) (values u))
+      (beside_after side counts ks (value until) (value_at (shape.function least) (value until)) s later (values (value until))))
       (subst (λ u. u ≈ start ks) (sym on.begins) t.begins) (subst (λ u. u ≈ value until) (sym on.ends) (same_refl (value until)))
 
 -- the shapes of a signal that goes on are those of a signal, or still
-pub shapes_on : {P : Type 0} (function : P → Affine) (moves : P → Bool) (ks old new : List (Knot P)) (after point : P) (at : Frac) → GoesOn function old after at point new
-    → ((p : P) → HasShape old p → HasShape ks p ⊎ (moves p ≡ false)) → HasShape ks after ⊎ (moves after ≡ false) → HasShape ks point ⊎ (moves point ≡ false) → (p : P) → HasShape new p → HasShape ks p ⊎ (moves p ≡ false)
-shapes_on {P} function moves ks old new after point at on so_far first second p h = by_shape (on.shapes p h)
+pub shapes_on : {P : Type 0} (shape : ShapeOf P) (ks old new : List (Knot P)) (after point : P) (at : Frac) → GoesOn shape old after at point new
+    → ((p : P) → HasShape old p → HasShape ks p ⊎ (shape.moves p ≡ false)) → HasShape ks after ⊎ (shape.moves after ≡ false) → HasShape ks point ⊎ (shape.moves point ≡ false) → (p : P) → HasShape new p → HasShape ks p ⊎ (shape.moves p ≡ false)
+shapes_on {P} shape ks old new after point at on so_far first second p h = by_shape (on.shapes p h)
   where
-    of_one : (q : P) → p ≡ q → HasShape ks q ⊎ (moves q ≡ false) → HasShape ks p ⊎ (moves p ≡ false)
-    of_one q e m = subst (λ p. HasShape ks p ⊎ (moves p ≡ false)) (sym e) m
+    of_one : (q : P) → p ≡ q → HasShape ks q ⊎ (shape.moves q ≡ false) → HasShape ks p ⊎ (shape.moves p ≡ false)
+    of_one q e m = subst (λ p. HasShape ks p ⊎ (shape.moves p ≡ false)) (sym e) m
 
-    by_shape : HasShape old p ⊎ (p ≡ after) ⊎ (p ≡ point) → HasShape ks p ⊎ (moves p ≡ false)
+    by_shape : HasShape old p ⊎ (p ≡ after) ⊎ (p ≡ point) → HasShape ks p ⊎ (shape.moves p ≡ false)
     by_shape (inl m) = so_far p m
     by_shape (inr (inl e)) = of_one after e first
     by_shape (inr (inr e)) = of_one point e second
 
-pub shapes_first : {P : Type 0} (moves : P → Bool) (ks built : List (Knot P)) (point : P) (at : Frac) → built ≡ record { time = at; point = point; after = point } ∷ []
-    → HasShape ks point ⊎ (moves point ≡ false) → (p : P) → HasShape built p → HasShape ks p ⊎ (moves p ≡ false)
-shapes_first {P} moves ks built point at e m p h = by_shape (subst (λ bs. HasShape bs p) e h)
+pub shapes_first : {P : Type 0} (shape : ShapeOf P) (ks built : List (Knot P)) (point : P) (at : Frac) → built ≡ record { time = at; point = point; after = point } ∷ []
+    → HasShape ks point ⊎ (shape.moves point ≡ false) → (p : P) → HasShape built p → HasShape ks p ⊎ (shape.moves p ≡ false)
+shapes_first {P} shape ks built point at e m p h = by_shape (subst (λ bs. HasShape bs p) e h)
   where
-    of_point : p ≡ point → HasShape ks p ⊎ (moves p ≡ false)
-    of_point f = subst (λ p. HasShape ks p ⊎ (moves p ≡ false)) (sym f) m
+    of_point : p ≡ point → HasShape ks p ⊎ (shape.moves p ≡ false)
+    of_point f = subst (λ p. HasShape ks p ⊎ (shape.moves p ≡ false)) (sym f) m
 
-    by_shape : HasShape (record { time = at; point = point; after = point } ∷ []) p → HasShape ks p ⊎ (moves p ≡ false)
+    by_shape : HasShape (record { time = at; point = point; after = point } ∷ []) p → HasShape ks p ⊎ (shape.moves p ≡ false)
     by_shape (inl f) = of_point f
     by_shape (inr (inl f)) = of_point f
     by_shape (inr (inr f)) = absurd f
@@ -225,8 +226,8 @@ same_of_order Equal h k n = h
 same_of_order Greater h k n = absurd (not_lt_of_le k h)
 
 -- what tells a function between two times tells it between other pairs of them
-pub told_to : {P : Type 0} (function : P → Affine) (F : Function) (from to until : Rational) {begin : Rational} (ks : List (Knot P)) → Tells function F begin to ks → begin ≈ from → to ≈ until → Tells function F from until ks
-told_to function F from to until {begin} ks t e f = record {
+pub told_to : {P : Type 0} (shape : ShapeOf P) (F : Function) (from to until : Rational) {begin : Rational} (ks : List (Knot P)) → Tells shape F begin to ks → begin ≈ from → to ≈ until → Tells shape F from until ks
+told_to shape F from to until {begin} ks t e f = record {
   signal = t.signal;
   begins = same_trans t.begins e;
   ends = same_trans t.ends f;
@@ -246,41 +247,41 @@ lowest_is_function lowest = record {
   one = λ t v w a b. same_transᵉ v lowest w a (same_symᵉ w lowest b);
 }
 
-module _ {P : Type 0} (function : P → Affine) (lowest : Extended) where
-  least_so_far : (least : P) (from : Frac) → ((t : Rational) → value_at (function least) t ≈ᵉ lowest) → TellsSoFar function (IsLowestAt lowest) (record { time = from; point = least; after = least } ∷ [])
+module _ {P : Type 0} (shape : ShapeOf P) where
+  least_so_far : (least : P) (from : Frac) → ((t : Rational) → value_at (shape.function least) t ≈ᵉ shape.lowest) → TellsSoFar shape (IsLowestAt shape.lowest) (record { time = from; point = least; after = least } ∷ [])
   least_so_far least from values = record { signal = record { some = omega arith; each = (record { rising = tt; needed = tt; ends = refl }, tt) }; worth = by_knot }
     where
-      by_knot : (t : Rational) (v : Extended) → IsWorth function (record { time = from; point = least; after = least } ∷ []) t v → v ≈ᵉ lowest
-      by_knot t v (inl w) = same_transᵉ v (value_at (function least) t) lowest w.worth (values t)
+      by_knot : (t : Rational) (v : Extended) → IsWorth shape (record { time = from; point = least; after = least } ∷ []) t v → v ≈ᵉ shape.lowest
+      by_knot t v (inl w) = same_transᵉ v (value_at (shape.function least) t) shape.lowest w.worth (values t)
       by_knot t v (inr (inl w)) = absurd w
       by_knot t v (inr (inr w)) = absurd w
 
-  pub least_first : (built : List (Knot P)) (least : P) (from to : Frac) → ((t : Rational) → value_at (function least) t ≈ᵉ lowest) → built ≡ record { time = from; point = least; after = least } ∷ [] → value from ≈ value to
-      → Tells function (λ t v. v ≈ᵉ lowest) (value from) (value to) built
+  pub least_first : (built : List (Knot P)) (least : P) (from to : Frac) → ((t : Rational) → value_at (shape.function least) t ≈ᵉ shape.lowest) → built ≡ record { time = from; point = least; after = least } ∷ [] → value from ≈ value to
+      → Tells shape (λ t v. v ≈ᵉ shape.lowest) (value from) (value to) built
   least_first built least from to values e same =
-      subst (Tells function (IsLowestAt lowest) (value from) (value to)) (sym e)
-      (told function (IsLowestAt lowest) (value from) (value to) (record { time = from; point = least; after = least } ∷ []) (lowest_is_function lowest) (least_so_far least from values) (same_refl (value from)) same)
+      subst (Tells shape (IsLowestAt shape.lowest) (value from) (value to)) (sym e)
+      (told shape (IsLowestAt shape.lowest) (value from) (value to) (record { time = from; point = least; after = least } ∷ []) (lowest_is_function shape.lowest) (least_so_far least from values) (same_refl (value from)) same)
 
-  pub least_on : (built new : List (Knot P)) (least : P) (from to : Frac) → ((t : Rational) → value_at (function least) t ≈ᵉ lowest) → built ≡ record { time = from; point = least; after = least } ∷ []
-      → GoesOn function built least to least new → Tells function (λ t v. v ≈ᵉ lowest) (value from) (value to) new
+  pub least_on : (built new : List (Knot P)) (least : P) (from to : Frac) → ((t : Rational) → value_at (shape.function least) t ≈ᵉ shape.lowest) → built ≡ record { time = from; point = least; after = least } ∷ []
+      → GoesOn shape built least to least new → Tells shape (λ t v. v ≈ᵉ shape.lowest) (value from) (value to) new
   least_on built new least from to values e on =
-      told function (IsLowestAt lowest) (value from) (value to) new (lowest_is_function lowest)
-      (tells_on function (IsLowestAt lowest) built new least least to (lowest_is_function lowest) (subst (TellsSoFar function (IsLowestAt lowest)) (sym e) (least_so_far least from values)) on (λ t a b. values t) (values (value to)))
+      told shape (IsLowestAt shape.lowest) (value from) (value to) new (lowest_is_function shape.lowest)
+      (tells_on shape (IsLowestAt shape.lowest) built new least least to (lowest_is_function shape.lowest) (subst (TellsSoFar shape (IsLowestAt shape.lowest)) (sym e) (least_so_far least from values)) on (λ t a b. values t) (values (value to)))
       (subst (λ u. u ≈ value from) (sym (on.begins ∙ ap (λ ks. start ks) e)) (same_refl (value from))) (subst (λ u. u ≈ value to) (sym on.ends) (same_refl (value to)))
 
-pub still_first : {P : Type 0} (moves : P → Bool) (built : List (Knot P)) (least : P) (from : Frac) → moves least ≡ false → built ≡ record { time = from; point = least; after = least } ∷ [] → (p : P) → HasShape built p → moves p ≡ false
-still_first {P} moves built least from m e p h = by_shape (subst (λ bs. HasShape bs p) e h)
+pub still_first : {P : Type 0} (shape : ShapeOf P) (built : List (Knot P)) (least : P) (from : Frac) → shape.moves least ≡ false → built ≡ record { time = from; point = least; after = least } ∷ [] → (p : P) → HasShape built p → shape.moves p ≡ false
+still_first {P} shape built least from m e p h = by_shape (subst (λ bs. HasShape bs p) e h)
   where
-    by_shape : HasShape (record { time = from; point = least; after = least } ∷ []) p → moves p ≡ false
-    by_shape (inl f) = ap moves f ∙ m
-    by_shape (inr (inl f)) = ap moves f ∙ m
+    by_shape : HasShape (record { time = from; point = least; after = least } ∷ []) p → shape.moves p ≡ false
+    by_shape (inl f) = ap shape.moves f ∙ m
+    by_shape (inr (inl f)) = ap shape.moves f ∙ m
     by_shape (inr (inr f)) = absurd f
 
-pub still_on : {P : Type 0} (function : P → Affine) (moves : P → Bool) (built new : List (Knot P)) (least : P) (from to : Frac) → moves least ≡ false → built ≡ record { time = from; point = least; after = least } ∷ []
-    → GoesOn function built least to least new → (p : P) → HasShape new p → moves p ≡ false
-still_on {P} function moves built new least from to m e on p h = by_shape (on.shapes p h)
+pub still_on : {P : Type 0} (shape : ShapeOf P) (built new : List (Knot P)) (least : P) (from to : Frac) → shape.moves least ≡ false → built ≡ record { time = from; point = least; after = least } ∷ []
+    → GoesOn shape built least to least new → (p : P) → HasShape new p → shape.moves p ≡ false
+still_on {P} shape built new least from to m e on p h = by_shape (on.shapes p h)
   where
-    by_shape : HasShape built p ⊎ (p ≡ least) ⊎ (p ≡ least) → moves p ≡ false
-    by_shape (inl f) = still_first moves built least from m e p f
-    by_shape (inr (inl f)) = ap moves f ∙ m
-    by_shape (inr (inr f)) = ap moves f ∙ m
+    by_shape : HasShape built p ⊎ (p ≡ least) ⊎ (p ≡ least) → shape.moves p ≡ false
+    by_shape (inl f) = still_first shape built least from m e p f
+    by_shape (inr (inl f)) = ap shape.moves f ∙ m
+    by_shape (inr (inr f)) = ap shape.moves f ∙ m

@@ -21,6 +21,7 @@ use Rattle.rational.proofs.AffineLemmas.{same_reflᵉ, same_symᵉ, same_trans�
 use Rattle.rational.proofs.LimitLemmas.{earlier_end, later_end}
 use Rattle.frac128.specs.Value.{value}
 use Rattle.frac128.specs.declared.frac.Frac.{Frac}
+use Rattle.value_laws.specs.Members.{ShapeOf, ShapeLaws}
 use Rattle.pl_signal.specs.declared.knot.Knot.{Knot}
 use Rattle.pl_signal.specs.declared.faults.WidePair.TheVariants.{Cross, Value}
 use Rattle.pl_signal.specs.declared.faults.OpFault.{OpFault}
@@ -185,43 +186,43 @@ one_side {P} (n ∷ ks) tau k apart = near_both tau (λ t. (u : Rational) → u 
       after_back = λ _. lt_of_le_of_lt (le_of_same e) h;
     }) (near_after tau (time n) k h)
 
-module _ {P : Type 0} (function : P → Affine) (knots : List (Knot P)) (a b : ℕ) (low_in high_in : Bool) (signal : IsSignal function knots) (order : a < b) where
+module _ {P : Type 0} (shape : ShapeOf P) (knots : List (Knot P)) (a b : ℕ) (low_in high_in : Bool) (signal : IsSignal shape knots) (order : a < b) where
   abbrev InPlay : Rational → Affine → Type 0
-  InPlay tau line = IsInPlay (window_ahead (IsWorth function knots) a b low_in high_in) (start knots) (stop knots) tau line
+  InPlay tau line = IsInPlay (window_ahead (IsWorth shape knots) a b low_in high_in) (start knots) (stop knots) tau line
 
   window_time : (tau u : Rational) → Within (start knots) (stop knots) u → later tau a <ʳ u → u <ʳ later tau b → Ahead (start knots) (stop knots) a b low_in high_in tau u
   window_time tau u w h k = record { inside = w; begins = precedes_of_lt low_in (later tau a) u h; ends = precedes_of_lt high_in u (later tau b) k }
 
   -- a value or a limit at a knot strictly inside the window is in play, as a constant
-  constant_in_play : (tau u : Rational) (v : Extended) (line : Affine) → IsKnotTime knots u → later tau a <ʳ u → u <ʳ later tau b → IsAbout function knots u v → IsConstant line v → InPlay tau line
+  constant_in_play : (tau u : Rational) (v : Extended) (line : Affine) → IsKnotTime knots u → later tau a <ʳ u → u <ʳ later tau b → IsAbout shape knots u v → IsConstant line v → InPlay tau line
   constant_in_play tau u v line knot h k about level = ((u, window_time tau u inside h k), by_kind about)
     where
       inside : Within (start knots) (stop knots) u
-      inside = let n = knot_at function knots u knot in
-          worth_within function knots u (value_at (function n.1.point) u) signal (worth_at function knots n.0 n.1 u n.2 n.3)
+      inside = let n = knot_at shape knots u knot in
+          worth_within shape knots u (value_at (shape.function n.1.point) u) signal (worth_at shape knots n.0 n.1 u n.2 n.3)
 
       closed : Ahead (start knots) (stop knots) a b true true tau u
       closed = record { inside = inside; begins = le_of_lt h; ends = le_of_lt k }
 
-      by_kind : IsAbout function knots u v
-          → IsEndPart (IsWorth function knots) (start knots) (stop knots) tau line (λ k. (k ≡ pos a) ⊎ (k ≡ pos b))
-          ⊎ IsValueWithin (IsWorth function knots) (start knots) (stop knots) (Ahead (start knots) (stop knots) a b low_in high_in tau) line
-          ⊎ IsLimitWithin (IsWorth function knots) (start knots) (stop knots) (Ahead (start knots) (stop knots) a b true true tau) (λ u. shifted tau (pos a) <ʳ u) (λ u. u <ʳ shifted tau (pos b)) line
-      by_kind (inl w) = inr (inl (u, breakpoint function knots signal u knot, window_time tau u inside h k, v, w, level))
+      by_kind : IsAbout shape knots u v
+          → IsEndPart (IsWorth shape knots) (start knots) (stop knots) tau line (λ k. (k ≡ pos a) ⊎ (k ≡ pos b))
+          ⊎ IsValueWithin (IsWorth shape knots) (start knots) (stop knots) (Ahead (start knots) (stop knots) a b low_in high_in tau) line
+          ⊎ IsLimitWithin (IsWorth shape knots) (start knots) (stop knots) (Ahead (start knots) (stop knots) a b true true tau) (λ u. shifted tau (pos a) <ʳ u) (λ u. u <ʳ shifted tau (pos b)) line
+      by_kind (inl w) = inr (inl (u, breakpoint shape knots signal u knot, window_time tau u inside h k, v, w, level))
       by_kind (inr (inl l)) = inr (inr (
         u,
-        breakpoint function knots signal u knot,
+        breakpoint shape knots signal u knot,
         closed,
         v,
-        inl (limit_after_start function knots signal u v l, lt_of_le_of_lt (ge_of_same (later_shifted tau a)) h, l),
+        inl (limit_after_start shape knots signal u v l, lt_of_le_of_lt (ge_of_same (later_shifted tau a)) h, l),
         level,
       ))
       by_kind (inr (inr l)) = inr (inr (
         u,
-        breakpoint function knots signal u knot,
+        breakpoint shape knots signal u knot,
         closed,
         v,
-        inr (limit_before_stop function knots signal u v l, lt_of_lt_of_le k (le_of_same (later_shifted tau b)), l),
+        inr (limit_before_stop shape knots signal u v l, lt_of_lt_of_le k (le_of_same (later_shifted tau b)), l),
         level,
       ))
 
@@ -237,12 +238,12 @@ module _ {P : Type 0} (function : P → Affine) (knots : List (Knot P)) (a b : �
       )
 
   -- a refused value at a knot
-  pub knots_in_play : (e : OpFault P) → IsKnotFault function knots a e → HasCause function (window_ahead (IsWorth function knots) a b low_in high_in) (start knots) (stop knots) e
+  pub knots_in_play : (e : OpFault P) → IsKnotFault shape knots a e → HasCause shape (window_ahead (IsWorth shape knots) a b low_in high_in) (start knots) (stop knots) e
   knots_in_play F.Memory h = tt
   knots_in_play (F.Wide (Cross p q from to den)) h = absurd h
   knots_in_play (F.Wide (Value p at den)) h =
-      let n = knot_at function knots (value at) h.knot in
-      let t = time_before (value at) h.late (worth_within function knots (value at) (value_at (function n.1.point) (value at)) signal (worth_at function knots n.0 n.1 (value at) n.2 n.3)).below in
+      let n = knot_at shape knots (value at) h.knot in
+      let t = time_before (value at) h.late (worth_within shape knots (value at) (value_at (shape.function n.1.point) (value at)) signal (worth_at shape knots n.0 n.1 (value at) n.2 n.3)).below in
       let level : IsConstant (affine (constant h.number)) (finite h.number) = λ t. finite_same (same_sym (at_constant h.number t)) in
       record {
         tau = t.0;
@@ -253,36 +254,36 @@ module _ {P : Type 0} (function : P → Affine) (knots : List (Knot P)) (a b : �
         line = affine (constant h.number);
         constant = level;
         in_play = constant_in_play t.0 (value at) (finite h.number) (affine (constant h.number)) h.knot t.3 t.4
-            (about_same function knots (value at) (value_at (function p) (value at)) (finite h.number) (same_symᵉ (finite h.number) (value_at (function p) (value at)) h.is_number) h.about) level;
+            (about_same shape knots (value at) (value_at (shape.function p) (value at)) (finite h.number) (same_symᵉ (finite h.number) (value_at (shape.function p) (value at)) h.is_number) h.about) level;
         denominator = h.denominator;
         wide = h.wide;
       }
 
   -- no knot stands at an end of the window at a time that needs a large denominator
   no_knot : (tau : Rational) (den k : ℕ) → HasDenominator tau den → 2 ^ 60 ≤ den → ¬ IsKnotTime knots (later tau k)
-  no_knot tau den k has wide h = let n = knot_at function knots (later tau k) h in not_stored tau den k n.1.time has wide n.3
+  no_knot tau den k has wide h = let n = knot_at shape knots (later tau k) h in not_stored tau den k n.1.time has wide n.3
 
-  module _ (lowest : Extended) (least : (p : P) (t : Rational) → lowest ≤ᵉ value_at (function p) t) where
+  module _ (laws : ShapeLaws shape) where
     -- in play, or the least value at every time
     abbrev Known : Rational → Affine → Type 0
-    Known tau line = InPlay tau line ⊎ ((t : Rational) → value_at line t ≈ᵉ lowest)
+    Known tau line = InPlay tau line ⊎ ((t : Rational) → value_at line t ≈ᵉ shape.lowest)
 
     -- the end of the window lies inside a piece of the signal, or beyond the domain
-    end_place : (tau : Rational) (den k : ℕ) → start knots <ʳ tau → HasDenominator tau den → 2 ^ 60 ≤ den → ((v : Extended) × IsInside function knots (later tau k) v) ⊎ (stop knots <ʳ later tau k)
+    end_place : (tau : Rational) (den k : ℕ) → start knots <ʳ tau → HasDenominator tau den → 2 ^ 60 ≤ den → ((v : Extended) × IsInside shape knots (later tau k) v) ⊎ (stop knots <ʳ later tau k)
     end_place tau den k after has wide = by_order (lt_or_same_or_gt (later tau k) (stop knots))
       where
-        by_order : (later tau k <ʳ stop knots) ⊎ (later tau k ≈ stop knots) ⊎ (stop knots <ʳ later tau k) → ((v : Extended) × IsInside function knots (later tau k) v) ⊎ (stop knots <ʳ later tau k)
+        by_order : (later tau k <ʳ stop knots) ⊎ (later tau k ≈ stop knots) ⊎ (stop knots <ʳ later tau k) → ((v : Extended) × IsInside shape knots (later tau k) v) ⊎ (stop knots <ʳ later tau k)
         by_order (inl h) =
-            let w = every_time function knots (later tau k) signal (record { above = le_trans (le_of_lt after) (later_from tau k); below = le_of_lt h }) in
-            elim (placed function knots (later tau k) w.0 w.1) [ inl h ↦ absurd (no_knot tau den k has wide h) | inr i ↦ inl (w.0, i) ]
-        by_order (inr (inl e)) = absurd (no_knot tau den k has wide (knot_time_same knots e (stop_is_knot function knots signal.some)))
+            let w = every_time shape knots (later tau k) signal (record { above = le_trans (le_of_lt after) (later_from tau k); below = le_of_lt h }) in
+            elim (placed shape knots (later tau k) w.0 w.1) [ inl h ↦ absurd (no_knot tau den k has wide h) | inr i ↦ inl (w.0, i) ]
+        by_order (inr (inl e)) = absurd (no_knot tau den k has wide (knot_time_same knots e (stop_is_knot shape knots signal.some)))
         by_order (inr (inr h)) = inr h
 
     -- a part at an end is in play
-    part_in_play : (tau : Rational) (k : ℕ) (v : Extended) (line : Affine) → (k ≡ a) ⊎ (k ≡ b) → (i : IsInside function knots (later tau k) v)
+    part_in_play : (tau : Rational) (k : ℕ) (v : Extended) (line : Affine) → (k ≡ a) ⊎ (k ≡ b) → (i : IsInside shape knots (later tau k) v)
         → (x : (u : Rational) × (i.from <ʳ u) × (u <ʳ i.to) × (later tau a <ʳ u) × (u <ʳ later tau b)) → AreSame line (ahead i.line k) → InPlay tau line
     part_in_play tau k v line which i x same = (
-      (x.0, window_time tau x.0 (worth_within function knots x.0 there.0 signal there.1) x.3 x.4),
+      (x.0, window_time tau x.0 (worth_within shape knots x.0 there.0 signal there.1) x.3 x.4),
       inl (
         pos k,
         elim which as (λ w. (pos k ≡ pos a) ⊎ (pos k ≡ pos b)) [ inl e ↦ inl (ap pos e) | inr e ↦ inr (ap pos e) ],
@@ -294,99 +295,99 @@ module _ {P : Type 0} (function : P → Affine) (knots : List (Knot P)) (a b : �
       ),
     )
       where
-        there : Follows (IsWorth function knots) i.line x.0
+        there : Follows (IsWorth shape knots) i.line x.0
         there = i.on x.0 x.1 x.2
 
         here : Within (start knots) (stop knots) (shifted tau (pos k))
-        here = let f = i.on (later tau k) i.above i.below in let w = worth_within function knots (later tau k) f.0 signal f.1 in
+        here = let f = i.on (later tau k) i.above i.below in let w = worth_within shape knots (later tau k) f.0 signal f.1 in
             record { above = le_trans w.above (le_of_same (later_shifted tau k)); below = le_trans (ge_of_same (later_shifted tau k)) w.below }
 
     -- what the signal is at the low end near tau
     low_end : (tau : Rational) (den : ℕ) → start knots <ʳ tau → HasDenominator tau den → 2 ^ 60 ≤ den
-        → (like : Affine) × IsLike tau (AtLowEnd lowest (IsWorth function knots) a low_in) like × ((line : Affine) → AreSame line like → Known tau line)
+        → (like : Affine) × IsLike tau (AtLowEnd shape.lowest (IsWorth shape knots) a low_in) like × ((line : Affine) → AreSame line like → Known tau line)
     low_end tau den after has wide = by_place (end_place tau den a after has wide)
       where
-        inside : (i : Rational) (to : Rational) (line : Affine) → IsLineOn (IsWorth function knots) i to line → (t : Rational) → i <ʳ later t a → later t a <ʳ to
-            → (x : Extended) → AtLowEnd lowest (IsWorth function knots) a low_in t x → x ≈ᵉ value_at (ahead line a) t
+        inside : (i : Rational) (to : Rational) (line : Affine) → IsLineOn (IsWorth shape knots) i to line → (t : Rational) → i <ʳ later t a → later t a <ʳ to
+            → (x : Extended) → AtLowEnd shape.lowest (IsWorth shape knots) a low_in t x → x ≈ᵉ value_at (ahead line a) t
         inside from to line on t m n x s = same_transᵉ x (value_at line (later t a)) (value_at (ahead line a) t)
-            (sup_of_one lowest (value_at line (later t a)) x (le_transᵉ lowest f.0 (value_at line (later t a)) (worth_least function lowest least knots (later t a) f.0 f.1) f.2.at_most)
+            (sup_of_one shape.lowest (value_at line (later t a)) x (le_transᵉ shape.lowest f.0 (value_at line (later t a)) (worth_least shape laws.lowest_is_least knots (later t a) f.0 f.1) f.2.at_most)
             (inr (record { b = to; below = n; line = line; on = λ u y z. on u (lt_trans m y) z; value = same_reflᵉ (value_at line (later t a)) })) only s)
             (same_symᵉ (value_at (ahead line a) t) (value_at line (later t a)) (ahead_is line a t))
           where
-            f : Follows (IsWorth function knots) line (later t a)
+            f : Follows (IsWorth shape knots) line (later t a)
             f = on (later t a) m n
 
-            only : (w : Extended) → (IsTrue low_in × IsWorth function knots (later t a) w) ⊎ IsRightLimit (IsWorth function knots) (later t a) w → w ≈ᵉ value_at line (later t a)
-            only w (inl h) = followed (IsWorth function knots) (one function knots signal) (later t a) w line f h.1
-            only w (inr l) = right_limit_on_line (IsWorth function knots) (one function knots signal) from to (later t a) w line (le_of_lt m) n on l
+            only : (w : Extended) → (IsTrue low_in × IsWorth shape knots (later t a) w) ⊎ IsRightLimit (IsWorth shape knots) (later t a) w → w ≈ᵉ value_at line (later t a)
+            only w (inl h) = followed (IsWorth shape knots) (one shape knots signal) (later t a) w line f h.1
+            only w (inr l) = right_limit_on_line (IsWorth shape knots) (one shape knots signal) from to (later t a) w line (le_of_lt m) n on l
 
-        by_place : ((v : Extended) × IsInside function knots (later tau a) v) ⊎ (stop knots <ʳ later tau a)
-            → (like : Affine) × IsLike tau (AtLowEnd lowest (IsWorth function knots) a low_in) like × ((line : Affine) → AreSame line like → Known tau line)
+        by_place : ((v : Extended) × IsInside shape knots (later tau a) v) ⊎ (stop knots <ʳ later tau a)
+            → (like : Affine) × IsLike tau (AtLowEnd shape.lowest (IsWorth shape knots) a low_in) like × ((line : Affine) → AreSame line like → Known tau line)
         by_place (inl (v, i)) =
             let r = earlier_end i.below (later_lt tau a b order) in (
               ahead i.line a,
-              near_both tau (λ t. i.from <ʳ later t a) (λ t. later t a <ʳ i.to) (λ t. (x : Extended) → AtLowEnd lowest (IsWorth function knots) a low_in t x → x ≈ᵉ value_at (ahead i.line a) t)
+              near_both tau (λ t. i.from <ʳ later t a) (λ t. later t a <ʳ i.to) (λ t. (x : Extended) → AtLowEnd shape.lowest (IsWorth shape knots) a low_in t x → x ≈ᵉ value_at (ahead i.line a) t)
                   (inside i.from i.to i.line i.on) (near_after tau i.from a i.above) (near_before tau i.to a i.below),
               λ line same. inl (part_in_play tau a v line (inl refl) i
                   (middle (later tau a) r.0, lt_trans i.above (left_of_middle r.1), lt_of_lt_of_le (right_of_middle r.1) r.2, left_of_middle r.1, lt_of_lt_of_le (right_of_middle r.1) r.3) same),
             )
         by_place (inr h) = (
-          level_of lowest,
-          near_map tau (λ t. stop knots <ʳ later t a) (λ t. (x : Extended) → AtLowEnd lowest (IsWorth function knots) a low_in t x → x ≈ᵉ value_at (level_of lowest) t)
-              (λ t m x s. same_transᵉ x lowest (value_at (level_of lowest) t) (sup_of_nothing lowest x (nothing t m) s) (same_symᵉ (value_at (level_of lowest) t) lowest (level_of_is lowest t)))
+          level_of shape.lowest,
+          near_map tau (λ t. stop knots <ʳ later t a) (λ t. (x : Extended) → AtLowEnd shape.lowest (IsWorth shape knots) a low_in t x → x ≈ᵉ value_at (level_of shape.lowest) t)
+              (λ t m x s. same_transᵉ x shape.lowest (value_at (level_of shape.lowest) t) (sup_of_nothing shape.lowest x (nothing t m) s) (same_symᵉ (value_at (level_of shape.lowest) t) shape.lowest (level_of_is shape.lowest t)))
               (near_after tau (stop knots) a h),
-          λ line same. inr (λ t. same_transᵉ (value_at line t) (value_at (level_of lowest) t) lowest (same t) (level_of_is lowest t)),
+          λ line same. inr (λ t. same_transᵉ (value_at line t) (value_at (level_of shape.lowest) t) shape.lowest (same t) (level_of_is shape.lowest t)),
         )
           where
-            nothing : (t : Rational) → stop knots <ʳ later t a → (v : Extended) → ¬ ((IsTrue low_in × IsWorth function knots (later t a) v) ⊎ IsRightLimit (IsWorth function knots) (later t a) v)
-            nothing t m v (inl w) = not_lt_of_le (worth_within function knots (later t a) v signal w.1).below m
-            nothing t m v (inr l) = not_lt_of_le (le_of_lt (limit_before_stop function knots signal (later t a) v l)) m
+            nothing : (t : Rational) → stop knots <ʳ later t a → (v : Extended) → ¬ ((IsTrue low_in × IsWorth shape knots (later t a) v) ⊎ IsRightLimit (IsWorth shape knots) (later t a) v)
+            nothing t m v (inl w) = not_lt_of_le (worth_within shape knots (later t a) v signal w.1).below m
+            nothing t m v (inr l) = not_lt_of_le (le_of_lt (limit_before_stop shape knots signal (later t a) v l)) m
 
     -- and at the high end
     high_end : (tau : Rational) (den : ℕ) → start knots <ʳ tau → HasDenominator tau den → 2 ^ 60 ≤ den
-        → (like : Affine) × IsLike tau (AtHighEnd lowest (IsWorth function knots) b high_in) like × ((line : Affine) → AreSame line like → Known tau line)
+        → (like : Affine) × IsLike tau (AtHighEnd shape.lowest (IsWorth shape knots) b high_in) like × ((line : Affine) → AreSame line like → Known tau line)
     high_end tau den after has wide = by_place (end_place tau den b after has wide)
       where
-        inside : (from to : Rational) (line : Affine) → IsLineOn (IsWorth function knots) from to line → (t : Rational) → from <ʳ later t b → later t b <ʳ to
-            → (x : Extended) → AtHighEnd lowest (IsWorth function knots) b high_in t x → x ≈ᵉ value_at (ahead line b) t
+        inside : (from to : Rational) (line : Affine) → IsLineOn (IsWorth shape knots) from to line → (t : Rational) → from <ʳ later t b → later t b <ʳ to
+            → (x : Extended) → AtHighEnd shape.lowest (IsWorth shape knots) b high_in t x → x ≈ᵉ value_at (ahead line b) t
         inside from to line on t m n x s = same_transᵉ x (value_at line (later t b)) (value_at (ahead line b) t)
-            (sup_of_one lowest (value_at line (later t b)) x (le_transᵉ lowest f.0 (value_at line (later t b)) (worth_least function lowest least knots (later t b) f.0 f.1) f.2.at_most)
+            (sup_of_one shape.lowest (value_at line (later t b)) x (le_transᵉ shape.lowest f.0 (value_at line (later t b)) (worth_least shape laws.lowest_is_least knots (later t b) f.0 f.1) f.2.at_most)
             (inr (record { a = from; above = m; line = line; on = λ u y z. on u y (lt_trans z n); value = same_reflᵉ (value_at line (later t b)) })) only s)
             (same_symᵉ (value_at (ahead line b) t) (value_at line (later t b)) (ahead_is line b t))
           where
-            f : Follows (IsWorth function knots) line (later t b)
+            f : Follows (IsWorth shape knots) line (later t b)
             f = on (later t b) m n
 
-            only : (w : Extended) → (IsTrue high_in × IsWorth function knots (later t b) w) ⊎ IsLeftLimit (IsWorth function knots) (later t b) w → w ≈ᵉ value_at line (later t b)
-            only w (inl h) = followed (IsWorth function knots) (one function knots signal) (later t b) w line f h.1
-            only w (inr l) = left_limit_on_line (IsWorth function knots) (one function knots signal) from to (later t b) w line m (le_of_lt n) on l
+            only : (w : Extended) → (IsTrue high_in × IsWorth shape knots (later t b) w) ⊎ IsLeftLimit (IsWorth shape knots) (later t b) w → w ≈ᵉ value_at line (later t b)
+            only w (inl h) = followed (IsWorth shape knots) (one shape knots signal) (later t b) w line f h.1
+            only w (inr l) = left_limit_on_line (IsWorth shape knots) (one shape knots signal) from to (later t b) w line m (le_of_lt n) on l
 
-        by_place : ((v : Extended) × IsInside function knots (later tau b) v) ⊎ (stop knots <ʳ later tau b)
-            → (like : Affine) × IsLike tau (AtHighEnd lowest (IsWorth function knots) b high_in) like × ((line : Affine) → AreSame line like → Known tau line)
+        by_place : ((v : Extended) × IsInside shape knots (later tau b) v) ⊎ (stop knots <ʳ later tau b)
+            → (like : Affine) × IsLike tau (AtHighEnd shape.lowest (IsWorth shape knots) b high_in) like × ((line : Affine) → AreSame line like → Known tau line)
         by_place (inl (v, i)) =
             let l = later_end i.above (later_lt tau a b order) in (
               ahead i.line b,
-              near_both tau (λ t. i.from <ʳ later t b) (λ t. later t b <ʳ i.to) (λ t. (x : Extended) → AtHighEnd lowest (IsWorth function knots) b high_in t x → x ≈ᵉ value_at (ahead i.line b) t)
+              near_both tau (λ t. i.from <ʳ later t b) (λ t. later t b <ʳ i.to) (λ t. (x : Extended) → AtHighEnd shape.lowest (IsWorth shape knots) b high_in t x → x ≈ᵉ value_at (ahead i.line b) t)
                   (inside i.from i.to i.line i.on) (near_after tau i.from b i.above) (near_before tau i.to b i.below),
               λ line same. inl (part_in_play tau b v line (inr refl) i
                   (middle l.0 (later tau b), lt_of_le_of_lt l.2 (left_of_middle l.1), lt_trans (right_of_middle l.1) i.below, lt_of_le_of_lt l.3 (left_of_middle l.1), right_of_middle l.1) same),
             )
         by_place (inr h) = (
-          level_of lowest,
-          near_map tau (λ t. stop knots <ʳ later t b) (λ t. (x : Extended) → AtHighEnd lowest (IsWorth function knots) b high_in t x → x ≈ᵉ value_at (level_of lowest) t)
-              (λ t m x s. same_transᵉ x lowest (value_at (level_of lowest) t) (sup_of_nothing lowest x (nothing t m) s) (same_symᵉ (value_at (level_of lowest) t) lowest (level_of_is lowest t)))
+          level_of shape.lowest,
+          near_map tau (λ t. stop knots <ʳ later t b) (λ t. (x : Extended) → AtHighEnd shape.lowest (IsWorth shape knots) b high_in t x → x ≈ᵉ value_at (level_of shape.lowest) t)
+              (λ t m x s. same_transᵉ x shape.lowest (value_at (level_of shape.lowest) t) (sup_of_nothing shape.lowest x (nothing t m) s) (same_symᵉ (value_at (level_of shape.lowest) t) shape.lowest (level_of_is shape.lowest t)))
               (near_after tau (stop knots) b h),
-          λ line same. inr (λ t. same_transᵉ (value_at line t) (value_at (level_of lowest) t) lowest (same t) (level_of_is lowest t)),
+          λ line same. inr (λ t. same_transᵉ (value_at line t) (value_at (level_of shape.lowest) t) shape.lowest (same t) (level_of_is shape.lowest t)),
         )
           where
-            nothing : (t : Rational) → stop knots <ʳ later t b → (v : Extended) → ¬ ((IsTrue high_in × IsWorth function knots (later t b) v) ⊎ IsLeftLimit (IsWorth function knots) (later t b) v)
-            nothing t m v (inl w) = not_lt_of_le (worth_within function knots (later t b) v signal w.1).below m
-            nothing t m v (inr l) = no_limit_beyond function knots signal (later t b) v m l
+            nothing : (t : Rational) → stop knots <ʳ later t b → (v : Extended) → ¬ ((IsTrue high_in × IsWorth shape knots (later t b) v) ⊎ IsLeftLimit (IsWorth shape knots) (later t b) v)
+            nothing t m v (inl w) = not_lt_of_le (worth_within shape knots (later t b) v signal w.1).below m
+            nothing t m v (inr l) = no_limit_beyond shape knots signal (later t b) v m l
 
     -- a crossing of two functions that are known is in play
-    crossing_in_play : (p q : P) (from to at : Rational) (den : ℕ) → start knots ≤ʳ from → to ≤ʳ stop knots → MeetAlone (function p) (function q) from to at → HasDenominator at den → 2 ^ 60 ≤ den
-        → Known at (function p) → Known at (function q)
-        → IsWideCrossing (IsInPlay (window_ahead (IsWorth function knots) a b low_in high_in) (start knots) (stop knots)) (start knots) (stop knots) (function p) (function q) from to den
+    crossing_in_play : (p q : P) (from to at : Rational) (den : ℕ) → start knots ≤ʳ from → to ≤ʳ stop knots → MeetAlone (shape.function p) (shape.function q) from to at → HasDenominator at den → 2 ^ 60 ≤ den
+        → Known at (shape.function p) → Known at (shape.function q)
+        → IsWideCrossing (IsInPlay (window_ahead (IsWorth shape knots) a b low_in high_in) (start knots) (stop knots)) (start knots) (stop knots) (shape.function p) (shape.function q) from to den
     crossing_in_play p q from to at den first last m has wide (inl h) (inl k) = record {
       tau = at;
       after_start = lt_of_le_of_lt first m.after;
@@ -400,47 +401,47 @@ module _ {P : Type 0} (function : P → Affine) (knots : List (Knot P)) (a b : �
       denominator = has;
       wide = wide;
     }
-    crossing_in_play p q from to at den first last m has wide (inr h) k = absurd (never_alone lowest (function p) (function q) from to at h (least q) m.after m.before m.meet m.alone)
-    crossing_in_play p q from to at den first last m has wide (inl h) (inr k) = absurd (never_alone lowest (function q) (function p) from to at k (least p) m.after m.before
-        (same_symᵉ (value_at (function p) at) (value_at (function q) at) m.meet) (λ u e. m.alone u (same_symᵉ (value_at (function q) u) (value_at (function p) u) e)))
+    crossing_in_play p q from to at den first last m has wide (inr h) k = absurd (never_alone shape.lowest (shape.function p) (shape.function q) from to at h (laws.lowest_is_least q) m.after m.before m.meet m.alone)
+    crossing_in_play p q from to at den first last m has wide (inl h) (inr k) = absurd (never_alone shape.lowest (shape.function q) (shape.function p) from to at k (laws.lowest_is_least p) m.after m.before
+        (same_symᵉ (value_at (shape.function p) at) (value_at (shape.function q) at) m.meet) (λ u e. m.alone u (same_symᵉ (value_at (shape.function q) u) (value_at (shape.function p) u) e)))
 
     -- what the values at the knots strictly inside are near tau
-    among_known : (among : List (Knot P)) → Tells function (AmongKnots function lowest knots a b) (start knots) (stop knots) among
-        → ((t : Rational) (v : Extended) → IsWorth function among t v → IsLeastOrAmong function lowest knots a b t v)
+    among_known : (among : List (Knot P)) → Tells shape (AmongKnots shape shape.lowest knots a b) (start knots) (stop knots) among
+        → ((t : Rational) (v : Extended) → IsWorth shape among t v → IsLeastOrAmong shape shape.lowest knots a b t v)
         → (q : P) (from to tau : Rational) (den : ℕ) → from <ʳ tau → tau <ʳ to → HasDenominator tau den → 2 ^ 60 ≤ den
-        → ((t : Rational) → from <ʳ t → t <ʳ to → IsWorth function among t (value_at (function q) t)) → Known tau (function q)
-    among_known among tells reached q from to tau den above below has wide on = by_kind (value_at (function q) tau) (reached tau (value_at (function q) tau) (on tau above below))
-        (like_same (AmongKnots function lowest knots a b) tau from to (function q) (level_of (value_at (function q) tau)) above below (λ t x y. told t (on t x y)) stays)
+        → ((t : Rational) → from <ʳ t → t <ʳ to → IsWorth shape among t (value_at (shape.function q) t)) → Known tau (shape.function q)
+    among_known among tells reached q from to tau den above below has wide on = by_kind (value_at (shape.function q) tau) (reached tau (value_at (shape.function q) tau) (on tau above below))
+        (like_same (AmongKnots shape shape.lowest knots a b) tau from to (shape.function q) (level_of (value_at (shape.function q) tau)) above below (λ t x y. told t (on t x y)) stays)
       where
-        told : (t : Rational) → IsWorth function among t (value_at (function q) t) → AmongKnots function lowest knots a b t (value_at (function q) t)
-        told t w = ((tells.worth t (value_at (function q) t)).0 w).1
+        told : (t : Rational) → IsWorth shape among t (value_at (shape.function q) t) → AmongKnots shape shape.lowest knots a b t (value_at (shape.function q) t)
+        told t w = ((tells.worth t (value_at (shape.function q) t)).0 w).1
 
         -- the knots inside are the same
-        stays : IsLike tau (AmongKnots function lowest knots a b) (level_of (value_at (function q) tau))
+        stays : IsLike tau (AmongKnots shape shape.lowest knots a b) (level_of (value_at (shape.function q) tau))
         stays = near_both tau (λ t. (u : Rational) → IsKnotTime knots u → IsOnOneSide a tau t u) (λ t. (u : Rational) → IsKnotTime knots u → IsOnOneSide b tau t u)
-            (λ t. (x : Extended) → AmongKnots function lowest knots a b t x → x ≈ᵉ value_at (level_of (value_at (function q) tau)) t) alike
+            (λ t. (x : Extended) → AmongKnots shape shape.lowest knots a b t x → x ≈ᵉ value_at (level_of (value_at (shape.function q) tau)) t) alike
             (one_side knots tau a (no_knot tau den a has wide)) (one_side knots tau b (no_knot tau den b has wide))
           where
             alike : (t : Rational) → ((u : Rational) → IsKnotTime knots u → IsOnOneSide a tau t u) → ((u : Rational) → IsKnotTime knots u → IsOnOneSide b tau t u)
-                → (x : Extended) → AmongKnots function lowest knots a b t x → x ≈ᵉ value_at (level_of (value_at (function q) tau)) t
+                → (x : Extended) → AmongKnots shape shape.lowest knots a b t x → x ≈ᵉ value_at (level_of (value_at (shape.function q) tau)) t
             alike t low high x s =
-                let v = value_at (function q) tau in
-                let at_tau : AmongKnots function lowest knots a b tau x = sup_same (λ w (u, knot, h, k, about). (u, knot, (low u knot).before_back h, (high u knot).after_back k, about))
+                let v = value_at (shape.function q) tau in
+                let at_tau : AmongKnots shape shape.lowest knots a b tau x = sup_same (λ w (u, knot, h, k, about). (u, knot, (low u knot).before_back h, (high u knot).after_back k, about))
                 (λ w (u, knot, h, k, about). (u, knot, (low u knot).before h, (high u knot).after k, about)) s in
                 let here = told tau (on tau above below) in
-                same_transᵉ x v (value_at (level_of v) t) (record { at_most = Sup-unique lowest x v at_tau here; at_least = Sup-unique lowest v x here at_tau })
+                same_transᵉ x v (value_at (level_of v) t) (record { at_most = Sup-unique shape.lowest x v at_tau here; at_least = Sup-unique shape.lowest v x here at_tau })
                 (same_symᵉ (value_at (level_of v) t) v (level_of_is v t))
 
-        by_kind : (v : Extended) → IsLeastOrAmong function lowest knots a b tau v → AreSame (function q) (level_of v) → Known tau (function q)
-        by_kind v (inl e) same = inr (λ t. same_transᵉ (value_at (function q) t) v lowest (same_transᵉ (value_at (function q) t) (value_at (level_of v) t) v (same t) (level_of_is v t)) e)
-        by_kind v (inr (u, knot, h, k, about)) same = inl (constant_in_play tau u v (function q) knot h k about
-            (λ t. same_symᵉ (value_at (function q) t) v (same_transᵉ (value_at (function q) t) (value_at (level_of v) t) v (same t) (level_of_is v t))))
+        by_kind : (v : Extended) → IsLeastOrAmong shape shape.lowest knots a b tau v → AreSame (shape.function q) (level_of v) → Known tau (shape.function q)
+        by_kind v (inl e) same = inr (λ t. same_transᵉ (value_at (shape.function q) t) v shape.lowest (same_transᵉ (value_at (shape.function q) t) (value_at (level_of v) t) v (same t) (level_of_is v t)) e)
+        by_kind v (inr (u, knot, h, k, about)) same = inl (constant_in_play tau u v (shape.function q) knot h k about
+            (λ t. same_symᵉ (value_at (shape.function q) t) v (same_transᵉ (value_at (shape.function q) t) (value_at (level_of v) t) v (same t) (level_of_is v t))))
 
-    module _ (low high : List (Knot P)) (tells_low : Tells function (AtLowEnd lowest (IsWorth function knots) a low_in) (start knots) (stop knots) low)
-        (tells_high : Tells function (AtHighEnd lowest (IsWorth function knots) b high_in) (start knots) (stop knots) high) where
+    module _ (low high : List (Knot P)) (tells_low : Tells shape (AtLowEnd shape.lowest (IsWorth shape knots) a low_in) (start knots) (stop knots) low)
+        (tells_high : Tells shape (AtHighEnd shape.lowest (IsWorth shape knots) b high_in) (start knots) (stop knots) high) where
       -- a refused crossing of the parts at the two ends
-      pub ends_in_play : (e : OpFault P) → IsFault function (IsWorth function low) (IsWorth function high) (start low) (stop low) e
-          → HasCause function (window_ahead (IsWorth function knots) a b low_in high_in) (start knots) (stop knots) e
+      pub ends_in_play : (e : OpFault P) → IsFault shape (IsWorth shape low) (IsWorth shape high) (start low) (stop low) e
+          → HasCause shape (window_ahead (IsWorth shape knots) a b low_in high_in) (start knots) (stop knots) e
       ends_in_play F.Memory h = tt
       ends_in_play (F.Wide (Value p at den)) h = absurd h
       ends_in_play (F.Wide (Cross p q from to den)) h =
@@ -450,43 +451,43 @@ module _ {P : Type 0} (function : P → Affine) (knots : List (Knot P)) (a b : �
           let l = low_end h.at den after h.denominator h.wide in
           let r = high_end h.at den after h.denominator h.wide in
           crossing_in_play p q (value from) (value to) h.at den first last h.meet h.denominator h.wide
-          (l.2 (function p) (like_same (AtLowEnd lowest (IsWorth function knots) a low_in) h.at (value from) (value to) (function p) l.0 h.meet.after h.meet.before
-          (λ t x y. ((tells_low.worth t (value_at (function p) t)).0 (h.left t x y)).1) l.1))
-          (r.2 (function q) (like_same (AtHighEnd lowest (IsWorth function knots) b high_in) h.at (value from) (value to) (function q) r.0 h.meet.after h.meet.before
-          (λ t x y. ((tells_high.worth t (value_at (function q) t)).0 (h.right t x y)).1) r.1))
+          (l.2 (shape.function p) (like_same (AtLowEnd shape.lowest (IsWorth shape knots) a low_in) h.at (value from) (value to) (shape.function p) l.0 h.meet.after h.meet.before
+          (λ t x y. ((tells_low.worth t (value_at (shape.function p) t)).0 (h.left t x y)).1) l.1))
+          (r.2 (shape.function q) (like_same (AtHighEnd shape.lowest (IsWorth shape knots) b high_in) h.at (value from) (value to) (shape.function q) r.0 h.meet.after h.meet.before
+          (λ t x y. ((tells_high.worth t (value_at (shape.function q) t)).0 (h.right t x y)).1) r.1))
 
       -- what the greatest of the two is near tau
-      both_known : (both : List (Knot P)) → Tells function (GreatestOf (IsWorth function low) (IsWorth function high)) (start low) (stop low) both
+      both_known : (both : List (Knot P)) → Tells shape (GreatestOf (IsWorth shape low) (IsWorth shape high)) (start low) (stop low) both
           → (p : P) (from to tau : Rational) (den : ℕ) → start knots ≤ʳ from → from <ʳ tau → tau <ʳ to → HasDenominator tau den → 2 ^ 60 ≤ den
-          → ((t : Rational) → from <ʳ t → t <ʳ to → IsWorth function both t (value_at (function p) t)) → Known tau (function p)
+          → ((t : Rational) → from <ʳ t → t <ʳ to → IsWorth shape both t (value_at (shape.function p) t)) → Known tau (shape.function p)
       both_known both tells p from to tau den first above below has wide on =
           let after = lt_of_le_of_lt first above in
           let l = low_end tau den after has wide in
           let r = high_end tau den after has wide in
-          let n = near_both tau (λ t. (x : Extended) → AtLowEnd lowest (IsWorth function knots) a low_in t x → x ≈ᵉ value_at l.0 t) (λ t. (x : Extended) → AtHighEnd lowest (IsWorth function knots) b high_in t x → x ≈ᵉ value_at r.0 t)
-          (λ t. from <ʳ t → t <ʳ to → (value_at (function p) t ≈ᵉ value_at l.0 t) ⊎ (value_at (function p) t ≈ᵉ value_at r.0 t))
-          (λ t like like' x y. one_of_ends t (value_at l.0 t) (value_at r.0 t) like like' ((tells.worth t (value_at (function p) t)).0 (on t x y)).1) l.1 r.1 in
+          let n = near_both tau (λ t. (x : Extended) → AtLowEnd shape.lowest (IsWorth shape knots) a low_in t x → x ≈ᵉ value_at l.0 t) (λ t. (x : Extended) → AtHighEnd shape.lowest (IsWorth shape knots) b high_in t x → x ≈ᵉ value_at r.0 t)
+          (λ t. from <ʳ t → t <ʳ to → (value_at (shape.function p) t ≈ᵉ value_at l.0 t) ⊎ (value_at (shape.function p) t ≈ᵉ value_at r.0 t))
+          (λ t like like' x y. one_of_ends t (value_at l.0 t) (value_at r.0 t) like like' ((tells.worth t (value_at (shape.function p) t)).0 (on t x y)).1) l.1 r.1 in
           let low_side = later_end n.above above in
           let high_side = earlier_end n.below below in
-          elim (one_of_two (function p) l.0 r.0 low_side.0 high_side.0 (lt_trans low_side.1 high_side.1)
+          elim (one_of_two (shape.function p) l.0 r.0 low_side.0 high_side.0 (lt_trans low_side.1 high_side.1)
           (λ t x y. n.holds t (lt_of_le_of_lt low_side.2 x) (lt_of_lt_of_le y high_side.2) (lt_of_le_of_lt low_side.3 x) (lt_of_lt_of_le y high_side.3))) [
-            | inl same ↦ l.2 (function p) same
-            | inr same ↦ r.2 (function p) same
+            | inl same ↦ l.2 (shape.function p) same
+            | inr same ↦ r.2 (shape.function p) same
           ]
         where
-          one_of_ends : (t : Rational) (x y : Extended) → ((v : Extended) → AtLowEnd lowest (IsWorth function knots) a low_in t v → v ≈ᵉ x) → ((v : Extended) → AtHighEnd lowest (IsWorth function knots) b high_in t v → v ≈ᵉ y)
-              → GreatestOf (IsWorth function low) (IsWorth function high) t (value_at (function p) t) → (value_at (function p) t ≈ᵉ x) ⊎ (value_at (function p) t ≈ᵉ y)
-          one_of_ends t x y like like' (v, w, h, k, g) = elim (one_is_greatest v w (value_at (function p) t) g) [
-            | inl e ↦ inl (same_transᵉ (value_at (function p) t) v x e (like v ((tells_low.worth t v).0 h).1))
-            | inr e ↦ inr (same_transᵉ (value_at (function p) t) w y e (like' w ((tells_high.worth t w).0 k).1))
+          one_of_ends : (t : Rational) (x y : Extended) → ((v : Extended) → AtLowEnd shape.lowest (IsWorth shape knots) a low_in t v → v ≈ᵉ x) → ((v : Extended) → AtHighEnd shape.lowest (IsWorth shape knots) b high_in t v → v ≈ᵉ y)
+              → GreatestOf (IsWorth shape low) (IsWorth shape high) t (value_at (shape.function p) t) → (value_at (shape.function p) t ≈ᵉ x) ⊎ (value_at (shape.function p) t ≈ᵉ y)
+          one_of_ends t x y like like' (v, w, h, k, g) = elim (one_is_greatest v w (value_at (shape.function p) t) g) [
+            | inl e ↦ inl (same_transᵉ (value_at (shape.function p) t) v x e (like v ((tells_low.worth t v).0 h).1))
+            | inr e ↦ inr (same_transᵉ (value_at (shape.function p) t) w y e (like' w ((tells_high.worth t w).0 k).1))
           ]
 
       -- a refused crossing of that greatest and of the values at the knots
-      pub all_in_play : (both among : List (Knot P)) → Tells function (GreatestOf (IsWorth function low) (IsWorth function high)) (start low) (stop low) both
-          → Tells function (AmongKnots function lowest knots a b) (start knots) (stop knots) among
-          → ((t : Rational) (v : Extended) → IsWorth function among t v → IsLeastOrAmong function lowest knots a b t v)
-          → (e : OpFault P) → IsFault function (IsWorth function both) (IsWorth function among) (start both) (stop both) e
-          → HasCause function (window_ahead (IsWorth function knots) a b low_in high_in) (start knots) (stop knots) e
+      pub all_in_play : (both among : List (Knot P)) → Tells shape (GreatestOf (IsWorth shape low) (IsWorth shape high)) (start low) (stop low) both
+          → Tells shape (AmongKnots shape shape.lowest knots a b) (start knots) (stop knots) among
+          → ((t : Rational) (v : Extended) → IsWorth shape among t v → IsLeastOrAmong shape shape.lowest knots a b t v)
+          → (e : OpFault P) → IsFault shape (IsWorth shape both) (IsWorth shape among) (start both) (stop both) e
+          → HasCause shape (window_ahead (IsWorth shape knots) a b low_in high_in) (start knots) (stop knots) e
       all_in_play both among tells_both tells_among reached F.Memory h = tt
       all_in_play both among tells_both tells_among reached (F.Wide (Value p at den)) h = absurd h
       all_in_play both among tells_both tells_among reached (F.Wide (Cross p q from to den)) h =

@@ -16,6 +16,7 @@ use Rattle.rational.proofs.Lines.{at_constant}
 use Rattle.rational.proofs.AffineLemmas.{same_reflᵉ, same_symᵉ, same_transᵉ, finite_same, value_same}
 use Rattle.rational.proofs.LimitLemmas.{earlier_end, later_end}
 use Rattle.value_laws.proofs.LawProofs.{meet_once}
+use Rattle.value_laws.specs.Members.{ShapeOf}
 use Rattle.pl_signal.specs.declared.knot.Knot.{Knot}
 use Rattle.pl_signal.specs.Knots.{time, Each, IsKnot, IsSignal, IsWorth, CanBeLeftOut}
 use Rattle.pl_signal.specs.Knots as K
@@ -126,7 +127,7 @@ knot_time_same [] e h = absurd h
 knot_time_same (k ∷ ks) e (inl h) = inl (same_trans e h)
 knot_time_same (k ∷ ks) e (inr h) = inr (knot_time_same ks e h)
 
-module _ {P : Type 0} (function : P → Affine) where
+module _ {P : Type 0} (shape : ShapeOf P) where
   -- the times of knots, by their places
   pub knot_at : (ks : List (Knot P)) (u : Rational) → IsKnotTime ks u → (i : ℕ) × (k : Knot P) × (slice_get ks i ≡ Some k) × (u ≈ time k)
   knot_at [] u h = absurd h
@@ -144,16 +145,16 @@ module _ {P : Type 0} (function : P → Affine) where
   stop_is_knot (k ∷ n ∷ ks) some = inr (stop_is_knot (n ∷ ks) (omega arith))
 
   -- no value lies below the least one
-  pub worth_least : (lowest : Extended) → ((p : P) (t : Rational) → lowest ≤ᵉ value_at (function p) t) → (ks : List (Knot P)) (t : Rational) (v : Extended) → IsWorth function ks t v → lowest ≤ᵉ v
-  worth_least lowest least [] t v w = absurd w
-  worth_least lowest least (k ∷ ks) t v (inl w) = le_transᵉ lowest (value_at (function k.point) t) v (least k.point t) w.worth.at_least
-  worth_least lowest least (k ∷ []) t v (inr (inl w)) = absurd w
-  worth_least lowest least (k ∷ n ∷ ks) t v (inr (inl w)) = le_transᵉ lowest (value_at (function k.after) t) v (least k.after t) w.worth.at_least
-  worth_least lowest least (k ∷ ks) t v (inr (inr w)) = worth_least lowest least ks t v w
+  pub worth_least : ((p : P) (t : Rational) → shape.lowest ≤ᵉ value_at (shape.function p) t) → (ks : List (Knot P)) (t : Rational) (v : Extended) → IsWorth shape ks t v → shape.lowest ≤ᵉ v
+  worth_least least [] t v w = absurd w
+  worth_least least (k ∷ ks) t v (inl w) = le_transᵉ shape.lowest (value_at (shape.function k.point) t) v (least k.point t) w.worth.at_least
+  worth_least least (k ∷ []) t v (inr (inl w)) = absurd w
+  worth_least least (k ∷ n ∷ ks) t v (inr (inl w)) = le_transᵉ shape.lowest (value_at (shape.function k.after) t) v (least k.after t) w.worth.at_least
+  worth_least least (k ∷ ks) t v (inr (inr w)) = worth_least least ks t v w
 
   -- a value or a limit by another pair
-  pub about_same : (ks : List (Knot P)) (u : Rational) (v w : Extended) → v ≈ᵉ w → IsAbout function ks u v → IsAbout function ks u w
-  about_same ks u v w e (inl h) = inl (worth_same function ks v w (same_refl u) e h)
+  pub about_same : (ks : List (Knot P)) (u : Rational) (v w : Extended) → v ≈ᵉ w → IsAbout shape ks u v → IsAbout shape ks u w
+  about_same ks u v w e (inl h) = inl (worth_same shape ks v w (same_refl u) e h)
   about_same ks u v w e (inr (inl h)) = inr (inl (record { a = h.a; above = h.above; line = h.line; on = h.on; value = same_transᵉ w v (value_at h.line u) (same_symᵉ v w e) h.value }))
   about_same ks u v w e (inr (inr h)) = inr (inr (record { b = h.b; below = h.below; line = h.line; on = h.on; value = same_transᵉ w v (value_at h.line u) (same_symᵉ v w e) h.value }))
 
@@ -161,67 +162,67 @@ module _ {P : Type 0} (function : P → Affine) where
   first_time [] k u h e = absurd (cc)
   first_time (l ∷ ks) k u h e = let s : l ≡ k = cc in subst (λ l. u ≈ time l) (sym s) e
 
-  module _ (ks : List (Knot P)) (signal : IsSignal function ks) where
-    pub one : (t : Rational) (v w : Extended) → IsWorth function ks t v → IsWorth function ks t w → v ≈ᵉ w
-    one t v w a b = one_value function ks t v w signal a b
+  module _ (ks : List (Knot P)) (signal : IsSignal shape ks) where
+    pub one : (t : Rational) (v w : Extended) → IsWorth shape ks t v → IsWorth shape ks t w → v ≈ᵉ w
+    one t v w a b = one_value shape ks t v w signal a b
 
     -- limits come from within the domain
-    pub limit_after_start : (u : Rational) (v : Extended) → IsLeftLimit (IsWorth function ks) u v → K.start ks <ʳ u
+    pub limit_after_start : (u : Rational) (v : Extended) → IsLeftLimit (IsWorth shape ks) u v → K.start ks <ʳ u
     limit_after_start u v l = let w = l.on (middle l.a u) (left_of_middle l.above) (right_of_middle l.above) in
-        lt_of_le_of_lt (worth_within function ks (middle l.a u) w.0 signal w.1).above (right_of_middle l.above)
+        lt_of_le_of_lt (worth_within shape ks (middle l.a u) w.0 signal w.1).above (right_of_middle l.above)
 
-    pub limit_before_stop : (u : Rational) (v : Extended) → IsRightLimit (IsWorth function ks) u v → u <ʳ K.stop ks
+    pub limit_before_stop : (u : Rational) (v : Extended) → IsRightLimit (IsWorth shape ks) u v → u <ʳ K.stop ks
     limit_before_stop u v l = let w = l.on (middle u l.b) (left_of_middle l.below) (right_of_middle l.below) in
-        lt_of_lt_of_le (left_of_middle l.below) (worth_within function ks (middle u l.b) w.0 signal w.1).below
+        lt_of_lt_of_le (left_of_middle l.below) (worth_within shape ks (middle u l.b) w.0 signal w.1).below
 
     -- beyond the last knot there is no limit
-    pub no_limit_beyond : (u : Rational) (v : Extended) → K.stop ks <ʳ u → ¬ IsLeftLimit (IsWorth function ks) u v
+    pub no_limit_beyond : (u : Rational) (v : Extended) → K.stop ks <ʳ u → ¬ IsLeftLimit (IsWorth shape ks) u v
     no_limit_beyond u v h l =
         let m = later_end l.above h in
         let w = l.on (middle m.0 u) (lt_of_le_of_lt m.2 (left_of_middle m.1)) (right_of_middle m.1) in
-        not_lt_of_le (worth_within function ks (middle m.0 u) w.0 signal w.1).below (lt_of_le_of_lt m.3 (left_of_middle m.1))
+        not_lt_of_le (worth_within shape ks (middle m.0 u) w.0 signal w.1).below (lt_of_le_of_lt m.3 (left_of_middle m.1))
 
     -- the value and the limits at a knot
-    pub value_at_knot : (i : ℕ) (k : Knot P) (u : Rational) (v : Extended) → slice_get ks i ≡ Some k → u ≈ time k → IsWorth function ks u v → v ≈ᵉ value_at (function k.point) u
-    value_at_knot i k u v h e w = one u v (value_at (function k.point) u) w (worth_at function ks i k u h e)
+    pub value_at_knot : (i : ℕ) (k : Knot P) (u : Rational) (v : Extended) → slice_get ks i ≡ Some k → u ≈ time k → IsWorth shape ks u v → v ≈ᵉ value_at (shape.function k.point) u
+    value_at_knot i k u v h e w = one u v (value_at (shape.function k.point) u) w (worth_at shape ks i k u h e)
 
     pub left_limit_is : (i : ℕ) (k n : Knot P) (u : Rational) (v : Extended) → slice_get ks i ≡ Some k → slice_get ks (i + 1) ≡ Some n → u ≈ time n
-        → IsLeftLimit (IsWorth function ks) u v → v ≈ᵉ value_at (function k.after) u
-    left_limit_is i k n u v h j e l = left_limit_on_line (IsWorth function ks) one (time k) (time n) u v (function k.after)
-        (lt_of_lt_of_le (next_rises function ks i k n signal.each h j) (ge_of_same e)) (le_of_same e) (gap_line function ks i k n h j) l
+        → IsLeftLimit (IsWorth shape ks) u v → v ≈ᵉ value_at (shape.function k.after) u
+    left_limit_is i k n u v h j e l = left_limit_on_line (IsWorth shape ks) one (time k) (time n) u v (shape.function k.after)
+        (lt_of_lt_of_le (next_rises shape ks i k n signal.each h j) (ge_of_same e)) (le_of_same e) (gap_line shape ks i k n h j) l
 
     pub left_limit_at : (i : ℕ) (k n : Knot P) (u : Rational) → slice_get ks i ≡ Some k → slice_get ks (i + 1) ≡ Some n → u ≈ time n
-        → IsLeftLimit (IsWorth function ks) u (value_at (function k.after) u)
+        → IsLeftLimit (IsWorth shape ks) u (value_at (shape.function k.after) u)
     left_limit_at i k n u h j e = record {
       a = time k;
-      above = lt_of_lt_of_le (next_rises function ks i k n signal.each h j) (ge_of_same e);
-      line = function k.after;
-      on = λ t x y. gap_line function ks i k n h j t x (lt_of_lt_of_le y (le_of_same e));
-      value = same_reflᵉ (value_at (function k.after) u);
+      above = lt_of_lt_of_le (next_rises shape ks i k n signal.each h j) (ge_of_same e);
+      line = shape.function k.after;
+      on = λ t x y. gap_line shape ks i k n h j t x (lt_of_lt_of_le y (le_of_same e));
+      value = same_reflᵉ (value_at (shape.function k.after) u);
     }
 
     pub right_limit_is : (i : ℕ) (k n : Knot P) (u : Rational) (v : Extended) → slice_get ks i ≡ Some k → slice_get ks (i + 1) ≡ Some n → u ≈ time k
-        → IsRightLimit (IsWorth function ks) u v → v ≈ᵉ value_at (function k.after) u
-    right_limit_is i k n u v h j e l = right_limit_on_line (IsWorth function ks) one (time k) (time n) u v (function k.after)
-        (ge_of_same e) (lt_of_le_of_lt (le_of_same e) (next_rises function ks i k n signal.each h j)) (gap_line function ks i k n h j) l
+        → IsRightLimit (IsWorth shape ks) u v → v ≈ᵉ value_at (shape.function k.after) u
+    right_limit_is i k n u v h j e l = right_limit_on_line (IsWorth shape ks) one (time k) (time n) u v (shape.function k.after)
+        (ge_of_same e) (lt_of_le_of_lt (le_of_same e) (next_rises shape ks i k n signal.each h j)) (gap_line shape ks i k n h j) l
 
     pub right_limit_at : (i : ℕ) (k n : Knot P) (u : Rational) → slice_get ks i ≡ Some k → slice_get ks (i + 1) ≡ Some n → u ≈ time k
-        → IsRightLimit (IsWorth function ks) u (value_at (function k.after) u)
+        → IsRightLimit (IsWorth shape ks) u (value_at (shape.function k.after) u)
     right_limit_at i k n u h j e = record {
       b = time n;
-      below = lt_of_le_of_lt (le_of_same e) (next_rises function ks i k n signal.each h j);
-      line = function k.after;
-      on = λ t x y. gap_line function ks i k n h j t (lt_of_le_of_lt (ge_of_same e) x) y;
-      value = same_reflᵉ (value_at (function k.after) u);
+      below = lt_of_le_of_lt (le_of_same e) (next_rises shape ks i k n signal.each h j);
+      line = shape.function k.after;
+      on = λ t x y. gap_line shape ks i k n h j t (lt_of_le_of_lt (ge_of_same e) x) y;
+      value = same_reflᵉ (value_at (shape.function k.after) u);
     }
 
     -- a knot is a breakpoint
     not_affine : (i : ℕ) (k n m : Knot P) (u : Rational) → slice_get ks i ≡ Some k → slice_get ks (i + 1) ≡ Some n → slice_get ks (i + 2) ≡ Some m → u ≈ time n
-        → (line : Affine) → ¬ IsPart (IsWorth function ks) u line
-    not_affine i k n m u h j l e line part = needed_at function ks i k n m signal.each h (subst (λ p. slice_get ks p ≡ Some n) one_more j) (subst (λ p. slice_get ks p ≡ Some m) two_more l) (record {
-      here = same_transᵉ (value_at (function k.after) (time n)) (value_at (function k.after) u) (value_at (function n.point) (time n)) (value_same (function k.after) (same_sym e))
-          (same_transᵉ (value_at (function k.after) u) (value_at (function n.point) u) (value_at (function n.point) (time n)) at_u (value_same (function n.point) e));
-      on = λ t. same_transᵉ (value_at (function k.after) t) (value_at line t) (value_at (function n.after) t) (same_symᵉ (value_at line t) (value_at (function k.after) t) (before t)) (after t);
+        → (line : Affine) → ¬ IsPart (IsWorth shape ks) u line
+    not_affine i k n m u h j l e line part = needed_at shape ks i k n m signal.each h (subst (λ p. slice_get ks p ≡ Some n) one_more j) (subst (λ p. slice_get ks p ≡ Some m) two_more l) (record {
+      here = same_transᵉ (value_at (shape.function k.after) (time n)) (value_at (shape.function k.after) u) (value_at (shape.function n.point) (time n)) (value_same (shape.function k.after) (same_sym e))
+          (same_transᵉ (value_at (shape.function k.after) u) (value_at (shape.function n.point) u) (value_at (shape.function n.point) (time n)) at_u (value_same (shape.function n.point) e));
+      on = λ t. same_transᵉ (value_at (shape.function k.after) t) (value_at line t) (value_at (shape.function n.after) t) (same_symᵉ (value_at line t) (value_at (shape.function k.after) t) (before t)) (after t);
     })
       where
         one_more : i + 1 ≡ suc i
@@ -233,28 +234,28 @@ module _ {P : Type 0} (function : P → Affine) where
         next : slice_get ks (i + 1 + 1) ≡ Some m
         next = let same : i + 2 ≡ i + 1 + 1 = omega arith in subst (λ p. slice_get ks p ≡ Some m) same l
 
-        before : AreSame line (function k.after)
+        before : AreSame line (shape.function k.after)
         before =
-            let x = later_end part.above (lt_of_lt_of_le (next_rises function ks i k n signal.each h j) (ge_of_same e)) in
-            lines_same (IsWorth function ks) one part.a part.b (time k) (time n) x.0 u line (function k.after) x.1 x.2 x.3 (le_of_lt part.below) (le_of_same e) part.on (gap_line function ks i k n h j)
+            let x = later_end part.above (lt_of_lt_of_le (next_rises shape ks i k n signal.each h j) (ge_of_same e)) in
+            lines_same (IsWorth shape ks) one part.a part.b (time k) (time n) x.0 u line (shape.function k.after) x.1 x.2 x.3 (le_of_lt part.below) (le_of_same e) part.on (gap_line shape ks i k n h j)
 
-        after : AreSame line (function n.after)
+        after : AreSame line (shape.function n.after)
         after =
-            let x = earlier_end part.below (lt_of_le_of_lt (le_of_same e) (next_rises function ks (i + 1) n m signal.each j next)) in
-            lines_same (IsWorth function ks) one part.a part.b (time n) (time m) u x.0 line (function n.after) x.1 (le_of_lt part.above) (ge_of_same e) x.2 x.3 part.on (gap_line function ks (i + 1) n m j next)
+            let x = earlier_end part.below (lt_of_le_of_lt (le_of_same e) (next_rises shape ks (i + 1) n m signal.each j next)) in
+            lines_same (IsWorth shape ks) one part.a part.b (time n) (time m) u x.0 line (shape.function n.after) x.1 (le_of_lt part.above) (ge_of_same e) x.2 x.3 part.on (gap_line shape ks (i + 1) n m j next)
 
-        at_u : value_at (function k.after) u ≈ᵉ value_at (function n.point) u
+        at_u : value_at (shape.function k.after) u ≈ᵉ value_at (shape.function n.point) u
         at_u = let w = part.on u part.above part.below in
-            same_transᵉ (value_at (function k.after) u) (value_at line u) (value_at (function n.point) u) (same_symᵉ (value_at line u) (value_at (function k.after) u) (before u))
-            (same_transᵉ (value_at line u) w.0 (value_at (function n.point) u) (same_symᵉ w.0 (value_at line u) w.2) (value_at_knot (i + 1) n u w.0 j e w.1))
+            same_transᵉ (value_at (shape.function k.after) u) (value_at line u) (value_at (shape.function n.point) u) (same_symᵉ (value_at line u) (value_at (shape.function k.after) u) (before u))
+            (same_transᵉ (value_at line u) w.0 (value_at (shape.function n.point) u) (same_symᵉ w.0 (value_at line u) w.2) (value_at_knot (i + 1) n u w.0 j e w.1))
 
-    pub breakpoint : (u : Rational) → IsKnotTime ks u → IsBreakpoint (IsWorth function ks) (K.start ks) (K.stop ks) u
+    pub breakpoint : (u : Rational) → IsKnotTime ks u → IsBreakpoint (IsWorth shape ks) (K.start ks) (K.stop ks) u
     breakpoint u knot = let n = knot_at ks u knot in by_place n.0 n.1 n.2 n.3
       where
-        by_place : (i : ℕ) (k : Knot P) → slice_get ks i ≡ Some k → u ≈ time k → IsBreakpoint (IsWorth function ks) (K.start ks) (K.stop ks) u
+        by_place : (i : ℕ) (k : Knot P) → slice_get ks i ≡ Some k → u ≈ time k → IsBreakpoint (IsWorth shape ks) (K.start ks) (K.stop ks) u
         by_place zero k h e = start (first_time ks k u h e)
         by_place (suc i) k h e = elim (cases_lt (i + 2) (length ks)) [
-          | inl l ↦ inner (worth_within function ks u (value_at (function k.point) u) signal (worth_at function ks (suc i) k u h e)) (not_affine i (get_or ks i k) k (get_or ks (i + 2) k) u
+          | inl l ↦ inner (worth_within shape ks u (value_at (shape.function k.point) u) signal (worth_at shape ks (suc i) k u h e)) (not_affine i (get_or ks i k) k (get_or ks (i + 2) k) u
               (slice_get-get_or ks i k (omega arith)) (let s : suc i ≡ i + 1 = omega arith in subst (λ p. slice_get ks p ≡ Some k) s h) (slice_get-get_or ks (i + 2) k l) e)
-          | inr l ↦ stop (subst (λ s. u ≈ s) (sym (stop_at function ks (suc i) k h (slice_get_past ks (suc i + 1) (omega arith)))) e)
+          | inr l ↦ stop (subst (λ s. u ≈ s) (sym (stop_at shape ks (suc i) k h (slice_get_past ks (suc i + 1) (omega arith)))) e)
         ]

@@ -5,7 +5,6 @@ use Rattle.std.proofs.lemmas.Bool.{cases_lt}
 use Rattle.std.proofs.lemmas.Option.{slice_get-get_or, slice_get_within}
 use Rattle.rational.specs.Rational.{add, whole, FitsFloor}
 use Rattle.rational.specs.Time.{Rational, ◌≤ʳ◌, ◌<ʳ◌, ◌≈◌, later}
-use Rattle.rational.specs.Extended.{Affine}
 use Rattle.rational.proofs.Order.{le_of_lt, le_trans, lt_of_lt_of_le, lt_of_le_of_lt, not_lt_of_le, le_of_same, ge_of_same, same_trans}
 use Rattle.rational.proofs.Shift.{same_shift, le_whole}
 use Rattle.rational.proofs.Field.{le_add}
@@ -13,6 +12,7 @@ use Rattle.std.specs.Int.{w64}
 use Rattle.std.proofs.lemmas.Int.{ints}
 use Rattle.rational.proofs.TimeLemmas.{later-add, later_le, later_from}
 use Rattle.rational.proofs.Mixed.{fits_of_within}
+use Rattle.value_laws.specs.Members.{ShapeOf}
 use Rattle.pl_signal.specs.declared.knot.Knot.{Knot}
 use Rattle.pl_signal.specs.Knots.{time, start, stop, IsSignal}
 use Rattle.pl_signal.proofs.Values.{next_rises, rising_places}
@@ -49,12 +49,12 @@ item_at [] i h = absurd (omega arith)
 item_at (x ∷ xs) zero h = (x, refl)
 item_at (x ∷ xs) (suc i) h = item_at xs i (omega arith)
 
-module _ {P : Type 0} (function : P → Affine) (ks : List (Knot P)) (signal : IsSignal function ks) where
+module _ {P : Type 0} (shape : ShapeOf P) (ks : List (Knot P)) (signal : IsSignal shape ks) where
   -- the times rise strictly from place to place
   pub rises : (i j : ℕ) (k n : Knot P) → slice_get ks i ≡ Some k → slice_get ks j ≡ Some n → i < j → time k <ʳ time n
   rises i j k n h e order =
       let next = slice_get-get_or ks (i + 1) k (let inside = slice_get_within ks j n e in omega arith) in
-      lt_of_lt_of_le (next_rises function ks i k (get_or ks (i + 1) k) signal.each h next) (rising_places function ks (i + 1) j (get_or ks (i + 1) k) n signal.each next e (omega arith))
+      lt_of_lt_of_le (next_rises shape ks i k (get_or ks (i + 1) k) signal.each h next) (rising_places shape ks (i + 1) j (get_or ks (i + 1) k) n signal.each next e (omega arith))
 
   pub one_knot : (i j : ℕ) (k n : Knot P) → slice_get ks i ≡ Some k → slice_get ks j ≡ Some n → i ≡ j → k ≡ n
   one_knot i j k n h e same = let f = subst (λ i. slice_get ks i ≡ Some k) same h in cc
@@ -77,7 +77,7 @@ module _ {P : Type 0} (function : P → Affine) (ks : List (Knot P)) (signal : I
     passed = λ i m at_i below. le_trans (h.passed i m at_i below) order;
     coming = λ i m at_i above.
         let at_n = slice_get-get_or ks n m (let inside = slice_get_within ks i m at_i in omega arith) in
-        lt_of_lt_of_le (before (get_or ks n m) at_n) (rising_places function ks n i (get_or ks n m) m signal.each at_n at_i above);
+        lt_of_lt_of_le (before (get_or ks n m) at_n) (rising_places shape ks n i (get_or ks n m) m signal.each at_n at_i above);
   }
 
   -- a later time that is not after it
@@ -87,7 +87,7 @@ module _ {P : Type 0} (function : P → Affine) (ks : List (Knot P)) (signal : I
     met = λ i m at_i below. lt_of_le_of_lt (h.passed i m at_i below) order;
     coming = λ i m at_i above.
         let at_n = slice_get-get_or ks n m (let inside = slice_get_within ks i m at_i in omega arith) in
-        le_trans (before (get_or ks n m) at_n) (rising_places function ks n i (get_or ks n m) m signal.each at_n at_i above);
+        le_trans (before (get_or ks n m) at_n) (rising_places shape ks n i (get_or ks n m) m signal.each at_n at_i above);
   }
 
   -- up to the earliest time at which the next knots on both sides stand, nothing changes
@@ -111,16 +111,16 @@ module _ {P : Type 0} (function : P → Affine) (ks : List (Knot P)) (signal : I
 
   -- times of knots in a domain from 0 to 2^32
   pub in_domain : (i : ℕ) (k : Knot P) → whole (pos 0) ≤ʳ start ks → stop ks ≤ʳ whole (pos (2 ^ 32)) → slice_get ks i ≡ Some k → (whole (pos 0) ≤ʳ time k) × (time k ≤ʳ whole (pos (2 ^ 32)))
-  in_domain i k first last h = let w = at_knot_within function ks i k signal h in (le_trans first w.above, le_trans w.below last)
+  in_domain i k first last h = let w = at_knot_within shape ks i k signal h in (le_trans first w.above, le_trans w.below last)
 
   pub start_in_domain : {u : Rational} → u ≡ start ks → whole (pos 0) ≤ʳ start ks → stop ks ≤ʳ whole (pos (2 ^ 32)) → (whole (pos 0) ≤ʳ u) × (u ≤ʳ whole (pos (2 ^ 32)))
   start_in_domain {u} e first last =
-      let k = first_is function ks signal.some in
+      let k = first_is shape ks signal.some in
       subst (λ u. (whole (pos 0) ≤ʳ u) × (u ≤ʳ whole (pos (2 ^ 32)))) (sym (e ∙ k.2)) (in_domain 0 k.0 first last k.1)
 
   -- the first time is not after the last
   pub start_before_stop : start ks ≤ʳ stop ks
-  start_before_stop = let k = first_is function ks signal.some in (subst (λ u. u ≤ʳ stop ks) (sym k.2) (at_knot_within function ks 0 k.0 signal k.1).below)
+  start_before_stop = let k = first_is shape ks signal.some in (subst (λ u. u ≤ʳ stop ks) (sym k.2) (at_knot_within shape ks 0 k.0 signal k.1).below)
 
   -- more are passed at a later time
   pub passed_order : {x y : Rational} (n m : ℕ) → HasPassed ks x n → HasPassed ks y m → x ≤ʳ y → n ≤ m
@@ -141,7 +141,7 @@ module _ {P : Type 0} (function : P → Affine) (ks : List (Knot P)) (signal : I
 
   pub first_passed : (i : ℕ) (k : Knot P) {x : Rational} (by : ℕ) → slice_get ks i ≡ Some k → i < 1 → x ≈ later (start ks) by → time k ≤ʳ x
   first_passed i k {x} by h below e =
-      let n = first_is function ks signal.some in
+      let n = first_is shape ks signal.some in
       let same : n.0 ≡ k = one_knot 0 i n.0 k n.1 h (omega arith) in
       le_trans (subst (λ t. t ≤ʳ later (start ks) by) (n.2 ∙ ap (λ k. time k) same) (later_from (start ks) by)) (ge_of_same e)
 
@@ -152,7 +152,7 @@ module _ {P : Type 0} (function : P → Affine) (ks : List (Knot P)) (signal : I
     passed = λ i k at_i below. le_trans (passed i k at_i below) (le_of_same same);
     coming = λ i m at_i above.
         let at_n = slice_get-get_or ks n m (let inside = slice_get_within ks i m at_i in omega arith) in
-        lt_of_le_of_lt (ge_of_same same) (lt_of_lt_of_le (next (get_or ks n m) at_n) (rising_places function ks n i (get_or ks n m) m signal.each at_n at_i above));
+        lt_of_le_of_lt (ge_of_same same) (lt_of_lt_of_le (next (get_or ks n m) at_n) (rising_places shape ks n i (get_or ks n m) m signal.each at_n at_i above));
   }
 
   -- of the knots that are not later, the last one may stand at the time
@@ -160,13 +160,13 @@ module _ {P : Type 0} (function : P → Affine) (ks : List (Knot P)) (signal : I
   met_before {y} n k h some at_last here = record {
     inside = let inside = h.inside in omega arith;
     met = λ i m at_i below. lt_of_lt_of_le (rises i (n - 1) m k at_i at_last below) (le_of_same here);
-    coming = λ i m at_i above. le_trans (ge_of_same here) (rising_places function ks (n - 1) i k m signal.each at_last at_i above);
+    coming = λ i m at_i above. le_trans (ge_of_same here) (rising_places shape ks (n - 1) i k m signal.each at_last at_i above);
   }
 
   pub met_all : {y : Rational} (n : ℕ) (k : Knot P) → HasPassed ks y n → 0 < n → slice_get ks (n - 1) ≡ Some k → time k <ʳ y → HasMet ks y n
   met_all {y} n k h some at_last before = record {
     inside = h.inside;
-    met = λ i m at_i below. lt_of_le_of_lt (rising_places function ks i (n - 1) m k signal.each at_i at_last (omega arith)) before;
+    met = λ i m at_i below. lt_of_le_of_lt (rising_places shape ks i (n - 1) m k signal.each at_i at_last (omega arith)) before;
     coming = λ i m at_i above. le_of_lt (h.coming i m at_i above);
   }
 
@@ -179,7 +179,7 @@ module _ {P : Type 0} (function : P → Affine) (ks : List (Knot P)) (signal : I
     enters_after k h e = later_cancel b (lt_of_lt_of_le (now.reached.coming hi k h (omega arith)) (ge_of_same e))
 
     before_stop : (n c : ℕ) (k : Knot P) → slice_get ks n ≡ Some k → later at c ≈ time k → at ≤ʳ stop ks
-    before_stop n c k h e = le_trans (later_from at c) (le_trans (le_of_same e) (at_knot_within function ks n k signal h).below)
+    before_stop n c k h e = le_trans (later_from at c) (le_trans (le_of_same e) (at_knot_within shape ks n k signal h).below)
 
     -- first the window leaves a knot behind
     pub leaves_next : (k : Knot P) → slice_get ks lo ≡ Some k → later at a ≈ time k → ((n : Knot P) → slice_get ks hi ≡ Some n → later at b <ʳ time n) → lo < hi → IsNext ks a b t lo hi at (lo + 1) hi

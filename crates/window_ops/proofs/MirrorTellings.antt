@@ -3,7 +3,7 @@ use Rattle.std.proofs.Common.{ℕ, ◌^◌, pos, List, Bool, sym, ◌∙◌, ap,
 use Rattle.std.specs.Prelude.{Option}
 use Rattle.rational.specs.Rational.{IsWithin, whole}
 use Rattle.rational.specs.Time.{Rational, Within, ◌≤ʳ◌, ◌<ʳ◌, ◌≈◌}
-use Rattle.rational.specs.Extended.{Extended, Affine}
+use Rattle.rational.specs.Extended.{Extended}
 use Rattle.rational.specs.Windows.{Function, Ahead, Behind, IsSupOver}
 use Rattle.rational.specs.InPlay.{window_ahead, window_behind, IsInPlay}
 use Rattle.rational.proofs.Order.{le_trans, le_of_lt, le_of_same, ge_of_same, same_refl, same_sym, same_trans}
@@ -12,6 +12,7 @@ use Rattle.rational.proofs.AffineLemmas.{same_reflᵉ}
 use Rattle.rational.proofs.Sups.{sup_same, sup_value_same}
 use Rattle.rational.proofs.WindowLemmas.{sup_over_alike, behind_same}
 use Rattle.frac128.specs.Value.{value}
+use Rattle.value_laws.specs.Members.{ShapeOf}
 use Rattle.pl_signal.specs.declared.knot.Knot.{Knot}
 use Rattle.pl_signal.specs.declared.faults.WidePair.TheVariants.{Cross, Value}
 use Rattle.pl_signal.specs.declared.faults.OpFault.{OpFault}
@@ -32,37 +33,37 @@ use Rattle.window_ops.proofs.MirrorFunctions.{AreTurned, behind_in_play, crossin
 abbrev pub Turned : Function → Function
 Turned F t v = F (mirrored t) v
 
-module _ {P : Type 0} (function : P → Affine) where
-  pub turned_signals : (ks ns : List (Knot P)) → IsSignal function ks → Tells function (Turned (IsWorth function ks)) (mirrored (stop ks)) (mirrored (start ks)) ns → AreTurned (IsWorth function ns) (IsWorth function ks)
+module _ {P : Type 0} (shape : ShapeOf P) where
+  pub turned_signals : (ks ns : List (Knot P)) → IsSignal shape ks → Tells shape (Turned (IsWorth shape ks)) (mirrored (stop ks)) (mirrored (start ks)) ns → AreTurned (IsWorth shape ns) (IsWorth shape ks)
   turned_signals ks ns s t = record {
-    forth = λ u x v e w. worth_same function ks v v (same_sym (mirrored_back e)) (same_reflᵉ v) ((t.worth u v).0 w).1;
+    forth = λ u x v e w. worth_same shape ks v v (same_sym (mirrored_back e)) (same_reflᵉ v) ((t.worth u v).0 w).1;
     back = λ u x v e w.
-        let here = worth_same function ks v v e (same_reflᵉ v) w in
-        let inside = worth_within function ks (mirrored x) v s here in
+        let here = worth_same shape ks v v e (same_reflᵉ v) w in
+        let inside = worth_within shape ks (mirrored x) v s here in
         (t.worth x v).1 (record { above = le_trans (mirrored_le inside.below) (le_of_same (mirrored_twice x)); below = le_trans (ge_of_same (mirrored_twice x)) (mirrored_le inside.above) }, here);
   }
 
-  pub turned_limited : (ks ns : List (Knot P)) → IsLimited function ks → IsWithin (2 ^ 34) (mirrored (stop ks)) → IsWithin (2 ^ 34) (mirrored (start ks)) → Tells function (Turned (IsWorth function ks)) (mirrored (stop ks)) (mirrored (start ks)) ns
-      → IsLimited function ns
-  turned_limited ks ns h low high t = limited_by function (Turned (IsWorth function ks)) ns (mirrored (stop ks)) (mirrored (start ks)) t (λ u v w. worth_bounded function ks h (mirrored u) v w) low high
+  pub turned_limited : (ks ns : List (Knot P)) → IsLimited shape ks → IsWithin (2 ^ 34) (mirrored (stop ks)) → IsWithin (2 ^ 34) (mirrored (start ks)) → Tells shape (Turned (IsWorth shape ks)) (mirrored (stop ks)) (mirrored (start ks)) ns
+      → IsLimited shape ns
+  turned_limited ks ns h low high t = limited_by shape (Turned (IsWorth shape ks)) ns (mirrored (stop ks)) (mirrored (start ks)) t (λ u v w. worth_bounded shape ks h (mirrored u) v w) low high
 
   -- a signal of Sups ahead over the mirrored signal is, mirrored, one of Sups behind
-  pub tells_behind : (ks ns ms rs : List (Knot P)) (lowest : Extended) (a b : ℕ) (c : Option ℕ) (a_in b_in : Bool) → IsReach c b → IsSignal function ks → whole (pos 0) ≤ʳ start ns → stop ns <ʳ whole (pos (2 ^ 32))
-      → Tells function (Turned (IsWorth function ks)) (mirrored (stop ks)) (mirrored (start ks)) ns
-      → Tells function (λ t r. IsSupOver lowest (Ahead (start ns) (stop ns) a b a_in b_in t) (IsWorth function ns) r) (start ns) (stop ns) ms → Tells function (Turned (IsWorth function ms)) (mirrored (stop ms)) (mirrored (start ms)) rs
-      → Tells function (λ t r. IsSupOver lowest (Behind (start ks) (stop ks) a c a_in b_in t) (IsWorth function ks) r) (start ks) (stop ks) rs
-  tells_behind ks ns ms rs lowest a b c a_in b_in reach s low high t m r =
-      told function (λ t r. IsSupOver lowest (Behind (start ks) (stop ks) a c a_in b_in t) (IsWorth function ks) r) (start ks) (stop ks) rs sup_is_function (record { signal = r.signal; worth = worth })
+  pub tells_behind : (ks ns ms rs : List (Knot P)) (a b : ℕ) (c : Option ℕ) (a_in b_in : Bool) → IsReach c b → IsSignal shape ks → whole (pos 0) ≤ʳ start ns → stop ns <ʳ whole (pos (2 ^ 32))
+      → Tells shape (Turned (IsWorth shape ks)) (mirrored (stop ks)) (mirrored (start ks)) ns
+      → Tells shape (λ t r. IsSupOver shape.lowest (Ahead (start ns) (stop ns) a b a_in b_in t) (IsWorth shape ns) r) (start ns) (stop ns) ms → Tells shape (Turned (IsWorth shape ms)) (mirrored (stop ms)) (mirrored (start ms)) rs
+      → Tells shape (λ t r. IsSupOver shape.lowest (Behind (start ks) (stop ks) a c a_in b_in t) (IsWorth shape ks) r) (start ks) (stop ks) rs
+  tells_behind ks ns ms rs a b c a_in b_in reach s low high t m r =
+      told shape (λ t r. IsSupOver shape.lowest (Behind (start ks) (stop ks) a c a_in b_in t) (IsWorth shape ks) r) (start ks) (stop ks) rs sup_is_function (record { signal = r.signal; worth = worth })
       (same_trans r.begins (same_trans (mirrored_same (same_trans m.ends t.ends)) (mirrored_twice (start ks)))) (same_trans r.ends (same_trans (mirrored_same (same_trans m.begins t.begins)) (mirrored_twice (stop ks))))
     where
-      sup_is_function : IsFunction (λ t r. IsSupOver lowest (Behind (start ks) (stop ks) a c a_in b_in t) (IsWorth function ks) r)
+      sup_is_function : IsFunction (λ t r. IsSupOver shape.lowest (Behind (start ks) (stop ks) a c a_in b_in t) (IsWorth shape ks) r)
       sup_is_function = record {
         alike = λ t u v w x f h. sup_value_same v w f
-            (sup_over_alike (Behind (start ks) (stop ks) a c a_in b_in t) (Behind (start ks) (stop ks) a c a_in b_in u) (IsWorth function ks) lowest v (λ y k. behind_same x k) (λ y k. behind_same (same_sym x) k) h);
-        one = λ t v w x y. record { at_most = Sup-unique lowest v w x y; at_least = Sup-unique lowest w v y x };
+            (sup_over_alike (Behind (start ks) (stop ks) a c a_in b_in t) (Behind (start ks) (stop ks) a c a_in b_in u) (IsWorth shape ks) shape.lowest v (λ y k. behind_same x k) (λ y k. behind_same (same_sym x) k) h);
+        one = λ t v w x y. record { at_most = Sup-unique shape.lowest v w x y; at_least = Sup-unique shape.lowest w v y x };
       }
 
-      both : AreTurned (IsWorth function ns) (IsWorth function ks)
+      both : AreTurned (IsWorth shape ns) (IsWorth shape ks)
       both = turned_signals ks ns s t
 
       -- the domain of the mirrored signal
@@ -72,30 +73,30 @@ module _ {P : Type 0} (function : P → Affine) where
       ends : stop ks ≈ mirrored (start ns)
       ends = mirrored_back t.begins
 
-      worth : (u : Rational) (v : Extended) → IsWorth function rs u v → IsSupOver lowest (Behind (start ks) (stop ks) a c a_in b_in u) (IsWorth function ks) v
+      worth : (u : Rational) (v : Extended) → IsWorth shape rs u v → IsSupOver shape.lowest (Behind (start ks) (stop ks) a c a_in b_in u) (IsWorth shape ks) v
       worth u v w = sup_same forth back ahead.1
         where
-          ahead : Within (start ns) (stop ns) (mirrored u) × IsSupOver lowest (Ahead (start ns) (stop ns) a b a_in b_in (mirrored u)) (IsWorth function ns) v
+          ahead : Within (start ns) (stop ns) (mirrored u) × IsSupOver shape.lowest (Ahead (start ns) (stop ns) a b a_in b_in (mirrored u)) (IsWorth shape ns) v
           ahead = (m.worth (mirrored u) v).0 ((r.worth u v).0 w).1
 
           here : u ≈ mirrored (mirrored u)
           here = same_sym (mirrored_twice u)
 
-          forth : (x : Extended) → ((y : Rational) × Ahead (start ns) (stop ns) a b a_in b_in (mirrored u) y × IsWorth function ns y x) → (y : Rational) × Behind (start ks) (stop ks) a c a_in b_in u y × IsWorth function ks y x
+          forth : (x : Extended) → ((y : Rational) × Ahead (start ns) (stop ns) a b a_in b_in (mirrored u) y × IsWorth shape ns y x) → (y : Rational) × Behind (start ks) (stop ks) a c a_in b_in u y × IsWorth shape ks y x
           forth x (y, i, z) = (mirrored y, behind_of_ahead a b c a_in b_in reach begins ends here (same_refl (mirrored y)) i, both.forth y (mirrored y) x (same_sym (mirrored_twice y)) z)
 
-          back : (x : Extended) → ((y : Rational) × Behind (start ks) (stop ks) a c a_in b_in u y × IsWorth function ks y x) → (y : Rational) × Ahead (start ns) (stop ns) a b a_in b_in (mirrored u) y × IsWorth function ns y x
+          back : (x : Extended) → ((y : Rational) × Behind (start ks) (stop ks) a c a_in b_in u y × IsWorth shape ks y x) → (y : Rational) × Ahead (start ns) (stop ns) a b a_in b_in (mirrored u) y × IsWorth shape ns y x
           back x (y, i, z) = (mirrored y, ahead_of_behind a b c a_in b_in reach low high ahead.0.above begins ends here (same_sym (mirrored_twice y)) i, both.back y (mirrored y) x (same_sym (mirrored_twice y)) z)
 
   -- a cause ahead over the mirrored signal is, mirrored, one behind
   pub cause_behind : (A B : Function) (from to from' to' : Rational) (a b : ℕ) (c : Option ℕ) (a_in b_in : Bool) (fault other : OpFault P) → AreTurned A B → IsReach c b → whole (pos 0) ≤ʳ from → to <ʳ whole (pos (2 ^ 32))
-      → from' ≈ mirrored to → to' ≈ mirrored from → IsTurnedFault function fault other → HasCause function (window_ahead A a b a_in b_in) from to fault → HasCause function (window_behind B a c a_in b_in) from' to' other
-  cause_behind A B from to from' to' a b c a_in b_in F.Memory other n reach low high e f is w = subst (HasCause function (window_behind B a c a_in b_in) from' to') (sym is) tt
+      → from' ≈ mirrored to → to' ≈ mirrored from → IsTurnedFault shape fault other → HasCause shape (window_ahead A a b a_in b_in) from to fault → HasCause shape (window_behind B a c a_in b_in) from' to' other
+  cause_behind A B from to from' to' a b c a_in b_in F.Memory other n reach low high e f is w = subst (HasCause shape (window_behind B a c a_in b_in) from' to') (sym is) tt
   cause_behind A B from to from' to' a b c a_in b_in (F.Wide (Cross p q x y den)) other n reach low high e f (pair, is, (p', q', x', y', made, o, o', g, h)) w =
-      subst (HasCause function (window_behind B a c a_in b_in) from' to') (sym (is ∙ ap F.Wide made))
+      subst (HasCause shape (window_behind B a c a_in b_in) from' to') (sym (is ∙ ap F.Wide made))
       (crossing_turned (IsInPlay (window_ahead A a b a_in b_in) from to) (IsInPlay (window_behind B a c a_in b_in) from' to') from to from' to' e f
-      (λ tau line line' after o k. behind_in_play A B from to from' to' n e f a b c a_in b_in tau line line' reach low high (le_of_lt after) o k) (function p) (function q) (function p') (function q') (value x) (value y) (value x') (value y') den o o' g h w)
+      (λ tau line line' after o k. behind_in_play A B from to from' to' n e f a b c a_in b_in tau line line' reach low high (le_of_lt after) o k) (shape.function p) (shape.function q) (shape.function p') (shape.function q') (value x) (value y) (value x') (value y') den o o' g h w)
   cause_behind A B from to from' to' a b c a_in b_in (F.Wide (Value p x den)) other n reach low high e f (pair, is, (p', x', made, o, g)) w =
-      subst (HasCause function (window_behind B a c a_in b_in) from' to') (sym (is ∙ ap F.Wide made))
+      subst (HasCause shape (window_behind B a c a_in b_in) from' to') (sym (is ∙ ap F.Wide made))
       (wide_value_turned (IsInPlay (window_ahead A a b a_in b_in) from to) (IsInPlay (window_behind B a c a_in b_in) from' to') from to from' to' e f
-      (λ tau line line' after o k. behind_in_play A B from to from' to' n e f a b c a_in b_in tau line line' reach low high (le_of_lt after) o k) (function p) (function p') (value x) (value x') den o g w)
+      (λ tau line line' after o k. behind_in_play A B from to from' to' n e f a b c a_in b_in tau line line' reach low high (le_of_lt after) o k) (shape.function p) (shape.function p') (value x) (value x') den o g w)

@@ -9,6 +9,7 @@ use Rattle.rational.specs.InPlay.{Step, window_ahead, window_behind, IsLeftLimit
 use Rattle.rational.proofs.AffineLemmas.{same_symᵉ, same_transᵉ, bounded_same}
 use Rattle.rational.proofs.Bounds.{HasBounded, right_limit_bounded, left_limit_bounded, level_bounded}
 use Rattle.frac128.specs.Value.{value}
+use Rattle.value_laws.specs.Members.{ShapeOf}
 use Rattle.pl_signal.specs.declared.faults.WidePair.TheVariants.{Cross, Value}
 use Rattle.pl_signal.specs.declared.faults.OpFault.{OpFault}
 use Rattle.pl_signal.specs.declared.faults.OpFault.TheVariants as F
@@ -53,36 +54,36 @@ module _ (InPlay : Rational → Affine → Type 0) (n : ℕ) (from to : Rational
   wide_value_bounded p u den w = level_bounded n p u (bounded_same n (value_at p u) (finite w.value) (same_symᵉ (finite w.value) (value_at p u) w.is_value)
       (bounded_same n (finite w.value) (value_at w.line w.tau) (w.constant w.tau) (h w.tau w.line w.in_play)))
 
-module _ {P : Type 0} (function : P → Affine) where
-  cause_bounded : (step : Step) (from to : Rational) (fault : OpFault P) → ((tau : Rational) (line : Affine) → IsInPlay step from to tau line → IsBounded (2 ^ 31) (value_at line tau)) → HasCause function step from to fault
-      → HaveBoundedLevels function fault
+module _ {P : Type 0} (shape : ShapeOf P) where
+  cause_bounded : (step : Step) (from to : Rational) (fault : OpFault P) → ((tau : Rational) (line : Affine) → IsInPlay step from to tau line → IsBounded (2 ^ 31) (value_at line tau)) → HasCause shape step from to fault
+      → HaveBoundedLevels shape fault
   cause_bounded step from to F.Memory h w = tt
-  cause_bounded step from to (F.Wide (Cross p q a b den)) h w = crossing_bounded (IsInPlay step from to) (2 ^ 31) from to h (function p) (function q) (value a) (value b) den w
-  cause_bounded step from to (F.Wide (Value p at den)) h w = wide_value_bounded (IsInPlay step from to) (2 ^ 31) from to h (function p) (value at) den w
+  cause_bounded step from to (F.Wide (Cross p q a b den)) h w = crossing_bounded (IsInPlay step from to) (2 ^ 31) from to h (shape.function p) (shape.function q) (value a) (value b) den w
+  cause_bounded step from to (F.Wide (Value p at den)) h w = wide_value_bounded (IsInPlay step from to) (2 ^ 31) from to h (shape.function p) (value at) den w
 
-  pub ahead_cause_bounded : (F : Function) (from to : Rational) (a b : ℕ) (a_in b_in : Bool) (fault : OpFault P) → HasBounded (2 ^ 31) F → HasCause function (window_ahead F a b a_in b_in) from to fault → HaveBoundedLevels function fault
+  pub ahead_cause_bounded : (F : Function) (from to : Rational) (a b : ℕ) (a_in b_in : Bool) (fault : OpFault P) → HasBounded (2 ^ 31) F → HasCause shape (window_ahead F a b a_in b_in) from to fault → HaveBoundedLevels shape fault
   ahead_cause_bounded F from to a b a_in b_in fault h w = cause_bounded (window_ahead F a b a_in b_in) from to fault (λ tau line m. ahead_bounded (2 ^ 31) F from to h a b a_in b_in tau line m) w
 
-  pub behind_cause_bounded : (F : Function) (from to : Rational) (a : ℕ) (b : Option ℕ) (a_in b_in : Bool) (fault : OpFault P) → HasBounded (2 ^ 31) F → HasCause function (window_behind F a b a_in b_in) from to fault → HaveBoundedLevels function fault
+  pub behind_cause_bounded : (F : Function) (from to : Rational) (a : ℕ) (b : Option ℕ) (a_in b_in : Bool) (fault : OpFault P) → HasBounded (2 ^ 31) F → HasCause shape (window_behind F a b a_in b_in) from to fault → HaveBoundedLevels shape fault
   behind_cause_bounded F from to a b a_in b_in fault h w = cause_bounded (window_behind F a b a_in b_in) from to fault (λ tau line m. behind_bounded (2 ^ 31) F from to h a b a_in b_in tau line m) w
 
   -- a cause negated
   cause_opposite : (step step' : Step) (from to from' to' : Rational) (fault other : OpFault P) → from ≈ from' → to ≈ to'
-      → ((tau : Rational) (line line' : Affine) → IsOpposite line line' → IsInPlay step from to tau line → IsInPlay step' from' to' tau line') → IsNegated function fault other → HasCause function step from to fault → HasCause function step' from' to' other
-  cause_opposite step step' from to from' to' F.Memory other e f played n w = subst (HasCause function step' from' to') (sym n) tt
+      → ((tau : Rational) (line line' : Affine) → IsOpposite line line' → IsInPlay step from to tau line → IsInPlay step' from' to' tau line') → IsNegated shape fault other → HasCause shape step from to fault → HasCause shape step' from' to' other
+  cause_opposite step step' from to from' to' F.Memory other e f played n w = subst (HasCause shape step' from' to') (sym n) tt
   cause_opposite step step' from to from' to' (F.Wide (Cross p q a b den)) other e f played (p', q', is, o, o') w =
-      subst (HasCause function step' from' to') (sym is)
-      (crossing_opposite (IsInPlay step from to) (IsInPlay step' from' to') from to from' to' e f played (function p) (function q) (function p') (function q') (value a) (value b) den o o' w)
+      subst (HasCause shape step' from' to') (sym is)
+      (crossing_opposite (IsInPlay step from to) (IsInPlay step' from' to') from to from' to' e f played (shape.function p) (shape.function q) (shape.function p') (shape.function q') (value a) (value b) den o o' w)
   cause_opposite step step' from to from' to' (F.Wide (Value p at den)) other e f played (p', is, o) w =
-      subst (HasCause function step' from' to') (sym is)
-      (wide_value_opposite (IsInPlay step from to) (IsInPlay step' from' to') from to from' to' e f played (function p) (function p') (value at) den o w)
+      subst (HasCause shape step' from' to') (sym is)
+      (wide_value_opposite (IsInPlay step from to) (IsInPlay step' from' to') from to from' to' e f played (shape.function p) (shape.function p') (value at) den o w)
 
-  pub ahead_cause_opposite : (F G : Function) (from to from' to' : Rational) (a b : ℕ) (a_in b_in : Bool) (fault other : OpFault P) → AreOpposite F G → from ≈ from' → to ≈ to' → IsNegated function fault other
-      → HasCause function (window_ahead F a b a_in b_in) from to fault → HasCause function (window_ahead G a b a_in b_in) from' to' other
+  pub ahead_cause_opposite : (F G : Function) (from to from' to' : Rational) (a b : ℕ) (a_in b_in : Bool) (fault other : OpFault P) → AreOpposite F G → from ≈ from' → to ≈ to' → IsNegated shape fault other
+      → HasCause shape (window_ahead F a b a_in b_in) from to fault → HasCause shape (window_ahead G a b a_in b_in) from' to' other
   ahead_cause_opposite F G from to from' to' a b a_in b_in fault other n e f is w =
       cause_opposite (window_ahead F a b a_in b_in) (window_ahead G a b a_in b_in) from to from' to' fault other e f (λ tau line line' o m. ahead_in_play F G from to from' to' n e f a b a_in b_in tau line line' o m) is w
 
-  pub behind_cause_opposite : (F G : Function) (from to from' to' : Rational) (a : ℕ) (b : Option ℕ) (a_in b_in : Bool) (fault other : OpFault P) → AreOpposite F G → from ≈ from' → to ≈ to' → IsNegated function fault other
-      → HasCause function (window_behind F a b a_in b_in) from to fault → HasCause function (window_behind G a b a_in b_in) from' to' other
+  pub behind_cause_opposite : (F G : Function) (from to from' to' : Rational) (a : ℕ) (b : Option ℕ) (a_in b_in : Bool) (fault other : OpFault P) → AreOpposite F G → from ≈ from' → to ≈ to' → IsNegated shape fault other
+      → HasCause shape (window_behind F a b a_in b_in) from to fault → HasCause shape (window_behind G a b a_in b_in) from' to' other
   behind_cause_opposite F G from to from' to' a b a_in b_in fault other n e f is w =
       cause_opposite (window_behind F a b a_in b_in) (window_behind G a b a_in b_in) from to from' to' fault other e f (λ tau line line' o m. behind_in_play F G from to from' to' n e f a b a_in b_in tau line line' o m) is w

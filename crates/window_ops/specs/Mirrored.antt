@@ -1,11 +1,12 @@
 -- Times and faults mirrored about 2^32 - 1, the last instant of the longest domain.
-use Rattle.std.specs.Prelude.{◌≡◌, ℕ, ◌-◌, ◌^◌, ◌≤◌, ℤ, ◌-ℤ◌, pos, Option, None, Some}
+use Rattle.std.specs.Prelude.{◌≡◌, ℕ, ◌-◌, ◌^◌, ◌≤◌, ◌-ℤ◌, pos, Option, None, Some}
 use Rattle.std.specs.Int.RustNames.{unsigned_abs}
 use Rattle.rational.specs.Rational.{IsWithin, subtract, whole}
 use Rattle.rational.specs.Time.{Rational, ◌≈◌}
 use Rattle.rational.specs.Extended.{Affine, value_at, ◌≈ᵉ◌}
 use Rattle.frac128.specs.Value.{value}
 use Rattle.frac128.specs.declared.frac.Frac.{Frac}
+use Rattle.value_laws.specs.Members.{ShapeOf}
 use Rattle.pl_signal.specs.declared.faults.WidePair.{WidePair}
 use Rattle.pl_signal.specs.declared.faults.WidePair.TheVariants.{Cross, Value}
 use Rattle.pl_signal.specs.declared.faults.OpFault.{OpFault}
@@ -25,27 +26,27 @@ IsReach None n = n ≡ 2 ^ 32
 IsReach (Some b) n = n ≡ b
 
 -- the shape may be mirrored
-abbrev pub HasTurn : {P : Type 0} → (P → ℤ) → P → Type 0
-HasTurn base p = unsigned_abs (pos (2 ^ 32 - 1) -ℤ base p) ≤ 2 ^ 34
+abbrev pub HasTurn : {P : Type 0} → ShapeOf P → P → Type 0
+HasTurn shape p = unsigned_abs (pos (2 ^ 32 - 1) -ℤ shape.base p) ≤ 2 ^ 34
 
 -- the shapes and the times of a pair may be mirrored
-abbrev pub CanTurn : {P : Type 0} → (P → ℤ) → WidePair P → Type 0
-CanTurn base (Cross p q from to den) = HasTurn base p × HasTurn base q × IsWithin (2 ^ 34) (value from) × IsWithin (2 ^ 34) (value to)
-CanTurn base (Value p at den) = HasTurn base p × IsWithin (2 ^ 34) (value at)
+abbrev pub CanTurn : {P : Type 0} → ShapeOf P → WidePair P → Type 0
+CanTurn shape (Cross p q from to den) = HasTurn shape p × HasTurn shape q × IsWithin (2 ^ 34) (value from) × IsWithin (2 ^ 34) (value to)
+CanTurn shape (Value p at den) = HasTurn shape p × IsWithin (2 ^ 34) (value at)
 
 -- those of a fault
-abbrev pub CanTurnFault : {P : Type 0} → (P → ℤ) → OpFault P → Type 0
-CanTurnFault base F.Memory = Unit {0}
-CanTurnFault base (F.Wide pair) = CanTurn base pair
+abbrev pub CanTurnFault : {P : Type 0} → ShapeOf P → OpFault P → Type 0
+CanTurnFault shape F.Memory = Unit {0}
+CanTurnFault shape (F.Wide pair) = CanTurn shape pair
 
-module _ {P : Type 0} (function : P → Affine) where
+module _ {P : Type 0} (shape : ShapeOf P) where
   -- the other pair names the mirrored shapes, at the mirrored times, with the same denominator
   abbrev pub IsTurnedPair : WidePair P → WidePair P → Type 0
   IsTurnedPair (Cross p q from to den) other =
-      (p' q' : P) × (from' to' : Frac) × (other ≡ Cross p' q' from' to' den) × IsTurned (function p) (function p') × IsTurned (function q) (function q')
+      (p' q' : P) × (from' to' : Frac) × (other ≡ Cross p' q' from' to' den) × IsTurned (shape.function p) (shape.function p') × IsTurned (shape.function q) (shape.function q')
       × (value from' ≈ mirrored (value to)) × (value to' ≈ mirrored (value from))
   IsTurnedPair (Value p at den) other =
-      (p' : P) × (at' : Frac) × (other ≡ Value p' at' den) × IsTurned (function p) (function p') × (value at' ≈ mirrored (value at))
+      (p' : P) × (at' : Frac) × (other ≡ Value p' at' den) × IsTurned (shape.function p) (shape.function p') × (value at' ≈ mirrored (value at))
 
   abbrev pub IsTurnedFault : OpFault P → OpFault P → Type 0
   IsTurnedFault F.Memory other = other ≡ F.Memory

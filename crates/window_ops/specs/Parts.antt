@@ -2,9 +2,10 @@
 -- at the knots strictly between them. Each is a function of time.
 use Rattle.std.specs.Prelude.{◌⊎◌, ℕ, Bool, IsTrue, List, [], ◌∷◌}
 use Rattle.rational.specs.Time.{Rational, ◌<ʳ◌, ◌≈◌, later}
-use Rattle.rational.specs.Extended.{Extended, ◌≈ᵉ◌, Affine, IsSup}
+use Rattle.rational.specs.Extended.{Extended, ◌≈ᵉ◌, IsSup}
 use Rattle.rational.specs.Windows.{Function}
 use Rattle.rational.specs.InPlay.{IsLeftLimit, IsRightLimit}
+use Rattle.value_laws.specs.Members.{ShapeOf}
 use Rattle.pl_signal.specs.declared.knot.Knot.{Knot}
 use Rattle.pl_signal.specs.Knots.{time, IsWorth}
 
@@ -25,10 +26,10 @@ abbrev pub IsKnotTime : {P : Type 0} → List (Knot P) → Rational → Type 0
 IsKnotTime [] u = ⊥
 IsKnotTime (k ∷ knots) u = (u ≈ time k) ⊎ IsKnotTime knots u
 
-module _ {P : Type 0} (function : P → Affine) where
+module _ {P : Type 0} (shape : ShapeOf P) where
   -- v is the signal's value at u, or a limit there
   abbrev pub IsAbout : List (Knot P) → Rational → Extended → Type 0
-  IsAbout knots u v = IsWorth function knots u v ⊎ IsLeftLimit (IsWorth function knots) u v ⊎ IsRightLimit (IsWorth function knots) u v
+  IsAbout knots u v = IsWorth shape knots u v ⊎ IsLeftLimit (IsWorth shape knots) u v ⊎ IsRightLimit (IsWorth shape knots) u v
 
   -- v is the value or a limit at a knot strictly between t + a and t + b
   abbrev pub IsAmong : List (Knot P) → ℕ → ℕ → Function

@@ -28,28 +28,28 @@ enum Side {
 
 /// At each time `t` the Sup of the value at `t + a`, where that time counts, and of the limit there from the right.
 pub(crate) fn at_low_end<P: Shape>(s: &Signal<P>, a: u64, a_in: bool) -> Result<Signal<P>, Memory>
-    requires limited { IsLimited P.function s.now }
+    requires limited { IsLimited P.Shape s.now }
     requires first { whole (pos 0) ≤ʳ start s.now }
     requires last { stop s.now ≤ʳ whole (pos (2 ^ 32)) }
     requires small { a ≤ 2 ^ 32 }
-    requires bases { HaveRoom P.base a s.now }
-    ensures worth { IfOk result (Tells P.function (AtLowEnd P.lowest (IsWorth P.function s.now) a a_in) (start s.now) (stop s.now)) }
-    ensures limited { IfOk result (λ r. IsLimited P.function r) }
-    ensures bases { IfOk result (BasesFrom P.moves P.base (λ k. k -ℤ pos a) s.now) }
+    requires bases { HaveRoom P.Shape a s.now }
+    ensures worth { IfOk result (Tells P.Shape (AtLowEnd P.lowest (IsWorth P.Shape s.now) a a_in) (start s.now) (stop s.now)) }
+    ensures limited { IfOk result (λ r. IsLimited P.Shape r) }
+    ensures bases { IfOk result (BasesFrom P.Shape (λ k. k -ℤ pos a) s.now) }
 {
     beside_ahead(s, a, Side::Right, a_in)
 }
 
 /// At each time `t` the Sup of the value at `t + b`, where that time counts, and of the limit there from the left.
 pub(crate) fn at_high_end<P: Shape>(s: &Signal<P>, b: u64, b_in: bool) -> Result<Signal<P>, Memory>
-    requires limited { IsLimited P.function s.now }
+    requires limited { IsLimited P.Shape s.now }
     requires first { whole (pos 0) ≤ʳ start s.now }
     requires last { stop s.now ≤ʳ whole (pos (2 ^ 32)) }
     requires small { b ≤ 2 ^ 32 }
-    requires bases { HaveRoom P.base b s.now }
-    ensures worth { IfOk result (Tells P.function (AtHighEnd P.lowest (IsWorth P.function s.now) b b_in) (start s.now) (stop s.now)) }
-    ensures limited { IfOk result (λ r. IsLimited P.function r) }
-    ensures bases { IfOk result (BasesFrom P.moves P.base (λ k. k -ℤ pos b) s.now) }
+    requires bases { HaveRoom P.Shape b s.now }
+    ensures worth { IfOk result (Tells P.Shape (AtHighEnd P.lowest (IsWorth P.Shape s.now) b b_in) (start s.now) (stop s.now)) }
+    ensures limited { IfOk result (λ r. IsLimited P.Shape r) }
+    ensures bases { IfOk result (BasesFrom P.Shape (λ k. k -ℤ pos b) s.now) }
     ensures beyond { IfOk result (λ r. stop s.now <ʳ later (start s.now) b → (p : P) → HasShape r p → P.moves p ≡ false) }
 {
     beside_ahead(s, b, Side::Left, b_in)
@@ -57,13 +57,13 @@ pub(crate) fn at_high_end<P: Shape>(s: &Signal<P>, b: u64, b_in: bool) -> Result
 
 /// At each time `t` the value at `t + a`, and the least value where that time lies beyond the domain.
 pub(crate) fn at_instant<P: Shape>(s: &Signal<P>, a: u64) -> Result<Signal<P>, Memory>
-    requires limited { IsLimited P.function s.now }
+    requires limited { IsLimited P.Shape s.now }
     requires first { whole (pos 0) ≤ʳ start s.now }
     requires last { stop s.now ≤ʳ whole (pos (2 ^ 32)) }
     requires small { a ≤ 2 ^ 32 }
-    requires bases { HaveRoom P.base a s.now }
-    ensures worth { IfOk result (Tells P.function (AtInstant P.lowest (IsWorth P.function s.now) a) (start s.now) (stop s.now)) }
-    ensures bases { IfOk result (BasesFrom P.moves P.base (λ k. k -ℤ pos a) s.now) }
+    requires bases { HaveRoom P.Shape a s.now }
+    ensures worth { IfOk result (Tells P.Shape (AtInstant P.lowest (IsWorth P.Shape s.now) a) (start s.now) (stop s.now)) }
+    ensures bases { IfOk result (BasesFrom P.Shape (λ k. k -ℤ pos a) s.now) }
 {
     beside_ahead(s, a, Side::Neither, true)
 }
@@ -76,14 +76,14 @@ fn beside_ahead<P: Shape>(
     counts: bool,
 ) -> Result<Signal<P>, Memory>
     requires taken { TakesOne side counts }
-    requires limited { IsLimited P.function s.now }
+    requires limited { IsLimited P.Shape s.now }
     requires first { whole (pos 0) ≤ʳ start s.now }
     requires last { stop s.now ≤ʳ whole (pos (2 ^ 32)) }
     requires small { by ≤ 2 ^ 32 }
-    requires bases { HaveRoom P.base by s.now }
-    ensures worth { IfOk result (Tells P.function (λ t r. Beside P.lowest (IsWorth P.function s.now) side counts (later t by) r) (start s.now) (stop s.now)) }
-    ensures limited { IfOk result (λ r. IsLimited P.function r) }
-    ensures bases { IfOk result (BasesFrom P.moves P.base (λ k. k -ℤ pos by) s.now) }
+    requires bases { HaveRoom P.Shape by s.now }
+    ensures worth { IfOk result (Tells P.Shape (λ t r. Beside P.lowest (IsWorth P.Shape s.now) side counts (later t by) r) (start s.now) (stop s.now)) }
+    ensures limited { IfOk result (λ r. IsLimited P.Shape r) }
+    ensures bases { IfOk result (BasesFrom P.Shape (λ k. k -ℤ pos by) s.now) }
     ensures beyond { IfOk result (λ r. stop s.now <ʳ later (start s.now) by → (p : P) → HasShape r p → P.moves p ≡ false) }
 {
     let by = by as i64;
@@ -103,7 +103,7 @@ pub(crate) fn least_between<P: Shape>(
 ) -> Result<Signal<P>, Memory>
     requires order { value from.now ≤ʳ value to.now }
     requires from_within { IsWithin (2 ^ 34) (value from.now) }
-    ensures worth { IfOk result (Tells P.function (λ t v. v ≈ᵉ P.lowest) (value from.now) (value to.now)) }
+    ensures worth { IfOk result (Tells P.Shape (λ t v. v ≈ᵉ P.lowest) (value from.now) (value to.now)) }
     ensures still { IfOk result (λ r. (p : P) → HasShape r p → P.moves p ≡ false) }
 {
     let least = P::least();
@@ -123,10 +123,10 @@ fn beside_until<P: Shape>(
     counts: bool,
 ) -> Result<Signal<P>, Memory>
     requires taken { TakesOne side counts }
-    requires limited { IsLimited P.function s.now }
+    requires limited { IsLimited P.Shape s.now }
     requires order { stop s.now ≤ʳ value until.now }
     ensures worth { IfOk result
-        (Tells P.function (Beside P.lowest (IsWorth P.function s.now) side counts) (start s.now) (value until.now)) }
+        (Tells P.Shape (Beside P.lowest (IsWorth P.Shape s.now) side counts) (start s.now) (value until.now)) }
     ensures shapes { IfOk result (λ r. (p : P) → HasShape r p → HasShape s.now p ⊎ (P.moves p ≡ false)) }
 {
     let stop = s.stop();
@@ -141,9 +141,9 @@ fn beside_until<P: Shape>(
 /// At each time the Sup of the signal's value there, where it counts, and of its limit from the side.
 fn beside<P: Shape>(s: &Signal<P>, side: Side, counts: bool) -> Result<Builder<P>, Memory>
     requires taken { TakesOne side counts }
-    requires limited { IsLimited P.function s.now }
+    requires limited { IsLimited P.Shape s.now }
     ensures worth { IfOk result
-        (Tells P.function (Beside P.lowest (IsWorth P.function s.now) side counts) (start s.now) (stop s.now)) }
+        (Tells P.Shape (Beside P.lowest (IsWorth P.Shape s.now) side counts) (start s.now) (stop s.now)) }
     ensures shapes { IfOk result (λ r. (p : P) → HasShape r p → HasShape s.now p ⊎ (P.moves p ≡ false)) }
 {
     let count = s.len();
@@ -159,12 +159,12 @@ fn beside<P: Shape>(s: &Signal<P>, side: Side, counts: bool) -> Result<Builder<P
 
 /// At a knot the Sup of the signal's value, where it counts, and of its limit from the side.
 fn at_knot<P: Shape>(s: &Signal<P>, i: usize, side: Side, counts: bool) -> P
-    requires signal { IsSignal P.function s.now }
-    requires limited { IsLimited P.function s.now }
+    requires signal { IsSignal P.Shape s.now }
+    requires limited { IsLimited P.Shape s.now }
     requires place { i < length s.now }
     ensures shape { HasShape s.now result ⊎ (P.moves result ≡ false) }
     ensures value { (k : Knot P) → slice_get s.now i ≡ Some k
-        → Beside P.lowest (IsWorth P.function s.now) side counts (time k) (value_at (P.function result) (time k)) }
+        → Beside P.lowest (IsWorth P.Shape s.now) side counts (time k) (value_at (P.function result) (time k)) }
 {
     let limit = limit_at_knot(s, i, side);
     if !counts {
@@ -182,7 +182,7 @@ fn limit_at_knot<P: Shape>(s: &Signal<P>, i: usize, side: Side) -> P
     requires place { i < length s.now }
     ensures shape { HasShape s.now result ⊎ (P.moves result ≡ false) }
     ensures value { (k : Knot P) → slice_get s.now i ≡ Some k
-        → IsSup P.lowest (IsLimitFrom side (IsWorth P.function s.now) (time k)) (value_at (P.function result) (time k)) }
+        → IsSup P.lowest (IsLimitFrom side (IsWorth P.Shape s.now) (time k)) (value_at (P.function result) (time k)) }
 {
     let count = s.len();
     match side {

@@ -32,11 +32,11 @@ fn greater<P: Shape>(p: P, q: P, t: &Frac) -> P
 
 /// The shape of the signal that has, at the knot at the place `i`, the greatest of the signal's value and its limits there.
 fn greatest_about<P: Shape>(s: &Signal<P>, i: usize) -> P
-    requires limited { IsLimited P.function s.now }
+    requires limited { IsLimited P.Shape s.now }
     requires not_first { 0 < i }
     requires inside { i < length s.now }
     ensures shape { HasShape s.now result }
-    ensures greatest { (k : Knot P) → slice_get s.now i ≡ Some k → IsGreatestAbout P.function s.now (time k) (value_at (P.function result) (time k)) }
+    ensures greatest { (k : Knot P) → slice_get s.now i ≡ Some k → IsGreatestAbout P.Shape s.now (time k) (value_at (P.function result) (time k)) }
     ensures small { (k : Knot P) → slice_get s.now i ≡ Some k → IsBounded (2 ^ 31) (value_at (P.function result) (time k)) }
 {
     let count = s.len();
@@ -51,13 +51,13 @@ fn greatest_about<P: Shape>(s: &Signal<P>, i: usize) -> P
 
 /// The constant of the knot at the place `i`.
 fn freeze<P: Shape>(s: &Signal<P>, i: usize) -> Result<P, OpFault<P>>
-    requires limited { IsLimited P.function s.now }
+    requires limited { IsLimited P.Shape s.now }
     requires not_first { 0 < i }
     requires inside { i < length s.now }
-    ensures frozen { IfOk result (λ p. (k : Knot P) → slice_get s.now i ≡ Some k → IsFrozen P.function s.now (time k) p) }
+    ensures frozen { IfOk result (λ p. (k : Knot P) → slice_get s.now i ≡ Some k → IsFrozen P.Shape s.now (time k) p) }
     ensures still { IfOk result (λ p. P.moves p ≡ false) }
     ensures wide { IfErr result (λ e. (a : ℕ) → ((k : Knot P) → slice_get s.now i ≡ Some k → later (start s.now) a <ʳ time k)
-        → IsKnotFault P.function s.now a e) }
+        → IsKnotFault P.Shape s.now a e) }
 {
     let shape = greatest_about(s, i);
     let at = s.knot(i).time;
@@ -73,15 +73,15 @@ fn freeze<P: Shape>(s: &Signal<P>, i: usize) -> Result<P, OpFault<P>>
 
 /// The constants of the knots from the place `first` on, in a row.
 pub(crate) fn freeze_from<P: Shape>(s: &Signal<P>, first: usize) -> Result<Vec<P>, OpFault<P>>
-    requires limited { IsLimited P.function s.now }
+    requires limited { IsLimited P.Shape s.now }
     requires not_first { 0 < first }
     requires inside { first ≤ length s.now }
     ensures count { IfOk result (λ v. first + length v.items ≡ length s.now) }
-    ensures frozen { IfOk result (λ v. AreFrozen P.function s.now first v.items) }
+    ensures frozen { IfOk result (λ v. AreFrozen P.Shape s.now first v.items) }
     ensures still { IfOk result (λ v. All (λ p. P.moves p ≡ false) v.items) }
     ensures wide { IfErr result (λ e. (a : ℕ)
         → ((i : ℕ) (k : Knot P) → slice_get s.now i ≡ Some k → first ≤ i → later (start s.now) a <ʳ time k)
-        → IsKnotFault P.function s.now a e) }
+        → IsKnotFault P.Shape s.now a e) }
 {
     let count = s.len();
     let Ok(mut shapes) = Vec::with_capacity(s.alloc(), count - first) else {
@@ -126,7 +126,7 @@ pub(crate) fn greatest<P: Shape, L: Ledger>(
     requires within { hi ≤ first + length shapes.now }
     requires low { first + ranges.old.low ≤ lo }
     requires high { first + ranges.old.high ≤ hi }
-    ensures top { IsTop P.function P.lowest first shapes.now lo hi result }
+    ensures top { IsTop P.Shape P.lowest first shapes.now lo hi result }
     ensures still { P.moves result ≡ false }
     ensures items { ranges.new.items ≡ ranges.old.items }
     ensures low { first + ranges.new.low ≡ lo }

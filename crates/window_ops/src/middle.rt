@@ -26,15 +26,15 @@ use window_extrema::RangeMax;
 ///
 /// It is refused as `Wide` only for such a value or limit that needs a denominator of 2^60 or more.
 pub(crate) fn among_knots<P: Shape>(s: &Signal<P>, a: u64, b: u64) -> Result<Signal<P>, OpFault<P>>
-    requires limited { IsLimited P.function s.now }
+    requires limited { IsLimited P.Shape s.now }
     requires first { whole (pos 0) ≤ʳ start s.now }
     requires last { stop s.now ≤ʳ whole (pos (2 ^ 32)) }
     requires order { a < b }
     requires small { b ≤ 2 ^ 32 }
-    ensures worth { IfOk result (Tells P.function (AmongKnots P.function P.lowest s.now a b) (start s.now) (stop s.now)) }
-    ensures one { IfOk result (λ r. (t : Rational) (v : Extended) → IsWorth P.function r t v → IsLeastOrAmong P.function P.lowest s.now a b t v) }
+    ensures worth { IfOk result (Tells P.Shape (AmongKnots P.Shape P.lowest s.now a b) (start s.now) (stop s.now)) }
+    ensures one { IfOk result (λ r. (t : Rational) (v : Extended) → IsWorth P.Shape r t v → IsLeastOrAmong P.Shape P.lowest s.now a b t v) }
     ensures still { IfOk result (λ r. (p : P) → HasShape r p → P.moves p ≡ false) }
-    ensures wide { IfErr result (IsKnotFault P.function s.now a) }
+    ensures wide { IfErr result (IsKnotFault P.Shape s.now a) }
 {
     let first = knots_passed(s, a);
     let shapes = freeze_from(s, first)?;
@@ -63,13 +63,13 @@ fn walk<P: Shape, L: Ledger>(
     requires small { b ≤ 2 ^ 32 }
     requires left { HasPassed s.now (later (start s.now) a) first }
     requires count { first + length shapes.now ≡ length s.now }
-    requires frozen { AreFrozen P.function s.now first shapes.now }
+    requires frozen { AreFrozen P.Shape s.now first shapes.now }
     requires still { All (λ p. P.moves p ≡ false) shapes.now }
     requires items { ranges.items ≡ shapes.now }
     requires low { ranges.low ≡ 0 }
     requires high { ranges.high ≡ 0 }
-    ensures worth { IfOk result (Tells P.function (AmongKnots P.function P.lowest s.now a b) (start s.now) (stop s.now)) }
-    ensures one { IfOk result (λ r. (t : Rational) (v : Extended) → IsWorth P.function r t v → IsLeastOrAmong P.function P.lowest s.now a b t v) }
+    ensures worth { IfOk result (Tells P.Shape (AmongKnots P.Shape P.lowest s.now a b) (start s.now) (stop s.now)) }
+    ensures one { IfOk result (λ r. (t : Rational) (v : Extended) → IsWorth P.Shape r t v → IsLeastOrAmong P.Shape P.lowest s.now a b t v) }
     ensures still { IfOk result (λ r. (p : P) → HasShape r p → P.moves p ≡ false) }
 {
     let mut steps = Steps::<L>::new(blank);
@@ -103,7 +103,7 @@ fn ended<P: Shape>(
     requires here { stop built ≡ value at.now }
     requires order { value at.now ≤ʳ value to }
     requires limited { IsWithin (2 ^ 34) (value at.now) }
-    ensures { IfOk result (λ r. ((r ≡ built) × (value at.now ≈ value to)) ⊎ ((value at.now <ʳ value to) × GoesOn P.function built after to after r)) }
+    ensures { IfOk result (λ r. ((r ≡ built) × (value at.now ≈ value to)) ⊎ ((value at.now <ʳ value to) × GoesOn P.Shape built after to after r)) }
 {
     match at.cmp(&to) {
         Ordering::Less => {

@@ -31,15 +31,15 @@ pub fn inf_window<P: Shape>(
     low_in: bool,
     high_in: bool,
 ) -> Result<Signal<P>, OpFault<P>>
-    requires limited { IsLimited P.function s.now }
+    requires limited { IsLimited P.Shape s.now }
     requires first { whole (pos 0) ≤ʳ start s.now }
     requires last { stop s.now <ʳ whole (pos (2 ^ 32)) }
-    requires near { AreNear P.base s.now }
+    requires near { AreNear P.Shape s.now }
     requires order { a ≤ b }
-    ensures worth { IfOk result (Tells P.function (InfAhead (start s.now) (stop s.now) (IsWorth P.function s.now) P.highest a b low_in high_in)
+    ensures worth { IfOk result (Tells P.Shape (InfAhead (start s.now) (stop s.now) (IsWorth P.Shape s.now) P.highest a b low_in high_in)
         (start s.now) (stop s.now)) }
-    ensures bases { IfOk result (BasesAhead P.moves P.base a b s.now) }
-    ensures wide { IfErr result (HasCause P.function (window_ahead (IsWorth P.function s.now) a b low_in high_in) (start s.now) (stop s.now)) }
+    ensures bases { IfOk result (BasesAhead P.Shape a b s.now) }
+    ensures wide { IfErr result (HasCause P.Shape (window_ahead (IsWorth P.Shape s.now) a b low_in high_in) (start s.now) (stop s.now)) }
 {
     lowest_is_minus_highest::<P>();
     let negated = minus(s)?;
@@ -60,15 +60,15 @@ pub fn inf_past<P: Shape>(
     low_in: bool,
     high_in: bool,
 ) -> Result<Signal<P>, OpFault<P>>
-    requires limited { IsLimited P.function s.now }
+    requires limited { IsLimited P.Shape s.now }
     requires first { whole (pos 0) ≤ʳ start s.now }
     requires last { stop s.now ≤ʳ whole (pos (2 ^ 32 - 1)) }
-    requires near { AreNear P.base s.now }
+    requires near { AreNear P.Shape s.now }
     requires order { IfSome b (λ b. a ≤ b) }
-    ensures worth { IfOk result (Tells P.function (InfBehind (start s.now) (stop s.now) (IsWorth P.function s.now) P.highest a b low_in high_in)
+    ensures worth { IfOk result (Tells P.Shape (InfBehind (start s.now) (stop s.now) (IsWorth P.Shape s.now) P.highest a b low_in high_in)
         (start s.now) (stop s.now)) }
-    ensures bases { IfOk result (BasesBehind P.moves P.base a b s.now) }
-    ensures wide { IfErr result (HasCause P.function (window_behind (IsWorth P.function s.now) a b low_in high_in) (start s.now) (stop s.now)) }
+    ensures bases { IfOk result (BasesBehind P.Shape a b s.now) }
+    ensures wide { IfErr result (HasCause P.Shape (window_behind (IsWorth P.Shape s.now) a b low_in high_in) (start s.now) (stop s.now)) }
 {
     lowest_is_minus_highest::<P>();
     let negated = minus(s)?;
@@ -80,13 +80,13 @@ pub fn inf_past<P: Shape>(
 
 /// Minus the signal. What a window asks of the signal it may ask of this one.
 fn minus<P: Shape>(s: &Signal<P>) -> Result<Signal<P>, Memory>
-    requires limited { IsLimited P.function s.now }
-    requires near { AreNear P.base s.now }
-    ensures signal { IsSignal P.function s.now }
-    ensures worth { IfOk result (Tells P.function (Negated (IsWorth P.function s.now)) (start s.now) (stop s.now)) }
-    ensures limited { IfOk result (λ r. IsLimited P.function r) }
-    ensures near { IfOk result (λ r. AreNear P.base r) }
-    ensures bases { IfOk result (BasesFrom P.moves P.base (λ b. b) s.now) }
+    requires limited { IsLimited P.Shape s.now }
+    requires near { AreNear P.Shape s.now }
+    ensures signal { IsSignal P.Shape s.now }
+    ensures worth { IfOk result (Tells P.Shape (Negated (IsWorth P.Shape s.now)) (start s.now) (stop s.now)) }
+    ensures limited { IfOk result (λ r. IsLimited P.Shape r) }
+    ensures near { IfOk result (λ r. AreNear P.Shape r) }
+    ensures bases { IfOk result (BasesFrom P.Shape (λ b. b) s.now) }
 {
     let _ = s.len();
     neg(s)
@@ -94,8 +94,8 @@ fn minus<P: Shape>(s: &Signal<P>) -> Result<Signal<P>, Memory>
 
 /// The fault with its shapes negated.
 fn negated_fault<P: Shape>(fault: OpFault<P>) -> OpFault<P>
-    requires { HaveBoundedLevels P.function fault }
-    ensures { IsNegated P.function fault result }
+    requires { HaveBoundedLevels P.Shape fault }
+    ensures { IsNegated P.Shape fault result }
 {
     match fault {
         OpFault::Memory => OpFault::Memory,

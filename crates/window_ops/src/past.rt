@@ -32,15 +32,15 @@ pub fn sup_past<P: Shape>(
     low_in: bool,
     high_in: bool,
 ) -> Result<Signal<P>, OpFault<P>>
-    requires limited { IsLimited P.function s.now }
+    requires limited { IsLimited P.Shape s.now }
     requires first { whole (pos 0) ≤ʳ start s.now }
     requires last { stop s.now ≤ʳ whole (pos (2 ^ 32 - 1)) }
-    requires near { AreNear P.base s.now }
+    requires near { AreNear P.Shape s.now }
     requires order { IfSome b (λ b. a ≤ b) }
-    ensures worth { IfOk result (Tells P.function (SupBehind (start s.now) (stop s.now) (IsWorth P.function s.now) P.lowest a b low_in high_in)
+    ensures worth { IfOk result (Tells P.Shape (SupBehind (start s.now) (stop s.now) (IsWorth P.Shape s.now) P.lowest a b low_in high_in)
         (start s.now) (stop s.now)) }
-    ensures bases { IfOk result (BasesBehind P.moves P.base a b s.now) }
-    ensures wide { IfErr result (HasCause P.function (window_behind (IsWorth P.function s.now) a b low_in high_in) (start s.now) (stop s.now)) }
+    ensures bases { IfOk result (BasesBehind P.Shape a b s.now) }
+    ensures wide { IfErr result (HasCause P.Shape (window_behind (IsWorth P.Shape s.now) a b low_in high_in) (start s.now) (stop s.now)) }
 {
     let _ = s.len();
     let mirrored = s.mirror(LAST)?;
@@ -63,8 +63,8 @@ fn reach(bound: Option<u32>) -> u64
 
 /// The fault with its shapes and times mirrored.
 fn mirrored_fault<P: Shape>(fault: OpFault<P>) -> OpFault<P>
-    requires { CanTurnFault P.base fault }
-    ensures { IsTurnedFault P.function fault result }
+    requires { CanTurnFault P.Shape fault }
+    ensures { IsTurnedFault P.Shape fault result }
 {
     match fault {
         OpFault::Memory => OpFault::Memory,
@@ -74,8 +74,8 @@ fn mirrored_fault<P: Shape>(fault: OpFault<P>) -> OpFault<P>
 
 /// The pair with its shapes and times mirrored.
 fn mirrored_pair<P: Shape>(pair: WidePair<P>) -> WidePair<P>
-    requires { CanTurn P.base pair }
-    ensures { IsTurnedPair P.function pair result }
+    requires { CanTurn P.Shape pair }
+    ensures { IsTurnedPair P.Shape pair result }
 {
     match pair {
         WidePair::Cross {

@@ -29,15 +29,15 @@ pub fn sup_window<P: Shape>(
     low_in: bool,
     high_in: bool,
 ) -> Result<Signal<P>, OpFault<P>>
-    requires limited { IsLimited P.function s.now }
+    requires limited { IsLimited P.Shape s.now }
     requires first { whole (pos 0) ≤ʳ start s.now }
     requires last { stop s.now <ʳ whole (pos (2 ^ 32)) }
-    requires near { AreNear P.base s.now }
+    requires near { AreNear P.Shape s.now }
     requires order { a ≤ b }
-    ensures worth { IfOk result (Tells P.function (SupAhead (start s.now) (stop s.now) (IsWorth P.function s.now) P.lowest a b low_in high_in)
+    ensures worth { IfOk result (Tells P.Shape (SupAhead (start s.now) (stop s.now) (IsWorth P.Shape s.now) P.lowest a b low_in high_in)
         (start s.now) (stop s.now)) }
-    ensures bases { IfOk result (BasesAhead P.moves P.base a b s.now) }
-    ensures wide { IfErr result (HasCause P.function (window_ahead (IsWorth P.function s.now) a b low_in high_in) (start s.now) (stop s.now)) }
+    ensures bases { IfOk result (BasesAhead P.Shape a b s.now) }
+    ensures wide { IfErr result (HasCause P.Shape (window_ahead (IsWorth P.Shape s.now) a b low_in high_in) (start s.now) (stop s.now)) }
 {
     sup_ahead(s, u64::from(a), u64::from(b), low_in, high_in)
 }
@@ -50,18 +50,18 @@ pub(crate) fn sup_ahead<P: Shape>(
     low_in: bool,
     high_in: bool,
 ) -> Result<Signal<P>, OpFault<P>>
-    requires limited { IsLimited P.function s.now }
+    requires limited { IsLimited P.Shape s.now }
     requires first { whole (pos 0) ≤ʳ start s.now }
     requires last { stop s.now <ʳ whole (pos (2 ^ 32)) }
-    requires low_room { HaveRoom P.base a s.now }
-    requires high_room { HaveRoom P.base b s.now }
+    requires low_room { HaveRoom P.Shape a s.now }
+    requires high_room { HaveRoom P.Shape b s.now }
     requires order { a ≤ b }
     requires small { b ≤ 2 ^ 32 }
-    ensures worth { IfOk result (Tells P.function (SupAhead (start s.now) (stop s.now) (IsWorth P.function s.now) P.lowest a b low_in high_in)
+    ensures worth { IfOk result (Tells P.Shape (SupAhead (start s.now) (stop s.now) (IsWorth P.Shape s.now) P.lowest a b low_in high_in)
         (start s.now) (stop s.now)) }
-    ensures bases { IfOk result (BasesReached P.moves P.base a b s.now) }
-    ensures named { IfErr result (NamesMoved P.moves P.base a b s.now) }
-    ensures wide { IfErr result (HasCause P.function (window_ahead (IsWorth P.function s.now) a b low_in high_in) (start s.now) (stop s.now)) }
+    ensures bases { IfOk result (BasesReached P.Shape a b s.now) }
+    ensures named { IfErr result (NamesMoved P.Shape a b s.now) }
+    ensures wide { IfErr result (HasCause P.Shape (window_ahead (IsWorth P.Shape s.now) a b low_in high_in) (start s.now) (stop s.now)) }
 {
     if a == b {
         return Ok(sup_at(s, a, low_in, high_in)?);
@@ -72,14 +72,14 @@ pub(crate) fn sup_ahead<P: Shape>(
 /// The Sup over the window of the one instant `t + a`: the value there. Where an end is out, or `t + a` lies beyond the domain, the
 /// window is empty and the Sup is the least value.
 fn sup_at<P: Shape>(s: &Signal<P>, a: u64, low_in: bool, high_in: bool) -> Result<Signal<P>, Memory>
-    requires limited { IsLimited P.function s.now }
+    requires limited { IsLimited P.Shape s.now }
     requires first { whole (pos 0) ≤ʳ start s.now }
     requires last { stop s.now ≤ʳ whole (pos (2 ^ 32)) }
     requires small { a ≤ 2 ^ 32 }
-    requires bases { HaveRoom P.base a s.now }
-    ensures worth { IfOk result (Tells P.function (SupAhead (start s.now) (stop s.now) (IsWorth P.function s.now) P.lowest a a low_in high_in)
+    requires bases { HaveRoom P.Shape a s.now }
+    ensures worth { IfOk result (Tells P.Shape (SupAhead (start s.now) (stop s.now) (IsWorth P.Shape s.now) P.lowest a a low_in high_in)
         (start s.now) (stop s.now)) }
-    ensures bases { IfOk result (BasesFrom P.moves P.base (λ k. k -ℤ pos a) s.now) }
+    ensures bases { IfOk result (BasesFrom P.Shape (λ k. k -ℤ pos a) s.now) }
 {
     let (from, to) = (s.start(), s.stop());
     if low_in && high_in {
@@ -96,18 +96,18 @@ fn sup_between<P: Shape>(
     low_in: bool,
     high_in: bool,
 ) -> Result<Signal<P>, OpFault<P>>
-    requires limited { IsLimited P.function s.now }
+    requires limited { IsLimited P.Shape s.now }
     requires first { whole (pos 0) ≤ʳ start s.now }
     requires last { stop s.now <ʳ whole (pos (2 ^ 32)) }
-    requires low_room { HaveRoom P.base a s.now }
-    requires high_room { HaveRoom P.base b s.now }
+    requires low_room { HaveRoom P.Shape a s.now }
+    requires high_room { HaveRoom P.Shape b s.now }
     requires order { a < b }
     requires small { b ≤ 2 ^ 32 }
-    ensures worth { IfOk result (Tells P.function (SupAhead (start s.now) (stop s.now) (IsWorth P.function s.now) P.lowest a b low_in high_in)
+    ensures worth { IfOk result (Tells P.Shape (SupAhead (start s.now) (stop s.now) (IsWorth P.Shape s.now) P.lowest a b low_in high_in)
         (start s.now) (stop s.now)) }
-    ensures bases { IfOk result (BasesReached P.moves P.base a b s.now) }
-    ensures named { IfErr result (NamesMoved P.moves P.base a b s.now) }
-    ensures wide { IfErr result (HasCause P.function (window_ahead (IsWorth P.function s.now) a b low_in high_in) (start s.now) (stop s.now)) }
+    ensures bases { IfOk result (BasesReached P.Shape a b s.now) }
+    ensures named { IfErr result (NamesMoved P.Shape a b s.now) }
+    ensures wide { IfErr result (HasCause P.Shape (window_ahead (IsWorth P.Shape s.now) a b low_in high_in) (start s.now) (stop s.now)) }
 {
     let _ = s.len();
     let low = at_low_end(s, a, low_in)?;

@@ -8,6 +8,8 @@ use Rattle.rational.specs.Affine.{level}
 use Rattle.rational.proofs.Order.{same_sym}
 use Rattle.rational.proofs.AffineLemmas.{same_reflᵉ, same_symᵉ}
 use Rattle.rational.proofs.LevelLemmas.{level_is}
+use Rattle.value_laws.specs.Members.{ShapeOf}
+use Rattle.value_laws.specs.Kinds.{truth_shape}
 use Rattle.pl_signal.specs.declared.knot.Knot.{Knot}
 use Rattle.pl_signal.specs.Knots as knots
 use Rattle.pl_signal.specs.Moves.{Tells}
@@ -57,32 +59,28 @@ up_to_last width (r ∷ rows) h = last_from width r.time rows h.1
 pub first_to_last : (t : Trace) → IsTrace t → first_time t.rows ≤ last_time 0 t.rows
 first_to_last t ok = up_to_last (length t.header.columns) t.rows ok.rows
 
-module _ (function : Truth → Affine) (base : Truth → ℤ) (c : Case) where
-  pub no_atoms : AreAtomsOf function base c 0 []
-  no_atoms = record { count = refl; inputs = λ k d h. absurd (omega (arith, h)); told = told_none function c.formula.nodes (truth_setting c.trace) }
+module _ (shape : ShapeOf Truth) (c : Case) where
+  pub no_atoms : AreAtomsOf shape c 0 []
+  no_atoms = record { count = refl; inputs = λ k d h. absurd (omega (arith, h)); told = told_none shape c.formula.nodes (truth_setting c.trace) }
 
   -- with the signal of the next atom the signals are those of one node more
   pub atom_on : (i : ℕ) (a : Atom) (signals : List (List (Knot Truth))) (x : List (Knot Truth))
       → slice_get c.formula.nodes i ≡ Some (Leaf a) → IsBound c.bound c.formula c.trace.header → IsTrace c.trace
-      → IsAtomSignal function base truths c.bound i c.trace x → AreAtomsOf function base c i signals → AreAtomsOf function base c (i + 1) (signals ++ x ∷ [])
+      → IsAtomSignal shape truths c.bound i c.trace x → AreAtomsOf shape c i signals → AreAtomsOf shape c (i + 1) (signals ++ x ∷ [])
   atom_on i a signals x at bound rows is before = record {
     count = let e = length-append signals (x ∷ []) in let f = before.count in let g = atoms_on_atom c.formula.nodes i a at in omega (arith, e, f, g);
-    inputs = All-push (IsInput function base (first_time c.trace.rows) (last_time 0 c.trace.rows)) signals x before.inputs (record { begins = is.begins; ends = is.ends; bases = is.bases; limited = is.limited });
-    told = told_atom function c.formula.nodes (truth_setting c.trace) i a signals x at before.count before.told (is.tells a (record { formula = c.formula; bound = bound; node = at; rows = rows }));
+    inputs = All-push (IsInput shape (first_time c.trace.rows) (last_time 0 c.trace.rows)) signals x before.inputs (record { begins = is.begins; ends = is.ends; bases = is.bases; limited = is.limited });
+    told = told_atom shape c.formula.nodes (truth_setting c.trace) i a signals x at before.count before.told (is.tells a (record { formula = c.formula; bound = bound; node = at; rows = rows }));
   }
 
   -- a node of another kind needs none
   pub other_on : (i : ℕ) (n : Node) (signals : List (List (Knot Truth))) → slice_get c.formula.nodes i ≡ Some n → is_atom n ≡ false
-      → AreAtomsOf function base c i signals → AreAtomsOf function base c (i + 1) signals
+      → AreAtomsOf shape c i signals → AreAtomsOf shape c (i + 1) signals
   other_on i n signals at other before = record {
     count = before.count ∙ sym (atoms_on_other c.formula.nodes i n at other);
     inputs = before.inputs;
-    told = told_other function c.formula.nodes (truth_setting c.trace) i n signals at other before.told;
+    told = told_other shape c.formula.nodes (truth_setting c.trace) i n signals at other before.told;
   }
-
--- a truth's function of time
-abbrev pub truth_function : Truth → Affine
-truth_function p = level (truth_value p.holds)
 
 sign_passes : (holds : Bool) (t : Rational) → sign_of holds ≈ᵉ value_at (level (truth_value holds)) t
 sign_passes true t = same_symᵉ (value_at (level (truth_value true)) t) one (level_is (truth_value true) t)
@@ -90,25 +88,25 @@ sign_passes false t = same_symᵉ (value_at (level (truth_value false)) t) minus
 
 -- what a signal of truth is worth at its start
 pub at_start : (ks : List (Knot Truth)) (k : Knot Truth) → slice_get ks 0 ≡ Some k → (t : Rational) → t ≈ knots.start ks
-    → knots.IsWorth truth_function ks t (sign_of k.point.holds)
+    → knots.IsWorth truth_shape ks t (sign_of k.point.holds)
 at_start [] k h t e = absurd cc
 at_start (l ∷ ks) k h t e =
     let same : l ≡ k = cc in
-    subst (λ m. knots.IsWorth truth_function (l ∷ ks) t (sign_of m.point.holds)) same (inl (record { when = e; worth = sign_passes l.point.holds t }))
+    subst (λ m. knots.IsWorth truth_shape (l ∷ ks) t (sign_of m.point.holds)) same (inl (record { when = e; worth = sign_passes l.point.holds t }))
 
 -- the root's signal tells the whole formula
-pub root_told : (c : Case) (signals : List (List (Knot Truth))) → AreNodesOf truth_function c signals → 0 < length c.formula.nodes
+pub root_told : (c : Case) (signals : List (List (Knot Truth))) → AreNodesOf truth_shape c signals → 0 < length c.formula.nodes
     → (x : List (Knot Truth)) → slice_get signals (length c.formula.nodes - 1) ≡ Some x
-    → Tells truth_function (SupInf (root c.formula.nodes) (truth_setting c.trace)) (start c.trace) (stop c.trace) x
+    → Tells truth_shape (SupInf (root c.formula.nodes) (truth_setting c.trace)) (start c.trace) (stop c.trace) x
 root_told c signals all some x is =
     let node = all.told (length c.formula.nodes - 1) (omega (arith, some)) in
-    subst (Tells truth_function (SupInf (root c.formula.nodes) (truth_setting c.trace)) (start c.trace) (stop c.trace)) (some_is (sym node.1 ∙ is)) node.2
+    subst (Tells truth_shape (SupInf (root c.formula.nodes) (truth_setting c.trace)) (start c.trace) (stop c.trace)) (some_is (sym node.1 ∙ is)) node.2
 
 module _ (c : Case) (f : Formula) (case : IsCase f c) (values : HasValues (root c.formula.nodes) (truth_setting c.trace))
-    (x : List (Knot Truth)) (tells : Tells truth_function (SupInf (root c.formula.nodes) (truth_setting c.trace)) (start c.trace) (stop c.trace) x)
-    (holds : Bool) (text : List ℕ) (is : IsSignalText truth_function c.formula.scale x holds text) where
+    (x : List (Knot Truth)) (tells : Tells truth_shape (SupInf (root c.formula.nodes) (truth_setting c.trace)) (start c.trace) (stop c.trace) x)
+    (holds : Bool) (text : List ℕ) (is : IsSignalText truth_shape c.formula.scale x holds text) where
   -- what is worth the sign of a truth is that truth
-  truth_at : (holds : Bool) (t : Rational) → knots.IsWorth truth_function x t (sign_of holds)
+  truth_at : (holds : Bool) (t : Rational) → knots.IsWorth truth_shape x t (sign_of holds)
       → MatchBool holds (Holds (root c.formula.nodes) c.trace t) (¬ Holds (root c.formula.nodes) c.trace t)
   truth_at true t h = let w = (tells.worth t one).0 h in (truth_by_values (root c.formula.nodes) c.trace values t one w.0 w.1).holds.0 (same_reflᵉ one)
   truth_at false t h = let w = (tells.worth t minus_one).0 h in (truth_by_values (root c.formula.nodes) c.trace values t minus_one w.0 w.1).fails.0 (same_reflᵉ minus_one)
@@ -131,7 +129,7 @@ module _ (c : Case) (f : Formula) (case : IsCase f c) (values : HasValues (root 
       is.lines.verdicts,
       is.body,
       start_line holds,
-      signal_describes truth_function (root c.formula.nodes) c.trace x values tells is.lines.verdicts is.lines.described,
+      signal_describes truth_shape (root c.formula.nodes) c.trace x values tells is.lines.verdicts is.lines.described,
       is.lines.lines,
       (holds, now, refl),
       is.parts,

@@ -2,6 +2,7 @@
 use Rattle.std.specs.Prelude.{◌≡◌, ℕ, ℤ, Bool, List, length, All, ◌++◌}
 use Rattle.rational.specs.Time.{Rational, ◌≈◌}
 use Rattle.rational.specs.Extended.{Affine}
+use Rattle.value_laws.specs.Members.{ShapeOf}
 use Rattle.pl_signal.specs.declared.knot.Knot.{Knot}
 use Rattle.pl_signal.specs.Knots.{start, IsWorth}
 use Rattle.value_laws.specs.declared.truth.Truth.{Truth}
@@ -14,21 +15,21 @@ use Rattle.offline_eval.specs.Evaluation.{TellNodes}
 use Rattle.report.specs.SignalVerdicts.{sign_of, AreSignalLines}
 use Rattle.workbench.specs.declared.case.Case.{Case}
 
-module _ (function : Truth → Affine) where
+module _ (shape : ShapeOf Truth) where
   -- the signals of the atoms among the first n nodes of the formula: they tell the truth of the atoms over the trace
-  pub record AreAtomsOf (base : Truth → ℤ) (c : Case) (n : ℕ) (signals : List (List (Knot Truth))) : Type 0 where
+  pub record AreAtomsOf (c : Case) (n : ℕ) (signals : List (List (Knot Truth))) : Type 0 where
     pub count : length signals ≡ atoms_before c.formula.nodes n
-    pub inputs : All (IsInput function base (first_time c.trace.rows) (last_time 0 c.trace.rows)) signals
-    pub told : TellAtomsBelow function n c.formula.nodes signals (truth_setting c.trace)
+    pub inputs : All (IsInput shape (first_time c.trace.rows) (last_time 0 c.trace.rows)) signals
+    pub told : TellAtomsBelow shape n c.formula.nodes signals (truth_setting c.trace)
 
   -- a signal for each node of the formula, which tells its truth over the trace
   pub record AreNodesOf (c : Case) (signals : List (List (Knot Truth))) : Type 0 where
     pub count : length signals ≡ length c.formula.nodes
-    pub told : TellNodes function c.formula.nodes signals (truth_setting c.trace)
+    pub told : TellNodes shape c.formula.nodes signals (truth_setting c.trace)
 
   -- the lines of what a signal tells, and the line of the truth at its start
   pub record IsSignalText (scale : Scale) (knots : List (Knot Truth)) (holds : Bool) (text : List ℕ) : Type 0 where
     pub body : List ℕ
-    pub lines : AreSignalLines function scale knots body
+    pub lines : AreSignalLines shape scale knots body
     pub parts : text ≡ body ++ start_line holds
-    pub first : (t : Rational) → t ≈ start knots → IsWorth function knots t (sign_of holds)
+    pub first : (t : Rational) → t ≈ start knots → IsWorth shape knots t (sign_of holds)

@@ -50,8 +50,8 @@ fn add_atom(alloc: Global, case: &Case, i: u32, atoms: &mut Atoms<Truth>) -> Res
     requires bound { IsBound case.now.bound case.now.formula case.now.trace.header }
     requires some { 0 < length case.now.trace.rows }
     requires inside { i < length case.now.formula.nodes }
-    requires before { AreAtomsOf ⟦<Truth as Shape>⟧.function ⟦<Truth as Shape>⟧.base case.now i atoms.old }
-    ensures { OnOk result (AreAtomsOf ⟦<Truth as Shape>⟧.function ⟦<Truth as Shape>⟧.base case.now (i + 1) atoms.new) }
+    requires before { AreAtomsOf ⟦<Truth as Shape>⟧ case.now i atoms.old }
+    ensures { OnOk result (AreAtomsOf ⟦<Truth as Shape>⟧ case.now (i + 1) atoms.new) }
 {
     let _ = case.trace.rows();
     match case.formula.node(i) {
@@ -68,7 +68,7 @@ fn atoms_of(alloc: Global, case: &Case) -> Result<Atoms<Truth>, Memory>
     requires bound { IsBound case.now.bound case.now.formula case.now.trace.header }
     requires some { 0 < length case.now.trace.rows }
     ensures { IfOk result
-        (AreAtomsOf ⟦<Truth as Shape>⟧.function ⟦<Truth as Shape>⟧.base case.now (length case.now.formula.nodes)) }
+        (AreAtomsOf ⟦<Truth as Shape>⟧ case.now (length case.now.formula.nodes)) }
 {
     let mut atoms = Atoms::new(alloc);
     for i in 0..case.formula.len() {
@@ -84,7 +84,7 @@ fn nodes_of<L: Ledger>(alloc: Global, case: &Case, blank: Blank) -> Result<Evalu
     requires name { blank.name ≡ L.name }
     requires parts { blank.parts ≡ L.parts }
     requires shares { 0 < blank.parts }
-    ensures { IfOk result (AreNodesOf ⟦<Truth as Shape>⟧.function case.now) }
+    ensures { IfOk result (AreNodesOf ⟦<Truth as Shape>⟧ case.now) }
 {
     let atoms = atoms_of(alloc, case)?;
     let (from, to) = (first(&case.trace), last(&case.trace));
@@ -99,7 +99,7 @@ fn nodes_of<L: Ledger>(alloc: Global, case: &Case, blank: Blank) -> Result<Evalu
 /// The text that a signal of truth gives, with times in units of the scale.
 fn answer_of(alloc: Global, scale: Scale, s: &Signal<Truth>) -> Result<Answer, Memory>
     requires { scale.time ≤ 6 }
-    ensures { IfOk result (λ a. IsSignalText ⟦<Truth as Shape>⟧.function scale s.now a.holds a.text) }
+    ensures { IfOk result (λ a. IsSignalText ⟦<Truth as Shape>⟧ scale s.now a.holds a.text) }
 {
     let _ = s.len();
     let mut text = Text::new(alloc);

@@ -36,9 +36,9 @@ returns-clause-grown g c =
     c.gap_on-gap.ensures.to ∙ ap (λ xs. reach k xs (values_at y.trace.now y.row)) first ∙ ap (λ ys. reach k (values_at tr (c.args.r - 1)) ys) second in
     let next : c.reach_of-next.result ≡ reach k (values_at tr c.args.r) (values_at tr c.args.r) = c.reach_of-next.ensures.value ∙ ap (λ ys. reach k ys ys) second in
     let same : to_z w64 (of_z w64 c.reach_of-next.result) ≡ c.reach_of-next.result = search (rules, to_z-of_z) in
-    let goes : GoesAlong g.P.Shape.function g.P.Shape.base g.P.Piecewise.told k.rel c.gap_on-gap.result c.reach_of-next.result c.args.signal.now c.go_on.new.signal =
-    subst (λ n. GoesAlong g.P.Shape.function g.P.Shape.base g.P.Piecewise.told k.rel c.gap_on-gap.result n c.args.signal.now c.go_on.new.signal) same c.in_ok-go_on.ensures in
+    let goes : GoesAlong g.P.Shape g.P.Piecewise.told k.rel c.gap_on-gap.result c.reach_of-next.result c.args.signal.now c.go_on.new.signal =
+    subst (λ n. GoesAlong g.P.Shape g.P.Piecewise.told k.rel c.gap_on-gap.result n c.args.signal.now c.go_on.new.signal) same c.in_ok-go_on.ensures in
     let size : nat_abs c.reach_of-next.result ≤ 2 ^ 31 =
     subst (λ n. nat_abs n ≤ 2 ^ 31) (sym c.reach_of-next.ensures.value) (reach_small k (values_at y.trace.now y.row) (values_at y.trace.now y.row) c.atom-atom.ensures.sound.limit c.reach_of-next.ensures.small) in
-    grown_on g.P.Shape.function g.P.Shape.base g.P.Piecewise.told b c.args.node tr k c.atom-atom.ensures.at c.args.r (c.args.r - 1) c.gap_on-gap.result c.reach_of-next.result c.args.signal.now c.go_on.new.signal
+    grown_on g.P.Shape g.P.Piecewise.told b c.args.node tr k c.atom-atom.ensures.at c.args.r (c.args.r - 1) c.gap_on-gap.result c.reach_of-next.result c.args.signal.now c.go_on.new.signal
     size e c.requires.within (c.gap_on-gap.ensures.first ∙ c.time.ensures d) (c.gap_on-gap.ensures.second ∙ c.time-2.ensures d) from to next c.requires.grown goes

@@ -3,9 +3,9 @@ use Rattle.offline_eval.proofs.laws.atoms_grow.Goals as goal
 
 pub returns : goal.returns
 returns g c = record {
-  none = told_none g.P.Shape.function;
-  atom = told_atom g.P.Shape.function;
-  other = told_other g.P.Shape.function;
+  none = told_none g.P.Shape;
+  atom = told_atom g.P.Shape;
+  other = told_other g.P.Shape;
   count_atom = atoms_on_atom;
   count_other = atoms_on_other;
 }

@@ -2,4 +2,4 @@ use Rattle.offline_eval.proofs.Having.{all_have}
 use Rattle.offline_eval.proofs.laws.told_have_values.Goals as goal
 
 pub returns : goal.returns
-returns g c nodes signals s post e told = all_have g.P.Shape.function g.P.Shape.highest g.met.P.Shape.highest_is_greatest nodes signals s post e told
+returns g c nodes signals s post e told = all_have g.P.Shape (assumption g.met.P.Shape) nodes signals s post e told

@@ -3,7 +3,7 @@ use Rattle.pl_signal.proofs.laws.parts.Goals as goal
 
 pub returns : goal.returns
 returns g c = record {
-  breakpoint = breakpoint_at g.P.Shape.function;
-  part = part_in g.P.Shape.function;
-  one = part_one g.P.Shape.function;
+  breakpoint = breakpoint_at g.P.Shape;
+  part = part_in g.P.Shape;
+  one = part_one g.P.Shape;
 }

@@ -16,8 +16,8 @@ returns-in-Equal g c =
     let k = c.index-knots-i.result in
     let at_i : k ≡ get_or c.args.knots.now c.place_of-i.result k = c.index-knots-i.is in
     IfOk-weaker c.instant.result _ _
-    (λ r e. subst (IsCut g.P.Shape.function c.args.knots.now c.args.from.now c.args.to.now) (sym e)
-    (cut_instant g.P.Shape.function c.args.knots.now c.place_of-i.result k c.args.from.now c.args.to.now c.shape_from-point.result c.requires.signal
+    (λ r e. subst (IsCut g.P.Shape c.args.knots.now c.args.from.now c.args.to.now) (sym e)
+    (cut_instant g.P.Shape c.args.knots.now c.place_of-i.result k c.args.from.now c.args.to.now c.shape_from-point.result c.requires.signal
     c.place_of-i.ensures.inside at_i c.in-Equal.ensures (le_trans c.requires.order c.requires.last) c.shape_from-point.ensures c.place_of-i.ensures.later))
     c.instant.ensures
 
@@ -27,7 +27,7 @@ between-requires g c =
     let at_i : k ≡ get_or c.args.knots.now c.place_of-i.result k = c.index-knots-i.is in
     let n = c.index-knots-j.result in
     let at_j : n ≡ get_or c.args.knots.now c.place_of-j.result n = c.index-knots-j.is in
-    let all = cut_at_knot g.P.Shape.function c.args.knots.now c.place_of-i.result c.place_of-j.result k n c.args.from.now c.args.to.now c.shape_from-point.result c.requires.signal
+    let all = cut_at_knot g.P.Shape c.args.knots.now c.place_of-i.result c.place_of-j.result k n c.args.from.now c.args.to.now c.shape_from-point.result c.requires.signal
     c.place_of-i.ensures.inside c.place_of-j.ensures.inside at_i at_j
     (earlier c.cmp.result c.cmp.ensures c.requires.order c.in_default.not-Equal)
     (c.place_of-i.ensures.not_later k (slice_get_read c.args.knots.now (length c.args.knots.now) c.place_of-i.result k refl c.place_of-i.ensures.inside at_i))
@@ -41,9 +41,9 @@ returns-in-Equal-cmp g c =
     let n = c.index-knots-j.result in
     let at_j : n ≡ get_or c.args.knots.now c.place_of-j.result n = c.index-knots-j.is in
     IfOk-weaker c.between.result _ _
-    (λ r e. subst (IsCut g.P.Shape.function c.args.knots.now c.args.from.now c.args.to.now)
+    (λ r e. subst (IsCut g.P.Shape c.args.knots.now c.args.from.now c.args.to.now)
     (sym (e ∙ ap (λ l. record { time = c.args.from.now; point = c.shape_from-point.result; after = k.after } ∷ slice_range c.args.knots.now (c.place_of-i.result + 1) c.place_of-j.result ++ l ∷ []) c.ending.ensures))
-    (cut_at_knot g.P.Shape.function c.args.knots.now c.place_of-i.result c.place_of-j.result k n c.args.from.now c.args.to.now c.shape_from-point.result c.requires.signal
+    (cut_at_knot g.P.Shape c.args.knots.now c.place_of-i.result c.place_of-j.result k n c.args.from.now c.args.to.now c.shape_from-point.result c.requires.signal
     c.place_of-i.ensures.inside c.place_of-j.ensures.inside at_i at_j
     (earlier c.cmp.result c.cmp.ensures c.requires.order c.in_default.not-Equal)
     (c.place_of-i.ensures.not_later k (slice_get_read c.args.knots.now (length c.args.knots.now) c.place_of-i.result k refl c.place_of-i.ensures.inside at_i))
@@ -56,7 +56,7 @@ between-requires-2 g c =
     let at_i : k ≡ get_or c.args.knots.now c.place_of-i.result k = c.index-knots-i.is in
     let n = c.index-knots-j.result in
     let at_j : n ≡ get_or c.args.knots.now c.place_of-j.result n = c.index-knots-j.is in
-    let all = cut_after_knot g.P.Shape.function c.args.knots.now c.place_of-i.result c.place_of-j.result k n c.args.from.now c.args.to.now c.shape_from-point.result c.requires.signal
+    let all = cut_after_knot g.P.Shape c.args.knots.now c.place_of-i.result c.place_of-j.result k n c.args.from.now c.args.to.now c.shape_from-point.result c.requires.signal
     c.place_of-i.ensures.inside c.place_of-j.ensures.inside at_i at_j
     (earlier c.cmp.result c.cmp.ensures c.requires.order c.in_default.not-Equal)
     (c.place_of-i.ensures.not_later k (slice_get_read c.args.knots.now (length c.args.knots.now) c.place_of-i.result k refl c.place_of-i.ensures.inside at_i))
@@ -72,9 +72,9 @@ returns g c =
     let n = c.index-knots-j.result in
     let at_j : n ≡ get_or c.args.knots.now c.place_of-j.result n = c.index-knots-j.is in
     IfOk-weaker c.between-2.result _ _
-    (λ r e. subst (IsCut g.P.Shape.function c.args.knots.now c.args.from.now c.args.to.now)
+    (λ r e. subst (IsCut g.P.Shape c.args.knots.now c.args.from.now c.args.to.now)
     (sym (e ∙ ap (λ l. record { time = c.args.from.now; point = c.shape_from-point.result; after = k.after } ∷ slice_range c.args.knots.now (c.place_of-i.result + 1) (c.place_of-j.result + 1) ++ l ∷ []) c.ending-2.ensures))
-    (cut_after_knot g.P.Shape.function c.args.knots.now c.place_of-i.result c.place_of-j.result k n c.args.from.now c.args.to.now c.shape_from-point.result c.requires.signal
+    (cut_after_knot g.P.Shape c.args.knots.now c.place_of-i.result c.place_of-j.result k n c.args.from.now c.args.to.now c.shape_from-point.result c.requires.signal
     c.place_of-i.ensures.inside c.place_of-j.ensures.inside at_i at_j
     (earlier c.cmp.result c.cmp.ensures c.requires.order c.in_default.not-Equal)
     (c.place_of-i.ensures.not_later k (slice_get_read c.args.knots.now (length c.args.knots.now) c.place_of-i.result k refl c.place_of-i.ensures.inside at_i))

@@ -11,8 +11,8 @@ use Rattle.pl_signal.proofs.moves.shifted.Given as goal
 
 abbrev pub invariant-loop-i : goal.invariant-loop-i
 invariant-loop-i g l = record {
-  tells : TellsSoFar g.P.Shape.function (λ t v. IsWorth g.P.Shape.function l.s (add t (whole l.by)) v) l.built;
+  tells : TellsSoFar g.P.Shape (λ t v. IsWorth g.P.Shape l.s (add t (whole l.by)) v) l.built;
   begins : start l.built ≈ value l.from;
   ends : (j : _) (k : Knot _) → j + 1 ≡ l.i → slice_get l.s j ≡ Some k → stop l.built ≈ add (time k) (whole (neg_ℤ l.by));
-  bases : BasesFrom g.P.Shape.moves g.P.Shape.base (λ b. b -ℤ l.by) l.s l.built;
+  bases : BasesFrom g.P.Shape (λ b. b -ℤ l.by) l.s l.built;
 }

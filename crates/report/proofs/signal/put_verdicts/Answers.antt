@@ -2,6 +2,7 @@ use Rattle.std.proofs.Common.{◌≡◌, suc, ◌+◌, ◌-◌, Some, List, [], 
 use Rattle.std.specs.Prelude.{slice_get}
 use Rattle.std.proofs.lemmas.Result.{on_ok_weaker, on_err_weaker}
 use Rattle.rational.specs.Time.{closed}
+use Rattle.value_laws.specs.Kinds.{truth_shape}
 use Rattle.pl_signal.specs.Knots.{start, stop, IsWorth}
 use Rattle.pl_signal.proofs.Values.{next_rises}
 use Rattle.stl_syntax.specs.Texts.{AreVerdictLines}
@@ -11,7 +12,7 @@ use Rattle.report.specs.SignalVerdicts.{DescribesFunction}
 use Rattle.report.specs.Spelling.{listed}
 use Rattle.report.proofs.Parts.{on_err}
 use Rattle.report.proofs.Lines.{one_line, part_of_line, lines_grow, lines_part, signal_lines, signal_lines_part}
-use Rattle.report.proofs.Advances.{truth_function, IsSpelledTo, spelled_start, room_to, spelled_advance, spelled_stop, stop_room, told_to_end}
+use Rattle.report.proofs.Advances.{IsSpelledTo, spelled_start, room_to, spelled_advance, spelled_stop, stop_room, told_to_end}
 use Rattle.report.proofs.signal.put_verdicts.Goals as goal
 use Rattle.report.proofs.signal.put_verdicts.Goals.{After-advance-by_gap, After-close}
 
@@ -24,7 +25,7 @@ advance-by_gap-requires-clause-begun c = room_to c.args.s.now (c.loop-i.i - 1) c
 pub advance-by_gap-requires-clause-rising : goal.advance-by_gap-requires-clause-rising
 advance-by_gap-requires-clause-rising c =
     let next : c.loop-i.i ≡ (c.loop-i.i - 1) + 1 = omega arith in
-    next_rises truth_function c.args.s.now (c.loop-i.i - 1) c.knot-in-loop-i.result c.knot-in-loop-i-2.result c.len-knots.ensures.signal.each c.knot-in-loop-i.ensures
+    next_rises truth_shape c.args.s.now (c.loop-i.i - 1) c.knot-in-loop-i.result c.knot-in-loop-i-2.result c.len-knots.ensures.signal.each c.knot-in-loop-i.ensures
     (subst (λ n. slice_get c.args.s.now n ≡ Some c.knot-in-loop-i-2.result) next c.knot-in-loop-i-2.ensures)
 
 module _ (c : After-advance-by_gap) where
@@ -45,7 +46,7 @@ module _ (c : After-advance-by_gap) where
       spelled_advance c.args.s.now (c.loop-i.i - 1) vs c.loop-i.span c.advance-by_gap.new.self c.knot-in-loop-i.result c.knot-in-loop-i-2.result c.advance-by_gap.result.0 c.advance-by_gap.result.1
       c.len-knots.ensures.signal c.knot-in-loop-i.ensures (subst (λ n. slice_get c.args.s.now n ≡ Some c.knot-in-loop-i-2.result) next c.knot-in-loop-i-2.ensures) c.advance-by_gap.ensures c.loop-i.invariant.1
 
-  to_end : (later : List Verdict) × DescribesFunction (IsWorth truth_function c.args.s.now) (((vs ++ gap) ++ point) ++ later) (closed (start c.args.s.now) (stop c.args.s.now))
+  to_end : (later : List Verdict) × DescribesFunction (IsWorth truth_shape c.args.s.now) (((vs ++ gap) ++ point) ++ later) (closed (start c.args.s.now) (stop c.args.s.now))
   to_end = told_to_end c.args.s.now (length c.args.s.now - suc c.loop-i.i) ((c.loop-i.i - 1) + 1) ((vs ++ gap) ++ point) c.advance-by_gap.new.self c.len-knots.ensures.signal (omega arith) advanced
 
 together : (a b c d : List Verdict) → ((a ++ b) ++ c) ++ d ≡ a ++ (b ++ (c ++ d))
@@ -56,8 +57,8 @@ returns-in_err-put_ended-clause-err c =
     let f = (goal.at.returns-in_err-put_ended-clause-err c).After-advance-by_gap in
     let end = to_end f in
     on_err c.from_residual.result
-    (signal_lines_part truth_function c.args.scale c.args.s.now (vs f ++ (gap f ++ (point f ++ end.0))) c.args.text.now c.put_ended.new.text
-    (subst (λ ws. DescribesFunction (IsWorth truth_function c.args.s.now) ws (closed (start c.args.s.now) (stop c.args.s.now))) (together (vs f) (gap f) (point f) end.0) end.1)
+    (signal_lines_part truth_shape c.args.scale c.args.s.now (vs f ++ (gap f ++ (point f ++ end.0))) c.args.text.now c.put_ended.new.text
+    (subst (λ ws. DescribesFunction (IsWorth truth_shape c.args.s.now) ws (closed (start c.args.s.now) (stop c.args.s.now))) (together (vs f) (gap f) (point f) end.0) end.1)
     (lines_part c.args.scale (vs f) (gap f) (point f ++ end.0) c.args.text.now c.loop-i.text c.put_ended.new.text c.loop-i.invariant.2 c.in_err-put_ended.ensures.err))
 
 pub returns-in_err-put_ended-2-clause-err : goal.returns-in_err-put_ended-2-clause-err
@@ -65,8 +66,8 @@ returns-in_err-put_ended-2-clause-err c =
     let f = (goal.at.returns-in_err-put_ended-2-clause-err c).After-advance-by_gap in
     let end = to_end f in
     on_err c.from_residual-in_err-put_ended-2.result
-    (signal_lines_part truth_function c.args.scale c.args.s.now ((vs f ++ gap f) ++ (point f ++ end.0)) c.args.text.now c.put_ended-in-loop-i.new.text
-    (subst (λ ws. DescribesFunction (IsWorth truth_function c.args.s.now) ws (closed (start c.args.s.now) (stop c.args.s.now))) (append_assoc (vs f ++ gap f) (point f) end.0) end.1)
+    (signal_lines_part truth_shape c.args.scale c.args.s.now ((vs f ++ gap f) ++ (point f ++ end.0)) c.args.text.now c.put_ended-in-loop-i.new.text
+    (subst (λ ws. DescribesFunction (IsWorth truth_shape c.args.s.now) ws (closed (start c.args.s.now) (stop c.args.s.now))) (append_assoc (vs f ++ gap f) (point f) end.0) end.1)
     (lines_part c.args.scale (vs f ++ gap f) (point f) end.0 c.args.text.now c.put_ended.new.text c.put_ended-in-loop-i.new.text
     (lines_grow c.args.scale (vs f) (gap f) c.args.text.now c.loop-i.text c.put_ended.new.text c.loop-i.invariant.2 c.in_ok-put_ended.ensures.ok) c.in_err-put_ended-2.ensures.err))
 
@@ -84,20 +85,20 @@ pub close-requires : goal.close-requires
 close-requires c = stop_room c.args.s.now (c.loop-i.i - 1) c.loop-i.invariant.0 c.loop-i.span c.stop.result (omega arith) c.loop-i.invariant.1 c.stop.ensures.value
 
 -- the verdicts with the last one describe the signal
-whole : (c : After-close) → DescribesFunction (IsWorth truth_function c.args.s.now) (c.loop-i.invariant.0 ++ c.close.result ∷ []) (closed (start c.args.s.now) (stop c.args.s.now))
+whole : (c : After-close) → DescribesFunction (IsWorth truth_shape c.args.s.now) (c.loop-i.invariant.0 ++ c.close.result ∷ []) (closed (start c.args.s.now) (stop c.args.s.now))
 whole c = spelled_stop c.args.s.now (c.loop-i.i - 1) c.loop-i.invariant.0 c.loop-i.span c.close.result c.stop.result (omega arith) c.loop-i.invariant.1 c.stop.ensures.value c.close.ensures
 
 pub returns-clause-ok : goal.returns-clause-ok
 returns-clause-ok c =
     let all = whole (goal.at.returns-clause-ok c).After-close in
-    on_ok_weaker c.put_verdict.result (λ grew. signal_lines truth_function c.args.scale c.args.s.now (c.loop-i.invariant.0 ++ c.close.result ∷ []) c.args.text.now c.put_verdict.new.text all
+    on_ok_weaker c.put_verdict.result (λ grew. signal_lines truth_shape c.args.scale c.args.s.now (c.loop-i.invariant.0 ++ c.close.result ∷ []) c.args.text.now c.put_verdict.new.text all
     (lines_grow c.args.scale c.loop-i.invariant.0 (c.close.result ∷ []) c.args.text.now c.loop-i.text c.put_verdict.new.text c.loop-i.invariant.2
     (one_line c.args.scale c.close.result c.loop-i.text c.put_verdict.new.text grew))) c.put_verdict.ensures.ok
 
 pub returns-clause-err : goal.returns-clause-err
 returns-clause-err c =
     let all = whole (goal.at.returns-clause-err c).After-close in
-    on_err_weaker c.put_verdict.result (λ grew. signal_lines_part truth_function c.args.scale c.args.s.now (c.loop-i.invariant.0 ++ c.close.result ∷ []) c.args.text.now c.put_verdict.new.text all
+    on_err_weaker c.put_verdict.result (λ grew. signal_lines_part truth_shape c.args.scale c.args.s.now (c.loop-i.invariant.0 ++ c.close.result ∷ []) c.args.text.now c.put_verdict.new.text all
     (subst (λ ws. GrewInPart (AreVerdictLines c.args.scale ws) c.args.text.now c.put_verdict.new.text) (ap (λ ws. c.loop-i.invariant.0 ++ ws) (append-nil (c.close.result ∷ [])))
     (lines_part c.args.scale c.loop-i.invariant.0 (c.close.result ∷ []) [] c.args.text.now c.loop-i.text c.put_verdict.new.text c.loop-i.invariant.2
     (part_of_line c.args.scale c.close.result c.loop-i.text c.put_verdict.new.text grew)))) c.put_verdict.ensures.err

@@ -10,8 +10,8 @@ use Rattle.signal_ops.proofs.negation.neg.Given as goal
 
 abbrev pub invariant-loop-i : goal.invariant-loop-i
 invariant-loop-i g l = record {
-  tells : TellsSoFar g.P.Shape.function (Negated (IsWorth g.P.Shape.function l.s)) l.built;
+  tells : TellsSoFar g.P.Shape (Negated (IsWorth g.P.Shape l.s)) l.built;
   begins : start l.built ≈ start l.s;
   ends : (j : _) (k : Knot _) → j + 1 ≡ l.i → slice_get l.s j ≡ Some k → stop l.built ≈ time k;
-  bases : BasesFrom g.P.Shape.moves g.P.Shape.base (λ b. b) l.s l.built;
+  bases : BasesFrom g.P.Shape (λ b. b) l.s l.built;
 }

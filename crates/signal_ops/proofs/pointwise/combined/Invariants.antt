@@ -9,7 +9,7 @@ use Rattle.signal_ops.proofs.pointwise.combined.Given as goal
 
 abbrev pub invariant-loop-i : goal.invariant-loop-i
 invariant-loop-i g l = record {
-  tells : TellsSoFar g.P.Shape.function (ChosenOf l.side (IsWorth g.P.Shape.function l.a) (IsWorth g.P.Shape.function l.b)) l.built;
+  tells : TellsSoFar g.P.Shape (ChosenOf l.side (IsWorth g.P.Shape l.a) (IsWorth g.P.Shape l.b)) l.built;
   begins : start l.built ≈ start l.a;
   within : IsWithin (2 ^ 34) (stop l.built);
   above : start l.a ≤ʳ stop l.built;

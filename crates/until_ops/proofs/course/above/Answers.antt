@@ -42,7 +42,7 @@ returns g c =
     let low = value_at (f c.args.low.now) (value gap.from) in
     let top = value_at (f c.args.top.now) (value gap.from) in
     let right = f gap.right in
-    subst (IsCourse f g.P.Shape.moves gap) (sym c.only.ensures) (record {
+    subst (IsCourse g.P.Shape gap) (sym c.only.ensures) (record {
       first = inr (inl refl);
       second = inr (inl refl);
       onward = λ t v a b chosen. by_right (value_at (f gap.before) (value gap.from)) (f gap.left) (f gap.right) (value gap.from) t v low top start.is_low start.is_top

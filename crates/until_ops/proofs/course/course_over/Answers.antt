@@ -14,7 +14,7 @@ returns-then-is_under g c =
     let gap = c.args.gap.now in
     let low = least_of (value_at (f gap.before) (value gap.from)) (value_at (f gap.left) (value gap.from)) in
     let top = greatest_of low.0 (value_at (f gap.right) (value gap.from)) in
-    subst (IsCourse f g.P.Shape.moves gap) (sym c.only.ensures) (record {
+    subst (IsCourse g.P.Shape gap) (sym c.only.ensures) (record {
       first = inl refl;
       second = inl refl;
       onward = λ t v a b chosen. by_left (value_at (f gap.before) (value gap.from)) (f gap.left) (f gap.right) (value gap.from) t v low.0 top.0 low.1 top.1
@@ -28,7 +28,7 @@ returns-then-stays_under g c =
     let low = value_at (f c.chosen-low.result) (value gap.from) in
     let top = value_at (f c.chosen-top.result) (value gap.from) in
     let stays = c.if-stays_under.ensures refl in
-    subst (IsCourse f g.P.Shape.moves gap) (sym c.only-then-stays_under.ensures) (record {
+    subst (IsCourse g.P.Shape gap) (sym c.only-then-stays_under.ensures) (record {
       first = inl refl;
       second = inl refl;
       onward = λ t v a b chosen. by_left (value_at (f gap.before) (value gap.from)) (f gap.left) (f gap.right) (value gap.from) t v low top c.chosen-low.ensures.value c.chosen-top.ensures.value

@@ -2,4 +2,4 @@ use Rattle.until_ops.proofs.SignalComposition.{until_of_signals as law}
 use Rattle.until_ops.proofs.laws.until_is_composed.Goals as goal
 
 pub returns : goal.returns
-returns g c = law g.P.Shape.function g.P.Shape.lowest g.P.Shape.highest g.met.P.Shape.lowest_is_least g.met.P.Shape.highest_is_greatest
+returns g c = law g.P.Shape (assumption g.met.P.Shape)

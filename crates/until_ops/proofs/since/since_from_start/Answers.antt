@@ -13,14 +13,14 @@ use Rattle.until_ops.proofs.since.since_from_start.Goals as goal
 pub returns-clause-worth : goal.returns-clause-worth
 returns-clause-worth g c =
     let s = c.loop-now.invariant in
-    let since = SinceOf g.P.Shape.function g.P.Shape.lowest g.P.Shape.highest c.args.p.now c.args.q.now in
+    let since = SinceOf g.P.Shape c.args.p.now c.args.q.now in
     let last : length c.args.p.now ≤ c.loop-now.now.left + 1 = let no_more = c.loop-now-test.false in let count = c.len-last.ensures.value in omega arith in
-    let here = at_stop g.P.Shape.function c.args.p.now c.loop-now.now.left (value c.loop-now.now.at) c.len-last.ensures.signal.some s.left last s.inside.below in
-    subst (Tells g.P.Shape.function since (start c.args.p.now) (stop c.args.p.now)) (sym c.finish.ensures.value)
-    (told g.P.Shape.function since (start c.args.p.now) (stop c.args.p.now) c.loop-now.built
-    (since_is_function g.P.Shape.lowest g.P.Shape.highest (start c.args.p.now) (IsWorth g.P.Shape.function c.args.p.now) (IsWorth g.P.Shape.function c.args.q.now))
+    let here = at_stop g.P.Shape c.args.p.now c.loop-now.now.left (value c.loop-now.now.at) c.len-last.ensures.signal.some s.left last s.inside.below in
+    subst (Tells g.P.Shape since (start c.args.p.now) (stop c.args.p.now)) (sym c.finish.ensures.value)
+    (told g.P.Shape since (start c.args.p.now) (stop c.args.p.now) c.loop-now.built
+    (since_is_function g.P.Shape.lowest g.P.Shape.highest (start c.args.p.now) (IsWorth g.P.Shape c.args.p.now) (IsWorth g.P.Shape c.args.q.now))
     (record { signal = s.signal; worth = s.worth }) s.begins (subst (λ t. t ≈ stop c.args.p.now) (sym s.ends) here))
 
 pub returns-clause-bases : goal.returns-clause-bases
-returns-clause-bases g c = subst (BasesOfTwo g.P.Shape.moves g.P.Shape.base c.args.p.now c.args.q.now) (sym c.finish.ensures.value)
-    (bases_of_stand g.P.Shape.moves g.P.Shape.base c.args.p.now c.args.q.now c.loop-now.built c.loop-now.invariant.shapes)
+returns-clause-bases g c = subst (BasesOfTwo g.P.Shape c.args.p.now c.args.q.now) (sym c.finish.ensures.value)
+    (bases_of_stand g.P.Shape c.args.p.now c.args.q.now c.loop-now.built c.loop-now.invariant.shapes)

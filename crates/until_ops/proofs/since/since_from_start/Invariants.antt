@@ -2,7 +2,7 @@ use Rattle.until_ops.specs.Walks.{Stands, rest}
 use Rattle.until_ops.proofs.since.since_from_start.Given as goal
 
 abbrev pub invariant-loop-now : goal.invariant-loop-now
-invariant-loop-now g l = Stands g.P.Shape.function g.P.Shape.moves g.P.Shape.lowest g.P.Shape.highest l.p l.q l.built l.now
+invariant-loop-now g l = Stands g.P.Shape l.p l.q l.built l.now
 
 abbrev pub decreases-loop-now : goal.decreases-loop-now
 decreases-loop-now g l = rest l.p l.q l.now

@@ -18,9 +18,9 @@ use Rattle.until_ops.proofs.since.walk.Goals as goal
 
 pub knot-requires-4 : goal.knot-requires-4
 knot-requires-4 g c =
-    more_knots g.P.Shape.function c.args.q.now c.args.now.now.right c.knot-2.result (value c.args.now.now.at) c.requires.stands.right c.knot-2.ensures
+    more_knots g.P.Shape c.args.q.now c.args.now.now.right c.knot-2.result (value c.args.now.now.at) c.requires.stands.right c.knot-2.ensures
     (lt_of_lt_of_le (c.requires.stands.left.later c.knot-3.result c.knot-3.ensures)
-    (le_trans (at_knot_within g.P.Shape.function c.args.p.now (c.args.now.now.left + 1) c.knot-3.result c.len.ensures.signal c.knot-3.ensures).below (le_of_same c.requires.sides.ends)))
+    (le_trans (at_knot_within g.P.Shape c.args.p.now (c.args.now.now.left + 1) c.knot-3.result c.len.ensures.signal c.knot-3.ensures).below (le_of_same c.requires.sides.ends)))
 
 pub turning-requires-clause-order : goal.turning-requires-clause-order
 turning-requires-clause-order g c =
@@ -33,7 +33,7 @@ turning-requires-clause-order g c =
       right = c.earlier-next.ensures.right;
       one = c.earlier-next.ensures.one;
     } in
-    begins_before g.P.Shape.function g.P.Shape.moves g.P.Shape.lowest g.P.Shape.highest g.met.P.Shape.lowest_is_least g.met.P.Shape.highest_is_greatest c.args.p.now c.args.q.now c.len.ensures.signal c.len-2.ensures.signal c.requires.sides c.args.built.now c.args.now.now c.requires.stands c.knot.result c.knot-2.result c.knot-3.result c.knot-4.result c.earlier-next.result at
+    begins_before g.P.Shape (assumption g.met.P.Shape) c.args.p.now c.args.q.now c.len.ensures.signal c.len-2.ensures.signal c.requires.sides c.args.built.now c.args.now.now c.requires.stands c.knot.result c.knot-2.result c.knot-3.result c.knot-4.result c.earlier-next.result at
 
 pub turning-requires-clause-from_within : goal.turning-requires-clause-from_within
 turning-requires-clause-from_within g c =
@@ -46,7 +46,7 @@ turning-requires-clause-from_within g c =
       right = c.earlier-next.ensures.right;
       one = c.earlier-next.ensures.one;
     } in
-    gap_within g.P.Shape.function g.P.Shape.moves g.P.Shape.lowest g.P.Shape.highest g.met.P.Shape.lowest_is_least g.met.P.Shape.highest_is_greatest c.args.p.now c.args.q.now c.len.ensures.signal c.len-2.ensures.signal c.requires.sides c.args.built.now c.args.now.now c.requires.stands c.knot.result c.knot-2.result c.knot-3.result c.knot-4.result c.earlier-next.result at (value c.args.now.now.at) (le_refl (value c.args.now.now.at)) (le_of_lt (begins_before g.P.Shape.function g.P.Shape.moves g.P.Shape.lowest g.P.Shape.highest g.met.P.Shape.lowest_is_least g.met.P.Shape.highest_is_greatest c.args.p.now c.args.q.now c.len.ensures.signal c.len-2.ensures.signal c.requires.sides c.args.built.now c.args.now.now c.requires.stands c.knot.result c.knot-2.result c.knot-3.result c.knot-4.result c.earlier-next.result at))
+    gap_within g.P.Shape (assumption g.met.P.Shape) c.args.p.now c.args.q.now c.len.ensures.signal c.len-2.ensures.signal c.requires.sides c.args.built.now c.args.now.now c.requires.stands c.knot.result c.knot-2.result c.knot-3.result c.knot-4.result c.earlier-next.result at (value c.args.now.now.at) (le_refl (value c.args.now.now.at)) (le_of_lt (begins_before g.P.Shape (assumption g.met.P.Shape) c.args.p.now c.args.q.now c.len.ensures.signal c.len-2.ensures.signal c.requires.sides c.args.built.now c.args.now.now c.requires.stands c.knot.result c.knot-2.result c.knot-3.result c.knot-4.result c.earlier-next.result at))
 
 pub turning-requires-clause-next_within : goal.turning-requires-clause-next_within
 turning-requires-clause-next_within g c =
@@ -59,15 +59,15 @@ turning-requires-clause-next_within g c =
       right = c.earlier-next.ensures.right;
       one = c.earlier-next.ensures.one;
     } in
-    gap_within g.P.Shape.function g.P.Shape.moves g.P.Shape.lowest g.P.Shape.highest g.met.P.Shape.lowest_is_least g.met.P.Shape.highest_is_greatest c.args.p.now c.args.q.now c.len.ensures.signal c.len-2.ensures.signal c.requires.sides c.args.built.now c.args.now.now c.requires.stands c.knot.result c.knot-2.result c.knot-3.result c.knot-4.result c.earlier-next.result at (value c.earlier-next.result) (le_of_lt (begins_before g.P.Shape.function g.P.Shape.moves g.P.Shape.lowest g.P.Shape.highest g.met.P.Shape.lowest_is_least g.met.P.Shape.highest_is_greatest c.args.p.now c.args.q.now c.len.ensures.signal c.len-2.ensures.signal c.requires.sides c.args.built.now c.args.now.now c.requires.stands c.knot.result c.knot-2.result c.knot-3.result c.knot-4.result c.earlier-next.result at)) (le_refl (value c.earlier-next.result))
+    gap_within g.P.Shape (assumption g.met.P.Shape) c.args.p.now c.args.q.now c.len.ensures.signal c.len-2.ensures.signal c.requires.sides c.args.built.now c.args.now.now c.requires.stands c.knot.result c.knot-2.result c.knot-3.result c.knot-4.result c.earlier-next.result at (value c.earlier-next.result) (le_of_lt (begins_before g.P.Shape (assumption g.met.P.Shape) c.args.p.now c.args.q.now c.len.ensures.signal c.len-2.ensures.signal c.requires.sides c.args.built.now c.args.now.now c.requires.stands c.knot.result c.knot-2.result c.knot-3.result c.knot-4.result c.earlier-next.result at)) (le_refl (value c.earlier-next.result))
 
 pub turning-requires-clause-first : goal.turning-requires-clause-first
 turning-requires-clause-first g c =
-    after_bounded g.P.Shape.function c.args.p.now c.args.now.now.left c.knot.result c.knot-3.result c.len.ensures.signal c.requires.sides.left c.knot.ensures c.knot-3.ensures
+    after_bounded g.P.Shape c.args.p.now c.args.now.now.left c.knot.result c.knot-3.result c.len.ensures.signal c.requires.sides.left c.knot.ensures c.knot-3.ensures
 
 pub turning-requires-clause-second : goal.turning-requires-clause-second
 turning-requires-clause-second g c =
-    after_bounded g.P.Shape.function c.args.q.now c.args.now.now.right c.knot-2.result c.knot-4.result c.len-2.ensures.signal c.requires.sides.right c.knot-2.ensures c.knot-4.ensures
+    after_bounded g.P.Shape c.args.q.now c.args.now.now.right c.knot-2.result c.knot-4.result c.len-2.ensures.signal c.requires.sides.right c.knot-2.ensures c.knot-4.ensures
 
 pub returns-in_err-turn-clause-wide : goal.returns-in_err-turn-clause-wide
 returns-in_err-turn-clause-wide g c =
@@ -81,8 +81,8 @@ returns-in_err-turn-clause-wide g c =
       one = c.earlier-next.ensures.one;
     } in
     let gap : Gap _ = record { before = c.args.now.now.value; left = c.knot.result.after; right = c.knot-2.result.after; from = c.args.now.now.at; to = c.earlier-next.result } in
-    let on : Follows g.P.Shape.function g.P.Shape.lowest g.P.Shape.highest c.args.p.now c.args.q.now gap = gap_follows g.P.Shape.function g.P.Shape.moves g.P.Shape.lowest g.P.Shape.highest g.met.P.Shape.lowest_is_least g.met.P.Shape.highest_is_greatest c.args.p.now c.args.q.now c.len.ensures.signal c.len-2.ensures.signal c.requires.sides c.args.built.now c.args.now.now c.requires.stands c.knot.result c.knot-2.result c.knot-3.result c.knot-4.result c.earlier-next.result at c.earlier-next.result (begins_before g.P.Shape.function g.P.Shape.moves g.P.Shape.lowest g.P.Shape.highest g.met.P.Shape.lowest_is_least g.met.P.Shape.highest_is_greatest c.args.p.now c.args.q.now c.len.ensures.signal c.len-2.ensures.signal c.requires.sides c.args.built.now c.args.now.now c.requires.stands c.knot.result c.knot-2.result c.knot-3.result c.knot-4.result c.earlier-next.result at) (le_refl (value c.earlier-next.result)) in
-    let fact : HasCause g.P.Shape.function (SinceStep g.P.Shape.function g.P.Shape.lowest g.P.Shape.highest c.args.p.now c.args.q.now) (start c.args.p.now) (stop c.args.p.now) c.in_err-turn.field-0.0 = cross_cause g.P.Shape.function g.P.Shape.lowest g.P.Shape.highest c.args.p.now c.args.q.now gap on c.knot.result.after c.knot-2.result.after (left_plays g.P.Shape.function g.P.Shape.lowest g.P.Shape.highest c.args.p.now c.args.q.now gap on) (right_plays g.P.Shape.function g.P.Shape.lowest g.P.Shape.highest c.args.p.now c.args.q.now gap on) c.args.now.now.at refl c.in_err-turn.field-0.0 c.in_err-turn.ensures in
+    let on : Follows g.P.Shape c.args.p.now c.args.q.now gap = gap_follows g.P.Shape (assumption g.met.P.Shape) c.args.p.now c.args.q.now c.len.ensures.signal c.len-2.ensures.signal c.requires.sides c.args.built.now c.args.now.now c.requires.stands c.knot.result c.knot-2.result c.knot-3.result c.knot-4.result c.earlier-next.result at c.earlier-next.result (begins_before g.P.Shape (assumption g.met.P.Shape) c.args.p.now c.args.q.now c.len.ensures.signal c.len-2.ensures.signal c.requires.sides c.args.built.now c.args.now.now c.requires.stands c.knot.result c.knot-2.result c.knot-3.result c.knot-4.result c.earlier-next.result at) (le_refl (value c.earlier-next.result)) in
+    let fact : HasCause g.P.Shape (SinceStep g.P.Shape c.args.p.now c.args.q.now) (start c.args.p.now) (stop c.args.p.now) c.in_err-turn.field-0.0 = cross_cause g.P.Shape c.args.p.now c.args.q.now gap on c.knot.result.after c.knot-2.result.after (left_plays g.P.Shape c.args.p.now c.args.q.now gap on) (right_plays g.P.Shape c.args.p.now c.args.q.now gap on) c.args.now.now.at refl c.in_err-turn.field-0.0 c.in_err-turn.ensures in
     search (rules, fact)
 
 pub returns-in_err-turn-clause-pair : goal.returns-in_err-turn-clause-pair
@@ -97,8 +97,8 @@ returns-in_err-turn-clause-pair g c =
       one = c.earlier-next.ensures.one;
     } in
     let gap : Gap _ = record { before = c.args.now.now.value; left = c.knot.result.after; right = c.knot-2.result.after; from = c.args.now.now.at; to = c.earlier-next.result } in
-    let on : Follows g.P.Shape.function g.P.Shape.lowest g.P.Shape.highest c.args.p.now c.args.q.now gap = gap_follows g.P.Shape.function g.P.Shape.moves g.P.Shape.lowest g.P.Shape.highest g.met.P.Shape.lowest_is_least g.met.P.Shape.highest_is_greatest c.args.p.now c.args.q.now c.len.ensures.signal c.len-2.ensures.signal c.requires.sides c.args.built.now c.args.now.now c.requires.stands c.knot.result c.knot-2.result c.knot-3.result c.knot-4.result c.earlier-next.result at c.earlier-next.result (begins_before g.P.Shape.function g.P.Shape.moves g.P.Shape.lowest g.P.Shape.highest g.met.P.Shape.lowest_is_least g.met.P.Shape.highest_is_greatest c.args.p.now c.args.q.now c.len.ensures.signal c.len-2.ensures.signal c.requires.sides c.args.built.now c.args.now.now c.requires.stands c.knot.result c.knot-2.result c.knot-3.result c.knot-4.result c.earlier-next.result at) (le_refl (value c.earlier-next.result)) in
-    let fact : IsPairWithin (start c.args.p.now) (stop c.args.p.now) c.in_err-turn.field-0.0 = cross_within g.P.Shape.function g.P.Shape.lowest g.P.Shape.highest c.args.p.now c.args.q.now gap on c.knot.result.after c.knot-2.result.after c.args.now.now.at refl c.in_err-turn.field-0.0 c.in_err-turn.ensures in
+    let on : Follows g.P.Shape c.args.p.now c.args.q.now gap = gap_follows g.P.Shape (assumption g.met.P.Shape) c.args.p.now c.args.q.now c.len.ensures.signal c.len-2.ensures.signal c.requires.sides c.args.built.now c.args.now.now c.requires.stands c.knot.result c.knot-2.result c.knot-3.result c.knot-4.result c.earlier-next.result at c.earlier-next.result (begins_before g.P.Shape (assumption g.met.P.Shape) c.args.p.now c.args.q.now c.len.ensures.signal c.len-2.ensures.signal c.requires.sides c.args.built.now c.args.now.now c.requires.stands c.knot.result c.knot-2.result c.knot-3.result c.knot-4.result c.earlier-next.result at) (le_refl (value c.earlier-next.result)) in
+    let fact : IsPairWithin (start c.args.p.now) (stop c.args.p.now) c.in_err-turn.field-0.0 = cross_within g.P.Shape c.args.p.now c.args.q.now gap on c.knot.result.after c.knot-2.result.after c.args.now.now.at refl c.in_err-turn.field-0.0 c.in_err-turn.ensures in
     search (rules, fact)
 
 pub course_over-requires : goal.course_over-requires
@@ -112,7 +112,7 @@ course_over-requires g c =
       right = c.earlier-next.ensures.right;
       one = c.earlier-next.ensures.one;
     } in
-    is_gap g.P.Shape.function g.P.Shape.moves g.P.Shape.lowest g.P.Shape.highest g.met.P.Shape.lowest_is_least g.met.P.Shape.highest_is_greatest c.args.p.now c.args.q.now c.len.ensures.signal c.len-2.ensures.signal c.requires.sides c.args.built.now c.args.now.now c.requires.stands c.knot.result c.knot-2.result c.knot-3.result c.knot-4.result c.earlier-next.result at c.in_ok-turn.turn c.in_ok-turn.ensures
+    is_gap g.P.Shape (assumption g.met.P.Shape) c.args.p.now c.args.q.now c.len.ensures.signal c.len-2.ensures.signal c.requires.sides c.args.built.now c.args.now.now c.requires.stands c.knot.result c.knot-2.result c.knot-3.result c.knot-4.result c.earlier-next.result at c.in_ok-turn.turn c.in_ok-turn.ensures
 
 pub returns-in_err-course-clause-wide : goal.returns-in_err-course-clause-wide
 returns-in_err-course-clause-wide g c =
@@ -126,8 +126,8 @@ returns-in_err-course-clause-wide g c =
       one = c.earlier-next.ensures.one;
     } in
     let gap : Gap _ = record { before = c.args.now.now.value; left = c.knot.result.after; right = c.knot-2.result.after; from = c.args.now.now.at; to = c.in_ok-turn.turn.time } in
-    let on : Follows g.P.Shape.function g.P.Shape.lowest g.P.Shape.highest c.args.p.now c.args.q.now gap = gap_follows g.P.Shape.function g.P.Shape.moves g.P.Shape.lowest g.P.Shape.highest g.met.P.Shape.lowest_is_least g.met.P.Shape.highest_is_greatest c.args.p.now c.args.q.now c.len.ensures.signal c.len-2.ensures.signal c.requires.sides c.args.built.now c.args.now.now c.requires.stands c.knot.result c.knot-2.result c.knot-3.result c.knot-4.result c.earlier-next.result at c.in_ok-turn.turn.time c.in_ok-turn.ensures.after c.in_ok-turn.ensures.not_later in
-    let fact : HasCause g.P.Shape.function (SinceStep g.P.Shape.function g.P.Shape.lowest g.P.Shape.highest c.args.p.now c.args.q.now) (start c.args.p.now) (stop c.args.p.now) c.in_err-course.field-0.0 = value_cause g.P.Shape.function g.P.Shape.lowest g.P.Shape.highest c.args.p.now c.args.q.now gap on (since_is_function g.P.Shape.lowest g.P.Shape.highest (start c.args.p.now) (IsWorth g.P.Shape.function c.args.p.now) (IsWorth g.P.Shape.function c.args.q.now)) c.in_ok-turn.ensures.in_order c.in_err-course.field-0.0 c.in_err-course.ensures in
+    let on : Follows g.P.Shape c.args.p.now c.args.q.now gap = gap_follows g.P.Shape (assumption g.met.P.Shape) c.args.p.now c.args.q.now c.len.ensures.signal c.len-2.ensures.signal c.requires.sides c.args.built.now c.args.now.now c.requires.stands c.knot.result c.knot-2.result c.knot-3.result c.knot-4.result c.earlier-next.result at c.in_ok-turn.turn.time c.in_ok-turn.ensures.after c.in_ok-turn.ensures.not_later in
+    let fact : HasCause g.P.Shape (SinceStep g.P.Shape c.args.p.now c.args.q.now) (start c.args.p.now) (stop c.args.p.now) c.in_err-course.field-0.0 = value_cause g.P.Shape c.args.p.now c.args.q.now gap on (since_is_function g.P.Shape.lowest g.P.Shape.highest (start c.args.p.now) (IsWorth g.P.Shape c.args.p.now) (IsWorth g.P.Shape c.args.q.now)) c.in_ok-turn.ensures.in_order c.in_err-course.field-0.0 c.in_err-course.ensures in
     search (rules, fact)
 
 pub returns-in_err-course-clause-pair : goal.returns-in_err-course-clause-pair
@@ -142,8 +142,8 @@ returns-in_err-course-clause-pair g c =
       one = c.earlier-next.ensures.one;
     } in
     let gap : Gap _ = record { before = c.args.now.now.value; left = c.knot.result.after; right = c.knot-2.result.after; from = c.args.now.now.at; to = c.in_ok-turn.turn.time } in
-    let on : Follows g.P.Shape.function g.P.Shape.lowest g.P.Shape.highest c.args.p.now c.args.q.now gap = gap_follows g.P.Shape.function g.P.Shape.moves g.P.Shape.lowest g.P.Shape.highest g.met.P.Shape.lowest_is_least g.met.P.Shape.highest_is_greatest c.args.p.now c.args.q.now c.len.ensures.signal c.len-2.ensures.signal c.requires.sides c.args.built.now c.args.now.now c.requires.stands c.knot.result c.knot-2.result c.knot-3.result c.knot-4.result c.earlier-next.result at c.in_ok-turn.turn.time c.in_ok-turn.ensures.after c.in_ok-turn.ensures.not_later in
-    let fact : IsPairWithin (start c.args.p.now) (stop c.args.p.now) c.in_err-course.field-0.0 = value_within g.P.Shape.function g.P.Shape.lowest g.P.Shape.highest c.args.p.now c.args.q.now gap on c.in_err-course.field-0.0 c.in_err-course.ensures in
+    let on : Follows g.P.Shape c.args.p.now c.args.q.now gap = gap_follows g.P.Shape (assumption g.met.P.Shape) c.args.p.now c.args.q.now c.len.ensures.signal c.len-2.ensures.signal c.requires.sides c.args.built.now c.args.now.now c.requires.stands c.knot.result c.knot-2.result c.knot-3.result c.knot-4.result c.earlier-next.result at c.in_ok-turn.turn.time c.in_ok-turn.ensures.after c.in_ok-turn.ensures.not_later in
+    let fact : IsPairWithin (start c.args.p.now) (stop c.args.p.now) c.in_err-course.field-0.0 = value_within g.P.Shape c.args.p.now c.args.q.now gap on c.in_err-course.field-0.0 c.in_err-course.ensures in
     search (rules, fact)
 
 pub join-requires-clause-order : goal.join-requires-clause-order
@@ -152,25 +152,25 @@ join-requires-clause-order g c =
 
 pub advance-left-requires-clause-begun : goal.advance-left-requires-clause-begun
 advance-left-requires-clause-begun g c =
-    begun_before g.P.Shape.function c.args.p.now c.args.now.now.left (value c.args.now.now.at) (value c.in_ok-turn.turn.time) c.requires.stands.left c.in_ok-turn.ensures.after
+    begun_before g.P.Shape c.args.p.now c.args.now.now.left (value c.args.now.now.at) (value c.in_ok-turn.turn.time) c.requires.stands.left c.in_ok-turn.ensures.after
 
 pub advance-right-requires-clause-begun : goal.advance-right-requires-clause-begun
 advance-right-requires-clause-begun g c =
-    begun_before g.P.Shape.function c.args.q.now c.args.now.now.right (value c.args.now.now.at) (value c.in_ok-turn.turn.time) c.requires.stands.right c.in_ok-turn.ensures.after
+    begun_before g.P.Shape c.args.q.now c.args.now.now.right (value c.args.now.now.at) (value c.in_ok-turn.turn.time) c.requires.stands.right c.in_ok-turn.ensures.after
 
 pub advance-left-requires-clause-next : goal.advance-left-requires-clause-next
 advance-left-requires-clause-next g c =
-    λ k e. subst (λ k. value c.in_ok-turn.turn.time ≤ʳ time k) (same_knot g.P.Shape.function c.args.p.now (c.args.now.now.left + 1) e c.knot-3.ensures) (le_trans c.in_ok-turn.ensures.not_later c.earlier-next.ensures.left)
+    λ k e. subst (λ k. value c.in_ok-turn.turn.time ≤ʳ time k) (same_knot g.P.Shape c.args.p.now (c.args.now.now.left + 1) e c.knot-3.ensures) (le_trans c.in_ok-turn.ensures.not_later c.earlier-next.ensures.left)
 
 pub advance-right-requires-clause-more : goal.advance-right-requires-clause-more
 advance-right-requires-clause-more g c =
-    more_knots g.P.Shape.function c.args.q.now c.args.now.now.right c.knot-2.result (value c.args.now.now.at) c.requires.stands.right c.knot-2.ensures
+    more_knots g.P.Shape c.args.q.now c.args.now.now.right c.knot-2.result (value c.args.now.now.at) c.requires.stands.right c.knot-2.ensures
     (lt_of_lt_of_le (c.requires.stands.left.later c.knot-3.result c.knot-3.ensures)
-    (le_trans (at_knot_within g.P.Shape.function c.args.p.now (c.args.now.now.left + 1) c.knot-3.result c.len.ensures.signal c.knot-3.ensures).below (le_of_same c.requires.sides.ends)))
+    (le_trans (at_knot_within g.P.Shape c.args.p.now (c.args.now.now.left + 1) c.knot-3.result c.len.ensures.signal c.knot-3.ensures).below (le_of_same c.requires.sides.ends)))
 
 pub advance-right-requires-clause-next : goal.advance-right-requires-clause-next
 advance-right-requires-clause-next g c =
-    λ k e. subst (λ k. value c.in_ok-turn.turn.time ≤ʳ time k) (same_knot g.P.Shape.function c.args.q.now (c.args.now.now.right + 1) e c.knot-4.ensures) (le_trans c.in_ok-turn.ensures.not_later c.earlier-next.ensures.right)
+    λ k e. subst (λ k. value c.in_ok-turn.turn.time ≤ʳ time k) (same_knot g.P.Shape c.args.q.now (c.args.now.now.right + 1) e c.knot-4.ensures) (le_trans c.in_ok-turn.ensures.not_later c.earlier-next.ensures.right)
 
 pub point-value-requires : goal.point-value-requires
 point-value-requires g c =
@@ -183,7 +183,7 @@ point-value-requires g c =
       right = c.earlier-next.ensures.right;
       one = c.earlier-next.ensures.one;
     } in
-    gap_within g.P.Shape.function g.P.Shape.moves g.P.Shape.lowest g.P.Shape.highest g.met.P.Shape.lowest_is_least g.met.P.Shape.highest_is_greatest c.args.p.now c.args.q.now c.len.ensures.signal c.len-2.ensures.signal c.requires.sides c.args.built.now c.args.now.now c.requires.stands c.knot.result c.knot-2.result c.knot-3.result c.knot-4.result c.earlier-next.result at (value c.in_ok-turn.turn.time) (le_of_lt c.in_ok-turn.ensures.after) c.in_ok-turn.ensures.not_later
+    gap_within g.P.Shape (assumption g.met.P.Shape) c.args.p.now c.args.q.now c.len.ensures.signal c.len-2.ensures.signal c.requires.sides c.args.built.now c.args.now.now c.requires.stands c.knot.result c.knot-2.result c.knot-3.result c.knot-4.result c.earlier-next.result at (value c.in_ok-turn.turn.time) (le_of_lt c.in_ok-turn.ensures.after) c.in_ok-turn.ensures.not_later
 
 pub join-requires-clause-from_within : goal.join-requires-clause-from_within
 join-requires-clause-from_within g c =
@@ -196,7 +196,7 @@ join-requires-clause-from_within g c =
       right = c.earlier-next.ensures.right;
       one = c.earlier-next.ensures.one;
     } in
-    subst (IsWithin (2 ^ 34)) (sym c.requires.stands.ends) (gap_within g.P.Shape.function g.P.Shape.moves g.P.Shape.lowest g.P.Shape.highest g.met.P.Shape.lowest_is_least g.met.P.Shape.highest_is_greatest c.args.p.now c.args.q.now c.len.ensures.signal c.len-2.ensures.signal c.requires.sides c.args.built.now c.args.now.now c.requires.stands c.knot.result c.knot-2.result c.knot-3.result c.knot-4.result c.earlier-next.result at (value c.args.now.now.at) (le_refl (value c.args.now.now.at)) (le_of_lt (begins_before g.P.Shape.function g.P.Shape.moves g.P.Shape.lowest g.P.Shape.highest g.met.P.Shape.lowest_is_least g.met.P.Shape.highest_is_greatest c.args.p.now c.args.q.now c.len.ensures.signal c.len-2.ensures.signal c.requires.sides c.args.built.now c.args.now.now c.requires.stands c.knot.result c.knot-2.result c.knot-3.result c.knot-4.result c.earlier-next.result at)))
+    subst (IsWithin (2 ^ 34)) (sym c.requires.stands.ends) (gap_within g.P.Shape (assumption g.met.P.Shape) c.args.p.now c.args.q.now c.len.ensures.signal c.len-2.ensures.signal c.requires.sides c.args.built.now c.args.now.now c.requires.stands c.knot.result c.knot-2.result c.knot-3.result c.knot-4.result c.earlier-next.result at (value c.args.now.now.at) (le_refl (value c.args.now.now.at)) (le_of_lt (begins_before g.P.Shape (assumption g.met.P.Shape) c.args.p.now c.args.q.now c.len.ensures.signal c.len-2.ensures.signal c.requires.sides c.args.built.now c.args.now.now c.requires.stands c.knot.result c.knot-2.result c.knot-3.result c.knot-4.result c.earlier-next.result at)))
 
 pub join-requires-clause-to_within : goal.join-requires-clause-to_within
 join-requires-clause-to_within g c =
@@ -209,7 +209,7 @@ join-requires-clause-to_within g c =
       right = c.earlier-next.ensures.right;
       one = c.earlier-next.ensures.one;
     } in
-    gap_within g.P.Shape.function g.P.Shape.moves g.P.Shape.lowest g.P.Shape.highest g.met.P.Shape.lowest_is_least g.met.P.Shape.highest_is_greatest c.args.p.now c.args.q.now c.len.ensures.signal c.len-2.ensures.signal c.requires.sides c.args.built.now c.args.now.now c.requires.stands c.knot.result c.knot-2.result c.knot-3.result c.knot-4.result c.earlier-next.result at (value c.in_ok-turn.turn.time) (le_of_lt c.in_ok-turn.ensures.after) c.in_ok-turn.ensures.not_later
+    gap_within g.P.Shape (assumption g.met.P.Shape) c.args.p.now c.args.q.now c.len.ensures.signal c.len-2.ensures.signal c.requires.sides c.args.built.now c.args.now.now c.requires.stands c.knot.result c.knot-2.result c.knot-3.result c.knot-4.result c.earlier-next.result at (value c.in_ok-turn.turn.time) (le_of_lt c.in_ok-turn.ensures.after) c.in_ok-turn.ensures.not_later
 
 pub join-requires-clause-first : goal.join-requires-clause-first
 join-requires-clause-first g c =
@@ -222,7 +222,7 @@ join-requires-clause-first g c =
       right = c.earlier-next.ensures.right;
       one = c.earlier-next.ensures.one;
     } in
-    played_level g.P.Shape.function g.P.Shape.moves g.P.Shape.lowest g.P.Shape.highest g.met.P.Shape.lowest_is_least g.met.P.Shape.highest_is_greatest c.args.p.now c.args.q.now c.len.ensures.signal c.len-2.ensures.signal c.requires.sides c.args.built.now c.args.now.now c.requires.stands c.knot.result c.knot-2.result c.knot-3.result c.knot-4.result c.earlier-next.result at c.in_ok-turn.turn.time c.in_ok-course.course.first c.in_ok-course.ensures.first
+    played_level g.P.Shape (assumption g.met.P.Shape) c.args.p.now c.args.q.now c.len.ensures.signal c.len-2.ensures.signal c.requires.sides c.args.built.now c.args.now.now c.requires.stands c.knot.result c.knot-2.result c.knot-3.result c.knot-4.result c.earlier-next.result at c.in_ok-turn.turn.time c.in_ok-course.course.first c.in_ok-course.ensures.first
 
 pub join-requires-clause-second : goal.join-requires-clause-second
 join-requires-clause-second g c =
@@ -235,7 +235,7 @@ join-requires-clause-second g c =
       right = c.earlier-next.ensures.right;
       one = c.earlier-next.ensures.one;
     } in
-    played_level g.P.Shape.function g.P.Shape.moves g.P.Shape.lowest g.P.Shape.highest g.met.P.Shape.lowest_is_least g.met.P.Shape.highest_is_greatest c.args.p.now c.args.q.now c.len.ensures.signal c.len-2.ensures.signal c.requires.sides c.args.built.now c.args.now.now c.requires.stands c.knot.result c.knot-2.result c.knot-3.result c.knot-4.result c.earlier-next.result at c.in_ok-turn.turn.time c.in_ok-course.course.second c.in_ok-course.ensures.second
+    played_level g.P.Shape (assumption g.met.P.Shape) c.args.p.now c.args.q.now c.len.ensures.signal c.len-2.ensures.signal c.requires.sides c.args.built.now c.args.now.now c.requires.stands c.knot.result c.knot-2.result c.knot-3.result c.knot-4.result c.earlier-next.result at c.in_ok-turn.turn.time c.in_ok-course.course.second c.in_ok-course.ensures.second
 
 pub returns-in_err-join-clause-wide : goal.returns-in_err-join-clause-wide
 returns-in_err-join-clause-wide g c =
@@ -249,9 +249,9 @@ returns-in_err-join-clause-wide g c =
       one = c.earlier-next.ensures.one;
     } in
     let gap : Gap _ = record { before = c.args.now.now.value; left = c.knot.result.after; right = c.knot-2.result.after; from = c.args.now.now.at; to = c.in_ok-turn.turn.time } in
-    let on : Follows g.P.Shape.function g.P.Shape.lowest g.P.Shape.highest c.args.p.now c.args.q.now gap = gap_follows g.P.Shape.function g.P.Shape.moves g.P.Shape.lowest g.P.Shape.highest g.met.P.Shape.lowest_is_least g.met.P.Shape.highest_is_greatest c.args.p.now c.args.q.now c.len.ensures.signal c.len-2.ensures.signal c.requires.sides c.args.built.now c.args.now.now c.requires.stands c.knot.result c.knot-2.result c.knot-3.result c.knot-4.result c.earlier-next.result at c.in_ok-turn.turn.time c.in_ok-turn.ensures.after c.in_ok-turn.ensures.not_later in
+    let on : Follows g.P.Shape c.args.p.now c.args.q.now gap = gap_follows g.P.Shape (assumption g.met.P.Shape) c.args.p.now c.args.q.now c.len.ensures.signal c.len-2.ensures.signal c.requires.sides c.args.built.now c.args.now.now c.requires.stands c.knot.result c.knot-2.result c.knot-3.result c.knot-4.result c.earlier-next.result at c.in_ok-turn.turn.time c.in_ok-turn.ensures.after c.in_ok-turn.ensures.not_later in
     let w = c.in_err-join.ensures.wide in
-    let fact : HasCause g.P.Shape.function (SinceStep g.P.Shape.function g.P.Shape.lowest g.P.Shape.highest c.args.p.now c.args.q.now) (start c.args.p.now) (stop c.args.p.now) c.in_err-join.field-0.0 = cross_cause g.P.Shape.function g.P.Shape.lowest g.P.Shape.highest c.args.p.now c.args.q.now gap on c.in_ok-course.course.first c.in_ok-course.course.second (played g.P.Shape.function g.P.Shape.lowest g.P.Shape.highest c.args.p.now c.args.q.now gap on (since_is_function g.P.Shape.lowest g.P.Shape.highest (start c.args.p.now) (IsWorth g.P.Shape.function c.args.p.now) (IsWorth g.P.Shape.function c.args.q.now)) c.in_ok-turn.ensures.in_order g.P.Shape.moves c.in_ok-course.course.first c.in_ok-course.ensures.first) (played g.P.Shape.function g.P.Shape.lowest g.P.Shape.highest c.args.p.now c.args.q.now gap on (since_is_function g.P.Shape.lowest g.P.Shape.highest (start c.args.p.now) (IsWorth g.P.Shape.function c.args.p.now) (IsWorth g.P.Shape.function c.args.q.now)) c.in_ok-turn.ensures.in_order g.P.Shape.moves c.in_ok-course.course.second c.in_ok-course.ensures.second) w.0 (w.1 ∙ c.requires.stands.ends) c.in_err-join.field-0.0 w.2 in
+    let fact : HasCause g.P.Shape (SinceStep g.P.Shape c.args.p.now c.args.q.now) (start c.args.p.now) (stop c.args.p.now) c.in_err-join.field-0.0 = cross_cause g.P.Shape c.args.p.now c.args.q.now gap on c.in_ok-course.course.first c.in_ok-course.course.second (played g.P.Shape c.args.p.now c.args.q.now gap on (since_is_function g.P.Shape.lowest g.P.Shape.highest (start c.args.p.now) (IsWorth g.P.Shape c.args.p.now) (IsWorth g.P.Shape c.args.q.now)) c.in_ok-turn.ensures.in_order c.in_ok-course.course.first c.in_ok-course.ensures.first) (played g.P.Shape c.args.p.now c.args.q.now gap on (since_is_function g.P.Shape.lowest g.P.Shape.highest (start c.args.p.now) (IsWorth g.P.Shape c.args.p.now) (IsWorth g.P.Shape c.args.q.now)) c.in_ok-turn.ensures.in_order c.in_ok-course.course.second c.in_ok-course.ensures.second) w.0 (w.1 ∙ c.requires.stands.ends) c.in_err-join.field-0.0 w.2 in
     search (rules, fact)
 
 pub returns-in_err-join-clause-pair : goal.returns-in_err-join-clause-pair
@@ -266,9 +266,9 @@ returns-in_err-join-clause-pair g c =
       one = c.earlier-next.ensures.one;
     } in
     let gap : Gap _ = record { before = c.args.now.now.value; left = c.knot.result.after; right = c.knot-2.result.after; from = c.args.now.now.at; to = c.in_ok-turn.turn.time } in
-    let on : Follows g.P.Shape.function g.P.Shape.lowest g.P.Shape.highest c.args.p.now c.args.q.now gap = gap_follows g.P.Shape.function g.P.Shape.moves g.P.Shape.lowest g.P.Shape.highest g.met.P.Shape.lowest_is_least g.met.P.Shape.highest_is_greatest c.args.p.now c.args.q.now c.len.ensures.signal c.len-2.ensures.signal c.requires.sides c.args.built.now c.args.now.now c.requires.stands c.knot.result c.knot-2.result c.knot-3.result c.knot-4.result c.earlier-next.result at c.in_ok-turn.turn.time c.in_ok-turn.ensures.after c.in_ok-turn.ensures.not_later in
+    let on : Follows g.P.Shape c.args.p.now c.args.q.now gap = gap_follows g.P.Shape (assumption g.met.P.Shape) c.args.p.now c.args.q.now c.len.ensures.signal c.len-2.ensures.signal c.requires.sides c.args.built.now c.args.now.now c.requires.stands c.knot.result c.knot-2.result c.knot-3.result c.knot-4.result c.earlier-next.result at c.in_ok-turn.turn.time c.in_ok-turn.ensures.after c.in_ok-turn.ensures.not_later in
     let w = c.in_err-join.ensures.wide in
-    let fact : IsPairWithin (start c.args.p.now) (stop c.args.p.now) c.in_err-join.field-0.0 = cross_within g.P.Shape.function g.P.Shape.lowest g.P.Shape.highest c.args.p.now c.args.q.now gap on c.in_ok-course.course.first c.in_ok-course.course.second w.0 (w.1 ∙ c.requires.stands.ends) c.in_err-join.field-0.0 w.2 in
+    let fact : IsPairWithin (start c.args.p.now) (stop c.args.p.now) c.in_err-join.field-0.0 = cross_within g.P.Shape c.args.p.now c.args.q.now gap on c.in_ok-course.course.first c.in_ok-course.course.second w.0 (w.1 ∙ c.requires.stands.ends) c.in_err-join.field-0.0 w.2 in
     search (rules, fact)
 
 pub returns-clause-ok : goal.returns-clause-ok
@@ -282,19 +282,19 @@ returns-clause-ok g c =
       right = c.earlier-next.ensures.right;
       one = c.earlier-next.ensures.one;
     } in
-    let left : IsRead g.P.Shape.function c.args.p.now c.args.now.now.left (value c.in_ok-turn.turn.time) c.advance-left.result.place c.advance-left.result.shape = record {
+    let left : IsRead g.P.Shape c.args.p.now c.args.now.now.left (value c.in_ok-turn.turn.time) c.advance-left.result.place c.advance-left.result.shape = record {
       place = c.advance-left.ensures.place;
       worth = c.advance-left.ensures.worth;
-      shape = c.advance-left.ensures.shape;
+      of = c.advance-left.ensures.shape;
       moved = c.advance-left.ensures.moved;
     } in
-    let right : IsRead g.P.Shape.function c.args.q.now c.args.now.now.right (value c.in_ok-turn.turn.time) c.advance-right.result.place c.advance-right.result.shape = record {
+    let right : IsRead g.P.Shape c.args.q.now c.args.now.now.right (value c.in_ok-turn.turn.time) c.advance-right.result.place c.advance-right.result.shape = record {
       place = c.advance-right.ensures.place;
       worth = c.advance-right.ensures.worth;
-      shape = c.advance-right.ensures.shape;
+      of = c.advance-right.ensures.shape;
       moved = c.advance-right.ensures.moved;
     } in
-    walked g.P.Shape.function g.P.Shape.moves g.P.Shape.lowest g.P.Shape.highest g.met.P.Shape.lowest_is_least g.met.P.Shape.highest_is_greatest c.args.p.now c.args.q.now c.len.ensures.signal c.len-2.ensures.signal c.requires.sides c.args.built.now c.args.now.now c.requires.stands c.knot.result c.knot-2.result c.knot-3.result c.knot-4.result c.earlier-next.result at c.in_ok-turn.turn c.in_ok-turn.ensures c.in_ok-course.course c.in_ok-course.ensures c.advance-left.result.place c.advance-right.result.place c.advance-left.result.shape c.advance-right.result.shape c.point-value.result left right c.point-value.ensures.one c.point-value.ensures.value c.join.new.self c.in_ok-join.ensures.ok
+    walked g.P.Shape (assumption g.met.P.Shape) c.args.p.now c.args.q.now c.len.ensures.signal c.len-2.ensures.signal c.requires.sides c.args.built.now c.args.now.now c.requires.stands c.knot.result c.knot-2.result c.knot-3.result c.knot-4.result c.earlier-next.result at c.in_ok-turn.turn c.in_ok-turn.ensures c.in_ok-course.course c.in_ok-course.ensures c.advance-left.result.place c.advance-right.result.place c.advance-left.result.shape c.advance-right.result.shape c.point-value.result left right c.point-value.ensures.one c.point-value.ensures.value c.join.new.self c.in_ok-join.ensures.ok
 
 pub returns-clause-nearer : goal.returns-clause-nearer
 returns-clause-nearer g c =
@@ -307,19 +307,19 @@ returns-clause-nearer g c =
       right = c.earlier-next.ensures.right;
       one = c.earlier-next.ensures.one;
     } in
-    let left : IsRead g.P.Shape.function c.args.p.now c.args.now.now.left (value c.in_ok-turn.turn.time) c.advance-left.result.place c.advance-left.result.shape = record {
+    let left : IsRead g.P.Shape c.args.p.now c.args.now.now.left (value c.in_ok-turn.turn.time) c.advance-left.result.place c.advance-left.result.shape = record {
       place = c.advance-left.ensures.place;
       worth = c.advance-left.ensures.worth;
-      shape = c.advance-left.ensures.shape;
+      of = c.advance-left.ensures.shape;
       moved = c.advance-left.ensures.moved;
     } in
-    let right : IsRead g.P.Shape.function c.args.q.now c.args.now.now.right (value c.in_ok-turn.turn.time) c.advance-right.result.place c.advance-right.result.shape = record {
+    let right : IsRead g.P.Shape c.args.q.now c.args.now.now.right (value c.in_ok-turn.turn.time) c.advance-right.result.place c.advance-right.result.shape = record {
       place = c.advance-right.ensures.place;
       worth = c.advance-right.ensures.worth;
-      shape = c.advance-right.ensures.shape;
+      of = c.advance-right.ensures.shape;
       moved = c.advance-right.ensures.moved;
     } in
-    nearer g.P.Shape.function g.P.Shape.moves g.P.Shape.lowest g.P.Shape.highest g.met.P.Shape.lowest_is_least g.met.P.Shape.highest_is_greatest c.args.p.now c.args.q.now c.len.ensures.signal c.len-2.ensures.signal c.requires.sides c.args.built.now c.args.now.now c.requires.stands c.knot.result c.knot-2.result c.knot-3.result c.knot-4.result c.earlier-next.result at c.in_ok-turn.turn c.in_ok-turn.ensures c.in_ok-course.course c.in_ok-course.ensures c.advance-left.result.place c.advance-right.result.place c.advance-left.result.shape c.advance-right.result.shape c.point-value.result left right c.point-value.ensures.one c.point-value.ensures.value c.requires.more
-    (more_knots g.P.Shape.function c.args.q.now c.args.now.now.right c.knot-2.result (value c.args.now.now.at) c.requires.stands.right c.knot-2.ensures
+    nearer g.P.Shape (assumption g.met.P.Shape) c.args.p.now c.args.q.now c.len.ensures.signal c.len-2.ensures.signal c.requires.sides c.args.built.now c.args.now.now c.requires.stands c.knot.result c.knot-2.result c.knot-3.result c.knot-4.result c.earlier-next.result at c.in_ok-turn.turn c.in_ok-turn.ensures c.in_ok-course.course c.in_ok-course.ensures c.advance-left.result.place c.advance-right.result.place c.advance-left.result.shape c.advance-right.result.shape c.point-value.result left right c.point-value.ensures.one c.point-value.ensures.value c.requires.more
+    (more_knots g.P.Shape c.args.q.now c.args.now.now.right c.knot-2.result (value c.args.now.now.at) c.requires.stands.right c.knot-2.ensures
     (lt_of_lt_of_le (c.requires.stands.left.later c.knot-3.result c.knot-3.ensures)
-    (le_trans (at_knot_within g.P.Shape.function c.args.p.now (c.args.now.now.left + 1) c.knot-3.result c.len.ensures.signal c.knot-3.ensures).below (le_of_same c.requires.sides.ends))))
+    (le_trans (at_knot_within g.P.Shape c.args.p.now (c.args.now.now.left + 1) c.knot-3.result c.len.ensures.signal c.knot-3.ensures).below (le_of_same c.requires.sides.ends))))

@@ -12,7 +12,7 @@ returns-in-Cross g c =
     let w = c.in-Cross in
     let new = Cross c.mirror.result c.mirror-in-Cross.result c.mirror-in-Cross-2.result c.mirror-in-Cross-3.result w.den in
     let is : c.args.pair.now ≡ Cross w.p w.q w.from w.to w.den = cc w.is in
-    subst (λ e. IsTurnedPair f e new) (sym is) (
+    subst (λ e. IsTurnedPair g.P.Shape e new) (sym is) (
       turned_of (f w.p) (f c.mirror.result) c.mirror.ensures.value,
       turned_of (f w.q) (f c.mirror-in-Cross.result) c.mirror-in-Cross.ensures.value,
       same_trans c.mirror-in-Cross-2.ensures.value (about_zero (value w.to)),

@@ -9,7 +9,7 @@ use Rattle.window_ops.proofs.ends.beside.Given as goal
 
 abbrev pub invariant-loop-i : goal.invariant-loop-i
 invariant-loop-i g l = record {
-  tells : TellsSoFar g.P.Shape.function (Beside g.P.Shape.lowest (IsWorth g.P.Shape.function l.s) l.side l.counts) l.built;
+  tells : TellsSoFar g.P.Shape (Beside g.P.Shape.lowest (IsWorth g.P.Shape l.s) l.side l.counts) l.built;
   begins : start l.built ≈ start l.s;
   ends : (j : _) (k : Knot _) → j + 1 ≡ l.i → slice_get l.s j ≡ Some k → stop l.built ≈ time k;
   shapes : (p : _) → HasShape l.built p → HasShape l.s p ⊎ (g.P.Shape.moves p ≡ false);

@@ -4,13 +4,14 @@ use Rattle.std.specs.Int.RustNames.{unsigned_abs}
 use Rattle.std.specs.Prelude.{◌≤◌}
 use Rattle.rational.specs.Rational.{IsOrder, IsWithin, add, whole, FitsFloor}
 use Rattle.rational.specs.Time.{Rational, ◌<ʳ◌, ◌≤ʳ◌, ◌≈◌, later}
-use Rattle.rational.specs.Extended.{◌≈ᵉ◌, Affine}
+use Rattle.rational.specs.Extended.{◌≈ᵉ◌}
 use Rattle.rational.specs.Windows.{Function}
 use Rattle.rational.proofs.Order.{le_refl, le_trans, le_of_same, ge_of_same, lt_of_lt_of_le, not_lt_of_le, same_sym, same_trans}
 use Rattle.rational.proofs.AffineLemmas.{same_reflᵉ, bounded_same}
 use Rattle.rational.proofs.TimeLemmas.{later_le, later_from}
 use Rattle.rational.proofs.Mixed.{fits_of_within, within_same}
 use Rattle.frac128.specs.Value.{value}
+use Rattle.value_laws.specs.Members.{ShapeOf}
 use Rattle.pl_signal.specs.declared.knot.Knot.{Knot}
 use Rattle.pl_signal.specs.Knots.{start, stop, IsWorth}
 use Rattle.pl_signal.specs.Moves.{Tells, BasesFrom}
@@ -23,23 +24,23 @@ use Rattle.window_ops.proofs.ends.beside_ahead.Goals as goal
 pub shift-requires : goal.shift-requires
 shift-requires g c =
     let first = c.requires.first in
-    let last = le_trans (start_to_stop g.P.Shape.function c.args.s.now c.start-start.ensures.signal) c.requires.last in
+    let last = le_trans (start_to_stop g.P.Shape c.args.s.now c.start-start.ensures.signal) c.requires.last in
     subst (λ z. FitsFloor w64 (add (value c.start-start.result) (whole z))) (sym (bound_is c.args.by c.requires.small))
     (subst (λ u. FitsFloor w64 (add u (whole (pos c.args.by)))) (sym c.start-start.ensures.value) (fits_of_within w64 (2 ^ 34) (lit< tt) (moved_within c.args.by first last c.requires.small)))
 
 pub shift-requires-2 : goal.shift-requires-2
 shift-requires-2 g c =
-    let first = le_trans c.requires.first (start_to_stop g.P.Shape.function c.args.s.now c.start-start.ensures.signal) in
+    let first = le_trans c.requires.first (start_to_stop g.P.Shape c.args.s.now c.start-start.ensures.signal) in
     subst (λ z. FitsFloor w64 (add (value c.stop-stop.result) (whole z))) (sym (bound_is c.args.by c.requires.small))
     (subst (λ u. FitsFloor w64 (add u (whole (pos c.args.by)))) (sym c.stop-stop.ensures.value) (fits_of_within w64 (2 ^ 34) (lit< tt) (moved_within c.args.by first c.requires.last c.requires.small)))
 
 pub least_between-requires-clause-order : goal.least_between-requires-clause-order
 least_between-requires-clause-order g c =
-    subst (λ u. u ≤ʳ value c.stop-stop.result) (sym c.start-start.ensures.value) (subst (λ u. start c.args.s.now ≤ʳ u) (sym c.stop-stop.ensures.value) (start_to_stop g.P.Shape.function c.args.s.now c.start-start.ensures.signal))
+    subst (λ u. u ≤ʳ value c.stop-stop.result) (sym c.start-start.ensures.value) (subst (λ u. start c.args.s.now ≤ʳ u) (sym c.stop-stop.ensures.value) (start_to_stop g.P.Shape c.args.s.now c.start-start.ensures.signal))
 
 pub least_between-requires-clause-from_within : goal.least_between-requires-clause-from_within
 least_between-requires-clause-from_within g c =
-    subst (IsWithin (2 ^ 34)) (sym c.start-start.ensures.value) (domain_within c.requires.first (le_trans (start_to_stop g.P.Shape.function c.args.s.now c.start-start.ensures.signal) c.requires.last))
+    subst (IsWithin (2 ^ 34)) (sym c.start-start.ensures.value) (domain_within c.requires.first (le_trans (start_to_stop g.P.Shape c.args.s.now c.start-start.ensures.signal) c.requires.last))
 
 pub beside_until-requires : goal.beside_until-requires
 beside_until-requires g c = record { taken = c.requires.taken; limited = c.requires.limited; order = le_trans (later_from (stop c.args.s.now) c.args.by) (ge_of_same stops) }
@@ -52,11 +53,11 @@ shift_clip-requires g c =
     let low = domain_within c.requires.first (le_trans order c.requires.last) in
     let high = domain_within (le_trans c.requires.first order) c.requires.last in
     let stops = moved_is c.args.by c.requires.small c.stop-stop.ensures.value c.shift-2.ensures.value in record {
-      limited = limited_by g.P.Shape.function (Beside g.P.Shape.lowest (IsWorth g.P.Shape.function c.args.s.now) c.args.side c.args.counts) c.in_ok-beside.beside (start c.args.s.now) (value c.shift-2.result) c.in_ok-beside.ensures.worth
-          (beside_bounded g.P.Shape.function g.P.Shape.lowest c.args.side c.args.counts c.args.s.now c.requires.limited g.met.P.Shape.lowest_bounded) low
+      limited = limited_by g.P.Shape (Beside g.P.Shape.lowest (IsWorth g.P.Shape c.args.s.now) c.args.side c.args.counts) c.in_ok-beside.beside (start c.args.s.now) (value c.shift-2.result) c.in_ok-beside.ensures.worth
+          (beside_bounded g.P.Shape c.args.side c.args.counts c.args.s.now c.requires.limited g.met.P.Shape.lowest_bounded) low
           (within_same (2 ^ 34) (same_sym stops) (moved_within c.args.by (le_trans c.requires.first order) c.requires.last c.requires.small));
       bases = λ p h. subst (λ z. unsigned_abs (g.P.Shape.base p -ℤ z) ≤ 2 ^ 34) (sym (bound_is c.args.by c.requires.small))
-          (room_of g.P.Shape.moves g.P.Shape.base c.args.by c.args.s.now c.in_ok-beside.beside c.requires.small g.met.P.Shape.base_of_others c.in_ok-beside.ensures.shapes c.requires.bases p h);
+          (room_of g.P.Shape c.args.by c.args.s.now c.in_ok-beside.beside c.requires.small g.met.P.Shape.base_of_others c.in_ok-beside.ensures.shapes c.requires.bases p h);
       order = subst (λ u. u ≤ʳ value c.stop-stop.result) (sym c.start-start.ensures.value) (subst (λ u. start c.args.s.now ≤ʳ u) (sym c.stop-stop.ensures.value) order);
       first = subst (λ z. start c.in_ok-beside.beside ≤ʳ add (value c.start-start.result) (whole z)) (sym (bound_is c.args.by c.requires.small))
           (subst (λ u. start c.in_ok-beside.beside ≤ʳ add u (whole (pos c.args.by))) (sym c.start-start.ensures.value) (le_trans (le_of_same c.in_ok-beside.ensures.worth.begins) (moved_from (start c.args.s.now) c.args.by)));
@@ -66,18 +67,18 @@ shift_clip-requires g c =
     }
   where
     order : start c.args.s.now ≤ʳ stop c.args.s.now
-    order = start_to_stop g.P.Shape.function c.args.s.now c.start-start.ensures.signal
+    order = start_to_stop g.P.Shape c.args.s.now c.start-start.ensures.signal
 
     moved_from : (t : Rational) (n : ℕ) → t ≤ʳ add t (whole (pos n))
     moved_from t n = omega arith
 
 pub returns-in-Less-clause-worth : goal.returns-in-Less-clause-worth
 returns-in-Less-clause-worth g c = IfOk-weaker c.least_between.result _ _
-    (λ r h. tells_value g.P.Shape.function (λ t v. Beside g.P.Shape.lowest (IsWorth g.P.Shape.function c.args.s.now) c.args.side c.args.counts (later t c.args.by) v) r g.P.Shape.lowest (start c.args.s.now) (stop c.args.s.now)
-    (ahead_is_function g.P.Shape.function (Beside g.P.Shape.lowest (IsWorth g.P.Shape.function c.args.s.now) c.args.side c.args.counts) c.args.by (beside_is_function g.P.Shape.function g.P.Shape.lowest c.args.side c.args.counts c.args.s.now c.start-start.ensures.signal))
-    (λ t w. beside_after g.P.Shape.function g.P.Shape.lowest c.args.side c.args.counts c.args.s.now (later t c.args.by) g.P.Shape.lowest c.start-start.ensures.signal (lt_of_lt_of_le beyond (later_le c.args.by w.above)) (same_reflᵉ g.P.Shape.lowest))
-    (subst (λ u. Tells g.P.Shape.function (λ t v. v ≈ᵉ g.P.Shape.lowest) u (stop c.args.s.now) r) c.start-start.ensures.value
-    (subst (λ u. Tells g.P.Shape.function (λ t v. v ≈ᵉ g.P.Shape.lowest) (value c.start-start.result) u r) c.stop-stop.ensures.value h)))
+    (λ r h. tells_value g.P.Shape (λ t v. Beside g.P.Shape.lowest (IsWorth g.P.Shape c.args.s.now) c.args.side c.args.counts (later t c.args.by) v) r (start c.args.s.now) (stop c.args.s.now)
+    (ahead_is_function g.P.Shape (Beside g.P.Shape.lowest (IsWorth g.P.Shape c.args.s.now) c.args.side c.args.counts) c.args.by (beside_is_function g.P.Shape c.args.side c.args.counts c.args.s.now c.start-start.ensures.signal))
+    (λ t w. beside_after g.P.Shape c.args.side c.args.counts c.args.s.now (later t c.args.by) g.P.Shape.lowest c.start-start.ensures.signal (lt_of_lt_of_le beyond (later_le c.args.by w.above)) (same_reflᵉ g.P.Shape.lowest))
+    (subst (λ u. Tells g.P.Shape (λ t v. v ≈ᵉ g.P.Shape.lowest) u (stop c.args.s.now) r) c.start-start.ensures.value
+    (subst (λ u. Tells g.P.Shape (λ t v. v ≈ᵉ g.P.Shape.lowest) (value c.start-start.result) u r) c.stop-stop.ensures.value h)))
     c.least_between.ensures.worth
   where
     beyond : stop c.args.s.now <ʳ later (start c.args.s.now) c.args.by
@@ -86,20 +87,20 @@ returns-in-Less-clause-worth g c = IfOk-weaker c.least_between.result _ _
 
 pub returns-in-Less-clause-limited : goal.returns-in-Less-clause-limited
 returns-in-Less-clause-limited g c = IfOk-weaker c.least_between.result _ _
-    (λ r h. limited_by g.P.Shape.function (λ t v. v ≈ᵉ g.P.Shape.lowest) r (value c.start-start.result) (value c.stop-stop.result) h (λ t v e. bounded_same (2 ^ 31) v g.P.Shape.lowest e g.met.P.Shape.lowest_bounded)
+    (λ r h. limited_by g.P.Shape (λ t v. v ≈ᵉ g.P.Shape.lowest) r (value c.start-start.result) (value c.stop-stop.result) h (λ t v e. bounded_same (2 ^ 31) v g.P.Shape.lowest e g.met.P.Shape.lowest_bounded)
     (subst (IsWithin (2 ^ 34)) (sym c.start-start.ensures.value) (domain_within c.requires.first (le_trans order c.requires.last)))
     (subst (IsWithin (2 ^ 34)) (sym c.stop-stop.ensures.value) (domain_within (le_trans c.requires.first order) c.requires.last)))
     c.least_between.ensures.worth
   where
     order : start c.args.s.now ≤ʳ stop c.args.s.now
-    order = start_to_stop g.P.Shape.function c.args.s.now c.start-start.ensures.signal
+    order = start_to_stop g.P.Shape c.args.s.now c.start-start.ensures.signal
 
-told_ahead : {P : Type 0} (function : P → Affine) (F : Function) (part r : List (Knot P)) (n : ℕ) (from to low high from' to' : Rational) → n ≤ 2 ^ 32 → IsFunction F → Tells function F low high part → from' ≡ from → to' ≡ to → low ≤ʳ from → high ≈ add to' (whole (to_z w64 n))
-    → Tells function (λ t v. IsWorth function part (add t (whole (to_z w64 n))) v) from' to' r → Tells function (λ t v. F (later t n) v) from to r
-told_ahead function F part r n from to low high from' to' small is p e f begins ends t =
-    tells_ahead function F part r n from to low high is p
-    (subst (λ u. Tells function (λ t v. IsWorth function part (add t (whole (pos n))) v) u to r) e (subst (λ u. Tells function (λ t v. IsWorth function part (add t (whole (pos n))) v) from' u r) f
-    (subst (λ z. Tells function (λ t v. IsWorth function part (add t (whole z)) v) from' to' r) (bound_is n small) t)))
+told_ahead : {P : Type 0} (shape : ShapeOf P) (F : Function) (part r : List (Knot P)) (n : ℕ) (from to low high from' to' : Rational) → n ≤ 2 ^ 32 → IsFunction F → Tells shape F low high part → from' ≡ from → to' ≡ to → low ≤ʳ from → high ≈ add to' (whole (to_z w64 n))
+    → Tells shape (λ t v. IsWorth shape part (add t (whole (to_z w64 n))) v) from' to' r → Tells shape (λ t v. F (later t n) v) from to r
+told_ahead shape F part r n from to low high from' to' small is p e f begins ends t =
+    tells_ahead shape F part r n from to low high is p
+    (subst (λ u. Tells shape (λ t v. IsWorth shape part (add t (whole (pos n))) v) u to r) e (subst (λ u. Tells shape (λ t v. IsWorth shape part (add t (whole (pos n))) v) from' u r) f
+    (subst (λ z. Tells shape (λ t v. IsWorth shape part (add t (whole z)) v) from' to' r) (bound_is n small) t)))
     (le_trans begins (moved_from from n)) (ge_of_same (moved_is n small f ends))
   where
     moved_from : (t : Rational) (n : ℕ) → t ≤ʳ add t (whole (pos n))
@@ -107,25 +108,25 @@ told_ahead function F part r n from to low high from' to' small is p e f begins 
 
 pub returns-clause-worth : goal.returns-clause-worth
 returns-clause-worth g c = IfOk-weaker c.shift_clip.result _ _
-    (λ r h. told_ahead g.P.Shape.function (Beside g.P.Shape.lowest (IsWorth g.P.Shape.function c.args.s.now) c.args.side c.args.counts) c.in_ok-beside.beside r c.args.by (start c.args.s.now) (stop c.args.s.now) (start c.args.s.now) (value c.shift-2.result)
-    (value c.start-start.result) (value c.stop-stop.result) c.requires.small (beside_is_function g.P.Shape.function g.P.Shape.lowest c.args.side c.args.counts c.args.s.now c.start-start.ensures.signal) c.in_ok-beside.ensures.worth c.start-start.ensures.value c.stop-stop.ensures.value
+    (λ r h. told_ahead g.P.Shape (Beside g.P.Shape.lowest (IsWorth g.P.Shape c.args.s.now) c.args.side c.args.counts) c.in_ok-beside.beside r c.args.by (start c.args.s.now) (stop c.args.s.now) (start c.args.s.now) (value c.shift-2.result)
+    (value c.start-start.result) (value c.stop-stop.result) c.requires.small (beside_is_function g.P.Shape c.args.side c.args.counts c.args.s.now c.start-start.ensures.signal) c.in_ok-beside.ensures.worth c.start-start.ensures.value c.stop-stop.ensures.value
     (le_refl (start c.args.s.now)) c.shift-2.ensures.value h)
     c.shift_clip.ensures.worth
 
 pub returns-clause-limited : goal.returns-clause-limited
 returns-clause-limited g c = IfOk-weaker c.shift_clip.result _ _
-    (λ r h. limited_by g.P.Shape.function (λ t v. Beside g.P.Shape.lowest (IsWorth g.P.Shape.function c.args.s.now) c.args.side c.args.counts (later t c.args.by) v) r (start c.args.s.now) (stop c.args.s.now) h
-    (λ t v w. beside_bounded g.P.Shape.function g.P.Shape.lowest c.args.side c.args.counts c.args.s.now c.requires.limited g.met.P.Shape.lowest_bounded (later t c.args.by) v w)
+    (λ r h. limited_by g.P.Shape (λ t v. Beside g.P.Shape.lowest (IsWorth g.P.Shape c.args.s.now) c.args.side c.args.counts (later t c.args.by) v) r (start c.args.s.now) (stop c.args.s.now) h
+    (λ t v w. beside_bounded g.P.Shape c.args.side c.args.counts c.args.s.now c.requires.limited g.met.P.Shape.lowest_bounded (later t c.args.by) v w)
     (domain_within c.requires.first (le_trans order c.requires.last)) (domain_within (le_trans c.requires.first order) c.requires.last))
     (returns-clause-worth g c)
   where
     order : start c.args.s.now ≤ʳ stop c.args.s.now
-    order = start_to_stop g.P.Shape.function c.args.s.now c.start-start.ensures.signal
+    order = start_to_stop g.P.Shape c.args.s.now c.start-start.ensures.signal
 
 pub returns-clause-bases : goal.returns-clause-bases
 returns-clause-bases g c = IfOk-weaker c.shift_clip.result _ _
-    (λ r h. bases_moved g.P.Shape.moves g.P.Shape.base (λ k. k -ℤ pos c.args.by) c.args.s.now c.in_ok-beside.beside r c.in_ok-beside.ensures.shapes
-    (subst (λ z. BasesFrom g.P.Shape.moves g.P.Shape.base (λ k. k -ℤ z) c.in_ok-beside.beside r) (bound_is c.args.by c.requires.small) h))
+    (λ r h. bases_moved g.P.Shape (λ k. k -ℤ pos c.args.by) c.args.s.now c.in_ok-beside.beside r c.in_ok-beside.ensures.shapes
+    (subst (λ z. BasesFrom g.P.Shape (λ k. k -ℤ z) c.in_ok-beside.beside r) (bound_is c.args.by c.requires.small) h))
     c.shift_clip.ensures.bases
 
 pub returns-clause-beyond : goal.returns-clause-beyond

@@ -10,12 +10,12 @@ use Rattle.window_ops.proofs.ends.least_between.Goals.{in-Less+in_ok-step, in_de
 
 pub returns-clause-worth : goal.returns-clause-worth
 returns-clause-worth g c =
-    subst (Tells g.P.Shape.function (λ t v. v ≈ᵉ g.P.Shape.lowest) (value c.args.from.now) (value c.args.to.now)) (sym c.finish.ensures.value)
+    subst (Tells g.P.Shape (λ t v. v ≈ᵉ g.P.Shape.lowest) (value c.args.from.now) (value c.args.to.now)) (sym c.finish.ensures.value)
     (elim c.match-cmp.branch [
-      | in-Less+in_ok-step w ↦ subst (Tells g.P.Shape.function (λ t v. v ≈ᵉ g.P.Shape.lowest) (value c.args.from.now) (value c.args.to.now)) (sym w.built-is)
-          (least_on g.P.Shape.function g.P.Shape.lowest c.in_ok-built.built w.step.new.self c.least-least.result c.args.from.now c.args.to.now c.least-least.ensures.value c.in_ok-built.ensures w.in_ok-step.ensures.ok)
-      | in_default w ↦ subst (Tells g.P.Shape.function (λ t v. v ≈ᵉ g.P.Shape.lowest) (value c.args.from.now) (value c.args.to.now)) (sym w.built-is)
-          (least_first g.P.Shape.function g.P.Shape.lowest c.in_ok-built.built c.least-least.result c.args.from.now c.args.to.now c.least-least.ensures.value c.in_ok-built.ensures
+      | in-Less+in_ok-step w ↦ subst (Tells g.P.Shape (λ t v. v ≈ᵉ g.P.Shape.lowest) (value c.args.from.now) (value c.args.to.now)) (sym w.built-is)
+          (least_on g.P.Shape c.in_ok-built.built w.step.new.self c.least-least.result c.args.from.now c.args.to.now c.least-least.ensures.value c.in_ok-built.ensures w.in_ok-step.ensures.ok)
+      | in_default w ↦ subst (Tells g.P.Shape (λ t v. v ≈ᵉ g.P.Shape.lowest) (value c.args.from.now) (value c.args.to.now)) (sym w.built-is)
+          (least_first g.P.Shape c.in_ok-built.built c.least-least.result c.args.from.now c.args.to.now c.least-least.ensures.value c.in_ok-built.ensures
           (same_of_order c.cmp.result c.cmp.ensures c.requires.order w.in_default.not-Less))
     ])
 
@@ -24,6 +24,6 @@ returns-clause-still g c =
     let Good : List (Knot _) → Type 0 = λ r. (p : _) → HasShape r p → g.P.Shape.moves p ≡ false in
     subst Good (sym c.finish.ensures.value)
     (elim c.match-cmp.branch [
-      | in-Less+in_ok-step w ↦ subst Good (sym w.built-is) (still_on g.P.Shape.function g.P.Shape.moves c.in_ok-built.built w.step.new.self c.least-least.result c.args.from.now c.args.to.now c.least-least.ensures.moves c.in_ok-built.ensures w.in_ok-step.ensures.ok)
-      | in_default w ↦ subst Good (sym w.built-is) (still_first g.P.Shape.moves c.in_ok-built.built c.least-least.result c.args.from.now c.least-least.ensures.moves c.in_ok-built.ensures)
+      | in-Less+in_ok-step w ↦ subst Good (sym w.built-is) (still_on g.P.Shape c.in_ok-built.built w.step.new.self c.least-least.result c.args.from.now c.args.to.now c.least-least.ensures.moves c.in_ok-built.ensures w.in_ok-step.ensures.ok)
+      | in_default w ↦ subst Good (sym w.built-is) (still_first g.P.Shape c.in_ok-built.built c.least-least.result c.args.from.now c.least-least.ensures.moves c.in_ok-built.ensures)
     ])

@@ -13,7 +13,7 @@ pub loop-i-preserved : goal.loop-i-preserved
 loop-i-preserved g c = record {
   count = let e = ap (λ ps. length ps) c.push_reserved.ensures.items in omega (arith, e, length-append c.loop-i.shapes.items (c.in_ok-freeze.field-0 ∷ []), c.loop-i.invariant.count);
   room = c.push_reserved.ensures.capacity ∙ c.loop-i.invariant.room;
-  frozen = frozen_on g.P.Shape.function c.args.s.now c.args.first c.loop-i.i c.loop-i.shapes.items c.push_reserved.new.self.items c.in_ok-freeze.field-0 c.loop-i.invariant.frozen c.loop-i.invariant.count
+  frozen = frozen_on g.P.Shape c.args.s.now c.args.first c.loop-i.i c.loop-i.shapes.items c.push_reserved.new.self.items c.in_ok-freeze.field-0 c.loop-i.invariant.frozen c.loop-i.invariant.count
       c.in_ok-freeze.ensures.frozen c.push_reserved.ensures.items;
   still = subst (λ ps. All (λ p. g.P.Shape.moves p ≡ false) ps) (sym c.push_reserved.ensures.items)
       (All-push (λ p. g.P.Shape.moves p ≡ false) c.loop-i.shapes.items c.in_ok-freeze.field-0 c.loop-i.invariant.still c.in_ok-freeze.ensures.still);

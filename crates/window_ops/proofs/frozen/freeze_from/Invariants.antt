@@ -7,6 +7,6 @@ abbrev pub invariant-loop-i : goal.invariant-loop-i
 invariant-loop-i g l = record {
   count : l.first + length l.shapes.items ≡ l.i;
   room : vec_capacity l.shapes ≡ l.count - l.first;
-  frozen : AreFrozen g.P.Shape.function l.s l.first l.shapes.items;
+  frozen : AreFrozen g.P.Shape l.s l.first l.shapes.items;
   still : All (λ p. g.P.Shape.moves p ≡ false) l.shapes.items;
 }

@@ -17,12 +17,12 @@ use Rattle.window_ops.proofs.MiddleTelling.{IsReachedSup, reached_is_function, t
 use Rattle.window_ops.proofs.middle.walk.Goals as goal
 
 pub greatest-point-requires-clause-order : goal.greatest-point-requires-clause-order
-greatest-point-requires-clause-order g c = met_order g.P.Shape.function c.args.s.now c.len-count.ensures.signal c.args.first c.knots_met-met.result c.requires.left c.knots_met-met.ensures.met
+greatest-point-requires-clause-order g c = met_order g.P.Shape c.args.s.now c.len-count.ensures.signal c.args.first c.knots_met-met.result c.requires.left c.knots_met-met.ensures.met
     (later_lt (start c.args.s.now) c.args.a c.args.b c.requires.order)
 
 pub greatest-point-requires-clause-high : goal.greatest-point-requires-clause-high
 greatest-point-requires-clause-high g c =
-    let order : c.args.first ≤ c.knots_met-met.result = met_order g.P.Shape.function c.args.s.now c.len-count.ensures.signal c.args.first c.knots_met-met.result c.requires.left c.knots_met-met.ensures.met
+    let order : c.args.first ≤ c.knots_met-met.result = met_order g.P.Shape c.args.s.now c.len-count.ensures.signal c.args.first c.knots_met-met.result c.requires.left c.knots_met-met.ensures.met
     (later_lt (start c.args.s.now) c.args.a c.args.b c.requires.order) in
     let none = c.requires.high in omega (arith, order, none)
 
@@ -31,25 +31,25 @@ loop-left-init g c =
     let f = g.P.Shape.function in
     let ks = c.args.s.now in
     let at = c.start-at.ensures.value in
-    let only = only_ends f c.in_ok-built.built c.greatest-point.result c.start-at.result c.in_ok-built.ensures in
+    let only = only_ends g.P.Shape c.in_ok-built.built c.greatest-point.result c.start-at.result c.in_ok-built.ensures in
     record {
-      tells = tells_first f (IsReachedSup f g.P.Shape.lowest ks c.args.a c.args.b) c.in_ok-built.built c.start-at.result c.greatest-point.result (reached_is_function f g.P.Shape.lowest ks c.args.a c.args.b)
-          (top_tells f g.P.Shape.lowest ks c.args.a c.args.b g.met.P.Shape.lowest_is_least (value c.start-at.result) c.args.first c.args.first c.knots_met-met.result c.args.shapes.now c.greatest-point.result
+      tells = tells_first g.P.Shape (IsReachedSup g.P.Shape ks c.args.a c.args.b) c.in_ok-built.built c.start-at.result c.greatest-point.result (reached_is_function g.P.Shape ks c.args.a c.args.b)
+          (top_tells g.P.Shape ks c.args.a c.args.b (assumption g.met.P.Shape) (value c.start-at.result) c.args.first c.args.first c.knots_met-met.result c.args.shapes.now c.greatest-point.result
           (subst (λ u. HasPassed ks (later u c.args.a) c.args.first) (sym at) c.requires.left) (subst (λ u. HasMet ks (later u c.args.b) c.knots_met-met.result) (sym at) c.knots_met-met.ensures.met)
           (omega arith) c.requires.count c.requires.frozen c.greatest-point.ensures.top) c.in_ok-built.ensures;
       begins = subst (λ u. u ≈ start ks) (sym (only.0 ∙ at)) (same_refl (start ks));
       here = only.1;
       from = subst (λ u. start ks ≤ʳ u) (sym at) (le_refl (start ks));
-      domain = subst (λ u. u ≤ʳ stop ks) (sym at) (start_before_stop f ks c.len-count.ensures.signal);
+      domain = subst (λ u. u ≤ʳ stop ks) (sym at) (start_before_stop g.P.Shape ks c.len-count.ensures.signal);
       now = subst (λ u. IsAfter ks c.args.a c.args.b u c.args.first c.knots_passed-reached.result) (sym at) (record {
-        order = passed_order f ks c.len-count.ensures.signal c.args.first c.knots_passed-reached.result c.requires.left c.knots_passed-reached.ensures.passed (le_of_lt (later_lt (start ks) c.args.a c.args.b c.requires.order));
+        order = passed_order g.P.Shape ks c.len-count.ensures.signal c.args.first c.knots_passed-reached.result c.requires.left c.knots_passed-reached.ensures.passed (le_of_lt (later_lt (start ks) c.args.a c.args.b c.requires.order));
         left = c.requires.left;
         reached = c.knots_passed-reached.ensures.passed;
       });
       first_left = omega arith;
       top = c.greatest-after.ensures.top;
       after_still = c.greatest-after.ensures.still;
-      still = still_first f g.P.Shape.moves c.in_ok-built.built c.start-at.result c.greatest-point.result c.greatest-point.ensures.still c.in_ok-built.ensures;
+      still = still_first g.P.Shape c.in_ok-built.built c.start-at.result c.greatest-point.result c.greatest-point.ensures.still c.in_ok-built.ensures;
       items = c.greatest-after.ensures.items ∙ c.greatest-point.ensures.items ∙ c.requires.items;
       low = c.greatest-after.ensures.low;
       high = c.greatest-after.ensures.high;
@@ -117,7 +117,7 @@ loop-left-preserved g c =
     let next = c.next_event-event.ensures (value c.loop-left.at) c.loop-left.invariant.now in
     let on = c.in_ok-step.ensures.ok in
     record {
-      tells = tells_event f g.P.Shape.lowest ks c.args.a c.args.b g.met.P.Shape.lowest_is_least c.loop-left.built c.step.new.self (value c.loop-left.at) c.next_event-event.result.at c.args.first c.loop-left.left c.loop-left.reached
+      tells = tells_event g.P.Shape ks c.args.a c.args.b (assumption g.met.P.Shape) c.loop-left.built c.step.new.self (value c.loop-left.at) c.next_event-event.result.at c.args.first c.loop-left.left c.loop-left.reached
           c.next_event-event.result.left c.next_event-event.result.reached c.args.shapes.now c.loop-left.after c.greatest-point-in-loop-left.result c.loop-left.invariant.first_left c.requires.count c.requires.frozen
           c.loop-left.invariant.tells c.loop-left.invariant.here next c.loop-left.invariant.top c.greatest-point-in-loop-left.ensures.top on;
       begins = subst (λ u. u ≈ start ks) (sym on.begins) c.loop-left.invariant.begins;
@@ -128,7 +128,7 @@ loop-left-preserved g c =
       first_left = omega (arith, next.lo_rises, c.loop-left.invariant.first_left);
       top = c.greatest-after-in-loop-left.ensures.top;
       after_still = c.greatest-after-in-loop-left.ensures.still;
-      still = still_on f g.P.Shape.moves c.loop-left.built c.step.new.self c.loop-left.after c.greatest-point-in-loop-left.result c.next_event-event.result.at c.loop-left.invariant.still c.loop-left.invariant.after_still
+      still = still_on g.P.Shape c.loop-left.built c.step.new.self c.loop-left.after c.greatest-point-in-loop-left.result c.next_event-event.result.at c.loop-left.invariant.still c.loop-left.invariant.after_still
           c.greatest-point-in-loop-left.ensures.still on;
       items = c.greatest-after-in-loop-left.ensures.items ∙ c.greatest-point-in-loop-left.ensures.items ∙ c.loop-left.invariant.items;
       low = c.greatest-after-in-loop-left.ensures.low;
@@ -148,22 +148,22 @@ pub returns-clause-worth : goal.returns-clause-worth
 returns-clause-worth g c =
     let f = g.P.Shape.function in
     let ks = c.args.s.now in
-    IfOk-weaker c.ended.result (Ends f g.P.Shape.lowest ks c.args.a c.args.b c.loop-left.built (value c.loop-left.at) c.loop-left.after c.stop.result)
-    (Tells f (AmongKnots f g.P.Shape.lowest ks c.args.a c.args.b) (start ks) (stop ks))
+    IfOk-weaker c.ended.result (Ends g.P.Shape ks c.args.a c.args.b c.loop-left.built (value c.loop-left.at) c.loop-left.after c.stop.result)
+    (Tells g.P.Shape (AmongKnots g.P.Shape g.P.Shape.lowest ks c.args.a c.args.b) (start ks) (stop ks))
     (λ r h.
-    let end = finished f g.P.Shape.lowest ks c.args.a c.args.b g.met.P.Shape.lowest_is_least c.len-count.ensures.signal c.loop-left.built r (value c.loop-left.at) c.stop.result c.args.first c.loop-left.left c.loop-left.reached
+    let end = finished g.P.Shape ks c.args.a c.args.b (assumption g.met.P.Shape) c.len-count.ensures.signal c.loop-left.built r (value c.loop-left.at) c.stop.result c.args.first c.loop-left.left c.loop-left.reached
     c.args.shapes.now c.loop-left.after c.loop-left.invariant.first_left c.requires.count c.requires.frozen c.loop-left.invariant.tells c.loop-left.invariant.here
     (let all = c.loop-left-test.false in let count = c.len-count.ensures.value in omega arith) c.loop-left.invariant.now c.loop-left.invariant.top c.loop-left.invariant.begins c.stop.ensures.value h in
-    sup_told f g.P.Shape.lowest ks c.args.a c.args.b r end.0 end.1 end.2) c.ended.ensures
+    sup_told g.P.Shape ks c.args.a c.args.b r end.0 end.1 end.2) c.ended.ensures
 
 pub returns-clause-one : goal.returns-clause-one
 returns-clause-one g c =
     let f = g.P.Shape.function in
     let ks = c.args.s.now in
-    IfOk-weaker c.ended.result (Ends f g.P.Shape.lowest ks c.args.a c.args.b c.loop-left.built (value c.loop-left.at) c.loop-left.after c.stop.result)
-    (λ r. (t : Rational) (v : Extended) → IsWorth f r t v → IsLeastOrAmong f g.P.Shape.lowest ks c.args.a c.args.b t v)
+    IfOk-weaker c.ended.result (Ends g.P.Shape ks c.args.a c.args.b c.loop-left.built (value c.loop-left.at) c.loop-left.after c.stop.result)
+    (λ r. (t : Rational) (v : Extended) → IsWorth g.P.Shape r t v → IsLeastOrAmong g.P.Shape g.P.Shape.lowest ks c.args.a c.args.b t v)
     (λ r h t v w.
-    let end = finished f g.P.Shape.lowest ks c.args.a c.args.b g.met.P.Shape.lowest_is_least c.len-count.ensures.signal c.loop-left.built r (value c.loop-left.at) c.stop.result c.args.first c.loop-left.left c.loop-left.reached
+    let end = finished g.P.Shape ks c.args.a c.args.b (assumption g.met.P.Shape) c.len-count.ensures.signal c.loop-left.built r (value c.loop-left.at) c.stop.result c.args.first c.loop-left.left c.loop-left.reached
     c.args.shapes.now c.loop-left.after c.loop-left.invariant.first_left c.requires.count c.requires.frozen c.loop-left.invariant.tells c.loop-left.invariant.here
     (let all = c.loop-left-test.false in let count = c.len-count.ensures.value in omega arith) c.loop-left.invariant.now c.loop-left.invariant.top c.loop-left.invariant.begins c.stop.ensures.value h in
     (end.0.worth t v w).1) c.ended.ensures
@@ -171,6 +171,6 @@ returns-clause-one g c =
 pub returns-clause-still : goal.returns-clause-still
 returns-clause-still g c =
     let f = g.P.Shape.function in
-    IfOk-weaker c.ended.result (Ends f g.P.Shape.lowest c.args.s.now c.args.a c.args.b c.loop-left.built (value c.loop-left.at) c.loop-left.after c.stop.result)
+    IfOk-weaker c.ended.result (Ends g.P.Shape c.args.s.now c.args.a c.args.b c.loop-left.built (value c.loop-left.at) c.loop-left.after c.stop.result)
     (λ r. (p : _) → HasShape r p → g.P.Shape.moves p ≡ false)
-    (λ r h. still_end f g.P.Shape.moves c.loop-left.built r (value c.loop-left.at) c.loop-left.after c.stop.result c.loop-left.invariant.still c.loop-left.invariant.after_still h) c.ended.ensures
+    (λ r h. still_end g.P.Shape c.loop-left.built r (value c.loop-left.at) c.loop-left.after c.stop.result c.loop-left.invariant.still c.loop-left.invariant.after_still h) c.ended.ensures

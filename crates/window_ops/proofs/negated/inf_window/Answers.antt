@@ -23,29 +23,29 @@ pub sup_window-requires-clause-near : goal.sup_window-requires-clause-near
 sup_window-requires-clause-near g c = c.in_ok-negated.ensures.near
 
 pub neg-requires : goal.neg-requires
-neg-requires g c = sup_limited g.P.Shape.function (λ t. Ahead (start c.in_ok-negated.negated) (stop c.in_ok-negated.negated) c.args.a c.args.b c.args.low_in c.args.high_in t) c.in_ok-negated.negated c.in-Ok.sup g.P.Shape.lowest
+neg-requires g c = sup_limited g.P.Shape (λ t. Ahead (start c.in_ok-negated.negated) (stop c.in_ok-negated.negated) c.args.a c.args.b c.args.low_in c.args.high_in t) c.in_ok-negated.negated c.in-Ok.sup
     c.in_ok-negated.ensures.worth.signal c.in_ok-negated.ensures.limited g.met.P.Shape.lowest_bounded c.in-Ok.ensures.worth
 
 pub negated_fault-requires : goal.negated_fault-requires
-negated_fault-requires g c = ahead_cause_bounded g.P.Shape.function (IsWorth g.P.Shape.function c.in_ok-negated.negated) (start c.in_ok-negated.negated) (stop c.in_ok-negated.negated) c.args.a c.args.b c.args.low_in c.args.high_in c.in-Err.fault
-    (worth_bounded g.P.Shape.function c.in_ok-negated.negated c.in_ok-negated.ensures.limited) c.in-Err.ensures.wide
+negated_fault-requires g c = ahead_cause_bounded g.P.Shape (IsWorth g.P.Shape c.in_ok-negated.negated) (start c.in_ok-negated.negated) (stop c.in_ok-negated.negated) c.args.a c.args.b c.args.low_in c.args.high_in c.in-Err.fault
+    (worth_bounded g.P.Shape c.in_ok-negated.negated c.in_ok-negated.ensures.limited) c.in-Err.ensures.wide
 
 pub returns-clause-wide : goal.returns-clause-wide
-returns-clause-wide g c = ahead_cause_opposite g.P.Shape.function (IsWorth g.P.Shape.function c.in_ok-negated.negated) (IsWorth g.P.Shape.function c.args.s.now) (start c.in_ok-negated.negated) (stop c.in_ok-negated.negated) (start c.args.s.now) (stop c.args.s.now)
-    c.args.a c.args.b c.args.low_in c.args.high_in c.in-Err.fault c.negated_fault.result (negated_opposite g.P.Shape.function c.args.s.now c.in_ok-negated.negated c.minus.ensures.signal c.in_ok-negated.ensures.worth)
+returns-clause-wide g c = ahead_cause_opposite g.P.Shape (IsWorth g.P.Shape c.in_ok-negated.negated) (IsWorth g.P.Shape c.args.s.now) (start c.in_ok-negated.negated) (stop c.in_ok-negated.negated) (start c.args.s.now) (stop c.args.s.now)
+    c.args.a c.args.b c.args.low_in c.args.high_in c.in-Err.fault c.negated_fault.result (negated_opposite g.P.Shape c.args.s.now c.in_ok-negated.negated c.minus.ensures.signal c.in_ok-negated.ensures.worth)
     c.in_ok-negated.ensures.worth.begins c.in_ok-negated.ensures.worth.ends c.negated_fault.ensures c.in-Err.ensures.wide
 
 pub returns-in-Ok-clause-worth : goal.returns-in-Ok-clause-worth
 returns-in-Ok-clause-worth g c =
-    tells_inf g.P.Shape.function (λ t. Ahead (start c.in_ok-negated.negated) (stop c.in_ok-negated.negated) c.args.a c.args.b c.args.low_in c.args.high_in t) (λ t. Ahead (start c.args.s.now) (stop c.args.s.now) c.args.a c.args.b c.args.low_in c.args.high_in t)
-    (IsWorth g.P.Shape.function c.in_ok-negated.negated) (IsWorth g.P.Shape.function c.args.s.now) c.in-Ok.sup c.in_ok-neg-in-Ok.field-0 g.P.Shape.lowest g.P.Shape.highest (start c.in_ok-negated.negated) (stop c.in_ok-negated.negated) (start c.args.s.now) (stop c.args.s.now)
-    c.lowest_is_minus_highest.ensures opposites (worth_is_function g.P.Shape.function c.in_ok-negated.negated c.in_ok-negated.ensures.worth.signal)
+    tells_inf g.P.Shape (λ t. Ahead (start c.in_ok-negated.negated) (stop c.in_ok-negated.negated) c.args.a c.args.b c.args.low_in c.args.high_in t) (λ t. Ahead (start c.args.s.now) (stop c.args.s.now) c.args.a c.args.b c.args.low_in c.args.high_in t)
+    (IsWorth g.P.Shape c.in_ok-negated.negated) (IsWorth g.P.Shape c.args.s.now) c.in-Ok.sup c.in_ok-neg-in-Ok.field-0 (start c.in_ok-negated.negated) (stop c.in_ok-negated.negated) (start c.args.s.now) (stop c.args.s.now)
+    c.lowest_is_minus_highest.ensures opposites (worth_is_function g.P.Shape c.in_ok-negated.negated c.in_ok-negated.ensures.worth.signal)
     (λ t u w. ahead_alike c.args.a c.args.b c.args.low_in c.args.high_in t u begins ends w)
     (λ t u w. ahead_alike c.args.a c.args.b c.args.low_in c.args.high_in t u (same_sym begins) (same_sym ends) w)
     (λ t x u e w. ahead_same e w) begins ends c.in-Ok.ensures.worth c.in_ok-neg-in-Ok.ensures.worth
   where
-    opposites : AreOpposite (IsWorth g.P.Shape.function c.in_ok-negated.negated) (IsWorth g.P.Shape.function c.args.s.now)
-    opposites = negated_opposite g.P.Shape.function c.args.s.now c.in_ok-negated.negated c.minus.ensures.signal c.in_ok-negated.ensures.worth
+    opposites : AreOpposite (IsWorth g.P.Shape c.in_ok-negated.negated) (IsWorth g.P.Shape c.args.s.now)
+    opposites = negated_opposite g.P.Shape c.args.s.now c.in_ok-negated.negated c.minus.ensures.signal c.in_ok-negated.ensures.worth
 
     begins : start c.in_ok-negated.negated ≈ start c.args.s.now
     begins = c.in_ok-negated.ensures.worth.begins
@@ -54,4 +54,4 @@ returns-in-Ok-clause-worth g c =
     ends = c.in_ok-negated.ensures.worth.ends
 
 pub returns-in-Ok-clause-bases : goal.returns-in-Ok-clause-bases
-returns-in-Ok-clause-bases g c = bases_ahead_negated g.P.Shape.moves g.P.Shape.base c.args.a c.args.b c.args.s.now c.in_ok-negated.negated c.in-Ok.sup c.in_ok-neg-in-Ok.field-0 c.in_ok-negated.ensures.bases c.in-Ok.ensures.bases c.in_ok-neg-in-Ok.ensures.bases
+returns-in-Ok-clause-bases g c = bases_ahead_negated g.P.Shape c.args.a c.args.b c.args.s.now c.in_ok-negated.negated c.in-Ok.sup c.in_ok-neg-in-Ok.field-0 c.in_ok-negated.ensures.bases c.in-Ok.ensures.bases c.in_ok-neg-in-Ok.ensures.bases

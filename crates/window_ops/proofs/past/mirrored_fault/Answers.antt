@@ -4,4 +4,4 @@ use Rattle.window_ops.specs.Mirrored.{IsTurnedFault}
 use Rattle.window_ops.proofs.past.mirrored_fault.Goals as goal
 
 pub returns-in-Wide : goal.returns-in-Wide
-returns-in-Wide g c = subst (λ f. IsTurnedFault g.P.Shape.function f (F.Wide c.mirrored_pair.result)) (sym c.in-Wide.is) (c.mirrored_pair.result, refl, c.mirrored_pair.ensures)
+returns-in-Wide g c = subst (λ f. IsTurnedFault g.P.Shape f (F.Wide c.mirrored_pair.result)) (sym c.in-Wide.is) (c.mirrored_pair.result, refl, c.mirrored_pair.ensures)

@@ -16,12 +16,12 @@ use Rattle.window_ops.proofs.window.sup_between.Goals as goal
 pub returns-in_err-among-clause-named : goal.returns-in_err-among-clause-named
 returns-in_err-among-clause-named g c =
     let p = err_from_is_err_and c.from_residual-in_err-among.result c.from_residual-in_err-among.ensures.1 in
-    rw (p.1, p.2) (knots_named g.P.Shape.function g.P.Shape.moves g.P.Shape.base c.args.s.now c.args.a c.args.b c.in_err-among.field-0.0 c.len.ensures.signal c.in_err-among.ensures.wide)
+    rw (p.1, p.2) (knots_named g.P.Shape c.args.s.now c.args.a c.args.b c.in_err-among.field-0.0 c.len.ensures.signal c.in_err-among.ensures.wide)
 
 pub returns-in_err-among-clause-wide : goal.returns-in_err-among-clause-wide
 returns-in_err-among-clause-wide g c =
     let p = err_from_is_err_and c.from_residual-in_err-among.result c.from_residual-in_err-among.ensures.1 in
-    rw (p.1, p.2) (knots_in_play g.P.Shape.function c.args.s.now c.args.a c.args.b c.args.low_in c.args.high_in c.len.ensures.signal c.requires.order c.in_err-among.field-0.0 c.in_err-among.ensures.wide)
+    rw (p.1, p.2) (knots_in_play g.P.Shape c.args.s.now c.args.a c.args.b c.args.low_in c.args.high_in c.len.ensures.signal c.requires.order c.in_err-among.field-0.0 c.in_err-among.ensures.wide)
 
 pub upper-requires-clause-begins : goal.upper-requires-clause-begins
 upper-requires-clause-begins g c = same_trans c.in_ok-low.ensures.worth.begins (same_sym c.in_ok-high.ensures.worth.begins)
@@ -32,28 +32,28 @@ upper-requires-clause-ends g c = same_trans c.in_ok-low.ensures.worth.ends (same
 pub returns-in_err-ends-clause-named : goal.returns-in_err-ends-clause-named
 returns-in_err-ends-clause-named g c =
     let p = err_from_is_err_and c.from_residual-in_err-ends.result c.from_residual-in_err-ends.ensures.1 in
-    rw (p.1, p.2) (ends_named g.P.Shape.function g.P.Shape.moves g.P.Shape.base c.args.s.now c.args.a c.args.b c.in_ok-low.low c.in_ok-high.high c.in_ok-low.ensures.bases c.in_ok-high.ensures.bases c.in_err-ends.field-0.0
+    rw (p.1, p.2) (ends_named g.P.Shape c.args.s.now c.args.a c.args.b c.in_ok-low.low c.in_ok-high.high c.in_ok-low.ensures.bases c.in_ok-high.ensures.bases c.in_err-ends.field-0.0
     c.in_ok-low.ensures.worth.begins c.in_ok-low.ensures.worth.ends c.in_err-ends.ensures.wide c.in_err-ends.ensures.named)
 
 pub returns-in_err-ends-clause-wide : goal.returns-in_err-ends-clause-wide
 returns-in_err-ends-clause-wide g c =
     let p = err_from_is_err_and c.from_residual-in_err-ends.result c.from_residual-in_err-ends.ensures.1 in
-    rw (p.1, p.2) (ends_in_play g.P.Shape.function c.args.s.now c.args.a c.args.b c.args.low_in c.args.high_in c.len.ensures.signal c.requires.order g.P.Shape.lowest g.met.P.Shape.lowest_is_least c.in_ok-low.low c.in_ok-high.high
+    rw (p.1, p.2) (ends_in_play g.P.Shape c.args.s.now c.args.a c.args.b c.args.low_in c.args.high_in c.len.ensures.signal c.requires.order (assumption g.met.P.Shape) c.in_ok-low.low c.in_ok-high.high
     c.in_ok-low.ensures.worth c.in_ok-high.ensures.worth c.in_err-ends.field-0.0 c.in_err-ends.ensures.wide)
 
 pub upper-requires-2-clause-left : goal.upper-requires-2-clause-left
 upper-requires-2-clause-left g c =
     let low = c.in_ok-low.ensures in
     let high = c.in_ok-high.ensures in
-    limited_by g.P.Shape.function (GreatestOf (IsWorth g.P.Shape.function c.in_ok-low.low) (IsWorth g.P.Shape.function c.in_ok-high.high)) c.in_ok-ends.ends (start c.in_ok-low.low) (stop c.in_ok-low.low) c.in_ok-ends.ensures.worth
-    (greatest_of_bounded (2 ^ 31) (IsWorth g.P.Shape.function c.in_ok-low.low) (IsWorth g.P.Shape.function c.in_ok-high.high) (worth_bounded g.P.Shape.function c.in_ok-low.low low.limited) (worth_bounded g.P.Shape.function c.in_ok-high.high high.limited))
-    (limited_start g.P.Shape.function c.in_ok-low.low low.worth.signal.some low.limited) (limited_stop g.P.Shape.function c.in_ok-low.low low.worth.signal.some low.limited)
+    limited_by g.P.Shape (GreatestOf (IsWorth g.P.Shape c.in_ok-low.low) (IsWorth g.P.Shape c.in_ok-high.high)) c.in_ok-ends.ends (start c.in_ok-low.low) (stop c.in_ok-low.low) c.in_ok-ends.ensures.worth
+    (greatest_of_bounded (2 ^ 31) (IsWorth g.P.Shape c.in_ok-low.low) (IsWorth g.P.Shape c.in_ok-high.high) (worth_bounded g.P.Shape c.in_ok-low.low low.limited) (worth_bounded g.P.Shape c.in_ok-high.high high.limited))
+    (limited_start g.P.Shape c.in_ok-low.low low.worth.signal.some low.limited) (limited_stop g.P.Shape c.in_ok-low.low low.worth.signal.some low.limited)
 
 pub upper-requires-2-clause-right : goal.upper-requires-2-clause-right
 upper-requires-2-clause-right g c =
-    limited_by g.P.Shape.function (AmongKnots g.P.Shape.function g.P.Shape.lowest c.args.s.now c.args.a c.args.b) c.in_ok-among.among (start c.args.s.now) (stop c.args.s.now) c.in_ok-among.ensures.worth
-    (among_bounded g.P.Shape.function (2 ^ 31) g.P.Shape.lowest g.met.P.Shape.lowest_bounded c.args.s.now (worth_bounded g.P.Shape.function c.args.s.now c.requires.limited) c.args.a c.args.b)
-    (limited_start g.P.Shape.function c.args.s.now c.len.ensures.signal.some c.requires.limited) (limited_stop g.P.Shape.function c.args.s.now c.len.ensures.signal.some c.requires.limited)
+    limited_by g.P.Shape (AmongKnots g.P.Shape g.P.Shape.lowest c.args.s.now c.args.a c.args.b) c.in_ok-among.among (start c.args.s.now) (stop c.args.s.now) c.in_ok-among.ensures.worth
+    (among_bounded g.P.Shape (2 ^ 31) g.met.P.Shape.lowest_bounded c.args.s.now (worth_bounded g.P.Shape c.args.s.now c.requires.limited) c.args.a c.args.b)
+    (limited_start g.P.Shape c.args.s.now c.len.ensures.signal.some c.requires.limited) (limited_stop g.P.Shape c.args.s.now c.len.ensures.signal.some c.requires.limited)
 
 pub upper-requires-2-clause-begins : goal.upper-requires-2-clause-begins
 upper-requires-2-clause-begins g c = same_trans c.in_ok-ends.ensures.worth.begins (same_trans c.in_ok-low.ensures.worth.begins (same_sym c.in_ok-among.ensures.worth.begins))
@@ -68,7 +68,7 @@ returns-clause-worth g c =
     let m = c.in_ok-among.ensures.worth in
     let e = c.in_ok-ends.ensures.worth in
     IfOk-weaker c.upper-2.result _ _
-    (λ r n. parts_told g.P.Shape.function g.P.Shape.lowest c.args.s.now c.in_ok-low.low c.in_ok-high.high c.in_ok-ends.ends c.in_ok-among.among r c.args.a c.args.b c.args.low_in c.args.high_in c.len.ensures.signal c.requires.order l h m e n)
+    (λ r n. parts_told g.P.Shape c.args.s.now c.in_ok-low.low c.in_ok-high.high c.in_ok-ends.ends c.in_ok-among.among r c.args.a c.args.b c.args.low_in c.args.high_in c.len.ensures.signal c.requires.order l h m e n)
     c.upper-2.ensures.worth
 
 pub returns-clause-bases : goal.returns-clause-bases
@@ -79,7 +79,7 @@ returns-clause-bases g c =
     let of_ends = c.in_ok-ends.ensures.shapes in
     let still = c.in_ok-among.ensures.still in
     IfOk-weaker c.upper-2.result _ _
-    (λ r n. bases_reached g.P.Shape.moves g.P.Shape.base c.args.a c.args.b c.args.s.now c.in_ok-low.low c.in_ok-high.high c.in_ok-ends.ends c.in_ok-among.among r l h beyond of_ends still n)
+    (λ r n. bases_reached g.P.Shape c.args.a c.args.b c.args.s.now c.in_ok-low.low c.in_ok-high.high c.in_ok-ends.ends c.in_ok-among.among r l h beyond of_ends still n)
     c.upper-2.ensures.shapes
 
 -- what two facts say of an error
@@ -95,7 +95,7 @@ returns-clause-named g c =
     let low = c.in_ok-low.ensures.worth in
     let still = c.in_ok-among.ensures.still in
     if_err_both c.upper-2.result
-    (λ f wide named. all_named g.P.Shape.function g.P.Shape.moves g.P.Shape.base c.args.s.now c.args.a c.args.b c.in_ok-low.low c.in_ok-high.high l h c.in_ok-ends.ends c.in_ok-among.among f
+    (λ f wide named. all_named g.P.Shape c.args.s.now c.args.a c.args.b c.in_ok-low.low c.in_ok-high.high l h c.in_ok-ends.ends c.in_ok-among.among f
     (same_trans e.worth.begins low.begins) (same_trans e.worth.ends low.ends) e.shapes still wide named)
     c.upper-2.ensures.wide c.upper-2.ensures.named
 
@@ -107,6 +107,6 @@ returns-clause-wide g c =
     let one = c.in_ok-among.ensures.one in
     let e = c.in_ok-ends.ensures.worth in
     IfErr-weaker c.upper-2.result _ _
-    (λ f n. all_in_play g.P.Shape.function c.args.s.now c.args.a c.args.b c.args.low_in c.args.high_in c.len.ensures.signal c.requires.order g.P.Shape.lowest g.met.P.Shape.lowest_is_least c.in_ok-low.low c.in_ok-high.high l h
+    (λ f n. all_in_play g.P.Shape c.args.s.now c.args.a c.args.b c.args.low_in c.args.high_in c.len.ensures.signal c.requires.order (assumption g.met.P.Shape) c.in_ok-low.low c.in_ok-high.high l h
     c.in_ok-ends.ends c.in_ok-among.among e m one f n)
     c.upper-2.ensures.wide

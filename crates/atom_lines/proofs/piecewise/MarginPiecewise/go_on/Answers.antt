@@ -7,6 +7,7 @@ use Rattle.rational.specs.Rational.{Rational, ◌≈◌, whole}
 use Rattle.rational.specs.Extended.{value_at, ◌≈ᵉ◌}
 use Rattle.frac128.specs.Value.{value}
 use Rattle.value_laws.specs.Margins.{margin_function, margin_base}
+use Rattle.value_laws.specs.Kinds.{margin_shape}
 use Rattle.atom_lines.specs.Told.{by_margin, worth}
 use Rattle.atom_lines.proofs.GrowingLemmas.{before_end, goes_one, margin_row_base}
 use Rattle.atom_lines.proofs.piecewise.MarginPiecewise.go_on.Goals as goal
@@ -29,6 +30,6 @@ returns c =
     let here : (t : Rational) → value_at (margin_function c.margin_at.result) t ≈ᵉ worth by_margin c.args.rel (whole c.args.next) =
     λ t. subst (λ n. value_at (margin_function c.margin_at.result) t ≈ᵉ worth by_margin c.args.rel (whole n)) same (c.margin_at.ensures.worth t) in
     on_ok_weaker c.step.result
-    (λ on. goes_one margin_function margin_base by_margin c.args.rel g c.args.next c.args.signal.now c.step.new.self c.margin_between.result c.margin_at.result c.of-end.result second c.requires.begins is on
+    (λ on. goes_one margin_shape by_margin c.args.rel g c.args.next c.args.signal.now c.step.new.self c.margin_between.result c.margin_at.result c.of-end.result second c.requires.begins is on
     (λ t a b. c.margin_between.ensures.worth t) here
     (margin_row_base c.margin_between.result g.first first c.margin_between.ensures.base) (margin_row_base c.margin_at.result g.first first (λ r. absurd (true≢false (sym r ∙ c.margin_at.ensures.level))))) c.step.ensures.ok

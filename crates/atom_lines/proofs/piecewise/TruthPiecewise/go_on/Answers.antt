@@ -52,7 +52,7 @@ returns-in-Whole c =
     let last : compares c.args.rel (whole c.args.next) ≡ c.truth_at-last.result.holds = ap (λ n. compares c.args.rel (whole n)) (sym same) ∙ sym c.truth_at-last.ensures in
     let second : g.second < 4294967296 = omega arith in
     on_ok_weaker c.step.result
-    (λ on. goes_one _ _ by_truth c.args.rel g c.args.next c.args.signal.now c.step.new.self c.in-Whole.truth c.truth_at-last.result c.of-end.result second c.requires.begins is on
+    (λ on. goes_one _ by_truth c.args.rel g c.args.next c.args.signal.now c.step.new.self c.in-Whole.truth c.truth_at-last.result c.of-end.result second c.requires.begins is on
     (λ t a b. truth_worth c.in-Whole.truth c.args.rel (at (along g) t) t (c.in-Whole.ensures t a b)) (λ t. truth_worth c.truth_at-last.result c.args.rel (whole c.args.next) t last)
     zero_base zero_base) c.step.ensures.ok
 
@@ -65,7 +65,7 @@ returns-in_ok-step-in-Split c =
     let last : compares c.args.rel (whole c.args.next) ≡ c.truth_at-last.result.holds = ap (λ n. compares c.args.rel (whole n)) (sym same) ∙ sym c.truth_at-last.ensures in
     let second : g.second < 4294967296 = omega arith in
     on_ok_weaker c.step-in-Split-2.result
-    (λ off. goes_two _ _ by_truth c.args.rel g c.args.next c.args.signal.now c.step-in-Split.new.self c.step-in-Split-2.new.self c.in-Split.before c.in-Split.point c.in-Split.after c.truth_at-last.result
+    (λ off. goes_two _ by_truth c.args.rel g c.args.next c.args.signal.now c.step-in-Split.new.self c.step-in-Split-2.new.self c.in-Split.before c.in-Split.point c.in-Split.after c.truth_at-last.result
     c.in-Split.at c.of-end.result second c.requires.begins is c.in-Split.ensures.after_first c.in-Split.ensures.before_second c.in_ok-step-in-Split.ensures.ok off
     (λ t a b. truth_worth c.in-Split.before c.args.rel (at (along g) t) t (c.in-Split.ensures.until_then t a b))
     (λ t e. truth_worth c.in-Split.point c.args.rel (at (along g) t) t (c.in-Split.ensures.there t e))
