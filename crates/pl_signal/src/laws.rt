@@ -91,8 +91,8 @@ pub fn sup_and_inf<P: Shape>()
 /// A signal says the same as the plain list of its knots, with no shape in it: the list rises from where the signal begins to where
 /// it ends, read at a time it gives what the signal is worth there and nothing else, and no knot of it can be left out.
 pub fn as_plain_knots<P: Shape>()
-    ensures spans { (knots : List (Knot P)) → IsSignal P.function knots → Spans (start knots) (stop knots) (knots_of P.function knots) }
-    ensures reads { (knots : List (Knot P)) (t : Rational) (v : Extended) → IsSignal P.function knots
-        → Reads (knots_of P.function knots) t v ↔ IsWorth P.function knots t v }
-    ensures needed { (knots : List (Knot P)) → IsSignal P.function knots → AreNeeded (knots_of P.function knots) }
+    ensures spans { (knots : List (Knot P)) → IsSignal P.Shape knots → Spans (start knots) (stop knots) (knots_of P.Shape knots) }
+    ensures reads { (knots : List (Knot P)) (t : Rational) (v : Extended) → IsSignal P.Shape knots
+        → Reads (knots_of P.Shape knots) t v ↔ IsWorth P.Shape knots t v }
+    ensures needed { (knots : List (Knot P)) → IsSignal P.Shape knots → AreNeeded (knots_of P.Shape knots) }
 {}

@@ -4,6 +4,7 @@ use Rattle.rational.specs.Time.{Rational, ◌<ʳ◌, ◌≈◌}
 use Rattle.rational.specs.Extended.{Affine, Extended, value_at}
 use Rattle.rational.proofs.Order.{same_refl, same_sym, same_trans}
 use Rattle.rational.proofs.AffineLemmas.{same_reflᵉ}
+use Rattle.value_laws.specs.Members.{ShapeOf}
 use Rattle.pl_signal.specs.declared.knot.Knot.{Knot}
 use Rattle.pl_signal.specs.Knots as knots
 use Rattle.pl_signal.specs.Knots.{time, Each, IsKnot, IsWorth}
@@ -15,36 +16,36 @@ use Rattle.stl_syntax.specs.Trace.{Trace, start, stop}
 use Rattle.stl_syntax.specs.SupInf.{SupInf, Robustness, margin_setting}
 use Rattle.stl_syntax.specs.Verdicts.{IsRobust, IsRobustInside, PiecesGoOn, DescribesMargins}
 
-module _ {P : Type 0} (function : P → Affine) (p : Subformula) (tr : Trace) where
+module _ {P : Type 0} (shape : ShapeOf P) (p : Subformula) (tr : Trace) where
   -- all that the knots are worth is the robustness
   abbrev IsRobustSignal : List (Knot P) → Type 0
-  IsRobustSignal ks = (t : Rational) (v : Extended) → IsWorth function ks t v → Robustness p tr t v
+  IsRobustSignal ks = (t : Rational) (v : Extended) → IsWorth shape ks t v → Robustness p tr t v
 
-  at_first : (k : Knot P) (ks : List (Knot P)) → IsRobustSignal (k ∷ ks) → IsRobust p tr (plain_knot function k)
+  at_first : (k : Knot P) (ks : List (Knot P)) → IsRobustSignal (k ∷ ks) → IsRobust p tr (plain_knot shape k)
   at_first k ks worth =
-      worth (time k) (value_at (function k.point) (time k)) (inl (record { when = same_refl (time k); worth = same_reflᵉ (value_at (function k.point) (time k)) }))
+      worth (time k) (value_at (shape.function k.point) (time k)) (inl (record { when = same_refl (time k); worth = same_reflᵉ (value_at (shape.function k.point) (time k)) }))
 
   after_first : (k n : Knot P) (ks : List (Knot P)) → time k <ʳ time n → IsRobustSignal (k ∷ n ∷ ks)
-      → IsRobustInside p tr (plain_knot function k) (plain_piece function k n)
+      → IsRobustInside p tr (plain_knot shape k) (plain_piece shape k n)
   after_first k n ks rising worth = (
       rising,
       λ t above below.
-          let v = value_at (function k.after) t in
-          let is : knots.IsBetween function k n t v = record { after = above; before = below; worth = same_reflᵉ v } in
-          (v, worth t v (inr (inl is)), of_between function k n t v is),
+          let v = value_at (shape.function k.after) t in
+          let is : knots.IsBetween shape k n t v = record { after = above; before = below; worth = same_reflᵉ v } in
+          (v, worth t v (inr (inl is)), of_between shape k n t v is),
   )
 
-  goes_on : (to : Rational) (k n : Knot P) (ks : List (Knot P)) → Each (IsKnot function) (k ∷ n ∷ ks) → IsRobustSignal (n ∷ ks) → knots.stop (n ∷ ks) ≈ to
-      → PiecesGoOn p tr to (plain_knot function k) (plain_piece function k n) (pieces_of function n ks)
+  goes_on : (to : Rational) (k n : Knot P) (ks : List (Knot P)) → Each (IsKnot shape) (k ∷ n ∷ ks) → IsRobustSignal (n ∷ ks) → knots.stop (n ∷ ks) ≈ to
+      → PiecesGoOn p tr to (plain_knot shape k) (plain_piece shape k n) (pieces_of shape n ks)
   goes_on to k n [] each worth ends = ends
   goes_on to k n (m ∷ ks) each worth ends = (
-      λ line. each.0.needed (left_out_of_line function k n m each.0.rising each.1.0.rising line),
+      λ line. each.0.needed (left_out_of_line shape k n m each.0.rising each.1.0.rising line),
       after_first n m ks each.1.0.rising worth,
       at_first m ks (λ t v w. worth t v (inr (inr w))),
       goes_on to n m ks each.1 (λ t v w. worth t v (inr (inr w))) ends,
   )
 
-  pub knots_describe : (ks : List (Knot P)) → Tells function (SupInf p (margin_setting tr)) (start tr) (stop tr) ks → DescribesMargins (knots_of function ks) p tr
+  pub knots_describe : (ks : List (Knot P)) → Tells shape (SupInf p (margin_setting tr)) (start tr) (stop tr) ks → DescribesMargins (knots_of shape ks) p tr
   knots_describe [] tells = let some = tells.signal.some in absurd (omega (arith, some))
   knots_describe (k ∷ []) tells = (
       tells.begins,

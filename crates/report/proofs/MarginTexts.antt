@@ -9,6 +9,7 @@ use Rattle.rational.specs.Knots as plain
 use Rattle.rational.specs.Knots.{Piece}
 use Rattle.rational.proofs.Order.{le_trans, same_refl}
 use Rattle.frac128.specs.Value.{value}
+use Rattle.value_laws.specs.Members.{ShapeOf}
 use Rattle.pl_signal.specs.declared.knot.Knot.{Knot}
 use Rattle.pl_signal.specs.Knots.{time, start, stop, IsSignal}
 use Rattle.pl_signal.specs.Plain.{plain_knot, plain_piece, pieces_of, knots_of}
@@ -136,57 +137,57 @@ last_of (x ∷ []) (suc i) e = absurd (omega (arith, e))
 last_of (x ∷ y ∷ xs) zero e = absurd (omega (arith, e))
 last_of (x ∷ y ∷ xs) (suc i) e = last_of (y ∷ xs) i (omega (arith, e))
 
-module _ {P : Type 0} (function : P → Affine) (scale : Scale) where
+module _ {P : Type 0} (shape : ShapeOf P) (scale : Scale) where
   -- the lines up to the knot at place n: with those after it they are the lines after that of the first knot
   abbrev pub AreLinesTo : List (Knot P) → ℕ → List ℕ → Type 0
   AreLinesTo ks n text =
       (k : Knot P) (rest : List (Knot P)) (later : List ℕ) → drop n ks ≡ k ∷ rest
-      → ArePieceLines scale (plain_knot function k) (pieces_of function k rest) later → AreLaterLines function scale ks (text ++ later)
+      → ArePieceLines scale (plain_knot shape k) (pieces_of shape k rest) later → AreLaterLines shape scale ks (text ++ later)
 
   pub lines_begin : (ks : List (Knot P)) → AreLinesTo ks 0 []
   lines_begin [] k rest later e lines = absurd (let f = e in cc)
   lines_begin (x ∷ ks) k rest later e lines =
       let same : x ≡ k = cc in
       let same_rest : ks ≡ rest = cc in
-      subst (λ l. ArePieceLines scale (plain_knot function l) (pieces_of function l ks) later) (sym same)
-      (subst (λ ls. ArePieceLines scale (plain_knot function k) (pieces_of function k ls) later) (sym same_rest) lines)
+      subst (λ l. ArePieceLines scale (plain_knot shape l) (pieces_of shape l ks) later) (sym same)
+      (subst (λ ls. ArePieceLines scale (plain_knot shape k) (pieces_of shape k ls) later) (sym same_rest) lines)
 
   pub lines_more : (ks : List (Knot P)) (i : ℕ) (k n : Knot P) (text next : List ℕ) → slice_get ks i ≡ Some k → slice_get ks (suc i) ≡ Some n
-      → AreLinesTo ks i text → AreNextLines function scale k n next → AreLinesTo ks (suc i) (text ++ next)
+      → AreLinesTo ks i text → AreNextLines shape scale k n next → AreLinesTo ks (suc i) (text ++ next)
   lines_more ks i k n text next at at_next before (piece, knot, is_piece, is_knot, e) m rest later f lines =
       let here = drop_at ks (suc i) n at_next in
       let same : n ≡ m = let g = sym here ∙ f in cc in
       let same_rest : drop (suc (suc i)) ks ≡ rest = let g = sym here ∙ f in cc in
       let all = before k (n ∷ rest) (piece ++ knot ++ later) (drop_at ks i k at ∙ ap (λ xs. k ∷ xs) (here ∙ ap (λ xs. n ∷ xs) same_rest))
-          (piece, knot, later, is_piece, is_knot, subst (λ l. ArePieceLines scale (plain_knot function l) (pieces_of function l rest) later) (sym same) lines, refl) in
-      subst (AreLaterLines function scale ks) (simp (e, append_assoc)) all
+          (piece, knot, later, is_piece, is_knot, subst (λ l. ArePieceLines scale (plain_knot shape l) (pieces_of shape l rest) later) (sym same) lines, refl) in
+      subst (AreLaterLines shape scale ks) (simp (e, append_assoc)) all
 
-  pub lines_end : (ks : List (Knot P)) (i : ℕ) (text : List ℕ) → suc i ≡ length ks → AreLinesTo ks i text → AreLaterLines function scale ks text
+  pub lines_end : (ks : List (Knot P)) (i : ℕ) (text : List ℕ) → suc i ≡ length ks → AreLinesTo ks i text → AreLaterLines shape scale ks text
   lines_end ks i text last before =
       let (k, at, none) = last_of ks i last in
-      subst (AreLaterLines function scale ks) (append-nil text) (before k [] [] (drop_at ks i k at ∙ ap (λ xs. k ∷ xs) none) refl)
+      subst (AreLaterLines shape scale ks) (append-nil text) (before k [] [] (drop_at ks i k at ∙ ap (λ xs. k ∷ xs) none) refl)
 
   -- where the lines up to a knot were written, and a part of the next, the rest of them all is there to be written
   pub lines_part : (ks : List (Knot P)) (i : ℕ) (k n : Knot P) (old mid new : List ℕ) → slice_get ks i ≡ Some k → slice_get ks (suc i) ≡ Some n
-      → Grew (AreLinesTo ks i) old mid → GrewInPart (AreNextLines function scale k n) mid new → GrewInPart (AreLaterLines function scale ks) old new
+      → Grew (AreLinesTo ks i) old mid → GrewInPart (AreNextLines shape scale k n) mid new → GrewInPart (AreLaterLines shape scale ks) old new
   lines_part ks i k n old mid new at at_next (text, before, e) (a, b, next, f) =
-      let more = piece_lines_exist scale (plain_knot function n) (pieces_of function n (drop (suc (suc i)) ks)) in
+      let more = piece_lines_exist scale (plain_knot shape n) (pieces_of shape n (drop (suc (suc i)) ks)) in
       let all = lines_more ks i k n text (a ++ b) at at_next before next n (drop (suc (suc i)) ks) more.0 (drop_at ks (suc i) n at_next) more.1 in
-      (text ++ a, b ++ more.0, subst (AreLaterLines function scale ks) (simp append_assoc) all, f ∙ ap (λ w. w ++ a) e ∙ append_assoc old text a)
+      (text ++ a, b ++ more.0, subst (AreLaterLines shape scale ks) (simp append_assoc) all, f ∙ ap (λ w. w ++ a) e ∙ append_assoc old text a)
 
   pub margin_lines : (ks : List (Knot P)) (k : Knot P) → slice_get ks 0 ≡ Some k → (text : List ℕ)
-      → Then (IsKnotLine scale (plain_knot function k)) (AreLaterLines function scale ks) text → AreMarginLines scale (knots_of function ks) text
+      → Then (IsKnotLine scale (plain_knot shape k)) (AreLaterLines shape scale ks) text → AreMarginLines scale (knots_of shape ks) text
   margin_lines [] k at text h = absurd (let e = at in cc)
   margin_lines (x ∷ ks) k at text (first, later, is_first, is_later, e) =
-      (first, later, subst (λ l. IsKnotLine scale (plain_knot function l) first) (sym (some_is at)) is_first, is_later, e)
+      (first, later, subst (λ l. IsKnotLine scale (plain_knot shape l) first) (sym (some_is at)) is_first, is_later, e)
 
-  pub later_exist : (ks : List (Knot P)) (k : Knot P) → slice_get ks 0 ≡ Some k → growth.Some (AreLaterLines function scale ks)
+  pub later_exist : (ks : List (Knot P)) (k : Knot P) → slice_get ks 0 ≡ Some k → growth.Some (AreLaterLines shape scale ks)
   later_exist [] k at = absurd (let e = at in cc)
-  later_exist (x ∷ ks) k at = piece_lines_exist scale (plain_knot function x) (pieces_of function x ks)
+  later_exist (x ∷ ks) k at = piece_lines_exist scale (plain_knot shape x) (pieces_of shape x ks)
 
 -- a knot's time is within what the ends are
-pub knot_within : {P : Type 0} (function : P → Affine) (n : ℕ) (ks : List (Knot P)) (i : ℕ) (k : Knot P) → IsSignal function ks → slice_get ks i ≡ Some k
+pub knot_within : {P : Type 0} (shape : ShapeOf P) (n : ℕ) (ks : List (Knot P)) (i : ℕ) (k : Knot P) → IsSignal shape ks → slice_get ks i ≡ Some k
     → IsWithin n (start ks) → IsWithin n (stop ks) → IsWithin n (time k)
-knot_within function n ks i k s at from to =
-    let w = worth_within function ks (time k) (value_at (function k.point) (time k)) s (worth_at function ks i k (time k) at (same_refl (time k))) in
+knot_within shape n ks i k s at from to =
+    let w = worth_within shape ks (time k) (value_at (shape.function k.point) (time k)) s (worth_at shape ks i k (time k) at (same_refl (time k))) in
     (le_trans from.0 w.above, le_trans w.below to.1)

@@ -23,7 +23,7 @@ SignalsDescribe {P} shape =
     → Describes verdicts p tr (closed (start tr) (stop tr))
 
 -- where a signal tells a formula with atoms read by their margins, its plain list of knots describes the robustness
-abbrev pub SignalsDescribeMargins : {P : Type 0} → (P → Affine) → Type 0
-SignalsDescribeMargins {P} function =
-    (p : Subformula) (tr : Trace) (signal : List (Knot P)) → Tells function (SupInf p (margin_setting tr)) (start tr) (stop tr) signal
-    → DescribesMargins (knots_of function signal) p tr
+abbrev pub SignalsDescribeMargins : {P : Type 0} → ShapeOf P → Type 0
+SignalsDescribeMargins {P} shape =
+    (p : Subformula) (tr : Trace) (signal : List (Knot P)) → Tells shape (SupInf p (margin_setting tr)) (start tr) (stop tr) signal
+    → DescribesMargins (knots_of shape signal) p tr

@@ -2,6 +2,7 @@
 use Rattle.std.specs.Prelude.{ℕ, List, [], ◌∷◌, codes}
 use Rattle.rational.specs.Time.{Rational}
 use Rattle.rational.specs.Extended.{Affine, Extended}
+use Rattle.value_laws.specs.Members.{ShapeOf}
 use Rattle.pl_signal.specs.declared.knot.Knot.{Knot}
 use Rattle.pl_signal.specs.Plain.{plain_knot, plain_piece, pieces_of}
 use Rattle.stl_syntax.specs.Texts.{IsNumberText, IsValueText, IsKnotLine, IsPieceLine, ArePieceLines}
@@ -16,12 +17,12 @@ IsTimeAfter lead digits t = Then (Is lead) (IsNumberText digits t)
 abbrev pub IsValueAfter : List ℕ → ℕ → Extended → List ℕ → Type 0
 IsValueAfter lead digits v = Then (Is lead) (IsValueText digits v)
 
-module _ {P : Type 0} (function : P → Affine) (scale : Scale) where
+module _ {P : Type 0} (shape : ShapeOf P) (scale : Scale) where
   -- the line of the piece between two knots, and that of the second
   abbrev pub AreNextLines : Knot P → Knot P → List ℕ → Type 0
-  AreNextLines k n = Then (IsPieceLine scale (plain_knot function k) (plain_piece function k n)) (IsKnotLine scale (plain_knot function n))
+  AreNextLines k n = Then (IsPieceLine scale (plain_knot shape k) (plain_piece shape k n)) (IsKnotLine scale (plain_knot shape n))
 
   -- the lines after that of the first knot
   abbrev pub AreLaterLines : List (Knot P) → List ℕ → Type 0
   AreLaterLines [] text = ⊥
-  AreLaterLines (k ∷ knots) text = ArePieceLines scale (plain_knot function k) (pieces_of function k knots) text
+  AreLaterLines (k ∷ knots) text = ArePieceLines scale (plain_knot shape k) (pieces_of shape k knots) text

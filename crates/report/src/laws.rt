@@ -11,5 +11,5 @@ pub fn signals_describe<P: Shape>()
 /// Where a signal tells a formula with atoms read by their margins, the plain list of its knots describes the robustness: no knot of
 /// it can be left out, and at every time it gives the Sup-Inf value.
 pub fn signals_describe_margins<P: Shape>()
-    ensures { SignalsDescribeMargins P.function }
+    ensures { SignalsDescribeMargins P.Shape }
 {}

@@ -4,6 +4,7 @@ ghost use Rattle.rational.specs.Rational.{IsWithin};
 ghost use Rattle.rational.specs.Extended.{value_at};
 ghost use Rattle.frac128.specs.Value.{value};
 ghost use Rattle.value_laws.specs.Margins.{margin_function};
+ghost use Rattle.value_laws.specs.Kinds.{margin_shape};
 ghost use Rattle.pl_signal.specs.Knots.{start, stop};
 ghost use Rattle.pl_signal.specs.Plain.{knots_of, plain_knot, plain_piece};
 ghost use Rattle.stl_syntax.specs.Texts.{IsValueText, IsKnotLine, IsPieceLine, AreMarginLines};
@@ -63,8 +64,8 @@ fn put_knot(text: &mut Text, k: &Knot<Margin>, scale: Scale) -> Result<(), Memor
     requires time { scale.time ≤ 6 }
     requires value { scale.value ≤ 6 }
     requires within { IsWithin (2 ^ 34) (value k.now.time) }
-    ensures ok { OnOk result (Grew (IsKnotLine scale (plain_knot margin_function k.now)) text.old text.new) }
-    ensures err { OnErr result (GrewInPart (IsKnotLine scale (plain_knot margin_function k.now)) text.old text.new) }
+    ensures ok { OnOk result (Grew (IsKnotLine scale (plain_knot margin_shape k.now)) text.old text.new) }
+    ensures err { OnErr result (GrewInPart (IsKnotLine scale (plain_knot margin_shape k.now)) text.old text.new) }
 {
     put_time_after(text, b"[", &k.time, scale.time)?;
     put_value_after(text, b"] ", &k.point, &k.time, scale.value)?;
@@ -82,8 +83,8 @@ fn put_piece(
     requires value { scale.value ≤ 6 }
     requires from { IsWithin (2 ^ 34) (value k.now.time) }
     requires to { IsWithin (2 ^ 34) (value n.now.time) }
-    ensures ok { OnOk result (Grew (IsPieceLine scale (plain_knot margin_function k.now) (plain_piece margin_function k.now n.now)) text.old text.new) }
-    ensures err { OnErr result (GrewInPart (IsPieceLine scale (plain_knot margin_function k.now) (plain_piece margin_function k.now n.now)) text.old text.new) }
+    ensures ok { OnOk result (Grew (IsPieceLine scale (plain_knot margin_shape k.now) (plain_piece margin_shape k.now n.now)) text.old text.new) }
+    ensures err { OnErr result (GrewInPart (IsPieceLine scale (plain_knot margin_shape k.now) (plain_piece margin_shape k.now n.now)) text.old text.new) }
 {
     put_time_after(text, b"(", &k.time, scale.time)?;
     put_time_after(text, b",", &n.time, scale.time)?;
@@ -103,8 +104,8 @@ fn put_next(
     requires value { scale.value ≤ 6 }
     requires from { IsWithin (2 ^ 34) (value k.now.time) }
     requires to { IsWithin (2 ^ 34) (value n.now.time) }
-    ensures ok { OnOk result (Grew (AreNextLines margin_function scale k.now n.now) text.old text.new) }
-    ensures err { OnErr result (GrewInPart (AreNextLines margin_function scale k.now n.now) text.old text.new) }
+    ensures ok { OnOk result (Grew (AreNextLines margin_shape scale k.now n.now) text.old text.new) }
+    ensures err { OnErr result (GrewInPart (AreNextLines margin_shape scale k.now n.now) text.old text.new) }
 {
     put_piece(text, k, n, scale)?;
     put_knot(text, n, scale)
@@ -116,8 +117,8 @@ fn put_later(text: &mut Text, s: &Signal<Margin>, scale: Scale) -> Result<(), Me
     requires value { scale.value ≤ 6 }
     requires begins { IsWithin (2 ^ 34) (start s.now) }
     requires ends { IsWithin (2 ^ 34) (stop s.now) }
-    ensures ok { OnOk result (Grew (AreLaterLines margin_function scale s.now) text.old text.new) }
-    ensures err { OnErr result (GrewInPart (AreLaterLines margin_function scale s.now) text.old text.new) }
+    ensures ok { OnOk result (Grew (AreLaterLines margin_shape scale s.now) text.old text.new) }
+    ensures err { OnErr result (GrewInPart (AreLaterLines margin_shape scale s.now) text.old text.new) }
 {
     let knots = s.len();
     for i in 1..knots {
@@ -136,8 +137,8 @@ pub fn put_margins(text: &mut Text, s: &Signal<Margin>, scale: Scale) -> Result<
     requires value { scale.value ≤ 6 }
     requires begins { IsWithin (2 ^ 34) (start s.now) }
     requires ends { IsWithin (2 ^ 34) (stop s.now) }
-    ensures ok { OnOk result (Grew (AreMarginLines scale (knots_of ⟦<Margin as Shape>⟧.function s.now)) text.old text.new) }
-    ensures err { OnErr result (GrewInPart (AreMarginLines scale (knots_of ⟦<Margin as Shape>⟧.function s.now)) text.old text.new) }
+    ensures ok { OnOk result (Grew (AreMarginLines scale (knots_of ⟦<Margin as Shape>⟧ s.now)) text.old text.new) }
+    ensures err { OnErr result (GrewInPart (AreMarginLines scale (knots_of ⟦<Margin as Shape>⟧ s.now)) text.old text.new) }
 {
     let _ = s.len();
     put_knot(text, &s.knot(0), scale)?;

@@ -9,9 +9,10 @@ mod line;
 mod output;
 mod reading;
 mod request;
+mod robust;
+mod signals;
 mod stream;
 mod texts;
 mod top;
-mod words;
 
 pub use top::run;

@@ -3,7 +3,7 @@ use Rattle.pl_signal.proofs.laws.as_plain_knots.Goals as goal
 
 pub returns : goal.returns
 returns g c = record {
-  spans = knots_span g.P.Shape.function;
-  reads = λ ks t v s. reads_is_worth g.P.Shape.function ks t v s;
-  needed = knots_needed g.P.Shape.function;
+  spans = knots_span g.P.Shape;
+  reads = λ ks t v s. reads_is_worth g.P.Shape ks t v s;
+  needed = knots_needed g.P.Shape;
 }

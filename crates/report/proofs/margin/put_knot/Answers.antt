@@ -1,6 +1,6 @@
 use Rattle.std.proofs.Common.{ℕ, List, codes, refl}
 use Rattle.std.proofs.lemmas.Result.{on_ok_weaker, on_err_weaker}
-use Rattle.value_laws.specs.Margins.{margin_function}
+use Rattle.value_laws.specs.Kinds.{margin_shape}
 use Rattle.rational.specs.Knots as plain
 use Rattle.pl_signal.specs.Plain.{plain_knot}
 use Rattle.stl_syntax.specs.Texts.{newline, IsKnotLine}
@@ -21,7 +21,7 @@ Value scale k = IsValueAfter (codes "] ") scale.value k.value
 pub returns-in_err-put_time_after-clause-err : goal.returns-in_err-put_time_after-clause-err
 returns-in_err-put_time_after-clause-err c =
     let s = c.args.scale in
-    let k = plain_knot margin_function c.args.k.now in
+    let k = plain_knot margin_shape c.args.k.now in
     let old = c.args.text.now in
     let new = c.put_time_after.new.text in
     on_err c.from_residual.result
@@ -32,7 +32,7 @@ returns-in_err-put_time_after-clause-err c =
 pub returns-in_err-put_value_after-clause-err : goal.returns-in_err-put_value_after-clause-err
 returns-in_err-put_value_after-clause-err c =
     let s = c.args.scale in
-    let k = plain_knot margin_function c.args.k.now in
+    let k = plain_knot margin_shape c.args.k.now in
     let old = c.args.text.now in
     let new = c.put_value_after.new.text in
     on_err _
@@ -43,7 +43,7 @@ returns-in_err-put_value_after-clause-err c =
 pub returns-clause-ok : goal.returns-clause-ok
 returns-clause-ok c =
     let s = c.args.scale in
-    let k = plain_knot margin_function c.args.k.now in
+    let k = plain_knot margin_shape c.args.k.now in
     let old = c.args.text.now in
     let mid = c.put_value_after.new.text in
     let new = c.push.new.self in
@@ -55,7 +55,7 @@ returns-clause-ok c =
 pub returns-clause-err : goal.returns-clause-err
 returns-clause-err c =
     let s = c.args.scale in
-    let k = plain_knot margin_function c.args.k.now in
+    let k = plain_knot margin_shape c.args.k.now in
     let old = c.args.text.now in
     let mid = c.put_value_after.new.text in
     let new = c.push.new.self in

@@ -1,5 +1,5 @@
 use Rattle.std.proofs.lemmas.Result.{on_ok_weaker, on_err_weaker}
-use Rattle.value_laws.specs.Margins.{margin_function}
+use Rattle.value_laws.specs.Kinds.{margin_shape}
 use Rattle.pl_signal.specs.Plain.{plain_knot, knots_of}
 use Rattle.stl_syntax.specs.Texts.{IsKnotLine, AreMarginLines}
 use Rattle.report.specs.Appended.{Then}
@@ -10,11 +10,11 @@ use Rattle.report.proofs.MarginTexts.{margin_lines, later_exist, knot_within}
 use Rattle.report.proofs.margin.put_margins.Goals as goal
 
 pub put_knot-requires-clause-within : goal.put_knot-requires-clause-within
-put_knot-requires-clause-within c = knot_within margin_function _ c.args.s.now 0 c.knot.result c.len.ensures.signal c.knot.ensures c.requires.begins c.requires.ends
+put_knot-requires-clause-within c = knot_within margin_shape _ c.args.s.now 0 c.knot.result c.len.ensures.signal c.knot.ensures c.requires.begins c.requires.ends
 
 pub returns-in_err-put_knot-clause-err : goal.returns-in_err-put_knot-clause-err
 returns-in_err-put_knot-clause-err c =
-    let f = margin_function in
+    let f = margin_shape in
     let s = c.args.scale in
     let ks = c.args.s.now in
     let Line = IsKnotLine s (plain_knot f c.knot.result) in
@@ -23,7 +23,7 @@ returns-in_err-put_knot-clause-err c =
 
 pub returns-clause-ok : goal.returns-clause-ok
 returns-clause-ok c =
-    let f = margin_function in
+    let f = margin_shape in
     let s = c.args.scale in
     let ks = c.args.s.now in
     let Line = IsKnotLine s (plain_knot f c.knot.result) in
@@ -32,7 +32,7 @@ returns-clause-ok c =
 
 pub returns-clause-err : goal.returns-clause-err
 returns-clause-err c =
-    let f = margin_function in
+    let f = margin_shape in
     let s = c.args.scale in
     let ks = c.args.s.now in
     let Line = IsKnotLine s (plain_knot f c.knot.result) in

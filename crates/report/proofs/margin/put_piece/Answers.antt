@@ -1,6 +1,6 @@
 use Rattle.std.proofs.Common.{ℕ, List, codes, refl}
 use Rattle.std.proofs.lemmas.Result.{on_ok_weaker, on_err_weaker}
-use Rattle.value_laws.specs.Margins.{margin_function}
+use Rattle.value_laws.specs.Kinds.{margin_shape}
 use Rattle.rational.specs.Knots as plain
 use Rattle.rational.specs.Knots.{Piece}
 use Rattle.pl_signal.specs.Plain.{plain_knot, plain_piece}
@@ -54,34 +54,34 @@ module _ (s : Scale) (k : plain.Knot) (p : Piece) (old : List ℕ) where
 
 pub returns-in_err-put_time_after-clause-err : goal.returns-in_err-put_time_after-clause-err
 returns-in_err-put_time_after-clause-err c =
-    let k = plain_knot margin_function c.args.k.now in
-    let p = plain_piece margin_function c.args.k.now c.args.n.now in
+    let k = plain_knot margin_shape c.args.k.now in
+    let p = plain_piece margin_shape c.args.k.now c.args.n.now in
     on_err _ (first_part c.args.scale k p c.args.text.now _ c.in_err-put_time_after.ensures.err)
 
 pub returns-in_err-put_time_after-2-clause-err : goal.returns-in_err-put_time_after-2-clause-err
 returns-in_err-put_time_after-2-clause-err c =
-    let k = plain_knot margin_function c.args.k.now in
-    let p = plain_piece margin_function c.args.k.now c.args.n.now in
+    let k = plain_knot margin_shape c.args.k.now in
+    let p = plain_piece margin_shape c.args.k.now c.args.n.now in
     on_err _ (second_part c.args.scale k p c.args.text.now _ _ c.in_ok-put_time_after.ensures.ok c.in_err-put_time_after-2.ensures.err)
 
 pub returns-in_err-put_value_after-clause-err : goal.returns-in_err-put_value_after-clause-err
 returns-in_err-put_value_after-clause-err c =
-    let k = plain_knot margin_function c.args.k.now in
-    let p = plain_piece margin_function c.args.k.now c.args.n.now in
+    let k = plain_knot margin_shape c.args.k.now in
+    let p = plain_piece margin_shape c.args.k.now c.args.n.now in
     on_err _ (third_part c.args.scale k p c.args.text.now _ _ _ c.in_ok-put_time_after.ensures.ok c.in_ok-put_time_after-2.ensures.ok c.in_err-put_value_after.ensures.err)
 
 pub returns-in_err-put_value_after-2-clause-err : goal.returns-in_err-put_value_after-2-clause-err
 returns-in_err-put_value_after-2-clause-err c =
-    let k = plain_knot margin_function c.args.k.now in
-    let p = plain_piece margin_function c.args.k.now c.args.n.now in
+    let k = plain_knot margin_shape c.args.k.now in
+    let p = plain_piece margin_shape c.args.k.now c.args.n.now in
     on_err _ (fourth_part c.args.scale k p c.args.text.now _ _ _ _ c.in_ok-put_time_after.ensures.ok c.in_ok-put_time_after-2.ensures.ok c.in_ok-put_value_after.ensures.ok
     c.in_err-put_value_after-2.ensures.err)
 
 pub returns-clause-ok : goal.returns-clause-ok
 returns-clause-ok c =
     let s = c.args.scale in
-    let k = plain_knot margin_function c.args.k.now in
-    let p = plain_piece margin_function c.args.k.now c.args.n.now in
+    let k = plain_knot margin_shape c.args.k.now in
+    let p = plain_piece margin_shape c.args.k.now c.args.n.now in
     let old = c.args.text.now in
     let before = all_limits s k p old _ _ _ _ c.in_ok-put_time_after.ensures.ok c.in_ok-put_time_after-2.ensures.ok c.in_ok-put_value_after.ensures.ok c.in_ok-put_value_after-2.ensures.ok in
     on_ok_weaker c.push.result
@@ -91,8 +91,8 @@ returns-clause-ok c =
 pub returns-clause-err : goal.returns-clause-err
 returns-clause-err c =
     let s = c.args.scale in
-    let k = plain_knot margin_function c.args.k.now in
-    let p = plain_piece margin_function c.args.k.now c.args.n.now in
+    let k = plain_knot margin_shape c.args.k.now in
+    let p = plain_piece margin_shape c.args.k.now c.args.n.now in
     let old = c.args.text.now in
     let before = all_limits s k p old _ _ _ _ c.in_ok-put_time_after.ensures.ok c.in_ok-put_time_after-2.ensures.ok c.in_ok-put_value_after.ensures.ok c.in_ok-put_value_after-2.ensures.ok in
     on_err_weaker c.push.result

@@ -1,4 +1,5 @@
-use Rattle.std.proofs.Common.{◌≡◌, ◌*◌, ◌^◌, ◌<◌, arith, ap, ◌∙◌, subst, mul-pos, pos, sym}
+use Rattle.std.proofs.Common.{◌≡◌, ◌*◌, ◌^◌, ◌<◌, arith, ap, ◌∙◌, subst, mul-pos, pos, sym, to_z, of_z}
+use mir.Syntax.{w128}
 use Rattle.std.specs.Int.{IsGcd}
 use Rattle.std.specs.Int.RustNames.{unsigned_abs}
 use Rattle.std.proofs.Math.Nat.{one-le-pow}
@@ -26,12 +27,19 @@ nonzero_div-result c =
     gcd_pos c.sized-negative.result.1 (c.unsigned_abs.result * c.from-2.result) c.gcd-common.result
     (mul-pos (den_pos d) (subst (λ n. 0 < n) (sym (tens_is d)) (one-le-pow c.args.digits 10 (omega arith)))) c.gcd-common.ensures
 
+pub nonzero_div-result-2 : goal.nonzero_div-result-2
+nonzero_div-result-2 c =
+    let d = (goal.at.nonzero_div-result-2 c).After-gcd-common in
+    gcd_pos c.sized-negative.result.1 (c.unsigned_abs.result * c.from-2.result) c.gcd-common.result
+    (mul-pos (den_pos d) (subst (λ n. 0 < n) (sym (tens_is d)) (one-le-pow c.args.digits 10 (omega arith)))) c.gcd-common.ensures
+
 pub returns : goal.returns
 returns c =
     let d = (goal.at.returns c).After-gcd-common in
     let q = c.args.q.now in
     rw (tens_is d)
     (quotient_units c.args.digits _ c.sized-negative.result.0 c.sized-negative.result.1 c.unsigned_abs.result c.gcd-common.result (den_pos d)
-    (fraction_is q.num q.den c.sized-negative.result.0 c.sized-negative.result.1 c.unsigned_abs.result (den_pos d) c.sized-negative.ensures.is (den_same d))
+    (fraction_is q.num q.den c.sized-negative.result.0 c.sized-negative.result.1 c.unsigned_abs.result (den_pos d)
+    (let e : to_z w128 (of_z w128 q.num) ≡ q.num = omega (arith, ints) in sym e ∙ c.sized-negative.ensures.is) (den_same d))
     c.sized-negative.ensures.negative
     (subst (λ n. IsGcd c.sized-negative.result.1 (c.unsigned_abs.result * n) c.gcd-common.result) (tens_is d) c.gcd-common.ensures))

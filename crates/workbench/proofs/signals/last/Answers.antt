@@ -1,7 +1,7 @@
 use Rattle.std.proofs.Common.{◌≡◌, ◌≤◌, suc, ◌-◌, ◌∙◌, length, sym, subst, arith}
 use Rattle.stl_syntax.specs.Trace.{first_time}
 use Rattle.workbench.proofs.Judged.{no_row, last_is, first_to_last}
-use Rattle.workbench.proofs.answer.last.Goals as goal
+use Rattle.workbench.proofs.signals.last.Goals as goal
 
 pub returns-clause-last : goal.returns-clause-last
 returns-clause-last c =
