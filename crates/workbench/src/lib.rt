@@ -3,6 +3,7 @@
 
 mod answer;
 mod case;
+mod entry;
 mod fault;
 pub mod laws;
 mod line;
@@ -15,4 +16,5 @@ mod stream;
 mod texts;
 mod top;
 
+pub use entry::program;
 pub use top::run;

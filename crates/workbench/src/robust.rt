@@ -21,7 +21,7 @@ use stl_syntax::Text;
 use value_laws::{Margin, Shape};
 
 /// The denominator that a pair needs.
-fn denominator<P>(pair: &WidePair<P>) -> u128
+fn denominator(pair: &WidePair<Margin>) -> u128
     ensures { result ≡ denominator_of pair.now }
 {
     match pair {
@@ -31,7 +31,7 @@ fn denominator<P>(pair: &WidePair<P>) -> u128
 }
 
 /// Why there is no answer, where an evaluation has none.
-fn fault_stop<P>(fault: EvalFault<P>) -> Stop
+fn fault_stop(fault: EvalFault<Margin>) -> Stop
     ensures { result ≡ stop_of_fault fault }
 {
     match fault {
