@@ -1,5 +1,5 @@
 -- The signals of atoms tell the atoms in the setting in which each atom is read by the plain list of knots of its own signal.
-use Rattle.std.proofs.Common.{◌≡◌, ℕ, zero, suc, ◌+◌, ◌-◌, ◌<◌, List, [], ◌∷◌, length, drop, map, Some, refl, sym, ap, ◌∙◌, subst, arith, zero-add, length-drop}
+use Rattle.std.proofs.Common.{◌≡◌, ℕ, zero, suc, ◌+◌, ◌-◌, ◌<◌, List, [], ◌∷◌, length, drop, map, Some, refl, sym, ap, ◌∙◌, subst, arith, length-drop}
 use Rattle.std.specs.Prelude.{slice_get, All, pos}
 use Rattle.std.proofs.lemmas.Option.{slice_get_within, get_or_from_slice_get}
 use Rattle.rational.specs.Time.{Rational, whole}
@@ -31,7 +31,7 @@ placed_at (Leaf b ∷ nodes) (l ∷ ks) (suc i) a k at h =
     let one : atoms_before (Leaf b ∷ nodes) (suc i) ≡ suc (atoms_before nodes i) = omega arith in
     placed_at nodes ks i a k at (subst (λ n. slice_get (l ∷ ks) n ≡ Some k) one h)
 placed_at (n ∷ nodes) ks zero a k at h = absurd (let e = at in cc)
-placed_at (n ∷ nodes) ks (suc i) a k at h = placed_at nodes ks i a k at (subst (λ m. slice_get ks m ≡ Some k) (zero-add (atoms_before nodes i)) h)
+placed_at (n ∷ nodes) ks (suc i) a k at h = placed_at nodes ks i a k at h
 
 got_mapped : {A B : Type 0} (f : A → B) (xs : List A) (i : ℕ) (x : A) → slice_get xs i ≡ Some x → slice_get (map f xs) i ≡ Some (f x)
 got_mapped f [] i x h = absurd (let e = h in cc)
