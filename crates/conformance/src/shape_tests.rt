@@ -1,3 +1,4 @@
+//! One function over each kind of value.
 ghost use Rattle.std.specs.Prelude.{◌≤◌, ◌^◌};
 ghost use Rattle.std.specs.Int.RustNames.{unsigned_abs};
 ghost use Rattle.rational.specs.Rational.{IsWithin};

@@ -1,6 +1,6 @@
 //! Whole numbers of 128 bits.
-ghost use Rattle.std.specs.Prelude.{◌≡◌, ◌+◌, ◌*◌, ◌<◌, ◌≤◌, ◌^◌, pos, ◌+ℤ◌, ◌-ℤ◌, ◌*ℤ◌, ◌<ℤ◌};
-ghost use Rattle.std.specs.Int.{IsGcd};
+ghost use Rattle.std.specs.Prelude.{◌≡◌, ◌+◌, ◌*◌, ◌%◌, ◌<◌, ◌≤◌, ◌^◌, pos, ◌+ℤ◌, ◌-ℤ◌, ◌*ℤ◌, ◌<ℤ◌};
+ghost use Rattle.std.specs.Int.{IsGcd, trailing_zeros, w64};
 ghost use Rattle.std.specs.Int.RustNames.{unsigned_abs};
 ghost use Rattle.std.specs.Ordering.{nat_cmp};
 
@@ -12,6 +12,11 @@ pub(crate) fn split(num: i128, den: i128) -> (i128, u128)
     ensures sum { result.0 *ℤ den +ℤ pos result.1 ≡ num }
     ensures below { result.1 < unsigned_abs den }
 {
+    if num >= 0 && num < 1 << 63 && den < 1 << 63 {
+        let top = num as u64;
+        let bottom = den as u64;
+        return (i128::from(top / bottom), u128::from(top % bottom));
+    }
     (num.div_euclid(den), num.rem_euclid(den).unsigned_abs())
 }
 
@@ -33,8 +38,8 @@ pub(crate) fn sum_of_products(a: i128, b: i128, c: i128, d: i128) -> i128
     a * b + c * d
 }
 
-/// The greatest common divisor, by Euclid, in 64 bits as soon as both numbers have no more.
-pub fn gcd(a: u128, b: u128) -> u128
+/// The greatest common divisor of two numbers of 128 bits: by Euclid until both have 64, and then by `gcd`.
+pub fn gcd_of_wide(a: u128, b: u128) -> u128
     ensures { IsGcd a b result }
 {
     let mut x = a;
@@ -47,19 +52,50 @@ pub fn gcd(a: u128, b: u128) -> u128
     if y == 0 {
         return x;
     }
-    u128::from(gcd_of_words(y as u64, (x % y) as u64))
+    if x >= 1 << 64 {
+        return u128::from(gcd(y as u64, (x % y) as u64));
+    }
+    u128::from(gcd(x as u64, y as u64))
 }
 
-/// The greatest common divisor of two numbers of 64 bits.
-fn gcd_of_words(a: u64, b: u64) -> u64
+/// The greatest common divisor of `a` and `b`; of a number and 0 it is the number.
+///
+/// It goes by halving: factors of two are told by the lowest bits, so that no division is needed.
+pub fn gcd(a: u64, b: u64) -> u64
+    ensures { IsGcd a b result }
+{
+    if a == 0 {
+        return b;
+    }
+    if b == 0 {
+        return a;
+    }
+    let twos = a.trailing_zeros().min(b.trailing_zeros());
+    gcd_of_odd(odd_part(a), odd_part(b)) << twos
+}
+
+/// The number without its factors of two.
+#[inline(always)]
+fn odd_part(n: u64) -> u64
+    requires { 0 < n }
+    ensures odd { result % 2 ≡ 1 }
+    ensures twos { result * 2 ^ trailing_zeros w64 n ≡ n }
+{
+    n >> n.trailing_zeros()
+}
+
+/// The greatest common divisor of two odd numbers: it divides their difference, and so its odd part too.
+fn gcd_of_odd(a: u64, b: u64) -> u64
+    requires first { a % 2 ≡ 1 }
+    requires second { b % 2 ≡ 1 }
     ensures { IsGcd a b result }
 {
     let mut x = a;
     let mut y = b;
-    while y != 0 {
-        let rest = x % y;
-        x = y;
-        y = rest;
+    while x != y {
+        let apart = x.abs_diff(y);
+        y = x.min(y);
+        x = odd_part(apart);
     }
     x
 }

@@ -5,7 +5,7 @@ ghost use Rattle.std.specs.Int.RustNames.{unsigned_abs};
 ghost use Rattle.rational.specs.Rational.{IsOrder, fraction};
 ghost use Rattle.frac128.specs.Lowest.{HasDenominator, IsLowest, IsWide};
 
-use crate::arith::{gcd, split, sum_of_products};
+use crate::arith::{gcd, gcd_of_wide, split, sum_of_products};
 use std::cmp::Ordering;
 
 /// Want of memory.
@@ -79,7 +79,7 @@ impl Frac {
     {
         let (whole, rest) = split(num, den);
         let all = den.unsigned_abs();
-        let common = gcd(rest, all);
+        let common = gcd_of_wide(rest, all);
         let reduced = all / common;
         if reduced >= 1 << 60 {
             return Err(WideFrac { den: reduced });
@@ -89,6 +89,20 @@ impl Frac {
             rest: (rest / common) as u64,
             den: reduced as u64,
         })
+    }
+
+    /// The number `whole + rest / den`, in lowest terms.
+    pub fn mixed(whole: i64, rest: u64, den: u64) -> Frac
+        requires below { rest < den }
+        requires small { den < 2 ^ 60 }
+        ensures { value result ≈ fraction (whole *ℤ pos den +ℤ pos rest) (pos den) }
+    {
+        let common = gcd(rest, den);
+        Frac {
+            whole,
+            rest: rest / common,
+            den: den / common,
+        }
     }
 
     /// The order of the two numbers.

@@ -1,3 +1,4 @@
+//! Devices in memory and over readers and writers of std, with failures at chosen calls.
 use crate::{
     CleanSink, CleanSource, Failed, MemSink, MemSource, ReadEdge, Sink, Source, WriteEdge,
 };

@@ -1,3 +1,4 @@
+//! Signals that are built, read and cut.
 ghost use Rattle.std.specs.Prelude.{◌≡◌, ◌^◌, IsTrue};
 ghost use Rattle.rational.specs.Rational.{IsWithin};
 ghost use Rattle.frac128.specs.Value.{value};

@@ -13,18 +13,23 @@ use Rattle.rational.proofs.Sup.{near_left}
 use Rattle.rational.proofs.Lines.{same_at, same_lines, slope_of, lt_at, lt_at_falls, at_level, at_negate, near_right}
 use Rattle.rational.proofs.ExtendedLemmas.{le_totalᵉ, le_reflᵉ, le_transᵉ, clashᵉ, opposite_le', opposite_twice}
 
+-- each value is the same as itself
 pub same_reflᵉ : (v : Extended) → v ≈ᵉ v
 same_reflᵉ v = record { at_most = le_reflᵉ v; at_least = le_reflᵉ v }
 
+-- and so the other way round
 pub same_symᵉ : (v w : Extended) → v ≈ᵉ w → w ≈ᵉ v
 same_symᵉ v w h = record { at_most = h.at_least; at_least = h.at_most }
 
+-- values that are the same as one are the same
 pub same_transᵉ : (u v w : Extended) → u ≈ᵉ v → v ≈ᵉ w → u ≈ᵉ w
 same_transᵉ u v w h k = record { at_most = le_transᵉ u v w h.at_most k.at_most; at_least = le_transᵉ w v u k.at_least h.at_least }
 
+-- equal numbers are the same finite values
 pub finite_same : {x y : Rational} → x ≈ y → finite x ≈ᵉ finite y
 finite_same e = record { at_most = le_of_same e; at_least = ge_of_same e }
 
+-- and finite values that are the same are equal numbers
 pub same_of_finite : {x y : Rational} → finite x ≈ᵉ finite y → x ≈ y
 same_of_finite e = same_of_le e.at_most e.at_least
 
@@ -36,9 +41,11 @@ bounded_same n (finite x) (finite y) e h = within_same n (same_of_le e.at_least 
 bounded_same n (finite x) infinity e h = absurd e.at_least
 bounded_same n infinity w e h = tt
 
+-- a function passes through its value at a time
 pub passes : (f : Affine) (t : Rational) → Passes f t (value_at f t)
 passes f t = same_reflᵉ (value_at f t)
 
+-- values that are the same have opposites that are the same
 pub opposite_same : (v w : Extended) → v ≈ᵉ w → opposite v ≈ᵉ opposite w
 opposite_same v w h = record { at_most = opposite_le' w v h.at_least; at_least = opposite_le' v w h.at_most }
 
@@ -101,6 +108,7 @@ at_most_an_end f a b u h k = by_left (le_or_lt u a)
     by_left (inl m) = inl (value_same f (same_of_le m h)).at_most
     by_left (inr m) = by_right m (le_or_lt b u)
 
+-- and above one of them, the ends with it
 pub at_least_an_end : (f : Affine) (a b u : Rational) → a ≤ʳ u → u ≤ʳ b → (value_at f a ≤ᵉ value_at f u) ⊎ (value_at f b ≤ᵉ value_at f u)
 at_least_an_end f a b u h k = by_left (le_or_lt u a)
   where
@@ -130,6 +138,7 @@ near_start (affine f) l r minus_infinity h k = at_middle l r (λ t. Unit {0}) h 
 near_start (affine f) l r (finite x) h k = near_left f x h k
 near_start (affine f) l r infinity h k = absurd k
 
+-- so from below at the later end
 pub near_stop : (f : Affine) (l r : Rational) (w : Extended) → l <ʳ r → w <ᵉ value_at f r → Inside l r (λ t. w <ᵉ value_at f t)
 near_stop always_low l r w h k = at_middle l r (λ t. w <ᵉ minus_infinity) h k
 near_stop always_high l r w h k = at_middle l r (λ t. w <ᵉ infinity) h k
@@ -143,6 +152,7 @@ above_of_negated f x t h = let k = lt_of_lt_of_le h (le_of_same (at_negate f t))
 negated_above : (f : Line) (x t : Rational) → at f t <ʳ x → negate x <ʳ at (negate_line f) t
 negated_above f x t h = lt_of_lt_of_le (lt_negate h) (ge_of_same (at_negate f t))
 
+-- from above at the earlier end
 pub above_start : (f : Affine) (l r : Rational) (w : Extended) → l <ʳ r → value_at f l <ᵉ w → Inside l r (λ t. value_at f t <ᵉ w)
 above_start always_low l r w h k = at_middle l r (λ t. minus_infinity <ᵉ w) h k
 above_start always_high l r w h k = absurd k
@@ -150,6 +160,7 @@ above_start (affine f) l r minus_infinity h k = absurd k
 above_start (affine f) l r (finite x) h k = let n = near_left (negate_line f) (negate x) h (negated_above f x l k) in (n.0, n.1, n.2, above_of_negated f x n.0 n.3)
 above_start (affine f) l r infinity h k = at_middle l r (λ t. Unit {0}) h tt
 
+-- and from above at the later end
 pub above_stop : (f : Affine) (l r : Rational) (w : Extended) → l <ʳ r → value_at f r <ᵉ w → Inside l r (λ t. value_at f t <ᵉ w)
 above_stop always_low l r w h k = at_middle l r (λ t. minus_infinity <ᵉ w) h k
 above_stop always_high l r w h k = absurd k

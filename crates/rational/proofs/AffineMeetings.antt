@@ -29,6 +29,7 @@ line_between {l} {t} {r} f g h k a b = from_zero (by_end (below_an_end (gap_line
         from_difference : subtract (at f t) (at g t) ≤ʳ whole (pos 0) → at f t ≤ʳ at g t
         from_difference i = omega (arith, i.le)
 
+-- functions in one order at both ends are so ordered between
 pub between : (f g : Affine) (l t r : Rational) → l <ʳ t → t <ʳ r → value_at f l ≤ᵉ value_at g l → value_at f r ≤ᵉ value_at g r → value_at f t ≤ᵉ value_at g t
 between always_low g l t r h k a b = tt
 between (affine f) always_low l t r h k a b = a
@@ -58,6 +59,7 @@ line_turn f g l r h a b =
     above : whole (pos 0) <ʳ at (gap_line f g) r
     above = lt_of_lt_of_le (omega (arith, b.lt)) (ge_of_same (at_gap f g r))
 
+-- functions whose order turns over meet between at one time alone
 pub turn : (f g : Affine) (l r : Rational) → l <ʳ r → value_at f l <ᵉ value_at g l → value_at g r <ᵉ value_at f r → (t : Rational) × MeetAlone f g l r t
 turn always_low always_low l r h a b = absurd a
 turn always_low (affine g) l r h a b = absurd b
@@ -67,6 +69,7 @@ turn (affine f) (affine g) l r h a b = line_turn f g l r h a b
 turn (affine f) always_high l r h a b = absurd b
 turn always_high g l r h a b = absurd a
 
+-- a meeting at one time alone is one of either function with the other
 pub alone_swap : {f g : Affine} {l r t : Rational} → MeetAlone f g l r t → MeetAlone g f l r t
 alone_swap {f} {g} {l} {r} {t} m = record {
   after = m.after;

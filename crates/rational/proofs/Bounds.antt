@@ -15,6 +15,7 @@ use Rattle.rational.proofs.AffineLemmas.{bounded_same, same_symᵉ, near_start, 
 abbrev pub IsBoundedOn : ℕ → Affine → Rational → Rational → Type 0
 IsBoundedOn n f l r = (t : Rational) → l <ʳ t → t <ʳ r → IsBounded n (value_at f t)
 
+-- a function that is bounded between two times is bounded at the earlier
 pub bounded_start : (n : ℕ) (f : Affine) (l r : Rational) → l <ʳ r → IsBoundedOn n f l r → IsBounded n (value_at f l)
 bounded_start n always_low l r h b = tt
 bounded_start n always_high l r h b = tt
@@ -28,6 +29,7 @@ bounded_start n (affine f) l r h b = (low (le_or_lt (whole (neg_ℤ (pos n))) (a
     high (inl k) = k
     high (inr k) = let m = near_start (affine f) l r (finite (whole (pos n))) h k in absurd (not_lt_of_le (b m.0 m.1 m.2).1 m.3)
 
+-- and at the later
 pub bounded_stop : (n : ℕ) (f : Affine) (l r : Rational) → l <ʳ r → IsBoundedOn n f l r → IsBounded n (value_at f r)
 bounded_stop n always_low l r h b = tt
 bounded_stop n always_high l r h b = tt
@@ -55,6 +57,7 @@ bounded_between n (affine f) l t r h k a b = by_order (lies_between (affine f) l
 abbrev pub HasBounded : ℕ → Function → Type 0
 HasBounded n F = (t : Rational) (v : Extended) → F t v → IsBounded n v
 
+-- the line that a bounded function is on an interval is bounded there
 pub line_bounded : (n : ℕ) (F : Function) (line : Affine) (a b : Rational) → HasBounded n F → IsLineOn F a b line → IsBoundedOn n line a b
 line_bounded n F line a b h on = λ t x y. let w = on t x y in bounded_same n (value_at line t) w.0 (same_symᵉ w.0 (value_at line t) w.2) (h t w.0 w.1)
 
@@ -62,6 +65,7 @@ line_bounded n F line a b h on = λ t x y. let w = on t x y in bounded_same n (v
 pub right_limit_bounded : (n : ℕ) (F : Function) (u : Rational) (v : Extended) → HasBounded n F → IsRightLimit F u v → IsBounded n v
 right_limit_bounded n F u v h l = bounded_same n v (value_at l.line u) l.value (bounded_start n l.line u l.b l.below (line_bounded n F l.line u l.b h l.on))
 
+-- so from the left
 pub left_limit_bounded : (n : ℕ) (F : Function) (u : Rational) (v : Extended) → HasBounded n F → IsLeftLimit F u v → IsBounded n v
 left_limit_bounded n F u v h l = bounded_same n v (value_at l.line u) l.value (bounded_stop n l.line l.a u l.above (line_bounded n F l.line l.a u h l.on))
 

@@ -5,6 +5,7 @@ use Rattle.rational.specs.Extended.{Extended, minus_infinity, finite, infinity, 
 use Rattle.rational.proofs.Order.{le_or_lt, le_of_lt, le_trans, le_refl, not_lt_of_le}
 use Rattle.rational.proofs.Field.{le_negate, lt_negate}
 
+-- of two values one is at most the other
 pub le_totalᵉ : (v w : Extended) → (v ≤ᵉ w) ⊎ (w <ᵉ v)
 le_totalᵉ minus_infinity w = inl tt
 le_totalᵉ (finite x) minus_infinity = inr tt
@@ -14,6 +15,7 @@ le_totalᵉ infinity minus_infinity = inr tt
 le_totalᵉ infinity (finite y) = inr tt
 le_totalᵉ infinity infinity = inl tt
 
+-- a value below another is not at or above it
 pub clashᵉ : {X : Type 0} (v w : Extended) → v <ᵉ w → w ≤ᵉ v → X
 clashᵉ minus_infinity minus_infinity h k = absurd h
 clashᵉ minus_infinity (finite y) h k = absurd k
@@ -23,11 +25,13 @@ clashᵉ (finite x) (finite y) h k = absurd (not_lt_of_le k h)
 clashᵉ (finite x) infinity h k = absurd k
 clashᵉ infinity w h k = absurd h
 
+-- each value is at most itself
 pub le_reflᵉ : (v : Extended) → v ≤ᵉ v
 le_reflᵉ minus_infinity = tt
 le_reflᵉ (finite x) = le_refl x
 le_reflᵉ infinity = tt
 
+-- the order goes on from value to value
 pub le_transᵉ : (u v w : Extended) → u ≤ᵉ v → v ≤ᵉ w → u ≤ᵉ w
 le_transᵉ minus_infinity v w h k = tt
 le_transᵉ (finite x) minus_infinity w h k = absurd h
@@ -41,6 +45,7 @@ le_transᵉ infinity minus_infinity w h k = absurd h
 le_transᵉ infinity (finite y) w h k = absurd h
 le_transᵉ infinity infinity w h k = k
 
+-- a value below another is at most it
 pub le_of_ltᵉ : (v w : Extended) → v <ᵉ w → v ≤ᵉ w
 le_of_ltᵉ minus_infinity w h = tt
 le_of_ltᵉ (finite x) minus_infinity h = absurd h
@@ -48,6 +53,7 @@ le_of_ltᵉ (finite x) (finite y) h = le_of_lt h
 le_of_ltᵉ (finite x) infinity h = tt
 le_of_ltᵉ infinity w h = absurd h
 
+-- below, and then at most, is below
 pub lt_of_lt_of_leᵉ : (u v w : Extended) → u <ᵉ v → v ≤ᵉ w → u <ᵉ w
 lt_of_lt_of_leᵉ u v w h k = by_order (le_totalᵉ w u)
   where
@@ -55,6 +61,7 @@ lt_of_lt_of_leᵉ u v w h k = by_order (le_totalᵉ w u)
     by_order (inl l) = clashᵉ u v h (le_transᵉ v w u k l)
     by_order (inr l) = l
 
+-- at most, and then below, is below
 pub lt_of_le_of_ltᵉ : (u v w : Extended) → u ≤ᵉ v → v <ᵉ w → u <ᵉ w
 lt_of_le_of_ltᵉ u v w h k = by_order (le_totalᵉ w u)
   where
@@ -69,6 +76,7 @@ greatest_of v w = elim (le_totalᵉ v w) [
   | inr h ↦ (v, record { left = le_reflᵉ v; right = le_of_ltᵉ w v h; one_of = inl (le_reflᵉ v) })
 ]
 
+-- so for the least
 pub least_of : (v w : Extended) → (r : Extended) × IsLeast v w r
 least_of v w = elim (le_totalᵉ v w) [
   | inl h ↦ (v, record { left = le_reflᵉ v; right = h; one_of = inl (le_reflᵉ v) })
@@ -78,6 +86,7 @@ least_of v w = elim (le_totalᵉ v w) [
 negated_le : (x y : Rational) → negate y ≤ʳ negate x → x ≤ʳ y
 negated_le x y h = omega arith
 
+-- opposites are in the opposite order
 pub opposite_le : (v w : Extended) → opposite w ≤ᵉ opposite v → v ≤ᵉ w
 opposite_le minus_infinity w h = tt
 opposite_le (finite x) minus_infinity h = absurd h
@@ -87,6 +96,7 @@ opposite_le infinity minus_infinity h = absurd h
 opposite_le infinity (finite y) h = absurd h
 opposite_le infinity infinity h = tt
 
+-- and in that order from the values' own
 pub opposite_le' : (v w : Extended) → v ≤ᵉ w → opposite w ≤ᵉ opposite v
 opposite_le' minus_infinity minus_infinity h = tt
 opposite_le' minus_infinity (finite y) h = tt
@@ -98,6 +108,7 @@ opposite_le' infinity minus_infinity h = absurd h
 opposite_le' infinity (finite y) h = absurd h
 opposite_le' infinity infinity h = tt
 
+-- so strictly
 pub lt_opposite : (v w : Extended) → v <ᵉ w → opposite w <ᵉ opposite v
 lt_opposite minus_infinity minus_infinity h = absurd h
 lt_opposite minus_infinity (finite y) h = tt
@@ -107,6 +118,7 @@ lt_opposite (finite x) (finite y) h = lt_negate h
 lt_opposite (finite x) infinity h = tt
 lt_opposite infinity w h = absurd h
 
+-- the opposite of an opposite is the value
 pub opposite_twice : (v : Extended) → opposite (opposite v) ≡ v
 opposite_twice minus_infinity = refl
 opposite_twice (finite x) = refl
@@ -123,6 +135,7 @@ Sup-unique {P} lowest r r' h k = by_order (le_totalᵉ r r')
     by_order (inl l) = l
     by_order (inr l) = exceeded (h.reached r' k.at_least l)
 
+-- so for the Inf
 pub Inf-unique : {P : Extended → Type 0} (highest r r' : Extended) → IsInf highest P r → IsInf highest P r' → r ≤ᵉ r'
 Inf-unique {P} highest r r' h k = by_order (le_totalᵉ r r')
   where
@@ -133,6 +146,7 @@ Inf-unique {P} highest r r' h k = by_order (le_totalᵉ r r')
     by_order (inl l) = l
     by_order (inr l) = undercut (k.reached r l h.at_most)
 
+-- each value is at most inf
 pub below_infinity : (v : Extended) → v ≤ᵉ infinity
 below_infinity minus_infinity = tt
 below_infinity (finite x) = tt

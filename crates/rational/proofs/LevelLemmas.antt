@@ -14,12 +14,15 @@ use Rattle.rational.proofs.Lines.{at_constant}
 use Rattle.rational.proofs.ExtendedLemmas.{clashᵉ, le_transᵉ}
 use Rattle.rational.proofs.AffineLemmas.{same_reflᵉ, same_symᵉ, same_transᵉ, finite_same, opposite_same, order_sameᵉ}
 
+-- a constant has its number at each time
 pub level_is : (n : ℤ) (t : Rational) → value_at (level n) t ≈ᵉ finite (whole n)
 level_is n t = finite_same (at_constant (whole n) t)
 
+-- it does not move
 pub level_steady : (n : ℤ) → IsSteady (level n)
 level_steady n t u = same_transᵉ (value_at (level n) t) (finite (whole n)) (value_at (level n) u) (level_is n t) (same_symᵉ (value_at (level n) u) (finite (whole n)) (level_is n u))
 
+-- minus a constant is the constant of minus its number
 pub level_negated : (n m : ℤ) (t : Rational) → m ≡ neg_ℤ n → value_at (level m) t ≈ᵉ opposite (value_at (level n) t)
 level_negated n m t e =
     same_transᵉ (value_at (level m) t) (finite (whole m)) (opposite (value_at (level n) t)) (level_is m t)
@@ -46,6 +49,7 @@ level_order o n m t u e =
 pub same_levels : (n m : ℤ) → n ≡ m → AreSame (level n) (level m)
 same_levels n m e t = rw e (same_reflᵉ (value_at (level m) t))
 
+-- constants that are one function have one number
 pub one_level : (n m : ℤ) → AreSame (level n) (level m) → n ≡ m
 one_level n m h = by_order (int_cmp n m) refl
   where
@@ -54,9 +58,11 @@ one_level n m h = by_order (int_cmp n m) refl
     by_order Equal e = int_ranked n m Equal e
     by_order Greater e = clashᵉ (value_at (level m) (whole n)) (value_at (level n) (whole n)) (level_order Greater n m (whole n) (whole n) e) (h (whole n)).at_most
 
+-- a constant is at least what its number is at least
 pub level_at_least : (low n : ℤ) (t : Rational) → low ≤ℤ n → finite (whole low) ≤ᵉ value_at (level n) t
 level_at_least low n t h = le_transᵉ (finite (whole low)) (finite (whole n)) (value_at (level n) t) (le_whole h) (level_is n t).at_least
 
+-- and at most what its number is at most
 pub level_at_most : (high n : ℤ) (t : Rational) → n ≤ℤ high → value_at (level n) t ≤ᵉ finite (whole high)
 level_at_most high n t h = le_transᵉ (value_at (level n) t) (finite (whole n)) (finite (whole high)) (level_is n t).at_most (le_whole h)
 

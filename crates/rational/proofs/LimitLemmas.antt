@@ -55,6 +55,7 @@ lines_same F f g {a} {b} one h on on' = λ t. record { at_most = affine_unique f
 pub earlier_end : {u a b : Rational} → u <ʳ a → u <ʳ b → (c : Rational) × (u <ʳ c) × (c ≤ʳ a) × (c ≤ʳ b)
 earlier_end {u} {a} {b} h k = elim (le_or_lt a b) [ inl l ↦ (a, h, le_refl a, l) | inr l ↦ (b, k, le_of_lt l, le_refl b) ]
 
+-- so for the later one
 pub later_end : {u a b : Rational} → a <ʳ u → b <ʳ u → (c : Rational) × (c <ʳ u) × (a ≤ʳ c) × (b ≤ʳ c)
 later_end {u} {a} {b} h k = elim (le_or_lt a b) [ inl l ↦ (b, k, l, le_refl b) | inr l ↦ (a, h, le_refl a, le_of_lt l) ]
 
@@ -67,6 +68,7 @@ right_limit_one {F} {u} v w one h k =
     let c = earlier_end h.below k.below in
     limits_same h.line k.line u v w (lines_same F h.line k.line one c.1 (line_on_part F h.line (le_refl u) c.2 h.on) (line_on_part F k.line (le_refl u) c.3 k.on)) h.value k.value
 
+-- so from the left
 pub left_limit_one : {F : Function} {u : Rational} (v w : Extended) → HasOneValue F → IsLeftLimit F u v → IsLeftLimit F u w → v ≈ᵉ w
 left_limit_one {F} {u} v w one h k =
     let c = later_end h.above k.above in
@@ -82,6 +84,7 @@ right_limit_same {F} {t} {u} v w e s h = record {
   value = same_transᵉ w v (value_at h.line u) (same_symᵉ v w s) (same_transᵉ v (value_at h.line t) (value_at h.line u) h.value (value_same h.line e));
 }
 
+-- so from the left
 pub left_limit_same : {F : Function} {t u : Rational} (v w : Extended) → t ≈ u → v ≈ᵉ w → IsLeftLimit F t v → IsLeftLimit F u w
 left_limit_same {F} {t} {u} v w e s h = record {
   a = h.a;

@@ -15,6 +15,7 @@ use Rattle.rational.proofs.Mixed.{parts, neg_parts}
 pub dvd_of_Divides : (k n : ℕ) → Divides k n → k ∣ n
 dvd_of_Divides k n h = ∣ h ∣₁
 
+-- and the other way round
 pub Divides_of_dvd : (k n : ℕ) → k ∣ n → Divides k n
 Divides_of_dvd zero n h = (0, let e = eq-zero_of_zero-dvd h in omega arith)
 Divides_of_dvd (suc k) n h = (n / suc k, let e = mod-eq-zero_of_dvd (suc k) h in omega (arith, div-add-mod' n (suc k)))
@@ -23,6 +24,7 @@ Divides_of_dvd (suc k) n h = (n / suc k, let e = mod-eq-zero_of_dvd (suc k) h in
 pub coprime : (num : ℤ) (den : ℕ) → IsLowest num den → (k : ℕ) → k ∣ nat_abs num → k ∣ den → k ≡ 1
 coprime num den h k i j = h.coprime k (Divides_of_dvd k (nat_abs num) i) (Divides_of_dvd k den j)
 
+-- the greatest common divisor with a number above 0 is above 0
 pub gcd_pos : (n d g : ℕ) → 0 < d → IsGcd n d g → 0 < g
 gcd_pos n d zero p h = let e = eq-zero_of_zero-dvd h.1 in omega arith
 gcd_pos n d (suc g) p h = omega arith
@@ -119,6 +121,7 @@ sizes (pos n) (negsuc m) d e p q h = absurd (omega (arith, h.same, mul-pos (zero
 sizes (negsuc n) (pos m) d e p q h = absurd (omega (arith, h.same, mul-pos (zero-lt-suc n) q))
 sizes (negsuc n) (negsuc m) d e p q h = omega (arith, h.same)
 
+-- so two denominators in lowest terms of one number are one
 pub denominator_unique : {a b : Rational} (d e : ℕ) → a ≈ b → HasDenominator a d → HasDenominator b e → d ≡ e
 denominator_unique d e s h k = one_den h.0 k.0 d e h.1 k.1 (sizes h.0 k.0 d e h.1.positive k.1.positive (same_trans (same_sym h.2) (same_trans s k.2)))
 

@@ -14,6 +14,7 @@ order_of_difference Less a b h = omega arith
 order_of_difference Equal a b h = same_of_zero h
 order_of_difference Greater a b h = omega arith
 
+-- the sign of the gap of two lines is their order
 pub order_of_gap : (o : Ordering) (f g : Line) (t : Rational) → IsOrder o (at (gap_line f g) t) (whole (pos 0)) → IsOrder o (at f t) (at g t)
 order_of_gap o f g t h = order_of_difference o (at f t) (at g t) (order_same o (at_gap f g t) (same_refl (whole (pos 0))) h)
 
@@ -48,6 +49,7 @@ meet_same f g e m = record {
   alone = λ v k. same_trans (m.alone v k) e;
 }
 
+-- so for a crossing between two times
 pub cross_same : {l r t u : Rational} (f g : Line) → t ≈ u → CrossAt f g l r t → CrossAt f g l r u
 cross_same f g e c = record { after = lt_of_lt_of_le c.after (le_of_same e); before = lt_of_le_of_lt (ge_of_same e) c.before; meet = meet_same f g e c.meet }
 
@@ -91,9 +93,11 @@ crossed f g l r t h j k e = by_slope (slope_of (gap_line f g))
     by_slope (inr (inl p)) = absurd (not_lt_of_le (le_of_same (at_level t l (gap_line f g) p)) low)
     by_slope (inr (inr p)) = absurd (not_lt_of_le (le_of_lt (lt_trans low high)) (lt_at_falls (gap_line f g) p h))
 
+-- a meeting is one of either line with the other
 pub meet_swap : {t : Rational} (f g : Line) → MeetAt f g t → MeetAt g f t
 meet_swap f g m = record { equal = same_sym m.equal; alone = λ u k. m.alone u (same_sym k) }
 
+-- so for a crossing
 pub cross_swap : {l r t : Rational} (f g : Line) → CrossAt f g l r t → CrossAt g f l r t
 cross_swap f g c = record { after = c.after; before = c.before; meet = meet_swap f g c.meet }
 

@@ -18,6 +18,7 @@ sup_same i j h = record {
   reached = λ w k l. let x = h.reached w k l in (x.0, i x.0 x.1, x.2);
 }
 
+-- so for the Inf
 pub inf_same : {P Q : Extended → Type 0} {highest r : Extended} → ((v : Extended) → P v → Q v) → ((v : Extended) → Q v → P v) → IsInf highest P r → IsInf highest Q r
 inf_same i j h = record {
   at_most = h.at_most;
@@ -33,6 +34,7 @@ sup_value_same {P} {lowest} r s e h = record {
   reached = λ w k l. h.reached w k (lt_of_lt_of_leᵉ w s r l e.at_least);
 }
 
+-- so for the Inf
 pub inf_value_same : {P : Extended → Type 0} {highest : Extended} (r s : Extended) → r ≈ᵉ s → IsInf highest P r → IsInf highest P s
 inf_value_same {P} {highest} r s e h = record {
   at_most = le_transᵉ s r highest e.at_least h.at_most;
@@ -44,6 +46,7 @@ inf_value_same {P} {highest} r s e h = record {
 pub sup_of_none : {P : Extended → Type 0} (lowest : Extended) → ((v : Extended) → ¬ (P v)) → IsSup lowest P lowest
 sup_of_none lowest n = record { at_least = le_reflᵉ lowest; bound = λ v m. absurd (n v m); reached = λ w k l. clashᵉ w lowest l k }
 
+-- the Inf of no values is the greatest value
 pub inf_of_none : {P : Extended → Type 0} (highest : Extended) → ((v : Extended) → ¬ (P v)) → IsInf highest P highest
 inf_of_none highest n = record { at_most = le_reflᵉ highest; bound = λ v m. absurd (n v m); reached = λ w k l. clashᵉ highest w k l }
 
@@ -135,6 +138,7 @@ inf_of_opposite {P} highest r h = record {
     turned : (w : Extended) → ((v : Extended) × P (opposite v) × (opposite w <ᵉ v)) → (v : Extended) × P v × (v <ᵉ w)
     turned w (v, m, k) = (opposite v, m, subst (λ x. opposite v <ᵉ x) (opposite_twice w) (lt_opposite (opposite w) v k))
 
+-- the Sup is minus the Inf of the negated values
 pub sup_of_opposite : {P : Extended → Type 0} (lowest r : Extended) → IsInf (opposite lowest) (λ v. P (opposite v)) (opposite r) → IsSup lowest P r
 sup_of_opposite {P} lowest r h = record {
   at_least = opposite_le lowest r h.at_most;
@@ -188,6 +192,7 @@ below_sup {l} {u} {r} s f n h k g = by_slope (slope_of f)
     by_slope (inr (inl p)) = absurd (n p)
     by_slope (inr (inr p)) = lt_of_lt_of_leᵉ (finite (at f u)) (finite (at f l)) s (lt_at_falls f p h) g.left
 
+-- so above the Inf
 pub above_inf : {l u r : Rational} (s : Extended) (f : Line) → ¬ (Level f) → l <ʳ u → u <ʳ r → IsLeast (finite (at f l)) (finite (at f r)) s → s <ᵉ finite (at f u)
 above_inf {l} {u} {r} s f n h k g = by_slope (slope_of f)
   where
@@ -196,6 +201,7 @@ above_inf {l} {u} {r} s f n h k g = by_slope (slope_of f)
     by_slope (inr (inl p)) = absurd (n p)
     by_slope (inr (inr p)) = lt_of_le_of_ltᵉ s (finite (at f r)) (finite (at f u)) g.right (lt_at_falls f p k)
 
+-- an open interval is such a window
 pub spans_gap : (l r : Rational) → l <ʳ r → Spans (IsIn (gap l r)) l r
 spans_gap l r h = record {
   order = h;
@@ -203,6 +209,7 @@ spans_gap l r h = record {
   outer = λ u m. record { above = le_of_lt m.above; below = le_of_lt m.below };
 }
 
+-- so is a closed one
 pub spans_closed : (l r : Rational) → l <ʳ r → Spans (IsIn (closed l r)) l r
 spans_closed l r h = record {
   order = h;
@@ -210,5 +217,6 @@ spans_closed l r h = record {
   outer = λ u m. record { above = m.above; below = m.below };
 }
 
+-- and so are the times between two times, both with them
 pub spans_within : (l r : Rational) → l <ʳ r → Spans (Within l r) l r
 spans_within l r h = record { order = h; inner = λ u a b. record { above = le_of_lt a; below = le_of_lt b }; outer = λ u m. m }

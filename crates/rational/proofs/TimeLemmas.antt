@@ -9,18 +9,23 @@ use Rattle.rational.specs.Time.{Rational, Within, ◌≤ʳ◌, ◌<ʳ◌, ◌≈
 pub later_from : (t : Rational) (k : ℕ) → t ≤ʳ later t k
 later_from t k = record { le = omega arith }
 
+-- a longer way leads no less far
 pub later_more : (t : Rational) (j k : ℕ) → j ≤ k → later t j ≤ʳ later t k
 later_more t j k h = record { le = omega (arith, mul-le-mul_right (t.den * t.den) h) }
 
+-- a way keeps the order
 pub later_le : {t u : Rational} (k : ℕ) → t ≤ʳ u → later t k ≤ʳ later u k
 later_le {t} {u} k h = record { le = omega (arith, h.le) }
 
+-- a way from one time, by whichever pair, leads to one time
 pub same_later : {t u : Rational} (k : ℕ) → t ≈ u → later t k ≈ later u k
 same_later {t} {u} k h = record { same = omega (arith, h.same) }
 
+-- so for a move either way
 pub same_shifted : {t u : Rational} (k : ℤ) → t ≈ u → shifted t k ≈ shifted u k
 same_shifted {t} {u} k h = record { same = omega (arith, h.same) }
 
+-- and for a multiple
 pub same_times : {t u : Rational} (k : ℤ) → t ≈ u → times k t ≈ times k u
 same_times {t} {u} k h = record { same = omega (arith, ap (λ n. n * part_above k) h.same, ap (λ n. n * part_below k) h.same) }
 
@@ -29,10 +34,12 @@ pub precedes_after : (b : Bool) (t u v : Rational) → t ≤ʳ u → Precedes b 
 precedes_after true t u v h k = le_trans h k
 precedes_after false t u v h k = lt_of_le_of_lt h k
 
+-- the order with an end in or out may be begun by the order
 pub precedes_before : (b : Bool) (t u v : Rational) → Precedes b t u → u ≤ʳ v → Precedes b t v
 precedes_before true t u v h k = le_trans h k
 precedes_before false t u v h k = lt_of_lt_of_le h k
 
+-- what precedes is at most
 pub precedes_le : (b : Bool) (t u : Rational) → Precedes b t u → t ≤ʳ u
 precedes_le true t u h = h
 precedes_le false t u h = le_of_lt h
@@ -41,9 +48,11 @@ precedes_le false t u h = le_of_lt h
 pub less_out : (t u : Rational) → less t u ≡ true → t <ʳ u
 less_out t u h = record { lt = grind arith }
 
+-- the test says yes below
 pub less_in : (t u : Rational) → t <ʳ u → less t u ≡ true
 less_in t u h = let k = h.lt in grind arith
 
+-- and no at or above
 pub less_no : (t u : Rational) → u ≤ʳ t → less t u ≡ false
 less_no t u h = let k = h.le in grind arith
 
@@ -60,6 +69,7 @@ pub Precedes-is_prop : (b : Bool) (t u : Rational) → IsProp (Precedes b t u)
 Precedes-is_prop true t u = hlevel props
 Precedes-is_prop false t u = hlevel props
 
+-- below precedes, whether the end is in or out
 pub precedes_of_lt : (b : Bool) (t u : Rational) → t <ʳ u → Precedes b t u
 precedes_of_lt true t u h = le_of_lt h
 precedes_of_lt false t u h = h
@@ -76,6 +86,7 @@ not_empty_of_precedes on h = by_ends on.from_in on.to_in h
     by_ends true false h = inl h
     by_ends false c h = inl h
 
+-- and the other way round
 pub precedes_of_not_empty : (on : Interval) → IsNotEmpty on → Precedes (on.from_in && on.to_in) on.from on.to
 precedes_of_not_empty on (inl l) = precedes_of_lt (on.from_in && on.to_in) on.from on.to l
 precedes_of_not_empty on (inr h) = rw (h.1, h.2) (le_of_same h.0)
@@ -85,6 +96,7 @@ pub room_of_precedes : (b : Bool) (t u : Rational) → Precedes b t u → HasTim
 room_of_precedes true t u h = let k = h.le in record { room = omega (arith, k) }
 room_of_precedes false t u h = let k = h.lt in record { room = omega (arith, k) }
 
+-- and the other way round
 pub precedes_of_room : (b : Bool) (t u : Rational) → HasTimeBetween t u b → Precedes b t u
 precedes_of_room true t u h = let k = h.room in record { le = omega (arith, k) }
 precedes_of_room false t u h = let k = h.room in record { lt = omega (arith, k) }
@@ -100,6 +112,7 @@ IsIn-same {t} {u} on e h = record {
 pub shifted-add : (t : Rational) (k : ℤ) → shifted t k ≈ add t (whole k)
 shifted-add t k = omega arith
 
+-- so for a way to a later time
 pub later-add : (t : Rational) (k : ℕ) → later t k ≈ add t (whole (pos k))
 later-add t k = omega arith
 
@@ -108,6 +121,7 @@ pub decided_order : (b : Bool) (t u : Rational) → Precedes b t u ⊎ ¬ (Prece
 decided_order true t u = elim (le_or_lt t u) [ inl h ↦ inl h | inr h ↦ inr (λ k. not_lt_of_le k h) ]
 decided_order false t u = elim (le_or_lt u t) [ inl h ↦ inr (λ k. not_lt_of_le h k) | inr h ↦ inl h ]
 
+-- so for an interval
 pub decided_in : (on : Interval) (t : Rational) → IsIn on t ⊎ ¬ (IsIn on t)
 decided_in on t = both (decided_order on.from_in on.from t) (decided_order on.to_in t on.to)
   where
@@ -122,6 +136,7 @@ pub record IsLater (t u a : Rational) : Type 0 where
   pub right : u ≤ʳ a
   pub least : (x : Rational) → t ≤ʳ x → u ≤ʳ x → a ≤ʳ x
 
+-- two times have a later one
 pub later_of : (t u : Rational) → (a : Rational) × IsLater t u a
 later_of t u = elim (le_or_lt t u) [
   | inl h ↦ (u, record { left = h; right = le_refl u; least = λ x a b. b })
@@ -133,6 +148,7 @@ pub record IsEarlier (t u a : Rational) : Type 0 where
   pub right : a ≤ʳ u
   pub most : (x : Rational) → x ≤ʳ t → x ≤ʳ u → x ≤ʳ a
 
+-- and an earlier one
 pub earlier_of : (t u : Rational) → (a : Rational) × IsEarlier t u a
 earlier_of t u = elim (le_or_lt t u) [
   | inl h ↦ (t, record { left = le_refl t; right = h; most = λ x a b. a })

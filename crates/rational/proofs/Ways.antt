@@ -19,12 +19,14 @@ sum_parts a b = omega (arith, parts)
 less_parts : (a b : ℤ) → part_above a + part_below b + part_below (a -ℤ b) ≡ part_below a + part_above b + part_above (a -ℤ b)
 less_parts a b = omega (arith, parts)
 
+-- the way from a number to itself stays there
 pub way_starts : (s : ℤ) (x : Rational) → on_way s s x ≈ whole s
 way_starts s x = record { same = omega (arith, ap (λ n. n * x.up) step, ap (λ n. n * x.down) step) }
   where
     step : part_above (s -ℤ s) ≡ part_below (s -ℤ s)
     step = omega (arith, parts)
 
+-- a sum of ways is the way between the sums
 pub way_sum : (s e s' e' : ℤ) (x : Rational) → add (on_way s e x) (on_way s' e' x) ≈ on_way (s +ℤ s') (e +ℤ e') x
 way_sum s e s' e' x = record {
   same = omega (arith, ap (λ n. n * (x.den * x.den * x.den)) (sum_parts s s'), ap (λ n. n * (x.up * x.den * x.den)) rise, ap (λ n. n * (x.down * x.den * x.den)) rise);
@@ -33,6 +35,7 @@ way_sum s e s' e' x = record {
     rise : part_above (e -ℤ s) + part_above (e' -ℤ s') + part_below (e +ℤ e' -ℤ (s +ℤ s')) ≡ part_below (e -ℤ s) + part_below (e' -ℤ s') + part_above (e +ℤ e' -ℤ (s +ℤ s'))
     rise = omega (arith, parts)
 
+-- a multiple of a way is the way between the multiples
 pub way_times : (k s e : ℤ) (x : Rational) → times k (on_way s e x) ≈ on_way (k *ℤ s) (k *ℤ e) x
 way_times k s e x = record {
   same = omega (arith, ap (λ n. n * (x.den * x.den)) (mul_parts k s), ap (λ n. n * (x.up * x.den)) rise, ap (λ n. n * (x.down * x.den)) rise);
@@ -42,6 +45,7 @@ way_times k s e x = record {
         ≡ part_below (k *ℤ e -ℤ k *ℤ s) + (part_above k * part_above (e -ℤ s) + part_below k * part_below (e -ℤ s))
     rise = omega (arith, mul_parts k s, mul_parts k e, less_parts (k *ℤ e) (k *ℤ s), ap (λ n. part_above k * n) (less_parts e s), ap (λ n. part_below k * n) (less_parts e s))
 
+-- a way less a number is the way between the differences
 pub way_less : (s e c : ℤ) (x : Rational) → subtract (on_way s e x) (whole c) ≈ on_way (s -ℤ c) (e -ℤ c) x
 way_less s e c x = record { same = omega (arith, ap (λ n. n * (x.den * x.den)) (less_parts s c), ap (λ n. n * (x.up * x.den)) rise, ap (λ n. n * (x.down * x.den)) rise) }
   where

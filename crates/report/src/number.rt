@@ -95,7 +95,7 @@ pub(crate) fn quotient_in_units(q: &Ratio, digits: u8) -> Lowest
     let (negative, size) = sized(q.num);
     let tens = 10u64.pow(u32::from(digits));
     let den = q.den.unsigned_abs() * u128::from(tens);
-    let common = frac128::gcd(size, den);
+    let common = frac128::gcd_of_wide(size, den);
     Lowest {
         negative,
         size: size / common,

@@ -1,3 +1,4 @@
+//! Lines of verdicts and of the start, byte by byte.
 ghost use Rattle.std.specs.Prelude.{◌≤◌};
 
 use crate::{put_start, put_verdict};

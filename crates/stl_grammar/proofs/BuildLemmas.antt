@@ -19,10 +19,12 @@ use Rattle.stl_grammar.specs.declared.draft.Draft.{Draft}
 use Rattle.stl_grammar.specs.declared.fault.FormulaFault.{FormulaFault}
 use Rattle.stl_grammar.specs.declared.fault.FormulaFault.TheVariants.{ConstantTooLarge, ReachTooLarge}
 
+-- the nodes of joined drafts
 pub nodes_in-append : (s : Scale) (xs ys : List Draft) → nodes_in s (xs ++ ys) ≡ nodes_in s xs ++ nodes_in s ys
 nodes_in-append s [] ys = refl
 nodes_in-append s (x ∷ xs) ys = ap (λ ns. node_in s x ∷ ns) (nodes_in-append s xs ys)
 
+-- as many nodes as drafts
 pub length-nodes_in : (s : Scale) (xs : List Draft) → length (nodes_in s xs) ≡ length xs
 length-nodes_in s [] = refl
 length-nodes_in s (x ∷ xs) = ap suc (length-nodes_in s xs)
@@ -42,6 +44,7 @@ large_is (Since p q a b) h = absurd (cc)
 large_is (Once p a b i j) h = absurd (cc)
 large_is (Historically p a b i j) h = absurd (cc)
 
+-- what is not found large is not
 pub not_large : (n : Node) → is_large n ≡ false → ¬ HasLargeConstant n
 not_large (Leaf a) h l = let e : nat_abs a.limit ≤ 1073741824 = grind (arith, nat_tests, h) in omega (arith, e, l)
 not_large (Const b) h l = l
@@ -72,6 +75,7 @@ first_after xs n ys a l =
         let same : x ≡ other = cc in subst (λ m. is_large m ≡ false) same (All-head (λ m. is_large m ≡ false) x xs a)
     earlier (x ∷ xs) (suc j) other a i e = earlier xs j other (All-tail (λ m. is_large m ≡ false) x xs a) (omega (arith, i)) e
 
+-- where none is large, none is the first
 pub none_first : (ns : List Node) → All (λ m. is_large m ≡ false) ns → (i : ℕ) → ¬ IsFirst HasLargeConstant ns i
 none_first ns a i f = not_large f.node (at_all ns i f.node a f.at) f.is
   where
@@ -80,12 +84,14 @@ none_first ns a i f = not_large f.node (at_all ns i f.node a f.at) f.is
     at_all (x ∷ ns) zero n a e = let same : x ≡ n = cc in subst (λ m. is_large m ≡ false) same (All-head (λ m. is_large m ≡ false) x ns a)
     at_all (x ∷ ns) (suc i) n a e = at_all ns i n (All-tail (λ m. is_large m ≡ false) x ns a) e
 
+-- a list about its element i
 pub drafts_split : (drafts : List Draft) (i : ℕ) (d : Draft) → i < length drafts → d ≡ get_or drafts i d → drafts ≡ take i drafts ++ d ∷ drop (i + 1) drafts
 drafts_split drafts i d l e = sym (take-append-drop i drafts) ∙ ap (λ xs. take i drafts ++ xs) (drop_more drafts i d l ∙ ap (λ x. x ∷ drop (i + 1) drafts) (sym e))
 
 taken_size : (s : Scale) (drafts : List Draft) (i : ℕ) → i ≤ length drafts → length (nodes_in s (take i drafts)) ≡ i
 taken_size s drafts i l = length-nodes_in s (take i drafts) ∙ length-take-le i drafts l
 
+-- a large node after none is the first
 pub first_large : (s : Scale) (drafts : List Draft) (i : ℕ) (d : Draft) → i < length drafts → d ≡ get_or drafts i d → All (λ m. is_large m ≡ false) (nodes_in s (take i drafts))
     → is_large (node_in s d) ≡ true → IsFirst HasLargeConstant (nodes_in s drafts) i
 first_large s drafts i d l e a b =
@@ -101,6 +107,7 @@ more_taken : (s : Scale) (drafts : List Draft) (i : ℕ) (d : Draft) → i < len
 more_taken s drafts i d l e =
     ap (nodes_in s) (take_more drafts i d l ∙ ap (λ x. take i drafts ++ x ∷ []) (sym e)) ∙ nodes_in-append s (take i drafts) (d ∷ [])
 
+-- and one that is not leaves none
 pub none_yet : (s : Scale) (drafts : List Draft) (i : ℕ) (d : Draft) → i < length drafts → d ≡ get_or drafts i d → All (λ m. is_large m ≡ false) (nodes_in s (take i drafts))
     → is_large (node_in s d) ≡ false → All (λ m. is_large m ≡ false) (nodes_in s (take (i + 1) drafts))
 none_yet s drafts i d l e a b =
@@ -108,6 +115,7 @@ none_yet s drafts i d l e a b =
     All-same P (nodes_in s (take (i + 1) drafts)) (nodes_in s (take i drafts) ++ node_in s d ∷ []) (more_taken s drafts i d l e)
     (All-append P (nodes_in s (take i drafts)) (node_in s d ∷ []) a (All-cons P (node_in s d) [] b (All-nil P)))
 
+-- the reach goes on by the next node's own
 pub reach_more : (s : Scale) (drafts : List Draft) (i : ℕ) (d : Draft) → i < length drafts → d ≡ get_or drafts i d
     → reach (nodes_in s (take (i + 1) drafts)) ≡ reach (nodes_in s (take i drafts)) + own_reach (node_in s d)
 reach_more s drafts i d l e =
@@ -151,6 +159,7 @@ next_node s b xs ys d all e f =
     let turned : reverse xs ≡ d ∷ reverse ys = ap reverse f ∙ reverse-append ys (d ∷ []) in
     ap (λ ds. b ++ nodes_in s ds) (sym turned) ∙ e
 
+-- the next node may be built
 pub ready : (s : Scale) (b : List Node) (xs ys : List Draft) (d : Draft) (all : List Node) → b ++ nodes_in s (reverse xs) ≡ all → xs ≡ ys ++ d ∷ []
     → AreNodes all → All (λ m. is_large m ≡ false) all → reach all ≤ 4294967295
     → IsBuildable (node_in s d) × (length b < 256) × MayFollow b (node_in s d) × (reach (b ++ node_in s d ∷ []) ≤ 4294967295)
@@ -158,6 +167,7 @@ ready s b xs ys d all e f a c r =
     let same : all ≡ b ++ node_in s d ∷ nodes_in s (reverse ys) = sym (next_node s b xs ys d all e f) in
     may_add b (node_in s d) (nodes_in s (reverse ys)) (subst AreNodes same a) (All-same (λ m. is_large m ≡ false) (b ++ node_in s d ∷ nodes_in s (reverse ys)) all (sym same) c) (subst (λ ns. reach ns ≤ 4294967295) same r)
 
+-- and once it is, the drafts that are left follow it
 pub pushed : (s : Scale) (b q : List Node) (xs ys : List Draft) (d : Draft) (all : List Node) → b ++ nodes_in s (reverse xs) ≡ all → xs ≡ ys ++ d ∷ []
     → q ≡ b ++ node_in s d ∷ [] → q ++ nodes_in s (reverse ys) ≡ all
 pushed s b q xs ys d all e f g = ap (λ z. z ++ nodes_in s (reverse ys)) g ∙ (append_assoc b (node_in s d ∷ []) (nodes_in s (reverse ys)) ∙ next_node s b xs ys d all e f)
@@ -166,6 +176,7 @@ pushed s b q xs ys d all e f g = ap (λ z. z ++ nodes_in s (reverse ys)) g ∙ (
 pub reach_fault : (ns : List Node) (sum : ℕ) → All (λ m. is_large m ≡ false) ns → sum ≡ reach ns → 4294967295 < sum → IsTooLarge ConstantTooLarge ReachTooLarge ns (ReachTooLarge sum)
 reach_fault ns sum a e l = inr (λ x f. none_first ns a f.0 f.1, (subst (λ n. 4294967295 < n) e l, ap ReachTooLarge e))
 
+-- where none is large and the reach fits, nothing is refused
 pub no_fault : (ns : List Node) → All (λ m. is_large m ≡ false) ns → reach ns ≤ 4294967295 → (r : FormulaFault) → ¬ IsTooLarge ConstantTooLarge ReachTooLarge ns r
 no_fault ns a l r (inl f) = none_first ns a f.0 f.1
 no_fault ns a l r (inr (g, f)) = let h : 4294967295 < reach ns = f.0 in omega (arith, h, l)

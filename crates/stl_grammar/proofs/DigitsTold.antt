@@ -45,6 +45,7 @@ first_same text (Minus ∷ Star ∷ codes) = refl
 first_same text (Minus ∷ Plus ∷ codes) = refl
 first_same text (Minus ∷ Minus ∷ codes) = refl
 
+-- the most decimals of constants
 pub value_same : (text : List ℕ) (codes : List Code) → value_digits (map (plain text) codes) ≡ value_decimals codes
 value_same text [] = refl
 value_same text ((IsKeyword w) ∷ codes) = value_same text codes
@@ -60,6 +61,7 @@ value_same text (Star ∷ codes) = value_same text codes
 value_same text (Plus ∷ codes) = value_same text codes
 value_same text (Minus ∷ codes) = value_same text codes
 
+-- and of bounds
 pub time_same : (text : List ℕ) (codes : List Code) → time_digits (map (plain text) codes) ≡ time_decimals codes
 time_same text [] = refl
 time_same text ((IsKeyword w) ∷ codes) = time_same text codes

@@ -34,6 +34,7 @@ module _ (text : List ℕ) (p : Parse) (codes : List Code) (h : IsRead text p co
   value_is : value_digits (reverse h.before) ≡ value_decimals codes
   value_is = ap value_digits h.told ∙ value_same text codes
 
+  -- its scale is one
   pub read_scale : IsScale (scale_of codes)
   read_scale =
       let d = digits_small text (reverse h.before) h.lexed h.free in
@@ -46,6 +47,7 @@ module _ (text : List ℕ) (p : Parse) (codes : List Code) (h : IsRead text p co
   unfolding nodes
   parsed = taken_formula text h.taken h.ended (scale_of codes)
 
+  -- its drafts are nodes in it
   pub read_nodes : AreNodes (nodes_in (scale_of codes) (settled_drafts 1 p.frames p.drafts))
   unfolding nodes
   read_nodes = nodes_ready text (scale_of codes) h.lexed h.free parsed (omega (arith, time_is))
@@ -62,9 +64,11 @@ module _ (text : List ℕ) (p : Parse) (codes : List Code) (h : IsRead text p co
     parsed = rw (n, s) parsed;
   }
 
+  -- a formula that was built of them is that of the text
   pub built_parsed : (f : Formula) (ns : List Node) → ns ≡ nodes_in (scale_of codes) (settled_drafts 1 p.frames p.drafts) → IsBuilt (scale_of codes) ns f → IsParsed text f
   built_parsed f ns e b = record { parsed = read_text f (b.nodes ∙ e) b.scale; small = λ r t. b.small r (rw (← b.nodes) t) }
 
+  -- where they are too large the text is refused late
   pub late_fault : (r : FormulaFault) (ns : List Node) → ns ≡ nodes_in (scale_of codes) (settled_drafts 1 p.frames p.drafts)
       → IsTooLarge ConstantTooLarge ReachTooLarge ns r → IsLateFault text r
   late_fault r ns e t =
@@ -78,6 +82,7 @@ module _ (text : List ℕ) (short : length text ≤ 8192) (some : all is_blank t
   no_long : ¬ (8192 < length text)
   no_long h = omega (arith, h)
 
+  -- a text that is parsed and that no token refuses is that of the formula
   pub formula_of : (f : Formula) → ((r : FormulaFault) → ¬ TokenFault [] 0 text r) → IsParsed text f → IsFormulaOf text f
   formula_of f free k = record { read = k.parsed; sound = sound }
     where
@@ -87,14 +92,18 @@ module _ (text : List ℕ) (short : length text ≤ 8192) (some : all is_blank t
       sound r (inr (_, inr (_, inl t))) = free r t
       sound r (inr (_, inr (_, inr (_, (g, x, t))))) = let e : g ≡ f = one_formula text g f x k.parsed in k.small r (subst (λ z. IsTooLarge ConstantTooLarge ReachTooLarge z.nodes r) e t)
 
+  -- what a token refuses is a refusal of the text
   pub token_fault : (r : FormulaFault) → TokenFault [] 0 text r → IsFormulaFault text r
   token_fault r t = inr (passed _ _ no_long, inr (passed _ _ no_empty, inl t))
 
+  -- and so is what is refused late, where no token refuses
   pub late_is_fault : (r : FormulaFault) → ((x : FormulaFault) → ¬ TokenFault [] 0 text x) → IsLateFault text r → IsFormulaFault text r
   late_is_fault r free t = inr (passed _ _ no_long, inr (passed _ _ no_empty, inr (free, t)))
 
+-- a text of more than 8,192 bytes is refused for its length
 pub long_fault : (text : List ℕ) → 8192 < length text → IsFormulaFault text (TooLong (length text))
 long_fault text l = inl (l, refl)
 
+-- one of blanks alone as empty
 pub empty_fault : (text : List ℕ) → length text ≤ 8192 → all is_blank text ≡ true → IsFormulaFault text Empty
 empty_fault text l b = inr (passed _ _ (λ h. omega (arith, h, l)), inl (b, refl))

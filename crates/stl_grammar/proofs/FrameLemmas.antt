@@ -8,6 +8,7 @@ use Rattle.stl_grammar.specs.declared.draft.Infix.TheVariants.{And as Both, Or a
 use Rattle.stl_grammar.specs.declared.draft.Frame.{Frame}
 use Rattle.stl_grammar.specs.declared.draft.Frame.TheVariants.{Paren as Opened, Prefix as Before, Infix as Between}
 
+-- a frame adds its own marks
 pub marks_more : (f : Frame) (frames : List Frame) → length (marks_of (f ∷ frames)) ≡ marks_in f + length (marks_of frames)
 marks_more Opened frames = omega arith
 marks_more (Before o) frames = omega arith
@@ -17,6 +18,7 @@ marks_more (Between Both left) frames = omega arith
 marks_more (Between (UpTo w) left) frames = omega arith
 marks_more (Between (After b) left) frames = omega arith
 
+-- of which there is one at most
 pub marks_one : (f : Frame) → marks_in f ≤ 1
 marks_one Opened = omega arith
 marks_one (Before o) = omega arith
@@ -26,15 +28,18 @@ marks_one (Between Both left) = omega arith
 marks_one (Between (UpTo w) left) = omega arith
 marks_one (Between (After b) left) = omega arith
 
+-- so for parentheses
 pub parens_one : (f : Frame) → parens_in f ≤ 1
 parens_one Opened = omega arith
 parens_one (Before o) = omega arith
 parens_one (Between o left) = omega arith
 
+-- there are no more marks than frames
 pub marks_few : (frames : List Frame) → length (marks_of frames) ≤ length frames
 marks_few [] = omega arith
 marks_few (f ∷ frames) = omega (arith, marks_few frames, marks_more f frames, marks_one f)
 
+-- nor more parentheses
 pub parens_few : (frames : List Frame) → parens_of frames ≤ length frames
 parens_few [] = omega arith
 parens_few (f ∷ frames) = omega (arith, parens_few frames, parens_one f)

@@ -65,6 +65,7 @@ some_name : (w : List ℕ) → IsTrue (is_name w) → 0 < length w
 some_name [] h = absurd (cc)
 some_name (c ∷ w) h = omega arith
 
+-- a token that is told is known
 pub tells_known : (text : List ℕ) (c : Code) (t : Token) → Tells text c t → IsKnown text c
 tells_known text (IsKeyword w) t h = tt
 tells_known text (Name from to) t (name, e, at) =
@@ -99,6 +100,7 @@ future_same (Constant rel) n = refl
 future_same (AtNumber rel negative) n = refl
 future_same End n = refl
 
+-- what is expected is that of the place
 pub expected_same : (place : Place) (n : ℕ) (p : Parse) → p.place ≡ place → expected_at (state_of p).place (state_of p).marks ≡ expected_in p
 expected_same Operand n p e = rw e refl
 expected_same (Bound of) n p e = rw e refl
@@ -289,6 +291,7 @@ numbers_alike at_constant st n k m j = (refl, refl)
 numbers_alike at_number st n k m j = (refl, refl)
 numbers_alike at_end st n k m j = tt
 
+-- of two refusals in order, the first where its test says so
 pub choose : {A : Type 0} (P : Type 0) (a : A) (G : A → Type 0) (b : Bool) → (b ≡ true → P) → (b ≡ false → ¬ P) → (rest : Option A) → ((r : A) → rest ≡ Some r → G r)
     → (r : A) → (if b then Some a else rest) ≡ Some r → (Where P a or_else G) r
 choose P a G true y n rest g r e = inl (y refl, cc)
@@ -457,13 +460,20 @@ module _ (text rest : List ℕ) (before : List Token) (p : Parse) (c : Code) (t 
 
   -- what follows from no refusal
   pub record IsTaken (q : Parse) : Type 0 where
+    -- the token, as the code has it
     pub exact : t ≡ plain text c
+    -- the machine goes on by it
     pub next : run (t ∷ before) ≡ Some (state_of q)
+    -- nothing refuses it
     pub free : (x : FormulaFault) → ¬ RefusedAt before t rest at x
+    -- there is room for a node more
     pub few : q.made ≤ 256
+    -- its number does not pass its limit
     pub good : bad_in p.place c ≡ false
+    -- its bound is in order
     pub order : disorder_in p.place c ≡ false
 
+  -- a token that the parser takes is refused by nothing
   pub taken : (q : Parse) → refused text p c rest at ≡ None → parse_step text p c ≡ Some q → IsTaken q
   taken q e f =
       let a = none_of _ _ _ e in

@@ -17,6 +17,7 @@ use Rattle.stl_grammar.proofs.OneParse.{nodes_unique}
 same_formula : (ns ms : List Node) (s t : Scale) → ns ≡ ms → s ≡ t → ◌≡◌ {A = Formula} (record { nodes = ns; scale = s }) (record { nodes = ms; scale = t })
 same_formula ns ms s t e f = cc
 
+-- a text has at most one formula
 pub one_formula : OneFormula
 one_formula text f g h k =
     let e : f.scale ≡ g.scale = scale-unique text f g h k in
@@ -30,5 +31,6 @@ late_unique : (text : List ℕ) → AtMostOne (IsLateFault text)
 late_unique text x y h k =
     let e : h.0 ≡ k.0 = one_formula text h.0 k.0 h.1 k.1 in too_large_unique k.0.nodes x y (rw (← e) h.2) k.2
 
+-- and at most one first refusal
 pub one_refusal : OneRefusal
 one_refusal text = or_else-unique _ _ (where-unique _ _) (or_else-unique _ _ (where-unique _ _) (or_else-unique _ _ (λ x y h k. TokenFault-unique h k) (late_unique text)))

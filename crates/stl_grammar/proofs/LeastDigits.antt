@@ -68,6 +68,7 @@ time_low (word w ∷ pre) post a j = time_low pre post a j
 time_low (relation r ∷ pre) post a j = time_low pre post a j
 time_low (t ∷ pre) post a j = time_low pre post a j
 
+-- the constant after a relation has no more decimals than all
 pub value_low : (pre post : List Token) (r : Rel) → first_decimals post ≤ value_digits (pre ++ relation r ∷ post)
 value_low [] post r = omega arith
 value_low (relation q ∷ pre) post r = let x = value_low pre post r in omega (arith, x)
@@ -209,6 +210,7 @@ scale_is s t v e f = ap (λ z. scale_by z s.value) e ∙ ap (λ z. scale_by t z)
     scale_by : ℕ → ℕ → Scale
     scale_by t v = record { time = t; value = v }
 
+-- the printed text of a formula that was read is read as it
 pub printed_texts_are_read : PrintedTextsAreRead
 printed_texts_are_read f text w least h =
     let (ts, l, d, short) = printed_read f text w h in

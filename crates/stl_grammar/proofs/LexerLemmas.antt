@@ -49,6 +49,7 @@ strict_relation : (text more : List ℕ) (c : ℕ) (strict : Rel) (code : Code) 
 strict_relation text more c strict code len s h m =
     rw (m.0, m.1) (record { bytes = c ∷ []; after = more; token = relation strict; splits = refl; size = refl; reads = h more s; tells = refl })
 
+-- a token that may go on with `=`
 pub a_relation : (text rest : List ℕ) (c : ℕ) (strict weak : Rel) (code : Code) (len : ℕ) → 0 < length rest → get_or rest 0 0 ≡ c
     → ((after : List ℕ) → IsToken (c ∷ 61 ∷ []) after (relation weak))
     → ((after : List ℕ) → StopsAt (λ d. d == 61) after → IsToken (c ∷ []) after (relation strict))
@@ -96,6 +97,7 @@ module _ (text rest : List ℕ) (w v : ℕ) (some : 0 < length rest) (first : is
   digits : 0 < length (take w rest)
   digits = omega (arith, length-take-le w rest within, front_some is_digit rest w some first stops)
 
+  -- a number without decimals
   pub whole_lexeme : (d : Decimal) → begins_decimals (drop w rest) ≡ false → TellsNumber v 0 d → IsLexeme text rest (Number d) w
   whole_lexeme d b h =
       record {
@@ -149,6 +151,7 @@ module _ (text rest : List ℕ) (w v : ℕ) (some : 0 < length rest) (first : is
       let e' : decimals ≡ drop (w + 1) rest = i ∙ ap (drop 1) o ∙ drop-drop 1 w rest in
       decimal_lexeme l k u d (rw o at b) (rw e' at m) (rw e' at f) (rw e' at s) (rw e' at n) (rw e' at z) (rw e' at e) h
 
+  -- so for slices
   pub whole_lexeme_of : (others : List ℕ) → others ≡ drop w rest → (d : Decimal) → begins_decimals others ≡ false → TellsNumber v 0 d → IsLexeme text rest (Number d) w
   whole_lexeme_of others o d b h = whole_lexeme d (rw o at b) h
 
@@ -184,9 +187,11 @@ module _ (text : List ℕ) (at n : ℕ) (place : at < length text) (first : begi
   unfolding bytes
   good_name h = let e : goes_on_word (get_or text at 0) ≡ true = rw first refl in rw (first, front, h) refl
 
+  -- a word of the grammar
   pub keyword_lexeme : (w : Keyword) → take (at + (1 + n) - at) (drop at text) ≡ spelling w → IsLexeme text (drop at text) (IsKeyword w) (1 + n)
   keyword_lexeme w h = read (IsKeyword w) (ap word (sym cut ∙ h))
 
+  -- and a name
   pub name_lexeme : is_among (take (at + (1 + n) - at) (drop at text)) reserved ≡ false → IsLexeme text (drop at text) (Name at (at + (1 + n))) (1 + n)
   name_lexeme h =
       read (Name at (at + (1 + n))) (bytes, refl, record { good = good_name (rw cut at h); after = drop n more; stands = splits; ends = omega (arith, size) })

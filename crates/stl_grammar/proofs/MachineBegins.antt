@@ -686,5 +686,6 @@ may_end h marks whole _ x e = absurd (cc)
 pub run_ends : (before : List Token) (s : State) → run before ≡ Some s → ends_at s.place s.marks ≡ true → MayEnd before
 run_ends before s e f = may_end s.had s.marks (reverse before) s.place (run_holds before s e) f 0
 
+-- what the machine goes on with begins a formula too
 pub step_begins : (before : List Token) (s next : State) (t : Token) → run before ≡ Some s → step s t ≡ Some next → MayBegin (t ∷ before)
 step_begins before s next t e f = run_begins (t ∷ before) next (ap (λ o. step_from o t) e ∙ f)

@@ -20,10 +20,12 @@ abbrev pub go : Option State → List Token → Option State
 go o [] = o
 go o (t ∷ ts) = go (step_from o t) ts
 
+-- going over joined lists
 pub go_append : (o : Option State) (ts us : List Token) → go o (ts ++ us) ≡ go (go o ts) us
 go_append o [] us = refl
 go_append o (t ∷ ts) us = go_append (step_from o t) ts us
 
+-- in two parts
 pub go_then : (o m r : Option State) (ts us : List Token) → go o ts ≡ m → go m us ≡ r → go o (ts ++ us) ≡ r
 go_then o m r ts us e f = go_append o ts us ∙ (ap (λ x. go x us) e ∙ f)
 
@@ -38,12 +40,14 @@ run_go (t ∷ before) =
 abbrev pub st : Place → Bool → List Mark → ℕ → Option State
 st p h marks n = Some (record { place = p; had = h; marks = marks; nodes = n })
 
+-- the tokens of a constant
 pub constant_runs : {digits : ℕ} {vs : List Token} {c : _} → IsConstant digits vs c → (h : Bool) (marks : List Mark) (n : ℕ)
     → go (st at_constant h marks n) vs ≡ st at_end h (without_operators marks) n
 constant_runs plain h marks n = refl
 constant_runs positive h marks n = refl
 constant_runs negative h marks n = refl
 
+-- of a term
 pub term_runs : {ts : List Token} {k : ℕ} {w : List ℕ} → IsTerm ts k w → (j : ℕ) (h : Bool) (marks : List Mark) (n : ℕ)
     → go (st (at_term j) h marks n) ts ≡ st (at_sign (suc j)) h marks n
 term_runs (term_name {w = w} e) j h marks n = rw (name_kind w e) refl
@@ -66,6 +70,7 @@ pub first_runs : {ts : List Token} {k : ℕ} {w : List ℕ} → IsTerm ts k w �
 first_runs (term_name {w = w} e) h marks n = rw (name_kind w e) refl
 first_runs (scaled {w = w} e) h marks n = rw (name_kind w e) refl
 
+-- of an atom with a sign before it
 pub signed_runs : {us : List Token} {t : _} {terms : _} → AreTerms us (t ∷ terms) → (h : Bool) (marks : List Mark) (n : ℕ)
     → (i : ℕ) × (go (st at_operand h marks n) us ≡ st (at_sign i) h marks (suc n))
 signed_runs (more_plus {ts = ts} {us} t u) h marks n =
@@ -95,6 +100,7 @@ window_runs (bound inside outside) h marks n = refl
 window_runs (bound outside inside) h marks n = refl
 window_runs (bound outside outside) h marks n = refl
 
+-- of the bound of until
 pub until_runs : {digits a b : ℕ} {us : List Token} → IsFuture digits us a b → (h : Bool) (marks : List Mark) (n : ℕ)
     → go (st (at_bound of_until) h marks n) us ≡ st at_operand h marks n
 until_runs (bound inside inside) h marks n = refl
@@ -191,6 +197,7 @@ count_is p h marks n m e = ap (λ x. st p h marks x) e
 mutual
   unfolding kind
 
+  -- of a formula
   pub formula_runs : {s : Scale} {k : ℕ} {ts : List Token} {ns : List Node} → IsFormula s k ts ns → (marks : List Mark) (n : ℕ)
       → (h : Bool) × (all : List Mark) × Implied (without_operators marks) all × (go (st at_operand false marks n) ts ≡ st at_end h all (n + length ns))
   formula_runs (disjunct {ns = ns} d) marks n = let r = disjunct_runs d marks n in (r.0, without_operators marks, here, r.1)
@@ -204,6 +211,7 @@ mutual
             (q.3 ∙ count_is at_end q.0 q.1 _ _ (one_after n ns ms (Implies (top k ns) (top (k + length ns) ms)))),
       )
 
+  -- of what `or` joins
   pub disjunct_runs : {s : Scale} {k : ℕ} {ts : List Token} {ns : List Node} → IsDisjunct s k ts ns → (marks : List Mark) (n : ℕ)
       → (h : Bool) × (go (st at_operand false marks n) ts ≡ st at_end h (without_operators marks) (n + length ns))
   disjunct_runs (conjunct c) marks n = conjunct_runs c marks n
@@ -215,6 +223,7 @@ mutual
             (rw without_twice at q.1 ∙ count_is at_end q.0 (without_operators marks) _ _ (one_after n ns ms (Or (top k ns) (top (k + length ns) ms)))),
       )
 
+  -- of what `and` joins
   pub conjunct_runs : {s : Scale} {k : ℕ} {ts : List Token} {ns : List Node} → IsConjunct s k ts ns → (marks : List Mark) (n : ℕ)
       → (h : Bool) × (go (st at_operand false marks n) ts ≡ st at_end h (without_operators marks) (n + length ns))
   conjunct_runs (timed t) marks n = timed_runs t marks n
@@ -226,6 +235,7 @@ mutual
             (rw without_twice at q.1 ∙ count_is at_end q.0 (without_operators marks) _ _ (one_after n ns ms (And (top k ns) (top (k + length ns) ms)))),
       )
 
+  -- of what until and since join
   pub timed_runs : {s : Scale} {k : ℕ} {ts : List Token} {ns : List Node} → IsTimed s k ts ns → (marks : List Mark) (n : ℕ)
       → (h : Bool) × (go (st at_operand false marks n) ts ≡ st at_end h (without_operators marks) (n + length ns))
   timed_runs (operand p) marks n = (false, operand_runs p false marks n)
@@ -250,6 +260,7 @@ mutual
             ∙ (rw without_twice at e ∙ count_is at_end true (without_operators marks) _ _ (one_after n ns ms (Since (top k ns) (top (k + length ns) ms) a b))))),
       )
 
+  -- of an operand
   pub operand_runs : {s : Scale} {k : ℕ} {ts : List Token} {ns : List Node} → IsOperand s k ts ns → (h : Bool) (marks : List Mark) (n : ℕ)
       → go (st at_operand h marks n) ts ≡ st at_end h (without_operators marks) (n + length ns)
   operand_runs (not {k = k} {ts} {ns} p) h marks n = operand_runs p h (operator ∷ marks) (suc n) ∙ count_is at_end h (without_operators marks) _ _ (one_more n ns (Not (top k ns)))
@@ -286,6 +297,7 @@ run_stops before e m =
     let z : go (Some start) (reverse before ++ m.0) ≡ None = go_append (Some start) (reverse before) m.0 ∙ (ap (λ o. go o m.0) (sym (run_go before) ∙ e) ∙ go_none m.0) in
     cc (r.3)
 
+-- a token at which the machine stops begins no formula there
 pub step_stops : (before : List Token) (s : State) (t : Token) → run before ≡ Some s → step s t ≡ None → ¬ MayBegin (t ∷ before)
 step_stops before s t e f = run_stops (t ∷ before) (ap (λ o. step_from o t) e ∙ f)
 
@@ -299,6 +311,7 @@ formula_state before s e {c} {nodes} f =
     let z : in_paren r.1 ≡ false = implied_nothing r.2 in
     (rw (y, z) refl, rw y (omega arith))
 
+-- what the machine has not ended is no formula
 pub run_goes_on : (before : List Token) (s : State) → run before ≡ Some s → ends_at s.place s.marks ≡ false → ¬ MayEnd before
 run_goes_on before s e f m = let x = formula_state before s e m.1 in cc (x.0)
 
@@ -306,5 +319,6 @@ run_goes_on before s e f m = let x = formula_state before s e m.1 in cc (x.0)
 pub formula_nodes : (before : List Token) (s : State) → run before ≡ Some s → {c : Scale} {nodes : List Node} → IsFormula c 0 (reverse before) nodes → s.nodes ≡ length nodes
 formula_nodes before s e f = (formula_state before s e f).1
 
+-- one step more
 pub step_runs : (before : List Token) (s : State) (t : Token) → run before ≡ Some s → run (t ∷ before) ≡ step s t
 step_runs before s t e = ap (λ o. step_from o t) e

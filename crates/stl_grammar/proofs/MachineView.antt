@@ -575,9 +575,11 @@ run_view (t ∷ before) s e = split (run before) refl (λ x f. run_view before x
     split None f g = let z = rw f at e in absurd (cc)
     split (Some x) f g = step_view x.had x.marks x.nodes x.place before (g x f) t s (rw f at e)
 
+-- what is expected
 pub run_expected : (before : List Token) (s : State) → run before ≡ Some s → expected before ≡ expected_at s.place s.marks
 run_expected before s e = let v = run_view before s e in shape_expected s.place before s.marks v.shape v.pend
 
+-- what is pending
 pub run_pending : (before : List Token) (s : State) → run before ≡ Some s → pending before ≡ all_pending s.marks
 run_pending before s e = (run_view before s e).pend
 
@@ -585,15 +587,19 @@ all_length : (marks : List Mark) → length (all_pending marks) ≡ length marks
 all_length [] = refl
 all_length (m ∷ marks) = ap (λ n. suc n) (all_length marks)
 
+-- how much
 pub run_depth : (before : List Token) (s : State) → run before ≡ Some s → length (pending before) ≡ length s.marks
 run_depth before s e = ap (λ z. length z) (run_pending before s e) ∙ all_length s.marks
 
+-- how many nodes are made
 pub run_nodes : (before : List Token) (s : State) → run before ≡ Some s → nodes_made before ≡ s.nodes
 run_nodes before s e = (run_view before s e).count
 
+-- how many terms of an atom
 pub run_terms : (before : List Token) (s : State) → run before ≡ Some s → terms_made before ≡ terms_at s.place
 run_terms before s e = (run_view before s e).terms
 
+-- whether a number passes its limit
 pub run_bad_number : (before : List Token) (s : State) → run before ≡ Some s → (n k : ℕ) → is_bad_number before (number n k) ≡ passes_limit (expected_at s.place s.marks) n k
 run_bad_number before s e n k = ap (λ z. passes_limit z n k) (run_expected before s e)
 
@@ -622,6 +628,7 @@ fifth_place at_end marks t = split (in_paren marks)
     split false = refl
 fifth_place p marks t = refl
 
+-- whether a fifth term begins
 pub run_fifth : (before : List Token) (s : State) → run before ≡ Some s → (t : Token) → begins_fifth_term before t ≡ fifth_at s.place t
 run_fifth before s e t =
     fifth_computes before t (expected_at s.place s.marks) (terms_at s.place) (run_expected before s e) (run_terms before s e) ∙ fifth_place s.place s.marks t
@@ -664,6 +671,7 @@ shape_order p before t end_paren = refl
 shape_order p before t end_number = refl
 shape_order p before t (end_signed s) = refl
 
+-- whether a bound is out of order
 pub run_disorder : (before : List Token) (s : State) → run before ≡ Some s → (t : Token) → is_out_of_order before t ≡ disorder_at s.place t
 run_disorder before s e t = shape_order s.place before t (run_view before s e).shape
 
@@ -709,5 +717,6 @@ shape_future p before end_paren = refl
 shape_future p before end_number = refl
 shape_future p before (end_signed s) = refl
 
+-- whether a bound of the future begins
 pub run_future : (before : List Token) (s : State) → run before ≡ Some s → begins_future_bound before ≡ future_at s.place
 run_future before s e = shape_future s.place before (run_view before s e).shape

@@ -387,6 +387,7 @@ module _ (s : Scale) (n : ℕ) (same : OperandSame s n) where
       let y = formula_same (k + length ns) r r' i f g e (rw x.0 d) (same_rest _ _ _ _ x.1) in
       (rw (x.0, y.0) refl, y.1)
 
+-- an operand has a token
 pub operand_length : {s : Scale} {k : ℕ} {ts : List Token} {ns : List Node} → IsOperand s k ts ns → 1 ≤ length ts
 operand_length (not p) = omega arith
 operand_length (eventually b p) = omega arith

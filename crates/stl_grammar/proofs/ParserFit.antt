@@ -28,6 +28,7 @@ abbrev pub Holds : (Parse → Type 0) → Option Parse → Type 0
 Holds P None = Unit {0}
 Holds P (Some p) = P p
 
+-- settling keeps frames in order
 pub settled_ordered : (r : ℕ) (frames : List Frame) → ordered frames ≡ true → ordered (settled_frames r frames) ≡ true
 settled_ordered r [] h = refl
 settled_ordered r (Opened ∷ frames) h = by_rank (nat_le r 0) (settled_ordered r frames h)
@@ -46,6 +47,7 @@ settled_ordered r (Between o left ∷ frames) h = by_rank (nat_le r (infix_rank 
     by_rank true more = more
     by_rank false more = h
 
+-- and leaves only those of a lower rank
 pub settled_top : (r : ℕ) (frames : List Frame) → 0 < r → top_rank (settled_frames r frames) < r
 settled_top r [] s = s
 settled_top r (f ∷ frames) s = by_rank (nat_le r (rank f)) refl (settled_top r frames s)
@@ -62,6 +64,7 @@ pub ended_fit : (drafts : List Draft) (frames : List Frame) (made : ℕ) → ord
     → IsFit (record { place = End; frames = settled_frames 5 frames; drafts = drafts; terms = []; made = made })
 ended_fit drafts frames made h = record { order = settled_ordered 5 frames h; place = (refl, settled_top 5 frames (omega arith)) }
 
+-- frames stay in order where an operand begins
 pub begin_fit : (text : List ℕ) (place : Place) (frames : List Frame) (drafts : List Draft) (made : ℕ) (t : Code) → ordered frames ≡ true
     → Holds IsFit (begin_operand text (record { place = place; frames = frames; drafts = drafts; terms = []; made = made }) t)
 begin_fit text place frames drafts made (IsKeyword True) h = ended_fit _ frames (suc made) h
@@ -100,10 +103,12 @@ close_fit place (Between Both left ∷ frames) drafts made h = close_fit place f
 close_fit place (Between (UpTo w) left ∷ frames) drafts made h = close_fit place frames drafts made (order_next (UpTo w) left frames h).1
 close_fit place (Between (After b) left ∷ frames) drafts made h = close_fit place frames drafts made (order_next (After b) left frames h).1
 
+-- frames stay in order where an operand is expected
 pub operand_fit : (text : List ℕ) (frames : List Frame) (drafts : List Draft) (terms : List Term) (made : ℕ) (t : Code) → IsFit (record { place = Operand; frames = frames; drafts = drafts; terms = terms; made = made })
     → Holds IsFit (parse_step text (record { place = Operand; frames = frames; drafts = drafts; terms = terms; made = made }) t)
 operand_fit text frames drafts terms made t h = let e : terms ≡ [] = h.place in rw e (begin_fit text Operand frames drafts made t h.order)
 
+-- frames stay in order at the lower number of a bound
 pub low_fit : (text : List ℕ) (of : Timed) (low_in : Bool) (frames : List Frame) (drafts : List Draft) (terms : List Term) (made : ℕ) (t : Code) → IsFit (record { place = Low of low_in; frames = frames; drafts = drafts; terms = terms; made = made })
     → Holds IsFit (parse_step text (record { place = Low of low_in; frames = frames; drafts = drafts; terms = terms; made = made }) t)
 low_fit text of low_in frames drafts terms made (IsKeyword w) h = tt
@@ -119,6 +124,7 @@ low_fit text of low_in frames drafts terms made Star h = tt
 low_fit text of low_in frames drafts terms made Plus h = tt
 low_fit text of low_in frames drafts terms made Minus h = tt
 
+-- frames stay in order at the comma of a bound
 pub comma_fit : (text : List ℕ) (of : Timed) (low_in : Bool) (low : Decimal) (frames : List Frame) (drafts : List Draft) (terms : List Term) (made : ℕ) (t : Code) → IsFit (record { place = AtComma of low_in low; frames = frames; drafts = drafts; terms = terms; made = made })
     → Holds IsFit (parse_step text (record { place = AtComma of low_in low; frames = frames; drafts = drafts; terms = terms; made = made }) t)
 comma_fit text of low_in low frames drafts terms made (IsKeyword w) h = tt
@@ -144,6 +150,7 @@ inf_fit text TAlways low_in low frames drafts terms made h = tt
 inf_fit text TOnce low_in low frames drafts terms made h = record { order = h.order; place = h.place }
 inf_fit text THistorically low_in low frames drafts terms made h = record { order = h.order; place = h.place }
 
+-- frames stay in order at the upper number of a bound
 pub high_fit : (text : List ℕ) (of : Timed) (low_in : Bool) (low : Decimal) (frames : List Frame) (drafts : List Draft) (terms : List Term) (made : ℕ) (t : Code) → IsFit (record { place = High of low_in low; frames = frames; drafts = drafts; terms = terms; made = made })
     → Holds IsFit (parse_step text (record { place = High of low_in low; frames = frames; drafts = drafts; terms = terms; made = made }) t)
 high_fit text of low_in low frames drafts terms made (IsKeyword True) h = tt
@@ -205,6 +212,7 @@ closing_inf_CloseBracket text BSince low_in low frames drafts terms made h = rec
 closing_inf_CloseBracket text BOnce low_in low frames drafts terms made h = record { order = h.order; place = h.place.0 }
 closing_inf_CloseBracket text BHistorically low_in low frames drafts terms made h = record { order = h.order; place = h.place.0 }
 
+-- frames stay in order at the bracket that closes a bound
 pub closing_fit : (text : List ℕ) (of : Timed) (low_in : Bool) (low high : Decimal) (frames : List Frame) (drafts : List Draft) (terms : List Term) (made : ℕ) (t : Code) → IsFit (record { place = Closing of low_in low high; frames = frames; drafts = drafts; terms = terms; made = made })
     → Holds IsFit (parse_step text (record { place = Closing of low_in low high; frames = frames; drafts = drafts; terms = terms; made = made }) t)
 closing_fit text of low_in low high frames drafts terms made (IsKeyword w) h = tt
@@ -220,6 +228,7 @@ closing_fit text of low_in low high frames drafts terms made Star h = tt
 closing_fit text of low_in low high frames drafts terms made Plus h = tt
 closing_fit text of low_in low high frames drafts terms made Minus h = tt
 
+-- frames stay in order at the bracket after `inf`
 pub closing_inf_fit : (text : List ℕ) (of : Back) (low_in : Bool) (low : Decimal) (frames : List Frame) (drafts : List Draft) (terms : List Term) (made : ℕ) (t : Code) → IsFit (record { place = ClosingInf of low_in low; frames = frames; drafts = drafts; terms = terms; made = made })
     → Holds IsFit (parse_step text (record { place = ClosingInf of low_in low; frames = frames; drafts = drafts; terms = terms; made = made }) t)
 closing_inf_fit text of low_in low frames drafts terms made (IsKeyword w) h = tt
@@ -235,6 +244,7 @@ closing_inf_fit text of low_in low frames drafts terms made Star h = tt
 closing_inf_fit text of low_in low frames drafts terms made Plus h = tt
 closing_inf_fit text of low_in low frames drafts terms made Minus h = tt
 
+-- frames stay in order at a term
 pub term_fit : (text : List ℕ) (negative : Bool) (frames : List Frame) (drafts : List Draft) (terms : List Term) (made : ℕ) (t : Code) → IsFit (record { place = AtTerm negative; frames = frames; drafts = drafts; terms = terms; made = made })
     → Holds IsFit (parse_step text (record { place = AtTerm negative; frames = frames; drafts = drafts; terms = terms; made = made }) t)
 term_fit text negative frames drafts terms made (IsKeyword w) h = tt
@@ -250,6 +260,7 @@ term_fit text negative frames drafts terms made Star h = tt
 term_fit text negative frames drafts terms made Plus h = tt
 term_fit text negative frames drafts terms made Minus h = tt
 
+-- frames stay in order at the star of a coefficient
 pub star_fit : (text : List ℕ) (negative : Bool) (coef : Decimal) (frames : List Frame) (drafts : List Draft) (terms : List Term) (made : ℕ) (t : Code) → IsFit (record { place = AtStar negative coef; frames = frames; drafts = drafts; terms = terms; made = made })
     → Holds IsFit (parse_step text (record { place = AtStar negative coef; frames = frames; drafts = drafts; terms = terms; made = made }) t)
 star_fit text negative coef frames drafts terms made (IsKeyword w) h = tt
@@ -265,6 +276,7 @@ star_fit text negative coef frames drafts terms made Star h = record { order = h
 star_fit text negative coef frames drafts terms made Plus h = tt
 star_fit text negative coef frames drafts terms made Minus h = tt
 
+-- frames stay in order at the name of a term
 pub name_fit : (text : List ℕ) (negative : Bool) (coef : Decimal) (frames : List Frame) (drafts : List Draft) (terms : List Term) (made : ℕ) (t : Code) → IsFit (record { place = AtName negative coef; frames = frames; drafts = drafts; terms = terms; made = made })
     → Holds IsFit (parse_step text (record { place = AtName negative coef; frames = frames; drafts = drafts; terms = terms; made = made }) t)
 name_fit text negative coef frames drafts terms made (IsKeyword w) h = tt
@@ -280,6 +292,7 @@ name_fit text negative coef frames drafts terms made Star h = tt
 name_fit text negative coef frames drafts terms made Plus h = tt
 name_fit text negative coef frames drafts terms made Minus h = tt
 
+-- frames stay in order after a term
 pub sign_fit : (text : List ℕ) (frames : List Frame) (drafts : List Draft) (terms : List Term) (made : ℕ) (t : Code) → IsFit (record { place = Sign; frames = frames; drafts = drafts; terms = terms; made = made })
     → Holds IsFit (parse_step text (record { place = Sign; frames = frames; drafts = drafts; terms = terms; made = made }) t)
 sign_fit text frames drafts terms made (IsKeyword w) h = tt
@@ -295,6 +308,7 @@ sign_fit text frames drafts terms made Star h = tt
 sign_fit text frames drafts terms made Plus h = record { order = h.order; place = tt }
 sign_fit text frames drafts terms made Minus h = record { order = h.order; place = tt }
 
+-- frames stay in order at a constant
 pub constant_fit : (text : List ℕ) (rel : Rel) (frames : List Frame) (drafts : List Draft) (terms : List Term) (made : ℕ) (t : Code) → IsFit (record { place = Constant rel; frames = frames; drafts = drafts; terms = terms; made = made })
     → Holds IsFit (parse_step text (record { place = Constant rel; frames = frames; drafts = drafts; terms = terms; made = made }) t)
 constant_fit text rel frames drafts terms made (IsKeyword w) h = tt
@@ -310,6 +324,7 @@ constant_fit text rel frames drafts terms made Star h = tt
 constant_fit text rel frames drafts terms made Plus h = record { order = h.order; place = tt }
 constant_fit text rel frames drafts terms made Minus h = record { order = h.order; place = tt }
 
+-- frames stay in order at the number of a constant
 pub number_fit : (text : List ℕ) (rel : Rel) (negative : Bool) (frames : List Frame) (drafts : List Draft) (terms : List Term) (made : ℕ) (t : Code) → IsFit (record { place = AtNumber rel negative; frames = frames; drafts = drafts; terms = terms; made = made })
     → Holds IsFit (parse_step text (record { place = AtNumber rel negative; frames = frames; drafts = drafts; terms = terms; made = made }) t)
 number_fit text rel negative frames drafts terms made (IsKeyword w) h = tt
@@ -332,6 +347,7 @@ beside of frames drafts terms made false e b z h =
     let low : top_rank frames < 4 = grind (arith, nat_tests, e) in
     record { order = h; place = (z, rw b low) }
 
+-- frames stay in order after a whole operand
 pub end_fit : (text : List ℕ) (frames : List Frame) (drafts : List Draft) (terms : List Term) (made : ℕ) (t : Code) → IsFit (record { place = End; frames = frames; drafts = drafts; terms = terms; made = made })
     → Holds IsFit (parse_step text (record { place = End; frames = frames; drafts = drafts; terms = terms; made = made }) t)
 end_fit text frames drafts terms made (IsKeyword True) h = tt
@@ -365,6 +381,7 @@ left_out text BSince frames drafts made t h s = begin_fit text Operand (Between 
 left_out text BOnce frames drafts made t h s = begin_fit text Operand (back_frame BOnce Whole (length drafts - 1) ∷ frames) drafts made t h
 left_out text BHistorically frames drafts made t h s = begin_fit text Operand (back_frame BHistorically Whole (length drafts - 1) ∷ frames) drafts made t h
 
+-- frames stay in order after `until`
 pub bound_TUntil : (text : List ℕ) (frames : List Frame) (drafts : List Draft) (terms : List Term) (made : ℕ) (t : Code) → IsFit (record { place = Bound TUntil; frames = frames; drafts = drafts; terms = terms; made = made })
     → Holds IsFit (parse_step text (record { place = Bound TUntil; frames = frames; drafts = drafts; terms = terms; made = made }) t)
 bound_TUntil text frames drafts terms made (IsKeyword w) h = tt
@@ -380,6 +397,7 @@ bound_TUntil text frames drafts terms made Star h = tt
 bound_TUntil text frames drafts terms made Plus h = tt
 bound_TUntil text frames drafts terms made Minus h = tt
 
+-- frames stay in order after `since`
 pub bound_TSince : (text : List ℕ) (frames : List Frame) (drafts : List Draft) (terms : List Term) (made : ℕ) (t : Code) → IsFit (record { place = Bound TSince; frames = frames; drafts = drafts; terms = terms; made = made })
     → Holds IsFit (parse_step text (record { place = Bound TSince; frames = frames; drafts = drafts; terms = terms; made = made }) t)
 bound_TSince text frames drafts terms made (IsKeyword w) h = let e : terms ≡ [] = h.place.0 in rw e (left_out text BSince frames drafts made (IsKeyword w) h.order h.place.1)
@@ -395,6 +413,7 @@ bound_TSince text frames drafts terms made Star h = tt
 bound_TSince text frames drafts terms made Plus h = let e : terms ≡ [] = h.place.0 in rw e (left_out text BSince frames drafts made Plus h.order h.place.1)
 bound_TSince text frames drafts terms made Minus h = let e : terms ≡ [] = h.place.0 in rw e (left_out text BSince frames drafts made Minus h.order h.place.1)
 
+-- frames stay in order after `eventually`
 pub bound_TEventually : (text : List ℕ) (frames : List Frame) (drafts : List Draft) (terms : List Term) (made : ℕ) (t : Code) → IsFit (record { place = Bound TEventually; frames = frames; drafts = drafts; terms = terms; made = made })
     → Holds IsFit (parse_step text (record { place = Bound TEventually; frames = frames; drafts = drafts; terms = terms; made = made }) t)
 bound_TEventually text frames drafts terms made (IsKeyword w) h = tt
@@ -410,6 +429,7 @@ bound_TEventually text frames drafts terms made Star h = tt
 bound_TEventually text frames drafts terms made Plus h = tt
 bound_TEventually text frames drafts terms made Minus h = tt
 
+-- frames stay in order after `always`
 pub bound_TAlways : (text : List ℕ) (frames : List Frame) (drafts : List Draft) (terms : List Term) (made : ℕ) (t : Code) → IsFit (record { place = Bound TAlways; frames = frames; drafts = drafts; terms = terms; made = made })
     → Holds IsFit (parse_step text (record { place = Bound TAlways; frames = frames; drafts = drafts; terms = terms; made = made }) t)
 bound_TAlways text frames drafts terms made (IsKeyword w) h = tt
@@ -425,6 +445,7 @@ bound_TAlways text frames drafts terms made Star h = tt
 bound_TAlways text frames drafts terms made Plus h = tt
 bound_TAlways text frames drafts terms made Minus h = tt
 
+-- frames stay in order after `once`
 pub bound_TOnce : (text : List ℕ) (frames : List Frame) (drafts : List Draft) (terms : List Term) (made : ℕ) (t : Code) → IsFit (record { place = Bound TOnce; frames = frames; drafts = drafts; terms = terms; made = made })
     → Holds IsFit (parse_step text (record { place = Bound TOnce; frames = frames; drafts = drafts; terms = terms; made = made }) t)
 bound_TOnce text frames drafts terms made (IsKeyword w) h = let e : terms ≡ [] = h.place.0 in rw e (left_out text BOnce frames drafts made (IsKeyword w) h.order h.place.1)
@@ -440,6 +461,7 @@ bound_TOnce text frames drafts terms made Star h = tt
 bound_TOnce text frames drafts terms made Plus h = let e : terms ≡ [] = h.place.0 in rw e (left_out text BOnce frames drafts made Plus h.order h.place.1)
 bound_TOnce text frames drafts terms made Minus h = let e : terms ≡ [] = h.place.0 in rw e (left_out text BOnce frames drafts made Minus h.order h.place.1)
 
+-- frames stay in order after `historically`
 pub bound_THistorically : (text : List ℕ) (frames : List Frame) (drafts : List Draft) (terms : List Term) (made : ℕ) (t : Code) → IsFit (record { place = Bound THistorically; frames = frames; drafts = drafts; terms = terms; made = made })
     → Holds IsFit (parse_step text (record { place = Bound THistorically; frames = frames; drafts = drafts; terms = terms; made = made }) t)
 bound_THistorically text frames drafts terms made (IsKeyword w) h = let e : terms ≡ [] = h.place.0 in rw e (left_out text BHistorically frames drafts made (IsKeyword w) h.order h.place.1)

@@ -32,12 +32,14 @@ reads_last : {text : List ℕ} {p m q : Parse} {ts : List Token} (t : Token) (c 
 reads_last t c done h b e = reads c h b e done
 reads_last t c (reads d g a f r) h b e = reads d g a f (reads_last t c r h b e)
 
+-- what was taken was read from the start
 pub taken_reads : {text : List ℕ} {before : List Token} {p : Parse} → Taken text before p → Reads text empty_parse (reverse before) p
 taken_reads none = done
 taken_reads (more {before = before} t c k h b o e) =
     let x : reverse (t ∷ before) ≡ reverse before ++ t ∷ [] = reverse-append (t ∷ []) before in
     rw x (reads_last t c (taken_reads k) h b e)
 
+-- reading joined tokens is reading one part and then the other
 pub reads_split : {text : List ℕ} {p q : Parse} (ts us : List Token) → Reads text p (ts ++ us) q → (m : Parse) × Reads text p ts m × Reads text m us q
 reads_split {text} {p} {q} [] us r = (p, done, r)
 reads_split (t ∷ ts) us (reads c h b e r) = let x = reads_split ts us r in (x.0, reads c h b e x.1, x.2)
@@ -147,6 +149,7 @@ relation_told text r (Number d) h = let x = told_number d (relation r) h in absu
 relation_told text r (Relation s) h = cc
 relation_told text r _ h = absurd (cc)
 
+-- the code of this token
 pub open_paren_told : (text : List ℕ) (c : Code) → Tells text c open_paren → c ≡ OpenParen
 open_paren_told text (IsKeyword v) h = absurd (cc)
 open_paren_told text (Name from to) h = absurd (cc (h.1))
@@ -155,6 +158,7 @@ open_paren_told text (Relation s) h = absurd (cc)
 open_paren_told text OpenParen h = refl
 open_paren_told text _ h = absurd (cc)
 
+-- the code of this token
 pub close_paren_told : (text : List ℕ) (c : Code) → Tells text c close_paren → c ≡ CloseParen
 close_paren_told text (IsKeyword v) h = absurd (cc)
 close_paren_told text (Name from to) h = absurd (cc (h.1))
@@ -163,6 +167,7 @@ close_paren_told text (Relation s) h = absurd (cc)
 close_paren_told text CloseParen h = refl
 close_paren_told text _ h = absurd (cc)
 
+-- the code of this token
 pub open_bracket_told : (text : List ℕ) (c : Code) → Tells text c open_bracket → c ≡ OpenBracket
 open_bracket_told text (IsKeyword v) h = absurd (cc)
 open_bracket_told text (Name from to) h = absurd (cc (h.1))
@@ -171,6 +176,7 @@ open_bracket_told text (Relation s) h = absurd (cc)
 open_bracket_told text OpenBracket h = refl
 open_bracket_told text _ h = absurd (cc)
 
+-- the code of this token
 pub close_bracket_told : (text : List ℕ) (c : Code) → Tells text c close_bracket → c ≡ CloseBracket
 close_bracket_told text (IsKeyword v) h = absurd (cc)
 close_bracket_told text (Name from to) h = absurd (cc (h.1))
@@ -179,6 +185,7 @@ close_bracket_told text (Relation s) h = absurd (cc)
 close_bracket_told text CloseBracket h = refl
 close_bracket_told text _ h = absurd (cc)
 
+-- the code of this token
 pub comma_told : (text : List ℕ) (c : Code) → Tells text c comma → c ≡ Comma
 comma_told text (IsKeyword v) h = absurd (cc)
 comma_told text (Name from to) h = absurd (cc (h.1))
@@ -187,6 +194,7 @@ comma_told text (Relation s) h = absurd (cc)
 comma_told text Comma h = refl
 comma_told text _ h = absurd (cc)
 
+-- the code of this token
 pub star_told : (text : List ℕ) (c : Code) → Tells text c star → c ≡ Star
 star_told text (IsKeyword v) h = absurd (cc)
 star_told text (Name from to) h = absurd (cc (h.1))
@@ -195,6 +203,7 @@ star_told text (Relation s) h = absurd (cc)
 star_told text Star h = refl
 star_told text _ h = absurd (cc)
 
+-- the code of this token
 pub plus_told : (text : List ℕ) (c : Code) → Tells text c plus → c ≡ Plus
 plus_told text (IsKeyword v) h = absurd (cc)
 plus_told text (Name from to) h = absurd (cc (h.1))
@@ -203,6 +212,7 @@ plus_told text (Relation s) h = absurd (cc)
 plus_told text Plus h = refl
 plus_told text _ h = absurd (cc)
 
+-- the code of this token
 pub minus_told : (text : List ℕ) (c : Code) → Tells text c minus → c ≡ Minus
 minus_told text (IsKeyword v) h = absurd (cc)
 minus_told text (Name from to) h = absurd (cc (h.1))
@@ -228,6 +238,7 @@ too_large (Constant rel) d e = rw (past_six d.decimals e) refl
 too_large (AtNumber rel negative) d e = rw (past_six d.decimals e) refl
 too_large _ d e = rw (past_none d.decimals e) refl
 
+-- a number that is not refused is told exactly
 pub number_told : (text : List ℕ) (place : Place) (n k : ℕ) (c : Code) → Tells text c (number n k) → bad_in place c ≡ false
     → (d : Decimal) × (c ≡ Number d) × (d.value ≡ n) × (d.decimals ≡ k)
 number_told text place n k (IsKeyword v) h b = absurd (cc)
@@ -261,5 +272,6 @@ stepped_name {text} {p} {q} {w} {ts} g (reads {m = m} c h b e r) =
     let x = name_told text w c g h in
     (x.0, x.1, x.3, λ a f. let y : parse_step text p (Name x.0 x.1) ≡ Some m = rw x.2 at e in let z : a ≡ m = cc in rw z r)
 
+-- no tokens leave the parser as it was
 pub reads_none : {text : List ℕ} {p q : Parse} → Reads text p [] q → p ≡ q
 reads_none done = refl

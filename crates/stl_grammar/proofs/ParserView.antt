@@ -65,9 +65,12 @@ FitsPlace _ frames terms = Unit {0}
 
 -- what each state of a parser keeps
 pub record IsFit (p : Parse) : Type 0 where
+  -- the frames are in the order of their ranks
   pub order : ordered p.frames ≡ true
+  -- and they are those of the place
   pub place : FitsPlace p.place p.frames p.terms
 
+-- under a frame that waits for its right side the others are of a lower rank
 pub order_next : (o : Infix) (left : ℕ) (frames : List Frame) → ordered (Between o left ∷ frames) ≡ true → (top_rank frames < left_rank o) × (ordered frames ≡ true)
 order_next o left frames h =
     let p = and_parts (nat_lt (top_rank frames) (left_rank o)) (ordered frames) h in
@@ -95,6 +98,7 @@ settled_had (Between Both left ∷ frames) = refl
 settled_had (Between (UpTo w) left ∷ frames) = refl
 settled_had (Between (After b) left ∷ frames) = refl
 
+-- settling leaves the marks that are no operators
 pub settled_marks : (frames : List Frame) → ordered frames ≡ true → marks_of (settled_frames 5 frames) ≡ without_operators (marks_of frames)
 settled_marks [] h = refl
 settled_marks (Opened ∷ frames) h = refl
@@ -144,6 +148,7 @@ joined_marks r (Between (After b) left ∷ frames) s h l =
     by_rank true more = more
     by_rank false more = refl
 
+-- whether an until or since stands beside
 pub had_is : (frames : List Frame) → top_rank frames < 5 → nat_le 4 (top_rank frames) ≡ had_of frames
 had_is [] l = refl
 had_is (Opened ∷ frames) l = refl
@@ -154,6 +159,7 @@ had_is (Between Both left ∷ frames) l = refl
 had_is (Between (UpTo w) left ∷ frames) l = refl
 had_is (Between (After b) left ∷ frames) l = refl
 
+-- a name is no word of the grammar
 pub free_name : (w : List ℕ) → IsTrue (is_name w) → is_among w reserved ≡ false
 free_name [] h = absurd (cc)
 free_name (c ∷ w) h = turned (is_among (c ∷ w) reserved) (and_parts (begins_word c && all goes_on_word w) (not (is_among (c ∷ w) reserved)) h).1
@@ -162,6 +168,7 @@ free_name (c ∷ w) h = turned (is_among (c ∷ w) reserved) (and_parts (begins_
     turned true e = absurd (cc)
     turned false e = refl
 
+-- so a token that is told as a name is one
 pub known_kind : (text : List ℕ) (from to : ℕ) → IsKnown text (Name from to) → kind (between from to text) ≡ a_name
 known_kind text from to k = name_kind (between from to text) (free_name (between from to text) k.2)
 
@@ -215,11 +222,13 @@ close_view place (Between Both left ∷ frames) drafts made h = close_view place
 close_view place (Between (UpTo w) left ∷ frames) drafts made h = close_view place frames drafts made (order_next (UpTo w) left frames h).1
 close_view place (Between (After b) left ∷ frames) drafts made h = close_view place frames drafts made (order_next (After b) left frames h).1
 
+-- a step where an operand is expected is one of the machine
 pub operand_view : (text : List ℕ) (frames : List Frame) (drafts : List Draft) (terms : List Term) (made : ℕ) (t : Code) → IsKnown text t → IsFit (record { place = Operand; frames = frames; drafts = drafts; terms = terms; made = made })
     → option_map state_of (parse_step text (record { place = Operand; frames = frames; drafts = drafts; terms = terms; made = made }) t)
     ≡ step (state_of (record { place = Operand; frames = frames; drafts = drafts; terms = terms; made = made })) (plain text t)
 operand_view text frames drafts terms made t k h = let e : terms ≡ [] = h.place in rw e (begin_view text Operand at_operand frames drafts made t k h.order)
 
+-- a step at the lower number of a bound is one of the machine
 pub low_view : (text : List ℕ) (of : Timed) (low_in : Bool) (frames : List Frame) (drafts : List Draft) (terms : List Term) (made : ℕ) (t : Code) → IsKnown text t → IsFit (record { place = Low of low_in; frames = frames; drafts = drafts; terms = terms; made = made })
     → option_map state_of (parse_step text (record { place = Low of low_in; frames = frames; drafts = drafts; terms = terms; made = made }) t)
     ≡ step (state_of (record { place = Low of low_in; frames = frames; drafts = drafts; terms = terms; made = made })) (plain text t)
@@ -236,6 +245,7 @@ low_view text of low_in frames drafts terms made Star k h = refl
 low_view text of low_in frames drafts terms made Plus k h = refl
 low_view text of low_in frames drafts terms made Minus k h = refl
 
+-- a step at the comma of a bound is one of the machine
 pub comma_view : (text : List ℕ) (of : Timed) (low_in : Bool) (low : Decimal) (frames : List Frame) (drafts : List Draft) (terms : List Term) (made : ℕ) (t : Code) → IsKnown text t → IsFit (record { place = AtComma of low_in low; frames = frames; drafts = drafts; terms = terms; made = made })
     → option_map state_of (parse_step text (record { place = AtComma of low_in low; frames = frames; drafts = drafts; terms = terms; made = made }) t)
     ≡ step (state_of (record { place = AtComma of low_in low; frames = frames; drafts = drafts; terms = terms; made = made })) (plain text t)
@@ -263,6 +273,7 @@ inf_view text TAlways low_in low frames drafts terms made = refl
 inf_view text TOnce low_in low frames drafts terms made = refl
 inf_view text THistorically low_in low frames drafts terms made = refl
 
+-- a step at the upper number of a bound is one of the machine
 pub high_view : (text : List ℕ) (of : Timed) (low_in : Bool) (low : Decimal) (frames : List Frame) (drafts : List Draft) (terms : List Term) (made : ℕ) (t : Code) → IsKnown text t → IsFit (record { place = High of low_in low; frames = frames; drafts = drafts; terms = terms; made = made })
     → option_map state_of (parse_step text (record { place = High of low_in low; frames = frames; drafts = drafts; terms = terms; made = made }) t)
     ≡ step (state_of (record { place = High of low_in low; frames = frames; drafts = drafts; terms = terms; made = made })) (plain text t)
@@ -326,6 +337,7 @@ closing_inf_OpenBracket text BSince low_in low frames drafts terms made = refl
 closing_inf_OpenBracket text BOnce low_in low frames drafts terms made = refl
 closing_inf_OpenBracket text BHistorically low_in low frames drafts terms made = refl
 
+-- a step at the bracket that closes a bound is one of the machine
 pub closing_view : (text : List ℕ) (of : Timed) (low_in : Bool) (low high : Decimal) (frames : List Frame) (drafts : List Draft) (terms : List Term) (made : ℕ) (t : Code) → IsKnown text t → IsFit (record { place = Closing of low_in low high; frames = frames; drafts = drafts; terms = terms; made = made })
     → option_map state_of (parse_step text (record { place = Closing of low_in low high; frames = frames; drafts = drafts; terms = terms; made = made }) t)
     ≡ step (state_of (record { place = Closing of low_in low high; frames = frames; drafts = drafts; terms = terms; made = made })) (plain text t)
@@ -342,6 +354,7 @@ closing_view text of low_in low high frames drafts terms made Star k h = refl
 closing_view text of low_in low high frames drafts terms made Plus k h = refl
 closing_view text of low_in low high frames drafts terms made Minus k h = refl
 
+-- a step at the bracket after `inf` is one of the machine
 pub closing_inf_view : (text : List ℕ) (of : Back) (low_in : Bool) (low : Decimal) (frames : List Frame) (drafts : List Draft) (terms : List Term) (made : ℕ) (t : Code) → IsKnown text t → IsFit (record { place = ClosingInf of low_in low; frames = frames; drafts = drafts; terms = terms; made = made })
     → option_map state_of (parse_step text (record { place = ClosingInf of low_in low; frames = frames; drafts = drafts; terms = terms; made = made }) t)
     ≡ step (state_of (record { place = ClosingInf of low_in low; frames = frames; drafts = drafts; terms = terms; made = made })) (plain text t)
@@ -361,6 +374,7 @@ closing_inf_view text of low_in low frames drafts terms made Minus k h = refl
 length_more : (terms : List Term) (t : Term) → length (terms ++ t ∷ []) ≡ suc (length terms)
 length_more terms t = omega (arith, length_push terms t)
 
+-- a step at a term is one of the machine
 pub term_view : (text : List ℕ) (negative : Bool) (frames : List Frame) (drafts : List Draft) (terms : List Term) (made : ℕ) (t : Code) → IsKnown text t → IsFit (record { place = AtTerm negative; frames = frames; drafts = drafts; terms = terms; made = made })
     → option_map state_of (parse_step text (record { place = AtTerm negative; frames = frames; drafts = drafts; terms = terms; made = made }) t)
     ≡ step (state_of (record { place = AtTerm negative; frames = frames; drafts = drafts; terms = terms; made = made })) (plain text t)
@@ -390,6 +404,7 @@ term_view text negative frames drafts terms made Star k h = refl
 term_view text negative frames drafts terms made Plus k h = refl
 term_view text negative frames drafts terms made Minus k h = refl
 
+-- a step at the star of a coefficient is one of the machine
 pub star_view : (text : List ℕ) (negative : Bool) (coef : Decimal) (frames : List Frame) (drafts : List Draft) (terms : List Term) (made : ℕ) (t : Code) → IsKnown text t → IsFit (record { place = AtStar negative coef; frames = frames; drafts = drafts; terms = terms; made = made })
     → option_map state_of (parse_step text (record { place = AtStar negative coef; frames = frames; drafts = drafts; terms = terms; made = made }) t)
     ≡ step (state_of (record { place = AtStar negative coef; frames = frames; drafts = drafts; terms = terms; made = made })) (plain text t)
@@ -406,6 +421,7 @@ star_view text negative coef frames drafts terms made Star k h = refl
 star_view text negative coef frames drafts terms made Plus k h = refl
 star_view text negative coef frames drafts terms made Minus k h = refl
 
+-- a step at the name of a term is one of the machine
 pub name_view : (text : List ℕ) (negative : Bool) (coef : Decimal) (frames : List Frame) (drafts : List Draft) (terms : List Term) (made : ℕ) (t : Code) → IsKnown text t → IsFit (record { place = AtName negative coef; frames = frames; drafts = drafts; terms = terms; made = made })
     → option_map state_of (parse_step text (record { place = AtName negative coef; frames = frames; drafts = drafts; terms = terms; made = made }) t)
     ≡ step (state_of (record { place = AtName negative coef; frames = frames; drafts = drafts; terms = terms; made = made })) (plain text t)
@@ -435,6 +451,7 @@ name_view text negative coef frames drafts terms made Star k h = refl
 name_view text negative coef frames drafts terms made Plus k h = refl
 name_view text negative coef frames drafts terms made Minus k h = refl
 
+-- a step after a term is one of the machine
 pub sign_view : (text : List ℕ) (frames : List Frame) (drafts : List Draft) (terms : List Term) (made : ℕ) (t : Code) → IsKnown text t → IsFit (record { place = Sign; frames = frames; drafts = drafts; terms = terms; made = made })
     → option_map state_of (parse_step text (record { place = Sign; frames = frames; drafts = drafts; terms = terms; made = made }) t)
     ≡ step (state_of (record { place = Sign; frames = frames; drafts = drafts; terms = terms; made = made })) (plain text t)
@@ -451,6 +468,7 @@ sign_view text frames drafts terms made Star k h = refl
 sign_view text frames drafts terms made Plus k h = refl
 sign_view text frames drafts terms made Minus k h = refl
 
+-- a step at a constant is one of the machine
 pub constant_view : (text : List ℕ) (rel : Rel) (frames : List Frame) (drafts : List Draft) (terms : List Term) (made : ℕ) (t : Code) → IsKnown text t → IsFit (record { place = Constant rel; frames = frames; drafts = drafts; terms = terms; made = made })
     → option_map state_of (parse_step text (record { place = Constant rel; frames = frames; drafts = drafts; terms = terms; made = made }) t)
     ≡ step (state_of (record { place = Constant rel; frames = frames; drafts = drafts; terms = terms; made = made })) (plain text t)
@@ -467,6 +485,7 @@ constant_view text rel frames drafts terms made Star k h = refl
 constant_view text rel frames drafts terms made Plus k h = refl
 constant_view text rel frames drafts terms made Minus k h = refl
 
+-- a step at the number of a constant is one of the machine
 pub number_view : (text : List ℕ) (rel : Rel) (negative : Bool) (frames : List Frame) (drafts : List Draft) (terms : List Term) (made : ℕ) (t : Code) → IsKnown text t → IsFit (record { place = AtNumber rel negative; frames = frames; drafts = drafts; terms = terms; made = made })
     → option_map state_of (parse_step text (record { place = AtNumber rel negative; frames = frames; drafts = drafts; terms = terms; made = made }) t)
     ≡ step (state_of (record { place = AtNumber rel negative; frames = frames; drafts = drafts; terms = terms; made = made })) (plain text t)
@@ -489,6 +508,7 @@ beside : (of : Timed) (frames : List Frame) (drafts : List Draft) (terms : List 
 beside of frames drafts terms made true h = refl
 beside of frames drafts terms made false h = rw h refl
 
+-- a step after a whole operand is one of the machine
 pub end_view : (text : List ℕ) (frames : List Frame) (drafts : List Draft) (terms : List Term) (made : ℕ) (t : Code) → IsKnown text t → IsFit (record { place = End; frames = frames; drafts = drafts; terms = terms; made = made })
     → option_map state_of (parse_step text (record { place = End; frames = frames; drafts = drafts; terms = terms; made = made }) t)
     ≡ step (state_of (record { place = End; frames = frames; drafts = drafts; terms = terms; made = made })) (plain text t)
@@ -528,6 +548,7 @@ left_out text BSince q frames drafts made t k h s =
 left_out text BOnce q frames drafts made t k h s = begin_view text Operand q (back_frame BOnce Whole (length drafts - 1) ∷ frames) drafts made t k h
 left_out text BHistorically q frames drafts made t k h s = begin_view text Operand q (back_frame BHistorically Whole (length drafts - 1) ∷ frames) drafts made t k h
 
+-- a step after `until` is one of the machine
 pub bound_TUntil : (text : List ℕ) (frames : List Frame) (drafts : List Draft) (terms : List Term) (made : ℕ) (t : Code) → IsKnown text t → IsFit (record { place = Bound TUntil; frames = frames; drafts = drafts; terms = terms; made = made })
     → option_map state_of (parse_step text (record { place = Bound TUntil; frames = frames; drafts = drafts; terms = terms; made = made }) t)
     ≡ step (state_of (record { place = Bound TUntil; frames = frames; drafts = drafts; terms = terms; made = made })) (plain text t)
@@ -544,6 +565,7 @@ bound_TUntil text frames drafts terms made Star k h = refl
 bound_TUntil text frames drafts terms made Plus k h = refl
 bound_TUntil text frames drafts terms made Minus k h = refl
 
+-- a step after `since` is one of the machine
 pub bound_TSince : (text : List ℕ) (frames : List Frame) (drafts : List Draft) (terms : List Term) (made : ℕ) (t : Code) → IsKnown text t → IsFit (record { place = Bound TSince; frames = frames; drafts = drafts; terms = terms; made = made })
     → option_map state_of (parse_step text (record { place = Bound TSince; frames = frames; drafts = drafts; terms = terms; made = made }) t)
     ≡ step (state_of (record { place = Bound TSince; frames = frames; drafts = drafts; terms = terms; made = made })) (plain text t)
@@ -560,6 +582,7 @@ bound_TSince text frames drafts terms made Star k h = refl
 bound_TSince text frames drafts terms made Plus k h = let e : terms ≡ [] = h.place.0 in rw e (left_out text BSince (at_bound (owner TSince)) frames drafts made Plus k h.order h.place.1)
 bound_TSince text frames drafts terms made Minus k h = let e : terms ≡ [] = h.place.0 in rw e (left_out text BSince (at_bound (owner TSince)) frames drafts made Minus k h.order h.place.1)
 
+-- a step after `eventually` is one of the machine
 pub bound_TEventually : (text : List ℕ) (frames : List Frame) (drafts : List Draft) (terms : List Term) (made : ℕ) (t : Code) → IsKnown text t → IsFit (record { place = Bound TEventually; frames = frames; drafts = drafts; terms = terms; made = made })
     → option_map state_of (parse_step text (record { place = Bound TEventually; frames = frames; drafts = drafts; terms = terms; made = made }) t)
     ≡ step (state_of (record { place = Bound TEventually; frames = frames; drafts = drafts; terms = terms; made = made })) (plain text t)
@@ -576,6 +599,7 @@ bound_TEventually text frames drafts terms made Star k h = refl
 bound_TEventually text frames drafts terms made Plus k h = refl
 bound_TEventually text frames drafts terms made Minus k h = refl
 
+-- a step after `always` is one of the machine
 pub bound_TAlways : (text : List ℕ) (frames : List Frame) (drafts : List Draft) (terms : List Term) (made : ℕ) (t : Code) → IsKnown text t → IsFit (record { place = Bound TAlways; frames = frames; drafts = drafts; terms = terms; made = made })
     → option_map state_of (parse_step text (record { place = Bound TAlways; frames = frames; drafts = drafts; terms = terms; made = made }) t)
     ≡ step (state_of (record { place = Bound TAlways; frames = frames; drafts = drafts; terms = terms; made = made })) (plain text t)
@@ -592,6 +616,7 @@ bound_TAlways text frames drafts terms made Star k h = refl
 bound_TAlways text frames drafts terms made Plus k h = refl
 bound_TAlways text frames drafts terms made Minus k h = refl
 
+-- a step after `once` is one of the machine
 pub bound_TOnce : (text : List ℕ) (frames : List Frame) (drafts : List Draft) (terms : List Term) (made : ℕ) (t : Code) → IsKnown text t → IsFit (record { place = Bound TOnce; frames = frames; drafts = drafts; terms = terms; made = made })
     → option_map state_of (parse_step text (record { place = Bound TOnce; frames = frames; drafts = drafts; terms = terms; made = made }) t)
     ≡ step (state_of (record { place = Bound TOnce; frames = frames; drafts = drafts; terms = terms; made = made })) (plain text t)
@@ -608,6 +633,7 @@ bound_TOnce text frames drafts terms made Star k h = refl
 bound_TOnce text frames drafts terms made Plus k h = let e : terms ≡ [] = h.place.0 in rw e (left_out text BOnce (at_bound (owner TOnce)) frames drafts made Plus k h.order h.place.1)
 bound_TOnce text frames drafts terms made Minus k h = let e : terms ≡ [] = h.place.0 in rw e (left_out text BOnce (at_bound (owner TOnce)) frames drafts made Minus k h.order h.place.1)
 
+-- a step after `historically` is one of the machine
 pub bound_THistorically : (text : List ℕ) (frames : List Frame) (drafts : List Draft) (terms : List Term) (made : ℕ) (t : Code) → IsKnown text t → IsFit (record { place = Bound THistorically; frames = frames; drafts = drafts; terms = terms; made = made })
     → option_map state_of (parse_step text (record { place = Bound THistorically; frames = frames; drafts = drafts; terms = terms; made = made }) t)
     ≡ step (state_of (record { place = Bound THistorically; frames = frames; drafts = drafts; terms = terms; made = made })) (plain text t)

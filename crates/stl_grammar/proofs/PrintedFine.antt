@@ -105,6 +105,7 @@ says s post (after_relation r n k) h = let x = h.short.value in omega (arith, x)
 says s post (after_plus r n k) h = let x = h.short.value in omega (arith, x)
 says s post (after_minus r n k) h = let x = h.short.value in omega (arith, x)
 
+-- neat tokens are so piece by piece
 pub neat_pieces : (s : Scale) (ts : List Token) → IsNeat s ts → Pieces s ts
 neat_pieces s ts h pre post x e = says s post x (neat_after s pre (these x ++ post) (rw e at h))
 
@@ -297,6 +298,7 @@ module _ (s : Scale) (time : s.time ≤ 6) (value : s.value ≤ 6) where
   mutual
     unfolding kind
 
+    -- the tokens of a formula are so from its start
     pub formula_fine : {k : ℕ} {ts : List Token} {ns : List Node} → IsFormula s k ts ns → All IsFit ns → Pieces s ts → (marks : List Mark) (n : ℕ) → Fine (st at_operand false marks n) ts
     formula_fine (disjunct d) f c marks n = disjunct_fine d f c marks n
     formula_fine (implies {k = k} {ts = ts} {us} {ns} {ms} d g) f c marks n =

@@ -231,6 +231,7 @@ not_large (Leaf a) h = below (nat_abs a.limit) h.limit
     below n l = grind (arith, nat_tests, l)
 not_large _ h = refl
 
+-- a printed text is that of a formula, or too long or too deep
 pub printed_texts_are_formulas : PrintedTextsAreFormulas
 printed_texts_are_formulas f text r w least h fault =
     let (ts, l, d, neat) = printed_read f text w h in

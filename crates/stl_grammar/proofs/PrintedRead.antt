@@ -329,18 +329,24 @@ lexed_false = lexed_word 102 (codes "alse") refl refl
 
 -- a node whose numbers are within their limits
 pub record IsFit (n : Node) : Type 0 where
+  -- its atom, if it is one, is within its limits
   pub atom : IsLeafInLimits n
+  -- its bounds are in order
   pub bounds : HasBounds n
+  -- its own reach fits
   pub reach : own_reach n ≤ 4294967295
 
+-- what holds of all holds of the first
 pub all_left : (P : Node → Type 0) (xs ys : List Node) → All P (xs ++ ys) → All P xs
 all_left P [] ys h = All-nil P
 all_left P (x ∷ xs) ys h = All-cons P x xs (All-head P x (xs ++ ys) h) (all_left P xs ys (All-tail P x (xs ++ ys) h))
 
+-- and of the rest
 pub all_right : (P : Node → Type 0) (xs ys : List Node) → All P (xs ++ ys) → All P ys
 all_right P [] ys h = h
 all_right P (x ∷ xs) ys h = all_right P xs ys (All-tail P x (xs ++ ys) h)
 
+-- and of the last
 pub all_last : (P : Node → Type 0) (xs : List Node) (n : Node) → All P (xs ++ n ∷ []) → P n
 all_last P xs n h = All-head P n [] (all_right P xs (n ∷ []) h)
 
@@ -549,6 +555,7 @@ each_reach (n ∷ nodes) h =
     let e : reach (n ∷ nodes) ≡ own_reach n + reach nodes = sum_by-cons own_reach n nodes in
     All-cons (λ n. own_reach n ≤ 4294967295) n nodes (omega (arith, e)) (each_reach nodes (omega (arith, e)))
 
+-- within limits is fit, node by node
 pub all_fit : (nodes : List Node) → All IsLeafInLimits nodes → All HasBounds nodes → All (λ n. own_reach n ≤ 4294967295) nodes → All IsFit nodes
 all_fit [] a b c = All-nil IsFit
 all_fit (n ∷ nodes) a b c =

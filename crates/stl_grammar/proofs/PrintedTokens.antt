@@ -31,18 +31,23 @@ LexedAny text ts = (z : List ℕ) (us : List Token) → Lexes z us → Lexes (te
 abbrev pub Parts : List ℕ → Type 0
 Parts y = (z : List ℕ) → Separates (y ++ z)
 
+-- what is lexed before any text is lexed before one that parts
 pub any_lexed : (x : List ℕ) (ts : List Token) → LexedAny x ts → Lexed x ts
 any_lexed x ts h z us s l = h z us l
 
+-- one piece after another
 pub then_lexed : (x y : List ℕ) (ts us : List Token) → LexedAny x ts → Lexed y us → Lexed (x ++ y) (ts ++ us)
 then_lexed x y ts us h k z vs s l = rw (append_assoc x y z, append_assoc ts us vs) (h (y ++ z) (us ++ vs) (k z vs s l))
 
+-- so before any text
 pub then_any : (x y : List ℕ) (ts us : List Token) → LexedAny x ts → LexedAny y us → LexedAny (x ++ y) (ts ++ us)
 then_any x y ts us h k z vs l = rw (append_assoc x y z, append_assoc ts us vs) (h (y ++ z) (us ++ vs) (k z vs l))
 
+-- a piece before one that parts
 pub parted_any : (x y : List ℕ) (ts us : List Token) → Lexed x ts → Parts y → LexedAny y us → LexedAny (x ++ y) (ts ++ us)
 parted_any x y ts us h p k z vs l = rw (append_assoc x y z, append_assoc ts us vs) (h (y ++ z) (us ++ vs) (p z) (k z vs l))
 
+-- and before one that parts with what follows
 pub parted : (x y : List ℕ) (ts us : List Token) → Lexed x ts → ((z : List ℕ) → Separates z → Separates (y ++ z)) → Lexed y us → Lexed (x ++ y) (ts ++ us)
 parted x y ts us h p k z vs s l = rw (append_assoc x y z, append_assoc ts us vs) (h (y ++ z) (us ++ vs) (p z s) (k z vs s l))
 
@@ -50,6 +55,7 @@ parted x y ts us h p k z vs s l = rw (append_assoc x y z, append_assoc ts us vs)
 pub spaced : (x : List ℕ) (ts : List Token) → Lexed x ts → LexedAny (x ++ codes " ") ts
 spaced x ts h z us l = rw (append_assoc x (codes " ") z) (h (32 ∷ z) us (refl, refl) (blank refl l))
 
+-- a whole text
 pub lexed_whole : (x : List ℕ) (ts : List Token) → Lexed x ts → Lexes x ts
 lexed_whole x ts h = rw (append-nil, append-nil) at (h [] [] tt nothing)
 
@@ -81,6 +87,7 @@ no_decimals (c ∷ d ∷ z) s = rw (no_point c s.0) refl
 pub lexed_word : (c : ℕ) (rest : List ℕ) → begins_word c ≡ true → all goes_on_word rest ≡ true → Lexed (c ∷ rest) (word (c ∷ rest) ∷ [])
 lexed_word c rest b a z us s l = token (c ∷ rest) z refl (a_word b a (stops_word z s)) l
 
+-- names
 pub lexed_name : (name : List ℕ) → IsTrue (is_name name) → Lexed name (word name ∷ []) × (is_among name reserved ≡ false)
 lexed_name [] h = absurd (cc)
 lexed_name (c ∷ rest) h =
@@ -99,33 +106,43 @@ decimals_lexed : (c : ℕ) (digits : List ℕ) (d : ℕ) (decimals : List ℕ) �
     → Lexed (c ∷ digits ++ 46 ∷ d ∷ decimals) (number (decimal_value 0 (c ∷ digits ++ without_zeros (d ∷ decimals))) (length (without_zeros (d ∷ decimals))) ∷ [])
 decimals_lexed c digits d decimals a b z us s l = token (c ∷ digits ++ 46 ∷ d ∷ decimals) z refl (a_decimal c digits d decimals a b (stops_digit z s)) l
 
+-- a blank
 pub blank_lexed : LexedAny (codes " ") []
 blank_lexed z us l = blank refl l
 
+-- a parenthesis
 pub paren_lexed : LexedAny (codes "(") (open_paren ∷ [])
 paren_lexed z us l = token (codes "(") z refl paren l
 
+-- its end
 pub paren_end_lexed : LexedAny (codes ")") (close_paren ∷ [])
 paren_end_lexed z us l = token (codes ")") z refl paren_end l
 
+-- a bracket
 pub bracket_lexed : LexedAny (codes "[") (open_bracket ∷ [])
 bracket_lexed z us l = token (codes "[") z refl bracket l
 
+-- its end
 pub bracket_end_lexed : LexedAny (codes "]") (close_bracket ∷ [])
 bracket_end_lexed z us l = token (codes "]") z refl bracket_end l
 
+-- a comma
 pub comma_lexed : LexedAny (codes ",") (comma ∷ [])
 comma_lexed z us l = token (codes ",") z refl a_comma l
 
+-- a star
 pub star_lexed : LexedAny (codes "*") (star ∷ [])
 star_lexed z us l = token (codes "*") z refl a_star l
 
+-- a plus
 pub plus_lexed : LexedAny (codes "+") (plus ∷ [])
 plus_lexed z us l = token (codes "+") z refl a_plus l
 
+-- a minus
 pub minus_lexed : LexedAny (codes "-") (minus ∷ [])
 minus_lexed z us l = token (codes "-") z refl a_minus l
 
+-- a relation
 pub relation_lexed : (r : Rel) → Lexed (relation_text r) (relation r ∷ [])
 relation_lexed AtLeast z us s l = token (codes ">=") z refl at_least l
 relation_lexed AtMost z us s l = token (codes "<=") z refl at_most l
@@ -164,6 +181,7 @@ whole_is n l = decimal_by_steps IsWhole one more n l
           value = decimal_value-push 0 (h.first ∷ h.rest) (48 + n % 10) ∙ (ap (λ z. 10 * z + (48 + n % 10 - 48)) h.value ∙ omega arith);
         }
 
+-- a whole number
 pub integer_text : (n : ℕ) → n < 2 ^ 64 → Lexed (decimal n) (number n 0 ∷ [])
 integer_text n l = let w = whole_is n l in
     let e : decimal_value 0 (w.first ∷ w.rest ++ []) ≡ n = ap (λ z. decimal_value 0 z) (append-nil (w.first ∷ w.rest)) ∙ w.value in
@@ -249,6 +267,7 @@ number_at digits n text h w (d ∷ ds) e =
     let k : length (without_zeros (d ∷ ds)) ≡ length h.decimals = ap (λ z. length z) f in
     rw t (rw (v, k) at (decimals_lexed w.first w.rest d ds w.digits a))
 
+-- a number with decimals
 pub number_text : (digits n : ℕ) (text : List ℕ) → n < 2 ^ 64 → IsDecimalText digits n text → NumberOf digits n text
 number_text digits n text l h =
     let q : h.whole ≤ n = whole_least n h.whole (decimal_value h.whole h.decimals) (10 ^ digits) (10 ^ length h.decimals) (some_power digits) (some_power (length h.decimals)) h.same

@@ -25,17 +25,28 @@ use Rattle.stl_grammar.specs.declared.fault.FormulaFault.TheVariants.{Expected, 
 
 -- the text was read up to place `at`
 pub record HasRead (text : List ℕ) (at : ℕ) (p : Parse) (codes : List Code) : Type 0 where
+  -- the tokens so far, the last one first
   pub before : List Token
+  -- what was taken of the text
   pub taken : Taken text before p
+  -- the machine has read them
   pub runs : run before ≡ Some (state_of p)
+  -- the frames are in order
   pub fit : IsFit p
+  -- there are 256 nodes at most
   pub few : p.made ≤ 256
+  -- the place is in the text
   pub within : at ≤ length text
+  -- the code's tokens are those
   pub told : reverse before ≡ map (plain text) codes
+  -- a refusal from here is one of the text
   pub fault : (r : FormulaFault) → TokenFault before at (drop at text) r → TokenFault [] 0 text r
+  -- and the other way round
   pub back : (r : FormulaFault) → TokenFault [] 0 text r → TokenFault before at (drop at text) r
+  -- tokens from here make those of the text
   pub lexed : (ts : List Token) → Lexes (drop at text) ts → Lexes text (reverse before ++ ts)
 
+-- at the start nothing was read
 pub read_nothing : (text : List ℕ) → HasRead text 0 empty_parse []
 read_nothing text = record {
   before = [];
@@ -90,6 +101,7 @@ some_bytes a_star = omega arith
 some_bytes a_plus = omega arith
 some_bytes a_minus = omega arith
 
+-- reading goes on
 pub advances_some : (text : List ℕ) (at to : ℕ) (p q : Parse) (codes others : List Code) → Advances text at to p q codes others → at < to
 advances_some text at to p q codes others f = omega (arith, f.place, f.lexeme.size, some_bytes f.lexeme.reads)
 
@@ -119,6 +131,7 @@ module _ (text : List ℕ) (at : ℕ) (p : Parse) (codes : List Code) (h : HasRe
   first : at < length text → drop at text ≡ get_or text at 0 ∷ drop (at + 1) text
   first l = drop_more text at 0 l
 
+  -- past a blank
   pub read_blank : at < length text → is_blank (get_or text at 0) ≡ true → HasRead text (at + 1) p codes
   read_blank l b =
       let next : suc at ≡ at + 1 = omega arith in
@@ -135,12 +148,14 @@ module _ (text : List ℕ) (at : ℕ) (p : Parse) (codes : List Code) (h : HasRe
         lexed = λ ts f. h.lexed ts (subst (λ xs. Lexes xs ts) (sym (first l)) (skip b f));
       }
 
+  -- where no token begins, a byte is refused
   pub read_no_token : at < length text → is_blank (get_or text at 0) ≡ false → BeginsNoToken (drop at text) → TokenFault [] 0 text (BadByte at)
   read_no_token l b n = h.fault (BadByte at) (moved_fault refl (sym (first l)) (bad_byte b (subst BeginsNoToken (first l) n)))
 
   rest_after : (bytes after : List ℕ) (n : ℕ) → drop at text ≡ bytes ++ after → length bytes ≡ n → drop (at + n) text ≡ after
   rest_after bytes after n e s = sym (drop-drop n at text) ∙ (ap (drop n) e ∙ drop_at bytes after n s)
 
+  -- what refuses a token refuses the text
   pub read_refused : (r : FormulaFault) → Refuses text at p r → TokenFault [] 0 text r
   read_refused r f =
       let x = f.lexeme in
@@ -148,10 +163,12 @@ module _ (text : List ℕ) (at : ℕ) (p : Parse) (codes : List Code) (h : HasRe
       let e : refused text p f.code x.after at ≡ Some r = rw rest at f.refused in
       h.fault r (here x.token x.bytes x.after x.splits x.reads (judged text x.after h.before p f.code x.token at h.runs h.fit x.tells r e))
 
+  -- so where the parser stops
   pub read_stops : (r : FormulaFault) → at < length text → is_blank (get_or text at 0) ≡ false → Stops text at p r → TokenFault [] 0 text r
   read_stops r l b (inl (n, e)) = rw e (read_no_token l b n)
   read_stops r l b (inr f) = read_refused r f
 
+  -- past a token
   pub read_token : (to : ℕ) (q : Parse) (others : List Code) → Advances text at to p q codes others → HasRead text to q others
   read_token to q others f =
       let x = f.lexeme in
@@ -205,6 +222,7 @@ module _ (text : List ℕ) (at : ℕ) (p : Parse) (codes : List Code) (h : HasRe
         free = λ r f. none_at_end ended (rw none_left at (h.back r f));
       }
 
+  -- a text that ends too early lacks what is expected
   pub read_part : length text ≤ at → ends_at (place_at p.place (length p.terms)) (marks_of p.frames) ≡ false → TokenFault [] 0 text (Expected (length text) (expected_in p))
   read_part l e =
       let none_left : drop at text ≡ [] = drop_all at text l in

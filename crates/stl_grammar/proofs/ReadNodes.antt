@@ -111,6 +111,7 @@ covers_all ts digits l pre post a j b k e =
 pub power_parts : (d j : ℕ) → j ≤ d → 10 ^ (d - j) * 10 ^ j ≡ 10 ^ d
 power_parts d j l = let e : d ≡ d - j + j = omega arith in sym (ap (λ z. 10 ^ z) e ∙ pow-add 10 (d - j) j)
 
+-- two fractions in order over one product
 pub cross : (a b p q j k e : ℕ) → p * j ≡ e → q * k ≡ e → 0 < j → 0 < k → a * k ≤ b * j → a * p ≤ b * q
 cross a b p q j k e f g x y h =
     let l : a * k * e ≤ b * j * e = mul-le-mul_right e h in
@@ -156,6 +157,7 @@ same_begin a_past p h marks n = refl
 same_begin an_inf p h marks n = refl
 same_begin a_name p h marks n = refl
 
+-- a past operator without a bound goes on to its operand
 pub skips : (o : Owner) → looks_back o ≡ true → (h : Bool) (marks : List Mark) (n : ℕ) (t : Token) (ts : List Token) → begins_bracket (t ∷ ts) ≡ false
     → step_from (st (at_bound o) h marks n) t ≡ step_from (st at_operand h marks n) t
 skips o e h marks n (word w) ts f = rw e (same_begin (kind w) (at_bound o) h marks n)

@@ -123,10 +123,12 @@ no_token_at_blank c rest bytes text t b e h = let a : first_token (c ∷ rest) �
     blank_none : first_token (c ∷ rest) ≡ Some (t, text) → ⊥
     blank_none a = let n : first_token (c ∷ rest) ≡ None = blank_first c rest b in cc
 
+-- nor at the end
 pub no_token_at_end : (bytes text : List ℕ) (t : Token) → [] ≡ bytes ++ text → ¬ IsToken bytes text t
 unfolding first_token
 no_token_at_end bytes text t e h = let a : first_token [] ≡ Some (t, text) = ap first_token e ∙ token_first bytes text t h in cc
 
+-- at most one refusal stands at a token
 pub RefusedAt-unique : (before : List Token) (t : Token) (text : List ℕ) (p : ℕ) → AtMostOne (RefusedAt before t text p)
 RefusedAt-unique before t text p =
     or_else-unique _ _ (where-unique _ _) (or_else-unique _ _ (where-unique _ _) (or_else-unique _ _ (where-unique _ _) (or_else-unique _ _ (where-unique _ _)
@@ -174,5 +176,6 @@ Lexes-unique (token {t = t} {tokens = ts} {whole = whole} bytes rest e k h) (tok
 abbrev made_scale : List Token → Scale
 made_scale ts = record { time = time_digits ts; value = value_digits ts }
 
+-- a text has one scale
 pub scale-unique : (text : List ℕ) (f f' : Formula) → FormulaText text f → FormulaText text f' → f.scale ≡ f'.scale
 scale-unique text f f' h h' = h.scale ∙ (ap (λ ts. made_scale ts) (Lexes-unique h.lexed h'.lexed) ∙ sym h'.scale)

@@ -21,11 +21,13 @@ ends_well [] = false
 ends_well (t ∷ []) = can_end t
 ends_well (t ∷ u ∷ ts) = ends_well (u ∷ ts)
 
+-- one token before
 pub after_one : (t : Token) (ts : List Token) → ends_well ts ≡ true → ends_well (t ∷ ts) ≡ true
 unfolding ends_well
 after_one t [] h = absurd (cc)
 after_one t (u ∷ ts) h = h
 
+-- and some before
 pub after_some : (ts us : List Token) → ends_well us ≡ true → ends_well (ts ++ us) ≡ true
 after_some [] us h = h
 after_some (t ∷ ts) us h = after_one t (ts ++ us) (after_some ts us h)
@@ -53,23 +55,28 @@ unfolding ends_well can_end
 paren_ends = refl
 
 mutual
+  -- a formula
   pub formula_ends : {s : Scale} {k : ℕ} {ts : List Token} {ns : List Node} → IsFormula s k ts ns → ends_well ts ≡ true
   formula_ends (disjunct d) = disjunct_ends d
   formula_ends (implies {ts = ts} {us} d f) = after_some ts (word (codes "implies") ∷ us) (after_one _ us (formula_ends f))
 
+  -- what `or` joins
   pub disjunct_ends : {s : Scale} {k : ℕ} {ts : List Token} {ns : List Node} → IsDisjunct s k ts ns → ends_well ts ≡ true
   disjunct_ends (conjunct c) = conjunct_ends c
   disjunct_ends (or {ts = ts} {us} d c) = after_some ts (word (codes "or") ∷ us) (after_one _ us (conjunct_ends c))
 
+  -- what `and` joins
   pub conjunct_ends : {s : Scale} {k : ℕ} {ts : List Token} {ns : List Node} → IsConjunct s k ts ns → ends_well ts ≡ true
   conjunct_ends (timed t) = timed_ends t
   conjunct_ends (and {ts = ts} {us} c t) = after_some ts (word (codes "and") ∷ us) (after_one _ us (timed_ends t))
 
+  -- what until and since join
   pub timed_ends : {s : Scale} {k : ℕ} {ts : List Token} {ns : List Node} → IsTimed s k ts ns → ends_well ts ≡ true
   timed_ends (operand o) = operand_ends o
   timed_ends (until {ts = ts} {us} {vs} o b p) = after_some (ts ++ (word (codes "until") ∷ us)) vs (operand_ends p)
   timed_ends (since {ts = ts} {us} {vs} o b p) = after_some (ts ++ (word (codes "since") ∷ us)) vs (operand_ends p)
 
+  -- an operand
   pub operand_ends : {s : Scale} {k : ℕ} {ts : List Token} {ns : List Node} → IsOperand s k ts ns → ends_well ts ≡ true
   operand_ends (not {ts = ts} o) = after_one _ ts (operand_ends o)
   operand_ends (eventually {ts = ts} {us} b o) = after_one _ (us ++ ts) (after_some us ts (operand_ends o))
@@ -108,6 +115,7 @@ first_append (minus ∷ u ∷ ts) us h = by_next u
     by_next _ = refl
 first_append (_ ∷ ts) us h = refl
 
+-- decimals of constants in joined tokens
 pub value_append : (ts us : List Token) → ends_well ts ≡ true → value_digits (ts ++ us) ≡ max (value_digits ts) (value_digits us)
 unfolding ends_well can_end
 value_append [] us h = absurd (cc)
@@ -124,6 +132,7 @@ number_before n k [] h = omega arith
 number_before n k (comma ∷ us) h = absurd (cc)
 number_before n k (u ∷ us) h = omega arith
 
+-- decimals of bounds
 pub time_append : (ts us : List Token) → ends_well ts ≡ true → begins_comma us ≡ false → time_digits (ts ++ us) ≡ max (time_digits ts) (time_digits us)
 unfolding ends_well can_end
 time_append [] us h e = absurd (cc)
@@ -139,18 +148,23 @@ time_append (_ ∷ u ∷ ts) us h e = time_append (u ∷ ts) us h e
 
 -- the decimals of the tokens are no more than the scale's digits
 pub record IsShort (s : Scale) (ts : List Token) : Type 0 where
+  -- of bounds
   pub time : time_digits ts ≤ s.time
+  -- of constants
   pub value : value_digits ts ≤ s.value
 
+-- joined tokens with few decimals have few
 pub short_joined : (s : Scale) (ts us : List Token) → ends_well ts ≡ true → begins_comma us ≡ false → IsShort s ts → IsShort s us → IsShort s (ts ++ us)
 short_joined s ts us h e a b = record {
   time = let f = time_append ts us h e in omega (arith, f, a.time, b.time);
   value = let f = value_append ts us h in omega (arith, f, a.value, b.value);
 }
 
+-- a word before
 pub short_word : (s : Scale) (w : List ℕ) (ts : List Token) → IsShort s ts → IsShort s (word w ∷ ts)
 short_word s w ts a = record { time = a.time; value = a.value }
 
+-- parentheses around
 pub short_parens : (s : Scale) (ts : List Token) → ends_well ts ≡ true → IsShort s ts → IsShort s (open_paren ∷ ts ++ close_paren ∷ [])
 short_parens s ts h a =
     let b : IsShort s (close_paren ∷ []) = record { time = omega arith; value = omega arith } in
@@ -185,6 +199,7 @@ constant_value plain = refl
 constant_value positive = refl
 constant_value negative = refl
 
+-- an atom
 pub short_atom : {d : ℕ} (s : Scale) {ts us vs : List Token} {k : ℕ} {w : List ℕ} {terms : _} {c : _} (rel : _) → IsTerm ts k w → AreTerms us terms → IsConstant d vs c
     → first_decimals vs ≤ s.value → IsShort s (ts ++ us ++ relation rel ∷ vs)
 short_atom s {ts} {us} {vs} rel t u c l =
@@ -194,6 +209,7 @@ short_atom s {ts} {us} {vs} rel t u c l =
     let i = constant_value c in
     record { time = omega (arith, f); value = omega (arith, g, i, l) }
 
+-- an atom with a sign
 pub short_signed : {d : ℕ} (s : Scale) {us vs : List Token} {terms : _} {c : _} (rel : _) → AreTerms us terms → IsConstant d vs c → first_decimals vs ≤ s.value
     → IsShort s (us ++ relation rel ∷ vs)
 short_signed s {us} {vs} rel u c l =
@@ -207,6 +223,7 @@ short_window s ts (bound inside outside) l a = let t = a.time in record { time =
 short_window s ts (bound outside inside) l a = let t = a.time in record { time = omega arith; value = a.value }
 short_window s ts (bound outside outside) l a = let t = a.time in record { time = omega arith; value = a.value }
 
+-- a bound of the past before an operand
 pub short_past : {d a : ℕ} {b : _} {us : List Token} {x y : Bool} (s : Scale) (ts : List Token) → IsPastWindow d us a b x y → time_digits us ≤ s.time → IsShort s ts → IsShort s (us ++ ts)
 short_past s ts nothing l a = a
 short_past s ts (bounded inside inside) l a = let t = a.time in record { time = omega arith; value = a.value }
@@ -218,6 +235,7 @@ short_past s ts (unbounded inside outside) l a = let t = a.time in record { time
 short_past s ts (unbounded outside inside) l a = let t = a.time in record { time = omega arith; value = a.value }
 short_past s ts (unbounded outside outside) l a = let t = a.time in record { time = omega arith; value = a.value }
 
+-- a bound of since
 pub short_since : {d a : ℕ} {b : _} {us : List Token} (s : Scale) (ts : List Token) → IsPast d us a b → time_digits us ≤ s.time → IsShort s ts → IsShort s (us ++ ts)
 short_since s ts since_nothing l a = a
 short_since s ts since_bounded l a = let t = a.time in record { time = omega arith; value = a.value }

@@ -13,9 +13,13 @@ use Rattle.stl_grammar.specs.declared.fault.FormulaFault.TheVariants.{Expected, 
 
 -- the token is not refused
 pub record IsFree (before : List Token) (t : Token) : Type 0 where
+  -- there is room for its node
   pub few : nodes_made (t ∷ before) ≤ 256
+  -- it begins no fifth term
   pub terms : begins_fifth_term before t ≡ false
+  -- its number does not pass its limit
   pub small : is_bad_number before t ≡ false
+  -- its bound is in order
   pub order : is_out_of_order before t ≡ false
 
 by_test : (b : Bool) → ¬ (b ≡ true) → b ≡ false
@@ -44,6 +48,7 @@ abbrev pub AreFree : List Token → List Token → Type 0
 AreFree before [] = Unit {0}
 AreFree before (t ∷ ts) = IsFree before t × AreFree (t ∷ before) ts
 
+-- the tokens of a text that no token refuses are refused by nothing
 pub tokens_free : {text : List ℕ} {ts : List Token} → Lexes text ts → (before : List Token) (p : ℕ) → ((r : FormulaFault) → ¬ TokenFault before p text r) → AreFree before ts
 tokens_free nothing before p h = tt
 tokens_free (skip b l) before p h = tokens_free l before (suc p) (λ r f. h r (blank b f))

@@ -56,6 +56,7 @@ by_words P t f n a o i u s e l c y x name w = split (is_among w reserved) refl
     split true h = one (among_one w reserved h)
     split false h = name w h
 
+-- a word that is none of the grammar's is a name
 pub name_kind : (w : List ℕ) → is_among w reserved ≡ false → kind w ≡ a_name
 unfolding kind
 name_kind w h = let (t, (f, (n, (a, (o, (i, (u, (s, (e, (l, (c, (y, (x, z))))))))))))) = among_none w reserved h in rw (t, f, n, a, o, i, u, s, e, l, c, y, x) refl
@@ -92,36 +93,43 @@ abbrev pub is_word : Kind → Bool
 is_word a_name = false
 is_word _ = true
 
+-- the words that end an operand
 pub among_constants : (w : List ℕ) → is_among w constants ≡ ends_operand (kind w)
 unfolding kind
 among_constants = by_words (λ w. is_among w constants ≡ ends_operand (kind w)) refl refl refl refl refl refl refl refl refl refl refl refl refl
     (λ w h. let (t, (f, (n, (a, (o, (i, (u, (s, (e, (l, (c, (y, (x, z))))))))))))) = among_none w reserved h in rw (t, f, n, a, o, i, u, s, e, l, c, y, x) refl)
 
+-- the words before an operand
 pub among_prefixes : (w : List ℕ) → is_among w prefixes ≡ has_operand (kind w)
 unfolding kind
 among_prefixes = by_words (λ w. is_among w prefixes ≡ has_operand (kind w)) refl refl refl refl refl refl refl refl refl refl refl refl refl
     (λ w h. let (t, (f, (n, (a, (o, (i, (u, (s, (e, (l, (c, (y, (x, z))))))))))))) = among_none w reserved h in rw (t, f, n, a, o, i, u, s, e, l, c, y, x) refl)
 
+-- the word `implies`
 pub among_implies : (w : List ℕ) → is_among w (codes "implies" ∷ []) ≡ is_implication (kind w)
 unfolding kind
 among_implies = by_words (λ w. is_among w (codes "implies" ∷ []) ≡ is_implication (kind w)) refl refl refl refl refl refl refl refl refl refl refl refl refl
     (λ w h. let (t, (f, (n, (a, (o, (i, (u, (s, (e, (l, (c, (y, (x, z))))))))))))) = among_none w reserved h in rw (t, f, n, a, o, i, u, s, e, l, c, y, x) refl)
 
+-- the word `inf`
 pub among_inf : (w : List ℕ) → is_among w (codes "inf" ∷ []) ≡ is_inf (kind w)
 unfolding kind
 among_inf = by_words (λ w. is_among w (codes "inf" ∷ []) ≡ is_inf (kind w)) refl refl refl refl refl refl refl refl refl refl refl refl refl
     (λ w h. let (t, (f, (n, (a, (o, (i, (u, (s, (e, (l, (c, (y, (x, z))))))))))))) = among_none w reserved h in rw (t, f, n, a, o, i, u, s, e, l, c, y, x) refl)
 
+-- the word `until`
 pub among_until : (w : List ℕ) → is_among w (codes "until" ∷ []) ≡ is_until (kind w)
 unfolding kind
 among_until = by_words (λ w. is_among w (codes "until" ∷ []) ≡ is_until (kind w)) refl refl refl refl refl refl refl refl refl refl refl refl refl
     (λ w h. let (t, (f, (n, (a, (o, (i, (u, (s, (e, (l, (c, (y, (x, z))))))))))))) = among_none w reserved h in rw (t, f, n, a, o, i, u, s, e, l, c, y, x) refl)
 
+-- the words that look ahead
 pub among_ahead : (w : List ℕ) → is_among w ahead ≡ looks_ahead (kind w)
 unfolding kind
 among_ahead = by_words (λ w. is_among w ahead ≡ looks_ahead (kind w)) refl refl refl refl refl refl refl refl refl refl refl refl refl
     (λ w h. let (t, (f, (n, (a, (o, (i, (u, (s, (e, (l, (c, (y, (x, z))))))))))))) = among_none w reserved h in rw (t, f, n, a, o, i, u, s, e, l, c, y, x) refl)
 
+-- all words of the grammar
 pub among_reserved : (w : List ℕ) → is_among w reserved ≡ is_word (kind w)
 unfolding kind
 among_reserved = by_words (λ w. is_among w reserved ≡ is_word (kind w)) refl refl refl refl refl refl refl refl refl refl refl refl refl

@@ -1,3 +1,4 @@
+//! Nodes of a formula from those that were drafted, in ticks; the refusals that are tried once the whole text was read.
 ghost use Rattle.std.specs.Prelude.{◌≡◌, ◌⊎◌, ◌≤◌, ◌<◌, length, All, false, MatchOption, IfOk, IfErr};
 ghost use Rattle.stl_syntax.specs.Formula.{IsFirst};
 ghost use Rattle.stl_syntax.specs.Limits.{own_reach as reach_of, reach as total, HasLargeConstant, IsTooLarge};

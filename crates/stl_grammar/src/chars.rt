@@ -1,3 +1,4 @@
+//! Which bytes part tokens, and which a token is made of.
 ghost use Rattle.std.specs.Prelude.{◌≡◌, ◌≤◌, length, take, drop, true};
 ghost use Rattle.stl_syntax.specs.Characters.{is_blank as is_blank_byte, is_digit as is_digit_byte, begins_word as begins_name, goes_on_word as goes_on_name, all, StopsAt};
 

@@ -1,3 +1,4 @@
+//! Numbers as a formula writes them, with their decimals.
 ghost use Rattle.std.specs.Prelude.{◌≤◌};
 
 /// A number: a whole number, of which so many of the last digits are decimals.

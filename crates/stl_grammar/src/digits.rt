@@ -1,3 +1,4 @@
+//! How many decimals the tokens of a formula have, for its constants and for its bounds.
 ghost use Rattle.std.specs.Prelude.{◌≡◌};
 ghost use Rattle.stl_grammar.specs.Building.{decimals_of, decimals_first, value_decimals as value_digits, time_decimals as time_digits, about_comma};
 

@@ -1,3 +1,4 @@
+//! What is kept of a formula while its text is read: nodes with numbers as they stand, and what is open.
 use crate::decimal::Decimal;
 use crate::ticks::{constant, constant_size};
 use std::marker::Model;

@@ -1,3 +1,4 @@
+//! Refusals of a formula, in the order in which they are tried at one token.
 /// What a formula's text is expected to go on with.
 #[derive(Clone, Copy, Debug, PartialEq, Eq)]
 pub enum What {

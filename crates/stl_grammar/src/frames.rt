@@ -1,3 +1,4 @@
+//! What is open while a formula is read: parentheses, operators that wait for an operand, bounds.
 ghost use Rattle.std.specs.Prelude.{◌≡◌, ◌≤◌, ◌<◌, ◌∷◌, [], length, IfOk, MatchOption};
 ghost use Rattle.stl_grammar.specs.Judging.{marks_of, marks_in, parens_in};
 ghost use Rattle.stl_grammar.specs.Machine.{in_paren};

@@ -1,3 +1,4 @@
+//! Whether something is wrong at a token, and what.
 ghost use Rattle.std.specs.Prelude.{◌≡◌, ◌⊎◌, ◌≤◌, ◌<◌, ◌*◌, ◌^◌, length, nat_lt, not, true, false, Some, None, MatchResult};
 ghost use Rattle.stl_grammar.specs.FormulaRefusals.{opens_bound as begins_bound, passes_limit};
 ghost use Rattle.stl_grammar.specs.Parsing.{parse_step, IsKnown};

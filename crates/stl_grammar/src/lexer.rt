@@ -1,3 +1,4 @@
+//! The token that a text begins with.
 ghost use Rattle.std.specs.Prelude.{◌≡◌, ◌<◌, ◌≤◌, ◌+◌, ℕ, List, length, drop, false, true, slice_index, MatchOption, MatchBool};
 ghost use Rattle.stl_syntax.specs.Characters.{is_among, begins_word as begins_name, is_digit as is_digit_byte};
 ghost use Rattle.stl_grammar.specs.Grammar.{reserved};

@@ -1,3 +1,4 @@
+//! The parser: it takes tokens from the left, and drafts each node as its last token comes.
 ghost use Rattle.std.specs.Prelude.{◌≡◌, ◌<◌, ◌≤◌, ◌-◌, ◌∷◌, ◌++◌, [], nat_le, if◌then◌else◌, length, IfOk, IsTrue};
 ghost use Rattle.stl_syntax.specs.Names.{is_name};
 ghost use Rattle.stl_grammar.specs.Parsing.{signed, between, may_be_open as may_be_out, back_may_be_open, top_rank};

@@ -1,3 +1,4 @@
+//! Where a parser stands in a formula: what may come next.
 use crate::decimal::Decimal;
 use stl_syntax::Rel;
 

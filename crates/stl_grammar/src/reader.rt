@@ -1,3 +1,4 @@
+//! One pass over the tokens of a text, with the parser after them.
 ghost use Rattle.std.specs.Prelude.{◌≡◌, ◌⊎◌, ◌<◌, ◌≤◌, [], length, slice_index, false, MatchResult};
 ghost use Rattle.stl_syntax.specs.Characters.{is_blank as is_blank_byte};
 ghost use Rattle.stl_grammar.specs.FormulaRefusals.{TokenFault};

@@ -1,3 +1,4 @@
+//! The one call of this crate: a text's formula, or its first refusal.
 ghost use Rattle.std.specs.Prelude.{◌≡◌, ◌⊎◌, IfOk, IfErr};
 ghost use Rattle.stl_syntax.specs.Characters.{is_blank as is_blank_byte, all};
 ghost use Rattle.stl_grammar.specs.FormulaRefusals.{IsFormulaOf, IsFormulaFault, IsLateFault};

@@ -1,3 +1,4 @@
+//! Numbers of a formula in ticks of its scale.
 ghost use Rattle.std.specs.Prelude.{◌≡◌, ◌≤◌, ℕ, ◌-◌, ◌*◌, ◌^◌};
 ghost use Rattle.stl_syntax.specs.Limits.{own_reach as reach_of, reach_of_bound};
 ghost use Rattle.stl_syntax.specs.WellFormed.{IsInOrder, HasBounds};

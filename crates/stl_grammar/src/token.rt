@@ -1,3 +1,4 @@
+//! Tokens of a formula.
 use crate::decimal::Decimal;
 use stl_syntax::Rel;
 

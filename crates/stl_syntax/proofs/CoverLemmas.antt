@@ -29,6 +29,7 @@ told_inside on t = by_ends (told_order on.from_in on.from t) (told_order on.to_i
     by_ends (inl h) (inr k) = inr (λ m. k m.below)
     by_ends (inr h) k = inr (λ m. h m.above)
 
+-- whether some item covers a time is decided
 pub told_covered : (items : List Item) (i : ℕ) (t : Rational) → IsCovered items i t ⊎ (¬ IsCovered items i t)
 told_covered [] i t = inr (λ h. h)
 told_covered (e ∷ items) i t = by_first (cases_order e.node i) (told_inside (interval e.on) t) (told_covered items i t)

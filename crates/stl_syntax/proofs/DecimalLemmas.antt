@@ -42,6 +42,7 @@ pub decimal_value-min : (v n : ℕ) (digits : List ℕ) → min v 4294967296 ≡
 decimal_value-min v n [] h = h
 decimal_value-min v n (c ∷ digits) h = decimal_value-min (10 * v + (c - 48)) (10 * n + (c - 48)) digits (omega (arith, h))
 
+-- so many digits were asked for
 pub length-last_digits : (k n : ℕ) → length (last_digits k n) ≡ k
 length-last_digits zero n = refl
 length-last_digits (suc k) n = omega (arith, length_push (last_digits k (n / 10)) (48 + n % 10), length-last_digits k (n / 10))
@@ -90,6 +91,7 @@ pub all-without_zeros : (xs : List ℕ) → all is_digit xs ≡ true → all is_
 all-without_zeros xs h =
     all-reverse is_digit (after_first (λ c. c == 48) (reverse xs)) (all-after_first is_digit (λ c. c == 48) (reverse xs) (all-reverse is_digit xs h))
 
+-- and each of them is one
 pub all-last_digits : (k n : ℕ) → all is_digit (last_digits k n) ≡ true
 all-last_digits zero n = refl
 all-last_digits (suc k) n =

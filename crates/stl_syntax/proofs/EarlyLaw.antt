@@ -46,6 +46,7 @@ module _ (header : Header) (n : ℕ) (r : Row) (rows more : List Row) (ok : AreR
   between t u v h k l = record { above = le_trans h.above l.above; below = le_trans l.below k.below }
 
   mutual
+    -- what is settled true holds in every trace that goes on
     pub settled : (p : Subformula) (t : Rational) → Within from to t → Settled p so_far t → Truth p all_rows t
     settled (constant b) t i h = h
     settled (atom k a) t i h = compares_same a.rel _ _ (same_atom header n r rows more ok a t i.above h.0) h.1
@@ -64,6 +65,7 @@ module _ (header : Header) (n : ℕ) (r : Row) (rows more : List Row) (ok : AreR
     settled (since a b p q) t i (u, w, s, h, k) =
         let j = sure_in t u i s in (u, closed_behind a b true true t u w j.below, settled q u j h, λ v l. settled p v (between u t v j i l) (k v l))
 
+    -- and what is settled false fails there
     pub settled_not : (p : Subformula) (t : Rational) → Within from to t → SettledNot p so_far t → ¬ Truth p all_rows t
     settled_not (constant b) t i h k = cc
     settled_not (atom j a) t i h k = let e = compares_same a.rel _ _ (same_sym (same_atom header n r rows more ok a t i.above h.0)) k in let d = h.1 in cc
@@ -95,6 +97,7 @@ module _ (header : Header) (n : ℕ) (r : Row) (rows more : List Row) (ok : AreR
       by_test true e = absurd (let k = compares_same a.rel _ _ (same_sym (same_atom header n r rows more ok a t i h)) e in cc)
 
   mutual
+    -- what is settled true stays so with more rows
     pub stays : (p : Subformula) (t : Rational) → from ≤ʳ t → Settled p so_far t → Settled p all_rows t
     stays (constant b) t i h = h
     stays (atom k a) t i h = (le_trans h.0 (longer header n r rows more ok), compares_same a.rel _ _ (same_atom header n r rows more ok a t i h.0) h.1)
@@ -111,6 +114,7 @@ module _ (header : Header) (n : ℕ) (r : Row) (rows more : List Row) (ok : AreR
     stays (until a b p q) t i (u, w, s, h, k) = (u, w, sure_stays t u s, stays q u w.after h, λ v l. stays p v (le_trans i l.above) (k v l))
     stays (since a b p q) t i (u, w, s, h, k) = (u, w, sure_stays t u s, stays q u w.after h, λ v l. stays p v (le_trans w.after l.above) (k v l))
 
+    -- and so does what is settled false
     pub stays_not : (p : Subformula) (t : Rational) → from ≤ʳ t → SettledNot p so_far t → SettledNot p all_rows t
     stays_not (constant b) t i h = h
     stays_not (atom k a) t i h = (le_trans h.0 (longer header n r rows more ok), fails_same a t i h.0 h.1)

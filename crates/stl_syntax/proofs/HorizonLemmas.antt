@@ -26,6 +26,7 @@ above at h i (Since p q a b) c e = rw (e p c.0, e q c.1)
 above at h i (Once p a b a_in b_in) c e = rw (e p c)
 above at h i (Historically p a b a_in b_in) c e = rw (e p c)
 
+-- the horizon of a node by the horizons of its children
 pub horizon-above : (nodes : List Node) (h : List ℕ) (i : ℕ) (n : Node) → HasChildrenBelow i n → slice_get nodes i ≡ Some n → AreHorizonsBelow i nodes h → horizon (subformula nodes i) ≡ horizon_above h n
 horizon-above nodes h i n p e k = rw (subformula-at nodes i n e p) (above (subformula nodes) h i n p k)
 

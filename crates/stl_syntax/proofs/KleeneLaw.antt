@@ -61,7 +61,7 @@ at_zero v P N (inr (inl (e, p, n))) l = n
 at_zero v P N (inr (inr (e, p, n))) l = p
 
 -- the Sup over a window in which each time has a value
-sup_tells3 : (W : Window) (F : Function) (P N : Rational → Type 0) (r : Extended)
+pub sup_tells3 : (W : Window) (F : Function) (P N : Rational → Type 0) (r : Extended)
     → ((u : Rational) (v : Extended) → W u → F u v → Tells3 v (P u) (N u)) → ((u : Rational) → W u → (v : Extended) × F u v)
     → IsSupOver minus_one W F r → Tells3 r ((u : Rational) × W u × P u) ((u : Rational) → W u → N u)
 sup_tells3 W F P N r tells has h = by_low (le_totalᵉ r minus_one)
@@ -120,11 +120,12 @@ opposite_tells3 v P N (inl (e, p, n)) = inr (inl (record { at_most = opposite_le
 opposite_tells3 v P N (inr (inl (e, p, n))) = inl (record { at_most = opposite_le' minus_one v e.at_least; at_least = opposite_le' v minus_one e.at_most }, p, n)
 opposite_tells3 v P N (inr (inr (e, p, n))) = inr (inr (record { at_most = opposite_le' zero_value v e.at_least; at_least = opposite_le' v zero_value e.at_most }, n, p))
 
-opposite_tells3' : (v : Extended) (P N : Type 0) → Tells3 (opposite v) P N → Tells3 v N P
+-- what is told of the opposite is told the other way round
+pub opposite_tells3' : (v : Extended) (P N : Type 0) → Tells3 (opposite v) P N → Tells3 v N P
 opposite_tells3' v P N h = let e = opposite_tells3 (opposite v) P N h in rw opposite_twice at e
 
 -- the Inf over a window in which each time has a value
-inf_tells3 : (W : Window) (F : Function) (P N : Rational → Type 0) (r : Extended)
+pub inf_tells3 : (W : Window) (F : Function) (P N : Rational → Type 0) (r : Extended)
     → ((u : Rational) (v : Extended) → W u → F u v → Tells3 v (P u) (N u)) → ((u : Rational) → W u → (v : Extended) × F u v)
     → IsInfOver one W F r → Tells3 r ((u : Rational) → W u → P u) ((u : Rational) × W u × N u)
 inf_tells3 W F P N r tells has h =
@@ -137,7 +138,8 @@ same_three r v P N h (inl (e, p, n)) = inl (record { at_most = le_transᵉ r v o
 same_three r v P N h (inr (inl (e, p, n))) = inr (inl (record { at_most = le_transᵉ r v minus_one h.at_most e.at_most; at_least = le_transᵉ minus_one v r e.at_least h.at_least }, p, n))
 same_three r v P N h (inr (inr (e, p, n))) = inr (inr (record { at_most = le_transᵉ r v zero_value h.at_most e.at_most; at_least = le_transᵉ zero_value v r e.at_least h.at_least }, p, n))
 
-retold3 : (r : Extended) (P N Q M : Type 0) → (P → Q) → (Q → P) → (N → M) → (M → N) → Tells3 r P N → Tells3 r Q M
+-- what is told may be told in other words
+pub retold3 : (r : Extended) (P N Q M : Type 0) → (P → Q) → (Q → P) → (N → M) → (M → N) → Tells3 r P N → Tells3 r Q M
 retold3 r P N Q M f g h k (inl (e, p, n)) = inl (e, f p, λ m. n (k m))
 retold3 r P N Q M f g h k (inr (inl (e, p, n))) = inr (inl (e, h p, λ q. n (g q)))
 retold3 r P N Q M f g h k (inr (inr (e, p, n))) = inr (inr (e, (λ q. p (g q)), λ m. n (k m)))
@@ -166,7 +168,8 @@ at_least_low3 v P N (inl (e, p, n)) = le_transᵉ minus_one one v low_le_high e.
 at_least_low3 v P N (inr (inl (e, p, n))) = e.at_least
 at_least_low3 v P N (inr (inr (e, p, n))) = le_transᵉ minus_one zero_value v low_le_zero e.at_least
 
-least_tells3 : (v w r : Extended) (P N Q M : Type 0) → Tells3 v P N → Tells3 w Q M → IsLeast v w r → Tells3 r (P × Q) (N ⊎ M)
+-- the least of two values tells that both are so, and the greatest that one is
+pub least_tells3 : (v w r : Extended) (P N Q M : Type 0) → Tells3 v P N → Tells3 w Q M → IsLeast v w r → Tells3 r (P × Q) (N ⊎ M)
 least_tells3 v w r P N Q M (inl (d, p, n)) e l =
     retold3 r Q M (P × Q) (N ⊎ M) (λ q. (p, q)) (λ x. x.1) inr only
     (same_three r w Q M (least_is_left w v r (le_transᵉ w one v (at_most_one3 w Q M e) d.at_least) (least_swaps v w r l)) e)
@@ -195,7 +198,8 @@ least_tells3 v w r P N Q M (inr (inr (d, p, n))) (inr (inr (e, q, m))) l =
     neither a b (inl x) = a x
     neither a b (inr x) = b x
 
-greatest_tells3 : (v w r : Extended) (P N Q M : Type 0) → Tells3 v P N → Tells3 w Q M → IsGreatest v w r → Tells3 r (P ⊎ Q) (N × M)
+-- the greatest of two values tells that one is so
+pub greatest_tells3 : (v w r : Extended) (P N Q M : Type 0) → Tells3 v P N → Tells3 w Q M → IsGreatest v w r → Tells3 r (P ⊎ Q) (N × M)
 greatest_tells3 v w r P N Q M d e l =
     opposite_tells3' r (N × M) (P ⊎ Q)
     (least_tells3 (opposite v) (opposite w) (opposite r) N P M Q (opposite_tells3 v P N d) (opposite_tells3 w Q M e)
@@ -205,7 +209,8 @@ greatest_tells3 v w r P N Q M d e l =
     flipped (inl x) = inl (opposite_le' r v x)
     flipped (inr x) = inr (opposite_le' r w x)
 
-implies_tells3 : (v w r : Extended) (P N Q M : Type 0) → Tells3 v P N → Tells3 w Q M → IsGreatest (opposite v) w r → Tells3 r (N ⊎ Q) (P × M)
+-- and with the first one turned, that it implies the second
+pub implies_tells3 : (v w r : Extended) (P N Q M : Type 0) → Tells3 v P N → Tells3 w Q M → IsGreatest (opposite v) w r → Tells3 r (N ⊎ Q) (P × M)
 implies_tells3 v w r P N Q M d e l = greatest_tells3 (opposite v) w r N P Q M (opposite_tells3 v P N d) e l
 
 module _ (items : List Item) (tr : Trace) where

@@ -14,6 +14,7 @@ use Rattle.stl_syntax.specs.declared.atom.Atom.{Atom}
 
 -- certainly true and certainly false exclude each other
 mutual
+  -- what is certainly true holds
   pub clear : (p : Subformula) (items : List Item) (tr : Trace) (t : Rational) → Must p items tr t → Truth p tr t
   clear (constant b) items tr t h = h
   clear (atom i a) items tr t h = h.0
@@ -30,6 +31,7 @@ mutual
   clear (once a b a_in b_in p) items tr t (u, w, h) = (u, w, clear p items tr u h)
   clear (historically a b a_in b_in p) items tr t h = λ u w. clear p items tr u (h u w)
 
+  -- and what is certainly false fails
   pub clear_not : (p : Subformula) (items : List Item) (tr : Trace) (t : Rational) → MustNot p items tr t → ¬ Truth p tr t
   clear_not (constant b) items tr t h k = cc
   clear_not (atom i a) items tr t h k = let e = h.0 in cc
@@ -84,6 +86,7 @@ module _ (nodes : List Node) (items : List Item) (tr tr' : Trace) (agree : Agree
   behind_back a b a_in b_in t u w = rw (agree.like.start_same, agree.like.stop_same) at w
 
   mutual
+    -- what is certainly true holds in every trace that agrees on the items
     pub certain : (p : Subformula) (t : Rational) → StandsIn nodes p → Must p items tr t → Truth p tr' t
     certain (constant b) t s h = h
     certain (atom i a) t s h = sym (carried nodes tr tr' items i a t s known agree.so h.1) ∙ h.0
@@ -100,6 +103,7 @@ module _ (nodes : List Node) (items : List Item) (tr tr' : Trace) (agree : Agree
     certain (once a b a_in b_in p) t s (u, w, h) = (u, behind_over a b a_in b_in t u w, certain p u s h)
     certain (historically a b a_in b_in p) t s h = λ u w. certain p u s (h u (behind_back a b a_in b_in t u w))
 
+    -- and what is certainly false fails there
     pub certain_not : (p : Subformula) (t : Rational) → StandsIn nodes p → MustNot p items tr t → ¬ Truth p tr' t
     certain_not (constant b) t s h k = cc
     certain_not (atom i a) t s h k = let e = sym (carried nodes tr tr' items i a t s known agree.so h.1) ∙ h.0 in cc

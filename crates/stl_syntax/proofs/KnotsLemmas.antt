@@ -17,6 +17,7 @@ reads_after k (p ∷ pieces) t v ok (inl h) = ge_of_same h.0
 reads_after k (p ∷ pieces) t v ok (inr (inl h)) = le_of_lt h.after
 reads_after k (p ∷ pieces) t v ok (inr (inr h)) = le_trans (le_of_lt ok.0) (reads_after p.next pieces t v ok.1 h)
 
+-- rising knots have at most one value at a time
 pub reads_one : (k : Knot) (pieces : List Piece) (t : Rational) (v w : Extended) → AreKnotsFrom k pieces → ReadsFrom k pieces t v → ReadsFrom k pieces t w → v ≤ᵉ w
 reads_one k [] t v w ok h j = le_transᵉ v k.value w h.1.at_most j.1.at_least
 reads_one k (p ∷ pieces) t v w ok (inl h) (inl j) = le_transᵉ v k.value w h.1.at_most j.1.at_least

@@ -21,6 +21,7 @@ pub mod Examples
 pub mod MoreExamples
 pub mod KeptExamples
 pub mod NetworkExamples
+pub mod Reaching
 pub mod PrefixLaw
 pub mod KleeneLaw
 pub mod VerdictsLaw
@@ -31,6 +32,11 @@ pub mod TimeLaw
 pub mod StandsLemmas
 pub mod CoverLemmas
 pub mod MarginsLaw
+pub mod MarginsStay
+pub mod DecideLaw
+pub mod SettledTimes
+pub mod SettledParts
+pub mod FrontsLaw
 pub mod LawProofs
 pub mod OperatorExamples
 pub mod ChangeExamples

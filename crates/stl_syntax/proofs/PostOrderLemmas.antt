@@ -203,6 +203,7 @@ next_unused nodes m h last =
         let e : slice_get nodes k ≡ Some n = slice_get_at nodes k d l in
         All-weaker (λ p. p < length (take k nodes)) (λ p. p < k) (λ p l. omega (arith, length-take k nodes)) (children n) (children_below (take k nodes) n (h.follows k n e))
 
+-- or false changes nothing
 pub or_false : (b : Bool) → (b || false) ≡ b
 or_false true = refl
 or_false false = refl

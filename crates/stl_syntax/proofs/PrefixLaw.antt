@@ -1,24 +1,25 @@
 -- What rows answer stays so in every trace that goes on from them.
-use Rattle.std.proofs.Common.{ℕ, suc, pos, ◌+◌, ◌-◌, ◌*◌, ◌≤◌, List, [], ◌∷◌, ◌++◌, inl, inr, Bool, true, false, arith, ◌⊎◌, max, mul-le-mul_right}
-use Rattle.std.specs.Prelude.{bytes_eq, Option}
+use Rattle.std.proofs.Common.{ℕ, suc, pos, ◌-◌, ◌≤◌, List, [], ◌∷◌, ◌++◌, inl, inr, Bool, true, false, arith, ◌⊎◌, max}
+use Rattle.std.specs.Prelude.{bytes_eq, ◌↔◌}
 use Rattle.rational.specs.Line.{at}
-use Rattle.rational.proofs.Order.{le_or_lt, le_trans, same_refl, same_sym, same_trans, same_of_le, lt_of_le_of_lt}
+use Rattle.rational.proofs.Order.{le_or_lt, same_refl, same_sym, same_trans, same_of_le, lt_of_le_of_lt}
 use Rattle.rational.proofs.Field.{same_add, same_subtract}
 use Rattle.rational.proofs.Lines.{same_at}
 use Rattle.rational.specs.Time.{Rational, ◌≤ʳ◌, ◌<ʳ◌, ◌≈◌, Within, whole, later}
-use Rattle.rational.specs.Windows.{Ahead, Behind}
 use Rattle.stl_syntax.specs.Trace.{Column, Row, Trace, AreRowsAfter, row_time, value, line_between, piece, value_from, value_among, value_of, last_time, Header}
 use Rattle.stl_syntax.specs.Formula.{Subformula, constant, atom, negation, conjunction, disjunction, implication, until, eventually, always, since, once, historically, horizon}
 use Rattle.stl_syntax.specs.Truth.{sum_at, expression, Truth}
 use Rattle.stl_syntax.specs.declared.atom.Term.{Term}
 use Rattle.stl_syntax.specs.declared.atom.Atom.{Atom}
-use Rattle.rational.proofs.TimeLemmas.{same_times, less_in, less_no, precedes_le, later_more}
+use Rattle.rational.proofs.TimeLemmas.{same_times, less_in, less_no}
+use Rattle.stl_syntax.proofs.Reaching.{Reaches, reach_now, reach_less, ahead_reaches, ahead_longer, ahead_shorter, behind_reaches, behind_longer, behind_shorter, until_left, until_right, since_left, since_right}
 use Rattle.stl_syntax.proofs.TruthLemmas.{compares_same, chosen}
 
 -- a ramp has at its first row that row's value
 ramp_starts : (c : ℕ) (r s : Row) → at (line_between r.time (value r c) (s.time - suc r.time) (value s c)) (row_time r) ≈ whole (value r c)
 ramp_starts c r s = record { same = omega arith }
 
+-- each column has at a row the row's value
 pub piece_starts : (step : Bool) (c : ℕ) (r s : Row) (t : Rational) → t ≈ row_time r → piece step c r s t ≈ whole (value r c)
 piece_starts true c r s t e = same_refl (whole (value r c))
 piece_starts false c r s t e = same_trans (same_at (line_between r.time (value r c) (s.time - suc r.time) (value s c)) e) (ramp_starts c r s)
@@ -73,106 +74,90 @@ module _ (header : Header) (n : ℕ) (r : Row) (rows more : List Row) (ok : AreR
   same_sum [] t h k = same_refl (whole (pos 0))
   same_sum (x ∷ terms) t h k = same_add (same_times x.coef (same_column x.name t h k)) (same_sum terms t h k)
 
+  -- an atom's expression is the same up to the last row
   pub same_atom : (a : Atom) (t : Rational) → row_time r ≤ʳ t → t ≤ʳ whole (pos (last_time r.time rows))
       → expression a (trace header (r ∷ rows)) t ≈ expression a (trace header (r ∷ (rows ++ more))) t
   unfolding expression
   same_atom a t h k = same_subtract (same_sum a.terms t h k) (same_refl (whole a.limit))
 
+  -- more rows end no earlier
   pub longer : whole (pos (last_time r.time rows)) ≤ʳ whole (pos (last_time r.time (rows ++ more)))
   longer = let h = last_grows n r.time rows more ok in record { le = omega arith }
 
-  -- a window that ends by the last row is not clipped anew
-  ahead_wider : (a b : ℕ) (a_in b_in : Bool) (t u : Rational) → Ahead (row_time r) (whole (pos (last_time r.time rows))) a b a_in b_in t u → Ahead (row_time r) (whole (pos (last_time r.time (rows ++ more)))) a b a_in b_in t u
-  ahead_wider a b a_in b_in t u w = record { inside = record { above = w.inside.above; below = le_trans w.inside.below longer }; begins = w.begins; ends = w.ends }
+  abbrev from : Rational
+  from = row_time r
 
-  ahead_narrower : (a b : ℕ) (a_in b_in : Bool) (t u : Rational) → later t b ≤ʳ whole (pos (last_time r.time rows))
-      → Ahead (row_time r) (whole (pos (last_time r.time (rows ++ more)))) a b a_in b_in t u → Ahead (row_time r) (whole (pos (last_time r.time rows))) a b a_in b_in t u
-  ahead_narrower a b a_in b_in t u h w = record { inside = record { above = w.inside.above; below = le_trans (precedes_le b_in u (later t b) w.ends) h }; begins = w.begins; ends = w.ends }
-
-  behind_wider : (a : ℕ) (b : Option ℕ) (a_in b_in : Bool) (t u : Rational) → Behind (row_time r) (whole (pos (last_time r.time rows))) a b a_in b_in t u → Behind (row_time r) (whole (pos (last_time r.time (rows ++ more)))) a b a_in b_in t u
-  behind_wider a b a_in b_in t u w = record { inside = record { above = w.inside.above; below = le_trans w.inside.below longer }; begins = w.begins; ends = w.ends }
-
-  behind_narrower : (a : ℕ) (b : Option ℕ) (a_in b_in : Bool) (t u : Rational) → t ≤ʳ whole (pos (last_time r.time rows))
-      → Behind (row_time r) (whole (pos (last_time r.time (rows ++ more)))) a b a_in b_in t u → Behind (row_time r) (whole (pos (last_time r.time rows))) a b a_in b_in t u
-  behind_narrower a b a_in b_in t u h w = record { inside = record { above = w.inside.above; below = le_trans (let e = precedes_le a_in (later u a) t w.ends in record { le = omega (arith, e.le) }) h }; begins = w.begins; ends = w.ends }
-
-  -- the trace is known up to s: a later time by k or less
-  abbrev pub Known : ℕ → Rational → Type 0
-  Known k t = (row_time r ≤ʳ t) × (later t k ≤ʳ whole (pos (last_time r.time rows)))
-
-  later_later : (t u : Rational) (j k : ℕ) → u ≤ʳ later t j → later u k ≤ʳ later t (j + k)
-  later_later t u j k h = record { le = omega (arith, h.le) }
-
-  now : (k : ℕ) (t : Rational) → Known k t → t ≤ʳ whole (pos (last_time r.time rows))
-  now k t h = le_trans (record { le = omega (arith, mul-le-mul_right (t.den * t.den) (let z : 0 ≤ k = omega arith in z)) }) h.1
-
-  less_known : (j k : ℕ) (t : Rational) → j ≤ k → Known k t → Known j t
-  less_known j k t g h = (h.0, le_trans (later_more t j k g) h.1)
-
-  known_ahead : (a b k : ℕ) (t u : Rational) → Known (b + k) t → row_time r ≤ʳ u → u ≤ʳ later t b → Known k u
-  known_ahead a b k t u h s e = (s, le_trans (later_later t u b k e) h.1)
-
-  known_behind : (a k : ℕ) (t u : Rational) → Known (k - a) t → row_time r ≤ʳ u → later u a ≤ʳ t → Known k u
-  known_behind a k t u h s e = (s, le_trans (le_trans (later_more u k (a + (k - a)) (omega arith)) (record { le = omega (arith, e.le) })) h.1)
-
-  known_before : (k : ℕ) (t v : Rational) → Known k t → row_time r ≤ʳ v → v ≤ʳ t → Known k v
-  known_before k t v h s e = (s, le_trans (record { le = omega (arith, e.le) }) h.1)
-
-  window_end : (b k : ℕ) (t : Rational) → Known (b + k) t → later t b ≤ʳ whole (pos (last_time r.time rows))
-  window_end b k t h = le_trans (later_more t b (b + k) (omega arith)) h.1
+  abbrev to : Rational
+  to = whole (pos (last_time r.time rows))
 
   -- an answered truth is the truth in each trace that goes on from the rows
-  pub Truth-settled : (p : Subformula) (t : Rational) → Known (horizon p) t
-      → (Truth p (trace header (r ∷ rows)) t → Truth p (trace header (r ∷ (rows ++ more))) t)
-      × (Truth p (trace header (r ∷ (rows ++ more))) t → Truth p (trace header (r ∷ rows)) t)
+  pub Truth-settled : (p : Subformula) (t : Rational) → Reaches from to (horizon p) t
+      → Truth p (trace header (r ∷ rows)) t ↔ Truth p (trace header (r ∷ (rows ++ more))) t
   Truth-settled (constant b) t h = (λ x. x, λ x. x)
   Truth-settled (atom i a) t h =
-      let e = same_atom a t h.0 (now 0 t h) in
+      let e = same_atom a t h.after (reach_now 0 h) in
       (λ x. compares_same a.rel _ _ e x, λ x. compares_same a.rel _ _ (same_sym e) x)
   Truth-settled (negation p) t h = let s = Truth-settled p t h in (λ x y. x (s.1 y), λ x y. x (s.0 y))
   Truth-settled (conjunction p q) t h =
-      let s = Truth-settled p t (less_known (horizon p) (max (horizon p) (horizon q)) t (omega arith) h) in
-      let u = Truth-settled q t (less_known (horizon q) (max (horizon p) (horizon q)) t (omega arith) h) in
+      let s = Truth-settled p t (reach_less (horizon p) (max (horizon p) (horizon q)) (omega arith) h) in
+      let u = Truth-settled q t (reach_less (horizon q) (max (horizon p) (horizon q)) (omega arith) h) in
       (λ x. (s.0 x.0, u.0 x.1), λ x. (s.1 x.0, u.1 x.1))
   Truth-settled (disjunction p q) t h =
-      let s = Truth-settled p t (less_known (horizon p) (max (horizon p) (horizon q)) t (omega arith) h) in
-      let u = Truth-settled q t (less_known (horizon q) (max (horizon p) (horizon q)) t (omega arith) h) in
+      let s = Truth-settled p t (reach_less (horizon p) (max (horizon p) (horizon q)) (omega arith) h) in
+      let u = Truth-settled q t (reach_less (horizon q) (max (horizon p) (horizon q)) (omega arith) h) in
       (either s.0 u.0, either s.1 u.1)
   Truth-settled (implication p q) t h =
-      let s = Truth-settled p t (less_known (horizon p) (max (horizon p) (horizon q)) t (omega arith) h) in
-      let u = Truth-settled q t (less_known (horizon q) (max (horizon p) (horizon q)) t (omega arith) h) in
+      let s = Truth-settled p t (reach_less (horizon p) (max (horizon p) (horizon q)) (omega arith) h) in
+      let u = Truth-settled q t (reach_less (horizon q) (max (horizon p) (horizon q)) (omega arith) h) in
       (λ x y. u.0 (x (s.1 y)), λ x y. u.1 (x (s.0 y)))
   Truth-settled (eventually a b a_in b_in p) t h = (
-    λ (u, w, x). (u, ahead_wider a b a_in b_in t u w, (Truth-settled p u (known_ahead a b (horizon p) t u h w.inside.above (precedes_le b_in u (later t b) w.ends))).0 x),
-    λ (u, w, x). (u, ahead_narrower a b a_in b_in t u (window_end b (horizon p) t h) w, (Truth-settled p u (known_ahead a b (horizon p) t u h w.inside.above (precedes_le b_in u (later t b) w.ends))).1 x),
+    λ (u, w, x). (u, ahead_longer longer w, (Truth-settled p u (ahead_reaches (horizon p) h w)).0 x),
+    λ (u, w, x). (u, ahead_shorter (horizon p) h w, (Truth-settled p u (ahead_reaches (horizon p) h w)).1 x),
   )
   Truth-settled (always a b a_in b_in p) t h = (
-    λ x u w. let v = ahead_narrower a b a_in b_in t u (window_end b (horizon p) t h) w in (Truth-settled p u (known_ahead a b (horizon p) t u h w.inside.above (precedes_le b_in u (later t b) w.ends))).0 (x u v),
-    λ x u w. (Truth-settled p u (known_ahead a b (horizon p) t u h w.inside.above (precedes_le b_in u (later t b) w.ends))).1 (x u (ahead_wider a b a_in b_in t u w)),
+    λ x u w. (Truth-settled p u (ahead_reaches (horizon p) h w)).0 (x u (ahead_shorter (horizon p) h w)),
+    λ x u w. (Truth-settled p u (ahead_reaches (horizon p) h w)).1 (x u (ahead_longer longer w)),
   )
-  Truth-settled (once a b a_in b_in p) t h = (
-    λ (u, w, x). (u, behind_wider a b a_in b_in t u w, (Truth-settled p u (known_behind a (horizon p) t u h w.inside.above (precedes_le a_in (later u a) t w.ends))).0 x),
-    λ (u, w, x). (u, behind_narrower a b a_in b_in t u (now (horizon p - a) t h) w, (Truth-settled p u (known_behind a (horizon p) t u h w.inside.above (precedes_le a_in (later u a) t w.ends))).1 x),
-  )
-  Truth-settled (historically a b a_in b_in p) t h = (
-    λ x u w. let v = behind_narrower a b a_in b_in t u (now (horizon p - a) t h) w in (Truth-settled p u (known_behind a (horizon p) t u h w.inside.above (precedes_le a_in (later u a) t w.ends))).0 (x u v),
-    λ x u w. (Truth-settled p u (known_behind a (horizon p) t u h w.inside.above (precedes_le a_in (later u a) t w.ends))).1 (x u (behind_wider a b a_in b_in t u w)),
-  )
+  Truth-settled (once a b a_in b_in p) t h =
+      let now = reach_now (horizon p - a) h in (
+        λ (u, w, x). (u, behind_longer longer w, (Truth-settled p u (behind_reaches (horizon p) h w)).0 x),
+        λ (u, w, x). (u, behind_shorter now w, (Truth-settled p u (behind_reaches (horizon p) h w)).1 x),
+      )
+  Truth-settled (historically a b a_in b_in p) t h =
+      let now = reach_now (horizon p - a) h in (
+        λ x u w. (Truth-settled p u (behind_reaches (horizon p) h w)).0 (x u (behind_shorter now w)),
+        λ x u w. (Truth-settled p u (behind_reaches (horizon p) h w)).1 (x u (behind_longer longer w)),
+      )
   Truth-settled (until a b p q) t h =
-      let m = max (horizon p) (horizon q) in
-      let left : (u v : Rational) → u ≤ʳ later t b → Within t u v → Known (horizon p) v =
-      λ u v e w. less_known (horizon p) m v (omega arith) (known_ahead a b m t v h (le_trans h.0 w.above) (le_trans w.below e)) in
-      let right : (u : Rational) → row_time r ≤ʳ u → u ≤ʳ later t b → Known (horizon q) u =
-      λ u g e. less_known (horizon q) m u (omega arith) (known_ahead a b m t u h g e) in (
-        λ (u, w, x, y). (u, ahead_wider a b true true t u w, (Truth-settled q u (right u w.inside.above w.ends)).0 x, λ v z. (Truth-settled p v (left u v w.ends z)).0 (y v z)),
-        λ (u, w, x, y). (u, ahead_narrower a b true true t u (window_end b m t h) w, (Truth-settled q u (right u w.inside.above w.ends)).1 x, λ v z. (Truth-settled p v (left u v w.ends z)).1 (y v z)),
+      let left = λ (u v : Rational) (e : u ≤ʳ later t b) (w : Within t u v). until_left p q b h e w in
+      let right = λ (u : Rational) (g : from ≤ʳ u) (e : u ≤ʳ later t b). until_right p q b h g e in (
+        λ (u, w, x, y). (
+          u,
+          ahead_longer longer w,
+          (Truth-settled q u (right u w.inside.above w.ends)).0 x,
+          λ v z. (Truth-settled p v (left u v w.ends z)).0 (y v z),
+        ),
+        λ (u, w, x, y). (
+          u,
+          ahead_shorter (max (horizon p) (horizon q)) h w,
+          (Truth-settled q u (right u w.inside.above w.ends)).1 x,
+          λ v z. (Truth-settled p v (left u v w.ends z)).1 (y v z),
+        ),
       )
   Truth-settled (since a b p q) t h =
-      let m = max (horizon p) (horizon q - a) in
-      let left : (u v : Rational) → row_time r ≤ʳ u → Within u t v → Known (horizon p) v =
-      λ u v g w. less_known (horizon p) m v (omega arith) (known_before m t v h (le_trans g w.above) w.below) in
-      let right : (u : Rational) → row_time r ≤ʳ u → later u a ≤ʳ t → Known (horizon q) u =
-      λ u g e. known_behind a (horizon q) t u (less_known (horizon q - a) m t (omega arith) h) g e in (
-        λ (u, w, x, y). (u, behind_wider a b true true t u w, (Truth-settled q u (right u w.inside.above w.ends)).0 x, λ v z. (Truth-settled p v (left u v w.inside.above z)).0 (y v z)),
-        λ (u, w, x, y). (u, behind_narrower a b true true t u (now m t h) w, (Truth-settled q u (right u w.inside.above w.ends)).1 x, λ v z. (Truth-settled p v (left u v w.inside.above z)).1 (y v z)),
+      let now = reach_now (max (horizon p) (horizon q - a)) h in
+      let left = λ (u v : Rational) (g : from ≤ʳ u) (w : Within u t v). since_left p q a h g w in
+      let right = λ (u : Rational) (g : from ≤ʳ u) (e : later u a ≤ʳ t). since_right p q a h g e in (
+        λ (u, w, x, y). (
+          u,
+          behind_longer longer w,
+          (Truth-settled q u (right u w.inside.above w.ends)).0 x,
+          λ v z. (Truth-settled p v (left u v w.inside.above z)).0 (y v z),
+        ),
+        λ (u, w, x, y). (
+          u,
+          behind_shorter now w,
+          (Truth-settled q u (right u w.inside.above w.ends)).1 x,
+          λ v z. (Truth-settled p v (left u v w.inside.above z)).1 (y v z),
+        ),
       )

@@ -157,6 +157,7 @@ scaled_well_formed k m nodes h small within = record {
   reach = omega (arith, scaled_reach k m nodes);
 }
 
+-- scaling leaves one root
 pub scaled_root : (k m : ℕ) (nodes : List Node) → HasOneRoot nodes → HasOneRoot (map (scaled_node k m) nodes)
 scaled_root k m nodes h = unused_scaled k m nodes ∙ h ∙ ap (λ n. (n - 1) ∷ []) (sym (length-map nodes (scaled_node k m)))
 
@@ -219,6 +220,7 @@ none_large m nodes e i d l = fails_before_first (has_large_constant m) nodes i d
     by_test (inl t) = absurd (let x : Some (position_or_len (has_large_constant m) nodes) ≡ None = sym (cond-true _ _ _ t) ∙ e in cc)
     by_test (inr f) = let past = ltb-false (position_or_len (has_large_constant m) nodes) (length nodes) f in omega (arith, past, l)
 
+-- where no constant is too large there is no first one
 pub no_first_large : (k m : ℕ) (nodes : List Node) → All (λ n. has_large_constant m n ≡ false) nodes → (i : ℕ) → IsFirst HasLargeConstant (map (scaled_node k m) nodes) i → ⊥
 no_first_large k m nodes h i first =
     let old = scaled_at k m nodes i first.node first.at in

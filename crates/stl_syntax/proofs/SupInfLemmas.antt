@@ -50,6 +50,7 @@ SupInf-unique (historically a b a_in b_in p) s t r r' g h k = Inf-unique s.highe
 pub margins_give_one : (tr : Trace) → GivesOne (margins tr)
 margins_give_one tr i a t r r' h k = le_transᵉ r _ r' h.at_most k.at_least
 
+-- truths give one value
 pub truths_give_one : (tr : Trace) → GivesOne (truths tr)
 truths_give_one tr i a t r r' (inl (h, e)) (inl (k, f)) = le_transᵉ r one r' e.at_most f.at_least
 truths_give_one tr i a t r r' (inl (h, e)) (inr (k, f)) = absurd (let g : true ≡ false = sym h ∙ k in cc)

@@ -22,7 +22,8 @@ use Rattle.stl_syntax.specs.declared.rel.Rel.{Rel}
 use Rattle.stl_syntax.specs.declared.rel.Rel.TheVariants.{AtLeast, Above, AtMost, Below}
 use Rattle.stl_syntax.proofs.TruthLemmas.{same_expression, compares_same}
 
-margin_same : {x y : Rational} (rel : Rel) → x ≈ y → margin rel x ≈ margin rel y
+-- equal numbers have equal margins
+pub margin_same : {x y : Rational} (rel : Rel) → x ≈ y → margin rel x ≈ margin rel y
 margin_same AtLeast e = e
 margin_same Above e = e
 margin_same AtMost e = same_negate e
@@ -50,6 +51,7 @@ in_same {t} {u} e s h = record {
   below = precedes_after (interval e.on).to_in u t (interval e.on).to (ge_of_same s) h.below;
 }
 
+-- a time is covered by any pair
 pub covered_same : {t u : Rational} (items : List Item) (i : ℕ) → t ≈ u → IsCovered items i t → IsCovered items i u
 covered_same [] i e h = h
 covered_same (x ∷ items) i e (inl h) = inl (h.0, in_same x e h.1)
@@ -61,11 +63,13 @@ bool_same true c f g = sym (f refl)
 bool_same false true f g = g refl
 bool_same false false f g = refl
 
-holds_same : {t u : Rational} (a : Atom) (tr : Trace) → t ≈ u → holds_at a tr t ≡ holds_at a tr u
+-- an atom's test does not depend on the pair by which a time is written
+pub holds_same : {t u : Rational} (a : Atom) (tr : Trace) → t ≈ u → holds_at a tr t ≡ holds_at a tr u
 holds_same {t} {u} a tr e =
     bool_same (holds_at a tr t) (holds_at a tr u) (compares_same a.rel (expression a tr t) (expression a tr u) (same_expression a tr e))
     (compares_same a.rel (expression a tr u) (expression a tr t) (same_sym (same_expression a tr e)))
 
+-- the reading of an atom does not depend on the pair
 pub Gives-same : {t u : Rational} (A : Reading) (i : ℕ) (a : Atom) (r : Extended) → t ≈ u → Gives A i a t r → Gives A i a u r
 Gives-same {t} {u} (margins tr) i a r e h =
     same_transᵉ r (finite (margin a.rel (expression a tr t))) (finite (margin a.rel (expression a tr u))) h (finite_same (margin_same a.rel (same_expression a tr e)))
@@ -105,6 +109,7 @@ SupInf-same {t} {u} (since a b p q) s r e h =
 module _ (items : List Item) (tr : Trace) where
   -- what is certain at one time is certain by whichever pair the time is written
   mutual
+    -- nor does what is certainly true
     pub Must-same : {t u : Rational} (p : Subformula) → t ≈ u → Must p items tr t → Must p items tr u
     Must-same (constant b) e h = h
     Must-same (atom i a) e h = (sym (holds_same a tr e) ∙ h.0, covered_same items i e h.1)
@@ -121,6 +126,7 @@ module _ (items : List Item) (tr : Trace) where
     Must-same (until a b p q) e (v, w, h, k) = (v, ahead_same e w, h, λ x m. k x (from_same e m))
     Must-same (since a b p q) e (v, w, h, k) = (v, behind_same e w, h, λ x m. k x (to_same e m))
 
+    -- nor what is certainly false
     pub MustNot-same : {t u : Rational} (p : Subformula) → t ≈ u → MustNot p items tr t → MustNot p items tr u
     MustNot-same (constant b) e h = h
     MustNot-same (atom i a) e h = (sym (holds_same a tr e) ∙ h.0, covered_same items i e h.1)

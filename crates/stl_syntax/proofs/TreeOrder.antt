@@ -45,5 +45,6 @@ nothing_stands = record { order = record { follows = λ i n e. absurd (cc) }; fr
 pub tree_order : {ns : List Node} → IsTreeFrom 0 ns → IsPostOrder ns
 tree_order t = (tree_stands [] [] nothing_stands refl t).order
 
+-- a tree has one root
 pub tree_root : {ns : List Node} → IsTreeFrom 0 ns → HasOneRoot ns
 tree_root {ns} t = let x = (tree_stands [] [] nothing_stands refl t).free in let e : top 0 ns ≡ length ns - 1 = omega arith in x ∙ ap (λ z. z ∷ []) e

@@ -193,6 +193,7 @@ one_is_one = record { at_most = le_reflᵉ one; at_least = le_reflᵉ one }
 least_of_ones : (x : Extended) → x ≈ᵉ one → IsLeast x one one
 least_of_ones x e = record { left = e.at_least; right = le_reflᵉ one; one_of = inl e.at_most }
 
+-- the formula itself has values where each below it has
 pub has_value : (p : Subformula) (s : Setting) → HasValues p s → HasValue p s
 has_value (constant b) s h = h
 has_value (atom i a) s h = h

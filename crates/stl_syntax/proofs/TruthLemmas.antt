@@ -19,6 +19,7 @@ same_piece : {t u : Rational} (step : Bool) (c : ℕ) (r s : Row) → t ≈ u �
 same_piece true c r s h = same_refl (whole (value r c))
 same_piece false c r s h = same_at (line_between r.time (value r c) (s.time - suc r.time) (value s c)) h
 
+-- a choice between equal numbers
 pub chosen : (b : Bool) (v w v' w' : Rational) → v ≈ v' → w ≈ w' → cond b v w ≈ cond b v' w'
 chosen true v w v' w' h k = h
 chosen false v w v' w' h k = k
@@ -34,6 +35,7 @@ same_value_among (k ∷ columns) c [] name h = chosen (bytes_eq k.name name) _ _
 same_value_among (k ∷ columns) c (r ∷ rows) name h =
     chosen (bytes_eq k.name name) _ _ _ _ (same_value_from k.step c r rows h) (same_value_among columns (suc c) (r ∷ rows) name h)
 
+-- a column's value does not depend on the pair of the time
 pub same_value_of : {t u : Rational} (tr : Trace) (name : List ℕ) → t ≈ u → value_of tr name t ≈ value_of tr name u
 unfolding value_of
 same_value_of tr name h = same_value_among tr.header.columns 0 tr.rows name h
@@ -42,6 +44,7 @@ same_sum_at : {t u : Rational} (terms : List Term) (tr : Trace) → t ≈ u → 
 same_sum_at [] tr h = same_refl (whole (pos 0))
 same_sum_at (k ∷ terms) tr h = same_add (same_times k.coef (same_value_of tr k.name h)) (same_sum_at terms tr h)
 
+-- nor does an atom's expression
 pub same_expression : {t u : Rational} (a : Atom) (tr : Trace) → t ≈ u → expression a tr t ≈ expression a tr u
 unfolding expression
 same_expression a tr h = same_subtract (same_sum_at a.terms tr h) (same_refl (whole a.limit))
@@ -52,6 +55,7 @@ not_negative {x} {y} e h = le_of_mul-le-mul_right (omega (arith, e.same, mul-le-
 negative : {x y : Rational} → x ≈ y → x.up ≤ x.down → y.up ≤ y.down
 negative {x} {y} e h = le_of_mul-le-mul_right (omega (arith, e.same, mul-le-mul_right y.den h)) x.positive
 
+-- equal numbers compare alike with 0
 pub compares_same : (rel : Rel) (x y : Rational) → x ≈ y → IsTrue (compares rel x) → IsTrue (compares rel y)
 compares_same AtLeast x y e h = let k : x.down ≤ x.up = grind arith in let l = not_negative e k in grind arith
 compares_same Above x y e h = grind (arith, negative (same_sym e))

@@ -21,6 +21,7 @@ value_factor f to = 10 ^ (to.value - f.scale.value)
 pub constant_fault : (f : Formula) (to : Scale) (i : ℕ) → position (has_large_constant (value_factor f to)) f.nodes ≡ Some i → IsUnitFault f to (Constant i)
 constant_fault f to i e = inl (i, first_large (time_factor f to) (value_factor f to) i f.nodes e, refl)
 
+-- the first large constant is the one fault
 pub constant_fault_only : (f : Formula) (to : Scale) (i : ℕ) → position (has_large_constant (value_factor f to)) f.nodes ≡ Some i → (r : UnitFault) → IsUnitFault f to r → Constant i ≡ r
 constant_fault_only f to i e r (inl (j, first, is)) =
     ap Constant (one_first HasLargeConstant (scaled f to).nodes i j (first_large (time_factor f to) (value_factor f to) i f.nodes e) first) ∙ sym is
@@ -38,6 +39,7 @@ pub reach_fault : (f : Formula) (to : Scale) → position (has_large_constant (v
     → IsUnitFault f to (Reach (reach f.nodes * time_factor f to))
 reach_fault f to e large = inr ((λ r h. none_first f to e h.0 h.1), (omega (arith, new_reach f to, large), ap Reach (sym (new_reach f to))))
 
+-- and without one the reach is
 pub reach_fault_only : (f : Formula) (to : Scale) → position (has_large_constant (value_factor f to)) f.nodes ≡ None → (r : UnitFault) → IsUnitFault f to r
     → Reach (reach f.nodes * time_factor f to) ≡ r
 reach_fault_only f to e r (inl (i, first, is)) = absurd (none_first f to e i first)

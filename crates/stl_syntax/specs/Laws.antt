@@ -1,9 +1,9 @@
 -- The laws of the definitions: what holds of every formula, trace and time by what the words mean.
-use Rattle.std.specs.Prelude.{◌≡◌, ◌⊎◌, ◌↔◌, ℕ, ◌<◌, List, ◌∷◌, length, pos, slice_get, Some, Bool, MatchBool}
-use Rattle.rational.specs.Time.{Rational, Within, Interval, whole, negate, ◌≈◌, ◌≤ʳ◌}
+use Rattle.std.specs.Prelude.{◌≡◌, ◌≢◌, ◌⊎◌, ◌↔◌, ℕ, ◌<◌, List, [], ◌∷◌, length, pos, slice_get, Some, Option, Bool, true, false, MatchBool}
+use Rattle.rational.specs.Time.{Rational, Within, Interval, whole, later, negate, ◌≈◌, ◌≤ʳ◌}
 use Rattle.rational.specs.Extended.{Extended, finite, ◌<ᵉ◌, ◌≈ᵉ◌}
-use Rattle.stl_syntax.specs.Trace.{Header, Row, Trace, IsTrace, Continues, IsLike, start, stop}
-use Rattle.stl_syntax.specs.Formula.{Formula, Subformula, root}
+use Rattle.stl_syntax.specs.Trace.{Header, Row, Trace, IsTrace, Continues, IsLike, start, stop, last_time}
+use Rattle.stl_syntax.specs.Formula.{Formula, Subformula, until, since, horizon, root, subformula}
 use Rattle.stl_syntax.specs.Print.{IsPrintedFormula}
 use Rattle.stl_syntax.specs.PostOrder.{IsPostOrder, IsTreeFrom}
 use Rattle.stl_syntax.specs.WellFormed.{IsWellFormed}
@@ -12,7 +12,10 @@ use Rattle.stl_syntax.specs.Knots.{Knots, AreKnots}
 use Rattle.stl_syntax.specs.SupInf.{Reading, margins, truths, certainties, signals, Gives, Setting, margin_setting, SupInf, Robustness, one, zero_value, minus_one, HasValues, HasInfs, truth_setting, certainty_setting}
 use Rattle.stl_syntax.specs.Kleene.{Must, MustNot}
 use Rattle.stl_syntax.specs.Kept.{AreSo, Agree}
-use Rattle.stl_syntax.specs.Early.{Decides}
+use Rattle.stl_syntax.specs.Early.{OpenAhead, OpenBehind, IsSure, Settled, SettledNot, Decides}
+use Rattle.stl_syntax.specs.Network.{Event, state}
+use Rattle.stl_syntax.specs.Driven.{IsDriven}
+use Rattle.stl_syntax.specs.StreamedWide.{front_at}
 use Rattle.stl_syntax.specs.Closeness.{AreClose}
 use Rattle.stl_syntax.specs.Verdicts.{Describes, DescribesMargins, AreAlike, KnotsAlike, PiecesAlike, IsAnswered}
 use Rattle.stl_syntax.specs.declared.atom.Atom.{Atom}
@@ -89,6 +92,79 @@ AnswersStay =
     (p : Subformula) (header : Header) (r : Row) (rows : List Row) (tr : Trace) (ended : Bool) (t : Rational) →
     let so_far : Trace = record { header = header; rows = r ∷ rows } in
     IsTrace tr → Continues tr header (r ∷ rows) ended → IsAnswered p so_far (stop so_far) t → Truth p so_far t ↔ Truth p tr t
+
+-- an answered robustness is the robustness in every trace that goes on from the rows
+abbrev pub AnsweredMarginsStay : Type 0
+AnsweredMarginsStay =
+    (p : Subformula) (header : Header) (r : Row) (rows : List Row) (tr : Trace) (ended : Bool) (t : Rational) (v : Extended) →
+    let so_far : Trace = record { header = header; rows = r ∷ rows } in
+    IsTrace tr → Continues tr header (r ∷ rows) ended → IsAnswered p so_far (stop so_far) t → Robustness p so_far t v ↔ Robustness p tr t v
+
+-- what is answered is settled: rows that reach a time and the horizon after it leave no third value there
+abbrev pub AnsweredIsSettled : Type 0
+AnsweredIsSettled =
+    (p : Subformula) (tr : Trace) (t : Rational) → IsAnswered p tr (stop tr) t → HasValues p (truth_setting tr) → HasInfs p (truth_setting tr)
+    → (Settled p tr t × Truth p tr t) ⊎ (SettledNot p tr t × (¬ Truth p tr t))
+
+-- rows up to the start and the horizon after it decide
+abbrev pub RowsDecide : Type 0
+RowsDecide =
+    (p : Subformula) (tr : Trace) → later (start tr) (horizon p) ≤ʳ stop tr → HasValues p (truth_setting tr) → HasInfs p (truth_setting tr)
+    → Decides p tr true ⊎ Decides p tr false
+
+-- what is settled does not depend on the pair by which a time is written
+abbrev pub SettledIsOfTimes : Type 0
+SettledIsOfTimes =
+    (p : Subformula) (tr : Trace) (t u : Rational) → t ≈ u → (Settled p tr t → Settled p tr u) × (SettledNot p tr t → SettledNot p tr u)
+
+-- from t on the times are of Z without a break, up to a later or equal time of Y that counts at t
+abbrev pub GoesOnTo : (Rational → Type 0) → (Rational → Type 0) → (Rational → Rational → Type 0) → Rational → Type 0
+GoesOnTo Z Y Counts t = (w : Rational) × (t ≤ʳ w) × Counts t w × Y w × ((v : Rational) → Within t w v → Z v)
+
+-- back from t the times are of Z without a break, down to an earlier or equal time of Y
+abbrev pub ComesFrom : Rational → (Rational → Type 0) → (Rational → Type 0) → Rational → Type 0
+ComesFrom from Z Y t = (w : Rational) × (from ≤ʳ w) × (w ≤ʳ t) × Y w × ((v : Rational) → Within w t v → Z v)
+
+-- until is settled true exactly where q is at some sure time of the window, and from each time up to the window's begin p goes on to a sure
+-- time of q
+abbrev pub UntilIsSettledByParts : Type 0
+UntilIsSettledByParts =
+    (p q : Subformula) (a b : ℕ) (tr : Trace) (t : Rational) → start tr ≤ʳ t → Settled (until a b p q) tr t
+    ↔ (((u : Rational) × OpenAhead (start tr) a b true true t u × IsSure tr t u × Settled q tr u)
+    × ((v : Rational) → Within t (later t a) v → GoesOnTo (Settled p tr) (Settled q tr) (IsSure tr) v))
+
+-- until is settled false where q is all over the window, or where from some time up to the window's begin on p or q is, up to a time
+-- where p is
+abbrev pub UntilFailsByParts : Type 0
+UntilFailsByParts =
+    (p q : Subformula) (a b : ℕ) (tr : Trace) (t : Rational) → start tr ≤ʳ t
+    → (((u : Rational) → OpenAhead (start tr) a b true true t u → SettledNot q tr u)
+    ⊎ ((v : Rational) × Within t (later t a) v × GoesOnTo (λ x. SettledNot p tr x ⊎ SettledNot q tr x) (SettledNot p tr) (λ x w. Unit {0}) v))
+    → SettledNot (until a b p q) tr t
+
+-- since is settled true exactly where q is at some sure time of the window, and from each time that is in the window or after it, and in the
+-- domain up to t, p goes back to a time of q
+abbrev pub SinceIsSettledByParts : Type 0
+SinceIsSettledByParts =
+    (p q : Subformula) (a : ℕ) (b : Option ℕ) (tr : Trace) (t : Rational) → start tr ≤ʳ t → Settled (since a b p q) tr t
+    ↔ (((u : Rational) × OpenBehind (start tr) a b true true t u × IsSure tr t u × Settled q tr u)
+    × ((v : Rational) → start tr ≤ʳ v → t ≤ʳ later v a → v ≤ʳ t → ComesFrom (start tr) (Settled p tr) (Settled q tr) v))
+
+-- since is settled false where q is all over the window, or where back from some time at or after the window's end p or q is, down to a
+-- time where p is
+abbrev pub SinceFailsByParts : Type 0
+SinceFailsByParts =
+    (p q : Subformula) (a : ℕ) (b : Option ℕ) (tr : Trace) (t : Rational) → start tr ≤ʳ t
+    → (((u : Rational) → OpenBehind (start tr) a b true true t u → SettledNot q tr u)
+    ⊎ ((v : Rational) × (t ≤ʳ later v a) × (v ≤ʳ t) × ComesFrom (start tr) (λ x. SettledNot p tr x ⊎ SettledNot q tr x) (SettledNot p tr) v))
+    → SettledNot (since a b p q) tr t
+
+-- in the run that a stream drives, the front of each node is the last row's time less the horizon, and that time itself after the end
+abbrev pub FrontsAreTimes : Type 0
+FrontsAreTimes =
+    (nodes : List Node) (header : Header) (rows : List Row) (ended : Bool) (events : List Event) (i : ℕ)
+    → IsPostOrder nodes → IsDriven nodes header rows ended events → rows ≢ [] → i < length nodes
+    → (state nodes events).fronts i ≡ Some (front_at ended (pos (last_time 0 rows)) (subformula nodes i))
 
 -- what rows decide is the truth at the start of every trace that goes on from them, and stays decided
 abbrev pub DecisionsStay : Type 0

@@ -27,6 +27,7 @@ pub mod MarginStream
 pub mod Binding
 pub mod EarlyText
 pub mod Held
+pub mod Driven
 pub mod StreamedWide
 pub mod Closeness
 pub mod Laws

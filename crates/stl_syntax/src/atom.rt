@@ -1,3 +1,4 @@
+//! Atoms: a sum of signals compared with a constant, within the limits of both.
 ghost use Rattle.std.specs.Prelude.{◌≡◌, ◌<◌, ◌≤◌, ◌*◌, nat_abs, length, All, IfOk, IsTrue, slice_get, Some};
 ghost use Rattle.stl_syntax.specs.Names.{is_name};
 ghost use Rattle.stl_syntax.specs.WellFormed.{IsTermInLimits};

@@ -1,3 +1,4 @@
+//! Formulas from nodes in post-order, one after another.
 ghost use Rattle.std.specs.Prelude.{◌≡◌, ◌<◌, ◌≤◌, ◌++◌, ◌∷◌, [], ℕ, List, length, IfOk, OnErr};
 ghost use Rattle.stl_syntax.specs.Limits.{reach};
 ghost use Rattle.stl_syntax.specs.PostOrder.{children, unused, MayFollow};

@@ -1,3 +1,4 @@
+//! A formula: its nodes in post-order, the root last, and its scale.
 ghost use Rattle.std.specs.Prelude.{◌≡◌, ◌<◌, ◌≤◌, ◌^◌, length, slice_get, Some};
 
 use crate::horizon::last_horizon;

@@ -1,3 +1,4 @@
+//! How far after a time a trace must reach before the truth there is known.
 ghost use Rattle.std.specs.Prelude.{◌≡◌, ◌<◌, ◌≤◌, ◌^◌, ℕ, length};
 ghost use Rattle.stl_syntax.specs.Formula.{HasChildrenBelow, horizon, root};
 ghost use Rattle.stl_syntax.specs.Horizons.{horizon_above};

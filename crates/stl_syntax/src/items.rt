@@ -1,3 +1,4 @@
+//! Verdicts, and the items and lists of an explanation.
 ghost use Rattle.std.specs.Prelude.{◌≡◌, ◌<◌, ◌++◌, ◌∷◌, [], length, OnOk, OnErr, slice_get, Some};
 
 use frac128::{Memory, Span};

@@ -1,5 +1,5 @@
 //! Laws of the definitions. Each is the contract of a call that does nothing, so that the gate proves it.
-ghost use Rattle.stl_syntax.specs.Laws.{TruthIsOfTimes, ValuesAreOfTimes, CertaintyIsOfTimes, OneValue, CertaintyHasValues, TruthByValues, CertaintyByValues, CertaintyIsTruth, ExplanationsHold, AnswersStay, DecisionsStay, MarginsHold, OneListOfVerdicts, OneListOfMargins, OnePrintedText, FormulasAreTrees};
+ghost use Rattle.stl_syntax.specs.Laws.{TruthIsOfTimes, ValuesAreOfTimes, CertaintyIsOfTimes, OneValue, CertaintyHasValues, TruthByValues, CertaintyByValues, CertaintyIsTruth, ExplanationsHold, AnswersStay, AnsweredMarginsStay, AnsweredIsSettled, RowsDecide, SettledIsOfTimes, UntilIsSettledByParts, UntilFailsByParts, SinceIsSettledByParts, SinceFailsByParts, FrontsAreTimes, DecisionsStay, MarginsHold, OneListOfVerdicts, OneListOfMargins, OnePrintedText, FormulasAreTrees};
 
 /// The truth at a time does not depend on the pair of numbers by which the time is written.
 pub fn truth_is_of_times()
@@ -50,6 +50,55 @@ pub fn explanations_hold()
 /// An answered truth is the truth in every trace that goes on from the rows.
 pub fn answers_stay()
     ensures { AnswersStay }
+{}
+
+/// An answered robustness is the robustness in every trace that goes on from the rows.
+pub fn answered_margins_stay()
+    ensures { AnsweredMarginsStay }
+{}
+
+/// What is answered is settled: where rows reach a time and the horizon after it, they settle the formula there, true where it holds and false
+/// where it fails. No third value is left.
+pub fn answered_is_settled()
+    ensures { AnsweredIsSettled }
+{}
+
+/// Rows up to the start and the horizon after it decide.
+pub fn rows_decide()
+    ensures { RowsDecide }
+{}
+
+/// What is settled does not depend on the pair by which a time is written.
+pub fn settled_is_of_times()
+    ensures { SettledIsOfTimes }
+{}
+
+/// Until is settled true exactly where its right side is settled true at some sure time of the window, and from each time up to the window its
+/// left side goes on to such a time.
+pub fn until_is_settled_by_parts()
+    ensures { UntilIsSettledByParts }
+{}
+
+/// Until is settled false where its right side is all over the window, or where its left side fails before its right side can hold.
+pub fn until_fails_by_parts()
+    ensures { UntilFailsByParts }
+{}
+
+/// Since is settled true exactly where its right side is settled true at some time of the window, and back from each time after the window's
+/// end its left side goes down to such a time.
+pub fn since_is_settled_by_parts()
+    ensures { SinceIsSettledByParts }
+{}
+
+/// Since is settled false where its right side is all over the window, or where its left side fails after its right side can hold.
+pub fn since_fails_by_parts()
+    ensures { SinceFailsByParts }
+{}
+
+/// In the run that a stream drives, where each row and the end is followed by a step of every node, the front of each node is the last row's time
+/// less the horizon, and after the end that time itself.
+pub fn fronts_are_times()
+    ensures { FrontsAreTimes }
 {}
 
 /// What rows decide early is the truth at the start of every trace that goes on from them, and stays decided.

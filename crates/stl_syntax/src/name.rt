@@ -1,3 +1,4 @@
+//! Names of signals.
 ghost use Rattle.std.specs.Prelude.{◌≡◌, IfOk};
 
 use frac128::Memory;

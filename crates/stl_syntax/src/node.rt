@@ -1,3 +1,4 @@
+//! The nodes of a formula.
 ghost use Rattle.std.specs.Prelude.{◌≡◌, ◌≤◌, ◌*◌, false, option_map};
 ghost use Rattle.stl_syntax.specs.Limits.{own_reach, reach_of_bound};
 ghost use Rattle.stl_syntax.specs.Scaling.{scaled_node, has_large_constant};

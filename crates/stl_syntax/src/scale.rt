@@ -1,3 +1,4 @@
+//! Ticks of time and of value, and when a formula cannot be counted in them.
 /// A tick of time, and of value, as decimals of a unit: with `n` digits it is 1/10^n.
 #[derive(Clone, Copy, Debug, PartialEq, Eq)]
 pub struct Scale {

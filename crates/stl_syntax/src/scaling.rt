@@ -1,3 +1,4 @@
+//! A formula in smaller ticks.
 ghost use Rattle.std.specs.Prelude.{◌≡◌, ◌⊎◌, ◌<◌, ◌≤◌, ◌*◌, ◌-◌, ◌^◌, false, length, map, position, sum_by, All, IfSome, IfOk, IfErr, Err};
 ghost use Rattle.stl_syntax.specs.Binding.{IsUnitFault};
 ghost use Rattle.stl_syntax.specs.Limits.{own_reach, reach};

@@ -1,3 +1,4 @@
+//! Text that grows at its end.
 ghost use Rattle.std.specs.Prelude.{◌≡◌, ◌++◌, [], OnOk, OnErr};
 
 use frac128::Memory;

@@ -1,18 +1,19 @@
 -- What a reader stands for after more bytes of a line, after its LF, and at the end.
-use Rattle.std.proofs.Common.{◌≡◌, ℕ, inl, inr, zero, suc, ◌+◌, ◌<◌, ◌≤◌, Bool, true, false, List, [], ◌∷◌, ◌++◌, length, refl, sym, ap, ◌∙◌, subst, arith, Option, Some, None, append_assoc, add-one}
+use Rattle.std.proofs.Common.{◌≡◌, ℕ, inl, inr, zero, suc, ◌+◌, ◌-◌, ◌<◌, take, ◌≤◌, Bool, true, false, List, [], ◌∷◌, ◌++◌, length, refl, sym, ap, ◌∙◌, subst, arith, Option, Some, None, append_assoc, add-one}
 use Rattle.std.specs.Prelude.{Ok, Err, IsSome}
-use Rattle.std.proofs.lemmas.List.{append-nil, length_push, length-append, same_from_push}
+use Rattle.std.proofs.lemmas.List.{append-nil, length_push, length-append, same_from_push, take_at}
 use Rattle.std.proofs.lemmas.List.Elements.{All-nil, All-append, All-push}
 use Rattle.std.proofs.lemmas.Bool.{false≢true}
 use Rattle.stl_syntax.specs.Choice.{◌or_else◌, Where}
 use Rattle.stl_syntax.specs.Trace.{Row, last_time, IsInRange, AreRowsAfter}
-use Rattle.trace_reader.specs.TraceText.{lines, fields, Heading, scale_of, AreTraceLines, TraceOf, none}
+use Rattle.stl_syntax.specs.declared.scale.Scale.{Scale}
+use Rattle.trace_reader.specs.TraceText.{Line, lines, fields, Heading, scale_of, AreTraceLines, TraceOf, none}
 use Rattle.trace_reader.specs.TraceRefusals.{RowFault, FaultFrom, IsFirstFault, HasTrace}
 use Rattle.trace_reader.specs.Sofar.{AreRowsSoFar}
 use Rattle.trace_reader.specs.Cut.{begun_after}
 use Rattle.trace_reader.specs.Feeds.{HasNoFeed, rows_after}
 use Rattle.trace_reader.specs.Progress.{Progress, last_of, Judges, blank, heading, row, bad_heading, bad_row}
-use Rattle.trace_reader.specs.Reader.{Reader, StandsFor, HasTaken, GoesOn, FaultsOn, ReadsOn, AreRising, IsFaultOfAll, IsNextRow, header_of, last_seen}
+use Rattle.trace_reader.specs.Reader.{Reader, StandsFor, HasTaken, GoesOn, FaultsOn, ReadsOn, AreRising, IsFaultOfAll, HoldLines, HasReadBefore, IsNextRow, header_of, last_seen}
 use Rattle.trace_reader.specs.Reading.{made, IsLineRefusal, HasEnded}
 use Rattle.trace_reader.specs.declared.refusal.Limits.{Limits}
 use Rattle.trace_reader.specs.declared.refusal.TraceRefusal.{TraceRefusal}
@@ -37,7 +38,8 @@ module _ (r : Reader) (bytes : List ℕ) (rows : List Row) (t : HasTaken r bytes
   lines_now e =
       sym (ap (lines e) (append-nil bytes)) ∙ (t.joins e [] ∙ ap (λ ls. t.front ++ ls) (ap (lines e) (append-nil r.line) ∙ lines-rest e r.line t.free))
 
-  joins_on : (e : Bool) (part more : List ℕ) → lines e ((bytes ++ part) ++ more) ≡ t.front ++ lines e ((r.line ++ part) ++ more)
+  -- more bytes leave the whole lines
+  pub joins_on : (e : Bool) (part more : List ℕ) → lines e ((bytes ++ part) ++ more) ≡ t.front ++ lines e ((r.line ++ part) ++ more)
   joins_on e part more =
       ap (lines e) (append_assoc bytes part more) ∙ (t.joins e (part ++ more) ∙ ap (λ ls. t.front ++ ls) (ap (lines e) (sym (append_assoc r.line part more))))
 
@@ -66,6 +68,24 @@ module _ (r : Reader) (bytes : List ℕ) (rows : List Row) (t : HasTaken r bytes
       some l =
           let e : length (t.front ++ rest false r.line) ≡ length t.front + 1 = ap (λ ls. length (t.front ++ ls)) (rest_some false r.line l) ∙ length_push t.front (record { bytes = r.line; whole = false }) in
           omega (arith, begun_now, e, few)
+
+-- the whole lines hold the heading and the rows
+held : {limits : Limits} {least : Scale} {front : List Line} (heading : Option Heading) {rows : List Row} → GoesOn limits least front heading rows
+    → HoldLines heading least front rows
+held None g = g.blank refl
+held {least = least} {front} (Some h) {rows} g =
+    let all : AreTraceLines least (front ++ []) (header_of least h) (rows ++ []) = g.reads [] (header_of least h) [] (refl, none) in
+    subst (λ ls. AreTraceLines least ls (header_of least h) rows) (append-nil front)
+    (subst (λ rs. AreTraceLines least (front ++ []) (header_of least h) rs) (append-nil rows) all)
+
+-- what was read stands before the line after the whole lines
+pub read_before : (r : Reader) (bytes : List ℕ) (rows : List Row) (t : HasTaken r bytes rows) (part : List ℕ) (n : ℕ) → n ≡ suc (length t.front)
+    → HasReadBefore n r.heading r.least (bytes ++ part) rows
+read_before r bytes rows t part n e more ended =
+    let others = lines ended ((r.line ++ part) ++ more) in
+    let front : take (n - 1) (lines ended ((bytes ++ part) ++ more)) ≡ t.front =
+    ap (take (n - 1)) (joins_on r bytes rows t ended part more) ∙ take_at t.front others (n - 1) (omega (arith, e)) in
+    subst (λ ls. HoldLines r.heading r.least ls rows) (sym front) (held r.heading t.goes_on)
 
 -- the time of the last row
 seen_push : (rows : List Row) (r : Row) → last_seen (rows ++ r ∷ []) ≡ Some r.time
@@ -129,7 +149,8 @@ module _ (limits : Limits) (old : Progress) (begun : ℕ) (line bytes : List ℕ
     pub closed_count : begun_after begun line (length part + 1) ≡ length (lines false taken_bytes)
     closed_count = closed_begun ∙ sym (ap length (sym (ap (lines false) (append-nil taken_bytes)) ∙ (closed_joins false [] ∙ (ap (λ ls. (t.front ++ done text ∷ []) ++ ls) (lines-nil false) ∙ append-nil (t.front ++ done text ∷ [])))))
 
-    number : begun_after begun line (length part + 1) ≡ suc (length t.front)
+    -- the line that the LF ends comes after the whole lines
+    pub number : begun_after begun line (length part + 1) ≡ suc (length t.front)
     number = closed_begun ∙ (length_push t.front (done text) ∙ add-one (length t.front))
 
     module _ (few : begun_after begun line (length part + 1) ≤ limits.lines) (short : length line + length part ≤ 4096) where
@@ -218,16 +239,34 @@ module _ (limits : Limits) (old : Progress) (begun : ℕ) (line bytes : List ℕ
               (subst (λ n. (Where (limits.lines < n) TooManyLines or_else Where (4096 < (length line + length part)) LineTooLong) x.kind) number f),
         )))
 
+  -- so does a line that goes on
+  pub number_going : (part : List ℕ) → HasNoFeed part → 0 < length (line ++ part) → begun_after begun line (length part) ≡ suc (length t.front)
+  number_going part free some =
+      begun-going t.front begun line part (begun_now (made limits old begun line) bytes rows t)
+      ∙ (ap (λ ms. length (t.front ++ ms)) (rest_some false (line ++ part) some)
+      ∙ (length_push t.front (record { bytes = line ++ part; whole = false }) ∙ add-one (length t.front)))
+
+  -- a line that breaks a limit has a byte
+  pub broken_some : (part : List ℕ) → begun ≤ limits.lines → (k : TraceKind)
+      → (Where (limits.lines < begun_after begun line (length part)) TooManyLines or_else Where (4096 < (length line + length part)) LineTooLong) k
+      → 0 < length (line ++ part)
+  broken_some part few k f = by_fault line part f
+    where
+      by_fault : (xs ys : List ℕ)
+          → (Where (limits.lines < begun_after begun xs (length ys)) TooManyLines or_else Where (4096 < (length xs + length ys)) LineTooLong) k → 0 < length (xs ++ ys)
+      by_fault [] [] (inl a) = absurd (omega (arith, few, a.0))
+      by_fault [] [] (inr a) = absurd (omega (arith, a.1.0))
+      by_fault [] (b ∷ bs) a = omega arith
+      by_fault (c ∷ cs) bs a = omega arith
+
   -- a limit broken by a line that goes on
   pub going_breaks : (part : List ℕ) → HasNoFeed part → begun ≤ limits.lines → length line ≤ 4096 → (x : TraceRefusal)
       → IsLineRefusal limits (begun_after begun line (length part)) (length line + length part) x → IsFaultOfAll limits old.least (bytes ++ part) x
   going_breaks part free few short x (at, f) more ended =
-      let some : 0 < length (line ++ part) = by_fault line part few f in
+      let some : 0 < length (line ++ part) = broken_some part few x.kind f in
       let (l, ls, e, n) = grows ended (line ++ part) more (All-append (λ c. c ≡ 10 → ⊥) line part t.free free) some in
       let size : length (line ++ part) ≡ length line + length part = length-append line part in
-      let number : begun_after begun line (length part) ≡ suc (length t.front) =
-      begun-going t.front begun line part (begun_now (made limits old begun line) bytes rows t)
-      ∙ (ap (λ ms. length (t.front ++ ms)) (rest_some false (line ++ part) some) ∙ (length_push t.front (record { bytes = line ++ part; whole = false }) ∙ add-one (length t.front))) in
+      let number : begun_after begun line (length part) ≡ suc (length t.front) = number_going part free some in
       let grown : (Where (limits.lines < suc (length t.front)) TooManyLines or_else Where (4096 < length l.bytes) LineTooLong) x.kind =
       larger (limits.lines < suc (length t.front)) (length line + length part) (length l.bytes) (omega (arith, n, size)) x.kind
       (subst (λ m. (Where (limits.lines < m) TooManyLines or_else Where (4096 < (length line + length part)) LineTooLong) x.kind) number f) in
@@ -237,13 +276,6 @@ module _ (limits : Limits) (old : Progress) (begun : ℕ) (line bytes : List ℕ
       larger : (P : Type 0) (m n : ℕ) → m ≤ n → (k : TraceKind) → (Where P TooManyLines or_else Where (4096 < m) LineTooLong) k → (Where P TooManyLines or_else Where (4096 < n) LineTooLong) k
       larger P m n l k (inl a) = inl a
       larger P m n l k (inr (no_p, (b, e))) = inr (no_p, (omega (arith, l, b), e))
-
-      by_fault : (xs ys : List ℕ) → begun ≤ limits.lines
-          → (Where (limits.lines < begun_after begun xs (length ys)) TooManyLines or_else Where (4096 < (length xs + length ys)) LineTooLong) x.kind → 0 < length (xs ++ ys)
-      by_fault [] [] l (inl a) = absurd (omega (arith, l, a.0))
-      by_fault [] [] l (inr a) = absurd (omega (arith, a.1.0))
-      by_fault [] (b ∷ bs) l a = omega arith
-      by_fault (c ∷ cs) bs l a = omega arith
 
 -- a reader that took nothing
 pub taken_start : (limits : Limits) (p : Progress) → p.heading ≡ None → p.count ≡ 0 → HasTaken (made limits p 0 []) [] []

@@ -1,18 +1,21 @@
 -- A reader takes the bytes up to an LF, or bytes without one.
-use Rattle.std.proofs.Common.{◌≡◌, ℕ, ◌⊎◌, inl, inr, ◌+◌, ◌<◌, ◌≤◌, Bool, true, false, List, [], ◌∷◌, ◌++◌, length, refl, sym, ap, ◌∙◌, subst, arith, Option, Some, None, append_assoc, take, drop}
+use Rattle.std.proofs.Common.{◌≡◌, ℕ, ◌⊎◌, inl, inr, ◌+◌, ◌-◌, ◌<◌, ◌≤◌, Bool, true, false, List, [], ◌∷◌, ◌++◌, length, refl, sym, ap, ◌∙◌, subst, arith, Option, Some, None, append_assoc, take, drop}
 use Rattle.std.specs.Prelude.{Ok, Err, IsSome, Result, IfOk, IfErr, is_some, option_copied, option_map}
 use Rattle.std.specs.Borrow.{Bor}
 use Rattle.std.proofs.lemmas.Bool.{false≢true, cases_eq, eq-eqb, ne_eqb}
-use Rattle.std.proofs.lemmas.List.{length-append, take-append-drop, length-take-le, take_at, nil_from_length}
+use Rattle.std.proofs.lemmas.List.{length-append, take-append-drop, length-take-le, take_at, nil_from_length, append-nil}
+use Rattle.std.proofs.lemmas.List.Elements.{All-nil}
 use Rattle.stl_syntax.specs.Trace.{Row, Header}
-use Rattle.trace_reader.specs.TraceText.{Heading}
+use Rattle.trace_reader.specs.TraceText.{Heading, lines}
+use Rattle.stl_syntax.specs.Choice.{◌or_else◌, Where}
+use Rattle.trace_reader.specs.declared.refusal.TraceKind.TheVariants.{TooManyLines, LineTooLong}
 use Rattle.stl_syntax.specs.declared.scale.Scale.{Scale}
 use Rattle.trace_reader.specs.Cut.{Cut, begun_after}
 use Rattle.trace_reader.specs.Feeds.{HasNoFeed, rows_after, through_feed}
 use Rattle.trace_reader.specs.Cut.{Fits}
 use Rattle.trace_reader.specs.TraceRefusals.{IsFirstFault}
 use Rattle.trace_reader.specs.Progress.{Progress, Judges, blank, heading, row, bad_heading, bad_row}
-use Rattle.trace_reader.specs.Reader.{Reader, StandsFor, HasTaken, IsFaultOfAll, HasCome, EndsWithFeed, feed}
+use Rattle.trace_reader.specs.Reader.{Reader, StandsFor, HasTaken, IsFaultOfAll, HoldLines, HasReadBefore, HasCome, EndsWithFeed, feed}
 use Rattle.trace_reader.specs.Reading.{made, state, HasEnded, IsWithin, IsStart, IsLineRefusal}
 use Rattle.trace_reader.specs.declared.refusal.Limits.{Limits}
 use Rattle.trace_reader.specs.declared.refusal.TraceRefusal.{TraceRefusal}
@@ -20,7 +23,7 @@ use Rattle.trace_reader.specs.declared.refusal.TraceKind.{TraceKind}
 use Rattle.trace_reader.specs.declared.event.Event.{Event}
 use Rattle.trace_reader.specs.declared.event.Event.TheVariants.{Nothing, Header as IsTheHeader, Row as IsARow}
 use Rattle.trace_reader.specs.declared.reading.Reading.{Reading}
-use Rattle.trace_reader.proofs.ReaderSteps.{stands, taken_going, taken_closed, judged_bad, closed_breaks, going_breaks, taken_start, ended_between, ended_closed, ended_bad}
+use Rattle.trace_reader.proofs.ReaderSteps.{stands, taken_going, taken_closed, judged_bad, closed_breaks, going_breaks, taken_start, ended_between, ended_closed, ended_bad, number, number_going, broken_some, read_before}
 
 -- a line that was judged without a fault keeps room for the heading until it was read
 judged_fresh : {limits : Limits} {line : List ℕ} {old new : Progress} {e : Event} → Judges limits line old new (Ok e) → (old.heading ≡ None → old.fresh ≡ true)
@@ -77,6 +80,16 @@ module _ (limits : Limits) (old new : Reading) (w : IsWithin limits old) where
         going_breaks limits old.table old.lines.begun old.lines.line bytes rows s.taken part free w.begun w.line x
         (subst (λ b. IsLineRefusal limits b (length old.lines.line + length part) x) begun f)
 
+    -- a refused line comes after what was read
+    pub hold_before : (x : TraceRefusal) → IsLineRefusal limits new.lines.begun (length old.lines.line + length part) x
+        → (bytes : List ℕ) (rows : List Row) → StandsFor (state limits old) bytes rows
+        → HasReadBefore x.line old.table.heading old.table.least (bytes ++ part) rows
+    hold_before x (at, f) bytes rows s =
+        let kind = subst (λ b. (Where (limits.lines < b) TooManyLines or_else Where (4096 < (length old.lines.line + length part)) LineTooLong) x.kind) begun f in
+        let some = broken_some limits old.table old.lines.begun old.lines.line bytes rows s.taken part w.begun x.kind kind in
+        let number = number_going limits old.table old.lines.begun old.lines.line bytes rows s.taken part free some in
+        read_before (state limits old) bytes rows s.taken part x.line (at ∙ (begun ∙ number))
+
   -- bytes and the LF after them
   module _ (part : List ℕ) (free : HasNoFeed part) (begun : new.lines.begun ≡ begun_after old.lines.begun old.lines.line (length part + 1)) where
     pub finish_within : (e : Event) → Fits limits new.lines.begun (length old.lines.line + length part) → new.lines.line ≡ []
@@ -109,6 +122,12 @@ module _ (limits : Limits) (old new : Reading) (w : IsWithin limits old) where
     finish_fault x (inr (fits, at, judged)) bytes rows s =
         judged_bad limits old.table old.lines.begun old.lines.line bytes rows s.taken part free (subst (λ b. b ≤ limits.lines) begun fits.count) fits.short new.table x (at ∙ begun) judged
 
+    pub finish_before : (x : TraceRefusal) → x.line ≡ new.lines.begun → (bytes : List ℕ) (rows : List Row) → StandsFor (state limits old) bytes rows
+        → HasReadBefore x.line old.table.heading old.table.least (bytes ++ (part ++ 10 ∷ [])) rows
+    finish_before x at bytes rows s =
+        let number = number limits old.table old.lines.begun old.lines.line bytes rows s.taken part free in
+        read_before (state limits old) bytes rows s.taken (part ++ 10 ∷ []) x.line (at ∙ (begun ∙ number))
+
     pub finish_kept : (x : TraceRefusal)
         → (IsLineRefusal limits new.lines.begun (length old.lines.line + length part) x × (new.table ≡ old.table))
         ⊎ (Fits limits new.lines.begun (length old.lines.line + length part) × (x.line ≡ new.lines.begun) × Judges limits (old.lines.line ++ part) old.table new.table (Err x.kind))
@@ -139,14 +158,24 @@ through_parts (x ∷ xs) = by_test (through_parts xs) (cases_eq x 10)
     by_test before (inl e) = (xs, rw (eq-eqb x 10 e) refl)
     by_test (others, h) (inr e) = (others, rw (ne_eqb x 10 e) (ap (λ t. x ∷ t) h))
 
+-- the bytes before a part, the part and the others are the whole
+parts_joined : (bytes front part others piece more : List ℕ) → piece ≡ front ++ (part ++ others)
+    → ((bytes ++ front) ++ part) ++ (others ++ more) ≡ (bytes ++ piece) ++ more
+parts_joined bytes front part others piece more e =
+    sym (append_assoc ((bytes ++ front) ++ part) others more)
+    ∙ ap (λ t. t ++ more) (append_assoc (bytes ++ front) part others ∙ (append_assoc bytes front (part ++ others) ∙ ap (λ t. bytes ++ t) (sym e)))
+
 -- the fault of a part is one of the whole
 pub fault_on : (limits : Limits) (least : Scale) (bytes front part others piece : List ℕ) (x : TraceRefusal) → piece ≡ front ++ (part ++ others)
     → IsFaultOfAll limits least ((bytes ++ front) ++ part) x → IsFaultOfAll limits least (bytes ++ piece) x
 fault_on limits least bytes front part others piece x e f more ended =
-    let a : ((bytes ++ front) ++ part) ++ (others ++ more) ≡ (bytes ++ piece) ++ more =
-    sym (append_assoc ((bytes ++ front) ++ part) others more)
-    ∙ ap (λ t. t ++ more) (append_assoc (bytes ++ front) part others ∙ (append_assoc bytes front (part ++ others) ∙ ap (λ t. bytes ++ t) (sym e))) in
-    subst (λ t. IsFirstFault t ended limits least x) a (f (others ++ more) ended)
+    subst (λ t. IsFirstFault t ended limits least x) (parts_joined bytes front part others piece more e) (f (others ++ more) ended)
+
+-- what was read before a line of a part was read before it in the whole
+pub before_on : (n : ℕ) (h : Option Heading) (least : Scale) (rows : List Row) (bytes front part others piece : List ℕ) → piece ≡ front ++ (part ++ others)
+    → HasReadBefore n h least ((bytes ++ front) ++ part) rows → HasReadBefore n h least (bytes ++ piece) rows
+before_on n h least rows bytes front part others piece e f more ended =
+    subst (λ t. HoldLines h least (take (n - 1) (lines ended t)) rows) (parts_joined bytes front part others piece more e) (f (others ++ more) ended)
 
 ends_on : (front : List ℕ) {taken : List ℕ} → EndsWithFeed taken → EndsWithFeed (front ++ taken)
 ends_on front (feed before) = subst EndsWithFeed (append_assoc front before (10 ∷ [])) (feed (front ++ before))
@@ -183,6 +212,20 @@ pub last_bad : (limits : Limits) (old new : Reading) → IsWithin limits old →
     → (bytes : List ℕ) (rows : List Row) → StandsFor (state limits old) bytes rows → IsFirstFault bytes true limits old.table.least x
 last_bad limits old new w some x at judged bytes rows s =
     ended_bad limits old.table old.lines.begun old.lines.line bytes rows s.taken some w.begun w.line new.table x at judged
+
+-- a fault of the last line comes after what was read
+pub last_before : (limits : Limits) (old : Reading) → 0 < length old.lines.line → (x : TraceRefusal) → x.line ≡ old.lines.begun
+    → (bytes : List ℕ) (rows : List Row) → StandsFor (state limits old) bytes rows → HasReadBefore x.line old.table.heading old.table.least bytes rows
+last_before limits old some x at bytes rows s =
+    let line : 0 < length (old.lines.line ++ []) = omega (arith, some, ap length (append-nil old.lines.line)) in
+    let same : old.lines.begun ≡ begun_after old.lines.begun old.lines.line 0 = begun_same old.lines.begun old.lines.line in
+    let number = number_going limits old.table old.lines.begun old.lines.line bytes rows s.taken [] (All-nil (λ c. c ≡ 10 → ⊥)) line in
+    subst (λ b. HasReadBefore x.line old.table.heading old.table.least b rows) (append-nil bytes)
+    (read_before (state limits old) bytes rows s.taken [] x.line (at ∙ (same ∙ number)))
+  where
+    begun_same : (b : ℕ) (line : List ℕ) → b ≡ begun_after b line 0
+    begun_same b [] = refl
+    begun_same b (c ∷ cs) = refl
 
 -- what came with a line
 pub line_come : {limits : Limits} {line : List ℕ} {e : Event} (old new : Progress) → Judges limits line old new (Ok e) → HasCome e (made limits old 0 []) (made limits new 0 []) (10 ∷ [])

@@ -1,5 +1,5 @@
 -- A reader of traces, and the bytes that it stands for.
-use Rattle.std.specs.Prelude.{◌≡◌, ℕ, suc, ◌<◌, Bool, true, false, List, [], ◌∷◌, ◌++◌, length, All, Option, Some, None, option_map, IsSome}
+use Rattle.std.specs.Prelude.{◌≡◌, ℕ, suc, ◌-◌, ◌<◌, Bool, true, false, List, [], ◌∷◌, ◌++◌, length, take, All, Option, Some, None, option_map, IsSome}
 use Rattle.stl_syntax.specs.Trace.{Row, Header, last_time, AreInRange}
 use Rattle.stl_syntax.specs.declared.scale.Scale.{Scale}
 use Rattle.trace_reader.specs.Sofar.{AreRowsSoFar}
@@ -89,6 +89,15 @@ pub record StandsFor (r : Reader) (bytes : List ℕ) (rows : List Row) : Type 0 
 -- the refusal is the first fault of all bytes that begin with these
 abbrev pub IsFaultOfAll : Limits → Scale → List ℕ → TraceRefusal → Type 0
 IsFaultOfAll limits least bytes x = (more : List ℕ) (ended : Bool) → IsFirstFault (bytes ++ more) ended limits least x
+
+-- the lines hold this heading, once it was read, and these rows
+abbrev pub HoldLines : Option Heading → Scale → List Line → List Row → Type 0
+HoldLines None least front rows = All (λ (l : Line). is_blank_line l ≡ true) front × (rows ≡ [])
+HoldLines (Some h) least front rows = AreTraceLines least front (header_of least h) rows
+
+-- the lines before line n hold this heading, once it was read, and these rows, whatever follows the bytes
+abbrev pub HasReadBefore : ℕ → Option Heading → Scale → List ℕ → List Row → Type 0
+HasReadBefore n heading least bytes rows = (more : List ℕ) (ended : Bool) → HoldLines heading least (take (n - 1) (lines ended (bytes ++ more))) rows
 
 -- the last byte is an LF
 pub data EndsWithFeed : List ℕ → Type 0 where

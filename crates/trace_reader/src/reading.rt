@@ -16,12 +16,12 @@ pub(crate) struct Reading {
 ghost use Rattle.std.specs.Prelude.{◌≡◌, ◌≢◌, ◌+◌, ◌^◌, ◌<◌, ◌≤◌, ◌++◌, [], ℕ, List, Bool, Some, None, true, false, length, take, IsSome, IfOk, IfErr, OnOk, OnErr, MatchOption};
 ghost use Rattle.stl_syntax.specs.Trace.{Row as Values};
 ghost use Rattle.trace_reader.specs.Feeds.{through_feed, rows_after};
-ghost use Rattle.trace_reader.specs.Reader.{StandsFor, IsFaultOfAll, HasCome, IsNextRow, header_of};
+ghost use Rattle.trace_reader.specs.Reader.{StandsFor, IsFaultOfAll, HasReadBefore, HasCome, IsNextRow, header_of};
 
 impl Reading {
     ghost use Rattle.trace_reader.specs.Reading.{state, IsWithin, IsStart, Holds, JudgesLine, Finishes, HasEnded, IsWhole, IsEnd, HasHeader};
     ghost use Rattle.trace_reader.specs.TraceRefusals.{IsFirstFault};
-    ghost use Rattle.trace_reader.specs.declared.refusal.TraceKind.TheVariants.{NoRows};
+    ghost use Rattle.trace_reader.specs.declared.refusal.TraceKind.TheVariants.{Empty, NoRows};
     ghost use Rattle.trace_reader.specs.Progress.{Judges};
     ghost use Rattle.trace_reader.specs.Plain.{IsRowTaken};
     ghost use Rattle.trace_reader.specs.Cut.{begun_after, kind_of};
@@ -144,6 +144,8 @@ impl Reading {
         ensures within { OnOk result (IsWithin limits.now self.new) }
         ensures fault { IfErr result (λ x. (bytes : List ℕ) (rows : List Values) → StandsFor (state limits.now self.old) bytes rows
             → IsFaultOfAll limits.now self.old.table.least (bytes ++ through_feed piece.now) x) }
+        ensures before { IfErr result (λ x. (bytes : List ℕ) (rows : List Values) → StandsFor (state limits.now self.old) bytes rows
+            → HasReadBefore x.line self.old.table.heading self.old.table.least (bytes ++ through_feed piece.now) rows) }
         ensures line { IfErr result (λ x. x.line ≡ self.new.lines.begun) }
         ensures table { OnErr result (self.new.table ≡ record self.old.table { fresh = self.new.table.fresh }) }
         ensures least { self.new.table.least ≡ self.old.table.least }
@@ -177,6 +179,8 @@ impl Reading {
         ensures within { OnOk result (IsWithin limits.now self.new) }
         ensures fault { IfErr result (λ x. (bytes : List ℕ) (rows : List Values) → StandsFor (state limits.now self.old) bytes rows
             → IsFaultOfAll limits.now self.old.table.least (bytes ++ through_feed piece.now) x) }
+        ensures before { IfErr result (λ x. (bytes : List ℕ) (rows : List Values) → StandsFor (state limits.now self.old) bytes rows
+            → HasReadBefore x.line self.old.table.heading self.old.table.least (bytes ++ through_feed piece.now) rows) }
         ensures line { IfErr result (λ x. x.line ≡ self.new.lines.begun) }
         ensures table { OnErr result (self.new.table ≡ record self.old.table { fresh = self.new.table.fresh }) }
         ensures least { self.new.table.least ≡ self.old.table.least }
@@ -201,6 +205,8 @@ impl Reading {
         ensures within { OnOk result (IsWithin limits.now self.new) }
         ensures fault { IfErr result (λ x. (bytes : List ℕ) (rows : List Values) → StandsFor (state limits.now self.old) bytes rows
             → IsFaultOfAll limits.now self.old.table.least (bytes ++ piece.now) x) }
+        ensures before { IfErr result (λ x. (bytes : List ℕ) (rows : List Values) → StandsFor (state limits.now self.old) bytes rows
+            → HasReadBefore x.line self.old.table.heading self.old.table.least (bytes ++ piece.now) rows) }
         ensures line { IfErr result (λ x. x.line ≡ self.new.lines.begun) }
         ensures table { OnErr result (self.new.table ≡ record self.old.table { fresh = self.new.table.fresh }) }
         ensures least { self.new.table.least ≡ self.old.table.least }
@@ -228,6 +234,8 @@ impl Reading {
         ensures row { IfOk result (λ e. e ≡ Event.Row → IsSome self.old.table.heading × (0 < self.new.table.count)) }
         ensures fault { IfErr result (λ x. (bytes : List ℕ) (rows : List Values) → StandsFor (state limits.now self.old) bytes rows
             → IsFirstFault bytes true limits.now self.old.table.least x) }
+        ensures before { IfErr result (λ x. (bytes : List ℕ) (rows : List Values) → StandsFor (state limits.now self.old) bytes rows
+            → HasReadBefore x.line self.old.table.heading self.old.table.least bytes rows) }
         ensures line { IfErr result (λ x. x.line ≡ self.new.lines.begun) }
         ensures kind { IfErr result (λ x. x.kind ≢ NoRows) }
         ensures table { OnErr result (self.new.table ≡ record self.old.table { fresh = self.new.table.fresh }) }
@@ -250,6 +258,8 @@ impl Reading {
         ensures event { IfOk result (λ e. IsEnd e self.new.table) }
         ensures fault { IfErr result (λ x. (bytes : List ℕ) (rows : List Values) → StandsFor (state limits.now self.old) bytes rows
             → IsFirstFault bytes true limits.now self.old.table.least x) }
+        ensures before { IfErr result (λ x. x.kind ≢ Empty → x.kind ≢ NoRows → (bytes : List ℕ) (rows : List Values) → StandsFor (state limits.now self.old) bytes rows
+            → HasReadBefore x.line self.old.table.heading self.old.table.least bytes rows) }
         ensures header { IfErr result (λ x. x.kind ≡ NoRows → (bytes : List ℕ) (rows : List Values) → StandsFor (state limits.now self.old) bytes rows
             → HasHeader self.new.table bytes) }
         ensures line { IfErr result (λ x. x.line ≡ self.new.lines.begun) }

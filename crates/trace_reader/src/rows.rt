@@ -28,12 +28,12 @@ impl Model for Rows {
 }
 
 impl Rows {
-    ghost use Rattle.std.specs.Prelude.{◌≡◌, ◌^◌, ◌<◌, ◌≤◌, List, [], ◌++◌, ℕ, take, length, Some, None, IsSome, IfOk, IfErr, OnOk, OnErr, MatchOption, Err, true, false};
+    ghost use Rattle.std.specs.Prelude.{◌≡◌, ◌≢◌, ◌^◌, ◌<◌, ◌≤◌, List, [], ◌++◌, ℕ, take, length, Some, None, IsSome, IfOk, IfErr, OnOk, OnErr, MatchOption, Err, true, false};
     ghost use Rattle.stl_syntax.specs.Trace.{Row as Values};
     ghost use Rattle.trace_reader.specs.Feeds.{rows_after};
     ghost use Rattle.trace_reader.specs.TraceRefusals.{IsFirstFault};
-    ghost use Rattle.trace_reader.specs.Reader.{StandsFor, IsFaultOfAll, HasCome, IsNextRow, IsWholeTrace, HasWholeHeader, HasEndedWith, header_read};
-    ghost use Rattle.trace_reader.specs.declared.refusal.TraceKind.TheVariants.{NoRows};
+    ghost use Rattle.trace_reader.specs.Reader.{StandsFor, IsFaultOfAll, HasReadBefore, HasCome, IsNextRow, IsWholeTrace, HasWholeHeader, HasEndedWith, header_read};
+    ghost use Rattle.trace_reader.specs.declared.refusal.TraceKind.TheVariants.{Empty, NoRows};
 
     /// A reader of a trace with at most so many rows and lines, which has read nothing.
     /// Times and values are counted in ticks that have the decimals of the header and at least those of `least`.
@@ -57,7 +57,8 @@ impl Rows {
     /// The event says which it was.
     ///
     /// # Errors
-    /// The first fault of the bytes so far, with the piece. From then on each call answers it again, and changes nothing.
+    /// The first fault of the bytes so far, with the piece. The lines before it hold the rows that came so far, and no other.
+    /// From then on each call answers it again, and changes nothing.
     pub fn push(&mut self, piece: &[u8]) -> Result<Took, TraceRefusal>
         requires { self.old.ended ≡ false }
 
@@ -73,6 +74,8 @@ impl Rows {
         // A refusal is the first fault, and stays.
         ensures fault { IfErr result (λ x. (bytes : List ℕ) (rows : List Values) → StandsFor self.old bytes rows
             → IsFaultOfAll self.old.limits self.old.least (bytes ++ piece.now) x) }
+        ensures before { IfErr result (λ x. (bytes : List ℕ) (rows : List Values) → StandsFor self.old bytes rows
+            → HasReadBefore x.line self.old.heading self.old.least (bytes ++ piece.now) rows) }
         ensures err { IfErr result (λ x. self.new ≡ record self.old { begun = self.new.begun; line = self.new.line; refusal = Some x }) }
         ensures line { IfErr result (λ x. self.old.refusal ≡ None → x.line ≡ self.new.begun) }
         ensures again { MatchOption self.old.refusal (Unit {0}) (λ x. (result ≡ Err x) × (self.new ≡ self.old)) }
@@ -94,7 +97,8 @@ impl Rows {
     /// Where the answer is NoRows the header was read, also where this last line is the header.
     ///
     /// # Errors
-    /// The first fault of all bytes, which end here. From then on each call answers it again, and changes nothing.
+    /// The first fault of all bytes, which end here. Where it is the fault of a line, the lines before it hold the rows that came so far, and no
+    /// other. From then on each call answers it again, and changes nothing.
     pub fn end(&mut self) -> Result<Event, TraceRefusal>
         requires { self.old.ended ≡ false }
 
@@ -108,6 +112,8 @@ impl Rows {
         // A refusal is the first fault, and stays.
         ensures fault { IfErr result (λ x. (bytes : List ℕ) (rows : List Values) → StandsFor self.old bytes rows
             → IsFirstFault bytes true self.old.limits self.old.least x) }
+        ensures before { IfErr result (λ x. x.kind ≢ Empty → x.kind ≢ NoRows → (bytes : List ℕ) (rows : List Values) → StandsFor self.old bytes rows
+            → HasReadBefore x.line self.old.heading self.old.least bytes rows) }
         ensures header { IfErr result (λ x. x.kind ≡ NoRows → (bytes : List ℕ) (rows : List Values) → StandsFor self.old bytes rows
             → HasWholeHeader self.new bytes) }
         ensures err { IfErr result (λ x. self.new.refusal ≡ Some x) }

@@ -1,3 +1,4 @@
+//! Until and since over tables of knots.
 ghost use Rattle.std.specs.Prelude.{◌^◌, IsTrue};
 ghost use Rattle.rational.specs.Rational.{IsWithin, Rational};
 ghost use Rattle.rational.specs.Extended.{value_at};

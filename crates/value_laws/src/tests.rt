@@ -1,3 +1,4 @@
+//! The three kinds of value: where they meet, how they are ordered, how they move.
 ghost use Rattle.std.specs.Prelude.{◌≡◌, ◌<◌, ◌≤◌, ◌^◌, ◌<ℤ◌, pos, neg_ℤ, IfSome};
 ghost use Rattle.std.specs.Int.RustNames.{unsigned_abs};
 ghost use Rattle.rational.specs.Rational.{◌≈◌, ◌<ʳ◌, whole, IsWithin};

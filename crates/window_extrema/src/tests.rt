@@ -1,3 +1,4 @@
+//! A range that moves on, over constants that are counted.
 ghost use Rattle.std.specs.Prelude.{◌≡◌, ◌+◌, ◌<◌, ◌≤◌, length, IfOk};
 
 use super::*;

@@ -16,3 +16,4 @@ pub mod MiddlePassing
 pub mod MiddleTelling
 pub mod MirrorTellings
 pub mod MirrorBases
+pub mod InfInstants

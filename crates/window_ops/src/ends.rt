@@ -86,8 +86,12 @@ fn beside_ahead<P: Shape>(
     ensures bases { IfOk result (BasesFrom P.Shape (λ k. k -ℤ pos by) s.now) }
     ensures beyond { IfOk result (λ r. stop s.now <ʳ later (start s.now) by → (p : P) → HasShape r p → P.moves p ≡ false) }
 {
-    let by = by as i64;
     let (start, stop) = (s.start(), s.stop());
+    if by == 0 {
+        let here = beside(s, side, counts)?;
+        return Ok(here.finish());
+    }
+    let by = by as i64;
     if let Ordering::Less = stop.cmp(&start.shift(by)) {
         return least_between(s.alloc(), &start, &stop);
     }

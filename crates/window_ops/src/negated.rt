@@ -1,10 +1,10 @@
 //! The Inf over a window ahead or behind, as minus the Sup of the negated signal.
-ghost use Rattle.std.specs.Prelude.{◌≤◌, ◌^◌, ◌-◌, pos, IfSome, IfOk, IfErr};
+ghost use Rattle.std.specs.Prelude.{◌≤◌, ◌^◌, ◌-◌, pos, true, Some, IfSome, IfOk, IfErr};
 ghost use Rattle.rational.specs.Rational.{whole};
 ghost use Rattle.rational.specs.Time.{◌≤ʳ◌, ◌<ʳ◌};
 ghost use Rattle.rational.specs.InPlay.{window_ahead, window_behind};
 ghost use Rattle.rational.specs.Extended.{opposite, ◌≈ᵉ◌};
-ghost use Rattle.pl_signal.specs.Knots.{IsSignal, IsWorth, start, stop};
+ghost use Rattle.pl_signal.specs.Knots.{HasShape, IsSignal, IsWorth, start, stop};
 ghost use Rattle.pl_signal.specs.Limits.{IsLimited};
 ghost use Rattle.pl_signal.specs.Moves.{BasesFrom, Tells};
 ghost use Rattle.pl_signal.specs.Wide.{HasCause};
@@ -41,6 +41,9 @@ pub fn inf_window<P: Shape>(
     ensures bases { IfOk result (BasesAhead P.Shape a b s.now) }
     ensures wide { IfErr result (HasCause P.Shape (window_ahead (IsWorth P.Shape s.now) a b low_in high_in) (start s.now) (stop s.now)) }
 {
+    if b == 0 && low_in && high_in {
+        return Ok(inf_now(s)?);
+    }
     lowest_is_minus_highest::<P>();
     let negated = minus(s)?;
     match sup_window(&negated, a, b, low_in, high_in) {
@@ -70,12 +73,27 @@ pub fn inf_past<P: Shape>(
     ensures bases { IfOk result (BasesBehind P.Shape a b s.now) }
     ensures wide { IfErr result (HasCause P.Shape (window_behind (IsWorth P.Shape s.now) a b low_in high_in) (start s.now) (stop s.now)) }
 {
+    if b == Some(0) && low_in && high_in {
+        return Ok(inf_now(s)?);
+    }
     lowest_is_minus_highest::<P>();
     let negated = minus(s)?;
     match sup_past(&negated, a, b, low_in, high_in) {
         Ok(sup) => Ok(neg(&sup)?),
         Err(fault) => Err(negated_fault(fault)),
     }
+}
+
+/// The Inf over the window of the one time `t`, ahead or behind: the signal itself.
+fn inf_now<P: Shape>(s: &Signal<P>) -> Result<Signal<P>, Memory>
+    ensures ahead { IfOk result (Tells P.Shape (InfAhead (start s.now) (stop s.now) (IsWorth P.Shape s.now) P.highest 0 0 true true)
+        (start s.now) (stop s.now)) }
+    ensures behind { IfOk result (Tells P.Shape (InfBehind (start s.now) (stop s.now) (IsWorth P.Shape s.now) P.highest 0 (Some 0) true true)
+        (start s.now) (stop s.now)) }
+    ensures shapes { IfOk result (λ r. (p : P) → HasShape r p → HasShape s.now p) }
+{
+    let (from, to) = (s.start(), s.stop());
+    s.restrict(&from, &to)
 }
 
 /// Minus the signal. What a window asks of the signal it may ask of this one.

@@ -1,5 +1,6 @@
+//! Fractions against values that were worked out elsewhere.
 use super::times::{fraction, moved, time, turned};
-use crate::{Frac, Ratio, WideFrac, cmp_ratio};
+use crate::{Frac, Ratio, WideFrac, cmp_ratio, gcd};
 use std::cmp::Ordering;
 
 const MOST: i128 = i128::MAX;
@@ -299,4 +300,14 @@ fn moves_and_turns_over(rt: HostRuntime) {
             "{num} / {den} about {about}"
         );
     }
+}
+
+#[test]
+fn mixed_numbers_and_common_divisors_are_reduced(rt: HostRuntime) {
+    let f = Frac::mixed(-2, 36, 48);
+    assert_eq!(&rt; (f.whole(), f.rest(), f.den()), (-2, 3, 4));
+    assert_eq!(&rt; Frac::mixed(5, 0, 48), Frac::of(5));
+    assert_eq!(&rt; gcd(0, 48), 48);
+    assert_eq!(&rt; gcd(48, 36), 12);
+    assert_eq!(&rt; gcd(u64::MAX, 1_095_216_660_735), 1_095_216_660_735);
 }

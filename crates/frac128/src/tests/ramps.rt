@@ -1,3 +1,4 @@
+//! Ramps: values, orders and crossings that were worked out elsewhere.
 use super::times::{
     Corner, Pair, fraction, is_limited, limited, minus, mirrored, ramp, shifted, time,
 };

@@ -1,3 +1,4 @@
+//! Spans that have a time, and counted steps.
 ghost use Rattle.std.specs.Prelude.{◌≡◌, ◌+◌};
 
 use super::times::fraction;

@@ -19,6 +19,9 @@ use Rattle.pl_signal.proofs.Telling.{IsFunction}
 use Rattle.window_ops.specs.Ends.{Beside}
 use Rattle.window_ops.proofs.EndsSups.{beside_is_function, beside_bounded, beside_after}
 use Rattle.window_ops.proofs.EndsAhead.{bound_is, domain_within, moved_within, moved_is, later_same, not_before, start_to_stop, tells_ahead, limited_by, tells_value, ahead_is_function, bases_moved, room_of}
+use Rattle.pl_signal.specs.Limits.{IsLimited}
+use Rattle.window_ops.proofs.InfInstants.{later_none}
+use Rattle.window_ops.proofs.SupTelling.{retold}
 use Rattle.window_ops.proofs.ends.beside_ahead.Goals as goal
 
 pub shift-requires : goal.shift-requires
@@ -135,3 +138,31 @@ returns-clause-beyond g c = IfOk-weaker c.shift_clip.result _ _ (λ r h k p m. a
     reached : later (start c.args.s.now) c.args.by ≤ʳ stop c.args.s.now
     reached = le_trans (ge_of_same (same_trans (moved_is c.args.by c.requires.small c.start-start.ensures.value c.shift.ensures.value) (later_same (start c.args.s.now) c.args.by)))
         (not_before c.cmp.result (subst (λ u. IsOrder c.cmp.result u (value c.shift.result)) c.stop-stop.ensures.value c.cmp.ensures) c.in_default.not-Less)
+
+pub returns-then-by-eq0-clause-worth : goal.returns-then-by-eq0-clause-worth
+returns-then-by-eq0-clause-worth g c =
+    subst (λ n. Tells g.P.Shape (λ t r. Beside g.P.Shape.lowest (IsWorth g.P.Shape c.args.s.now) c.args.side c.args.counts (later t n) r) (start c.args.s.now) (stop c.args.s.now) c.finish.result) (sym c.if-by-eq0.true)
+    (subst (λ r. Tells g.P.Shape (λ t r. Beside g.P.Shape.lowest (IsWorth g.P.Shape c.args.s.now) c.args.side c.args.counts (later t 0) r) (start c.args.s.now) (stop c.args.s.now) r) (sym c.finish.ensures.value)
+    (retold g.P.Shape (Beside g.P.Shape.lowest (IsWorth g.P.Shape c.args.s.now) c.args.side c.args.counts)
+    (λ t r. Beside g.P.Shape.lowest (IsWorth g.P.Shape c.args.s.now) c.args.side c.args.counts (later t 0) r) (start c.args.s.now) (stop c.args.s.now) c.in_ok-here.here c.in_ok-here.ensures.worth
+    (ahead_is_function g.P.Shape (Beside g.P.Shape.lowest (IsWorth g.P.Shape c.args.s.now) c.args.side c.args.counts) 0 is)
+    (λ t v w k. is.alike t (later t 0) v v (same_sym (later_none t)) (same_reflᵉ v) k)))
+  where
+    is : IsFunction (Beside g.P.Shape.lowest (IsWorth g.P.Shape c.args.s.now) c.args.side c.args.counts)
+    is = beside_is_function g.P.Shape c.args.side c.args.counts c.args.s.now c.start-start.ensures.signal
+
+pub returns-then-by-eq0-clause-limited : goal.returns-then-by-eq0-clause-limited
+returns-then-by-eq0-clause-limited g c = subst (IsLimited g.P.Shape) (sym c.finish.ensures.value)
+    (limited_by g.P.Shape (Beside g.P.Shape.lowest (IsWorth g.P.Shape c.args.s.now) c.args.side c.args.counts) c.in_ok-here.here (start c.args.s.now) (stop c.args.s.now) c.in_ok-here.ensures.worth
+    (beside_bounded g.P.Shape c.args.side c.args.counts c.args.s.now c.requires.limited g.met.P.Shape.lowest_bounded)
+    (domain_within c.requires.first (le_trans order c.requires.last)) (domain_within (le_trans c.requires.first order) c.requires.last))
+  where
+    order : start c.args.s.now ≤ʳ stop c.args.s.now
+    order = start_to_stop g.P.Shape c.args.s.now c.start-start.ensures.signal
+
+pub returns-then-by-eq0-clause-beyond : goal.returns-then-by-eq0-clause-beyond
+returns-then-by-eq0-clause-beyond g c k p m = absurd (not_lt_of_le reached k)
+  where
+    reached : later (start c.args.s.now) c.args.by ≤ʳ stop c.args.s.now
+    reached = subst (λ n. later (start c.args.s.now) n ≤ʳ stop c.args.s.now) (sym c.if-by-eq0.true)
+        (le_trans (le_of_same (later_none (start c.args.s.now))) (start_to_stop g.P.Shape c.args.s.now c.start-start.ensures.signal))

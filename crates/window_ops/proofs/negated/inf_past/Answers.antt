@@ -1,3 +1,7 @@
+use Rattle.std.proofs.Common.{◌≡◌, ◌≤◌, ℕ, Bool, Option, None, Some, true, eqb, ap, sym, subst, arith}
+use Rattle.std.specs.Prelude.{IfSome}
+use Rattle.std.specs.Option.{option_eq}
+use Rattle.std.proofs.lemmas.Bool.{false≢true}
 use Rattle.rational.specs.Time.{◌≈◌}
 use Rattle.rational.specs.Windows.{Behind}
 use Rattle.rational.proofs.Order.{le_trans, le_of_same, ge_of_same, same_sym}
@@ -8,6 +12,8 @@ use Rattle.pl_signal.proofs.Limits.{worth_bounded}
 use Rattle.window_ops.proofs.NegateFunctions.{AreOpposite, behind_alike}
 use Rattle.window_ops.proofs.NegateFaults.{behind_cause_bounded, behind_cause_opposite}
 use Rattle.window_ops.proofs.NegateTellings.{negated_opposite, sup_limited, tells_inf, bases_behind_negated}
+use Rattle.pl_signal.specs.Moves.{Tells}
+use Rattle.window_ops.specs.Windows.{InfBehind}
 use Rattle.window_ops.proofs.negated.inf_past.Goals as goal
 
 pub sup_past-requires-clause-limited : goal.sup_past-requires-clause-limited
@@ -55,3 +61,20 @@ returns-in-Ok-clause-worth g c =
 
 pub returns-in-Ok-clause-bases : goal.returns-in-Ok-clause-bases
 returns-in-Ok-clause-bases g c = bases_behind_negated g.P.Shape c.args.a c.args.b c.args.s.now c.in_ok-negated.negated c.in-Ok.sup c.in_ok-neg-in-Ok.field-0 c.in_ok-negated.ensures.bases c.in-Ok.ensures.bases c.in_ok-neg-in-Ok.ensures.bases
+
+zero_is : (b : Option ℕ) → true ≡ option_eq eqb b (Some 0) → b ≡ Some 0
+zero_is None h = absurd (false≢true (sym h))
+zero_is (Some n) h = ap Some (grind (arith, h))
+
+pub returns-then-high_in-clause-worth : goal.returns-then-high_in-clause-worth
+returns-then-high_in-clause-worth g c =
+    let told = λ (a : ℕ) (b : Option ℕ) (i j : Bool). Tells g.P.Shape (InfBehind (start c.args.s.now) (stop c.args.s.now) (IsWorth g.P.Shape c.args.s.now) g.P.Shape.highest a b i j)
+    (start c.args.s.now) (stop c.args.s.now) c.in_ok-inf_now.field-0 in
+    subst (λ i. told c.args.a c.args.b i c.args.high_in) (sym c.if-low_in.true) (subst (λ j. told c.args.a c.args.b true j) (sym c.if-high_in.true)
+    (subst (λ b. told c.args.a b true true) (sym bound) (subst (λ a. told a (Some 0) true true) (sym low) c.in_ok-inf_now.ensures.behind)))
+  where
+    bound : c.args.b ≡ Some 0
+    bound = zero_is c.args.b c.if-eq.ensures
+
+    low : c.args.a ≡ 0
+    low = let h : c.args.a ≤ 0 = subst (λ b. IfSome b (λ b. c.args.a ≤ b)) bound c.requires.order in omega arith

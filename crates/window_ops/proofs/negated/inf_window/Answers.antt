@@ -1,3 +1,4 @@
+use Rattle.std.proofs.Common.{◌≡◌, ℕ, Bool, true, sym, subst, arith}
 use Rattle.rational.specs.Time.{◌≈◌}
 use Rattle.rational.specs.Windows.{Ahead}
 use Rattle.rational.proofs.Order.{le_trans, le_of_same, ge_of_same, lt_of_le_of_lt, same_sym}
@@ -8,6 +9,8 @@ use Rattle.pl_signal.proofs.Limits.{worth_bounded}
 use Rattle.window_ops.proofs.NegateFunctions.{AreOpposite, ahead_alike}
 use Rattle.window_ops.proofs.NegateFaults.{ahead_cause_bounded, ahead_cause_opposite}
 use Rattle.window_ops.proofs.NegateTellings.{negated_opposite, sup_limited, tells_inf, bases_ahead_negated}
+use Rattle.pl_signal.specs.Moves.{Tells}
+use Rattle.window_ops.specs.Windows.{InfAhead}
 use Rattle.window_ops.proofs.negated.inf_window.Goals as goal
 
 pub sup_window-requires-clause-limited : goal.sup_window-requires-clause-limited
@@ -55,3 +58,16 @@ returns-in-Ok-clause-worth g c =
 
 pub returns-in-Ok-clause-bases : goal.returns-in-Ok-clause-bases
 returns-in-Ok-clause-bases g c = bases_ahead_negated g.P.Shape c.args.a c.args.b c.args.s.now c.in_ok-negated.negated c.in-Ok.sup c.in_ok-neg-in-Ok.field-0 c.in_ok-negated.ensures.bases c.in-Ok.ensures.bases c.in_ok-neg-in-Ok.ensures.bases
+
+pub returns-then-high_in-clause-worth : goal.returns-then-high_in-clause-worth
+returns-then-high_in-clause-worth g c =
+    let told = λ (a : ℕ) (b : ℕ) (i j : Bool). Tells g.P.Shape (InfAhead (start c.args.s.now) (stop c.args.s.now) (IsWorth g.P.Shape c.args.s.now) g.P.Shape.highest a b i j)
+    (start c.args.s.now) (stop c.args.s.now) c.in_ok-inf_now.field-0 in
+    subst (λ i. told c.args.a c.args.b i c.args.high_in) (sym c.if-low_in.true) (subst (λ j. told c.args.a c.args.b true j) (sym c.if-high_in.true)
+    (subst (λ b. told c.args.a b true true) (sym bound) (subst (λ a. told a 0 true true) (sym low) c.in_ok-inf_now.ensures.ahead)))
+  where
+    bound : c.args.b ≡ 0
+    bound = c.if-b-eq0.true
+
+    low : c.args.a ≡ 0
+    low = omega arith

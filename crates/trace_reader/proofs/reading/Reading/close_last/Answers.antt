@@ -6,7 +6,7 @@ use Rattle.trace_reader.specs.Feeds.{rows_after}
 use Rattle.trace_reader.specs.Cut.{Cut}
 use Rattle.trace_reader.proofs.KindLemmas.{judged_kind}
 use Rattle.trace_reader.proofs.LineLemmas.{some_bytes}
-use Rattle.trace_reader.proofs.ReaderTakes.{last_between, last_closed, last_bad, if_ok, if_err}
+use Rattle.trace_reader.proofs.ReaderTakes.{last_between, last_closed, last_bad, last_before, if_ok, if_err}
 use Rattle.trace_reader.proofs.reading.Reading.close_last.Goals as goal
 
 pub returns-then-is_between-clause-ok : goal.returns-then-is_between-clause-ok
@@ -32,6 +32,16 @@ returns-clause-fault c =
     if_err c.close.result _ (λ x is bytes rows s.
     let judged = subst (JudgesLine limits old.lines.begun (old.lines.line ++ []) old.table new.table) is c.close.ensures.judged in
     last_bad limits old new c.requires some x judged.0 judged.1 bytes rows s)
+
+pub returns-clause-before : goal.returns-clause-before
+returns-clause-before c =
+    let limits = c.args.limits.now in
+    let old = c.args.self.now in
+    let new = c.close.new.self in
+    let some = some_bytes old.lines.line (λ e. false≢true (c.if-is_between.ensures.1 e)) in
+    if_err c.close.result _ (λ x is bytes rows s.
+    let judged = subst (JudgesLine limits old.lines.begun (old.lines.line ++ []) old.table new.table) is c.close.ensures.judged in
+    last_before limits old some x judged.0 bytes rows s)
 
 pub returns-clause-kind : goal.returns-clause-kind
 returns-clause-kind c =

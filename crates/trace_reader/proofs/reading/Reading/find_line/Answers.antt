@@ -3,10 +3,10 @@ use Rattle.std.proofs.Common.{◌++◌, length, take, subst, sym, ◌∙◌, ari
 use Rattle.std.proofs.lemmas.Result.{err_from_is_err_and}
 use Rattle.std.proofs.lemmas.List.{take_all}
 use Rattle.trace_reader.specs.Feeds.{rows_after}
-use Rattle.trace_reader.specs.Reader.{StandsFor, IsFaultOfAll, HasCome}
+use Rattle.trace_reader.specs.Reader.{StandsFor, IsFaultOfAll, HasReadBefore, HasCome}
 use Rattle.trace_reader.specs.Reading.{state}
 use Rattle.trace_reader.proofs.FeedLemmas.{none-free, none-all, at-free, at-taken, at-through}
-use Rattle.trace_reader.proofs.ReaderTakes.{hold_stands, hold_fault, finish_stands, finish_fault, judged_come}
+use Rattle.trace_reader.proofs.ReaderTakes.{hold_stands, hold_fault, hold_before, finish_stands, finish_fault, finish_before, finish_kept, judged_come}
 use Rattle.trace_reader.proofs.reading.Reading.find_line.Goals as goal
 
 pub returns-in_err-hold-in-None-clause-fault : goal.returns-in_err-hold-in-None-clause-fault
@@ -34,6 +34,35 @@ returns-in_err-event-in-Some-clause-fault c =
     let x = c.in_err-event-in-Some.field-0.0 in
     rw (p.1, p.2) (λ bytes rows s. subst (λ t. IsFaultOfAll limits old.table.least (bytes ++ t) x) (sym (at-through piece at h.0 h.1))
     (finish_fault limits old new c.requires (take at piece) (at-free piece at h.0 h.1) e.begun x e.finished bytes rows s))
+
+pub returns-in_err-hold-in-None-clause-before : goal.returns-in_err-hold-in-None-clause-before
+returns-in_err-hold-in-None-clause-before c =
+    let piece = c.args.piece.now in
+    let limits = c.args.limits.now in
+    let old = c.args.self.now in
+    let new = c.hold.new.self in
+    let h = c.in-None.ensures in
+    let p = err_from_is_err_and c.from_residual.result c.from_residual.ensures.1 in
+    let e = c.in_err-hold-in-None.ensures in
+    let x = c.in_err-hold-in-None.field-0.0 in
+    rw (p.1, p.2) (λ bytes rows s. subst (λ t. HasReadBefore x.line old.table.heading old.table.least (bytes ++ t) rows) (sym (none-all piece h))
+    (hold_before limits old new c.requires piece (none-free piece h) e.begun x e.held bytes rows s))
+
+pub returns-in_err-event-in-Some-clause-before : goal.returns-in_err-event-in-Some-clause-before
+returns-in_err-event-in-Some-clause-before c =
+    let piece = c.args.piece.now in
+    let at = c.in-Some.at in
+    let limits = c.args.limits.now in
+    let old = c.args.self.now in
+    let new = c.finish.new.self in
+    let h = c.in-Some.ensures in
+    let p = err_from_is_err_and c.from_residual-in_err-event-in-Some.result c.from_residual-in_err-event-in-Some.ensures.1 in
+    let e = c.in_err-event-in-Some.ensures in
+    let x = c.in_err-event-in-Some.field-0.0 in
+    let free = at-free piece at h.0 h.1 in
+    let line = (finish_kept limits old new c.requires (take at piece) free e.begun x e.finished).0 in
+    rw (p.1, p.2) (λ bytes rows s. subst (λ t. HasReadBefore x.line old.table.heading old.table.least (bytes ++ t) rows) (sym (at-through piece at h.0 h.1))
+    (finish_before limits old new c.requires (take at piece) free e.begun x line bytes rows s))
 
 pub returns-in_ok-hold-in-None-clause-bytes : goal.returns-in_ok-hold-in-None-clause-bytes
 returns-in_ok-hold-in-None-clause-bytes c =

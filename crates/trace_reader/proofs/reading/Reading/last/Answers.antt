@@ -83,6 +83,7 @@ returns-in_default c =
       next = λ bytes rows s. tt;
       event = subst IsSome (sym n) refl;
       fault = tt;
+      before = tt;
       header = tt;
       line = tt;
       begun = e.begun;

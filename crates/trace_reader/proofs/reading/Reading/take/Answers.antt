@@ -4,9 +4,9 @@ use Rattle.std.proofs.lemmas.Result.{err_from_is_err_and}
 use Rattle.std.proofs.lemmas.List.{take_rest, take-append-drop, length-drop}
 use Rattle.stl_syntax.specs.Trace.{Row}
 use Rattle.trace_reader.specs.Feeds.{rows_after, through_feed}
-use Rattle.trace_reader.specs.Reader.{StandsFor, IsFaultOfAll, HasCome}
+use Rattle.trace_reader.specs.Reader.{StandsFor, IsFaultOfAll, HasReadBefore, HasCome}
 use Rattle.trace_reader.specs.Reading.{state}
-use Rattle.trace_reader.proofs.ReaderTakes.{through_parts, fault_on, come_on, take_on}
+use Rattle.trace_reader.proofs.ReaderTakes.{through_parts, fault_on, before_on, come_on, take_on}
 use Rattle.trace_reader.proofs.reading.Reading.take.Goals as goal
 
 pub returns-in_err-took-clause-fault : goal.returns-in_err-took-clause-fault
@@ -23,6 +23,22 @@ returns-in_err-took-clause-fault c =
     rw (p.1, p.2) (λ bytes rows s. subst (λ l. IsFaultOfAll limits l (bytes ++ piece) x) c.loop-at.invariant.table.3
     (fault_on limits c.loop-at.self.table.least bytes (take at piece) (through_feed (drop at piece)) others piece x whole
     (f (bytes ++ take at piece) rows (c.loop-at.invariant.stands bytes rows s))))
+
+pub returns-in_err-took-clause-before : goal.returns-in_err-took-clause-before
+returns-in_err-took-clause-before c =
+    let p = err_from_is_err_and c.from_residual.result c.from_residual.ensures.1 in
+    let piece = c.args.piece.now in
+    let at = c.loop-at.at in
+    let x = c.in_err-took.field-0.0 in
+    let i = c.loop-at.invariant in
+    let table = c.loop-at.self.table in
+    let (others, e) = through_parts (drop at piece) in
+    let whole : piece ≡ take at piece ++ (through_feed (drop at piece) ++ others) = sym (take-append-drop at piece) ∙ ap (λ t. take at piece ++ t) e in
+    let f = rw take_rest at c.in_err-took.ensures.before in
+    rw (p.1, p.2) (λ bytes rows s. subst (λ h. HasReadBefore x.line h c.args.self.now.table.least (bytes ++ piece) rows) i.table.0
+    (subst (λ l. HasReadBefore x.line table.heading l (bytes ++ piece) rows) i.table.3
+    (before_on x.line table.heading table.least rows bytes (take at piece) (through_feed (drop at piece)) others piece whole
+    (f (bytes ++ take at piece) rows (i.stands bytes rows s)))))
 
 pub loop-at-preserved : goal.loop-at-preserved
 loop-at-preserved c =
@@ -75,6 +91,7 @@ returns-in_default c =
           (ok (bytes ++ take at piece) rows (i.stands bytes rows s));
       within = e.within;
       fault = tt;
+      before = tt;
       line = tt;
       table = tt;
       least = e.least ∙ i.table.3;

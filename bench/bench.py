@@ -1,0 +1,184 @@
+#!/usr/bin/env python3
+"""Measures the commands of the built program on traces that it makes itself; README.md beside it says how to read the figures."""
+import argparse
+import math
+import os
+import random
+import shutil
+import subprocess
+import sys
+import tempfile
+import time
+
+HERE = os.path.dirname(os.path.realpath(__file__))
+PROGRAM = os.path.join(HERE, "..", "crates", "stl_bench", "out", "stl_bench")
+
+# What each trace has in its two columns, besides the time, which goes up by 10 a row.
+COLUMNS = {"walk": "x,y", "cross": "x,y", "steps": "x:step,y:step", "alt": "x:step,y:step", "auto": "brake:step,speed"}
+
+# One atom; ten nodes; the temporal operators, over short and long windows.
+TEN = "always[0,50] (x >= 0 or y <= 40) and (y >= 10 since x <= 200) and not once[5,20] x >= 900"
+ATOM = "x >= 0"
+CASES = [
+    ("atom", ATOM, "walk cross steps alt"),
+    ("response", "always (brake >= 1 implies eventually[0,100] speed <= 10)", "auto"),
+    ("ten nodes", TEN, "walk cross steps alt"),
+    ("until", "x >= 0 until[10,2000] y >= 500", "walk cross alt"),
+    ("since", "x >= 0 since[10,2000] y >= 500", "walk cross alt"),
+    ("window of 10", "always[0,10] x >= 0", "walk cross"),
+    ("window of 1000", "always[0,1000] x >= 0", "walk cross"),
+    ("window of 100000", "eventually[1,100000] x >= 500", "walk cross"),
+    ("window behind", "historically[2,1000] x >= 0", "walk cross"),
+]
+COMMANDS = ["check", "robust", "explain", "json", "table"]
+
+
+def walk(rows, dice):
+    """Ramps that go up and down by little, so that they pass a level seldom."""
+    x, y = 300, -200
+    for _ in range(rows):
+        yield x, y
+        x = min(max(x + dice.randint(-9, 9), -5000), 5000)
+        y = min(max(y + dice.randint(-9, 9), -5000), 5000)
+
+
+def cross(rows, dice):
+    """Ramps that pass 0 in each gap."""
+    for row in range(rows):
+        sign = 1 if row % 2 else -1
+        yield sign * dice.randint(1, 999), -sign * dice.randint(1, 999)
+
+
+def steps(rows, dice):
+    """Steps that change every hundred rows or so."""
+    x, y = 1, 1
+    for _ in range(rows):
+        if dice.random() < 0.01:
+            x = dice.randint(-999, 999)
+        if dice.random() < 0.01:
+            y = dice.randint(-999, 999)
+        yield x, y
+
+
+def alt(rows, dice):
+    """Steps that change their sign at each row."""
+    return cross(rows, dice)
+
+
+def auto(rows, dice):
+    """A brake that is stepped on now and then, and a speed that falls while it is on."""
+    brake, speed = 0, 30
+    for _ in range(rows):
+        if dice.random() < 0.02:
+            brake = 1 - brake
+        yield brake, speed
+        speed = max(speed - 5, 0) if brake else min(speed + 1, 60)
+
+
+MAKERS = {"walk": walk, "cross": cross, "steps": steps, "alt": alt, "auto": auto}
+
+
+def write_trace(path, name, rows):
+    with open(path, "w") as out:
+        out.write(f"time,{COLUMNS[name]}\n")
+        out.writelines(f"{10 * row},{a},{b}\n" for row, (a, b) in enumerate(MAKERS[name](rows, random.Random(7))))
+
+
+def high_water(pid):
+    """The most memory that a process had so far, in KB, or 0 once it has ended."""
+    try:
+        with open(f"/proc/{pid}/status") as status:
+            return next((int(line.split()[1]) for line in status if line.startswith("VmHWM")), 0)
+    except OSError:
+        return 0
+
+
+def run(program, words, path):
+    """Status, CPU seconds and the most memory in KB of one run."""
+    with open(path) as trace, open(os.devnull, "w") as sink:
+        child = subprocess.Popen([program, *words], stdin=trace, stdout=sink, stderr=sink)
+        most = 0
+        while True:
+            most = max(most, high_water(child.pid))
+            pid, status, used = os.wait4(child.pid, os.WNOHANG)
+            if pid:
+                break
+            time.sleep(0.002)
+        child.returncode = os.waitstatus_to_exitcode(status)
+    # What wait4 tells counts this interpreter too, from before the program began: it is right where it is more.
+    if used.ru_maxrss > high_water(os.getpid()):
+        most = used.ru_maxrss
+    return child.returncode, used.ru_utime + used.ru_stime, most
+
+
+def instructions(program, words, path, folder):
+    """The instructions of one run, counted by valgrind; None where it is missing."""
+    if shutil.which("valgrind") is None:
+        return None
+    out = os.path.join(folder, "callgrind.out")
+    command = ["valgrind", "--tool=callgrind", f"--callgrind-out-file={out}", program, *words]
+    with open(path) as trace:
+        subprocess.run(command, stdin=trace, stdout=subprocess.DEVNULL, stderr=subprocess.DEVNULL, check=False)
+    with open(out) as counted:
+        return next((int(line.split()[1]) for line in counted if line.startswith(("summary:", "totals:"))), None)
+
+
+def stands(program, command, path):
+    """Whether the program has the command: it judges an atom, with any status but that of unknown words."""
+    return run(program, [command, ATOM], path)[0] in (0, 1)
+
+
+def measure(program, command, formula, paths, runs, counted, folder):
+    """A line of figures: ns a row at each size, instructions a row, MB and growth."""
+    seconds, peak = {}, 0
+    for rows, path in paths.items():
+        tries = [run(program, [command, formula], path) for _ in range(runs)]
+        if tries[0][0] not in (0, 1):
+            return f"status {tries[0][0]}"
+        seconds[rows] = min(cpu for _, cpu, _ in tries)
+        peak = max(high for _, _, high in tries)
+    sizes = sorted(paths)
+    line = " ".join(f"{1e9 * seconds[rows] / rows:8.0f}" for rows in sizes)
+    count = instructions(program, [command, formula], paths[counted], folder) if counted else None
+    line += f" {count / counted:8.0f}" if count else f" {'-':>8}"
+    few, many = sizes[-2], sizes[-1]
+    growth = math.log(seconds[many] / seconds[few]) / math.log(many / few) if seconds[few] > 0 else float("nan")
+    return line + f" {peak / 1024:8.1f} {growth:7.3f}"
+
+
+def main():
+    parser = argparse.ArgumentParser(description="Measures the commands of the built program on traces that it makes itself.")
+    parser.add_argument("--program", default=PROGRAM, help="the program to measure")
+    parser.add_argument("--sizes", default="10000,100000,1000000", help="numbers of rows, with commas between")
+    parser.add_argument("--runs", type=int, default=3, help="runs of each, of which the fastest counts")
+    parser.add_argument("--count", type=int, help="the size at which instructions are counted; by default the middle one")
+    parser.add_argument("--only", default="", help="a word that the name of a case must have")
+    parser.add_argument("--command", choices=COMMANDS, help="one command alone")
+    args = parser.parse_args()
+    sizes = sorted({int(word) for word in args.sizes.split(",")})
+    counted = sizes[len(sizes) // 2] if args.count is None else args.count
+    print(f"{'command':8} {'formula':17} {'trace':6} " + " ".join(f"{f'ns/{n}':>8}" for n in sizes) + f" {'instr':>8} {'MB':>8} growth")
+    with tempfile.TemporaryDirectory() as folder:
+        made = {}
+
+        def trace(name, rows):
+            if (name, rows) not in made:
+                made[name, rows] = os.path.join(folder, f"{name}-{rows}.csv")
+                write_trace(made[name, rows], name, rows)
+            return made[name, rows]
+
+        small = trace("walk", min(sizes))
+        for command in [args.command] if args.command else COMMANDS:
+            if not stands(args.program, command, small):
+                continue
+            for name, formula, traces in CASES:
+                for kind in traces.split():
+                    if args.only not in f"{name} {kind}":
+                        continue
+                    paths = {rows: trace(kind, rows) for rows in sizes + ([counted] if counted and counted not in sizes else [])}
+                    line = measure(args.program, command, formula, paths, args.runs, counted, folder)
+                    print(f"{command:8} {name:17} {kind:6} {line}", flush=True)
+
+
+if __name__ == "__main__":
+    sys.exit(main())

@@ -1,0 +1,15 @@
+use Rattle.std.proofs.Common.{arith}
+use Rattle.std.proofs.lemmas.Nat.Gcd.{IsGcd-from_zero, IsGcd-from_mod}
+use Rattle.frac128.proofs.arith.gcd_of_wide.Goals as goal
+
+pub loop-y-preserved : goal.loop-y-preserved
+loop-y-preserved c g h = c.loop-y.invariant g (IsGcd-from_mod _ _ g h)
+
+pub returns-then-y-eq0 : goal.returns-then-y-eq0
+returns-then-y-eq0 c = c.loop-y.invariant _ (IsGcd-from_zero _ _ (omega arith))
+
+pub returns-then-x : goal.returns-then-x
+returns-then-x c = c.loop-y.invariant _ (IsGcd-from_mod _ _ _ (rw c.from.ensures c.gcd.ensures))
+
+pub returns : goal.returns
+returns c = c.loop-y.invariant _ (rw c.from-2.ensures c.gcd-2.ensures)
