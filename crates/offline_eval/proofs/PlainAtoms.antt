@@ -1,6 +1,7 @@
 -- The signals of atoms tell the atoms in the setting in which each atom is read by the plain list of knots of its own signal.
-use Rattle.std.proofs.Common.{◌≡◌, ℕ, zero, suc, ◌+◌, ◌-◌, ◌<◌, List, [], ◌∷◌, length, drop, map, Some, refl, sym, ap, ◌∙◌, subst, arith, length-drop}
+use Rattle.std.proofs.Common.{◌≡◌, ℕ, zero, suc, ◌+◌, ◌-◌, ◌<◌, List, [], ◌∷◌, length, drop, take, map, cond, Some, refl, sym, ap, ◌∙◌, subst, arith, length-drop}
 use Rattle.std.specs.Prelude.{slice_get, All, pos}
+use Rattle.std.proofs.lemmas.List.Sums.{sum_by-cons}
 use Rattle.std.proofs.lemmas.Option.{slice_get_within, get_or_from_slice_get}
 use Rattle.rational.specs.Time.{Rational, whole}
 use Rattle.rational.specs.Extended.{Extended}
@@ -17,7 +18,7 @@ use Rattle.stl_syntax.specs.SupInf.{Gives, placed, signals}
 use Rattle.stl_syntax.specs.declared.atom.Atom.{Atom}
 use Rattle.stl_syntax.specs.declared.node.Node.{Node}
 use Rattle.stl_syntax.specs.declared.node.Node.TheVariants.{Atom as Leaf}
-use Rattle.offline_eval.specs.Inputs.{atoms_before, IsInput, TellAtoms}
+use Rattle.offline_eval.specs.Inputs.{atoms_before, is_atom, IsInput, TellAtoms}
 use Rattle.offline_eval.specs.PlainAtoms.{knots_setting}
 use Rattle.offline_eval.proofs.Evaluating.{some_left}
 
@@ -28,7 +29,8 @@ placed_at [] ks i a k at h = absurd (let e = at in cc)
 placed_at (Leaf b ∷ nodes) [] i a k at h = absurd (let e = h in cc)
 placed_at (Leaf b ∷ nodes) (l ∷ ks) zero a k at h = ap (λ x. Some x) h
 placed_at (Leaf b ∷ nodes) (l ∷ ks) (suc i) a k at h =
-    let one : atoms_before (Leaf b ∷ nodes) (suc i) ≡ suc (atoms_before nodes i) = omega arith in
+    let e : atoms_before (Leaf b ∷ nodes) (suc i) ≡ 1 + atoms_before nodes i = sum_by-cons (λ (n : Node). cond (is_atom n) 1 0) (Leaf b) (take i nodes) in
+    let one : atoms_before (Leaf b ∷ nodes) (suc i) ≡ suc (atoms_before nodes i) = omega (arith, e) in
     placed_at nodes ks i a k at (subst (λ n. slice_get (l ∷ ks) n ≡ Some k) one h)
 placed_at (n ∷ nodes) ks zero a k at h = absurd (let e = at in cc)
 placed_at (n ∷ nodes) ks (suc i) a k at h = placed_at nodes ks i a k at h
