@@ -82,7 +82,7 @@ check_alone {words} {own} ask command text a = by_word a.built
     by_word (inr (inl e)) =
         let form : words ≡ judge_word word.robust ∷ text ∷ [] = subst (λ k. words ≡ judge_word k ∷ text ∷ []) e (word_form a.is) in
         absurd (other_word (let same = sym form ∙ ask in cc))
-    by_word (inr (inr none)) = absurd none
+    by_word (inr (inr other)) = absurd other
 
 check_asked : {words : List (List ℕ)} {text : List ℕ} → IsAsked words (judge word.check text) → AskCheck words text
 check_asked a = word_form a.is
@@ -432,5 +432,5 @@ all_held words (judge command text) a = by_word a.built
     by_word : IsAmong command built_commands → is_held (judge command text) ≡ true
     by_word (inl e) = subst (λ k. is_held (judge k text) ≡ true) (sym e) refl
     by_word (inr (inl e)) = subst (λ k. is_held (judge k text) ≡ true) (sym e) refl
-    by_word (inr (inr none)) = absurd none
+    by_word (inr (inr other)) = absurd other
 all_held words (word.generate n rows) a = absurd a.built

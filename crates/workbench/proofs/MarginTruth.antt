@@ -95,7 +95,7 @@ module _ (p : Subformula) (tr : Trace) where
     told_by : (e : Rational) (tr' : Trace) → whole (pos 0) ≤ʳ e → IsLike tr' tr → AreClose e tr tr' p → (t : Rational) (r : Extended) → Reads knots t r
         → (finite e <ᵉ r → Truth p tr' t) × (r <ᵉ finite (negate e) → ¬ Truth p tr' t)
     told_by e tr' positive like close t r at =
-        let (w, v, is, same) = value_read t r at in
+        let (w, (v, is, same)) = value_read t r at in
         let told = sure tr' e positive like close t v w is in (
             λ h. told.0 (lt_of_lt_of_leᵉ (finite e) r v h same.at_most),
             λ h. told.1 (lt_of_le_of_ltᵉ v r (finite (negate e)) same.at_least h),

@@ -48,7 +48,7 @@ none_asked {words} h (judge j text) a = by_word a.built
     by_word : IsAmong j built_commands → ⊥
     by_word (inl e) = h Check text (subst (λ k. words ≡ judge_word k ∷ text ∷ []) e (word_form a.is))
     by_word (inr (inl e)) = h Robust text (subst (λ k. words ≡ judge_word k ∷ text ∷ []) e (word_form a.is))
-    by_word (inr (inr none)) = none
+    by_word (inr (inr other)) = other
 none_asked h (generate n rows) a = a.built
 
 -- a command that holds the whole trace serves each formula
