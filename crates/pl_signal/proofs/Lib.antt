@@ -11,3 +11,4 @@ pub mod JoiningLemmas
 pub mod Places
 pub mod Limits
 mod FaultLemmas
+pub mod PlainLemmas

@@ -7,3 +7,4 @@ pub mod Wide
 pub mod Places
 pub mod Joining
 pub mod Faults
+pub mod Plain

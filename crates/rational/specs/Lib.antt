@@ -7,3 +7,4 @@ pub mod Affine
 pub mod InPlay
 pub mod Onward
 pub mod UntilParts
+pub mod Knots

@@ -8,3 +8,6 @@ pub mod SignalLaw
 pub mod Spellings
 pub mod Lines
 pub mod Advances
+pub mod Growths
+pub mod MarginTexts
+pub mod MarginLaw

@@ -7,3 +7,4 @@ pub mod Numbers
 pub mod SignalVerdicts
 pub mod Spelling
 pub mod Laws
+pub mod MarginLines
