@@ -9,3 +9,6 @@ pub mod Spellings
 pub mod Lines
 pub mod Advances
 mod Turns
+pub mod Growths
+pub mod MarginTexts
+pub mod MarginLaw
