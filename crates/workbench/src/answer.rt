@@ -53,7 +53,6 @@ fn add_atom(alloc: Global, case: &Case, i: u32, atoms: &mut Atoms<Truth>) -> Res
     requires before { AreAtomsOf ⟦<Truth as Shape>⟧ case.now i atoms.old }
     ensures { OnOk result (AreAtomsOf ⟦<Truth as Shape>⟧ case.now (i + 1) atoms.new) }
 {
-    // For the proof alone: that it is a trace is a clause of `rows`.
     let _ = case.trace.rows();
     match case.formula.node(i) {
         Node::Atom(_) => {
@@ -102,7 +101,6 @@ fn answer_of(alloc: Global, scale: Scale, s: &Signal<Truth>) -> Result<Answer, M
     requires { scale.time ≤ 6 }
     ensures { IfOk result (λ a. IsSignalText ⟦<Truth as Shape>⟧ scale s.now a.holds a.text) }
 {
-    // For the proof alone: that it is a signal is a clause of `len`.
     let _ = s.len();
     let mut text = Text::new(alloc);
     put_verdicts(&mut text, s, scale)?;
