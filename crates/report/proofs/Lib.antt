@@ -12,3 +12,12 @@ mod Turns
 pub mod Growths
 pub mod MarginTexts
 pub mod MarginLaw
+pub mod Stretch
+pub mod FinerTrees
+pub mod FinerTraces
+pub mod FinerTruth
+pub mod FinerValues
+pub mod FinerMargins
+pub mod KnotsChange
+pub mod FinerKnots
+pub mod FinerRobust
