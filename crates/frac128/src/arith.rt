@@ -39,7 +39,7 @@ pub(crate) fn sum_of_products(a: i128, b: i128, c: i128, d: i128) -> i128
 }
 
 /// The greatest common divisor of two numbers of 128 bits: by Euclid until both have 64, and then by `gcd`.
-pub(crate) fn gcd_of_wide(a: u128, b: u128) -> u128
+pub fn gcd_of_wide(a: u128, b: u128) -> u128
     ensures { IsGcd a b result }
 {
     let mut x = a;

@@ -8,7 +8,7 @@ mod ratio;
 mod span;
 mod steps;
 
-pub use arith::gcd;
+pub use arith::{gcd, gcd_of_wide};
 pub use frac::{Frac, Memory, WideFrac};
 pub use ramp::Ramp;
 pub use ratio::{Ratio, cmp_ratio};

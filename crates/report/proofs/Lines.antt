@@ -21,7 +21,7 @@ in_units : ℕ → Rational → Rational
 in_units digits t = record { up = t.up; down = t.down; den = t.den * 10 ^ digits; positive = mul-pos t.positive (one-le-pow digits 10 (omega arith)) }
 
 -- each number of ticks has a text
-number_exists : (digits : ℕ) (t : Rational) → (text : List ℕ) × IsNumberText digits t text
+pub number_exists : (digits : ℕ) (t : Rational) → (text : List ℕ) × IsNumberText digits t text
 unfolding in_units
 number_exists digits t =
     let d = has_denominator (in_units digits t) in
@@ -32,7 +32,7 @@ number_exists digits t =
     in_ticks num den p h = record { same = omega (arith, h.same, ap (λ x. x * t.den) (mul_parts num (pos (10 ^ digits)))) }
 
 -- each verdict has a line
-line_exists : (scale : Scale) (v : Verdict) → (line : List ℕ) × IsVerdictLine scale v line
+pub line_exists : (scale : Scale) (v : Verdict) → (line : List ℕ) × IsVerdictLine scale v line
 line_exists scale v =
     let from = number_exists scale.time (value v.on.from) in
     let to = number_exists scale.time (value v.on.to) in

@@ -110,6 +110,10 @@ impl Header {
     }
 
     /// The same header once more.
+    ///
+    /// # Errors
+    ///
+    /// `Memory` where memory is wanting.
     pub fn copy(&self) -> Result<Header, Memory>
         ensures { IfOk result (λ h. h ≡ self.now) }
     {

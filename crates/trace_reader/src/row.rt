@@ -92,6 +92,10 @@ impl Row {
     }
 
     /// The same row once more.
+    ///
+    /// # Errors
+    ///
+    /// `Memory` where memory is wanting.
     pub fn copy(&self) -> Result<Row, Memory>
         ensures { IfOk result (λ r. r ≡ self.now) }
     {

@@ -56,6 +56,10 @@ impl Trace {
     }
 
     /// Adds a row with as many values as the header has columns, later than the rows before it.
+    ///
+    /// # Errors
+    ///
+    /// `Memory` where memory is wanting; the rows stay as they were.
     #[inline(always)]
     pub fn push(&mut self, row: &Row) -> Result<(), Memory>
         requires width { length row.now.values ≡ length self.old.header.columns }
