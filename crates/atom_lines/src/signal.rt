@@ -70,6 +70,10 @@ impl AtomShape for Margin {
 /// The signal of the atom at a node over the whole trace, in one pass over the rows.
 ///
 /// It has the knots that are needed and no others. The trace has a row, and the columns of the header that was bound.
+///
+/// # Errors
+///
+/// `Memory` where memory is wanting.
 pub fn atom_signal<P: AtomShape>(
     alloc: Global,
     bound: &Bound,

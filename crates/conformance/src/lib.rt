@@ -10,6 +10,10 @@ mod eval_tests;
 #[cfg(test)]
 mod evals;
 #[cfg(test)]
+mod explain_tests;
+#[cfg(test)]
+mod margin_tests;
+#[cfg(test)]
 mod operator_tests;
 #[cfg(test)]
 mod run_tests;

@@ -55,6 +55,7 @@ impl Ramp {
         requires { IsWithin (2 ^ 34) (value t.now) }
         ensures value { fraction result.num result.den ≈ at (line self.now) (value t.now) }
         ensures den { result.den ≡ pos (run_time self.now * denominator t.now) }
+        ensures small { unsigned_abs result.den < 2 ^ 92 }
     {
         let gap = i128::from(t.whole()) - i128::from(self.t0);
         value_ahead(
@@ -68,6 +69,10 @@ impl Ramp {
     }
 
     /// The value at `t` as a `Frac`. Err exactly where its denominator in lowest terms is 2^60 or more, which it carries.
+    ///
+    /// # Errors
+    ///
+    /// `WideFrac`, with the denominator of the value in lowest terms, exactly where that is 2^60 or more.
     pub fn fix(&self, t: &Frac) -> Result<Frac, WideFrac>
         requires time { IsWithin (2 ^ 34) (value t.now) }
         requires value { IsWithin (2 ^ 31) (at (line self.now) (value t.now)) }

@@ -24,7 +24,8 @@ use Rattle.offline_eval.proofs.Evaluating.{pushed_at, pushed_count, told_pushed,
 use Rattle.offline_eval.proofs.Sound.{sound_more}
 
 -- a place in a list in which one item was replaced
-written_at : {X : Type 0} (xs : List X) (p : ℕ) (y : X) (k : ℕ) (x : X) → slice_get (set xs p y) k ≡ Some x → ((k ≡ p) × (x ≡ y)) ⊎ ((p ≡ k → ⊥) × (slice_get xs k ≡ Some x))
+written_at : {X : Type 0} (xs : List X) (p : ℕ) (y : X) (k : ℕ) (x : X) → slice_get (set xs p y) k ≡ Some x
+    → ((k ≡ p) × (x ≡ y)) ⊎ ((p ≡ k → ⊥) × (slice_get xs k ≡ Some x))
 written_at [] p y k x e = absurd cc
 written_at (z ∷ xs) zero y zero x e = inl (refl, let same : y ≡ x = cc in sym same)
 written_at (z ∷ xs) zero y (suc k) x e = inr (λ h. omega (arith, h), e)
@@ -117,13 +118,15 @@ module _ (nodes : List Node) where
     kept_new order =
         let long : length (take i nodes) ≡ i = omega (arith, length-take i nodes, slice_get_within nodes i n there) in
         kept_free (i + 1) i
-        (ap (λ l. is_used l i) taken ∙ subst (λ k. is_used (take i nodes ++ n ∷ []) k ≡ false) long (next_unused (take i nodes) n (post_order_take nodes i order) (order.follows i n there)))
+        (ap (λ l. is_used l i) taken ∙ subst (λ k. is_used (take i nodes ++ n ∷ []) k ≡ false) long
+            (next_unused (take i nodes) n (post_order_take nodes i order) (order.follows i n there)))
 
   -- a node is no child of itself
   pub no_own_child : (i : ℕ) (n : Node) → slice_get nodes i ≡ Some n → IsPostOrder nodes → has_child i n ≡ false
   no_own_child i n there order =
       let long : length (take i nodes) ≡ i = omega (arith, length-take i nodes, slice_get_within nodes i n there) in
-      let free = subst (λ k. is_used (take i nodes ++ n ∷ []) k ≡ false) long (next_unused (take i nodes) n (post_order_take nodes i order) (order.follows i n there)) in
+      let free = subst (λ k. is_used (take i nodes ++ n ∷ []) k ≡ false) long
+          (next_unused (take i nodes) n (post_order_take nodes i order) (order.follows i n there)) in
       second (is_used (take i nodes) i) (has_child i n) (sym (list_any-append (has_child i) (take i nodes) (n ∷ [])) ∙ free)
     where
       second : (a b : Bool) → (a || (b || false)) ≡ false → b ≡ false
@@ -136,7 +139,8 @@ module _ {P : Type 0} (shape : ShapeOf P) (from to : ℕ) where
   pub none_given_up : (xs : List (List (Knot P))) → AreGivenUp shape from to [] xs xs
   none_given_up xs = record { count = refl; at = λ k x h. h }
 
-  pub one_given_up : (p : ℕ) (old new : List (List (Knot P))) (spare : List (Knot P)) → new ≡ set old p spare → IsSpare shape from to spare → AreGivenUp shape from to (p ∷ []) old new
+  pub one_given_up : (p : ℕ) (old new : List (List (Knot P))) (spare : List (Knot P)) → new ≡ set old p spare → IsSpare shape from to spare
+      → AreGivenUp shape from to (p ∷ []) old new
   one_given_up p old new spare e h = record {
     count = ap length e ∙ length_written old p spare;
     at = λ k x there. by_place k x (written_at old p spare k x (subst (λ l. slice_get l k ≡ Some x) e there));
@@ -145,20 +149,25 @@ module _ {P : Type 0} (shape : ShapeOf P) (from to : ℕ) where
       by_place : (k : ℕ) (x : List (Knot P)) → ((k ≡ p) × (x ≡ spare)) ⊎ ((p ≡ k → ⊥) × (slice_get old k ≡ Some x))
           → MatchBool (list_any (λ q. q == k) (p ∷ [])) (IsSpare shape from to x) (slice_get old k ≡ Some x)
       by_place k x (inl o) =
-          subst (λ b. MatchBool (b || false) (IsSpare shape from to x) (slice_get old k ≡ Some x)) (sym (eq-eqb p k (sym o.0))) (subst (IsSpare shape from to) (sym o.1) h)
+          subst (λ b. MatchBool (b || false) (IsSpare shape from to x) (slice_get old k ≡ Some x)) (sym (eq-eqb p k (sym o.0)))
+              (subst (IsSpare shape from to) (sym o.1) h)
       by_place k x (inr o) = subst (λ b. MatchBool (b || false) (IsSpare shape from to x) (slice_get old k ≡ Some x)) (sym (ne_eqb p k o.0)) o.1
 
-  pub more_given_up : (ps qs : List ℕ) (old mid new : List (List (Knot P))) → AreGivenUp shape from to ps old mid → AreGivenUp shape from to qs mid new → AreGivenUp shape from to (ps ++ qs) old new
+  pub more_given_up : (ps qs : List ℕ) (old mid new : List (List (Knot P))) → AreGivenUp shape from to ps old mid
+      → AreGivenUp shape from to qs mid new → AreGivenUp shape from to (ps ++ qs) old new
   more_given_up ps qs old mid new f s = record {
     count = s.count ∙ f.count;
     at = λ k x there.
         subst (λ b. MatchBool b (IsSpare shape from to x) (slice_get old k ≡ Some x)) (sym (list_any-append (λ p. p == k) ps qs))
-        (join (IsSpare shape from to x) (slice_get mid k ≡ Some x) (slice_get old k ≡ Some x) (list_any (λ p. p == k) ps) (list_any (λ p. p == k) qs) (s.at k x there) (λ m. f.at k x m));
+        (join (IsSpare shape from to x) (slice_get mid k ≡ Some x) (slice_get old k ≡ Some x) (list_any (λ p. p == k) ps) (list_any (λ p. p == k) qs)
+            (s.at k x there) (λ m. f.at k x m));
   }
 
   -- what the signals tell once the next node has its own
-  pub kept_told : (nodes : List Node) (s : Setting) (i : ℕ) (n : Node) (old new : List (List (Knot P))) (y : List (Knot P)) → IsPostOrder nodes → slice_get nodes i ≡ Some n → length old ≡ i
-      → IsOver shape.lowest shape.highest from to s → AreGivenUp shape from to (children n) (old ++ y ∷ []) new → TellAt shape s (kept nodes i) old → TellsValue shape s (subformula nodes i) y
+  pub kept_told : (nodes : List Node) (s : Setting) (i : ℕ) (n : Node) (old new : List (List (Knot P))) (y : List (Knot P)) → IsPostOrder nodes
+      → slice_get nodes i ≡ Some n → length old ≡ i
+      → IsOver shape.lowest shape.highest from to s → AreGivenUp shape from to (children n) (old ++ y ∷ []) new → TellAt shape s (kept nodes i) old
+          → TellsValue shape s (subformula nodes i) y
       → TellAt shape s (kept nodes (i + 1)) new
   kept_told nodes s i n old new y order there count over given told own k x at = by_child (has_child k n) refl (given.at k x at)
     where
@@ -169,12 +178,14 @@ module _ {P : Type 0} (shape : ShapeOf P) (from to : ℕ) where
           subst (λ j. TellsValue shape s (kept nodes (i + 1) j) x) here
           (subst (λ f. TellsValue shape s f x) (sym (kept_new nodes i n there order)) (subst (TellsValue shape s (subformula nodes i)) (sym h.1) own))
 
-      by_child : (b : Bool) → has_child k n ≡ b → MatchBool b (IsSpare shape from to x) (slice_get (old ++ y ∷ []) k ≡ Some x) → TellsValue shape s (kept nodes (i + 1) k) x
+      by_child : (b : Bool) → has_child k n ≡ b → MatchBool b (IsSpare shape from to x) (slice_get (old ++ y ∷ []) k ≡ Some x)
+          → TellsValue shape s (kept nodes (i + 1) k) x
       by_child true e spare = subst (λ f. TellsValue shape s f x) (sym (kept_child nodes i n there k e)) (spare.told s over)
       by_child false e h = by_place e (pushed_at old y k x h)
 
   -- the signals stay sound
-  pub kept_sound : (places : List ℕ) (reach : ℕ) (old new : List (List (Knot P))) → AreGivenUp shape from to places old new → AreSound shape from to reach old → AreSound shape from to reach new
+  pub kept_sound : (places : List ℕ) (reach : ℕ) (old new : List (List (Knot P))) → AreGivenUp shape from to places old new
+      → AreSound shape from to reach old → AreSound shape from to reach new
   kept_sound places reach old new given sound k x at = by_place (list_any (λ p. p == k) places) (given.at k x at)
     where
       by_place : (b : Bool) → MatchBool b (IsSpare shape from to x) (slice_get old k ≡ Some x) → IsSound shape from to reach x
@@ -197,7 +208,8 @@ module _ {P : Type 0} (shape : ShapeOf P) (from to : ℕ) (nodes : List Node) (a
 
   pub all_next : (i : ℕ) (n : Node) (old new : List (List (Knot P))) (y : List (Knot P)) → IsPostOrder nodes → slice_get nodes i ≡ Some n → length old ≡ i
       → AreGivenUp shape from to (children n) (old ++ y ∷ []) new
-      → ((s : Setting) → IsOver shape.lowest shape.highest from to s → TellAtoms shape nodes atoms s → TellsValue shape s (subformula nodes i) y) → HasAll i old → HasAll (i + 1) new
+      → ((s : Setting) → IsOver shape.lowest shape.highest from to s → TellAtoms shape nodes atoms s → TellsValue shape s (subformula nodes i) y)
+          → HasAll i old → HasAll (i + 1) new
   all_next i n old new y order there count given own all = record {
     signals = all.signals ++ y ∷ [];
     count = pushed_count all.signals (all.signals ++ y ∷ []) y i all.count refl;
@@ -213,15 +225,18 @@ module _ {P : Type 0} (shape : ShapeOf P) (from to : ℕ) (nodes : List Node) (a
       by_place k x e (inl h) = absurd (let l = slice_get_within old k x h in omega (arith, e, l, count))
       by_place k x e (inr h) =
           let long : length all.signals ≡ k = all.count ∙ sym e in
-          subst (λ j. slice_get (all.signals ++ y ∷ []) j ≡ Some x) long (subst (λ z. slice_get (all.signals ++ y ∷ []) (length all.signals) ≡ Some z) (sym h.1) (at_end all.signals y))
+          subst (λ j. slice_get (all.signals ++ y ∷ []) j ≡ Some x) long
+              (subst (λ z. slice_get (all.signals ++ y ∷ []) (length all.signals) ≡ Some z) (sym h.1) (at_end all.signals y))
 
-      here : (k : ℕ) (x : List (Knot P)) → k ≡ i → MatchBool (has_child k n) (IsSpare shape from to x) (slice_get (old ++ y ∷ []) k ≡ Some x) → slice_get (all.signals ++ y ∷ []) k ≡ Some x
+      here : (k : ℕ) (x : List (Knot P)) → k ≡ i → MatchBool (has_child k n) (IsSpare shape from to x) (slice_get (old ++ y ∷ []) k ≡ Some x)
+          → slice_get (all.signals ++ y ∷ []) k ≡ Some x
       here k x e m =
           let free : has_child k n ≡ false = subst (λ j. has_child j n ≡ false) (sym e) (no_own_child nodes i n there order) in
           by_place k x e (pushed_at old y k x (subst (λ b. MatchBool b (IsSpare shape from to x) (slice_get (old ++ y ∷ []) k ≡ Some x)) free m))
 
   -- what is left in the end is the last of them
-  pub all_root : (i : ℕ) (done rest : List (List (Knot P))) (x : List (Knot P)) → 0 < length nodes → i ≡ length nodes → length done ≡ i → done ≡ rest ++ x ∷ [] → HasAll i done
+  pub all_root : (i : ℕ) (done rest : List (List (Knot P))) (x : List (Knot P)) → 0 < length nodes → i ≡ length nodes → length done ≡ i
+      → done ≡ rest ++ x ∷ [] → HasAll i done
       → IsRootOf shape from to nodes atoms x
   all_root i done rest x some whole count e all = (
     all.signals,

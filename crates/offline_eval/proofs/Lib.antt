@@ -12,3 +12,4 @@ pub mod InPlay
 pub mod WindowLemmas
 pub mod UntilLemmas
 mod Keeping
+pub mod PlainAtoms

@@ -3,3 +3,4 @@ pub mod Making
 pub mod Evaluation
 pub mod Places
 pub mod Keeping
+pub mod PlainAtoms

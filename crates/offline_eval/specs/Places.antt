@@ -1,6 +1,5 @@
 -- What the signal that is made at a place of a formula takes, keeps and tells.
-use Rattle.std.specs.Prelude.{◌≡◌, ℕ, ℤ, ◌+◌, List, take, drop, sum_by, Some, slice_get}
-use Rattle.rational.specs.Extended.{Extended, Affine}
+use Rattle.std.specs.Prelude.{◌≡◌, ℕ, ◌+◌, List, take, drop, sum_by, Some, slice_get}
 use Rattle.value_laws.specs.Members.{ShapeOf}
 use Rattle.pl_signal.specs.declared.knot.Knot.{Knot}
 use Rattle.pl_signal.specs.declared.faults.OpFault.{OpFault}
@@ -32,10 +31,12 @@ module _ {P : Type 0} (shape : ShapeOf P) where
   -- where the atoms' signals tell the atoms, and those of its children tell their nodes, the new signal tells its node
   abbrev pub TellsPlace : ℕ → ℕ → List Node → ℕ → List (List (Knot P)) → List (List (Knot P)) → List (Knot P) → Type 0
   TellsPlace from to nodes i left xs r =
-      (s : Setting) (at : ℕ → Subformula) (all : List (List (Knot P))) → IsOver shape.lowest shape.highest from to s → left ≡ drop (atoms_before nodes i) all → TellAtoms shape nodes all s
+      (s : Setting) (at : ℕ → Subformula) (all : List (List (Knot P))) → IsOver shape.lowest shape.highest from to s
+      → left ≡ drop (atoms_before nodes i) all → TellAtoms shape nodes all s
       → AgreeAt nodes i at → TellAt shape s at xs → TellsValue shape s (subformula nodes i) r
 
   -- there a fault is one of its node
   abbrev pub FaultOfPlace : ℕ → ℕ → List Node → ℕ → List (List (Knot P)) → OpFault P → Type 0
   FaultOfPlace from to nodes i xs e =
-      (s : Setting) (at : ℕ → Subformula) → IsOver shape.lowest shape.highest from to s → AgreeAt nodes i at → TellAt shape s at xs → IsFaultOf shape s (subformula nodes i) e
+      (s : Setting) (at : ℕ → Subformula) → IsOver shape.lowest shape.highest from to s → AgreeAt nodes i at → TellAt shape s at xs
+      → IsFaultOf shape s (subformula nodes i) e

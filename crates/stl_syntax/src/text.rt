@@ -37,6 +37,10 @@ impl Text {
     }
 
     /// Appends the piece; without memory for it the bytes stay as they were.
+    ///
+    /// # Errors
+    ///
+    /// `Memory` where memory is wanting; the text stays as it was.
     pub fn push(&mut self, piece: &[u8]) -> Result<(), Memory>
         ensures ok { OnOk result (self.new ≡ self.old ++ piece.now) }
         ensures err { OnErr result (self.new ≡ self.old) }

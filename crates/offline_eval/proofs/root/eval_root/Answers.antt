@@ -18,12 +18,14 @@ pub next_signal-requires-clause-left : goal.next_signal-requires-clause-left
 next_signal-requires-clause-left g c a at = some_left c.args.formula.now.nodes c.args.atoms c.loop-i.rest c.loop-i.i a c.requires.count c.loop-i.invariant.rest at
 
 pub next_signal-requires-clause-inputs : goal.next_signal-requires-clause-inputs
-next_signal-requires-clause-inputs g c = left_sound g.P.Shape c.args.from c.args.to c.args.atoms c.loop-i.rest (atoms_before c.args.formula.now.nodes c.loop-i.i) c.requires.inputs c.loop-i.invariant.rest
+next_signal-requires-clause-inputs g c = left_sound g.P.Shape c.args.from c.args.to c.args.atoms c.loop-i.rest
+    (atoms_before c.args.formula.now.nodes c.loop-i.i) c.requires.inputs c.loop-i.invariant.rest
 
 pub next_signal-requires-clause-sound : goal.next_signal-requires-clause-sound
 next_signal-requires-clause-sound g c =
     subst (AreSound g.P.Shape c.args.from c.args.to 4294967295) (sym c.deref.ensures.value)
-    (all_more g.P.Shape c.args.from c.args.to (reach_before c.args.formula.now.nodes c.loop-i.i) 4294967295 c.loop-i.done.items (reach_within c.args.formula.now.nodes c.loop-i.i c.len-count.ensures.well_formed.nodes.reach) c.loop-i.invariant.sound)
+    (all_more g.P.Shape c.args.from c.args.to (reach_before c.args.formula.now.nodes c.loop-i.i) 4294967295 c.loop-i.done.items
+        (reach_within c.args.formula.now.nodes c.loop-i.i c.len-count.ensures.well_formed.nodes.reach) c.loop-i.invariant.sound)
 
 pub loop-i-init : goal.loop-i-init
 loop-i-init g c =
@@ -45,7 +47,8 @@ keep-requires-clause-children g c =
     let i = c.loop-i.i in
     let n = c.node.result.now in
     let order = c.len-count.ensures.well_formed.nodes.post_order in
-    All-weaker (λ p. p < length (take i nodes)) (λ p. p < length c.loop-i.done.items) (λ p l. omega (arith, length-take i nodes, c.loop-i.invariant.count, l)) (children n)
+    All-weaker (λ p. p < length (take i nodes)) (λ p. p < length c.loop-i.done.items)
+        (λ p l. omega (arith, length-take i nodes, c.loop-i.invariant.count, l)) (children n)
     (children_below (take i nodes) n (order.follows i n c.node.ensures.node))
 
 pub loop-i-preserved : goal.loop-i-preserved
@@ -71,7 +74,8 @@ loop-i-preserved g c =
       rest = c.in-Ok.ensures.rest c.args.atoms before.rest;
       sound = kept_sound shape c.args.from c.args.to (children n) (reach_before nodes (i + 1)) (old ++ y ∷ []) new given
           (all_pushed shape c.args.from c.args.to nodes i old (old ++ y ∷ []) y inside refl before.sound (c.in-Ok.ensures.sound sound));
-      told = λ s over told. kept_told shape c.args.from c.args.to nodes s i n old new y order there before.count over given (before.told s over told) (own s over told);
+      told = λ s over told. kept_told shape c.args.from c.args.to nodes s i n old new y order there before.count over given (before.told s over told)
+          (own s over told);
       all = all_next shape c.args.from c.args.to nodes c.args.atoms i n old new y order there before.count given own before.all;
     }
 
@@ -81,7 +85,9 @@ returns-in-Err-clause-wide g c s over atoms =
     let inside : c.loop-i.i < length nodes = let t = c.loop-i-test.true in let e = c.len-count.ensures.count in omega arith in
     let before_told = subst (TellAt g.P.Shape s (kept nodes c.loop-i.i)) (sym c.deref.ensures.value) (c.loop-i.invariant.told s over atoms) in
     subst (IsFault g.P.Shape nodes s) (sym c.at_node.ensures)
-    (fault_is g.P.Shape nodes s c.loop-i.i c.in-Err.fault inside (c.in-Err.ensures.wide s (kept nodes c.loop-i.i) over (kept_agrees nodes c.loop-i.i c.len-count.ensures.well_formed.nodes.post_order) before_told))
+    (fault_is g.P.Shape nodes s c.loop-i.i c.in-Err.fault inside
+        (c.in-Err.ensures.wide s (kept nodes c.loop-i.i) over
+        (kept_agrees nodes c.loop-i.i c.len-count.ensures.well_formed.nodes.post_order) before_told))
 
 pub unreachable-requires : goal.unreachable-requires
 unreachable-requires g c =
