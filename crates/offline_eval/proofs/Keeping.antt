@@ -1,5 +1,5 @@
 -- Signals that are given up: the children of the node that comes next are still kept, and so is the root in the end.
-use Rattle.std.proofs.Common.{◌≡◌, ℕ, zero, suc, ◌+◌, ◌-◌, ◌<◌, ◌⊎◌, inl, inr, Bool, true, false, ◌||◌, cond, Option, Some, None, List, [], ◌∷◌, ◌++◌, length, take, get_or, ap, sym, ◌∙◌, subst, refl, arith}
+use Rattle.std.proofs.Common.{◌≡◌, ℕ, zero, suc, ◌+◌, ◌-◌, ◌<◌, ◌⊎◌, inl, inr, Bool, true, false, ◌||◌, cond, Option, Some, None, List, [], ◌∷◌, ◌++◌, length, take, ap, sym, ◌∙◌, subst, refl, arith}
 use Rattle.std.specs.Prelude.{slice_get, MatchBool, IfSome, All, option_to_list, ◌==◌}
 use Rattle.std.specs.List.{list_any}
 use Rattle.std.proofs.Math.ListN.{set}
@@ -19,7 +19,7 @@ use Rattle.stl_syntax.proofs.PostOrderLemmas.{children_free, next_unused, post_o
 use Rattle.offline_eval.specs.Inputs.{IsOver, TellAtoms}
 use Rattle.offline_eval.specs.Keeping.{kept, IsSpare, AreGivenUp, IsRootOf}
 use Rattle.offline_eval.specs.Making.{IsSound, AreSound, TellAt, TellsValue}
-use Rattle.offline_eval.specs.Places.{reach_before, AgreeAt}
+use Rattle.offline_eval.specs.Places.{AgreeAt}
 use Rattle.offline_eval.proofs.Evaluating.{pushed_at, pushed_count, told_pushed, all_told}
 use Rattle.offline_eval.proofs.Sound.{sound_more}
 

@@ -1,5 +1,5 @@
 use Rattle.std.proofs.Common.{rules, ◌≡◌, ℕ, ◌+◌, ◌<◌, ◌∙◌, sym, ap, subst, refl, [], ◌∷◌, ◌++◌, length, take, Some, arith}
-use Rattle.std.specs.Prelude.{slice_get, All}
+use Rattle.std.specs.Prelude.{slice_get}
 use Rattle.std.proofs.lemmas.List.{length-take}
 use Rattle.std.proofs.lemmas.List.Elements.{All-weaker}
 use Rattle.stl_syntax.specs.PostOrder.{children}
@@ -67,8 +67,8 @@ loop-i-preserved g c =
     let given : AreGivenUp shape c.args.from c.args.to (children n) (old ++ y ∷ []) new = search (rules, c.keep.ensures, c.if-is_err.false, c.is_err.ensures) in
     let sound = subst (λ xs. AreSound shape c.args.from c.args.to (reach_before nodes i) xs) (sym c.deref.ensures.value) before.sound in
     let own = λ (s : Setting) (over : IsOver shape.lowest shape.highest c.args.from c.args.to s) (told : TellAtoms shape nodes c.args.atoms s).
-        c.in-Ok.ensures.told s (kept nodes i) c.args.atoms over before.rest told (kept_agrees nodes i order)
-        (subst (TellAt shape s (kept nodes i)) (sym c.deref.ensures.value) (before.told s over told)) in
+    c.in-Ok.ensures.told s (kept nodes i) c.args.atoms over before.rest told (kept_agrees nodes i order)
+    (subst (TellAt shape s (kept nodes i)) (sym c.deref.ensures.value) (before.told s over told)) in
     record {
       count = given.count ∙ pushed_count old (old ++ y ∷ []) y i before.count refl;
       rest = c.in-Ok.ensures.rest c.args.atoms before.rest;

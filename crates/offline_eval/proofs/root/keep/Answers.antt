@@ -1,8 +1,6 @@
 use Rattle.std.proofs.Common.{rules, ◌≡◌, List, ℕ, ◌++◌, ◌∷◌, [], subst}
 use Rattle.std.specs.Prelude.{option_to_list}
 use Rattle.std.proofs.lemmas.Result.{on_ok_weaker}
-use Rattle.pl_signal.specs.declared.knot.Knot.{Knot}
-use Rattle.stl_syntax.specs.PostOrder.{children}
 use Rattle.offline_eval.specs.Keeping.{AreGivenUp}
 use Rattle.offline_eval.proofs.Keeping.{more_given_up}
 use Rattle.offline_eval.proofs.root.keep.Goals as goal
