@@ -119,14 +119,14 @@ module _ (nodes : List Node) where
         let long : length (take i nodes) ≡ i = omega (arith, length-take i nodes, slice_get_within nodes i n there) in
         kept_free (i + 1) i
         (ap (λ l. is_used l i) taken ∙ subst (λ k. is_used (take i nodes ++ n ∷ []) k ≡ false) long
-            (next_unused (take i nodes) n (post_order_take nodes i order) (order.follows i n there)))
+        (next_unused (take i nodes) n (post_order_take nodes i order) (order.follows i n there)))
 
   -- a node is no child of itself
   pub no_own_child : (i : ℕ) (n : Node) → slice_get nodes i ≡ Some n → IsPostOrder nodes → has_child i n ≡ false
   no_own_child i n there order =
       let long : length (take i nodes) ≡ i = omega (arith, length-take i nodes, slice_get_within nodes i n there) in
       let free = subst (λ k. is_used (take i nodes ++ n ∷ []) k ≡ false) long
-          (next_unused (take i nodes) n (post_order_take nodes i order) (order.follows i n there)) in
+      (next_unused (take i nodes) n (post_order_take nodes i order) (order.follows i n there)) in
       second (is_used (take i nodes) i) (has_child i n) (sym (list_any-append (has_child i) (take i nodes) (n ∷ [])) ∙ free)
     where
       second : (a b : Bool) → (a || (b || false)) ≡ false → b ≡ false
@@ -150,7 +150,7 @@ module _ {P : Type 0} (shape : ShapeOf P) (from to : ℕ) where
           → MatchBool (list_any (λ q. q == k) (p ∷ [])) (IsSpare shape from to x) (slice_get old k ≡ Some x)
       by_place k x (inl o) =
           subst (λ b. MatchBool (b || false) (IsSpare shape from to x) (slice_get old k ≡ Some x)) (sym (eq-eqb p k (sym o.0)))
-              (subst (IsSpare shape from to) (sym o.1) h)
+          (subst (IsSpare shape from to) (sym o.1) h)
       by_place k x (inr o) = subst (λ b. MatchBool (b || false) (IsSpare shape from to x) (slice_get old k ≡ Some x)) (sym (ne_eqb p k o.0)) o.1
 
   pub more_given_up : (ps qs : List ℕ) (old mid new : List (List (Knot P))) → AreGivenUp shape from to ps old mid
@@ -160,14 +160,14 @@ module _ {P : Type 0} (shape : ShapeOf P) (from to : ℕ) where
     at = λ k x there.
         subst (λ b. MatchBool b (IsSpare shape from to x) (slice_get old k ≡ Some x)) (sym (list_any-append (λ p. p == k) ps qs))
         (join (IsSpare shape from to x) (slice_get mid k ≡ Some x) (slice_get old k ≡ Some x) (list_any (λ p. p == k) ps) (list_any (λ p. p == k) qs)
-            (s.at k x there) (λ m. f.at k x m));
+        (s.at k x there) (λ m. f.at k x m));
   }
 
   -- what the signals tell once the next node has its own
   pub kept_told : (nodes : List Node) (s : Setting) (i : ℕ) (n : Node) (old new : List (List (Knot P))) (y : List (Knot P)) → IsPostOrder nodes
       → slice_get nodes i ≡ Some n → length old ≡ i
       → IsOver shape.lowest shape.highest from to s → AreGivenUp shape from to (children n) (old ++ y ∷ []) new → TellAt shape s (kept nodes i) old
-          → TellsValue shape s (subformula nodes i) y
+      → TellsValue shape s (subformula nodes i) y
       → TellAt shape s (kept nodes (i + 1)) new
   kept_told nodes s i n old new y order there count over given told own k x at = by_child (has_child k n) refl (given.at k x at)
     where
@@ -209,7 +209,7 @@ module _ {P : Type 0} (shape : ShapeOf P) (from to : ℕ) (nodes : List Node) (a
   pub all_next : (i : ℕ) (n : Node) (old new : List (List (Knot P))) (y : List (Knot P)) → IsPostOrder nodes → slice_get nodes i ≡ Some n → length old ≡ i
       → AreGivenUp shape from to (children n) (old ++ y ∷ []) new
       → ((s : Setting) → IsOver shape.lowest shape.highest from to s → TellAtoms shape nodes atoms s → TellsValue shape s (subformula nodes i) y)
-          → HasAll i old → HasAll (i + 1) new
+      → HasAll i old → HasAll (i + 1) new
   all_next i n old new y order there count given own all = record {
     signals = all.signals ++ y ∷ [];
     count = pushed_count all.signals (all.signals ++ y ∷ []) y i all.count refl;
@@ -226,7 +226,7 @@ module _ {P : Type 0} (shape : ShapeOf P) (from to : ℕ) (nodes : List Node) (a
       by_place k x e (inr h) =
           let long : length all.signals ≡ k = all.count ∙ sym e in
           subst (λ j. slice_get (all.signals ++ y ∷ []) j ≡ Some x) long
-              (subst (λ z. slice_get (all.signals ++ y ∷ []) (length all.signals) ≡ Some z) (sym h.1) (at_end all.signals y))
+          (subst (λ z. slice_get (all.signals ++ y ∷ []) (length all.signals) ≡ Some z) (sym h.1) (at_end all.signals y))
 
       here : (k : ℕ) (x : List (Knot P)) → k ≡ i → MatchBool (has_child k n) (IsSpare shape from to x) (slice_get (old ++ y ∷ []) k ≡ Some x)
           → slice_get (all.signals ++ y ∷ []) k ≡ Some x

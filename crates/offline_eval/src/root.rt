@@ -29,7 +29,8 @@ fn operands(node: &Node) -> (Option<u32>, Option<u32>)
         | Node::Historically { of, .. } => (Some(*of), None),
         Node::And(p, q) | Node::Or(p, q) | Node::Implies(p, q) => (Some(*p), Some(*q)),
         Node::Until { left, right, .. } | Node::Since { left, right, .. } => (
-            Some(*left), Some(*right),
+            Some(*left),
+            Some(*right),
         ),
     }
 }

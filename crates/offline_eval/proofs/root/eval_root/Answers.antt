@@ -25,7 +25,7 @@ pub next_signal-requires-clause-sound : goal.next_signal-requires-clause-sound
 next_signal-requires-clause-sound g c =
     subst (AreSound g.P.Shape c.args.from c.args.to 4294967295) (sym c.deref.ensures.value)
     (all_more g.P.Shape c.args.from c.args.to (reach_before c.args.formula.now.nodes c.loop-i.i) 4294967295 c.loop-i.done.items
-        (reach_within c.args.formula.now.nodes c.loop-i.i c.len-count.ensures.well_formed.nodes.reach) c.loop-i.invariant.sound)
+    (reach_within c.args.formula.now.nodes c.loop-i.i c.len-count.ensures.well_formed.nodes.reach) c.loop-i.invariant.sound)
 
 pub loop-i-init : goal.loop-i-init
 loop-i-init g c =
@@ -48,7 +48,7 @@ keep-requires-clause-children g c =
     let n = c.node.result.now in
     let order = c.len-count.ensures.well_formed.nodes.post_order in
     All-weaker (λ p. p < length (take i nodes)) (λ p. p < length c.loop-i.done.items)
-        (λ p l. omega (arith, length-take i nodes, c.loop-i.invariant.count, l)) (children n)
+    (λ p l. omega (arith, length-take i nodes, c.loop-i.invariant.count, l)) (children n)
     (children_below (take i nodes) n (order.follows i n c.node.ensures.node))
 
 pub loop-i-preserved : goal.loop-i-preserved
@@ -86,8 +86,8 @@ returns-in-Err-clause-wide g c s over atoms =
     let before_told = subst (TellAt g.P.Shape s (kept nodes c.loop-i.i)) (sym c.deref.ensures.value) (c.loop-i.invariant.told s over atoms) in
     subst (IsFault g.P.Shape nodes s) (sym c.at_node.ensures)
     (fault_is g.P.Shape nodes s c.loop-i.i c.in-Err.fault inside
-        (c.in-Err.ensures.wide s (kept nodes c.loop-i.i) over
-        (kept_agrees nodes c.loop-i.i c.len-count.ensures.well_formed.nodes.post_order) before_told))
+    (c.in-Err.ensures.wide s (kept nodes c.loop-i.i) over
+    (kept_agrees nodes c.loop-i.i c.len-count.ensures.well_formed.nodes.post_order) before_told))
 
 pub unreachable-requires : goal.unreachable-requires
 unreachable-requires g c =

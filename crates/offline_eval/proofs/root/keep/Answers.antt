@@ -12,7 +12,7 @@ returns g c =
     let right = option_to_list c.operands-left.result.1 in
     let new = c.give_up-2.new.done.items in
     let pushed : c.push.new.self.items ≡ c.args.done.now.items ++ c.args.signal ∷ [] = search
-        (rules, c.push.ensures.items, c.if-is_err.false, c.is_err.ensures) in
+    (rules, c.push.ensures.items, c.if-is_err.false, c.is_err.ensures) in
     on_ok_weaker c.give_up-2.result
     (λ h. subst (λ (ps : List ℕ). AreGivenUp shape c.args.from c.args.to ps (c.args.done.now.items ++ c.args.signal ∷ []) new) c.operands-left.ensures
     (subst (λ xs. AreGivenUp shape c.args.from c.args.to (left ++ right) xs new) pushed
