@@ -109,7 +109,7 @@ fn advance<P: Piecewise>(
     let atom = bound.atom(node);
     let first = row_at(trace, r - 1);
     let second = row_at(trace, r);
-    let gap = gap_on(
+    let (gap, next) = gap_on(
         atom,
         trace.time(r - 1),
         from,
@@ -117,7 +117,6 @@ fn advance<P: Piecewise>(
         trace.time(r),
         &second,
     );
-    let next = reach_of(atom, &second, &second);
     P::go_on(signal, atom.rel, &gap, next)?;
     Ok(next)
 }

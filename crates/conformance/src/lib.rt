@@ -12,6 +12,8 @@ mod evals;
 #[cfg(test)]
 mod explain_tests;
 #[cfg(test)]
+mod margin_tests;
+#[cfg(test)]
 mod operator_tests;
 #[cfg(test)]
 mod run_tests;

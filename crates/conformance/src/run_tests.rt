@@ -69,7 +69,7 @@ pub(crate) fn agrees(alloc: Global, case: Case<'_>, devices: Devices) -> Result<
 }
 
 /// Whether it does so for pieces of each size up to `most`, and for all bytes at once.
-fn agrees_however_cut(alloc: Global, case: Case<'_>, most: usize) -> Result<bool, Fail> {
+pub(crate) fn agrees_however_cut(alloc: Global, case: Case<'_>, most: usize) -> Result<bool, Fail> {
     for size in 1..=most {
         if !agrees(alloc, case, pieces(size))? {
             return Ok(false);
@@ -685,14 +685,15 @@ fn refused<'a>(words: &'a [&'a str], err: &'a str, status: u8) -> Case<'a> {
     }
 }
 
-const USAGE: &str = "usage: check F\n";
+const USAGE: &str = "usage: check F | robust F\n";
 
 /// Words that are no form.
-const NO_FORMS: [&[&str]; 5] = [
+const NO_FORMS: [&[&str]; 6] = [
     &[],
     &["check"],
     &["gen", "1", "0"],
-    &["robust", "x >= 5"],
+    &["watch", "x >= 5"],
+    &["robust"],
     &["check", "x >= 5", "y"],
 ];
 

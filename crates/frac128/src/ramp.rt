@@ -55,6 +55,7 @@ impl Ramp {
         requires { IsWithin (2 ^ 34) (value t.now) }
         ensures value { fraction result.num result.den ≈ at (line self.now) (value t.now) }
         ensures den { result.den ≡ pos (run_time self.now * denominator t.now) }
+        ensures small { unsigned_abs result.den < 2 ^ 92 }
     {
         let gap = i128::from(t.whole()) - i128::from(self.t0);
         value_ahead(

@@ -221,17 +221,22 @@ module _ (nodes : List Node) (tr : Trace) (i : ℕ) where
           later : (n : Knot Truth) → slice_get x (0 + 1) ≡ Some n → value t <ʳ time n
           later n h = lt_of_le_of_lt (le_of_same begin) (next_rises truth_shape x 0 k n tells.signal.each at h)
 
+      -- two cut times that follow each other
+      pub record ArePair (k : ℕ) (t u : Frac) : Type 0 where
+        pub more : k < length times
+        pub first_is : get_or times (k - 1) t ≡ t
+        pub second_is : get_or times k u ≡ u
+
       -- the step from one cut time to the next
       pub step_of : (k place : ℕ) (mid : List Item) (t u : Frac) → IsPostOrder nodes → i < length nodes → start tr ≤ʳ stop tr
-          → AreCuts nodes tr i (times_of times) → IsListed x times old k place mid
-          → k < length times → get_or times (k - 1) t ≡ t → get_or times k u ≡ u → IsStep place (value t) (value u)
-      step_of k place mid t u post l o cuts listed more is_t is_u = record {
+          → AreCuts nodes tr i (times_of times) → IsListed x times old k place mid → ArePair k t u → IsStep place (value t) (value u)
+      step_of k place mid t u post l o cuts listed pair = record {
         below = below;
         rises = rises;
-        place_of = listed.place_of t is_t;
+        place_of = listed.place_of t pair.first_is;
         next = λ v c lt. adjacent front (value t) (value u) rest v (subst AreRisingTimes parts cuts.rising)
             (subst (λ ts. IsAmong ts v) parts (cuts.complete v c)) lt;
-        within = (cut_within nodes tr i (value u) o (cut_of u k is_u more)).below;
+        within = (cut_within nodes tr i (value u) o (cut_of u k pair.second_is pair.more)).below;
       }
         where
           some : 0 < k
@@ -244,7 +249,7 @@ module _ (nodes : List Node) (tr : Trace) (i : ℕ) where
           rest = times_of (drop (k + 1) times)
 
           parts : times_of times ≡ front ++ value t ∷ value u ∷ rest
-          parts = split_two times k t u some more is_t is_u
+          parts = split_two times k t u some pair.more pair.first_is pair.second_is
 
           rises : value t <ʳ value u
           rises = rises_in front (value t) (value u) rest (subst AreRisingTimes parts cuts.rising)
@@ -262,43 +267,63 @@ module _ (nodes : List Node) (tr : Trace) (i : ℕ) where
               by_place : (suc i ≡ length nodes) ⊎ (suc i < length nodes) → suc i < length nodes
               by_place (inr h) = h
               by_place (inl e) =
-                  let a = root_cut_start nodes tr i (value t) post e (cut_of t (k - 1) is_t (omega (arith, more))) in
-                  let b = root_cut_start nodes tr i (value u) post e (cut_of u k is_u more) in
+                  let a = root_cut_start nodes tr i (value t) post e (cut_of t (k - 1) pair.first_is (let more = pair.more in omega (arith, more))) in
+                  let b = root_cut_start nodes tr i (value u) post e (cut_of u k pair.second_is pair.more) in
                   absurd (lt_irrefl (lt_of_lt_of_le rises (le_of_same (same_trans b (same_sym a)))))
 
-      -- the gap behind a cut time, and the next cut time
-      pub listed_on : (k place next : ℕ) (mid new : List Item) (t u : Frac) (n : Knot Truth) (q : Truth) (e f : Item) → k < length times
-          → get_or times (k - 1) t ≡ t → get_or times k u ≡ u
-          → IsStep place (value t) (value u) → IsListed x times old k place mid → slice_get x place ≡ Some n → next < length x → IsPlaceOf x next (value u)
-          → IsItem (gap (value t) (value u)) n.after.holds e → IsWorth truth_shape x (value u) (value_at (truth_shape.function q) (value u)) →
-          IsItem (closed (value u) (value u)) q.holds f
-          → new ≡ (mid ++ e ∷ []) ++ f ∷ [] → IsListed x times old (k + 1) next new
-      listed_on k place next mid new t u n q e f more is_t is_u step listed at inside place_of is_e worth is_f grew = record {
+      -- the items that are put: the gap with the truth after the knot, and the next cut time with its own
+      pub record ArePut (place next : ℕ) (mid new : List Item) (t u : Frac) : Type 0 where
+        pub knot : Knot Truth
+        pub shape : Truth
+        pub between : Item
+        pub point : Item
+        pub at : slice_get x place ≡ Some knot
+        pub inside : next < length x
+        pub place_of : IsPlaceOf x next (value u)
+        pub gap_is : IsItem (gap (value t) (value u)) knot.after.holds between
+        pub worth : IsWorth truth_shape x (value u) (value_at (truth_shape.function shape) (value u))
+        pub point_is : IsItem (closed (value u) (value u)) shape.holds point
+        pub grew : new ≡ (mid ++ between ∷ []) ++ point ∷ []
+
+      -- with them one more cut time is listed
+      pub listed_on : (k place next : ℕ) (mid new : List Item) (t u : Frac) → ArePair k t u → IsStep place (value t) (value u)
+          → IsListed x times old k place mid → ArePut place next mid new t u → IsListed x times old (k + 1) next new
+      listed_on k place next mid new t u pair step listed put = record {
         some = omega arith;
         here = listed.here ++ e ∷ f ∷ [];
-        all = grew ∙ append_assoc mid (e ∷ []) (f ∷ []) ∙ ap (λ xs. xs ++ e ∷ f ∷ []) listed.all ∙ append_assoc old listed.here (e ∷ f ∷ []);
+        all = put.grew ∙ append_assoc mid (e ∷ []) (f ∷ []) ∙ ap (λ xs. xs ++ e ∷ f ∷ []) listed.all ∙ append_assoc old listed.here (e ∷ f ∷ []);
         cells_are = subst (λ c. ItemsOn nodes tr i c (listed.here ++ e ∷ f ∷ [])) (sym cells_more)
             (items_join (cells (times_of (take k times))) (gap (value t) (value u) ∷ closed (value u) (value u) ∷ []) listed.here (e ∷ f ∷ []) listed.cells_are
             (items_join (gap (value t) (value u) ∷ []) (closed (value u) (value u) ∷ []) (e ∷ []) (f ∷ [])
-            (one_item (gap (value t) (value u)) n.after.holds e is_e (λ v h. in_the_gap place (value t) (value u) step n v at h))
-            (one_item (closed (value u) (value u)) q.holds f is_f (λ v h. at_instant (value u) v q worth h))));
-        inside = inside;
-        place_of = λ w h. subst (λ v. IsPlaceOf x next (value v)) (same_at w h) place_of;
+            (one_item (gap (value t) (value u)) put.knot.after.holds e put.gap_is
+            (λ v h. in_the_gap place (value t) (value u) step put.knot v put.at h))
+            (one_item (closed (value u) (value u)) put.shape.holds f put.point_is (λ v h. at_instant (value u) v put.shape put.worth h))));
+        inside = put.inside;
+        place_of = λ w h. subst (λ v. IsPlaceOf x next (value v)) (same_at w h) put.place_of;
       }
         where
+          e : Item
+          e = put.between
+
+          f : Item
+          f = put.point
+
           some : 0 < k
           some = listed.some
 
+          more : k < length times
+          more = pair.more
+
           same_at : (w : Frac) → get_or times (k + 1 - 1) w ≡ w → u ≡ w
-          same_at w h = sym is_u ∙ get_or_default times k u w more ∙ subst (λ m. get_or times m w ≡ w) (let e : k + 1 - 1 ≡ k = omega arith in e) h
+          same_at w h = sym pair.second_is ∙ get_or_default times k u w more ∙ subst (λ m. get_or times m w ≡ w) (let e : k + 1 - 1 ≡ k = omega arith in e) h
 
           first_ones : take k times ≡ take (k - 1) times ++ t ∷ []
           first_ones =
               subst (λ m. take m times ≡ take (k - 1) times ++ t ∷ []) (let e : k - 1 + 1 ≡ k = omega (arith, some) in e)
-              (take_more times (k - 1) t (omega (arith, more)) ∙ ap (λ w. take (k - 1) times ++ w ∷ []) is_t)
+              (take_more times (k - 1) t (omega (arith, more)) ∙ ap (λ w. take (k - 1) times ++ w ∷ []) pair.first_is)
 
           all_ones : take (k + 1) times ≡ take (k - 1) times ++ t ∷ u ∷ []
-          all_ones = take_more times k u more ∙ ap (λ w. take k times ++ w ∷ []) is_u ∙ ap (λ ws. ws ++ u ∷ []) first_ones ∙ append_assoc
+          all_ones = take_more times k u more ∙ ap (λ w. take k times ++ w ∷ []) pair.second_is ∙ ap (λ ws. ws ++ u ∷ []) first_ones ∙ append_assoc
               (take (k - 1) times) (t ∷ []) (u ∷ [])
 
           cells_more : cells (times_of (take (k + 1) times)) ≡ cells (times_of (take k times)) ++ gap (value t) (value u) ∷ closed (value u) (value u) ∷ []

@@ -6,7 +6,6 @@ use Rattle.std.proofs.lemmas.Option.{slice_get_within, get_or_from_slice_get, sl
 use Rattle.std.proofs.lemmas.List.{length-drop, length-append}
 use Rattle.std.proofs.lemmas.List.Sums.{sum_by-take-le}
 use Rattle.std.proofs.Math.Seq.{take-length}
-use Rattle.rational.specs.Extended.{Affine}
 use Rattle.value_laws.specs.Members.{ShapeOf}
 use Rattle.pl_signal.specs.declared.knot.Knot.{Knot}
 use Rattle.pl_signal.specs.declared.faults.WidePair.TheVariants.{Cross, Value}
@@ -26,7 +25,8 @@ use Rattle.offline_eval.proofs.Sound.{sound_more}
 use Rattle.offline_eval.proofs.Places.{atoms_on_atom, sum_on}
 
 -- a place in a list that was pushed to
-pub pushed_at : {X : Type 0} (xs : List X) (y : X) (k : ℕ) (x : X) → slice_get (xs ++ y ∷ []) k ≡ Some x → (slice_get xs k ≡ Some x) ⊎ ((k ≡ length xs) × (x ≡ y))
+pub pushed_at : {X : Type 0} (xs : List X) (y : X) (k : ℕ) (x : X) → slice_get (xs ++ y ∷ []) k ≡ Some x → (slice_get xs k ≡ Some x)
+    ⊎ ((k ≡ length xs) × (x ≡ y))
 pushed_at [] y zero x e = inr (refl, cc)
 pushed_at [] y (suc k) x e = absurd cc
 pushed_at (z ∷ xs) y zero x e = inl e
@@ -52,13 +52,16 @@ dropped_at (suc m) (y ∷ all) k x h = subst (λ n. slice_get (y ∷ all) n ≡ 
     next m k = omega arith
 
 -- a signal is left for an atom
-pub some_left : {X : Type 0} (nodes : List Node) (all rest : List X) (i : ℕ) (a : Atom) → length all ≡ atoms_before nodes (length nodes) → rest ≡ drop (atoms_before nodes i) all → slice_get nodes i ≡ Some (Leaf a) → 0 < length rest
+pub some_left : {X : Type 0} (nodes : List Node) (all rest : List X) (i : ℕ) (a : Atom) → length all ≡ atoms_before nodes (length nodes)
+    → rest ≡ drop (atoms_before nodes i) all → slice_get nodes i ≡ Some (Leaf a) → 0 < length rest
 some_left nodes all rest i a count left at =
-    let whole_count : atoms_before nodes (length nodes) ≡ sum_by (λ n. cond (is_atom n) 1 0) nodes = ap (sum_by (λ n. cond (is_atom n) 1 0)) (take-length nodes) in
+    let whole_count : atoms_before nodes (length nodes) ≡ sum_by (λ n. cond (is_atom n) 1 0) nodes =
+    ap (sum_by (λ n. cond (is_atom n) 1 0)) (take-length nodes) in
     let within : atoms_before nodes (i + 1) ≤ sum_by (λ n. cond (is_atom n) 1 0) nodes = sum_by-take-le (λ n. cond (is_atom n) 1 0) nodes (i + 1) in
     let more = atoms_on_atom nodes i a at in
     let long : length rest ≡ length all - atoms_before nodes i = ap length left ∙ length-drop (atoms_before nodes i) all in
-    by_numbers (length rest) (length all) (atoms_before nodes i) (atoms_before nodes (i + 1)) (sum_by (λ n. cond (is_atom n) 1 0) nodes) (count ∙ whole_count) within more long
+    by_numbers (length rest) (length all) (atoms_before nodes i) (atoms_before nodes (i + 1)) (sum_by (λ n. cond (is_atom n) 1 0) nodes)
+    (count ∙ whole_count) within more long
   where
     by_numbers : (r n k m t : ℕ) → n ≡ t → m ≤ t → m ≡ k + 1 → r ≡ n - k → 0 < r
     by_numbers r n k m t e h f g = omega (arith, e, h, f, g)
@@ -86,7 +89,8 @@ module _ {P : Type 0} (shape : ShapeOf P) (from to : ℕ) where
   all_more less more xs h all k x at = sound_more shape from to less more x h (all k x at)
 
   -- and so with one signal more
-  pub all_pushed : (nodes : List Node) (i : ℕ) (xs ys : List (List (Knot P))) (y : List (Knot P)) → i < length nodes → ys ≡ xs ++ y ∷ [] → AreSound shape from to (reach_before nodes i) xs
+  pub all_pushed : (nodes : List Node) (i : ℕ) (xs ys : List (List (Knot P))) (y : List (Knot P)) → i < length nodes → ys ≡ xs ++ y ∷ []
+      → AreSound shape from to (reach_before nodes i) xs
       → IsSound shape from to (reach_before nodes (i + 1)) y → AreSound shape from to (reach_before nodes (i + 1)) ys
   all_pushed nodes i xs ys y inside e all new k x there = by_place (pushed_at xs y k x (subst (λ l. slice_get l k ≡ Some x) e there))
     where
@@ -99,20 +103,24 @@ module _ {P : Type 0} (shape : ShapeOf P) (from to : ℕ) where
 
 module _ {P : Type 0} (shape : ShapeOf P) where
   -- the node's signal tells it among all
-  pub told_pushed : (nodes : List Node) (s : Setting) (i : ℕ) (xs ys : List (List (Knot P))) (y : List (Knot P)) → length xs ≡ i → ys ≡ xs ++ y ∷ [] → TellAt shape s (subformula nodes) xs → TellsValue shape s (subformula nodes i) y
+  pub told_pushed : (nodes : List Node) (s : Setting) (i : ℕ) (xs ys : List (List (Knot P))) (y : List (Knot P)) → length xs ≡ i → ys ≡ xs ++ y ∷ []
+      → TellAt shape s (subformula nodes) xs → TellsValue shape s (subformula nodes i) y
       → TellAt shape s (subformula nodes) ys
   told_pushed nodes s i xs ys y count e all new k x there = by_place (pushed_at xs y k x (subst (λ l. slice_get l k ≡ Some x) e there))
     where
       by_place : (slice_get xs k ≡ Some x) ⊎ ((k ≡ length xs) × (x ≡ y)) → TellsValue shape s (subformula nodes k) x
       by_place (inl h) = all k x h
-      by_place (inr h) = subst (TellsValue shape s (subformula nodes k)) (sym h.1) (subst (λ j. TellsValue shape s (subformula nodes j) y) (sym (h.0 ∙ count)) new)
+      by_place (inr h) = subst (TellsValue shape s (subformula nodes k)) (sym h.1)
+          (subst (λ j. TellsValue shape s (subformula nodes j) y) (sym (h.0 ∙ count)) new)
 
   -- all are told in the end
-  pub all_told : (nodes : List Node) (s : Setting) (xs : List (List (Knot P))) → length xs ≡ length nodes → TellAt shape s (subformula nodes) xs → TellNodes shape nodes xs s
+  pub all_told : (nodes : List Node) (s : Setting) (xs : List (List (Knot P))) → length xs ≡ length nodes → TellAt shape s (subformula nodes) xs
+      → TellNodes shape nodes xs s
   all_told nodes s xs count all i inside = let at = slice_get-get_or xs i [] (omega (arith, count, inside)) in (get_or xs i [], at, all i (get_or xs i []) at)
 
   -- a fault of the node is one of the formula
-  pub fault_is : (nodes : List Node) (s : Setting) (i : ℕ) (e : OpFault P) → i < length nodes → IsFaultOf shape s (subformula nodes i) e → IsFault shape nodes s (fault_at i e)
+  pub fault_is : (nodes : List Node) (s : Setting) (i : ℕ) (e : OpFault P) → i < length nodes → IsFaultOf shape s (subformula nodes i) e
+      → IsFault shape nodes s (fault_at i e)
   fault_is nodes s i F.Memory inside h = tt
   fault_is nodes s i (F.Wide (Cross p q a b den)) inside h = (inside, h)
   fault_is nodes s i (F.Wide (Value p at den)) inside h = (inside, h)

@@ -11,3 +11,4 @@ pub mod Stretches
 pub mod InPlay
 pub mod WindowLemmas
 pub mod UntilLemmas
+pub mod PlainAtoms

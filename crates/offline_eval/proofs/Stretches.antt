@@ -99,7 +99,8 @@ module _ (from to : Rational) (F G : Function) (on : AreAlike from to F G) where
         a = a.0;
         above = a.1.below u k h.above;
         line = h.line;
-        on = λ t m n. let f = h.on t (lt_of_le_of_lt a.1.right m) n in (f.0, on.forth t f.0 (record { above = le_trans a.1.left (le_of_lt m); below = le_trans (le_of_lt n) l }) f.1, f.2);
+        on = λ t m n. let f = h.on t (lt_of_le_of_lt a.1.right m) n in
+            (f.0, on.forth t f.0 (record { above = le_trans a.1.left (le_of_lt m); below = le_trans (le_of_lt n) l }) f.1, f.2);
         value = h.value;
       }
 
@@ -111,6 +112,7 @@ module _ (from to : Rational) (F G : Function) (on : AreAlike from to F G) where
         b = b.0;
         below = b.1.above u l h.below;
         line = h.line;
-        on = λ t m n. let f = h.on t m (lt_of_lt_of_le n b.1.right) in (f.0, on.forth t f.0 (record { above = le_trans k (le_of_lt m); below = le_trans (le_of_lt n) b.1.left }) f.1, f.2);
+        on = λ t m n. let f = h.on t m (lt_of_lt_of_le n b.1.right) in
+            (f.0, on.forth t f.0 (record { above = le_trans k (le_of_lt m); below = le_trans (le_of_lt n) b.1.left }) f.1, f.2);
         value = h.value;
       }

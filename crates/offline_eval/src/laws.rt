@@ -1,5 +1,5 @@
 //! Laws of evaluation. Each is the contract of a call that does nothing, so that the gate proves it.
-ghost use Rattle.std.specs.Prelude.{◌≡◌, ◌+◌, ◌<◌, ◌∷◌, ◌++◌, [], ℕ, false, List, length, Some, slice_get};
+ghost use Rattle.std.specs.Prelude.{◌≡◌, ◌+◌, ◌<◌, All, ◌∷◌, ◌++◌, [], ℕ, false, List, length, Some, slice_get};
 ghost use Rattle.pl_signal.specs.declared.knot.Knot.{Knot};
 ghost use Rattle.pl_signal.specs.declared.faults.WidePair.{WidePair};
 ghost use Rattle.pl_signal.specs.Moves.{Tells};
@@ -11,8 +11,11 @@ ghost use Rattle.stl_syntax.specs.declared.node.Node.{Node};
 ghost use Rattle.stl_syntax.specs.declared.node.Node.TheVariants.{Atom as Leaf};
 ghost use Rattle.value_laws.specs.declared.truth.Truth.{Truth};
 ghost use Rattle.value_laws.specs.declared.kleene.Kleene.{Kleene};
-ghost use Rattle.offline_eval.specs.Inputs.{atoms_before, is_atom, TellAtomsBelow};
-ghost use Rattle.offline_eval.specs.Evaluation.{IsCauseAt, TellNodes};
+ghost use Rattle.offline_eval.specs.Inputs.{atoms_before, is_atom, IsInput, IsOver, TellAtoms, TellAtomsBelow};
+ghost use Rattle.offline_eval.specs.PlainAtoms.{knots_setting};
+ghost use Rattle.offline_eval.specs.declared.faults.EvalFault.{EvalFault};
+ghost use Rattle.pl_signal.specs.Knots.{IsSignal};
+ghost use Rattle.offline_eval.specs.Evaluation.{IsCauseAt, IsFault, TellNodes};
 
 use value_laws::Shape;
 
@@ -36,6 +39,34 @@ pub fn told_have_values<P: Shape>()
     ensures { (nodes : List Node) (signals : List (List (Knot P))) (s : Setting) → IsPostOrder nodes → s.highest ≡ P.highest
         → TellNodes P.Shape nodes signals s → (i : ℕ) → i < length nodes
         → HasValues (subformula nodes i) s × HasInfs (subformula nodes i) s }
+{}
+
+/// The signals of a formula's atoms tell the atoms in a setting of their own, in which each atom is read by the plain list of knots of its
+/// signal. So an evaluation always speaks of a setting, also for signals that come from no trace.
+pub fn atoms_are_told<P: Shape>()
+    ensures { (nodes : List Node) (from to : ℕ) (atoms : List (List (Knot P))) → length atoms ≡ atoms_before nodes (length nodes)
+        → All (IsSignal P.Shape) atoms → All (IsInput P.Shape from to) atoms
+        → TellAtoms P.Shape nodes atoms (knots_setting P.Shape nodes from to atoms) }
+{}
+
+/// An evaluation of truth is never refused but for want of memory, whatever the signals: what `eval` says of its refusals leaves only that.
+pub fn truth_is_never_refused()
+    ensures { (nodes : List Node) (from to : ℕ) (atoms : List (List (Knot Truth))) (e : EvalFault Truth)
+        → length atoms ≡ atoms_before nodes (length nodes)
+        → All (IsSignal ⟦<value_laws::Truth as Shape>⟧) atoms → All (IsInput ⟦<value_laws::Truth as Shape>⟧ from to) atoms
+        → ((s : Setting) → IsOver ⟦<value_laws::Truth as Shape>⟧.lowest ⟦<value_laws::Truth as Shape>⟧.highest from to s
+        → TellAtoms ⟦<value_laws::Truth as Shape>⟧ nodes atoms s → IsFault ⟦<value_laws::Truth as Shape>⟧ nodes s e)
+        → e ≡ EvalFault.Memory }
+{}
+
+/// Nor is one of three-valued truth.
+pub fn kleene_is_never_refused()
+    ensures { (nodes : List Node) (from to : ℕ) (atoms : List (List (Knot Kleene))) (e : EvalFault Kleene)
+        → length atoms ≡ atoms_before nodes (length nodes)
+        → All (IsSignal ⟦<value_laws::Kleene as Shape>⟧) atoms → All (IsInput ⟦<value_laws::Kleene as Shape>⟧ from to) atoms
+        → ((s : Setting) → IsOver ⟦<value_laws::Kleene as Shape>⟧.lowest ⟦<value_laws::Kleene as Shape>⟧.highest from to s
+        → TellAtoms ⟦<value_laws::Kleene as Shape>⟧ nodes atoms s → IsFault ⟦<value_laws::Kleene as Shape>⟧ nodes s e)
+        → e ≡ EvalFault.Memory }
 {}
 
 /// Truth has no cause for a refusal.

@@ -1,5 +1,31 @@
 -- A connective over its two inputs, verdict by verdict.
-use Rattle.std.proofs.Common.{◌≡◌, ◌≢◌, ◌⊎◌, inl, inr, ℕ, ◌+◌, ◌<◌, ◌≤◌, List, [], ◌∷◌, ◌++◌, drop, length, Some, slice_get, refl, sym, ap, subst, ◌∙◌, arith, append_assoc, length-append}
+use Rattle.std.proofs.Common.{
+  ◌≡◌,
+  ◌≢◌,
+  ◌⊎◌,
+  inl,
+  inr,
+  ℕ,
+  ◌+◌,
+  ◌<◌,
+  ◌≤◌,
+  List,
+  [],
+  ◌∷◌,
+  ◌++◌,
+  drop,
+  length,
+  Some,
+  slice_get,
+  refl,
+  sym,
+  ap,
+  subst,
+  ◌∙◌,
+  arith,
+  append_assoc,
+  length-append,
+}
 use Rattle.std.proofs.lemmas.List.{append-nil}
 use Rattle.rational.specs.Rational.{Rational}
 use Rattle.frac128.specs.Spans.{interval}
@@ -11,7 +37,7 @@ use Rattle.online_nodes.specs.Cuts.{Place, place, ends, After, Upto, AtMost, Bef
 use Rattle.online_nodes.specs.Held.{Held, fresh_at}
 use Rattle.online_nodes.specs.Reading.{AllAre}
 use Rattle.online_nodes.specs.Written.{HasAnswer, HasTold, IsSound, Reaches}
-use Rattle.online_nodes.specs.Working.{HasWorked}
+use Rattle.online_nodes.specs.Working.{HasPassed, HasWorked}
 use Rattle.online_nodes.specs.Joins.{joined, IsJoinOf, IsReadTo, IsJoining, HasPaused, HasReadBoth, HasFilled, HasJoined}
 use Rattle.online_nodes.specs.declared.cut.Cut.{Cut}
 use Rattle.online_nodes.specs.declared.join.Join.{Join}
@@ -20,15 +46,7 @@ use Rattle.online_nodes.specs.declared.writer.Out.{Out}
 use Rattle.online_nodes.proofs.PlaceLemmas.{sides, not_both, between, same_places, upto_same}
 use Rattle.online_nodes.proofs.GotLemmas.{got-other}
 use Rattle.online_nodes.proofs.SaidLemmas.{passed-fresh, passed-one}
-use Rattle.online_nodes.proofs.WorkLemmas.{
-  HasPassed,
-  passed-other,
-  first_and_rest,
-  worked_none,
-  worked_pass,
-  worked_put,
-  worked_both,
-}
+use Rattle.online_nodes.proofs.WorkLemmas.{passed-other, first_and_rest, worked_none, worked_pass, worked_put, worked_both}
 
 -- no place comes before itself
 pub not_before_itself : (c : Place) → Before c c → ⊥

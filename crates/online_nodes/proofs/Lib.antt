@@ -19,3 +19,7 @@ mod SweepLemmas
 mod JoinLemmas
 mod NegationLemmas
 mod LooksLaw
+mod UntilTurns
+mod UntilPasses
+mod UntilCounts
+mod UntilGoes

@@ -1,5 +1,29 @@
 -- A negation over its input, verdict by verdict.
-use Rattle.std.proofs.Common.{◌≡◌, ◌≢◌, ℕ, ◌+◌, ◌<◌, ◌≤◌, not, List, [], ◌∷◌, ◌++◌, drop, length, Some, slice_get, refl, sym, ap, subst, ◌∙◌, arith, append_assoc, length-append}
+use Rattle.std.proofs.Common.{
+  ◌≡◌,
+  ◌≢◌,
+  ℕ,
+  ◌+◌,
+  ◌<◌,
+  ◌≤◌,
+  not,
+  List,
+  [],
+  ◌∷◌,
+  ◌++◌,
+  drop,
+  length,
+  Some,
+  slice_get,
+  refl,
+  sym,
+  ap,
+  subst,
+  ◌∙◌,
+  arith,
+  append_assoc,
+  length-append,
+}
 use Rattle.std.proofs.lemmas.List.{append-nil}
 use Rattle.rational.specs.Rational.{Rational}
 use Rattle.frac128.specs.Spans.{interval}
@@ -9,7 +33,7 @@ use Rattle.stl_syntax.specs.declared.items.Verdict.{Verdict}
 use Rattle.online_nodes.specs.Cuts.{Place, place, ends, After, Upto, AtMost}
 use Rattle.online_nodes.specs.Held.{Held, fresh_at}
 use Rattle.online_nodes.specs.Written.{HasAnswer, HasTold, IsSound}
-use Rattle.online_nodes.specs.Working.{HasWorked}
+use Rattle.online_nodes.specs.Working.{HasPassed, HasWorked}
 use Rattle.online_nodes.specs.Joins.{IsReadTo}
 use Rattle.online_nodes.specs.Negations.{IsNotOf, IsNegating, HasWaited, HasReadNext, HasDenied, HasNegated}
 use Rattle.online_nodes.specs.declared.cut.Cut.{Cut}
@@ -17,7 +41,7 @@ use Rattle.online_nodes.specs.declared.writer.Out.{Out}
 use Rattle.online_nodes.proofs.GotLemmas.{got-other}
 use Rattle.online_nodes.proofs.JoinLemmas.{read_stays, read_on, as_next}
 use Rattle.online_nodes.proofs.SaidLemmas.{passed-fresh, passed-one, worked_read}
-use Rattle.online_nodes.proofs.WorkLemmas.{HasPassed, first_and_rest, worked_none, worked_both}
+use Rattle.online_nodes.proofs.WorkLemmas.{first_and_rest, worked_none, worked_both}
 
 -- what was said up to the end of the input's next verdict, or up to the end of the stretch
 pub record IsSaidOf (old mid : Held) (of : ℕ) (out next : Out) (v : Verdict) : Type 0 where

@@ -1,5 +1,26 @@
 -- Two things said of a node, one after the other.
-use Rattle.std.proofs.Common.{◌≡◌, ◌≢◌, ℕ, ◌<◌, ◌≤◌, Bool, List, ◌++◌, suc, drop, inl, length, refl, sym, ap, subst, ◌∙◌, arith, append_assoc, length-append}
+use Rattle.std.proofs.Common.{
+  ◌≡◌,
+  ◌≢◌,
+  ℕ,
+  ◌<◌,
+  ◌≤◌,
+  Bool,
+  List,
+  ◌++◌,
+  suc,
+  drop,
+  inl,
+  length,
+  refl,
+  sym,
+  ap,
+  subst,
+  ◌∙◌,
+  arith,
+  append_assoc,
+  length-append,
+}
 use Rattle.std.specs.Prelude.{Result, Ok, Err, OnErr}
 use Rattle.std.proofs.lemmas.List.{append-nil}
 use Rattle.stl_syntax.specs.Trace.{Trace}
@@ -10,11 +31,11 @@ use Rattle.online_nodes.specs.Cuts.{Place, place}
 use Rattle.online_nodes.specs.Held.{Held, fresh_at}
 use Rattle.online_nodes.specs.Reading.{AllAre}
 use Rattle.online_nodes.specs.Written.{HasAnswer, HasGot, HasTold, IsSound}
-use Rattle.online_nodes.specs.Working.{HasWorked}
+use Rattle.online_nodes.specs.Working.{HasPassed, HasWorked}
 use Rattle.online_nodes.specs.declared.cut.Cut.{Cut}
 use Rattle.online_nodes.specs.declared.writer.Out.{Out}
 use Rattle.online_nodes.proofs.GotLemmas.{got_both}
-use Rattle.online_nodes.proofs.WorkLemmas.{HasPassed, passed-here, first_and_rest, worked_put, worked_pass, worked_both}
+use Rattle.online_nodes.proofs.WorkLemmas.{passed-here, first_and_rest, worked_put, worked_pass, worked_both}
 
 -- two answers, the one up to the cut `middle` and the other from there on, put at most two verdicts
 pub record HasAnswers (old new : Held) (before : Out) (first : Bool) (middle : Cut) (second : Bool) (after : Out) : Type 0 where

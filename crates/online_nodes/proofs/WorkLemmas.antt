@@ -1,11 +1,37 @@
 -- Steps of a node's work, one after the other.
-use Rattle.std.proofs.Common.{◌≡◌, ◌≢◌, ◌⊎◌, inl, inr, ℕ, ◌+◌, ◌<◌, ◌≤◌, List, [], ◌∷◌, ◌++◌, drop, length, get_or, Some, slice_get, refl, sym, ap, ◌∙◌, arith, append_assoc, length-append}
+use Rattle.std.proofs.Common.{
+  ◌≡◌,
+  ◌≢◌,
+  ◌⊎◌,
+  inl,
+  inr,
+  ℕ,
+  ◌+◌,
+  ◌<◌,
+  ◌≤◌,
+  List,
+  [],
+  ◌∷◌,
+  ◌++◌,
+  drop,
+  length,
+  get_or,
+  Some,
+  slice_get,
+  refl,
+  sym,
+  ap,
+  ◌∙◌,
+  arith,
+  append_assoc,
+  length-append,
+}
 use Rattle.std.proofs.lemmas.Bool.{cases_eq}
 use Rattle.std.proofs.lemmas.List.{get_or-set_same, get_or-set_other, length-set}
 use Rattle.stl_syntax.specs.declared.items.Verdict.{Verdict}
 use Rattle.online_nodes.specs.Held.{Held, Edge, no_edge, edge_at, held_of, with_edge, with_more, with_read}
 use Rattle.online_nodes.specs.Written.{HasGot}
-use Rattle.online_nodes.specs.Working.{IsReadOn, HasWorked}
+use Rattle.online_nodes.specs.Working.{HasPassed, IsReadOn, HasWorked}
 use Rattle.online_nodes.proofs.DroppingLemmas.{drop-drop}
 use Rattle.online_nodes.proofs.GotLemmas.{got-length, got-here, got-other, with_more-none, with_more-both}
 
@@ -51,14 +77,6 @@ worked_put {old} {new} {own} {left} {right} {more} within apart_left apart_right
       start = got.start;
       spare = got.spare;
     }
-
--- a verdict of edge i was read
-pub record HasPassed (old new : Held) (i : ℕ) (v : Verdict) : Type 0 where
-  pub within : i < length old.edges
-  pub first : slice_get (edge_at old i).fresh 0 ≡ Some v
-  pub edges : new.edges ≡ with_edge old i (with_read (edge_at old i) v)
-  pub start : new.start ≡ old.start
-  pub spare : old.spare ≤ new.spare
 
 module _ {old new : Held} {i : ℕ} {v : Verdict} (passed : HasPassed old new i v) where
   pub passed-here : edge_at new i ≡ with_read (edge_at old i) v

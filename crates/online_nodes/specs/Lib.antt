@@ -8,3 +8,4 @@ pub mod Sweeps
 pub mod Joins
 pub mod Negations
 pub mod Looking
+pub mod Untils

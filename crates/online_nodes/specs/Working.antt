@@ -1,7 +1,7 @@
 -- What a node's step does to the edges: it reads on in its inputs' edges and puts verdicts onto its own.
-use Rattle.std.specs.Prelude.{◌≡◌, ◌≢◌, ℕ, ◌+◌, ◌≤◌, List, drop, length}
+use Rattle.std.specs.Prelude.{Some, slice_get, ◌<◌, ◌≡◌, ◌≢◌, ℕ, ◌+◌, ◌≤◌, List, drop, length}
 use Rattle.stl_syntax.specs.declared.items.Verdict.{Verdict}
-use Rattle.online_nodes.specs.Held.{Held, Edge, edge_at, held_of, with_more}
+use Rattle.online_nodes.specs.Held.{Edge, Held, edge_at, held_of, with_edge, with_more, with_read}
 
 -- some verdicts that were not read are read now; the edge holds what it held
 pub record IsReadOn (old new : Edge) : Type 0 where
@@ -20,3 +20,11 @@ pub record HasWorked (old new : Held) (own left right : ℕ) (more : List Verdic
   pub others : (j : ℕ) → j ≢ own → j ≢ left → j ≢ right → edge_at new j ≡ edge_at old j
   pub start : new.start ≡ old.start
   pub spare : old.spare ≤ new.spare + length more
+
+-- a verdict of edge i was read
+pub record HasPassed (old new : Held) (i : ℕ) (v : Verdict) : Type 0 where
+  pub within : i < length old.edges
+  pub first : slice_get (edge_at old i).fresh 0 ≡ Some v
+  pub edges : new.edges ≡ with_edge old i (with_read (edge_at old i) v)
+  pub start : new.start ≡ old.start
+  pub spare : old.spare ≤ new.spare

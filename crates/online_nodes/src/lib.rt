@@ -1,6 +1,6 @@
 //! Streaming operators: places between times, the edges of a network, the writer of a node's verdicts, the bodies of constants,
-//! connectives and bounded windows, and the laws on which operators rest. In work: windows with no bound, until and since, and
-//! the operators themselves come on top.
+//! connectives, bounded windows and until, and the laws on which operators rest. In work: windows with no bound, since, and the
+//! operators themselves come on top.
 #![tactic(auto)]
 
 mod cut;
@@ -8,6 +8,7 @@ mod edges;
 mod join;
 mod laws;
 mod negation;
+mod until;
 mod window;
 mod writer;
 

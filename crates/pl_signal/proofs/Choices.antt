@@ -56,7 +56,8 @@ taken_second Greatest Equal x y h n = h.at_least
 taken_second b Greater x y h n = taken_of_greater b x y h
 
 -- what is taken at both ends is taken between
-pub taken_between : (b : Side) (f g : Affine) (l t r : Rational) → l <ʳ t → t <ʳ r → IsTaken b (value_at f l) (value_at g l) → IsTaken b (value_at f r) (value_at g r) → IsTaken b (value_at f t) (value_at g t)
+pub taken_between : (b : Side) (f g : Affine) (l t r : Rational) → l <ʳ t → t <ʳ r → IsTaken b (value_at f l) (value_at g l)
+    → IsTaken b (value_at f r) (value_at g r) → IsTaken b (value_at f t) (value_at g t)
 taken_between Least f g l t r h k a b = between f g l t r h k a b
 taken_between Greatest f g l t r h k a b = between g f l t r h k a b
 
@@ -84,14 +85,27 @@ none_says Y (Some a) e h = absurd (cc)
 
 -- the chosen value by another pair
 pub chosen_same : (b : Side) (x y v w : Extended) → v ≈ᵉ w → IsChosen b x y v → IsChosen b x y w
-chosen_same Least x y v w e h = record { left = le_transᵉ w v x e.at_least h.left; right = le_transᵉ w v y e.at_least h.right; one_of = elim h.one_of [ inl l ↦ inl (le_transᵉ x v w l e.at_most) | inr l ↦ inr (le_transᵉ y v w l e.at_most) ] }
-chosen_same Greatest x y v w e h = record { left = le_transᵉ x v w h.left e.at_most; right = le_transᵉ y v w h.right e.at_most; one_of = elim h.one_of [ inl l ↦ inl (le_transᵉ w v x e.at_least l) | inr l ↦ inr (le_transᵉ w v y e.at_least l) ] }
+chosen_same Least x y v w e h =
+    record {
+      left = le_transᵉ w v x e.at_least h.left;
+      right = le_transᵉ w v y e.at_least h.right;
+      one_of = elim h.one_of [ inl l ↦ inl (le_transᵉ x v w l e.at_most) | inr l ↦ inr (le_transᵉ y v w l e.at_most) ];
+    }
+chosen_same Greatest x y v w e h =
+    record {
+      left = le_transᵉ x v w h.left e.at_most;
+      right = le_transᵉ y v w h.right e.at_most;
+      one_of = elim h.one_of [ inl l ↦ inl (le_transᵉ w v x e.at_least l) | inr l ↦ inr (le_transᵉ w v y e.at_least l) ];
+    }
 
 -- one value is chosen of two
 pub chosen_once : (b : Side) (x y x' y' v w : Extended) → x ≈ᵉ x' → y ≈ᵉ y' → IsChosen b x y v → IsChosen b x' y' w → v ≤ᵉ w
-chosen_once Least x y x' y' v w e f h k = elim k.one_of [ inl l ↦ le_transᵉ v x w h.left (le_transᵉ x x' w e.at_most l) | inr l ↦ le_transᵉ v y w h.right (le_transᵉ y y' w f.at_most l) ]
-chosen_once Greatest x y x' y' v w e f h k = elim h.one_of [ inl l ↦ le_transᵉ v x w l (le_transᵉ x x' w e.at_most k.left) | inr l ↦ le_transᵉ v y w l (le_transᵉ y y' w f.at_most k.right) ]
+chosen_once Least x y x' y' v w e f h k =
+    elim k.one_of [ inl l ↦ le_transᵉ v x w h.left (le_transᵉ x x' w e.at_most l) | inr l ↦ le_transᵉ v y w h.right (le_transᵉ y y' w f.at_most l) ]
+chosen_once Greatest x y x' y' v w e f h k =
+    elim h.one_of [ inl l ↦ le_transᵉ v x w l (le_transᵉ x x' w e.at_most k.left) | inr l ↦ le_transᵉ v y w l (le_transᵉ y y' w f.at_most k.right) ]
 
 -- there is one chosen value
 pub chosen_one : (b : Side) (x y v w : Extended) → IsChosen b x y v → IsChosen b x y w → v ≈ᵉ w
-chosen_one b x y v w h k = record { at_most = chosen_once b x y x y v w (same_reflᵉ x) (same_reflᵉ y) h k; at_least = chosen_once b x y x y w v (same_reflᵉ x) (same_reflᵉ y) k h }
+chosen_one b x y v w h k =
+    record { at_most = chosen_once b x y x y v w (same_reflᵉ x) (same_reflᵉ y) h k; at_least = chosen_once b x y x y w v (same_reflᵉ x) (same_reflᵉ y) k h }

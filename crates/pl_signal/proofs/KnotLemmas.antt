@@ -23,10 +23,13 @@ pub read_at : {X : Type 0} (xs : List X) {n m : ℕ} {x : X} → n ≡ m → x �
 read_at xs {x = x} e h = h ∙ ap (λ i. get_or xs i x) e
 
 -- what stands in the last place but one after a push, and what becomes of it
-pub appended : {P : Type 0} (front : List (Knot P)) (last end l : Knot P) (after : P) (old new : List (Knot P)) (n : ℕ) → old ≡ front ++ last ∷ [] → new ≡ old ++ end ∷ []
-    → n + 1 ≡ length old → l ≡ get_or new n l → set new n (record { time = l.time; point = l.point; after = after }) ≡ front ++ record { time = last.time; point = last.point; after = after } ∷ end ∷ []
+pub appended : {P : Type 0} (front : List (Knot P)) (last end l : Knot P) (after : P) (old new : List (Knot P)) (n : ℕ) → old ≡ front ++ last ∷ []
+    → new ≡ old ++ end ∷ []
+    → n + 1 ≡ length old → l ≡ get_or new n l
+    → set new n (record { time = l.time; point = l.point; after = after }) ≡ front ++ record { time = last.time; point = last.point; after = after } ∷ end ∷ []
 appended {P} front last end l after old new n e pushed count read =
-    ap (λ k. set new n (record { time = k.time; point = k.point; after = after })) is_last ∙ ap (λ ks. set ks n (record { time = last.time; point = last.point; after = after })) new_is
+    ap (λ k. set new n (record { time = k.time; point = k.point; after = after })) is_last ∙ ap
+    (λ ks. set ks n (record { time = last.time; point = last.point; after = after })) new_is
     ∙ set_at front last (end ∷ []) (record { time = last.time; point = last.point; after = after }) n place
   where
     new_is : new ≡ front ++ last ∷ end ∷ []

@@ -44,7 +44,8 @@ module _ {P : Type 0} (shape : ShapeOf P) where
       (worth_within shape ks t (value_at (shape.function k.after) t) s w, shape_after shape ks i k h, w)
 
   -- after the last knot nothing
-  pub read_none : (ks : List (Knot P)) (i : ℕ) (k : Knot P) (t : Rational) → slice_get ks i ≡ Some k → length ks ≡ i + 1 → time k <ʳ t → ¬ (Within (start ks) (stop ks) t)
+  pub read_none : (ks : List (Knot P)) (i : ℕ) (k : Knot P) (t : Rational) → slice_get ks i ≡ Some k → length ks ≡ i + 1 → time k <ʳ t
+      → ¬ (Within (start ks) (stop ks) t)
   read_none ks i k t h l a w =
       let last = stop_at shape ks i k h (slice_get_past ks (i + 1) (omega (arith, l))) in
       not_lt_of_le (subst (λ s. t ≤ʳ s) last w.below) a

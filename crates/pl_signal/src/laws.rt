@@ -1,14 +1,16 @@
 //! The laws of signals. Each is the contract of a call that does nothing, so that the gate proves it for every kind of value.
-ghost use Rattle.std.specs.Prelude.{◌≡◌, ◌⊎◌, ◌+◌, ◌^◌, ℕ, List, Some, slice_get};
+ghost use Rattle.std.specs.Prelude.{◌≡◌, ◌⊎◌, ◌↔◌, ◌+◌, ◌^◌, ℕ, List, Some, slice_get};
 ghost use Rattle.rational.specs.Time.{Rational, Within, Interval, IsIn, ◌<ʳ◌, ◌≤ʳ◌, ◌≈◌};
 ghost use Rattle.rational.specs.Rational.{IsWithin};
 ghost use Rattle.rational.specs.Extended.{Affine, Extended, value_at, ◌≈ᵉ◌};
 ghost use Rattle.rational.specs.Affine.{AreSame, IsBounded};
 ghost use Rattle.rational.specs.InPlay.{IsBreakpoint, IsLeftLimit, IsPart, IsRightLimit};
 ghost use Rattle.rational.specs.Windows.{IsInfOver, IsSupOver};
+ghost use Rattle.rational.specs.Knots.{AreNeeded, Reads, Spans};
 ghost use Rattle.pl_signal.specs.declared.knot.Knot.{Knot};
 ghost use Rattle.pl_signal.specs.Knots.{IsSignal, IsWorth, start, stop, time};
 ghost use Rattle.pl_signal.specs.Limits.{IsLimited};
+ghost use Rattle.pl_signal.specs.Plain.{knots_of};
 
 use value_laws::Shape;
 
@@ -84,4 +86,13 @@ pub fn sup_and_inf<P: Shape>()
         → (r : Extended) × IsSupOver P.lowest (IsIn on) (IsWorth P.Shape knots) r }
     ensures inf { (knots : List (Knot P)) (on : Interval)
         → (r : Extended) × IsInfOver P.highest (IsIn on) (IsWorth P.Shape knots) r }
+{}
+
+/// A signal says the same as the plain list of its knots, with no shape in it: the list rises from where the signal begins to where
+/// it ends, read at a time it gives what the signal is worth there and nothing else, and no knot of it can be left out.
+pub fn as_plain_knots<P: Shape>()
+    ensures spans { (knots : List (Knot P)) → IsSignal P.Shape knots → Spans (start knots) (stop knots) (knots_of P.Shape knots) }
+    ensures reads { (knots : List (Knot P)) (t : Rational) (v : Extended) → IsSignal P.Shape knots
+        → Reads (knots_of P.Shape knots) t v ↔ IsWorth P.Shape knots t v }
+    ensures needed { (knots : List (Knot P)) → IsSignal P.Shape knots → AreNeeded (knots_of P.Shape knots) }
 {}

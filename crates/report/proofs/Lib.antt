@@ -9,6 +9,9 @@ pub mod Spellings
 pub mod Lines
 pub mod Advances
 mod Turns
+pub mod Growths
+pub mod MarginTexts
+pub mod MarginLaw
 pub mod Stretch
 pub mod FinerTrees
 pub mod FinerTraces

@@ -21,7 +21,7 @@ in_units : ℕ → Rational → Rational
 in_units digits t = record { up = t.up; down = t.down; den = t.den * 10 ^ digits; positive = mul-pos t.positive (one-le-pow digits 10 (omega arith)) }
 
 -- each number of ticks has a text
-number_exists : (digits : ℕ) (t : Rational) → (text : List ℕ) × IsNumberText digits t text
+pub number_exists : (digits : ℕ) (t : Rational) → (text : List ℕ) × IsNumberText digits t text
 unfolding in_units
 number_exists digits t =
     let d = has_denominator (in_units digits t) in

@@ -7,9 +7,9 @@ use Rattle.std.proofs.lemmas.Nat.Gcd.{dvd_trans}
 use Rattle.std.proofs.Math.Nat.{dvd-mul_right_of_dvd, div-mul_cancel, mul-pos, one-le-pow, eq-zero_of_zero-dvd}
 use Prim.Native.Nat.{◌∣◌}
 use lib.IntN.{neg_ℤ}
-use Rattle.rational.specs.Rational.{Rational, ◌≈◌, mixed, ratio}
-use Rattle.rational.specs.Time.{IsLowest}
-use Rattle.rational.proofs.Order.{same_trans}
+use Rattle.rational.specs.Rational.{Rational, ◌≈◌, mixed, ratio, fraction}
+use Rattle.rational.specs.Time.{IsLowest, Divides}
+use Rattle.rational.proofs.Order.{same_sym, same_trans}
 use Rattle.rational.proofs.Mixed.{neg_parts, mul_parts}
 use Rattle.rational.proofs.Lowest.{coprime, dvd_of_Divides, lowest_of_gcd, divides_other}
 use Rattle.report.specs.Numbers.{signed, IsInUnits}
@@ -89,3 +89,40 @@ is_in_ticks v negative size d p same low some = record {
   where
     times_one : (z : ℤ) → z ≡ z *ℤ pos (10 ^ 0)
     times_one z = omega (arith, ints)
+
+-- the sign changes no common factor
+lowest_signed : (negative : Bool) (n d : ℕ) → IsLowest (pos n) d → IsLowest (signed negative n) d
+lowest_signed negative n d low = record {
+  positive = low.positive;
+  coprime = λ k a b. low.coprime k (subst (λ x. Divides k x) (nat_abs-signed negative n) a) b;
+}
+
+-- a quotient without a common factor of its size and of its denominator in units is the same number of units
+same_quotient : (negative : Bool) (size d t n q g : ℕ) (p : 0 < d) (r : 0 < q) → n * g ≡ size → q * g ≡ d * t → ratio (signed negative size) d p ≈ ratio (signed negative n *ℤ pos t) q r
+same_quotient true size d t n q g p r e f = record { same = omega (arith, ap (λ x. x * q) (neg_parts size), ap (λ x. x * (t * d)) (neg_parts n), ap (λ x. x * d) (mul_parts (neg_ℤ (pos n)) (pos t)), ap (λ x. x * q) e, ap (λ x. x * n) f) }
+same_quotient false size d t n q g p r e f = record { same = omega (arith, ap (λ x. x * d) (mul_parts (pos n) (pos t)), ap (λ x. x * q) e, ap (λ x. x * n) f) }
+
+-- a quotient, in units
+pub quotient_units : (digits : ℕ) (v : Rational) (negative : Bool) (size d g : ℕ) (p : 0 < d) → v ≈ ratio (signed negative size) d p → (negative ≡ true → 0 < size)
+    → IsGcd size (d * 10 ^ digits) g → IsInUnits digits v negative (size / g) (d * 10 ^ digits / g)
+quotient_units digits v negative size d g p same some common =
+    let tens : 0 < 10 ^ digits = one-le-pow digits 10 (omega arith) in
+    let all : 0 < d * 10 ^ digits = mul-pos p tens in
+    let e = div-mul_cancel g common.0 in
+    let f = div-mul_cancel g common.1 in
+    let rest : 0 < d * 10 ^ digits / g = factor_pos (d * 10 ^ digits / g) g (d * 10 ^ digits) all f in
+    record {
+      lowest = lowest_signed negative (size / g) (d * 10 ^ digits / g) (lowest_of_gcd size (d * 10 ^ digits) g (size / g) (d * 10 ^ digits / g) all common e f rest);
+      same = record { same = (same_trans same (same_quotient negative size d (10 ^ digits) (size / g) (d * 10 ^ digits / g) g p rest e f)).same };
+      unsigned_zero = λ h z. let k = factor_pos (size / g) g size (some h) e in absurd (omega arith);
+    }
+
+-- a fraction of whole numbers as a ratio
+pub fraction_is : (num den : ℤ) (negative : Bool) (size d : ℕ) (p : 0 < d) → num ≡ signed negative size → den ≡ pos d → fraction num den ≈ ratio (signed negative size) d p
+fraction_is num den negative size zero p e f = absurd (omega arith)
+fraction_is num den negative size (suc k) p e f = subst (λ z. fraction num z ≈ ratio (signed negative size) (suc k) p) (sym f)
+    (subst (λ z. fraction z (pos (suc k)) ≈ ratio (signed negative size) (suc k) p) (sym e) (record { same = refl }))
+
+-- units of one number are those of another that is the same
+pub units_same : (digits : ℕ) (v w : Rational) (negative : Bool) (size den : ℕ) → v ≈ w → IsInUnits digits v negative size den → IsInUnits digits w negative size den
+units_same digits v w negative size den e u = record { lowest = u.lowest; same = same_trans (same_sym e) u.same; unsigned_zero = u.unsigned_zero }

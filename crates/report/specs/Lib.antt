@@ -8,3 +8,4 @@ pub mod SignalVerdicts
 pub mod Spelling
 pub mod VerdictLines
 pub mod Laws
+pub mod MarginLines

@@ -1,13 +1,15 @@
 //! Numbers of ticks as fractions of units, in lowest terms.
-ghost use Rattle.std.specs.Prelude.{◌≡◌, ◌≢◌, ◌<◌, ◌≤◌, ◌/◌, ◌%◌, [], ◌++◌, true, if◌then◌else◌, codes, decimal, OnOk, OnErr};
+ghost use Rattle.std.specs.Prelude.{◌≡◌, ◌≢◌, ◌<◌, ◌≤◌, ◌^◌, ◌/◌, ◌%◌, [], ◌++◌, true, if◌then◌else◌, codes, decimal, OnOk, OnErr};
 ghost use Rattle.std.specs.Int.{IsGcd};
+ghost use Rattle.std.specs.Int.RustNames.{unsigned_abs};
 ghost use Rattle.rational.specs.Time.{IsLowest, ratio, ◌≈◌};
+ghost use Rattle.frac128.specs.Ratios.{number};
 ghost use Rattle.frac128.specs.Value.{value, denominator};
 ghost use Rattle.stl_syntax.specs.Texts.{fraction_text, IsNumberText};
 ghost use Rattle.report.specs.Appended.{Grew, GrewInPart};
 ghost use Rattle.report.specs.Numbers.{signed, IsInUnits};
 
-use frac128::{Frac, Memory, gcd};
+use frac128::{Frac, Memory, Ratio, gcd, gcd_of_wide};
 use itoa::Buffer;
 use stl_syntax::Text;
 
@@ -85,6 +87,35 @@ pub(crate) fn in_units(t: &Frac, digits: u8) -> Lowest
         negative,
         size: quotient(size, common),
         den: u128::from(t.den()) * u128::from(tens / common),
+    }
+}
+
+/// A number by its sign and its size.
+fn sized(n: i128) -> (bool, u128)
+    ensures is { n ≡ signed result.0 result.1 }
+    ensures negative { result.0 ≡ true → 0 < result.1 }
+{
+    if n < 0 {
+        (true, n.unsigned_abs())
+    } else {
+        (false, n.unsigned_abs())
+    }
+}
+
+/// A quotient of ticks of `1 / 10^digits` as a fraction of units.
+pub(crate) fn quotient_in_units(q: &Ratio, digits: u8) -> Lowest
+    requires few { digits ≤ 6 }
+    requires small { unsigned_abs q.now.den < 2 ^ 92 }
+    ensures { IsInUnits digits (number q.now) result.negative result.size result.den }
+{
+    let (negative, size) = sized(q.num);
+    let tens = 10u64.pow(u32::from(digits));
+    let den = q.den.unsigned_abs() * u128::from(tens);
+    let common = gcd_of_wide(size, den);
+    Lowest {
+        negative,
+        size: size / common,
+        den: den / common,
     }
 }
 

@@ -1,11 +1,12 @@
 -- Lists of verdicts and of knots that describe a formula on a stretch of time.
 use Rattle.std.specs.Prelude.{◌≡◌, ◌≢◌, ◌⊎◌, List, [], ◌∷◌, MatchBool}
 use Rattle.rational.specs.Time.{Rational, later, ◌≤ʳ◌, ◌<ʳ◌, ◌≈◌, Interval, IsIn, IsNotEmpty, BeginAlike, EndAlike, Touch}
-use Rattle.rational.specs.Extended.{Extended, ◌≈ᵉ◌, Affine, Passes}
+use Rattle.rational.specs.Extended.{Extended, ◌≈ᵉ◌}
 use Rattle.stl_syntax.specs.Trace.{Trace, start, stop}
 use Rattle.stl_syntax.specs.Formula.{Subformula, horizon}
 use Rattle.stl_syntax.specs.Truth.{Truth}
 use Rattle.stl_syntax.specs.Knots.{Knot, Piece, Knots, IsInside}
+pub use Rattle.rational.specs.Knots.{AreOneLine}
 use Rattle.stl_syntax.specs.SupInf.{Robustness}
 use Rattle.frac128.specs.Spans.{interval}
 use Rattle.stl_syntax.specs.declared.items.Verdict.{Verdict}
@@ -25,15 +26,6 @@ GoesOn p tr stretch v (w ∷ verdicts) =
 abbrev pub Describes : List Verdict → Subformula → Trace → Interval → Type 0
 Describes [] p tr stretch = ⊥
 Describes (v ∷ verdicts) p tr stretch = BeginAlike (interval v.on) stretch × IsTold p tr v × GoesOn p tr stretch v verdicts
-
--- the piece before the knot `before.next`, the value there and the piece after it are of one affine or one constantly infinite function
-pub record AreOneLine (j : Knot) (before : Piece) (after : Piece) : Type 0 where
-  pub through : Affine
-  pub begins : Passes through j.time before.from
-  pub arrives : Passes through before.next.time before.to
-  pub here : Passes through before.next.time before.next.value
-  pub leaves : Passes through before.next.time after.from
-  pub ends : Passes through after.next.time after.to
 
 -- the value is the robustness at the knot
 abbrev pub IsRobust : Subformula → Trace → Knot → Type 0

@@ -4,7 +4,7 @@ ghost use Rattle.std.specs.Prelude.{List};
 ghost use Rattle.rational.specs.Time.{◌≈◌};
 ghost use Rattle.pl_signal.specs.declared.knot.Knot.{Knot};
 ghost use Rattle.pl_signal.specs.Knots.{IsSignal, IsWorth, start, stop};
-ghost use Rattle.until_ops.specs.Composition.{HasUntilToEnd, HasSinceFromStart, UntilIsComposed, SinceIsComposed};
+ghost use Rattle.rational.specs.UntilParts.{HasUntilToEnd, HasSinceFromStart, UntilIsComposed, SinceIsComposed};
 
 use value_laws::Shape;
 

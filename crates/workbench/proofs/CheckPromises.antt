@@ -1,6 +1,6 @@
--- The promises of `check`, each from how a run ends.
-use Rattle.std.proofs.Common.{◌≡◌, ◌≢◌, ◌⊎◌, inl, inr, ℕ, ◌≤◌, Bool, true, false, List, [], ◌∷◌, ◌++◌, refl, sym, ap, ◌∙◌, subst, arith, append-nil, Some, None}
-use Rattle.std.specs.Prelude.{Option}
+-- The promises of `check`, each from how a run ends whose words ask for it.
+use Rattle.std.proofs.Common.{◌≡◌, ◌≢◌, ◌⊎◌, inl, inr, ℕ, ◌≤◌, Bool, true, false, List, [], ◌∷◌, ◌++◌, length, refl, sym, ap, ◌∙◌, subst, arith, append-nil, Some, None}
+use Rattle.std.specs.Prelude.{Option, codes}
 use Rattle.std.proofs.lemmas.Bool.{false≢true}
 use Rattle.std.proofs.lemmas.List.{append_cancel_left, append_cancel_right}
 use Rattle.std.specs.Io.KnownBytes.{Appends, Consumes, IsAtEnd}
@@ -13,9 +13,10 @@ use Rattle.stl_grammar.specs.FormulaRefusals.{IsFormulaOf}
 use Rattle.stl_grammar.proofs.LawProofs.{one_formula}
 use Rattle.report.specs.Report.{Command, check, robust, explain, json, table, Out}
 use Rattle.workbench.specs.Words.{AskCheck}
-use Rattle.workbench.specs.Commands.{Judge, judge, IsForm}
+use Rattle.workbench.specs.Commands.{Judge, judge, judge_word}
+use Rattle.workbench.specs.declared.request.Command.TheVariants.{Check}
 use Rattle.workbench.specs.Commands as word
-use Rattle.workbench.specs.Requests.{Request, no_form, refused, whole, stream, sessions, generated, Stream, verdicts, early, margins, Asks, AreNone, IsAsked, IsBuilt, IsRefusal, AreHeld, word_of, has_input, usage_line}
+use Rattle.workbench.specs.Requests.{Request, no_form, refused, whole, stream, sessions, generated, Stream, verdicts, early, margins, Asks, AreNone, IsAsked, IsAmong, built_commands, IsRefusal, AreHeld, is_held, has_input, usage_line}
 use Rattle.workbench.specs.Owed.{Owes, OwesAtEnd, not_yet, faulty as faulty_at_end, too_many, at_end}
 use Rattle.workbench.specs.Settled.{TellsTruth, HasFault, IsSettled, none, bad, faulty, answered, wide, overfull}
 use Rattle.workbench.specs.Running.{IsBegun, IsEnd, settled, unread, unwritten, no_memory, HasEnded, asked, unknown, IsRun}
@@ -27,7 +28,8 @@ use Rattle.workbench.specs.ErrTexts.{out_of_memory, read_fault, write_fault}
 use Rattle.workbench.specs.Promises as old
 use Rattle.workbench.specs.Promises.{AreNoForm, AskForBad, AskFor, Took, Got, IsChecked, IsCutOff, IsErrLine, IsMessage}
 use Rattle.workbench.proofs.FaultsStay.{unsound}
-use Rattle.workbench.proofs.RunEnds.{check_asked, none_asked, asked_check}
+use Rattle.workbench.proofs.NoForm.{two_is_none}
+use Rattle.workbench.proofs.RunEnds.{word_form, asked_word}
 
 -- words ask for one text
 one_text : {words : List (List ℕ)} {text other : List ℕ} → AskCheck words text → AskCheck words other → text ≡ other
@@ -61,44 +63,60 @@ consumed None after bytes read e h = absurd (let k = e in cc)
 consumed (Some xs) None bytes read e h = absurd h
 consumed (Some xs) (Some ys) bytes read e h = (ys, refl, (let k : bytes ≡ xs = (let j = e in cc) in k) ∙ h)
 
--- ---- what is built: words of no form, a text that is refused, and `check`
+-- ---- words that ask for `check`: a text that is refused, or a formula
 
 pub data IsBuiltRequest : Request → Type 0 where
   of_none : IsBuiltRequest no_form
   of_bad : (line : List ℕ) → IsBuiltRequest (refused line)
   of_check : (f : Formula) → IsBuiltRequest (whole check f)
 
-built : (words : List (List ℕ)) (request : Request) → Asks words request → IsBuiltRequest request
-built words no_form a = of_none
-built words (refused line) a = of_bad line
-built words (whole check f) a = of_check f
-built words (whole robust f) a = absurd a.form.built
-built words (whole explain f) a = absurd a.form.built
-built words (whole json f) a = absurd a.form.built
-built words (whole table f) a = absurd a.form.built
-built words (stream verdicts f) a = absurd a.form.built
-built words (stream early f) a = absurd a.form.built
-built words (stream margins f) a = absurd a.form.built
-built words (sessions f) a = absurd a.form.built
-built words (generated n rows) a = absurd a.built
+other_word : codes "robust" ≡ codes "check" → ⊥
+other_word e = let n = ap length e in omega (arith, n)
+
+-- they ask for no other command
+check_alone : {words : List (List ℕ)} {own : List ℕ} → AskCheck words own → (command : Judge) (text : List ℕ) → IsAsked words (judge command text) → command ≡ word.check
+check_alone {words} {own} ask command text a = by_word a.built
+  where
+    by_word : IsAmong command built_commands → command ≡ word.check
+    by_word (inl e) = e
+    by_word (inr (inl e)) =
+        let form : words ≡ judge_word word.robust ∷ text ∷ [] = subst (λ k. words ≡ judge_word k ∷ text ∷ []) e (word_form a.is) in
+        absurd (other_word (let same = sym form ∙ ask in cc))
+    by_word (inr (inr other)) = absurd other
+
+check_asked : {words : List (List ℕ)} {text : List ℕ} → IsAsked words (judge word.check text) → AskCheck words text
+check_asked a = word_form a.is
+
+asked_check : {words : List (List ℕ)} {text : List ℕ} → AskCheck words text → IsAsked words (judge word.check text)
+asked_check {words} {text} e = asked_word Check text e
 
 no_form_of : {words : List (List ℕ)} → AreNone words → AreNoForm words
 no_form_of h text a = h (judge word.check text) (asked_check a)
 
-bad_of : {words : List (List ℕ)} (line : List ℕ) → Asks words (refused line) → AskForBad words line
-bad_of {words} line a = by_command a.command a.form a.is
-  where
-    by_command : (command : Judge) → IsAsked words (judge command a.text) → IsRefusal command a.text line → AskForBad words line
-    by_command word.check form (inl b) = record { text = a.text; form = check_asked form; bad = b }
-    by_command word.check form (inr (f, i, is, unserved, e)) = absurd unserved
-    by_command word.watch form is = absurd form.built
-    by_command word.robust form is = absurd form.built
-    by_command word.explain form is = absurd form.built
-    by_command word.json form is = absurd form.built
-    by_command word.table form is = absurd form.built
-    by_command word.early form is = absurd form.built
-    by_command word.mux form is = absurd form.built
-    by_command word.rwatch form is = absurd form.built
+module _ {words : List (List ℕ)} {own : List ℕ} (ask : AskCheck words own) where
+  built : (request : Request) → Asks words request → IsBuiltRequest request
+  built no_form a = of_none
+  built (refused line) a = of_bad line
+  built (whole check f) a = of_check f
+  built (whole robust f) a = absurd (let e = check_alone ask word.robust a.text a.form in cc)
+  built (whole explain f) a = absurd (let e = check_alone ask word.explain a.text a.form in cc)
+  built (whole json f) a = absurd (let e = check_alone ask word.json a.text a.form in cc)
+  built (whole table f) a = absurd (let e = check_alone ask word.table a.text a.form in cc)
+  built (stream verdicts f) a = absurd (let e = check_alone ask word.watch a.text a.form in cc)
+  built (stream early f) a = absurd (let e = check_alone ask word.early a.text a.form in cc)
+  built (stream margins f) a = absurd (let e = check_alone ask word.rwatch a.text a.form in cc)
+  built (sessions f) a = absurd (let e = check_alone ask word.mux a.text a.form in cc)
+  built (generated n rows) a = absurd a.built
+
+  bad_of : (line : List ℕ) → Asks words (refused line) → AskForBad words line
+  bad_of line a = by_refusal (subst (λ k. IsRefusal k a.text line) same a.is)
+    where
+      same : a.command ≡ word.check
+      same = check_alone ask a.command a.text a.form
+
+      by_refusal : IsRefusal word.check a.text line → AskForBad words line
+      by_refusal (inl b) = record { text = a.text; form = check_asked (subst (λ k. IsAsked words (judge k a.text)) same a.form); bad = b }
+      by_refusal (inr (f, i, is, unserved, e)) = absurd unserved
 
 -- how a run of the words ends, in the words of `check`
 pub data Seen (words : List (List ℕ)) (i : Drained) (o : Filled) (bytes text : List ℕ) : ℕ → List ℕ → Type 0 where
@@ -167,22 +185,22 @@ module _ {words : List (List ℕ)} {i : Drained} {o : Filled} {bytes : List ℕ}
   seen_check f ask at (unwritten rest some failed begun timely) = seen_cut f rest ask some failed (at (λ k. omega (arith, k))) begun
   seen_check f ask at (no_memory known begun timely) = s_no_memory f ask
 
-  seen_request : {text : List ℕ} {status : ℕ} {line : List ℕ} (request : Request) → IsBuiltRequest request → Asks words request → (status ≢ 7 → has_input request ≡ true → i.ended ≡ true → IsAtEnd i.after)
+  seen_request : {own : List ℕ} → AskCheck words own → {text : List ℕ} {status : ℕ} {line : List ℕ} (request : Request) → IsBuiltRequest request → Asks words request → (status ≢ 7 → has_input request ≡ true → i.ended ≡ true → IsAtEnd i.after)
       → IsEnd request i o bytes text status line → Seen words i o bytes text status line
-  seen_request no_form of_none a at end = seen_none a end
-  seen_request (refused l) (of_bad l') a at end = seen_bad l (bad_of l a) end
-  seen_request (whole check f) (of_check g) a at end = seen_check f (record { text = a.text; form = check_asked a.form; is = a.is }) (λ n. at n refl) end
-  seen_request (whole robust f) b a at end = elim b [ ]
-  seen_request (whole explain f) b a at end = elim b [ ]
-  seen_request (whole json f) b a at end = elim b [ ]
-  seen_request (whole table f) b a at end = elim b [ ]
-  seen_request (stream k f) b a at end = elim b [ ]
-  seen_request (sessions f) b a at end = elim b [ ]
-  seen_request (generated n rows) b a at end = elim b [ ]
+  seen_request ask no_form of_none a at end = seen_none a end
+  seen_request ask (refused l) (of_bad l') a at end = seen_bad l (bad_of ask l a) end
+  seen_request ask (whole check f) (of_check g) a at end = seen_check f (record { text = a.text; form = check_asked a.form; is = a.is }) (λ n. at n refl) end
+  seen_request ask (whole robust f) b a at end = elim b [ ]
+  seen_request ask (whole explain f) b a at end = elim b [ ]
+  seen_request ask (whole json f) b a at end = elim b [ ]
+  seen_request ask (whole table f) b a at end = elim b [ ]
+  seen_request ask (stream k f) b a at end = elim b [ ]
+  seen_request ask (sessions f) b a at end = elim b [ ]
+  seen_request ask (generated n rows) b a at end = elim b [ ]
 
-  pub seen_ended : {text : List ℕ} {status : ℕ} {line : List ℕ} → HasEnded words i o bytes text status line → Seen words i o bytes text status line
-  seen_ended (asked request a nothing at end) = seen_request request (built words request a) a at end
-  seen_ended (unknown some nothing) = s_early (λ h. some (none_asked h))
+  pub seen_ended : {own : List ℕ} → AskCheck words own → {text : List ℕ} {status : ℕ} {line : List ℕ} → HasEnded words i o bytes text status line → Seen words i o bytes text status line
+  seen_ended ask (asked request a nothing at end) = seen_request ask request (built ask request a) a at end
+  seen_ended {own} ask (unknown some nothing) = s_early (λ h. h own ask)
 
 -- ---- the promises
 
@@ -208,12 +226,12 @@ sound_end : {words : List (List ℕ)} {f g : Formula} {bytes other : List ℕ} {
 sound_end {words} {f} {g} {bytes} {other} {tr} {ended} x a b same trace e fault =
     (whole_for a b same trace).sound x (subst (λ (k : Bool). IsInputFault whole_limits g other k x) e fault)
 
-module _ (words : List (List ℕ)) (i : Drained) (o e : Filled) where
+module _ (words : List (List ℕ)) {own : List ℕ} (ask : AskCheck words own) (i : Drained) (o e : Filled) where
   abbrev See : List ℕ → List ℕ → ℕ → List ℕ → Type 0
   See bytes text status line = Seen words i o bytes text status line
 
   seen : {status : ℕ} (r : IsRun words i o e status) → See r.bytes r.text status r.line
-  seen r = seen_ended r.ended
+  seen r = seen_ended ask r.ended
 
   module _ {bytes text : List ℕ} where
     bound : {status : ℕ} {line : List ℕ} → See bytes text status line → status ≤ 7
@@ -225,26 +243,6 @@ module _ (words : List (List ℕ)) (i : Drained) (o e : Filled) where
     bound (s_unread f a ended failed sound) = omega arith
     bound (s_unwritten f tr rest a trace written some failed ended at) = omega arith
     bound (s_no_memory f a) = omega arith
-
-    words_of : {status : ℕ} {line : List ℕ} → See bytes text status line → status ≡ 2 → AreNoForm words
-    words_of (s_none h) s = h
-    words_of (s_bad b) s = absurd (omega (arith, s))
-    words_of (s_early h) s = absurd (omega (arith, s))
-    words_of (s_fault f x a fault at) s = absurd (omega (arith, s))
-    words_of (s_answer f tr a trace written truth ended at) s = absurd (omega (arith, s, small f tr truth))
-    words_of (s_unread f a ended failed sound) s = absurd (omega (arith, s))
-    words_of (s_unwritten f tr rest a trace written some failed ended at) s = absurd (omega (arith, s))
-    words_of (s_no_memory f a) s = absurd (omega (arith, s))
-
-    no_words_of : {status : ℕ} {line : List ℕ} → See bytes text status line → AreNoForm words → status ≡ 2
-    no_words_of (s_none h) n = refl
-    no_words_of (s_bad b) n = absurd (n b.text b.form)
-    no_words_of (s_early h) n = absurd (h n)
-    no_words_of (s_fault f x a fault at) n = absurd (n a.text a.form)
-    no_words_of (s_answer f tr a trace written truth ended at) n = absurd (n a.text a.form)
-    no_words_of (s_unread f a ended failed sound) n = absurd (n a.text a.form)
-    no_words_of (s_unwritten f tr rest a trace written some failed ended at) n = absurd (n a.text a.form)
-    no_words_of (s_no_memory f a) n = absurd (n a.text a.form)
 
     bad_rightly : {status : ℕ} {line : List ℕ} → See bytes text status line → old.IsBadRightly words status
     bad_rightly (s_none h) s = absurd (omega (arith, s))
@@ -391,11 +389,8 @@ module _ (words : List (List ℕ)) (i : Drained) (o e : Filled) where
     pub run_bound : status ≤ 7
     run_bound = bound (seen r)
 
-    pub run_words : status ≡ 2 → AreNoForm words
-    run_words = words_of (seen r)
-
-    pub run_no_words : AreNoForm words → status ≡ 2
-    run_no_words = no_words_of (seen r)
+    pub run_form : status ≢ 2
+    run_form two = two_is_none i o r.ended two (judge word.check own) (asked_check ask)
 
     pub run_bad : old.IsBadRightly words status
     run_bad = bad_rightly (seen r)
@@ -430,15 +425,12 @@ module _ (words : List (List ℕ)) (i : Drained) (o e : Filled) where
     pub run_told : old.IsToldRightly words i.before i.after i.ended e.before e.after e.faults e.faults_after status
     run_told message got = (r.line, line_of r.moved (seen r), message_of r.said message got)
 
--- only `check` is built, which is no stream
+-- the commands that are built are no streams
 pub all_held : (words : List (List ℕ)) → AreHeld words
-all_held words (judge word.check text) a = refl
-all_held words (judge word.watch text) a = absurd a.built
-all_held words (judge word.robust text) a = absurd a.built
-all_held words (judge word.explain text) a = absurd a.built
-all_held words (judge word.json text) a = absurd a.built
-all_held words (judge word.table text) a = absurd a.built
-all_held words (judge word.early text) a = absurd a.built
-all_held words (judge word.mux text) a = absurd a.built
-all_held words (judge word.rwatch text) a = absurd a.built
+all_held words (judge command text) a = by_word a.built
+  where
+    by_word : IsAmong command built_commands → is_held (judge command text) ≡ true
+    by_word (inl e) = subst (λ k. is_held (judge k text) ≡ true) (sym e) refl
+    by_word (inr (inl e)) = subst (λ k. is_held (judge k text) ≡ true) (sym e) refl
+    by_word (inr (inr other)) = absurd other
 all_held words (word.generate n rows) a = absurd a.built

@@ -61,7 +61,7 @@ small_last verdicts f tr status h = small_truth f tr status h
 small_last early f tr status h = small_truth f tr status h
 small_last margins f tr status h = omega (arith, h)
 
-small_answer : (request : Request) (bytes text : List ℕ) (ended : Bool) (status : ℕ) → IsAnswered request bytes ended status text → status ≤ 1
+pub small_answer : (request : Request) (bytes text : List ℕ) (ended : Bool) (status : ℕ) → IsAnswered request bytes ended status text → status ≤ 1
 small_answer no_form bytes text ended status is = absurd is
 small_answer (refused line) bytes text ended status is = absurd is
 small_answer (whole c f) bytes text ended status is = small_verdict c f is.1.tr status is.1.verdict

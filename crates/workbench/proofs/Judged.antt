@@ -19,7 +19,7 @@ use Rattle.value_laws.specs.Values.{truth_value}
 use Rattle.stl_syntax.specs.Trace.{Row, Trace, AreRows, IsTrace, first_time, last_time, start, stop}
 use Rattle.stl_syntax.specs.Formula.{Formula, root}
 use Rattle.stl_syntax.specs.Truth.{Truth as Holds}
-use Rattle.stl_syntax.specs.SupInf.{SupInf, HasValues, one, minus_one, truths, truth_setting}
+use Rattle.stl_syntax.specs.SupInf.{Reading, SupInf, HasValues, one, minus_one, truth_setting}
 use Rattle.stl_syntax.specs.Texts.{start_line, AreVerdictLines, IsStartLine}
 use Rattle.stl_syntax.specs.Verdicts.{Describes}
 use Rattle.stl_syntax.specs.declared.items.Verdict.{Verdict}
@@ -36,7 +36,7 @@ use Rattle.report.proofs.SignalLaw.{signal_describes}
 use Rattle.workbench.specs.declared.case.Case.{Case}
 use Rattle.workbench.specs.Cases.{IsCase}
 use Rattle.workbench.specs.Answers.{IsJudged}
-use Rattle.workbench.specs.Judging.{AreAtomsOf, AreNodesOf, IsSignalText}
+use Rattle.workbench.specs.Judging.{setting_of, AreAtomsOf, AreNodesOf, IsSignalText}
 
 -- a row for places behind the last one
 pub no_row : Row
@@ -59,28 +59,37 @@ up_to_last width (r ∷ rows) h = last_from width r.time rows h.1
 pub first_to_last : (t : Trace) → IsTrace t → first_time t.rows ≤ last_time 0 t.rows
 first_to_last t ok = up_to_last (length t.header.columns) t.rows ok.rows
 
-module _ (shape : ShapeOf Truth) (c : Case) where
-  pub no_atoms : AreAtomsOf shape c 0 []
-  no_atoms = record { count = refl; inputs = λ k d h. absurd (omega (arith, h)); told = told_none shape c.formula.nodes (truth_setting c.trace) }
+module _ {P : Type 0} (shape : ShapeOf P) (reading : Trace → Reading) (c : Case) where
+  pub no_atoms : AreAtomsOf shape reading c 0 []
+  no_atoms = record { count = refl; inputs = λ k d h. absurd (omega (arith, h)); told = told_none shape c.formula.nodes (setting_of shape reading c.trace) }
 
   -- with the signal of the next atom the signals are those of one node more
-  pub atom_on : (i : ℕ) (a : Atom) (signals : List (List (Knot Truth))) (x : List (Knot Truth))
+  pub atom_on : (i : ℕ) (a : Atom) (signals : List (List (Knot P))) (x : List (Knot P))
       → slice_get c.formula.nodes i ≡ Some (Leaf a) → IsBound c.bound c.formula c.trace.header → IsTrace c.trace
-      → IsAtomSignal shape truths c.bound i c.trace x → AreAtomsOf shape c i signals → AreAtomsOf shape c (i + 1) (signals ++ x ∷ [])
+      → IsAtomSignal shape reading c.bound i c.trace x → AreAtomsOf shape reading c i signals → AreAtomsOf shape reading c (i + 1) (signals ++ x ∷ [])
   atom_on i a signals x at bound rows is before = record {
     count = let e = length-append signals (x ∷ []) in let f = before.count in let g = atoms_on_atom c.formula.nodes i a at in omega (arith, e, f, g);
     inputs = All-push (IsInput shape (first_time c.trace.rows) (last_time 0 c.trace.rows)) signals x before.inputs (record { begins = is.begins; ends = is.ends; bases = is.bases; limited = is.limited });
-    told = told_atom shape c.formula.nodes (truth_setting c.trace) i a signals x at before.count before.told (is.tells a (record { formula = c.formula; bound = bound; node = at; rows = rows }));
+    told = told_atom shape c.formula.nodes (setting_of shape reading c.trace) i a signals x at before.count before.told
+        (is.tells a (record { formula = c.formula; bound = bound; node = at; rows = rows }));
   }
 
   -- a node of another kind needs none
-  pub other_on : (i : ℕ) (n : Node) (signals : List (List (Knot Truth))) → slice_get c.formula.nodes i ≡ Some n → is_atom n ≡ false
-      → AreAtomsOf shape c i signals → AreAtomsOf shape c (i + 1) signals
+  pub other_on : (i : ℕ) (n : Node) (signals : List (List (Knot P))) → slice_get c.formula.nodes i ≡ Some n → is_atom n ≡ false
+      → AreAtomsOf shape reading c i signals → AreAtomsOf shape reading c (i + 1) signals
   other_on i n signals at other before = record {
     count = before.count ∙ sym (atoms_on_other c.formula.nodes i n at other);
     inputs = before.inputs;
-    told = told_other shape c.formula.nodes (truth_setting c.trace) i n signals at other before.told;
+    told = told_other shape c.formula.nodes (setting_of shape reading c.trace) i n signals at other before.told;
   }
+
+  -- the root's signal tells the whole formula
+  pub root_told : (signals : List (List (Knot P))) → AreNodesOf shape reading c signals → 0 < length c.formula.nodes
+      → (x : List (Knot P)) → slice_get signals (length c.formula.nodes - 1) ≡ Some x
+      → Tells shape (SupInf (root c.formula.nodes) (setting_of shape reading c.trace)) (start c.trace) (stop c.trace) x
+  root_told signals all some x is =
+      let node = all.told (length c.formula.nodes - 1) (omega (arith, some)) in
+      subst (Tells shape (SupInf (root c.formula.nodes) (setting_of shape reading c.trace)) (start c.trace) (stop c.trace)) (some_is (sym node.1 ∙ is)) node.2
 
 sign_passes : (holds : Bool) (t : Rational) → sign_of holds ≈ᵉ value_at (level (truth_value holds)) t
 sign_passes true t = same_symᵉ (value_at (level (truth_value true)) t) one (level_is (truth_value true) t)
@@ -93,14 +102,6 @@ at_start [] k h t e = absurd cc
 at_start (l ∷ ks) k h t e =
     let same : l ≡ k = cc in
     subst (λ m. knots.IsWorth truth_shape (l ∷ ks) t (sign_of m.point.holds)) same (inl (record { when = e; worth = sign_passes l.point.holds t }))
-
--- the root's signal tells the whole formula
-pub root_told : (c : Case) (signals : List (List (Knot Truth))) → AreNodesOf truth_shape c signals → 0 < length c.formula.nodes
-    → (x : List (Knot Truth)) → slice_get signals (length c.formula.nodes - 1) ≡ Some x
-    → Tells truth_shape (SupInf (root c.formula.nodes) (truth_setting c.trace)) (start c.trace) (stop c.trace) x
-root_told c signals all some x is =
-    let node = all.told (length c.formula.nodes - 1) (omega (arith, some)) in
-    subst (Tells truth_shape (SupInf (root c.formula.nodes) (truth_setting c.trace)) (start c.trace) (stop c.trace)) (some_is (sym node.1 ∙ is)) node.2
 
 module _ (c : Case) (f : Formula) (case : IsCase f c) (values : HasValues (root c.formula.nodes) (truth_setting c.trace))
     (x : List (Knot Truth)) (tells : Tells truth_shape (SupInf (root c.formula.nodes) (truth_setting c.trace)) (start c.trace) (stop c.trace) x)

@@ -21,3 +21,6 @@ pub mod CheckPromises
 pub mod StreamSteps
 pub mod Due
 pub mod Judged
+pub mod Measured
+pub mod NoForm
+pub mod MarginTruth

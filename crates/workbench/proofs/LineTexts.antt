@@ -5,7 +5,7 @@ use Rattle.stl_syntax.specs.Texts.{newline}
 use Rattle.stl_grammar.specs.declared.fault.What.{What}
 use Rattle.stl_grammar.specs.declared.fault.FormulaFault.TheVariants.{Expected, ConstantTooLarge}
 use Rattle.stl_syntax.specs.declared.scale.UnitFault.TheVariants.{Constant}
-use Rattle.workbench.specs.ErrTexts.{what_text, formula_fault_text, unit_fault_text, unknown_text}
+use Rattle.workbench.specs.ErrTexts.{what_text, formula_fault_text, unit_fault_text, unknown_text, wide_text}
 
 -- parts to the right
 at_once : (a d c x e f : List ℕ) → (((a ++ d) ++ c) ++ (x ++ e)) ++ f ≡ a ++ (d ++ (c ++ (x ++ (e ++ f))))
@@ -30,6 +30,12 @@ constant_text i = sym (with_tail (codes "formula: ") (codes "node ") (decimal i)
 
 pub unit_text : (n i : ℕ) → codes "line " ++ (decimal n ++ (codes ": node " ++ (decimal i ++ (codes ": constant out of range" ++ newline)))) ≡ unit_fault_text n (Constant i)
 unit_text n i = sym (with_both (codes "line ") (decimal n) (codes ": ") (codes "node ") (decimal i) (codes ": constant out of range") newline)
+
+in_row : (a d b e f : List ℕ) → (((a ++ d) ++ b) ++ e) ++ f ≡ a ++ (d ++ (b ++ (e ++ f)))
+in_row a d b e f = simp append_assoc
+
+pub wide_line_text : (i den : ℕ) → codes "wide: node " ++ (decimal i ++ (codes " needs denominator " ++ (decimal den ++ newline))) ≡ wide_text i den
+wide_line_text i den = sym (in_row (codes "wide: node ") (decimal i) (codes " needs denominator ") (decimal den) newline)
 
 pub column_text : (n : ℕ) (name : List ℕ) → codes "line " ++ (decimal n ++ (codes ": unknown column " ++ (name ++ newline))) ≡ unknown_text n name
 column_text n name = sym (at_once (codes "line ") (decimal n) (codes ": ") (codes "unknown column ") name newline)

@@ -1,5 +1,5 @@
 -- How a run ends, from how its parts do.
-use Rattle.std.proofs.Common.{◌≡◌, ◌≢◌, ◌⊎◌, inl, inr, ℕ, ◌≤◌, ◌-◌, Bool, true, false, List, [], ◌++◌, length, refl, sym, ap, ◌∙◌, subst, arith, append-nil, Result, Ok, Err}
+use Rattle.std.proofs.Common.{◌≡◌, ◌≢◌, ◌⊎◌, inl, inr, ℕ, ◌≤◌, ◌-◌, Bool, true, false, List, [], ◌∷◌, ◌++◌, length, refl, sym, ap, ◌∙◌, subst, arith, append-nil, Result, Ok, Err}
 use Rattle.std.specs.Prelude.{Option, MatchBool, IsErr}
 use Rattle.std.specs.Io.KnownBytes.{Appends, Consumes, IsAtEnd}
 use Rattle.std.proofs.KnownBytes.{Appends-nil, Consumes-nil}
@@ -9,48 +9,46 @@ use Rattle.stl_syntax.specs.Formula.{Formula}
 use Rattle.stl_syntax.specs.Trace.{Trace}
 use Rattle.report.specs.Report.{Command, check, robust, explain, json, table, Out}
 use Rattle.workbench.specs.Answers.{HoldsAtStart, IsJudged}
-use Rattle.workbench.specs.Words.{AskCheck}
-use Rattle.workbench.specs.Commands.{Judge, Form, judge, generate, IsForm, of_formula}
-use Rattle.workbench.specs.Commands as word
-use Rattle.workbench.specs.Requests.{Request, no_form, refused as bad_request, whole as of_whole, IsAsked, AreNone, AreFor, word_of, has_input, usage_line, IsUnserved}
+use Rattle.workbench.specs.Commands.{Judge, Form, judge, generate, IsForm, of_formula, judge_word}
+use Rattle.workbench.specs.Requests.{Request, no_form, refused as bad_request, whole as of_whole, IsAsked, IsAmong, built_commands, AreNone, AreFor, word_of, has_input, usage_line, IsUnserved}
 use Rattle.workbench.specs.Owed.{Owes, OwesAtEnd, not_yet, faulty as faulty_at_end, at_end as owed_at_end}
-use Rattle.workbench.specs.Settled.{HasFault, IsPrompt, IsSettled, none, bad, faulty, answered as settled_answer}
+use Rattle.workbench.specs.Settled.{HasFault, IsPrompt, IsSettled, none, bad, faulty, answered as settled_answer, wide as settled_wide}
 use Rattle.workbench.specs.Running.{IsBegun, IsTimely, IsEnd, settled, unread, unwritten, no_memory, HasEnded, asked, unknown, IsRun}
 use Rattle.workbench.specs.Saying.{IsSaid}
 use Rattle.workbench.specs.InputFaults.{Fault, fault_text, whole_limits, IsInputFault}
 use Rattle.workbench.specs.Reading.{IsReadWhole, IsReadPromptly, IsStop, IsWhole}
 use Rattle.workbench.specs.Writing.{IsPartWritten}
 use Rattle.workbench.specs.declared.request.Command.{Command as Word}
-use Rattle.workbench.specs.declared.request.Command.TheVariants.{Check}
+use Rattle.workbench.specs.declared.request.Command.TheVariants.{Check, Robust}
 use Rattle.workbench.specs.Wholes.{command_of, status_of_truth, IsAnswerOf, IsUnanswered, IsWrittenWith, all_of_it, a_part, IsWholeEnd, answered, unanswered, stopped, status_of, status_of_stop, IsEndLine, IsStopLine, HasFaultFor, EndsSoundly, IsBadEnd, refused, no_room}
 use Rattle.workbench.specs.declared.case.Case.{Case}
 use Rattle.workbench.specs.declared.fault.Stop.{Stop}
-use Rattle.workbench.specs.declared.fault.Stop.TheVariants.{Fault as Faulty, Unread, Unwritten, NoMemory}
+use Rattle.workbench.specs.declared.fault.Stop.TheVariants.{Fault as Faulty, Unread, Unwritten, NoMemory, Wide}
 use Rattle.workbench.specs.ErrTexts.{out_of_memory, read_fault, write_fault}
 
 -- ---- words
 
--- the words `check` and one more are of a form that is built
-pub asked_check : {words : List (List ℕ)} {text : List ℕ} → AskCheck words text → IsAsked words (judge word.check text)
-asked_check {words} {text} e = record { built = tt; is = subst (λ ws. IsForm ws (judge word.check text)) (sym e) (of_formula word.check) }
+-- the words of the form of a command
+pub word_form : {words : List (List ℕ)} {j : Judge} {text : List ℕ} → IsForm words (judge j text) → words ≡ judge_word j ∷ text ∷ []
+word_form (of_formula j) = refl
 
-is_check : {words : List (List ℕ)} {text : List ℕ} → IsForm words (judge word.check text) → AskCheck words text
-is_check (of_formula word.check) = refl
+is_built : (w : Word) → IsAmong (word_of (command_of w)) built_commands
+is_built Check = inl refl
+is_built Robust = inr (inl refl)
+
+-- a command's word and one more are of a form that is built
+pub asked_word : {words : List (List ℕ)} (w : Word) (text : List ℕ) → words ≡ judge_word (word_of (command_of w)) ∷ text ∷ []
+    → IsAsked words (judge (word_of (command_of w)) text)
+asked_word {words} w text e = record { built = is_built w; is = subst (λ ws. IsForm ws (judge (word_of (command_of w)) text)) (sym e) (of_formula (word_of (command_of w))) }
 
 -- and they alone
-pub check_asked : {words : List (List ℕ)} {text : List ℕ} → IsAsked words (judge word.check text) → AskCheck words text
-check_asked a = is_check a.is
-
-pub none_asked : {words : List (List ℕ)} → ((text : List ℕ) → ¬ AskCheck words text) → AreNone words
-none_asked h (judge word.check text) a = h text (check_asked a)
-none_asked h (judge word.watch text) a = a.built
-none_asked h (judge word.robust text) a = a.built
-none_asked h (judge word.explain text) a = a.built
-none_asked h (judge word.json text) a = a.built
-none_asked h (judge word.table text) a = a.built
-none_asked h (judge word.early text) a = a.built
-none_asked h (judge word.mux text) a = a.built
-none_asked h (judge word.rwatch text) a = a.built
+pub none_asked : {words : List (List ℕ)} → ((w : Word) (text : List ℕ) → words ≡ judge_word (word_of (command_of w)) ∷ text ∷ [] → ⊥) → AreNone words
+none_asked {words} h (judge j text) a = by_word a.built
+  where
+    by_word : IsAmong j built_commands → ⊥
+    by_word (inl e) = h Check text (subst (λ k. words ≡ judge_word k ∷ text ∷ []) e (word_form a.is))
+    by_word (inr (inl e)) = h Robust text (subst (λ k. words ≡ judge_word k ∷ text ∷ []) e (word_form a.is))
+    by_word (inr (inr other)) = other
 none_asked h (generate n rows) a = a.built
 
 -- a command that holds the whole trace serves each formula
@@ -90,15 +88,12 @@ not_stopped c f tr (Faulty fault) is = absurd is
 not_stopped c f tr Unread is = absurd is
 not_stopped c f tr Unwritten is = absurd is
 not_stopped c f tr NoMemory is = (λ e. let k = e in cc, λ e. let k = e in cc)
+not_stopped c f tr (Wide i den) is = (λ e. let k = e in cc, λ e. let k = e in cc)
 
 -- the answer of `check`
 pub check_answer : (f : Formula) (tr : Trace) (holds : Bool) (text : List ℕ) → IsJudged f tr holds text → IsAnswerOf check f tr holds text
-check_answer f tr true text j = record { verdict = inl (refl, j.truth); written = j.written; few = λ n h. h }
-check_answer f tr false text j = record { verdict = inr (refl, j.truth); written = j.written; few = λ n h. h }
-
--- and so of its word
-pub word_answer : (w : Word) (f : Formula) (tr : Trace) (holds : Bool) (text : List ℕ) → IsJudged f tr holds text → IsAnswerOf (command_of w) f tr holds text
-word_answer Check = check_answer
+check_answer f tr true text j = record { verdict = inl (refl, j.truth); written = j.written; few = λ n h. h; sure = tt }
+check_answer f tr false text j = record { verdict = inr (refl, j.truth); written = j.written; few = λ n h. h; sure = tt }
 
 -- an ending that stopped at a fault has one
 pub ends_soundly : {c : Command} {f : Formula} {i : Drained} {o : Filled} {e : Result Bool Stop} → IsWholeEnd c f i o e → EndsSoundly f e
@@ -108,10 +103,12 @@ ends_soundly (unanswered k (Faulty fault) read is same) = absurd is
 ends_soundly (unanswered k Unread read is same) = tt
 ends_soundly (unanswered k Unwritten read is same) = tt
 ends_soundly (unanswered k NoMemory read is same) = tt
+ends_soundly (unanswered k (Wide i den) read is same) = tt
 ends_soundly (stopped (Faulty fault) is same) = (is.0, is.1)
 ends_soundly (stopped Unread is same) = tt
 ends_soundly (stopped Unwritten is same) = tt
 ends_soundly (stopped NoMemory is same) = tt
+ends_soundly (stopped (Wide i den) is same) = tt
 
 -- ---- runs
 
@@ -181,7 +178,7 @@ module _ (words : List (List ℕ)) (c : Command) (f : Formula) (i : Drained) (o 
     moved = read.read.moved;
     grew = w;
     at_end = λ _. read.read.all;
-    is = settled (settled_answer (read.came_to_end, record { tr = case.trace; trace = read.whole; written = a.written; verdict = a.verdict; few = a.few }));
+    is = settled (settled_answer (read.came_to_end, record { tr = case.trace; trace = read.whole; written = a.written; verdict = a.verdict; few = a.few; sure = a.sure }));
   }
 
   of_part : (case : Case) (holds : Bool) (text : List ℕ) → IsReadWhole whole_limits f i.before i.after i.ended case → IsAnswerOf c f case.trace holds text
@@ -230,12 +227,22 @@ module _ (words : List (List ℕ)) (c : Command) (f : Formula) (i : Drained) (o 
     is = no_memory (λ k. let h = k in cc) (inl refl) (timely c f bytes []);
   })
 
+  of_stop (Wide i den) is same failed told = absurd is
+
   of_unanswered : (case : Case) (stop : Stop) → IsReadWhole whole_limits f i.before i.after i.ended case → IsUnanswered c f case.trace stop → o.after ≡ o.before → {line : List ℕ} → IsStopLine f stop line
       → Ending (status_of_stop stop) line
   of_unanswered case (Faulty fault) read is same told = absurd is
   of_unanswered case Unread read is same told = absurd is
   of_unanswered case Unwritten read is same told = absurd is
   of_unanswered case NoMemory read is same told = of_stop NoMemory (read.bytes, read.read.moved) same (λ k. absurd (let h = k in cc)) told
+  of_unanswered case (Wide n den) read (cause, few) same told = told_as told (record {
+    bytes = read.bytes;
+    text = [];
+    moved = read.read.moved;
+    grew = kept_all o.before o.after same;
+    at_end = λ _. read.read.all;
+    is = settled (settled_wide n den (read.came_to_end, refl, record { tr = case.trace; trace = read.whole; cause = cause; few = few }));
+  })
 
   of_end : (ending : Result Bool Stop) → IsWholeEnd c f i o ending → (ending ≡ Err Unread → HasFailed i) → (ending ≡ Err Unwritten → HasRefused o) → {line : List ℕ} → IsEndLine f ending line
       → Ending (status_of ending) line
@@ -269,6 +276,7 @@ five_is (Err (Faulty fault)) s = absurd (omega (arith, s))
 five_is (Err Unread) s = refl
 five_is (Err Unwritten) s = absurd (omega (arith, s))
 five_is (Err NoMemory) s = absurd (omega (arith, s))
+five_is (Err (Wide i den)) s = absurd (omega (arith, s))
 
 pub six_is : (e : Result Bool Stop) → status_of e ≡ 6 → e ≡ Err Unwritten
 six_is (Ok true) s = absurd (omega (arith, s))
@@ -277,6 +285,7 @@ six_is (Err (Faulty fault)) s = absurd (omega (arith, s))
 six_is (Err Unread) s = absurd (omega (arith, s))
 six_is (Err Unwritten) s = refl
 six_is (Err NoMemory) s = absurd (omega (arith, s))
+six_is (Err (Wide i den)) s = absurd (omega (arith, s))
 
 pub large_is : (e : Result Bool Stop) → 2 ≤ status_of e → IsErr e
 large_is (Ok true) s = absurd (omega (arith, s))
@@ -303,6 +312,8 @@ not_words (Err Unwritten) (inl s) = omega (arith, s)
 not_words (Err Unwritten) (inr s) = omega (arith, s)
 not_words (Err NoMemory) (inl s) = omega (arith, s)
 not_words (Err NoMemory) (inr s) = omega (arith, s)
+not_words (Err (Wide i den)) (inl s) = omega (arith, s)
+not_words (Err (Wide i den)) (inr s) = omega (arith, s)
 
 pub not_small : (status : ℕ) → (status ≡ 3) ⊎ (status ≡ 7) → ¬ (status ≤ 1)
 not_small status (inl a) e = omega (arith, a, e)

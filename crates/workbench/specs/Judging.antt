@@ -1,35 +1,60 @@
--- What judging a trace makes on the way: the signals of a formula's atoms, and the text that a signal of truth gives.
-use Rattle.std.specs.Prelude.{◌≡◌, ℕ, ℤ, Bool, List, length, All, ◌++◌}
+-- What judging a trace makes on the way: the signals of a formula's atoms and nodes, and the text that a signal of truth gives.
+use Rattle.std.specs.Prelude.{◌≡◌, ℕ, Bool, List, length, All, ◌++◌}
 use Rattle.rational.specs.Time.{Rational, ◌≈◌}
-use Rattle.rational.specs.Extended.{Affine}
 use Rattle.value_laws.specs.Members.{ShapeOf}
 use Rattle.pl_signal.specs.declared.knot.Knot.{Knot}
+use Rattle.pl_signal.specs.declared.faults.WidePair.{WidePair}
+use Rattle.pl_signal.specs.declared.faults.WidePair.TheVariants.{Cross, Value}
 use Rattle.pl_signal.specs.Knots.{start, IsWorth}
 use Rattle.value_laws.specs.declared.truth.Truth.{Truth}
-use Rattle.stl_syntax.specs.Trace.{first_time, last_time}
-use Rattle.stl_syntax.specs.SupInf.{truth_setting}
+use Rattle.stl_syntax.specs.Trace as trace
+use Rattle.stl_syntax.specs.Trace.{Trace, first_time, last_time}
+use Rattle.stl_syntax.specs.SupInf.{Reading, Setting}
 use Rattle.stl_syntax.specs.Texts.{start_line}
 use Rattle.stl_syntax.specs.declared.scale.Scale.{Scale}
 use Rattle.offline_eval.specs.Inputs.{atoms_before, IsInput, TellAtomsBelow}
-use Rattle.offline_eval.specs.Evaluation.{TellNodes}
+use Rattle.offline_eval.specs.Evaluation.{TellNodes, IsFault}
+use Rattle.offline_eval.specs.declared.faults.EvalFault.{EvalFault}
+use Rattle.offline_eval.specs.declared.faults.EvalFault.TheVariants as E
 use Rattle.report.specs.SignalVerdicts.{sign_of, AreSignalLines}
 use Rattle.workbench.specs.declared.case.Case.{Case}
+use Rattle.workbench.specs.declared.fault.Stop.{Stop}
+use Rattle.workbench.specs.declared.fault.Stop.TheVariants.{NoMemory, Wide}
 
-module _ (shape : ShapeOf Truth) where
-  -- the signals of the atoms among the first n nodes of the formula: they tell the truth of the atoms over the trace
-  pub record AreAtomsOf (c : Case) (n : ℕ) (signals : List (List (Knot Truth))) : Type 0 where
+module _ {P : Type 0} (shape : ShapeOf P) (reading : Trace → Reading) where
+  -- the setting of a trace: the atoms as they are read, and the least and the greatest value of the kind
+  abbrev pub setting_of : Trace → Setting
+  setting_of tr = record { atoms = reading tr; lowest = shape.lowest; highest = shape.highest; from = trace.start tr; to = trace.stop tr }
+
+  -- the signals of the atoms among the first n nodes of the formula: they tell the atoms over the trace
+  pub record AreAtomsOf (c : Case) (n : ℕ) (signals : List (List (Knot P))) : Type 0 where
     pub count : length signals ≡ atoms_before c.formula.nodes n
     pub inputs : All (IsInput shape (first_time c.trace.rows) (last_time 0 c.trace.rows)) signals
-    pub told : TellAtomsBelow shape n c.formula.nodes signals (truth_setting c.trace)
+    pub told : TellAtomsBelow shape n c.formula.nodes signals (setting_of c.trace)
 
-  -- a signal for each node of the formula, which tells its truth over the trace
-  pub record AreNodesOf (c : Case) (signals : List (List (Knot Truth))) : Type 0 where
+  -- a signal for each node of the formula, which tells it over the trace
+  pub record AreNodesOf (c : Case) (signals : List (List (Knot P))) : Type 0 where
     pub count : length signals ≡ length c.formula.nodes
-    pub told : TellNodes shape c.formula.nodes signals (truth_setting c.trace)
+    pub told : TellNodes shape c.formula.nodes signals (setting_of c.trace)
 
+  -- why there are none: want of memory, or a pair that is in play at a node and needs its denominator
+  abbrev pub IsFaultIn : Case → EvalFault P → Type 0
+  IsFaultIn c e = IsFault shape c.formula.nodes (setting_of c.trace) e
+
+module _ (shape : ShapeOf Truth) where
   -- the lines of what a signal tells, and the line of the truth at its start
   pub record IsSignalText (scale : Scale) (knots : List (Knot Truth)) (holds : Bool) (text : List ℕ) : Type 0 where
     pub body : List ℕ
     pub lines : AreSignalLines shape scale knots body
     pub parts : text ≡ body ++ start_line holds
     pub first : (t : Rational) → t ≈ start knots → IsWorth shape knots t (sign_of holds)
+
+-- the denominator that a pair needs
+abbrev pub denominator_of : {P : Type 0} → WidePair P → ℕ
+denominator_of (Cross p q a b den) = den
+denominator_of (Value p at den) = den
+
+-- the reason to stop that a fault of an evaluation is
+abbrev pub stop_of_fault : {P : Type 0} → EvalFault P → Stop
+stop_of_fault E.Memory = NoMemory
+stop_of_fault (E.Wide c) = Wide c.node (denominator_of c.pair)

@@ -18,3 +18,4 @@ pub mod Wholes
 pub mod Pushing
 pub mod Promises
 pub mod Judging
+pub mod Measured

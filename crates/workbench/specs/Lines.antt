@@ -2,7 +2,7 @@
 use Rattle.std.specs.Prelude.{ℕ, List, [], ◌++◌, decimal, Option, Some, None}
 use Rattle.workbench.specs.declared.line.Line.{Line}
 use Rattle.workbench.specs.declared.line.Detail.{Detail}
-use Rattle.workbench.specs.declared.line.Detail.TheVariants.{Nothing, Number, Name}
+use Rattle.workbench.specs.declared.line.Detail.TheVariants.{Nothing, Number, Large, Name}
 
 -- a number that may be missing
 abbrev pub number_text : Option ℕ → List ℕ
@@ -13,6 +13,7 @@ number_text (Some n) = decimal n
 abbrev pub detail_text : Detail → List ℕ
 detail_text Nothing = []
 detail_text (Number n) = decimal n
+detail_text (Large n) = decimal n
 detail_text (Name name) = name.now
 
 -- the parts in order

@@ -10,6 +10,7 @@ use Rattle.stl_grammar.specs.declared.fault.FormulaFault.{FormulaFault}
 use Rattle.stl_grammar.specs.declared.fault.FormulaFault.TheVariants as fault
 use Rattle.report.specs.Report.{Out, check}
 use Rattle.workbench.specs.Words.{AskCheck}
+use Rattle.workbench.specs.Requests.{usage_line}
 use Rattle.workbench.specs.InputFaults.{Fault, fault_text, whole_limits, IsInputFault}
 use Rattle.workbench.specs.Answers.{HoldsAtStart, IsJudged}
 use Rattle.workbench.specs.Reading.{IsWhole, IsSound, IsReadWhole, IsStop}
@@ -99,14 +100,10 @@ IsCutOffRightly words left left_after held held_after status =
     status ≡ 6 → (f : Formula) (bytes text : List ℕ) → AskFor words f → Took left left_after bytes → Got held held_after text
     → IsCutOff f bytes text
 
--- the words of no form
-abbrev pub check_usage : List ℕ
-check_usage = codes "usage: check F" ++ newline
-
 -- the line on the error stream for each status
 pub data IsErrLine (words : List (List ℕ)) (left left_after : Option (List ℕ)) (ended : Bool) : ℕ → List ℕ → Type 0 where
   nothing : {status : ℕ} → status ≤ 1 → IsErrLine words left left_after ended status []
-  no_form : IsErrLine words left left_after ended 2 check_usage
+  no_form : IsErrLine words left left_after ended 2 usage_line
   bad_text : {line : List ℕ} → AskForBad words line → IsErrLine words left left_after ended 3 line
   first_fault : {line : List ℕ}
       → ((f : Formula) (bytes : List ℕ) → AskFor words f → Took left left_after bytes → (x : Fault) × IsInputFault whole_limits f bytes ended x × (line ≡ fault_text x))

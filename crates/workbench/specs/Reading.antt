@@ -15,7 +15,7 @@ use Rattle.workbench.specs.Cases.{IsFault, IsCase, IsHeaderOf, IsLacking, IsNoBe
 use Rattle.workbench.specs.declared.case.Case.{Case}
 use Rattle.workbench.specs.declared.fault.TraceFault.TheVariants.{Trace as InTrace}
 use Rattle.workbench.specs.declared.fault.Stop.{Stop}
-use Rattle.workbench.specs.declared.fault.Stop.TheVariants.{Fault as Faulty, Unread, Unwritten, NoMemory}
+use Rattle.workbench.specs.declared.fault.Stop.TheVariants.{Fault as Faulty, Unread, Unwritten, NoMemory, Wide}
 
 -- these bytes were read, and they are all where the source came to its end
 pub record IsRead (before after : Option (List ℕ)) (ended : Bool) (bytes : List ℕ) : Type 0 where
@@ -68,6 +68,7 @@ IsStop limits f before after ended (Faulty fault) = (x : Fault) × IsFault f fau
 IsStop limits f before after ended Unread = IsReadInPart limits f before after ended
 IsStop limits f before after ended Unwritten = ⊥
 IsStop limits f before after ended NoMemory = (bytes : List ℕ) × Consumes before after bytes
+IsStop limits f before after ended (Wide i den) = ⊥
 
 -- these bytes were handed over, and may have ended; a trace was not made of them for this reason
 abbrev pub IsRefused : Limits → Formula → Bool → List ℕ → Stop → Type 0
@@ -75,6 +76,7 @@ IsRefused limits f ended bytes (Faulty fault) = (x : Fault) × IsFault f fault x
 IsRefused limits f ended bytes Unread = ⊥
 IsRefused limits f ended bytes Unwritten = ⊥
 IsRefused limits f ended bytes NoMemory = Unit {0}
+IsRefused limits f ended bytes (Wide i den) = ⊥
 
 -- once the header was read, there is a case of it with the rows
 abbrev pub IsTied : Formula → Option Heading → List ℕ → List Row → Option Case → Type 0

@@ -1,12 +1,12 @@
 -- What words ask for.
-use Rattle.std.specs.Prelude.{◌≡◌, ◌⊎◌, ℕ, Bool, true, false, List, ◌++◌, codes}
+use Rattle.std.specs.Prelude.{◌≡◌, ◌⊎◌, ℕ, Bool, true, false, List, [], ◌∷◌, ◌++◌, codes}
 use Rattle.stl_syntax.specs.Formula.{Formula}
 use Rattle.stl_syntax.specs.Texts.{newline}
 use Rattle.stl_syntax.specs.StreamedWide.{IsFirstUnstreamed}
 use Rattle.stl_grammar.specs.FormulaRefusals.{IsFormulaOf, IsFormulaFault}
 use Rattle.stl_grammar.specs.declared.fault.FormulaFault.{FormulaFault}
 use Rattle.report.specs.Report.{Command, check, robust, explain, json, table}
-use Rattle.workbench.specs.Commands.{Judge, Form, judge, generate, IsForm}
+use Rattle.workbench.specs.Commands.{Judge, Form, judge, generate, IsForm, judge_word}
 use Rattle.workbench.specs.Commands as word
 use Rattle.workbench.specs.ErrTexts.{formula_fault_text, not_streamed_text}
 
@@ -39,14 +39,29 @@ word_of_stream verdicts = word.watch
 word_of_stream early = word.early
 word_of_stream margins = word.rwatch
 
+-- the commands that are built, in the order in which the usage line names them
+abbrev pub built_commands : List Judge
+built_commands = word.check ∷ word.robust ∷ []
+
+-- the command is in the list
+abbrev pub IsAmong : Judge → List Judge → Type 0
+IsAmong command [] = ⊥
+IsAmong command (j ∷ commands) = (command ≡ j) ⊎ IsAmong command commands
+
 -- the forms that are built; words of another form are of none
 abbrev pub IsBuilt : Form → Type 0
-IsBuilt (judge word.check text) = Unit {0}
-IsBuilt form = ⊥
+IsBuilt (judge command text) = IsAmong command built_commands
+IsBuilt (generate number rows) = ⊥
+
+-- the forms of commands, with a bar between two
+abbrev pub forms_text : List Judge → List ℕ
+forms_text [] = []
+forms_text (j ∷ []) = judge_word j ++ codes " F"
+forms_text (j ∷ k ∷ commands) = judge_word j ++ codes " F | " ++ forms_text (k ∷ commands)
 
 -- the usage line, which names the forms that are built
 abbrev pub usage_line : List ℕ
-usage_line = codes "usage: check F" ++ newline
+usage_line = codes "usage: " ++ forms_text built_commands ++ newline
 
 -- the words are of this form
 pub record IsAsked (words : List (List ℕ)) (form : Form) : Type 0 where

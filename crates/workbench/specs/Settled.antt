@@ -1,11 +1,13 @@
 -- How a request ends by itself, without want of memory and faults of devices: its status, its line on the error stream and its text.
 use Rattle.std.specs.Prelude.{◌≡◌, ◌⊎◌, ℕ, ◌-◌, ◌≤◌, ◌<◌, pos, Bool, true, false, MatchBool, List, [], ◌∷◌, ◌++◌, length, take, Option, Some, None}
-use Rattle.rational.specs.Time.{Rational}
-use Rattle.rational.specs.Extended.{Affine}
+use Rattle.rational.specs.Time.{Rational, Within, whole as whole_number, negate, ◌≤ʳ◌}
+use Rattle.rational.specs.Extended.{Affine, Extended, finite, ◌<ᵉ◌}
 use Rattle.stl_syntax.specs.Formula.{Formula, Subformula, root}
 use Rattle.stl_syntax.specs.Scaling.{scaled}
-use Rattle.stl_syntax.specs.Trace.{Header, Row, Trace, last_time}
-use Rattle.stl_syntax.specs.SupInf.{Setting, margin_setting}
+use Rattle.stl_syntax.specs.Trace.{Header, Row, Trace, IsLike, last_time, start, stop}
+use Rattle.stl_syntax.specs.Truth.{Truth}
+use Rattle.stl_syntax.specs.Closeness.{AreClose}
+use Rattle.stl_syntax.specs.SupInf.{Setting, Robustness, margin_setting}
 use Rattle.stl_syntax.specs.WideCause.{IsCrossingCause, IsValueCause}
 use Rattle.stl_syntax.specs.StreamedWide.{IsStreamedCrossing, IsStreamedValue}
 use Rattle.stl_syntax.specs.MarginStream.{IsMarginStream}
@@ -32,6 +34,20 @@ IsVerdict robust f tr status = status ≡ 0
 IsVerdict explain f tr status = TellsTruth f tr status
 IsVerdict json f tr status = TellsTruth f tr status
 IsVerdict table f tr status = status ≡ 0
+
+-- a robustness tells the truth, in the trace and in each that is like it and whose expressions differ from the trace's by at most a
+-- number e: above e the formula holds there, and below -e it fails
+abbrev pub TellTruth : Subformula → Trace → Type 0
+TellTruth p tr =
+    (tr' : Trace) (e : Rational) → whole_number (pos 0) ≤ʳ e → IsLike tr' tr → AreClose e tr tr' p
+    → (t : Rational) (r : Extended) → Within (start tr) (stop tr) t → Robustness p tr t r
+    → (finite e <ᵉ r → Truth p tr' t) × (r <ᵉ finite (negate e) → ¬ Truth p tr' t)
+
+-- so of a command that writes robustness
+abbrev pub IsSure : Command → Formula → Trace → Type 0
+IsSure check f tr = Unit {0}
+IsSure explain f tr = Unit {0}
+IsSure c f tr = TellTruth (root (nodes_for f tr)) tr
 
 -- the status of a stream that came to its end
 abbrev pub IsLastVerdict : Stream → Formula → Trace → ℕ → Type 0
@@ -79,6 +95,7 @@ pub record IsAnsweredWhole (c : Command) (f : Formula) (bytes : List ℕ) (statu
   pub written : Out c f tr text
   pub verdict : IsVerdict c f tr status
   pub few : (count : ℕ) → ¬ HasTooMany c f tr count
+  pub sure : IsSure c f tr
 
 -- so for a stream
 pub record IsAnsweredByRow (s : Stream) (f : Formula) (bytes : List ℕ) (status : ℕ) (text : List ℕ) : Type 0 where

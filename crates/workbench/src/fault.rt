@@ -1,4 +1,4 @@
-//! Why a check stops before its answer.
+//! Why a command stops before its answer.
 use stl_syntax::UnitFault;
 use trace_reader::TraceRefusal;
 
@@ -24,4 +24,6 @@ pub(crate) enum Stop {
     Unwritten,
     /// There was too little memory.
     NoMemory,
+    /// The robustness at a node needs this denominator, of 2^60 or more.
+    Wide { node: u32, den: u128 },
 }

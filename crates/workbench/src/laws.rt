@@ -1,39 +1,62 @@
 //! Laws of runs. Each is the contract of a call that does nothing, so that the gate proves it.
-ghost use Rattle.std.specs.Prelude.{◌≡◌, ◌⊎◌, ◌≤◌, ℕ, List, true};
+ghost use Rattle.std.specs.Prelude.{◌≡◌, ◌≢◌, ◌⊎◌, ◌≤◌, ℕ, List, true};
 ghost use Rattle.std.specs.Io.KnownBytes.{IsAtEnd};
 ghost use Rattle.io_edge.specs.Calls.{Drained, Filled, HasFailed, HasRefused};
-ghost use Rattle.workbench.specs.Promises.{AreNoForm, IsBadRightly, IsBadWhereDue, IsRefusedRightly, IsRefusedWhereDue, IsAnsweredWhereDue, IsAnsweredRightly, IsCutOffRightly, IsToldRightly};
+ghost use Rattle.workbench.specs.Promises.{IsBadRightly, IsBadWhereDue, IsRefusedRightly, IsRefusedWhereDue, IsAnsweredWhereDue, IsAnsweredRightly, IsCutOffRightly, IsToldRightly};
 ghost use Rattle.stl_syntax.specs.Formula.{Formula};
-ghost use Rattle.report.specs.Report.{Command};
-ghost use Rattle.workbench.specs.Requests.{Request, AreHeld, whole, has_input};
-ghost use Rattle.workbench.specs.Settled.{HasFault};
+ghost use Rattle.report.specs.Report.{Command, robust};
+ghost use Rattle.workbench.specs.Requests.{Request, AreHeld, AreNone, whole, has_input};
+ghost use Rattle.workbench.specs.Settled.{HasFault, IsAnsweredWhole};
+ghost use Rattle.workbench.specs.Measured.{IsMeasured};
+ghost use Rattle.workbench.specs.Words.{AskCheck};
 ghost use Rattle.workbench.specs.Running.{IsEnd, IsRun};
 
-/// The promises of `check`, clause by clause, follow from how a run ends.
+/// 2 comes exactly where the words are of no form that is built.
+pub fn words_of_no_form_are_told()
+    ensures words { (words : List (List ℕ)) (i : Drained) (o e : Filled) (status : ℕ) → IsRun words i o e status → status ≡ 2 → AreNone words }
+    ensures words_due { (words : List (List ℕ)) (i : Drained) (o e : Filled) (status : ℕ) → IsRun words i o e status → AreNone words → status ≡ 2 }
+    ensures held { (words : List (List ℕ)) → AreHeld words }
+{}
+
+/// Where the words ask for `check`, its promises follow clause by clause from how a run ends.
 pub fn check_keeps_its_promises()
     // Which status comes, and when.
-    ensures status { (words : List (List ℕ)) (i : Drained) (o e : Filled) (status : ℕ) → IsRun words i o e status → status ≤ 7 }
-    ensures words { (words : List (List ℕ)) (i : Drained) (o e : Filled) (status : ℕ) → IsRun words i o e status → status ≡ 2 → AreNoForm words }
-    ensures words_due { (words : List (List ℕ)) (i : Drained) (o e : Filled) (status : ℕ) → IsRun words i o e status → AreNoForm words → status ≡ 2 }
-    ensures formula { (words : List (List ℕ)) (i : Drained) (o e : Filled) (status : ℕ) → IsRun words i o e status → IsBadRightly words status }
-    ensures formula_due { (words : List (List ℕ)) (i : Drained) (o e : Filled) (status : ℕ) → IsRun words i o e status → IsBadWhereDue words status }
-    ensures refused { (words : List (List ℕ)) (i : Drained) (o e : Filled) (status : ℕ) → IsRun words i o e status → IsRefusedRightly words i.before i.after i.ended status }
-    ensures due { (words : List (List ℕ)) (i : Drained) (o e : Filled) (status : ℕ) → IsRun words i o e status → IsRefusedWhereDue words i.before i.after i.ended status }
-    ensures answer_due { (words : List (List ℕ)) (i : Drained) (o e : Filled) (status : ℕ) → IsRun words i o e status
+    ensures status { (words : List (List ℕ)) (text : List ℕ) (i : Drained) (o e : Filled) (status : ℕ) → AskCheck words text → IsRun words i o e status
+        → status ≤ 7 }
+    ensures form { (words : List (List ℕ)) (text : List ℕ) (i : Drained) (o e : Filled) (status : ℕ) → AskCheck words text → IsRun words i o e status
+        → status ≢ 2 }
+    ensures formula { (words : List (List ℕ)) (text : List ℕ) (i : Drained) (o e : Filled) (status : ℕ) → AskCheck words text → IsRun words i o e status
+        → IsBadRightly words status }
+    ensures formula_due { (words : List (List ℕ)) (text : List ℕ) (i : Drained) (o e : Filled) (status : ℕ) → AskCheck words text → IsRun words i o e status
+        → IsBadWhereDue words status }
+    ensures refused { (words : List (List ℕ)) (text : List ℕ) (i : Drained) (o e : Filled) (status : ℕ) → AskCheck words text → IsRun words i o e status
+        → IsRefusedRightly words i.before i.after i.ended status }
+    ensures due { (words : List (List ℕ)) (text : List ℕ) (i : Drained) (o e : Filled) (status : ℕ) → AskCheck words text → IsRun words i o e status
+        → IsRefusedWhereDue words i.before i.after i.ended status }
+    ensures answer_due { (words : List (List ℕ)) (text : List ℕ) (i : Drained) (o e : Filled) (status : ℕ) → AskCheck words text → IsRun words i o e status
         → IsAnsweredWhereDue words i.before i.faults i.faults_after o.faults o.faults_after status }
-    ensures read { (words : List (List ℕ)) (i : Drained) (o e : Filled) (status : ℕ) → IsRun words i o e status → status ≡ 5 → HasFailed i }
-    ensures write { (words : List (List ℕ)) (i : Drained) (o e : Filled) (status : ℕ) → IsRun words i o e status → status ≡ 6 → HasRefused o }
+    ensures read { (words : List (List ℕ)) (text : List ℕ) (i : Drained) (o e : Filled) (status : ℕ) → AskCheck words text → IsRun words i o e status
+        → status ≡ 5 → HasFailed i }
+    ensures write { (words : List (List ℕ)) (text : List ℕ) (i : Drained) (o e : Filled) (status : ℕ) → AskCheck words text → IsRun words i o e status
+        → status ≡ 6 → HasRefused o }
 
     // What was read, and what was written.
-    ensures all_read { (words : List (List ℕ)) (i : Drained) (o e : Filled) (status : ℕ) → IsRun words i o e status
+    ensures all_read { (words : List (List ℕ)) (text : List ℕ) (i : Drained) (o e : Filled) (status : ℕ) → AskCheck words text → IsRun words i o e status
         → (status ≤ 1) ⊎ (status ≡ 6) → (i.ended ≡ true) × IsAtEnd i.after }
-    ensures answered { (words : List (List ℕ)) (i : Drained) (o e : Filled) (status : ℕ) → IsRun words i o e status
+    ensures answered { (words : List (List ℕ)) (text : List ℕ) (i : Drained) (o e : Filled) (status : ℕ) → AskCheck words text → IsRun words i o e status
         → IsAnsweredRightly words i.before i.after o.before o.after status }
-    ensures cut_off { (words : List (List ℕ)) (i : Drained) (o e : Filled) (status : ℕ) → IsRun words i o e status
+    ensures cut_off { (words : List (List ℕ)) (text : List ℕ) (i : Drained) (o e : Filled) (status : ℕ) → AskCheck words text → IsRun words i o e status
         → IsCutOffRightly words i.before i.after o.before o.after status }
-    ensures told { (words : List (List ℕ)) (i : Drained) (o e : Filled) (status : ℕ) → IsRun words i o e status
+    ensures told { (words : List (List ℕ)) (text : List ℕ) (i : Drained) (o e : Filled) (status : ℕ) → AskCheck words text → IsRun words i o e status
         → IsToldRightly words i.before i.after i.ended e.before e.after e.faults e.faults_after status }
-    ensures held { (words : List (List ℕ)) → AreHeld words }
+{}
+
+/// What `robust` wrote with 0 is a list of knots, with none to spare, that is the Sup-Inf value at each time of the trace, and tells the
+/// truth. The sign law: above 0 the formula holds at the time, and below 0 it fails. The margin law: for every number e of at least 0
+/// and below the size of the value, the truth at the time is the same in each trace with the same columns, scale, start and end in
+/// which each atom's expression differs by at most e at each time.
+pub fn margins_tell_the_truth()
+    ensures { (f : Formula) (bytes text : List ℕ) (status : ℕ) → IsAnsweredWhole robust f bytes status text → IsMeasured f bytes text }
 {}
 
 /// Where the bytes that were read have a fault, a command that holds the whole trace ends with 4, or for want of memory.

@@ -3,15 +3,18 @@
 
 mod answer;
 mod case;
+mod entry;
 mod fault;
 pub mod laws;
 mod line;
 mod output;
 mod reading;
 mod request;
+mod robust;
+mod signals;
 mod stream;
 mod texts;
 mod top;
-mod words;
 
+pub use entry::program;
 pub use top::run;

@@ -13,6 +13,7 @@ use itoa::Buffer;
 pub(crate) enum Detail<'a> {
     Nothing,
     Number(u64),
+    Large(u128),
     Name(&'a [u8]),
 }
 
@@ -63,6 +64,15 @@ fn write_number<E: Sink>(err: &mut E, number: u64) -> Result<(), Failed>
     write_all(err, buffer.format(number).as_bytes())
 }
 
+/// Writes a number of up to 128 bits in decimal.
+fn write_large<E: Sink>(err: &mut E, number: u128) -> Result<(), Failed>
+    ensures written { IsWritten (E.written err.old) (E.written err.new) result (decimal number) }
+    ensures cause { HasCause (E.faults err.old) (E.faults err.new) result }
+{
+    let mut buffer = Buffer::new();
+    write_all(err, buffer.format(number).as_bytes())
+}
+
 /// Writes the number of a line, if it has one.
 fn write_some<E: Sink>(err: &mut E, number: Option<u64>) -> Result<(), Failed>
     ensures written { IsWritten (E.written err.old) (E.written err.new) result (number_text number) }
@@ -82,6 +92,7 @@ fn write_detail<E: Sink>(err: &mut E, detail: Detail<'_>) -> Result<(), Failed>
     match detail {
         Detail::Nothing => Ok(()),
         Detail::Number(number) => write_number(err, number),
+        Detail::Large(number) => write_large(err, number),
         Detail::Name(name) => write_all(err, name),
     }
 }

@@ -2,7 +2,7 @@
 ghost use Rattle.std.specs.Prelude.{◌≡◌, ℕ, List, ◌++◌, codes, decimal};
 ghost use Rattle.stl_syntax.specs.Texts.{newline};
 ghost use Rattle.workbench.specs.Cases.{IsFault, IsNamed};
-ghost use Rattle.workbench.specs.ErrTexts.{formula_fault_text, trace_fault_text, unknown_text, unit_fault_text, what_text, out_of_memory};
+ghost use Rattle.workbench.specs.ErrTexts.{formula_fault_text, trace_fault_text, unknown_text, unit_fault_text, what_text, out_of_memory, wide_text};
 ghost use Rattle.workbench.specs.InputFaults.{Fault as FirstFault, fault_text};
 ghost use Rattle.workbench.specs.Lines.{line_text};
 
@@ -129,6 +129,19 @@ fn unit_line(n: u64, fault: UnitFault) -> Line<'static>
         }
         UnitFault::Reach { sum } => with_number(n, b": bounds sum to ", sum, b"\n"),
         UnitFault::Memory => Line::plain(NO_MEMORY),
+    }
+}
+
+/// The line of a node that needs too large a denominator.
+pub(crate) fn wide_line(node: u32, den: u128) -> Line<'static>
+    ensures { line_text result ≡ wide_text node den }
+{
+    Line {
+        head: b"wide: node ",
+        number: Some(u64::from(node)),
+        middle: b" needs denominator ",
+        detail: Detail::Large(den),
+        tail: b"\n",
     }
 }
 

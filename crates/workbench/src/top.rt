@@ -18,7 +18,8 @@ use crate::line::{Line, write_line};
 use crate::output::write_all;
 use crate::reading::read_trace;
 use crate::request::{Command, asked};
-use crate::texts::{NO_MEMORY, fault_line, formula_line};
+use crate::robust::measure;
+use crate::texts::{NO_MEMORY, fault_line, formula_line, wide_line};
 use io_edge::{Sink, Source};
 use std::alloc::Global;
 use stl_grammar::{FormulaFault, parse};
@@ -32,7 +33,7 @@ const LIMITS: Limits = Limits {
 };
 
 /// The line where the words are of no form.
-const USAGE: &[u8] = b"usage: check F\n";
+const USAGE: &[u8] = b"usage: check F | robust F\n";
 
 /// Writes the answer.
 fn write_answer<K: Sink>(out: &mut K, answer: &Answer) -> Result<bool, Stop>
@@ -59,6 +60,7 @@ fn answer(alloc: Global, command: Command, case: &Case) -> Result<Answer, Stop>
             Ok(answer) => Ok(answer),
             Err(_) => Err(Stop::NoMemory),
         },
+        Command::Robust => measure(alloc, case),
     }
 }
 
@@ -129,6 +131,7 @@ fn stop_line(formula: &Formula, stop: Stop) -> Line<'_>
         Stop::Unread => Line::plain(b"read fault\n"),
         Stop::Unwritten => Line::plain(b"write fault\n"),
         Stop::NoMemory => Line::plain(NO_MEMORY),
+        Stop::Wide { node, den } => wide_line(node, den),
     }
 }
 
@@ -141,6 +144,7 @@ fn stop_status(stop: Stop) -> u8
         Stop::Unread => 5,
         Stop::Unwritten => 6,
         Stop::NoMemory => 7,
+        Stop::Wide { .. } => 8,
     }
 }
 

@@ -21,7 +21,7 @@ gap_between-requires c =
     c.index-times-k.result c.index-times-k-in-loop-k.result c.len.ensures.well_formed.nodes.post_order c.requires.inside
     (rise_of c.args.trace.now (c.rows.ensures.trace (let n = c.rows.ensures.count in let s = c.requires.some in omega (arith, n, s))))
     c.requires.cuts c.loop-k.invariant
-    c.loop-k-test.true (sym c.index-times-k.is) (sym c.index-times-k-in-loop-k.is)).rises
+    (record { more = c.loop-k-test.true; first_is = sym c.index-times-k.is; second_is = sym c.index-times-k-in-loop-k.is })).rises
 
 pub place_at-place-requires-clause-up_to : goal.place_at-place-requires-clause-up_to
 place_at-place-requires-clause-up_to c =
@@ -29,7 +29,8 @@ place_at-place-requires-clause-up_to c =
     c.args.items.now.items c.loop-k.k c.loop-k.place
     c.loop-k.items.items c.index-times-k.result c.index-times-k-in-loop-k.result c.len.ensures.well_formed.nodes.post_order c.requires.inside
     (rise_of c.args.trace.now (c.rows.ensures.trace (let n = c.rows.ensures.count in let s = c.requires.some in omega (arith, n, s))))
-    c.requires.cuts c.loop-k.invariant c.loop-k-test.true (sym c.index-times-k.is) (sym c.index-times-k-in-loop-k.is) in
+    c.requires.cuts c.loop-k.invariant
+    (record { more = c.loop-k-test.true; first_is = sym c.index-times-k.is; second_is = sym c.index-times-k-in-loop-k.is }) in
     step_up_to c.args.formula.now.nodes c.args.trace.now c.args.node c.args.signal.now c.requires.values c.requires.told c.loop-k.place
     (value c.index-times-k.result) (value c.index-times-k-in-loop-k.result) step
 
@@ -39,7 +40,8 @@ truth_at-here-requires-clause-within c =
     c.args.items.now.items c.loop-k.k c.loop-k.place
     c.loop-k.items.items c.index-times-k.result c.index-times-k-in-loop-k.result c.len.ensures.well_formed.nodes.post_order c.requires.inside
     (rise_of c.args.trace.now (c.rows.ensures.trace (let n = c.rows.ensures.count in let s = c.requires.some in omega (arith, n, s))))
-    c.requires.cuts c.loop-k.invariant c.loop-k-test.true (sym c.index-times-k.is) (sym c.index-times-k-in-loop-k.is) in
+    c.requires.cuts c.loop-k.invariant
+    (record { more = c.loop-k-test.true; first_is = sym c.index-times-k.is; second_is = sym c.index-times-k-in-loop-k.is }) in
     step_within c.args.formula.now.nodes c.args.trace.now c.args.node c.args.signal.now c.requires.values c.requires.told c.loop-k.place
     (value c.index-times-k.result) (value c.index-times-k-in-loop-k.result) step
 
@@ -49,14 +51,25 @@ loop-k-preserved c =
     c.args.items.now.items c.loop-k.k c.loop-k.place
     c.loop-k.items.items c.index-times-k.result c.index-times-k-in-loop-k.result c.len.ensures.well_formed.nodes.post_order c.requires.inside
     (rise_of c.args.trace.now (c.rows.ensures.trace (let n = c.rows.ensures.count in let s = c.requires.some in omega (arith, n, s))))
-    c.requires.cuts c.loop-k.invariant c.loop-k-test.true (sym c.index-times-k.is) (sym c.index-times-k-in-loop-k.is) in
+    c.requires.cuts c.loop-k.invariant
+    (record { more = c.loop-k-test.true; first_is = sym c.index-times-k.is; second_is = sym c.index-times-k-in-loop-k.is }) in
     let p = c.in_ok-push_item-2.ensures in
     let q = c.in_ok-push_item-3.ensures in
     let here = c.truth_at-here.ensures in
     listed_on c.args.formula.now.nodes c.args.trace.now c.args.node c.args.signal.now c.requires.values c.requires.told c.args.times.now c.args.items.now.items
     c.loop-k.k c.loop-k.place c.place_at-place.result c.loop-k.items.items c.push_item-in-loop-k-2.new.items.items c.index-times-k.result
-    c.index-times-k-in-loop-k.result c.knot-in-loop-k.result here.0 p.0 q.0
-    c.loop-k-test.true (sym c.index-times-k.is) (sym c.index-times-k-in-loop-k.is) step c.loop-k.invariant c.knot-in-loop-k.ensures
-    c.place_at-place.ensures.inside c.place_at-place.ensures.place
-    (record { node = p.2; on_is = p.3 ∙ c.gap_between.ensures; holds = p.4 ∙ c.holds-after.ensures }) here.2
-    (record { node = q.2; on_is = q.3 ∙ c.instant-in-loop-k.ensures; holds = q.4 ∙ sym here.1 }) (q.1 ∙ ap (λ xs. xs ++ q.0 ∷ []) p.1)
+    c.index-times-k-in-loop-k.result
+    (record { more = c.loop-k-test.true; first_is = sym c.index-times-k.is; second_is = sym c.index-times-k-in-loop-k.is })
+    step c.loop-k.invariant (record {
+      knot = c.knot-in-loop-k.result;
+      shape = here.0;
+      between = p.0;
+      point = q.0;
+      at = c.knot-in-loop-k.ensures;
+      inside = c.place_at-place.ensures.inside;
+      place_of = c.place_at-place.ensures.place;
+      gap_is = record { node = p.2; on_is = p.3 ∙ c.gap_between.ensures; holds = p.4 ∙ c.holds-after.ensures };
+      worth = here.2;
+      point_is = record { node = q.2; on_is = q.3 ∙ c.instant-in-loop-k.ensures; holds = q.4 ∙ sym here.1 };
+      grew = q.1 ∙ ap (λ xs. xs ++ q.0 ∷ []) p.1;
+    })

@@ -2,7 +2,7 @@ use Rattle.std.proofs.Common.{◌≡◌, ◌-◌, ◌<◌, length, Some, subst, 
 use Rattle.std.specs.Prelude.{slice_get}
 use Rattle.std.proofs.lemmas.Result.{IfOk-weaker}
 use Rattle.value_laws.specs.Kinds.{truth_shape}
-use Rattle.stl_syntax.specs.SupInf.{truth_setting}
+use Rattle.stl_syntax.specs.SupInf.{truths, truth_setting}
 use Rattle.workbench.specs.Judging.{IsSignalText}
 use Rattle.workbench.proofs.Judged.{root_told, judged}
 use Rattle.workbench.proofs.answer.judge.Goals as goal
@@ -17,6 +17,6 @@ returns c =
     let all = c.in_ok-nodes.ensures in
     let values = (c.told_have_values.ensures nodes c.in_ok-nodes.nodes (truth_setting case.trace) c.len-root.ensures.well_formed.nodes.post_order refl all.told (length nodes - 1) (omega (arith, some))).0 in
     IfOk-weaker c.answer_of.result _ _
-    (λ a is f is_case. judged case f is_case values x (root_told case c.in_ok-nodes.nodes all some x at) a.holds a.text
+    (λ a is f is_case. judged case f is_case values x (root_told truth_shape truths case c.in_ok-nodes.nodes all some x at) a.holds a.text
     (subst (λ s. IsSignalText truth_shape s x a.holds a.text) c.scale-scale.ensures.scale is))
     c.answer_of.ensures

@@ -1,4 +1,6 @@
-use Rattle.std.proofs.Common.{rules, to_z-of_z, FitsSigned, ◌≡◌, pos, ◌-ℤ◌, arith, to_z, of_z}
+use Rattle.std.proofs.Common.{rules, to_z-of_z, FitsSigned, ◌≡◌, ◌*◌, ◌^◌, ◌<◌, ◌≤◌, pos, ◌-ℤ◌, arith, to_z, of_z, sym, subst}
+use Rattle.std.proofs.Math.Nat.{mul-le-mul_left}
+use Rattle.std.specs.Int.RustNames.{unsigned_abs}
 use Rattle.std.proofs.lemmas.Int.{ints, fits_signed_from_abs}
 use mir.Syntax.{w128}
 use Rattle.frac128.proofs.Ahead.{ahead_fraction, gap_small}
@@ -34,3 +36,16 @@ returns-clause-den c =
     let run : to_z w128 (of_z w128 c.from-5.result) ≡ pos f.run = omega (arith, ints) in
     let den : to_z w128 (of_z w128 c.from-7.result) ≡ pos t.den = omega (arith, ints) in
     rw (run, den) at c.value_ahead.ensures.den
+
+pub returns-clause-small : goal.returns-clause-small
+returns-clause-small c =
+    let f = c.args.self.now in
+    let t = c.args.t.now in
+    let run : to_z w128 (of_z w128 c.from-5.result) ≡ pos f.run = omega (arith, ints) in
+    let den : to_z w128 (of_z w128 c.from-7.result) ≡ pos t.den = omega (arith, ints) in
+    let e : c.value_ahead.result.den ≡ pos (f.run * t.den) = rw (run, den) at c.value_ahead.ensures.den in
+    let few : f.run < 2 ^ 32 = omega (arith, ints) in
+    let below : t.den ≤ 2 ^ 60 = let s = t.small in omega arith in
+    let product : f.run * t.den ≤ f.run * 2 ^ 60 = mul-le-mul_left f.run below in
+    let small : f.run * t.den < 2 ^ 92 = omega (arith, product, few) in
+    subst (λ z. unsigned_abs z < 2 ^ 92) (sym e) small

@@ -1,0 +1,33 @@
+-- Bytes that grow by one text after another, or by a first part of the last.
+use Rattle.std.proofs.Common.{◌≡◌, ℕ, List, [], ◌++◌, append-nil, append_assoc, refl, sym, ap, ◌∙◌}
+use Rattle.report.specs.Appended.{Grew, GrewInPart, Then, Is}
+
+-- some text of a kind
+abbrev pub Some : (List ℕ → Type 0) → Type 0
+Some P = (text : List ℕ) × P text
+
+pub grew_is : (word old new : List ℕ) → new ≡ old ++ word → Grew (Is word) old new
+grew_is word old new e = (word, refl, e)
+
+-- nothing came
+pub part_none : (P : List ℕ → Type 0) (old new : List ℕ) → Some P → new ≡ old → GrewInPart P old new
+part_none P old new (text, p) e = ([], text, p, e ∙ sym (append-nil old))
+
+pub grew_then : (P Q : List ℕ → Type 0) (old mid new : List ℕ) → Grew P old mid → Grew Q mid new → Grew (Then P Q) old new
+grew_then P Q old mid new (a, p, e) (b, q, f) = (a ++ b, (a, b, p, q, refl), f ∙ ap (λ w. w ++ b) e ∙ append_assoc old a b)
+
+pub part_then : (P Q : List ℕ → Type 0) (old mid new : List ℕ) → Grew P old mid → GrewInPart Q mid new → GrewInPart (Then P Q) old new
+part_then P Q old mid new (a, p, e) (b, rest, q, f) =
+    (a ++ b, rest, (a, b ++ rest, p, q, append_assoc a b rest), f ∙ ap (λ w. w ++ b) e ∙ append_assoc old a b)
+
+pub part_first : (P Q : List ℕ → Type 0) (old new : List ℕ) → GrewInPart P old new → Some Q → GrewInPart (Then P Q) old new
+part_first P Q old new (a, rest, p, e) (b, q) = (a, rest ++ b, (a ++ rest, b, p, q, sym (append_assoc a rest b)), e)
+
+pub grew_as : (P Q : List ℕ → Type 0) (old new : List ℕ) → ((w : List ℕ) → P w → Q w) → Grew P old new → Grew Q old new
+grew_as P Q old new h (a, p, e) = (a, h a p, e)
+
+pub part_as : (P Q : List ℕ → Type 0) (old new : List ℕ) → ((w : List ℕ) → P w → Q w) → GrewInPart P old new → GrewInPart Q old new
+part_as P Q old new h (a, rest, p, e) = (a, rest, h (a ++ rest) p, e)
+
+pub some_then : (P Q : List ℕ → Type 0) → Some P → Some Q → Some (Then P Q)
+some_then P Q (a, p) (b, q) = (a ++ b, (a, b, p, q, refl))

@@ -1,0 +1,193 @@
+-- The lines of margins from their parts.
+use Rattle.std.proofs.Common.{◌≡◌, ℕ, suc, zero, ◌+◌, List, [], ◌∷◌, ◌++◌, drop, length, codes, append-nil, append_assoc, refl, sym, ap, ◌∙◌, arith, Some, subst}
+use Rattle.std.specs.Prelude.{slice_get, Result, OnOk, OnErr}
+use Rattle.std.proofs.lemmas.Result.{on_ok_weaker, on_err_weaker}
+use Rattle.rational.specs.Time.{Rational, Within, ◌≤ʳ◌}
+use Rattle.rational.specs.Rational.{IsWithin}
+use Rattle.rational.specs.Extended.{Affine, Extended, minus_infinity, finite, infinity, value_at}
+use Rattle.rational.specs.Knots as plain
+use Rattle.rational.specs.Knots.{Piece}
+use Rattle.rational.proofs.Order.{le_trans, same_refl}
+use Rattle.frac128.specs.Value.{value}
+use Rattle.value_laws.specs.Members.{ShapeOf}
+use Rattle.pl_signal.specs.declared.knot.Knot.{Knot}
+use Rattle.pl_signal.specs.Knots.{time, start, stop, IsSignal}
+use Rattle.pl_signal.specs.Plain.{plain_knot, plain_piece, pieces_of, knots_of}
+use Rattle.pl_signal.proofs.Values.{some_is, worth_at, worth_within}
+use Rattle.value_laws.specs.declared.margin.Margin.{Margin}
+use Rattle.value_laws.specs.Margins.{margin_function}
+use Rattle.stl_syntax.specs.Texts.{fraction_text, IsNumberText, IsValueText, IsKnotLine, IsPieceLine, ArePieceLines, AreMarginLines, newline}
+use Rattle.stl_syntax.specs.declared.scale.Scale.{Scale}
+use Rattle.report.specs.Appended.{Grew, GrewInPart, Then, Is}
+use Rattle.report.specs.MarginLines.{IsTimeAfter, IsValueAfter, AreNextLines, AreLaterLines}
+use Rattle.report.proofs.Growths as growth
+use Rattle.report.proofs.Growths.{grew_is, part_none, grew_then, part_then, part_first, grew_as, part_as, some_then}
+use Rattle.report.specs.Numbers.{signed, IsInUnits}
+use Rattle.report.specs.declared.number.Lowest.{Lowest}
+use Rattle.report.proofs.Spans.{number_text}
+use Rattle.report.proofs.Lines.{number_exists}
+
+-- ---- numbers and values
+
+module _ {T E : Type 0} (r : Result T E) (digits : ℕ) (v : Rational) (n : Lowest) (old new : List ℕ) (u : IsInUnits digits v n.negative n.size n.den) where
+  abbrev its_text : List ℕ
+  its_text = fraction_text (signed n.negative n.size) n.den
+
+  is_text : IsNumberText digits v its_text
+  is_text = number_text digits v n.negative n.size n.den u
+
+  pub number_ok : OnOk r (new ≡ old ++ its_text) → OnOk r (Grew (IsNumberText digits v) old new)
+  number_ok = on_ok_weaker r (λ e. (its_text, is_text, e))
+
+  pub number_err : OnErr r (GrewInPart (λ w. w ≡ its_text) old new) → OnErr r (GrewInPart (IsNumberText digits v) old new)
+  number_err = on_err_weaker r (part_as (λ w. w ≡ its_text) (IsNumberText digits v) old new (λ w e. subst (IsNumberText digits v) (sym e) is_text))
+
+module _ {T E : Type 0} (r : Result T E) (digits : ℕ) (m k : Margin) (t : Rational) (old new : List ℕ) (same : m ≡ k) where
+  pub value_ok : OnOk r (Grew (IsValueText digits (value_at (margin_function k) t)) old new) → OnOk r (Grew (IsValueText digits (value_at (margin_function m) t)) old new)
+  value_ok = subst (λ x. OnOk r (Grew (IsValueText digits (value_at (margin_function x) t)) old new)) (sym same)
+
+  pub value_err : OnErr r (GrewInPart (IsValueText digits (value_at (margin_function k) t)) old new)
+      → OnErr r (GrewInPart (IsValueText digits (value_at (margin_function m) t)) old new)
+  value_err = subst (λ x. OnErr r (GrewInPart (IsValueText digits (value_at (margin_function x) t)) old new)) (sym same)
+
+-- a piece that is pushed
+pub pushed_ok : {T E : Type 0} (r : Result T E) (word old new : List ℕ) → OnOk r (new ≡ old ++ word) → OnOk r (Grew (Is word) old new)
+pushed_ok r word old new = on_ok_weaker r (grew_is word old new)
+
+pub pushed_err : {T E : Type 0} (r : Result T E) (word old new : List ℕ) → OnErr r (new ≡ old) → OnErr r (GrewInPart (Is word) old new)
+pushed_err r word old new = on_err_weaker r (part_none (Is word) old new (word, refl))
+
+-- ---- there is a text of each kind
+
+pub value_exists : (digits : ℕ) (v : Extended) → growth.Some (IsValueText digits v)
+value_exists digits minus_infinity = (codes "-inf", refl)
+value_exists digits (finite x) = number_exists digits x
+value_exists digits infinity = (codes "inf", refl)
+
+pub time_after_exists : (lead : List ℕ) (digits : ℕ) (t : Rational) → growth.Some (IsTimeAfter lead digits t)
+time_after_exists lead digits t = some_then (Is lead) (IsNumberText digits t) (lead, refl) (number_exists digits t)
+
+pub value_after_exists : (lead : List ℕ) (digits : ℕ) (v : Extended) → growth.Some (IsValueAfter lead digits v)
+value_after_exists lead digits v = some_then (Is lead) (IsValueText digits v) (lead, refl) (value_exists digits v)
+
+nine : (o a c b p x w d n : List ℕ) → ((((o ++ a) ++ (c ++ b)) ++ (p ++ x)) ++ (w ++ d)) ++ n ≡ o ++ a ++ c ++ b ++ p ++ x ++ w ++ d ++ n
+nine o a c b p x w d n = simp append_assoc
+
+module _ (scale : Scale) where
+  -- the parts of a knot's line
+  abbrev pub KnotParts : plain.Knot → List ℕ → Type 0
+  KnotParts k = Then (Then (IsTimeAfter (codes "[") scale.time k.time) (IsValueAfter (codes "] ") scale.value k.value)) (Is newline)
+
+  pub knot_line : (k : plain.Knot) (text : List ℕ) → KnotParts k text → IsKnotLine scale k text
+  knot_line k text (ab, c, (a, b, (a0, a1, a2, a3, a4), (b0, b1, b2, b3, b4), e), g, f) =
+      (a1, b1, a3, b3, simp (f, e, g, a4, b4, a2, b2, append_assoc))
+
+  pub knot_line_exists : (k : plain.Knot) → growth.Some (IsKnotLine scale k)
+  knot_line_exists k =
+      let parts = some_then (Then (IsTimeAfter (codes "[") scale.time k.time) (IsValueAfter (codes "] ") scale.value k.value)) (Is newline)
+          (some_then (IsTimeAfter (codes "[") scale.time k.time) (IsValueAfter (codes "] ") scale.value k.value)
+          (time_after_exists (codes "[") scale.time k.time) (value_after_exists (codes "] ") scale.value k.value)) (newline, refl) in
+      (parts.0, knot_line k parts.0 parts.1)
+
+  -- the parts of a piece's line
+  abbrev pub PieceTimes : plain.Knot → Piece → List ℕ → Type 0
+  PieceTimes k p = Then (IsTimeAfter (codes "(") scale.time k.time) (IsTimeAfter (codes ",") scale.time p.next.time)
+
+  abbrev pub PieceFront : plain.Knot → Piece → List ℕ → Type 0
+  PieceFront k p = Then (PieceTimes k p) (IsValueAfter (codes ") ") scale.value p.from)
+
+  abbrev pub PieceLimits : plain.Knot → Piece → List ℕ → Type 0
+  PieceLimits k p = Then (PieceFront k p) (IsValueAfter (codes " -> ") scale.value p.to)
+
+  abbrev pub PieceParts : plain.Knot → Piece → List ℕ → Type 0
+  PieceParts k p = Then (PieceLimits k p) (Is newline)
+
+  pub piece_line : (k : plain.Knot) (p : Piece) (text : List ℕ) → PieceParts k p text → IsPieceLine scale k p text
+  piece_line k p text (abcd, n, (abc, d, (ab, c, (a, b, (a0, a1, a2, a3, a4), (b0, b1, b2, b3, b4), e), (c0, c1, c2, c3, c4), f), (d0, d1, d2, d3, d4), g), is_n, h) =
+      (a1, b1, c1, d1, a3, b3, c3, d3, simp (h, g, f, e, is_n, a4, b4, c4, d4, a2, b2, c2, d2) (nine (codes "(") a1 (codes ",") b1 (codes ") ") c1 (codes " -> ") d1 newline))
+
+  pub piece_line_exists : (k : plain.Knot) (p : Piece) → growth.Some (IsPieceLine scale k p)
+  piece_line_exists k p =
+      let times = some_then (IsTimeAfter (codes "(") scale.time k.time) (IsTimeAfter (codes ",") scale.time p.next.time)
+          (time_after_exists (codes "(") scale.time k.time) (time_after_exists (codes ",") scale.time p.next.time) in
+      let front = some_then (PieceTimes k p) (IsValueAfter (codes ") ") scale.value p.from) times (value_after_exists (codes ") ") scale.value p.from) in
+      let limits = some_then (PieceFront k p) (IsValueAfter (codes " -> ") scale.value p.to) front (value_after_exists (codes " -> ") scale.value p.to) in
+      let parts = some_then (PieceLimits k p) (Is newline) limits (newline, refl) in
+      (parts.0, piece_line k p parts.0 parts.1)
+
+  pub piece_lines_exist : (k : plain.Knot) (pieces : List Piece) → growth.Some (ArePieceLines scale k pieces)
+  piece_lines_exist k [] = ([], refl)
+  piece_lines_exist k (p ∷ pieces) =
+      let piece = piece_line_exists k p in
+      let knot = knot_line_exists p.next in
+      let later = piece_lines_exist p.next pieces in
+      (piece.0 ++ knot.0 ++ later.0, (piece.0, knot.0, later.0, piece.1, knot.1, later.1, refl))
+
+-- a list from a place on
+pub drop_at : {X : Type 0} (xs : List X) (i : ℕ) (x : X) → slice_get xs i ≡ Some x → drop i xs ≡ x ∷ drop (suc i) xs
+drop_at [] i x h = absurd (let k = h in cc)
+drop_at (y ∷ xs) zero x h = ap (λ z. z ∷ xs) (some_is h)
+drop_at (y ∷ xs) (suc i) x h = drop_at xs i x h
+
+-- the last of a list
+pub last_of : {X : Type 0} (xs : List X) (i : ℕ) → suc i ≡ length xs → (x : X) × (slice_get xs i ≡ Some x) × (drop (suc i) xs ≡ [])
+last_of [] i e = absurd (omega (arith, e))
+last_of (x ∷ []) zero e = (x, refl, refl)
+last_of (x ∷ []) (suc i) e = absurd (omega (arith, e))
+last_of (x ∷ y ∷ xs) zero e = absurd (omega (arith, e))
+last_of (x ∷ y ∷ xs) (suc i) e = last_of (y ∷ xs) i (omega (arith, e))
+
+module _ {P : Type 0} (shape : ShapeOf P) (scale : Scale) where
+  -- the lines up to the knot at place n: with those after it they are the lines after that of the first knot
+  abbrev pub AreLinesTo : List (Knot P) → ℕ → List ℕ → Type 0
+  AreLinesTo ks n text =
+      (k : Knot P) (rest : List (Knot P)) (later : List ℕ) → drop n ks ≡ k ∷ rest
+      → ArePieceLines scale (plain_knot shape k) (pieces_of shape k rest) later → AreLaterLines shape scale ks (text ++ later)
+
+  pub lines_begin : (ks : List (Knot P)) → AreLinesTo ks 0 []
+  lines_begin [] k rest later e lines = absurd (let f = e in cc)
+  lines_begin (x ∷ ks) k rest later e lines =
+      let same : x ≡ k = cc in
+      let same_rest : ks ≡ rest = cc in
+      subst (λ l. ArePieceLines scale (plain_knot shape l) (pieces_of shape l ks) later) (sym same)
+      (subst (λ ls. ArePieceLines scale (plain_knot shape k) (pieces_of shape k ls) later) (sym same_rest) lines)
+
+  pub lines_more : (ks : List (Knot P)) (i : ℕ) (k n : Knot P) (text next : List ℕ) → slice_get ks i ≡ Some k → slice_get ks (suc i) ≡ Some n
+      → AreLinesTo ks i text → AreNextLines shape scale k n next → AreLinesTo ks (suc i) (text ++ next)
+  lines_more ks i k n text next at at_next before (piece, knot, is_piece, is_knot, e) m rest later f lines =
+      let here = drop_at ks (suc i) n at_next in
+      let same : n ≡ m = let g = sym here ∙ f in cc in
+      let same_rest : drop (suc (suc i)) ks ≡ rest = let g = sym here ∙ f in cc in
+      let all = before k (n ∷ rest) (piece ++ knot ++ later) (drop_at ks i k at ∙ ap (λ xs. k ∷ xs) (here ∙ ap (λ xs. n ∷ xs) same_rest))
+          (piece, knot, later, is_piece, is_knot, subst (λ l. ArePieceLines scale (plain_knot shape l) (pieces_of shape l rest) later) (sym same) lines, refl) in
+      subst (AreLaterLines shape scale ks) (simp (e, append_assoc)) all
+
+  pub lines_end : (ks : List (Knot P)) (i : ℕ) (text : List ℕ) → suc i ≡ length ks → AreLinesTo ks i text → AreLaterLines shape scale ks text
+  lines_end ks i text last before =
+      let (k, at, none) = last_of ks i last in
+      subst (AreLaterLines shape scale ks) (append-nil text) (before k [] [] (drop_at ks i k at ∙ ap (λ xs. k ∷ xs) none) refl)
+
+  -- where the lines up to a knot were written, and a part of the next, the rest of them all is there to be written
+  pub lines_part : (ks : List (Knot P)) (i : ℕ) (k n : Knot P) (old mid new : List ℕ) → slice_get ks i ≡ Some k → slice_get ks (suc i) ≡ Some n
+      → Grew (AreLinesTo ks i) old mid → GrewInPart (AreNextLines shape scale k n) mid new → GrewInPart (AreLaterLines shape scale ks) old new
+  lines_part ks i k n old mid new at at_next (text, before, e) (a, b, next, f) =
+      let more = piece_lines_exist scale (plain_knot shape n) (pieces_of shape n (drop (suc (suc i)) ks)) in
+      let all = lines_more ks i k n text (a ++ b) at at_next before next n (drop (suc (suc i)) ks) more.0 (drop_at ks (suc i) n at_next) more.1 in
+      (text ++ a, b ++ more.0, subst (AreLaterLines shape scale ks) (simp append_assoc) all, f ∙ ap (λ w. w ++ a) e ∙ append_assoc old text a)
+
+  pub margin_lines : (ks : List (Knot P)) (k : Knot P) → slice_get ks 0 ≡ Some k → (text : List ℕ)
+      → Then (IsKnotLine scale (plain_knot shape k)) (AreLaterLines shape scale ks) text → AreMarginLines scale (knots_of shape ks) text
+  margin_lines [] k at text h = absurd (let e = at in cc)
+  margin_lines (x ∷ ks) k at text (first, later, is_first, is_later, e) =
+      (first, later, subst (λ l. IsKnotLine scale (plain_knot shape l) first) (sym (some_is at)) is_first, is_later, e)
+
+  pub later_exist : (ks : List (Knot P)) (k : Knot P) → slice_get ks 0 ≡ Some k → growth.Some (AreLaterLines shape scale ks)
+  later_exist [] k at = absurd (let e = at in cc)
+  later_exist (x ∷ ks) k at = piece_lines_exist scale (plain_knot shape x) (pieces_of shape x ks)
+
+-- a knot's time is within what the ends are
+pub knot_within : {P : Type 0} (shape : ShapeOf P) (n : ℕ) (ks : List (Knot P)) (i : ℕ) (k : Knot P) → IsSignal shape ks → slice_get ks i ≡ Some k
+    → IsWithin n (start ks) → IsWithin n (stop ks) → IsWithin n (time k)
+knot_within shape n ks i k s at from to =
+    let w = worth_within shape ks (time k) (value_at (shape.function k.point) (time k)) s (worth_at shape ks i k (time k) at (same_refl (time k))) in
+    (le_trans from.0 w.above, le_trans w.below to.1)

@@ -1,0 +1,1 @@
+use Rattle.report.proofs.number.sized.Goals as goal

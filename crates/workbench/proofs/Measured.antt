@@ -1,0 +1,70 @@
+-- The answer of `robust` for a case: what the root's signal tells, and why there is none.
+use Rattle.std.proofs.Common.{◌≡◌, ℕ, ◌<◌, ◌≤◌, ◌^◌, ◌+◌, ◌*◌, List, inl, inr, pos, refl, ap, subst, arith, true}
+use Rattle.rational.specs.Time.{Rational, whole, ◌≈◌}
+use Rattle.rational.specs.Rational.{IsWithin}
+use Rattle.rational.proofs.Order.{le_trans, le_of_same, ge_of_same}
+use Rattle.frac128.specs.Value.{value}
+use Rattle.value_laws.specs.declared.margin.Margin.{Margin}
+use Rattle.value_laws.specs.Margins.{margin_function}
+use Rattle.value_laws.specs.Kinds.{margin_shape}
+use Rattle.pl_signal.specs.declared.knot.Knot.{Knot}
+use Rattle.pl_signal.specs.declared.faults.WidePair.{WidePair}
+use Rattle.pl_signal.specs.declared.faults.WidePair.TheVariants.{Cross, Value}
+use Rattle.pl_signal.specs.Moves.{Tells}
+use Rattle.pl_signal.specs.Plain.{knots_of}
+use Rattle.stl_syntax.specs.Formula.{Formula, root}
+use Rattle.stl_syntax.specs.Trace.{start, stop}
+use Rattle.stl_syntax.specs.Knots.{Knots}
+use Rattle.stl_syntax.specs.SupInf.{SupInf, HasValues, HasInfs, margins, margin_setting}
+use Rattle.stl_syntax.specs.Texts.{AreMarginLines}
+use Rattle.stl_syntax.specs.Verdicts.{DescribesMargins}
+use Rattle.stl_syntax.specs.declared.node.Node.{Node}
+use Rattle.stl_syntax.proofs.LawProofs.{margins_hold}
+use Rattle.offline_eval.specs.Evaluation.{IsCauseAt}
+use Rattle.offline_eval.specs.declared.faults.EvalFault.{EvalFault}
+use Rattle.offline_eval.specs.declared.faults.EvalFault.TheVariants as E
+use Rattle.report.specs.Report.{robust}
+use Rattle.report.proofs.MarginLaw.{knots_describe}
+use Rattle.workbench.specs.declared.case.Case.{Case}
+use Rattle.workbench.specs.Cases.{IsCase}
+use Rattle.workbench.specs.Judging.{IsFaultIn, denominator_of, stop_of_fault}
+use Rattle.workbench.specs.Settled.{TellTruth, IsNeeded}
+use Rattle.workbench.specs.Wholes.{IsAnswerOf, IsUnanswered}
+
+-- a time of 32 bits is within the limits
+pub tick_within : (t : Rational) (n : ℕ) → t ≈ whole (pos n) → n ≤ 4294967295 → IsWithin (2 ^ 34) t
+tick_within t n e small = (
+    le_trans (record { le = omega arith }) (ge_of_same e),
+    le_trans (le_of_same e) (record { le = omega (arith, small) }),
+)
+
+module _ (c : Case) (f : Formula) (case : IsCase f c) where
+  -- the text and the law of margins over given nodes, with times and values in units of a scale
+  Over : List ℕ → Formula → Type 0
+  Over text g =
+      ((knots : Knots) × DescribesMargins knots (root g.nodes) c.trace × AreMarginLines g.scale knots text)
+      × TellTruth (root g.nodes) c.trace
+
+  pub measured : (x : List (Knot Margin)) (text : List ℕ) → HasValues (root c.formula.nodes) (margin_setting c.trace) → HasInfs (root c.formula.nodes) (margin_setting c.trace)
+      → Tells margin_shape (SupInf (root c.formula.nodes) (margin_setting c.trace)) (start c.trace) (stop c.trace) x
+      → AreMarginLines c.formula.scale (knots_of margin_shape x) text → IsAnswerOf robust f c.trace true text
+  unfolding Over
+  measured x text values infs tells lines =
+      let own : Over text c.formula = (
+              (knots_of margin_shape x, knots_describe margin_shape (root c.formula.nodes) c.trace x tells, lines),
+              λ tr' e positive like close. margins_hold (root c.formula.nodes) c.trace tr' e positive like close values infs,
+          ) in
+      let over = subst (Over text) case.formula own in
+      record { verdict = refl; written = over.0; few = λ n h. h; sure = over.1 }
+
+  needed : (i : ℕ) (pair : WidePair Margin) → IsCauseAt margin_shape c.formula.nodes (margin_setting c.trace) i pair
+      → IsNeeded c.formula.nodes (margin_setting c.trace) i (denominator_of pair)
+  needed i (Cross p q a b den) is = inl (margin_function p, margin_function q, value a, value b, is)
+  needed i (Value p at den) is = inr (margin_function p, value at, is)
+
+  pub unmeasured : (e : EvalFault Margin) → IsFaultIn margin_shape margins c e → IsUnanswered robust f c.trace (stop_of_fault e)
+  unmeasured E.Memory is = tt
+  unmeasured (E.Wide cause) is = (
+      subst (λ (g : Formula). IsNeeded g.nodes (margin_setting c.trace) cause.node (denominator_of cause.pair)) case.formula (needed cause.node cause.pair is.1),
+      λ n h. h,
+  )

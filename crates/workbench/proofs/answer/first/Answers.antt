@@ -1,6 +1,0 @@
-use Rattle.std.proofs.Common.{◌∙◌}
-use Rattle.workbench.proofs.Judged.{no_row, first_is}
-use Rattle.workbench.proofs.answer.first.Goals as goal
-
-pub returns : goal.returns
-returns c = c.time.ensures no_row ∙ first_is c.args.trace.now.rows c.requires

@@ -1,0 +1,68 @@
+//! The answer of `robust` for a formula and a trace.
+ghost use Rattle.std.specs.Prelude.{◌≡◌, ◌<◌, length, MatchResult};
+ghost use Rattle.stl_syntax.specs.Formula.{Formula as Parsed};
+ghost use Rattle.report.specs.Report.{robust};
+ghost use Rattle.workbench.specs.Cases.{IsCase};
+ghost use Rattle.workbench.specs.Judging.{denominator_of, stop_of_fault};
+ghost use Rattle.workbench.specs.Wholes.{IsAnswerOf, IsUnanswered};
+
+use crate::answer::Answer;
+use crate::case::Case;
+use crate::fault::Stop;
+use crate::signals::nodes_of;
+use offline_eval::EvalFault;
+use offline_eval::laws::told_have_values;
+use pl_signal::WidePair;
+use report::put_margins;
+use std::alloc::Global;
+use std::marker::Brand;
+use std::sync::ledger::Blank;
+use stl_syntax::Text;
+use value_laws::{Margin, Shape};
+
+/// The denominator that a pair needs.
+fn denominator(pair: &WidePair<Margin>) -> u128
+    ensures { result ≡ denominator_of pair.now }
+{
+    match pair {
+        WidePair::Cross { den, .. } => *den,
+        WidePair::Value { den, .. } => *den,
+    }
+}
+
+/// Why there is no answer, where an evaluation has none.
+fn fault_stop(fault: EvalFault<Margin>) -> Stop
+    ensures { result ≡ stop_of_fault fault }
+{
+    match fault {
+        EvalFault::Memory => Stop::NoMemory,
+        EvalFault::Wide(cause) => Stop::Wide {
+            node: cause.node,
+            den: denominator(&cause.pair),
+        },
+    }
+}
+
+/// The robustness over a trace that has a row, of the formula that is bound to it: its knots and pieces as lines.
+///
+/// # Errors
+/// A denominator of 2^60 or more that a node needs; want of memory.
+pub(crate) fn measure(alloc: Global, case: &Case) -> Result<Answer, Stop>
+    requires case { (f : Parsed) × IsCase f case.now }
+    requires some { 0 < length case.now.trace.rows }
+    ensures { (f : Parsed) → IsCase f case.now → MatchResult result
+        (λ a. IsAnswerOf robust f case.now.trace a.holds a.text) (IsUnanswered robust f case.now.trace) }
+{
+    let scale = case.formula.scale();
+    let root = case.formula.len() - 1;
+    let nodes = match nodes_of::<Margin, Brand>(alloc, case, Blank::new(1)) {
+        Ok(nodes) => nodes,
+        Err(fault) => return Err(fault_stop(fault)),
+    };
+    told_have_values::<Margin>();
+    let mut text = Text::new(alloc);
+    match put_margins(&mut text, nodes.signal(root), scale) {
+        Ok(()) => Ok(Answer { holds: true, text }),
+        Err(_) => Err(Stop::NoMemory),
+    }
+}
