@@ -9,3 +9,12 @@ pub mod Spellings
 pub mod Lines
 pub mod Advances
 mod Turns
+pub mod Stretch
+pub mod FinerTrees
+pub mod FinerTraces
+pub mod FinerTruth
+pub mod FinerValues
+pub mod FinerMargins
+pub mod KnotsChange
+pub mod FinerKnots
+pub mod FinerRobust

@@ -1,9 +1,20 @@
 //! The laws of reports. Each is the contract of a call that does nothing, so that the gate proves it.
 ghost use Rattle.report.specs.Laws.{SignalsDescribe};
+ghost use Rattle.report.specs.Units.{TruthIsOfUnits, RobustIsOfUnits};
 
 use value_laws::Shape;
 
 /// Where a signal tells a formula with atoms read as 1 and -1, verdicts that describe the signal describe the formula.
 pub fn signals_describe<P: Shape>()
     ensures { SignalsDescribe P.Shape }
+{}
+
+/// The truth of a formula at a time does not depend on the ticks in which times and values are counted.
+pub fn truth_is_of_units()
+    ensures { TruthIsOfUnits }
+{}
+
+/// Smaller ticks change no text of `robust`.
+pub fn robust_is_of_units()
+    ensures { RobustIsOfUnits }
 {}
