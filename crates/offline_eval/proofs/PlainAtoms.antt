@@ -61,21 +61,21 @@ module _ {P : Type 0} (shape : ShapeOf P) (nodes : List Node) (from to : ℕ) (a
       let input = subst (IsInput shape from to) (get_or_from_slice_get atoms n x x there) (inputs n x (slice_get_within atoms n x there)) in
       let place = placed_at nodes (map (knots_of shape) atoms) i a (knots_of shape x) at (got_mapped (knots_of shape) atoms n x there) in
       let given : (t : Rational) (v : Extended) → Reads (knots_of shape x) t v → Gives (signals (placed nodes (map (knots_of shape) atoms))) i a t v =
-              λ t v h. (knots_of shape x, place, h) in
+      λ t v h. (knots_of shape x, place, h) in
       let told : Tells shape (Gives (signals (placed nodes (map (knots_of shape) atoms))) i a) (whole (pos from)) (whole (pos to)) x = record {
-            signal = is_signal;
-            begins = input.begins;
-            ends = input.ends;
-            worth = λ t v. (
-                λ w. (
-                    let in_domain = worth_within shape x t v is_signal w in
-                        record { above = le_trans (ge_of_same input.begins) in_domain.above; below = le_trans in_domain.below (le_of_same input.ends) },
-                    given t v ((reads_is_worth shape x t v is_signal).1 w),
-                ),
-                λ h.
-                    let (ks, at_place, reads) = h.1 in
-                    let same : ks ≡ knots_of shape x = some_is (some_is (sym at_place ∙ place)) in
-                    (reads_is_worth shape x t v is_signal).0 (subst (λ l. Reads l t v) same reads),
-            );
-          } in
+        signal = is_signal;
+        begins = input.begins;
+        ends = input.ends;
+        worth = λ t v. (
+          λ w. (
+            let in_domain = worth_within shape x t v is_signal w in
+                record { above = le_trans (ge_of_same input.begins) in_domain.above; below = le_trans in_domain.below (le_of_same input.ends) },
+            given t v ((reads_is_worth shape x t v is_signal).1 w),
+          ),
+          λ h.
+              let (ks, at_place, reads) = h.1 in
+              let same : ks ≡ knots_of shape x = some_is (some_is (sym at_place ∙ place)) in
+              (reads_is_worth shape x t v is_signal).0 (subst (λ l. Reads l t v) same reads),
+        );
+      } in
       (x, there, told)

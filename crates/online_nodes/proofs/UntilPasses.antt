@@ -1,79 +1,26 @@
 -- Until where its left input holds: what is known once the verdict that ends first was read.
-use Rattle.std.proofs.Common.{
-  ◌≡◌,
-  ◌≢◌,
-  ◌⊎◌,
-  inl,
-  inr,
-  ℕ,
-  suc,
-  ◌+◌,
-  ◌<◌,
-  ◌≤◌,
-  Bool,
-  true,
-  false,
-  List,
-  [],
-  ◌∷◌,
-  ◌++◌,
-  drop,
-  length,
-  Some,
-  slice_get,
-  refl,
-  sym,
-  ap,
-  subst,
-  ◌∙◌,
-  arith,
-}
-use Rattle.std.proofs.lemmas.List.{append-nil}
+use Rattle.std.proofs.Common.{◌≡◌, ◌≢◌, ◌⊎◌, inl, inr, true, false, List, [], ◌∷◌, drop, Some, slice_get, refl, sym, ap, subst, ◌∙◌}
 use Rattle.rational.specs.Rational.{Rational}
 use Rattle.rational.proofs.Order.{same_sym}
 use Rattle.frac128.specs.Spans.{interval}
-use Rattle.stl_syntax.specs.Trace.{Trace}
 use Rattle.stl_syntax.specs.Truth.{Truth}
 use Rattle.stl_syntax.specs.declared.items.Verdict.{Verdict}
 use Rattle.online_nodes.specs.Cuts.{Place, place, begins, ends, After, Upto, AtMost, Before, Same}
 use Rattle.online_nodes.specs.Held.{Held, fresh_at}
-use Rattle.online_nodes.specs.Reading.{Truths, AllAre, Tells, KnowsUntil, HoldsFrom, MeetsAfter, MeetsUpto}
-use Rattle.online_nodes.specs.Written.{HasTold, Reaches}
-use Rattle.online_nodes.specs.Working.{HasPassed, HasWorked}
+use Rattle.online_nodes.specs.Reading.{Truths, AllAre, Tells, KnowsUntil, MeetsAfter, MeetsUpto}
+use Rattle.online_nodes.specs.Written.{HasTold}
+use Rattle.online_nodes.specs.Working.{HasPassed}
 use Rattle.online_nodes.specs.Sweeps.{Counted, low_place, high_place}
-use Rattle.online_nodes.specs.Untils.{Stretch, Reads, IsUntil, IsTurned, Falls, HasPassedOne, HasSettled, HasTurned}
+use Rattle.online_nodes.specs.Untils.{Stretch, Reads, IsUntil, IsTurned, HasPassedOne, HasSettled}
 use Rattle.online_nodes.specs.declared.cut.Cut.{Cut}
 use Rattle.online_nodes.specs.declared.window.Sweep.{Sweep}
 use Rattle.online_nodes.specs.declared.until.Until.{Until}
-use Rattle.online_nodes.specs.declared.writer.Out.{Out}
-use Rattle.online_nodes.proofs.GotLemmas.{got-other}
-use Rattle.online_nodes.proofs.JoinLemmas.{after_at_most, worked_then_pass}
-use Rattle.online_nodes.proofs.PlaceLemmas.{
-  sides,
-  not_both,
-  between,
-  before_through,
-  place_order,
-  upto_of_before,
-  upto_same,
-  after_same,
-  same_places,
-  at_most_of_not_before,
-}
-use Rattle.online_nodes.proofs.SaidLemmas.{passed-fresh, passed-one}
+use Rattle.online_nodes.proofs.JoinLemmas.{after_at_most}
+use Rattle.online_nodes.proofs.PlaceLemmas.{not_both, between, before_through, place_order, upto_of_before, upto_same, after_same, same_places, at_most_of_not_before}
+use Rattle.online_nodes.proofs.SaidLemmas.{passed-fresh}
 use Rattle.online_nodes.proofs.UntilLaw.{knows_right_fails, knows_left_holds, knows_both, not_yet, settled}
-use Rattle.online_nodes.proofs.UntilTurns.{
-  IsSaidTwice,
-  goes_on_from,
-  left-next,
-  left-is,
-  turned-remembers,
-  twice-inside,
-  twice-after,
-  twice-beyond,
-  twice-later,
-}
-use Rattle.online_nodes.proofs.WorkLemmas.{passed-other, first_and_rest, worked_none, worked_put}
+use Rattle.online_nodes.proofs.UntilTurns.{goes_on_from, left-next, left-is, turned-remembers}
+use Rattle.online_nodes.proofs.WorkLemmas.{passed-other, first_and_rest}
 
 -- a place that is at most one that comes before another comes before that
 pub before_of_at_most : (c d e : Place) → AtMost c d → Before d e → Before c e

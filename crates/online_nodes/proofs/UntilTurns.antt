@@ -1,43 +1,14 @@
 -- The turns of until.
-use Rattle.std.proofs.Common.{
-  ◌≡◌,
-  ◌≢◌,
-  ◌⊎◌,
-  inl,
-  inr,
-  ℕ,
-  suc,
-  ◌+◌,
-  ◌<◌,
-  ◌≤◌,
-  Bool,
-  true,
-  false,
-  List,
-  [],
-  ◌∷◌,
-  ◌++◌,
-  drop,
-  length,
-  Some,
-  slice_get,
-  refl,
-  sym,
-  ap,
-  subst,
-  ◌∙◌,
-  arith,
-}
+use Rattle.std.proofs.Common.{◌≡◌, ◌≢◌, inl, inr, ◌<◌, Bool, true, false, List, [], ◌∷◌, drop, length, Some, slice_get, refl, sym, ap, subst, ◌∙◌, arith}
 use Rattle.rational.specs.Rational.{Rational}
 use Rattle.frac128.specs.Spans.{interval}
-use Rattle.stl_syntax.specs.Trace.{Trace}
 use Rattle.stl_syntax.specs.Truth.{Truth}
 use Rattle.stl_syntax.specs.declared.items.Verdict.{Verdict}
-use Rattle.online_nodes.specs.Cuts.{Place, place, ends, After, Upto, AtMost, Before, Same}
+use Rattle.online_nodes.specs.Cuts.{Place, place, ends, After, Upto, AtMost, Before}
 use Rattle.online_nodes.specs.Held.{Held, fresh_at}
 use Rattle.online_nodes.specs.Reading.{Truths, AllAre, Tells, KnowsUntil, UntilRemembers}
-use Rattle.online_nodes.specs.Written.{HasTold, Reaches}
-use Rattle.online_nodes.specs.Working.{HasPassed, HasWorked}
+use Rattle.online_nodes.specs.Written.{Reaches}
+use Rattle.online_nodes.specs.Working.{HasPassed}
 use Rattle.online_nodes.specs.Sweeps.{Counted, low_place, high_place}
 use Rattle.online_nodes.specs.Untils.{Stretch, Reads, IsUntil, IsTurned, HasSettled, HasTurned}
 use Rattle.online_nodes.specs.declared.cut.Cut.{Cut}

@@ -1,35 +1,9 @@
 -- Steps of a node's work, one after the other.
-use Rattle.std.proofs.Common.{
-  ◌≡◌,
-  ◌≢◌,
-  ◌⊎◌,
-  inl,
-  inr,
-  ℕ,
-  ◌+◌,
-  ◌<◌,
-  ◌≤◌,
-  List,
-  [],
-  ◌∷◌,
-  ◌++◌,
-  drop,
-  length,
-  get_or,
-  Some,
-  slice_get,
-  refl,
-  sym,
-  ap,
-  ◌∙◌,
-  arith,
-  append_assoc,
-  length-append,
-}
+use Rattle.std.proofs.Common.{◌≡◌, ◌≢◌, ◌⊎◌, inl, inr, ℕ, ◌+◌, ◌<◌, List, [], ◌∷◌, ◌++◌, drop, length, get_or, Some, slice_get, refl, sym, ap, ◌∙◌, arith, append_assoc, length-append}
 use Rattle.std.proofs.lemmas.Bool.{cases_eq}
 use Rattle.std.proofs.lemmas.List.{get_or-set_same, get_or-set_other, length-set}
 use Rattle.stl_syntax.specs.declared.items.Verdict.{Verdict}
-use Rattle.online_nodes.specs.Held.{Held, Edge, no_edge, edge_at, held_of, with_edge, with_more, with_read}
+use Rattle.online_nodes.specs.Held.{Held, Edge, no_edge, edge_at, held_of, with_more, with_read}
 use Rattle.online_nodes.specs.Written.{HasGot}
 use Rattle.online_nodes.specs.Working.{HasPassed, IsReadOn, HasWorked}
 use Rattle.online_nodes.proofs.DroppingLemmas.{drop-drop}

@@ -1,5 +1,5 @@
 -- How until goes through its two inputs. Both are read up to one place: where the verdict ends that was passed last.
-use Rattle.std.specs.Prelude.{◌≡◌, ℕ, ◌+◌, ◌*◌, ◌≤◌, ◌<◌, true, List, ◌++◌, ◌⊎◌, length, Some, slice_get}
+use Rattle.std.specs.Prelude.{◌≡◌, ◌+◌, ◌*◌, ◌≤◌, ◌<◌, true, List, ◌++◌, ◌⊎◌, length, Some, slice_get}
 use Rattle.rational.specs.Rational.{Rational}
 use Rattle.frac128.specs.Spans.{interval}
 use Rattle.stl_syntax.specs.Trace.{Trace}
@@ -8,7 +8,7 @@ use Rattle.stl_syntax.specs.Truth.{Truth}
 use Rattle.stl_syntax.specs.declared.items.Verdict.{Verdict}
 use Rattle.online_nodes.specs.Cuts.{Place, place, ends, After, Upto, AtMost, Before}
 use Rattle.online_nodes.specs.Held.{Held, fresh_at}
-use Rattle.online_nodes.specs.Reading.{Truths, Tells, IsUntilOf, KnowsUntil}
+use Rattle.online_nodes.specs.Reading.{Tells, IsUntilOf, KnowsUntil}
 use Rattle.online_nodes.specs.Written.{HasTold, IsSound}
 use Rattle.online_nodes.specs.Working.{HasPassed, HasWorked}
 use Rattle.online_nodes.specs.Sweeps.{Counted, low_place, high_place}

@@ -21,3 +21,5 @@ pub mod FinerMargins
 pub mod KnotsChange
 pub mod FinerKnots
 pub mod FinerRobust
+pub mod FinerVerdicts
+pub mod FinerCheck

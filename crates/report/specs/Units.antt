@@ -45,3 +45,9 @@ abbrev pub RobustIsOfUnits : Type 0
 RobustIsOfUnits =
     (f : Formula) (tr : Trace) (k m : ℕ) → IsTrace tr → f.scale.time ≤ tr.header.scale.time → f.scale.value ≤ tr.header.scale.value
     → WritesAlike robust f tr (finer k m tr)
+
+-- what `check` writes it writes in smaller ticks too
+abbrev pub CheckKeepsItsText : Type 0
+CheckKeepsItsText =
+    (f : Formula) (tr : Trace) (k m : ℕ) → IsTrace tr → f.scale.time ≤ tr.header.scale.time → f.scale.value ≤ tr.header.scale.value
+    → (text : List ℕ) → Out check f tr text → Out check f (finer k m tr) text

@@ -1,6 +1,6 @@
 //! The laws of reports. Each is the contract of a call that does nothing, so that the gate proves it.
 ghost use Rattle.report.specs.Laws.{SignalsDescribe, SignalsDescribeMargins};
-ghost use Rattle.report.specs.Units.{TruthIsOfUnits, RobustIsOfUnits};
+ghost use Rattle.report.specs.Units.{TruthIsOfUnits, RobustIsOfUnits, CheckKeepsItsText};
 
 use value_laws::Shape;
 
@@ -23,4 +23,9 @@ pub fn truth_is_of_units()
 /// Smaller ticks change no text of `robust`.
 pub fn robust_is_of_units()
     ensures { RobustIsOfUnits }
+{}
+
+/// What `check` writes it writes in smaller ticks too.
+pub fn check_keeps_its_text()
+    ensures { CheckKeepsItsText }
 {}

@@ -1,8 +1,8 @@
 //! The texts of verdicts, margins and explanations.
 #![tactic(auto)]
 
-pub mod laws;
 mod following;
+pub mod laws;
 mod margin;
 mod number;
 mod signal;

@@ -91,8 +91,8 @@ decimal_ticks (c ∷ ds) d more most digits v some h k value few within =
       decimal c ds d more h k,
       omega (arith, z.count, few),
       ap (λ x. x * 10 ^ (digits - length (d ∷ more))) (value ∙ z.value)
-      ∙ (mul_assoc (decimal_value (decimal_value 0 front) zs) (10 ^ z.zeros) (10 ^ (digits - length (d ∷ more)))
-      ∙ (ap (λ x. decimal_value (decimal_value 0 front) zs * x) (sym power) ∙ ap (λ x. x * 10 ^ (digits - length zs)) (sym n))),
+          ∙ (mul_assoc (decimal_value (decimal_value 0 front) zs) (10 ^ z.zeros) (10 ^ (digits - length (d ∷ more)))
+          ∙ (ap (λ x. decimal_value (decimal_value 0 front) zs * x) (sym power) ∙ ap (λ x. x * 10 ^ (digits - length zs)) (sym n))),
     )
 
 -- ticks as a time

@@ -34,8 +34,8 @@ use Rattle.workbench.specs.Wholes.{IsAnswerOf, IsUnanswered}
 -- a time of 32 bits is within the limits
 pub tick_within : (t : Rational) (n : ℕ) → t ≈ whole (pos n) → n ≤ 4294967295 → IsWithin (2 ^ 34) t
 tick_within t n e small = (
-    le_trans (record { le = omega arith }) (ge_of_same e),
-    le_trans (le_of_same e) (record { le = omega (arith, small) }),
+  le_trans (record { le = omega arith }) (ge_of_same e),
+  le_trans (le_of_same e) (record { le = omega (arith, small) }),
 )
 
 module _ (c : Case) (f : Formula) (case : IsCase f c) where
@@ -51,9 +51,9 @@ module _ (c : Case) (f : Formula) (case : IsCase f c) where
   unfolding Over
   measured x text values infs tells lines =
       let own : Over text c.formula = (
-              (knots_of margin_shape x, knots_describe margin_shape (root c.formula.nodes) c.trace x tells, lines),
-              λ tr' e positive like close. margins_hold (root c.formula.nodes) c.trace tr' e positive like close values infs,
-          ) in
+        (knots_of margin_shape x, knots_describe margin_shape (root c.formula.nodes) c.trace x tells, lines),
+        λ tr' e positive like close. margins_hold (root c.formula.nodes) c.trace tr' e positive like close values infs,
+      ) in
       let over = subst (Over text) case.formula own in
       record { verdict = refl; written = over.0; few = λ n h. h; sure = over.1 }
 
@@ -65,6 +65,6 @@ module _ (c : Case) (f : Formula) (case : IsCase f c) where
   pub unmeasured : (e : EvalFault Margin) → IsFaultIn margin_shape margins c e → IsUnanswered robust f c.trace (stop_of_fault e)
   unmeasured E.Memory is = tt
   unmeasured (E.Wide cause) is = (
-      subst (λ (g : Formula). IsNeeded g.nodes (margin_setting c.trace) cause.node (denominator_of cause.pair)) case.formula (needed cause.node cause.pair is.1),
-      λ n h. h,
+    subst (λ (g : Formula). IsNeeded g.nodes (margin_setting c.trace) cause.node (denominator_of cause.pair)) case.formula (needed cause.node cause.pair is.1),
+    λ n h. h,
   )

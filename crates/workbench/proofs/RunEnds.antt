@@ -226,7 +226,6 @@ module _ (words : List (List ℕ)) (c : Command) (f : Formula) (i : Drained) (o 
     at_end = λ n. absurd (n refl);
     is = no_memory (λ k. let h = k in cc) (inl refl) (timely c f bytes []);
   })
-
   of_stop (Wide i den) is same failed told = absurd is
 
   of_unanswered : (case : Case) (stop : Stop) → IsReadWhole whole_limits f i.before i.after i.ended case → IsUnanswered c f case.trace stop → o.after ≡ o.before → {line : List ℕ} → IsStopLine f stop line

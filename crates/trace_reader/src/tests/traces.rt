@@ -358,17 +358,50 @@ const IN_PLACE: [(&str, &str); 3] = [
 
 /// Rows of decimals with a fault, and rows after them.
 const FAULTS_IN_PLACE: [(&str, &str); 11] = [
-    ("time,x:2\n0,1\n1,2.255\n2,3.00\n3,4.00\n", "0/2,x 0:100 line 3: field 2: bad number"),
-    ("time,x:2\n0,1\n1,2.\n2,3.00\n3,4.00\n4,5\n", "0/2,x 0:100 line 3: field 2: bad number"),
-    ("time,x:2\n0,1\n1,.5\n2,3.00\n3,4.00\n4,5\n", "0/2,x 0:100 line 3: field 2: bad number"),
-    ("time,x:2\n0,1\n1,-.5\n2,3.00\n3,4.00\n4,5\n", "0/2,x 0:100 line 3: field 2: bad number"),
-    ("time,x:2\n0,1\n1,1.2.3\n2,3.00\n3,4.00\n", "0/2,x 0:100 line 3: field 2: bad number"),
-    ("time,x:2\n0,1\n1,1.-2\n2,3.00\n3,4.00\n", "0/2,x 0:100 line 3: field 2: bad number"),
-    ("time,x:2\n0,1\n1,167772.16\n2,167772.17\n3,4.00\n", "0/2,x 0:100 1:16777216 line 4: field 2: out of range"),
-    ("time,x:2\n0,1\n1,-167772.16\n2,-167772.17\n3,4\n", "0/2,x 0:100 1:-16777216 line 4: field 2: out of range"),
-    ("time:3,x\n0.001,1\n0.0015,2\n0.1,3\n1,4\n2,5\n", "3/0,x 1:1 line 3: field 1: bad number"),
-    ("time:3,x\n0.001,1\n0.0010,2\n0.1,3\n1,4\n2,5\n", "3/0,x 1:1 line 3: time not rising"),
-    ("time:3,x\n4294967.295,1\n4294967.296,2\n5000000,3\n", "3/0,x 4294967295:1 line 3: field 1: out of range"),
+    (
+        "time,x:2\n0,1\n1,2.255\n2,3.00\n3,4.00\n",
+        "0/2,x 0:100 line 3: field 2: bad number",
+    ),
+    (
+        "time,x:2\n0,1\n1,2.\n2,3.00\n3,4.00\n4,5\n",
+        "0/2,x 0:100 line 3: field 2: bad number",
+    ),
+    (
+        "time,x:2\n0,1\n1,.5\n2,3.00\n3,4.00\n4,5\n",
+        "0/2,x 0:100 line 3: field 2: bad number",
+    ),
+    (
+        "time,x:2\n0,1\n1,-.5\n2,3.00\n3,4.00\n4,5\n",
+        "0/2,x 0:100 line 3: field 2: bad number",
+    ),
+    (
+        "time,x:2\n0,1\n1,1.2.3\n2,3.00\n3,4.00\n",
+        "0/2,x 0:100 line 3: field 2: bad number",
+    ),
+    (
+        "time,x:2\n0,1\n1,1.-2\n2,3.00\n3,4.00\n",
+        "0/2,x 0:100 line 3: field 2: bad number",
+    ),
+    (
+        "time,x:2\n0,1\n1,167772.16\n2,167772.17\n3,4.00\n",
+        "0/2,x 0:100 1:16777216 line 4: field 2: out of range",
+    ),
+    (
+        "time,x:2\n0,1\n1,-167772.16\n2,-167772.17\n3,4\n",
+        "0/2,x 0:100 1:-16777216 line 4: field 2: out of range",
+    ),
+    (
+        "time:3,x\n0.001,1\n0.0015,2\n0.1,3\n1,4\n2,5\n",
+        "3/0,x 1:1 line 3: field 1: bad number",
+    ),
+    (
+        "time:3,x\n0.001,1\n0.0010,2\n0.1,3\n1,4\n2,5\n",
+        "3/0,x 1:1 line 3: time not rising",
+    ),
+    (
+        "time:3,x\n4294967.295,1\n4294967.296,2\n5000000,3\n",
+        "3/0,x 4294967295:1 line 3: field 1: out of range",
+    ),
 ];
 
 #[test]

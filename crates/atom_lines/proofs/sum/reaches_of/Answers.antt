@@ -22,9 +22,9 @@ loop-term-preserved g c =
     let more_next : next_more ≡ next +ℤ v.result.1 = search (rules, to_z-of_z) in
     let within : i < length terms = subst (λ xs. i < length xs) c.deref-term-items.ensures.value c.loop-term-test.true in
     let value_to : v.result.0 ≡ (get_or terms i d).coef *ℤ cell (get_or terms i d) first second =
-        subst (λ (xs : List BoundTerm). v.result.0 ≡ (get_or xs i d).coef *ℤ cell (get_or xs i d) first second) c.deref-term-items.ensures.value v.ensures.to in
+    subst (λ (xs : List BoundTerm). v.result.0 ≡ (get_or xs i d).coef *ℤ cell (get_or xs i d) first second) c.deref-term-items.ensures.value v.ensures.to in
     let value_next : v.result.1 ≡ (get_or terms i d).coef *ℤ cell (get_or terms i d) second second =
-        subst (λ (xs : List BoundTerm). v.result.1 ≡ (get_or xs i d).coef *ℤ cell (get_or xs i d) second second) c.deref-term-items.ensures.value v.ensures.next in
+    subst (λ (xs : List BoundTerm). v.result.1 ≡ (get_or xs i d).coef *ℤ cell (get_or xs i d) second second) c.deref-term-items.ensures.value v.ensures.next in
     record {
       to = add_term terms i d first second to v.result.0 to_more (sum_over terms first second) within value_to c.loop-term.invariant.to more_to;
       next = add_term terms i d second second next v.result.1 next_more (sum_over terms second second) within value_next c.loop-term.invariant.next more_next;

@@ -22,7 +22,7 @@ returns-clause-zero c =
     let short : length < 2 ^ 32 = omega (arith, c.from.ensures) in
     let cast : to_z w64 (b * length / rise) ≡ pos (b * length / rise) = omega (arith, ints, few, short) in
     let whole : to_z w64 (of_z w64 (to_z w64 (of_z w64 c.from-2.result) +ℤ to_z w64 (b * length / rise))) ≡ pos (g.first + b * length / rise) =
-        omega (arith, ints, cast, few, short, c.from-2.ensures) in
+    omega (arith, ints, cast, few, short, c.from-2.ensures) in
     crossing_mixed g {w = to_z w64 (of_z w64 (to_z w64 (of_z w64 c.from-2.result) +ℤ to_z w64 (b * length / rise)))} {rest = b * length % rise} {r = rise}
     c.mixed.ensures b length c.requires (omega (arith, before, after)) before c.from.ensures whole refl
 
@@ -39,6 +39,6 @@ returns-clause-small c =
     let few = g.small_rise in
     let size = rise_size g c.requires in
     let d : denominator t ≤ rise =
-        denominator_at_most (to_z w64 (of_z w64 (to_z w64 (of_z w64 c.from-2.result) +ℤ to_z w64 (past / rise))) *ℤ pos rise +ℤ pos (past % rise)) (pos rise) rise (denominator t)
-        (denominator_same (denominator t) c.mixed.ensures (HasDenominator-value t)) refl (omega (arith, before, after, some)) in
+    denominator_at_most (to_z w64 (of_z w64 (to_z w64 (of_z w64 c.from-2.result) +ℤ to_z w64 (past / rise))) *ℤ pos rise +ℤ pos (past % rise)) (pos rise) rise (denominator t)
+    (denominator_same (denominator t) c.mixed.ensures (HasDenominator-value t)) refl (omega (arith, before, after, some)) in
     omega (arith, d, before, after, size, few)

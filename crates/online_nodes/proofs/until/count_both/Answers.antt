@@ -1,26 +1,7 @@
-use Rattle.std.proofs.Common.{
-  rules,
-  ◌≡◌,
-  ◌⊎◌,
-  inl,
-  inr,
-  refl,
-  sym,
-  ap,
-  subst,
-  ◌∙◌,
-  true,
-  false,
-  arith,
-  ℤ,
-  to_z,
-  of_z,
-  to_z-of_z,
-}
+use Rattle.std.proofs.Common.{rules, inl, inr, refl, sym, ap, subst, true, false, to_z, of_z, to_z-of_z}
 use Rattle.std.specs.Int.{w64}
 use Rattle.rational.specs.Rational.{FitsFloor, add, whole}
 use Rattle.frac128.specs.Value.{value}
-use Rattle.frac128.specs.Spans.{interval}
 use Rattle.online_nodes.specs.declared.cut.Cut.{Cut}
 use Rattle.online_nodes.specs.Cuts.{Place, place, AtMost, Before, Same, Upto, moved_begin, moved_end}
 use Rattle.online_nodes.proofs.PlaceLemmas.{at_most_of_not_before}

@@ -4,7 +4,6 @@ use Rattle.stl_syntax.specs.Truth.{Truth}
 use Rattle.online_nodes.specs.Held.{fresh_at}
 use Rattle.online_nodes.specs.Reading.{Tells}
 use Rattle.online_nodes.specs.Sweeps.{Counted}
-use Rattle.online_nodes.specs.Untils.{IsTurned}
 use Rattle.online_nodes.specs.declared.cut.Cut.{Cut}
 use Rattle.online_nodes.proofs.GotLemmas.{got-length, got-other}
 use Rattle.online_nodes.proofs.PlaceLemmas.{sides, not_both}

@@ -1,7 +1,6 @@
-use Rattle.std.proofs.Common.{◌≡◌, refl, sym, ap, subst, ◌∙◌, length, true, false, arith}
-use Rattle.frac128.specs.Spans.{interval}
+use Rattle.std.proofs.Common.{sym, ap, subst, length, true, false, arith}
 use Rattle.online_nodes.specs.declared.cut.Cut.{Cut}
-use Rattle.online_nodes.specs.Cuts.{Place, place, ends, AtMost, Before, Upto}
+use Rattle.online_nodes.specs.Cuts.{Place, place, AtMost, Before, Upto}
 use Rattle.std.proofs.lemmas.Option.{slice_get_within}
 use Rattle.online_nodes.specs.Held.{fresh_at}
 use Rattle.online_nodes.specs.Working.{HasPassed}

@@ -1,8 +1,8 @@
-use Rattle.std.proofs.Common.{◌≡◌, ◌⊎◌, inl, inr, refl, sym, ap, subst, ◌∙◌, Some, slice_get}
+use Rattle.std.proofs.Common.{◌≡◌, inl, inr, sym, subst}
 use Rattle.frac128.specs.Spans.{interval}
 use Rattle.stl_syntax.specs.declared.items.Verdict.{Verdict}
 use Rattle.online_nodes.specs.Cuts.{Place, place, ends, AtMost, Before, Upto}
-use Rattle.online_nodes.specs.Held.{fresh_at, edge_at, with_edge, with_read}
+use Rattle.online_nodes.specs.Held.{fresh_at}
 use Rattle.online_nodes.specs.Working.{HasPassed}
 use Rattle.online_nodes.proofs.JoinLemmas.{same_first}
 use Rattle.online_nodes.proofs.PlaceLemmas.{at_most_of_not_before}

@@ -1,5 +1,4 @@
-use Rattle.std.proofs.Common.{◌≡◌, refl, sym, ap, subst, ◌∙◌, Some, slice_get}
-use Rattle.online_nodes.specs.Held.{fresh_at}
+use Rattle.std.proofs.Common.{sym, ◌∙◌}
 use Rattle.online_nodes.proofs.EdgesLemmas.{empty_of_none}
 use Rattle.online_nodes.proofs.UntilPasses.{left_out_settles, right_out_settles}
 use Rattle.online_nodes.proofs.UntilCounts.{passes_failed, true_of_not}

@@ -33,7 +33,7 @@ returns-in_err-begin-clause-err c =
     let signal = c.len-knots.ensures.signal in
     let some : 0 + suc (length s - 1) ≡ length s = let p = c.len-knots.ensures.some in let v = c.len-knots.ensures.value in omega arith in
     let end = told_to_end s (length s - 1) 0 [] c.start-span.result signal some
-        (spelled_start s c.knot-first.result c.start-span.result c.knot-first.ensures c.start-span.ensures.from c.start-span.ensures.from_in c.start-span.ensures.holds) in
+    (spelled_start s c.knot-first.result c.start-span.result c.knot-first.ensures c.start-span.ensures.from c.start-span.ensures.from_in c.start-span.ensures.holds) in
     let lines = lines_exist c.args.scale end.0 in
     on_err c.from_residual.result
     (signal_lines_part truth_shape c.args.scale s end.0 c.args.text.now c.args.text.now end.1 (unwritten (AreVerdictLines c.args.scale end.0) c.args.text.now lines.0 lines.1))

@@ -1,5 +1,5 @@
 -- A value of a few digits, maybe after a minus.
-use Rattle.std.proofs.Common.{◌≡◌, ◌∷◌, ◌+◌, take, drop, arith, length-drop, w32, sym, ◌∙◌, subst}
+use Rattle.std.proofs.Common.{◌≡◌, ◌∷◌, ◌+◌, take, drop, arith, length-drop, w32, sym, subst}
 use Rattle.std.proofs.lemmas.Int.{to_z-of_z}
 use Rattle.std.proofs.lemmas.List.{take_rest}
 use Rattle.trace_reader.specs.Plain.{IsPlainNumber, IsTicks}

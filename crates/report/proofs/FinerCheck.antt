@@ -1,0 +1,25 @@
+-- What `check` writes in smaller ticks.
+use Rattle.std.proofs.Common.{◌^◌, refl}
+use Rattle.stl_syntax.specs.Formula.{root}
+use Rattle.report.specs.Report.{check, nodes_for}
+use Rattle.report.specs.Units.{finer, CheckKeepsItsText}
+use Rattle.report.proofs.FinerTrees.{root_finer}
+use Rattle.report.proofs.FinerTruth.{some_power}
+use Rattle.report.proofs.FinerVerdicts.{verdicts_by, verdicts_describe, start_line_by, verdict_lines_by}
+
+pub check_keeps_its_text : CheckKeepsItsText
+check_keeps_its_text f tr k m ok ft fv text (verdicts, body, line, d, l, s, e) =
+    let p = root (nodes_for f tr) in
+    let ur = finer k m tr in
+    let scale = ur.header.scale in
+    let kp = some_power k in
+    let mp = some_power m in
+    let same = root_finer f tr.header.scale k m ft fv in (
+      verdicts_by (10 ^ k) kp verdicts,
+      body,
+      line,
+      rw same (verdicts_describe (10 ^ k) (10 ^ m) kp mp tr ok scale p verdicts d),
+      verdict_lines_by k kp tr.header.scale scale refl verdicts body l,
+      rw same (start_line_by (10 ^ k) (10 ^ m) kp mp tr ok scale p line s),
+      e,
+    )
