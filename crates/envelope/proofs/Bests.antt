@@ -25,18 +25,22 @@ use Rattle.envelope.specs.declared.best.Best.{Best}
 use Rattle.envelope.specs.Turns.{IsNoBetter}
 use Rattle.envelope.specs.Best.{Has, IsBestAt, IsBestFault, IsCrossingOf, IsJoinFault, IsKept, IsWritten}
 
+-- a value is no better than itself
 pub no_better_refl : (side : Side) (v : Extended) → IsNoBetter side v v
 no_better_refl Greatest v = le_reflᵉ v
 no_better_refl Least v = le_reflᵉ v
 
+-- no better than what is no better than a third is no better than that
 pub no_better_trans : (side : Side) (u v w : Extended) → IsNoBetter side u v → IsNoBetter side v w → IsNoBetter side u w
 no_better_trans Greatest u v w h k = le_transᵉ u v w h k
 no_better_trans Least u v w h k = le_transᵉ w v u k h
 
+-- equal values: the first is no better than the second
 pub no_better_same : (side : Side) (v w : Extended) → v ≈ᵉ w → IsNoBetter side v w
 no_better_same Greatest v w e = e.at_most
 no_better_same Least v w e = e.at_least
 
+-- and the second no better than the first
 pub no_better_back : (side : Side) (v w : Extended) → v ≈ᵉ w → IsNoBetter side w v
 no_better_back Greatest v w e = e.at_least
 no_better_back Least v w e = e.at_most
@@ -52,6 +56,7 @@ pub record IsBetter (side : Side) (x y v : Extended) : Type 0 where
   pub right : IsNoBetter side y v
   pub one_of : IsNoBetter side v x ⊎ IsNoBetter side v y
 
+-- what is chosen of two values is the better of them
 pub chosen_better : (side : Side) (x y v : Extended) → IsChosen side x y v → IsBetter side x y v
 chosen_better Greatest x y v h = record { left = h.left; right = h.right; one_of = h.one_of }
 chosen_better Least x y v h = record { left = h.left; right = h.right; one_of = h.one_of }
@@ -61,6 +66,7 @@ pub no_better_of_taken : (side : Side) (x y : Extended) → IsTaken side y x →
 no_better_of_taken Greatest x y h = h
 no_better_of_taken Least x y h = h
 
+-- and what is no worse may be taken
 pub taken_of_no_better : (side : Side) (x y : Extended) → IsNoBetter side x y → IsTaken side y x
 taken_of_no_better Greatest x y h = h
 taken_of_no_better Least x y h = h
@@ -93,6 +99,7 @@ module _ {P : Type 0} (shape : ShapeOf P) where
       bound q (inr (inl m)) = absurd (cc)
       bound q (inr (inr m)) = absurd (cc)
 
+  -- the better of the constant and the gap under the low end is the best where there is no other gap
   pub best_of_low : (side : Side) (p r : P) (t : Rational) (v : Extended) → IsChosen side (value_at (shape.function p) t) (value_at (shape.function r) t) v → IsBestAt shape side (record { top = r; low = Some p; high = None }) t v
   best_of_low side p r t v h = record { bound = bound; one_of = one_of b.one_of }
     where
@@ -109,6 +116,7 @@ module _ {P : Type 0} (shape : ShapeOf P) where
       one_of (inl k) = (p, inr (inl refl), k)
       one_of (inr k) = (r, inl refl, k)
 
+  -- the better of the constant and the gap under the high end is the best where there is no other gap
   pub best_of_high : (side : Side) (p r : P) (t : Rational) (v : Extended) → IsChosen side (value_at (shape.function p) t) (value_at (shape.function r) t) v → IsBestAt shape side (record { top = r; low = None; high = Some p }) t v
   best_of_high side p r t v h = record { bound = bound; one_of = one_of b.one_of }
     where
@@ -155,9 +163,11 @@ module _ {P : Type 0} (shape : ShapeOf P) where
   has_swapped p q r x (inr (inl m)) = inr (inr m)
   has_swapped p q r x (inr (inr m)) = inr (inl m)
 
+  -- the best of three does not depend on which gap stands first
   pub best_swapped : (side : Side) (p q r : P) (t : Rational) (v : Extended) → IsBestAt shape side (three p q r) t v → IsBestAt shape side (three q p r) t v
   best_swapped side p q r t v h = record { bound = λ x m. h.bound x (has_swapped q p r x m); one_of = (h.one_of.0, has_swapped p q r h.one_of.0 h.one_of.1, h.one_of.2) }
 
+  -- nor does what is written
   pub written_swapped : (side : Side) (p q r point : P) (old new : List (Knot P)) (to : Frac) → IsWritten shape side old (three p q r) to point new → IsWritten shape side old (three q p r) to point new
   written_swapped side p q r point old new to h = record {
     signal = h.signal;
@@ -199,6 +209,7 @@ module _ {P : Type 0} (shape : ShapeOf P) where
       by_shape x (inr (inl m)) = inr (inl (inl m))
       by_shape x (inr (inr m)) = inr (inr m)
 
+  -- a join of two of what counts is written where their better one is the best up to the time
   pub written_join : (side : Side) (best : Best P) (x r point : P) (old new : List (Knot P)) (to : Frac) → Joins shape side old x r to point new → Has best x → Has best r
       → ((t : Rational) (v : Extended) → stop old <ʳ t → t <ʳ value to → IsChosen side (value_at (shape.function x) t) (value_at (shape.function r) t) v → IsBestAt shape side best t v)
       → IsWritten shape side old best to point new
@@ -269,6 +280,7 @@ module _ {P : Type 0} (shape : ShapeOf P) where
       same : record { top = best.top; low = None; high = None } ≡ best
       same = subst (λ o. record { top = best.top; low = o; high = None } ≡ best) l (subst (λ o. record { top = best.top; low = best.low; high = o } ≡ best) h refl)
 
+  -- a join of the constant with the gap under the low end is written where there is no other gap
   pub written_low : (side : Side) (best : Best P) (p point : P) (old new : List (Knot P)) (to : Frac) → best.low ≡ Some p → best.high ≡ None → Joins shape side old p best.top to point new → IsWritten shape side old best to point new
   written_low side best p point old new to l h j = written_join side best p best.top point old new to j (inr (inl l)) (inl refl)
       (λ t v _ _ c. subst (λ b. IsBestAt shape side b t v) same (best_of_low side p best.top t v c))
@@ -276,6 +288,7 @@ module _ {P : Type 0} (shape : ShapeOf P) where
       same : record { top = best.top; low = Some p; high = None } ≡ best
       same = subst (λ o. record { top = best.top; low = o; high = None } ≡ best) l (subst (λ o. record { top = best.top; low = best.low; high = o } ≡ best) h refl)
 
+  -- a join of the constant with the gap under the high end is written where there is no other gap
   pub written_high : (side : Side) (best : Best P) (p point : P) (old new : List (Knot P)) (to : Frac) → best.low ≡ None → best.high ≡ Some p → Joins shape side old p best.top to point new → IsWritten shape side old best to point new
   written_high side best p point old new to l h j = written_join side best p best.top point old new to j (inr (inr h)) (inl refl)
       (λ t v _ _ c. subst (λ b. IsBestAt shape side b t v) same (best_of_high side p best.top t v c))
@@ -391,6 +404,7 @@ kept_fault shape best low high (Err e) (Ok y) kept h f = absurd h
 kept_fault shape best low high (Err e) (Err F.Memory) kept h f = subst (λ o. IfSome o (IsBestFault shape best low high)) (sym h) tt
 kept_fault shape best low high (Err e) (Err (F.Wide pair)) kept h f = subst (λ o. IfSome o (IsBestFault shape best low high)) (sym h) f
 
+-- what follows from two facts about a success holds on success
 pub on_two : {T E A B C : Type 0} (r : Result T E) → (A → B → C) → OnOk r A → OnOk r B → OnOk r C
 on_two (Ok x) f a b = f a b
 on_two (Err e) f a b = a

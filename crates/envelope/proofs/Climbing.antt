@@ -22,6 +22,7 @@ EachEnds {P} parts = (x : Part P) → IsOneOf parts x → (turn : Turn) × (x.un
 abbrev pub climbing : {P : Type 0} → P → Turn → Part P
 climbing p from = record { shape = p; from = from; until = None }
 
+-- a gap that the high end moved over until a turn
 abbrev pub climbed_until : {P : Type 0} → P → Turn → Turn → Part P
 climbed_until p from until = record { shape = p; from = from; until = Some until }
 

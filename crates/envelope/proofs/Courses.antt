@@ -157,6 +157,7 @@ module _ {P : Type 0} (shape : ShapeOf P) where
       one_of p m k = no_better_trans side v (value_at (shape.function next.top) t) (value_at (shape.function old.top) t)
           (subst (λ p. IsNoBetter side v (value_at (shape.function p) t)) (only p next b m) k) (no_better_back side (value_at (shape.function old.top) t) (value_at (shape.function next.top) t) (same t))
 
+  -- a turn from one constant alone to the same constant alone needs no knot
   pub turned_alone : (old : Course P) (turn : Turn) (next : Best P) → IsReady shape old → value old.at <ʳ value turn.at → HaveLevels shape next → IsAlone old.after → IsAlone next → AreSame (shape.function old.after.top) (shape.function next.top)
       → Turns shape old turn next (record old { after = next })
   turned_alone old turn next ready order levels a b same = record {
@@ -218,6 +219,7 @@ module _ {P : Type 0} (shape : ShapeOf P) where
       by_part t v (inr (inl w)) = inl (inr w)
       by_part t v (inr (inr w)) = inr w
 
+  -- the first knot is settled as a signal of one time
   pub settled_first : (old : Course P) (new : List (Knot P)) → old.built ≡ None → new ≡ record { time = old.at; point = old.point; after = old.point } ∷ [] → IsSignal shape new → Settles shape old (record old { built = Some new })
   settled_first old new is e signal = record {
     built = new;

@@ -75,6 +75,7 @@ module _ {P : Type 0} (shape : ShapeOf P) where
       (subst (λ xs. IsPassed shape low_until old low_until items new low_until xs) i (subst (λ w. IsPassed shape low_until old low_until items new w items') u passed)) side at none))
   out_of (Err e) old new low_until low_until' items items' p low u i can passed side at none = tt
 
+  -- where a call that lets the first constant go succeeds, that item is passed
   pub in_of : {T E : Type 0} (r : Result T E) (old new : Course P) (low_until low_until' : Turn) (first : Item P) (items items' all : List (Item P)) → old.after.low ≡ None → all ≡ first ∷ items → items' ≡ items → OnOk r (CanGoOn shape new low_until' items')
       → OnOk r (IsPassed shape first.until old low_until (first ∷ items) new low_until' items') → OnOk r (new.side ≡ old.side) → OnOk r (value new.at ≤ʳ value first.until.at) → OnOk r (new.after.low ≡ slope_shape first.slope)
       → low_until' ≡ slope_until first.slope low_until → OnOk r (Passes shape old low_until all new low_until' items')
@@ -89,6 +90,7 @@ pub none_there : {A : Type 0} (o : Option A) (b : Bool) → b ≡ is_some o → 
 none_there None b h k = refl
 none_there (Some x) b h k = absurd (false≢true (sym k ∙ h))
 
+-- a test that finds something
 pub some_there : {A : Type 0} (o : Option A) (b : Bool) → b ≡ is_some o → b ≡ true → (x : A) × (o ≡ Some x)
 some_there None b h k = absurd (false≢true (sym h ∙ k))
 some_there (Some x) b h k = (x, refl)
@@ -98,6 +100,7 @@ pub leaves_first : {P : Type 0} (low : Option P) (low_until : Turn) (items : Lis
 leaves_first low low_until [] x e some at = absurd (omega (arith, some))
 leaves_first {P} low low_until (item ∷ items) x e some at = subst (λ o. Some x.until ≡ leaving_by o low_until (item ∷ items)) (sym e) (ap (λ (i : Item P). Some i.until) at)
 
+-- nothing leaves where there is no gap under the low end and no item
 pub leaves_none : {P : Type 0} (low : Option P) (low_until : Turn) (items : List (Item P)) → low ≡ None → items ≡ [] → None ≡ leaving_by low low_until items
 leaves_none low low_until items e f = subst (λ o. None ≡ leaving_by o low_until items) (sym e) (subst (λ xs. None ≡ leaving_by None low_until xs) (sym f) refl)
 
@@ -113,11 +116,13 @@ something_of None low_until turn [] t e h = absurd h
 something_of None low_until turn (item ∷ items) t e h = subst (λ u. HasCome u t) (some_turn e) h
 something_of (Some p) low_until turn items t e h = subst (λ u. HasCome u t) (some_turn e) h
 
+-- where nothing is to leave, nothing leaves by any time
 pub nothing_left : {P : Type 0} (low : Option P) (low_until : Turn) (items : List (Item P)) (t : Rational) → leaving_by low low_until items ≡ None → MatchOption low (FirstStays items t) (λ _. IsToCome low_until t)
 nothing_left None low_until [] t e = tt
 nothing_left None low_until (item ∷ items) t e = absurd (cc)
 nothing_left (Some p) low_until items t e = absurd (cc)
 
+-- and nothing has left by any time
 pub something_left : {P : Type 0} (low : Option P) (low_until : Turn) (items : List (Item P)) (t : Rational) → leaving_by low low_until items ≡ None → ¬ (MatchOption low (FirstHasCome items t) (λ _. HasCome low_until t))
 something_left None low_until [] t e h = h
 something_left None low_until (item ∷ items) t e h = absurd (cc)

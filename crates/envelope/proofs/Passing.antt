@@ -30,6 +30,7 @@ best_of_more {P} shape side turn parts parts' more t v to_come h = record { floo
     by_kept (inl k) = inl k
     by_kept (inr (x, one, c, k)) = inr (x, more.kept x one, c, k)
 
+-- what was carried by some pieces is carried by more of them
 pub carried_more : {P : Type 0} (shape : ShapeOf P) (side : Side) (pos turn : Turn) (to : Rational) (parts parts' : List (Part P)) → More turn parts parts' → (best : Best P) (On : Rational → Type 0) → IsCarried shape side pos to parts best On → IsCarried shape side turn to parts' best On
 carried_more {P} shape side pos turn to parts parts' more best On (inl a) = inl a
 carried_more {P} shape side pos turn to parts parts' more best On (inr h) = inr (λ p m. by_kind p (h p m))
@@ -51,6 +52,7 @@ best_of_changes {P} shape side turn parts parts' changes t v to_come h = record 
     by_kept (inl k) = inl k
     by_kept (inr (x, one, c, k)) = let (y, other, e, on) = changes.kept x one in inr (y, other, on t to_come c, subst (λ p. IsNoBetter side v (value_at (shape.function p) t)) (sym e) k)
 
+-- what was carried before a turn is carried by pieces that count alike before it
 pub carried_changes : {P : Type 0} (shape : ShapeOf P) (side : Side) (pos turn : Turn) (to : Rational) (parts parts' : List (Part P)) → Changes turn parts parts' → (best : Best P) (On : Rational → Type 0) → ((t : Rational) → On t → IsToCome turn t) → IsCarried shape side pos to parts best On → IsCarried shape side turn to parts' best On
 carried_changes {P} shape side pos turn to parts parts' changes best On before (inl a) = inl a
 carried_changes {P} shape side pos turn to parts parts' changes best On before (inr h) = inr (λ p m. by_kind p (h p m))
@@ -59,6 +61,7 @@ carried_changes {P} shape side pos turn to parts parts' changes best On before (
     by_kind p (inl n) = inl n
     by_kind p (inr (x, one, e, on)) = let (y, other, is, c) = changes.kept x one in inr (y, other, is ∙ e, λ t k. c t (before t k) (on t k))
 
+-- pieces that come at a turn change nothing before it
 pub changes_of_more : {P : Type 0} (turn : Turn) (parts parts' : List (Part P)) → More turn parts parts' → Changes turn parts parts'
 changes_of_more {P} turn parts parts' more = record { kept = λ x one. (x, more.kept x one, refl, λ t h c. c); new = λ y one. by_new y (more.new y one) }
   where
@@ -71,6 +74,7 @@ pub same_pieces : {P : Type 0} (turn : Turn) (parts : List (Part P)) → Changes
 same_pieces turn parts = record { kept = λ x one. (x, one, refl, λ t h c. c); new = λ x one. inr (x, one, refl, λ t h c. c) }
 
 module _ {P : Type 0} (shape : ShapeOf P) (laws : ShapeLaws shape) (parts parts' : List (Part P)) (pos turn : Turn) (to : Rational) (changes : Changes turn parts parts') where
+  -- after a turn to what is promised from there on, the walk stands at that turn
   pub turned_stands : (old new : Course P) (next : Best P) (low_until low_until' : Turn) (items items' : List (Item P)) → Stands shape old.side pos to parts old low_until items → Turns shape old turn next new
       → ((t : Rational) → IsToCome turn t → NothingLeaves old.after low_until items t) → Keeps shape old.side turn to parts' next low_until' items' → ((p : P) → next.low ≡ Some p → (t : Rational) → FirstHasCome items' t → HasCome low_until' t)
       → ((t : Rational) → SomethingLeaves next low_until' items' t → HasCome turn t) → Stands shape old.side turn to parts' new low_until' items'

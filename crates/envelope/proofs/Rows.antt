@@ -16,6 +16,7 @@ snoc_same [] (b ∷ ys) x y e = let f : [] ≡ ys ++ y ∷ [] = cc in absurd (sn
 snoc_same (a ∷ xs) [] x y e = let f : [] ≡ xs ++ x ∷ [] = cc in absurd (snoc_empty xs x f)
 snoc_same (a ∷ xs) (b ∷ ys) x y e = let f : xs ++ x ∷ [] ≡ ys ++ y ∷ [] = cc in snoc_same xs ys x y f
 
+-- a row of length 0 is empty
 pub empty_list : {A : Type 0} (xs : List A) → length xs ≡ 0 → xs ≡ []
 empty_list [] h = refl
 empty_list (x ∷ xs) h = absurd (omega (arith, h))

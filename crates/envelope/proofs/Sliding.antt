@@ -58,6 +58,7 @@ module _ {P : Type 0} (shape : ShapeOf P) where
     items_on old new turn items at l.1 a.2,
   )
 
+  -- a walk can go on after the gap under the low end has left
   pub can_slide_out : (old new : Course P) (low_until : Turn) (items : List (Item P)) (next : Best P) (p : P) → CanGoOn shape old low_until items → old.after.low ≡ Some p → next.low ≡ None → Turns shape old low_until next new → CanGoOn shape new low_until items
   can_slide_out old new low_until items next p can low none turns = record {
     ready = turns.ready;
@@ -65,6 +66,7 @@ module _ {P : Type 0} (shape : ShapeOf P) where
     queue = items_on old new low_until items turns.not_later (later_of_first old items low_until can.queue (can.low p low).1) can.queue;
   }
 
+  -- a walk can go on after the first constant has left and its slope has come
   pub can_slide_in : (old new : Course P) (low_until low_until' : Turn) (first : Item P) (items : List (Item P)) (next : Best P) → CanGoOn shape old low_until (first ∷ items) → next.low ≡ slope_shape first.slope → low_until' ≡ slope_until first.slope low_until → Turns shape old first.until next new
       → CanGoOn shape new low_until' items
   can_slide_in old new low_until low_until' first items next can low until turns = record {
@@ -129,6 +131,7 @@ module _ {P : Type 0} (shape : ShapeOf P) (side : Side) (pos turn : Turn) (to : 
   all_below_later first [] b = tt
   all_below_later first (item ∷ items) b = (λ t p h. b.0 t p (le_trans before h), all_below_later first items b.1)
 
+  -- items that are stairs from a turn on are so from a later one on
   pub stairs_later : (items : List (Item P)) → AreStairs shape side pos to items → AreStairs shape side turn to items
   stairs_later [] s = tt
   stairs_later (item ∷ items) s = (falling_later item s.0, all_below_later item items s.1, stairs_later items s.2)
@@ -138,10 +141,12 @@ module _ {P : Type 0} (shape : ShapeOf P) (side : Side) (pos turn : Turn) (to : 
     slope_later None until b = tt
     slope_later (Some slope) until (x, one, e, on, end) = (x, one, e, λ t h. on t (come t h.0, h.1, h.2), end)
 
+    -- what backs items from a turn on backs them from a later one on
     pub backed_later : (items : List (Item P)) → AreBacked shape side pos to parts items → AreBacked shape side turn to parts items
     backed_later [] b = tt
     backed_later (item ∷ items) b = (let (x, one, e, on, end) = b.0 in (x, one, e, λ t h. on t (come t h.0, h.1), end), slope_later item.slope item.until b.1, backed_later items b.2)
 
+    -- a piece that counts from a turn on counts from a later one on
     pub piece_later : (p : P) → IsPieceOn parts p (λ t. HasCome pos t) → IsPieceOn parts p (λ t. HasCome turn t)
     piece_later p (x, one, e, on) = (x, one, e, λ t h. on t (come t h))
 

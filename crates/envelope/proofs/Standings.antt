@@ -30,6 +30,7 @@ still (item ∷ items) low_until t h k = by_case (come_or_not item.until t)
 pub low_stays : {P : Type 0} (best : Best P) (low_until : Turn) (items : List (Item P)) (t : Rational) (p : P) → best.low ≡ Some p → NothingLeaves best low_until items t → IsToCome low_until t
 low_stays best low_until items t p e n = subst (λ o. MatchOption o (FirstStays items t) (λ _. IsToCome low_until t)) e n
 
+-- where nothing leaves by t, the first item has not left by t
 pub first_stays : {P : Type 0} (best : Best P) (low_until : Turn) (items : List (Item P)) (t : Rational) (o : Option P) → best.low ≡ o → ((p : P) → best.low ≡ Some p → FirstHasCome items t → HasCome low_until t) → NothingLeaves best low_until items t → FirstStays items t
 first_stays best low_until items t None e h n = subst (λ o. MatchOption o (FirstStays items t) (λ _. IsToCome low_until t)) e n
 first_stays best low_until items t (Some p) e h n = still items low_until t (h p e) (low_stays best low_until items t p e n)
@@ -112,6 +113,7 @@ module _ {P : Type 0} (shape : ShapeOf P) (laws : ShapeLaws shape) (side : Side)
       by_kind p (inl n) = inl n
       by_kind p (inr (x, one, e, on)) = inr (x, one, e, λ t k. on t (f t k))
 
+  -- a signal is settled up to one time only
   pub settled_once : (o : Option (List (Knot P))) (a b : Rational) → IsSettledTo o a → IsSettledTo o b → a ≡ b
   settled_once None a b h k = absurd h
   settled_once (Some built) a b h k = sym h ∙ k

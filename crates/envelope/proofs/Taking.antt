@@ -39,6 +39,7 @@ module _ {P : Type 0} where
   followed_with (q ∷ front) dropped item x f h = (f.0, followed_with front dropped item x f.1 h)
 
 module _ {P : Type 0} (shape : ShapeOf P) where
+  -- where the first item has not left by t, none has
   pub each_to_come : (course : Course P) (items : List (Item P)) (t : Rational) → AreItems shape course items → FirstStays items t → EachToCome items t
   each_to_come course [] t a h = tt
   each_to_come course (item ∷ items) t a h = (h, rest_to_come item items t a.1 h)
@@ -105,6 +106,7 @@ module _ {P : Type 0} (shape : ShapeOf P) (laws : ShapeLaws shape) (from : Turn)
       to_come : EachToCome (q ∷ front ++ dropped) (value from.at)
       to_come = each_to_come shape mid (q ∷ front ++ dropped) (value from.at) l.can.queue (first_stays mid.after low_mid (q ∷ front ++ dropped) (value from.at) mid.after.low refl (λ p e h. (l.can.low p e).1 (value from.at) h) l.still)
 
+  -- a walk that has let go what left, dropped the worse items and risen to the new constant has admitted the item
   pub taken : (front : List (Item P)) (new : Course P) → ((rest : List (Item P)) (x : Item P) → front ≡ rest ++ x ∷ [] → IsNoBetter mid.side (value_at (shape.function item.value) (value from.at)) (value_at (shape.function x.value) (value from.at)))
       → Leaves shape from old low_until items mid low_mid (front ++ dropped) → RisesTo shape from item.value mid front new → Admits shape from item old low_until items new low_mid (front ++ item ∷ [])
   taken [] new last l r = taken_first new l r

@@ -31,6 +31,7 @@ come_or_not turn t = by_order (lt_or_same_or_gt (value turn.at) t)
     by_order (inr (inl s)) = by_after turn.just_after refl s
     by_order (inr (inr h)) = inr (inl h)
 
+-- no turn has come and is still to come
 pub not_both : (turn : Turn) (t : Rational) → HasCome turn t → ¬ (IsToCome turn t)
 not_both turn t (inl h) (inl k) = not_lt_of_le (le_of_lt h) k
 not_both turn t (inl h) (inr k) = not_lt_of_le (ge_of_same k.0) h

@@ -46,6 +46,7 @@ module _ {P : Type 0} (shape : ShapeOf P) where
     pub denominator : HasDenominator time den
     pub wide : 2 ^ 60 ≤ den
 
+  -- only a crossing is refused, never a value
   abbrev pub IsBestFault : Best P → Rational → Rational → WidePair P → Type 0
   IsBestFault best from to (Cross p q a b den) = IsCrossingOf best from to p q a b den
   IsBestFault best from to (Value p a den) = ⊥

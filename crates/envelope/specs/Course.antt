@@ -76,6 +76,7 @@ module _ {P : Type 0} (shape : ShapeOf P) where
   IsOpenFault course None pair = ⊥
   IsOpenFault course (Some built) pair = IsBestFault shape course.before (stop built) (value course.at) pair
 
+  -- a refusal of a course tells such a pair
   abbrev pub IsCourseFault : Course P → WidePair P → Type 0
   IsCourseFault course pair = IsOpenFault course course.built pair
 

@@ -27,6 +27,7 @@ abbrev pub Lasts : Option Turn → Rational → Type 0
 Lasts None t = Unit {0}
 Lasts (Some turn) t = IsToCome turn t
 
+-- from its turn on, until it ends
 abbrev pub Counts : {P : Type 0} → Part P → Rational → Type 0
 Counts part t = HasCome part.from t × Lasts part.until t
 
@@ -65,6 +66,7 @@ abbrev pub slope_shape : {P : Type 0} → Option (Slope P) → Option P
 slope_shape None = None
 slope_shape (Some slope) = Some slope.shape
 
+-- until when the slope counts, or the other turn where there is none
 abbrev pub slope_until : {P : Type 0} → Option (Slope P) → Turn → Turn
 slope_until None turn = turn
 slope_until (Some slope) turn = slope.until
@@ -74,9 +76,11 @@ abbrev pub GivesSlope : {P : Type 0} → Option (Slope P) → Rational → P →
 GivesSlope None t p = ⊥
 GivesSlope (Some slope) t p = IsToCome slope.until t × (p ≡ slope.shape)
 
+-- what one item gives at t
 abbrev pub Gives : {P : Type 0} → Item P → Rational → P → Type 0
 Gives item t p = (IsToCome item.until t × (p ≡ item.value)) ⊎ (HasCome item.until t × GivesSlope item.slope t p)
 
+-- one of the items gives p at t
 abbrev pub SomeGives : {P : Type 0} → List (Item P) → Rational → P → Type 0
 SomeGives [] t p = ⊥
 SomeGives (item ∷ items) t p = Gives item t p ⊎ SomeGives items t p
@@ -90,6 +94,7 @@ abbrev pub FirstStays : {P : Type 0} → List (Item P) → Rational → Type 0
 FirstStays [] t = Unit {0}
 FirstStays (item ∷ items) t = IsToCome item.until t
 
+-- the first item has left by t
 abbrev pub FirstHasCome : {P : Type 0} → List (Item P) → Rational → Type 0
 FirstHasCome [] t = ⊥
 FirstHasCome (item ∷ items) t = HasCome item.until t
@@ -97,6 +102,7 @@ FirstHasCome (item ∷ items) t = HasCome item.until t
 abbrev pub NothingLeaves : {P : Type 0} → Best P → Turn → List (Item P) → Rational → Type 0
 NothingLeaves best low_until items t = MatchOption best.low (FirstStays items t) (λ _. IsToCome low_until t)
 
+-- what leaves next has left by t
 abbrev pub SomethingLeaves : {P : Type 0} → Best P → Turn → List (Item P) → Rational → Type 0
 SomethingLeaves best low_until items t = MatchOption best.low (FirstHasCome items t) (λ _. HasCome low_until t)
 
@@ -105,6 +111,7 @@ abbrev pub first_turn : {P : Type 0} → List (Item P) → Option Turn
 first_turn [] = None
 first_turn (item ∷ items) = Some item.until
 
+-- it is that of the gap under the low end, and else that of the first item
 abbrev pub leaving_by : {P : Type 0} → Option P → Turn → List (Item P) → Option Turn
 leaving_by None low_until items = first_turn items
 leaving_by (Some p) low_until items = Some low_until
@@ -114,18 +121,21 @@ abbrev pub low_turns : {P : Type 0} → Option P → ℕ
 low_turns None = 0
 low_turns (Some p) = 1
 
+-- one for the gap under the low end, and two for each item
 abbrev pub turns_left : {P : Type 0} → Option P → List (Item P) → ℕ
 turns_left low items = low_turns low + (length items + length items)
 
--- the second item leaves no earlier than the first
+-- the slope, if there is one, ends no later than the turn
 abbrev pub SlopeEndsBy : {P : Type 0} → Option (Slope P) → Turn → Type 0
 SlopeEndsBy None until = Unit {0}
 SlopeEndsBy (Some slope) until = (t : Rational) → HasCome until t → HasCome slope.until t
 
+-- the second item leaves no earlier than the first, and than the slope of the first
 pub record Follows {P : Type 0} (first second : Item P) : Type 0 where
   pub until : (t : Rational) → HasCome second.until t → HasCome first.until t
   pub slope : SlopeEndsBy first.slope second.until
 
+-- each of the items follows the first
 abbrev pub AllFollow : {P : Type 0} → Item P → List (Item P) → Type 0
 AllFollow first [] = Unit {0}
 AllFollow first (item ∷ items) = Follows first item × AllFollow first items
@@ -141,11 +151,13 @@ module _ {P : Type 0} (shape : ShapeOf P) where
   IsSlope None until = Unit {0}
   IsSlope (Some slope) until = IsWithin (2 ^ 34) (value slope.until.at) × HasBoundedLevel (2 ^ 31) (shape.function slope.shape) × ((t : Rational) → HasCome slope.until t → HasCome until t)
 
+  -- an item of the queue: its turns come no earlier than the last knot, and its shapes are within limits
   pub record IsItem (course : Course P) (item : Item P) : Type 0 where
     pub next : IsNext course item.until
     pub level : HasBoundedLevel (2 ^ 31) (shape.function item.value)
     pub slope : IsSlope item.slope item.until
 
+  -- all are items, and each leaves no earlier than those before it
   abbrev pub AreItems : Course P → List (Item P) → Type 0
   AreItems course [] = Unit {0}
   AreItems course (item ∷ items) = IsItem course item × AllFollow item items × AreItems course items
@@ -166,6 +178,7 @@ module _ {P : Type 0} (shape : ShapeOf P) (side : Side) (pos : Turn) (to : Ratio
   abbrev pub IsBelow : Item P → Item P → Type 0
   IsBelow first second = (t : Rational) (p : P) → value pos.at ≤ʳ t → t ≤ʳ to → IsToCome first.until t → Gives second t p → IsNoBetter side (value_at (shape.function p) t) (value_at (shape.function first.value) t)
 
+  -- each of the items is below the first
   abbrev pub AllBelow : Item P → List (Item P) → Type 0
   AllBelow first [] = Unit {0}
   AllBelow first (item ∷ items) = IsBelow first item × AllBelow first items
@@ -181,6 +194,7 @@ module _ {P : Type 0} (shape : ShapeOf P) (side : Side) (pos : Turn) (to : Ratio
     IsSlopeBacked None until = Unit {0}
     IsSlopeBacked (Some slope) until = IsEndingPieceOn parts slope.shape (λ t. HasCome pos t × HasCome until t × IsToCome slope.until t)
 
+    -- each constant and each slope is a piece that counts as long as it is given
     abbrev pub AreBacked : List (Item P) → Type 0
     AreBacked [] = Unit {0}
     AreBacked (item ∷ items) = IsEndingPieceOn parts item.value (λ t. HasCome pos t × IsToCome item.until t) × IsSlopeBacked item.slope item.until × AreBacked items
@@ -242,6 +256,7 @@ abbrev pub piece_of : {P : Type 0} → Turn → Item P → Option (Slope P) → 
 piece_of from item None parts = record { shape = item.value; from = from; until = Some item.until } ∷ parts
 piece_of from item (Some slope) parts = record { shape = item.value; from = from; until = Some item.until } ∷ record { shape = slope.shape; from = item.until; until = Some slope.until } ∷ parts
 
+-- the pieces of the item, before those that were
 abbrev pub pieces_with : {P : Type 0} → Turn → Item P → List (Part P) → List (Part P)
 pieces_with from item parts = piece_of from item item.slope parts
 
