@@ -1,0 +1,12 @@
+pub mod TurnOrder
+pub mod Bests
+pub mod Courses
+pub mod Standings
+pub mod Passing
+pub mod Sliding
+pub mod Admitting
+pub mod Rows
+pub mod Leaving
+pub mod Admitted
+pub mod Taking
+pub mod Climbing

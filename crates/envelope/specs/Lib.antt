@@ -1,0 +1,4 @@
+pub mod Turns
+pub mod Best
+pub mod Course
+pub mod Standing

@@ -1,0 +1,185 @@
+//! What counts at a time, and a signal that goes on with it.
+ghost use Rattle.std.specs.Prelude.{◌≡◌, ◌⊎◌, ◌^◌, IsTrue, None, Some, IsOk, IsErrAnd, OnOk, OnErr, IfErr, IfSome, MatchOption};
+ghost use Rattle.rational.specs.Rational.{IsWithin};
+ghost use Rattle.rational.specs.Time.{◌<ʳ◌};
+ghost use Rattle.rational.specs.Extended.{value_at};
+ghost use Rattle.rational.specs.Affine.{AreSame, HasBoundedLevel};
+ghost use Rattle.frac128.specs.Value.{value};
+ghost use Rattle.pl_signal.specs.Joining.{IsChosen, TurnsOver};
+ghost use Rattle.pl_signal.specs.Knots.{stop};
+ghost use Rattle.envelope.specs.Best.{Has, IsBestAt, IsBestFault, IsJoinFault, IsKept, IsWritten};
+ghost use Rattle.envelope.specs.Turns.{IsNoBetter};
+
+use frac128::{Frac, Memory};
+use pl_signal::{Builder, OpFault, Side, WidePair, chosen, crossing, favour};
+use std::cmp::Ordering;
+use value_laws::Shape;
+
+/// What counts at a time: the best constant, and the gaps that the low end and the high end of a window move over.
+#[derive(Clone, Copy)]
+pub struct Best<P> {
+    pub top: P,
+    pub low: Option<P>,
+    pub high: Option<P>,
+}
+
+impl<P: Shape> Best<P> {
+    /// The shape with the best value at `t` of what counts.
+    pub(crate) fn at(&self, side: Side, t: &Frac) -> P
+        requires { IsWithin (2 ^ 34) (value t.now) }
+        ensures one { Has self.now result }
+        ensures value { IsBestAt P.Shape side self.now (value t.now) (value_at (P.function result) (value t.now)) }
+    {
+        let best = or_better(side, &self.top, &self.low, t);
+        or_better(side, &best, &self.high, t)
+    }
+
+    /// Whether the constant alone counts, and has this function.
+    pub(crate) fn is_only(&self, shape: &P) -> bool
+        ensures alone { IsTrue result → (self.now.low ≡ None) × (self.now.high ≡ None) }
+        ensures same { IsTrue result → AreSame (P.function self.now.top) (P.function shape.now) }
+    {
+        self.low.is_none() && self.high.is_none() && P::same(&self.top, shape)
+    }
+}
+
+/// The better of the two at `t`, or the first where there is no second.
+fn or_better<P: Shape>(side: Side, p: &P, other: &Option<P>, t: &Frac) -> P
+    requires { IsWithin (2 ^ 34) (value t.now) }
+    ensures one { (result ≡ p.now) ⊎ (other.now ≡ Some result) }
+    ensures value { MatchOption other.now (result ≡ p.now)
+        (λ q. IsChosen side (value_at (P.function p.now) (value t.now)) (value_at (P.function q) (value t.now)) (value_at (P.function result) (value t.now))) }
+{
+    match other {
+        Some(q) => chosen(side, p, q, t),
+        None => *p,
+    }
+}
+
+/// Goes on with the best of what counts up to the time, and with `point` there. Where a crossing is refused it is put into `fault`.
+pub(crate) fn write<P: Shape>(
+    side: Side,
+    built: &mut Builder<P>,
+    best: &Best<P>,
+    to: &Frac,
+    point: P,
+    fault: &mut Option<WidePair<P>>,
+) -> Result<(), Memory>
+    requires order { stop built.old <ʳ value to.now }
+    requires from_within { IsWithin (2 ^ 34) (stop built.old) }
+    requires to_within { IsWithin (2 ^ 34) (value to.now) }
+    requires levels { (p : P) → Has best.now p → HasBoundedLevel (2 ^ 31) (P.function p) }
+    requires none { fault.old ≡ None }
+    ensures ok { OnOk result (IsWritten P.Shape side built.old best.now to.now point built.new) }
+    ensures still { OnOk result (fault.new ≡ None) }
+    ensures fault { OnErr result (IfSome fault.new (IsBestFault P.Shape best.now (stop built.old) (value to.now))) }
+{
+    match (&best.low, &best.high) {
+        (None, None) => built.step(best.top, *to, point),
+        (Some(low), None) => keep(built.join(side, low, &best.top, to, point), fault),
+        (None, Some(high)) => keep(built.join(side, high, &best.top, to, point), fault),
+        (Some(low), Some(high)) => keep(
+            join_three(side, built, low, high, &best.top, to, point),
+            fault,
+        ),
+    }
+}
+
+/// Keeps what was refused, and tells only that something was.
+fn keep<P: Shape>(
+    joined: Result<(), OpFault<P>>,
+    fault: &mut Option<WidePair<P>>,
+) -> Result<(), Memory>
+    requires { fault.old ≡ None }
+    ensures ok { OnOk result (IsOk joined) }
+    ensures still { OnOk result (fault.new ≡ None) }
+    ensures fault { OnErr result (IsErrAnd joined (λ e. IsKept e fault.new)) }
+{
+    match joined {
+        Ok(()) => Ok(()),
+        Err(OpFault::Memory) => Err(Memory),
+        Err(OpFault::Wide(pair)) => {
+            *fault = Some(pair);
+            Err(Memory)
+        }
+    }
+}
+
+/// Goes on with the best of three shapes up to the time, and with `point` there.
+fn join_three<P: Shape>(
+    side: Side,
+    built: &mut Builder<P>,
+    p: &P,
+    q: &P,
+    r: &P,
+    to: &Frac,
+    point: P,
+) -> Result<(), OpFault<P>>
+    requires order { stop built.old <ʳ value to.now }
+    requires from_within { IsWithin (2 ^ 34) (stop built.old) }
+    requires to_within { IsWithin (2 ^ 34) (value to.now) }
+    requires levels { (x : P) → Has (record { top = r.now; low = Some p.now; high = Some q.now }) x → HasBoundedLevel (2 ^ 31) (P.function x) }
+    ensures ok { OnOk result (IsWritten P.Shape side built.old (record { top = r.now; low = Some p.now; high = Some q.now }) to.now point built.new) }
+    ensures fault { IfErr result (IsJoinFault P.Shape (record { top = r.now; low = Some p.now; high = Some q.now }) (stop built.old) (value to.now)) }
+{
+    let from = built.stop();
+    match favour(side, p, q, &from) {
+        Ordering::Greater => join_ordered(side, built, q, p, r, to, point),
+        _ => join_ordered(side, built, p, q, r, to, point),
+    }
+}
+
+/// The same, where `first` is no worse than `second` at the last time so far.
+fn join_ordered<P: Shape>(
+    side: Side,
+    built: &mut Builder<P>,
+    first: &P,
+    second: &P,
+    r: &P,
+    to: &Frac,
+    point: P,
+) -> Result<(), OpFault<P>>
+    requires order { stop built.old <ʳ value to.now }
+    requires from_within { IsWithin (2 ^ 34) (stop built.old) }
+    requires to_within { IsWithin (2 ^ 34) (value to.now) }
+    requires levels { (x : P) → Has (record { top = r.now; low = Some first.now; high = Some second.now }) x → HasBoundedLevel (2 ^ 31) (P.function x) }
+    requires better { IsNoBetter side (value_at (P.function second.now) (stop built.old)) (value_at (P.function first.now) (stop built.old)) }
+    ensures ok { OnOk result (IsWritten P.Shape side built.old (record { top = r.now; low = Some first.now; high = Some second.now }) to.now point built.new) }
+    ensures fault { IfErr result (IsJoinFault P.Shape (record { top = r.now; low = Some first.now; high = Some second.now }) (stop built.old) (value to.now)) }
+{
+    let from = built.stop();
+    match favour(side, first, second, to) {
+        Ordering::Greater => match favour(side, first, second, &from) {
+            Ordering::Less => join_split(side, built, first, second, r, to, point),
+            _ => built.join(side, second, r, to, point),
+        },
+        _ => built.join(side, first, r, to, point),
+    }
+}
+
+/// The same, where `first` is the better one at the last time so far, and `second` at the time `to`.
+fn join_split<P: Shape>(
+    side: Side,
+    built: &mut Builder<P>,
+    first: &P,
+    second: &P,
+    r: &P,
+    to: &Frac,
+    point: P,
+) -> Result<(), OpFault<P>>
+    requires order { stop built.old <ʳ value to.now }
+    requires from_within { IsWithin (2 ^ 34) (stop built.old) }
+    requires to_within { IsWithin (2 ^ 34) (value to.now) }
+    requires levels { (x : P) → Has (record { top = r.now; low = Some first.now; high = Some second.now }) x → HasBoundedLevel (2 ^ 31) (P.function x) }
+    requires turned { TurnsOver (P.function first.now) (P.function second.now) (stop built.old) (value to.now) }
+    requires better { IsNoBetter side (value_at (P.function second.now) (stop built.old)) (value_at (P.function first.now) (stop built.old)) }
+    requires worse { IsNoBetter side (value_at (P.function first.now) (value to.now)) (value_at (P.function second.now) (value to.now)) }
+    ensures ok { OnOk result (IsWritten P.Shape side built.old (record { top = r.now; low = Some first.now; high = Some second.now }) to.now point built.new) }
+    ensures fault { IfErr result (IsJoinFault P.Shape (record { top = r.now; low = Some first.now; high = Some second.now }) (stop built.old) (value to.now)) }
+{
+    let from = built.stop();
+    let middle = crossing(first, second, &from, to)?;
+    let there = chosen(side, first, r, &middle);
+    built.join(side, first, r, &middle, there)?;
+    built.join(side, second, r, to, point)
+}
