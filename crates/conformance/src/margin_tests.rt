@@ -32,12 +32,12 @@ const MARGINS: [(&str, &str, &str); 11] = [
         "[0] 0\n(0,3/2) 0 -> 3/2\n[3/2] 3/2\n(3/2,17/2) 3/2 -> 3/2\n[17/2] 3/2\n(17/2,10) 3/2 -> 0\n[10] 0\n",
     ),
     ("true", "time,x\n100,7\n", "[100] inf\n"),
-    ("false", "time,x\n0,7\n9,8\n", "[0] -inf\n(0,9) -inf -> -inf\n[9] -inf\n"),
     (
-        "x >= 1.5",
-        RISE,
-        "[0] -3/2\n(0,10) -3/2 -> 3/2\n[10] 3/2\n",
+        "false",
+        "time,x\n0,7\n9,8\n",
+        "[0] -inf\n(0,9) -inf -> -inf\n[9] -inf\n",
     ),
+    ("x >= 1.5", RISE, "[0] -3/2\n(0,10) -3/2 -> 3/2\n[10] 3/2\n"),
     (
         "not x >= 1.5",
         RISE,
@@ -77,7 +77,10 @@ fn margins_are_written_however_the_bytes_are_cut(rt: HostRuntime) -> Result<(), 
     for (i, (formula, input, out)) in MARGINS.iter().enumerate() {
         let words: &[&str] = &["robust", formula];
         let case = answered(words, input, out);
-        assert!(rt; agrees_however_cut(rt.alloc(), case, input.len().min(24))?, "row {i}");
+        assert!(rt;
+            agrees_however_cut(rt.alloc(), case, input.len().min(24))?,
+            "row {i}"
+        );
     }
     Ok(())
 }
@@ -100,7 +103,10 @@ fn a_denominator_that_is_too_large_is_told(rt: HostRuntime) -> Result<(), Fail> 
         err: "",
         status: 1,
     };
-    assert!(rt; agrees(rt.alloc(), truth, pieces(4096))?, "the verdicts are never too wide");
+    assert!(rt;
+        agrees(rt.alloc(), truth, pieces(4096))?,
+        "the verdicts are never too wide"
+    );
     Ok(())
 }
 
@@ -118,7 +124,11 @@ fn a_long_window_over_many_rows_is_measured(rt: HostRuntime) -> Result<(), Fail>
     let alloc = rt.alloc();
     let input = falling(alloc, 200_000)?;
     let words: &[&str] = &["robust", "always[0,200000] x >= 0"];
-    let case = answered(words, input.as_str(), "[0] 0\n(0,199999) 0 -> 0\n[199999] 0\n");
+    let case = answered(
+        words,
+        input.as_str(),
+        "[0] 0\n(0,199999) 0 -> 0\n[199999] 0\n",
+    );
     assert!(rt; agrees(alloc, case, pieces(4096))?);
     Ok(())
 }

@@ -1,5 +1,5 @@
 -- The signals of atoms tell the atoms in the setting in which each atom is read by the plain list of knots of its own signal.
-use Rattle.std.proofs.Common.{◌≡◌, ℕ, zero, suc, ◌+◌, ◌-◌, ◌<◌, List, [], ◌∷◌, length, drop, take, map, cond, Some, refl, sym, ap, ◌∙◌, subst, arith, length-drop}
+use Rattle.std.proofs.Common.{◌≡◌, ℕ, zero, suc, ◌+◌, ◌<◌, List, [], ◌∷◌, length, drop, take, map, cond, Some, refl, sym, ap, ◌∙◌, subst, arith, length-drop}
 use Rattle.std.specs.Prelude.{slice_get, All, pos}
 use Rattle.std.proofs.lemmas.List.Sums.{sum_by-cons}
 use Rattle.std.proofs.lemmas.Option.{slice_get_within, get_or_from_slice_get}
@@ -8,7 +8,7 @@ use Rattle.rational.specs.Extended.{Extended}
 use Rattle.rational.proofs.Order.{le_trans, le_of_same, ge_of_same}
 use Rattle.value_laws.specs.Members.{ShapeOf}
 use Rattle.pl_signal.specs.declared.knot.Knot.{Knot}
-use Rattle.pl_signal.specs.Knots.{IsSignal, IsWorth}
+use Rattle.pl_signal.specs.Knots.{IsSignal}
 use Rattle.pl_signal.specs.Moves.{Tells}
 use Rattle.pl_signal.specs.Plain.{knots_of}
 use Rattle.pl_signal.proofs.Values.{some_is, worth_within}
@@ -61,21 +61,21 @@ module _ {P : Type 0} (shape : ShapeOf P) (nodes : List Node) (from to : ℕ) (a
       let input = subst (IsInput shape from to) (get_or_from_slice_get atoms n x x there) (inputs n x (slice_get_within atoms n x there)) in
       let place = placed_at nodes (map (knots_of shape) atoms) i a (knots_of shape x) at (got_mapped (knots_of shape) atoms n x there) in
       let given : (t : Rational) (v : Extended) → Reads (knots_of shape x) t v → Gives (signals (placed nodes (map (knots_of shape) atoms))) i a t v =
-              λ t v h. (knots_of shape x, place, h) in
+      λ t v h. (knots_of shape x, place, h) in
       let told : Tells shape (Gives (signals (placed nodes (map (knots_of shape) atoms))) i a) (whole (pos from)) (whole (pos to)) x = record {
-            signal = is_signal;
-            begins = input.begins;
-            ends = input.ends;
-            worth = λ t v. (
-                λ w. (
-                    let in_domain = worth_within shape x t v is_signal w in
-                        record { above = le_trans (ge_of_same input.begins) in_domain.above; below = le_trans in_domain.below (le_of_same input.ends) },
-                    given t v ((reads_is_worth shape x t v is_signal).1 w),
-                ),
-                λ h.
-                    let (ks, at_place, reads) = h.1 in
-                    let same : ks ≡ knots_of shape x = some_is (some_is (sym at_place ∙ place)) in
-                    (reads_is_worth shape x t v is_signal).0 (subst (λ l. Reads l t v) same reads),
-            );
-          } in
+        signal = is_signal;
+        begins = input.begins;
+        ends = input.ends;
+        worth = λ t v. (
+          λ w. (
+            let in_domain = worth_within shape x t v is_signal w in
+                record { above = le_trans (ge_of_same input.begins) in_domain.above; below = le_trans in_domain.below (le_of_same input.ends) },
+            given t v ((reads_is_worth shape x t v is_signal).1 w),
+          ),
+          λ h.
+              let (ks, at_place, reads) = h.1 in
+              let same : ks ≡ knots_of shape x = some_is (some_is (sym at_place ∙ place)) in
+              (reads_is_worth shape x t v is_signal).0 (subst (λ l. Reads l t v) same reads),
+        );
+      } in
       (x, there, told)

@@ -1,18 +1,17 @@
 -- The lines of margins from their parts.
-use Rattle.std.proofs.Common.{◌≡◌, ℕ, suc, zero, ◌+◌, List, [], ◌∷◌, ◌++◌, drop, length, codes, append-nil, append_assoc, refl, sym, ap, ◌∙◌, arith, Some, subst}
+use Rattle.std.proofs.Common.{◌≡◌, ℕ, suc, zero, List, [], ◌∷◌, ◌++◌, drop, length, codes, append-nil, append_assoc, refl, sym, ap, ◌∙◌, arith, Some, subst}
 use Rattle.std.specs.Prelude.{slice_get, Result, OnOk, OnErr}
 use Rattle.std.proofs.lemmas.Result.{on_ok_weaker, on_err_weaker}
-use Rattle.rational.specs.Time.{Rational, Within, ◌≤ʳ◌}
+use Rattle.rational.specs.Time.{Rational}
 use Rattle.rational.specs.Rational.{IsWithin}
-use Rattle.rational.specs.Extended.{Affine, Extended, minus_infinity, finite, infinity, value_at}
+use Rattle.rational.specs.Extended.{Extended, minus_infinity, finite, infinity, value_at}
 use Rattle.rational.specs.Knots as plain
 use Rattle.rational.specs.Knots.{Piece}
 use Rattle.rational.proofs.Order.{le_trans, same_refl}
-use Rattle.frac128.specs.Value.{value}
 use Rattle.value_laws.specs.Members.{ShapeOf}
 use Rattle.pl_signal.specs.declared.knot.Knot.{Knot}
 use Rattle.pl_signal.specs.Knots.{time, start, stop, IsSignal}
-use Rattle.pl_signal.specs.Plain.{plain_knot, plain_piece, pieces_of, knots_of}
+use Rattle.pl_signal.specs.Plain.{plain_knot, pieces_of, knots_of}
 use Rattle.pl_signal.proofs.Values.{some_is, worth_at, worth_within}
 use Rattle.value_laws.specs.declared.margin.Margin.{Margin}
 use Rattle.value_laws.specs.Margins.{margin_function}
@@ -85,8 +84,8 @@ module _ (scale : Scale) where
   pub knot_line_exists : (k : plain.Knot) → growth.Some (IsKnotLine scale k)
   knot_line_exists k =
       let parts = some_then (Then (IsTimeAfter (codes "[") scale.time k.time) (IsValueAfter (codes "] ") scale.value k.value)) (Is newline)
-          (some_then (IsTimeAfter (codes "[") scale.time k.time) (IsValueAfter (codes "] ") scale.value k.value)
-          (time_after_exists (codes "[") scale.time k.time) (value_after_exists (codes "] ") scale.value k.value)) (newline, refl) in
+      (some_then (IsTimeAfter (codes "[") scale.time k.time) (IsValueAfter (codes "] ") scale.value k.value)
+      (time_after_exists (codes "[") scale.time k.time) (value_after_exists (codes "] ") scale.value k.value)) (newline, refl) in
       (parts.0, knot_line k parts.0 parts.1)
 
   -- the parts of a piece's line
@@ -109,7 +108,7 @@ module _ (scale : Scale) where
   pub piece_line_exists : (k : plain.Knot) (p : Piece) → growth.Some (IsPieceLine scale k p)
   piece_line_exists k p =
       let times = some_then (IsTimeAfter (codes "(") scale.time k.time) (IsTimeAfter (codes ",") scale.time p.next.time)
-          (time_after_exists (codes "(") scale.time k.time) (time_after_exists (codes ",") scale.time p.next.time) in
+      (time_after_exists (codes "(") scale.time k.time) (time_after_exists (codes ",") scale.time p.next.time) in
       let front = some_then (PieceTimes k p) (IsValueAfter (codes ") ") scale.value p.from) times (value_after_exists (codes ") ") scale.value p.from) in
       let limits = some_then (PieceFront k p) (IsValueAfter (codes " -> ") scale.value p.to) front (value_after_exists (codes " -> ") scale.value p.to) in
       let parts = some_then (PieceLimits k p) (Is newline) limits (newline, refl) in
@@ -159,7 +158,7 @@ module _ {P : Type 0} (shape : ShapeOf P) (scale : Scale) where
       let same : n ≡ m = let g = sym here ∙ f in cc in
       let same_rest : drop (suc (suc i)) ks ≡ rest = let g = sym here ∙ f in cc in
       let all = before k (n ∷ rest) (piece ++ knot ++ later) (drop_at ks i k at ∙ ap (λ xs. k ∷ xs) (here ∙ ap (λ xs. n ∷ xs) same_rest))
-          (piece, knot, later, is_piece, is_knot, subst (λ l. ArePieceLines scale (plain_knot shape l) (pieces_of shape l rest) later) (sym same) lines, refl) in
+      (piece, knot, later, is_piece, is_knot, subst (λ l. ArePieceLines scale (plain_knot shape l) (pieces_of shape l rest) later) (sym same) lines, refl) in
       subst (AreLaterLines shape scale ks) (simp (e, append_assoc)) all
 
   pub lines_end : (ks : List (Knot P)) (i : ℕ) (text : List ℕ) → suc i ≡ length ks → AreLinesTo ks i text → AreLaterLines shape scale ks text

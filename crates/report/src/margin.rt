@@ -94,12 +94,7 @@ fn put_piece(
 }
 
 /// Appends the lines of the piece between two knots and of the second.
-fn put_next(
-    text: &mut Text,
-    k: &Knot<Margin>,
-    n: &Knot<Margin>,
-    scale: Scale,
-) -> Result<(), Memory>
+fn put_next(text: &mut Text, k: &Knot<Margin>, n: &Knot<Margin>, scale: Scale) -> Result<(), Memory>
     requires time { scale.time ≤ 6 }
     requires value { scale.value ≤ 6 }
     requires from { IsWithin (2 ^ 34) (value k.now.time) }

@@ -38,10 +38,10 @@ one_inside k q t r v rising a b =
     let from = same_transᵉ (value_at a.through k.time) q.from (value_at b.through k.time) (same_symᵉ q.from (value_at a.through k.time) a.from) b.from in
     let to = same_transᵉ (value_at a.through q.next.time) q.to (value_at b.through q.next.time) (same_symᵉ q.to (value_at a.through q.next.time) a.to) b.to in
     let same : value_at a.through t ≈ᵉ value_at b.through t = record {
-          at_most = affine_unique a.through b.through k.time q.next.time t rising from to;
-          at_least = affine_unique b.through a.through k.time q.next.time t rising (same_symᵉ (value_at a.through k.time) (value_at b.through k.time) from)
-              (same_symᵉ (value_at a.through q.next.time) (value_at b.through q.next.time) to);
-        } in
+      at_most = affine_unique a.through b.through k.time q.next.time t rising from to;
+      at_least = affine_unique b.through a.through k.time q.next.time t rising (same_symᵉ (value_at a.through k.time) (value_at b.through k.time) from)
+          (same_symᵉ (value_at a.through q.next.time) (value_at b.through q.next.time) to);
+    } in
     same_transᵉ r (value_at a.through t) v a.value (same_transᵉ (value_at a.through t) (value_at b.through t) v same (same_symᵉ v (value_at b.through t) b.value))
 
 module _ (p : Subformula) (tr : Trace) where
@@ -51,15 +51,15 @@ module _ (p : Subformula) (tr : Trace) where
 
   at_knot : (k : Knot) (t : Rational) (r : Extended) → start tr ≤ʳ k.time → k.time ≤ʳ stop tr → IsRobust p tr k → t ≈ k.time → r ≈ᵉ k.value → IsValue t r
   at_knot k t r above below is e same = (
-      record { above = le_trans above (ge_of_same e); below = le_trans (le_of_same e) below },
-      (k.value, values_are_of_times p (margin_setting tr) k.time t k.value (same_sym e) is, same),
+    record { above = le_trans above (ge_of_same e); below = le_trans (le_of_same e) below },
+    (k.value, values_are_of_times p (margin_setting tr) k.time t k.value (same_sym e) is, same),
   )
 
   inside : (k : Knot) (q : Piece) (t : Rational) (r : Extended) → start tr ≤ʳ k.time → q.next.time ≤ʳ stop tr → IsRobustInside p tr k q → IsInside k q t r → IsValue t r
   inside k q t r above below is at =
       let (v, told, here) = is.1 t at.after at.before in (
-          record { above = le_trans above (le_of_lt at.after); below = le_trans (le_of_lt at.before) below },
-          (v, told, one_inside k q t r v is.0 at here),
+        record { above = le_trans above (le_of_lt at.after); below = le_trans (le_of_lt at.before) below },
+        (v, told, one_inside k q t r v is.0 at here),
       )
 
   -- the pieces end at the stop
@@ -97,8 +97,8 @@ module _ (p : Subformula) (tr : Trace) where
     told_by e tr' positive like close t r at =
         let (w, (v, is, same)) = value_read t r at in
         let told = sure tr' e positive like close t v w is in (
-            λ h. told.0 (lt_of_lt_of_leᵉ (finite e) r v h same.at_most),
-            λ h. told.1 (lt_of_le_of_ltᵉ v r (finite (negate e)) same.at_least h),
+          λ h. told.0 (lt_of_lt_of_leᵉ (finite e) r v h same.at_most),
+          λ h. told.1 (lt_of_le_of_ltᵉ v r (finite (negate e)) same.at_least h),
         )
 
     sign : (t : Rational) (r : Extended) → Reads knots t r → (finite (whole (pos 0)) <ᵉ r → Truth p tr t) × (r <ᵉ finite (whole (pos 0)) → ¬ Truth p tr t)

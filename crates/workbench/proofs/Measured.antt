@@ -1,5 +1,5 @@
 -- The answer of `robust` for a case: what the root's signal tells, and why there is none.
-use Rattle.std.proofs.Common.{◌≡◌, ℕ, ◌<◌, ◌≤◌, ◌^◌, ◌+◌, ◌*◌, List, inl, inr, pos, refl, ap, subst, arith, true}
+use Rattle.std.proofs.Common.{ℕ, ◌≤◌, ◌^◌, List, inl, inr, pos, refl, subst, arith, true}
 use Rattle.rational.specs.Time.{Rational, whole, ◌≈◌}
 use Rattle.rational.specs.Rational.{IsWithin}
 use Rattle.rational.proofs.Order.{le_trans, le_of_same, ge_of_same}
@@ -18,7 +18,6 @@ use Rattle.stl_syntax.specs.Knots.{Knots}
 use Rattle.stl_syntax.specs.SupInf.{SupInf, HasValues, HasInfs, margins, margin_setting}
 use Rattle.stl_syntax.specs.Texts.{AreMarginLines}
 use Rattle.stl_syntax.specs.Verdicts.{DescribesMargins}
-use Rattle.stl_syntax.specs.declared.node.Node.{Node}
 use Rattle.stl_syntax.proofs.LawProofs.{margins_hold}
 use Rattle.offline_eval.specs.Evaluation.{IsCauseAt}
 use Rattle.offline_eval.specs.declared.faults.EvalFault.{EvalFault}
@@ -34,8 +33,8 @@ use Rattle.workbench.specs.Wholes.{IsAnswerOf, IsUnanswered}
 -- a time of 32 bits is within the limits
 pub tick_within : (t : Rational) (n : ℕ) → t ≈ whole (pos n) → n ≤ 4294967295 → IsWithin (2 ^ 34) t
 tick_within t n e small = (
-    le_trans (record { le = omega arith }) (ge_of_same e),
-    le_trans (le_of_same e) (record { le = omega (arith, small) }),
+  le_trans (record { le = omega arith }) (ge_of_same e),
+  le_trans (le_of_same e) (record { le = omega (arith, small) }),
 )
 
 module _ (c : Case) (f : Formula) (case : IsCase f c) where
@@ -51,9 +50,9 @@ module _ (c : Case) (f : Formula) (case : IsCase f c) where
   unfolding Over
   measured x text values infs tells lines =
       let own : Over text c.formula = (
-              (knots_of margin_shape x, knots_describe margin_shape (root c.formula.nodes) c.trace x tells, lines),
-              λ tr' e positive like close. margins_hold (root c.formula.nodes) c.trace tr' e positive like close values infs,
-          ) in
+        (knots_of margin_shape x, knots_describe margin_shape (root c.formula.nodes) c.trace x tells, lines),
+        λ tr' e positive like close. margins_hold (root c.formula.nodes) c.trace tr' e positive like close values infs,
+      ) in
       let over = subst (Over text) case.formula own in
       record { verdict = refl; written = over.0; few = λ n h. h; sure = over.1 }
 
@@ -65,6 +64,6 @@ module _ (c : Case) (f : Formula) (case : IsCase f c) where
   pub unmeasured : (e : EvalFault Margin) → IsFaultIn margin_shape margins c e → IsUnanswered robust f c.trace (stop_of_fault e)
   unmeasured E.Memory is = tt
   unmeasured (E.Wide cause) is = (
-      subst (λ (g : Formula). IsNeeded g.nodes (margin_setting c.trace) cause.node (denominator_of cause.pair)) case.formula (needed cause.node cause.pair is.1),
-      λ n h. h,
+    subst (λ (g : Formula). IsNeeded g.nodes (margin_setting c.trace) cause.node (denominator_of cause.pair)) case.formula (needed cause.node cause.pair is.1),
+    λ n h. h,
   )

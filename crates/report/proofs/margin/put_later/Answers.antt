@@ -1,10 +1,10 @@
-use Rattle.std.proofs.Common.{◌≡◌, suc, ◌+◌, ◌-◌, Some, [], ◌++◌, length, append-nil, append_assoc, refl, sym, ap, ◌∙◌, subst, arith}
+use Rattle.std.proofs.Common.{◌≡◌, suc, ◌+◌, ◌-◌, Some, [], ◌++◌, length, append-nil, append_assoc, sym, ap, ◌∙◌, subst, arith}
 use Rattle.std.specs.Prelude.{slice_get}
 use Rattle.value_laws.specs.Kinds.{margin_shape}
 use Rattle.report.specs.Appended.{Grew}
-use Rattle.report.specs.MarginLines.{AreNextLines, AreLaterLines}
+use Rattle.report.specs.MarginLines.{AreLaterLines}
 use Rattle.report.proofs.Parts.{on_err}
-use Rattle.report.proofs.Growths.{grew_as, grew_then}
+use Rattle.report.proofs.Growths.{grew_as}
 use Rattle.report.proofs.MarginTexts.{AreLinesTo, lines_begin, lines_more, lines_end, lines_part, knot_within}
 use Rattle.report.proofs.margin.put_later.Goals as goal
 
@@ -31,12 +31,11 @@ loop-i-preserved c =
     let there : suc (c.loop-i.i - 1) ≡ c.loop-i.i + 1 - 1 = omega arith in
     let (text, before, e) = c.loop-i.invariant in
     let (more, is, f) = c.in_ok-put_next.ensures.ok in
-    subst (λ n. Grew (AreLinesTo margin_shape c.args.scale c.args.s.now n) c.args.text.now c.put_next.new.text) there
-    (
-        text ++ more,
-        lines_more margin_shape c.args.scale c.args.s.now (c.loop-i.i - 1) c.knot.result c.knot-in-loop-i.result text more c.knot.ensures
-            (subst (λ n. slice_get c.args.s.now n ≡ Some c.knot-in-loop-i.result) next c.knot-in-loop-i.ensures) before is,
-        f ∙ ap (λ w. w ++ more) e ∙ append_assoc c.args.text.now text more,
+    subst (λ n. Grew (AreLinesTo margin_shape c.args.scale c.args.s.now n) c.args.text.now c.put_next.new.text) there (
+      text ++ more,
+      lines_more margin_shape c.args.scale c.args.s.now (c.loop-i.i - 1) c.knot.result c.knot-in-loop-i.result text more c.knot.ensures
+          (subst (λ n. slice_get c.args.s.now n ≡ Some c.knot-in-loop-i.result) next c.knot-in-loop-i.ensures) before is,
+      f ∙ ap (λ w. w ++ more) e ∙ append_assoc c.args.text.now text more,
     )
 
 pub returns-clause-ok : goal.returns-clause-ok
