@@ -21,7 +21,7 @@ TEN = "always[0,50] (x >= 0 or y <= 40) and (y >= 10 since x <= 200) and not onc
 ATOM = "x >= 0"
 CASES = [
     ("atom", ATOM, "walk cross steps alt"),
-    ("response", "always (brake >= 1 implies eventually[0,100] speed <= 10)", "auto"),
+    ("response", "always[0,10000000] (brake >= 1 implies eventually[0,100] speed <= 10)", "auto"),
     ("ten nodes", TEN, "walk cross steps alt"),
     ("until", "x >= 0 until[10,2000] y >= 500", "walk cross alt"),
     ("since", "x >= 0 since[10,2000] y >= 500", "walk cross alt"),
@@ -128,22 +128,24 @@ def stands(program, command, path):
     return run(program, [command, ATOM], path)[0] in (0, 1)
 
 
-def measure(program, command, formula, paths, runs, counted, folder):
-    """A line of figures: ns a row at each size, instructions a row, MB and growth."""
+def measure(program, command, formula, paths, sizes, runs, counted, folder):
+    """A line of figures: ns a row at each size, instructions a row at one, the most MB and the growth between the last two."""
     seconds, peak = {}, 0
-    for rows, path in paths.items():
+    for rows in sizes:
+        path = paths[rows]
         tries = [run(program, [command, formula], path) for _ in range(runs)]
         if tries[0][0] not in (0, 1):
             return f"status {tries[0][0]}"
         seconds[rows] = min(cpu for _, cpu, _ in tries)
         peak = max(high for _, _, high in tries)
-    sizes = sorted(paths)
     line = " ".join(f"{1e9 * seconds[rows] / rows:8.0f}" for rows in sizes)
     count = instructions(program, [command, formula], paths[counted], folder) if counted else None
     line += f" {count / counted:8.0f}" if count else f" {'-':>8}"
-    few, many = sizes[-2], sizes[-1]
-    growth = math.log(seconds[many] / seconds[few]) / math.log(many / few) if seconds[few] > 0 else float("nan")
-    return line + f" {peak / 1024:8.1f} {growth:7.3f}"
+    line += f" {peak / 1024:8.1f}"
+    if len(sizes) < 2 or seconds[sizes[-2]] == 0:
+        return line
+    few, many = sizes[-2:]
+    return line + f" {math.log(seconds[many] / seconds[few]) / math.log(many / few):6.3f}"
 
 
 def main():
@@ -151,7 +153,7 @@ def main():
     parser.add_argument("--program", default=PROGRAM, help="the program to measure")
     parser.add_argument("--sizes", default="10000,100000,1000000", help="numbers of rows, with commas between")
     parser.add_argument("--runs", type=int, default=3, help="runs of each, of which the fastest counts")
-    parser.add_argument("--count", type=int, help="the size at which instructions are counted; by default the middle one")
+    parser.add_argument("--count", type=int, help="the rows at which instructions are counted, 0 for none; by default the middle size")
     parser.add_argument("--only", default="", help="a word that the name of a case must have")
     parser.add_argument("--command", choices=COMMANDS, help="one command alone")
     args = parser.parse_args()
@@ -175,8 +177,8 @@ def main():
                 for kind in traces.split():
                     if args.only not in f"{name} {kind}":
                         continue
-                    paths = {rows: trace(kind, rows) for rows in sizes + ([counted] if counted and counted not in sizes else [])}
-                    line = measure(args.program, command, formula, paths, args.runs, counted, folder)
+                    paths = {rows: trace(kind, rows) for rows in {*sizes, counted} - {0}}
+                    line = measure(args.program, command, formula, paths, sizes, args.runs, counted, folder)
                     print(f"{command:8} {name:17} {kind:6} {line}", flush=True)
 
 

@@ -6,6 +6,7 @@ use Rattle.atom_lines.specs.declared.tied.BoundTerm.{BoundTerm}
 use Rattle.atom_lines.specs.declared.tied.BoundAtom.{BoundAtom}
 use Rattle.atom_lines.specs.Sums.{cell, sum_over, reach}
 
+-- a sum goes on by the next term
 pub add_term : (terms : List BoundTerm) (i : ℕ) (d : BoundTerm) (first second : List ℤ) (sum p more total : ℤ) → i < length terms
     → p ≡ (get_or terms i d).coef *ℤ cell (get_or terms i d) first second → (sum +ℤ sum_over (drop i terms) first second) ≡ total → more ≡ sum +ℤ p
     → (more +ℤ sum_over (drop (i + 1) terms) first second) ≡ total
@@ -24,5 +25,6 @@ pub rise_small : (a : BoundAtom) (first second : List ℤ) → nat_abs (sum_over
     → nat_abs (reach a first second -ℤ reach a first first) ≤ 2 ^ 31
 rise_small a first second h k = omega (arith, ints, h, k)
 
+-- how far a sum lies from the constant is small
 pub reach_small : (a : BoundAtom) (first second : List ℤ) → nat_abs a.limit ≤ 1073741824 → nat_abs (sum_over a.terms.items first second) ≤ 2 ^ 30 → nat_abs (reach a first second) ≤ 2 ^ 31
 reach_small a first second h k = omega (arith, ints, h, k)

@@ -78,6 +78,7 @@ line_on_way' from gap v w t p = record {
 line_on_way : (from gap run : ℕ) (v w : ℤ) (t : Rational) (p : 0 < run) → suc gap ≡ run → at (line_between from v gap w) t ≈ on_way v w (passed (pos from) run p t)
 line_on_way from gap run v w t p e = subst (λ n. (p : 0 < n) → at (line_between from v gap w) t ≈ on_way v w (passed (pos from) n p t)) e (λ p. line_on_way' from gap v w t p) p
 
+-- on a gap a column is on the way from the first row's value
 pub piece_on_way : (step : Bool) (c : ℕ) (r s : Row) (t : Rational) (p : 0 < s.time - r.time)
     → piece step c r s t ≈ on_way (value r c) (if step then value r c else value s c) (passed (pos r.time) (s.time - r.time) p t)
 piece_on_way true c r s t p = same_sym (way_starts (value r c) (passed (pos r.time) (s.time - r.time) p t))
@@ -93,6 +94,7 @@ among (k ∷ columns) c rows name t (suc place) step i h e =
     let other : bytes_eq k.name name ≡ false = false_from_ne_true (bytes_eq k.name name) (λ e. h.0 ((bytes_eq-Decides k.name name).0 e)) in
     rw other (among columns (suc c) rows name t place step i h.1 (omega (arith, e)))
 
+-- the column of a name is the one that it is bound to
 pub value_of_name : (tr : Trace) (name : List ℕ) (t : Rational) (place : ℕ) (step : Bool) → IsColumn tr.header.columns name place step
     → value_of tr name t ≡ column_value step place tr.rows t
 unfolding value_of

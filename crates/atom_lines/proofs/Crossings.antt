@@ -1,7 +1,8 @@
 -- Where an atom's sum passes 0 on a gap, and its sign elsewhere.
-use Rattle.std.proofs.Common.{◌≡◌, ◌≢◌, ℕ, zero, suc, ℤ, pos, negsuc, ◌+◌, ◌-◌, ◌*◌, ◌<◌, ◌+ℤ◌, ◌-ℤ◌, ◌<ℤ◌, ◌≤ℤ◌, ◌⊎◌, inl, inr, Bool, refl, sym, ap, subst, arith}
+use Rattle.std.proofs.Common.{◌≡◌, ◌≢◌, ℕ, zero, suc, ℤ, pos, negsuc, ◌+◌, ◌-◌, ◌*◌, ◌/◌, ◌%◌, ◌<◌, ◌+ℤ◌, ◌-ℤ◌, ◌*ℤ◌, ◌<ℤ◌, ◌≤ℤ◌, ◌⊎◌, inl, inr, Bool, refl, sym, ap, ◌∙◌, subst, arith}
 use Rattle.std.specs.Int.RustNames.{unsigned_abs}
 use Rattle.std.proofs.lemmas.Int.{ints}
+use Rattle.std.proofs.lemmas.Nat.{div-add-mod'}
 use Rattle.std.proofs.Math.Nat.{zero-lt-suc, sub-pos_iff_lt}
 use Rattle.std.specs.declared.cmp.Ordering.{Ordering}
 use Rattle.std.specs.declared.cmp.Ordering.TheVariants.{Less, Equal, Greater}
@@ -63,9 +64,11 @@ module _ (g : Gap) where
   abbrev second : Rational
   second = whole (pos g.second)
 
+  -- at the first row the sum is that row's
   pub at_first : at (along g) first ≈ whole g.from
   at_first = at_ramp_base (pos g.first) g.from (g.to -ℤ g.from) (g.second - g.first) (sub-pos_iff_lt.1 g.rising)
 
+  -- and at the second the other's
   pub at_second : at (along g) second ≈ whole g.to
   at_second = same_trans (same_at (along g) there) (same_trans (at_ramp_end (pos g.first) g.from (g.to -ℤ g.from) (g.second - g.first) (sub-pos_iff_lt.1 g.rising)) reached)
     where
@@ -97,6 +100,7 @@ module _ (g : Gap) where
       above : unsigned_abs g.from + part_below g.from ≡ part_above g.from
       above = omega (arith, parts)
 
+  -- at the crossing the sum is 0
   pub crossing_zero : (num den : ℤ) (n r : ℕ) (v : Rational) → Passes g → r ≡ unsigned_abs g.from + unsigned_abs g.to
       → n ≡ g.first * r + unsigned_abs g.from * (g.second - g.first) → num ≡ pos n → den ≡ pos r → v ≈ fraction num den → at (along g) v ≈ whole (pos 0)
   crossing_zero num den n zero v h e k a b w = absurd (none h)
@@ -106,6 +110,14 @@ module _ (g : Gap) where
       none (inr h) = omega (arith, ints, e)
   crossing_zero num den n (suc r) v h e k a b w =
       same_trans (same_at (along g) (subst (λ x. v ≈ fraction x (pos (suc r))) a (subst (λ x. v ≈ fraction num x) b w))) (root n (suc r) (zero-lt-suc r) h e k)
+
+  -- the same, as a whole part and a rest
+  pub crossing_mixed : {w : ℤ} {rest r : ℕ} {v : Rational} → v ≈ fraction (w *ℤ pos r +ℤ pos rest) (pos r) → (b length : ℕ) → Passes g
+      → r ≡ unsigned_abs g.from + unsigned_abs g.to → b ≡ unsigned_abs g.from → length ≡ g.second - g.first
+      → w ≡ pos (g.first + b * length / r) → rest ≡ b * length % r → at (along g) v ≈ whole (pos 0)
+  crossing_mixed {w} {rest} {r} {v} h b length p e f k a m =
+      crossing_zero (w *ℤ pos r +ℤ pos rest) (pos r) (g.first * r + b * length) r v p e (cc)
+      (ap (λ z. z *ℤ pos r +ℤ pos rest) a ∙ ap pos (omega (arith, div-add-mod' (b * length) r, m))) refl h
 
   rising : (g.from <ℤ pos 0) × (pos 0 <ℤ g.to) → Rises (along g)
   rising h = record { rises = omega (arith, parts) }
@@ -122,13 +134,20 @@ module _ (g : Gap) where
 
   -- the truths before, at and after the time at which the sum is 0
   pub record IsTurn (rel : Rel) (c : Rational) : Type 0 where
+    -- the crossing is after the first row
     pub after_first : first <ʳ c
+    -- and before the second
     pub before_second : c <ʳ second
+    -- up to it the comparison is that of the first row
     pub until_then : (t : Rational) → first <ʳ t → t <ʳ c → test rel t ≡ compares rel (whole g.from)
+    -- at it that of 0
     pub there : (t : Rational) → t ≈ c → test rel t ≡ compares rel (whole (pos 0))
+    -- and from it that of the second row
     pub from_then : (t : Rational) → c <ʳ t → t <ʳ second → test rel t ≡ compares rel (whole g.to)
+    -- and the two rows differ
     pub turns : compares rel (whole g.from) ≢ compares rel (whole g.to)
 
+  -- where a sum passes 0 the truth turns over there
   pub turn_at : (rel : Rel) (c : Rational) → Passes g → at (along g) c ≈ whole (pos 0) → IsTurn rel c
   turn_at rel c (inl h) z =
       let p = rising h in
@@ -181,9 +200,11 @@ module _ (g : Gap) where
       by_sum (inr (inr s)) =
           (Greater, above_between (along g) a b (le_trans (le_whole s.first) (ge_of_same at_first)) (le_trans (le_whole s.second) (ge_of_same at_second)) (above_one s.one), lt_whole s.sum)
 
+  -- and where it does not there is one truth on the gap
   pub one_truth : (rel : Rel) (t : Rational) → ¬ Passes g → first <ʳ t → t <ʳ second → test rel t ≡ compares rel (whole (g.from +ℤ g.to))
   one_truth rel t n a b = let s = sign_between t n a b in compare_alike rel s.0 (at (along g) t) (whole (g.from +ℤ g.to)) s.1 s.2
 
+  -- a sum that passes 0 has a rise
   pub size_positive : Passes g → 0 < unsigned_abs g.from + unsigned_abs g.to
   size_positive (inl h) = omega (arith, ints)
   size_positive (inr h) = omega (arith, ints)

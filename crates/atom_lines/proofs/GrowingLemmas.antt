@@ -51,11 +51,13 @@ pub truth_worth : (w : Truth) (rel : Rel) (y t : Rational) → compares rel y �
 truth_worth w rel y t e =
     subst (λ b. value_at (level (truth_value w.holds)) t ≈ᵉ finite (whole (truth_value b))) (sym e) (level_is (truth_value w.holds) t)
 
+-- the rows of a gap are in order
 pub before_end : {x y : Rational} (g : Gap) → x ≈ whole (pos g.first) → y ≈ whole (pos g.second) → x <ʳ y
 before_end g e h =
     let rise : pos g.first <ℤ pos g.second = let r = g.rising in omega (arith, ints, r) in
     lt_of_le_of_lt (le_of_same e) (lt_of_lt_of_le (lt_whole rise) (ge_of_same h))
 
+-- times between rows are within their limits
 pub between_within : {x : Rational} (n m : ℕ) → n < 2 ^ 32 → m < 2 ^ 32 → whole (pos n) <ʳ x → x <ʳ whole (pos m) → IsWithin (2 ^ 34) x
 between_within {x} n m h k a b =
     (le_trans (within_whole (2 ^ 34) (pos n) (omega (arith, ints, h))).0 (le_of_lt a), le_trans (le_of_lt b) (within_whole (2 ^ 34) (pos m) (omega (arith, ints, k))).1)
@@ -64,9 +66,11 @@ between_within {x} n m h k a b =
 pub row_base : (n : ℕ) (z : ℤ) → n < 2 ^ 32 → z ≡ pos n → IsRowBase z
 row_base n z h e = (omega (arith, ints, e), omega (arith, ints, e, h))
 
+-- the base of what does not move
 pub zero_base : IsRowBase (pos 0)
 zero_base = (omega (arith, ints), omega (arith, ints))
 
+-- and of a margin on a gap
 pub margin_row_base : (m : Margin) (n : ℕ) → n < 2 ^ 32 → (IsTrue (is_ramp m) → margin_base m ≡ pos n) → IsRowBase (margin_base m)
 margin_row_base m n h e = by_kind (cases_eq' (is_ramp m))
   where
@@ -151,6 +155,7 @@ first_time_at : (rows : List Row) (d : Row) → 0 < length rows → first_time r
 first_time_at [] d h = absurd (omega arith)
 first_time_at (r ∷ rows) d h = refl
 
+-- the last time by the place of the last row
 pub last_time_at : (time : ℕ) (rows : List Row) (n : ℕ) (d : Row) → length rows ≡ suc n → last_time time rows ≡ (get_or rows n d).time
 last_time_at time [] n d h = absurd (omega arith)
 last_time_at time (r ∷ []) n d h = let e : n ≡ 0 = omega (arith, h) in subst (λ m. r.time ≡ (get_or (r ∷ []) m d).time) (sym e) refl
@@ -167,6 +172,7 @@ module _ {P : Type 0} (shape : ShapeOf P) (told_as : Told) (b : Binding) (i : �
       let one : v ≈ᵉ worth told_as a.rel (whole next) = subst (λ q. v ≈ᵉ worth told_as q (whole next)) (tied b i k here a tr for).rel w in
       gives told_as tr i a t v (same_transᵉ v (worth told_as a.rel (whole next)) (worth told_as a.rel (expression a tr t)) one (worth_same told_as a.rel (same_sym is)))
 
+  -- a signal that is begun at the first row
   pub begun : (from : ℤ) (at : Frac) (point : P) (n : ℕ) → n < 2 ^ 32 → value at ≈ whole (pos n) → nat_abs from ≤ 2 ^ 31 → 0 < length tr.rows → from ≡ reach k (values_at tr 0) (values_at tr 0) → value at ≈ row_time (row_of tr 0)
       → ((t : Rational) → value_at (shape.function point) t ≈ᵉ worth told_as k.rel (whole from)) → IsRowBase (shape.base point)
       → HasGrown shape told_as b i tr 0 (record { time = at; point = point; after = point } ∷ [])
@@ -198,6 +204,7 @@ module _ {P : Type 0} (shape : ShapeOf P) (told_as : Told) (b : Binding) (i : �
       by_part a for t v (inr (inl x)) = absurd x
       by_part a for t v (inr (inr x)) = absurd x
 
+  -- and grown over a gap
   pub grown_on : (r n : ℕ) (g : Gap) (next : ℤ) (old new : List (Knot P)) → nat_abs next ≤ 2 ^ 31 → r ≡ suc n → r < length tr.rows → g.first ≡ (row_of tr n).time → g.second ≡ (row_of tr r).time
       → g.from ≡ reach k (values_at tr n) (values_at tr n) → g.to ≡ reach k (values_at tr n) (values_at tr r) → next ≡ reach k (values_at tr r) (values_at tr r)
       → HasGrown shape told_as b i tr n old → GoesAlong shape told_as k.rel g next old new → HasGrown shape told_as b i tr r new

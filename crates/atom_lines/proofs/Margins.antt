@@ -47,6 +47,7 @@ signed_one Above e f h = h
 signed_one AtMost e f h = omega (arith, ints, h)
 signed_one Below e f h = omega (arith, ints, h)
 
+-- the margin of a sum that stays
 pub margin_level : (rel : Rel) (g : Gap) (v : Rational) (m : ℤ) → m ≡ signed rel g.from → m ≡ signed rel g.to → v ≈ whole m → (t : Rational)
     → finite (at (constant v) t) ≈ᵉ finite (margin rel (at (along g) t))
 margin_level rel g v m e f h t =
@@ -58,6 +59,7 @@ margin_level rel g v m e f h t =
     level : at (along g) t ≈ whole g.from
     level = same_trans (at_level t (whole (pos g.first)) (along g) flat) (at_first g)
 
+-- and of one that moves
 pub margin_ramp : (rel : Rel) (g : Gap) (f : Ramp) → base f ≡ pos g.first → base_value f ≡ signed rel g.from → rise_in_run f ≡ signed rel g.to -ℤ signed rel g.from
     → run_time f ≡ g.second - g.first → (t : Rational) → finite (at (line f) t) ≈ᵉ finite (margin rel (at (along g) t))
 margin_ramp rel g f a b c d t = finite_same (by_rel rel b c)

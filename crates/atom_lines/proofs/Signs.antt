@@ -49,6 +49,7 @@ turns_over Above e = false≢true e
 turns_over AtMost e = true≢false e
 turns_over Below e = true≢false e
 
+-- and numbers of two signs compare otherwise
 pub compare_apart : (rel : Rel) (y z : Rational) → IsOrder Less y (whole (pos 0)) → IsOrder Greater z (whole (pos 0)) → compares rel y ≢ compares rel z
 compare_apart rel y z h k e = turns_over rel (sym (by_sign rel Less y h) ∙ e ∙ by_sign rel Greater z k)
 

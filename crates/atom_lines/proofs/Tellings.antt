@@ -40,6 +40,7 @@ pub gives : (told : Told) (tr : Trace) (i : ℕ) (a : Atom) (t : Rational) (v : 
 gives by_truth tr i a t v h = of_bool (compares a.rel (expression a tr t)) v h
 gives by_margin tr i a t v h = h
 
+-- and it gives nothing else
 pub given : (told : Told) (tr : Trace) (i : ℕ) (a : Atom) (t : Rational) (v : Extended) → Gives (reading_of told tr) i a t v → v ≈ᵉ worth told a.rel (expression a tr t)
 given by_truth tr i a t v h = to_bool (compares a.rel (expression a tr t)) v h
 given by_margin tr i a t v h = h

@@ -38,6 +38,7 @@ found [] name i d h before here = absurd (omega arith)
 found (k ∷ columns) name zero d h before here = (here, refl)
 found (k ∷ columns) name (suc i) d h before here = (before 0 d (omega arith), found columns name i d (omega arith) (λ j d l. before (suc j) d (omega arith)) here)
 
+-- a column's place is among the columns
 pub within : (columns : List Column) (name : List ℕ) (i : ℕ) (step : Bool) → IsColumn columns name i step → i < length columns
 within [] name i step h = absurd h
 within (k ∷ columns) name zero step h = omega arith
@@ -67,6 +68,7 @@ tied_more columns (t' ∷ ts) (k' ∷ ks) t k h e = (h.0, tied_more columns ts k
 pub take_on : {X : Type 0} (xs : List X) (i : ℕ) (x : X) → slice_get xs i ≡ Some x → take (i + 1) xs ≡ take i xs ++ x ∷ []
 take_on xs i x h = take_more xs i x (slice_get_within xs i x h) ∙ ap (λ y. take i xs ++ y ∷ []) (get_or_from_slice_get xs i x x h)
 
+-- as many terms are bound as there are
 pub tied_length : (columns : List Column) (ts : List Term) (ks : List BoundTerm) → AreTied columns ts ks → length ks ≡ length ts
 tied_length columns [] [] h = refl
 tied_length columns [] (k ∷ ks) h = absurd h
@@ -113,6 +115,7 @@ got_front [] ys i h = absurd (omega arith)
 got_front (x ∷ xs) ys zero h = refl
 got_front (x ∷ xs) ys (suc i) h = got_front xs ys i (omega arith)
 
+-- and after it
 pub got_end : {X : Type 0} (xs : List X) (x : X) (ys : List X) → slice_get (xs ++ x ∷ ys) (length xs) ≡ Some x
 got_end [] x ys = refl
 got_end (y ∷ xs) x ys = got_end xs x ys

@@ -49,6 +49,7 @@ pub(crate) fn row_at<'a>(trace: &'a Trace, row: usize) -> TraceRow<'a>
     ensures row { result.row ≡ row }
     ensures rows { IsTrace trace.now }
 {
+    // For the proof alone: that it is a trace is a clause of `rows`.
     let _ = trace.rows();
     TraceRow { trace, row }
 }

@@ -13,13 +13,13 @@ use crate::bound::Bound;
 use crate::cells::Cells;
 use crate::gap::Gap;
 use crate::margin::{margin_at, margin_between};
-use crate::sum::reach_of;
+use crate::sum::{reach_of, reaches_of};
 use crate::tied::BoundAtom;
 use crate::truth::{TruthPiece, truth_at, truth_between};
 use trace_reader::Row;
 use value_laws::{Margin, Truth};
 
-/// The gap between two rows, where the sum at the first is `from`.
+/// The gap between two rows, where the sum at the first is `from`, and the sum at the second.
 pub(crate) fn gap_on<C: Cells>(
     atom: &BoundAtom,
     first: u32,
@@ -27,24 +27,27 @@ pub(crate) fn gap_on<C: Cells>(
     first_row: &C,
     second: u32,
     second_row: &C,
-) -> Gap
+) -> (Gap, i64)
     requires sound { IsAtomSound (length (C.values first_row.now)) atom.now }
     requires width { length (C.values second_row.now) ≡ length (C.values first_row.now) }
     requires later { first < second }
     requires from { from ≡ reach atom.now (C.values first_row.now) (C.values first_row.now) }
     requires small { unsigned_abs (sum_over atom.now.terms.items (C.values first_row.now) (C.values first_row.now)) ≤ 2 ^ 30 }
-    ensures first { result.first ≡ first }
-    ensures from { result.from ≡ reach atom.now (C.values first_row.now) (C.values first_row.now) }
-    ensures second { result.second ≡ second }
-    ensures to { result.to ≡ reach atom.now (C.values first_row.now) (C.values second_row.now) }
+    ensures first { result.0.first ≡ first }
+    ensures from { result.0.from ≡ reach atom.now (C.values first_row.now) (C.values first_row.now) }
+    ensures second { result.0.second ≡ second }
+    ensures to { result.0.to ≡ reach atom.now (C.values first_row.now) (C.values second_row.now) }
+    ensures next { result.1 ≡ reach atom.now (C.values second_row.now) (C.values second_row.now) }
+    ensures small_next { unsigned_abs (sum_over atom.now.terms.items (C.values second_row.now) (C.values second_row.now)) ≤ 2 ^ 30 }
 {
-    let to = reach_of(atom, first_row, second_row);
-    Gap {
+    let (to, next) = reaches_of(atom, first_row, second_row);
+    let gap = Gap {
         first,
         from,
         second,
         to,
-    }
+    };
+    (gap, next)
 }
 
 /// The atom's truth at a row.
@@ -79,7 +82,8 @@ fn gap_of(atom: &BoundAtom, first: &Row, second: &Row) -> Gap
     ensures to { result.to ≡ reach atom.now first.now.values second.now.values }
 {
     let from = reach_of(atom, first, first);
-    gap_on(atom, first.time(), from, first, second.time(), second)
+    let (gap, _next) = gap_on(atom, first.time(), from, first, second.time(), second);
+    gap
 }
 
 /// The atom's truth on the open gap between two rows, the second right after the first.

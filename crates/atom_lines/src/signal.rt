@@ -70,6 +70,10 @@ impl AtomShape for Margin {
 /// The signal of the atom at a node over the whole trace, in one pass over the rows.
 ///
 /// It has the knots that are needed and no others. The trace has a row, and the columns of the header that was bound.
+///
+/// # Errors
+///
+/// `Memory` where memory is wanting.
 pub fn atom_signal<P: AtomShape>(
     alloc: Global,
     bound: &Bound,
@@ -105,7 +109,7 @@ fn advance<P: Piecewise>(
     let atom = bound.atom(node);
     let first = row_at(trace, r - 1);
     let second = row_at(trace, r);
-    let gap = gap_on(
+    let (gap, next) = gap_on(
         atom,
         trace.time(r - 1),
         from,
@@ -113,7 +117,6 @@ fn advance<P: Piecewise>(
         trace.time(r),
         &second,
     );
-    let next = reach_of(atom, &second, &second);
     P::go_on(signal, atom.rel, &gap, next)?;
     Ok(next)
 }

@@ -54,3 +54,39 @@ pub(crate) fn reach_of<C: Cells>(atom: &BoundAtom, first: &C, second: &C) -> i64
     }
     sum - i64::from(atom.limit)
 }
+
+/// A term's value as the gap before the second row ends, and its value at that row: a step changes only there.
+fn term_values<C: Cells>(term: &BoundTerm, first: &C, second: &C) -> (i64, i64)
+    requires coef { nat_abs term.now.coef ≤ 16 }
+    requires first { term.now.column < length (C.values first.now) }
+    requires second { term.now.column < length (C.values second.now) }
+    ensures to { result.0 ≡ term.now.coef *ℤ cell term.now (C.values first.now) (C.values second.now) }
+    ensures next { result.1 ≡ term.now.coef *ℤ cell term.now (C.values second.now) (C.values second.now) }
+    ensures small_to { nat_abs result.0 ≤ 2 ^ 28 }
+    ensures small_next { nat_abs result.1 ≤ 2 ^ 28 }
+{
+    let next = product(term.coef, second.cell(term.column));
+    if !term.step {
+        return (next, next);
+    }
+    (product(term.coef, first.cell(term.column)), next)
+}
+
+/// The sum of the terms as the gap before the second row ends, and that at the second row, each less the constant: both in one pass.
+pub(crate) fn reaches_of<C: Cells>(atom: &BoundAtom, first: &C, second: &C) -> (i64, i64)
+    requires sound { IsAtomSound (length (C.values first.now)) atom.now }
+    requires width { length (C.values second.now) ≡ length (C.values first.now) }
+    ensures to { result.0 ≡ reach atom.now (C.values first.now) (C.values second.now) }
+    ensures next { result.1 ≡ reach atom.now (C.values second.now) (C.values second.now) }
+    ensures small_to { unsigned_abs (sum_over atom.now.terms.items (C.values first.now) (C.values second.now)) ≤ 2 ^ 30 }
+    ensures small_next { unsigned_abs (sum_over atom.now.terms.items (C.values second.now) (C.values second.now)) ≤ 2 ^ 30 }
+{
+    let mut to: i64 = 0;
+    let mut next: i64 = 0;
+    for term in &atom.terms {
+        let (there, here) = term_values(term, first, second);
+        to += there;
+        next += here;
+    }
+    (to - i64::from(atom.limit), next - i64::from(atom.limit))
+}

@@ -48,12 +48,10 @@ fn crossing(gap: &Gap) -> Frac
 {
     let before = gap.from.unsigned_abs();
     let rise = before + gap.to.unsigned_abs();
-    let num = u128::from(gap.first) * u128::from(rise)
-        + u128::from(before) * u128::from(gap.second - gap.first);
-    match Frac::make(num as i128, i128::from(rise)) {
-        Ok(time) => time,
-        Err(_) => unreachable!(),
-    }
+    // What is left of the first time fits in 63 bits, so that nothing here needs 128.
+    let past = before * u64::from(gap.second - gap.first);
+    let whole = i64::from(gap.first) + (past / rise) as i64;
+    Frac::mixed(whole, past % rise, rise)
 }
 
 /// Whether the sum has opposite signs at the two ends.

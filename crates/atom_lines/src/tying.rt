@@ -91,6 +91,10 @@ fn bind_node(
 /// Ties the names of a formula to the columns of a header.
 ///
 /// It is refused exactly where a term names no column, by the first such term in post-order.
+///
+/// # Errors
+///
+/// `UnknownColumn` at the first term, in post-order, that names no column of the header; `Memory` where memory is wanting.
 pub fn bind(alloc: Global, formula: &Formula, header: &Header) -> Result<Bound, BindFault>
     ensures ok { IfOk result (λ b. IsBound b formula.now header.now) }
     ensures named { IfOk result (λ _. All (HasColumns header.now.columns) formula.now.nodes) }

@@ -10,6 +10,8 @@ mod eval_tests;
 #[cfg(test)]
 mod evals;
 #[cfg(test)]
+mod explain_tests;
+#[cfg(test)]
 mod margin_tests;
 #[cfg(test)]
 mod operator_tests;

@@ -41,14 +41,24 @@ fn keep(rt: &impl Abort, trace: &mut Trace, row: &Row) -> Result<(), Fail> {
 
 /// The trace of a text.
 pub(crate) fn read(rt: &impl Abort, alloc: Global, text: &str) -> Result<Trace, Fail> {
+    read_long(rt, alloc, text, 100)
+}
+
+/// The trace of a text of at most so many lines.
+pub(crate) fn read_long(
+    rt: &impl Abort,
+    alloc: Global,
+    text: &str,
+    most: u64,
+) -> Result<Trace, Fail> {
     let limits = Limits {
-        rows: 100,
-        lines: 100,
+        rows: most,
+        lines: most,
     };
     let mut reader = Rows::new(alloc, limits, WHOLE)?;
     let mut trace: Option<Trace> = None;
     let mut rest = text.as_bytes();
-    for _ in 0..100 {
+    for _ in 0..most {
         if rest.is_empty() {
             break;
         }

@@ -22,14 +22,22 @@ abs_mul_le : (a b : ℤ) (m n : ℕ) → unsigned_abs a ≤ m → unsigned_abs b
 abs_mul_le a b m n h k = rw (unsigned_abs-mul a b) (mul-le-mul h k)
 
 pub record Fit (v0 rise run gap rest den : ℤ) : Type 0 where
+  -- the base value times the run
   pub v0_run : FitsSigned w128 (v0 *ℤ run)
+  -- that times the time's denominator
   pub v0_run_den : FitsSigned w128 (v0 *ℤ run *ℤ den)
+  -- the whole ticks from the base, over the denominator
   pub gap_den : FitsSigned w128 (gap *ℤ den)
+  -- the way from the base
   pub ahead : FitsSigned w128 (gap *ℤ den +ℤ rest)
+  -- the rise along it
   pub climb : FitsSigned w128 (rise *ℤ (gap *ℤ den +ℤ rest))
+  -- the numerator of the value
   pub num : FitsSigned w128 (v0 *ℤ run *ℤ den +ℤ rise *ℤ (gap *ℤ den +ℤ rest))
+  -- its denominator
   pub run_den : FitsSigned w128 (run *ℤ den)
 
+-- all of them fit 128 bits
 pub all_fit : {v0 rise run gap rest den : ℤ} → AreSmall v0 rise run gap rest den → Fit v0 rise run gap rest den
 all_fit {v0} {rise} {run} {gap} {rest} {den} s =
     let v = abs_mul_le v0 run (2 ^ 31) (2 ^ 32) s.v0_small s.run_small in
@@ -49,6 +57,7 @@ all_fit {v0} {rise} {run} {gap} {rest} {den} s =
       run_den = fits_signed_from_abs w128 (run *ℤ den) (omega arith);
     }
 
+-- a product of numbers above 0 is above 0
 pub product_positive : (a b : ℤ) → pos 0 <ℤ a → pos 0 <ℤ b → pos 0 <ℤ (a *ℤ b)
 product_positive (pos a) (pos b) h k = let p : 0 < a * b = mul-pos (omega (arith, ints)) (omega (arith, ints)) in omega (arith, ints)
 product_positive (negsuc a) b h k = absurd (omega (arith, ints))
@@ -96,23 +105,32 @@ ahead_value f t num den p e h = record {
     whole_num : part_above num + down_side ≡ part_below num + up_side
     whole_num = omega (arith, sixth, second, ap (λ n. n * t.den) first, mul_parts f.rise ahead, ap (λ n. part_above f.rise * n) fifth, ap (λ n. part_below f.rise * n) fifth)
 
+-- so as a fraction of whole numbers
 pub ahead_fraction : (f : Ramp) (t : Frac) (num den : ℤ) → den ≡ pos (f.run * t.den) → num ≡ f.v0 *ℤ pos f.run *ℤ pos t.den +ℤ f.rise *ℤ ((t.whole -ℤ f.t0) *ℤ pos t.den +ℤ pos t.rest) → fraction num den ≈ at (line f) (value t)
 ahead_fraction f t num den e h =
     let p : pos 0 <ℤ den = let q = mul-pos f.positive t.positive in omega (arith, ints, ap (λ z. up z) e, ap (λ z. down z) e) in
     let q = abs_pos den p in
     rw (fraction-is num den q p) (ahead_value f t num den q e h)
 
+-- a time lies within 2^35 of a base
 pub gap_small : (t : Frac) (t0 : ℤ) → unsigned_abs t0 ≤ 2 ^ 34 → IsWithin (2 ^ 34) (value t) → unsigned_abs (t.whole -ℤ t0) ≤ 2 ^ 35
 gap_small t t0 h k = omega (arith, ints, whole_of_within (2 ^ 34) t k)
 
 pub record FitParts (a b c d : ℤ) : Type 0 where
+  -- the first product
   pub left : FitsSigned w128 (a *ℤ b)
+  -- the second
   pub right : FitsSigned w128 (c *ℤ d)
+  -- their difference
   pub less : FitsSigned w128 (a *ℤ b -ℤ c *ℤ d)
+  -- and their sum
   pub more : FitsSigned w128 (a *ℤ b +ℤ c *ℤ d)
+  -- the difference is no larger than both together
   pub less_small : unsigned_abs (a *ℤ b -ℤ c *ℤ d) ≤ unsigned_abs a * unsigned_abs b + unsigned_abs c * unsigned_abs d
+  -- nor is the sum
   pub more_small : unsigned_abs (a *ℤ b +ℤ c *ℤ d) ≤ unsigned_abs a * unsigned_abs b + unsigned_abs c * unsigned_abs d
 
+-- products that are small together fit 128 bits
 pub parts_fit : (a b c d : ℤ) → unsigned_abs a * unsigned_abs b + unsigned_abs c * unsigned_abs d < 2 ^ 127 → FitParts a b c d
 parts_fit a b c d h =
     let less : unsigned_abs (a *ℤ b -ℤ c *ℤ d) ≤ unsigned_abs a * unsigned_abs b + unsigned_abs c * unsigned_abs d = omega (arith, unsigned_abs-mul a b, unsigned_abs-mul c d, abs_sub (a *ℤ b) (c *ℤ d)) in

@@ -32,6 +32,7 @@ pub ok_same : (r : Result Frac WideFrac) {a b : Rational} → a ≈ b → IfOk r
 ok_same (Ok f) e h = same_trans h e
 ok_same (Err w) e h = tt
 
+-- so for a refusal
 pub wide_same : (r : Result Frac WideFrac) {a b : Rational} → a ≈ b → MatchResult r (λ _. ¬ (IsWide a)) (λ w. HasDenominator a w.den × (2 ^ 60 ≤ w.den)) → MatchResult r (λ _. ¬ (IsWide b)) (λ w. HasDenominator b w.den × (2 ^ 60 ≤ w.den))
 wide_same (Ok f) e h = λ w. h (w.0, denominator_same w.0 (same_sym e) w.1, w.2)
 wide_same (Err w) e h = (denominator_same w.den e h.0, h.1)

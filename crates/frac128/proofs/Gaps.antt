@@ -23,9 +23,11 @@ use Rattle.frac128.proofs.Ratios.{abs_pos}
 pub base_parts : {d : Line} {base climb : ℤ} → IsGap d base climb → part_above base + d.base_down ≡ part_below base + d.base_up
 base_parts {d} {base} {climb} h = let e = h.base_is in omega (arith, parts)
 
+-- the parts of its climb
 pub climb_parts : {d : Line} {base climb : ℤ} → IsGap d base climb → part_above climb + d.rise_down ≡ part_below climb + d.rise_up
 climb_parts {d} {base} {climb} h = let e = h.climb_is in omega (arith, parts)
 
+-- and a gap from its parts
 pub gap_from_parts : (d : Line) (base climb : ℤ) → part_above base + d.base_down ≡ part_below base + d.base_up → part_above climb + d.rise_down ≡ part_below climb + d.rise_up → IsGap d base climb
 gap_from_parts d base climb h k = record { base_is = omega (arith, parts); climb_is = omega (arith, parts) }
 
@@ -93,20 +95,25 @@ sign_of Greater sum a h k = record { lt = let l = int_ranked sum (pos 0) Greater
 outweighs : (a c r k : ℕ) → c ≤ a → r < k → 0 < a → c * r < a * k
 outweighs a c r k h j p = omega (arith, mul-le-mul_right r h, mul-lt-mul_of_pos_left {m = r} {n = k} {k = a} j p)
 
+-- the part of a number above 0 is at most its size
 pub above_le : (z : ℤ) → part_above z ≤ unsigned_abs z
 above_le (pos n) = omega arith
 above_le (negsuc n) = omega arith
 
+-- and so is the part below
 pub below_le : (z : ℤ) → part_below z ≤ unsigned_abs z
 below_le (pos n) = omega arith
 below_le (negsuc n) = omega arith
 
+-- the parts of a sum of products
 pub sum_parts : (ahead climb sum : ℤ) (r k : ℕ) → sum ≡ ahead *ℤ pos k +ℤ climb *ℤ pos r → part_above sum + part_below ahead * k + part_below climb * r ≡ part_below sum + part_above ahead * k + part_above climb * r
 sum_parts ahead climb sum r k e = omega (arith, parts)
 
+-- a number with more above than below is above 0
 pub above : (z : ℤ) → part_below z < part_above z → pos 0 <ℤ z
 above z h = omega (arith, parts)
 
+-- and one with less is below
 pub below : (z : ℤ) → part_above z < part_below z → z <ℤ pos 0
 below z h = omega (arith, parts)
 
@@ -117,6 +124,7 @@ far_sign Equal ahead climb sum r k h p j e l = absurd (let m : ahead ≡ pos 0 =
 far_sign Greater (pos a) climb sum r k h p j e l = above sum (omega (arith, sum_parts (pos a) climb sum r k e, outweighs a (part_below climb) r k (omega (arith, below_le climb)) j p))
 far_sign Greater (negsuc a) climb sum r k h p j e l = absurd (let m : pos 0 <ℤ negsuc a = l in omega (arith, ints))
 
+-- far from 0 the whole part tells the sign
 pub far_ahead : (o : Ordering) (ahead climb sum : ℤ) (r k : ℕ) → unsigned_abs climb ≤ unsigned_abs ahead → 0 < unsigned_abs ahead → r < k → sum ≡ ahead *ℤ pos k +ℤ climb *ℤ pos r → o ≡ int_cmp ahead (pos 0) → o ≡ int_cmp sum (pos 0)
 far_ahead o ahead climb sum r k h p j e q = int_cmp_is sum (pos 0) o (far_sign o ahead climb sum r k h p j e (int_ranked ahead (pos 0) o q))
 
@@ -133,6 +141,7 @@ zero_everywhere f g base climb h e t = same_of_zero (same_trans (same_sym (at_ga
     flat : (d : Line) (t : Rational) → d.base_up ≡ d.base_down → d.rise_up ≡ d.rise_down → at d t ≈ whole (pos 0)
     flat d t b r = record { same = omega (arith, ap (λ n. n * t.den) b, ap (λ n. n * t.up) r, ap (λ n. n * t.down) r) }
 
+-- lines that are one have the gap 0
 pub everywhere_zero : (f g : Line) (base climb : ℤ) → IsGap (gap_line f g) base climb → ((t : Rational) → at f t ≈ at g t) → (base ≡ pos 0) × (climb ≡ pos 0)
 everywhere_zero f g base climb h e = (let b = h.base_is in omega (arith, ints, at_start), let b = h.climb_is in omega (arith, ints, at_start, at_end))
   where

@@ -33,10 +33,15 @@ sign_scaled o x e p h = int_cmp_is (x *ℤ pos e) (pos 0) o (by_sign o (int_rank
     by_sign Greater l = above (x *ℤ pos e) (let k : part_below x < part_above x = let l : pos 0 <ℤ x = l in omega (arith, parts) in omega (arith, scaled_parts x e, mul-lt-mul_of_pos_right k p))
 
 pub record Far (ahead rise : ℤ) (run r d s e : ℕ) : Type 0 where
+  -- the line is far from the constant
   pub far : 2 ^ 33 ≤ unsigned_abs ahead
+  -- its rise is small
   pub small_rise : unsigned_abs rise ≤ 2 ^ 31
+  -- and its run
   pub small_run : run ≤ 2 ^ 32
+  -- the rest of the time is below its denominator
   pub rest : r < d
+  -- and so is that of the constant
   pub other_rest : s < e
 
 above_number : (z : ℤ) (n : ℕ) → part_below z + n < part_above z → pos n <ℤ z
@@ -79,6 +84,7 @@ low a rise x run r d s e f z h = below_number (x *ℤ pos e) (run * s * d) (omeg
     under : part_above x < part_below x
     under = let k = f.rest in omega (arith, sum_parts a rise x r d h, climbs, large, ap (λ n. n * d) z)
 
+-- far from the constant the whole parts tell the order
 pub far_order : (o : Ordering) (ahead rise : ℤ) (run r d s e : ℕ) → Far ahead rise run r d s e → o ≡ int_cmp ahead (pos 0) → o ≡ int_cmp ((ahead *ℤ pos d +ℤ rise *ℤ pos r) *ℤ pos e) (pos (run * s * d))
 far_order o ahead rise run r d s e f h = int_cmp_is ((ahead *ℤ pos d +ℤ rise *ℤ pos r) *ℤ pos e) (pos (run * s * d)) o (by_sign o ahead f (int_ranked ahead (pos 0) o h))
   where

@@ -9,27 +9,37 @@ use Rattle.rational.proofs.Order.{same_sym, le_of_lt}
 use Rattle.rational.proofs.Mixed.{fits_of_within, within_between}
 use Rattle.rational.proofs.Meetings.{not_turned, turned, cross_same}
 
+-- what makes a test of no a yes is not so
 pub refuted : {P : Type 0} → (P → IsTrue false) → ¬ P
 refuted h p = let e = h p in absurd (cc)
 
 pub record Ends (f g : Line) (l r : Rational) (before after : Ordering) : Type 0 where
+  -- the first time is within its limits
   pub from : IsWithin (2 ^ 34) l
+  -- and the second
   pub to : IsWithin (2 ^ 34) r
+  -- they are in order
   pub order : l <ʳ r
+  -- the order of the lines at the first
   pub at_start : IsOrder before (at f l) (at g l)
+  -- and at the second
   pub at_end : IsOrder after (at f r) (at g r)
 
+-- where the orders are not opposite there is no crossing
 pub uncrossed : {f g : Line} {l r : Rational} {before after : Ordering} → Ends f g l r before after → ¬ (AreOpposite before after) → (t : Rational) → ¬ (CrossAt f g l r t)
 uncrossed {f} {g} {l} {r} {before} {after} e n t = not_turned before after f g l r t e.order n e.at_start e.at_end
 
 crossing : {f g : Line} {l r : Rational} {before after : Ordering} (q : Rational) → Ends f g l r before after → AreOpposite before after → MeetAt f g q → CrossAt f g l r q
 crossing {f} {g} {l} {r} {before} {after} q e o m = turned before after f g l r q e.order o e.at_start e.at_end m
 
+-- where they are, the time of the meeting has a floor that fits
 pub crossing_fits : {f g : Line} {l r : Rational} {before after : Ordering} (q : Rational) → Ends f g l r before after → AreOpposite before after → MeetAt f g q → FitsFloor w64 q
 crossing_fits q e o m = let c = crossing q e o m in fits_of_within w64 (2 ^ 34) (lit< tt) (within_between (2 ^ 34) e.from e.to (le_of_lt c.after) (le_of_lt c.before))
 
+-- a number that is that time is the crossing
 pub crossing_made : {f g : Line} {l r t : Rational} {before after : Ordering} (q : Rational) → Ends f g l r before after → AreOpposite before after → MeetAt f g q → t ≈ q → CrossAt f g l r t
 crossing_made {f} {g} q e o m s = cross_same f g (same_sym s) (crossing q e o m)
 
+-- and so is one that needs too large a denominator
 pub crossing_wide : {f g : Line} {l r : Rational} {before after : Ordering} (q : Rational) (d : ℕ) → Ends f g l r before after → AreOpposite before after → MeetAt f g q → HasDenominator q d × (2 ^ 60 ≤ d) → (t : Rational) × CrossAt f g l r t × HasDenominator t d × (2 ^ 60 ≤ d)
 crossing_wide q d e o m w = (q, crossing q e o m, w.0, w.1)

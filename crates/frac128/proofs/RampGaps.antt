@@ -26,11 +26,16 @@ offset_parts f o h = omega (arith, mul_parts f.rise f.t0, first, second)
     second = omega (arith, parts)
 
 pub record RampGap (f g : Ramp) (of og base climb : ℤ) : Type 0 where
+  -- the first value at 0, times the run
   pub first : of ≡ f.v0 *ℤ pos f.run -ℤ f.rise *ℤ f.t0
+  -- and the second
   pub second : og ≡ g.v0 *ℤ pos g.run -ℤ g.rise *ℤ g.t0
+  -- the base of the gap
   pub base_is : base ≡ of *ℤ pos g.run -ℤ og *ℤ pos f.run
+  -- its climb
   pub climb_is : climb ≡ f.rise *ℤ pos g.run -ℤ g.rise *ℤ pos f.run
 
+-- these are the gap of two ramps
 pub gap_of_ramps : (f g : Ramp) (of og base climb : ℤ) → RampGap f g of og base climb → IsGap (gap_line (line f) (line g)) base climb
 gap_of_ramps f g of og base climb h =
     gap_from_parts (gap_line (line f) (line g)) base climb
@@ -41,11 +46,16 @@ gap_of_ramps f g of og base climb h =
     difference = let e = h.base_is in omega (arith, parts)
 
 pub record ConstantGap (f : Ramp) (c : Frac) (top offset num climb : ℤ) : Type 0 where
+  -- the first value at 0, times the run
   pub first : top ≡ c.whole *ℤ pos c.den +ℤ pos c.rest
+  -- and the second
   pub second : offset ≡ f.v0 *ℤ pos f.run -ℤ f.rise *ℤ f.t0
+  -- the numerator of the time at which the constant is reached
   pub num_is : num ≡ top *ℤ pos f.run -ℤ offset *ℤ pos c.den
+  -- its climb
   pub climb_is : climb ≡ f.rise *ℤ pos c.den
 
+-- and of a ramp and a constant
 pub gap_of_constant : (f : Ramp) (c : Frac) (top offset num climb : ℤ) → ConstantGap f c top offset num climb → IsGap (gap_line (line f) (constant (value c))) (neg_ℤ num) climb
 gap_of_constant f c top offset num climb h =
     gap_from_parts (gap_line (line f) (constant (value c))) (neg_ℤ num) climb
@@ -62,9 +72,11 @@ gap_of_constant f c top offset num climb h =
 level_of_parallel : (f : Ramp) (c : Frac) → AreParallel (line f) (constant (value c)) → Level (line f)
 level_of_parallel f c h = record { level = eq_of_mul-eq-mul_right c.den c.positive _ _ (let k = h.level in omega arith) }
 
+-- a level ramp is parallel to a constant
 pub parallel_of_level : (f : Ramp) (c : Frac) → Level (line f) → AreParallel (line f) (constant (value c))
 parallel_of_level f c h = record { level = omega (arith, ap (λ n. n * c.den) h.level) }
 
+-- the time at which a ramp reaches a constant
 pub reaching : (f : Ramp) (c : Frac) (top offset num climb : ℤ) (o : Option Ratio) → ConstantGap f c top offset num climb → MatchOption o (climb ≡ pos 0) (λ q. IsQuotient num climb q.num q.den) → MatchOption o (Level (line f)) (λ q. ¬ (Level (line f)) × MeetAt (line f) (constant (value c)) (fraction q.num q.den))
 reaching f c top offset num climb None h k = level_of_parallel f c (meeting (line f) (constant (value c)) (neg_ℤ num) climb None (gap_of_constant f c top offset num climb h) k)
 reaching f c top offset num climb (Some q) h k =
@@ -75,6 +87,7 @@ reaching f c top offset num climb (Some q) h k =
     neg_neg : (z : ℤ) → neg_ℤ (neg_ℤ z) ≡ z
     neg_neg z = omega (arith, ints)
 
+-- its denominator
 pub reaching_den : (f : Ramp) (c : Frac) (num climb : ℤ) (o : Option Ratio) → climb ≡ f.rise *ℤ pos c.den → MatchOption o (climb ≡ pos 0) (λ q. IsQuotient num climb q.num q.den) → IfSome o (λ q. unsigned_abs q.den ≡ unsigned_abs f.rise * c.den)
 reaching_den f c num climb None e k = tt
 reaching_den f c num climb (Some q) e (p, inl k) = ap unsigned_abs (k.1 ∙ e) ∙ unsigned_abs-mul f.rise (pos c.den)

@@ -14,14 +14,19 @@ use Rattle.frac128.specs.Value.{value}
 use Rattle.rational.proofs.Mixed.{same_by_rest, floor_value, fraction-is, order_by_rest, order_by_whole}
 
 pub record Split (n d w : ℤ) (r : ℕ) : Type 0 where
+  -- the denominator is above 0
   pub positive : pos 0 <ℤ d
+  -- quotient and rest
   pub sum : w *ℤ d +ℤ pos r ≡ n
+  -- the rest is below the denominator
   pub below : r < unsigned_abs d
 
+-- a denominator above 0 has a size above 0
 pub abs_pos : (den : ℤ) → pos 0 <ℤ den → 0 < unsigned_abs den
 abs_pos (pos n) h = omega (arith, ints)
 abs_pos (negsuc n) h = absurd (omega (arith, ints))
 
+-- and is its size
 pub is_pos : (den : ℤ) → pos 0 <ℤ den → den ≡ pos (unsigned_abs den)
 is_pos (pos n) h = refl
 is_pos (negsuc n) h = absurd (omega (arith, ints))
@@ -31,10 +36,12 @@ split_value {n} {d} {w} {r} m =
     let p = abs_pos d m.positive in
     rw (fraction-is n d p m.positive) (floor_value n d w r (unsigned_abs d) p (is_pos d m.positive) m.sum)
 
+-- numbers of one quotient are ordered as their rests
 pub order_by_rests : {n d w m e v : ℤ} {r s : ℕ} (o : Ordering) → Split n d w r → Split m e v s → int_cmp w v ≡ Equal → o ≡ nat_cmp (r * unsigned_abs e) (s * unsigned_abs d) → IsOrder o (fraction n d) (fraction m e)
 order_by_rests {n} {d} {w} {m} {e} {v} {r} {s} o h k i j =
     order_same o (split_value h) (split_value k) (order_by_rest o w v r (unsigned_abs d) s (unsigned_abs e) (abs_pos d h.positive) (abs_pos e k.positive) i j)
 
+-- and of two as their quotients
 pub order_by_wholes : {n d w m e v : ℤ} {r s : ℕ} (o : Ordering) → Split n d w r → Split m e v s → o ≡ int_cmp w v → (o ≡ Equal → ⊥) → IsOrder o (fraction n d) (fraction m e)
 order_by_wholes {n} {d} {w} {m} {e} {v} {r} {s} o h k i j =
     order_same o (split_value h) (split_value k) (order_by_whole o w v r (unsigned_abs d) s (unsigned_abs e) (abs_pos d h.positive) (abs_pos e k.positive) i j h.below k.below)

@@ -69,6 +69,10 @@ impl Frac {
     }
 
     /// The number `num / den`. Err exactly where its denominator in lowest terms is 2^60 or more, which it carries.
+    ///
+    /// # Errors
+    ///
+    /// `WideFrac`, with the denominator in lowest terms, exactly where that is 2^60 or more.
     pub fn make(num: i128, den: i128) -> Result<Frac, WideFrac>
         requires positive { pos 0 <ℤ den }
         requires floor { FitsFloor w64 (fraction num den) }

@@ -69,6 +69,10 @@ impl Ramp {
     }
 
     /// The value at `t` as a `Frac`. Err exactly where its denominator in lowest terms is 2^60 or more, which it carries.
+    ///
+    /// # Errors
+    ///
+    /// `WideFrac`, with the denominator of the value in lowest terms, exactly where that is 2^60 or more.
     pub fn fix(&self, t: &Frac) -> Result<Frac, WideFrac>
         requires time { IsWithin (2 ^ 34) (value t.now) }
         requires value { IsWithin (2 ^ 31) (at (line self.now) (value t.now)) }

@@ -24,6 +24,10 @@ impl Ratio {
     ghost use Rattle.rational.specs.Rational.{FitsFloor, ◌≈◌};
 
     /// The number as a `Frac`. Err exactly where its denominator in lowest terms is 2^60 or more, which it carries.
+    ///
+    /// # Errors
+    ///
+    /// `WideFrac`, with the denominator in lowest terms, exactly where that is 2^60 or more.
     pub fn frac(&self) -> Result<Frac, WideFrac>
         requires { FitsFloor w64 (number self.now) }
         ensures ok { IfOk result (λ f. value f ≈ number self.now) }

@@ -1,7 +1,7 @@
 -- Functions that agree on a domain, and what is told by the one and by the other.
 use Rattle.std.proofs.Common.{List}
 use Rattle.rational.specs.Time.{Rational, Within, ◌≈◌}
-use Rattle.rational.specs.Extended.{Extended, Affine}
+use Rattle.rational.specs.Extended.{Extended}
 use Rattle.rational.specs.Windows.{Function}
 use Rattle.rational.proofs.Order.{le_trans, le_of_same, ge_of_same, same_trans}
 use Rattle.value_laws.specs.Members.{ShapeOf}
@@ -12,12 +12,14 @@ use Rattle.pl_signal.specs.Moves.{Tells}
 abbrev pub AgreeOn : Rational → Rational → Function → Function → Type 0
 AgreeOn from to F G = (t : Rational) (v : Extended) → Within from to t → (F t v → G t v) × (G t v → F t v)
 
+-- a domain does not depend on the pairs of its ends
 pub within_same_ends : {from from' to to' t : Rational} → from ≈ from' → to ≈ to' → Within from to t → Within from' to' t
 within_same_ends b e w = record { above = le_trans (ge_of_same b) w.above; below = le_trans w.below (le_of_same e) }
 
 module _ {P : Type 0} (shape : ShapeOf P) where
   -- a signal that tells the one tells the other
-  pub tells_along : (F G : Function) (from to from' to' : Rational) (x : List (Knot P)) → Tells shape F from to x → from ≈ from' → to ≈ to' → AgreeOn from' to' F G → Tells shape G from' to' x
+  pub tells_along : (F G : Function) (from to from' to' : Rational) (x : List (Knot P)) → Tells shape F from to x → from ≈ from' → to ≈ to'
+      → AgreeOn from' to' F G → Tells shape G from' to' x
   tells_along F G from to from' to' x tells b e agree = record {
     signal = tells.signal;
     begins = same_trans tells.begins b;

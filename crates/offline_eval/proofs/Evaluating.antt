@@ -6,7 +6,6 @@ use Rattle.std.proofs.lemmas.Option.{slice_get_within, get_or_from_slice_get, sl
 use Rattle.std.proofs.lemmas.List.{length-drop, length-append}
 use Rattle.std.proofs.lemmas.List.Sums.{sum_by-take-le}
 use Rattle.std.proofs.Math.Seq.{take-length}
-use Rattle.rational.specs.Extended.{Affine}
 use Rattle.value_laws.specs.Members.{ShapeOf}
 use Rattle.pl_signal.specs.declared.knot.Knot.{Knot}
 use Rattle.pl_signal.specs.declared.faults.WidePair.TheVariants.{Cross, Value}
@@ -26,7 +25,8 @@ use Rattle.offline_eval.proofs.Sound.{sound_more}
 use Rattle.offline_eval.proofs.Places.{atoms_on_atom, sum_on}
 
 -- a place in a list that was pushed to
-pub pushed_at : {X : Type 0} (xs : List X) (y : X) (k : ℕ) (x : X) → slice_get (xs ++ y ∷ []) k ≡ Some x → (slice_get xs k ≡ Some x) ⊎ ((k ≡ length xs) × (x ≡ y))
+pub pushed_at : {X : Type 0} (xs : List X) (y : X) (k : ℕ) (x : X) → slice_get (xs ++ y ∷ []) k ≡ Some x → (slice_get xs k ≡ Some x)
+    ⊎ ((k ≡ length xs) × (x ≡ y))
 pushed_at [] y zero x e = inr (refl, cc)
 pushed_at [] y (suc k) x e = absurd cc
 pushed_at (z ∷ xs) y zero x e = inl e
@@ -36,6 +36,7 @@ pushed_at (z ∷ xs) y (suc k) x e = by_rest (pushed_at xs y k x e)
     by_rest (inl h) = inl h
     by_rest (inr h) = inr (ap suc h.0, h.1)
 
+-- one more in a list that was pushed to
 pub pushed_count : {X : Type 0} (xs ys : List X) (y : X) (n : ℕ) → length xs ≡ n → ys ≡ xs ++ y ∷ [] → length ys ≡ n + 1
 pushed_count xs ys y n e h = ap length h ∙ length-append xs (y ∷ []) ∙ ap (λ m. m + 1) e
 
@@ -51,36 +52,45 @@ dropped_at (suc m) (y ∷ all) k x h = subst (λ n. slice_get (y ∷ all) n ≡ 
     next m k = omega arith
 
 -- a signal is left for an atom
-pub some_left : {X : Type 0} (nodes : List Node) (all rest : List X) (i : ℕ) (a : Atom) → length all ≡ atoms_before nodes (length nodes) → rest ≡ drop (atoms_before nodes i) all → slice_get nodes i ≡ Some (Leaf a) → 0 < length rest
+pub some_left : {X : Type 0} (nodes : List Node) (all rest : List X) (i : ℕ) (a : Atom) → length all ≡ atoms_before nodes (length nodes)
+    → rest ≡ drop (atoms_before nodes i) all → slice_get nodes i ≡ Some (Leaf a) → 0 < length rest
 some_left nodes all rest i a count left at =
-    let whole_count : atoms_before nodes (length nodes) ≡ sum_by (λ n. cond (is_atom n) 1 0) nodes = ap (sum_by (λ n. cond (is_atom n) 1 0)) (take-length nodes) in
+    let whole_count : atoms_before nodes (length nodes) ≡ sum_by (λ n. cond (is_atom n) 1 0) nodes =
+    ap (sum_by (λ n. cond (is_atom n) 1 0)) (take-length nodes) in
     let within : atoms_before nodes (i + 1) ≤ sum_by (λ n. cond (is_atom n) 1 0) nodes = sum_by-take-le (λ n. cond (is_atom n) 1 0) nodes (i + 1) in
     let more = atoms_on_atom nodes i a at in
     let long : length rest ≡ length all - atoms_before nodes i = ap length left ∙ length-drop (atoms_before nodes i) all in
-    by_numbers (length rest) (length all) (atoms_before nodes i) (atoms_before nodes (i + 1)) (sum_by (λ n. cond (is_atom n) 1 0) nodes) (count ∙ whole_count) within more long
+    by_numbers (length rest) (length all) (atoms_before nodes i) (atoms_before nodes (i + 1)) (sum_by (λ n. cond (is_atom n) 1 0) nodes)
+    (count ∙ whole_count) within more long
   where
     by_numbers : (r n k m t : ℕ) → n ≡ t → m ≤ t → m ≡ k + 1 → r ≡ n - k → 0 < r
     by_numbers r n k m t e h f g = omega (arith, e, h, f, g)
 
+-- the bounds before a node sum to no more than all
 pub reach_within : (nodes : List Node) (i : ℕ) → reach nodes ≤ 4294967295 → reach_before nodes i ≤ 4294967295
 reach_within nodes i h = omega (arith, h, sum_by-take-le own_reach nodes i)
 
 module _ {P : Type 0} (shape : ShapeOf P) (from to : ℕ) where
+  -- a signal of an atom is sound
   pub input_sound : (x : List (Knot P)) → IsInput shape from to x → IsSound shape from to 0 x
   input_sound x h = record { begins = h.begins; ends = h.ends; limited = h.limited; bases = λ p i. reached (shape.base p) (h.bases p i) }
     where
       reached : (b : ℤ) → (pos 0 ≤ℤ b) × (b <ℤ pos (2 ^ 32)) → (neg_ℤ (pos 0) ≤ℤ b) × (b <ℤ pos (2 ^ 32 + 0))
       reached b (low, high) = (omega (arith, ints, low), omega (arith, ints, high))
 
+  -- so are those that are left
   pub left_sound : (all rest : List (List (Knot P))) (m : ℕ) → All (IsInput shape from to) all → rest ≡ drop m all → AreSound shape from to 0 rest
   left_sound all rest m inputs left k x at =
       let there = dropped_at m all k x (subst (λ r. slice_get r k ≡ Some x) left at) in
       input_sound x (subst (IsInput shape from to) (get_or_from_slice_get all (m + k) x x there) (inputs (m + k) x (slice_get_within all (m + k) x there)))
 
+  -- sound for a reach is sound for a longer one
   pub all_more : (less more : ℕ) (xs : List (List (Knot P))) → less ≤ more → AreSound shape from to less xs → AreSound shape from to more xs
   all_more less more xs h all k x at = sound_more shape from to less more x h (all k x at)
 
-  pub all_pushed : (nodes : List Node) (i : ℕ) (xs ys : List (List (Knot P))) (y : List (Knot P)) → i < length nodes → ys ≡ xs ++ y ∷ [] → AreSound shape from to (reach_before nodes i) xs
+  -- and so with one signal more
+  pub all_pushed : (nodes : List Node) (i : ℕ) (xs ys : List (List (Knot P))) (y : List (Knot P)) → i < length nodes → ys ≡ xs ++ y ∷ []
+      → AreSound shape from to (reach_before nodes i) xs
       → IsSound shape from to (reach_before nodes (i + 1)) y → AreSound shape from to (reach_before nodes (i + 1)) ys
   all_pushed nodes i xs ys y inside e all new k x there = by_place (pushed_at xs y k x (subst (λ l. slice_get l k ≡ Some x) e there))
     where
@@ -92,19 +102,25 @@ module _ {P : Type 0} (shape : ShapeOf P) (from to : ℕ) where
       by_place (inr h) = subst (IsSound shape from to (reach_before nodes (i + 1))) (sym h.1) new
 
 module _ {P : Type 0} (shape : ShapeOf P) where
-  pub told_pushed : (nodes : List Node) (s : Setting) (i : ℕ) (xs ys : List (List (Knot P))) (y : List (Knot P)) → length xs ≡ i → ys ≡ xs ++ y ∷ [] → TellAt shape s (subformula nodes) xs → TellsValue shape s (subformula nodes i) y
+  -- the node's signal tells it among all
+  pub told_pushed : (nodes : List Node) (s : Setting) (i : ℕ) (xs ys : List (List (Knot P))) (y : List (Knot P)) → length xs ≡ i → ys ≡ xs ++ y ∷ []
+      → TellAt shape s (subformula nodes) xs → TellsValue shape s (subformula nodes i) y
       → TellAt shape s (subformula nodes) ys
   told_pushed nodes s i xs ys y count e all new k x there = by_place (pushed_at xs y k x (subst (λ l. slice_get l k ≡ Some x) e there))
     where
       by_place : (slice_get xs k ≡ Some x) ⊎ ((k ≡ length xs) × (x ≡ y)) → TellsValue shape s (subformula nodes k) x
       by_place (inl h) = all k x h
-      by_place (inr h) = subst (TellsValue shape s (subformula nodes k)) (sym h.1) (subst (λ j. TellsValue shape s (subformula nodes j) y) (sym (h.0 ∙ count)) new)
+      by_place (inr h) = subst (TellsValue shape s (subformula nodes k)) (sym h.1)
+          (subst (λ j. TellsValue shape s (subformula nodes j) y) (sym (h.0 ∙ count)) new)
 
   -- all are told in the end
-  pub all_told : (nodes : List Node) (s : Setting) (xs : List (List (Knot P))) → length xs ≡ length nodes → TellAt shape s (subformula nodes) xs → TellNodes shape nodes xs s
+  pub all_told : (nodes : List Node) (s : Setting) (xs : List (List (Knot P))) → length xs ≡ length nodes → TellAt shape s (subformula nodes) xs
+      → TellNodes shape nodes xs s
   all_told nodes s xs count all i inside = let at = slice_get-get_or xs i [] (omega (arith, count, inside)) in (get_or xs i [], at, all i (get_or xs i []) at)
 
-  pub fault_is : (nodes : List Node) (s : Setting) (i : ℕ) (e : OpFault P) → i < length nodes → IsFaultOf shape s (subformula nodes i) e → IsFault shape nodes s (fault_at i e)
+  -- a fault of the node is one of the formula
+  pub fault_is : (nodes : List Node) (s : Setting) (i : ℕ) (e : OpFault P) → i < length nodes → IsFaultOf shape s (subformula nodes i) e
+      → IsFault shape nodes s (fault_at i e)
   fault_is nodes s i F.Memory inside h = tt
   fault_is nodes s i (F.Wide (Cross p q a b den)) inside h = (inside, h)
   fault_is nodes s i (F.Wide (Value p at den)) inside h = (inside, h)

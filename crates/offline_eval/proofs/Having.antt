@@ -3,7 +3,7 @@ use Rattle.std.proofs.Common.{◌≡◌, ℕ, ◌<◌, ◌≤◌, zero, suc, tru
 use Rattle.std.specs.Prelude.{slice_get}
 use Rattle.std.proofs.lemmas.Option.{slice_get-get_or}
 use Rattle.rational.specs.Time.{Rational, Within, closed}
-use Rattle.rational.specs.Extended.{Extended, Affine, value_at, ◌≤ᵉ◌}
+use Rattle.rational.specs.Extended.{value_at, ◌≤ᵉ◌}
 use Rattle.rational.specs.Windows.{IsInfOver}
 use Rattle.rational.proofs.Order.{le_trans, le_of_same, ge_of_same}
 use Rattle.rational.proofs.WindowLemmas.{inf_alike}
@@ -25,17 +25,24 @@ module _ {P : Type 0} (shape : ShapeOf P) where
   -- what a signal tells has a value at each time of the domain
   pub has_value : (p : Subformula) (s : Setting) (x : List (Knot P)) → TellsValue shape s p x → HasValue p s
   has_value p s x tells t i =
-      let o = every_time shape x t tells.signal (record { above = le_trans (le_of_same tells.begins) i.above; below = le_trans i.below (ge_of_same tells.ends) }) in
+      let o = every_time shape x t tells.signal
+      (record { above = le_trans (le_of_same tells.begins) i.above; below = le_trans i.below (ge_of_same tells.ends) }) in
       (o.0, ((tells.worth t o.0).0 o.1).1)
 
   -- and an Inf between each two
-  pub has_inf :  ((q : P) (t : Rational) → value_at (shape.function q) t ≤ᵉ shape.highest) → (p : Subformula) (s : Setting) (x : List (Knot P)) → s.highest ≡ shape.highest → TellsValue shape s p x → HasInf p s
+  pub has_inf : ((q : P) (t : Rational) → value_at (shape.function q) t ≤ᵉ shape.highest) → (p : Subformula) (s : Setting) (x : List (Knot P))
+      → s.highest ≡ shape.highest → TellsValue shape s p x → HasInf p s
   has_inf most p s x e tells t u i j =
       let y = signal_inf shape most x (closed t u) in (
         y.0,
         subst (λ h. IsInfOver h (Within t u) (SupInf p s) y.0) (sym e) (inf_alike shape.highest y.0
             (λ v (w, on, worth). (w, record { above = on.above; below = on.below }, ((tells.worth w v).0 worth).1))
-            (λ v (w, on, told). (w, record { above = on.above; below = on.below }, (tells.worth w v).1 (record { above = le_trans i.above on.above; below = le_trans on.below j.below }, told))) y.1),
+            (λ v (w, on, told). (
+              w,
+              record { above = on.above; below = on.below },
+              (tells.worth w v).1
+                  (record { above = le_trans i.above on.above; below = le_trans on.below j.below }, told),
+            )) y.1),
       )
 
 -- both of a formula
@@ -43,7 +50,8 @@ abbrev HasBoth : Setting → Subformula → Type 0
 HasBoth s p = HasValues p s × HasInfs p s
 
 -- a tree has both where its node has and the trees of its children have
-both_of : (at : ℕ → Subformula) (i : ℕ) (n : Node) (s : Setting) → HasChildrenBelow i n → ((k : ℕ) → k < i → HasBoth s (at k) × HasInf (at k) s) → HasValue (tree_of at i n) s → HasBoth s (tree_of at i n)
+both_of : (at : ℕ → Subformula) (i : ℕ) (n : Node) (s : Setting) → HasChildrenBelow i n → ((k : ℕ) → k < i → HasBoth s (at k) × HasInf (at k) s)
+    → HasValue (tree_of at i n) s → HasBoth s (tree_of at i n)
 both_of at i (Const b) s below all here = (here, tt)
 both_of at i (Leaf a) s below all here = (here, tt)
 both_of at i (Not p) s below all here = let a = all p below in ((here, a.0.0), a.0.1)
@@ -57,7 +65,8 @@ both_of at i (Since p q x y) s below all here = let a = all p below.0 in let b =
 both_of at i (Once p x y c d) s below all here = let a = all p below in ((here, a.0.0), a.0.1)
 both_of at i (Historically p x y c d) s below all here = let a = all p below in ((here, a.0.0), a.0.1)
 
-module _ {P : Type 0} (shape : ShapeOf P) (laws : ShapeLaws shape) (nodes : List Node) (signals : List (List (Knot P))) (s : Setting) (post : IsPostOrder nodes) (e : s.highest ≡ shape.highest) (told : TellNodes shape nodes signals s) where
+module _ {P : Type 0} (shape : ShapeOf P) (laws : ShapeLaws shape) (nodes : List Node) (signals : List (List (Knot P))) (s : Setting)
+    (post : IsPostOrder nodes) (e : s.highest ≡ shape.highest) (told : TellNodes shape nodes signals s) where
   -- each place below n has both, and an Inf
   below_has : (n k : ℕ) → k < n → n ≤ length nodes → HasBoth s (subformula nodes k) × HasInf (subformula nodes k) s
   below_has zero k h within = absurd (omega (arith, h))
@@ -69,8 +78,10 @@ module _ {P : Type 0} (shape : ShapeOf P) (laws : ShapeLaws shape) (nodes : List
       let tree : subformula nodes k ≡ tree_of (subformula nodes) k node = subformula-at nodes k node at children in
       let x = told k inside in
       let value = has_value shape (subformula nodes k) s x.0 x.2 in
-      let both = both_of (subformula nodes) k node s children (λ j l. below_has n j (omega (arith, h, l)) (omega (arith, within))) (subst (λ p. HasValue p s) tree value) in
+      let both = both_of (subformula nodes) k node s children (λ j l. below_has n j (omega (arith, h, l)) (omega (arith, within)))
+      (subst (λ p. HasValue p s) tree value) in
       (subst (HasBoth s) (sym tree) both, has_inf shape laws.highest_is_greatest (subformula nodes k) s x.0 e x.2)
 
+  -- so for every node
   pub all_have : (i : ℕ) → i < length nodes → HasValues (subformula nodes i) s × HasInfs (subformula nodes i) s
   all_have i inside = (below_has (suc i) i (omega arith) (omega (arith, inside))).0

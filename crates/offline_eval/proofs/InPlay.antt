@@ -10,9 +10,11 @@ use Rattle.offline_eval.proofs.Along.{within_same_ends}
 use Rattle.offline_eval.proofs.Stretches.{IsOn, line_along, part_along, breakpoint_along, left_along, right_along, AreAlike, left_within, right_within}
 
 module _ (from to from' to' : Rational) (begins : from ≈ from') (ends : to ≈ to') where
+  -- a window ahead does not depend on the pairs of the domain
   pub ahead_ends : {a b : ℕ} {a_in b_in : Bool} {t u : Rational} → Ahead from to a b a_in b_in t u → Ahead from' to' a b a_in b_in t u
   ahead_ends w = record { inside = within_same_ends begins ends w.inside; begins = w.begins; ends = w.ends }
 
+  -- nor does one behind
   pub behind_ends : {a : ℕ} {b : Option ℕ} {a_in b_in : Bool} {t u : Rational} → Behind from to a b a_in b_in t u → Behind from' to' a b a_in b_in t u
   behind_ends w = record { inside = within_same_ends begins ends w.inside; begins = w.begins; ends = w.ends }
 
@@ -31,21 +33,38 @@ module _ (from to from' to' : Rational) (begins : from ≈ from') (ends : to ≈
     value_within : (line : Affine) (W W' : Window) → ((u : Rational) → W u → W' u) → IsValueWithin F from to W line → IsValueWithin G from' to' W' line
     value_within line W W' w (u, b, i, v, f, c) = (u, break b, w u i, v, on.forth u v f, c)
 
-    limit_within : (line : Affine) (C C' L R : Window) → ((u : Rational) → C u → C' u) → IsLimitWithin F from to C L R line → IsLimitWithin G from' to' C' L R line
-    limit_within line C C' L R w (u, b, i, v, inl (h, l, k), c) = (u, break b, w u i, v, inl (lt_of_le_of_lt (ge_of_same begins) h, l, left_along from to F G on k), c)
-    limit_within line C C' L R w (u, b, i, v, inr (h, r, k), c) = (u, break b, w u i, v, inr (lt_of_lt_of_le h (le_of_same ends), r, right_along from to F G on k), c)
+    limit_within : (line : Affine) (C C' L R : Window) → ((u : Rational) → C u → C' u) → IsLimitWithin F from to C L R line
+        → IsLimitWithin G from' to' C' L R line
+    limit_within line C C' L R w (u, b, i, v, inl (h, l, k), c) =
+        (u, break b, w u i, v, inl (lt_of_le_of_lt (ge_of_same begins) h, l, left_along from to F G on k), c)
+    limit_within line C C' L R w (u, b, i, v, inr (h, r, k), c) =
+        (u, break b, w u i, v, inr (lt_of_lt_of_le h (le_of_same ends), r, right_along from to F G on k), c)
 
-    pub ahead_along : (a b : ℕ) (a_in b_in : Bool) (tau : Rational) (line : Affine) → IsInPlay (window_ahead F a b a_in b_in) from to tau line → IsInPlay (window_ahead G a b a_in b_in) from' to' tau line
+    -- in the step of a window ahead
+    pub ahead_along : (a b : ℕ) (a_in b_in : Bool) (tau : Rational) (line : Affine) → IsInPlay (window_ahead F a b a_in b_in) from to tau line
+        → IsInPlay (window_ahead G a b a_in b_in) from' to' tau line
     ahead_along a b a_in b_in tau line (h, inl p) = ((h.0, ahead_ends h.1), inl (end_part tau line (λ k. (k ≡ pos a) ⊎ (k ≡ pos b)) p))
-    ahead_along a b a_in b_in tau line (h, inr (inl p)) = ((h.0, ahead_ends h.1), inr (inl (value_within line (Ahead from to a b a_in b_in tau) (Ahead from' to' a b a_in b_in tau) (λ u w. ahead_ends w) p)))
-    ahead_along a b a_in b_in tau line (h, inr (inr p)) =
-        ((h.0, ahead_ends h.1), inr (inr (limit_within line (Ahead from to a b true true tau) (Ahead from' to' a b true true tau) (λ u. shifted tau (pos a) <ʳ u) (λ u. u <ʳ shifted tau (pos b)) (λ u w. ahead_ends w) p)))
+    ahead_along a b a_in b_in tau line (h, inr (inl p)) =
+        ((h.0, ahead_ends h.1), inr (inl (value_within line (Ahead from to a b a_in b_in tau) (Ahead from' to' a b a_in b_in tau) (λ u w. ahead_ends w) p)))
+    ahead_along a b a_in b_in tau line (h, inr (inr p)) = (
+      (h.0, ahead_ends h.1),
+      inr
+          (inr (limit_within line (Ahead from to a b true true tau) (Ahead from' to' a b true true tau) (λ u. shifted tau (pos a) <ʳ u)
+          (λ u. u <ʳ shifted tau (pos b)) (λ u w. ahead_ends w) p)),
+    )
 
-    pub behind_along : (a : ℕ) (b : Option ℕ) (a_in b_in : Bool) (tau : Rational) (line : Affine) → IsInPlay (window_behind F a b a_in b_in) from to tau line → IsInPlay (window_behind G a b a_in b_in) from' to' tau line
+    -- of one behind
+    pub behind_along : (a : ℕ) (b : Option ℕ) (a_in b_in : Bool) (tau : Rational) (line : Affine)
+        → IsInPlay (window_behind F a b a_in b_in) from to tau line → IsInPlay (window_behind G a b a_in b_in) from' to' tau line
     behind_along a b a_in b_in tau line (h, inl p) = ((h.0, behind_ends h.1), inl (end_part tau line (IsEndBehind a b) p))
-    behind_along a b a_in b_in tau line (h, inr (inl p)) = ((h.0, behind_ends h.1), inr (inl (value_within line (Behind from to a b a_in b_in tau) (Behind from' to' a b a_in b_in tau) (λ u w. behind_ends w) p)))
-    behind_along a b a_in b_in tau line (h, inr (inr p)) =
-        ((h.0, behind_ends h.1), inr (inr (limit_within line (Behind from to a b true true tau) (Behind from' to' a b true true tau) (λ u. IfSome b (λ b. tau <ʳ shifted u (pos b))) (λ u. shifted u (pos a) <ʳ tau) (λ u w. behind_ends w) p)))
+    behind_along a b a_in b_in tau line (h, inr (inl p)) =
+        ((h.0, behind_ends h.1), inr (inl (value_within line (Behind from to a b a_in b_in tau) (Behind from' to' a b a_in b_in tau) (λ u w. behind_ends w) p)))
+    behind_along a b a_in b_in tau line (h, inr (inr p)) = (
+      (h.0, behind_ends h.1),
+      inr
+          (inr (limit_within line (Behind from to a b true true tau) (Behind from' to' a b true true tau)
+          (λ u. IfSome b (λ b. tau <ʳ shifted u (pos b))) (λ u. shifted u (pos a) <ʳ tau) (λ u w. behind_ends w) p)),
+    )
 
   -- steps over two functions, whose result agrees with another on the domain
   module _ (F F' G G' R R' : Function) (left : IsOn from to F F') (right : IsOn from to G G') (result : AreAlike from to R R') where
@@ -61,17 +80,21 @@ module _ (from to from' to' : Rational) (begins : from ≈ from') (ends : to ≈
       here = by_kind n.here;
     }
       where
-        by_kind : IsBreakpoint F from to u ⊎ IsBreakpoint G from to u ⊎ IsCrossing n.left n.right u → IsBreakpoint F' from' to' u ⊎ IsBreakpoint G' from' to' u ⊎ IsCrossing n.left n.right u
+        by_kind : IsBreakpoint F from to u ⊎ IsBreakpoint G from to u ⊎ IsCrossing n.left n.right u → IsBreakpoint F' from' to' u
+            ⊎ IsBreakpoint G' from' to' u ⊎ IsCrossing n.left n.right u
         by_kind (inl b) = inl (break F F' left b)
         by_kind (inr (inl b)) = inr (inl (break G G' right b))
         by_kind (inr (inr c)) = inr (inr c)
 
-    pub until_along : (tau : Rational) (line : Affine) → from <ʳ tau → IsInPlay (until_end F G R) from to tau line → IsInPlay (until_end F' G' R') from' to' tau line
+    -- of until to the end
+    pub until_along : (tau : Rational) (line : Affine) → from <ʳ tau → IsInPlay (until_end F G R) from to tau line
+        → IsInPlay (until_end F' G' R') from' to' tau line
     until_along tau line h (inl p) = inl (part_along from to F F' left p)
     until_along tau line h (inr (inl p)) = inr (inl (part_along from to G G' right p))
     until_along tau line h (inr (inr (u, n, v, c, side))) = inr (inr (u, next_along tau u n, v, c, by_side side))
       where
-        by_side : (F u v ⊎ IsLeftLimit F u v) ⊎ (G u v ⊎ IsLeftLimit G u v) ⊎ (R u v ⊎ IsLeftLimit R u v) → (F' u v ⊎ IsLeftLimit F' u v) ⊎ (G' u v ⊎ IsLeftLimit G' u v) ⊎ (R' u v ⊎ IsLeftLimit R' u v)
+        by_side : (F u v ⊎ IsLeftLimit F u v) ⊎ (G u v ⊎ IsLeftLimit G u v) ⊎ (R u v ⊎ IsLeftLimit R u v) → (F' u v ⊎ IsLeftLimit F' u v)
+            ⊎ (G' u v ⊎ IsLeftLimit G' u v) ⊎ (R' u v ⊎ IsLeftLimit R' u v)
         by_side (inl (inl f)) = inl (inl (left.forth u v f))
         by_side (inl (inr l)) = inl (inr (left_along from to F F' left l))
         by_side (inr (inl (inl f))) = inr (inl (inl (right.forth u v f)))
@@ -91,17 +114,21 @@ module _ (from to from' to' : Rational) (begins : from ≈ from') (ends : to ≈
       here = by_kind n.here;
     }
       where
-        by_kind : IsBreakpoint F from to u ⊎ IsBreakpoint G from to u ⊎ IsCrossing n.left n.right u → IsBreakpoint F' from' to' u ⊎ IsBreakpoint G' from' to' u ⊎ IsCrossing n.left n.right u
+        by_kind : IsBreakpoint F from to u ⊎ IsBreakpoint G from to u ⊎ IsCrossing n.left n.right u → IsBreakpoint F' from' to' u
+            ⊎ IsBreakpoint G' from' to' u ⊎ IsCrossing n.left n.right u
         by_kind (inl b) = inl (break F F' left b)
         by_kind (inr (inl b)) = inr (inl (break G G' right b))
         by_kind (inr (inr c)) = inr (inr c)
 
-    pub since_along : (tau : Rational) (line : Affine) → tau <ʳ to → IsInPlay (since_start F G R) from to tau line → IsInPlay (since_start F' G' R') from' to' tau line
+    -- of since from the start
+    pub since_along : (tau : Rational) (line : Affine) → tau <ʳ to → IsInPlay (since_start F G R) from to tau line
+        → IsInPlay (since_start F' G' R') from' to' tau line
     since_along tau line h (inl p) = inl (part_along from to F F' left p)
     since_along tau line h (inr (inl p)) = inr (inl (part_along from to G G' right p))
     since_along tau line h (inr (inr (u, n, v, c, side))) = inr (inr (u, previous_along tau u n, v, c, by_side side))
       where
-        by_side : (F u v ⊎ IsRightLimit F u v) ⊎ (G u v ⊎ IsRightLimit G u v) ⊎ (R u v ⊎ IsRightLimit R u v) → (F' u v ⊎ IsRightLimit F' u v) ⊎ (G' u v ⊎ IsRightLimit G' u v) ⊎ (R' u v ⊎ IsRightLimit R' u v)
+        by_side : (F u v ⊎ IsRightLimit F u v) ⊎ (G u v ⊎ IsRightLimit G u v) ⊎ (R u v ⊎ IsRightLimit R u v) → (F' u v ⊎ IsRightLimit F' u v)
+            ⊎ (G' u v ⊎ IsRightLimit G' u v) ⊎ (R' u v ⊎ IsRightLimit R' u v)
         by_side (inl (inl f)) = inl (inl (left.forth u v f))
         by_side (inl (inr l)) = inl (inr (right_along from to F F' left l))
         by_side (inr (inl (inl f))) = inr (inl (inl (right.forth u v f)))
@@ -110,7 +137,8 @@ module _ (from to from' to' : Rational) (begins : from ≈ from') (ends : to ≈
         by_side (inr (inr (inr l))) = inr (inr (inr (right_within from to R R' result n.inside.above (lt_trans n.before h) l)))
 
 -- a cause in the one step is a cause in the other
-pub crossing_along : (Step Other : Rational → Affine → Type 0) (from to from' to' : Rational) → from ≈ from' → to ≈ to' → ((tau : Rational) (line : Affine) → from <ʳ tau → tau <ʳ to → Step tau line → Other tau line)
+pub crossing_along : (Step Other : Rational → Affine → Type 0) (from to from' to' : Rational) → from ≈ from' → to ≈ to'
+    → ((tau : Rational) (line : Affine) → from <ʳ tau → tau <ʳ to → Step tau line → Other tau line)
     → (p q : Affine) (a b : Rational) (den : ℕ) → IsWideCrossing Step from to p q a b den → IsWideCrossing Other from' to' p q a b den
 crossing_along Step Other from to from' to' begins ends forth p q a b den w = record {
   tau = w.tau;
@@ -126,7 +154,9 @@ crossing_along Step Other from to from' to' begins ends forth p q a b den w = re
   wide = w.wide;
 }
 
-pub value_along : (Step Other : Rational → Affine → Type 0) (from to from' to' : Rational) → from ≈ from' → to ≈ to' → ((tau : Rational) (line : Affine) → from <ʳ tau → tau <ʳ to → Step tau line → Other tau line)
+-- and so for a constant
+pub value_along : (Step Other : Rational → Affine → Type 0) (from to from' to' : Rational) → from ≈ from' → to ≈ to'
+    → ((tau : Rational) (line : Affine) → from <ʳ tau → tau <ʳ to → Step tau line → Other tau line)
     → (p : Affine) (u : Rational) (den : ℕ) → IsWideValue Step from to p u den → IsWideValue Other from' to' p u den
 value_along Step Other from to from' to' begins ends forth p u den w = record {
   tau = w.tau;

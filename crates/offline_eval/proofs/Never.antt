@@ -22,7 +22,8 @@ levels_never_cross InPlay from to a b f g n m den e h w =
     steady_never_meet_alone f g a b w.tau (subst IsSteady (sym e) (level_steady n)) (subst IsSteady (sym h) (level_steady m))
     (record { after = w.above; before = w.below; meet = w.meet; alone = w.alone })
 
-level_never_wide : (InPlay : Rational → Affine → Type 0) (from to u : Rational) (f : Affine) (n : ℤ) (den : ℕ) → f ≡ level n → ¬ IsWideValue InPlay from to f u den
+level_never_wide : (InPlay : Rational → Affine → Type 0) (from to u : Rational) (f : Affine) (n : ℤ) (den : ℕ) → f ≡ level n
+    → ¬ IsWideValue InPlay from to f u den
 level_never_wide InPlay from to u f n den h w =
     let here : value_at f u ≈ᵉ finite (whole n) = subst (λ f. value_at f u ≈ᵉ finite (whole n)) (sym h) (level_is n u) in
     let e : finite w.value ≈ᵉ finite (whole n) = same_transᵉ (finite w.value) (value_at f u) (finite (whole n)) w.is_value here in

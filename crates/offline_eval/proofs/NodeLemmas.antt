@@ -1,7 +1,7 @@
 -- What the signal of a node keeps and tells, from the signals of its children among those before it.
 use Rattle.std.proofs.Common.{◌≡◌, ℕ, ℤ, pos, neg_ℤ, ◌+◌, ◌-◌, ◌<◌, ◌^◌, ◌≤ℤ◌, ◌<ℤ◌, arith, List, Some, sym, subst}
 use Rattle.std.specs.Prelude.{slice_get}
-use Rattle.rational.specs.Extended.{Extended, Affine}
+use Rattle.rational.specs.Extended.{Extended}
 use Rattle.rational.proofs.Order.{same_trans, same_sym, le_trans, le_of_same, ge_of_same}
 use Rattle.rational.proofs.Shift.{le_whole}
 use Rattle.std.proofs.lemmas.Int.{ints}
@@ -21,7 +21,8 @@ ends_of over = record { lowest = over.lowest; highest = over.highest }
 module _ {P : Type 0} (shape : ShapeOf P) (from to : ℕ) where
   -- two sound signals are over one domain
   pub may_meet : (reach : ℕ) (x y : List (Knot P)) → IsSound shape from to reach x → IsSound shape from to reach y → MayMeet shape x y
-  may_meet reach x y s u = record { left = s.limited; right = u.limited; begins = same_trans s.begins (same_sym u.begins); ends = same_trans s.ends (same_sym u.ends) }
+  may_meet reach x y s u =
+      record { left = s.limited; right = u.limited; begins = same_trans s.begins (same_sym u.begins); ends = same_trans s.ends (same_sym u.ends) }
 
   -- a sound signal is fit for every step
   pub fit_of : (x : List (Knot P)) → to < 2 ^ 32 → IsSound shape from to 4294967295 x → IsFit shape x
@@ -41,32 +42,55 @@ module _ {P : Type 0} (shape : ShapeOf P) (from to : ℕ) where
       near_reached : (b : ℤ) → (neg_ℤ (pos 4294967295) ≤ℤ b) × (b <ℤ pos (2 ^ 32 + 4294967295)) → (neg_ℤ (pos (2 ^ 32)) ≤ℤ b) × (b ≤ℤ pos (2 ^ 33))
       near_reached b (low, high) = (omega (arith, ints, low), omega (arith, ints, high))
 
+  -- so for two
   pub are_fit : (x y : List (Knot P)) → to < 2 ^ 32 → IsSound shape from to 4294967295 x → IsSound shape from to 4294967295 y → AreFit shape x y
-  are_fit x y small s u = record { left = fit_of x small s; right = fit_of y small u; begins = same_trans s.begins (same_sym u.begins); ends = same_trans s.ends (same_sym u.ends) }
+  are_fit x y small s u = record {
+    left = fit_of x small s;
+    right = fit_of y small u;
+    begins = same_trans s.begins (same_sym u.begins);
+    ends = same_trans s.ends (same_sym u.ends);
+  }
 
-  pub none_sound : (n : Node) (xs : List (List (Knot P))) (r : List (Knot P)) → ((reach : ℕ) → IsSound shape from to reach r) → NodeStaysSound shape from to n xs r
+  -- a node without children
+  pub none_sound : (n : Node) (xs : List (List (Knot P))) (r : List (Knot P)) → ((reach : ℕ) → IsSound shape from to reach r)
+      → NodeStaysSound shape from to n xs r
   none_sound n xs r sound reach all = sound (reach + own_reach n)
 
-  pub one_sound : (n : Node) (p own : ℕ) (xs : List (List (Knot P))) (x r : List (Knot P)) → slice_get xs p ≡ Some x → own_reach n ≡ own → StaysSound shape own x r → NodeStaysSound shape from to n xs r
+  -- with one child
+  pub one_sound : (n : Node) (p own : ℕ) (xs : List (List (Knot P))) (x r : List (Knot P)) → slice_get xs p ≡ Some x → own_reach n ≡ own
+      → StaysSound shape own x r → NodeStaysSound shape from to n xs r
   one_sound n p own xs x r at e sound reach all = subst (λ k. IsSound shape from to (reach + k) r) (sym e) (sound from to reach (all p x at))
 
-  pub two_sound : (n : Node) (p q own : ℕ) (xs : List (List (Knot P))) (x y r : List (Knot P)) → slice_get xs p ≡ Some x → slice_get xs q ≡ Some y → own_reach n ≡ own
+  -- with two children
+  pub two_sound : (n : Node) (p q own : ℕ) (xs : List (List (Knot P))) (x y r : List (Knot P)) → slice_get xs p ≡ Some x → slice_get xs q ≡ Some y
+      → own_reach n ≡ own
       → StaySound shape own x y r → NodeStaysSound shape from to n xs r
-  two_sound n p q own xs x y r at_p at_q e sound reach all = subst (λ k. IsSound shape from to (reach + k) r) (sym e) (sound from to reach (all p x at_p) (all q y at_q))
+  two_sound n p q own xs x y r at_p at_q e sound reach all =
+      subst (λ k. IsSound shape from to (reach + k) r) (sym e) (sound from to reach (all p x at_p) (all q y at_q))
 
 module _ {P : Type 0} (shape : ShapeOf P) (from to : ℕ) where
-  pub one_told : (n : Node) (p : ℕ) (xs : List (List (Knot P))) (x r : List (Knot P)) (make : Subformula → Subformula) → slice_get xs p ≡ Some x → ((at : ℕ → Subformula) (i : ℕ) → tree_of at i n ≡ make (at p))
+  -- what a node with one child tells
+  pub one_told : (n : Node) (p : ℕ) (xs : List (List (Knot P))) (x r : List (Knot P)) (make : Subformula → Subformula) → slice_get xs p ≡ Some x
+      → ((at : ℕ → Subformula) (i : ℕ) → tree_of at i n ≡ make (at p))
       → TellsOne shape make x r → TellsNode shape from to n xs r
   one_told n p xs x r make at_p e told s at i over all = subst (λ f. TellsValue shape s f r) (sym (e at i)) (told s (at p) (ends_of over) (all p x at_p))
 
-  pub one_fault : (n : Node) (p : ℕ) (xs : List (List (Knot P))) (x : List (Knot P)) (f : OpFault P) (make : Subformula → Subformula) → slice_get xs p ≡ Some x → ((at : ℕ → Subformula) (i : ℕ) → tree_of at i n ≡ make (at p))
+  -- and its fault
+  pub one_fault : (n : Node) (p : ℕ) (xs : List (List (Knot P))) (x : List (Knot P)) (f : OpFault P) (make : Subformula → Subformula)
+      → slice_get xs p ≡ Some x → ((at : ℕ → Subformula) (i : ℕ) → tree_of at i n ≡ make (at p))
       → FaultOfOne shape make x f → FaultOfNode shape from to n xs f
   one_fault n p xs x f make at_p e fault s at i over all = subst (λ t. IsFaultOf shape s t f) (sym (e at i)) (fault s (at p) (ends_of over) (all p x at_p))
 
-  pub two_told : (n : Node) (p q : ℕ) (xs : List (List (Knot P))) (x y r : List (Knot P)) (make : Subformula → Subformula → Subformula) → slice_get xs p ≡ Some x → slice_get xs q ≡ Some y
+  -- what a node with two children tells
+  pub two_told : (n : Node) (p q : ℕ) (xs : List (List (Knot P))) (x y r : List (Knot P)) (make : Subformula → Subformula → Subformula)
+      → slice_get xs p ≡ Some x → slice_get xs q ≡ Some y
       → ((at : ℕ → Subformula) (i : ℕ) → tree_of at i n ≡ make (at p) (at q)) → TellsTwo shape make x y r → TellsNode shape from to n xs r
-  two_told n p q xs x y r make at_p at_q e told s at i over all = subst (λ f. TellsValue shape s f r) (sym (e at i)) (told s (at p) (at q) (ends_of over) (all p x at_p) (all q y at_q))
+  two_told n p q xs x y r make at_p at_q e told s at i over all =
+      subst (λ f. TellsValue shape s f r) (sym (e at i)) (told s (at p) (at q) (ends_of over) (all p x at_p) (all q y at_q))
 
-  pub two_fault : (n : Node) (p q : ℕ) (xs : List (List (Knot P))) (x y : List (Knot P)) (f : OpFault P) (make : Subformula → Subformula → Subformula) → slice_get xs p ≡ Some x → slice_get xs q ≡ Some y
+  -- and its fault
+  pub two_fault : (n : Node) (p q : ℕ) (xs : List (List (Knot P))) (x y : List (Knot P)) (f : OpFault P) (make : Subformula → Subformula → Subformula)
+      → slice_get xs p ≡ Some x → slice_get xs q ≡ Some y
       → ((at : ℕ → Subformula) (i : ℕ) → tree_of at i n ≡ make (at p) (at q)) → FaultOfTwo shape make x y f → FaultOfNode shape from to n xs f
-  two_fault n p q xs x y f make at_p at_q e fault s at i over all = subst (λ t. IsFaultOf shape s t f) (sym (e at i)) (fault s (at p) (at q) (ends_of over) (all p x at_p) (all q y at_q))
+  two_fault n p q xs x y f make at_p at_q e fault s at i over all =
+      subst (λ t. IsFaultOf shape s t f) (sym (e at i)) (fault s (at p) (at q) (ends_of over) (all p x at_p) (all q y at_q))

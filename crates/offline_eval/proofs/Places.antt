@@ -1,9 +1,8 @@
 -- Counting along the nodes of a formula, and the signal of an atom's place.
-use Rattle.std.proofs.Common.{◌≡◌, ℕ, ℤ, zero, suc, ◌+◌, false, cond, List, [], ◌∷◌, take, drop, Some, ap, sym, ◌∙◌, subst, refl, arith, add-zero, ◌<◌, ◌++◌, length, ◌⊎◌, inl, inr, true}
+use Rattle.std.proofs.Common.{◌≡◌, ℕ, zero, suc, ◌+◌, false, cond, List, [], ◌∷◌, take, drop, Some, ap, sym, ◌∙◌, subst, refl, arith, add-zero, ◌<◌, ◌++◌, length, ◌⊎◌, inl, inr, true}
 use Rattle.std.specs.Prelude.{slice_get, sum_by, Result, Ok, Err, OnOk}
 use Rattle.std.proofs.lemmas.Option.{slice_get_within, get_or_from_slice_get}
 use Rattle.std.proofs.lemmas.List.Sums.{sum_by_more}
-use Rattle.rational.specs.Extended.{Affine}
 use Rattle.value_laws.specs.Members.{ShapeOf}
 use Rattle.pl_signal.specs.declared.knot.Knot.{Knot}
 use Rattle.pl_signal.specs.Moves.{Tells}
@@ -27,12 +26,16 @@ on_ok (Err e) x = tt
 pub sum_on : (f : Node → ℕ) (nodes : List Node) (i : ℕ) (n : Node) → slice_get nodes i ≡ Some n → sum_by f (take (i + 1) nodes) ≡ sum_by f (take i nodes) + f n
 sum_on f nodes i n at = sum_by_more f nodes i n (slice_get_within nodes i n at) ∙ ap (λ m. sum_by f (take i nodes) + f m) (get_or_from_slice_get nodes i n n at)
 
+-- one atom more after an atom
 pub atoms_on_atom : (nodes : List Node) (i : ℕ) (a : Atom) → slice_get nodes i ≡ Some (Leaf a) → atoms_before nodes (i + 1) ≡ atoms_before nodes i + 1
 atoms_on_atom nodes i a at = sum_on (λ n. cond (is_atom n) 1 0) nodes i (Leaf a) at
 
+-- and as many as before after another node
 pub atoms_on_other : (nodes : List Node) (i : ℕ) (n : Node) → slice_get nodes i ≡ Some n → is_atom n ≡ false → atoms_before nodes (i + 1) ≡ atoms_before nodes i
-atoms_on_other nodes i n at other = sum_on (λ n. cond (is_atom n) 1 0) nodes i n at ∙ ap (λ b. atoms_before nodes i + cond b 1 0) other ∙ add-zero (atoms_before nodes i)
+atoms_on_other nodes i n at other = sum_on (λ n. cond (is_atom n) 1 0) nodes i n at ∙ ap (λ b. atoms_before nodes i + cond b 1 0) other ∙ add-zero
+    (atoms_before nodes i)
 
+-- what is no leaf is no atom
 pub not_atom : (n : Node) → ((a : Atom) → n ≡ Leaf a → ⊥) → is_atom n ≡ false
 not_atom (Leaf a) other = absurd (other a refl)
 not_atom (Const b) other = refl
@@ -76,17 +79,27 @@ last_of xs x k e = subst (λ n. slice_get (xs ++ x ∷ []) n ≡ Some x) (sym e)
     at_end (z ∷ xs) x = at_end xs x
 
 module _ {P : Type 0} where
-  pub atom_takes : (nodes : List Node) (i : ℕ) (a : Atom) (x : List (Knot P)) (old new : List (List (Knot P))) → slice_get nodes i ≡ Some (Leaf a) → old ≡ x ∷ new → TakesOwn nodes i old new
-  atom_takes nodes i a x old new at e all left = (drop_at all (atoms_before nodes i) x new (sym e ∙ left)).1 ∙ ap (λ n. drop n all) (sym (atoms_on_atom nodes i a at))
+  -- an atom takes the next signal
+  pub atom_takes : (nodes : List Node) (i : ℕ) (a : Atom) (x : List (Knot P)) (old new : List (List (Knot P))) → slice_get nodes i ≡ Some (Leaf a)
+      → old ≡ x ∷ new → TakesOwn nodes i old new
+  atom_takes nodes i a x old new at e all left = (drop_at all (atoms_before nodes i) x new (sym e ∙ left)).1 ∙ ap (λ n. drop n all)
+      (sym (atoms_on_atom nodes i a at))
 
-  pub other_takes : (nodes : List Node) (i : ℕ) (n : Node) (old : List (List (Knot P))) → slice_get nodes i ≡ Some n → is_atom n ≡ false → TakesOwn nodes i old old
+  -- another node takes none
+  pub other_takes : (nodes : List Node) (i : ℕ) (n : Node) (old : List (List (Knot P))) → slice_get nodes i ≡ Some n → is_atom n ≡ false
+      → TakesOwn nodes i old old
   other_takes nodes i n old at other all left = left ∙ ap (λ n. drop n all) (sym (atoms_on_other nodes i n at other))
 
 module _ {P : Type 0} (shape : ShapeOf P) where
-  pub atom_sound : (from to : ℕ) (nodes : List Node) (i : ℕ) (x : List (Knot P)) (old new xs : List (List (Knot P))) → old ≡ x ∷ new → AreSound shape from to 0 old → PlaceStaysSound shape from to nodes i xs x
-  atom_sound from to nodes i x old new xs e sound all = sound_more shape from to 0 (reach_before nodes (i + 1)) x (omega arith) (sound 0 x (subst (λ o. slice_get o 0 ≡ Some x) (sym e) refl))
+  -- the signal that an atom takes is sound
+  pub atom_sound : (from to : ℕ) (nodes : List Node) (i : ℕ) (x : List (Knot P)) (old new xs : List (List (Knot P))) → old ≡ x ∷ new
+      → AreSound shape from to 0 old → PlaceStaysSound shape from to nodes i xs x
+  atom_sound from to nodes i x old new xs e sound all = sound_more shape from to 0 (reach_before nodes (i + 1)) x (omega arith)
+      (sound 0 x (subst (λ o. slice_get o 0 ≡ Some x) (sym e) refl))
 
-  pub atom_told : (nodes : List Node) (i : ℕ) (a : Atom) (x : List (Knot P)) (old new all : List (List (Knot P))) (s : Setting) → slice_get nodes i ≡ Some (Leaf a) → subformula nodes i ≡ tree_of (subformula nodes) i (Leaf a)
+  -- and tells the atom
+  pub atom_told : (nodes : List Node) (i : ℕ) (a : Atom) (x : List (Knot P)) (old new all : List (List (Knot P))) (s : Setting)
+      → slice_get nodes i ≡ Some (Leaf a) → subformula nodes i ≡ tree_of (subformula nodes) i (Leaf a)
       → old ≡ x ∷ new → old ≡ drop (atoms_before nodes i) all → TellAtoms shape nodes all s → TellsValue shape s (subformula nodes i) x
   atom_told nodes i a x old new all s at tree e left told =
       let o = told i a (slice_get_within nodes i (Leaf a) at) at in
@@ -94,20 +107,30 @@ module _ {P : Type 0} (shape : ShapeOf P) where
       let same : o.0 ≡ x = some_is (sym o.1 ∙ here) in
       subst (λ f. TellsValue shape s f x) (sym tree) (subst (TellsValue shape s (atom i a)) same o.2)
 
+  -- before the first node nothing is told
   pub told_none : (nodes : List Node) (s : Setting) → TellAtomsBelow shape 0 nodes [] s
   told_none nodes s i a h at = absurd (omega (arith, h))
 
-  pub told_atom : (nodes : List Node) (s : Setting) (i : ℕ) (a : Atom) (xs : List (List (Knot P))) (x : List (Knot P)) → slice_get nodes i ≡ Some (Leaf a) → length xs ≡ atoms_before nodes i → TellAtomsBelow shape i nodes xs s
+  -- after an atom one more is
+  pub told_atom : (nodes : List Node) (s : Setting) (i : ℕ) (a : Atom) (xs : List (List (Knot P))) (x : List (Knot P))
+      → slice_get nodes i ≡ Some (Leaf a) → length xs ≡ atoms_before nodes i → TellAtomsBelow shape i nodes xs s
       → Tells shape (Gives s.atoms i a) s.from s.to x → TellAtomsBelow shape (i + 1) nodes (xs ++ x ∷ []) s
   told_atom nodes s i a xs x at count told tells j b h at_j = by_place (before_or_here i j h)
     where
-      by_place : (j < i) ⊎ (j ≡ i) → (y : List (Knot P)) × (slice_get (xs ++ x ∷ []) (atoms_before nodes j) ≡ Some y) × Tells shape (Gives s.atoms j b) s.from s.to y
+      by_place : (j < i) ⊎ (j ≡ i) → (y : List (Knot P)) × (slice_get (xs ++ x ∷ []) (atoms_before nodes j) ≡ Some y)
+          × Tells shape (Gives s.atoms j b) s.from s.to y
       by_place (inl k) = let o = told j b k at_j in (o.0, in_front xs x (atoms_before nodes j) o.0 o.1, o.2)
       by_place (inr k) =
-          let same : b ≡ a = same_leaf (sym at_j ∙ ap (slice_get nodes) k ∙ at) in
-          (x, last_of xs x (atoms_before nodes j) (ap (atoms_before nodes) k ∙ sym count), subst (λ m. Tells shape (Gives s.atoms m b) s.from s.to x) (sym k) (subst (λ c. Tells shape (Gives s.atoms i c) s.from s.to x) (sym same) tells))
+          let same : b ≡ a = same_leaf (sym at_j ∙ ap (slice_get nodes) k ∙ at) in (
+            x,
+            last_of xs x (atoms_before nodes j) (ap (atoms_before nodes) k ∙ sym count),
+            subst (λ m. Tells shape (Gives s.atoms m b) s.from s.to x)
+                (sym k) (subst (λ c. Tells shape (Gives s.atoms i c) s.from s.to x) (sym same) tells),
+          )
 
-  pub told_other : (nodes : List Node) (s : Setting) (i : ℕ) (n : Node) (xs : List (List (Knot P))) → slice_get nodes i ≡ Some n → is_atom n ≡ false → TellAtomsBelow shape i nodes xs s → TellAtomsBelow shape (i + 1) nodes xs s
+  -- and after another node as much as before
+  pub told_other : (nodes : List Node) (s : Setting) (i : ℕ) (n : Node) (xs : List (List (Knot P))) → slice_get nodes i ≡ Some n → is_atom n ≡ false
+      → TellAtomsBelow shape i nodes xs s → TellAtomsBelow shape (i + 1) nodes xs s
   told_other nodes s i n xs at other told j b h at_j = by_place (before_or_here i j h)
     where
       by_place : (j < i) ⊎ (j ≡ i) → (y : List (Knot P)) × (slice_get xs (atoms_before nodes j) ≡ Some y) × Tells shape (Gives s.atoms j b) s.from s.to y

@@ -4,7 +4,7 @@ use Rattle.std.specs.Prelude.{IsTrue}
 use Rattle.std.proofs.lemmas.Int.{ints}
 use Rattle.rational.specs.Time.{Rational, whole, ◌≈◌}
 use Rattle.rational.specs.Rational.{IsWithin}
-use Rattle.rational.specs.Extended.{Extended, Affine}
+use Rattle.rational.specs.Extended.{Extended}
 use Rattle.rational.specs.Affine.{IsBounded}
 use Rattle.rational.specs.Windows.{Function}
 use Rattle.rational.proofs.Order.{le_trans, le_of_same, ge_of_same, same_trans, same_sym}
@@ -20,12 +20,15 @@ use Rattle.pl_signal.proofs.Limits.{limited, limited_last}
 abbrev pub IsReached : ℕ → ℤ → Type 0
 IsReached reach b = (neg_ℤ (pos reach) ≤ℤ b) × (b <ℤ pos (2 ^ 32 + reach))
 
+-- what lies within a reach lies within a longer one
 pub reached_more : (reach more : ℕ) (b : ℤ) → reach ≤ more → IsReached reach b → IsReached more b
 reached_more reach more b h (low, high) = (omega (arith, ints, h, low), omega (arith, ints, h, high))
 
+-- 0 lies within every reach
 pub reached_zero : (reach : ℕ) (b : ℤ) → b ≡ pos 0 → IsReached reach b
 reached_zero reach b e = (omega (arith, ints, e), omega (arith, ints, e))
 
+-- whether a time is within its limits does not depend on its pair
 pub same_within : {a b : Rational} → a ≈ b → IsWithin (2 ^ 34) a → IsWithin (2 ^ 34) b
 same_within e h = (le_trans h.0 (le_of_same e), le_trans (ge_of_same e) h.1)
 
@@ -39,19 +42,25 @@ module _ {P : Type 0} (shape : ShapeOf P) where
   ends_within (k ∷ ks) l = (l.0.when, limited_last shape k ks l)
 
   -- a signal over the same domain with bounded values is limited too
-  pub limited_along : (F : Function) (x r : List (Knot P)) → IsLimited shape x → Tells shape F (start x) (stop x) r → ((t : Rational) (v : Extended) → F t v → IsBounded (2 ^ 31) v) → IsLimited shape r
+  pub limited_along : (F : Function) (x r : List (Knot P)) → IsLimited shape x → Tells shape F (start x) (stop x) r
+      → ((t : Rational) (v : Extended) → F t v → IsBounded (2 ^ 31) v) → IsLimited shape r
   limited_along F x r l tells bounded =
       let within = ends_within x l in
-      limited shape r tells.signal (λ t v w. bounded t v ((tells.worth t v).0 w).1) (same_within (same_sym tells.begins) within.0) (same_within (same_sym tells.ends) within.1)
+      limited shape r tells.signal (λ t v w. bounded t v ((tells.worth t v).0 w).1) (same_within (same_sym tells.begins) within.0)
+      (same_within (same_sym tells.ends) within.1)
 
 -- the base is that of the old shape, but for a move by at most `own`
 pub record IsMovedBy (own : ℕ) (old new : ℤ) : Type 0 where
+  -- the base moved back by no more than that
   pub not_less : (old -ℤ pos own) ≤ℤ new
+  -- and on by no more
   pub not_more : new ≤ℤ (old +ℤ pos own)
 
+-- moved by so much, a base lies within that much more
 pub reached_moved : (reach own : ℕ) (old new : ℤ) → IsReached reach old → IsMovedBy own old new → IsReached (reach + own) new
 reached_moved reach own old new (low, high) m = let a = m.not_less in let b = m.not_more in (omega (arith, ints, low, a), omega (arith, ints, high, b))
 
+-- a base that stays is not moved
 pub not_moved : (old new : ℤ) → new ≡ old → IsMovedBy 0 old new
 not_moved old new e = record { not_less = omega (arith, ints, e); not_more = omega (arith, ints, e) }
 
@@ -68,6 +77,7 @@ module _ {P : Type 0} (shape : ShapeOf P) (laws : ShapeLaws shape) where
   abbrev pub MovedFrom : ℕ → List (Knot P) → List (Knot P) → Type 0
   MovedFrom own x r = (p : P) → HasShape r p → IsTrue (shape.moves p) → (q : P) × HasShape x q × IsMovedBy own (shape.base q) (shape.base p)
 
+  -- what a node makes of one signal stays sound
   pub stays_sound : (own : ℕ) (x r : List (Knot P)) → start r ≈ start x → stop r ≈ stop x → IsLimited shape r → MovedFrom own x r → StaysSound shape own x r
   stays_sound own x r begins ends limited moved from to reach s = record {
     begins = same_trans begins s.begins;
@@ -78,9 +88,12 @@ module _ {P : Type 0} (shape : ShapeOf P) (laws : ShapeLaws shape) where
 
   -- each moving shape has the base of a shape of one of the two old signals, moved by at most `own`
   abbrev pub MovedFromTwo : ℕ → List (Knot P) → List (Knot P) → List (Knot P) → Type 0
-  MovedFromTwo own x y r = (p : P) → HasShape r p → IsTrue (shape.moves p) → (q : P) × (HasShape x q ⊎ HasShape y q) × IsMovedBy own (shape.base q) (shape.base p)
+  MovedFromTwo own x y r = (p : P) → HasShape r p → IsTrue (shape.moves p) → (q : P) × (HasShape x q ⊎ HasShape y q)
+      × IsMovedBy own (shape.base q) (shape.base p)
 
-  pub stay_sound : (own : ℕ) (x y r : List (Knot P)) → start r ≈ start x → stop r ≈ stop x → IsLimited shape r → MovedFromTwo own x y r → StaySound shape own x y r
+  -- and of two
+  pub stay_sound : (own : ℕ) (x y r : List (Knot P)) → start r ≈ start x → stop r ≈ stop x → IsLimited shape r → MovedFromTwo own x y r
+      → StaySound shape own x y r
   stay_sound own x y r begins ends limited moved from to reach s u = record {
     begins = same_trans begins s.begins;
     ends = same_trans ends s.ends;
@@ -95,4 +108,5 @@ module _ {P : Type 0} (shape : ShapeOf P) (laws : ShapeLaws shape) where
 module _ {P : Type 0} (shape : ShapeOf P) where
   -- a sound signal is sound with a larger reach
   pub sound_more : (from to reach more : ℕ) (x : List (Knot P)) → reach ≤ more → IsSound shape from to reach x → IsSound shape from to more x
-  sound_more from to reach more x h s = record { begins = s.begins; ends = s.ends; limited = s.limited; bases = λ p i. reached_more reach more (shape.base p) h (s.bases p i) }
+  sound_more from to reach more x h s =
+      record { begins = s.begins; ends = s.ends; limited = s.limited; bases = λ p i. reached_more reach more (shape.base p) h (s.bases p i) }

@@ -1,5 +1,5 @@
 -- A signal that is one shape over the whole domain.
-use Rattle.std.proofs.Common.{◌≡◌, ◌⊎◌, inl, inr, ℕ, ℤ, pos, ◌<ℤ◌, Bool, true, false, ◌<◌, ◌≤◌, ◌^◌, List, [], ◌∷◌, sym, subst, arith}
+use Rattle.std.proofs.Common.{◌≡◌, ◌⊎◌, inl, inr, ℕ, pos, ◌<ℤ◌, Bool, true, false, ◌<◌, ◌≤◌, ◌^◌, List, [], ◌∷◌, sym, subst, arith}
 use Rattle.std.proofs.lemmas.Int.{ints}
 use Rattle.rational.specs.Time.{Rational, whole, ◌<ʳ◌, ◌≈◌}
 use Rattle.std.specs.Prelude.{MatchBool}
@@ -29,6 +29,7 @@ use Rattle.pl_signal.proofs.Telling.{IsFunction, told}
 abbrev pub instant : {P : Type 0} → Frac → P → List (Knot P)
 instant at p = record { time = at; point = p; after = p } ∷ []
 
+-- ticks are ordered as their numbers
 pub tick_order : {a b : Rational} (n m : ℕ) → n < m → a ≈ whole (pos n) → b ≈ whole (pos m) → a <ʳ b
 tick_order {a} {b} n m h e f = lt_of_le_of_lt (le_of_same e) (lt_of_lt_of_le (lt_whole (below n m h)) (ge_of_same f))
   where
@@ -38,7 +39,8 @@ tick_order {a} {b} n m h e f = lt_of_le_of_lt (le_of_same e) (lt_of_lt_of_le (lt
 module _ {P : Type 0} (shape : ShapeOf P) where
   line_is_function : (p : P) → IsFunction (Passes (shape.function p))
   line_is_function p = record {
-    alike = λ t u v w e f h. same_transᵉ w v (value_at (shape.function p) u) (same_symᵉ v w f) (same_transᵉ v (value_at (shape.function p) t) (value_at (shape.function p) u) h (value_same (shape.function p) e));
+    alike = λ t u v w e f h. same_transᵉ w v (value_at (shape.function p) u) (same_symᵉ v w f)
+        (same_transᵉ v (value_at (shape.function p) t) (value_at (shape.function p) u) h (value_same (shape.function p) e));
     one = λ t v w a b. same_transᵉ v (value_at (shape.function p) t) w a (same_symᵉ w (value_at (shape.function p) t) b);
   }
 
@@ -53,26 +55,33 @@ module _ {P : Type 0} (shape : ShapeOf P) where
   instant_shape at p q (inr (inr e)) = absurd e
 
   -- where the domain is one instant
-  pub steady_once : (r : List (Knot P)) (at : Frac) (p : P) (from to : Rational) → IsSignal shape r → r ≡ instant at p → value at ≈ from → from ≈ to → Tells shape (Passes (shape.function p)) from to r
+  pub steady_once : (r : List (Knot P)) (at : Frac) (p : P) (from to : Rational) → IsSignal shape r → r ≡ instant at p → value at ≈ from → from ≈ to
+      → Tells shape (Passes (shape.function p)) from to r
   steady_once r at p from to signal e begins ends =
-      told shape (Passes (shape.function p)) from to r (line_is_function p) (record { signal = signal; worth = λ t v w. instant_worth at p t v (subst (λ r. IsWorth shape r t v) e w) })
+      told shape (Passes (shape.function p)) from to r (line_is_function p)
+      (record { signal = signal; worth = λ t v w. instant_worth at p t v (subst (λ r. IsWorth shape r t v) e w) })
       (subst (λ r. start r ≈ from) (sym e) begins) (subst (λ r. stop r ≈ to) (sym e) (same_trans begins ends))
 
+  -- its one shape
   pub steady_once_shapes : (r : List (Knot P)) (at : Frac) (p : P) → r ≡ instant at p → (q : P) → HasShape r q → q ≡ p
   steady_once_shapes r at p e q h = instant_shape at p q (subst (λ r. HasShape r q) e h)
 
   -- where it is longer
-  pub steady_twice : (old new : List (Knot P)) (at till : Frac) (p : P) (from to : Rational) → old ≡ instant at p → GoesOn shape old p till p new → value at ≈ from → value till ≈ to → Tells shape (Passes (shape.function p)) from to new
+  pub steady_twice : (old new : List (Knot P)) (at till : Frac) (p : P) (from to : Rational) → old ≡ instant at p → GoesOn shape old p till p new
+      → value at ≈ from → value till ≈ to → Tells shape (Passes (shape.function p)) from to new
   steady_twice old new at till p from to e on begins ends =
       told shape (Passes (shape.function p)) from to new (line_is_function p) (record { signal = on.signal; worth = λ t v w. by_part t v ((on.worth t v).0 w) })
       (subst (λ s. s ≈ from) (sym on.begins) (subst (λ r. start r ≈ from) (sym e) begins)) (subst (λ s. s ≈ to) (sym on.ends) ends)
     where
-      by_part : (t : Rational) (v : Extended) → IsWorth shape old t v ⊎ ((stop old <ʳ t) × (t <ʳ value till) × Passes (shape.function p) t v) ⊎ ((t ≈ value till) × Passes (shape.function p) t v) → Passes (shape.function p) t v
+      by_part : (t : Rational) (v : Extended) → IsWorth shape old t v ⊎ ((stop old <ʳ t) × (t <ʳ value till) × Passes (shape.function p) t v)
+          ⊎ ((t ≈ value till) × Passes (shape.function p) t v) → Passes (shape.function p) t v
       by_part t v (inl w) = instant_worth at p t v (subst (λ r. IsWorth shape r t v) e w)
       by_part t v (inr (inl w)) = w.2
       by_part t v (inr (inr w)) = w.1
 
-  pub steady_twice_shapes : (old new : List (Knot P)) (at till : Frac) (p : P) → old ≡ instant at p → GoesOn shape old p till p new → (q : P) → HasShape new q → q ≡ p
+  -- its one shape
+  pub steady_twice_shapes : (old new : List (Knot P)) (at till : Frac) (p : P) → old ≡ instant at p → GoesOn shape old p till p new → (q : P)
+      → HasShape new q → q ≡ p
   steady_twice_shapes old new at till p e on q h = by_part (on.shapes q h)
     where
       by_part : HasShape old q ⊎ (q ≡ p) ⊎ (q ≡ p) → q ≡ p
@@ -81,8 +90,10 @@ module _ {P : Type 0} (shape : ShapeOf P) where
       by_part (inr (inr w)) = w
 
   -- it is sound, since its one shape is bounded and does not move
-  pub steady_sound : (from to : ℕ) (r : List (Knot P)) (p : P) → from ≤ to → to < 2 ^ 32 → Tells shape (Passes (shape.function p)) (whole (pos from)) (whole (pos to)) r
-      → ((q : P) → HasShape r q → q ≡ p) → shape.base p ≡ pos 0 → ((t : Rational) → IsBounded (2 ^ 31) (value_at (shape.function p) t)) → IsSound shape from to 0 r
+  pub steady_sound : (from to : ℕ) (r : List (Knot P)) (p : P) → from ≤ to → to < 2 ^ 32
+      → Tells shape (Passes (shape.function p)) (whole (pos from)) (whole (pos to)) r
+      → ((q : P) → HasShape r q → q ≡ p) → shape.base p ≡ pos 0 → ((t : Rational) → IsBounded (2 ^ 31) (value_at (shape.function p) t))
+      → IsSound shape from to 0 r
   steady_sound from to r p order small tells shapes still bounded = record {
     begins = tells.begins;
     ends = tells.ends;
@@ -92,23 +103,30 @@ module _ {P : Type 0} (shape : ShapeOf P) where
   }
 
 -- true has the greatest value, and false the least
-pub told_constant : {P : Type 0} (shape : ShapeOf P) (from to : ℕ) (holds : Bool) (p : P) (r : List (Knot P)) → Tells shape (Passes (shape.function p)) (whole (pos from)) (whole (pos to)) r
-    → MatchBool holds ((t : Rational) → value_at (shape.function p) t ≈ᵉ shape.highest) ((t : Rational) → value_at (shape.function p) t ≈ᵉ shape.lowest) → (s : Setting) → IsOver shape.lowest shape.highest from to s → TellsValue shape s (constant holds) r
+pub told_constant : {P : Type 0} (shape : ShapeOf P) (from to : ℕ) (holds : Bool) (p : P) (r : List (Knot P))
+    → Tells shape (Passes (shape.function p)) (whole (pos from)) (whole (pos to)) r
+    → MatchBool holds ((t : Rational) → value_at (shape.function p) t ≈ᵉ shape.highest)
+    ((t : Rational) → value_at (shape.function p) t ≈ᵉ shape.lowest) → (s : Setting) → IsOver shape.lowest shape.highest from to s
+    → TellsValue shape s (constant holds) r
 told_constant shape from to holds p r tells value s over =
-    tells_along shape (Passes (shape.function p)) (SupInf (constant holds) s) (whole (pos from)) (whole (pos to)) s.from s.to r tells (same_of (sym over.from)) (same_of (sym over.to)) (λ t v i. by_value holds value t v)
+    tells_along shape (Passes (shape.function p)) (SupInf (constant holds) s) (whole (pos from)) (whole (pos to)) s.from s.to r tells
+    (same_of (sym over.from)) (same_of (sym over.to)) (λ t v i. by_value holds value t v)
   where
     same_of : {a b : Rational} → a ≡ b → a ≈ b
     same_of {a} e = subst (λ b. a ≈ b) e (same_refl a)
 
-    by_value : (holds : Bool) → MatchBool holds ((t : Rational) → value_at (shape.function p) t ≈ᵉ shape.highest) ((t : Rational) → value_at (shape.function p) t ≈ᵉ shape.lowest) → (t : Rational) (v : Extended)
+    by_value : (holds : Bool) → MatchBool holds ((t : Rational) → value_at (shape.function p) t ≈ᵉ shape.highest)
+        ((t : Rational) → value_at (shape.function p) t ≈ᵉ shape.lowest) → (t : Rational) (v : Extended)
         → (Passes (shape.function p) t v → SupInf (constant holds) s t v) × (SupInf (constant holds) s t v → Passes (shape.function p) t v)
     by_value true h t v = (
       λ w. same_transᵉ v (value_at (shape.function p) t) s.highest w (subst (λ x. value_at (shape.function p) t ≈ᵉ x) (sym over.highest) (h t)),
-      λ w. same_transᵉ v s.highest (value_at (shape.function p) t) w (same_symᵉ (value_at (shape.function p) t) s.highest (subst (λ x. value_at (shape.function p) t ≈ᵉ x) (sym over.highest) (h t))),
+      λ w. same_transᵉ v s.highest (value_at (shape.function p) t) w
+          (same_symᵉ (value_at (shape.function p) t) s.highest (subst (λ x. value_at (shape.function p) t ≈ᵉ x) (sym over.highest) (h t))),
     )
     by_value false h t v = (
       λ w. same_transᵉ v (value_at (shape.function p) t) s.lowest w (subst (λ x. value_at (shape.function p) t ≈ᵉ x) (sym over.lowest) (h t)),
-      λ w. same_transᵉ v s.lowest (value_at (shape.function p) t) w (same_symᵉ (value_at (shape.function p) t) s.lowest (subst (λ x. value_at (shape.function p) t ≈ᵉ x) (sym over.lowest) (h t))),
+      λ w. same_transᵉ v s.lowest (value_at (shape.function p) t) w
+          (same_symᵉ (value_at (shape.function p) t) s.lowest (subst (λ x. value_at (shape.function p) t ≈ᵉ x) (sym over.lowest) (h t))),
     )
 
 -- the extreme values are bounded

@@ -34,14 +34,19 @@ earlier_of_two a b = by_order (le_or_lt a b)
 
 -- F is G between the two times, and has no value elsewhere
 pub record IsOn (from to : Rational) (F G : Function) : Type 0 where
+  -- the function has values on the domain alone
   pub inside : (t : Rational) (v : Extended) → F t v → Within from to t
+  -- what the one says the other says
   pub forth : (t : Rational) (v : Extended) → F t v → G t v
+  -- and the other way round
   pub back : (t : Rational) (v : Extended) → Within from to t → G t v → F t v
 
 module _ (from to : Rational) (F G : Function) (on : IsOn from to F G) where
+  -- lines
   pub line_along : {a b : Rational} (line : Affine) → IsLineOn F a b line → IsLineOn G a b line
   line_along line h t k l = let f = h t k l in (f.0, on.forth t f.0 f.1, f.2)
 
+  -- parts
   pub part_along : {u : Rational} {line : Affine} → IsPart F u line → IsPart G u line
   part_along {u} {line} h = record { a = h.a; b = h.b; above = h.above; below = h.below; on = line_along line h.on }
 
@@ -59,6 +64,7 @@ module _ (from to : Rational) (F G : Function) (on : IsOn from to F G) where
             (f.0, on.back t f.0 (record { above = le_trans a.1.left (le_of_lt m); below = le_trans (le_of_lt n) b.1.left }) f.1, f.2);
       }
 
+  -- breakpoints
   pub breakpoint_along : {u : Rational} → IsBreakpoint F from to u → IsBreakpoint G from to u
   breakpoint_along (start e) = start e
   breakpoint_along (stop e) = stop e
@@ -71,17 +77,21 @@ module _ (from to : Rational) (F G : Function) (on : IsOn from to F G) where
       by_ends (inl h) (inr (inr k)) = absurd (not_lt_of_le i.below k)
       by_ends (inl h) (inl k) = inner i (λ line p. no_line line (part_back h k p))
 
+  -- limits from the left
   pub left_along : {u : Rational} {v : Extended} → IsLeftLimit F u v → IsLeftLimit G u v
   left_along h = record { a = h.a; above = h.above; line = h.line; on = line_along h.line h.on; value = h.value }
 
+  -- and from the right
   pub right_along : {u : Rational} {v : Extended} → IsRightLimit F u v → IsRightLimit G u v
   right_along h = record { b = h.b; below = h.below; line = h.line; on = line_along h.line h.on; value = h.value }
 
 -- the functions agree between the two times
 pub record AreAlike (from to : Rational) (F G : Function) : Type 0 where
+  -- what the one says the other says
   pub forth : (t : Rational) (v : Extended) → Within from to t → F t v → G t v
 
 module _ (from to : Rational) (F G : Function) (on : AreAlike from to F G) where
+  -- limits from the left inside the domain
   pub left_within : {u : Rational} {v : Extended} → from <ʳ u → u ≤ʳ to → IsLeftLimit F u v → IsLeftLimit G u v
   left_within {u} k l h =
       let a = later_of_two from h.a in
@@ -89,10 +99,12 @@ module _ (from to : Rational) (F G : Function) (on : AreAlike from to F G) where
         a = a.0;
         above = a.1.below u k h.above;
         line = h.line;
-        on = λ t m n. let f = h.on t (lt_of_le_of_lt a.1.right m) n in (f.0, on.forth t f.0 (record { above = le_trans a.1.left (le_of_lt m); below = le_trans (le_of_lt n) l }) f.1, f.2);
+        on = λ t m n. let f = h.on t (lt_of_le_of_lt a.1.right m) n in
+            (f.0, on.forth t f.0 (record { above = le_trans a.1.left (le_of_lt m); below = le_trans (le_of_lt n) l }) f.1, f.2);
         value = h.value;
       }
 
+  -- and from the right
   pub right_within : {u : Rational} {v : Extended} → from ≤ʳ u → u <ʳ to → IsRightLimit F u v → IsRightLimit G u v
   right_within {u} k l h =
       let b = earlier_of_two to h.b in
@@ -100,6 +112,7 @@ module _ (from to : Rational) (F G : Function) (on : AreAlike from to F G) where
         b = b.0;
         below = b.1.above u l h.below;
         line = h.line;
-        on = λ t m n. let f = h.on t m (lt_of_lt_of_le n b.1.right) in (f.0, on.forth t f.0 (record { above = le_trans k (le_of_lt m); below = le_trans (le_of_lt n) b.1.left }) f.1, f.2);
+        on = λ t m n. let f = h.on t m (lt_of_lt_of_le n b.1.right) in
+            (f.0, on.forth t f.0 (record { above = le_trans k (le_of_lt m); below = le_trans (le_of_lt n) b.1.left }) f.1, f.2);
         value = h.value;
       }

@@ -3,7 +3,7 @@ use Rattle.std.proofs.Common.{◌≡◌, ◌⊎◌, inl, inr, ℕ, ℤ, pos, neg
 use Rattle.std.specs.Prelude.{Option, Some, IfSome, IsTrue}
 use Rattle.std.proofs.lemmas.Int.{ints}
 use Rattle.rational.specs.Time.{Rational, Within, ◌≈◌}
-use Rattle.rational.specs.Extended.{Extended, ◌≈ᵉ◌, Affine, IsSup}
+use Rattle.rational.specs.Extended.{Extended, ◌≈ᵉ◌, IsSup}
 use Rattle.rational.specs.Affine.{IsBounded}
 use Rattle.rational.specs.Windows.{Function, Window, Ahead, Behind, IsSupOver, IsInfOver, IsUntil, IsSince, UntilToEnd, SinceFromStart, IsUpTo, IsDownTo}
 use Rattle.rational.specs.InPlay.{until_end, since_start, window_ahead, window_behind}
@@ -21,7 +21,7 @@ use Rattle.pl_signal.specs.Wide.{HasCause}
 use Rattle.pl_signal.proofs.Values.{every_time, worth_same, worth_within}
 use Rattle.signal_ops.specs.Pointwise.{LeastOf, IsFault}
 use Rattle.window_ops.specs.Windows.{SupAhead, InfAhead, SupBehind, InfBehind}
-use Rattle.until_ops.specs.Composition.{HasUntilToEnd, HasSinceFromStart, UntilIsComposed, SinceIsComposed}
+use Rattle.rational.specs.UntilParts.{HasUntilToEnd, HasSinceFromStart, UntilIsComposed, SinceIsComposed}
 use Rattle.until_ops.specs.Untils.{BasesOfTwo, UntilOf, SinceOf, UntilStep, SinceStep}
 use Rattle.stl_syntax.specs.Formula.{Subformula, until, since}
 use Rattle.stl_syntax.specs.SupInf.{Setting, SupInf}
@@ -57,62 +57,119 @@ module _ {P : Type 0} (shape : ShapeOf P) where
           worth_same shape x o.0 v (same_refl t) (one t o.0 v (forth t o.0 o.1) f) o.1
 
   module _ (F G : Function) (from to : Rational) (x y : List (Knot P)) (left : Tells shape F from to x) (right : Tells shape G from to y) where
-    up_to_of : (t u : Rational) (v : Extended) → Within from to t → Within from to u → (IsUpTo shape.highest (IsWorth shape x) (IsWorth shape y) t u v → IsUpTo shape.highest F G t u v) × (IsUpTo shape.highest F G t u v → IsUpTo shape.highest (IsWorth shape x) (IsWorth shape y) t u v)
+    up_to_of : (t u : Rational) (v : Extended) → Within from to t → Within from to u
+        → (IsUpTo shape.highest (IsWorth shape x) (IsWorth shape y) t u v → IsUpTo shape.highest F G t u v)
+        × (IsUpTo shape.highest F G t u v → IsUpTo shape.highest (IsWorth shape x) (IsWorth shape y) t u v)
     up_to_of t u v i j = (
-      λ (a, b, q, p, l). (a, b, ((right.worth u a).0 q).1, (inf_of shape F from to x (Within t u) (Within t u) b left (λ w k. k) (λ w k. k) (λ w k. within_stretch i j k)).0 p, l),
-      λ (a, b, q, p, l). (a, b, (right.worth u a).1 (j, q), (inf_of shape F from to x (Within t u) (Within t u) b left (λ w k. k) (λ w k. k) (λ w k. within_stretch i j k)).1 p, l),
+      λ (a, b, q, p, l). (
+        a,
+        b,
+        ((right.worth u a).0 q).1,
+        (inf_of shape F from to x (Within t u) (Within t u) b left (λ w k. k) (λ w k. k) (λ w k. within_stretch i j k)).0 p,
+        l,
+      ),
+      λ (a, b, q, p, l). (
+        a,
+        b,
+        (right.worth u a).1 (j, q),
+        (inf_of shape F from to x (Within t u) (Within t u) b left (λ w k. k) (λ w k. k) (λ w k. within_stretch i j k)).1 p,
+        l,
+      ),
     )
 
-    down_to_of : (t u : Rational) (v : Extended) → Within from to t → Within from to u → (IsDownTo shape.highest (IsWorth shape x) (IsWorth shape y) t u v → IsDownTo shape.highest F G t u v) × (IsDownTo shape.highest F G t u v → IsDownTo shape.highest (IsWorth shape x) (IsWorth shape y) t u v)
+    down_to_of : (t u : Rational) (v : Extended) → Within from to t → Within from to u
+        → (IsDownTo shape.highest (IsWorth shape x) (IsWorth shape y) t u v → IsDownTo shape.highest F G t u v)
+        × (IsDownTo shape.highest F G t u v → IsDownTo shape.highest (IsWorth shape x) (IsWorth shape y) t u v)
     down_to_of t u v i j = (
-      λ (a, b, q, p, l). (a, b, ((right.worth u a).0 q).1, (inf_of shape F from to x (Within u t) (Within u t) b left (λ w k. k) (λ w k. k) (λ w k. within_stretch j i k)).0 p, l),
-      λ (a, b, q, p, l). (a, b, (right.worth u a).1 (j, q), (inf_of shape F from to x (Within u t) (Within u t) b left (λ w k. k) (λ w k. k) (λ w k. within_stretch j i k)).1 p, l),
+      λ (a, b, q, p, l). (
+        a,
+        b,
+        ((right.worth u a).0 q).1,
+        (inf_of shape F from to x (Within u t) (Within u t) b left (λ w k. k) (λ w k. k) (λ w k. within_stretch j i k)).0 p,
+        l,
+      ),
+      λ (a, b, q, p, l). (
+        a,
+        b,
+        (right.worth u a).1 (j, q),
+        (inf_of shape F from to x (Within u t) (Within u t) b left (λ w k. k) (λ w k. k) (λ w k. within_stretch j i k)).1 p,
+        l,
+      ),
     )
 
-    until_of : (W W' : Window) (t : Rational) (v : Extended) → Within from to t → ((u : Rational) → W u → W' u) → ((u : Rational) → W' u → W u) → ((u : Rational) → W' u → Within from to u)
-        → (IsUntil shape.lowest shape.highest W (IsWorth shape x) (IsWorth shape y) t v → IsUntil shape.lowest shape.highest W' F G t v) × (IsUntil shape.lowest shape.highest W' F G t v → IsUntil shape.lowest shape.highest W (IsWorth shape x) (IsWorth shape y) t v)
+    until_of : (W W' : Window) (t : Rational) (v : Extended) → Within from to t → ((u : Rational) → W u → W' u) → ((u : Rational) → W' u → W u)
+        → ((u : Rational) → W' u → Within from to u)
+        → (IsUntil shape.lowest shape.highest W (IsWorth shape x) (IsWorth shape y) t v → IsUntil shape.lowest shape.highest W' F G t v)
+        × (IsUntil shape.lowest shape.highest W' F G t v → IsUntil shape.lowest shape.highest W (IsWorth shape x) (IsWorth shape y) t v)
     until_of W W' t v i forth back inside = (
-      sup_alike shape.lowest v (λ z (u, w, f). (u, forth u w, (up_to_of t u z i (inside u (forth u w))).0 f)) (λ z (u, w, f). (u, back u w, (up_to_of t u z i (inside u w)).1 f)),
-      sup_alike shape.lowest v (λ z (u, w, f). (u, back u w, (up_to_of t u z i (inside u w)).1 f)) (λ z (u, w, f). (u, forth u w, (up_to_of t u z i (inside u (forth u w))).0 f)),
+      sup_alike shape.lowest v (λ z (u, w, f). (u, forth u w, (up_to_of t u z i (inside u (forth u w))).0 f))
+          (λ z (u, w, f). (u, back u w, (up_to_of t u z i (inside u w)).1 f)),
+      sup_alike shape.lowest v (λ z (u, w, f). (u, back u w, (up_to_of t u z i (inside u w)).1 f))
+          (λ z (u, w, f). (u, forth u w, (up_to_of t u z i (inside u (forth u w))).0 f)),
     )
 
-    since_of : (W W' : Window) (t : Rational) (v : Extended) → Within from to t → ((u : Rational) → W u → W' u) → ((u : Rational) → W' u → W u) → ((u : Rational) → W' u → Within from to u)
-        → (IsSince shape.lowest shape.highest W (IsWorth shape x) (IsWorth shape y) t v → IsSince shape.lowest shape.highest W' F G t v) × (IsSince shape.lowest shape.highest W' F G t v → IsSince shape.lowest shape.highest W (IsWorth shape x) (IsWorth shape y) t v)
+    since_of : (W W' : Window) (t : Rational) (v : Extended) → Within from to t → ((u : Rational) → W u → W' u) → ((u : Rational) → W' u → W u)
+        → ((u : Rational) → W' u → Within from to u)
+        → (IsSince shape.lowest shape.highest W (IsWorth shape x) (IsWorth shape y) t v → IsSince shape.lowest shape.highest W' F G t v)
+        × (IsSince shape.lowest shape.highest W' F G t v → IsSince shape.lowest shape.highest W (IsWorth shape x) (IsWorth shape y) t v)
     since_of W W' t v i forth back inside = (
-      sup_alike shape.lowest v (λ z (u, w, f). (u, forth u w, (down_to_of t u z i (inside u (forth u w))).0 f)) (λ z (u, w, f). (u, back u w, (down_to_of t u z i (inside u w)).1 f)),
-      sup_alike shape.lowest v (λ z (u, w, f). (u, back u w, (down_to_of t u z i (inside u w)).1 f)) (λ z (u, w, f). (u, forth u w, (down_to_of t u z i (inside u (forth u w))).0 f)),
+      sup_alike shape.lowest v (λ z (u, w, f). (u, forth u w, (down_to_of t u z i (inside u (forth u w))).0 f))
+          (λ z (u, w, f). (u, back u w, (down_to_of t u z i (inside u w)).1 f)),
+      sup_alike shape.lowest v (λ z (u, w, f). (u, back u w, (down_to_of t u z i (inside u w)).1 f))
+          (λ z (u, w, f). (u, forth u w, (down_to_of t u z i (inside u (forth u w))).0 f)),
     )
 
     -- until to the end of the signals is that of the functions
-    to_end_of : (t : Rational) (v : Extended) → Within from to t → (UntilOf shape x y t v → UntilToEnd shape.lowest shape.highest to F G t v) × (UntilToEnd shape.lowest shape.highest to F G t v → UntilOf shape x y t v)
+    to_end_of : (t : Rational) (v : Extended) → Within from to t → (UntilOf shape x y t v → UntilToEnd shape.lowest shape.highest to F G t v)
+        × (UntilToEnd shape.lowest shape.highest to F G t v → UntilOf shape x y t v)
     to_end_of t v i = until_of (Within t (stop x)) (Within t to) t v i
-        (λ u w. record { above = w.above; below = le_trans w.below (le_of_same left.ends) }) (λ u w. record { above = w.above; below = le_trans w.below (ge_of_same left.ends) })
+        (λ u w. record { above = w.above; below = le_trans w.below (le_of_same left.ends) })
+        (λ u w. record { above = w.above; below = le_trans w.below (ge_of_same left.ends) })
         (λ u w. record { above = le_trans i.above w.above; below = w.below })
 
-    from_start_of : (t : Rational) (v : Extended) → Within from to t → (SinceOf shape x y t v → SinceFromStart shape.lowest shape.highest from F G t v) × (SinceFromStart shape.lowest shape.highest from F G t v → SinceOf shape x y t v)
+    from_start_of : (t : Rational) (v : Extended) → Within from to t
+        → (SinceOf shape x y t v → SinceFromStart shape.lowest shape.highest from F G t v)
+        × (SinceFromStart shape.lowest shape.highest from F G t v → SinceOf shape x y t v)
     from_start_of t v i = since_of (Within (start x) t) (Within from t) t v i
-        (λ u w. record { above = le_trans (ge_of_same left.begins) w.above; below = w.below }) (λ u w. record { above = le_trans (le_of_same left.begins) w.above; below = w.below })
+        (λ u w. record { above = le_trans (ge_of_same left.begins) w.above; below = w.below })
+        (λ u w. record { above = le_trans (le_of_same left.begins) w.above; below = w.below })
         (λ u w. record { above = w.above; below = le_trans w.below i.below })
 
-    pub to_end_told : (r : List (Knot P)) → Tells shape (UntilOf shape x y) (start x) (stop x) r → Tells shape (UntilToEnd shape.lowest shape.highest to F G) from to r
-    to_end_told r made = tells_along shape (UntilOf shape x y) (UntilToEnd shape.lowest shape.highest to F G) (start x) (stop x) from to r made left.begins left.ends to_end_of
+    -- the until to the end is that of what the children tell
+    pub to_end_told : (r : List (Knot P)) → Tells shape (UntilOf shape x y) (start x) (stop x) r
+        → Tells shape (UntilToEnd shape.lowest shape.highest to F G) from to r
+    to_end_told r made = tells_along shape (UntilOf shape x y) (UntilToEnd shape.lowest shape.highest to F G) (start x)
+        (stop x) from to r made left.begins left.ends to_end_of
 
-    pub from_start_told : (r : List (Knot P)) → Tells shape (SinceOf shape x y) (start x) (stop x) r → Tells shape (SinceFromStart shape.lowest shape.highest from F G) from to r
-    from_start_told r made = tells_along shape (SinceOf shape x y) (SinceFromStart shape.lowest shape.highest from F G) (start x) (stop x) from to r made left.begins left.ends from_start_of
+    -- so for since from the start
+    pub from_start_told : (r : List (Knot P)) → Tells shape (SinceOf shape x y) (start x) (stop x) r
+        → Tells shape (SinceFromStart shape.lowest shape.highest from F G) from to r
+    from_start_told r made = tells_along shape (SinceOf shape x y) (SinceFromStart shape.lowest shape.highest from F G) (start x)
+        (stop x) from to r made left.begins left.ends from_start_of
 
     -- the until to the end has a value, as its signal shows
-    pub has_to_end : (r : List (Knot P)) → Tells shape (UntilOf shape x y) (start x) (stop x) r → HasUntilToEnd shape.lowest shape.highest (start x) (stop x) (IsWorth shape x) (IsWorth shape y)
-    has_to_end r made t i = let o = every_time shape r t made.signal (within_same_ends (same_sym made.begins) (same_sym made.ends) i) in (o.0, ((made.worth t o.0).0 o.1).1)
+    pub has_to_end : (r : List (Knot P)) → Tells shape (UntilOf shape x y) (start x) (stop x) r
+        → HasUntilToEnd shape.lowest shape.highest (start x) (stop x) (IsWorth shape x) (IsWorth shape y)
+    has_to_end r made t i = let o = every_time shape r t made.signal (within_same_ends (same_sym made.begins) (same_sym made.ends) i) in
+        (o.0, ((made.worth t o.0).0 o.1).1)
 
-    pub has_from_start : (r : List (Knot P)) → Tells shape (SinceOf shape x y) (start x) (stop x) r → HasSinceFromStart shape.lowest shape.highest (start x) (stop x) (IsWorth shape x) (IsWorth shape y)
-    has_from_start r made t i = let o = every_time shape r t made.signal (within_same_ends (same_sym made.begins) (same_sym made.ends) i) in (o.0, ((made.worth t o.0).0 o.1).1)
+    -- so for since from the start
+    pub has_from_start : (r : List (Knot P)) → Tells shape (SinceOf shape x y) (start x) (stop x) r
+        → HasSinceFromStart shape.lowest shape.highest (start x) (stop x) (IsWorth shape x) (IsWorth shape y)
+    has_from_start r made t i = let o = every_time shape r t made.signal (within_same_ends (same_sym made.begins) (same_sym made.ends) i) in
+        (o.0, ((made.worth t o.0).0 o.1).1)
 
     module _ (c u d r : List (Knot P)) where
-      pub until_told : (a b : ℕ) → a ≤ b → Tells shape (SupAhead (start y) (stop y) (IsWorth shape y) shape.lowest a b true true) (start y) (stop y) c → Tells shape (UntilOf shape x y) (start x) (stop x) u
-          → Tells shape (InfAhead (start u) (stop u) (IsWorth shape u) shape.highest 0 a true true) (start u) (stop u) d → Tells shape (LeastOf (IsWorth shape c) (IsWorth shape d)) (start c) (stop c) r
-          → UntilIsComposed shape.lowest shape.highest (start x) (stop x) (IsWorth shape x) (IsWorth shape y) → Tells shape (λ t v. IsUntil shape.lowest shape.highest (Ahead from to a b true true t) F G t v) from to r
+      -- the least of both windows tells the bounded until
+      pub until_told : (a b : ℕ) → a ≤ b → Tells shape (SupAhead (start y) (stop y) (IsWorth shape y) shape.lowest a b true true) (start y) (stop y) c
+          → Tells shape (UntilOf shape x y) (start x) (stop x) u
+          → Tells shape (InfAhead (start u) (stop u) (IsWorth shape u) shape.highest 0 a true true) (start u) (stop u) d
+          → Tells shape (LeastOf (IsWorth shape c) (IsWorth shape d)) (start c) (stop c) r
+          → UntilIsComposed shape.lowest shape.highest (start x) (stop x) (IsWorth shape x) (IsWorth shape y)
+          → Tells shape (λ t v. IsUntil shape.lowest shape.highest (Ahead from to a b true true t) F G t v) from to r
       until_told a b order within to_end kept made law =
-          tells_by_value (λ t v. IsUntil shape.lowest shape.highest (Ahead from to a b true true t) F G t v) from to r made.signal (same_trans made.begins (same_trans within.begins right.begins)) (same_trans made.ends (same_trans within.ends right.ends))
+          tells_by_value (λ t v. IsUntil shape.lowest shape.highest (Ahead from to a b true true t) F G t v) from to r made.signal
+          (same_trans made.begins (same_trans within.begins right.begins)) (same_trans made.ends (same_trans within.ends right.ends))
           (λ t v w. of_parts t v ((made.worth t v).0 w)) (λ t v w h k. one_sup shape.lowest v w h k)
         where
           begins : start y ≈ start x
@@ -121,20 +178,33 @@ module _ {P : Type 0} (shape : ShapeOf P) where
           ends : stop y ≈ stop x
           ends = same_trans right.ends (same_sym left.ends)
 
-          of_parts : (t : Rational) (v : Extended) → Within (start c) (stop c) t × LeastOf (IsWorth shape c) (IsWorth shape d) t v → IsUntil shape.lowest shape.highest (Ahead from to a b true true t) F G t v
+          of_parts : (t : Rational) (v : Extended) → Within (start c) (stop c) t × LeastOf (IsWorth shape c) (IsWorth shape d) t v
+              → IsUntil shape.lowest shape.highest (Ahead from to a b true true t) F G t v
           of_parts t v (i, (p, q, f, g, least)) =
               let j : Within (start x) (stop x) t = within_same_ends (same_trans within.begins begins) (same_trans within.ends ends) i in
-              let sup = sup_alike shape.lowest p (λ z (w, k, h). (w, ahead_ends (start y) (stop y) (start x) (stop x) begins ends k, h)) (λ z (w, k, h). (w, ahead_ends (start x) (stop x) (start y) (stop y) (same_sym begins) (same_sym ends) k, h)) ((within.worth t p).0 f).1 in
-              let inf = (inf_of shape (UntilOf shape x y) (start x) (stop x) u (Ahead (start u) (stop u) 0 a true true t) (Ahead (start x) (stop x) 0 a true true t) q to_end
-              (λ w k. ahead_ends (start u) (stop u) (start x) (stop x) to_end.begins to_end.ends k) (λ w k. ahead_ends (start x) (stop x) (start u) (stop u) (same_sym to_end.begins) (same_sym to_end.ends) k) (λ w k. k.inside)).0 ((kept.worth t q).0 g).1 in
+              let sup = sup_alike shape.lowest p (λ z (w, k, h). (w, ahead_ends (start y) (stop y) (start x) (stop x) begins ends k, h))
+              (λ z (w, k, h). (w, ahead_ends (start x) (stop x) (start y) (stop y) (same_sym begins) (same_sym ends) k, h)) ((within.worth t p).0 f).1 in
+              let inf = (inf_of shape (UntilOf shape x y) (start x) (stop x) u (Ahead (start u) (stop u) 0 a true true t)
+              (Ahead (start x) (stop x) 0 a true true t) q to_end
+              (λ w k. ahead_ends (start u) (stop u) (start x) (stop x) to_end.begins to_end.ends k)
+              (λ w k. ahead_ends (start x) (stop x) (start u) (stop u) (same_sym to_end.begins) (same_sym to_end.ends) k) (λ w k. k.inside)).0
+              ((kept.worth t q).0 g).1 in
               (until_of (Ahead (start x) (stop x) a b true true t) (Ahead from to a b true true t) t v (within_same_ends left.begins left.ends j)
-              (λ w k. ahead_ends (start x) (stop x) from to left.begins left.ends k) (λ w k. ahead_ends from to (start x) (stop x) (same_sym left.begins) (same_sym left.ends) k) (λ w k. k.inside)).0 (law t a b p q v j order sup inf least)
+              (λ w k. ahead_ends (start x) (stop x) from to left.begins left.ends k)
+              (λ w k. ahead_ends from to (start x) (stop x) (same_sym left.begins) (same_sym left.ends) k) (λ w k. k.inside)).0
+              (law t a b p q v j order sup inf least)
 
-      pub since_told : (a : ℕ) (b : Option ℕ) → IfSome b (λ b. a ≤ b) → Tells shape (SupBehind (start y) (stop y) (IsWorth shape y) shape.lowest a b true true) (start y) (stop y) c → Tells shape (SinceOf shape x y) (start x) (stop x) u
-          → Tells shape (InfBehind (start u) (stop u) (IsWorth shape u) shape.highest 0 (Some a) true true) (start u) (stop u) d → Tells shape (LeastOf (IsWorth shape c) (IsWorth shape d)) (start c) (stop c) r
-          → SinceIsComposed shape.lowest shape.highest (start x) (stop x) (IsWorth shape x) (IsWorth shape y) → Tells shape (λ t v. IsSince shape.lowest shape.highest (Behind from to a b true true t) F G t v) from to r
+      -- so for since
+      pub since_told : (a : ℕ) (b : Option ℕ) → IfSome b (λ b. a ≤ b)
+          → Tells shape (SupBehind (start y) (stop y) (IsWorth shape y) shape.lowest a b true true) (start y) (stop y) c
+          → Tells shape (SinceOf shape x y) (start x) (stop x) u
+          → Tells shape (InfBehind (start u) (stop u) (IsWorth shape u) shape.highest 0 (Some a) true true) (start u) (stop u) d
+          → Tells shape (LeastOf (IsWorth shape c) (IsWorth shape d)) (start c) (stop c) r
+          → SinceIsComposed shape.lowest shape.highest (start x) (stop x) (IsWorth shape x) (IsWorth shape y)
+          → Tells shape (λ t v. IsSince shape.lowest shape.highest (Behind from to a b true true t) F G t v) from to r
       since_told a b order within from_start kept made law =
-          tells_by_value (λ t v. IsSince shape.lowest shape.highest (Behind from to a b true true t) F G t v) from to r made.signal (same_trans made.begins (same_trans within.begins right.begins)) (same_trans made.ends (same_trans within.ends right.ends))
+          tells_by_value (λ t v. IsSince shape.lowest shape.highest (Behind from to a b true true t) F G t v) from to r made.signal
+          (same_trans made.begins (same_trans within.begins right.begins)) (same_trans made.ends (same_trans within.ends right.ends))
           (λ t v w. of_parts t v ((made.worth t v).0 w)) (λ t v w h k. one_sup shape.lowest v w h k)
         where
           begins : start y ≈ start x
@@ -143,21 +213,31 @@ module _ {P : Type 0} (shape : ShapeOf P) where
           ends : stop y ≈ stop x
           ends = same_trans right.ends (same_sym left.ends)
 
-          of_parts : (t : Rational) (v : Extended) → Within (start c) (stop c) t × LeastOf (IsWorth shape c) (IsWorth shape d) t v → IsSince shape.lowest shape.highest (Behind from to a b true true t) F G t v
+          of_parts : (t : Rational) (v : Extended) → Within (start c) (stop c) t × LeastOf (IsWorth shape c) (IsWorth shape d) t v
+              → IsSince shape.lowest shape.highest (Behind from to a b true true t) F G t v
           of_parts t v (i, (p, q, f, g, least)) =
               let j : Within (start x) (stop x) t = within_same_ends (same_trans within.begins begins) (same_trans within.ends ends) i in
-              let sup = sup_alike shape.lowest p (λ z (w, k, h). (w, behind_ends (start y) (stop y) (start x) (stop x) begins ends k, h)) (λ z (w, k, h). (w, behind_ends (start x) (stop x) (start y) (stop y) (same_sym begins) (same_sym ends) k, h)) ((within.worth t p).0 f).1 in
-              let inf = (inf_of shape (SinceOf shape x y) (start x) (stop x) u (Behind (start u) (stop u) 0 (Some a) true true t) (Behind (start x) (stop x) 0 (Some a) true true t) q from_start
-              (λ w k. behind_ends (start u) (stop u) (start x) (stop x) from_start.begins from_start.ends k) (λ w k. behind_ends (start x) (stop x) (start u) (stop u) (same_sym from_start.begins) (same_sym from_start.ends) k) (λ w k. k.inside)).0 ((kept.worth t q).0 g).1 in
+              let sup = sup_alike shape.lowest p (λ z (w, k, h). (w, behind_ends (start y) (stop y) (start x) (stop x) begins ends k, h))
+              (λ z (w, k, h). (w, behind_ends (start x) (stop x) (start y) (stop y) (same_sym begins) (same_sym ends) k, h)) ((within.worth t p).0 f).1 in
+              let inf = (inf_of shape (SinceOf shape x y) (start x) (stop x) u (Behind (start u) (stop u) 0 (Some a) true true t)
+              (Behind (start x) (stop x) 0 (Some a) true true t) q from_start
+              (λ w k. behind_ends (start u) (stop u) (start x) (stop x) from_start.begins from_start.ends k)
+              (λ w k. behind_ends (start x) (stop x) (start u) (stop u) (same_sym from_start.begins) (same_sym from_start.ends) k)
+              (λ w k. k.inside)).0 ((kept.worth t q).0 g).1 in
               (since_of (Behind (start x) (stop x) a b true true t) (Behind from to a b true true t) t v (within_same_ends left.begins left.ends j)
-              (λ w k. behind_ends (start x) (stop x) from to left.begins left.ends k) (λ w k. behind_ends from to (start x) (stop x) (same_sym left.begins) (same_sym left.ends) k) (λ w k. k.inside)).0 (law t a b p q v j order sup inf least)
+              (λ w k. behind_ends (start x) (stop x) from to left.begins left.ends k)
+              (λ w k. behind_ends from to (start x) (stop x) (same_sym left.begins) (same_sym left.ends) k) (λ w k. k.inside)).0
+              (law t a b p q v j order sup inf least)
 
   -- faults of until to the end and of since from the start
-  pub to_end_fault : (x y : List (Knot P)) (p q : Subformula) (a b : ℕ) (s : Setting) (e : OpFault P) → s.lowest ≡ shape.lowest → s.highest ≡ shape.highest → Tells shape (SupInf p s) s.from s.to x → Tells shape (SupInf q s) s.from s.to y
+  pub to_end_fault : (x y : List (Knot P)) (p q : Subformula) (a b : ℕ) (s : Setting) (e : OpFault P) → s.lowest ≡ shape.lowest
+      → s.highest ≡ shape.highest → Tells shape (SupInf p s) s.from s.to x → Tells shape (SupInf q s) s.from s.to y
       → HasCause shape (UntilStep shape x y) (start x) (stop x) e → IsFaultOf shape s (until a b p q) e
   to_end_fault x y p q a b s e low high left right h =
-      cause_of shape (UntilStep shape x y) (until_end (SupInf p s) (SupInf q s) (until_to_end s (SupInf p s) (SupInf q s))) (start x) (stop x) (until a b p q) s e left.begins left.ends
-      (λ tau line k l i. until_along (start x) (stop x) s.from s.to left.begins left.ends (IsWorth shape x) (SupInf p s) (IsWorth shape y) (SupInf q s) (UntilOf shape x y) (until_to_end s (SupInf p s) (SupInf q s))
+      cause_of shape (UntilStep shape x y) (until_end (SupInf p s) (SupInf q s) (until_to_end s (SupInf p s) (SupInf q s))) (start x) (stop x)
+      (until a b p q) s e left.begins left.ends
+      (λ tau line k l i. until_along (start x) (stop x) s.from s.to left.begins left.ends (IsWorth shape x) (SupInf p s) (IsWorth shape y)
+      (SupInf q s) (UntilOf shape x y) (until_to_end s (SupInf p s) (SupInf q s))
       (on_of shape (SupInf p s) s.from s.to x left) on_right alike tau line k i)
       (λ C i. inr (inl i)) h
     where
@@ -166,19 +246,28 @@ module _ {P : Type 0} (shape : ShapeOf P) where
           let o = on_of shape (SupInf q s) s.from s.to y right in
           let begins = same_trans right.begins (same_sym left.begins) in
           let ends = same_trans right.ends (same_sym left.ends) in
-          record { inside = λ t v w. within_same_ends begins ends (o.inside t v w); forth = o.forth; back = λ t v i f. o.back t v (within_same_ends (same_sym begins) (same_sym ends) i) f }
+          record {
+            inside = λ t v w. within_same_ends begins ends (o.inside t v w);
+            forth = o.forth;
+            back = λ t v i f. o.back t v (within_same_ends (same_sym begins) (same_sym ends) i) f;
+          }
 
       alike : AreAlike (start x) (stop x) (UntilOf shape x y) (until_to_end s (SupInf p s) (SupInf q s))
       alike = record {
-        forth = λ t v i w. subst (λ l. UntilToEnd l s.highest s.to (SupInf p s) (SupInf q s) t v) (sym low) (subst (λ h. UntilToEnd shape.lowest h s.to (SupInf p s) (SupInf q s) t v) (sym high)
+        forth = λ t v i w. subst (λ l. UntilToEnd l s.highest s.to (SupInf p s) (SupInf q s) t v) (sym low)
+            (subst (λ h. UntilToEnd shape.lowest h s.to (SupInf p s) (SupInf q s) t v) (sym high)
             ((to_end_of (SupInf p s) (SupInf q s) s.from s.to x y left right t v (within_same_ends left.begins left.ends i)).0 w));
       }
 
-  pub from_start_fault : (x y : List (Knot P)) (p q : Subformula) (a : ℕ) (b : Option ℕ) (s : Setting) (e : OpFault P) → s.lowest ≡ shape.lowest → s.highest ≡ shape.highest → Tells shape (SupInf p s) s.from s.to x → Tells shape (SupInf q s) s.from s.to y
+  -- for since
+  pub from_start_fault : (x y : List (Knot P)) (p q : Subformula) (a : ℕ) (b : Option ℕ) (s : Setting) (e : OpFault P) → s.lowest ≡ shape.lowest
+      → s.highest ≡ shape.highest → Tells shape (SupInf p s) s.from s.to x → Tells shape (SupInf q s) s.from s.to y
       → HasCause shape (SinceStep shape x y) (start x) (stop x) e → IsFaultOf shape s (since a b p q) e
   from_start_fault x y p q a b s e low high left right h =
-      cause_of shape (SinceStep shape x y) (since_start (SupInf p s) (SupInf q s) (since_from_start s (SupInf p s) (SupInf q s))) (start x) (stop x) (since a b p q) s e left.begins left.ends
-      (λ tau line k l i. since_along (start x) (stop x) s.from s.to left.begins left.ends (IsWorth shape x) (SupInf p s) (IsWorth shape y) (SupInf q s) (SinceOf shape x y) (since_from_start s (SupInf p s) (SupInf q s))
+      cause_of shape (SinceStep shape x y) (since_start (SupInf p s) (SupInf q s) (since_from_start s (SupInf p s) (SupInf q s))) (start x) (stop x)
+      (since a b p q) s e left.begins left.ends
+      (λ tau line k l i. since_along (start x) (stop x) s.from s.to left.begins left.ends (IsWorth shape x) (SupInf p s) (IsWorth shape y)
+      (SupInf q s) (SinceOf shape x y) (since_from_start s (SupInf p s) (SupInf q s))
       (on_of shape (SupInf p s) s.from s.to x left) on_right alike tau line l i)
       (λ C i. inr (inl i)) h
     where
@@ -187,11 +276,16 @@ module _ {P : Type 0} (shape : ShapeOf P) where
           let o = on_of shape (SupInf q s) s.from s.to y right in
           let begins = same_trans right.begins (same_sym left.begins) in
           let ends = same_trans right.ends (same_sym left.ends) in
-          record { inside = λ t v w. within_same_ends begins ends (o.inside t v w); forth = o.forth; back = λ t v i f. o.back t v (within_same_ends (same_sym begins) (same_sym ends) i) f }
+          record {
+            inside = λ t v w. within_same_ends begins ends (o.inside t v w);
+            forth = o.forth;
+            back = λ t v i f. o.back t v (within_same_ends (same_sym begins) (same_sym ends) i) f;
+          }
 
       alike : AreAlike (start x) (stop x) (SinceOf shape x y) (since_from_start s (SupInf p s) (SupInf q s))
       alike = record {
-        forth = λ t v i w. subst (λ l. SinceFromStart l s.highest s.from (SupInf p s) (SupInf q s) t v) (sym low) (subst (λ h. SinceFromStart shape.lowest h s.from (SupInf p s) (SupInf q s) t v) (sym high)
+        forth = λ t v i w. subst (λ l. SinceFromStart l s.highest s.from (SupInf p s) (SupInf q s) t v) (sym low)
+            (subst (λ h. SinceFromStart shape.lowest h s.from (SupInf p s) (SupInf q s) t v) (sym high)
             ((from_start_of (SupInf p s) (SupInf q s) s.from s.to x y left right t v (within_same_ends left.begins left.ends i)).0 w));
       }
 
@@ -200,18 +294,21 @@ module _ {P : Type 0} (shape : ShapeOf P) where
   to_end_bounded : (x y : List (Knot P)) → IsBounded (2 ^ 31) shape.lowest → IsBounded (2 ^ 31) shape.highest → IsLimited shape x → IsLimited shape y
       → (t : Rational) (v : Extended) → UntilOf shape x y t v → IsBounded (2 ^ 31) v
   to_end_bounded x y low high l m t v sup = sup_bounded (2 ^ 31) _ shape.lowest v low
-      (λ z (u, w, (a, b, q, p, least)). least_bounded (2 ^ 31) a b z least (worth_bounded shape y m u a q) (inf_over_bounded shape x (Within t u) b high l p)) sup
+      (λ z (u, w, (a, b, q, p, least)). least_bounded (2 ^ 31) a b z least (worth_bounded shape y m u a q)
+      (inf_over_bounded shape x (Within t u) b high l p)) sup
 
   from_start_bounded : (x y : List (Knot P)) → IsBounded (2 ^ 31) shape.lowest → IsBounded (2 ^ 31) shape.highest → IsLimited shape x → IsLimited shape y
       → (t : Rational) (v : Extended) → SinceOf shape x y t v → IsBounded (2 ^ 31) v
   from_start_bounded x y low high l m t v sup = sup_bounded (2 ^ 31) _ shape.lowest v low
-      (λ z (u, w, (a, b, q, p, least)). least_bounded (2 ^ 31) a b z least (worth_bounded shape y m u a q) (inf_over_bounded shape x (Within u t) b high l p)) sup
+      (λ z (u, w, (a, b, q, p, least)). least_bounded (2 ^ 31) a b z least (worth_bounded shape y m u a q)
+      (inf_over_bounded shape x (Within u t) b high l p)) sup
 
   module _ (laws : ShapeLaws shape) where
     near_zero : (b : ℤ) → b ≡ pos 0 → (neg_ℤ (pos (2 ^ 32)) ≤ℤ b) × (b ≤ℤ pos (2 ^ 33))
     near_zero b e = (omega (arith, ints, e), omega (arith, ints, e))
 
-    near_of_two : (x y r : List (Knot P)) → IsFit shape x → IsFit shape y → BasesOfTwo shape x y r → (p : P) → HasShape r p → (neg_ℤ (pos (2 ^ 32)) ≤ℤ shape.base p) × (shape.base p ≤ℤ pos (2 ^ 33))
+    near_of_two : (x y r : List (Knot P)) → IsFit shape x → IsFit shape y → BasesOfTwo shape x y r → (p : P) → HasShape r p
+        → (neg_ℤ (pos (2 ^ 32)) ≤ℤ shape.base p) × (shape.base p ≤ℤ pos (2 ^ 33))
     near_of_two x y r s u bases p h = by_test (shape.moves p) refl
       where
         of_one : (q : P) → HasShape x q ⊎ HasShape y q → (neg_ℤ (pos (2 ^ 32)) ≤ℤ shape.base q) × (shape.base q ≤ℤ pos (2 ^ 33))
@@ -223,99 +320,149 @@ module _ {P : Type 0} (shape : ShapeOf P) where
         by_test false e = near_zero (shape.base p) (laws.base_of_others p e)
 
     -- until to the end of fit signals is fit
-    pub to_end_fit : (x y r : List (Knot P)) → IsBounded (2 ^ 31) shape.lowest → IsBounded (2 ^ 31) shape.highest → AreFit shape x y → Tells shape (UntilOf shape x y) (start x) (stop x) r
-        → BasesOfTwo shape x y r → IsFit shape r
-    to_end_fit x y r low high fit made bases = record {
-      limited = limited_along shape (UntilOf shape x y) x r fit.left.limited made (to_end_bounded x y low high fit.left.limited fit.right.limited);
+    pub to_end_fit : (x y r : List (Knot P)) → AreFit shape x y → Tells shape (UntilOf shape x y) (start x) (stop x) r → BasesOfTwo shape x y r → IsFit shape r
+    to_end_fit x y r fit made bases = record {
+      limited = limited_along shape (UntilOf shape x y) x r fit.left.limited made
+          (to_end_bounded x y laws.lowest_bounded laws.highest_bounded fit.left.limited fit.right.limited);
       first = le_trans fit.left.first (ge_of_same made.begins);
       last = le_trans (le_of_same made.ends) fit.left.last;
       near = near_of_two x y r fit.left fit.right bases;
     }
 
-    pub from_start_fit : (x y r : List (Knot P)) → IsBounded (2 ^ 31) shape.lowest → IsBounded (2 ^ 31) shape.highest → AreFit shape x y → Tells shape (SinceOf shape x y) (start x) (stop x) r
-        → BasesOfTwo shape x y r → IsFit shape r
-    from_start_fit x y r low high fit made bases = record {
-      limited = limited_along shape (SinceOf shape x y) x r fit.left.limited made (from_start_bounded x y low high fit.left.limited fit.right.limited);
+    -- so for since from the start
+    pub from_start_fit : (x y r : List (Knot P)) → AreFit shape x y → Tells shape (SinceOf shape x y) (start x) (stop x) r → BasesOfTwo shape x y r
+        → IsFit shape r
+    from_start_fit x y r fit made bases = record {
+      limited = limited_along shape (SinceOf shape x y) x r fit.left.limited made
+          (from_start_bounded x y laws.lowest_bounded laws.highest_bounded fit.left.limited fit.right.limited);
       first = le_trans fit.left.first (ge_of_same made.begins);
       last = le_trans (le_of_same made.ends) fit.left.last;
       near = near_of_two x y r fit.left fit.right bases;
     }
 
 moved_same : (own more : ℕ) (old other new : ℤ) → own ≤ more → IsMovedBy own old new → old ≡ other → IsMovedBy more other new
-moved_same own more old other new h m e = let a = m.not_less in let b = m.not_more in record { not_less = omega (arith, ints, h, a, e); not_more = omega (arith, ints, h, b, e) }
+moved_same own more old other new h m e = let a = m.not_less in let b = m.not_more in
+    record { not_less = omega (arith, ints, h, a, e); not_more = omega (arith, ints, h, b, e) }
 
 module _ {P : Type 0} (shape : ShapeOf P) where
   -- where each part's shapes come from
-  pub composed_moved : (less own : ℕ) (x y c u d r : List (Knot P)) → less ≤ own → ((p : P) → HasShape c p → IsTrue (shape.moves p) → ComesFrom shape own y p) → BasesOfTwo shape x y u
+  pub composed_moved : (less own : ℕ) (x y c u d r : List (Knot P)) → less ≤ own
+      → ((p : P) → HasShape c p → IsTrue (shape.moves p) → ComesFrom shape own y p) → BasesOfTwo shape x y u
       → ((p : P) → HasShape d p → IsTrue (shape.moves p) → ComesFrom shape less u p) → ((p : P) → HasShape r p → HasShape c p ⊎ HasShape d p)
       → (p : P) → HasShape r p → IsTrue (shape.moves p) → (q : P) × (HasShape x q ⊎ HasShape y q) × IsMovedBy own (shape.base q) (shape.base p)
   composed_moved less own x y c u d r order within both kept shapes p h m = by_part (shapes p h)
     where
       by_part : HasShape c p ⊎ HasShape d p → (q : P) × (HasShape x q ⊎ HasShape y q) × IsMovedBy own (shape.base q) (shape.base p)
       by_part (inl k) = let f = within p k m in (f.0, inr f.1, f.3)
-      by_part (inr k) = let f = kept p k m in let g = both f.0 f.1 f.2 in (g.0, g.1, moved_same less own (shape.base f.0) (shape.base g.0) (shape.base p) order f.3 g.3)
+      by_part (inr k) = let f = kept p k m in let g = both f.0 f.1 f.2 in
+          (g.0, g.1, moved_same less own (shape.base f.0) (shape.base g.0) (shape.base p) order f.3 g.3)
 
 -- the steps of until and since in a setting
-module _ {P : Type 0} (shape : ShapeOf P) (s : Setting) (p q : Subformula) (ends : HasEnds shape.lowest shape.highest s) (x y : List (Knot P)) (left : Tells shape (SupInf p s) s.from s.to x) (right : Tells shape (SupInf q s) s.from s.to y) where
-  within_ahead : (a b : ℕ) (c : List (Knot P)) → Tells shape (SupAhead (start y) (stop y) (IsWorth shape y) shape.lowest a b true true) (start y) (stop y) c → Tells shape (sup_ahead s a b (SupInf q s)) s.from s.to c
-  within_ahead a b c made = subst (λ l. Tells shape (λ t v. IsSupOver l (Ahead s.from s.to a b true true t) (SupInf q s) v) s.from s.to c) (sym ends.lowest) (sup_ahead_told shape (SupInf q s) s.from s.to y c right a b true true made)
+module _ {P : Type 0} (shape : ShapeOf P) (s : Setting) (p q : Subformula) (ends : HasEnds shape.lowest shape.highest s) (x y : List (Knot P))
+    (left : Tells shape (SupInf p s) s.from s.to x) (right : Tells shape (SupInf q s) s.from s.to y) where
+  within_ahead : (a b : ℕ) (c : List (Knot P)) → Tells shape (SupAhead (start y) (stop y) (IsWorth shape y) shape.lowest a b true true) (start y)
+      (stop y) c → Tells shape (sup_ahead s a b (SupInf q s)) s.from s.to c
+  within_ahead a b c made = subst (λ l. Tells shape (λ t v. IsSupOver l (Ahead s.from s.to a b true true t) (SupInf q s) v) s.from s.to c)
+      (sym ends.lowest) (sup_ahead_told shape (SupInf q s) s.from s.to y c right a b true true made)
 
-  within_behind : (a : ℕ) (b : Option ℕ) (c : List (Knot P)) → Tells shape (SupBehind (start y) (stop y) (IsWorth shape y) shape.lowest a b true true) (start y) (stop y) c → Tells shape (sup_behind s a b (SupInf q s)) s.from s.to c
-  within_behind a b c made = subst (λ l. Tells shape (λ t v. IsSupOver l (Behind s.from s.to a b true true t) (SupInf q s) v) s.from s.to c) (sym ends.lowest) (sup_behind_told shape (SupInf q s) s.from s.to y c right a b true true made)
+  within_behind : (a : ℕ) (b : Option ℕ) (c : List (Knot P)) → Tells shape (SupBehind (start y) (stop y) (IsWorth shape y) shape.lowest a b true true)
+      (start y) (stop y) c → Tells shape (sup_behind s a b (SupInf q s)) s.from s.to c
+  within_behind a b c made = subst (λ l. Tells shape (λ t v. IsSupOver l (Behind s.from s.to a b true true t) (SupInf q s) v) s.from s.to c)
+      (sym ends.lowest) (sup_behind_told shape (SupInf q s) s.from s.to y c right a b true true made)
 
   to_end_in : (u : List (Knot P)) → Tells shape (UntilOf shape x y) (start x) (stop x) u → Tells shape (until_to_end s (SupInf p s) (SupInf q s)) s.from s.to u
   to_end_in u made = subst (λ l. Tells shape (UntilToEnd l s.highest s.to (SupInf p s) (SupInf q s)) s.from s.to u) (sym ends.lowest)
-      (subst (λ h. Tells shape (UntilToEnd shape.lowest h s.to (SupInf p s) (SupInf q s)) s.from s.to u) (sym ends.highest) (to_end_told shape (SupInf p s) (SupInf q s) s.from s.to x y left right u made))
+      (subst (λ h. Tells shape (UntilToEnd shape.lowest h s.to (SupInf p s) (SupInf q s)) s.from s.to u) (sym ends.highest)
+      (to_end_told shape (SupInf p s) (SupInf q s) s.from s.to x y left right u made))
 
-  from_start_in : (u : List (Knot P)) → Tells shape (SinceOf shape x y) (start x) (stop x) u → Tells shape (since_from_start s (SupInf p s) (SupInf q s)) s.from s.to u
+  from_start_in : (u : List (Knot P)) → Tells shape (SinceOf shape x y) (start x) (stop x) u
+      → Tells shape (since_from_start s (SupInf p s) (SupInf q s)) s.from s.to u
   from_start_in u made = subst (λ l. Tells shape (SinceFromStart l s.highest s.from (SupInf p s) (SupInf q s)) s.from s.to u) (sym ends.lowest)
-      (subst (λ h. Tells shape (SinceFromStart shape.lowest h s.from (SupInf p s) (SupInf q s)) s.from s.to u) (sym ends.highest) (from_start_told shape (SupInf p s) (SupInf q s) s.from s.to x y left right u made))
+      (subst (λ h. Tells shape (SinceFromStart shape.lowest h s.from (SupInf p s) (SupInf q s)) s.from s.to u) (sym ends.highest)
+      (from_start_told shape (SupInf p s) (SupInf q s) s.from s.to x y left right u made))
 
   module _ (u : List (Knot P)) where
-    kept_ahead : (a : ℕ) (d : List (Knot P)) → Tells shape (UntilOf shape x y) (start x) (stop x) u → Tells shape (InfAhead (start u) (stop u) (IsWorth shape u) shape.highest 0 a true true) (start u) (stop u) d
+    kept_ahead : (a : ℕ) (d : List (Knot P)) → Tells shape (UntilOf shape x y) (start x) (stop x) u
+        → Tells shape (InfAhead (start u) (stop u) (IsWorth shape u) shape.highest 0 a true true) (start u) (stop u) d
         → Tells shape (always_ahead s 0 a (until_to_end s (SupInf p s) (SupInf q s))) s.from s.to d
-    kept_ahead a d to_end made = subst (λ h. Tells shape (λ t v. IsInfOver h (Ahead s.from s.to 0 a true true t) (until_to_end s (SupInf p s) (SupInf q s)) v) s.from s.to d) (sym ends.highest)
+    kept_ahead a d to_end made =
+        subst (λ h. Tells shape (λ t v. IsInfOver h (Ahead s.from s.to 0 a true true t) (until_to_end s (SupInf p s) (SupInf q s)) v) s.from s.to d)
+        (sym ends.highest)
         (inf_ahead_told shape (until_to_end s (SupInf p s) (SupInf q s)) s.from s.to u d (to_end_in u to_end) 0 a true true made)
 
-    kept_behind : (a : ℕ) (d : List (Knot P)) → Tells shape (SinceOf shape x y) (start x) (stop x) u → Tells shape (InfBehind (start u) (stop u) (IsWorth shape u) shape.highest 0 (Some a) true true) (start u) (stop u) d
+    kept_behind : (a : ℕ) (d : List (Knot P)) → Tells shape (SinceOf shape x y) (start x) (stop x) u
+        → Tells shape (InfBehind (start u) (stop u) (IsWorth shape u) shape.highest 0 (Some a) true true) (start u) (stop u) d
         → Tells shape (inf_behind s 0 (Some a) (since_from_start s (SupInf p s) (SupInf q s))) s.from s.to d
-    kept_behind a d from_start made = subst (λ h. Tells shape (λ t v. IsInfOver h (Behind s.from s.to 0 (Some a) true true t) (since_from_start s (SupInf p s) (SupInf q s)) v) s.from s.to d) (sym ends.highest)
+    kept_behind a d from_start made =
+        subst (λ h. Tells shape (λ t v. IsInfOver h (Behind s.from s.to 0 (Some a) true true t) (since_from_start s (SupInf p s) (SupInf q s)) v)
+        s.from s.to d) (sym ends.highest)
         (inf_behind_told shape (since_from_start s (SupInf p s) (SupInf q s)) s.from s.to u d (from_start_in u from_start) 0 (Some a) true true made)
 
     -- faults of the first window, of the second one, and of the least of both
-    pub until_within_fault : (a b : ℕ) (e : OpFault P) → HasCause shape (window_ahead (IsWorth shape y) a b true true) (start y) (stop y) e → IsFaultOf shape s (until a b p q) e
+    pub until_within_fault : (a b : ℕ) (e : OpFault P) → HasCause shape (window_ahead (IsWorth shape y) a b true true) (start y) (stop y) e
+        → IsFaultOf shape s (until a b p q) e
     until_within_fault a b e h = ahead_cause shape (SupInf q s) y a b true true (until a b p q) s e right (λ C i. inl i) h
 
-    pub until_kept_fault : (a b : ℕ) (e : OpFault P) → Tells shape (UntilOf shape x y) (start x) (stop x) u → HasCause shape (window_ahead (IsWorth shape u) 0 a true true) (start u) (stop u) e → IsFaultOf shape s (until a b p q) e
-    until_kept_fault a b e to_end h = ahead_cause shape (until_to_end s (SupInf p s) (SupInf q s)) u 0 a true true (until a b p q) s e (to_end_in u to_end) (λ C i. inr (inr (inl i))) h
+    -- of the second window
+    pub until_kept_fault : (a b : ℕ) (e : OpFault P) → Tells shape (UntilOf shape x y) (start x) (stop x) u
+        → HasCause shape (window_ahead (IsWorth shape u) 0 a true true) (start u) (stop u) e → IsFaultOf shape s (until a b p q) e
+    until_kept_fault a b e to_end h = ahead_cause shape (until_to_end s (SupInf p s) (SupInf q s)) u 0 a true true (until a b p q) s e
+        (to_end_in u to_end) (λ C i. inr (inr (inl i))) h
 
-    pub until_least_fault : (a b : ℕ) (c d : List (Knot P)) (e : OpFault P) → Tells shape (SupAhead (start y) (stop y) (IsWorth shape y) shape.lowest a b true true) (start y) (stop y) c → Tells shape (UntilOf shape x y) (start x) (stop x) u
-        → Tells shape (InfAhead (start u) (stop u) (IsWorth shape u) shape.highest 0 a true true) (start u) (stop u) d → IsFault shape (IsWorth shape c) (IsWorth shape d) (start c) (stop c) e → IsFaultOf shape s (until a b p q) e
-    until_least_fault a b c d e within to_end kept h = meeting_fault shape (sup_ahead s a b (SupInf q s)) (always_ahead s 0 a (until_to_end s (SupInf p s) (SupInf q s))) c d (until a b p q) s e (within_ahead a b c within) (kept_ahead a d to_end kept) (λ C i. inr (inr (inr i))) h
+    -- of the least of both
+    pub until_least_fault : (a b : ℕ) (c d : List (Knot P)) (e : OpFault P)
+        → Tells shape (SupAhead (start y) (stop y) (IsWorth shape y) shape.lowest a b true true) (start y) (stop y) c
+        → Tells shape (UntilOf shape x y) (start x) (stop x) u
+        → Tells shape (InfAhead (start u) (stop u) (IsWorth shape u) shape.highest 0 a true true) (start u) (stop u) d
+        → IsFault shape (IsWorth shape c) (IsWorth shape d) (start c) (stop c) e → IsFaultOf shape s (until a b p q) e
+    until_least_fault a b c d e within to_end kept h =
+        meeting_fault shape (sup_ahead s a b (SupInf q s)) (always_ahead s 0 a (until_to_end s (SupInf p s) (SupInf q s))) c d (until a b p q) s e
+        (within_ahead a b c within) (kept_ahead a d to_end kept) (λ C i. inr (inr (inr i))) h
 
-    pub since_within_fault : (a : ℕ) (b : Option ℕ) (e : OpFault P) → HasCause shape (window_behind (IsWorth shape y) a b true true) (start y) (stop y) e → IsFaultOf shape s (since a b p q) e
+    -- for since: of the first window
+    pub since_within_fault : (a : ℕ) (b : Option ℕ) (e : OpFault P) → HasCause shape (window_behind (IsWorth shape y) a b true true) (start y)
+        (stop y) e → IsFaultOf shape s (since a b p q) e
     since_within_fault a b e h = behind_cause shape (SupInf q s) y a b true true (since a b p q) s e right (λ C i. inl i) h
 
-    pub since_kept_fault : (a : ℕ) (b : Option ℕ) (e : OpFault P) → Tells shape (SinceOf shape x y) (start x) (stop x) u → HasCause shape (window_behind (IsWorth shape u) 0 (Some a) true true) (start u) (stop u) e → IsFaultOf shape s (since a b p q) e
-    since_kept_fault a b e from_start h = behind_cause shape (since_from_start s (SupInf p s) (SupInf q s)) u 0 (Some a) true true (since a b p q) s e (from_start_in u from_start) (λ C i. inr (inr (inl i))) h
+    -- of the second one
+    pub since_kept_fault : (a : ℕ) (b : Option ℕ) (e : OpFault P) → Tells shape (SinceOf shape x y) (start x) (stop x) u
+        → HasCause shape (window_behind (IsWorth shape u) 0 (Some a) true true) (start u) (stop u) e → IsFaultOf shape s (since a b p q) e
+    since_kept_fault a b e from_start h = behind_cause shape (since_from_start s (SupInf p s) (SupInf q s)) u 0 (Some a) true true (since a b p q) s e
+        (from_start_in u from_start) (λ C i. inr (inr (inl i))) h
 
-    pub since_least_fault : (a : ℕ) (b : Option ℕ) (c d : List (Knot P)) (e : OpFault P) → Tells shape (SupBehind (start y) (stop y) (IsWorth shape y) shape.lowest a b true true) (start y) (stop y) c → Tells shape (SinceOf shape x y) (start x) (stop x) u
-        → Tells shape (InfBehind (start u) (stop u) (IsWorth shape u) shape.highest 0 (Some a) true true) (start u) (stop u) d → IsFault shape (IsWorth shape c) (IsWorth shape d) (start c) (stop c) e → IsFaultOf shape s (since a b p q) e
-    since_least_fault a b c d e within from_start kept h = meeting_fault shape (sup_behind s a b (SupInf q s)) (inf_behind s 0 (Some a) (since_from_start s (SupInf p s) (SupInf q s))) c d (since a b p q) s e (within_behind a b c within) (kept_behind a d from_start kept) (λ C i. inr (inr (inr i))) h
+    -- of the least of both
+    pub since_least_fault : (a : ℕ) (b : Option ℕ) (c d : List (Knot P)) (e : OpFault P)
+        → Tells shape (SupBehind (start y) (stop y) (IsWorth shape y) shape.lowest a b true true) (start y) (stop y) c
+        → Tells shape (SinceOf shape x y) (start x) (stop x) u
+        → Tells shape (InfBehind (start u) (stop u) (IsWorth shape u) shape.highest 0 (Some a) true true) (start u) (stop u) d
+        → IsFault shape (IsWorth shape c) (IsWorth shape d) (start c) (stop c) e → IsFaultOf shape s (since a b p q) e
+    since_least_fault a b c d e within from_start kept h =
+        meeting_fault shape (sup_behind s a b (SupInf q s)) (inf_behind s 0 (Some a) (since_from_start s (SupInf p s) (SupInf q s))) c d
+        (since a b p q) s e (within_behind a b c within) (kept_behind a d from_start kept) (λ C i. inr (inr (inr i))) h
 
     -- the values
-    pub until_in : (a b : ℕ) (c d r : List (Knot P)) → a ≤ b → Tells shape (SupAhead (start y) (stop y) (IsWorth shape y) shape.lowest a b true true) (start y) (stop y) c → Tells shape (UntilOf shape x y) (start x) (stop x) u
-        → Tells shape (InfAhead (start u) (stop u) (IsWorth shape u) shape.highest 0 a true true) (start u) (stop u) d → Tells shape (LeastOf (IsWorth shape c) (IsWorth shape d)) (start c) (stop c) r
-        → UntilIsComposed shape.lowest shape.highest (start x) (stop x) (IsWorth shape x) (IsWorth shape y) → Tells shape (SupInf (until a b p q) s) s.from s.to r
+    pub until_in : (a b : ℕ) (c d r : List (Knot P)) → a ≤ b → Tells shape (SupAhead (start y) (stop y) (IsWorth shape y) shape.lowest a b true true)
+        (start y) (stop y) c → Tells shape (UntilOf shape x y) (start x) (stop x) u
+        → Tells shape (InfAhead (start u) (stop u) (IsWorth shape u) shape.highest 0 a true true) (start u) (stop u) d
+        → Tells shape (LeastOf (IsWorth shape c) (IsWorth shape d)) (start c) (stop c) r
+        → UntilIsComposed shape.lowest shape.highest (start x) (stop x) (IsWorth shape x) (IsWorth shape y)
+        → Tells shape (SupInf (until a b p q) s) s.from s.to r
     until_in a b c d r order within to_end kept made law =
         subst (λ l. Tells shape (λ t v. IsUntil l s.highest (Ahead s.from s.to a b true true t) (SupInf p s) (SupInf q s) t v) s.from s.to r) (sym ends.lowest)
-        (subst (λ h. Tells shape (λ t v. IsUntil shape.lowest h (Ahead s.from s.to a b true true t) (SupInf p s) (SupInf q s) t v) s.from s.to r) (sym ends.highest)
+        (subst (λ h. Tells shape (λ t v. IsUntil shape.lowest h (Ahead s.from s.to a b true true t) (SupInf p s) (SupInf q s) t v) s.from s.to r)
+        (sym ends.highest)
         (until_told shape (SupInf p s) (SupInf q s) s.from s.to x y left right c u d r a b order within to_end kept made law))
 
-    pub since_in : (a : ℕ) (b : Option ℕ) (c d r : List (Knot P)) → IfSome b (λ b. a ≤ b) → Tells shape (SupBehind (start y) (stop y) (IsWorth shape y) shape.lowest a b true true) (start y) (stop y) c → Tells shape (SinceOf shape x y) (start x) (stop x) u
-        → Tells shape (InfBehind (start u) (stop u) (IsWorth shape u) shape.highest 0 (Some a) true true) (start u) (stop u) d → Tells shape (LeastOf (IsWorth shape c) (IsWorth shape d)) (start c) (stop c) r
-        → SinceIsComposed shape.lowest shape.highest (start x) (stop x) (IsWorth shape x) (IsWorth shape y) → Tells shape (SupInf (since a b p q) s) s.from s.to r
+    -- for since
+    pub since_in : (a : ℕ) (b : Option ℕ) (c d r : List (Knot P)) → IfSome b (λ b. a ≤ b)
+        → Tells shape (SupBehind (start y) (stop y) (IsWorth shape y) shape.lowest a b true true) (start y) (stop y) c
+        → Tells shape (SinceOf shape x y) (start x) (stop x) u
+        → Tells shape (InfBehind (start u) (stop u) (IsWorth shape u) shape.highest 0 (Some a) true true) (start u) (stop u) d
+        → Tells shape (LeastOf (IsWorth shape c) (IsWorth shape d)) (start c) (stop c) r
+        → SinceIsComposed shape.lowest shape.highest (start x) (stop x) (IsWorth shape x) (IsWorth shape y)
+        → Tells shape (SupInf (since a b p q) s) s.from s.to r
     since_in a b c d r order within from_start kept made law =
         subst (λ l. Tells shape (λ t v. IsSince l s.highest (Behind s.from s.to a b true true t) (SupInf p s) (SupInf q s) t v) s.from s.to r) (sym ends.lowest)
-        (subst (λ h. Tells shape (λ t v. IsSince shape.lowest h (Behind s.from s.to a b true true t) (SupInf p s) (SupInf q s) t v) s.from s.to r) (sym ends.highest)
+        (subst (λ h. Tells shape (λ t v. IsSince shape.lowest h (Behind s.from s.to a b true true t) (SupInf p s) (SupInf q s) t v) s.from s.to r)
+        (sym ends.highest)
         (since_told shape (SupInf p s) (SupInf q s) s.from s.to x y left right c u d r a b order within from_start kept made law))

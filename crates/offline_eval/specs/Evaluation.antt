@@ -1,6 +1,5 @@
 -- What the signals of a formula's nodes tell, and for what an evaluation may be refused.
 use Rattle.std.specs.Prelude.{◌≡◌, ◌<◌, ℕ, List, length, Some, slice_get}
-use Rattle.rational.specs.Extended.{Affine}
 use Rattle.frac128.specs.Value.{value}
 use Rattle.value_laws.specs.Members.{ShapeOf}
 use Rattle.pl_signal.specs.declared.knot.Knot.{Knot}

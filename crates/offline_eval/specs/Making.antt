@@ -1,7 +1,7 @@
 -- What the signals that are made on the way keep, and what a signal that is made from those of a node's children tells.
-use Rattle.std.specs.Prelude.{◌≡◌, ℕ, ℤ, pos, neg_ℤ, ◌+◌, ◌-◌, ◌^◌, ◌≤ℤ◌, ◌<ℤ◌, List, Some, slice_get}
+use Rattle.std.specs.Prelude.{◌≡◌, ℕ, pos, neg_ℤ, ◌+◌, ◌-◌, ◌^◌, ◌≤ℤ◌, ◌<ℤ◌, List, Some, slice_get}
 use Rattle.rational.specs.Time.{whole, ◌≈◌, ◌≤ʳ◌}
-use Rattle.rational.specs.Extended.{Extended, Affine}
+use Rattle.rational.specs.Extended.{Extended}
 use Rattle.value_laws.specs.Members.{ShapeOf}
 use Rattle.pl_signal.specs.declared.knot.Knot.{Knot}
 use Rattle.frac128.specs.Value.{value}
@@ -114,7 +114,8 @@ module _ {P : Type 0} (shape : ShapeOf P) where
 
   -- where x and y tell two formulas, r tells the formula that is made of them
   abbrev pub TellsTwo : (Subformula → Subformula → Subformula) → List (Knot P) → List (Knot P) → List (Knot P) → Type 0
-  TellsTwo make x y r = (s : Setting) (p q : Subformula) → HasEnds shape.lowest shape.highest s → TellsValue shape s p x → TellsValue shape s q y → TellsValue shape s (make p q) r
+  TellsTwo make x y r = (s : Setting) (p q : Subformula) → HasEnds shape.lowest shape.highest s → TellsValue shape s p x → TellsValue shape s q y
+      → TellsValue shape s (make p q) r
 
   -- where x tells a formula, the fault is one of the formula that is made of it
   abbrev pub FaultOfOne : (Subformula → Subformula) → List (Knot P) → OpFault P → Type 0
@@ -122,15 +123,18 @@ module _ {P : Type 0} (shape : ShapeOf P) where
 
   -- where x and y tell two formulas, the fault is one of the formula that is made of them
   abbrev pub FaultOfTwo : (Subformula → Subformula → Subformula) → List (Knot P) → List (Knot P) → OpFault P → Type 0
-  FaultOfTwo make x y e = (s : Setting) (p q : Subformula) → HasEnds shape.lowest shape.highest s → TellsValue shape s p x → TellsValue shape s q y → IsFaultOf shape s (make p q) e
+  FaultOfTwo make x y e = (s : Setting) (p q : Subformula) → HasEnds shape.lowest shape.highest s → TellsValue shape s p x → TellsValue shape s q y
+      → IsFaultOf shape s (make p q) e
 
   -- where the signals tell the formulas at their places, r tells the formula of the node
   abbrev pub TellsNode : ℕ → ℕ → Node → List (List (Knot P)) → List (Knot P) → Type 0
-  TellsNode from to n xs r = (s : Setting) (at : ℕ → Subformula) (i : ℕ) → IsOver shape.lowest shape.highest from to s → TellAt shape s at xs → TellsValue shape s (tree_of at i n) r
+  TellsNode from to n xs r = (s : Setting) (at : ℕ → Subformula) (i : ℕ) → IsOver shape.lowest shape.highest from to s → TellAt shape s at xs
+      → TellsValue shape s (tree_of at i n) r
 
   -- there the fault is one of the formula of the node
   abbrev pub FaultOfNode : ℕ → ℕ → Node → List (List (Knot P)) → OpFault P → Type 0
-  FaultOfNode from to n xs e = (s : Setting) (at : ℕ → Subformula) (i : ℕ) → IsOver shape.lowest shape.highest from to s → TellAt shape s at xs → IsFaultOf shape s (tree_of at i n) e
+  FaultOfNode from to n xs e = (s : Setting) (at : ℕ → Subformula) (i : ℕ) → IsOver shape.lowest shape.highest from to s → TellAt shape s at xs
+      → IsFaultOf shape s (tree_of at i n) e
 
 -- the fault of an operator at the node of that place
 abbrev pub fault_at : {P : Type 0} → ℕ → OpFault P → EvalFault P

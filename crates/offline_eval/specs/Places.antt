@@ -1,6 +1,5 @@
 -- What the signal that is made at a place of a formula takes, keeps and tells.
-use Rattle.std.specs.Prelude.{◌≡◌, ℕ, ℤ, ◌+◌, List, take, drop, sum_by}
-use Rattle.rational.specs.Extended.{Extended, Affine}
+use Rattle.std.specs.Prelude.{◌≡◌, ℕ, ◌+◌, List, take, drop, sum_by}
 use Rattle.value_laws.specs.Members.{ShapeOf}
 use Rattle.pl_signal.specs.declared.knot.Knot.{Knot}
 use Rattle.pl_signal.specs.declared.faults.OpFault.{OpFault}
@@ -28,9 +27,11 @@ module _ {P : Type 0} (shape : ShapeOf P) where
   -- where the atoms' signals tell the atoms, and the signals before it tell their nodes, the new signal tells its node
   abbrev pub TellsPlace : ℕ → ℕ → List Node → ℕ → List (List (Knot P)) → List (List (Knot P)) → List (Knot P) → Type 0
   TellsPlace from to nodes i left xs r =
-      (s : Setting) (all : List (List (Knot P))) → IsOver shape.lowest shape.highest from to s → left ≡ drop (atoms_before nodes i) all → TellAtoms shape nodes all s
+      (s : Setting) (all : List (List (Knot P))) → IsOver shape.lowest shape.highest from to s → left ≡ drop (atoms_before nodes i) all
+      → TellAtoms shape nodes all s
       → TellAt shape s (subformula nodes) xs → TellsValue shape s (subformula nodes i) r
 
   -- there a fault is one of its node
   abbrev pub FaultOfPlace : ℕ → ℕ → List Node → ℕ → List (List (Knot P)) → OpFault P → Type 0
-  FaultOfPlace from to nodes i xs e = (s : Setting) → IsOver shape.lowest shape.highest from to s → TellAt shape s (subformula nodes) xs → IsFaultOf shape s (subformula nodes i) e
+  FaultOfPlace from to nodes i xs e = (s : Setting) → IsOver shape.lowest shape.highest from to s → TellAt shape s (subformula nodes) xs
+      → IsFaultOf shape s (subformula nodes i) e

@@ -34,6 +34,10 @@ impl<P: Shape> Atoms<P> {
     }
 
     /// The signal of the next atom in post-order. Without memory for it nothing changes.
+    ///
+    /// # Errors
+    ///
+    /// `Memory` where memory is wanting; the signals stay as they were.
     pub fn add(&mut self, signal: Signal<P>) -> Result<(), Memory>
         ensures ok { OnOk result (self.new ≡ self.old ++ signal ∷ []) }
         ensures err { OnErr result (self.new ≡ self.old) }

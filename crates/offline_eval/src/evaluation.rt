@@ -84,6 +84,11 @@ fn at_node<P>(node: u32, fault: OpFault<P>) -> EvalFault<P>
 ///
 /// In every setting over that domain in which the atoms' signals tell the atoms, each node's signal tells the sup-inf value of its
 /// subformula. It is refused as `Wide` only with a node and a pair in play there that needs a denominator of 2^60 or more.
+///
+/// # Errors
+///
+/// `Wide` at a node with a pair that is in play there and needs a denominator of 2^60 or more, never for truth and three-valued
+/// truth; `Memory` where memory is wanting.
 pub fn eval<P: Shape, L: Ledger>(
     alloc: Global,
     formula: &Formula,

@@ -25,11 +25,13 @@ module _ {P : Type 0} (shape : ShapeOf P) where
   -- the values where the last knot stays
   kept_worth : (xs : List (Knot P)) (l : Knot P) (after : P) (at : Frac) (point : P) (t : Rational) (v : Extended)
       → IsWorth shape (xs ++ goes_on l after ∷ ends_at at point ∷ []) t v
-      → IsWorth shape (xs ++ l ∷ []) t v ⊎ ((stop (xs ++ l ∷ []) <ʳ t) × (t <ʳ value at) × Passes (shape.function after) t v) ⊎ ((t ≈ value at) × Passes (shape.function point) t v)
+      → IsWorth shape (xs ++ l ∷ []) t v ⊎ ((stop (xs ++ l ∷ []) <ʳ t) × (t <ʳ value at) × Passes (shape.function after) t v)
+      ⊎ ((t ≈ value at) × Passes (shape.function point) t v)
   kept_worth xs l after at point t v h = elim (worth_in shape xs (goes_on l after) l (ends_at at point ∷ []) [] t v refl h) [ inl k ↦ inl k | inr k ↦ by_end k ]
     where
       by_end : IsWorth shape (goes_on l after ∷ ends_at at point ∷ []) t v
-          → IsWorth shape (xs ++ l ∷ []) t v ⊎ ((stop (xs ++ l ∷ []) <ʳ t) × (t <ʳ value at) × Passes (shape.function after) t v) ⊎ ((t ≈ value at) × Passes (shape.function point) t v)
+          → IsWorth shape (xs ++ l ∷ []) t v ⊎ ((stop (xs ++ l ∷ []) <ʳ t) × (t <ʳ value at) × Passes (shape.function after) t v)
+          ⊎ ((t ≈ value at) × Passes (shape.function point) t v)
       by_end (inl h) = inl (worth_end shape xs (l ∷ []) t v (inl (record { when = h.when; worth = h.worth })))
       by_end (inr (inl h)) = inr (inl (subst (λ s. s <ʳ t) (sym (stop_end xs l [])) h.after, h.before, h.worth))
       by_end (inr (inr (inl h))) = inr (inr (h.when, h.worth))
@@ -37,9 +39,11 @@ module _ {P : Type 0} (shape : ShapeOf P) where
       by_end (inr (inr (inr (inr h)))) = absurd h
 
   worth_kept : (xs : List (Knot P)) (l : Knot P) (after : P) (at : Frac) (point : P) (t : Rational) (v : Extended)
-      → IsWorth shape (xs ++ l ∷ []) t v ⊎ ((stop (xs ++ l ∷ []) <ʳ t) × (t <ʳ value at) × Passes (shape.function after) t v) ⊎ ((t ≈ value at) × Passes (shape.function point) t v)
+      → IsWorth shape (xs ++ l ∷ []) t v ⊎ ((stop (xs ++ l ∷ []) <ʳ t) × (t <ʳ value at) × Passes (shape.function after) t v)
+      ⊎ ((t ≈ value at) × Passes (shape.function point) t v)
       → IsWorth shape (xs ++ goes_on l after ∷ ends_at at point ∷ []) t v
-  worth_kept xs l after at point t v (inl h) = elim (worth_in shape xs l (goes_on l after) [] (ends_at at point ∷ []) t v refl h) [ inl k ↦ k | inr k ↦ by_end k ]
+  worth_kept xs l after at point t v (inl h) =
+      elim (worth_in shape xs l (goes_on l after) [] (ends_at at point ∷ []) t v refl h) [ inl k ↦ k | inr k ↦ by_end k ]
     where
       by_end : IsWorth shape (l ∷ []) t v → IsWorth shape (xs ++ goes_on l after ∷ ends_at at point ∷ []) t v
       by_end (inl h) = worth_end shape xs (goes_on l after ∷ ends_at at point ∷ []) t v (inl (record { when = h.when; worth = h.worth }))
@@ -53,7 +57,8 @@ module _ {P : Type 0} (shape : ShapeOf P) where
 
   kept_shapes : (xs : List (Knot P)) (l : Knot P) (after : P) (at : Frac) (point p : P) → HasShape (xs ++ goes_on l after ∷ ends_at at point ∷ []) p
       → HasShape (xs ++ l ∷ []) p ⊎ (p ≡ after) ⊎ (p ≡ point)
-  kept_shapes xs l after at point p h = elim (shape_in xs (goes_on l after ∷ ends_at at point ∷ []) p h) [ inl k ↦ inl (shape_front xs (l ∷ []) p k) | inr k ↦ by_end k ]
+  kept_shapes xs l after at point p h =
+      elim (shape_in xs (goes_on l after ∷ ends_at at point ∷ []) p h) [ inl k ↦ inl (shape_front xs (l ∷ []) p k) | inr k ↦ by_end k ]
     where
       by_end : HasShape (goes_on l after ∷ ends_at at point ∷ []) p → HasShape (xs ++ l ∷ []) p ⊎ (p ≡ after) ⊎ (p ≡ point)
       by_end (inl h) = inl (shape_end xs (l ∷ []) p (inl h))
@@ -96,27 +101,39 @@ module _ {P : Type 0} (shape : ShapeOf P) where
   left_worth : (xs : List (Knot P)) (p l : Knot P) (after : P) (at : Frac) (point : P) (t : Rational) (v : Extended) → time p <ʳ time l
       → value_at (shape.function p.after) (time l) ≈ᵉ value_at (shape.function l.point) (time l) → AreSame (shape.function p.after) (shape.function after)
       → IsWorth shape (xs ++ p ∷ ends_at at point ∷ []) t v
-      → IsWorth shape (xs ++ p ∷ l ∷ []) t v ⊎ ((stop (xs ++ p ∷ l ∷ []) <ʳ t) × (t <ʳ value at) × Passes (shape.function after) t v) ⊎ ((t ≈ value at) × Passes (shape.function point) t v)
-  left_worth xs p l after at point t v order here on h = elim (worth_in shape xs p p (ends_at at point ∷ []) (l ∷ []) t v refl h) [ inl k ↦ inl k | inr k ↦ by_end k ]
+      → IsWorth shape (xs ++ p ∷ l ∷ []) t v ⊎ ((stop (xs ++ p ∷ l ∷ []) <ʳ t) × (t <ʳ value at) × Passes (shape.function after) t v)
+      ⊎ ((t ≈ value at) × Passes (shape.function point) t v)
+  left_worth xs p l after at point t v order here on h =
+      elim (worth_in shape xs p p (ends_at at point ∷ []) (l ∷ []) t v refl h) [ inl k ↦ inl k | inr k ↦ by_end k ]
     where
-      old : IsWorth shape (p ∷ l ∷ []) t v → IsWorth shape (xs ++ p ∷ l ∷ []) t v ⊎ ((stop (xs ++ p ∷ l ∷ []) <ʳ t) × (t <ʳ value at) × Passes (shape.function after) t v) ⊎ ((t ≈ value at) × Passes (shape.function point) t v)
+      old : IsWorth shape (p ∷ l ∷ []) t v → IsWorth shape (xs ++ p ∷ l ∷ []) t v
+          ⊎ ((stop (xs ++ p ∷ l ∷ []) <ʳ t) × (t <ʳ value at) × Passes (shape.function after) t v) ⊎ ((t ≈ value at) × Passes (shape.function point) t v)
       old k = inl (worth_end shape xs (p ∷ l ∷ []) t v k)
 
       by_order : IsBetween shape p (ends_at at point) t v → (t <ʳ time l) ⊎ (t ≈ time l) ⊎ (time l <ʳ t)
-          → IsWorth shape (xs ++ p ∷ l ∷ []) t v ⊎ ((stop (xs ++ p ∷ l ∷ []) <ʳ t) × (t <ʳ value at) × Passes (shape.function after) t v) ⊎ ((t ≈ value at) × Passes (shape.function point) t v)
+          → IsWorth shape (xs ++ p ∷ l ∷ []) t v ⊎ ((stop (xs ++ p ∷ l ∷ []) <ʳ t) × (t <ʳ value at) × Passes (shape.function after) t v)
+          ⊎ ((t ≈ value at) × Passes (shape.function point) t v)
       by_order h (inl b) = old (inr (inl (record { after = h.after; before = b; worth = h.worth })))
       by_order h (inr (inl e)) =
           old (inr (inr (inl (record {
             when = e;
             worth = same_transᵉ v (value_at (shape.function p.after) t) (value_at (shape.function l.point) t) h.worth
-                (same_transᵉ (value_at (shape.function p.after) t) (value_at (shape.function p.after) (time l)) (value_at (shape.function l.point) t) (value_same (shape.function p.after) e)
-                (same_transᵉ (value_at (shape.function p.after) (time l)) (value_at (shape.function l.point) (time l)) (value_at (shape.function l.point) t) here (value_same (shape.function l.point) (same_sym e))));
+                (same_transᵉ (value_at (shape.function p.after) t) (value_at (shape.function p.after) (time l)) (value_at (shape.function l.point) t)
+                (value_same (shape.function p.after) e)
+                (same_transᵉ (value_at (shape.function p.after) (time l)) (value_at (shape.function l.point) (time l))
+                (value_at (shape.function l.point) t) here (value_same (shape.function l.point) (same_sym e))));
           }))))
       by_order h (inr (inr b)) =
-          inr (inl (subst (λ s. s <ʳ t) (sym (stop_end xs p (l ∷ []))) b, h.before, same_transᵉ v (value_at (shape.function p.after) t) (value_at (shape.function after) t) h.worth (on t)))
+          inr (inl (
+            subst (λ s. s <ʳ t) (sym (stop_end xs p (l ∷ []))) b,
+            h.before,
+            same_transᵉ v (value_at (shape.function p.after) t)
+                (value_at (shape.function after) t) h.worth (on t),
+          ))
 
       by_end : IsWorth shape (p ∷ ends_at at point ∷ []) t v
-          → IsWorth shape (xs ++ p ∷ l ∷ []) t v ⊎ ((stop (xs ++ p ∷ l ∷ []) <ʳ t) × (t <ʳ value at) × Passes (shape.function after) t v) ⊎ ((t ≈ value at) × Passes (shape.function point) t v)
+          → IsWorth shape (xs ++ p ∷ l ∷ []) t v ⊎ ((stop (xs ++ p ∷ l ∷ []) <ʳ t) × (t <ʳ value at) × Passes (shape.function after) t v)
+          ⊎ ((t ≈ value at) × Passes (shape.function point) t v)
       by_end (inl h) = old (inl h)
       by_end (inr (inl h)) = by_order h (lt_or_same_or_gt t (time l))
       by_end (inr (inr (inl h))) = inr (inr (h.when, h.worth))
@@ -125,9 +142,11 @@ module _ {P : Type 0} (shape : ShapeOf P) where
 
   worth_left : (xs : List (Knot P)) (p l : Knot P) (after : P) (at : Frac) (point : P) (t : Rational) (v : Extended) → time p <ʳ time l → time l <ʳ value at
       → value_at (shape.function p.after) (time l) ≈ᵉ value_at (shape.function l.point) (time l) → AreSame (shape.function p.after) (shape.function after)
-      → IsWorth shape (xs ++ p ∷ l ∷ []) t v ⊎ ((stop (xs ++ p ∷ l ∷ []) <ʳ t) × (t <ʳ value at) × Passes (shape.function after) t v) ⊎ ((t ≈ value at) × Passes (shape.function point) t v)
+      → IsWorth shape (xs ++ p ∷ l ∷ []) t v ⊎ ((stop (xs ++ p ∷ l ∷ []) <ʳ t) × (t <ʳ value at) × Passes (shape.function after) t v)
+      ⊎ ((t ≈ value at) × Passes (shape.function point) t v)
       → IsWorth shape (xs ++ p ∷ ends_at at point ∷ []) t v
-  worth_left xs p l after at point t v order later here on (inl h) = elim (worth_in shape xs p p (l ∷ []) (ends_at at point ∷ []) t v refl h) [ inl k ↦ k | inr k ↦ by_end k ]
+  worth_left xs p l after at point t v order later here on (inl h) =
+      elim (worth_in shape xs p p (l ∷ []) (ends_at at point ∷ []) t v refl h) [ inl k ↦ k | inr k ↦ by_end k ]
     where
       between : (t <ʳ value at) → (time p <ʳ t) → Passes (shape.function p.after) t v → IsWorth shape (xs ++ p ∷ ends_at at point ∷ []) t v
       between b a w = worth_end shape xs (p ∷ ends_at at point ∷ []) t v (inr (inl (record { after = a; before = b; worth = w })))
@@ -138,20 +157,28 @@ module _ {P : Type 0} (shape : ShapeOf P) where
       by_end (inr (inr (inl h))) =
           between (lt_of_le_of_lt (le_of_same h.when) later) (lt_of_lt_of_le order (ge_of_same h.when))
           (same_transᵉ v (value_at (shape.function l.point) t) (value_at (shape.function p.after) t) h.worth
-          (same_transᵉ (value_at (shape.function l.point) t) (value_at (shape.function l.point) (time l)) (value_at (shape.function p.after) t) (value_same (shape.function l.point) h.when)
+          (same_transᵉ (value_at (shape.function l.point) t) (value_at (shape.function l.point) (time l)) (value_at (shape.function p.after) t)
+          (value_same (shape.function l.point) h.when)
           (same_transᵉ (value_at (shape.function l.point) (time l)) (value_at (shape.function p.after) (time l)) (value_at (shape.function p.after) t)
-          (same_symᵉ (value_at (shape.function p.after) (time l)) (value_at (shape.function l.point) (time l)) here) (value_same (shape.function p.after) (same_sym h.when)))))
+          (same_symᵉ (value_at (shape.function p.after) (time l)) (value_at (shape.function l.point) (time l)) here)
+          (value_same (shape.function p.after) (same_sym h.when)))))
       by_end (inr (inr (inr (inl h)))) = absurd h
       by_end (inr (inr (inr (inr h)))) = absurd h
   worth_left xs p l after at point t v order later here on (inr (inl h)) =
       worth_end shape xs (p ∷ ends_at at point ∷ []) t v
-      (inr (inl (record { after = lt_trans order (subst (λ s. s <ʳ t) (stop_end xs p (l ∷ [])) h.0); before = h.1; worth = same_transᵉ v (value_at (shape.function after) t) (value_at (shape.function p.after) t) h.2 (same_symᵉ (value_at (shape.function p.after) t) (value_at (shape.function after) t) (on t)) })))
+      (inr (inl (record {
+        after = lt_trans order (subst (λ s. s <ʳ t) (stop_end xs p (l ∷ [])) h.0);
+        before = h.1;
+        worth = same_transᵉ v (value_at (shape.function after) t) (value_at (shape.function p.after) t) h.2
+            (same_symᵉ (value_at (shape.function p.after) t) (value_at (shape.function after) t) (on t));
+      })))
   worth_left xs p l after at point t v order later here on (inr (inr h)) =
       worth_end shape xs (p ∷ ends_at at point ∷ []) t v (inr (inr (inl (record { when = h.0; worth = h.1 }))))
 
   left_shapes : (xs : List (Knot P)) (p l : Knot P) (after : P) (at : Frac) (point q : P) → HasShape (xs ++ p ∷ ends_at at point ∷ []) q
       → HasShape (xs ++ p ∷ l ∷ []) q ⊎ (q ≡ after) ⊎ (q ≡ point)
-  left_shapes xs p l after at point q h = elim (shape_in xs (p ∷ ends_at at point ∷ []) q h) [ inl k ↦ inl (shape_front xs (p ∷ l ∷ []) q k) | inr k ↦ by_end k ]
+  left_shapes xs p l after at point q h =
+      elim (shape_in xs (p ∷ ends_at at point ∷ []) q h) [ inl k ↦ inl (shape_front xs (p ∷ l ∷ []) q k) | inr k ↦ by_end k ]
     where
       by_end : HasShape (p ∷ ends_at at point ∷ []) q → HasShape (xs ++ p ∷ l ∷ []) q ⊎ (q ≡ after) ⊎ (q ≡ point)
       by_end (inl h) = inl (shape_end xs (p ∷ l ∷ []) q (inl h))
@@ -181,29 +208,40 @@ module _ {P : Type 0} (shape : ShapeOf P) where
 
   -- the three cases, by the places in the list
   pub step_first : (old new : List (Knot P)) (after : P) (at : Frac) (point : P) → length old ≡ 1 → stop old <ʳ value at
-      → ((front : List (Knot P)) (last : Knot P) → old ≡ front ++ last ∷ [] → new ≡ front ++ goes_on last after ∷ ends_at at point ∷ []) → GoesOn shape old after at point new
+      → ((front : List (Knot P)) (last : Knot P) → old ≡ front ++ last ∷ [] → new ≡ front ++ goes_on last after ∷ ends_at at point ∷ [])
+      → GoesOn shape old after at point new
   step_first [] new after at point count later put = absurd (omega (arith, count))
-  step_first (l ∷ []) new after at point count later put = subst (GoesOn shape (l ∷ []) after at point) (sym (put [] l refl)) (first_kept l after at point later)
+  step_first (l ∷ []) new after at point count later put = subst (GoesOn shape (l ∷ []) after at point) (sym (put [] l refl))
+      (first_kept l after at point later)
   step_first (l ∷ m ∷ ks) new after at point count later put = absurd (omega (arith, count))
 
-  split_last : (old : List (Knot P)) (n : ℕ) (p l : Knot P) → length old ≡ n + 2 → p ≡ get_or old n p → l ≡ get_or old (n + 1) l → old ≡ (take n old ++ p ∷ []) ++ l ∷ []
+  split_last : (old : List (Knot P)) (n : ℕ) (p l : Knot P) → length old ≡ n + 2 → p ≡ get_or old n p → l ≡ get_or old (n + 1) l
+      → old ≡ (take n old ++ p ∷ []) ++ l ∷ []
   split_last old n p l count first second = split_two old n p l count first second ∙ sym (append_assoc (take n old) (p ∷ []) (l ∷ []))
 
   last_time : (xs : List (Knot P)) (p l : Knot P) (at : Frac) → stop (xs ++ p ∷ l ∷ []) <ʳ value at → time l <ʳ value at
   last_time xs p l at h = subst (λ s. s <ʳ value at) (stop_end xs p (l ∷ [])) h
 
-  pub step_kept : (old new : List (Knot P)) (n : ℕ) (p l : Knot P) (after : P) (at : Frac) (point : P) → length old ≡ n + 2 → p ≡ get_or old n p → l ≡ get_or old (n + 1) l
+  -- where the last knot is needed
+  pub step_kept : (old new : List (Knot P)) (n : ℕ) (p l : Knot P) (after : P) (at : Frac) (point : P) → length old ≡ n + 2 → p ≡ get_or old n p
+      → l ≡ get_or old (n + 1) l
       → Each (IsKnot shape) old → stop old <ʳ value at
       → ¬ ((value_at (shape.function p.after) (time l) ≈ᵉ value_at (shape.function l.point) (time l)) × AreSame (shape.function p.after) (shape.function after))
-      → ((front : List (Knot P)) (last : Knot P) → old ≡ front ++ last ∷ [] → new ≡ front ++ goes_on last after ∷ ends_at at point ∷ []) → GoesOn shape old after at point new
+      → ((front : List (Knot P)) (last : Knot P) → old ≡ front ++ last ∷ [] → new ≡ front ++ goes_on last after ∷ ends_at at point ∷ [])
+      → GoesOn shape old after at point new
   step_kept old new n p l after at point count first second each later not_spare put =
       let e = split_two old n p l count first second in
       subst (λ ks. GoesOn shape ks after at point new) (sym e)
-      (subst (GoesOn shape (take n old ++ p ∷ l ∷ []) after at point) (sym (put (take n old ++ p ∷ []) l (split_last old n p l count first second) ∙ append_assoc (take n old) (p ∷ []) (goes_on l after ∷ ends_at at point ∷ [])))
-      (last_kept (take n old) p l after at point (subst (Each (IsKnot shape)) e each) (last_time (take n old) p l at (subst (λ ks. stop ks <ʳ value at) e later))
+      (subst (GoesOn shape (take n old ++ p ∷ l ∷ []) after at point)
+      (sym (put (take n old ++ p ∷ []) l (split_last old n p l count first second) ∙ append_assoc (take n old) (p ∷ [])
+      (goes_on l after ∷ ends_at at point ∷ [])))
+      (last_kept (take n old) p l after at point (subst (Each (IsKnot shape)) e each)
+      (last_time (take n old) p l at (subst (λ ks. stop ks <ʳ value at) e later))
       (λ spare. not_spare (spare.here, spare.on))))
 
-  pub step_left : (old : List (Knot P)) (n m : ℕ) (p l : Knot P) (after : P) (at : Frac) (point : P) → length old ≡ n + 2 → m ≡ n + 1 → p ≡ get_or old n p → l ≡ get_or old m l
+  -- and where it leaves
+  pub step_left : (old : List (Knot P)) (n m : ℕ) (p l : Knot P) (after : P) (at : Frac) (point : P) → length old ≡ n + 2 → m ≡ n + 1
+      → p ≡ get_or old n p → l ≡ get_or old m l
       → Each (IsKnot shape) old → stop old <ʳ value at
       → (value_at (shape.function p.after) (time l) ≈ᵉ value_at (shape.function l.point) (time l)) × AreSame (shape.function p.after) (shape.function after)
       → GoesOn shape old after at point (set old m (ends_at at point))
@@ -213,8 +251,10 @@ module _ {P : Type 0} (shape : ShapeOf P) where
       let e = split_two old n p l count first second in
       let place : length (take n old ++ p ∷ []) ≡ n + 1 = omega (arith, length-append (take n old) (p ∷ []), length-take n old, count) in
       let new : set old (n + 1) (ends_at at point) ≡ take n old ++ p ∷ ends_at at point ∷ [] =
-      ap (λ ks. set ks (n + 1) (ends_at at point)) (split_last old n p l count first second) ∙ set_at (take n old ++ p ∷ []) l [] (ends_at at point) (n + 1) place
+      ap (λ ks. set ks (n + 1) (ends_at at point)) (split_last old n p l count first second) ∙ set_at (take n old ++ p ∷ []) l [] (ends_at at point)
+      (n + 1) place
       ∙ append_assoc (take n old) (p ∷ []) (ends_at at point ∷ []) in
       subst (λ ks. GoesOn shape ks after at point (set old (n + 1) (ends_at at point))) (sym e)
       (subst (GoesOn shape (take n old ++ p ∷ l ∷ []) after at point) (sym new)
-      (last_left_out (take n old) p l after at point (subst (Each (IsKnot shape)) e each) (last_time (take n old) p l at (subst (λ ks. stop ks <ʳ value at) e later)) spare.0 spare.1)))
+      (last_left_out (take n old) p l after at point (subst (Each (IsKnot shape)) e each)
+      (last_time (take n old) p l at (subst (λ ks. stop ks <ʳ value at) e later)) spare.0 spare.1)))

@@ -32,17 +32,25 @@ module _ {P : Type 0} (shape : ShapeOf P) where
   cut_end_worth : (p n : Knot P) (ns : List (Knot P)) (to : Frac) (last : P) (t : Rational) (v : Extended) → time p <ʳ time n → IsCutBefore p n to last
       → IsWorth shape (p ∷ ends_at to last ∷ []) t v → IsWorth shape (p ∷ n ∷ ns) t v
   cut_end_worth p n ns to last t v h c (inl w) = inl w
-  cut_end_worth p n ns to last t v h (inl c) (inr (inl w)) = inr (inl (record { after = w.after; before = lt_of_lt_of_le w.before (le_of_same c.0); worth = w.worth }))
-  cut_end_worth p n ns to last t v h (inr c) (inr (inl w)) = inr (inl (record { after = w.after; before = lt_of_lt_of_le w.before (le_of_lt c.1); worth = w.worth }))
-  cut_end_worth p n ns to last t v h (inl c) (inr (inr (inl w))) = inr (inr (inl (record { when = same_trans w.when c.0; worth = subst (λ p. Passes (shape.function p) t v) c.1 w.worth })))
+  cut_end_worth p n ns to last t v h (inl c) (inr (inl w)) =
+      inr (inl (record { after = w.after; before = lt_of_lt_of_le w.before (le_of_same c.0); worth = w.worth }))
+  cut_end_worth p n ns to last t v h (inr c) (inr (inl w)) =
+      inr (inl (record { after = w.after; before = lt_of_lt_of_le w.before (le_of_lt c.1); worth = w.worth }))
+  cut_end_worth p n ns to last t v h (inl c) (inr (inr (inl w))) =
+      inr (inr (inl (record { when = same_trans w.when c.0; worth = subst (λ p. Passes (shape.function p) t v) c.1 w.worth })))
   cut_end_worth p n ns to last t v h (inr c) (inr (inr (inl w))) =
-      inr (inl (record { after = lt_of_lt_of_le c.0 (ge_of_same w.when); before = lt_of_le_of_lt (le_of_same w.when) c.1; worth = subst (λ p. Passes (shape.function p) t v) c.2 w.worth }))
+      inr (inl (record {
+        after = lt_of_lt_of_le c.0 (ge_of_same w.when);
+        before = lt_of_le_of_lt (le_of_same w.when) c.1;
+        worth = subst (λ p. Passes (shape.function p) t v) c.2 w.worth;
+      }))
   cut_end_worth p n ns to last t v h c (inr (inr (inr (inl w)))) = absurd w
   cut_end_worth p n ns to last t v h c (inr (inr (inr (inr w)))) = absurd w
 
   -- cut at its end
   pub cut_end : (xs : List (Knot P)) (p n : Knot P) (ns : List (Knot P)) (to : Frac) (last : P) → IsSignal shape (xs ++ p ∷ n ∷ ns) → IsCutBefore p n to last
-      → IsSignal shape (xs ++ p ∷ ends_at to last ∷ []) × ((t : Rational) (v : Extended) → IsWorth shape (xs ++ p ∷ ends_at to last ∷ []) t v → IsWorth shape (xs ++ p ∷ n ∷ ns) t v)
+      → IsSignal shape (xs ++ p ∷ ends_at to last ∷ [])
+      × ((t : Rational) (v : Extended) → IsWorth shape (xs ++ p ∷ ends_at to last ∷ []) t v → IsWorth shape (xs ++ p ∷ n ∷ ns) t v)
       × ((q : P) → HasShape (xs ++ p ∷ ends_at to last ∷ []) q → HasShape (xs ++ p ∷ n ∷ ns) q)
   cut_end xs p n ns to last s c = (
     record {
@@ -50,7 +58,8 @@ module _ {P : Type 0} (shape : ShapeOf P) where
       each = replaced_end shape xs p n (ends_at to last) ns [] s.each
           (record { rising = before_cut p n to last order c; needed = tt; ends = tt }, (record { rising = tt; needed = tt; ends = refl }, tt));
     },
-    (λ t v w. elim (worth_in shape xs p p (ends_at to last ∷ []) (n ∷ ns) t v refl w) [ inl k ↦ k | inr k ↦ worth_end shape xs (p ∷ n ∷ ns) t v (cut_end_worth p n ns to last t v order c k) ]),
+    (λ t v w. elim (worth_in shape xs p p (ends_at to last ∷ []) (n ∷ ns) t v refl w)
+        [ inl k ↦ k | inr k ↦ worth_end shape xs (p ∷ n ∷ ns) t v (cut_end_worth p n ns to last t v order c k) ]),
     λ q h. elim (shape_in xs (p ∷ ends_at to last ∷ []) q h) [ inl k ↦ shape_front xs (p ∷ n ∷ ns) q k | inr k ↦ shape_end xs (p ∷ n ∷ ns) q (by_end q k c) ],
   )
     where
@@ -73,16 +82,25 @@ module _ {P : Type 0} (shape : ShapeOf P) where
 
   cut_start_worth : (k b : Knot P) (bs : List (Knot P)) (from : Frac) (first : P) (t : Rational) (v : Extended) → value from <ʳ time b → StandsFrom k from first
       → IsWorth shape (begins_at k from first ∷ b ∷ bs) t v → IsWorth shape (k ∷ b ∷ bs) t v
-  cut_start_worth k b bs from first t v h (inl c) (inl w) = inl (record { when = same_trans w.when (same_sym c.0); worth = subst (λ p. Passes (shape.function p) t v) c.1 w.worth })
+  cut_start_worth k b bs from first t v h (inl c) (inl w) =
+      inl (record { when = same_trans w.when (same_sym c.0); worth = subst (λ p. Passes (shape.function p) t v) c.1 w.worth })
   cut_start_worth k b bs from first t v h (inr c) (inl w) =
-      inr (inl (record { after = lt_of_lt_of_le c.0 (ge_of_same w.when); before = lt_of_le_of_lt (le_of_same w.when) h; worth = subst (λ p. Passes (shape.function p) t v) c.1 w.worth }))
-  cut_start_worth k b bs from first t v h (inl c) (inr (inl w)) = inr (inl (record { after = lt_of_le_of_lt (le_of_same c.0) w.after; before = w.before; worth = w.worth }))
-  cut_start_worth k b bs from first t v h (inr c) (inr (inl w)) = inr (inl (record { after = lt_of_lt_of_le c.0 (le_of_lt w.after); before = w.before; worth = w.worth }))
+      inr (inl (record {
+        after = lt_of_lt_of_le c.0 (ge_of_same w.when);
+        before = lt_of_le_of_lt (le_of_same w.when) h;
+        worth = subst (λ p. Passes (shape.function p) t v) c.1 w.worth;
+      }))
+  cut_start_worth k b bs from first t v h (inl c) (inr (inl w)) =
+      inr (inl (record { after = lt_of_le_of_lt (le_of_same c.0) w.after; before = w.before; worth = w.worth }))
+  cut_start_worth k b bs from first t v h (inr c) (inr (inl w)) =
+      inr (inl (record { after = lt_of_lt_of_le c.0 (le_of_lt w.after); before = w.before; worth = w.worth }))
   cut_start_worth k b bs from first t v h c (inr (inr w)) = inr (inr w)
 
   -- cut at its start
-  pub cut_start : (xs : List (Knot P)) (k b : Knot P) (bs : List (Knot P)) (from : Frac) (first : P) → IsSignal shape (xs ++ k ∷ b ∷ bs) → value from <ʳ time b → StandsFrom k from first
-      → IsSignal shape (begins_at k from first ∷ b ∷ bs) × ((t : Rational) (v : Extended) → IsWorth shape (begins_at k from first ∷ b ∷ bs) t v → IsWorth shape (xs ++ k ∷ b ∷ bs) t v)
+  pub cut_start : (xs : List (Knot P)) (k b : Knot P) (bs : List (Knot P)) (from : Frac) (first : P) → IsSignal shape (xs ++ k ∷ b ∷ bs)
+      → value from <ʳ time b → StandsFrom k from first
+      → IsSignal shape (begins_at k from first ∷ b ∷ bs)
+      × ((t : Rational) (v : Extended) → IsWorth shape (begins_at k from first ∷ b ∷ bs) t v → IsWorth shape (xs ++ k ∷ b ∷ bs) t v)
       × ((q : P) → HasShape (begins_at k from first ∷ b ∷ bs) q → HasShape (xs ++ k ∷ b ∷ bs) q)
   cut_start xs k b bs from first s h c = (
     record { some = some_in_end [] (begins_at k from first) (b ∷ bs); each = (record { rising = h; needed = needed_as bs each.0.needed; ends = tt }, each.1) },
@@ -109,18 +127,21 @@ module _ {P : Type 0} (shape : ShapeOf P) where
       → IsCut shape (ys ++ p ∷ n ∷ ns) from to (begins_at k from first ∷ D ++ ends_at to last ∷ [])
   cut_both xs k D p n ys ns from to first last e s order begins ends later = by_list D e later
     where
-      ended : IsSignal shape (ys ++ p ∷ ends_at to last ∷ []) × ((t : Rational) (v : Extended) → IsWorth shape (ys ++ p ∷ ends_at to last ∷ []) t v → IsWorth shape (ys ++ p ∷ n ∷ ns) t v)
+      ended : IsSignal shape (ys ++ p ∷ ends_at to last ∷ [])
+          × ((t : Rational) (v : Extended) → IsWorth shape (ys ++ p ∷ ends_at to last ∷ []) t v → IsWorth shape (ys ++ p ∷ n ∷ ns) t v)
           × ((q : P) → HasShape (ys ++ p ∷ ends_at to last ∷ []) q → HasShape (ys ++ p ∷ n ∷ ns) q)
       ended = cut_end ys p n ns to last s ends
 
       whole_is : (D : List (Knot P)) → xs ++ k ∷ D ≡ ys ++ p ∷ [] → ys ++ p ∷ ends_at to last ∷ [] ≡ xs ++ (k ∷ D ++ ends_at to last ∷ [])
-      whole_is D e = sym (append_assoc ys (p ∷ []) (ends_at to last ∷ [])) ∙ ap (λ ks. ks ++ ends_at to last ∷ []) (sym e) ∙ append_assoc xs (k ∷ D) (ends_at to last ∷ [])
+      whole_is D e = sym (append_assoc ys (p ∷ []) (ends_at to last ∷ [])) ∙ ap (λ ks. ks ++ ends_at to last ∷ []) (sym e) ∙ append_assoc xs (k ∷ D)
+          (ends_at to last ∷ [])
 
       by_start : (b : Knot P) (bs : List (Knot P)) → ys ++ p ∷ ends_at to last ∷ [] ≡ xs ++ k ∷ b ∷ bs → value from <ʳ time b → stop (b ∷ bs) ≡ value to
           → IsCut shape (ys ++ p ∷ n ∷ ns) from to (begins_at k from first ∷ b ∷ bs)
       by_start b bs same h stops =
           let started = cut_start xs k b bs from first (subst (IsSignal shape) same ended.0) h begins in record {
-            tells = told_alike shape (ys ++ p ∷ n ∷ ns) (begins_at k from first ∷ b ∷ bs) (value from) (value to) s started.0 (same_refl (value from)) (subst (λ u. stop (b ∷ bs) ≈ u) stops (same_refl (stop (b ∷ bs))))
+            tells = told_alike shape (ys ++ p ∷ n ∷ ns) (begins_at k from first ∷ b ∷ bs) (value from) (value to) s started.0 (same_refl (value from))
+                (subst (λ u. stop (b ∷ bs) ≈ u) stops (same_refl (stop (b ∷ bs))))
                 (λ t v w. ended.1 t v (subst (λ ks. IsWorth shape ks t v) (sym same) (started.1 t v w)));
             shapes = λ q h. ended.2 q (subst (λ ks. HasShape ks q) (sym same) (started.2 q h));
           }
@@ -152,7 +173,8 @@ module _ {P : Type 0} (shape : ShapeOf P) where
       (λ b bs h. later b (first_of ks (i + 1) (d + 1 - (i + 1)) b bs (sym middle_is ∙ h)))))
     where
       middle_is : drop (i + 1) (take (d + 1) ks) ≡ slice_range ks (i + 1) (d + 1)
-      middle_is = let e : d + 1 ≡ (i + 1) + (d + 1 - (i + 1)) = omega (arith, le) in ap (λ m. drop (i + 1) (take m ks)) e ∙ drop-take (i + 1) (d + 1 - (i + 1)) ks
+      middle_is = let e : d + 1 ≡ (i + 1) + (d + 1 - (i + 1)) = omega (arith, le) in
+          ap (λ m. drop (i + 1) (take m ks)) e ∙ drop-take (i + 1) (d + 1 - (i + 1)) ks
 
       ks_is : ks ≡ take d ks ++ p ∷ n ∷ drop (d + 1 + 1) ks
       ks_is = sym (take-append-drop d ks) ∙ ap (λ os. take d ks ++ os) (drop_more ks d p (omega (arith, more)) ∙ ap (λ q. q ∷ drop (d + 1) ks) (sym at_d)
@@ -162,15 +184,18 @@ module _ {P : Type 0} (shape : ShapeOf P) where
       count = omega (arith, length-take (d + 1) ks, more)
 
       front_is : take (d + 1) ks ≡ take i (take (d + 1) ks) ++ k ∷ drop (i + 1) (take (d + 1) ks)
-      front_is = sym (take-append-drop i (take (d + 1) ks)) ∙ ap (λ os. take i (take (d + 1) ks) ++ os) (drop_more (take (d + 1) ks) i k (omega (arith, count, le))
+      front_is = sym (take-append-drop i (take (d + 1) ks)) ∙ ap (λ os. take i (take (d + 1) ks) ++ os)
+          (drop_more (take (d + 1) ks) i k (omega (arith, count, le))
           ∙ ap (λ q. q ∷ drop (i + 1) (take (d + 1) ks)) (get_or-take (d + 1) ks i k (omega (arith, le)) ∙ sym at_i))
 
       front_too : take (d + 1) ks ≡ take d ks ++ p ∷ []
       front_too = take_more ks d p (omega (arith, more)) ∙ ap (λ q. take d ks ++ q ∷ []) (sym at_d)
 
   -- one instant
-  pub cut_instant : (ks : List (Knot P)) (i : ℕ) (k : Knot P) (from to : Frac) (first : P) → IsSignal shape ks → i < length ks → k ≡ get_or ks i k → value from ≈ value to
-      → value from ≤ʳ stop ks → StandsFrom k from first → ((b : Knot P) → slice_get ks (i + 1) ≡ Some b → value from <ʳ time b) → IsCut shape ks from to (ends_at from first ∷ [])
+  pub cut_instant : (ks : List (Knot P)) (i : ℕ) (k : Knot P) (from to : Frac) (first : P) → IsSignal shape ks → i < length ks → k ≡ get_or ks i k
+      → value from ≈ value to
+      → value from ≤ʳ stop ks → StandsFrom k from first → ((b : Knot P) → slice_get ks (i + 1) ≡ Some b → value from <ʳ time b)
+      → IsCut shape ks from to (ends_at from first ∷ [])
   cut_instant ks i k from to first s inside at_i same last begins later = record {
     tells = told_alike shape ks (ends_at from first ∷ []) (value from) (value to) s
         (record { some = omega arith; each = (record { rising = tt; needed = tt; ends = refl }, tt) }) (same_refl (value from)) same by_worth;
@@ -183,7 +208,8 @@ module _ {P : Type 0} (shape : ShapeOf P) where
       more : time k <ʳ value from → i + 1 < length ks
       more h = elim (cases_lt (i + 1) (length ks)) as (λ v. i + 1 < length ks) [
         | inl l ↦ l
-        | inr l ↦ absurd (read_none shape ks i k (value from) here (omega (arith, l, inside)) h (record { above = le_trans (start_first shape ks i k s.each here) (le_of_lt h); below = last }))
+        | inr l ↦ absurd (read_none shape ks i k (value from) here (omega (arith, l, inside)) h
+            (record { above = le_trans (start_first shape ks i k s.each here) (le_of_lt h); below = last }))
       ]
 
       reading : StandsFrom k from first → IsReading shape ks (value from) first
@@ -192,7 +218,9 @@ module _ {P : Type 0} (shape : ShapeOf P) where
 
       by_worth : (t : Rational) (v : Extended) → IsWorth shape (ends_at from first ∷ []) t v → IsWorth shape ks t v
       by_worth t v (inl w) = worth_same shape ks (value_at (shape.function first) (value from)) v (same_sym w.when)
-          (same_symᵉ v (value_at (shape.function first) (value from)) (same_transᵉ v (value_at (shape.function first) t) (value_at (shape.function first) (value from)) w.worth (value_same (shape.function first) w.when))) (reading begins).2
+          (same_symᵉ v (value_at (shape.function first) (value from))
+          (same_transᵉ v (value_at (shape.function first) t) (value_at (shape.function first) (value from)) w.worth
+          (value_same (shape.function first) w.when))) (reading begins).2
       by_worth t v (inr (inl w)) = absurd w
       by_worth t v (inr (inr w)) = absurd w
 
@@ -202,14 +230,16 @@ module _ {P : Type 0} (shape : ShapeOf P) where
       by_shape b q (inr (inr h)) = absurd h
 
   -- a place after which the time still comes has a knot behind it
-  pub not_last : (ks : List (Knot P)) (j : ℕ) (k : Knot P) (to : Rational) → slice_get ks j ≡ Some k → j < length ks → to ≤ʳ stop ks → time k <ʳ to → j + 1 < length ks
+  pub not_last : (ks : List (Knot P)) (j : ℕ) (k : Knot P) (to : Rational) → slice_get ks j ≡ Some k → j < length ks → to ≤ʳ stop ks → time k <ʳ to
+      → j + 1 < length ks
   not_last ks j k to here inside last h = elim (cases_lt (j + 1) (length ks)) as (λ v. j + 1 < length ks) [
     | inl l ↦ l
     | inr l ↦ absurd (not_lt_of_le (subst (λ s. to ≤ʳ s) (stop_at shape ks j k here (slice_get_past ks (j + 1) l)) last) h)
   ]
 
   -- an earlier knot has an earlier place
-  pub place_before : (ks : List (Knot P)) (i j : ℕ) (k n : Knot P) → Each (IsKnot shape) ks → slice_get ks i ≡ Some k → slice_get ks j ≡ Some n → time k <ʳ time n → i < j
+  pub place_before : (ks : List (Knot P)) (i j : ℕ) (k n : Knot P) → Each (IsKnot shape) ks → slice_get ks i ≡ Some k → slice_get ks j ≡ Some n
+      → time k <ʳ time n → i < j
   place_before ks i j k n h e f l = elim (cases_lt i j) as (λ v. i < j) [
     | inl b ↦ b
     | inr b ↦ absurd (not_lt_of_le (rising_places shape ks j i n k h f e b) l)
@@ -227,21 +257,24 @@ module _ {P : Type 0} (shape : ShapeOf P) where
       let p = get_or ks (j - 1) k in (
         before,
         subst (λ e. IsCut shape ks from to (begins_at k from first ∷ slice_range ks (i + 1) e ++ ends_at to n.point ∷ [])) place
-            (cut_places ks i (j - 1) k p n from to first n.point s (omega (arith, before)) (omega (arith, before, in_j)) at_i (get_or_default ks (j - 1) k p (omega (arith, in_j)))
+            (cut_places ks i (j - 1) k p n from to first n.point s (omega (arith, before)) (omega (arith, before, in_j)) at_i
+            (get_or_default ks (j - 1) k p (omega (arith, in_j)))
             (subst (λ e. n ≡ get_or ks e n) (sym place) at_j) order stands (inl (same_sym here, refl)) later),
       )
 
   -- where it ends after a knot
   pub cut_after_knot : (ks : List (Knot P)) (i j : ℕ) (k n : Knot P) (from to : Frac) (first : P) → IsSignal shape ks → i < length ks → j < length ks
       → k ≡ get_or ks i k → n ≡ get_or ks j n → value from <ʳ value to → time k ≤ʳ value from → StandsFrom k from first
-      → ((b : Knot P) → slice_get ks (i + 1) ≡ Some b → value from <ʳ time b) → time n <ʳ value to → ((b : Knot P) → slice_get ks (j + 1) ≡ Some b → value to <ʳ time b) → value to ≤ʳ stop ks
+      → ((b : Knot P) → slice_get ks (i + 1) ≡ Some b → value from <ʳ time b) → time n <ʳ value to
+      → ((b : Knot P) → slice_get ks (j + 1) ≡ Some b → value to <ʳ time b) → value to ≤ʳ stop ks
       → (i ≤ j) × (j + 1 < length ks) × IsCut shape ks from to (begins_at k from first ∷ slice_range ks (i + 1) (j + 1) ++ ends_at to n.after ∷ [])
   cut_after_knot ks i j k n from to first s in_i in_j at_i at_j order not_later stands later before_to after_to last =
       let here = slice_get_read ks (length ks) j n refl in_j at_j in
       let more = not_last ks j n (value to) here in_j last before_to in
       let m = get_or ks (j + 1) k in
       let next = slice_get-get_or ks (j + 1) k more in
-      let before = place_before ks i (j + 1) k m s.each (slice_get_read ks (length ks) i k refl in_i at_i) next (lt_of_le_of_lt not_later (lt_of_lt_of_le order (le_of_lt (after_to m next)))) in (
+      let before = place_before ks i (j + 1) k m s.each (slice_get_read ks (length ks) i k refl in_i at_i) next
+      (lt_of_le_of_lt not_later (lt_of_lt_of_le order (le_of_lt (after_to m next)))) in (
         omega (arith, before),
         more,
         cut_places ks i j k n m from to first n.after s (omega (arith, before)) more at_i at_j (get_or_default ks (j + 1) k m more) order stands

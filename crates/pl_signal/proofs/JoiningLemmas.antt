@@ -22,17 +22,22 @@ module _ {P : Type 0} (shape : ShapeOf P) where
   -- a value is of the old signal, of the gap or of its end
   abbrev IsPart : Side → List (Knot P) → P → P → P → Frac → Rational → Extended → Type 0
   IsPart b old p q point to t v =
-      IsWorth shape old t v ⊎ ((stop old <ʳ t) × (t <ʳ value to) × IsChosen b (value_at (shape.function p) t) (value_at (shape.function q) t) v) ⊎ ((t ≈ value to) × Passes (shape.function point) t v)
+      IsWorth shape old t v ⊎ ((stop old <ʳ t) × (t <ʳ value to) × IsChosen b (value_at (shape.function p) t) (value_at (shape.function q) t) v)
+      ⊎ ((t ≈ value to) × Passes (shape.function point) t v)
 
   -- a shape that is taken at a time has just the chosen value there
-  taken_value : (b : Side) (p q s : P) (t : Rational) (v : Extended) → IsTakenAt shape b p q s t → Passes (shape.function s) t v → IsChosen b (value_at (shape.function p) t) (value_at (shape.function q) t) v
-  taken_value b p q s t v h w = chosen_same b (value_at (shape.function p) t) (value_at (shape.function q) t) (value_at (shape.function s) t) v (same_symᵉ v (value_at (shape.function s) t) w) h
+  taken_value : (b : Side) (p q s : P) (t : Rational) (v : Extended) → IsTakenAt shape b p q s t → Passes (shape.function s) t v
+      → IsChosen b (value_at (shape.function p) t) (value_at (shape.function q) t) v
+  taken_value b p q s t v h w = chosen_same b (value_at (shape.function p) t) (value_at (shape.function q) t) (value_at (shape.function s) t) v
+      (same_symᵉ v (value_at (shape.function s) t) w) h
 
-  value_taken : (b : Side) (p q s : P) (t : Rational) (v : Extended) → IsTakenAt shape b p q s t → IsChosen b (value_at (shape.function p) t) (value_at (shape.function q) t) v → Passes (shape.function s) t v
+  value_taken : (b : Side) (p q s : P) (t : Rational) (v : Extended) → IsTakenAt shape b p q s t
+      → IsChosen b (value_at (shape.function p) t) (value_at (shape.function q) t) v → Passes (shape.function s) t v
   value_taken b p q s t v h c = chosen_one b (value_at (shape.function p) t) (value_at (shape.function q) t) v (value_at (shape.function s) t) c h
 
   -- one shape serves the whole gap
-  joins_whole : (b : Side) (old new : List (Knot P)) (p q s point : P) (to : Frac) → IsPieces shape b p q (stop old) (value to) (Whole s) → GoesOn shape old s to point new → Joins shape b old p q to point new
+  joins_whole : (b : Side) (old new : List (Knot P)) (p q s point : P) (to : Frac) → IsPieces shape b p q (stop old) (value to) (Whole s)
+      → GoesOn shape old s to point new → Joins shape b old p q to point new
   joins_whole b old new p q s point to is on = record {
     signal = on.signal;
     begins = on.begins;
@@ -41,12 +46,14 @@ module _ {P : Type 0} (shape : ShapeOf P) where
     shapes = λ r h. by_shape r (on.shapes r h);
   }
     where
-      into : (t : Rational) (v : Extended) → IsWorth shape old t v ⊎ ((stop old <ʳ t) × (t <ʳ value to) × Passes (shape.function s) t v) ⊎ ((t ≈ value to) × Passes (shape.function point) t v) → IsPart b old p q point to t v
+      into : (t : Rational) (v : Extended) → IsWorth shape old t v ⊎ ((stop old <ʳ t) × (t <ʳ value to) × Passes (shape.function s) t v)
+          ⊎ ((t ≈ value to) × Passes (shape.function point) t v) → IsPart b old p q point to t v
       into t v (inl w) = inl w
       into t v (inr (inl w)) = inr (inl (w.0, w.1, taken_value b p q s t v (is.1 t w.0 w.1) w.2))
       into t v (inr (inr w)) = inr (inr w)
 
-      back : (t : Rational) (v : Extended) → IsPart b old p q point to t v → IsWorth shape old t v ⊎ ((stop old <ʳ t) × (t <ʳ value to) × Passes (shape.function s) t v) ⊎ ((t ≈ value to) × Passes (shape.function point) t v)
+      back : (t : Rational) (v : Extended) → IsPart b old p q point to t v → IsWorth shape old t v
+          ⊎ ((stop old <ʳ t) × (t <ʳ value to) × Passes (shape.function s) t v) ⊎ ((t ≈ value to) × Passes (shape.function point) t v)
       back t v (inl w) = inl w
       back t v (inr (inl w)) = inr (inl (w.0, w.1, value_taken b p q s t v (is.1 t w.0 w.1) w.2))
       back t v (inr (inr w)) = inr (inr w)
@@ -57,7 +64,8 @@ module _ {P : Type 0} (shape : ShapeOf P) where
       by_shape r (inr (inr e)) = inr (inr (inr e))
 
   -- one shape up to a time, and the other from there on
-  joins_split : (b : Side) (old half new : List (Knot P)) (p q first second point : P) (middle to : Frac) → IsPieces shape b p q (stop old) (value to) (Split first middle second)
+  joins_split : (b : Side) (old half new : List (Knot P)) (p q first second point : P) (middle to : Frac)
+      → IsPieces shape b p q (stop old) (value to) (Split first middle second)
       → GoesOn shape old first middle first half → GoesOn shape half second to point new → Joins shape b old p q to point new
   joins_split b old half new p q first second point middle to is on on' = record {
     signal = on'.signal;
@@ -67,20 +75,27 @@ module _ {P : Type 0} (shape : ShapeOf P) where
     shapes = λ r h. by_shape r (on'.shapes r h);
   }
     where
-      by_half : (t : Rational) (v : Extended) → IsWorth shape old t v ⊎ ((stop old <ʳ t) × (t <ʳ value middle) × Passes (shape.function first) t v) ⊎ ((t ≈ value middle) × Passes (shape.function first) t v) → IsPart b old p q point to t v
+      by_half : (t : Rational) (v : Extended) → IsWorth shape old t v ⊎ ((stop old <ʳ t) × (t <ʳ value middle) × Passes (shape.function first) t v)
+          ⊎ ((t ≈ value middle) × Passes (shape.function first) t v) → IsPart b old p q point to t v
       by_half t v (inl h) = inl h
       by_half t v (inr (inl h)) = inr (inl (h.0, lt_trans h.1 is.before, taken_value b p q first t v (is.until_then t h.0 h.1) h.2))
-      by_half t v (inr (inr h)) = inr (inl (lt_of_lt_of_le is.after (ge_of_same h.0), lt_of_le_of_lt (le_of_same h.0) is.before, taken_value b p q first t v (is.there t h.0) h.1))
+      by_half t v (inr (inr h)) =
+          inr (inl (lt_of_lt_of_le is.after (ge_of_same h.0), lt_of_le_of_lt (le_of_same h.0) is.before, taken_value b p q first t v (is.there t h.0) h.1))
 
-      into : (t : Rational) (v : Extended) → IsWorth shape half t v ⊎ ((stop half <ʳ t) × (t <ʳ value to) × Passes (shape.function second) t v) ⊎ ((t ≈ value to) × Passes (shape.function point) t v) → IsPart b old p q point to t v
+      into : (t : Rational) (v : Extended) → IsWorth shape half t v ⊎ ((stop half <ʳ t) × (t <ʳ value to) × Passes (shape.function second) t v)
+          ⊎ ((t ≈ value to) × Passes (shape.function point) t v) → IsPart b old p q point to t v
       into t v (inl h) = by_half t v ((on.worth t v).0 h)
-      into t v (inr (inl h)) = let later = subst (λ s. s <ʳ t) on.ends h.0 in inr (inl (lt_trans is.after later, h.1, taken_value b p q second t v (is.from_then t later h.1) h.2))
+      into t v (inr (inl h)) = let later = subst (λ s. s <ʳ t) on.ends h.0 in
+          inr (inl (lt_trans is.after later, h.1, taken_value b p q second t v (is.from_then t later h.1) h.2))
       into t v (inr (inr h)) = inr (inr h)
 
-      by_place : (t : Rational) (v : Extended) → stop old <ʳ t → t <ʳ value to → IsChosen b (value_at (shape.function p) t) (value_at (shape.function q) t) v → (t <ʳ value middle) ⊎ (t ≈ value middle) ⊎ (value middle <ʳ t) → IsWorth shape new t v
+      by_place : (t : Rational) (v : Extended) → stop old <ʳ t → t <ʳ value to
+          → IsChosen b (value_at (shape.function p) t) (value_at (shape.function q) t) v → (t <ʳ value middle) ⊎ (t ≈ value middle)
+          ⊎ (value middle <ʳ t) → IsWorth shape new t v
       by_place t v h k c (inl l) = (on'.worth t v).1 (inl ((on.worth t v).1 (inr (inl (h, l, value_taken b p q first t v (is.until_then t h l) c)))))
       by_place t v h k c (inr (inl e)) = (on'.worth t v).1 (inl ((on.worth t v).1 (inr (inr (e, value_taken b p q first t v (is.there t e) c)))))
-      by_place t v h k c (inr (inr l)) = (on'.worth t v).1 (inr (inl (subst (λ s. s <ʳ t) (sym on.ends) l, k, value_taken b p q second t v (is.from_then t l k) c)))
+      by_place t v h k c (inr (inr l)) =
+          (on'.worth t v).1 (inr (inl (subst (λ s. s <ʳ t) (sym on.ends) l, k, value_taken b p q second t v (is.from_then t l k) c)))
 
       back : (t : Rational) (v : Extended) → IsPart b old p q point to t v → IsWorth shape new t v
       back t v (inl w) = (on'.worth t v).1 (inl ((on.worth t v).1 (inl w)))
@@ -104,46 +119,76 @@ module _ {P : Type 0} (shape : ShapeOf P) where
       by_shape r (inr (inr e)) = inr (inr (inr e))
 
   -- a signal that goes on with the pieces joins what is chosen
-  pub joins : (b : Side) (old new : List (Knot P)) (p q point : P) (to : Frac) (pieces : Pieces P) → IsPieces shape b p q (stop old) (value to) pieces → Continues shape old pieces to point new
+  pub joins : (b : Side) (old new : List (Knot P)) (p q point : P) (to : Frac) (pieces : Pieces P) → IsPieces shape b p q (stop old) (value to) pieces
+      → Continues shape old pieces to point new
       → Joins shape b old p q to point new
   joins b old new p q point to (Whole s) is on = joins_whole b old new p q s point to is on
   joins b old new p q point to (Split first middle second) is (half, on, on') = joins_split b old half new p q first second point middle to is on on'
 
+  -- the middle of pieces lies on the gap
   pub middle_between : (b : Side) (p q : P) (from to : Rational) (pieces : Pieces P) → IsPieces shape b p q from to pieces → MiddleIsBetween pieces from to
   middle_between b p q from to (Whole s) is = tt
   middle_between b p q from to (Split first middle second) is = (is.after, is.before)
 
   -- the four ways over a gap
-  pub whole_first : (b : Side) (p q : P) (from to : Rational) → IsTaken b (value_at (shape.function p) from) (value_at (shape.function q) from) → IsTaken b (value_at (shape.function p) to) (value_at (shape.function q) to)
+  pub whole_first : (b : Side) (p q : P) (from to : Rational) → IsTaken b (value_at (shape.function p) from) (value_at (shape.function q) from)
+      → IsTaken b (value_at (shape.function p) to) (value_at (shape.function q) to)
       → IsPieces shape b p q from to (Whole p)
-  whole_first b p q from to h k = (inl refl, λ t x y. chosen_first b (value_at (shape.function p) t) (value_at (shape.function q) t) (taken_between b (shape.function p) (shape.function q) from t to x y h k))
+  whole_first b p q from to h k = (
+    inl refl,
+    λ t x y. chosen_first b (value_at (shape.function p) t) (value_at (shape.function q) t)
+        (taken_between b (shape.function p) (shape.function q) from t to x y h k),
+  )
 
-  pub whole_second : (b : Side) (p q : P) (from to : Rational) → IsTaken b (value_at (shape.function q) from) (value_at (shape.function p) from) → IsTaken b (value_at (shape.function q) to) (value_at (shape.function p) to)
+  -- the second throughout
+  pub whole_second : (b : Side) (p q : P) (from to : Rational) → IsTaken b (value_at (shape.function q) from) (value_at (shape.function p) from)
+      → IsTaken b (value_at (shape.function q) to) (value_at (shape.function p) to)
       → IsPieces shape b p q from to (Whole q)
-  whole_second b p q from to h k = (inr refl, λ t x y. chosen_second b (value_at (shape.function p) t) (value_at (shape.function q) t) (taken_between b (shape.function q) (shape.function p) from t to x y h k))
+  whole_second b p q from to h k = (
+    inr refl,
+    λ t x y. chosen_second b (value_at (shape.function p) t) (value_at (shape.function q) t)
+        (taken_between b (shape.function q) (shape.function p) from t to x y h k),
+  )
 
   meeting : (b : Side) (f g : Affine) (l r m t : Rational) → MeetAlone f g l r m → t ≈ m → IsTaken b (value_at f t) (value_at g t)
   meeting b f g l r m t alone e = taken_same b (value_at f t) (value_at g t)
-      (same_transᵉ (value_at f t) (value_at f m) (value_at g t) (value_same f e) (same_transᵉ (value_at f m) (value_at g m) (value_at g t) alone.meet (same_symᵉ (value_at g t) (value_at g m) (value_same g e))))
+      (same_transᵉ (value_at f t) (value_at f m) (value_at g t) (value_same f e)
+      (same_transᵉ (value_at f m) (value_at g m) (value_at g t) alone.meet (same_symᵉ (value_at g t) (value_at g m) (value_same g e))))
 
-  pub split_first : (b : Side) (p q : P) (from to : Rational) (middle : Frac) → IsTaken b (value_at (shape.function p) from) (value_at (shape.function q) from) → IsTaken b (value_at (shape.function q) to) (value_at (shape.function p) to)
+  -- the first, and then the second
+  pub split_first : (b : Side) (p q : P) (from to : Rational) (middle : Frac)
+      → IsTaken b (value_at (shape.function p) from) (value_at (shape.function q) from)
+      → IsTaken b (value_at (shape.function q) to) (value_at (shape.function p) to)
       → MeetAlone (shape.function p) (shape.function q) from to (value middle) → IsPieces shape b p q from to (Split p middle q)
   split_first b p q from to middle h k m = record {
     after = m.after;
     before = m.before;
     both = inl (refl, refl);
-    until_then = λ t x y. chosen_first b (value_at (shape.function p) t) (value_at (shape.function q) t) (taken_between b (shape.function p) (shape.function q) from t (value middle) x y h (meeting b (shape.function p) (shape.function q) from to (value middle) (value middle) m (same_refl (value middle))));
-    there = λ t x. chosen_first b (value_at (shape.function p) t) (value_at (shape.function q) t) (meeting b (shape.function p) (shape.function q) from to (value middle) t m x);
-    from_then = λ t x y. chosen_second b (value_at (shape.function p) t) (value_at (shape.function q) t) (taken_between b (shape.function q) (shape.function p) (value middle) t to x y (meeting b (shape.function q) (shape.function p) from to (value middle) (value middle) (alone_swap m) (same_refl (value middle))) k);
+    until_then = λ t x y. chosen_first b (value_at (shape.function p) t) (value_at (shape.function q) t)
+        (taken_between b (shape.function p) (shape.function q) from t (value middle) x y h
+        (meeting b (shape.function p) (shape.function q) from to (value middle) (value middle) m (same_refl (value middle))));
+    there = λ t x. chosen_first b (value_at (shape.function p) t) (value_at (shape.function q) t)
+        (meeting b (shape.function p) (shape.function q) from to (value middle) t m x);
+    from_then = λ t x y. chosen_second b (value_at (shape.function p) t) (value_at (shape.function q) t)
+        (taken_between b (shape.function q) (shape.function p) (value middle) t to x y
+        (meeting b (shape.function q) (shape.function p) from to (value middle) (value middle) (alone_swap m) (same_refl (value middle))) k);
   }
 
-  pub split_second : (b : Side) (p q : P) (from to : Rational) (middle : Frac) → IsTaken b (value_at (shape.function q) from) (value_at (shape.function p) from) → IsTaken b (value_at (shape.function p) to) (value_at (shape.function q) to)
+  -- the second, and then the first
+  pub split_second : (b : Side) (p q : P) (from to : Rational) (middle : Frac)
+      → IsTaken b (value_at (shape.function q) from) (value_at (shape.function p) from)
+      → IsTaken b (value_at (shape.function p) to) (value_at (shape.function q) to)
       → MeetAlone (shape.function p) (shape.function q) from to (value middle) → IsPieces shape b p q from to (Split q middle p)
   split_second b p q from to middle h k m = record {
     after = m.after;
     before = m.before;
     both = inr (refl, refl);
-    until_then = λ t x y. chosen_second b (value_at (shape.function p) t) (value_at (shape.function q) t) (taken_between b (shape.function q) (shape.function p) from t (value middle) x y h (meeting b (shape.function q) (shape.function p) from to (value middle) (value middle) (alone_swap m) (same_refl (value middle))));
-    there = λ t x. chosen_second b (value_at (shape.function p) t) (value_at (shape.function q) t) (meeting b (shape.function q) (shape.function p) from to (value middle) t (alone_swap m) x);
-    from_then = λ t x y. chosen_first b (value_at (shape.function p) t) (value_at (shape.function q) t) (taken_between b (shape.function p) (shape.function q) (value middle) t to x y (meeting b (shape.function p) (shape.function q) from to (value middle) (value middle) m (same_refl (value middle))) k);
+    until_then = λ t x y. chosen_second b (value_at (shape.function p) t) (value_at (shape.function q) t)
+        (taken_between b (shape.function q) (shape.function p) from t (value middle) x y h
+        (meeting b (shape.function q) (shape.function p) from to (value middle) (value middle) (alone_swap m) (same_refl (value middle))));
+    there = λ t x. chosen_second b (value_at (shape.function p) t) (value_at (shape.function q) t)
+        (meeting b (shape.function q) (shape.function p) from to (value middle) t (alone_swap m) x);
+    from_then = λ t x y. chosen_first b (value_at (shape.function p) t) (value_at (shape.function q) t)
+        (taken_between b (shape.function p) (shape.function q) (value middle) t to x y
+        (meeting b (shape.function p) (shape.function q) from to (value middle) (value middle) m (same_refl (value middle))) k);
   }

@@ -10,4 +10,5 @@ pub mod Choices
 pub mod JoiningLemmas
 pub mod Places
 pub mod Limits
+mod FaultLemmas
 pub mod PlainLemmas

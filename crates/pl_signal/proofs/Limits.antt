@@ -18,31 +18,54 @@ use Rattle.pl_signal.proofs.Values.{some_is, to_stop, stop_at, every_time, worth
 
 module _ {P : Type 0} (shape : ShapeOf P) where
   -- on the gap after a knot, and at its ends, the limits are the values of the shape there
-  pub gap_line : (ks : List (Knot P)) (i : ℕ) (k n : Knot P) → slice_get ks i ≡ Some k → slice_get ks (i + 1) ≡ Some n → IsLineOn (IsWorth shape ks) (time k) (time n) (shape.function k.after)
-  gap_line ks i k n h j = λ t a b. (value_at (shape.function k.after) t, worth_between shape ks i k n t h j a b, same_reflᵉ (value_at (shape.function k.after) t))
+  pub gap_line : (ks : List (Knot P)) (i : ℕ) (k n : Knot P) → slice_get ks i ≡ Some k → slice_get ks (i + 1) ≡ Some n
+      → IsLineOn (IsWorth shape ks) (time k) (time n) (shape.function k.after)
+  gap_line ks i k n h j = λ t a b.
+      (value_at (shape.function k.after) t, worth_between shape ks i k n t h j a b, same_reflᵉ (value_at (shape.function k.after) t))
 
-  pub right_limit_in : (ks : List (Knot P)) (i : ℕ) (k n : Knot P) (t : Rational) → slice_get ks i ≡ Some k → slice_get ks (i + 1) ≡ Some n → time k ≤ʳ t → t <ʳ time n
+  -- from a knot on, before the next, the limit from the right is the value of the shape
+  pub right_limit_in : (ks : List (Knot P)) (i : ℕ) (k n : Knot P) (t : Rational) → slice_get ks i ≡ Some k → slice_get ks (i + 1) ≡ Some n
+      → time k ≤ʳ t → t <ʳ time n
       → IsRightLimit (IsWorth shape ks) t (value_at (shape.function k.after) t)
-  right_limit_in ks i k n t h j a b = record { b = time n; below = b; line = shape.function k.after; on = line_on_part (IsWorth shape ks) (shape.function k.after) a (le_refl (time n)) (gap_line ks i k n h j); value = same_reflᵉ (value_at (shape.function k.after) t) }
+  right_limit_in ks i k n t h j a b =
+      record {
+        b = time n;
+        below = b;
+        line = shape.function k.after;
+        on = line_on_part (IsWorth shape ks) (shape.function k.after) a (le_refl (time n)) (gap_line ks i k n h j);
+        value = same_reflᵉ (value_at (shape.function k.after) t);
+      }
 
-  pub left_limit_in : (ks : List (Knot P)) (i : ℕ) (k n : Knot P) (t : Rational) → slice_get ks i ≡ Some k → slice_get ks (i + 1) ≡ Some n → time k <ʳ t → t ≤ʳ time n
+  -- after a knot, up to the next, so from the left
+  pub left_limit_in : (ks : List (Knot P)) (i : ℕ) (k n : Knot P) (t : Rational) → slice_get ks i ≡ Some k → slice_get ks (i + 1) ≡ Some n
+      → time k <ʳ t → t ≤ʳ time n
       → IsLeftLimit (IsWorth shape ks) t (value_at (shape.function k.after) t)
-  left_limit_in ks i k n t h j a b = record { a = time k; above = a; line = shape.function k.after; on = line_on_part (IsWorth shape ks) (shape.function k.after) (le_refl (time k)) b (gap_line ks i k n h j); value = same_reflᵉ (value_at (shape.function k.after) t) }
+  left_limit_in ks i k n t h j a b =
+      record {
+        a = time k;
+        above = a;
+        line = shape.function k.after;
+        on = line_on_part (IsWorth shape ks) (shape.function k.after) (le_refl (time k)) b (gap_line ks i k n h j);
+        value = same_reflᵉ (value_at (shape.function k.after) t);
+      }
 
   -- outside its domain a signal has no value, from its end on no limit from the right, and up to its start none from the left
   pub no_value_after : (ks : List (Knot P)) (t : Rational) (v : Extended) → IsSignal shape ks → stop ks <ʳ t → ¬ (IsWorth shape ks t v)
   no_value_after ks t v s h w = not_lt_of_le (worth_within shape ks t v s w).below h
 
+  -- from the end on there is no limit from the right
   pub no_right_limit : (ks : List (Knot P)) (t : Rational) (v : Extended) → IsSignal shape ks → stop ks ≤ʳ t → ¬ (IsRightLimit (IsWorth shape ks) t v)
   no_right_limit ks t v s h l =
       let w = l.on (middle t l.b) (left_of_middle l.below) (right_of_middle l.below) in
       no_value_after ks (middle t l.b) w.0 s (lt_of_le_of_lt h (left_of_middle l.below)) w.1
 
+  -- up to the start there is none from the left
   pub no_left_limit : (ks : List (Knot P)) (t : Rational) (v : Extended) → IsSignal shape ks → t ≤ʳ start ks → ¬ (IsLeftLimit (IsWorth shape ks) t v)
   no_left_limit ks t v s h l =
       let w = l.on (middle l.a t) (left_of_middle l.above) (right_of_middle l.above) in
       not_lt_of_le (worth_within shape ks (middle l.a t) w.0 s w.1).above (lt_of_lt_of_le (right_of_middle l.above) h)
 
+  -- and none after the end
   pub no_left_limit_after : (ks : List (Knot P)) (t : Rational) (v : Extended) → IsSignal shape ks → stop ks <ʳ t → ¬ (IsLeftLimit (IsWorth shape ks) t v)
   no_left_limit_after ks t v s h l =
       let c = later_end l.above h in
@@ -53,34 +76,53 @@ module _ {P : Type 0} (shape : ShapeOf P) where
   pub worth_bounded : (ks : List (Knot P)) → IsLimited shape ks → HasBounded (2 ^ 31) (IsWorth shape ks)
   worth_bounded [] h t v w = absurd w
   worth_bounded (k ∷ ks) h t v (inl w) =
-      bounded_same (2 ^ 31) v (value_at (shape.function k.point) (time k)) (same_transᵉ v (value_at (shape.function k.point) t) (value_at (shape.function k.point) (time k)) w.worth (value_same (shape.function k.point) w.when)) h.0.point
+      bounded_same (2 ^ 31) v (value_at (shape.function k.point) (time k))
+      (same_transᵉ v (value_at (shape.function k.point) t) (value_at (shape.function k.point) (time k)) w.worth
+      (value_same (shape.function k.point) w.when)) h.0.point
   worth_bounded (k ∷ []) h t v (inr (inl w)) = absurd w
   worth_bounded (k ∷ n ∷ ks) h t v (inr (inl w)) =
-      bounded_same (2 ^ 31) v (value_at (shape.function k.after) t) w.worth (bounded_between (2 ^ 31) (shape.function k.after) (time k) t (time n) w.after w.before h.0.limits.0 h.0.limits.1)
+      bounded_same (2 ^ 31) v (value_at (shape.function k.after) t) w.worth
+      (bounded_between (2 ^ 31) (shape.function k.after) (time k) t (time n) w.after w.before h.0.limits.0 h.0.limits.1)
   worth_bounded (k ∷ ks) h t v (inr (inr w)) = worth_bounded ks h.1 t v w
 
-  limited_from : (k : Knot P) (ks : List (Knot P)) → Each (IsKnot shape) (k ∷ ks) → HasBounded (2 ^ 31) (IsWorth shape (k ∷ ks)) → whole (neg_ℤ (pos (2 ^ 34))) ≤ʳ time k → stop (k ∷ ks) ≤ʳ whole (pos (2 ^ 34))
+  limited_from : (k : Knot P) (ks : List (Knot P)) → Each (IsKnot shape) (k ∷ ks) → HasBounded (2 ^ 31) (IsWorth shape (k ∷ ks))
+      → whole (neg_ℤ (pos (2 ^ 34))) ≤ʳ time k → stop (k ∷ ks) ≤ʳ whole (pos (2 ^ 34))
       → Each (IsLimitedKnot shape) (k ∷ ks)
-  limited_from k [] h w low high =
-      (record { when = (low, high); point = w (time k) (value_at (shape.function k.point) (time k)) (inl (record { when = same_refl (time k); worth = same_reflᵉ (value_at (shape.function k.point) (time k)) })); limits = tt }, tt)
+  limited_from k [] h w low high = (
+    record {
+      when = (low, high);
+      point = w (time k) (value_at (shape.function k.point) (time k))
+          (inl (record { when = same_refl (time k); worth = same_reflᵉ (value_at (shape.function k.point) (time k)) }));
+      limits = tt;
+    },
+    tt,
+  )
   limited_from k (n ∷ ks) h w low high =
       let on : (t : Rational) → time k <ʳ t → t <ʳ time n → IsBounded (2 ^ 31) (value_at (shape.function k.after) t) =
-      λ t a b. w t (value_at (shape.function k.after) t) (inr (inl (record { after = a; before = b; worth = same_reflᵉ (value_at (shape.function k.after) t) }))) in (
+      λ t a b. w t (value_at (shape.function k.after) t)
+      (inr (inl (record { after = a; before = b; worth = same_reflᵉ (value_at (shape.function k.after) t) }))) in (
         record {
           when = (low, le_trans (to_stop shape k (n ∷ ks) h) high);
-          point = w (time k) (value_at (shape.function k.point) (time k)) (inl (record { when = same_refl (time k); worth = same_reflᵉ (value_at (shape.function k.point) (time k)) }));
-          limits = (bounded_start (2 ^ 31) (shape.function k.after) (time k) (time n) h.0.rising on, bounded_stop (2 ^ 31) (shape.function k.after) (time k) (time n) h.0.rising on);
+          point = w (time k) (value_at (shape.function k.point) (time k))
+              (inl (record { when = same_refl (time k); worth = same_reflᵉ (value_at (shape.function k.point) (time k)) }));
+          limits = (
+            bounded_start (2 ^ 31) (shape.function k.after) (time k) (time n) h.0.rising on,
+            bounded_stop (2 ^ 31) (shape.function k.after)
+                (time k) (time n) h.0.rising on,
+          );
         },
         limited_from n ks h.1 (λ t v x. w t v (inr (inr x))) (le_trans low (le_of_lt h.0.rising)) high,
       )
 
   -- a signal with bounded values, between times within 2^34, is limited
-  pub limited : (ks : List (Knot P)) → IsSignal shape ks → HasBounded (2 ^ 31) (IsWorth shape ks) → IsWithin (2 ^ 34) (start ks) → IsWithin (2 ^ 34) (stop ks) → IsLimited shape ks
+  pub limited : (ks : List (Knot P)) → IsSignal shape ks → HasBounded (2 ^ 31) (IsWorth shape ks) → IsWithin (2 ^ 34) (start ks)
+      → IsWithin (2 ^ 34) (stop ks) → IsLimited shape ks
   limited [] s w a b = tt
   limited (k ∷ ks) s w a b = limited_from k ks s.each w a.0 b.1
 
   -- the value and the limits at a limited knot are bounded
-  pub point_bounded : (ks : List (Knot P)) (i : ℕ) (k : Knot P) → IsLimited shape ks → slice_get ks i ≡ Some k → IsBounded (2 ^ 31) (value_at (shape.function k.point) (time k))
+  pub point_bounded : (ks : List (Knot P)) (i : ℕ) (k : Knot P) → IsLimited shape ks → slice_get ks i ≡ Some k
+      → IsBounded (2 ^ 31) (value_at (shape.function k.point) (time k))
   point_bounded [] i k h e = absurd (cc)
   point_bounded (l ∷ ks) zero k h e = let s : l ≡ k = cc in subst (λ k. IsBounded (2 ^ 31) (value_at (shape.function k.point) (time k))) s h.0.point
   point_bounded (l ∷ ks) (suc i) k h e = point_bounded ks i k h.1 e
@@ -91,9 +133,11 @@ module _ {P : Type 0} (shape : ShapeOf P) where
   limits_at (l ∷ []) zero k n h e f = absurd (cc)
   limits_at (l ∷ m ∷ ks) zero k n h e f = let s : l ≡ k = cc in let r : m ≡ n = cc in
       subst (λ k. IsBounded (2 ^ 31) (value_at (shape.function k.after) (time k)) × IsBounded (2 ^ 31) (value_at (shape.function k.after) (time n))) s
-      (subst (λ n. IsBounded (2 ^ 31) (value_at (shape.function l.after) (time l)) × IsBounded (2 ^ 31) (value_at (shape.function l.after) (time n))) r h.0.limits)
+      (subst (λ n. IsBounded (2 ^ 31) (value_at (shape.function l.after) (time l)) × IsBounded (2 ^ 31) (value_at (shape.function l.after) (time n)))
+      r h.0.limits)
   limits_at (l ∷ ks) (suc i) k n h e f = limits_at ks i k n h.1 e f
 
+  -- so for the limits at both ends of a gap
   pub limits_bounded : (ks : List (Knot P)) (i : ℕ) (k n : Knot P) → IsLimited shape ks → slice_get ks i ≡ Some k → slice_get ks (i + 1) ≡ Some n
       → IsBounded (2 ^ 31) (value_at (shape.function k.after) (time k)) × IsBounded (2 ^ 31) (value_at (shape.function k.after) (time n))
   limits_bounded ks i k n h e f = let s : i + 1 ≡ suc i = omega arith in limits_at ks i k n h e (subst (λ p. slice_get ks p ≡ Some n) s f)
@@ -103,38 +147,53 @@ module _ {P : Type 0} (shape : ShapeOf P) where
   limited_start [] s h = let some = s.some in absurd (omega arith)
   limited_start (k ∷ ks) s h = h.0.when
 
+  -- and so does the last
   pub limited_last : (k : Knot P) (ks : List (Knot P)) → IsLimited shape (k ∷ ks) → IsWithin (2 ^ 34) (stop (k ∷ ks))
   limited_last k [] h = h.0.when
   limited_last k (n ∷ ks) h = limited_last n ks h.1
 
+  -- so for the end of a signal
   pub limited_stop : (ks : List (Knot P)) → IsSignal shape ks → IsLimited shape ks → IsWithin (2 ^ 34) (stop ks)
   limited_stop [] s h = let some = s.some in absurd (omega arith)
   limited_stop (k ∷ ks) s h = limited_last k ks h
 
+  -- a signal has one value at each time
   pub signal_one : (ks : List (Knot P)) → IsSignal shape ks → HasOneValue (IsWorth shape ks)
   signal_one ks s = λ t v w a b. one_value shape ks t v w s a b
 
   -- on the gap after a knot the shape there is the part about each time
-  pub part_in : (ks : List (Knot P)) (i : ℕ) (k n : Knot P) (t : Rational) → slice_get ks i ≡ Some k → slice_get ks (i + 1) ≡ Some n → time k <ʳ t → t <ʳ time n → IsPart (IsWorth shape ks) t (shape.function k.after)
+  pub part_in : (ks : List (Knot P)) (i : ℕ) (k n : Knot P) (t : Rational) → slice_get ks i ≡ Some k → slice_get ks (i + 1) ≡ Some n → time k <ʳ t
+      → t <ʳ time n → IsPart (IsWorth shape ks) t (shape.function k.after)
   part_in ks i k n t h j a b = record { a = time k; b = time n; above = a; below = b; on = gap_line ks i k n h j }
 
   -- there is one part about a time
-  pub part_one : (ks : List (Knot P)) (t : Rational) (f g : Affine) → IsSignal shape ks → IsPart (IsWorth shape ks) t f → IsPart (IsWorth shape ks) t g → AreSame f g
+  pub part_one : (ks : List (Knot P)) (t : Rational) (f g : Affine) → IsSignal shape ks → IsPart (IsWorth shape ks) t f
+      → IsPart (IsWorth shape ks) t g → AreSame f g
   part_one ks t f g s p q =
       let c = later_end p.above q.above in
       let F = IsWorth shape ks in
       lines_same F f g (signal_one ks s) c.1 (line_on_part F f c.2 (le_of_lt p.below) p.on) (line_on_part F g c.3 (le_of_lt q.below) q.on)
 
-  pub needed_at : (ks : List (Knot P)) (i : ℕ) (b k n : Knot P) → Each (IsKnot shape) ks → slice_get ks i ≡ Some b → slice_get ks (suc i) ≡ Some k → slice_get ks (suc (suc i)) ≡ Some n → ¬ CanBeLeftOut shape b k
+  -- no inner knot can be left out
+  pub needed_at : (ks : List (Knot P)) (i : ℕ) (b k n : Knot P) → Each (IsKnot shape) ks → slice_get ks i ≡ Some b → slice_get ks (suc i) ≡ Some k
+      → slice_get ks (suc (suc i)) ≡ Some n → ¬ CanBeLeftOut shape b k
   needed_at [] i b k n h e f g = absurd (cc)
   needed_at (l ∷ []) zero b k n h e f g = absurd (cc)
   needed_at (l ∷ m ∷ []) zero b k n h e f g = absurd (cc)
-  needed_at (l ∷ m ∷ o ∷ ks) zero b k n h e f g = subst (λ l. ¬ CanBeLeftOut shape l k) (some_is e) (subst (λ m. ¬ CanBeLeftOut shape l m) (some_is f) h.0.needed)
+  needed_at (l ∷ m ∷ o ∷ ks) zero b k n h e f g =
+      subst (λ l. ¬ CanBeLeftOut shape l k) (some_is e) (subst (λ m. ¬ CanBeLeftOut shape l m) (some_is f) h.0.needed)
   needed_at (l ∷ ks) (suc i) b k n h e f g = needed_at ks i b k n h.1 e f g
 
   -- about a knot between two others there is no part
-  no_part : (ks : List (Knot P)) (i : ℕ) (b k n : Knot P) → IsSignal shape ks → slice_get ks i ≡ Some b → slice_get ks (suc i) ≡ Some k → slice_get ks (suc (suc i)) ≡ Some n → (line : Affine) → ¬ IsPart (IsWorth shape ks) (time k) line
-  no_part ks i b k n s e f g line p = needed_at ks i b k n s.each e f g (record { here = here; on = λ t. same_transᵉ (value_at (shape.function b.after) t) (value_at line t) (value_at (shape.function k.after) t) (before t) (after t) })
+  no_part : (ks : List (Knot P)) (i : ℕ) (b k n : Knot P) → IsSignal shape ks → slice_get ks i ≡ Some b → slice_get ks (suc i) ≡ Some k
+      → slice_get ks (suc (suc i)) ≡ Some n → (line : Affine) → ¬ IsPart (IsWorth shape ks) (time k) line
+  no_part ks i b k n s e f g line p =
+      needed_at ks i b k n s.each e f g
+      (record {
+        here = here;
+        on = λ t. same_transᵉ (value_at (shape.function b.after) t) (value_at line t) (value_at (shape.function k.after) t)
+            (before t) (after t);
+      })
     where
       next : i + 1 ≡ suc i
       next = omega arith
@@ -152,13 +211,15 @@ module _ {P : Type 0} (shape : ShapeOf P) where
       before =
           let c = later_end p.above (next_rises shape ks i b k s.each e at_k) in
           lines_same (IsWorth shape ks) (shape.function b.after) line (signal_one ks s) c.1
-          (line_on_part (IsWorth shape ks) (shape.function b.after) c.3 (le_refl (time k)) (gap_line ks i b k e at_k)) (line_on_part (IsWorth shape ks) line c.2 (le_of_lt p.below) p.on)
+          (line_on_part (IsWorth shape ks) (shape.function b.after) c.3 (le_refl (time k)) (gap_line ks i b k e at_k))
+          (line_on_part (IsWorth shape ks) line c.2 (le_of_lt p.below) p.on)
 
       after : AreSame line (shape.function k.after)
       after =
           let d = earlier_end p.below (next_rises shape ks (i + 1) k n s.each at_k at_n) in
           lines_same (IsWorth shape ks) line (shape.function k.after) (signal_one ks s) d.1
-          (line_on_part (IsWorth shape ks) line (le_of_lt p.above) d.2 p.on) (line_on_part (IsWorth shape ks) (shape.function k.after) (le_refl (time k)) d.3 (gap_line ks (i + 1) k n at_k at_n))
+          (line_on_part (IsWorth shape ks) line (le_of_lt p.above) d.2 p.on)
+          (line_on_part (IsWorth shape ks) (shape.function k.after) (le_refl (time k)) d.3 (gap_line ks (i + 1) k n at_k at_n))
 
       here : value_at (shape.function b.after) (time k) ≈ᵉ value_at (shape.function k.point) (time k)
       here =
@@ -177,7 +238,8 @@ module _ {P : Type 0} (shape : ShapeOf P) where
   first_time (l ∷ ks) k h = subst (λ k. time k ≈ time l) (some_is h) (same_refl (time l))
 
   -- each knot is a breakpoint
-  pub breakpoint_at : (ks : List (Knot P)) (i : ℕ) (k : Knot P) → IsSignal shape ks → slice_get ks i ≡ Some k → IsBreakpoint (IsWorth shape ks) (start ks) (stop ks) (time k)
+  pub breakpoint_at : (ks : List (Knot P)) (i : ℕ) (k : Knot P) → IsSignal shape ks → slice_get ks i ≡ Some k
+      → IsBreakpoint (IsWorth shape ks) (start ks) (stop ks) (time k)
   breakpoint_at ks zero k s h = IsBreakpoint.start (first_time ks k h)
   breakpoint_at ks (suc i) k s h = by_next (slice_get ks (suc (suc i))) refl
     where
@@ -185,10 +247,12 @@ module _ {P : Type 0} (shape : ShapeOf P) where
       next = omega arith
 
       by_next : (o : Option (Knot P)) → slice_get ks (suc (suc i)) ≡ o → IsBreakpoint (IsWorth shape ks) (start ks) (stop ks) (time k)
-      by_next None e = IsBreakpoint.stop (subst (λ t. time k ≈ t) (sym (stop_at shape ks (suc i) k h (subst (λ p. slice_get ks p ≡ None) (sym next) e))) (same_refl (time k)))
+      by_next None e = IsBreakpoint.stop
+          (subst (λ t. time k ≈ t) (sym (stop_at shape ks (suc i) k h (subst (λ p. slice_get ks p ≡ None) (sym next) e))) (same_refl (time k)))
       by_next (Some n) e =
           let b = prior ks i k h in
-          IsBreakpoint.inner (worth_within shape ks (time k) (value_at (shape.function k.point) (time k)) s (worth_at shape ks (suc i) k (time k) h (same_refl (time k)))) (no_part ks i b.0 k n s b.1 h e)
+          IsBreakpoint.inner (worth_within shape ks (time k) (value_at (shape.function k.point) (time k)) s
+          (worth_at shape ks (suc i) k (time k) h (same_refl (time k)))) (no_part ks i b.0 k n s b.1 h e)
 
   -- t is the time of a knot, or lies on the gap after one
   abbrev pub IsFound : List (Knot P) → Rational → Type 0
@@ -208,5 +272,6 @@ module _ {P : Type 0} (shape : ShapeOf P) where
           let up : suc i + 1 ≡ suc (i + 1) = omega arith in
           inr (suc i, l, n, h, subst (λ p. slice_get (k ∷ ks) p ≡ Some n) (sym up) j, a, b)
 
+  -- each time of the domain is found, at a knot or on a gap
   pub found : (ks : List (Knot P)) (t : Rational) → IsSignal shape ks → Within (start ks) (stop ks) t → IsFound ks t
   found ks t s h = let w = every_time shape ks t s h in found_by ks t w.0 w.1

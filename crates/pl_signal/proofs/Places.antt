@@ -21,12 +21,14 @@ later_than Less h k n = absurd (not_lt_of_le k h)
 later_than Equal h k n = absurd (n refl)
 later_than Greater h k n = h
 
+-- the earlier of two later times is later
 pub earlier_after : {at to x y : Rational} → at <ʳ x → at <ʳ y → (to ≡ x) ⊎ (to ≡ y) → at <ʳ to
 earlier_after {at = at} h k (inl e) = subst (λ t. at <ʳ t) (sym e) h
 earlier_after {at = at} h k (inr e) = subst (λ t. at <ʳ t) (sym e) k
 
 -- one of the two places goes on
-pub nearer : {A B : Type 0} (n m i j i' j' : ℕ) → i + 1 < n → j + 1 < m → (i' ≡ i + 1) ⊎ ((i' ≡ i) × A) → (j' ≡ j + 1) ⊎ ((j' ≡ j) × B) → ¬ (A × B) → (n - i') + (m - j') < (n - i) + (m - j)
+pub nearer : {A B : Type 0} (n m i j i' j' : ℕ) → i + 1 < n → j + 1 < m → (i' ≡ i + 1) ⊎ ((i' ≡ i) × A) → (j' ≡ j + 1) ⊎ ((j' ≡ j) × B) → ¬ (A × B)
+    → (n - i') + (m - j') < (n - i) + (m - j)
 nearer n m i j i' j' h k (inl e) (inl f) both = omega (arith, h, k, e, f)
 nearer n m i j i' j' h k (inl e) (inr f) both = omega (arith, h, k, e, f.0)
 nearer n m i j i' j' h k (inr e) (inl f) both = omega (arith, h, k, e.0, f)
@@ -34,7 +36,8 @@ nearer n m i j i' j' h k (inr e) (inr f) both = absurd (both (e.1, f.1))
 
 module _ {P : Type 0} (shape : ShapeOf P) where
   -- both next knots cannot be later than the earlier of them
-  pub not_both : (ks ls : List (Knot P)) (i j : ℕ) (k l : Knot P) (to : Rational) → slice_get ks i ≡ Some k → slice_get ls j ≡ Some l → (to ≡ time k) ⊎ (to ≡ time l)
+  pub not_both : (ks ls : List (Knot P)) (i j : ℕ) (k l : Knot P) (to : Rational) → slice_get ks i ≡ Some k → slice_get ls j ≡ Some l → (to ≡ time k)
+      ⊎ (to ≡ time l)
       → ¬ (((k : Knot P) → slice_get ks i ≡ Some k → to <ʳ time k) × ((l : Knot P) → slice_get ls j ≡ Some l → to <ʳ time l))
   not_both ks ls i j k l to h m (inl e) b = not_lt_of_le (le_of_same (subst (λ t. time k ≈ t) (sym e) (same_refl (time k)))) (b.0 k h)
   not_both ks ls i j k l to h m (inr e) b = not_lt_of_le (le_of_same (subst (λ t. time l ≈ t) (sym e) (same_refl (time l)))) (b.1 l m)
@@ -44,7 +47,8 @@ module _ {P : Type 0} (shape : ShapeOf P) where
   at_stop [] i t some p last h = absurd (omega arith)
   at_stop (k ∷ ks) i t some p last h =
       let here = slice_get-get_or (k ∷ ks) i k p.inside in
-      same_of_le h (subst (λ s. s ≤ʳ t) (sym (stop_at shape (k ∷ ks) i (get_or (k ∷ ks) i k) here (slice_get_past (k ∷ ks) (i + 1) last))) (p.not_later (get_or (k ∷ ks) i k) here))
+      same_of_le h (subst (λ s. s ≤ʳ t) (sym (stop_at shape (k ∷ ks) i (get_or (k ∷ ks) i k) here (slice_get_past (k ∷ ks) (i + 1) last)))
+      (p.not_later (get_or (k ∷ ks) i k) here))
 
   -- the place at the first time
   pub first_place : (ks : List (Knot P)) (k : Knot P) (t : Rational) → IsSignal shape ks → slice_get ks 0 ≡ Some k → time k ≈ t → IsPlace ks t 0
@@ -55,7 +59,8 @@ module _ {P : Type 0} (shape : ShapeOf P) where
   }
 
   -- the place at a time at which the next knot stands
-  pub place_next : (ks : List (Knot P)) (i : ℕ) (n : Knot P) (to : Rational) → IsSignal shape ks → i + 1 < length ks → slice_get ks (i + 1) ≡ Some n → time n ≈ to → IsPlace ks to (i + 1)
+  pub place_next : (ks : List (Knot P)) (i : ℕ) (n : Knot P) (to : Rational) → IsSignal shape ks → i + 1 < length ks → slice_get ks (i + 1) ≡ Some n
+      → time n ≈ to → IsPlace ks to (i + 1)
   place_next ks i n to s more at_next e = record {
     inside = more;
     not_later = λ k h. let same : n ≡ k = cc in subst (λ k. time k ≤ʳ to) same (le_of_same e);
@@ -63,7 +68,8 @@ module _ {P : Type 0} (shape : ShapeOf P) where
   }
 
   -- the place at a time before the next knot
-  pub place_stays : (ks : List (Knot P)) (i : ℕ) (n : Knot P) (to : Rational) → i < length ks → ((k : Knot P) → slice_get ks i ≡ Some k → time k <ʳ to) → slice_get ks (i + 1) ≡ Some n → to <ʳ time n → IsPlace ks to i
+  pub place_stays : (ks : List (Knot P)) (i : ℕ) (n : Knot P) (to : Rational) → i < length ks
+      → ((k : Knot P) → slice_get ks i ≡ Some k → time k <ʳ to) → slice_get ks (i + 1) ≡ Some n → to <ʳ time n → IsPlace ks to i
   place_stays ks i n to inside begun at_next before = record {
     inside = inside;
     not_later = λ k h. le_of_lt (begun k h);
@@ -78,9 +84,11 @@ module _ {P : Type 0} (shape : ShapeOf P) where
   ]
 
   -- on the gap up to the next knot a signal is worth what its shape there is
-  pub part_on_gap : (ks : List (Knot P)) (i : ℕ) (k n : Knot P) (from to t : Rational) → IsPlace ks from i → slice_get ks i ≡ Some k → slice_get ks (i + 1) ≡ Some n → to ≤ʳ time n → from <ʳ t → t <ʳ to
+  pub part_on_gap : (ks : List (Knot P)) (i : ℕ) (k n : Knot P) (from to t : Rational) → IsPlace ks from i → slice_get ks i ≡ Some k
+      → slice_get ks (i + 1) ≡ Some n → to ≤ʳ time n → from <ʳ t → t <ʳ to
       → IsWorth shape ks t (value_at (shape.function k.after) t)
-  part_on_gap ks i k n from to t p at_i at_next before h l = worth_between shape ks i k n t at_i at_next (lt_of_le_of_lt (p.not_later k at_i) h) (lt_of_lt_of_le l before)
+  part_on_gap ks i k n from to t p at_i at_next before h l = worth_between shape ks i k n t at_i at_next (lt_of_le_of_lt (p.not_later k at_i) h)
+      (lt_of_lt_of_le l before)
 
   -- the knot at a place is before each later time
   pub begun_before : (ks : List (Knot P)) (i : ℕ) (from to : Rational) → IsPlace ks from i → from <ʳ to → (k : Knot P) → slice_get ks i ≡ Some k → time k <ʳ to

@@ -30,10 +30,12 @@ module _ {P : Type 0} (shape : ShapeOf P) where
   abbrev pub IsReading : List (Knot P) → Rational → P → Type 0
   IsReading ks t p = Within (start ks) (stop ks) t × HasShape ks p × IsWorth shape ks t (value_at (shape.function p) t)
 
+  -- at a knot the point is read
   pub read_point : (ks : List (Knot P)) (i : ℕ) (k : Knot P) (t : Rational) → IsSignal shape ks → slice_get ks i ≡ Some k → time k ≈ t → IsReading ks t k.point
   read_point ks i k t s h e =
       let w = worth_at shape ks i k t h (same_sym e) in (worth_within shape ks t (value_at (shape.function k.point) t) s w, shape_at shape ks i k h, w)
 
+  -- after a knot, before the next, the shape there
   pub read_after : (ks : List (Knot P)) (i : ℕ) (k : Knot P) (t : Rational) → IsSignal shape ks → slice_get ks i ≡ Some k → i + 1 < length ks → time k <ʳ t
       → ((n : Knot P) → slice_get ks (i + 1) ≡ Some n → t <ʳ time n) → IsReading ks t k.after
   read_after ks i k t s h l a b =
@@ -41,7 +43,9 @@ module _ {P : Type 0} (shape : ShapeOf P) where
       let w = worth_between shape ks i k (get_or ks (i + 1) k) t h next a (b (get_or ks (i + 1) k) next) in
       (worth_within shape ks t (value_at (shape.function k.after) t) s w, shape_after shape ks i k h, w)
 
-  pub read_none : (ks : List (Knot P)) (i : ℕ) (k : Knot P) (t : Rational) → slice_get ks i ≡ Some k → length ks ≡ i + 1 → time k <ʳ t → ¬ (Within (start ks) (stop ks) t)
+  -- after the last knot nothing
+  pub read_none : (ks : List (Knot P)) (i : ℕ) (k : Knot P) (t : Rational) → slice_get ks i ≡ Some k → length ks ≡ i + 1 → time k <ʳ t
+      → ¬ (Within (start ks) (stop ks) t)
   read_none ks i k t h l a w =
       let last = stop_at shape ks i k h (slice_get_past ks (i + 1) (omega (arith, l))) in
       not_lt_of_le (subst (λ s. t ≤ʳ s) last w.below) a

@@ -17,7 +17,8 @@ module _ {P : Type 0} (shape : ShapeOf P) where
     pub begins : start new ≡ start old
     pub ends : stop new ≡ value at
     pub worth : (t : Rational) (v : Extended) → IsWorth shape new t v
-        ↔ (IsWorth shape old t v ⊎ ((stop old <ʳ t) × (t <ʳ value at) × Passes (shape.function after) t v) ⊎ ((t ≈ value at) × Passes (shape.function point) t v))
+        ↔ (IsWorth shape old t v ⊎ ((stop old <ʳ t) × (t <ʳ value at) × Passes (shape.function after) t v)
+        ⊎ ((t ≈ value at) × Passes (shape.function point) t v))
     pub shapes : (p : P) → HasShape new p → HasShape old p ⊎ (p ≡ after) ⊎ (p ≡ point)
 
   -- the new signal goes on with the pieces up to the time `to`, and `point` there

@@ -61,12 +61,15 @@ module _ {P : Type 0} (shape : ShapeOf P) where
     pub begins : start new ≡ start old
     pub ends : stop new ≡ value to
     pub worth : (t : Rational) (v : Extended) → IsWorth shape new t v
-        ↔ (IsWorth shape old t v ⊎ ((stop old <ʳ t) × (t <ʳ value to) × IsChosen side (value_at (shape.function p) t) (value_at (shape.function q) t) v) ⊎ ((t ≈ value to) × Passes (shape.function point) t v))
+        ↔ (IsWorth shape old t v
+        ⊎ ((stop old <ʳ t) × (t <ʳ value to) × IsChosen side (value_at (shape.function p) t) (value_at (shape.function q) t) v)
+        ⊎ ((t ≈ value to) × Passes (shape.function point) t v))
     pub shapes : (r : P) → HasShape new r → HasShape old r ⊎ (r ≡ p) ⊎ (r ≡ q) ⊎ (r ≡ point)
 
   -- want of memory, or the crossing of p and q between the times, with its denominator
   abbrev pub IsGapFault : P → P → Frac → Frac → OpFault P → Type 0
   IsGapFault p q from to F.Memory = Unit {0}
   IsGapFault p q from to (F.Wide (Cross a b c d den)) =
-      (a ≡ p) × (b ≡ q) × (c ≡ from) × (d ≡ to) × ((t : Rational) × MeetAlone (shape.function p) (shape.function q) (value from) (value to) t × HasDenominator t den × (2 ^ 60 ≤ den))
+      (a ≡ p) × (b ≡ q) × (c ≡ from) × (d ≡ to)
+      × ((t : Rational) × MeetAlone (shape.function p) (shape.function q) (value from) (value to) t × HasDenominator t den × (2 ^ 60 ≤ den))
   IsGapFault p q from to (F.Wide (Value a b den)) = ⊥

@@ -6,4 +6,5 @@ pub mod Cuts
 pub mod Wide
 pub mod Places
 pub mod Joining
+pub mod Faults
 pub mod Plain

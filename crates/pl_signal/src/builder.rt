@@ -40,6 +40,10 @@ impl<P: Shape> Model for Builder<P> {
 
 impl<P: Shape> Builder<P> {
     /// The signal of one instant.
+    ///
+    /// # Errors
+    ///
+    /// `Memory` where memory is wanting.
     pub fn start(alloc: Global, at: Frac, point: P) -> Result<Builder<P>, Memory>
         ensures { IfOk result (λ b. b ≡ record { time = at; point = point; after = point } ∷ []) }
     {
@@ -49,6 +53,10 @@ impl<P: Shape> Builder<P> {
 
     /// The signal of one instant, with memory at once for as many knots as `room` says. A signal that is built of no more asks
     /// for memory only here.
+    ///
+    /// # Errors
+    ///
+    /// `Memory` where memory is wanting.
     pub fn with_room(alloc: Global, at: Frac, point: P, room: usize) -> Result<Builder<P>, Memory>
         ensures { IfOk result (λ b. b ≡ record { time = at; point = point; after = point } ∷ []) }
     {
@@ -70,6 +78,10 @@ impl<P: Shape> Builder<P> {
     /// stays as it was.
     ///
     /// A last knot that is no longer needed, since the shape before it, its point and `after` are of one function, leaves.
+    ///
+    /// # Errors
+    ///
+    /// `Memory` where memory is wanting.
     pub fn step(&mut self, after: P, at: Frac, point: P) -> Result<(), Memory>
         requires limited { IsWithin (2 ^ 34) (stop self.old) }
         requires later { stop self.old <ʳ value at }
@@ -87,6 +99,10 @@ impl<P: Shape> Builder<P> {
     /// `point` there. With an `Err` the signal stays as it was.
     ///
     /// It is refused as `Wide` only where the two cross on the gap, at a time that needs a denominator of 2^60 or more.
+    ///
+    /// # Errors
+    ///
+    /// `Wide` where the two cross at a time that needs a denominator of 2^60 or more; `Memory` where memory is wanting.
     pub fn join(&mut self, side: Side, p: &P, q: &P, to: &Frac, point: P) -> Result<(), OpFault<P>>
         requires order { stop self.old <ʳ value to.now }
         requires from_within { IsWithin (2 ^ 34) (stop self.old) }

@@ -1,5 +1,10 @@
 //! Why an operator on signals has no answer.
+ghost use Rattle.std.specs.Prelude.{◌≤◌, ◌^◌};
+ghost use Rattle.std.specs.Int.RustNames.{unsigned_abs};
+ghost use Rattle.pl_signal.specs.Faults.{HasBoundedLevels, IsNegatedPair, CanMirror, IsMirroredPair, OfPair, IsPairwise};
+
 use frac128::{Frac, Memory};
+use value_laws::Shape;
 
 /// What needs a denominator of 2^60 or more, and that denominator.
 #[derive(Clone, Copy, Debug)]
@@ -37,5 +42,87 @@ impl<P> From<Memory> for OpFault<P> {
 
     fn from(_: Memory) -> OpFault<P> {
         OpFault::Memory
+    }
+}
+
+impl<P: Shape> WidePair<P> {
+    /// The pair of the negated shapes, at the same times.
+    pub fn negated(&self) -> WidePair<P>
+        requires { HasBoundedLevels P.Shape self.now }
+        ensures { IsNegatedPair P.Shape self.now result }
+    {
+        match *self {
+            WidePair::Cross {
+                p,
+                q,
+                from,
+                to,
+                den,
+            } => WidePair::Cross {
+                p: p.neg(),
+                q: q.neg(),
+                from,
+                to,
+                den,
+            },
+            WidePair::Value { p, at, den } => WidePair::Value {
+                p: p.neg(),
+                at,
+                den,
+            },
+        }
+    }
+
+    /// The pair with time mirrored: its shapes are at `t` what they were at `about - t`, and so are its times.
+    pub fn mirrored(&self, about: i64) -> WidePair<P>
+        requires about { unsigned_abs about ≤ 2 ^ 34 }
+        requires pair { CanMirror P.Shape about self.now }
+        ensures { IsMirroredPair P.Shape about self.now result }
+    {
+        match *self {
+            WidePair::Cross {
+                p,
+                q,
+                from,
+                to,
+                den,
+            } => WidePair::Cross {
+                p: p.mirror(about),
+                q: q.mirror(about),
+                from: to.mirror(about),
+                to: from.mirror(about),
+                den,
+            },
+            WidePair::Value { p, at, den } => WidePair::Value {
+                p: p.mirror(about),
+                at: at.mirror(about),
+                den,
+            },
+        }
+    }
+}
+
+impl<P: Shape> OpFault<P> {
+    /// The fault of the negated shapes.
+    pub fn negated(&self) -> OpFault<P>
+        requires { OfPair (HasBoundedLevels P.Shape) self.now }
+        ensures { IsPairwise (IsNegatedPair P.Shape) self.now result }
+    {
+        match *self {
+            OpFault::Memory => OpFault::Memory,
+            OpFault::Wide(pair) => OpFault::Wide(pair.negated()),
+        }
+    }
+
+    /// The fault with time mirrored about `about`.
+    pub fn mirrored(&self, about: i64) -> OpFault<P>
+        requires about { unsigned_abs about ≤ 2 ^ 34 }
+        requires pair { OfPair (CanMirror P.Shape about) self.now }
+        ensures { IsPairwise (IsMirroredPair P.Shape about) self.now result }
+    {
+        match *self {
+            OpFault::Memory => OpFault::Memory,
+            OpFault::Wide(pair) => OpFault::Wide(pair.mirrored(about)),
+        }
     }
 }

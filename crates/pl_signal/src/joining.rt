@@ -57,6 +57,10 @@ pub fn chosen<P: Shape>(side: Side, p: &P, q: &P, t: &Frac) -> P
 /// The time at which the two cross between `from` and `to`, where their order turns over between them.
 ///
 /// It is refused as `Wide` exactly where that time needs a denominator of 2^60 or more.
+///
+/// # Errors
+///
+/// `Wide` where its time needs a denominator of 2^60 or more.
 pub fn crossing<P: Shape>(p: &P, q: &P, from: &Frac, to: &Frac) -> Result<Frac, OpFault<P>>
     requires order { value from.now <ʳ value to.now }
     requires from_within { IsWithin (2 ^ 34) (value from.now) }

@@ -18,6 +18,10 @@ use value_laws::Shape;
 
 impl<P: Shape> Signal<P> {
     /// The signal on the part of its domain from `from` to `to`.
+    ///
+    /// # Errors
+    ///
+    /// `Memory` where memory is wanting.
     pub fn restrict(&self, from: &Frac, to: &Frac) -> Result<Signal<P>, Memory>
         requires order { value from.now ≤ʳ value to.now }
         requires first { start self.now ≤ʳ value from.now }
@@ -32,6 +36,10 @@ impl<P: Shape> Signal<P> {
     /// The signal from `from` to `to` that is at `t` what this one is at `t + by`.
     ///
     /// The base of each of its moving shapes is `by` less than that of a moving shape of this signal.
+    ///
+    /// # Errors
+    ///
+    /// `Memory` where memory is wanting.
     pub fn shift_clip(&self, by: i64, from: &Frac, to: &Frac) -> Result<Signal<P>, Memory>
         requires limited { IsLimited P.Shape self.now }
         requires bases { (p : P) → HasShape self.now p → unsigned_abs (P.base p -ℤ by) ≤ 2 ^ 34 }
@@ -44,6 +52,7 @@ impl<P: Shape> Signal<P> {
             (Tells P.Shape (λ t v. IsWorth P.Shape self.now (add t (whole by)) v) (value from.now) (value to.now)) }
         ensures bases { IfOk result (BasesFrom P.Shape (λ b. b -ℤ by) self.now) }
     {
+        // For the proof alone: that it is a signal is a clause of `len`.
         let _ = self.len();
         let (begin, end) = (from.shift(by), to.shift(by));
         let part = self.restrict(&begin, &end)?;
@@ -53,6 +62,10 @@ impl<P: Shape> Signal<P> {
     /// The signal that is at `t` what this one is at `about - t`.
     ///
     /// The base of each of its moving shapes is `about` less that of a moving shape of this signal.
+    ///
+    /// # Errors
+    ///
+    /// `Memory` where memory is wanting.
     pub fn mirror(&self, about: i64) -> Result<Signal<P>, Memory>
         requires limited { IsLimited P.Shape self.now }
         requires bases { (p : P) → HasShape self.now p → unsigned_abs (about -ℤ P.base p) ≤ 2 ^ 34 }

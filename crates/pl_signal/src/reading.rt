@@ -31,6 +31,7 @@ impl<P: Shape> Signal<P> {
         ensures moved { (result.place ≡ place + 1)
             ⊎ ((result.place ≡ place) × ((k : Knot P) → slice_get self.now (place + 1) ≡ Some k → value to.now <ʳ time k)) }
     {
+        // For the proof alone: that it is a signal is a clause of `len`.
         let _ = self.len();
         let next = self.knot(place + 1);
         if let Ordering::Equal = next.time.cmp(to) {

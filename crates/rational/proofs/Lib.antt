@@ -19,3 +19,15 @@ pub mod Ways
 pub mod AffineMeetings
 pub mod LimitLemmas
 pub mod Bounds
+pub mod Sames
+pub mod TimeFunctions
+pub mod UntilComposition
+pub mod SinceForward
+pub mod SinceOnGaps
+pub mod SinceOnward
+pub mod SinceAtPoints
+pub mod Events
+pub mod RunningBack
+pub mod UntilBounds
+pub mod PlayBack
+pub mod UntilExistence

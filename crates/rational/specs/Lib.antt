@@ -5,4 +5,6 @@ pub mod Extended
 pub mod Windows
 pub mod Affine
 pub mod InPlay
+pub mod Onward
+pub mod UntilParts
 pub mod Knots

@@ -8,6 +8,16 @@ pub mod SignalLaw
 pub mod Spellings
 pub mod Lines
 pub mod Advances
+mod Turns
 pub mod Growths
 pub mod MarginTexts
 pub mod MarginLaw
+pub mod Stretch
+pub mod FinerTrees
+pub mod FinerTraces
+pub mod FinerTruth
+pub mod FinerValues
+pub mod FinerMargins
+pub mod KnotsChange
+pub mod FinerKnots
+pub mod FinerRobust

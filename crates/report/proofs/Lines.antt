@@ -31,7 +31,7 @@ number_exists digits t =
     in_ticks num den p h = record { same = omega (arith, h.same, ap (λ x. x * t.den) (mul_parts num (pos (10 ^ digits)))) }
 
 -- each verdict has a line
-line_exists : (scale : Scale) (v : Verdict) → (line : List ℕ) × IsVerdictLine scale v line
+pub line_exists : (scale : Scale) (v : Verdict) → (line : List ℕ) × IsVerdictLine scale v line
 line_exists scale v =
     let from = number_exists scale.time (value v.on.from) in
     let to = number_exists scale.time (value v.on.to) in

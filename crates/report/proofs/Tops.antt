@@ -78,6 +78,18 @@ is_in_units digits v negative size d g p same low some common =
       unsigned_zero = λ h z. let k = factor_pos (size / g) g size (some h) e in absurd (omega arith);
     }
 
+-- a fraction in lowest terms, in units of one tick
+pub is_in_ticks : (v : Rational) (negative : Bool) (size d : ℕ) (p : 0 < d) → v ≈ ratio (signed negative size) d p → IsLowest (signed negative size) d → (negative ≡ true → 0 < size)
+    → IsInUnits 0 v negative size d
+is_in_ticks v negative size d p same low some = record {
+  lowest = low;
+  same = record { same = (subst (λ z. v ≈ ratio z d p) (times_one (signed negative size)) same).same };
+  unsigned_zero = λ h z. let k = some h in absurd (omega arith);
+}
+  where
+    times_one : (z : ℤ) → z ≡ z *ℤ pos (10 ^ 0)
+    times_one z = omega (arith, ints)
+
 -- the sign changes no common factor
 lowest_signed : (negative : Bool) (n d : ℕ) → IsLowest (pos n) d → IsLowest (signed negative n) d
 lowest_signed negative n d low = record {

@@ -6,5 +6,6 @@ pub mod Appended
 pub mod Numbers
 pub mod SignalVerdicts
 pub mod Spelling
+pub mod VerdictLines
 pub mod Laws
 pub mod MarginLines

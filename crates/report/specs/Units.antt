@@ -1,9 +1,11 @@
 -- The law of units: smaller ticks change no text.
-use Rattle.std.specs.Prelude.{ℕ, ◌+◌, ◌*◌, ◌^◌, ◌≤◌, pos, ◌*ℤ◌, List, map}
+use Rattle.std.specs.Prelude.{ℕ, ◌+◌, ◌*◌, ◌^◌, ◌≤◌, ◌↔◌, pos, ◌*ℤ◌, List, map}
+use Rattle.rational.specs.Time.{Rational}
 use Rattle.stl_syntax.specs.Trace.{Row, Trace, IsTrace, AreInRange}
-use Rattle.stl_syntax.specs.Formula.{Formula}
+use Rattle.stl_syntax.specs.Formula.{Formula, root}
+use Rattle.stl_syntax.specs.Truth.{Truth}
 use Rattle.stl_syntax.specs.WellFormed.{IsWellFormed}
-use Rattle.report.specs.Report.{Command, check, robust, Out}
+use Rattle.report.specs.Report.{Command, check, robust, Out, nodes_for}
 
 -- the row in ticks that are 10^k and 10^m times smaller
 abbrev pub finer_row : ℕ → ℕ → Row → Row
@@ -16,6 +18,17 @@ finer k m tr = record {
   rows = map (finer_row k m) tr.rows;
 }
 
+-- the time in smaller ticks
+abbrev pub finer_time : ℕ → Rational → Rational
+finer_time k t = record { up = 10 ^ k * t.up; down = 10 ^ k * t.down; den = t.den; positive = t.positive }
+
+-- the truth at a time does not depend on the ticks
+abbrev pub TruthIsOfUnits : Type 0
+TruthIsOfUnits =
+    (f : Formula) (tr : Trace) (k m : ℕ) (t : Rational) → IsTrace tr
+    → f.scale.time ≤ tr.header.scale.time → f.scale.value ≤ tr.header.scale.value
+    → Truth (root (nodes_for f tr)) tr t ↔ Truth (root (nodes_for f (finer k m tr))) (finer k m tr) (finer_time k t)
+
 -- the command writes the same for both traces
 abbrev pub WritesAlike : Command → Formula → Trace → Trace → Type 0
 WritesAlike command f tr tr' = (text : List ℕ) → (Out command f tr text → Out command f tr' text) × (Out command f tr' text → Out command f tr text)
@@ -26,3 +39,9 @@ LawOfUnits =
     (f : Formula) (tr : Trace) (k m : ℕ) → IsWellFormed f → IsTrace tr → AreInRange tr.rows → f.scale.time ≤ tr.header.scale.time → f.scale.value ≤ tr.header.scale.value
     → tr.header.scale.time + k ≤ 6 → tr.header.scale.value + m ≤ 6
     → WritesAlike check f tr (finer k m tr) × WritesAlike robust f tr (finer k m tr)
+
+-- the part of the law on `robust`, which holds of rows of any size: its knots are any rationals
+abbrev pub RobustIsOfUnits : Type 0
+RobustIsOfUnits =
+    (f : Formula) (tr : Trace) (k m : ℕ) → IsTrace tr → f.scale.time ≤ tr.header.scale.time → f.scale.value ≤ tr.header.scale.value
+    → WritesAlike robust f tr (finer k m tr)

@@ -1,5 +1,6 @@
 //! The laws of reports. Each is the contract of a call that does nothing, so that the gate proves it.
 ghost use Rattle.report.specs.Laws.{SignalsDescribe, SignalsDescribeMargins};
+ghost use Rattle.report.specs.Units.{TruthIsOfUnits, RobustIsOfUnits};
 
 use value_laws::Shape;
 
@@ -12,4 +13,14 @@ pub fn signals_describe<P: Shape>()
 /// it can be left out, and at every time it gives the Sup-Inf value.
 pub fn signals_describe_margins<P: Shape>()
     ensures { SignalsDescribeMargins P.Shape }
+{}
+
+/// The truth of a formula at a time does not depend on the ticks in which times and values are counted.
+pub fn truth_is_of_units()
+    ensures { TruthIsOfUnits }
+{}
+
+/// Smaller ticks change no text of `robust`.
+pub fn robust_is_of_units()
+    ensures { RobustIsOfUnits }
 {}

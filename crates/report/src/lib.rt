@@ -2,6 +2,7 @@
 #![tactic(auto)]
 
 pub mod laws;
+mod following;
 mod margin;
 mod number;
 mod signal;

@@ -1,15 +1,15 @@
 //! Numbers of ticks as fractions of units, in lowest terms.
-ghost use Rattle.std.specs.Prelude.{◌≡◌, ◌≢◌, ◌<◌, ◌≤◌, ◌^◌, [], ◌++◌, true, if◌then◌else◌, codes, OnOk, OnErr};
+ghost use Rattle.std.specs.Prelude.{◌≡◌, ◌≢◌, ◌<◌, ◌≤◌, ◌^◌, ◌/◌, ◌%◌, [], ◌++◌, true, if◌then◌else◌, codes, decimal, OnOk, OnErr};
 ghost use Rattle.std.specs.Int.{IsGcd};
 ghost use Rattle.std.specs.Int.RustNames.{unsigned_abs};
 ghost use Rattle.rational.specs.Time.{IsLowest, ratio, ◌≈◌};
 ghost use Rattle.frac128.specs.Ratios.{number};
 ghost use Rattle.frac128.specs.Value.{value, denominator};
-ghost use Rattle.stl_syntax.specs.Texts.{fraction_text};
-ghost use Rattle.report.specs.Appended.{GrewInPart};
+ghost use Rattle.stl_syntax.specs.Texts.{fraction_text, IsNumberText};
+ghost use Rattle.report.specs.Appended.{Grew, GrewInPart};
 ghost use Rattle.report.specs.Numbers.{signed, IsInUnits};
 
-use frac128::{Frac, Memory, Ratio};
+use frac128::{Frac, Memory, Ratio, gcd, gcd_of_wide};
 use itoa::Buffer;
 use stl_syntax::Text;
 
@@ -21,18 +21,26 @@ pub(crate) struct Lowest {
     den: u128,
 }
 
-/// The greatest common divisor, by Euclid.
-fn gcd(a: u64, b: u64) -> u64
-    ensures { IsGcd a b result }
+/// `n / by`, in 64 bits where `n` has no more.
+fn quotient(n: u128, by: u64) -> u128
+    requires { 0 < by }
+    ensures { result ≡ n / by }
 {
-    let mut x = a;
-    let mut y = b;
-    while y != 0 {
-        let rest = x % y;
-        x = y;
-        y = rest;
+    if n < 1 << 64 {
+        return u128::from(n as u64 / by);
     }
-    x
+    n / u128::from(by)
+}
+
+/// `n % by`, in 64 bits where `n` has no more.
+fn remainder(n: u128, by: u64) -> u64
+    requires { 0 < by }
+    ensures { result ≡ n % by }
+{
+    if n < 1 << 64 {
+        return n as u64 % by;
+    }
+    (n % u128::from(by)) as u64
 }
 
 /// The greatest common divisor of a size and a power of ten.
@@ -41,7 +49,7 @@ fn common_with(size: u128, tens: u64) -> u64
     ensures common { IsGcd size tens result }
     ensures some { 0 < result }
 {
-    gcd(tens, (size % u128::from(tens)) as u64)
+    gcd(tens, remainder(size, tens))
 }
 
 /// The number times its denominator, by its sign and its size.
@@ -65,11 +73,19 @@ pub(crate) fn in_units(t: &Frac, digits: u8) -> Lowest
     ensures { IsInUnits digits (value t.now) result.negative result.size result.den }
 {
     let (negative, size) = top(t);
+    // Ticks that are units: there is nothing to reduce, since the number is in lowest terms.
+    if digits == 0 {
+        return Lowest {
+            negative,
+            size,
+            den: u128::from(t.den()),
+        };
+    }
     let tens = 10u64.pow(u32::from(digits));
     let common = common_with(size, tens);
     Lowest {
         negative,
-        size: size / u128::from(common),
+        size: quotient(size, common),
         den: u128::from(t.den()) * u128::from(tens / common),
     }
 }
@@ -95,7 +111,7 @@ pub(crate) fn quotient_in_units(q: &Ratio, digits: u8) -> Lowest
     let (negative, size) = sized(q.num);
     let tens = 10u64.pow(u32::from(digits));
     let den = q.den.unsigned_abs() * u128::from(tens);
-    let common = frac128::gcd_of_wide(size, den);
+    let common = gcd_of_wide(size, den);
     Lowest {
         negative,
         size: size / common,
@@ -103,11 +119,27 @@ pub(crate) fn quotient_in_units(q: &Ratio, digits: u8) -> Lowest
     }
 }
 
-/// A minus where the number is negative.
-fn sign(negative: bool) -> &'static [u8]
-    ensures { result.now ≡ (if negative then codes "-" else []) }
+/// Appends a minus where the number is negative.
+fn put_sign(text: &mut Text, negative: bool) -> Result<(), Memory>
+    ensures ok { OnOk result (text.new ≡ text.old ++ (if negative then codes "-" else [])) }
+    ensures err { OnErr result (text.new ≡ text.old) }
 {
-    if negative { b"-" } else { b"" }
+    if !negative {
+        return Ok(());
+    }
+    text.push(b"-")
+}
+
+/// Appends the digits of a number, which are found in 64 bits where it has no more.
+fn put_digits(text: &mut Text, n: u128) -> Result<(), Memory>
+    ensures ok { OnOk result (text.new ≡ text.old ++ decimal n) }
+    ensures err { OnErr result (text.new ≡ text.old) }
+{
+    let mut buffer = Buffer::new();
+    if n < 1 << 64 {
+        return text.push(buffer.format(n as u64).as_bytes());
+    }
+    text.push(buffer.format(n).as_bytes())
 }
 
 /// The text of a fraction, without the denominator 1.
@@ -116,12 +148,19 @@ pub(crate) fn put_fraction(text: &mut Text, n: &Lowest) -> Result<(), Memory>
     ensures ok { OnOk result (text.new ≡ text.old ++ fraction_text (signed n.now.negative n.now.size) n.now.den) }
     ensures err { OnErr result (GrewInPart (λ w. w ≡ fraction_text (signed n.now.negative n.now.size) n.now.den) text.old text.new) }
 {
-    let mut buffer = Buffer::new();
-    text.push(sign(n.negative))?;
-    text.push(buffer.format(n.size).as_bytes())?;
+    put_sign(text, n.negative)?;
+    put_digits(text, n.size)?;
     if n.den == 1 {
         return Ok(());
     }
     text.push(b"/")?;
-    text.push(buffer.format(n.den).as_bytes())
+    put_digits(text, n.den)
+}
+
+/// The text of a number of ticks of `1 / 10^digits`, as a number of units.
+pub(crate) fn put_time(text: &mut Text, t: &Frac, digits: u8) -> Result<(), Memory>
+    requires { digits ≤ 6 }
+    ensures ok { OnOk result (Grew (IsNumberText digits (value t.now)) text.old text.new) }
+{
+    put_fraction(text, &in_units(t, digits))
 }

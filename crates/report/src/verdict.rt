@@ -8,7 +8,7 @@ use frac128::{Memory, Span};
 use stl_syntax::{Scale, Text, Verdict};
 
 /// The bracket before a span.
-fn opening(inside: bool) -> &'static [u8]
+pub(crate) fn opening(inside: bool) -> &'static [u8]
     ensures { result.now ≡ (if inside then codes "[" else codes "(") }
 {
     if inside { b"[" } else { b"(" }

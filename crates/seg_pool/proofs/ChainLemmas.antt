@@ -7,19 +7,27 @@ use Rattle.seg_pool.specs.Chain.{Labels, items_from, IsChain}
 module _ {T : Type 0} where
   -- the cell at the end of a list
   pub record IsEnd (cells : Slab (Cell T)) (labels : Labels) (list last low : ℕ) : Type 0 where
+    -- the last cell
     pub cell : Cell T
+    -- it is in the slab
     pub found : get cells last ≡ Some cell
+    -- and of the list
     pub owned : labels.owner last ≡ list
+    -- at its place or after it
     pub placed : low ≤ labels.place last
 
   -- what stays as it was at a key
   pub record KeepsKey (cells now : Slab (Cell T)) (labels labels' : Labels) (key : ℕ) : Type 0 where
+    -- the cell stays
     pub slot : get now key ≡ get cells key
+    -- and its list
     pub owner : labels'.owner key ≡ labels.owner key
+    -- and its place
     pub place : labels'.place key ≡ labels.place key
 
   -- each key of a list, from a place on, stays as it was
   pub record KeepsList (cells now : Slab (Cell T)) (labels labels' : Labels) (list low : ℕ) : Type 0 where
+    -- every cell of the chain stays
     pub at : (key : ℕ) (cell : Cell T) → get cells key ≡ Some cell → labels.owner key ≡ list → low ≤ labels.place key
         → KeepsKey cells now labels labels' key
 
@@ -68,6 +76,7 @@ module _ {T : Type 0} where
     chain_from_lower (suc n) low lower key below chain =
         (chain.0, chain.1, chain.2, omega (arith, chain.3), chain.4, chain.5)
 
+    -- a chain of n cells has n items
     pub length-items_from : (n low key : ℕ) → IsChain cells labels list last n low key → length (items_from cells n key) ≡ n
     length-items_from zero low key chain = refl
     length-items_from (suc n) low key chain =

@@ -34,7 +34,9 @@ use Rattle.seg_pool.proofs.ChainLemmas.{KeepsList, kept_chain, kept_items}
 
 -- a list's number has these ends
 pub record HasEnds (ends : List Ends) (list : ℕ) (read : Ends) : Type 0 where
+  -- the list is one of the pool
   pub within : list < length ends
+  -- its ends were read
   pub is : get_or ends list no_ends ≡ read
 
 -- a read of what was written
@@ -71,10 +73,15 @@ module _ {T : Type 0} where
 
   -- one list has these ends and items now, and every other list is as it was
   pub record ChangesList (cells now : Slab (Cell T)) (ends : List Ends) (list : ℕ) (ends' : Ends) (items : List T) : Type 0 where
+    -- the owners and places after the change
     pub labels : Labels
+    -- the list is sound
     pub listed : IsListed now labels list ends'
+    -- and has these items
     pub items_are : items_of now ends' ≡ items
+    -- the other lists are sound
     pub others : (other : ℕ) → other ≢ list → IsListed now labels other (get_or ends other no_ends)
+    -- and have the items that they had
     pub others_items : (other : ℕ) → other ≢ list
         → items_of now (get_or ends other no_ends) ≡ items_of cells (get_or ends other no_ends)
 

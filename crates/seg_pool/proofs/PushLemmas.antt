@@ -74,14 +74,23 @@ module _ {T : Type 0} where
 
   -- a list's last cell has a new key behind it, and every other cell is as it was
   pub record IsPushed (cells now : Slab (Cell T)) (labels labels' : Labels) (list last key : ℕ) (item : T) : Type 0 where
+    -- the cell that was last
     pub back : Cell T
+    -- where it stood
     pub was_back : get cells last ≡ Some back
+    -- it points to the new one
     pub now_back : get now last ≡ Some (cell_of back.item key)
+    -- it is of the list still
     pub back_owned : labels'.owner last ≡ list
+    -- at its place
     pub back_placed : labels'.place last ≡ labels.place last
+    -- the new cell
     pub fresh : get now key ≡ Some (cell_of item 0)
+    -- it is of the list
     pub owned : labels'.owner key ≡ list
+    -- behind the one that was last
     pub placed : labels.place last < labels'.place key
+    -- every other cell stays
     pub others : (k : ℕ) (cell : Cell T) → k ≢ last → get cells k ≡ Some cell → KeepsKey cells now labels labels' k
 
   module _ (cells now : Slab (Cell T)) (labels labels' : Labels) (list last key : ℕ) (item : T)

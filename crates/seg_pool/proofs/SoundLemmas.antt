@@ -89,6 +89,7 @@ module _ {T : Type 0} {cells : Slab (Cell T)} {ends : List Ends} {spare list : �
   pub empty_at : read.len ≡ 0 → get_or (lists_of cells ends) list [] ≡ []
   empty_at none = items_at ∙ ap (λ n. items_from cells n read.first) none
 
+  -- a list has as many items as its length says
   pub length-items_at : length (get_or (lists_of cells ends) list []) ≡ read.len
   length-items_at = ap length items_at ∙ length-items_from cells sound.labels list read.last read.len 0 read.first listed_at
 

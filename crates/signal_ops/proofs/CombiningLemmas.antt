@@ -1,12 +1,12 @@
 -- The least or the greatest of two signals, gap by gap.
-use Rattle.std.proofs.Common.{◌≡◌, ◌⊎◌, inl, inr, List, [], ◌∷◌, Some, refl, sym, ◌∙◌, subst, arith}
+use Rattle.std.proofs.Common.{◌≡◌, ◌⊎◌, inl, inr, List, [], ◌∷◌, Some, sym, ◌∙◌, subst}
 use Rattle.std.specs.Prelude.{slice_get, Result, Ok, Err, IfErr}
 use Rattle.rational.specs.Time.{Rational, ◌≤ʳ◌, ◌<ʳ◌, ◌≈◌}
-use Rattle.rational.specs.Extended.{Extended, value_at, Passes}
+use Rattle.rational.specs.Extended.{value_at}
 use Rattle.rational.specs.InPlay.{of_two}
 use Rattle.rational.specs.Windows.{Function}
-use Rattle.rational.proofs.Order.{lt_of_lt_of_le, lt_of_le_of_lt, same_refl, same_sym}
-use Rattle.rational.proofs.AffineLemmas.{same_symᵉ, same_transᵉ, same_reflᵉ, value_same}
+use Rattle.rational.proofs.Order.{lt_of_lt_of_le, lt_of_le_of_lt, same_refl}
+use Rattle.rational.proofs.AffineLemmas.{same_reflᵉ}
 use Rattle.frac128.specs.Value.{value}
 use Rattle.frac128.specs.declared.frac.Frac.{Frac}
 use Rattle.value_laws.specs.Members.{ShapeOf}
@@ -19,16 +19,20 @@ use Rattle.pl_signal.specs.Knots.{time, start, stop, HasShape, IsWorth, IsSignal
 use Rattle.pl_signal.specs.Wide.{HasCause}
 use Rattle.pl_signal.specs.Joining.{IsChosen, ChosenOf, Joins, IsGapFault}
 use Rattle.pl_signal.proofs.Values.{worth_at, worth_same, one_value}
-use Rattle.pl_signal.proofs.Telling.{IsFunction, TellsSoFar}
+use Rattle.pl_signal.proofs.Telling.{IsFunction, TellsSoFar, tells_first, tells_join}
 use Rattle.pl_signal.proofs.Choices.{chosen_same, chosen_once}
 use Rattle.signal_ops.specs.Pointwise.{IsFault, IsWideMeeting, NamesShapes}
 
 module _ {P : Type 0} (shape : ShapeOf P) where
-  pub chosen_shapes : (ks ls : List (Knot P)) (x y point r : P) → HasShape ks x → HasShape ls y → (point ≡ x) ⊎ (point ≡ y) → r ≡ point → HasShape ks r ⊎ HasShape ls r
+  -- what is chosen of two shapes is a shape of one of the signals
+  pub chosen_shapes : (ks ls : List (Knot P)) (x y point r : P) → HasShape ks x → HasShape ls y → (point ≡ x) ⊎ (point ≡ y) → r ≡ point
+      → HasShape ks r ⊎ HasShape ls r
   chosen_shapes ks ls x y point r h k (inl e) f = inl (subst (HasShape ks) (sym (f ∙ e)) h)
   chosen_shapes ks ls x y point r h k (inr e) f = inr (subst (HasShape ls) (sym (f ∙ e)) k)
 
-  pub first_shapes : (ks ls built : List (Knot P)) (x y point : P) (at : Frac) → HasShape ks x → HasShape ls y → (point ≡ x) ⊎ (point ≡ y) → built ≡ record { time = at; point = point; after = point } ∷ []
+  -- so at the first knot
+  pub first_shapes : (ks ls built : List (Knot P)) (x y point : P) (at : Frac) → HasShape ks x → HasShape ls y → (point ≡ x) ⊎ (point ≡ y)
+      → built ≡ record { time = at; point = point; after = point } ∷ []
       → (r : P) → HasShape built r → HasShape ks r ⊎ HasShape ls r
   first_shapes ks ls built x y point at h k one e r m = by_part (subst (λ os. HasShape os r) e m)
     where
@@ -37,7 +41,9 @@ module _ {P : Type 0} (shape : ShapeOf P) where
       by_part (inr (inl f)) = chosen_shapes ks ls x y point r h k one f
       by_part (inr (inr f)) = absurd f
 
-  pub joined_shapes : (b : Side) (ks ls old new : List (Knot P)) (p q point x y : P) (to : Frac) → ((r : P) → HasShape old r → HasShape ks r ⊎ HasShape ls r) → Joins shape b old p q to point new
+  -- and so once a gap is joined
+  pub joined_shapes : (b : Side) (ks ls old new : List (Knot P)) (p q point x y : P) (to : Frac)
+      → ((r : P) → HasShape old r → HasShape ks r ⊎ HasShape ls r) → Joins shape b old p q to point new
       → HasShape ks p → HasShape ls q → HasShape ks x → HasShape ls y → (point ≡ x) ⊎ (point ≡ y) → (r : P) → HasShape new r → HasShape ks r ⊎ HasShape ls r
   joined_shapes b ks ls old new p q point x y to so_far joins hp hq hx hy one r h = by_part (joins.shapes r h)
     where
@@ -47,9 +53,12 @@ module _ {P : Type 0} (shape : ShapeOf P) where
       by_part (inr (inr (inl e))) = inr (subst (HasShape ls) (sym e) hq)
       by_part (inr (inr (inr e))) = chosen_shapes ks ls x y point r hx hy one e
 
-  pub chosen_is_function : (b : Side) (ks ls : List (Knot P)) → IsSignal shape ks → IsSignal shape ls → IsFunction (ChosenOf b (IsWorth shape ks) (IsWorth shape ls))
+  -- what is chosen of two signals is a function of time
+  pub chosen_is_function : (b : Side) (ks ls : List (Knot P)) → IsSignal shape ks → IsSignal shape ls
+      → IsFunction (ChosenOf b (IsWorth shape ks) (IsWorth shape ls))
   chosen_is_function b ks ls s r = record {
-    alike = λ t u v w e f (x, y, h, k, m). (x, y, worth_same shape ks x x e (same_reflᵉ x) h, worth_same shape ls y y e (same_reflᵉ y) k, chosen_same b x y v w f m);
+    alike = λ t u v w e f (x, y, h, k, m).
+        (x, y, worth_same shape ks x x e (same_reflᵉ x) h, worth_same shape ls y y e (same_reflᵉ y) k, chosen_same b x y v w f m);
     one = λ t v w (x, y, h, k, m) (x', y', h', k', m'). record {
       at_most = chosen_once b x y x' y' v w (one_value shape ks t x x' s h h') (one_value shape ls t y y' r k k') m m';
       at_least = chosen_once b x' y' x y w v (one_value shape ks t x' x s h' h) (one_value shape ls t y' y r k' k) m' m;
@@ -59,51 +68,47 @@ module _ {P : Type 0} (shape : ShapeOf P) where
   -- the new signal goes on telling what is chosen
   pub tells_joined : (b : Side) (ks ls old new : List (Knot P)) (p q x y point : P) (to : Frac) → IsSignal shape ks → IsSignal shape ls
       → TellsSoFar shape (ChosenOf b (IsWorth shape ks) (IsWorth shape ls)) old → Joins shape b old p q to point new
-      → ((t : Rational) → stop old <ʳ t → t <ʳ value to → IsWorth shape ks t (value_at (shape.function p) t)) → ((t : Rational) → stop old <ʳ t → t <ʳ value to → IsWorth shape ls t (value_at (shape.function q) t))
+      → ((t : Rational) → stop old <ʳ t → t <ʳ value to → IsWorth shape ks t (value_at (shape.function p) t))
+      → ((t : Rational) → stop old <ʳ t → t <ʳ value to → IsWorth shape ls t (value_at (shape.function q) t))
       → IsWorth shape ks (value to) (value_at (shape.function x) (value to)) → IsWorth shape ls (value to) (value_at (shape.function y) (value to))
-      → IsChosen b (value_at (shape.function x) (value to)) (value_at (shape.function y) (value to)) (value_at (shape.function point) (value to)) → TellsSoFar shape (ChosenOf b (IsWorth shape ks) (IsWorth shape ls)) new
-  tells_joined b ks ls old new p q x y point to s r so_far joins left right here here' chosen = record { signal = joins.signal; worth = λ t v w. by_part t v ((joins.worth t v).0 w) }
-    where
-      by_part : (t : Rational) (v : Extended)
-          → IsWorth shape old t v ⊎ ((stop old <ʳ t) × (t <ʳ value to) × IsChosen b (value_at (shape.function p) t) (value_at (shape.function q) t) v) ⊎ ((t ≈ value to) × Passes (shape.function point) t v)
-          → ChosenOf b (IsWorth shape ks) (IsWorth shape ls) t v
-      by_part t v (inl w) = so_far.worth t v w
-      by_part t v (inr (inl w)) = (value_at (shape.function p) t, value_at (shape.function q) t, left t w.0 w.1, right t w.0 w.1, w.2)
-      by_part t v (inr (inr w)) = (chosen_is_function b ks ls s r).alike (value to) t (value_at (shape.function point) (value to)) v (same_sym w.0)
-          (same_symᵉ v (value_at (shape.function point) (value to)) (same_transᵉ v (value_at (shape.function point) t) (value_at (shape.function point) (value to)) w.1 (value_same (shape.function point) w.0)))
-          (value_at (shape.function x) (value to), value_at (shape.function y) (value to), here, here', chosen)
+      → IsChosen b (value_at (shape.function x) (value to)) (value_at (shape.function y) (value to)) (value_at (shape.function point) (value to))
+      → TellsSoFar shape (ChosenOf b (IsWorth shape ks) (IsWorth shape ls)) new
+  tells_joined b ks ls old new p q x y point to s r so_far joins left right here here' chosen =
+      tells_join shape (ChosenOf b (IsWorth shape ks) (IsWorth shape ls)) b old new p q point to (chosen_is_function b ks ls s r) so_far joins
+      (λ t v a c w. (value_at (shape.function p) t, value_at (shape.function q) t, left t a c, right t a c, w))
+      (value_at (shape.function x) (value to), value_at (shape.function y) (value to), here, here', chosen)
 
   -- the first instant
-  pub tells_chosen : (b : Side) (ks ls built : List (Knot P)) (k l : Knot P) (point : P) → IsSignal shape ks → IsSignal shape ls → slice_get ks 0 ≡ Some k → slice_get ls 0 ≡ Some l → time k ≈ time l
-      → IsChosen b (value_at (shape.function k.point) (time k)) (value_at (shape.function l.point) (time k)) (value_at (shape.function point) (time k)) → built ≡ record { time = k.time; point = point; after = point } ∷ []
+  pub tells_chosen : (b : Side) (ks ls built : List (Knot P)) (k l : Knot P) (point : P) → IsSignal shape ks → IsSignal shape ls
+      → slice_get ks 0 ≡ Some k → slice_get ls 0 ≡ Some l → time k ≈ time l
+      → IsChosen b (value_at (shape.function k.point) (time k)) (value_at (shape.function l.point) (time k))
+      (value_at (shape.function point) (time k)) → built ≡ record { time = k.time; point = point; after = point } ∷ []
       → TellsSoFar shape (ChosenOf b (IsWorth shape ks) (IsWorth shape ls)) built
-  tells_chosen b ks ls built k l point s r at_k at_l same chosen e = subst (TellsSoFar shape (ChosenOf b (IsWorth shape ks) (IsWorth shape ls))) (sym e) (record {
-    signal = record { some = omega arith; each = (record { rising = tt; needed = tt; ends = refl }, tt) };
-    worth = by_knot;
-  })
-    where
-      by_knot : (t : Rational) (v : Extended) → IsWorth shape (record { time = k.time; point = point; after = point } ∷ []) t v → ChosenOf b (IsWorth shape ks) (IsWorth shape ls) t v
-      by_knot t v (inl w) = (chosen_is_function b ks ls s r).alike (time k) t (value_at (shape.function point) (time k)) v (same_sym w.when)
-          (same_symᵉ v (value_at (shape.function point) (time k)) (same_transᵉ v (value_at (shape.function point) t) (value_at (shape.function point) (time k)) w.worth (value_same (shape.function point) w.when)))
-          (value_at (shape.function k.point) (time k), value_at (shape.function l.point) (time k), worth_at shape ks 0 k (time k) at_k (same_refl (time k)), worth_at shape ls 0 l (time k) at_l same, chosen)
-      by_knot t v (inr (inl w)) = absurd w
-      by_knot t v (inr (inr w)) = absurd w
+  tells_chosen b ks ls built k l point s r at_k at_l same chosen e =
+      tells_first shape (ChosenOf b (IsWorth shape ks) (IsWorth shape ls)) built point k.time (chosen_is_function b ks ls s r) (
+        value_at (shape.function k.point) (time k),
+        value_at (shape.function l.point) (time k),
+        worth_at shape ks 0 k (time k) at_k (same_refl (time k)),
+        worth_at shape ls 0 l (time k) at_l same,
+        chosen,
+      ) e
 
   -- a fault on a gap is a fault of the two signals
-  pub fault_of_gap : (ks ls : List (Knot P)) (p q : P) (from to : Frac) (e : OpFault P) → IsGapFault shape p q from to e → start ks ≤ʳ value from → value to ≤ʳ stop ks
-      → ((t : Rational) → value from <ʳ t → t <ʳ value to → IsWorth shape ks t (value_at (shape.function p) t)) → ((t : Rational) → value from <ʳ t → t <ʳ value to → IsWorth shape ls t (value_at (shape.function q) t))
+  pub fault_of_gap : (ks ls : List (Knot P)) (p q : P) (from to : Frac) (e : OpFault P) → IsGapFault shape p q from to e → start ks ≤ʳ value from
+      → value to ≤ʳ stop ks
+      → ((t : Rational) → value from <ʳ t → t <ʳ value to → IsWorth shape ks t (value_at (shape.function p) t))
+      → ((t : Rational) → value from <ʳ t → t <ʳ value to → IsWorth shape ls t (value_at (shape.function q) t))
       → IsFault shape (IsWorth shape ks) (IsWorth shape ls) (start ks) (stop ks) e
   fault_of_gap ks ls p q from to F.Memory h above below left right = tt
   fault_of_gap ks ls p q from to (F.Wide (Cross a b c d den)) (e, f, i, j, m) above below left right =
-      subst (λ a. IsWideMeeting shape (IsWorth shape ks) (IsWorth shape ls) (start ks) (stop ks) a b (value c) (value d) den) (sym e)
-      (subst (λ b. IsWideMeeting shape (IsWorth shape ks) (IsWorth shape ls) (start ks) (stop ks) p b (value c) (value d) den) (sym f)
-      (subst (λ c. IsWideMeeting shape (IsWorth shape ks) (IsWorth shape ls) (start ks) (stop ks) p q (value c) (value d) den) (sym i)
-      (subst (λ d. IsWideMeeting shape (IsWorth shape ks) (IsWorth shape ls) (start ks) (stop ks) p q (value from) (value d) den) (sym j)
+      let Wide = λ (a b : P) (c d : Frac). IsWideMeeting shape (IsWorth shape ks) (IsWorth shape ls) (start ks) (stop ks) a b (value c) (value d) den in
+      subst (λ a. Wide a b c d) (sym e) (subst (λ b. Wide p b c d) (sym f) (subst (λ c. Wide p q c d) (sym i) (subst (λ d. Wide p q from d) (sym j)
       (record { after_start = above; before_stop = below; left = left; right = right; at = m.0; meet = m.1; denominator = m.2; wide = m.3 }))))
   fault_of_gap ks ls p q from to (F.Wide (Value a b den)) h above below left right = absurd h
 
   -- and it names a shape of each
-  pub names_of_gap : (ks ls : List (Knot P)) (p q : P) (from to : Frac) (e : OpFault P) → IsGapFault shape p q from to e → HasShape ks p → HasShape ls q → NamesShapes ks ls e
+  pub names_of_gap : (ks ls : List (Knot P)) (p q : P) (from to : Frac) (e : OpFault P) → IsGapFault shape p q from to e → HasShape ks p
+      → HasShape ls q → NamesShapes ks ls e
   names_of_gap ks ls p q from to F.Memory h left right = tt
   names_of_gap ks ls p q from to (F.Wide (Cross a b c d den)) (e, f, i, j, m) left right = (subst (HasShape ks) (sym e) left, subst (HasShape ls) (sym f) right)
   names_of_gap ks ls p q from to (F.Wide (Value a b den)) h left right = absurd h
@@ -117,8 +122,20 @@ module _ {P : Type 0} (shape : ShapeOf P) where
     before_stop = lt_of_lt_of_le h.meet.before h.before_stop;
     above = h.meet.after;
     below = h.meet.before;
-    first = inl (record { a = value a; b = value b; above = h.meet.after; below = h.meet.before; on = λ t x y. (value_at (shape.function p) t, h.left t x y, same_reflᵉ (value_at (shape.function p) t)) });
-    second = inr (record { a = value a; b = value b; above = h.meet.after; below = h.meet.before; on = λ t x y. (value_at (shape.function q) t, h.right t x y, same_reflᵉ (value_at (shape.function q) t)) });
+    first = inl (record {
+      a = value a;
+      b = value b;
+      above = h.meet.after;
+      below = h.meet.before;
+      on = λ t x y. (value_at (shape.function p) t, h.left t x y, same_reflᵉ (value_at (shape.function p) t));
+    });
+    second = inr (record {
+      a = value a;
+      b = value b;
+      above = h.meet.after;
+      below = h.meet.before;
+      on = λ t x y. (value_at (shape.function q) t, h.right t x y, same_reflᵉ (value_at (shape.function q) t));
+    });
     meet = h.meet.meet;
     alone = h.meet.alone;
     denominator = h.denominator;
@@ -126,6 +143,8 @@ module _ {P : Type 0} (shape : ShapeOf P) where
   }
   cause_of_fault A B from to (F.Wide (Value p at den)) h = absurd h
 
-  pub causes_of_faults : {R : Type 0} (A B : Function) (from to : Rational) (r : Result R (OpFault P)) → IfErr r (IsFault shape A B from to) → IfErr r (HasCause shape (of_two A B) from to)
+  -- so for an answer that may be refused
+  pub causes_of_faults : {R : Type 0} (A B : Function) (from to : Rational) (r : Result R (OpFault P)) → IfErr r (IsFault shape A B from to)
+      → IfErr r (HasCause shape (of_two A B) from to)
   causes_of_faults A B from to (Ok x) h = h
   causes_of_faults A B from to (Err e) h = cause_of_fault A B from to e h

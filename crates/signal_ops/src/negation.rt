@@ -10,6 +10,10 @@ use pl_signal::{Builder, Signal};
 use value_laws::Shape;
 
 /// The signal that is minus the given one at each time. Its moving shapes have the bases of moving shapes of the given one.
+///
+/// # Errors
+///
+/// `Memory` where memory is wanting.
 pub fn neg<P: Shape>(s: &Signal<P>) -> Result<Signal<P>, Memory>
     requires { IsLimited P.Shape s.now }
     ensures worth { IfOk result (Tells P.Shape (Negated (IsWorth P.Shape s.now)) (start s.now) (stop s.now)) }

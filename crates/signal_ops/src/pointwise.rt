@@ -16,6 +16,10 @@ use value_laws::Shape;
 ///
 /// It is refused as `Wide` only where a part of each on a common open gap have a crossing there whose time needs a denominator
 /// of 2^60 or more.
+///
+/// # Errors
+///
+/// `Wide` as said above; `Memory` where memory is wanting.
 pub fn lower<P: Shape>(a: &Signal<P>, b: &Signal<P>) -> Result<Signal<P>, OpFault<P>>
     requires left { IsLimited P.Shape a.now }
     requires right { IsLimited P.Shape b.now }
@@ -37,6 +41,10 @@ pub fn lower<P: Shape>(a: &Signal<P>, b: &Signal<P>) -> Result<Signal<P>, OpFaul
 ///
 /// It is refused as `Wide` only where a part of each on a common open gap have a crossing there whose time needs a denominator
 /// of 2^60 or more.
+///
+/// # Errors
+///
+/// `Wide` as said above; `Memory` where memory is wanting.
 pub fn upper<P: Shape>(a: &Signal<P>, b: &Signal<P>) -> Result<Signal<P>, OpFault<P>>
     requires left { IsLimited P.Shape a.now }
     requires right { IsLimited P.Shape b.now }
@@ -68,6 +76,7 @@ fn combined<P: Shape>(side: Side, a: &Signal<P>, b: &Signal<P>) -> Result<Signal
     ensures named { IfErr result (NamesShapes a.now b.now) }
 {
     let last = a.len() - 1;
+    // For the proof alone: that this one is a signal is a clause of `len`.
     let _ = b.len();
     let (x, y) = (a.knot(0), b.knot(0));
     let first = chosen(side, &x.point, &y.point, &x.time);

@@ -31,6 +31,10 @@ fn is_empty(text: &[u8]) -> bool
 /// its place in bytes from 0.
 ///
 /// The text and its refusals are this project's profile of signal temporal logic (Maler and Nickovic 2004).
+///
+/// # Errors
+///
+/// The first refusal of the text, with its place, exactly where it has one; `Memory` where memory is wanting.
 pub fn parse(alloc: Global, text: &str) -> Result<Formula, FormulaFault>
     ensures ok { IfOk result (λ f. IsFormulaOf text.now f) }
     ensures fault { IfErr result (λ r. (r ≡ FormulaFault.Memory) ⊎ IsFormulaFault text.now r) }

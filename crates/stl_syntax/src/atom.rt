@@ -33,6 +33,10 @@ impl Term {
     /// The column `name` times `coef`, a whole number from -16 to 16.
     ///
     /// A name is a letter or `_`, and then letters, digits, `_` and points, but no word of the grammar.
+    ///
+    /// # Errors
+    ///
+    /// `Memory` where memory is wanting.
     pub fn make(alloc: Global, coef: i32, name: &str) -> Result<Term, Memory>
         requires coef { nat_abs coef ≤ 16 }
         requires name { IsTrue (is_name name.now) }

@@ -42,6 +42,10 @@ impl FormulaBuilder {
     ///
     /// The node's children are the last places that are not used yet, the left one before the right one; then its own place
     /// is the last one.
+    ///
+    /// # Errors
+    ///
+    /// `Memory` where memory is wanting; the nodes stay as they were.
     pub fn add(&mut self, node: Node) -> Result<u32, Memory>
         requires few { length self.old < 256 }
         requires children { MayFollow self.old node }

@@ -46,6 +46,10 @@ impl Items {
     }
 
     /// Appends the item; without memory for it the list stays as it was.
+    ///
+    /// # Errors
+    ///
+    /// `Memory` where memory is wanting; the items stay as they were.
     pub fn push(&mut self, item: Item) -> Result<(), Memory>
         ensures ok { OnOk result (self.new ≡ self.old ++ item ∷ []) }
         ensures err { OnErr result (self.new ≡ self.old) }

@@ -14,6 +14,10 @@ use itoa::Buffer;
 
 impl Formula {
     /// The formula's text, with the fewest parentheses and digits: where the grammar accepts it, it stands for this formula.
+    ///
+    /// # Errors
+    ///
+    /// `Memory` where memory is wanting.
     pub fn print(&self) -> Result<Text, Memory>
         ensures { IfOk result (IsPrintedFormula self.now) }
     {

@@ -17,6 +17,11 @@ impl Formula {
     ///
     /// It is refused where a number passes its limit in the new ticks: at the first node with such a constant, or else where
     /// the reach does.
+    ///
+    /// # Errors
+    ///
+    /// `Constant` at the first node whose constant passes its limit in the new ticks; `Reach` where none does and the bounds
+    /// sum to more than a horizon may have; `Memory` where memory is wanting.
     pub fn scaled(&self, to: Scale) -> Result<Formula, UnitFault>
         requires time { self.now.scale.time ≤ to.time }
         requires value { self.now.scale.value ≤ to.value }

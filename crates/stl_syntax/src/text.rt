@@ -37,6 +37,10 @@ impl Text {
     }
 
     /// Appends the piece; without memory for it the bytes stay as they were.
+    ///
+    /// # Errors
+    ///
+    /// `Memory` where memory is wanting; the text stays as it was.
     pub fn push(&mut self, piece: &[u8]) -> Result<(), Memory>
         ensures ok { OnOk result (self.new ≡ self.old ++ piece.now) }
         ensures err { OnErr result (self.new ≡ self.old) }
@@ -45,5 +49,12 @@ impl Text {
             Ok(()) => Ok(()),
             Err(_) => Err(Memory),
         }
+    }
+
+    /// Takes all bytes away. Their memory stays for what is appended next.
+    pub fn clear(&mut self)
+        ensures { self.new ≡ [] }
+    {
+        self.bytes.clear();
     }
 }

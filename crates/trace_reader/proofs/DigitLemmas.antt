@@ -1,5 +1,5 @@
 -- The digits that a text begins with.
-use Rattle.std.proofs.Common.{◌≡◌, ℕ, suc, zero, ◌≤◌, Bool, true, false, List, [], ◌∷◌, ◌++◌, length, take, drop, refl, sym, ap, ◌∙◌, arith, ℤ, nat_abs, pos, negsuc, nat_eq, SFits, w32}
+use Rattle.std.proofs.Common.{◌≡◌, ℕ, suc, zero, ◌+◌, ◌-◌, ◌%◌, ◌<◌, ◌≤◌, Bool, true, false, List, [], ◌∷◌, ◌++◌, length, take, drop, refl, sym, ap, ◌∙◌, arith, ℤ, nat_abs, pos, negsuc, nat_eq, SFits, w32}
 use Rattle.std.proofs.lemmas.Int.{ints}
 use lib.Pointwise.{pointwise}
 use Rattle.std.specs.Cmp.Lexicographic.{same_text}
@@ -21,6 +21,11 @@ front_ends p (x ∷ xs) c more zero h k t s = absurd (let a : p x ≡ true = gri
 front_ends p (x ∷ xs) c more (suc n) h k t s =
     let b : all p xs ≡ true = grind (arith, h) in let d : all p (take n (xs ++ c ∷ more)) ≡ true = grind (arith, t) in
     ap suc (front_ends p xs c more n b k d s)
+
+-- a byte less 48, where it is at most 9
+pub wrapped : (c : ℕ) → c < 256 → (c + 18446744073709551568) % 18446744073709551616 ≤ 9
+    → (48 ≤ c) × (c ≤ 57) × ((c + 18446744073709551568) % 18446744073709551616 ≡ c - 48)
+wrapped c s h = (omega arith, omega arith, omega arith)
 
 -- a value fits its type
 pub value_fits : (v : ℤ) → nat_abs v ≤ 16777216 → SFits w32 v

@@ -45,14 +45,17 @@ pub split-none : (xs : List ℕ) → All (λ c. c ≡ 44 → ⊥) xs → split 4
 split-none [] h = refl
 split-none (x ∷ xs) h = rw (ne_eqb x 44 (All-head (λ c. c ≡ 44 → ⊥) x xs h), split-none xs (All-tail (λ c. c ≡ 44 → ⊥) x xs h)) refl
 
+-- a text is cut at its first comma
 pub split-at : (xs ys : List ℕ) → All (λ c. c ≡ 44 → ⊥) xs → split 44 (xs ++ 44 ∷ ys) ≡ xs ∷ split 44 ys
 split-at [] ys h = refl
 split-at (x ∷ xs) ys h = rw (ne_eqb x 44 (All-head (λ c. c ≡ 44 → ⊥) x xs h), split-at xs ys (All-tail (λ c. c ≡ 44 → ⊥) x xs h)) refl
 
+-- without a comma there is one field
 pub last_field : (text : List ℕ) → Nowhere (Passes (is_byte 44) text) 0 (length text) → fields_of (Some text) ≡ trim text ∷ []
 last_field text h =
     ap (map trim) (split-none text (All-from_get_or (λ c. c ≡ 44 → ⊥) text 0 (λ i l e. h i (omega arith) l (eq-eqb (get_or text i 0) 44 e))))
 
+-- with one the first field ends at it
 pub first_field : (text : List ℕ) (at : ℕ) → NoneBefore (Passes (is_byte 44) text) 0 (length text) at → Passes (is_byte 44) text at
     → fields_of (Some text) ≡ trim (take at text) ∷ fields_of (Some (drop (at + 1) text))
 first_field text at h is =
@@ -75,6 +78,7 @@ split_first (x ∷ xs) = by_test (split_first xs) (cases_eq x 44)
     by_test before (inl e) = ([], split 44 xs, rw (eq-eqb x 44 e) refl)
     by_test (p, ps, h) (inr e) = (x ∷ p, ps, rw (ne_eqb x 44 e, h) refl)
 
+-- there is always a field
 pub split_some : (xs : List ℕ) → 0 < length (split 44 xs)
 split_some xs = let (p, ps, h) = split_first xs in rw h (omega arith)
 
@@ -82,12 +86,15 @@ split_some xs = let (p, ps, h) = split_first xs in rw h (omega arith)
 pub split-comma : (x : ℕ) (xs : List ℕ) → x ≡ 44 → length (split 44 (x ∷ xs)) ≡ length (split 44 xs) + 1
 split-comma x xs e = rw (eq-eqb x 44 e) (omega arith)
 
+-- a byte that is no comma makes no field more
 pub split-other : (x : ℕ) (xs : List ℕ) → (x ≡ 44 → ⊥) → length (split 44 (x ∷ xs)) ≡ length (split 44 xs)
 split-other x xs e = let (p, ps, h) = split_first xs in rw (ne_eqb x 44 e, h) refl
 
+-- the fields from a place on
 pub split_more : (text : List ℕ) (n : ℕ) → n < length text → split 44 (drop n text) ≡ split 44 (get_or text n 0 ∷ drop (n + 1) text)
 split_more text n h = ap (split 44) (drop_more text n 0 h)
 
+-- trimming changes no count of fields
 pub fields_count : (text : List ℕ) → length (fields_of (Some text)) ≡ length (split 44 text)
 fields_count text = same (split 44 text)
   where

@@ -54,6 +54,7 @@ module _ (limits : Limits) (ended : Bool) (line more : List ℕ) (free : HasNoFe
       let later = λ (h : Heading). after_stays (scale_of least h) h (suc n) 0 None front in
       inr (sound, (w, either (is_blank_line l) _ _ _ _ blank (λ f. elim f [ inl a ↦ inl a | inr a ↦ inr (a.0, (a.1.0, a.1.1, later a.1.0 a.1.2)) ]) m))
 
+-- the first fault of bytes is that of all bytes that begin with them
 pub first_fault_stays : (bytes : List ℕ) (limits : Limits) (least : Scale) (x : TraceRefusal) (more : List ℕ) (ended : Bool) → IsFirstFault bytes false limits least x
     → IsFirstFault (bytes ++ more) ended limits least x
 first_fault_stays bytes limits least x more ended f =

@@ -44,11 +44,13 @@ module _ (limits : Limits) (least : Scale) (ended : Bool) (n : ℕ) (line : List
   fits : (y : TraceRefusal) → ¬ InLine n (LineFault limits n (done line)) y
   fits = no_line_fault limits n (done line) few short
 
+  -- the faults after a blank line are those from it on
   pub blank_to : (h : Option Heading) (rows : List Row) → is_blank_line (done line) ≡ true → FaultsOn limits least h rows ended (suc n) more x
       → FaultsOn limits least h rows ended n (done line ∷ more) x
   blank_to None rows b f = inr (fits, (refl, in_true (is_blank_line (done line)) _ _ b f))
   blank_to (Some h) rows b f = inr (fits, (refl, in_true (is_blank_line (done line)) _ _ b f))
 
+  -- and the other way
   pub blank_from : (h : Option Heading) (rows : List Row) → is_blank_line (done line) ≡ true → FaultsOn limits least h rows ended n (done line ∷ more) x
       → FaultsOn limits least h rows ended (suc n) more x
   blank_from None rows b (inl f) = absurd (fits x f)
@@ -57,17 +59,21 @@ module _ (limits : Limits) (least : Scale) (ended : Bool) (n : ℕ) (line : List
   blank_from (Some h) rows b (inr (_, (w, f))) = out_true (is_blank_line (done line)) _ _ b f
 
   module _ (b : is_blank_line (done line) ≡ false) where
+    -- a fault of the header is the first from its line on
     pub heading_bad : (rows : List Row) → x.line ≡ n → HeaderFault (fields (done line)) x.kind → FaultsOn limits least None rows ended n (done line ∷ more) x
     heading_bad rows e f = inr (fits, (refl, in_false (is_blank_line (done line)) _ _ b (inl (e, f))))
 
+    -- and a fault of a row is
     pub row_bad : (h : Heading) (rows : List Row) → x.line ≡ n → RowFault limits (scale_of least h) h (length rows) (last_seen rows) (fields (done line)) x.kind
         → FaultsOn limits least (Some h) rows ended n (done line ∷ more) x
     row_bad h rows e f = inr (fits, (refl, in_false (is_blank_line (done line)) _ _ b (inl (e, f))))
 
     module _ (h : Heading) (is : IsHeading (fields (done line)) h) (sound : (k : TraceKind) → ¬ HeaderFault (fields (done line)) k) where
+      -- the faults after the header are those from it on
       pub heading_to : FaultsOn limits least (Some h) [] ended (suc n) more x → FaultsOn limits least None [] ended n (done line ∷ more) x
       heading_to f = inr (fits, (refl, in_false (is_blank_line (done line)) _ _ b (inr ((λ y a. sound y.kind a.1), (h, is, f)))))
 
+      -- and the other way
       pub heading_from : FaultsOn limits least None [] ended n (done line ∷ more) x → FaultsOn limits least (Some h) [] ended (suc n) more x
       heading_from (inl f) = absurd (fits x f)
       heading_from (inr (_, (w, m))) = elim (out_false (is_blank_line (done line)) _ _ b m) [
@@ -80,9 +86,11 @@ module _ (limits : Limits) (least : Scale) (ended : Bool) (n : ℕ) (line : List
       abbrev Later : Row → Type 0
       Later y = FaultAfter limits (scale_of least h) h ended (suc n) (suc (length rows)) (Some y.time) more x
 
+      -- the faults after a row are those from it on
       pub row_to : Later r → FaultsOn limits least (Some h) rows ended n (done line ∷ more) x
       row_to f = inr (fits, (refl, in_false (is_blank_line (done line)) _ _ b (inr ((λ y a. sound y.kind a.1), (r, is, f)))))
 
+      -- and the other way
       pub row_from : FaultsOn limits least (Some h) rows ended n (done line ∷ more) x → Later r
       row_from (inl f) = absurd (fits x f)
       row_from (inr (_, (w, m))) = elim (out_false (is_blank_line (done line)) _ _ b m) [
@@ -110,6 +118,7 @@ module _ (limits : Limits) (least : Scale) (front : List Line) (line : List ℕ)
   joined : (more : List Line) → longer ++ more ≡ front ++ (done line ∷ more)
   joined more = append_assoc front (done line ∷ []) more
 
+  -- lines go on after a blank line
   pub goes_blank : (h : Option Heading) (rows : List Row) → GoesOn limits least front h rows → is_blank_line (done line) ≡ true → GoesOn limits least longer h rows
   goes_blank h rows g b = record {
     faults = λ ended more x f. subst (λ ls. FaultFrom limits least ended 1 ls x) (sym (joined more)) (g.faults ended (done line ∷ more) x
@@ -121,6 +130,7 @@ module _ (limits : Limits) (least : Scale) (front : List Line) (line : List ℕ)
     blank = λ e. let w = g.blank e in (All-push IsBlankLine front (done line) w.0 b, w.1);
   }
 
+  -- after the header
   pub goes_heading : GoesOn limits least front None [] → is_blank_line (done line) ≡ false → (h : Heading) → IsHeading (fields (done line)) h
       → ((k : TraceKind) → ¬ HeaderFault (fields (done line)) k) → GoesOn limits least longer (Some h) []
   goes_heading g b h is sound = record {
@@ -133,6 +143,7 @@ module _ (limits : Limits) (least : Scale) (front : List Line) (line : List ℕ)
     blank = λ e. absurd (let f = e in cc);
   }
 
+  -- and after a row
   pub goes_row : (h : Heading) (rows : List Row) → GoesOn limits least front (Some h) rows → is_blank_line (done line) ≡ false → (r : Row) → IsRow (scale_of least h) h (fields (done line)) r
       → ((k : TraceKind) → ¬ RowFault limits (scale_of least h) h (length rows) (last_seen rows) (fields (done line)) k) → GoesOn limits least longer (Some h) (rows ++ r ∷ [])
   goes_row h rows g b r is sound = record {

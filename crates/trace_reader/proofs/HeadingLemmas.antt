@@ -31,9 +31,11 @@ name_part-at : (xs ys : List ℕ) → All (λ c. c ≡ 58 → ⊥) xs → name_p
 name_part-at [] ys h = refl
 name_part-at (c ∷ xs) ys h = rw (ne_eqb c 58 (All-head (λ x. x ≡ 58 → ⊥) c xs h), name_part-at xs ys (All-tail (λ x. x ≡ 58 → ⊥) c xs h)) refl
 
+-- without a colon the whole field is the name
 pub no_colon_name : (f : List ℕ) → Nowhere (Passes (is_byte 58) f) 0 (length f) → name_part f ≡ f
 no_colon_name f h = name_part-none f (All-from_get_or (λ c. c ≡ 58 → ⊥) f 0 (λ i l e. h i (omega arith) l (eq-eqb (get_or f i 0) 58 e)))
 
+-- with one the name ends at it
 pub colon_name : (f : List ℕ) (at : ℕ) → NoneBefore (Passes (is_byte 58) f) 0 (length f) at → Passes (is_byte 58) f at → name_part f ≡ take at f
 colon_name f at h is =
     let colon : get_or f at 0 ≡ 58 = eqb-true (get_or f at 0) 58 is in
@@ -74,6 +76,7 @@ digits_cases : {t : List ℕ} {n : ℕ} → IsDigits t n → ((t ≡ []) × (n �
 digits_cases no_digits = inl (refl, refl)
 digits_cases (with_digits {n = n} h) = inr (h, ap (λ t. 58 ∷ t) (digit_text n h))
 
+-- a colon and a digit up to 6 say the decimals
 pub digits_of : (x : ℕ) → 48 ≤ x → x ≤ 54 → IsDigits (58 ∷ x ∷ []) (x - 48)
 digits_of x l h =
     let e : decimal (x - 48) ≡ x ∷ [] = digit_text (x - 48) (omega arith) ∙ ap (λ y. y ∷ []) (let f : 48 + (x - 48) ≡ x = omega arith in f) in
@@ -91,6 +94,7 @@ no_digits_in t c x more e other n h = by_digits (digits_cases h)
         let k : length more ≡ 0 = ap (λ u. length (drop 2 u)) f in
         other a k (omega (arith, b)) (omega (arith, b, l))
 
+-- one byte says no decimals
 pub no_digits_one : (t : List ℕ) (c : ℕ) (more : List ℕ) → t ≡ c ∷ more → length more ≡ 0 → (n : ℕ) → ¬ IsDigits t n
 no_digits_one t c more e l n h = by_digits (digits_cases h)
   where
@@ -102,17 +106,20 @@ no_digits_one t c more e l n h = by_digits (digits_cases h)
 abbrev pub NoMode : List ℕ → Type 0
 NoMode t = (m d : List ℕ) (s : Bool) (n : ℕ) → IsMode m s → IsDigits d n → t ≢ m ++ d
 
+-- what is no mode and no decimals
 pub mode_none : (t : List ℕ) → ((rest : List ℕ) → t ≢ codes ":ramp" ++ rest) → ((rest : List ℕ) → t ≢ codes ":step" ++ rest) → ((n : ℕ) → ¬ IsDigits t n) → NoMode t
 mode_none t a b c m d s n no_mode h e = c n (subst (λ u. IsDigits u n) (sym e) h)
 mode_none t a b c m d s n ramp h e = a d e
 mode_none t a b c m d s n step h e = b d e
 
+-- what follows `:ramp` is no decimals
 pub ramp_none : (t rest : List ℕ) → t ≡ codes ":ramp" ++ rest → ((n : ℕ) → ¬ IsDigits rest n) → NoMode t
 ramp_none t rest is none m d s n no_mode h e =
     no_digits_in t 58 114 (codes "amp" ++ rest) is (λ a b l k. omega (arith, k)) n (subst (λ u. IsDigits u n) (sym e) h)
 ramp_none t rest is none m d s n ramp h e = let f : d ≡ rest = ap (drop 5) (sym e ∙ is) in none n (subst (λ u. IsDigits u n) f h)
 ramp_none t rest is none m d s n step h e = let f : 115 ≡ 114 = ap (λ u. get_or u 1 0) (sym e ∙ is) in omega (arith, f)
 
+-- what follows `:step` is none
 pub step_none : (t rest : List ℕ) → t ≡ codes ":step" ++ rest → ((n : ℕ) → ¬ IsDigits rest n) → NoMode t
 step_none t rest is none m d s n no_mode h e =
     no_digits_in t 58 115 (codes "tep" ++ rest) is (λ a b l k. omega (arith, k)) n (subst (λ u. IsDigits u n) (sym e) h)
@@ -123,6 +130,7 @@ step_none t rest is none m d s n ramp h e = let f : 114 ≡ 115 = ap (λ u. get_
 pub not_ramp : (t : List ℕ) → pointwise nat_eq (take 5 t) (codes ":ramp") ≡ false → (rest : List ℕ) → t ≢ codes ":ramp" ++ rest
 not_ramp t h rest e = let k : pointwise nat_eq (codes ":ramp") (codes ":ramp") ≡ false = subst (λ u. pointwise nat_eq u (codes ":ramp") ≡ false) (ap (take 5) e) h in false≢true (sym k)
 
+-- a text that begins otherwise is no `:step`
 pub not_step : (t : List ℕ) → pointwise nat_eq (take 5 t) (codes ":step") ≡ false → (rest : List ℕ) → t ≢ codes ":step" ++ rest
 not_step t h rest e = let k : pointwise nat_eq (codes ":step") (codes ":step") ≡ false = subst (λ u. pointwise nat_eq u (codes ":step") ≡ false) (ap (take 5) e) h in false≢true (sym k)
 
@@ -133,10 +141,12 @@ time_is f name rest n e h d = subst (λ g. IsTimeField g n) (sym (e ∙ ap (λ x
 time_rest : {g : List ℕ} {n : ℕ} (f name rest : List ℕ) → IsTimeField g n → g ≡ f → f ≡ name ++ rest → name ≡ codes "time" → IsDigits rest n
 time_rest f name rest (time {d = d} {n = n} k) g e h = subst (λ u. IsDigits u n) (rest_same (codes "time") d name rest (g ∙ e) (sym h)) k
 
+-- a time field that was read has no fault
 pub time_sound : (f name : List ℕ) (n : ℕ) → name ≡ name_part f → name ≡ codes "time" → IsTimeField f n → (k : TraceKind) → ¬ TimeFault f k
 time_sound f name n e h t k (inl w) = w.0 (sym e ∙ h)
 time_sound f name n e h t k (inr w) = w.1.0 (n, t)
 
+-- what follows `time` is no decimals
 pub time_bad : (f name rest : List ℕ) → f ≡ name ++ rest → name ≡ name_part f → name ≡ codes "time" → ((n : ℕ) → ¬ IsDigits rest n) → TimeFault f (BadMode 1)
 time_bad f name rest w e h none = inr ((λ x a. a.0 (sym e ∙ h)), ((λ a. none a.0 (time_rest f name rest a.1 refl w h)), refl))
 
@@ -147,20 +157,24 @@ column_rest f name rest (column {m = m} {d = d} {step = s} {n = n} x ok md dd) g
     let b : x ≡ name = sym (named x (m ++ d) ok (suffix_begins md dd)) ∙ (ap name_part a ∙ sym h) in
     none m d s n md dd (sym (rest_same x (m ++ d) name rest (a ∙ e) b))
 
+-- a name, a mode and decimals are a column
 pub column_is : (f name rest m d : List ℕ) (s : Bool) (n : ℕ) → f ≡ name ++ rest → IsName name → rest ≡ m ++ d → IsMode m s → IsDigits d n
     → IsColumn f (record { name = name; step = s }) n
 column_is f name rest m d s n e ok r md dd =
     subst (λ g. IsColumn g (record { name = name; step = s }) n) (append_assoc name m d ∙ (ap (λ u. name ++ u) (sym r) ∙ sym e)) (column name ok md dd)
 
+-- what follows the name is none
 pub column_bad : (f name rest : List ℕ) (i : ℕ) (earlier : List (List ℕ)) → f ≡ name ++ rest → name ≡ name_part f → IsName name → NoMode rest → ColumnFault i earlier f (BadMode i)
 column_bad f name rest i earlier w e ok none =
     inr ((λ x a. a.0 (subst IsName e ok)), inl ((λ a. column_rest f name rest a.2 refl w e none), refl))
 
+-- a name that came before
 pub column_same : (f name : List ℕ) (i : ℕ) (earlier : List (List ℕ)) (k : Column) (n : ℕ) → name ≡ name_part f → IsName name → IsColumn f k n → is_among name earlier ≡ true
     → ColumnFault i earlier f (SameName i)
 column_same f name i earlier k n e ok c among =
     inr ((λ x a. a.0 (subst IsName e ok)), inr ((λ x a. a.0 (k, n, c)), (subst (λ t. is_among t earlier ≡ true) e among, refl)))
 
+-- a column that was read has no fault
 pub column_sound : (f name : List ℕ) (i : ℕ) (earlier : List (List ℕ)) (k : Column) (n : ℕ) → name ≡ name_part f → IsName name → IsColumn f k n → is_among name earlier ≡ false
     → (x : TraceKind) → ¬ ColumnFault i earlier f x
 column_sound f name i earlier k n e ok c among x (inl a) = a.0 (subst IsName e ok)
@@ -217,9 +231,11 @@ none_left fields i left o l e =
     let h : AreColumns fields (o.columns ++ []) (o.digits ++ []) = l.columns [] [] (subst (λ t. AreColumns t [] []) (sym e) (refl, refl)) in
     subst (λ c. AreColumns fields c o.digits) (append-nil o.columns) (subst (λ d. AreColumns fields (o.columns ++ []) d) (append-nil o.digits) h)
 
+-- no field left, no fault
 pub sound_left : (fields : List (List ℕ)) (i : ℕ) (left : List (List ℕ)) (o : Opened) → AreColumnsLeft fields i left o → left ≡ [] → (k : TraceKind) → ¬ ColumnFaults 2 (codes "time" ∷ []) fields k
 sound_left fields i left o l e k h = subst (λ t. ColumnFaults i l.earlier t k) e (l.only k h)
 
+-- a fault of the next field is one of the header
 pub fault_left : (fields : List (List ℕ)) (i : ℕ) (left : List (List ℕ)) (o : Opened) → AreColumnsLeft fields i left o → (f : List ℕ) (more : List (List ℕ)) → left ≡ f ∷ more
     → (k : TraceKind) → ((earlier : List (List ℕ)) → AreNames earlier o.columns → ColumnFault i earlier f k) → ColumnFaults 2 (codes "time" ∷ []) fields k
 fault_left fields i left o l f more e k h = l.faults k (subst (λ t. ColumnFaults i l.earlier t k) (sym e) (inl (h l.earlier l.names)))
@@ -228,15 +244,18 @@ fault_left fields i left o l f more e k h = l.faults k (subst (λ t. ColumnFault
 pub first_bad : (fields : List (List ℕ)) (f : List ℕ) (others : List (List ℕ)) → fields ≡ f ∷ others → length fields ≤ 65 → (k : TraceKind) → TimeFault f k → HeaderFault fields k
 first_bad fields f others e few k h = inr ((λ x a. omega (arith, few, a.0)), subst (λ t. NameFaults t k) (sym e) (inl h))
 
+-- a fault after the first field is one of the header
 pub later_bad : (fields : List (List ℕ)) (f : List ℕ) (others : List (List ℕ)) → fields ≡ f ∷ others → length fields ≤ 65 → ((k : TraceKind) → ¬ TimeFault f k)
     → (k : TraceKind) → ColumnFaults 2 (codes "time" ∷ []) others k → HeaderFault fields k
 later_bad fields f others e few sound k h = inr ((λ x a. omega (arith, few, a.0)), subst (λ t. NameFaults t k) (sym e) (inr (sound, h)))
 
+-- a header that was read has no fault
 pub header_sound : (fields : List (List ℕ)) (f : List ℕ) (others : List (List ℕ)) → fields ≡ f ∷ others → length fields ≤ 65 → ((k : TraceKind) → ¬ TimeFault f k)
     → ((k : TraceKind) → ¬ ColumnFaults 2 (codes "time" ∷ []) others k) → (k : TraceKind) → ¬ HeaderFault fields k
 header_sound fields f others e few sound rest k (inl a) = omega (arith, few, a.0)
 header_sound fields f others e few sound rest k (inr (_, h)) = elim (subst (λ t. NameFaults t k) e h) [ inl a ↦ sound k a | inr a ↦ rest k a.1 ]
 
+-- the time field and the columns are a header
 pub heading_is : (fields : List (List ℕ)) (f : List ℕ) (others : List (List ℕ)) (h : Heading) → fields ≡ f ∷ others → IsTimeField f h.time_digits → AreColumns others h.columns h.digits
     → IsHeading fields h
 heading_is fields f others h e t c = subst (λ x. IsHeading x h) (sym e) (t, c)
@@ -245,13 +264,16 @@ heading_is fields f others h e t c = subst (λ x. IsHeading x h) (sym e) (t, c)
 pub empty_is : (xs : List ℕ) (b : Bool) → b ≡ (length xs == 0) → b ≡ false → length xs ≡ 0 → ⊥
 empty_is xs b e h l = false≢true (sym h ∙ (e ∙ eq-eqb (length xs) 0 l))
 
+-- a list of no length is empty
 pub is_empty : (xs : List ℕ) → (length xs == 0) ≡ true → xs ≡ []
 is_empty [] h = refl
 is_empty (x ∷ xs) h = absurd (let e : suc (length xs) ≡ 0 = eqb-true (suc (length xs)) 0 h in omega (arith, e))
 
+-- a name that equals `time` is it
 pub is_time_name : (name : List ℕ) → bytes_eq name (codes "time") ≡ true → name ≡ codes "time"
 is_time_name name h = same_text name (codes "time") (sym h)
 
+-- and another is not
 pub other_name : (name : List ℕ) → bytes_eq name (codes "time") ≡ false → name ≢ codes "time"
 other_name name h e = let k : bytes_eq (codes "time") (codes "time") ≡ false = subst (λ n. bytes_eq n (codes "time") ≡ false) e h in false≢true (sym k)
 
@@ -259,6 +281,7 @@ other_name name h e = let k : bytes_eq (codes "time") (codes "time") ≡ false =
 pub among_time : (name : List ℕ) (earlier : List (List ℕ)) (columns : List Column) → AreNames earlier columns → bytes_eq name (codes "time") ≡ true → is_among name earlier ≡ true
 among_time name earlier columns h e = h name ∙ rw e refl
 
+-- a name is among earlier fields where it is among the columns
 pub among_columns : (name : List ℕ) (earlier : List (List ℕ)) (columns : List Column) → AreNames earlier columns → bytes_eq name (codes "time") ≡ false
     → (b : Bool) → is_among name (names_of columns) ≡ b → is_among name earlier ≡ b
 among_columns name earlier columns h e b k = h name ∙ rw (e, k) refl

@@ -22,18 +22,22 @@ pub fields_are : (bytes : List ℕ) → fields (whole_line bytes) ≡ fields_of 
 unfolding fields
 fields_are bytes = refl
 
+-- a row past the limit is one too many
 pub too_many : (limits : Limits) (s : Scale) (h : Heading) (count : ℕ) (last : Option ℕ) (fs : List (List ℕ)) → limits.rows ≤ count → RowFault limits s h count last fs TooManyRows
 too_many limits s h count last fs l = inl (l, refl)
 
 module _ (limits : Limits) (sc : Scaled) (count : ℕ) (last : Option ℕ) (fs : List (List ℕ)) (few : count < limits.rows) where
+  -- a fault of the fields is one of the row
   pub fields_bad : (k : TraceKind) → FieldFaults sc fs k → RowFault limits sc.scale sc.heading count last fs k
   fields_bad k (inl a) = inr ((λ x b. omega (arith, few, b.0)), inl a)
   fields_bad k (inr (none, b)) = inr ((λ x a. omega (arith, few, a.0)), inr (none, inl b))
 
+  -- a time that does not rise is one
   pub not_rising : (x : Row) (t : ℕ) → IsRowRead sc fs x → last ≡ Some t → x.time ≤ t → RowFault limits sc.scale sc.heading count last fs TimeNotRising
   not_rising x t r e late = subst (λ l. RowFault limits sc.scale sc.heading count l fs TimeNotRising) (sym e)
       (inr ((λ y a. omega (arith, few, a.0)), inr ((λ y a. a.0 r.width), inr (r.sound, ((x, r.read, late), refl)))))
 
+  -- a row that was read and rises has none
   pub row_sound : (x : Row) → IsRowRead sc fs x → ((t : ℕ) → last ≡ Some t → t < x.time) → (k : TraceKind) → ¬ RowFault limits sc.scale sc.heading count last fs k
   row_sound x r rises k h = by_last last rises h
     where
@@ -46,10 +50,12 @@ module _ (limits : Limits) (sc : Scaled) (count : ℕ) (last : Option ℕ) (fs :
           let same : y.time ≡ x.time = ap (λ (z : Row). z.time) (row-unique sc.scale sc.heading fs y x is r.read) in
           omega (arith, up t refl, late, same)
 
+-- after a row there is a last time
 pub last_some : (count : ℕ) (r : Row) → 0 < count → last_of count r ≡ Some r.time
 last_some zero r l = absurd (omega (arith, l))
 last_some (suc n) r l = refl
 
+-- and it is that row's
 pub last_is : (count : ℕ) (r : Row) (t : ℕ) → last_of count r ≡ Some t → (0 < count) × (t ≡ r.time)
 last_is zero r t e = absurd (let f = e in cc)
 last_is (suc n) r t e = (omega arith, (let f : r.time ≡ t = cc in sym f))
@@ -64,6 +70,7 @@ judged_heading limits line text old new r e b n (bad_heading k is same) =
     let f : fields_of (Some text) ≡ fields (whole_line line) = ap (λ t. fields_of (Some t)) e ∙ sym (fields_are line) in
     bad_heading k b n (subst (λ fs. HeaderFault fs k) f is) same
 
+-- a line that is judged as a row
 pub judged_row : (limits : Limits) (line text : List ℕ) (old new : Progress) (r : Result Event TraceKind) → text ≡ content (whole_line line) → is_blank_line (whole_line line) ≡ false
     → JudgesRow limits text old new r → Judges limits line old new r
 judged_row limits line text old new r e b (row h n is sound range width up few same) =
@@ -77,16 +84,19 @@ judged_row limits line text old new r e b (bad_row h k n is same) =
 -- a row line after some progress
 module _ (limits : Limits) (text : List ℕ) (old new : Progress) (sc : Scaled) (is : old.heading ≡ Some sc.heading) (scale : sc.scale ≡ scale_of old.least sc.heading)
     (few : old.count < limits.rows) where
+  -- a row with a fault in its fields
   pub row_bad : (k : TraceKind) → FieldFaults sc (fields_of (Some text)) k → new ≡ old → JudgesRow limits text old new (Err k)
   row_bad k h same =
       bad_row sc.heading k is (subst (λ s. RowFault limits s sc.heading old.count (last_of old.count old.row) (fields_of (Some text)) k) scale
       (fields_bad limits sc old.count (last_of old.count old.row) (fields_of (Some text)) few k h)) same
 
+  -- a row whose time does not rise
   pub row_late : (x : Row) → IsRowRead sc (fields_of (Some text)) x → 0 < old.count → x.time ≤ old.row.time → new ≡ old → JudgesRow limits text old new (Err TimeNotRising)
   row_late x r some late same =
       bad_row sc.heading TimeNotRising is (subst (λ s. RowFault limits s sc.heading old.count (last_of old.count old.row) (fields_of (Some text)) TimeNotRising) scale
       (not_rising limits sc old.count (last_of old.count old.row) (fields_of (Some text)) few x old.row.time r (last_some old.count old.row some) late)) same
 
+  -- a row without a fault
   pub row_taken : IsRowRead sc (fields_of (Some text)) new.row → (0 < old.count → old.row.time < new.row.time) → new ≡ record old { row = new.row; count = old.count + 1 }
       → JudgesRow limits text old new (Ok IsARow)
   row_taken r up same =
@@ -96,10 +106,12 @@ module _ (limits : Limits) (text : List ℕ) (old new : Progress) (sc : Scaled) 
       (λ t e. let w = last_is old.count old.row t e in subst (λ n. n < new.row.time) (sym w.1) (up w.0))))
       r.range r.values up few same
 
+-- no heading is kept
 pub map_none : (o : Option Scaled) → is_some o ≡ false → option_map (λ (s : Scaled). s.heading) o ≡ None
 map_none None h = refl
 map_none (Some s) h = absurd (false≢true (sym h))
 
+-- a heading is kept
 pub map_some : (o : Option Scaled) → is_some o ≡ true → is_some (option_map (λ (s : Scaled). s.heading) o) ≡ true
 map_some None h = absurd (false≢true h)
 map_some (Some s) h = refl

@@ -51,6 +51,7 @@ row_kind limits s g count last fs k (inr (_, inl (_, e))) n = let w : WrongCount
 row_kind limits s g count last fs k (inr (_, inr (_, inl h))) n = numbers_kind s g fs k h n
 row_kind limits s g count last fs k (inr (_, inr (_, inr (_, (_, e))))) n = let w : TimeNotRising ≡ NoRows = sym e ∙ n in cc
 
+-- no line is refused for want of rows
 pub judged_kind : {limits : Limits} {line : List ℕ} {old new : Progress} {k : TraceKind} → Judges limits line old new (Err k) → k ≢ NoRows
 judged_kind {line = line} (bad_heading k b n f same) = header_kind (fields (whole_line line)) k f
 judged_kind {limits} {line} {old} (bad_row h k b n f same) =

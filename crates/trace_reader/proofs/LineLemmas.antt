@@ -32,14 +32,17 @@ abbrev pub rest : Bool → List ℕ → List Line
 rest ended [] = []
 rest ended (c ∷ cs) = record { bytes = c ∷ cs; whole = ended } ∷ []
 
+-- no bytes have no line
 pub lines-nil : (ended : Bool) → lines ended [] ≡ []
 unfolding lines
 lines-nil ended = refl
 
+-- an LF ends an empty line
 pub lines-feed : (ended : Bool) (xs : List ℕ) → lines ended (10 ∷ xs) ≡ done [] ∷ lines ended xs
 unfolding lines
 lines-feed ended xs = let (p, ps, h) = split_some xs in rw h refl
 
+-- another byte begins or lengthens the first line
 pub lines-other : (ended : Bool) (x : ℕ) (xs : List ℕ) → (x ≡ 10 → ⊥) → lines ended (x ∷ xs) ≡ put ended x (lines ended xs)
 unfolding lines
 lines-other ended x xs other = let (p, ps, h) = split_some xs in by_parts p ps h
@@ -111,6 +114,7 @@ begun-going front begun [] (c ∷ cs) h = ap suc (h ∙ ap length (append-nil fr
 begun-going front begun (c ∷ cs) part h =
     h ∙ (length_push front (record { bytes = c ∷ cs; whole = false }) ∙ sym (length_push front (record { bytes = c ∷ (cs ++ part); whole = false })))
 
+-- the lines begun once an LF came
 pub begun-closed : (front : List Line) (begun n : ℕ) (line text : List ℕ) → begun ≡ length (front ++ rest false line)
     → begun_after begun line (n + 1) ≡ length (front ++ done text ∷ [])
 begun-closed front begun n [] text h =
@@ -118,6 +122,7 @@ begun-closed front begun n [] text h =
 begun-closed front begun n (c ∷ cs) text h =
     h ∙ (length_push front (record { bytes = c ∷ cs; whole = false }) ∙ sym (length_push front (done text)))
 
+-- a line that is not empty has a byte
 pub some_bytes : (line : List ℕ) → (line ≡ [] → ⊥) → 0 < length line
 some_bytes [] h = absurd (h refl)
 some_bytes (c ∷ cs) h = omega arith

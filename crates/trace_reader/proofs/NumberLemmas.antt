@@ -43,6 +43,7 @@ value_more v text n h = ap (decimal_value v) (take_more text n 0 h) ∙ push (ta
     push : (xs : List ℕ) (c v : ℕ) → decimal_value v (xs ++ c ∷ []) ≡ 10 * decimal_value v xs + (c - 48)
     push xs c v = decimal_value-push v xs c
 
+-- each byte of digits is a digit
 pub digit_at : (text : List ℕ) (n : ℕ) → all is_digit text ≡ true → n < length text → (48 ≤ get_or text n 0) × (get_or text n 0 ≤ 57)
 digit_at [] n h l = absurd (omega (arith, l))
 digit_at (c ∷ text) zero h l = let a : is_digit c ≡ true = grind (arith, h) in (grind (arith, a), grind (arith, a))
@@ -93,9 +94,11 @@ product_small v p h k =
 pub parted : (text : List ℕ) (len d : ℕ) (more : List ℕ) → drop len text ≡ 46 ∷ d ∷ more → text ≡ take len text ++ 46 ∷ d ∷ more
 parted text len d more e = sym (take-append-drop len text) ∙ ap (λ t. take len text ++ t) e
 
+-- a point comes first
 pub point_first : (c : ℕ) (xs : List ℕ) (d : ℕ) (more : List ℕ) → c ∷ xs ≡ 46 ∷ d ∷ more → (c ≡ 46) × (xs ≡ d ∷ more)
 point_first c xs d more e = (cc, cc)
 
+-- a point and what follows it
 pub some_first : (c : ℕ) (xs : List ℕ) → c ≡ 46 → ((length xs == 0) ≡ false) → (d : ℕ) × (more : List ℕ) × (c ∷ xs ≡ 46 ∷ d ∷ more) × (xs ≡ d ∷ more)
 some_first c [] e h = absurd (false≢true (sym h))
 some_first c (d ∷ more) e h = (d, more, ap (λ x. x ∷ d ∷ more) e, refl)
@@ -111,7 +114,8 @@ decimal_places text len d more front within some e digits {n} {k} h =
     by_front [] l a i = absurd (omega (arith, l))
     by_front (c ∷ ds) l a i = (numeral-unique i (decimal c ds d more a digits)).1
 
-neg_ticks : (n p : ℕ) → neg_ℤ (pos n) *ℤ pos p ≡ neg_ℤ (pos (n * p))
+-- the ticks of a number with a minus
+pub neg_ticks : (n p : ℕ) → neg_ℤ (pos n) *ℤ pos p ≡ neg_ℤ (pos (n * p))
 neg_ticks zero p = let e : 0 * p ≡ 0 = omega arith in rw e refl
 neg_ticks (suc n) p = refl
 
@@ -120,10 +124,12 @@ pub minus_read : (others : List ℕ) (most digits r : ℕ) → IsRead others mos
     → (m : ℕ) × IsInTicks digits most (45 ∷ others) (signed true m) × (min r 4294967296 ≡ min m 4294967296)
 minus_read others most digits r (n, k, h, few, e) = (ticks digits n k, (neg_ℤ (pos n), k, minus h, few, sym (neg_ticks n (10 ^ (digits - k)))), e)
 
+-- a plus before a numeral
 pub plus_read : (others : List ℕ) (most digits r : ℕ) → IsRead others most digits r
     → (m : ℕ) × IsInTicks digits most (43 ∷ others) (signed false m) × (min r 4294967296 ≡ min m 4294967296)
 plus_read others most digits r (n, k, h, few, e) = (ticks digits n k, (pos n, k, plus h, few, refl), e)
 
+-- a numeral without a sign
 pub plain_read : (field : List ℕ) (most digits r : ℕ) → IsRead field most digits r
     → (m : ℕ) × IsInTicks digits most field (signed false m) × (min r 4294967296 ≡ min m 4294967296)
 plain_read field most digits r (n, k, h, few, e) = (ticks digits n k, (pos n, k, plain h, few, refl), e)
@@ -154,14 +160,17 @@ plain_none most c others a b none (plain {n = n} {k} h) e few = none n k h few
 plain_none most c others a b none (plus h) e few = b (let q : 43 ≡ c = cc in sym q)
 plain_none most c others a b none (minus h) e few = a (let q : 45 ≡ c = cc in sym q)
 
+-- a sign before no numeral is no number
 pub no_signed : (f : List ℕ) (most c : ℕ) (others : List ℕ) → (c ≡ 45) ⊎ (c ≡ 43) → f ≡ c ∷ others → NoNumeral others most → NoNumber f most
 no_signed f most c others s e none v k h few = signed_none most c others s none h e few
 
+-- nor is what is no numeral without a sign
 pub no_plain : (f : List ℕ) (most c : ℕ) (others : List ℕ) → (c ≡ 45 → ⊥) → (c ≡ 43 → ⊥) → f ≡ c ∷ others → NoNumeral f most → NoNumber f most
 no_plain f most c others a b e none v k h few = plain_none most c others a b none h e few
 
 -- a field of a row is judged by the ticks that were read of it
 module _ (digits most : ℕ) (low high : ℤ) (i : ℕ) (f : List ℕ) (v : ℤ) (h : IsInTicks digits most f v) where
+  -- a number within its limits is read
   pub within : ((v <ℤ low) ⊎ (high <ℤ v) → ⊥) → IsFieldRead digits most low high i f v
   within fits = record { value = h; sound = by_fault }
     where
@@ -169,6 +178,7 @@ module _ (digits most : ℕ) (low high : ℤ) (i : ℕ) (f : List ℕ) (v : ℤ)
       by_fault k (inl (none, e)) = none (h.0, h.1, h.2, h.3)
       by_fault k (inr (_, ((w, is, out), e))) = fits (subst (λ x. (x <ℤ low) ⊎ (high <ℤ x)) (ticks-unique digits most f w v is h) out)
 
+  -- and one outside is out of range
   pub outside : (v <ℤ low) ⊎ (high <ℤ v) → NumberFault digits most low high i f (OutOfRange i)
   outside out = inr ((λ x bad. bad.0 (h.0, h.1, h.2, h.3)), ((v, h, out), refl))
 
@@ -177,6 +187,7 @@ pub some_negative : (m : ℕ) → 0 < m → neg_ℤ (pos m) <ℤ pos 0
 some_negative zero l = absurd (omega (arith, l))
 some_negative (suc m) l = omega (arith, ints)
 
+-- no ticks are none with any sign
 pub zero_ticks : (b : Bool) (m : ℕ) → m ≡ 0 → signed b m ≡ pos 0
 zero_ticks true m e = ap (λ x. neg_ℤ (pos x)) e
 zero_ticks false m e = ap pos e
@@ -188,6 +199,7 @@ small_negative zero l (inr h) = omega (arith, ints)
 small_negative (suc m) l (inl h) = omega (arith, ints)
 small_negative (suc m) l (inr h) = omega (arith, ints)
 
+-- a size past the limit is outside with any sign
 pub large_signed : (b : Bool) (m : ℕ) → 16777216 < m → (signed b m <ℤ negsuc 16777215) ⊎ (pos 16777216 <ℤ signed b m)
 large_signed true zero l = absurd (omega (arith, l))
 large_signed true (suc m) l = inl (omega (arith, ints))

@@ -15,6 +15,7 @@ pub record Parts (bytes line : List ℕ) : Type 0 where
   pub free : HasNoFeed line
   pub joins : (e : Bool) (more : List ℕ) → lines e (bytes ++ more) ≡ front ++ lines e (line ++ more)
 
+-- each text has these parts
 pub parts : {bytes line : List ℕ} → IsOpenLine bytes line → Parts bytes line
 parts (first free) = record { front = []; whole = All-nil IsDone; free = free; joins = λ e more. refl }
 parts (later before {line} free) = record {
@@ -26,6 +27,7 @@ parts (later before {line} free) = record {
 
 -- the lines now
 module _ (bytes line : List ℕ) (p : Parts bytes line) where
+  -- its lines by them
   pub lines-now : (e : Bool) → lines e bytes ≡ p.front ++ rest e line
   lines-now e =
       sym (ap (lines e) (append-nil bytes)) ∙ (p.joins e []
@@ -37,6 +39,7 @@ one_more x (first {line} free) (inl e) = (line, subst (λ c. IsOpenLine (c ∷ l
 one_more x (first {line} free) (inr e) = (x ∷ line, first (All-cons (λ c. c ≡ 10 → ⊥) x line e free))
 one_more x (later before {line} free) e = (line, later (x ∷ before) free)
 
+-- what follows the last LF
 pub open_line : (bytes : List ℕ) → (line : List ℕ) × IsOpenLine bytes line
 open_line [] = ([], first (All-nil (λ c. c ≡ 10 → ⊥)))
 open_line (x ∷ bytes) = let (line, o) = open_line bytes in one_more x o (cases_eq x 10)

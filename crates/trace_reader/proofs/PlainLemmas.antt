@@ -1,53 +1,120 @@
 -- Rows of plain numbers: each field is its own trimmed text, and the first of what is left.
-use Rattle.std.proofs.Common.{◌≡◌, ℕ, ◌⊎◌, inl, inr, suc, ◌+◌, ◌*◌, ◌^◌, ◌<◌, ◌≤◌, min, Bool, true, false, List, [], ◌∷◌, ◌++◌, map, reverse, length, take, drop, get_or, refl, sym, ap, ◌∙◌, subst, arith, append_assoc, length-append, add-one, ℤ, pos, negsuc, Option, Some, None}
+use Rattle.std.proofs.Common.{◌≡◌, ℕ, ◌⊎◌, inl, inr, suc, ◌+◌, ◌-◌, ◌*◌, ◌^◌, ◌<◌, ◌≤◌, Bool, true, false, List, [], ◌∷◌, ◌++◌, map, reverse, length, take, drop, get_or, refl, sym, ap, ◌∙◌, subst, arith, append_assoc, length-append, add-one, ℤ, pos, negsuc, Option, Some, None}
 use Rattle.std.specs.Prelude.{neg_ℤ, ◌||◌, ◌==◌, All, MatchOption}
 use Rattle.std.proofs.lemmas.Int.{ints}
 use Rattle.std.proofs.lemmas.List.{append-nil, reverse-append, reverse-reverse, length_push, drop_more}
 use Rattle.std.proofs.lemmas.List.Elements.{All-nil, All-cons}
-use Rattle.std.proofs.lemmas.Bool.{ne_eqb, false≢true}
-use Rattle.stl_syntax.specs.Characters.{is_digit, is_space, all, after_first, decimal_value}
+use Rattle.std.proofs.lemmas.Bool.{ne_eqb, eq-eqb, cases_eq, false≢true}
+use Rattle.std.proofs.Math.Nat.{pow-suc, mul_assoc}
+use Rattle.std.proofs.lemmas.Nat.{pow-add}
+use Rattle.stl_syntax.specs.Characters.{is_digit, is_space, all, after_first, decimal_value, without_zeros, integer, decimal, ticks}
 use Rattle.stl_syntax.specs.Trace.{Row, IsInRange}
 use Rattle.stl_syntax.specs.declared.scale.Scale.{Scale}
 use Rattle.stl_syntax.proofs.CharacterLemmas.{all-append, all-reverse}
-use Rattle.trace_reader.specs.TraceText.{split, trim, content, fields, is_blank_line, Heading, IsInTicks}
+use Rattle.stl_syntax.proofs.DecimalLemmas.{decimal_value-push, decimal_value-append}
+use Rattle.trace_reader.specs.TraceText.{split, trim, content, fields, is_blank_line, Heading, plain, minus}
 use Rattle.trace_reader.specs.LineParts.{whole_line}
 use Rattle.trace_reader.specs.FieldFaults.{IsFieldRead}
 use Rattle.trace_reader.specs.Feeds.{HasNoFeed}
 use Rattle.trace_reader.specs.Headings.{Scaled}
 use Rattle.trace_reader.specs.RowLines.{AreValuesLeft, IsRowRead}
-use Rattle.trace_reader.specs.Plain.{is_plain, IsPlainRow}
+use Rattle.trace_reader.specs.Plain.{is_plain, IsTicks, IsPlainRow}
 use Rattle.trace_reader.proofs.FieldLemmas.{split-none, split-at, after_none}
-use Rattle.trace_reader.proofs.NumberLemmas.{whole_read, plain_read, minus_read, within, small_negative}
+use Rattle.trace_reader.proofs.NumberLemmas.{within, small_negative, neg_ticks}
 use Rattle.trace_reader.proofs.RowLemmas.{start_values, values_more, values_read, values_sound, row_is, numbers_sound, row_made}
 use Rattle.trace_reader.proofs.JudgeLemmas.{fields_are}
 use Rattle.trace_reader.proofs.ReaderTakes.{take_on}
 
--- digits as a time
-pub time_read : (text : List ℕ) (digits most v r : ℕ) → 0 < length text → all is_digit text ≡ true → v ≡ decimal_value 0 text → r ≡ v * 10 ^ digits → r < 4294967296
+-- digits alone in ticks
+pub whole_ticks : (text : List ℕ) (most digits v : ℕ) → 0 < length text → all is_digit text ≡ true → v ≡ decimal_value 0 text
+    → IsTicks most digits text (v * 10 ^ digits)
+whole_ticks [] most digits v some h value = absurd (omega (arith, some))
+whole_ticks (c ∷ ds) most digits v some h value = (
+  decimal_value 0 (c ∷ ds),
+  0,
+  integer h,
+  omega arith,
+  ap (λ x. x * 10 ^ digits) value ∙ ap (λ j. decimal_value 0 (c ∷ ds) * 10 ^ j) (let e : digits ≡ digits - 0 = omega arith in e),
+)
+
+-- zeros at the end of decimals make the value so many times ten larger
+pub record HasZeros (v : ℕ) (xs zs : List ℕ) : Type 0 where
+  pub zeros : ℕ
+  pub count : length zs + zeros ≡ length xs
+  pub value : decimal_value v xs ≡ decimal_value v zs * 10 ^ zeros
+
+-- a zero more
+ten_more : (a b p q y : ℕ) → a ≡ b * p → q ≡ p * 10 → y ≡ 48 → 10 * a + (y - 48) ≡ b * q
+ten_more a b p q y e f g =
+    let h : b * (p * 10) ≡ b * p * 10 = sym (mul_assoc b p 10) in
+    let k : b * q ≡ b * (p * 10) = ap (λ x. b * x) f in
+    omega (arith, e, g, h, k)
+
+zeros_of : (v : ℕ) (ys : List ℕ) → HasZeros v (reverse ys) (reverse (after_first (λ c. c == 48) ys))
+zeros_of v [] = record { zeros = 0; count = refl; value = omega arith }
+zeros_of v (y ∷ ys) = by_test (zeros_of v ys) (cases_eq y 48)
+  where
+    by_test : HasZeros v (reverse ys) (reverse (after_first (λ c. c == 48) ys)) → (y ≡ 48) ⊎ (y ≡ 48 → ⊥)
+        → HasZeros v (reverse (y ∷ ys)) (reverse (after_first (λ c. c == 48) (y ∷ ys)))
+    by_test z (inl e) =
+        let zs = reverse (after_first (λ c. c == 48) ys) in
+        let rev : reverse (y ∷ ys) ≡ reverse ys ++ y ∷ [] = reverse-append (y ∷ []) ys in
+        let front : decimal_value v (reverse ys ++ y ∷ []) ≡ 10 * decimal_value v (reverse ys) + (y - 48) = decimal_value-push v (reverse ys) y in
+        let size = length_push (reverse ys) y in
+        let p : 10 ^ (z.zeros + 1) ≡ 10 ^ z.zeros * 10 = ap (λ j. 10 ^ j) (add-one z.zeros) ∙ pow-suc 10 z.zeros in
+        let h : HasZeros v (reverse ys ++ y ∷ []) zs = record {
+          zeros = z.zeros + 1;
+          count = omega (arith, size, z.count);
+          value = front ∙ ten_more (decimal_value v (reverse ys)) (decimal_value v zs) (10 ^ z.zeros) (10 ^ (z.zeros + 1)) y z.value p e;
+        } in
+        rw (eq-eqb y 48 e) (subst (λ t. HasZeros v t zs) (sym rev) h)
+    by_test z (inr e) = rw (ne_eqb y 48 e) (record { zeros = 0; count = omega arith; value = omega arith })
+
+-- decimals by those without the zeros at their end
+pub without_zeros_of : (v : ℕ) (xs : List ℕ) → HasZeros v xs (without_zeros xs)
+without_zeros_of v xs = subst (λ t. HasZeros v t (without_zeros xs)) (reverse-reverse xs) (zeros_of v (reverse xs))
+
+-- digits, a point and digits in ticks
+pub decimal_ticks : (front : List ℕ) (d : ℕ) (more : List ℕ) (most digits v : ℕ) → 0 < length front → all is_digit front ≡ true → all is_digit (d ∷ more) ≡ true
+    → v ≡ decimal_value (decimal_value 0 front) (d ∷ more) → length (d ∷ more) ≤ most → most ≤ digits
+    → IsTicks most digits (front ++ 46 ∷ d ∷ more) (v * 10 ^ (digits - length (d ∷ more)))
+decimal_ticks [] d more most digits v some h k value few within = absurd (omega (arith, some))
+decimal_ticks (c ∷ ds) d more most digits v some h k value few within =
+    let front = c ∷ ds in
+    let zs = without_zeros (d ∷ more) in
+    let z = without_zeros_of (decimal_value 0 front) (d ∷ more) in
+    let n : decimal_value 0 (front ++ zs) ≡ decimal_value (decimal_value 0 front) zs = decimal_value-append 0 front zs in
+    let room : digits - length zs ≡ z.zeros + (digits - length (d ∷ more)) = omega (arith, z.count, few, within) in
+    let power : 10 ^ (digits - length zs) ≡ 10 ^ z.zeros * 10 ^ (digits - length (d ∷ more)) = ap (λ j. 10 ^ j) room ∙ pow-add 10 z.zeros (digits - length (d ∷ more)) in (
+      decimal_value 0 (front ++ zs),
+      length zs,
+      decimal c ds d more h k,
+      omega (arith, z.count, few),
+      ap (λ x. x * 10 ^ (digits - length (d ∷ more))) (value ∙ z.value)
+      ∙ (mul_assoc (decimal_value (decimal_value 0 front) zs) (10 ^ z.zeros) (10 ^ (digits - length (d ∷ more)))
+      ∙ (ap (λ x. decimal_value (decimal_value 0 front) zs * x) (sym power) ∙ ap (λ x. x * 10 ^ (digits - length zs)) (sym n))),
+    )
+
+-- ticks as a time
+pub time_read : (text : List ℕ) (most digits r : ℕ) → IsTicks most digits text r → r < 4294967296
     → IsFieldRead digits most (pos 0) (pos 4294967295) 1 text (pos r)
-time_read text digits most v r some h value is small =
-    let (m, it, same) = plain_read text most digits r (whole_read text most digits v r some h (ap (λ x. min x 4294967296) value) is) in
-    let size : m ≡ r = omega (arith, same, small) in
-    let k : IsInTicks digits most text (pos r) = subst (λ n. IsInTicks digits most text (pos n)) size it in
-    within digits most (pos 0) (pos 4294967295) 1 text (pos r) k (λ out. elim out [ inl l ↦ omega (arith, ints) | inr l ↦ omega (arith, ints) ])
+time_read text most digits r (n, k, h, few, is) small =
+    within digits most (pos 0) (pos 4294967295) 1 text (pos r) (pos n, k, plain h, few, ap pos is)
+    (λ out. elim out [ inl l ↦ omega (arith, ints) | inr l ↦ omega (arith, ints) ])
 
--- digits as a value
-pub value_read : (text : List ℕ) (digits most i v r : ℕ) → 0 < length text → all is_digit text ≡ true → v ≡ decimal_value 0 text → r ≡ v * 10 ^ digits → r ≤ 16777216
+-- ticks as a value
+pub value_read : (text : List ℕ) (most digits i r : ℕ) → IsTicks most digits text r → r ≤ 16777216
     → IsFieldRead digits most (negsuc 16777215) (pos 16777216) i text (pos r)
-value_read text digits most i v r some h value is small =
-    let (m, it, same) = plain_read text most digits r (whole_read text most digits v r some h (ap (λ x. min x 4294967296) value) is) in
-    let size : m ≡ r = omega (arith, same, small) in
-    let k : IsInTicks digits most text (pos r) = subst (λ n. IsInTicks digits most text (pos n)) size it in
-    within digits most (negsuc 16777215) (pos 16777216) i text (pos r) k (λ out. elim out [ inl l ↦ omega (arith, ints) | inr l ↦ omega (arith, ints) ])
+value_read text most digits i r (n, k, h, few, is) small =
+    within digits most (negsuc 16777215) (pos 16777216) i text (pos r) (pos n, k, plain h, few, ap pos is)
+    (λ out. elim out [ inl l ↦ omega (arith, ints) | inr l ↦ omega (arith, ints) ])
 
--- digits after a minus
-pub minus_value_read : (text : List ℕ) (digits most i v r : ℕ) → 0 < length text → all is_digit text ≡ true → v ≡ decimal_value 0 text → r ≡ v * 10 ^ digits → r ≤ 16777216
+-- ticks after a minus
+pub minus_value_read : (text : List ℕ) (most digits i r : ℕ) → IsTicks most digits text r → r ≤ 16777216
     → IsFieldRead digits most (negsuc 16777215) (pos 16777216) i (45 ∷ text) (neg_ℤ (pos r))
-minus_value_read text digits most i v r some h value is small =
-    let (m, it, same) = minus_read text most digits r (whole_read text most digits v r some h (ap (λ x. min x 4294967296) value) is) in
-    let size : m ≡ r = omega (arith, same, small) in
-    let k : IsInTicks digits most (45 ∷ text) (neg_ℤ (pos r)) = subst (λ n. IsInTicks digits most (45 ∷ text) (neg_ℤ (pos n))) size it in
-    within digits most (negsuc 16777215) (pos 16777216) i (45 ∷ text) (neg_ℤ (pos r)) k (small_negative r small)
+minus_value_read text most digits i r (n, k, h, few, is) small =
+    within digits most (negsuc 16777215) (pos 16777216) i (45 ∷ text) (neg_ℤ (pos r))
+    (neg_ℤ (pos n), k, minus h, few, ap (λ x. neg_ℤ (pos x)) is ∙ sym (neg_ticks n (10 ^ (digits - k)))) (small_negative r small)
 
 -- digits are bytes of a plain number
 pub digits_plain : (xs : List ℕ) → all is_digit xs ≡ true → all is_plain xs ≡ true
@@ -56,6 +123,24 @@ digits_plain (c ∷ xs) h =
     let a : is_digit c ≡ true = grind (arith, h) in let b : all is_digit xs ≡ true = grind (arith, h) in
     rw (a, digits_plain xs b) refl
 
+-- digits, a point and digits are bytes of a plain number
+pub decimals_plain : (xs : List ℕ) (ds : List ℕ) → all is_digit xs ≡ true → all is_digit ds ≡ true → all is_plain (xs ++ 46 ∷ ds) ≡ true
+decimals_plain xs ds h k = all-append is_plain xs (46 ∷ ds) (digits_plain xs h) (digits_plain ds k)
+
+-- the bytes up to the point, the point and the digits after it
+pub point_front : (text : List ℕ) (n m : ℕ) → n < length text → get_or text n 0 ≡ 46 → m ≤ length (drop (n + 1) text)
+    → take (n + 1 + m) text ≡ take n text ++ 46 ∷ take m (drop (n + 1) text)
+point_front text n m h e k =
+    let d : drop n text ≡ 46 ∷ drop (n + 1) text = drop_more text n 0 h ∙ ap (λ c. c ∷ drop (n + 1) text) e in
+    let t : take (m + 1) (drop n text) ≡ 46 ∷ take m (drop (n + 1) text) = ap (take (m + 1)) d ∙ ap (λ j. take j (46 ∷ drop (n + 1) text)) (add-one m) in
+    ap (λ j. take j text) (let e : n + 1 + m ≡ n + (m + 1) = omega arith in e)
+    ∙ take_on n (m + 1) text (46 ∷ take m (drop (n + 1) text)) t (omega (arith, h)) (omega (arith, k, ap length d))
+
+-- so are they after a minus
+pub minus_plain : (xs : List ℕ) → all is_plain xs ≡ true → all is_plain (45 ∷ xs) ≡ true
+minus_plain xs h = h
+
+-- a minus and what follows it
 pub minus_front : (text : List ℕ) (n : ℕ) → 0 < length text → get_or text 0 0 ≡ 45 → take (n + 1) text ≡ 45 ∷ take n (drop 1 text)
 minus_front [] n h e = absurd (omega (arith, h))
 minus_front (c ∷ text) n h e = ap (λ k. take k (c ∷ text)) (add-one n) ∙ ap (λ x. x ∷ take n text) e
@@ -110,6 +195,7 @@ pub record IsPlainFront (s : Scale) (h : Heading) (front : List ℕ) (i : ℕ) (
   pub time : IsFieldRead s.time h.time_digits (pos 0) (pos 4294967295) 1 first (pos r.time)
   pub left : (more : List (List ℕ)) → AreValuesLeft s h.digits (others ++ more) (i + 2) (drop i h.digits) more r.values
 
+-- the time is the first field
 pub front_first : (s : Scale) (h : Heading) (f : List ℕ) (t : ℕ) → 0 < length f → all is_plain f ≡ true → IsFieldRead s.time h.time_digits (pos 0) (pos 4294967295) 1 f (pos t)
     → IsPlainFront s h f 0 (row_made t [])
 front_first s h f t some p read =
@@ -127,6 +213,7 @@ front_first s h f t some p read =
       left = λ more. start_values s h.digits more;
     }
 
+-- a value is the next
 pub front_next : (s : Scale) (h : Heading) (front : List ℕ) (i : ℕ) (r : Row) (f : List ℕ) (m : ℕ) (v : ℤ) → IsPlainFront s h front i r → drop i h.digits ≡ m ∷ drop (i + 1) h.digits
     → all is_plain f ≡ true → IsFieldRead s.value m (negsuc 16777215) (pos 16777216) (i + 2) f v → IsPlainFront s h (front ++ 44 ∷ f) (i + 1) (row_made r.time (r.values ++ v ∷ []))
 front_next s h front i r f m v p ds k read =
@@ -160,6 +247,7 @@ content_plain front h =
 content_return : (front : List ℕ) → content (whole_line (front ++ 13 ∷ [])) ≡ front
 content_return front = rw (reverse-append front (13 ∷ [])) (reverse-reverse front)
 
+-- a row of plain numbers is its own content, with a CR or without
 pub row_content : (front line : List ℕ) → all in_row front ≡ true → (line ≡ front) ⊎ (line ≡ front ++ 13 ∷ []) → content (whole_line line) ≡ front
 row_content front line h (inl e) = ap (λ t. content (whole_line t)) e ∙ content_plain front h
 row_content front line h (inr e) = ap (λ t. content (whole_line t)) e ∙ content_return front
@@ -168,6 +256,7 @@ row_solid : (front : List ℕ) → all in_row front ≡ true → 0 < length fron
 row_solid [] h some = absurd (omega (arith, some))
 row_solid (c ∷ front) h some = let a : in_row c ≡ true = grind (arith, h) in rw (no_blank in_row refl refl c a) refl
 
+-- and has no LF
 pub row_free : (front line : List ℕ) → all in_row front ≡ true → (line ≡ front) ⊎ (line ≡ front ++ 13 ∷ []) → HasNoFeed line
 row_free front line h (inl e) = subst HasNoFeed (sym e) (free_of in_row 10 refl front h)
 row_free front line h (inr e) = subst HasNoFeed (sym e) (with_return front h)
@@ -180,12 +269,14 @@ row_free front line h (inr e) = subst HasNoFeed (sym e) (with_return front h)
 
 -- the whole row
 module _ (sc : Scaled) (front line : List ℕ) (i : ℕ) (r : Row) (p : IsPlainFront sc.scale sc.heading front i r) (is : (line ≡ front) ⊎ (line ≡ front ++ 13 ∷ [])) where
+  -- it is not blank
   pub row_not_blank : is_blank_line (whole_line line) ≡ false
   row_not_blank = ap (all is_space) (row_content front line p.bytes is) ∙ row_solid front p.bytes p.begins
 
   row_fields : fields (whole_line line) ≡ p.first ∷ p.others
   row_fields = fields_are line ∙ (ap (λ t. map trim (split 44 t)) (row_content front line p.bytes is) ∙ (ap (map trim) p.whole ∙ p.trimmed))
 
+  -- and is read as its fields say
   pub row_read : drop i sc.heading.digits ≡ [] → i ≡ length sc.heading.columns → length r.values ≡ i → IsInRange r → IsRowRead sc (fields (whole_line line)) r
   row_read past n width range =
       let l = subst (λ fs. AreValuesLeft sc.scale sc.heading.digits fs (i + 2) (drop i sc.heading.digits) [] r.values) (append-nil p.others) (p.left []) in
@@ -199,6 +290,7 @@ module _ (sc : Scaled) (front line : List ℕ) (i : ℕ) (r : Row) (p : IsPlainF
         range = range;
       }
 
+-- the piece begins with the row
 pub plain_row : (sc : Scaled) (piece front : List ℕ) (i : ℕ) (r : Row) (n : ℕ) → IsPlainFront sc.scale sc.heading front i r → length front ≤ 4000 → drop i sc.heading.digits ≡ []
     → i ≡ length sc.heading.columns → length r.values ≡ i → IsInRange r → n ≤ length piece
     → (take n piece ≡ front ++ 10 ∷ []) ⊎ (take n piece ≡ (front ++ 13 ∷ []) ++ 10 ∷ []) → IsPlainRow sc piece n r
@@ -223,6 +315,7 @@ front_longer at n piece h k e =
     let t : take (n + 1) (drop at piece) ≡ 44 ∷ take n (drop (at + 1) piece) = ap (take (n + 1)) d ∙ ap (λ j. take j (44 ∷ drop (at + 1) piece)) (add-one n) in
     take_on at (n + 1) piece (44 ∷ take n (drop (at + 1) piece)) t (omega (arith, h)) (omega (arith, k, ap length d))
 
+-- what holds of a result
 pub some_to : (o : Option ℕ) (P Q : ℕ → Type 0) → ((n : ℕ) → P n → Q n) → MatchOption o (Unit {0}) P → MatchOption o (Unit {0}) Q
 some_to None P Q f h = h
 some_to (Some n) P Q f h = f n h

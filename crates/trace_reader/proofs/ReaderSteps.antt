@@ -34,6 +34,7 @@ rest_some ended (c ∷ cs) h = refl
 
 -- the lines by their parts
 module _ (r : Reader) (bytes : List ℕ) (rows : List Row) (t : HasTaken r bytes rows) where
+  -- the lines of the bytes
   pub lines_now : (e : Bool) → lines e bytes ≡ t.front ++ rest e r.line
   lines_now e =
       sym (ap (lines e) (append-nil bytes)) ∙ (t.joins e [] ∙ ap (λ ls. t.front ++ ls) (ap (lines e) (append-nil r.line) ∙ lines-rest e r.line t.free))
@@ -52,9 +53,11 @@ module _ (r : Reader) (bytes : List ℕ) (rows : List Row) (t : HasTaken r bytes
       joins_on e (part ++ 10 ∷ []) more
       ∙ ap (λ ls. t.front ++ ls) (ap (lines e) a ∙ (lines-append e text more ∙ ap (λ ls. ls ++ lines e more) (lines-line text (All-append (λ c. c ≡ 10 → ⊥) r.line part t.free free))))
 
+  -- how many were begun
   pub begun_now : r.begun ≡ length (t.front ++ rest false r.line)
   begun_now = t.begun ∙ ap length (lines_now false)
 
+  -- a reader with these parts stands for the bytes
   pub stands : r.begun ≤ r.limits.lines → length r.line ≤ 4096 → (r.refusal ≡ None) × (r.ended ≡ false) → StandsFor r bytes rows
   stands few short o = record {
     read = reads_so_far r.limits r.least t.front r.heading rows t.goes_on bytes r.line (lines_now false);
@@ -143,9 +146,11 @@ module _ (limits : Limits) (old : Progress) (begun : ℕ) (line bytes : List ℕ
     closed_joins : (e : Bool) (more : List ℕ) → lines e (taken_bytes ++ more) ≡ (t.front ++ done text ∷ []) ++ lines e more
     closed_joins e more = closed e more ∙ sym (append_assoc t.front (done text ∷ []) (lines e more))
 
+    -- the lines begun once the LF came
     pub closed_begun : begun_after begun line (length part + 1) ≡ length (t.front ++ done text ∷ [])
     closed_begun = begun-closed t.front begun (length part) line text (begun_now (made limits old begun line) bytes rows t)
 
+    -- and how many lines the bytes have
     pub closed_count : begun_after begun line (length part + 1) ≡ length (lines false taken_bytes)
     closed_count = closed_begun ∙ sym (ap length (sym (ap (lines false) (append-nil taken_bytes)) ∙ (closed_joins false [] ∙ (ap (λ ls. (t.front ++ done text ∷ []) ++ ls) (lines-nil false) ∙ append-nil (t.front ++ done text ∷ [])))))
 
@@ -321,6 +326,7 @@ module _ (limits : Limits) (old : Progress) (begun : ℕ) (line bytes : List ℕ
     short' : length line + length {A = ℕ} [] ≤ 4096
     short' = omega (arith, short)
 
+    -- the bytes may end after a last line without a fault
     pub ended_closed : (new : Progress) (e : Event) → Judges limits (line ++ []) old new (Ok e) → HasEnded limits new begun bytes (rows_after e rows new.row)
     unfolding taken_closed
     ended_closed new e judged =
@@ -338,6 +344,7 @@ module _ (limits : Limits) (old : Progress) (begun : ℕ) (line bytes : List ℕ
         front_same new e (heading h b n is sound same) = refl
         front_same new e (row h b n is sound range width up room same) = refl
 
+    -- or with one
     pub ended_bad : (new : Progress) (x : TraceRefusal) → x.line ≡ begun → Judges limits (line ++ []) old new (Err x.kind) → IsFirstFault bytes true limits old.least x
     ended_bad new x at judged =
         let f = judged_bad limits old begun line bytes rows t [] no_feed few' short' new x (at ∙ sym counted) judged [] true in
@@ -355,23 +362,27 @@ module _ (limits : Limits) (p : Progress) (begun : ℕ) (bytes : List ℕ) (rows
   last_number =
       h.taken.begun ∙ (ap length (lines_now (made limits p begun []) h.before rows h.taken false) ∙ ap length (append-nil h.taken.front))
 
+  -- without a header the whole is empty
   pub no_header : p.heading ≡ None → (x : TraceRefusal) → x.line ≡ begun → x.kind ≡ Empty → IsFirstFault bytes true limits p.least x
   no_header n x at is =
       subst (λ ls. FaultFrom limits p.least true 1 ls x) whole_front (h.taken.goes_on.faults true [] x
       (subst (λ o. FaultsOn limits p.least o rows true (suc (length h.taken.front)) [] x) (sym n) (omega (arith, at, last_number), (refl, is))))
 
   module _ (g : Heading) (n : p.heading ≡ Some g) where
+    -- and with one but no row it has no rows
     pub no_rows : p.count ≡ 0 → (x : TraceRefusal) → x.line ≡ begun → x.kind ≡ NoRows → IsFirstFault bytes true limits p.least x
     no_rows z x at is =
         subst (λ ls. FaultFrom limits p.least true 1 ls x) whole_front (h.taken.goes_on.faults true [] x
         (subst (λ o. FaultsOn limits p.least o rows true (suc (length h.taken.front)) [] x) (sym n) (omega (arith, at, last_number), ((refl, sym h.taken.count ∙ z), is))))
 
+    -- the whole is the header and the rows
     pub read_whole : TraceOf bytes true p.least (header_of p.least g) rows
     read_whole =
         subst (λ ls. AreTraceLines p.least ls (header_of p.least g) rows) whole_front
         (subst (λ rs. AreTraceLines p.least (h.taken.front ++ []) (header_of p.least g) rs) (append-nil rows)
         (h.taken.goes_on.reads [] (header_of p.least g) [] (subst (λ o. ReadsOn p.least o [] (header_of p.least g) []) (sym n) (refl, none))))
 
+    -- which are a trace, where there is a row
     pub has_trace : 0 < p.count → HasTrace bytes limits p.least (record { header = header_of p.least g; rows = rows })
     has_trace some = record {
       text = record {
@@ -390,10 +401,12 @@ after_last : (width t : ℕ) (rows : List Row) (r : Row) → AreRowsAfter width 
 after_last width t [] r h = (h.0, h.1)
 after_last width t (s ∷ rows) r h = after_last width s.time rows r h.2
 
+-- the last of rising rows
 pub rising_last : (width : ℕ) (rows : List Row) (r : Row) → AreRowsSoFar width (rows ++ r ∷ []) → (length r.values ≡ width) × (0 < length rows → last_time 0 rows < r.time)
 rising_last width [] r h = (h.0, λ some. absurd (omega (arith, some)))
 rising_last width (s ∷ rows) r h = let w = after_last width s.time rows r h.1 in (w.1, λ some. w.0)
 
+-- a row that came can be taken
 pub next_row : (e : Event) (o : Option Heading) (rows : List Row) (r : Row) → AreRising o (rows_after e rows r) → (e ≡ IsARow → IsSome o) → IsNextRow e o rows r
 next_row Nothing o rows r h k = tt
 next_row IsTheHeader o rows r h k = tt

@@ -44,6 +44,7 @@ judged_kept : {limits : Limits} {line : List ℕ} {old new : Progress} {k : Trac
 judged_kept {old = old} {new} (bad_heading k b n f same) = same ∙ ap (λ (x : Bool). record old { fresh = x }) (sym (ap (λ (p : Progress). p.fresh) same))
 judged_kept {old = old} {new} (bad_row h k b n f same) = same ∙ ap (λ (x : Bool). record old { fresh = x }) (sym (ap (λ (p : Progress). p.fresh) same))
 
+-- what came with a judged line
 pub judged_come : {limits : Limits} {line : List ℕ} {e : Event} (old new : Reading) (before : List ℕ) → Judges limits line old.table new.table (Ok e)
     → HasCome e (state limits old) (state limits new) (before ++ 10 ∷ [])
 judged_come old new before (blank b same) = (ap (λ (p : Progress). p.heading) same, ap (λ (p : Progress). p.row) same, ap (λ (p : Progress). p.count) same)
@@ -55,6 +56,7 @@ judged_come old new before (row g b o is sound range width up room same) =
 module _ (limits : Limits) (old new : Reading) (w : IsWithin limits old) where
   -- bytes without LF that were kept
   module _ (part : List ℕ) (free : HasNoFeed part) (begun : new.lines.begun ≡ begun_after old.lines.begun old.lines.line (length part)) where
+    -- the reader stays within its limits
     pub hold_within : Fits limits new.lines.begun (length old.lines.line + length part) → new.lines.line ≡ old.lines.line ++ part → new.table ≡ old.table → IsWithin limits new
     hold_within fits line table = record {
       rows = w.rows;
@@ -64,6 +66,7 @@ module _ (limits : Limits) (old new : Reading) (w : IsWithin limits old) where
       fresh = subst (λ (p : Progress). p.heading ≡ None → p.fresh ≡ true) (sym table) w.fresh;
     }
 
+    -- and stands for the bytes with them
     pub hold_stands : Fits limits new.lines.begun (length old.lines.line + length part) → new.lines.line ≡ old.lines.line ++ part → new.table ≡ old.table
         → (bytes : List ℕ) (rows : List Row) → StandsFor (state limits old) bytes rows → StandsFor (state limits new) (bytes ++ part) rows
     hold_stands fits line table bytes rows s =
@@ -74,6 +77,7 @@ module _ (limits : Limits) (old new : Reading) (w : IsWithin limits old) where
         (subst (λ l. HasTaken (made limits old.table (begun_after old.lines.begun old.lines.line (length part)) l) (bytes ++ part) rows) (sym line) t)) in
         stands (state limits new) (bytes ++ part) rows u fits.count (omega (arith, ap length line, length-append old.lines.line part, fits.short)) (refl, refl)
 
+    -- or a limit is broken
     pub hold_fault : (x : TraceRefusal) → IsLineRefusal limits new.lines.begun (length old.lines.line + length part) x → (bytes : List ℕ) (rows : List Row) → StandsFor (state limits old) bytes rows
         → IsFaultOfAll limits old.table.least (bytes ++ part) x
     hold_fault x f bytes rows s =
@@ -92,6 +96,7 @@ module _ (limits : Limits) (old new : Reading) (w : IsWithin limits old) where
 
   -- bytes and the LF after them
   module _ (part : List ℕ) (free : HasNoFeed part) (begun : new.lines.begun ≡ begun_after old.lines.begun old.lines.line (length part + 1)) where
+    -- after a line the reader is within its limits
     pub finish_within : (e : Event) → Fits limits new.lines.begun (length old.lines.line + length part) → new.lines.line ≡ []
         → Judges limits (old.lines.line ++ part) old.table new.table (Ok e) → IsWithin limits new
     finish_within e fits line judged = record {
@@ -102,6 +107,7 @@ module _ (limits : Limits) (old new : Reading) (w : IsWithin limits old) where
       fresh = judged_fresh judged w.fresh;
     }
 
+    -- and stands for the bytes with the line
     pub finish_stands : (e : Event) → Fits limits new.lines.begun (length old.lines.line + length part) → new.lines.line ≡ []
         → Judges limits (old.lines.line ++ part) old.table new.table (Ok e)
         → (bytes : List ℕ) (rows : List Row) → StandsFor (state limits old) bytes rows → StandsFor (state limits new) (bytes ++ (part ++ 10 ∷ [])) (rows_after e rows new.table.row)
@@ -113,6 +119,7 @@ module _ (limits : Limits) (old new : Reading) (w : IsWithin limits old) where
         (subst (λ l. HasTaken (made limits new.table (begun_after old.lines.begun old.lines.line (length part + 1)) l) (bytes ++ (part ++ 10 ∷ [])) after) (sym line) t) in
         stands (state limits new) (bytes ++ (part ++ 10 ∷ [])) after u fits.count (omega (arith, ap length line)) (refl, refl)
 
+    -- or the line has a fault
     pub finish_fault : (x : TraceRefusal)
         → (IsLineRefusal limits new.lines.begun (length old.lines.line + length part) x × (new.table ≡ old.table))
         ⊎ (Fits limits new.lines.begun (length old.lines.line + length part) × (x.line ≡ new.lines.begun) × Judges limits (old.lines.line ++ part) old.table new.table (Err x.kind))
@@ -122,12 +129,14 @@ module _ (limits : Limits) (old new : Reading) (w : IsWithin limits old) where
     finish_fault x (inr (fits, at, judged)) bytes rows s =
         judged_bad limits old.table old.lines.begun old.lines.line bytes rows s.taken part free (subst (λ b. b ≤ limits.lines) begun fits.count) fits.short new.table x (at ∙ begun) judged
 
+    -- which comes after what was read
     pub finish_before : (x : TraceRefusal) → x.line ≡ new.lines.begun → (bytes : List ℕ) (rows : List Row) → StandsFor (state limits old) bytes rows
         → HasReadBefore x.line old.table.heading old.table.least (bytes ++ (part ++ 10 ∷ [])) rows
     finish_before x at bytes rows s =
         let number = number limits old.table old.lines.begun old.lines.line bytes rows s.taken part free in
         read_before (state limits old) bytes rows s.taken (part ++ 10 ∷ []) x.line (at ∙ (begun ∙ number))
 
+    -- and leaves what was read
     pub finish_kept : (x : TraceRefusal)
         → (IsLineRefusal limits new.lines.begun (length old.lines.line + length part) x × (new.table ≡ old.table))
         ⊎ (Fits limits new.lines.begun (length old.lines.line + length part) × (x.line ≡ new.lines.begun) × Judges limits (old.lines.line ++ part) old.table new.table (Err x.kind))
@@ -136,6 +145,7 @@ module _ (limits : Limits) (old new : Reading) (w : IsWithin limits old) where
         (f.0, same ∙ ap (λ (b : Bool). record old.table { fresh = b }) (sym (ap (λ (p : Progress). p.fresh) same)), ap (λ (p : Progress). p.least) same)
     finish_kept x (inr (fits, at, judged)) = (at, judged_kept judged, judged_least judged)
 
+    -- the least scale stays
     pub finish_least : {e : Event} → Judges limits (old.lines.line ++ part) old.table new.table (Ok e) → new.table.least ≡ old.table.least
     finish_least judged = judged_least judged
 
@@ -202,11 +212,13 @@ pub last_between : (limits : Limits) (old : Reading) → old.lines.line ≡ [] �
 last_between limits old e bytes rows s =
     ended_between limits old.table old.lines.begun bytes rows (subst (λ l. HasTaken (made limits old.table old.lines.begun l) bytes rows) e s.taken)
 
+-- a last line without a fault
 pub last_closed : (limits : Limits) (old new : Reading) → IsWithin limits old → 0 < length old.lines.line → (e : Event) → Judges limits (old.lines.line ++ []) old.table new.table (Ok e)
     → (bytes : List ℕ) (rows : List Row) → StandsFor (state limits old) bytes rows → HasEnded limits new.table old.lines.begun bytes (rows_after e rows new.table.row)
 last_closed limits old new w some e judged bytes rows s =
     ended_closed limits old.table old.lines.begun old.lines.line bytes rows s.taken some w.begun w.line new.table e judged
 
+-- or with one
 pub last_bad : (limits : Limits) (old new : Reading) → IsWithin limits old → 0 < length old.lines.line → (x : TraceRefusal) → x.line ≡ old.lines.begun
     → Judges limits (old.lines.line ++ []) old.table new.table (Err x.kind)
     → (bytes : List ℕ) (rows : List Row) → StandsFor (state limits old) bytes rows → IsFirstFault bytes true limits old.table.least x
@@ -240,6 +252,7 @@ pub if_ok : {A E : Type 0} (r : Result A E) (P : A → Type 0) → ((a : A) → 
 if_ok (Ok a) P h = h a refl
 if_ok (Err e) P h = tt
 
+-- and where it is an error
 pub if_err : {A E : Type 0} (r : Result A E) (P : E → Type 0) → ((e : E) → r ≡ Err e → P e) → IfErr r P
 if_err (Ok a) P h = tt
 if_err (Err e) P h = h e refl
@@ -250,16 +263,19 @@ header_none None None f e s = refl
 header_none None (Some g) f e s = absurd (let w = e in cc)
 header_none (Some x) h f e s = absurd (false≢true (sym s))
 
+-- a header by its heading
 pub header_some : (o : Option (Bor Header)) (h : Option Heading) (f : Heading → Header) → option_copied o ≡ option_map f h → is_some o ≡ true → (g : Heading) × (h ≡ Some g)
 header_some None h f e s = absurd (false≢true s)
 header_some (Some x) None f e s = absurd (let w = e in cc)
 header_some (Some x) (Some g) f e s = (g, refl)
 
+-- an event that is no row adds none
 pub rows_same : (e : Event) (rows : List Row) (r : Row) → (e ≡ IsARow → ⊥) → rows_after e rows r ≡ rows
 rows_same Nothing rows r h = refl
 rows_same IsTheHeader rows r h = refl
 rows_same IsARow rows r h = absurd (h refl)
 
+-- a count of 0 means no rows
 pub no_rows_left : (e : Event) (rows : List Row) (r : Row) (n : ℕ) → n ≡ length (rows_after e rows r) → n ≡ 0 → rows_after e rows r ≡ []
 no_rows_left e rows r n c z = nil_from_length (rows_after e rows r) (omega (arith, c, z))
 

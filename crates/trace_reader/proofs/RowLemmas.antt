@@ -14,6 +14,7 @@ use Rattle.trace_reader.specs.FieldFaults.{IsFieldRead}
 use Rattle.trace_reader.specs.RowLines.{AreValuesLeft}
 use Rattle.trace_reader.specs.declared.refusal.TraceKind.{TraceKind}
 
+-- before any value all fields are left
 pub start_values : (s : Scale) (digits : List ℕ) (fields : List (List ℕ)) → AreValuesLeft s digits fields 2 digits fields []
 start_values s digits fields = record { faults = λ k h. h; only = λ k h. h; reads = λ more h. h }
 
@@ -39,20 +40,25 @@ module _ (s : Scale) (digits : List ℕ) (fields : List (List ℕ)) (i : ℕ) (d
       subst (λ t. AreInTicks s.value digits fields t) (append-nil values)
       (l.reads [] (subst (λ x. AreInTicks s.value x left []) (sym d) (subst (λ t. AreInTicks s.value [] t []) (sym e) refl)))
 
+  -- no column left, no fault
   pub values_sound : ds ≡ [] → (k : TraceKind) → ¬ ValueFaults s 2 digits fields k
   values_sound d k h = subst (λ x. ValueFaults s i x left k) d (l.only k h)
 
 -- a row by its first field and the others
 module _ (s : Scale) (h : Heading) (fields : List (List ℕ)) (f : List ℕ) (others : List (List ℕ)) (e : fields ≡ f ∷ others) where
+  -- the time and the values are a row
   pub row_is : (r : Row) → IsInTicks s.time h.time_digits f (pos r.time) → AreInTicks s.value h.digits others r.values → IsRow s h fields r
   row_is r t v = subst (λ x. IsRow s h x r) (sym e) (t, v)
 
+  -- a fault of the time is one of the row
   pub time_bad : (k : TraceKind) → NumberFault s.time h.time_digits (pos 0) (pos 4294967295) 1 f k → NumberFaults s h fields k
   time_bad k b = subst (λ x. NumberFaults s h x k) (sym e) (inl b)
 
+  -- and so is one of a value
   pub value_bad : (k : TraceKind) → ((x : TraceKind) → ¬ NumberFault s.time h.time_digits (pos 0) (pos 4294967295) 1 f x) → ValueFaults s 2 h.digits others k → NumberFaults s h fields k
   value_bad k sound b = subst (λ x. NumberFaults s h x k) (sym e) (inr (sound, b))
 
+  -- and there is no other
   pub numbers_sound : ((x : TraceKind) → ¬ NumberFault s.time h.time_digits (pos 0) (pos 4294967295) 1 f x) → ((x : TraceKind) → ¬ ValueFaults s 2 h.digits others x)
       → (k : TraceKind) → ¬ NumberFaults s h fields k
   numbers_sound sound rest k b = elim (subst (λ x. NumberFaults s h x k) e b) [ inl a ↦ sound k a | inr a ↦ rest k a.1 ]
@@ -69,10 +75,12 @@ left_some (Some t) h = by_split (split 44 t) (split_some t)
     by_split [] l = absurd (omega (arith, l))
     by_split (p ∷ ps) l = omega arith
 
+-- nothing left has no fields
 pub left_none : (o : Option (List ℕ)) → is_some o ≡ false → fields_of o ≡ []
 left_none None h = refl
 left_none (Some t) h = absurd (false≢true (sym h))
 
+-- a copy is there where the field is
 pub is_some_copied : (o : Option (Bor (List ℕ))) → is_some (option_copied o) ≡ is_some o
 is_some_copied None = refl
 is_some_copied (Some t) = refl

@@ -5,7 +5,7 @@ use Rattle.std.proofs.lemmas.List.{take-append-le, drop-append-le, length-append
 use Rattle.std.proofs.lemmas.List.Elements.{All-append}
 use Rattle.std.proofs.lemmas.Nat.{mul-add-lt}
 use Rattle.stl_syntax.specs.Trace.{Row, Header, Trace, AreRowsAfter, AreRows, last_time}
-use Rattle.trace_reader.specs.Table.{rows_of}
+use Rattle.trace_reader.specs.Trace.{rows_of}
 use Rattle.trace_reader.specs.Sofar.{AreRowsSoFar}
 
 -- what is there
@@ -13,6 +13,7 @@ pub some_is : {A : Type 0} (o : Option A) → IsSome o → (x : A) × (o ≡ Som
 some_is None h = absurd (let e = h in cc)
 some_is (Some x) h = (x, refl)
 
+-- a row for each time
 pub length-rows_of : (width : ℕ) (times : List ℕ) (values : List ℤ) → length (rows_of width times values) ≡ length times
 length-rows_of width [] values = refl
 length-rows_of width (t ∷ times) values = ap suc (length-rows_of width times (drop width values))
@@ -23,6 +24,7 @@ table_with h rows = record { header = h; rows = rows }
 abbrev pub row_with : ℕ → List ℤ → Row
 row_with t values = record { time = t; values = values }
 
+-- the row at a place
 pub row_at : (width k : ℕ) (times : List ℕ) (values : List ℤ) (d : Row) → k < length times
     → get_or (rows_of width times values) k d ≡ row_with (get_or times k 0) (take width (drop (k * width) values))
 row_at width k [] values d h = absurd (omega arith)
@@ -32,9 +34,11 @@ row_at width (suc k) (t ∷ times) values d h =
     row_at width k times (drop width values) d (omega arith)
     ∙ ap (λ vs. row_with (get_or times k 0) (take width vs)) (drop-drop (k * width) width values ∙ ap (λ n. drop n values) e)
 
+-- a value of a row
 pub value_at : (width k c : ℕ) (values : List ℤ) → c < width → get_or (take width (drop (k * width) values)) c (pos 0) ≡ get_or values (k * width + c) (pos 0)
 value_at width k c values h = get_or-take width (drop (k * width) values) c (pos 0) h ∙ get_or-drop (k * width) values c (pos 0)
 
+-- one row more
 pub rows_of-push : (width : ℕ) (times : List ℕ) (t : ℕ) (values more : List ℤ) → length values ≡ length times * width → length more ≡ width
     → rows_of width (times ++ t ∷ []) (values ++ more) ≡ rows_of width times values ++ row_with t more ∷ []
 rows_of-push width [] t values more h k =
@@ -58,6 +62,7 @@ pub sofar-push : (width : ℕ) (rows : List Row) (r : Row) → AreRowsSoFar widt
 sofar-push width [] r h l w = (w, tt)
 sofar-push width (s ∷ rows) r h l w = (h.0, after-push width s.time rows r h.1 (l (omega arith)) w)
 
+-- rows that rise, where there is one
 pub sofar-some : (width : ℕ) (rows : List Row) → AreRowsSoFar width rows → 0 < length rows → AreRows width rows
 sofar-some width [] h l = absurd (omega arith)
 sofar-some width (r ∷ rows) h l = h
@@ -65,6 +70,7 @@ sofar-some width (r ∷ rows) h l = h
 -- a row more in the lists of a table
 module _ (width : ℕ) (times times' : List ℕ) (values values' : List ℤ) (r : Row) (full : length values ≡ length times * width)
     (fits : length r.values ≡ width) (in_times : times' ≡ times ++ r.time ∷ []) (in_values : values' ≡ values ++ r.values) where
+  -- a value more for each column
   pub push-full : length values' ≡ length times' * width
   push-full =
       let a : length values' ≡ length values + length r.values = ap length in_values ∙ length-append values r.values in
@@ -72,9 +78,11 @@ module _ (width : ℕ) (times times' : List ℕ) (values values' : List ℤ) (r 
       let e : length times' * width ≡ length times * width + width = rw b (omega arith) in
       omega (arith, a, e)
 
+  -- and a row more
   pub push-rows : rows_of width times' values' ≡ rows_of width times values ++ r ∷ []
   push-rows = rw (in_times, in_values) (rows_of-push width times r.time values r.values full fits)
 
+  -- and all values small
   pub push-small : All (λ v. nat_abs v ≤ 16777216) values → All (λ v. nat_abs v ≤ 16777216) r.values → All (λ v. nat_abs v ≤ 16777216) values'
   push-small h k = rw in_values (All-append (λ v. nat_abs v ≤ 16777216) values r.values h k)
 
@@ -89,6 +97,7 @@ last_row [] h = absurd (omega arith)
 last_row (r ∷ []) h = ([], r, refl)
 last_row (r ∷ s ∷ rows) h = let (before, t, e) = last_row (s ∷ rows) (omega arith) in (r ∷ before, t, ap (λ rs. r ∷ rs) e)
 
+-- the last time is that of the last row
 pub last_time-push : (t : ℕ) (before : List Row) (r : Row) → last_time t (before ++ r ∷ []) ≡ r.time
 last_time-push t [] r = refl
 last_time-push t (s ∷ before) r = last_time-push s.time before r

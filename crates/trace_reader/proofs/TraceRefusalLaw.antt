@@ -30,9 +30,11 @@ unfolding numeral_of
 numeral_is (integer {c = c} {digits = some} h) = rw (span_whole is_digit (c ∷ some) h, after_whole is_digit (c ∷ some) h) refl
 numeral_is (with_point c some d more h k) = rw (span_all is_digit (c ∷ some) (46 ∷ d ∷ more) h refl, after_all is_digit (c ∷ some) (46 ∷ d ∷ more) h refl) refl
 
+-- a numeral is one number
 pub numeral-unique : {text : List ℕ} {n k n' k' : ℕ} → IsNumeral text n k → IsNumeral text n' k' → (n ≡ n') × (k ≡ k')
 numeral-unique h h' = let e = sym (numeral_is h) ∙ numeral_is h' in (ap (λ p. p.0) e, ap (λ p. p.1) e)
 
+-- so is a number with a sign
 pub number-unique : {text : List ℕ} {v v' : ℤ} {k k' : ℕ} → IsNumber text v k → IsNumber text v' k' → (v ≡ v') × (k ≡ k')
 number-unique (plain h) (plain h') = let e = numeral-unique h h' in (ap pos e.0, e.1)
 number-unique (plain h) (plus h') = absurd (let e = numeral_begins h in cc)
@@ -42,6 +44,7 @@ number-unique (plus h) (plus h') = let e = numeral-unique h h' in (ap pos e.0, e
 number-unique (minus h) (plain h') = absurd (let e = numeral_begins h' in cc)
 number-unique (minus h) (minus h') = let e = numeral-unique h h' in (rw e.0 refl, e.1)
 
+-- and its ticks
 pub ticks-unique : (digits most : ℕ) (f : List ℕ) → AtMostOne (IsInTicks digits most f)
 ticks-unique d m f v v' (n, k, h, l, e) (n', k', h', l', e') = let u = number-unique h h' in e ∙ rw (u.0, u.1) (sym e')
 
@@ -58,6 +61,7 @@ pos-injective a b e = cc
 abbrev made : ℕ → List ℤ → Row
 made t v = record { time = t; values = v }
 
+-- fields are at most one row
 pub row-unique : (s : Scale) (h : Heading) (fields : List (List ℕ)) → AtMostOne (IsRow s h fields)
 row-unique s h [] r r' k k' = absurd k
 row-unique s h (f ∷ fields) r r' k k' =
@@ -78,6 +82,7 @@ mode_of : List ℕ → Bool
 mode_of [] = false
 mode_of (c ∷ rest) = first_byte rest == 115
 
+-- a number up to 6 is one digit
 pub digit_text : (n : ℕ) → n ≤ 6 → decimal n ≡ (48 + n) ∷ []
 unfolding digits
 digit_text zero h = refl
@@ -158,6 +163,7 @@ columns-unique (f ∷ fields) ks ks' ns ns' (k, n, more, rest, h, g, e, d) (k', 
 abbrev made_heading : ℕ → List Column → List ℕ → Heading
 made_heading t ks ns = record { time_digits = t; columns = ks; digits = ns }
 
+-- and at most one header
 pub heading-unique : (fields : List (List ℕ)) → AtMostOne (IsHeading fields)
 heading-unique [] h h' a b = absurd a
 heading-unique (f ∷ fields) h h' a b =

@@ -3,7 +3,7 @@ pub mod TraceRefusals
 pub mod Sofar
 pub mod Plain
 pub mod Labels
-pub mod Table
+pub mod Trace
 pub mod Feeds
 pub mod Cut
 pub mod LineParts
@@ -11,8 +11,8 @@ pub mod FieldFaults
 pub mod Headings
 pub mod RowLines
 pub mod Progress
+pub mod Table
 pub mod Two
-pub mod TraceTable
 pub mod Reader
 pub mod Reading
 pub mod ReaderParts

@@ -1,20 +1,16 @@
--- A header and its rows as a trace keeps them: times in one list, and the values of all rows in another.
-use Rattle.std.specs.Prelude.{◌≡◌, ℕ, ◌*◌, ◌≤◌, List, [], ◌∷◌, length, take, drop, ℤ, nat_abs, All}
-use Rattle.stl_syntax.specs.Trace.{Row, Trace}
-use Rattle.trace_reader.specs.Sofar.{AreRowsSoFar}
-use Rattle.trace_reader.specs.declared.trace.Trace.TheInside.{Inside}
+-- What is kept of the lines of a trace.
+use Rattle.std.specs.Prelude.{◌≡◌, ◌≤◌, [], is_some, option_map}
+use Rattle.std.specs.Option.{ForSome}
+use Rattle.trace_reader.specs.TraceText.{scale_of}
+use Rattle.trace_reader.specs.Headings.{Scaled}
+use Rattle.trace_reader.specs.Progress.{Progress}
+use Rattle.trace_reader.specs.declared.table.Table.TheInside.{Inside}
 
--- the rows with these times, each with the next `width` of the values
-abbrev pub rows_of : ℕ → List ℕ → List ℤ → List Row
-rows_of width [] values = []
-rows_of width (t ∷ times) values = record { time = t; values = take width values } ∷ rows_of width times (drop width values)
+abbrev pub progress_of : Inside → Progress
+progress_of a = record { least = a.least; heading = option_map (λ (s : Scaled). s.heading) a.heading; row = a.rows.last; count = a.count; fresh = is_some a.room }
 
--- the trace that is kept
-abbrev pub table_of : Inside → Trace
-table_of a = record { header = a.header; rows = rows_of (length a.header.columns) a.times.items a.values.items }
-
--- there is a value for each column and row, values are within their limit, and the times rise
+-- the heading is in ticks that have its decimals and the least ones, and the room is empty
 pub record IsTable (a : Inside) : Type 0 where
-  pub full : length a.values.items ≡ length a.times.items * length a.header.columns
-  pub small : All (λ v. nat_abs v ≤ 16777216) a.values.items
-  pub rising : AreRowsSoFar (length a.header.columns) (rows_of (length a.header.columns) a.times.items a.values.items)
+  pub scale : ForSome a.heading (λ s. s.scale ≡ scale_of a.least s.heading)
+  pub room : ForSome a.room (λ r. r ≡ record { columns = []; digits = [] })
+  pub least : (a.least.time ≤ 6) × (a.least.value ≤ 6)

@@ -1,5 +1,6 @@
+//! The digits that a text begins with.
 ghost use Rattle.std.specs.Prelude.{◌≡◌, ◌≤◌, length, take, drop, min, true, MatchOption};
-ghost use Rattle.trace_reader.specs.Plain.{IsFewDigits};
+ghost use Rattle.trace_reader.specs.Plain.{IsFewDigits, AreMoreDigits};
 ghost use Rattle.stl_syntax.specs.Characters.{is_digit, all, StopsAt, decimal_value};
 
 /// A number above all that a trace may have; a value that reached it is not told exactly.
@@ -41,6 +42,27 @@ pub(crate) fn few_digits(text: &[u8]) -> Option<Digits>
 {
     let mut value = 0;
     for len in 0..10 {
+        let digit = u64::from(text[len]).wrapping_sub(48);
+        if digit > 9 {
+            if len == 0 {
+                return None;
+            }
+            return Some(Digits { len, value });
+        }
+        value = value * 10 + digit;
+    }
+    None
+}
+
+/// One to six digits that a text begins with, after others with that value: how many, and the value of all.
+#[inline(always)]
+pub(crate) fn more_digits(text: &[u8], before: u64) -> Option<Digits>
+    requires room { 7 ≤ length text.now }
+    requires small { before ≤ 999999999 }
+    ensures { MatchOption result (Unit {0}) (AreMoreDigits text.now before) }
+{
+    let mut value = before;
+    for len in 0..7 {
         let digit = u64::from(text[len]).wrapping_sub(48);
         if digit > 9 {
             if len == 0 {

@@ -1,3 +1,4 @@
+//! What a reader came to.
 /// What a reader came to.
 #[derive(Clone, Copy, Debug, PartialEq, Eq)]
 pub enum Event {

@@ -1,3 +1,4 @@
+//! The fields of a line: cut at commas, without blanks around them.
 ghost use Rattle.std.specs.Prelude.{◌≡◌, ◌≤◌, ◌+◌, ◌∷◌, List, ℕ, map, reverse, length, option_copied, Some};
 ghost use Rattle.stl_syntax.specs.Characters.{is_space as is_spacing, all, after_first};
 ghost use Rattle.trace_reader.specs.TraceText.{split, trim as trimmed, content};

@@ -1,3 +1,4 @@
+//! A header: its columns and its ticks.
 ghost use Rattle.std.specs.Prelude.{◌≡◌, ◌≤◌, [], length, vec_len, vec_capacity};
 ghost use Rattle.std.specs.String.{string_bytes, string_capacity};
 
@@ -109,6 +110,10 @@ impl Header {
     }
 
     /// The same header once more.
+    ///
+    /// # Errors
+    ///
+    /// `Memory` where memory is wanting.
     pub fn copy(&self) -> Result<Header, Memory>
         ensures { IfOk result (λ h. h ≡ self.now) }
     {

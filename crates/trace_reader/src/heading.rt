@@ -1,3 +1,4 @@
+//! Reads the header of a trace.
 ghost use Rattle.std.specs.Prelude.{◌≡◌, ◌≢◌, ◌≤◌, ◌<◌, ◌++◌, [], List, ℕ, Bool, MatchOption, MatchResult, length, Some, option_copied, bytes_eq, codes};
 ghost use Rattle.trace_reader.specs.TraceText.{IsMode, IsDigits, IsTimeField, IsHeading, scale_of};
 ghost use Rattle.trace_reader.specs.TraceRefusals.{name_part, TimeFault, ColumnFault, HeaderFault};

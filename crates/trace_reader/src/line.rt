@@ -1,3 +1,4 @@
+//! Bytes that are cut into lines as they come, within the limits of a line and of their number.
 use frac128::Memory;
 use std::alloc::Global;
 use std::marker::Model;

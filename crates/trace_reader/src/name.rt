@@ -1,3 +1,4 @@
+//! Names of columns.
 ghost use Rattle.std.specs.Prelude.{◌≡◌, ◌↔◌, ◌≤◌, IsTrue, true};
 ghost use Rattle.stl_syntax.specs.Characters.{begins_word as is_first, goes_on_word as is_later, all};
 ghost use Rattle.trace_reader.specs.TraceText.{IsName};

@@ -1,3 +1,4 @@
+//! Reads the numbers of a row, exactly, in ticks.
 ghost use Rattle.std.specs.Prelude.{◌≡◌, ◌≤◌, ◌*◌, ◌^◌, ◌∷◌, ℕ, ℤ, pos, negsuc, neg_ℤ, List, length, min, true, MatchOption, MatchResult, IfOk, nat_abs};
 ghost use Rattle.stl_syntax.specs.Characters.{is_digit, all, decimal_value, without_zeros as shortened, IsNumeral, ticks};
 ghost use Rattle.trace_reader.specs.TraceText.{IsNumber, IsInTicks};

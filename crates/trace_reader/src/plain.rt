@@ -1,10 +1,17 @@
-//! Numbers of a few digits, which most rows have alone.
-ghost use Rattle.std.specs.Prelude.{◌≡◌, ◌≤◌, ◌<◌, ◌*◌, ◌^◌, ◌+◌, ◌∷◌, ◌++◌, ◌⊎◌, [], length, take, MatchOption};
-ghost use Rattle.trace_reader.specs.Plain.{IsPlainTime, IsPlainValue};
+//! Numbers of a few digits, maybe with a few decimals, which most rows have alone.
+ghost use Rattle.std.specs.Prelude.{◌≡◌, ◌≤◌, ◌<◌, ◌∷◌, ◌++◌, ◌⊎◌, [], length, take, get_or, MatchOption};
+ghost use Rattle.trace_reader.specs.Plain.{IsFewDigits, IsPlainNumber, IsPlainTime, IsPlainValue};
 
-use crate::digits::{BEYOND, few_digits};
+use crate::digits::{BEYOND, Digits, few_digits, more_digits};
 use crate::number::{opposite_of, scaled, value_of};
 use crate::row::LARGEST;
+
+/// A number without a sign in ticks, and how many bytes it has.
+#[derive(Clone, Copy)]
+pub(crate) struct PlainNumber {
+    pub(crate) size: u64,
+    pub(crate) len: usize,
+}
 
 /// A time in ticks, and how many bytes it has.
 #[derive(Clone, Copy)]
@@ -20,59 +27,100 @@ pub(crate) struct PlainValue {
     pub(crate) len: usize,
 }
 
-/// The time of one to nine digits that a text begins with, in ticks of 1/10^digits, where a byte follows.
+/// The number with a point after these digits, and one to `most` digits after it, in ticks of 1/10^digits.
 #[inline(always)]
-pub(crate) fn plain_time(text: &[u8], digits: u8) -> Option<PlainTime>
-    requires { digits ≤ 6 }
-    ensures { MatchOption result (Unit {0}) (IsPlainTime digits text.now) }
+fn with_decimals(text: &[u8], whole: Digits, most: u8, digits: u8) -> Option<PlainNumber>
+    requires whole { IsFewDigits text.now whole }
+    requires inside { whole.len < length text.now }
+    requires point { get_or text.now whole.len 0 ≡ 46 }
+    requires most { most ≤ digits }
+    requires digits { digits ≤ 6 }
+    ensures { MatchOption result (Unit {0}) (IsPlainNumber most digits text.now) }
+{
+    let rest = &text[whole.len + 1..];
+    if rest.len() < 7 {
+        return None;
+    }
+    let all = more_digits(rest, whole.value)?;
+    if all.len > most as usize || all.value >= BEYOND {
+        return None;
+    }
+    Some(PlainNumber {
+        size: scaled(all.value, digits - all.len as u8),
+        len: whole.len + 1 + all.len,
+    })
+}
+
+/// The number of one to nine digits, maybe with a point and further digits, that a text begins with, where a byte follows:
+/// in ticks of 1/10^digits, where it has at most `most` decimals.
+#[inline(always)]
+fn plain_number(text: &[u8], most: u8, digits: u8) -> Option<PlainNumber>
+    requires room { 10 ≤ length text.now }
+    requires most { most ≤ digits }
+    requires digits { digits ≤ 6 }
+    ensures { MatchOption result (Unit {0}) (IsPlainNumber most digits text.now) }
+{
+    let whole = few_digits(text)?;
+    if text[whole.len] == b'.' {
+        return with_decimals(text, whole, most, digits);
+    }
+    Some(PlainNumber {
+        size: scaled(whole.value, digits),
+        len: whole.len,
+    })
+}
+
+/// The time without a sign that a text begins with, in ticks of 1/10^digits, where it has at most `most` decimals and a byte follows.
+#[inline(always)]
+pub(crate) fn plain_time(text: &[u8], most: u8, digits: u8) -> Option<PlainTime>
+    requires most { most ≤ digits }
+    requires digits { digits ≤ 6 }
+    ensures { MatchOption result (Unit {0}) (IsPlainTime most digits text.now) }
 {
     if text.len() < 10 {
         return None;
     }
-    let number = few_digits(text)?;
-    let size = scaled(number.value, digits);
-    if size >= BEYOND {
+    let number = plain_number(text, most, digits)?;
+    if number.size >= BEYOND {
         return None;
     }
     Some(PlainTime {
-        time: size as u32,
+        time: number.size as u32,
         len: number.len,
     })
 }
 
-/// The size of a value of that number, in ticks of 1/10^digits, where it is one.
+/// The size as that of a value, where it is one.
 #[inline(always)]
-fn plain_size(number: u64, digits: u8) -> Option<u32>
-    requires number { number ≤ 999999999 }
-    requires digits { digits ≤ 6 }
-    ensures { MatchOption result (Unit {0}) (λ s. (s ≡ number * 10 ^ digits) × (s ≤ 16777216)) }
+fn value_size(size: u64) -> Option<u32>
+    ensures { MatchOption result (Unit {0}) (λ s. (s ≡ size) × (s ≤ 16777216)) }
 {
-    let size = scaled(number, digits);
     if size > LARGEST as u64 {
         return None;
     }
     Some(size as u32)
 }
 
-/// The value of one to nine digits, maybe after a minus, that a text begins with, in ticks of 1/10^digits, where a byte follows.
+/// The value, maybe with a minus, that a text begins with, in ticks of 1/10^digits, where it has at most `most` decimals and a byte follows.
 #[inline(always)]
-pub(crate) fn plain_value(text: &[u8], digits: u8) -> Option<PlainValue>
-    requires { digits ≤ 6 }
-    ensures { MatchOption result (Unit {0}) (IsPlainValue digits text.now) }
+pub(crate) fn plain_value(text: &[u8], most: u8, digits: u8) -> Option<PlainValue>
+    requires most { most ≤ digits }
+    requires digits { digits ≤ 6 }
+    ensures { MatchOption result (Unit {0}) (IsPlainValue most digits text.now) }
 {
     if text.len() < 11 {
         return None;
     }
     if text[0] == b'-' {
-        let number = few_digits(&text[1..])?;
+        let number = plain_number(&text[1..], most, digits)?;
         return Some(PlainValue {
-            value: opposite_of(plain_size(number.value, digits)?),
+            value: opposite_of(value_size(number.size)?),
             len: number.len + 1,
         });
     }
-    let number = few_digits(text)?;
+    let number = plain_number(text, most, digits)?;
     Some(PlainValue {
-        value: value_of(plain_size(number.value, digits)?),
+        value: value_of(value_size(number.size)?),
         len: number.len,
     })
 }

@@ -1,3 +1,4 @@
+//! The lines of a trace one after another, and what they come to.
 use crate::line::{LineFault, Lines};
 use crate::table::Table;
 use crate::{Event, Limits, Took, TraceKind, TraceRefusal};

@@ -1,3 +1,4 @@
+//! What is refused of a trace, and how many rows and lines one may have.
 /// How many rows and lines a trace may have. Blank lines and the header count as lines.
 #[derive(Clone, Copy, Debug, PartialEq, Eq)]
 pub struct Limits {

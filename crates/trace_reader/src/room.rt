@@ -1,3 +1,4 @@
+//! Memory that is reserved for a header before it is read.
 ghost use Rattle.std.specs.Prelude.{◌≡◌, ◌≤◌, [], vec_len};
 ghost use Rattle.std.specs.String.{string_bytes, string_capacity};
 

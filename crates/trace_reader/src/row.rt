@@ -1,3 +1,4 @@
+//! A row: a time and a value for each column, in ticks.
 use frac128::Memory;
 use std::marker::Model;
 
@@ -91,6 +92,10 @@ impl Row {
     }
 
     /// The same row once more.
+    ///
+    /// # Errors
+    ///
+    /// `Memory` where memory is wanting.
     pub fn copy(&self) -> Result<Row, Memory>
         ensures { IfOk result (λ r. r ≡ self.now) }
     {

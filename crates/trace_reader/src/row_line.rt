@@ -1,3 +1,4 @@
+//! Reads the fields of a row.
 use crate::field::{count_fields, cut_field};
 use crate::number::{read_time, read_value};
 use crate::plain::{line_end, plain_time, plain_value};
@@ -73,14 +74,14 @@ impl Heading {
         ensures { MatchOption result (Unit {0}) (λ n. IsPlainRow self.now piece.now n row.new) }
     {
         let scale = self.scale();
-        let first = plain_time(piece, scale.time)?;
+        let first = plain_time(piece, self.time_digits(), scale.time)?;
         row.begin(first.time);
         let mut at = first.len;
-        for _most in self.digits() {
+        for most in self.digits() {
             if piece[at] != b',' {
                 return None;
             }
-            let next = plain_value(&piece[at + 1..], scale.value)?;
+            let next = plain_value(&piece[at + 1..], *most, scale.value)?;
             row.add(next.value);
             at += next.len + 1;
         }

@@ -1,3 +1,4 @@
+//! The reader of a trace, piece by piece.
 use crate::reading::Reading;
 use crate::{Event, Header, Limits, Row, Took, TraceRefusal};
 use frac128::Memory;
@@ -38,6 +39,10 @@ impl Rows {
     /// A reader of a trace with at most so many rows and lines, which has read nothing.
     /// Times and values are counted in ticks that have the decimals of the header and at least those of `least`.
     /// It reserves its memory, and the other calls take none.
+    ///
+    /// # Errors
+    ///
+    /// `Memory` where memory is wanting; the calls after it take none.
     pub fn new(alloc: Global, limits: Limits, least: Scale) -> Result<Rows, Memory>
         requires rows { limits.rows ≤ 2 ^ 32 }
         requires lines { limits.lines ≤ 2 ^ 33 }

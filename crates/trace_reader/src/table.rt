@@ -1,3 +1,4 @@
+//! What is kept of the lines of a trace: the heading, the last row and their count.
 use crate::field::{content_of, is_blank};
 use crate::heading::read_heading;
 use crate::room::{Heading, HeadingRoom};
@@ -23,7 +24,7 @@ impl Model for Table {
 
     ghost Value = { Progress };
 
-    ghost use Rattle.trace_reader.specs.TraceTable.{progress_of, IsTable};
+    ghost use Rattle.trace_reader.specs.Table.{progress_of, IsTable};
 
     ghost view = { progress_of };
 

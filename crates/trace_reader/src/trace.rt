@@ -1,3 +1,4 @@
+//! A whole trace, kept by columns of memory that grows.
 use crate::{Header, Row};
 use frac128::Memory;
 use std::alloc::Global;
@@ -16,11 +17,11 @@ impl Model for Trace {
 
     ghost Value = { Table };
 
-    ghost use Rattle.trace_reader.specs.Table.{table_of, IsTable};
+    ghost use Rattle.trace_reader.specs.Trace.{trace_of, IsKept};
 
-    ghost view = { table_of };
+    ghost view = { trace_of };
 
-    ghost invariant = { IsTable };
+    ghost invariant = { IsKept };
 }
 
 ghost use Rattle.std.specs.Prelude.{◌≡◌, ◌≤◌, ◌+◌, ◌++◌, length, vec_len, vec_capacity};
@@ -55,6 +56,10 @@ impl Trace {
     }
 
     /// Adds a row with as many values as the header has columns, later than the rows before it.
+    ///
+    /// # Errors
+    ///
+    /// `Memory` where memory is wanting; the rows stay as they were.
     #[inline(always)]
     pub fn push(&mut self, row: &Row) -> Result<(), Memory>
         requires width { length row.now.values ≡ length self.old.header.columns }

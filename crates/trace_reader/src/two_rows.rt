@@ -1,3 +1,4 @@
+//! Two rows in turn: the last one, and room for the next.
 use crate::room::Heading;
 use crate::{Row, TraceKind};
 use std::marker::Model;

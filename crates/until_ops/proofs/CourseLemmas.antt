@@ -11,7 +11,7 @@ use Rattle.rational.proofs.AffineLemmas.{value_same, lies_between}
 use Rattle.rational.proofs.ExtendedLemmas.{greatest_of}
 use Rattle.pl_signal.specs.declared.joining.Side.TheVariants.{Least, Greatest}
 use Rattle.pl_signal.specs.Joining.{IsChosen}
-use Rattle.until_ops.specs.Courses.{Climbs, Sinks, IsBelow, IsOnward}
+use Rattle.rational.specs.Onward.{Climbs, Sinks, IsBelow, IsOnward}
 use Rattle.rational.proofs.AffineMeetings.{between}
 use Rattle.rational.proofs.ExtendedLemmas.{le_of_ltᵉ}
 
@@ -46,18 +46,22 @@ below_on f h l t r below a b = by_end (le_or_lt r t)
     by_end : (r ≤ʳ t) ⊎ (t <ʳ r) → value_at f t ≤ᵉ value_at h t
     by_end (inl e) =
         let s = same_of_le b e in
-        le_transᵉ (value_at f t) (value_at f r) (value_at h t) (value_same f s).at_most (le_transᵉ (value_at f r) (value_at h r) (value_at h t) below.right (value_same h s).at_least)
+        le_transᵉ (value_at f t) (value_at f r) (value_at h t) (value_same f s).at_most
+        (le_transᵉ (value_at f r) (value_at h r) (value_at h t) below.right (value_same h s).at_least)
     by_end (inr k) = between f h l t r a k below.left below.right
 
-module _ (r : Extended) (f h : Affine) (t0 t : Rational) (v low top : Extended) (is_low : IsLeast r (value_at f t0) low) (is_top : IsGreatest low (value_at h t0) top) where
+module _ (r : Extended) (f h : Affine) (t0 t : Rational) (v low top : Extended) (is_low : IsLeast r (value_at f t0) low)
+    (is_top : IsGreatest low (value_at h t0) top) where
   onward : ((high : Extended) → IsGreatest top (value_at h t) high → IsLeast (value_at f t) high v) → IsOnward r f h t0 t v
-  onward made = let g = greatest_of top (value_at h t) in record { low = low; top = top; high = g.0; is_low = is_low; is_top = is_top; is_high = g.1; is_value = made g.0 g.1 }
+  onward made = let g = greatest_of top (value_at h t) in
+      record { low = low; top = top; high = g.0; is_low = is_low; is_top = is_top; is_high = g.1; is_value = made g.0 g.1 }
 
   -- the left side alone, where that is at most the start or the right side
   pub by_left : (value_at f t ≤ᵉ top) ⊎ (value_at f t ≤ᵉ value_at h t) → IsChosen Least (value_at f t) (value_at f t) v → IsOnward r f h t0 t v
   by_left under c = onward (λ high g. record {
     left = c.left;
-    right = le_transᵉ v (value_at f t) high c.left (elim under [ inl k ↦ le_transᵉ (value_at f t) top high k g.left | inr k ↦ le_transᵉ (value_at f t) (value_at h t) high k g.right ]);
+    right = le_transᵉ v (value_at f t) high c.left
+        (elim under [ inl k ↦ le_transᵉ (value_at f t) top high k g.left | inr k ↦ le_transᵉ (value_at f t) (value_at h t) high k g.right ]);
     one_of = inl (elim c.one_of [ inl k ↦ k | inr k ↦ k ]);
   })
 
@@ -99,7 +103,11 @@ module _ (r : Extended) (f h : Affine) (t0 t : Rational) (v low top : Extended) 
       pub by_low_over : x ≤ᵉ value_at f t → IsChosen Greatest x (value_at h t) v → IsOnward r f h t0 t v
       by_low_over within c = onward (λ high g. record {
         left = elim c.one_of [ inl k ↦ le_transᵉ v x (value_at f t) k within | inr k ↦ le_transᵉ v (value_at h t) (value_at f t) k under ];
-        right = elim c.one_of [ inl k ↦ le_transᵉ v x high k (le_transᵉ x low high same.at_most (le_transᵉ low top high is_top.left g.left)) | inr k ↦ le_transᵉ v (value_at h t) high k g.right ];
+        right = elim c.one_of [
+          | inl k ↦ le_transᵉ v x high k (le_transᵉ x low high same.at_most (le_transᵉ low top high is_top.left g.left))
+          | inr k ↦
+              le_transᵉ v (value_at h t) high k g.right
+        ];
         one_of = inr (elim g.one_of [
           | inl k ↦ le_transᵉ high top v k (le_transᵉ top low v (top_is_low higher) (le_transᵉ low x v same.at_least c.left))
           | inr k ↦ le_transᵉ high (value_at h t) v k c.right

@@ -28,10 +28,15 @@ bounded_upto n f l u r h k a b = by_left (le_or_lt u l)
 
 module _ {P : Type 0} (shape : ShapeOf P) where
   -- the shape after a knot is bounded up to the next knot
-  pub after_small : (ks : List (Knot P)) (i : ℕ) (k n : Knot P) (u : Rational) → IsLimited shape ks → slice_get ks i ≡ Some k → slice_get ks (i + 1) ≡ Some n → time k ≤ʳ u → u ≤ʳ time n
+  pub after_small : (ks : List (Knot P)) (i : ℕ) (k n : Knot P) (u : Rational) → IsLimited shape ks → slice_get ks i ≡ Some k
+      → slice_get ks (i + 1) ≡ Some n → time k ≤ʳ u → u ≤ʳ time n
       → IsBounded (2 ^ 31) (value_at (shape.function k.after) u)
-  after_small ks i k n u h e f a b = let m = limits_bounded shape ks i k n h e f in bounded_upto (2 ^ 31) (shape.function k.after) (time k) u (time n) a b m.0 m.1
+  after_small ks i k n u h e f a b = let m = limits_bounded shape ks i k n h e f in
+      bounded_upto (2 ^ 31) (shape.function k.after) (time k) u (time n) a b m.0 m.1
 
   -- and its level is
-  pub after_bounded : (ks : List (Knot P)) (i : ℕ) (k n : Knot P) → IsSignal shape ks → IsLimited shape ks → slice_get ks i ≡ Some k → slice_get ks (i + 1) ≡ Some n → HasBoundedLevel (2 ^ 31) (shape.function k.after)
-  after_bounded ks i k n s h e f = level_bounded (2 ^ 31) (shape.function k.after) (time k) (after_small ks i k n (time k) h e f (le_refl (time k)) (le_of_lt (next_rises shape ks i k n s.each e f)))
+  pub after_bounded : (ks : List (Knot P)) (i : ℕ) (k n : Knot P) → IsSignal shape ks → IsLimited shape ks → slice_get ks i ≡ Some k
+      → slice_get ks (i + 1) ≡ Some n → HasBoundedLevel (2 ^ 31) (shape.function k.after)
+  after_bounded ks i k n s h e f =
+      level_bounded (2 ^ 31) (shape.function k.after) (time k)
+      (after_small ks i k n (time k) h e f (le_refl (time k)) (le_of_lt (next_rises shape ks i k n s.each e f)))

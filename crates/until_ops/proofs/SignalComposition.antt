@@ -9,34 +9,45 @@ use Rattle.value_laws.specs.Members.{ShapeOf, ShapeLaws}
 use Rattle.pl_signal.specs.declared.knot.Knot.{Knot}
 use Rattle.pl_signal.specs.Knots.{IsSignal, IsWorth, start, stop, time}
 use Rattle.pl_signal.proofs.SupLemmas.{signal_inf}
-use Rattle.until_ops.specs.Composition.{HasUntilToEnd, HasSinceFromStart, UntilIsComposed, SinceIsComposed}
-use Rattle.until_ops.proofs.Composition.{until_is_composed, since_is_composed}
+use Rattle.rational.specs.UntilParts.{HasUntilToEnd, HasSinceFromStart, UntilIsComposed, SinceIsComposed}
+use Rattle.rational.proofs.UntilComposition.{until_is_composed, since_is_composed}
 
 module _ {P : Type 0} (shape : ShapeOf P) (laws : ShapeLaws shape) where
   infs : (p : List (Knot P)) (s u : Rational) → (y : Extended) × IsInfOver shape.highest (Within s u) (IsWorth shape p) y
   infs p s u =
-      let f = signal_inf shape laws.highest_is_greatest p (closed s u) in
-      (f.0, inf_over_alike (IsIn (closed s u)) (Within s u) (IsWorth shape p) shape.highest f.0 (λ t h. record { above = h.above; below = h.below }) (λ t h. record { above = h.above; below = h.below }) f.1)
+      let f = signal_inf shape laws.highest_is_greatest p (closed s u) in (
+        f.0,
+        inf_over_alike (IsIn (closed s u)) (Within s u) (IsWorth shape p) shape.highest f.0 (λ t h. record { above = h.above; below = h.below })
+            (λ t h. record { above = h.above; below = h.below }) f.1,
+      )
 
   -- the lowest value is at most the highest, since a signal has a shape
   order : (p : List (Knot P)) → IsSignal shape p → shape.lowest ≤ᵉ shape.highest
   order [] signal = absurd (omega (arith, signal.some))
-  order (k ∷ knots) signal = le_transᵉ shape.lowest (value_at (shape.function k.point) (time k)) shape.highest (laws.lowest_is_least k.point (time k)) (laws.highest_is_greatest k.point (time k))
+  order (k ∷ knots) signal = le_transᵉ shape.lowest (value_at (shape.function k.point) (time k)) shape.highest (laws.lowest_is_least k.point (time k))
+      (laws.highest_is_greatest k.point (time k))
 
   -- a signal is worth at least the lowest value
   pub at_least_lowest : (p : List (Knot P)) (s : Rational) (v : Extended) → IsWorth shape p s v → shape.lowest ≤ᵉ v
   at_least_lowest [] s v h = absurd h
   at_least_lowest (k ∷ knots) s v (inl h) = le_transᵉ shape.lowest (value_at (shape.function k.point) s) v (laws.lowest_is_least k.point s) h.worth.at_least
   at_least_lowest (k ∷ []) s v (inr (inl h)) = absurd h
-  at_least_lowest (k ∷ n ∷ knots) s v (inr (inl h)) = le_transᵉ shape.lowest (value_at (shape.function k.after) s) v (laws.lowest_is_least k.after s) h.worth.at_least
+  at_least_lowest (k ∷ n ∷ knots) s v (inr (inl h)) =
+      le_transᵉ shape.lowest (value_at (shape.function k.after) s) v (laws.lowest_is_least k.after s) h.worth.at_least
   at_least_lowest (k ∷ knots) s v (inr (inr h)) = at_least_lowest knots s v h
 
-  pub until_of_signals : (p q : List (Knot P)) → IsSignal shape p → HasUntilToEnd shape.lowest shape.highest (start p) (stop p) (IsWorth shape p) (IsWorth shape q)
+  -- a bounded until of signals is composed
+  pub until_of_signals : (p q : List (Knot P)) → IsSignal shape p → HasUntilToEnd shape.lowest shape.highest (start p) (stop p) (IsWorth shape p)
+      (IsWorth shape q)
       → UntilIsComposed shape.lowest shape.highest (start p) (stop p) (IsWorth shape p) (IsWorth shape q)
   until_of_signals p q signal has t a b c d r inside o sup inf h =
-      until_is_composed shape.lowest shape.highest (IsWorth shape p) (IsWorth shape q) (start p) (stop p) t a b o inside (order p signal) (λ s v f h. at_least_lowest p s v h) (λ s u f g k. infs p s u) has c d r sup inf h
+      until_is_composed shape.lowest shape.highest (IsWorth shape p) (IsWorth shape q) (start p) (stop p) t a b o inside (order p signal)
+      (λ s v f h. at_least_lowest p s v h) (λ s u f g k. infs p s u) has c d r sup inf h
 
-  pub since_of_signals : (p q : List (Knot P)) → IsSignal shape p → HasSinceFromStart shape.lowest shape.highest (start p) (stop p) (IsWorth shape p) (IsWorth shape q)
+  -- so for since
+  pub since_of_signals : (p q : List (Knot P)) → IsSignal shape p → HasSinceFromStart shape.lowest shape.highest (start p) (stop p) (IsWorth shape p)
+      (IsWorth shape q)
       → SinceIsComposed shape.lowest shape.highest (start p) (stop p) (IsWorth shape p) (IsWorth shape q)
   since_of_signals p q signal has t a b c d r inside o sup inf h =
-      since_is_composed shape.lowest shape.highest (IsWorth shape p) (IsWorth shape q) (start p) (stop p) t a b o inside (order p signal) (λ s v f h. at_least_lowest p s v h) (λ s u f g k. infs p s u) has c d r sup inf h
+      since_is_composed shape.lowest shape.highest (IsWorth shape p) (IsWorth shape q) (start p) (stop p) t a b o inside (order p signal)
+      (λ s v f h. at_least_lowest p s v h) (λ s u f g k. infs p s u) has c d r sup inf h

@@ -16,8 +16,8 @@ use Rattle.pl_signal.proofs.Moving.{at_knot_within, first_is}
 use Rattle.pl_signal.proofs.Places.{first_place, more_knots, part_on_gap, place_next, place_stays}
 use Rattle.pl_signal.proofs.SupLemmas.{signal_inf}
 use Rattle.pl_signal.proofs.Telling.{worth_is_function}
-use Rattle.until_ops.specs.Composition.{HasUntilToEnd, HasSinceFromStart}
-use Rattle.until_ops.proofs.Existence.{IsPlain, IsFit, Cuts, done, gap, known_first, known_last, since_known, until_known}
+use Rattle.rational.specs.UntilParts.{HasUntilToEnd, HasSinceFromStart}
+use Rattle.rational.proofs.UntilExistence.{IsPlain, IsFit, Cuts, done, gap, known_first, known_last, since_known, until_known}
 use Rattle.until_ops.proofs.SignalComposition.{at_least_lowest}
 
 module _ {P : Type 0} (shape : ShapeOf P) (laws : ShapeLaws shape)
@@ -27,7 +27,8 @@ module _ {P : Type 0} (shape : ShapeOf P) (laws : ShapeLaws shape)
   at_most_highest [] s v h = absurd h
   at_most_highest (k ∷ ks) s v (inl h) = le_transᵉ v (value_at (shape.function k.point) s) shape.highest h.worth.at_most (laws.highest_is_greatest k.point s)
   at_most_highest (k ∷ []) s v (inr (inl h)) = absurd h
-  at_most_highest (k ∷ n ∷ ks) s v (inr (inl h)) = le_transᵉ v (value_at (shape.function k.after) s) shape.highest h.worth.at_most (laws.highest_is_greatest k.after s)
+  at_most_highest (k ∷ n ∷ ks) s v (inr (inl h)) = le_transᵉ v (value_at (shape.function k.after) s) shape.highest h.worth.at_most
+      (laws.highest_is_greatest k.after s)
   at_most_highest (k ∷ ks) s v (inr (inr h)) = at_most_highest ks s v h
 
   -- the signal does not end before it begins
@@ -37,18 +38,31 @@ module _ {P : Type 0} (shape : ShapeOf P) (laws : ShapeLaws shape)
   abbrev SignalCuts : Rational → Rational → Type 0
   SignalCuts l r = Cuts shape.lowest shape.highest (IsWorth shape p) (IsWorth shape q) l r
 
-  plain : (i j : ℕ) (k l m n : Knot P) (t to : Rational) → IsPlace p t i → IsPlace q t j → slice_get p i ≡ Some k → slice_get q j ≡ Some l → slice_get p (i + 1) ≡ Some m → slice_get q (j + 1) ≡ Some n
-      → to ≤ʳ time m → to ≤ʳ time n → IsPlain shape.lowest shape.highest (IsWorth shape p) (IsWorth shape q) t to (shape.function k.after) (shape.function l.after)
+  plain : (i j : ℕ) (k l m n : Knot P) (t to : Rational) → IsPlace p t i → IsPlace q t j → slice_get p i ≡ Some k → slice_get q j ≡ Some l
+      → slice_get p (i + 1) ≡ Some m → slice_get q (j + 1) ≡ Some n
+      → to ≤ʳ time m → to ≤ʳ time n → IsPlain shape.lowest shape.highest (IsWorth shape p) (IsWorth shape q) t to (shape.function k.after)
+      (shape.function l.after)
   plain i j k l m n t to place place' at_k at_l at_m at_n a b = record {
-    left_on = λ u x y. (value_at (shape.function k.after) u, part_on_gap shape p i k m t to u place at_k at_m a x y, same_reflᵉ (value_at (shape.function k.after) u));
-    right_on = λ u x y. (value_at (shape.function l.after) u, part_on_gap shape q j l n t to u place' at_l at_n b x y, same_reflᵉ (value_at (shape.function l.after) u));
+    left_on = λ u x y. (
+      value_at (shape.function k.after) u,
+      part_on_gap shape p i k m t to u place at_k at_m a x y,
+      same_reflᵉ
+          (value_at (shape.function k.after) u),
+    );
+    right_on = λ u x y. (
+      value_at (shape.function l.after) u,
+      part_on_gap shape q j l n t to u place' at_l at_n b x y,
+      same_reflᵉ
+          (value_at (shape.function l.after) u),
+    );
     left_low = laws.lowest_is_least k.after;
     right_low = laws.lowest_is_least l.after;
     left_high = laws.highest_is_greatest k.after;
   }
 
   -- the place of a signal at a time up to the next knot
-  next_place : (ks : List (Knot P)) (i : ℕ) (n : Knot P) (from to : Rational) → IsSignal shape ks → IsPlace ks from i → i + 1 < length ks → slice_get ks (i + 1) ≡ Some n → from <ʳ to → to ≤ʳ time n
+  next_place : (ks : List (Knot P)) (i : ℕ) (n : Knot P) (from to : Rational) → IsSignal shape ks → IsPlace ks from i → i + 1 < length ks
+      → slice_get ks (i + 1) ≡ Some n → from <ʳ to → to ≤ʳ time n
       → (j : ℕ) × IsPlace ks to j × (i ≤ j)
   next_place ks i n from to s place more at_n a b = elim (le_or_lt (time n) to) as (λ v. (j : ℕ) × IsPlace ks to j × (i ≤ j)) [
     | inl e ↦ (i + 1, place_next shape ks i n to s more at_n (same_of_le e b), omega arith)
@@ -56,7 +70,8 @@ module _ {P : Type 0} (shape : ShapeOf P) (laws : ShapeLaws shape)
   ]
 
   -- one gap, up to the next knot of either signal
-  one_cut : (fuel : ℕ) → ((i j : ℕ) (t : Rational) → IsPlace p t i → IsPlace q t j → t ≤ʳ stop p → (length p - i) + (length q - j) ≤ fuel → SignalCuts t (stop p))
+  one_cut : (fuel : ℕ) → ((i j : ℕ) (t : Rational) → IsPlace p t i → IsPlace q t j → t ≤ʳ stop p → (length p - i) + (length q - j) ≤ fuel
+      → SignalCuts t (stop p))
       → (i j : ℕ) (t : Rational) → IsPlace p t i → IsPlace q t j → t <ʳ stop p → (length p - i) + (length q - j) ≤ suc fuel → SignalCuts t (stop p)
   one_cut fuel rest i j t place place' below few = by_order (le_or_lt (time m) (time n))
     where
@@ -103,19 +118,22 @@ module _ {P : Type 0} (shape : ShapeOf P) (laws : ShapeLaws shape)
       by_order (inl h) =
           let a = place.later m at_m in
           let b = next_place q j n t (time m) is_q place' more' at_n a h in
-          gap (time m) (shape.function k.after) (shape.function l.after) a m_stop (plain i j k l m n t (time m) place place' at_k at_l at_m at_n (le_refl (time m)) h)
+          gap (time m) (shape.function k.after) (shape.function l.after) a m_stop
+          (plain i j k l m n t (time m) place place' at_k at_l at_m at_n (le_refl (time m)) h)
           (rest (i + 1) b.0 (time m) (place_next shape p i m (time m) is_p more at_m (same_refl (time m))) b.1 m_stop (let up : j ≤ b.0 = b.2 in omega arith))
       by_order (inr h) =
           let a = place'.later n at_n in
           let b = next_place p i m t (time n) is_p place more at_m a (le_of_lt h) in
-          gap (time n) (shape.function k.after) (shape.function l.after) a n_stop (plain i j k l m n t (time n) place place' at_k at_l at_m at_n (le_of_lt h) (le_refl (time n)))
+          gap (time n) (shape.function k.after) (shape.function l.after) a n_stop
+          (plain i j k l m n t (time n) place place' at_k at_l at_m at_n (le_of_lt h) (le_refl (time n)))
           (rest b.0 (j + 1) (time n) b.1 (place_next shape q j n (time n) is_q more' at_n (same_refl (time n))) n_stop (let up : i ≤ b.0 = b.2 in omega arith))
 
   cuts : (fuel : ℕ) (i j : ℕ) (t : Rational) → IsPlace p t i → IsPlace q t j → t ≤ʳ stop p → (length p - i) + (length q - j) ≤ fuel → SignalCuts t (stop p)
   cuts zero i j t place place' below few = let in_p = place.inside in absurd (omega arith)
   cuts (suc fuel) i j t place place' below few = by_stop (λ i j t a b c d. cuts fuel i j t a b c d) (le_or_lt (stop p) t)
     where
-      by_stop : ((i j : ℕ) (t : Rational) → IsPlace p t i → IsPlace q t j → t ≤ʳ stop p → (length p - i) + (length q - j) ≤ fuel → SignalCuts t (stop p)) → (stop p ≤ʳ t) ⊎ (t <ʳ stop p) → SignalCuts t (stop p)
+      by_stop : ((i j : ℕ) (t : Rational) → IsPlace p t i → IsPlace q t j → t ≤ʳ stop p → (length p - i) + (length q - j) ≤ fuel
+          → SignalCuts t (stop p)) → (stop p ≤ʳ t) ⊎ (t <ʳ stop p) → SignalCuts t (stop p)
       by_stop rest (inl e) = done (same_of_le below e)
       by_stop rest (inr o) = one_cut fuel rest i j t place place' o few
 
@@ -132,13 +150,19 @@ module _ {P : Type 0} (shape : ShapeOf P) (laws : ShapeLaws shape)
     q_is = worth_is_function shape q is_q;
     infs = λ on. signal_inf shape laws.highest_is_greatest p on;
     p_at = λ t w. let v = every_time shape p t is_p w in (v.0, v.1, at_least_lowest shape laws p t v.0 v.1, at_most_highest p t v.0 v.1);
-    q_at = λ t w. let v = every_time shape q t is_q (record { above = le_trans (ge_of_same begins) w.above; below = le_trans w.below (le_of_same ends) }) in (v.0, v.1, at_least_lowest shape laws q t v.0 v.1);
+    q_at = λ t w. let v = every_time shape q t is_q
+        (record { above = le_trans (ge_of_same begins) w.above; below = le_trans w.below (le_of_same ends) }) in
+        (v.0, v.1, at_least_lowest shape laws q t v.0 v.1);
   }
 
+  -- a since of two signals has a value at each time
   pub has_since : HasSinceFromStart shape.lowest shape.highest (start p) (stop p) (IsWorth shape p) (IsWorth shape q)
-  has_since t w = since_known shape.lowest shape.highest (IsWorth shape p) (IsWorth shape q) (start p) (stop p) fit (start p) (stop p) all_cuts (le_refl (start p)) (le_refl (stop p))
+  has_since t w = since_known shape.lowest shape.highest (IsWorth shape p) (IsWorth shape q) (start p) (stop p) fit (start p) (stop p) all_cuts
+      (le_refl (start p)) (le_refl (stop p))
       (known_first shape.lowest shape.highest (IsWorth shape p) (IsWorth shape q) (start p) (stop p) fit in_order) t w.above w.below
 
+  -- so for until
   pub has_until : HasUntilToEnd shape.lowest shape.highest (start p) (stop p) (IsWorth shape p) (IsWorth shape q)
-  has_until t w = until_known shape.lowest shape.highest (IsWorth shape p) (IsWorth shape q) (start p) (stop p) fit (start p) (stop p) all_cuts (le_refl (start p)) (le_refl (stop p))
+  has_until t w = until_known shape.lowest shape.highest (IsWorth shape p) (IsWorth shape q) (start p) (stop p) fit (start p) (stop p) all_cuts
+      (le_refl (start p)) (le_refl (stop p))
       (known_last shape.lowest shape.highest (IsWorth shape p) (IsWorth shape q) (start p) (stop p) fit in_order) t w.above w.below

@@ -2,8 +2,9 @@
 use Rattle.std.specs.Prelude.{◌≡◌, ◌⊎◌, ◌≤◌, ◌^◌, false, MatchBool}
 use Rattle.rational.specs.Rational.{Rational, ◌<ʳ◌, ◌≤ʳ◌, IsWithin}
 use Rattle.rational.specs.Time.{HasDenominator}
-use Rattle.rational.specs.Extended.{Extended, finite, ◌≤ᵉ◌, ◌≈ᵉ◌, IsLeast, IsGreatest, Affine, value_at}
+use Rattle.rational.specs.Extended.{Extended, finite, ◌≈ᵉ◌, IsLeast, IsGreatest, Affine, value_at}
 use Rattle.rational.specs.Affine.{IsBounded, MeetAlone}
+use Rattle.rational.specs.Onward.{InOrder, IsOnward}
 use Rattle.frac128.specs.Value.{value}
 use Rattle.frac128.specs.declared.frac.Frac.{Frac}
 use Rattle.value_laws.specs.Members.{ShapeOf}
@@ -15,32 +16,6 @@ use Rattle.until_ops.specs.declared.course.Gap.{Gap}
 use Rattle.until_ops.specs.declared.course.Turn.{Turn}
 use Rattle.pl_signal.specs.declared.joining.Side.{Side}
 use Rattle.pl_signal.specs.Joining.{IsChosen}
-
--- f grows with time, or stays; it shrinks, or stays
-abbrev pub Climbs : Affine → Type 0
-Climbs f = (t u : Rational) → t ≤ʳ u → value_at f t ≤ᵉ value_at f u
-
-abbrev pub Sinks : Affine → Type 0
-Sinks f = (t u : Rational) → t ≤ʳ u → value_at f u ≤ᵉ value_at f t
-
--- at both times f is at most h
-pub record IsBelow (f h : Affine) (l r : Rational) : Type 0 where
-  pub left : value_at f l ≤ᵉ value_at h l
-  pub right : value_at f r ≤ᵉ value_at h r
-
--- at both times the two are in one order
-abbrev pub InOrder : Affine → Affine → Rational → Rational → Type 0
-InOrder f h l r = IsBelow f h l r ⊎ IsBelow h f l r
-
--- v is the value at t of a since that is worth r at t0, where from there on its left side is f and its right side h, in one order
-pub record IsOnward (r : Extended) (f h : Affine) (t0 t : Rational) (v : Extended) : Type 0 where
-  pub low : Extended
-  pub top : Extended
-  pub high : Extended
-  pub is_low : IsLeast r (value_at f t0) low
-  pub is_top : IsGreatest low (value_at h t0) top
-  pub is_high : IsGreatest top (value_at h t) high
-  pub is_value : IsLeast (value_at f t) high v
 
 -- v is the value at a time of a since that has the least or the greatest of x and y for its limit there, with p and q at that time
 pub record IsPointOf (side : Side) (x y p q v : Extended) : Type 0 where
@@ -87,8 +62,10 @@ module _ {P : Type 0} (shape : ShapeOf P) where
   pub record IsStart (gap : Gap P) (low top : P) : Type 0 where
     pub low_of : IsOfGap gap low
     pub top_of : IsOfGap gap top
-    pub is_low : IsLeast (value_at (shape.function gap.before) (value gap.from)) (value_at (shape.function gap.left) (value gap.from)) (value_at (shape.function low) (value gap.from))
-    pub is_top : IsGreatest (value_at (shape.function low) (value gap.from)) (value_at (shape.function gap.right) (value gap.from)) (value_at (shape.function top) (value gap.from))
+    pub is_low : IsLeast (value_at (shape.function gap.before) (value gap.from)) (value_at (shape.function gap.left) (value gap.from))
+        (value_at (shape.function low) (value gap.from))
+    pub is_top : IsGreatest (value_at (shape.function low) (value gap.from)) (value_at (shape.function gap.right) (value gap.from))
+        (value_at (shape.function top) (value gap.from))
 
   -- want of memory, or the value that one of the three shapes has as the gap begins
   abbrev pub IsCourseFault : Gap P → OpFault P → Type 0

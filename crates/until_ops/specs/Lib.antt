@@ -1,5 +1,3 @@
-pub mod Composition
 pub mod Untils
 pub mod Courses
 pub mod Walks
-pub mod Mirrors

@@ -42,7 +42,8 @@ module _ {P : Type 0} (shape : ShapeOf P) where
 
   -- the parts of both signals from here on cross here
   abbrev pub CrossHere : List (Knot P) → List (Knot P) → Stand P → Type 0
-  CrossHere p q now = (k l : Knot P) → slice_get p now.left ≡ Some k → slice_get q now.right ≡ Some l → IsCrossing (shape.function k.after) (shape.function l.after) (value now.at)
+  CrossHere p q now = (k l : Knot P) → slice_get p now.left ≡ Some k → slice_get q now.right ≡ Some l
+      → IsCrossing (shape.function k.after) (shape.function l.after) (value now.at)
 
   -- one of the signals is not affine here, or begins or ends
   abbrev pub BreakHere : List (Knot P) → List (Knot P) → Stand P → Type 0

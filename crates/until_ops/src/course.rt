@@ -7,7 +7,8 @@ ghost use Rattle.rational.specs.Affine.{IsBounded, HasBoundedLevel};
 ghost use Rattle.frac128.specs.Value.{value};
 ghost use Rattle.pl_signal.specs.declared.joining.Side.TheVariants.{Least};
 ghost use Rattle.pl_signal.specs.Joining.{IsGapFault};
-ghost use Rattle.until_ops.specs.Courses.{InOrder, IsBelow, IsCourse, IsCourseFault, IsFixed, IsGap, IsPointOf, IsStart, IsTurn, IsValueFault, Climbs, Sinks};
+ghost use Rattle.rational.specs.Onward.{InOrder, IsBelow, Climbs, Sinks};
+ghost use Rattle.until_ops.specs.Courses.{IsCourse, IsCourseFault, IsFixed, IsGap, IsPointOf, IsStart, IsTurn, IsValueFault};
 
 use frac128::Frac;
 use pl_signal::{OpFault, Side, WidePair, chosen, crossing};

@@ -4,12 +4,14 @@ ghost use Rattle.std.specs.Prelude.{List};
 ghost use Rattle.rational.specs.Time.{◌≈◌};
 ghost use Rattle.pl_signal.specs.declared.knot.Knot.{Knot};
 ghost use Rattle.pl_signal.specs.Knots.{IsSignal, IsWorth, start, stop};
-ghost use Rattle.until_ops.specs.Composition.{HasUntilToEnd, HasSinceFromStart, UntilIsComposed, SinceIsComposed};
+ghost use Rattle.rational.specs.UntilParts.{HasUntilToEnd, HasSinceFromStart, UntilIsComposed, SinceIsComposed};
 
 use value_laws::Shape;
 
 /// At each time, the value of a bounded until is the least of the Sup of its right side over the window and of the Inf, from now
 /// up to where the window begins, of the until to the end. It holds for empty and clipped windows too.
+///
+/// Source: Donzé, Ferrère and Maler 2013 split a timed until so; finite domains and clipped windows are this project's profile.
 pub fn until_is_composed<P: Shape>()
     ensures { (p q : List (Knot P)) → IsSignal P.Shape p
         → HasUntilToEnd P.lowest P.highest (start p) (stop p) (IsWorth P.Shape p) (IsWorth P.Shape q)

@@ -32,6 +32,10 @@ struct Stand<P> {
 /// only where a function in play in this step has a crossing or a constant value there that needs a denominator of 2^60 or more.
 ///
 /// Definition: this project's profile, the mirror image of `until_to_end`.
+///
+/// # Errors
+///
+/// `Wide` for a pair that is in play in this step; `Memory` where memory is wanting.
 pub fn since_from_start<P: Shape>(p: &Signal<P>, q: &Signal<P>) -> Result<Signal<P>, OpFault<P>>
     requires left { IsLimited P.Shape p.now }
     requires right { IsLimited P.Shape q.now }
@@ -60,6 +64,7 @@ fn first<P: Shape>(p: &Signal<P>, q: &Signal<P>) -> Stand<P>
     ensures { (built : List (Knot P)) → built ≡ record { time = result.at; point = result.value; after = result.value } ∷ []
         → Stands P.Shape p.now q.now built result }
 {
+    // For the proof alone: that both are signals is a clause of `len`.
     let _ = p.len();
     let _ = q.len();
     let (x, y) = (p.knot(0), q.knot(0));
@@ -88,6 +93,7 @@ fn walk<P: Shape>(
         (HasCause P.Shape (SinceStep P.Shape p.now q.now) (start p.now) (stop p.now)) }
     ensures pair { IfErr result (IsPairWithin (start p.now) (stop p.now)) }
 {
+    // For the proof alone: that both are signals is a clause of `len`.
     let _ = p.len();
     let _ = q.len();
     let (x, y) = (p.knot(now.left).after, q.knot(now.right).after);

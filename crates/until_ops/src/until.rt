@@ -1,17 +1,15 @@
 //! Until to the end.
-ghost use Rattle.std.specs.Prelude.{◌^◌, pos, neg_ℤ, IfOk, IfErr};
-ghost use Rattle.rational.specs.Rational.{whole};
+ghost use Rattle.std.specs.Prelude.{IfOk, IfErr};
 ghost use Rattle.rational.specs.Time.{◌≈◌};
 ghost use Rattle.pl_signal.specs.Knots.{start, stop};
 ghost use Rattle.pl_signal.specs.Limits.{IsLimited};
 ghost use Rattle.pl_signal.specs.Moves.{Tells};
 ghost use Rattle.pl_signal.specs.Wide.{HasCause};
-ghost use Rattle.until_ops.specs.Mirrors.{IsTurnedFault, IsTurnedPair};
 ghost use Rattle.until_ops.specs.Untils.{BasesOfTwo, UntilOf, UntilStep};
-ghost use Rattle.until_ops.specs.Walks.{IsPairWithin, PairWithin};
+ghost use Rattle.until_ops.specs.Walks.{IsPairWithin};
 
 use crate::since_from_start;
-use pl_signal::{OpFault, Signal, WidePair};
+use pl_signal::{OpFault, Signal};
 use value_laws::Shape;
 
 /// At each time t the greatest value, over the times u from t to the end, of the least of `q` at u and of all values of `p` from
@@ -21,6 +19,10 @@ use value_laws::Shape;
 /// only where a function in play in this step has a crossing or a constant value there that needs a denominator of 2^60 or more.
 ///
 /// Definition: Donzé, Ferrère and Maler 2013, with the closed until and the finite domain of this project's profile.
+///
+/// # Errors
+///
+/// `Wide` for a pair that is in play in this step; `Memory` where memory is wanting.
 pub fn until_to_end<P: Shape>(p: &Signal<P>, q: &Signal<P>) -> Result<Signal<P>, OpFault<P>>
     requires left { IsLimited P.Shape p.now }
     requires right { IsLimited P.Shape q.now }
@@ -33,50 +35,13 @@ pub fn until_to_end<P: Shape>(p: &Signal<P>, q: &Signal<P>) -> Result<Signal<P>,
         (HasCause P.Shape (UntilStep P.Shape p.now q.now) (start p.now) (stop p.now)) }
     ensures pair { IfErr result (IsPairWithin (start p.now) (stop p.now)) }
 {
+    // For the proof alone: that both are signals is a clause of `len`.
     let _ = p.len();
     let _ = q.len();
     let left = p.mirror(0)?;
     let right = q.mirror(0)?;
     match since_from_start(&left, &right) {
         Ok(since) => Ok(since.mirror(0)?),
-        Err(fault) => Err(turned(&fault)),
-    }
-}
-
-/// The fault with time running back.
-fn turned<P: Shape>(fault: &OpFault<P>) -> OpFault<P>
-    requires { IsPairWithin (whole (neg_ℤ (pos (2 ^ 34)))) (whole (pos (2 ^ 34))) fault.now }
-    ensures { IsTurnedFault P.Shape fault.now result }
-{
-    match fault {
-        OpFault::Memory => OpFault::Memory,
-        OpFault::Wide(pair) => OpFault::Wide(turned_pair(pair)),
-    }
-}
-
-/// The pair with time running back.
-fn turned_pair<P: Shape>(pair: &WidePair<P>) -> WidePair<P>
-    requires { PairWithin (whole (neg_ℤ (pos (2 ^ 34)))) (whole (pos (2 ^ 34))) pair.now }
-    ensures { IsTurnedPair P.Shape pair.now result }
-{
-    match *pair {
-        WidePair::Cross {
-            p,
-            q,
-            from,
-            to,
-            den,
-        } => WidePair::Cross {
-            p: p.mirror(0),
-            q: q.mirror(0),
-            from: to.mirror(0),
-            to: from.mirror(0),
-            den,
-        },
-        WidePair::Value { p, at, den } => WidePair::Value {
-            p: p.mirror(0),
-            at: at.mirror(0),
-            den,
-        },
+        Err(fault) => Err(fault.mirrored(0)),
     }
 }

@@ -24,6 +24,7 @@ use Rattle.value_laws.specs.declared.margin.Margin.{Margin}
 use Rattle.value_laws.specs.declared.margin.Margin.TheVariants.{Low, High, Fixed, Ramp as Sloping}
 use Rattle.value_laws.specs.Margins.{margin_function}
 
+-- numbers and finite values are ordered alike
 pub finite_order : (o : Ordering) (a b : Rational) → IsOrder o a b → IsOrderᵉ o (finite a) (finite b)
 finite_order Less a b h = h
 finite_order Equal a b h = finite_same h
@@ -44,11 +45,13 @@ line_to_constant o f c t h =
     order_sameᵉ o (finite (at f t)) (finite (at f t)) (finite c) (finite (at (constant c) t)) (same_reflᵉ (finite (at f t)))
     (same_symᵉ (finite (at (constant c) t)) (finite c) (constant_is c t)) (finite_order o (at f t) c h)
 
+-- so for two constants
 pub constant_to_constant : (o : Ordering) (c d t : Rational) → IsOrder o c d → IsOrderᵉ o (value_at (affine (constant c)) t) (value_at (affine (constant d)) t)
 constant_to_constant o c d t h =
     order_sameᵉ o (finite c) (finite (at (constant c) t)) (finite d) (finite (at (constant d) t))
     (same_symᵉ (finite (at (constant c) t)) (finite c) (constant_is c t)) (same_symᵉ (finite (at (constant d) t)) (finite d) (constant_is d t)) (finite_order o c d h)
 
+-- a constant does not move
 pub constant_steady : (c : Rational) → IsSteady (affine (constant c))
 constant_steady c t u = same_transᵉ (finite (at (constant c) t)) (finite c) (finite (at (constant c) u)) (constant_is c t) (same_symᵉ (finite (at (constant c) u)) (finite c) (constant_is c u))
 
@@ -67,6 +70,7 @@ meet_of_cross f g l r t h = record {
   alone = λ u e. h.meet.alone u (same_of_finite e);
 }
 
+-- and lines that meet alone cross
 pub cross_of_meet : (f g : Line) (l r t : Rational) → MeetAlone (affine f) (affine g) l r t → CrossAt f g l r t
 cross_of_meet f g l r t h = record {
   after = h.after;
@@ -85,11 +89,13 @@ IsCrossing f g l r result =
     MatchResult result (λ o. MatchOption o ((t : Rational) → ¬ CrossAt f g l r t) (λ t. CrossAt f g l r (value t)))
     (λ e. (t : Rational) × CrossAt f g l r t × HasDenominator t e.den × (2 ^ 60 ≤ e.den))
 
+-- the answer on a crossing is one on a meeting
 pub meeting_of_crossing : (f g : Line) (l r : Rational) (x : Result (Option Frac) WideFrac) → IsCrossing f g l r x → IsMeeting (affine f) (affine g) l r x
 meeting_of_crossing f g l r (Ok None) h = λ t m. h t (cross_of_meet f g l r t m)
 meeting_of_crossing f g l r (Ok (Some t)) h = meet_of_cross f g l r (value t) h
 meeting_of_crossing f g l r (Err e) h = (h.0, meet_of_cross f g l r h.0 h.1, h.2, h.3)
 
+-- it is one of either function with the other
 pub meeting_swap : (f g : Affine) (l r : Rational) (x : Result (Option Frac) WideFrac) → IsMeeting f g l r x → IsMeeting g f l r x
 meeting_swap f g l r (Ok None) h = λ t m. h t (alone_swap m)
 meeting_swap f g l r (Ok (Some t)) h = alone_swap h
@@ -172,12 +178,14 @@ mirrored_constant m c t h =
 pub same_lines_values : (b : Bool) (f g : Line) → (IsTrue b ↔ ((t : Rational) → at f t ≈ at g t)) → IsTrue b ↔ AreSame (affine f) (affine g)
 same_lines_values b f g e = (λ h t. finite_same (e.0 h t), λ h. e.1 (λ t. same_of_finite (h t)))
 
+-- so for a line and a constant
 pub same_line_constant : (b : Bool) (f : Line) (c : Rational) → (IsTrue b ↔ ((t : Rational) → at f t ≈ c)) → IsTrue b ↔ AreSame (affine f) (affine (constant c))
 same_line_constant b f c e = (
   λ h t. finite_same (same_trans (e.0 h t) (same_sym (at_constant c t))),
   λ h. e.1 (λ t. same_trans (same_of_finite (h t)) (at_constant c t)),
 )
 
+-- a test of sameness is one of either with the other
 pub same_swap : (b : Bool) (f g : Affine) → (IsTrue b ↔ AreSame f g) → IsTrue b ↔ AreSame g f
 same_swap b f g e = (λ h t. same_symᵉ (value_at f t) (value_at g t) (e.0 h t), λ h. e.1 (λ t. same_symᵉ (value_at g t) (value_at f t) (h t)))
 
@@ -185,6 +193,7 @@ held : (c d : Rational) → AreSame (affine (constant c)) (affine (constant d)) 
 held c d s = same_transᵉ (finite c) (finite (at (constant c) c)) (finite d) (same_symᵉ (finite (at (constant c) c)) (finite c) (constant_is c c))
     (same_transᵉ (finite (at (constant c) c)) (finite (at (constant d) c)) (finite d) (s c) (constant_is d c))
 
+-- constants are one function where their numbers are equal
 pub same_constants : (o : Ordering) (c d : Rational) → IsOrder o c d → IsTrue (is_eq o) ↔ AreSame (affine (constant c)) (affine (constant d))
 same_constants Less c d h = (λ b. absurd (let x : false ≡ true = b in cc), λ s. absurd (not_lt_of_le (ge_of_same (same_of_finite (held c d s))) h))
 same_constants Equal c d h = (λ b t. finite_same (same_trans (at_constant c t) (same_trans h (same_sym (at_constant d t)))), λ s. refl)
@@ -197,18 +206,21 @@ line_apart f High n k s = (s (whole (pos 0))).at_least
 line_apart f (Fixed c) n k s = n c refl
 line_apart f (Sloping g) n k s = k g refl
 
+-- so for a constant
 pub constant_apart : (c : Frac) (q : Margin) → ((d : Frac) → q ≡ Fixed d → ⊥) → ((g : Ramp) → q ≡ Sloping g → ⊥) → ¬ AreSame (margin_function (Fixed c)) (margin_function q)
 constant_apart c Low n k s = (s (whole (pos 0))).at_most
 constant_apart c High n k s = (s (whole (pos 0))).at_least
 constant_apart c (Fixed d) n k s = n d refl
 constant_apart c (Sloping g) n k s = k g refl
 
+-- -inf is no other margin
 pub low_apart : (q : Margin) → (q ≡ Low → ⊥) → ¬ AreSame (margin_function Low) (margin_function q)
 low_apart Low n s = n refl
 low_apart High n s = (s (whole (pos 0))).at_least
 low_apart (Fixed d) n s = (s (whole (pos 0))).at_least
 low_apart (Sloping g) n s = (s (whole (pos 0))).at_least
 
+-- and inf is no other
 pub high_apart : (q : Margin) → (q ≡ High → ⊥) → ¬ AreSame (margin_function High) (margin_function q)
 high_apart Low n s = (s (whole (pos 0))).at_most
 high_apart High n s = n refl

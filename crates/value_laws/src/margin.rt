@@ -10,6 +10,8 @@ use frac128::{Frac, Ramp, WideFrac};
 use std::cmp::Ordering;
 
 /// By how much a formula holds: -inf, inf, a constant, or a ramp, in ticks.
+///
+/// Source: the robustness of Donzé, Ferrère and Maler 2013, over time.
 #[derive(Clone, Copy, Debug)]
 pub enum Margin {
     /// -inf at every time.

@@ -47,6 +47,10 @@ impl<P: Shape> Model for RangeMax<P> {
 
 impl<P: Shape> RangeMax<P> {
     /// The items, with no range asked for yet. It reserves what `ask` needs.
+    ///
+    /// # Errors
+    ///
+    /// `Memory` where memory is wanting.
     pub fn new(alloc: Global, items: Vec<Counted<P>>) -> Result<RangeMax<P>, Memory>
         ensures items { IfOk result (λ r. r.items ≡ items.items) }
         ensures low { IfOk result (λ r. r.low ≡ 0) }

@@ -24,6 +24,10 @@ use value_laws::Shape;
 /// greatest value where the window is empty.
 ///
 /// It is refused as `Wide` only for a pair that is in play in this step.
+///
+/// # Errors
+///
+/// `Wide` for a pair that is in play in this step; `Memory` where memory is wanting.
 pub fn inf_window<P: Shape>(
     s: &Signal<P>,
     a: u32,
@@ -56,6 +60,10 @@ pub fn inf_window<P: Shape>(
 /// `t - a`), met with the domain; with no `b` it begins where the domain does. The greatest value where the window is empty.
 ///
 /// It is refused as `Wide` only for a pair that is in play in this step.
+///
+/// # Errors
+///
+/// `Wide` for a pair that is in play in this step; `Memory` where memory is wanting.
 pub fn inf_past<P: Shape>(
     s: &Signal<P>,
     a: u32,
@@ -106,6 +114,7 @@ fn minus<P: Shape>(s: &Signal<P>) -> Result<Signal<P>, Memory>
     ensures near { IfOk result (λ r. AreNear P.Shape r) }
     ensures bases { IfOk result (BasesFrom P.Shape (λ b. b) s.now) }
 {
+    // For the proof alone: that it is a signal is a clause of `len`.
     let _ = s.len();
     neg(s)
 }
@@ -144,6 +153,7 @@ fn negated_fault<P: Shape>(fault: OpFault<P>) -> OpFault<P>
 fn lowest_is_minus_highest<P: Shape>()
     ensures { P.lowest ≈ᵉ opposite P.highest }
 {
+    // For the proof alone: what the two are when negated are clauses of `neg`.
     let _ = P::least().neg();
     let _ = P::greatest().neg();
 }

@@ -25,6 +25,10 @@ const BEYOND: u64 = 4_294_967_296;
 /// `t - a`), met with the domain; with no `b` it begins where the domain does. The least value where the window is empty.
 ///
 /// It is refused as `Wide` only for a pair that is in play in this step.
+///
+/// # Errors
+///
+/// `Wide` for a pair that is in play in this step; `Memory` where memory is wanting.
 pub fn sup_past<P: Shape>(
     s: &Signal<P>,
     a: u32,
@@ -42,6 +46,7 @@ pub fn sup_past<P: Shape>(
     ensures bases { IfOk result (BasesBehind P.Shape a b s.now) }
     ensures wide { IfErr result (HasCause P.Shape (window_behind (IsWorth P.Shape s.now) a b low_in high_in) (start s.now) (stop s.now)) }
 {
+    // For the proof alone: that it is a signal is a clause of `len`.
     let _ = s.len();
     let mirrored = s.mirror(LAST)?;
     match sup_ahead(&mirrored, u64::from(a), reach(b), low_in, high_in) {

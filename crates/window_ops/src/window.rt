@@ -22,6 +22,10 @@ use value_laws::Shape;
 /// value where the window is empty.
 ///
 /// It is refused as `Wide` only for a pair that is in play in this step.
+///
+/// # Errors
+///
+/// `Wide` for a pair that is in play in this step; `Memory` where memory is wanting.
 pub fn sup_window<P: Shape>(
     s: &Signal<P>,
     a: u32,
@@ -109,6 +113,7 @@ fn sup_between<P: Shape>(
     ensures named { IfErr result (NamesMoved P.Shape a b s.now) }
     ensures wide { IfErr result (HasCause P.Shape (window_ahead (IsWorth P.Shape s.now) a b low_in high_in) (start s.now) (stop s.now)) }
 {
+    // For the proof alone: that it is a signal is a clause of `len`.
     let _ = s.len();
     let low = at_low_end(s, a, low_in)?;
     let high = at_high_end(s, b, high_in)?;

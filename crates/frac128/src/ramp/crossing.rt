@@ -44,6 +44,10 @@ impl Ramp {
 
     /// The time between `from` and `to` at which both ramps have one value, and at no other time. None exactly where
     /// there is none. Err exactly where its denominator in lowest terms is 2^60 or more, which it carries.
+    ///
+    /// # Errors
+    ///
+    /// `WideFrac`, with the denominator of the time in lowest terms, exactly where that is 2^60 or more.
     pub fn meet_ramp(&self, other: &Ramp, from: &Frac, to: &Frac) -> Result<Option<Frac>, WideFrac>
         requires from { IsWithin (2 ^ 34) (value from.now) }
         requires to { IsWithin (2 ^ 34) (value to.now) }
@@ -69,6 +73,10 @@ impl Ramp {
 
     /// The time between `from` and `to` at which the value is `c`, and at no other time. None exactly where there is
     /// none. Err exactly where its denominator in lowest terms is 2^60 or more, which it carries.
+    ///
+    /// # Errors
+    ///
+    /// `WideFrac`, with the denominator of the time in lowest terms, exactly where that is 2^60 or more.
     pub fn meet_const(&self, c: &Frac, from: &Frac, to: &Frac) -> Result<Option<Frac>, WideFrac>
         requires constant { IsWithin (2 ^ 32) (value c.now) }
         requires from { IsWithin (2 ^ 34) (value from.now) }

@@ -340,6 +340,44 @@ fn decimals_are_counted_in_ticks(rt: HostRuntime) -> Result<(), Fail> {
     Ok(())
 }
 
+/// Rows that are long enough to be read in place, and among them such as are not.
+const IN_PLACE: [(&str, &str); 3] = [
+    (
+        "time:1,x:2,y:step\n0,1.25,-7\n0.5,-0.5,8\r\n1.0,100,-12.00\n2,12.340,0\n3,-163840.00,163840\n4,0000000001,-1\n5,+2.5,1\n6, 3.75 ,2\n7,1.75,3",
+        "1/2,x,y_ 0:125:-700 5:-50:800 10:10000:-1200 20:1234:0 30:-16384000:16384000 40:100:-100 50:250:100 60:375:200 70:175:300 end 10",
+    ),
+    (
+        "time:3,x:1\n0.001,1\n0.0100,2.0\n1,-3.5\n2.5,0.1\r\n3,4",
+        "3/1,x 1:10 10:20 1000:-35 2500:1 3000:40 end 6",
+    ),
+    (
+        "time,x:1\n0,1.5\n-0,2.5\n1,3.5\n2,4.5\n",
+        "0/1,x 0:15 line 3: time not rising",
+    ),
+];
+
+/// Rows of decimals with a fault, and rows after them.
+const FAULTS_IN_PLACE: [(&str, &str); 11] = [
+    ("time,x:2\n0,1\n1,2.255\n2,3.00\n3,4.00\n", "0/2,x 0:100 line 3: field 2: bad number"),
+    ("time,x:2\n0,1\n1,2.\n2,3.00\n3,4.00\n4,5\n", "0/2,x 0:100 line 3: field 2: bad number"),
+    ("time,x:2\n0,1\n1,.5\n2,3.00\n3,4.00\n4,5\n", "0/2,x 0:100 line 3: field 2: bad number"),
+    ("time,x:2\n0,1\n1,-.5\n2,3.00\n3,4.00\n4,5\n", "0/2,x 0:100 line 3: field 2: bad number"),
+    ("time,x:2\n0,1\n1,1.2.3\n2,3.00\n3,4.00\n", "0/2,x 0:100 line 3: field 2: bad number"),
+    ("time,x:2\n0,1\n1,1.-2\n2,3.00\n3,4.00\n", "0/2,x 0:100 line 3: field 2: bad number"),
+    ("time,x:2\n0,1\n1,167772.16\n2,167772.17\n3,4.00\n", "0/2,x 0:100 1:16777216 line 4: field 2: out of range"),
+    ("time,x:2\n0,1\n1,-167772.16\n2,-167772.17\n3,4\n", "0/2,x 0:100 1:-16777216 line 4: field 2: out of range"),
+    ("time:3,x\n0.001,1\n0.0015,2\n0.1,3\n1,4\n2,5\n", "3/0,x 1:1 line 3: field 1: bad number"),
+    ("time:3,x\n0.001,1\n0.0010,2\n0.1,3\n1,4\n2,5\n", "3/0,x 1:1 line 3: time not rising"),
+    ("time:3,x\n4294967.295,1\n4294967.296,2\n5000000,3\n", "3/0,x 4294967295:1 line 3: field 1: out of range"),
+];
+
+#[test]
+fn rows_of_decimals_are_read_in_place(rt: HostRuntime) -> Result<(), Fail> {
+    compare(&rt, LARGE, WHOLE, &IN_PLACE)?;
+    compare(&rt, LARGE, WHOLE, &FAULTS_IN_PLACE)?;
+    Ok(())
+}
+
 /// The header of bytes that have no row, and nothing of other bytes.
 fn header_alone(alloc: Global, text: &str) -> Result<String, AllocError> {
     let mut said = String::new(alloc);

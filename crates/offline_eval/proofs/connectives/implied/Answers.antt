@@ -15,7 +15,8 @@ either-requires g c = record {
 
 pub returns-clause-sound : goal.returns-clause-sound
 returns-clause-sound g c = IfOk-weaker c.either.result _ _
-    (λ r sound from to reach left right. sound from to reach (subst (λ n. IsSound g.P.Shape from to n c.in_ok-fails.fails) (add-zero reach) (c.in_ok-fails.ensures.sound from to reach left)) right)
+    (λ r sound from to reach left right. sound from to reach
+    (subst (λ n. IsSound g.P.Shape from to n c.in_ok-fails.fails) (add-zero reach) (c.in_ok-fails.ensures.sound from to reach left)) right)
     c.either.ensures.sound
 
 pub returns-clause-told : goal.returns-clause-told

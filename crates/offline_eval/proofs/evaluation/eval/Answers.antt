@@ -9,15 +9,18 @@ use Rattle.offline_eval.proofs.Evaluating.{pushed_count, some_left, left_sound, 
 use Rattle.offline_eval.proofs.evaluation.eval.Goals as goal
 
 pub next_signal-requires-clause-left : goal.next_signal-requires-clause-left
-next_signal-requires-clause-left g c a at = some_left c.args.formula.now.nodes c.args.atoms c.loop-i.rest c.loop-i.i a c.requires.count c.loop-i.invariant.rest at
+next_signal-requires-clause-left g c a at =
+    some_left c.args.formula.now.nodes c.args.atoms c.loop-i.rest c.loop-i.i a c.requires.count c.loop-i.invariant.rest at
 
 pub next_signal-requires-clause-inputs : goal.next_signal-requires-clause-inputs
-next_signal-requires-clause-inputs g c = left_sound g.P.Shape c.args.from c.args.to c.args.atoms c.loop-i.rest (atoms_before c.args.formula.now.nodes c.loop-i.i) c.requires.inputs c.loop-i.invariant.rest
+next_signal-requires-clause-inputs g c = left_sound g.P.Shape c.args.from c.args.to c.args.atoms c.loop-i.rest
+    (atoms_before c.args.formula.now.nodes c.loop-i.i) c.requires.inputs c.loop-i.invariant.rest
 
 pub next_signal-requires-clause-sound : goal.next_signal-requires-clause-sound
 next_signal-requires-clause-sound g c =
     subst (AreSound g.P.Shape c.args.from c.args.to 4294967295) (sym c.deref.ensures.value)
-    (all_more g.P.Shape c.args.from c.args.to (reach_before c.args.formula.now.nodes c.loop-i.i) 4294967295 c.loop-i.done.items (reach_within c.args.formula.now.nodes c.loop-i.i c.len-count.ensures.well_formed.nodes.reach) c.loop-i.invariant.sound)
+    (all_more g.P.Shape c.args.from c.args.to (reach_before c.args.formula.now.nodes c.loop-i.i) 4294967295 c.loop-i.done.items
+    (reach_within c.args.formula.now.nodes c.loop-i.i c.len-count.ensures.well_formed.nodes.reach) c.loop-i.invariant.sound)
 
 pub loop-i-init : goal.loop-i-init
 loop-i-init g c = record {
@@ -33,17 +36,21 @@ loop-i-init g c = record {
 pub loop-i-preserved : goal.loop-i-preserved
 loop-i-preserved g c =
     let nodes = c.args.formula.now.nodes in
-    let pushed : c.push.new.self.items ≡ c.loop-i.done.items ++ c.in-Ok-next_signal.signal ∷ [] = search (rules, c.push.ensures.items, c.if-is_err.false, c.is_err.ensures) in
+    let pushed : c.push.new.self.items ≡ c.loop-i.done.items ++ c.in-Ok-next_signal.signal ∷ [] =
+    search (rules, c.push.ensures.items, c.if-is_err.false, c.is_err.ensures) in
     let count = c.loop-i.invariant.count in
     let inside : c.loop-i.i < length nodes = let t = c.loop-i-test.true in let e = c.len-count.ensures.count in omega arith in
-    let before = subst (λ xs. AreSound g.P.Shape c.args.from c.args.to (reach_before nodes c.loop-i.i) xs) (sym c.deref.ensures.value) c.loop-i.invariant.sound in
+    let before = subst (λ xs. AreSound g.P.Shape c.args.from c.args.to (reach_before nodes c.loop-i.i) xs)
+    (sym c.deref.ensures.value) c.loop-i.invariant.sound in
     record {
       count = pushed_count c.loop-i.done.items c.push.new.self.items c.in-Ok-next_signal.signal c.loop-i.i count pushed;
       rest = c.in-Ok-next_signal.ensures.rest c.args.atoms c.loop-i.invariant.rest;
-      sound = all_pushed g.P.Shape c.args.from c.args.to nodes c.loop-i.i c.loop-i.done.items c.push.new.self.items c.in-Ok-next_signal.signal inside pushed c.loop-i.invariant.sound (c.in-Ok-next_signal.ensures.sound before);
+      sound = all_pushed g.P.Shape c.args.from c.args.to nodes c.loop-i.i c.loop-i.done.items c.push.new.self.items c.in-Ok-next_signal.signal inside
+          pushed c.loop-i.invariant.sound (c.in-Ok-next_signal.ensures.sound before);
       told = λ s over atoms.
           let before_told = subst (TellAt g.P.Shape s (subformula nodes)) (sym c.deref.ensures.value) (c.loop-i.invariant.told s over atoms) in
-          told_pushed g.P.Shape nodes s c.loop-i.i c.loop-i.done.items c.push.new.self.items c.in-Ok-next_signal.signal count pushed (c.loop-i.invariant.told s over atoms) (c.in-Ok-next_signal.ensures.told s c.args.atoms over c.loop-i.invariant.rest atoms before_told);
+          told_pushed g.P.Shape nodes s c.loop-i.i c.loop-i.done.items c.push.new.self.items c.in-Ok-next_signal.signal count pushed
+          (c.loop-i.invariant.told s over atoms) (c.in-Ok-next_signal.ensures.told s c.args.atoms over c.loop-i.invariant.rest atoms before_told);
     }
 
 pub returns-in-Err-clause-wide : goal.returns-in-Err-clause-wide
@@ -51,12 +58,14 @@ returns-in-Err-clause-wide g c s over atoms =
     let nodes = c.args.formula.now.nodes in
     let inside : c.loop-i.i < length nodes = let t = c.loop-i-test.true in let e = c.len-count.ensures.count in omega arith in
     let before_told = subst (TellAt g.P.Shape s (subformula nodes)) (sym c.deref.ensures.value) (c.loop-i.invariant.told s over atoms) in
-    subst (IsFault g.P.Shape nodes s) (sym c.at_node.ensures) (fault_is g.P.Shape nodes s c.loop-i.i c.in-Err.fault inside (c.in-Err.ensures.wide s over before_told))
+    subst (IsFault g.P.Shape nodes s) (sym c.at_node.ensures)
+    (fault_is g.P.Shape nodes s c.loop-i.i c.in-Err.fault inside (c.in-Err.ensures.wide s over before_told))
 
 pub returns : goal.returns
 returns g c =
     let nodes = c.args.formula.now.nodes in
-    let count : length c.loop-i.done.items ≡ length nodes = let t = c.loop-i-test.false in let e = c.len-count.ensures.count in let m = c.loop-i.auto.i-end in let n = c.loop-i.invariant.count in omega arith in
+    let count : length c.loop-i.done.items ≡ length nodes = let t = c.loop-i-test.false in let e = c.len-count.ensures.count in let m =
+    c.loop-i.auto.i-end in let n = c.loop-i.invariant.count in omega arith in
     record {
       count = count;
       told = λ s over atoms. all_told g.P.Shape nodes s c.loop-i.done.items count (c.loop-i.invariant.told s over atoms);

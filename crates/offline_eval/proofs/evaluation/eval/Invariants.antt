@@ -11,5 +11,6 @@ invariant-loop-i g l = record {
   count : length l.done.items ≡ l.i;
   rest : l.rest ≡ drop (atoms_before l.formula.nodes l.i) l.fn.atoms;
   sound : AreSound g.P.Shape l.from l.to (reach_before l.formula.nodes l.i) l.done.items;
-  told : (s : Setting) → IsOver g.P.Shape.lowest g.P.Shape.highest l.from l.to s → TellAtoms g.P.Shape l.formula.nodes l.fn.atoms s → TellAt g.P.Shape s (subformula l.formula.nodes) l.done.items;
+  told : (s : Setting) → IsOver g.P.Shape.lowest g.P.Shape.highest l.from l.to s → TellAtoms g.P.Shape l.formula.nodes l.fn.atoms s
+      → TellAt g.P.Shape s (subformula l.formula.nodes) l.done.items;
 }

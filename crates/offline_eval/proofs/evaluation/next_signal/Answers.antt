@@ -24,7 +24,8 @@ returns-in-Atom g c =
     let at : slice_get nodes c.args.i ≡ Some (Leaf c.in-Atom.field-0) = c.node.ensures.node ∙ ap (λ n. Some n) c.in-Atom.is in
     record {
       rest = atom_takes nodes c.args.i c.in-Atom.field-0 c.take.result c.args.atoms.now c.take.new.self at c.take.ensures;
-      sound = atom_sound g.P.Shape c.args.from c.args.to nodes c.args.i c.take.result c.args.atoms.now c.take.new.self c.args.done.now c.take.ensures c.requires.inputs;
+      sound = atom_sound g.P.Shape c.args.from c.args.to nodes c.args.i c.take.result c.args.atoms.now c.take.new.self c.args.done.now c.take.ensures
+          c.requires.inputs;
       told = λ s all over left atoms before. atom_told g.P.Shape nodes c.args.i c.in-Atom.field-0 c.take.result c.args.atoms.now c.take.new.self all s at
           (c.node.ensures.subformula ∙ ap (tree_of (subformula nodes) c.args.i) c.in-Atom.is) c.take.ensures left atoms;
       wide = tt;
@@ -37,7 +38,13 @@ returns-in_default g c =
     let f = g.P.Shape.function in
     record {
       rest = on_ok c.of_node.result (other_takes nodes c.args.i n c.args.atoms.now c.node.ensures.node (not_atom n c.in_default.not-Atom));
-      sound = IfOk-weaker c.of_node.result _ _ (λ r h all. subst (λ k. IsSound g.P.Shape c.args.from c.args.to k r) (sym (sum_on own_reach nodes c.args.i n c.node.ensures.node)) (h (reach_before nodes c.args.i) all)) c.of_node.ensures.sound;
-      told = IfOk-weaker c.of_node.result _ _ (λ r h s all over left atoms before. subst (λ t. TellsValue g.P.Shape s t r) (sym c.node.ensures.subformula) (h s (subformula nodes) c.args.i over before)) c.of_node.ensures.told;
-      wide = IfErr-weaker c.of_node.result _ _ (λ e h s over before. subst (λ t. IsFaultOf g.P.Shape s t e) (sym c.node.ensures.subformula) (h s (subformula nodes) c.args.i over before)) c.of_node.ensures.wide;
+      sound = IfOk-weaker c.of_node.result _ _
+          (λ r h all. subst (λ k. IsSound g.P.Shape c.args.from c.args.to k r) (sym (sum_on own_reach nodes c.args.i n c.node.ensures.node))
+          (h (reach_before nodes c.args.i) all)) c.of_node.ensures.sound;
+      told = IfOk-weaker c.of_node.result _ _
+          (λ r h s all over left atoms before. subst (λ t. TellsValue g.P.Shape s t r) (sym c.node.ensures.subformula)
+          (h s (subformula nodes) c.args.i over before)) c.of_node.ensures.told;
+      wide = IfErr-weaker c.of_node.result _ _
+          (λ e h s over before. subst (λ t. IsFaultOf g.P.Shape s t e) (sym c.node.ensures.subformula) (h s (subformula nodes) c.args.i over before))
+          c.of_node.ensures.wide;
     }

@@ -12,20 +12,31 @@ read xs i x h e = slice_get_read _ _ _ _ refl h e
 
 pub bounded_until-requires-clause-fit : goal.bounded_until-requires-clause-fit
 bounded_until-requires-clause-fit g c =
-    let below : (c.in-Until.left < length c.args.done.now) × (c.in-Until.right < length c.args.done.now) = subst (HasChildrenBelow (length c.args.done.now)) c.in-Until.is c.requires.children in
+    let below : (c.in-Until.left < length c.args.done.now) × (c.in-Until.right < length c.args.done.now) =
+    subst (HasChildrenBelow (length c.args.done.now)) c.in-Until.is c.requires.children in
     let at_p = read c.args.done.now c.in-Until.left c.index-done-left.result below.0 c.index-done-left.is in
     let at_q = read c.args.done.now c.in-Until.right c.index-done-right.result below.1 c.index-done-right.is in
-    are_fit g.P.Shape c.args.from c.args.to c.index-done-left.result c.index-done-right.result (omega arith) (c.requires.sound c.in-Until.left c.index-done-left.result at_p) (c.requires.sound c.in-Until.right c.index-done-right.result at_q)
+    are_fit g.P.Shape c.args.from c.args.to c.index-done-left.result c.index-done-right.result (omega arith)
+    (c.requires.sound c.in-Until.left c.index-done-left.result at_p) (c.requires.sound c.in-Until.right c.index-done-right.result at_q)
 
 pub returns-in-Until : goal.returns-in-Until
 returns-in-Until g c =
-    let below : (c.in-Until.left < length c.args.done.now) × (c.in-Until.right < length c.args.done.now) = subst (HasChildrenBelow (length c.args.done.now)) c.in-Until.is c.requires.children in
+    let below : (c.in-Until.left < length c.args.done.now) × (c.in-Until.right < length c.args.done.now) =
+    subst (HasChildrenBelow (length c.args.done.now)) c.in-Until.is c.requires.children in
     let at_p = read c.args.done.now c.in-Until.left c.index-done-left.result below.0 c.index-done-left.is in
     let at_q = read c.args.done.now c.in-Until.right c.index-done-right.result below.1 c.index-done-right.is in
     record {
-      sound = IfOk-weaker c.bounded_until.result _ _ (λ r h. two_sound g.P.Shape c.args.from c.args.to c.args.node.now c.in-Until.left c.in-Until.right c.in-Until.high c.args.done.now c.index-done-left.result c.index-done-right.result r at_p at_q (ap own_reach c.in-Until.is) h) c.bounded_until.ensures.sound;
-      told = IfOk-weaker c.bounded_until.result _ _ (λ r h. two_told g.P.Shape c.args.from c.args.to c.args.node.now c.in-Until.left c.in-Until.right c.args.done.now c.index-done-left.result c.index-done-right.result r (until c.in-Until.low c.in-Until.high) at_p at_q (λ at i. ap (tree_of at i) c.in-Until.is) h) c.bounded_until.ensures.told;
-      wide = IfErr-weaker c.bounded_until.result _ _ (λ e h. two_fault g.P.Shape c.args.from c.args.to c.args.node.now c.in-Until.left c.in-Until.right c.args.done.now c.index-done-left.result c.index-done-right.result e (until c.in-Until.low c.in-Until.high) at_p at_q (λ at i. ap (tree_of at i) c.in-Until.is) h) c.bounded_until.ensures.wide;
+      sound = IfOk-weaker c.bounded_until.result _ _
+          (λ r h. two_sound g.P.Shape c.args.from c.args.to c.args.node.now c.in-Until.left c.in-Until.right c.in-Until.high c.args.done.now
+          c.index-done-left.result c.index-done-right.result r at_p at_q (ap own_reach c.in-Until.is) h) c.bounded_until.ensures.sound;
+      told = IfOk-weaker c.bounded_until.result _ _
+          (λ r h. two_told g.P.Shape c.args.from c.args.to c.args.node.now c.in-Until.left c.in-Until.right c.args.done.now c.index-done-left.result
+          c.index-done-right.result r (until c.in-Until.low c.in-Until.high) at_p at_q (λ at i. ap (tree_of at i) c.in-Until.is) h)
+          c.bounded_until.ensures.told;
+      wide = IfErr-weaker c.bounded_until.result _ _
+          (λ e h. two_fault g.P.Shape c.args.from c.args.to c.args.node.now c.in-Until.left c.in-Until.right c.args.done.now c.index-done-left.result
+          c.index-done-right.result e (until c.in-Until.low c.in-Until.high) at_p at_q (λ at i. ap (tree_of at i) c.in-Until.is) h)
+          c.bounded_until.ensures.wide;
     }
 
 pub some_ahead-requires-clause-fit : goal.some_ahead-requires-clause-fit
@@ -39,23 +50,40 @@ returns-in-Eventually g c =
     let below : c.in-Eventually.of < length c.args.done.now = subst (HasChildrenBelow (length c.args.done.now)) c.in-Eventually.is c.requires.children in
     let at_p = read c.args.done.now c.in-Eventually.of c.index-done-of.result below c.index-done-of.is in
     record {
-      sound = IfOk-weaker c.some_ahead.result _ _ (λ r h. one_sound g.P.Shape c.args.from c.args.to c.args.node.now c.in-Eventually.of c.in-Eventually.high c.args.done.now c.index-done-of.result r at_p (ap own_reach c.in-Eventually.is) h) c.some_ahead.ensures.sound;
-      told = IfOk-weaker c.some_ahead.result _ _ (λ r h. one_told g.P.Shape c.args.from c.args.to c.args.node.now c.in-Eventually.of c.args.done.now c.index-done-of.result r (eventually c.in-Eventually.low c.in-Eventually.high c.in-Eventually.low_in c.in-Eventually.high_in) at_p (λ at i. ap (tree_of at i) c.in-Eventually.is) h) c.some_ahead.ensures.told;
-      wide = IfErr-weaker c.some_ahead.result _ _ (λ e h. one_fault g.P.Shape c.args.from c.args.to c.args.node.now c.in-Eventually.of c.args.done.now c.index-done-of.result e (eventually c.in-Eventually.low c.in-Eventually.high c.in-Eventually.low_in c.in-Eventually.high_in) at_p (λ at i. ap (tree_of at i) c.in-Eventually.is) h) c.some_ahead.ensures.wide;
+      sound = IfOk-weaker c.some_ahead.result _ _
+          (λ r h. one_sound g.P.Shape c.args.from c.args.to c.args.node.now c.in-Eventually.of c.in-Eventually.high c.args.done.now
+          c.index-done-of.result r at_p (ap own_reach c.in-Eventually.is) h) c.some_ahead.ensures.sound;
+      told = IfOk-weaker c.some_ahead.result _ _
+          (λ r h. one_told g.P.Shape c.args.from c.args.to c.args.node.now c.in-Eventually.of c.args.done.now c.index-done-of.result r
+          (eventually c.in-Eventually.low c.in-Eventually.high c.in-Eventually.low_in c.in-Eventually.high_in) at_p
+          (λ at i. ap (tree_of at i) c.in-Eventually.is) h) c.some_ahead.ensures.told;
+      wide = IfErr-weaker c.some_ahead.result _ _
+          (λ e h. one_fault g.P.Shape c.args.from c.args.to c.args.node.now c.in-Eventually.of c.args.done.now c.index-done-of.result e
+          (eventually c.in-Eventually.low c.in-Eventually.high c.in-Eventually.low_in c.in-Eventually.high_in) at_p
+          (λ at i. ap (tree_of at i) c.in-Eventually.is) h) c.some_ahead.ensures.wide;
     }
 
 pub each_ahead-requires-clause-fit : goal.each_ahead-requires-clause-fit
 each_ahead-requires-clause-fit g c =
     let below : c.in-Always.of < length c.args.done.now = subst (HasChildrenBelow (length c.args.done.now)) c.in-Always.is c.requires.children in
     let at_p = read c.args.done.now c.in-Always.of c.index-done-of-in-Always.result below c.index-done-of-in-Always.is in
-    fit_of g.P.Shape c.args.from c.args.to c.index-done-of-in-Always.result (omega arith) (c.requires.sound c.in-Always.of c.index-done-of-in-Always.result at_p)
+    fit_of g.P.Shape c.args.from c.args.to c.index-done-of-in-Always.result (omega arith)
+    (c.requires.sound c.in-Always.of c.index-done-of-in-Always.result at_p)
 
 pub returns-in-Always : goal.returns-in-Always
 returns-in-Always g c =
     let below : c.in-Always.of < length c.args.done.now = subst (HasChildrenBelow (length c.args.done.now)) c.in-Always.is c.requires.children in
     let at_p = read c.args.done.now c.in-Always.of c.index-done-of-in-Always.result below c.index-done-of-in-Always.is in
     record {
-      sound = IfOk-weaker c.each_ahead.result _ _ (λ r h. one_sound g.P.Shape c.args.from c.args.to c.args.node.now c.in-Always.of c.in-Always.high c.args.done.now c.index-done-of-in-Always.result r at_p (ap own_reach c.in-Always.is) h) c.each_ahead.ensures.sound;
-      told = IfOk-weaker c.each_ahead.result _ _ (λ r h. one_told g.P.Shape c.args.from c.args.to c.args.node.now c.in-Always.of c.args.done.now c.index-done-of-in-Always.result r (always c.in-Always.low c.in-Always.high c.in-Always.low_in c.in-Always.high_in) at_p (λ at i. ap (tree_of at i) c.in-Always.is) h) c.each_ahead.ensures.told;
-      wide = IfErr-weaker c.each_ahead.result _ _ (λ e h. one_fault g.P.Shape c.args.from c.args.to c.args.node.now c.in-Always.of c.args.done.now c.index-done-of-in-Always.result e (always c.in-Always.low c.in-Always.high c.in-Always.low_in c.in-Always.high_in) at_p (λ at i. ap (tree_of at i) c.in-Always.is) h) c.each_ahead.ensures.wide;
+      sound = IfOk-weaker c.each_ahead.result _ _
+          (λ r h. one_sound g.P.Shape c.args.from c.args.to c.args.node.now c.in-Always.of c.in-Always.high c.args.done.now
+          c.index-done-of-in-Always.result r at_p (ap own_reach c.in-Always.is) h) c.each_ahead.ensures.sound;
+      told = IfOk-weaker c.each_ahead.result _ _
+          (λ r h. one_told g.P.Shape c.args.from c.args.to c.args.node.now c.in-Always.of c.args.done.now c.index-done-of-in-Always.result r
+          (always c.in-Always.low c.in-Always.high c.in-Always.low_in c.in-Always.high_in) at_p (λ at i. ap (tree_of at i) c.in-Always.is) h)
+          c.each_ahead.ensures.told;
+      wide = IfErr-weaker c.each_ahead.result _ _
+          (λ e h. one_fault g.P.Shape c.args.from c.args.to c.args.node.now c.in-Always.of c.args.done.now c.index-done-of-in-Always.result e
+          (always c.in-Always.low c.in-Always.high c.in-Always.low_in c.in-Always.high_in) at_p (λ at i. ap (tree_of at i) c.in-Always.is) h)
+          c.each_ahead.ensures.wide;
     }

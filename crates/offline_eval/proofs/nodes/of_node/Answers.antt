@@ -21,7 +21,8 @@ pub returns-in_ok-settled-in-Const : goal.returns-in_ok-settled-in-Const
 returns-in_ok-settled-in-Const g c =
     let r = c.in_ok-settled-in-Const.field-0 in
     record {
-      sound = none_sound g.P.Shape c.args.from c.args.to c.args.node.now c.args.done.now r (λ reach. sound_more g.P.Shape c.args.from c.args.to 0 reach r (omega arith) c.in_ok-settled-in-Const.ensures.sound);
+      sound = none_sound g.P.Shape c.args.from c.args.to c.args.node.now c.args.done.now r
+          (λ reach. sound_more g.P.Shape c.args.from c.args.to 0 reach r (omega arith) c.in_ok-settled-in-Const.ensures.sound);
       told = λ s at i over all. subst (λ n. TellsValue g.P.Shape s (tree_of at i n) r) (sym c.in-Const.is) (c.in_ok-settled-in-Const.ensures.told s over);
       wide = tt;
     }
@@ -32,61 +33,92 @@ returns-in_ok-negated-in-Not g c =
     let at_p = read c.args.done.now c.in-Not.p c.index-done-p.result below c.index-done-p.is in
     let r = c.in_ok-negated-in-Not.field-0 in
     record {
-      sound = one_sound g.P.Shape c.args.from c.args.to c.args.node.now c.in-Not.p 0 c.args.done.now c.index-done-p.result r at_p (ap own_reach c.in-Not.is) c.in_ok-negated-in-Not.ensures.sound;
-      told = one_told g.P.Shape c.args.from c.args.to c.args.node.now c.in-Not.p c.args.done.now c.index-done-p.result r negation at_p (λ at i. ap (tree_of at i) c.in-Not.is) c.in_ok-negated-in-Not.ensures.told;
+      sound = one_sound g.P.Shape c.args.from c.args.to c.args.node.now c.in-Not.p 0 c.args.done.now c.index-done-p.result r at_p
+          (ap own_reach c.in-Not.is) c.in_ok-negated-in-Not.ensures.sound;
+      told = one_told g.P.Shape c.args.from c.args.to c.args.node.now c.in-Not.p c.args.done.now c.index-done-p.result r negation at_p
+          (λ at i. ap (tree_of at i) c.in-Not.is) c.in_ok-negated-in-Not.ensures.told;
       wide = tt;
     }
 
 pub both-requires : goal.both-requires
 both-requires g c =
-    let below : (c.in-And.p < length c.args.done.now) × (c.in-And.q < length c.args.done.now) = subst (HasChildrenBelow (length c.args.done.now)) c.in-And.is c.requires.children in
+    let below : (c.in-And.p < length c.args.done.now) × (c.in-And.q < length c.args.done.now) =
+    subst (HasChildrenBelow (length c.args.done.now)) c.in-And.is c.requires.children in
     let at_p = read c.args.done.now c.in-And.p c.index-done-p-in-And.result below.0 c.index-done-p-in-And.is in
     let at_q = read c.args.done.now c.in-And.q c.index-done-q.result below.1 c.index-done-q.is in
-    may_meet g.P.Shape c.args.from c.args.to 4294967295 c.index-done-p-in-And.result c.index-done-q.result (c.requires.sound c.in-And.p c.index-done-p-in-And.result at_p) (c.requires.sound c.in-And.q c.index-done-q.result at_q)
+    may_meet g.P.Shape c.args.from c.args.to 4294967295 c.index-done-p-in-And.result c.index-done-q.result
+    (c.requires.sound c.in-And.p c.index-done-p-in-And.result at_p) (c.requires.sound c.in-And.q c.index-done-q.result at_q)
 
 pub returns-in-And : goal.returns-in-And
 returns-in-And g c =
-    let below : (c.in-And.p < length c.args.done.now) × (c.in-And.q < length c.args.done.now) = subst (HasChildrenBelow (length c.args.done.now)) c.in-And.is c.requires.children in
+    let below : (c.in-And.p < length c.args.done.now) × (c.in-And.q < length c.args.done.now) =
+    subst (HasChildrenBelow (length c.args.done.now)) c.in-And.is c.requires.children in
     let at_p = read c.args.done.now c.in-And.p c.index-done-p-in-And.result below.0 c.index-done-p-in-And.is in
     let at_q = read c.args.done.now c.in-And.q c.index-done-q.result below.1 c.index-done-q.is in
     record {
-      sound = IfOk-weaker c.both.result _ _ (λ r h. two_sound g.P.Shape c.args.from c.args.to c.args.node.now c.in-And.p c.in-And.q 0 c.args.done.now c.index-done-p-in-And.result c.index-done-q.result r at_p at_q (ap own_reach c.in-And.is) h) c.both.ensures.sound;
-      told = IfOk-weaker c.both.result _ _ (λ r h. two_told g.P.Shape c.args.from c.args.to c.args.node.now c.in-And.p c.in-And.q c.args.done.now c.index-done-p-in-And.result c.index-done-q.result r conjunction at_p at_q (λ at i. ap (tree_of at i) c.in-And.is) h) c.both.ensures.told;
-      wide = IfErr-weaker c.both.result _ _ (λ e h. two_fault g.P.Shape c.args.from c.args.to c.args.node.now c.in-And.p c.in-And.q c.args.done.now c.index-done-p-in-And.result c.index-done-q.result e conjunction at_p at_q (λ at i. ap (tree_of at i) c.in-And.is) h) c.both.ensures.wide;
+      sound = IfOk-weaker c.both.result _ _
+          (λ r h. two_sound g.P.Shape c.args.from c.args.to c.args.node.now c.in-And.p c.in-And.q 0 c.args.done.now c.index-done-p-in-And.result
+          c.index-done-q.result r at_p at_q (ap own_reach c.in-And.is) h) c.both.ensures.sound;
+      told = IfOk-weaker c.both.result _ _
+          (λ r h. two_told g.P.Shape c.args.from c.args.to c.args.node.now c.in-And.p c.in-And.q c.args.done.now c.index-done-p-in-And.result
+          c.index-done-q.result r conjunction at_p at_q (λ at i. ap (tree_of at i) c.in-And.is) h) c.both.ensures.told;
+      wide = IfErr-weaker c.both.result _ _
+          (λ e h. two_fault g.P.Shape c.args.from c.args.to c.args.node.now c.in-And.p c.in-And.q c.args.done.now c.index-done-p-in-And.result
+          c.index-done-q.result e conjunction at_p at_q (λ at i. ap (tree_of at i) c.in-And.is) h) c.both.ensures.wide;
     }
 
 pub either-requires : goal.either-requires
 either-requires g c =
-    let below : (c.in-Or.p < length c.args.done.now) × (c.in-Or.q < length c.args.done.now) = subst (HasChildrenBelow (length c.args.done.now)) c.in-Or.is c.requires.children in
+    let below : (c.in-Or.p < length c.args.done.now) × (c.in-Or.q < length c.args.done.now) =
+    subst (HasChildrenBelow (length c.args.done.now)) c.in-Or.is c.requires.children in
     let at_p = read c.args.done.now c.in-Or.p c.index-done-p-in-Or.result below.0 c.index-done-p-in-Or.is in
     let at_q = read c.args.done.now c.in-Or.q c.index-done-q-in-Or.result below.1 c.index-done-q-in-Or.is in
-    may_meet g.P.Shape c.args.from c.args.to 4294967295 c.index-done-p-in-Or.result c.index-done-q-in-Or.result (c.requires.sound c.in-Or.p c.index-done-p-in-Or.result at_p) (c.requires.sound c.in-Or.q c.index-done-q-in-Or.result at_q)
+    may_meet g.P.Shape c.args.from c.args.to 4294967295 c.index-done-p-in-Or.result c.index-done-q-in-Or.result
+    (c.requires.sound c.in-Or.p c.index-done-p-in-Or.result at_p) (c.requires.sound c.in-Or.q c.index-done-q-in-Or.result at_q)
 
 pub returns-in-Or : goal.returns-in-Or
 returns-in-Or g c =
-    let below : (c.in-Or.p < length c.args.done.now) × (c.in-Or.q < length c.args.done.now) = subst (HasChildrenBelow (length c.args.done.now)) c.in-Or.is c.requires.children in
+    let below : (c.in-Or.p < length c.args.done.now) × (c.in-Or.q < length c.args.done.now) =
+    subst (HasChildrenBelow (length c.args.done.now)) c.in-Or.is c.requires.children in
     let at_p = read c.args.done.now c.in-Or.p c.index-done-p-in-Or.result below.0 c.index-done-p-in-Or.is in
     let at_q = read c.args.done.now c.in-Or.q c.index-done-q-in-Or.result below.1 c.index-done-q-in-Or.is in
     record {
-      sound = IfOk-weaker c.either.result _ _ (λ r h. two_sound g.P.Shape c.args.from c.args.to c.args.node.now c.in-Or.p c.in-Or.q 0 c.args.done.now c.index-done-p-in-Or.result c.index-done-q-in-Or.result r at_p at_q (ap own_reach c.in-Or.is) h) c.either.ensures.sound;
-      told = IfOk-weaker c.either.result _ _ (λ r h. two_told g.P.Shape c.args.from c.args.to c.args.node.now c.in-Or.p c.in-Or.q c.args.done.now c.index-done-p-in-Or.result c.index-done-q-in-Or.result r disjunction at_p at_q (λ at i. ap (tree_of at i) c.in-Or.is) h) c.either.ensures.told;
-      wide = IfErr-weaker c.either.result _ _ (λ e h. two_fault g.P.Shape c.args.from c.args.to c.args.node.now c.in-Or.p c.in-Or.q c.args.done.now c.index-done-p-in-Or.result c.index-done-q-in-Or.result e disjunction at_p at_q (λ at i. ap (tree_of at i) c.in-Or.is) h) c.either.ensures.wide;
+      sound = IfOk-weaker c.either.result _ _
+          (λ r h. two_sound g.P.Shape c.args.from c.args.to c.args.node.now c.in-Or.p c.in-Or.q 0 c.args.done.now c.index-done-p-in-Or.result
+          c.index-done-q-in-Or.result r at_p at_q (ap own_reach c.in-Or.is) h) c.either.ensures.sound;
+      told = IfOk-weaker c.either.result _ _
+          (λ r h. two_told g.P.Shape c.args.from c.args.to c.args.node.now c.in-Or.p c.in-Or.q c.args.done.now c.index-done-p-in-Or.result
+          c.index-done-q-in-Or.result r disjunction at_p at_q (λ at i. ap (tree_of at i) c.in-Or.is) h) c.either.ensures.told;
+      wide = IfErr-weaker c.either.result _ _
+          (λ e h. two_fault g.P.Shape c.args.from c.args.to c.args.node.now c.in-Or.p c.in-Or.q c.args.done.now c.index-done-p-in-Or.result
+          c.index-done-q-in-Or.result e disjunction at_p at_q (λ at i. ap (tree_of at i) c.in-Or.is) h) c.either.ensures.wide;
     }
 
 pub implied-requires : goal.implied-requires
 implied-requires g c =
-    let below : (c.in-Implies.p < length c.args.done.now) × (c.in-Implies.q < length c.args.done.now) = subst (HasChildrenBelow (length c.args.done.now)) c.in-Implies.is c.requires.children in
+    let below : (c.in-Implies.p < length c.args.done.now) × (c.in-Implies.q < length c.args.done.now) =
+    subst (HasChildrenBelow (length c.args.done.now)) c.in-Implies.is c.requires.children in
     let at_p = read c.args.done.now c.in-Implies.p c.index-done-p-in-Implies.result below.0 c.index-done-p-in-Implies.is in
     let at_q = read c.args.done.now c.in-Implies.q c.index-done-q-in-Implies.result below.1 c.index-done-q-in-Implies.is in
-    may_meet g.P.Shape c.args.from c.args.to 4294967295 c.index-done-p-in-Implies.result c.index-done-q-in-Implies.result (c.requires.sound c.in-Implies.p c.index-done-p-in-Implies.result at_p) (c.requires.sound c.in-Implies.q c.index-done-q-in-Implies.result at_q)
+    may_meet g.P.Shape c.args.from c.args.to 4294967295 c.index-done-p-in-Implies.result c.index-done-q-in-Implies.result
+    (c.requires.sound c.in-Implies.p c.index-done-p-in-Implies.result at_p) (c.requires.sound c.in-Implies.q c.index-done-q-in-Implies.result at_q)
 
 pub returns-in-Implies : goal.returns-in-Implies
 returns-in-Implies g c =
-    let below : (c.in-Implies.p < length c.args.done.now) × (c.in-Implies.q < length c.args.done.now) = subst (HasChildrenBelow (length c.args.done.now)) c.in-Implies.is c.requires.children in
+    let below : (c.in-Implies.p < length c.args.done.now) × (c.in-Implies.q < length c.args.done.now) =
+    subst (HasChildrenBelow (length c.args.done.now)) c.in-Implies.is c.requires.children in
     let at_p = read c.args.done.now c.in-Implies.p c.index-done-p-in-Implies.result below.0 c.index-done-p-in-Implies.is in
     let at_q = read c.args.done.now c.in-Implies.q c.index-done-q-in-Implies.result below.1 c.index-done-q-in-Implies.is in
     record {
-      sound = IfOk-weaker c.implied.result _ _ (λ r h. two_sound g.P.Shape c.args.from c.args.to c.args.node.now c.in-Implies.p c.in-Implies.q 0 c.args.done.now c.index-done-p-in-Implies.result c.index-done-q-in-Implies.result r at_p at_q (ap own_reach c.in-Implies.is) h) c.implied.ensures.sound;
-      told = IfOk-weaker c.implied.result _ _ (λ r h. two_told g.P.Shape c.args.from c.args.to c.args.node.now c.in-Implies.p c.in-Implies.q c.args.done.now c.index-done-p-in-Implies.result c.index-done-q-in-Implies.result r implication at_p at_q (λ at i. ap (tree_of at i) c.in-Implies.is) h) c.implied.ensures.told;
-      wide = IfErr-weaker c.implied.result _ _ (λ e h. two_fault g.P.Shape c.args.from c.args.to c.args.node.now c.in-Implies.p c.in-Implies.q c.args.done.now c.index-done-p-in-Implies.result c.index-done-q-in-Implies.result e implication at_p at_q (λ at i. ap (tree_of at i) c.in-Implies.is) h) c.implied.ensures.wide;
+      sound = IfOk-weaker c.implied.result _ _
+          (λ r h. two_sound g.P.Shape c.args.from c.args.to c.args.node.now c.in-Implies.p c.in-Implies.q 0 c.args.done.now
+          c.index-done-p-in-Implies.result c.index-done-q-in-Implies.result r at_p at_q (ap own_reach c.in-Implies.is) h) c.implied.ensures.sound;
+      told = IfOk-weaker c.implied.result _ _
+          (λ r h. two_told g.P.Shape c.args.from c.args.to c.args.node.now c.in-Implies.p c.in-Implies.q c.args.done.now
+          c.index-done-p-in-Implies.result c.index-done-q-in-Implies.result r implication at_p at_q (λ at i. ap (tree_of at i) c.in-Implies.is) h)
+          c.implied.ensures.told;
+      wide = IfErr-weaker c.implied.result _ _
+          (λ e h. two_fault g.P.Shape c.args.from c.args.to c.args.node.now c.in-Implies.p c.in-Implies.q c.args.done.now
+          c.index-done-p-in-Implies.result c.index-done-q-in-Implies.result e implication at_p at_q (λ at i. ap (tree_of at i) c.in-Implies.is) h)
+          c.implied.ensures.wide;
     }

@@ -12,20 +12,32 @@ read xs i x h e = slice_get_read _ _ _ _ refl h e
 
 pub bounded_since-requires-clause-fit : goal.bounded_since-requires-clause-fit
 bounded_since-requires-clause-fit g c =
-    let below : (c.in-Since.left < length c.args.done.now) × (c.in-Since.right < length c.args.done.now) = subst (HasChildrenBelow (length c.args.done.now)) c.in-Since.is c.requires.children in
+    let below : (c.in-Since.left < length c.args.done.now) × (c.in-Since.right < length c.args.done.now) =
+    subst (HasChildrenBelow (length c.args.done.now)) c.in-Since.is c.requires.children in
     let at_p = read c.args.done.now c.in-Since.left c.index-done-left.result below.0 c.index-done-left.is in
     let at_q = read c.args.done.now c.in-Since.right c.index-done-right.result below.1 c.index-done-right.is in
-    are_fit g.P.Shape c.args.from c.args.to c.index-done-left.result c.index-done-right.result (omega arith) (c.requires.sound c.in-Since.left c.index-done-left.result at_p) (c.requires.sound c.in-Since.right c.index-done-right.result at_q)
+    are_fit g.P.Shape c.args.from c.args.to c.index-done-left.result c.index-done-right.result (omega arith)
+    (c.requires.sound c.in-Since.left c.index-done-left.result at_p) (c.requires.sound c.in-Since.right c.index-done-right.result at_q)
 
 pub returns-in-Since : goal.returns-in-Since
 returns-in-Since g c =
-    let below : (c.in-Since.left < length c.args.done.now) × (c.in-Since.right < length c.args.done.now) = subst (HasChildrenBelow (length c.args.done.now)) c.in-Since.is c.requires.children in
+    let below : (c.in-Since.left < length c.args.done.now) × (c.in-Since.right < length c.args.done.now) =
+    subst (HasChildrenBelow (length c.args.done.now)) c.in-Since.is c.requires.children in
     let at_p = read c.args.done.now c.in-Since.left c.index-done-left.result below.0 c.index-done-left.is in
     let at_q = read c.args.done.now c.in-Since.right c.index-done-right.result below.1 c.index-done-right.is in
     record {
-      sound = IfOk-weaker c.bounded_since.result _ _ (λ r h. two_sound g.P.Shape c.args.from c.args.to c.args.node.now c.in-Since.left c.in-Since.right (reach_of_bound c.in-Since.low c.in-Since.high) c.args.done.now c.index-done-left.result c.index-done-right.result r at_p at_q (ap own_reach c.in-Since.is) h) c.bounded_since.ensures.sound;
-      told = IfOk-weaker c.bounded_since.result _ _ (λ r h. two_told g.P.Shape c.args.from c.args.to c.args.node.now c.in-Since.left c.in-Since.right c.args.done.now c.index-done-left.result c.index-done-right.result r (since c.in-Since.low c.in-Since.high) at_p at_q (λ at i. ap (tree_of at i) c.in-Since.is) h) c.bounded_since.ensures.told;
-      wide = IfErr-weaker c.bounded_since.result _ _ (λ e h. two_fault g.P.Shape c.args.from c.args.to c.args.node.now c.in-Since.left c.in-Since.right c.args.done.now c.index-done-left.result c.index-done-right.result e (since c.in-Since.low c.in-Since.high) at_p at_q (λ at i. ap (tree_of at i) c.in-Since.is) h) c.bounded_since.ensures.wide;
+      sound = IfOk-weaker c.bounded_since.result _ _
+          (λ r h. two_sound g.P.Shape c.args.from c.args.to c.args.node.now c.in-Since.left c.in-Since.right
+          (reach_of_bound c.in-Since.low c.in-Since.high) c.args.done.now c.index-done-left.result c.index-done-right.result r at_p at_q
+          (ap own_reach c.in-Since.is) h) c.bounded_since.ensures.sound;
+      told = IfOk-weaker c.bounded_since.result _ _
+          (λ r h. two_told g.P.Shape c.args.from c.args.to c.args.node.now c.in-Since.left c.in-Since.right c.args.done.now c.index-done-left.result
+          c.index-done-right.result r (since c.in-Since.low c.in-Since.high) at_p at_q (λ at i. ap (tree_of at i) c.in-Since.is) h)
+          c.bounded_since.ensures.told;
+      wide = IfErr-weaker c.bounded_since.result _ _
+          (λ e h. two_fault g.P.Shape c.args.from c.args.to c.args.node.now c.in-Since.left c.in-Since.right c.args.done.now c.index-done-left.result
+          c.index-done-right.result e (since c.in-Since.low c.in-Since.high) at_p at_q (λ at i. ap (tree_of at i) c.in-Since.is) h)
+          c.bounded_since.ensures.wide;
     }
 
 pub some_behind-requires-clause-fit : goal.some_behind-requires-clause-fit
@@ -39,23 +51,40 @@ returns-in-Once g c =
     let below : c.in-Once.of < length c.args.done.now = subst (HasChildrenBelow (length c.args.done.now)) c.in-Once.is c.requires.children in
     let at_p = read c.args.done.now c.in-Once.of c.index-done-of.result below c.index-done-of.is in
     record {
-      sound = IfOk-weaker c.some_behind.result _ _ (λ r h. one_sound g.P.Shape c.args.from c.args.to c.args.node.now c.in-Once.of (reach_of_bound c.in-Once.low c.in-Once.high) c.args.done.now c.index-done-of.result r at_p (ap own_reach c.in-Once.is) h) c.some_behind.ensures.sound;
-      told = IfOk-weaker c.some_behind.result _ _ (λ r h. one_told g.P.Shape c.args.from c.args.to c.args.node.now c.in-Once.of c.args.done.now c.index-done-of.result r (once c.in-Once.low c.in-Once.high c.in-Once.low_in c.in-Once.high_in) at_p (λ at i. ap (tree_of at i) c.in-Once.is) h) c.some_behind.ensures.told;
-      wide = IfErr-weaker c.some_behind.result _ _ (λ e h. one_fault g.P.Shape c.args.from c.args.to c.args.node.now c.in-Once.of c.args.done.now c.index-done-of.result e (once c.in-Once.low c.in-Once.high c.in-Once.low_in c.in-Once.high_in) at_p (λ at i. ap (tree_of at i) c.in-Once.is) h) c.some_behind.ensures.wide;
+      sound = IfOk-weaker c.some_behind.result _ _
+          (λ r h. one_sound g.P.Shape c.args.from c.args.to c.args.node.now c.in-Once.of (reach_of_bound c.in-Once.low c.in-Once.high) c.args.done.now
+          c.index-done-of.result r at_p (ap own_reach c.in-Once.is) h) c.some_behind.ensures.sound;
+      told = IfOk-weaker c.some_behind.result _ _
+          (λ r h. one_told g.P.Shape c.args.from c.args.to c.args.node.now c.in-Once.of c.args.done.now c.index-done-of.result r
+          (once c.in-Once.low c.in-Once.high c.in-Once.low_in c.in-Once.high_in) at_p (λ at i. ap (tree_of at i) c.in-Once.is) h) c.some_behind.ensures.told;
+      wide = IfErr-weaker c.some_behind.result _ _
+          (λ e h. one_fault g.P.Shape c.args.from c.args.to c.args.node.now c.in-Once.of c.args.done.now c.index-done-of.result e
+          (once c.in-Once.low c.in-Once.high c.in-Once.low_in c.in-Once.high_in) at_p (λ at i. ap (tree_of at i) c.in-Once.is) h) c.some_behind.ensures.wide;
     }
 
 pub each_behind-requires-clause-fit : goal.each_behind-requires-clause-fit
 each_behind-requires-clause-fit g c =
     let below : c.in-Historically.of < length c.args.done.now = subst (HasChildrenBelow (length c.args.done.now)) c.in-Historically.is c.requires.children in
     let at_p = read c.args.done.now c.in-Historically.of c.index-done-of-in-Historically.result below c.index-done-of-in-Historically.is in
-    fit_of g.P.Shape c.args.from c.args.to c.index-done-of-in-Historically.result (omega arith) (c.requires.sound c.in-Historically.of c.index-done-of-in-Historically.result at_p)
+    fit_of g.P.Shape c.args.from c.args.to c.index-done-of-in-Historically.result (omega arith)
+    (c.requires.sound c.in-Historically.of c.index-done-of-in-Historically.result at_p)
 
 pub returns-in-Historically : goal.returns-in-Historically
 returns-in-Historically g c =
     let below : c.in-Historically.of < length c.args.done.now = subst (HasChildrenBelow (length c.args.done.now)) c.in-Historically.is c.requires.children in
     let at_p = read c.args.done.now c.in-Historically.of c.index-done-of-in-Historically.result below c.index-done-of-in-Historically.is in
     record {
-      sound = IfOk-weaker c.each_behind.result _ _ (λ r h. one_sound g.P.Shape c.args.from c.args.to c.args.node.now c.in-Historically.of (reach_of_bound c.in-Historically.low c.in-Historically.high) c.args.done.now c.index-done-of-in-Historically.result r at_p (ap own_reach c.in-Historically.is) h) c.each_behind.ensures.sound;
-      told = IfOk-weaker c.each_behind.result _ _ (λ r h. one_told g.P.Shape c.args.from c.args.to c.args.node.now c.in-Historically.of c.args.done.now c.index-done-of-in-Historically.result r (historically c.in-Historically.low c.in-Historically.high c.in-Historically.low_in c.in-Historically.high_in) at_p (λ at i. ap (tree_of at i) c.in-Historically.is) h) c.each_behind.ensures.told;
-      wide = IfErr-weaker c.each_behind.result _ _ (λ e h. one_fault g.P.Shape c.args.from c.args.to c.args.node.now c.in-Historically.of c.args.done.now c.index-done-of-in-Historically.result e (historically c.in-Historically.low c.in-Historically.high c.in-Historically.low_in c.in-Historically.high_in) at_p (λ at i. ap (tree_of at i) c.in-Historically.is) h) c.each_behind.ensures.wide;
+      sound = IfOk-weaker c.each_behind.result _ _
+          (λ r h. one_sound g.P.Shape c.args.from c.args.to c.args.node.now c.in-Historically.of
+          (reach_of_bound c.in-Historically.low c.in-Historically.high) c.args.done.now c.index-done-of-in-Historically.result r at_p
+          (ap own_reach c.in-Historically.is) h) c.each_behind.ensures.sound;
+      told = IfOk-weaker c.each_behind.result _ _
+          (λ r h. one_told g.P.Shape c.args.from c.args.to c.args.node.now c.in-Historically.of c.args.done.now c.index-done-of-in-Historically.result
+          r (historically c.in-Historically.low c.in-Historically.high c.in-Historically.low_in c.in-Historically.high_in) at_p
+          (λ at i. ap (tree_of at i) c.in-Historically.is) h) c.each_behind.ensures.told;
+      wide = IfErr-weaker c.each_behind.result _ _
+          (λ e h. one_fault g.P.Shape c.args.from c.args.to c.args.node.now c.in-Historically.of c.args.done.now
+          c.index-done-of-in-Historically.result e
+          (historically c.in-Historically.low c.in-Historically.high c.in-Historically.low_in c.in-Historically.high_in) at_p
+          (λ at i. ap (tree_of at i) c.in-Historically.is) h) c.each_behind.ensures.wide;
     }

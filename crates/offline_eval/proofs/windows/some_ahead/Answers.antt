@@ -19,10 +19,14 @@ returns g c =
     record {
       sound = ok_both c.sup_window.result c.sup_window.ensures.worth c.sup_window.ensures.bases
           (λ r worth bases. stays_sound g.P.Shape (assumption g.met.P.Shape) c.args.high x r worth.begins worth.ends
-          (limited_along g.P.Shape _ x r c.requires.fit.limited worth (λ t v s. sup_over_bounded g.P.Shape x _ v g.met.P.Shape.lowest_bounded c.requires.fit.limited s))
+          (limited_along g.P.Shape _ x r c.requires.fit.limited worth
+          (λ t v s. sup_over_bounded g.P.Shape x _ v g.met.P.Shape.lowest_bounded c.requires.fit.limited s))
           (ahead_moved g.P.Shape c.args.low c.args.high x r c.requires.order bases));
       told = IfOk-weaker c.sup_window.result _ _ (λ r worth s p ends tells.
-          subst (λ e. Tells g.P.Shape (λ t v. IsSupOver e (Ahead s.from s.to c.args.low c.args.high c.args.low_in c.args.high_in t) (SupInf p s) v) s.from s.to r) (sym ends.lowest)
+          subst (λ e. Tells g.P.Shape (λ t v. IsSupOver e (Ahead s.from s.to c.args.low c.args.high c.args.low_in c.args.high_in t) (SupInf p s) v)
+          s.from s.to r) (sym ends.lowest)
           (sup_ahead_told g.P.Shape (SupInf p s) s.from s.to x r tells c.args.low c.args.high c.args.low_in c.args.high_in worth)) c.sup_window.ensures.worth;
-      wide = IfErr-weaker c.sup_window.result _ _ (λ e h s p ends tells. ahead_cause g.P.Shape (SupInf p s) x c.args.low c.args.high c.args.low_in c.args.high_in (eventually c.args.low c.args.high c.args.low_in c.args.high_in p) s e tells (λ C i. i) h) c.sup_window.ensures.wide;
+      wide = IfErr-weaker c.sup_window.result _ _
+          (λ e h s p ends tells. ahead_cause g.P.Shape (SupInf p s) x c.args.low c.args.high c.args.low_in c.args.high_in
+          (eventually c.args.low c.args.high c.args.low_in c.args.high_in p) s e tells (λ C i. i) h) c.sup_window.ensures.wide;
     }

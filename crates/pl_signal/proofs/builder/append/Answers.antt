@@ -8,4 +8,5 @@ returns-clause-put g c = λ front last e.
     let count : c.len-last.result ≡ length c.args.knots.now.items = omega arith in
     let pushed : c.push_reserved.new.self.items ≡ c.args.knots.now.items ++ c.args.end ∷ [] = grind (arith, common_steps) in
     let place : (c.len-last.result - 1) + 1 ≡ length c.args.knots.now.items = let some = c.requires.some in omega (arith, count) in
-    appended front last c.args.end c.index_mut.result.now c.args.after c.args.knots.now.items c.push_reserved.new.self.items (c.len-last.result - 1) e pushed place c.index_mut.ensures.value
+    appended front last c.args.end c.index_mut.result.now c.args.after c.args.knots.now.items c.push_reserved.new.self.items
+    (c.len-last.result - 1) e pushed place c.index_mut.ensures.value

@@ -6,5 +6,7 @@ use Rattle.pl_signal.proofs.joining.crossing.Goals as goal
 
 pub unreachable-requires : goal.unreachable-requires
 unreachable-requires g c =
-    let m = meets (g.P.Shape.function c.args.p.now) (g.P.Shape.function c.args.q.now) (value c.args.from.now) (value c.args.to.now) c.requires.order c.requires.turned in
-    none_says (λ t. MeetAlone (g.P.Shape.function c.args.p.now) (g.P.Shape.function c.args.q.now) (value c.args.from.now) (value c.args.to.now) (value t)) c.in-Ok-None.field-0 c.in-Ok-None.field-0-is c.in-Ok-None.ensures.time m.0 m.1
+    let m = meets (g.P.Shape.function c.args.p.now) (g.P.Shape.function c.args.q.now) (value c.args.from.now)
+    (value c.args.to.now) c.requires.order c.requires.turned in
+    none_says (λ t. MeetAlone (g.P.Shape.function c.args.p.now) (g.P.Shape.function c.args.q.now) (value c.args.from.now) (value c.args.to.now)
+    (value t)) c.in-Ok-None.field-0 c.in-Ok-None.field-0-is c.in-Ok-None.ensures.time m.0 m.1

@@ -27,7 +27,8 @@ between-requires g c =
     let at_i : k ≡ get_or c.args.knots.now c.place_of-i.result k = c.index-knots-i.is in
     let n = c.index-knots-j.result in
     let at_j : n ≡ get_or c.args.knots.now c.place_of-j.result n = c.index-knots-j.is in
-    let all = cut_at_knot g.P.Shape c.args.knots.now c.place_of-i.result c.place_of-j.result k n c.args.from.now c.args.to.now c.shape_from-point.result c.requires.signal
+    let all = cut_at_knot g.P.Shape c.args.knots.now c.place_of-i.result c.place_of-j.result k n c.args.from.now c.args.to.now
+    c.shape_from-point.result c.requires.signal
     c.place_of-i.ensures.inside c.place_of-j.ensures.inside at_i at_j
     (earlier c.cmp.result c.cmp.ensures c.requires.order c.in_default.not-Equal)
     (c.place_of-i.ensures.not_later k (slice_get_read c.args.knots.now (length c.args.knots.now) c.place_of-i.result k refl c.place_of-i.ensures.inside at_i))
@@ -42,8 +43,10 @@ returns-in-Equal-cmp g c =
     let at_j : n ≡ get_or c.args.knots.now c.place_of-j.result n = c.index-knots-j.is in
     IfOk-weaker c.between.result _ _
     (λ r e. subst (IsCut g.P.Shape c.args.knots.now c.args.from.now c.args.to.now)
-    (sym (e ∙ ap (λ l. record { time = c.args.from.now; point = c.shape_from-point.result; after = k.after } ∷ slice_range c.args.knots.now (c.place_of-i.result + 1) c.place_of-j.result ++ l ∷ []) c.ending.ensures))
-    (cut_at_knot g.P.Shape c.args.knots.now c.place_of-i.result c.place_of-j.result k n c.args.from.now c.args.to.now c.shape_from-point.result c.requires.signal
+    (sym (e ∙ ap (λ l. record { time = c.args.from.now; point = c.shape_from-point.result; after = k.after } ∷ slice_range c.args.knots.now
+    (c.place_of-i.result + 1) c.place_of-j.result ++ l ∷ []) c.ending.ensures))
+    (cut_at_knot g.P.Shape c.args.knots.now c.place_of-i.result c.place_of-j.result k n c.args.from.now c.args.to.now c.shape_from-point.result
+    c.requires.signal
     c.place_of-i.ensures.inside c.place_of-j.ensures.inside at_i at_j
     (earlier c.cmp.result c.cmp.ensures c.requires.order c.in_default.not-Equal)
     (c.place_of-i.ensures.not_later k (slice_get_read c.args.knots.now (length c.args.knots.now) c.place_of-i.result k refl c.place_of-i.ensures.inside at_i))
@@ -56,12 +59,15 @@ between-requires-2 g c =
     let at_i : k ≡ get_or c.args.knots.now c.place_of-i.result k = c.index-knots-i.is in
     let n = c.index-knots-j.result in
     let at_j : n ≡ get_or c.args.knots.now c.place_of-j.result n = c.index-knots-j.is in
-    let all = cut_after_knot g.P.Shape c.args.knots.now c.place_of-i.result c.place_of-j.result k n c.args.from.now c.args.to.now c.shape_from-point.result c.requires.signal
+    let all = cut_after_knot g.P.Shape c.args.knots.now c.place_of-i.result c.place_of-j.result k n c.args.from.now c.args.to.now
+    c.shape_from-point.result c.requires.signal
     c.place_of-i.ensures.inside c.place_of-j.ensures.inside at_i at_j
     (earlier c.cmp.result c.cmp.ensures c.requires.order c.in_default.not-Equal)
     (c.place_of-i.ensures.not_later k (slice_get_read c.args.knots.now (length c.args.knots.now) c.place_of-i.result k refl c.place_of-i.ensures.inside at_i))
     c.shape_from-point.ensures c.place_of-i.ensures.later
-    (earlier c.cmp-2.result c.cmp-2.ensures (c.place_of-j.ensures.not_later n (slice_get_read c.args.knots.now (length c.args.knots.now) c.place_of-j.result n refl c.place_of-j.ensures.inside at_j)) c.in_default-cmp.not-Equal)
+    (earlier c.cmp-2.result c.cmp-2.ensures
+    (c.place_of-j.ensures.not_later n
+    (slice_get_read c.args.knots.now (length c.args.knots.now) c.place_of-j.result n refl c.place_of-j.ensures.inside at_j)) c.in_default-cmp.not-Equal)
     c.place_of-j.ensures.later c.requires.last in
     record { after_one = omega arith; order = omega (arith, all.0); before_one = all.1; few = c.place_of-j.ensures.few }
 
@@ -73,12 +79,16 @@ returns g c =
     let at_j : n ≡ get_or c.args.knots.now c.place_of-j.result n = c.index-knots-j.is in
     IfOk-weaker c.between-2.result _ _
     (λ r e. subst (IsCut g.P.Shape c.args.knots.now c.args.from.now c.args.to.now)
-    (sym (e ∙ ap (λ l. record { time = c.args.from.now; point = c.shape_from-point.result; after = k.after } ∷ slice_range c.args.knots.now (c.place_of-i.result + 1) (c.place_of-j.result + 1) ++ l ∷ []) c.ending-2.ensures))
-    (cut_after_knot g.P.Shape c.args.knots.now c.place_of-i.result c.place_of-j.result k n c.args.from.now c.args.to.now c.shape_from-point.result c.requires.signal
+    (sym (e ∙ ap (λ l. record { time = c.args.from.now; point = c.shape_from-point.result; after = k.after } ∷ slice_range c.args.knots.now
+    (c.place_of-i.result + 1) (c.place_of-j.result + 1) ++ l ∷ []) c.ending-2.ensures))
+    (cut_after_knot g.P.Shape c.args.knots.now c.place_of-i.result c.place_of-j.result k n c.args.from.now c.args.to.now c.shape_from-point.result
+    c.requires.signal
     c.place_of-i.ensures.inside c.place_of-j.ensures.inside at_i at_j
     (earlier c.cmp.result c.cmp.ensures c.requires.order c.in_default.not-Equal)
     (c.place_of-i.ensures.not_later k (slice_get_read c.args.knots.now (length c.args.knots.now) c.place_of-i.result k refl c.place_of-i.ensures.inside at_i))
     c.shape_from-point.ensures c.place_of-i.ensures.later
-    (earlier c.cmp-2.result c.cmp-2.ensures (c.place_of-j.ensures.not_later n (slice_get_read c.args.knots.now (length c.args.knots.now) c.place_of-j.result n refl c.place_of-j.ensures.inside at_j)) c.in_default-cmp.not-Equal)
+    (earlier c.cmp-2.result c.cmp-2.ensures
+    (c.place_of-j.ensures.not_later n
+    (slice_get_read c.args.knots.now (length c.args.knots.now) c.place_of-j.result n refl c.place_of-j.ensures.inside at_j)) c.in_default-cmp.not-Equal)
     c.place_of-j.ensures.later c.requires.last).2)
     c.between-2.ensures

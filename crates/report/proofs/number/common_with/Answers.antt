@@ -1,4 +1,4 @@
-use Rattle.std.proofs.Common.{◌%◌, subst}
+use Rattle.std.proofs.Common.{subst}
 use Rattle.std.specs.Int.{IsGcd}
 use Rattle.std.proofs.lemmas.Nat.Gcd.{IsGcd-from_mod}
 use Rattle.rational.proofs.Lowest.{gcd_pos}
@@ -7,8 +7,8 @@ use Rattle.report.proofs.number.common_with.Goals as goal
 -- the common divisors of the remainder are those of the size
 common : (c : goal.After-gcd) → IsGcd c.args.size c.args.tens c.gcd.result
 common c =
-    let rest = subst (λ x. IsGcd c.args.tens (c.args.size % x) c.gcd.result) c.from.ensures c.gcd.ensures in
-    IsGcd-from_mod c.args.size c.args.tens c.gcd.result rest
+    IsGcd-from_mod c.args.size c.args.tens c.gcd.result
+    (subst (λ x. IsGcd c.args.tens x c.gcd.result) c.remainder.ensures c.gcd.ensures)
 
 pub returns-clause-common : goal.returns-clause-common
 unfolding common

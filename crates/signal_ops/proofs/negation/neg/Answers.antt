@@ -29,10 +29,13 @@ loop-i-init g c =
     let first = first_is g.P.Shape c.args.s.now c.len-count.ensures.signal.some in
     let same = same_knot g.P.Shape c.args.s.now 0 c.knot-first.ensures first.1 in
     record {
-      tells = negated_first g.P.Shape c.args.s.now c.in_ok-built.built c.knot-first.result c.neg.result c.len-count.ensures.signal c.knot-first.ensures c.neg.ensures.value c.in_ok-built.ensures;
-      begins = subst (λ s. s ≈ start c.args.s.now) (sym only.0) (subst (λ s. time c.knot-first.result ≈ s) (sym (first.2 ∙ ap (λ k. time k) same)) (same_refl (time c.knot-first.result)));
+      tells = negated_first g.P.Shape c.args.s.now c.in_ok-built.built c.knot-first.result c.neg.result c.len-count.ensures.signal
+          c.knot-first.ensures c.neg.ensures.value c.in_ok-built.ensures;
+      begins = subst (λ s. s ≈ start c.args.s.now) (sym only.0)
+          (subst (λ s. time c.knot-first.result ≈ s) (sym (first.2 ∙ ap (λ k. time k) same)) (same_refl (time c.knot-first.result)));
       ends = λ j k e h. subst (λ s. s ≈ time k) (sym only.1)
-          (subst (λ m. time m ≈ time k) (same_knot g.P.Shape c.args.s.now 0 c.knot-first.ensures (subst (λ j. slice_get c.args.s.now j ≡ Some k) (zero_of j e) h)) (same_refl (time k)));
+          (subst (λ m. time m ≈ time k)
+          (same_knot g.P.Shape c.args.s.now 0 c.knot-first.ensures (subst (λ j. slice_get c.args.s.now j ≡ Some k) (zero_of j e) h)) (same_refl (time k)));
       bases = subst (BasesFrom g.P.Shape (λ b. b) c.args.s.now) (sym c.in_ok-built.ensures)
           (bases_first g.P.Shape (λ b. b) c.args.s.now c.neg.result c.knot-first.result.point c.knot-first.result.time
           (shape_at g.P.Shape c.args.s.now 0 c.knot-first.result c.knot-first.ensures) c.neg.ensures.base);
@@ -45,24 +48,32 @@ loop-i-preserved g c =
     let stops = c.loop-i.invariant.ends (c.loop-i.i - 1) c.knot.result place c.knot.ensures in
     let on = c.in_ok-step.ensures.ok in
     record {
-      tells = negated_on g.P.Shape c.args.s.now c.loop-i.built c.step.new.self (c.loop-i.i - 1) c.knot.result c.knot-knot.result c.neg-after.result c.neg-in-loop-i.result c.len-count.ensures.signal
+      tells = negated_on g.P.Shape c.args.s.now c.loop-i.built c.step.new.self (c.loop-i.i - 1) c.knot.result c.knot-knot.result c.neg-after.result
+          c.neg-in-loop-i.result c.len-count.ensures.signal
           c.knot.ensures next c.loop-i.invariant.tells stops c.neg-after.ensures.value c.neg-in-loop-i.ensures.value on;
       begins = subst (λ s. s ≈ start c.args.s.now) (sym on.begins) c.loop-i.invariant.begins;
       ends = λ j k e h. subst (λ s. s ≈ time k) (sym on.ends)
-          (subst (λ m. time m ≈ time k) (same_knot g.P.Shape c.args.s.now c.loop-i.i c.knot-knot.ensures (subst (λ j. slice_get c.args.s.now j ≡ Some k) (before_one j c.loop-i.i e) h)) (same_refl (time k)));
-      bases = bases_on g.P.Shape (λ b. b) c.args.s.now c.loop-i.built c.step.new.self c.neg-after.result c.neg-in-loop-i.result c.knot.result.after c.knot-knot.result.point c.knot-knot.result.time
+          (subst (λ m. time m ≈ time k)
+          (same_knot g.P.Shape c.args.s.now c.loop-i.i c.knot-knot.ensures
+          (subst (λ j. slice_get c.args.s.now j ≡ Some k) (before_one j c.loop-i.i e) h)) (same_refl (time k)));
+      bases = bases_on g.P.Shape (λ b. b) c.args.s.now c.loop-i.built c.step.new.self c.neg-after.result c.neg-in-loop-i.result c.knot.result.after
+          c.knot-knot.result.point c.knot-knot.result.time
           c.loop-i.invariant.bases on (shape_after g.P.Shape c.args.s.now (c.loop-i.i - 1) c.knot.result c.knot.ensures) c.neg-after.ensures.base
           (shape_at g.P.Shape c.args.s.now c.loop-i.i c.knot-knot.result c.knot-knot.ensures) c.neg-in-loop-i.ensures.base;
     }
 
 pub returns-clause-worth : goal.returns-clause-worth
 returns-clause-worth g c =
-    let all : c.loop-i.i ≡ length c.args.s.now = let no_more = c.loop-i-test.false in let most = c.loop-i.auto.i-end in let some = c.len-count.ensures.some in let value = c.len-count.ensures.value in omega arith in
-    let last : (k : Knot _) × (slice_get c.args.s.now (c.loop-i.i - 1) ≡ Some k) × (stop c.args.s.now ≡ time k) = last_of g.P.Shape c.args.s.now c.loop-i.i c.len-count.ensures.signal.some all in
+    let all : c.loop-i.i ≡ length c.args.s.now = let no_more = c.loop-i-test.false in let most = c.loop-i.auto.i-end in let some =
+    c.len-count.ensures.some in let value = c.len-count.ensures.value in omega arith in
+    let last : (k : Knot _) × (slice_get c.args.s.now (c.loop-i.i - 1) ≡ Some k) × (stop c.args.s.now ≡ time k) =
+    last_of g.P.Shape c.args.s.now c.loop-i.i c.len-count.ensures.signal.some all in
     let place : c.loop-i.i - 1 + 1 ≡ c.loop-i.i = let low = c.loop-i.auto.i in omega arith in
     subst (Tells g.P.Shape (Negated (IsWorth g.P.Shape c.args.s.now)) (start c.args.s.now) (stop c.args.s.now)) (sym c.finish.ensures.value)
-    (told g.P.Shape (Negated (IsWorth g.P.Shape c.args.s.now)) (start c.args.s.now) (stop c.args.s.now) c.loop-i.built (negated_is_function g.P.Shape c.args.s.now c.len-count.ensures.signal)
-    c.loop-i.invariant.tells c.loop-i.invariant.begins (subst (λ s. stop c.loop-i.built ≈ s) (sym last.2) (c.loop-i.invariant.ends (c.loop-i.i - 1) last.0 place last.1)))
+    (told g.P.Shape (Negated (IsWorth g.P.Shape c.args.s.now)) (start c.args.s.now) (stop c.args.s.now) c.loop-i.built
+    (negated_is_function g.P.Shape c.args.s.now c.len-count.ensures.signal)
+    c.loop-i.invariant.tells c.loop-i.invariant.begins
+    (subst (λ s. stop c.loop-i.built ≈ s) (sym last.2) (c.loop-i.invariant.ends (c.loop-i.i - 1) last.0 place last.1)))
 
 pub returns-clause-bases : goal.returns-clause-bases
 returns-clause-bases g c = subst (BasesFrom g.P.Shape (λ b. b) c.args.s.now) (sym c.finish.ensures.value) c.loop-i.invariant.bases
@@ -72,7 +83,8 @@ neg-after-requires g c =
     let place : c.loop-i.i - 1 + 1 ≡ c.loop-i.i = let low = c.loop-i.auto.i in omega arith in
     let inside : c.loop-i.i < length c.args.s.now = let more = c.loop-i-test.true in let value = c.len-count.ensures.value in omega arith in
     after_bounded g.P.Shape c.args.s.now (c.loop-i.i - 1) c.knot.result (get_or c.args.s.now c.loop-i.i c.knot.result) c.requires c.knot.ensures
-    (subst (λ i. slice_get c.args.s.now i ≡ Some (get_or c.args.s.now c.loop-i.i c.knot.result)) (sym place) (slice_get-get_or c.args.s.now c.loop-i.i c.knot.result inside))
+    (subst (λ i. slice_get c.args.s.now i ≡ Some (get_or c.args.s.now c.loop-i.i c.knot.result)) (sym place)
+    (slice_get-get_or c.args.s.now c.loop-i.i c.knot.result inside))
 
 pub neg-requires-in-loop-i : goal.neg-requires-in-loop-i
 neg-requires-in-loop-i g c = point_bounded g.P.Shape c.args.s.now c.loop-i.i c.knot-knot.result c.requires c.knot-knot.ensures
@@ -80,11 +92,13 @@ neg-requires-in-loop-i g c = point_bounded g.P.Shape c.args.s.now c.loop-i.i c.k
 pub step-requires-clause-limited : goal.step-requires-clause-limited
 step-requires-clause-limited g c =
     let place : c.loop-i.i - 1 + 1 ≡ c.loop-i.i = let low = c.loop-i.auto.i in omega arith in
-    within_same (2 ^ 34) (same_sym (c.loop-i.invariant.ends (c.loop-i.i - 1) c.knot.result place c.knot.ensures)) (limited_at g.P.Shape c.args.s.now (c.loop-i.i - 1) c.knot.result c.requires c.knot.ensures)
+    within_same (2 ^ 34) (same_sym (c.loop-i.invariant.ends (c.loop-i.i - 1) c.knot.result place c.knot.ensures))
+    (limited_at g.P.Shape c.args.s.now (c.loop-i.i - 1) c.knot.result c.requires c.knot.ensures)
 
 pub step-requires-clause-later : goal.step-requires-clause-later
 step-requires-clause-later g c =
     let place : c.loop-i.i - 1 + 1 ≡ c.loop-i.i = let low = c.loop-i.auto.i in omega arith in
     let next = subst (λ i. slice_get c.args.s.now i ≡ Some c.knot-knot.result) (sym place) c.knot-knot.ensures in
     let stops = c.loop-i.invariant.ends (c.loop-i.i - 1) c.knot.result place c.knot.ensures in
-    lt_of_le_of_lt (le_of_same stops) (next_rises g.P.Shape c.args.s.now (c.loop-i.i - 1) c.knot.result c.knot-knot.result c.len-count.ensures.signal.each c.knot.ensures next)
+    lt_of_le_of_lt (le_of_same stops)
+    (next_rises g.P.Shape c.args.s.now (c.loop-i.i - 1) c.knot.result c.knot-knot.result c.len-count.ensures.signal.each c.knot.ensures next)

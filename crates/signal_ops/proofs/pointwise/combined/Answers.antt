@@ -1,7 +1,8 @@
 use Rattle.std.proofs.Common.{◌≡◌, ◌+◌, ◌<◌, ◌≤◌, ◌^◌, length, sym, ◌∙◌, ap, subst, arith}
 use Rattle.std.proofs.lemmas.Result.{err_from_is_err_and}
 use Rattle.rational.specs.Rational.{IsWithin}
-use Rattle.rational.specs.Time.{◌≈◌, ◌<ʳ◌, ◌≤ʳ◌}
+use Rattle.rational.specs.Time.{Rational, ◌≈◌, ◌<ʳ◌, ◌≤ʳ◌}
+use Rattle.rational.specs.Extended.{value_at}
 use Rattle.rational.proofs.Order.{le_refl, le_trans, le_of_lt, le_of_same, lt_of_lt_of_le, same_refl, same_sym}
 use Rattle.frac128.specs.Value.{value}
 use Rattle.pl_signal.specs.Knots.{time, start, stop, IsWorth}
@@ -14,6 +15,8 @@ use Rattle.pl_signal.proofs.Moving.{at_knot_within, limited_at, first_is, same_k
 use Rattle.pl_signal.proofs.Places.{earlier_after, nearer, not_both, at_stop, first_place, more_knots, part_on_gap, begun_before}
 use Rattle.signal_ops.proofs.Negating.{after_bounded}
 use Rattle.signal_ops.proofs.CombiningLemmas.{first_shapes, joined_shapes, chosen_is_function, tells_joined, tells_chosen, fault_of_gap, names_of_gap}
+use Rattle.signal_ops.proofs.pointwise.combined.Given.{Over}
+use Rattle.signal_ops.proofs.pointwise.combined.Goals.{After-earlier-to}
 use Rattle.signal_ops.proofs.pointwise.combined.Goals as goal
 
 pub loop-i-init : goal.loop-i-init
@@ -26,116 +29,152 @@ loop-i-init g c =
     let only = only_ends g.P.Shape c.in_ok-built.built c.chosen-first.result c.knot-x.result.time c.in_ok-built.ensures in
     let ends = sym only.1 in
     record {
-      tells = tells_chosen g.P.Shape c.args.side c.args.a.now c.args.b.now c.in_ok-built.built c.knot-x.result c.knot-y.result c.chosen-first.result c.len-last.ensures.signal c.len.ensures.signal c.knot-x.ensures c.knot-y.ensures together c.chosen-first.ensures.value c.in_ok-built.ensures;
+      tells = tells_chosen g.P.Shape c.args.side c.args.a.now c.args.b.now c.in_ok-built.built c.knot-x.result c.knot-y.result c.chosen-first.result
+          c.len-last.ensures.signal c.len.ensures.signal c.knot-x.ensures c.knot-y.ensures together c.chosen-first.ensures.value c.in_ok-built.ensures;
       begins = subst (λ s. s ≈ start c.args.a.now) (sym only.0) (subst (λ s. time c.knot-x.result ≈ s) (sym start_a) (same_refl (time c.knot-x.result)));
       within = subst (IsWithin (2 ^ 34)) ends (limited_at g.P.Shape c.args.a.now 0 c.knot-x.result c.requires.left c.knot-x.ensures);
       above = subst (λ s. start c.args.a.now ≤ʳ s) ends (subst (λ s. s ≤ʳ time c.knot-x.result) (sym start_a) (le_refl (time c.knot-x.result)));
-      below = subst (λ s. s ≤ʳ stop c.args.a.now) ends (at_knot_within g.P.Shape c.args.a.now 0 c.knot-x.result c.len-last.ensures.signal c.knot-x.ensures).below;
-      left = subst (λ s. IsPlace c.args.a.now s 0) ends (first_place g.P.Shape c.args.a.now c.knot-x.result (time c.knot-x.result) c.len-last.ensures.signal c.knot-x.ensures (same_refl (time c.knot-x.result)));
-      right = subst (λ s. IsPlace c.args.b.now s 0) ends (first_place g.P.Shape c.args.b.now c.knot-y.result (time c.knot-x.result) c.len.ensures.signal c.knot-y.ensures (same_sym together));
-      shapes = first_shapes g.P.Shape c.args.a.now c.args.b.now c.in_ok-built.built c.knot-x.result.point c.knot-y.result.point c.chosen-first.result c.knot-x.result.time (shape_at g.P.Shape c.args.a.now 0 c.knot-x.result c.knot-x.ensures) (shape_at g.P.Shape c.args.b.now 0 c.knot-y.result c.knot-y.ensures)
+      below = subst (λ s. s ≤ʳ stop c.args.a.now) ends
+          (at_knot_within g.P.Shape c.args.a.now 0 c.knot-x.result c.len-last.ensures.signal c.knot-x.ensures).below;
+      left = subst (λ s. IsPlace c.args.a.now s 0) ends
+          (first_place g.P.Shape c.args.a.now c.knot-x.result (time c.knot-x.result) c.len-last.ensures.signal c.knot-x.ensures
+          (same_refl (time c.knot-x.result)));
+      right = subst (λ s. IsPlace c.args.b.now s 0) ends
+          (first_place g.P.Shape c.args.b.now c.knot-y.result (time c.knot-x.result) c.len.ensures.signal c.knot-y.ensures (same_sym together));
+      shapes = first_shapes g.P.Shape c.args.a.now c.args.b.now c.in_ok-built.built c.knot-x.result.point c.knot-y.result.point c.chosen-first.result
+          c.knot-x.result.time (shape_at g.P.Shape c.args.a.now 0 c.knot-x.result c.knot-x.ensures)
+          (shape_at g.P.Shape c.args.b.now 0 c.knot-y.result c.knot-y.ensures)
           c.chosen-first.ensures.one c.in_ok-built.ensures;
     }
 
 pub knot-requires-in-loop-i-3 : goal.knot-requires-in-loop-i-3
 knot-requires-in-loop-i-3 g c =
     let before_a = c.loop-i.invariant.left.later c.knot-in-loop-i-2.result c.knot-in-loop-i-2.ensures in
-    let stop_a = (at_knot_within g.P.Shape c.args.a.now (c.loop-i.i + 1) c.knot-in-loop-i-2.result c.len-last.ensures.signal c.knot-in-loop-i-2.ensures).below in
-    more_knots g.P.Shape c.args.b.now c.loop-i.j c.knot-in-loop-i.result (stop c.loop-i.built) c.loop-i.invariant.right c.knot-in-loop-i.ensures (lt_of_lt_of_le before_a (le_trans stop_a (le_of_same c.requires.ends)))
+    let stop_a = (at_knot_within g.P.Shape c.args.a.now (c.loop-i.i + 1) c.knot-in-loop-i-2.result c.len-last.ensures.signal
+    c.knot-in-loop-i-2.ensures).below in
+    more_knots g.P.Shape c.args.b.now c.loop-i.j c.knot-in-loop-i.result (stop c.loop-i.built) c.loop-i.invariant.right c.knot-in-loop-i.ensures
+    (lt_of_lt_of_le before_a (le_trans stop_a (le_of_same c.requires.ends)))
+
+-- the next time is later than the last one, in the domain and within 2^34
+order : (g : Over) (c : After-earlier-to g) → stop c.loop-i.built <ʳ value c.earlier-to.result
+order g c = earlier_after {to = value c.earlier-to.result} (c.loop-i.invariant.left.later c.knot-in-loop-i-2.result c.knot-in-loop-i-2.ensures)
+    (c.loop-i.invariant.right.later c.knot-in-loop-i-3.result c.knot-in-loop-i-3.ensures) c.earlier-to.ensures.one
+
+below : (g : Over) (c : After-earlier-to g) → value c.earlier-to.result ≤ʳ stop c.args.a.now
+below g c = le_trans c.earlier-to.ensures.left
+    (at_knot_within g.P.Shape c.args.a.now (c.loop-i.i + 1) c.knot-in-loop-i-2.result c.len-last.ensures.signal c.knot-in-loop-i-2.ensures).below
+
+within : (g : Over) (c : After-earlier-to g) → IsWithin (2 ^ 34) (value c.earlier-to.result)
+within g c = (
+  le_trans c.loop-i.invariant.within.0 (le_of_lt (order g c)),
+  le_trans c.earlier-to.ensures.left
+      (limited_at g.P.Shape c.args.a.now (c.loop-i.i + 1) c.knot-in-loop-i-2.result c.requires.left c.knot-in-loop-i-2.ensures).1,
+)
+
+-- both signals on the gap up to it
+left_on : (g : Over) (c : After-earlier-to g) (t : Rational) → stop c.loop-i.built <ʳ t → t <ʳ value c.earlier-to.result
+    → IsWorth g.P.Shape c.args.a.now t (value_at (g.P.Shape.function c.knot.result.after) t)
+left_on g c t h l = part_on_gap g.P.Shape c.args.a.now c.loop-i.i c.knot.result c.knot-in-loop-i-2.result (stop c.loop-i.built)
+    (value c.earlier-to.result) t c.loop-i.invariant.left c.knot.ensures c.knot-in-loop-i-2.ensures c.earlier-to.ensures.left h l
+
+right_on : (g : Over) (c : After-earlier-to g) (t : Rational) → stop c.loop-i.built <ʳ t → t <ʳ value c.earlier-to.result
+    → IsWorth g.P.Shape c.args.b.now t (value_at (g.P.Shape.function c.knot-in-loop-i.result.after) t)
+right_on g c t h l = part_on_gap g.P.Shape c.args.b.now c.loop-i.j c.knot-in-loop-i.result c.knot-in-loop-i-3.result (stop c.loop-i.built)
+    (value c.earlier-to.result) t c.loop-i.invariant.right c.knot-in-loop-i.ensures c.knot-in-loop-i-3.ensures c.earlier-to.ensures.right h l
+
+-- the right signal has a knot behind its place too
+more : (g : Over) (c : After-earlier-to g) → c.loop-i.j + 1 < length c.args.b.now
+more g c = more_knots g.P.Shape c.args.b.now c.loop-i.j c.knot-in-loop-i.result (stop c.loop-i.built) c.loop-i.invariant.right
+    c.knot-in-loop-i.ensures (lt_of_lt_of_le (c.loop-i.invariant.left.later c.knot-in-loop-i-2.result c.knot-in-loop-i-2.ensures)
+    (le_trans (at_knot_within g.P.Shape c.args.a.now (c.loop-i.i + 1) c.knot-in-loop-i-2.result c.len-last.ensures.signal
+    c.knot-in-loop-i-2.ensures).below (le_of_same c.requires.ends)))
 
 pub advance-left-requires-clause-begun : goal.advance-left-requires-clause-begun
 advance-left-requires-clause-begun g c =
-    let before_a = c.loop-i.invariant.left.later c.knot-in-loop-i-2.result c.knot-in-loop-i-2.ensures in
-    let order = earlier_after {to = value c.earlier-to.result} before_a (c.loop-i.invariant.right.later c.knot-in-loop-i-3.result c.knot-in-loop-i-3.ensures) c.earlier-to.ensures.one in
-    begun_before g.P.Shape c.args.a.now c.loop-i.i (stop c.loop-i.built) (value c.earlier-to.result) c.loop-i.invariant.left order
+    begun_before g.P.Shape c.args.a.now c.loop-i.i (stop c.loop-i.built) (value c.earlier-to.result) c.loop-i.invariant.left
+    (order g (goal.at.advance-left-requires-clause-begun g c).After-earlier-to)
 
 pub advance-right-requires-clause-more : goal.advance-right-requires-clause-more
-advance-right-requires-clause-more g c =
-    let before_a = c.loop-i.invariant.left.later c.knot-in-loop-i-2.result c.knot-in-loop-i-2.ensures in
-    let stop_a = (at_knot_within g.P.Shape c.args.a.now (c.loop-i.i + 1) c.knot-in-loop-i-2.result c.len-last.ensures.signal c.knot-in-loop-i-2.ensures).below in
-    more_knots g.P.Shape c.args.b.now c.loop-i.j c.knot-in-loop-i.result (stop c.loop-i.built) c.loop-i.invariant.right c.knot-in-loop-i.ensures (lt_of_lt_of_le before_a (le_trans stop_a (le_of_same c.requires.ends)))
+advance-right-requires-clause-more g c = more g (goal.at.advance-right-requires-clause-more g c).After-earlier-to
 
 pub advance-right-requires-clause-begun : goal.advance-right-requires-clause-begun
 advance-right-requires-clause-begun g c =
-    let before_a = c.loop-i.invariant.left.later c.knot-in-loop-i-2.result c.knot-in-loop-i-2.ensures in
-    let order = earlier_after {to = value c.earlier-to.result} before_a (c.loop-i.invariant.right.later c.knot-in-loop-i-3.result c.knot-in-loop-i-3.ensures) c.earlier-to.ensures.one in
-    begun_before g.P.Shape c.args.b.now c.loop-i.j (stop c.loop-i.built) (value c.earlier-to.result) c.loop-i.invariant.right order
+    begun_before g.P.Shape c.args.b.now c.loop-i.j (stop c.loop-i.built) (value c.earlier-to.result) c.loop-i.invariant.right
+    (order g (goal.at.advance-right-requires-clause-begun g c).After-earlier-to)
 
 pub chosen-point-requires : goal.chosen-point-requires
-chosen-point-requires g c =
-    let before_a = c.loop-i.invariant.left.later c.knot-in-loop-i-2.result c.knot-in-loop-i-2.ensures in
-    let order = earlier_after {to = value c.earlier-to.result} before_a (c.loop-i.invariant.right.later c.knot-in-loop-i-3.result c.knot-in-loop-i-3.ensures) c.earlier-to.ensures.one in
-    (le_trans c.loop-i.invariant.within.0 (le_of_lt order), le_trans c.earlier-to.ensures.left (limited_at g.P.Shape c.args.a.now (c.loop-i.i + 1) c.knot-in-loop-i-2.result c.requires.left c.knot-in-loop-i-2.ensures).1)
+chosen-point-requires g c = within g (goal.at.chosen-point-requires g c).After-earlier-to
 
 pub join-requires-clause-order : goal.join-requires-clause-order
-join-requires-clause-order g c =
-    let before_a = c.loop-i.invariant.left.later c.knot-in-loop-i-2.result c.knot-in-loop-i-2.ensures in
-    earlier_after {to = value c.earlier-to.result} before_a (c.loop-i.invariant.right.later c.knot-in-loop-i-3.result c.knot-in-loop-i-3.ensures) c.earlier-to.ensures.one
+join-requires-clause-order g c = order g (goal.at.join-requires-clause-order g c).After-earlier-to
 
 pub join-requires-clause-to_within : goal.join-requires-clause-to_within
-join-requires-clause-to_within g c =
-    let before_a = c.loop-i.invariant.left.later c.knot-in-loop-i-2.result c.knot-in-loop-i-2.ensures in
-    let order = earlier_after {to = value c.earlier-to.result} before_a (c.loop-i.invariant.right.later c.knot-in-loop-i-3.result c.knot-in-loop-i-3.ensures) c.earlier-to.ensures.one in
-    (le_trans c.loop-i.invariant.within.0 (le_of_lt order), le_trans c.earlier-to.ensures.left (limited_at g.P.Shape c.args.a.now (c.loop-i.i + 1) c.knot-in-loop-i-2.result c.requires.left c.knot-in-loop-i-2.ensures).1)
+join-requires-clause-to_within g c = within g (goal.at.join-requires-clause-to_within g c).After-earlier-to
 
 pub join-requires-clause-first : goal.join-requires-clause-first
-join-requires-clause-first g c = after_bounded g.P.Shape c.args.a.now c.loop-i.i c.knot.result c.knot-in-loop-i-2.result c.requires.left c.knot.ensures c.knot-in-loop-i-2.ensures
+join-requires-clause-first g c =
+    after_bounded g.P.Shape c.args.a.now c.loop-i.i c.knot.result c.knot-in-loop-i-2.result c.requires.left c.knot.ensures c.knot-in-loop-i-2.ensures
 
 pub join-requires-clause-second : goal.join-requires-clause-second
-join-requires-clause-second g c = after_bounded g.P.Shape c.args.b.now c.loop-i.j c.knot-in-loop-i.result c.knot-in-loop-i-3.result c.requires.right c.knot-in-loop-i.ensures c.knot-in-loop-i-3.ensures
+join-requires-clause-second g c = after_bounded g.P.Shape c.args.b.now c.loop-i.j c.knot-in-loop-i.result c.knot-in-loop-i-3.result c.requires.right
+    c.knot-in-loop-i.ensures c.knot-in-loop-i-3.ensures
 
 pub returns-in_err-join-clause-wide : goal.returns-in_err-join-clause-wide
 returns-in_err-join-clause-wide g c =
     let p = err_from_is_err_and c.from_residual-in_err-join.result c.from_residual-in_err-join.ensures.1 in
     let (from, at, fault) = c.in_err-join.ensures.wide in
-    let stop_a = (at_knot_within g.P.Shape c.args.a.now (c.loop-i.i + 1) c.knot-in-loop-i-2.result c.len-last.ensures.signal c.knot-in-loop-i-2.ensures).below in
-    rw (p.1, p.2) (fault_of_gap g.P.Shape c.args.a.now c.args.b.now c.knot.result.after c.knot-in-loop-i.result.after from c.earlier-to.result c.in_err-join.field-0.0 fault (subst (λ s. start c.args.a.now ≤ʳ s) (sym at) c.loop-i.invariant.above) (le_trans c.earlier-to.ensures.left stop_a)
-    (λ t h l. part_on_gap g.P.Shape c.args.a.now c.loop-i.i c.knot.result c.knot-in-loop-i-2.result (stop c.loop-i.built) (value c.earlier-to.result) t c.loop-i.invariant.left c.knot.ensures c.knot-in-loop-i-2.ensures c.earlier-to.ensures.left (subst (λ s. s <ʳ t) at h) l)
-    (λ t h l. part_on_gap g.P.Shape c.args.b.now c.loop-i.j c.knot-in-loop-i.result c.knot-in-loop-i-3.result (stop c.loop-i.built) (value c.earlier-to.result) t c.loop-i.invariant.right c.knot-in-loop-i.ensures c.knot-in-loop-i-3.ensures c.earlier-to.ensures.right (subst (λ s. s <ʳ t) at h) l))
+    let step = (goal.at.returns-in_err-join-clause-wide g c).After-earlier-to in
+    rw (p.1, p.2) (fault_of_gap g.P.Shape c.args.a.now c.args.b.now c.knot.result.after c.knot-in-loop-i.result.after from c.earlier-to.result
+    c.in_err-join.field-0.0 fault (subst (λ s. start c.args.a.now ≤ʳ s) (sym at) c.loop-i.invariant.above) (below g step)
+    (λ t h l. left_on g step t (subst (λ s. s <ʳ t) at h) l) (λ t h l. right_on g step t (subst (λ s. s <ʳ t) at h) l))
 
 pub returns-in_err-join-clause-named : goal.returns-in_err-join-clause-named
 returns-in_err-join-clause-named g c =
     let p = err_from_is_err_and c.from_residual-in_err-join.result c.from_residual-in_err-join.ensures.1 in
     let (from, at, fault) = c.in_err-join.ensures.wide in
-    rw (p.1, p.2) (names_of_gap g.P.Shape c.args.a.now c.args.b.now c.knot.result.after c.knot-in-loop-i.result.after from c.earlier-to.result c.in_err-join.field-0.0 fault
-    (shape_after g.P.Shape c.args.a.now c.loop-i.i c.knot.result c.knot.ensures) (shape_after g.P.Shape c.args.b.now c.loop-i.j c.knot-in-loop-i.result c.knot-in-loop-i.ensures))
+    rw (p.1, p.2) (names_of_gap g.P.Shape c.args.a.now c.args.b.now c.knot.result.after c.knot-in-loop-i.result.after from c.earlier-to.result
+    c.in_err-join.field-0.0 fault
+    (shape_after g.P.Shape c.args.a.now c.loop-i.i c.knot.result c.knot.ensures)
+    (shape_after g.P.Shape c.args.b.now c.loop-i.j c.knot-in-loop-i.result c.knot-in-loop-i.ensures))
 
 pub loop-i-smaller : goal.loop-i-smaller
 loop-i-smaller g c =
     let inside_a : c.loop-i.i + 1 < length c.args.a.now = let more = c.loop-i-test.true in let count = c.len-last.ensures.value in omega arith in
-    let before_a = c.loop-i.invariant.left.later c.knot-in-loop-i-2.result c.knot-in-loop-i-2.ensures in
-    let stop_a = (at_knot_within g.P.Shape c.args.a.now (c.loop-i.i + 1) c.knot-in-loop-i-2.result c.len-last.ensures.signal c.knot-in-loop-i-2.ensures).below in
-    let more_b = more_knots g.P.Shape c.args.b.now c.loop-i.j c.knot-in-loop-i.result (stop c.loop-i.built) c.loop-i.invariant.right c.knot-in-loop-i.ensures (lt_of_lt_of_le before_a (le_trans stop_a (le_of_same c.requires.ends))) in
-    nearer (length c.args.a.now) (length c.args.b.now) c.loop-i.i c.loop-i.j c.advance-left.result.place c.advance-right.result.place inside_a more_b c.advance-left.ensures.moved c.advance-right.ensures.moved
-    (not_both g.P.Shape c.args.a.now c.args.b.now (c.loop-i.i + 1) (c.loop-i.j + 1) c.knot-in-loop-i-2.result c.knot-in-loop-i-3.result (value c.earlier-to.result) c.knot-in-loop-i-2.ensures c.knot-in-loop-i-3.ensures c.earlier-to.ensures.one)
+    nearer (length c.args.a.now) (length c.args.b.now) c.loop-i.i c.loop-i.j c.advance-left.result.place c.advance-right.result.place
+    inside_a (more g (goal.at.loop-i-smaller g c).After-earlier-to) c.advance-left.ensures.moved c.advance-right.ensures.moved
+    (not_both g.P.Shape c.args.a.now c.args.b.now (c.loop-i.i + 1) (c.loop-i.j + 1) c.knot-in-loop-i-2.result c.knot-in-loop-i-3.result
+    (value c.earlier-to.result) c.knot-in-loop-i-2.ensures c.knot-in-loop-i-3.ensures c.earlier-to.ensures.one)
 
 pub loop-i-preserved : goal.loop-i-preserved
 loop-i-preserved g c =
-    let before_a = c.loop-i.invariant.left.later c.knot-in-loop-i-2.result c.knot-in-loop-i-2.ensures in
-    let stop_a = (at_knot_within g.P.Shape c.args.a.now (c.loop-i.i + 1) c.knot-in-loop-i-2.result c.len-last.ensures.signal c.knot-in-loop-i-2.ensures).below in
-    let order = earlier_after {to = value c.earlier-to.result} before_a (c.loop-i.invariant.right.later c.knot-in-loop-i-3.result c.knot-in-loop-i-3.ensures) c.earlier-to.ensures.one in
+    let step = (goal.at.loop-i-preserved g c).After-earlier-to in
     let joins = c.in_ok-join.ensures.ok in
     let ends = sym joins.ends in
     record {
-      tells = tells_joined g.P.Shape c.args.side c.args.a.now c.args.b.now c.loop-i.built c.join.new.self c.knot.result.after c.knot-in-loop-i.result.after c.advance-left.result.shape c.advance-right.result.shape c.chosen-point.result c.earlier-to.result c.len-last.ensures.signal c.len.ensures.signal
-          c.loop-i.invariant.tells joins
-          (λ t h l. part_on_gap g.P.Shape c.args.a.now c.loop-i.i c.knot.result c.knot-in-loop-i-2.result (stop c.loop-i.built) (value c.earlier-to.result) t c.loop-i.invariant.left c.knot.ensures c.knot-in-loop-i-2.ensures c.earlier-to.ensures.left h l)
-          (λ t h l. part_on_gap g.P.Shape c.args.b.now c.loop-i.j c.knot-in-loop-i.result c.knot-in-loop-i-3.result (stop c.loop-i.built) (value c.earlier-to.result) t c.loop-i.invariant.right c.knot-in-loop-i.ensures c.knot-in-loop-i-3.ensures c.earlier-to.ensures.right h l)
+      tells = tells_joined g.P.Shape c.args.side c.args.a.now c.args.b.now c.loop-i.built c.join.new.self c.knot.result.after
+          c.knot-in-loop-i.result.after c.advance-left.result.shape c.advance-right.result.shape c.chosen-point.result c.earlier-to.result
+          c.len-last.ensures.signal c.len.ensures.signal c.loop-i.invariant.tells joins (left_on g step) (right_on g step)
           c.advance-left.ensures.worth c.advance-right.ensures.worth c.chosen-point.ensures.value;
       begins = subst (λ s. s ≈ start c.args.a.now) (sym joins.begins) c.loop-i.invariant.begins;
-      within = subst (IsWithin (2 ^ 34)) ends (le_trans c.loop-i.invariant.within.0 (le_of_lt order), le_trans c.earlier-to.ensures.left (limited_at g.P.Shape c.args.a.now (c.loop-i.i + 1) c.knot-in-loop-i-2.result c.requires.left c.knot-in-loop-i-2.ensures).1);
-      above = subst (λ s. start c.args.a.now ≤ʳ s) ends (le_trans c.loop-i.invariant.above (le_of_lt order));
-      below = subst (λ s. s ≤ʳ stop c.args.a.now) ends (le_trans c.earlier-to.ensures.left stop_a);
+      within = subst (IsWithin (2 ^ 34)) ends (within g step);
+      above = subst (λ s. start c.args.a.now ≤ʳ s) ends (le_trans c.loop-i.invariant.above (le_of_lt (order g step)));
+      below = subst (λ s. s ≤ʳ stop c.args.a.now) ends (below g step);
       left = subst (λ s. IsPlace c.args.a.now s c.advance-left.result.place) ends c.advance-left.ensures.place;
       right = subst (λ s. IsPlace c.args.b.now s c.advance-right.result.place) ends c.advance-right.ensures.place;
-      shapes = joined_shapes g.P.Shape c.args.side c.args.a.now c.args.b.now c.loop-i.built c.join.new.self c.knot.result.after c.knot-in-loop-i.result.after c.chosen-point.result c.advance-left.result.shape c.advance-right.result.shape c.earlier-to.result c.loop-i.invariant.shapes joins
-          (shape_after g.P.Shape c.args.a.now c.loop-i.i c.knot.result c.knot.ensures) (shape_after g.P.Shape c.args.b.now c.loop-i.j c.knot-in-loop-i.result c.knot-in-loop-i.ensures) c.advance-left.ensures.shape c.advance-right.ensures.shape c.chosen-point.ensures.one;
+      shapes = joined_shapes g.P.Shape c.args.side c.args.a.now c.args.b.now c.loop-i.built c.join.new.self c.knot.result.after
+          c.knot-in-loop-i.result.after c.chosen-point.result c.advance-left.result.shape c.advance-right.result.shape c.earlier-to.result
+          c.loop-i.invariant.shapes joins (shape_after g.P.Shape c.args.a.now c.loop-i.i c.knot.result c.knot.ensures)
+          (shape_after g.P.Shape c.args.b.now c.loop-i.j c.knot-in-loop-i.result c.knot-in-loop-i.ensures)
+          c.advance-left.ensures.shape c.advance-right.ensures.shape c.chosen-point.ensures.one;
     }
 
 pub returns-clause-worth : goal.returns-clause-worth
 returns-clause-worth g c =
     let last : length c.args.a.now ≤ c.loop-i.i + 1 = let no_more = c.loop-i-test.false in let count = c.len-last.ensures.value in omega arith in
-    let here = at_stop g.P.Shape c.args.a.now c.loop-i.i (stop c.loop-i.built) c.len-last.ensures.signal.some c.loop-i.invariant.left last c.loop-i.invariant.below in
-    subst (Tells g.P.Shape (ChosenOf c.args.side (IsWorth g.P.Shape c.args.a.now) (IsWorth g.P.Shape c.args.b.now)) (start c.args.a.now) (stop c.args.a.now)) (sym c.finish.ensures.value)
-    (told g.P.Shape (ChosenOf c.args.side (IsWorth g.P.Shape c.args.a.now) (IsWorth g.P.Shape c.args.b.now)) (start c.args.a.now) (stop c.args.a.now) c.loop-i.built (chosen_is_function g.P.Shape c.args.side c.args.a.now c.args.b.now c.len-last.ensures.signal c.len.ensures.signal)
+    let here = at_stop g.P.Shape c.args.a.now c.loop-i.i (stop c.loop-i.built) c.len-last.ensures.signal.some c.loop-i.invariant.left last
+    c.loop-i.invariant.below in
+    subst (Tells g.P.Shape (ChosenOf c.args.side (IsWorth g.P.Shape c.args.a.now) (IsWorth g.P.Shape c.args.b.now)) (start c.args.a.now)
+    (stop c.args.a.now)) (sym c.finish.ensures.value)
+    (told g.P.Shape (ChosenOf c.args.side (IsWorth g.P.Shape c.args.a.now) (IsWorth g.P.Shape c.args.b.now)) (start c.args.a.now)
+    (stop c.args.a.now) c.loop-i.built (chosen_is_function g.P.Shape c.args.side c.args.a.now c.args.b.now c.len-last.ensures.signal c.len.ensures.signal)
     c.loop-i.invariant.tells c.loop-i.invariant.begins here)

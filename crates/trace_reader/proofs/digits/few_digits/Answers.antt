@@ -1,16 +1,12 @@
 -- One more digit of a few.
-use Rattle.std.proofs.Common.{◌≡◌, ℕ, ◌+◌, ◌-◌, ◌*◌, ◌^◌, ◌%◌, ◌<◌, ◌≤◌, ap, ◌∙◌, take, get_or, true, arith, add-one}
+use Rattle.std.proofs.Common.{◌≡◌, ℕ, ◌+◌, ◌-◌, ◌*◌, ◌^◌, ◌<◌, ◌≤◌, ap, ◌∙◌, take, get_or, true, arith, add-one}
 use Rattle.std.proofs.Math.Nat.{pow-suc}
 use Rattle.std.proofs.lemmas.List.{take_more}
 use Rattle.stl_syntax.specs.Characters.{is_digit, decimal_value}
 use Rattle.stl_syntax.proofs.CharacterLemmas.{all-push}
 use Rattle.stl_syntax.proofs.DecimalLemmas.{decimal_value-push}
+use Rattle.trace_reader.proofs.DigitLemmas.{wrapped}
 use Rattle.trace_reader.proofs.digits.few_digits.Goals as goal
-
--- a byte less 48, where it is at most 9
-wrapped : (c : ℕ) → c < 256 → (c + 18446744073709551568) % 18446744073709551616 ≤ 9
-    → (48 ≤ c) × (c ≤ 57) × ((c + 18446744073709551568) % 18446744073709551616 ≡ c - 48)
-wrapped c s h = (omega arith, omega arith, omega arith)
 
 pub loop-len-preserved : goal.loop-len-preserved
 loop-len-preserved c =

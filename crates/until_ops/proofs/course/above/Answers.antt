@@ -21,8 +21,10 @@ returns-in-Less g c =
     record {
       first = inl refl;
       second = inr (inr (c.args.top.now, start.top_of, c.in_ok-level.ensures.0, c.in_ok-level.ensures.1));
-      onward = λ t v a b chosen. by_top (value_at (f gap.before) (value gap.from)) (f gap.left) (f gap.right) (value gap.from) t v low top start.is_low start.is_top
-          (value_at level t) (c.in_ok-level.ensures.0 t) (sinks_of c.rises.result (f gap.right) c.rises.ensures (λ e. let h = c.in-Less.is in absurd (cc)) (value gap.from) t (le_of_lt a)) chosen;
+      onward = λ t v a b chosen. by_top (value_at (f gap.before) (value gap.from)) (f gap.left) (f gap.right)
+          (value gap.from) t v low top start.is_low start.is_top
+          (value_at level t) (c.in_ok-level.ensures.0 t)
+          (sinks_of c.rises.result (f gap.right) c.rises.ensures (λ e. let h = c.in-Less.is in absurd (cc)) (value gap.from) t (le_of_lt a)) chosen;
     }
 
 pub raised-requires : goal.raised-requires
@@ -31,7 +33,8 @@ raised-requires g c = record {
   below = c.requires.below;
   start = c.requires.start;
   climbs = climbs_of c.rises.result (g.P.Shape.function c.args.gap.now.right) c.rises.ensures c.in_default.not-Less;
-  higher = le_of_ltᵉ (value_at (g.P.Shape.function c.args.gap.now.right) (value c.args.gap.now.from)) (value_at (g.P.Shape.function c.args.low.now) (value c.args.gap.now.from)) c.in-Greater.ensures;
+  higher = le_of_ltᵉ (value_at (g.P.Shape.function c.args.gap.now.right) (value c.args.gap.now.from))
+      (value_at (g.P.Shape.function c.args.low.now) (value c.args.gap.now.from)) c.in-Greater.ensures;
 }
 
 pub returns : goal.returns
@@ -45,7 +48,9 @@ returns g c =
     subst (IsCourse g.P.Shape gap) (sym c.only.ensures) (record {
       first = inr (inl refl);
       second = inr (inl refl);
-      onward = λ t v a b chosen. by_right (value_at (f gap.before) (value gap.from)) (f gap.left) (f gap.right) (value gap.from) t v low top start.is_low start.is_top
-          (climbs_of c.rises.result right c.rises.ensures c.in_default.not-Less (value gap.from) t (le_of_lt a)) (below_on right (f gap.left) (value gap.from) t (value gap.to) c.requires.below a b)
+      onward = λ t v a b chosen. by_right (value_at (f gap.before) (value gap.from)) (f gap.left) (f gap.right)
+          (value gap.from) t v low top start.is_low start.is_top
+          (climbs_of c.rises.result right c.rises.ensures c.in_default.not-Less (value gap.from) t (le_of_lt a))
+          (below_on right (f gap.left) (value gap.from) t (value gap.to) c.requires.below a b)
           (not_above c.cmp_at.result low (value_at right (value gap.from)) c.cmp_at.ensures c.in_default-cmp_at.not-Greater) chosen;
     })

@@ -31,6 +31,7 @@ returns-then-stays_under g c =
     subst (IsCourse g.P.Shape gap) (sym c.only-then-stays_under.ensures) (record {
       first = inl refl;
       second = inl refl;
-      onward = λ t v a b chosen. by_left (value_at (f gap.before) (value gap.from)) (f gap.left) (f gap.right) (value gap.from) t v low top c.chosen-low.ensures.value c.chosen-top.ensures.value
+      onward = λ t v a b chosen. by_left (value_at (f gap.before) (value gap.from)) (f gap.left) (f gap.right)
+          (value gap.from) t v low top c.chosen-low.ensures.value c.chosen-top.ensures.value
           (inl (le_transᵉ (value_at (f gap.left) t) (value_at (f gap.left) (value gap.from)) top (stays.0 (value gap.from) t (le_of_lt a)) stays.1)) chosen;
     })

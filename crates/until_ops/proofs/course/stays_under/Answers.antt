@@ -6,5 +6,6 @@ use Rattle.until_ops.proofs.course.stays_under.Goals as goal
 pub returns-in_default-cmp_at : goal.returns-in_default-cmp_at
 returns-in_default-cmp_at g c = λ h. (
   sinks_of c.rises.result (g.P.Shape.function c.args.p.now) c.rises.ensures c.in_default.not-Greater,
-  not_above c.cmp_at.result (value_at (g.P.Shape.function c.args.p.now) (value c.args.at.now)) (value_at (g.P.Shape.function c.args.top.now) (value c.args.at.now)) c.cmp_at.ensures c.in_default-cmp_at.not-Greater,
+  not_above c.cmp_at.result (value_at (g.P.Shape.function c.args.p.now) (value c.args.at.now))
+      (value_at (g.P.Shape.function c.args.top.now) (value c.args.at.now)) c.cmp_at.ensures c.in_default-cmp_at.not-Greater,
 )

@@ -1,12 +1,12 @@
 use Rattle.std.proofs.Common.{◌+◌, ◌≤◌, length, sym, subst, arith}
 use Rattle.rational.specs.Time.{◌≈◌}
 use Rattle.frac128.specs.Value.{value}
-use Rattle.pl_signal.specs.Knots.{start, stop, IsWorth}
+use Rattle.pl_signal.specs.Knots.{start, stop}
 use Rattle.pl_signal.specs.Moves.{Tells}
 use Rattle.pl_signal.proofs.Telling.{told}
 use Rattle.until_ops.specs.Untils.{SinceOf, BasesOfTwo}
 use Rattle.pl_signal.proofs.Places.{at_stop}
-use Rattle.until_ops.proofs.SinceLemmas.{since_is_function}
+use Rattle.until_ops.proofs.PlayLemmas.{is_since}
 use Rattle.until_ops.proofs.WalkLemmas.{bases_of_stand}
 use Rattle.until_ops.proofs.since.since_from_start.Goals as goal
 
@@ -18,7 +18,7 @@ returns-clause-worth g c =
     let here = at_stop g.P.Shape c.args.p.now c.loop-now.now.left (value c.loop-now.now.at) c.len-last.ensures.signal.some s.left last s.inside.below in
     subst (Tells g.P.Shape since (start c.args.p.now) (stop c.args.p.now)) (sym c.finish.ensures.value)
     (told g.P.Shape since (start c.args.p.now) (stop c.args.p.now) c.loop-now.built
-    (since_is_function g.P.Shape.lowest g.P.Shape.highest (start c.args.p.now) (IsWorth g.P.Shape c.args.p.now) (IsWorth g.P.Shape c.args.q.now))
+    (is_since g.P.Shape c.args.p.now c.args.q.now)
     (record { signal = s.signal; worth = s.worth }) s.begins (subst (λ t. t ≈ stop c.args.p.now) (sym s.ends) here))
 
 pub returns-clause-bases : goal.returns-clause-bases

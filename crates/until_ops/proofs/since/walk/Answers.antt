@@ -3,323 +3,196 @@ use Rattle.rational.specs.Rational.{IsWithin}
 use Rattle.rational.specs.Time.{◌<ʳ◌, ◌≤ʳ◌}
 use Rattle.rational.proofs.Order.{le_refl, le_trans, le_of_lt, le_of_same, lt_of_lt_of_le}
 use Rattle.frac128.specs.Value.{value}
-use Rattle.pl_signal.specs.Knots.{time, start, stop, IsWorth}
-use Rattle.pl_signal.specs.Wide.{HasCause}
+use Rattle.pl_signal.specs.Knots.{time}
 use Rattle.pl_signal.proofs.Moving.{at_knot_within, same_knot}
-use Rattle.until_ops.specs.declared.course.Gap.{Gap}
-use Rattle.until_ops.specs.Untils.{SinceStep}
-use Rattle.until_ops.specs.Walks.{IsPairWithin}
-use Rattle.until_ops.proofs.LimitLemmas.{after_bounded}
 use Rattle.pl_signal.proofs.Places.{begun_before, more_knots}
+use Rattle.until_ops.proofs.LimitLemmas.{after_bounded}
 use Rattle.until_ops.proofs.PlayLemmas.{Follows, cross_cause, cross_within, left_plays, played, right_plays, value_cause, value_within}
-use Rattle.until_ops.proofs.SinceLemmas.{since_is_function}
-use Rattle.until_ops.proofs.WalkLemmas.{IsAt, IsRead, begins_before, gap_follows, gap_within, is_gap, nearer, played_level, walked}
+use Rattle.until_ops.proofs.WalkLemmas.{IsNext, IsWalk, begins_before, gap_follows, gap_to, gap_within, is_gap, more_right, nearer, played_level, starts_within, walked}
+use Rattle.until_ops.proofs.since.walk.Given.{Over}
+use Rattle.until_ops.proofs.since.walk.Goals.{After-earlier-next, After-course_over, After-join}
 use Rattle.until_ops.proofs.since.walk.Goals as goal
+
+walk : (g : Over) (c : After-earlier-next g)
+    → IsWalk g.P.Shape c.args.p.now c.args.q.now c.args.built.now c.args.now.now c.knot.result c.knot-2.result c.knot-3.result c.knot-4.result
+    c.earlier-next.result
+walk g c = record {
+  two = record { laws = assumption g.met.P.Shape; left = c.len.ensures.signal; right = c.len-2.ensures.signal };
+  sides = c.requires.sides;
+  stands = c.requires.stands;
+  at = record {
+    at_k = c.knot.ensures;
+    at_l = c.knot-2.ensures;
+    at_m = c.knot-3.ensures;
+    at_n = c.knot-4.ensures;
+    left = c.earlier-next.ensures.left;
+    right = c.earlier-next.ensures.right;
+    one = c.earlier-next.ensures.one;
+  };
+}
 
 pub knot-requires-4 : goal.knot-requires-4
 knot-requires-4 g c =
     more_knots g.P.Shape c.args.q.now c.args.now.now.right c.knot-2.result (value c.args.now.now.at) c.requires.stands.right c.knot-2.ensures
     (lt_of_lt_of_le (c.requires.stands.left.later c.knot-3.result c.knot-3.ensures)
-    (le_trans (at_knot_within g.P.Shape c.args.p.now (c.args.now.now.left + 1) c.knot-3.result c.len.ensures.signal c.knot-3.ensures).below (le_of_same c.requires.sides.ends)))
+    (le_trans (at_knot_within g.P.Shape c.args.p.now (c.args.now.now.left + 1) c.knot-3.result c.len.ensures.signal c.knot-3.ensures).below
+    (le_of_same c.requires.sides.ends)))
 
 pub turning-requires-clause-order : goal.turning-requires-clause-order
-turning-requires-clause-order g c =
-    let at : IsAt c.args.p.now c.args.q.now c.args.now.now c.knot.result c.knot-2.result c.knot-3.result c.knot-4.result c.earlier-next.result = record {
-      at_k = c.knot.ensures;
-      at_l = c.knot-2.ensures;
-      at_m = c.knot-3.ensures;
-      at_n = c.knot-4.ensures;
-      left = c.earlier-next.ensures.left;
-      right = c.earlier-next.ensures.right;
-      one = c.earlier-next.ensures.one;
-    } in
-    begins_before g.P.Shape (assumption g.met.P.Shape) c.args.p.now c.args.q.now c.len.ensures.signal c.len-2.ensures.signal c.requires.sides c.args.built.now c.args.now.now c.requires.stands c.knot.result c.knot-2.result c.knot-3.result c.knot-4.result c.earlier-next.result at
+turning-requires-clause-order g c = begins_before (walk g (goal.at.turning-requires-clause-order g c).After-earlier-next)
 
 pub turning-requires-clause-from_within : goal.turning-requires-clause-from_within
-turning-requires-clause-from_within g c =
-    let at : IsAt c.args.p.now c.args.q.now c.args.now.now c.knot.result c.knot-2.result c.knot-3.result c.knot-4.result c.earlier-next.result = record {
-      at_k = c.knot.ensures;
-      at_l = c.knot-2.ensures;
-      at_m = c.knot-3.ensures;
-      at_n = c.knot-4.ensures;
-      left = c.earlier-next.ensures.left;
-      right = c.earlier-next.ensures.right;
-      one = c.earlier-next.ensures.one;
-    } in
-    gap_within g.P.Shape (assumption g.met.P.Shape) c.args.p.now c.args.q.now c.len.ensures.signal c.len-2.ensures.signal c.requires.sides c.args.built.now c.args.now.now c.requires.stands c.knot.result c.knot-2.result c.knot-3.result c.knot-4.result c.earlier-next.result at (value c.args.now.now.at) (le_refl (value c.args.now.now.at)) (le_of_lt (begins_before g.P.Shape (assumption g.met.P.Shape) c.args.p.now c.args.q.now c.len.ensures.signal c.len-2.ensures.signal c.requires.sides c.args.built.now c.args.now.now c.requires.stands c.knot.result c.knot-2.result c.knot-3.result c.knot-4.result c.earlier-next.result at))
+turning-requires-clause-from_within g c = starts_within (walk g (goal.at.turning-requires-clause-from_within g c).After-earlier-next)
 
 pub turning-requires-clause-next_within : goal.turning-requires-clause-next_within
 turning-requires-clause-next_within g c =
-    let at : IsAt c.args.p.now c.args.q.now c.args.now.now c.knot.result c.knot-2.result c.knot-3.result c.knot-4.result c.earlier-next.result = record {
-      at_k = c.knot.ensures;
-      at_l = c.knot-2.ensures;
-      at_m = c.knot-3.ensures;
-      at_n = c.knot-4.ensures;
-      left = c.earlier-next.ensures.left;
-      right = c.earlier-next.ensures.right;
-      one = c.earlier-next.ensures.one;
-    } in
-    gap_within g.P.Shape (assumption g.met.P.Shape) c.args.p.now c.args.q.now c.len.ensures.signal c.len-2.ensures.signal c.requires.sides c.args.built.now c.args.now.now c.requires.stands c.knot.result c.knot-2.result c.knot-3.result c.knot-4.result c.earlier-next.result at (value c.earlier-next.result) (le_of_lt (begins_before g.P.Shape (assumption g.met.P.Shape) c.args.p.now c.args.q.now c.len.ensures.signal c.len-2.ensures.signal c.requires.sides c.args.built.now c.args.now.now c.requires.stands c.knot.result c.knot-2.result c.knot-3.result c.knot-4.result c.earlier-next.result at)) (le_refl (value c.earlier-next.result))
+    let w = walk g (goal.at.turning-requires-clause-next_within g c).After-earlier-next in
+    gap_within w (value c.earlier-next.result) (le_of_lt (begins_before w)) (le_refl (value c.earlier-next.result))
 
 pub turning-requires-clause-first : goal.turning-requires-clause-first
 turning-requires-clause-first g c =
-    after_bounded g.P.Shape c.args.p.now c.args.now.now.left c.knot.result c.knot-3.result c.len.ensures.signal c.requires.sides.left c.knot.ensures c.knot-3.ensures
+    after_bounded g.P.Shape c.args.p.now c.args.now.now.left c.knot.result c.knot-3.result c.len.ensures.signal c.requires.sides.left
+    c.knot.ensures c.knot-3.ensures
 
 pub turning-requires-clause-second : goal.turning-requires-clause-second
 turning-requires-clause-second g c =
-    after_bounded g.P.Shape c.args.q.now c.args.now.now.right c.knot-2.result c.knot-4.result c.len-2.ensures.signal c.requires.sides.right c.knot-2.ensures c.knot-4.ensures
+    after_bounded g.P.Shape c.args.q.now c.args.now.now.right c.knot-2.result c.knot-4.result c.len-2.ensures.signal c.requires.sides.right
+    c.knot-2.ensures c.knot-4.ensures
+
+-- the whole gap up to the next knot
+whole_gap : (g : Over) (c : After-earlier-next g)
+    → Follows g.P.Shape c.args.p.now c.args.q.now (gap_to c.args.now.now c.knot.result c.knot-2.result c.earlier-next.result)
+whole_gap g c = let w = walk g c in gap_follows w c.earlier-next.result (begins_before w) (le_refl (value c.earlier-next.result))
 
 pub returns-in_err-turn-clause-wide : goal.returns-in_err-turn-clause-wide
 returns-in_err-turn-clause-wide g c =
-    let at : IsAt c.args.p.now c.args.q.now c.args.now.now c.knot.result c.knot-2.result c.knot-3.result c.knot-4.result c.earlier-next.result = record {
-      at_k = c.knot.ensures;
-      at_l = c.knot-2.ensures;
-      at_m = c.knot-3.ensures;
-      at_n = c.knot-4.ensures;
-      left = c.earlier-next.ensures.left;
-      right = c.earlier-next.ensures.right;
-      one = c.earlier-next.ensures.one;
-    } in
-    let gap : Gap _ = record { before = c.args.now.now.value; left = c.knot.result.after; right = c.knot-2.result.after; from = c.args.now.now.at; to = c.earlier-next.result } in
-    let on : Follows g.P.Shape c.args.p.now c.args.q.now gap = gap_follows g.P.Shape (assumption g.met.P.Shape) c.args.p.now c.args.q.now c.len.ensures.signal c.len-2.ensures.signal c.requires.sides c.args.built.now c.args.now.now c.requires.stands c.knot.result c.knot-2.result c.knot-3.result c.knot-4.result c.earlier-next.result at c.earlier-next.result (begins_before g.P.Shape (assumption g.met.P.Shape) c.args.p.now c.args.q.now c.len.ensures.signal c.len-2.ensures.signal c.requires.sides c.args.built.now c.args.now.now c.requires.stands c.knot.result c.knot-2.result c.knot-3.result c.knot-4.result c.earlier-next.result at) (le_refl (value c.earlier-next.result)) in
-    let fact : HasCause g.P.Shape (SinceStep g.P.Shape c.args.p.now c.args.q.now) (start c.args.p.now) (stop c.args.p.now) c.in_err-turn.field-0.0 = cross_cause g.P.Shape c.args.p.now c.args.q.now gap on c.knot.result.after c.knot-2.result.after (left_plays g.P.Shape c.args.p.now c.args.q.now gap on) (right_plays g.P.Shape c.args.p.now c.args.q.now gap on) c.args.now.now.at refl c.in_err-turn.field-0.0 c.in_err-turn.ensures in
+    let on = whole_gap g (goal.at.returns-in_err-turn-clause-wide g c).After-earlier-next in
+    let fact = cross_cause on c.knot.result.after c.knot-2.result.after (left_plays on) (right_plays on)
+    c.args.now.now.at refl c.in_err-turn.field-0.0 c.in_err-turn.ensures in
     search (rules, fact)
 
 pub returns-in_err-turn-clause-pair : goal.returns-in_err-turn-clause-pair
 returns-in_err-turn-clause-pair g c =
-    let at : IsAt c.args.p.now c.args.q.now c.args.now.now c.knot.result c.knot-2.result c.knot-3.result c.knot-4.result c.earlier-next.result = record {
-      at_k = c.knot.ensures;
-      at_l = c.knot-2.ensures;
-      at_m = c.knot-3.ensures;
-      at_n = c.knot-4.ensures;
-      left = c.earlier-next.ensures.left;
-      right = c.earlier-next.ensures.right;
-      one = c.earlier-next.ensures.one;
-    } in
-    let gap : Gap _ = record { before = c.args.now.now.value; left = c.knot.result.after; right = c.knot-2.result.after; from = c.args.now.now.at; to = c.earlier-next.result } in
-    let on : Follows g.P.Shape c.args.p.now c.args.q.now gap = gap_follows g.P.Shape (assumption g.met.P.Shape) c.args.p.now c.args.q.now c.len.ensures.signal c.len-2.ensures.signal c.requires.sides c.args.built.now c.args.now.now c.requires.stands c.knot.result c.knot-2.result c.knot-3.result c.knot-4.result c.earlier-next.result at c.earlier-next.result (begins_before g.P.Shape (assumption g.met.P.Shape) c.args.p.now c.args.q.now c.len.ensures.signal c.len-2.ensures.signal c.requires.sides c.args.built.now c.args.now.now c.requires.stands c.knot.result c.knot-2.result c.knot-3.result c.knot-4.result c.earlier-next.result at) (le_refl (value c.earlier-next.result)) in
-    let fact : IsPairWithin (start c.args.p.now) (stop c.args.p.now) c.in_err-turn.field-0.0 = cross_within g.P.Shape c.args.p.now c.args.q.now gap on c.knot.result.after c.knot-2.result.after c.args.now.now.at refl c.in_err-turn.field-0.0 c.in_err-turn.ensures in
+    let on = whole_gap g (goal.at.returns-in_err-turn-clause-pair g c).After-earlier-next in
+    let fact = cross_within on c.knot.result.after c.knot-2.result.after c.args.now.now.at refl c.in_err-turn.field-0.0 c.in_err-turn.ensures in
     search (rules, fact)
 
 pub course_over-requires : goal.course_over-requires
-course_over-requires g c =
-    let at : IsAt c.args.p.now c.args.q.now c.args.now.now c.knot.result c.knot-2.result c.knot-3.result c.knot-4.result c.earlier-next.result = record {
-      at_k = c.knot.ensures;
-      at_l = c.knot-2.ensures;
-      at_m = c.knot-3.ensures;
-      at_n = c.knot-4.ensures;
-      left = c.earlier-next.ensures.left;
-      right = c.earlier-next.ensures.right;
-      one = c.earlier-next.ensures.one;
-    } in
-    is_gap g.P.Shape (assumption g.met.P.Shape) c.args.p.now c.args.q.now c.len.ensures.signal c.len-2.ensures.signal c.requires.sides c.args.built.now c.args.now.now c.requires.stands c.knot.result c.knot-2.result c.knot-3.result c.knot-4.result c.earlier-next.result at c.in_ok-turn.turn c.in_ok-turn.ensures
+course_over-requires g c = is_gap (walk g (goal.at.course_over-requires g c).After-earlier-next) c.in_ok-turn.turn c.in_ok-turn.ensures
+
+-- the gap up to the next event
+gap : (g : Over) (c : After-course_over g)
+    → Follows g.P.Shape c.args.p.now c.args.q.now (gap_to c.args.now.now c.knot.result c.knot-2.result c.in_ok-turn.turn.time)
+gap g c =
+    gap_follows (walk g (goal.at.After-course_over g c).After-earlier-next) c.in_ok-turn.turn.time c.in_ok-turn.ensures.after c.in_ok-turn.ensures.not_later
 
 pub returns-in_err-course-clause-wide : goal.returns-in_err-course-clause-wide
 returns-in_err-course-clause-wide g c =
-    let at : IsAt c.args.p.now c.args.q.now c.args.now.now c.knot.result c.knot-2.result c.knot-3.result c.knot-4.result c.earlier-next.result = record {
-      at_k = c.knot.ensures;
-      at_l = c.knot-2.ensures;
-      at_m = c.knot-3.ensures;
-      at_n = c.knot-4.ensures;
-      left = c.earlier-next.ensures.left;
-      right = c.earlier-next.ensures.right;
-      one = c.earlier-next.ensures.one;
-    } in
-    let gap : Gap _ = record { before = c.args.now.now.value; left = c.knot.result.after; right = c.knot-2.result.after; from = c.args.now.now.at; to = c.in_ok-turn.turn.time } in
-    let on : Follows g.P.Shape c.args.p.now c.args.q.now gap = gap_follows g.P.Shape (assumption g.met.P.Shape) c.args.p.now c.args.q.now c.len.ensures.signal c.len-2.ensures.signal c.requires.sides c.args.built.now c.args.now.now c.requires.stands c.knot.result c.knot-2.result c.knot-3.result c.knot-4.result c.earlier-next.result at c.in_ok-turn.turn.time c.in_ok-turn.ensures.after c.in_ok-turn.ensures.not_later in
-    let fact : HasCause g.P.Shape (SinceStep g.P.Shape c.args.p.now c.args.q.now) (start c.args.p.now) (stop c.args.p.now) c.in_err-course.field-0.0 = value_cause g.P.Shape c.args.p.now c.args.q.now gap on (since_is_function g.P.Shape.lowest g.P.Shape.highest (start c.args.p.now) (IsWorth g.P.Shape c.args.p.now) (IsWorth g.P.Shape c.args.q.now)) c.in_ok-turn.ensures.in_order c.in_err-course.field-0.0 c.in_err-course.ensures in
+    let on = gap g (goal.at.returns-in_err-course-clause-wide g c).After-course_over in
+    let fact = value_cause on c.in_ok-turn.ensures.in_order c.in_err-course.field-0.0 c.in_err-course.ensures in
     search (rules, fact)
 
 pub returns-in_err-course-clause-pair : goal.returns-in_err-course-clause-pair
 returns-in_err-course-clause-pair g c =
-    let at : IsAt c.args.p.now c.args.q.now c.args.now.now c.knot.result c.knot-2.result c.knot-3.result c.knot-4.result c.earlier-next.result = record {
-      at_k = c.knot.ensures;
-      at_l = c.knot-2.ensures;
-      at_m = c.knot-3.ensures;
-      at_n = c.knot-4.ensures;
-      left = c.earlier-next.ensures.left;
-      right = c.earlier-next.ensures.right;
-      one = c.earlier-next.ensures.one;
-    } in
-    let gap : Gap _ = record { before = c.args.now.now.value; left = c.knot.result.after; right = c.knot-2.result.after; from = c.args.now.now.at; to = c.in_ok-turn.turn.time } in
-    let on : Follows g.P.Shape c.args.p.now c.args.q.now gap = gap_follows g.P.Shape (assumption g.met.P.Shape) c.args.p.now c.args.q.now c.len.ensures.signal c.len-2.ensures.signal c.requires.sides c.args.built.now c.args.now.now c.requires.stands c.knot.result c.knot-2.result c.knot-3.result c.knot-4.result c.earlier-next.result at c.in_ok-turn.turn.time c.in_ok-turn.ensures.after c.in_ok-turn.ensures.not_later in
-    let fact : IsPairWithin (start c.args.p.now) (stop c.args.p.now) c.in_err-course.field-0.0 = value_within g.P.Shape c.args.p.now c.args.q.now gap on c.in_err-course.field-0.0 c.in_err-course.ensures in
+    let on = gap g (goal.at.returns-in_err-course-clause-pair g c).After-course_over in
+    let fact = value_within on c.in_err-course.field-0.0 c.in_err-course.ensures in
     search (rules, fact)
 
 pub join-requires-clause-order : goal.join-requires-clause-order
-join-requires-clause-order g c =
-    subst (λ t. t <ʳ value c.in_ok-turn.turn.time) (sym c.requires.stands.ends) c.in_ok-turn.ensures.after
+join-requires-clause-order g c = subst (λ t. t <ʳ value c.in_ok-turn.turn.time) (sym c.requires.stands.ends) c.in_ok-turn.ensures.after
 
 pub advance-left-requires-clause-begun : goal.advance-left-requires-clause-begun
 advance-left-requires-clause-begun g c =
-    begun_before g.P.Shape c.args.p.now c.args.now.now.left (value c.args.now.now.at) (value c.in_ok-turn.turn.time) c.requires.stands.left c.in_ok-turn.ensures.after
+    begun_before g.P.Shape c.args.p.now c.args.now.now.left (value c.args.now.now.at) (value c.in_ok-turn.turn.time) c.requires.stands.left
+    c.in_ok-turn.ensures.after
 
 pub advance-right-requires-clause-begun : goal.advance-right-requires-clause-begun
 advance-right-requires-clause-begun g c =
-    begun_before g.P.Shape c.args.q.now c.args.now.now.right (value c.args.now.now.at) (value c.in_ok-turn.turn.time) c.requires.stands.right c.in_ok-turn.ensures.after
+    begun_before g.P.Shape c.args.q.now c.args.now.now.right (value c.args.now.now.at) (value c.in_ok-turn.turn.time) c.requires.stands.right
+    c.in_ok-turn.ensures.after
 
 pub advance-left-requires-clause-next : goal.advance-left-requires-clause-next
-advance-left-requires-clause-next g c =
-    λ k e. subst (λ k. value c.in_ok-turn.turn.time ≤ʳ time k) (same_knot g.P.Shape c.args.p.now (c.args.now.now.left + 1) e c.knot-3.ensures) (le_trans c.in_ok-turn.ensures.not_later c.earlier-next.ensures.left)
+advance-left-requires-clause-next g c = λ k e.
+    subst (λ k. value c.in_ok-turn.turn.time ≤ʳ time k) (same_knot g.P.Shape c.args.p.now (c.args.now.now.left + 1) e c.knot-3.ensures)
+    (le_trans c.in_ok-turn.ensures.not_later c.earlier-next.ensures.left)
 
 pub advance-right-requires-clause-more : goal.advance-right-requires-clause-more
-advance-right-requires-clause-more g c =
-    more_knots g.P.Shape c.args.q.now c.args.now.now.right c.knot-2.result (value c.args.now.now.at) c.requires.stands.right c.knot-2.ensures
-    (lt_of_lt_of_le (c.requires.stands.left.later c.knot-3.result c.knot-3.ensures)
-    (le_trans (at_knot_within g.P.Shape c.args.p.now (c.args.now.now.left + 1) c.knot-3.result c.len.ensures.signal c.knot-3.ensures).below (le_of_same c.requires.sides.ends)))
+advance-right-requires-clause-more g c = more_right (walk g (goal.at.advance-right-requires-clause-more g c).After-earlier-next)
 
 pub advance-right-requires-clause-next : goal.advance-right-requires-clause-next
-advance-right-requires-clause-next g c =
-    λ k e. subst (λ k. value c.in_ok-turn.turn.time ≤ʳ time k) (same_knot g.P.Shape c.args.q.now (c.args.now.now.right + 1) e c.knot-4.ensures) (le_trans c.in_ok-turn.ensures.not_later c.earlier-next.ensures.right)
+advance-right-requires-clause-next g c = λ k e.
+    subst (λ k. value c.in_ok-turn.turn.time ≤ʳ time k) (same_knot g.P.Shape c.args.q.now (c.args.now.now.right + 1) e c.knot-4.ensures)
+    (le_trans c.in_ok-turn.ensures.not_later c.earlier-next.ensures.right)
 
 pub point-value-requires : goal.point-value-requires
 point-value-requires g c =
-    let at : IsAt c.args.p.now c.args.q.now c.args.now.now c.knot.result c.knot-2.result c.knot-3.result c.knot-4.result c.earlier-next.result = record {
-      at_k = c.knot.ensures;
-      at_l = c.knot-2.ensures;
-      at_m = c.knot-3.ensures;
-      at_n = c.knot-4.ensures;
-      left = c.earlier-next.ensures.left;
-      right = c.earlier-next.ensures.right;
-      one = c.earlier-next.ensures.one;
-    } in
-    gap_within g.P.Shape (assumption g.met.P.Shape) c.args.p.now c.args.q.now c.len.ensures.signal c.len-2.ensures.signal c.requires.sides c.args.built.now c.args.now.now c.requires.stands c.knot.result c.knot-2.result c.knot-3.result c.knot-4.result c.earlier-next.result at (value c.in_ok-turn.turn.time) (le_of_lt c.in_ok-turn.ensures.after) c.in_ok-turn.ensures.not_later
+    gap_within (walk g (goal.at.point-value-requires g c).After-earlier-next)
+    (value c.in_ok-turn.turn.time) (le_of_lt c.in_ok-turn.ensures.after) c.in_ok-turn.ensures.not_later
 
 pub join-requires-clause-from_within : goal.join-requires-clause-from_within
 join-requires-clause-from_within g c =
-    let at : IsAt c.args.p.now c.args.q.now c.args.now.now c.knot.result c.knot-2.result c.knot-3.result c.knot-4.result c.earlier-next.result = record {
-      at_k = c.knot.ensures;
-      at_l = c.knot-2.ensures;
-      at_m = c.knot-3.ensures;
-      at_n = c.knot-4.ensures;
-      left = c.earlier-next.ensures.left;
-      right = c.earlier-next.ensures.right;
-      one = c.earlier-next.ensures.one;
-    } in
-    subst (IsWithin (2 ^ 34)) (sym c.requires.stands.ends) (gap_within g.P.Shape (assumption g.met.P.Shape) c.args.p.now c.args.q.now c.len.ensures.signal c.len-2.ensures.signal c.requires.sides c.args.built.now c.args.now.now c.requires.stands c.knot.result c.knot-2.result c.knot-3.result c.knot-4.result c.earlier-next.result at (value c.args.now.now.at) (le_refl (value c.args.now.now.at)) (le_of_lt (begins_before g.P.Shape (assumption g.met.P.Shape) c.args.p.now c.args.q.now c.len.ensures.signal c.len-2.ensures.signal c.requires.sides c.args.built.now c.args.now.now c.requires.stands c.knot.result c.knot-2.result c.knot-3.result c.knot-4.result c.earlier-next.result at)))
+    subst (IsWithin (2 ^ 34)) (sym c.requires.stands.ends) (starts_within (walk g (goal.at.join-requires-clause-from_within g c).After-earlier-next))
 
 pub join-requires-clause-to_within : goal.join-requires-clause-to_within
 join-requires-clause-to_within g c =
-    let at : IsAt c.args.p.now c.args.q.now c.args.now.now c.knot.result c.knot-2.result c.knot-3.result c.knot-4.result c.earlier-next.result = record {
-      at_k = c.knot.ensures;
-      at_l = c.knot-2.ensures;
-      at_m = c.knot-3.ensures;
-      at_n = c.knot-4.ensures;
-      left = c.earlier-next.ensures.left;
-      right = c.earlier-next.ensures.right;
-      one = c.earlier-next.ensures.one;
-    } in
-    gap_within g.P.Shape (assumption g.met.P.Shape) c.args.p.now c.args.q.now c.len.ensures.signal c.len-2.ensures.signal c.requires.sides c.args.built.now c.args.now.now c.requires.stands c.knot.result c.knot-2.result c.knot-3.result c.knot-4.result c.earlier-next.result at (value c.in_ok-turn.turn.time) (le_of_lt c.in_ok-turn.ensures.after) c.in_ok-turn.ensures.not_later
+    gap_within (walk g (goal.at.join-requires-clause-to_within g c).After-earlier-next)
+    (value c.in_ok-turn.turn.time) (le_of_lt c.in_ok-turn.ensures.after) c.in_ok-turn.ensures.not_later
 
 pub join-requires-clause-first : goal.join-requires-clause-first
 join-requires-clause-first g c =
-    let at : IsAt c.args.p.now c.args.q.now c.args.now.now c.knot.result c.knot-2.result c.knot-3.result c.knot-4.result c.earlier-next.result = record {
-      at_k = c.knot.ensures;
-      at_l = c.knot-2.ensures;
-      at_m = c.knot-3.ensures;
-      at_n = c.knot-4.ensures;
-      left = c.earlier-next.ensures.left;
-      right = c.earlier-next.ensures.right;
-      one = c.earlier-next.ensures.one;
-    } in
-    played_level g.P.Shape (assumption g.met.P.Shape) c.args.p.now c.args.q.now c.len.ensures.signal c.len-2.ensures.signal c.requires.sides c.args.built.now c.args.now.now c.requires.stands c.knot.result c.knot-2.result c.knot-3.result c.knot-4.result c.earlier-next.result at c.in_ok-turn.turn.time c.in_ok-course.course.first c.in_ok-course.ensures.first
+    played_level (walk g (goal.at.join-requires-clause-first g c).After-earlier-next) c.in_ok-turn.turn.time c.in_ok-course.course.first
+    c.in_ok-course.ensures.first
 
 pub join-requires-clause-second : goal.join-requires-clause-second
 join-requires-clause-second g c =
-    let at : IsAt c.args.p.now c.args.q.now c.args.now.now c.knot.result c.knot-2.result c.knot-3.result c.knot-4.result c.earlier-next.result = record {
-      at_k = c.knot.ensures;
-      at_l = c.knot-2.ensures;
-      at_m = c.knot-3.ensures;
-      at_n = c.knot-4.ensures;
-      left = c.earlier-next.ensures.left;
-      right = c.earlier-next.ensures.right;
-      one = c.earlier-next.ensures.one;
-    } in
-    played_level g.P.Shape (assumption g.met.P.Shape) c.args.p.now c.args.q.now c.len.ensures.signal c.len-2.ensures.signal c.requires.sides c.args.built.now c.args.now.now c.requires.stands c.knot.result c.knot-2.result c.knot-3.result c.knot-4.result c.earlier-next.result at c.in_ok-turn.turn.time c.in_ok-course.course.second c.in_ok-course.ensures.second
+    played_level (walk g (goal.at.join-requires-clause-second g c).After-earlier-next) c.in_ok-turn.turn.time
+    c.in_ok-course.course.second c.in_ok-course.ensures.second
 
 pub returns-in_err-join-clause-wide : goal.returns-in_err-join-clause-wide
 returns-in_err-join-clause-wide g c =
-    let at : IsAt c.args.p.now c.args.q.now c.args.now.now c.knot.result c.knot-2.result c.knot-3.result c.knot-4.result c.earlier-next.result = record {
-      at_k = c.knot.ensures;
-      at_l = c.knot-2.ensures;
-      at_m = c.knot-3.ensures;
-      at_n = c.knot-4.ensures;
-      left = c.earlier-next.ensures.left;
-      right = c.earlier-next.ensures.right;
-      one = c.earlier-next.ensures.one;
-    } in
-    let gap : Gap _ = record { before = c.args.now.now.value; left = c.knot.result.after; right = c.knot-2.result.after; from = c.args.now.now.at; to = c.in_ok-turn.turn.time } in
-    let on : Follows g.P.Shape c.args.p.now c.args.q.now gap = gap_follows g.P.Shape (assumption g.met.P.Shape) c.args.p.now c.args.q.now c.len.ensures.signal c.len-2.ensures.signal c.requires.sides c.args.built.now c.args.now.now c.requires.stands c.knot.result c.knot-2.result c.knot-3.result c.knot-4.result c.earlier-next.result at c.in_ok-turn.turn.time c.in_ok-turn.ensures.after c.in_ok-turn.ensures.not_later in
-    let w = c.in_err-join.ensures.wide in
-    let fact : HasCause g.P.Shape (SinceStep g.P.Shape c.args.p.now c.args.q.now) (start c.args.p.now) (stop c.args.p.now) c.in_err-join.field-0.0 = cross_cause g.P.Shape c.args.p.now c.args.q.now gap on c.in_ok-course.course.first c.in_ok-course.course.second (played g.P.Shape c.args.p.now c.args.q.now gap on (since_is_function g.P.Shape.lowest g.P.Shape.highest (start c.args.p.now) (IsWorth g.P.Shape c.args.p.now) (IsWorth g.P.Shape c.args.q.now)) c.in_ok-turn.ensures.in_order c.in_ok-course.course.first c.in_ok-course.ensures.first) (played g.P.Shape c.args.p.now c.args.q.now gap on (since_is_function g.P.Shape.lowest g.P.Shape.highest (start c.args.p.now) (IsWorth g.P.Shape c.args.p.now) (IsWorth g.P.Shape c.args.q.now)) c.in_ok-turn.ensures.in_order c.in_ok-course.course.second c.in_ok-course.ensures.second) w.0 (w.1 ∙ c.requires.stands.ends) c.in_err-join.field-0.0 w.2 in
+    let on = gap g (goal.at.returns-in_err-join-clause-wide g c).After-course_over in
+    let w = c.in_err-join.ensures.wide in let course = c.in_ok-course.course in let order = c.in_ok-turn.ensures.in_order in
+    let fact = cross_cause on course.first course.second (played on order course.first c.in_ok-course.ensures.first)
+    (played on order course.second c.in_ok-course.ensures.second) w.0 (w.1 ∙ c.requires.stands.ends) c.in_err-join.field-0.0 w.2 in
     search (rules, fact)
 
 pub returns-in_err-join-clause-pair : goal.returns-in_err-join-clause-pair
 returns-in_err-join-clause-pair g c =
-    let at : IsAt c.args.p.now c.args.q.now c.args.now.now c.knot.result c.knot-2.result c.knot-3.result c.knot-4.result c.earlier-next.result = record {
-      at_k = c.knot.ensures;
-      at_l = c.knot-2.ensures;
-      at_m = c.knot-3.ensures;
-      at_n = c.knot-4.ensures;
-      left = c.earlier-next.ensures.left;
-      right = c.earlier-next.ensures.right;
-      one = c.earlier-next.ensures.one;
-    } in
-    let gap : Gap _ = record { before = c.args.now.now.value; left = c.knot.result.after; right = c.knot-2.result.after; from = c.args.now.now.at; to = c.in_ok-turn.turn.time } in
-    let on : Follows g.P.Shape c.args.p.now c.args.q.now gap = gap_follows g.P.Shape (assumption g.met.P.Shape) c.args.p.now c.args.q.now c.len.ensures.signal c.len-2.ensures.signal c.requires.sides c.args.built.now c.args.now.now c.requires.stands c.knot.result c.knot-2.result c.knot-3.result c.knot-4.result c.earlier-next.result at c.in_ok-turn.turn.time c.in_ok-turn.ensures.after c.in_ok-turn.ensures.not_later in
+    let on = gap g (goal.at.returns-in_err-join-clause-pair g c).After-course_over in
     let w = c.in_err-join.ensures.wide in
-    let fact : IsPairWithin (start c.args.p.now) (stop c.args.p.now) c.in_err-join.field-0.0 = cross_within g.P.Shape c.args.p.now c.args.q.now gap on c.in_ok-course.course.first c.in_ok-course.course.second w.0 (w.1 ∙ c.requires.stands.ends) c.in_err-join.field-0.0 w.2 in
+    let fact = cross_within on c.in_ok-course.course.first c.in_ok-course.course.second w.0 (w.1 ∙ c.requires.stands.ends) c.in_err-join.field-0.0 w.2 in
     search (rules, fact)
+
+-- the next event
+event : (g : Over) (c : After-join g)
+    → IsNext g.P.Shape c.args.p.now c.args.q.now c.args.now.now c.knot.result c.knot-2.result c.earlier-next.result
+    c.in_ok-turn.turn c.in_ok-course.course c.advance-left.result c.advance-right.result c.point-value.result
+event g c = record {
+  turning = c.in_ok-turn.ensures;
+  goes = c.in_ok-course.ensures;
+  left = record {
+    place = c.advance-left.ensures.place;
+    worth = c.advance-left.ensures.worth;
+    of = c.advance-left.ensures.shape;
+    moved = c.advance-left.ensures.moved;
+  };
+  right = record {
+    place = c.advance-right.ensures.place;
+    worth = c.advance-right.ensures.worth;
+    of = c.advance-right.ensures.shape;
+    moved = c.advance-right.ensures.moved;
+  };
+  one = c.point-value.ensures.one;
+  point = c.point-value.ensures.value;
+}
 
 pub returns-clause-ok : goal.returns-clause-ok
 returns-clause-ok g c =
-    let at : IsAt c.args.p.now c.args.q.now c.args.now.now c.knot.result c.knot-2.result c.knot-3.result c.knot-4.result c.earlier-next.result = record {
-      at_k = c.knot.ensures;
-      at_l = c.knot-2.ensures;
-      at_m = c.knot-3.ensures;
-      at_n = c.knot-4.ensures;
-      left = c.earlier-next.ensures.left;
-      right = c.earlier-next.ensures.right;
-      one = c.earlier-next.ensures.one;
-    } in
-    let left : IsRead g.P.Shape c.args.p.now c.args.now.now.left (value c.in_ok-turn.turn.time) c.advance-left.result.place c.advance-left.result.shape = record {
-      place = c.advance-left.ensures.place;
-      worth = c.advance-left.ensures.worth;
-      of = c.advance-left.ensures.shape;
-      moved = c.advance-left.ensures.moved;
-    } in
-    let right : IsRead g.P.Shape c.args.q.now c.args.now.now.right (value c.in_ok-turn.turn.time) c.advance-right.result.place c.advance-right.result.shape = record {
-      place = c.advance-right.ensures.place;
-      worth = c.advance-right.ensures.worth;
-      of = c.advance-right.ensures.shape;
-      moved = c.advance-right.ensures.moved;
-    } in
-    walked g.P.Shape (assumption g.met.P.Shape) c.args.p.now c.args.q.now c.len.ensures.signal c.len-2.ensures.signal c.requires.sides c.args.built.now c.args.now.now c.requires.stands c.knot.result c.knot-2.result c.knot-3.result c.knot-4.result c.earlier-next.result at c.in_ok-turn.turn c.in_ok-turn.ensures c.in_ok-course.course c.in_ok-course.ensures c.advance-left.result.place c.advance-right.result.place c.advance-left.result.shape c.advance-right.result.shape c.point-value.result left right c.point-value.ensures.one c.point-value.ensures.value c.join.new.self c.in_ok-join.ensures.ok
+    let at = goal.at.returns-clause-ok g c in
+    walked (walk g at.After-earlier-next) (event g at.After-join) c.join.new.self c.in_ok-join.ensures.ok
 
 pub returns-clause-nearer : goal.returns-clause-nearer
 returns-clause-nearer g c =
-    let at : IsAt c.args.p.now c.args.q.now c.args.now.now c.knot.result c.knot-2.result c.knot-3.result c.knot-4.result c.earlier-next.result = record {
-      at_k = c.knot.ensures;
-      at_l = c.knot-2.ensures;
-      at_m = c.knot-3.ensures;
-      at_n = c.knot-4.ensures;
-      left = c.earlier-next.ensures.left;
-      right = c.earlier-next.ensures.right;
-      one = c.earlier-next.ensures.one;
-    } in
-    let left : IsRead g.P.Shape c.args.p.now c.args.now.now.left (value c.in_ok-turn.turn.time) c.advance-left.result.place c.advance-left.result.shape = record {
-      place = c.advance-left.ensures.place;
-      worth = c.advance-left.ensures.worth;
-      of = c.advance-left.ensures.shape;
-      moved = c.advance-left.ensures.moved;
-    } in
-    let right : IsRead g.P.Shape c.args.q.now c.args.now.now.right (value c.in_ok-turn.turn.time) c.advance-right.result.place c.advance-right.result.shape = record {
-      place = c.advance-right.ensures.place;
-      worth = c.advance-right.ensures.worth;
-      of = c.advance-right.ensures.shape;
-      moved = c.advance-right.ensures.moved;
-    } in
-    nearer g.P.Shape (assumption g.met.P.Shape) c.args.p.now c.args.q.now c.len.ensures.signal c.len-2.ensures.signal c.requires.sides c.args.built.now c.args.now.now c.requires.stands c.knot.result c.knot-2.result c.knot-3.result c.knot-4.result c.earlier-next.result at c.in_ok-turn.turn c.in_ok-turn.ensures c.in_ok-course.course c.in_ok-course.ensures c.advance-left.result.place c.advance-right.result.place c.advance-left.result.shape c.advance-right.result.shape c.point-value.result left right c.point-value.ensures.one c.point-value.ensures.value c.requires.more
-    (more_knots g.P.Shape c.args.q.now c.args.now.now.right c.knot-2.result (value c.args.now.now.at) c.requires.stands.right c.knot-2.ensures
-    (lt_of_lt_of_le (c.requires.stands.left.later c.knot-3.result c.knot-3.ensures)
-    (le_trans (at_knot_within g.P.Shape c.args.p.now (c.args.now.now.left + 1) c.knot-3.result c.len.ensures.signal c.knot-3.ensures).below (le_of_same c.requires.sides.ends))))
+    let at = goal.at.returns-clause-nearer g c in
+    let w = walk g at.After-earlier-next in
+    nearer w (event g at.After-join) c.requires.more (more_right w)

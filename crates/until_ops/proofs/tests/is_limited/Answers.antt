@@ -11,7 +11,8 @@ use Rattle.pl_signal.specs.Knots.{IsWorth}
 use Rattle.pl_signal.proofs.Limits.{limited}
 use Rattle.until_ops.proofs.tests.is_limited.Goals as goal
 
-small_values : {P : Type 0} (shape : ShapeOf P) → ((x : P) (t : Rational) → IsBounded (2 ^ 31) (value_at (shape.function x) t)) → (ks : List (Knot P)) → HasBounded (2 ^ 31) (IsWorth shape ks)
+small_values : {P : Type 0} (shape : ShapeOf P) → ((x : P) (t : Rational) → IsBounded (2 ^ 31) (value_at (shape.function x) t)) → (ks : List (Knot P))
+    → HasBounded (2 ^ 31) (IsWorth shape ks)
 small_values shape small [] t v w = absurd w
 small_values shape small (k ∷ ks) t v (inl w) = bounded_same (2 ^ 31) v (value_at (shape.function k.point) t) w.worth (small k.point t)
 small_values shape small (k ∷ []) t v (inr (inl w)) = absurd w
@@ -20,4 +21,5 @@ small_values shape small (k ∷ ks) t v (inr (inr w)) = small_values shape small
 
 pub returns : goal.returns
 returns g c = λ h. limited g.P.Shape c.args.s.now c.start.ensures.signal (small_values g.P.Shape c.requires c.args.s.now)
-    (subst (IsWithin (2 ^ 34)) c.start.ensures.value (c.if-not-is_near.ensures refl)) (subst (IsWithin (2 ^ 34)) c.stop.ensures.value (c.if-not-is_near-2.ensures refl))
+    (subst (IsWithin (2 ^ 34)) c.start.ensures.value (c.if-not-is_near.ensures refl))
+    (subst (IsWithin (2 ^ 34)) c.stop.ensures.value (c.if-not-is_near-2.ensures refl))

@@ -14,5 +14,7 @@ returns-in_err-taken-clause-wide g c =
 pub returns-clause-ok : goal.returns-clause-ok
 returns-clause-ok g c =
     joins g.P.Shape c.args.side c.args.self.now c.put_pieces.new.knots.items c.args.p.now c.args.q.now c.args.point c.args.to.now c.in_ok-taken.taken
-    (subst (λ s. IsPieces g.P.Shape c.args.side c.args.p.now c.args.q.now s (value c.args.to.now) c.in_ok-taken.taken) c.stop-from.ensures.value c.in_ok-taken.ensures)
-    (subst (λ ks. Continues g.P.Shape ks c.in_ok-taken.taken c.args.to.now c.args.point c.put_pieces.new.knots.items) (c.reserve.ensures.items ∙ c.self.view_is) c.put_pieces.ensures)
+    (subst (λ s. IsPieces g.P.Shape c.args.side c.args.p.now c.args.q.now s (value c.args.to.now) c.in_ok-taken.taken) c.stop-from.ensures.value
+    c.in_ok-taken.ensures)
+    (subst (λ ks. Continues g.P.Shape ks c.in_ok-taken.taken c.args.to.now c.args.point c.put_pieces.new.knots.items)
+    (c.reserve.ensures.items ∙ c.self.view_is) c.put_pieces.ensures)

@@ -8,19 +8,23 @@ use Rattle.pl_signal.proofs.Places.{later_than, place_next, place_stays}
 use Rattle.pl_signal.proofs.signal.Signal.advance.Goals as goal
 
 pub returns-in-Equal-clause-place : goal.returns-in-Equal-clause-place
-returns-in-Equal-clause-place g c = place_next g.P.Shape c.args.self.now c.args.place c.knot-next.result (value c.args.to.now) c.len.ensures.signal c.requires.more c.knot-next.ensures c.in-Equal.ensures
+returns-in-Equal-clause-place g c = place_next g.P.Shape c.args.self.now c.args.place c.knot-next.result
+    (value c.args.to.now) c.len.ensures.signal c.requires.more c.knot-next.ensures c.in-Equal.ensures
 
 pub returns-in-Equal-clause-shape : goal.returns-in-Equal-clause-shape
 returns-in-Equal-clause-shape g c = shape_at g.P.Shape c.args.self.now (c.args.place + 1) c.knot-next.result c.knot-next.ensures
 
 pub returns-in-Equal-clause-worth : goal.returns-in-Equal-clause-worth
-returns-in-Equal-clause-worth g c = worth_at g.P.Shape c.args.self.now (c.args.place + 1) c.knot-next.result (value c.args.to.now) c.knot-next.ensures (same_sym c.in-Equal.ensures)
+returns-in-Equal-clause-worth g c = worth_at g.P.Shape c.args.self.now (c.args.place + 1) c.knot-next.result (value c.args.to.now) c.knot-next.ensures
+    (same_sym c.in-Equal.ensures)
 
 pub returns : goal.returns
 returns g c =
-    let before : value c.args.to.now <ʳ time c.knot-next.result = later_than c.cmp.result c.cmp.ensures (c.requires.next c.knot-next.result c.knot-next.ensures) c.in_default.not-Equal in
+    let before : value c.args.to.now <ʳ time c.knot-next.result =
+    later_than c.cmp.result c.cmp.ensures (c.requires.next c.knot-next.result c.knot-next.ensures) c.in_default.not-Equal in
     let inside : c.args.place < length c.args.self.now = let more = c.requires.more in omega arith in
-    let stays = place_stays g.P.Shape c.args.self.now c.args.place c.knot-next.result (value c.args.to.now) inside c.requires.begun c.knot-next.ensures before in
+    let stays = place_stays g.P.Shape c.args.self.now c.args.place c.knot-next.result
+    (value c.args.to.now) inside c.requires.begun c.knot-next.ensures before in
     record {
       place = stays;
       shape = shape_after g.P.Shape c.args.self.now c.args.place c.knot.result c.knot.ensures;

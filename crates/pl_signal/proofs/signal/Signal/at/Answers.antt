@@ -13,7 +13,8 @@ returns-in-Equal g c =
     slice_get_read c.self.inside.knots.items (length c.self.inside.knots.items) c.place_of-place.result c.index-knot.result.now refl
     (subst (λ ks. c.place_of-place.result < length ks) c.deref.ensures.value c.place_of-place.ensures.inside) c.index-knot.ensures in
     subst (λ ks. IsReading g.P.Shape ks (value c.args.t.now) c.index-knot.result.now.point) c.self.view_is
-    (read_point g.P.Shape c.self.inside.knots.items c.place_of-place.result c.index-knot.result.now (value c.args.t.now) c.self.invariant here c.in-Equal.ensures)
+    (read_point g.P.Shape c.self.inside.knots.items c.place_of-place.result c.index-knot.result.now
+    (value c.args.t.now) c.self.invariant here c.in-Equal.ensures)
 
 pub returns-then-place-len : goal.returns-then-place-len
 returns-then-place-len g c =
@@ -22,7 +23,9 @@ returns-then-place-len g c =
     (subst (λ ks. c.place_of-place.result < length ks) c.deref.ensures.value c.place_of-place.ensures.inside) c.index-knot.ensures in
     let last : length c.self.inside.knots.items ≡ c.place_of-place.result + 1 = omega arith in
     let order : time c.index-knot.result.now <ʳ value c.args.t.now =
-    earlier c.cmp-2.result c.cmp-2.ensures (c.place_of-place.ensures.not_later c.index-knot.result.now (subst (λ ks. slice_get ks c.place_of-place.result ≡ Some c.index-knot.result.now) (sym c.deref.ensures.value) here)) c.in_default-cmp.not-Equal in
+    earlier c.cmp-2.result c.cmp-2.ensures
+    (c.place_of-place.ensures.not_later c.index-knot.result.now
+    (subst (λ ks. slice_get ks c.place_of-place.result ≡ Some c.index-knot.result.now) (sym c.deref.ensures.value) here)) c.in_default-cmp.not-Equal in
     subst (λ ks. ¬ (Within (start ks) (stop ks) (value c.args.t.now))) c.self.view_is
     (read_none g.P.Shape c.self.inside.knots.items c.place_of-place.result c.index-knot.result.now (value c.args.t.now) here last order)
 
@@ -31,9 +34,12 @@ returns g c =
     let here : slice_get c.self.inside.knots.items c.place_of-place.result ≡ Some c.index-knot.result.now =
     slice_get_read c.self.inside.knots.items (length c.self.inside.knots.items) c.place_of-place.result c.index-knot.result.now refl
     (subst (λ ks. c.place_of-place.result < length ks) c.deref.ensures.value c.place_of-place.ensures.inside) c.index-knot.ensures in
-    let more : c.place_of-place.result + 1 < length c.self.inside.knots.items = let n = c.if-place-len.false in let l = c.place_of-place.ensures.inside in let d = c.deref.ensures.len in let m = c.len.ensures in omega arith in
+    let more : c.place_of-place.result + 1 < length c.self.inside.knots.items = let n = c.if-place-len.false in let l =
+    c.place_of-place.ensures.inside in let d = c.deref.ensures.len in let m = c.len.ensures in omega arith in
     let order : time c.index-knot.result.now <ʳ value c.args.t.now =
-    earlier c.cmp-2.result c.cmp-2.ensures (c.place_of-place.ensures.not_later c.index-knot.result.now (subst (λ ks. slice_get ks c.place_of-place.result ≡ Some c.index-knot.result.now) (sym c.deref.ensures.value) here)) c.in_default-cmp.not-Equal in
+    earlier c.cmp-2.result c.cmp-2.ensures
+    (c.place_of-place.ensures.not_later c.index-knot.result.now
+    (subst (λ ks. slice_get ks c.place_of-place.result ≡ Some c.index-knot.result.now) (sym c.deref.ensures.value) here)) c.in_default-cmp.not-Equal in
     subst (λ ks. IsReading g.P.Shape ks (value c.args.t.now) c.index-knot.result.now.after) c.self.view_is
     (read_after g.P.Shape c.self.inside.knots.items c.place_of-place.result c.index-knot.result.now (value c.args.t.now) c.self.invariant here more order
     (λ n h. c.place_of-place.ensures.later n (subst (λ ks. slice_get ks (c.place_of-place.result + 1) ≡ Some n) (sym c.deref.ensures.value) h)))

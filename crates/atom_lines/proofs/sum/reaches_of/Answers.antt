@@ -1,0 +1,33 @@
+use Rattle.std.proofs.Common.{rules, ◌≡◌, ◌<◌, ◌+ℤ◌, ◌*ℤ◌, List, pos, false, length, get_or, subst, to_z, of_z}
+use Rattle.std.specs.Int.{w64}
+use Rattle.std.proofs.lemmas.Int.{to_z-of_z}
+use Rattle.atom_lines.specs.declared.tied.BoundTerm.{BoundTerm}
+use Rattle.atom_lines.specs.Sums.{sum_over, cell}
+use Rattle.atom_lines.proofs.Adding.{add_term, size_more}
+use Rattle.atom_lines.proofs.sum.reaches_of.Goals as goal
+
+pub loop-term-preserved : goal.loop-term-preserved
+loop-term-preserved g c =
+    let terms = c.args.atom.now.terms.items in
+    let first = g.C.Cells.values c.args.first.now in
+    let second = g.C.Cells.values c.args.second.now in
+    let i = c.loop-term.term-index in
+    let d : BoundTerm = record { coef = pos 0; column = 0; step = false } in
+    let v = c.term_values-there in
+    let to = to_z w64 c.loop-term.to-bits in
+    let to_more = to_z w64 (of_z w64 (to +ℤ to_z w64 (of_z w64 v.result.0))) in
+    let next = to_z w64 c.loop-term.next-bits in
+    let next_more = to_z w64 (of_z w64 (next +ℤ to_z w64 (of_z w64 v.result.1))) in
+    let more_to : to_more ≡ to +ℤ v.result.0 = search (rules, to_z-of_z) in
+    let more_next : next_more ≡ next +ℤ v.result.1 = search (rules, to_z-of_z) in
+    let within : i < length terms = subst (λ xs. i < length xs) c.deref-term-items.ensures.value c.loop-term-test.true in
+    let value_to : v.result.0 ≡ (get_or terms i d).coef *ℤ cell (get_or terms i d) first second =
+        subst (λ (xs : List BoundTerm). v.result.0 ≡ (get_or xs i d).coef *ℤ cell (get_or xs i d) first second) c.deref-term-items.ensures.value v.ensures.to in
+    let value_next : v.result.1 ≡ (get_or terms i d).coef *ℤ cell (get_or terms i d) second second =
+        subst (λ (xs : List BoundTerm). v.result.1 ≡ (get_or xs i d).coef *ℤ cell (get_or xs i d) second second) c.deref-term-items.ensures.value v.ensures.next in
+    record {
+      to = add_term terms i d first second to v.result.0 to_more (sum_over terms first second) within value_to c.loop-term.invariant.to more_to;
+      next = add_term terms i d second second next v.result.1 next_more (sum_over terms second second) within value_next c.loop-term.invariant.next more_next;
+      small_to = size_more to v.result.0 to_more i 268435456 c.loop-term.invariant.small_to v.ensures.small_to more_to;
+      small_next = size_more next v.result.1 next_more i 268435456 c.loop-term.invariant.small_next v.ensures.small_next more_next;
+    }

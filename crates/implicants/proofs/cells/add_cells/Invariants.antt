@@ -1,0 +1,5 @@
+use Rattle.implicants.proofs.Listing.{IsListed}
+use Rattle.implicants.proofs.cells.add_cells.Given as goal
+
+abbrev pub invariant-loop-k : goal.invariant-loop-k
+invariant-loop-k l = IsListed l.formula.nodes l.trace l.node l.signal l.times l.fn.items.items l.k l.place l.items.items

@@ -1,0 +1,7 @@
+pub mod Keeping
+pub mod Runs
+pub mod Certainty
+pub mod Signals
+pub mod Cuts
+pub mod Explaining
+pub mod Counting

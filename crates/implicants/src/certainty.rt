@@ -1,0 +1,190 @@
+//! What some of the cells leave certain: Kleene's three values.
+ghost use Rattle.std.specs.Prelude.{◌≡◌, ◌<◌, ◌≤◌, ◌+◌, ◌^◌, length, Some, slice_get, slice_index_or, IfOk, OnOk};
+ghost use Rattle.rational.specs.Rational.{IsWithin};
+ghost use Rattle.pl_signal.specs.Knots.{stop};
+ghost use Rattle.stl_syntax.specs.declared.atom.Atom.{Atom};
+ghost use Rattle.stl_syntax.specs.declared.items.Item.{Item as Cell};
+ghost use Rattle.stl_syntax.specs.declared.node.Node.TheVariants.{Atom as Leaf};
+ghost use Rattle.implicants.specs.Runs.{begins, AreAllCells};
+ghost use Rattle.implicants.specs.Keeping.{remaining, TellsFailure};
+ghost use Rattle.implicants.specs.Certainty.{stays, known_at, is_false, EndsAt, IsAtomCertainty, AreAtomCertainties};
+
+use crate::cells::Cells;
+use crate::trace_ends::{first, last, tick};
+use frac128::{Memory, Steps};
+use offline_eval::laws::told_have_values;
+use offline_eval::{Atoms, EvalFault, eval};
+use pl_signal::{Builder, Signal};
+use std::alloc::Global;
+use std::sync::ledger::Ledger;
+use stl_syntax::{Formula, Item, Node};
+use trace_reader::Trace;
+use value_laws::{Kleene, Shape};
+
+/// What a cell says of its atom where it stays; else nothing.
+fn shape_of(cell: &Item, stays: bool) -> Kleene
+    ensures { result.known ≡ known_at stays cell.now }
+{
+    if stays {
+        return Kleene::of(Some(cell.holds));
+    }
+    Kleene::of(None)
+}
+
+/// What the cell at place `c` says of its atom, if it is among the first `left` cells or is kept; else nothing.
+fn shape_at(cells: &Cells, left: usize, kept: &[bool], c: usize) -> Kleene
+    requires within { c < length cells.now.all.items }
+    requires marks { length kept.now ≡ length cells.now.all.items }
+    ensures { (e : Cell) → slice_get cells.now.all.items c ≡ Some e → result.known ≡ known_at (stays left kept.now c) e }
+{
+    let here = c < left || kept[c];
+    shape_of(&cells.all[c], here)
+}
+
+/// Ends a signal at `to`; behind the last cell nothing is known.
+fn ended(mut signal: Builder<Kleene>, to: u32) -> Result<Signal<Kleene>, Memory>
+    requires { IsWithin (2 ^ 34) (stop signal) }
+    ensures { IfOk result (EndsAt ⟦<Kleene as Shape>⟧ to signal) }
+{
+    let at = tick(to);
+    if signal.stop().cmp(&at).is_lt() {
+        let unknown = Kleene::of(None);
+        signal.step(unknown, at, unknown)?;
+        return Ok(signal.finish());
+    }
+    Ok(signal.finish())
+}
+
+/// Where the cells of the node at place `i` begin.
+fn begin_of(cells: &Cells, i: u32) -> usize
+    requires { i < length cells.now.ends.items }
+    ensures { result ≡ begins cells.now.ends.items i }
+{
+    if i == 0 {
+        return 0;
+    }
+    cells.ends[i as usize - 1]
+}
+
+/// The three-valued signal of the atom at place `i`.
+fn atom_of(
+    alloc: Global,
+    formula: &Formula,
+    trace: &Trace,
+    cells: &Cells,
+    i: u32,
+    left: usize,
+    kept: &[bool],
+) -> Result<Signal<Kleene>, Memory>
+    requires some { 0 < length trace.now.rows }
+    requires cells { AreAllCells formula.now.nodes trace.now cells.now.all.items cells.now.ends.items }
+    requires marks { length kept.now ≡ length cells.now.all.items }
+    requires atom { (a : Atom) × (slice_get formula.now.nodes i ≡ Some (Leaf a)) }
+    ensures { IfOk result (IsAtomCertainty ⟦<Kleene as Shape>⟧ formula.now.nodes trace.now
+        (remaining left kept.now cells.now.all.items) i) }
+{
+    let _ = (trace.rows(), first(trace));
+    let stop = last(trace);
+    let from = begin_of(cells, i);
+    let to = cells.ends[i as usize];
+    let start = shape_at(cells, left, kept, from);
+    let mut signal = Builder::start(alloc, cells.all[from].on.from, start)?;
+    let mut c = from + 1;
+    while to - c > 1 {
+        let gap = shape_at(cells, left, kept, c);
+        let point = shape_at(cells, left, kept, c + 1);
+        signal.step(gap, cells.all[c + 1].on.from, point)?;
+        c += 2;
+    }
+    ended(signal, stop)
+}
+
+/// Adds the three-valued signal of the node at place `i`, where it is an atom.
+fn add_atom(
+    alloc: Global,
+    formula: &Formula,
+    trace: &Trace,
+    cells: &Cells,
+    i: u32,
+    left: usize,
+    kept: &[bool],
+    atoms: &mut Atoms<Kleene>,
+) -> Result<(), Memory>
+    requires some { 0 < length trace.now.rows }
+    requires cells { AreAllCells formula.now.nodes trace.now cells.now.all.items cells.now.ends.items }
+    requires marks { length kept.now ≡ length cells.now.all.items }
+    requires inside { i < length formula.now.nodes }
+    requires before { AreAtomCertainties ⟦<Kleene as Shape>⟧ formula.now.nodes trace.now
+        (remaining left kept.now cells.now.all.items) i atoms.old }
+    ensures { OnOk result (AreAtomCertainties ⟦<Kleene as Shape>⟧ formula.now.nodes trace.now
+        (remaining left kept.now cells.now.all.items) (i + 1) atoms.new) }
+{
+    match formula.node(i) {
+        Node::Atom(_) => {
+            let signal = atom_of(alloc, formula, trace, cells, i, left, kept)?;
+            atoms.add(signal)
+        }
+        _ => Ok(()),
+    }
+}
+
+/// The three-valued signals of the atoms.
+fn atoms_of(
+    alloc: Global,
+    formula: &Formula,
+    trace: &Trace,
+    cells: &Cells,
+    left: usize,
+    kept: &[bool],
+) -> Result<Atoms<Kleene>, Memory>
+    requires some { 0 < length trace.now.rows }
+    requires cells { AreAllCells formula.now.nodes trace.now cells.now.all.items cells.now.ends.items }
+    requires marks { length kept.now ≡ length cells.now.all.items }
+    ensures { IfOk result (AreAtomCertainties ⟦<Kleene as Shape>⟧ formula.now.nodes trace.now
+        (remaining left kept.now cells.now.all.items) (length formula.now.nodes)) }
+{
+    let mut atoms = Atoms::new(alloc);
+    for i in 0..formula.len() {
+        add_atom(alloc, formula, trace, cells, i, left, kept, &mut atoms)?;
+    }
+    Ok(atoms)
+}
+
+/// Whether the value is certainly false.
+fn is_known_false(value: &Kleene) -> bool
+    ensures { result ≡ is_false value.now.known }
+{
+    match value.known() {
+        Some(holds) => !holds,
+        None => false,
+    }
+}
+
+/// Whether the formula is certainly false at the start by the first `left` cells and those that are kept. It takes one step.
+pub(crate) fn is_certainly_false<L: Ledger>(
+    alloc: Global,
+    formula: &Formula,
+    trace: &Trace,
+    cells: &Cells,
+    left: usize,
+    kept: &[bool],
+    steps: &mut Steps<L>,
+) -> Result<bool, Memory>
+    requires some { 0 < length trace.now.rows }
+    requires cells { AreAllCells formula.now.nodes trace.now cells.now.all.items cells.now.ends.items }
+    requires marks { length kept.now ≡ length cells.now.all.items }
+    ensures told { IfOk result (λ b. TellsFailure b formula.now.nodes trace.now (remaining left kept.now cells.now.all.items)) }
+    ensures steps { OnOk result (steps.new ≡ steps.old + 1) }
+{
+    let atoms = atoms_of(alloc, formula, trace, cells, left, kept)?;
+    told_have_values::<Kleene>();
+    match eval(alloc, formula, first(trace), last(trace), atoms, steps) {
+        Ok(nodes) => {
+            let root = nodes.signal(formula.len() - 1);
+            let _ = root.len();
+            Ok(is_known_false(&root.knot(0).point))
+        }
+        Err(EvalFault::Memory) => Err(Memory),
+        Err(EvalFault::Wide(_)) => unreachable!(),
+    }
+}

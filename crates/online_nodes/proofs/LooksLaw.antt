@@ -1,0 +1,212 @@
+-- The four windows look through their places, and the connectives join: each by the definition of truth.
+use Rattle.std.proofs.Common.{inl, inr, Bool, true, false, not, ℕ, pos, neg_ℤ, Option, Some, None, arith}
+use Rattle.std.specs.Prelude.{IfSome}
+use Rattle.rational.specs.Rational.{Rational, ◌≤ʳ◌, ◌<ʳ◌, add, whole}
+use Rattle.rational.specs.Time.{Within, Precedes, later}
+use Rattle.rational.specs.Windows.{Ahead, Behind}
+use Rattle.rational.proofs.Order.{le_trans, le_of_same, ge_of_same, lt_of_le_of_lt, lt_of_lt_of_le, le_or_lt, not_lt_of_le}
+use Rattle.rational.proofs.TimeLemmas.{later-add}
+use Rattle.stl_syntax.specs.Trace.{Trace, start, stop}
+use Rattle.stl_syntax.specs.Formula.{
+  Subformula,
+  negation,
+  conjunction,
+  disjunction,
+  implication,
+  eventually,
+  always,
+  once,
+  historically,
+  until,
+  since,
+}
+use Rattle.stl_syntax.specs.Truth.{Truth}
+use Rattle.online_nodes.specs.Cuts.{After, Upto}
+use Rattle.online_nodes.specs.Reading.{Looks, IsUntilOf, IsSinceOf}
+use Rattle.online_nodes.specs.Sweeps.{Counted}
+use Rattle.online_nodes.specs.Joins.{IsJoinOf}
+use Rattle.online_nodes.specs.Negations.{IsNotOf}
+use Rattle.online_nodes.specs.Looking.{place_at, past_begin}
+use Rattle.online_nodes.specs.declared.join.Join.TheVariants.{And, Or, Implies}
+use Rattle.online_nodes.proofs.WindowPlaces.{lt_back, lt_forth, gt_back, gt_forth}
+
+-- a window's ends by places, and by the definition: ahead
+module _ (k : ℕ) (t u : Rational) where
+  begin_in : (i : Bool) → After (place_at (pos k) (not i) t) u → Precedes i (later t k) u
+  begin_in true h = le_trans (le_of_same (later-add t k)) h
+  begin_in false h = lt_of_le_of_lt (le_of_same (later-add t k)) h
+
+  in_begin : (i : Bool) → Precedes i (later t k) u → After (place_at (pos k) (not i) t) u
+  in_begin true h = le_trans (ge_of_same (later-add t k)) h
+  in_begin false h = lt_of_le_of_lt (ge_of_same (later-add t k)) h
+
+  end_in : (i : Bool) → Upto (place_at (pos k) i t) u → Precedes i u (later t k)
+  end_in true h = le_trans h (ge_of_same (later-add t k))
+  end_in false h = lt_of_lt_of_le h (ge_of_same (later-add t k))
+
+  in_end : (i : Bool) → Precedes i u (later t k) → Upto (place_at (pos k) i t) u
+  in_end true h = le_trans h (le_of_same (later-add t k))
+  in_end false h = lt_of_lt_of_le h (le_of_same (later-add t k))
+
+-- and behind: what is so of u moved on by k, is so of t moved back by k
+module _ (k : ℕ) (t u : Rational) where
+  back_le : t ≤ʳ later u k → add t (whole (neg_ℤ (pos k))) ≤ʳ u
+  back_le h = elim (le_or_lt (add t (whole (neg_ℤ (pos k)))) u) [
+    | inl le ↦ le
+    | inr lt ↦ absurd (not_lt_of_le (le_trans h (le_of_same (later-add u k))) (lt_forth u t (pos k) lt))
+  ]
+
+  forth_le : add t (whole (neg_ℤ (pos k))) ≤ʳ u → t ≤ʳ later u k
+  forth_le h = elim (le_or_lt t (later u k)) [
+    | inl le ↦ le
+    | inr lt ↦ absurd (not_lt_of_le h (lt_back u t (pos k) (lt_of_le_of_lt (ge_of_same (later-add u k)) lt)))
+  ]
+
+  back_lt : t <ʳ later u k → add t (whole (neg_ℤ (pos k))) <ʳ u
+  back_lt h = gt_back u t (pos k) (lt_of_lt_of_le h (le_of_same (later-add u k)))
+
+  forth_lt : add t (whole (neg_ℤ (pos k))) <ʳ u → t <ʳ later u k
+  forth_lt h = lt_of_lt_of_le (gt_forth u t (pos k) h) (ge_of_same (later-add u k))
+
+  over_le : later u k ≤ʳ t → u ≤ʳ add t (whole (neg_ℤ (pos k)))
+  over_le h = elim (le_or_lt u (add t (whole (neg_ℤ (pos k))))) [
+    | inl le ↦ le
+    | inr lt ↦ absurd (not_lt_of_le h (forth_lt lt))
+  ]
+
+  under_le : u ≤ʳ add t (whole (neg_ℤ (pos k))) → later u k ≤ʳ t
+  under_le h = elim (le_or_lt (later u k) t) [
+    | inl le ↦ le
+    | inr lt ↦ absurd (not_lt_of_le h (back_lt lt))
+  ]
+
+  over_lt : later u k <ʳ t → u <ʳ add t (whole (neg_ℤ (pos k)))
+  over_lt h = lt_back u t (pos k) (lt_of_le_of_lt (ge_of_same (later-add u k)) h)
+
+  under_lt : u <ʳ add t (whole (neg_ℤ (pos k))) → later u k <ʳ t
+  under_lt h = lt_of_le_of_lt (le_of_same (later-add u k)) (lt_forth u t (pos k) h)
+
+  back_begin : (i : Bool) → After (place_at (neg_ℤ (pos k)) (not i) t) u → Precedes i t (later u k)
+  back_begin true h = forth_le h
+  back_begin false h = forth_lt h
+
+  begin_back : (i : Bool) → Precedes i t (later u k) → After (place_at (neg_ℤ (pos k)) (not i) t) u
+  begin_back true h = back_le h
+  begin_back false h = back_lt h
+
+  back_end : (i : Bool) → Upto (place_at (neg_ℤ (pos k)) i t) u → Precedes i (later u k) t
+  back_end true h = under_le h
+  back_end false h = under_lt h
+
+  end_back : (i : Bool) → Precedes i (later u k) t → Upto (place_at (neg_ℤ (pos k)) i t) u
+  end_back true h = over_le h
+  end_back false h = over_lt h
+
+module _ (p : Subformula) (tr : Trace) (a : ℕ) (a_in b_in : Bool) where
+  module _ (b : ℕ) where
+    ahead : (t u : Rational) → After (place_at (pos a) (not a_in) t) u → Upto (place_at (pos b) b_in t) u → Within (start tr) (stop tr) u
+        → Ahead (start tr) (stop tr) a b a_in b_in t u
+    ahead t u lo hi within = record { inside = within; begins = begin_in a t u a_in lo; ends = end_in b t u b_in hi }
+
+    pub eventually_looks : Looks true (Truth (eventually a b a_in b_in p) tr) (Counted true p tr) (place_at (pos a) (not a_in))
+        (place_at (pos b) b_in)
+    eventually_looks =
+        record {
+          found = λ t u lo hi c. (u, ahead t u lo hi c.0, c.1);
+          spared = λ t none e. none e.0 (in_begin a t e.0 a_in e.1.begins) (in_end b t e.0 b_in e.1.ends) (e.1.inside, e.2);
+        }
+
+    pub always_looks : Looks false (Truth (always a b a_in b_in p) tr) (Counted false p tr) (place_at (pos a) (not a_in)) (place_at (pos b) b_in)
+    always_looks =
+        record {
+          found = λ t u lo hi c all. c (λ within. all u (ahead t u lo hi within));
+          spared = λ t each u w. each u (in_begin a t u a_in w.begins) (in_end b t u b_in w.ends) w.inside;
+        }
+
+  module _ (b : Option ℕ) where
+    from_begin : (o : Option ℕ) (t u : Rational) → Within (start tr) (stop tr) u → After (past_begin (start tr) o b_in t) u
+        → IfSome o (λ b. Precedes b_in t (later u b))
+    from_begin None t u within lo = tt
+    from_begin (Some b) t u within lo = back_begin b t u b_in lo
+
+    to_begin : (o : Option ℕ) (t u : Rational) → Within (start tr) (stop tr) u → IfSome o (λ b. Precedes b_in t (later u b))
+        → After (past_begin (start tr) o b_in t) u
+    to_begin None t u within h = within.above
+    to_begin (Some b) t u within h = begin_back b t u b_in h
+
+    behind : (t u : Rational) → After (past_begin (start tr) b b_in t) u → Upto (place_at (neg_ℤ (pos a)) a_in t) u → Within (start tr) (stop tr) u
+        → Behind (start tr) (stop tr) a b a_in b_in t u
+    behind t u lo hi within = record { inside = within; begins = from_begin b t u within lo; ends = back_end a t u a_in hi }
+
+    pub once_looks : Looks true (Truth (once a b a_in b_in p) tr) (Counted true p tr) (past_begin (start tr) b b_in) (place_at (neg_ℤ (pos a)) a_in)
+    once_looks =
+        record {
+          found = λ t u lo hi c. (u, behind t u lo hi c.0, c.1);
+          spared = λ t none e. none e.0 (to_begin b t e.0 e.1.inside e.1.begins) (end_back a t e.0 a_in e.1.ends) (e.1.inside, e.2);
+        }
+
+    pub historically_looks :
+        Looks false (Truth (historically a b a_in b_in p) tr) (Counted false p tr) (past_begin (start tr) b b_in) (place_at (neg_ℤ (pos a)) a_in)
+    historically_looks =
+        record {
+          found = λ t u lo hi c all. c (λ within. all u (behind t u lo hi within));
+          spared = λ t each u w. each u (to_begin b t u w.inside w.begins) (end_back a t u a_in w.ends) w.inside;
+        }
+
+-- no time comes after a later one
+not_later : (t : Rational) (k : ℕ) → t ≤ʳ later t k
+not_later t k = record { le = omega arith }
+
+module _ (p q : Subformula) (tr : Trace) (a : ℕ) where
+  pub until_looks : (b : ℕ)
+      → IsUntilOf (Truth (until a b p q) tr) (Truth p tr) (Counted true q tr) (place_at (pos a) false) (place_at (pos b) true)
+  until_looks b =
+      record {
+        holds = λ t u lo hi c all. (u, ahead q tr a true true b t u lo hi c.0, c.1, (λ v within. all v within.above within.below));
+        means = λ t n. (
+          n.0,
+          in_begin a t n.0 true n.1.begins,
+          in_end b t n.0 true n.1.ends,
+          (n.1.inside, n.2),
+          (λ v above below. n.3 v (record { above = above; below = below })),
+        );
+        ahead = λ t u lo. le_trans (not_later t a) (begin_in a t u true lo);
+      }
+
+  pub since_looks : (b : Option ℕ)
+      → IsSinceOf (Truth (since a b p q) tr) (Truth p tr) (Counted true q tr) (past_begin (start tr) b true) (place_at (neg_ℤ (pos a)) true)
+  since_looks b =
+      record {
+        holds = λ t u lo hi c all. (u, behind q tr a true true b t u lo hi c.0, c.1, (λ v within. all v within.above within.below));
+        means = λ t n. (
+          n.0,
+          to_begin q tr a true true b b t n.0 n.1.inside n.1.begins,
+          end_back a t n.0 true n.1.ends,
+          (n.1.inside, n.2),
+          (λ v above below. n.3 v (record { above = above; below = below })),
+        );
+        behind = λ t u hi. le_trans (not_later u a) (back_end a t u true hi);
+      }
+
+module _ (p q : Subformula) (tr : Trace) where
+  pub and_joins : IsJoinOf And (conjunction p q) p q tr
+  and_joins t true true x y = (x, y)
+  and_joins t true false x y = λ both. y both.1
+  and_joins t false true x y = λ both. x both.0
+  and_joins t false false x y = λ both. x both.0
+
+  pub or_joins : IsJoinOf Or (disjunction p q) p q tr
+  or_joins t true true x y = inl x
+  or_joins t true false x y = inl x
+  or_joins t false true x y = inr y
+  or_joins t false false x y = λ one. elim one [ inl h ↦ x h | inr h ↦ y h ]
+
+  pub implies_joins : IsJoinOf Implies (implication p q) p q tr
+  implies_joins t true true x y = λ h. y
+  implies_joins t true false x y = λ h. y (h x)
+  implies_joins t false true x y = λ h. y
+  implies_joins t false false x y = λ h. absurd (x h)
+
+pub not_denies : (p : Subformula) (tr : Trace) → IsNotOf (negation p) p tr
+not_denies p tr t true x = λ n. n x
+not_denies p tr t false x = x

@@ -1,0 +1,85 @@
+-- Two things said of a node, one after the other.
+use Rattle.std.proofs.Common.{
+  ◌≡◌,
+  ◌≢◌,
+  ℕ,
+  ◌<◌,
+  ◌≤◌,
+  Bool,
+  List,
+  ◌++◌,
+  suc,
+  drop,
+  inl,
+  length,
+  refl,
+  sym,
+  ap,
+  subst,
+  ◌∙◌,
+  arith,
+  append_assoc,
+  length-append,
+}
+use Rattle.std.specs.Prelude.{Result, Ok, Err, OnErr}
+use Rattle.std.proofs.lemmas.List.{append-nil}
+use Rattle.stl_syntax.specs.Trace.{Trace}
+use Rattle.stl_syntax.specs.Formula.{Subformula}
+use Rattle.stl_syntax.specs.Truth.{Truth}
+use Rattle.stl_syntax.specs.declared.items.Verdict.{Verdict}
+use Rattle.online_nodes.specs.Cuts.{Place, place}
+use Rattle.online_nodes.specs.Held.{Held, fresh_at}
+use Rattle.online_nodes.specs.Reading.{AllAre}
+use Rattle.online_nodes.specs.Written.{HasAnswer, HasGot, HasTold, IsSound}
+use Rattle.online_nodes.specs.Working.{HasPassed, HasWorked}
+use Rattle.online_nodes.specs.declared.cut.Cut.{Cut}
+use Rattle.online_nodes.specs.declared.writer.Out.{Out}
+use Rattle.online_nodes.proofs.GotLemmas.{got_both}
+use Rattle.online_nodes.proofs.WorkLemmas.{passed-here, first_and_rest, worked_put, worked_pass, worked_both}
+
+-- two answers, the one up to the cut `middle` and the other from there on, put at most two verdicts
+pub record HasAnswers (old new : Held) (before : Out) (first : Bool) (middle : Cut) (second : Bool) (after : Out) : Type 0 where
+  pub more : List Verdict
+  pub few : length more ≤ 2
+  pub got : HasGot old new before.edge more
+  pub edge : after.edge ≡ before.edge
+  pub end : after.to ≡ before.to
+  pub sound : IsSound after
+  pub told : (n : Subformula) (tr : Trace) (begin : Place) (written : List Verdict) → HasTold n tr begin written before
+      → AllAre first (Truth n tr) (place before.at) (place middle) → AllAre second (Truth n tr) (place middle) (place after.at)
+      → HasTold n tr begin (written ++ more) after
+
+pub answered_twice : {old mid new : Held} {before middle after : Out} {first second : Bool} → before.edge < length old.edges
+    → HasAnswer old mid before first middle → HasAnswer mid new middle second after
+    → HasAnswers old new before first middle.at second after
+answered_twice {old} {mid} {new} {before} {middle} {after} {first} {second} within one two =
+    record {
+      more = one.more ++ two.more;
+      few = omega (arith, one.few, two.few, length-append one.more two.more);
+      got = got_both within one.got (subst (λ i. HasGot mid new i two.more) one.edge two.got);
+      edge = two.edge ∙ one.edge;
+      end = two.end ∙ one.end;
+      sound = two.sound;
+      told = λ n tr begin written told h k.
+          subst (λ l. HasTold n tr begin l after) (append_assoc written one.more two.more)
+          (two.told n tr begin (written ++ one.more) (one.told n tr begin written told h) k);
+    }
+
+module _ {old new : Held} {i : ℕ} {v : Verdict} (passed : HasPassed old new i v) where
+  pub passed-fresh : fresh_at new i ≡ drop 1 (fresh_at old i)
+  passed-fresh = ap (λ x. x.fresh) (passed-here passed)
+
+  pub passed-one : length (fresh_at old i) ≡ suc (length (fresh_at new i))
+  passed-one = ap length (first_and_rest (fresh_at old i) v passed.first) ∙ ap (λ l. suc (length l)) (sym passed-fresh)
+
+-- a node that put verdicts and then read one of its only input
+pub worked_read : {old mid new : Held} {own i : ℕ} {v : Verdict} {more : List Verdict} → own < length old.edges → i ≢ own
+    → HasGot old mid own more → HasPassed mid new i v → HasWorked old new own i i more
+worked_read {old} {mid} {new} {own} {i} {v} {more} within apart got passed =
+    subst (λ l. HasWorked old new own i i l) (append-nil more)
+    (worked_both (worked_put within apart apart got) (worked_pass passed (λ same. apart (sym same)) (inl refl)))
+
+-- what holds in any case holds where a call fails
+pub on_err : {T E P : Type 0} (r : Result T E) → P → OnErr r P
+on_err (Ok x) h = tt
+on_err (Err e) h = h

@@ -1,0 +1,167 @@
+-- One verdict of the input more.
+use Rattle.std.proofs.Common.{◌≡◌, inl, inr, refl, sym, ap, subst, Bool, true, false, not, List, [], ◌∷◌, Option, Some, None, ℤ, suc, drop, arith}
+use Rattle.std.specs.Prelude.{slice_get, length, ◌<◌}
+use mathlib.Core.Bool.{beq}
+use Rattle.std.specs.Int.{w64}
+use Rattle.rational.specs.Rational.{Rational, FitsFloor, add, whole}
+use Rattle.frac128.specs.Spans.{interval}
+use Rattle.stl_syntax.specs.Trace.{Trace}
+use Rattle.stl_syntax.specs.Formula.{Subformula}
+use Rattle.stl_syntax.specs.Truth.{Truth}
+use Rattle.stl_syntax.specs.declared.items.Verdict.{Verdict}
+use Rattle.online_nodes.specs.Cuts.{Place, place, begins, ends, After, Upto, Before, Same, moved_begin, moved_end}
+use Rattle.online_nodes.specs.Reading.{AllAre, Tells, Remembers, MeetsAfter, MeetsUpto}
+use Rattle.online_nodes.specs.Written.{HasTold}
+use Rattle.online_nodes.specs.Sweeps.{low_place, high_place, Counted, IsWindowOf, IsSwept, Settles}
+use Rattle.online_nodes.specs.declared.window.Window.{Window}
+use Rattle.online_nodes.specs.declared.window.Sweep.{Sweep}
+use Rattle.online_nodes.proofs.PlaceLemmas.{sides, not_both, same_before, same_places, after_same, upto_same, upto_of_before}
+use Rattle.online_nodes.proofs.WindowLaw.{before_it, settled, remembers_of, knows_passed, knows_entered}
+use Rattle.online_nodes.proofs.WindowPlaces.{meets_after, meets_upto}
+
+pub no_first : (l : List Verdict) → slice_get l 0 ≡ None → l ≡ []
+no_first [] e = refl
+no_first (v ∷ l) e = absurd (let x : Some v ≡ None = e in cc)
+
+or_first : Verdict → Option Verdict → Verdict
+or_first d None = d
+or_first d (Some v) = v
+
+pub first_is : (l : List Verdict) (v : Verdict) → slice_get l 0 ≡ Some v
+    → (rest : List Verdict) × (l ≡ v ∷ rest) × (drop 1 l ≡ rest)
+unfolding or_first
+first_is [] v e = absurd (let x : None ≡ Some v = e in cc)
+first_is (w ∷ l) v e = (l, ap (λ x. x ∷ l) (let x : Some w ≡ Some v = e in ap (or_first w) x), refl)
+
+pub sought_not : (a b : Bool) → not (beq a b) ≡ true → a ≡ not b
+sought_not true true e = absurd (let x : false ≡ true = e in cc)
+sought_not true false e = refl
+sought_not false true e = refl
+sought_not false false e = absurd (let x : false ≡ true = e in cc)
+
+pub sought_is : (a b : Bool) → not (beq a b) ≡ false → a ≡ b
+sought_is true true e = refl
+sought_is true false e = absurd (let x : true ≡ false = e in cc)
+sought_is false true e = absurd (let x : true ≡ false = e in cc)
+sought_is false false e = refl
+
+pub begin_alike : (r : Place) (k j : ℤ) (i : Bool) (c d : Place) → k ≡ j → c ≡ d → Same r (moved_begin k i c)
+    → Same r (moved_begin j i d)
+begin_alike r k j i c d e f h = subst (λ x. Same r (moved_begin x i d)) e (subst (λ x. Same r (moved_begin k i x)) f h)
+
+pub end_alike : (r : Place) (k j : ℤ) (i : Bool) (c d : Place) → k ≡ j → c ≡ d → Same r (moved_end k i c)
+    → Same r (moved_end j i d)
+end_alike r k j i c d e f h = subst (λ x. Same r (moved_end x i d)) e (subst (λ x. Same r (moved_end k i x)) f h)
+
+pub fits_alike : (a b : Rational) (k j : ℤ) → a ≡ b → k ≡ j → FitsFloor w64 (add b (whole j)) → FitsFloor w64 (add a (whole k))
+fits_alike a b k j e f h = subst (λ x. FitsFloor w64 (add x (whole k))) (sym e)
+    (subst (λ x. FitsFloor w64 (add b (whole x))) (sym f) h)
+
+pub not_empty : (l rest : List Verdict) (v : Verdict) → l ≡ v ∷ rest → 0 < length l
+not_empty l rest v e = subst (λ x. 0 < length x) (sym e)
+    (let h : length (v ∷ rest) ≡ suc (length rest) = refl in omega (arith, h))
+
+module _ (n p : Subformula) (tr : Trace) (w : Window) (begin : Place) (written : List Verdict) (read stop : Place) where
+  remembers : (s : Sweep) (fresh : List Verdict) → IsWindowOf n p tr w (place s.out.to) stop
+      → IsSwept n p tr w begin written s read stop fresh
+      → Remembers w.seeks (Truth n tr) (Counted w.seeks p tr) (low_place w) (high_place w) (place s.out.at) (place s.reach) read
+  remembers s fresh of m = remembers_of (place s.out.at) (place s.reach) read stop of.looks m.knows
+
+  -- what is told lies before `stop`
+  pub told_inside : (v : Verdict) (rest : List Verdict) → Tells (Counted w.seeks p tr) (ends (interval v.on)) rest stop
+      → (u : Rational) → Upto (ends (interval v.on)) u → Upto stop u
+  told_inside v [] s u h = upto_same (ends (interval v.on)) stop u s h
+  told_inside v (x ∷ rest) (s, b, t, more) u h = told_inside x rest more u
+      (upto_of_before (ends (interval v.on)) (ends (interval x.on)) u b h)
+
+  -- all was read
+  pub none_left : (s : Sweep) → IsWindowOf n p tr w (place s.out.to) stop → IsSwept n p tr w begin written s read stop []
+      → Settles n tr w s
+  none_left s of m t a b k =
+      settled (place s.out.at) (place s.reach) read (place s.out.to) t
+      (λ t u h i. upto_same stop read u (same_places m.tells) (of.within t u h i)) (remembers s [] of m) a b k
+
+  -- a verdict that is not sought
+  pub not_sought : (s : Sweep) (v : Verdict) (rest : List Verdict) → v.holds ≡ not w.seeks
+      → IsSwept n p tr w begin written s read stop (v ∷ rest)
+      → IsSwept n p tr w begin written s (ends (interval v.on)) stop rest
+  not_sought s v rest e m = record {
+    told = m.told;
+    knows = knows_passed (place s.out.at) (place s.reach) read (ends (interval v.on)) stop
+        (subst (λ b. AllAre b (Counted w.seeks p tr) read (ends (interval v.on))) e m.tells.2) m.knows;
+    tells = m.tells.3;
+  }
+
+  -- where what v finds begins to count
+  pub begins_there : (v : Verdict) (rest : List Verdict) (from : Place) → Tells (Counted w.seeks p tr) read (v ∷ rest) stop
+      → Same from (moved_begin w.begin_by w.begin_in (begins (interval v.on)))
+      → MeetsAfter (high_place w) read from
+  begins_there v rest from tells s t = (there, back)
+    where
+      meets : MeetsAfter (high_place w) (begins (interval v.on)) (moved_begin w.begin_by w.begin_in (begins (interval v.on)))
+      meets = meets_after w.begin_by w.begin_in (begins (interval v.on))
+
+      there : After from t → Before read (high_place w t)
+      there a = same_before read (begins (interval v.on)) (high_place w t) tells.0
+          ((meets t).0 (after_same from (moved_begin w.begin_by w.begin_in (begins (interval v.on))) t s a))
+
+      back : Before read (high_place w t) → After from t
+      back b = after_same (moved_begin w.begin_by w.begin_in (begins (interval v.on))) from t (same_places s)
+          ((meets t).1 (same_before (begins (interval v.on)) read (high_place w t) (same_places tells.0) b))
+
+  pub ends_there : (v : Verdict) (to : Place) → Same to (moved_end w.end_by w.end_in (ends (interval v.on)))
+      → MeetsUpto (low_place w) (ends (interval v.on)) to
+  ends_there v to s t = (there, back)
+    where
+      meets : MeetsUpto (low_place w) (ends (interval v.on)) (moved_end w.end_by w.end_in (ends (interval v.on)))
+      meets = meets_upto w.end_by w.end_in (ends (interval v.on))
+
+      there : Upto to t → Before (low_place w t) (ends (interval v.on))
+      there a = (meets t).0 (upto_same to (moved_end w.end_by w.end_in (ends (interval v.on))) t s a)
+
+      back : Before (low_place w t) (ends (interval v.on)) → Upto to t
+      back b = upto_same (moved_end w.end_by w.end_in (ends (interval v.on))) to t (same_places s) ((meets t).1 b)
+
+  -- what v finds does not count in this stretch
+  pub too_late : (s : Sweep) (v : Verdict) (rest : List Verdict) (from : Place) → IsWindowOf n p tr w (place s.out.to) stop
+      → Same from (moved_begin w.begin_by w.begin_in (begins (interval v.on)))
+      → Before (place s.out.to) from → IsSwept n p tr w begin written s read stop (v ∷ rest) → Settles n tr w s
+  too_late s v rest from of e later m t a b k =
+      before_it (place s.out.at) (place s.reach) read from t (begins_there v rest from m.tells e) (remembers s (v ∷ rest) of m) a
+      b (upto_of_before (place s.out.to) from t later k)
+
+  -- up to `reach` the node is as was found
+  pub found_part : (s : Sweep) (fresh : List Verdict) (at : Place)
+      → ((t : Rational) → After (place s.out.at) t → Upto at t → Upto (place s.reach) t)
+      → IsWindowOf n p tr w (place s.out.to) stop → IsSwept n p tr w begin written s read stop fresh
+      → AllAre w.seeks (Truth n tr) (place s.out.at) at
+  found_part s fresh at no_more of m t a u = (remembers s fresh of m).counts t a (no_more t a u)
+
+  -- and then otherwise up to where v counts
+  pub spared_part : (s : Sweep) (v : Verdict) (rest : List Verdict) (from at at' : Place)
+      → Same from (moved_begin w.begin_by w.begin_in (begins (interval v.on)))
+      → ((t : Rational) → Upto (place s.out.at) t → Upto at t)
+      → ((t : Rational) → Upto (place s.reach) t → Upto (place s.out.to) t → Upto at t)
+      → ((t : Rational) → Upto at' t → Upto (place s.out.to) t) → ((t : Rational) → After at t → Upto at' t → Upto from t)
+      → IsWindowOf n p tr w (place s.out.to) stop → IsSwept n p tr w begin written s read stop (v ∷ rest)
+      → AllAre (not w.seeks) (Truth n tr) at at'
+  spared_part s v rest from at at' e forward reached inside no_more of m t a u =
+      before_it (place s.out.at) (place s.reach) read from t (begins_there v rest from m.tells e) (remembers s (v ∷ rest) of m)
+      (elim (sides (place s.out.at) t) [ inl h ↦ absurd (not_both at t (forward t h) a) | inr h ↦ h ])
+      (elim (sides (place s.reach) t) [ inl h ↦ absurd (not_both at t (reached t h (inside t u)) a) | inr h ↦ h ])
+      (no_more t a u)
+
+  -- what v finds counts from now on
+  pub counts_now : (s next : Sweep) (v : Verdict) (rest : List Verdict) (from : Place) (more : List Verdict) → v.holds ≡ w.seeks
+      → IsWindowOf n p tr w (place s.out.to) stop
+      → Same from (moved_begin w.begin_by w.begin_in (begins (interval v.on)))
+      → Same (place next.reach) (moved_end w.end_by w.end_in (ends (interval v.on)))
+      → ((t : Rational) → After (place next.out.at) t → After from t) → HasTold n tr begin more next.out
+      → IsSwept n p tr w begin written s read stop (v ∷ rest) → IsSwept n p tr w begin more next (ends (interval v.on)) stop rest
+  counts_now s next v rest from more h of e f later told m = record {
+    told = told;
+    knows = knows_entered (place next.out.at) read (ends (interval v.on)) from (place next.reach) stop of.some m.tells.1
+        (subst (λ b. AllAre b (Counted w.seeks p tr) read (ends (interval v.on))) h m.tells.2) (begins_there v rest from m.tells e)
+        (ends_there v (place next.reach) f) later (told_inside v rest m.tells.3);
+    tells = m.tells.3;
+  }

@@ -1,0 +1,106 @@
+-- Until, verdict by verdict.
+use Rattle.std.proofs.Common.{
+  ◌≡◌,
+  ◌≢◌,
+  ℕ,
+  ◌+◌,
+  ◌*◌,
+  ◌<◌,
+  ◌≤◌,
+  List,
+  [],
+  ◌++◌,
+  drop,
+  length,
+  refl,
+  sym,
+  ap,
+  subst,
+  ◌∙◌,
+  arith,
+  append_assoc,
+  length-append,
+}
+use Rattle.std.proofs.lemmas.List.{append-nil}
+use Rattle.stl_syntax.specs.declared.items.Verdict.{Verdict}
+use Rattle.online_nodes.specs.Cuts.{Place, place, Upto, AtMost}
+use Rattle.online_nodes.specs.Held.{Held, fresh_at, edge_at}
+use Rattle.online_nodes.specs.Working.{HasWorked}
+use Rattle.online_nodes.specs.Written.{IsSound}
+use Rattle.online_nodes.specs.Untils.{Stretch, Reads, IsUntil, IsTurned, Falls, HasSettled, HasTurned, HasUntilEnded, HasUntilTold}
+use Rattle.online_nodes.specs.declared.cut.Cut.{Cut}
+use Rattle.online_nodes.specs.declared.window.Sweep.{Sweep}
+use Rattle.online_nodes.specs.declared.until.Until.{Until}
+use Rattle.online_nodes.proofs.WorkLemmas.{worked_none, worked_both}
+
+-- some verdicts were read, and at most two put for each
+pub record HasGoneOn (old now : Held) (u : Until) (s here : Sweep) : Type 0 where
+  pub more : List Verdict
+  pub few : length more + 2 * (length (fresh_at now u.window.of) + length (fresh_at now u.right))
+      ≤ 2 * (length (fresh_at old u.window.of) + length (fresh_at old u.right))
+  pub worked : HasWorked old now s.out.edge u.window.of u.right more
+  pub edge : here.out.edge ≡ s.out.edge
+  pub end : here.out.to ≡ s.out.to
+  pub sound : IsSound here.out
+  pub inside : AtMost (place here.out.at) (place s.out.to)
+  pub goes : (x : Stretch) (written : List Verdict) (r : Reads) → IsUntil x u (place s.out.to)
+      → IsTurned x u written s r (fresh_at old u.window.of) (fresh_at old u.right)
+      → (r' : Reads) × IsTurned x u (written ++ more) here r' (fresh_at now u.window.of) (fresh_at now u.right)
+
+pub gone_none : (e : Held) (u : Until) (s : Sweep) → IsSound s.out → AtMost (place s.out.at) (place s.out.to) → HasGoneOn e e u s s
+gone_none e u s sound inside =
+    record {
+      more = [];
+      few = omega arith;
+      worked = worked_none e s.out.edge u.window.of u.right;
+      edge = refl;
+      end = refl;
+      sound = sound;
+      inside = inside;
+      goes = λ x written r of m.
+          (r, subst (λ l. IsTurned x u l s r (fresh_at e u.window.of) (fresh_at e u.right)) (sym (append-nil written)) m);
+    }
+
+pub gone_one : {old now new : Held} {u : Until} {s here next : Sweep} → HasGoneOn old now u s here → HasTurned now new u here next
+    → HasGoneOn old new u s next
+gone_one {old} {now} {new} {u} {s} {here} {next} gone one =
+    record {
+      more = gone.more ++ one.more;
+      few = omega (arith, gone.few, one.few, one.fewer, length-append gone.more one.more);
+      worked = worked_both gone.worked (subst (λ i. HasWorked now new i u.window.of u.right one.more) gone.edge one.worked);
+      edge = one.edge ∙ gone.edge;
+      end = one.end ∙ gone.end;
+      sound = one.sound;
+      inside = λ t h. subst (λ (q : Cut). Upto (place q) t) gone.end (one.inside t h);
+      goes = λ x written r of m.
+          let so_far = gone.goes x written r of m in
+          let more = one.goes x (written ++ gone.more) so_far.0 (subst (λ (q : Cut). IsUntil x u (place q)) (sym gone.end) of) so_far.1 in (
+            more.0,
+            subst (λ l. IsTurned x u l next more.0 (fresh_at new u.window.of) (fresh_at new u.right))
+                (append_assoc written gone.more one.more) more.1,
+          );
+    }
+
+pub gone_to_end : {old now same new : Held} {u : Until} {s here end : Sweep} → HasGoneOn old now u s here → HasSettled now same u here
+    → HasUntilEnded same new u here end → HasUntilTold old new u s end
+gone_to_end {old} {now} {same} {new} {u} {s} {here} {end} gone settled ended_same =
+    let ended : HasUntilEnded now new u here end = subst (λ e. HasUntilEnded e new u here end) settled.same ended_same in
+    record {
+      more = gone.more ++ ended.more;
+      few = omega (arith, gone.few, ended.few, length-append gone.more ended.more);
+      worked = worked_both gone.worked (subst (λ i. HasWorked now new i u.window.of u.right ended.more) gone.edge ended.worked);
+      edge = ended.edge ∙ gone.edge;
+      to = ended.to ∙ gone.end;
+      sound = ended.sound;
+      all = λ t h. ended.all t (subst (λ (q : Cut). Upto (place q) t) (sym gone.end) h);
+      inside = λ t h. subst (λ (q : Cut). Upto (place q) t) gone.end (ended.inside t h);
+      told = λ x written r of m.
+          let here_of = subst (λ (q : Cut). IsUntil x u (place q)) (sym gone.end) of in
+          let so_far = gone.goes x written r of m in
+          let last = ended.told x (written ++ gone.more) so_far.0 here_of so_far.1
+          (settled.settles x (written ++ gone.more) so_far.0 here_of so_far.1) in (
+            so_far.0,
+            subst (λ l. IsTurned x u l end so_far.0 (fresh_at new u.window.of) (fresh_at new u.right))
+                (append_assoc written gone.more ended.more) last,
+          );
+    }

@@ -1,0 +1,5 @@
+use Rattle.online_nodes.proofs.PlaceLemmas.{between}
+use Rattle.online_nodes.proofs.laws.has_times_between.Goals as goal
+
+pub returns : goal.returns
+returns c = between

@@ -1,0 +1,52 @@
+use Rattle.std.proofs.Common.{refl, sym, subst, ◌∙◌, arith}
+use Rattle.frac128.specs.Spans.{interval}
+use Rattle.stl_syntax.specs.declared.items.Verdict.{Verdict}
+use Rattle.online_nodes.specs.Working.{HasPassed}
+use Rattle.online_nodes.specs.declared.cut.Cut.{Cut}
+use Rattle.online_nodes.specs.Cuts.{Place, place, ends, AtMost, Before, Upto}
+use Rattle.online_nodes.specs.Held.{fresh_at}
+use Rattle.online_nodes.proofs.GotLemmas.{got-length}
+use Rattle.online_nodes.proofs.PlaceLemmas.{upto_of_before, at_most_of_not_before}
+use Rattle.online_nodes.proofs.JoinLemmas.{same_first}
+use Rattle.online_nodes.proofs.NegationLemmas.{IsSaidOf, next_was_read}
+use Rattle.online_nodes.proofs.negation.read_next.Goals as goal
+
+pub returns-then-precedes-clause-read : goal.returns-then-precedes-clause-read
+returns-then-precedes-clause-read c =
+    record {
+      same = refl;
+      beyond = λ v first t h.
+          subst (λ (x : Verdict). Upto (ends (interval x.on)) t)
+          (same_first (fresh_at c.args.edges.now c.args.of) c.in-Some.v v (sym c.next.ensures ∙ c.in-Some.is) first)
+          (subst (λ (q : Place). Upto q t) c.end-v_end.ensures
+          (upto_of_before (place c.end.result) (place c.end-v_end.result) t (c.precedes.ensures.0 c.if-precedes.true)
+          (subst (λ (q : Cut). Upto (place q) t) (sym c.end.ensures) h)));
+    }
+
+pub returns-clause-read : goal.returns-clause-read
+returns-clause-read c =
+    let reaches = c.in_ok-next.ensures.reaches in
+    let to_end : AtMost (place c.end-v_end.result) (place c.args.out.to) =
+    at_most_of_not_before (place c.end-v_end.result) (place c.args.out.to)
+    (λ b. let e = c.precedes.ensures.1 (subst (λ (q : Cut). Before (place q) (place c.end-v_end.result)) (sym c.end.ensures) b) in
+    let f = c.if-precedes.false in cc) in
+    let said : IsSaidOf c.args.edges.now c.upto.new.edges c.args.of c.args.out c.in_ok-next.next c.in-Some.v =
+    record {
+      first = sym c.next.ensures ∙ c.in-Some.is;
+      own = c.requires.own;
+      apart = c.requires.apart;
+      said = c.in_ok-next.ensures.said;
+      forward = reaches.forward;
+      inside = reaches.inside;
+      by_input = λ t a u. subst (λ (q : Place). Upto q t) c.end-v_end.ensures (reaches.no_more t a u);
+    } in
+    let passed : HasPassed c.upto.new.edges c.pass.new.self c.args.of c.pass.result =
+    record {
+      within = omega (arith, got-length said.said.got, c.requires.input);
+      first = c.pass.ensures.first;
+      edges = c.pass.ensures.read;
+      start = c.pass.ensures.start;
+      spare = c.pass.ensures.spare;
+    } in
+    next_was_read said passed
+    (λ t h. let there = subst (λ (q : Place). Upto q t) (sym c.end-v_end.ensures) h in reaches.reached t there (to_end t there))

@@ -1,0 +1,185 @@
+use Rattle.std.proofs.Common.{rules, refl, sym, ◌∙◌, ap, subst, ◌≡◌, [], ◌∷◌, ◌++◌, arith, to_z, of_z, length, drop, inl, inr, to_z-of_z}
+use Rattle.std.specs.Int.{w64}
+use Rattle.std.proofs.lemmas.List.{append-nil}
+use Rattle.std.proofs.lemmas.Option.{slice_get_within}
+use Rattle.frac128.specs.Value.{value}
+use Rattle.frac128.specs.Spans.{interval}
+use Rattle.online_nodes.specs.Working.{HasPassed}
+use Rattle.online_nodes.specs.declared.cut.Cut.{Cut}
+use Rattle.online_nodes.specs.Cuts.{Place, place, ends, Upto, Before, begins}
+use Rattle.online_nodes.specs.Held.{fresh_at}
+use Rattle.online_nodes.specs.Sweeps.{IsSwept}
+use Rattle.online_nodes.proofs.Sweeping.{
+  no_first,
+  first_is,
+  none_left,
+  not_sought,
+  too_late,
+  found_part,
+  spared_part,
+  counts_now,
+  sought_not,
+  sought_is,
+  begin_alike,
+  end_alike,
+  fits_alike,
+}
+use Rattle.online_nodes.proofs.PlaceLemmas.{sides, not_both, at_most_of_not_before}
+use Rattle.online_nodes.proofs.GotLemmas.{got-length, got-other}
+use Rattle.online_nodes.proofs.WorkLemmas.{worked_pass}
+use Rattle.online_nodes.proofs.SaidLemmas.{answered_twice, on_err, passed-fresh, passed-one, worked_read}
+use Rattle.online_nodes.proofs.window.read_one.Goals as goal
+
+pub returns-in_default-clause-read : goal.returns-in_default-clause-read
+returns-in_default-clause-read c =
+    record {
+      same = refl;
+      settles = λ n p tr begin written read stop of m.
+          none_left n p tr c.args.window begin written read stop c.args.sweep of
+          (subst (λ l. IsSwept n p tr c.args.window begin written c.args.sweep read stop l)
+          (no_first (fresh_at c.args.edges.now c.args.window.of) (sym c.next.ensures ∙ c.in_default.is)) m);
+    }
+
+pub returns-then-v-window-clause-read : goal.returns-then-v-window-clause-read
+returns-then-v-window-clause-read c =
+    let f = first_is (fresh_at c.args.edges.now c.args.window.of) c.in-Some.v (sym c.next.ensures ∙ c.in-Some.is) in
+    let passed : HasPassed c.args.edges.now c.pass.new.self c.args.window.of c.pass.result =
+    record {
+      within = c.requires.input;
+      first = c.pass.ensures.first;
+      edges = c.pass.ensures.read;
+      start = c.pass.ensures.start;
+      spare = c.pass.ensures.spare;
+    } in
+    record {
+      more = [];
+      few = omega arith;
+      worked = worked_pass passed (λ same. c.requires.apart (sym same)) (inl refl);
+      one = passed-one passed;
+      fresh = passed-fresh passed;
+      edge = refl;
+      end = refl;
+      sound = c.requires.sound;
+      inside = c.requires.inside;
+      swept = λ n p tr begin written read stop of m. (
+        ends (interval c.in-Some.v.on),
+        subst (λ l. IsSwept n p tr c.args.window begin l c.args.sweep (ends (interval c.in-Some.v.on)) stop
+            (fresh_at c.pass.new.self c.args.window.of))
+            (sym (append-nil written))
+            (subst (λ l. IsSwept n p tr c.args.window begin written c.args.sweep (ends (interval c.in-Some.v.on)) stop l)
+            (sym (passed-fresh passed ∙ f.2))
+            (not_sought n p tr c.args.window begin written read stop c.args.sweep c.in-Some.v f.0
+            (sought_not c.in-Some.v.holds c.args.window.seeks c.if-v-window.true)
+            (subst (λ l. IsSwept n p tr c.args.window begin written c.args.sweep read stop l) f.1 m))),
+      );
+    }
+
+pub shift_begin-begin-requires : goal.shift_begin-begin-requires
+shift_begin-begin-requires c =
+    fits_alike (value c.begin.result.time) (value c.in-Some.v.on.from) (to_z w64 (of_z w64 c.args.window.begin_by)) c.args.window.begin_by
+    (ap (λ (q : Place). q.at) c.begin.ensures) (search (rules, to_z-of_z)) (c.requires.fits c.in-Some.v (sym c.next.ensures ∙ c.in-Some.is)).0
+
+pub returns-then-precedes-clause-read : goal.returns-then-precedes-clause-read
+returns-then-precedes-clause-read c =
+    let f = first_is (fresh_at c.args.edges.now c.args.window.of) c.in-Some.v (sym c.next.ensures ∙ c.in-Some.is) in
+    record {
+      same = refl;
+      settles = λ n p tr begin written read stop of m.
+          too_late n p tr c.args.window begin written read stop c.args.sweep c.in-Some.v f.0 (place c.shift_begin-begin.result) of
+          (begin_alike (place c.shift_begin-begin.result) _ c.args.window.begin_by c.args.window.begin_in _ (begins (interval c.in-Some.v.on))
+          (search (rules, to_z-of_z)) c.begin.ensures c.shift_begin-begin.ensures)
+          (subst (λ (q : Cut). Before (place q) (place c.shift_begin-begin.result)) c.end.ensures (c.precedes.ensures.0 c.if-precedes.true))
+          (subst (λ l. IsSwept n p tr c.args.window begin written c.args.sweep read stop l) f.1 m);
+    }
+
+pub upto-requires-2-clause-edge : goal.upto-requires-2-clause-edge
+upto-requires-2-clause-edge c =
+    let one = c.in_ok-found.ensures.said in omega (arith, one.edge, got-length one.got, c.requires.own)
+
+pub upto-requires-2-clause-inside : goal.upto-requires-2-clause-inside
+upto-requires-2-clause-inside c t h =
+    subst (λ (q : Cut). Upto (place q) t) (sym c.in_ok-found.ensures.said.end) (c.in_ok-found.ensures.reaches.inside t h)
+
+pub upto-requires-2-clause-sound : goal.upto-requires-2-clause-sound
+upto-requires-2-clause-sound c = c.in_ok-found.ensures.said.sound
+
+pub pass-requires-2-clause-edge : goal.pass-requires-2-clause-edge
+pass-requires-2-clause-edge c =
+    let both = answered_twice c.requires.own c.in_ok-found.ensures.said c.in_ok-out.ensures.said in
+    omega (arith, got-length both.got, c.requires.input)
+
+pub pass-requires-2-clause-some : goal.pass-requires-2-clause-some
+pass-requires-2-clause-some c =
+    let both = answered_twice c.requires.own c.in_ok-found.ensures.said c.in_ok-out.ensures.said in
+    let same = ap (λ x. length x.fresh) (got-other both.got c.args.window.of c.requires.apart) in
+    let some = slice_get_within (fresh_at c.args.edges.now c.args.window.of) 0 c.in-Some.v (sym c.next.ensures ∙ c.in-Some.is) in
+    omega (arith, same, some)
+
+pub shift_end-reach-requires : goal.shift_end-reach-requires
+shift_end-reach-requires c =
+    fits_alike (value c.end-2.result.time) (value c.in-Some.v.on.to) (to_z w64 (of_z w64 c.args.window.end_by)) c.args.window.end_by
+    (ap (λ (q : Place). q.at) c.end-2.ensures) (search (rules, to_z-of_z)) (c.requires.fits c.in-Some.v (sym c.next.ensures ∙ c.in-Some.is)).1
+
+pub returns-in_err-out-clause-memory : goal.returns-in_err-out-clause-memory
+returns-in_err-out-clause-memory c =
+    let one = c.in_ok-found.ensures.said in
+    on_err c.from_residual-in_err-out.result (omega (arith, one.got.spare, one.few, c.in_err-out.ensures.memory))
+
+pub returns-clause-read : goal.returns-clause-read
+returns-clause-read c =
+    let w = c.args.window in
+    let s = c.args.sweep in
+    let v = c.in-Some.v in
+    let f = first_is (fresh_at c.args.edges.now w.of) v (sym c.next.ensures ∙ c.in-Some.is) in
+    let from = place c.shift_begin-begin.result in
+    let one = c.in_ok-found.ensures.reaches in
+    let two = c.in_ok-out.ensures.reaches in
+    let same : c.in_ok-found.found.to ≡ s.out.to = c.in_ok-found.ensures.said.end in
+    let both = answered_twice c.requires.own c.in_ok-found.ensures.said c.in_ok-out.ensures.said in
+    let kept : fresh_at c.upto-2.new.edges w.of ≡ fresh_at c.args.edges.now w.of = ap (λ x. x.fresh) (got-other both.got w.of c.requires.apart) in
+    let passed : HasPassed c.upto-2.new.edges c.pass-2.new.self w.of c.pass-2.result =
+    record {
+      within = omega (arith, got-length both.got, c.requires.input);
+      first = c.pass-2.ensures.first;
+      edges = c.pass-2.ensures.read;
+      start = c.pass-2.ensures.start;
+      spare = c.pass-2.ensures.spare;
+    } in
+    let left : fresh_at c.pass-2.new.self w.of ≡ drop 1 (fresh_at c.args.edges.now w.of) = passed-fresh passed ∙ ap (drop 1) kept in
+    record {
+      more = both.more;
+      few = both.few;
+      worked = worked_read c.requires.own c.requires.apart both.got passed;
+      one = sym (ap length kept) ∙ passed-one passed;
+      fresh = left;
+      edge = both.edge;
+      end = both.end;
+      sound = both.sound;
+      inside = λ t h. subst (λ (q : Cut). Upto (place q) t) same (two.inside t h);
+      swept = λ n p tr begin written read stop of m.
+          let m' = subst (λ l. IsSwept n p tr w begin written s read stop l) f.1 m in
+          let e = begin_alike from _ w.begin_by w.begin_in _ (begins (interval v.on)) (search (rules, to_z-of_z)) c.begin.ensures
+          c.shift_begin-begin.ensures in
+          let told = both.told n tr begin written m.told
+          (found_part n p tr w begin written read stop s (v ∷ f.0) (place c.in_ok-found.found.at) one.no_more of m')
+          (spared_part n p tr w begin written read stop s v f.0 from (place c.in_ok-found.found.at) (place c.in_ok-out.out.at) e
+          one.forward one.reached (λ t h. subst (λ (q : Cut). Upto (place q) t) same (two.inside t h)) two.no_more of m') in (
+            ends (interval v.on),
+            subst (λ l. IsSwept n p tr w begin (written ++ both.more)
+                (record { out = c.in_ok-out.out; reach = c.shift_end-reach.result }) (ends (interval v.on)) stop l)
+                (sym (left ∙ f.2))
+                (counts_now n p tr w begin written read stop s (record { out = c.in_ok-out.out; reach = c.shift_end-reach.result }) v f.0 from
+                (written ++ both.more) (sought_is v.holds w.seeks c.if-v-window.false) of e
+                (end_alike (place c.shift_end-reach.result) _ w.end_by w.end_in _ (ends (interval v.on)) (search (rules, to_z-of_z)) c.end-2.ensures
+                c.shift_end-reach.ensures)
+                (λ t a. elim (sides from t) [
+                  | inl h ↦ absurd (not_both (place c.in_ok-out.out.at) t (two.reached t h
+                      (subst (λ (q : Cut). Upto (place q) t) (sym same)
+                      (at_most_of_not_before from (place s.out.to)
+                      (λ b. let x = c.precedes.ensures.1 (subst (λ (q : Cut). Before (place q) from)
+                      (sym c.end.ensures) b) in let y = c.if-precedes.false in cc) t h))) a)
+                  | inr h ↦ h
+                ])
+                told m'),
+          );
+    }

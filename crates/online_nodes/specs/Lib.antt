@@ -1,0 +1,11 @@
+pub mod Cuts
+pub mod Reading
+pub mod Held
+pub mod Written
+pub mod Laws
+pub mod Working
+pub mod Sweeps
+pub mod Joins
+pub mod Negations
+pub mod Looking
+pub mod Untils

@@ -1,0 +1,134 @@
+//! The connectives, one verdict of each input at a time.
+
+ghost use Rattle.std.specs.Prelude.{◌≡◌, ◌≢◌, ◌+◌, ◌*◌, ◌<◌, length, IfOk, OnErr, MatchOption};
+ghost use Rattle.online_nodes.specs.Cuts.{place, AtMost};
+ghost use Rattle.online_nodes.specs.Held.{fresh_at};
+ghost use Rattle.online_nodes.specs.Written.{IsSound};
+ghost use Rattle.online_nodes.specs.Joins.{joined, HasFilled, HasJoined, HasPaused, HasReadBoth};
+
+use crate::cut::Cut;
+use crate::edges::Edges;
+use crate::writer::Out;
+use frac128::Memory;
+
+/// A connective of two inputs.
+#[derive(Clone, Copy, Debug)]
+pub(crate) enum Join {
+    And,
+    Or,
+    Implies,
+}
+
+impl Join {
+    /// Its truth by those of its inputs.
+    fn of(self, left: bool, right: bool) -> bool
+        ensures { result ≡ joined self left right }
+    {
+        match self {
+            Join::And => left && right,
+            Join::Or => left || right,
+            Join::Implies => !left || right,
+        }
+    }
+}
+
+/// The node's two inputs.
+#[derive(Clone, Copy, Debug)]
+pub(crate) struct Inputs {
+    pub(crate) left: u32,
+    pub(crate) right: u32,
+}
+
+/// Reads on in both inputs up to the earlier end of their next verdicts. None where one has none, or where both reach beyond the
+/// stretch, and then nothing changed.
+fn read_both(edges: &mut Edges, join: Join, inputs: Inputs, out: Out) -> Result<Option<Out>, Memory>
+    requires left { inputs.left < length edges.old.edges }
+    requires right { inputs.right < length edges.old.edges }
+    requires own { out.edge < length edges.old.edges }
+    requires left_apart { inputs.left ≢ out.edge }
+    requires right_apart { inputs.right ≢ out.edge }
+    requires apart { inputs.left ≢ inputs.right }
+    requires sound { IsSound out }
+    requires inside { AtMost (place out.at) (place out.to) }
+    ensures read { IfOk result (λ r. MatchOption r
+        (HasPaused edges.old edges.new inputs out)
+        (λ next. HasReadBoth edges.old edges.new join inputs out next)) }
+    ensures memory { OnErr result (edges.old.spare ≡ 0) }
+{
+    let Some(v) = edges.next(inputs.left) else {
+        return Ok(None);
+    };
+    let Some(w) = edges.next(inputs.right) else {
+        return Ok(None);
+    };
+    let v_end = Cut::end(&v);
+    let w_end = Cut::end(&w);
+    let both = v_end.earlier(w_end);
+    if out.end().precedes(&both) {
+        return Ok(None);
+    }
+    let next = out.upto(edges, join.of(v.holds, w.holds), both)?;
+    if both.precedes(&v_end) {
+        let _ = edges.pass(inputs.right);
+        return Ok(Some(next));
+    }
+    let _ = edges.pass(inputs.left);
+    if both.precedes(&w_end) {
+        return Ok(Some(next));
+    }
+    let _ = edges.pass(inputs.right);
+    Ok(Some(next))
+}
+
+/// Tells the rest of the stretch, where both inputs reach beyond it or all is told.
+fn end_join(edges: &mut Edges, join: Join, inputs: Inputs, out: Out) -> Result<Out, Memory>
+    requires left { inputs.left < length edges.old.edges }
+    requires right { inputs.right < length edges.old.edges }
+    requires own { out.edge < length edges.old.edges }
+    requires left_apart { inputs.left ≢ out.edge }
+    requires right_apart { inputs.right ≢ out.edge }
+    requires apart { inputs.left ≢ inputs.right }
+    requires sound { IsSound out }
+    requires inside { AtMost (place out.at) (place out.to) }
+    ensures filled { IfOk result (λ end. HasFilled edges.old edges.new join inputs out end) }
+    ensures memory { OnErr result (edges.old.spare ≡ 0) }
+{
+    let Some(v) = edges.next(inputs.left) else {
+        return Ok(out);
+    };
+    let Some(w) = edges.next(inputs.right) else {
+        return Ok(out);
+    };
+    let end = out.upto(edges, join.of(v.holds, w.holds), out.end())?;
+    Ok(end)
+}
+
+/// Takes all that both inputs have ready, and tells the stretch to its end.
+///
+/// # Errors
+///
+/// `Memory` where there is no memory, which never comes with a spare of the verdicts that were not read, plus 1.
+pub(crate) fn connect(
+    edges: &mut Edges,
+    join: Join,
+    inputs: Inputs,
+    out: Out,
+) -> Result<Out, Memory>
+    requires left { inputs.left < length edges.old.edges }
+    requires right { inputs.right < length edges.old.edges }
+    requires own { out.edge < length edges.old.edges }
+    requires left_apart { inputs.left ≢ out.edge }
+    requires right_apart { inputs.right ≢ out.edge }
+    requires apart { inputs.left ≢ inputs.right }
+    requires sound { IsSound out }
+    requires inside { AtMost (place out.at) (place out.to) }
+    ensures joined { IfOk result (λ end. HasJoined edges.old edges.new join inputs out end) }
+    ensures memory { OnErr result (edges.old.spare < length (fresh_at edges.old inputs.left) + length (fresh_at edges.old inputs.right) + 1) }
+{
+    let mut here = out;
+    while let Some(next) = read_both(edges, join, inputs, here)? {
+        here = next;
+    }
+    let end = end_join(edges, join, inputs, here)?;
+    Ok(end)
+}

@@ -1,0 +1,60 @@
+//! Laws of places, of runs and of what stands on edges. Each is the contract of a call that does nothing, so that the gate
+//! proves it.
+ghost use Rattle.online_nodes.specs.Laws.{EmittedStays, HasTimesBetween, MeetingIsWhatIsLeft, NumbersStayWithinHorizons, OpenNumbersSettle, OthersGiveNothing};
+ghost use Rattle.online_nodes.specs.Looking.{ConnectivesJoin, SinceRemembersWhatItKnows, UntilAndSinceLook, UntilRemembersWhatItKnows, WindowsLook};
+
+/// Between two places there is a time.
+pub fn has_times_between()
+    ensures { HasTimesBetween }
+{}
+
+/// In a run each node's number is at most the last row's time, and before the end so it is with the node's horizon added.
+pub fn numbers_stay_within_horizons()
+    ensures { NumbersStayWithinHorizons }
+{}
+
+/// Each verdict that a node gives out in a run, in any order of its events, is its truth in every trace that goes on from the
+/// rows.
+pub fn emitted_stays()
+    ensures { EmittedStays }
+{}
+
+/// A step of one node, a take and the end add nothing to what another node gave out.
+pub fn others_give_nothing()
+    ensures { OthersGiveNothing }
+{}
+
+/// What an edge must hold of a node's verdicts is what is left when those that end too early are dropped from the front.
+pub fn meeting_is_what_is_left()
+    ensures { MeetingIsWhatIsLeft }
+{}
+
+/// Where no node can move before the end, each node's number is the last row's time less its horizon, if so are its children's.
+pub fn open_numbers_settle()
+    ensures { OpenNumbersSettle }
+{}
+
+/// Negation and the connectives are at each time what their inputs' truths make of them.
+pub fn connectives_join()
+    ensures { ConnectivesJoin }
+{}
+
+/// The four windows look, at a time t, from one place to another for a time at which their input holds or fails.
+pub fn windows_look()
+    ensures { WindowsLook }
+{}
+
+/// Until and since are so by the places between which their windows lie.
+pub fn until_and_since_look()
+    ensures { UntilAndSinceLook }
+{}
+
+/// What until keeps in mind of its inputs alone says, in any trace, what holds of the node.
+pub fn until_remembers_what_it_knows()
+    ensures { UntilRemembersWhatItKnows }
+{}
+
+/// What since keeps in mind of its inputs alone says, in any trace, what holds of the node.
+pub fn since_remembers_what_it_knows()
+    ensures { SinceRemembersWhatItKnows }
+{}

@@ -1,0 +1,26 @@
+//! Streaming operators: places between times, the edges of a network, the writer of a node's verdicts, the bodies of constants,
+//! connectives, bounded windows and until, and the laws on which operators rest. In work: windows with no bound, since, and the
+//! operators themselves come on top.
+#![tactic(auto)]
+
+mod cut;
+mod edges;
+mod join;
+mod laws;
+mod negation;
+mod until;
+mod window;
+mod writer;
+
+pub use cut::Cut;
+pub use edges::Edges;
+pub use laws::{
+    connectives_join, emitted_stays, has_times_between, meeting_is_what_is_left,
+    numbers_stay_within_horizons, open_numbers_settle, others_give_nothing,
+    since_remembers_what_it_knows, until_and_since_look, until_remembers_what_it_knows,
+    windows_look,
+};
+pub use writer::Out;
+
+#[cfg(test)]
+mod tests;

@@ -1,0 +1,144 @@
+//! The list of a stretch, written verdict by verdict onto an edge.
+
+ghost use Rattle.std.specs.Prelude.{◌≡◌, ◌<◌, length, IfOk, OnOk, OnErr, None};
+ghost use Rattle.frac128.specs.Spans.{interval};
+ghost use Rattle.online_nodes.specs.Cuts.{place, AtMost, Before, Same, begins, ends};
+ghost use Rattle.online_nodes.specs.Written.{HasAnswer, HasFinished, HasWritten, IsSound, IsPutBack, Reaches};
+
+use crate::cut::Cut;
+use crate::edges::Edges;
+use frac128::{Memory, Span};
+use stl_syntax::Verdict;
+
+/// Writes the verdicts of a stretch onto an edge. Each call says the verdict from where the last one ended; neighbours that
+/// agree become one span. A call may say more than the stretch: what lies beyond its end is left out.
+#[derive(Clone, Copy, Debug)]
+pub struct Out {
+    edge: u32,
+    from: Cut,
+    at: Cut,
+    to: Cut,
+    holds: Option<bool>,
+}
+
+impl Out {
+    /// Nothing was said yet of the stretch between the two places.
+    pub fn new(edge: u32, from: Cut, to: Cut) -> Out
+        ensures { result ≡ record { edge = edge; from = from; at = from; to = to; holds = None } }
+    {
+        Out {
+            edge,
+            from,
+            at: from,
+            to,
+            holds: None,
+        }
+    }
+
+    /// Where the stretch ends.
+    pub fn end(&self) -> Cut
+        ensures { result ≡ self.now.to }
+    {
+        self.to
+    }
+
+    /// The span that ends where the writer stands.
+    fn span(self) -> Span
+        requires { Before (place self.from) (place self.at) }
+        ensures begin { Same (place self.from) (begins (interval result)) }
+        ensures end { Same (place self.at) (ends (interval result)) }
+    {
+        let Some(span) = Span::make(
+            self.from.time,
+            !self.from.after,
+            self.at.time,
+            self.at.after,
+        ) else {
+            unreachable!()
+        };
+        span
+    }
+
+    /// Puts that span onto the edge.
+    fn write(self, edges: &mut Edges, holds: bool) -> Result<(), Memory>
+        requires edge { self.edge < length edges.old.edges }
+        requires some { Before (place self.from) (place self.at) }
+        ensures put { OnOk result (IsPutBack edges.old edges.new self holds) }
+        ensures memory { OnErr result (edges.old.spare ≡ 0) }
+    {
+        let on = self.span();
+        edges.put(self.edge, Verdict { on, holds })?;
+        Ok(())
+    }
+
+    /// The verdict up to a later place.
+    fn go_on(self, edges: &mut Edges, holds: bool, cut: Cut) -> Result<Out, Memory>
+        requires edge { self.edge < length edges.old.edges }
+        requires sound { IsSound self }
+        requires later { Before (place self.at) (place cut) }
+        ensures written { IfOk result (λ out. HasWritten edges.old edges.new self holds cut out) }
+        ensures memory { OnErr result (edges.old.spare ≡ 0) }
+    {
+        let next = Out {
+            edge: self.edge,
+            from: self.from,
+            at: cut,
+            to: self.to,
+            holds: Some(holds),
+        };
+        let Some(before) = self.holds else {
+            return Ok(next);
+        };
+        if before == holds {
+            return Ok(next);
+        }
+        self.write(edges, before)?;
+        Ok(Out {
+            edge: self.edge,
+            from: self.at,
+            at: cut,
+            to: self.to,
+            holds: Some(holds),
+        })
+    }
+
+    /// The verdict up to that place, or up to the end of the stretch, where that comes earlier. A place that was passed already
+    /// says nothing.
+    ///
+    /// # Errors
+    ///
+    /// `Memory` where there is no memory, which never comes with a spare of 1.
+    pub fn upto(self, edges: &mut Edges, holds: bool, cut: Cut) -> Result<Out, Memory>
+        requires edge { self.edge < length edges.old.edges }
+        requires inside { AtMost (place self.at) (place self.to) }
+        requires sound { IsSound self }
+        ensures said { IfOk result (λ out. HasAnswer edges.old edges.new self holds out) }
+        ensures reaches { IfOk result (λ out. Reaches self cut out) }
+        ensures memory { OnErr result (edges.old.spare ≡ 0) }
+    {
+        let end = cut.earlier(self.to);
+        if !self.at.precedes(&end) {
+            return Ok(self);
+        }
+        let out = self.go_on(edges, holds, end)?;
+        Ok(out)
+    }
+
+    /// Puts the last span.
+    ///
+    /// # Errors
+    ///
+    /// `Memory` where there is no memory, which never comes with a spare of 1.
+    pub fn finish(self, edges: &mut Edges) -> Result<(), Memory>
+        requires edge { self.edge < length edges.old.edges }
+        requires sound { IsSound self }
+        ensures finished { OnOk result (HasFinished edges.old edges.new self) }
+        ensures memory { OnErr result (edges.old.spare ≡ 0) }
+    {
+        let Some(holds) = self.holds else {
+            return Ok(());
+        };
+        self.write(edges, holds)?;
+        Ok(())
+    }
+}

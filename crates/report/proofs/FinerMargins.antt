@@ -1,0 +1,270 @@
+-- The robustness in smaller ticks.
+use Rattle.std.proofs.Common.{ℕ, ◌*◌, ◌<◌, Bool, true, false, sym, subst, Option}
+use Rattle.std.specs.Prelude.{◌↔◌, option_map}
+use Rattle.rational.specs.Time.{Rational, ◌≈◌, Within}
+use Rattle.rational.specs.Extended.{Extended, minus_infinity, finite, infinity, opposite, ◌≈ᵉ◌, IsLeast, IsGreatest}
+use Rattle.rational.specs.Windows.{Ahead, Behind, Function, Window, IsSupOver, IsInfOver, IsUpTo, IsDownTo}
+use Rattle.rational.proofs.Order.{same_sym, le_trans, le_of_same, ge_of_same}
+use Rattle.rational.proofs.Field.{same_negate}
+use Rattle.rational.proofs.AffineLemmas.{same_reflᵉ, same_symᵉ, same_transᵉ, finite_same, opposite_same}
+use Rattle.rational.proofs.Sups.{sup_value_same, inf_value_same}
+use Rattle.rational.proofs.WindowLemmas.{inf_over_alike, to_same, from_same}
+use Rattle.stl_syntax.specs.Trace.{Trace, IsTrace, start, stop}
+use Rattle.stl_syntax.specs.Formula.{Subformula, constant, atom, negation, conjunction, disjunction, implication, until, eventually, always, since, once, historically}
+use Rattle.stl_syntax.specs.Truth.{expression}
+use Rattle.stl_syntax.specs.SupInf.{SupInf, margin, margin_setting}
+use Rattle.stl_syntax.specs.Scaling.{scaled_atom}
+use Rattle.stl_syntax.specs.declared.scale.Scale.{Scale}
+use Rattle.stl_syntax.specs.declared.rel.Rel.{Rel}
+use Rattle.stl_syntax.specs.declared.rel.Rel.TheVariants.{AtLeast, Above, AtMost, Below}
+use Rattle.stl_syntax.proofs.TimeLaw.{SupInf-same}
+use Rattle.report.proofs.Stretch.{stretch, shrink, stretch-shrink, within_stretched, within_back}
+use Rattle.report.proofs.FinerTrees.{finer_tree}
+use Rattle.report.proofs.FinerTraces.{expression_by}
+use Rattle.report.proofs.FinerTruth.{fine, ends, ahead_by, ahead_back, ahead_at, behind_by, behind_back, behind_at}
+use Rattle.report.proofs.FinerValues.{stretchᵉ, shrinkᵉ, opposite_stretch, stretch-shrinkᵉ, same_stretchᵉ, same_backᵉ, least_by, least_back, greatest_by, greatest_back, least_same, greatest_same, AreTimes, sup_by, sup_back, inf_by, inf_back}
+
+-- a value by another pair is the value too
+pub value_alike : (p : Subformula) (tr : Trace) (t : Rational) (r s : Extended) → r ≈ᵉ s → SupInf p (margin_setting tr) t r → SupInf p (margin_setting tr) t s
+value_alike (constant true) tr t r s e h = same_transᵉ s r infinity (same_symᵉ r s e) h
+value_alike (constant false) tr t r s e h = same_transᵉ s r minus_infinity (same_symᵉ r s e) h
+value_alike (atom i a) tr t r s e h = same_transᵉ s r (finite (margin a.rel (expression a tr t))) (same_symᵉ r s e) h
+value_alike (negation p) tr t r s e h = value_alike p tr t (opposite r) (opposite s) (opposite_same r s e) h
+value_alike (conjunction p q) tr t r s e (v, w, f, g, l) = (v, w, f, g, least_same v v w w r s (same_reflᵉ v) (same_reflᵉ w) e l)
+value_alike (disjunction p q) tr t r s e (v, w, f, g, l) = (v, w, f, g, greatest_same v v w w r s (same_reflᵉ v) (same_reflᵉ w) e l)
+value_alike (implication p q) tr t r s e (v, w, f, g, l) =
+    (v, w, f, g, greatest_same (opposite v) (opposite v) w w r s (same_reflᵉ (opposite v)) (same_reflᵉ w) e l)
+value_alike (eventually a b i j p) tr t r s e h = sup_value_same r s e h
+value_alike (always a b i j p) tr t r s e h = inf_value_same r s e h
+value_alike (once a b i j p) tr t r s e h = sup_value_same r s e h
+value_alike (historically a b i j p) tr t r s e h = inf_value_same r s e h
+value_alike (until a b p q) tr t r s e h = sup_value_same r s e h
+value_alike (since a b p q) tr t r s e h = sup_value_same r s e h
+
+margin_by : (M : ℕ) (rel : Rel) (x y : Rational) → y ≈ stretch M x → margin rel y ≈ stretch M (margin rel x)
+margin_by M AtLeast x y e = e
+margin_by M Above x y e = e
+margin_by M AtMost x y e = same_negate e
+margin_by M Below x y e = same_negate e
+
+module _ (K M : ℕ) (kp : 0 < K) (mp : 0 < M) where
+  -- the values of G are M times those of F, at times K times as far
+  record AreFiner (F G : Function) (t : Rational) : Type 0 where
+    forth : (v : Extended) → F t v → G (stretch K t) (stretchᵉ M v)
+    back : (v : Extended) → G (stretch K t) (stretchᵉ M v) → F t v
+
+  -- G does not depend on the pair of a time, nor on that of a value
+  record IsOfNumbers (G : Function) : Type 0 where
+    times : (t u : Rational) (v : Extended) → t ≈ u → G t v → G u v
+    values : (t : Rational) (v w : Extended) → v ≈ᵉ w → G t v → G t w
+
+  -- windows of times K times as far
+  record AreFinerWindows (V W : Window) : Type 0 where
+    forth : (u : Rational) → V u → W (stretch K u)
+    back : (u : Rational) → W u → V (shrink K kp u)
+
+  times_of : (V W : Window) (F G : Function) → AreFinerWindows V W → IsOfNumbers G → ((u : Rational) → V u → AreFiner F G u)
+      → ((u : Rational) → u ≈ stretch K (shrink K kp u))
+      → AreTimes M mp (λ v. (u : Rational) × V u × F u v) (λ v. (u : Rational) × W u × G u v)
+  times_of V W F G w g f same = record {
+    forth = λ v. λ (u, m, h). (stretch K u, w.forth u m, (f u m).forth v h);
+    back = λ v. λ (u, m, h). (
+      shrink K kp u,
+      w.back u m,
+      (f (shrink K kp u) (w.back u m)).back (shrinkᵉ M mp v) (g.values (stretch K (shrink K kp u)) v (stretchᵉ M (shrinkᵉ M mp v))
+          (same_symᵉ (stretchᵉ M (shrinkᵉ M mp v)) v (stretch-shrinkᵉ M mp v)) (g.times u (stretch K (shrink K kp u)) v (same u) h)),
+    );
+  }
+
+  module _ (t u : Rational) where
+    stretches : AreFinerWindows (Within t u) (Within (stretch K t) (stretch K u))
+    stretches = record {
+      forth = λ v n. within_stretched K n;
+      back = λ v n. within_back K kp (at_part v n);
+    }
+      where
+        at_part : (v : Rational) → Within (stretch K t) (stretch K u) v → Within (stretch K t) (stretch K u) (stretch K (shrink K kp v))
+        at_part v n =
+            let e = stretch-shrink K kp v in
+            record { above = le_trans n.above (ge_of_same e); below = le_trans (le_of_same e) n.below }
+
+  part_same : (u : Rational) → u ≈ stretch K (shrink K kp u)
+  part_same u = same_sym (stretch-shrink K kp u)
+
+  module _ (P Q P' Q' : Function) (number : IsOfNumbers P') (number' : IsOfNumbers Q') where
+    -- the least of a value and an Inf, in smaller ticks: over the stretch from a to b, with Q at u
+    run_by : (a b u : Rational) → ((s : Rational) → Within a b s → AreFiner P P' s) → AreFiner Q Q' u → (v : Extended)
+        → ((x y : Extended) × Q u x × IsInfOver infinity (Within a b) P y × IsLeast x y v)
+        → (x y : Extended) × Q' (stretch K u) x × IsInfOver infinity (Within (stretch K a) (stretch K b)) P' y × IsLeast x y (stretchᵉ M v)
+    run_by a b u f g v (x, y, q, i, l) = (
+      stretchᵉ M x,
+      stretchᵉ M y,
+      g.forth x q,
+      inf_by M mp (times_of (Within a b) (Within (stretch K a) (stretch K b)) P P' (stretches a b) number f part_same) y i,
+      least_by M x y v l,
+    )
+
+    run_back : (a b u : Rational) → ((s : Rational) → Within a b s → AreFiner P P' s) → AreFiner Q Q' u → (v : Extended)
+        → ((x y : Extended) × Q' (stretch K u) x × IsInfOver infinity (Within (stretch K a) (stretch K b)) P' y × IsLeast x y (stretchᵉ M v))
+        → (x y : Extended) × Q u x × IsInfOver infinity (Within a b) P y × IsLeast x y v
+    run_back a b u f g v (x, y, q, i, l) =
+        let c = same_symᵉ (stretchᵉ M (shrinkᵉ M mp x)) x (stretch-shrinkᵉ M mp x) in
+        let d = same_symᵉ (stretchᵉ M (shrinkᵉ M mp y)) y (stretch-shrinkᵉ M mp y) in (
+          shrinkᵉ M mp x,
+          shrinkᵉ M mp y,
+          g.back (shrinkᵉ M mp x) (number'.values (stretch K u) x (stretchᵉ M (shrinkᵉ M mp x)) c q),
+          inf_back M mp (times_of (Within a b) (Within (stretch K a) (stretch K b)) P P' (stretches a b) number f part_same) (shrinkᵉ M mp y)
+              (inf_value_same y (stretchᵉ M (shrinkᵉ M mp y)) d i),
+          least_back M mp (shrinkᵉ M mp x) (shrinkᵉ M mp y) v
+              (least_same x (stretchᵉ M (shrinkᵉ M mp x)) y (stretchᵉ M (shrinkᵉ M mp y)) (stretchᵉ M v) (stretchᵉ M v) c d (same_reflᵉ (stretchᵉ M v)) l),
+        )
+
+  -- what until and since read is of numbers
+  up_of_numbers : (P Q : Function) (t : Rational) → IsOfNumbers Q → IsOfNumbers (IsUpTo infinity P Q t)
+  up_of_numbers P Q t n = record {
+    times = λ u w v e. λ (x, y, q, i, l).
+        (x, y, n.times u w x e q, inf_over_alike (Within t u) (Within t w) P infinity y (λ s m. to_same (same_sym e) m) (λ s m. to_same e m) i, l);
+    values = λ u v w e. λ (x, y, q, i, l). (x, y, q, i, least_same x x y y v w (same_reflᵉ x) (same_reflᵉ y) e l);
+  }
+
+  down_of_numbers : (P Q : Function) (t : Rational) → IsOfNumbers Q → IsOfNumbers (IsDownTo infinity P Q t)
+  down_of_numbers P Q t n = record {
+    times = λ u w v e. λ (x, y, q, i, l).
+        (x, y, n.times u w x e q, inf_over_alike (Within u t) (Within w t) P infinity y (λ s m. from_same (same_sym e) m) (λ s m. from_same e m) i, l);
+    values = λ u v w e. λ (x, y, q, i, l). (x, y, q, i, least_same x x y y v w (same_reflᵉ x) (same_reflᵉ y) e l);
+  }
+
+  module _ (tr : Trace) (ok : IsTrace tr) (scale : Scale) where
+    abbrev smaller : Trace
+    smaller = fine K M kp mp tr ok scale
+
+    abbrev F : Subformula → Function
+    F p = SupInf p (margin_setting tr)
+
+    abbrev G : Subformula → Function
+    G p = SupInf (finer_tree K M p) (margin_setting smaller)
+
+    of_numbers : (p : Subformula) → IsOfNumbers (G p)
+    of_numbers p = record {
+      times = λ t u v e h. SupInf-same (finer_tree K M p) (margin_setting smaller) v e h;
+      values = λ t v w e h. value_alike (finer_tree K M p) smaller t v w e h;
+    }
+
+    ahead_windows : (a b : ℕ) (i j : Bool) (t : Rational)
+        → AreFinerWindows (Ahead (start tr) (stop tr) a b i j t) (Ahead (start smaller) (stop smaller) (K * a) (K * b) i j (stretch K t))
+    ahead_windows a b i j t = record {
+      forth = λ u w. ahead_by K kp (ends K M kp mp tr ok scale) w;
+      back = λ u w. ahead_back K kp (ends K M kp mp tr ok scale) a b i j t (shrink K kp u) (ahead_at (part_same u) w);
+    }
+
+    behind_windows : (a : ℕ) (b : Option ℕ) (i j : Bool) (t : Rational)
+        → AreFinerWindows (Behind (start tr) (stop tr) a b i j t)
+        (Behind (start smaller) (stop smaller) (K * a) (option_map (λ b. K * b) b) i j (stretch K t))
+    behind_windows a b i j t = record {
+      forth = λ u w. behind_by K kp (ends K M kp mp tr ok scale) w;
+      back = λ u w. behind_back K kp (ends K M kp mp tr ok scale) a b i j t (shrink K kp u) (behind_at (part_same u) w);
+    }
+
+    -- a value is M times its M-th part
+    whole_of : (x : Extended) → x ≈ᵉ stretchᵉ M (shrinkᵉ M mp x)
+    whole_of x = same_symᵉ (stretchᵉ M (shrinkᵉ M mp x)) x (stretch-shrinkᵉ M mp x)
+
+    -- the Sup over a window, and the Inf
+    sup_finer : (V W : Window) (A B : Function) (t : Rational) → AreFinerWindows V W → IsOfNumbers B → ((u : Rational) → V u → AreFiner A B u) → (v : Extended)
+        → IsSupOver minus_infinity V A v ↔ IsSupOver minus_infinity W B (stretchᵉ M v)
+    sup_finer V W A B t w n f v = let e = times_of V W A B w n f part_same in (sup_by M mp e v, sup_back M mp e v)
+
+    inf_finer : (V W : Window) (A B : Function) (t : Rational) → AreFinerWindows V W → IsOfNumbers B → ((u : Rational) → V u → AreFiner A B u) → (v : Extended)
+        → IsInfOver infinity V A v ↔ IsInfOver infinity W B (stretchᵉ M v)
+    inf_finer V W A B t w n f v = let e = times_of V W A B w n f part_same in (inf_by M mp e v, inf_back M mp e v)
+
+    -- the robustness is M times as large at K times as far
+    pub margins_by : (p : Subformula) (t : Rational) (v : Extended) → F p t v ↔ G p (stretch K t) (stretchᵉ M v)
+    margins_by (constant true) t v = (λ h. same_stretchᵉ M v infinity h, λ h. same_backᵉ M mp v infinity h)
+    margins_by (constant false) t v = (λ h. same_stretchᵉ M v minus_infinity h, λ h. same_backᵉ M mp v minus_infinity h)
+    margins_by (atom i a) t v =
+        let x = expression a tr t in
+        let y = expression (scaled_atom M a) smaller (stretch K t) in
+        let e = margin_by M a.rel x y (expression_by K M kp mp tr ok scale a t) in
+        let d = finite_same e in (
+          λ h. same_transᵉ (stretchᵉ M v) (finite (stretch M (margin a.rel x))) (finite (margin a.rel y))
+              (same_stretchᵉ M v (finite (margin a.rel x)) h) (same_symᵉ (finite (margin a.rel y)) (finite (stretch M (margin a.rel x))) d),
+          λ h. same_backᵉ M mp v (finite (margin a.rel x)) (same_transᵉ (stretchᵉ M v) (finite (margin a.rel y)) (finite (stretch M (margin a.rel x))) h d),
+        )
+    margins_by (negation p) t v =
+        subst (λ z. F p t (opposite v) ↔ G p (stretch K t) z) (sym (opposite_stretch M v)) (margins_by p t (opposite v))
+    margins_by (conjunction p q) t v = (
+      λ (x, y, f, g, l). (stretchᵉ M x, stretchᵉ M y, (margins_by p t x).0 f, (margins_by q t y).0 g, least_by M x y v l),
+      λ (x, y, f, g, l). (
+        shrinkᵉ M mp x,
+        shrinkᵉ M mp y,
+        (margins_by p t (shrinkᵉ M mp x)).1 ((of_numbers p).values (stretch K t) x (stretchᵉ M (shrinkᵉ M mp x)) (whole_of x) f),
+        (margins_by q t (shrinkᵉ M mp y)).1 ((of_numbers q).values (stretch K t) y (stretchᵉ M (shrinkᵉ M mp y)) (whole_of y) g),
+        least_back M mp (shrinkᵉ M mp x) (shrinkᵉ M mp y) v
+            (least_same x (stretchᵉ M (shrinkᵉ M mp x)) y (stretchᵉ M (shrinkᵉ M mp y)) (stretchᵉ M v) (stretchᵉ M v) (whole_of x) (whole_of y) (same_reflᵉ (stretchᵉ M v)) l),
+      ),
+    )
+    margins_by (disjunction p q) t v = (
+      λ (x, y, f, g, l). (stretchᵉ M x, stretchᵉ M y, (margins_by p t x).0 f, (margins_by q t y).0 g, greatest_by M x y v l),
+      λ (x, y, f, g, l). (
+        shrinkᵉ M mp x,
+        shrinkᵉ M mp y,
+        (margins_by p t (shrinkᵉ M mp x)).1 ((of_numbers p).values (stretch K t) x (stretchᵉ M (shrinkᵉ M mp x)) (whole_of x) f),
+        (margins_by q t (shrinkᵉ M mp y)).1 ((of_numbers q).values (stretch K t) y (stretchᵉ M (shrinkᵉ M mp y)) (whole_of y) g),
+        greatest_back M mp (shrinkᵉ M mp x) (shrinkᵉ M mp y) v
+            (greatest_same x (stretchᵉ M (shrinkᵉ M mp x)) y (stretchᵉ M (shrinkᵉ M mp y)) (stretchᵉ M v) (stretchᵉ M v) (whole_of x) (whole_of y) (same_reflᵉ (stretchᵉ M v)) l),
+      ),
+    )
+    margins_by (implication p q) t v = (
+      λ (x, y, f, g, l). (
+        stretchᵉ M x,
+        stretchᵉ M y,
+        (margins_by p t x).0 f,
+        (margins_by q t y).0 g,
+        subst (λ z. IsGreatest z (stretchᵉ M y) (stretchᵉ M v)) (sym (opposite_stretch M x)) (greatest_by M (opposite x) y v l),
+      ),
+      λ (x, y, f, g, l). (
+        shrinkᵉ M mp x,
+        shrinkᵉ M mp y,
+        (margins_by p t (shrinkᵉ M mp x)).1 ((of_numbers p).values (stretch K t) x (stretchᵉ M (shrinkᵉ M mp x)) (whole_of x) f),
+        (margins_by q t (shrinkᵉ M mp y)).1 ((of_numbers q).values (stretch K t) y (stretchᵉ M (shrinkᵉ M mp y)) (whole_of y) g),
+        greatest_back M mp (opposite (shrinkᵉ M mp x)) (shrinkᵉ M mp y) v
+            (subst (λ z. IsGreatest z (stretchᵉ M (shrinkᵉ M mp y)) (stretchᵉ M v)) (opposite_stretch M (shrinkᵉ M mp x))
+            (greatest_same (opposite x) (opposite (stretchᵉ M (shrinkᵉ M mp x))) y (stretchᵉ M (shrinkᵉ M mp y)) (stretchᵉ M v) (stretchᵉ M v)
+            (opposite_same x (stretchᵉ M (shrinkᵉ M mp x)) (whole_of x)) (whole_of y) (same_reflᵉ (stretchᵉ M v)) l)),
+      ),
+    )
+    margins_by (eventually a b i j p) t v =
+        sup_finer (Ahead (start tr) (stop tr) a b i j t) (Ahead (start smaller) (stop smaller) (K * a) (K * b) i j (stretch K t)) (F p) (G p) t
+        (ahead_windows a b i j t) (of_numbers p) (λ u m. record { forth = λ x. (margins_by p u x).0; back = λ x. (margins_by p u x).1 }) v
+    margins_by (always a b i j p) t v =
+        inf_finer (Ahead (start tr) (stop tr) a b i j t) (Ahead (start smaller) (stop smaller) (K * a) (K * b) i j (stretch K t)) (F p) (G p) t
+        (ahead_windows a b i j t) (of_numbers p) (λ u m. record { forth = λ x. (margins_by p u x).0; back = λ x. (margins_by p u x).1 }) v
+    margins_by (once a b i j p) t v =
+        sup_finer (Behind (start tr) (stop tr) a b i j t) (Behind (start smaller) (stop smaller) (K * a) (option_map (λ b. K * b) b) i j (stretch K t)) (F p) (G p) t
+        (behind_windows a b i j t) (of_numbers p) (λ u m. record { forth = λ x. (margins_by p u x).0; back = λ x. (margins_by p u x).1 }) v
+    margins_by (historically a b i j p) t v =
+        inf_finer (Behind (start tr) (stop tr) a b i j t) (Behind (start smaller) (stop smaller) (K * a) (option_map (λ b. K * b) b) i j (stretch K t)) (F p) (G p) t
+        (behind_windows a b i j t) (of_numbers p) (λ u m. record { forth = λ x. (margins_by p u x).0; back = λ x. (margins_by p u x).1 }) v
+    margins_by (until a b p q) t v =
+        sup_finer (Ahead (start tr) (stop tr) a b true true t) (Ahead (start smaller) (stop smaller) (K * a) (K * b) true true (stretch K t))
+        (IsUpTo infinity (F p) (F q) t) (IsUpTo infinity (G p) (G q) (stretch K t)) t (ahead_windows a b true true t)
+        (up_of_numbers (G p) (G q) (stretch K t) (of_numbers q)) (λ u m. record {
+          forth = λ x. run_by (F p) (F q) (G p) (G q) (of_numbers p) (of_numbers q) t u u
+              (λ s n. record { forth = λ y. (margins_by p s y).0; back = λ y. (margins_by p s y).1 })
+              (record { forth = λ y. (margins_by q u y).0; back = λ y. (margins_by q u y).1 }) x;
+          back = λ x. run_back (F p) (F q) (G p) (G q) (of_numbers p) (of_numbers q) t u u
+              (λ s n. record { forth = λ y. (margins_by p s y).0; back = λ y. (margins_by p s y).1 })
+              (record { forth = λ y. (margins_by q u y).0; back = λ y. (margins_by q u y).1 }) x;
+        }) v
+    margins_by (since a b p q) t v =
+        sup_finer (Behind (start tr) (stop tr) a b true true t) (Behind (start smaller) (stop smaller) (K * a) (option_map (λ b. K * b) b) true true (stretch K t))
+        (IsDownTo infinity (F p) (F q) t) (IsDownTo infinity (G p) (G q) (stretch K t)) t (behind_windows a b true true t)
+        (down_of_numbers (G p) (G q) (stretch K t) (of_numbers q)) (λ u m. record {
+          forth = λ x. run_by (F p) (F q) (G p) (G q) (of_numbers p) (of_numbers q) u t u
+              (λ s n. record { forth = λ y. (margins_by p s y).0; back = λ y. (margins_by p s y).1 })
+              (record { forth = λ y. (margins_by q u y).0; back = λ y. (margins_by q u y).1 }) x;
+          back = λ x. run_back (F p) (F q) (G p) (G q) (of_numbers p) (of_numbers q) u t u
+              (λ s n. record { forth = λ y. (margins_by p s y).0; back = λ y. (margins_by p s y).1 })
+              (record { forth = λ y. (margins_by q u y).0; back = λ y. (margins_by q u y).1 }) x;
+        }) v

@@ -1,0 +1,43 @@
+-- What `robust` writes in smaller ticks.
+use Rattle.std.proofs.Common.{◌^◌, sym, subst}
+use Rattle.stl_syntax.specs.Formula.{Subformula, root}
+use Rattle.stl_syntax.specs.Knots.{Knots}
+use Rattle.stl_syntax.specs.Scaling.{scaled}
+use Rattle.stl_syntax.specs.Texts.{AreMarginLines}
+use Rattle.stl_syntax.specs.Verdicts.{DescribesMargins}
+use Rattle.report.specs.Units.{finer, RobustIsOfUnits}
+use Rattle.report.proofs.FinerTrees.{finer_tree, root_finer}
+use Rattle.report.proofs.FinerTruth.{some_power}
+use Rattle.report.proofs.KnotsChange.{knots_by, describes_by, margin_lines_by}
+use Rattle.report.proofs.FinerKnots.{to_smaller, from_smaller, number_text_by, number_text_back, value_text_by, value_text_back}
+
+pub robust_is_of_units : RobustIsOfUnits
+robust_is_of_units f tr k m ok ft fv text = (forth, back)
+  where
+    Writes : Subformula → Type 0
+    Writes q = (knots : Knots) × DescribesMargins knots q (finer k m tr) × AreMarginLines (finer k m tr).header.scale knots text
+
+    forth : ((knots : Knots) × DescribesMargins knots (root (scaled f tr.header.scale).nodes) tr × AreMarginLines tr.header.scale knots text)
+        → Writes (root (scaled f (finer k m tr).header.scale).nodes)
+    forth (knots, d, l) =
+        let c = to_smaller (10 ^ k) (10 ^ m) (some_power k) (some_power m) tr ok (finer k m tr).header.scale (root (scaled f tr.header.scale).nodes) in
+        subst Writes (sym (root_finer f tr.header.scale k m ft fv)) (
+          knots_by c knots,
+          describes_by c knots d,
+          margin_lines_by c tr.header.scale (finer k m tr).header.scale (λ t x h. number_text_by tr.header.scale.time k t x h)
+              (λ v x h. value_text_by tr.header.scale.value m v x h) knots text l,
+        )
+
+    back : Writes (root (scaled f (finer k m tr).header.scale).nodes)
+        → (knots : Knots) × DescribesMargins knots (root (scaled f tr.header.scale).nodes) tr × AreMarginLines tr.header.scale knots text
+    back h = from_same (subst Writes (root_finer f tr.header.scale k m ft fv) h)
+      where
+        from_same : Writes (finer_tree (10 ^ k) (10 ^ m) (root (scaled f tr.header.scale).nodes))
+            → (knots : Knots) × DescribesMargins knots (root (scaled f tr.header.scale).nodes) tr × AreMarginLines tr.header.scale knots text
+        from_same (knots, d, l) =
+            let c = from_smaller (10 ^ k) (10 ^ m) (some_power k) (some_power m) tr ok (finer k m tr).header.scale (root (scaled f tr.header.scale).nodes) in (
+              knots_by c knots,
+              describes_by c knots d,
+              margin_lines_by c (finer k m tr).header.scale tr.header.scale (λ t x h. number_text_back tr.header.scale.time k (some_power k) t x h)
+                  (λ v x h. value_text_back tr.header.scale.value m (some_power m) v x h) knots text l,
+            )
