@@ -11,4 +11,5 @@ pub mod Stretches
 pub mod InPlay
 pub mod WindowLemmas
 pub mod UntilLemmas
+mod Keeping
 pub mod PlainAtoms

@@ -1,9 +1,9 @@
 -- What the signal that is made at a place of a formula takes, keeps and tells.
-use Rattle.std.specs.Prelude.{◌≡◌, ℕ, ◌+◌, List, take, drop, sum_by}
+use Rattle.std.specs.Prelude.{◌≡◌, ℕ, ◌+◌, List, take, drop, sum_by, Some, slice_get}
 use Rattle.value_laws.specs.Members.{ShapeOf}
 use Rattle.pl_signal.specs.declared.knot.Knot.{Knot}
 use Rattle.pl_signal.specs.declared.faults.OpFault.{OpFault}
-use Rattle.stl_syntax.specs.Formula.{subformula}
+use Rattle.stl_syntax.specs.Formula.{Subformula, subformula, tree_of}
 use Rattle.stl_syntax.specs.Limits.{own_reach}
 use Rattle.stl_syntax.specs.SupInf.{Setting}
 use Rattle.stl_syntax.specs.declared.node.Node.{Node}
@@ -23,15 +23,20 @@ module _ {P : Type 0} (shape : ShapeOf P) where
   abbrev pub PlaceStaysSound : ℕ → ℕ → List Node → ℕ → List (List (Knot P)) → List (Knot P) → Type 0
   PlaceStaysSound from to nodes i xs r = AreSound shape from to (reach_before nodes i) xs → IsSound shape from to (reach_before nodes (i + 1)) r
 
+-- the formulas at the places are those of the nodes where the node at place i has its children
+abbrev pub AgreeAt : List Node → ℕ → (ℕ → Subformula) → Type 0
+AgreeAt nodes i at = (n : Node) → slice_get nodes i ≡ Some n → tree_of at i n ≡ tree_of (subformula nodes) i n
+
 module _ {P : Type 0} (shape : ShapeOf P) where
-  -- where the atoms' signals tell the atoms, and the signals before it tell their nodes, the new signal tells its node
+  -- where the atoms' signals tell the atoms, and those of its children tell their nodes, the new signal tells its node
   abbrev pub TellsPlace : ℕ → ℕ → List Node → ℕ → List (List (Knot P)) → List (List (Knot P)) → List (Knot P) → Type 0
   TellsPlace from to nodes i left xs r =
-      (s : Setting) (all : List (List (Knot P))) → IsOver shape.lowest shape.highest from to s → left ≡ drop (atoms_before nodes i) all
-      → TellAtoms shape nodes all s
-      → TellAt shape s (subformula nodes) xs → TellsValue shape s (subformula nodes i) r
+      (s : Setting) (at : ℕ → Subformula) (all : List (List (Knot P))) → IsOver shape.lowest shape.highest from to s
+      → left ≡ drop (atoms_before nodes i) all → TellAtoms shape nodes all s
+      → AgreeAt nodes i at → TellAt shape s at xs → TellsValue shape s (subformula nodes i) r
 
   -- there a fault is one of its node
   abbrev pub FaultOfPlace : ℕ → ℕ → List Node → ℕ → List (List (Knot P)) → OpFault P → Type 0
-  FaultOfPlace from to nodes i xs e = (s : Setting) → IsOver shape.lowest shape.highest from to s → TellAt shape s (subformula nodes) xs
+  FaultOfPlace from to nodes i xs e =
+      (s : Setting) (at : ℕ → Subformula) → IsOver shape.lowest shape.highest from to s → AgreeAt nodes i at → TellAt shape s at xs
       → IsFaultOf shape s (subformula nodes i) e

@@ -44,7 +44,7 @@ impl<P: Shape> Evaluated<P> {
 }
 
 /// The signal of the node at place `i`; that of an atom is the next of `atoms`.
-fn next_signal<P: Shape>(
+pub(crate) fn next_signal<P: Shape>(
     alloc: Global,
     formula: &Formula,
     i: u32,
@@ -71,7 +71,7 @@ fn next_signal<P: Shape>(
 }
 
 /// The fault at its node.
-fn at_node<P>(node: u32, fault: OpFault<P>) -> EvalFault<P>
+pub(crate) fn at_node<P>(node: u32, fault: OpFault<P>) -> EvalFault<P>
     ensures { result ≡ fault_at node fault }
 {
     match fault {

@@ -7,9 +7,11 @@ mod evaluation;
 mod faults;
 pub mod laws;
 mod nodes;
+mod root;
 mod untils;
 mod windows;
 
 pub use atoms::Atoms;
 pub use evaluation::{Evaluated, eval};
 pub use faults::{EvalFault, WideCause};
+pub use root::eval_root;

@@ -16,7 +16,17 @@ use Rattle.online_nodes.specs.declared.cut.Cut.{Cut}
 use Rattle.online_nodes.specs.declared.window.Sweep.{Sweep}
 use Rattle.online_nodes.specs.declared.until.Until.{Until}
 use Rattle.online_nodes.proofs.JoinLemmas.{after_at_most}
-use Rattle.online_nodes.proofs.PlaceLemmas.{not_both, between, before_through, place_order, upto_of_before, upto_same, after_same, same_places, at_most_of_not_before}
+use Rattle.online_nodes.proofs.PlaceLemmas.{
+  not_both,
+  between,
+  before_through,
+  place_order,
+  upto_of_before,
+  upto_same,
+  after_same,
+  same_places,
+  at_most_of_not_before,
+}
 use Rattle.online_nodes.proofs.SaidLemmas.{passed-fresh}
 use Rattle.online_nodes.proofs.UntilLaw.{knows_right_fails, knows_left_holds, knows_both, not_yet, settled}
 use Rattle.online_nodes.proofs.UntilTurns.{goes_on_from, left-next, left-is, turned-remembers}

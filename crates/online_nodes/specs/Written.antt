@@ -16,11 +16,12 @@ use Rattle.std.specs.Prelude.{
   ◌++◌,
   length,
 }
-use Rattle.rational.specs.Time.{Rational}
+use Rattle.rational.specs.Time.{Rational, Interval}
 use Rattle.frac128.specs.Spans.{interval}
 use Rattle.stl_syntax.specs.Trace.{Trace}
 use Rattle.stl_syntax.specs.Formula.{Subformula}
 use Rattle.stl_syntax.specs.Truth.{Truth}
+use Rattle.stl_syntax.specs.Verdicts.{Describes}
 use Rattle.stl_syntax.specs.declared.items.Verdict.{Verdict}
 use Rattle.online_nodes.specs.Cuts.{Place, place, begins, ends, After, Upto, AtMost, Before, Same}
 use Rattle.online_nodes.specs.Reading.{AllAre}
@@ -90,10 +91,13 @@ pub record Reaches (before : Out) (cut : Cut) (after : Out) : Type 0 where
   pub reached : (t : Rational) → Upto (place cut) t → Upto (place before.to) t → Upto (place after.at) t
   pub no_more : (t : Rational) → After (place before.at) t → Upto (place after.at) t → Upto (place cut) t
 
--- all was put that was told
+-- all was put that was told: where the writer came to the end of a stretch and what it told from the begin on is the truth, the list
+-- describes the node there
 pub record HasFinished (old new : Held) (out : Out) : Type 0 where
   pub more : List Verdict
   pub few : length more ≤ 1
   pub got : HasGot old new out.edge more
   pub told : (n : Subformula) (tr : Trace) (begin : Place) (written : List Verdict) → HasTold n tr begin written out
       → (last : Option Bool) × Lead n tr begin None (written ++ more) (place out.at) last
+  pub describes : (n : Subformula) (tr : Trace) (stretch : Interval) (written : List Verdict) → Before (begins stretch) (ends stretch)
+      → HasTold n tr (begins stretch) written out → Same (place out.at) (ends stretch) → Describes (written ++ more) n tr stretch

@@ -1,7 +1,7 @@
 -- A signal as the plain list of its knots: times, the values there, and the two limits of each piece between, with no shape in it.
 use Rattle.std.specs.Prelude.{List, [], ◌∷◌, pos}
 use Rattle.rational.specs.Time.{whole}
-use Rattle.rational.specs.Extended.{Affine, finite, value_at}
+use Rattle.rational.specs.Extended.{finite, value_at}
 use Rattle.rational.specs.Knots as plain
 use Rattle.rational.specs.Knots.{Piece, Knots}
 use Rattle.value_laws.specs.Members.{ShapeOf}

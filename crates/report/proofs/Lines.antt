@@ -2,7 +2,6 @@
 use Rattle.std.proofs.Common.{◌≡◌, ℕ, ℤ, pos, ◌*ℤ◌, ◌*◌, ◌^◌, ◌<◌, List, [], ◌∷◌, ◌++◌, append-nil, append_assoc, refl, sym, ap, ◌∙◌, arith, mul-pos}
 use Rattle.std.proofs.Math.Nat.{one-le-pow}
 use Rattle.rational.specs.Time.{Rational, ratio, ◌≈◌, closed}
-use Rattle.rational.specs.Extended.{Affine}
 use Rattle.rational.proofs.Lowest.{has_denominator}
 use Rattle.rational.proofs.Mixed.{mul_parts}
 use Rattle.frac128.specs.Value.{value}

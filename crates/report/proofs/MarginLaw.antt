@@ -1,7 +1,7 @@
 -- The plain knots of a signal that tells a robustness describe it.
-use Rattle.std.proofs.Common.{◌≡◌, List, [], ◌∷◌, inl, inr, refl, arith}
+use Rattle.std.proofs.Common.{List, [], ◌∷◌, inl, inr, refl, arith}
 use Rattle.rational.specs.Time.{Rational, ◌<ʳ◌, ◌≈◌}
-use Rattle.rational.specs.Extended.{Affine, Extended, value_at}
+use Rattle.rational.specs.Extended.{Extended, value_at}
 use Rattle.rational.proofs.Order.{same_refl, same_sym, same_trans}
 use Rattle.rational.proofs.AffineLemmas.{same_reflᵉ}
 use Rattle.value_laws.specs.Members.{ShapeOf}

@@ -1,18 +1,17 @@
 -- The lines of margins from their parts.
-use Rattle.std.proofs.Common.{◌≡◌, ℕ, suc, zero, ◌+◌, List, [], ◌∷◌, ◌++◌, drop, length, codes, append-nil, append_assoc, refl, sym, ap, ◌∙◌, arith, Some, subst}
+use Rattle.std.proofs.Common.{◌≡◌, ℕ, suc, zero, List, [], ◌∷◌, ◌++◌, drop, length, codes, append-nil, append_assoc, refl, sym, ap, ◌∙◌, arith, Some, subst}
 use Rattle.std.specs.Prelude.{slice_get, Result, OnOk, OnErr}
 use Rattle.std.proofs.lemmas.Result.{on_ok_weaker, on_err_weaker}
-use Rattle.rational.specs.Time.{Rational, Within, ◌≤ʳ◌}
+use Rattle.rational.specs.Time.{Rational}
 use Rattle.rational.specs.Rational.{IsWithin}
-use Rattle.rational.specs.Extended.{Affine, Extended, minus_infinity, finite, infinity, value_at}
+use Rattle.rational.specs.Extended.{Extended, minus_infinity, finite, infinity, value_at}
 use Rattle.rational.specs.Knots as plain
 use Rattle.rational.specs.Knots.{Piece}
 use Rattle.rational.proofs.Order.{le_trans, same_refl}
-use Rattle.frac128.specs.Value.{value}
 use Rattle.value_laws.specs.Members.{ShapeOf}
 use Rattle.pl_signal.specs.declared.knot.Knot.{Knot}
 use Rattle.pl_signal.specs.Knots.{time, start, stop, IsSignal}
-use Rattle.pl_signal.specs.Plain.{plain_knot, plain_piece, pieces_of, knots_of}
+use Rattle.pl_signal.specs.Plain.{plain_knot, pieces_of, knots_of}
 use Rattle.pl_signal.proofs.Values.{some_is, worth_at, worth_within}
 use Rattle.value_laws.specs.declared.margin.Margin.{Margin}
 use Rattle.value_laws.specs.Margins.{margin_function}

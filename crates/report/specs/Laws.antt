@@ -1,7 +1,6 @@
 -- What the verdicts of a signal say of a formula.
 use Rattle.std.specs.Prelude.{List}
 use Rattle.rational.specs.Time.{closed}
-use Rattle.rational.specs.Extended.{Affine}
 use Rattle.value_laws.specs.Members.{ShapeOf}
 use Rattle.pl_signal.specs.declared.knot.Knot.{Knot}
 use Rattle.pl_signal.specs.Knots as knots

@@ -1,7 +1,7 @@
 -- The lines of a signal's margins, part by part.
-use Rattle.std.specs.Prelude.{ℕ, List, [], ◌∷◌, codes}
+use Rattle.std.specs.Prelude.{ℕ, List, [], ◌∷◌}
 use Rattle.rational.specs.Time.{Rational}
-use Rattle.rational.specs.Extended.{Affine, Extended}
+use Rattle.rational.specs.Extended.{Extended}
 use Rattle.value_laws.specs.Members.{ShapeOf}
 use Rattle.pl_signal.specs.declared.knot.Knot.{Knot}
 use Rattle.pl_signal.specs.Plain.{plain_knot, plain_piece, pieces_of}

@@ -77,5 +77,6 @@ module _ {T : Type 0} {cells now : Slab (Cell T)} {ends : List Ends} {spare list
           let fewer : suc n - 1 ≡ n = omega arith in
           changes_list cells now ends list _ _ sound.labels sound.labels sound.listed
           (rw fewer (chain_from_lower now sound.labels list read.last n low 0 cell.next (omega arith) now_rest))
-          (rw (fewer, items_from-found cells n read.first cell found) (kept_items cells sound.labels list read.last now sound.labels n low cell.next keeps rest))
+          (rw (fewer, items_from-found cells n read.first cell found)
+          (kept_items cells sound.labels list read.last now sound.labels n low cell.next keeps rest))
           (λ other differs. beside_removed cells now sound.labels list read.first removed other differs chain.2)

@@ -149,7 +149,10 @@ module _ {T : Type 0} {cells inserted : Slab (Cell T)} {ends : List Ends} {spare
       changes_list cells inserted ends list _ _ sound.labels (labelled sound.labels key list 0) sound.listed
       (cell_of item 0, updates.changed, relabel-same sound.labels.owner key list, omega arith, λ _. refl, tt)
       (items_from-found inserted 0 key _ updates.changed)
-      (λ other differs. record { at = λ k cell found owned placed. keeps_labelled cells inserted sound.labels key list 0 k cell vacant found (inserted_keeps vacant updates k cell found) })
+      (λ other differs. record {
+        at = λ k cell found owned placed. keeps_labelled cells inserted sound.labels key list 0 k cell vacant
+            found (inserted_keeps vacant updates k cell found);
+      })
 
   -- the insertion and the link from the list's last cell
   linked_pushed : (now : Slab (Cell T)) (last : ℕ) → IsEnd cells sound.labels list last 0
@@ -179,7 +182,8 @@ module _ {T : Type 0} {cells inserted : Slab (Cell T)} {ends : List Ends} {spare
   pushed_behind : (now : Slab (Cell T)) (n first last : ℕ)
       → IsListed cells sound.labels list (record { first = first; last = last; len = suc n })
       → now ≡ linked inserted last (get inserted last) key
-      → ChangesList cells now ends list (extended (record { first = first; last = last; len = suc n }) key) (items_from cells (suc n) first ++ item ∷ [])
+      → ChangesList cells now ends list (extended (record { first = first; last = last; len = suc n }) key) (items_from cells
+      (suc n) first ++ item ∷ [])
   pushed_behind now n first last chain is_linked =
       let back = end_of cells sound.labels list last n 0 first chain in
       let pushed = linked_pushed now last back is_linked in
@@ -187,7 +191,10 @@ module _ {T : Type 0} {cells inserted : Slab (Cell T)} {ends : List Ends} {spare
       changes_list cells now ends list _ _ sound.labels labels' sound.listed
       (rw (add-one (suc n)) (grown_chain cells now sound.labels labels' list last key item pushed n 0 first chain))
       (rw (add-one (suc n)) (grown_items cells now sound.labels labels' list last key item pushed n 0 first chain))
-      (λ other differs. record { at = λ k cell found owned placed. pushed.others k cell (λ same. differs (sym owned ∙ ap sound.labels.owner same ∙ back.owned)) found })
+      (λ other differs. record {
+        at = λ k cell found owned placed. pushed.others k cell (λ same. differs
+            (sym owned ∙ ap sound.labels.owner same ∙ back.owned)) found;
+      })
 
   -- what an insertion and the link to it change
   pub pushed : {now : Slab (Cell T)} {read : Ends} → HasEnds ends list read → now ≡ pointing inserted read.len read.last key

@@ -1,7 +1,7 @@
 -- Nodes in post-order: children stand below their parents, and a node takes the place of its children among the unused places.
 use Rattle.std.proofs.Common.{◌≡◌, ℕ, zero, suc, ◌+◌, ◌<◌, ◌≤◌, List, [], ◌∷◌, ◌++◌, length, take, refl, sym, ◌∙◌, ap, arith, Bool, true, false, not, ◌||◌, cond, subst, append_assoc, inl, inr, ◌⊎◌}
 use Rattle.std.proofs.lemmas.List.{append-nil, take-append-le, take_at, length_push, take-take, length-take}
-use Rattle.std.proofs.lemmas.List.Elements.{filter-append, filter_agree, All-filter, All-nil, All-cons, All-head, All-tail, All-same, All-weaker}
+use Rattle.std.proofs.lemmas.List.Elements.{filter-append, filter_agree, filter_passes, All-filter, All-nil, All-cons, All-head, All-tail, All-same, All-weaker}
 use Rattle.std.proofs.lemmas.List.Folds.{list_any-append, list_any_none}
 use Rattle.std.proofs.lemmas.Bool.{ne_eqb, eq-eqb, or_left, or_right, or_from, cases_lt}
 use Rattle.std.specs.List.{list_any, range_with_len}
@@ -99,6 +99,23 @@ unused_below nodes =
     let Q : ℕ → Type 0 = λ top. All (λ i. i < top) (range_with_len 0 (length nodes)) in
     All-filter (λ i. not (is_used nodes i)) (λ i. i < length nodes) (range_with_len 0 (length nodes)) (subst Q e (range_below 0 (length nodes)))
 
+free_is_unused : (b : Bool) → not b ≡ true → b ≡ false
+free_is_unused true e = sym e
+free_is_unused false e = refl
+
+-- an unused place is no child
+pub unused_free : (nodes : List Node) → All (λ i. is_used nodes i ≡ false) (unused nodes)
+unfolding unused
+unused_free nodes =
+    All-weaker (λ i. not (is_used nodes i) ≡ true) (λ i. is_used nodes i ≡ false) (λ i e. free_is_unused (is_used nodes i) e) _
+    (filter_passes (λ i. not (is_used nodes i)) (range_with_len 0 (length nodes)))
+
+-- the children of a node that may follow are no children of those before it
+pub children_free : (before : List Node) (n : Node) → MayFollow before n → All (λ p. is_used before p ≡ false) (children n)
+children_free before n h =
+    let P : ℕ → Type 0 = λ p. is_used before p ≡ false in
+    All-append_right P h.others (children n) (All-same P (h.others ++ children n) (unused before) (sym h.last) (unused_free before))
+
 one : (i p : ℕ) → All (λ x. x < i) (p ∷ []) → p < i
 one i p h = All-head (λ x. x < i) p [] h
 
@@ -190,7 +207,7 @@ no_child : (i j : ℕ) (n : Node) → All (λ p. p < i) (children n) → i ≤ j
 no_child i j n h l = list_any_none (λ p. p == j) (children n) (λ k d below. ne_eqb _ j (λ e. absurd (let less = h k d below in omega arith)))
 
 -- the node that comes next has no parent yet
-next_unused : (nodes : List Node) (m : Node) → IsPostOrder nodes → MayFollow nodes m → is_used (nodes ++ m ∷ []) (length nodes) ≡ false
+pub next_unused : (nodes : List Node) (m : Node) → IsPostOrder nodes → MayFollow nodes m → is_used (nodes ++ m ∷ []) (length nodes) ≡ false
 next_unused nodes m h last =
     rw (list_any-append (has_child (length nodes)) nodes (m ∷ []))
     (or_from _ _

@@ -11,18 +11,17 @@ use Rattle.stl_syntax.specs.Trace.{Trace}
 use Rattle.stl_grammar.specs.Grammar.{FormulaText}
 use Rattle.stl_grammar.specs.FormulaRefusals.{IsFormulaOf}
 use Rattle.stl_grammar.proofs.LawProofs.{one_formula}
-use Rattle.report.specs.Report.{Command, check, robust, explain, json, table, Out}
+use Rattle.report.specs.Report.{check, robust, explain, json, table, Out}
 use Rattle.workbench.specs.Words.{AskCheck}
 use Rattle.workbench.specs.Commands.{Judge, judge, judge_word}
 use Rattle.workbench.specs.declared.request.Command.TheVariants.{Check}
 use Rattle.workbench.specs.Commands as word
-use Rattle.workbench.specs.Requests.{Request, no_form, refused, whole, stream, sessions, generated, Stream, verdicts, early, margins, Asks, AreNone, IsAsked, IsAmong, built_commands, IsRefusal, AreHeld, is_held, has_input, usage_line}
-use Rattle.workbench.specs.Owed.{Owes, OwesAtEnd, not_yet, faulty as faulty_at_end, too_many, at_end}
-use Rattle.workbench.specs.Settled.{TellsTruth, HasFault, IsSettled, none, bad, faulty, answered, wide, overfull}
+use Rattle.workbench.specs.Requests.{Request, no_form, refused, whole, stream, sessions, generated, verdicts, early, margins, Asks, AreNone, IsAsked, IsAmong, built_commands, IsRefusal, AreHeld, is_held, has_input, usage_line}
+use Rattle.workbench.specs.Owed.{OwesAtEnd, not_yet, faulty as faulty_at_end, too_many, at_end}
+use Rattle.workbench.specs.Settled.{TellsTruth, none, bad, faulty, answered, wide, overfull}
 use Rattle.workbench.specs.Running.{IsBegun, IsEnd, settled, unread, unwritten, no_memory, HasEnded, asked, unknown, IsRun}
 use Rattle.workbench.specs.Saying.{IsSaid, whole as all_said, part as part_said}
 use Rattle.workbench.specs.InputFaults.{Fault, fault_text, whole_limits, IsInputFault}
-use Rattle.workbench.specs.Answers.{HoldsAtStart}
 use Rattle.workbench.specs.Reading.{IsWhole, IsSound}
 use Rattle.workbench.specs.ErrTexts.{out_of_memory, read_fault, write_fault}
 use Rattle.workbench.specs.Promises as old

@@ -1,5 +1,5 @@
 -- The answer of `robust` for a case: what the root's signal tells, and why there is none.
-use Rattle.std.proofs.Common.{◌≡◌, ℕ, ◌<◌, ◌≤◌, ◌^◌, ◌+◌, ◌*◌, List, inl, inr, pos, refl, ap, subst, arith, true}
+use Rattle.std.proofs.Common.{ℕ, ◌≤◌, ◌^◌, List, inl, inr, pos, refl, subst, arith, true}
 use Rattle.rational.specs.Time.{Rational, whole, ◌≈◌}
 use Rattle.rational.specs.Rational.{IsWithin}
 use Rattle.rational.proofs.Order.{le_trans, le_of_same, ge_of_same}
@@ -18,7 +18,6 @@ use Rattle.stl_syntax.specs.Knots.{Knots}
 use Rattle.stl_syntax.specs.SupInf.{SupInf, HasValues, HasInfs, margins, margin_setting}
 use Rattle.stl_syntax.specs.Texts.{AreMarginLines}
 use Rattle.stl_syntax.specs.Verdicts.{DescribesMargins}
-use Rattle.stl_syntax.specs.declared.node.Node.{Node}
 use Rattle.stl_syntax.proofs.LawProofs.{margins_hold}
 use Rattle.offline_eval.specs.Evaluation.{IsCauseAt}
 use Rattle.offline_eval.specs.declared.faults.EvalFault.{EvalFault}

@@ -1,6 +1,6 @@
 -- How a run ends, from how its parts do.
-use Rattle.std.proofs.Common.{◌≡◌, ◌≢◌, ◌⊎◌, inl, inr, ℕ, ◌≤◌, ◌-◌, Bool, true, false, List, [], ◌∷◌, ◌++◌, length, refl, sym, ap, ◌∙◌, subst, arith, append-nil, Result, Ok, Err}
-use Rattle.std.specs.Prelude.{Option, MatchBool, IsErr}
+use Rattle.std.proofs.Common.{◌≡◌, ◌≢◌, ◌⊎◌, inl, inr, ℕ, ◌≤◌, Bool, true, false, List, [], ◌∷◌, refl, sym, ap, subst, arith, append-nil, Result, Ok, Err}
+use Rattle.std.specs.Prelude.{Option, IsErr}
 use Rattle.std.specs.Io.KnownBytes.{Appends, Consumes, IsAtEnd}
 use Rattle.std.proofs.KnownBytes.{Appends-nil, Consumes-nil}
 use Rattle.std.proofs.lemmas.Bool.{false≢true}
@@ -8,23 +8,23 @@ use Rattle.io_edge.specs.Calls.{Drained, Filled, HasFailed, HasRefused}
 use Rattle.stl_syntax.specs.Formula.{Formula}
 use Rattle.stl_syntax.specs.Trace.{Trace}
 use Rattle.report.specs.Report.{Command, check, robust, explain, json, table, Out}
-use Rattle.workbench.specs.Answers.{HoldsAtStart, IsJudged}
-use Rattle.workbench.specs.Commands.{Judge, Form, judge, generate, IsForm, of_formula, judge_word}
-use Rattle.workbench.specs.Requests.{Request, no_form, refused as bad_request, whole as of_whole, IsAsked, IsAmong, built_commands, AreNone, AreFor, word_of, has_input, usage_line, IsUnserved}
-use Rattle.workbench.specs.Owed.{Owes, OwesAtEnd, not_yet, faulty as faulty_at_end, at_end as owed_at_end}
-use Rattle.workbench.specs.Settled.{HasFault, IsPrompt, IsSettled, none, bad, faulty, answered as settled_answer, wide as settled_wide}
-use Rattle.workbench.specs.Running.{IsBegun, IsTimely, IsEnd, settled, unread, unwritten, no_memory, HasEnded, asked, unknown, IsRun}
+use Rattle.workbench.specs.Answers.{IsJudged}
+use Rattle.workbench.specs.Commands.{Judge, judge, generate, IsForm, of_formula, judge_word}
+use Rattle.workbench.specs.Requests.{no_form, refused as bad_request, whole as of_whole, IsAsked, IsAmong, built_commands, AreNone, AreFor, word_of, usage_line, IsUnserved}
+use Rattle.workbench.specs.Owed.{OwesAtEnd, not_yet, faulty as faulty_at_end, at_end as owed_at_end}
+use Rattle.workbench.specs.Settled.{IsPrompt, none, bad, faulty, answered as settled_answer, wide as settled_wide}
+use Rattle.workbench.specs.Running.{IsTimely, IsEnd, settled, unread, unwritten, no_memory, HasEnded, asked, unknown, IsRun}
 use Rattle.workbench.specs.Saying.{IsSaid}
-use Rattle.workbench.specs.InputFaults.{Fault, fault_text, whole_limits, IsInputFault}
-use Rattle.workbench.specs.Reading.{IsReadWhole, IsReadPromptly, IsStop, IsWhole}
+use Rattle.workbench.specs.InputFaults.{Fault, whole_limits, IsInputFault}
+use Rattle.workbench.specs.Reading.{IsReadWhole, IsReadPromptly, IsStop}
 use Rattle.workbench.specs.Writing.{IsPartWritten}
 use Rattle.workbench.specs.declared.request.Command.{Command as Word}
 use Rattle.workbench.specs.declared.request.Command.TheVariants.{Check, Robust}
-use Rattle.workbench.specs.Wholes.{command_of, status_of_truth, IsAnswerOf, IsUnanswered, IsWrittenWith, all_of_it, a_part, IsWholeEnd, answered, unanswered, stopped, status_of, status_of_stop, IsEndLine, IsStopLine, HasFaultFor, EndsSoundly, IsBadEnd, refused, no_room}
+use Rattle.workbench.specs.Wholes.{command_of, status_of_truth, IsAnswerOf, IsUnanswered, IsWrittenWith, all_of_it, a_part, IsWholeEnd, answered, unanswered, stopped, status_of, status_of_stop, IsEndLine, IsStopLine, EndsSoundly, IsBadEnd, refused, no_room}
 use Rattle.workbench.specs.declared.case.Case.{Case}
 use Rattle.workbench.specs.declared.fault.Stop.{Stop}
 use Rattle.workbench.specs.declared.fault.Stop.TheVariants.{Fault as Faulty, Unread, Unwritten, NoMemory, Wide}
-use Rattle.workbench.specs.ErrTexts.{out_of_memory, read_fault, write_fault}
+use Rattle.workbench.specs.ErrTexts.{write_fault}
 
 -- ---- words
 

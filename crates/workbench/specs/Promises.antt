@@ -1,19 +1,16 @@
 -- The promises of the command `check`, clause by clause.
-use Rattle.std.specs.Prelude.{◌≡◌, ◌≢◌, ◌⊎◌, ℕ, ◌≤◌, Bool, true, false, List, [], ◌++◌, codes, Option, Some, Result, Ok, Err}
-use Rattle.std.specs.Io.KnownBytes.{Appends}
+use Rattle.std.specs.Prelude.{◌≡◌, ◌≢◌, ◌⊎◌, ℕ, ◌≤◌, Bool, true, List, [], ◌++◌, Option, Some}
 use Rattle.io_edge.specs.Causes.{Rose}
 use Rattle.stl_syntax.specs.Formula.{Formula}
 use Rattle.stl_syntax.specs.Trace.{Trace}
-use Rattle.stl_syntax.specs.Texts.{newline}
 use Rattle.stl_grammar.specs.FormulaRefusals.{IsFormulaOf, IsFormulaFault}
 use Rattle.stl_grammar.specs.declared.fault.FormulaFault.{FormulaFault}
-use Rattle.stl_grammar.specs.declared.fault.FormulaFault.TheVariants as fault
 use Rattle.report.specs.Report.{Out, check}
 use Rattle.workbench.specs.Words.{AskCheck}
 use Rattle.workbench.specs.Requests.{usage_line}
 use Rattle.workbench.specs.InputFaults.{Fault, fault_text, whole_limits, IsInputFault}
-use Rattle.workbench.specs.Answers.{HoldsAtStart, IsJudged}
-use Rattle.workbench.specs.Reading.{IsWhole, IsSound, IsReadWhole, IsStop}
+use Rattle.workbench.specs.Answers.{HoldsAtStart}
+use Rattle.workbench.specs.Reading.{IsWhole, IsSound}
 use Rattle.workbench.specs.ErrTexts.{formula_fault_text, out_of_memory, read_fault, write_fault}
 
 -- the text is refused with this line

@@ -3,13 +3,13 @@ use Rattle.std.specs.Prelude.{◌≡◌, ◌≢◌, ◌⊎◌, ℕ, ◌<◌, Boo
 use Rattle.std.specs.Io.KnownBytes.{Appends, Consumes, IsAtEnd}
 use Rattle.io_edge.specs.Calls.{Drained, Filled}
 use Rattle.stl_syntax.specs.Formula.{Formula}
-use Rattle.workbench.specs.Requests.{Request, Stream, stream}
+use Rattle.workbench.specs.Requests.{Stream, stream}
 use Rattle.workbench.specs.Owed.{limits_of, Owes, OwesByThen}
-use Rattle.workbench.specs.Settled.{HasFault, IsAnswered}
+use Rattle.workbench.specs.Settled.{HasFault}
 use Rattle.workbench.specs.Running.{IsBegun, IsEnd}
 use Rattle.workbench.specs.Cases.{IsFault}
 use Rattle.workbench.specs.InputFaults.{Fault, fault_text, IsInputFault}
-use Rattle.workbench.specs.Wholes.{status_of_truth, status_of}
+use Rattle.workbench.specs.Wholes.{status_of}
 use Rattle.workbench.specs.declared.fault.Stop.{Stop}
 use Rattle.workbench.specs.declared.fault.Stop.TheVariants.{Fault as Faulty, Unread, Unwritten, NoMemory, Wide}
 use Rattle.workbench.specs.ErrTexts.{out_of_memory, read_fault, write_fault, wide_text}

@@ -1,5 +1,5 @@
 -- How a request ends by itself, without want of memory and faults of devices: its status, its line on the error stream and its text.
-use Rattle.std.specs.Prelude.{◌≡◌, ◌⊎◌, ℕ, ◌-◌, ◌≤◌, ◌<◌, pos, Bool, true, false, MatchBool, List, [], ◌∷◌, ◌++◌, length, take, Option, Some, None}
+use Rattle.std.specs.Prelude.{◌≡◌, ◌⊎◌, ℕ, ◌≤◌, pos, Bool, true, false, List, [], ◌∷◌, ◌++◌, length, Some}
 use Rattle.rational.specs.Time.{Rational, Within, whole as whole_number, negate, ◌≤ʳ◌}
 use Rattle.rational.specs.Extended.{Affine, Extended, finite, ◌<ᵉ◌}
 use Rattle.stl_syntax.specs.Formula.{Formula, Subformula, root}

@@ -50,7 +50,8 @@ loop-i-preserved g c =
       told = λ s over atoms.
           let before_told = subst (TellAt g.P.Shape s (subformula nodes)) (sym c.deref.ensures.value) (c.loop-i.invariant.told s over atoms) in
           told_pushed g.P.Shape nodes s c.loop-i.i c.loop-i.done.items c.push.new.self.items c.in-Ok-next_signal.signal count pushed
-          (c.loop-i.invariant.told s over atoms) (c.in-Ok-next_signal.ensures.told s c.args.atoms over c.loop-i.invariant.rest atoms before_told);
+          (c.loop-i.invariant.told s over atoms)
+          (c.in-Ok-next_signal.ensures.told s (subformula nodes) c.args.atoms over c.loop-i.invariant.rest atoms (λ n e. refl) before_told);
     }
 
 pub returns-in-Err-clause-wide : goal.returns-in-Err-clause-wide
@@ -59,7 +60,7 @@ returns-in-Err-clause-wide g c s over atoms =
     let inside : c.loop-i.i < length nodes = let t = c.loop-i-test.true in let e = c.len-count.ensures.count in omega arith in
     let before_told = subst (TellAt g.P.Shape s (subformula nodes)) (sym c.deref.ensures.value) (c.loop-i.invariant.told s over atoms) in
     subst (IsFault g.P.Shape nodes s) (sym c.at_node.ensures)
-    (fault_is g.P.Shape nodes s c.loop-i.i c.in-Err.fault inside (c.in-Err.ensures.wide s over before_told))
+    (fault_is g.P.Shape nodes s c.loop-i.i c.in-Err.fault inside (c.in-Err.ensures.wide s (subformula nodes) over (λ n e. refl) before_told))
 
 pub returns : goal.returns
 returns g c =

@@ -21,12 +21,13 @@ of_node-requires-clause-children g c = subst (λ i. HasChildrenBelow i c.node.re
 pub returns-in-Atom : goal.returns-in-Atom
 returns-in-Atom g c =
     let nodes = c.args.formula.now.nodes in
-    let at : slice_get nodes c.args.i ≡ Some (Leaf c.in-Atom.field-0) = c.node.ensures.node ∙ ap (λ n. Some n) c.in-Atom.is in
+    let here : slice_get nodes c.args.i ≡ Some (Leaf c.in-Atom.field-0) = c.node.ensures.node ∙ ap (λ n. Some n) c.in-Atom.is in
     record {
-      rest = atom_takes nodes c.args.i c.in-Atom.field-0 c.take.result c.args.atoms.now c.take.new.self at c.take.ensures;
+      rest = atom_takes nodes c.args.i c.in-Atom.field-0 c.take.result c.args.atoms.now c.take.new.self here c.take.ensures;
       sound = atom_sound g.P.Shape c.args.from c.args.to nodes c.args.i c.take.result c.args.atoms.now c.take.new.self c.args.done.now c.take.ensures
           c.requires.inputs;
-      told = λ s all over left atoms before. atom_told g.P.Shape nodes c.args.i c.in-Atom.field-0 c.take.result c.args.atoms.now c.take.new.self all s at
+      told = λ s at all over left atoms agree before.
+          atom_told g.P.Shape nodes c.args.i c.in-Atom.field-0 c.take.result c.args.atoms.now c.take.new.self all s here
           (c.node.ensures.subformula ∙ ap (tree_of (subformula nodes) c.args.i) c.in-Atom.is) c.take.ensures left atoms;
       wide = tt;
     }
@@ -42,9 +43,10 @@ returns-in_default g c =
           (λ r h all. subst (λ k. IsSound g.P.Shape c.args.from c.args.to k r) (sym (sum_on own_reach nodes c.args.i n c.node.ensures.node))
           (h (reach_before nodes c.args.i) all)) c.of_node.ensures.sound;
       told = IfOk-weaker c.of_node.result _ _
-          (λ r h s all over left atoms before. subst (λ t. TellsValue g.P.Shape s t r) (sym c.node.ensures.subformula)
-          (h s (subformula nodes) c.args.i over before)) c.of_node.ensures.told;
+          (λ r h s at all over left atoms agree before. subst (λ t. TellsValue g.P.Shape s t r) (agree n c.node.ensures.node ∙ sym c.node.ensures.subformula)
+          (h s at c.args.i over before)) c.of_node.ensures.told;
       wide = IfErr-weaker c.of_node.result _ _
-          (λ e h s over before. subst (λ t. IsFaultOf g.P.Shape s t e) (sym c.node.ensures.subformula) (h s (subformula nodes) c.args.i over before))
+          (λ e h s at over agree before. subst (λ t. IsFaultOf g.P.Shape s t e) (agree n c.node.ensures.node ∙ sym c.node.ensures.subformula)
+          (h s at c.args.i over before))
           c.of_node.ensures.wide;
     }

@@ -1,10 +1,10 @@
-use Rattle.std.proofs.Common.{◌≡◌, suc, ◌+◌, ◌-◌, Some, [], ◌++◌, length, append-nil, append_assoc, refl, sym, ap, ◌∙◌, subst, arith}
+use Rattle.std.proofs.Common.{◌≡◌, suc, ◌+◌, ◌-◌, Some, [], ◌++◌, length, append-nil, append_assoc, sym, ap, ◌∙◌, subst, arith}
 use Rattle.std.specs.Prelude.{slice_get}
 use Rattle.value_laws.specs.Kinds.{margin_shape}
 use Rattle.report.specs.Appended.{Grew}
-use Rattle.report.specs.MarginLines.{AreNextLines, AreLaterLines}
+use Rattle.report.specs.MarginLines.{AreLaterLines}
 use Rattle.report.proofs.Parts.{on_err}
-use Rattle.report.proofs.Growths.{grew_as, grew_then}
+use Rattle.report.proofs.Growths.{grew_as}
 use Rattle.report.proofs.MarginTexts.{AreLinesTo, lines_begin, lines_more, lines_end, lines_part, knot_within}
 use Rattle.report.proofs.margin.put_later.Goals as goal
 

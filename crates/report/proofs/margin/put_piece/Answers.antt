@@ -6,7 +6,7 @@ use Rattle.rational.specs.Knots.{Piece}
 use Rattle.pl_signal.specs.Plain.{plain_knot, plain_piece}
 use Rattle.stl_syntax.specs.Texts.{newline, IsPieceLine}
 use Rattle.stl_syntax.specs.declared.scale.Scale.{Scale}
-use Rattle.report.specs.Appended.{Grew, GrewInPart, Is, Then}
+use Rattle.report.specs.Appended.{Grew, GrewInPart, Is}
 use Rattle.report.specs.MarginLines.{IsTimeAfter, IsValueAfter}
 use Rattle.report.proofs.Parts.{on_err}
 use Rattle.report.proofs.Growths.{grew_is, grew_then, grew_as, part_none, part_then, part_first, part_as}

@@ -1,1 +1,0 @@
-use Rattle.report.proofs.number.sized.Goals as goal

@@ -1,5 +1,5 @@
 use Rattle.std.proofs.Common.{refl, subst}
-use Rattle.stl_syntax.specs.SupInf.{truths, truth_setting}
+use Rattle.stl_syntax.specs.SupInf.{truth_setting}
 use Rattle.value_laws.specs.Values.{truth_value}
 use Rattle.value_laws.specs.Kinds.{truth_shape}
 use Rattle.offline_eval.specs.Evaluation.{IsFault}

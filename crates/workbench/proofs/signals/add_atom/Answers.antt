@@ -1,4 +1,4 @@
-use Rattle.std.proofs.Common.{◌+◌, Some, pos, ap, sym, subst, ◌∙◌, arith}
+use Rattle.std.proofs.Common.{◌+◌, Some, ap, sym, subst, ◌∙◌, arith}
 use Rattle.std.proofs.lemmas.Result.{on_ok_weaker}
 use Rattle.offline_eval.proofs.Places.{not_atom}
 use Rattle.workbench.specs.Judging.{AreAtomsOf}

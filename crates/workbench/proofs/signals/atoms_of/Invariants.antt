@@ -1,4 +1,3 @@
-use Rattle.std.proofs.Common.{pos}
 use Rattle.workbench.specs.Judging.{AreAtomsOf}
 use Rattle.workbench.proofs.signals.atoms_of.Given as goal
 

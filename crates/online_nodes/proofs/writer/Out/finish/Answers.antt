@@ -1,9 +1,10 @@
-use Rattle.std.proofs.Common.{Some, None, [], ◌∷◌, sym, subst, arith}
+use Rattle.std.proofs.Common.{Some, None, [], ◌∷◌, ◌++◌, sym, subst, arith}
 use Rattle.std.proofs.lemmas.List.{append-nil}
-use Rattle.online_nodes.specs.Cuts.{place}
+use Rattle.stl_syntax.specs.Verdicts.{Describes}
+use Rattle.online_nodes.specs.Cuts.{place, begins, ends}
 use Rattle.online_nodes.specs.Written.{Lead}
 use Rattle.online_nodes.proofs.GotLemmas.{got_none}
-use Rattle.online_nodes.proofs.Writing.{put_last, put_none, sound_later}
+use Rattle.online_nodes.proofs.Writing.{lead_describes, lead_to, put_last, put_none, sound_later}
 use Rattle.online_nodes.proofs.writer.Out.finish.Goals as goal
 
 pub returns-in_default-clause-finished : goal.returns-in_default-clause-finished
@@ -17,6 +18,11 @@ returns-in_default-clause-finished c =
         subst (λ l. Lead n tr begin None l (place c.args.self.at) told.last) (sym (append-nil written))
             (put_none n tr begin written c.args.self c.in_default.is told),
       );
+      describes = λ n tr stretch written some told same.
+          subst (λ l. Describes l n tr stretch) (sym (append-nil written))
+          (lead_describes n tr stretch written told.last some
+          (lead_to n tr (begins stretch) None written (place c.args.self.at) (ends stretch) told.last same
+          (put_none n tr (begins stretch) written c.args.self c.in_default.is told)));
     }
 
 pub write-requires-clause-some : goal.write-requires-clause-some
@@ -31,4 +37,8 @@ returns-clause-finished c =
       got = p.got;
       told = λ n tr begin written told.
           (Some p.verdict.holds, put_last n tr begin written c.in-Some.holds p.verdict c.args.self c.in-Some.is p.begin p.end p.is told);
+      describes = λ n tr stretch written some told same.
+          lead_describes n tr stretch (written ++ p.verdict ∷ []) (Some p.verdict.holds) some
+          (lead_to n tr (begins stretch) None (written ++ p.verdict ∷ []) (place c.args.self.at) (ends stretch) (Some p.verdict.holds) same
+          (put_last n tr (begins stretch) written c.in-Some.holds p.verdict c.args.self c.in-Some.is p.begin p.end p.is told));
     }

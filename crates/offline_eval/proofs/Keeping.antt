@@ -1,0 +1,260 @@
+-- Signals that are given up: the children of the node that comes next are still kept, and so is the root in the end.
+use Rattle.std.proofs.Common.{◌≡◌, ℕ, zero, suc, ◌+◌, ◌-◌, ◌<◌, ◌⊎◌, inl, inr, Bool, true, false, ◌||◌, cond, Option, Some, None, List, [], ◌∷◌, ◌++◌, length, take, ap, sym, ◌∙◌, subst, refl, arith}
+use Rattle.std.specs.Prelude.{slice_get, MatchBool, IfSome, All, option_to_list, ◌==◌}
+use Rattle.std.specs.List.{list_any}
+use Rattle.std.proofs.Math.ListN.{set}
+use Rattle.std.proofs.lemmas.Bool.{ne_eqb, eq-eqb}
+use Rattle.std.proofs.lemmas.List.{length-take, take_more}
+use Rattle.std.proofs.lemmas.List.Elements.{All-head, All-tail}
+use Rattle.std.proofs.lemmas.List.Folds.{list_any-append}
+use Rattle.std.proofs.lemmas.Option.{slice_get_within, get_or_from_slice_get}
+use Rattle.value_laws.specs.Members.{ShapeOf}
+use Rattle.pl_signal.specs.declared.knot.Knot.{Knot}
+use Rattle.stl_syntax.specs.Formula.{Subformula, subformula, tree_of, constant, negation, conjunction, disjunction, implication, until, eventually, always, since, once, historically}
+use Rattle.stl_syntax.specs.PostOrder.{children, has_child, is_used, IsPostOrder}
+use Rattle.stl_syntax.specs.SupInf.{Setting}
+use Rattle.stl_syntax.specs.declared.node.Node.{Node}
+use Rattle.stl_syntax.specs.declared.node.Node.TheVariants.{Const, Atom as Leaf, Not, And, Or, Implies, Until, Eventually, Always, Since, Once, Historically}
+use Rattle.stl_syntax.proofs.PostOrderLemmas.{children_free, next_unused, post_order_take}
+use Rattle.offline_eval.specs.Inputs.{IsOver, TellAtoms}
+use Rattle.offline_eval.specs.Keeping.{kept, IsSpare, AreGivenUp, IsRootOf}
+use Rattle.offline_eval.specs.Making.{IsSound, AreSound, TellAt, TellsValue}
+use Rattle.offline_eval.specs.Places.{AgreeAt}
+use Rattle.offline_eval.proofs.Evaluating.{pushed_at, pushed_count, told_pushed, all_told}
+use Rattle.offline_eval.proofs.Sound.{sound_more}
+
+-- a place in a list in which one item was replaced
+written_at : {X : Type 0} (xs : List X) (p : ℕ) (y : X) (k : ℕ) (x : X) → slice_get (set xs p y) k ≡ Some x
+    → ((k ≡ p) × (x ≡ y)) ⊎ ((p ≡ k → ⊥) × (slice_get xs k ≡ Some x))
+written_at [] p y k x e = absurd cc
+written_at (z ∷ xs) zero y zero x e = inl (refl, let same : y ≡ x = cc in sym same)
+written_at (z ∷ xs) zero y (suc k) x e = inr (λ h. omega (arith, h), e)
+written_at (z ∷ xs) (suc p) y zero x e = inr (λ h. omega (arith, h), e)
+written_at (z ∷ xs) (suc p) y (suc k) x e = by_rest (written_at xs p y k x e)
+  where
+    by_rest : ((k ≡ p) × (x ≡ y)) ⊎ ((p ≡ k → ⊥) × (slice_get xs k ≡ Some x)) → ((suc k ≡ suc p) × (x ≡ y)) ⊎ ((suc p ≡ suc k → ⊥) × (slice_get xs k ≡ Some x))
+    by_rest (inl h) = inl (ap suc h.0, h.1)
+    by_rest (inr h) = inr (λ e. h.0 (omega (arith, e)), h.1)
+
+pub length_written : {X : Type 0} (xs : List X) (p : ℕ) (y : X) → length (set xs p y) ≡ length xs
+length_written [] p y = refl
+length_written (z ∷ xs) zero y = refl
+length_written (z ∷ xs) (suc p) y = ap suc (length_written xs p y)
+
+-- a test at a, or at b and then at a
+join : (S M O : Type 0) (a b : Bool) → MatchBool b S M → (M → MatchBool a S O) → MatchBool (a || b) S O
+join S M O true true m f = m
+join S M O true false m f = f m
+join S M O false true m f = m
+join S M O false false m f = f m
+
+-- what is said of all is said of each of two
+pub both_places : (P : ℕ → Type 0) (a b : Option ℕ) → All P (option_to_list a ++ option_to_list b) → IfSome a P × IfSome b P
+both_places P None None h = (tt, tt)
+both_places P None (Some q) h = (tt, All-head P q [] h)
+both_places P (Some p) None h = (All-head P p [] h, tt)
+both_places P (Some p) (Some q) h = (All-head P p (q ∷ []) h, All-head P q [] (All-tail P p (q ∷ []) h))
+
+used_too : (b : Bool) → (b || (true || false)) ≡ true
+used_too true = refl
+used_too false = refl
+
+used_before : (b : Bool) → (b || (false || false)) ≡ b
+used_before true = refl
+used_before false = refl
+
+module _ (nodes : List Node) where
+  -- a place that no node has as a child keeps its formula
+  kept_free : (i k : ℕ) → is_used (take i nodes) k ≡ false → kept nodes i k ≡ subformula nodes k
+  kept_free i k e = ap (λ b. cond b (constant false) (subformula nodes k)) e
+
+  -- the children of the node that comes next are kept
+  pub kept_agrees : (i : ℕ) → IsPostOrder nodes → AgreeAt nodes i (kept nodes i)
+  kept_agrees i order n e = by_kind n (children_free (take i nodes) n (order.follows i n e))
+    where
+      one : (p : ℕ) → All (λ k. is_used (take i nodes) k ≡ false) (p ∷ []) → kept nodes i p ≡ subformula nodes p
+      one p h = kept_free i p (All-head (λ k. is_used (take i nodes) k ≡ false) p [] h)
+
+      two : (make : Subformula → Subformula → Subformula) (p q : ℕ) → All (λ k. is_used (take i nodes) k ≡ false) (p ∷ q ∷ [])
+          → make (kept nodes i p) (kept nodes i q) ≡ make (subformula nodes p) (subformula nodes q)
+      two make p q h =
+          let P : ℕ → Type 0 = λ k. is_used (take i nodes) k ≡ false in
+          ap (λ f. make f (kept nodes i q)) (kept_free i p (All-head P p (q ∷ []) h))
+          ∙ ap (λ f. make (subformula nodes p) f) (kept_free i q (All-head P q [] (All-tail P p (q ∷ []) h)))
+
+      by_kind : (m : Node) → All (λ k. is_used (take i nodes) k ≡ false) (children m) → tree_of (kept nodes i) i m ≡ tree_of (subformula nodes) i m
+      by_kind (Const b) h = refl
+      by_kind (Leaf a) h = refl
+      by_kind (Not p) h = ap negation (one p h)
+      by_kind (And p q) h = two conjunction p q h
+      by_kind (Or p q) h = two disjunction p q h
+      by_kind (Implies p q) h = two implication p q h
+      by_kind (Until p q a b) h = two (until a b) p q h
+      by_kind (Eventually p a b a_in b_in) h = ap (eventually a b a_in b_in) (one p h)
+      by_kind (Always p a b a_in b_in) h = ap (always a b a_in b_in) (one p h)
+      by_kind (Since p q a b) h = two (since a b) p q h
+      by_kind (Once p a b a_in b_in) h = ap (once a b a_in b_in) (one p h)
+      by_kind (Historically p a b a_in b_in) h = ap (historically a b a_in b_in) (one p h)
+
+  module _ (i : ℕ) (n : Node) (there : slice_get nodes i ≡ Some n) where
+    taken : take (i + 1) nodes ≡ take i nodes ++ n ∷ []
+    taken = take_more nodes i n (slice_get_within nodes i n there) ∙ ap (λ m. take i nodes ++ m ∷ []) (get_or_from_slice_get nodes i n n there)
+
+    -- who is used once the node is there
+    used_next : (k : ℕ) → is_used (take (i + 1) nodes) k ≡ (is_used (take i nodes) k || (has_child k n || false))
+    used_next k = ap (λ l. is_used l k) taken ∙ list_any-append (has_child k) (take i nodes) (n ∷ [])
+
+    kept_child : (k : ℕ) → has_child k n ≡ true → kept nodes (i + 1) k ≡ constant false
+    kept_child k e =
+        ap (λ b. cond b (constant false) (subformula nodes k))
+        (used_next k ∙ ap (λ b. is_used (take i nodes) k || (b || false)) e ∙ used_too (is_used (take i nodes) k))
+
+    kept_other : (k : ℕ) → has_child k n ≡ false → kept nodes (i + 1) k ≡ kept nodes i k
+    kept_other k e =
+        ap (λ b. cond b (constant false) (subformula nodes k))
+        (used_next k ∙ ap (λ b. is_used (take i nodes) k || (b || false)) e ∙ used_before (is_used (take i nodes) k))
+
+    kept_new : IsPostOrder nodes → kept nodes (i + 1) i ≡ subformula nodes i
+    kept_new order =
+        let long : length (take i nodes) ≡ i = omega (arith, length-take i nodes, slice_get_within nodes i n there) in
+        kept_free (i + 1) i
+        (ap (λ l. is_used l i) taken ∙ subst (λ k. is_used (take i nodes ++ n ∷ []) k ≡ false) long
+        (next_unused (take i nodes) n (post_order_take nodes i order) (order.follows i n there)))
+
+  -- a node is no child of itself
+  pub no_own_child : (i : ℕ) (n : Node) → slice_get nodes i ≡ Some n → IsPostOrder nodes → has_child i n ≡ false
+  no_own_child i n there order =
+      let long : length (take i nodes) ≡ i = omega (arith, length-take i nodes, slice_get_within nodes i n there) in
+      let free = subst (λ k. is_used (take i nodes ++ n ∷ []) k ≡ false) long
+      (next_unused (take i nodes) n (post_order_take nodes i order) (order.follows i n there)) in
+      second (is_used (take i nodes) i) (has_child i n) (sym (list_any-append (has_child i) (take i nodes) (n ∷ [])) ∙ free)
+    where
+      second : (a b : Bool) → (a || (b || false)) ≡ false → b ≡ false
+      second true true e = e
+      second true false e = refl
+      second false true e = e
+      second false false e = refl
+
+module _ {P : Type 0} (shape : ShapeOf P) (from to : ℕ) where
+  pub none_given_up : (xs : List (List (Knot P))) → AreGivenUp shape from to [] xs xs
+  none_given_up xs = record { count = refl; at = λ k x h. h }
+
+  pub one_given_up : (p : ℕ) (old new : List (List (Knot P))) (spare : List (Knot P)) → new ≡ set old p spare → IsSpare shape from to spare
+      → AreGivenUp shape from to (p ∷ []) old new
+  one_given_up p old new spare e h = record {
+    count = ap length e ∙ length_written old p spare;
+    at = λ k x there. by_place k x (written_at old p spare k x (subst (λ l. slice_get l k ≡ Some x) e there));
+  }
+    where
+      by_place : (k : ℕ) (x : List (Knot P)) → ((k ≡ p) × (x ≡ spare)) ⊎ ((p ≡ k → ⊥) × (slice_get old k ≡ Some x))
+          → MatchBool (list_any (λ q. q == k) (p ∷ [])) (IsSpare shape from to x) (slice_get old k ≡ Some x)
+      by_place k x (inl o) =
+          subst (λ b. MatchBool (b || false) (IsSpare shape from to x) (slice_get old k ≡ Some x)) (sym (eq-eqb p k (sym o.0)))
+          (subst (IsSpare shape from to) (sym o.1) h)
+      by_place k x (inr o) = subst (λ b. MatchBool (b || false) (IsSpare shape from to x) (slice_get old k ≡ Some x)) (sym (ne_eqb p k o.0)) o.1
+
+  pub more_given_up : (ps qs : List ℕ) (old mid new : List (List (Knot P))) → AreGivenUp shape from to ps old mid
+      → AreGivenUp shape from to qs mid new → AreGivenUp shape from to (ps ++ qs) old new
+  more_given_up ps qs old mid new f s = record {
+    count = s.count ∙ f.count;
+    at = λ k x there.
+        subst (λ b. MatchBool b (IsSpare shape from to x) (slice_get old k ≡ Some x)) (sym (list_any-append (λ p. p == k) ps qs))
+        (join (IsSpare shape from to x) (slice_get mid k ≡ Some x) (slice_get old k ≡ Some x) (list_any (λ p. p == k) ps) (list_any (λ p. p == k) qs)
+        (s.at k x there) (λ m. f.at k x m));
+  }
+
+  -- what the signals tell once the next node has its own
+  pub kept_told : (nodes : List Node) (s : Setting) (i : ℕ) (n : Node) (old new : List (List (Knot P))) (y : List (Knot P)) → IsPostOrder nodes
+      → slice_get nodes i ≡ Some n → length old ≡ i
+      → IsOver shape.lowest shape.highest from to s → AreGivenUp shape from to (children n) (old ++ y ∷ []) new → TellAt shape s (kept nodes i) old
+      → TellsValue shape s (subformula nodes i) y
+      → TellAt shape s (kept nodes (i + 1)) new
+  kept_told nodes s i n old new y order there count over given told own k x at = by_child (has_child k n) refl (given.at k x at)
+    where
+      by_place : has_child k n ≡ false → (slice_get old k ≡ Some x) ⊎ ((k ≡ length old) × (x ≡ y)) → TellsValue shape s (kept nodes (i + 1) k) x
+      by_place e (inl h) = subst (λ f. TellsValue shape s f x) (sym (kept_other nodes i n there k e)) (told k x h)
+      by_place e (inr h) =
+          let here : i ≡ k = sym (h.0 ∙ count) in
+          subst (λ j. TellsValue shape s (kept nodes (i + 1) j) x) here
+          (subst (λ f. TellsValue shape s f x) (sym (kept_new nodes i n there order)) (subst (TellsValue shape s (subformula nodes i)) (sym h.1) own))
+
+      by_child : (b : Bool) → has_child k n ≡ b → MatchBool b (IsSpare shape from to x) (slice_get (old ++ y ∷ []) k ≡ Some x)
+          → TellsValue shape s (kept nodes (i + 1) k) x
+      by_child true e spare = subst (λ f. TellsValue shape s f x) (sym (kept_child nodes i n there k e)) (spare.told s over)
+      by_child false e h = by_place e (pushed_at old y k x h)
+
+  -- the signals stay sound
+  pub kept_sound : (places : List ℕ) (reach : ℕ) (old new : List (List (Knot P))) → AreGivenUp shape from to places old new
+      → AreSound shape from to reach old → AreSound shape from to reach new
+  kept_sound places reach old new given sound k x at = by_place (list_any (λ p. p == k) places) (given.at k x at)
+    where
+      by_place : (b : Bool) → MatchBool b (IsSpare shape from to x) (slice_get old k ≡ Some x) → IsSound shape from to reach x
+      by_place true spare = sound_more shape from to 0 reach x (omega arith) spare.sound
+      by_place false h = sound k x h
+
+module _ {P : Type 0} (shape : ShapeOf P) (from to : ℕ) (nodes : List Node) (atoms : List (List (Knot P))) where
+  -- there were signals of all nodes so far that tell them, and the last of them is still there
+  pub record HasAll (i : ℕ) (done : List (List (Knot P))) : Type 0 where
+    pub signals : List (List (Knot P))
+    pub count : length signals ≡ i
+    pub told : (s : Setting) → IsOver shape.lowest shape.highest from to s → TellAtoms shape nodes atoms s → TellAt shape s (subformula nodes) signals
+    pub last : (k : ℕ) (x : List (Knot P)) → k + 1 ≡ i → slice_get done k ≡ Some x → slice_get signals k ≡ Some x
+
+  pub all_none : (done : List (List (Knot P))) → HasAll 0 done
+  all_none done = record { signals = []; count = refl; told = λ s over told k x at. absurd (none k x at); last = λ k x e at. absurd (omega (arith, e)) }
+    where
+      none : {X : Type 0} (k : ℕ) (x : X) → slice_get [] k ≡ Some x → ⊥
+      none k x e = cc
+
+  pub all_next : (i : ℕ) (n : Node) (old new : List (List (Knot P))) (y : List (Knot P)) → IsPostOrder nodes → slice_get nodes i ≡ Some n → length old ≡ i
+      → AreGivenUp shape from to (children n) (old ++ y ∷ []) new
+      → ((s : Setting) → IsOver shape.lowest shape.highest from to s → TellAtoms shape nodes atoms s → TellsValue shape s (subformula nodes i) y)
+      → HasAll i old → HasAll (i + 1) new
+  all_next i n old new y order there count given own all = record {
+    signals = all.signals ++ y ∷ [];
+    count = pushed_count all.signals (all.signals ++ y ∷ []) y i all.count refl;
+    told = λ s over told. told_pushed shape nodes s i all.signals (all.signals ++ y ∷ []) y all.count refl (all.told s over told) (own s over told);
+    last = λ k x e at. here k x (omega (arith, e)) (given.at k x at);
+  }
+    where
+      at_end : {X : Type 0} (xs : List X) (x : X) → slice_get (xs ++ x ∷ []) (length xs) ≡ Some x
+      at_end [] x = refl
+      at_end (z ∷ xs) x = at_end xs x
+
+      by_place : (k : ℕ) (x : List (Knot P)) → k ≡ i → (slice_get old k ≡ Some x) ⊎ ((k ≡ length old) × (x ≡ y)) → slice_get (all.signals ++ y ∷ []) k ≡ Some x
+      by_place k x e (inl h) = absurd (let l = slice_get_within old k x h in omega (arith, e, l, count))
+      by_place k x e (inr h) =
+          let long : length all.signals ≡ k = all.count ∙ sym e in
+          subst (λ j. slice_get (all.signals ++ y ∷ []) j ≡ Some x) long
+          (subst (λ z. slice_get (all.signals ++ y ∷ []) (length all.signals) ≡ Some z) (sym h.1) (at_end all.signals y))
+
+      here : (k : ℕ) (x : List (Knot P)) → k ≡ i → MatchBool (has_child k n) (IsSpare shape from to x) (slice_get (old ++ y ∷ []) k ≡ Some x)
+          → slice_get (all.signals ++ y ∷ []) k ≡ Some x
+      here k x e m =
+          let free : has_child k n ≡ false = subst (λ j. has_child j n ≡ false) (sym e) (no_own_child nodes i n there order) in
+          by_place k x e (pushed_at old y k x (subst (λ b. MatchBool b (IsSpare shape from to x) (slice_get (old ++ y ∷ []) k ≡ Some x)) free m))
+
+  -- what is left in the end is the last of them
+  pub all_root : (i : ℕ) (done rest : List (List (Knot P))) (x : List (Knot P)) → 0 < length nodes → i ≡ length nodes → length done ≡ i
+      → done ≡ rest ++ x ∷ [] → HasAll i done
+      → IsRootOf shape from to nodes atoms x
+  all_root i done rest x some whole count e all = (
+    all.signals,
+    all.count ∙ whole,
+    all.last (length nodes - 1) x (omega (arith, some, whole)) at,
+    λ s over told. all_told shape nodes s all.signals (all.count ∙ whole) (all.told s over told),
+  )
+    where
+      at_end : {X : Type 0} (xs : List X) (x : X) → slice_get (xs ++ x ∷ []) (length xs) ≡ Some x
+      at_end [] x = refl
+      at_end (z ∷ xs) x = at_end xs x
+
+      length_pushed : {X : Type 0} (xs : List X) (x : X) → length (xs ++ x ∷ []) ≡ suc (length xs)
+      length_pushed [] x = refl
+      length_pushed (z ∷ xs) x = ap suc (length_pushed xs x)
+
+      long : length nodes - 1 ≡ length rest
+      long = omega (arith, count, whole, ap length e ∙ length_pushed rest x)
+
+      at : slice_get done (length nodes - 1) ≡ Some x
+      at = ap (λ l. slice_get l (length nodes - 1)) e ∙ ap (slice_get (rest ++ x ∷ [])) long ∙ at_end rest x
