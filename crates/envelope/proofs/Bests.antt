@@ -80,18 +80,23 @@ module _ {P : Type 0} (shape : ShapeOf P) where
   pub best_same : (side : Side) (best : Best P) (t u : Rational) (v w : Extended) → t ≈ u → v ≈ᵉ w → IsBestAt shape side best t v → IsBestAt shape side best u w
   best_same side best t u v w e f h = record {
     bound = λ p m. no_better_trans side (value_at (shape.function p) u) v w
-        (no_better_trans side (value_at (shape.function p) u) (value_at (shape.function p) t) v (no_better_back side (value_at (shape.function p) t) (value_at (shape.function p) u) (value_same (shape.function p) e)) (h.bound p m))
+        (no_better_trans side (value_at (shape.function p) u) (value_at (shape.function p) t) v
+        (no_better_back side (value_at (shape.function p) t) (value_at (shape.function p) u)
+        (value_same (shape.function p) e)) (h.bound p m))
         (no_better_same side v w f);
     one_of = let p = h.one_of.0 in (
       p,
       h.one_of.1,
       no_better_trans side w v (value_at (shape.function p) u) (no_better_back side v w f)
-          (no_better_trans side v (value_at (shape.function p) t) (value_at (shape.function p) u) h.one_of.2 (no_better_same side (value_at (shape.function p) t) (value_at (shape.function p) u) (value_same (shape.function p) e))),
+          (no_better_trans side v (value_at (shape.function p) t) (value_at (shape.function p) u) h.one_of.2
+          (no_better_same side (value_at (shape.function p) t) (value_at (shape.function p) u)
+          (value_same (shape.function p) e))),
     );
   }
 
   -- of one shape, and of two
-  pub best_of_one : (side : Side) (p : P) (t : Rational) (v : Extended) → v ≈ᵉ value_at (shape.function p) t → IsBestAt shape side (record { top = p; low = None; high = None }) t v
+  pub best_of_one : (side : Side) (p : P) (t : Rational) (v : Extended) → v ≈ᵉ value_at (shape.function p) t
+      → IsBestAt shape side (record { top = p; low = None; high = None }) t v
   best_of_one side p t v e = record { bound = λ q m. bound q m; one_of = (p, inl refl, no_better_same side v (value_at (shape.function p) t) e) }
     where
       bound : (q : P) → Has (record { top = p; low = None; high = None }) q → IsNoBetter side (value_at (shape.function q) t) v
@@ -100,7 +105,9 @@ module _ {P : Type 0} (shape : ShapeOf P) where
       bound q (inr (inr m)) = absurd (cc)
 
   -- the better of the constant and the gap under the low end is the best where there is no other gap
-  pub best_of_low : (side : Side) (p r : P) (t : Rational) (v : Extended) → IsChosen side (value_at (shape.function p) t) (value_at (shape.function r) t) v → IsBestAt shape side (record { top = r; low = Some p; high = None }) t v
+  pub best_of_low : (side : Side) (p r : P) (t : Rational) (v : Extended) → IsChosen side
+      (value_at (shape.function p) t) (value_at (shape.function r) t) v → IsBestAt shape side
+      (record { top = r; low = Some p; high = None }) t v
   best_of_low side p r t v h = record { bound = bound; one_of = one_of b.one_of }
     where
       b : IsBetter side (value_at (shape.function p) t) (value_at (shape.function r) t) v
@@ -117,7 +124,9 @@ module _ {P : Type 0} (shape : ShapeOf P) where
       one_of (inr k) = (r, inl refl, k)
 
   -- the better of the constant and the gap under the high end is the best where there is no other gap
-  pub best_of_high : (side : Side) (p r : P) (t : Rational) (v : Extended) → IsChosen side (value_at (shape.function p) t) (value_at (shape.function r) t) v → IsBestAt shape side (record { top = r; low = None; high = Some p }) t v
+  pub best_of_high : (side : Side) (p r : P) (t : Rational) (v : Extended) → IsChosen side
+      (value_at (shape.function p) t) (value_at (shape.function r) t) v → IsBestAt shape side
+      (record { top = r; low = None; high = Some p }) t v
   best_of_high side p r t v h = record { bound = bound; one_of = one_of b.one_of }
     where
       b : IsBetter side (value_at (shape.function p) t) (value_at (shape.function r) t) v
@@ -134,7 +143,8 @@ module _ {P : Type 0} (shape : ShapeOf P) where
       one_of (inr k) = (r, inl refl, k)
 
   -- of three, where x is the better of p and q
-  pub best_of_three : (side : Side) (p q r x : P) (t : Rational) (v : Extended) → (x ≡ p) ⊎ (x ≡ q) → IsChosen side (value_at (shape.function p) t) (value_at (shape.function q) t) (value_at (shape.function x) t)
+  pub best_of_three : (side : Side) (p q r x : P) (t : Rational) (v : Extended) → (x ≡ p) ⊎ (x ≡ q) → IsChosen side
+      (value_at (shape.function p) t) (value_at (shape.function q) t) (value_at (shape.function x) t)
       → IsChosen side (value_at (shape.function x) t) (value_at (shape.function r) t) v → IsBestAt shape side (three p q r) t v
   best_of_three side p q r x t v is h k = record { bound = bound; one_of = one_of is b.one_of }
     where
@@ -165,10 +175,14 @@ module _ {P : Type 0} (shape : ShapeOf P) where
 
   -- the best of three does not depend on which gap stands first
   pub best_swapped : (side : Side) (p q r : P) (t : Rational) (v : Extended) → IsBestAt shape side (three p q r) t v → IsBestAt shape side (three q p r) t v
-  best_swapped side p q r t v h = record { bound = λ x m. h.bound x (has_swapped q p r x m); one_of = (h.one_of.0, has_swapped p q r h.one_of.0 h.one_of.1, h.one_of.2) }
+  best_swapped side p q r t v h = record {
+    bound = λ x m. h.bound x (has_swapped q p r x m);
+    one_of = (h.one_of.0, has_swapped p q r h.one_of.0 h.one_of.1, h.one_of.2);
+  }
 
   -- nor does what is written
-  pub written_swapped : (side : Side) (p q r point : P) (old new : List (Knot P)) (to : Frac) → IsWritten shape side old (three p q r) to point new → IsWritten shape side old (three q p r) to point new
+  pub written_swapped : (side : Side) (p q r point : P) (old new : List (Knot P)) (to : Frac) → IsWritten shape side old
+      (three p q r) to point new → IsWritten shape side old (three q p r) to point new
   written_swapped side p q r point old new to h = record {
     signal = h.signal;
     begins = h.begins;
@@ -177,8 +191,10 @@ module _ {P : Type 0} (shape : ShapeOf P) where
     shapes = λ x m. by_shape x (h.shapes x m);
   }
     where
-      by_part : (t : Rational) (v : Extended) → IsWorth shape old t v ⊎ ((stop old <ʳ t) × (t <ʳ value to) × IsBestAt shape side (three p q r) t v) ⊎ ((t ≈ value to) × Passes (shape.function point) t v)
-          → IsWorth shape old t v ⊎ ((stop old <ʳ t) × (t <ʳ value to) × IsBestAt shape side (three q p r) t v) ⊎ ((t ≈ value to) × Passes (shape.function point) t v)
+      by_part : (t : Rational) (v : Extended) → IsWorth shape old t v ⊎ ((stop old <ʳ t) × (t <ʳ value to)
+          × IsBestAt shape side (three p q r) t v) ⊎ ((t ≈ value to) × Passes (shape.function point) t v)
+          → IsWorth shape old t v ⊎ ((stop old <ʳ t) × (t <ʳ value to) × IsBestAt shape side (three q p r) t v)
+          ⊎ ((t ≈ value to) × Passes (shape.function point) t v)
       by_part t v (inl w) = inl w
       by_part t v (inr (inl w)) = inr (inl (w.0, w.1, best_swapped side p q r t v w.2))
       by_part t v (inr (inr w)) = inr (inr w)
@@ -189,7 +205,8 @@ module _ {P : Type 0} (shape : ShapeOf P) where
       by_shape x (inr (inr m)) = inr (inr m)
 
   -- a signal that goes on with one shape, or with the better of two
-  pub written_step : (side : Side) (p point : P) (old new : List (Knot P)) (to : Frac) → GoesOn shape old p to point new → IsWritten shape side old (record { top = p; low = None; high = None }) to point new
+  pub written_step : (side : Side) (p point : P) (old new : List (Knot P)) (to : Frac) → GoesOn shape old p to point new
+      → IsWritten shape side old (record { top = p; low = None; high = None }) to point new
   written_step side p point old new to h = record {
     signal = h.signal;
     begins = h.begins;
@@ -198,8 +215,10 @@ module _ {P : Type 0} (shape : ShapeOf P) where
     shapes = λ x m. by_shape x (h.shapes x m);
   }
     where
-      by_part : (t : Rational) (v : Extended) → IsWorth shape old t v ⊎ ((stop old <ʳ t) × (t <ʳ value to) × Passes (shape.function p) t v) ⊎ ((t ≈ value to) × Passes (shape.function point) t v)
-          → IsWorth shape old t v ⊎ ((stop old <ʳ t) × (t <ʳ value to) × IsBestAt shape side (record { top = p; low = None; high = None }) t v) ⊎ ((t ≈ value to) × Passes (shape.function point) t v)
+      by_part : (t : Rational) (v : Extended) → IsWorth shape old t v ⊎ ((stop old <ʳ t) × (t <ʳ value to)
+          × Passes (shape.function p) t v) ⊎ ((t ≈ value to) × Passes (shape.function point) t v)
+          → IsWorth shape old t v ⊎ ((stop old <ʳ t) × (t <ʳ value to) × IsBestAt shape side
+          (record { top = p; low = None; high = None }) t v) ⊎ ((t ≈ value to) × Passes (shape.function point) t v)
       by_part t v (inl w) = inl w
       by_part t v (inr (inl w)) = inr (inl (w.0, w.1, best_of_one side p t v w.2))
       by_part t v (inr (inr w)) = inr (inr w)
@@ -210,8 +229,10 @@ module _ {P : Type 0} (shape : ShapeOf P) where
       by_shape x (inr (inr m)) = inr (inr m)
 
   -- a join of two of what counts is written where their better one is the best up to the time
-  pub written_join : (side : Side) (best : Best P) (x r point : P) (old new : List (Knot P)) (to : Frac) → Joins shape side old x r to point new → Has best x → Has best r
-      → ((t : Rational) (v : Extended) → stop old <ʳ t → t <ʳ value to → IsChosen side (value_at (shape.function x) t) (value_at (shape.function r) t) v → IsBestAt shape side best t v)
+  pub written_join : (side : Side) (best : Best P) (x r point : P) (old new : List (Knot P)) (to : Frac)
+      → Joins shape side old x r to point new → Has best x → Has best r
+      → ((t : Rational) (v : Extended) → stop old <ʳ t → t <ʳ value to → IsChosen side (value_at (shape.function x) t)
+      (value_at (shape.function r) t) v → IsBestAt shape side best t v)
       → IsWritten shape side old best to point new
   written_join side best x r point old new to h has_x has_r gap = record {
     signal = h.signal;
@@ -222,7 +243,8 @@ module _ {P : Type 0} (shape : ShapeOf P) where
   }
     where
       by_part : (t : Rational) (v : Extended)
-          → IsWorth shape old t v ⊎ ((stop old <ʳ t) × (t <ʳ value to) × IsChosen side (value_at (shape.function x) t) (value_at (shape.function r) t) v) ⊎ ((t ≈ value to) × Passes (shape.function point) t v)
+          → IsWorth shape old t v ⊎ ((stop old <ʳ t) × (t <ʳ value to) × IsChosen side (value_at (shape.function x) t)
+          (value_at (shape.function r) t) v) ⊎ ((t ≈ value to) × Passes (shape.function point) t v)
           → IsWorth shape old t v ⊎ ((stop old <ʳ t) × (t <ʳ value to) × IsBestAt shape side best t v) ⊎ ((t ≈ value to) × Passes (shape.function point) t v)
       by_part t v (inl w) = inl w
       by_part t v (inr (inl w)) = inr (inl (w.0, w.1, gap t v w.0 w.1 w.2))
@@ -235,8 +257,10 @@ module _ {P : Type 0} (shape : ShapeOf P) where
       by_shape y (inr (inr (inr m))) = inr (inr m)
 
   -- one stretch after another
-  pub written_on : (side : Side) (best : Best P) (there point : P) (old half new : List (Knot P)) (middle to : Frac) → stop old <ʳ value middle → value middle <ʳ value to
-      → IsWritten shape side old best middle there half → Has best there → IsBestAt shape side best (value middle) (value_at (shape.function there) (value middle))
+  pub written_on : (side : Side) (best : Best P) (there point : P) (old half new : List (Knot P)) (middle to : Frac)
+      → stop old <ʳ value middle → value middle <ʳ value to
+      → IsWritten shape side old best middle there half → Has best there → IsBestAt shape side best (value middle)
+      (value_at (shape.function there) (value middle))
       → IsWritten shape side half best to point new → IsWritten shape side old best to point new
   written_on side best there point old half new middle to after before h has here k = record {
     signal = k.signal;
@@ -246,7 +270,8 @@ module _ {P : Type 0} (shape : ShapeOf P) where
     shapes = λ y m. by_shape y (k.shapes y m);
   }
     where
-      by_half : (t : Rational) (v : Extended) → IsWorth shape old t v ⊎ ((stop old <ʳ t) × (t <ʳ value middle) × IsBestAt shape side best t v) ⊎ ((t ≈ value middle) × Passes (shape.function there) t v)
+      by_half : (t : Rational) (v : Extended) → IsWorth shape old t v ⊎ ((stop old <ʳ t) × (t <ʳ value middle)
+          × IsBestAt shape side best t v) ⊎ ((t ≈ value middle) × Passes (shape.function there) t v)
           → IsWorth shape old t v ⊎ ((stop old <ʳ t) × (t <ʳ value to) × IsBestAt shape side best t v) ⊎ ((t ≈ value to) × Passes (shape.function point) t v)
       by_half t v (inl w) = inl w
       by_half t v (inr (inl w)) = inr (inl (w.0, lt_trans w.1 before, w.2))
@@ -254,10 +279,13 @@ module _ {P : Type 0} (shape : ShapeOf P) where
         lt_of_lt_of_le after (ge_of_same w.0),
         lt_of_le_of_lt (le_of_same w.0) before,
         best_same side best (value middle) t (value_at (shape.function there) (value middle)) v (same_sym w.0)
-            (same_transᵉ (value_at (shape.function there) (value middle)) (value_at (shape.function there) t) v (value_same (shape.function there) (same_sym w.0)) (same_symᵉ v (value_at (shape.function there) t) w.1)) here,
+            (same_transᵉ (value_at (shape.function there) (value middle)) (value_at (shape.function there) t) v
+            (value_same (shape.function there) (same_sym w.0))
+            (same_symᵉ v (value_at (shape.function there) t) w.1)) here,
       ))
 
-      by_part : (t : Rational) (v : Extended) → IsWorth shape half t v ⊎ ((stop half <ʳ t) × (t <ʳ value to) × IsBestAt shape side best t v) ⊎ ((t ≈ value to) × Passes (shape.function point) t v)
+      by_part : (t : Rational) (v : Extended) → IsWorth shape half t v ⊎ ((stop half <ʳ t) × (t <ʳ value to)
+          × IsBestAt shape side best t v) ⊎ ((t ≈ value to) × Passes (shape.function point) t v)
           → IsWorth shape old t v ⊎ ((stop old <ʳ t) × (t <ʳ value to) × IsBestAt shape side best t v) ⊎ ((t ≈ value to) × Passes (shape.function point) t v)
       by_part t v (inl w) = by_half t v (h.worth t v w)
       by_part t v (inr (inl w)) = inr (inl (lt_trans after (subst (λ u. u <ʳ t) h.ends w.0), w.1, w.2))
@@ -274,36 +302,46 @@ module _ {P : Type 0} (shape : ShapeOf P) where
       by_shape y (inr (inr m)) = inr (inr m)
 
   -- a signal that goes on where the low gap and the high one are not there
-  pub written_alone : (side : Side) (best : Best P) (point : P) (old new : List (Knot P)) (to : Frac) → best.low ≡ None → best.high ≡ None → GoesOn shape old best.top to point new → IsWritten shape side old best to point new
+  pub written_alone : (side : Side) (best : Best P) (point : P) (old new : List (Knot P)) (to : Frac) → best.low ≡ None
+      → best.high ≡ None → GoesOn shape old best.top to point new → IsWritten shape side old best to point new
   written_alone side best point old new to l h g = subst (λ b. IsWritten shape side old b to point new) same (written_step side best.top point old new to g)
     where
       same : record { top = best.top; low = None; high = None } ≡ best
-      same = subst (λ o. record { top = best.top; low = o; high = None } ≡ best) l (subst (λ o. record { top = best.top; low = best.low; high = o } ≡ best) h refl)
+      same = subst (λ o. record { top = best.top; low = o; high = None } ≡ best) l
+          (subst (λ o. record { top = best.top; low = best.low; high = o } ≡ best) h refl)
 
   -- a join of the constant with the gap under the low end is written where there is no other gap
-  pub written_low : (side : Side) (best : Best P) (p point : P) (old new : List (Knot P)) (to : Frac) → best.low ≡ Some p → best.high ≡ None → Joins shape side old p best.top to point new → IsWritten shape side old best to point new
+  pub written_low : (side : Side) (best : Best P) (p point : P) (old new : List (Knot P)) (to : Frac)
+      → best.low ≡ Some p → best.high ≡ None → Joins shape side old p best.top to point new
+      → IsWritten shape side old best to point new
   written_low side best p point old new to l h j = written_join side best p best.top point old new to j (inr (inl l)) (inl refl)
       (λ t v _ _ c. subst (λ b. IsBestAt shape side b t v) same (best_of_low side p best.top t v c))
     where
       same : record { top = best.top; low = Some p; high = None } ≡ best
-      same = subst (λ o. record { top = best.top; low = o; high = None } ≡ best) l (subst (λ o. record { top = best.top; low = best.low; high = o } ≡ best) h refl)
+      same = subst (λ o. record { top = best.top; low = o; high = None } ≡ best) l
+          (subst (λ o. record { top = best.top; low = best.low; high = o } ≡ best) h refl)
 
   -- a join of the constant with the gap under the high end is written where there is no other gap
-  pub written_high : (side : Side) (best : Best P) (p point : P) (old new : List (Knot P)) (to : Frac) → best.low ≡ None → best.high ≡ Some p → Joins shape side old p best.top to point new → IsWritten shape side old best to point new
+  pub written_high : (side : Side) (best : Best P) (p point : P) (old new : List (Knot P)) (to : Frac) → best.low ≡ None
+      → best.high ≡ Some p → Joins shape side old p best.top to point new → IsWritten shape side old best to point new
   written_high side best p point old new to l h j = written_join side best p best.top point old new to j (inr (inr h)) (inl refl)
       (λ t v _ _ c. subst (λ b. IsBestAt shape side b t v) same (best_of_high side p best.top t v c))
     where
       same : record { top = best.top; low = None; high = Some p } ≡ best
-      same = subst (λ o. record { top = best.top; low = o; high = Some p } ≡ best) l (subst (λ o. record { top = best.top; low = best.low; high = o } ≡ best) h refl)
+      same = subst (λ o. record { top = best.top; low = o; high = Some p } ≡ best) l
+          (subst (λ o. record { top = best.top; low = best.low; high = o } ≡ best) h refl)
 
   -- both gaps as the best has them
   pub three_is : (best : Best P) (p q : P) → best.low ≡ Some p → best.high ≡ Some q → three p q best.top ≡ best
-  three_is best p q l h = subst (λ o. record { top = best.top; low = o; high = Some q } ≡ best) l (subst (λ o. record { top = best.top; low = best.low; high = o } ≡ best) h refl)
+  three_is best p q l h = subst (λ o. record { top = best.top; low = o; high = Some q } ≡ best) l
+      (subst (λ o. record { top = best.top; low = best.low; high = o } ≡ best) h refl)
 
   -- one of two gaps that is taken all over the stretch, beside the constant
   pub written_whole : (side : Side) (p q r x point : P) (old new : List (Knot P)) (to : Frac) → (x ≡ p) ⊎ (x ≡ q)
-      → ((t : Rational) → stop old <ʳ t → t <ʳ value to → IsTakenAt shape side p q x t) → Joins shape side old x r to point new → IsWritten shape side old (three p q r) to point new
-  written_whole side p q r x point old new to is taken j = written_join side (three p q r) x r point old new to j (has is) (inl refl) (λ t v a b c. best_of_three side p q r x t v is (taken t a b) c)
+      → ((t : Rational) → stop old <ʳ t → t <ʳ value to → IsTakenAt shape side p q x t)
+      → Joins shape side old x r to point new → IsWritten shape side old (three p q r) to point new
+  written_whole side p q r x point old new to is taken j = written_join side (three p q r) x r point old new to j
+      (has is) (inl refl) (λ t v a b c. best_of_three side p q r x t v is (taken t a b) c)
     where
       has : (x ≡ p) ⊎ (x ≡ q) → Has (three p q r) x
       has (inl e) = inr (inl (ap Some (sym e)))
@@ -311,14 +349,17 @@ module _ {P : Type 0} (shape : ShapeOf P) where
 
   -- the first up to a crossing, and the second after it
   pub written_split : (side : Side) (p q r there point : P) (old half new : List (Knot P)) (middle to : Frac)
-      → IsSplit shape side p q (stop old) (value to) p (value middle) q → (there ≡ p) ⊎ (there ≡ r) → IsChosen side (value_at (shape.function p) (value middle)) (value_at (shape.function r) (value middle)) (value_at (shape.function there) (value middle))
+      → IsSplit shape side p q (stop old) (value to) p (value middle) q → (there ≡ p) ⊎ (there ≡ r) → IsChosen side
+      (value_at (shape.function p) (value middle)) (value_at (shape.function r) (value middle))
+      (value_at (shape.function there) (value middle))
       → Joins shape side old p r middle there half → Joins shape side half q r to point new → IsWritten shape side old (three p q r) to point new
   written_split side p q r there point old half new middle to split is here first second =
       written_on side (three p q r) there point old half new middle to split.after split.before
       (written_join side (three p q r) p r there old half middle first (inr (inl refl)) (inl refl)
       (λ t v a b c. best_of_three side p q r p t v (inl refl) (split.until_then t a b) c))
       (has is)
-      (best_of_three side p q r p (value middle) (value_at (shape.function there) (value middle)) (inl refl) (split.there (value middle) (same_refl (value middle))) here)
+      (best_of_three side p q r p (value middle) (value_at (shape.function there) (value middle)) (inl refl)
+      (split.there (value middle) (same_refl (value middle))) here)
       (written_join side (three p q r) q r point half new to second (inr (inr refl)) (inl refl)
       (λ t v a b c. best_of_three side p q r q t v (inr refl) (split.from_then t (subst (λ u. u <ʳ t) first.ends a) b) c))
     where
@@ -327,7 +368,9 @@ module _ {P : Type 0} (shape : ShapeOf P) where
       has (inr e) = inl e
 
   -- a crossing of two of the shapes is one of what counts
-  pub gap_fault : (best : Best P) (p q : P) (from to : Frac) (low high : Rational) (e : OpFault P) → Has best p → Has best q → low ≤ʳ value from → value to ≤ʳ high → IsGapFault shape p q from to e → IsJoinFault shape best low high e
+  pub gap_fault : (best : Best P) (p q : P) (from to : Frac) (low high : Rational) (e : OpFault P) → Has best p
+      → Has best q → low ≤ʳ value from → value to ≤ʳ high → IsGapFault shape p q from to e
+      → IsJoinFault shape best low high e
   gap_fault best p q from to low high F.Memory has_p has_q after before h = tt
   gap_fault best p q from to low high (F.Wide (Cross a b c d den)) has_p has_q after before (ea, eb, ec, ed, (t, m, n, w)) =
       subst (λ a. IsCrossingOf shape best low high a b c d den) (sym ea) (subst (λ b. IsCrossingOf shape best low high p b c d den) (sym eb)
@@ -336,7 +379,8 @@ module _ {P : Type 0} (shape : ShapeOf P) where
   gap_fault best p q from to low high (F.Wide (Value a b den)) has_p has_q after before h = absurd h
 
   -- a fault of three shapes, whichever of the two gaps stands first
-  pub fault_swapped : (p q r : P) (low high : Rational) (e : OpFault P) → IsJoinFault shape (three p q r) low high e → IsJoinFault shape (three q p r) low high e
+  pub fault_swapped : (p q r : P) (low high : Rational) (e : OpFault P) → IsJoinFault shape (three p q r) low high e
+      → IsJoinFault shape (three q p r) low high e
   fault_swapped p q r low high F.Memory h = tt
   fault_swapped p q r low high (F.Wide (Cross a b c d den)) h = record {
     first = has_swapped p q r a h.first;
@@ -358,26 +402,41 @@ module _ {P : Type 0} (shape : ShapeOf P) where
       → IsBestAt shape side (record { top = top; low = low; high = high }) t (value_at (shape.function y) t)
   best_at side top low high t x y h k is_x is_y = record { bound = bound; one_of = (y, has is_y is_x, no_better_refl side (value_at (shape.function y) t)) }
     where
-      to_y : (o : Option P) → MatchOption o (y ≡ x) (λ q. IsChosen side (value_at (shape.function x) t) (value_at (shape.function q) t) (value_at (shape.function y) t)) → IsNoBetter side (value_at (shape.function x) t) (value_at (shape.function y) t)
-      to_y None e = subst (λ z. IsNoBetter side (value_at (shape.function x) t) (value_at (shape.function z) t)) (sym e) (no_better_refl side (value_at (shape.function x) t))
+      to_y : (o : Option P) → MatchOption o (y ≡ x) (λ q. IsChosen side (value_at (shape.function x) t)
+          (value_at (shape.function q) t) (value_at (shape.function y) t)) → IsNoBetter side
+          (value_at (shape.function x) t) (value_at (shape.function y) t)
+      to_y None e = subst (λ z. IsNoBetter side (value_at (shape.function x) t) (value_at (shape.function z) t)) (sym e)
+          (no_better_refl side (value_at (shape.function x) t))
       to_y (Some q) c = (chosen_better side (value_at (shape.function x) t) (value_at (shape.function q) t) (value_at (shape.function y) t) c).left
 
-      to_x : (o : Option P) → MatchOption o (x ≡ top) (λ q. IsChosen side (value_at (shape.function top) t) (value_at (shape.function q) t) (value_at (shape.function x) t)) → IsNoBetter side (value_at (shape.function top) t) (value_at (shape.function x) t)
-      to_x None e = subst (λ z. IsNoBetter side (value_at (shape.function top) t) (value_at (shape.function z) t)) (sym e) (no_better_refl side (value_at (shape.function top) t))
+      to_x : (o : Option P) → MatchOption o (x ≡ top) (λ q. IsChosen side (value_at (shape.function top) t)
+          (value_at (shape.function q) t) (value_at (shape.function x) t)) → IsNoBetter side
+          (value_at (shape.function top) t) (value_at (shape.function x) t)
+      to_x None e = subst (λ z. IsNoBetter side (value_at (shape.function top) t) (value_at (shape.function z) t))
+          (sym e) (no_better_refl side (value_at (shape.function top) t))
       to_x (Some q) c = (chosen_better side (value_at (shape.function top) t) (value_at (shape.function q) t) (value_at (shape.function x) t) c).left
 
-      of_low : (o : Option P) → MatchOption o (x ≡ top) (λ q. IsChosen side (value_at (shape.function top) t) (value_at (shape.function q) t) (value_at (shape.function x) t)) → (q : P) → o ≡ Some q → IsNoBetter side (value_at (shape.function q) t) (value_at (shape.function x) t)
+      of_low : (o : Option P) → MatchOption o (x ≡ top) (λ q. IsChosen side (value_at (shape.function top) t)
+          (value_at (shape.function q) t) (value_at (shape.function x) t)) → (q : P) → o ≡ Some q → IsNoBetter side
+          (value_at (shape.function q) t) (value_at (shape.function x) t)
       of_low None e q m = absurd (cc)
-      of_low (Some z) c q m = let e : z ≡ q = cc in subst (λ q. IsNoBetter side (value_at (shape.function q) t) (value_at (shape.function x) t)) e (chosen_better side (value_at (shape.function top) t) (value_at (shape.function z) t) (value_at (shape.function x) t) c).right
+      of_low (Some z) c q m = let e : z ≡ q = cc in subst (λ q. IsNoBetter side (value_at (shape.function q) t)
+          (value_at (shape.function x) t)) e (chosen_better side (value_at (shape.function top) t)
+          (value_at (shape.function z) t) (value_at (shape.function x) t) c).right
 
-      of_high : (o : Option P) → MatchOption o (y ≡ x) (λ q. IsChosen side (value_at (shape.function x) t) (value_at (shape.function q) t) (value_at (shape.function y) t)) → (q : P) → o ≡ Some q → IsNoBetter side (value_at (shape.function q) t) (value_at (shape.function y) t)
+      of_high : (o : Option P) → MatchOption o (y ≡ x) (λ q. IsChosen side (value_at (shape.function x) t)
+          (value_at (shape.function q) t) (value_at (shape.function y) t)) → (q : P) → o ≡ Some q → IsNoBetter side
+          (value_at (shape.function q) t) (value_at (shape.function y) t)
       of_high None e q m = absurd (cc)
-      of_high (Some z) c q m = let e : z ≡ q = cc in subst (λ q. IsNoBetter side (value_at (shape.function q) t) (value_at (shape.function y) t)) e (chosen_better side (value_at (shape.function x) t) (value_at (shape.function z) t) (value_at (shape.function y) t) c).right
+      of_high (Some z) c q m = let e : z ≡ q = cc in subst (λ q. IsNoBetter side (value_at (shape.function q) t)
+          (value_at (shape.function y) t)) e (chosen_better side (value_at (shape.function x) t)
+          (value_at (shape.function z) t) (value_at (shape.function y) t) c).right
 
       bound : (p : P) → Has (record { top = top; low = low; high = high }) p → IsNoBetter side (value_at (shape.function p) t) (value_at (shape.function y) t)
       bound p (inl m) = subst (λ p. IsNoBetter side (value_at (shape.function p) t) (value_at (shape.function y) t)) (sym m)
           (no_better_trans side (value_at (shape.function top) t) (value_at (shape.function x) t) (value_at (shape.function y) t) (to_x low h) (to_y high k))
-      bound p (inr (inl m)) = no_better_trans side (value_at (shape.function p) t) (value_at (shape.function x) t) (value_at (shape.function y) t) (of_low low h p m) (to_y high k)
+      bound p (inr (inl m)) = no_better_trans side (value_at (shape.function p) t) (value_at (shape.function x) t)
+          (value_at (shape.function y) t) (of_low low h p m) (to_y high k)
       bound p (inr (inr m)) = of_high high k p m
 
       has : (y ≡ x) ⊎ (high ≡ Some y) → (x ≡ top) ⊎ (low ≡ Some x) → Has (record { top = top; low = low; high = high }) y
@@ -397,7 +456,8 @@ on_both A (Ok x) (Err e) h a = absurd (false≢true h)
 on_both A (Err e) q h a = tt
 
 -- what was kept of a fault
-pub kept_fault : {P : Type 0} (shape : ShapeOf P) (best : Best P) (low high : Rational) {T U E : Type 0} (r : Result T E) (q : Result U (OpFault P)) (kept : Option (WidePair P)) → OnErr r (IsErrAnd q (λ e. IsKept e kept))
+pub kept_fault : {P : Type 0} (shape : ShapeOf P) (best : Best P) (low high : Rational) {T U E : Type 0}
+    (r : Result T E) (q : Result U (OpFault P)) (kept : Option (WidePair P)) → OnErr r (IsErrAnd q (λ e. IsKept e kept))
     → IfErr q (IsJoinFault shape best low high) → OnErr r (IfSome kept (IsBestFault shape best low high))
 kept_fault shape best low high (Ok x) q kept h f = tt
 kept_fault shape best low high (Err e) (Ok y) kept h f = absurd h

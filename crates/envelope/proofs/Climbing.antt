@@ -26,12 +26,14 @@ climbing p from = record { shape = p; from = from; until = None }
 abbrev pub climbed_until : {P : Type 0} → P → Turn → Turn → Part P
 climbed_until p from until = record { shape = p; from = from; until = Some until }
 
-module _ {P : Type 0} (shape : ShapeOf P) (laws : ShapeLaws shape) (turn : Turn) (to : Rational) (old new : Course P) (low_until : Turn) (items : List (Item P)) (parts : List (Part P)) (ends : EachEnds parts)
+module _ {P : Type 0} (shape : ShapeOf P) (laws : ShapeLaws shape) (turn : Turn) (to : Rational) (old new : Course P)
+    (low_until : Turn) (items : List (Item P)) (parts : List (Part P)) (ends : EachEnds parts)
     (low_first : (p : P) → old.after.low ≡ Some p → (t : Rational) → FirstHasCome items t → HasCome low_until t) where
   no_end : (x : Part P) → IsOneOf parts x → ¬ (x.until ≡ None)
   no_end x one e = let (u, f) = ends x one in absurd (cc)
 
-  nothing : (all : List (Part P)) → Stands shape old.side turn to all old low_until items → (t : Rational) → IsToCome turn t → NothingLeaves old.after low_until items t
+  nothing : (all : List (Part P)) → Stands shape old.side turn to all old low_until items → (t : Rational)
+      → IsToCome turn t → NothingLeaves old.after low_until items t
   nothing all s t to_come = by_case (leaves_or_not old.after.low low_until items t)
     where
       by_case : NothingLeaves old.after low_until items t ⊎ SomethingLeaves old.after low_until items t → NothingLeaves old.after low_until items t
@@ -39,12 +41,16 @@ module _ {P : Type 0} (shape : ShapeOf P) (laws : ShapeLaws shape) (turn : Turn)
       by_case (inr h) = absurd (not_both turn t (s.later t h) to_come)
 
   -- the high end comes to a gap
-  pub climb_stands : (p : P) → Stands shape old.side turn to parts old low_until items → Turns shape old turn (record { top = old.after.top; low = old.after.low; high = Some p }) new
+  pub climb_stands : (p : P) → Stands shape old.side turn to parts old low_until items → Turns shape old turn
+      (record { top = old.after.top; low = old.after.low; high = Some p }) new
       → Stands shape old.side turn to (climbing p turn ∷ parts) new low_until items
-  climb_stands p s turns = turned_stands shape laws parts (climbing p turn ∷ parts) turn turn to changes old new (record { top = old.after.top; low = old.after.low; high = Some p }) low_until low_until items items s turns
+  climb_stands p s turns = turned_stands shape laws parts (climbing p turn ∷ parts) turn turn to changes old new
+      (record { top = old.after.top; low = old.after.low; high = Some p }) low_until low_until items items s turns
       (nothing parts s) keeps low_first s.later
     where
-      by_new : (y : Part P) → IsOneOf (climbing p turn ∷ parts) y → ((t : Rational) → Counts y t → HasCome turn t) ⊎ ((x : Part P) × IsOneOf parts x × (x.shape ≡ y.shape) × ((t : Rational) → IsToCome turn t → Counts y t → Counts x t))
+      by_new : (y : Part P) → IsOneOf (climbing p turn ∷ parts) y → ((t : Rational) → Counts y t → HasCome turn t)
+          ⊎ ((x : Part P) × IsOneOf parts x × (x.shape ≡ y.shape) × ((t : Rational) → IsToCome turn t → Counts y t
+          → Counts x t))
       by_new y (inl e) = inl (λ t c. (subst (λ y. Counts y t) e c).0)
       by_new y (inr one) = inr (y, one, refl, λ t h c. c)
 
@@ -53,11 +59,14 @@ module _ {P : Type 0} (shape : ShapeOf P) (laws : ShapeLaws shape) (turn : Turn)
 
       Given : Rational → Part P → Type 0
       Given t x = IsNoBetter old.side (value_at (shape.function x.shape) t) (none_of old.side shape.lowest shape.highest)
-          ⊎ ((q : P) × Promises (record { top = old.after.top; low = old.after.low; high = Some p }) low_until items t q × IsNoBetter old.side (value_at (shape.function x.shape) t) (value_at (shape.function q) t))
+          ⊎ ((q : P) × Promises (record { top = old.after.top; low = old.after.low; high = Some p }) low_until items t q
+          × IsNoBetter old.side (value_at (shape.function x.shape) t) (value_at (shape.function q) t))
           ⊎ ((x.until ≡ None) × (Some p ≡ Some x.shape))
 
       by_old : (t : Rational) (x : Part P) → IsOneOf parts x
-          → IsNoBetter old.side (value_at (shape.function x.shape) t) (none_of old.side shape.lowest shape.highest) ⊎ ((q : P) × Promises old.after low_until items t q × IsNoBetter old.side (value_at (shape.function x.shape) t) (value_at (shape.function q) t))
+          → IsNoBetter old.side (value_at (shape.function x.shape) t) (none_of old.side shape.lowest shape.highest)
+          ⊎ ((q : P) × Promises old.after low_until items t q × IsNoBetter old.side
+          (value_at (shape.function x.shape) t) (value_at (shape.function q) t))
           ⊎ ((x.until ≡ None) × (old.after.high ≡ Some x.shape)) → Given t x
       by_old t x one (inl n) = inl n
       by_old t x one (inr (inl m)) = inr (inl m)
@@ -81,17 +90,24 @@ module _ {P : Type 0} (shape : ShapeOf P) (laws : ShapeLaws shape) (turn : Turn)
       }
 
   -- the high end has left it
-  pub end_stands : (p : P) (from : Turn) → old.after.high ≡ Some p → Stands shape old.side turn to (climbing p from ∷ parts) old low_until items → Turns shape old turn (record { top = old.after.top; low = old.after.low; high = None }) new
+  pub end_stands : (p : P) (from : Turn) → old.after.high ≡ Some p → Stands shape old.side turn to
+      (climbing p from ∷ parts) old low_until items → Turns shape old turn
+      (record { top = old.after.top; low = old.after.low; high = None }) new
       → Stands shape old.side turn to (climbed_until p from turn ∷ parts) new low_until items
-  end_stands p from was s turns = turned_stands shape laws (climbing p from ∷ parts) (climbed_until p from turn ∷ parts) turn turn to changes old new (record { top = old.after.top; low = old.after.low; high = None }) low_until low_until items items s turns
+  end_stands p from was s turns = turned_stands shape laws (climbing p from ∷ parts) (climbed_until p from turn ∷ parts)
+      turn turn to changes old new (record { top = old.after.top; low = old.after.low; high = None }) low_until
+      low_until items items s turns
       (nothing (climbing p from ∷ parts) s) keeps low_first s.later
     where
-      kept_piece : (x : Part P) → IsOneOf (climbing p from ∷ parts) x → (y : Part P) × IsOneOf (climbed_until p from turn ∷ parts) y × (y.shape ≡ x.shape) × ((t : Rational) → IsToCome turn t → Counts x t → Counts y t)
+      kept_piece : (x : Part P) → IsOneOf (climbing p from ∷ parts) x → (y : Part P)
+          × IsOneOf (climbed_until p from turn ∷ parts) y × (y.shape ≡ x.shape) × ((t : Rational) → IsToCome turn t
+          → Counts x t → Counts y t)
       kept_piece x (inl e) = (climbed_until p from turn, inl refl, ap (λ (y : Part P). y.shape) (sym e), λ t h c. ((subst (λ y. Counts y t) e c).0, h))
       kept_piece x (inr one) = (x, inr one, refl, λ t h c. c)
 
       new_piece : (y : Part P) → IsOneOf (climbed_until p from turn ∷ parts) y
-          → ((t : Rational) → Counts y t → HasCome turn t) ⊎ ((x : Part P) × IsOneOf (climbing p from ∷ parts) x × (x.shape ≡ y.shape) × ((t : Rational) → IsToCome turn t → Counts y t → Counts x t))
+          → ((t : Rational) → Counts y t → HasCome turn t) ⊎ ((x : Part P) × IsOneOf (climbing p from ∷ parts) x
+          × (x.shape ≡ y.shape) × ((t : Rational) → IsToCome turn t → Counts y t → Counts x t))
       new_piece y (inl e) = inr (climbing p from, inl refl, ap (λ (y : Part P). y.shape) (sym e), λ t h c. ((subst (λ y. Counts y t) e c).0, tt))
       new_piece y (inr one) = inr (y, inr one, refl, λ t h c. c)
 
@@ -100,11 +116,14 @@ module _ {P : Type 0} (shape : ShapeOf P) (laws : ShapeLaws shape) (turn : Turn)
 
       Given : Rational → Part P → Type 0
       Given t x = IsNoBetter old.side (value_at (shape.function x.shape) t) (none_of old.side shape.lowest shape.highest)
-          ⊎ ((q : P) × Promises (record { top = old.after.top; low = old.after.low; high = None }) low_until items t q × IsNoBetter old.side (value_at (shape.function x.shape) t) (value_at (shape.function q) t))
+          ⊎ ((q : P) × Promises (record { top = old.after.top; low = old.after.low; high = None }) low_until items t q
+          × IsNoBetter old.side (value_at (shape.function x.shape) t) (value_at (shape.function q) t))
           ⊎ ((x.until ≡ None) × (None ≡ Some x.shape))
 
       by_old : (t : Rational) (x : Part P) → IsOneOf parts x
-          → IsNoBetter old.side (value_at (shape.function x.shape) t) (none_of old.side shape.lowest shape.highest) ⊎ ((q : P) × Promises old.after low_until items t q × IsNoBetter old.side (value_at (shape.function x.shape) t) (value_at (shape.function q) t))
+          → IsNoBetter old.side (value_at (shape.function x.shape) t) (none_of old.side shape.lowest shape.highest)
+          ⊎ ((q : P) × Promises old.after low_until items t q × IsNoBetter old.side
+          (value_at (shape.function x.shape) t) (value_at (shape.function q) t))
           ⊎ ((x.until ≡ None) × (old.after.high ≡ Some x.shape)) → Given t x
       by_old t x one (inl n) = inl n
       by_old t x one (inr (inl m)) = inr (inl m)
@@ -114,7 +133,8 @@ module _ {P : Type 0} (shape : ShapeOf P) (laws : ShapeLaws shape) (turn : Turn)
       kept t x h within (inl e) c = absurd (not_both turn t h (subst (λ y. Counts y t) e c).1)
       kept t x h within (inr one) c = by_old t x one (s.keeps.kept t x h within (inr one) c)
 
-      keeps : Keeps shape old.side turn to (climbed_until p from turn ∷ parts) (record { top = old.after.top; low = old.after.low; high = None }) low_until items
+      keeps : Keeps shape old.side turn to (climbed_until p from turn ∷ parts)
+          (record { top = old.after.top; low = old.after.low; high = None }) low_until items
       keeps = record {
         kept = kept;
         backed = backed_more shape old.side turn to (climbing p from ∷ parts) (climbed_until p from turn ∷ parts) ended items s.keeps.backed;

@@ -23,7 +23,8 @@ use Rattle.envelope.proofs.Bests.{best_same, no_better_same, no_better_back, no_
 
 module _ {P : Type 0} (shape : ShapeOf P) where
   -- what is settled lies before the last knot
-  settled_before : (course : Course P) (o : Option (List (Knot P))) (t : Rational) (v : Extended) → EndsBefore shape o (value course.at) → IsSettled shape course o t v → t <ʳ value course.at
+  settled_before : (course : Course P) (o : Option (List (Knot P))) (t : Rational) (v : Extended) → EndsBefore shape o
+      (value course.at) → IsSettled shape course o t v → t <ʳ value course.at
   settled_before course None t v e h = absurd h
   settled_before course (Some built) t v e (inl w) = lt_of_le_of_lt (worth_within shape built t v e.0 w).below e.1
   settled_before course (Some built) t v e (inr w) = w.1
@@ -35,8 +36,11 @@ module _ {P : Type 0} (shape : ShapeOf P) where
       ⊎ ((turn.just_after ≡ false) × Has next point × IsBestAt shape old.side next (value turn.at) (value_at (shape.function point) (value turn.at)))
 
   -- a new knot at the turn
-  pub turned_later : (old : Course P) (turn : Turn) (next : Best P) (point : P) (mid : Course P) (s : Settles shape old mid) → IsReady shape old → value old.at <ʳ value turn.at → IsWithin (2 ^ 34) (value turn.at) → HaveLevels shape next
-      → IsPointOf old turn next point → Turns shape old turn next (record old { built = Some s.built; before = old.after; at = turn.at; point = point; after = next })
+  pub turned_later : (old : Course P) (turn : Turn) (next : Best P) (point : P) (mid : Course P)
+      (s : Settles shape old mid) → IsReady shape old → value old.at <ʳ value turn.at → IsWithin (2 ^ 34)
+      (value turn.at) → HaveLevels shape next
+      → IsPointOf old turn next point → Turns shape old turn next
+      (record old { built = Some s.built; before = old.after; at = turn.at; point = point; after = next })
   turned_later old turn next point mid s ready order within levels here = record {
     ready = record {
       settled = (s.signal, subst (λ u. u <ʳ value turn.at) (sym s.ends) order, subst (IsWithin (2 ^ 34)) (sym s.ends) ready.within);
@@ -54,23 +58,29 @@ module _ {P : Type 0} (shape : ShapeOf P) where
     moves = new_knot order s.ends refl refl;
   }
     where
-      at_point : (t : Rational) (v : Extended) (best : Best P) → t ≈ value turn.at → Passes (shape.function point) t v → IsBestAt shape old.side best (value turn.at) (value_at (shape.function point) (value turn.at)) → IsBestAt shape old.side best t v
+      at_point : (t : Rational) (v : Extended) (best : Best P) → t ≈ value turn.at → Passes (shape.function point) t v
+          → IsBestAt shape old.side best (value turn.at) (value_at (shape.function point) (value turn.at))
+          → IsBestAt shape old.side best t v
       at_point t v best e p h = best_same shape old.side best (value turn.at) t (value_at (shape.function point) (value turn.at)) v (same_sym e)
-          (same_transᵉ (value_at (shape.function point) (value turn.at)) (value_at (shape.function point) t) v (value_same (shape.function point) (same_sym e)) (same_symᵉ v (value_at (shape.function point) t) p)) h
+          (same_transᵉ (value_at (shape.function point) (value turn.at)) (value_at (shape.function point) t) v
+          (value_same (shape.function point) (same_sym e)) (same_symᵉ v (value_at (shape.function point) t) p)) h
 
       by_point : (t : Rational) (v : Extended) → t ≈ value turn.at → Passes (shape.function point) t v → IsPointOf old turn next point
           → (IsToCome turn t × IsTold shape old t v) ⊎ (HasCome turn t × IsBestAt shape old.side next t v)
       by_point t v e p (inl (after, m, h)) = inl (inr (same_sym e, after), inr (inr (lt_of_lt_of_le order (ge_of_same e), at_point t v old.after e p h)))
       by_point t v e p (inr (at, m, h)) = inr (inr (same_sym e, at), at_point t v next e p h)
 
-      by_built : (t : Rational) (v : Extended) → t <ʳ value turn.at → IsSettled shape old old.built t v ⊎ ((t ≈ value old.at) × Passes (shape.function old.point) t v)
+      by_built : (t : Rational) (v : Extended) → t <ʳ value turn.at → IsSettled shape old old.built t v
+          ⊎ ((t ≈ value old.at) × Passes (shape.function old.point) t v)
           → (IsToCome turn t × IsTold shape old t v) ⊎ (HasCome turn t × IsBestAt shape old.side next t v)
       by_built t v b (inl w) = inl (inl b, inl w)
       by_built t v b (inr w) = inl (inl b, inr (inl w))
 
-      told : (t : Rational) (v : Extended) → IsTold shape (record old { built = Some s.built; before = old.after; at = turn.at; point = point; after = next }) t v
+      told : (t : Rational) (v : Extended) → IsTold shape
+          (record old { built = Some s.built; before = old.after; at = turn.at; point = point; after = next }) t v
           → (IsToCome turn t × IsTold shape old t v) ⊎ (HasCome turn t × IsBestAt shape old.side next t v)
-      told t v (inl (inl w)) = by_built t v (lt_of_le_of_lt (worth_within shape s.built t v s.signal w).below (subst (λ u. u <ʳ value turn.at) (sym s.ends) order)) (s.worth t v w)
+      told t v (inl (inl w)) = by_built t v (lt_of_le_of_lt (worth_within shape s.built t v s.signal w).below
+          (subst (λ u. u <ʳ value turn.at) (sym s.ends) order)) (s.worth t v w)
       told t v (inl (inr w)) = inl (inl w.1, inr (inr (subst (λ u. u <ʳ t) s.ends w.0, w.2)))
       told t v (inr (inl w)) = by_point t v w.0 w.1 here
       told t v (inr (inr w)) = inr (inl w.0, w.1)
@@ -84,7 +94,13 @@ module _ {P : Type 0} (shape : ShapeOf P) where
       point_part p e (inl (_, m, _)) = inl (inr (inr (inr (subst (Has old.after) (sym e) m))))
       point_part p e (inr (_, m, _)) = inr (subst (Has next) (sym e) m)
 
-      parts : (p : P) → HasPart (record old { built = Some s.built; before = old.after; at = turn.at; point = point; after = next }) p → HasPart old p ⊎ Has next p
+      parts : (p : P) → HasPart (record old {
+        built = Some s.built;
+        before = old.after;
+        at = turn.at;
+        point = point;
+        after = next;
+      }) p → HasPart old p ⊎ Has next p
       parts p (inl m) = settled_part p (s.shapes p m)
       parts p (inr (inl m)) = inl (inr (inr (inr m)))
       parts p (inr (inr (inl m))) = point_part p m here
@@ -92,7 +108,8 @@ module _ {P : Type 0} (shape : ShapeOf P) where
 
   -- the same knot: its point stays, or is the best of what begins there
   pub turned_here : (old : Course P) (turn : Turn) (next : Best P) (point : P) → IsReady shape old → value turn.at ≈ value old.at → HaveLevels shape next
-      → ((turn.just_after ≡ true) × (point ≡ old.point)) ⊎ ((turn.just_after ≡ false) × Has next point × IsBestAt shape old.side next (value old.at) (value_at (shape.function point) (value old.at)))
+      → ((turn.just_after ≡ true) × (point ≡ old.point)) ⊎ ((turn.just_after ≡ false) × Has next point
+      × IsBestAt shape old.side next (value old.at) (value_at (shape.function point) (value old.at)))
       → Turns shape old turn next (record old { point = point; after = next })
   turned_here old turn next point ready same levels here = record {
     ready = record { settled = ready.settled; within = ready.within; before = ready.before; after = levels; still = ready.still };
@@ -109,27 +126,33 @@ module _ {P : Type 0} (shape : ShapeOf P) where
       first None = refl
       first (Some built) = refl
 
-      settled : (t : Rational) (v : Extended) (o : Option (List (Knot P))) → IsSettled shape (record old { point = point; after = next }) o t v → IsSettled shape old o t v
+      settled : (t : Rational) (v : Extended) (o : Option (List (Knot P))) → IsSettled shape
+          (record old { point = point; after = next }) o t v → IsSettled shape old o t v
       settled t v None h = h
       settled t v (Some built) h = h
 
       by_point : (t : Rational) (v : Extended) → t ≈ value old.at → Passes (shape.function point) t v
-          → ((turn.just_after ≡ true) × (point ≡ old.point)) ⊎ ((turn.just_after ≡ false) × Has next point × IsBestAt shape old.side next (value old.at) (value_at (shape.function point) (value old.at)))
+          → ((turn.just_after ≡ true) × (point ≡ old.point)) ⊎ ((turn.just_after ≡ false) × Has next point
+          × IsBestAt shape old.side next (value old.at) (value_at (shape.function point) (value old.at)))
           → (IsToCome turn t × IsTold shape old t v) ⊎ (HasCome turn t × IsBestAt shape old.side next t v)
       by_point t v e p (inl (after, k)) = inl (inr (same_trans same (same_sym e), after), inr (inl (e, subst (λ q. Passes (shape.function q) t v) k p)))
       by_point t v e p (inr (at, m, h)) = inr (
         inr (same_trans same (same_sym e), at),
         best_same shape old.side next (value old.at) t (value_at (shape.function point) (value old.at)) v (same_sym e)
-            (same_transᵉ (value_at (shape.function point) (value old.at)) (value_at (shape.function point) t) v (value_same (shape.function point) (same_sym e)) (same_symᵉ v (value_at (shape.function point) t) p)) h,
+            (same_transᵉ (value_at (shape.function point) (value old.at)) (value_at (shape.function point) t) v
+            (value_same (shape.function point) (same_sym e)) (same_symᵉ v (value_at (shape.function point) t) p)) h,
       )
 
-      told : (t : Rational) (v : Extended) → IsTold shape (record old { point = point; after = next }) t v → (IsToCome turn t × IsTold shape old t v) ⊎ (HasCome turn t × IsBestAt shape old.side next t v)
-      told t v (inl w) = let w' = settled t v old.built w in inl (inl (lt_of_lt_of_le (settled_before old old.built t v ready.settled w') (ge_of_same same)), inl w')
+      told : (t : Rational) (v : Extended) → IsTold shape (record old { point = point; after = next }) t v
+          → (IsToCome turn t × IsTold shape old t v) ⊎ (HasCome turn t × IsBestAt shape old.side next t v)
+      told t v (inl w) = let w' = settled t v old.built w in inl
+          (inl (lt_of_lt_of_le (settled_before old old.built t v ready.settled w') (ge_of_same same)), inl w')
       told t v (inr (inl w)) = by_point t v w.0 w.1 here
       told t v (inr (inr w)) = inr (inl (lt_of_le_of_lt (le_of_same same) w.0), w.1)
 
       point_part : (p : P) → p ≡ point
-          → ((turn.just_after ≡ true) × (point ≡ old.point)) ⊎ ((turn.just_after ≡ false) × Has next point × IsBestAt shape old.side next (value old.at) (value_at (shape.function point) (value old.at)))
+          → ((turn.just_after ≡ true) × (point ≡ old.point)) ⊎ ((turn.just_after ≡ false) × Has next point
+          × IsBestAt shape old.side next (value old.at) (value_at (shape.function point) (value old.at)))
           → HasPart old p ⊎ Has next p
       point_part p e (inl (_, k)) = inl (inr (inr (inl (e ∙ k))))
       point_part p e (inr (_, m, _)) = inr (subst (Has next) (sym e) m)
@@ -141,7 +164,9 @@ module _ {P : Type 0} (shape : ShapeOf P) where
       parts p (inr (inr (inr m))) = inr m
 
   -- one constant that goes on, by another shape of its function
-  best_on : (side : Side) (old next : Best P) (t : Rational) (v : Extended) → IsAlone old → IsAlone next → AreSame (shape.function old.top) (shape.function next.top) → IsBestAt shape side next t v → IsBestAt shape side old t v
+  best_on : (side : Side) (old next : Best P) (t : Rational) (v : Extended) → IsAlone old → IsAlone next
+      → AreSame (shape.function old.top) (shape.function next.top) → IsBestAt shape side next t v
+      → IsBestAt shape side old t v
   best_on side old next t v a b same h = record { bound = bound; one_of = (old.top, inl refl, one_of h.one_of.0 h.one_of.1 h.one_of.2) }
     where
       only : (p : P) (best : Best P) → IsAlone best → Has best p → p ≡ best.top
@@ -151,14 +176,20 @@ module _ {P : Type 0} (shape : ShapeOf P) where
 
       bound : (p : P) → Has old p → IsNoBetter side (value_at (shape.function p) t) v
       bound p m = subst (λ p. IsNoBetter side (value_at (shape.function p) t) v) (sym (only p old a m))
-          (no_better_trans side (value_at (shape.function old.top) t) (value_at (shape.function next.top) t) v (no_better_same side (value_at (shape.function old.top) t) (value_at (shape.function next.top) t) (same t)) (h.bound next.top (inl refl)))
+          (no_better_trans side (value_at (shape.function old.top) t) (value_at (shape.function next.top) t) v
+          (no_better_same side (value_at (shape.function old.top) t) (value_at (shape.function next.top) t)
+          (same t)) (h.bound next.top (inl refl)))
 
       one_of : (p : P) → Has next p → IsNoBetter side v (value_at (shape.function p) t) → IsNoBetter side v (value_at (shape.function old.top) t)
       one_of p m k = no_better_trans side v (value_at (shape.function next.top) t) (value_at (shape.function old.top) t)
-          (subst (λ p. IsNoBetter side v (value_at (shape.function p) t)) (only p next b m) k) (no_better_back side (value_at (shape.function old.top) t) (value_at (shape.function next.top) t) (same t))
+          (subst (λ p. IsNoBetter side v (value_at (shape.function p) t)) (only p next b m) k)
+          (no_better_back side (value_at (shape.function old.top) t) (value_at (shape.function next.top) t)
+          (same t))
 
   -- a turn from one constant alone to the same constant alone needs no knot
-  pub turned_alone : (old : Course P) (turn : Turn) (next : Best P) → IsReady shape old → value old.at <ʳ value turn.at → HaveLevels shape next → IsAlone old.after → IsAlone next → AreSame (shape.function old.after.top) (shape.function next.top)
+  pub turned_alone : (old : Course P) (turn : Turn) (next : Best P) → IsReady shape old → value old.at <ʳ value turn.at
+      → HaveLevels shape next → IsAlone old.after → IsAlone next → AreSame (shape.function old.after.top)
+      (shape.function next.top)
       → Turns shape old turn next (record old { after = next })
   turned_alone old turn next ready order levels a b same = record {
     ready = record { settled = ready.settled; within = ready.within; before = ready.before; after = levels; still = ready.still };
@@ -179,18 +210,21 @@ module _ {P : Type 0} (shape : ShapeOf P) where
       settled t v None h = h
       settled t v (Some built) h = h
 
-      by_after : (after : Bool) → turn.just_after ≡ after → (t : Rational) (v : Extended) → value old.at <ʳ t → IsBestAt shape old.side next t v → value turn.at ≈ t
+      by_after : (after : Bool) → turn.just_after ≡ after → (t : Rational) (v : Extended) → value old.at <ʳ t
+          → IsBestAt shape old.side next t v → value turn.at ≈ t
           → (IsToCome turn t × IsTold shape old t v) ⊎ (HasCome turn t × IsBestAt shape old.side next t v)
       by_after true e t v k h s = inl (inr (s, e), inr (inr (k, best_on old.side old.after next t v a b same h)))
       by_after false e t v k h s = inr (inr (s, e), h)
 
-      by_order : (t : Rational) (v : Extended) → value old.at <ʳ t → IsBestAt shape old.side next t v → (t <ʳ value turn.at) ⊎ (t ≈ value turn.at) ⊎ (value turn.at <ʳ t)
+      by_order : (t : Rational) (v : Extended) → value old.at <ʳ t → IsBestAt shape old.side next t v
+          → (t <ʳ value turn.at) ⊎ (t ≈ value turn.at) ⊎ (value turn.at <ʳ t)
           → (IsToCome turn t × IsTold shape old t v) ⊎ (HasCome turn t × IsBestAt shape old.side next t v)
       by_order t v k h (inl o) = inl (inl o, inr (inr (k, best_on old.side old.after next t v a b same h)))
       by_order t v k h (inr (inl o)) = by_after turn.just_after refl t v k h (same_sym o)
       by_order t v k h (inr (inr o)) = inr (inl o, h)
 
-      told : (t : Rational) (v : Extended) → IsTold shape (record old { after = next }) t v → (IsToCome turn t × IsTold shape old t v) ⊎ (HasCome turn t × IsBestAt shape old.side next t v)
+      told : (t : Rational) (v : Extended) → IsTold shape (record old { after = next }) t v
+          → (IsToCome turn t × IsTold shape old t v) ⊎ (HasCome turn t × IsBestAt shape old.side next t v)
       told t v (inl w) = let w' = settled t v old.built w in inl (inl (lt_trans (settled_before old old.built t v ready.settled w') order), inl w')
       told t v (inr (inl w)) = inl (inl (lt_of_le_of_lt (le_of_same w.0) order), inr (inl w))
       told t v (inr (inr w)) = by_order t v w.0 w.1 (lt_or_same_or_gt t (value turn.at))
@@ -202,25 +236,31 @@ module _ {P : Type 0} (shape : ShapeOf P) where
       parts p (inr (inr (inr m))) = inr m
 
   -- the last knot of a course is settled: what was written after the settled part, or the first knot
-  pub settled_after : (old : Course P) (built new : List (Knot P)) → old.built ≡ Some built → IsWritten shape old.side built old.before old.at old.point new → Settles shape old (record old { built = Some new })
+  pub settled_after : (old : Course P) (built new : List (Knot P)) → old.built ≡ Some built
+      → IsWritten shape old.side built old.before old.at old.point new → Settles shape old
+      (record old { built = Some new })
   settled_after old built new is h = record {
     built = new;
     same = refl;
     signal = h.signal;
     begins = h.begins ∙ sym (ap (first_time old) is);
     ends = h.ends;
-    worth = λ t v w. subst (λ o. IsSettled shape old o t v ⊎ ((t ≈ value old.at) × Passes (shape.function old.point) t v)) (sym is) (by_part t v (h.worth t v w));
+    worth = λ t v w. subst (λ o. IsSettled shape old o t v
+        ⊎ ((t ≈ value old.at) × Passes (shape.function old.point) t v)) (sym is) (by_part t v (h.worth t v w));
     shapes = λ p m. subst (λ o. IsSettledShape o p ⊎ Has old.before p ⊎ (p ≡ old.point)) (sym is) (h.shapes p m);
   }
     where
-      by_part : (t : Rational) (v : Extended) → IsWorth shape built t v ⊎ ((stop built <ʳ t) × (t <ʳ value old.at) × IsBestAt shape old.side old.before t v) ⊎ ((t ≈ value old.at) × Passes (shape.function old.point) t v)
+      by_part : (t : Rational) (v : Extended) → IsWorth shape built t v ⊎ ((stop built <ʳ t) × (t <ʳ value old.at)
+          × IsBestAt shape old.side old.before t v) ⊎ ((t ≈ value old.at) × Passes (shape.function old.point) t v)
           → IsSettled shape old (Some built) t v ⊎ ((t ≈ value old.at) × Passes (shape.function old.point) t v)
       by_part t v (inl w) = inl (inl w)
       by_part t v (inr (inl w)) = inl (inr w)
       by_part t v (inr (inr w)) = inr w
 
   -- the first knot is settled as a signal of one time
-  pub settled_first : (old : Course P) (new : List (Knot P)) → old.built ≡ None → new ≡ record { time = old.at; point = old.point; after = old.point } ∷ [] → IsSignal shape new → Settles shape old (record old { built = Some new })
+  pub settled_first : (old : Course P) (new : List (Knot P)) → old.built ≡ None
+      → new ≡ record { time = old.at; point = old.point; after = old.point } ∷ [] → IsSignal shape new
+      → Settles shape old (record old { built = Some new })
   settled_first old new is e signal = record {
     built = new;
     same = refl;
@@ -231,7 +271,9 @@ module _ {P : Type 0} (shape : ShapeOf P) where
     shapes = λ p m. inr (inr (by_shape p (subst (λ ks. HasShape ks p) e m)));
   }
     where
-      by_knot : (t : Rational) (v : Extended) → IsWorth shape (record { time = old.at; point = old.point; after = old.point } ∷ []) t v → (t ≈ value old.at) × Passes (shape.function old.point) t v
+      by_knot : (t : Rational) (v : Extended) → IsWorth shape
+          (record { time = old.at; point = old.point; after = old.point } ∷ []) t v → (t ≈ value old.at)
+          × Passes (shape.function old.point) t v
       by_knot t v (inl w) = (w.when, w.worth)
       by_knot t v (inr (inl w)) = absurd w
       by_knot t v (inr (inr w)) = absurd w
@@ -242,7 +284,9 @@ module _ {P : Type 0} (shape : ShapeOf P) where
       by_shape p (inr (inr m)) = absurd m
 
   -- a course that goes on to the time, and is settled there
-  pub ended_later : (old mid new : Course P) (to : Frac) → value old.at <ʳ value to → Turns shape old (record { at = to; just_after = false }) old.after mid → mid.at ≡ to → Settles shape mid new → Ends shape old (value to) new
+  pub ended_later : (old mid new : Course P) (to : Frac) → value old.at <ʳ value to → Turns shape old
+      (record { at = to; just_after = false }) old.after mid → mid.at ≡ to → Settles shape mid new → Ends shape old
+      (value to) new
   ended_later old mid new to order turns at s = record {
     built = s.built;
     is = ap (λ (m : Course P). m.built) s.same;
@@ -253,7 +297,8 @@ module _ {P : Type 0} (shape : ShapeOf P) where
     shapes = λ p m. by_part p (turns.parts p (by_shape p (s.shapes p m)));
   }
     where
-      by_knot : (t : Rational) (v : Extended) → IsSettled shape mid mid.built t v ⊎ ((t ≈ value mid.at) × Passes (shape.function mid.point) t v) → IsTold shape mid t v
+      by_knot : (t : Rational) (v : Extended) → IsSettled shape mid mid.built t v
+          ⊎ ((t ≈ value mid.at) × Passes (shape.function mid.point) t v) → IsTold shape mid t v
       by_knot t v (inl w) = inl w
       by_knot t v (inr w) = inr (inl w)
 
@@ -261,7 +306,9 @@ module _ {P : Type 0} (shape : ShapeOf P) where
       after t (inl h) = lt_trans order h
       after t (inr h) = lt_of_lt_of_le order (le_of_same h.0)
 
-      by_turn : (t : Rational) (v : Extended) → (IsToCome (record { at = to; just_after = false }) t × IsTold shape old t v) ⊎ (HasCome (record { at = to; just_after = false }) t × IsBestAt shape old.side old.after t v) → IsTold shape old t v
+      by_turn : (t : Rational) (v : Extended) → (IsToCome (record { at = to; just_after = false }) t
+          × IsTold shape old t v) ⊎ (HasCome (record { at = to; just_after = false }) t
+          × IsBestAt shape old.side old.after t v) → IsTold shape old t v
       by_turn t v (inl h) = h.1
       by_turn t v (inr h) = inr (inr (after t h.0, h.1))
 

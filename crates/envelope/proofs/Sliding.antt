@@ -21,7 +21,8 @@ use Rattle.envelope.specs.Standing.{Part, IsOneOf, IsPieceOn, IsEndingPieceOn, I
 use Rattle.envelope.proofs.TurnOrder.{at_most_of_come, not_both}
 
 -- the first of a row of items is the top
-pub top_first : {P : Type 0} (shape : ShapeOf P) (side : Side) (items : List (Item P)) (x : Item P) → 0 < length items → x ≡ slice_index_or items 0 x → IsTop shape side items x.value
+pub top_first : {P : Type 0} (shape : ShapeOf P) (side : Side) (items : List (Item P)) (x : Item P) → 0 < length items
+    → x ≡ slice_index_or items 0 x → IsTop shape side items x.value
 top_first shape side [] x some at = absurd (omega (arith, some))
 top_first {P} shape side (item ∷ items) x some at = ap (λ (i : Item P). i.value) at
 
@@ -31,7 +32,8 @@ AllLater turn [] = Unit {0}
 AllLater turn (item ∷ items) = ((t : Rational) → HasCome item.until t → HasCome turn t) × AllLater turn items
 
 module _ {P : Type 0} where
-  later_of_follows : (first : Item P) (items : List (Item P)) (turn : Turn) → ((t : Rational) → HasCome first.until t → HasCome turn t) → AllFollow first items → AllLater turn items
+  later_of_follows : (first : Item P) (items : List (Item P)) (turn : Turn) → ((t : Rational) → HasCome first.until t
+      → HasCome turn t) → AllFollow first items → AllLater turn items
   later_of_follows first [] turn h f = tt
   later_of_follows first (item ∷ items) turn h f = (λ t k. h t (f.0.until t k), later_of_follows first items turn h f.1)
 
@@ -40,17 +42,23 @@ module _ {P : Type 0} where
   first_later (item ∷ items) turn l t h = l.0 t h
 
 -- what is no better than none is bounded, as the least and the greatest value are
-none_bounded : {P : Type 0} (shape : ShapeOf P) (laws : ShapeLaws shape) (side : Side) (p : P) (t : Rational) → IsNoBetter side (value_at (shape.function p) t) (none_of side shape.lowest shape.highest) → IsBounded (2 ^ 31) (value_at (shape.function p) t)
-none_bounded shape laws Greatest p t h = bounded_same (2 ^ 31) (value_at (shape.function p) t) shape.lowest (record { at_most = h; at_least = laws.lowest_is_least p t }) laws.lowest_bounded
-none_bounded shape laws Least p t h = bounded_same (2 ^ 31) (value_at (shape.function p) t) shape.highest (record { at_most = laws.highest_is_greatest p t; at_least = h }) laws.highest_bounded
+none_bounded : {P : Type 0} (shape : ShapeOf P) (laws : ShapeLaws shape) (side : Side) (p : P) (t : Rational)
+    → IsNoBetter side (value_at (shape.function p) t) (none_of side shape.lowest shape.highest) → IsBounded (2 ^ 31)
+    (value_at (shape.function p) t)
+none_bounded shape laws Greatest p t h = bounded_same (2 ^ 31) (value_at (shape.function p) t) shape.lowest
+    (record { at_most = h; at_least = laws.lowest_is_least p t }) laws.lowest_bounded
+none_bounded shape laws Least p t h = bounded_same (2 ^ 31) (value_at (shape.function p) t) shape.highest
+    (record { at_most = laws.highest_is_greatest p t; at_least = h }) laws.highest_bounded
 
 module _ {P : Type 0} (shape : ShapeOf P) where
-  later_of_first : (course : Course P) (items : List (Item P)) (turn : Turn) → AreItems shape course items → ((t : Rational) → FirstHasCome items t → HasCome turn t) → AllLater turn items
+  later_of_first : (course : Course P) (items : List (Item P)) (turn : Turn) → AreItems shape course items
+      → ((t : Rational) → FirstHasCome items t → HasCome turn t) → AllLater turn items
   later_of_first course [] turn a h = tt
   later_of_first course (item ∷ items) turn a h = (λ t k. h t k, later_of_follows item items turn (λ t k. h t k) a.1)
 
   -- after a turn the items can still come next
-  items_on : (old new : Course P) (turn : Turn) (items : List (Item P)) → value new.at ≤ʳ value turn.at → AllLater turn items → AreItems shape old items → AreItems shape new items
+  items_on : (old new : Course P) (turn : Turn) (items : List (Item P)) → value new.at ≤ʳ value turn.at
+      → AllLater turn items → AreItems shape old items → AreItems shape new items
   items_on old new turn [] at l a = tt
   items_on old new turn (item ∷ items) at l a = (
     record { next = record { order = le_trans at (at_most_of_come turn item.until l.0); within = a.0.next.within }; level = a.0.level; slope = a.0.slope },
@@ -59,7 +67,9 @@ module _ {P : Type 0} (shape : ShapeOf P) where
   )
 
   -- a walk can go on after the gap under the low end has left
-  pub can_slide_out : (old new : Course P) (low_until : Turn) (items : List (Item P)) (next : Best P) (p : P) → CanGoOn shape old low_until items → old.after.low ≡ Some p → next.low ≡ None → Turns shape old low_until next new → CanGoOn shape new low_until items
+  pub can_slide_out : (old new : Course P) (low_until : Turn) (items : List (Item P)) (next : Best P) (p : P)
+      → CanGoOn shape old low_until items → old.after.low ≡ Some p → next.low ≡ None → Turns shape old low_until next
+      new → CanGoOn shape new low_until items
   can_slide_out old new low_until items next p can low none turns = record {
     ready = turns.ready;
     low = λ q e. let f = ap (λ (b : Best P). b.low) turns.after in absurd (cc);
@@ -67,7 +77,9 @@ module _ {P : Type 0} (shape : ShapeOf P) where
   }
 
   -- a walk can go on after the first constant has left and its slope has come
-  pub can_slide_in : (old new : Course P) (low_until low_until' : Turn) (first : Item P) (items : List (Item P)) (next : Best P) → CanGoOn shape old low_until (first ∷ items) → next.low ≡ slope_shape first.slope → low_until' ≡ slope_until first.slope low_until → Turns shape old first.until next new
+  pub can_slide_in : (old new : Course P) (low_until low_until' : Turn) (first : Item P) (items : List (Item P))
+      (next : Best P) → CanGoOn shape old low_until (first ∷ items) → next.low ≡ slope_shape first.slope
+      → low_until' ≡ slope_until first.slope low_until → Turns shape old first.until next new
       → CanGoOn shape new low_until' items
   can_slide_in old new low_until low_until' first items next can low until turns = record {
     ready = turns.ready;
@@ -78,11 +90,13 @@ module _ {P : Type 0} (shape : ShapeOf P) where
       later : AllLater first.until items
       later = later_of_follows first items first.until (λ t k. k) can.queue.1
 
-      ends : (slope : Slope P) → first.slope ≡ Some slope → (items : List (Item P)) → AllFollow first items → (t : Rational) → FirstHasCome items t → HasCome slope.until t
+      ends : (slope : Slope P) → first.slope ≡ Some slope → (items : List (Item P)) → AllFollow first items
+          → (t : Rational) → FirstHasCome items t → HasCome slope.until t
       ends slope e [] f t h = absurd h
       ends slope e (item ∷ items) f t h = subst (λ o. SlopeEndsBy o item.until) e f.0.slope t h
 
-      by_slope : (q : P) (o : Option (Slope P)) → first.slope ≡ o → slope_shape first.slope ≡ Some q → IsNext shape new low_until' × ((t : Rational) → FirstHasCome items t → HasCome low_until' t)
+      by_slope : (q : P) (o : Option (Slope P)) → first.slope ≡ o → slope_shape first.slope ≡ Some q
+          → IsNext shape new low_until' × ((t : Rational) → FirstHasCome items t → HasCome low_until' t)
       by_slope q None e s = let f = subst (λ o. slope_shape o ≡ Some q) e s in absurd (cc)
       by_slope q (Some slope) e s =
           let law = subst (λ o. IsSlope shape o first.until) e can.queue.0.slope in
@@ -93,18 +107,22 @@ module _ {P : Type 0} (shape : ShapeOf P) where
           )
 
   -- what leaves next after the first item leaves no earlier
-  pub later_in : (old : Course P) (low_until : Turn) (first : Item P) (items : List (Item P)) (top : P) (high : Option P) → CanGoOn shape old low_until (first ∷ items) → (t : Rational)
+  pub later_in : (old : Course P) (low_until : Turn) (first : Item P) (items : List (Item P)) (top : P)
+      (high : Option P) → CanGoOn shape old low_until (first ∷ items) → (t : Rational)
       → SomethingLeaves (record { top = top; low = slope_shape first.slope; high = high }) (slope_until first.slope low_until) items t → HasCome first.until t
   later_in old low_until first items top high can t = by_slope first.slope refl
     where
-      by_slope : (o : Option (Slope P)) → first.slope ≡ o → MatchOption (slope_shape o) (FirstHasCome items t) (λ _. HasCome (slope_until o low_until) t) → HasCome first.until t
+      by_slope : (o : Option (Slope P)) → first.slope ≡ o → MatchOption (slope_shape o) (FirstHasCome items t)
+          (λ _. HasCome (slope_until o low_until) t) → HasCome first.until t
       by_slope None e h = first_later items first.until (later_of_follows first items first.until (λ t k. k) can.queue.1) t h
       by_slope (Some slope) e h = (subst (λ o. IsSlope shape o first.until) e can.queue.0.slope).2 t h
 
   -- the shapes of what is left are compared within limits
-  pub levels_in : (course : Course P) (low_until : Turn) (first : Item P) (items : List (Item P)) (top : P) (side : Side) → CanGoOn shape course low_until (first ∷ items) → ShapeLaws shape → IsTop shape side items top
+  pub levels_in : (course : Course P) (low_until : Turn) (first : Item P) (items : List (Item P)) (top : P)
+      (side : Side) → CanGoOn shape course low_until (first ∷ items) → ShapeLaws shape → IsTop shape side items top
       → HaveLevels shape (record { top = top; low = slope_shape first.slope; high = course.after.high })
-  levels_in course low_until first items top side can laws is p (inl m) = subst (λ q. HasBoundedLevel (2 ^ 31) (shape.function q)) (sym m) (by_items items is can.queue.2)
+  levels_in course low_until first items top side can laws is p (inl m) = subst (λ q. HasBoundedLevel (2 ^ 31)
+      (shape.function q)) (sym m) (by_items items is can.queue.2)
     where
       by_items : (items : List (Item P)) → IsTop shape side items top → AreItems shape course items → HasBoundedLevel (2 ^ 31) (shape.function top)
       by_items [] n a = λ steady t. none_bounded shape laws side top t (n t)
@@ -137,22 +155,36 @@ module _ {P : Type 0} (shape : ShapeOf P) (side : Side) (pos turn : Turn) (to : 
   stairs_later (item ∷ items) s = (falling_later item s.0, all_below_later item items s.1, stairs_later items s.2)
 
   module _ (parts : List (Part P)) where
-    slope_later : (slope : Option (Slope P)) (until : Turn) → IsSlopeBacked shape side pos to parts slope until → IsSlopeBacked shape side turn to parts slope until
+    slope_later : (slope : Option (Slope P)) (until : Turn) → IsSlopeBacked shape side pos to parts slope until
+        → IsSlopeBacked shape side turn to parts slope until
     slope_later None until b = tt
     slope_later (Some slope) until (x, one, e, on, end) = (x, one, e, λ t h. on t (come t h.0, h.1, h.2), end)
 
     -- what backs items from a turn on backs them from a later one on
     pub backed_later : (items : List (Item P)) → AreBacked shape side pos to parts items → AreBacked shape side turn to parts items
     backed_later [] b = tt
-    backed_later (item ∷ items) b = (let (x, one, e, on, end) = b.0 in (x, one, e, λ t h. on t (come t h.0, h.1), end), slope_later item.slope item.until b.1, backed_later items b.2)
+    backed_later (item ∷ items) b = (
+      let (x, one, e, on, end) = b.0 in (
+        x,
+        one,
+        e,
+        λ t h. on t
+            (come t h.0, h.1),
+        end,
+      ),
+      slope_later item.slope item.until b.1,
+      backed_later items b.2,
+    )
 
     -- a piece that counts from a turn on counts from a later one on
     pub piece_later : (p : P) → IsPieceOn parts p (λ t. HasCome pos t) → IsPieceOn parts p (λ t. HasCome turn t)
     piece_later p (x, one, e, on) = (x, one, e, λ t h. on t (come t h))
 
 -- after the gap under the low end has left
-pub keeps_out : {P : Type 0} (shape : ShapeOf P) (side : Side) (pos : Turn) (to : Rational) (parts : List (Part P)) (best : Best P) (low_until : Turn) (items : List (Item P)) → ((t : Rational) → HasCome low_until t → HasCome pos t)
-    → Keeps shape side pos to parts best low_until items → Keeps shape side low_until to parts (record { top = best.top; low = None; high = best.high }) low_until items
+pub keeps_out : {P : Type 0} (shape : ShapeOf P) (side : Side) (pos : Turn) (to : Rational) (parts : List (Part P))
+    (best : Best P) (low_until : Turn) (items : List (Item P)) → ((t : Rational) → HasCome low_until t → HasCome pos t)
+    → Keeps shape side pos to parts best low_until items → Keeps shape side low_until to parts
+    (record { top = best.top; low = None; high = best.high }) low_until items
 keeps_out {P} shape side pos to parts best low_until items come k = record {
   kept = λ t x h within one c. by_kept t x h (k.kept t x (come t h) within one c);
   backed = backed_later shape side pos low_until to come parts items k.backed;
@@ -162,21 +194,28 @@ keeps_out {P} shape side pos to parts best low_until items come k = record {
   stairs = stairs_later shape side pos low_until to come items k.stairs;
 }
   where
-    by_promise : (t : Rational) (p : P) → HasCome low_until t → Promises best low_until items t p → Promises (record { top = best.top; low = None; high = best.high }) low_until items t p
+    by_promise : (t : Rational) (p : P) → HasCome low_until t → Promises best low_until items t p → Promises
+        (record { top = best.top; low = None; high = best.high }) low_until items t p
     by_promise t p h (inl m) = inl m
     by_promise t p h (inr m) = absurd (not_both low_until t h m.1)
 
     by_kept : (t : Rational) (x : Part P) → HasCome low_until t
-        → IsNoBetter side (value_at (shape.function x.shape) t) (none_of side shape.lowest shape.highest) ⊎ ((p : P) × Promises best low_until items t p × IsNoBetter side (value_at (shape.function x.shape) t) (value_at (shape.function p) t)) ⊎ ((x.until ≡ None) × (best.high ≡ Some x.shape))
         → IsNoBetter side (value_at (shape.function x.shape) t) (none_of side shape.lowest shape.highest)
-        ⊎ ((p : P) × Promises (record { top = best.top; low = None; high = best.high }) low_until items t p × IsNoBetter side (value_at (shape.function x.shape) t) (value_at (shape.function p) t)) ⊎ ((x.until ≡ None) × (best.high ≡ Some x.shape))
+        ⊎ ((p : P) × Promises best low_until items t p × IsNoBetter side (value_at (shape.function x.shape) t)
+        (value_at (shape.function p) t)) ⊎ ((x.until ≡ None) × (best.high ≡ Some x.shape))
+        → IsNoBetter side (value_at (shape.function x.shape) t) (none_of side shape.lowest shape.highest)
+        ⊎ ((p : P) × Promises (record { top = best.top; low = None; high = best.high }) low_until items t p
+        × IsNoBetter side (value_at (shape.function x.shape) t) (value_at (shape.function p) t))
+        ⊎ ((x.until ≡ None) × (best.high ≡ Some x.shape))
     by_kept t x h (inl n) = inl n
     by_kept t x h (inr (inl (p, m, n))) = inr (inl (p, by_promise t p h m, n))
     by_kept t x h (inr (inr m)) = inr (inr m)
 
 -- after the first item has left its constant behind, its slope comes under the low end
-pub keeps_in : {P : Type 0} (shape : ShapeOf P) (side : Side) (pos : Turn) (to : Rational) (parts : List (Part P)) (best : Best P) (low_until : Turn) (first : Item P) (items : List (Item P)) (top : P)
-    → ((t : Rational) → HasCome first.until t → HasCome pos t) → best.low ≡ None → IsTop shape side items top → Keeps shape side pos to parts best low_until (first ∷ items)
+pub keeps_in : {P : Type 0} (shape : ShapeOf P) (side : Side) (pos : Turn) (to : Rational) (parts : List (Part P))
+    (best : Best P) (low_until : Turn) (first : Item P) (items : List (Item P)) (top : P)
+    → ((t : Rational) → HasCome first.until t → HasCome pos t) → best.low ≡ None → IsTop shape side items top
+    → Keeps shape side pos to parts best low_until (first ∷ items)
     → Keeps shape side first.until to parts (record { top = top; low = slope_shape first.slope; high = best.high }) (slope_until first.slope low_until) items
 keeps_in {P} shape side pos to parts best low_until first items top come none is_top k = record {
   kept = λ t x h within one c. by_kept t x h (k.kept t x (come t h) within one c);
@@ -187,7 +226,8 @@ keeps_in {P} shape side pos to parts best low_until first items top come none is
   stairs = stairs_later shape side pos first.until to come items k.stairs.2;
 }
   where
-    by_slope : (p : P) (o : Option (Slope P)) → first.slope ≡ o → slope_shape first.slope ≡ Some p → IsEndingPieceOn parts p (λ t. HasCome first.until t × IsToCome (slope_until first.slope low_until) t)
+    by_slope : (p : P) (o : Option (Slope P)) → first.slope ≡ o → slope_shape first.slope ≡ Some p
+        → IsEndingPieceOn parts p (λ t. HasCome first.until t × IsToCome (slope_until first.slope low_until) t)
     by_slope p None e s = let f = subst (λ o. slope_shape o ≡ Some p) e s in absurd (cc)
     by_slope p (Some slope) e s =
         let (x, one, is, on, last) = subst (λ o. IsSlopeBacked shape side pos to parts o first.until) e k.backed.1 in
@@ -196,29 +236,40 @@ keeps_in {P} shape side pos to parts best low_until first items top come none is
         let q : slope.shape ≡ p = cc in
         (x, one, is ∙ q, λ t h. on t (come t h.0, h.0, subst (λ u. IsToCome u t) end h.1), last)
 
-    slope_given : (t : Rational) (p : P) (o : Option (Slope P)) → first.slope ≡ o → GivesSlope o t p → (slope_shape first.slope ≡ Some p) × IsToCome (slope_until first.slope low_until) t
+    slope_given : (t : Rational) (p : P) (o : Option (Slope P)) → first.slope ≡ o → GivesSlope o t p
+        → (slope_shape first.slope ≡ Some p) × IsToCome (slope_until first.slope low_until) t
     slope_given t p None e m = absurd m
     slope_given t p (Some slope) e m = (
       ap (λ (o : Option (Slope P)). slope_shape o) e ∙ ap Some (sym m.1),
       subst (λ u. IsToCome u t) (sym (ap (λ (o : Option (Slope P)). slope_until o low_until) e)) m.0,
     )
 
-    by_promise : (t : Rational) (p : P) → HasCome first.until t → Promises best low_until (first ∷ items) t p → Promises (record { top = top; low = slope_shape first.slope; high = best.high }) (slope_until first.slope low_until) items t p
+    by_promise : (t : Rational) (p : P) → HasCome first.until t → Promises best low_until (first ∷ items) t p → Promises
+        (record { top = top; low = slope_shape first.slope; high = best.high }) (slope_until first.slope low_until)
+        items t p
     by_promise t p h (inl (inl (inl m))) = absurd (not_both first.until t h m.0)
     by_promise t p h (inl (inl (inr m))) = inr (slope_given t p first.slope refl m.1)
     by_promise t p h (inl (inr m)) = inl m
     by_promise t p h (inr m) = let e = m.0 in absurd (cc)
 
     by_kept : (t : Rational) (x : Part P) → HasCome first.until t
-        → IsNoBetter side (value_at (shape.function x.shape) t) (none_of side shape.lowest shape.highest) ⊎ ((p : P) × Promises best low_until (first ∷ items) t p × IsNoBetter side (value_at (shape.function x.shape) t) (value_at (shape.function p) t)) ⊎ ((x.until ≡ None) × (best.high ≡ Some x.shape))
         → IsNoBetter side (value_at (shape.function x.shape) t) (none_of side shape.lowest shape.highest)
-        ⊎ ((p : P) × Promises (record { top = top; low = slope_shape first.slope; high = best.high }) (slope_until first.slope low_until) items t p × IsNoBetter side (value_at (shape.function x.shape) t) (value_at (shape.function p) t)) ⊎ ((x.until ≡ None) × (best.high ≡ Some x.shape))
+        ⊎ ((p : P) × Promises best low_until (first ∷ items) t p × IsNoBetter side
+        (value_at (shape.function x.shape) t) (value_at (shape.function p) t))
+        ⊎ ((x.until ≡ None) × (best.high ≡ Some x.shape))
+        → IsNoBetter side (value_at (shape.function x.shape) t) (none_of side shape.lowest shape.highest)
+        ⊎ ((p : P) × Promises (record { top = top; low = slope_shape first.slope; high = best.high })
+        (slope_until first.slope low_until) items t p × IsNoBetter side (value_at (shape.function x.shape) t)
+        (value_at (shape.function p) t)) ⊎ ((x.until ≡ None) × (best.high ≡ Some x.shape))
     by_kept t x h (inl n) = inl n
     by_kept t x h (inr (inl (p, m, n))) = inr (inl (p, by_promise t p h m, n))
     by_kept t x h (inr (inr m)) = inr (inr m)
 
 -- more pieces back the items as well
-pub backed_more : {P : Type 0} (shape : ShapeOf P) (side : Side) (pos : Turn) (to : Rational) (parts parts' : List (Part P)) → ((x : Part P) → IsOneOf parts x → ((turn : Turn) × (x.until ≡ Some turn)) → IsOneOf parts' x) → (items : List (Item P)) → AreBacked shape side pos to parts items → AreBacked shape side pos to parts' items
+pub backed_more : {P : Type 0} (shape : ShapeOf P) (side : Side) (pos : Turn) (to : Rational)
+    (parts parts' : List (Part P)) → ((x : Part P) → IsOneOf parts x → ((turn : Turn) × (x.until ≡ Some turn))
+    → IsOneOf parts' x) → (items : List (Item P)) → AreBacked shape side pos to parts items
+    → AreBacked shape side pos to parts' items
 backed_more shape side pos to parts parts' more [] b = tt
 backed_more {P} shape side pos to parts parts' more (item ∷ items) b = (
   let (x, one, e, on, end) = b.0 in (x, more x one end, e, on, end),
@@ -226,6 +277,7 @@ backed_more {P} shape side pos to parts parts' more (item ∷ items) b = (
   backed_more shape side pos to parts parts' more items b.2,
 )
   where
-    slope_more : (slope : Option (Slope P)) (until : Turn) → IsSlopeBacked shape side pos to parts slope until → IsSlopeBacked shape side pos to parts' slope until
+    slope_more : (slope : Option (Slope P)) (until : Turn) → IsSlopeBacked shape side pos to parts slope until
+        → IsSlopeBacked shape side pos to parts' slope until
     slope_more None until h = tt
     slope_more (Some slope) until (x, one, e, on, end) = (x, more x one end, e, on, end)

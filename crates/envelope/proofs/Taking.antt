@@ -45,20 +45,43 @@ module _ {P : Type 0} (shape : ShapeOf P) where
   each_to_come course (item ∷ items) t a h = (h, rest_to_come item items t a.1 h)
 
   -- the items that stay, and the new one behind them
-  items_with : (old new : Course P) (from : Turn) (item : Item P) (front dropped : List (Item P)) → value new.at ≤ʳ value from.at → IsNewItem shape from item → EachToCome (front ++ dropped) (value from.at) → EachFollowed (front ++ dropped) item → AreItems shape old (front ++ dropped)
+  items_with : (old new : Course P) (from : Turn) (item : Item P) (front dropped : List (Item P))
+      → value new.at ≤ʳ value from.at → IsNewItem shape from item → EachToCome (front ++ dropped) (value from.at)
+      → EachFollowed (front ++ dropped) item → AreItems shape old (front ++ dropped)
       → AreItems shape new (front ++ item ∷ [])
-  items_with old new from item [] dropped at n c f a =
-      (record { next = record { order = le_trans at (at_most_to_come item.until (value from.at) n.to_come); within = n.within }; level = n.level; slope = n.slope }, tt, tt)
+  items_with old new from item [] dropped at n c f a = (
+    record {
+      next = record {
+        order = le_trans at (at_most_to_come item.until (value from.at) n.to_come);
+        within = n.within;
+      };
+      level = n.level;
+      slope = n.slope;
+    },
+    tt,
+    tt,
+  )
   items_with old new from item (q ∷ front) dropped at n c f a = (
-    record { next = record { order = le_trans at (at_most_to_come q.until (value from.at) c.0); within = a.0.next.within }; level = a.0.level; slope = a.0.slope },
+    record {
+      next = record {
+        order = le_trans at (at_most_to_come q.until (value from.at) c.0);
+        within = a.0.next.within;
+      };
+      level = a.0.level;
+      slope = a.0.slope;
+    },
     follow_with q item front (follow_front q front dropped a.1) f.0,
     items_with old new from item front dropped at n c.1 f.1 a.2,
   )
 
-module _ {P : Type 0} (shape : ShapeOf P) (laws : ShapeLaws shape) (from : Turn) (item : Item P) (old mid : Course P) (low_until low_mid : Turn) (items dropped : List (Item P)) (n : IsNewItem shape from item) (f : IsFollowed old.after.low low_until items item)
+module _ {P : Type 0} (shape : ShapeOf P) (laws : ShapeLaws shape) (from : Turn) (item : Item P) (old mid : Course P)
+    (low_until low_mid : Turn) (items dropped : List (Item P)) (n : IsNewItem shape from item)
+    (f : IsFollowed old.after.low low_until items item)
     (worse : AllWorse shape mid.side (value from.at) item.value dropped) where
   -- where nothing better is left
-  taken_first : (new : Course P) → Leaves shape from old low_until items mid low_mid dropped → Turns shape mid from (record { top = item.value; low = mid.after.low; high = mid.after.high }) new → Admits shape from item old low_until items new low_mid (item ∷ [])
+  taken_first : (new : Course P) → Leaves shape from old low_until items mid low_mid dropped → Turns shape mid from
+      (record { top = item.value; low = mid.after.low; high = mid.after.high }) new
+      → Admits shape from item old low_until items new low_mid (item ∷ [])
   taken_first new l turns = record {
     can = record {
       ready = turns.ready;
@@ -75,7 +98,8 @@ module _ {P : Type 0} (shape : ShapeOf P) (laws : ShapeLaws shape) (from : Turn)
     at = turns.not_later;
     followed = λ x h g. record { gap = λ p e. (l.followed x g).gap p (was p e); each = followed_with [] dropped item x (l.followed x g).each h };
     stands = λ parts pos to come within falling s. subst (λ side. Stands shape side from to (pieces_with from item parts) new low_mid (item ∷ [])) l.side
-        (admitted_first shape laws from to parts item within n.later n.to_come mid new low_mid dropped (subst (λ side. IsFalling shape side from to item) (sym l.side) falling) (l.followed item f) to_come worse
+        (admitted_first shape laws from to parts item within n.later n.to_come mid new low_mid dropped
+        (subst (λ side. IsFalling shape side from to item) (sym l.side) falling) (l.followed item f) to_come worse
         (subst (λ side. Stands shape side from to parts mid low_mid dropped) (sym l.side) (l.stands parts pos to come s)) turns);
   }
     where
@@ -83,11 +107,15 @@ module _ {P : Type 0} (shape : ShapeOf P) (laws : ShapeLaws shape) (from : Turn)
       was p e = sym (ap (λ (b : Best P). b.low) turns.after) ∙ e
 
       to_come : EachToCome dropped (value from.at)
-      to_come = each_to_come shape mid dropped (value from.at) l.can.queue (first_stays mid.after low_mid dropped (value from.at) mid.after.low refl (λ p e h. (l.can.low p e).1 (value from.at) h) l.still)
+      to_come = each_to_come shape mid dropped (value from.at) l.can.queue (first_stays mid.after low_mid dropped
+          (value from.at) mid.after.low refl (λ p e h. (l.can.low p e).1 (value from.at) h) l.still)
 
   -- where something better stays
-  taken_behind : (q : Item P) (front : List (Item P)) → ((rest : List (Item P)) (x : Item P) → q ∷ front ≡ rest ++ x ∷ [] → IsNoBetter mid.side (value_at (shape.function item.value) (value from.at)) (value_at (shape.function x.value) (value from.at)))
-      → Leaves shape from old low_until items mid low_mid (q ∷ front ++ dropped) → Admits shape from item old low_until items mid low_mid (q ∷ front ++ item ∷ [])
+  taken_behind : (q : Item P) (front : List (Item P)) → ((rest : List (Item P)) (x : Item P)
+      → q ∷ front ≡ rest ++ x ∷ [] → IsNoBetter mid.side (value_at (shape.function item.value) (value from.at))
+      (value_at (shape.function x.value) (value from.at)))
+      → Leaves shape from old low_until items mid low_mid (q ∷ front ++ dropped) → Admits shape from item old low_until
+      items mid low_mid (q ∷ front ++ item ∷ [])
   taken_behind q front last l = record {
     can = record {
       ready = l.can.ready;
@@ -97,17 +125,26 @@ module _ {P : Type 0} (shape : ShapeOf P) (laws : ShapeLaws shape) (from : Turn)
     side = l.side;
     at = l.at;
     followed = λ x h g. record { gap = (l.followed x g).gap; each = followed_with (q ∷ front) dropped item x (l.followed x g).each h };
-    stands = λ parts pos to come within falling s. subst (λ side. Stands shape side from to (pieces_with from item parts) mid low_mid (q ∷ front ++ item ∷ [])) l.side
-        (admitted_behind shape laws from to parts item within n.later n.to_come mid.side mid low_mid q front dropped (subst (λ side. IsFalling shape side from to item) (sym l.side) falling) (l.followed item f) to_come worse last
+    stands = λ parts pos to come within falling s. subst (λ side. Stands shape side from to
+        (pieces_with from item parts) mid low_mid (q ∷ front ++ item ∷ [])) l.side
+        (admitted_behind shape laws from to parts item within n.later n.to_come mid.side mid low_mid q front dropped
+        (subst (λ side. IsFalling shape side from to item) (sym l.side) falling) (l.followed item f) to_come worse
+        last
         (λ p e t h. (l.can.low p e).1 t h)
         (subst (λ side. Stands shape side from to parts mid low_mid (q ∷ front ++ dropped)) (sym l.side) (l.stands parts pos to come s)));
   }
     where
       to_come : EachToCome (q ∷ front ++ dropped) (value from.at)
-      to_come = each_to_come shape mid (q ∷ front ++ dropped) (value from.at) l.can.queue (first_stays mid.after low_mid (q ∷ front ++ dropped) (value from.at) mid.after.low refl (λ p e h. (l.can.low p e).1 (value from.at) h) l.still)
+      to_come = each_to_come shape mid (q ∷ front ++ dropped) (value from.at) l.can.queue (first_stays mid.after low_mid
+          (q ∷ front ++ dropped) (value from.at) mid.after.low refl (λ p e h. (l.can.low p e).1 (value from.at) h)
+          l.still)
 
   -- a walk that has let go what left, dropped the worse items and risen to the new constant has admitted the item
-  pub taken : (front : List (Item P)) (new : Course P) → ((rest : List (Item P)) (x : Item P) → front ≡ rest ++ x ∷ [] → IsNoBetter mid.side (value_at (shape.function item.value) (value from.at)) (value_at (shape.function x.value) (value from.at)))
-      → Leaves shape from old low_until items mid low_mid (front ++ dropped) → RisesTo shape from item.value mid front new → Admits shape from item old low_until items new low_mid (front ++ item ∷ [])
+  pub taken : (front : List (Item P)) (new : Course P) → ((rest : List (Item P)) (x : Item P) → front ≡ rest ++ x ∷ []
+      → IsNoBetter mid.side (value_at (shape.function item.value) (value from.at)) (value_at (shape.function x.value)
+      (value from.at)))
+      → Leaves shape from old low_until items mid low_mid (front ++ dropped) → RisesTo shape from item.value mid front
+      new → Admits shape from item old low_until items new low_mid (front ++ item ∷ [])
   taken [] new last l r = taken_first new l r
-  taken (q ∷ front) new last l r = subst (λ m. Admits shape from item old low_until items m low_mid (q ∷ front ++ item ∷ [])) (sym r) (taken_behind q front last l)
+  taken (q ∷ front) new last l r = subst (λ m. Admits shape from item old low_until items m low_mid
+      (q ∷ front ++ item ∷ [])) (sym r) (taken_behind q front last l)

@@ -42,7 +42,8 @@ module _ {P : Type 0} (shape : ShapeOf P) where
 
   -- v is what the course tells at t: what is settled, then the point of the last knot, and from there on the best of what counts now
   abbrev pub IsTold : Course P → Rational → Extended → Type 0
-  IsTold course t v = IsSettled course course.built t v ⊎ ((t ≈ value course.at) × Passes (shape.function course.point) t v) ⊎ ((value course.at <ʳ t) × IsBestAt shape course.side course.after t v)
+  IsTold course t v = IsSettled course course.built t v ⊎ ((t ≈ value course.at) × Passes (shape.function course.point)
+      t v) ⊎ ((value course.at <ʳ t) × IsBestAt shape course.side course.after t v)
 
   -- the settled part ends before the knot that may still change
   abbrev pub EndsBefore : Option (List (Knot P)) → Rational → Type 0
@@ -68,7 +69,8 @@ module _ {P : Type 0} (shape : ShapeOf P) where
     pub signal : IsSignal shape built
     pub begins : start built ≡ first_time old old.built
     pub ends : stop built ≡ value old.at
-    pub worth : (t : Rational) (v : Extended) → IsWorth shape built t v → IsSettled old old.built t v ⊎ ((t ≈ value old.at) × Passes (shape.function old.point) t v)
+    pub worth : (t : Rational) (v : Extended) → IsWorth shape built t v → IsSettled old old.built t v
+        ⊎ ((t ≈ value old.at) × Passes (shape.function old.point) t v)
     pub shapes : (p : P) → HasShape built p → IsSettledShape old.built p ⊎ Has old.before p ⊎ (p ≡ old.point)
 
   -- the pair is two of what counts that cross before the last knot
@@ -103,7 +105,8 @@ module _ {P : Type 0} (shape : ShapeOf P) where
     pub after : new.after ≡ next
     pub first : first_time new new.built ≡ first_time old old.built
     pub not_later : value new.at ≤ʳ value turn.at
-    pub told : (t : Rational) (v : Extended) → IsTold shape new t v → (IsToCome turn t × IsTold shape old t v) ⊎ (HasCome turn t × IsBestAt shape old.side next t v)
+    pub told : (t : Rational) (v : Extended) → IsTold shape new t v → (IsToCome turn t × IsTold shape old t v)
+        ⊎ (HasCome turn t × IsBestAt shape old.side next t v)
     pub parts : (p : P) → HasPart new p → HasPart old p ⊎ Has next p
     pub moves : Moves old new (value turn.at)
 

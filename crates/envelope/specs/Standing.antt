@@ -149,7 +149,8 @@ module _ {P : Type 0} (shape : ShapeOf P) where
   -- the slope of an item comes after its constant
   abbrev pub IsSlope : Option (Slope P) → Turn → Type 0
   IsSlope None until = Unit {0}
-  IsSlope (Some slope) until = IsWithin (2 ^ 34) (value slope.until.at) × HasBoundedLevel (2 ^ 31) (shape.function slope.shape) × ((t : Rational) → HasCome slope.until t → HasCome until t)
+  IsSlope (Some slope) until = IsWithin (2 ^ 34) (value slope.until.at) × HasBoundedLevel (2 ^ 31)
+      (shape.function slope.shape) × ((t : Rational) → HasCome slope.until t → HasCome until t)
 
   -- an item of the queue: its turns come no earlier than the last knot, and its shapes are within limits
   pub record IsItem (course : Course P) (item : Item P) : Type 0 where
@@ -171,12 +172,15 @@ module _ {P : Type 0} (shape : ShapeOf P) where
 module _ {P : Type 0} (shape : ShapeOf P) (side : Side) (pos : Turn) (to : Rational) where
   -- from the turn's time on the item never gets better, and its constant gets no worse
   pub record IsFalling (item : Item P) : Type 0 where
-    pub falls : (t u : Rational) (p q : P) → value pos.at ≤ʳ t → t ≤ʳ u → u ≤ʳ to → Gives item t p → Gives item u q → IsNoBetter side (value_at (shape.function q) u) (value_at (shape.function p) t)
-    pub keeps : (t u : Rational) → value pos.at ≤ʳ t → t ≤ʳ u → u ≤ʳ to → IsToCome item.until u → IsNoBetter side (value_at (shape.function item.value) t) (value_at (shape.function item.value) u)
+    pub falls : (t u : Rational) (p q : P) → value pos.at ≤ʳ t → t ≤ʳ u → u ≤ʳ to → Gives item t p → Gives item u q
+        → IsNoBetter side (value_at (shape.function q) u) (value_at (shape.function p) t)
+    pub keeps : (t u : Rational) → value pos.at ≤ʳ t → t ≤ʳ u → u ≤ʳ to → IsToCome item.until u → IsNoBetter side
+        (value_at (shape.function item.value) t) (value_at (shape.function item.value) u)
 
   -- the second item is no better as long as the first is constant
   abbrev pub IsBelow : Item P → Item P → Type 0
-  IsBelow first second = (t : Rational) (p : P) → value pos.at ≤ʳ t → t ≤ʳ to → IsToCome first.until t → Gives second t p → IsNoBetter side (value_at (shape.function p) t) (value_at (shape.function first.value) t)
+  IsBelow first second = (t : Rational) (p : P) → value pos.at ≤ʳ t → t ≤ʳ to → IsToCome first.until t
+      → Gives second t p → IsNoBetter side (value_at (shape.function p) t) (value_at (shape.function first.value) t)
 
   -- each of the items is below the first
   abbrev pub AllBelow : Item P → List (Item P) → Type 0
@@ -197,7 +201,8 @@ module _ {P : Type 0} (shape : ShapeOf P) (side : Side) (pos : Turn) (to : Ratio
     -- each constant and each slope is a piece that counts as long as it is given
     abbrev pub AreBacked : List (Item P) → Type 0
     AreBacked [] = Unit {0}
-    AreBacked (item ∷ items) = IsEndingPieceOn parts item.value (λ t. HasCome pos t × IsToCome item.until t) × IsSlopeBacked item.slope item.until × AreBacked items
+    AreBacked (item ∷ items) = IsEndingPieceOn parts item.value (λ t. HasCome pos t × IsToCome item.until t)
+        × IsSlopeBacked item.slope item.until × AreBacked items
 
     -- from the turn on what is promised is the best of the pieces
     pub record Keeps (best : Best P) (low_until : Turn) (items : List (Item P)) : Type 0 where
@@ -217,7 +222,8 @@ module _ {P : Type 0} (shape : ShapeOf P) (side : Side) (pos : Turn) (to : Ratio
 
     -- the walk stands at the turn, with these pieces behind it
     pub record Stands (course : Course P) (low_until : Turn) (items : List (Item P)) : Type 0 where
-      pub told : (t : Rational) (v : Extended) → first_time course course.built ≤ʳ t → t ≤ʳ to → NothingLeaves course.after low_until items t → IsTold shape course t v → IsBestOf shape side parts t v
+      pub told : (t : Rational) (v : Extended) → first_time course course.built ≤ʳ t → t ≤ʳ to
+          → NothingLeaves course.after low_until items t → IsTold shape course t v → IsBestOf shape side parts t v
       pub keeps : Keeps course.after low_until items
       pub later : (t : Rational) → SomethingLeaves course.after low_until items t → HasCome pos t
       pub before : (b : Rational) → IsSettledTo course.built b → IsCarried course.before (λ t. (b <ʳ t) × (t <ʳ value course.at))
@@ -254,7 +260,8 @@ pub record IsDropped {P : Type 0} (shape : ShapeOf P) (side : Side) (t : Rationa
 -- the pieces of an item that is admitted at the turn, before those that were
 abbrev pub piece_of : {P : Type 0} → Turn → Item P → Option (Slope P) → List (Part P) → List (Part P)
 piece_of from item None parts = record { shape = item.value; from = from; until = Some item.until } ∷ parts
-piece_of from item (Some slope) parts = record { shape = item.value; from = from; until = Some item.until } ∷ record { shape = slope.shape; from = item.until; until = Some slope.until } ∷ parts
+piece_of from item (Some slope) parts = record { shape = item.value; from = from; until = Some item.until }
+    ∷ record { shape = slope.shape; from = item.until; until = Some slope.until } ∷ parts
 
 -- the pieces of the item, before those that were
 abbrev pub pieces_with : {P : Type 0} → Turn → Item P → List (Part P) → List (Part P)
@@ -262,8 +269,11 @@ pieces_with from item parts = piece_of from item item.slope parts
 
 -- before the turn the one pieces count as the others do
 pub record Changes {P : Type 0} (turn : Turn) (parts parts' : List (Part P)) : Type 0 where
-  pub kept : (x : Part P) → IsOneOf parts x → (y : Part P) × IsOneOf parts' y × (y.shape ≡ x.shape) × ((t : Rational) → IsToCome turn t → Counts x t → Counts y t)
-  pub new : (y : Part P) → IsOneOf parts' y → ((t : Rational) → Counts y t → HasCome turn t) ⊎ ((x : Part P) × IsOneOf parts x × (x.shape ≡ y.shape) × ((t : Rational) → IsToCome turn t → Counts y t → Counts x t))
+  pub kept : (x : Part P) → IsOneOf parts x → (y : Part P) × IsOneOf parts' y × (y.shape ≡ x.shape)
+      × ((t : Rational) → IsToCome turn t → Counts x t → Counts y t)
+  pub new : (y : Part P) → IsOneOf parts' y → ((t : Rational) → Counts y t → HasCome turn t)
+      ⊎ ((x : Part P) × IsOneOf parts x × (x.shape ≡ y.shape) × ((t : Rational)
+      → IsToCome turn t → Counts y t → Counts x t))
 
 -- the same pieces and others, which count from the turn on
 pub record More {P : Type 0} (turn : Turn) (parts parts' : List (Part P)) : Type 0 where
@@ -273,10 +283,12 @@ pub record More {P : Type 0} (turn : Turn) (parts parts' : List (Part P)) : Type
 -- after the turn the walk stands there, whatever pieces it stood for
 abbrev pub IsPassed : {P : Type 0} → ShapeOf P → Turn → Course P → Turn → List (Item P) → Course P → Turn → List (Item P) → Type 0
 IsPassed {P} shape turn old low_until items new low_until' items' =
-    (parts : List (Part P)) (pos : Turn) (to : Rational) → Stands shape old.side pos to parts old low_until items → Stands shape old.side turn to parts new low_until' items'
+    (parts : List (Part P)) (pos : Turn) (to : Rational) → Stands shape old.side pos to parts old low_until items
+    → Stands shape old.side turn to parts new low_until' items'
 
 -- what is passed leaves at that turn: the walk stands there, no knot lies later, and there is less to leave
-pub record Passes {P : Type 0} (shape : ShapeOf P) (old : Course P) (low_until : Turn) (items : List (Item P)) (new : Course P) (low_until' : Turn) (items' : List (Item P)) : Type 0 where
+pub record Passes {P : Type 0} (shape : ShapeOf P) (old : Course P) (low_until : Turn) (items : List (Item P))
+    (new : Course P) (low_until' : Turn) (items' : List (Item P)) : Type 0 where
   pub can : CanGoOn shape new low_until' items'
   pub side : new.side ≡ old.side
   pub passed : (turn : Turn) → leaving_by old.after.low low_until items ≡ Some turn → IsPassed shape turn old low_until items new low_until' items'
@@ -285,22 +297,26 @@ pub record Passes {P : Type 0} (shape : ShapeOf P) (old : Course P) (low_until :
   pub followed : (item : Item P) → IsFollowed old.after.low low_until items item → IsFollowed new.after.low low_until' items' item
 
 -- what leaves up to a turn has left, so far or all: the walk stands at some turn that comes no later, whatever pieces it stood for
-pub record GoesTo {P : Type 0} (shape : ShapeOf P) (turn : Turn) (old : Course P) (low_until : Turn) (items : List (Item P)) (new : Course P) (low_until' : Turn) (items' : List (Item P)) : Type 0 where
+pub record GoesTo {P : Type 0} (shape : ShapeOf P) (turn : Turn) (old : Course P) (low_until : Turn)
+    (items : List (Item P)) (new : Course P) (low_until' : Turn) (items' : List (Item P)) : Type 0 where
   pub can : CanGoOn shape new low_until' items'
   pub side : new.side ≡ old.side
   pub at : value new.at ≤ʳ value turn.at
   pub followed : (item : Item P) → IsFollowed old.after.low low_until items item → IsFollowed new.after.low low_until' items' item
-  pub stands : (parts : List (Part P)) (pos : Turn) (to : Rational) → ((t : Rational) → HasCome turn t → HasCome pos t) → Stands shape old.side pos to parts old low_until items
+  pub stands : (parts : List (Part P)) (pos : Turn) (to : Rational) → ((t : Rational) → HasCome turn t → HasCome pos t)
+      → Stands shape old.side pos to parts old low_until items
       → (next : Turn) × ((t : Rational) → HasCome turn t → HasCome next t) × Stands shape old.side next to parts new low_until' items'
 
 -- all that leaves up to the turn has left, and the walk stands at the turn
-pub record Leaves {P : Type 0} (shape : ShapeOf P) (turn : Turn) (old : Course P) (low_until : Turn) (items : List (Item P)) (new : Course P) (low_until' : Turn) (items' : List (Item P)) : Type 0 where
+pub record Leaves {P : Type 0} (shape : ShapeOf P) (turn : Turn) (old : Course P) (low_until : Turn)
+    (items : List (Item P)) (new : Course P) (low_until' : Turn) (items' : List (Item P)) : Type 0 where
   pub can : CanGoOn shape new low_until' items'
   pub side : new.side ≡ old.side
   pub at : value new.at ≤ʳ value turn.at
   pub followed : (item : Item P) → IsFollowed old.after.low low_until items item → IsFollowed new.after.low low_until' items' item
   pub still : NothingLeaves new.after low_until' items' (value turn.at)
-  pub stands : (parts : List (Part P)) (pos : Turn) (to : Rational) → ((t : Rational) → HasCome turn t → HasCome pos t) → Stands shape old.side pos to parts old low_until items
+  pub stands : (parts : List (Part P)) (pos : Turn) (to : Rational) → ((t : Rational) → HasCome turn t → HasCome pos t)
+      → Stands shape old.side pos to parts old low_until items
       → Stands shape old.side turn to parts new low_until' items'
 
 -- an item that may be admitted at the turn: it leaves after it
@@ -317,10 +333,12 @@ RisesTo shape from top old [] new = Turns shape old from (record { top = top; lo
 RisesTo shape from top old (item ∷ items) new = new ≡ old
 
 -- the walk stands at the turn, with the pieces of the item too
-pub record Admits {P : Type 0} (shape : ShapeOf P) (from : Turn) (item : Item P) (old : Course P) (low_until : Turn) (items : List (Item P)) (new : Course P) (low_until' : Turn) (items' : List (Item P)) : Type 0 where
+pub record Admits {P : Type 0} (shape : ShapeOf P) (from : Turn) (item : Item P) (old : Course P) (low_until : Turn)
+    (items : List (Item P)) (new : Course P) (low_until' : Turn) (items' : List (Item P)) : Type 0 where
   pub can : CanGoOn shape new low_until' items'
   pub side : new.side ≡ old.side
   pub at : value new.at ≤ʳ value from.at
   pub followed : (x : Item P) → Follows item x → IsFollowed old.after.low low_until items x → IsFollowed new.after.low low_until' items' x
-  pub stands : (parts : List (Part P)) (pos : Turn) (to : Rational) → ((t : Rational) → HasCome from t → HasCome pos t) → value from.at ≤ʳ to → IsFalling shape old.side from to item
+  pub stands : (parts : List (Part P)) (pos : Turn) (to : Rational) → ((t : Rational) → HasCome from t → HasCome pos t)
+      → value from.at ≤ʳ to → IsFalling shape old.side from to item
       → Stands shape old.side pos to parts old low_until items → Stands shape old.side from to (pieces_with from item parts) new low_until' items'

@@ -10,7 +10,8 @@ pub returns-in-Greater-clause-later : goal.returns-in-Greater-clause-later
 returns-in-Greater-clause-later c _ = come_before c.args.other.now c.args.turn.now c.in-Greater.ensures
 
 pub returns-then-turn-clause-later : goal.returns-then-turn-clause-later
-returns-then-turn-clause-later c other = come_same c.args.other.now c.args.turn.now (same_sym c.in-Equal.ensures) (λ h. let is = c.if-turn.true in grind (arith, h, is))
+returns-then-turn-clause-later c other = come_same c.args.other.now c.args.turn.now (same_sym c.in-Equal.ensures)
+    (λ h. let is = c.if-turn.true in grind (arith, h, is))
 
 pub returns-then-turn-clause-not_later : goal.returns-then-turn-clause-not_later
 returns-then-turn-clause-not_later c other = come_same c.args.turn.now c.args.other.now c.in-Equal.ensures (λ h. grind (arith, h, other))

@@ -18,13 +18,16 @@ loop-last-preserved g c =
     let e : c.loop-last.queue.items ≡ take (deque_len c.loop-last.queue - 1) c.loop-last.queue.items ++ c.in-Some.field-0.now ∷ [] =
     last_apart c.loop-last.queue.items (deque_len c.loop-last.queue) c.in-Some.field-0.now (search rules) (search rules) (search rules) in
     let rest : c.pop_back.new.self.items ≡ take (deque_len c.loop-last.queue - 1) c.loop-last.queue.items = c.pop_back.ensures.rest in
-    let moved : (take (deque_len c.loop-last.queue - 1) c.loop-last.queue.items ++ c.in-Some.field-0.now ∷ []) ++ d ≡ take (deque_len c.loop-last.queue - 1) c.loop-last.queue.items ++ (c.in-Some.field-0.now ∷ d) = simp append_assoc in (
+    let moved : (take (deque_len c.loop-last.queue - 1)
+    c.loop-last.queue.items ++ c.in-Some.field-0.now ∷ []) ++ d ≡ take (deque_len c.loop-last.queue - 1)
+    c.loop-last.queue.items ++ (c.in-Some.field-0.now ∷ d) = simp append_assoc in (
       (
         c.in-Some.field-0.now ∷ d,
         same ∙ ap (λ xs. xs ++ d) e ∙ moved ∙ ap (λ xs. xs ++ (c.in-Some.field-0.now ∷ d)) (sym rest),
         (
           no_better_of_taken c.args.side (value_at (f c.in-Some.field-0.now.value) (value c.args.t.now)) (value_at (f c.args.value.now) (value c.args.t.now))
-              (taken_second c.args.side c.favour.result (value_at (f c.in-Some.field-0.now.value) (value c.args.t.now)) (value_at (f c.args.value.now) (value c.args.t.now)) c.favour.ensures c.in_default-favour.not-Less),
+              (taken_second c.args.side c.favour.result (value_at (f c.in-Some.field-0.now.value) (value c.args.t.now))
+              (value_at (f c.args.value.now) (value c.args.t.now)) c.favour.ensures c.in_default-favour.not-Less),
           worse,
         ),
       ),
@@ -40,7 +43,9 @@ returns-in-Less g c =
     last_apart c.loop-last.queue.items (deque_len c.loop-last.queue) c.in-Some.field-0.now (search rules) (search rules) (search rules) in
     let better : IsNoBetter c.args.side (value_at (f c.args.value.now) (value c.args.t.now)) (value_at (f c.in-Some.field-0.now.value) (value c.args.t.now)) =
     no_better_of_taken c.args.side (value_at (f c.args.value.now) (value c.args.t.now)) (value_at (f c.in-Some.field-0.now.value) (value c.args.t.now))
-    (taken_first c.args.side c.favour.result (value_at (f c.in-Some.field-0.now.value) (value c.args.t.now)) (value_at (f c.args.value.now) (value c.args.t.now)) c.favour.ensures (λ i. let h = c.in-Less.is in absurd (cc))) in
+    (taken_first c.args.side c.favour.result (value_at (f c.in-Some.field-0.now.value) (value c.args.t.now))
+    (value_at (f c.args.value.now) (value c.args.t.now)) c.favour.ensures (λ i. let h = c.in-Less.is in absurd
+    (cc))) in
     record {
       dropped = record {
         dropped = d;

@@ -6,6 +6,7 @@ use Rattle.envelope.proofs.course.Course.settle.Goals as goal
 
 pub returns-in-Some-clause-ok : goal.returns-in-Some-clause-ok
 returns-in-Some-clause-ok g c = on_two c.write.result
-    (λ w still. subst (λ f. Settles g.P.Shape c.args.self.now (record c.args.self.now { built = Some c.write.new.built; fault = f })) (c.requires.ready.still ∙ sym still)
+    (λ w still. subst (λ f. Settles g.P.Shape c.args.self.now
+    (record c.args.self.now { built = Some c.write.new.built; fault = f })) (c.requires.ready.still ∙ sym still)
     (settled_after g.P.Shape c.args.self.now c.in-Some.built c.write.new.built c.in-Some.is w))
     c.write.ensures.ok c.write.ensures.still

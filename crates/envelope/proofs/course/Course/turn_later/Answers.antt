@@ -11,8 +11,11 @@ use Rattle.envelope.proofs.course.Course.turn_later.Goals.{then-turn, else-turn}
 pub returns-clause-ok : goal.returns-clause-ok
 returns-clause-ok g c =
     let s = c.in_ok-settle.ensures.ok in
-    subst (λ m. Turns g.P.Shape c.args.self.now c.args.turn.now c.args.next (record m { before = m.after; at = c.args.turn.now.at; point = c.if-turn.point; after = c.args.next })) (sym s.same)
-    (turned_later g.P.Shape c.args.self.now c.args.turn.now c.args.next c.if-turn.point c.settle.new.self s c.requires.ready c.requires.order c.requires.within c.requires.levels
+    subst (λ m. Turns g.P.Shape c.args.self.now c.args.turn.now c.args.next
+    (record m { before = m.after; at = c.args.turn.now.at; point = c.if-turn.point; after = c.args.next }))
+    (sym s.same)
+    (turned_later g.P.Shape c.args.self.now c.args.turn.now c.args.next c.if-turn.point c.settle.new.self s
+    c.requires.ready c.requires.order c.requires.within c.requires.levels
     (subst (λ m. IsPointOf g.P.Shape m c.args.turn.now c.args.next c.if-turn.point) s.same here))
   where
     here : IsPointOf g.P.Shape c.settle.new.self c.args.turn.now c.args.next c.if-turn.point
@@ -20,12 +23,15 @@ returns-clause-ok g c =
       | then-turn w ↦ inl (
         w.if-turn.true,
         subst (Has c.settle.new.self.after) (sym w.point-is) w.at-point.ensures.one,
-        subst (λ p. IsBestAt g.P.Shape c.settle.new.self.side c.settle.new.self.after (value c.args.turn.now.at) (value_at (g.P.Shape.function p) (value c.args.turn.now.at))) (sym w.point-is) w.at-point.ensures.value,
+        subst (λ p. IsBestAt g.P.Shape c.settle.new.self.side c.settle.new.self.after (value c.args.turn.now.at)
+            (value_at (g.P.Shape.function p) (value c.args.turn.now.at))) (sym w.point-is) w.at-point.ensures.value,
       )
       | else-turn w ↦ inr (
         w.if-turn.false,
         subst (Has c.args.next) (sym w.point-is) w.at-point-else-turn.ensures.one,
-        subst (λ p. IsBestAt g.P.Shape c.settle.new.self.side c.args.next (value c.args.turn.now.at) (value_at (g.P.Shape.function p) (value c.args.turn.now.at))) (sym w.point-is) w.at-point-else-turn.ensures.value,
+        subst (λ p. IsBestAt g.P.Shape c.settle.new.self.side c.args.next (value c.args.turn.now.at)
+            (value_at (g.P.Shape.function p) (value c.args.turn.now.at)))
+            (sym w.point-is) w.at-point-else-turn.ensures.value,
       )
     ]
 

@@ -18,9 +18,12 @@ returns g c =
     let d = c.drop_worse.ensures.dropped in
     let new = c.rise.new.self.course in
     record {
-      ok = subst (λ xs. Admits g.P.Shape c.args.from.now c.args.item old low_until items new c.rise.new.self.low_until xs) (sym (c.push_back_reserved.ensures.items ∙ ap (λ (xs : List (Item g.row.P.Denot)). xs ++ c.args.item ∷ []) c.rise.ensures.items))
+      ok = subst (λ xs. Admits g.P.Shape c.args.from.now c.args.item old low_until items new c.rise.new.self.low_until
+          xs) (sym (c.push_back_reserved.ensures.items ∙ ap (λ (xs : List (Item g.row.P.Denot)). xs ++ c.args.item ∷ [])
+          c.rise.ensures.items))
           (subst (λ u. Admits g.P.Shape c.args.from.now c.args.item old low_until items new u (front ++ c.args.item ∷ [])) (sym c.rise.ensures.until)
-          (taken g.P.Shape (assumption g.met.P.Shape) c.args.from.now c.args.item old mid low_until low_mid items d.dropped c.requires.new c.requires.followed d.worse front new d.last
+          (taken g.P.Shape (assumption g.met.P.Shape) c.args.from.now c.args.item old mid low_until low_mid items
+          d.dropped c.requires.new c.requires.followed d.worse front new d.last
           (subst (λ xs. Leaves g.P.Shape c.args.from.now old low_until items mid low_mid xs) (sym c.reserve.ensures.items ∙ d.same) c.in_ok-leave.ensures.ok)
           c.in_ok-rise.ensures.ok));
     }

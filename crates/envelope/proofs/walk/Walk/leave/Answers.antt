@@ -6,11 +6,15 @@ use Rattle.envelope.proofs.Leaving.{goes_none, goes_on, gone, nothing_left, noth
 use Rattle.envelope.proofs.walk.Walk.leave.Goals as goal
 
 pub loop-next-init : goal.loop-next-init
-loop-next-init g c = goes_none g.P.Shape c.args.turn.now c.args.self.now.course c.args.self.now.low_until c.args.self.now.queue.items c.requires.can c.requires.order
+loop-next-init g c = goes_none g.P.Shape c.args.turn.now c.args.self.now.course c.args.self.now.low_until
+    c.args.self.now.queue.items c.requires.can c.requires.order
 
 pub loop-next-preserved : goal.loop-next-preserved
-loop-next-preserved g c = goes_on g.P.Shape c.args.turn.now c.args.self.now.course c.loop-next.self.course c.pass.new.self.course c.args.self.now.low_until c.loop-next.self.low_until c.pass.new.self.low_until
-    c.args.self.now.queue.items c.loop-next.self.queue.items c.pass.new.self.queue.items c.in-Some.next c.loop-next.invariant (sym c.in-Some.ensures) (c.is_later.ensures.not_later c.if-is_later.false) c.in_ok-pass.ensures.ok
+loop-next-preserved g c = goes_on g.P.Shape c.args.turn.now c.args.self.now.course c.loop-next.self.course
+    c.pass.new.self.course c.args.self.now.low_until c.loop-next.self.low_until c.pass.new.self.low_until
+    c.args.self.now.queue.items c.loop-next.self.queue.items c.pass.new.self.queue.items c.in-Some.next
+    c.loop-next.invariant (sym c.in-Some.ensures) (c.is_later.ensures.not_later c.if-is_later.false)
+    c.in_ok-pass.ensures.ok
 
 pub pass-requires-clause-some : goal.pass-requires-clause-some
 pass-requires-clause-some g c = subst (λ (o : Option Turn). is_some o ≡ true) c.in-Some.ensures refl
@@ -20,14 +24,21 @@ pass-requires-clause-can g c = c.loop-next.invariant.can
 
 pub returns-then-is_later : goal.returns-then-is_later
 returns-then-is_later g c = record {
-  ok = gone g.P.Shape c.args.turn.now c.args.self.now.course c.loop-next.self.course c.args.self.now.low_until c.loop-next.self.low_until c.args.self.now.queue.items c.loop-next.self.queue.items c.loop-next.invariant
-      (nothing_of c.loop-next.self.course.after.low c.loop-next.self.low_until c.in-Some.next c.loop-next.self.queue.items (value c.args.turn.now.at) (sym c.in-Some.ensures) (c.is_later.ensures.strict c.if-is_later.true))
-      (λ t h. c.is_later.ensures.later c.if-is_later.true t (something_of c.loop-next.self.course.after.low c.loop-next.self.low_until c.in-Some.next c.loop-next.self.queue.items t (sym c.in-Some.ensures) h));
+  ok = gone g.P.Shape c.args.turn.now c.args.self.now.course c.loop-next.self.course c.args.self.now.low_until
+      c.loop-next.self.low_until c.args.self.now.queue.items c.loop-next.self.queue.items c.loop-next.invariant
+      (nothing_of c.loop-next.self.course.after.low c.loop-next.self.low_until c.in-Some.next
+      c.loop-next.self.queue.items (value c.args.turn.now.at) (sym c.in-Some.ensures)
+      (c.is_later.ensures.strict c.if-is_later.true))
+      (λ t h. c.is_later.ensures.later c.if-is_later.true t
+      (something_of c.loop-next.self.course.after.low c.loop-next.self.low_until c.in-Some.next
+      c.loop-next.self.queue.items t (sym c.in-Some.ensures) h));
 }
 
 pub returns : goal.returns
 returns g c = record {
-  ok = gone g.P.Shape c.args.turn.now c.args.self.now.course c.loop-next.self.course c.args.self.now.low_until c.loop-next.self.low_until c.args.self.now.queue.items c.loop-next.self.queue.items c.loop-next.invariant
-      (nothing_left c.loop-next.self.course.after.low c.loop-next.self.low_until c.loop-next.self.queue.items (value c.args.turn.now.at) (sym c.in_default.ensures))
+  ok = gone g.P.Shape c.args.turn.now c.args.self.now.course c.loop-next.self.course c.args.self.now.low_until
+      c.loop-next.self.low_until c.args.self.now.queue.items c.loop-next.self.queue.items c.loop-next.invariant
+      (nothing_left c.loop-next.self.course.after.low c.loop-next.self.low_until c.loop-next.self.queue.items
+      (value c.args.turn.now.at) (sym c.in_default.ensures))
       (λ t h. absurd (something_left c.loop-next.self.course.after.low c.loop-next.self.low_until c.loop-next.self.queue.items t (sym c.in_default.ensures) h));
 }

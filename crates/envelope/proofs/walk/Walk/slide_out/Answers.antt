@@ -27,7 +27,8 @@ turn-requires-clause-levels g c p (inr (inr m)) = c.requires.can.ready.after p (
 pub returns-clause-can : goal.returns-clause-can
 returns-clause-can g c =
     let p = there c.args.self.now.course.after.low c.requires.low in
-    on_ok c.turn.result (λ t. can_slide_out g.P.Shape c.args.self.now.course c.turn.new.self c.args.self.now.low_until c.args.self.now.queue.items _ p.0 c.requires.can p.1 refl t) c.turn.ensures.ok
+    on_ok c.turn.result (λ t. can_slide_out g.P.Shape c.args.self.now.course c.turn.new.self c.args.self.now.low_until
+    c.args.self.now.queue.items _ p.0 c.requires.can p.1 refl t) c.turn.ensures.ok
 
 pub returns-clause-passed : goal.returns-clause-passed
 returns-clause-passed g c =
@@ -35,10 +36,13 @@ returns-clause-passed g c =
     let old = c.args.self.now.course in
     let low_until = c.args.self.now.low_until in
     let items = c.args.self.now.queue.items in
-    on_ok c.turn.result (λ t parts pos to s. turned_stands g.P.Shape (assumption g.met.P.Shape) parts parts pos low_until to (same_pieces low_until parts) old c.turn.new.self
+    on_ok c.turn.result (λ t parts pos to s. turned_stands g.P.Shape (assumption g.met.P.Shape) parts parts pos
+    low_until to (same_pieces low_until parts) old c.turn.new.self
     (record { top = old.after.top; low = None; high = old.after.high }) low_until low_until items items s t
     (λ u h. subst (λ o. MatchOption o (FirstStays items u) (λ _. IsToCome low_until u)) (sym p.1) h)
-    (keeps_out g.P.Shape old.side pos to parts old.after low_until items (λ u h. s.later u (subst (λ o. MatchOption o (FirstHasCome items u) (λ _. HasCome low_until u)) (sym p.1) h)) s.keeps)
+    (keeps_out g.P.Shape old.side pos to parts old.after low_until items
+    (λ u h. s.later u (subst (λ o. MatchOption o (FirstHasCome items u) (λ _. HasCome low_until u)) (sym p.1) h))
+    s.keeps)
     (λ q e. absurd (cc))
     (λ u h. (c.requires.can.low p.0 p.1).1 u h))
     c.turn.ensures.ok
