@@ -19,7 +19,7 @@ use Rattle.value_laws.specs.Values.{truth_value}
 use Rattle.stl_syntax.specs.Trace.{Row, Trace, AreRows, IsTrace, first_time, last_time, start, stop}
 use Rattle.stl_syntax.specs.Formula.{Formula, root}
 use Rattle.stl_syntax.specs.Truth.{Truth as Holds}
-use Rattle.stl_syntax.specs.SupInf.{Reading, SupInf, HasValues, one, minus_one, truth_setting}
+use Rattle.stl_syntax.specs.SupInf.{Reading, SupInf, HasValues, HasInfs, one, minus_one, truth_setting}
 use Rattle.stl_syntax.specs.Texts.{start_line, AreVerdictLines, IsStartLine}
 use Rattle.stl_syntax.specs.Verdicts.{Describes}
 use Rattle.stl_syntax.specs.declared.items.Verdict.{Verdict}
@@ -30,13 +30,14 @@ use Rattle.stl_syntax.proofs.LawProofs.{truth_by_values, last_from}
 use Rattle.atom_lines.specs.Binding.{IsBound}
 use Rattle.atom_lines.specs.AtomSignals.{IsAtomSignal}
 use Rattle.offline_eval.specs.Inputs.{is_atom, IsInput}
+use Rattle.offline_eval.specs.Evaluation.{TellNodes}
 use Rattle.offline_eval.proofs.Places.{atoms_on_atom, atoms_on_other, told_none, told_atom, told_other}
 use Rattle.report.specs.SignalVerdicts.{sign_of}
 use Rattle.report.proofs.SignalLaw.{signal_describes}
 use Rattle.workbench.specs.declared.case.Case.{Case}
 use Rattle.workbench.specs.Cases.{IsCase}
 use Rattle.workbench.specs.Answers.{IsJudged}
-use Rattle.workbench.specs.Judging.{setting_of, AreAtomsOf, AreNodesOf, IsSignalText}
+use Rattle.workbench.specs.Judging.{setting_of, AreAtomsOf, IsRootOf, IsSignalText}
 
 -- a row for places behind the last one
 pub no_row : Row
@@ -83,13 +84,18 @@ module _ {P : Type 0} (shape : ShapeOf P) (reading : Trace → Reading) (c : Cas
     told = told_other shape c.formula.nodes (setting_of shape reading c.trace) i n signals at other before.told;
   }
 
-  -- the root's signal tells the whole formula
-  pub root_told : (signals : List (List (Knot P))) → AreNodesOf shape reading c signals → 0 < length c.formula.nodes
-      → (x : List (Knot P)) → slice_get signals (length c.formula.nodes - 1) ≡ Some x
-      → Tells shape (SupInf (root c.formula.nodes) (setting_of shape reading c.trace)) (start c.trace) (stop c.trace) x
-  root_told signals all some x is =
-      let node = all.told (length c.formula.nodes - 1) (omega (arith, some)) in
-      subst (Tells shape (SupInf (root c.formula.nodes) (setting_of shape reading c.trace)) (start c.trace) (stop c.trace)) (some_is (sym node.1 ∙ is)) node.2
+  -- the last of signals that tell the nodes is the root's
+  pub root_told : (signals : List (List (Knot P))) (x : List (Knot P)) → 0 < length c.formula.nodes
+      → TellNodes shape c.formula.nodes signals (setting_of shape reading c.trace) → slice_get signals (length c.formula.nodes - 1) ≡ Some x
+      → HasValues (root c.formula.nodes) (setting_of shape reading c.trace) × HasInfs (root c.formula.nodes) (setting_of shape reading c.trace)
+      → IsRootOf shape reading c x
+  root_told signals x some told is have =
+      let node = told (length c.formula.nodes - 1) (omega (arith, some)) in
+      record {
+        tells = subst (Tells shape (SupInf (root c.formula.nodes) (setting_of shape reading c.trace)) (start c.trace) (stop c.trace)) (some_is (sym node.1 ∙ is)) node.2;
+        values = have.0;
+        infs = have.1;
+      }
 
 sign_passes : (holds : Bool) (t : Rational) → sign_of holds ≈ᵉ value_at (level (truth_value holds)) t
 sign_passes true t = same_symᵉ (value_at (level (truth_value true)) t) one (level_is (truth_value true) t)

@@ -1,4 +1,4 @@
--- What judging a trace makes on the way: the signals of a formula's atoms and nodes, and the text that a signal of truth gives.
+-- What judging a trace makes on the way: the signals of a formula's atoms, that of the formula, and the text that a signal of truth gives.
 use Rattle.std.specs.Prelude.{◌≡◌, ℕ, Bool, List, length, All, ◌++◌}
 use Rattle.rational.specs.Time.{Rational, ◌≈◌}
 use Rattle.value_laws.specs.Members.{ShapeOf}
@@ -6,14 +6,16 @@ use Rattle.pl_signal.specs.declared.knot.Knot.{Knot}
 use Rattle.pl_signal.specs.declared.faults.WidePair.{WidePair}
 use Rattle.pl_signal.specs.declared.faults.WidePair.TheVariants.{Cross, Value}
 use Rattle.pl_signal.specs.Knots.{start, IsWorth}
+use Rattle.pl_signal.specs.Moves.{Tells}
 use Rattle.value_laws.specs.declared.truth.Truth.{Truth}
 use Rattle.stl_syntax.specs.Trace as trace
 use Rattle.stl_syntax.specs.Trace.{Trace, first_time, last_time}
-use Rattle.stl_syntax.specs.SupInf.{Reading, Setting}
+use Rattle.stl_syntax.specs.Formula.{root}
+use Rattle.stl_syntax.specs.SupInf.{Reading, Setting, SupInf, HasValues, HasInfs}
 use Rattle.stl_syntax.specs.Texts.{start_line}
 use Rattle.stl_syntax.specs.declared.scale.Scale.{Scale}
 use Rattle.offline_eval.specs.Inputs.{atoms_before, IsInput, TellAtomsBelow}
-use Rattle.offline_eval.specs.Evaluation.{TellNodes, IsFault}
+use Rattle.offline_eval.specs.Evaluation.{IsFault}
 use Rattle.offline_eval.specs.declared.faults.EvalFault.{EvalFault}
 use Rattle.offline_eval.specs.declared.faults.EvalFault.TheVariants as E
 use Rattle.report.specs.SignalVerdicts.{sign_of, AreSignalLines}
@@ -32,12 +34,13 @@ module _ {P : Type 0} (shape : ShapeOf P) (reading : Trace → Reading) where
     pub inputs : All (IsInput shape (first_time c.trace.rows) (last_time 0 c.trace.rows)) signals
     pub told : TellAtomsBelow shape n c.formula.nodes signals (setting_of c.trace)
 
-  -- a signal for each node of the formula, which tells it over the trace
-  pub record AreNodesOf (c : Case) (signals : List (List (Knot P))) : Type 0 where
-    pub count : length signals ≡ length c.formula.nodes
-    pub told : TellNodes shape c.formula.nodes signals (setting_of c.trace)
+  -- the signal tells the formula over the trace, where the formula has a value at each time, and an Inf between each two times
+  pub record IsRootOf (c : Case) (signal : List (Knot P)) : Type 0 where
+    pub tells : Tells shape (SupInf (root c.formula.nodes) (setting_of c.trace)) (trace.start c.trace) (trace.stop c.trace) signal
+    pub values : HasValues (root c.formula.nodes) (setting_of c.trace)
+    pub infs : HasInfs (root c.formula.nodes) (setting_of c.trace)
 
-  -- why there are none: want of memory, or a pair that is in play at a node and needs its denominator
+  -- why there is none: want of memory, or a pair that is in play at a node and needs its denominator
   abbrev pub IsFaultIn : Case → EvalFault P → Type 0
   IsFaultIn c e = IsFault shape c.formula.nodes (setting_of c.trace) e
 

@@ -5,13 +5,12 @@ ghost use Rattle.stl_syntax.specs.SupInf.{truths};
 ghost use Rattle.atom_lines.specs.Binding.{IsBound};
 ghost use Rattle.workbench.specs.Cases.{IsCase};
 ghost use Rattle.workbench.specs.Answers.{IsJudged};
-ghost use Rattle.workbench.specs.Judging.{AreNodesOf, IsSignalText};
+ghost use Rattle.workbench.specs.Judging.{IsRootOf, IsSignalText};
 
 use crate::case::Case;
-use crate::signals::nodes_of;
+use crate::signals::root_of;
 use frac128::Memory;
-use offline_eval::laws::told_have_values;
-use offline_eval::{EvalFault, Evaluated};
+use offline_eval::EvalFault;
 use pl_signal::Signal;
 use report::{put_start, put_verdicts};
 use std::alloc::Global;
@@ -27,14 +26,14 @@ pub(crate) struct Answer {
     pub(crate) text: Text,
 }
 
-/// A signal for each node, with the truth of its formula at every time of the trace. Truth is never refused as `Wide`.
-fn truths_of(alloc: Global, case: &Case) -> Result<Evaluated<Truth>, Memory>
+/// The signal of the truth of the formula at every time of the trace. Truth is never refused as `Wide`.
+fn truth_of(alloc: Global, case: &Case) -> Result<Signal<Truth>, Memory>
     requires bound { IsBound case.now.bound case.now.formula case.now.trace.header }
     requires some { 0 < length case.now.trace.rows }
-    ensures { IfOk result (AreNodesOf ⟦<Truth as Shape>⟧ truths case.now) }
+    ensures { IfOk result (IsRootOf ⟦<Truth as Shape>⟧ truths case.now) }
 {
-    match nodes_of::<Truth, Brand>(alloc, case, Blank::new(1)) {
-        Ok(nodes) => Ok(nodes),
+    match root_of::<Truth, Brand>(alloc, case, Blank::new(1)) {
+        Ok(signal) => Ok(signal),
         Err(EvalFault::Memory) => Err(Memory),
         Err(EvalFault::Wide(_)) => unreachable!(),
     }
@@ -60,8 +59,6 @@ pub(crate) fn judge(alloc: Global, case: &Case) -> Result<Answer, Memory>
     ensures { IfOk result (λ a. (f : Parsed) → IsCase f case.now → IsJudged f case.now.trace a.holds a.text) }
 {
     let scale = case.formula.scale();
-    let root = case.formula.len() - 1;
-    let nodes = truths_of(alloc, case)?;
-    told_have_values::<Truth>();
-    answer_of(alloc, scale, nodes.signal(root))
+    let signal = truth_of(alloc, case)?;
+    answer_of(alloc, scale, &signal)
 }

@@ -9,16 +9,15 @@ ghost use Rattle.workbench.specs.Wholes.{IsAnswerOf, IsUnanswered};
 use crate::answer::Answer;
 use crate::case::Case;
 use crate::fault::Stop;
-use crate::signals::nodes_of;
+use crate::signals::root_of;
 use offline_eval::EvalFault;
-use offline_eval::laws::told_have_values;
 use pl_signal::WidePair;
 use report::put_margins;
 use std::alloc::Global;
 use std::marker::Brand;
 use std::sync::ledger::Blank;
 use stl_syntax::Text;
-use value_laws::{Margin, Shape};
+use value_laws::Margin;
 
 /// The denominator that a pair needs.
 fn denominator(pair: &WidePair<Margin>) -> u128
@@ -54,14 +53,12 @@ pub(crate) fn measure(alloc: Global, case: &Case) -> Result<Answer, Stop>
         (λ a. IsAnswerOf robust f case.now.trace a.holds a.text) (IsUnanswered robust f case.now.trace) }
 {
     let scale = case.formula.scale();
-    let root = case.formula.len() - 1;
-    let nodes = match nodes_of::<Margin, Brand>(alloc, case, Blank::new(1)) {
-        Ok(nodes) => nodes,
+    let signal = match root_of::<Margin, Brand>(alloc, case, Blank::new(1)) {
+        Ok(signal) => signal,
         Err(fault) => return Err(fault_stop(fault)),
     };
-    told_have_values::<Margin>();
     let mut text = Text::new(alloc);
-    match put_margins(&mut text, nodes.signal(root), scale) {
+    match put_margins(&mut text, &signal, scale) {
         Ok(()) => Ok(Answer { holds: true, text }),
         Err(_) => Err(Stop::NoMemory),
     }

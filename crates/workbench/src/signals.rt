@@ -1,13 +1,15 @@
-//! The signals of a formula's nodes over a trace.
+//! The signals of a formula's atoms over a trace, and that of the formula.
 ghost use Rattle.std.specs.Prelude.{◌≡◌, ◌≤◌, ◌<◌, ◌+◌, length, IfOk, IfErr, OnOk};
 ghost use Rattle.stl_syntax.specs.Trace.{first_time, last_time};
 ghost use Rattle.atom_lines.specs.Binding.{IsBound};
-ghost use Rattle.workbench.specs.Judging.{AreAtomsOf, AreNodesOf, IsFaultIn};
+ghost use Rattle.workbench.specs.Judging.{AreAtomsOf, IsFaultIn, IsRootOf};
 
 use crate::case::Case;
 use atom_lines::{AtomShape, atom_signal};
 use frac128::{Memory, Steps};
-use offline_eval::{Atoms, EvalFault, Evaluated, eval};
+use offline_eval::laws::told_have_values;
+use offline_eval::{Atoms, EvalFault, eval_root};
+use pl_signal::Signal;
 use std::alloc::Global;
 use std::sync::ledger::{Blank, Ledger};
 use stl_syntax::Node;
@@ -67,18 +69,22 @@ fn atoms_of<P: AtomShape>(alloc: Global, case: &Case) -> Result<Atoms<P>, Memory
     Ok(atoms)
 }
 
-/// A signal for each node, with the truth or the margin of its formula at every time of the trace.
-pub(crate) fn nodes_of<P: AtomShape, L: Ledger>(
+/// The signal of the formula over the trace: its truth or its margin at every time. Of the signals of its parts only those are held
+/// that are still to be read.
+///
+/// # Errors
+/// Want of memory, or a denominator of 2^60 or more that a node needs.
+pub(crate) fn root_of<P: AtomShape, L: Ledger>(
     alloc: Global,
     case: &Case,
     blank: Blank,
-) -> Result<Evaluated<P>, EvalFault<P>>
+) -> Result<Signal<P>, EvalFault<P>>
     requires bound { IsBound case.now.bound case.now.formula case.now.trace.header }
     requires some { 0 < length case.now.trace.rows }
     requires name { blank.name ≡ L.name }
     requires parts { blank.parts ≡ L.parts }
     requires shares { 0 < blank.parts }
-    ensures told { IfOk result (AreNodesOf P.Shape P.reading case.now) }
+    ensures told { IfOk result (IsRootOf P.Shape P.reading case.now) }
     ensures wide { IfErr result (IsFaultIn P.Shape P.reading case.now) }
     ensures begins { IfOk result (λ _. first_time case.now.trace.rows ≤ 4294967295) }
     ensures ends { IfOk result (λ _. last_time 0 case.now.trace.rows ≤ 4294967295) }
@@ -87,6 +93,9 @@ pub(crate) fn nodes_of<P: AtomShape, L: Ledger>(
         return Err(EvalFault::Memory);
     };
     let (from, to) = (first(&case.trace), last(&case.trace));
+    // For the proof alone: the nodes stand in post-order, and nodes that are told have values.
+    let _ = case.formula.len();
+    told_have_values::<P>();
     let mut steps: Steps<L> = Steps::new(blank);
-    eval(alloc, &case.formula, from, to, atoms, &mut steps)
+    eval_root(alloc, &case.formula, from, to, atoms, &mut steps)
 }

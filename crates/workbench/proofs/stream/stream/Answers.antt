@@ -1,8 +1,8 @@
-use Rattle.std.proofs.Common.{◌≡◌, ◌<◌, length, take, refl, subst, ◌∙◌, arith}
+use Rattle.std.proofs.Common.{◌<◌, length, take, refl, subst, ◌∙◌, arith}
 use Rattle.std.proofs.lemmas.Result.{err_from_is_err_and}
 use Rattle.io_edge.specs.Causes.{Rose}
 use Rattle.workbench.proofs.Progress.{not_true, none_taken, some_taken, short_taken}
-use Rattle.workbench.proofs.StreamSteps.{at_first, pushed_so_far, end_unread, end_from, stop_from, piece_from, has_pushed, few_pushes}
+use Rattle.workbench.proofs.StreamSteps.{pushed_so_far, end_unread, end_from, stop_from, piece_from}
 use Rattle.workbench.proofs.stream.stream.Goals as goal
 
 pub returns-in_default-clause-ending : goal.returns-in_default-clause-ending

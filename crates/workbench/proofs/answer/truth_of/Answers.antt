@@ -4,7 +4,7 @@ use Rattle.value_laws.specs.Values.{truth_value}
 use Rattle.value_laws.specs.Kinds.{truth_shape}
 use Rattle.offline_eval.specs.Evaluation.{IsFault}
 use Rattle.offline_eval.proofs.Never.{levels_are_never_wide}
-use Rattle.workbench.proofs.answer.truths_of.Goals as goal
+use Rattle.workbench.proofs.answer.truth_of.Goals as goal
 
 pub unreachable-requires : goal.unreachable-requires
 unreachable-requires c =
