@@ -80,7 +80,7 @@ fn asked(
     alloc: Global,
     formula: &str,
     text: &str,
-    most: u64,
+    most: u32,
 ) -> Result<Result<Explained, ExplainFault>, Fail> {
     let formula = parsed(rt, alloc, formula);
     let trace = read_long(rt, alloc, text, most)?;

@@ -49,11 +49,11 @@ pub(crate) fn read_long(
     rt: &impl Abort,
     alloc: Global,
     text: &str,
-    most: u64,
+    most: u32,
 ) -> Result<Trace, Fail> {
     let limits = Limits {
-        rows: most,
-        lines: most,
+        rows: u64::from(most),
+        lines: u64::from(most),
     };
     let mut reader = Rows::new(alloc, limits, WHOLE)?;
     let mut trace: Option<Trace> = None;

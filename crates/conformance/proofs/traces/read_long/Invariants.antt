@@ -1,5 +1,5 @@
 use Rattle.std.proofs.Common.{◌≡◌, false}
-use Rattle.conformance.proofs.traces.read.Given as goal
+use Rattle.conformance.proofs.traces.read_long.Given as goal
 
 -- the reader goes on
 abbrev pub invariant-loop : goal.invariant-loop
