@@ -1,15 +1,19 @@
 //! Explanations of violations, with their items by hand.
+ghost use Rattle.std.specs.Prelude.{◌≡◌, ◌<◌, length};
+ghost use Rattle.atom_lines.specs.Binding.{IsBound};
+
 use super::evals::parsed;
 use super::traces::read_long;
-use atom_lines::bind;
+use atom_lines::{Bound, bind};
 use frac128::{Frac, Steps};
 use implicants::{ExplainFault, Explained, explain};
 use std::alloc::{AllocError, Global};
 use std::marker::Brand;
 use std::process::Abort;
-use std::sync::ledger::Blank;
+use std::sync::ledger::{Blank, Ledger};
 use std::test::Fail;
-use stl_syntax::{Item, Items};
+use stl_syntax::{Formula, Item, Items};
+use trace_reader::Trace;
 
 /// A time of an item: a whole part, and above it a rest over a denominator.
 type At = (i64, u64, u64);
@@ -74,6 +78,24 @@ fn gap(node: u32, holds: bool, from: At, to: At) -> Want {
     }
 }
 
+/// The answer of `explain`, with a counter of its own.
+fn explained<L: Ledger>(
+    alloc: Global,
+    formula: &Formula,
+    bound: &Bound,
+    trace: &Trace,
+    blank: Blank,
+) -> Result<Explained, ExplainFault>
+    requires bound { IsBound bound.now formula.now trace.now.header }
+    requires some { 0 < length trace.now.rows }
+    requires name { blank.name ≡ L.name }
+    requires parts { blank.parts ≡ L.parts }
+    requires shares { 0 < blank.parts }
+{
+    let mut steps: Steps<L> = Steps::new(blank);
+    explain(alloc, formula, bound, trace, &mut steps)
+}
+
 /// The answer of `explain` for the texts of a formula and a trace.
 fn asked(
     rt: &impl Abort,
@@ -88,8 +110,7 @@ fn asked(
         panic!(rt; "a column lacks");
     };
     assert!(rt; trace.rows() > 0);
-    let mut steps: Steps<Brand> = Steps::new(Blank::new(1));
-    Ok(explain(alloc, &formula, &bound, &trace, &mut steps))
+    Ok(explained::<Brand>(alloc, &formula, &bound, &trace, Blank::new(1)))
 }
 
 /// Stops where the explanation has other items.
