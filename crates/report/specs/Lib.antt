@@ -9,3 +9,4 @@ pub mod Spelling
 pub mod VerdictLines
 pub mod Laws
 pub mod MarginLines
+pub mod ItemLines

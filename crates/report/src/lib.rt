@@ -2,6 +2,7 @@
 #![tactic(auto)]
 
 mod following;
+mod items;
 pub mod laws;
 mod margin;
 mod number;
@@ -9,6 +10,7 @@ mod signal;
 mod spelling;
 mod verdict;
 
+pub use items::put_items;
 pub use margin::put_margins;
 pub use signal::put_verdicts;
 pub use verdict::{put_start, put_verdict};
