@@ -22,5 +22,6 @@ pub mod StreamSteps
 pub mod Due
 pub mod Judged
 pub mod Measured
+pub mod Reasoned
 pub mod NoForm
 pub mod MarginTruth
