@@ -3,7 +3,7 @@ use Rattle.std.proofs.Common.{◌≡◌, ◌≢◌, ℕ, zero, suc, ◌+◌, ◌
 use Rattle.std.specs.Prelude.{slice_get}
 use Rattle.std.proofs.lemmas.Bool.{true≢false}
 use Rattle.rational.specs.Time.{Rational, ◌<ʳ◌, ◌≈◌, HasTimeBetween, Precedes, closed}
-use Rattle.rational.specs.Extended.{Affine, value_at, ◌≈ᵉ◌}
+use Rattle.rational.specs.Extended.{value_at, ◌≈ᵉ◌}
 use Rattle.rational.specs.Affine.{level}
 use Rattle.rational.proofs.Order.{lt_of_le_of_lt, lt_trans, le_refl, same_refl, same_of_le}
 use Rattle.rational.proofs.TimeLemmas.{precedes_of_room, room_of_precedes}

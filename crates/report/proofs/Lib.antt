@@ -23,3 +23,6 @@ pub mod FinerKnots
 pub mod FinerRobust
 pub mod FinerVerdicts
 pub mod FinerCheck
+pub mod Sequences
+pub mod StepLemmas
+pub mod TableTexts

@@ -9,3 +9,5 @@ pub mod Spelling
 pub mod VerdictLines
 pub mod Laws
 pub mod MarginLines
+pub mod Steps
+pub mod TableRows
