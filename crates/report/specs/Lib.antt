@@ -11,3 +11,4 @@ pub mod Laws
 pub mod MarginLines
 pub mod Steps
 pub mod TableRows
+pub mod ItemLines

@@ -2,6 +2,7 @@
 #![tactic(auto)]
 
 mod following;
+mod items;
 pub mod laws;
 mod margin;
 mod number;
@@ -10,6 +11,7 @@ mod spelling;
 mod table;
 mod verdict;
 
+pub use items::put_items;
 pub use margin::put_margins;
 pub use signal::put_verdicts;
 pub use table::put_table;
