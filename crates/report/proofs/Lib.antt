@@ -23,3 +23,5 @@ pub mod FinerKnots
 pub mod FinerRobust
 pub mod FinerVerdicts
 pub mod FinerCheck
+pub mod OneText
+pub mod StreamTexts
