@@ -29,3 +29,5 @@ pub mod FinerCheck
 pub mod Sequences
 pub mod StepLemmas
 pub mod TableTexts
+pub mod OneText
+pub mod StreamTexts
