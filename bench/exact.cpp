@@ -3,13 +3,14 @@
 // Build: c++ -O3 -std=c++17 -o exact exact.cpp
 #include "exact/robust.h"
 #include "exact/truth.h"
+#include "exact/watch.h"
 
 int main(int count, char** words) {
     string_view command = count == 3 ? words[1] : "";
-    if (command != "check" && command != "robust") refuse("usage: check F | robust F");
+    if (command != "check" && command != "watch" && command != "robust") refuse("usage: check F | watch F | robust F");
     vector<Node> nodes = Parser(words[2]).parse();
     Output out;
-    Reader reader;
+    Reader reader(command == "watch" ? &out : nullptr);
     reader.header();
     Scale scale{reader.time_digits, 0};
     for (const Column& c : reader.columns) scale.value = std::max(scale.value, c.digits);
@@ -19,5 +20,6 @@ int main(int count, char** words) {
     }
     reader.begin(scale);
     if (command == "robust") { robust(nodes, reader, scale, out); return 0; }
-    return check(nodes, reader, scale, out) ? 0 : 1;
+    bool holds = command == "watch" ? watch(nodes, reader, scale, out) : check(nodes, reader, scale, out);
+    return holds ? 0 : 1;
 }

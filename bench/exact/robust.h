@@ -418,7 +418,9 @@ static void robust(const vector<Node>& nodes, Reader& reader, Scale scale, Outpu
     vector<AtomMargin> atoms;
     for (const Node& node : nodes)
         if (node.kind == Kind::atom) atoms.emplace_back(Sum(node, reader.columns, scale.value));
-    FineDomain in = read_rows<uint64_t>(reader, atoms);
+    FineDomain in = read_rows<uint64_t>(reader, [&](int64_t last, const int64_t* row, bool first) {
+        for (AtomMargin& atom : atoms) first ? atom.first(row) : atom.next(last, row);
+    });
     for (AtomMargin& atom : atoms) atom.end(in.to.whole());
     MarginLines(out, scale).write(Margins(in, scale.time).of(nodes, atoms), in);
 }

@@ -186,16 +186,16 @@ private:
     vector<std::pair<int64_t, size_t>> ramps, steps;
 };
 
-// Feeds the rows to each of the atoms: `first` with the first row, `next` with the time before and each further row.
-template <class Word, class Atom>
-static DomainOf<Word> read_rows(Reader& reader, vector<Atom>& atoms) {
+// Gives each row to `take`, with the time of the row before, and gives the domain.
+template <class Word, class Take>
+static DomainOf<Word> read_rows(Reader& reader, Take take) {
     vector<int64_t> row(reader.columns.size() + 1);
     if (!reader.row(row.data())) refuse("no rows");
     int64_t start = row[0], last = start;
-    for (Atom& atom : atoms) atom.first(row.data());
+    take(last, row.data(), true);
     while (reader.row(row.data())) {
         if (row[0] <= last) refuse("time not rising");
-        for (Atom& atom : atoms) atom.next(last, row.data());
+        take(last, row.data(), false);
         last = row[0];
     }
     return {cut<Word>(start, false), cut<Word>(last, true)};

@@ -84,14 +84,13 @@ static Turns until(const Turns& p, const Turns& q, const Domain& in, int64_t low
     return out;
 }
 
-// The truth of one atom, which turns are put to as rows come.
+// Puts the turns of one atom behind others as rows come.
 template <class Into>
 class AtomTruth {
 public:
-    Into turns;
     bool now = false;
 
-    explicit AtomTruth(Sum sum) : sum(std::move(sum)) {}
+    AtomTruth(Sum sum, Into& turns) : sum(std::move(sum)), turns(turns) {}
     void first(const int64_t* row) {
         sum.go(row);
         turn(sum.holds(sum.value), cut(row[0], false));
@@ -104,11 +103,10 @@ public:
 
 private:
     Sum sum;
+    Into& turns;
 
     void turn(bool holds, const Cut& at) {
-        if (holds == now) return;
-        if (!turns.empty() && order(turns.back(), at) == 0) turns.pop_back();
-        else turns.push_back(at);
+        if (holds != now) turns.push_back(at);
         now = holds;
     }
     // The open gap between two rows, on which the sum goes from e to f.
@@ -129,7 +127,7 @@ private:
     }
 };
 
-static Turns evaluate(const vector<Node>& nodes, vector<AtomTruth<Turns>>& atoms, const Domain& in, int time_digits) {
+static Turns evaluate(const vector<Node>& nodes, vector<Turns>& atoms, const Domain& in, int time_digits) {
     vector<Turns> stack;
     size_t atom = 0;
     for (const Node& node : nodes) {
@@ -141,11 +139,7 @@ static Turns evaluate(const vector<Node>& nodes, vector<AtomTruth<Turns>>& atoms
         };
         switch (node.kind) {
         case Kind::constant: stack.push_back(node.holds ? Turns{in.from, in.to} : Turns{}); break;
-        case Kind::atom: {
-            if (atoms[atom].now) atoms[atom].turns.push_back(in.to);
-            stack.push_back(std::move(atoms[atom++].turns));
-            break;
-        }
+        case Kind::atom: stack.push_back(std::move(atoms[atom++])); break;
         case Kind::negation: stack.push_back(negation(pop(), in)); break;
         case Kind::both: { Turns q = pop(), p = pop(); stack.push_back(joined(p, q, true)); break; }
         case Kind::either: { Turns q = pop(), p = pop(); stack.push_back(joined(p, q, false)); break; }
@@ -191,11 +185,16 @@ private:
 static void put_start(Output& out, bool holds) { out.put(holds ? "start true\n" : "start false\n"); }
 
 static bool check(const vector<Node>& nodes, Reader& reader, Scale scale, Output& out) {
+    vector<Turns> turns(nodes.size());
     vector<AtomTruth<Turns>> atoms;
     for (const Node& node : nodes)
-        if (node.kind == Kind::atom) atoms.emplace_back(Sum(node, reader.columns, scale.value));
-    Domain in = read_rows<uint32_t>(reader, atoms);
-    Turns truth = evaluate(nodes, atoms, in, scale.time);
+        if (node.kind == Kind::atom) atoms.emplace_back(Sum(node, reader.columns, scale.value), turns[atoms.size()]);
+    Domain in = read_rows<uint32_t>(reader, [&](int64_t last, const int64_t* row, bool first) {
+        for (auto& atom : atoms) first ? atom.first(row) : atom.next(last, row);
+    });
+    for (size_t k = 0; k < atoms.size(); k++)
+        if (atoms[k].now) turns[k].push_back(in.to);
+    Turns truth = evaluate(nodes, turns, in, scale.time);
     bool start = !truth.empty() && order(truth[0], in.from) == 0, holds = start;
     Verdicts verdicts(out, power(scale.time));
     verdicts.begin(in.from);
