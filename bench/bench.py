@@ -129,7 +129,7 @@ def stands(program, command, path):
 
 
 def measure(programs, words, paths, sizes, runs, counted, folder):
-    """What each program takes, the programs in turn: seconds at each size, instructions a row at one (0: not counted) and the most MB; or the first other status."""
+    """What each program takes, measured in turn: seconds at each size, instructions a row at one, the most MB; or another status."""
     figures = [{"seconds": {}, "count": 0, "peak": 0} for _ in programs]
     for rows in sizes:
         tries = [[run(program, words, paths[rows]) for program in programs] for _ in range(runs)]

@@ -107,21 +107,29 @@ static Value value_at(const Shape& s, const FineCut& c) {
     return value_of(num, den);
 }
 
-// The sign of n + x - y, where x and y are fractions from 0 on and below 1.
-static int sign_of_sum(Big n, uint64_t x, uint64_t x_den, uint64_t y, uint64_t y_den) { return n != 0 ? sign(n) : order(x, x_den, y, y_den); }
-
 static int sign_ramp_constant(const Shape& f, const Shape& c, const FineCut& at) {
     Big n = over_run(f, at.whole()) - Big(c.t0) * f.run;
     if (at.rest == 0 && c.v0 == 0) return sign(n);
-    if (n >> 34 != 0 && n >> 34 != -1) return sign(n);
+    // What is left of the ramp and of the constant is below 2^32.
+    if (n >> 33 != 0 && n >> 33 != -1) return sign(n);
+    UBig den = UBig(at.den) * uint64_t(c.rise);
+    if (at.rest == 0 || c.v0 == 0 || den >> 90 == 0)
+        return sign(n * Big(den) + Big(f.rise) * Big(at.rest) * c.rise - Big(f.run) * c.v0 * Big(at.den));
     UBig x, y;
     n += floor_of(Big(f.rise) * Big(at.rest), at.den, x) - floor_of(Big(c.v0) * f.run, UBig(c.rise), y);
-    return sign_of_sum(n, uint64_t(x), at.den, uint64_t(y), uint64_t(c.rise));
+    return n != 0 ? sign(n) : order(uint64_t(x), at.den, uint64_t(y), uint64_t(c.rise));
 }
 
 // How much faster f rises than g, times both runs, or times the run of both.
 static Big slope_over(const Shape& f, const Shape& g) {
     return f.run == g.run ? Big(f.rise - g.rise) : Big(f.rise) * g.run - Big(g.rise) * f.run;
+}
+
+// The sign of the slope of f - g.
+static int sign_of_slope(const Shape& f, const Shape& g) {
+    int64_t rise = f.ramp() ? f.rise : 0, other = g.ramp() ? g.rise : 0;
+    if (f.ramp() && g.ramp() && f.run != g.run) { rise *= g.run; other *= f.run; }
+    return (rise > other) - (rise < other);
 }
 
 static int sign_ramps(const Shape& f, const Shape& g, const FineCut& at) {

@@ -47,11 +47,10 @@ static int order_of_times(const CutOf<Word>& a, const CutOf<Word>& b) {
     return order(a.rest, a.den, b.rest, b.den);
 }
 template <class Word>
-static int order(const CutOf<Word>& a, const CutOf<Word>& b) {
-    if (a.whole() != b.whole()) return a.whole() < b.whole() ? -1 : 1;
-    if ((a.rest | b.rest) != 0)
+inline int order(const CutOf<Word>& a, const CutOf<Word>& b) {
+    if ((a.rest | b.rest) != 0 && a.whole() == b.whole())
         if (int o = order(a.rest, a.den, b.rest, b.den)) return o;
-    return int(a.after()) - int(b.after());
+    return a.twice < b.twice ? -1 : a.twice > b.twice;
 }
 template <class Word>
 static bool operator<(const CutOf<Word>& a, const CutOf<Word>& b) { return order(a, b) < 0; }

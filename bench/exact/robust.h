@@ -6,6 +6,7 @@
 #include "formula.h"
 #include "margin.h"
 #include "place.h"
+#include "queue.h"
 #include "text.h"
 #include "trace.h"
 
@@ -42,11 +43,14 @@ private:
 // The blocks of signals that are no more, to be used again.
 class Blocks {
 public:
-    Signal take() {
-        if (spare.empty()) return {};
-        Signal out = std::move(spare.back());
-        spare.pop_back();
-        out.clear();
+    Signal take(size_t room) {
+        Signal out;
+        if (!spare.empty()) {
+            out = std::move(spare.back());
+            spare.pop_back();
+            out.clear();
+        }
+        out.reserve(room);
         return out;
     }
     void give(Signal&& old) { spare.push_back(std::move(old)); }
@@ -58,12 +62,12 @@ private:
 // Gives the stretches between two places on which f or g is the greater, or with `least` the less; with `back` from the last one on.
 template <bool least, bool back, class Give>
 static void pick(const FineCut& from, const FineCut& to, const Shape& f, const Shape& g, Give give) {
-    int begin = sign_at(f, g, from), end = !f.ramp() && !g.ramp() ? begin : sign_at(f, g, to);
-    if (least) { begin = -begin; end = -end; }
-    if (begin >= 0 && end >= 0) return give(from, to, f);
-    if (begin <= 0 && end <= 0) return give(from, to, g);
+    int begin = sign_at(f, g, from), slope = sign_of_slope(f, g);
+    bool apart = begin * slope >= 0 || begin * sign_at(f, g, to) >= 0;
+    int ahead = begin != 0 ? begin : slope;
+    const Shape &first = (ahead >= 0) != least ? f : g, &second = &first == &f ? g : f;
+    if (apart) return give(from, to, first);
     FineCut at = meeting(f, g);
-    const Shape &first = begin > 0 ? f : g, &second = begin > 0 ? g : f;
     if (!back) give(from, at, first);
     give(at, to, second);
     if (back) give(from, at, first);
@@ -84,13 +88,13 @@ private:
         for (Segment& s : p) s.shape = negative(s.shape);
     }
     Signal constant(int64_t value) {
-        Signal out = blocks.take();
+        Signal out = blocks.take(1);
         out.push_back({in.from, {value, 0, 1, 0}});
         return out;
     }
     template <bool least>
     Signal joined(Signal&& p, Signal&& q) {
-        Signal out = blocks.take();
+        Signal out = blocks.take(p.size() + q.size());
         FineCut at = in.from;
         for (size_t i = 0, k = 0; i < p.size() && k < q.size();) {
             const FineCut &i_end = end_of(p, i), &k_end = end_of(q, k);
@@ -116,7 +120,7 @@ private:
 
 // The greatest of p, or with `least` the least, between `low` and `high` ticks ahead (below 0: behind). What may still be the greatest
 // stands in a queue: the tops of segments, each less than the one before. A top lasts while the window begins before its place; then a
-// segment that falls lasts on as it falls.
+// segment that falls lasts on as it falls. What comes behind a top that lasts to the end is left out.
 template <bool least>
 class Window {
 public:
@@ -157,8 +161,7 @@ private:
     const bool low_in, high_in;
     FineCut at;  // up to here the answer stands
     Signal& out;
-    vector<Top> tops;
-    size_t front = 0;
+    Queue<Top> tops;
 
     static int ordered(int o) { return least ? -o : o; }
     static bool rises(const Shape& s) { return s.ramp() && (s.rise > 0) != least; }
@@ -167,35 +170,31 @@ private:
     FineCut leaving(const FineCut& c) const { return moved(c, -low, c.after() && low_in); }
 
     void push(const Top& top) {
-        while (front < tops.size() && ordered(order(tops.back().value, top.value)) <= 0) tops.pop_back();
-        if (front == tops.size()) {
-            tops.clear();
-            front = 0;
-        }
-        tops.push_back(top);
+        while (!tops.empty() && ordered(order(tops.back().value, top.value)) <= 0) tops.pop_back();
+        if (tops.empty() || tops.front().until < in.to) tops.push_back(top);
     }
     // Answers up to `to` by the queue and, where there is one, a segment on the rise that reaches `top` there.
     void advance(FineCut to, const Shape* rising, const Value* top) {
         if (in.to < to) to = in.to;
         while (at < to) {
-            if (front == tops.size()) {
+            if (tops.empty()) {
                 put(out, at, rising ? *rising : Shape{least ? infinite : -infinite, 0, 1, 0});
                 at = to;
                 return;
             }
-            const Top& first = tops[front];
+            const Top& first = tops.front();
             if (at < first.until) {
                 stretch(to, first.until, shape_of(first.value), rising, rising && ordered(order(*top, first.value)) <= 0);
                 continue;
             }
             Shape shape = moved(p[first.segment].shape, -low);
             FineCut end = leaving(first.segment + 1 < p.size() ? p[first.segment + 1].from : in.to);
-            if (falls(shape) && at < end && front + 1 < tops.size()) {
-                Shape second = shape_of(tops[front + 1].value);
+            if (falls(shape) && at < end && tops.size() > 1) {
+                Shape second = shape_of(tops[1].value);
                 if (ordered(sign_at(second, shape, end)) > 0) end = ordered(sign_at(second, shape, at)) >= 0 ? at : meeting(second, shape);
             }
             if (falls(shape) && at < end) stretch(to, end, shape, rising, false);
-            else front++;
+            else tops.pop_front();
         }
     }
     // Goes on up to `to` or the end of a part of the queue's answer, or further where the segment on the rise passes it.
@@ -207,7 +206,7 @@ private:
                 put(out, at, shape);
                 put(out, meeting(*rising, shape), *rising);
             }
-            front = tops.size();
+            tops.clear();
             at = to;
             return;
         }
@@ -222,7 +221,7 @@ Signal Margins::window(Signal&& p, int64_t low, int64_t high, bool low_in, bool 
         blocks.give(std::move(p));
         return constant(least ? infinite : -infinite);
     }
-    Signal out = blocks.take();
+    Signal out = blocks.take(2 * p.size());
     Window<least>(p, in, low, high, low_in, high_in, out).run();
     blocks.give(std::move(p));
     return out;
@@ -232,7 +231,7 @@ Signal Margins::window(Signal&& p, int64_t low, int64_t high, bool low_in, bool 
 // there and p from there on.
 template <bool back>
 Signal Margins::reached(const Signal& p, const Signal& q) {
-    Signal out = blocks.take();
+    Signal out = blocks.take(p.size() + q.size());
     Value carried{-infinite, 0, 1};
     Shape last{};
     auto give = [&](const FineCut& from, const FineCut&, const Shape& s) {
@@ -289,7 +288,7 @@ Signal Margins::reached(const Signal& p, const Signal& q) {
 // What p is at a time, told `by` ticks later (below 0: earlier), and less than all where there is nothing to tell.
 Signal Margins::later(Signal&& p, int64_t by) {
     if (by == 0) return std::move(p);
-    Signal out = blocks.take();
+    Signal out = blocks.take(p.size() + 1);
     const Shape nothing{-infinite, 0, 1, 0};
     FineCut end = moved(in.to, by, true);
     if (by > 0) put(out, in.from, nothing);
@@ -374,7 +373,8 @@ public:
 private:
     Output& out;
     int64_t ticks, units;
-    Text from, from_value, to, to_value, value;
+    Text texts[5];
+    Text *from = &texts[0], *from_value = &texts[1], *to = &texts[2], *to_value = &texts[3], *value = &texts[4];
 
     void put_value(Text& text, const Shape& s, const FineCut& at) {
         text.clear();
@@ -387,29 +387,17 @@ private:
         text.put(num, den * uint64_t(units));
     }
     void knot(const FineCut& at, const Shape* before, const Shape& point, const Shape* after) {
-        put_time(to, at, ticks);
-        put_value(value, point, at);
+        put_time(*to, at, ticks);
+        put_value(*value, point, at);
         if (before) {
             bool reached = before == &point || sign_at(*before, point, at) == 0;
-            if (!reached) put_value(to_value, *before, at);
-            out.put("(");
-            out.put(from);
-            out.put(",");
-            out.put(to);
-            out.put(") ");
-            out.put(from_value);
-            out.put(" -> ");
-            out.put(reached ? value : to_value);
-            out.put("\n");
+            if (!reached) put_value(*to_value, *before, at);
+            out.line('(', *from, ',', *to, ") ", *from_value, " -> ", reached ? *value : *to_value, '\n');
         }
-        out.put("[");
-        out.put(to);
-        out.put("] ");
-        out.put(value);
-        out.put("\n");
+        out.line('[', *to, "] ", *value, '\n');
         if (!after) return;
         if (after == &point || sign_at(*after, point, at) == 0) std::swap(from_value, value);
-        else put_value(from_value, *after, at);
+        else put_value(*from_value, *after, at);
         std::swap(from, to);
     }
 };

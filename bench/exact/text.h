@@ -66,16 +66,13 @@ public:
 class Output {
 public:
     ~Output() { flush(); }
-    void put(string_view text) {
-        need(text.size());
-        std::memcpy(block.data() + used, text.data(), text.size());
-        used += text.size();
-    }
-    void put(const Text& text) {
-        need(Text::most);
-        std::memcpy(block.data() + used, text.bytes.data(), 24);
-        if (text.size > 24) std::memcpy(block.data() + used, text.bytes.data(), Text::most);
-        used += text.size;
+    // Puts characters, texts and short literals one behind the other.
+    template <class... Parts>
+    void line(const Parts&... parts) {
+        if (block.size() - used < sizeof...(parts) * Text::most) flush();
+        char* end = block.data() + used;
+        ((end = put(end, parts)), ...);
+        used = size_t(end - block.data());
     }
     void flush() {
         for (size_t from = 0; from < used;) {
@@ -89,8 +86,20 @@ public:
 private:
     std::array<char, 65536> block;
     size_t used = 0;
-    void need(size_t room) {
-        if (used + room > block.size()) flush();
+
+    static char* put(char* end, char c) {
+        *end = c;
+        return end + 1;
+    }
+    template <size_t size>
+    static char* put(char* end, const char (&text)[size]) {
+        std::memcpy(end, text, size - 1);
+        return end + size - 1;
+    }
+    static char* put(char* end, const Text& text) {
+        std::memcpy(end, text.bytes.data(), 24);
+        if (text.size > 24) std::memcpy(end, text.bytes.data(), Text::most);
+        return end + text.size;
     }
 };
 

@@ -33,7 +33,7 @@ public:
     vector<Column> columns;
     int time_digits = 0;
 
-    explicit Reader(Output* answers = nullptr) : answers(answers), block(65536) { at = whole = end = block.data(); }
+    explicit Reader(Output* answers = nullptr) : answers(answers), block(65536 + past) { at = whole = end = block.data(); }
 
     void header() {
         string line;
@@ -54,28 +54,27 @@ public:
     }
     // From here on rows have numbers in ticks of the scale.
     void begin(Scale to) {
-        digits.assign(columns.size() + 1, to.value);
-        digits[0] = to.time;
-        for (int d : digits) tens.push_back(power(d));
+        fields.assign(columns.size() + 1, {to.value, power(to.value)});
+        fields[0] = {to.time, power(to.time)};
     }
     // The next row into `row`, its time first; false at the end.
     bool row(int64_t* row) {
+        int64_t* values = row;
         do {
             if (!fill()) return false;
         } while (blank());
         const char* p = at;
-        for (size_t k = 0; k < tens.size(); k++) {
-            if (k > 0 && *p++ != ',') refuse("wrong count");
-            p = skip(p);
+        for (const Field& field : fields) {
+            if (row != values && *p++ != ',') refuse("wrong count");
+            if (*p <= ' ') p = skip(p);
             bool minus = *p == '-';
             if (minus || *p == '+') p++;
-            if (!digit(*p)) refuse("bad number");
-            int64_t v = 0;
-            do v = 10 * v + (*p++ - '0'); while (digit(*p));
-            if (*p == '.') p = decimals(p + 1, v, digits[k]);
-            else v *= tens[k];
-            row[k] = minus ? -v : v;
-            p = skip(p);
+            int64_t v;
+            p = whole_number(p, v);
+            if (*p == '.') p = decimals(p + 1, v, field.digits);
+            else v *= field.tens;
+            *values++ = minus ? -v : v;
+            if (*p <= ' ') p = skip(p);
         }
         if (*p == '\r') p++;
         if (*p != '\n') refuse("wrong count");
@@ -84,16 +83,37 @@ public:
     }
 
 private:
+    struct Field {
+        int digits;
+        int64_t tens;
+    };
+    static constexpr size_t past = 16;  // bytes that may be looked at behind the last line
     Output* answers;
     vector<char> block;
     const char *at, *whole, *end;  // the bytes from `at` to `whole` are whole lines
     bool ended = false;
-    vector<int> digits;
-    vector<int64_t> tens;
+    vector<Field> fields;
 
     static bool digit(char c) { return static_cast<unsigned char>(c - '0') < 10; }
     static const char* skip(const char* p) {
         while (*p == ' ' || *p == '\t') p++;
+        return p;
+    }
+    // Digits, of which the first eight are read at once.
+    static const char* whole_number(const char* p, int64_t& v) {
+        uint64_t eight;
+        std::memcpy(&eight, p, 8);
+        eight -= 0x3030303030303030;
+        uint64_t others = (eight | (eight + 0x7676767676767676)) & 0x8080808080808080;
+        int bits = others == 0 ? 64 : __builtin_ctzll(others) & ~7;
+        if (bits == 0) refuse("bad number");
+        eight <<= 64 - bits;
+        eight = 10 * eight + (eight >> 8);
+        constexpr uint64_t pairs = 0x000000FF000000FF, high = 100 + (uint64_t(1000000) << 32), low = 1 + (uint64_t(10000) << 32);
+        v = int64_t(((eight & pairs) * high + ((eight >> 16) & pairs) * low) >> 32);
+        p += bits / 8;
+        if (bits == 64)
+            while (digit(*p)) v = 10 * v + (*p++ - '0');
         return p;
     }
     static const char* decimals(const char* p, int64_t& v, int digits) {
@@ -123,7 +143,7 @@ private:
             at = whole = block.data();
             end = at + rest;
             if (answers) answers->flush();
-            ssize_t got = read(0, block.data() + rest, block.size() - rest - 1);
+            ssize_t got = read(0, block.data() + rest, block.size() - rest - past);
             if (got < 0) refuse("read fault", 5);
             ended = got == 0;
             if (ended && rest > 0) { block[rest] = '\n'; got = 1; }

@@ -161,15 +161,13 @@ public:
     Verdicts(Output& out, int64_t ticks) : out(out), ticks(ticks) {}
     void begin(const Cut& at) {
         from = at;
-        put_time(begins, at, ticks);
+        put_time(*begins, at, ticks);
     }
     void line(const Cut& to, bool holds) {
-        put_time(ends, to, ticks);
-        out.put(from.after() ? "(" : "[");
-        out.put(begins);
-        out.put(",");
-        out.put(ends);
-        out.put(to.after() ? (holds ? "] true\n" : "] false\n") : (holds ? ") true\n" : ") false\n"));
+        put_time(*ends, to, ticks);
+        char left = from.after() ? '(' : '[', right = to.after() ? ']' : ')';
+        if (holds) out.line(left, *begins, ',', *ends, right, " true\n");
+        else out.line(left, *begins, ',', *ends, right, " false\n");
         std::swap(begins, ends);
         from = to;
     }
@@ -179,10 +177,14 @@ private:
     Output& out;
     int64_t ticks;
     Cut from{};
-    Text begins, ends;
+    Text texts[2];
+    Text *begins = &texts[0], *ends = &texts[1];
 };
 
-static void put_start(Output& out, bool holds) { out.put(holds ? "start true\n" : "start false\n"); }
+static void put_start(Output& out, bool holds) {
+    if (holds) out.line("start true\n");
+    else out.line("start false\n");
+}
 
 static bool check(const vector<Node>& nodes, Reader& reader, Scale scale, Output& out) {
     vector<Turns> turns(nodes.size());

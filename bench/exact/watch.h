@@ -6,35 +6,15 @@
 
 #include "formula.h"
 #include "place.h"
+#include "queue.h"
 #include "text.h"
 #include "trace.h"
 #include "truth.h"
 
-// Turns that wait, in order. Those that were taken leave room once they are the greater part.
-class TurnQueue {
-public:
-    bool empty() const { return head == turns.size(); }
-    const Cut& front() const { return turns[head]; }
-    const Cut& back() const { return turns.back(); }
-    void push_back(const Cut& at) { turns.push_back(at); }
-    void pop_back() { turns.pop_back(); }
-    void pop_front() {
-        if (++head < turns.size()) {
-            if (head < 64 || 2 * head < turns.size()) return;
-            turns.erase(turns.begin(), turns.begin() + long(head));
-        } else turns.clear();
-        head = 0;
-    }
-
-private:
-    Turns turns;
-    size_t head = 0;
-};
-
 // A node as rows come. Past its front the queue may hold turns that are still to come, and that may still be taken back.
 class Stage {
 public:
-    TurnQueue turns;
+    Queue<Cut> turns;
     int64_t front = 0;  // all times up to here are told; it may lie before the start
 
     Stage(const Node& node, int time_digits)
@@ -230,7 +210,7 @@ private:
 static bool watch(const vector<Node>& nodes, Reader& reader, Scale scale, Output& out) {
     vector<Stage> stages;
     for (const Node& node : nodes) stages.emplace_back(node, scale.time);
-    vector<AtomTruth<TurnQueue>> atoms;
+    vector<AtomTruth<Queue<Cut>>> atoms;
     for (size_t k = 0; k < nodes.size(); k++)
         if (nodes[k].kind == Kind::atom) atoms.emplace_back(Sum(nodes[k], reader.columns, scale.value), stages[k].turns);
     Answers answers(out, power(scale.time));
