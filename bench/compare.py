@@ -1,5 +1,5 @@
 #!/usr/bin/env python3
-"""Runs `check` of the built program and of exact.cpp on random formulas and recordings, and compares every byte and status."""
+"""Runs the built program and exact.cpp on random formulas and recordings, and compares every byte and status."""
 import argparse
 import os
 import random
@@ -10,6 +10,8 @@ import tempfile
 HERE = os.path.dirname(os.path.realpath(__file__))
 PROGRAM = os.path.join(HERE, "..", "crates", "stl_bench", "out", "stl_bench")
 COLUMNS = ["x", "y:step", "z:1", "w:step:2"]
+COMMANDS = ["check", "watch", "robust"]
+UNKNOWN, WIDE = 2, 8
 
 
 def number(dice, most, digits):
@@ -55,25 +57,39 @@ def recording(dice):
     return ("\n".join(lines) + dice.choice(["\n", ""])).encode()
 
 
+def answer(program, command, text, trace):
+    """Status and bytes of one run."""
+    done = subprocess.run([program, command, text], input=trace, stdout=subprocess.PIPE, stderr=subprocess.DEVNULL, check=False)
+    return done.returncode, done.stdout
+
+
 def main():
     parser = argparse.ArgumentParser(description=__doc__)
     parser.add_argument("--program", default=PROGRAM, help="the program to compare")
+    parser.add_argument("--command", choices=COMMANDS, help="one command alone; by default all that the program has")
     parser.add_argument("--cases", type=int, default=2000)
     parser.add_argument("--seed", type=int, default=1)
     args = parser.parse_args()
     dice = random.Random(args.seed)
-    judged = 0
+    commands = [args.command] if args.command else [c for c in COMMANDS if answer(args.program, c, "true", b"time\n0\n")[0] != UNKNOWN]
+    judged, wide = dict.fromkeys(commands, 0), 0
     with tempfile.TemporaryDirectory() as folder:
         other = os.path.join(folder, "exact")
         subprocess.run(["c++", "-O2", "-std=c++17", "-o", other, os.path.join(HERE, "exact.cpp")], check=True)
         for case in range(args.cases):
             text, trace = formula(dice, dice.randint(0, 4)), recording(dice)
-            ours, theirs = (subprocess.run([program, "check", text], input=trace, capture_output=True, check=False) for program in (args.program, other))
-            if ours.returncode not in (0, 1) or (ours.returncode, ours.stdout) != (theirs.returncode, theirs.stdout):
-                print(f"case {case}: {text!r} on {trace!r}\n{ours.returncode} {ours.stdout!r} {ours.stderr!r}\n{theirs.returncode} {theirs.stdout!r}")
-                return 1
-            judged += len(ours.stdout.splitlines()) > 2
-    print(f"{args.cases} cases agree, {judged} of them with a truth that changes")
+            for command in commands:
+                ours, theirs = (answer(program, command, text, trace) for program in (args.program, other))
+                # Which margins are refused as wide depends on what a program keeps on its way.
+                if command == "robust" and WIDE in (ours[0], theirs[0]):
+                    wide += 1
+                    continue
+                if ours[0] not in (0, 1) or ours != theirs:
+                    print(f"case {case}: {command} {text!r} on {trace!r}\n{ours[0]} {ours[1]!r}\n{theirs[0]} {theirs[1]!r}")
+                    return 1
+                judged[command] += len(ours[1].splitlines()) > 2
+    changes = ", ".join(f"{many} of {command}" for command, many in judged.items())
+    print(f"{args.cases} cases agree; more than one stretch: {changes}; wide: {wide}")
     return 0
 
 
