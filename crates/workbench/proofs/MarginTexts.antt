@@ -7,7 +7,7 @@ use Rattle.stl_syntax.specs.Trace.{Header, Row, Trace}
 use Rattle.stl_syntax.specs.Formula.{Subformula}
 use Rattle.stl_syntax.specs.Knots.{Knot, Piece}
 use Rattle.stl_syntax.specs.Texts.{ArePieceLines}
-use Rattle.stl_syntax.specs.MarginStream.{TellsLeftOpen, IsNewMargins, IsMarginStream}
+use Rattle.online_nodes.specs.MarginStream.{TellsLeftOpen, IsNewMargins, IsMarginStream}
 use Rattle.stl_syntax.proofs.MarginsLaw.{closed_once, after_once}
 use Rattle.report.proofs.OneText.{pieces_once, margins_once}
 use Rattle.report.proofs.StreamTexts.{IsLonger, IsOneText, by_test, rows_once, rows_grow, rest_once}
