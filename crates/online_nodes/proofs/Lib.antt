@@ -23,3 +23,5 @@ mod UntilTurns
 mod UntilPasses
 mod UntilCounts
 mod UntilGoes
+mod FrontsLaw
+mod NetworkExamples

@@ -26,3 +26,8 @@ pub mod FinerKnots
 pub mod FinerRobust
 pub mod FinerVerdicts
 pub mod FinerCheck
+pub mod Sequences
+pub mod StepLemmas
+pub mod TableTexts
+pub mod OneText
+pub mod StreamTexts

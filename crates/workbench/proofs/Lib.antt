@@ -25,3 +25,6 @@ pub mod Measured
 pub mod Reasoned
 pub mod NoForm
 pub mod MarginTruth
+pub mod RowsBefore
+pub mod MarginTexts
+pub mod OwedLaws
