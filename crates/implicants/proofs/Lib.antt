@@ -20,3 +20,4 @@ pub mod Counting
 pub mod Listing
 pub mod Gathering
 pub mod OfAtoms
+pub mod OneExplanation

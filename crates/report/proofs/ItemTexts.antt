@@ -85,10 +85,11 @@ pub ends_as_itself : (e : Item) → EndsAs e e
 ends_as_itself e = record { node = refl; holds = refl; ends = record { time = same_refl _; inside = refl } }
 
 -- what is left of a room that is not empty
-at_most : (b : Bool) (t u : Rational) → HasTimeBetween t u b → t ≤ʳ u
+pub at_most : (b : Bool) (t u : Rational) → HasTimeBetween t u b → t ≤ʳ u
 at_most b t u h = precedes_le b t u (precedes_of_room b t u h)
 
-below : (b : Bool) (t u : Rational) → b ≡ false → HasTimeBetween t u b → t <ʳ u
+-- and where an end is out
+pub below : (b : Bool) (t u : Rational) → b ≡ false → HasTimeBetween t u b → t <ʳ u
 below b t u e h = precedes_of_room false t u (subst (HasTimeBetween t u) e h)
 
 -- two spans that touch make one

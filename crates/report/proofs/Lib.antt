@@ -13,6 +13,8 @@ pub mod Growths
 pub mod ItemTexts
 pub mod JoinedLines
 pub mod WritingItems
+pub mod JoinedTimes
+pub mod JoinedCells
 pub mod MarginTexts
 pub mod MarginLaw
 pub mod Stretch

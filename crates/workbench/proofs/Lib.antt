@@ -23,6 +23,7 @@ pub mod Due
 pub mod Judged
 pub mod Measured
 pub mod Reasoned
+pub mod Refuting
 pub mod NoForm
 pub mod MarginTruth
 pub mod RowsBefore

@@ -89,6 +89,8 @@ pub(crate) fn give_reasons(alloc: Global, formula: &Formula, case: &Case) -> Res
         (IsUnanswered explaining formula.now case.now.trace) }
 {
     let scale = case.formula.scale();
+    // For the proof alone: the formula is well formed.
+    let _ = case.formula.len();
     let explained = match reasons::<Brand>(alloc, case, Blank::new(1)) {
         Ok(explained) => explained,
         Err(fault) => return Err(fault_stop(fault)),

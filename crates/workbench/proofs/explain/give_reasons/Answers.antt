@@ -11,5 +11,5 @@ pub returns-in-Ok-text_of : goal.returns-in-Ok-text_of
 returns-in-Ok-text_of c =
     let is = c.in-Ok.ensures in
     let a = c.in-Ok-text_of.answer in
-    reasoned c.args.formula.now c.args.case.now is.0 c.in-Ok.explained a.holds a.text c.requires.case is.1
+    reasoned c.args.formula.now c.args.case.now is.0 c.in-Ok.explained a.holds a.text c.len.ensures.well_formed c.requires.case is.1
     (subst (λ s. IsReasonText s c.args.formula.now c.in-Ok.explained a.holds a.text) c.scale-scale.ensures.scale c.in-Ok-text_of.ensures)
