@@ -22,6 +22,7 @@ pub mod StreamSteps
 pub mod Due
 pub mod Judged
 pub mod Measured
+pub mod Reasoned
 pub mod NoForm
 pub mod MarginTruth
 pub mod RowsBefore
