@@ -1,8 +1,8 @@
 mod PlaceLemmas
 mod Writing
 mod GotLemmas
-mod RunLaw
-mod StayLaw
+pub mod RunLaw
+pub mod StayLaw
 mod FrameLaw
 mod HeldLaw
 mod WindowLaw
@@ -23,5 +23,5 @@ mod UntilTurns
 mod UntilPasses
 mod UntilCounts
 mod UntilGoes
-mod FrontsLaw
+pub mod FrontsLaw
 mod NetworkExamples

@@ -28,3 +28,6 @@ pub mod MarginTruth
 pub mod RowsBefore
 pub mod MarginTexts
 pub mod OwedLaws
+pub mod OneRequest
+pub mod EndsOnce
+pub mod Passes
