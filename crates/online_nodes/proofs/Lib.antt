@@ -25,3 +25,8 @@ mod UntilCounts
 mod UntilGoes
 pub mod FrontsLaw
 mod NetworkExamples
+mod RisingLaw
+mod EmittedLaw
+mod MeetingLaw
+mod EdgeLaw
+mod StillLaw
