@@ -29,3 +29,8 @@ pub mod FinerCheck
 pub mod Sequences
 pub mod StepLemmas
 pub mod TableTexts
+pub mod PlainTexts
+pub mod JsonData
+pub mod JsonParts
+pub mod JsonItems
+pub mod ReportTexts
