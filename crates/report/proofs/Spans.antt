@@ -3,7 +3,7 @@ use Rattle.std.proofs.Common.{◌≡◌, ℕ, List, ◌++◌, Bool, true, false,
 use Rattle.frac128.specs.Value.{value}
 use Rattle.frac128.specs.declared.span.Span.{Span}
 use Rattle.stl_syntax.specs.declared.scale.Scale.{Scale}
-use Rattle.stl_syntax.specs.Texts.{bool_text, fraction_text, newline, IsNumberText, IsSpanText, IsVerdictLine}
+use Rattle.stl_syntax.specs.Texts.{bool_text, fraction_text, newline, IsNumberText, IsSpanText}
 use Rattle.stl_syntax.specs.declared.items.Verdict.{Verdict}
 use Rattle.report.specs.VerdictForms.{IsEntry, entry_text, separator}
 use Rattle.rational.specs.Time.{Rational}
@@ -31,13 +31,12 @@ entry_is false last scale v from to p q =
   where
     together : (a b c d e : List ℕ) → a ++ (b ++ c ++ d ++ e) ≡ a ++ b ++ c ++ d ++ e
     together a b c d e = simp append_assoc
-entry_is true last scale v from to p q =
-    (
-      _,
-      span_text scale v.on from to p q,
-      ap (λ b. b ++ from ++ codes "," ++ to ++ (after v.on.to_in ++ codes "\",\"value\":" ++ bool_text v.holds ++ codes "}" ++ separator last)) (opened v.on.from_in)
-          ∙ together (codes "{\"on\":\"") (before v.on.from_in) from (codes ",") to (after v.on.to_in) (codes "\",\"value\":") (bool_text v.holds) (codes "}") (separator last),
-    )
+entry_is true last scale v from to p q = (
+  _,
+  span_text scale v.on from to p q,
+  ap (λ b. b ++ from ++ codes "," ++ to ++ (after v.on.to_in ++ codes "\",\"value\":" ++ bool_text v.holds ++ codes "}" ++ separator last)) (opened v.on.from_in)
+      ∙ together (codes "{\"on\":\"") (before v.on.from_in) from (codes ",") to (after v.on.to_in) (codes "\",\"value\":") (bool_text v.holds) (codes "}") (separator last),
+)
   where
     opened : (b : Bool) → (if b then codes "{\"on\":\"[" else codes "{\"on\":\"(") ≡ codes "{\"on\":\"" ++ before b
     opened true = refl

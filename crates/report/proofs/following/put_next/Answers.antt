@@ -35,12 +35,11 @@ returns-in_err-put_entry-clause-err c =
     c.args.text.now c.put_entry.new.text (whole (goal.at.returns-in_err-put_entry-clause-err c).After-bytes-2) c.in_err-put_entry.ensures.err)
 
 pub returns-clause-ok : goal.returns-clause-ok
-returns-clause-ok c =
-    (
-      entry_text c.args.style.json c.args.last c.args.v.now c.bytes.result.now c.bytes-2.result.now,
-      whole (goal.at.returns-clause-ok c).After-bytes-2,
-      c.in_ok-put_entry.ensures.ok,
-    )
+returns-clause-ok c = (
+  entry_text c.args.style.json c.args.last c.args.v.now c.bytes.result.now c.bytes-2.result.now,
+  whole (goal.at.returns-clause-ok c).After-bytes-2,
+  c.in_ok-put_entry.ensures.ok,
+)
 
 pub returns-clause-ends : goal.returns-clause-ends
 returns-clause-ends c =
