@@ -23,5 +23,9 @@ mod UntilTurns
 mod UntilPasses
 mod UntilCounts
 mod UntilGoes
+mod SinceTurns
+mod SinceEnds
+mod SinceCounts
+mod SinceReads
 mod FrontsLaw
 mod NetworkExamples
