@@ -29,3 +29,8 @@ mod SinceCounts
 mod SinceReads
 mod FrontsLaw
 mod NetworkExamples
+mod RisingLaw
+mod EmittedLaw
+mod MeetingLaw
+mod EdgeLaw
+mod StillLaw
