@@ -24,6 +24,11 @@ mod UntilPasses
 mod UntilCounts
 mod UntilGoes
 pub mod FrontsLaw
+mod SinceTurns
+mod SinceEnds
+mod SinceCounts
+mod SinceReads
+mod FrontsLaw
 mod NetworkExamples
 mod RisingLaw
 mod EmittedLaw
