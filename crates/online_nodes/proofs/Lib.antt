@@ -28,7 +28,6 @@ mod SinceTurns
 mod SinceEnds
 mod SinceCounts
 mod SinceReads
-mod FrontsLaw
 mod NetworkExamples
 mod RisingLaw
 mod EmittedLaw
