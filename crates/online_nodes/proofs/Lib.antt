@@ -1,8 +1,8 @@
 mod PlaceLemmas
 mod Writing
 mod GotLemmas
-mod RunLaw
-mod StayLaw
+pub mod RunLaw
+pub mod StayLaw
 mod FrameLaw
 mod HeldLaw
 mod WindowLaw
@@ -23,5 +23,14 @@ mod UntilTurns
 mod UntilPasses
 mod UntilCounts
 mod UntilGoes
-mod FrontsLaw
+pub mod FrontsLaw
+mod SinceTurns
+mod SinceEnds
+mod SinceCounts
+mod SinceReads
 mod NetworkExamples
+mod RisingLaw
+mod EmittedLaw
+mod MeetingLaw
+mod EdgeLaw
+mod StillLaw

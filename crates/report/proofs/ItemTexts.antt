@@ -140,7 +140,7 @@ continued f line last (e ∷ items) s own all =
     ]
 
 -- each span has a text
-span_exists : (scale : Scale) (on : Span) → (text : List ℕ) × IsSpanText scale on text
+pub span_exists : (scale : Scale) (on : Span) → (text : List ℕ) × IsSpanText scale on text
 span_exists scale on =
     let from = number_exists scale.time (value on.from) in
     let to = number_exists scale.time (value on.to) in

@@ -33,3 +33,8 @@ pub mod StepLemmas
 pub mod TableTexts
 pub mod OneText
 pub mod StreamTexts
+pub mod PlainTexts
+pub mod JsonData
+pub mod JsonParts
+pub mod JsonItems
+pub mod ReportTexts

@@ -16,7 +16,7 @@ use Rattle.report.specs.VerdictForms.{IsEntry, AreEntries}
 use Rattle.report.specs.Appended.{Grew, GrewInPart, AreEach, Then}
 use Rattle.report.proofs.Growths as growth
 use Rattle.report.proofs.Growths.{grew_then, part_then, part_first, some_then}
-use Rattle.report.proofs.Sequences.{each_join, each_grow, each_exist}
+use Rattle.report.proofs.Sequences.{each_join, each_exist}
 use Rattle.report.proofs.Spans.{span_text}
 
 -- t in units of 10^digits ticks
@@ -105,12 +105,16 @@ module _ {P : Type 0} (shape : ShapeOf P) (json : Bool) (scale : Scale) (knots :
       texts : (t a b m n : List ℕ) → (t ++ a) ++ (b ++ (m ++ n)) ≡ (t ++ ((a ++ b) ++ m)) ++ n
       texts t a b m n = simp append_assoc
 
-  -- nothing yet
-  pub entries_unwritten : (before : List Verdict) (last : Verdict) (old : List ℕ) → Described (before ++ last ∷ []) → GrewInPart (AreEntries shape json scale knots) old old
-  entries_unwritten before last old d =
+  -- they have a text
+  pub entries_text : (before : List Verdict) (last : Verdict) → Described (before ++ last ∷ []) → growth.Some (AreEntries shape json scale knots)
+  entries_text before last d =
       let E = IsEntry json false scale in
       let all = some_then (AreEach E before) (IsEntry json true scale last) (each_exist E (entry_exists json false scale) before) (entry_exists json true scale last) in
-      part_written before last old old d ([], all.0, all.1, sym (append-nil old))
+      (all.0, record { before = before; last = last; described = d; written = all.1 })
+
+  -- nothing yet
+  pub entries_unwritten : (before : List Verdict) (last : Verdict) (old : List ℕ) → Described (before ++ last ∷ []) → GrewInPart (AreEntries shape json scale knots) old old
+  entries_unwritten before last old d = let all = entries_text before last d in ([], all.0, all.1, sym (append-nil old))
 
 -- verdicts in lines are the lines of the signal
 pub entries_are_lines : {P : Type 0} (shape : ShapeOf P) (scale : Scale) (knots : List (Knot P)) (text : List ℕ) → AreEntries shape false scale knots text

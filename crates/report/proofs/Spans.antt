@@ -3,7 +3,7 @@ use Rattle.std.proofs.Common.{◌≡◌, ℕ, List, ◌++◌, Bool, true, false,
 use Rattle.frac128.specs.Value.{value}
 use Rattle.frac128.specs.declared.span.Span.{Span}
 use Rattle.stl_syntax.specs.declared.scale.Scale.{Scale}
-use Rattle.stl_syntax.specs.Texts.{bool_text, fraction_text, newline, IsNumberText, IsSpanText, IsVerdictLine}
+use Rattle.stl_syntax.specs.Texts.{bool_text, fraction_text, newline, IsNumberText, IsSpanText}
 use Rattle.stl_syntax.specs.declared.items.Verdict.{Verdict}
 use Rattle.report.specs.VerdictForms.{IsEntry, entry_text, separator}
 use Rattle.rational.specs.Time.{Rational}

@@ -12,3 +12,5 @@ pub mod MarginLines
 pub mod Steps
 pub mod TableRows
 pub mod ItemLines
+pub mod JsonTexts
+pub mod ReportText

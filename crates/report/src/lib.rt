@@ -3,6 +3,7 @@
 
 mod following;
 mod items;
+mod json;
 pub mod laws;
 mod margin;
 mod number;
@@ -12,6 +13,7 @@ mod table;
 mod verdict;
 
 pub use items::put_items;
+pub use json::put_json;
 pub use margin::put_margins;
 pub use signal::put_verdicts;
 pub use table::put_table;

@@ -29,3 +29,6 @@ pub mod MarginTruth
 pub mod RowsBefore
 pub mod MarginTexts
 pub mod OwedLaws
+pub mod OneRequest
+pub mod EndsOnce
+pub mod Passes

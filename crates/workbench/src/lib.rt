@@ -9,6 +9,7 @@ mod fault;
 pub mod laws;
 mod line;
 mod output;
+mod owing_laws;
 mod reading;
 mod request;
 mod robust;

@@ -25,14 +25,14 @@ fn first_line(piece: &[u8]) -> &[u8]
     }
 }
 
-/// The bytes of a piece to read next: of one line at most, where the header was not read yet. So it is seen before anything of a
+/// The bytes of a piece to read next: of one line at most, where nothing was begun by the header yet. So it is seen before anything of a
 /// later line.
-fn next_bytes<'a>(case: &Option<Case>, piece: &'a [u8]) -> &'a [u8]
-    ensures line { MatchOption case.now (result.now ≡ through_feed piece.now) (λ _. result.now ≡ piece.now) }
+fn next_bytes<'a, T>(begun: &Option<T>, piece: &'a [u8]) -> &'a [u8]
+    ensures line { MatchOption begun.now (result.now ≡ through_feed piece.now) (λ _. result.now ≡ piece.now) }
     ensures short { length result.now ≤ length piece.now }
     ensures some { 0 < length piece.now → 0 < length result.now }
 {
-    if case.is_some() {
+    if begun.is_some() {
         return piece;
     }
     first_line(piece)
