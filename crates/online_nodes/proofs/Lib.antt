@@ -1,8 +1,8 @@
 mod PlaceLemmas
 mod Writing
 mod GotLemmas
-mod RunLaw
-mod StayLaw
+pub mod RunLaw
+pub mod StayLaw
 mod FrameLaw
 mod HeldLaw
 mod WindowLaw
@@ -23,3 +23,10 @@ mod UntilTurns
 mod UntilPasses
 mod UntilCounts
 mod UntilGoes
+pub mod FrontsLaw
+mod NetworkExamples
+mod RisingLaw
+mod EmittedLaw
+mod MeetingLaw
+mod EdgeLaw
+mod StillLaw

@@ -29,6 +29,8 @@ pub mod FinerCheck
 pub mod Sequences
 pub mod StepLemmas
 pub mod TableTexts
+pub mod OneText
+pub mod StreamTexts
 pub mod PlainTexts
 pub mod JsonData
 pub mod JsonParts

@@ -11,6 +11,11 @@ ghost use Rattle.workbench.specs.Measured.{IsMeasured};
 ghost use Rattle.workbench.specs.Words.{AskCheck};
 ghost use Rattle.workbench.specs.Running.{IsEnd, IsRun};
 
+pub use crate::owing_laws::{
+    one_request_is_asked_for, one_text_is_owed, the_end_is_asked_for_once, what_is_owed_only_grows,
+    what_was_written_is_of_all_bytes,
+};
+
 /// 2 comes exactly where the words are of no form that is built.
 pub fn words_of_no_form_are_told()
     ensures words { (words : List (List ℕ)) (i : Drained) (o e : Filled) (status : ℕ) → IsRun words i o e status → status ≡ 2 → AreNone words }

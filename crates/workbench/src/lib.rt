@@ -4,10 +4,12 @@
 mod answer;
 mod case;
 mod entry;
+mod explain;
 mod fault;
 pub mod laws;
 mod line;
 mod output;
+mod owing_laws;
 mod reading;
 mod request;
 mod robust;

@@ -2,7 +2,7 @@
 ghost use Rattle.std.specs.Prelude.{◌≡◌, ℕ, List, ◌++◌, codes, decimal};
 ghost use Rattle.stl_syntax.specs.Texts.{newline};
 ghost use Rattle.workbench.specs.Cases.{IsFault, IsNamed};
-ghost use Rattle.workbench.specs.ErrTexts.{formula_fault_text, trace_fault_text, unknown_text, unit_fault_text, what_text, out_of_memory, wide_text};
+ghost use Rattle.workbench.specs.ErrTexts.{formula_fault_text, trace_fault_text, unknown_text, unit_fault_text, what_text, out_of_memory, wide_text, too_many_cells_text};
 ghost use Rattle.workbench.specs.InputFaults.{Fault as FirstFault, fault_text};
 ghost use Rattle.workbench.specs.Lines.{line_text};
 
@@ -143,6 +143,13 @@ pub(crate) fn wide_line(node: u32, den: u128) -> Line<'static>
         detail: Detail::Large(den),
         tail: b"\n",
     }
+}
+
+/// The line of an explanation with too many cells.
+pub(crate) fn too_many_cells_line(count: u64) -> Line<'static>
+    ensures { line_text result ≡ too_many_cells_text count }
+{
+    Line::numbered(b"too many cells: ", count, b"\n")
 }
 
 /// The name in a term of the formula.
