@@ -1,6 +1,7 @@
 -- The items of a report one by one, and what they are a first part of where memory is wanting.
 use Rattle.std.proofs.Common.{◌≡◌, ℕ, ◌≤◌, List, [], ◌∷◌, ◌++◌, length, drop, append-nil, append_assoc, refl, sym, ap, ◌∙◌, subst, arith, codes}
 use Rattle.std.proofs.lemmas.List.{drop_all}
+use Rattle.std.proofs.lemmas.List.Elements.{All-drop}
 use Rattle.std.specs.Prelude.{All, Some, slice_get}
 use Rattle.stl_syntax.specs.Formula.{Formula}
 use Rattle.stl_syntax.specs.Print.{IsAtomText}
@@ -21,7 +22,6 @@ use Rattle.report.proofs.ItemTexts.{items_exist}
 use Rattle.report.proofs.JsonData.{item_data, later_data}
 use Rattle.report.proofs.JsonParts.{item_parts_exist}
 use Rattle.report.proofs.Sequences.{each_join, each_one, each_grow}
-use Rattle.report.proofs.WritingItems.{atoms_from}
 
 -- ---- one item
 
@@ -54,7 +54,7 @@ module _ (scale : Scale) (f : Formula) where
   -- the items from any place on have texts
   pub later_exist : (items : List Item) (n : ℕ) → All (IsOfAtom f) items → growth.Some (AreLaterEntries scale f (drop n items))
   later_exist items n all =
-      let lines = items_exist scale f (drop n items) (atoms_from f items n all) in
+      let lines = items_exist scale f (drop n items) (All-drop (IsOfAtom f) n items all) in
       let text = entries_of_lines lines.1.lines lines.0 lines.1.written in
       (text.0, record { lines = lines.1.lines; joined = lines.1.joined; written = text.1 })
 

@@ -36,3 +36,4 @@ pub mod JsonData
 pub mod JsonParts
 pub mod JsonItems
 pub mod ReportTexts
+pub mod FaultLines
