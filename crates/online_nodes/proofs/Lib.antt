@@ -24,6 +24,10 @@ mod UntilPasses
 mod UntilCounts
 mod UntilGoes
 pub mod FrontsLaw
+mod SinceTurns
+mod SinceEnds
+mod SinceCounts
+mod SinceReads
 mod NetworkExamples
 mod RisingLaw
 mod EmittedLaw

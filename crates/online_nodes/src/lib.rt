@@ -8,6 +8,7 @@ mod edges;
 mod join;
 mod laws;
 mod negation;
+mod since;
 mod until;
 mod window;
 mod writer;
