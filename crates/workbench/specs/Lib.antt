@@ -6,7 +6,6 @@ pub mod Sessions
 pub mod Words
 pub mod Writing
 pub mod Answers
-pub mod Lines
 pub mod Reading
 pub mod Cases
 pub mod Saying
