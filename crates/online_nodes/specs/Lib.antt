@@ -9,3 +9,5 @@ pub mod Joins
 pub mod Negations
 pub mod Looking
 pub mod Untils
+pub mod Operators
+pub mod Belonging

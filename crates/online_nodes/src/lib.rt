@@ -6,8 +6,11 @@
 mod cut;
 mod edges;
 mod join;
+mod kind;
 mod laws;
 mod negation;
+mod operator;
+mod since;
 mod until;
 mod window;
 mod writer;
@@ -20,6 +23,7 @@ pub use laws::{
     since_remembers_what_it_knows, until_and_since_look, until_remembers_what_it_knows,
     windows_look,
 };
+pub use operator::Operator;
 pub use writer::Out;
 
 #[cfg(test)]
