@@ -2,6 +2,7 @@ mod PlaceLemmas
 mod Writing
 mod GotLemmas
 mod RunLaw
+mod LowLaw
 mod StayLaw
 mod FrameLaw
 mod HeldLaw

@@ -10,4 +10,5 @@ pub mod Negations
 pub mod Looking
 pub mod Untils
 pub mod Operators
+pub mod Kinds
 pub mod Belonging
