@@ -7,7 +7,7 @@ use Rattle.rational.proofs.Order.{le_trans, le_or_lt, not_lt_of_le, lt_of_lt_of_
 use Rattle.rational.proofs.TimeLemmas.{less_out, less_in}
 use Rattle.frac128.specs.Spans.{interval}
 use Rattle.frac128.specs.Value.{value}
-use Rattle.stl_syntax.specs.Held.{Meets, AreMeeting}
+use Rattle.online_nodes.specs.Needed.{Meets, AreMeeting}
 use Rattle.stl_syntax.specs.declared.items.Verdict.{Verdict}
 use Rattle.online_nodes.specs.Laws.{AreTiles, beyond}
 use Rattle.online_nodes.specs.Cuts.{Place, begins, ends, After, Upto, Before, Same}

@@ -24,3 +24,5 @@ mod UntilTurns
 mod UntilPasses
 mod UntilCounts
 mod UntilGoes
+mod FrontsLaw
+mod NetworkExamples

@@ -40,7 +40,7 @@ use Rattle.stl_syntax.specs.Formula.{Subformula, subformula, horizon}
 use Rattle.stl_syntax.specs.Truth.{Truth}
 use Rattle.stl_syntax.specs.Verdicts.{Describes, GoesOn, IsTold}
 use Rattle.stl_syntax.specs.PostOrder.{IsPostOrder}
-use Rattle.stl_syntax.specs.Network.{
+use Rattle.online_nodes.specs.Network.{
   Event,
   row,
   step,

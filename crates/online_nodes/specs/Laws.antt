@@ -1,14 +1,16 @@
 -- Laws of runs and of what stands on edges.
-use Rattle.std.specs.Prelude.{◌≡◌, ◌≢◌, ℕ, ◌<◌, false, List, [], ◌∷◌, ◌++◌, length, Some, ℤ, pos, ◌+ℤ◌, ◌-ℤ◌, ◌≤ℤ◌, if◌then◌else◌}
+use Rattle.std.specs.Prelude.{◌≡◌, ◌≢◌, ℕ, ◌<◌, Bool, false, List, [], ◌∷◌, ◌++◌, length, Some, ℤ, pos, ◌+ℤ◌, ◌-ℤ◌, ◌≤ℤ◌, if◌then◌else◌}
 use Rattle.rational.specs.Time.{Rational, ◌≤ʳ◌, left_open, less}
 use Rattle.frac128.specs.Value.{value}
 use Rattle.frac128.specs.Spans.{interval}
-use Rattle.stl_syntax.specs.Trace.{Header, Trace, IsTrace, Continues}
+use Rattle.stl_syntax.specs.Trace.{Header, Row, Trace, IsTrace, Continues, last_time}
 use Rattle.stl_syntax.specs.Formula.{Subformula, subformula, horizon, tree_of, HasChildrenBelow}
 use Rattle.stl_syntax.specs.PostOrder.{IsPostOrder}
 use Rattle.stl_syntax.specs.Verdicts.{IsTold}
-use Rattle.stl_syntax.specs.Network.{Event, step, take, close, State, last_row, open_number, state, IsRun, Emitted}
-use Rattle.stl_syntax.specs.Held.{AreMeeting}
+use Rattle.online_nodes.specs.Network.{Event, step, take, close, State, last_row, open_number, state, IsRun, Emitted}
+use Rattle.online_nodes.specs.Needed.{AreMeeting}
+use Rattle.online_nodes.specs.Driven.{IsDriven}
+use Rattle.online_nodes.specs.StreamedWide.{front_at}
 use Rattle.stl_syntax.specs.declared.items.Verdict.{Verdict}
 use Rattle.stl_syntax.specs.declared.node.Node.{Node}
 use Rattle.online_nodes.specs.Cuts.{Place, begins, ends, After, Upto, Before, Same}
@@ -78,3 +80,10 @@ OpenNumbersSettle =
     (at : ℕ → Subformula) (s : State) (last : ℤ) (i : ℕ) (n : Node) → last_row s ≡ Some last → HasChildrenBelow i n
     → ((j : ℕ) → j < i → s.fronts j ≡ Some (last -ℤ pos (horizon (at j))))
     → open_number n s ≡ Some (last -ℤ pos (horizon (tree_of at i n)))
+
+-- in the run that a stream drives, the front of each node is the last row's time less the horizon, and that time itself after the end
+abbrev pub FrontsAreTimes : Type 0
+FrontsAreTimes =
+    (nodes : List Node) (header : Header) (rows : List Row) (ended : Bool) (events : List Event) (i : ℕ)
+    → IsPostOrder nodes → IsDriven nodes header rows ended events → rows ≢ [] → i < length nodes
+    → (state nodes events).fronts i ≡ Some (front_at ended (pos (last_time 0 rows)) (subformula nodes i))

@@ -1,3 +1,9 @@
+pub mod Network
+pub mod Needed
+pub mod Driven
+pub mod StreamedWide
+pub mod MarginStream
+pub mod MarginEdges
 pub mod Cuts
 pub mod Reading
 pub mod Held

@@ -1,6 +1,6 @@
 //! Laws of places, of runs and of what stands on edges. Each is the contract of a call that does nothing, so that the gate
 //! proves it.
-ghost use Rattle.online_nodes.specs.Laws.{EmittedStays, HasTimesBetween, MeetingIsWhatIsLeft, NumbersStayWithinHorizons, OpenNumbersSettle, OthersGiveNothing};
+ghost use Rattle.online_nodes.specs.Laws.{EmittedStays, FrontsAreTimes, HasTimesBetween, MeetingIsWhatIsLeft, NumbersStayWithinHorizons, OpenNumbersSettle, OthersGiveNothing};
 ghost use Rattle.online_nodes.specs.Looking.{ConnectivesJoin, SinceRemembersWhatItKnows, UntilAndSinceLook, UntilRemembersWhatItKnows, WindowsLook};
 
 /// Between two places there is a time.
@@ -32,6 +32,12 @@ pub fn meeting_is_what_is_left()
 /// Where no node can move before the end, each node's number is the last row's time less its horizon, if so are its children's.
 pub fn open_numbers_settle()
     ensures { OpenNumbersSettle }
+{}
+
+/// In the run that a stream drives, where each row and the end is followed by a step of every node, the front of each node is
+/// the last row's time less the horizon, and after the end that time itself.
+pub fn fronts_are_times()
+    ensures { FrontsAreTimes }
 {}
 
 /// Negation and the connectives are at each time what their inputs' truths make of them.

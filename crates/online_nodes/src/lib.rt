@@ -18,7 +18,7 @@ mod writer;
 pub use cut::Cut;
 pub use edges::Edges;
 pub use laws::{
-    connectives_join, emitted_stays, has_times_between, meeting_is_what_is_left,
+    connectives_join, emitted_stays, fronts_are_times, has_times_between, meeting_is_what_is_left,
     numbers_stay_within_horizons, open_numbers_settle, others_give_nothing,
     since_remembers_what_it_knows, until_and_since_look, until_remembers_what_it_knows,
     windows_look,

@@ -2,7 +2,7 @@
 use Rattle.std.specs.Prelude.{◌≡◌, ◌⊎◌, ℕ, Bool, true, false, List, [], ◌∷◌, ◌++◌, codes}
 use Rattle.stl_syntax.specs.Formula.{Formula}
 use Rattle.stl_syntax.specs.Texts.{newline}
-use Rattle.stl_syntax.specs.StreamedWide.{IsFirstUnstreamed}
+use Rattle.online_nodes.specs.StreamedWide.{IsFirstUnstreamed}
 use Rattle.stl_grammar.specs.FormulaRefusals.{IsFormulaOf, IsFormulaFault}
 use Rattle.stl_grammar.specs.declared.fault.FormulaFault.{FormulaFault}
 use Rattle.report.specs.Report.{Command, check, robust, explain, json, table}

@@ -9,8 +9,8 @@ use Rattle.stl_syntax.specs.Truth.{Truth}
 use Rattle.stl_syntax.specs.Closeness.{AreClose}
 use Rattle.stl_syntax.specs.SupInf.{Setting, Robustness, margin_setting}
 use Rattle.stl_syntax.specs.WideCause.{IsCrossingCause, IsValueCause}
-use Rattle.stl_syntax.specs.StreamedWide.{IsStreamedCrossing, IsStreamedValue}
-use Rattle.stl_syntax.specs.MarginStream.{IsMarginStream}
+use Rattle.online_nodes.specs.StreamedWide.{IsStreamedCrossing, IsStreamedValue}
+use Rattle.online_nodes.specs.MarginStream.{IsMarginStream}
 use Rattle.stl_syntax.specs.declared.node.Node.{Node}
 use Rattle.trace_reader.specs.TraceText.{lines}
 use Rattle.report.specs.Report.{Command, check, robust, explain, json, table, Out, nodes_for}

@@ -3,7 +3,7 @@ use Rattle.std.specs.Prelude.{◌≡◌, ◌≢◌, ◌⊎◌, ℕ, suc, ◌-◌
 use Rattle.rational.specs.Time.{Rational, Interval, IsIn}
 use Rattle.stl_syntax.specs.Trace.{Header, first_time}
 use Rattle.frac128.specs.Spans.{interval}
-use Rattle.stl_syntax.specs.Network.{Event, take, Front, IsRun, shown, state, reach_back, needed, Emitted}
+use Rattle.online_nodes.specs.Network.{Event, take, Front, IsRun, shown, state, reach_back, needed, Emitted}
 use Rattle.stl_syntax.specs.declared.items.Verdict.{Verdict}
 use Rattle.stl_syntax.specs.declared.node.Node.{Node}
 use Rattle.stl_syntax.specs.declared.node.Node.TheVariants.{Not, And, Or, Implies, Until, Eventually, Always, Since, Once, Historically}

@@ -8,10 +8,10 @@ use Rattle.std.proofs.lemmas.Int.{ints}
 use Rattle.stl_syntax.specs.Trace.{Header, Row, last_time}
 use Rattle.stl_syntax.specs.Formula.{Subformula, subformula, horizon, tree_of, HasChildrenBelow}
 use Rattle.stl_syntax.specs.PostOrder.{IsPostOrder, children}
-use Rattle.stl_syntax.specs.Network.{Event, row, step, close, Front, least, moved_by, State, last_row, open_number, same_front, all_at_end, allowed, allowed_at, is_atom, node_is_atom, initial, after_event, state_from, state}
-use Rattle.stl_syntax.specs.Driven.{steps_of, takes, pass_of, IsDriven, nothing, by_row, by_end}
-use Rattle.stl_syntax.specs.StreamedWide.{front_at}
-use Rattle.stl_syntax.specs.Laws.{FrontsAreTimes}
+use Rattle.online_nodes.specs.Network.{Event, row, step, close, Front, least, moved_by, State, last_row, open_number, same_front, all_at_end, allowed, allowed_at, is_atom, node_is_atom, initial, after_event, state_from, state}
+use Rattle.online_nodes.specs.Driven.{steps_of, takes, pass_of, IsDriven, nothing, by_row, by_end}
+use Rattle.online_nodes.specs.StreamedWide.{front_at}
+use Rattle.online_nodes.specs.Laws.{FrontsAreTimes}
 use Rattle.stl_syntax.proofs.FormulaLemmas.{subformula-at}
 use Rattle.stl_syntax.proofs.PostOrderLemmas.{placed, children_below, slice_get_at}
 use Rattle.stl_syntax.specs.declared.node.Node.{Node}

@@ -2,8 +2,8 @@
 -- takes until nothing is left.
 use Rattle.std.specs.Prelude.{◌≡◌, ◌≢◌, ℕ, zero, suc, ◌-◌, Bool, true, false, if◌then◌else◌, List, [], ◌∷◌, ◌++◌, length}
 use Rattle.stl_syntax.specs.Trace.{Header, Row}
-use Rattle.stl_syntax.specs.Network.{Event, row, step, close, take, is_atom, Emitted}
-use Rattle.stl_syntax.specs.Held.{IsTaken}
+use Rattle.online_nodes.specs.Network.{Event, row, step, close, take, is_atom, Emitted}
+use Rattle.online_nodes.specs.Needed.{IsTaken}
 use Rattle.stl_syntax.specs.declared.items.Verdict.{Verdict}
 use Rattle.stl_syntax.specs.declared.node.Node.{Node}
 

@@ -6,10 +6,10 @@ use Rattle.stl_syntax.specs.Trace.{Header, Row, Trace, start, first_time, last_t
 use Rattle.stl_syntax.specs.Formula.{Subformula, subformula}
 use Rattle.stl_syntax.specs.Knots.{Knot, Piece, Knots}
 use Rattle.stl_syntax.specs.Verdicts.{TellsClosed}
-use Rattle.stl_syntax.specs.MarginStream.{TellsLeftOpen}
-use Rattle.stl_syntax.specs.StreamedWide.{front_at}
-use Rattle.stl_syntax.specs.Network.{reach_back, needed}
-use Rattle.stl_syntax.specs.Held.{IsReader}
+use Rattle.online_nodes.specs.MarginStream.{TellsLeftOpen}
+use Rattle.online_nodes.specs.StreamedWide.{front_at}
+use Rattle.online_nodes.specs.Network.{reach_back, needed}
+use Rattle.online_nodes.specs.Needed.{IsReader}
 use Rattle.stl_syntax.specs.Texts.{IsKnotLine, IsPieceLine}
 use Rattle.stl_syntax.specs.declared.scale.Scale.{Scale}
 use Rattle.stl_syntax.specs.declared.node.Node.{Node}
