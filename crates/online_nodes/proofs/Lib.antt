@@ -3,6 +3,7 @@ mod Writing
 mod GotLemmas
 mod RunLaw
 mod LowLaw
+mod BelongLemmas
 mod StayLaw
 mod FrameLaw
 mod HeldLaw

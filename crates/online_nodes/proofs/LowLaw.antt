@@ -32,7 +32,7 @@ use Rattle.stl_syntax.specs.Formula.{Subformula, subformula, horizon, tree_of, H
 use Rattle.stl_syntax.specs.PostOrder.{IsPostOrder, children}
 use Rattle.stl_syntax.proofs.FormulaLemmas.{subformula-at}
 use Rattle.stl_syntax.proofs.PostOrderLemmas.{placed, slice_get_at}
-use Rattle.stl_syntax.specs.Network.{
+use Rattle.online_nodes.specs.Network.{
   Event,
   row,
   step,

@@ -5,6 +5,9 @@ use Rattle.std.specs.Prelude.{
   ℕ,
   ◌+◌,
   ◌*◌,
+  ◌-◌,
+  ◌^◌,
+  min,
   ◌≤◌,
   Bool,
   true,
@@ -30,7 +33,7 @@ use Rattle.rational.specs.Rational.{whole}
 use Rattle.stl_syntax.specs.Trace.{Header, Trace, first_time}
 use Rattle.stl_syntax.specs.WellFormed.{AreWellFormed, HasOneRoot}
 use Rattle.stl_syntax.specs.PostOrder.{children}
-use Rattle.stl_syntax.specs.Network.{
+use Rattle.online_nodes.specs.Network.{
   Event,
   State,
   step,
@@ -44,12 +47,13 @@ use Rattle.stl_syntax.specs.Network.{
   IsRun,
   EmittedAt,
 }
-use Rattle.stl_syntax.specs.Held.{IsEdge, IsReader}
+use Rattle.online_nodes.specs.Needed.{IsEdge, IsReader}
 use Rattle.stl_syntax.specs.declared.items.Verdict.{Verdict}
 use Rattle.stl_syntax.specs.declared.node.Node.{Node}
 use Rattle.stl_syntax.specs.declared.node.Node.TheVariants.{Const}
 use Rattle.online_nodes.specs.Cuts.{Place, place}
 use Rattle.online_nodes.specs.Held.{Held, edge_at, fresh_at, held_at, number_at}
+use Rattle.online_nodes.specs.Kinds.{held_in}
 use Rattle.online_nodes.specs.Operators.{kind_of, KnowsBy}
 use Rattle.online_nodes.specs.declared.operator.Operator.{Operator}
 
@@ -88,18 +92,13 @@ pub record Belongs (nodes : List Node) (header : Header) (events : List Event) (
 abbrev pub is_ready : List Node → State → ℕ → Bool
 is_ready nodes s i = not (node_is_atom nodes i) && not (same_front (allowed_at nodes s i) (s.fronts i))
 
--- how many verdicts these edges hold
-abbrev pub held_by : Held → List ℕ → ℕ
-held_by e [] = 0
-held_by e (j ∷ js) = length (held_at e j) + held_by e js
-
 -- how many verdicts the inputs of node i hold
 abbrev pub held_by_inputs : List Node → ℕ → Held → ℕ
-held_by_inputs nodes i e = held_by e (children (slice_index_or nodes i (Const false)))
+held_by_inputs nodes i e = held_in e (children (slice_index_or nodes i (Const false)))
 
--- room for the verdicts of a step of node i: none where it is not ready
+-- room for the verdicts of a step of node i, as far as it can be counted: none where it is not ready
 abbrev pub room_of_step : List Node → List Event → ℕ → Held → ℕ
-room_of_step nodes events i e = if is_ready nodes (state nodes events) i then 2 * held_by_inputs nodes i e + 2 else 0
+room_of_step nodes events i e = if is_ready nodes (state nodes events) i then min (2 * held_by_inputs nodes i e + 2) (2 ^ 64 - 1) else 0
 
 -- what a step of node i leaves: its edge got the verdicts of the newly answered stretch, its number is its allowed one, each of its
 -- inputs' edges holds what may still be needed, and nothing else changed

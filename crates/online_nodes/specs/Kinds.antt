@@ -21,7 +21,7 @@ use Rattle.std.specs.Prelude.{
   None,
   IfSome,
 }
-use Rattle.stl_syntax.specs.Network.{least, moved_by, same_front}
+use Rattle.online_nodes.specs.Network.{least, moved_by, same_front}
 use Rattle.online_nodes.specs.Held.{Held, held_at, number_at}
 use Rattle.online_nodes.specs.declared.kind.Kind.{Kind}
 use Rattle.online_nodes.specs.declared.kind.Kind.TheVariants.{Const, Not, Join, Ahead, Behind, Until, Since}

@@ -1,7 +1,7 @@
 //! What an operator does, by its node.
 
 ghost use Rattle.std.specs.Prelude.{◌≡◌, ◌≤ℤ◌, ◌+◌, ◌*◌, ◌<◌, ◌^◌, ◌-◌, min, length, negsuc, pos, IfSome, Some};
-ghost use Rattle.stl_syntax.specs.Network.{least, moved_by, same_front};
+ghost use Rattle.online_nodes.specs.Network.{least, moved_by, same_front};
 ghost use Rattle.online_nodes.specs.Held.{Held, held_at, number_at};
 ghost use Rattle.online_nodes.specs.Operators.{ahead, behind, kind_of};
 ghost use Rattle.online_nodes.specs.Kinds.{allowed_by, all_stand_at, held_in, open_by, inputs_of, AreInputs, AreNear};
@@ -151,14 +151,22 @@ pub(crate) fn moved(f: Option<i64>, by: i64) -> Option<i64>
     Some(f + by)
 }
 
+/// Whether both are nothing, or one number.
+pub(crate) fn is_same(f: Option<i64>, g: Option<i64>) -> bool
+    ensures { result ≡ same_front f g }
+{
+    match (f, g) {
+        (Some(f), Some(g)) => f == g,
+        (None, None) => true,
+        _ => false,
+    }
+}
+
 /// Whether a number is the last row's time.
 fn stands_at(f: Option<i64>, now: u32) -> bool
     ensures { result ≡ same_front f (Some (pos now)) }
 {
-    match f {
-        Some(f) => f == i64::from(now),
-        None => false,
-    }
+    is_same(f, Some(i64::from(now)))
 }
 
 impl Kind {

@@ -2,13 +2,13 @@
 
 ghost use Rattle.std.specs.Prelude.{◌≡◌, ◌*◌, ◌+◌, ◌<◌, ◌≤◌, ◌↔◌, ◌++◌, ◌∷◌, [], List, ℕ, IfOk, IsTrue, OnErr, length, None, true, false};
 ghost use Rattle.stl_syntax.specs.Trace.{Header};
-ghost use Rattle.stl_syntax.specs.Network.{Event, step, state, node_is_atom, IsReady};
+ghost use Rattle.online_nodes.specs.Network.{Event, step, state, node_is_atom, IsReady};
 ghost use Rattle.stl_syntax.specs.declared.node.Node.{Node as ANode};
 ghost use Rattle.online_nodes.specs.Held.{Held, edge_at};
 
 use crate::cut::Cut;
 use crate::edges::Edges;
-use crate::kind::{Kind, kind_of_node};
+use crate::kind::{Kind, is_same, kind_of_node};
 use frac128::Memory;
 use stl_syntax::Formula;
 
@@ -26,7 +26,7 @@ pub struct Operator {
 }
 
 impl Operator {
-    ghost use Rattle.online_nodes.specs.Belonging.{Belongs, BelongsSomewhere, HasStepped, StandsForSteps, held_by_inputs, room_of_step};
+    ghost use Rattle.online_nodes.specs.Belonging.{Belongs, BelongsSomewhere, HasStepped, StandsForSteps, held_by_inputs, is_ready, room_of_step};
 
     /// The operator of a node of the formula that is no atom. It takes no memory, and stands for no step.
     pub fn new(formula: &Formula, node: u32) -> Operator
@@ -56,10 +56,13 @@ impl Operator {
     /// Whether a step would change the node's number. It takes no memory.
     pub fn ready(&self, edges: &Edges, now: u32, ended: bool) -> bool
         requires { BelongsSomewhere self.now edges.now now ended }
-        ensures { (nodes : List ANode) (header : Header) (events : List Event) → Belongs nodes header events self.now edges.now now ended
+        ensures is { (nodes : List ANode) (header : Header) (events : List Event) → Belongs nodes header events self.now edges.now now ended
+            → result ≡ is_ready nodes (state nodes events) self.now.node }
+        ensures ready { (nodes : List ANode) (header : Header) (events : List Event) → Belongs nodes header events self.now edges.now now ended
             → IsTrue result ↔ IsReady nodes (state nodes events) self.now.node }
     {
-        false
+        let allowed = self.kind.allowed(edges, now, ended);
+        !is_same(allowed, edges.number(self.node))
     }
 
     /// Room for the verdicts of a step: at most twice what the inputs' edges hold, plus 2, and none where the node is not ready.
@@ -70,6 +73,9 @@ impl Operator {
         ensures most { (nodes : List ANode) (header : Header) (events : List Event) → Belongs nodes header events self.now edges.now now ended
             → result ≤ 2 * held_by_inputs nodes self.now.node edges.now + 2 }
     {
+        if self.ready(edges, now, ended) {
+            return self.kind.room(edges);
+        }
         0
     }
 
