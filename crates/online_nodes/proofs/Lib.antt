@@ -25,5 +25,14 @@ mod UntilTurns
 mod UntilPasses
 mod UntilCounts
 mod UntilGoes
+mod SinceTurns
+mod SinceEnds
+mod SinceCounts
+mod SinceReads
 mod FrontsLaw
 mod NetworkExamples
+mod RisingLaw
+mod EmittedLaw
+mod MeetingLaw
+mod EdgeLaw
+mod StillLaw

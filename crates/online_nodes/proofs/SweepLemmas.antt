@@ -1,5 +1,6 @@
 -- A window swept verdict by verdict.
 use Rattle.std.proofs.Common.{
+  slice_get,
   ◌≡◌,
   ◌≢◌,
   ℕ,
@@ -25,7 +26,8 @@ use Rattle.std.proofs.lemmas.List.{append-nil}
 use Rattle.stl_syntax.specs.Trace.{Trace}
 use Rattle.stl_syntax.specs.Formula.{Subformula}
 use Rattle.stl_syntax.specs.declared.items.Verdict.{Verdict}
-use Rattle.online_nodes.specs.Cuts.{Place, place, Upto, AtMost}
+use Rattle.frac128.specs.Spans.{interval}
+use Rattle.online_nodes.specs.Cuts.{Place, place, begins, moved_begin, Before, Upto, AtMost}
 use Rattle.online_nodes.specs.Held.{Held, fresh_at}
 use Rattle.online_nodes.specs.Sweeps.{HasEnded, HasRead, HasStopped, HasSwept, IsSwept, IsWindowOf}
 use Rattle.online_nodes.specs.Working.{HasWorked}
@@ -100,6 +102,8 @@ gone_to_end {old} {now} {same} {new} {w} {s} {here} {end} own apart gone stopped
       more = gone.more ++ ended.more;
       few = omega (arith, gone.few, ended.few, length-append gone.more ended.more);
       worked = worked_both gone.worked (worked_put own_now apart apart got);
+      beyond = λ v first. subst (λ (q : Cut). Before (place q) (moved_begin w.begin_by w.begin_in (begins (interval v.on)))) gone.end
+          (stopped.beyond v (ap (λ f. slice_get f 0) (sym kept) ∙ first));
       edge = ended.edge ∙ gone.edge;
       to = ended.to ∙ gone.end;
       sound = ended.sound;

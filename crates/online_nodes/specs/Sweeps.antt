@@ -1,14 +1,15 @@
 -- How a window is swept over its input, one verdict at a time.
-use Rattle.std.specs.Prelude.{◌≡◌, suc, ◌+◌, ◌*◌, ◌≤◌, Bool, true, false, not, neg_ℤ, List, ◌++◌, drop, length}
+use Rattle.std.specs.Prelude.{◌≡◌, Some, slice_get, suc, ◌+◌, ◌*◌, ◌≤◌, Bool, true, false, not, neg_ℤ, List, ◌++◌, drop, length}
 use Rattle.std.specs.Int.{w64}
 use Rattle.rational.specs.Rational.{Rational, FitsFloor, add, whole}
 use Rattle.frac128.specs.Value.{value}
+use Rattle.frac128.specs.Spans.{interval}
 use Rattle.rational.specs.Time.{Within}
 use Rattle.stl_syntax.specs.Trace.{Trace, start, stop as last}
 use Rattle.stl_syntax.specs.Formula.{Subformula}
 use Rattle.stl_syntax.specs.Truth.{Truth}
 use Rattle.stl_syntax.specs.declared.items.Verdict.{Verdict}
-use Rattle.online_nodes.specs.Cuts.{Place, place, After, Upto, AtMost, Before}
+use Rattle.online_nodes.specs.Cuts.{Place, place, begins, moved_begin, After, Upto, AtMost, Before}
 use Rattle.online_nodes.specs.Held.{Held, fresh_at}
 use Rattle.online_nodes.specs.Reading.{Truths, Is, Tells, Looks, Knows}
 use Rattle.online_nodes.specs.Written.{HasTold, HasGot, IsSound}
@@ -49,9 +50,14 @@ pub record IsSwept (n p : Subformula) (tr : Trace) (w : Window) (begin : Place) 
 abbrev pub Settles : Subformula → Trace → Window → Sweep → Type 0
 Settles n tr w s = (t : Rational) → After (place s.out.at) t → After (place s.reach) t → Upto (place s.out.to) t → Is (not w.seeks) (Truth n tr) t
 
+-- what is not read yet counts only beyond the stretch
+abbrev pub CountsBeyond : Held → Window → Place → Type 0
+CountsBeyond e w to = (v : Verdict) → slice_get (fresh_at e w.of) 0 ≡ Some v → Before to (moved_begin w.begin_by w.begin_in (begins (interval v.on)))
+
 -- nothing changed, and no verdict that was not read counts in the stretch
 pub record HasStopped (old new : Held) (w : Window) (s : Sweep) : Type 0 where
   pub same : new ≡ old
+  pub beyond : CountsBeyond old w (place s.out.to)
   pub settles : (n p : Subformula) (tr : Trace) (begin : Place) (written : List Verdict) (read stop : Place)
       → IsWindowOf n p tr w (place s.out.to) stop → IsSwept n p tr w begin written s read stop (fresh_at old w.of) → Settles n tr w s
 
@@ -89,6 +95,7 @@ pub record HasSwept (old new : Held) (w : Window) (s end : Sweep) : Type 0 where
   pub more : List Verdict
   pub few : length more ≤ 2 * length (fresh_at old w.of) + 2
   pub worked : HasWorked old new s.out.edge w.of w.of more
+  pub beyond : CountsBeyond new w (place s.out.to)
   pub edge : end.out.edge ≡ s.out.edge
   pub to : end.out.to ≡ s.out.to
   pub sound : IsSound end.out

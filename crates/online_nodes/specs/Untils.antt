@@ -1,4 +1,4 @@
--- How until goes through its two inputs. Both are read up to one place: where the verdict ends that was passed last.
+-- How until goes through its two inputs. Both are known up to one place: where the verdict ends that was passed last.
 use Rattle.std.specs.Prelude.{◌≡◌, ◌+◌, ◌*◌, ◌≤◌, ◌<◌, true, List, ◌++◌, ◌⊎◌, length, Some, slice_get}
 use Rattle.rational.specs.Rational.{Rational}
 use Rattle.frac128.specs.Spans.{interval}
@@ -50,7 +50,8 @@ pub record IsTurned (x : Stretch) (u : Until) (written : List Verdict) (s : Swee
   pub left_tells : Tells (Truth x.p x.tr) r.left fresh_left x.stop_left
   pub right_tells : Tells (Counted true x.q x.tr) r.right fresh_right x.stop_right
   pub left_behind : AtMost r.left r.read
-  pub right_behind : AtMost r.right r.read
+  -- of the right input more may be gone, which no window to come meets
+  pub right_behind : (t v : Rational) → After (place s.out.at) t → After (low_place u.window t) v → Upto r.right v → Upto r.read v
   -- it was read no further than to where the one or the other begins
   pub tight : (t : Rational) → After r.left t → After r.right t → After r.read t
   -- the left input's next verdict goes on from there
