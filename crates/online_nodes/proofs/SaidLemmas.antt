@@ -3,6 +3,7 @@ use Rattle.std.proofs.Common.{
   ◌≡◌,
   ◌≢◌,
   ℕ,
+  ◌+◌,
   ◌<◌,
   ◌≤◌,
   Bool,
@@ -32,7 +33,7 @@ use Rattle.stl_syntax.specs.declared.items.Verdict.{Verdict}
 use Rattle.online_nodes.specs.Cuts.{Place, place, AtMost, Upto}
 use Rattle.online_nodes.specs.Held.{Held, fresh_at}
 use Rattle.online_nodes.specs.Reading.{AllAre}
-use Rattle.online_nodes.specs.Written.{HasAnswer, HasGot, HasSaidBoth, HasTold, IsSound, Reaches}
+use Rattle.online_nodes.specs.Written.{HasAnswer, HasGot, HasSaidBoth, HasTold, IsSound, Reaches, waiting}
 use Rattle.online_nodes.specs.Working.{HasPassed, HasWorked}
 use Rattle.online_nodes.specs.declared.cut.Cut.{Cut}
 use Rattle.online_nodes.specs.declared.writer.Out.{Out}
@@ -44,6 +45,7 @@ use Rattle.online_nodes.proofs.WorkLemmas.{passed-here, first_and_rest, worked_p
 pub record HasAnswers (old new : Held) (before : Out) (first : Bool) (middle : Cut) (second : Bool) (after : Out) : Type 0 where
   pub more : List Verdict
   pub few : length more ≤ 2
+  pub owed : length more + waiting after.holds ≤ 2 + waiting before.holds
   pub got : HasGot old new before.edge more
   pub edge : after.edge ≡ before.edge
   pub end : after.to ≡ before.to
@@ -59,6 +61,7 @@ answered_twice {old} {mid} {new} {before} {middle} {after} {first} {second} with
     record {
       more = one.more ++ two.more;
       few = omega (arith, one.few, two.few, length-append one.more two.more);
+      owed = omega (arith, one.owed, two.owed, length-append one.more two.more);
       got = got_both within one.got (subst (λ i. HasGot mid new i two.more) one.edge two.got);
       edge = two.edge ∙ one.edge;
       end = two.end ∙ one.end;
@@ -79,6 +82,7 @@ said_both {old} {mid} {new} {before} {middle} {after} {holds} {one} {two} within
     record {
       more = both.more;
       few = both.few;
+      owed = both.owed;
       got = both.got;
       edge = both.edge;
       end = both.end;

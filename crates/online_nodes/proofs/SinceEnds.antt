@@ -37,7 +37,7 @@ use Rattle.stl_syntax.specs.declared.items.Verdict.{Verdict}
 use Rattle.online_nodes.specs.Cuts.{Place, place, begins, ends, moved_begin, moved_end, After, Upto, AtMost, Before, Same}
 use Rattle.online_nodes.specs.Held.{Held, fresh_at}
 use Rattle.online_nodes.specs.Reading.{AllAre, Tells, KnowsSince}
-use Rattle.online_nodes.specs.Written.{HasSaidBoth, HasGot, IsSound}
+use Rattle.online_nodes.specs.Written.{HasSaidBoth, HasGot, IsSound, waiting}
 use Rattle.online_nodes.specs.Working.{HasPassed, HasWorked}
 use Rattle.online_nodes.specs.Sweeps.{Counted, low_place, high_place}
 use Rattle.online_nodes.specs.Untils.{Reads}
@@ -159,6 +159,7 @@ rest_done {old} {new} {s} {c} {end} at g left is =
     record {
       more = g.said.more;
       few = omega (arith, g.said.few);
+      owed = omega (arith, g.said.owed);
       worked = worked_put at.own at.left_apart at.right_apart g.said.got;
       fewer = omega (arith, ap length left_now, ap length right_now);
       edge = g.said.edge;
@@ -232,6 +233,7 @@ module _ {old new : Held} {s : Since} {c : Course} {out : Out} {held to : Cut} {
       record {
         more = said.more;
         few = omega (arith, said.few);
+        owed = omega (arith, said.owed, ap (λ o. waiting o.holds) is);
         worked = worked_put at.own at.left_apart at.right_apart said.got;
         fewer = omega (arith, ap length kept_left, ap length kept_right);
         edge = ap (λ o. o.edge) is ∙ said.edge;

@@ -36,7 +36,7 @@ use Rattle.stl_syntax.specs.declared.items.Verdict.{Verdict}
 use Rattle.online_nodes.specs.Cuts.{Place, place, begins, ends, moved_begin, After, Upto, AtMost, Before, Same}
 use Rattle.online_nodes.specs.Held.{Held, fresh_at}
 use Rattle.online_nodes.specs.Reading.{AllAre}
-use Rattle.online_nodes.specs.Written.{IsSound}
+use Rattle.online_nodes.specs.Written.{IsSound, waiting}
 use Rattle.online_nodes.specs.Working.{HasPassed, HasWorked}
 use Rattle.online_nodes.specs.Sweeps.{Counted}
 use Rattle.online_nodes.specs.Untils.{Reads}
@@ -209,6 +209,8 @@ pub record HasCome (old now : Held) (s : Since) (c here : Course) : Type 0 where
   pub more : List Verdict
   pub few : length more + 2 * (length (fresh_at now s.window.of) + length (fresh_at now s.right))
       ≤ 2 * (length (fresh_at old s.window.of) + length (fresh_at old s.right))
+  pub owed : length more + waiting here.out.holds + 2 * (length (fresh_at now s.window.of) + length (fresh_at now s.right))
+      ≤ 2 * (length (fresh_at old s.window.of) + length (fresh_at old s.right)) + waiting c.out.holds
   pub worked : HasWorked old now c.out.edge s.window.of s.right more
   pub edge : here.out.edge ≡ c.out.edge
   pub end : here.out.to ≡ c.out.to
@@ -225,6 +227,7 @@ come_none e s c sound inside fits =
     record {
       more = [];
       few = omega arith;
+      owed = omega arith;
       worked = worked_none e c.out.edge s.window.of s.right;
       edge = refl;
       end = refl;
@@ -241,6 +244,7 @@ come_one {old} {now} {new} {s} {c} {here} {next} come one =
     record {
       more = come.more ++ one.more;
       few = omega (arith, come.few, one.few, one.fewer, length-append come.more one.more);
+      owed = omega (arith, come.owed, one.owed, one.fewer, length-append come.more one.more);
       worked = worked_both come.worked (subst (λ i. HasWorked now new i s.window.of s.right one.more) come.edge one.worked);
       edge = one.edge ∙ come.edge;
       end = one.end ∙ come.end;
@@ -262,6 +266,7 @@ come_done {old} {now} {new} {s} {c} {here} {end} come one =
     record {
       more = come.more ++ one.more;
       few = omega (arith, come.few, one.few, one.fewer, length-append come.more one.more);
+      owed = omega (arith, come.owed, one.owed, one.fewer, length-append come.more one.more);
       worked = worked_both come.worked (subst (λ i. HasWorked now new i s.window.of s.right one.more) come.edge one.worked);
       edge = one.edge ∙ come.edge;
       to = one.to ∙ come.end;

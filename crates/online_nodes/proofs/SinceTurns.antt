@@ -241,6 +241,7 @@ run_over {old} {mid} {new} {s} {c} {out} {held} {cut} {v} {y} at first failing s
     record {
       more = said.more;
       few = said.few;
+      owed = said.owed;
       worked = all_worked at said passed;
       fewer = one_read at said passed;
       edge = said.edge;
@@ -310,6 +311,7 @@ left_over {old} {new} {s} {c} {next} {v} at first holding fits why g =
     record {
       more = g.said.more;
       few = g.said.few;
+      owed = g.said.owed;
       worked = all_worked at g.said g.passed;
       fewer = one_read at g.said g.passed;
       edge = g.said.edge;
@@ -409,6 +411,7 @@ module _ {old new : Held} {s : Since} {c : Course} {w : Verdict} (at : IsWorking
       record {
         more = [];
         few = omega arith;
+        owed = omega arith;
         worked = worked_pass passed (λ same. at.right_apart (sym same)) (inr refl);
         fewer = omega (arith, ap length left_stays, passed-one passed);
         edge = refl;

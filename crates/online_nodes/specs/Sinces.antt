@@ -12,7 +12,7 @@ use Rattle.stl_syntax.specs.declared.items.Verdict.{Verdict}
 use Rattle.online_nodes.specs.Cuts.{Place, place, begins, ends, moved_begin, moved_end, After, Upto, AtMost, Before, Same}
 use Rattle.online_nodes.specs.Held.{Held, fresh_at}
 use Rattle.online_nodes.specs.Reading.{Tells, IsSinceOf, KnowsSince}
-use Rattle.online_nodes.specs.Written.{HasTold, HasSaidBoth, IsSound}
+use Rattle.online_nodes.specs.Written.{HasTold, HasSaidBoth, IsSound, waiting}
 use Rattle.online_nodes.specs.Working.{HasPassed, HasWorked}
 use Rattle.online_nodes.specs.Sweeps.{Counted, low_place, high_place}
 use Rattle.online_nodes.specs.Untils.{Reads}
@@ -89,6 +89,7 @@ pub record IsStaying (x : Stay) (s : Since) (written : List Verdict) (c : Course
 pub record HasMoved (old new : Held) (s : Since) (c next : Course) : Type 0 where
   pub more : List Verdict
   pub few : length more ≤ 2
+  pub owed : length more + waiting next.out.holds ≤ 2 + waiting c.out.holds
   pub worked : HasWorked old new c.out.edge s.window.of s.right more
   pub fewer : length (fresh_at new s.window.of) + length (fresh_at new s.right)
       < length (fresh_at old s.window.of) + length (fresh_at old s.right)
@@ -105,6 +106,8 @@ pub record HasMoved (old new : Held) (s : Since) (c next : Course) : Type 0 wher
 pub record HasDone (old new : Held) (s : Since) (c end : Course) : Type 0 where
   pub more : List Verdict
   pub few : length more ≤ 2 + length (fresh_at new s.window.of) + length (fresh_at new s.right)
+  pub owed : length more + waiting end.out.holds
+      ≤ 2 + length (fresh_at new s.window.of) + length (fresh_at new s.right) + waiting c.out.holds
   pub worked : HasWorked old new c.out.edge s.window.of s.right more
   pub fewer : length (fresh_at new s.window.of) + length (fresh_at new s.right)
       ≤ length (fresh_at old s.window.of) + length (fresh_at old s.right)
@@ -128,6 +131,8 @@ IsTurn old new s c (Done end) = HasDone old new s c end
 pub record HasSinceTold (old new : Held) (s : Since) (c end : Course) : Type 0 where
   pub more : List Verdict
   pub few : length more ≤ 2 * (length (fresh_at old s.window.of) + length (fresh_at old s.right)) + 2
+  pub owed : length more + waiting end.out.holds
+      ≤ 2 * (length (fresh_at old s.window.of) + length (fresh_at old s.right)) + 2 + waiting c.out.holds
   pub worked : HasWorked old new c.out.edge s.window.of s.right more
   pub edge : end.out.edge ≡ c.out.edge
   pub to : end.out.to ≡ c.out.to

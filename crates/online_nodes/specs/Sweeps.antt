@@ -12,7 +12,7 @@ use Rattle.stl_syntax.specs.declared.items.Verdict.{Verdict}
 use Rattle.online_nodes.specs.Cuts.{Place, place, begins, moved_begin, After, Upto, AtMost, Before}
 use Rattle.online_nodes.specs.Held.{Held, fresh_at}
 use Rattle.online_nodes.specs.Reading.{Truths, Is, Tells, Looks, Knows}
-use Rattle.online_nodes.specs.Written.{HasTold, HasGot, IsSound}
+use Rattle.online_nodes.specs.Written.{HasTold, HasGot, IsSound, waiting}
 use Rattle.online_nodes.specs.Working.{HasWorked}
 use Rattle.online_nodes.specs.declared.window.Window.{Window}
 use Rattle.online_nodes.specs.declared.window.Sweep.{Sweep}
@@ -65,6 +65,7 @@ pub record HasStopped (old new : Held) (w : Window) (s : Sweep) : Type 0 where
 pub record HasRead (old new : Held) (w : Window) (s next : Sweep) : Type 0 where
   pub more : List Verdict
   pub few : length more ≤ 2
+  pub owed : length more + waiting next.out.holds ≤ 2 + waiting s.out.holds
   pub worked : HasWorked old new s.out.edge w.of w.of more
   pub one : length (fresh_at old w.of) ≡ suc (length (fresh_at new w.of))
   pub fresh : fresh_at new w.of ≡ drop 1 (fresh_at old w.of)
@@ -80,6 +81,7 @@ pub record HasRead (old new : Held) (w : Window) (s next : Sweep) : Type 0 where
 pub record HasEnded (old new : Held) (w : Window) (s end : Sweep) : Type 0 where
   pub more : List Verdict
   pub few : length more ≤ 2
+  pub owed : length more + waiting end.out.holds ≤ 2 + waiting s.out.holds
   pub got : HasGot old new s.out.edge more
   pub edge : end.out.edge ≡ s.out.edge
   pub to : end.out.to ≡ s.out.to
@@ -94,6 +96,7 @@ pub record HasEnded (old new : Held) (w : Window) (s end : Sweep) : Type 0 where
 pub record HasSwept (old new : Held) (w : Window) (s end : Sweep) : Type 0 where
   pub more : List Verdict
   pub few : length more ≤ 2 * length (fresh_at old w.of) + 2
+  pub owed : length more + waiting end.out.holds ≤ 2 * length (fresh_at old w.of) + 2 + waiting s.out.holds
   pub worked : HasWorked old new s.out.edge w.of w.of more
   pub beyond : CountsBeyond new w (place s.out.to)
   pub edge : end.out.edge ≡ s.out.edge

@@ -38,6 +38,11 @@ Lead n tr c before (v ∷ vs) d last =
     × AllAre v.holds (Truth n tr) (begins (interval v.on)) (ends (interval v.on))
     × Lead n tr (ends (interval v.on)) (Some v.holds) vs d last
 
+-- how many spans wait to be put
+abbrev pub waiting : Option Bool → ℕ
+waiting None = 0
+waiting (Some h) = 1
+
 -- the span that is not written yet
 abbrev pub IsPending : Subformula → Trace → Out → Option Bool → Type 0
 IsPending n tr out last =
@@ -73,6 +78,7 @@ pub record IsPutBack (old new : Held) (out : Out) (holds : Bool) : Type 0 where
 pub record HasAnswer (old new : Held) (before : Out) (holds : Bool) (after : Out) : Type 0 where
   pub more : List Verdict
   pub few : length more ≤ 1
+  pub owed : length more + waiting after.holds ≤ 1 + waiting before.holds
   pub got : HasGot old new before.edge more
   pub edge : after.edge ≡ before.edge
   pub end : after.to ≡ before.to
@@ -97,6 +103,7 @@ pub record Reaches (before : Out) (cut : Cut) (after : Out) : Type 0 where
 pub record HasSaidBoth (old new : Held) (before : Out) (holds : Bool) (middle cut : Cut) (after : Out) : Type 0 where
   pub more : List Verdict
   pub few : length more ≤ 2
+  pub owed : length more + waiting after.holds ≤ 2 + waiting before.holds
   pub got : HasGot old new before.edge more
   pub edge : after.edge ≡ before.edge
   pub end : after.to ≡ before.to
@@ -115,6 +122,7 @@ pub record HasSaidBoth (old new : Held) (before : Out) (holds : Bool) (middle cu
 pub record HasFinished (old new : Held) (out : Out) : Type 0 where
   pub more : List Verdict
   pub few : length more ≤ 1
+  pub owed : length more ≤ waiting out.holds
   pub got : HasGot old new out.edge more
   pub told : (n : Subformula) (tr : Trace) (begin : Place) (written : List Verdict) → HasTold n tr begin written out
       → (last : Option Bool) × Lead n tr begin None (written ++ more) (place out.at) last

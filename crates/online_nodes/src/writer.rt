@@ -3,7 +3,7 @@
 ghost use Rattle.std.specs.Prelude.{◌≡◌, ◌<◌, length, IfOk, OnOk, OnErr, None};
 ghost use Rattle.frac128.specs.Spans.{interval};
 ghost use Rattle.online_nodes.specs.Cuts.{place, AtMost, Before, Same, begins, ends};
-ghost use Rattle.online_nodes.specs.Written.{HasAnswer, HasFinished, HasSaidBoth, HasWritten, IsSound, IsPutBack, Reaches};
+ghost use Rattle.online_nodes.specs.Written.{HasAnswer, HasFinished, HasSaidBoth, HasWritten, IsSound, IsPutBack, Reaches, waiting};
 
 use crate::cut::Cut;
 use crate::edges::Edges;
@@ -156,6 +156,7 @@ impl Out {
         requires edge { self.edge < length edges.old.edges }
         requires sound { IsSound self }
         ensures finished { OnOk result (HasFinished edges.old edges.new self) }
+        ensures waits { OnErr result (waiting self.holds ≡ 1) }
         ensures memory { OnErr result (edges.old.spare ≡ 0) }
     {
         let Some(holds) = self.holds else {
