@@ -4,7 +4,10 @@ mod GotLemmas
 mod RunLaw
 mod LowLaw
 mod BelongLemmas
+mod ReaderLemmas
+mod AnsweringLemmas
 mod StayLaw
+mod InputLemmas
 mod FrameLaw
 mod HeldLaw
 mod WindowLaw

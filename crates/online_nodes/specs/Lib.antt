@@ -18,4 +18,5 @@ pub mod Untils
 pub mod Sinces
 pub mod Operators
 pub mod Kinds
+pub mod Answering
 pub mod Belonging

@@ -3,6 +3,7 @@
 //! operators themselves come on top.
 #![tactic(auto)]
 
+mod answering;
 mod cut;
 mod edges;
 mod join;
