@@ -2,7 +2,12 @@ mod PlaceLemmas
 mod Writing
 mod GotLemmas
 mod RunLaw
+mod LowLaw
+mod BelongLemmas
+mod ReaderLemmas
+mod AnsweringLemmas
 mod StayLaw
+mod InputLemmas
 mod FrameLaw
 mod HeldLaw
 mod WindowLaw
