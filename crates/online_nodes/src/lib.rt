@@ -1,13 +1,16 @@
-//! Streaming operators: places between times, the edges of a network, the writer of a node's verdicts, the bodies of constants,
-//! connectives, bounded windows and until, and the laws on which operators rest. In work: windows with no bound, since, and the
-//! operators themselves come on top.
+//! Streaming operators: places between times, the edges of a network, the writer of a node's verdicts, the bodies of all nodes with
+//! what they let go, the laws on which operators rest, and of an operator its front, whether it is ready and the room that a step
+//! needs. In work: the step itself.
 #![tactic(auto)]
 
+mod answering;
 mod cut;
 mod edges;
 mod join;
+mod kind;
 mod laws;
 mod negation;
+mod operator;
 mod since;
 mod until;
 mod window;
@@ -22,6 +25,7 @@ pub use laws::{
     root_edges_grow, since_remembers_what_it_knows, taken_were_given_out, until_and_since_look,
     until_remembers_what_it_knows, windows_look,
 };
+pub use operator::Operator;
 pub use writer::Out;
 
 #[cfg(test)]
