@@ -19,3 +19,4 @@ pub mod Pushing
 pub mod Promises
 pub mod Judging
 pub mod Measured
+pub mod Following
