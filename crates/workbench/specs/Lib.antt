@@ -20,3 +20,4 @@ pub mod Judging
 pub mod Measured
 pub mod Reasons
 pub mod Accounts
+pub mod Following
