@@ -3,12 +3,10 @@ mod Writing
 mod GotLemmas
 pub mod RunLaw
 pub mod StayLaw
-mod RunLaw
 mod LowLaw
 mod BelongLemmas
 mod ReaderLemmas
 mod AnsweringLemmas
-mod StayLaw
 mod InputLemmas
 mod FrameLaw
 mod HeldLaw
