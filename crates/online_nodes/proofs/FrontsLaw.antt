@@ -104,17 +104,17 @@ takes_keep nodes s (suc n) = takes_keep nodes s n
 
 module _ (nodes : List Node) (order : IsPostOrder nodes) (ended : Bool) (l : ℤ) where
   -- the number that the law gives to a place
-  abbrev Target : ℕ → Front
+  abbrev pub Target : ℕ → Front
   Target i = Some (front_at ended l (subformula nodes i))
 
   -- the last row is at l, the end came or not, and each atom stands
-  record IsPassing (s : State) : Type 0 where
-    last : last_row s ≡ Some l
-    closed : s.closed ≡ ended
-    atoms : (i : ℕ) → i < length nodes → node_is_atom nodes i ≡ true → s.fronts i ≡ Target i
+  pub record IsPassing (s : State) : Type 0 where
+    pub last : last_row s ≡ Some l
+    pub closed : s.closed ≡ ended
+    pub atoms : (i : ℕ) → i < length nodes → node_is_atom nodes i ≡ true → s.fronts i ≡ Target i
 
   -- where the places before i have their numbers, so has the node at i after its step
-  allowed_is : (s : State) (i : ℕ) (n : Node) → slice_get nodes i ≡ Some n → i < length nodes → IsPassing s → ((j : ℕ) → j < i → s.fronts j ≡ Target j)
+  pub allowed_is : (s : State) (i : ℕ) (n : Node) → slice_get nodes i ≡ Some n → i < length nodes → IsPassing s → ((j : ℕ) → j < i → s.fronts j ≡ Target j)
       → allowed n s ≡ Target i
   allowed_is s i n at h pass before = by_end ended refl
     where
@@ -225,7 +225,7 @@ after_pass nodes s e n =
     state_on nodes (after_event nodes s e) (steps_of 0 nodes) (takes n) ∙ takes_keep nodes (state_from nodes (after_event nodes s e) (steps_of 0 nodes)) n
 
 -- an atom looks ahead by nothing
-atom_horizon : (nodes : List Node) (i : ℕ) → IsPostOrder nodes → i < length nodes → node_is_atom nodes i ≡ true → horizon (subformula nodes i) ≡ 0
+pub atom_horizon : (nodes : List Node) (i : ℕ) → IsPostOrder nodes → i < length nodes → node_is_atom nodes i ≡ true → horizon (subformula nodes i) ≡ 0
 atom_horizon nodes i order l e = by_node (slice_index_or nodes i (Const false)) (slice_get_at nodes i (Const false) l) e
   where
     by_node : (n : Node) → slice_get nodes i ≡ Some n → is_atom n ≡ true → horizon (subformula nodes i) ≡ 0

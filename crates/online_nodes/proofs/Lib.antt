@@ -24,4 +24,13 @@ mod UntilPasses
 mod UntilCounts
 mod UntilGoes
 pub mod FrontsLaw
+mod SinceTurns
+mod SinceEnds
+mod SinceCounts
+mod SinceReads
 mod NetworkExamples
+mod RisingLaw
+mod EmittedLaw
+mod MeetingLaw
+mod EdgeLaw
+mod StillLaw

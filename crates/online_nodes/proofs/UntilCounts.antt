@@ -93,6 +93,7 @@ shares_none {old} {new} {u} {s} {v} {w} {begin} {end} next none one left_apart r
     record {
       more = [];
       few = omega arith;
+      owed = omega arith;
       worked = one_worked (worked_none old s.out.edge u.window.of u.right) one left_apart right_apart;
       fewer = one_fewer one next.apart;
       edge = refl;
@@ -154,6 +155,7 @@ module _ {old mid : Held} {u : Until} {s : Sweep} {found out : Out} {from reach 
       record {
         more = said.answers.more;
         few = said.answers.few;
+        owed = said.answers.owed;
         worked = one_worked put one said.left_apart said.right_apart;
         fewer = omega (arith, one_fewer one next.apart, ap length kept_left, ap length kept_right);
         edge = said.answers.edge;
@@ -206,6 +208,7 @@ passes_failed {old} {new} {u} {s} {v} {w} apart first_left first_right holding f
     record {
       more = [];
       few = omega arith;
+      owed = omega arith;
       worked = one_worked (worked_none old s.out.edge u.window.of u.right) one left_apart right_apart;
       fewer = one_fewer one apart;
       edge = refl;

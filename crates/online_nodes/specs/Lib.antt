@@ -15,3 +15,4 @@ pub mod Joins
 pub mod Negations
 pub mod Looking
 pub mod Untils
+pub mod Sinces

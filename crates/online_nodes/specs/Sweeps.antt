@@ -1,5 +1,5 @@
 -- How a window is swept over its input, one verdict at a time.
-use Rattle.std.specs.Prelude.{◌≡◌, Some, slice_get, suc, ◌+◌, ◌*◌, ◌≤◌, Bool, true, false, not, neg_ℤ, List, ◌++◌, drop, length}
+use Rattle.std.specs.Prelude.{◌≡◌, ◌⊎◌, Some, slice_get, suc, ◌+◌, ◌*◌, ◌≤◌, Bool, true, false, not, neg_ℤ, List, ◌++◌, drop, length}
 use Rattle.std.specs.Int.{w64}
 use Rattle.rational.specs.Rational.{Rational, FitsFloor, add, whole}
 use Rattle.frac128.specs.Value.{value}
@@ -12,7 +12,7 @@ use Rattle.stl_syntax.specs.declared.items.Verdict.{Verdict}
 use Rattle.online_nodes.specs.Cuts.{Place, place, begins, moved_begin, After, Upto, AtMost, Before}
 use Rattle.online_nodes.specs.Held.{Held, fresh_at}
 use Rattle.online_nodes.specs.Reading.{Truths, Is, Tells, Looks, Knows}
-use Rattle.online_nodes.specs.Written.{HasTold, HasGot, IsSound}
+use Rattle.online_nodes.specs.Written.{HasTold, HasGot, IsSound, waiting}
 use Rattle.online_nodes.specs.Working.{HasWorked}
 use Rattle.online_nodes.specs.declared.window.Window.{Window}
 use Rattle.online_nodes.specs.declared.window.Sweep.{Sweep}
@@ -33,11 +33,11 @@ abbrev pub Counted : Bool → Subformula → Trace → Truths
 Counted true p tr u = Within (start tr) (last tr) u × Truth p tr u
 Counted false p tr u = Within (start tr) (last tr) u → Truth p tr u
 
--- node n looks through this window at p; the window is never empty, and up to `to` it ends by `stop`
+-- node n looks through this window at p; the window is never empty, and up to `to` it ends by `stop`, or what lies beyond is not sought
 pub record IsWindowOf (n p : Subformula) (tr : Trace) (w : Window) (to stop : Place) : Type 0 where
   pub looks : Looks w.seeks (Truth n tr) (Counted w.seeks p tr) (low_place w) (high_place w)
   pub some : (t : Rational) → Before (low_place w t) (high_place w t)
-  pub within : (t u : Rational) → Upto to t → Upto (high_place w t) u → Upto stop u
+  pub within : (t u : Rational) → Upto to t → Upto (high_place w t) u → Upto stop u ⊎ Is (not w.seeks) (Counted w.seeks p tr) u
 
 -- what was written is told, what is known of the input is so, and what was not read tells the input from `read` to `stop`
 pub record IsSwept (n p : Subformula) (tr : Trace) (w : Window) (begin : Place) (written : List Verdict) (s : Sweep)
@@ -65,6 +65,7 @@ pub record HasStopped (old new : Held) (w : Window) (s : Sweep) : Type 0 where
 pub record HasRead (old new : Held) (w : Window) (s next : Sweep) : Type 0 where
   pub more : List Verdict
   pub few : length more ≤ 2
+  pub owed : length more + waiting next.out.holds ≤ 2 + waiting s.out.holds
   pub worked : HasWorked old new s.out.edge w.of w.of more
   pub one : length (fresh_at old w.of) ≡ suc (length (fresh_at new w.of))
   pub fresh : fresh_at new w.of ≡ drop 1 (fresh_at old w.of)
@@ -80,6 +81,7 @@ pub record HasRead (old new : Held) (w : Window) (s next : Sweep) : Type 0 where
 pub record HasEnded (old new : Held) (w : Window) (s end : Sweep) : Type 0 where
   pub more : List Verdict
   pub few : length more ≤ 2
+  pub owed : length more + waiting end.out.holds ≤ 2 + waiting s.out.holds
   pub got : HasGot old new s.out.edge more
   pub edge : end.out.edge ≡ s.out.edge
   pub to : end.out.to ≡ s.out.to
@@ -94,6 +96,7 @@ pub record HasEnded (old new : Held) (w : Window) (s end : Sweep) : Type 0 where
 pub record HasSwept (old new : Held) (w : Window) (s end : Sweep) : Type 0 where
   pub more : List Verdict
   pub few : length more ≤ 2 * length (fresh_at old w.of) + 2
+  pub owed : length more + waiting end.out.holds ≤ 2 * length (fresh_at old w.of) + 2 + waiting s.out.holds
   pub worked : HasWorked old new s.out.edge w.of w.of more
   pub beyond : CountsBeyond new w (place s.out.to)
   pub edge : end.out.edge ≡ s.out.edge

@@ -9,7 +9,7 @@ use Rattle.stl_syntax.specs.declared.items.Verdict.{Verdict}
 use Rattle.online_nodes.specs.Cuts.{Place, place, ends, After, Upto, AtMost, Before}
 use Rattle.online_nodes.specs.Held.{Held, fresh_at}
 use Rattle.online_nodes.specs.Reading.{Tells, IsUntilOf, KnowsUntil}
-use Rattle.online_nodes.specs.Written.{HasTold, IsSound}
+use Rattle.online_nodes.specs.Written.{HasTold, IsSound, waiting}
 use Rattle.online_nodes.specs.Working.{HasPassed, HasWorked}
 use Rattle.online_nodes.specs.Sweeps.{Counted, low_place, high_place}
 use Rattle.online_nodes.specs.declared.window.Sweep.{Sweep}
@@ -32,11 +32,11 @@ pub record Reads : Type 0 where
   pub left : Place
   pub right : Place
 
--- n is p until q by this window, and up to `to` all that counts lies within what both inputs are answered
+-- n is p until q by this window, and up to `to` all that counts lies within what both inputs are answered, or beyond that nothing counts
 pub record IsUntil (x : Stretch) (u : Until) (to : Place) : Type 0 where
   pub looks : IsUntilOf (Truth x.n x.tr) (Truth x.p x.tr) (Counted true x.q x.tr) (low_place u.window) (high_place u.window)
   pub some : (t : Rational) → Before (low_place u.window t) (high_place u.window t)
-  pub within : (t v : Rational) → Upto to t → Upto (high_place u.window t) v → Upto x.stop v
+  pub within : (t v : Rational) → Upto to t → Upto (high_place u.window t) v → Upto x.stop v ⊎ ¬ Counted true x.q x.tr v
   pub inside : AtMost to x.stop
   pub both : (t : Rational) → Upto x.stop_left t → Upto x.stop_right t → Upto x.stop t
   pub left_enough : AtMost x.stop x.stop_left
@@ -71,6 +71,7 @@ pub record HasSettled (old new : Held) (u : Until) (s : Sweep) : Type 0 where
 pub record HasTurned (old new : Held) (u : Until) (s next : Sweep) : Type 0 where
   pub more : List Verdict
   pub few : length more ≤ 2
+  pub owed : length more + waiting next.out.holds ≤ 2 + waiting s.out.holds
   pub worked : HasWorked old new s.out.edge u.window.of u.right more
   pub fewer : length (fresh_at new u.window.of) + length (fresh_at new u.right)
       < length (fresh_at old u.window.of) + length (fresh_at old u.right)
@@ -91,6 +92,7 @@ pub record HasPassedOne (old new : Held) (u : Until) (v w : Verdict) : Type 0 wh
 pub record HasUntilEnded (old new : Held) (u : Until) (s end : Sweep) : Type 0 where
   pub more : List Verdict
   pub few : length more ≤ 2
+  pub owed : length more + waiting end.out.holds ≤ 2 + waiting s.out.holds
   pub worked : HasWorked old new s.out.edge u.window.of u.right more
   pub edge : end.out.edge ≡ s.out.edge
   pub to : end.out.to ≡ s.out.to
@@ -105,6 +107,8 @@ pub record HasUntilEnded (old new : Held) (u : Until) (s end : Sweep) : Type 0 w
 pub record HasUntilTold (old new : Held) (u : Until) (s end : Sweep) : Type 0 where
   pub more : List Verdict
   pub few : length more ≤ 2 * (length (fresh_at old u.window.of) + length (fresh_at old u.right)) + 2
+  pub owed : length more + waiting end.out.holds
+      ≤ 2 * (length (fresh_at old u.window.of) + length (fresh_at old u.right)) + 2 + waiting s.out.holds
   pub worked : HasWorked old new s.out.edge u.window.of u.right more
   pub edge : end.out.edge ≡ s.out.edge
   pub to : end.out.to ≡ s.out.to

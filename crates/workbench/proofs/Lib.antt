@@ -22,6 +22,8 @@ pub mod StreamSteps
 pub mod Due
 pub mod Judged
 pub mod Measured
+pub mod Reasoned
+pub mod Refuting
 pub mod NoForm
 pub mod MarginTruth
 pub mod RowsBefore

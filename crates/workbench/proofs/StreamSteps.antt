@@ -23,7 +23,7 @@ use Rattle.workbench.proofs.Progress.{sound_so_far}
 use Rattle.workbench.specs.Wholes.{status_of_truth, status_of, IsEndLine}
 use Rattle.workbench.specs.Pushing.{IsPushed, IsPushStop, IsPush, IsLineOf, IsStreamEnd}
 use Rattle.workbench.specs.declared.fault.Stop.{Stop}
-use Rattle.workbench.specs.declared.fault.Stop.TheVariants.{Fault as Faulty, Unread, Unwritten, NoMemory, Wide}
+use Rattle.workbench.specs.declared.fault.Stop.TheVariants.{Fault as Faulty, Unread, Unwritten, NoMemory, Wide, TooMany}
 use Rattle.workbench.specs.ErrTexts.{read_fault, write_fault, out_of_memory}
 
 -- some bytes were read and answered, in so many reads
@@ -129,6 +129,7 @@ module _ {Stands : List ℕ → List ℕ → Type 0} {q : Request} {before now h
       by_stop NoMemory (inl none) cut = with_end out_of_memory NoMemory (no_memory known (inl none) in_time) refl
       by_stop NoMemory (inr (rest, begun)) cut = with_end out_of_memory NoMemory (no_memory known (inr (rest, as_ended begun)) in_time) refl
       by_stop (Wide i den) is cut = absurd is
+      by_stop (TooMany count) is cut = absurd is
 
   -- the stream came to its end
   pub end_ok : (i : Drained) (o : Filled) (holds : Bool) → i.before ≡ before → o.before ≡ held → Consumes now i.after [] → i.ended ≡ true → IsAtEnd i.after
@@ -184,6 +185,7 @@ line_is s f (Err Unread) line other a b = b ∙ sym a
 line_is s f (Err Unwritten) line other a b = b ∙ sym a
 line_is s f (Err NoMemory) line other a b = b ∙ sym a
 line_is s f (Err (Wide i den)) line other a b = b ∙ sym a
+line_is s f (Err (TooMany count)) line other a b = b ∙ sym a
 
 -- a stream's end is that of the run
 pub stream_run : (words : List (List ℕ)) (s : Stream) (f : Formula) (i : Drained) (o e : Filled) → AreFor words (word_of_stream s) f → (ending : Result Bool Stop) (status : ℕ) (line : List ℕ)

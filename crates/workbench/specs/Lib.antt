@@ -6,7 +6,6 @@ pub mod Sessions
 pub mod Words
 pub mod Writing
 pub mod Answers
-pub mod Lines
 pub mod Reading
 pub mod Cases
 pub mod Saying
@@ -20,3 +19,5 @@ pub mod Promises
 pub mod Judging
 pub mod Measured
 pub mod Following
+pub mod Reasons
+pub mod Accounts

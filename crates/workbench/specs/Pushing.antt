@@ -11,8 +11,8 @@ use Rattle.workbench.specs.InputFaults.{Fault, fault_text}
 use Rattle.workbench.specs.Wholes.{status_of}
 use Rattle.workbench.specs.declared.fault.TraceFault.{TraceFault}
 use Rattle.workbench.specs.declared.fault.Stop.{Stop}
-use Rattle.workbench.specs.declared.fault.Stop.TheVariants.{Fault as Faulty, Unread, Unwritten, NoMemory, Wide}
-use Rattle.workbench.specs.ErrTexts.{out_of_memory, read_fault, write_fault, wide_text}
+use Rattle.workbench.specs.declared.fault.Stop.TheVariants.{Fault as Faulty, Unread, Unwritten, NoMemory, Wide, TooMany}
+use Rattle.workbench.specs.ErrTexts.{out_of_memory, read_fault, write_fault, wide_text, too_many_cells_text}
 
 -- these bytes were pushed, and this text was written: all that is owed for them, and before that all that was owed for any first part of them
 pub record IsPushed (Stands : List ℕ → List ℕ → Type 0) (request : Request) (bytes text : List ℕ) : Type 0 where
@@ -36,6 +36,7 @@ IsPushStop request bytes ended text Unread = ⊥
 IsPushStop request bytes ended text Unwritten = (rest : List ℕ) × (rest ≢ []) × IsBegun request bytes ended text rest
 IsPushStop request bytes ended text NoMemory = (text ≡ []) ⊎ ((rest : List ℕ) × IsBegun request bytes ended text rest)
 IsPushStop request bytes ended text (Wide i den) = ⊥
+IsPushStop request bytes ended text (TooMany count) = ⊥
 
 -- what a piece came to: the text grew, and all is well or it stopped
 abbrev pub IsPush : {T : Type 0} → Request → Option (List ℕ) → Option (List ℕ) → List ℕ → Bool → List ℕ → (T → List ℕ → Type 0) → Result T Stop → Type 0
@@ -50,6 +51,7 @@ IsLineOf request (Err Unread) line = line ≡ read_fault
 IsLineOf request (Err Unwritten) line = line ≡ write_fault
 IsLineOf request (Err NoMemory) line = line ≡ out_of_memory
 IsLineOf request (Err (Wide i den)) line = line ≡ wide_text i den
+IsLineOf request (Err (TooMany count)) line = line ≡ too_many_cells_text count
 
 -- how a stream ends
 pub record IsStreamEnd (request : Request) (i : Drained) (o : Filled) (result : Result Bool Stop) : Type 0 where

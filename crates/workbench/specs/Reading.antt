@@ -15,7 +15,7 @@ use Rattle.workbench.specs.Cases.{IsFault, IsCase, IsHeaderOf, IsLacking, IsNoBe
 use Rattle.workbench.specs.declared.case.Case.{Case}
 use Rattle.workbench.specs.declared.fault.TraceFault.TheVariants.{Trace as InTrace}
 use Rattle.workbench.specs.declared.fault.Stop.{Stop}
-use Rattle.workbench.specs.declared.fault.Stop.TheVariants.{Fault as Faulty, Unread, Unwritten, NoMemory, Wide}
+use Rattle.workbench.specs.declared.fault.Stop.TheVariants.{Fault as Faulty, Unread, Unwritten, NoMemory, Wide, TooMany}
 
 -- these bytes were read, and they are all where the source came to its end
 pub record IsRead (before after : Option (List ℕ)) (ended : Bool) (bytes : List ℕ) : Type 0 where
@@ -69,6 +69,7 @@ IsStop limits f before after ended Unread = IsReadInPart limits f before after e
 IsStop limits f before after ended Unwritten = ⊥
 IsStop limits f before after ended NoMemory = (bytes : List ℕ) × Consumes before after bytes
 IsStop limits f before after ended (Wide i den) = ⊥
+IsStop limits f before after ended (TooMany count) = ⊥
 
 -- these bytes were handed over, and may have ended; a trace was not made of them for this reason
 abbrev pub IsRefused : Limits → Formula → Bool → List ℕ → Stop → Type 0
@@ -77,6 +78,7 @@ IsRefused limits f ended bytes Unread = ⊥
 IsRefused limits f ended bytes Unwritten = ⊥
 IsRefused limits f ended bytes NoMemory = Unit {0}
 IsRefused limits f ended bytes (Wide i den) = ⊥
+IsRefused limits f ended bytes (TooMany count) = ⊥
 
 -- once the header was read, there is a case of it with the rows
 abbrev pub IsTied : Formula → Option Heading → List ℕ → List Row → Option Case → Type 0

@@ -4,6 +4,7 @@
 mod answer;
 mod case;
 mod entry;
+mod explain;
 mod fault;
 mod follow;
 pub mod laws;

@@ -44,6 +44,7 @@ returns-clause-ended c =
     record {
       more = both.more;
       few = both.few;
+      owed = both.owed;
       worked = worked_put c.requires.own c.requires.left_apart c.requires.right_apart both.got;
       edge = both.edge;
       to = both.end;

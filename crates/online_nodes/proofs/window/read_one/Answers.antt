@@ -56,6 +56,7 @@ returns-then-v-window-clause-read c =
     record {
       more = [];
       few = omega arith;
+      owed = omega arith;
       worked = worked_pass passed (λ same. c.requires.apart (sym same)) (inl refl);
       one = passed-one passed;
       fresh = passed-fresh passed;
@@ -157,6 +158,7 @@ returns-clause-read c =
     record {
       more = both.more;
       few = both.few;
+      owed = both.owed;
       worked = worked_read c.requires.own c.requires.apart both.got passed;
       one = sym (ap length kept) ∙ passed-one passed;
       fresh = left;
