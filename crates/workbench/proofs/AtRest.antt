@@ -20,7 +20,7 @@ use Rattle.workbench.specs.Writing.{IsPartWritten}
 use Rattle.workbench.specs.declared.case.Case.{Case}
 use Rattle.workbench.specs.declared.live.Live.{Live}
 use Rattle.workbench.specs.declared.fault.Stop.{Stop}
-use Rattle.workbench.specs.declared.fault.Stop.TheVariants.{Fault as Faulty, Unread, Unwritten, NoMemory, Wide}
+use Rattle.workbench.specs.declared.fault.Stop.TheVariants.{Fault as Faulty, Unread, Unwritten, NoMemory, Wide, TooMany}
 use Rattle.workbench.proofs.Progress.{sound_so_far}
 use Rattle.workbench.proofs.Sizes.{few_bytes}
 use Rattle.workbench.proofs.StreamSteps.{before_of_kept}
@@ -75,6 +75,7 @@ module _ (kind : Stream) where
   fault_told limits f bytes text ended Unwritten e ne h = absurd h
   fault_told limits f bytes text ended NoMemory e ne h = absurd (ne refl)
   fault_told limits f bytes text ended (Wide i den) e ne h = absurd h
+  fault_told limits f bytes text ended (TooMany count) e ne h = absurd h
 
   -- and what was owed before it
   fault_owed : (limits : Limits) (f : Formula) (bytes text : List ℕ) (ended : Bool) (stop : Stop) → limits ≡ limits_of kind → stop ≢ NoMemory → IsLiveStop kind limits f ended bytes text stop → OwesRows kind f bytes ended text
@@ -83,6 +84,7 @@ module _ (kind : Stream) where
   fault_owed limits f bytes text ended Unwritten e ne h = absurd h
   fault_owed limits f bytes text ended NoMemory e ne h = absurd (ne refl)
   fault_owed limits f bytes text ended (Wide i den) e ne h = absurd h
+  fault_owed limits f bytes text ended (TooMany count) e ne h = absurd h
 
   -- feeding never fails by a sink
   pub not_unwritten : (limits : Limits) (f : Formula) (bytes text : List ℕ) (ended : Bool) (stop : Stop) → IsLiveStop kind limits f ended bytes text stop → stop ≢ Unwritten
@@ -91,6 +93,7 @@ module _ (kind : Stream) where
   not_unwritten limits f bytes text ended Unwritten h e = absurd h
   not_unwritten limits f bytes text ended NoMemory h e = let k = e in cc
   not_unwritten limits f bytes text ended (Wide i den) h e = absurd h
+  not_unwritten limits f bytes text ended (TooMany count) h e = absurd h
 
   pub outcome_not_unwritten : {T : Type 0} (limits : Limits) (f : Formula) (bytes text : List ℕ) (ended : Bool) (P : T → Type 0) (r : Result T Stop) → MatchResult r P (λ e. IsLiveStop kind limits f ended bytes text e) → r ≢ Err Unwritten
   outcome_not_unwritten limits f bytes text ended P (Ok x) h e = let k = e in cc

@@ -23,7 +23,7 @@ use Rattle.workbench.specs.declared.case.Case.{Case}
 use Rattle.workbench.specs.declared.live.Live.{Live}
 use Rattle.workbench.specs.declared.fault.TraceFault.TheVariants.{Trace as InTrace}
 use Rattle.workbench.specs.declared.fault.Stop.{Stop}
-use Rattle.workbench.specs.declared.fault.Stop.TheVariants.{Fault as Faulty, Unread, Unwritten, NoMemory, Wide}
+use Rattle.workbench.specs.declared.fault.Stop.TheVariants.{Fault as Faulty, Unread, Unwritten, NoMemory, Wide, TooMany}
 use Rattle.workbench.proofs.HeaderLines.{IsBlank, header_once, header_stays, header_within, header_after}
 use Rattle.workbench.proofs.Progress.{sound_so_far}
 use Rattle.workbench.proofs.StreamSteps.{before_of_kept}
@@ -146,6 +146,7 @@ module _ {F : Type 0} (Stands : F → Case → List ℕ → Type 0) (kind : Stre
   live_lacks live old new rows bytes written piece at header Unwritten e s never none = never
   live_lacks live old new rows bytes written piece at header NoMemory e s never none = tt
   live_lacks live old new rows bytes written piece at header (Wide i den) e s never none = never
+  live_lacks live old new rows bytes written piece at header (TooMany count) e s never none = never
 
   -- nothing was made before the header
   pub none_made : (follower : Option F) (f : Formula) (o : Option Heading) (bytes : List ℕ) (rows : List Row) (case : Option Case) (made : List ℕ) → IsTied f o bytes rows case → o ≡ None
@@ -204,6 +205,7 @@ module _ {F : Type 0} (Stands : F → Case → List ℕ → Type 0) (kind : Stre
   live_end_refused f r follower case bytes made k Unwritten t is = is
   live_end_refused f r follower case bytes made k NoMemory t is = tt
   live_end_refused f r follower case bytes made k (Wide i den) t is = is
+  live_end_refused f r follower case bytes made k (TooMany count) t is = is
 
   -- the case of all bytes
   pub last_taken : (limits : Limits) (f : Formula) (follower : Option F) (case : Option Case) (bytes made : List ℕ) → MatchOption case ⊥ (IsEnded limits f bytes) → IsFollowed Stands kind follower case made

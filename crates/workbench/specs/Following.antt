@@ -14,7 +14,7 @@ use Rattle.workbench.specs.Wholes.{status_of_truth}
 use Rattle.workbench.specs.Writing.{IsPartWritten}
 use Rattle.workbench.specs.declared.case.Case.{Case}
 use Rattle.workbench.specs.declared.fault.Stop.{Stop}
-use Rattle.workbench.specs.declared.fault.Stop.TheVariants.{Fault as Faulty, Unread, Unwritten, NoMemory, Wide}
+use Rattle.workbench.specs.declared.fault.Stop.TheVariants.{Fault as Faulty, Unread, Unwritten, NoMemory, Wide, TooMany}
 use Rattle.workbench.specs.declared.live.Live.{Live}
 
 -- the text that was made is that of the rows of the case
@@ -105,6 +105,7 @@ IsLiveStop kind limits f ended bytes text Unread = ⊥
 IsLiveStop kind limits f ended bytes text Unwritten = ⊥
 IsLiveStop kind limits f ended bytes text NoMemory = Unit {0}
 IsLiveStop kind limits f ended bytes text (Wide i den) = ⊥
+IsLiveStop kind limits f ended bytes text (TooMany count) = ⊥
 
 -- what came of the bytes was told: the text that was made was written, unless memory was wanting, or the sink failed in it
 pub data IsToldAs {T : Type 0} (held held_after : Option (List ℕ)) (text : List ℕ) : Result T Stop → Result T Stop → Type 0 where

@@ -18,6 +18,6 @@ pub mod Pushing
 pub mod Promises
 pub mod Judging
 pub mod Measured
+pub mod Following
 pub mod Reasons
 pub mod Accounts
-pub mod Following
