@@ -6,6 +6,7 @@ mod LowLaw
 mod BelongLemmas
 mod ReaderLemmas
 mod AnsweringLemmas
+mod HeldFacts
 mod StayLaw
 mod InputLemmas
 mod FrameLaw
