@@ -142,10 +142,10 @@ tiles_beyond lo c (v ∷ vs) d (s, b, rest) = by_test (tiles_beyond lo (ends (in
       λ t h. h,
     )
     by_test more false e = (
-          more.0,
-          subst (λ t. AreTiles more.0 (cond t (v ∷ vs) (beyond lo vs)) d) (sym e) more.1,
-          λ t h. more.2 t (upto_of_before (begins (interval v.on)) (ends (interval v.on)) t b (upto_same c (begins (interval v.on)) t s h)),
-        )
+      more.0,
+      subst (λ t. AreTiles more.0 (cond t (v ∷ vs) (beyond lo vs)) d) (sym e) more.1,
+      λ t h. more.2 t (upto_of_before (begins (interval v.on)) (ends (interval v.on)) t b (upto_same c (begins (interval v.on)) t s h)),
+    )
 
 pub told_beyond : (p : Subformula) (tr : Trace) (lo : Rational) (vs : List Verdict) → AreTold p tr vs → AreTold p tr (beyond lo vs)
 told_beyond p tr lo [] h = h
