@@ -7,6 +7,7 @@ mod BelongLemmas
 mod ReaderLemmas
 mod AnsweringLemmas
 mod HeldFacts
+mod StepFacts
 mod StayLaw
 mod InputLemmas
 mod FrameLaw
