@@ -6,6 +6,8 @@ mod LowLaw
 mod BelongLemmas
 mod ReaderLemmas
 mod AnsweringLemmas
+mod HeldFacts
+mod StepFacts
 mod StayLaw
 mod InputLemmas
 mod FrameLaw
