@@ -7,6 +7,9 @@ mod LowLaw
 mod BelongLemmas
 mod ReaderLemmas
 mod AnsweringLemmas
+mod HeldFacts
+mod StepFacts
+mod StayLaw
 mod InputLemmas
 mod FrameLaw
 mod HeldLaw
