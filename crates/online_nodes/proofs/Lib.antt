@@ -9,7 +9,6 @@ mod ReaderLemmas
 mod AnsweringLemmas
 mod HeldFacts
 mod StepFacts
-mod StayLaw
 mod InputLemmas
 mod FrameLaw
 mod HeldLaw
