@@ -89,7 +89,8 @@ module _ (n p : Subformula) (tr : Trace) (w : Window) (begin : Place) (written :
       → Settles n tr w s
   none_left s of m t a b k =
       settled (place s.out.at) (place s.reach) read (place s.out.to) t
-      (λ t u h i. upto_same stop read u (same_places m.tells) (of.within t u h i)) (remembers s [] of m) a b k
+      (λ t u h i. elim (of.within t u h i) [ inl x ↦ inl (upto_same stop read u (same_places m.tells) x) | inr x ↦ inr x ])
+      (remembers s [] of m) a b k
 
   -- a verdict that is not sought
   pub not_sought : (s : Sweep) (v : Verdict) (rest : List Verdict) → v.holds ≡ not w.seeks

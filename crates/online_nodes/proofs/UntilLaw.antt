@@ -131,12 +131,15 @@ module _ {N P Q : Truths} {low high : Rational → Place} (until : IsUntilOf N P
 
   -- once one input was read as far as the windows up to `to` reach, the node holds no longer than `reach`
   pub settled : (at reach l r to : Place) → UntilRemembers N P Q low high at reach l r
-      → ((t u : Rational) → After at t → After (low t) u → Upto to t → Upto (high t) u → Upto l u ⊎ Upto r u)
+      → ((t u : Rational) → After at t → After (low t) u → Upto to t → Upto (high t) u → (Upto l u ⊎ Upto r u) ⊎ ¬ Q u)
       → (t : Rational) → After at t → After reach t → Upto to t → ¬ N t
   settled at reach l r to m all t a b k n = by_witness (m.rest t a b n)
     where
       by_witness : (u : Rational) × After (low t) u × Upto (high t) u × Q u × AllFrom P t u × After l u × After r u → ⊥
-      by_witness (u, lo, hi, q, every, y, z) = elim (all t u a lo k hi) [ inl h ↦ not_both l u h y | inr h ↦ not_both r u h z ]
+      by_witness (u, lo, hi, q, every, y, z) = elim (all t u a lo k hi) [
+        | inl h ↦ elim h [ inl x ↦ not_both l u x y | inr x ↦ not_both r u x z ]
+        | inr n ↦ n q
+      ]
 
 -- in a trace, until remembers what it knows of its inputs
 pub remembers_of : {N P Q : Truths} {low high : Rational → Place} (at reach l r stop : Place) → IsUntilOf N P Q low high

@@ -327,8 +327,11 @@ left_out_settles {e} {u} {s} none =
       same = refl;
       settles = λ x written r of m.
           settled of.looks (place s.out.at) (place s.reach) r.read r.read (place s.out.to) (turned-remembers of m)
-          (λ t y b lo a h. inl (m.left_behind y (upto_same x.stop_left r.left y
-          (same_places (subst (λ f. Tells (Truth x.p x.tr) r.left f x.stop_left) none m.left_tells)) (of.left_enough y (of.within t y a h)))));
+          (λ t y b lo a h. elim (of.within t y a h) [
+            | inl k ↦ inl (inl (m.left_behind y (upto_same x.stop_left r.left y
+                (same_places (subst (λ f. Tells (Truth x.p x.tr) r.left f x.stop_left) none m.left_tells)) (of.left_enough y k))))
+            | inr n ↦ inr n
+          ]);
     }
 
 pub right_out_settles : {e : Held} {u : Until} {s : Sweep} → fresh_at e u.right ≡ [] → HasSettled e e u s
@@ -337,7 +340,9 @@ right_out_settles {e} {u} {s} none =
       same = refl;
       settles = λ x written r of m.
           settled of.looks (place s.out.at) (place s.reach) r.read r.read (place s.out.to) (turned-remembers of m)
-          (λ t y b lo a h. inr (m.right_behind t y b lo (upto_same x.stop_right r.right y
-          (same_places (subst (λ f. Tells (Counted true x.q x.tr) r.right f x.stop_right) none m.right_tells))
-          (of.right_enough y (of.within t y a h)))));
+          (λ t y b lo a h. elim (of.within t y a h) [
+            | inl k ↦ inl (inr (m.right_behind t y b lo (upto_same x.stop_right r.right y
+                (same_places (subst (λ f. Tells (Counted true x.q x.tr) r.right f x.stop_right) none m.right_tells)) (of.right_enough y k))))
+            | inr n ↦ inr n
+          ]);
     }

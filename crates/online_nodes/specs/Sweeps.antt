@@ -1,5 +1,5 @@
 -- How a window is swept over its input, one verdict at a time.
-use Rattle.std.specs.Prelude.{◌≡◌, Some, slice_get, suc, ◌+◌, ◌*◌, ◌≤◌, Bool, true, false, not, neg_ℤ, List, ◌++◌, drop, length}
+use Rattle.std.specs.Prelude.{◌≡◌, ◌⊎◌, Some, slice_get, suc, ◌+◌, ◌*◌, ◌≤◌, Bool, true, false, not, neg_ℤ, List, ◌++◌, drop, length}
 use Rattle.std.specs.Int.{w64}
 use Rattle.rational.specs.Rational.{Rational, FitsFloor, add, whole}
 use Rattle.frac128.specs.Value.{value}
@@ -33,11 +33,11 @@ abbrev pub Counted : Bool → Subformula → Trace → Truths
 Counted true p tr u = Within (start tr) (last tr) u × Truth p tr u
 Counted false p tr u = Within (start tr) (last tr) u → Truth p tr u
 
--- node n looks through this window at p; the window is never empty, and up to `to` it ends by `stop`
+-- node n looks through this window at p; the window is never empty, and up to `to` it ends by `stop`, or what lies beyond is not sought
 pub record IsWindowOf (n p : Subformula) (tr : Trace) (w : Window) (to stop : Place) : Type 0 where
   pub looks : Looks w.seeks (Truth n tr) (Counted w.seeks p tr) (low_place w) (high_place w)
   pub some : (t : Rational) → Before (low_place w t) (high_place w t)
-  pub within : (t u : Rational) → Upto to t → Upto (high_place w t) u → Upto stop u
+  pub within : (t u : Rational) → Upto to t → Upto (high_place w t) u → Upto stop u ⊎ Is (not w.seeks) (Counted w.seeks p tr) u
 
 -- what was written is told, what is known of the input is so, and what was not read tells the input from `read` to `stop`
 pub record IsSwept (n p : Subformula) (tr : Trace) (w : Window) (begin : Place) (written : List Verdict) (s : Sweep)

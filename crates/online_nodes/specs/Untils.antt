@@ -32,11 +32,11 @@ pub record Reads : Type 0 where
   pub left : Place
   pub right : Place
 
--- n is p until q by this window, and up to `to` all that counts lies within what both inputs are answered
+-- n is p until q by this window, and up to `to` all that counts lies within what both inputs are answered, or beyond that nothing counts
 pub record IsUntil (x : Stretch) (u : Until) (to : Place) : Type 0 where
   pub looks : IsUntilOf (Truth x.n x.tr) (Truth x.p x.tr) (Counted true x.q x.tr) (low_place u.window) (high_place u.window)
   pub some : (t : Rational) → Before (low_place u.window t) (high_place u.window t)
-  pub within : (t v : Rational) → Upto to t → Upto (high_place u.window t) v → Upto x.stop v
+  pub within : (t v : Rational) → Upto to t → Upto (high_place u.window t) v → Upto x.stop v ⊎ ¬ Counted true x.q x.tr v
   pub inside : AtMost to x.stop
   pub both : (t : Rational) → Upto x.stop_left t → Upto x.stop_right t → Upto x.stop t
   pub left_enough : AtMost x.stop x.stop_left

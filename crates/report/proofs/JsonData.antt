@@ -41,7 +41,8 @@ piece_text from on to = refl
 abbrev verdict_value : List ℕ → Bool → Data
 verdict_value on holds = object (member (codes "on") (string on) (member (codes "value") (boolean holds) no_members))
 
-verdict_text : (on : List ℕ) (holds : Bool) → compact_text (verdict_value on holds) ≡ codes "{\"on\":" ++ (json_string on ++ (codes ",\"value\":" ++ (bool_text holds ++ codes "}")))
+verdict_text : (on : List ℕ) (holds : Bool)
+    → compact_text (verdict_value on holds) ≡ codes "{\"on\":" ++ (json_string on ++ (codes ",\"value\":" ++ (bool_text holds ++ codes "}")))
 unfolding serde_json_on_literals
 verdict_text on true = refl
 verdict_text on false = refl
@@ -84,7 +85,8 @@ knot_lists front t v = together front (codes "{\"at\":") (codes "\"") (codes ",\
 piece_lists : (from a b to : List ℕ)
     → (codes ",{\"from\":\"" ++ from) ++ ((codes "\",\"on\":\"(" ++ a) ++ ((codes "," ++ b) ++ ((codes ")\",\"to\":\"" ++ to) ++ codes "\"}")))
     ≡ codes ","
-    ++ (codes "{\"from\":" ++ (quoted from ++ (codes ",\"on\":" ++ (quoted (codes "(" ++ a ++ codes "," ++ b ++ codes ")") ++ (codes ",\"to\":" ++ (quoted to ++ codes "}"))))))
+    ++ (codes "{\"from\":" ++ (quoted from ++ (codes ",\"on\":" ++
+    (quoted (codes "(" ++ a ++ codes "," ++ b ++ codes ")") ++ (codes ",\"to\":" ++ (quoted to ++ codes "}"))))))
 piece_lists from a b to =
     together (codes ",") (codes "{\"from\":") (codes "\"") (codes ",\"on\":") (codes "(") (codes ",\"to\":") (codes ")") (codes "}") from a b to
   where
@@ -102,18 +104,28 @@ module _ (scale : Scale) where
       let of_v = plain_string v (value_plain scale.value k.value v is_v) in
       let parts : text ≡ ((front ++ codes "{\"at\":\"") ++ t) ++ ((codes "\",\"margin\":\"" ++ v) ++ codes "\"}") =
       h ∙ ap (λ w. w ++ second) (e ∙ ap (λ w. w ++ t) (is_l ∙ is_lead))
-      ∙ ap (λ w. ((front ++ codes "{\"at\":\"") ++ t) ++ w) (g ∙ ap (λ w. w ++ fourth) (f ∙ ap (λ w. w ++ v) is_m) ∙ ap (λ w. (codes "\",\"margin\":\"" ++ v) ++ w) is_end) in
+      ∙ ap (λ w. ((front ++ codes "{\"at\":\"") ++ t) ++ w)
+      (g ∙ ap (λ w. w ++ fourth) (f ∙ ap (λ w. w ++ v) is_m) ∙ ap (λ w. (codes "\",\"margin\":\"" ++ v) ++ w) is_end) in
       let written : compact_text (knot_value t v) ≡ codes "{\"at\":" ++ (quoted t ++ (codes ",\"margin\":" ++ (quoted v ++ codes "}"))) =
       knot_text t v ∙ ap (λ w. codes "{\"at\":" ++ (w ++ (codes ",\"margin\":" ++ (json_string v ++ codes "}")))) of_t
       ∙ ap (λ w. codes "{\"at\":" ++ (quoted t ++ (codes ",\"margin\":" ++ (w ++ codes "}")))) of_v in
       (knot_value t v, (t, v, is_t, is_v, refl), parts ∙ knot_lists front t v ∙ ap (λ w. front ++ w) (sym written))
 
   -- and so is a piece
-  pub piece_data : (s : Step) (text : List ℕ) → IsPieceEntry scale s text → (d : Data) × IsPieceData scale s.knot s.piece d × (text ≡ codes "," ++ compact_text d)
-  piece_data s text (w1, r1, (l1, from, is_l1, is_from, e1), (w2, r2, (l2, a, is_l2, is_a, e2), (w3, r3, (l3, b, is_l3, is_b, e3), (w4, r4, (l4, to, is_l4, is_to, e4), is_end, f4), f3), f2), f1) =
+  pub piece_data : (s : Step) (text : List ℕ) → IsPieceEntry scale s text → (d : Data) × IsPieceData scale s.knot s.piece d
+      × (text ≡ codes "," ++ compact_text d)
+  piece_data s text (
+    w1,
+    r1,
+    (l1, from, is_l1, is_from, e1),
+    (w2, r2, (l2, a, is_l2, is_a, e2), (w3, r3, (l3, b, is_l3, is_b, e3), (w4, r4, (l4, to, is_l4, is_to, e4), is_end, f4), f3), f2),
+    f1,
+  ) =
       let on = codes "(" ++ a ++ codes "," ++ b ++ codes ")" in
       let of_from = plain_string from (value_plain scale.value s.piece.from from is_from) in
-      let of_on = plain_string on (pair_plain (codes "(") a b (codes ")") refl (number_plain scale.time s.knot.time a is_a) (number_plain scale.time s.piece.next.time b is_b) refl) in
+      let of_on =
+      plain_string on (pair_plain (codes "(") a b (codes ")") refl (number_plain scale.time s.knot.time a is_a)
+      (number_plain scale.time s.piece.next.time b is_b) refl) in
       let of_to = plain_string to (value_plain scale.value s.piece.to to is_to) in
       let p4 : r3 ≡ (codes ")\",\"to\":\"" ++ to) ++ codes "\"}" =
       f4 ∙ ap (λ w. w ++ r4) (e4 ∙ ap (λ w. w ++ to) is_l4) ∙ ap (λ w. (codes ")\",\"to\":\"" ++ to) ++ w) is_end in
@@ -121,11 +133,13 @@ module _ (scale : Scale) where
       f3 ∙ ap (λ w. w ++ r3) (e3 ∙ ap (λ w. w ++ b) is_l3) ∙ ap (λ w. (codes "," ++ b) ++ w) p4 in
       let p2 : r1 ≡ (codes "\",\"on\":\"(" ++ a) ++ ((codes "," ++ b) ++ ((codes ")\",\"to\":\"" ++ to) ++ codes "\"}")) =
       f2 ∙ ap (λ w. w ++ r2) (e2 ∙ ap (λ w. w ++ a) is_l2) ∙ ap (λ w. (codes "\",\"on\":\"(" ++ a) ++ w) p3 in
-      let p1 : text ≡ (codes ",{\"from\":\"" ++ from) ++ ((codes "\",\"on\":\"(" ++ a) ++ ((codes "," ++ b) ++ ((codes ")\",\"to\":\"" ++ to) ++ codes "\"}"))) =
+      let p1 : text ≡ (codes ",{\"from\":\"" ++ from) ++
+      ((codes "\",\"on\":\"(" ++ a) ++ ((codes "," ++ b) ++ ((codes ")\",\"to\":\"" ++ to) ++ codes "\"}"))) =
       f1 ∙ ap (λ w. w ++ r1) (e1 ∙ ap (λ w. w ++ from) is_l1) ∙ ap (λ w. (codes ",{\"from\":\"" ++ from) ++ w) p2 in
       let written : compact_text (piece_value from on to)
       ≡ codes "{\"from\":" ++ (quoted from ++ (codes ",\"on\":" ++ (quoted on ++ (codes ",\"to\":" ++ (quoted to ++ codes "}"))))) =
-      piece_text from on to ∙ ap (λ w. codes "{\"from\":" ++ (w ++ (codes ",\"on\":" ++ (json_string on ++ (codes ",\"to\":" ++ (json_string to ++ codes "}")))))) of_from
+      piece_text from on to ∙ ap (λ w. codes "{\"from\":" ++
+      (w ++ (codes ",\"on\":" ++ (json_string on ++ (codes ",\"to\":" ++ (json_string to ++ codes "}")))))) of_from
       ∙ ap (λ w. codes "{\"from\":" ++ (quoted from ++ (codes ",\"on\":" ++ (w ++ (codes ",\"to\":" ++ (json_string to ++ codes "}")))))) of_on
       ∙ ap (λ w. codes "{\"from\":" ++ (quoted from ++ (codes ",\"on\":" ++ (quoted on ++ (codes ",\"to\":" ++ (w ++ codes "}")))))) of_to in
       (piece_value from on to, (a, b, from, to, is_a, is_b, is_from, is_to, refl), p1 ∙ piece_lists from a b to ∙ ap (λ w. codes "," ++ w) (sym written))
@@ -139,14 +153,19 @@ module _ (scale : Scale) where
       let (c, is_c, h) = knot_data (codes ",{\"at\":\"") (codes ",") p.next knot refl is_knot in
       let (later, are, i) = steps_data p.next pieces more others in
       let text_is : text ++ codes "]" ≡ (((codes "," ++ compact_text d) ++ (codes "," ++ compact_text c)) ++ more) ++ codes "]" =
-      ap (λ w. w ++ codes "]") (f ∙ ap (λ w. w ++ more) (e ∙ ap (λ w. w ++ knot) g ∙ ap (λ w. (codes "," ++ compact_text d) ++ w) h)) in
-      (item d (item c later), (d, c, later, is_d, is_c, are, refl), text_is ∙ lists (compact_text d) (compact_text c) more ∙ ap (λ w. codes "," ++ (compact_text d ++ (codes "," ++ (compact_text c ++ w)))) i)
+      ap (λ w. w ++ codes "]") (f ∙ ap (λ w. w ++ more) (e ∙ ap (λ w. w ++ knot) g ∙ ap (λ w. (codes "," ++ compact_text d) ++ w) h)) in (
+        item d (item c later),
+        (d, c, later, is_d, is_c, are, refl),
+        text_is ∙ lists (compact_text d) (compact_text c) more ∙ ap
+            (λ w. codes "," ++ (compact_text d ++ (codes "," ++ (compact_text c ++ w)))) i,
+      )
     where
       lists : (d c m : List ℕ) → (((codes "," ++ d) ++ (codes "," ++ c)) ++ m) ++ codes "]" ≡ codes "," ++ (d ++ (codes "," ++ (c ++ (m ++ codes "]"))))
       lists d c m = simp append_assoc
 
   -- the margins
-  pub margins_data : (knots : Knots) (text : List ℕ) → AreMarginEntries scale knots text → (data' : Items) × AreMarginData scale knots data' × (text ≡ items_text false data')
+  pub margins_data : (knots : Knots) (text : List ℕ) → AreMarginEntries scale knots text → (data' : Items) × AreMarginData scale knots data'
+      × (text ≡ items_text false data')
   margins_data knots text (first, rest, is_first, (steps, end, are, is_end, e), f) =
       let (c, is_c, g) = knot_data (codes "{\"at\":\"") [] knots.first first refl is_first in
       let (later, are_later, h) = steps_data knots.first knots.pieces steps are in
@@ -155,7 +174,8 @@ module _ (scale : Scale) where
   -- ---- verdicts
 
   verdict_lists : (on word end : List ℕ)
-      → codes "{\"on\":\"" ++ on ++ codes "\",\"value\":" ++ word ++ codes "}" ++ end ≡ (codes "{\"on\":" ++ (quoted on ++ (codes ",\"value\":" ++ (word ++ codes "}")))) ++ end
+      → codes "{\"on\":\"" ++ on ++ codes "\",\"value\":" ++ word ++ codes "}" ++ end ≡
+      (codes "{\"on\":" ++ (quoted on ++ (codes ",\"value\":" ++ (word ++ codes "}")))) ++ end
   verdict_lists on word end = together (codes "{\"on\":") (codes "\"") (codes ",\"value\":") (codes "}") on word end
     where
       together : (o q m e on word end : List ℕ) → (o ++ q) ++ on ++ (q ++ m) ++ word ++ e ++ end ≡ (o ++ ((q ++ on ++ q) ++ (m ++ (word ++ e)))) ++ end
@@ -171,8 +191,10 @@ module _ (scale : Scale) where
       (on, is_on, e ∙ verdict_lists on (bool_text v.holds) (separator last) ∙ ap (λ w. w ++ separator last) (sym written))
 
   -- the verdicts, the last one apart: after a comma each, where something stands before
-  verdicts_from : (before : List Verdict) (last : Verdict) (front end : List ℕ) → AreEach (IsEntry true false scale) before front → IsEntry true true scale last end
-      → (data' : Items) × AreVerdictData scale (before ++ last ∷ []) data' × (codes "," ++ (front ++ end) ≡ items_text true data') × (front ++ end ≡ items_text false data')
+  verdicts_from : (before : List Verdict) (last : Verdict) (front end : List ℕ) → AreEach (IsEntry true false scale) before front
+      → IsEntry true true scale last end
+      → (data' : Items) × AreVerdictData scale (before ++ last ∷ []) data' × (codes "," ++ (front ++ end) ≡ items_text true data')
+      × (front ++ end ≡ items_text false data')
   verdicts_from [] last front end h k =
       let (on, is_on, e) = verdict_data true last end k in
       let all : front ++ end ≡ compact_text (verdict_value on last.holds) ++ codes "]" = ap (λ w. w ++ end) h ∙ e in
@@ -188,7 +210,8 @@ module _ (scale : Scale) where
       lists : (d m n : List ℕ) → ((d ++ codes ",") ++ m) ++ n ≡ d ++ (codes "," ++ (m ++ n))
       lists d m n = simp append_assoc
 
-  pub verdicts_data : (before : List Verdict) (last : Verdict) (text : List ℕ) → Then (AreEach (IsEntry true false scale) before) (IsEntry true true scale last) text
+  pub verdicts_data : (before : List Verdict) (last : Verdict) (text : List ℕ)
+      → Then (AreEach (IsEntry true false scale) before) (IsEntry true true scale last) text
       → (data' : Items) × AreVerdictData scale (before ++ last ∷ []) data' × (text ≡ items_text false data')
   verdicts_data before last text (front, end, h, k, e) =
       let (all, are, with_comma, is) = verdicts_from before last front end h k in
@@ -203,7 +226,8 @@ module _ (scale : Scale) where
 
   module _ (f : Formula) where
     -- an item after some bytes is its value after those before the brace
-    pub item_data : (lead front : List ℕ) (e : Item) (lines : List Item) (later : Items) (text : List ℕ) → lead ≡ front ++ codes "{\"atom\":" → IsItemEntry lead scale f e text
+    pub item_data : (lead front : List ℕ) (e : Item) (lines : List Item) (later : Items) (text : List ℕ) → lead ≡ front ++ codes "{\"atom\":"
+        → IsItemEntry lead scale f e text
         → AreItemData scale f lines later → (d : Data) × AreItemData scale f (e ∷ lines) (item d later) × (text ≡ front ++ compact_text d)
     item_data lead front e lines later text is_lead h are = by_parts h.written
       where
@@ -219,7 +243,8 @@ module _ (scale : Scale) where
             f1 ∙ ap (λ w. w ++ r1) (is1 ∙ is_lead) ∙ ap (λ w. (front ++ codes "{\"atom\":") ++ w) p2 in
             let written : compact_text (item_value h.name on e.holds)
             ≡ codes "{\"atom\":" ++ (name ++ (codes ",\"on\":" ++ (quoted on ++ (codes ",\"value\":" ++ (bool_text e.holds ++ codes "}"))))) =
-            item_text h.name on e.holds ∙ ap (λ w. codes "{\"atom\":" ++ (name ++ (codes ",\"on\":" ++ (w ++ (codes ",\"value\":" ++ (bool_text e.holds ++ codes "}")))))) of_on in (
+            item_text h.name on e.holds ∙ ap (λ w. codes "{\"atom\":" ++
+            (name ++ (codes ",\"on\":" ++ (w ++ (codes ",\"value\":" ++ (bool_text e.holds ++ codes "}")))))) of_on in (
               item_value h.name on e.holds,
               (h.atom, h.at, (h.name, on, later, h.name_is, is_on, are, refl)),
               p1 ∙ item_lists front name on (bool_text e.holds) ∙ ap (λ w. front ++ w) (sym written),

@@ -27,7 +27,8 @@ use Rattle.report.proofs.Sequences.{each_join, each_one, each_grow}
 
 -- an item of an atom with this text
 pub entry_of : (lead : List ℕ) (scale : Scale) (f : Formula) (e : Item) (name : List ℕ) → IsOfAtom f e
-    → ((a : Atom) → slice_get f.nodes e.node ≡ Some (Leaf a) → IsAtomText f.scale a name) → (text : List ℕ) → ItemParts lead scale e name text → IsItemEntry lead scale f e text
+    → ((a : Atom) → slice_get f.nodes e.node ≡ Some (Leaf a) → IsAtomText f.scale a name) → (text : List ℕ) → ItemParts lead scale e name text
+    → IsItemEntry lead scale f e text
 entry_of lead scale f e name own is text parts = record { atom = own.0; at = own.1; name = name; name_is = is own.0 own.1; written = parts }
 
 pub entry_exists : (lead : List ℕ) (scale : Scale) (f : Formula) (e : Item) → IsOfAtom f e → growth.Some (IsItemEntry lead scale f e)
@@ -67,22 +68,33 @@ module _ (scale : Scale) (f : Formula) where
   pub entries_none : (items : List Item) (from : ℕ) (old : List ℕ) → from ≤ length items → AreEntriesTo items from old from old
   entries_none items from old h = record { within = h; before = []; lines = λ others l. l; grew = ([], refl, sym (append-nil old)) }
 
-  pub entries_more : (items : List Item) (from : ℕ) (old : List ℕ) (i n : ℕ) (text new : List ℕ) (line : Item) → AreEntriesTo items from old i text → n ≤ length items
+  pub entries_more : (items : List Item) (from : ℕ) (old : List ℕ) (i n : ℕ) (text new : List ℕ) (line : Item) → AreEntriesTo items from old i text
+      → n ≤ length items
       → IsFirstLine (drop i items) (drop n items) line → Grew (Later line) text new → AreEntriesTo items from old n new
   entries_more items from old i n text new line w within first (here, is, e) = record {
     within = within;
     before = w.before ++ line ∷ [];
-    lines = λ others h. subst (IsItemLines (drop from items)) (sym (append_assoc w.before (line ∷ []) others)) (w.lines (line ∷ others) (first.before others h));
+    lines = λ others h. subst (IsItemLines (drop from items)) (sym (append_assoc w.before (line ∷ []) others))
+        (w.lines (line ∷ others) (first.before others h));
     grew = each_grow Later w.before (line ∷ []) old text new w.grew (here, each_one Later line here is, e);
   }
 
   pub entries_all : (items : List Item) (from : ℕ) (old : List ℕ) (i : ℕ) (text : List ℕ) → AreEntriesTo items from old i text → length items ≤ i
       → Grew (AreLaterEntries scale f (drop from items)) old text
   entries_all items from old i text w h =
-      let none : IsItemLines (drop i items) [] = subst (λ xs. IsItemLines xs []) (sym (drop_all i items h)) refl in
-      (w.grew.0, record { lines = w.before; joined = subst (IsItemLines (drop from items)) (append-nil w.before) (w.lines [] none); written = w.grew.1 }, w.grew.2)
+      let none : IsItemLines (drop i items) [] = subst (λ xs. IsItemLines xs []) (sym (drop_all i items h)) refl in (
+        w.grew.0,
+        record {
+          lines = w.before;
+          joined = subst (IsItemLines (drop from items)) (append-nil w.before)
+              (w.lines [] none);
+          written = w.grew.1;
+        },
+        w.grew.2,
+      )
 
-  pub entries_part : (items : List Item) (from : ℕ) (old : List ℕ) (i n : ℕ) (text new : List ℕ) (line : Item) → All (IsOfAtom f) items → AreEntriesTo items from old i text
+  pub entries_part : (items : List Item) (from : ℕ) (old : List ℕ) (i n : ℕ) (text new : List ℕ) (line : Item) → All (IsOfAtom f) items
+      → AreEntriesTo items from old i text
       → IsFirstLine (drop i items) (drop n items) line → GrewInPart (Later line) text new → GrewInPart (AreLaterEntries scale f (drop from items)) old new
   entries_part items from old i n text new line all w first (a, b, is, e) =
       let (more, later) = later_exist items n all in
@@ -91,7 +103,12 @@ module _ (scale : Scale) (f : Formula) where
       each_join Later w.before (line ∷ later.lines) w.grew.0 ((a ++ b) ++ more) w.grew.1 (a ++ b, more, is, later.written, refl) in (
         w.grew.0 ++ a,
         b ++ more,
-        record { lines = w.before ++ (line ∷ later.lines); joined = lines; written = subst (AreEach Later (w.before ++ (line ∷ later.lines))) (together w.grew.0 a b more) written },
+        record {
+          lines = w.before ++ (line ∷ later.lines);
+          joined = lines;
+          written = subst (AreEach Later (w.before ++ (line ∷ later.lines)))
+              (together w.grew.0 a b more) written;
+        },
         e ∙ ap (λ t. t ++ a) w.grew.2 ∙ append_assoc old w.grew.0 a,
       )
     where
@@ -126,7 +143,8 @@ module _ (scale : Scale) (f : Formula) where
       let lines = items_exist scale f (e ∷ items) all in
       by_lines lines.1.lines lines.1.joined lines.0 lines.1.written
     where
-      by_lines : (ls : List Item) → IsItemLines (e ∷ items) ls → (text : List ℕ) → AreItemLines scale f ls text → growth.Some (AreItemEntries scale f (e ∷ items))
+      by_lines : (ls : List Item) → IsItemLines (e ∷ items) ls → (text : List ℕ) → AreItemLines scale f ls text
+          → growth.Some (AreItemEntries scale f (e ∷ items))
       by_lines [] j text w = (codes "]", record { lines = []; joined = j; array = no_items; entries = refl; is = refl })
       by_lines (l ∷ ls) j text (a, at, p) =
           let here = entry_exists (codes "{\"atom\":") scale f l (a, at) in

@@ -24,19 +24,22 @@ pub word_exists : (word : List ℕ) → growth.Some (Is word)
 word_exists word = (word, refl)
 
 -- the first of the plain knots
-pub first_is : {P : Type 0} (shape : ShapeOf P) (ks : List (SignalKnot P)) (k : SignalKnot P) → slice_get ks 0 ≡ Some k → (knots_of shape ks).first ≡ plain_knot shape k
+pub first_is : {P : Type 0} (shape : ShapeOf P) (ks : List (SignalKnot P)) (k : SignalKnot P) → slice_get ks 0 ≡ Some k
+    → (knots_of shape ks).first ≡ plain_knot shape k
 first_is shape [] k h = absurd (let e = h in cc)
 first_is shape (x ∷ ks) k h = let same : x ≡ k = some_is h in ap (plain_knot shape) same
 
 module _ (scale : Scale) where
   pub knot_end_exists : (k : Knot) → growth.Some (Then (IsValueAfter (codes "\",\"margin\":\"") scale.value k.value) (Is (codes "\"}")))
   knot_end_exists k =
-      some_then (IsValueAfter (codes "\",\"margin\":\"") scale.value k.value) (Is (codes "\"}")) (value_after_exists (codes "\",\"margin\":\"") scale.value k.value)
+      some_then (IsValueAfter (codes "\",\"margin\":\"") scale.value k.value) (Is (codes "\"}"))
+      (value_after_exists (codes "\",\"margin\":\"") scale.value k.value)
       (word_exists (codes "\"}"))
 
   pub knot_entry_exists : (lead : List ℕ) (k : Knot) → growth.Some (IsKnotEntry lead scale k)
   knot_entry_exists lead k =
-      some_then (IsTimeAfter lead scale.time k.time) (Then (IsValueAfter (codes "\",\"margin\":\"") scale.value k.value) (Is (codes "\"}"))) (time_after_exists lead scale.time k.time)
+      some_then (IsTimeAfter lead scale.time k.time) (Then (IsValueAfter (codes "\",\"margin\":\"") scale.value k.value) (Is (codes "\"}")))
+      (time_after_exists lead scale.time k.time)
       (knot_end_exists k)
 
   module _ (s : Step) where
@@ -52,21 +55,28 @@ module _ (scale : Scale) where
 
     pub limit_exists : growth.Some Limit
     limit_exists =
-        some_then (IsValueAfter (codes ")\",\"to\":\"") scale.value s.piece.to) (Is (codes "\"}")) (value_after_exists (codes ")\",\"to\":\"") scale.value s.piece.to)
+        some_then (IsValueAfter (codes ")\",\"to\":\"") scale.value s.piece.to) (Is (codes "\"}"))
+        (value_after_exists (codes ")\",\"to\":\"") scale.value s.piece.to)
         (word_exists (codes "\"}"))
 
     pub until_exists : growth.Some Until
-    until_exists = some_then (IsTimeAfter (codes ",") scale.time s.piece.next.time) Limit (time_after_exists (codes ",") scale.time s.piece.next.time) limit_exists
+    until_exists =
+        some_then (IsTimeAfter (codes ",") scale.time s.piece.next.time) Limit (time_after_exists (codes ",") scale.time s.piece.next.time) limit_exists
 
     pub span_after_exists : growth.Some Span
-    span_after_exists = some_then (IsTimeAfter (codes "\",\"on\":\"(") scale.time s.knot.time) Until (time_after_exists (codes "\",\"on\":\"(") scale.time s.knot.time) until_exists
+    span_after_exists =
+        some_then (IsTimeAfter (codes "\",\"on\":\"(") scale.time s.knot.time) Until
+        (time_after_exists (codes "\",\"on\":\"(") scale.time s.knot.time) until_exists
 
     pub piece_entry_exists : growth.Some (IsPieceEntry scale s)
     piece_entry_exists =
-        some_then (IsValueAfter (codes ",{\"from\":\"") scale.value s.piece.from) Span (value_after_exists (codes ",{\"from\":\"") scale.value s.piece.from) span_after_exists
+        some_then (IsValueAfter (codes ",{\"from\":\"") scale.value s.piece.from) Span
+        (value_after_exists (codes ",{\"from\":\"") scale.value s.piece.from) span_after_exists
 
     pub step_entry_exists : growth.Some (IsStepEntry scale s)
-    step_entry_exists = some_then (IsPieceEntry scale s) (IsKnotEntry (codes ",{\"at\":\"") scale s.piece.next) piece_entry_exists (knot_entry_exists (codes ",{\"at\":\"") s.piece.next)
+    step_entry_exists =
+        some_then (IsPieceEntry scale s) (IsKnotEntry (codes ",{\"at\":\"") scale s.piece.next) piece_entry_exists
+        (knot_entry_exists (codes ",{\"at\":\"") s.piece.next)
 
   -- what stands after the first knot
   abbrev pub LaterMargins : Knots → List ℕ → Type 0
@@ -74,11 +84,13 @@ module _ (scale : Scale) where
 
   pub later_margins_exist : (knots : Knots) → growth.Some (LaterMargins knots)
   later_margins_exist knots =
-      some_then (AreEach (IsStepEntry scale) (steps_of knots)) (Is (codes "]")) (each_exist (IsStepEntry scale) step_entry_exists (steps_of knots)) (word_exists (codes "]"))
+      some_then (AreEach (IsStepEntry scale) (steps_of knots)) (Is (codes "]")) (each_exist (IsStepEntry scale) step_entry_exists (steps_of knots))
+      (word_exists (codes "]"))
 
   pub margin_entries_exist : (knots : Knots) → growth.Some (AreMarginEntries scale knots)
   margin_entries_exist knots =
-      some_then (IsKnotEntry (codes "{\"at\":\"") scale knots.first) (LaterMargins knots) (knot_entry_exists (codes "{\"at\":\"") knots.first) (later_margins_exist knots)
+      some_then (IsKnotEntry (codes "{\"at\":\"") scale knots.first) (LaterMargins knots) (knot_entry_exists (codes "{\"at\":\"") knots.first)
+      (later_margins_exist knots)
 
   module _ (e : Item) (name : List ℕ) where
     -- the parts of an item, from the last on

@@ -38,3 +38,4 @@ pub mod JsonData
 pub mod JsonParts
 pub mod JsonItems
 pub mod ReportTexts
+pub mod FaultLines

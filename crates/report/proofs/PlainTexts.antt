@@ -77,7 +77,8 @@ fraction_plain : (num : ℤ) (den : ℕ) → Plain (fraction_text num den)
 fraction_plain num den =
     elim (den == 1) as (λ b. Plain (if b then signed_decimal num else signed_decimal num ++ codes "/" ++ decimal den)) [
       | true ↦ signed_plain num
-      | false ↦ plain_join (signed_decimal num ++ codes "/") (decimal den) (plain_join (signed_decimal num) (codes "/") (signed_plain num) refl) (decimal_plain den)
+      | false ↦ plain_join (signed_decimal num ++ codes "/") (decimal den) (plain_join (signed_decimal num) (codes "/") (signed_plain num) refl)
+          (decimal_plain den)
     ]
 
 -- numbers are plain

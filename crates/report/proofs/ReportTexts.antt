@@ -39,7 +39,8 @@ module _ (scale : Scale) (f : Formula) (items : List Item) where
   AfterFormula = Then (Is (codes ",\"items\":[")) (AreItemEntries scale f items)
 
   pub after_formula_exists : All (IsOfAtom f) items → growth.Some AfterFormula
-  after_formula_exists all = some_then (Is (codes ",\"items\":[")) (AreItemEntries scale f items) (word_exists (codes ",\"items\":[")) (list_exists scale f items all)
+  after_formula_exists all =
+      some_then (Is (codes ",\"items\":[")) (AreItemEntries scale f items) (word_exists (codes ",\"items\":[")) (list_exists scale f items all)
 
   pub formula_on_exists : All (IsOfAtom f) items → growth.Some (Then (IsFormulaString f) AfterFormula)
   formula_on_exists all = some_then (IsFormulaString f) AfterFormula formula_exists (after_formula_exists all)
@@ -66,12 +67,14 @@ module _ (scale : Scale) (truth : List (Knot Truth)) (margins : List (Knot Margi
   start_exists v = some_then (Is (start_member holds)) Verdicts (word_exists (start_member holds)) (verdicts_exist v)
 
   pub margins_exist : growth.Some (AreEntries truth_shape true scale truth) → growth.Some Margins
-  margins_exist v = some_then (AreMarginEntries scale (knots_of margin_shape margins)) FromStart (margin_entries_exist scale (knots_of margin_shape margins)) (start_exists v)
+  margins_exist v =
+      some_then (AreMarginEntries scale (knots_of margin_shape margins)) FromStart (margin_entries_exist scale (knots_of margin_shape margins)) (start_exists v)
 
   pub tail_exists : growth.Some (AreEntries truth_shape true scale truth) → growth.Some (TailParts scale truth margins holds)
   tail_exists v = some_then (Is (codes ",\"margins\":[")) Margins (word_exists (codes ",\"margins\":[")) (margins_exist v)
 
-  together : (a p b i c m s v e : List ℕ) → (a ++ (p ++ (b ++ i))) ++ (c ++ (m ++ (s ++ (v ++ (e ++ newline))))) ≡ (a ++ (p ++ (b ++ (i ++ (c ++ (m ++ (s ++ (v ++ e)))))))) ++ newline
+  together : (a p b i c m s v e : List ℕ)
+      → (a ++ (p ++ (b ++ i))) ++ (c ++ (m ++ (s ++ (v ++ (e ++ newline))))) ≡ (a ++ (p ++ (b ++ (i ++ (c ++ (m ++ (s ++ (v ++ e)))))))) ++ newline
   together a p b i c m s v e = simp append_assoc
 
   -- the whole report
@@ -90,7 +93,8 @@ module _ (scale : Scale) (truth : List (Knot Truth)) (margins : List (Knot Margi
       let M = items_text false array_m in
       let V = items_text false array_v in
       let head_is : head ≡ codes "{\"formula\":" ++ (json_string printed ++ (codes ",\"items\":[" ++ A)) =
-      h1 ∙ ap (λ w. w ++ r1) is1 ∙ ap (λ w. codes "{\"formula\":" ++ w) (h2 ∙ ap (λ w. w ++ r2) is_p ∙ ap (λ w. json_string printed ++ w) (h3 ∙ ap (λ w. w ++ i) is3
+      h1 ∙ ap (λ w. w ++ r1) is1 ∙ ap (λ w. codes "{\"formula\":" ++ w)
+      (h2 ∙ ap (λ w. w ++ r2) is_p ∙ ap (λ w. json_string printed ++ w) (h3 ∙ ap (λ w. w ++ i) is3
       ∙ ap (λ w. codes ",\"items\":[" ++ w) is_items.is)) in
       let tail_is : tail ≡ codes ",\"margins\":[" ++ (M ++ (start_member holds ++ (V ++ codes "}\n"))) =
       g1 ∙ ap (λ w. w ++ t1) y1 ∙ ap (λ w. codes ",\"margins\":[" ++ w) (g2 ∙ ap (λ w. w ++ t2) of_m ∙ ap (λ w. M ++ w) (g3 ∙ ap (λ w. w ++ t3) y3
@@ -110,7 +114,8 @@ module _ (scale : Scale) (truth : List (Knot Truth)) (margins : List (Knot Margi
       }
 
 -- the verdicts of a signal have a text
-pub signal_entries_exist : (json : Bool) (scale : Scale) (knots : List (Knot Truth)) → IsSignal truth_shape knots → growth.Some (AreEntries truth_shape json scale knots)
+pub signal_entries_exist : (json : Bool) (scale : Scale) (knots : List (Knot Truth)) → IsSignal truth_shape knots
+    → growth.Some (AreEntries truth_shape json scale knots)
 signal_entries_exist json scale [] signal = absurd (omega (arith, signal.some))
 signal_entries_exist json scale (k ∷ knots) signal =
     let o : OpenSpan = record { from = k.time; from_in = true; holds = k.point.holds } in

@@ -16,7 +16,8 @@ before inside = if inside then codes "[" else codes "("
 abbrev pub after : Bool → List ℕ
 after inside = if inside then codes "]" else codes ")"
 
-pub number_text : (digits : ℕ) (t : Rational) (negative : Bool) (size den : ℕ) → IsInUnits digits t negative size den → IsNumberText digits t (fraction_text (signed negative size) den)
+pub number_text : (digits : ℕ) (t : Rational) (negative : Bool) (size den : ℕ) → IsInUnits digits t negative size den
+    → IsNumberText digits t (fraction_text (signed negative size) den)
 number_text digits t negative size den u = record { num = signed negative size; den = den; lowest = u.lowest; same = u.same; is = refl }
 
 pub span_text : (scale : Scale) (on : Span) (from to : List ℕ) → IsNumberText scale.time (value on.from) from → IsNumberText scale.time (value on.to) to
@@ -24,7 +25,8 @@ pub span_text : (scale : Scale) (on : Span) (from to : List ℕ) → IsNumberTex
 span_text scale on from to p q = record { from = from; to = to; from_is = p; to_is = q; is = refl }
 
 -- a verdict from the texts of its times
-pub entry_is : (json last : Bool) (scale : Scale) (v : Verdict) (from to : List ℕ) → IsNumberText scale.time (value v.on.from) from → IsNumberText scale.time (value v.on.to) to
+pub entry_is : (json last : Bool) (scale : Scale) (v : Verdict) (from to : List ℕ) → IsNumberText scale.time (value v.on.from) from
+    → IsNumberText scale.time (value v.on.to) to
     → IsEntry json last scale v (entry_text json last v from to)
 entry_is false last scale v from to p q =
     (_, span_text scale v.on from to p q, together (before v.on.from_in ++ from ++ codes "," ++ to) (after v.on.to_in) (codes " ") (bool_text v.holds) newline)
@@ -34,8 +36,10 @@ entry_is false last scale v from to p q =
 entry_is true last scale v from to p q = (
   _,
   span_text scale v.on from to p q,
-  ap (λ b. b ++ from ++ codes "," ++ to ++ (after v.on.to_in ++ codes "\",\"value\":" ++ bool_text v.holds ++ codes "}" ++ separator last)) (opened v.on.from_in)
-      ∙ together (codes "{\"on\":\"") (before v.on.from_in) from (codes ",") to (after v.on.to_in) (codes "\",\"value\":") (bool_text v.holds) (codes "}") (separator last),
+  ap (λ b. b ++ from ++ codes "," ++ to ++ (after v.on.to_in ++ codes "\",\"value\":" ++ bool_text v.holds ++ codes "}" ++ separator last))
+      (opened v.on.from_in)
+      ∙ together (codes "{\"on\":\"") (before v.on.from_in) from (codes ",") to (after v.on.to_in) (codes "\",\"value\":") (bool_text v.holds) (codes "}")
+      (separator last),
 )
   where
     opened : (b : Bool) → (if b then codes "{\"on\":\"[" else codes "{\"on\":\"(") ≡ codes "{\"on\":\"" ++ before b

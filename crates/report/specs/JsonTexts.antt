@@ -30,7 +30,8 @@ item_end holds = codes "\",\"value\":" ++ bool_text holds ++ codes "}"
 
 -- an item of the atom with this text, after some bytes
 abbrev pub ItemParts : List ℕ → Scale → Item → List ℕ → List ℕ → Type 0
-ItemParts lead scale e name = Then (Is lead) (Then (Is (json_string name)) (Then (Is (codes ",\"on\":\"")) (Then (IsSpanText scale e.on) (Is (item_end e.holds)))))
+ItemParts lead scale e name =
+    Then (Is lead) (Then (Is (json_string name)) (Then (Is (codes ",\"on\":\"")) (Then (IsSpanText scale e.on) (Is (item_end e.holds)))))
 
 -- an item, after some bytes
 pub record IsItemEntry (lead : List ℕ) (scale : Scale) (f : Formula) (e : Item) (text : List ℕ) : Type 0 where

@@ -14,3 +14,5 @@ pub mod TableRows
 pub mod ItemLines
 pub mod JsonTexts
 pub mod ReportText
+pub mod Lines
+pub mod FaultTexts

@@ -23,7 +23,8 @@ use Rattle.report.specs.VerdictForms.{AreEntries}
 
 -- the text is the object with the formula, the items with neighbours joined, the plain knots of the margins, the truth at the start and
 -- the verdicts that describe the truth, and then LF
-pub record IsReportText (scale : Scale) (f : Formula) (truth : List (Knot Truth)) (margins : List (Knot Margin)) (items : List Item) (text : List ℕ) : Type 0 where
+pub record IsReportText (scale : Scale) (f : Formula) (truth : List (Knot Truth)) (margins : List (Knot Margin)) (items : List Item)
+    (text : List ℕ) : Type 0 where
   pub verdicts : List Verdict
   pub described : DescribesFunction (IsWorth truth_shape truth) verdicts (closed (start truth) (stop truth))
   pub lines : List Item

@@ -167,8 +167,10 @@ fn put_piece_entry(
     requires value { scale.value ≤ 6 }
     requires from { IsWithin (2 ^ 34) (value k.now.time) }
     requires to { IsWithin (2 ^ 34) (value n.now.time) }
-    ensures ok { OnOk result (Grew (IsPieceEntry scale (step (plain_knot margin_shape k.now) (plain_piece margin_shape k.now n.now))) text.old text.new) }
-    ensures err { OnErr result (GrewInPart (IsPieceEntry scale (step (plain_knot margin_shape k.now) (plain_piece margin_shape k.now n.now))) text.old text.new) }
+    ensures ok { OnOk result
+        (Grew (IsPieceEntry scale (step (plain_knot margin_shape k.now) (plain_piece margin_shape k.now n.now))) text.old text.new) }
+    ensures err { OnErr result
+        (GrewInPart (IsPieceEntry scale (step (plain_knot margin_shape k.now) (plain_piece margin_shape k.now n.now))) text.old text.new) }
 {
     put_value_after(text, b",{\"from\":\"", &k.after, &k.time, scale.value)?;
     put_time_after(text, b"\",\"on\":\"(", &k.time, scale.time)?;
@@ -188,8 +190,10 @@ fn put_step_entry(
     requires value { scale.value ≤ 6 }
     requires from { IsWithin (2 ^ 34) (value k.now.time) }
     requires to { IsWithin (2 ^ 34) (value n.now.time) }
-    ensures ok { OnOk result (Grew (IsStepEntry scale (step (plain_knot margin_shape k.now) (plain_piece margin_shape k.now n.now))) text.old text.new) }
-    ensures err { OnErr result (GrewInPart (IsStepEntry scale (step (plain_knot margin_shape k.now) (plain_piece margin_shape k.now n.now))) text.old text.new) }
+    ensures ok { OnOk result
+        (Grew (IsStepEntry scale (step (plain_knot margin_shape k.now) (plain_piece margin_shape k.now n.now))) text.old text.new) }
+    ensures err { OnErr result
+        (GrewInPart (IsStepEntry scale (step (plain_knot margin_shape k.now) (plain_piece margin_shape k.now n.now))) text.old text.new) }
 {
     put_piece_entry(text, k, n, scale)?;
     put_knot_entry(text, b",{\"at\":\"", n, scale)

@@ -32,3 +32,6 @@ pub mod OwedLaws
 pub mod OneRequest
 pub mod EndsOnce
 pub mod Passes
+pub mod Living
+pub mod FrontTexts
+pub mod AtRest

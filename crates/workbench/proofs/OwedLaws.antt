@@ -49,6 +49,11 @@ of_once : (s : Stream) (f : Formula) (header : Option Header) (rows : List Row) 
 of_once s f None rows ended x y a b = a ∙ sym b
 of_once s f (Some header) rows ended x y a b = text_once s _ header rows ended x y a b
 
+-- no text is told of no rows before the end
+pub no_rows_no_text : (s : Stream) (f : Formula) (header : Option Header) (rows : List Row) (x : List ℕ) → rows ≡ [] → StreamOf s f header rows false x → x ≡ []
+no_rows_no_text s f None rows x e a = a
+no_rows_no_text s f (Some header) rows x e a = none_yet s _ header rows x e a
+
 longer_nil : (x y : List ℕ) → x ≡ [] → IsLonger x y
 longer_nil x y e = (y, ap (λ t. t ++ y) (sym e))
 

@@ -107,7 +107,7 @@ pub record HasHeader (f : Formula) (reader : Reader) : Type 0 where
   pub ticks : IsScale (scale_of f.scale heading)
 
 -- the first fault of all bytes, where the reader ended with this one: what a header without rows lacks comes before it
-pub data IsLastFault (f : Formula) (reader : Reader) (case : Option Case) (r : TraceRefusal) : Stop → Type 0 where
+pub data IsLastFault {T : Type 0} (f : Formula) (reader : Reader) (case : Option T) (r : TraceRefusal) : Stop → Type 0 where
   of_header : {stop : Stop} (h : Heading) → case ≡ None → r.kind ≡ NoRows → reader.heading ≡ Some h → IsNoBegin f r.line h stop → IsLastFault f reader case r stop
   own : (case ≡ None → r.kind ≡ NoRows → (h : Heading) → reader.heading ≡ Some h → (x : Fault) → ¬ IsLacking f r.line h x)
       → IsLastFault f reader case r (Faulty (InTrace r))

@@ -35,7 +35,8 @@ returns-in_err-put_item_entry-clause-err c =
     let rest = drop n items in
     let tail = some_then (AreLaterEntries s f rest) (Is (codes "]")) (later_exist s f items n c.requires.atoms) (word_exists (codes "]")) in
     on_err _ (part_as (ListParts s f line rest) (AreItemEntries s f items) c.args.text.now _ (λ w. list_entries s f items n line w c.line_from-end.ensures.line)
-    (part_first (IsItemEntry (codes "{\"atom\":") s f line) (Then (AreLaterEntries s f rest) (Is (codes "]"))) c.args.text.now _ c.in_err-put_item_entry.ensures.err tail))
+    (part_first (IsItemEntry (codes "{\"atom\":") s f line)
+    (Then (AreLaterEntries s f rest) (Is (codes "]"))) c.args.text.now _ c.in_err-put_item_entry.ensures.err tail))
 
 pub returns-in_err-put_later_items-clause-err : goal.returns-in_err-put_later_items-clause-err
 returns-in_err-put_later_items-clause-err c =
@@ -46,7 +47,8 @@ returns-in_err-put_later_items-clause-err c =
     let n = c.line_from-end.result.1 in
     let rest = drop n items in
     on_err _ (part_as (ListParts s f line rest) (AreItemEntries s f items) c.args.text.now _ (λ w. list_entries s f items n line w c.line_from-end.ensures.line)
-    (part_then (IsItemEntry (codes "{\"atom\":") s f line) (Then (AreLaterEntries s f rest) (Is (codes "]"))) c.args.text.now _ _ c.in_ok-put_item_entry.ensures.ok
+    (part_then (IsItemEntry (codes "{\"atom\":") s f line)
+    (Then (AreLaterEntries s f rest) (Is (codes "]"))) c.args.text.now _ _ c.in_ok-put_item_entry.ensures.ok
     (part_first (AreLaterEntries s f rest) (Is (codes "]")) _ _ c.in_err-put_later_items.ensures.err (word_exists (codes "]")))))
 
 pub returns-clause-ok : goal.returns-clause-ok
@@ -59,7 +61,8 @@ returns-clause-ok c =
     let rest = drop n items in
     on_ok_weaker c.push-2.result
     (λ e. grew_as (ListParts s f line rest) (AreItemEntries s f items) c.args.text.now _ (λ w. list_entries s f items n line w c.line_from-end.ensures.line)
-    (grew_then (IsItemEntry (codes "{\"atom\":") s f line) (Then (AreLaterEntries s f rest) (Is (codes "]"))) c.args.text.now _ _ c.in_ok-put_item_entry.ensures.ok
+    (grew_then (IsItemEntry (codes "{\"atom\":") s f line)
+    (Then (AreLaterEntries s f rest) (Is (codes "]"))) c.args.text.now _ _ c.in_ok-put_item_entry.ensures.ok
     (grew_then (AreLaterEntries s f rest) (Is (codes "]")) _ _ _ c.in_ok-put_later_items.ensures.ok (grew_is (codes "]") _ _ e)))) c.push-2.ensures.ok
 
 pub returns-clause-err : goal.returns-clause-err
@@ -72,6 +75,7 @@ returns-clause-err c =
     let rest = drop n items in
     on_err_weaker c.push-2.result
     (λ e. part_as (ListParts s f line rest) (AreItemEntries s f items) c.args.text.now _ (λ w. list_entries s f items n line w c.line_from-end.ensures.line)
-    (part_then (IsItemEntry (codes "{\"atom\":") s f line) (Then (AreLaterEntries s f rest) (Is (codes "]"))) c.args.text.now _ _ c.in_ok-put_item_entry.ensures.ok
+    (part_then (IsItemEntry (codes "{\"atom\":") s f line)
+    (Then (AreLaterEntries s f rest) (Is (codes "]"))) c.args.text.now _ _ c.in_ok-put_item_entry.ensures.ok
     (part_then (AreLaterEntries s f rest) (Is (codes "]")) _ _ _ c.in_ok-put_later_items.ensures.ok
     (part_none (Is (codes "]")) _ _ (word_exists (codes "]")) e)))) c.push-2.ensures.err

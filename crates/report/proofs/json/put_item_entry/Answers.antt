@@ -11,7 +11,8 @@ use Rattle.report.proofs.json.put_item_entry.Goals as goal
 use Rattle.report.proofs.json.put_item_entry.Goals.{In_ok-name, In_ok-put_string}
 
 -- the item from its parts
-entry : (c : In_ok-name) (text : List ℕ) → ItemParts c.args.lead.now c.args.scale c.args.item.now c.in_ok-name.name text → IsItemEntry c.args.lead.now c.args.scale c.args.formula.now c.args.item.now text
+entry : (c : In_ok-name) (text : List ℕ) → ItemParts c.args.lead.now c.args.scale c.args.item.now c.in_ok-name.name text
+    → IsItemEntry c.args.lead.now c.args.scale c.args.formula.now c.args.item.now text
 entry c = entry_of c.args.lead.now c.args.scale c.args.formula.now c.args.item.now c.in_ok-name.name c.requires.atom c.in_ok-name.ensures
 
 -- the name is written as a string
@@ -36,7 +37,8 @@ returns-in_err-put_string-clause-err c =
     let e = c.args.item.now in
     let name = c.in_ok-name.name in
     let lead = c.args.lead.now in
-    on_err _ (part_as (ItemParts lead s e name) (IsItemEntry lead s c.args.formula.now e) c.args.text.now _ (entry (goal.at.returns-in_err-put_string-clause-err c).In_ok-name)
+    on_err _ (part_as (ItemParts lead s e name) (IsItemEntry lead s c.args.formula.now e) c.args.text.now _
+    (entry (goal.at.returns-in_err-put_string-clause-err c).In_ok-name)
     (part_then (Is lead) (Named s e name) c.args.text.now _ _ (grew_is lead _ _ c.in_ok-push.ensures.ok)
     (part_none (Named s e name) _ _ (named_exists s e name) c.in_err-put_string.ensures.err)))
 
@@ -46,9 +48,11 @@ returns-in_err-push-2-clause-err c =
     let e = c.args.item.now in
     let name = c.in_ok-name.name in
     let lead = c.args.lead.now in
-    on_err _ (part_as (ItemParts lead s e name) (IsItemEntry lead s c.args.formula.now e) c.args.text.now _ (entry (goal.at.returns-in_err-push-2-clause-err c).In_ok-name)
+    on_err _ (part_as (ItemParts lead s e name) (IsItemEntry lead s c.args.formula.now e) c.args.text.now _
+    (entry (goal.at.returns-in_err-push-2-clause-err c).In_ok-name)
     (part_then (Is lead) (Named s e name) c.args.text.now _ _ (grew_is lead _ _ c.in_ok-push.ensures.ok)
-    (part_then (Is (json_string name)) (AfterName s e name) _ _ _ (grew_is (json_string name) _ _ (named (goal.at.returns-in_err-push-2-clause-err c).In_ok-put_string))
+    (part_then (Is (json_string name)) (AfterName s e name) _ _ _
+    (grew_is (json_string name) _ _ (named (goal.at.returns-in_err-push-2-clause-err c).In_ok-put_string))
     (part_none (AfterName s e name) _ _ (after_name_exists s e name) c.in_err-push-2.ensures.err))))
 
 pub returns-in_err-put_span-clause-err : goal.returns-in_err-put_span-clause-err
@@ -57,9 +61,11 @@ returns-in_err-put_span-clause-err c =
     let e = c.args.item.now in
     let name = c.in_ok-name.name in
     let lead = c.args.lead.now in
-    on_err _ (part_as (ItemParts lead s e name) (IsItemEntry lead s c.args.formula.now e) c.args.text.now _ (entry (goal.at.returns-in_err-put_span-clause-err c).In_ok-name)
+    on_err _ (part_as (ItemParts lead s e name) (IsItemEntry lead s c.args.formula.now e) c.args.text.now _
+    (entry (goal.at.returns-in_err-put_span-clause-err c).In_ok-name)
     (part_then (Is lead) (Named s e name) c.args.text.now _ _ (grew_is lead _ _ c.in_ok-push.ensures.ok)
-    (part_then (Is (json_string name)) (AfterName s e name) _ _ _ (grew_is (json_string name) _ _ (named (goal.at.returns-in_err-put_span-clause-err c).In_ok-put_string))
+    (part_then (Is (json_string name)) (AfterName s e name) _ _ _
+    (grew_is (json_string name) _ _ (named (goal.at.returns-in_err-put_span-clause-err c).In_ok-put_string))
     (part_then (Is (codes ",\"on\":\"")) (OnSpan s e name) _ _ _ (grew_is (codes ",\"on\":\"") _ _ c.in_ok-push-2.ensures.ok)
     (part_first (IsSpanText s e.on) (Is (item_end e.holds)) _ _ c.in_err-put_span.ensures.err (word_exists (item_end e.holds)))))))
 

@@ -25,17 +25,22 @@ whole c = report_is c.args.scale c.args.truth.now c.args.margins.now c.start_of-
 pub returns-in_err-put_head-clause-err : goal.returns-in_err-put_head-clause-err
 returns-in_err-put_head-clause-err c =
     let f = (goal.at.returns-in_err-put_head-clause-err c).After-start_of-holds in
-    let tail = tail_exists c.args.scale c.args.truth.now c.args.margins.now c.start_of-holds.result (signal_entries_exist true c.args.scale c.args.truth.now c.start_of-holds.ensures.signal) in
-    on_err _ (part_as (Then (Head f) (Tail f)) (Whole f) c.args.text.now _ (whole f) (part_first (Head f) (Tail f) c.args.text.now _ c.in_err-put_head.ensures.err tail))
+    let tail =
+    tail_exists c.args.scale c.args.truth.now c.args.margins.now c.start_of-holds.result
+    (signal_entries_exist true c.args.scale c.args.truth.now c.start_of-holds.ensures.signal) in
+    on_err _ (part_as (Then (Head f) (Tail f)) (Whole f) c.args.text.now _ (whole f)
+    (part_first (Head f) (Tail f) c.args.text.now _ c.in_err-put_head.ensures.err tail))
 
 pub returns-clause-ok : goal.returns-clause-ok
 returns-clause-ok c =
     let f = (goal.at.returns-clause-ok c).After-start_of-holds in
     on_ok_weaker c.put_tail.result
-    (λ g. grew_as (Then (Head f) (Tail f)) (Whole f) c.args.text.now _ (whole f) (grew_then (Head f) (Tail f) c.args.text.now _ _ c.in_ok-put_head.ensures.ok g)) c.put_tail.ensures.ok
+    (λ g. grew_as (Then (Head f) (Tail f)) (Whole f) c.args.text.now _ (whole f)
+    (grew_then (Head f) (Tail f) c.args.text.now _ _ c.in_ok-put_head.ensures.ok g)) c.put_tail.ensures.ok
 
 pub returns-clause-err : goal.returns-clause-err
 returns-clause-err c =
     let f = (goal.at.returns-clause-err c).After-start_of-holds in
     on_err_weaker c.put_tail.result
-    (λ g. part_as (Then (Head f) (Tail f)) (Whole f) c.args.text.now _ (whole f) (part_then (Head f) (Tail f) c.args.text.now _ _ c.in_ok-put_head.ensures.ok g)) c.put_tail.ensures.err
+    (λ g. part_as (Then (Head f) (Tail f)) (Whole f) c.args.text.now _ (whole f)
+    (part_then (Head f) (Tail f) c.args.text.now _ _ c.in_ok-put_head.ensures.ok g)) c.put_tail.ensures.err

@@ -13,7 +13,8 @@ use Rattle.report.proofs.json.put_margin_entries.Goals as goal
 use Rattle.report.proofs.json.put_margin_entries.Goals.{In_ok-put_knot_entry}
 
 -- the first knot is the first of the plain knots
-first : (c : In_ok-put_knot_entry) → Grew (IsKnotEntry (codes "{\"at\":\"") c.args.scale (knots_of margin_shape c.args.s.now).first) c.args.text.now c.put_knot_entry.new.text
+first : (c : In_ok-put_knot_entry)
+    → Grew (IsKnotEntry (codes "{\"at\":\"") c.args.scale (knots_of margin_shape c.args.s.now).first) c.args.text.now c.put_knot_entry.new.text
 first c =
     subst (λ k. Grew (IsKnotEntry (codes "{\"at\":\"") c.args.scale k) c.args.text.now c.put_knot_entry.new.text)
     (sym (first_is margin_shape c.args.s.now c.knot.result c.knot.ensures)) c.in_ok-put_knot_entry.ensures.ok
@@ -45,7 +46,8 @@ returns-clause-ok c =
     let begun = first (goal.at.returns-clause-ok c).In_ok-put_knot_entry in
     on_ok_weaker c.push.result
     (λ e. grew_then (IsKnotEntry (codes "{\"at\":\"") s knots.first) (LaterMargins s knots) c.args.text.now _ _ begun
-    (grew_then (AreEach (IsStepEntry s) (steps_of knots)) (Is (codes "]")) _ _ _ c.in_ok-put_step_entries.ensures.ok (grew_is (codes "]") _ _ e))) c.push.ensures.ok
+    (grew_then (AreEach (IsStepEntry s) (steps_of knots)) (Is (codes "]")) _ _ _ c.in_ok-put_step_entries.ensures.ok
+    (grew_is (codes "]") _ _ e))) c.push.ensures.ok
 
 pub returns-clause-err : goal.returns-clause-err
 returns-clause-err c =

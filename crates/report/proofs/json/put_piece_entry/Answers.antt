@@ -71,4 +71,5 @@ returns-clause-err c =
     (λ e. part_then (From s p) (Span s p) c.args.text.now _ _ c.in_ok-put_value_after.ensures.ok
     (part_then (Begin s p) (Until s p) _ _ _ c.in_ok-put_time_after.ensures.ok
     (part_then (End s p) (Limit s p) _ _ _ c.in_ok-put_time_after-2.ensures.ok
-    (part_then (To s p) (Is (codes "\"}")) _ _ _ c.in_ok-put_value_after-2.ensures.ok (part_none (Is (codes "\"}")) _ _ (word_exists (codes "\"}")) e))))) c.push.ensures.err
+    (part_then (To s p) (Is (codes "\"}")) _ _ _ c.in_ok-put_value_after-2.ensures.ok
+    (part_none (Is (codes "\"}")) _ _ (word_exists (codes "\"}")) e))))) c.push.ensures.err

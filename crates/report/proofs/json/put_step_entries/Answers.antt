@@ -15,7 +15,8 @@ use Rattle.report.proofs.json.put_step_entries.Goals.{After-put_step_entry}
 
 -- the step that is written
 its_step : (c : After-put_step_entry)
-    → slice_get (steps_of (knots_of margin_shape c.args.s.now)) c.loop-i.i ≡ Some (step (plain_knot margin_shape c.knot.result) (plain_piece margin_shape c.knot.result c.knot-in-loop-i.result))
+    → slice_get (steps_of (knots_of margin_shape c.args.s.now)) c.loop-i.i ≡ Some
+    (step (plain_knot margin_shape c.knot.result) (plain_piece margin_shape c.knot.result c.knot-in-loop-i.result))
 its_step c =
     let there : c.loop-i.i + 1 ≡ suc c.loop-i.i = omega arith in
     step_at margin_shape c.args.s.now c.loop-i.i c.knot.result c.knot-in-loop-i.result c.knot.ensures
@@ -27,7 +28,8 @@ put_step_entry-requires-clause-from c =
 
 pub put_step_entry-requires-clause-to : goal.put_step_entry-requires-clause-to
 put_step_entry-requires-clause-to c =
-    knot_within margin_shape _ c.args.s.now (c.loop-i.i + 1) c.knot-in-loop-i.result c.len-last.ensures.signal c.knot-in-loop-i.ensures c.requires.begins c.requires.ends
+    knot_within margin_shape _ c.args.s.now (c.loop-i.i + 1) c.knot-in-loop-i.result c.len-last.ensures.signal c.knot-in-loop-i.ensures c.requires.begins
+    c.requires.ends
 
 pub loop-i-init : goal.loop-i-init
 loop-i-init c = each_none (IsStepEntry c.args.scale) (steps_of (knots_of margin_shape c.args.s.now)) c.args.text.now

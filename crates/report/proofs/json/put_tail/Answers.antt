@@ -17,7 +17,8 @@ returns-in_err-push-clause-err c =
     let s = c.args.scale in
     let t = c.args.truth.now in
     let m = c.args.margins.now in
-    on_err _ (part_none (TailParts s t m c.args.holds) c.args.text.now _ (tail_exists s t m c.args.holds (signal_entries_exist true s t c.requires.signal)) c.in_err-push.ensures.err)
+    on_err _ (part_none (TailParts s t m c.args.holds) c.args.text.now _
+    (tail_exists s t m c.args.holds (signal_entries_exist true s t c.requires.signal)) c.in_err-push.ensures.err)
 
 pub returns-in_err-put_margin_entries-clause-err : goal.returns-in_err-put_margin_entries-clause-err
 returns-in_err-put_margin_entries-clause-err c =
@@ -26,7 +27,8 @@ returns-in_err-put_margin_entries-clause-err c =
     let m = c.args.margins.now in
     let h = c.args.holds in
     on_err _ (part_then (Is (codes ",\"margins\":[")) (Margins s t m h) c.args.text.now _ _ (grew_is (codes ",\"margins\":[") _ _ c.in_ok-push.ensures.ok)
-    (part_first (AreMarginEntries s (knots_of margin_shape m)) (FromStart s t m h) _ _ c.in_err-put_margin_entries.ensures.err (start_exists s t m h (signal_entries_exist true s t c.requires.signal))))
+    (part_first (AreMarginEntries s (knots_of margin_shape m)) (FromStart s t m h) _ _ c.in_err-put_margin_entries.ensures.err
+    (start_exists s t m h (signal_entries_exist true s t c.requires.signal))))
 
 pub returns-in_err-push-2-clause-err : goal.returns-in_err-push-2-clause-err
 returns-in_err-push-2-clause-err c =
