@@ -151,17 +151,19 @@ fn put_time(text: &mut String, halves: usize) -> Result<(), AllocError> {
     }
 }
 
-/// A span: from one cell to another, where even cells are halves of a tick and odd ones the times between two.
-pub(crate) fn put_span(
+/// The line of a span: from one cell to another, where even cells are halves of a tick and odd ones the times between two.
+fn put_span(
     text: &mut String,
     first: usize,
     (from, to): (usize, usize),
+    value: bool,
 ) -> Result<(), AllocError> {
     text.push_str(if from % 2 == 0 { "[" } else { "(" })?;
     put_time(text, first.saturating_add(from / 2))?;
     text.push_str(",")?;
     put_time(text, first.saturating_add(to / 2 + to % 2))?;
-    text.push_str(if to % 2 == 0 { "]" } else { ")" })
+    let close = if to % 2 == 0 { "]" } else { ")" };
+    write!(text, "{close} {value}\n")
 }
 
 /// The verdict lines and the line of the start, of a truth whose first time is in halves of a tick.
@@ -178,8 +180,7 @@ pub(crate) fn verdicts(alloc: Global, first: usize, truth: &[bool]) -> Result<St
         {
             continue;
         }
-        put_span(&mut text, first, (from, i / 2))?;
-        write!(text, " {value}\n")?;
+        put_span(&mut text, first, (from, i / 2), value)?;
         from = i / 2 + 1;
     }
     if let Some(value) = truth.first() {
