@@ -21,7 +21,7 @@ pub use items::put_items;
 pub use json::put_json;
 pub use line::{Detail, Line, put_line};
 pub use margin::put_margins;
-pub use signal::put_verdicts;
+pub use signal::{put_verdicts, verdicts_of};
 pub use table::put_table;
 pub use verdict::{put_start, put_verdict};
 

@@ -1,9 +1,11 @@
 //! The verdicts of a signal, in lines or in JSON.
-ghost use Rattle.std.specs.Prelude.{◌≡◌, ◌≤◌, false, IfSome, MatchOption, OnOk, OnErr};
+ghost use Rattle.std.specs.Prelude.{◌≡◌, ◌≤◌, ◌++◌, false, IfOk, IfSome, MatchOption, OnOk, OnErr};
+ghost use Rattle.rational.specs.Time.{closed};
 ghost use Rattle.frac128.specs.Value.{value};
 ghost use Rattle.value_laws.specs.Kinds.{truth_shape};
+ghost use Rattle.pl_signal.specs.Knots.{start, stop, IsWorth};
 ghost use Rattle.report.specs.Appended.{Grew, GrewInPart, AreEach};
-ghost use Rattle.report.specs.SignalVerdicts.{AreSignalLines};
+ghost use Rattle.report.specs.SignalVerdicts.{AreSignalLines, DescribesFunction};
 ghost use Rattle.report.specs.Spelling.{listed};
 ghost use Rattle.report.specs.VerdictForms.{IsEntry, AreEntries};
 ghost use Rattle.stl_syntax.specs.Texts.{IsNumberText};
@@ -12,6 +14,7 @@ use crate::following::{Style, put_next, time_text};
 use crate::spelling::OpenSpan;
 use frac128::Memory;
 use pl_signal::Signal;
+use std::alloc::Global;
 use stl_syntax::{Scale, Text, Verdict};
 use value_laws::{Shape, Truth};
 
@@ -65,4 +68,37 @@ pub fn put_verdicts(text: &mut Text, s: &Signal<Truth>, scale: Scale) -> Result<
     ensures err { OnErr result (GrewInPart (AreSignalLines ⟦<Truth as Shape>⟧ scale s.now) text.old text.new) }
 {
     put_spans(text, s, Style { json: false, scale })
+}
+
+/// Adds a verdict, where there is one.
+fn add_ended(all: &mut Vec<Verdict>, ended: Option<Verdict>) -> Result<(), Memory>
+    ensures { OnOk result (all.new.items ≡ all.old.items ++ listed ended) }
+{
+    let Some(v) = ended else {
+        return Ok(());
+    };
+    match all.push(v) {
+        Ok(()) => Ok(()),
+        Err(_) => Err(Memory),
+    }
+}
+
+/// The verdicts of a signal: the longest spans of one truth, in order.
+///
+/// # Errors
+/// Want of memory.
+pub fn verdicts_of(alloc: Global, s: &Signal<Truth>) -> Result<Vec<Verdict>, Memory>
+    ensures { IfOk result (λ vs. DescribesFunction (IsWorth ⟦<Truth as Shape>⟧ s.now) vs.items (closed (start s.now) (stop s.now))) }
+{
+    let knots = s.len();
+    let mut span = OpenSpan::start(&s.knot(0));
+    let mut all = Vec::new(alloc);
+    for i in 1..knots {
+        let (by_gap, by_point) = span.advance(&s.knot(i - 1), &s.knot(i));
+        add_ended(&mut all, by_gap)?;
+        add_ended(&mut all, by_point)?;
+    }
+    let last = span.close(s.stop(), true);
+    add_ended(&mut all, Some(last))?;
+    Ok(all)
 }

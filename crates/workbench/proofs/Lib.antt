@@ -31,3 +31,4 @@ pub mod OwedLaws
 pub mod OneRequest
 pub mod EndsOnce
 pub mod Passes
+pub mod Reported

@@ -6,6 +6,7 @@ mod case;
 mod entry;
 mod explain;
 mod fault;
+mod json;
 pub mod laws;
 mod line;
 mod output;
@@ -15,6 +16,7 @@ mod request;
 mod robust;
 mod signals;
 mod stream;
+mod table;
 mod texts;
 mod top;
 
