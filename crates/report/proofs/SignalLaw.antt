@@ -18,7 +18,7 @@ use Rattle.report.specs.SignalVerdicts.{sign_of, IsToldBy, GoesOnBy, DescribesFu
 
 module _ {P : Type 0} (shape : ShapeOf P) (p : Subformula) (tr : Trace) (signal : List (Knot P)) (ok : HasValues p (truth_setting tr)) (tells : Tells shape (SupInf p (truth_setting tr)) (start tr) (stop tr) signal) where
   -- what the signal is worth is the truth
-  truth_at : (holds : Bool) (t : Rational) → knots.IsWorth shape signal t (sign_of holds) → MatchBool holds (Truth p tr t) (¬ Truth p tr t)
+  pub truth_at : (holds : Bool) (t : Rational) → knots.IsWorth shape signal t (sign_of holds) → MatchBool holds (Truth p tr t) (¬ Truth p tr t)
   truth_at true t h = let w = (tells.worth t one).0 h in (truth_by_values p tr ok t one w.0 w.1).holds.0 (same_reflᵉ one)
   truth_at false t h = let w = (tells.worth t minus_one).0 h in (truth_by_values p tr ok t minus_one w.0 w.1).fails.0 (same_reflᵉ minus_one)
 

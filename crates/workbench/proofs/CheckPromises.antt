@@ -1,6 +1,6 @@
 -- The promises of `check`, each from how a run ends whose words ask for it.
-use Rattle.std.proofs.Common.{◌≡◌, ◌≢◌, ◌⊎◌, inl, inr, ℕ, ◌≤◌, Bool, true, false, List, [], ◌∷◌, ◌++◌, length, refl, sym, ap, ◌∙◌, subst, arith, append-nil, Some, None}
-use Rattle.std.specs.Prelude.{Option, codes}
+use Rattle.std.proofs.Common.{◌≡◌, ◌≢◌, ◌⊎◌, inl, inr, ℕ, ◌≤◌, Bool, true, false, List, [], ◌∷◌, ◌++◌, refl, sym, ap, ◌∙◌, subst, arith, append-nil, Some, None}
+use Rattle.std.specs.Prelude.{Option}
 use Rattle.std.proofs.lemmas.Bool.{false≢true}
 use Rattle.std.proofs.lemmas.List.{append_cancel_left, append_cancel_right}
 use Rattle.std.specs.Io.KnownBytes.{Appends, Consumes, IsAtEnd}
@@ -13,7 +13,7 @@ use Rattle.stl_grammar.specs.FormulaRefusals.{IsFormulaOf}
 use Rattle.stl_grammar.proofs.LawProofs.{one_formula}
 use Rattle.report.specs.Report.{check, robust, explain, json, table, Out}
 use Rattle.workbench.specs.Words.{AskCheck}
-use Rattle.workbench.specs.Commands.{Judge, judge, judge_word}
+use Rattle.workbench.specs.Commands.{Judge, judge, judge_word, IsForm, of_formula}
 use Rattle.workbench.specs.declared.request.Command.TheVariants.{Check}
 use Rattle.workbench.specs.Commands as word
 use Rattle.workbench.specs.Requests.{Request, no_form, refused, whole, stream, sessions, generated, verdicts, early, margins, Asks, AreNone, IsAsked, IsAmong, built_commands, IsRefusal, AreHeld, is_held, has_input, usage_line}
@@ -29,6 +29,7 @@ use Rattle.workbench.specs.Promises.{AreNoForm, AskForBad, AskFor, Took, Got, Is
 use Rattle.workbench.proofs.FaultsStay.{unsound}
 use Rattle.workbench.proofs.NoForm.{two_is_none}
 use Rattle.workbench.proofs.RunEnds.{word_form, asked_word}
+use Rattle.workbench.proofs.OneRequest.{one_judged}
 
 -- words ask for one text
 one_text : {words : List (List ℕ)} {text other : List ℕ} → AskCheck words text → AskCheck words other → text ≡ other
@@ -69,25 +70,10 @@ pub data IsBuiltRequest : Request → Type 0 where
   of_bad : (line : List ℕ) → IsBuiltRequest (refused line)
   of_check : (f : Formula) → IsBuiltRequest (whole check f)
 
-other_word : codes "robust" ≡ codes "check" → ⊥
-other_word e = let n = ap length e in omega (arith, n)
-
-longer_word : codes "explain" ≡ codes "check" → ⊥
-longer_word e = let n = ap length e in omega (arith, n)
-
 -- they ask for no other command
 check_alone : {words : List (List ℕ)} {own : List ℕ} → AskCheck words own → (command : Judge) (text : List ℕ) → IsAsked words (judge command text) → command ≡ word.check
-check_alone {words} {own} ask command text a = by_word a.built
-  where
-    by_word : IsAmong command built_commands → command ≡ word.check
-    by_word (inl e) = e
-    by_word (inr (inl e)) =
-        let form : words ≡ judge_word word.robust ∷ text ∷ [] = subst (λ k. words ≡ judge_word k ∷ text ∷ []) e (word_form a.is) in
-        absurd (other_word (let same = sym form ∙ ask in cc))
-    by_word (inr (inr (inl e))) =
-        let form : words ≡ judge_word word.explain ∷ text ∷ [] = subst (λ k. words ≡ judge_word k ∷ text ∷ []) e (word_form a.is) in
-        absurd (longer_word (let same = sym form ∙ ask in cc))
-    by_word (inr (inr (inr other))) = absurd other
+check_alone {words} {own} ask command text a =
+    (one_judged command word.check text own a.is (subst (λ ws. IsForm ws (judge word.check own)) (sym ask) (of_formula word.check))).0
 
 check_asked : {words : List (List ℕ)} {text : List ℕ} → IsAsked words (judge word.check text) → AskCheck words text
 check_asked a = word_form a.is
@@ -438,5 +424,7 @@ all_held words (judge command text) a = by_word a.built
     by_word (inl e) = subst (λ k. is_held (judge k text) ≡ true) (sym e) refl
     by_word (inr (inl e)) = subst (λ k. is_held (judge k text) ≡ true) (sym e) refl
     by_word (inr (inr (inl e))) = subst (λ k. is_held (judge k text) ≡ true) (sym e) refl
-    by_word (inr (inr (inr other))) = absurd other
+    by_word (inr (inr (inr (inl e)))) = subst (λ k. is_held (judge k text) ≡ true) (sym e) refl
+    by_word (inr (inr (inr (inr (inl e))))) = subst (λ k. is_held (judge k text) ≡ true) (sym e) refl
+    by_word (inr (inr (inr (inr (inr other))))) = absurd other
 all_held words (word.generate n rows) a = absurd a.built

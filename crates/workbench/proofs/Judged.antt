@@ -6,7 +6,7 @@ use Rattle.rational.specs.Time.{Rational, closed, ◌≈◌}
 use Rattle.rational.specs.Extended.{value_at, ◌≈ᵉ◌}
 use Rattle.rational.specs.Affine.{level}
 use Rattle.rational.proofs.Order.{same_sym}
-use Rattle.rational.proofs.AffineLemmas.{same_reflᵉ, same_symᵉ}
+use Rattle.rational.proofs.AffineLemmas.{same_symᵉ}
 use Rattle.rational.proofs.LevelLemmas.{level_is}
 use Rattle.value_laws.specs.Members.{ShapeOf}
 use Rattle.value_laws.specs.Kinds.{truth_shape}
@@ -26,14 +26,14 @@ use Rattle.stl_syntax.specs.declared.items.Verdict.{Verdict}
 use Rattle.stl_syntax.specs.declared.atom.Atom.{Atom}
 use Rattle.stl_syntax.specs.declared.node.Node.{Node}
 use Rattle.stl_syntax.specs.declared.node.Node.TheVariants.{Atom as Leaf}
-use Rattle.stl_syntax.proofs.LawProofs.{truth_by_values, last_from}
+use Rattle.stl_syntax.proofs.LawProofs.{last_from}
 use Rattle.atom_lines.specs.Binding.{IsBound}
 use Rattle.atom_lines.specs.AtomSignals.{IsAtomSignal}
 use Rattle.offline_eval.specs.Inputs.{is_atom, IsInput}
 use Rattle.offline_eval.specs.Evaluation.{TellNodes}
 use Rattle.offline_eval.proofs.Places.{atoms_on_atom, atoms_on_other, told_none, told_atom, told_other}
 use Rattle.report.specs.SignalVerdicts.{sign_of}
-use Rattle.report.proofs.SignalLaw.{signal_describes}
+use Rattle.report.proofs.SignalLaw.{truth_at, signal_describes}
 use Rattle.workbench.specs.declared.case.Case.{Case}
 use Rattle.workbench.specs.Cases.{IsCase}
 use Rattle.workbench.specs.Answers.{IsJudged}
@@ -112,14 +112,8 @@ at_start (l ∷ ks) k h t e =
 module _ (c : Case) (f : Formula) (case : IsCase f c) (values : HasValues (root c.formula.nodes) (truth_setting c.trace))
     (x : List (Knot Truth)) (tells : Tells truth_shape (SupInf (root c.formula.nodes) (truth_setting c.trace)) (start c.trace) (stop c.trace) x)
     (holds : Bool) (text : List ℕ) (is : IsSignalText truth_shape c.formula.scale x holds text) where
-  -- what is worth the sign of a truth is that truth
-  truth_at : (holds : Bool) (t : Rational) → knots.IsWorth truth_shape x t (sign_of holds)
-      → MatchBool holds (Holds (root c.formula.nodes) c.trace t) (¬ Holds (root c.formula.nodes) c.trace t)
-  truth_at true t h = let w = (tells.worth t one).0 h in (truth_by_values (root c.formula.nodes) c.trace values t one w.0 w.1).holds.0 (same_reflᵉ one)
-  truth_at false t h = let w = (tells.worth t minus_one).0 h in (truth_by_values (root c.formula.nodes) c.trace values t minus_one w.0 w.1).fails.0 (same_reflᵉ minus_one)
-
   now : MatchBool holds (Holds (root c.formula.nodes) c.trace (start c.trace)) (¬ Holds (root c.formula.nodes) c.trace (start c.trace))
-  now = truth_at holds (start c.trace) (is.first (start c.trace) (same_sym tells.begins))
+  now = truth_at truth_shape (root c.formula.nodes) c.trace x values tells holds (start c.trace) (is.first (start c.trace) (same_sym tells.begins))
 
   -- the truth and the text over given nodes, with times in units of a scale
   Over : Formula → Type 0

@@ -35,3 +35,4 @@ pub mod Passes
 pub mod Living
 pub mod FrontTexts
 pub mod AtRest
+pub mod Reported

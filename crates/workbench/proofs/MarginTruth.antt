@@ -13,9 +13,11 @@ use Rattle.stl_syntax.specs.Knots.{Knot, Piece, Knots, IsInside, ReadsFrom, Read
 use Rattle.stl_syntax.specs.SupInf.{Robustness, margin_setting}
 use Rattle.stl_syntax.specs.Verdicts.{IsRobust, IsRobustInside, PiecesGoOn, TellsAfter, DescribesMargins}
 use Rattle.stl_syntax.proofs.LawProofs.{values_are_of_times}
-use Rattle.report.specs.Report.{robust, nodes_for}
+use Rattle.report.specs.Report.{Command, robust, json, table, nodes_for}
 use Rattle.workbench.specs.Settled.{TellTruth, IsAnsweredWhole}
-use Rattle.workbench.specs.Measured.{IsBelowSize, AreTrueKnots, IsMeasured}
+use Rattle.workbench.specs.Measured.{IsBelowSize, AreTrueKnots, HasKnots, IsMeasured}
+use Rattle.workbench.specs.InputFaults.{whole_limits}
+use Rattle.workbench.specs.Reading.{IsWhole}
 
 -- a trace is like itself, and close to itself
 close_to_itself : (tr : Trace) (p : Subformula) → AreClose (whole (pos 0)) tr tr p
@@ -119,13 +121,25 @@ module _ (p : Subformula) (tr : Trace) where
     pub true_knots : AreTrueKnots p tr knots
     true_knots = record { value = value_read; sign = sign; margin = margin }
 
-pub measured_truth : (f : Formula) (bytes text : List ℕ) (status : ℕ) → IsAnsweredWhole robust f bytes status text → IsMeasured f bytes text
-measured_truth f bytes text status a =
-    let (knots, described, lines) = a.written in record {
-      tr = a.tr;
-      trace = a.trace;
-      knots = knots;
-      described = described;
-      lines = lines;
-      truth = true_knots (root (nodes_for f a.tr)) a.tr knots described a.sure;
-    }
+-- the knots of a text tell the truth
+of_knots : (c : Command) (f : Formula) (bytes text : List ℕ) (tr : Trace) → IsWhole whole_limits f bytes tr → TellTruth (root (nodes_for f tr)) tr
+    → (knots : Knots) → DescribesMargins knots (root (nodes_for f tr)) tr → HasKnots c f tr knots text → IsMeasured c f bytes text
+of_knots c f bytes text tr trace sure knots described has = record {
+  tr = tr;
+  trace = trace;
+  knots = knots;
+  described = described;
+  has = has;
+  truth = true_knots (root (nodes_for f tr)) tr knots described sure;
+}
+
+pub measured_truth : (f : Formula) (bytes text : List ℕ) (status : ℕ) → IsAnsweredWhole robust f bytes status text → IsMeasured robust f bytes text
+measured_truth f bytes text status a = let (knots, described, lines) = a.written in of_knots robust f bytes text a.tr a.trace a.sure knots described lines
+
+pub tabulated_truth : (f : Formula) (bytes text : List ℕ) (status : ℕ) → IsAnsweredWhole table f bytes status text → IsMeasured table f bytes text
+tabulated_truth f bytes text status a = let (knots, described, lines) = a.written in of_knots table f bytes text a.tr a.trace a.sure knots described lines
+
+pub reported_truth : (f : Formula) (bytes text : List ℕ) (status : ℕ) → IsAnsweredWhole json f bytes status text → IsMeasured json f bytes text
+reported_truth f bytes text status a =
+    let (verdicts, knots, items, holds, report, _, described, _, _, members, is) = a.written in
+    of_knots json f bytes text a.tr a.trace a.sure.0 knots described (verdicts, items, holds, report, members, is)

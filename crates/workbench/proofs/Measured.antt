@@ -10,25 +10,29 @@ use Rattle.value_laws.specs.Kinds.{margin_shape}
 use Rattle.pl_signal.specs.declared.knot.Knot.{Knot}
 use Rattle.pl_signal.specs.declared.faults.WidePair.{WidePair}
 use Rattle.pl_signal.specs.declared.faults.WidePair.TheVariants.{Cross, Value}
-use Rattle.pl_signal.specs.Moves.{Tells}
 use Rattle.pl_signal.specs.Plain.{knots_of}
 use Rattle.stl_syntax.specs.Formula.{Formula, root}
-use Rattle.stl_syntax.specs.Trace.{start, stop}
+use Rattle.stl_syntax.specs.Scaling.{scaled}
+use Rattle.stl_syntax.specs.declared.scale.Scale.{Scale}
+use Rattle.stl_syntax.specs.Trace.{Trace}
 use Rattle.stl_syntax.specs.Knots.{Knots}
-use Rattle.stl_syntax.specs.SupInf.{SupInf, HasValues, HasInfs, margins, margin_setting}
+use Rattle.stl_syntax.specs.SupInf.{margins, margin_setting}
 use Rattle.stl_syntax.specs.Texts.{AreMarginLines}
 use Rattle.stl_syntax.specs.Verdicts.{DescribesMargins}
 use Rattle.stl_syntax.proofs.LawProofs.{margins_hold}
 use Rattle.offline_eval.specs.Evaluation.{IsCauseAt}
 use Rattle.offline_eval.specs.declared.faults.EvalFault.{EvalFault}
 use Rattle.offline_eval.specs.declared.faults.EvalFault.TheVariants as E
-use Rattle.report.specs.Report.{robust}
+use Rattle.report.specs.Report.{robust, table}
+use Rattle.report.specs.Table.{IsTableText}
 use Rattle.report.proofs.MarginLaw.{knots_describe}
 use Rattle.workbench.specs.declared.case.Case.{Case}
 use Rattle.workbench.specs.Cases.{IsCase}
-use Rattle.workbench.specs.Judging.{IsFaultIn, denominator_of, stop_of_fault}
+use Rattle.workbench.specs.Judging.{IsFaultIn, IsRootOf, denominator_of, stop_of_fault}
 use Rattle.workbench.specs.Settled.{TellTruth, IsNeeded}
 use Rattle.workbench.specs.Wholes.{IsAnswerOf, IsUnanswered}
+use Rattle.workbench.specs.declared.fault.Stop.{Stop}
+use Rattle.workbench.specs.declared.fault.Stop.TheVariants.{Fault as Faulty, Unread, Unwritten, NoMemory, Wide, TooMany}
 
 -- a time of 32 bits is within the limits
 pub tick_within : (t : Rational) (n : ℕ) → t ≈ whole (pos n) → n ≤ 4294967295 → IsWithin (2 ^ 34) t
@@ -38,23 +42,31 @@ tick_within t n e small = (
 )
 
 module _ (c : Case) (f : Formula) (case : IsCase f c) where
-  -- the text and the law of margins over given nodes, with times and values in units of a scale
-  Over : List ℕ → Formula → Type 0
-  Over text g =
-      ((knots : Knots) × DescribesMargins knots (root g.nodes) c.trace × AreMarginLines g.scale knots text)
+  -- the text of knots and the law of margins over given nodes, with times and values in units of a scale
+  Over : (Scale → Knots → List ℕ → Type 0) → List ℕ → Formula → Type 0
+  Over Form text g =
+      ((knots : Knots) × DescribesMargins knots (root g.nodes) c.trace × Form g.scale knots text)
       × TellTruth (root g.nodes) c.trace
 
-  pub measured : (x : List (Knot Margin)) (text : List ℕ) → HasValues (root c.formula.nodes) (margin_setting c.trace) → HasInfs (root c.formula.nodes) (margin_setting c.trace)
-      → Tells margin_shape (SupInf (root c.formula.nodes) (margin_setting c.trace)) (start c.trace) (stop c.trace) x
+  over : (Form : Scale → Knots → List ℕ → Type 0) (x : List (Knot Margin)) (text : List ℕ) → IsRootOf margin_shape margins c x
+      → Form c.formula.scale (knots_of margin_shape x) text → Over Form text (scaled f c.trace.header.scale)
+  unfolding Over
+  over Form x text told lines =
+      let own : Over Form text c.formula = (
+        (knots_of margin_shape x, knots_describe margin_shape (root c.formula.nodes) c.trace x told.tells, lines),
+        λ tr' e positive like close. margins_hold (root c.formula.nodes) c.trace tr' e positive like close told.values told.infs,
+      ) in
+      subst (Over Form text) case.formula own
+
+  pub measured : (x : List (Knot Margin)) (text : List ℕ) → IsRootOf margin_shape margins c x
       → AreMarginLines c.formula.scale (knots_of margin_shape x) text → IsAnswerOf robust f c.trace true text
   unfolding Over
-  measured x text values infs tells lines =
-      let own : Over text c.formula = (
-        (knots_of margin_shape x, knots_describe margin_shape (root c.formula.nodes) c.trace x tells, lines),
-        λ tr' e positive like close. margins_hold (root c.formula.nodes) c.trace tr' e positive like close values infs,
-      ) in
-      let over = subst (Over text) case.formula own in
-      record { verdict = refl; written = over.0; few = λ n h. h; sure = over.1 }
+  measured x text told lines = let o = over AreMarginLines x text told lines in record { verdict = refl; written = o.0; few = λ n h. h; sure = o.1 }
+
+  pub tabulated : (x : List (Knot Margin)) (text : List ℕ) → IsRootOf margin_shape margins c x
+      → IsTableText c.formula.scale (knots_of margin_shape x) text → IsAnswerOf table f c.trace true text
+  unfolding Over
+  tabulated x text told lines = let o = over IsTableText x text told lines in record { verdict = refl; written = o.0; few = λ n h. h; sure = o.1 }
 
   needed : (i : ℕ) (pair : WidePair Margin) → IsCauseAt margin_shape c.formula.nodes (margin_setting c.trace) i pair
       → IsNeeded c.formula.nodes (margin_setting c.trace) i (denominator_of pair)
@@ -67,3 +79,12 @@ module _ (c : Case) (f : Formula) (case : IsCase f c) where
     subst (λ (g : Formula). IsNeeded g.nodes (margin_setting c.trace) cause.node (denominator_of cause.pair)) case.formula (needed cause.node cause.pair is.1),
     λ n h. h,
   )
+
+-- why `table` has no answer
+pub untabulated : (f : Formula) (tr : Trace) (stop : Stop) → IsUnanswered robust f tr stop → IsUnanswered table f tr stop
+untabulated f tr (Faulty fault) is = is
+untabulated f tr Unread is = is
+untabulated f tr Unwritten is = is
+untabulated f tr NoMemory is = is
+untabulated f tr (Wide i den) is = is
+untabulated f tr (TooMany count) is = is

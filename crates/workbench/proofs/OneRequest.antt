@@ -1,15 +1,15 @@
 -- Words ask for one request.
-use Rattle.std.proofs.Common.{◌≡◌, ◌⊎◌, inl, inr, ℕ, Bool, true, false, List, [], ◌∷◌, refl, sym, ap, ◌∙◌, subst, Option, Some, None, if◌then◌else◌}
+use Rattle.std.proofs.Common.{◌≡◌, inl, inr, ℕ, List, [], ◌∷◌, refl, sym, ap, ◌∙◌, subst, Option, Some, None, if◌then◌else◌}
 use Rattle.std.specs.Prelude.{codes, bytes_eq}
 use Rattle.stl_syntax.specs.Formula.{Formula}
 use Rattle.stl_syntax.proofs.ScalingLemmas.{one_first}
 use Rattle.online_nodes.specs.StreamedWide.{IsUnstreamed}
 use Rattle.stl_grammar.specs.FormulaRefusals.{IsFormulaOf}
 use Rattle.stl_grammar.proofs.LawProofs.{one_formula, one_refusal}
-use Rattle.report.specs.Report.{Command, check, robust, explain, json, table}
+use Rattle.report.specs.Report.{check, robust, explain, json, table}
 use Rattle.workbench.specs.Commands.{Judge, Form, judge, generate, IsForm, of_formula, gen, judge_word}
 use Rattle.workbench.specs.Commands as word
-use Rattle.workbench.specs.Requests.{Request, no_form, refused, whole, stream, sessions, generated, Stream, verdicts, early, margins, Asks, AreNone, AreFor, AreRefused, IsAsked, IsRefusal, IsUnserved, word_of, word_of_stream}
+use Rattle.workbench.specs.Requests.{Request, no_form, refused, whole, stream, sessions, generated, verdicts, early, margins, Asks, AreNone, AreFor, AreRefused, IsAsked, IsRefusal, IsUnserved}
 use Rattle.workbench.specs.ErrTexts.{formula_fault_text, not_streamed_text}
 
 -- ---- forms
@@ -42,7 +42,7 @@ judged_form : {words : List (List ℕ)} {j : Judge} {text : List ℕ} → IsForm
 judged_form (of_formula j) = refl
 
 -- words of a command's form are of no other
-one_judged : {words : List (List ℕ)} (j k : Judge) (text other : List ℕ) → IsForm words (judge j text) → IsForm words (judge k other) → (j ≡ k) × (text ≡ other)
+pub one_judged : {words : List (List ℕ)} (j k : Judge) (text other : List ℕ) → IsForm words (judge j text) → IsForm words (judge k other) → (j ≡ k) × (text ≡ other)
 one_judged j k text other a b =
     let e : judge_word j ∷ text ∷ [] ≡ judge_word k ∷ other ∷ [] = sym (judged_form a) ∙ judged_form b in
     (one_word j k (let h : judge_word j ≡ judge_word k = cc in h), (let h : text ≡ other = cc in h))

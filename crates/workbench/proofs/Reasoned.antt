@@ -23,13 +23,13 @@ use Rattle.report.specs.Report.{explain, nodes_for, AreItemLines}
 use Rattle.workbench.specs.declared.case.Case.{Case}
 use Rattle.workbench.specs.Cases.{IsCase}
 use Rattle.workbench.specs.Owed.{IsUnexplained}
-use Rattle.workbench.specs.Reasons.{truth_of, items_of, IsReasonText, stop_of_explaining}
+use Rattle.workbench.specs.Reasons.{items_of, IsReasonText, stop_of_explaining}
 use Rattle.workbench.specs.Wholes.{IsAnswerOf, IsUnanswered}
 use Rattle.workbench.proofs.Columns.{atom_unscaled}
 use Rattle.workbench.proofs.Refuting.{kept_refute}
 
 -- in a case of the formula its nodes are those in the trace's ticks
-nodes_of : (f : Formula) (c : Case) → IsCase f c → c.formula.nodes ≡ nodes_for f c.trace
+pub nodes_of : (f : Formula) (c : Case) → IsCase f c → c.formula.nodes ≡ nodes_for f c.trace
 nodes_of f c case = ap (λ (g : Formula). g.nodes) case.formula
 
 -- the items of an explanation are of atoms of the formula
@@ -42,7 +42,7 @@ atoms_of_reasons f c steps (Violated items) case is =
     own e (a, at) = atom_unscaled f c.trace.header.scale e.node a (subst (λ ns. slice_get ns e.node ≡ Some (Leaf a)) (nodes_of f c case) at)
 
 -- few cells are not too many
-few_cells : (f : Formula) (tr : Trace) (steps : ℕ) (items : List Item) → IsExplained (nodes_for f tr) tr steps (Violated items) → (count : ℕ) → ¬ IsUnexplained f tr count
+pub few_cells : (f : Formula) (tr : Trace) (steps : ℕ) (items : List Item) → IsExplained (nodes_for f tr) tr steps (Violated items) → (count : ℕ) → ¬ IsUnexplained f tr count
 few_cells f tr steps items is count un = absurd (omega (arith, is.few, too_many_is_more (nodes_for f tr) tr most_cells count is.cells un.many is.count))
 
 module _ (f : Formula) (tr : Trace) (text : List ℕ) (post : IsPostOrder (nodes_for f tr)) (some : 0 < length (nodes_for f tr)) where

@@ -19,7 +19,7 @@ use Rattle.workbench.specs.InputFaults.{Fault, whole_limits, IsInputFault}
 use Rattle.workbench.specs.Reading.{IsReadWhole, IsReadPromptly, IsStop}
 use Rattle.workbench.specs.Writing.{IsPartWritten}
 use Rattle.workbench.specs.declared.request.Command.{Command as Word}
-use Rattle.workbench.specs.declared.request.Command.TheVariants.{Check, Robust, Explain}
+use Rattle.workbench.specs.declared.request.Command.TheVariants.{Check, Robust, Explain, Json, Table}
 use Rattle.workbench.specs.Wholes.{command_of, status_of_truth, IsAnswerOf, IsUnanswered, IsWrittenWith, all_of_it, a_part, IsWholeEnd, answered, unanswered, stopped, status_of, status_of_stop, IsEndLine, IsStopLine, EndsSoundly, IsBadEnd, refused, no_room}
 use Rattle.workbench.specs.declared.case.Case.{Case}
 use Rattle.workbench.specs.declared.fault.Stop.{Stop}
@@ -36,6 +36,8 @@ is_built : (w : Word) → IsAmong (word_of (command_of w)) built_commands
 is_built Check = inl refl
 is_built Robust = inr (inl refl)
 is_built Explain = inr (inr (inl refl))
+is_built Json = inr (inr (inr (inl refl)))
+is_built Table = inr (inr (inr (inr (inl refl))))
 
 -- a command's word and one more are of a form that is built
 pub asked_word : {words : List (List ℕ)} (w : Word) (text : List ℕ) → words ≡ judge_word (word_of (command_of w)) ∷ text ∷ []
@@ -50,7 +52,9 @@ none_asked {words} h (judge j text) a = by_word a.built
     by_word (inl e) = h Check text (subst (λ k. words ≡ judge_word k ∷ text ∷ []) e (word_form a.is))
     by_word (inr (inl e)) = h Robust text (subst (λ k. words ≡ judge_word k ∷ text ∷ []) e (word_form a.is))
     by_word (inr (inr (inl e))) = h Explain text (subst (λ k. words ≡ judge_word k ∷ text ∷ []) e (word_form a.is))
-    by_word (inr (inr (inr other))) = other
+    by_word (inr (inr (inr (inl e)))) = h Json text (subst (λ k. words ≡ judge_word k ∷ text ∷ []) e (word_form a.is))
+    by_word (inr (inr (inr (inr (inl e))))) = h Table text (subst (λ k. words ≡ judge_word k ∷ text ∷ []) e (word_form a.is))
+    by_word (inr (inr (inr (inr (inr other))))) = other
 none_asked h (generate n rows) a = a.built
 
 -- a command that holds the whole trace serves each formula

@@ -1,5 +1,5 @@
 -- What the knots of a robustness tell of the truth.
-use Rattle.std.specs.Prelude.{◌⊎◌, ◌↔◌, ℕ, List, pos}
+use Rattle.std.specs.Prelude.{◌≡◌, ◌⊎◌, ◌↔◌, ℕ, Bool, List, ◌++◌, pos}
 use Rattle.rational.specs.Time.{Rational, Within, whole, negate, ◌≤ʳ◌}
 use Rattle.rational.specs.Extended.{Extended, finite, ◌<ᵉ◌, ◌≈ᵉ◌}
 use Rattle.stl_syntax.specs.Formula.{Formula, Subformula, root}
@@ -8,9 +8,15 @@ use Rattle.stl_syntax.specs.Truth.{Truth}
 use Rattle.stl_syntax.specs.Closeness.{AreClose}
 use Rattle.stl_syntax.specs.Knots.{Knots, Reads}
 use Rattle.stl_syntax.specs.SupInf.{Robustness}
-use Rattle.stl_syntax.specs.Texts.{AreMarginLines}
+use Rattle.stl_syntax.specs.Texts.{AreMarginLines, newline}
 use Rattle.stl_syntax.specs.Verdicts.{DescribesMargins}
-use Rattle.report.specs.Report.{nodes_for}
+use Rattle.stl_syntax.specs.declared.items.Verdict.{Verdict}
+use Rattle.stl_syntax.specs.declared.items.Item.{Item}
+use Rattle.serde_json.specs.Data.{Data}
+use Rattle.serde_json.specs.Written.{compact_text}
+use Rattle.report.specs.Json.{IsReportData}
+use Rattle.report.specs.Table.{IsTableText}
+use Rattle.report.specs.Report.{Command, robust, json, table, nodes_for}
 use Rattle.workbench.specs.InputFaults.{whole_limits}
 use Rattle.workbench.specs.Reading.{IsWhole}
 
@@ -26,11 +32,20 @@ pub record AreTrueKnots (p : Subformula) (tr : Trace) (knots : Knots) : Type 0 w
   pub margin : (t : Rational) (r : Extended) → Reads knots t r → (e : Rational) (tr' : Trace) → whole (pos 0) ≤ʳ e → IsBelowSize e r
       → IsLike tr' tr → AreClose e tr tr' p → Truth p tr' t ↔ Truth p tr t
 
--- the text is that of knots, with none to spare, that tell the robustness and the truth of a trace, whose bytes these are
-pub record IsMeasured (f : Formula) (bytes text : List ℕ) : Type 0 where
+-- the text of the command has these knots
+abbrev pub HasKnots : Command → Formula → Trace → Knots → List ℕ → Type 0
+HasKnots robust f tr knots text = AreMarginLines tr.header.scale knots text
+HasKnots table f tr knots text = IsTableText tr.header.scale knots text
+HasKnots json f tr knots text =
+    (verdicts : List Verdict) × (items : List Item) × (holds : Bool) × (report : Data)
+    × IsReportData tr.header.scale f verdicts knots items holds report × (text ≡ compact_text report ++ newline)
+HasKnots c f tr knots text = ⊥
+
+-- the text of the command has knots, with none to spare, that tell the robustness and the truth of a trace, whose bytes these are
+pub record IsMeasured (c : Command) (f : Formula) (bytes text : List ℕ) : Type 0 where
   pub tr : Trace
   pub trace : IsWhole whole_limits f bytes tr
   pub knots : Knots
   pub described : DescribesMargins knots (root (nodes_for f tr)) tr
-  pub lines : AreMarginLines tr.header.scale knots text
+  pub has : HasKnots c f tr knots text
   pub truth : AreTrueKnots (root (nodes_for f tr)) tr knots

@@ -5,7 +5,7 @@ use Rattle.stl_syntax.specs.Formula.{Formula}
 use Rattle.stl_syntax.specs.Trace.{Trace}
 use Rattle.stl_grammar.specs.declared.fault.FormulaFault.{FormulaFault}
 use Rattle.stl_grammar.specs.declared.fault.FormulaFault.TheVariants as fault
-use Rattle.report.specs.Report.{Command, check, robust, explain, Out}
+use Rattle.report.specs.Report.{Command, check, robust, explain, json, table, Out}
 use Rattle.std.specs.Io.KnownBytes.{Appends}
 use Rattle.workbench.specs.Requests.{IsBadText}
 use Rattle.workbench.specs.Owed.{HasTooMany}
@@ -18,7 +18,7 @@ use Rattle.workbench.specs.declared.case.Case.{Case}
 use Rattle.workbench.specs.declared.fault.Stop.{Stop}
 use Rattle.workbench.specs.declared.fault.Stop.TheVariants.{Fault as Faulty, Unread, Unwritten, NoMemory, Wide, TooMany}
 use Rattle.workbench.specs.declared.request.Command.{Command as Word}
-use Rattle.workbench.specs.declared.request.Command.TheVariants.{Check, Robust, Explain}
+use Rattle.workbench.specs.declared.request.Command.TheVariants.{Check, Robust, Explain, Json, Table}
 use Rattle.workbench.specs.ErrTexts.{out_of_memory, read_fault, write_fault, wide_text, too_many_cells_text}
 
 -- the command of a word
@@ -26,6 +26,8 @@ abbrev pub command_of : Word → Command
 command_of Check = check
 command_of Robust = robust
 command_of Explain = explain
+command_of Json = json
+command_of Table = table
 
 -- 0 for true, 1 for false
 abbrev pub status_of_truth : Bool → ℕ

@@ -27,7 +27,7 @@ pub(crate) struct Answer {
 }
 
 /// The signal of the truth of the formula at every time of the trace. Truth is never refused as `Wide`.
-fn truth_of(alloc: Global, case: &Case) -> Result<Signal<Truth>, Memory>
+pub(crate) fn truth_of(alloc: Global, case: &Case) -> Result<Signal<Truth>, Memory>
     requires bound { IsBound case.now.bound case.now.formula case.now.trace.header }
     requires some { 0 < length case.now.trace.rows }
     ensures { IfOk result (IsRootOf ⟦<Truth as Shape>⟧ truths case.now) }

@@ -42,7 +42,7 @@ pub(crate) fn reasons<L: Ledger>(
 }
 
 /// Why there is no answer, where there is no explanation.
-fn fault_stop(fault: ExplainFault) -> Stop
+pub(crate) fn fault_stop(fault: ExplainFault) -> Stop
     ensures { result ≡ stop_of_explaining fault }
 {
     match fault {

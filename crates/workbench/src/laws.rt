@@ -4,7 +4,7 @@ ghost use Rattle.std.specs.Io.KnownBytes.{IsAtEnd};
 ghost use Rattle.io_edge.specs.Calls.{Drained, Filled, HasFailed, HasRefused};
 ghost use Rattle.workbench.specs.Promises.{IsBadRightly, IsBadWhereDue, IsRefusedRightly, IsRefusedWhereDue, IsAnsweredWhereDue, IsAnsweredRightly, IsCutOffRightly, IsToldRightly};
 ghost use Rattle.stl_syntax.specs.Formula.{Formula};
-ghost use Rattle.report.specs.Report.{Command, robust, explain};
+ghost use Rattle.report.specs.Report.{Command, robust, explain, json, table};
 ghost use Rattle.workbench.specs.Requests.{Request, AreHeld, AreNone, whole, has_input};
 ghost use Rattle.workbench.specs.Settled.{HasFault, IsAnsweredWhole};
 ghost use Rattle.workbench.specs.Accounts.{IsAccount};
@@ -57,12 +57,14 @@ pub fn check_keeps_its_promises()
         → IsToldRightly words i.before i.after i.ended e.before e.after e.faults e.faults_after status }
 {}
 
-/// What `robust` wrote with 0 is a list of knots, with none to spare, that is the Sup-Inf value at each time of the trace, and tells the
-/// truth. The sign law: above 0 the formula holds at the time, and below 0 it fails. The margin law: for every number e of at least 0
+/// What `robust` and `table` wrote with 0, and `json` with 0 or 1, has knots, with none to spare, that are the Sup-Inf value at each time
+/// of the trace, and tell the truth. The sign law: above 0 the formula holds at the time, and below 0 it fails. The margin law: for every number e of at least 0
 /// and below the size of the value, the truth at the time is the same in each trace with the same columns, scale, start and end in
 /// which each atom's expression differs by at most e at each time.
 pub fn margins_tell_the_truth()
-    ensures { (f : Formula) (bytes text : List ℕ) (status : ℕ) → IsAnsweredWhole robust f bytes status text → IsMeasured f bytes text }
+    ensures lines { (f : Formula) (bytes text : List ℕ) (status : ℕ) → IsAnsweredWhole robust f bytes status text → IsMeasured robust f bytes text }
+    ensures rows { (f : Formula) (bytes text : List ℕ) (status : ℕ) → IsAnsweredWhole table f bytes status text → IsMeasured table f bytes text }
+    ensures report { (f : Formula) (bytes text : List ℕ) (status : ℕ) → IsAnsweredWhole json f bytes status text → IsMeasured json f bytes text }
 {}
 
 /// What `explain` wrote with 0 or 1 is an account of the trace: the line of a start that is true, where the formula holds there; else

@@ -7,6 +7,7 @@ mod entry;
 mod explain;
 mod fault;
 mod follow;
+mod json;
 pub mod laws;
 mod line;
 mod live;
@@ -17,6 +18,7 @@ mod request;
 mod robust;
 mod signals;
 mod stream;
+mod table;
 mod texts;
 mod top;
 

@@ -10,6 +10,8 @@ pub(crate) enum Command {
     Check,
     Robust,
     Explain,
+    Json,
+    Table,
 }
 
 /// A command and the text of its formula.
@@ -28,6 +30,8 @@ fn named(word: &str) -> Option<Command>
         "check" => Some(Command::Check),
         "robust" => Some(Command::Robust),
         "explain" => Some(Command::Explain),
+        "json" => Some(Command::Json),
+        "table" => Some(Command::Table),
         _ => None,
     }
 }

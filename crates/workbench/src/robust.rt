@@ -1,9 +1,12 @@
 //! The answer of `robust` for a formula and a trace.
-ghost use Rattle.std.specs.Prelude.{◌≡◌, ◌<◌, length, MatchResult};
+ghost use Rattle.std.specs.Prelude.{◌≡◌, ◌<◌, ◌^◌, length, IfOk, IfErr, MatchResult};
+ghost use Rattle.rational.specs.Rational.{IsWithin};
+ghost use Rattle.pl_signal.specs.Knots.{start, stop};
 ghost use Rattle.stl_syntax.specs.Formula.{Formula as Parsed};
+ghost use Rattle.stl_syntax.specs.SupInf.{margins};
 ghost use Rattle.report.specs.Report.{robust};
 ghost use Rattle.workbench.specs.Cases.{IsCase};
-ghost use Rattle.workbench.specs.Judging.{denominator_of, stop_of_fault};
+ghost use Rattle.workbench.specs.Judging.{denominator_of, stop_of_fault, IsRootOf};
 ghost use Rattle.workbench.specs.Wholes.{IsAnswerOf, IsUnanswered};
 
 use crate::answer::Answer;
@@ -11,13 +14,13 @@ use crate::case::Case;
 use crate::fault::Stop;
 use crate::signals::root_of;
 use offline_eval::EvalFault;
-use pl_signal::WidePair;
+use pl_signal::{Signal, WidePair};
 use report::put_margins;
 use std::alloc::Global;
 use std::marker::Brand;
 use std::sync::ledger::Blank;
 use stl_syntax::Text;
-use value_laws::Margin;
+use value_laws::{Margin, Shape};
 
 /// The denominator that a pair needs.
 fn denominator(pair: &WidePair<Margin>) -> u128
@@ -42,6 +45,24 @@ fn fault_stop(fault: EvalFault<Margin>) -> Stop
     }
 }
 
+/// The signal of the robustness over a trace that has a row, of the formula that is bound to it.
+///
+/// # Errors
+/// A denominator of 2^60 or more that a node needs; want of memory.
+pub(crate) fn margins_of(alloc: Global, case: &Case) -> Result<Signal<Margin>, Stop>
+    requires case { (f : Parsed) × IsCase f case.now }
+    requires some { 0 < length case.now.trace.rows }
+    ensures told { IfOk result (IsRootOf ⟦<Margin as Shape>⟧ margins case.now) }
+    ensures begins { IfOk result (λ s. IsWithin (2 ^ 34) (start s)) }
+    ensures ends { IfOk result (λ s. IsWithin (2 ^ 34) (stop s)) }
+    ensures none { IfErr result (λ e. (f : Parsed) → IsCase f case.now → IsUnanswered robust f case.now.trace e) }
+{
+    match root_of::<Margin, Brand>(alloc, case, Blank::new(1)) {
+        Ok(signal) => Ok(signal),
+        Err(fault) => Err(fault_stop(fault)),
+    }
+}
+
 /// The robustness over a trace that has a row, of the formula that is bound to it: its knots and pieces as lines.
 ///
 /// # Errors
@@ -53,9 +74,9 @@ pub(crate) fn measure(alloc: Global, case: &Case) -> Result<Answer, Stop>
         (λ a. IsAnswerOf robust f case.now.trace a.holds a.text) (IsUnanswered robust f case.now.trace) }
 {
     let scale = case.formula.scale();
-    let signal = match root_of::<Margin, Brand>(alloc, case, Blank::new(1)) {
+    let signal = match margins_of(alloc, case) {
         Ok(signal) => signal,
-        Err(fault) => return Err(fault_stop(fault)),
+        Err(stop) => return Err(stop),
     };
     let mut text = Text::new(alloc);
     match put_margins(&mut text, &signal, scale) {

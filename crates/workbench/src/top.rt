@@ -14,11 +14,13 @@ use crate::answer::{Answer, judge};
 use crate::case::Case;
 use crate::explain::give_reasons;
 use crate::fault::Stop;
+use crate::json::give_report;
 use crate::line::write_line;
 use crate::output::write_all;
 use crate::reading::read_trace;
 use crate::request::{Command, asked};
 use crate::robust::measure;
+use crate::table::tabulate;
 use crate::texts::{NO_MEMORY, fault_line, formula_line, too_many_cells_line, wide_line};
 use io_edge::{Sink, Source};
 use report::Line;
@@ -34,7 +36,7 @@ const LIMITS: Limits = Limits {
 };
 
 /// The line where the words are of no form.
-const USAGE: &[u8] = b"usage: check F | robust F | explain F\n";
+const USAGE: &[u8] = b"usage: check F | robust F | explain F | json F | table F\n";
 
 /// Writes the answer.
 fn write_answer<K: Sink>(out: &mut K, answer: &Answer) -> Result<bool, Stop>
@@ -64,6 +66,8 @@ fn answer(alloc: Global, command: Command, formula: &Formula, case: &Case) -> Re
         },
         Command::Robust => measure(alloc, case),
         Command::Explain => give_reasons(alloc, formula, case),
+        Command::Json => give_report(alloc, formula, case),
+        Command::Table => tabulate(alloc, case),
     }
 }
 

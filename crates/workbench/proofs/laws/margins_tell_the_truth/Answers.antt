@@ -1,5 +1,5 @@
-use Rattle.workbench.proofs.MarginTruth.{measured_truth}
+use Rattle.workbench.proofs.MarginTruth.{measured_truth, tabulated_truth, reported_truth}
 use Rattle.workbench.proofs.laws.margins_tell_the_truth.Goals as goal
 
 pub returns : goal.returns
-returns c = measured_truth
+returns c = record { lines = measured_truth; rows = tabulated_truth; report = reported_truth }

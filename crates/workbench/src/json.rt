@@ -1,0 +1,64 @@
+//! The answer of `json` for a formula and a trace.
+ghost use Rattle.std.specs.Prelude.{◌≡◌, ◌<◌, length, MatchResult};
+ghost use Rattle.report.specs.Report.{json};
+ghost use Rattle.workbench.specs.Cases.{IsCase};
+ghost use Rattle.workbench.specs.Reasons.{truth_of as truth_told, items_of};
+ghost use Rattle.workbench.specs.Wholes.{IsAnswerOf, IsUnanswered};
+
+use crate::answer::{Answer, truth_of};
+use crate::case::Case;
+use crate::explain::{fault_stop, reasons};
+use crate::fault::Stop;
+use crate::robust::margins_of;
+use implicants::Explained;
+use report::put_json;
+use std::alloc::Global;
+use std::marker::Brand;
+use std::sync::ledger::Blank;
+use stl_syntax::{Formula, Items, Text};
+
+/// What an explanation says of the start, and its items.
+fn told(alloc: Global, explained: Explained) -> (bool, Items)
+    ensures truth { result.0 ≡ truth_told explained }
+    ensures items { result.1 ≡ items_of explained }
+{
+    match explained {
+        Explained::Holds => (true, Items::new(alloc)),
+        Explained::Violated(items) => (false, items),
+    }
+}
+
+/// The verdicts, the robustness and the explanation over a trace that has a row, of the formula of which the case is made, as one
+/// object of JSON. An explanation that is refused comes before a robustness that is.
+///
+/// # Errors
+/// A violation with too many cells; a denominator of 2^60 or more that a node needs; want of memory.
+pub(crate) fn give_report(alloc: Global, formula: &Formula, case: &Case) -> Result<Answer, Stop>
+    requires case { IsCase formula.now case.now }
+    requires some { 0 < length case.now.trace.rows }
+    ensures { MatchResult result
+        (λ a. IsAnswerOf json formula.now case.now.trace a.holds a.text)
+        (IsUnanswered json formula.now case.now.trace) }
+{
+    let scale = case.formula.scale();
+    // For the proof alone: the formula is well formed.
+    let _ = case.formula.len();
+    let explained = match reasons::<Brand>(alloc, case, Blank::new(1)) {
+        Ok(explained) => explained,
+        Err(fault) => return Err(fault_stop(fault)),
+    };
+    let margins = match margins_of(alloc, case) {
+        Ok(margins) => margins,
+        Err(stop) => return Err(stop),
+    };
+    let truth = match truth_of(alloc, case) {
+        Ok(truth) => truth,
+        Err(_) => return Err(Stop::NoMemory),
+    };
+    let (holds, items) = told(alloc, explained);
+    let mut text = Text::new(alloc);
+    match put_json(alloc, &mut text, formula, &truth, &margins, &items, scale) {
+        Ok(()) => Ok(Answer { holds, text }),
+        Err(_) => Err(Stop::NoMemory),
+    }
+}
