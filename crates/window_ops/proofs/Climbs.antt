@@ -43,7 +43,8 @@ module _ (way : Way) (until stopped : Turn) where
   stopped_at (inl (e, h)) = subst (λ (u : Turn). value u.at ≤ʳ value way.stop) (sym e) h
   stopped_at (inr (e, h)) = subst (λ (u : Turn). value u.at ≤ʳ value way.stop) (sym e) (le_refl (value way.stop))
 
-  pub stopped_within : IsWithin (2 ^ 34) (value way.stop) → IsWithin (2 ^ 34) (value until.at) → IsStopped way until stopped → IsWithin (2 ^ 34) (value stopped.at)
+  pub stopped_within : IsWithin (2 ^ 34) (value way.stop) → IsWithin (2 ^ 34) (value until.at) → IsStopped way until stopped
+      → IsWithin (2 ^ 34) (value stopped.at)
   stopped_within a b (inl (e, h)) = subst (λ (u : Turn). IsWithin (2 ^ 34) (value u.at)) (sym e) b
   stopped_within a b (inr (e, h)) = subst (λ (u : Turn). IsWithin (2 ^ 34) (value u.at)) (sym e) a
 
@@ -91,7 +92,8 @@ module _ {P : Type 0} (shape : ShapeOf P) (laws : ShapeLaws shape) (knots : List
     kept = λ x one. one;
     goes = goes_later shape laws knots way is_way (turn_of k.time true) (turn_of k.time true) (turn_of n.time false) (turn_of k.time true) parts old
         (λ t h. come_next k.time n.time true false rises (shifted t way.over.high) h) (λ t h. h) before.goes;
-    offers = λ t d on. absurd (by_never t d ((from_is t).1 on.0) (to_come_alike (turn_of n.time false) until (shifted t way.over.high) t (until_is t).0 on.1) never);
+    offers = λ t d on. absurd (by_never t d ((from_is t).1 on.0) (to_come_alike (turn_of n.time false) until
+        (shifted t way.over.high) t (until_is t).0 on.1) never);
   }
     where
       after_from : (t : Rational) → HasCome from t → value from.at <ʳ t
@@ -112,7 +114,8 @@ module _ {P : Type 0} (shape : ShapeOf P) (laws : ShapeLaws shape) (knots : List
       (base : IsTrue (shape.moves gap) → IsTrue (shape.moves k.after) × (shape.base gap ≡ shape.base k.after -ℤ way.over.high))
       (some : IsNonEmpty way.over) (after_start : value way.start <ʳ value until.at) (before_stop : value from.at <ʳ value way.stop) where
     moved : (t : Rational) → value_at (shape.function gap) t ≈ᵉ value_at (shape.function k.after) (shifted t way.over.high)
-    moved t = same_transᵉ (value_at (shape.function gap) t) (value_at (shape.function k.after) (add t (whole way.over.high))) (value_at (shape.function k.after) (shifted t way.over.high))
+    moved t = same_transᵉ (value_at (shape.function gap) t) (value_at (shape.function k.after) (add t
+        (whole way.over.high))) (value_at (shape.function k.after) (shifted t way.over.high))
         (values t) (value_same (shape.function k.after) (same_sym (shifted-add t way.over.high)))
 
     pub climb_level : HasBoundedLevel (2 ^ 31) (shape.function gap)
@@ -120,12 +123,14 @@ module _ {P : Type 0} (shape : ShapeOf P) (laws : ShapeLaws shape) (knots : List
         let u = add (time k) (whole (neg_ℤ way.over.high)) in
         bounded_same (2 ^ 31) (value_at (shape.function gap) t) (value_at (shape.function k.after) (time k))
         (same_transᵉ (value_at (shape.function gap) t) (value_at (shape.function gap) u) (value_at (shape.function k.after) (time k)) (steady t u)
-        (same_transᵉ (value_at (shape.function gap) u) (value_at (shape.function k.after) (add u (whole way.over.high))) (value_at (shape.function k.after) (time k))
+        (same_transᵉ (value_at (shape.function gap) u) (value_at (shape.function k.after) (add u (whole way.over.high)))
+        (value_at (shape.function k.after) (time k))
         (values u) (value_same (shape.function k.after) (shift_forth (time k) way.over.high))))
         (limits_bounded shape knots i k n is_way.limited here next).0
 
     -- the gap's high end lies in it
-    under : (t : Rational) → InDomain shape knots way t → HasCome begin t → IsToCome end t → (time k <ʳ shifted t way.over.high) × (shifted t way.over.high <ʳ time n)
+    under : (t : Rational) → InDomain shape knots way t → HasCome begin t → IsToCome end t → (time k <ʳ shifted t way.over.high)
+        × (shifted t way.over.high <ʳ time n)
     under t d h m = (
       strictly_come k.time (shifted t way.over.high) ((from_is t).0 (clamped_come way from begin begins t h)),
       strictly_to_come n.time (shifted t way.over.high) (to_come_alike until (turn_of n.time false) t (shifted t way.over.high) (until_is t).1
@@ -142,8 +147,10 @@ module _ {P : Type 0} (shape : ShapeOf P) (laws : ShapeLaws shape) (knots : List
       ends = subst (λ b. Precedes b (shifted t way.over.high) (shifted t way.over.high)) (sym high_in) (le_refl (shifted t way.over.high));
     }
 
-    has_time : (t : Rational) → time k <ʳ shifted t way.over.high → shifted t way.over.high <ʳ time n → IsNonEmpty way.over → HasTime (Over (start knots) (stop knots) way.over t)
-    has_time t a b (inl wide) = let c = lt_offsets t way.over.low way.over.high wide in time_under shape laws knots way is_way i k n here next t a (lt_trans c b) c
+    has_time : (t : Rational) → time k <ʳ shifted t way.over.high → shifted t way.over.high <ʳ time n → IsNonEmpty way.over
+        → HasTime (Over (start knots) (stop knots) way.over t)
+    has_time t a b (inl wide) = let c = lt_offsets t way.over.low way.over.high wide in time_under shape laws knots way is_way i k n here next t a
+        (lt_trans c b) c
     has_time t a b (inr (one, low_in, high_in)) = (shifted t way.over.high, instant_over t one low_in high_in a b)
 
     reach : (t : Rational) → time k <ʳ shifted t way.over.high → shifted t way.over.high <ʳ time n → IsNonEmpty way.over
@@ -152,13 +159,15 @@ module _ {P : Type 0} (shape : ShapeOf P) (laws : ShapeLaws shape) (knots : List
         let c = later_end a (lt_offsets t way.over.low way.over.high wide) in
         reach_gap shape laws knots way is_way i k n here next t c.0 (shifted t way.over.high) (shifted t way.over.high) c.2 (le_of_lt b) c.3
         (le_refl (shifted t way.over.high)) c.1 (inr (same_refl (shifted t way.over.high)))
-    reach t a b (inr (one, low_in, high_in)) = reaches_value way.side (none_of way.side shape.lowest shape.highest) (Over (start knots) (stop knots) way.over t) (IsWorth shape knots)
+    reach t a b (inr (one, low_in, high_in)) = reaches_value way.side (none_of way.side shape.lowest shape.highest)
+        (Over (start knots) (stop knots) way.over t) (IsWorth shape knots)
         (shifted t way.over.high) (value_at (shape.function k.after) (shifted t way.over.high)) (instant_over t one low_in high_in a b)
         (worth_between shape knots i k n (shifted t way.over.high) here next a b)
 
     pub climb_fair : IsFair shape knots way (climbed_until gap begin end)
     climb_fair = record {
-      reached = λ t d c. let (a, b) = under t d c.0 c.1 in reaches_same way.side (none_of way.side shape.lowest shape.highest) (Over (start knots) (stop knots) way.over t) (IsWorth shape knots)
+      reached = λ t d c. let (a, b) = under t d c.0 c.1 in reaches_same way.side (none_of way.side shape.lowest shape.highest)
+          (Over (start knots) (stop knots) way.over t) (IsWorth shape knots)
           (value_at (shape.function k.after) (shifted t way.over.high)) (value_at (shape.function gap) t)
           (same_symᵉ (value_at (shape.function gap) t) (value_at (shape.function k.after) (shifted t way.over.high)) (moved t)) (reach t a b some);
       in_play = λ x tau y first after before last on.
@@ -175,7 +184,8 @@ module _ {P : Type 0} (shape : ShapeOf P) (laws : ShapeLaws shape) (knots : List
         by_case : HasCome until t ⊎ (value way.stop <ʳ t) → HasCome begin t
         by_case (inl m) = come_clamped way from begin begins t (le_trans (le_of_lt after_start) (at_of_come until t m))
             ((from_is t).1 (come_next k.time n.time true false rises (shifted t way.over.high) ((until_is t).0 m)))
-        by_case (inr m) = come_clamped way from begin begins t (le_trans (way_order shape laws knots way is_way) (le_of_lt m)) (inl (lt_trans before_stop m))
+        by_case (inr m) = come_clamped way from begin begins t (le_trans (way_order shape laws knots way is_way)
+            (le_of_lt m)) (inl (lt_trans before_stop m))
 
     -- the gap has counted
     pub climbs : (parts : List (Part P)) (old new : Walk P) → Climbed shape begin end gap old new → StandsAt shape knots way (turn_of k.time true) parts old
@@ -186,7 +196,8 @@ module _ {P : Type 0} (shape : ShapeOf P) (laws : ShapeLaws shape) (knots : List
       goes = record {
         pos = end;
         walks = climbed.walks way.side (start knots) (stop knots) before.goes.pos parts
-            (before.goes.can begin (clamped_high shape laws knots way is_way from begin (turn_of k.time true) begins (λ t h. (from_is t).0 h))).1 before.goes.walks;
+            (before.goes.can begin (clamped_high shape laws knots way is_way from begin (turn_of k.time true) begins
+            (λ t h. (from_is t).0 h))).1 before.goes.walks;
         can = λ turn f. (take_later shape new end turn (back turn f) climbed.can, back turn f);
         leaves = λ turn f. climbed.leaves turn (before.goes.leaves turn f);
         fair = λ x one. fair x one;
@@ -203,7 +214,8 @@ module _ {P : Type 0} (shape : ShapeOf P) (laws : ShapeLaws shape) (knots : List
       );
     }
       where
-        back : (turn : Turn) → ((t : Rational) → HasCome turn t → (start knots ≤ʳ t) × (HasCome (turn_of n.time false) (shifted t way.over.high) ⊎ (stop knots <ʳ t)))
+        back : (turn : Turn) → ((t : Rational) → HasCome turn t → (start knots ≤ʳ t) × (HasCome (turn_of n.time false)
+            (shifted t way.over.high) ⊎ (stop knots <ʳ t)))
             → (t : Rational) → HasCome turn t → HasCome end t
         back turn f t h = by_case (f t h).1
           where
@@ -216,11 +228,13 @@ module _ {P : Type 0} (shape : ShapeOf P) (laws : ShapeLaws shape) (knots : List
         fair x (inr one) = before.goes.fair x one
 
     -- a refusal on the way has a cause
-    pub climb_refused : (parts : List (Part P)) (old : Walk P) (fault : Option (WidePair P)) (before : StandsAt shape knots way (turn_of k.time true) parts old)
+    pub climb_refused : (parts : List (Part P)) (old : Walk P) (fault : Option (WidePair P)) (before : StandsAt shape knots way
+        (turn_of k.time true) parts old)
         → (((t : Rational) → HasCome begin t → HasCome before.goes.pos t) → Walks shape way.side (start knots) (stop knots) before.goes.pos parts old
         → IfSome fault (IsPiecesFault shape (climbed_until gap begin end ∷ parts) (start knots) (value end.at)))
         → IfSome fault (IsCauseOver shape knots way.over)
-    climb_refused parts old fault before h = refused_of shape laws knots way is_way (turn_of k.time true) (turn_of k.time true) parts (climbed_until gap begin end ∷ parts) begin end old fault
+    climb_refused parts old fault before h = refused_of shape laws knots way is_way (turn_of k.time true)
+        (turn_of k.time true) parts (climbed_until gap begin end ∷ parts) begin end old fault
         before.goes (clamped_high shape laws knots way is_way from begin (turn_of k.time true) begins (λ t m. (from_is t).0 m)) fair
         (subst (λ u. value end.at ≤ʳ u) is_way.stops (stopped_at way until end stops)) h
       where
@@ -228,14 +242,22 @@ module _ {P : Type 0} (shape : ShapeOf P) (laws : ShapeLaws shape) (knots : List
         fair x (inl e) = subst (λ y. IsFair shape knots way y) (sym e) climb_fair
         fair x (inr one) = before.goes.fair x one
 
+module _ {P : Type 0} (shape : ShapeOf P) (laws : ShapeLaws shape) (knots : List (Knot P)) (way : Way) (is_way : IsWay shape knots way)
+    (i : ℕ) (k n : Knot P) (here : slice_get knots i ≡ Some k) (next : slice_get knots (i + 1) ≡ Some n) where
+  rising_times : time k <ʳ time n
+  rising_times = next_rises shape knots i k n is_way.signal.each here next
+
   -- in a window of one instant that is all of the gap
   pub came_instant : (parts : List (Part P)) (old new : Walk P) → way.over.low ≡ way.over.high → StandsAt shape knots way (turn_of k.time true) parts old
       → (climbed : HasClimbed shape knots way k n parts new) → StandsAt shape knots way (turn_of n.time false) climbed.parts new
-  came_instant parts old new one before climbed = came_gap shape laws knots way is_way i k n here next parts old before climbed.parts new (turn_of n.time false) (turn_of k.time true)
-      climbed.kept (λ t h. h) (λ t h. come_next k.time n.time true false rises (shifted t way.over.low) h) climbed.goes
+  came_instant parts old new one before climbed = came_gap shape laws knots way is_way i k n here next parts old before climbed.parts new
+      (turn_of n.time false) (turn_of k.time true)
+      climbed.kept (λ t h. h) (λ t h. come_next k.time n.time true false rising_times (shifted t way.over.low) h) climbed.goes
       (λ t u d over a b.
       let above = precedes_le way.over.high_in u (shifted t way.over.high) over.ends in
       let below = subst (λ z. shifted t z ≤ʳ u) one (precedes_le way.over.low_in (shifted t way.over.low) u over.begins) in
-      covers_by shape laws knots way is_way climbed.parts t (value_at (shape.function k.after) u) (value_at (shape.function k.after) (shifted t way.over.high))
-      (no_better_same way.side (value_at (shape.function k.after) u) (value_at (shape.function k.after) (shifted t way.over.high)) (value_same (shape.function k.after) (same_of_le above below)))
+      covers_by shape laws knots way is_way climbed.parts t (value_at (shape.function k.after) u) (value_at
+      (shape.function k.after) (shifted t way.over.high))
+      (no_better_same way.side (value_at (shape.function k.after) u) (value_at (shape.function k.after)
+      (shifted t way.over.high)) (value_same (shape.function k.after) (same_of_le above below)))
       (climbed.offers t d (inl (lt_of_lt_of_le a above), inl (lt_of_le_of_lt below b))))

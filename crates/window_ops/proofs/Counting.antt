@@ -55,7 +55,8 @@ module _ (way : Way) (from clamped : Turn) where
   clamped_stop to a b (inl (e, h)) = subst (λ (u : Turn). value u.at ≤ʳ to) (sym e) b
   clamped_stop to a b (inr (e, h)) = subst (λ (u : Turn). value u.at ≤ʳ to) (sym e) a
 
-  pub clamped_within : IsWithin (2 ^ 34) (value way.start) → IsWithin (2 ^ 34) (value from.at) → IsClamped way from clamped → IsWithin (2 ^ 34) (value clamped.at)
+  pub clamped_within : IsWithin (2 ^ 34) (value way.start) → IsWithin (2 ^ 34) (value from.at) → IsClamped way from clamped
+      → IsWithin (2 ^ 34) (value clamped.at)
   clamped_within a b (inl (e, h)) = subst (λ (u : Turn). IsWithin (2 ^ 34) (value u.at)) (sym e) b
   clamped_within a b (inr (e, h)) = subst (λ (u : Turn). IsWithin (2 ^ 34) (value u.at)) (sym e) a
 
@@ -69,8 +70,10 @@ module _ (way : Way) (from clamped : Turn) where
 
 module _ {P : Type 0} (shape : ShapeOf P) (laws : ShapeLaws shape) (knots : List (Knot P)) (way : Way) (is_way : IsWay shape knots way) where
   -- a walk that has come further has come no less far
-  pub goes_later : (high low high' low' : Turn) (parts : List (Part P)) (walk : Walk P) → ((t : Rational) → HasCome high' (shifted t way.over.high) → HasCome high (shifted t way.over.high))
-      → ((t : Rational) → HasCome low' (shifted t way.over.low) → HasCome low (shifted t way.over.low)) → Goes shape knots way high low parts walk → Goes shape knots way high' low' parts walk
+  pub goes_later : (high low high' low' : Turn) (parts : List (Part P)) (walk : Walk P) → ((t : Rational) → HasCome high' (shifted t way.over.high)
+      → HasCome high (shifted t way.over.high))
+      → ((t : Rational) → HasCome low' (shifted t way.over.low) → HasCome low (shifted t way.over.low)) → Goes shape knots way high low parts walk
+      → Goes shape knots way high' low' parts walk
   goes_later high low high' low' parts walk h l g = record {
     pos = g.pos;
     walks = g.walks;
@@ -100,7 +103,8 @@ module _ {P : Type 0} (shape : ShapeOf P) (laws : ShapeLaws shape) (knots : List
       to_come = to_come;
     }
 
-    value_part : (high low : Turn) → IsPiece shape knots way high low piece → IsFair shape knots way (record { shape = value'; from = clamped; until = Some piece.until })
+    value_part : (high low : Turn) → IsPiece shape knots way high low piece → IsFair shape knots way
+        (record { shape = value'; from = clamped; until = Some piece.until })
     value_part high low is = record {
       reached = λ t d c. reaches_same way.side (none_of way.side shape.lowest shape.highest) _ _
           (value_at (shape.function piece.shape) (value piece.at)) (value_at (shape.function value') t)
@@ -120,7 +124,8 @@ module _ {P : Type 0} (shape : ShapeOf P) (laws : ShapeLaws shape) (knots : List
     ends_later t h (inl k) = le_of_lt k
     ends_later t h (inr k) = by_ends v.ends h
       where
-        by_ends : (value way.start <ʳ value piece.until.at) ⊎ ((value piece.until.at ≈ value way.start) × (piece.until.just_after ≡ true)) → HasCome piece.until t
+        by_ends : (value way.start <ʳ value piece.until.at) ⊎ ((value piece.until.at ≈ value way.start) × (piece.until.just_after ≡ true))
+            → HasCome piece.until t
             → value way.start ≤ʳ t
         by_ends (inl m) h = le_trans (le_of_lt m) (at_of_come piece.until t h)
         by_ends (inr m) h = le_trans (ge_of_same m.0) (at_of_come piece.until t h)
@@ -140,7 +145,8 @@ module _ {P : Type 0} (shape : ShapeOf P) (laws : ShapeLaws shape) (knots : List
         by_slope None h = tt
         by_slope (Some slope) h = (h.within, h.level, h.later)
 
-        by_ends : (value way.start <ʳ value piece.until.at) ⊎ ((value piece.until.at ≈ value way.start) × (piece.until.just_after ≡ true)) → IsToCome piece.until (value way.start)
+        by_ends : (value way.start <ʳ value piece.until.at) ⊎ ((value piece.until.at ≈ value way.start) × (piece.until.just_after ≡ true))
+            → IsToCome piece.until (value way.start)
         by_ends (inl m) = inl m
         by_ends (inr m) = inr m
 
@@ -164,22 +170,26 @@ module _ {P : Type 0} (shape : ShapeOf P) (laws : ShapeLaws shape) (knots : List
         earlier : (t u : Rational) → t ≤ʳ u → IsToCome piece.until u → IsToCome piece.until t
         earlier t u order k = to_come_before piece.until t u order k
 
-        is_c : (t : Rational) → value clamped.at ≤ʳ t → t ≤ʳ stop knots → IsToCome piece.until t → value_at (shape.function value') t ≈ᵉ value_at (shape.function piece.shape) (value piece.at)
+        is_c : (t : Rational) → value clamped.at ≤ʳ t → t ≤ʳ stop knots → IsToCome piece.until t → value_at
+            (shape.function value') t ≈ᵉ value_at (shape.function piece.shape) (value piece.at)
         is_c t after before to_come = v.is t (on_clamped t after (subst (λ u. t ≤ʳ u) (sym is_way.stops) before) to_come)
 
         no_worse : (t : Rational) → value clamped.at ≤ʳ t → t ≤ʳ stop knots → IsToCome piece.until t
             → IsNoBetter way.side (value_at (shape.function piece.shape) (value piece.at)) (value_at (shape.function value') t)
-        no_worse t after before to_come = no_better_same way.side (value_at (shape.function piece.shape) (value piece.at)) (value_at (shape.function value') t)
+        no_worse t after before to_come = no_better_same way.side (value_at (shape.function piece.shape)
+            (value piece.at)) (value_at (shape.function value') t)
             (same_symᵉ (value_at (shape.function value') t) (value_at (shape.function piece.shape) (value piece.at)) (is_c t after before to_come))
 
-        by_slope : (t u : Rational) (p q : P) (o : Option (Slope P)) → HasSlope shape knots way piece last o → value clamped.at ≤ʳ t → t ≤ʳ u → u ≤ʳ stop knots
+        by_slope : (t u : Rational) (p q : P) (o : Option (Slope P)) → HasSlope shape knots way piece last o → value clamped.at ≤ʳ t → t ≤ʳ u
+            → u ≤ʳ stop knots
             → (IsToCome piece.until t × (p ≡ value')) ⊎ (HasCome piece.until t × GivesSlope o t p) → HasCome piece.until u → GivesSlope o u q
             → IsNoBetter way.side (value_at (shape.function q) u) (value_at (shape.function p) t)
         by_slope t u p q None s after order before g h m = absurd m
         by_slope t u p q (Some slope) s after order before (inl g) h m =
             subst (λ x. IsNoBetter way.side (value_at (shape.function x) u) (value_at (shape.function p) t)) (sym m.1)
             (subst (λ x. IsNoBetter way.side (value_at (shape.function slope.shape) u) (value_at (shape.function x) t)) (sym g.1)
-            (no_better_trans way.side (value_at (shape.function slope.shape) u) (value_at (shape.function piece.shape) (value piece.at)) (value_at (shape.function value') t)
+            (no_better_trans way.side (value_at (shape.function slope.shape) u) (value_at (shape.function piece.shape)
+            (value piece.at)) (value_at (shape.function value') t)
             (s.worse u h) (no_worse t after (le_trans order before) g.0)))
         by_slope t u p q (Some slope) s after order before (inr g) h m =
             subst (λ x. IsNoBetter way.side (value_at (shape.function x) u) (value_at (shape.function p) t)) (sym m.1)
@@ -244,7 +254,8 @@ module _ {P : Type 0} (shape : ShapeOf P) (laws : ShapeLaws shape) (knots : List
             by_case s (inr m) = inl (lt_of_le_of_lt (clamped_stop way piece.from clamped (stop knots) (subst (λ u. value way.start ≤ʳ u) is_way.stops order)
                 (subst (λ u. value piece.from.at ≤ʳ u) is_way.stops v.begins) is_clamped) m)
 
-        left : (o : Option (Slope P)) → HasSlope shape knots way piece c.last o → (t : Rational) → HasCome c.last (shifted t way.over.low) → HasCome (slope_until o piece.until) t
+        left : (o : Option (Slope P)) → HasSlope shape knots way piece c.last o → (t : Rational) → HasCome c.last (shifted t way.over.low)
+            → HasCome (slope_until o piece.until) t
         left None s t h = s t h
         left (Some slope) s t h = (s.ends t).1 h
 
@@ -256,7 +267,8 @@ module _ {P : Type 0} (shape : ShapeOf P) (laws : ShapeLaws shape) (knots : List
         first None = inl refl
         first (Some slope) = inl refl
 
-        fair : (o : Option (Slope P)) → HasSlope shape knots way piece c.last o → (x : Part P) → IsOneOf (piece_of clamped item o c.parts) x → IsFair shape knots way x
+        fair : (o : Option (Slope P)) → HasSlope shape knots way piece c.last o → (x : Part P) → IsOneOf (piece_of clamped item o c.parts) x
+            → IsFair shape knots way x
         fair None s x (inl e) = subst (λ y. IsFair shape knots way y) (sym e) (value_part c.high c.low c.is)
         fair None s x (inr one) = c.goes.fair x one
         fair (Some slope) s x (inl e) = subst (λ y. IsFair shape knots way y) (sym e) (value_part c.high c.low c.is)
@@ -279,15 +291,18 @@ module _ {P : Type 0} (shape : ShapeOf P) (laws : ShapeLaws shape) (knots : List
     parts = c.parts;
     kept = λ x one. one;
     goes = goes_later c.high c.low c.high c.last c.parts old (λ t h. h) (λ t h. (c.is.until t).0 (last_come piece.slope c.slope t h)) c.goes;
-    offers = λ t d on. absurd (by_never t never (subst (λ u. u ≤ʳ t) (sym is_way.starts) d.above) (subst (λ u. t ≤ʳ u) (sym is_way.stops) d.below) on.0 on.1);
+    offers = λ t d on. absurd (by_never t never (subst (λ u. u ≤ʳ t) (sym is_way.starts) d.above) (subst
+        (λ u. t ≤ʳ u) (sym is_way.stops) d.below) on.0 on.1);
     offers_slope = by_slope piece.slope c.slope;
   }
     where
-      by_never : (t : Rational) → IsExtent way piece.at piece.from piece.until Never → value way.start ≤ʳ t → t ≤ʳ value way.stop → HasCome piece.from t → IsToCome piece.until t → ⊥
+      by_never : (t : Rational) → IsExtent way piece.at piece.from piece.until Never → value way.start ≤ʳ t → t ≤ʳ value way.stop
+          → HasCome piece.from t → IsToCome piece.until t → ⊥
       by_never t (inl n) s e h k = n t s k
       by_never t (inr n) s e h k = n t e h
 
-      last_come : (o : Option (Slope P)) → HasSlope shape knots way piece c.last o → (t : Rational) → HasCome c.last (shifted t way.over.low) → HasCome piece.until t
+      last_come : (o : Option (Slope P)) → HasSlope shape knots way piece c.last o → (t : Rational) → HasCome c.last (shifted t way.over.low)
+          → HasCome piece.until t
       last_come None s t h = s t h
       last_come (Some slope) s t h = s.later t ((s.ends t).1 h)
 
@@ -301,7 +316,8 @@ module _ {P : Type 0} (shape : ShapeOf P) (laws : ShapeLaws shape) (knots : List
           by_kind slope s t d h (inr n) = n t (subst (λ u. t ≤ʳ u) (sym is_way.stops) d.below) (c.is.in_order t h)
 
   -- two parts that count together and cross are in play
-  pub cause_of : (parts : List (Part P)) (to : Rational) (pair : WidePair P) → ((x : Part P) → IsOneOf parts x → IsFair shape knots way x) → to ≤ʳ stop knots
+  pub cause_of : (parts : List (Part P)) (to : Rational) (pair : WidePair P) → ((x : Part P) → IsOneOf parts x → IsFair shape knots way x)
+      → to ≤ʳ stop knots
       → IsPiecesFault shape parts (start knots) to pair → IsCauseOver shape knots way.over pair
   cause_of parts to (Value p at den) fair last c = absurd c
   cause_of parts to (Cross p q a b den) fair last c = record {
@@ -325,7 +341,8 @@ module _ {P : Type 0} (shape : ShapeOf P) (laws : ShapeLaws shape) (knots : List
 
   -- what a walk refuses of the pieces
   pub refused_of : (high low : Turn) (parts more : List (Part P)) (from until : Turn) (old : Walk P) (fault : Option (WidePair P))
-      → (g : Goes shape knots way high low parts old) → ((t : Rational) → HasCome from t → (start knots ≤ʳ t) × (HasCome high (shifted t way.over.high) ⊎ (stop knots <ʳ t)))
+      → (g : Goes shape knots way high low parts old) → ((t : Rational) → HasCome from t → (start knots ≤ʳ t)
+      × (HasCome high (shifted t way.over.high) ⊎ (stop knots <ʳ t)))
       → ((x : Part P) → IsOneOf more x → IsFair shape knots way x) → value until.at ≤ʳ stop knots
       → (((t : Rational) → HasCome from t → HasCome g.pos t) → Walks shape way.side (start knots) (stop knots) g.pos parts old
       → IfSome fault (IsPiecesFault shape more (start knots) (value until.at)))

@@ -77,8 +77,13 @@ module _ {P : Type 0} (shape : ShapeOf P) (laws : ShapeLaws shape) (knots : List
   pub covers_by : (parts : List (Part P)) (t : Rational) (v w : Extended) → IsNoBetter way.side v w
       → (x : Part P) × IsOneOf parts x × Counts x t × (value_at (shape.function x.shape) t ≈ᵉ w)
       → (x : Part P) × IsOneOf parts x × Counts x t × IsNoBetter way.side v (value_at (shape.function x.shape) t)
-  covers_by parts t v w h (x, one, c, e) = (x, one, c, no_better_trans way.side v w (value_at (shape.function x.shape) t) h
-      (no_better_same way.side w (value_at (shape.function x.shape) t) (same_symᵉ (value_at (shape.function x.shape) t) w e)))
+  covers_by parts t v w h (x, one, c, e) = (
+    x,
+    one,
+    c,
+    no_better_trans way.side v w (value_at (shape.function x.shape) t) h
+        (no_better_same way.side w (value_at (shape.function x.shape) t) (same_symᵉ (value_at (shape.function x.shape) t) w e)),
+  )
 
   -- the point of a knot
   module _ (i : ℕ) (k : Knot P) (here : slice_get knots i ≡ Some k) (from until : Turn)
@@ -101,7 +106,8 @@ module _ {P : Type 0} (shape : ShapeOf P) (laws : ShapeLaws shape) (knots : List
       until = span.until_is;
       from_within = span.from_within;
       until_within = span.until_within;
-      at_within = within_domain shape laws knots way is_way (time k) (knot_in shape laws knots way is_way i k here).above (knot_in shape laws knots way is_way i k here).below;
+      at_within = within_domain shape laws knots way is_way (time k) (knot_in shape laws knots way is_way i k here).above
+          (knot_in shape laws knots way is_way i k here).below;
       in_order = span.in_order;
       to_come = span.to_come;
       aside = span.aside;
@@ -123,21 +129,27 @@ module _ {P : Type 0} (shape : ShapeOf P) (laws : ShapeLaws shape) (knots : List
       is = point_is;
       slope = λ t h. (span.until_is t).1 h;
       parts = parts;
-      goes = goes_later shape laws knots way is_way (turn_of k.time false) (turn_of k.time false) (turn_of k.time (not way.over.high_in)) (turn_of k.time way.over.low_in) parts old
-          (λ t h. come_sooner k.time (not way.over.high_in) (shifted t way.over.high) h) (λ t h. come_sooner k.time way.over.low_in (shifted t way.over.low) h) before.goes;
+      goes = goes_later shape laws knots way is_way (turn_of k.time false) (turn_of k.time false) (turn_of k.time
+          (not way.over.high_in)) (turn_of k.time way.over.low_in) parts old
+          (λ t h. come_sooner k.time (not way.over.high_in) (shifted t way.over.high) h) (λ t h. come_sooner k.time way.over.low_in
+          (shifted t way.over.low) h) before.goes;
     }
 
     pub came_point : (parts : List (Part P)) (old new : Walk P) (before : StandsAt shape knots way (turn_of k.time false) parts old)
-        (counted : HasCounted shape knots way (record { shape = k.point; at = k.time; from = from; until = until; slope = None }) old new (can_point parts old before))
+        (counted : HasCounted shape knots way (record { shape = k.point; at = k.time; from = from; until = until; slope = None }) old new
+        (can_point parts old before))
         → StandsAt shape knots way (turn_of k.time true) counted.parts new
     unfolding can_point
     came_point parts old new before counted = record {
-      goes = goes_later shape laws knots way is_way (turn_of k.time (not way.over.high_in)) (turn_of k.time way.over.low_in) (turn_of k.time true) (turn_of k.time true) counted.parts new
-          (λ t h. come_later k.time (not way.over.high_in) (shifted t way.over.high) h) (λ t h. come_later k.time way.over.low_in (shifted t way.over.low) h) counted.goes;
+      goes = goes_later shape laws knots way is_way (turn_of k.time (not way.over.high_in)) (turn_of k.time way.over.low_in)
+          (turn_of k.time true) (turn_of k.time true) counted.parts new
+          (λ t h. come_later k.time (not way.over.high_in) (shifted t way.over.high) h) (λ t h. come_later k.time way.over.low_in
+          (shifted t way.over.low) h) counted.goes;
       covered = λ t u v d over sooner worth. by_time t u v d over worth sooner;
     }
       where
-        at_knot : (t u : Rational) (v : Extended) → InDomain shape knots way t → Over (start knots) (stop knots) way.over t u → IsWorth shape knots u v → value k.time ≈ u
+        at_knot : (t u : Rational) (v : Extended) → InDomain shape knots way t → Over (start knots) (stop knots) way.over t u → IsWorth shape knots u v
+            → value k.time ≈ u
             → (x : Part P) × IsOneOf counted.parts x × Counts x t × IsNoBetter way.side v (value_at (shape.function x.shape) t)
         at_knot t u v d over worth e = covers_by counted.parts t v (value_at (shape.function k.point) (time k))
             (no_better_same way.side v (value_at (shape.function k.point) (time k))
@@ -152,7 +164,8 @@ module _ {P : Type 0} (shape : ShapeOf P) (laws : ShapeLaws shape) (knots : List
                   (precedes_before way.over.low_in (shifted t way.over.low) u (time k) over.begins (ge_of_same e))),
             ))
 
-        by_time : (t u : Rational) (v : Extended) → InDomain shape knots way t → Over (start knots) (stop knots) way.over t u → IsWorth shape knots u v → IsToCome (turn_of k.time true) u
+        by_time : (t u : Rational) (v : Extended) → InDomain shape knots way t → Over (start knots) (stop knots) way.over t u → IsWorth shape knots u v
+            → IsToCome (turn_of k.time true) u
             → (x : Part P) × IsOneOf counted.parts x × Counts x t × IsNoBetter way.side v (value_at (shape.function x.shape) t)
         by_time t u v d over worth (inl h) = covers_more parts counted.parts t v counted.kept (before.covered t u v d over (inl h) worth)
         by_time t u v d over worth (inr h) = at_knot t u v d over worth h.0
@@ -176,7 +189,8 @@ module _ {P : Type 0} (shape : ShapeOf P) (laws : ShapeLaws shape) (knots : List
       covered = λ t u v d over sooner worth. by_order t u v d over sooner worth (lt_or_same_or_gt (time k) u);
     }
       where
-        in_gap : (t u : Rational) (v : Extended) → InDomain shape knots way t → Over (start knots) (stop knots) way.over t u → time k <ʳ u → u <ʳ time n → IsWorth shape knots u v
+        in_gap : (t u : Rational) (v : Extended) → InDomain shape knots way t → Over (start knots) (stop knots) way.over t u → time k <ʳ u
+            → u <ʳ time n → IsWorth shape knots u v
             → (x : Part P) × IsOneOf parts' x × Counts x t × IsNoBetter way.side v (value_at (shape.function x.shape) t)
         in_gap t u v d over a b worth =
             let (x, one, c, m) = inner t u d over a b in (
@@ -185,14 +199,16 @@ module _ {P : Type 0} (shape : ShapeOf P) (laws : ShapeLaws shape) (knots : List
               c,
               no_better_trans way.side v (value_at (shape.function k.after) u) (value_at (shape.function x.shape) t)
                   (no_better_same way.side v (value_at (shape.function k.after) u)
-                  (one_value shape knots u v (value_at (shape.function k.after) u) is_way.signal worth (worth_between shape knots i k n u here next a b))) m,
+                  (one_value shape knots u v (value_at (shape.function k.after) u) is_way.signal worth
+                  (worth_between shape knots i k n u here next a b))) m,
             )
 
         before_next : (u : Rational) → IsToCome (turn_of n.time false) u → u <ʳ time n
         before_next u (inl m) = m
         before_next u (inr m) = absurd (false≢true m.1)
 
-        by_order : (t u : Rational) (v : Extended) → InDomain shape knots way t → Over (start knots) (stop knots) way.over t u → IsToCome (turn_of n.time false) u → IsWorth shape knots u v
+        by_order : (t u : Rational) (v : Extended) → InDomain shape knots way t → Over (start knots) (stop knots) way.over t u
+            → IsToCome (turn_of n.time false) u → IsWorth shape knots u v
             → (time k <ʳ u) ⊎ (time k ≈ u) ⊎ (u <ʳ time k)
             → (x : Part P) × IsOneOf parts' x × Counts x t × IsNoBetter way.side v (value_at (shape.function x.shape) t)
         by_order t u v d over sooner worth (inl a) = in_gap t u v d over a (before_next u sooner) worth

@@ -45,10 +45,12 @@ module _ {P : Type 0} (shape : ShapeOf P) (laws : ShapeLaws shape) (knots : List
 
   module _ (piece : Piece P) (high low : Turn) (is : IsPiece shape knots way high low piece) where
     -- a shape moved by an offset stands for the piece where it counts at one time alone
-    pub moved_value : (by : ℤ) (moved : P) → ((t : Rational) → value_at (shape.function moved) t ≈ᵉ value_at (shape.function piece.shape) (add t (whole by)))
+    pub moved_value : (by : ℤ) (moved : P) → ((t : Rational) → value_at (shape.function moved) t ≈ᵉ value_at
+        (shape.function piece.shape) (add t (whole by)))
         → (IsTrue (shape.moves moved) → IsTrue (shape.moves piece.shape) × (shape.base moved ≡ shape.base piece.shape -ℤ by))
         → ((t : Rational) → IsOn way piece.from piece.until t → shifted t by ≈ value piece.at)
-        → (by ≡ way.over.high) ⊎ ((by ≡ way.over.low) × (value piece.until.at ≤ʳ value way.stop) × (shifted (value piece.until.at) way.over.low ≈ value piece.at))
+        → (by ≡ way.over.high) ⊎ ((by ≡ way.over.low) × (value piece.until.at ≤ʳ value way.stop) × (shifted
+        (value piece.until.at) way.over.low ≈ value piece.at))
         → value piece.from.at ≤ʳ value way.stop → IsBeforeEnd way piece.until → IsValueOf shape knots way piece moved
     moved_value by moved values base once offset begins ends = record {
       is = λ t on. at_time t (once t on);
@@ -59,15 +61,18 @@ module _ {P : Type 0} (shape : ShapeOf P) (laws : ShapeLaws shape) (knots : List
       ends = ends;
     }
       where
-        at_time : (t : Rational) → shifted t by ≈ value piece.at → value_at (shape.function moved) t ≈ᵉ value_at (shape.function piece.shape) (value piece.at)
-        at_time t e = same_transᵉ (value_at (shape.function moved) t) (value_at (shape.function piece.shape) (add t (whole by))) (value_at (shape.function piece.shape) (value piece.at))
+        at_time : (t : Rational) → shifted t by ≈ value piece.at → value_at (shape.function moved) t ≈ᵉ value_at
+            (shape.function piece.shape) (value piece.at)
+        at_time t e = same_transᵉ (value_at (shape.function moved) t) (value_at (shape.function piece.shape)
+            (add t (whole by))) (value_at (shape.function piece.shape) (value piece.at))
             (values t) (value_same (shape.function piece.shape) (same_trans (same_sym (shifted-add t by)) e))
 
         level : HasBoundedLevel (2 ^ 31) (shape.function moved)
         level steady t =
             let u = add (value piece.at) (whole (neg_ℤ by)) in
             bounded_same (2 ^ 31) (value_at (shape.function moved) t) (value_at (shape.function piece.shape) (value piece.at))
-            (same_transᵉ (value_at (shape.function moved) t) (value_at (shape.function moved) u) (value_at (shape.function piece.shape) (value piece.at)) (steady t u)
+            (same_transᵉ (value_at (shape.function moved) t) (value_at (shape.function moved) u) (value_at
+            (shape.function piece.shape) (value piece.at)) (steady t u)
             (at_time u (same_trans (shifted-add u by) (shift_forth (value piece.at) by)))) is.small
 
         on_of : (t : Rational) → start knots ≤ʳ t → t ≤ʳ stop knots → HasCome piece.from t → IsToCome piece.until t → IsOn way piece.from piece.until t
@@ -85,7 +90,8 @@ module _ {P : Type 0} (shape : ShapeOf P) (laws : ShapeLaws shape) (knots : List
             let x = on tau after before in
             let y = on m (lt_trans after (left_of_middle before)) (right_of_middle before) in
             let e = once tau (on_of tau (le_trans first (le_of_lt after)) (le_trans (le_of_lt before) last) x.0 x.1) in
-            let f = once m (on_of m (le_trans first (le_of_lt (lt_trans after (left_of_middle before)))) (le_trans (le_of_lt (right_of_middle before)) last) y.0 y.1) in
+            let f = once m (on_of m (le_trans first (le_of_lt (lt_trans after (left_of_middle before))))
+            (le_trans (le_of_lt (right_of_middle before)) last) y.0 y.1) in
             not_lt_of_le (le_shifted_back by (le_of_same (same_trans f (same_sym e)))) (left_of_middle before)
 
         by_offset : shape.base moved ≡ shape.base piece.shape -ℤ by → (by ≡ way.over.high) ⊎ ((by ≡ way.over.low) × (value piece.until.at ≤ʳ value way.stop)
@@ -96,18 +102,22 @@ module _ {P : Type 0} (shape : ShapeOf P) (laws : ShapeLaws shape) (knots : List
         by_offset e (inr (f, before, g)) = inr (
           e ∙ ap (λ k. shape.base piece.shape -ℤ k) f,
           le_trans (le_of_same (shifted-add (start knots) (neg_ℤ way.over.low)))
-              (le_trans (le_shift (neg_ℤ way.over.low) (le_trans is.after_start (le_trans (ge_of_same g) (le_of_same (shifted-add (value piece.until.at) way.over.low)))))
+              (le_trans (le_shift (neg_ℤ way.over.low) (le_trans is.after_start (le_trans (ge_of_same g)
+              (le_of_same (shifted-add (value piece.until.at) way.over.low)))))
               (le_trans (le_of_same (shift_back (value piece.until.at) way.over.low)) (subst (λ u. value piece.until.at ≤ʳ u) is_way.stops before))),
         )
 
     -- the constant with the value stands for the piece
-    pub frozen_value : (fixed : P) → ((t : Rational) → value_at (shape.function fixed) t ≈ᵉ value_at (shape.function piece.shape) (value piece.at)) → shape.moves fixed ≡ false
+    pub frozen_value : (fixed : P) → ((t : Rational) → value_at (shape.function fixed) t ≈ᵉ value_at (shape.function piece.shape) (value piece.at))
+        → shape.moves fixed ≡ false
         → value way.start <ʳ value piece.until.at → value piece.from.at <ʳ value way.stop → IsValueOf shape knots way piece fixed
     frozen_value fixed values still ends begins = record {
       is = λ t on. values t;
-      frozen = λ a tau b first after before last on t. same_symᵉ (value_at (shape.function fixed) t) (value_at (shape.function piece.shape) (value piece.at)) (values t);
+      frozen = λ a tau b first after before last on t. same_symᵉ (value_at (shape.function fixed) t)
+          (value_at (shape.function piece.shape) (value piece.at)) (values t);
       based = λ m. absurd (false≢true (sym still ∙ m));
-      level = λ steady t. bounded_same (2 ^ 31) (value_at (shape.function fixed) t) (value_at (shape.function piece.shape) (value piece.at)) (values t) is.small;
+      level = λ steady t. bounded_same (2 ^ 31) (value_at (shape.function fixed) t) (value_at (shape.function piece.shape)
+          (value piece.at)) (values t) is.small;
       begins = le_of_lt begins;
       ends = inl ends;
     }
@@ -129,9 +139,11 @@ module _ {P : Type 0} (shape : ShapeOf P) (laws : ShapeLaws shape) (knots : List
           is_value = same_symᵉ (value_at (shape.function piece.shape) (value piece.at)) (finite v) e;
           line = affine (constant v);
           constant = λ t. finite_same (same_sym (at_constant v t));
-          in_play = is.in_play tau (subst (λ u. u <ʳ tau) is_way.starts (lt_of_le_of_lt m.1.left above)) (subst (λ u. tau <ʳ u) is_way.stops (lt_of_lt_of_le below c.2))
+          in_play = is.in_play tau (subst (λ u. u <ʳ tau) is_way.starts (lt_of_le_of_lt m.1.left above))
+              (subst (λ u. tau <ʳ u) is_way.stops (lt_of_lt_of_le below c.2))
               (inl (lt_of_le_of_lt m.1.right above)) (inl (lt_of_lt_of_le below c.3)) (affine (constant v))
-              (λ t. same_transᵉ (value_at (shape.function piece.shape) (value piece.at)) (finite v) (value_at (affine (constant v)) t) e (finite_same (same_sym (at_constant v t))));
+              (λ t. same_transᵉ (value_at (shape.function piece.shape) (value piece.at)) (finite v) (value_at
+              (affine (constant v)) t) e (finite_same (same_sym (at_constant v t))));
           denominator = has;
           wide = wide;
         }

@@ -9,3 +9,6 @@ pub mod Spans
 pub mod Covering
 pub mod Climbs
 pub mod Gaps
+pub mod Told
+pub mod AheadOver
+pub mod BehindOver

@@ -31,7 +31,7 @@ use Rattle.window_ops.proofs.Shifts.{high_from, high_to, low_from, low_to, turne
 use Rattle.window_ops.proofs.Values.{reaches_end, reaches_value}
 
 -- the later and the earlier of two times
-later_than_both : (a b u v : Rational) → a <ʳ u → b <ʳ u → a <ʳ v → b <ʳ v → (m : Rational) × (a ≤ʳ m) × (b ≤ʳ m) × (m <ʳ u) × (m <ʳ v)
+pub later_than_both : (a b u v : Rational) → a <ʳ u → b <ʳ u → a <ʳ v → b <ʳ v → (m : Rational) × (a ≤ʳ m) × (b ≤ʳ m) × (m <ʳ u) × (m <ʳ v)
 later_than_both a b u v h k l n =
     let m = later_of a b in
     let c = later_end h k in
@@ -62,7 +62,8 @@ module _ {P : Type 0} (shape : ShapeOf P) (laws : ShapeLaws shape) (knots : List
 
   -- a knot lies in the domain
   pub knot_in : (i : ℕ) (k : Knot P) → slice_get knots i ≡ Some k → Within (start knots) (stop knots) (time k)
-  knot_in i k h = worth_within shape knots (time k) (value_at (shape.function k.point) (time k)) is_way.signal (worth_at shape knots i k (time k) h (same_refl (time k)))
+  knot_in i k h = worth_within shape knots (time k) (value_at (shape.function k.point) (time k)) is_way.signal
+      (worth_at shape knots i k (time k) h (same_refl (time k)))
 
   pub knot_from : (i : ℕ) (k : Knot P) → slice_get knots i ≡ Some k → whole (pos 0) ≤ʳ time k
   knot_from i k h = le_trans is_way.first (knot_in i k h).above
@@ -83,7 +84,8 @@ module _ {P : Type 0} (shape : ShapeOf P) (laws : ShapeLaws shape) (knots : List
     -- the value at an end of a stretch of the gap inside the window is reached
     pub reach_gap : (t l r e : Rational) → time k ≤ʳ l → r ≤ʳ time n → shifted t way.over.low ≤ʳ l → r ≤ʳ shifted t way.over.high → l <ʳ r
         → (e ≈ l) ⊎ (e ≈ r) → ReachesAt shape knots way t (value_at (shape.function k.after) e)
-    reach_gap t l r e a b c d order is = reaches_end way.side (none_of way.side shape.lowest shape.highest) (Over (start knots) (stop knots) way.over t) (IsWorth shape knots)
+    reach_gap t l r e a b c d order is = reaches_end way.side (none_of way.side shape.lowest shape.highest)
+        (Over (start knots) (stop knots) way.over t) (IsWorth shape knots)
         (shape.function k.after) l r e order is (λ u x y. (
           gap_over t u (lt_of_le_of_lt a x) (lt_of_lt_of_le y b) (lt_of_le_of_lt c x) (lt_of_lt_of_le y d),
           worth_between shape knots i k n u here next (lt_of_le_of_lt a x) (lt_of_lt_of_le y b),
@@ -96,16 +98,19 @@ module _ {P : Type 0} (shape : ShapeOf P) (laws : ShapeLaws shape) (knots : List
         let m = later_than_both (time k) (shifted t way.over.low) (time n) (shifted t way.over.high)
         (next_rises shape knots i k n is_way.signal.each here next) b a c in
         let e = earlier_end m.3 m.4 in
-        let u = middle m.0 e.0 in
-        (u, gap_over t u (lt_of_le_of_lt m.1 (left_of_middle e.1)) (lt_of_lt_of_le (right_of_middle e.1) e.2)
-        (lt_of_le_of_lt m.2 (left_of_middle e.1)) (lt_of_lt_of_le (right_of_middle e.1) e.3))
+        let u = middle m.0 e.0 in (
+          u,
+          gap_over t u (lt_of_le_of_lt m.1 (left_of_middle e.1)) (lt_of_lt_of_le (right_of_middle e.1) e.2)
+              (lt_of_le_of_lt m.2 (left_of_middle e.1)) (lt_of_lt_of_le (right_of_middle e.1) e.3),
+        )
 
     -- a stretch of the gap up to its end, or up to the window's high end
     pub stretch : (t l : Rational) → l <ʳ time n → l <ʳ shifted t way.over.high → (r : Rational) × (l <ʳ r) × (r ≤ʳ time n) × (r ≤ʳ shifted t way.over.high)
     stretch t l a b = earlier_end a b
 
     -- a limit at the first knot is in play
-    pub right_in_play : (t : Rational) (line : Affine) → time k <ʳ shifted t way.over.high → shifted t way.over.low ≤ʳ time k → shifted t way.over.low <ʳ shifted t way.over.high
+    pub right_in_play : (t : Rational) (line : Affine) → time k <ʳ shifted t way.over.high → shifted t way.over.low ≤ʳ time k
+        → shifted t way.over.low <ʳ shifted t way.over.high
         → IsConstant line (value_at (shape.function k.after) (time k)) → InPlay shape knots way.over t line
     right_in_play t line a b c constant =
         let rises = next_rises shape knots i k n is_way.signal.each here next in (
@@ -121,7 +126,8 @@ module _ {P : Type 0} (shape : ShapeOf P) (laws : ShapeLaws shape) (knots : List
         )
 
     -- a limit at the second
-    pub left_in_play : (t : Rational) (line : Affine) → time n ≤ʳ shifted t way.over.high → shifted t way.over.low <ʳ time n → shifted t way.over.low <ʳ shifted t way.over.high
+    pub left_in_play : (t : Rational) (line : Affine) → time n ≤ʳ shifted t way.over.high → shifted t way.over.low <ʳ time n
+        → shifted t way.over.low <ʳ shifted t way.over.high
         → IsConstant line (value_at (shape.function k.after) (time n)) → InPlay shape knots way.over t line
     left_in_play t line a b c constant =
         let rises = next_rises shape knots i k n is_way.signal.each here next in (
@@ -137,27 +143,36 @@ module _ {P : Type 0} (shape : ShapeOf P) (laws : ShapeLaws shape) (knots : List
         )
 
     -- the gap under an end of the window is in play
-    pub end_in_play : (t : Rational) (by : ℤ) (line : Affine) → (by ≡ way.over.low) ⊎ (by ≡ way.over.high) → HasTime (Over (start knots) (stop knots) way.over t)
+    pub end_in_play : (t : Rational) (by : ℤ) (line : Affine) → (by ≡ way.over.low) ⊎ (by ≡ way.over.high)
+        → HasTime (Over (start knots) (stop knots) way.over t)
         → time k <ʳ shifted t by → shifted t by <ʳ time n → ((u : Rational) → value_at line u ≈ᵉ value_at (shape.function k.after) (shifted u by))
         → InPlay shape knots way.over t line
-    end_in_play t by line is has a b moved = (has, inl (
-      by,
-      is,
-      shape.function k.after,
-      worth_within shape knots (shifted t by) (value_at (shape.function k.after) (shifted t by)) is_way.signal (worth_between shape knots i k n (shifted t by) here next a b),
-      part_in shape knots i k n (shifted t by) here next a b,
-      λ u. same_symᵉ (value_at line u) (value_at (shape.function k.after) (shifted u by)) (moved u),
-    ))
+    end_in_play t by line is has a b moved = (
+      has,
+      inl (
+        by,
+        is,
+        shape.function k.after,
+        worth_within shape knots (shifted t by) (value_at (shape.function k.after) (shifted t by)) is_way.signal
+            (worth_between shape knots i k n (shifted t by) here next a b),
+        part_in shape knots i k n (shifted t by) here next a b,
+        λ u. same_symᵉ (value_at line u) (value_at (shape.function k.after) (shifted u by)) (moved u),
+      ),
+    )
 
     -- a steady gap is in play as long as the window meets it
-    pub steady_in_play : (t : Rational) (line : Affine) → IsSteady (shape.function k.after) → time k <ʳ shifted t way.over.high → shifted t way.over.low <ʳ time n
-        → shifted t way.over.low <ʳ shifted t way.over.high → IsConstant line (value_at (shape.function k.after) (time k)) → InPlay shape knots way.over t line
+    pub steady_in_play : (t : Rational) (line : Affine) → IsSteady (shape.function k.after) → time k <ʳ shifted t way.over.high
+        → shifted t way.over.low <ʳ time n
+        → shifted t way.over.low <ʳ shifted t way.over.high → IsConstant line (value_at (shape.function k.after) (time k))
+        → InPlay shape knots way.over t line
     steady_in_play t line steady a b c constant = by_low (le_or_lt (shifted t way.over.low) (time k))
       where
         constant_at : (u : Rational) → IsConstant line (value_at (shape.function k.after) u)
-        constant_at u x = same_transᵉ (value_at (shape.function k.after) u) (value_at (shape.function k.after) (time k)) (value_at line x) (steady u (time k)) (constant x)
+        constant_at u x = same_transᵉ (value_at (shape.function k.after) u) (value_at (shape.function k.after)
+            (time k)) (value_at line x) (steady u (time k)) (constant x)
 
-        by_high : time k <ʳ shifted t way.over.low → (time n ≤ʳ shifted t way.over.high) ⊎ (shifted t way.over.high <ʳ time n) → InPlay shape knots way.over t line
+        by_high : time k <ʳ shifted t way.over.low → (time n ≤ʳ shifted t way.over.high) ⊎ (shifted t way.over.high <ʳ time n)
+            → InPlay shape knots way.over t line
         by_high h (inl l) = left_in_play t line l b c (constant_at (time n))
         by_high h (inr l) = end_in_play t way.over.low line (inl refl) (gap_time t a b c) h b
             (λ u. same_symᵉ (value_at (shape.function k.after) (shifted u way.over.low)) (value_at line u) (constant_at (shifted u way.over.low) u))
@@ -167,23 +182,28 @@ module _ {P : Type 0} (shape : ShapeOf P) (laws : ShapeLaws shape) (knots : List
         by_low (inr h) = by_high h (le_or_lt (time n) (shifted t way.over.high))
 
     -- the window has a time where an end lies in the gap
-    pub time_under : (t : Rational) → time k <ʳ shifted t way.over.high → shifted t way.over.low <ʳ time n → shifted t way.over.low <ʳ shifted t way.over.high
+    pub time_under : (t : Rational) → time k <ʳ shifted t way.over.high → shifted t way.over.low <ʳ time n
+        → shifted t way.over.low <ʳ shifted t way.over.high
         → HasTime (Over (start knots) (stop knots) way.over t)
     time_under t a b c = gap_time t a b c
 
   -- the point of a knot in the window is reached, and in play
   pub reach_point : (i : ℕ) (k : Knot P) (t : Rational) → slice_get knots i ≡ Some k → Over (start knots) (stop knots) way.over t (time k)
       → ReachesAt shape knots way t (value_at (shape.function k.point) (time k))
-  reach_point i k t here over = reaches_value way.side (none_of way.side shape.lowest shape.highest) (Over (start knots) (stop knots) way.over t) (IsWorth shape knots)
+  reach_point i k t here over = reaches_value way.side (none_of way.side shape.lowest shape.highest)
+      (Over (start knots) (stop knots) way.over t) (IsWorth shape knots)
       (time k) (value_at (shape.function k.point) (time k)) over (worth_at shape knots i k (time k) here (same_refl (time k)))
 
   pub point_in_play : (i : ℕ) (k : Knot P) (t : Rational) (line : Affine) → slice_get knots i ≡ Some k → Over (start knots) (stop knots) way.over t (time k)
       → IsConstant line (value_at (shape.function k.point) (time k)) → InPlay shape knots way.over t line
-  point_in_play i k t line here over constant = ((time k, over), inr (inl (
-    time k,
-    breakpoint_at shape knots i k is_way.signal here,
-    over,
-    value_at (shape.function k.point) (time k),
-    worth_at shape knots i k (time k) here (same_refl (time k)),
-    constant,
-  )))
+  point_in_play i k t line here over constant = (
+    (time k, over),
+    inr (inl (
+      time k,
+      breakpoint_at shape knots i k is_way.signal here,
+      over,
+      value_at (shape.function k.point) (time k),
+      worth_at shape knots i k (time k) here (same_refl (time k)),
+      constant,
+    )),
+  )

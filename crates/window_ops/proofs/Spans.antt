@@ -30,7 +30,8 @@ after_tick t = let m = mul-lt-mul_of_pos_right t.positive t.positive in record {
 
 -- of two offsets the greater leads to the later time
 pub lt_offsets : (t : Rational) (j k : ℤ) → j <ℤ k → shifted t j <ʳ shifted t k
-lt_offsets t j k h = lt_of_lt_of_le (after_tick (shifted t j)) (le_trans (le_of_same next) (le_trans (le_shift_by {j = j +ℤ pos 1} {k = k} t (omega (arith, ints, h))) (ge_of_same (shifted-add t k))))
+lt_offsets t j k h = lt_of_lt_of_le (after_tick (shifted t j)) (le_trans (le_of_same next) (le_trans
+    (le_shift_by {j = j +ℤ pos 1} {k = k} t (omega (arith, ints, h))) (ge_of_same (shifted-add t k))))
   where
     next : later (shifted t j) 1 ≈ add t (whole (j +ℤ pos 1))
     next = same_trans (later-add (shifted t j) 1) (same_trans (same_shift (pos 1) (shifted-add t j)) (shift_twice t j (pos 1)))
@@ -65,7 +66,8 @@ module _ {P : Type 0} (shape : ShapeOf P) (laws : ShapeLaws shape) (knots : List
       (within_sum a (neg_ℤ z) (le_trans is_way.first from) (le_trans to is_way.last)
       (turned_from way.over is_way.small z high) (turned_to way.over is_way.small z low)))
 
-  module _ (a b : Frac) (after_a after_b : Bool) (from until : Turn) (first : start knots ≤ʳ value a) (a_last : value a ≤ʳ stop knots) (b_first : start knots ≤ʳ value b)
+  module _ (a b : Frac) (after_a after_b : Bool) (from until : Turn) (first : start knots ≤ʳ value a)
+      (a_last : value a ≤ʳ stop knots) (b_first : start knots ≤ʳ value b)
       (last : value b ≤ʳ stop knots)
       (from_at : value from.at ≈ add (value a) (whole (neg_ℤ way.over.high))) (from_after : from.just_after ≡ after_a)
       (until_at : value until.at ≈ add (value b) (whole (neg_ℤ way.over.low))) (until_after : until.just_after ≡ after_b) where
@@ -81,8 +83,10 @@ module _ {P : Type 0} (shape : ShapeOf P) (laws : ShapeLaws shape) (knots : List
     span_wide wide order = record {
       from_is = come_moved from (turn_of a after_a) way.over.high from_at from_after;
       until_is = come_moved until (turn_of b after_b) way.over.low until_at until_after;
-      from_within = moved_within (value a) (value from.at) way.over.high first a_last (high_from way.over is_way.small) (high_to way.over is_way.small) from_at;
-      until_within = moved_within (value b) (value until.at) way.over.low b_first last (low_from way.over is_way.small) (low_to way.over is_way.small) until_at;
+      from_within = moved_within (value a) (value from.at) way.over.high first a_last (high_from way.over is_way.small)
+          (high_to way.over is_way.small) from_at;
+      until_within = moved_within (value b) (value until.at) way.over.low b_first last (low_from way.over is_way.small)
+          (low_to way.over is_way.small) until_at;
       in_order = λ t h. (come_moved from (turn_of a after_a) way.over.high from_at from_after t).1
           (inl (lt_of_le_of_lt (le_trans order (at_of_come (turn_of b after_b) (shifted t way.over.low)
           ((come_moved until (turn_of b after_b) way.over.low until_at until_after t).0 h)))
@@ -100,8 +104,10 @@ module _ {P : Type 0} (shape : ShapeOf P) (laws : ShapeLaws shape) (knots : List
     span_single one same after = record {
       from_is = come_moved from (turn_of a after_a) way.over.high from_at from_after;
       until_is = come_moved until (turn_of b after_b) way.over.low until_at until_after;
-      from_within = moved_within (value a) (value from.at) way.over.high first a_last (high_from way.over is_way.small) (high_to way.over is_way.small) from_at;
-      until_within = moved_within (value b) (value until.at) way.over.low b_first last (low_from way.over is_way.small) (low_to way.over is_way.small) until_at;
+      from_within = moved_within (value a) (value from.at) way.over.high first a_last (high_from way.over is_way.small)
+          (high_to way.over is_way.small) from_at;
+      until_within = moved_within (value b) (value until.at) way.over.low b_first last (low_from way.over is_way.small)
+          (low_to way.over is_way.small) until_at;
       in_order = λ t h. (come_moved from (turn_of a after_a) way.over.high from_at from_after t).1
           (inl (subst (λ (c : Frac). value c <ʳ shifted t way.over.high) (sym same) (subst (λ z. value b <ʳ shifted t z) one
           (strictly t ((come_moved until (turn_of b after_b) way.over.low until_at until_after t).0 h)))));
@@ -116,10 +122,12 @@ module _ {P : Type 0} (shape : ShapeOf P) (laws : ShapeLaws shape) (knots : List
         strictly t (inr k) = absurd (false≢true (sym k.1 ∙ after))
 
         one_time : value until.at ≈ value from.at
-        one_time = same_trans until_at (same_trans (same_offset one) (same_sym (subst (λ (c : Frac). value from.at ≈ add (value c) (whole (neg_ℤ way.over.high))) same from_at)))
+        one_time = same_trans until_at (same_trans (same_offset one) (same_sym (subst (λ (c : Frac). value from.at ≈ add
+            (value c) (whole (neg_ℤ way.over.high))) same from_at)))
           where
             same_offset : {j k : ℤ} → j ≡ k → add (value b) (whole (neg_ℤ j)) ≈ add (value b) (whole (neg_ℤ k))
-            same_offset {j} {k} e = subst (λ z. add (value b) (whole (neg_ℤ j)) ≈ add (value b) (whole (neg_ℤ z))) e (same_refl (add (value b) (whole (neg_ℤ j))))
+            same_offset {j} {k} e = subst (λ z. add (value b) (whole (neg_ℤ j)) ≈ add (value b) (whole
+                (neg_ℤ z))) e (same_refl (add (value b) (whole (neg_ℤ j))))
 
   -- at a point, in any window that is not empty
   pub span_point : (k : Frac) (from until : Turn) → Within (start knots) (stop knots) (value k)
@@ -127,6 +135,8 @@ module _ {P : Type 0} (shape : ShapeOf P) (laws : ShapeLaws shape) (knots : List
       → value until.at ≈ add (value k) (whole (neg_ℤ way.over.low)) → until.just_after ≡ way.over.low_in → IsNonEmpty way.over
       → Span k k (not way.over.high_in) way.over.low_in from until
   span_point k from until d from_at from_after until_at until_after (inl wide) =
-      span_wide k k (not way.over.high_in) way.over.low_in from until d.above d.below d.above d.below from_at from_after until_at until_after wide (le_refl (value k))
+      span_wide k k (not way.over.high_in) way.over.low_in from until d.above d.below d.above d.below from_at from_after until_at until_after wide
+      (le_refl (value k))
   span_point k from until d from_at from_after until_at until_after (inr one) =
-      span_single k k (not way.over.high_in) way.over.low_in from until d.above d.below d.above d.below from_at from_after until_at until_after one.0 refl one.1
+      span_single k k (not way.over.high_in) way.over.low_in from until d.above d.below d.above d.below from_at from_after until_at until_after one.0
+      refl one.1

@@ -52,7 +52,8 @@ pub record IsOn (way : Way) (from until : Turn) (t : Rational) : Type 0 where
 -- how long what lies between the turns counts in the domain: at no time, at one time at which an end of the window comes to the time
 -- `at`, or on a stretch inside
 abbrev pub IsExtent : Way → Frac → Turn → Turn → Extent → Type 0
-IsExtent way at from until Never = ((t : Rational) → value way.start ≤ʳ t → ¬ (IsToCome until t)) ⊎ ((t : Rational) → t ≤ʳ value way.stop → ¬ (HasCome from t))
+IsExtent way at from until Never = ((t : Rational) → value way.start ≤ʳ t → ¬ (IsToCome until t)) ⊎ ((t : Rational) → t ≤ʳ value way.stop
+    → ¬ (HasCome from t))
 IsExtent way at from until AtLow = ((t : Rational) → IsOn way from until t → shifted t way.over.low ≈ value at) × (value until.at ≤ʳ value way.stop)
     × (shifted (value until.at) way.over.low ≈ value at) × (value from.at ≤ʳ value way.stop) × IsBeforeEnd way until
 IsExtent way at from until AtHigh = ((t : Rational) → IsOn way from until t → shifted t way.over.high ≈ value at)
@@ -85,7 +86,8 @@ IsStopped way until stopped = ((stopped ≡ until) × (value until.at ≤ʳ valu
 -- the slope is the gap itself, moved, until the last turn; there is none where the first lies no earlier than the stop
 abbrev pub IsSlopeFrom : {P : Type 0} → ShapeOf P → Way → P → Turn → Turn → Option (Slope P) → Type 0
 IsSlopeFrom shape way gap until last None = value way.stop ≤ʳ value until.at
-IsSlopeFrom shape way gap until last (Some s) = ((t : Rational) → value_at (shape.function s.shape) t ≈ᵉ value_at (shape.function gap) (add t (whole way.over.low))) × (s.until ≡ last)
+IsSlopeFrom shape way gap until last (Some s) = ((t : Rational) → value_at (shape.function s.shape) t ≈ᵉ value_at
+    (shape.function gap) (add t (whole way.over.low))) × (s.until ≡ last)
     × (IsTrue (shape.moves s.shape) → IsTrue (shape.moves gap) × (shape.base s.shape ≡ shape.base gap -ℤ way.over.low)) × (value until.at <ʳ value way.stop)
 
 -- the fault is the value that was refused, or else what the walk has refused
@@ -160,7 +162,8 @@ module _ {P : Type 0} (shape : ShapeOf P) (knots : List (Knot P)) where
       pub after_start : start knots ≤ʳ value piece.at
       pub small : IsBounded (2 ^ 31) (value_at (shape.function piece.shape) (value piece.at))
       pub of_signal : HasShape knots piece.shape
-      pub reached : (t : Rational) → InDomain t → HasCome piece.from t → IsToCome piece.until t → ReachesAt t (value_at (shape.function piece.shape) (value piece.at))
+      pub reached : (t : Rational) → InDomain t → HasCome piece.from t → IsToCome piece.until t → ReachesAt t
+          (value_at (shape.function piece.shape) (value piece.at))
       pub in_play : (t : Rational) → start knots <ʳ t → t <ʳ stop knots → HasCome piece.from t → IsToCome piece.until t → (line : Affine)
           → IsConstant line (value_at (shape.function piece.shape) (value piece.at)) → InPlay shape knots way.over t line
 
@@ -171,7 +174,8 @@ module _ {P : Type 0} (shape : ShapeOf P) (knots : List (Knot P)) where
       pub level : HasBoundedLevel (2 ^ 31) (shape.function slope.shape)
       pub begins : IsToCome piece.until (start knots)
       pub later : (t : Rational) → HasCome slope.until t → HasCome piece.until t
-      pub worse : (t : Rational) → HasCome piece.until t → IsNoBetter way.side (value_at (shape.function slope.shape) t) (value_at (shape.function piece.shape) (value piece.at))
+      pub worse : (t : Rational) → HasCome piece.until t → IsNoBetter way.side (value_at (shape.function slope.shape) t)
+          (value_at (shape.function piece.shape) (value piece.at))
       pub falls : (t u : Rational) → t ≤ʳ u → IsNoBetter way.side (value_at (shape.function slope.shape) u) (value_at (shape.function slope.shape) t)
       pub fair : IsFair (record { shape = slope.shape; from = piece.until; until = Some slope.until })
 
@@ -182,7 +186,8 @@ module _ {P : Type 0} (shape : ShapeOf P) (knots : List (Knot P)) where
 
     -- the value stands for the piece where it counts in the domain; on a stretch it is a constant
     pub record IsValueOf (piece : Piece P) (value' : P) : Type 0 where
-      pub is : (t : Rational) → IsOn way piece.from piece.until t → value_at (shape.function value') t ≈ᵉ value_at (shape.function piece.shape) (value piece.at)
+      pub is : (t : Rational) → IsOn way piece.from piece.until t → value_at (shape.function value') t ≈ᵉ value_at
+          (shape.function piece.shape) (value piece.at)
       pub frozen : (a tau b : Rational) → start knots ≤ʳ a → a <ʳ tau → tau <ʳ b → b ≤ʳ stop knots
           → ((t : Rational) → a <ʳ t → t <ʳ b → HasCome piece.from t × IsToCome piece.until t)
           → IsConstant (shape.function value') (value_at (shape.function piece.shape) (value piece.at))

@@ -1,5 +1,5 @@
 //! The Sup and the Inf over a window behind: the same window, whose offsets are negative.
-ghost use Rattle.std.specs.Prelude.{◌≡◌, ◌≤◌, ◌^◌, ◌-◌, pos, neg_ℤ, IfSome, IfOk, IfErr};
+ghost use Rattle.std.specs.Prelude.{◌≡◌, ◌≤◌, ◌^◌, ◌-◌, ◌≤ℤ◌, pos, neg_ℤ, IfSome, IfOk, IfErr};
 ghost use Rattle.rational.specs.Rational.{whole};
 ghost use Rattle.rational.specs.Time.{◌≤ʳ◌};
 ghost use Rattle.rational.specs.InPlay.{window_behind};
@@ -9,6 +9,7 @@ ghost use Rattle.pl_signal.specs.Moves.{Tells};
 ghost use Rattle.pl_signal.specs.Wide.{HasCause};
 ghost use Rattle.window_ops.specs.Conditions.{AreNear, BasesBehind};
 ghost use Rattle.window_ops.specs.Behind.{IsReach};
+ghost use Rattle.window_ops.specs.Over.{IsSmall};
 ghost use Rattle.window_ops.specs.Windows.{InfBehind, SupBehind};
 
 use crate::offsets::Offsets;
@@ -81,19 +82,28 @@ pub fn inf_past<P: Shape>(
 
 /// The window from `b` to `a` ticks behind, where `low_in` is the end at `a`.
 fn behind(a: u32, b: Option<u32>, low_in: bool, high_in: bool) -> Offsets
+    requires order { IfSome b (λ b. a ≤ b) }
     ensures low { IsReach b result.low }
     ensures high { result.high ≡ neg_ℤ (pos a) }
     ensures low_in { result.low_in ≡ high_in }
     ensures high_in { result.high_in ≡ low_in }
+    ensures small { IsSmall result }
 {
-    let low = match b {
-        Some(b) => -i64::from(b),
-        None => -BEYOND,
-    };
     Offsets {
-        low,
+        low: reach(b),
         high: -i64::from(a),
         low_in: high_in,
         high_in: low_in,
+    }
+}
+
+/// The offset of the far end: beyond any domain where there is none.
+fn reach(b: Option<u32>) -> i64
+    ensures reach { IsReach b result }
+    ensures small { neg_ℤ (pos (2 ^ 32)) ≤ℤ result }
+{
+    match b {
+        Some(b) => -i64::from(b),
+        None => -BEYOND,
     }
 }

@@ -19,7 +19,7 @@ use crate::counted::{Piece, clamped, count};
 use crate::offsets::{Offsets, Way, at_high, at_low, leaves, low_of, meets};
 use envelope::{Slope, Turn, Walk, trend};
 use frac128::{Frac, Memory};
-use pl_signal::{OpFault, Side, Signal, WidePair};
+use pl_signal::{Knot, OpFault, Side, Signal, WidePair};
 use std::cmp::Ordering;
 use value_laws::Shape;
 
@@ -38,16 +38,19 @@ pub(crate) fn over_window<P: Shape>(
     ensures bases { IfOk result (BasesOver P.Shape s.now over) }
     ensures wide { IfErr result (HasCauseOver P.Shape s.now over) }
 {
+    let start = s.start();
+    let stop = s.stop();
     let way = Way {
         side,
         over,
-        start: s.start(),
-        stop: s.stop(),
+        start,
+        stop,
     };
-    let mut walk = Walk::begin(s.alloc(), side, way.start);
+    let alloc = s.alloc();
+    let mut walk = Walk::begin(alloc, side, start);
     let mut fault = None;
     match walk_over(s, &way, &mut walk, &mut fault) {
-        Ok(()) => walk.finish(&way.stop),
+        Ok(()) => walk.finish(&stop),
         Err(Memory) => Err(refused(fault, &walk)),
     }
 }
@@ -157,13 +160,31 @@ fn gap<P: Shape>(
     ensures fault { OnErr result (HasRefused P.Shape s.now way.now fault.new walk.new) }
 {
     if way.over.low == way.over.high {
-        return climb(s, i, way, walk);
+        return instant(s, i, way, walk);
     }
-    match trend(way.side, &s.knot(i).after) {
+    let knot = s.knot(i);
+    match trend(way.side, &knot.after) {
         Ordering::Equal => steady(s, i, way, walk, fault),
         Ordering::Greater => rising(s, i, way, walk, fault),
         Ordering::Less => falling(s, i, way, walk, fault),
     }
+}
+
+/// In a window of one instant a gap counts as itself.
+fn instant<P: Shape>(s: &Signal<P>, i: usize, way: &Way, walk: &mut Walk<P>) -> Result<(), Memory>
+    requires place { i + 1 < length s.now }
+    requires way { IsWay P.Shape s.now way.now }
+    requires some { IsNonEmpty way.now.over }
+    requires one { way.now.over.low ≡ way.now.over.high }
+    requires stands { (parts : List (Part P)) × StandsBy P.Shape s.now way.now i true parts walk.old }
+    ensures comes { OnOk result (ComesTo P.Shape s.now way.now i true (i + 1) false walk.old walk.new) }
+    ensures fault { OnErr result (HasRefused P.Shape s.now way.now None walk.new) }
+{
+    // For the proof alone: the number of knots fits.
+    let _ = s.len();
+    let knot = s.knot(i);
+    let next = s.knot(i + 1);
+    climb(s, i, &knot, &next, way, walk)
 }
 
 /// A gap that stays as it is counts as a constant.
@@ -184,6 +205,8 @@ fn steady<P: Shape>(
     ensures still { OnOk result (fault.new ≡ None) }
     ensures fault { OnErr result (HasRefused P.Shape s.now way.now fault.new walk.new) }
 {
+    // For the proof alone: the number of knots fits.
+    let _ = s.len();
     let knot = s.knot(i);
     let next = s.knot(i + 1);
     let from = meets(&way.over, &knot.time, true);
@@ -216,9 +239,11 @@ fn rising<P: Shape>(
     ensures still { OnOk result (fault.new ≡ None) }
     ensures fault { OnErr result (HasRefused P.Shape s.now way.now fault.new walk.new) }
 {
-    climb(s, i, way, walk)?;
+    // For the proof alone: the number of knots fits.
+    let _ = s.len();
     let knot = s.knot(i);
     let next = s.knot(i + 1);
+    climb(s, i, &knot, &next, way, walk)?;
     let from = meets(&way.over, &next.time, false);
     let until = leaves(&way.over, &next.time, false);
     let piece = Piece {
@@ -249,6 +274,8 @@ fn falling<P: Shape>(
     ensures still { OnOk result (fault.new ≡ None) }
     ensures fault { OnErr result (HasRefused P.Shape s.now way.now fault.new walk.new) }
 {
+    // For the proof alone: the number of knots fits.
+    let _ = s.len();
     let knot = s.knot(i);
     let next = s.knot(i + 1);
     let last = leaves(&way.over, &next.time, false);
@@ -304,25 +331,34 @@ fn low_end(way: &Way, time: &Frac, next: &Frac) -> Frac
 }
 
 /// A gap counts as itself while the high end moves over it, as far as it does so in the domain.
-fn climb<P: Shape>(s: &Signal<P>, i: usize, way: &Way, walk: &mut Walk<P>) -> Result<(), Memory>
-    requires place { i + 1 < length s.now }
+fn climb<P: Shape>(
+    s: &Signal<P>,
+    i: usize,
+    knot: &Knot<P>,
+    next: &Knot<P>,
+    way: &Way,
+    walk: &mut Walk<P>,
+) -> Result<(), Memory>
+    requires here { slice_get s.now i ≡ Some knot.now }
+    requires next { slice_get s.now (i + 1) ≡ Some next.now }
     requires way { IsWay P.Shape s.now way.now }
     requires some { IsNonEmpty way.now.over }
     requires stands { (parts : List (Part P)) × StandsBy P.Shape s.now way.now i true parts walk.old }
     ensures climbed { OnOk result (ClimbsOver P.Shape s.now way.now i walk.old walk.new) }
     ensures fault { OnErr result (HasRefused P.Shape s.now way.now None walk.new) }
 {
-    let knot = s.knot(i);
-    let next = s.knot(i + 1);
+    // For the proof alone: where the two knots stand in the signal.
+    let _ = s;
+    let _ = i;
     let from = meets(&way.over, &knot.time, true);
     let until = meets(&way.over, &next.time, false);
-    if !lasts(way, &from, &until) {
-        return Ok(());
+    if lasts(way, &from, &until) {
+        let gap = at_high(&way.over, &knot.after);
+        let begin = clamped(way, &from);
+        let end = stopped(way, &until);
+        return walk.climb(&begin, &end, gap);
     }
-    let gap = at_high(&way.over, &knot.after);
-    let begin = clamped(way, &from);
-    let end = stopped(way, &until);
-    walk.climb(&begin, &end, gap)
+    Ok(())
 }
 
 /// Whether what lies between the turns counts in the domain.

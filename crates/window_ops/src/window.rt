@@ -8,6 +8,7 @@ ghost use Rattle.pl_signal.specs.Limits.{IsLimited};
 ghost use Rattle.pl_signal.specs.Moves.{Tells};
 ghost use Rattle.pl_signal.specs.Wide.{HasCause};
 ghost use Rattle.window_ops.specs.Conditions.{AreNear, BasesAhead};
+ghost use Rattle.window_ops.specs.Over.{IsSmall};
 ghost use Rattle.window_ops.specs.Windows.{InfAhead, InfBehind, SupAhead};
 
 use crate::offsets::Offsets;
@@ -77,10 +78,12 @@ pub fn inf_window<P: Shape>(
 
 /// The window from `a` to `b` ticks ahead.
 fn ahead(a: u32, b: u32, low_in: bool, high_in: bool) -> Offsets
+    requires order { a ≤ b }
     ensures low { result.low ≡ pos a }
     ensures high { result.high ≡ pos b }
     ensures low_in { result.low_in ≡ low_in }
     ensures high_in { result.high_in ≡ high_in }
+    ensures small { IsSmall result }
 {
     Offsets {
         low: i64::from(a),

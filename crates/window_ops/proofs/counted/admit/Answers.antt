@@ -39,6 +39,7 @@ returns-clause-fault g c = on_err c.admit.result (λ h. refused_of g.P.Shape (as
     c.requires.can.high c.clamped-from.ensures (λ t h. (c.requires.can.is.from t).0 h))
     c.requires.can.goes.fair
     (clamped_stop c.args.way.now c.args.piece.now.from c.clamped-from.result (stop c.args.s.now)
-    (subst (λ u. value c.args.way.now.start ≤ʳ u) c.requires.way.stops (way_order g.P.Shape (assumption g.met.P.Shape) c.args.s.now c.args.way.now c.requires.way))
+    (subst (λ u. value c.args.way.now.start ≤ʳ u) c.requires.way.stops (way_order g.P.Shape
+    (assumption g.met.P.Shape) c.args.s.now c.args.way.now c.requires.way))
     (subst (λ u. value c.args.piece.now.from.at ≤ʳ u) c.requires.way.stops c.requires.value.begins) c.clamped-from.ensures)
     (λ come w. h c.args.way.now.side _ _ c.requires.can.goes.pos c.requires.can.parts come w)) c.admit.ensures.fault

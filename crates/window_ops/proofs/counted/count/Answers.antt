@@ -34,7 +34,8 @@ admit-requires g c = record {
   way = c.requires.way;
   can = c.requires.can;
   value = let (once, before, at, begins, ends) = c.in-AtLow.ensures in
-      moved_value g.P.Shape (assumption g.met.P.Shape) c.args.s.now c.args.way.now c.requires.way c.args.piece.now c.requires.can.high c.requires.can.low c.requires.can.is
+      moved_value g.P.Shape (assumption g.met.P.Shape) c.args.s.now c.args.way.now c.requires.way c.args.piece.now c.requires.can.high
+      c.requires.can.low c.requires.can.is
       c.args.way.now.over.low c.at_low.result c.at_low.ensures.value c.at_low.ensures.base once (inr (refl, before, at)) begins ends;
 }
 
@@ -42,14 +43,16 @@ pub returns-in-AtLow : goal.returns-in-AtLow
 returns-in-AtLow g c = record {
   counted = c.admit.ensures.counted;
   still = ok_any c.admit.result c.requires.none;
-  fault = on_err c.admit.result (λ h. subst (λ o. HasRefused g.P.Shape c.args.s.now c.args.way.now o c.admit.new.walk) (sym c.requires.none) h) c.admit.ensures.fault;
+  fault = on_err c.admit.result (λ h. subst (λ o. HasRefused g.P.Shape c.args.s.now c.args.way.now o c.admit.new.walk)
+      (sym c.requires.none) h) c.admit.ensures.fault;
 }
 
 pub at_high-requires : goal.at_high-requires
 at_high-requires g c = record {
   small = c.requires.way.small;
   room = let s = high_small g.P.Shape (assumption g.met.P.Shape) c.args.s.now c.args.way.now c.requires.way in
-      room (g.P.Shape.base c.args.piece.now.shape) c.args.way.now.over.high (c.requires.way.near c.args.piece.now.shape c.requires.can.is.of_signal) s.0 s.1;
+      room (g.P.Shape.base c.args.piece.now.shape) c.args.way.now.over.high
+      (c.requires.way.near c.args.piece.now.shape c.requires.can.is.of_signal) s.0 s.1;
 }
 
 pub admit-requires-in-AtHigh : goal.admit-requires-in-AtHigh
@@ -57,7 +60,8 @@ admit-requires-in-AtHigh g c = record {
   way = c.requires.way;
   can = c.requires.can;
   value = let (once, begins, ends) = c.in-AtHigh.ensures in
-      moved_value g.P.Shape (assumption g.met.P.Shape) c.args.s.now c.args.way.now c.requires.way c.args.piece.now c.requires.can.high c.requires.can.low c.requires.can.is
+      moved_value g.P.Shape (assumption g.met.P.Shape) c.args.s.now c.args.way.now c.requires.way c.args.piece.now c.requires.can.high
+      c.requires.can.low c.requires.can.is
       c.args.way.now.over.high c.at_high.result c.at_high.ensures.value c.at_high.ensures.base once (inl refl) begins ends;
 }
 
@@ -65,7 +69,8 @@ pub returns-in-AtHigh : goal.returns-in-AtHigh
 returns-in-AtHigh g c = record {
   counted = c.admit-in-AtHigh.ensures.counted;
   still = ok_any c.admit-in-AtHigh.result c.requires.none;
-  fault = on_err c.admit-in-AtHigh.result (λ h. subst (λ o. HasRefused g.P.Shape c.args.s.now c.args.way.now o c.admit-in-AtHigh.new.walk) (sym c.requires.none) h) c.admit-in-AtHigh.ensures.fault;
+  fault = on_err c.admit-in-AtHigh.result (λ h. subst (λ o. HasRefused g.P.Shape c.args.s.now c.args.way.now o c.admit-in-AtHigh.new.walk)
+      (sym c.requires.none) h) c.admit-in-AtHigh.ensures.fault;
 }
 
 pub fix-requires : goal.fix-requires
@@ -77,14 +82,16 @@ admit-requires-in-Ok g c = record {
   can = c.requires.can;
   value = let (ends, begins, order) = c.in-Long.ensures in
       let fixed = c.in-Ok.ensures.value in
-      frozen_value g.P.Shape (assumption g.met.P.Shape) c.args.s.now c.args.way.now c.requires.way c.args.piece.now c.requires.can.high c.requires.can.low c.requires.can.is c.in-Ok.value fixed.0 fixed.1 ends begins;
+      frozen_value g.P.Shape (assumption g.met.P.Shape) c.args.s.now c.args.way.now c.requires.way c.args.piece.now c.requires.can.high
+      c.requires.can.low c.requires.can.is c.in-Ok.value fixed.0 fixed.1 ends begins;
 }
 
 pub returns-in-Ok : goal.returns-in-Ok
 returns-in-Ok g c = record {
   counted = c.admit-in-Ok.ensures.counted;
   still = ok_any c.admit-in-Ok.result c.requires.none;
-  fault = on_err c.admit-in-Ok.result (λ h. subst (λ o. HasRefused g.P.Shape c.args.s.now c.args.way.now o c.admit-in-Ok.new.walk) (sym c.requires.none) h) c.admit-in-Ok.ensures.fault;
+  fault = on_err c.admit-in-Ok.result (λ h. subst (λ o. HasRefused g.P.Shape c.args.s.now c.args.way.now o c.admit-in-Ok.new.walk)
+      (sym c.requires.none) h) c.admit-in-Ok.ensures.fault;
 }
 
 pub returns-in-Err : goal.returns-in-Err
@@ -93,5 +100,6 @@ returns-in-Err g c = record {
   still = tt;
   fault = let (ends, begins, order) = c.in-Long.ensures in
       let (v, is, has, wide) = c.in-Err.ensures.value in
-      frozen_fault g.P.Shape (assumption g.met.P.Shape) c.args.s.now c.args.way.now c.requires.way c.args.piece.now c.requires.can.high c.requires.can.low c.requires.can.is v c.in-Err.wide.den is has wide ends begins order;
+      frozen_fault g.P.Shape (assumption g.met.P.Shape) c.args.s.now c.args.way.now c.requires.way c.args.piece.now c.requires.can.high
+      c.requires.can.low c.requires.can.is v c.in-Err.wide.den is has wide ends begins order;
 }

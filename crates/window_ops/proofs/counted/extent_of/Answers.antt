@@ -68,7 +68,8 @@ returns-in-Equal-cmp-2 c =
       inl c.in-Greater.ensures,
     )
   where
-    by_come : value c.args.from.now.at ≈ value c.args.until.now.at → IsToCome c.args.until.now (value c.args.from.now.at) → c.args.until.now.just_after ≡ true
+    by_come : value c.args.from.now.at ≈ value c.args.until.now.at → IsToCome c.args.until.now (value c.args.from.now.at)
+        → c.args.until.now.just_after ≡ true
     by_come s (inl k) = absurd (not_lt_of_le (ge_of_same s) k)
     by_come s (inr k) = k.1
 

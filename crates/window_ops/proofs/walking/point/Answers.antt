@@ -32,7 +32,8 @@ pub count-requires : goal.count-requires
 count-requires g c = record {
   way = c.requires.way;
   none = c.requires.none;
-  can = can_point g.P.Shape (assumption g.met.P.Shape) c.args.s.now c.args.way.now c.requires.way c.args.i c.knot-knot.result c.knot-knot.ensures c.meets.result c.leaves.result
+  can = can_point g.P.Shape (assumption g.met.P.Shape) c.args.s.now c.args.way.now c.requires.way c.args.i c.knot-knot.result c.knot-knot.ensures
+      c.meets.result c.leaves.result
       (span_point g.P.Shape (assumption g.met.P.Shape) c.args.s.now c.args.way.now c.requires.way c.knot-knot.result.time c.meets.result c.leaves.result
       (knot_in g.P.Shape (assumption g.met.P.Shape) c.args.s.now c.args.way.now c.requires.way c.args.i c.knot-knot.result c.knot-knot.ensures)
       c.meets.ensures.at c.meets.ensures.after c.leaves.ensures.at c.leaves.ensures.after c.requires.some)
@@ -41,16 +42,19 @@ count-requires g c = record {
 
 pub returns-clause-comes : goal.returns-clause-comes
 returns-clause-comes g c = on_ok c.count.result (λ counted parts stands.
-    let span = span_point g.P.Shape (assumption g.met.P.Shape) c.args.s.now c.args.way.now c.requires.way c.knot-knot.result.time c.meets.result c.leaves.result
+    let span = span_point g.P.Shape (assumption g.met.P.Shape) c.args.s.now c.args.way.now c.requires.way c.knot-knot.result.time c.meets.result
+    c.leaves.result
     (knot_in g.P.Shape (assumption g.met.P.Shape) c.args.s.now c.args.way.now c.requires.way c.args.i c.knot-knot.result c.knot-knot.ensures)
     c.meets.ensures.at c.meets.ensures.after c.leaves.ensures.at c.leaves.ensures.after c.requires.some in
     let before = stands c.knot-knot.result c.knot-knot.ensures in
-    let can = can_point g.P.Shape (assumption g.met.P.Shape) c.args.s.now c.args.way.now c.requires.way c.args.i c.knot-knot.result c.knot-knot.ensures c.meets.result c.leaves.result
+    let can = can_point g.P.Shape (assumption g.met.P.Shape) c.args.s.now c.args.way.now c.requires.way c.args.i c.knot-knot.result
+    c.knot-knot.ensures c.meets.result c.leaves.result
     span parts c.args.walk.now before in
     let h = counted can in (
       h.parts,
       λ k here. subst (λ k. StandsAt g.P.Shape c.args.s.now c.args.way.now (turn_of k.time true) h.parts c.count.new.walk)
           (some_is (sym c.knot-knot.ensures ∙ here))
-          (came_point g.P.Shape (assumption g.met.P.Shape) c.args.s.now c.args.way.now c.requires.way c.args.i c.knot-knot.result c.knot-knot.ensures c.meets.result c.leaves.result
+          (came_point g.P.Shape (assumption g.met.P.Shape) c.args.s.now c.args.way.now c.requires.way c.args.i c.knot-knot.result c.knot-knot.ensures
+          c.meets.result c.leaves.result
           span parts c.args.walk.now c.count.new.walk before h),
     )) c.count.ensures.counted

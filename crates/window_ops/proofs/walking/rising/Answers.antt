@@ -32,7 +32,8 @@ leaves-until-requires g c = record {
 
 pub climb-requires : goal.climb-requires
 climb-requires g c = record {
-  place = c.requires.place;
+  here = c.knot-knot.ensures;
+  next = c.knot-next.ensures;
   way = c.requires.way;
   some = inl c.requires.wide;
   stands = c.requires.stands;
@@ -42,28 +43,56 @@ pub count-requires : goal.count-requires
 count-requires g c = record {
   way = c.requires.way;
   none = c.requires.none;
-  can = can_rising g.P.Shape (assumption g.met.P.Shape) c.args.s.now c.args.way.now c.requires.way c.args.i c.knot-knot.result c.knot-next.result c.knot-knot.ensures c.knot-next.ensures c.requires.wide (c.requires.trend c.knot-knot.result c.knot-knot.ensures) c.meets-from.result c.leaves-until.result
-      (span_wide g.P.Shape (assumption g.met.P.Shape) c.args.s.now c.args.way.now c.requires.way c.knot-next.result.time c.knot-next.result.time false false c.meets-from.result c.leaves-until.result
-      (knot_in g.P.Shape (assumption g.met.P.Shape) c.args.s.now c.args.way.now c.requires.way (c.args.i + 1) c.knot-next.result c.knot-next.ensures).above (knot_in g.P.Shape (assumption g.met.P.Shape) c.args.s.now c.args.way.now c.requires.way (c.args.i + 1) c.knot-next.result c.knot-next.ensures).below (knot_in g.P.Shape (assumption g.met.P.Shape) c.args.s.now c.args.way.now c.requires.way (c.args.i + 1) c.knot-next.result c.knot-next.ensures).above (knot_in g.P.Shape (assumption g.met.P.Shape) c.args.s.now c.args.way.now c.requires.way (c.args.i + 1) c.knot-next.result c.knot-next.ensures).below
-      c.meets-from.ensures.at c.meets-from.ensures.after c.leaves-until.ensures.at c.leaves-until.ensures.after c.requires.wide (le_refl (value c.knot-next.result.time))) c.requires.stands.0 c.climb.new.walk
-      (c.in_ok-climb.ensures.climbed c.knot-knot.result c.knot-next.result c.requires.stands.0 c.knot-knot.ensures c.knot-next.ensures (c.requires.stands.1 c.knot-knot.result c.knot-knot.ensures));
+  can = can_rising g.P.Shape (assumption g.met.P.Shape) c.args.s.now c.args.way.now c.requires.way c.args.i c.knot-knot.result c.knot-next.result
+      c.knot-knot.ensures c.knot-next.ensures c.requires.wide
+      (c.requires.trend c.knot-knot.result c.knot-knot.ensures) c.meets-from.result c.leaves-until.result
+      (span_wide g.P.Shape (assumption g.met.P.Shape) c.args.s.now c.args.way.now c.requires.way c.knot-next.result.time c.knot-next.result.time
+      false false c.meets-from.result c.leaves-until.result
+      (knot_in g.P.Shape (assumption g.met.P.Shape) c.args.s.now c.args.way.now c.requires.way
+      (c.args.i + 1) c.knot-next.result c.knot-next.ensures).above (knot_in g.P.Shape
+      (assumption g.met.P.Shape) c.args.s.now c.args.way.now c.requires.way (c.args.i + 1) c.knot-next.result c.knot-next.ensures).below
+      (knot_in g.P.Shape (assumption g.met.P.Shape) c.args.s.now c.args.way.now c.requires.way
+      (c.args.i + 1) c.knot-next.result c.knot-next.ensures).above (knot_in g.P.Shape
+      (assumption g.met.P.Shape) c.args.s.now c.args.way.now c.requires.way (c.args.i + 1) c.knot-next.result c.knot-next.ensures).below
+      c.meets-from.ensures.at c.meets-from.ensures.after c.leaves-until.ensures.at c.leaves-until.ensures.after c.requires.wide
+      (le_refl (value c.knot-next.result.time))) c.requires.stands.0 c.climb.new.walk
+      (c.in_ok-climb.ensures.climbed c.knot-knot.result c.knot-next.result c.requires.stands.0 c.knot-knot.ensures c.knot-next.ensures
+      (c.requires.stands.1 c.knot-knot.result c.knot-knot.ensures));
 }
 
 pub returns-clause-comes : goal.returns-clause-comes
 returns-clause-comes g c = on_ok c.count.result (λ counted parts stands.
     let before = stands c.knot-knot.result c.knot-knot.ensures in
     let climbed = c.in_ok-climb.ensures.climbed c.knot-knot.result c.knot-next.result parts c.knot-knot.ensures c.knot-next.ensures before in
-    let h = counted (can_rising g.P.Shape (assumption g.met.P.Shape) c.args.s.now c.args.way.now c.requires.way c.args.i c.knot-knot.result c.knot-next.result c.knot-knot.ensures c.knot-next.ensures c.requires.wide (c.requires.trend c.knot-knot.result c.knot-knot.ensures) c.meets-from.result c.leaves-until.result
-      (span_wide g.P.Shape (assumption g.met.P.Shape) c.args.s.now c.args.way.now c.requires.way c.knot-next.result.time c.knot-next.result.time false false c.meets-from.result c.leaves-until.result
-      (knot_in g.P.Shape (assumption g.met.P.Shape) c.args.s.now c.args.way.now c.requires.way (c.args.i + 1) c.knot-next.result c.knot-next.ensures).above (knot_in g.P.Shape (assumption g.met.P.Shape) c.args.s.now c.args.way.now c.requires.way (c.args.i + 1) c.knot-next.result c.knot-next.ensures).below (knot_in g.P.Shape (assumption g.met.P.Shape) c.args.s.now c.args.way.now c.requires.way (c.args.i + 1) c.knot-next.result c.knot-next.ensures).above (knot_in g.P.Shape (assumption g.met.P.Shape) c.args.s.now c.args.way.now c.requires.way (c.args.i + 1) c.knot-next.result c.knot-next.ensures).below
-      c.meets-from.ensures.at c.meets-from.ensures.after c.leaves-until.ensures.at c.leaves-until.ensures.after c.requires.wide (le_refl (value c.knot-next.result.time))) parts c.climb.new.walk climbed) in (
+    let h = counted (can_rising g.P.Shape (assumption g.met.P.Shape) c.args.s.now c.args.way.now c.requires.way c.args.i c.knot-knot.result
+    c.knot-next.result c.knot-knot.ensures c.knot-next.ensures c.requires.wide
+    (c.requires.trend c.knot-knot.result c.knot-knot.ensures) c.meets-from.result c.leaves-until.result
+    (span_wide g.P.Shape (assumption g.met.P.Shape) c.args.s.now c.args.way.now c.requires.way c.knot-next.result.time c.knot-next.result.time false
+    false c.meets-from.result c.leaves-until.result
+    (knot_in g.P.Shape (assumption g.met.P.Shape) c.args.s.now c.args.way.now c.requires.way
+    (c.args.i + 1) c.knot-next.result c.knot-next.ensures).above (knot_in g.P.Shape
+    (assumption g.met.P.Shape) c.args.s.now c.args.way.now c.requires.way (c.args.i + 1) c.knot-next.result c.knot-next.ensures).below
+    (knot_in g.P.Shape (assumption g.met.P.Shape) c.args.s.now c.args.way.now c.requires.way
+    (c.args.i + 1) c.knot-next.result c.knot-next.ensures).above (knot_in g.P.Shape
+    (assumption g.met.P.Shape) c.args.s.now c.args.way.now c.requires.way (c.args.i + 1) c.knot-next.result c.knot-next.ensures).below
+    c.meets-from.ensures.at c.meets-from.ensures.after c.leaves-until.ensures.at c.leaves-until.ensures.after c.requires.wide
+    (le_refl (value c.knot-next.result.time))) parts c.climb.new.walk climbed) in (
       h.parts,
       λ n there. subst (λ n. StandsAt g.P.Shape c.args.s.now c.args.way.now (turn_of n.time false) h.parts c.count.new.walk)
           (some_is (sym c.knot-next.ensures ∙ there))
-          (came_rising g.P.Shape (assumption g.met.P.Shape) c.args.s.now c.args.way.now c.requires.way c.args.i c.knot-knot.result c.knot-next.result c.knot-knot.ensures c.knot-next.ensures c.requires.wide (c.requires.trend c.knot-knot.result c.knot-knot.ensures) c.meets-from.result c.leaves-until.result
-      (span_wide g.P.Shape (assumption g.met.P.Shape) c.args.s.now c.args.way.now c.requires.way c.knot-next.result.time c.knot-next.result.time false false c.meets-from.result c.leaves-until.result
-      (knot_in g.P.Shape (assumption g.met.P.Shape) c.args.s.now c.args.way.now c.requires.way (c.args.i + 1) c.knot-next.result c.knot-next.ensures).above (knot_in g.P.Shape (assumption g.met.P.Shape) c.args.s.now c.args.way.now c.requires.way (c.args.i + 1) c.knot-next.result c.knot-next.ensures).below (knot_in g.P.Shape (assumption g.met.P.Shape) c.args.s.now c.args.way.now c.requires.way (c.args.i + 1) c.knot-next.result c.knot-next.ensures).above (knot_in g.P.Shape (assumption g.met.P.Shape) c.args.s.now c.args.way.now c.requires.way (c.args.i + 1) c.knot-next.result c.knot-next.ensures).below
-      c.meets-from.ensures.at c.meets-from.ensures.after c.leaves-until.ensures.at c.leaves-until.ensures.after c.requires.wide (le_refl (value c.knot-next.result.time))) parts c.args.walk.now c.climb.new.walk c.count.new.walk before climbed h),
+          (came_rising g.P.Shape (assumption g.met.P.Shape) c.args.s.now c.args.way.now c.requires.way c.args.i c.knot-knot.result c.knot-next.result
+          c.knot-knot.ensures c.knot-next.ensures c.requires.wide
+          (c.requires.trend c.knot-knot.result c.knot-knot.ensures) c.meets-from.result c.leaves-until.result
+          (span_wide g.P.Shape (assumption g.met.P.Shape) c.args.s.now c.args.way.now c.requires.way c.knot-next.result.time c.knot-next.result.time
+          false false c.meets-from.result c.leaves-until.result
+          (knot_in g.P.Shape (assumption g.met.P.Shape) c.args.s.now c.args.way.now c.requires.way
+          (c.args.i + 1) c.knot-next.result c.knot-next.ensures).above (knot_in g.P.Shape
+          (assumption g.met.P.Shape) c.args.s.now c.args.way.now c.requires.way (c.args.i + 1) c.knot-next.result c.knot-next.ensures).below
+          (knot_in g.P.Shape (assumption g.met.P.Shape) c.args.s.now c.args.way.now c.requires.way
+          (c.args.i + 1) c.knot-next.result c.knot-next.ensures).above (knot_in g.P.Shape
+          (assumption g.met.P.Shape) c.args.s.now c.args.way.now c.requires.way (c.args.i + 1) c.knot-next.result c.knot-next.ensures).below
+          c.meets-from.ensures.at c.meets-from.ensures.after c.leaves-until.ensures.at c.leaves-until.ensures.after c.requires.wide
+          (le_refl (value c.knot-next.result.time))) parts c.args.walk.now c.climb.new.walk c.count.new.walk before climbed h),
     )) c.count.ensures.counted
 
 pub returns-in_err-climb-clause-fault : goal.returns-in_err-climb-clause-fault

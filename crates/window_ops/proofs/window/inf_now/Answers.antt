@@ -4,14 +4,14 @@ use Rattle.rational.specs.Time.{◌≤ʳ◌}
 use Rattle.frac128.specs.Value.{value}
 use Rattle.pl_signal.specs.Knots.{start, stop, IsWorth}
 use Rattle.pl_signal.specs.Moves.{Tells}
-use Rattle.window_ops.proofs.EndsAhead.{start_to_stop}
+use Rattle.window_ops.proofs.Instants.{start_to_stop}
 use Rattle.window_ops.proofs.Instants.{tells_inf_ahead, tells_inf_behind}
 use Rattle.window_ops.proofs.window.inf_now.Goals as goal
 
 pub restrict-requires-clause-order : goal.restrict-requires-clause-order
 restrict-requires-clause-order g c =
     subst (λ u. u ≤ʳ value c.stop-to.result) (sym c.start-from.ensures.value) (subst (λ u. start c.args.s.now ≤ʳ u) (sym c.stop-to.ensures.value)
-    (start_to_stop g.P.Shape c.args.s.now c.start-from.ensures.signal))
+    (start_to_stop g.P.Shape (assumption g.met.P.Shape) c.args.s.now c.start-from.ensures.signal))
 
 pub returns-clause-ahead : goal.returns-clause-ahead
 returns-clause-ahead g c = IfOk-weaker c.restrict.result _ _
