@@ -6,7 +6,7 @@ use Rattle.std.proofs.lemmas.Int.{ints}
 use Rattle.stl_syntax.specs.Trace.{Header, first_time}
 use Rattle.stl_syntax.specs.Formula.{subformula}
 use Rattle.stl_syntax.specs.Verdicts.{Describes}
-use Rattle.stl_syntax.specs.Network.{
+use Rattle.online_nodes.specs.Network.{
   Event,
   step,
   close,

@@ -7,7 +7,7 @@ use Rattle.rational.proofs.Order.{le_trans, le_or_lt, not_lt_of_le, lt_of_lt_of_
 use Rattle.rational.proofs.TimeLemmas.{less_out, less_in}
 use Rattle.frac128.specs.Spans.{interval}
 use Rattle.frac128.specs.Value.{value}
-use Rattle.stl_syntax.specs.Held.{Meets, AreMeeting}
+use Rattle.online_nodes.specs.Needed.{Meets, AreMeeting}
 use Rattle.stl_syntax.specs.declared.items.Verdict.{Verdict}
 use Rattle.online_nodes.specs.Laws.{AreTiles, beyond}
 use Rattle.online_nodes.specs.Cuts.{Place, begins, ends, After, Upto, Before, Same}
@@ -22,7 +22,7 @@ use Rattle.online_nodes.proofs.PlaceLemmas.{
 }
 use Rattle.online_nodes.proofs.Writing.{in_upto}
 
-is_in : (on : Interval) (t : Rational) → After (begins on) t → Upto (ends on) t → IsIn on t
+pub is_in : (on : Interval) (t : Rational) → After (begins on) t → Upto (ends on) t → IsIn on t
 is_in on t a u = record { above = by_end on.from_in a; below = by_side on.to_in u }
   where
     by_end : (b : Bool) → MatchBool (not b) (on.from <ʳ t) (on.from ≤ʳ t) → MatchBool b (on.from ≤ʳ t) (on.from <ʳ t)
@@ -67,7 +67,7 @@ met lo f v some inside l = by_order (place_order (begins (interval v.on)) (recor
     by_order (inr (inr b)) = let t = between (begins (interval v.on)) (ends (interval v.on)) some in
         at_time t.0 t.1 (after_of_before after_lo (begins (interval v.on)) t.0 b t.1) t.2
 
-tiled_inside : (c : Place) (vs : List Verdict) (d : Place) (f : Rational) → AreTiles c vs d → ((t : Rational) → Upto d t → t ≤ʳ f)
+pub tiled_inside : (c : Place) (vs : List Verdict) (d : Place) (f : Rational) → AreTiles c vs d → ((t : Rational) → Upto d t → t ≤ʳ f)
     → (t : Rational) → Upto c t → t ≤ʳ f
 tiled_inside c [] d f s h t u = h t (upto_same c d t s u)
 tiled_inside c (v ∷ vs) d f (s, b, rest) h t u =

@@ -1,8 +1,13 @@
 mod PlaceLemmas
 mod Writing
 mod GotLemmas
-mod RunLaw
-mod StayLaw
+pub mod RunLaw
+pub mod StayLaw
+mod LowLaw
+mod BelongLemmas
+mod ReaderLemmas
+mod AnsweringLemmas
+mod InputLemmas
 mod FrameLaw
 mod HeldLaw
 mod WindowLaw
@@ -23,3 +28,14 @@ mod UntilTurns
 mod UntilPasses
 mod UntilCounts
 mod UntilGoes
+pub mod FrontsLaw
+mod SinceTurns
+mod SinceEnds
+mod SinceCounts
+mod SinceReads
+mod NetworkExamples
+mod RisingLaw
+mod EmittedLaw
+mod MeetingLaw
+mod EdgeLaw
+mod StillLaw

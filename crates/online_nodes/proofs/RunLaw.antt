@@ -33,7 +33,7 @@ use Rattle.stl_syntax.specs.Formula.{Subformula, subformula, horizon, tree_of, H
 use Rattle.stl_syntax.specs.PostOrder.{IsPostOrder, children}
 use Rattle.stl_syntax.proofs.FormulaLemmas.{subformula-at}
 use Rattle.stl_syntax.proofs.PostOrderLemmas.{placed, slice_get_at}
-use Rattle.stl_syntax.specs.Network.{
+use Rattle.online_nodes.specs.Network.{
   Event,
   row,
   step,
@@ -85,7 +85,7 @@ some_is a b e = ap or_zero e
 pub none_is_none : (a : ℤ) → None ≡ Some a → ⊥
 none_is_none a e = cc
 
-moved : (k : ℤ) (o : Front) (f : ℤ) → moved_by k o ≡ Some f → (g : ℤ) × (o ≡ Some g) × (f ≡ g +ℤ k)
+pub moved : (k : ℤ) (o : Front) (f : ℤ) → moved_by k o ≡ Some f → (g : ℤ) × (o ≡ Some g) × (f ≡ g +ℤ k)
 moved k None f e = absurd (none_is_none f e)
 moved k (Some g) f e = (g, refl, sym (some_is (g +ℤ k) f e))
 
@@ -93,7 +93,7 @@ pub int_order : (a b : ℤ) (t : Bool) → int_lt a b ≡ t → cond t (a <ℤ b
 int_order a b true e = omega (arith, ints)
 int_order a b false e = omega (arith, ints)
 
-lesser : (o q : Front) (f : ℤ) → least o q ≡ Some f → (g h : ℤ) × (o ≡ Some g) × (q ≡ Some h) × (f ≤ℤ g) × (f ≤ℤ h)
+pub lesser : (o q : Front) (f : ℤ) → least o q ≡ Some f → (g h : ℤ) × (o ≡ Some g) × (q ≡ Some h) × (f ≤ℤ g) × (f ≤ℤ h)
 lesser None q f e = absurd (none_is_none f e)
 lesser (Some g) None f e = absurd (none_is_none f e)
 lesser (Some g) (Some h) f e = by_test (int_lt h g) refl
@@ -205,11 +205,11 @@ module _ (at : ℕ → Subformula) (s : State) where
   open_bound i (Once p a b a_in b_in) f c k e = behind_by p a f (k p c) e
   open_bound i (Historically p a b a_in b_in) f c k e = behind_by p a f (k p c) e
 
-and_left : (a b : Bool) → (a && b) ≡ true → a ≡ true
+pub and_left : (a b : Bool) → (a && b) ≡ true → a ≡ true
 and_left true b e = refl
 and_left false b e = absurd (let x : false ≡ true = e in cc)
 
-last_appended : (rows : List Row) (r : Row) (closed : Bool) (fronts : ℕ → Front)
+pub last_appended : (rows : List Row) (r : Row) (closed : Bool) (fronts : ℕ → Front)
     → last_row (record { rows = rows ++ r ∷ []; closed = closed; fronts = fronts }) ≡ Some (pos r.time)
 last_appended [] r closed fronts = refl
 last_appended (q ∷ rows) r closed fronts = ap (λ t. Some (pos t)) (by_rest q.time rows)

@@ -27,7 +27,7 @@ use Rattle.std.proofs.Common.{
 use Rattle.std.specs.Prelude.{int_lt, cond}
 use Rattle.std.proofs.lemmas.Int.{ints}
 use Rattle.stl_syntax.specs.Formula.{Subformula, horizon, tree_of, HasChildrenBelow}
-use Rattle.stl_syntax.specs.Network.{least, moved_by, State, last_row, open_number}
+use Rattle.online_nodes.specs.Network.{least, moved_by, State, last_row, open_number}
 use Rattle.stl_syntax.specs.declared.node.Node.{Node}
 use Rattle.stl_syntax.specs.declared.node.Node.TheVariants.{
   Const,

@@ -40,7 +40,7 @@ use Rattle.stl_syntax.specs.Formula.{Subformula, subformula, horizon}
 use Rattle.stl_syntax.specs.Truth.{Truth}
 use Rattle.stl_syntax.specs.Verdicts.{Describes, GoesOn, IsTold}
 use Rattle.stl_syntax.specs.PostOrder.{IsPostOrder}
-use Rattle.stl_syntax.specs.Network.{
+use Rattle.online_nodes.specs.Network.{
   Event,
   row,
   step,
@@ -82,7 +82,7 @@ ends_by p tr stretch v (w ∷ vs) (touch, d, told, rest) = le_trans (ge_of_same 
     (le_trans (span_ends w p tr told) (ends_by p tr stretch w vs rest))
 
 -- both say the same of the time
-abbrev Agree : Subformula → Trace → Trace → Rational → Type 0
+abbrev pub Agree : Subformula → Trace → Trace → Rational → Type 0
 Agree p tr tr' t = (Truth p tr t → Truth p tr' t) × (Truth p tr' t → Truth p tr t)
 
 one_moved : (p : Subformula) (tr tr' : Trace) (stretch : Interval) (v : Verdict) → stretch.from ≤ʳ value v.on.from
@@ -127,11 +127,11 @@ described p tr tr' stretch [] agree h = absurd h
 described p tr tr' stretch (v ∷ vs) agree h = moved_on p tr tr' stretch v vs (ge_of_same h.0.time) agree h.1 h.2
 
 module _ (nodes : List Node) (header : Header) (order : IsPostOrder nodes) where
-  abbrev so_far : State → Trace
+  abbrev pub so_far : State → Trace
   so_far s = record { header = header; rows = s.rows }
 
   -- rows only come, and none after the end
-  rows_grow : (s : State) (events : List Event) → IsRunFrom nodes header s events
+  pub rows_grow : (s : State) (events : List Event) → IsRunFrom nodes header s events
       → (more : List Row) × ((state_from nodes s events).rows ≡ s.rows ++ more) × (s.closed ≡ true
       → (more ≡ []) × ((state_from nodes s events).closed ≡ true))
   rows_grow s [] r = ([], sym (append-nil s.rows), λ c. (refl, c))
@@ -145,7 +145,7 @@ module _ (nodes : List Node) (header : Header) (order : IsPostOrder nodes) where
       (h.0, h.1, λ c. absurd (let x : true ≡ false = sym c ∙ r.0.0 in cc))
 
   -- what goes on from the rows at the end goes on from those before
-  goes_on_before : (s : State) (events : List Event) (tr : Trace) → IsRunFrom nodes header s events
+  pub goes_on_before : (s : State) (events : List Event) (tr : Trace) → IsRunFrom nodes header s events
       → Continues tr header (state_from nodes s events).rows (state_from nodes s events).closed
       → Continues tr header s.rows s.closed
   goes_on_before s events tr r c =
@@ -161,7 +161,7 @@ module _ (nodes : List Node) (header : Header) (order : IsPostOrder nodes) where
       both_none a b e f = ap (λ l. l ++ b) e ∙ f
 
   -- within its front a node's truth is that in each trace that goes on
-  agrees : (s : State) (i : ℕ) (f : ℤ) (tr : Trace) → IsTrace tr → Continues tr header s.rows s.closed
+  pub agrees : (s : State) (i : ℕ) (f : ℤ) (tr : Trace) → IsTrace tr → Continues tr header s.rows s.closed
       → IsBounded s (horizon (subformula nodes i)) f
       → (t : Rational) → start (so_far s) ≤ʳ t → t ≤ʳ whole f → Agree (subformula nodes i) (so_far s) tr t
   agrees s i f tr is c b t from to = by_end s.closed refl
@@ -229,7 +229,7 @@ module _ (nodes : List Node) (header : Header) (order : IsPostOrder nodes) where
   shown_of b (Some g) = cond (int_lt g (pos b)) None (Some g)
 
   -- the number that is shown is the front, and lies after the start
-  shown_is : (s : State) (i : ℕ) (f : ℤ) → shown s i ≡ Some f → (s.fronts i ≡ Some f) × (pos (first_time s.rows) ≤ℤ f)
+  pub shown_is : (s : State) (i : ℕ) (f : ℤ) → shown s i ≡ Some f → (s.fronts i ≡ Some f) × (pos (first_time s.rows) ≤ℤ f)
   shown_is s i f e = by_front (s.fronts i) refl e
     where
       by_front : (o : Front) → s.fronts i ≡ o → shown_of (first_time s.rows) o ≡ Some f
@@ -269,7 +269,7 @@ module _ (nodes : List Node) (header : Header) (order : IsPostOrder nodes) where
       by_test false x = by_old (shown old i) refl x
 
   -- once a row came, the start stays
-  first_same : (s : State) (e : Event) (l : ℤ) → last_row s ≡ Some l → first_time (after_event nodes s e).rows ≡ first_time s.rows
+  pub first_same : (s : State) (e : Event) (l : ℤ) → last_row s ≡ Some l → first_time (after_event nodes s e).rows ≡ first_time s.rows
   first_same s (row q) l h = by_rows s.rows h
     where
       by_rows : (rows : List Row) → last_row (record { rows = rows; closed = s.closed; fronts = s.fronts }) ≡ Some l

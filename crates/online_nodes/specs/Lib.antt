@@ -1,3 +1,9 @@
+pub mod Network
+pub mod Needed
+pub mod Driven
+pub mod StreamedWide
+pub mod MarginStream
+pub mod MarginEdges
 pub mod Cuts
 pub mod Reading
 pub mod Held
@@ -9,3 +15,8 @@ pub mod Joins
 pub mod Negations
 pub mod Looking
 pub mod Untils
+pub mod Sinces
+pub mod Operators
+pub mod Kinds
+pub mod Answering
+pub mod Belonging

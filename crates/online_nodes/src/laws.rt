@@ -1,6 +1,6 @@
 //! Laws of places, of runs and of what stands on edges. Each is the contract of a call that does nothing, so that the gate
 //! proves it.
-ghost use Rattle.online_nodes.specs.Laws.{EmittedStays, HasTimesBetween, MeetingIsWhatIsLeft, NumbersStayWithinHorizons, OpenNumbersSettle, OthersGiveNothing};
+ghost use Rattle.online_nodes.specs.Laws.{EdgesGrow, EmittedIsWhole, EmittedStays, FrontsAreTimes, HasTimesBetween, MeetingIsWhatIsLeft, MeetingLaterIsWhatIsLeft, NumbersNeverFall, NumbersSettle, NumbersStayWithinHorizons, OpenNumbersSettle, OthersGiveNothing, RootEdgesGrow, TakenWereGivenOut};
 ghost use Rattle.online_nodes.specs.Looking.{ConnectivesJoin, SinceRemembersWhatItKnows, UntilAndSinceLook, UntilRemembersWhatItKnows, WindowsLook};
 
 /// Between two places there is a time.
@@ -11,6 +11,21 @@ pub fn has_times_between()
 /// In a run each node's number is at most the last row's time, and before the end so it is with the node's horizon added.
 pub fn numbers_stay_within_horizons()
     ensures { NumbersStayWithinHorizons }
+{}
+
+/// In a run no node's number falls.
+pub fn numbers_never_fall()
+    ensures { NumbersNeverFall }
+{}
+
+/// What a node gave out in a run leads from the start to its front without gap, and any two lists of it are alike.
+pub fn emitted_is_whole()
+    ensures { EmittedIsWhole }
+{}
+
+/// No more of the root's verdicts were taken in a run than it gave out.
+pub fn taken_were_given_out()
+    ensures { TakenWereGivenOut }
 {}
 
 /// Each verdict that a node gives out in a run, in any order of its events, is its truth in every trace that goes on from the
@@ -29,9 +44,35 @@ pub fn meeting_is_what_is_left()
     ensures { MeetingIsWhatIsLeft }
 {}
 
+/// What meets a stretch that begins later is what is left, from the front, of what met one that begins earlier.
+pub fn meeting_later_is_what_is_left()
+    ensures { MeetingLaterIsWhatIsLeft }
+{}
+
+/// An edge holds what its reader needs after one event more, with what its node gave out at that event.
+pub fn edges_grow()
+    ensures { EdgesGrow }
+{}
+
+/// The root's edge holds what was not taken, after one event more.
+pub fn root_edges_grow()
+    ensures { RootEdgesGrow }
+{}
+
+/// Where no node is ready, each number is the last row's time less the node's horizon, and after the end that time itself.
+pub fn numbers_settle()
+    ensures { NumbersSettle }
+{}
+
 /// Where no node can move before the end, each node's number is the last row's time less its horizon, if so are its children's.
 pub fn open_numbers_settle()
     ensures { OpenNumbersSettle }
+{}
+
+/// In the run that a stream drives, where each row and the end is followed by a step of every node, the front of each node is
+/// the last row's time less the horizon, and after the end that time itself.
+pub fn fronts_are_times()
+    ensures { FrontsAreTimes }
 {}
 
 /// Negation and the connectives are at each time what their inputs' truths make of them.

@@ -1,8 +1,8 @@
 -- Causes, counts, early answers, scaled formulas and whole texts at small inputs.
 use Rattle.std.proofs.Common.{◌≡◌, ℕ, pos, negsuc, ◌^◌, inl, inr, List, [], ◌∷◌, ◌++◌, refl, true, false, lit≤, lit<, arith}
-use Rattle.std.specs.Prelude.{codes, Some}
+use Rattle.std.specs.Prelude.{codes}
 use Rattle.rational.specs.Rational.{Rational, ratio}
-use Rattle.rational.specs.Time.{whole, left_open}
+use Rattle.rational.specs.Time.{whole}
 use Rattle.rational.specs.Extended.{Extended, finite, minus_infinity, infinity, ◌≈ᵉ◌, value_at}
 use Rattle.stl_syntax.specs.Knots.{Knots}
 use Rattle.stl_syntax.specs.Trace.{Row, value_of}
@@ -13,7 +13,6 @@ use Rattle.stl_syntax.specs.SupInf.{Setting, signals, placed, SupInf}
 use Rattle.rational.specs.InPlay.{IsPart}
 use Rattle.stl_syntax.specs.WideCause.{IsCrossingCause}
 use Rattle.stl_syntax.specs.Kept.{Agree, IsTooMany, none, more}
-use Rattle.stl_syntax.specs.Network.{needed, reach_back}
 use Rattle.stl_syntax.specs.Trace.{Continues}
 use Rattle.stl_syntax.specs.Early.{FirstDecides}
 use Rattle.stl_syntax.specs.Scaling.{scaled}
@@ -24,7 +23,8 @@ use Rattle.report.specs.Report.{Out, check}
 use Rattle.stl_syntax.specs.declared.node.Node.TheVariants.{Atom as Leaf, Eventually}
 use Rattle.stl_syntax.proofs.Examples.{at_least_5, x_at_least_5, at_time, row, x_header, no_digits, rise, eventually_nodes}
 use Rattle.stl_syntax.proofs.KeptExamples.{instant, both, item, so, cuts, root_cuts, x_fails}
-use Rattle.stl_syntax.proofs.NetworkExamples.{steep, level, meets_there, one_divisor, zero_text, false_at_0, told}
+use Rattle.stl_syntax.proofs.InstantExamples.{one_divisor, zero_text, false_at_0, told}
+use Rattle.stl_syntax.proofs.WideExamples.{steep, level, meets_there}
 use Rattle.rational.proofs.ExtendedLemmas.{le_reflᵉ}
 
 -- the trace agrees with itself on the item
@@ -46,10 +46,6 @@ too_many = record {
 -- the rise goes on from its first row
 goes_on : Continues rise x_header (row 0 (pos 0) ∷ []) false
 goes_on = record { same_header = refl; more = row 10 (pos 10) ∷ []; begins = refl; whole_input = λ e. absurd (let x : false ≡ true = e in cc) }
-
--- the window `eventually[0,2]` at the number 3 needs (3,5] of its child at 5
-still_needed : needed 0 (pos 5) (Some (pos 3)) (reach_back (Eventually 0 0 2 true true) true) ≡ left_open (whole (pos 3)) (whole (pos 5))
-still_needed = refl
 
 -- one row decides that `x >= 5` fails at the start
 decided : FirstDecides x_at_least_5 x_header [] (row 0 (pos 0)) false

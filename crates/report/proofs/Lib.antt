@@ -10,6 +10,11 @@ pub mod Lines
 pub mod Advances
 mod Turns
 pub mod Growths
+pub mod ItemTexts
+pub mod JoinedLines
+pub mod WritingItems
+pub mod JoinedTimes
+pub mod JoinedCells
 pub mod MarginTexts
 pub mod MarginLaw
 pub mod Stretch
@@ -23,3 +28,14 @@ pub mod FinerKnots
 pub mod FinerRobust
 pub mod FinerVerdicts
 pub mod FinerCheck
+pub mod Sequences
+pub mod StepLemmas
+pub mod TableTexts
+pub mod OneText
+pub mod StreamTexts
+pub mod PlainTexts
+pub mod JsonData
+pub mod JsonParts
+pub mod JsonItems
+pub mod ReportTexts
+pub mod FaultLines

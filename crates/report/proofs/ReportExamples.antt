@@ -15,7 +15,7 @@ use Rattle.report.specs.Table.{IsTableText}
 use Rattle.stl_syntax.specs.declared.items.Item.{Item}
 use Rattle.stl_syntax.specs.declared.node.Node.TheVariants.{Atom as Leaf}
 use Rattle.stl_syntax.proofs.Examples.{at_least_5, at_time, no_digits}
-use Rattle.stl_syntax.proofs.NetworkExamples.{false_at_0, one_divisor, zero_text}
+use Rattle.stl_syntax.proofs.InstantExamples.{false_at_0, one_divisor, zero_text}
 use Rattle.report.proofs.FurtherExamples.{zero_span}
 
 abbrev x_formula : Formula

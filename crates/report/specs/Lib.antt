@@ -6,6 +6,13 @@ pub mod Appended
 pub mod Numbers
 pub mod SignalVerdicts
 pub mod Spelling
-pub mod VerdictLines
+pub mod VerdictForms
 pub mod Laws
 pub mod MarginLines
+pub mod Steps
+pub mod TableRows
+pub mod ItemLines
+pub mod JsonTexts
+pub mod ReportText
+pub mod Lines
+pub mod FaultTexts

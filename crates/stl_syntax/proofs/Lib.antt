@@ -20,7 +20,7 @@ pub mod KleeneLemmas
 pub mod Examples
 pub mod MoreExamples
 pub mod KeptExamples
-pub mod NetworkExamples
+pub mod InstantExamples
 pub mod Reaching
 pub mod PrefixLaw
 pub mod KleeneLaw
@@ -36,7 +36,6 @@ pub mod MarginsStay
 pub mod DecideLaw
 pub mod SettledTimes
 pub mod SettledParts
-pub mod FrontsLaw
 pub mod LawProofs
 pub mod OperatorExamples
 pub mod ChangeExamples

@@ -13,9 +13,6 @@ use Rattle.stl_syntax.specs.SupInf.{Reading, margins, truths, certainties, signa
 use Rattle.stl_syntax.specs.Kleene.{Must, MustNot}
 use Rattle.stl_syntax.specs.Kept.{AreSo, Agree}
 use Rattle.stl_syntax.specs.Early.{OpenAhead, OpenBehind, IsSure, Settled, SettledNot, Decides}
-use Rattle.stl_syntax.specs.Network.{Event, state}
-use Rattle.stl_syntax.specs.Driven.{IsDriven}
-use Rattle.stl_syntax.specs.StreamedWide.{front_at}
 use Rattle.stl_syntax.specs.Closeness.{AreClose}
 use Rattle.stl_syntax.specs.Verdicts.{Describes, DescribesMargins, AreAlike, KnotsAlike, PiecesAlike, IsAnswered}
 use Rattle.stl_syntax.specs.declared.atom.Atom.{Atom}
@@ -158,13 +155,6 @@ SinceFailsByParts =
     → (((u : Rational) → OpenBehind (start tr) a b true true t u → SettledNot q tr u)
     ⊎ ((v : Rational) × (t ≤ʳ later v a) × (v ≤ʳ t) × ComesFrom (start tr) (λ x. SettledNot p tr x ⊎ SettledNot q tr x) (SettledNot p tr) v))
     → SettledNot (since a b p q) tr t
-
--- in the run that a stream drives, the front of each node is the last row's time less the horizon, and that time itself after the end
-abbrev pub FrontsAreTimes : Type 0
-FrontsAreTimes =
-    (nodes : List Node) (header : Header) (rows : List Row) (ended : Bool) (events : List Event) (i : ℕ)
-    → IsPostOrder nodes → IsDriven nodes header rows ended events → rows ≢ [] → i < length nodes
-    → (state nodes events).fronts i ≡ Some (front_at ended (pos (last_time 0 rows)) (subformula nodes i))
 
 -- what rows decide is the truth at the start of every trace that goes on from them, and stays decided
 abbrev pub DecisionsStay : Type 0

@@ -14,7 +14,6 @@ pub mod Verdicts
 pub mod Cells
 pub mod Kept
 pub mod WideCause
-pub mod Network
 pub mod Texts
 pub mod Print
 pub mod Stream
@@ -23,12 +22,7 @@ pub mod Limits
 pub mod Characters
 pub mod Early
 pub mod Scaling
-pub mod MarginStream
 pub mod Binding
 pub mod EarlyText
-pub mod Held
-pub mod Driven
-pub mod StreamedWide
 pub mod Closeness
 pub mod Laws
-pub mod MarginEdges

@@ -1,5 +1,5 @@
 //! Laws of the definitions. Each is the contract of a call that does nothing, so that the gate proves it.
-ghost use Rattle.stl_syntax.specs.Laws.{TruthIsOfTimes, ValuesAreOfTimes, CertaintyIsOfTimes, OneValue, CertaintyHasValues, TruthByValues, CertaintyByValues, CertaintyIsTruth, ExplanationsHold, AnswersStay, AnsweredMarginsStay, AnsweredIsSettled, RowsDecide, SettledIsOfTimes, UntilIsSettledByParts, UntilFailsByParts, SinceIsSettledByParts, SinceFailsByParts, FrontsAreTimes, DecisionsStay, MarginsHold, OneListOfVerdicts, OneListOfMargins, OnePrintedText, FormulasAreTrees};
+ghost use Rattle.stl_syntax.specs.Laws.{TruthIsOfTimes, ValuesAreOfTimes, CertaintyIsOfTimes, OneValue, CertaintyHasValues, TruthByValues, CertaintyByValues, CertaintyIsTruth, ExplanationsHold, AnswersStay, AnsweredMarginsStay, AnsweredIsSettled, RowsDecide, SettledIsOfTimes, UntilIsSettledByParts, UntilFailsByParts, SinceIsSettledByParts, SinceFailsByParts, DecisionsStay, MarginsHold, OneListOfVerdicts, OneListOfMargins, OnePrintedText, FormulasAreTrees};
 
 /// The truth at a time does not depend on the pair of numbers by which the time is written.
 pub fn truth_is_of_times()
@@ -93,12 +93,6 @@ pub fn since_is_settled_by_parts()
 /// Since is settled false where its right side is all over the window, or where its left side fails after its right side can hold.
 pub fn since_fails_by_parts()
     ensures { SinceFailsByParts }
-{}
-
-/// In the run that a stream drives, where each row and the end is followed by a step of every node, the front of each node is the last row's time
-/// less the horizon, and after the end that time itself.
-pub fn fronts_are_times()
-    ensures { FrontsAreTimes }
 {}
 
 /// What rows decide early is the truth at the start of every trace that goes on from them, and stays decided.

@@ -5,6 +5,7 @@ use Rattle.std.specs.Io.KnownBytes.{Consumes, Keeps, IsAtEnd}
 use Rattle.std.proofs.KnownBytes.{Consumes-trans, Consumes-kept}
 use Rattle.std.proofs.lemmas.Bool.{false≢true}
 use Rattle.std.proofs.lemmas.List.{length-take-le}
+use Rattle.io_edge.specs.Causes.{after_end}
 use Rattle.stl_syntax.specs.Formula.{Formula}
 use Rattle.stl_syntax.specs.Trace.{Header}
 use Rattle.stl_syntax.specs.WellFormed.{IsScale}
@@ -18,7 +19,7 @@ use Rattle.workbench.specs.InputFaults.{IsLack, IsInputFault}
 use Rattle.workbench.specs.Reading.{IsRead, IsReadPromptly, IsReadWhole, IsReadInPart, IsSound, IsStop, IsRefused, IsKept, HasKept, IsTied, IsEnded, IsWhole}
 use Rattle.workbench.specs.declared.case.Case.{Case}
 use Rattle.workbench.specs.declared.fault.Stop.{Stop}
-use Rattle.workbench.specs.declared.fault.Stop.TheVariants.{Fault as Faulty, Unread, Unwritten, NoMemory, Wide}
+use Rattle.workbench.specs.declared.fault.Stop.TheVariants.{Fault as Faulty, Unread, Unwritten, NoMemory, Wide, TooMany}
 use Rattle.workbench.proofs.HeaderLines.{no_header}
 use Rattle.workbench.proofs.Sizes.{few_bytes}
 use Rattle.workbench.proofs.Feeding.{no_lack}
@@ -122,6 +123,7 @@ stop_from l limits f before after ended known bytes Unread s k r read prompt = a
 stop_from l limits f before after ended known bytes Unwritten s k r read prompt = absurd r
 stop_from l limits f before after ended known bytes NoMemory s k r read prompt = (bytes, read.moved)
 stop_from l limits f before after ended known bytes (Wide i den) s k r read prompt = absurd r
+stop_from l limits f before after ended known bytes (TooMany count) s k r read prompt = absurd r
 
 pub end_from : (l limits : Limits) (f : Formula) (before after : Option (List ℕ)) (ended : Bool) (bytes : List ℕ) (r : Result (Unit {0}) Stop) (case : Option Case)
     → l ≡ limits → ended ≡ true → IsRead before after ended bytes → IsReadPromptly limits f bytes ended
@@ -144,6 +146,7 @@ not_unread l f ended bytes Unread r same = r
 not_unread l f ended bytes Unwritten r same = r
 not_unread l f ended bytes NoMemory r same = let k = same in cc
 not_unread l f ended bytes (Wide i den) r same = r
+not_unread l f ended bytes (TooMany count) r same = r
 
 pub end_not_unread : (l : Limits) (f : Formula) (ended : Bool) (bytes : List ℕ) (P : Unit {0} → Type 0) (r : Result (Unit {0}) Stop) → MatchResult r P (IsRefused l f ended bytes) → r ≡ Err Unread → ⊥
 end_not_unread l f ended bytes P (Ok x) m same = let k = same in cc
@@ -162,6 +165,11 @@ some_taken n buf d h = omega (arith, d, length-take-le n buf h)
 pub not_true : (b : Bool) → (b ≡ true → ⊥) → b ≡ false
 not_true true h = absurd (h refl)
 not_true false h = refl
+
+-- a call that did not say the end left the count of ends
+pub unended : (said : Bool) (before now : ℕ) → now ≡ after_end said before → said ≡ false → now ≡ before
+unended true before now e same = let k = same in cc
+unended false before now e same = e
 
 -- before the first read
 pub at_first : (f : Formula) (reader : Reader) → reader.least ≡ f.scale → IsScale f.scale → StandsFor reader [] [] → IsKept f reader None []

@@ -5,7 +5,7 @@ use Rattle.stl_syntax.specs.Scaling.{scaled}
 use Rattle.stl_syntax.specs.Trace.{Header, Row, Trace}
 use Rattle.stl_syntax.specs.Stream.{IsStreamText}
 use Rattle.stl_syntax.specs.EarlyText.{IsEarlyText}
-use Rattle.stl_syntax.specs.MarginStream.{IsMarginStream}
+use Rattle.online_nodes.specs.MarginStream.{IsMarginStream}
 use Rattle.trace_reader.specs.TraceText.{lines}
 use Rattle.trace_reader.specs.declared.refusal.Limits.{Limits}
 use Rattle.stl_syntax.specs.Kept.{most_cells, IsTooMany}

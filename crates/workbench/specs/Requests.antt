@@ -2,7 +2,7 @@
 use Rattle.std.specs.Prelude.{◌≡◌, ◌⊎◌, ℕ, Bool, true, false, List, [], ◌∷◌, ◌++◌, codes}
 use Rattle.stl_syntax.specs.Formula.{Formula}
 use Rattle.stl_syntax.specs.Texts.{newline}
-use Rattle.stl_syntax.specs.StreamedWide.{IsFirstUnstreamed}
+use Rattle.online_nodes.specs.StreamedWide.{IsFirstUnstreamed}
 use Rattle.stl_grammar.specs.FormulaRefusals.{IsFormulaOf, IsFormulaFault}
 use Rattle.stl_grammar.specs.declared.fault.FormulaFault.{FormulaFault}
 use Rattle.report.specs.Report.{Command, check, robust, explain, json, table}
@@ -41,7 +41,7 @@ word_of_stream margins = word.rwatch
 
 -- the commands that are built, in the order in which the usage line names them
 abbrev pub built_commands : List Judge
-built_commands = word.check ∷ word.robust ∷ []
+built_commands = word.check ∷ word.robust ∷ word.explain ∷ []
 
 -- the command is in the list
 abbrev pub IsAmong : Judge → List Judge → Type 0

@@ -1,26 +1,27 @@
 //! The one call: it does all that the program does.
 ghost use Rattle.std.specs.Prelude.{◌≡◌, ◌≢◌, ◌⊎◌, ◌≤◌, ℕ, List, map, string_bytes, MatchResult, length, ◌<◌, Err, IsErr};
-ghost use Rattle.io_edge.specs.Causes.{Rose};
+ghost use Rattle.io_edge.specs.Causes.{Rose, after_end};
 ghost use Rattle.io_edge.specs.Calls.{drained, filled};
-ghost use Rattle.stl_syntax.specs.Formula.{Formula as Parsed};
 ghost use Rattle.workbench.specs.Saying.{IsSaid};
 ghost use Rattle.stl_grammar.specs.FormulaRefusals.{IsFormulaFault};
 ghost use Rattle.workbench.specs.Cases.{IsCase};
-ghost use Rattle.workbench.specs.Lines.{line_text};
+ghost use Rattle.report.specs.Lines.{line_text};
 ghost use Rattle.workbench.specs.Requests.{AreHeld};
 ghost use Rattle.workbench.specs.Running.{IsRun};
 ghost use Rattle.workbench.specs.Wholes.{command_of, IsAnswerOf, IsUnanswered, IsWrittenWith, IsWholeEnd, IsBadEnd, IsEndLine, IsStopLine, HasFaultFor, EndsSoundly, status_of, status_of_stop, status_of_fault};
 
 use crate::answer::{Answer, judge};
 use crate::case::Case;
+use crate::explain::give_reasons;
 use crate::fault::Stop;
-use crate::line::{Line, write_line};
+use crate::line::write_line;
 use crate::output::write_all;
 use crate::reading::read_trace;
 use crate::request::{Command, asked};
 use crate::robust::measure;
-use crate::texts::{NO_MEMORY, fault_line, formula_line, wide_line};
+use crate::texts::{NO_MEMORY, fault_line, formula_line, too_many_cells_line, wide_line};
 use io_edge::{Sink, Source};
+use report::Line;
 use std::alloc::Global;
 use stl_grammar::{FormulaFault, parse};
 use stl_syntax::Formula;
@@ -33,7 +34,7 @@ const LIMITS: Limits = Limits {
 };
 
 /// The line where the words are of no form.
-const USAGE: &[u8] = b"usage: check F | robust F\n";
+const USAGE: &[u8] = b"usage: check F | robust F | explain F\n";
 
 /// Writes the answer.
 fn write_answer<K: Sink>(out: &mut K, answer: &Answer) -> Result<bool, Stop>
@@ -49,11 +50,12 @@ fn write_answer<K: Sink>(out: &mut K, answer: &Answer) -> Result<bool, Stop>
 }
 
 /// The answer of a command for a trace that has a row, or why there is none.
-fn answer(alloc: Global, command: Command, case: &Case) -> Result<Answer, Stop>
-    requires case { (f : Parsed) × IsCase f case.now }
+fn answer(alloc: Global, command: Command, formula: &Formula, case: &Case) -> Result<Answer, Stop>
+    requires case { IsCase formula.now case.now }
     requires some { 0 < length case.now.trace.rows }
-    ensures { (f : Parsed) → IsCase f case.now → MatchResult result
-        (λ a. IsAnswerOf (command_of command) f case.now.trace a.holds a.text) (IsUnanswered (command_of command) f case.now.trace) }
+    ensures { MatchResult result
+        (λ a. IsAnswerOf (command_of command) formula.now case.now.trace a.holds a.text)
+        (IsUnanswered (command_of command) formula.now case.now.trace) }
 {
     match command {
         Command::Check => match judge(alloc, case) {
@@ -61,6 +63,7 @@ fn answer(alloc: Global, command: Command, case: &Case) -> Result<Answer, Stop>
             Err(_) => Err(Stop::NoMemory),
         },
         Command::Robust => measure(alloc, case),
+        Command::Explain => give_reasons(alloc, formula, case),
     }
 }
 
@@ -72,20 +75,21 @@ fn whole<S: Source, K: Sink>(
     input: &mut S,
     out: &mut K,
 ) -> Result<bool, Stop>
-    ensures ending { IsWholeEnd (command_of command) formula.now (drained S.left S.ended S.faults input.old input.new) (filled K.written K.faults out.old out.new) result }
+    ensures ending { IsWholeEnd (command_of command) formula.now (drained S.left S.ended S.ends S.faults input.old input.new) (filled K.written K.faults out.old out.new) result }
     ensures read { result ≡ Err Stop.Unread → Rose (S.faults input.old) (S.faults input.new) }
     ensures write { result ≡ Err Stop.Unwritten → Rose (K.faults out.old) (K.faults out.new) }
     ensures read_due { result ≢ Err Stop.Unread → S.faults input.new ≡ S.faults input.old }
     ensures write_due { result ≢ Err Stop.Unwritten → K.faults out.new ≡ K.faults out.old }
     ensures input_later { S.faults input.old ≤ S.faults input.new }
     ensures out_later { K.faults out.old ≤ K.faults out.new }
+    ensures ends { result ≢ Err Stop.NoMemory → S.ends input.new ≡ after_end (S.ended input.new) (S.ends input.old) }
     ensures nothing { IsErr result → result ≢ Err Stop.Unwritten → out.new ≡ out.old }
 {
     let case = match read_trace(input, formula, LIMITS, alloc) {
         Ok(case) => case,
         Err(stop) => return Err(stop),
     };
-    match answer(alloc, command, &case) {
+    match answer(alloc, command, formula, &case) {
         Ok(answer) => write_answer(out, &answer),
         Err(stop) => Err(stop),
     }
@@ -132,6 +136,7 @@ fn stop_line(formula: &Formula, stop: Stop) -> Line<'_>
         Stop::Unwritten => Line::plain(b"write fault\n"),
         Stop::NoMemory => Line::plain(NO_MEMORY),
         Stop::Wide { node, den } => wide_line(node, den),
+        Stop::TooMany { count } => too_many_cells_line(count),
     }
 }
 
@@ -145,6 +150,7 @@ fn stop_status(stop: Stop) -> u8
         Stop::Unwritten => 6,
         Stop::NoMemory => 7,
         Stop::Wide { .. } => 8,
+        Stop::TooMany { .. } => 9,
     }
 }
 
@@ -189,7 +195,7 @@ pub fn run<S: Source, K: Sink, E: Sink>(
     err: &mut E,
 ) -> u8
     // What the words ask for came to an end with this status, and with these bytes, this text and this line.
-    ensures ran { IsRun (map string_bytes words.now) (drained S.left S.ended S.faults input.old input.new)
+    ensures ran { IsRun (map string_bytes words.now) (drained S.left S.ended S.ends S.faults input.old input.new)
         (filled K.written K.faults out.old out.new) (filled E.written E.faults err.old err.new) result }
 
     // A device that failed is told.
