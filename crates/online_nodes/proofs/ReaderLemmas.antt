@@ -69,7 +69,7 @@ use Rattle.online_nodes.specs.Answering.{IsInput, IsSide, looks_by}
 use Rattle.online_nodes.proofs.RunLaw.{int_order}
 
 -- what is so of all children is so of each
-child_all : (P : ℕ → Type 0) (n : Node) (left : Bool) (j : ℕ) → IsReader n left j → All P (children n) → P j
+pub child_all : (P : ℕ → Type 0) (n : Node) (left : Bool) (j : ℕ) → IsReader n left j → All P (children n) → P j
 child_all P (Const b) left j r h = absurd r
 child_all P (Leaf a) left j r h = absurd r
 child_all P (Not p) true j r h = subst P r (h 0 0 (omega arith))
