@@ -58,9 +58,11 @@ module _ {P : Type 0} (shape : ShapeOf P) (laws : ShapeLaws shape) (side : Side)
       ⊎ IsNoBetter side (value_at (shape.function q) r) (value_at (shape.function q) t)
   worse_end q l t r a b = by_side side (lies_between (shape.function q) l t r a b)
     where
-      by_side : (side : Side) → ((value_at (shape.function q) l ≤ᵉ value_at (shape.function q) t) × (value_at (shape.function q) t ≤ᵉ value_at (shape.function q) r))
+      by_side : (side : Side) → ((value_at (shape.function q) l ≤ᵉ value_at (shape.function q) t) × (value_at
+          (shape.function q) t ≤ᵉ value_at (shape.function q) r))
           ⊎ ((value_at (shape.function q) r ≤ᵉ value_at (shape.function q) t) × (value_at (shape.function q) t ≤ᵉ value_at (shape.function q) l))
-          → IsNoBetter side (value_at (shape.function q) l) (value_at (shape.function q) t) ⊎ IsNoBetter side (value_at (shape.function q) r) (value_at (shape.function q) t)
+          → IsNoBetter side (value_at (shape.function q) l) (value_at (shape.function q) t) ⊎ IsNoBetter side
+          (value_at (shape.function q) r) (value_at (shape.function q) t)
       by_side Greatest (inl h) = inl h.0
       by_side Greatest (inr h) = inr h.0
       by_side Least (inl h) = inr h.1
@@ -70,7 +72,8 @@ module _ {P : Type 0} (shape : ShapeOf P) (laws : ShapeLaws shape) (side : Side)
   none_meets : (p q : P) (l r t : Rational) → IsNone shape side p → MeetAlone (shape.function p) (shape.function q) l r t → ⊥
   none_meets p q l r t none m = by_end (worse_end q l t r m.after m.before)
     where
-      touch : (u : Rational) → IsNoBetter side (value_at (shape.function q) u) (value_at (shape.function q) t) → value_at (shape.function p) u ≈ᵉ value_at (shape.function q) u
+      touch : (u : Rational) → IsNoBetter side (value_at (shape.function q) u) (value_at (shape.function q) t)
+          → value_at (shape.function p) u ≈ᵉ value_at (shape.function q) u
       touch u h = same_of side (value_at (shape.function p) u) (value_at (shape.function q) u)
           (no_better_trans side (value_at (shape.function p) u) (none_of side shape.lowest shape.highest) (value_at (shape.function q) u)
           (none.value u) (none_below shape laws side q u))
@@ -88,7 +91,8 @@ module _ {P : Type 0} (shape : ShapeOf P) (laws : ShapeLaws shape) (side : Side)
       by_end (inl h) = not_lt_of_le (ge_of_same (m.alone l (touch l h))) m.after
       by_end (inr h) = not_lt_of_le (le_of_same (m.alone r (touch r h))) m.before
 
-  turned_meeting : (p q : P) (l r t : Rational) → MeetAlone (shape.function p) (shape.function q) l r t → MeetAlone (shape.function q) (shape.function p) l r t
+  turned_meeting : (p q : P) (l r t : Rational) → MeetAlone (shape.function p) (shape.function q) l r t
+      → MeetAlone (shape.function q) (shape.function p) l r t
   turned_meeting p q l r t m = record {
     after = m.after;
     before = m.before;
@@ -117,10 +121,12 @@ module _ {P : Type 0} (shape : ShapeOf P) (laws : ShapeLaws shape) (side : Side)
         inside : (t : Rational) → value a <ʳ t → t <ʳ value b → On t
         inside t h k = on t (lt_of_le_of_lt c.after h) (lt_of_lt_of_le k c.before)
 
-        piece : (r : P) → IsPieceOn parts r On → (x : Part P) × IsOneOf parts x × (x.shape ≡ r) × ((t : Rational) → value a <ʳ t → t <ʳ value b → Counts x t)
+        piece : (r : P) → IsPieceOn parts r On → (x : Part P) × IsOneOf parts x × (x.shape ≡ r) × ((t : Rational) → value a <ʳ t → t <ʳ value b
+            → Counts x t)
         piece r (x, one, e, counts) = (x, one, e, λ t h k. counts t (inside t h k))
 
-        by_both : IsNone shape side p ⊎ IsPieceOn parts p On → IsNone shape side q ⊎ IsPieceOn parts q On → IsCrossingOn shape parts from stop_at p q a b den
+        by_both : IsNone shape side p ⊎ IsPieceOn parts p On → IsNone shape side q ⊎ IsPieceOn parts q On
+            → IsCrossingOn shape parts from stop_at p q a b den
         by_both (inl n) m = absurd (none_meets p q (value a) (value b) c.time n c.meet)
         by_both (inr m) (inl n) = absurd (none_meets q p (value a) (value b) c.time n (turned_meeting p q (value a) (value b) c.time c.meet))
         by_both (inr m) (inr n) = record {
@@ -151,7 +157,8 @@ nothing_sooner {P} best low_until items t u h n = by_low best.low n
     by_items [] k = tt
     by_items (item ∷ items) k = to_come_before item.until t u h k
 
-    by_low : (o : Option P) → MatchOption o (FirstStays items u) (λ _. IsToCome low_until u) → MatchOption o (FirstStays items t) (λ _. IsToCome low_until t)
+    by_low : (o : Option P) → MatchOption o (FirstStays items u) (λ _. IsToCome low_until u) → MatchOption o
+        (FirstStays items t) (λ _. IsToCome low_until t)
     by_low None k = by_items items k
     by_low (Some p) k = to_come_before low_until t u h k
 

@@ -109,7 +109,8 @@ module _ {P : Type 0} (shape : ShapeOf P) where
       by_slope (Some slope) e = subst (λ o. SlopeEndsBy o (slope_until o item.until)) (sym e) (λ t h. h)
 
   -- what a walk keeps of a refusal, in the caller's words
-  pub stops_of : (from until : Turn) (old : Walk P) (fault : Option (WidePair P)) (side : Side) (start to : Rational) (pos : Turn) (parts more : List (Part P))
+  pub stops_of : (from until : Turn) (old : Walk P) (fault : Option (WidePair P)) (side : Side) (start to : Rational)
+      (pos : Turn) (parts more : List (Part P))
       → ((t : Rational) → HasCome from t → HasCome pos t) → value from.at ≤ʳ value until.at
       → ((x : Part P) → IsOneOf parts x → IsOneOf more x) → Walks shape side start to pos parts old → IsStoppedBy shape from old fault
       → IfSome fault (IsPiecesFault shape more start (value until.at))
@@ -171,7 +172,8 @@ module _ {P : Type 0} (shape : ShapeOf P) where
       to_come = each_to_come shape h.mid new.queue.items (value turn.at) h.left.can.queue (first_stays h.mid.after new.low_until new.queue.items
           (value turn.at) h.mid.after.low refl (λ p e k. (h.left.can.low p e).1 (value turn.at) k) h.left.still)
 
-  leaves_turned : (turn : Turn) (high : Option P) (old new : Walk P) (p : P) (last : Turn) → TurnsHigh shape turn high old new → LeavesBy old last → LeavesBy new last
+  leaves_turned : (turn : Turn) (high : Option P) (old new : Walk P) (p : P) (last : Turn) → TurnsHigh shape turn high old new → LeavesBy old last
+      → LeavesBy new last
   leaves_turned turn high old new p last h l =
       let f = h.left.followed (item_at p last) (followed_of old (item_at p last) l) in
       leaves_of new (item_at p last) (record {
@@ -304,7 +306,8 @@ module _ {P : Type 0} (shape : ShapeOf P) (laws : ShapeLaws shape) (side : Side)
 
   -- shapes that stand for no value are compared within limits
   levels : HaveLevels shape (record { top = none; low = None; high = None })
-  levels p m steady t = subst (λ q. IsBounded (2 ^ 31) (value_at (shape.function q) t)) (sym (only_none p m)) (none_bounded shape laws side none t (no_value.value t))
+  levels p m steady t = subst (λ q. IsBounded (2 ^ 31) (value_at (shape.function q) t)) (sym (only_none p m))
+      (none_bounded shape laws side none t (no_value.value t))
 
   -- a walk that begins can go on
   pub begun_can : IsWithin (2 ^ 34) (value course.at) → course.fault ≡ None → (low_until : Turn) → CanGoOn shape course low_until []
@@ -346,7 +349,8 @@ module _ {P : Type 0} (shape : ShapeOf P) (laws : ShapeLaws shape) (side : Side)
         one_of = inl (no_better_same side v (none_of side shape.lowest shape.highest) e);
       }
 
-      of_best : (t : Rational) (v : Extended) → IsBestAt shape side (record { top = none; low = None; high = None }) t v → v ≈ᵉ none_of side shape.lowest shape.highest
+      of_best : (t : Rational) (v : Extended) → IsBestAt shape side (record { top = none; low = None; high = None }) t v
+          → v ≈ᵉ none_of side shape.lowest shape.highest
       of_best t v h = same_transᵉ v (value_at (shape.function none) t) (none_of side shape.lowest shape.highest)
           (same_of_both side v (value_at (shape.function none) t)
           (let (p, m, k) = h.one_of in subst (λ q. IsNoBetter side v (value_at (shape.function q) t)) (only_none p m) k)

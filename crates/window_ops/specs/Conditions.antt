@@ -18,13 +18,17 @@ module _ {P : Type 0} (shape : ShapeOf P) where
 module _ {P : Type 0} (shape : ShapeOf P) where
   -- each moving shape of the new signal has the base of a moving shape of the old one, less one of the two bounds
   abbrev pub BasesAhead : ℕ → ℕ → List (Knot P) → List (Knot P) → Type 0
-  BasesAhead a b old new = (p : P) → HasShape new p → IsTrue (shape.moves p) → (q : P) × HasShape old q × IsTrue (shape.moves q) × ((shape.base p ≡ shape.base q -ℤ pos a) ⊎ (shape.base p ≡ shape.base q -ℤ pos b))
+  BasesAhead a b old new = (p : P) → HasShape new p → IsTrue (shape.moves p) → (q : P) × HasShape old q
+      × IsTrue (shape.moves q) × ((shape.base p ≡ shape.base q -ℤ pos a) ⊎ (shape.base p ≡ shape.base q -ℤ pos b))
 
   -- the same, where the larger bound counts only if it does not reach beyond the domain from the very start
   abbrev pub BasesReached : ℕ → ℕ → List (Knot P) → List (Knot P) → Type 0
-  BasesReached a b old new = (p : P) → HasShape new p → IsTrue (shape.moves p) → (q : P) × HasShape old q × IsTrue (shape.moves q) × ((shape.base p ≡ shape.base q -ℤ pos a) ⊎ ((shape.base p ≡ shape.base q -ℤ pos b) × (later (start old) b ≤ʳ stop old)))
+  BasesReached a b old new = (p : P) → HasShape new p → IsTrue (shape.moves p) → (q : P) × HasShape old q
+      × IsTrue (shape.moves q) × ((shape.base p ≡ shape.base q -ℤ pos a) ⊎ ((shape.base p ≡ shape.base q -ℤ pos b) × (later (start old) b ≤ʳ stop old)))
 
   -- more by one of the finite bounds
   abbrev pub BasesBehind : ℕ → Option ℕ → List (Knot P) → List (Knot P) → Type 0
-  BasesBehind a None old new = (p : P) → HasShape new p → IsTrue (shape.moves p) → (q : P) × HasShape old q × IsTrue (shape.moves q) × (shape.base p ≡ shape.base q +ℤ pos a)
-  BasesBehind a (Some b) old new = (p : P) → HasShape new p → IsTrue (shape.moves p) → (q : P) × HasShape old q × IsTrue (shape.moves q) × ((shape.base p ≡ shape.base q +ℤ pos a) ⊎ (shape.base p ≡ shape.base q +ℤ pos b))
+  BasesBehind a None old new = (p : P) → HasShape new p → IsTrue (shape.moves p) → (q : P) × HasShape old q
+      × IsTrue (shape.moves q) × (shape.base p ≡ shape.base q +ℤ pos a)
+  BasesBehind a (Some b) old new = (p : P) → HasShape new p → IsTrue (shape.moves p) → (q : P) × HasShape old q
+      × IsTrue (shape.moves q) × ((shape.base p ≡ shape.base q +ℤ pos a) ⊎ (shape.base p ≡ shape.base q +ℤ pos b))

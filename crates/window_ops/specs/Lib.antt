@@ -1,9 +1,5 @@
 pub mod Windows
-pub mod Parts
 pub mod Conditions
-pub mod Frozen
-pub mod Named
-pub mod Passing
-pub mod Ends
-pub mod Negated
-pub mod Mirrored
+pub mod Over
+pub mod Going
+pub mod Behind

@@ -1,14 +1,11 @@
 //! The Sup and the Inf of a signal over a window that moves with the time.
 #![tactic(auto)]
 
-mod ends;
-mod events;
-mod frozen;
-mod middle;
-mod negated;
+mod counted;
+mod offsets;
 mod past;
+mod walking;
 mod window;
 
-pub use negated::{inf_past, inf_window};
-pub use past::sup_past;
-pub use window::sup_window;
+pub use past::{inf_past, sup_past};
+pub use window::{inf_window, sup_window};

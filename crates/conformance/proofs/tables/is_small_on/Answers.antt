@@ -1,6 +1,6 @@
 use Rattle.rational.proofs.Order.{le_trans, le_of_same, ge_of_same}
 use Rattle.pl_signal.proofs.ReadingLemmas.{not_later}
-use Rattle.window_ops.proofs.EndsAhead.{not_before}
+use Rattle.window_ops.proofs.Ends.{not_before}
 use Rattle.conformance.proofs.tables.is_small_on.Goals as goal
 
 pub returns : goal.returns

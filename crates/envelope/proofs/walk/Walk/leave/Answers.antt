@@ -42,7 +42,8 @@ returns g c = record {
       c.loop-next.self.low_until c.args.self.now.queue.items c.loop-next.self.queue.items c.loop-next.invariant
       (nothing_left c.loop-next.self.course.after.low c.loop-next.self.low_until c.loop-next.self.queue.items
       (value c.args.turn.now.at) (sym c.in_default.ensures))
-      (λ t h. absurd (something_left c.loop-next.self.course.after.low c.loop-next.self.low_until c.loop-next.self.queue.items t (sym c.in_default.ensures) h));
+      (λ t h. absurd (something_left c.loop-next.self.course.after.low c.loop-next.self.low_until c.loop-next.self.queue.items t
+      (sym c.in_default.ensures) h));
   fault = tt;
 }
 

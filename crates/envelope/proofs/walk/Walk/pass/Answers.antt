@@ -11,7 +11,8 @@ pub slide_out-requires-clause-can : goal.slide_out-requires-clause-can
 slide_out-requires-clause-can g c = c.requires.can
 
 pub slide_in-requires-clause-can : goal.slide_in-requires-clause-can
-slide_in-requires-clause-can g c = subst (λ xs. CanGoOn g.P.Shape c.args.self.now.course c.args.self.now.low_until xs) c.in-Some.ensures.items c.requires.can
+slide_in-requires-clause-can g c = subst
+    (λ xs. CanGoOn g.P.Shape c.args.self.now.course c.args.self.now.low_until xs) c.in-Some.ensures.items c.requires.can
 
 pub returns-then-is_some-clause-ok : goal.returns-then-is_some-clause-ok
 returns-then-is_some-clause-ok g c =

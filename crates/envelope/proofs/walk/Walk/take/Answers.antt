@@ -29,7 +29,8 @@ returns g c =
           (subst (λ u. Admits g.P.Shape c.args.from.now c.args.item old low_until items new u (front ++ c.args.item ∷ [])) (sym c.rise.ensures.until)
           (taken g.P.Shape (assumption g.met.P.Shape) c.args.from.now c.args.item old mid low_until low_mid items
           d.dropped c.requires.new c.requires.followed d.worse front new d.last
-          (subst (λ xs. Leaves g.P.Shape c.args.from.now old low_until items mid low_mid xs) (sym c.reserve.ensures.items ∙ d.same) c.in_ok-leave.ensures.ok)
+          (subst (λ xs. Leaves g.P.Shape c.args.from.now old low_until items mid low_mid xs)
+          (sym c.reserve.ensures.items ∙ d.same) c.in_ok-leave.ensures.ok)
           c.in_ok-rise.ensures.ok));
       fault = tt;
     }

@@ -18,4 +18,5 @@ returns-in-None g c =
     })
 
 pub returns-in-Some : goal.returns-in-Some
-returns-in-Some g c = top_first g.P.Shape c.args.self.now.course.side c.args.self.now.queue.items c.in-Some.first.now (search rules) c.in-Some.ensures.lookup
+returns-in-Some g c = top_first g.P.Shape c.args.self.now.course.side c.args.self.now.queue.items c.in-Some.first.now
+    (search rules) c.in-Some.ensures.lookup

@@ -1,0 +1,216 @@
+-- A walk that has counted a piece of the signal has met it.
+use Rattle.std.proofs.Common.{◌≡◌, ◌⊎◌, inl, inr, ℕ, ◌+◌, ◌^◌, List, Bool, true, false, Option, None, Some, not, refl, sym, ap, ◌∙◌, subst}
+use Rattle.std.specs.Prelude.{slice_get, ◌<ℤ◌}
+use Rattle.std.proofs.lemmas.Bool.{false≢true}
+use Rattle.rational.specs.Time.{Rational, Within, Precedes, shifted, ◌≤ʳ◌, ◌<ʳ◌, ◌≈◌}
+use Rattle.rational.specs.Extended.{Extended, value_at, ◌≈ᵉ◌}
+use Rattle.rational.specs.Affine.{IsSteady, HasBoundedLevel}
+use Rattle.rational.proofs.Order.{le_refl, le_of_lt, le_of_same, ge_of_same, le_or_lt, le_trans, lt_of_le_of_lt, lt_of_lt_of_le, lt_or_same_or_gt, not_lt_of_le, same_refl, same_sym, same_trans}
+use Rattle.rational.proofs.TimeLemmas.{precedes_le, precedes_before, precedes_after}
+use Rattle.rational.proofs.AffineLemmas.{same_reflᵉ, same_symᵉ, same_transᵉ, value_same}
+use Rattle.frac128.specs.Value.{value}
+use Rattle.frac128.specs.declared.frac.Frac.{Frac}
+use Rattle.value_laws.specs.Members.{ShapeOf, ShapeLaws}
+use Rattle.pl_signal.specs.declared.knot.Knot.{Knot}
+use Rattle.pl_signal.specs.Knots.{time, HasShape, IsWorth, start, stop}
+use Rattle.pl_signal.proofs.Values.{next_rises, one_value, shape_after, shape_at, worth_at, worth_between}
+use Rattle.pl_signal.proofs.Limits.{limits_bounded, point_bounded}
+use Rattle.envelope.specs.declared.turns.Turn.{Turn}
+use Rattle.envelope.specs.declared.walk.Walk.{Walk}
+use Rattle.envelope.specs.Turns.{HasCome, IsToCome, IsNoBetter}
+use Rattle.envelope.specs.Standing.{Part, Counts, IsOneOf}
+use Rattle.envelope.proofs.TurnOrder.{at_of_come}
+use Rattle.envelope.proofs.Bests.{no_better_same, no_better_trans}
+use Rattle.window_ops.specs.declared.offsets.Way.{Way}
+use Rattle.window_ops.specs.declared.counted.Piece.{Piece}
+use Rattle.window_ops.specs.Over.{Over}
+use Rattle.window_ops.specs.Going.{CanCount, GetsBetter, Goes, HasClimbed, HasCounted, InDomain, IsPiece, IsWay, StandsAt, turn_of}
+use Rattle.window_ops.proofs.Counting.{at_most_to_come, goes_later, within_domain}
+use Rattle.window_ops.proofs.Ends.{come_at, to_come_alike}
+use Rattle.window_ops.proofs.Reaching.{come_precedes, knot_in, left_in_play, low_before_high, point_in_play, reach_gap, reach_point, steady_in_play, stretch, to_come_precedes}
+use Rattle.window_ops.proofs.Spans.{Span, lt_offsets}
+
+-- a turn just after a time has not come before the one at it
+come_sooner : (k : Frac) (b : Bool) (u : Rational) → HasCome (turn_of k b) u → HasCome (turn_of k false) u
+come_sooner k b u (inl h) = inl h
+come_sooner k b u (inr h) = inr (h.0, refl)
+
+come_later : (k : Frac) (b : Bool) (u : Rational) → HasCome (turn_of k true) u → HasCome (turn_of k b) u
+come_later k b u (inl h) = inl h
+come_later k b u (inr h) = absurd (false≢true (sym h.1))
+
+-- a turn at a later time comes later
+pub come_next : (k n : Frac) (b c : Bool) → value k <ʳ value n → (u : Rational) → HasCome (turn_of n c) u → HasCome (turn_of k b) u
+come_next k n b c rises u h = inl (lt_of_lt_of_le rises (at_of_come (turn_of n c) u h))
+
+-- just after a time, and before one
+pub strictly_come : (k : Frac) (u : Rational) → HasCome (turn_of k true) u → value k <ʳ u
+strictly_come k u (inl h) = h
+strictly_come k u (inr h) = absurd (false≢true (sym h.1))
+
+pub strictly_to_come : (k : Frac) (u : Rational) → IsToCome (turn_of k false) u → u <ʳ value k
+strictly_to_come k u (inl h) = h
+strictly_to_come k u (inr h) = absurd (false≢true h.1)
+
+-- the ends of a window in the words of turns
+precedes_come : (b : Bool) (k : Frac) (u : Rational) → Precedes b (value k) u → HasCome (turn_of k (not b)) u
+precedes_come true k u h = come_at k u h
+precedes_come false k u h = inl h
+
+pub precedes_to_come : (b : Bool) (k : Frac) (u : Rational) → Precedes b u (value k) → IsToCome (turn_of k b) u
+precedes_to_come true k u h = by_order (lt_or_same_or_gt u (value k))
+  where
+    by_order : (u <ʳ value k) ⊎ (u ≈ value k) ⊎ (value k <ʳ u) → IsToCome (turn_of k true) u
+    by_order (inl m) = inl m
+    by_order (inr (inl m)) = inr (same_sym m, refl)
+    by_order (inr (inr m)) = absurd (not_lt_of_le h m)
+precedes_to_come false k u h = inl h
+
+module _ {P : Type 0} (shape : ShapeOf P) (laws : ShapeLaws shape) (knots : List (Knot P)) (way : Way) (is_way : IsWay shape knots way) where
+  -- what covers a time, among more parts
+  covers_more : (parts parts' : List (Part P)) (t : Rational) (v : Extended) → ((x : Part P) → IsOneOf parts x → IsOneOf parts' x)
+      → (x : Part P) × IsOneOf parts x × Counts x t × IsNoBetter way.side v (value_at (shape.function x.shape) t)
+      → (x : Part P) × IsOneOf parts' x × Counts x t × IsNoBetter way.side v (value_at (shape.function x.shape) t)
+  covers_more parts parts' t v kept (x, one, c, n) = (x, kept x one, c, n)
+
+  -- a part that is worth as much covers what is no better
+  pub covers_by : (parts : List (Part P)) (t : Rational) (v w : Extended) → IsNoBetter way.side v w
+      → (x : Part P) × IsOneOf parts x × Counts x t × (value_at (shape.function x.shape) t ≈ᵉ w)
+      → (x : Part P) × IsOneOf parts x × Counts x t × IsNoBetter way.side v (value_at (shape.function x.shape) t)
+  covers_by parts t v w h (x, one, c, e) = (
+    x,
+    one,
+    c,
+    no_better_trans way.side v w (value_at (shape.function x.shape) t) h
+        (no_better_same way.side w (value_at (shape.function x.shape) t) (same_symᵉ (value_at (shape.function x.shape) t) w e)),
+  )
+
+  -- the point of a knot
+  module _ (i : ℕ) (k : Knot P) (here : slice_get knots i ≡ Some k) (from until : Turn)
+      (span : Span shape laws knots way is_way k.time k.time (not way.over.high_in) way.over.low_in from until) where
+    abbrev point_piece : Piece P
+    point_piece = record { shape = k.point; at = k.time; from = from; until = until; slope = None }
+
+    point_over : (t : Rational) → HasCome from t → IsToCome until t → Over (start knots) (stop knots) way.over t (time k)
+    point_over t h m = record {
+      inside = knot_in shape laws knots way is_way i k here;
+      begins = to_come_precedes way.over.low_in k.time (shifted t way.over.low)
+          (to_come_alike until (turn_of k.time way.over.low_in) t (shifted t way.over.low) (span.until_is t).1 m);
+      ends = come_precedes way.over.high_in k.time (shifted t way.over.high) ((span.from_is t).0 h);
+    }
+
+    pub point_is : IsPiece shape knots way (turn_of k.time (not way.over.high_in)) (turn_of k.time way.over.low_in)
+        (record { shape = k.point; at = k.time; from = from; until = until; slope = None })
+    point_is = record {
+      from = span.from_is;
+      until = span.until_is;
+      from_within = span.from_within;
+      until_within = span.until_within;
+      at_within = within_domain shape laws knots way is_way (time k) (knot_in shape laws knots way is_way i k here).above
+          (knot_in shape laws knots way is_way i k here).below;
+      in_order = span.in_order;
+      to_come = span.to_come;
+      aside = span.aside;
+      low_at = λ e. span.low_at;
+      high_at = λ e. span.high_at;
+      after_start = (knot_in shape laws knots way is_way i k here).above;
+      small = point_bounded shape knots i k is_way.limited here;
+      of_signal = shape_at shape knots i k here;
+      reached = λ t d h m. reach_point shape laws knots way is_way i k t here (point_over t h m);
+      in_play = λ t a b h m line constant. point_in_play shape laws knots way is_way i k t line here (point_over t h m) constant;
+    }
+
+    pub can_point : (parts : List (Part P)) (old : Walk P) → StandsAt shape knots way (turn_of k.time false) parts old
+        → CanCount shape knots way (record { shape = k.point; at = k.time; from = from; until = until; slope = None }) old
+    can_point parts old before = record {
+      high = turn_of k.time (not way.over.high_in);
+      low = turn_of k.time way.over.low_in;
+      last = turn_of k.time way.over.low_in;
+      is = point_is;
+      slope = λ t h. (span.until_is t).1 h;
+      parts = parts;
+      goes = goes_later shape laws knots way is_way (turn_of k.time false) (turn_of k.time false) (turn_of k.time
+          (not way.over.high_in)) (turn_of k.time way.over.low_in) parts old
+          (λ t h. come_sooner k.time (not way.over.high_in) (shifted t way.over.high) h) (λ t h. come_sooner k.time way.over.low_in
+          (shifted t way.over.low) h) before.goes;
+    }
+
+    pub came_point : (parts : List (Part P)) (old new : Walk P) (before : StandsAt shape knots way (turn_of k.time false) parts old)
+        (counted : HasCounted shape knots way (record { shape = k.point; at = k.time; from = from; until = until; slope = None }) old new
+        (can_point parts old before))
+        → StandsAt shape knots way (turn_of k.time true) counted.parts new
+    unfolding can_point
+    came_point parts old new before counted = record {
+      goes = goes_later shape laws knots way is_way (turn_of k.time (not way.over.high_in)) (turn_of k.time way.over.low_in)
+          (turn_of k.time true) (turn_of k.time true) counted.parts new
+          (λ t h. come_later k.time (not way.over.high_in) (shifted t way.over.high) h) (λ t h. come_later k.time way.over.low_in
+          (shifted t way.over.low) h) counted.goes;
+      covered = λ t u v d over sooner worth. by_time t u v d over worth sooner;
+    }
+      where
+        at_knot : (t u : Rational) (v : Extended) → InDomain shape knots way t → Over (start knots) (stop knots) way.over t u → IsWorth shape knots u v
+            → value k.time ≈ u
+            → (x : Part P) × IsOneOf counted.parts x × Counts x t × IsNoBetter way.side v (value_at (shape.function x.shape) t)
+        at_knot t u v d over worth e = covers_by counted.parts t v (value_at (shape.function k.point) (time k))
+            (no_better_same way.side v (value_at (shape.function k.point) (time k))
+            (same_transᵉ v (value_at (shape.function k.point) u) (value_at (shape.function k.point) (time k))
+            (one_value shape knots u v (value_at (shape.function k.point) u) is_way.signal worth (worth_at shape knots i k u here (same_sym e)))
+            (value_same (shape.function k.point) (same_sym e))))
+            (counted.offers t d (
+              (span.from_is t).1 (precedes_come way.over.high_in k.time (shifted t way.over.high)
+                  (precedes_after way.over.high_in (time k) u (shifted t way.over.high) (le_of_same e) over.ends)),
+              to_come_alike (turn_of k.time way.over.low_in) until (shifted t way.over.low) t (span.until_is t).0
+                  (precedes_to_come way.over.low_in k.time (shifted t way.over.low)
+                  (precedes_before way.over.low_in (shifted t way.over.low) u (time k) over.begins (ge_of_same e))),
+            ))
+
+        by_time : (t u : Rational) (v : Extended) → InDomain shape knots way t → Over (start knots) (stop knots) way.over t u → IsWorth shape knots u v
+            → IsToCome (turn_of k.time true) u
+            → (x : Part P) × IsOneOf counted.parts x × Counts x t × IsNoBetter way.side v (value_at (shape.function x.shape) t)
+        by_time t u v d over worth (inl h) = covers_more parts counted.parts t v counted.kept (before.covered t u v d over (inl h) worth)
+        by_time t u v d over worth (inr h) = at_knot t u v d over worth h.0
+
+  -- a gap
+  module _ (i : ℕ) (k n : Knot P) (here : slice_get knots i ≡ Some k) (next : slice_get knots (i + 1) ≡ Some n) (parts : List (Part P)) (old : Walk P)
+      (before : StandsAt shape knots way (turn_of k.time true) parts old) where
+    rises : time k <ʳ time n
+    rises = next_rises shape knots i k n is_way.signal.each here next
+
+    -- all before the next knot is met, where the gap is
+    pub came_gap : (parts' : List (Part P)) (new : Walk P) (high low : Turn) → ((x : Part P) → IsOneOf parts x → IsOneOf parts' x)
+        → ((t : Rational) → HasCome (turn_of n.time false) (shifted t way.over.high) → HasCome high (shifted t way.over.high))
+        → ((t : Rational) → HasCome (turn_of n.time false) (shifted t way.over.low) → HasCome low (shifted t way.over.low))
+        → Goes shape knots way high low parts' new
+        → ((t u : Rational) → InDomain shape knots way t → Over (start knots) (stop knots) way.over t u → time k <ʳ u → u <ʳ time n
+        → (x : Part P) × IsOneOf parts' x × Counts x t × IsNoBetter way.side (value_at (shape.function k.after) u) (value_at (shape.function x.shape) t))
+        → StandsAt shape knots way (turn_of n.time false) parts' new
+    came_gap parts' new high low kept h l goes inner = record {
+      goes = goes_later shape laws knots way is_way high low (turn_of n.time false) (turn_of n.time false) parts' new h l goes;
+      covered = λ t u v d over sooner worth. by_order t u v d over sooner worth (lt_or_same_or_gt (time k) u);
+    }
+      where
+        in_gap : (t u : Rational) (v : Extended) → InDomain shape knots way t → Over (start knots) (stop knots) way.over t u → time k <ʳ u
+            → u <ʳ time n → IsWorth shape knots u v
+            → (x : Part P) × IsOneOf parts' x × Counts x t × IsNoBetter way.side v (value_at (shape.function x.shape) t)
+        in_gap t u v d over a b worth =
+            let (x, one, c, m) = inner t u d over a b in (
+              x,
+              one,
+              c,
+              no_better_trans way.side v (value_at (shape.function k.after) u) (value_at (shape.function x.shape) t)
+                  (no_better_same way.side v (value_at (shape.function k.after) u)
+                  (one_value shape knots u v (value_at (shape.function k.after) u) is_way.signal worth
+                  (worth_between shape knots i k n u here next a b))) m,
+            )
+
+        before_next : (u : Rational) → IsToCome (turn_of n.time false) u → u <ʳ time n
+        before_next u (inl m) = m
+        before_next u (inr m) = absurd (false≢true m.1)
+
+        by_order : (t u : Rational) (v : Extended) → InDomain shape knots way t → Over (start knots) (stop knots) way.over t u
+            → IsToCome (turn_of n.time false) u → IsWorth shape knots u v
+            → (time k <ʳ u) ⊎ (time k ≈ u) ⊎ (u <ʳ time k)
+            → (x : Part P) × IsOneOf parts' x × Counts x t × IsNoBetter way.side v (value_at (shape.function x.shape) t)
+        by_order t u v d over sooner worth (inl a) = in_gap t u v d over a (before_next u sooner) worth
+        by_order t u v d over sooner worth (inr (inl e)) = covers_more parts parts' t v kept (before.covered t u v d over (inr (e, refl)) worth)
+        by_order t u v d over sooner worth (inr (inr a)) = covers_more parts parts' t v kept (before.covered t u v d over (inl a) worth)

@@ -1,0 +1,95 @@
+-- Values that are better and worse for a side, and what is reached.
+use Rattle.std.proofs.Common.{◌≡◌, ◌⊎◌, inl, inr}
+use Rattle.rational.specs.Time.{Rational, ◌≤ʳ◌, ◌<ʳ◌, ◌≈◌}
+use Rattle.rational.specs.Extended.{Extended, Affine, value_at, ◌≤ᵉ◌, ◌<ᵉ◌, ◌≈ᵉ◌}
+use Rattle.rational.specs.Windows.{Function, Window}
+use Rattle.rational.proofs.ExtendedLemmas.{le_totalᵉ, lt_of_lt_of_leᵉ, lt_of_le_of_ltᵉ, le_of_ltᵉ, le_reflᵉ, clashᵉ}
+use Rattle.rational.proofs.AffineLemmas.{near_start, near_stop, above_start, above_stop, value_same}
+use Rattle.pl_signal.specs.declared.joining.Side.{Side}
+use Rattle.pl_signal.specs.declared.joining.Side.TheVariants.{Least, Greatest}
+use Rattle.std.specs.declared.cmp.Ordering.TheVariants.{Less, Equal, Greater}
+use Rattle.rational.specs.Affine.{Grows, IsSteady, Shrinks}
+use Rattle.rational.proofs.Order.{le_or_lt, same_of_le}
+use Rattle.envelope.specs.Turns.{IsNoBetter, IsTrendFor}
+use Rattle.window_ops.specs.Over.{IsWorse}
+use Rattle.window_ops.specs.Going.{GetsBetter, GetsWorse, Reaches}
+
+-- what is worse than a value is worse than a better one
+pub worse_than_better : (side : Side) (w v x : Extended) → IsWorse side w v → IsNoBetter side v x → IsWorse side w x
+worse_than_better Greatest w v x h k = lt_of_lt_of_leᵉ w v x h k
+worse_than_better Least w v x h k = lt_of_le_of_ltᵉ x v w k h
+
+-- a value is no better than another, or that one is worse
+pub no_better_or_worse : (side : Side) (v w : Extended) → IsNoBetter side v w ⊎ IsWorse side w v
+no_better_or_worse Greatest v w = le_totalᵉ v w
+no_better_or_worse Least v w = le_totalᵉ w v
+
+-- not both
+pub worse_clash : {X : Type 0} (side : Side) (v w : Extended) → IsWorse side w v → IsNoBetter side v w → X
+worse_clash Greatest v w h k = clashᵉ w v h k
+worse_clash Least v w h k = clashᵉ v w h k
+
+pub no_better_of_same : (side : Side) (v w : Extended) → v ≈ᵉ w → IsNoBetter side v w
+no_better_of_same Greatest v w e = e.at_most
+no_better_of_same Least v w e = e.at_least
+
+-- what is reached by another pair
+pub reaches_same : (side : Side) (none : Extended) (W : Window) (F : Function) (v x : Extended) → v ≈ᵉ x → Reaches side none W F v → Reaches side none W F x
+reaches_same side none W F v x e h w floor worse = h w floor (worse_than_better side w x v worse (by_side side))
+  where
+    by_side : (side : Side) → IsNoBetter side x v
+    by_side Greatest = e.at_least
+    by_side Least = e.at_most
+
+-- a value that the function has in the window is reached
+pub reaches_value : (side : Side) (none : Extended) (W : Window) (F : Function) (u : Rational) (v : Extended) → W u → F u v → Reaches side none W F v
+reaches_value side none W F u v inside has w floor worse = (u, v, inside, has, worse)
+
+-- near an end of an open stretch a function is no worse than anything worse than its value there
+pub near_end : (side : Side) (f : Affine) (l r : Rational) (w : Extended) → l <ʳ r → IsWorse side w (value_at f l) ⊎ IsWorse side w (value_at f r)
+    → (t : Rational) × (l <ʳ t) × (t <ʳ r) × IsWorse side w (value_at f t)
+near_end Greatest f l r w order (inl h) = near_start f l r w order h
+near_end Greatest f l r w order (inr h) = near_stop f l r w order h
+near_end Least f l r w order (inl h) = above_start f l r w order h
+near_end Least f l r w order (inr h) = above_stop f l r w order h
+
+-- the value at an end of a stretch on which the function is a line, in the window, is reached
+pub reaches_end : (side : Side) (none : Extended) (W : Window) (F : Function) (f : Affine) (l r e : Rational) → l <ʳ r → (e ≈ l) ⊎ (e ≈ r)
+    → ((t : Rational) → l <ʳ t → t <ʳ r → W t × F t (value_at f t)) → Reaches side none W F (value_at f e)
+reaches_end side none W F f l r e order is on w floor worse =
+    let (t, after, before, m) = near_end side f l r w order (by_end is) in
+    let (inside, has) = on t after before in
+    (t, value_at f t, inside, has, m)
+  where
+    by_end : (e ≈ l) ⊎ (e ≈ r) → IsWorse side w (value_at f l) ⊎ IsWorse side w (value_at f r)
+    by_end (inl s) = inl (worse_than_better side w (value_at f e) (value_at f l) worse (no_better_of_same side
+        (value_at f e) (value_at f l) (value_same f s)))
+    by_end (inr s) = inr (worse_than_better side w (value_at f e) (value_at f r) worse (no_better_of_same side
+        (value_at f e) (value_at f r) (value_same f s)))
+
+-- what a trend says of later values
+pub steady_of : (side : Side) (f : Affine) → IsTrendFor side Equal f → IsSteady f
+steady_of Greatest f h = h
+steady_of Least f h = h
+
+grown : (f : Affine) (t u : Rational) → Grows f → t ≤ʳ u → value_at f t ≤ᵉ value_at f u
+grown f t u h order = by_order (le_or_lt u t)
+  where
+    by_order : (u ≤ʳ t) ⊎ (t <ʳ u) → value_at f t ≤ᵉ value_at f u
+    by_order (inl k) = (value_same f (same_of_le order k)).at_most
+    by_order (inr k) = le_of_ltᵉ (value_at f t) (value_at f u) (h t u k)
+
+shrunk : (f : Affine) (t u : Rational) → Shrinks f → t ≤ʳ u → value_at f u ≤ᵉ value_at f t
+shrunk f t u h order = by_order (le_or_lt u t)
+  where
+    by_order : (u ≤ʳ t) ⊎ (t <ʳ u) → value_at f u ≤ᵉ value_at f t
+    by_order (inl k) = (value_same f (same_of_le order k)).at_least
+    by_order (inr k) = le_of_ltᵉ (value_at f u) (value_at f t) (h t u k)
+
+pub better_of : (side : Side) (f : Affine) → IsTrendFor side Greater f → GetsBetter side f
+better_of Greatest f h t u order = grown f t u h order
+better_of Least f h t u order = shrunk f t u h order
+
+pub worse_of : (side : Side) (f : Affine) → IsTrendFor side Less f → GetsWorse side f
+worse_of Greatest f h t u order = shrunk f t u h order
+worse_of Least f h t u order = grown f t u h order

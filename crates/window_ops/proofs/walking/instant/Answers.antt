@@ -1,0 +1,36 @@
+use Rattle.std.proofs.Common.{◌≡◌, ◌⊎◌, inl, inr, ℕ, ◌+◌, ◌^◌, List, true, false, Option, Some, None, arith, refl, sym, ◌∙◌, subst}
+use Rattle.rational.proofs.Order.{le_refl, le_of_lt, le_of_same, ge_of_same, le_trans}
+use Rattle.frac128.specs.Value.{value}
+use Rattle.pl_signal.proofs.Values.{next_rises, shape_after, some_is}
+use Rattle.envelope.proofs.Bests.{on_ok}
+use Rattle.envelope.proofs.Faulting.{err_any, on_err}
+use Rattle.window_ops.specs.Going.{StandsAt, turn_of}
+use Rattle.window_ops.proofs.Reaching.{knot_from, knot_in, knot_to}
+use Rattle.window_ops.proofs.Climbs.{came_instant}
+use Rattle.window_ops.proofs.walking.instant.Goals as goal
+
+pub knot-knot-requires : goal.knot-knot-requires
+knot-knot-requires g c = let h = c.requires.place in omega arith
+
+pub knot-next-requires : goal.knot-next-requires
+knot-next-requires g c = c.requires.place
+
+pub climb-requires : goal.climb-requires
+climb-requires g c = record {
+  here = c.knot-knot.ensures;
+  next = c.knot-next.ensures;
+  way = c.requires.way;
+  some = c.requires.some;
+  stands = c.requires.stands;
+}
+
+pub returns-clause-comes : goal.returns-clause-comes
+returns-clause-comes g c = on_ok c.climb.result (λ climbs parts stands.
+    let before = stands c.knot-knot.result c.knot-knot.ensures in
+    let h = climbs c.knot-knot.result c.knot-next.result parts c.knot-knot.ensures c.knot-next.ensures before in (
+      h.parts,
+      λ n there. subst (λ n. StandsAt g.P.Shape c.args.s.now c.args.way.now (turn_of n.time false) h.parts c.climb.new.walk)
+          (some_is (sym c.knot-next.ensures ∙ there))
+          (came_instant g.P.Shape (assumption g.met.P.Shape) c.args.s.now c.args.way.now c.requires.way c.args.i c.knot-knot.result
+          c.knot-next.result c.knot-knot.ensures c.knot-next.ensures parts c.args.walk.now c.climb.new.walk c.requires.one before h),
+    )) c.climb.ensures.climbed

@@ -1,0 +1,24 @@
+use Rattle.std.proofs.Common.{◌≡◌, refl, sym, ◌∙◌, subst}
+use Rattle.std.specs.Prelude.{neg_ℤ}
+use Rattle.rational.specs.Time.{Rational, shifted, ◌≤ʳ◌}
+use Rattle.rational.proofs.Order.{ge_of_same, le_of_lt, le_of_same, le_trans}
+use Rattle.rational.proofs.TimeLemmas.{shifted-add}
+use Rattle.pl_signal.specs.Knots.{time}
+use Rattle.pl_signal.proofs.Values.{some_is}
+use Rattle.frac128.specs.Value.{value}
+use Rattle.window_ops.proofs.Ends.{not_before}
+use Rattle.window_ops.proofs.Reaching.{knot_from, knot_to}
+use Rattle.window_ops.proofs.walking.is_past.Goals as goal
+
+pub meets-requires : goal.meets-requires
+meets-requires g c = record {
+  from = knot_from g.P.Shape (assumption g.met.P.Shape) c.args.s.now c.args.way.now c.requires.way c.args.i c.knot.result c.knot.ensures;
+  to = knot_to g.P.Shape (assumption g.met.P.Shape) c.args.s.now c.args.way.now c.requires.way c.args.i c.knot.result c.knot.ensures;
+  small = c.requires.way.small;
+}
+
+pub returns-in_default : goal.returns-in_default
+returns-in_default g c _ k here = subst (λ u. u ≤ʳ shifted (time k) (neg_ℤ c.args.way.now.over.high)) c.requires.way.stops
+    (subst (λ k. value c.args.way.now.stop ≤ʳ shifted (time k) (neg_ℤ c.args.way.now.over.high)) (some_is (sym c.knot.ensures ∙ here))
+    (le_trans (not_before c.cmp.result c.cmp.ensures c.in_default.not-Less)
+    (le_trans (le_of_same c.meets.ensures.at) (ge_of_same (shifted-add (time c.knot.result) (neg_ℤ c.args.way.now.over.high))))))

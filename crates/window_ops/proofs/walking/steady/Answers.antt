@@ -1,0 +1,87 @@
+use Rattle.std.proofs.Common.{◌≡◌, ◌⊎◌, inl, inr, ℕ, ◌+◌, ◌^◌, List, true, false, Option, Some, None, arith, refl, sym, ◌∙◌, subst}
+use Rattle.rational.proofs.Order.{le_refl, le_of_lt, le_of_same, ge_of_same, le_trans}
+use Rattle.frac128.specs.Value.{value}
+use Rattle.pl_signal.proofs.Values.{next_rises, shape_after, some_is}
+use Rattle.envelope.proofs.Bests.{on_ok}
+use Rattle.envelope.proofs.Faulting.{err_any, on_err}
+use Rattle.window_ops.specs.Going.{StandsAt, turn_of}
+use Rattle.window_ops.proofs.Reaching.{knot_from, knot_in, knot_to}
+use Rattle.window_ops.proofs.Gaps.{came_steady, can_steady}
+use Rattle.window_ops.proofs.Spans.{span_wide}
+use Rattle.window_ops.proofs.walking.steady.Goals as goal
+
+pub knot-knot-requires : goal.knot-knot-requires
+knot-knot-requires g c = let h = c.requires.place in omega arith
+
+pub knot-next-requires : goal.knot-next-requires
+knot-next-requires g c = c.requires.place
+
+pub meets-from-requires : goal.meets-from-requires
+meets-from-requires g c = record {
+  from = knot_from g.P.Shape (assumption g.met.P.Shape) c.args.s.now c.args.way.now c.requires.way c.args.i c.knot-knot.result c.knot-knot.ensures;
+  to = knot_to g.P.Shape (assumption g.met.P.Shape) c.args.s.now c.args.way.now c.requires.way c.args.i c.knot-knot.result c.knot-knot.ensures;
+  small = c.requires.way.small;
+}
+
+pub leaves-until-requires : goal.leaves-until-requires
+leaves-until-requires g c = record {
+  from = knot_from g.P.Shape (assumption g.met.P.Shape) c.args.s.now c.args.way.now c.requires.way (c.args.i + 1) c.knot-next.result c.knot-next.ensures;
+  to = knot_to g.P.Shape (assumption g.met.P.Shape) c.args.s.now c.args.way.now c.requires.way (c.args.i + 1) c.knot-next.result c.knot-next.ensures;
+  small = c.requires.way.small;
+}
+
+pub count-requires : goal.count-requires
+count-requires g c = record {
+  way = c.requires.way;
+  none = c.requires.none;
+  can = can_steady g.P.Shape (assumption g.met.P.Shape) c.args.s.now c.args.way.now c.requires.way c.args.i c.knot-knot.result c.knot-next.result
+      c.knot-knot.ensures c.knot-next.ensures c.requires.wide
+      (c.requires.trend c.knot-knot.result c.knot-knot.ensures) c.meets-from.result c.leaves-until.result
+      (span_wide g.P.Shape (assumption g.met.P.Shape) c.args.s.now c.args.way.now c.requires.way c.knot-knot.result.time c.knot-next.result.time true
+      false c.meets-from.result c.leaves-until.result
+      (knot_in g.P.Shape (assumption g.met.P.Shape) c.args.s.now c.args.way.now c.requires.way c.args.i c.knot-knot.result c.knot-knot.ensures).above
+      (knot_in g.P.Shape (assumption g.met.P.Shape) c.args.s.now c.args.way.now c.requires.way c.args.i c.knot-knot.result
+      c.knot-knot.ensures).below (knot_in g.P.Shape (assumption g.met.P.Shape) c.args.s.now c.args.way.now c.requires.way
+      (c.args.i + 1) c.knot-next.result c.knot-next.ensures).above (knot_in g.P.Shape
+      (assumption g.met.P.Shape) c.args.s.now c.args.way.now c.requires.way (c.args.i + 1) c.knot-next.result c.knot-next.ensures).below
+      c.meets-from.ensures.at c.meets-from.ensures.after c.leaves-until.ensures.at c.leaves-until.ensures.after c.requires.wide
+      (le_of_lt (next_rises g.P.Shape c.args.s.now c.args.i c.knot-knot.result c.knot-next.result c.requires.way.signal.each c.knot-knot.ensures
+      c.knot-next.ensures))) c.meets-from.ensures.after c.leaves-until.ensures.after c.requires.stands.0 c.args.walk.now
+      (c.requires.stands.1 c.knot-knot.result c.knot-knot.ensures);
+}
+
+pub returns-clause-comes : goal.returns-clause-comes
+returns-clause-comes g c = on_ok c.count.result (λ counted parts stands.
+    let before = stands c.knot-knot.result c.knot-knot.ensures in
+    let h = counted (can_steady g.P.Shape (assumption g.met.P.Shape) c.args.s.now c.args.way.now c.requires.way c.args.i c.knot-knot.result
+    c.knot-next.result c.knot-knot.ensures c.knot-next.ensures c.requires.wide
+    (c.requires.trend c.knot-knot.result c.knot-knot.ensures) c.meets-from.result c.leaves-until.result
+    (span_wide g.P.Shape (assumption g.met.P.Shape) c.args.s.now c.args.way.now c.requires.way c.knot-knot.result.time c.knot-next.result.time true
+    false c.meets-from.result c.leaves-until.result
+    (knot_in g.P.Shape (assumption g.met.P.Shape) c.args.s.now c.args.way.now c.requires.way c.args.i c.knot-knot.result c.knot-knot.ensures).above
+    (knot_in g.P.Shape (assumption g.met.P.Shape) c.args.s.now c.args.way.now c.requires.way c.args.i c.knot-knot.result c.knot-knot.ensures).below
+    (knot_in g.P.Shape (assumption g.met.P.Shape) c.args.s.now c.args.way.now c.requires.way
+    (c.args.i + 1) c.knot-next.result c.knot-next.ensures).above (knot_in g.P.Shape
+    (assumption g.met.P.Shape) c.args.s.now c.args.way.now c.requires.way (c.args.i + 1) c.knot-next.result c.knot-next.ensures).below
+    c.meets-from.ensures.at c.meets-from.ensures.after c.leaves-until.ensures.at c.leaves-until.ensures.after c.requires.wide
+    (le_of_lt (next_rises g.P.Shape c.args.s.now c.args.i c.knot-knot.result c.knot-next.result c.requires.way.signal.each c.knot-knot.ensures
+    c.knot-next.ensures))) c.meets-from.ensures.after c.leaves-until.ensures.after parts c.args.walk.now before) in (
+      h.parts,
+      λ n there. subst (λ n. StandsAt g.P.Shape c.args.s.now c.args.way.now (turn_of n.time false) h.parts c.count.new.walk)
+          (some_is (sym c.knot-next.ensures ∙ there))
+          (came_steady g.P.Shape (assumption g.met.P.Shape) c.args.s.now c.args.way.now c.requires.way c.args.i c.knot-knot.result c.knot-next.result
+          c.knot-knot.ensures c.knot-next.ensures c.requires.wide
+          (c.requires.trend c.knot-knot.result c.knot-knot.ensures) c.meets-from.result c.leaves-until.result
+          (span_wide g.P.Shape (assumption g.met.P.Shape) c.args.s.now c.args.way.now c.requires.way c.knot-knot.result.time c.knot-next.result.time
+          true false c.meets-from.result c.leaves-until.result
+          (knot_in g.P.Shape (assumption g.met.P.Shape) c.args.s.now c.args.way.now c.requires.way c.args.i c.knot-knot.result
+          c.knot-knot.ensures).above (knot_in g.P.Shape
+          (assumption g.met.P.Shape) c.args.s.now c.args.way.now c.requires.way c.args.i c.knot-knot.result c.knot-knot.ensures).below
+          (knot_in g.P.Shape (assumption g.met.P.Shape) c.args.s.now c.args.way.now c.requires.way
+          (c.args.i + 1) c.knot-next.result c.knot-next.ensures).above (knot_in g.P.Shape
+          (assumption g.met.P.Shape) c.args.s.now c.args.way.now c.requires.way (c.args.i + 1) c.knot-next.result c.knot-next.ensures).below
+          c.meets-from.ensures.at c.meets-from.ensures.after c.leaves-until.ensures.at c.leaves-until.ensures.after c.requires.wide
+          (le_of_lt (next_rises g.P.Shape c.args.s.now c.args.i c.knot-knot.result c.knot-next.result c.requires.way.signal.each
+          c.knot-knot.ensures c.knot-next.ensures))) c.meets-from.ensures.after c.leaves-until.ensures.after parts c.args.walk.now
+          c.count.new.walk before h),
+    )) c.count.ensures.counted
