@@ -40,7 +40,7 @@ fn put_string(alloc: Global, text: &mut Text, content: &[u8]) -> Result<(), Memo
     ensures ok { OnOk result (text.new ≡ text.old ++ json_string content.now) }
     ensures err { OnErr result (text.new ≡ text.old) }
 {
-    // The names in a formula are text, so what is printed of it is. No proof says so, and it is tested.
+    // The names in a formula are text, so what is printed of it is. No proof says so; tools/read_back tries it.
     let Ok(content) = str::from_utf8(content) else {
         return Err(Memory);
     };
