@@ -145,7 +145,7 @@ get_within nodes i n e = by_case (slice_get_cases nodes i).1
     by_case (inr h) = absurd (let x = h.1 in cc)
 
 -- a front that is not shown lies below the start
-not_shown : (s : State) (i : ℕ) (f : ℤ) → shown s i ≡ None → s.fronts i ≡ Some f → f <ℤ pos (first_time s.rows)
+pub not_shown : (s : State) (i : ℕ) (f : ℤ) → shown s i ≡ None → s.fronts i ≡ Some f → f <ℤ pos (first_time s.rows)
 not_shown s i f x e = by_test (int_lt f (pos (first_time s.rows))) refl
   where
     by_test : (t : Bool) → int_lt f (pos (first_time s.rows)) ≡ t → f <ℤ pos (first_time s.rows)

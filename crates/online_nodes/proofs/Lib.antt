@@ -41,3 +41,12 @@ mod EmittedLaw
 mod MeetingLaw
 mod EdgeLaw
 mod StillLaw
+mod TellingLemmas
+mod ReadLemmas
+mod DueLemmas
+mod WorkedLemmas
+mod WindowedLemmas
+mod SweptLemmas
+mod UntilWorked
+mod DroppedLemmas
+mod SteppedLemmas
