@@ -2,6 +2,8 @@ mod PlaceLemmas
 mod Writing
 mod GotLemmas
 mod RunLaw
+mod LowLaw
+mod BelongLemmas
 mod StayLaw
 mod FrameLaw
 mod HeldLaw

@@ -15,3 +15,6 @@ pub mod Joins
 pub mod Negations
 pub mod Looking
 pub mod Untils
+pub mod Operators
+pub mod Kinds
+pub mod Belonging

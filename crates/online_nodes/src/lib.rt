@@ -6,8 +6,11 @@
 mod cut;
 mod edges;
 mod join;
+mod kind;
 mod laws;
 mod negation;
+mod operator;
+mod since;
 mod until;
 mod window;
 mod writer;
@@ -21,6 +24,7 @@ pub use laws::{
     root_edges_grow, since_remembers_what_it_knows, taken_were_given_out, until_and_since_look,
     until_remembers_what_it_knows, windows_look,
 };
+pub use operator::Operator;
 pub use writer::Out;
 
 #[cfg(test)]
