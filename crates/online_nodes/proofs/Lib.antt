@@ -1,12 +1,12 @@
-mod PlaceLemmas
-mod Writing
+pub mod PlaceLemmas
+pub mod Writing
 mod GotLemmas
-mod RunLaw
+pub mod RunLaw
 mod LowLaw
 mod BelongLemmas
-mod StayLaw
-mod FrameLaw
-mod HeldLaw
+pub mod StayLaw
+pub mod FrameLaw
+pub mod HeldLaw
 mod WindowLaw
 mod WindowPlaces
 mod UntilLaw
@@ -27,8 +27,13 @@ mod UntilCounts
 mod UntilGoes
 mod FrontsLaw
 mod NetworkExamples
-mod RisingLaw
-mod EmittedLaw
-mod MeetingLaw
-mod EdgeLaw
+pub mod RisingLaw
+pub mod EmittedLaw
+pub mod MeetingLaw
+pub mod EdgeLaw
 mod StillLaw
+pub mod ReadersLaw
+mod KnowingOn
+pub mod RowsLaw
+mod PlacesOn
+pub mod StandingLaw

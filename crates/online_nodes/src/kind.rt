@@ -77,10 +77,28 @@ pub(crate) fn kind_of_node(node: &Node) -> Kind
         Node::Const(holds) => Kind::Const(*holds),
         Node::Atom(_) => Kind::Const(false),
         Node::Not(of) => Kind::Not(*of),
-        Node::And(left, right) => Kind::Join(Join::And, Inputs { left: *left, right: *right }),
-        Node::Or(left, right) => Kind::Join(Join::Or, Inputs { left: *left, right: *right }),
+        Node::And(left, right) => Kind::Join(
+            Join::And,
+            Inputs {
+                left: *left,
+                right: *right,
+            },
+        ),
+        Node::Or(left, right) => Kind::Join(
+            Join::Or,
+            Inputs {
+                left: *left,
+                right: *right,
+            },
+        ),
         Node::Implies(left, right) => {
-            Kind::Join(Join::Implies, Inputs { left: *left, right: *right })
+            Kind::Join(
+                Join::Implies,
+                Inputs {
+                    left: *left,
+                    right: *right,
+                },
+            )
         }
         Node::Until {
             left,
