@@ -1,0 +1,4 @@
+mod Saying
+mod Events
+mod Feeding
+mod Fresh

@@ -1,6 +1,6 @@
 pub mod PlaceLemmas
 pub mod Writing
-mod GotLemmas
+pub mod GotLemmas
 pub mod RunLaw
 mod LowLaw
 mod BelongLemmas
@@ -13,7 +13,7 @@ mod UntilLaw
 mod SinceLaw
 mod SettledLaw
 mod EdgesLemmas
-mod DroppingLemmas
+pub mod DroppingLemmas
 mod WorkLemmas
 mod SaidLemmas
 mod Sweeping

@@ -74,14 +74,16 @@ use Rattle.online_nodes.specs.Network.{
   after_event,
   state,
   reach_back,
+  needed,
   EmittedAt,
   IsRun,
   MayCome,
 }
-use Rattle.online_nodes.specs.Needed.{IsReader}
-use Rattle.online_nodes.specs.Cuts.{Place, place, ends, After, Upto, AtMost, Before, Same}
+use Rattle.rational.specs.Time.{Interval}
+use Rattle.online_nodes.specs.Needed.{IsReader, AreMeeting, AreNeeded, IsEdge}
+use Rattle.online_nodes.specs.Cuts.{Place, place, begins, ends, After, Upto, AtMost, Before, Same}
 use Rattle.online_nodes.specs.Held.{Held, edge_at, fresh_at, number_at}
-use Rattle.online_nodes.specs.Laws.{AreTiles, answered_to, NeverLess}
+use Rattle.online_nodes.specs.Laws.{AreTiles, answered_to, IsWhole, NeverLess}
 use Rattle.online_nodes.specs.Operators.{ahead, behind, kind_of, KnowsBy, place_of, first_place, read_upto, front_place}
 use Rattle.online_nodes.specs.Sweeps.{Counted, low_place, high_place}
 use Rattle.online_nodes.specs.Reading.{Knows}
@@ -89,11 +91,12 @@ use Rattle.online_nodes.specs.declared.window.Window.{Window}
 use Rattle.online_nodes.specs.Belonging.{StandsForSteps, trace_of}
 use Rattle.online_nodes.specs.declared.operator.Operator.{Operator}
 use Rattle.online_nodes.specs.declared.kind.Kind.{Kind}
-use Rattle.online_nodes.proofs.PlaceLemmas.{same_places, upto_same}
+use Rattle.online_nodes.proofs.PlaceLemmas.{same_places, upto_same, upto_of_before}
 use Rattle.online_nodes.proofs.RunLaw.{some_is, none_is_none, int_order, lesser}
 use Rattle.online_nodes.proofs.RisingLaw.{IsSound, sound_after, sound_of, event_later, reader_behind, children_before, least_of, least_rises, since_left_behind}
 use Rattle.online_nodes.proofs.StayLaw.{shown_is, first_same, agrees, goes_on_before}
-use Rattle.online_nodes.proofs.EmittedLaw.{Led, here_led, none_before, front_shown}
+use Rattle.online_nodes.proofs.EmittedLaw.{Led, here_led, none_before, front_shown, emitted_tiles}
+use Rattle.online_nodes.proofs.MeetingLaw.{Each, tiled_upto}
 use Rattle.online_nodes.proofs.EdgeLaw.{not_shown, shown_stays, after_one, run_more}
 use Rattle.online_nodes.proofs.ReadersLaw.{child_read}
 use Rattle.online_nodes.proofs.RowsLaw.{AreRowsSoFar, rows_of, rows_after, trace_so_far, goes_on_itself, last_is}
@@ -516,3 +519,55 @@ module _ (nodes : List Node) (header : Header) (formed : AreWellFormed nodes) wh
         by_front (Some f) x k =
             let was = shown_is nodes header order s op.node (pos f) (st.front ∙ ap (option_map pos) x) in
             knows_by op.node st.node st.at (pos f) was.0 e e' was.1 ins st.node refl (place op.reach) (place op.run) k
+
+-- what holds of each of some verdicts holds of those that meet a stretch, and of those behind others
+each_meeting : (P : Verdict → Type 0) (stretch : Interval) (vs held : List Verdict) → AreMeeting stretch vs held → Each P vs → Each P held
+each_meeting P stretch [] held m h = subst (λ l. Each P l) (sym m) tt
+each_meeting P stretch (v ∷ vs) held (inl (x, (more, rest, e))) h = subst (λ l. Each P l) (sym e) (h.0, each_meeting P stretch vs more rest h.1)
+each_meeting P stretch (v ∷ vs) held (inr (d, rest)) h = each_meeting P stretch vs held rest h.1
+
+each_behind : (P : Verdict → Type 0) (xs ys : List Verdict) → Each P (xs ++ ys) → Each P ys
+each_behind P [] ys h = h
+each_behind P (x ∷ xs) ys h = each_behind P xs ys h.1
+
+-- each tile begins before the place to which they lead
+each_begins : (c : Place) (vs : List Verdict) (d : Place) → AreTiles c vs d → Each (λ v. AtMost (begins (interval v.on)) d) vs
+each_begins c [] d t = tt
+each_begins c (v ∷ vs) d (s, b, rest) = (
+  (λ t u. tiled_upto (ends (interval v.on)) vs d rest t (upto_of_before (begins (interval v.on)) (ends (interval v.on)) t b u)),
+  each_begins (ends (interval v.on)) vs d rest,
+)
+
+module _ (nodes : List Node) (header : Header) (formed : AreWellFormed nodes) (events : List Event) (run : IsRun nodes header events) where
+  -- nothing is held of a node that is not shown
+  pub edge_unshown : (j : ℕ) (held : List Verdict) → IsEdge nodes header events j held → shown (state nodes events) j ≡ None → held ≡ []
+  edge_unshown j held edge x = subst (λ o. AreNeeded (first_time (state nodes events).rows) o ((state nodes events).fronts edge.reader)
+      (reach_back edge.reading edge.left) edge.emitted held) x edge.is_needed
+
+  -- what is held of a node begins before its front
+  pub edge_within : (j : ℕ) → j < length nodes → (seen fresh : List Verdict) → IsEdge nodes header events j (seen ++ fresh) → (f : ℤ)
+      → (state nodes events).fronts j ≡ Some f → AtMost (first_place fresh (after_number f)) (after_number f)
+  edge_within j l seen fresh edge f front = by_fresh fresh all
+    where
+      s : State
+      s = state nodes events
+
+      by_needed : (o : Front) → shown s j ≡ o → IsWhole (first_time s.rows) o edge.emitted
+          → AreNeeded (first_time s.rows) o (s.fronts edge.reader) (reach_back edge.reading edge.left) edge.emitted (seen ++ fresh)
+          → Each (λ v. AtMost (begins (interval v.on)) (after_number f)) (seen ++ fresh)
+      by_needed None x w h = subst (λ k. Each (λ v. AtMost (begins (interval v.on)) (after_number f)) k) (sym h) tt
+      by_needed (Some g) x w h =
+          let was = shown_is nodes header formed.post_order s j g x in
+          let same : g ≡ f = some_is g f (sym was.0 ∙ front) in
+          each_meeting (λ v. AtMost (begins (interval v.on)) (after_number f))
+          (needed (first_time s.rows) g (s.fronts edge.reader) (reach_back edge.reading edge.left)) edge.emitted (seen ++ fresh) h
+          (subst (λ k. Each (λ v. AtMost (begins (interval v.on)) (after_number k)) edge.emitted) same
+          (each_begins (answered_to (first_time s.rows) None) edge.emitted (answered_to (first_time s.rows) (Some g)) w))
+
+      all : Each (λ v. AtMost (begins (interval v.on)) (after_number f)) (seen ++ fresh)
+      all = by_needed (shown s j) refl (emitted_tiles nodes header formed.post_order events run j l edge.emitted edge.is_emitted) edge.is_needed
+
+      by_fresh : (fresh : List Verdict) → Each (λ v. AtMost (begins (interval v.on)) (after_number f)) (seen ++ fresh)
+          → AtMost (first_place fresh (after_number f)) (after_number f)
+      by_fresh [] h = λ t u. u
+      by_fresh (v ∷ fresh) h = (each_behind (λ v. AtMost (begins (interval v.on)) (after_number f)) seen (v ∷ fresh) h).0
