@@ -42,7 +42,7 @@ last_splits (r ∷ rows) q e = by_rest r rows q e
         row_is a b e = cc
     by_rest r (s ∷ rows) q e = let x = by_rest s rows q e in (r ∷ x.0, ap (λ l. r ∷ l) x.1)
 
-no_last : (rows : List Row) → last_row_of rows ≡ None → rows ≡ []
+pub no_last : (rows : List Row) → last_row_of rows ≡ None → rows ≡ []
 no_last [] e = refl
 no_last (r ∷ rows) e = absurd (let x : Some (last_row_after r rows) ≡ None = e in cc)
 
@@ -55,7 +55,7 @@ last_pushed (q ∷ rows) r = ap Some (by_rest q rows)
     by_rest q (s ∷ rows) = by_rest s rows
 
 -- the time of the last row by both names
-last_time_is : (rows : List Row) (closed : Bool) (fronts : ℕ → Front) (q : Row) → last_row_of rows ≡ Some q
+pub last_time_is : (rows : List Row) (closed : Bool) (fronts : ℕ → Front) (q : Row) → last_row_of rows ≡ Some q
     → last_row (record { rows = rows; closed = closed; fronts = fronts }) ≡ Some (pos q.time)
 last_time_is rows closed fronts q e =
     let x = last_splits rows q e in
@@ -104,7 +104,7 @@ atom_is : (nodes : List Node) (j : ℕ) (a : Atom) → IsPostOrder nodes → sli
 atom_is nodes j a order at = subformula-at nodes j (Leaf a) at (placed nodes j (Leaf a) order at)
 
 -- a node is an atom with its comparison
-leaf_of : (n : Node) → is_atom n ≡ true → (a : Atom) × (n ≡ Leaf a)
+pub leaf_of : (n : Node) → is_atom n ≡ true → (a : Atom) × (n ≡ Leaf a)
 leaf_of (Leaf a) e = (a, refl)
 leaf_of (Const b) e = absurd (let x : false ≡ true = e in cc)
 leaf_of (Not p) e = absurd (let x : false ≡ true = e in cc)

@@ -2,3 +2,4 @@ mod Saying
 mod Events
 mod Feeding
 mod Fresh
+mod Stepping

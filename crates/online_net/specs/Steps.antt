@@ -19,14 +19,13 @@ pub record AreFirstOperators (nodes : List Node) (operators : List (Option Opera
   pub count : length operators ≡ n
   pub first : (i : ℕ) → i < n → IsFirstOperator nodes i (slice_index_or operators i None)
 
--- one step of an operator, after room was made on its edges
+-- one step of an operator that was ready, after room was made on its edges
 pub record IsStep (nodes : List Node) (header : Header) (events : List Event) (operator : Operator) (old new : Held) (now : ℕ) (ended : Bool)
-    (after : Operator) (moved : Bool) : Type 0 where
+    (after : Operator) : Type 0 where
   pub room : Held
   pub same : room.edges ≡ old.edges
   pub same_start : room.start ≡ old.start
   pub stepped : HasStepped nodes header events operator.node room new
   pub belongs : Belongs nodes header (events ++ step operator.node ∷ []) after new now ended
   pub node : after.node ≡ operator.node
-  pub ready : IsTrue moved ↔ IsReady nodes (state nodes events) operator.node
-  pub idle : moved ≡ false → after ≡ operator
+  pub ready : IsReady nodes (state nodes events) operator.node

@@ -3,7 +3,7 @@
 //! A network stands for a run of events, a row, a step of a node, the end, a verdict taken, in whatever order they came. It stores
 //! no history: what it shows is, for each run that it stands for, what the run says.
 
-ghost use Rattle.std.specs.Prelude.{◌≡◌, ◌<◌, ◌+◌, ◌-◌, ◌↔◌, ◌++◌, ◌∷◌, [], List, length, IfOk, IfSome, IfNone, IsTrue, MatchResult, Some, None, true, false, pos, option_map, ◌≢◌};
+ghost use Rattle.std.specs.Prelude.{◌≡◌, ◌<◌, ◌+◌, ◌-◌, ◌↔◌, ◌++◌, ◌∷◌, [], List, length, IfOk, IfSome, IfNone, IsTrue, MatchOption, MatchResult, Some, None, true, false, pos, option_map, ◌≢◌};
 ghost use Rattle.stl_syntax.specs.Trace.{Header};
 ghost use Rattle.stl_syntax.specs.declared.node.Node.{Node as ANode};
 ghost use Rattle.atom_lines.specs.Binding.{IsBound};
@@ -93,26 +93,27 @@ fn time_of(row: &Option<Row>) -> Option<u32>
     }
 }
 
-/// What a step left: the operator, and whether it moved.
-#[derive(Clone, Copy)]
-struct Stepped {
+/// One step of an operator, with room made for it before. None where it is not ready, and then nothing changes.
+fn step_one(
+    edges: &mut Edges,
     operator: Operator,
-    moved: bool,
-}
-
-/// One step of an operator, with room made for it before.
-fn step_one(edges: &mut Edges, operator: Operator, now: u32, ended: bool) -> Result<Stepped, Memory>
+    now: u32,
+    ended: bool,
+) -> Result<Option<Operator>, Memory>
     requires { BelongsSomewhere operator edges.old now ended }
+    ensures idle { IfOk result (λ after. after ≡ None → edges.new ≡ edges.old) }
     ensures stepped { (nodes : List ANode) (header : Header) (events : List Event) → Belongs nodes header events operator edges.old now ended
-        → IfOk result (λ s. IsStep nodes header events operator edges.old edges.new now ended s.operator s.moved) }
+        → IfOk result (λ after. MatchOption after (¬ IsReady nodes (state nodes events) operator.node)
+        (IsStep nodes header events operator edges.old edges.new now ended)) }
 {
-    let mut stepped = operator;
-    edges.reserve(operator.need(edges, now, ended))?;
-    let moved = stepped.advance(edges, now, ended)?;
-    Ok(Stepped {
-        operator: stepped,
-        moved,
-    })
+    let need = operator.need(edges, now, ended);
+    if need == 0 {
+        return Ok(None);
+    }
+    edges.reserve(need)?;
+    let mut after = operator;
+    let _moved = after.advance(edges, now, ended)?;
+    Ok(Some(after))
 }
 
 impl Net {
@@ -229,8 +230,11 @@ impl Net {
             self.stopped = true;
             return Err(NetFault::Memory);
         };
-        self.operators[node as usize] = Some(stepped.operator);
-        Ok(stepped.moved)
+        let Some(after) = stepped else {
+            return Ok(false);
+        };
+        self.operators[node as usize] = Some(after);
+        Ok(true)
     }
 
     /// Whether a step would move the node. It takes no memory. A stopped network is never ready.
@@ -286,15 +290,22 @@ impl Net {
         if self.stopped {
             return None;
         }
-        let root = self.operators.len() - 1;
-        self.edges.take(root as u32)
+        let root = (self.operators.len() - 1) as u32;
+        if self.edges.held(root) == 0 {
+            return None;
+        }
+        self.edges.take(root)
     }
 
-    /// How many verdicts stand on the node's edge.
+    /// How many verdicts stand on the node's edge; 0 where the network is stopped.
     pub fn held(&self, node: u32) -> usize
         requires { node < length self.now.operators }
-        ensures { result ≡ length (held_at self.now.edges node) }
+        ensures stopped { self.now.stopped ≡ true → result ≡ 0 }
+        ensures held { self.now.stopped ≡ false → result ≡ length (held_at self.now.edges node) }
     {
+        if self.stopped {
+            return 0;
+        }
         self.edges.held(node)
     }
 }
