@@ -1,14 +1,15 @@
-//! Operators: what each keeps beside the edges, whether a step would change its node's number, and the room that one needs.
+//! Operators: each takes the verdicts that its node's inputs have ready, and gives out those of its node.
 
-ghost use Rattle.std.specs.Prelude.{◌≡◌, ◌*◌, ◌+◌, ◌<◌, ◌≤◌, ◌↔◌, [], List, ℕ, IsTrue, length, None, false};
+ghost use Rattle.std.specs.Prelude.{◌≡◌, ◌*◌, ◌+◌, ◌<◌, ◌≤◌, ◌↔◌, ◌++◌, ◌∷◌, [], List, ℕ, IfOk, IsTrue, OnErr, length, None, true, false};
 ghost use Rattle.stl_syntax.specs.Trace.{Header};
-ghost use Rattle.online_nodes.specs.Network.{Event, state, node_is_atom, IsReady};
+ghost use Rattle.online_nodes.specs.Network.{Event, step, state, node_is_atom, IsReady};
 ghost use Rattle.stl_syntax.specs.declared.node.Node.{Node as ANode};
 ghost use Rattle.online_nodes.specs.Held.{Held, edge_at};
 
 use crate::cut::Cut;
 use crate::edges::Edges;
 use crate::kind::{Kind, is_same, kind_of_node};
+use frac128::Memory;
 use stl_syntax::Formula;
 
 /// What a node keeps beside its edges, of a fixed size.
@@ -25,7 +26,7 @@ pub struct Operator {
 }
 
 impl Operator {
-    ghost use Rattle.online_nodes.specs.Belonging.{Belongs, BelongsSomewhere, StandsForSteps, held_by_inputs, is_ready, room_of_step};
+    ghost use Rattle.online_nodes.specs.Belonging.{Belongs, BelongsSomewhere, HasStepped, StandsForSteps, held_by_inputs, is_ready, room_of_step};
 
     /// The operator of a node of the formula that is no atom. It takes no memory, and stands for no step.
     pub fn new(formula: &Formula, node: u32) -> Operator
@@ -76,5 +77,26 @@ impl Operator {
             return self.kind.room(edges);
         }
         0
+    }
+
+    /// Takes all that the node's inputs have ready, appends the verdicts of the newly answered stretch to the node's own edge, and
+    /// drops from the inputs' edges what is needed no more. False where the node was not ready, and then nothing changed.
+    ///
+    /// # Errors
+    ///
+    /// `Memory` where there is no memory, which never comes with a spare of `need`. The operator and its edges are given up then.
+    pub fn advance(&mut self, edges: &mut Edges, now: u32, ended: bool) -> Result<bool, Memory>
+        requires { BelongsSomewhere self.old edges.old now ended }
+        ensures node { self.new.node ≡ self.old.node }
+        ensures moved { (nodes : List ANode) (header : Header) (events : List Event) → Belongs nodes header events self.old edges.old now ended
+            → IfOk result (λ moved. IsTrue moved ↔ IsReady nodes (state nodes events) self.old.node) }
+        ensures idle { IfOk result (λ moved. moved ≡ false → self.new ≡ self.old) }
+        ensures idle_edges { IfOk result (λ moved. moved ≡ false → edges.new ≡ edges.old) }
+        ensures stepped { (nodes : List ANode) (header : Header) (events : List Event) → Belongs nodes header events self.old edges.old now ended
+            → IfOk result (λ moved. HasStepped nodes header events self.old.node edges.old edges.new) }
+        ensures belongs { (nodes : List ANode) (header : Header) (events : List Event) → Belongs nodes header events self.old edges.old now ended
+            → IfOk result (λ moved. Belongs nodes header (events ++ step self.old.node ∷ []) self.new edges.new now ended) }
+    {
+        Err(Memory)
     }
 }
