@@ -30,7 +30,7 @@ CASES = [
     ("window of 100000", "eventually[1,100000] x >= 500", "walk cross"),
     ("window behind", "historically[2,1000] x >= 0", "walk cross"),
 ]
-COMMANDS = ["check", "robust", "explain", "json", "table"]
+COMMANDS = ["check", "watch", "robust", "explain", "json", "table"]
 
 
 def walk(rows, dice):
@@ -128,29 +128,44 @@ def stands(program, command, path):
     return run(program, [command, ATOM], path)[0] in (0, 1)
 
 
-def measure(program, command, formula, paths, sizes, runs, counted, folder):
-    """A line of figures: ns a row at each size, instructions a row at one, the most MB and the growth between the last two."""
-    seconds, peak = {}, 0
+def measure(programs, words, paths, sizes, runs, counted, folder):
+    """What each program takes, measured in turn: seconds at each size, instructions a row at one, the most MB; or another status."""
+    figures = [{"seconds": {}, "count": 0, "peak": 0} for _ in programs]
     for rows in sizes:
-        path = paths[rows]
-        tries = [run(program, [command, formula], path) for _ in range(runs)]
-        if tries[0][0] not in (0, 1):
-            return f"status {tries[0][0]}"
-        seconds[rows] = min(cpu for _, cpu, _ in tries)
-        peak = max(high for _, _, high in tries)
-    line = " ".join(f"{1e9 * seconds[rows] / rows:8.0f}" for rows in sizes)
-    count = instructions(program, [command, formula], paths[counted], folder) if counted else None
-    line += f" {count / counted:8.0f}" if count else f" {'-':>8}"
-    line += f" {peak / 1024:8.1f}"
+        tries = [[run(program, words, paths[rows]) for program in programs] for _ in range(runs)]
+        for figure, own in zip(figures, zip(*tries)):
+            if own[0][0] not in (0, 1):
+                return f"status {own[0][0]}"
+            figure["seconds"][rows] = min(cpu for _, cpu, _ in own)
+            figure["peak"] = max(figure["peak"], *(high / 1024 for _, _, high in own))
+    for figure, program in zip(figures, programs):
+        if counted:
+            figure["count"] = (instructions(program, words, paths[counted], folder) or 0) / counted
+    return figures
+
+
+def line(figure, sizes):
+    """ns a row at each size, instructions a row, MB, and the growth between the last two sizes."""
+    seconds = figure["seconds"]
+    text = " ".join(f"{1e9 * seconds[rows] / rows:8.0f}" for rows in sizes)
+    text += f" {figure['count']:8.0f}" if figure["count"] else f" {'-':>8}"
+    text += f" {figure['peak']:8.1f}"
     if len(sizes) < 2 or seconds[sizes[-2]] == 0:
-        return line
+        return text + f" {'-':>6}"
     few, many = sizes[-2:]
-    return line + f" {math.log(seconds[many] / seconds[few]) / math.log(many / few):6.3f}"
+    return text + f" {math.log(seconds[many] / seconds[few]) / math.log(many / few):6.3f}"
+
+
+def ratios(figure, other, sizes):
+    """How many times as much as another: instructions, CPU time at each size, memory."""
+    pairs = [(figure["count"], other["count"]), *((figure["seconds"][rows], other["seconds"][rows]) for rows in sizes), (figure["peak"], other["peak"])]
+    return "  " + " ".join(f"{ours / theirs:8.2f}" if ours and theirs else f"{'-':>8}" for ours, theirs in pairs)
 
 
 def main():
     parser = argparse.ArgumentParser(description="Measures the commands of the built program on traces that it makes itself.")
     parser.add_argument("--program", default=PROGRAM, help="the program to measure")
+    parser.add_argument("--beside", help="another program, measured in turn with it; ratios to it are shown")
     parser.add_argument("--sizes", default="10000,100000,1000000", help="numbers of rows, with commas between")
     parser.add_argument("--runs", type=int, default=3, help="runs of each, of which the fastest counts")
     parser.add_argument("--count", type=int, help="the rows at which instructions are counted, 0 for none; by default the middle size")
@@ -159,7 +174,9 @@ def main():
     args = parser.parse_args()
     sizes = sorted({int(word) for word in args.sizes.split(",")})
     counted = sizes[len(sizes) // 2] if args.count is None else args.count
-    print(f"{'command':8} {'formula':17} {'trace':6} " + " ".join(f"{f'ns/{n}':>8}" for n in sizes) + f" {'instr':>8} {'MB':>8} growth")
+    programs = [args.program, args.beside] if args.beside else [args.program]
+    head = f"{'command':8} {'formula':17} {'trace':6} " + " ".join(f"{f'ns/{n}':>8}" for n in sizes) + f" {'instr':>8} {'MB':>8} growth"
+    print(head + "  " + " ".join(f"{f'x {of}':>8}" for of in ["instr", *sizes, "MB"]) if args.beside else head)
     with tempfile.TemporaryDirectory() as folder:
         made = {}
 
@@ -171,15 +188,18 @@ def main():
 
         small = trace("walk", min(sizes))
         for command in [args.command] if args.command else COMMANDS:
-            if not stands(args.program, command, small):
+            if not all(stands(program, command, small) for program in programs):
                 continue
             for name, formula, traces in CASES:
                 for kind in traces.split():
                     if args.only not in f"{name} {kind}":
                         continue
                     paths = {rows: trace(kind, rows) for rows in {*sizes, counted} - {0}}
-                    line = measure(args.program, command, formula, paths, sizes, args.runs, counted, folder)
-                    print(f"{command:8} {name:17} {kind:6} {line}", flush=True)
+                    figures = measure(programs, [command, formula], paths, sizes, args.runs, counted, folder)
+                    text = figures if isinstance(figures, str) else line(figures[0], sizes)
+                    if args.beside and not isinstance(figures, str):
+                        text += ratios(*figures, sizes)
+                    print(f"{command:8} {name:17} {kind:6} {text}", flush=True)
 
 
 if __name__ == "__main__":

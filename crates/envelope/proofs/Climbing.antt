@@ -9,22 +9,11 @@ use Rattle.envelope.specs.declared.walk.Item.{Item}
 use Rattle.envelope.specs.Turns.{HasCome, IsToCome, IsNoBetter, none_of}
 use Rattle.envelope.specs.Course.{Turns}
 use Rattle.envelope.specs.Standing.{Part, Counts, IsOneOf, FirstHasCome, NothingLeaves, SomethingLeaves, Promises, Keeps, Changes, Stands}
+use Rattle.envelope.specs.Walking.{EachEnds, climbing, climbed_until}
 use Rattle.envelope.proofs.TurnOrder.{not_both}
 use Rattle.envelope.proofs.Admitted.{leaves_or_not}
 use Rattle.envelope.proofs.Sliding.{backed_more}
 use Rattle.envelope.proofs.Passing.{turned_stands}
-
--- each piece has an end
-abbrev pub EachEnds : {P : Type 0} → List (Part P) → Type 0
-EachEnds {P} parts = (x : Part P) → IsOneOf parts x → (turn : Turn) × (x.until ≡ Some turn)
-
--- a gap that the high end moves over from the turn on, and one that it has left
-abbrev pub climbing : {P : Type 0} → P → Turn → Part P
-climbing p from = record { shape = p; from = from; until = None }
-
--- a gap that the high end moved over until a turn
-abbrev pub climbed_until : {P : Type 0} → P → Turn → Turn → Part P
-climbed_until p from until = record { shape = p; from = from; until = Some until }
 
 module _ {P : Type 0} (shape : ShapeOf P) (laws : ShapeLaws shape) (turn : Turn) (to : Rational) (old new : Course P)
     (low_until : Turn) (items : List (Item P)) (parts : List (Part P)) (ends : EachEnds parts)
@@ -90,11 +79,11 @@ module _ {P : Type 0} (shape : ShapeOf P) (laws : ShapeLaws shape) (turn : Turn)
       }
 
   -- the high end has left it
-  pub end_stands : (p : P) (from : Turn) → old.after.high ≡ Some p → Stands shape old.side turn to
+  pub end_stands : (p : P) (from : Turn) → Stands shape old.side turn to
       (climbing p from ∷ parts) old low_until items → Turns shape old turn
       (record { top = old.after.top; low = old.after.low; high = None }) new
       → Stands shape old.side turn to (climbed_until p from turn ∷ parts) new low_until items
-  end_stands p from was s turns = turned_stands shape laws (climbing p from ∷ parts) (climbed_until p from turn ∷ parts)
+  end_stands p from s turns = turned_stands shape laws (climbing p from ∷ parts) (climbed_until p from turn ∷ parts)
       turn turn to changes old new (record { top = old.after.top; low = old.after.low; high = None }) low_until
       low_until items items s turns
       (nothing (climbing p from ∷ parts) s) keeps low_first s.later

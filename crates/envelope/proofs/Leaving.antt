@@ -12,6 +12,7 @@ use Rattle.envelope.specs.declared.walk.Item.{Item}
 use Rattle.envelope.specs.declared.walk.Slope.{Slope}
 use Rattle.pl_signal.specs.declared.joining.Side.{Side}
 use Rattle.envelope.specs.Turns.{HasCome, IsToCome}
+use Rattle.envelope.specs.Course.{first_time}
 use Rattle.envelope.proofs.TurnOrder.{at_most_of_come}
 use Rattle.envelope.proofs.Sliding.{backed_later, piece_later, stairs_later}
 use Rattle.envelope.specs.Standing.{Part, FirstStays, FirstHasCome, NothingLeaves, SomethingLeaves, Stands, CanGoOn, IsPassed, Passes, GoesTo, Leaves, IsFollowed, SlopeEndsBy, leaving_by, low_turns, turns_left, slope_shape, slope_until}
@@ -27,11 +28,12 @@ module _ {P : Type 0} (shape : ShapeOf P) where
   -- the gap under the low end
   pub passes_out : (old new : Course P) (low_until : Turn) (items : List (Item P)) (p : P) → old.after.low ≡ Some p
       → CanGoOn shape new low_until items → IsPassed shape low_until old low_until items new low_until items
-      → new.side ≡ old.side
+      → new.side ≡ old.side → first_time new new.built ≡ first_time old old.built
       → value new.at ≤ʳ value low_until.at → new.after.low ≡ None → Passes shape old low_until items new low_until items
-  passes_out old new low_until items p low can passed side at none = record {
+  passes_out old new low_until items p low can passed side first at none = record {
     can = can;
     side = side;
+    first = first;
     passed = λ turn e. subst (λ u. IsPassed shape u old low_until items new low_until items) (is turn e) passed;
     at = λ turn e. subst (λ u. value new.at ≤ʳ value u.at) (is turn e) at;
     fewer = subst (λ o. turns_left o items < turns_left old.after.low items) (sym none)
@@ -48,13 +50,14 @@ module _ {P : Type 0} (shape : ShapeOf P) where
   -- the first item
   pub passes_in : (old new : Course P) (low_until low_until' : Turn) (first : Item P) (items : List (Item P))
       → old.after.low ≡ None → CanGoOn shape new low_until' items → IsPassed shape first.until old low_until
-      (first ∷ items) new low_until' items → new.side ≡ old.side
+      (first ∷ items) new low_until' items → new.side ≡ old.side → first_time new new.built ≡ first_time old old.built
       → value new.at ≤ʳ value first.until.at → new.after.low ≡ slope_shape first.slope
       → low_until' ≡ slope_until first.slope low_until → Passes shape old low_until (first ∷ items) new low_until'
       items
-  passes_in old new low_until low_until' first items none can passed side at low until = record {
+  passes_in old new low_until low_until' first items none can passed side begins at low until = record {
     can = can;
     side = side;
+    first = begins;
     passed = λ turn e. subst (λ u. IsPassed shape u old low_until (first ∷ items) new low_until' items) (is turn e) passed;
     at = λ turn e. subst (λ u. value new.at ≤ʳ value u.at) (is turn e) at;
     fewer = subst (λ o. turns_left new.after.low items < turns_left o (first ∷ items)) (sym none)
@@ -81,29 +84,31 @@ module _ {P : Type 0} (shape : ShapeOf P) where
       (items items' : List (Item P)) (p : P) → old.after.low ≡ Some p → low_until' ≡ low_until → items' ≡ items
       → OnOk r (CanGoOn shape new low_until' items')
       → OnOk r (IsPassed shape low_until old low_until items new low_until' items') → OnOk r (new.side ≡ old.side)
+      → OnOk r (first_time new new.built ≡ first_time old old.built)
       → OnOk r (value new.at ≤ʳ value low_until.at) → OnOk r (new.after.low ≡ None)
       → OnOk r (Passes shape old low_until items new low_until' items')
-  out_of (Ok x) old new low_until low_until' items items' p low u i can passed side at none =
+  out_of (Ok x) old new low_until low_until' items items' p low u i can passed side first at none =
       subst (λ w. Passes shape old low_until items new w items') (sym u) (subst (λ xs. Passes shape old low_until items new low_until xs) (sym i)
       (passes_out old new low_until items p low (subst (λ xs. CanGoOn shape new low_until xs) i (subst (λ w. CanGoOn shape new w items') u can))
       (subst (λ xs. IsPassed shape low_until old low_until items new low_until xs) i
-      (subst (λ w. IsPassed shape low_until old low_until items new w items') u passed)) side at none))
-  out_of (Err e) old new low_until low_until' items items' p low u i can passed side at none = tt
+      (subst (λ w. IsPassed shape low_until old low_until items new w items') u passed)) side first at none))
+  out_of (Err e) old new low_until low_until' items items' p low u i can passed side first at none = tt
 
   -- where a call that lets the first constant go succeeds, that item is passed
   pub in_of : {T E : Type 0} (r : Result T E) (old new : Course P) (low_until low_until' : Turn) (first : Item P)
       (items items' all : List (Item P)) → old.after.low ≡ None → all ≡ first ∷ items → items' ≡ items
       → OnOk r (CanGoOn shape new low_until' items')
       → OnOk r (IsPassed shape first.until old low_until (first ∷ items) new low_until' items')
-      → OnOk r (new.side ≡ old.side) → OnOk r (value new.at ≤ʳ value first.until.at)
+      → OnOk r (new.side ≡ old.side) → OnOk r (first_time new new.built ≡ first_time old old.built)
+      → OnOk r (value new.at ≤ʳ value first.until.at)
       → OnOk r (new.after.low ≡ slope_shape first.slope)
       → low_until' ≡ slope_until first.slope low_until → OnOk r (Passes shape old low_until all new low_until' items')
-  in_of (Ok x) old new low_until low_until' first items items' all none a i can passed side at low u =
+  in_of (Ok x) old new low_until low_until' first items items' all none a i can passed side begins at low u =
       subst (λ ys. Passes shape old low_until ys new low_until' items') (sym a)
       (subst (λ xs. Passes shape old low_until (first ∷ items) new low_until' xs) (sym i)
       (passes_in old new low_until low_until' first items none (subst (λ xs. CanGoOn shape new low_until' xs) i can)
-      (subst (λ xs. IsPassed shape first.until old low_until (first ∷ items) new low_until' xs) i passed) side at low u))
-  in_of (Err e) old new low_until low_until' first items items' all none a i can passed side at low u = tt
+      (subst (λ xs. IsPassed shape first.until old low_until (first ∷ items) new low_until' xs) i passed) side begins at low u))
+  in_of (Err e) old new low_until low_until' first items items' all none a i can passed side begins at low u = tt
 
 -- a test that finds nothing
 pub none_there : {A : Type 0} (o : Option A) (b : Bool) → b ≡ is_some o → b ≡ false → o ≡ None
@@ -182,7 +187,7 @@ module _ {P : Type 0} (shape : ShapeOf P) (turn : Turn) where
   -- at the beginning nothing has gone
   pub goes_none : (old : Course P) (low_until : Turn) (items : List (Item P)) → CanGoOn shape old low_until items
       → value old.at ≤ʳ value turn.at → GoesTo shape turn old low_until items old low_until items
-  goes_none old low_until items can at = record { can = can; side = refl; at = at; followed = λ item f. f; stands = λ parts pos to come s. (pos, come, s) }
+  goes_none old low_until items can at = record { can = can; side = refl; first = refl; at = at; followed = λ item f. f; stands = λ parts pos to come s. (pos, come, s) }
 
   -- one more that leaves no later than the turn
   pub goes_on : (old mid new : Course P) (low_until low_mid low_new : Turn) (items items_mid items_new : List (Item P))
@@ -193,6 +198,7 @@ module _ {P : Type 0} (shape : ShapeOf P) (turn : Turn) where
   goes_on old mid new low_until low_mid low_new items items_mid items_new next g e come p = record {
     can = p.can;
     side = p.side ∙ g.side;
+    first = p.first ∙ g.first;
     at = le_trans (p.at next e) (at_most_of_come next turn come);
     followed = λ item f. p.followed item (g.followed item f);
     stands = λ parts pos to c s.
@@ -213,6 +219,7 @@ module _ {P : Type 0} (shape : ShapeOf P) (turn : Turn) where
   gone old new low_until low_until' items items' g still later = record {
     can = g.can;
     side = g.side;
+    first = g.first;
     at = g.at;
     followed = g.followed;
     still = still;

@@ -10,3 +10,5 @@ pub mod Leaving
 pub mod Admitted
 pub mod Taking
 pub mod Climbing
+pub mod Faulting
+pub mod Walks

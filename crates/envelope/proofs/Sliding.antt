@@ -42,7 +42,7 @@ module _ {P : Type 0} where
   first_later (item ∷ items) turn l t h = l.0 t h
 
 -- what is no better than none is bounded, as the least and the greatest value are
-none_bounded : {P : Type 0} (shape : ShapeOf P) (laws : ShapeLaws shape) (side : Side) (p : P) (t : Rational)
+pub none_bounded : {P : Type 0} (shape : ShapeOf P) (laws : ShapeLaws shape) (side : Side) (p : P) (t : Rational)
     → IsNoBetter side (value_at (shape.function p) t) (none_of side shape.lowest shape.highest) → IsBounded (2 ^ 31)
     (value_at (shape.function p) t)
 none_bounded shape laws Greatest p t h = bounded_same (2 ^ 31) (value_at (shape.function p) t) shape.lowest

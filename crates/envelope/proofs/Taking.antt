@@ -17,7 +17,7 @@ use Rattle.envelope.proofs.Standings.{first_stays, low_stays}
 use Rattle.envelope.proofs.Admitted.{admitted_first, admitted_behind}
 
 -- what is to come lies no earlier
-at_most_to_come : (turn : Turn) (t : Rational) → IsToCome turn t → t ≤ʳ value turn.at
+pub at_most_to_come : (turn : Turn) (t : Rational) → IsToCome turn t → t ≤ʳ value turn.at
 at_most_to_come turn t (inl h) = le_of_lt h
 at_most_to_come turn t (inr h) = ge_of_same h.0
 
@@ -95,6 +95,7 @@ module _ {P : Type 0} (shape : ShapeOf P) (laws : ShapeLaws shape) (from : Turn)
       queue = items_with shape mid new from item [] dropped turns.not_later n to_come (l.followed item f).each l.can.queue;
     };
     side = turns.side ∙ l.side;
+    first = turns.first ∙ l.first;
     at = turns.not_later;
     followed = λ x h g. record { gap = λ p e. (l.followed x g).gap p (was p e); each = followed_with [] dropped item x (l.followed x g).each h };
     stands = λ parts pos to come within falling s. subst (λ side. Stands shape side from to (pieces_with from item parts) new low_mid (item ∷ [])) l.side
@@ -123,6 +124,7 @@ module _ {P : Type 0} (shape : ShapeOf P) (laws : ShapeLaws shape) (from : Turn)
       queue = items_with shape mid mid from item (q ∷ front) dropped l.at n to_come (l.followed item f).each l.can.queue;
     };
     side = l.side;
+    first = l.first;
     at = l.at;
     followed = λ x h g. record { gap = (l.followed x g).gap; each = followed_with (q ∷ front) dropped item x (l.followed x g).each h };
     stands = λ parts pos to come within falling s. subst (λ side. Stands shape side from to

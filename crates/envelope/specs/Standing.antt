@@ -291,6 +291,7 @@ pub record Passes {P : Type 0} (shape : ShapeOf P) (old : Course P) (low_until :
     (new : Course P) (low_until' : Turn) (items' : List (Item P)) : Type 0 where
   pub can : CanGoOn shape new low_until' items'
   pub side : new.side ≡ old.side
+  pub first : first_time new new.built ≡ first_time old old.built
   pub passed : (turn : Turn) → leaving_by old.after.low low_until items ≡ Some turn → IsPassed shape turn old low_until items new low_until' items'
   pub at : (turn : Turn) → leaving_by old.after.low low_until items ≡ Some turn → value new.at ≤ʳ value turn.at
   pub fewer : turns_left new.after.low items' < turns_left old.after.low items
@@ -301,6 +302,7 @@ pub record GoesTo {P : Type 0} (shape : ShapeOf P) (turn : Turn) (old : Course P
     (items : List (Item P)) (new : Course P) (low_until' : Turn) (items' : List (Item P)) : Type 0 where
   pub can : CanGoOn shape new low_until' items'
   pub side : new.side ≡ old.side
+  pub first : first_time new new.built ≡ first_time old old.built
   pub at : value new.at ≤ʳ value turn.at
   pub followed : (item : Item P) → IsFollowed old.after.low low_until items item → IsFollowed new.after.low low_until' items' item
   pub stands : (parts : List (Part P)) (pos : Turn) (to : Rational) → ((t : Rational) → HasCome turn t → HasCome pos t)
@@ -312,6 +314,7 @@ pub record Leaves {P : Type 0} (shape : ShapeOf P) (turn : Turn) (old : Course P
     (items : List (Item P)) (new : Course P) (low_until' : Turn) (items' : List (Item P)) : Type 0 where
   pub can : CanGoOn shape new low_until' items'
   pub side : new.side ≡ old.side
+  pub first : first_time new new.built ≡ first_time old old.built
   pub at : value new.at ≤ʳ value turn.at
   pub followed : (item : Item P) → IsFollowed old.after.low low_until items item → IsFollowed new.after.low low_until' items' item
   pub still : NothingLeaves new.after low_until' items' (value turn.at)
@@ -337,6 +340,7 @@ pub record Admits {P : Type 0} (shape : ShapeOf P) (from : Turn) (item : Item P)
     (items : List (Item P)) (new : Course P) (low_until' : Turn) (items' : List (Item P)) : Type 0 where
   pub can : CanGoOn shape new low_until' items'
   pub side : new.side ≡ old.side
+  pub first : first_time new new.built ≡ first_time old old.built
   pub at : value new.at ≤ʳ value from.at
   pub followed : (x : Item P) → Follows item x → IsFollowed old.after.low low_until items x → IsFollowed new.after.low low_until' items' x
   pub stands : (parts : List (Part P)) (pos : Turn) (to : Rational) → ((t : Rational) → HasCome from t → HasCome pos t)

@@ -1,8 +1,11 @@
 //! The signal of the best of pieces, each of which counts from one turn until another: what a Sup or an Inf over a moving window is
-//! made of. Nothing of it is public yet: the calls that say when a walk is refused are still to come.
+//! made of. Nothing here knows of windows.
 #![tactic(auto)]
 
 mod best;
 mod course;
 mod turns;
 mod walk;
+
+pub use turns::{Turn, is_later, of_none, trend};
+pub use walk::{Item, Slope, Walk};

@@ -1,18 +1,23 @@
 //! A walk over pieces that come one after another, of which the best is written: a queue of those that may still be the best.
-ghost use Rattle.std.specs.Prelude.{◌≡◌, ◌∷◌, ◌≤◌, ◌^◌, length, IsSome, None, OnOk, OnErr, IfSome};
+ghost use Rattle.std.specs.Prelude.{◌≡◌, ◌∷◌, [], ◌≤◌, ◌^◌, length, IsSome, Some, None, true, false, OnOk, OnErr, IfSome, IfOk, IfErr};
 ghost use Rattle.std.specs.VecDeque.{deque_capacity};
 ghost use Rattle.rational.specs.Rational.{IsWithin};
-ghost use Rattle.rational.specs.Time.{◌≤ʳ◌};
+ghost use Rattle.rational.specs.Time.{Rational, ◌≤ʳ◌};
 ghost use Rattle.frac128.specs.Value.{value as value_of};
 ghost use Rattle.rational.specs.Affine.{HasBoundedLevel};
-ghost use Rattle.envelope.specs.Course.{IsCourseFault, IsReady};
+ghost use Rattle.envelope.specs.Course.{IsCourseFault, IsReady, first_time};
 ghost use Rattle.envelope.specs.Standing.{Admits, CanGoOn, IsDropped, IsFollowed, IsNewItem, IsPassed, RisesTo, IsTop, Leaves, Passes, leaving_by, slope_shape, slope_until};
+ghost use Rattle.envelope.specs.Turns.{HasCome};
+ghost use Rattle.envelope.specs.Walking.{CanTake, Climbed, EndsWalk, FinishStops, Finishes, HasLevel, IsRefusal, IsStoppedBy, LeavesBy, StopsAt, Took, TurnsHigh, Walks, climbed_until};
+ghost use Rattle.envelope.specs.declared.turns.Turn.{Turn};
+ghost use Rattle.pl_signal.specs.declared.faults.OpFault.TheVariants as F;
 
 use crate::best::Best;
 use crate::course::Course;
 use crate::turns::{Turn, is_later, of_none};
 use frac128::{Frac, Memory};
-use pl_signal::{Side, favour};
+use pl_signal::{OpFault, Side, Signal, favour};
+use std::alloc::Global;
 use std::cmp::Ordering;
 use std::collections::VecDeque;
 use value_laws::Shape;
@@ -43,14 +48,143 @@ pub struct Walk<P: Shape> {
 }
 
 impl<P: Shape> Walk<P> {
-    /// The piece counts from the turn on.
+    /// From the time on nothing counts yet.
+    pub fn begin(alloc: Global, side: Side, at: Frac) -> Walk<P>
+        requires within { IsWithin (2 ^ 34) (value_of at) }
+        ensures can { CanTake P.Shape result (record { at = at; just_after = false }) }
+        ensures leaves { (turn : Turn) → LeavesBy result turn }
+        ensures walks { (to : Rational) → Walks P.Shape side (value_of at) to (record { at = at; just_after = false }) [] result }
+    {
+        let low_until = Turn {
+            at,
+            just_after: false,
+        };
+        Walk {
+            course: Course::begin(alloc, side, at, of_none(side)),
+            low_until,
+            queue: VecDeque::new(alloc),
+        }
+    }
+
+    /// The piece counts from the turn on: as a constant until its turn, and then as its slope, if it has one. All that the walk
+    /// holds leaves no later than that constant.
+    ///
+    /// # Errors
+    ///
+    /// `Memory` where memory is wanting or a crossing is refused: `refusal` tells which. The walk is of no use then.
     pub fn admit(&mut self, from: &Turn, item: Item<P>) -> Result<(), Memory>
+        requires can { CanTake P.Shape self.old from.now }
+        requires within { IsWithin (2 ^ 34) (value_of from.now.at) }
+        requires new { IsNewItem P.Shape from.now item }
+        requires leaves { LeavesBy self.old item.until }
+        ensures took { OnOk result (Took P.Shape from.now item self.old self.new) }
+        ensures fault { OnErr result (StopsAt P.Shape from.now from.now (λ parts. parts) self.old self.new) }
+    {
+        self.take(from, item)
+    }
+
+    /// The gap counts from the one turn until the other, as the high end of the window moves over it.
+    ///
+    /// # Errors
+    ///
+    /// `Memory` where memory is wanting or a crossing is refused: `refusal` tells which. The walk is of no use then.
+    pub fn climb(&mut self, from: &Turn, until: &Turn, gap: P) -> Result<(), Memory>
+        requires can { CanTake P.Shape self.old from.now }
+        requires from_within { IsWithin (2 ^ 34) (value_of from.now.at) }
+        requires until_within { IsWithin (2 ^ 34) (value_of until.now.at) }
+        requires order { (t : Rational) → HasCome until.now t → HasCome from.now t }
+        requires level { HasBoundedLevel (2 ^ 31) (P.function gap) }
+        ensures climbed { OnOk result (Climbed P.Shape from.now until.now gap self.old self.new) }
+        ensures fault { OnErr result (StopsAt P.Shape from.now until.now (λ parts. climbed_until gap from.now until.now ∷ parts) self.old self.new) }
+    {
+        self.turn_high(from, Some(gap))?;
+        self.turn_high(until, None)
+    }
+
+    /// The signal of the best of the pieces, once all that begins up to the time `stop` has been taken.
+    ///
+    /// # Errors
+    ///
+    /// `Wide` for a crossing of two pieces that count together; `Memory` where memory is wanting.
+    pub fn finish(mut self, stop: &Frac) -> Result<Signal<P>, OpFault<P>>
+        requires can { CanTake P.Shape self (record { at = stop.now; just_after = true }) }
+        requires within { IsWithin (2 ^ 34) (value_of stop.now) }
+        ensures envelope { IfOk result (Finishes P.Shape (record { at = stop.now; just_after = true }) self) }
+        ensures fault { IfErr result (FinishStops P.Shape (record { at = stop.now; just_after = true }) self) }
+    {
+        match self.end(stop) {
+            Ok(()) => self.into_signal(),
+            Err(Memory) => Err(self.refusal()),
+        }
+    }
+
+    /// Why a call failed: for a crossing, or for want of memory.
+    pub fn refusal(&self) -> OpFault<P>
+        ensures { IsRefusal self.now.course.fault result }
+    {
+        match self.course.fault {
+            Some(pair) => OpFault::Wide(pair),
+            None => OpFault::Memory,
+        }
+    }
+
+    /// The signal, once the course has gone to the end.
+    fn into_signal(self) -> Result<Signal<P>, OpFault<P>>
+        ensures ok { IfOk result (λ r. self.course.built ≡ Some r) }
+        ensures fault { IfErr result (λ e. e ≡ F.Memory) }
+    {
+        let Walk {
+            course,
+            low_until: _,
+            queue: _,
+        } = self;
+        match course.finish() {
+            Some(signal) => Ok(signal),
+            None => Err(OpFault::Memory),
+        }
+    }
+
+    /// Goes on to the time.
+    fn end(&mut self, stop: &Frac) -> Result<(), Memory>
+        requires can { CanTake P.Shape self.old (record { at = stop.now; just_after = true }) }
+        requires within { IsWithin (2 ^ 34) (value_of stop.now) }
+        ensures ok { OnOk result (EndsWalk P.Shape (record { at = stop.now; just_after = true }) self.old self.new) }
+        ensures fault { OnErr result (IsStoppedBy P.Shape (record { at = stop.now; just_after = true }) self.old self.new.course.fault) }
+    {
+        let end = Turn {
+            at: *stop,
+            just_after: true,
+        };
+        self.leave(&end)?;
+        self.course.go_to(stop)
+    }
+
+    /// From the turn on the high end moves over the gap, if there is one.
+    fn turn_high(&mut self, turn: &Turn, high: Option<P>) -> Result<(), Memory>
+        requires can { CanTake P.Shape self.old turn.now }
+        requires within { IsWithin (2 ^ 34) (value_of turn.now.at) }
+        requires level { HasLevel P.Shape high }
+        ensures ok { OnOk result (TurnsHigh P.Shape turn.now high self.old self.new) }
+        ensures fault { OnErr result (IsStoppedBy P.Shape turn.now self.old self.new.course.fault) }
+    {
+        self.leave(turn)?;
+        let next = Best {
+            top: self.course.after.top,
+            low: self.course.after.low,
+            high,
+        };
+        self.course.turn(turn, next)
+    }
+
+    /// The piece counts from the turn on.
+    fn take(&mut self, from: &Turn, item: Item<P>) -> Result<(), Memory>
         requires can { CanGoOn P.Shape self.old.course self.old.low_until self.old.queue.items }
         requires order { value_of self.old.course.at ≤ʳ value_of from.now.at }
         requires within { IsWithin (2 ^ 34) (value_of from.now.at) }
         requires new { IsNewItem P.Shape from.now item }
         requires followed { IsFollowed self.old.course.after.low self.old.low_until self.old.queue.items item }
         ensures ok { OnOk result (Admits P.Shape from.now item self.old.course self.old.low_until self.old.queue.items self.new.course self.new.low_until self.new.queue.items) }
+        ensures fault { OnErr result (IsStoppedBy P.Shape from.now self.old self.new.course.fault) }
     {
         self.leave(from)?;
         if self.queue.reserve(1).is_err() {
@@ -73,6 +207,7 @@ impl<P: Shape> Walk<P> {
         ensures items { self.new.queue.items ≡ self.old.queue.items }
         ensures room { deque_capacity self.new.queue ≡ deque_capacity self.old.queue }
         ensures until { self.new.low_until ≡ self.old.low_until }
+        ensures fault { OnErr result (IfSome self.new.course.fault (IsCourseFault P.Shape self.old.course)) }
     {
         if !self.queue.is_empty() {
             return Ok(());
@@ -90,6 +225,7 @@ impl<P: Shape> Walk<P> {
         requires can { CanGoOn P.Shape self.old.course self.old.low_until self.old.queue.items }
         requires order { value_of self.old.course.at ≤ʳ value_of turn.now.at }
         ensures ok { OnOk result (Leaves P.Shape turn.now self.old.course self.old.low_until self.old.queue.items self.new.course self.new.low_until self.new.queue.items) }
+        ensures fault { OnErr result (IsStoppedBy P.Shape turn.now self.old self.new.course.fault) }
     {
         while let Some(next) = self.next_turn() {
             if is_later(&next, turn) {
@@ -118,6 +254,7 @@ impl<P: Shape> Walk<P> {
         requires some { IsSome (leaving_by self.old.course.after.low self.old.low_until self.old.queue.items) }
         requires can { CanGoOn P.Shape self.old.course self.old.low_until self.old.queue.items }
         ensures ok { OnOk result (Passes P.Shape self.old.course self.old.low_until self.old.queue.items self.new.course self.new.low_until self.new.queue.items) }
+        ensures fault { OnErr result (IfSome self.new.course.fault (IsCourseFault P.Shape self.old.course)) }
     {
         if self.course.after.low.is_some() {
             return self.slide_out();
@@ -135,6 +272,7 @@ impl<P: Shape> Walk<P> {
         ensures can { OnOk result (CanGoOn P.Shape self.new.course self.new.low_until self.new.queue.items) }
         ensures passed { OnOk result (IsPassed P.Shape self.old.low_until self.old.course self.old.low_until self.old.queue.items self.new.course self.new.low_until self.new.queue.items) }
         ensures side { OnOk result (self.new.course.side ≡ self.old.course.side) }
+        ensures begins { OnOk result (first_time self.new.course self.new.course.built ≡ first_time self.old.course self.old.course.built) }
         ensures at { OnOk result (value_of self.new.course.at ≤ʳ value_of self.old.low_until.at) }
         ensures none { OnOk result (self.new.course.after.low ≡ None) }
         ensures until { self.new.low_until ≡ self.old.low_until }
@@ -156,6 +294,7 @@ impl<P: Shape> Walk<P> {
         ensures can { OnOk result (CanGoOn P.Shape self.new.course self.new.low_until self.new.queue.items) }
         ensures passed { OnOk result (IsPassed P.Shape first.now.until self.old.course self.old.low_until (first.now ∷ self.old.queue.items) self.new.course self.new.low_until self.new.queue.items) }
         ensures side { OnOk result (self.new.course.side ≡ self.old.course.side) }
+        ensures begins { OnOk result (first_time self.new.course self.new.course.built ≡ first_time self.old.course self.old.course.built) }
         ensures at { OnOk result (value_of self.new.course.at ≤ʳ value_of first.now.until.at) }
         ensures low { OnOk result (self.new.course.after.low ≡ slope_shape first.now.slope) }
         ensures until { self.new.low_until ≡ slope_until first.now.slope self.old.low_until }

@@ -1,12 +1,14 @@
 -- What a call did to a device, as one value.
 use Rattle.std.specs.Prelude.{◌≡◌, ℕ, Bool, List, Option}
-use Rattle.io_edge.specs.Causes.{Rose}
+use Rattle.io_edge.specs.Causes.{Rose, after_end}
 
--- of a source: the bytes that were left before and after, where it tells them, whether its last call said the end, and its counts of faults
+-- of a source: the bytes that were left before and after, where it tells them, whether its last call said the end, how often one did, and its counts of faults
 pub record Drained : Type 0 where
   pub before : Option (List ℕ)
   pub after : Option (List ℕ)
   pub ended : Bool
+  pub ends : ℕ
+  pub ends_after : ℕ
   pub faults : ℕ
   pub faults_after : ℕ
 
@@ -18,12 +20,24 @@ pub record Filled : Type 0 where
   pub faults_after : ℕ
 
 -- what became of a source
-abbrev pub drained : {S : Type 0} → (S → Option (List ℕ)) → (S → Bool) → (S → ℕ) → S → S → Drained
-drained left ended faults old new = record { before = left old; after = left new; ended = ended new; faults = faults old; faults_after = faults new }
+abbrev pub drained : {S : Type 0} → (S → Option (List ℕ)) → (S → Bool) → (S → ℕ) → (S → ℕ) → S → S → Drained
+drained left ended ends faults old new = record {
+  before = left old;
+  after = left new;
+  ended = ended new;
+  ends = ends old;
+  ends_after = ends new;
+  faults = faults old;
+  faults_after = faults new;
+}
 
 -- what became of a sink
 abbrev pub filled : {K : Type 0} → (K → Option (List ℕ)) → (K → ℕ) → K → K → Filled
 filled written faults old new = record { before = written old; after = written new; faults = faults old; faults_after = faults new }
+
+-- the source was asked for its end once where it said it, and never where it did not
+abbrev pub IsAskedOnce : Drained → Type 0
+IsAskedOnce i = i.ends_after ≡ after_end i.ended i.ends
 
 -- the source failed in the call
 abbrev pub HasFailed : Drained → Type 0

@@ -1,7 +1,7 @@
 -- Sources and sinks over bytes in memory, with the calls that are to fail.
 use Rattle.std.specs.Prelude.{ℕ, ◌-◌, min, Bool, List, length}
 
--- the bytes that are left, at most how many a call gives, the numbers of the calls that fail, how many calls there were, how many of them failed, and whether the last one said the end
+-- the bytes that are left, at most how many a call gives, the numbers of the calls that fail, how many calls there were, how many of them failed, whether the last one said the end, and how many did
 pub record SourceInMemory : Type 0 where
   pub left : List ℕ
   pub most : ℕ
@@ -9,6 +9,7 @@ pub record SourceInMemory : Type 0 where
   pub calls : ℕ
   pub faults : ℕ
   pub ended : Bool
+  pub ends : ℕ
 
 -- how many bytes a call gives for a buffer of this length, where it doesn't fail
 abbrev pub given : SourceInMemory → ℕ → ℕ
@@ -27,7 +28,8 @@ pub record SinkInMemory : Type 0 where
 abbrev pub taken : SinkInMemory → ℕ → ℕ
 taken s len = min (min len s.most) (s.room - length s.written)
 
--- the bytes that are left, and whether the last call said the end
+-- the bytes that are left, whether the last call said the end, and how many did
 pub record CleanBytes : Type 0 where
   pub left : List ℕ
   pub ended : Bool
+  pub ends : ℕ

@@ -2,10 +2,10 @@
 ghost use Rattle.std.specs.Prelude.{◌≡◌, min, length, None, Some, Ok, false};
 ghost use Rattle.std.specs.Io.{ReadsAtMost};
 ghost use Rattle.std.specs.Io.KnownBytes.{ReadConsumes};
-ghost use Rattle.io_edge.specs.Causes.{SaysEnd};
+ghost use Rattle.io_edge.specs.Causes.{SaysEnd, after_end};
 
 use crate::device::{Failed, Sink, Source};
-use crate::part::take_from;
+use crate::part::{count_end, take_from};
 use std::marker::Model;
 
 /// Takes all, and doesn't tell its bytes.
@@ -37,6 +37,7 @@ pub struct CleanSource {
     bytes: Vec<u8>,
     at: usize,
     done: bool,
+    ends: u64,
 }
 
 impl Model for CleanSource {
@@ -45,7 +46,7 @@ impl Model for CleanSource {
 
     ghost Value = { CleanBytes };
 
-    ghost view = { λ s. record { left = drop s.at s.bytes.items; ended = s.done } };
+    ghost view = { λ s. record { left = drop s.at s.bytes.items; ended = s.done; ends = s.ends } };
 
     ghost invariant = { λ s. s.at ≤ vec_len s.bytes };
 }
@@ -53,12 +54,13 @@ impl Model for CleanSource {
 impl CleanSource {
     /// A source of these bytes.
     pub fn new(bytes: Vec<u8>) -> CleanSource
-        ensures { result ≡ record { left = bytes.items; ended = false } }
+        ensures { result ≡ record { left = bytes.items; ended = false; ends = 0 } }
     {
         CleanSource {
             bytes,
             at: 0,
             done: false,
+            ends: 0,
         }
     }
 }
@@ -68,17 +70,21 @@ impl Source for CleanSource {
 
     ghost ended = { λ s. s.ended };
 
+    ghost ends = { λ s. s.ends };
+
     ghost faults = { λ _. 0 };
 
     fn read(&mut self, buf: &mut [u8]) -> Result<usize, Failed>
         ensures bound { ReadsAtMost result buf.new }
         ensures bytes { ReadConsumes (Some self.old.left) (Some self.new.left) result buf.new }
         ensures end { SaysEnd result (length buf.new) self.new.ended }
+        ensures ends { self.new.ends ≡ after_end self.new.ended self.old.ends }
         ensures given { result ≡ Ok (min (length buf.new) (length self.old.left)) }
     {
         let n = take_from(&self.bytes, self.at, usize::MAX, buf);
         self.at += n;
         self.done = (n == 0) & !buf.is_empty();
+        self.ends = count_end(self.done, self.ends);
         Ok(n)
     }
 }

@@ -1,8 +1,8 @@
 //! What bytes come from and go to.
-ghost use Rattle.std.specs.Prelude.{◌<◌, ℕ, List, length, Option, Bool, IfOk};
+ghost use Rattle.std.specs.Prelude.{◌≡◌, ◌<◌, ℕ, List, length, Option, Bool, IfOk};
 ghost use Rattle.std.specs.Io.{ReadsAtMost, WritesAtMost};
 ghost use Rattle.std.specs.Io.KnownBytes.{ReadConsumes, WriteAppends};
-ghost use Rattle.io_edge.specs.Causes.{HasCause, SaysEnd};
+ghost use Rattle.io_edge.specs.Causes.{HasCause, SaysEnd, after_end};
 
 /// A read or a write that failed.
 #[derive(Clone, Copy, Debug, PartialEq, Eq)]
@@ -15,6 +15,9 @@ pub trait Source {
 
     /// Whether its last call said the end.
     ghost ended: { Self → Bool };
+
+    /// How often it said the end. Once it has reached 2^64 - 1 it stays there.
+    ghost ends: { Self → ℕ };
 
     /// How often it has failed, which never falls.
     ghost faults: { Self → ℕ };
@@ -29,6 +32,7 @@ pub trait Source {
         ensures bound { ReadsAtMost result buf.new }
         ensures bytes { ReadConsumes (left self.old) (left self.new) result buf.new }
         ensures end { SaysEnd result (length buf.new) (ended self.new) }
+        ensures ends { ends self.new ≡ after_end (ended self.new) (ends self.old) }
         ensures cause { HasCause (faults self.old) (faults self.new) result };
 }
 

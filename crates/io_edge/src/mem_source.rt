@@ -2,11 +2,11 @@
 ghost use Rattle.std.specs.Prelude.{◌≡◌, ◌<◌, ◌↔◌, ◌&&◌, ◌==◌, length, drop, nat_lt, Some, false, Contains, IfOk, OnErr, IsErr};
 ghost use Rattle.std.specs.Io.{ReadsAtMost};
 ghost use Rattle.std.specs.Io.KnownBytes.{ReadConsumes};
-ghost use Rattle.io_edge.specs.Causes.{HasCause, SaysEnd, next_count};
+ghost use Rattle.io_edge.specs.Causes.{HasCause, SaysEnd, next_count, after_end};
 ghost use Rattle.io_edge.specs.InMemory.{given};
 
 use crate::device::{Failed, Source};
-use crate::part::take_from;
+use crate::part::{count_end, take_from};
 use std::marker::Model;
 
 /// Bytes in memory, at most so many a call. The calls of a list fail.
@@ -19,6 +19,7 @@ pub struct MemSource {
     calls: u64,
     faults: u64,
     done: bool,
+    ends: u64,
 }
 
 impl Model for MemSource {
@@ -27,7 +28,7 @@ impl Model for MemSource {
 
     ghost Value = { SourceInMemory };
 
-    ghost view = { λ s. record { left = drop s.at s.bytes.items; most = s.most; fails = s.fails.items; calls = s.calls; faults = s.faults; ended = s.done } };
+    ghost view = { λ s. record { left = drop s.at s.bytes.items; most = s.most; fails = s.fails.items; calls = s.calls; faults = s.faults; ended = s.done; ends = s.ends } };
 
     ghost invariant = { λ s. (s.at ≤ vec_len s.bytes) × (0 < s.most) };
 }
@@ -37,7 +38,7 @@ impl MemSource {
     /// those named in `fails` fail and are counted.
     pub fn new(bytes: Vec<u8>, most: usize, fails: Vec<u64>) -> MemSource
         requires { 0 < most }
-        ensures { result ≡ record { left = bytes.items; most = most; fails = fails.items; calls = 0; faults = 0; ended = false } }
+        ensures { result ≡ record { left = bytes.items; most = most; fails = fails.items; calls = 0; faults = 0; ended = false; ends = 0 } }
     {
         MemSource {
             bytes,
@@ -47,6 +48,7 @@ impl MemSource {
             calls: 0,
             faults: 0,
             done: false,
+            ends: 0,
         }
     }
 
@@ -63,12 +65,15 @@ impl Source for MemSource {
 
     ghost ended = { λ s. s.ended };
 
+    ghost ends = { λ s. s.ends };
+
     ghost faults = { λ s. s.faults };
 
     fn read(&mut self, buf: &mut [u8]) -> Result<usize, Failed>
         ensures bound { ReadsAtMost result buf.new }
         ensures bytes { ReadConsumes (Some self.old.left) (Some self.new.left) result buf.new }
         ensures end { SaysEnd result (length buf.new) self.new.ended }
+        ensures ends { self.new.ends ≡ after_end self.new.ended self.old.ends }
         ensures cause { HasCause self.old.faults self.new.faults result }
 
         // which calls fail, how many bytes the others give, and what both leave
@@ -78,6 +83,7 @@ impl Source for MemSource {
           left = drop n self.old.left;
           calls = next_count self.old.calls;
           ended = (n == 0) && nat_lt 0 (length buf.new);
+          ends = after_end ((n == 0) && nat_lt 0 (length buf.new)) self.old.ends;
         }) }
         ensures after_err { OnErr result (self.new ≡ record self.old {
           calls = next_count self.old.calls;
@@ -94,6 +100,7 @@ impl Source for MemSource {
         let n = take_from(&self.bytes, self.at, self.most, buf);
         self.at += n;
         self.done = (n == 0) & !buf.is_empty();
+        self.ends = count_end(self.done, self.ends);
         Ok(n)
     }
 }

@@ -1,5 +1,13 @@
-//! Parts of bytes in memory.
+//! Parts of bytes in memory, and counts.
 ghost use Rattle.std.specs.Prelude.{◌≡◌, ◌+◌, ◌<◌, ◌≤◌, [], ◌++◌, min, length, take, drop};
+ghost use Rattle.io_edge.specs.Causes.{after_end};
+
+/// The count of ends after a call that said the end, or did not.
+pub(crate) fn count_end(said: bool, ends: u64) -> u64
+    ensures { result ≡ after_end said ends }
+{
+    if said { ends.saturating_add(1) } else { ends }
+}
 
 /// Copies bytes from an offset on into the buffer, at most so many.
 fn copy_part(bytes: &[u8], at: usize, most: usize, buf: &mut [u8]) -> usize

@@ -2,6 +2,7 @@
 ghost use Rattle.std.specs.Prelude.{◌≡◌, false};
 
 use crate::device::{Failed, Source};
+use crate::part::count_end;
 use std::io::Read;
 
 /// A reader of std, with its failures counted.
@@ -10,6 +11,7 @@ pub struct ReadEdge<R> {
     inner: R,
     faults: u64,
     done: bool,
+    ends: u64,
 }
 
 impl<R: Read> ReadEdge<R> {
@@ -17,12 +19,14 @@ impl<R: Read> ReadEdge<R> {
     pub fn new(inner: R) -> ReadEdge<R>
         ensures left { ⟦<ReadEdge<R> as Source>⟧.left result ≡ R.remaining inner }
         ensures ended { ⟦<ReadEdge<R> as Source>⟧.ended result ≡ false }
+        ensures ends { ⟦<ReadEdge<R> as Source>⟧.ends result ≡ 0 }
         ensures faults { ⟦<ReadEdge<R> as Source>⟧.faults result ≡ 0 }
     {
         ReadEdge {
             inner,
             faults: 0,
             done: false,
+            ends: 0,
         }
     }
 }
@@ -32,6 +36,8 @@ impl<R: Read> Source for ReadEdge<R> {
 
     ghost ended = { λ s. s.done };
 
+    ghost ends = { λ s. s.ends };
+
     ghost faults = { λ s. s.faults };
 
     fn read(&mut self, buf: &mut [u8]) -> Result<usize, Failed> {
@@ -39,6 +45,7 @@ impl<R: Read> Source for ReadEdge<R> {
         match self.inner.read(buf) {
             Ok(n) => {
                 self.done = (n == 0) & !buf.is_empty();
+                self.ends = count_end(self.done, self.ends);
                 Ok(n)
             }
             Err(_) => {

@@ -2,9 +2,14 @@ pub mod PlaceLemmas
 pub mod Writing
 pub mod GotLemmas
 pub mod RunLaw
+pub mod StayLaw
 mod LowLaw
 mod BelongLemmas
-pub mod StayLaw
+mod ReaderLemmas
+mod AnsweringLemmas
+mod HeldFacts
+mod StepFacts
+mod InputLemmas
 pub mod FrameLaw
 pub mod HeldLaw
 mod WindowLaw
@@ -25,7 +30,11 @@ mod UntilTurns
 mod UntilPasses
 mod UntilCounts
 mod UntilGoes
-mod FrontsLaw
+pub mod FrontsLaw
+mod SinceTurns
+mod SinceEnds
+mod SinceCounts
+mod SinceReads
 mod NetworkExamples
 pub mod RisingLaw
 pub mod EmittedLaw

@@ -162,18 +162,19 @@ module _ {N P Q : Truths} {low high : Rational → Place} (since : IsSinceOf N P
       by_reason : (u : Rational) × IsReason P Q low high t u × After r u → ⊥
       by_reason (u, w, x) = not_both r u (all t u k w.1) x
 
--- in a trace, since remembers what it knows of its inputs, where the left one was read no further than the node is answered, as it is between
--- steps; a time before the start counts for nothing
+-- in a trace, since remembers what it knows of its inputs, where the left one is known no further than the node is answered, but for what
+-- was found, and its run began before; a time before the start counts for nothing
 pub remembers_of : {N P Q : Truths} {low high : Rational → Place} (start at run reach l r l_stop r_stop : Place)
     → IsSinceOf N P Q low high → ((u : Rational) → Q u → After start u)
-    → ((t : Rational) → After at t → After l t) → KnowsSince P Q low high start at run reach l r l_stop r_stop
+    → ((t : Rational) → After at t → After run t) → ((t : Rational) → After at t → After reach t → After l t)
+    → KnowsSince P Q low high start at run reach l r l_stop r_stop
     → SinceRemembers N P Q low high at run reach l r
-remembers_of {N} {P} {Q} {low} {high} start at run reach l r l_stop r_stop since in_trace answered k = record {
+remembers_of {N} {P} {Q} {low} {high} start at run reach l r l_stop r_stop since in_trace ran answered k = record {
   holds = k.holds;
   order = k.order;
   begins = first;
   counts = λ t a b h. by_witness t h (k.counts t a b);
-  rest = λ t a b n. (answered t a, reason t a b (since.means t n));
+  rest = λ t a b n. (answered t a b, reason t a b (since.means t n));
   ahead = λ u a b q v x y. (k.ahead u a b q v x y).0;
 }
   where
@@ -183,7 +184,7 @@ remembers_of {N} {P} {Q} {low} {high} start at run reach l r l_stop r_stop since
         by_side : Upto run u ⊎ After run u → After run u
         by_side (inr h) = h
         by_side (inl h) = let v = k.begins u (in_trace u q) h in
-            absurd (v.3 (all v.0 v.1 (in_order run v.0 t v.2 (k.order t (answered t a)))))
+            absurd (v.3 (all v.0 v.1 (in_order run v.0 t v.2 (ran t a))))
 
     by_witness : (t : Rational) → HoldsFrom P run t
         → (u : Rational) × After (low t) u × Upto (high t) u × Q u × After run u × Upto r_stop u → N t
@@ -290,4 +291,17 @@ module _ {P Q : Truths} {low high : Rational → Place} where
     rest = k.rest;
     inside = k.inside;
     ahead = λ u a b q v x z. k.ahead u (later u a) b q v (later v x) z;
+  }
+
+  -- a later moment
+  pub knows_later : (start at at' run reach l r l_stop r_stop : Place) → ((t : Rational) → After at' t → After at t)
+      → KnowsSince P Q low high start at run reach l r l_stop r_stop → KnowsSince P Q low high start at' run reach l r l_stop r_stop
+  knows_later start at at' run reach l r l_stop r_stop later k = record {
+    holds = k.holds;
+    order = k.order;
+    begins = k.begins;
+    counts = λ t a. k.counts t (later t a);
+    rest = λ t u a. k.rest t u (later t a);
+    inside = k.inside;
+    ahead = k.ahead;
   }

@@ -1,5 +1,6 @@
 -- A window swept verdict by verdict.
 use Rattle.std.proofs.Common.{
+  slice_get,
   ◌≡◌,
   ◌≢◌,
   ℕ,
@@ -25,11 +26,12 @@ use Rattle.std.proofs.lemmas.List.{append-nil}
 use Rattle.stl_syntax.specs.Trace.{Trace}
 use Rattle.stl_syntax.specs.Formula.{Subformula}
 use Rattle.stl_syntax.specs.declared.items.Verdict.{Verdict}
-use Rattle.online_nodes.specs.Cuts.{Place, place, Upto, AtMost}
+use Rattle.frac128.specs.Spans.{interval}
+use Rattle.online_nodes.specs.Cuts.{Place, place, begins, moved_begin, Before, Upto, AtMost}
 use Rattle.online_nodes.specs.Held.{Held, fresh_at}
 use Rattle.online_nodes.specs.Sweeps.{HasEnded, HasRead, HasStopped, HasSwept, IsSwept, IsWindowOf}
 use Rattle.online_nodes.specs.Working.{HasWorked}
-use Rattle.online_nodes.specs.Written.{HasGot, IsSound}
+use Rattle.online_nodes.specs.Written.{HasGot, IsSound, waiting}
 use Rattle.online_nodes.specs.declared.cut.Cut.{Cut}
 use Rattle.online_nodes.specs.declared.window.Window.{Window}
 use Rattle.online_nodes.specs.declared.window.Sweep.{Sweep}
@@ -41,6 +43,7 @@ use Rattle.online_nodes.proofs.WorkLemmas.{worked_none, worked_put, worked_both}
 pub record HasGoneOn (old now : Held) (w : Window) (s here : Sweep) : Type 0 where
   pub more : List Verdict
   pub few : length more + 2 * length (fresh_at now w.of) ≤ 2 * length (fresh_at old w.of)
+  pub owed : length more + waiting here.out.holds + 2 * length (fresh_at now w.of) ≤ 2 * length (fresh_at old w.of) + waiting s.out.holds
   pub worked : HasWorked old now s.out.edge w.of w.of more
   pub read : ℕ
   pub fresh : fresh_at now w.of ≡ drop read (fresh_at old w.of)
@@ -57,6 +60,7 @@ gone_none e w s sound inside =
     record {
       more = [];
       few = omega arith;
+      owed = omega arith;
       worked = worked_none e s.out.edge w.of w.of;
       read = 0;
       fresh = refl;
@@ -74,6 +78,7 @@ gone_one {old} {now} {new} {w} {s} {here} {next} gone one =
     record {
       more = gone.more ++ one.more;
       few = omega (arith, gone.few, one.few, one.one, length-append gone.more one.more);
+      owed = omega (arith, gone.owed, one.owed, one.one, length-append gone.more one.more);
       worked = worked_both gone.worked (subst (λ i. HasWorked now new i w.of w.of one.more) gone.edge one.worked);
       read = gone.read + 1;
       fresh = one.fresh ∙ ap (drop 1) gone.fresh ∙ drop-drop 1 gone.read (fresh_at old w.of);
@@ -99,7 +104,10 @@ gone_to_end {old} {now} {same} {new} {w} {s} {here} {end} own apart gone stopped
     record {
       more = gone.more ++ ended.more;
       few = omega (arith, gone.few, ended.few, length-append gone.more ended.more);
+      owed = omega (arith, gone.owed, ended.owed, length-append gone.more ended.more);
       worked = worked_both gone.worked (worked_put own_now apart apart got);
+      beyond = λ v first. subst (λ (q : Cut). Before (place q) (moved_begin w.begin_by w.begin_in (begins (interval v.on)))) gone.end
+          (stopped.beyond v (ap (λ f. slice_get f 0) (sym kept) ∙ first));
       edge = ended.edge ∙ gone.edge;
       to = ended.to ∙ gone.end;
       sound = ended.sound;

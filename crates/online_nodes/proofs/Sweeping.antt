@@ -1,5 +1,5 @@
 -- One verdict of the input more.
-use Rattle.std.proofs.Common.{◌≡◌, inl, inr, refl, sym, ap, subst, Bool, true, false, not, List, [], ◌∷◌, Option, Some, None, ℤ, suc, drop, arith}
+use Rattle.std.proofs.Common.{◌∙◌, ◌≡◌, inl, inr, refl, sym, ap, subst, Bool, true, false, not, List, [], ◌∷◌, Option, Some, None, ℤ, suc, drop, arith}
 use Rattle.std.specs.Prelude.{slice_get, length, ◌<◌}
 use mathlib.Core.Bool.{beq}
 use Rattle.std.specs.Int.{w64}
@@ -15,7 +15,7 @@ use Rattle.online_nodes.specs.Written.{HasTold}
 use Rattle.online_nodes.specs.Sweeps.{low_place, high_place, Counted, IsWindowOf, IsSwept, Settles}
 use Rattle.online_nodes.specs.declared.window.Window.{Window}
 use Rattle.online_nodes.specs.declared.window.Sweep.{Sweep}
-use Rattle.online_nodes.proofs.PlaceLemmas.{sides, not_both, same_before, same_places, after_same, upto_same, upto_of_before}
+use Rattle.online_nodes.proofs.PlaceLemmas.{sides, not_both, before_same, same_before, same_places, after_same, upto_same, upto_of_before}
 use Rattle.online_nodes.proofs.WindowLaw.{before_it, settled, remembers_of, knows_passed, knows_entered}
 use Rattle.online_nodes.proofs.WindowPlaces.{meets_after, meets_upto}
 
@@ -61,6 +61,16 @@ pub not_empty : (l rest : List Verdict) (v : Verdict) → l ≡ v ∷ rest → 0
 not_empty l rest v e = subst (λ x. 0 < length x) (sym e)
     (let h : length (v ∷ rest) ≡ suc (length rest) = refl in omega (arith, h))
 
+-- where the first verdict begins to count beyond a place, so does whichever is the first
+pub begins_beyond : (l : List Verdict) (v : Verdict) → slice_get l 0 ≡ Some v → (w : Window) (to from : Place) → Before to from
+    → Same from (moved_begin w.begin_by w.begin_in (begins (interval v.on)))
+    → (y : Verdict) → slice_get l 0 ≡ Some y → Before to (moved_begin w.begin_by w.begin_in (begins (interval y.on)))
+begins_beyond l v first w to from later same y other =
+    let both : Some v ≡ Some y = sym first ∙ other in
+    let is : v ≡ y = cc in
+    subst (λ (q : Verdict). Before to (moved_begin w.begin_by w.begin_in (begins (interval q.on)))) is
+    (before_same to from (moved_begin w.begin_by w.begin_in (begins (interval v.on))) later same)
+
 module _ (n p : Subformula) (tr : Trace) (w : Window) (begin : Place) (written : List Verdict) (read stop : Place) where
   remembers : (s : Sweep) (fresh : List Verdict) → IsWindowOf n p tr w (place s.out.to) stop
       → IsSwept n p tr w begin written s read stop fresh
@@ -79,7 +89,8 @@ module _ (n p : Subformula) (tr : Trace) (w : Window) (begin : Place) (written :
       → Settles n tr w s
   none_left s of m t a b k =
       settled (place s.out.at) (place s.reach) read (place s.out.to) t
-      (λ t u h i. upto_same stop read u (same_places m.tells) (of.within t u h i)) (remembers s [] of m) a b k
+      (λ t u h i. elim (of.within t u h i) [ inl x ↦ inl (upto_same stop read u (same_places m.tells) x) | inr x ↦ inr x ])
+      (remembers s [] of m) a b k
 
   -- a verdict that is not sought
   pub not_sought : (s : Sweep) (v : Verdict) (rest : List Verdict) → v.holds ≡ not w.seeks

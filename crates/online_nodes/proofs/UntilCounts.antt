@@ -32,8 +32,10 @@ use Rattle.online_nodes.proofs.UntilPasses.{
   stale_passed,
   right_failed,
   common_counts,
+  fails_to,
+  left_misses,
   not_yet_common,
-  no_time_in_common,
+  right_ended,
   unread,
 }
 
@@ -83,24 +85,7 @@ pub record AreNext (old : Held) (u : Until) (v w : Verdict) (begin end : Place) 
   pub after_right : AtMost (begins (interval w.on)) begin
   pub one : (AtMost begin (begins (interval v.on))) ⊎ (AtMost begin (begins (interval w.on)))
 
-module _ {x : Stretch} {u : Until} {written : List Verdict} {s : Sweep} {r : Reads} {old : Held} {v w : Verdict} {begin end : Place}
-    (m : IsTurned x u written s r (fresh_at old u.window.of) (fresh_at old u.right)) (next : AreNext old u v w begin end) where
-  begin_within : AtMost begin r.read
-  begin_within t h = elim next.one [
-    | inl left ↦ m.left_behind t (upto_same (begins (interval v.on)) r.left t (same_places left-next_begins) (left t h))
-    | inr right ↦ m.right_behind t (upto_same (begins (interval w.on)) r.right t (same_places right-next_begins) (right t h))
-  ]
-    where
-      left-next_begins : Same r.left (begins (interval v.on))
-      left-next_begins =
-          (subst (λ f. Tells (Truth x.p x.tr) r.left f x.stop_left) (first_and_rest (fresh_at old u.window.of) v next.first_left) m.left_tells).0
-
-      right-next_begins : Same r.right (begins (interval w.on))
-      right-next_begins =
-          (subst (λ f. Tells (Counted true x.q x.tr) r.right f x.stop_right) (first_and_rest
-          (fresh_at old u.right) w next.first_right) m.right_tells).0
-
--- they share no time: the right verdict ended already, and is passed
+-- they share no time: the right verdict ended already, or the left one ends before it begins; that one is passed
 pub shares_none : {old new : Held} {u : Until} {s : Sweep} {v w : Verdict} {begin end : Place} → AreNext old u v w begin end
     → (Before begin end → ⊥) → HasPassedOne old new u v w → u.window.of ≢ s.out.edge → u.right ≢ s.out.edge → IsSound s.out
     → AtMost (place s.out.at) (place s.out.to) → HasTurned old new u s s
@@ -108,6 +93,7 @@ shares_none {old} {new} {u} {s} {v} {w} {begin} {end} next none one left_apart r
     record {
       more = [];
       few = omega arith;
+      owed = omega arith;
       worked = one_worked (worked_none old s.out.edge u.window.of u.right) one left_apart right_apart;
       fewer = one_fewer one next.apart;
       edge = refl;
@@ -115,10 +101,6 @@ shares_none {old} {new} {u} {s} {v} {w} {begin} {end} next none one left_apart r
       sound = sound;
       inside = inside;
       goes = λ x written r of m.
-          let ended : AtMost end r.read =
-          no_time_in_common of m next.apart next.first_left next.first_right next.left_holds next.right_holds begin end
-          next.earlier next.after_left
-          next.after_right (begin_within m next) none in
           elim one.which [
             | inl right ↦ (
               record { read = r.read; left = r.left; right = ends (interval w.on) },
@@ -126,11 +108,22 @@ shares_none {old} {new} {u} {s} {v} {w} {begin} {end} next none one left_apart r
                   (fresh_at new u.window.of) (fresh_at new u.right))
                   (sym (append-nil written))
                   (stale_passed of m next.apart next.first_left next.first_right next.left_holds refl refl right.0
-                  (λ t h. ended t (next.earlier.is_right right.1 t h))),
+                  (right_ended of m next.apart next.first_left next.first_right next.left_holds next.right_holds begin end
+                  next.earlier next.after_left next.after_right next.one none (next.earlier.is_right right.1))),
             )
-            | inr left ↦
-                absurd (let t = between r.read (ends (interval v.on)) (m.ahead v next.first_left) in
-                not_both r.read t.0 (ended t.0 (next.earlier.is_left left.1 t.0 t.2)) t.1)
+            | inr left ↦ (
+              record { read = ends (interval v.on); left = ends (interval v.on); right = r.right },
+              subst (λ l. IsTurned x u l s (record { read = ends (interval v.on); left = ends (interval v.on); right = r.right })
+                  (fresh_at new u.window.of) (fresh_at new u.right))
+                  (sym (append-nil written))
+                  (turned m.told
+                  (fails_to of m next.apart next.first_left next.first_right next.left_holds (ends (interval v.on))
+                  (left_misses of m next.apart next.first_left next.first_right next.left_holds next.right_holds begin end
+                  next.earlier next.after_left next.after_right next.one none (next.earlier.is_left left.1))
+                  (m.ahead v next.first_left) (λ t h. h) left.1)
+                  (placed_left m next.apart refl refl (place s.out.at) (ends (interval v.on)) next.first_left left.0
+                  (λ t a. a) (λ t h. h) (λ t h. h))),
+            )
           ];
     }
 
@@ -142,7 +135,7 @@ counts_beyond {old} {u} {s} {v} {w} {begin} {end} from next from_is before =
       same = refl;
       settles = λ x written r of m t a b k.
           not_yet_common of m next.apart next.first_left next.first_right next.left_holds next.right_holds begin end next.earlier next.after_left
-          next.after_right from (begin_within m next) (meets_from (high_place u.window)
+          next.after_right from next.one (meets_from (high_place u.window)
           (meets_after u.window.begin_by u.window.begin_in begin) from_is)
           t a b (upto_of_before (place s.out.to) from t before k);
     }
@@ -162,6 +155,7 @@ module _ {old mid : Held} {u : Until} {s : Sweep} {found out : Out} {from reach 
       record {
         more = said.answers.more;
         few = said.answers.few;
+        owed = said.answers.owed;
         worked = one_worked put one said.left_apart said.right_apart;
         fewer = omega (arith, one_fewer one next.apart, ap length kept_left, ap length kept_right);
         edge = said.answers.edge;
@@ -169,12 +163,11 @@ module _ {old mid : Held} {u : Until} {s : Sweep} {found out : Out} {from reach 
         sound = said.answers.sound;
         inside = twice-inside said;
         goes = λ x written r of m.
-            let within = begin_within m next in
             let told = said.answers.told x.n x.tr x.begin written m.told
             (λ t a upto. (turned-remembers of m).counts t a (said.one.no_more t a upto))
             (λ t a upto.
             not_yet_common of m next.apart next.first_left next.first_right next.left_holds next.right_holds begin end next.earlier
-            next.after_left next.after_right (place from) within
+            next.after_left next.after_right (place from) next.one
             (meets_from (high_place u.window) (meets_after u.window.begin_by u.window.begin_in begin) from_is) t
             (twice-after said t a) (twice-beyond said t a upto)
             (said.two.no_more t a upto)) in
@@ -193,14 +186,15 @@ module _ {old mid : Held} {u : Until} {s : Sweep} {found out : Out} {from reach 
               | inl right ↦ (
                 record { read = end; left = r.left; right = ends (interval w.on) },
                 turned told knows
-                    (placed_right m next.apart kept_left kept_right end next.first_left next.first_right right.0 forward (next.earlier.is_right right.1)
+                    (placed_right m next.apart kept_left kept_right (place out.at) end next.first_left next.first_right right.0 forward (next.earlier.is_right right.1)
                     (λ t a b. after_at_most end (ends (interval w.on)) t next.earlier.in_right b)
                     (before_of_at_most end (ends (interval w.on)) (ends (interval v.on)) next.earlier.in_right right.1)),
               )
               | inr left ↦ (
                 record { read = end; left = ends (interval v.on); right = r.right },
                 turned told knows
-                    (placed_left m next.apart kept_left kept_right end next.first_left left.0 (next.earlier.is_left left.1) next.earlier.in_left),
+                    (placed_left m next.apart kept_left kept_right (place out.at) end next.first_left left.0 (λ t a. twice-later said t a)
+                    (next.earlier.is_left left.1) next.earlier.in_left),
               )
             ];
       }
@@ -214,6 +208,7 @@ passes_failed {old} {new} {u} {s} {v} {w} apart first_left first_right holding f
     record {
       more = [];
       few = omega arith;
+      owed = omega arith;
       worked = one_worked (worked_none old s.out.edge u.window.of u.right) one left_apart right_apart;
       fewer = one_fewer one apart;
       edge = refl;

@@ -5,7 +5,7 @@ use Rattle.stl_syntax.specs.declared.items.Verdict.{Verdict}
 use Rattle.online_nodes.specs.Cuts.{place, Upto, AtMost}
 use Rattle.online_nodes.specs.Held.{Held, fresh_at}
 use Rattle.online_nodes.specs.Working.{HasWorked}
-use Rattle.online_nodes.specs.Written.{IsSound}
+use Rattle.online_nodes.specs.Written.{IsSound, waiting}
 use Rattle.online_nodes.specs.Untils.{Stretch, Reads, IsUntil, IsTurned, HasSettled, HasTurned, HasUntilEnded, HasUntilTold}
 use Rattle.online_nodes.specs.declared.cut.Cut.{Cut}
 use Rattle.online_nodes.specs.declared.window.Sweep.{Sweep}
@@ -17,6 +17,8 @@ pub record HasGoneOn (old now : Held) (u : Until) (s here : Sweep) : Type 0 wher
   pub more : List Verdict
   pub few : length more + 2 * (length (fresh_at now u.window.of) + length (fresh_at now u.right))
       ≤ 2 * (length (fresh_at old u.window.of) + length (fresh_at old u.right))
+  pub owed : length more + waiting here.out.holds + 2 * (length (fresh_at now u.window.of) + length (fresh_at now u.right))
+      ≤ 2 * (length (fresh_at old u.window.of) + length (fresh_at old u.right)) + waiting s.out.holds
   pub worked : HasWorked old now s.out.edge u.window.of u.right more
   pub edge : here.out.edge ≡ s.out.edge
   pub end : here.out.to ≡ s.out.to
@@ -31,6 +33,7 @@ gone_none e u s sound inside =
     record {
       more = [];
       few = omega arith;
+      owed = omega arith;
       worked = worked_none e s.out.edge u.window.of u.right;
       edge = refl;
       end = refl;
@@ -46,6 +49,7 @@ gone_one {old} {now} {new} {u} {s} {here} {next} gone one =
     record {
       more = gone.more ++ one.more;
       few = omega (arith, gone.few, one.few, one.fewer, length-append gone.more one.more);
+      owed = omega (arith, gone.owed, one.owed, one.fewer, length-append gone.more one.more);
       worked = worked_both gone.worked (subst (λ i. HasWorked now new i u.window.of u.right one.more) gone.edge one.worked);
       edge = one.edge ∙ gone.edge;
       end = one.end ∙ gone.end;
@@ -67,6 +71,7 @@ gone_to_end {old} {now} {same} {new} {u} {s} {here} {end} gone settled ended_sam
     record {
       more = gone.more ++ ended.more;
       few = omega (arith, gone.few, ended.few, length-append gone.more ended.more);
+      owed = omega (arith, gone.owed, ended.owed, length-append gone.more ended.more);
       worked = worked_both gone.worked (subst (λ i. HasWorked now new i u.window.of u.right ended.more) gone.edge ended.worked);
       edge = ended.edge ∙ gone.edge;
       to = ended.to ∙ gone.end;

@@ -89,12 +89,12 @@ module _ {N P Q : Truths} {low high : Rational → Place} (until : IsUntilOf N P
 
   -- up to where a common stretch from x on counts, the node holds no longer than `reach`
   pub not_yet : (at reach l r x from : Place) → UntilRemembers N P Q low high at reach l r → MeetsAfter high x from
-      → ((u : Rational) → After l u → After r u → After x u)
+      → ((t u : Rational) → After at t → After (low t) u → After l u → After r u → After x u)
       → (t : Rational) → After at t → After reach t → Upto from t → ¬ N t
   not_yet at reach l r x from m meets begin t a b k n = by_witness (m.rest t a b n)
     where
       by_witness : (u : Rational) × After (low t) u × Upto (high t) u × Q u × AllFrom P t u × After l u × After r u → ⊥
-      by_witness (u, lo, hi, q, all, y, z) = not_both from t k ((meets t).1 (before_through x (high t) u (begin u y z) hi))
+      by_witness (u, lo, hi, q, all, y, z) = not_both from t k ((meets t).1 (before_through x (high t) u (begin t u a lo y z) hi))
 
   -- a stretch from x to y on which both hold: it counts from then on. The left input is read up to l' and the right one up to r'
   pub both_hold : (at at' reach l r x y from to l' r' : Place) → UntilRemembers N P Q low high at reach l r
@@ -131,12 +131,15 @@ module _ {N P Q : Truths} {low high : Rational → Place} (until : IsUntilOf N P
 
   -- once one input was read as far as the windows up to `to` reach, the node holds no longer than `reach`
   pub settled : (at reach l r to : Place) → UntilRemembers N P Q low high at reach l r
-      → ((t u : Rational) → Upto to t → Upto (high t) u → Upto l u ⊎ Upto r u)
+      → ((t u : Rational) → After at t → After (low t) u → Upto to t → Upto (high t) u → (Upto l u ⊎ Upto r u) ⊎ ¬ Q u)
       → (t : Rational) → After at t → After reach t → Upto to t → ¬ N t
   settled at reach l r to m all t a b k n = by_witness (m.rest t a b n)
     where
       by_witness : (u : Rational) × After (low t) u × Upto (high t) u × Q u × AllFrom P t u × After l u × After r u → ⊥
-      by_witness (u, lo, hi, q, every, y, z) = elim (all t u k hi) [ inl h ↦ not_both l u h y | inr h ↦ not_both r u h z ]
+      by_witness (u, lo, hi, q, every, y, z) = elim (all t u a lo k hi) [
+        | inl h ↦ elim h [ inl x ↦ not_both l u x y | inr x ↦ not_both r u x z ]
+        | inr n ↦ n q
+      ]
 
 -- in a trace, until remembers what it knows of its inputs
 pub remembers_of : {N P Q : Truths} {low high : Rational → Place} (at reach l r stop : Place) → IsUntilOf N P Q low high
@@ -156,6 +159,10 @@ remembers_of {N} {P} {Q} {low} {high} at reach l r stop until k = record {
             → (u : Rational) × After (low t) u × Upto (high t) u × Q u × AllFrom P t u × After l u × After r u
         by_side (inl h) = let w = k.rest t u a b lo hi q all h in (u, lo, hi, q, all, w.0, w.1)
         by_side (inr h) = let w = k.inside u h in (u, lo, hi, q, all, w.0, w.1)
+
+-- the right input fails from r to f, at each time that a window to come meets
+abbrev pub FailsFor : Truths → (Rational → Place) → Place → Place → Place → Type 0
+FailsFor Q low at r f = (t u : Rational) → After at t → After (low t) u → After r u → Upto f u → ¬ Q u
 
 module _ {P Q : Truths} {low high : Rational → Place} where
   -- the left input failed from l to e: a new run may begin
@@ -179,20 +186,20 @@ module _ {P Q : Truths} {low high : Rational → Place} where
           absurd
           (told v.0 v.1 v.2 (k.ahead t u (later t a).0 lo q (after_of_before l e u some x) h v.0 v.1 (in_order e v.0 u v.2 x)))
 
-  pub knows_right_fails : (at reach l r f stop : Place) → KnowsUntil P Q low high at reach l r stop → AllAre false Q r f
+  pub knows_right_fails : (at reach l r f stop : Place) → KnowsUntil P Q low high at reach l r stop → FailsFor Q low at r f
       → ((u : Rational) → Upto f u → Upto stop u)
       → KnowsUntil P Q low high at reach l f stop
   knows_right_fails at reach l r f stop k told within = record {
     run = k.run;
     counts = k.counts;
     rest = λ t u a b lo hi q all known. let w = k.rest t u a b lo hi q all known in
-        (w.0, elim (sides f u) [ inl h ↦ absurd (told u w.1 h q) | inr h ↦ h ]);
+        (w.0, elim (sides f u) [ inl h ↦ absurd (told t u a lo w.1 h q) | inr h ↦ h ]);
     inside = λ u x. ((k.inside u x).0, elim (sides f u) [ inl h ↦ absurd (not_both stop u (within u h) x) | inr h ↦ h ]);
-    ahead = λ t u a lo q x y. elim (sides r u) [ inl h ↦ k.ahead t u a lo q x h | inr h ↦ absurd (told u h y q) ];
+    ahead = λ t u a lo q x y. elim (sides r u) [ inl h ↦ k.ahead t u a lo q x h | inr h ↦ absurd (told t u a lo h y q) ];
   }
 
   pub knows_left_holds : (at reach l r e f stop : Place) → KnowsUntil P Q low high at reach l r stop → AllAre true P l e
-      → AllAre false Q r f
+      → FailsFor Q low at r f
       → ((t : Rational) → Upto e t → Upto f t) → ((u : Rational) → Upto e u → Upto stop u)
       → ((u : Rational) → After e u → After l u)
       → KnowsUntil P Q low high at reach e r stop
@@ -200,7 +207,7 @@ module _ {P Q : Truths} {low high : Rational → Place} where
     run = λ t a u. elim (sides l t) [ inl h ↦ k.run t a h | inr h ↦ holds t h u ];
     counts = k.counts;
     rest = λ t u a b lo hi q all known. let w = k.rest t u a b lo hi q all known in
-        (elim (sides e u) [ inl h ↦ absurd (told u w.1 (inside u h) q) | inr h ↦ h ], w.1);
+        (elim (sides e u) [ inl h ↦ absurd (told t u a lo w.1 (inside u h) q) | inr h ↦ h ], w.1);
     inside = λ u x. (elim (sides e u) [ inl h ↦ absurd (not_both stop u (within u h) x) | inr h ↦ h ], (k.inside u x).1);
     ahead = λ t u a lo q x y v z w. k.ahead t u a lo q (later u x) y v (later v z) w;
   }

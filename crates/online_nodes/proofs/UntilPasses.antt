@@ -17,6 +17,7 @@ use Rattle.online_nodes.specs.declared.window.Sweep.{Sweep}
 use Rattle.online_nodes.specs.declared.until.Until.{Until}
 use Rattle.online_nodes.proofs.JoinLemmas.{after_at_most}
 use Rattle.online_nodes.proofs.PlaceLemmas.{
+  sides,
   not_both,
   between,
   before_through,
@@ -28,7 +29,7 @@ use Rattle.online_nodes.proofs.PlaceLemmas.{
   at_most_of_not_before,
 }
 use Rattle.online_nodes.proofs.SaidLemmas.{passed-fresh}
-use Rattle.online_nodes.proofs.UntilLaw.{knows_right_fails, knows_left_holds, knows_both, not_yet, settled}
+use Rattle.online_nodes.proofs.UntilLaw.{FailsFor, knows_right_fails, knows_left_holds, knows_both, not_yet, settled}
 use Rattle.online_nodes.proofs.UntilTurns.{goes_on_from, left-next, left-is, turned-remembers}
 use Rattle.online_nodes.proofs.WorkLemmas.{passed-other, first_and_rest}
 
@@ -37,12 +38,12 @@ pub before_of_at_most : (c d e : Place) → AtMost c d → Before d e → Before
 before_of_at_most c d e at_most before =
     let t = between d e before in before_through c e t.0 (after_at_most c d t.0 at_most t.1) t.2
 
--- where the lists stand once one verdict was read, both inputs being read up to `read`
-pub record IsPlaced (x : Stretch) (r : Reads) (fresh_left fresh_right : List Verdict) : Type 0 where
+-- where the lists stand once one verdict was read, both inputs being known up to `read`
+pub record IsPlaced (x : Stretch) (u : Until) (at : Place) (r : Reads) (fresh_left fresh_right : List Verdict) : Type 0 where
   pub left_tells : Tells (Truth x.p x.tr) r.left fresh_left x.stop_left
   pub right_tells : Tells (Counted true x.q x.tr) r.right fresh_right x.stop_right
   pub left_behind : AtMost r.left r.read
-  pub right_behind : AtMost r.right r.read
+  pub right_behind : (t v : Rational) → After at t → After (low_place u.window t) v → Upto r.right v → Upto r.read v
   pub tight : (t : Rational) → After r.left t → After r.right t → After r.read t
   pub ahead : (v : Verdict) → slice_get fresh_left 0 ≡ Some v → Before r.read (ends (interval v.on))
 
@@ -51,7 +52,7 @@ pub turned : {x : Stretch} {u : Until} {written : List Verdict} {s : Sweep} {r :
     → HasTold x.n x.tr x.begin written s.out
     → KnowsUntil (Truth x.p x.tr) (Counted true x.q x.tr) (low_place u.window) (high_place u.window) (place s.out.at)
     (place s.reach) r.read r.read x.stop
-    → IsPlaced x r fresh_left fresh_right → IsTurned x u written s r fresh_left fresh_right
+    → IsPlaced x u (place s.out.at) r fresh_left fresh_right → IsTurned x u written s r fresh_left fresh_right
 turned told knows placed =
     record {
       told = told;
@@ -66,12 +67,12 @@ turned told knows placed =
 
 module _ {x : Stretch} {u : Until} {written : List Verdict} {s : Sweep} {r : Reads} {fresh_left fresh_right : List Verdict} {mid new : Held}
     (m : IsTurned x u written s r fresh_left fresh_right) (apart : u.window.of ≢ u.right)
-    (kept_left : fresh_at mid u.window.of ≡ fresh_left) (kept_right : fresh_at mid u.right ≡ fresh_right) (read : Place) where
+    (kept_left : fresh_at mid u.window.of ≡ fresh_left) (kept_right : fresh_at mid u.right ≡ fresh_right) (at read : Place) where
   -- the right input's verdict was read
   pub placed_right : {v w y : Verdict} → slice_get fresh_left 0 ≡ Some v → slice_get fresh_right 0 ≡ Some w → HasPassed mid new u.right y
       → AtMost r.read read → AtMost (ends (interval w.on)) read
       → ((t : Rational) → After r.left t → After (ends (interval w.on)) t → After read t) → Before read (ends (interval v.on))
-      → IsPlaced x (record { read = read; left = r.left; right = ends (interval w.on) }) (fresh_at new u.window.of) (fresh_at new u.right)
+      → IsPlaced x u at (record { read = read; left = r.left; right = ends (interval w.on) }) (fresh_at new u.window.of) (fresh_at new u.right)
   placed_right {v} {w} {y} first_left first_right passed forward within tight ahead =
       let left_now : fresh_at new u.window.of ≡ fresh_left = ap (λ z. z.fresh) (passed-other passed u.window.of apart) ∙ kept_left in
       let right_now : fresh_at new u.right ≡ drop 1 fresh_right = passed-fresh passed ∙ ap (drop 1) kept_right in
@@ -81,7 +82,7 @@ module _ {x : Stretch} {u : Until} {written : List Verdict} {s : Sweep} {r : Rea
         left_tells = subst (λ f. Tells (Truth x.p x.tr) r.left f x.stop_left) (sym left_now) m.left_tells;
         right_tells = subst (λ f. Tells (Counted true x.q x.tr) (ends (interval w.on)) f x.stop_right) (sym right_now) right_rest;
         left_behind = λ t h. forward t (m.left_behind t h);
-        right_behind = within;
+        right_behind = λ t y a lo h. within y h;
         tight = tight;
         ahead = λ z is_first.
             let same : Some z ≡ Some v = sym (ap (λ f. slice_get f 0) (sym left_now) ∙ is_first) ∙ first_left in
@@ -91,9 +92,10 @@ module _ {x : Stretch} {u : Until} {written : List Verdict} {s : Sweep} {r : Rea
 
   -- the left input's verdict was read
   pub placed_left : {v y : Verdict} → slice_get fresh_left 0 ≡ Some v → HasPassed mid new u.window.of y
+      → ((t : Rational) → After at t → After (place s.out.at) t)
       → AtMost (ends (interval v.on)) read → AtMost read (ends (interval v.on))
-      → IsPlaced x (record { read = read; left = ends (interval v.on); right = r.right }) (fresh_at new u.window.of) (fresh_at new u.right)
-  placed_left {v} {y} first_left passed within without =
+      → IsPlaced x u at (record { read = read; left = ends (interval v.on); right = r.right }) (fresh_at new u.window.of) (fresh_at new u.right)
+  placed_left {v} {y} first_left passed later within without =
       let right_now : fresh_at new u.right ≡ fresh_right = ap (λ z. z.fresh) (passed-other passed u.right (λ same. apart (sym same))) ∙ kept_right in
       let left_now : fresh_at new u.window.of ≡ drop 1 fresh_left = passed-fresh passed ∙ ap (drop 1) kept_left in
       let left_rest = (subst (λ f. Tells (Truth x.p x.tr) r.left f x.stop_left) (first_and_rest fresh_left v first_left) m.left_tells).3 in
@@ -101,7 +103,8 @@ module _ {x : Stretch} {u : Until} {written : List Verdict} {s : Sweep} {r : Rea
         left_tells = subst (λ f. Tells (Truth x.p x.tr) (ends (interval v.on)) f x.stop_left) (sym left_now) left_rest;
         right_tells = subst (λ f. Tells (Counted true x.q x.tr) r.right f x.stop_right) (sym right_now) m.right_tells;
         left_behind = within;
-        right_behind = λ t h. within t (upto_of_before r.read (ends (interval v.on)) t (m.ahead v first_left) (m.right_behind t h));
+        right_behind = λ t z a lo h. within z
+            (upto_of_before r.read (ends (interval v.on)) z (m.ahead v first_left) (m.right_behind t z (later t a) lo h));
         tight = λ t a b. after_at_most read (ends (interval v.on)) t without a;
         ahead = λ z is_first. before_of_at_most read (ends (interval v.on)) (ends (interval z.on)) without
             (goes_on_from (Truth x.p x.tr) (ends (interval v.on)) x.stop_left (drop 1 fresh_left) z left_rest
@@ -137,10 +140,12 @@ module _ {x : Stretch} {u : Until} {written : List Verdict} {s : Sweep} {r : Rea
       subst (λ b. AllAre b (Truth x.p x.tr) r.read (ends (interval v.on))) holding (left-is of m first_left) t after (within t upto)
 
   -- and the right one is as its next verdict says
-  pub right-is : (e : Place) → AtMost e (ends (interval w.on)) → AllAre w.holds (Counted true x.q x.tr) r.read e
-  right-is e within t after upto =
-      (subst (λ f. Tells (Counted true x.q x.tr) r.right f x.stop_right) (first_and_rest fresh_right w first_right) m.right_tells).2 t
-      (after_at_most r.right r.read t m.right_behind after) (within t upto)
+  pub right-is : AllAre w.holds (Counted true x.q x.tr) r.right (ends (interval w.on))
+  right-is = (subst (λ f. Tells (Counted true x.q x.tr) r.right f x.stop_right) (first_and_rest fresh_right w first_right) m.right_tells).2
+
+  -- of what both are known up to, what a window to come meets was read of the right one
+  pub right-read : (t y : Rational) → After (place s.out.at) t → After (low_place u.window t) y → After r.read y → After r.right y
+  right-read t y a lo h = elim (sides r.right y) [ inl k ↦ absurd (not_both r.read y (m.right_behind t y a lo k) h) | inr k ↦ k ]
 
   -- nothing changes in what is known where the right verdict ended already
   pub stale_passed : {old new : Held} → fresh_at old u.window.of ≡ fresh_left → fresh_at old u.right ≡ fresh_right
@@ -149,23 +154,28 @@ module _ {x : Stretch} {u : Until} {written : List Verdict} {s : Sweep} {r : Rea
       (fresh_at new u.right)
   stale_passed kept_left kept_right passed ended =
       turned m.told m.knows
-      (placed_right m apart kept_left kept_right r.read first_left first_right passed (λ t h. h) ended
+      (placed_right m apart kept_left kept_right (place s.out.at) r.read first_left first_right passed (λ t h. h) ended
       (λ t a b. m.tight t a (after_at_most r.right (ends (interval w.on)) t
       (λ y h. upto_of_before r.right (ends (interval w.on)) y (goes_on_from
       (Counted true x.q x.tr) r.right x.stop_right fresh_right w m.right_tells first_right) h) b))
       (m.ahead v first_left))
 
   -- both are read up to a later place, up to which the right input fails
-  pub fails_to : (e : Place) → w.holds ≡ false → Before r.read e → AtMost e (ends (interval v.on)) → AtMost e (ends (interval w.on))
+  pub fails_to : (e : Place) → FailsFor (Counted true x.q x.tr) (low_place u.window) (place s.out.at) r.read e → Before r.read e
+      → AtMost e (ends (interval v.on)) → AtMost e (ends (interval w.on))
       → KnowsUntil (Truth x.p x.tr) (Counted true x.q x.tr) (low_place u.window) (high_place u.window) (place s.out.at) (place s.reach) e e x.stop
-  fails_to e failing ahead in_left in_right =
-      let failed : AllAre false (Counted true x.q x.tr) r.read e = subst (λ b. AllAre b (Counted true x.q x.tr) r.read e) failing
-      (right-is e in_right) in
+  fails_to e failed ahead in_left in_right =
       let within : (t : Rational) → Upto e t → Upto x.stop t = λ t h. of.both t (left_end t (in_left t h)) (right_end t (in_right t h)) in
       knows_left_holds (place s.out.at) (place s.reach) r.read e e e x.stop
       (knows_right_fails (place s.out.at) (place s.reach) r.read r.read e x.stop m.knows failed within)
-      (holds_to e in_left) (λ t a h. absurd (not_both e t h a)) (λ t h. h) within
+      (holds_to e in_left) (λ t y a lo b h. absurd (not_both e y h b)) (λ t h. h) within
       (λ t a. after_at_most r.read e t (λ y h. upto_of_before r.read e y ahead h) a)
+
+  -- the right input fails up to a place within its next verdict, which says so
+  pub failing_to : (e : Place) → w.holds ≡ false → AtMost e (ends (interval w.on))
+      → FailsFor (Counted true x.q x.tr) (low_place u.window) (place s.out.at) r.read e
+  failing_to e failing within t y a lo after upto =
+      subst (λ b. AllAre b (Counted true x.q x.tr) r.right (ends (interval w.on))) failing right-is y (right-read t y a lo after) (within y upto)
 
   pub right_failed : {old new : Held} → fresh_at old u.window.of ≡ fresh_left → fresh_at old u.right ≡ fresh_right → w.holds ≡ false
       → HasPassedOne old new u v w
@@ -188,9 +198,9 @@ module _ {x : Stretch} {u : Until} {written : List Verdict} {s : Sweep} {r : Rea
           by_order (inl before) = (
             record { read = ends (interval w.on); left = r.left; right = ends (interval w.on) },
             turned m.told
-                (fails_to (ends (interval w.on)) failing before (λ t h. upto_of_before (ends (interval w.on)) (ends
+                (fails_to (ends (interval w.on)) (failing_to (ends (interval w.on)) failing (λ t h. h)) before (λ t h. upto_of_before (ends (interval w.on)) (ends
                 (interval v.on)) t sooner h) (λ t h. h))
-                (placed_right m apart kept_left kept_right (ends (interval w.on)) first_left first_right passed
+                (placed_right m apart kept_left kept_right (place s.out.at) (ends (interval w.on)) first_left first_right passed
                 (λ t h. upto_of_before r.read (ends (interval w.on)) t before h) (λ t h. h) (λ t a b. b) sooner),
           )
           by_order (inr (inl (same, flag))) = stale (λ t h. upto_same (ends (interval w.on)) r.read t (same_sym same, sym flag) h)
@@ -200,8 +210,9 @@ module _ {x : Stretch} {u : Until} {written : List Verdict} {s : Sweep} {r : Rea
           → (r' : Reads) × IsTurned x u written s r' (fresh_at new u.window.of) (fresh_at new u.right)
       by_left passed sooner = (
         record { read = ends (interval v.on); left = ends (interval v.on); right = r.right },
-        turned m.told (fails_to (ends (interval v.on)) failing (m.ahead v first_left) (λ t h. h) sooner)
-            (placed_left m apart kept_left kept_right (ends (interval v.on)) first_left passed (λ t h. h) (λ t h. h)),
+        turned m.told
+            (fails_to (ends (interval v.on)) (failing_to (ends (interval v.on)) failing sooner) (m.ahead v first_left) (λ t h. h) sooner)
+            (placed_left m apart kept_left kept_right (place s.out.at) (ends (interval v.on)) first_left passed (λ t a. a) (λ t h. h) (λ t h. h)),
       )
 
 -- the earlier of two ends, by the cuts that stand for them
@@ -250,9 +261,38 @@ module _ {x : Stretch} {u : Until} {written : List Verdict} {s : Sweep} {r : Rea
       (after_same (begins (interval v.on)) r.left t (same_places left_begins) (after_at_most (begins (interval v.on)) begin t after_left a))
       (after_same (begins (interval w.on)) r.right t (same_places right_begins) (after_at_most (begins (interval w.on)) begin t after_right a))
 
-  -- the right input ended already, where they have no time in common
-  pub no_time_in_common : (begin_within : AtMost begin r.read) → (Before begin end → ⊥) → AtMost end r.read
-  no_time_in_common begin_within none t h = begin_within t (at_most_of_not_before end begin none t h)
+  -- where they have no time in common, and the right verdict ends first, it ended already
+  pub right_ended : (AtMost begin (begins (interval v.on))) ⊎ (AtMost begin (begins (interval w.on))) → (Before begin end → ⊥)
+      → AtMost (ends (interval w.on)) end → AtMost (ends (interval w.on)) r.read
+  right_ended (inl left) none sooner t h =
+      m.left_behind t (upto_same (begins (interval v.on)) r.left t (same_places left_begins)
+      (left t (at_most_of_not_before end begin none t (sooner t h))))
+  right_ended (inr right) none sooner t h =
+      let some = goes_on_from (Counted true x.q x.tr) r.right x.stop_right fresh_right w m.right_tells first_right in
+      let y = between r.right (ends (interval w.on)) some in
+      absurd (not_both r.right y.0 (upto_same (begins (interval w.on)) r.right y.0 (same_places right_begins)
+      (right y.0 (at_most_of_not_before end begin none y.0 (sooner y.0 y.2)))) y.1)
+
+  -- and where the left one ends first, no window to come meets what is left of it
+  pub left_misses : (AtMost begin (begins (interval v.on))) ⊎ (AtMost begin (begins (interval w.on))) → (Before begin end → ⊥)
+      → AtMost (ends (interval v.on)) end
+      → FailsFor (Counted true x.q x.tr) (low_place u.window) (place s.out.at) r.read (ends (interval v.on))
+  left_misses (inl left) none sooner t y a lo after upto q =
+      not_both r.read y (m.left_behind y (upto_same (begins (interval v.on)) r.left y (same_places left_begins)
+      (left y (at_most_of_not_before end begin none y (sooner y upto))))) after
+  left_misses (inr right) none sooner t y a lo after upto q =
+      not_both r.right y (upto_same (begins (interval w.on)) r.right y (same_places right_begins)
+      (right y (at_most_of_not_before end begin none y (sooner y upto))))
+      (right-read of m apart first_left first_right left_holding t y a lo after)
+
+  -- what a window to come meets of what is known of neither comes after their common begin
+  pub begin_known : (AtMost begin (begins (interval v.on))) ⊎ (AtMost begin (begins (interval w.on)))
+      → (t y : Rational) → After (place s.out.at) t → After (low_place u.window t) y → After r.read y → After begin y
+  begin_known (inl left) t y a lo after =
+      after_at_most begin r.read y (λ z h. m.left_behind z (upto_same (begins (interval v.on)) r.left z (same_places left_begins) (left z h))) after
+  begin_known (inr right) t y a lo after =
+      after_at_most begin r.right y (λ z h. upto_same (begins (interval w.on)) r.right z (same_places right_begins) (right z h))
+      (right-read of m apart first_left first_right left_holding t y a lo after)
 
   pub common_counts : (next : Sweep) (from : Place) → Before begin end → MeetsAfter (high_place u.window) begin from
       → MeetsUpto (low_place u.window) end (place next.reach)
@@ -265,17 +305,20 @@ module _ {x : Stretch} {u : Until} {written : List Verdict} {s : Sweep} {r : Rea
       (right_end of m apart first_left first_right left_holding t (earlier.in_right t h)) in
       let p : AllAre true (Truth x.p x.tr) r.read end = holds_to of m apart first_left first_right left_holding end earlier.in_left in
       let q : AllAre true (Counted true x.q x.tr) begin end =
-      λ t a h. subst (λ b. AllAre b (Counted true x.q x.tr) r.read end) right_holding
-      (right-is of m apart first_left first_right left_holding end earlier.in_right) t (unread t a) h in
+      λ t a h. subst (λ b. AllAre b (Counted true x.q x.tr) r.right (ends (interval w.on))) right_holding
+      (right-is of m apart first_left first_right left_holding) t
+      (after_same (begins (interval w.on)) r.right t (same_places right_begins) (after_at_most (begins (interval w.on)) begin t after_right a))
+      (earlier.in_right t h) in
       knows_both (place s.out.at) (place next.out.at) (place s.reach) r.read r.read begin end from (place next.reach) end end x.stop m.knows
       of.looks.ahead of.some some unread p q meets_from meets_to later p (λ t a. (a, a)) within (λ t a h. absurd (not_both end t h a))
 
   -- up to where that counts the node fails, beyond what was found
-  pub not_yet_common : (from : Place) → AtMost begin r.read → MeetsAfter (high_place u.window) begin from
+  pub not_yet_common : (from : Place) → (AtMost begin (begins (interval v.on))) ⊎ (AtMost begin (begins (interval w.on)))
+      → MeetsAfter (high_place u.window) begin from
       → (t : Rational) → After (place s.out.at) t → After (place s.reach) t → Upto from t → ¬ Truth x.n x.tr t
-  not_yet_common from begin_within meets =
+  not_yet_common from one meets =
       not_yet of.looks (place s.out.at) (place s.reach) r.read r.read begin from (turned-remembers of m) meets
-      (λ t a b. after_at_most begin r.read t begin_within a)
+      (λ t y a lo b c. begin_known one t y a lo b)
 
 -- where the one input has no verdict that was not read, the rest of the stretch is settled
 pub left_out_settles : {e : Held} {u : Until} {s : Sweep} → fresh_at e u.window.of ≡ [] → HasSettled e e u s
@@ -284,8 +327,11 @@ left_out_settles {e} {u} {s} none =
       same = refl;
       settles = λ x written r of m.
           settled of.looks (place s.out.at) (place s.reach) r.read r.read (place s.out.to) (turned-remembers of m)
-          (λ t y a h. inl (m.left_behind y (upto_same x.stop_left r.left y
-          (same_places (subst (λ f. Tells (Truth x.p x.tr) r.left f x.stop_left) none m.left_tells)) (of.left_enough y (of.within t y a h)))));
+          (λ t y b lo a h. elim (of.within t y a h) [
+            | inl k ↦ inl (inl (m.left_behind y (upto_same x.stop_left r.left y
+                (same_places (subst (λ f. Tells (Truth x.p x.tr) r.left f x.stop_left) none m.left_tells)) (of.left_enough y k))))
+            | inr n ↦ inr n
+          ]);
     }
 
 pub right_out_settles : {e : Held} {u : Until} {s : Sweep} → fresh_at e u.right ≡ [] → HasSettled e e u s
@@ -294,7 +340,9 @@ right_out_settles {e} {u} {s} none =
       same = refl;
       settles = λ x written r of m.
           settled of.looks (place s.out.at) (place s.reach) r.read r.read (place s.out.to) (turned-remembers of m)
-          (λ t y a h. inr (m.right_behind y (upto_same x.stop_right r.right y
-          (same_places (subst (λ f. Tells (Counted true x.q x.tr) r.right f x.stop_right) none m.right_tells))
-          (of.right_enough y (of.within t y a h)))));
+          (λ t y b lo a h. elim (of.within t y a h) [
+            | inl k ↦ inl (inr (m.right_behind t y b lo (upto_same x.stop_right r.right y
+                (same_places (subst (λ f. Tells (Counted true x.q x.tr) r.right f x.stop_right) none m.right_tells)) (of.right_enough y k))))
+            | inr n ↦ inr n
+          ]);
     }

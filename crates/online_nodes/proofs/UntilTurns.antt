@@ -102,6 +102,7 @@ module _ {old mid : Held} {u : Until} {s : Sweep} {found out : Out} {cut : Cut} 
       record {
         more = said.answers.more;
         few = said.answers.few;
+        owed = said.answers.owed;
         worked = worked_then_pass (worked_put said.own said.left_apart said.right_apart said.answers.got) passed
             (λ same. said.left_apart (sym same)) (inl refl);
         fewer = omega (arith, ap length kept_left, ap length kept_right, passed-one passed);
@@ -136,7 +137,7 @@ module _ {old mid : Held} {u : Until} {s : Sweep} {found out : Out} {cut : Cut} 
                 left_tells = subst (λ f. Tells (Truth x.p x.tr) e f x.stop_left) (sym left_now) rest;
                 right_tells = subst (λ f. Tells (Counted true x.q x.tr) r.right f x.stop_right) (sym kept_right) m.right_tells;
                 left_behind = λ t h. h;
-                right_behind = λ t h. upto_of_before r.read e t ahead (m.right_behind t h);
+                right_behind = λ t y a lo h. upto_of_before r.read e y ahead (m.right_behind t y (later t a).0 lo h);
                 tight = λ t a b. a;
                 ahead = λ y is_first. goes_on_from (Truth x.p x.tr) e x.stop_left (drop 1 (fresh_at old u.window.of)) y rest
                     (ap (λ f. slice_get f 0) (sym left_now) ∙ is_first);

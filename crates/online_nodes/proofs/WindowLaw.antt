@@ -1,5 +1,5 @@
 -- A window's truth by what was read of its input.
-use Rattle.std.proofs.Common.{inl, inr, Bool, not}
+use Rattle.std.proofs.Common.{◌⊎◌, inl, inr, Bool, not}
 use Rattle.rational.specs.Rational.{Rational}
 use Rattle.online_nodes.specs.Cuts.{Place, After, Upto, Before}
 use Rattle.online_nodes.specs.Reading.{Truths, Is, AllAre, Looks, Remembers, Knows, MeetsAfter, MeetsUpto}
@@ -47,11 +47,13 @@ module _ {seeks : Bool} {N P : Truths} {low high : Rational → Place} where
         | inr h ↦ elim h [ inl s ↦ after_same (low t) e u s lo | inr h ↦ after_of_before e (low t) u h lo ]
       ]
 
-  -- once all is read that the windows up to `to` meet
-  pub settled : (at reach read to : Place) (t : Rational) → ((t u : Rational) → Upto to t → Upto (high t) u → Upto read u)
+  -- once all is read that the windows up to `to` meet, but for what is not sought
+  pub settled : (at reach read to : Place) (t : Rational)
+      → ((t u : Rational) → Upto to t → Upto (high t) u → Upto read u ⊎ Is (not seeks) P u)
       → Remembers seeks N P low high at reach read
       → After at t → After reach t → Upto to t → Is (not seeks) N t
-  settled at reach read to t all m a r k = m.rest t a r (λ u lo hi after. absurd (not_both read u (all t u k hi) after))
+  settled at reach read to t all m a r k = m.rest t a r
+      (λ u lo hi after. elim (all t u k hi) [ inl h ↦ absurd (not_both read u h after) | inr h ↦ h ])
 
 module _ {seeks : Bool} {P : Truths} {low high : Rational → Place} where
   -- in a trace in which the node looks through the window at its input, it remembers what it knows

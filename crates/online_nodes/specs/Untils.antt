@@ -1,4 +1,4 @@
--- How until goes through its two inputs. Both are read up to one place: where the verdict ends that was passed last.
+-- How until goes through its two inputs. Both are known up to one place: where the verdict ends that was passed last.
 use Rattle.std.specs.Prelude.{◌≡◌, ◌+◌, ◌*◌, ◌≤◌, ◌<◌, true, List, ◌++◌, ◌⊎◌, length, Some, slice_get}
 use Rattle.rational.specs.Rational.{Rational}
 use Rattle.frac128.specs.Spans.{interval}
@@ -9,7 +9,7 @@ use Rattle.stl_syntax.specs.declared.items.Verdict.{Verdict}
 use Rattle.online_nodes.specs.Cuts.{Place, place, ends, After, Upto, AtMost, Before}
 use Rattle.online_nodes.specs.Held.{Held, fresh_at}
 use Rattle.online_nodes.specs.Reading.{Tells, IsUntilOf, KnowsUntil}
-use Rattle.online_nodes.specs.Written.{HasTold, IsSound}
+use Rattle.online_nodes.specs.Written.{HasTold, IsSound, waiting}
 use Rattle.online_nodes.specs.Working.{HasPassed, HasWorked}
 use Rattle.online_nodes.specs.Sweeps.{Counted, low_place, high_place}
 use Rattle.online_nodes.specs.declared.window.Sweep.{Sweep}
@@ -32,11 +32,11 @@ pub record Reads : Type 0 where
   pub left : Place
   pub right : Place
 
--- n is p until q by this window, and up to `to` all that counts lies within what both inputs are answered
+-- n is p until q by this window, and up to `to` all that counts lies within what both inputs are answered, or beyond that nothing counts
 pub record IsUntil (x : Stretch) (u : Until) (to : Place) : Type 0 where
   pub looks : IsUntilOf (Truth x.n x.tr) (Truth x.p x.tr) (Counted true x.q x.tr) (low_place u.window) (high_place u.window)
   pub some : (t : Rational) → Before (low_place u.window t) (high_place u.window t)
-  pub within : (t v : Rational) → Upto to t → Upto (high_place u.window t) v → Upto x.stop v
+  pub within : (t v : Rational) → Upto to t → Upto (high_place u.window t) v → Upto x.stop v ⊎ ¬ Counted true x.q x.tr v
   pub inside : AtMost to x.stop
   pub both : (t : Rational) → Upto x.stop_left t → Upto x.stop_right t → Upto x.stop t
   pub left_enough : AtMost x.stop x.stop_left
@@ -50,7 +50,8 @@ pub record IsTurned (x : Stretch) (u : Until) (written : List Verdict) (s : Swee
   pub left_tells : Tells (Truth x.p x.tr) r.left fresh_left x.stop_left
   pub right_tells : Tells (Counted true x.q x.tr) r.right fresh_right x.stop_right
   pub left_behind : AtMost r.left r.read
-  pub right_behind : AtMost r.right r.read
+  -- of the right input more may be gone, which no window to come meets
+  pub right_behind : (t v : Rational) → After (place s.out.at) t → After (low_place u.window t) v → Upto r.right v → Upto r.read v
   -- it was read no further than to where the one or the other begins
   pub tight : (t : Rational) → After r.left t → After r.right t → After r.read t
   -- the left input's next verdict goes on from there
@@ -70,6 +71,7 @@ pub record HasSettled (old new : Held) (u : Until) (s : Sweep) : Type 0 where
 pub record HasTurned (old new : Held) (u : Until) (s next : Sweep) : Type 0 where
   pub more : List Verdict
   pub few : length more ≤ 2
+  pub owed : length more + waiting next.out.holds ≤ 2 + waiting s.out.holds
   pub worked : HasWorked old new s.out.edge u.window.of u.right more
   pub fewer : length (fresh_at new u.window.of) + length (fresh_at new u.right)
       < length (fresh_at old u.window.of) + length (fresh_at old u.right)
@@ -90,6 +92,7 @@ pub record HasPassedOne (old new : Held) (u : Until) (v w : Verdict) : Type 0 wh
 pub record HasUntilEnded (old new : Held) (u : Until) (s end : Sweep) : Type 0 where
   pub more : List Verdict
   pub few : length more ≤ 2
+  pub owed : length more + waiting end.out.holds ≤ 2 + waiting s.out.holds
   pub worked : HasWorked old new s.out.edge u.window.of u.right more
   pub edge : end.out.edge ≡ s.out.edge
   pub to : end.out.to ≡ s.out.to
@@ -104,6 +107,8 @@ pub record HasUntilEnded (old new : Held) (u : Until) (s end : Sweep) : Type 0 w
 pub record HasUntilTold (old new : Held) (u : Until) (s end : Sweep) : Type 0 where
   pub more : List Verdict
   pub few : length more ≤ 2 * (length (fresh_at old u.window.of) + length (fresh_at old u.right)) + 2
+  pub owed : length more + waiting end.out.holds
+      ≤ 2 * (length (fresh_at old u.window.of) + length (fresh_at old u.right)) + 2 + waiting s.out.holds
   pub worked : HasWorked old new s.out.edge u.window.of u.right more
   pub edge : end.out.edge ≡ s.out.edge
   pub to : end.out.to ≡ s.out.to

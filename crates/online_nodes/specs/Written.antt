@@ -6,6 +6,7 @@ use Rattle.std.specs.Prelude.{
   ◌≤◌,
   ℕ,
   Bool,
+  not,
   Option,
   Some,
   None,
@@ -24,7 +25,7 @@ use Rattle.stl_syntax.specs.Truth.{Truth}
 use Rattle.stl_syntax.specs.Verdicts.{Describes}
 use Rattle.stl_syntax.specs.declared.items.Verdict.{Verdict}
 use Rattle.online_nodes.specs.Cuts.{Place, place, begins, ends, After, Upto, AtMost, Before, Same}
-use Rattle.online_nodes.specs.Reading.{AllAre}
+use Rattle.online_nodes.specs.Reading.{AllAre, Is}
 use Rattle.online_nodes.specs.Held.{Held, edge_at, with_edge, with_more}
 use Rattle.online_nodes.specs.declared.cut.Cut.{Cut}
 use Rattle.online_nodes.specs.declared.writer.Out.{Out}
@@ -36,6 +37,11 @@ Lead n tr c before (v ∷ vs) d last =
     Same c (begins (interval v.on)) × Before (begins (interval v.on)) (ends (interval v.on)) × (before ≢ Some v.holds)
     × AllAre v.holds (Truth n tr) (begins (interval v.on)) (ends (interval v.on))
     × Lead n tr (ends (interval v.on)) (Some v.holds) vs d last
+
+-- how many spans wait to be put
+abbrev pub waiting : Option Bool → ℕ
+waiting None = 0
+waiting (Some h) = 1
 
 -- the span that is not written yet
 abbrev pub IsPending : Subformula → Trace → Out → Option Bool → Type 0
@@ -72,6 +78,7 @@ pub record IsPutBack (old new : Held) (out : Out) (holds : Bool) : Type 0 where
 pub record HasAnswer (old new : Held) (before : Out) (holds : Bool) (after : Out) : Type 0 where
   pub more : List Verdict
   pub few : length more ≤ 1
+  pub owed : length more + waiting after.holds ≤ 1 + waiting before.holds
   pub got : HasGot old new before.edge more
   pub edge : after.edge ≡ before.edge
   pub end : after.to ≡ before.to
@@ -91,11 +98,31 @@ pub record Reaches (before : Out) (cut : Cut) (after : Out) : Type 0 where
   pub reached : (t : Rational) → Upto (place cut) t → Upto (place before.to) t → Upto (place after.at) t
   pub no_more : (t : Rational) → After (place before.at) t → Upto (place after.at) t → Upto (place cut) t
 
+-- one verdict was said up to the place `middle` and the other one from there up to the place `cut`, within the stretch: where that is the
+-- truth, so is all that is told now
+pub record HasSaidBoth (old new : Held) (before : Out) (holds : Bool) (middle cut : Cut) (after : Out) : Type 0 where
+  pub more : List Verdict
+  pub few : length more ≤ 2
+  pub owed : length more + waiting after.holds ≤ 2 + waiting before.holds
+  pub got : HasGot old new before.edge more
+  pub edge : after.edge ≡ before.edge
+  pub end : after.to ≡ before.to
+  pub sound : IsSound after
+  pub inside : AtMost (place after.at) (place before.to)
+  pub forward : AtMost (place before.at) (place after.at)
+  pub reached : (t : Rational) → Upto (place cut) t → Upto (place before.to) t → Upto (place after.at) t
+  pub told : (n : Subformula) (tr : Trace) (begin : Place) (written : List Verdict) → HasTold n tr begin written before
+      → ((t : Rational) → After (place before.at) t → Upto (place before.to) t → Upto (place middle) t → Is holds (Truth n tr) t)
+      → ((t : Rational) → After (place before.at) t → Upto (place before.to) t → After (place middle) t → Upto (place cut) t
+      → Is (not holds) (Truth n tr) t)
+      → HasTold n tr begin (written ++ more) after
+
 -- all was put that was told: where the writer came to the end of a stretch and what it told from the begin on is the truth, the list
 -- describes the node there
 pub record HasFinished (old new : Held) (out : Out) : Type 0 where
   pub more : List Verdict
   pub few : length more ≤ 1
+  pub owed : length more ≤ waiting out.holds
   pub got : HasGot old new out.edge more
   pub told : (n : Subformula) (tr : Trace) (begin : Place) (written : List Verdict) → HasTold n tr begin written out
       → (last : Option Bool) × Lead n tr begin None (written ++ more) (place out.at) last

@@ -1,8 +1,9 @@
-//! Streaming operators: places between times, the edges of a network, the writer of a node's verdicts, the bodies of constants,
-//! connectives, bounded windows and until, and the laws on which operators rest. In work: windows with no bound, since, and the
-//! operators themselves come on top.
+//! Streaming operators: places between times, the edges of a network, the writer of a node's verdicts, the bodies of all nodes with
+//! what they let go, the laws on which operators rest, and of an operator its front, whether it is ready and the room that a step
+//! needs. In work: the step itself.
 #![tactic(auto)]
 
+mod answering;
 mod cut;
 mod edges;
 mod join;

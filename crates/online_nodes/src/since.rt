@@ -1,10 +1,285 @@
-//! Since.
+//! Since, one verdict of its inputs at a time.
 
+ghost use Rattle.std.specs.Prelude.{◌≡◌, ◌≢◌, ◌⊎◌, ◌+◌, ◌*◌, ◌<◌, ◌≤ℤ◌, ℕ, pos, length, slice_get, true, false, IfOk, OnErr, Some};
+ghost use Rattle.std.specs.Int.{w64};
+ghost use Rattle.rational.specs.Rational.{FitsFloor, add, whole};
+ghost use Rattle.frac128.specs.Value.{value};
+ghost use Rattle.stl_syntax.specs.declared.items.Verdict.{Verdict as Told};
+ghost use Rattle.online_nodes.specs.Cuts.{place, AtMost};
+ghost use Rattle.online_nodes.specs.Held.{fresh_at};
+ghost use Rattle.online_nodes.specs.Written.{IsSound};
+ghost use Rattle.online_nodes.specs.Sinces.{CanMove, CanMoveRun, IsBackward, HasGoneOn, HasPassedFirst, HasRested, HasSinceTold, IsTurn};
+
+use crate::cut::Cut;
+use crate::edges::Edges;
 use crate::window::Window;
+use crate::writer::Out;
+use frac128::Memory;
+use stl_syntax::Verdict;
 
 /// Since by its right input's window, whose `of` is the left input, and the right input.
 #[derive(Clone, Copy, Debug)]
 pub(crate) struct Since {
     pub(crate) window: Window,
     pub(crate) right: u32,
+}
+
+/// What was written of a stretch, up to where what was found counts, and where the left input's run began.
+#[derive(Clone, Copy, Debug)]
+pub(crate) struct Course {
+    pub(crate) out: Out,
+    pub(crate) reach: Cut,
+    pub(crate) run: Cut,
+}
+
+/// One turn: a verdict was read, or the stretch is told to its end.
+#[derive(Clone, Copy, Debug)]
+enum Turn {
+    More(Course),
+    Done(Course),
+}
+
+/// Tells the rest of the stretch, through which the left input holds: beyond what was found nothing counts in it.
+fn rest(edges: &mut Edges, course: Course) -> Result<Course, Memory>
+    requires own { course.out.edge < length edges.old.edges }
+    requires sound { IsSound course.out }
+    requires inside { AtMost (place course.out.at) (place course.out.to) }
+    ensures rested { IfOk result (λ end. HasRested edges.old edges.new course end) }
+    ensures memory { OnErr result (edges.old.spare < 2) }
+{
+    let out = course
+        .out
+        .turn(edges, true, course.reach, course.out.end())?;
+    Ok(Course {
+        out,
+        reach: course.reach,
+        run: course.run,
+    })
+}
+
+/// The left input holds next: it is read, and up to where its verdict ends only what was found counts.
+fn go_on(edges: &mut Edges, since: Since, course: Course, v: Verdict) -> Result<Turn, Memory>
+    requires left { since.window.of < length edges.old.edges }
+    requires own { course.out.edge < length edges.old.edges }
+    requires left_apart { since.window.of ≢ course.out.edge }
+    requires sound { IsSound course.out }
+    requires inside { AtMost (place course.out.at) (place course.out.to) }
+    requires first { slice_get (fresh_at edges.old since.window.of) 0 ≡ Some v }
+    ensures gone { IfOk result (λ turn. HasGoneOn edges.old edges.new since course v turn) }
+    ensures memory { OnErr result (edges.old.spare < 2) }
+{
+    let end = Cut::end(&v);
+    if course.out.end().precedes(&end) {
+        let done = rest(edges, course)?;
+        return Ok(Turn::Done(done));
+    }
+    let held = course.reach.earlier(end);
+    let out = course.out.turn(edges, true, held, end)?;
+    let _ = edges.pass(since.window.of);
+    Ok(Turn::More(Course {
+        out,
+        reach: course.reach,
+        run: course.run,
+    }))
+}
+
+/// The left input fails next: its run ends, and with it all that was found.
+fn end_run(edges: &mut Edges, since: Since, course: Course, v: Verdict) -> Result<Turn, Memory>
+    requires left { since.window.of < length edges.old.edges }
+    requires right { since.right < length edges.old.edges }
+    requires own { course.out.edge < length edges.old.edges }
+    requires left_apart { since.window.of ≢ course.out.edge }
+    requires right_apart { since.right ≢ course.out.edge }
+    requires apart { since.window.of ≢ since.right }
+    requires sound { IsSound course.out }
+    requires inside { AtMost (place course.out.at) (place course.out.to) }
+    requires back { IsBackward since.window }
+    requires first { slice_get (fresh_at edges.old since.window.of) 0 ≡ Some v }
+    requires fails { v.holds ≡ false }
+    requires fits_left { CanMove since.window v }
+    requires fits_run { CanMoveRun since.window course }
+    ensures turned { IfOk result (λ turn. IsTurn edges.old edges.new since course turn) }
+    ensures memory { OnErr result (edges.old.spare < 2) }
+{
+    let end = Cut::end(&v);
+    let begin = Cut::begin(&v);
+    let held = course.reach.earlier(begin);
+    let to = course.out.end();
+    if to.precedes(&end) {
+        let out = course.out.turn(edges, true, held, to)?;
+        if !begin.precedes(&to) || !course.run.precedes(&to) {
+            return Ok(Turn::Done(Course {
+                out,
+                reach: course.reach,
+                run: course.run,
+            }));
+        }
+        return Ok(Turn::Done(Course {
+            out,
+            reach: to,
+            run: to,
+        }));
+    }
+    let out = course.out.turn(edges, true, held, end)?;
+    let _ = edges.pass(since.window.of);
+    Ok(Turn::More(Course {
+        out,
+        reach: end,
+        run: end,
+    }))
+}
+
+/// What was found counts from now on. Of both inputs' next verdicts the one that ends first is read, the right one's time moved by
+/// the window; where both reach beyond the stretch it is told to its end.
+fn pass_first(
+    edges: &mut Edges,
+    since: Since,
+    course: Course,
+    v: Verdict,
+    w: Verdict,
+) -> Result<Turn, Memory>
+    requires left { since.window.of < length edges.old.edges }
+    requires right { since.right < length edges.old.edges }
+    requires own { course.out.edge < length edges.old.edges }
+    requires sound { IsSound course.out }
+    requires inside { AtMost (place course.out.at) (place course.out.to) }
+    requires first_left { slice_get (fresh_at edges.old since.window.of) 0 ≡ Some v }
+    requires first_right { slice_get (fresh_at edges.old since.right) 0 ≡ Some w }
+    requires fits_right { CanMove since.window w }
+    ensures passed { IfOk result (λ turn. HasPassedFirst edges.old edges.new since course v w turn) }
+    ensures memory { OnErr result (edges.old.spare < 2) }
+{
+    let end = Cut::end(&v);
+    let last = Cut::end(&w).shift_begin(since.window.begin_by, since.window.begin_in);
+    if !end.precedes(&last) {
+        let _ = edges.pass(since.right);
+        return Ok(Turn::More(course));
+    }
+    if course.out.end().precedes(&end) {
+        let done = rest(edges, course)?;
+        return Ok(Turn::Done(done));
+    }
+    let _ = edges.pass(since.window.of);
+    Ok(Turn::More(course))
+}
+
+/// Both inputs hold next: what the right one tells within the left one's run counts, from the time moved by the window on.
+fn count(
+    edges: &mut Edges,
+    since: Since,
+    course: Course,
+    v: Verdict,
+    w: Verdict,
+) -> Result<Turn, Memory>
+    requires left { since.window.of < length edges.old.edges }
+    requires right { since.right < length edges.old.edges }
+    requires own { course.out.edge < length edges.old.edges }
+    requires left_apart { since.window.of ≢ course.out.edge }
+    requires right_apart { since.right ≢ course.out.edge }
+    requires apart { since.window.of ≢ since.right }
+    requires sound { IsSound course.out }
+    requires inside { AtMost (place course.out.at) (place course.out.to) }
+    requires back { IsBackward since.window }
+    requires first_left { slice_get (fresh_at edges.old since.window.of) 0 ≡ Some v }
+    requires first_right { slice_get (fresh_at edges.old since.right) 0 ≡ Some w }
+    requires left_holds { v.holds ≡ true }
+    requires right_holds { w.holds ≡ true }
+    requires fits_right { CanMove since.window w }
+    requires fits_run { CanMoveRun since.window course }
+    ensures turned { IfOk result (λ turn. IsTurn edges.old edges.new since course turn) }
+    ensures memory { OnErr result (edges.old.spare < 4) }
+{
+    let w_end = Cut::end(&w);
+    let from = Cut::begin(&w).later(course.run);
+    if !from.precedes(&w_end) {
+        let _ = edges.pass(since.right);
+        return Ok(Turn::More(course));
+    }
+    let v_end = Cut::end(&v);
+    let begin = from.shift_begin(since.window.begin_by, since.window.begin_in);
+    if !begin.precedes(&v_end) {
+        let turn = go_on(edges, since, course, v)?;
+        return Ok(turn);
+    }
+    if course.out.end().precedes(&begin) {
+        let done = rest(edges, course)?;
+        return Ok(Turn::Done(done));
+    }
+    let out = course
+        .out
+        .turn(edges, true, course.reach.earlier(v_end), begin)?;
+    let reach = course
+        .reach
+        .later(w_end.shift_end(since.window.end_by, since.window.end_in));
+    let run = course.run;
+    let turn = pass_first(edges, since, Course { out, reach, run }, v, w)?;
+    Ok(turn)
+}
+
+/// Reads the next verdict of one of the inputs, or tells the stretch to its end where that needs no more.
+fn read_since(edges: &mut Edges, since: Since, course: Course) -> Result<Turn, Memory>
+    requires left { since.window.of < length edges.old.edges }
+    requires right { since.right < length edges.old.edges }
+    requires own { course.out.edge < length edges.old.edges }
+    requires left_apart { since.window.of ≢ course.out.edge }
+    requires right_apart { since.right ≢ course.out.edge }
+    requires apart { since.window.of ≢ since.right }
+    requires sound { IsSound course.out }
+    requires inside { AtMost (place course.out.at) (place course.out.to) }
+    requires back { IsBackward since.window }
+    requires fits_left { (v : Told) → slice_get (fresh_at edges.old since.window.of) 0 ≡ Some v → CanMove since.window v }
+    requires fits_right { (v : Told) → slice_get (fresh_at edges.old since.right) 0 ≡ Some v → CanMove since.window v }
+    requires fits_run { CanMoveRun since.window course }
+    ensures turned { IfOk result (λ turn. IsTurn edges.old edges.new since course turn) }
+    ensures memory { OnErr result (edges.old.spare < 2 + length (fresh_at edges.old since.window.of) + length (fresh_at edges.old since.right)) }
+{
+    let Some(v) = edges.next(since.window.of) else {
+        let done = rest(edges, course)?;
+        return Ok(Turn::Done(done));
+    };
+    if !v.holds {
+        let turn = end_run(edges, since, course, v)?;
+        return Ok(turn);
+    }
+    let Some(w) = edges.next(since.right) else {
+        let turn = go_on(edges, since, course, v)?;
+        return Ok(turn);
+    };
+    if !w.holds {
+        let _ = edges.pass(since.right);
+        return Ok(Turn::More(course));
+    }
+    let turn = count(edges, since, course, v, w)?;
+    Ok(turn)
+}
+
+/// Takes all that both inputs have ready, and tells the stretch to its end.
+///
+/// # Errors
+///
+/// `Memory` where there is no memory, which never comes with a spare of twice the verdicts that were not read, plus 2.
+pub(crate) fn since_on(edges: &mut Edges, since: Since, course: Course) -> Result<Course, Memory>
+    requires left { since.window.of < length edges.old.edges }
+    requires right { since.right < length edges.old.edges }
+    requires own { course.out.edge < length edges.old.edges }
+    requires left_apart { since.window.of ≢ course.out.edge }
+    requires right_apart { since.right ≢ course.out.edge }
+    requires apart { since.window.of ≢ since.right }
+    requires sound { IsSound course.out }
+    requires inside { AtMost (place course.out.at) (place course.out.to) }
+    requires back { IsBackward since.window }
+    requires fits_left { (k : ℕ) (v : Told) → slice_get (fresh_at edges.old since.window.of) k ≡ Some v → CanMove since.window v }
+    requires fits_right { (k : ℕ) (v : Told) → slice_get (fresh_at edges.old since.right) k ≡ Some v → CanMove since.window v }
+    requires fits_run { CanMoveRun since.window course }
+    ensures told { IfOk result (λ end. HasSinceTold edges.old edges.new since course end) }
+    ensures memory { OnErr result (edges.old.spare
+        < 2 * (length (fresh_at edges.old since.window.of) + length (fresh_at edges.old since.right)) + 2) }
+{
+    let mut here = course;
+    loop {
+        match read_since(edges, since, here)? {
+            Turn::More(next) => here = next,
+            Turn::Done(end) => return Ok(end),
+        }
+    }
 }

@@ -3,7 +3,7 @@
 ghost use Rattle.std.specs.Prelude.{◌≡◌, ◌<◌, length, IfOk, OnOk, OnErr, None};
 ghost use Rattle.frac128.specs.Spans.{interval};
 ghost use Rattle.online_nodes.specs.Cuts.{place, AtMost, Before, Same, begins, ends};
-ghost use Rattle.online_nodes.specs.Written.{HasAnswer, HasFinished, HasWritten, IsSound, IsPutBack, Reaches};
+ghost use Rattle.online_nodes.specs.Written.{HasAnswer, HasFinished, HasSaidBoth, HasWritten, IsSound, IsPutBack, Reaches, waiting};
 
 use crate::cut::Cut;
 use crate::edges::Edges;
@@ -124,6 +124,29 @@ impl Out {
         Ok(out)
     }
 
+    /// One verdict up to a place, and the other one from there up to a later place, each as far as `upto` says it.
+    ///
+    /// # Errors
+    ///
+    /// `Memory` where there is no memory, which never comes with a spare of 2.
+    pub(crate) fn turn(
+        self,
+        edges: &mut Edges,
+        holds: bool,
+        middle: Cut,
+        cut: Cut,
+    ) -> Result<Out, Memory>
+        requires edge { self.edge < length edges.old.edges }
+        requires inside { AtMost (place self.at) (place self.to) }
+        requires sound { IsSound self }
+        ensures said { IfOk result (λ out. HasSaidBoth edges.old edges.new self holds middle cut out) }
+        ensures memory { OnErr result (edges.old.spare < 2) }
+    {
+        let first = self.upto(edges, holds, middle)?;
+        let second = first.upto(edges, !holds, cut)?;
+        Ok(second)
+    }
+
     /// Puts the last span.
     ///
     /// # Errors
@@ -133,6 +156,7 @@ impl Out {
         requires edge { self.edge < length edges.old.edges }
         requires sound { IsSound self }
         ensures finished { OnOk result (HasFinished edges.old edges.new self) }
+        ensures waits { OnErr result (waiting self.holds ≡ 1) }
         ensures memory { OnErr result (edges.old.spare ≡ 0) }
     {
         let Some(holds) = self.holds else {

@@ -3,7 +3,7 @@ use Rattle.std.proofs.Common.{◌≡◌, ◌≢◌, ℕ, zero, suc, ◌+◌, ◌
 use Rattle.std.specs.Prelude.{slice_get}
 use Rattle.std.proofs.lemmas.Bool.{true≢false}
 use Rattle.rational.specs.Time.{Rational, ◌<ʳ◌, ◌≈◌, HasTimeBetween, Precedes, closed}
-use Rattle.rational.specs.Extended.{Affine, value_at, ◌≈ᵉ◌}
+use Rattle.rational.specs.Extended.{value_at, ◌≈ᵉ◌}
 use Rattle.rational.specs.Affine.{level}
 use Rattle.rational.proofs.Order.{lt_of_le_of_lt, lt_trans, le_refl, same_refl, same_of_le}
 use Rattle.rational.proofs.TimeLemmas.{precedes_of_room, room_of_precedes}
@@ -141,15 +141,15 @@ module _ (knots : List (Knot Truth)) where
       let there : time s.last ≡ value at = sym (e ∙ stop_at truth_shape knots i s.last s.is (no_knot_at knots (i + 1) h)) in
       room_of_precedes (o.from_in && true) (value o.from) (value at) (subst (λ now. Precedes (o.from_in && true) (value o.from) now) there s.spelled.begun)
 
-  -- from each knot the verdicts can be told to the end
+  -- from each knot the verdicts can be told to the end, the last one apart
   pub told_to_end : (left i : ℕ) (verdicts : List Verdict) (o : OpenSpan) → IsSignal truth_shape knots → i + suc left ≡ length knots → IsSpelledTo i verdicts o
-      → (later : List Verdict) × DescribesFunction (IsWorth truth_shape knots) (verdicts ++ later) (closed (start knots) (stop knots))
+      → (later : List Verdict) × (end : Verdict) × DescribesFunction (IsWorth truth_shape knots) (verdicts ++ (later ++ end ∷ [])) (closed (start knots) (stop knots))
   told_to_end zero i verdicts o signal count s =
       let at = s.last.time in
       let there : value at ≡ stop knots = sym (stop_at truth_shape knots i s.last s.is (no_knot_at knots (i + 1) (omega arith))) in
       let room = stop_room i verdicts o at (omega arith) s there in
       let w : Verdict = record { on = record { from = o.from; from_in = o.from_in; to = at; to_in = true; not_empty = room }; holds = o.holds } in
-      (w ∷ [], spelled_stop i verdicts o w at (omega arith) s there (record { from = refl; from_in = refl; to = refl; to_in = refl; holds = refl }))
+      ([], w, spelled_stop i verdicts o w at (omega arith) s there (record { from = refl; from_in = refl; to = refl; to_in = refl; holds = refl }))
   told_to_end (suc left) i verdicts o signal count s =
       let n = knot_at knots (i + 1) (omega arith) in
       let k = s.last in
@@ -159,11 +159,11 @@ module _ (knots : List (Knot Truth)) where
       (room_after_gap o gap.new k.time n.0.time k.after.holds gap.ended room (next_rises truth_shape knots i k n.0 signal.each s.is n.1) gap.goes) in
       let more = told_to_end left (i + 1) ((verdicts ++ listed gap.ended) ++ listed point.ended) point.new signal (omega arith)
       (spelled_advance i verdicts o point.new k n.0 gap.ended point.ended signal s.is n.1 (record { inside = gap.new; gap = gap.goes; point = point.goes }) s) in
-      ((listed gap.ended ++ listed point.ended) ++ more.0, regroup verdicts (listed gap.ended) (listed point.ended) more.0 more.1)
+      ((listed gap.ended ++ listed point.ended) ++ more.0, more.1, regroup verdicts (listed gap.ended) (listed point.ended) more.0 (more.1 ∷ []) more.2)
     where
-      together : (a b c d : List Verdict) → ((a ++ b) ++ c) ++ d ≡ a ++ ((b ++ c) ++ d)
-      together a b c d = simp append_assoc
+      together : (a b c d e : List Verdict) → ((a ++ b) ++ c) ++ (d ++ e) ≡ a ++ (((b ++ c) ++ d) ++ e)
+      together a b c d e = simp append_assoc
 
-      regroup : (a b c d : List Verdict) → DescribesFunction (IsWorth truth_shape knots) (((a ++ b) ++ c) ++ d) (closed (start knots) (stop knots))
-          → DescribesFunction (IsWorth truth_shape knots) (a ++ ((b ++ c) ++ d)) (closed (start knots) (stop knots))
-      regroup a b c d h = subst (λ ws. DescribesFunction (IsWorth truth_shape knots) ws (closed (start knots) (stop knots))) (together a b c d) h
+      regroup : (a b c d e : List Verdict) → DescribesFunction (IsWorth truth_shape knots) (((a ++ b) ++ c) ++ (d ++ e)) (closed (start knots) (stop knots))
+          → DescribesFunction (IsWorth truth_shape knots) (a ++ (((b ++ c) ++ d) ++ e)) (closed (start knots) (stop knots))
+      regroup a b c d e h = subst (λ ws. DescribesFunction (IsWorth truth_shape knots) ws (closed (start knots) (stop knots))) (together a b c d e) h

@@ -1,7 +1,7 @@
 -- What `check` writes in smaller ticks.
 use Rattle.std.proofs.Common.{◌^◌, refl}
 use Rattle.stl_syntax.specs.Formula.{root}
-use Rattle.report.specs.Report.{check, nodes_for}
+use Rattle.report.specs.Report.{nodes_for}
 use Rattle.report.specs.Units.{finer, CheckKeepsItsText}
 use Rattle.report.proofs.FinerTrees.{root_finer}
 use Rattle.report.proofs.FinerTruth.{some_power}

@@ -172,6 +172,13 @@ ratio_by : (num : ℤ) (den : ℕ) (p : 0 < den) (D K : ℕ) → ratio (num *ℤ
 ratio_by num den p D K =
     record { same = crossed (part_above num) (part_below num) D K den _ _ _ _ (above_of num (D * K)) (below_of num (D * K)) (above_of num D) (below_of num D) }
 
+-- a number times K
+times_part : (x y K den u v : ℕ) → u ≡ x * K → v ≡ y * K → u * den + K * y * den ≡ K * x * den + v * den
+times_part x y K den u v a b = rw (a, b) (omega arith)
+
+pub ratio_of : (num : ℤ) (den : ℕ) (p : 0 < den) (K : ℕ) → ratio (num *ℤ pos K) den p ≈ stretch K (ratio num den p)
+ratio_of num den p K = record { same = times_part (part_above num) (part_below num) K den _ _ (above_of num K) (below_of num K) }
+
 -- a number's text is that of the number in smaller ticks
 pub number_text_by : (digits k : ℕ) (t : Rational) (text : List ℕ) → IsNumberText digits t text → IsNumberText (digits + k) (stretch (10 ^ k) t) text
 number_text_by digits k t text h = record {

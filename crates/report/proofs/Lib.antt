@@ -10,6 +10,9 @@ pub mod Lines
 pub mod Advances
 mod Turns
 pub mod Growths
+pub mod ItemTexts
+pub mod JoinedLines
+pub mod WritingItems
 pub mod MarginTexts
 pub mod MarginLaw
 pub mod Stretch
@@ -23,3 +26,8 @@ pub mod FinerKnots
 pub mod FinerRobust
 pub mod FinerVerdicts
 pub mod FinerCheck
+pub mod Sequences
+pub mod StepLemmas
+pub mod TableTexts
+pub mod OneText
+pub mod StreamTexts

@@ -1,5 +1,5 @@
--- Lines of verdicts: there are some for each list, and they grow list by list.
-use Rattle.std.proofs.Common.{◌≡◌, ℕ, ℤ, pos, ◌*ℤ◌, ◌*◌, ◌^◌, ◌<◌, List, [], ◌∷◌, ◌++◌, append-nil, append_assoc, refl, sym, ap, ◌∙◌, arith, mul-pos}
+-- Verdicts one after another: there is a text for each list, and it grows list by list.
+use Rattle.std.proofs.Common.{◌≡◌, ℕ, ℤ, pos, ◌*ℤ◌, ◌*◌, ◌^◌, ◌<◌, Bool, true, false, List, [], ◌∷◌, ◌++◌, append-nil, append_assoc, refl, sym, ap, ◌∙◌, subst, arith, mul-pos}
 use Rattle.std.proofs.Math.Nat.{one-le-pow}
 use Rattle.rational.specs.Time.{Rational, ratio, ◌≈◌, closed}
 use Rattle.rational.proofs.Lowest.{has_denominator}
@@ -12,7 +12,11 @@ use Rattle.stl_syntax.specs.declared.scale.Scale.{Scale}
 use Rattle.pl_signal.specs.declared.knot.Knot.{Knot}
 use Rattle.pl_signal.specs.Knots.{start, stop, IsWorth}
 use Rattle.report.specs.SignalVerdicts.{DescribesFunction, AreSignalLines}
-use Rattle.report.specs.Appended.{Grew, GrewInPart}
+use Rattle.report.specs.VerdictForms.{IsEntry, AreEntries}
+use Rattle.report.specs.Appended.{Grew, GrewInPart, AreEach, Then}
+use Rattle.report.proofs.Growths as growth
+use Rattle.report.proofs.Growths.{grew_then, part_then, part_first, some_then}
+use Rattle.report.proofs.Sequences.{each_join, each_grow, each_exist}
 use Rattle.report.proofs.Spans.{span_text}
 
 -- t in units of 10^digits ticks
@@ -37,53 +41,85 @@ line_exists scale v =
     let to = number_exists scale.time (value v.on.to) in
     (_, (_, span_text scale v.on from.0 to.0 from.1 to.1, refl))
 
--- and so has each list
-pub lines_exist : (scale : Scale) (verdicts : List Verdict) → (text : List ℕ) × AreVerdictLines scale verdicts text
-lines_exist scale [] = ([], refl)
-lines_exist scale (v ∷ verdicts) =
-    let line = line_exists scale v in
-    let more = lines_exist scale verdicts in
-    (line.0 ++ more.0, (line.0, more.0, line.1, more.1, refl))
-
 -- the lines of two lists, one after the other
-pub lines_join : (scale : Scale) (vs ws : List Verdict) (text more : List ℕ) → AreVerdictLines scale vs text → AreVerdictLines scale ws more → AreVerdictLines scale (vs ++ ws) (text ++ more)
+lines_join : (scale : Scale) (vs ws : List Verdict) (text more : List ℕ) → AreVerdictLines scale vs text → AreVerdictLines scale ws more → AreVerdictLines scale (vs ++ ws) (text ++ more)
 lines_join scale [] ws text more h k = rw h k
 lines_join scale (v ∷ vs) ws text more (here, later, first, others, e) k =
     (here, later ++ more, first, lines_join scale vs ws later more others k, ap (λ t. t ++ more) e ∙ append_assoc here later more)
 
--- a line is the lines of a list of one
-line_of_one : (scale : Scale) (v : Verdict) (line : List ℕ) → IsVerdictLine scale v line → AreVerdictLines scale (v ∷ []) line
-line_of_one scale v line h = (line, [], h, refl, sym (append-nil line))
+each_line : (scale : Scale) (vs : List Verdict) (text : List ℕ) → AreEach (IsVerdictLine scale) vs text → AreVerdictLines scale vs text
+each_line scale [] text h = h
+each_line scale (v ∷ vs) text (here, later, first, others, e) = (here, later, first, each_line scale vs later others, e)
 
-pub one_line : (scale : Scale) (v : Verdict) (old new : List ℕ) → Grew (IsVerdictLine scale v) old new → Grew (AreVerdictLines scale (v ∷ [])) old new
-one_line scale v old new (line, h, e) = (line, line_of_one scale v line h, e)
+-- each verdict has a text in each form
+pub entry_exists : (json last : Bool) (scale : Scale) (v : Verdict) → growth.Some (IsEntry json last scale v)
+entry_exists false last scale v = line_exists scale v
+entry_exists true last scale v =
+    let from = number_exists scale.time (value v.on.from) in
+    let to = number_exists scale.time (value v.on.to) in
+    (_, (_, span_text scale v.on from.0 to.0 from.1 to.1, refl))
 
-pub part_of_line : (scale : Scale) (v : Verdict) (old new : List ℕ) → GrewInPart (IsVerdictLine scale v) old new → GrewInPart (AreVerdictLines scale (v ∷ [])) old new
-part_of_line scale v old new (first, rest, h, e) = (first, rest, line_of_one scale v (first ++ rest) h, e)
+module _ {P : Type 0} (shape : ShapeOf P) (json : Bool) (scale : Scale) (knots : List (Knot P)) where
+  -- the verdicts describe the signal
+  abbrev pub Described : List Verdict → Type 0
+  Described verdicts = DescribesFunction (IsWorth shape knots) verdicts (closed (start knots) (stop knots))
 
--- the text goes on by the lines of one more list
-pub lines_grow : (scale : Scale) (vs ws : List Verdict) (old mid new : List ℕ) → Grew (AreVerdictLines scale vs) old mid → Grew (AreVerdictLines scale ws) mid new → Grew (AreVerdictLines scale (vs ++ ws)) old new
-lines_grow scale vs ws old mid new (text, h, e) (more, k, f) = (text ++ more, lines_join scale vs ws text more h k, f ∙ ap (λ t. t ++ more) e ∙ append_assoc old text more)
+  abbrev Written : List Verdict → Verdict → List ℕ → Type 0
+  Written before last = Then (AreEach (IsEntry json false scale) before) (IsEntry json true scale last)
 
--- or by a part of them, and what follows has lines too
-pub lines_part : (scale : Scale) (vs ws later : List Verdict) (old mid new : List ℕ) → Grew (AreVerdictLines scale vs) old mid → GrewInPart (AreVerdictLines scale ws) mid new
-    → GrewInPart (AreVerdictLines scale (vs ++ (ws ++ later))) old new
-lines_part scale vs ws later old mid new (text, h, e) (first, rest, k, f) =
-    let more = lines_exist scale later in (
-      text ++ first,
-      rest ++ more.0,
-      rw (← together text first rest more.0) (lines_join scale vs (ws ++ later) text ((first ++ rest) ++ more.0) h (lines_join scale ws later (first ++ rest) more.0 k more.1)),
-      f ∙ ap (λ t. t ++ first) e ∙ append_assoc old text first,
-    )
-  where
-    together : (a b c d : List ℕ) → a ++ ((b ++ c) ++ d) ≡ (a ++ b) ++ (c ++ d)
-    together a b c d = simp append_assoc
+  -- verdicts that describe a signal, the last one apart
+  pub entries_all : (before : List Verdict) (last : Verdict) (old mid new : List ℕ) → Described (before ++ last ∷ [])
+      → Grew (AreEach (IsEntry json false scale) before) old mid → Grew (IsEntry json true scale last) mid new → Grew (AreEntries shape json scale knots) old new
+  entries_all before last old mid new d h k =
+      let (text, w, e) = grew_then (AreEach (IsEntry json false scale) before) (IsEntry json true scale last) old mid new h k in
+      (text, record { before = before; last = last; described = d; written = w }, e)
 
--- lines of verdicts that describe a signal
-pub signal_lines : {P : Type 0} (shape : ShapeOf P) (scale : Scale) (knots : List (Knot P)) (vs : List Verdict) (old new : List ℕ) → DescribesFunction (IsWorth shape knots) vs (closed (start knots) (stop knots))
-    → Grew (AreVerdictLines scale vs) old new → Grew (AreSignalLines shape scale knots) old new
-signal_lines shape scale knots vs old new d (text, h, e) = (text, record { verdicts = vs; described = d; lines = h }, e)
+  part_written : (before : List Verdict) (last : Verdict) (old new : List ℕ) → Described (before ++ last ∷ []) → GrewInPart (Written before last) old new
+      → GrewInPart (AreEntries shape json scale knots) old new
+  part_written before last old new d (first, rest, w, e) = (first, rest, record { before = before; last = last; described = d; written = w }, e)
 
-pub signal_lines_part : {P : Type 0} (shape : ShapeOf P) (scale : Scale) (knots : List (Knot P)) (vs : List Verdict) (old new : List ℕ) → DescribesFunction (IsWorth shape knots) vs (closed (start knots) (stop knots))
-    → GrewInPart (AreVerdictLines scale vs) old new → GrewInPart (AreSignalLines shape scale knots) old new
-signal_lines_part shape scale knots vs old new d (first, rest, h, e) = (first, rest, record { verdicts = vs; described = d; lines = h }, e)
+  -- a part of the last
+  pub entries_part_last : (before : List Verdict) (last : Verdict) (old mid new : List ℕ) → Described (before ++ last ∷ [])
+      → Grew (AreEach (IsEntry json false scale) before) old mid → GrewInPart (IsEntry json true scale last) mid new → GrewInPart (AreEntries shape json scale knots) old new
+  entries_part_last before last old mid new d h k =
+      part_written before last old new d (part_then (AreEach (IsEntry json false scale) before) (IsEntry json true scale last) old mid new h k)
+
+  -- a part of one before it
+  pub entries_part : (vs ws later : List Verdict) (last : Verdict) (old mid new : List ℕ) → Described (vs ++ (ws ++ (later ++ last ∷ [])))
+      → Grew (AreEach (IsEntry json false scale) vs) old mid → GrewInPart (AreEach (IsEntry json false scale) ws) mid new → GrewInPart (AreEntries shape json scale knots) old new
+  entries_part vs ws later last old mid new d (text, h, e) (a, b, k, f) =
+      let E = IsEntry json false scale in
+      let more = each_exist E (entry_exists json false scale) later in
+      let end = entry_exists json true scale last in
+      let front = each_join E vs (ws ++ later) text ((a ++ b) ++ more.0) h (each_join E ws later (a ++ b) more.0 k more.1) in
+      part_written (vs ++ (ws ++ later)) last old new (subst Described (sym (lists vs ws later (last ∷ []))) d) (
+        text ++ a,
+        b ++ (more.0 ++ end.0),
+        (text ++ ((a ++ b) ++ more.0), end.0, front, end.1, texts text a b more.0 end.0),
+        f ∙ ap (λ w. w ++ a) e ∙ append_assoc old text a,
+      )
+    where
+      lists : (a b c d : List Verdict) → (a ++ (b ++ c)) ++ d ≡ a ++ (b ++ (c ++ d))
+      lists a b c d = simp append_assoc
+
+      texts : (t a b m n : List ℕ) → (t ++ a) ++ (b ++ (m ++ n)) ≡ (t ++ ((a ++ b) ++ m)) ++ n
+      texts t a b m n = simp append_assoc
+
+  -- nothing yet
+  pub entries_unwritten : (before : List Verdict) (last : Verdict) (old : List ℕ) → Described (before ++ last ∷ []) → GrewInPart (AreEntries shape json scale knots) old old
+  entries_unwritten before last old d =
+      let E = IsEntry json false scale in
+      let all = some_then (AreEach E before) (IsEntry json true scale last) (each_exist E (entry_exists json false scale) before) (entry_exists json true scale last) in
+      part_written before last old old d ([], all.0, all.1, sym (append-nil old))
+
+-- verdicts in lines are the lines of the signal
+pub entries_are_lines : {P : Type 0} (shape : ShapeOf P) (scale : Scale) (knots : List (Knot P)) (text : List ℕ) → AreEntries shape false scale knots text
+    → AreSignalLines shape scale knots text
+entries_are_lines shape scale knots text h =
+    let (front, end, lines, line, e) = h.written in
+    record {
+      verdicts = h.before ++ h.last ∷ [];
+      described = h.described;
+      lines = subst (AreVerdictLines scale (h.before ++ h.last ∷ [])) (sym e)
+          (lines_join scale h.before (h.last ∷ []) front end (each_line scale h.before front lines) (end, [], line, refl, sym (append-nil end)));
+    }

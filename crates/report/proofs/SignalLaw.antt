@@ -1,7 +1,6 @@
 -- Verdicts that describe a signal describe the formula that the signal tells.
 use Rattle.std.proofs.Common.{Bool, true, false, List, [], ◌∷◌, MatchBool}
 use Rattle.rational.specs.Time.{Rational, closed}
-use Rattle.rational.specs.Extended.{Affine}
 use Rattle.rational.proofs.Order.{same_trans}
 use Rattle.rational.proofs.AffineLemmas.{same_reflᵉ}
 use Rattle.value_laws.specs.Members.{ShapeOf}

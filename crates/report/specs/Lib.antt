@@ -6,6 +6,9 @@ pub mod Appended
 pub mod Numbers
 pub mod SignalVerdicts
 pub mod Spelling
-pub mod VerdictLines
+pub mod VerdictForms
 pub mod Laws
 pub mod MarginLines
+pub mod Steps
+pub mod TableRows
+pub mod ItemLines

@@ -1,7 +1,7 @@
 -- Verdicts that describe what a function of time tells: true where it is worth 1, and false where it is worth -1.
 use Rattle.std.specs.Prelude.{◌≢◌, ℕ, Bool, true, false, List, [], ◌∷◌}
 use Rattle.rational.specs.Time.{Rational, Interval, IsIn, IsNotEmpty, BeginAlike, EndAlike, Touch, closed}
-use Rattle.rational.specs.Extended.{Extended, Affine}
+use Rattle.rational.specs.Extended.{Extended}
 use Rattle.rational.specs.Windows.{Function}
 use Rattle.frac128.specs.Spans.{interval}
 use Rattle.value_laws.specs.Members.{ShapeOf}

@@ -18,7 +18,7 @@ use stl_syntax::{Scale, Text};
 use value_laws::{Margin, Shape};
 
 /// Appends the value of a margin at a time, in units.
-fn put_value(text: &mut Text, m: &Margin, at: &Frac, digits: u8) -> Result<(), Memory>
+pub(crate) fn put_value(text: &mut Text, m: &Margin, at: &Frac, digits: u8) -> Result<(), Memory>
     requires few { digits ≤ 6 }
     requires time { IsWithin (2 ^ 34) (value at.now) }
     ensures ok { OnOk result (Grew (IsValueText digits (value_at (margin_function m.now) (value at.now))) text.old text.new) }

@@ -29,7 +29,7 @@ fn verdict_end(holds: bool) -> &'static [u8]
 }
 
 /// The text of a span.
-fn put_span(text: &mut Text, on: &Span, scale: Scale) -> Result<(), Memory>
+pub(crate) fn put_span(text: &mut Text, on: &Span, scale: Scale) -> Result<(), Memory>
     requires { scale.time ≤ 6 }
     ensures ok { OnOk result (Grew (IsSpanText scale on.now) text.old text.new) }
     ensures err { OnErr result (GrewInPart (IsSpanText scale on.now) text.old text.new) }

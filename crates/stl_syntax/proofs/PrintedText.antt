@@ -33,7 +33,8 @@ sum_is : (terms : List Term) → sum_text terms ≡ terms_text terms
 sum_is [] = refl
 sum_is (t ∷ terms) = first_one t.coef t.name terms (further_is terms)
 
-atom_is : (s : Scale) (a : Atom) → IsAtomText s a (atom_text s a)
+-- an atom's text is one
+pub atom_is : (s : Scale) (a : Atom) → IsAtomText s a (atom_text s a)
 atom_is s a = (constant_text s.value a.limit, constant_is s.value a.limit, ap (λ l. l ++ codes " " ++ relation_text a.rel ++ codes " " ++ constant_text s.value a.limit) (sum_is a.terms))
 
 upper_is : (s : Scale) (b : Option ℕ) → IsUpperText s b (upper_text s b)

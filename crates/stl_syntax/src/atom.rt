@@ -3,7 +3,8 @@ ghost use Rattle.std.specs.Prelude.{◌≡◌, ◌<◌, ◌≤◌, ◌*◌, nat_
 ghost use Rattle.stl_syntax.specs.Names.{is_name};
 ghost use Rattle.stl_syntax.specs.WellFormed.{IsTermInLimits};
 
-use crate::{Name, Rel};
+use crate::print::put_atom;
+use crate::{Name, Rel, Scale, Text};
 use frac128::Memory;
 use std::alloc::{AllocError, Global};
 use std::marker::Model;
@@ -119,8 +120,9 @@ fn keep_limits(terms: &[Term])
 }
 
 impl Atom {
-    ghost use Rattle.stl_syntax.specs.WellFormed.{IsAtomInLimits};
+    ghost use Rattle.stl_syntax.specs.WellFormed.{IsAtomInLimits, IsScale};
     ghost use Rattle.stl_syntax.specs.Scaling.{scaled_atom};
+    ghost use Rattle.stl_syntax.specs.Print.{IsAtomText};
 
     /// How many terms the sum has.
     pub fn terms(&self) -> usize
@@ -144,6 +146,20 @@ impl Atom {
         ensures { self.new ≡ scaled_atom value self.old }
     {
         self.limit = (i64::from(self.limit) * i64::from(value)) as i32;
+    }
+
+    /// The atom's text, with the fewest digits, as a formula of this scale prints it: `scale` says what a tick of the constant is.
+    ///
+    /// # Errors
+    ///
+    /// `Memory` where memory is wanting.
+    pub fn print(&self, scale: Scale) -> Result<Text, Memory>
+        requires { IsScale scale }
+        ensures { IfOk result (IsAtomText scale self.now) }
+    {
+        let mut text = Text::new(*self.terms.allocator());
+        put_atom(&mut text, scale, self)?;
+        Ok(text)
     }
 
     /// How the sum is compared with the constant.

@@ -120,7 +120,7 @@ fn put_upper(text: &mut Text, scale: Scale, high: Option<u32>) -> Result<(), Mem
 }
 
 /// Appends a sum of terms, compared with a constant.
-fn put_atom(text: &mut Text, scale: Scale, atom: &Atom) -> Result<(), Memory>
+pub(crate) fn put_atom(text: &mut Text, scale: Scale, atom: &Atom) -> Result<(), Memory>
     requires { IsScale scale }
     ensures { OnOk result (text.new ≡ text.old ++ atom_text scale atom.now) }
 {

@@ -19,7 +19,7 @@ use Rattle.workbench.specs.Commands as word
 use Rattle.workbench.specs.Requests.{Request, no_form, refused, whole, stream, sessions, generated, verdicts, early, margins, Asks, AreNone, IsAsked, IsAmong, built_commands, IsRefusal, AreHeld, is_held, has_input, usage_line}
 use Rattle.workbench.specs.Owed.{OwesAtEnd, not_yet, faulty as faulty_at_end, too_many, at_end}
 use Rattle.workbench.specs.Settled.{TellsTruth, none, bad, faulty, answered, wide, overfull}
-use Rattle.workbench.specs.Running.{IsBegun, IsEnd, settled, unread, unwritten, no_memory, HasEnded, asked, unknown, IsRun}
+use Rattle.workbench.specs.Running.{IsBegun, IsEnd, settled, unread, unwritten, no_memory, HasEnded, IsReadOut, asked, unknown, IsRun}
 use Rattle.workbench.specs.Saying.{IsSaid, whole as all_said, part as part_said}
 use Rattle.workbench.specs.InputFaults.{Fault, fault_text, whole_limits, IsInputFault}
 use Rattle.workbench.specs.Reading.{IsWhole, IsSound}
@@ -169,11 +169,11 @@ module _ {words : List (List ℕ)} {i : Drained} {o : Filled} {bytes : List ℕ}
           let same : bytes ≡ seen = b.parts ∙ ap (λ l. b.seen ++ l) all_read.1 ∙ append-nil b.seen ∙ p in
           s_unwritten f tr rest ask (subst (λ bs. IsWhole whole_limits f bs tr) (sym same) trace) (subst (λ t. Out check f tr t) (sym s) written) some failed all_read.0 (at all_read.0)
 
-  seen_check : {text : List ℕ} {status : ℕ} {line : List ℕ} (f : Formula) → AskFor words f → (status ≢ 7 → i.ended ≡ true → IsAtEnd i.after) → IsEnd (whole check f) i o bytes text status line
+  seen_check : {text : List ℕ} {status : ℕ} {line : List ℕ} (f : Formula) → AskFor words f → (status ≢ 7 → IsReadOut i) → IsEnd (whole check f) i o bytes text status line
       → Seen words i o bytes text status line
   seen_check {text = text} f ask at (settled (faulty {line = line} (x, fault, e) prompt owed)) =
-      subst (λ l. Seen words i o bytes text 4 l) (sym e) (s_fault f x ask fault (at (λ k. omega (arith, k))))
-  seen_check f ask at (settled {status = status} (answered (ended, is))) = s_answer f is.tr ask is.trace is.written is.verdict ended (at (not_seven status is.verdict) ended)
+      subst (λ l. Seen words i o bytes text 4 l) (sym e) (s_fault f x ask fault (at (λ k. omega (arith, k))).none_left)
+  seen_check f ask at (settled {status = status} (answered (ended, is))) = s_answer f is.tr ask is.trace is.written is.verdict ended ((at (not_seven status is.verdict)).none_left ended)
     where
       not_seven : (s : ℕ) → TellsTruth f is.tr s → s ≢ 7
       not_seven s (inl h) k = let a = h.0 in omega (arith, a, k)
@@ -181,10 +181,10 @@ module _ {words : List (List ℕ)} {i : Drained} {o : Filled} {bytes : List ℕ}
   seen_check f ask at (settled (wide n den (ended, e, is))) = absurd is.cause
   seen_check f ask at (settled (overfull n (ended, (t, trace, many)))) = absurd many
   seen_check f ask at (unread has ended failed sound owed) = s_unread f ask ended failed (λ x fault. sound (fault_text x) (x, fault, refl))
-  seen_check f ask at (unwritten rest some failed begun timely) = seen_cut f rest ask some failed (at (λ k. omega (arith, k))) begun
+  seen_check f ask at (unwritten rest some failed begun timely) = seen_cut f rest ask some failed (at (λ k. omega (arith, k))).none_left begun
   seen_check f ask at (no_memory known begun timely) = s_no_memory f ask
 
-  seen_request : {own : List ℕ} → AskCheck words own → {text : List ℕ} {status : ℕ} {line : List ℕ} (request : Request) → IsBuiltRequest request → Asks words request → (status ≢ 7 → has_input request ≡ true → i.ended ≡ true → IsAtEnd i.after)
+  seen_request : {own : List ℕ} → AskCheck words own → {text : List ℕ} {status : ℕ} {line : List ℕ} (request : Request) → IsBuiltRequest request → Asks words request → (status ≢ 7 → has_input request ≡ true → IsReadOut i)
       → IsEnd request i o bytes text status line → Seen words i o bytes text status line
   seen_request ask no_form of_none a at end = seen_none a end
   seen_request ask (refused l) (of_bad l') a at end = seen_bad l (bad_of ask l a) end

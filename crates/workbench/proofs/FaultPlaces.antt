@@ -22,10 +22,10 @@ one_of : {A B : Type 0} (b : Bool) → MatchBool b A B → A ⊎ B
 one_of true a = inl a
 one_of false b = inr b
 
-at_true : (A B : Type 0) (b : Bool) → b ≡ true → MatchBool b A B → A
+pub at_true : (A B : Type 0) (b : Bool) → b ≡ true → MatchBool b A B → A
 at_true A B b e m = subst (λ c. MatchBool c A B) e m
 
-at_false : (A B : Type 0) (b : Bool) → b ≡ false → MatchBool b A B → B
+pub at_false : (A B : Type 0) (b : Bool) → b ≡ false → MatchBool b A B → B
 at_false A B b e m = subst (λ c. MatchBool c A B) e m
 
 pub to_true : (A B : Type 0) (b : Bool) → b ≡ true → A → MatchBool b A B
@@ -177,3 +177,30 @@ module _ (limits : Limits) (least : Scale) (x : TraceRefusal) (no_rows : x.kind 
           → (FaultFrom limits least true (suc k) ls x → (r : TraceRefusal) → ¬ FaultFrom limits least false (suc k) ls r) → ⊥
       by_test true e f g blank = blank f r g
       by_test false e f g blank = by_heading e f g
+
+-- where the input has not ended no fault is the one of a trace without rows
+module _ (limits : Limits) (least : Scale) (x : TraceRefusal) where
+  open_kind_after : (h : Heading) (n count : ℕ) (row : Row) (ls : List Line) → FaultAfter limits (scale_of least h) h false n count (last_of count row) ls x → x.kind ≢ NoRows
+  open_kind_after h n count row [] (e, ((t, z), k)) same = false≢true t
+  open_kind_after h n count row (l ∷ ls) (inl (e, f)) same = line_kind limits n l x.kind f same
+  open_kind_after h n count row (l ∷ ls) (inr (sound, (w, m))) same =
+      by_test (is_blank_line l) refl m (open_kind_after h (suc n) count row ls) (λ q. open_kind_after h (suc n) (suc count) q ls)
+    where
+      by_test : (b : Bool) → is_blank_line l ≡ b
+          → MatchBool b (FaultAfter limits (scale_of least h) h false (suc n) count (last_of count row) ls x) (InRow limits (scale_of least h) h false n count (last_of count row) l ls x)
+          → (FaultAfter limits (scale_of least h) h false (suc n) count (last_of count row) ls x → x.kind ≢ NoRows)
+          → ((q : Row) → FaultAfter limits (scale_of least h) h false (suc n) (suc count) (Some q.time) ls x → x.kind ≢ NoRows) → ⊥
+      by_test true e f blank on = blank f same
+      by_test false e (inl (k, f)) blank on = row_kind limits least h count row l x.kind w e f same
+      by_test false e (inr (none, (q, is, f))) blank on = on q f same
+
+  pub open_kind : (k : ℕ) (ls : List Line) → FaultFrom limits least false k ls x → x.kind ≢ NoRows
+  open_kind k [] (e, (t, q)) same = false≢true t
+  open_kind k (l ∷ ls) (inl (e, f)) same = line_kind limits k l x.kind f same
+  open_kind k (l ∷ ls) (inr (sound, (w, m))) same = by_test (is_blank_line l) refl m (open_kind (suc k) ls)
+    where
+      by_test : (b : Bool) → is_blank_line l ≡ b → MatchBool b (FaultFrom limits least false (suc k) ls x) (InHeading limits least false k l ls x)
+          → (FaultFrom limits least false (suc k) ls x → x.kind ≢ NoRows) → ⊥
+      by_test true e f blank = blank f same
+      by_test false e (inl (k, f)) blank = heading_kind limits least l x.kind w e f same
+      by_test false e (inr (none, (h, is, f))) blank = open_kind_after h (suc k) 0 (record { time = 0; values = [] }) ls f same

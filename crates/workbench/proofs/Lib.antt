@@ -24,3 +24,6 @@ pub mod Judged
 pub mod Measured
 pub mod NoForm
 pub mod MarginTruth
+pub mod RowsBefore
+pub mod MarginTexts
+pub mod OwedLaws

@@ -5,6 +5,7 @@ use Rattle.std.specs.Io.KnownBytes.{Consumes, Keeps, IsAtEnd}
 use Rattle.std.proofs.KnownBytes.{Consumes-trans, Consumes-kept}
 use Rattle.std.proofs.lemmas.Bool.{false≢true}
 use Rattle.std.proofs.lemmas.List.{length-take-le}
+use Rattle.io_edge.specs.Causes.{after_end}
 use Rattle.stl_syntax.specs.Formula.{Formula}
 use Rattle.stl_syntax.specs.Trace.{Header}
 use Rattle.stl_syntax.specs.WellFormed.{IsScale}
@@ -162,6 +163,11 @@ some_taken n buf d h = omega (arith, d, length-take-le n buf h)
 pub not_true : (b : Bool) → (b ≡ true → ⊥) → b ≡ false
 not_true true h = absurd (h refl)
 not_true false h = refl
+
+-- a call that did not say the end left the count of ends
+pub unended : (said : Bool) (before now : ℕ) → now ≡ after_end said before → said ≡ false → now ≡ before
+unended true before now e same = let k = same in cc
+unended false before now e same = e
 
 -- before the first read
 pub at_first : (f : Formula) (reader : Reader) → reader.least ≡ f.scale → IsScale f.scale → StandsFor reader [] [] → IsKept f reader None []

@@ -4,7 +4,7 @@ use Rattle.std.specs.Prelude.{Option, IsErr}
 use Rattle.std.specs.Io.KnownBytes.{Appends, Consumes, IsAtEnd}
 use Rattle.std.proofs.KnownBytes.{Appends-nil, Consumes-nil}
 use Rattle.std.proofs.lemmas.Bool.{false≢true}
-use Rattle.io_edge.specs.Calls.{Drained, Filled, HasFailed, HasRefused}
+use Rattle.io_edge.specs.Calls.{Drained, Filled, HasFailed, HasRefused, IsAskedOnce}
 use Rattle.stl_syntax.specs.Formula.{Formula}
 use Rattle.stl_syntax.specs.Trace.{Trace}
 use Rattle.report.specs.Report.{Command, check, robust, explain, json, table, Out}
@@ -122,7 +122,7 @@ none_run i o e line is h same_in same_out said = record {
   moved = kept_left i.before i.after same_in;
   grew = kept_all o.before o.after same_out;
   said = subst (λ l. IsSaid e.before e.after e.faults e.faults_after l) is said;
-  ended = asked no_form h (λ _. refl) (λ _ b _. absurd (false≢true b)) (settled none);
+  ended = asked no_form h (λ _. refl) (λ _ b. absurd (false≢true b)) (settled none);
 }
 
 -- a text that gives no formula
@@ -140,7 +140,7 @@ refused_run {words} {text} c i o e status line form end same_in same_out said = 
   where
     by_end : {status : ℕ} {line : List ℕ} → IsBadEnd text status line → HasEnded words i o [] [] status line
     by_end (refused {line = line} b) =
-        asked (bad_request line) (record { command = word_of c; text = text; form = form; is = inl b }) (λ _. refl) (λ _ x _. absurd (false≢true x)) (settled bad)
+        asked (bad_request line) (record { command = word_of c; text = text; form = form; is = inl b }) (λ _. refl) (λ _ x. absurd (false≢true x)) (settled bad)
     by_end no_room = unknown (λ h. h (judge (word_of c) text) form) refl
 
 prompt_of : (c : Command) (f : Formula) (bytes : List ℕ) (ended : Bool) → IsReadPromptly whole_limits f bytes ended → IsPrompt (of_whole c f) bytes ended
@@ -252,8 +252,8 @@ module _ (words : List (List ℕ)) (c : Command) (f : Formula) (i : Drained) (o 
 
   -- a request that is known
   pub known_run : (ending : Result Bool Stop) (status : ℕ) (line : List ℕ) → status ≡ status_of ending → IsWholeEnd c f i o ending → (ending ≡ Err Unread → HasFailed i) → (ending ≡ Err Unwritten → HasRefused o)
-      → IsEndLine f ending line → IsSaid e.before e.after e.faults e.faults_after line → IsRun words i o e status
-  known_run ending status line same end failed cut told said =
+      → (ending ≢ Err NoMemory → IsAskedOnce i) → IsEndLine f ending line → IsSaid e.before e.after e.faults e.faults_after line → IsRun words i o e status
+  known_run ending status line same end failed cut once told said =
       let x = of_end ending end failed cut told in
       subst (λ s. IsRun words i o e s) (sym same) (record {
         bytes = x.bytes;
@@ -262,7 +262,7 @@ module _ (words : List (List ℕ)) (c : Command) (f : Formula) (i : Drained) (o 
         moved = x.moved;
         grew = x.grew;
         said = said;
-        ended = asked (of_whole c f) ask (λ k. absurd (let h = k in cc)) (λ n _. x.at_end n) x.is;
+        ended = asked (of_whole c f) ask (λ k. absurd (let h = k in cc)) (λ n _. record { none_left = x.at_end n; once = once (λ k. n (ap status_of k)) }) x.is;
       })
 
 -- ---- statuses

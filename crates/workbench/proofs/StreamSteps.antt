@@ -5,7 +5,7 @@ use Rattle.std.specs.Io.KnownBytes.{Appends, Consumes, Keeps, IsAtEnd}
 use Rattle.std.proofs.KnownBytes.{Appends-nil, Appends-trans, Consumes-nil, Consumes-trans, Consumes-kept}
 use Rattle.std.proofs.lemmas.Bool.{false≢true}
 use Rattle.std.proofs.lemmas.List.{take-append-le}
-use Rattle.io_edge.specs.Calls.{Drained, Filled, HasFailed, HasRefused}
+use Rattle.io_edge.specs.Calls.{Drained, Filled, HasFailed, HasRefused, IsAskedOnce}
 use Rattle.stl_syntax.specs.Formula.{Formula}
 use Rattle.workbench.specs.Requests.{Stream, stream, word_of_stream, AreFor}
 use Rattle.workbench.specs.Owed.{Owes, OwesByThen}
@@ -184,8 +184,8 @@ line_is f (Err (Wide i den)) line other a b = b ∙ sym a
 
 -- a stream's end is that of the run
 pub stream_run : (words : List (List ℕ)) (s : Stream) (f : Formula) (i : Drained) (o e : Filled) → AreFor words (word_of_stream s) f → (ending : Result Bool Stop) (status : ℕ) (line : List ℕ)
-    → status ≡ status_of ending → IsStreamEnd s f i o ending → IsEndLine f ending line → IsSaid e.before e.after e.faults e.faults_after line → IsRun words i o e status
-stream_run words s f i o e ask ending status line same x told said =
+    → status ≡ status_of ending → IsStreamEnd s f i o ending → IsAskedOnce i → IsEndLine f ending line → IsSaid e.before e.after e.faults e.faults_after line → IsRun words i o e status
+stream_run words s f i o e ask ending status line same x once told said =
     subst (λ n. IsRun words i o e n) (sym same) (record {
       bytes = x.bytes;
       text = x.text;
@@ -193,7 +193,7 @@ stream_run words s f i o e ask ending status line same x told said =
       moved = x.moved;
       grew = x.grew;
       said = subst (λ l. IsSaid e.before e.after e.faults e.faults_after l) (line_is f ending x.line line x.told told) said;
-      ended = asked (stream s f) ask (λ k. absurd (false≢true (sym k))) (λ _ _. x.at_end) x.is;
+      ended = asked (stream s f) ask (λ k. absurd (false≢true (sym k))) (λ _ _. record { none_left = x.at_end; once = once }) x.is;
     })
 
 -- what a reader has kept are the rows before the first fault

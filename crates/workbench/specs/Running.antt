@@ -1,7 +1,7 @@
 -- How a run ends.
 use Rattle.std.specs.Prelude.{◌≡◌, ◌≢◌, ◌⊎◌, ℕ, ◌-◌, Bool, true, false, List, [], ◌++◌, length, take}
 use Rattle.std.specs.Io.KnownBytes.{Appends, Consumes, IsAtEnd}
-use Rattle.io_edge.specs.Calls.{Drained, Filled, HasFailed, HasRefused}
+use Rattle.io_edge.specs.Calls.{Drained, Filled, HasFailed, HasRefused, IsAskedOnce}
 use Rattle.workbench.specs.Requests.{Request, no_form, Asks, AreNone, has_input}
 use Rattle.workbench.specs.Owed.{Owes, OwesByThen}
 use Rattle.workbench.specs.Settled.{HasFault, IsSettled}
@@ -32,10 +32,15 @@ pub data IsEnd (request : Request) (i : Drained) (o : Filled) (bytes text : List
   no_memory : request ≢ no_form → (text ≡ []) ⊎ ((rest : List ℕ) × IsBegun request bytes i.ended text rest) → IsTimely request bytes text
       → IsEnd request i o bytes text 7 out_of_memory
 
+-- nothing is left where the source said its end, which it was asked for once, and never where it did not
+pub record IsReadOut (i : Drained) : Type 0 where
+  pub none_left : i.ended ≡ true → IsAtEnd i.after
+  pub once : IsAskedOnce i
+
 -- how words end: what they ask for ends, or memory was wanting before that was known
 pub data HasEnded (words : List (List ℕ)) (i : Drained) (o : Filled) (bytes : List ℕ) : List ℕ → ℕ → List ℕ → Type 0 where
   asked : {text : List ℕ} {status : ℕ} {line : List ℕ} (request : Request) → Asks words request
-      → (has_input request ≡ false → bytes ≡ []) → (status ≢ 7 → has_input request ≡ true → i.ended ≡ true → IsAtEnd i.after)
+      → (has_input request ≡ false → bytes ≡ []) → (status ≢ 7 → has_input request ≡ true → IsReadOut i)
       → IsEnd request i o bytes text status line → HasEnded words i o bytes text status line
   unknown : (¬ AreNone words) → bytes ≡ [] → HasEnded words i o bytes [] 7 out_of_memory
 

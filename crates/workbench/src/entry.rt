@@ -19,7 +19,7 @@ pub fn program<S: Source, K: Sink, E: Sink>(
 ) -> u8
     // What the words ask for came to an end with this status, and with these bytes, this text and this line; or there were none.
     ensures ran { MatchOption words (result ≡ 7)
-        (λ ws. IsRun (map string_bytes ws.items) (drained S.left S.ended S.faults input.old input.new)
+        (λ ws. IsRun (map string_bytes ws.items) (drained S.left S.ended S.ends S.faults input.old input.new)
         (filled K.written K.faults out.old out.new) (filled E.written E.faults err.old err.new) result) }
 
     // A device that failed is told.

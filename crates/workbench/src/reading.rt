@@ -1,6 +1,6 @@
 //! Reading the trace of a formula from a source.
 ghost use Rattle.std.specs.Prelude.{◌≡◌, ◌≢◌, ◌^◌, ◌<◌, ◌≤◌, List, ℕ, [], ◌++◌, length, take, true, false, MatchResult, MatchOption, Err};
-ghost use Rattle.io_edge.specs.Causes.{Rose};
+ghost use Rattle.io_edge.specs.Causes.{Rose, after_end};
 ghost use Rattle.trace_reader.specs.Feeds.{through_feed};
 ghost use Rattle.trace_reader.specs.declared.refusal.TraceKind.TheVariants.{NoRows};
 ghost use Rattle.workbench.specs.Reading.{IsReadWhole, IsStop, IsEnded, IsRefused, IsKept, HasKept, HasHeader, IsLastFault};
@@ -133,6 +133,7 @@ impl Reading {
         ensures later { S.faults input.old ≤ S.faults input.new }
         ensures unread { result ≡ Err Stop.Unread → Rose (S.faults input.old) (S.faults input.new) }
         ensures still { result ≢ Err Stop.Unread → S.faults input.new ≡ S.faults input.old }
+        ensures ends { S.ends input.new ≡ after_end (S.ended input.new) (S.ends input.old) }
     {
         let mut buffer = [0u8; 4096];
         for _reads in 0..u64::MAX {
@@ -166,6 +167,7 @@ pub(crate) fn read_trace<S: Source>(
     ensures later { S.faults input.old ≤ S.faults input.new }
     ensures unread { result ≡ Err Stop.Unread → Rose (S.faults input.old) (S.faults input.new) }
     ensures still { result ≢ Err Stop.Unread → S.faults input.new ≡ S.faults input.old }
+    ensures ends { result ≢ Err Stop.NoMemory → S.ends input.new ≡ after_end (S.ended input.new) (S.ends input.old) }
 {
     let Ok(rows) = Rows::new(alloc, limits, formula.scale()) else {
         return Err(Stop::NoMemory);

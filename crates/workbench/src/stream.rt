@@ -1,6 +1,6 @@
 //! A stream: each piece is answered before the next is read.
 ghost use Rattle.std.specs.Prelude.{◌≡◌, ◌≢◌, ◌≤◌, ℕ, List, [], ◌++◌, true, false, Err};
-ghost use Rattle.io_edge.specs.Causes.{Rose};
+ghost use Rattle.io_edge.specs.Causes.{Rose, after_end};
 ghost use Rattle.io_edge.specs.Calls.{drained, filled};
 ghost use Rattle.stl_syntax.specs.Formula.{Formula as Parsed};
 ghost use Rattle.workbench.specs.Requests.{Stream as Kind, stream as of_stream};
@@ -47,7 +47,8 @@ pub(crate) fn stream<P: Push, S: Source, K: Sink>(
     out: &mut K,
 ) -> Result<bool, Stop>
     requires { IsPushed (P.stands pusher.old) P.kind (P.formula pusher.old) [] [] }
-    ensures ending { IsStreamEnd P.kind (P.formula pusher.old) (drained S.left S.ended S.faults input.old input.new) (filled K.written K.faults out.old out.new) result }
+    ensures ending { IsStreamEnd P.kind (P.formula pusher.old) (drained S.left S.ended S.ends S.faults input.old input.new) (filled K.written K.faults out.old out.new) result }
+    ensures ends { S.ends input.new ≡ after_end (S.ended input.new) (S.ends input.old) }
     ensures read_due { result ≢ Err Stop.Unread → S.faults input.new ≡ S.faults input.old }
     ensures write_due { result ≢ Err Stop.Unwritten → K.faults out.new ≡ K.faults out.old }
 {

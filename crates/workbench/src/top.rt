@@ -1,6 +1,6 @@
 //! The one call: it does all that the program does.
 ghost use Rattle.std.specs.Prelude.{◌≡◌, ◌≢◌, ◌⊎◌, ◌≤◌, ℕ, List, map, string_bytes, MatchResult, length, ◌<◌, Err, IsErr};
-ghost use Rattle.io_edge.specs.Causes.{Rose};
+ghost use Rattle.io_edge.specs.Causes.{Rose, after_end};
 ghost use Rattle.io_edge.specs.Calls.{drained, filled};
 ghost use Rattle.stl_syntax.specs.Formula.{Formula as Parsed};
 ghost use Rattle.workbench.specs.Saying.{IsSaid};
@@ -72,13 +72,14 @@ fn whole<S: Source, K: Sink>(
     input: &mut S,
     out: &mut K,
 ) -> Result<bool, Stop>
-    ensures ending { IsWholeEnd (command_of command) formula.now (drained S.left S.ended S.faults input.old input.new) (filled K.written K.faults out.old out.new) result }
+    ensures ending { IsWholeEnd (command_of command) formula.now (drained S.left S.ended S.ends S.faults input.old input.new) (filled K.written K.faults out.old out.new) result }
     ensures read { result ≡ Err Stop.Unread → Rose (S.faults input.old) (S.faults input.new) }
     ensures write { result ≡ Err Stop.Unwritten → Rose (K.faults out.old) (K.faults out.new) }
     ensures read_due { result ≢ Err Stop.Unread → S.faults input.new ≡ S.faults input.old }
     ensures write_due { result ≢ Err Stop.Unwritten → K.faults out.new ≡ K.faults out.old }
     ensures input_later { S.faults input.old ≤ S.faults input.new }
     ensures out_later { K.faults out.old ≤ K.faults out.new }
+    ensures ends { result ≢ Err Stop.NoMemory → S.ends input.new ≡ after_end (S.ended input.new) (S.ends input.old) }
     ensures nothing { IsErr result → result ≢ Err Stop.Unwritten → out.new ≡ out.old }
 {
     let case = match read_trace(input, formula, LIMITS, alloc) {
@@ -189,7 +190,7 @@ pub fn run<S: Source, K: Sink, E: Sink>(
     err: &mut E,
 ) -> u8
     // What the words ask for came to an end with this status, and with these bytes, this text and this line.
-    ensures ran { IsRun (map string_bytes words.now) (drained S.left S.ended S.faults input.old input.new)
+    ensures ran { IsRun (map string_bytes words.now) (drained S.left S.ended S.ends S.faults input.old input.new)
         (filled K.written K.faults out.old out.new) (filled E.written E.faults err.old err.new) result }
 
     // A device that failed is told.

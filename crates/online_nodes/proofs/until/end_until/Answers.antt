@@ -44,6 +44,7 @@ returns-clause-ended c =
     record {
       more = both.more;
       few = both.few;
+      owed = both.owed;
       worked = worked_put c.requires.own c.requires.left_apart c.requires.right_apart both.got;
       edge = both.edge;
       to = both.end;
@@ -77,7 +78,12 @@ returns-clause-ended c =
             left_tells = subst (λ f. Tells (Truth x.p x.tr) r.left f x.stop_left) (sym left_now) m.left_tells;
             right_tells = subst (λ f. Tells (Counted true x.q x.tr) r.right f x.stop_right) (sym right_now) m.right_tells;
             left_behind = m.left_behind;
-            right_behind = m.right_behind;
+            right_behind = λ t y a lo h. m.right_behind t y
+                (elim (sides (place s.out.at) t) [
+                  | inl k ↦ absurd (not_both (place c.in_ok-out.out.at) t (two.forward t (one.forward t k)) a)
+                  | inr k ↦ k
+                ])
+                lo h;
             tight = m.tight;
             ahead = λ v first. m.ahead v (ap (λ f. slice_get f 0) (sym left_now) ∙ first);
           };

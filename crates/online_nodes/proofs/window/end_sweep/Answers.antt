@@ -35,6 +35,7 @@ returns-clause-ended c =
     record {
       more = both.more;
       few = both.few;
+      owed = both.owed;
       got = both.got;
       edge = both.edge;
       to = both.end;

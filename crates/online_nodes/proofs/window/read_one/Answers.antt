@@ -6,7 +6,7 @@ use Rattle.frac128.specs.Value.{value}
 use Rattle.frac128.specs.Spans.{interval}
 use Rattle.online_nodes.specs.Working.{HasPassed}
 use Rattle.online_nodes.specs.declared.cut.Cut.{Cut}
-use Rattle.online_nodes.specs.Cuts.{Place, place, ends, Upto, Before, begins}
+use Rattle.online_nodes.specs.Cuts.{Place, place, ends, Same, Upto, Before, begins, moved_begin}
 use Rattle.online_nodes.specs.Held.{fresh_at}
 use Rattle.online_nodes.specs.Sweeps.{IsSwept}
 use Rattle.online_nodes.proofs.Sweeping.{
@@ -21,6 +21,7 @@ use Rattle.online_nodes.proofs.Sweeping.{
   sought_not,
   sought_is,
   begin_alike,
+  begins_beyond,
   end_alike,
   fits_alike,
 }
@@ -34,6 +35,7 @@ pub returns-in_default-clause-read : goal.returns-in_default-clause-read
 returns-in_default-clause-read c =
     record {
       same = refl;
+      beyond = λ v first. absurd (let x = sym first ∙ sym c.next.ensures ∙ c.in_default.is in cc);
       settles = λ n p tr begin written read stop of m.
           none_left n p tr c.args.window begin written read stop c.args.sweep of
           (subst (λ l. IsSwept n p tr c.args.window begin written c.args.sweep read stop l)
@@ -54,6 +56,7 @@ returns-then-v-window-clause-read c =
     record {
       more = [];
       few = omega arith;
+      owed = omega arith;
       worked = worked_pass passed (λ same. c.requires.apart (sym same)) (inl refl);
       one = passed-one passed;
       fresh = passed-fresh passed;
@@ -82,13 +85,19 @@ shift_begin-begin-requires c =
 pub returns-then-precedes-clause-read : goal.returns-then-precedes-clause-read
 returns-then-precedes-clause-read c =
     let f = first_is (fresh_at c.args.edges.now c.args.window.of) c.in-Some.v (sym c.next.ensures ∙ c.in-Some.is) in
+    let from : Place = place c.shift_begin-begin.result in
+    let from_is : Same from (moved_begin c.args.window.begin_by c.args.window.begin_in (begins (interval c.in-Some.v.on))) =
+    begin_alike (place c.shift_begin-begin.result) _ c.args.window.begin_by c.args.window.begin_in _ (begins (interval c.in-Some.v.on))
+    (search (rules, to_z-of_z)) c.begin.ensures c.shift_begin-begin.ensures in
+    let later : Before (place c.args.sweep.out.to) from =
+    subst (λ (q : Cut). Before (place q) (place c.shift_begin-begin.result)) c.end.ensures (c.precedes.ensures.0 c.if-precedes.true) in
     record {
       same = refl;
+      beyond = λ v first.
+          begins_beyond (fresh_at c.args.edges.now c.args.window.of) c.in-Some.v (sym c.next.ensures ∙ c.in-Some.is) c.args.window
+          (place c.args.sweep.out.to) from later from_is v first;
       settles = λ n p tr begin written read stop of m.
-          too_late n p tr c.args.window begin written read stop c.args.sweep c.in-Some.v f.0 (place c.shift_begin-begin.result) of
-          (begin_alike (place c.shift_begin-begin.result) _ c.args.window.begin_by c.args.window.begin_in _ (begins (interval c.in-Some.v.on))
-          (search (rules, to_z-of_z)) c.begin.ensures c.shift_begin-begin.ensures)
-          (subst (λ (q : Cut). Before (place q) (place c.shift_begin-begin.result)) c.end.ensures (c.precedes.ensures.0 c.if-precedes.true))
+          too_late n p tr c.args.window begin written read stop c.args.sweep c.in-Some.v f.0 from of from_is later
           (subst (λ l. IsSwept n p tr c.args.window begin written c.args.sweep read stop l) f.1 m);
     }
 
@@ -149,6 +158,7 @@ returns-clause-read c =
     record {
       more = both.more;
       few = both.few;
+      owed = both.owed;
       worked = worked_read c.requires.own c.requires.apart both.got passed;
       one = sym (ap length kept) ∙ passed-one passed;
       fresh = left;

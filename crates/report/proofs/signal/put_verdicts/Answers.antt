@@ -1,143 +1,22 @@
-use Rattle.std.proofs.Common.{◌≡◌, suc, true, false, ◌+◌, ◌-◌, Some, List, [], ◌∷◌, ◌++◌, length, append-nil, append_assoc, refl, sym, ap, subst, arith}
-use Rattle.std.specs.Prelude.{slice_get}
+use Rattle.std.proofs.Common.{false}
 use Rattle.std.proofs.lemmas.Result.{on_ok_weaker, on_err_weaker}
-use Rattle.rational.specs.Time.{closed}
-use Rattle.frac128.specs.Value.{value}
 use Rattle.value_laws.specs.Kinds.{truth_shape}
-use Rattle.pl_signal.specs.Knots.{start, stop, IsWorth}
-use Rattle.pl_signal.proofs.Values.{next_rises}
-use Rattle.stl_syntax.specs.Texts.{AreVerdictLines, IsNumberText}
-use Rattle.stl_syntax.specs.declared.items.Verdict.{Verdict}
-use Rattle.report.specs.Appended.{GrewInPart}
-use Rattle.report.specs.SignalVerdicts.{DescribesFunction}
-use Rattle.report.specs.Spelling.{listed}
-use Rattle.report.proofs.Parts.{on_err, unwritten}
-use Rattle.report.proofs.Lines.{lines_exist, one_line, part_of_line, lines_grow, lines_part, signal_lines, signal_lines_part}
-use Rattle.report.proofs.Advances.{IsSpelledTo, spelled_start, room_to, spelled_advance, spelled_stop, stop_room, told_to_end}
-use Rattle.report.proofs.Turns.{begun_of, begins_next}
+use Rattle.report.specs.SignalVerdicts.{AreSignalLines}
+use Rattle.report.specs.VerdictForms.{AreEntries}
+use Rattle.report.proofs.Growths.{grew_as, part_as}
+use Rattle.report.proofs.Lines.{entries_are_lines}
 use Rattle.report.proofs.signal.put_verdicts.Goals as goal
-use Rattle.report.proofs.signal.put_verdicts.Goals.{After-advance-by_gap, After-close-last}
-
-pub loop-i-init : goal.loop-i-init
-loop-i-init c = (
-  [],
-  spelled_start c.args.s.now c.knot-first.result c.start-span.result c.knot-first.ensures c.start-span.ensures.from c.start-span.ensures.from_in c.start-span.ensures.holds,
-  ([], refl, sym (append-nil c.args.text.now)),
-  subst (λ f. IsNumberText c.args.scale.time (value f) c.in_ok-begin.begin) (sym c.start-span.ensures.from) c.in_ok-begin.ensures,
-)
-
--- with no text of the first time there is no line
-pub returns-in_err-begin-clause-err : goal.returns-in_err-begin-clause-err
-returns-in_err-begin-clause-err c =
-    let s = c.args.s.now in
-    let signal = c.len-knots.ensures.signal in
-    let some : 0 + suc (length s - 1) ≡ length s = let p = c.len-knots.ensures.some in let v = c.len-knots.ensures.value in omega arith in
-    let end = told_to_end s (length s - 1) 0 [] c.start-span.result signal some
-    (spelled_start s c.knot-first.result c.start-span.result c.knot-first.ensures c.start-span.ensures.from c.start-span.ensures.from_in c.start-span.ensures.holds) in
-    let lines = lines_exist c.args.scale end.0 in
-    on_err c.from_residual.result
-    (signal_lines_part truth_shape c.args.scale s end.0 c.args.text.now c.args.text.now end.1 (unwritten (AreVerdictLines c.args.scale end.0) c.args.text.now lines.0 lines.1))
-
-pub put_ended-requires-clause-begun : goal.put_ended-requires-clause-begun
-put_ended-requires-clause-begun c =
-    let a = c.advance-by_gap.ensures in
-    begun_of c.args.scale.time c.loop-i.span a.inside c.knot.result.time true c.knot.result.after.holds c.advance-by_gap.result.0 _ a.gap c.loop-i.invariant.3
-
-pub put_ended-requires-in-loop-i-clause-begun : goal.put_ended-requires-in-loop-i-clause-begun
-put_ended-requires-in-loop-i-clause-begun c =
-    let a = c.advance-by_gap.ensures in
-    begun_of c.args.scale.time a.inside c.advance-by_gap.new.self c.knot-in-loop-i.result.time false c.knot-in-loop-i.result.point.holds c.advance-by_gap.result.1 _ a.point
-    (begins_next c.args.scale.time c.loop-i.span a.inside c.knot.result.time true c.knot.result.after.holds c.advance-by_gap.result.0 c.loop-i.begin c.put_ended.new.begin a.gap c.loop-i.invariant.3
-    c.in_ok-put_ended.ensures.ends)
-
-pub put_next-requires-clause-begun : goal.put_next-requires-clause-begun
-put_next-requires-clause-begun c = subst (λ f. IsNumberText c.args.scale.time (value f) c.loop-i.begin) (sym c.close-last.ensures.from) c.loop-i.invariant.3
-
-pub advance-by_gap-requires-clause-begun : goal.advance-by_gap-requires-clause-begun
-advance-by_gap-requires-clause-begun c = room_to c.args.s.now (c.loop-i.i - 1) c.loop-i.invariant.0 c.loop-i.span c.knot.result c.knot.ensures c.loop-i.invariant.1
-
-pub advance-by_gap-requires-clause-rising : goal.advance-by_gap-requires-clause-rising
-advance-by_gap-requires-clause-rising c =
-    let next : c.loop-i.i ≡ (c.loop-i.i - 1) + 1 = omega arith in
-    next_rises truth_shape c.args.s.now (c.loop-i.i - 1) c.knot.result c.knot-in-loop-i.result c.len-knots.ensures.signal.each c.knot.ensures
-    (subst (λ n. slice_get c.args.s.now n ≡ Some c.knot-in-loop-i.result) next c.knot-in-loop-i.ensures)
-
-module _ (c : After-advance-by_gap) where
-  abbrev vs : List Verdict
-  vs = c.loop-i.invariant.0
-
-  abbrev gap : List Verdict
-  gap = listed c.advance-by_gap.result.0
-
-  abbrev point : List Verdict
-  point = listed c.advance-by_gap.result.1
-
-  next : c.loop-i.i ≡ (c.loop-i.i - 1) + 1
-  next = omega arith
-
-  advanced : IsSpelledTo c.args.s.now ((c.loop-i.i - 1) + 1) ((vs ++ gap) ++ point) c.advance-by_gap.new.self
-  advanced =
-      spelled_advance c.args.s.now (c.loop-i.i - 1) vs c.loop-i.span c.advance-by_gap.new.self c.knot.result c.knot-in-loop-i.result c.advance-by_gap.result.0 c.advance-by_gap.result.1
-      c.len-knots.ensures.signal c.knot.ensures (subst (λ n. slice_get c.args.s.now n ≡ Some c.knot-in-loop-i.result) next c.knot-in-loop-i.ensures) c.advance-by_gap.ensures c.loop-i.invariant.1
-
-  to_end : (later : List Verdict) × DescribesFunction (IsWorth truth_shape c.args.s.now) (((vs ++ gap) ++ point) ++ later) (closed (start c.args.s.now) (stop c.args.s.now))
-  to_end = told_to_end c.args.s.now (length c.args.s.now - suc c.loop-i.i) ((c.loop-i.i - 1) + 1) ((vs ++ gap) ++ point) c.advance-by_gap.new.self c.len-knots.ensures.signal (omega arith) advanced
-
-together : (a b c d : List Verdict) → ((a ++ b) ++ c) ++ d ≡ a ++ (b ++ (c ++ d))
-together a b c d = simp append_assoc
-
-pub returns-in_err-put_ended-clause-err : goal.returns-in_err-put_ended-clause-err
-returns-in_err-put_ended-clause-err c =
-    let f = (goal.at.returns-in_err-put_ended-clause-err c).After-advance-by_gap in
-    let end = to_end f in
-    on_err c.from_residual-in_err-put_ended.result
-    (signal_lines_part truth_shape c.args.scale c.args.s.now (vs f ++ (gap f ++ (point f ++ end.0))) c.args.text.now c.put_ended.new.text
-    (subst (λ ws. DescribesFunction (IsWorth truth_shape c.args.s.now) ws (closed (start c.args.s.now) (stop c.args.s.now))) (together (vs f) (gap f) (point f) end.0) end.1)
-    (lines_part c.args.scale (vs f) (gap f) (point f ++ end.0) c.args.text.now c.loop-i.text c.put_ended.new.text c.loop-i.invariant.2 c.in_err-put_ended.ensures.err))
-
-pub returns-in_err-put_ended-2-clause-err : goal.returns-in_err-put_ended-2-clause-err
-returns-in_err-put_ended-2-clause-err c =
-    let f = (goal.at.returns-in_err-put_ended-2-clause-err c).After-advance-by_gap in
-    let end = to_end f in
-    on_err c.from_residual-in_err-put_ended-2.result
-    (signal_lines_part truth_shape c.args.scale c.args.s.now ((vs f ++ gap f) ++ (point f ++ end.0)) c.args.text.now c.put_ended-in-loop-i.new.text
-    (subst (λ ws. DescribesFunction (IsWorth truth_shape c.args.s.now) ws (closed (start c.args.s.now) (stop c.args.s.now))) (append_assoc (vs f ++ gap f) (point f) end.0) end.1)
-    (lines_part c.args.scale (vs f ++ gap f) (point f) end.0 c.args.text.now c.put_ended.new.text c.put_ended-in-loop-i.new.text
-    (lines_grow c.args.scale (vs f) (gap f) c.args.text.now c.loop-i.text c.put_ended.new.text c.loop-i.invariant.2 c.in_ok-put_ended.ensures.ok) c.in_err-put_ended-2.ensures.err))
-
-pub loop-i-preserved : goal.loop-i-preserved
-loop-i-preserved c =
-    let f = (goal.at.loop-i-preserved c).After-advance-by_gap in
-    let a = c.advance-by_gap.ensures in
-    let there : (c.loop-i.i - 1) + 1 ≡ c.loop-i.i + 1 - 1 = omega arith in (
-      (vs f ++ gap f) ++ point f,
-      subst (λ i. IsSpelledTo c.args.s.now i ((vs f ++ gap f) ++ point f) c.advance-by_gap.new.self) there (advanced f),
-      lines_grow c.args.scale (vs f ++ gap f) (point f) c.args.text.now c.put_ended.new.text c.put_ended-in-loop-i.new.text
-          (lines_grow c.args.scale (vs f) (gap f) c.args.text.now c.loop-i.text c.put_ended.new.text c.loop-i.invariant.2 c.in_ok-put_ended.ensures.ok) c.in_ok-put_ended-2.ensures.ok,
-      begins_next c.args.scale.time a.inside c.advance-by_gap.new.self c.knot-in-loop-i.result.time false c.knot-in-loop-i.result.point.holds c.advance-by_gap.result.1 c.put_ended.new.begin
-          c.put_ended-in-loop-i.new.begin a.point
-          (begins_next c.args.scale.time c.loop-i.span a.inside c.knot.result.time true c.knot.result.after.holds c.advance-by_gap.result.0 c.loop-i.begin c.put_ended.new.begin a.gap c.loop-i.invariant.3
-          c.in_ok-put_ended.ensures.ends) c.in_ok-put_ended-2.ensures.ends,
-    )
-
-pub close-last-requires : goal.close-last-requires
-close-last-requires c = stop_room c.args.s.now (c.loop-i.i - 1) c.loop-i.invariant.0 c.loop-i.span c.stop.result (omega arith) c.loop-i.invariant.1 c.stop.ensures.value
-
--- the verdicts with the last one describe the signal
-whole : (c : After-close-last) → DescribesFunction (IsWorth truth_shape c.args.s.now) (c.loop-i.invariant.0 ++ c.close-last.result ∷ []) (closed (start c.args.s.now) (stop c.args.s.now))
-whole c = spelled_stop c.args.s.now (c.loop-i.i - 1) c.loop-i.invariant.0 c.loop-i.span c.close-last.result c.stop.result (omega arith) c.loop-i.invariant.1 c.stop.ensures.value c.close-last.ensures
 
 pub returns-clause-ok : goal.returns-clause-ok
 returns-clause-ok c =
-    let all = whole (goal.at.returns-clause-ok c).After-close-last in
-    on_ok_weaker c.put_next.result (λ grew. signal_lines truth_shape c.args.scale c.args.s.now (c.loop-i.invariant.0 ++ c.close-last.result ∷ []) c.args.text.now c.put_next.new.text all
-    (lines_grow c.args.scale c.loop-i.invariant.0 (c.close-last.result ∷ []) c.args.text.now c.loop-i.text c.put_next.new.text c.loop-i.invariant.2
-    (one_line c.args.scale c.close-last.result c.loop-i.text c.put_next.new.text grew))) c.put_next.ensures.ok
+    let s = c.args.s.now in
+    on_ok_weaker c.put_spans.result
+    (grew_as (AreEntries truth_shape false c.args.scale s) (AreSignalLines truth_shape c.args.scale s) c.args.text.now c.put_spans.new.text (entries_are_lines truth_shape c.args.scale s))
+    c.put_spans.ensures.ok
 
 pub returns-clause-err : goal.returns-clause-err
 returns-clause-err c =
-    let all = whole (goal.at.returns-clause-err c).After-close-last in
-    on_err_weaker c.put_next.result (λ grew. signal_lines_part truth_shape c.args.scale c.args.s.now (c.loop-i.invariant.0 ++ c.close-last.result ∷ []) c.args.text.now c.put_next.new.text all
-    (subst (λ ws. GrewInPart (AreVerdictLines c.args.scale ws) c.args.text.now c.put_next.new.text) (ap (λ ws. c.loop-i.invariant.0 ++ ws) (append-nil (c.close-last.result ∷ [])))
-    (lines_part c.args.scale c.loop-i.invariant.0 (c.close-last.result ∷ []) [] c.args.text.now c.loop-i.text c.put_next.new.text c.loop-i.invariant.2
-    (part_of_line c.args.scale c.close-last.result c.loop-i.text c.put_next.new.text grew)))) c.put_next.ensures.err
+    let s = c.args.s.now in
+    on_err_weaker c.put_spans.result
+    (part_as (AreEntries truth_shape false c.args.scale s) (AreSignalLines truth_shape c.args.scale s) c.args.text.now c.put_spans.new.text (entries_are_lines truth_shape c.args.scale s))
+    c.put_spans.ensures.err

@@ -1,9 +1,18 @@
-use Rattle.std.proofs.Common.{◌<◌, length, take, refl, subst, ◌∙◌, arith}
+use Rattle.std.proofs.Common.{◌<◌, length, take, refl, ap, subst, ◌∙◌, arith}
 use Rattle.std.proofs.lemmas.Result.{err_from_is_err_and}
-use Rattle.io_edge.specs.Causes.{Rose}
-use Rattle.workbench.proofs.Progress.{not_true, none_taken, some_taken, short_taken}
+use Rattle.io_edge.specs.Causes.{Rose, after_end}
+use Rattle.workbench.proofs.Progress.{not_true, unended, none_taken, some_taken, short_taken}
 use Rattle.workbench.proofs.StreamSteps.{pushed_so_far, end_unread, end_from, stop_from, piece_from}
 use Rattle.workbench.proofs.stream.stream.Goals as goal
+
+pub returns-in_default-clause-ends : goal.returns-in_default-clause-ends
+returns-in_default-clause-ends g c = c.in_default.ensures.ends ∙ ap (after_end (g.S.Source.ended c.read.new.self)) c.loop-reads.invariant.unended
+
+pub returns-then-count-eq0-clause-ends : goal.returns-then-count-eq0-clause-ends
+returns-then-count-eq0-clause-ends g c = c.in-Ok.ensures.ends ∙ ap (after_end (g.S.Source.ended c.read.new.self)) c.loop-reads.invariant.unended
+
+pub returns-in_err-push-clause-ends : goal.returns-in_err-push-clause-ends
+returns-in_err-push-clause-ends g c = c.in-Ok.ensures.ends ∙ ap (after_end (g.S.Source.ended c.read.new.self)) c.loop-reads.invariant.unended
 
 pub returns-in_default-clause-ending : goal.returns-in_default-clause-ending
 returns-in_default-clause-ending g c =
@@ -37,6 +46,7 @@ loop-reads-preserved g c =
           (take c.in-Ok.count c.read.new.buf) c.in-Ok.ensures.bytes.0 (some_taken c.in-Ok.count c.read.new.buf c.if-count-eq0.false c.in-Ok.ensures.bound.0)
           (c.in_ok-push.ensures.pushed p.bytes p.text (pushed_so_far p (g.P.Push.formula c.loop-reads.pusher) c.loop-reads.invariant.same));
       same = c.in_ok-push.ensures.same ∙ c.loop-reads.invariant.same;
+      unended = unended (g.S.Source.ended c.read.new.self) _ _ c.in-Ok.ensures.ends (not_true (g.S.Source.ended c.read.new.self) (λ t. c.if-count-eq0.false (c.in-Ok.ensures.end.0 t).0)) ∙ c.loop-reads.invariant.unended;
       still = c.in-Ok.ensures.cause.still ∙ c.loop-reads.invariant.still;
       calm = c.in_ok-push.ensures.still (λ e. let k = e in cc) ∙ c.loop-reads.invariant.calm;
       size = c.read.auto.buf ∙ c.loop-reads.invariant.size;

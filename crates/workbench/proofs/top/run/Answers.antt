@@ -16,7 +16,7 @@ returns-in-Ok-clause-ran g c =
     let told = c.finish.ensures.said in
     known_run (map string_bytes c.args.words.now) (command_of c.in-Some.asked.command) c.in-Ok.formula _ _ _
     (record { text = c.in-Some.asked.text.now; form = c.in-Some.ensures; is = c.in-Ok.ensures.ok; served = serves (command_of c.in-Some.asked.command) c.in-Ok.formula })
-    c.whole-ending.result c.finish.result told.0 c.finish.ensures.status c.whole-ending.ensures.ending c.whole-ending.ensures.read c.whole-ending.ensures.write told.1 told.2
+    c.whole-ending.result c.finish.result told.0 c.finish.ensures.status c.whole-ending.ensures.ending c.whole-ending.ensures.read c.whole-ending.ensures.write c.whole-ending.ensures.ends told.1 told.2
 
 pub returns-in-Err-clause-ran : goal.returns-in-Err-clause-ran
 returns-in-Err-clause-ran g c =

@@ -1,29 +1,20 @@
-use Rattle.std.proofs.Common.{List, ◌∷◌, ◌++◌, [], sym, ap, ◌∙◌, subst}
-use Rattle.envelope.specs.declared.walk.Item.{Item}
-use Rattle.envelope.specs.Standing.{Admits, Leaves}
-use Rattle.envelope.proofs.Taking.{taken}
+use Rattle.rational.proofs.Order.{le_refl}
+use Rattle.frac128.specs.Value.{value}
+use Rattle.envelope.proofs.Bests.{on_ok}
+use Rattle.envelope.proofs.Faulting.{on_err}
+use Rattle.envelope.proofs.Walks.{followed_of, stops_of, took_of}
 use Rattle.envelope.proofs.walk.Walk.admit.Goals as goal
 
-pub rise-requires-clause-ready : goal.rise-requires-clause-ready
-rise-requires-clause-ready g c = c.in_ok-leave.ensures.ok.can.ready
+pub take-requires-clause-followed : goal.take-requires-clause-followed
+take-requires-clause-followed g c = followed_of c.args.self.now c.args.item c.requires.leaves
 
-pub returns : goal.returns
-returns g c =
-    let old = c.args.self.now.course in
-    let low_until = c.args.self.now.low_until in
-    let items = c.args.self.now.queue.items in
-    let mid = c.leave.new.self.course in
-    let low_mid = c.leave.new.self.low_until in
-    let front = c.drop_worse.new.queue.items in
-    let d = c.drop_worse.ensures.dropped in
-    let new = c.rise.new.self.course in
-    record {
-      ok = subst (λ xs. Admits g.P.Shape c.args.from.now c.args.item old low_until items new c.rise.new.self.low_until
-          xs) (sym (c.push_back_reserved.ensures.items ∙ ap (λ (xs : List (Item g.row.P.Denot)). xs ++ c.args.item ∷ [])
-          c.rise.ensures.items))
-          (subst (λ u. Admits g.P.Shape c.args.from.now c.args.item old low_until items new u (front ++ c.args.item ∷ [])) (sym c.rise.ensures.until)
-          (taken g.P.Shape (assumption g.met.P.Shape) c.args.from.now c.args.item old mid low_until low_mid items
-          d.dropped c.requires.new c.requires.followed d.worse front new d.last
-          (subst (λ xs. Leaves g.P.Shape c.args.from.now old low_until items mid low_mid xs) (sym c.reserve.ensures.items ∙ d.same) c.in_ok-leave.ensures.ok)
-          c.in_ok-rise.ensures.ok));
-    }
+pub returns-clause-took : goal.returns-clause-took
+returns-clause-took g c = on_ok c.take.result
+    (λ a. took_of g.P.Shape c.args.from.now c.args.item c.args.self.now c.take.new.self c.requires.new c.requires.leaves a)
+    c.take.ensures.ok
+
+pub returns-clause-fault : goal.returns-clause-fault
+returns-clause-fault g c = on_err c.take.result
+    (λ h side start to pos parts come w. stops_of g.P.Shape c.args.from.now c.args.from.now c.args.self.now
+    c.take.new.self.course.fault side start to pos parts parts come (le_refl (value c.args.from.now.at)) (λ x one. one) w h)
+    c.take.ensures.fault

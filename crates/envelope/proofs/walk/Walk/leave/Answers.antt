@@ -3,6 +3,7 @@ use Rattle.std.specs.Prelude.{is_some}
 use Rattle.envelope.specs.declared.turns.Turn.{Turn}
 use Rattle.frac128.specs.Value.{value}
 use Rattle.envelope.proofs.Leaving.{goes_none, goes_on, gone, nothing_left, nothing_of, something_left, something_of}
+use Rattle.envelope.proofs.Faulting.{err_any, stopped_going}
 use Rattle.envelope.proofs.walk.Walk.leave.Goals as goal
 
 pub loop-next-init : goal.loop-next-init
@@ -32,6 +33,7 @@ returns-then-is_later g c = record {
       (λ t h. c.is_later.ensures.later c.if-is_later.true t
       (something_of c.loop-next.self.course.after.low c.loop-next.self.low_until c.in-Some.next
       c.loop-next.self.queue.items t (sym c.in-Some.ensures) h));
+  fault = tt;
 }
 
 pub returns : goal.returns
@@ -41,4 +43,10 @@ returns g c = record {
       (nothing_left c.loop-next.self.course.after.low c.loop-next.self.low_until c.loop-next.self.queue.items
       (value c.args.turn.now.at) (sym c.in_default.ensures))
       (λ t h. absurd (something_left c.loop-next.self.course.after.low c.loop-next.self.low_until c.loop-next.self.queue.items t (sym c.in_default.ensures) h));
+  fault = tt;
 }
+
+pub returns-in_err-pass-clause-fault : goal.returns-in_err-pass-clause-fault
+returns-in_err-pass-clause-fault g c = err_any c.from_residual.result
+    (stopped_going g.P.Shape (assumption g.met.P.Shape) c.args.turn.now c.args.self.now c.loop-next.self
+    c.pass.new.self.course.fault c.loop-next.invariant c.in_err-pass.ensures.fault)

@@ -1,8 +1,8 @@
-use Rattle.std.proofs.Common.{Some, None, [], ◌∷◌, ◌++◌, sym, subst, arith}
+use Rattle.std.proofs.Common.{Some, None, [], ◌∷◌, ◌++◌, sym, ap, subst, arith}
 use Rattle.std.proofs.lemmas.List.{append-nil}
 use Rattle.stl_syntax.specs.Verdicts.{Describes}
 use Rattle.online_nodes.specs.Cuts.{place, begins, ends}
-use Rattle.online_nodes.specs.Written.{Lead}
+use Rattle.online_nodes.specs.Written.{Lead, waiting}
 use Rattle.online_nodes.proofs.GotLemmas.{got_none}
 use Rattle.online_nodes.proofs.Writing.{lead_describes, lead_to, put_last, put_none, sound_later}
 use Rattle.online_nodes.proofs.writer.Out.finish.Goals as goal
@@ -12,6 +12,7 @@ returns-in_default-clause-finished c =
     record {
       more = [];
       few = omega arith;
+      owed = omega arith;
       got = got_none c.args.edges.now c.args.self.edge;
       told = λ n tr begin written told. (
         told.last,
@@ -34,6 +35,7 @@ returns-clause-finished c =
     record {
       more = p.verdict ∷ [];
       few = omega arith;
+      owed = omega (arith, ap waiting c.in-Some.is);
       got = p.got;
       told = λ n tr begin written told.
           (Some p.verdict.holds, put_last n tr begin written c.in-Some.holds p.verdict c.args.self c.in-Some.is p.begin p.end p.is told);

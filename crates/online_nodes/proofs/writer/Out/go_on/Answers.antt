@@ -2,7 +2,7 @@ use Rattle.std.proofs.Common.{◌≡◌, Some, [], ◌∷◌, refl, sym, ap, sub
 use Rattle.std.proofs.lemmas.List.{append-nil}
 use Rattle.online_nodes.specs.declared.writer.Out.{Out}
 use Rattle.online_nodes.specs.Cuts.{place}
-use Rattle.online_nodes.specs.Written.{HasTold}
+use Rattle.online_nodes.specs.Written.{HasTold, waiting}
 use Rattle.online_nodes.proofs.GotLemmas.{got_none}
 use Rattle.online_nodes.proofs.PlaceLemmas.{same_before, before_trans}
 use Rattle.online_nodes.proofs.Writing.{first_told, same_told, turned, same_bool, other_bool, sound_first, sound_later}
@@ -23,6 +23,7 @@ returns-in_default-clause-written c =
       answer = record {
         more = [];
         few = omega arith;
+        owed = omega arith;
         got = got_none c.args.edges.now c.args.self.edge;
         edge = refl;
         end = refl;
@@ -50,6 +51,7 @@ returns-then-before-holds-clause-written c =
       answer = record {
         more = [];
         few = omega arith;
+        owed = omega arith;
         got = got_none c.args.edges.now c.args.self.edge;
         edge = refl;
         end = refl;
@@ -69,6 +71,7 @@ returns-clause-written c =
       answer = record {
         more = p.verdict ∷ [];
         few = omega arith;
+        owed = omega (arith, ap waiting c.in-Some.is);
         got = p.got;
         edge = refl;
         end = refl;

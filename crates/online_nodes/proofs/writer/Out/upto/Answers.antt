@@ -13,6 +13,7 @@ returns-then-not-precedes-clause-said c =
     record {
       more = [];
       few = omega arith;
+      owed = omega arith;
       got = got_none c.args.edges.now c.args.self.edge;
       edge = refl;
       end = refl;

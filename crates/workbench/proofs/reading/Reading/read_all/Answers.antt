@@ -1,12 +1,14 @@
-use Rattle.std.proofs.Common.{◌<◌, false, true, ◌++◌, length, take, refl, ◌∙◌, arith}
+use Rattle.std.proofs.Common.{◌<◌, false, true, ◌++◌, length, take, refl, ap, ◌∙◌, arith}
 use Rattle.std.proofs.KnownBytes.{Consumes-nil}
 use Rattle.std.proofs.lemmas.Result.{err_from_is_err_and}
-use Rattle.workbench.proofs.Progress.{few_reads, has_kept, read_in_part, read_all, read_more, go_on, stop_from, end_from, not_unread, end_not_unread, none_taken, some_taken, short_taken, prompt_piece, prompt_end, not_true}
+use Rattle.io_edge.specs.Causes.{after_end}
+use Rattle.workbench.proofs.Progress.{few_reads, has_kept, read_in_part, read_all, read_more, go_on, stop_from, end_from, not_unread, end_not_unread, none_taken, some_taken, short_taken, prompt_piece, prompt_end, not_true, unended}
 use Rattle.workbench.proofs.reading.Reading.read_all.Goals as goal
 
 pub loop-reads-init : goal.loop-reads-init
 loop-reads-init g c = record {
   progress = record { bytes = _; moved = Consumes-nil (g.S.Source.left c.args.input.now); is = c.requires.empty; same_limits = refl; enough = omega arith };
+  unended = refl;
   still = refl;
   size = refl;
 }
@@ -19,6 +21,15 @@ returns-in_default-clause-later g c = let h = c.in_default.ensures.cause.later i
 
 pub returns-in_default-clause-unread : goal.returns-in_default-clause-unread
 returns-in_default-clause-unread g c = λ _. let h = c.in_default.ensures.cause.failed in let same = c.loop-reads.invariant.still in omega arith
+
+pub returns-in_default-clause-ends : goal.returns-in_default-clause-ends
+returns-in_default-clause-ends g c = c.in_default.ensures.ends ∙ ap (after_end (g.S.Source.ended c.read.new.self)) c.loop-reads.invariant.unended
+
+pub returns-then-count-eq0-clause-ends : goal.returns-then-count-eq0-clause-ends
+returns-then-count-eq0-clause-ends g c = c.in-Ok.ensures.ends ∙ ap (after_end (g.S.Source.ended c.read.new.self)) c.loop-reads.invariant.unended
+
+pub returns-in_err-feed-clause-ends : goal.returns-in_err-feed-clause-ends
+returns-in_err-feed-clause-ends g c = c.in-Ok.ensures.ends ∙ ap (after_end (g.S.Source.ended c.read.new.self)) c.loop-reads.invariant.unended
 
 pub returns-in_default-clause-still : goal.returns-in_default-clause-still
 returns-in_default-clause-still g c = λ other. absurd (other refl)
@@ -82,6 +93,7 @@ loop-reads-preserved g c =
     record {
       progress = go_on p (g.S.Source.left c.read.new.self) (take c.in-Ok.count c.read.new.buf) c.feed.new.self.rows c.feed.new.self.case c.in-Ok.ensures.bytes.0
           (some_taken c.in-Ok.count c.read.new.buf c.if-count-eq0.false c.in-Ok.ensures.bound.0) (c.in_ok-feed.ensures.taken p.bytes p.is) c.in_ok-feed.ensures.limits;
+      unended = unended (g.S.Source.ended c.read.new.self) _ _ c.in-Ok.ensures.ends (not_true (g.S.Source.ended c.read.new.self) (λ t. c.if-count-eq0.false (c.in-Ok.ensures.end.0 t).0)) ∙ c.loop-reads.invariant.unended;
       still = c.in-Ok.ensures.cause.still ∙ c.loop-reads.invariant.still;
       size = c.read.auto.buf ∙ c.loop-reads.invariant.size;
     }

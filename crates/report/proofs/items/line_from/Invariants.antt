@@ -1,0 +1,5 @@
+use Rattle.report.proofs.JoinedLines.{IsReading}
+use Rattle.report.proofs.items.line_from.Given as goal
+
+abbrev pub invariant-loop-k : goal.invariant-loop-k
+invariant-loop-k l = IsReading l.items l.i l.k l.line
