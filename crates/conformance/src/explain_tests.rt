@@ -243,7 +243,7 @@ fn past_operators(rt: HostRuntime) -> Result<(), Fail> {
 }
 
 /// Rows at the times below `count`, 0 at even and 1 at odd ones.
-fn waves(alloc: Global, count: u32) -> Result<String, AllocError> {
+pub(crate) fn waves(alloc: Global, count: u32) -> Result<String, AllocError> {
     let mut text = String::from_str(alloc, "time,x:step\n")?;
     for k in 0..count {
         let row = format!(in alloc; "{k},{}\n", k % 2)?;

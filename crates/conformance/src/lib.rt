@@ -16,6 +16,8 @@ mod margin_tests;
 #[cfg(test)]
 mod operator_tests;
 #[cfg(test)]
+mod reason_tests;
+#[cfg(test)]
 mod run_tests;
 #[cfg(test)]
 mod shape_tests;

@@ -685,7 +685,7 @@ fn refused<'a>(words: &'a [&'a str], err: &'a str, status: u8) -> Case<'a> {
     }
 }
 
-const USAGE: &str = "usage: check F | robust F\n";
+const USAGE: &str = "usage: check F | robust F | explain F\n";
 
 /// Words that are no form.
 const NO_FORMS: [&[&str]; 6] = [

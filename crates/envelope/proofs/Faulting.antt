@@ -73,11 +73,11 @@ module _ {P : Type 0} (shape : ShapeOf P) (laws : ShapeLaws shape) (side : Side)
       touch : (u : Rational) → IsNoBetter side (value_at (shape.function q) u) (value_at (shape.function q) t) → value_at (shape.function p) u ≈ᵉ value_at (shape.function q) u
       touch u h = same_of side (value_at (shape.function p) u) (value_at (shape.function q) u)
           (no_better_trans side (value_at (shape.function p) u) (none_of side shape.lowest shape.highest) (value_at (shape.function q) u)
-          (none u) (none_below shape laws side q u))
+          (none.value u) (none_below shape laws side q u))
           (no_better_trans side (value_at (shape.function q) u) (value_at (shape.function q) t) (value_at (shape.function p) u) h
           (no_better_trans side (value_at (shape.function q) t) (value_at (shape.function p) t) (value_at (shape.function p) u) (meets side)
           (no_better_trans side (value_at (shape.function p) t) (none_of side shape.lowest shape.highest) (value_at (shape.function p) u)
-          (none t) (none_below shape laws side p u))))
+          (none.value t) (none_below shape laws side p u))))
         where
           meets : (side : Side) → IsNoBetter side (value_at (shape.function q) t) (value_at (shape.function p) t)
           meets Greatest = m.meet.at_least

@@ -125,7 +125,7 @@ module _ {P : Type 0} (shape : ShapeOf P) where
       (shape.function q)) (sym m) (by_items items is can.queue.2)
     where
       by_items : (items : List (Item P)) → IsTop shape side items top → AreItems shape course items → HasBoundedLevel (2 ^ 31) (shape.function top)
-      by_items [] n a = λ steady t. none_bounded shape laws side top t (n t)
+      by_items [] n a = λ steady t. none_bounded shape laws side top t (n.value t)
       by_items (item ∷ items) n a = subst (λ q. HasBoundedLevel (2 ^ 31) (shape.function q)) (sym n) a.0.level
   levels_in course low_until first items top side can laws is p (inr (inl m)) = by_slope first.slope refl m
     where

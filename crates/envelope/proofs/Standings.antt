@@ -74,8 +74,7 @@ module _ {P : Type 0} (shape : ShapeOf P) (laws : ShapeLaws shape) (side : Side)
           by_items : (items : List (Item P)) → IsTop shape side items best.top → AreBacked shape side pos to parts items
               → ((t : Rational) → NothingLeaves best low_until items t → FirstStays items t)
               → IsNone shape side p ⊎ IsPieceOn parts p (λ t. HasCome pos t × NothingLeaves best low_until items t)
-          by_items [] top b f = inl (λ t. subst (λ q. IsNoBetter side (value_at (shape.function q) t)
-              (none_of side shape.lowest shape.highest)) (sym m) (top t))
+          by_items [] top b f = inl (subst (λ q. IsNone shape side q) (sym m) top)
           by_items (item ∷ items) top b f = let (x, one, e, on, _) = b.0 in inr (x, one, e ∙ sym (m ∙ top), λ t n. on t (n.0, f t n.1))
       carried p (inr (inl m)) = let (x, one, e, on, _) = keeps.low p m in inr (x, one, e, λ t n. on t (n.0, low_stays best low_until items t p m n.1))
       carried p (inr (inr m)) = let (x, one, e, on) = keeps.high p m in inr (x, one, e, λ t n. on t n.0)
@@ -120,7 +119,7 @@ module _ {P : Type 0} (shape : ShapeOf P) (laws : ShapeLaws shape) (side : Side)
               (value_at (shape.function p) t)
               → IsNoBetter side v (none_of side shape.lowest shape.highest) ⊎ ((x : Part P) × IsOneOf parts x
               × Counts x t × IsNoBetter side v (value_at (shape.function x.shape) t))
-          by_carried p (inl n) k = inl (no_better_trans side v (value_at (shape.function p) t) (none_of side shape.lowest shape.highest) k (n t))
+          by_carried p (inl n) k = inl (no_better_trans side v (value_at (shape.function p) t) (none_of side shape.lowest shape.highest) k (n.value t))
           by_carried p (inr (x, one, e, on)) k = inr (x, one, on t (come, stays), subst (λ q. IsNoBetter side v (value_at (shape.function q) t)) (sym e) k)
 
   -- fewer times are carried too

@@ -284,6 +284,7 @@ module _ {P : Type 0} (shape : ShapeOf P) where
 
 module _ {P : Type 0} (shape : ShapeOf P) (laws : ShapeLaws shape) (side : Side) (course : Course P) (none : P)
     (is_none : (t : Rational) → value_at (shape.function none) t ≈ᵉ none_of side shape.lowest shape.highest)
+    (none_still : shape.moves none ≡ false)
     (of_side : course.side ≡ side) (built : course.built ≡ None)
     (before : course.before ≡ record { top = none; low = None; high = None })
     (point : course.point ≡ none) (after : course.after ≡ record { top = none; low = None; high = None }) where
@@ -291,7 +292,10 @@ module _ {P : Type 0} (shape : ShapeOf P) (laws : ShapeLaws shape) (side : Side)
   nothing = record { top = none; low = None; high = None }
 
   no_value : IsNone shape side none
-  no_value t = no_better_same side (value_at (shape.function none) t) (none_of side shape.lowest shape.highest) (is_none t)
+  no_value = record {
+    value = λ t. no_better_same side (value_at (shape.function none) t) (none_of side shape.lowest shape.highest) (is_none t);
+    still = none_still;
+  }
 
   only_none : (p : P) → Has (record { top = none; low = None; high = None }) p → p ≡ none
   only_none p (inl e) = e
@@ -300,7 +304,7 @@ module _ {P : Type 0} (shape : ShapeOf P) (laws : ShapeLaws shape) (side : Side)
 
   -- shapes that stand for no value are compared within limits
   levels : HaveLevels shape (record { top = none; low = None; high = None })
-  levels p m steady t = subst (λ q. IsBounded (2 ^ 31) (value_at (shape.function q) t)) (sym (only_none p m)) (none_bounded shape laws side none t (no_value t))
+  levels p m steady t = subst (λ q. IsBounded (2 ^ 31) (value_at (shape.function q) t)) (sym (only_none p m)) (none_bounded shape laws side none t (no_value.value t))
 
   -- a walk that begins can go on
   pub begun_can : IsWithin (2 ^ 34) (value course.at) → course.fault ≡ None → (low_until : Turn) → CanGoOn shape course low_until []

@@ -1,5 +1,5 @@
 -- Where a walk stands: the pieces so far, the best of those that count at a time, and what the queue keeps of them.
-use Rattle.std.specs.Prelude.{◌≡◌, ◌⊎◌, ◌^◌, List, [], ◌∷◌, ◌++◌, Option, Some, None, MatchOption, ℕ, ◌+◌, ◌<◌, length}
+use Rattle.std.specs.Prelude.{◌≡◌, ◌⊎◌, ◌^◌, List, [], ◌∷◌, ◌++◌, Option, Some, None, MatchOption, false, ℕ, ◌+◌, ◌<◌, length}
 use Rattle.rational.specs.Rational.{IsWithin}
 use Rattle.rational.specs.Time.{Rational, ◌≤ʳ◌, ◌<ʳ◌}
 use Rattle.rational.specs.Extended.{Extended, value_at}
@@ -52,9 +52,10 @@ module _ {P : Type 0} (shape : ShapeOf P) (side : Side) where
     pub one_of : IsNoBetter side v (none_of side shape.lowest shape.highest)
         ⊎ ((x : Part P) × IsOneOf parts x × Counts x t × IsNoBetter side v (value_at (shape.function x.shape) t))
 
-  -- the shape stands for no value at any time
-  abbrev pub IsNone : P → Type 0
-  IsNone p = (t : Rational) → IsNoBetter side (value_at (shape.function p) t) (none_of side shape.lowest shape.highest)
+  -- the shape stands for no value at any time, and does not move
+  pub record IsNone (p : P) : Type 0 where
+    pub value : (t : Rational) → IsNoBetter side (value_at (shape.function p) t) (none_of side shape.lowest shape.highest)
+    pub still : shape.moves p ≡ false
 
   -- the constant is that of the first item, or none
   abbrev pub IsTop : List (Item P) → P → Type 0

@@ -18,38 +18,58 @@ rising_rest : (x : Rational) (xs : List Rational) → AreRisingTimes (x ∷ xs) 
 rising_rest x [] r = tt
 rising_rest x (y ∷ xs) r = r.1
 
--- rising times with the same members are equally many
-pub same_length : (xs ys : List Rational) → AreRisingTimes xs → AreRisingTimes ys → ((t : Rational) → IsAmong xs t → IsAmong ys t)
-    → ((t : Rational) → IsAmong ys t → IsAmong xs t)
-    → length xs ≡ length ys
-same_length [] [] r s f g = refl
-same_length [] (y ∷ ys) r s f g = absurd (g y (inl (same_refl y)))
-same_length (x ∷ xs) [] r s f g = absurd (f x (inl (same_refl x)))
-same_length (x ∷ xs) (y ∷ ys) r s f g = ap suc (same_length xs ys (rising_rest x xs r) (rising_rest y ys s) there back)
+-- rising times with the same members
+pub record AreSameTimes (xs ys : List Rational) : Type 0 where
+  pub left : AreRisingTimes xs
+  pub right : AreRisingTimes ys
+  pub there : (t : Rational) → IsAmong xs t → IsAmong ys t
+  pub back : (t : Rational) → IsAmong ys t → IsAmong xs t
+
+-- begin with the same time
+pub first_is_same : (x y : Rational) (xs ys : List Rational) → AreSameTimes (x ∷ xs) (y ∷ ys) → x ≈ y
+first_is_same x y xs ys s = same_of_le (rising_first x xs y s.left (s.back y (inl (same_refl y)))) (rising_first y ys x s.right (s.there x (inl (same_refl x))))
+
+-- and have the same members behind it
+pub rest_is_same : (x y : Rational) (xs ys : List Rational) → AreSameTimes (x ∷ xs) (y ∷ ys) → AreSameTimes xs ys
+rest_is_same x y xs ys s = record { left = rising_rest x xs s.left; right = rising_rest y ys s.right; there = there; back = back }
   where
     heads : x ≈ y
-    heads = same_of_le (rising_first x xs y r (g y (inl (same_refl y)))) (rising_first y ys x s (f x (inl (same_refl x))))
+    heads = first_is_same x y xs ys s
 
     there : (t : Rational) → IsAmong xs t → IsAmong ys t
-    there t m = elim (f t (inr m)) [
-      | inl e ↦ absurd (lt_irrefl (lt_of_lt_of_le (rising_after x xs t r m) (le_of_same (same_trans e (same_sym heads)))))
+    there t m = elim (s.there t (inr m)) [
+      | inl e ↦ absurd (lt_irrefl (lt_of_lt_of_le (rising_after x xs t s.left m) (le_of_same (same_trans e (same_sym heads)))))
       | inr n ↦ n
     ]
 
     back : (t : Rational) → IsAmong ys t → IsAmong xs t
-    back t m = elim (g t (inr m)) [
-      | inl e ↦ absurd (lt_irrefl (lt_of_lt_of_le (rising_after y ys t s m) (le_of_same (same_trans e heads))))
+    back t m = elim (s.back t (inr m)) [
+      | inl e ↦ absurd (lt_irrefl (lt_of_lt_of_le (rising_after y ys t s.right m) (le_of_same (same_trans e heads))))
       | inr n ↦ n
     ]
 
+-- they are equally many
+pub same_length : (xs ys : List Rational) → AreSameTimes xs ys → length xs ≡ length ys
+same_length [] [] s = refl
+same_length [] (y ∷ ys) s = absurd (s.back y (inl (same_refl y)))
+same_length (x ∷ xs) [] s = absurd (s.there x (inl (same_refl x)))
+same_length (x ∷ xs) (y ∷ ys) s = ap suc (same_length xs ys (rest_is_same x y xs ys s))
+
 module _ (nodes : List Node) (tr : Trace) where
-  -- a node has one number of cut times
-  pub cuts_are_as_many : (i : ℕ) (xs ys : List Rational) → AreCuts nodes tr i xs → AreCuts nodes tr i ys → length xs ≡ length ys
-  cuts_are_as_many i xs ys a b =
-      same_length xs ys a.rising b.rising (λ t m. b.complete t (cut_of i xs t a m)) (λ t m. a.complete t (cut_of i ys t b m))
+  -- a node has one list of cut times
+  pub cuts_are_same : (i : ℕ) (xs ys : List Rational) → AreCuts nodes tr i xs → AreCuts nodes tr i ys → AreSameTimes xs ys
+  cuts_are_same i xs ys a b = record {
+    left = a.rising;
+    right = b.rising;
+    there = λ t m. b.complete t (cut_of i xs t a m);
+    back = λ t m. a.complete t (cut_of i ys t b m);
+  }
     where
       cut_of : (i : ℕ) (times : List Rational) (t : Rational) → AreCuts nodes tr i times → IsAmong times t → IsCut nodes tr i t
       cut_of i times t cuts m = let c = among_cut nodes tr i times t cuts.sound m in cut_same nodes tr i t c.0 c.1 c.2
+
+  pub cuts_are_as_many : (i : ℕ) (xs ys : List Rational) → AreCuts nodes tr i xs → AreCuts nodes tr i ys → length xs ≡ length ys
+  cuts_are_as_many i xs ys a b = same_length xs ys (cuts_are_same i xs ys a b)
 
   -- a count begins at a node, or behind the last one
   count_within : (i n : ℕ) → CellCount nodes tr i n → i ≤ length nodes

@@ -19,3 +19,5 @@ pub mod Handing
 pub mod Counting
 pub mod Listing
 pub mod Gathering
+pub mod OfAtoms
+pub mod OneExplanation

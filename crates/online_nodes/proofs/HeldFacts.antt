@@ -219,8 +219,11 @@ module _ {nodes : List Node} {header : Header} {events : List Event} {op : Opera
           (held_at e j)
           → ((held_at e j ≡ []) × (shown (state nodes events) j ≡ None)) ⊎ ((f : ℤ) × IsHeldTo (held_at e j) f)
       by_shown None x h = inl (h, x)
-      by_shown (Some f) x h = inr (f, by_part (needed_part (first_time (state nodes events).rows) f ((state nodes events).fronts op.node) (reach_back b.stands.node left) edge.emitted
-          (held_at e j) whole_list h))
+      by_shown (Some f) x h = inr (
+        f,
+        by_part (needed_part (first_time (state nodes events).rows) f ((state nodes events).fronts op.node) (reach_back b.stands.node left) edge.emitted
+            (held_at e j) whole_list h),
+      )
         where
           whole_list : AreTiles (answered_to (first_time (state nodes events).rows) None) edge.emitted
               (answered_to (first_time (state nodes events).rows) (Some f))

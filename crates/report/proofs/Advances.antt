@@ -23,9 +23,11 @@ use Rattle.report.specs.declared.spelling.OpenSpan.{OpenSpan}
 use Rattle.report.proofs.Spellings.{IsSpelled, spelled_first, spelled_on, spelled_end}
 
 -- there is time up to the end of the gap
-pub room_after_gap : (o inside : OpenSpan) (at next : Frac) (truth : Bool) (ended : Option Verdict) → HasTimeBetween (value o.from) (value at) (o.from_in && true) → value at <ʳ value next
+pub room_after_gap : (o inside : OpenSpan) (at next : Frac) (truth : Bool) (ended : Option Verdict)
+    → HasTimeBetween (value o.from) (value at) (o.from_in && true) → value at <ʳ value next
     → GoesTo o at true truth ended inside → HasTimeBetween (value inside.from) (value next) (inside.from_in && false)
-room_after_gap o inside at next truth ended h rising g = room_of_precedes (inside.from_in && false) (value inside.from) (value next) (rw (out inside.from_in) (from_before ended g))
+room_after_gap o inside at next truth ended h rising g =
+    room_of_precedes (inside.from_in && false) (value inside.from) (value next) (rw (out inside.from_in) (from_before ended g))
   where
     out : (b : Bool) → (b && false) ≡ false
     out true = refl
@@ -59,7 +61,14 @@ going o at at_in truth h = by_truth (differ o.holds truth)
     by_truth (inr e) = record {
       ended = Some (record { on = record { from = o.from; from_in = o.from_in; to = at; to_in = at_in; not_empty = h }; holds = o.holds });
       new = record { from = at; from_in = not at_in; holds = truth };
-      goes = record { closes = record { from = refl; from_in = refl; to = refl; to_in = refl; holds = refl }; other = e; from = refl; from_in = refl; holds = refl };
+      goes = record {
+        closes = record { from = refl; from_in = refl; to = refl; to_in = refl; holds = refl };
+        other = e;
+        from = refl;
+        from_in = refl;
+        holds =
+            refl;
+      };
     }
 
 -- it has the sign of the truth
@@ -87,15 +96,18 @@ module _ (knots : List (Knot Truth)) where
 
   point_told : (i : ℕ) (k : Knot Truth) → slice_get knots i ≡ Some k → (t : Rational) → t ≈ time k → IsWorth truth_shape knots t (sign_of k.point.holds)
   point_told i k h t e =
-      worth_same truth_shape knots (value_at (truth_shape.function k.point) t) (sign_of k.point.holds) (same_refl t) (signs k.point.holds t) (worth_at truth_shape knots i k t h e)
+      worth_same truth_shape knots (value_at (truth_shape.function k.point) t) (sign_of k.point.holds) (same_refl t) (signs k.point.holds t)
+      (worth_at truth_shape knots i k t h e)
 
   gap_told : (i : ℕ) (k n : Knot Truth) → slice_get knots i ≡ Some k → slice_get knots (i + 1) ≡ Some n → (t : Rational) → time k <ʳ t → t <ʳ time n
       → IsWorth truth_shape knots t (sign_of k.after.holds)
   gap_told i k n h j t a b =
-      worth_same truth_shape knots (value_at (truth_shape.function k.after) t) (sign_of k.after.holds) (same_refl t) (signs k.after.holds t) (worth_between truth_shape knots i k n t h j a b)
+      worth_same truth_shape knots (value_at (truth_shape.function k.after) t) (sign_of k.after.holds) (same_refl t) (signs k.after.holds t)
+      (worth_between truth_shape knots i k n t h j a b)
 
   -- the first knot alone
-  pub spelled_start : (k : Knot Truth) (o : OpenSpan) → slice_get knots 0 ≡ Some k → o.from ≡ k.time → o.from_in ≡ true → o.holds ≡ k.point.holds → IsSpelledTo 0 [] o
+  pub spelled_start : (k : Knot Truth) (o : OpenSpan) → slice_get knots 0 ≡ Some k → o.from ≡ k.time → o.from_in ≡ true → o.holds ≡ k.point.holds
+      → IsSpelledTo 0 [] o
   spelled_start k o h e f g = record {
     last = k;
     is = h;
@@ -107,14 +119,18 @@ module _ (knots : List (Knot Truth)) where
       first_is (l ∷ ks) h = let e : l ≡ k = cc in ap time e
 
   -- there is time up to the knot
-  pub room_to : (i : ℕ) (verdicts : List Verdict) (o : OpenSpan) (k : Knot Truth) → slice_get knots i ≡ Some k → IsSpelledTo i verdicts o → HasTimeBetween (value o.from) (value k.time) (o.from_in && true)
+  pub room_to : (i : ℕ) (verdicts : List Verdict) (o : OpenSpan) (k : Knot Truth) → slice_get knots i ≡ Some k → IsSpelledTo i verdicts o
+      → HasTimeBetween (value o.from) (value k.time) (o.from_in && true)
   room_to i verdicts o k h s =
       let e : s.last ≡ k = let g = s.is in cc in
-      room_of_precedes (o.from_in && true) (value o.from) (value k.time) (subst (λ (k : Knot Truth). Precedes (o.from_in && true) (value o.from) (time k)) e s.spelled.begun)
+      room_of_precedes (o.from_in && true) (value o.from) (value k.time)
+      (subst (λ (k : Knot Truth). Precedes (o.from_in && true) (value o.from) (time k)) e s.spelled.begun)
 
   -- past the next knot
-  pub spelled_advance : (i : ℕ) (verdicts : List Verdict) (o new : OpenSpan) (k n : Knot Truth) (by_gap by_point : Option Verdict) → IsSignal truth_shape knots → slice_get knots i ≡ Some k
-      → slice_get knots (i + 1) ≡ Some n → IsAdvanced o k n by_gap by_point new → IsSpelledTo i verdicts o → IsSpelledTo (i + 1) ((verdicts ++ listed by_gap) ++ listed by_point) new
+  pub spelled_advance : (i : ℕ) (verdicts : List Verdict) (o new : OpenSpan) (k n : Knot Truth) (by_gap by_point : Option Verdict)
+      → IsSignal truth_shape knots → slice_get knots i ≡ Some k
+      → slice_get knots (i + 1) ≡ Some n → IsAdvanced o k n by_gap by_point new → IsSpelledTo i verdicts o
+      → IsSpelledTo (i + 1) ((verdicts ++ listed by_gap) ++ listed by_point) new
   spelled_advance i verdicts o new k n by_gap by_point signal h j a s =
       let e : s.last ≡ k = let g = s.is in cc in
       let rising = next_rises truth_shape knots i k n signal.each h j in
@@ -124,26 +140,32 @@ module _ (knots : List (Knot Truth)) where
       record {
         last = n;
         is = j;
-        spelled = spelled_on (IsWorth truth_shape knots) (start knots) (verdicts ++ listed by_gap) a.inside new n.time false n.point.holds by_point (time n) true a.point inside (le_refl (time n))
+        spelled =
+            spelled_on (IsWorth truth_shape knots) (start knots) (verdicts ++ listed by_gap) a.inside new n.time false n.point.holds by_point
+            (time n) true a.point inside (le_refl (time n))
             (λ t inside. point_told (i + 1) n j t (same_of_le inside.below inside.above));
       }
 
   -- the last span ends with the signal
-  pub spelled_stop : (i : ℕ) (verdicts : List Verdict) (o : OpenSpan) (w : Verdict) (at : Frac) → length knots ≤ i + 1 → IsSpelledTo i verdicts o → value at ≡ stop knots → Closes o at true w
+  pub spelled_stop : (i : ℕ) (verdicts : List Verdict) (o : OpenSpan) (w : Verdict) (at : Frac) → length knots ≤ i + 1 → IsSpelledTo i verdicts o
+      → value at ≡ stop knots → Closes o at true w
       → DescribesFunction (IsWorth truth_shape knots) (verdicts ++ w ∷ []) (closed (start knots) (stop knots))
   spelled_stop i verdicts o w at h s e c =
       let there : time s.last ≡ value at = sym (e ∙ stop_at truth_shape knots i s.last s.is (no_knot_at knots (i + 1) h)) in
       let here = subst (λ now. IsSpelled (IsWorth truth_shape knots) (start knots) now true verdicts o) there s.spelled in
-      subst (λ t. DescribesFunction (IsWorth truth_shape knots) (verdicts ++ w ∷ []) (closed (start knots) t)) e (spelled_end (IsWorth truth_shape knots) (start knots) at verdicts o w here c)
+      subst (λ t. DescribesFunction (IsWorth truth_shape knots) (verdicts ++ w ∷ []) (closed (start knots) t)) e
+      (spelled_end (IsWorth truth_shape knots) (start knots) at verdicts o w here c)
 
-  pub stop_room : (i : ℕ) (verdicts : List Verdict) (o : OpenSpan) (at : Frac) → length knots ≤ i + 1 → IsSpelledTo i verdicts o → value at ≡ stop knots → HasTimeBetween (value o.from) (value at) (o.from_in && true)
+  pub stop_room : (i : ℕ) (verdicts : List Verdict) (o : OpenSpan) (at : Frac) → length knots ≤ i + 1 → IsSpelledTo i verdicts o → value at ≡ stop knots
+      → HasTimeBetween (value o.from) (value at) (o.from_in && true)
   stop_room i verdicts o at h s e =
       let there : time s.last ≡ value at = sym (e ∙ stop_at truth_shape knots i s.last s.is (no_knot_at knots (i + 1) h)) in
       room_of_precedes (o.from_in && true) (value o.from) (value at) (subst (λ now. Precedes (o.from_in && true) (value o.from) now) there s.spelled.begun)
 
   -- from each knot the verdicts can be told to the end, the last one apart
   pub told_to_end : (left i : ℕ) (verdicts : List Verdict) (o : OpenSpan) → IsSignal truth_shape knots → i + suc left ≡ length knots → IsSpelledTo i verdicts o
-      → (later : List Verdict) × (end : Verdict) × DescribesFunction (IsWorth truth_shape knots) (verdicts ++ (later ++ end ∷ [])) (closed (start knots) (stop knots))
+      → (later : List Verdict) × (end : Verdict)
+      × DescribesFunction (IsWorth truth_shape knots) (verdicts ++ (later ++ end ∷ [])) (closed (start knots) (stop knots))
   told_to_end zero i verdicts o signal count s =
       let at = s.last.time in
       let there : value at ≡ stop knots = sym (stop_at truth_shape knots i s.last s.is (no_knot_at knots (i + 1) (omega arith))) in
@@ -158,7 +180,8 @@ module _ (knots : List (Knot Truth)) where
       let point = going gap.new n.0.time false n.0.point.holds
       (room_after_gap o gap.new k.time n.0.time k.after.holds gap.ended room (next_rises truth_shape knots i k n.0 signal.each s.is n.1) gap.goes) in
       let more = told_to_end left (i + 1) ((verdicts ++ listed gap.ended) ++ listed point.ended) point.new signal (omega arith)
-      (spelled_advance i verdicts o point.new k n.0 gap.ended point.ended signal s.is n.1 (record { inside = gap.new; gap = gap.goes; point = point.goes }) s) in
+      (spelled_advance i verdicts o point.new k n.0 gap.ended point.ended signal s.is n.1
+      (record { inside = gap.new; gap = gap.goes; point = point.goes }) s) in
       ((listed gap.ended ++ listed point.ended) ++ more.0, more.1, regroup verdicts (listed gap.ended) (listed point.ended) more.0 (more.1 ∷ []) more.2)
     where
       together : (a b c d e : List Verdict) → ((a ++ b) ++ c) ++ (d ++ e) ≡ a ++ (((b ++ c) ++ d) ++ e)

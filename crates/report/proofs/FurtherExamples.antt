@@ -1,6 +1,6 @@
 -- Causes, counts, early answers, scaled formulas and whole texts at small inputs.
 use Rattle.std.proofs.Common.{◌≡◌, ℕ, pos, negsuc, ◌^◌, inl, inr, List, [], ◌∷◌, ◌++◌, refl, true, false, lit≤, lit<, arith}
-use Rattle.std.specs.Prelude.{codes, Some}
+use Rattle.std.specs.Prelude.{codes}
 use Rattle.rational.specs.Rational.{Rational, ratio}
 use Rattle.rational.specs.Time.{whole}
 use Rattle.rational.specs.Extended.{Extended, finite, minus_infinity, infinity, ◌≈ᵉ◌, value_at}

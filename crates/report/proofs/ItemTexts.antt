@@ -1,6 +1,7 @@
 -- The lines of items: there are some for each list, and they grow line by line.
-use Rattle.std.proofs.Common.{◌≡◌, ◌⊎◌, ℕ, zero, suc, ◌+◌, ◌*◌, ◌&&◌, Bool, true, false, List, [], ◌∷◌, ◌++◌, append-nil, append_assoc, refl, sym, ap, ◌∙◌, subst, inl, inr, arith, codes}
+use Rattle.std.proofs.Common.{◌≡◌, ◌⊎◌, ℕ, ◌+◌, ◌*◌, ◌&&◌, Bool, true, false, List, [], ◌∷◌, ◌++◌, append-nil, append_assoc, refl, sym, ap, ◌∙◌, subst, inl, inr, codes}
 use Rattle.std.proofs.lemmas.Bool.{cases_eq, cases_Bool, and_left, and_right}
+use Rattle.std.proofs.lemmas.List.Elements.{All-nil, All-cons, All-head, All-tail}
 use Rattle.std.specs.Prelude.{All, Some, slice_get}
 use Rattle.rational.specs.Time.{Rational, Touch, EndAlike, HasTimeBetween, ◌≈◌, ◌<ʳ◌, ◌≤ʳ◌}
 use Rattle.rational.proofs.Order.{same_refl, same_sym, same_trans, ge_of_same, le_trans, lt_of_lt_of_le, lt_of_le_of_lt}
@@ -84,10 +85,11 @@ pub ends_as_itself : (e : Item) → EndsAs e e
 ends_as_itself e = record { node = refl; holds = refl; ends = record { time = same_refl _; inside = refl } }
 
 -- what is left of a room that is not empty
-at_most : (b : Bool) (t u : Rational) → HasTimeBetween t u b → t ≤ʳ u
+pub at_most : (b : Bool) (t u : Rational) → HasTimeBetween t u b → t ≤ʳ u
 at_most b t u h = precedes_le b t u (precedes_of_room b t u h)
 
-below : (b : Bool) (t u : Rational) → b ≡ false → HasTimeBetween t u b → t <ʳ u
+-- and where an end is out
+pub below : (b : Bool) (t u : Rational) → b ≡ false → HasTimeBetween t u b → t <ʳ u
 below b t u e h = precedes_of_room false t u (subst (HasTimeBetween t u) e h)
 
 -- two spans that touch make one
@@ -109,20 +111,6 @@ record Continued (f : Formula) (line last : Item) (items : List Item) : Type 0 w
   joined : AreJoined line last items lines
   atoms : All (IsOfAtom f) lines
 
-one_of_atom : (f : Formula) (e : Item) → IsOfAtom f e → All (IsOfAtom f) (e ∷ [])
-one_of_atom f e h zero d l = h
-one_of_atom f e h (suc k) d l = absurd (omega (arith, l))
-
-more_of_atom : (f : Formula) (e : Item) (items : List Item) → IsOfAtom f e → All (IsOfAtom f) items → All (IsOfAtom f) (e ∷ items)
-more_of_atom f e items h all zero d l = h
-more_of_atom f e items h all (suc k) d l = all k d (omega (arith, l))
-
-later_of_atom : (f : Formula) (e : Item) (items : List Item) → All (IsOfAtom f) (e ∷ items) → All (IsOfAtom f) items
-later_of_atom f e items all k d l = all (suc k) d (omega (arith, l))
-
-first_of_atom : (f : Formula) (e : Item) (items : List Item) → All (IsOfAtom f) (e ∷ items) → IsOfAtom f e
-first_of_atom f e items all = all 0 e (omega arith)
-
 -- the item with the end of the one that joins it
 abbrev ended_as : (line e : Item) → Join line e → Item
 ended_as line e j = record {
@@ -132,27 +120,27 @@ ended_as line e j = record {
 }
 
 continued : (f : Formula) (line last : Item) (items : List Item) → EndsAs line last → IsOfAtom f line → All (IsOfAtom f) items → Continued f line last items
-continued f line last [] s own all = record { lines = line ∷ []; joined = refl; atoms = one_of_atom f line own }
+continued f line last [] s own all = record { lines = line ∷ []; joined = refl; atoms = All-cons (IsOfAtom f) line [] own (All-nil (IsOfAtom f)) }
 continued f line last (e ∷ items) s own all =
     elim (join_decided last e) as (λ v. Continued f line last (e ∷ items)) [
       | inl j ↦
           let k : Join line e = join_last line last e s j in
           let same : EndsAs (ended_as line e k) e = record { node = k.0; holds = k.1; ends = record { time = same_refl _; inside = refl } } in
-          let longer = continued f (ended_as line e k) e items same own (later_of_atom f e items all) in record {
+          let longer = continued f (ended_as line e k) e items same own (All-tail (IsOfAtom f) e items all) in record {
             lines = longer.lines;
             joined = inl (j, (ended_as line e k, refl, refl, record { time = same_refl _; inside = refl }, record { time = same_refl _; inside = refl }, longer.joined));
             atoms = longer.atoms;
           }
       | inr n ↦
-          let others = continued f e e items (ends_as_itself e) (first_of_atom f e items all) (later_of_atom f e items all) in record {
+          let others = continued f e e items (ends_as_itself e) (All-head (IsOfAtom f) e items all) (All-tail (IsOfAtom f) e items all) in record {
             lines = line ∷ others.lines;
             joined = inr (n, (others.lines, refl, others.joined));
-            atoms = more_of_atom f line others.lines own others.atoms;
+            atoms = All-cons (IsOfAtom f) line others.lines own others.atoms;
           }
     ]
 
 -- each span has a text
-span_exists : (scale : Scale) (on : Span) → (text : List ℕ) × IsSpanText scale on text
+pub span_exists : (scale : Scale) (on : Span) → (text : List ℕ) × IsSpanText scale on text
 span_exists scale on =
     let from = number_exists scale.time (value on.from) in
     let to = number_exists scale.time (value on.to) in
@@ -162,16 +150,16 @@ span_exists scale on =
 lines_written : (scale : Scale) (f : Formula) (lines : List Item) → All (IsOfAtom f) lines → (text : List ℕ) × AreItemLines scale f lines text
 lines_written scale f [] all = ([], refl)
 lines_written scale f (e ∷ lines) all =
-    let own = first_of_atom f e lines all in
+    let own = All-head (IsOfAtom f) e lines all in
     let on = span_exists scale e.on in
-    let later = lines_written scale f lines (later_of_atom f e lines all) in
+    let later = lines_written scale f lines (All-tail (IsOfAtom f) e lines all) in
     (_, (own.0, own.1, (atom_text f.scale own.0, on.0, later.0, atom_is f.scale own.0, on.1, later.1, refl)))
 
 -- items of atoms have a text
 pub items_exist : (scale : Scale) (f : Formula) (items : List Item) → All (IsOfAtom f) items → (text : List ℕ) × AreItemsText scale f items text
 items_exist scale f [] all = ([], record { lines = []; joined = refl; written = refl })
 items_exist scale f (e ∷ items) all =
-    let c = continued f e e items (ends_as_itself e) (first_of_atom f e items all) (later_of_atom f e items all) in
+    let c = continued f e e items (ends_as_itself e) (All-head (IsOfAtom f) e items all) (All-tail (IsOfAtom f) e items all) in
     let w = lines_written scale f c.lines c.atoms in
     (w.0, record { lines = c.lines; joined = c.joined; written = w.1 })
 

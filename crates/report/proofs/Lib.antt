@@ -13,6 +13,8 @@ pub mod Growths
 pub mod ItemTexts
 pub mod JoinedLines
 pub mod WritingItems
+pub mod JoinedTimes
+pub mod JoinedCells
 pub mod MarginTexts
 pub mod MarginLaw
 pub mod Stretch
@@ -31,3 +33,9 @@ pub mod StepLemmas
 pub mod TableTexts
 pub mod OneText
 pub mod StreamTexts
+pub mod PlainTexts
+pub mod JsonData
+pub mod JsonParts
+pub mod JsonItems
+pub mod ReportTexts
+pub mod FaultLines

@@ -16,7 +16,7 @@ use Rattle.report.specs.VerdictForms.{IsEntry, AreEntries}
 use Rattle.report.specs.Appended.{Grew, GrewInPart, AreEach, Then}
 use Rattle.report.proofs.Growths as growth
 use Rattle.report.proofs.Growths.{grew_then, part_then, part_first, some_then}
-use Rattle.report.proofs.Sequences.{each_join, each_grow, each_exist}
+use Rattle.report.proofs.Sequences.{each_join, each_exist}
 use Rattle.report.proofs.Spans.{span_text}
 
 -- t in units of 10^digits ticks
@@ -42,7 +42,8 @@ line_exists scale v =
     (_, (_, span_text scale v.on from.0 to.0 from.1 to.1, refl))
 
 -- the lines of two lists, one after the other
-lines_join : (scale : Scale) (vs ws : List Verdict) (text more : List ℕ) → AreVerdictLines scale vs text → AreVerdictLines scale ws more → AreVerdictLines scale (vs ++ ws) (text ++ more)
+lines_join : (scale : Scale) (vs ws : List Verdict) (text more : List ℕ) → AreVerdictLines scale vs text → AreVerdictLines scale ws more
+    → AreVerdictLines scale (vs ++ ws) (text ++ more)
 lines_join scale [] ws text more h k = rw h k
 lines_join scale (v ∷ vs) ws text more (here, later, first, others, e) k =
     (here, later ++ more, first, lines_join scale vs ws later more others k, ap (λ t. t ++ more) e ∙ append_assoc here later more)
@@ -69,7 +70,8 @@ module _ {P : Type 0} (shape : ShapeOf P) (json : Bool) (scale : Scale) (knots :
 
   -- verdicts that describe a signal, the last one apart
   pub entries_all : (before : List Verdict) (last : Verdict) (old mid new : List ℕ) → Described (before ++ last ∷ [])
-      → Grew (AreEach (IsEntry json false scale) before) old mid → Grew (IsEntry json true scale last) mid new → Grew (AreEntries shape json scale knots) old new
+      → Grew (AreEach (IsEntry json false scale) before) old mid → Grew (IsEntry json true scale last) mid new
+      → Grew (AreEntries shape json scale knots) old new
   entries_all before last old mid new d h k =
       let (text, w, e) = grew_then (AreEach (IsEntry json false scale) before) (IsEntry json true scale last) old mid new h k in
       (text, record { before = before; last = last; described = d; written = w }, e)
@@ -80,13 +82,15 @@ module _ {P : Type 0} (shape : ShapeOf P) (json : Bool) (scale : Scale) (knots :
 
   -- a part of the last
   pub entries_part_last : (before : List Verdict) (last : Verdict) (old mid new : List ℕ) → Described (before ++ last ∷ [])
-      → Grew (AreEach (IsEntry json false scale) before) old mid → GrewInPart (IsEntry json true scale last) mid new → GrewInPart (AreEntries shape json scale knots) old new
+      → Grew (AreEach (IsEntry json false scale) before) old mid → GrewInPart (IsEntry json true scale last) mid new
+      → GrewInPart (AreEntries shape json scale knots) old new
   entries_part_last before last old mid new d h k =
       part_written before last old new d (part_then (AreEach (IsEntry json false scale) before) (IsEntry json true scale last) old mid new h k)
 
   -- a part of one before it
   pub entries_part : (vs ws later : List Verdict) (last : Verdict) (old mid new : List ℕ) → Described (vs ++ (ws ++ (later ++ last ∷ [])))
-      → Grew (AreEach (IsEntry json false scale) vs) old mid → GrewInPart (AreEach (IsEntry json false scale) ws) mid new → GrewInPart (AreEntries shape json scale knots) old new
+      → Grew (AreEach (IsEntry json false scale) vs) old mid → GrewInPart (AreEach (IsEntry json false scale) ws) mid new
+      → GrewInPart (AreEntries shape json scale knots) old new
   entries_part vs ws later last old mid new d (text, h, e) (a, b, k, f) =
       let E = IsEntry json false scale in
       let more = each_exist E (entry_exists json false scale) later in
@@ -105,12 +109,18 @@ module _ {P : Type 0} (shape : ShapeOf P) (json : Bool) (scale : Scale) (knots :
       texts : (t a b m n : List ℕ) → (t ++ a) ++ (b ++ (m ++ n)) ≡ (t ++ ((a ++ b) ++ m)) ++ n
       texts t a b m n = simp append_assoc
 
-  -- nothing yet
-  pub entries_unwritten : (before : List Verdict) (last : Verdict) (old : List ℕ) → Described (before ++ last ∷ []) → GrewInPart (AreEntries shape json scale knots) old old
-  entries_unwritten before last old d =
+  -- they have a text
+  pub entries_text : (before : List Verdict) (last : Verdict) → Described (before ++ last ∷ []) → growth.Some (AreEntries shape json scale knots)
+  entries_text before last d =
       let E = IsEntry json false scale in
-      let all = some_then (AreEach E before) (IsEntry json true scale last) (each_exist E (entry_exists json false scale) before) (entry_exists json true scale last) in
-      part_written before last old old d ([], all.0, all.1, sym (append-nil old))
+      let all =
+      some_then (AreEach E before) (IsEntry json true scale last) (each_exist E (entry_exists json false scale) before) (entry_exists json true scale last) in
+      (all.0, record { before = before; last = last; described = d; written = all.1 })
+
+  -- nothing yet
+  pub entries_unwritten : (before : List Verdict) (last : Verdict) (old : List ℕ) → Described (before ++ last ∷ [])
+      → GrewInPart (AreEntries shape json scale knots) old old
+  entries_unwritten before last old d = let all = entries_text before last d in ([], all.0, all.1, sym (append-nil old))
 
 -- verdicts in lines are the lines of the signal
 pub entries_are_lines : {P : Type 0} (shape : ShapeOf P) (scale : Scale) (knots : List (Knot P)) (text : List ℕ) → AreEntries shape false scale knots text

@@ -1,20 +1,18 @@
 -- Numbers, verdicts and knots of one value have one text.
-use Rattle.std.proofs.Common.{◌≡◌, ℕ, ◌+◌, ◌*◌, ◌^◌, ◌<◌, ◌≤◌, zero, suc, Bool, true, false, List, [], ◌∷◌, ◌++◌, codes, refl, sym, ap, ◌∙◌, subst, arith, ℤ, pos, negsuc, if◌then◌else◌}
-use Rattle.std.specs.Prelude.{neg_ℤ, ◌*ℤ◌, MatchBool}
+use Rattle.std.proofs.Common.{◌≡◌, ℕ, ◌+◌, ◌*◌, ◌^◌, ◌<◌, ◌≤◌, suc, true, false, List, [], ◌∷◌, ◌++◌, codes, sym, ap, ◌∙◌, subst, arith, ℤ, pos, negsuc, if◌then◌else◌}
+use Rattle.std.specs.Prelude.{◌*ℤ◌}
 use Rattle.std.proofs.Math.Nat.{le_of_mul-le-mul_left, one-le-pow}
-use Rattle.rational.specs.Rational.{part_above, part_below}
-use Rattle.rational.specs.Time.{Rational, ◌≈◌, ratio, IsLowest, BeginAlike, EndAlike, Interval}
+use Rattle.rational.specs.Time.{Rational, ◌≈◌, ratio, IsLowest, BeginAlike, EndAlike}
 use Rattle.rational.specs.Extended.{Extended, minus_infinity, finite, infinity, ◌≈ᵉ◌}
 use Rattle.rational.proofs.Order.{same_sym, same_trans, same_refl, same_of_le}
 use Rattle.rational.proofs.Lowest.{denominator_unique}
 use Rattle.frac128.specs.Spans.{interval}
 use Rattle.frac128.specs.declared.span.Span.{Span}
-use Rattle.stl_syntax.specs.Trace.{Trace, start}
+use Rattle.stl_syntax.specs.Trace.{Trace}
 use Rattle.stl_syntax.specs.Formula.{Subformula}
-use Rattle.stl_syntax.specs.Truth.{Truth}
 use Rattle.stl_syntax.specs.Knots.{Knot, Piece, Knots}
 use Rattle.stl_syntax.specs.Verdicts.{AreAlike, KnotsAlike, PiecesAlike}
-use Rattle.stl_syntax.specs.Texts.{fraction_text, IsNumberText, IsValueText, bool_text, IsSpanText, newline, IsVerdictLine, AreVerdictLines, start_line, IsStartLine, IsKnotLine, IsPieceLine, ArePieceLines, AreMarginLines}
+use Rattle.stl_syntax.specs.Texts.{fraction_text, IsNumberText, IsValueText, bool_text, IsSpanText, newline, AreVerdictLines, IsStartLine, IsKnotLine, IsPieceLine, ArePieceLines, AreMarginLines}
 use Rattle.stl_syntax.specs.declared.scale.Scale.{Scale}
 use Rattle.stl_syntax.specs.declared.items.Verdict.{Verdict}
 use Rattle.report.proofs.Stretch.{stretch, same_back}

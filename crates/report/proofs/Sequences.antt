@@ -83,7 +83,8 @@ module _ {X : Type 0} (P : X → List ℕ → Type 0) where
       let front : AreEach P (take (suc i) xs) (t ++ (a ++ b)) =
       subst (λ ys. AreEach P ys (t ++ (a ++ b))) (sym (take_at xs i x at)) (each_join (take i xs) (x ∷ []) t (a ++ b) h (each_one x (a ++ b) p)) in
       let all : AreEach P xs ((t ++ (a ++ b)) ++ rest.0) =
-      subst (λ ys. AreEach P ys ((t ++ (a ++ b)) ++ rest.0)) (take-append-drop (suc i) xs) (each_join (take (suc i) xs) (drop (suc i) xs) (t ++ (a ++ b)) rest.0 front rest.1) in
+      subst (λ ys. AreEach P ys ((t ++ (a ++ b)) ++ rest.0)) (take-append-drop (suc i) xs)
+      (each_join (take (suc i) xs) (drop (suc i) xs) (t ++ (a ++ b)) rest.0 front rest.1) in
       (t ++ a, b ++ rest.0, subst (AreEach P xs) (parts t a b rest.0) all, f ∙ ap (λ w. w ++ a) e ∙ append_assoc old t a)
     where
       parts : (t a b r : List ℕ) → (t ++ (a ++ b)) ++ r ≡ (t ++ a) ++ (b ++ r)

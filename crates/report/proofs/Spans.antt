@@ -3,7 +3,7 @@ use Rattle.std.proofs.Common.{◌≡◌, ℕ, List, ◌++◌, Bool, true, false,
 use Rattle.frac128.specs.Value.{value}
 use Rattle.frac128.specs.declared.span.Span.{Span}
 use Rattle.stl_syntax.specs.declared.scale.Scale.{Scale}
-use Rattle.stl_syntax.specs.Texts.{bool_text, fraction_text, newline, IsNumberText, IsSpanText, IsVerdictLine}
+use Rattle.stl_syntax.specs.Texts.{bool_text, fraction_text, newline, IsNumberText, IsSpanText}
 use Rattle.stl_syntax.specs.declared.items.Verdict.{Verdict}
 use Rattle.report.specs.VerdictForms.{IsEntry, entry_text, separator}
 use Rattle.rational.specs.Time.{Rational}
@@ -16,7 +16,8 @@ before inside = if inside then codes "[" else codes "("
 abbrev pub after : Bool → List ℕ
 after inside = if inside then codes "]" else codes ")"
 
-pub number_text : (digits : ℕ) (t : Rational) (negative : Bool) (size den : ℕ) → IsInUnits digits t negative size den → IsNumberText digits t (fraction_text (signed negative size) den)
+pub number_text : (digits : ℕ) (t : Rational) (negative : Bool) (size den : ℕ) → IsInUnits digits t negative size den
+    → IsNumberText digits t (fraction_text (signed negative size) den)
 number_text digits t negative size den u = record { num = signed negative size; den = den; lowest = u.lowest; same = u.same; is = refl }
 
 pub span_text : (scale : Scale) (on : Span) (from to : List ℕ) → IsNumberText scale.time (value on.from) from → IsNumberText scale.time (value on.to) to
@@ -24,20 +25,22 @@ pub span_text : (scale : Scale) (on : Span) (from to : List ℕ) → IsNumberTex
 span_text scale on from to p q = record { from = from; to = to; from_is = p; to_is = q; is = refl }
 
 -- a verdict from the texts of its times
-pub entry_is : (json last : Bool) (scale : Scale) (v : Verdict) (from to : List ℕ) → IsNumberText scale.time (value v.on.from) from → IsNumberText scale.time (value v.on.to) to
+pub entry_is : (json last : Bool) (scale : Scale) (v : Verdict) (from to : List ℕ) → IsNumberText scale.time (value v.on.from) from
+    → IsNumberText scale.time (value v.on.to) to
     → IsEntry json last scale v (entry_text json last v from to)
 entry_is false last scale v from to p q =
     (_, span_text scale v.on from to p q, together (before v.on.from_in ++ from ++ codes "," ++ to) (after v.on.to_in) (codes " ") (bool_text v.holds) newline)
   where
     together : (a b c d e : List ℕ) → a ++ (b ++ c ++ d ++ e) ≡ a ++ b ++ c ++ d ++ e
     together a b c d e = simp append_assoc
-entry_is true last scale v from to p q =
-    (
-      _,
-      span_text scale v.on from to p q,
-      ap (λ b. b ++ from ++ codes "," ++ to ++ (after v.on.to_in ++ codes "\",\"value\":" ++ bool_text v.holds ++ codes "}" ++ separator last)) (opened v.on.from_in)
-          ∙ together (codes "{\"on\":\"") (before v.on.from_in) from (codes ",") to (after v.on.to_in) (codes "\",\"value\":") (bool_text v.holds) (codes "}") (separator last),
-    )
+entry_is true last scale v from to p q = (
+  _,
+  span_text scale v.on from to p q,
+  ap (λ b. b ++ from ++ codes "," ++ to ++ (after v.on.to_in ++ codes "\",\"value\":" ++ bool_text v.holds ++ codes "}" ++ separator last))
+      (opened v.on.from_in)
+      ∙ together (codes "{\"on\":\"") (before v.on.from_in) from (codes ",") to (after v.on.to_in) (codes "\",\"value\":") (bool_text v.holds) (codes "}")
+      (separator last),
+)
   where
     opened : (b : Bool) → (if b then codes "{\"on\":\"[" else codes "{\"on\":\"(") ≡ codes "{\"on\":\"" ++ before b
     opened true = refl

@@ -1,15 +1,15 @@
 -- What a stream writes for rows is one text, and rows more only make it longer.
-use Rattle.std.proofs.Common.{◌≡◌, ◌⊎◌, inl, inr, ℕ, Bool, true, false, List, [], ◌∷◌, ◌++◌, refl, sym, ap, ◌∙◌, subst, append_assoc, append-nil, Option, Some, None, ℤ, codes}
+use Rattle.std.proofs.Common.{◌≡◌, inl, inr, ℕ, Bool, true, false, List, [], ◌∷◌, ◌++◌, refl, sym, ap, ◌∙◌, subst, append_assoc, append-nil, Option, Some, None, ℤ, codes}
 use Rattle.std.proofs.lemmas.Bool.{false≢true}
 use Rattle.std.specs.Prelude.{int_lt, MatchBool}
 use Rattle.rational.specs.Time.{Rational, Interval}
 use Rattle.rational.proofs.Order.{same_refl}
 use Rattle.stl_syntax.specs.Texts.{IsNumberText, newline, start_line}
-use Rattle.stl_syntax.specs.Trace.{Header, Row, Trace, row_time, start, first_time, last_time}
+use Rattle.stl_syntax.specs.Trace.{Header, Row, Trace, row_time}
 use Rattle.stl_syntax.specs.Formula.{Subformula, constant, atom, negation, conjunction, disjunction, implication, eventually, always, once, historically, until, since}
-use Rattle.stl_syntax.specs.Stream.{NewText, answered_by, IsStretchText, IsNewText, IsRowsText, IsRestText, IsStreamText}
+use Rattle.stl_syntax.specs.Stream.{NewText, IsStretchText, IsNewText, IsRowsText, IsRestText, IsStreamText}
 use Rattle.stl_syntax.specs.EarlyText.{IsEarlyText, at_row, at_end, not_yet}
-use Rattle.stl_syntax.specs.Early.{Settled, SettledNot, Decides, NoneDecides, FirstDecides}
+use Rattle.stl_syntax.specs.Early.{Settled, SettledNot, Decides, FirstDecides}
 use Rattle.stl_syntax.proofs.VerdictsLaw.{Describes-unique}
 use Rattle.report.proofs.OneText.{number_once, verdicts_once, start_once}
 

@@ -35,8 +35,12 @@ module _ (scale : Scale) where
   pub rows_are_records : (k : Knot) (pieces : List Piece) (body last : List ℕ) → AreEach (IsStepRow scale) (steps_from k pieces) body
       → IsLastRow scale (last_knot k pieces) last
       → (records : List (List (List ℕ))) × AreRecords scale k pieces records × (body ++ last ≡ flat_map (row_text default_writer) records)
-  rows_are_records k [] body last h (time, value, is_time, is_value, e) =
-      ((time ∷ value ∷ [] ∷ [] ∷ []) ∷ [], (time, value, is_time, is_value, refl), ap (λ w. w ++ last) h ∙ e ∙ sym (append-nil (row_text default_writer (time ∷ value ∷ [] ∷ [] ∷ []))))
+  rows_are_records k [] body last h (time, value, is_time, is_value, e) = (
+    (time ∷ value ∷ [] ∷ [] ∷ []) ∷ [],
+    (time, value, is_time, is_value, refl),
+    ap (λ w. w ++ last) h ∙ e ∙ sym
+        (append-nil (row_text default_writer (time ∷ value ∷ [] ∷ [] ∷ []))),
+  )
   rows_are_records k (p ∷ pieces) body last (here, later, (time, value, from, to, is_time, is_value, is_from, is_to, f), h, e) l =
       let (records, are, g) = rows_are_records p.next pieces later last h l in (
         (time ∷ value ∷ from ∷ to ∷ []) ∷ records,
@@ -47,7 +51,8 @@ module _ (scale : Scale) where
 
   -- the parts of a table
   abbrev pub TableParts : Knots → List ℕ → Type 0
-  TableParts knots = Then (Then (Is (row_text default_writer heading)) (AreEach (IsStepRow scale) (steps_of knots))) (IsLastRow scale (last_knot knots.first knots.pieces))
+  TableParts knots =
+      Then (Then (Is (row_text default_writer heading)) (AreEach (IsStepRow scale) (steps_of knots))) (IsLastRow scale (last_knot knots.first knots.pieces))
 
   pub table_text : (knots : Knots) (text : List ℕ) → TableParts knots text → IsTableText scale knots text
   table_text knots text (front, last, (head, body, is_head, is_body, e), is_last, f) =
@@ -68,5 +73,7 @@ module _ (scale : Scale) where
       let Head = Is (row_text default_writer heading) in
       let Body = AreEach (IsStepRow scale) (steps_of knots) in
       let last = last_knot knots.first knots.pieces in
-      let all = some_then (Then Head Body) (IsLastRow scale last) (some_then Head Body (row_text default_writer heading, refl) (step_rows_exist (steps_of knots))) (last_row_exists last) in
+      let all =
+      some_then (Then Head Body) (IsLastRow scale last) (some_then Head Body (row_text default_writer heading, refl) (step_rows_exist (steps_of knots)))
+      (last_row_exists last) in
       (all.0, table_text knots all.0 all.1)

@@ -1,6 +1,7 @@
 -- How the text of items grows, line by line, and what it is a first part of where memory is wanting.
-use Rattle.std.proofs.Common.{◌≡◌, ℕ, zero, suc, ◌+◌, ◌<◌, ◌≤◌, List, [], ◌∷◌, ◌++◌, length, drop, append-nil, append_assoc, refl, sym, ap, ◌∙◌, subst, arith}
+use Rattle.std.proofs.Common.{◌≡◌, ℕ, ◌+◌, ◌<◌, ◌≤◌, List, [], ◌∷◌, ◌++◌, length, drop, append-nil, append_assoc, refl, sym, ap, ◌∙◌, subst, arith}
 use Rattle.std.proofs.lemmas.List.{drop_all, drop_more}
+use Rattle.std.proofs.lemmas.List.Elements.{All-drop}
 use Rattle.std.specs.Prelude.{All, slice_get, slice_index_or}
 use Rattle.stl_syntax.specs.Formula.{Formula}
 use Rattle.stl_syntax.specs.declared.scale.Scale.{Scale}
@@ -47,13 +48,7 @@ written_all scale f items old i text w h =
     none : drop i items ≡ [] → IsItemLines (drop i items) []
     none e = subst (λ xs. IsItemLines xs []) (sym e) refl
 
--- items from a place on are of atoms too
-pub atoms_from : (f : Formula) (items : List Item) (n : ℕ) → All (IsOfAtom f) items → All (IsOfAtom f) (drop n items)
-atoms_from f items zero all = all
-atoms_from f [] (suc n) all = all
-atoms_from f (e ∷ items) (suc n) all = atoms_from f items n (λ k d l. all (suc k) d (omega (arith, l)))
-
--- and the line that begins with the first of them
+-- where all items are of atoms, the line that begins with one is
 pub atom_of_line : (f : Formula) (items : List Item) (i n : ℕ) (line : Item) → All (IsOfAtom f) items → i < length items → IsFirstLine (drop i items) (drop n items) line → IsOfAtom f line
 atom_of_line f items i n line all h first =
     let own : IsOfAtom f (slice_index_or items i line) = all i line h in
@@ -64,7 +59,7 @@ atom_of_line f items i n line all h first =
 pub part_more : (scale : Scale) (f : Formula) (items : List Item) (old : List ℕ) (i n : ℕ) (text new : List ℕ) (line : Item) → All (IsOfAtom f) items → AreWrittenTo scale f items old i text
     → IsFirstLine (drop i items) (drop n items) line → GrewInPart (IsItemLine scale f line) text new → GrewInPart (AreItemsText scale f items) old new
 part_more scale f items old i n text new line all w first (here, rest, is, e) =
-    let later = items_exist scale f (drop n items) (atoms_from f items n all) in
+    let later = items_exist scale f (drop n items) (All-drop (IsOfAtom f) n items all) in
     let lines : IsItemLines items (w.before ++ (line ∷ later.1.lines)) = w.lines (line ∷ later.1.lines) (first.before later.1.lines later.1.joined) in
     let written : AreItemLines scale f (w.before ++ (line ∷ later.1.lines)) (w.grew.0 ++ ((here ++ rest) ++ later.0)) =
     lines_join scale f w.before (line ∷ later.1.lines) w.grew.0 ((here ++ rest) ++ later.0) w.grew.1

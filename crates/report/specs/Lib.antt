@@ -12,3 +12,7 @@ pub mod MarginLines
 pub mod Steps
 pub mod TableRows
 pub mod ItemLines
+pub mod JsonTexts
+pub mod ReportText
+pub mod Lines
+pub mod FaultTexts

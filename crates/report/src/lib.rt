@@ -1,9 +1,12 @@
-//! The texts of verdicts, margins and explanations.
+//! The texts of verdicts, margins, explanations and faults.
 #![tactic(auto)]
 
+mod fault;
 mod following;
 mod items;
+mod json;
 pub mod laws;
+mod line;
 mod margin;
 mod number;
 mod signal;
@@ -11,7 +14,12 @@ mod spelling;
 mod table;
 mod verdict;
 
+pub use fault::{
+    put_trace_fault, put_unit_fault, put_unknown, trace_fault_line, unit_fault_line, unknown_line,
+};
 pub use items::put_items;
+pub use json::put_json;
+pub use line::{Detail, Line, put_line};
 pub use margin::put_margins;
 pub use signal::put_verdicts;
 pub use table::put_table;

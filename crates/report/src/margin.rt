@@ -33,7 +33,12 @@ pub(crate) fn put_value(text: &mut Text, m: &Margin, at: &Frac, digits: u8) -> R
 }
 
 /// Appends some bytes, and then a time in units.
-fn put_time_after(text: &mut Text, lead: &[u8], t: &Frac, digits: u8) -> Result<(), Memory>
+pub(crate) fn put_time_after(
+    text: &mut Text,
+    lead: &[u8],
+    t: &Frac,
+    digits: u8,
+) -> Result<(), Memory>
     requires { digits ≤ 6 }
     ensures ok { OnOk result (Grew (IsTimeAfter lead.now digits (value t.now)) text.old text.new) }
     ensures err { OnErr result (GrewInPart (IsTimeAfter lead.now digits (value t.now)) text.old text.new) }
@@ -43,7 +48,7 @@ fn put_time_after(text: &mut Text, lead: &[u8], t: &Frac, digits: u8) -> Result<
 }
 
 /// Appends some bytes, and then the value of a margin at a time, in units.
-fn put_value_after(
+pub(crate) fn put_value_after(
     text: &mut Text,
     lead: &[u8],
     m: &Margin,

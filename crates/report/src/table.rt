@@ -113,7 +113,8 @@ fn put_step(
     requires from { IsWithin (2 ^ 34) (value k.now.time) }
     requires to { IsWithin (2 ^ 34) (value n.now.time) }
     ensures ready { OnOk result (IsReady rows.new) }
-    ensures text { OnOk result (Grew (IsStepRow scale (step (plain_knot margin_shape k.now) (plain_piece margin_shape k.now n.now))) (rows_text rows.old) (rows_text rows.new)) }
+    ensures text { OnOk result
+        (Grew (IsStepRow scale (step (plain_knot margin_shape k.now) (plain_piece margin_shape k.now n.now))) (rows_text rows.old) (rows_text rows.new)) }
 {
     fill_knot(fields, k, scale)?;
     fill_piece(fields, k, n, scale)?;

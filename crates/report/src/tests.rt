@@ -1,10 +1,11 @@
 //! Lines of verdicts and of the start, byte by byte.
 ghost use Rattle.std.specs.Prelude.{◌≤◌};
 
-use crate::{put_start, put_verdict};
+use crate::{put_start, put_trace_fault, put_unit_fault, put_unknown, put_verdict};
 use frac128::{Frac, Span};
 use std::alloc::Global;
-use stl_syntax::{Scale, Text, Verdict};
+use stl_syntax::{Scale, Term, Text, UnitFault, Verdict};
+use trace_reader::{TraceKind, TraceRefusal};
 
 /// The line of a verdict, where its span has a time and there is memory.
 fn line_of(alloc: Global, from: Frac, to: Frac, closed: bool, digits: u8) -> Option<Text>
@@ -67,4 +68,32 @@ fn the_start_has_a_line_of_its_own(rt: HostRuntime) {
     assert_eq!(rt; put_start(&mut text, true), Ok(()));
     assert_eq!(rt; put_start(&mut text, false), Ok(()));
     assert_eq!(rt; text.bytes(), b"start true\nstart false\n".as_slice());
+}
+
+#[test]
+fn each_fault_has_its_line(rt: HostRuntime) {
+    let mut text = Text::new(rt.alloc());
+    let rising = TraceRefusal {
+        line: 4,
+        kind: TraceKind::TimeNotRising,
+    };
+    assert_eq!(rt; put_trace_fault(&mut text, &rising), Ok(()));
+    let digits = TraceRefusal {
+        line: 3,
+        kind: TraceKind::BadNumber { field: 2 },
+    };
+    assert_eq!(rt; put_trace_fault(&mut text, &digits), Ok(()));
+    let Ok(term) = Term::make(rt.alloc(), 1, "z") else {
+        panic!(&rt; "no memory");
+    };
+    assert_eq!(rt; put_unknown(&mut text, 1, term.name()), Ok(()));
+    let constant = UnitFault::Constant { node: 0 };
+    assert_eq!(rt; put_unit_fault(&mut text, 1, &constant), Ok(()));
+    let reach = UnitFault::Reach {
+        sum: 42_949_672_950,
+    };
+    assert_eq!(rt; put_unit_fault(&mut text, 1, &reach), Ok(()));
+    let lines =
+        b"line 4: time not rising\nline 3: field 2: bad number\nline 1: unknown column z\nline 1: node 0: constant out of range\nline 1: bounds sum to 42949672950\n";
+    assert_eq!(rt; text.bytes(), lines.as_slice());
 }

@@ -1,5 +1,6 @@
 pub mod TraceText
 pub mod TraceRefusals
+pub mod InputFaults
 pub mod Sofar
 pub mod Plain
 pub mod Labels

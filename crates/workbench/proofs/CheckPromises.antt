@@ -72,6 +72,9 @@ pub data IsBuiltRequest : Request → Type 0 where
 other_word : codes "robust" ≡ codes "check" → ⊥
 other_word e = let n = ap length e in omega (arith, n)
 
+longer_word : codes "explain" ≡ codes "check" → ⊥
+longer_word e = let n = ap length e in omega (arith, n)
+
 -- they ask for no other command
 check_alone : {words : List (List ℕ)} {own : List ℕ} → AskCheck words own → (command : Judge) (text : List ℕ) → IsAsked words (judge command text) → command ≡ word.check
 check_alone {words} {own} ask command text a = by_word a.built
@@ -81,7 +84,10 @@ check_alone {words} {own} ask command text a = by_word a.built
     by_word (inr (inl e)) =
         let form : words ≡ judge_word word.robust ∷ text ∷ [] = subst (λ k. words ≡ judge_word k ∷ text ∷ []) e (word_form a.is) in
         absurd (other_word (let same = sym form ∙ ask in cc))
-    by_word (inr (inr other)) = absurd other
+    by_word (inr (inr (inl e))) =
+        let form : words ≡ judge_word word.explain ∷ text ∷ [] = subst (λ k. words ≡ judge_word k ∷ text ∷ []) e (word_form a.is) in
+        absurd (longer_word (let same = sym form ∙ ask in cc))
+    by_word (inr (inr (inr other))) = absurd other
 
 check_asked : {words : List (List ℕ)} {text : List ℕ} → IsAsked words (judge word.check text) → AskCheck words text
 check_asked a = word_form a.is
@@ -431,5 +437,6 @@ all_held words (judge command text) a = by_word a.built
     by_word : IsAmong command built_commands → is_held (judge command text) ≡ true
     by_word (inl e) = subst (λ k. is_held (judge k text) ≡ true) (sym e) refl
     by_word (inr (inl e)) = subst (λ k. is_held (judge k text) ≡ true) (sym e) refl
-    by_word (inr (inr other)) = absurd other
+    by_word (inr (inr (inl e))) = subst (λ k. is_held (judge k text) ≡ true) (sym e) refl
+    by_word (inr (inr (inr other))) = absurd other
 all_held words (word.generate n rows) a = absurd a.built

@@ -57,6 +57,16 @@ leaf_unscaled k m owner (Since p q a b) e = absurd (let f = e in cc)
 leaf_unscaled k m owner (Once p a b a_in b_in) e = absurd (let f = e in cc)
 leaf_unscaled k m owner (Historically p a b a_in b_in) e = absurd (let f = e in cc)
 
+-- where the scaled formula has an atom, the formula has one
+pub atom_unscaled : (f : Formula) (scale : Scale) (i : ℕ) (a : Atom) → slice_get (scaled f scale).nodes i ≡ Some (Leaf a) → (b : Atom) × (slice_get f.nodes i ≡ Some (Leaf b))
+unfolding Unscaled
+atom_unscaled f scale i a at =
+    let k = 10 ^ (scale.time - f.scale.time) in
+    let m = 10 ^ (scale.value - f.scale.value) in
+    let (old, found, is) = scaled_at k m f.nodes i (Leaf a) at in
+    let (b, leaf, terms) = leaf_unscaled k m a old is in
+    (b, found ∙ ap Some leaf)
+
 -- a column that the scaled formula lacks is one that the formula lacks
 pub unknown_unscaled : (cs : List Column) (f : Formula) (s : Scale) (atom term : ℕ) (name : List ℕ) → IsUnknown cs (scaled f s) atom term name → IsUnknown cs f atom term name
 unfolding Unscaled

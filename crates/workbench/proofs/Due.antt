@@ -21,7 +21,7 @@ sound_all : (c : Command) (f : Formula) (bytes line : List ℕ) (ended : Bool) �
 sound_all c f bytes line ended e sound (x, fault, told) = sound x (subst (λ (b : Bool). IsInputFault whole_limits f bytes b x) e fault)
 
 -- a part of a text was owed only for a whole trace
-begun_sound : (c : Command) (f : Formula) (bytes text rest : List ℕ) (ended : Bool) → rest ≢ [] → IsBegun (whole c f) bytes ended text rest → (ended ≡ true) × IsSound whole_limits f bytes true
+pub begun_sound : (c : Command) (f : Formula) (bytes text rest : List ℕ) (ended : Bool) → rest ≢ [] → IsBegun (whole c f) bytes ended text rest → (ended ≡ true) × IsSound whole_limits f bytes true
 begun_sound c f bytes text rest ended some b = by_owed b.seen b.seen_end (text ++ rest) refl refl refl b.owed
   where
     by_owed : (seen : List ℕ) (e : Bool) (all : List ℕ) → b.seen ≡ seen → b.seen_end ≡ e → text ++ rest ≡ all → OwesAtEnd c f seen e all → (ended ≡ true) × IsSound whole_limits f bytes true

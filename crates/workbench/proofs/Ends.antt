@@ -20,7 +20,7 @@ use Rattle.workbench.specs.Cases.{IsLacking, IsCase, IsNoBegin, IsHeaderOf, with
 use Rattle.workbench.specs.Reading.{IsEnded, IsRefused, IsTied, IsKept, HasHeader, IsLastFault, of_header, own}
 use Rattle.workbench.specs.declared.case.Case.{Case}
 use Rattle.workbench.specs.declared.fault.Stop.{Stop}
-use Rattle.workbench.specs.declared.fault.Stop.TheVariants.{Fault as Faulty, Unread, Unwritten, NoMemory, Wide}
+use Rattle.workbench.specs.declared.fault.Stop.TheVariants.{Fault as Faulty, Unread, Unwritten, NoMemory, Wide, TooMany}
 use Rattle.workbench.proofs.HeaderLines.{header_once, header_read, header_within, no_rows_in, heading_is, ticks_small}
 use Rattle.workbench.proofs.FaultPlaces.{IsAtEndOf, after_header, fault_within, clean_from}
 use Rattle.workbench.proofs.OneLine.{one_left}
@@ -183,6 +183,7 @@ module _ (f : Formula) (old new : Reader) (case : Option Case) (bytes : List ℕ
     from_header Unwritten h none end some no_begin = no_begin
     from_header NoMemory h none end some no_begin = tt
     from_header (Wide i den) h none end some no_begin = no_begin
+    from_header (TooMany count) h none end some no_begin = no_begin
 
     -- the first fault of all bytes
     pub refused_end : (stop : Stop) → IsLastFault f new case x stop → IsRefused old.limits f true bytes stop

@@ -14,7 +14,7 @@ use Rattle.workbench.specs.Reading.{IsSound}
 use Rattle.workbench.proofs.HeaderLines.{header_stays, header_within}
 
 -- a header among the lines stands before the unfinished one
-header_in_front : (front : List Line) (line : List ℕ) {n : ℕ} {h : Heading} → IsHeaderAt (front ++ rest false line) n h → IsHeaderAt front n h
+pub header_in_front : (front : List Line) (line : List ℕ) {n : ℕ} {h : Heading} → IsHeaderAt (front ++ rest false line) n h → IsHeaderAt front n h
 header_in_front [] [] p = p
 header_in_front [] (c ∷ cs) (here w b is) = absurd (false≢true w)
 header_in_front [] (c ∷ cs) (later w b p) = absurd (false≢true w)

@@ -25,7 +25,7 @@ use Rattle.workbench.specs.Cases.{IsLacking, IsBegun, IsNoBegin, IsHeaderOf, wit
 use Rattle.workbench.specs.Reading.{IsRefused, IsTied, IsKept}
 use Rattle.workbench.specs.declared.case.Case.{Case}
 use Rattle.workbench.specs.declared.fault.Stop.{Stop}
-use Rattle.workbench.specs.declared.fault.Stop.TheVariants.{Fault as Faulty, Unread, Unwritten, NoMemory, Wide}
+use Rattle.workbench.specs.declared.fault.Stop.TheVariants.{Fault as Faulty, Unread, Unwritten, NoMemory, Wide, TooMany}
 use Rattle.workbench.proofs.HeaderLines.{IsBlank, header_once, header_read as header_of_lines, header_stays, header_within, header_after, ticks_small, heading_is}
 use Rattle.workbench.proofs.FaultPlaces.{IsAtEndOf, after_header, fault_within}
 use Rattle.workbench.proofs.OneLine.{IsOneLine, through_line, one_at_most, fed_line, taken_of, left_over}
@@ -202,6 +202,7 @@ stop_begin f limits ended bytes more whole n g Unread e line none = absurd none
 stop_begin f limits ended bytes more whole n g Unwritten e line none = absurd none
 stop_begin f limits ended bytes more whole n g NoMemory e line none = tt
 stop_begin f limits ended bytes more whole n g (Wide i den) e line none = absurd none
+stop_begin f limits ended bytes more whole n g (TooMany count) e line none = absurd none
 
 -- the header of a reader
 pub heading_of : (least : Scale) (o : Option Heading) (header : Header) → option_map (header_of least) o ≡ Some header → (h : Heading) × (o ≡ Some h) × (header ≡ header_of least h)

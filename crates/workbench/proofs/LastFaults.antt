@@ -17,7 +17,7 @@ use Rattle.workbench.specs.declared.fault.Stop.{Stop}
 use Rattle.workbench.specs.declared.fault.Stop.TheVariants.{Fault as Faulty}
 use Rattle.workbench.proofs.Feeding.{heading_of}
 
-none_of : (o : Option Case) → is_some o ≡ false → o ≡ None
+none_of : {T : Type 0} (o : Option T) → is_some o ≡ false → o ≡ None
 none_of None e = refl
 none_of (Some c) e = absurd (false≢true (sym e))
 
@@ -27,7 +27,7 @@ header_is f r header has read h some =
     let same : g ≡ h = (let e = sym found ∙ some in cc) in
     is ∙ ap (λ (s : Scale). header_of s g) has.least ∙ ap (header_of f.scale) same
 
-module _ (f : Formula) (reader : Reader) (case : Option Case) (r : TraceRefusal) where
+module _ {T : Type 0} (f : Formula) (reader : Reader) (case : Option T) (r : TraceRefusal) where
   -- another fault
   pub other_fault : (r.kind ≡ NoRows → ⊥) → IsLastFault f reader case r (Faulty (InTrace r))
   other_fault other = own (λ none end. absurd (other end))

@@ -22,8 +22,16 @@ pub mod StreamSteps
 pub mod Due
 pub mod Judged
 pub mod Measured
+pub mod Reasoned
+pub mod Refuting
 pub mod NoForm
 pub mod MarginTruth
 pub mod RowsBefore
 pub mod MarginTexts
 pub mod OwedLaws
+pub mod OneRequest
+pub mod EndsOnce
+pub mod Passes
+pub mod Living
+pub mod FrontTexts
+pub mod AtRest

@@ -4,8 +4,7 @@ use Rattle.std.specs.Prelude.{codes, decimal}
 use Rattle.stl_syntax.specs.Texts.{newline}
 use Rattle.stl_grammar.specs.declared.fault.What.{What}
 use Rattle.stl_grammar.specs.declared.fault.FormulaFault.TheVariants.{Expected, ConstantTooLarge}
-use Rattle.stl_syntax.specs.declared.scale.UnitFault.TheVariants.{Constant}
-use Rattle.workbench.specs.ErrTexts.{what_text, formula_fault_text, unit_fault_text, unknown_text, wide_text}
+use Rattle.workbench.specs.ErrTexts.{what_text, formula_fault_text, wide_text}
 
 -- parts to the right
 at_once : (a d c x e f : List ℕ) → (((a ++ d) ++ c) ++ (x ++ e)) ++ f ≡ a ++ (d ++ (c ++ (x ++ (e ++ f))))
@@ -13,9 +12,6 @@ at_once a d c x e f = simp append_assoc
 
 with_tail : (a x d t f : List ℕ) → (a ++ ((x ++ d) ++ t)) ++ f ≡ a ++ (x ++ (d ++ (t ++ f)))
 with_tail a x d t f = simp append_assoc
-
-with_both : (a d c x e t f : List ℕ) → (((a ++ d) ++ c) ++ ((x ++ e) ++ t)) ++ f ≡ a ++ (d ++ (c ++ (x ++ (e ++ (t ++ f)))))
-with_both a d c x e t f = simp append_assoc
 
 expected_whole : (p : ℕ) (t : List ℕ) → codes "formula at " ++ (decimal p ++ ((codes ": expected " ++ t) ++ newline)) ≡ (((codes "formula at " ++ decimal p) ++ codes ": ") ++ (codes "expected " ++ t)) ++ newline
 expected_whole p t =
@@ -28,14 +24,8 @@ expected_text p w = expected_whole p (what_text w)
 pub constant_text : (i : ℕ) → codes "formula: node " ++ (decimal i ++ (codes ": constant too large" ++ newline)) ≡ formula_fault_text (ConstantTooLarge i)
 constant_text i = sym (with_tail (codes "formula: ") (codes "node ") (decimal i) (codes ": constant too large") newline)
 
-pub unit_text : (n i : ℕ) → codes "line " ++ (decimal n ++ (codes ": node " ++ (decimal i ++ (codes ": constant out of range" ++ newline)))) ≡ unit_fault_text n (Constant i)
-unit_text n i = sym (with_both (codes "line ") (decimal n) (codes ": ") (codes "node ") (decimal i) (codes ": constant out of range") newline)
-
 in_row : (a d b e f : List ℕ) → (((a ++ d) ++ b) ++ e) ++ f ≡ a ++ (d ++ (b ++ (e ++ f)))
 in_row a d b e f = simp append_assoc
 
 pub wide_line_text : (i den : ℕ) → codes "wide: node " ++ (decimal i ++ (codes " needs denominator " ++ (decimal den ++ newline))) ≡ wide_text i den
 wide_line_text i den = sym (in_row (codes "wide: node ") (decimal i) (codes " needs denominator ") (decimal den) newline)
-
-pub column_text : (n : ℕ) (name : List ℕ) → codes "line " ++ (decimal n ++ (codes ": unknown column " ++ (name ++ newline))) ≡ unknown_text n name
-column_text n name = sym (at_once (codes "line ") (decimal n) (codes ": ") (codes "unknown column ") name newline)

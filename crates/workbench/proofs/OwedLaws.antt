@@ -1,14 +1,21 @@
 -- What is owed is one text, and only grows.
-use Rattle.std.proofs.Common.{◌≡◌, ℕ, Bool, true, false, List, [], ◌∷◌, ◌++◌, refl, sym, ap, ◌∙◌, subst, Option, Some, None}
+use Rattle.std.proofs.Common.{◌≡◌, ℕ, Bool, true, false, List, [], ◌∷◌, ◌++◌, refl, sym, ap, ◌∙◌, subst, append_assoc, append-nil, Option, Some, None}
 use Rattle.stl_syntax.specs.Formula.{Formula, Subformula, root}
 use Rattle.stl_syntax.specs.Scaling.{scaled}
-use Rattle.stl_syntax.specs.Trace.{Header, Row}
+use Rattle.stl_syntax.specs.Trace.{Header, Row, Trace}
 use Rattle.stl_syntax.specs.EarlyText.{IsEarlyText, at_row, at_end, not_yet}
+use Rattle.stl_syntax.proofs.VerdictsLaw.{Describes-unique}
+use Rattle.stl_syntax.proofs.MarginsLaw.{DescribesMargins-unique}
+use Rattle.trace_reader.proofs.TraceRefusalLaw.{Trace-unique}
+use Rattle.report.specs.Report.{Command, check, robust, Out, nodes_for}
+use Rattle.report.proofs.OneText.{verdicts_once, start_once, margins_once}
 use Rattle.report.proofs.StreamTexts.{IsLonger, stream_once, stream_grows, early_once, early_grows}
 use Rattle.workbench.proofs.MarginTexts.{margin_stream_once, margin_stream_grows}
-use Rattle.workbench.specs.Requests.{Stream, verdicts, early, margins}
-use Rattle.workbench.specs.Owed.{limits_of, StreamText, StreamOf, OwesRows}
-use Rattle.workbench.specs.InputFaults.{AreRowsBefore}
+use Rattle.workbench.specs.Requests.{Stream, verdicts, early, margins, stream}
+use Rattle.workbench.specs.Running.{IsBegun}
+use Rattle.workbench.specs.Reading.{IsWhole}
+use Rattle.workbench.specs.Owed.{limits_of, StreamText, StreamOf, OwesRows, HasTooMany, OwesAtEnd, not_yet as not_yet_owed, faulty, too_many, at_end as at_end_owed}
+use Rattle.workbench.specs.InputFaults.{AreRowsBefore, whole_limits}
 use Rattle.workbench.proofs.RowsBefore.{GoesOnFrom, from_none, from_some, rows_go_on, rows_once}
 
 -- ---- streams
@@ -42,6 +49,11 @@ of_once : (s : Stream) (f : Formula) (header : Option Header) (rows : List Row) 
 of_once s f None rows ended x y a b = a ∙ sym b
 of_once s f (Some header) rows ended x y a b = text_once s _ header rows ended x y a b
 
+-- no text is told of no rows before the end
+pub no_rows_no_text : (s : Stream) (f : Formula) (header : Option Header) (rows : List Row) (x : List ℕ) → rows ≡ [] → StreamOf s f header rows false x → x ≡ []
+no_rows_no_text s f None rows x e a = a
+no_rows_no_text s f (Some header) rows x e a = none_yet s _ header rows x e a
+
 longer_nil : (x y : List ℕ) → x ≡ [] → IsLonger x y
 longer_nil x y e = (y, ap (λ t. t ++ y) (sym e))
 
@@ -69,3 +81,54 @@ stream_owed_grows s f bytes more ended x y a b = by_whole a.whole a.before a.is
     by_whole : (w : Bool) → AreRowsBefore (limits_of s) f bytes false a.header a.rows w → StreamOf s f a.header a.rows w x → IsLonger x y
     by_whole false before is = of_grows s f a.header b.header a.rows b.rows b.whole x y (rows_go_on (limits_of s) f bytes more ended before b.before) is b.is
     by_whole true before is = absurd (never_whole s f bytes before)
+
+-- what was written and a rest were owed for the bytes that were answered: then it is the front of what is owed for all that were read
+pub begun_of_all : (s : Stream) (f : Formula) (bytes : List ℕ) (ended : Bool) (text rest all : List ℕ) → IsBegun (stream s f) bytes ended text rest → OwesRows s f bytes ended all → IsLonger text all
+begun_of_all s f bytes ended text rest all b owed = by_end b.seen_end b.at_end b.owed
+  where
+    by_end : (e : Bool) → (e ≡ true → (ended ≡ true) × (b.later ≡ [])) → OwesRows s f b.seen e (text ++ rest) → IsLonger text all
+    by_end false at o =
+        let (more, e) = stream_owed_grows s f b.seen b.later ended (text ++ rest) all o (subst (λ bs. OwesRows s f bs ended all) b.parts owed) in
+        (rest ++ more, e ∙ append_assoc text rest more)
+    by_end true at o =
+        let done = at refl in
+        let same : bytes ≡ b.seen = b.parts ∙ ap (λ l. b.seen ++ l) done.1 ∙ append-nil b.seen in
+        (rest, stream_owed_once s f b.seen true all (text ++ rest) (subst (λ (e : Bool). OwesRows s f b.seen e all) done.0 (subst (λ bs. OwesRows s f bs ended all) same owed)) o)
+
+-- ---- commands that hold the whole trace
+
+-- the bytes are those of one trace
+whole_once : (f : Formula) (bytes : List ℕ) (t u : Trace) → IsWhole whole_limits f bytes t → IsWhole whole_limits f bytes u → t ≡ u
+whole_once f bytes t u a b = Trace-unique bytes f.scale t u a.trace.text b.trace.text
+
+check_once : (f : Formula) (tr : Trace) (x y : List ℕ) → Out check f tr x → Out check f tr y → x ≡ y
+check_once f tr x y (vs, body, line, a, lines, start, is) (ws, body', line', a', lines', start', is') =
+    is ∙ ap (λ t. t ++ line) (verdicts_once tr.header.scale vs ws body body' (Describes-unique _ tr _ vs ws a a') lines lines')
+    ∙ ap (λ t. body' ++ t) (start_once _ tr line line' start start') ∙ sym is'
+
+robust_once : (f : Formula) (tr : Trace) (x y : List ℕ) → Out robust f tr x → Out robust f tr y → x ≡ y
+robust_once f tr x y (ks, a, lines) (ls, b, others) =
+    let e = DescribesMargins-unique (root (nodes_for f tr)) tr ks ls a b in margins_once tr.header.scale ks ls x y e.0 e.1 lines others
+
+module _ (c : Command) (f : Formula) (one : (tr : Trace) (x y : List ℕ) → Out c f tr x → Out c f tr y → x ≡ y) where
+  whole_owed_once : (bytes : List ℕ) (ended : Bool) (x y : List ℕ) → OwesAtEnd c f bytes ended x → OwesAtEnd c f bytes ended y → x ≡ y
+  whole_owed_once bytes ended x y not_yet_owed not_yet_owed = refl
+  whole_owed_once bytes ended x y (faulty a fault) (faulty b other) = refl
+  whole_owed_once bytes ended x y (faulty a fault) (too_many tr n trace many) = refl
+  whole_owed_once bytes ended x y (faulty a fault) (at_end_owed tr trace few out) = absurd (trace.sound a fault)
+  whole_owed_once bytes ended x y (too_many tr n trace many) (faulty b other) = refl
+  whole_owed_once bytes ended x y (too_many tr n trace many) (too_many tr' n' trace' many') = refl
+  whole_owed_once bytes ended x y (too_many tr n trace many) (at_end_owed tr' trace' few out) =
+      absurd (few n (subst (λ (t : Trace). HasTooMany c f t n) (whole_once f bytes tr tr' trace trace') many))
+  whole_owed_once bytes ended x y (at_end_owed tr trace few out) (faulty b other) = absurd (trace.sound b other)
+  whole_owed_once bytes ended x y (at_end_owed tr trace few out) (too_many tr' n trace' many) =
+      absurd (few n (subst (λ (t : Trace). HasTooMany c f t n) (whole_once f bytes tr' tr trace' trace) many))
+  whole_owed_once bytes ended x y (at_end_owed tr trace few out) (at_end_owed tr' trace' few' out') =
+      one tr' x y (subst (λ (t : Trace). Out c f t x) (whole_once f bytes tr tr' trace trace') out) out'
+
+-- `check` and `robust` are owed one text
+pub check_owed_once : (f : Formula) (bytes : List ℕ) (ended : Bool) (x y : List ℕ) → OwesAtEnd check f bytes ended x → OwesAtEnd check f bytes ended y → x ≡ y
+check_owed_once f bytes ended x y a b = whole_owed_once check f (check_once f) bytes ended x y a b
+
+pub robust_owed_once : (f : Formula) (bytes : List ℕ) (ended : Bool) (x y : List ℕ) → OwesAtEnd robust f bytes ended x → OwesAtEnd robust f bytes ended y → x ≡ y
+robust_owed_once f bytes ended x y a b = whole_owed_once robust f (robust_once f) bytes ended x y a b

@@ -19,7 +19,7 @@ use Rattle.workbench.specs.InputFaults.{IsLack, IsInputFault}
 use Rattle.workbench.specs.Reading.{IsRead, IsReadPromptly, IsReadWhole, IsReadInPart, IsSound, IsStop, IsRefused, IsKept, HasKept, IsTied, IsEnded, IsWhole}
 use Rattle.workbench.specs.declared.case.Case.{Case}
 use Rattle.workbench.specs.declared.fault.Stop.{Stop}
-use Rattle.workbench.specs.declared.fault.Stop.TheVariants.{Fault as Faulty, Unread, Unwritten, NoMemory, Wide}
+use Rattle.workbench.specs.declared.fault.Stop.TheVariants.{Fault as Faulty, Unread, Unwritten, NoMemory, Wide, TooMany}
 use Rattle.workbench.proofs.HeaderLines.{no_header}
 use Rattle.workbench.proofs.Sizes.{few_bytes}
 use Rattle.workbench.proofs.Feeding.{no_lack}
@@ -123,6 +123,7 @@ stop_from l limits f before after ended known bytes Unread s k r read prompt = a
 stop_from l limits f before after ended known bytes Unwritten s k r read prompt = absurd r
 stop_from l limits f before after ended known bytes NoMemory s k r read prompt = (bytes, read.moved)
 stop_from l limits f before after ended known bytes (Wide i den) s k r read prompt = absurd r
+stop_from l limits f before after ended known bytes (TooMany count) s k r read prompt = absurd r
 
 pub end_from : (l limits : Limits) (f : Formula) (before after : Option (List ℕ)) (ended : Bool) (bytes : List ℕ) (r : Result (Unit {0}) Stop) (case : Option Case)
     → l ≡ limits → ended ≡ true → IsRead before after ended bytes → IsReadPromptly limits f bytes ended
@@ -145,6 +146,7 @@ not_unread l f ended bytes Unread r same = r
 not_unread l f ended bytes Unwritten r same = r
 not_unread l f ended bytes NoMemory r same = let k = same in cc
 not_unread l f ended bytes (Wide i den) r same = r
+not_unread l f ended bytes (TooMany count) r same = r
 
 pub end_not_unread : (l : Limits) (f : Formula) (ended : Bool) (bytes : List ℕ) (P : Unit {0} → Type 0) (r : Result (Unit {0}) Stop) → MatchResult r P (IsRefused l f ended bytes) → r ≡ Err Unread → ⊥
 end_not_unread l f ended bytes P (Ok x) m same = let k = same in cc

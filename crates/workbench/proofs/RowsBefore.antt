@@ -1,8 +1,8 @@
 -- The rows before the first fault are one list for given bytes, and those of more bytes go on from them.
-use Rattle.std.proofs.Common.{◌≡◌, ◌⊎◌, inl, inr, ℕ, suc, ◌+◌, ◌-◌, ◌<◌, ◌≤◌, Bool, true, false, List, [], ◌∷◌, ◌++◌, length, take, refl, sym, ap, ◌∙◌, subst, arith, append-nil, length-append, Option, Some, None}
+use Rattle.std.proofs.Common.{◌≡◌, ◌⊎◌, inl, inr, ℕ, suc, ◌+◌, ◌-◌, ◌<◌, ◌≤◌, Bool, true, false, List, [], ◌∷◌, ◌++◌, length, take, drop, take-append-drop, zero, refl, sym, ap, ◌∙◌, subst, arith, append-nil, length-append, Option, Some, None}
 use Rattle.std.specs.Prelude.{MatchBool, All}
 use Rattle.std.proofs.lemmas.Bool.{false≢true}
-use Rattle.std.proofs.lemmas.List.{take-append-le}
+use Rattle.std.proofs.lemmas.List.{take-append-le, take_all}
 use Rattle.std.proofs.Math.Seq.{take-append-add}
 use Rattle.std.proofs.lemmas.Bool.{cases_lt}
 use Rattle.std.proofs.lemmas.List.Elements.{All-nil, All-cons, All-head, All-tail}
@@ -26,12 +26,12 @@ use Rattle.workbench.proofs.FaultPlaces.{fault_within, to_true, to_false, at_tru
 -- ---- the rows of lines
 
 -- what a first line of rows is
-data RowLine (s : Scale) (h : Heading) (l : Line) (ls : List Line) (rows : List Row) : Type 0 where
+pub data RowLine (s : Scale) (h : Heading) (l : Line) (ls : List Line) (rows : List Row) : Type 0 where
   goes_on : l.whole ≡ false → rows ≡ [] → RowLine s h l ls rows
   is_blank : l.whole ≡ true → is_blank_line l ≡ true → AreRowLines s h ls rows → RowLine s h l ls rows
   is_row : l.whole ≡ true → is_blank_line l ≡ false → (r : Row) (more : List Row) → IsRow s h (fields l) r → AreRowLines s h ls more → rows ≡ r ∷ more → RowLine s h l ls rows
 
-row_line : {s : Scale} {h : Heading} {all : List Line} {rows : List Row} → AreRowLines s h all rows → (l : Line) (ls : List Line) → all ≡ l ∷ ls → RowLine s h l ls rows
+pub row_line : {s : Scale} {h : Heading} {all : List Line} {rows : List Row} → AreRowLines s h all rows → (l : Line) (ls : List Line) → all ≡ l ∷ ls → RowLine s h l ls rows
 row_line no_lines l ls e = absurd (let k = e in cc)
 row_line {s} {h} (unfinished {line = x} w) l ls e = goes_on (let k : x ≡ l = cc in subst (λ (z : Line). z.whole ≡ false) k w) refl
 row_line {s} {h} (blank {line = x} {more = xs} {rows = rows} w b m) l ls e =
@@ -42,7 +42,7 @@ row_line {s} {h} (row {line = x} {more = xs} {r = r} {rows = rows} w b is m) l l
     is_row (subst (λ (z : Line). z.whole ≡ true) k w) (subst (λ (z : Line). is_blank_line z ≡ false) k b) r rows (subst (λ (z : Line). IsRow s h (fields z) r) k is)
     (subst (λ zs. AreRowLines s h zs rows) j m) refl
 
-no_line : {s : Scale} {h : Heading} {all : List Line} {rows : List Row} → AreRowLines s h all rows → all ≡ [] → rows ≡ []
+pub no_line : {s : Scale} {h : Heading} {all : List Line} {rows : List Row} → AreRowLines s h all rows → all ≡ [] → rows ≡ []
 no_line no_lines e = refl
 no_line (unfinished w) e = absurd (let k = e in cc)
 no_line (blank w b m) e = absurd (let k = e in cc)
@@ -86,11 +86,11 @@ rows_dropped s h (l ∷ front) line rows whole a = by_line (row_line a l (front 
     by_line (is_row w b r others is m e) on = subst (λ z. AreRowLines s h (l ∷ front) z) (sym e) (row w b is (on others m))
 
 -- what a first line of a trace is
-data TraceLine (least : Scale) (l : Line) (ls : List Line) (header : Header) (rows : List Row) : Type 0 where
+pub data TraceLine (least : Scale) (l : Line) (ls : List Line) (header : Header) (rows : List Row) : Type 0 where
   is_blank : l.whole ≡ true → is_blank_line l ≡ true → AreTraceLines least ls header rows → TraceLine least l ls header rows
   is_heading : (h : Heading) → l.whole ≡ true → is_blank_line l ≡ false → IsHeading (fields l) h → AreRowLines (scale_of least h) h ls rows → header ≡ header_of least h → TraceLine least l ls header rows
 
-trace_line : {least : Scale} {all : List Line} {header : Header} {rows : List Row} → AreTraceLines least all header rows → (l : Line) (ls : List Line) → all ≡ l ∷ ls → TraceLine least l ls header rows
+pub trace_line : {least : Scale} {all : List Line} {header : Header} {rows : List Row} → AreTraceLines least all header rows → (l : Line) (ls : List Line) → all ≡ l ∷ ls → TraceLine least l ls header rows
 trace_line {least} (blank {line = x} {more = xs} {header = header} {rows = rows} w b m) l ls e =
     let k : x ≡ l = cc in let j : xs ≡ ls = cc in
     is_blank (subst (λ (z : Line). z.whole ≡ true) k w) (subst (λ (z : Line). is_blank_line z ≡ true) k b) (subst (λ zs. AreTraceLines least zs header rows) j m)
@@ -99,7 +99,7 @@ trace_line {least} (heading {line = x} {more = xs} {rows = rows} h w b is m) l l
     is_heading h (subst (λ (z : Line). z.whole ≡ true) k w) (subst (λ (z : Line). is_blank_line z ≡ false) k b) (subst (λ (z : Line). IsHeading (fields z) h) k is)
     (subst (λ zs. AreRowLines (scale_of least h) h zs rows) j m) refl
 
-no_trace : {least : Scale} {all : List Line} {header : Header} {rows : List Row} → AreTraceLines least all header rows → all ≡ [] → ⊥
+pub no_trace : {least : Scale} {all : List Line} {header : Header} {rows : List Row} → AreTraceLines least all header rows → all ≡ [] → ⊥
 no_trace (blank w b m) e = let k = e in cc
 no_trace (heading h w b is m) e = let k = e in cc
 
@@ -416,3 +416,102 @@ rows_once limits f bytes ended (faulted_header x fault none) (no_header_yet clea
 rows_once limits f bytes ended (faulted_header x fault none) (faulted y other b) =
     let (n, h, at, e) = header_read b in absurd (none n h (subst (λ k. IsHeaderAt (take (k - 1) (lines ended bytes)) n h) (fault_once limits f bytes ended y x other fault) at))
 rows_once limits f bytes ended (faulted_header x fault none) (faulted_header y other none') = record { same_header = refl; same_rows = refl; same_end = refl }
+
+-- ---- the end of the input
+
+length_take_most : (j : ℕ) (ls : List Line) → length (take j ls) ≤ j
+length_take_most zero ls = omega arith
+length_take_most (suc j) [] = omega arith
+length_take_most (suc j) (l ∷ ls) = omega (arith, length_take_most j ls)
+
+-- the first lines of whole lines without rows, the header among them, are such
+rows_taken : (s : Scale) (h : Heading) (ls : List Line) (j : ℕ) → All IsDone ls → AreRowLines s h ls [] → AreRowLines s h (take j ls) []
+rows_taken s h [] zero whole a = a
+rows_taken s h [] (suc j) whole a = a
+rows_taken s h (l ∷ ls) zero whole a = no_lines
+rows_taken s h (l ∷ ls) (suc j) whole a = by_line (row_line a l ls refl) (rows_taken s h ls j (All-tail IsDone l ls whole))
+  where
+    by_line : RowLine s h l ls [] → (AreRowLines s h ls [] → AreRowLines s h (take j ls) []) → AreRowLines s h (l ∷ take j ls) []
+    by_line (goes_on w e) on = absurd (false≢true (sym w ∙ All-head IsDone l ls whole))
+    by_line (is_blank w b m) on = blank w b (on m)
+    by_line (is_row w b r others is m e) on = absurd (let k = e in cc)
+
+-- a header after a blank line
+header_beyond : {l : Line} {ls : List Line} {n : ℕ} {h : Heading} → IsHeaderAt (l ∷ ls) n h → is_blank_line l ≡ true → (m : ℕ) × IsHeaderAt ls m h × (n ≡ suc m)
+header_beyond (at_first w b is) e = absurd (false≢true (sym b ∙ e))
+header_beyond (at_later {n = m} w b at) e = (m, at, refl)
+
+trace_taken : (least : Scale) (ls : List Line) (header : Header) (j : ℕ) {n : ℕ} {h : Heading} → All IsDone ls → AreTraceLines least ls header [] → IsHeaderAt ls n h → n ≤ j
+    → AreTraceLines least (take j ls) header []
+trace_taken least [] header j whole a at few = absurd (no_trace a refl)
+trace_taken least (l ∷ ls) header zero whole a at few = absurd (omega (arith, few, (header_within at).0))
+trace_taken least (l ∷ ls) header (suc j) {n} {h} whole a at few = by_line (trace_line a l ls refl) (λ i g m k. trace_taken least ls header j {n = i} {h = g} (All-tail IsDone l ls whole) m k) at few
+  where
+    by_line : TraceLine least l ls header [] → ((n : ℕ) (h : Heading) → AreTraceLines least ls header [] → IsHeaderAt ls n h → n ≤ j → AreTraceLines least (take j ls) header [])
+        → IsHeaderAt (l ∷ ls) n h → n ≤ suc j → AreTraceLines least (l ∷ take j ls) header []
+    by_line (is_blank w b m) on at few = let (i, there, e) = header_beyond at b in blank w b (on i h m there (omega (arith, few, e)))
+    by_line (is_heading g w b is m e) on at few = subst (λ (z : Header). AreTraceLines least (l ∷ take j ls) z []) (sym e) (heading g w b is (rows_taken (scale_of least g) g ls j (All-tail IsDone l ls whole) m))
+
+-- the rows before the first fault at the end are those so far; or there are none, and maybe no header either
+pub data BeforeEnd (limits : Limits) (f : Formula) (bytes : List ℕ) (header : Option Header) (rows : List Row) : Type 0 where
+  the_same : AreRowsBefore limits f bytes true header rows false → BeforeEnd limits f bytes header rows
+  no_rows_there : rows ≡ [] → AreRowsBefore limits f bytes true None [] false → BeforeEnd limits f bytes header rows
+
+module _ (limits : Limits) (f : Formula) {bytes line : List ℕ} (p : Parts bytes line) where
+  all_now : lines true bytes ≡ p.front ++ rest true line
+  all_now = lines-now bytes line p true
+
+  so_many : (l : List ℕ) → length (rest true l) ≤ 1
+  so_many [] = omega arith
+  so_many (c ∷ cs) = omega arith
+
+  -- a fault stands in one of the lines
+  in_lines : (x : Fault) → IsInputFault limits f bytes true x → line_of x ≤ length p.front + 1
+  in_lines x (inl (n, h, at, inl (atom, term, name, is, e), clean)) = omega (arith, ap line_of e, (header_within at).1, ap length all_now, length-append p.front (rest true line), so_many line)
+  in_lines x (inl (n, h, at, inr (fits, (fault, is, e)), clean)) = omega (arith, ap line_of e, (header_within at).1, ap length all_now, length-append p.front (rest true line), so_many line)
+  in_lines x (inr (none, (r, first, e))) =
+      omega (arith, ap line_of e, fault_within limits true r f.scale 1 (lines true bytes) (omega arith) first, ap length all_now, length-append p.front (rest true line), so_many line)
+
+  before_it : (x : Fault) → IsInputFault limits f bytes true x → take (line_of x - 1) (lines true bytes) ≡ take (line_of x - 1) p.front
+  before_it x fault = ap (take (line_of x - 1)) all_now ∙ take-append-le (line_of x - 1) p.front (rest true line) (omega (arith, in_lines x fault))
+
+  header_in_taken : (j : ℕ) {m : ℕ} {g : Heading} → IsHeaderAt (take j p.front) m g → IsHeaderAt p.front m g
+  header_in_taken j {m} {g} at = subst (λ ls. IsHeaderAt ls m g) (take-append-drop j p.front) (header_stays (drop j p.front) at)
+
+  at_the_end : {header : Option Header} {rows : List Row} → AreRowsBefore limits f bytes false header rows false → ((x : Fault) → ¬ IsInputFault limits f bytes false x)
+      → (x : Fault) → IsInputFault limits f bytes true x → BeforeEnd limits f bytes header rows
+  at_the_end (faulted y other read) calm x fault = absurd (calm y other)
+  at_the_end (faulted_header y other none) calm x fault = absurd (calm y other)
+  at_the_end (no_header_yet clean none) calm x fault = the_same (faulted_header x fault (λ m g at.
+      none m g (subst (λ ls. IsHeaderAt ls m g) (sym (lines-now bytes line p false))
+      (header_stays (rest false line) (header_in_taken (line_of x - 1) (subst (λ ls. IsHeaderAt ls m g) (before_it x fault) at))))))
+  at_the_end (sound {header = header} {rows = rows} clean read) calm x fault = by_place (later_fault limits f p [] true clean read x longer)
+    where
+      longer : IsInputFault limits f (bytes ++ []) true x
+      longer = subst (λ b. IsInputFault limits f b true x) (sym (append-nil bytes)) fault
+
+      of_front : AreTraceLines f.scale p.front header rows
+      of_front = front limits f p [] true clean read
+
+      by_header : rows ≡ [] → (n : ℕ) (h : Heading) → IsHeaderAt p.front n h → (n ≤ line_of x - 1) ⊎ (line_of x - 1 < n) → BeforeEnd limits f bytes (Some header) rows
+      by_header none n h at (inl few) = the_same (faulted x fault
+          (subst (λ ls. AreTraceLines f.scale ls header rows) (sym (before_it x fault)) (subst (λ rs. AreTraceLines f.scale (take (line_of x - 1) p.front) header rs) (sym none)
+          (trace_taken f.scale p.front header (line_of x - 1) p.whole (subst (λ rs. AreTraceLines f.scale p.front header rs) none of_front) at few))))
+      by_header none n h at (inr over) = no_rows_there none (faulted_header x fault (λ m g there.
+          let taken_at = subst (λ ls. IsHeaderAt ls m g) (before_it x fault) there in
+          let same = (header_once (header_in_taken (line_of x - 1) taken_at) at).0 in
+          omega (arith, same, over, (header_within taken_at).1, length_of_taken)))
+        where
+          length_of_taken : length (take (line_of x - 1) p.front) ≤ line_of x - 1
+          length_of_taken = length_take_most (line_of x - 1) p.front
+
+      by_place : (1 + length p.front ≤ line_of x) ⊎ (rows ≡ []) → BeforeEnd limits f bytes (Some header) rows
+      by_place (inl over) = the_same (faulted x fault (subst (λ ls. AreTraceLines f.scale ls header rows)
+          (sym (before_it x fault ∙ take_all (line_of x - 1) p.front (omega (arith, over)))) of_front))
+      by_place (inr none) =
+          let (n, h, at, e) = header_read of_front in
+          by_header none n h at (elim (cases_lt (line_of x - 1) n) [ inl over ↦ inr over | inr few ↦ inl few ])
+
+pub before_end : (limits : Limits) (f : Formula) (bytes : List ℕ) {header : Option Header} {rows : List Row} → AreRowsBefore limits f bytes false header rows false
+    → ((x : Fault) → ¬ IsInputFault limits f bytes false x) → (x : Fault) → IsInputFault limits f bytes true x → BeforeEnd limits f bytes header rows
+before_end limits f bytes before calm x fault = let (line, o) = open_line bytes in at_the_end limits f (parts o) before calm x fault

@@ -12,18 +12,18 @@ use Rattle.workbench.specs.Answers.{IsJudged}
 use Rattle.workbench.specs.Commands.{Judge, judge, generate, IsForm, of_formula, judge_word}
 use Rattle.workbench.specs.Requests.{no_form, refused as bad_request, whole as of_whole, IsAsked, IsAmong, built_commands, AreNone, AreFor, word_of, usage_line, IsUnserved}
 use Rattle.workbench.specs.Owed.{OwesAtEnd, not_yet, faulty as faulty_at_end, at_end as owed_at_end}
-use Rattle.workbench.specs.Settled.{IsPrompt, none, bad, faulty, answered as settled_answer, wide as settled_wide}
+use Rattle.workbench.specs.Settled.{IsPrompt, none, bad, faulty, answered as settled_answer, wide as settled_wide, overfull as settled_overfull}
 use Rattle.workbench.specs.Running.{IsTimely, IsEnd, settled, unread, unwritten, no_memory, HasEnded, asked, unknown, IsRun}
 use Rattle.workbench.specs.Saying.{IsSaid}
 use Rattle.workbench.specs.InputFaults.{Fault, whole_limits, IsInputFault}
 use Rattle.workbench.specs.Reading.{IsReadWhole, IsReadPromptly, IsStop}
 use Rattle.workbench.specs.Writing.{IsPartWritten}
 use Rattle.workbench.specs.declared.request.Command.{Command as Word}
-use Rattle.workbench.specs.declared.request.Command.TheVariants.{Check, Robust}
+use Rattle.workbench.specs.declared.request.Command.TheVariants.{Check, Robust, Explain}
 use Rattle.workbench.specs.Wholes.{command_of, status_of_truth, IsAnswerOf, IsUnanswered, IsWrittenWith, all_of_it, a_part, IsWholeEnd, answered, unanswered, stopped, status_of, status_of_stop, IsEndLine, IsStopLine, EndsSoundly, IsBadEnd, refused, no_room}
 use Rattle.workbench.specs.declared.case.Case.{Case}
 use Rattle.workbench.specs.declared.fault.Stop.{Stop}
-use Rattle.workbench.specs.declared.fault.Stop.TheVariants.{Fault as Faulty, Unread, Unwritten, NoMemory, Wide}
+use Rattle.workbench.specs.declared.fault.Stop.TheVariants.{Fault as Faulty, Unread, Unwritten, NoMemory, Wide, TooMany}
 use Rattle.workbench.specs.ErrTexts.{write_fault}
 
 -- ---- words
@@ -35,6 +35,7 @@ word_form (of_formula j) = refl
 is_built : (w : Word) → IsAmong (word_of (command_of w)) built_commands
 is_built Check = inl refl
 is_built Robust = inr (inl refl)
+is_built Explain = inr (inr (inl refl))
 
 -- a command's word and one more are of a form that is built
 pub asked_word : {words : List (List ℕ)} (w : Word) (text : List ℕ) → words ≡ judge_word (word_of (command_of w)) ∷ text ∷ []
@@ -48,7 +49,8 @@ none_asked {words} h (judge j text) a = by_word a.built
     by_word : IsAmong j built_commands → ⊥
     by_word (inl e) = h Check text (subst (λ k. words ≡ judge_word k ∷ text ∷ []) e (word_form a.is))
     by_word (inr (inl e)) = h Robust text (subst (λ k. words ≡ judge_word k ∷ text ∷ []) e (word_form a.is))
-    by_word (inr (inr other)) = other
+    by_word (inr (inr (inl e))) = h Explain text (subst (λ k. words ≡ judge_word k ∷ text ∷ []) e (word_form a.is))
+    by_word (inr (inr (inr other))) = other
 none_asked h (generate n rows) a = a.built
 
 -- a command that holds the whole trace serves each formula
@@ -89,6 +91,7 @@ not_stopped c f tr Unread is = absurd is
 not_stopped c f tr Unwritten is = absurd is
 not_stopped c f tr NoMemory is = (λ e. let k = e in cc, λ e. let k = e in cc)
 not_stopped c f tr (Wide i den) is = (λ e. let k = e in cc, λ e. let k = e in cc)
+not_stopped c f tr (TooMany count) is = (λ e. let k = e in cc, λ e. let k = e in cc)
 
 -- the answer of `check`
 pub check_answer : (f : Formula) (tr : Trace) (holds : Bool) (text : List ℕ) → IsJudged f tr holds text → IsAnswerOf check f tr holds text
@@ -104,11 +107,13 @@ ends_soundly (unanswered k Unread read is same) = tt
 ends_soundly (unanswered k Unwritten read is same) = tt
 ends_soundly (unanswered k NoMemory read is same) = tt
 ends_soundly (unanswered k (Wide i den) read is same) = tt
+ends_soundly (unanswered k (TooMany count) read is same) = tt
 ends_soundly (stopped (Faulty fault) is same) = (is.0, is.1)
 ends_soundly (stopped Unread is same) = tt
 ends_soundly (stopped Unwritten is same) = tt
 ends_soundly (stopped NoMemory is same) = tt
 ends_soundly (stopped (Wide i den) is same) = tt
+ends_soundly (stopped (TooMany count) is same) = tt
 
 -- ---- runs
 
@@ -227,6 +232,7 @@ module _ (words : List (List ℕ)) (c : Command) (f : Formula) (i : Drained) (o 
     is = no_memory (λ k. let h = k in cc) (inl refl) (timely c f bytes []);
   })
   of_stop (Wide i den) is same failed told = absurd is
+  of_stop (TooMany count) is same failed told = absurd is
 
   of_unanswered : (case : Case) (stop : Stop) → IsReadWhole whole_limits f i.before i.after i.ended case → IsUnanswered c f case.trace stop → o.after ≡ o.before → {line : List ℕ} → IsStopLine f stop line
       → Ending (status_of_stop stop) line
@@ -241,6 +247,14 @@ module _ (words : List (List ℕ)) (c : Command) (f : Formula) (i : Drained) (o 
     grew = kept_all o.before o.after same;
     at_end = λ _. read.read.all;
     is = settled (settled_wide n den (read.came_to_end, refl, record { tr = case.trace; trace = read.whole; cause = cause; few = few }));
+  })
+  of_unanswered case (TooMany count) read many same told = told_as told (record {
+    bytes = read.bytes;
+    text = [];
+    moved = read.read.moved;
+    grew = kept_all o.before o.after same;
+    at_end = λ _. read.read.all;
+    is = settled (settled_overfull count (read.came_to_end, (case.trace, read.whole, many)));
   })
 
   of_end : (ending : Result Bool Stop) → IsWholeEnd c f i o ending → (ending ≡ Err Unread → HasFailed i) → (ending ≡ Err Unwritten → HasRefused o) → {line : List ℕ} → IsEndLine f ending line
@@ -276,6 +290,7 @@ five_is (Err Unread) s = refl
 five_is (Err Unwritten) s = absurd (omega (arith, s))
 five_is (Err NoMemory) s = absurd (omega (arith, s))
 five_is (Err (Wide i den)) s = absurd (omega (arith, s))
+five_is (Err (TooMany count)) s = absurd (omega (arith, s))
 
 pub six_is : (e : Result Bool Stop) → status_of e ≡ 6 → e ≡ Err Unwritten
 six_is (Ok true) s = absurd (omega (arith, s))
@@ -285,6 +300,7 @@ six_is (Err Unread) s = absurd (omega (arith, s))
 six_is (Err Unwritten) s = refl
 six_is (Err NoMemory) s = absurd (omega (arith, s))
 six_is (Err (Wide i den)) s = absurd (omega (arith, s))
+six_is (Err (TooMany count)) s = absurd (omega (arith, s))
 
 pub large_is : (e : Result Bool Stop) → 2 ≤ status_of e → IsErr e
 large_is (Ok true) s = absurd (omega (arith, s))
@@ -313,6 +329,8 @@ not_words (Err NoMemory) (inl s) = omega (arith, s)
 not_words (Err NoMemory) (inr s) = omega (arith, s)
 not_words (Err (Wide i den)) (inl s) = omega (arith, s)
 not_words (Err (Wide i den)) (inr s) = omega (arith, s)
+not_words (Err (TooMany count)) (inl s) = omega (arith, s)
+not_words (Err (TooMany count)) (inr s) = omega (arith, s)
 
 pub not_small : (status : ℕ) → (status ≡ 3) ⊎ (status ≡ 7) → ¬ (status ≤ 1)
 not_small status (inl a) e = omega (arith, a, e)

@@ -1,5 +1,5 @@
 -- How far a stream has come, and how it ends.
-use Rattle.std.proofs.Common.{◌≡◌, inl, inr, ℕ, ◌+◌, ◌-◌, ◌<◌, ◌≤◌, Bool, true, false, List, [], ◌++◌, length, take, drop, take-append-drop, length-append, append_assoc, refl, sym, ap, ◌∙◌, subst, arith, append-nil, Result, Ok, Err}
+use Rattle.std.proofs.Common.{◌≡◌, ◌≢◌, inl, inr, ℕ, ◌+◌, ◌-◌, ◌<◌, ◌≤◌, Bool, true, false, List, [], ◌++◌, length, take, drop, take-append-drop, length-append, append_assoc, refl, sym, ap, ◌∙◌, subst, arith, append-nil, Result, Ok, Err}
 use Rattle.std.specs.Prelude.{Option, Some, None, option_map}
 use Rattle.std.specs.Io.KnownBytes.{Appends, Consumes, Keeps, IsAtEnd}
 use Rattle.std.proofs.KnownBytes.{Appends-nil, Appends-trans, Consumes-nil, Consumes-trans, Consumes-kept}
@@ -7,7 +7,7 @@ use Rattle.std.proofs.lemmas.Bool.{false≢true}
 use Rattle.std.proofs.lemmas.List.{take-append-le}
 use Rattle.io_edge.specs.Calls.{Drained, Filled, HasFailed, HasRefused, IsAskedOnce}
 use Rattle.stl_syntax.specs.Formula.{Formula}
-use Rattle.workbench.specs.Requests.{Stream, stream, word_of_stream, AreFor}
+use Rattle.workbench.specs.Requests.{Request, no_form, has_input, Stream, stream, word_of_stream, AreFor}
 use Rattle.workbench.specs.Owed.{Owes, OwesByThen}
 use Rattle.workbench.specs.Settled.{HasFault, IsPrompt, IsAnswered, faulty, answered}
 use Rattle.workbench.specs.Running.{IsBegun, IsTimely, IsEnd, settled, unread, unwritten, no_memory, asked, IsRun}
@@ -23,44 +23,44 @@ use Rattle.workbench.proofs.Progress.{sound_so_far}
 use Rattle.workbench.specs.Wholes.{status_of_truth, status_of, IsEndLine}
 use Rattle.workbench.specs.Pushing.{IsPushed, IsPushStop, IsPush, IsLineOf, IsStreamEnd}
 use Rattle.workbench.specs.declared.fault.Stop.{Stop}
-use Rattle.workbench.specs.declared.fault.Stop.TheVariants.{Fault as Faulty, Unread, Unwritten, NoMemory, Wide}
+use Rattle.workbench.specs.declared.fault.Stop.TheVariants.{Fault as Faulty, Unread, Unwritten, NoMemory, Wide, TooMany}
 use Rattle.workbench.specs.ErrTexts.{read_fault, write_fault, out_of_memory}
 
 -- some bytes were read and answered, in so many reads
-pub record Pushing (Stands : List ℕ → List ℕ → Type 0) (s : Stream) (f : Formula) (before now held held_now : Option (List ℕ)) (reads : ℕ) : Type 0 where
+pub record Pushing (Stands : List ℕ → List ℕ → Type 0) (q : Request) (before now held held_now : Option (List ℕ)) (reads : ℕ) : Type 0 where
   pub bytes : List ℕ
   pub text : List ℕ
   pub moved : Consumes before now bytes
   pub grew : Appends held held_now text
-  pub is : IsPushed Stands s f bytes text
+  pub is : IsPushed Stands q bytes text
   pub enough : reads ≤ length bytes
 
-pub at_first : (Stands : List ℕ → List ℕ → Type 0) (s : Stream) (f : Formula) (left held : Option (List ℕ)) → IsPushed Stands s f [] [] → Pushing Stands s f left left held held 0
-at_first Stands s f left held p = record { bytes = []; text = []; moved = Consumes-nil left; grew = Appends-nil held; is = p; enough = omega arith }
+pub at_first : (Stands : List ℕ → List ℕ → Type 0) (q : Request) (left held : Option (List ℕ)) → IsPushed Stands q [] [] → Pushing Stands q left left held held 0
+at_first Stands q left held p = record { bytes = []; text = []; moved = Consumes-nil left; grew = Appends-nil held; is = p; enough = omega arith }
 
 -- all but the last 4,096 bytes stood before the last piece
-timely_piece : (s : Stream) (f : Formula) (bytes piece text grown : List ℕ)
-    → ((front back : List ℕ) → bytes ≡ front ++ back → (short more : List ℕ) × OwesByThen (stream s f) front short × (text ≡ short ++ more))
-    → length piece ≤ 4096 → IsTimely (stream s f) (bytes ++ piece) (text ++ grown)
-timely_piece s f bytes piece text grown timely small =
+timely_piece : (q : Request) (bytes piece text grown : List ℕ)
+    → ((front back : List ℕ) → bytes ≡ front ++ back → (short more : List ℕ) × OwesByThen q front short × (text ≡ short ++ more))
+    → length piece ≤ 4096 → IsTimely q (bytes ++ piece) (text ++ grown)
+timely_piece q bytes piece text grown timely small =
     let n = length (bytes ++ piece) - 4096 in
     let within : n ≤ length bytes = omega (arith, small, length-append bytes piece) in
     let (short, more, owed, e) = timely (take n bytes) (drop n bytes) (sym (take-append-drop n bytes)) in (
       short,
       more ++ grown,
-      subst (λ b. OwesByThen (stream s f) b short) (sym (take-append-le n bytes piece within)) owed,
+      subst (λ b. OwesByThen q b short) (sym (take-append-le n bytes piece within)) owed,
       ap (λ t. t ++ grown) e ∙ append_assoc short more grown,
     )
 
-module _ {Stands : List ℕ → List ℕ → Type 0} {s : Stream} {f : Formula} {before now held held_now : Option (List ℕ)} {reads : ℕ} (p : Pushing Stands s f before now held held_now reads) where
-  pub has_pushed : (bytes text : List ℕ) × IsPushed Stands s f bytes text
+module _ {Stands : List ℕ → List ℕ → Type 0} {q : Request} {before now held held_now : Option (List ℕ)} {reads : ℕ} (p : Pushing Stands q before now held held_now reads) where
+  pub has_pushed : (bytes text : List ℕ) × IsPushed Stands q bytes text
   has_pushed = (p.bytes, p.text, p.is)
 
   pub few_pushes : 18446744073709551615 ≤ reads → ⊥
   few_pushes r = omega (arith, r, p.enough, p.is.few)
 
   pub go_on : (After : List ℕ → List ℕ → Type 0) (after held_after : Option (List ℕ)) (piece : List ℕ) → Consumes now after piece → 0 < length piece
-      → (grown : List ℕ) × Appends held_now held_after grown × IsPushed After s f (p.bytes ++ piece) (p.text ++ grown) → Pushing After s f before after held held_after (reads + 1)
+      → (grown : List ℕ) × Appends held_now held_after grown × IsPushed After q (p.bytes ++ piece) (p.text ++ grown) → Pushing After q before after held held_after (reads + 1)
   go_on After after held_after piece moved some (grown, wrote, is) = record {
     bytes = p.bytes ++ piece;
     text = p.text ++ grown;
@@ -71,7 +71,7 @@ module _ {Stands : List ℕ → List ℕ → Type 0} {s : Stream} {f : Formula} 
   }
 
   -- the source failed
-  pub end_unread : (i : Drained) (o : Filled) → i.before ≡ before → o.before ≡ held → o.after ≡ held_now → Keeps now i.after → i.ended ≡ false → HasFailed i → IsStreamEnd s f i o (Err Unread)
+  pub end_unread : (i : Drained) (o : Filled) → i.before ≡ before → o.before ≡ held → o.after ≡ held_now → Keeps now i.after → i.ended ≡ false → HasFailed i → IsStreamEnd q i o (Err Unread)
   end_unread i o b h a kept goes_on failed = record {
     bytes = p.bytes;
     text = p.text;
@@ -79,17 +79,17 @@ module _ {Stands : List ℕ → List ℕ → Type 0} {s : Stream} {f : Formula} 
     moved = subst (λ x. Consumes x i.after p.bytes) (sym b) (Consumes-kept before now i.after p.bytes p.moved kept);
     grew = subst (λ x. Appends x o.after p.text) (sym h) (subst (λ x. Appends held x p.text) (sym a) p.grew);
     at_end = λ t. absurd (false≢true (sym goes_on ∙ t));
-    is = unread refl goes_on failed p.is.sound p.is.owed;
+    is = unread p.is.input goes_on failed p.is.sound p.is.owed;
     told = refl;
   }
 
-  prompt : (piece : List ℕ) (ended : Bool) → length piece ≤ 4096 → (ended ≡ true → piece ≡ []) → IsPrompt (stream s f) (p.bytes ++ piece) ended
+  prompt : (piece : List ℕ) (ended : Bool) → length piece ≤ 4096 → (ended ≡ true → piece ≡ []) → IsPrompt q (p.bytes ++ piece) ended
   prompt piece ended small at_end = record { before = p.bytes; piece = piece; parts = refl; short = small; at_end = at_end; sound = p.is.sound }
 
   -- a piece, or the end, stopped the stream
   pub end_stop : (i : Drained) (o : Filled) (piece : List ℕ) (ended : Bool) (stop : Stop) → i.before ≡ before → o.before ≡ held → Consumes now i.after piece → i.ended ≡ ended → (ended ≡ true → (piece ≡ []) × IsAtEnd i.after) → length piece ≤ 4096
       → (stop ≡ Unwritten → HasRefused o)
-      → (grown : List ℕ) × Appends held_now o.after grown × IsPushStop s f (p.bytes ++ piece) ended (p.text ++ grown) stop → IsStreamEnd s f i o (Err stop)
+      → (grown : List ℕ) × Appends held_now o.after grown × IsPushStop q (p.bytes ++ piece) ended (p.text ++ grown) stop → IsStreamEnd q i o (Err stop)
   end_stop i o piece ended stop b h moved same at_end small cut (grown, wrote, is) = by_stop stop is cut
     where
       all_moved : Consumes i.before i.after (p.bytes ++ piece)
@@ -98,13 +98,13 @@ module _ {Stands : List ℕ → List ℕ → Type 0} {s : Stream} {f : Formula} 
       all_grew : Appends o.before o.after (p.text ++ grown)
       all_grew = subst (λ x. Appends x o.after (p.text ++ grown)) (sym h) (Appends-trans held held_now o.after p.text grown p.grew wrote)
 
-      in_time : IsTimely (stream s f) (p.bytes ++ piece) (p.text ++ grown)
-      in_time = timely_piece s f p.bytes piece p.text grown p.is.timely small
+      in_time : IsTimely q (p.bytes ++ piece) (p.text ++ grown)
+      in_time = timely_piece q p.bytes piece p.text grown p.is.timely small
 
-      as_ended : {rest : List ℕ} → IsBegun (stream s f) (p.bytes ++ piece) ended (p.text ++ grown) rest → IsBegun (stream s f) (p.bytes ++ piece) i.ended (p.text ++ grown) rest
-      as_ended {rest} x = subst (λ (e : Bool). IsBegun (stream s f) (p.bytes ++ piece) e (p.text ++ grown) rest) (sym same) x
+      as_ended : {rest : List ℕ} → IsBegun q (p.bytes ++ piece) ended (p.text ++ grown) rest → IsBegun q (p.bytes ++ piece) i.ended (p.text ++ grown) rest
+      as_ended {rest} x = subst (λ (e : Bool). IsBegun q (p.bytes ++ piece) e (p.text ++ grown) rest) (sym same) x
 
-      with_end : (line : List ℕ) (stop : Stop) → IsEnd (stream s f) i o (p.bytes ++ piece) (p.text ++ grown) (status_of (Err stop)) line → IsLineOf f (Err stop) line → IsStreamEnd s f i o (Err stop)
+      with_end : (line : List ℕ) (stop : Stop) → IsEnd q i o (p.bytes ++ piece) (p.text ++ grown) (status_of (Err stop)) line → IsLineOf q (Err stop) line → IsStreamEnd q i o (Err stop)
       with_end line stop is told = record {
         bytes = p.bytes ++ piece;
         text = p.text ++ grown;
@@ -116,20 +116,24 @@ module _ {Stands : List ℕ → List ℕ → Type 0} {s : Stream} {f : Formula} 
         told = told;
       }
 
-      by_stop : (stop : Stop) → IsPushStop s f (p.bytes ++ piece) ended (p.text ++ grown) stop → (stop ≡ Unwritten → HasRefused o) → IsStreamEnd s f i o (Err stop)
-      by_stop (Faulty fault) (x, stored, first, owed) cut = with_end (fault_text x) (Faulty fault)
-          (settled (faulty (subst (λ (e : Bool). HasFault (stream s f) (p.bytes ++ piece) e (fault_text x)) (sym same) (x, first, refl))
+      known : q ≢ no_form
+      known k = false≢true (sym (ap has_input k) ∙ p.is.input)
+
+      by_stop : (stop : Stop) → IsPushStop q (p.bytes ++ piece) ended (p.text ++ grown) stop → (stop ≡ Unwritten → HasRefused o) → IsStreamEnd q i o (Err stop)
+      by_stop (Faulty fault) (line, stored, first, owed) cut = with_end line (Faulty fault)
+          (settled (faulty (subst (λ (e : Bool). HasFault q (p.bytes ++ piece) e line) (sym same) first)
           (prompt piece i.ended small (λ t. (at_end (sym same ∙ t)).0))
-          (subst (λ (e : Bool). Owes (stream s f) (p.bytes ++ piece) e (p.text ++ grown)) (sym same) owed))) (x, stored, refl)
+          (subst (λ (e : Bool). Owes q (p.bytes ++ piece) e (p.text ++ grown)) (sym same) owed))) stored
       by_stop Unread is cut = absurd is
       by_stop Unwritten (rest, some, begun) cut = with_end write_fault Unwritten (unwritten rest some (cut refl) (as_ended begun) in_time) refl
-      by_stop NoMemory (inl none) cut = with_end out_of_memory NoMemory (no_memory (λ k. let h = k in cc) (inl none) in_time) refl
-      by_stop NoMemory (inr (rest, begun)) cut = with_end out_of_memory NoMemory (no_memory (λ k. let h = k in cc) (inr (rest, as_ended begun)) in_time) refl
+      by_stop NoMemory (inl none) cut = with_end out_of_memory NoMemory (no_memory known (inl none) in_time) refl
+      by_stop NoMemory (inr (rest, begun)) cut = with_end out_of_memory NoMemory (no_memory known (inr (rest, as_ended begun)) in_time) refl
       by_stop (Wide i den) is cut = absurd is
+      by_stop (TooMany count) is cut = absurd is
 
   -- the stream came to its end
   pub end_ok : (i : Drained) (o : Filled) (holds : Bool) → i.before ≡ before → o.before ≡ held → Consumes now i.after [] → i.ended ≡ true → IsAtEnd i.after
-      → (grown : List ℕ) × Appends held_now o.after grown × IsAnswered (stream s f) p.bytes true (status_of_truth holds) (p.text ++ grown) → IsStreamEnd s f i o (Ok holds)
+      → (grown : List ℕ) × Appends held_now o.after grown × IsAnswered q p.bytes true (status_of_truth holds) (p.text ++ grown) → IsStreamEnd q i o (Ok holds)
   end_ok i o holds b h moved same at_end (grown, wrote, is) = record {
     bytes = p.bytes;
     text = p.text ++ grown;
@@ -137,54 +141,55 @@ module _ {Stands : List ℕ → List ℕ → Type 0} {s : Stream} {f : Formula} 
     moved = subst (λ x. Consumes x i.after p.bytes) (sym b) (subst (Consumes before i.after) (append-nil p.bytes) (Consumes-trans before now i.after p.bytes [] p.moved moved));
     grew = subst (λ x. Appends x o.after (p.text ++ grown)) (sym h) (Appends-trans held held_now o.after p.text grown p.grew wrote);
     at_end = λ _. at_end;
-    is = settled (answered (subst (λ (e : Bool). IsAnswered (stream s f) p.bytes e (status_of_truth holds) (p.text ++ grown)) (sym same) is));
+    is = settled (answered (subst (λ (e : Bool). IsAnswered q p.bytes e (status_of_truth holds) (p.text ++ grown)) (sym same) is));
     told = refl;
   }
 
   -- the formula stays
-  pub pushed_so_far : (g : Formula) → g ≡ f → IsPushed Stands s g p.bytes p.text
-  pushed_so_far g e = subst (λ (k : Formula). IsPushed Stands s k p.bytes p.text) (sym e) p.is
+  pub pushed_so_far : (g : Request) → g ≡ q → IsPushed Stands g p.bytes p.text
+  pushed_so_far g e = subst (λ (k : Request). IsPushed Stands k p.bytes p.text) (sym e) p.is
 
   -- the last call of a stream
-  pub end_from : (g : Formula) → g ≡ f → (i : Drained) (o : Filled) (r : Result Bool Stop) (none : List ℕ) → none ≡ [] → i.before ≡ before → o.before ≡ held → Consumes now i.after none → i.ended ≡ true → IsAtEnd i.after
+  pub end_from : (g : Request) → g ≡ q → (i : Drained) (o : Filled) (r : Result Bool Stop) (none : List ℕ) → none ≡ [] → i.before ≡ before → o.before ≡ held → Consumes now i.after none → i.ended ≡ true → IsAtEnd i.after
       → (r ≡ Err Unwritten → HasRefused o)
-      → IsPush s g held_now o.after p.bytes true p.text (λ holds. IsAnswered (stream s g) p.bytes true (status_of_truth holds)) r → IsStreamEnd s f i o r
+      → IsPush g held_now o.after p.bytes true p.text (λ holds. IsAnswered g p.bytes true (status_of_truth holds)) r → IsStreamEnd q i o r
   end_from g e i o r none empty b h moved same at_end cut push =
-      by_result r (subst (λ (k : Formula). IsPush s k held_now o.after p.bytes true p.text (λ holds. IsAnswered (stream s k) p.bytes true (status_of_truth holds)) r) e push) cut
+      by_result r (subst (λ (k : Request). IsPush k held_now o.after p.bytes true p.text (λ holds. IsAnswered k p.bytes true (status_of_truth holds)) r) e push) cut
     where
-      by_result : (r : Result Bool Stop) → IsPush s f held_now o.after p.bytes true p.text (λ holds. IsAnswered (stream s f) p.bytes true (status_of_truth holds)) r → (r ≡ Err Unwritten → HasRefused o)
-          → IsStreamEnd s f i o r
+      by_result : (r : Result Bool Stop) → IsPush q held_now o.after p.bytes true p.text (λ holds. IsAnswered q p.bytes true (status_of_truth holds)) r → (r ≡ Err Unwritten → HasRefused o)
+          → IsStreamEnd q i o r
       by_result (Ok holds) push cut = end_ok i o holds b h (subst (Consumes now i.after) empty moved) same at_end push
       by_result (Err stop) (grown, wrote, is) cut =
           end_stop i o [] true stop b h (subst (Consumes now i.after) empty moved) same (λ _. (refl, at_end)) (omega arith) (λ k. cut (ap Err k))
-          (grown, wrote, subst (λ bs. IsPushStop s f bs true (p.text ++ grown) stop) (sym (append-nil p.bytes)) is)
+          (grown, wrote, subst (λ bs. IsPushStop q bs true (p.text ++ grown) stop) (sym (append-nil p.bytes)) is)
 
   -- a piece that stopped the stream
-  pub stop_from : (g : Formula) → g ≡ f → (i : Drained) (o : Filled) (piece : List ℕ) (stop : Stop) → i.before ≡ before → o.before ≡ held → Consumes now i.after piece → i.ended ≡ false → length piece ≤ 4096
+  pub stop_from : (g : Request) → g ≡ q → (i : Drained) (o : Filled) (piece : List ℕ) (stop : Stop) → i.before ≡ before → o.before ≡ held → Consumes now i.after piece → i.ended ≡ false → length piece ≤ 4096
       → (stop ≡ Unwritten → HasRefused o)
-      → (grown : List ℕ) × Appends held_now o.after grown × IsPushStop s g (p.bytes ++ piece) false (p.text ++ grown) stop → IsStreamEnd s f i o (Err stop)
+      → (grown : List ℕ) × Appends held_now o.after grown × IsPushStop g (p.bytes ++ piece) false (p.text ++ grown) stop → IsStreamEnd q i o (Err stop)
   stop_from g e i o piece stop b h moved same small cut (grown, wrote, is) =
-      end_stop i o piece false stop b h moved same (λ t. absurd (false≢true t)) small cut (grown, wrote, subst (λ (k : Formula). IsPushStop s k (p.bytes ++ piece) false (p.text ++ grown) stop) e is)
+      end_stop i o piece false stop b h moved same (λ t. absurd (false≢true t)) small cut (grown, wrote, subst (λ (k : Request). IsPushStop k (p.bytes ++ piece) false (p.text ++ grown) stop) e is)
 
   -- a piece that was answered
-  pub piece_from : (g : Formula) → g ≡ f → (After : List ℕ → List ℕ → Type 0) (after held_after : Option (List ℕ)) (piece : List ℕ) → Consumes now after piece → 0 < length piece
-      → (grown : List ℕ) × Appends held_now held_after grown × IsPushed After s g (p.bytes ++ piece) (p.text ++ grown) → Pushing After s f before after held held_after (reads + 1)
+  pub piece_from : (g : Request) → g ≡ q → (After : List ℕ → List ℕ → Type 0) (after held_after : Option (List ℕ)) (piece : List ℕ) → Consumes now after piece → 0 < length piece
+      → (grown : List ℕ) × Appends held_now held_after grown × IsPushed After g (p.bytes ++ piece) (p.text ++ grown) → Pushing After q before after held held_after (reads + 1)
   piece_from g e After after held_after piece moved some (grown, wrote, is) =
-      go_on After after held_after piece moved some (grown, wrote, subst (λ (k : Formula). IsPushed After s k (p.bytes ++ piece) (p.text ++ grown)) e is)
+      go_on After after held_after piece moved some (grown, wrote, subst (λ (k : Request). IsPushed After k (p.bytes ++ piece) (p.text ++ grown)) e is)
 
 -- ---- the run
 
-line_is : (f : Formula) (ending : Result Bool Stop) (line other : List ℕ) → IsLineOf f ending line → IsEndLine f ending other → other ≡ line
-line_is f (Ok holds) line other a b = b ∙ sym a
-line_is f (Err (Faulty fault)) line other (x, is, e) b = b x is ∙ sym e
-line_is f (Err Unread) line other a b = b ∙ sym a
-line_is f (Err Unwritten) line other a b = b ∙ sym a
-line_is f (Err NoMemory) line other a b = b ∙ sym a
-line_is f (Err (Wide i den)) line other a b = b ∙ sym a
+line_is : (s : Stream) (f : Formula) (ending : Result Bool Stop) (line other : List ℕ) → IsLineOf (stream s f) ending line → IsEndLine f ending other → other ≡ line
+line_is s f (Ok holds) line other a b = b ∙ sym a
+line_is s f (Err (Faulty fault)) line other (x, is, e) b = b x is ∙ sym e
+line_is s f (Err Unread) line other a b = b ∙ sym a
+line_is s f (Err Unwritten) line other a b = b ∙ sym a
+line_is s f (Err NoMemory) line other a b = b ∙ sym a
+line_is s f (Err (Wide i den)) line other a b = b ∙ sym a
+line_is s f (Err (TooMany count)) line other a b = b ∙ sym a
 
 -- a stream's end is that of the run
 pub stream_run : (words : List (List ℕ)) (s : Stream) (f : Formula) (i : Drained) (o e : Filled) → AreFor words (word_of_stream s) f → (ending : Result Bool Stop) (status : ℕ) (line : List ℕ)
-    → status ≡ status_of ending → IsStreamEnd s f i o ending → IsAskedOnce i → IsEndLine f ending line → IsSaid e.before e.after e.faults e.faults_after line → IsRun words i o e status
+    → status ≡ status_of ending → IsStreamEnd (stream s f) i o ending → IsAskedOnce i → IsEndLine f ending line → IsSaid e.before e.after e.faults e.faults_after line → IsRun words i o e status
 stream_run words s f i o e ask ending status line same x once told said =
     subst (λ n. IsRun words i o e n) (sym same) (record {
       bytes = x.bytes;
@@ -192,7 +197,7 @@ stream_run words s f i o e ask ending status line same x once told said =
       line = x.line;
       moved = x.moved;
       grew = x.grew;
-      said = subst (λ l. IsSaid e.before e.after e.faults e.faults_after l) (line_is f ending x.line line x.told told) said;
+      said = subst (λ l. IsSaid e.before e.after e.faults e.faults_after l) (line_is s f ending x.line line x.told told) said;
       ended = asked (stream s f) ask (λ k. absurd (false≢true (sym k))) (λ _ _. record { none_left = x.at_end; once = once }) x.is;
     })
 

@@ -19,7 +19,7 @@ use Rattle.workbench.specs.declared.case.Case.{Case}
 use Rattle.workbench.specs.declared.fault.TraceFault.{TraceFault}
 use Rattle.workbench.specs.declared.fault.TraceFault.TheVariants.{Trace as InTrace, Unknown, Unit as InTicks}
 use Rattle.workbench.specs.declared.fault.Stop.{Stop}
-use Rattle.workbench.specs.declared.fault.Stop.TheVariants.{Fault as Faulty, Unread, Unwritten, NoMemory, Wide}
+use Rattle.workbench.specs.declared.fault.Stop.TheVariants.{Fault as Faulty, Unread, Unwritten, NoMemory, Wide, TooMany}
 
 -- the name in a term of the formula, by the node of its atom and its place in it
 pub record IsNamed (f : Formula) (atom term : ℕ) (name : List ℕ) : Type 0 where
@@ -57,6 +57,7 @@ IsNoBegin f n h Unread = ⊥
 IsNoBegin f n h Unwritten = ⊥
 IsNoBegin f n h NoMemory = Unit {0}
 IsNoBegin f n h (Wide i den) = ⊥
+IsNoBegin f n h (TooMany count) = ⊥
 
 -- the reason to stop that a fault of binding is, for the header in line n
 abbrev pub stop_of : ℕ → BindFault → Stop

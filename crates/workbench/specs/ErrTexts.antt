@@ -5,11 +5,7 @@ use Rattle.stl_grammar.specs.declared.fault.What.{What}
 use Rattle.stl_grammar.specs.declared.fault.What.TheVariants.{Operand, Number, Comma, Bracket, Star, Name, Term, Relation, Constant, Paren, End}
 use Rattle.stl_grammar.specs.declared.fault.FormulaFault.{FormulaFault}
 use Rattle.stl_grammar.specs.declared.fault.FormulaFault.TheVariants as formula
-use Rattle.stl_syntax.specs.declared.scale.UnitFault.{UnitFault}
-use Rattle.stl_syntax.specs.declared.scale.UnitFault.TheVariants as unit
-use Rattle.trace_reader.specs.declared.refusal.TraceRefusal.{TraceRefusal}
-use Rattle.trace_reader.specs.declared.refusal.TraceKind.{TraceKind}
-use Rattle.trace_reader.specs.declared.refusal.TraceKind.TheVariants as trace
+pub use Rattle.report.specs.FaultTexts.{out_of_memory, in_line, in_field, kind_text, trace_fault_text, unknown_text, unit_fault_text}
 
 -- what is expected, in words
 abbrev pub what_text : What → List ℕ
@@ -24,10 +20,6 @@ what_text Relation = codes "a relation"
 what_text Constant = codes "a constant"
 what_text Paren = codes "a closing parenthesis"
 what_text End = codes "a connective or the end"
-
--- memory was wanting
-abbrev pub out_of_memory : List ℕ
-out_of_memory = codes "out of memory" ++ newline
 
 -- a message about a place of the formula
 abbrev pub at_place : ℕ → List ℕ → List ℕ
@@ -56,44 +48,6 @@ formula_fault_text formula.Memory = out_of_memory
 -- the first node that a stream of margins can't serve
 abbrev pub not_streamed_text : ℕ → List ℕ
 not_streamed_text i = of_formula (codes "node " ++ decimal i ++ codes " not streamed")
-
--- a message about line n of a trace
-abbrev pub in_line : ℕ → List ℕ → List ℕ
-in_line n message = codes "line " ++ decimal n ++ codes ": " ++ message ++ newline
-
--- a message about field i of line n
-abbrev pub in_field : ℕ → ℕ → List ℕ → List ℕ
-in_field n i message = in_line n (codes "field " ++ decimal i ++ codes ": " ++ message)
-
--- the line of each fault of a trace
-abbrev pub kind_text : ℕ → TraceKind → List ℕ
-kind_text n trace.Empty = in_line n (codes "no header")
-kind_text n (trace.BadName i) = in_field n i (codes "bad name")
-kind_text n (trace.SameName i) = in_field n i (codes "same name")
-kind_text n (trace.TooManyColumns k) = in_line n (decimal k ++ codes " columns")
-kind_text n (trace.BadMode i) = in_field n i (codes "bad mode")
-kind_text n trace.LineTooLong = in_line n (codes "line too long")
-kind_text n (trace.BadNumber i) = in_field n i (codes "bad number")
-kind_text n (trace.WrongCount k) = in_line n (decimal k ++ codes " fields")
-kind_text n trace.TimeNotRising = in_line n (codes "time not rising")
-kind_text n (trace.OutOfRange i) = in_field n i (codes "out of range")
-kind_text n trace.NoRows = in_line n (codes "no rows")
-kind_text n trace.TooManyRows = in_line n (codes "too many rows")
-kind_text n trace.TooManyLines = in_line n (codes "too many lines")
-
--- the line of the first fault
-abbrev pub trace_fault_text : TraceRefusal → List ℕ
-trace_fault_text r = kind_text r.line r.kind
-
--- the line of a column that the header lacks
-abbrev pub unknown_text : ℕ → List ℕ → List ℕ
-unknown_text n name = in_line n (codes "unknown column " ++ name)
-
--- the line of a formula that does not fit the ticks of the header in line n
-abbrev pub unit_fault_text : ℕ → UnitFault → List ℕ
-unit_fault_text n (unit.Constant i) = in_line n (codes "node " ++ decimal i ++ codes ": constant out of range")
-unit_fault_text n (unit.Reach sum) = in_line n (codes "bounds sum to " ++ decimal sum)
-unit_fault_text n unit.Memory = out_of_memory
 
 -- the faults of the lines of several sessions
 abbrev pub bad_tag_text : ℕ → List ℕ

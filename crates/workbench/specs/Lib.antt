@@ -6,7 +6,6 @@ pub mod Sessions
 pub mod Words
 pub mod Writing
 pub mod Answers
-pub mod Lines
 pub mod Reading
 pub mod Cases
 pub mod Saying
@@ -19,3 +18,6 @@ pub mod Pushing
 pub mod Promises
 pub mod Judging
 pub mod Measured
+pub mod Following
+pub mod Reasons
+pub mod Accounts

@@ -15,7 +15,7 @@ use Rattle.workbench.specs.Cases.{IsFault, IsCase, IsHeaderOf, IsLacking, IsNoBe
 use Rattle.workbench.specs.declared.case.Case.{Case}
 use Rattle.workbench.specs.declared.fault.TraceFault.TheVariants.{Trace as InTrace}
 use Rattle.workbench.specs.declared.fault.Stop.{Stop}
-use Rattle.workbench.specs.declared.fault.Stop.TheVariants.{Fault as Faulty, Unread, Unwritten, NoMemory, Wide}
+use Rattle.workbench.specs.declared.fault.Stop.TheVariants.{Fault as Faulty, Unread, Unwritten, NoMemory, Wide, TooMany}
 
 -- these bytes were read, and they are all where the source came to its end
 pub record IsRead (before after : Option (List ℕ)) (ended : Bool) (bytes : List ℕ) : Type 0 where
@@ -69,6 +69,7 @@ IsStop limits f before after ended Unread = IsReadInPart limits f before after e
 IsStop limits f before after ended Unwritten = ⊥
 IsStop limits f before after ended NoMemory = (bytes : List ℕ) × Consumes before after bytes
 IsStop limits f before after ended (Wide i den) = ⊥
+IsStop limits f before after ended (TooMany count) = ⊥
 
 -- these bytes were handed over, and may have ended; a trace was not made of them for this reason
 abbrev pub IsRefused : Limits → Formula → Bool → List ℕ → Stop → Type 0
@@ -77,6 +78,7 @@ IsRefused limits f ended bytes Unread = ⊥
 IsRefused limits f ended bytes Unwritten = ⊥
 IsRefused limits f ended bytes NoMemory = Unit {0}
 IsRefused limits f ended bytes (Wide i den) = ⊥
+IsRefused limits f ended bytes (TooMany count) = ⊥
 
 -- once the header was read, there is a case of it with the rows
 abbrev pub IsTied : Formula → Option Heading → List ℕ → List Row → Option Case → Type 0
@@ -105,7 +107,7 @@ pub record HasHeader (f : Formula) (reader : Reader) : Type 0 where
   pub ticks : IsScale (scale_of f.scale heading)
 
 -- the first fault of all bytes, where the reader ended with this one: what a header without rows lacks comes before it
-pub data IsLastFault (f : Formula) (reader : Reader) (case : Option Case) (r : TraceRefusal) : Stop → Type 0 where
+pub data IsLastFault {T : Type 0} (f : Formula) (reader : Reader) (case : Option T) (r : TraceRefusal) : Stop → Type 0 where
   of_header : {stop : Stop} (h : Heading) → case ≡ None → r.kind ≡ NoRows → reader.heading ≡ Some h → IsNoBegin f r.line h stop → IsLastFault f reader case r stop
   own : (case ≡ None → r.kind ≡ NoRows → (h : Heading) → reader.heading ≡ Some h → (x : Fault) → ¬ IsLacking f r.line h x)
       → IsLastFault f reader case r (Faulty (InTrace r))

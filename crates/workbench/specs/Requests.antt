@@ -41,7 +41,7 @@ word_of_stream margins = word.rwatch
 
 -- the commands that are built, in the order in which the usage line names them
 abbrev pub built_commands : List Judge
-built_commands = word.check ∷ word.robust ∷ []
+built_commands = word.check ∷ word.robust ∷ word.explain ∷ []
 
 -- the command is in the list
 abbrev pub IsAmong : Judge → List Judge → Type 0

@@ -1,6 +1,7 @@
 -- How a run ends.
 use Rattle.std.specs.Prelude.{◌≡◌, ◌≢◌, ◌⊎◌, ℕ, ◌-◌, Bool, true, false, List, [], ◌++◌, length, take}
 use Rattle.std.specs.Io.KnownBytes.{Appends, Consumes, IsAtEnd}
+use Rattle.io_edge.specs.Causes.{next_count}
 use Rattle.io_edge.specs.Calls.{Drained, Filled, HasFailed, HasRefused, IsAskedOnce}
 use Rattle.workbench.specs.Requests.{Request, no_form, Asks, AreNone, has_input}
 use Rattle.workbench.specs.Owed.{Owes, OwesByThen}
@@ -36,6 +37,10 @@ pub data IsEnd (request : Request) (i : Drained) (o : Filled) (bytes text : List
 pub record IsReadOut (i : Drained) : Type 0 where
   pub none_left : i.ended ≡ true → IsAtEnd i.after
   pub once : IsAskedOnce i
+
+-- the source said its end, which it was asked for once
+abbrev pub HasSaidItsEnd : Drained → Type 0
+HasSaidItsEnd i = (i.ended ≡ true) × (i.ends_after ≡ next_count i.ends)
 
 -- how words end: what they ask for ends, or memory was wanting before that was known
 pub data HasEnded (words : List (List ℕ)) (i : Drained) (o : Filled) (bytes : List ℕ) : List ℕ → ℕ → List ℕ → Type 0 where

@@ -6,12 +6,15 @@ use Rattle.stl_syntax.specs.Formula.{Formula, Subformula, root}
 use Rattle.stl_syntax.specs.Scaling.{scaled}
 use Rattle.stl_syntax.specs.Trace.{Header, Row, Trace, IsLike, last_time, start, stop}
 use Rattle.stl_syntax.specs.Truth.{Truth}
+use Rattle.stl_syntax.specs.Kleene.{MustNot}
+use Rattle.stl_syntax.specs.Kept.{Kept, Agree}
 use Rattle.stl_syntax.specs.Closeness.{AreClose}
 use Rattle.stl_syntax.specs.SupInf.{Setting, Robustness, margin_setting}
 use Rattle.stl_syntax.specs.WideCause.{IsCrossingCause, IsValueCause}
 use Rattle.online_nodes.specs.StreamedWide.{IsStreamedCrossing, IsStreamedValue}
 use Rattle.online_nodes.specs.MarginStream.{IsMarginStream}
 use Rattle.stl_syntax.specs.declared.node.Node.{Node}
+use Rattle.stl_syntax.specs.declared.items.Item.{Item}
 use Rattle.trace_reader.specs.TraceText.{lines}
 use Rattle.report.specs.Report.{Command, check, robust, explain, json, table, Out, nodes_for}
 use Rattle.workbench.specs.Answers.{HoldsAtStart}
@@ -43,10 +46,20 @@ TellTruth p tr =
     → (t : Rational) (r : Extended) → Within (start tr) (stop tr) t → Robustness p tr t r
     → (finite e <ᵉ r → Truth p tr' t) × (r <ᵉ finite (negate e) → ¬ Truth p tr' t)
 
--- so of a command that writes robustness
+-- the items refute the formula at the start: they make it certainly false, and it fails in each trace in which they are so
+pub record Refute (f : Formula) (tr : Trace) (items : List Item) : Type 0 where
+  pub certain : MustNot (root (nodes_for f tr)) items tr (start tr)
+  pub elsewhere : (tr' : Trace) → Agree (nodes_for f tr) tr' tr items → ¬ Truth (root (nodes_for f tr)) tr' (start tr')
+
+-- where the formula fails at the start, the items that are kept refute it
+abbrev pub KeptRefute : Formula → Trace → Type 0
+KeptRefute f tr = (items : List Item) → ¬ HoldsAtStart f tr → Kept (nodes_for f tr) tr items → Refute f tr items
+
+-- what a command's text tells is sure: the robustness that it writes, and the explanation
 abbrev pub IsSure : Command → Formula → Trace → Type 0
 IsSure check f tr = Unit {0}
-IsSure explain f tr = Unit {0}
+IsSure explain f tr = KeptRefute f tr
+IsSure json f tr = TellTruth (root (nodes_for f tr)) tr × KeptRefute f tr
 IsSure c f tr = TellTruth (root (nodes_for f tr)) tr
 
 -- the status of a stream that came to its end

@@ -5,7 +5,7 @@ use Rattle.stl_syntax.specs.Formula.{Formula}
 use Rattle.stl_syntax.specs.Trace.{Trace}
 use Rattle.stl_grammar.specs.declared.fault.FormulaFault.{FormulaFault}
 use Rattle.stl_grammar.specs.declared.fault.FormulaFault.TheVariants as fault
-use Rattle.report.specs.Report.{Command, check, robust, Out}
+use Rattle.report.specs.Report.{Command, check, robust, explain, Out}
 use Rattle.std.specs.Io.KnownBytes.{Appends}
 use Rattle.workbench.specs.Requests.{IsBadText}
 use Rattle.workbench.specs.Owed.{HasTooMany}
@@ -16,15 +16,16 @@ use Rattle.workbench.specs.Reading.{IsReadWhole, IsStop}
 use Rattle.workbench.specs.Writing.{IsPartWritten}
 use Rattle.workbench.specs.declared.case.Case.{Case}
 use Rattle.workbench.specs.declared.fault.Stop.{Stop}
-use Rattle.workbench.specs.declared.fault.Stop.TheVariants.{Fault as Faulty, Unread, Unwritten, NoMemory, Wide}
+use Rattle.workbench.specs.declared.fault.Stop.TheVariants.{Fault as Faulty, Unread, Unwritten, NoMemory, Wide, TooMany}
 use Rattle.workbench.specs.declared.request.Command.{Command as Word}
-use Rattle.workbench.specs.declared.request.Command.TheVariants.{Check, Robust}
-use Rattle.workbench.specs.ErrTexts.{out_of_memory, read_fault, write_fault, wide_text}
+use Rattle.workbench.specs.declared.request.Command.TheVariants.{Check, Robust, Explain}
+use Rattle.workbench.specs.ErrTexts.{out_of_memory, read_fault, write_fault, wide_text, too_many_cells_text}
 
 -- the command of a word
 abbrev pub command_of : Word → Command
 command_of Check = check
 command_of Robust = robust
+command_of Explain = explain
 
 -- 0 for true, 1 for false
 abbrev pub status_of_truth : Bool → ℕ
@@ -42,6 +43,7 @@ pub record IsAnswerOf (c : Command) (f : Formula) (tr : Trace) (holds : Bool) (t
 abbrev pub IsUnanswered : Command → Formula → Trace → Stop → Type 0
 IsUnanswered c f tr NoMemory = Unit {0}
 IsUnanswered c f tr (Wide i den) = HasWide c f tr i den × ((count : ℕ) → ¬ HasTooMany c f tr count)
+IsUnanswered c f tr (TooMany count) = HasTooMany c f tr count
 IsUnanswered c f tr stop = ⊥
 
 -- how the writing of an answer ends
@@ -69,6 +71,7 @@ status_of_stop Unread = 5
 status_of_stop Unwritten = 6
 status_of_stop NoMemory = 7
 status_of_stop (Wide i den) = 8
+status_of_stop (TooMany count) = 9
 
 -- the status of an ending
 abbrev pub status_of : Result Bool Stop → ℕ
@@ -82,6 +85,7 @@ IsStopLine f Unread line = line ≡ read_fault
 IsStopLine f Unwritten line = line ≡ write_fault
 IsStopLine f NoMemory line = line ≡ out_of_memory
 IsStopLine f (Wide i den) line = line ≡ wide_text i den
+IsStopLine f (TooMany count) line = line ≡ too_many_cells_text count
 
 -- the line of an ending
 abbrev pub IsEndLine : Formula → Result Bool Stop → List ℕ → Type 0

@@ -26,4 +26,6 @@ pub(crate) enum Stop {
     NoMemory,
     /// The robustness at a node needs this denominator, of 2^60 or more.
     Wide { node: u32, den: u128 },
+    /// An explanation would have more than 65,536 cells: so many at the first node at which their running sum passes that limit.
+    TooMany { count: u64 },
 }

@@ -4,12 +4,18 @@ ghost use Rattle.std.specs.Io.KnownBytes.{IsAtEnd};
 ghost use Rattle.io_edge.specs.Calls.{Drained, Filled, HasFailed, HasRefused};
 ghost use Rattle.workbench.specs.Promises.{IsBadRightly, IsBadWhereDue, IsRefusedRightly, IsRefusedWhereDue, IsAnsweredWhereDue, IsAnsweredRightly, IsCutOffRightly, IsToldRightly};
 ghost use Rattle.stl_syntax.specs.Formula.{Formula};
-ghost use Rattle.report.specs.Report.{Command, robust};
+ghost use Rattle.report.specs.Report.{Command, robust, explain};
 ghost use Rattle.workbench.specs.Requests.{Request, AreHeld, AreNone, whole, has_input};
 ghost use Rattle.workbench.specs.Settled.{HasFault, IsAnsweredWhole};
+ghost use Rattle.workbench.specs.Accounts.{IsAccount};
 ghost use Rattle.workbench.specs.Measured.{IsMeasured};
 ghost use Rattle.workbench.specs.Words.{AskCheck};
 ghost use Rattle.workbench.specs.Running.{IsEnd, IsRun};
+
+pub use crate::owing_laws::{
+    one_request_is_asked_for, one_text_is_owed, the_end_is_asked_for_once, what_is_owed_only_grows,
+    what_was_written_is_of_all_bytes,
+};
 
 /// 2 comes exactly where the words are of no form that is built.
 pub fn words_of_no_form_are_told()
@@ -57,6 +63,14 @@ pub fn check_keeps_its_promises()
 /// which each atom's expression differs by at most e at each time.
 pub fn margins_tell_the_truth()
     ensures { (f : Formula) (bytes text : List ℕ) (status : ℕ) → IsAnsweredWhole robust f bytes status text → IsMeasured f bytes text }
+{}
+
+/// What `explain` wrote with 0 or 1 is an account of the trace: the line of a start that is true, where the formula holds there; else
+/// that of one that is false, and the lines of the cells of atoms that are kept, where those that touch are one. These refute the
+/// formula: they make it certainly false, and it fails at the start of each trace with the same columns, scale, start and end in which
+/// the lines are so. Without any one line it is not certainly false.
+pub fn explanations_refute()
+    ensures { (f : Formula) (bytes text : List ℕ) (status : ℕ) → IsAnsweredWhole explain f bytes status text → IsAccount f bytes text status }
 {}
 
 /// Where the bytes that were read have a fault, a command that holds the whole trace ends with 4, or for want of memory.

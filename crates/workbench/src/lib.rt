@@ -4,10 +4,14 @@
 mod answer;
 mod case;
 mod entry;
+mod explain;
 mod fault;
+mod follow;
 pub mod laws;
 mod line;
+mod live;
 mod output;
+mod owing_laws;
 mod reading;
 mod request;
 mod robust;

@@ -1,59 +1,17 @@
-//! A line for the error stream, written without taking memory.
-ghost use Rattle.std.specs.Prelude.{◌≡◌, ◌++◌, decimal};
+//! A line for the error stream, written at once and without taking memory.
+ghost use Rattle.std.specs.Prelude.{◌≡◌, ◌++◌, decimal, OnOk};
 ghost use Rattle.io_edge.specs.Causes.{HasCause};
-ghost use Rattle.workbench.specs.Lines.{line_text, number_text, detail_text};
+ghost use Rattle.report.specs.Lines.{line_text, number_text, detail_text};
 ghost use Rattle.workbench.specs.Writing.{IsWritten};
 
 use crate::output::write_all;
+use arrayvec::{ArrayVec, CapacityError};
 use io_edge::{Failed, Sink};
 use itoa::Buffer;
+use report::{Detail, Line};
 
-/// What a line tells beside its number.
-#[derive(Clone, Copy)]
-pub(crate) enum Detail<'a> {
-    Nothing,
-    Number(u64),
-    Large(u128),
-    Name(&'a [u8]),
-}
-
-/// A line in its parts.
-#[derive(Clone, Copy)]
-pub(crate) struct Line<'a> {
-    pub(crate) head: &'static [u8],
-    pub(crate) number: Option<u64>,
-    pub(crate) middle: &'static [u8],
-    pub(crate) detail: Detail<'a>,
-    pub(crate) tail: &'static [u8],
-}
-
-impl Line<'_> {
-    /// A line of these bytes alone.
-    pub(crate) fn plain(text: &'static [u8]) -> Line<'static>
-        ensures { line_text result ≡ text.now }
-    {
-        Line {
-            head: text,
-            number: None,
-            middle: b"",
-            detail: Detail::Nothing,
-            tail: b"",
-        }
-    }
-
-    /// A line with a number.
-    pub(crate) fn numbered(head: &'static [u8], number: u64, tail: &'static [u8]) -> Line<'static>
-        ensures { line_text result ≡ head.now ++ (decimal number ++ tail.now) }
-    {
-        Line {
-            head,
-            number: Some(number),
-            middle: tail,
-            detail: Detail::Nothing,
-            tail: b"",
-        }
-    }
-}
+/// Room for the longest line: that of a column whose name is as long as a formula's text may be.
+type Whole = ArrayVec<u8, 8_256>;
 
 /// Writes a number in decimal.
 fn write_number<E: Sink>(err: &mut E, number: u64) -> Result<(), Failed>
@@ -93,12 +51,12 @@ fn write_detail<E: Sink>(err: &mut E, detail: Detail<'_>) -> Result<(), Failed>
         Detail::Nothing => Ok(()),
         Detail::Number(number) => write_number(err, number),
         Detail::Large(number) => write_large(err, number),
-        Detail::Name(name) => write_all(err, name),
+        Detail::Name(name) => write_all(err, name.as_str().as_bytes()),
     }
 }
 
 /// Writes the line, part by part, until the sink fails.
-pub(crate) fn write_line<E: Sink>(err: &mut E, line: &Line<'_>) -> Result<(), Failed>
+fn write_parts<E: Sink>(err: &mut E, line: &Line<'_>) -> Result<(), Failed>
     ensures written { IsWritten (E.written err.old) (E.written err.new) result (line_text line.now) }
     ensures cause { HasCause (E.faults err.old) (E.faults err.new) result }
 {
@@ -107,4 +65,54 @@ pub(crate) fn write_line<E: Sink>(err: &mut E, line: &Line<'_>) -> Result<(), Fa
     write_all(err, line.middle)?;
     write_detail(err, line.detail)?;
     write_all(err, line.tail)
+}
+
+/// Gathers the number of a line, if it has one.
+fn gather_number(whole: &mut Whole, number: Option<u64>) -> Result<(), CapacityError>
+    ensures { OnOk result (whole.new.items ≡ whole.old.items ++ number_text number) }
+{
+    match number {
+        Some(number) => whole.try_extend_from_slice(Buffer::new().format(number).as_bytes()),
+        None => Ok(()),
+    }
+}
+
+/// Gathers the detail of a line.
+fn gather_detail(whole: &mut Whole, detail: Detail<'_>) -> Result<(), CapacityError>
+    ensures { OnOk result (whole.new.items ≡ whole.old.items ++ detail_text detail.entry) }
+{
+    match detail {
+        Detail::Nothing => Ok(()),
+        Detail::Number(number) => {
+            whole.try_extend_from_slice(Buffer::new().format(number).as_bytes())
+        }
+        Detail::Large(number) => {
+            whole.try_extend_from_slice(Buffer::new().format(number).as_bytes())
+        }
+        Detail::Name(name) => whole.try_extend_from_slice(name.as_str().as_bytes()),
+    }
+}
+
+/// Gathers a line where it fits.
+fn gather(whole: &mut Whole, line: &Line<'_>) -> Result<(), CapacityError>
+    ensures { OnOk result (whole.new.items ≡ whole.old.items ++ line_text line.now) }
+{
+    whole.try_extend_from_slice(line.head)?;
+    gather_number(whole, line.number)?;
+    whole.try_extend_from_slice(line.middle)?;
+    gather_detail(whole, line.detail)?;
+    whole.try_extend_from_slice(line.tail)
+}
+
+/// Writes the line at once, so that lines of several programs on one error stream stay apart; one that does not fit in the room for
+/// it goes part by part.
+pub(crate) fn write_line<E: Sink>(err: &mut E, line: &Line<'_>) -> Result<(), Failed>
+    ensures written { IsWritten (E.written err.old) (E.written err.new) result (line_text line.now) }
+    ensures cause { HasCause (E.faults err.old) (E.faults err.new) result }
+{
+    let mut whole = Whole::new();
+    match gather(&mut whole, line) {
+        Ok(()) => write_all(err, whole.as_slice()),
+        Err(_) => write_parts(err, line),
+    }
 }

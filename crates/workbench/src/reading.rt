@@ -25,17 +25,41 @@ fn first_line(piece: &[u8]) -> &[u8]
     }
 }
 
-/// The bytes of a piece to read next: of one line at most, where the header was not read yet. So it is seen before anything of a
+/// The bytes of a piece to read next: of one line at most, where nothing was begun by the header yet. So it is seen before anything of a
 /// later line.
-fn next_bytes<'a>(case: &Option<Case>, piece: &'a [u8]) -> &'a [u8]
-    ensures line { MatchOption case.now (result.now ≡ through_feed piece.now) (λ _. result.now ≡ piece.now) }
+pub(crate) fn next_bytes<'a, T>(begun: &Option<T>, piece: &'a [u8]) -> &'a [u8]
+    ensures line { MatchOption begun.now (result.now ≡ through_feed piece.now) (λ _. result.now ≡ piece.now) }
     ensures short { length result.now ≤ length piece.now }
     ensures some { 0 < length piece.now → 0 < length result.now }
 {
-    if case.is_some() {
+    if begun.is_some() {
         return piece;
     }
     first_line(piece)
+}
+
+/// The first fault of all bytes, where the reader ended with this one: a header without rows may lack something too.
+pub(crate) fn last_fault<T>(
+    alloc: Global,
+    rows: &Rows,
+    begun: &Option<T>,
+    refusal: TraceRefusal,
+    formula: &Formula,
+) -> Stop
+    requires { refusal.kind ≡ NoRows → HasHeader formula.now rows.now }
+    ensures { IsLastFault formula.now rows.now begun.now refusal result }
+{
+    let own = Stop::Fault(TraceFault::Trace(refusal));
+    let TraceKind::NoRows = refusal.kind else {
+        return own;
+    };
+    if begun.is_some() {
+        return own;
+    }
+    if let Err(stop) = begin(alloc, formula, rows.header(), refusal.line) {
+        return stop;
+    }
+    own
 }
 
 /// A reader, and what is kept of the trace that it has read.
@@ -85,24 +109,6 @@ impl Reading {
         Ok(())
     }
 
-    /// The first fault of all bytes, where the reader ended with this one: a header without rows may lack something too.
-    fn last_fault(&self, alloc: Global, refusal: TraceRefusal, formula: &Formula) -> Stop
-        requires { refusal.kind ≡ NoRows → HasHeader formula.now self.now.rows }
-        ensures { IsLastFault formula.now self.now.rows self.now.case refusal result }
-    {
-        let own = Stop::Fault(TraceFault::Trace(refusal));
-        let TraceKind::NoRows = refusal.kind else {
-            return own;
-        };
-        if self.case.is_some() {
-            return own;
-        }
-        if let Err(stop) = begin(alloc, formula, self.rows.header(), refusal.line) {
-            return stop;
-        }
-        own
-    }
-
     /// Keeps a last row without LF, where the bytes end here.
     fn finish(&mut self, alloc: Global, formula: &Formula) -> Result<(), Stop>
         requires { HasKept formula.now self.old.rows self.old.case }
@@ -114,7 +120,7 @@ impl Reading {
             Ok(Event::Row) => keep(&mut self.case, self.rows.row()),
             Ok(Event::Nothing) => Ok(()),
             Ok(Event::Header) => unreachable!(),
-            Err(refusal) => Err(self.last_fault(alloc, refusal, formula)),
+            Err(refusal) => Err(last_fault(alloc, &self.rows, &self.case, refusal, formula)),
         }
     }
 

@@ -9,6 +9,7 @@ ghost use Rattle.workbench.specs.Wholes.{command_of};
 pub(crate) enum Command {
     Check,
     Robust,
+    Explain,
 }
 
 /// A command and the text of its formula.
@@ -26,6 +27,7 @@ fn named(word: &str) -> Option<Command>
     match word {
         "check" => Some(Command::Check),
         "robust" => Some(Command::Robust),
+        "explain" => Some(Command::Explain),
         _ => None,
     }
 }

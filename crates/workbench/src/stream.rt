@@ -2,8 +2,7 @@
 ghost use Rattle.std.specs.Prelude.{◌≡◌, ◌≢◌, ◌≤◌, ℕ, List, [], ◌++◌, true, false, Err};
 ghost use Rattle.io_edge.specs.Causes.{Rose, after_end};
 ghost use Rattle.io_edge.specs.Calls.{drained, filled};
-ghost use Rattle.stl_syntax.specs.Formula.{Formula as Parsed};
-ghost use Rattle.workbench.specs.Requests.{Stream as Kind, stream as of_stream};
+ghost use Rattle.workbench.specs.Requests.{Request};
 ghost use Rattle.workbench.specs.Settled.{IsAnswered};
 ghost use Rattle.workbench.specs.Pushing.{IsPushed, IsPush, IsStreamEnd};
 ghost use Rattle.workbench.specs.Wholes.{status_of_truth};
@@ -13,29 +12,26 @@ use io_edge::{Sink, Source};
 
 /// A command that answers row by row.
 pub(crate) trait Push {
-    /// Which command it is.
-    ghost kind: { Kind };
-
-    /// The formula that it judges.
-    ghost formula: { Self → Parsed };
+    /// What is asked for.
+    ghost request: { Self → Request };
 
     /// It stands for these bytes, for which this text was written.
     ghost stands: { Self → List ℕ → List ℕ → Type 0 };
 
     /// Takes a piece, and writes what it answers.
     fn push<K: Sink>(&mut self, piece: &[u8], out: &mut K) -> Result<(), Stop>
-        requires { (bytes text : List ℕ) × IsPushed (stands self.old) kind (formula self.old) bytes text }
-        ensures pushed { (bytes text : List ℕ) → IsPushed (stands self.old) kind (formula self.old) bytes text
-            → IsPush kind (formula self.old) (K.written out.old) (K.written out.new) (bytes ++ piece.now) false text (λ _. IsPushed (stands self.new) kind (formula self.old) (bytes ++ piece.now)) result }
-        ensures same { formula self.new ≡ formula self.old }
+        requires { (bytes text : List ℕ) × IsPushed (stands self.old) (request self.old) bytes text }
+        ensures pushed { (bytes text : List ℕ) → IsPushed (stands self.old) (request self.old) bytes text
+            → IsPush (request self.old) (K.written out.old) (K.written out.new) (bytes ++ piece.now) false text (λ _. IsPushed (stands self.new) (request self.old) (bytes ++ piece.now)) result }
+        ensures same { request self.new ≡ request self.old }
         ensures cause { result ≡ Err Stop.Unwritten → Rose (K.faults out.old) (K.faults out.new) }
         ensures still { result ≢ Err Stop.Unwritten → K.faults out.new ≡ K.faults out.old };
 
     /// Writes what is left, and answers the truth at the start.
     fn end<K: Sink>(&mut self, out: &mut K) -> Result<bool, Stop>
-        requires { (bytes text : List ℕ) × IsPushed (stands self.old) kind (formula self.old) bytes text }
-        ensures ended { (bytes text : List ℕ) → IsPushed (stands self.old) kind (formula self.old) bytes text
-            → IsPush kind (formula self.old) (K.written out.old) (K.written out.new) bytes true text (λ holds. IsAnswered (of_stream kind (formula self.old)) bytes true (status_of_truth holds)) result }
+        requires { (bytes text : List ℕ) × IsPushed (stands self.old) (request self.old) bytes text }
+        ensures ended { (bytes text : List ℕ) → IsPushed (stands self.old) (request self.old) bytes text
+            → IsPush (request self.old) (K.written out.old) (K.written out.new) bytes true text (λ holds. IsAnswered (request self.old) bytes true (status_of_truth holds)) result }
         ensures cause { result ≡ Err Stop.Unwritten → Rose (K.faults out.old) (K.faults out.new) }
         ensures still { result ≢ Err Stop.Unwritten → K.faults out.new ≡ K.faults out.old };
 }
@@ -46,8 +42,8 @@ pub(crate) fn stream<P: Push, S: Source, K: Sink>(
     input: &mut S,
     out: &mut K,
 ) -> Result<bool, Stop>
-    requires { IsPushed (P.stands pusher.old) P.kind (P.formula pusher.old) [] [] }
-    ensures ending { IsStreamEnd P.kind (P.formula pusher.old) (drained S.left S.ended S.ends S.faults input.old input.new) (filled K.written K.faults out.old out.new) result }
+    requires { IsPushed (P.stands pusher.old) (P.request pusher.old) [] [] }
+    ensures ending { IsStreamEnd (P.request pusher.old) (drained S.left S.ended S.ends S.faults input.old input.new) (filled K.written K.faults out.old out.new) result }
     ensures ends { S.ends input.new ≡ after_end (S.ended input.new) (S.ends input.old) }
     ensures read_due { result ≢ Err Stop.Unread → S.faults input.new ≡ S.faults input.old }
     ensures write_due { result ≢ Err Stop.Unwritten → K.faults out.new ≡ K.faults out.old }

@@ -2,15 +2,14 @@
 ghost use Rattle.std.specs.Prelude.{◌≡◌, ℕ, List, ◌++◌, codes, decimal};
 ghost use Rattle.stl_syntax.specs.Texts.{newline};
 ghost use Rattle.workbench.specs.Cases.{IsFault, IsNamed};
-ghost use Rattle.workbench.specs.ErrTexts.{formula_fault_text, trace_fault_text, unknown_text, unit_fault_text, what_text, out_of_memory, wide_text};
+ghost use Rattle.workbench.specs.ErrTexts.{formula_fault_text, what_text, out_of_memory, wide_text, too_many_cells_text};
 ghost use Rattle.workbench.specs.InputFaults.{Fault as FirstFault, fault_text};
-ghost use Rattle.workbench.specs.Lines.{line_text};
+ghost use Rattle.report.specs.Lines.{line_text};
 
 use crate::fault::TraceFault;
-use crate::line::{Detail, Line};
+use report::{Detail, Line, trace_fault_line, unit_fault_line, unknown_line};
 use stl_grammar::{FormulaFault, What};
-use stl_syntax::{Formula, Node, UnitFault};
-use trace_reader::{TraceKind, TraceRefusal};
+use stl_syntax::{Formula, Name, Node};
 
 /// The line where memory was wanting.
 pub(crate) const NO_MEMORY: &[u8] = b"out of memory\n";
@@ -68,70 +67,6 @@ pub(crate) fn formula_line(fault: FormulaFault) -> Line<'static>
     }
 }
 
-/// A line about line `n` of the trace.
-fn in_line(n: u64, message: &'static [u8]) -> Line<'static>
-    ensures { line_text result ≡ codes "line " ++ (decimal n ++ message.now) }
-{
-    Line::numbered(b"line ", n, message)
-}
-
-/// A line about line `n` of the trace, and one number more.
-fn with_number(n: u64, middle: &'static [u8], number: u64, tail: &'static [u8]) -> Line<'static>
-    ensures { line_text result ≡ codes "line " ++ (decimal n ++ (middle.now ++ (decimal number ++ tail.now))) }
-{
-    Line {
-        head: b"line ",
-        number: Some(n),
-        middle,
-        detail: Detail::Number(number),
-        tail,
-    }
-}
-
-/// A line about field `i` of line `n`.
-fn in_field(n: u64, i: u32, tail: &'static [u8]) -> Line<'static>
-    ensures { line_text result ≡ codes "line " ++ (decimal n ++ (codes ": field " ++ (decimal i ++ tail.now))) }
-{
-    with_number(n, b": field ", u64::from(i), tail)
-}
-
-/// The line of a trace's refusal.
-fn refusal_line(refusal: TraceRefusal) -> Line<'static>
-    ensures { line_text result ≡ trace_fault_text refusal }
-{
-    let n = refusal.line;
-    match refusal.kind {
-        TraceKind::Empty => in_line(n, b": no header\n"),
-        TraceKind::BadName { field } => in_field(n, field, b": bad name\n"),
-        TraceKind::SameName { field } => in_field(n, field, b": same name\n"),
-        TraceKind::TooManyColumns { count } => {
-            with_number(n, b": ", u64::from(count), b" columns\n")
-        }
-        TraceKind::BadMode { field } => in_field(n, field, b": bad mode\n"),
-        TraceKind::LineTooLong => in_line(n, b": line too long\n"),
-        TraceKind::BadNumber { field } => in_field(n, field, b": bad number\n"),
-        TraceKind::WrongCount { got } => with_number(n, b": ", u64::from(got), b" fields\n"),
-        TraceKind::TimeNotRising => in_line(n, b": time not rising\n"),
-        TraceKind::OutOfRange { field } => in_field(n, field, b": out of range\n"),
-        TraceKind::NoRows => in_line(n, b": no rows\n"),
-        TraceKind::TooManyRows => in_line(n, b": too many rows\n"),
-        TraceKind::TooManyLines => in_line(n, b": too many lines\n"),
-    }
-}
-
-/// The line of numbers that do not fit in the ticks of the header in line `n`.
-fn unit_line(n: u64, fault: UnitFault) -> Line<'static>
-    ensures { line_text result ≡ unit_fault_text n fault }
-{
-    match fault {
-        UnitFault::Constant { node } => {
-            with_number(n, b": node ", u64::from(node), b": constant out of range\n")
-        }
-        UnitFault::Reach { sum } => with_number(n, b": bounds sum to ", sum, b"\n"),
-        UnitFault::Memory => Line::plain(NO_MEMORY),
-    }
-}
-
 /// The line of a node that needs too large a denominator.
 pub(crate) fn wide_line(node: u32, den: u128) -> Line<'static>
     ensures { line_text result ≡ wide_text node den }
@@ -145,13 +80,20 @@ pub(crate) fn wide_line(node: u32, den: u128) -> Line<'static>
     }
 }
 
+/// The line of an explanation with too many cells.
+pub(crate) fn too_many_cells_line(count: u64) -> Line<'static>
+    ensures { line_text result ≡ too_many_cells_text count }
+{
+    Line::numbered(b"too many cells: ", count, b"\n")
+}
+
 /// The name in a term of the formula.
-fn name_at(formula: &Formula, atom: u32, term: u32) -> &[u8]
+fn name_at(formula: &Formula, atom: u32, term: u32) -> &Name
     requires { (name : List ℕ) × IsNamed formula.now atom term name }
     ensures { IsNamed formula.now atom term result.now }
 {
     match formula.node(atom) {
-        Node::Atom(atom) => atom.term(term as usize).name().as_str().as_bytes(),
+        Node::Atom(atom) => atom.term(term as usize).name(),
         _ => unreachable!(),
     }
 }
@@ -162,14 +104,10 @@ pub(crate) fn fault_line(formula: &Formula, fault: TraceFault) -> Line<'_>
     ensures { (x : FirstFault) → IsFault formula.now fault x → line_text result ≡ fault_text x }
 {
     match fault {
-        TraceFault::Trace(refusal) => refusal_line(refusal),
-        TraceFault::Unknown { line, atom, term } => Line {
-            head: b"line ",
-            number: Some(line),
-            middle: b": unknown column ",
-            detail: Detail::Name(name_at(formula, atom, term)),
-            tail: b"\n",
-        },
-        TraceFault::Unit { line, fault } => unit_line(line, fault),
+        TraceFault::Trace(refusal) => trace_fault_line(&refusal),
+        TraceFault::Unknown { line, atom, term } => {
+            unknown_line(line, name_at(formula, atom, term))
+        }
+        TraceFault::Unit { line, fault } => unit_fault_line(line, &fault),
     }
 }

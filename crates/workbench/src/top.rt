@@ -2,25 +2,26 @@
 ghost use Rattle.std.specs.Prelude.{◌≡◌, ◌≢◌, ◌⊎◌, ◌≤◌, ℕ, List, map, string_bytes, MatchResult, length, ◌<◌, Err, IsErr};
 ghost use Rattle.io_edge.specs.Causes.{Rose, after_end};
 ghost use Rattle.io_edge.specs.Calls.{drained, filled};
-ghost use Rattle.stl_syntax.specs.Formula.{Formula as Parsed};
 ghost use Rattle.workbench.specs.Saying.{IsSaid};
 ghost use Rattle.stl_grammar.specs.FormulaRefusals.{IsFormulaFault};
 ghost use Rattle.workbench.specs.Cases.{IsCase};
-ghost use Rattle.workbench.specs.Lines.{line_text};
+ghost use Rattle.report.specs.Lines.{line_text};
 ghost use Rattle.workbench.specs.Requests.{AreHeld};
 ghost use Rattle.workbench.specs.Running.{IsRun};
 ghost use Rattle.workbench.specs.Wholes.{command_of, IsAnswerOf, IsUnanswered, IsWrittenWith, IsWholeEnd, IsBadEnd, IsEndLine, IsStopLine, HasFaultFor, EndsSoundly, status_of, status_of_stop, status_of_fault};
 
 use crate::answer::{Answer, judge};
 use crate::case::Case;
+use crate::explain::give_reasons;
 use crate::fault::Stop;
-use crate::line::{Line, write_line};
+use crate::line::write_line;
 use crate::output::write_all;
 use crate::reading::read_trace;
 use crate::request::{Command, asked};
 use crate::robust::measure;
-use crate::texts::{NO_MEMORY, fault_line, formula_line, wide_line};
+use crate::texts::{NO_MEMORY, fault_line, formula_line, too_many_cells_line, wide_line};
 use io_edge::{Sink, Source};
+use report::Line;
 use std::alloc::Global;
 use stl_grammar::{FormulaFault, parse};
 use stl_syntax::Formula;
@@ -33,7 +34,7 @@ const LIMITS: Limits = Limits {
 };
 
 /// The line where the words are of no form.
-const USAGE: &[u8] = b"usage: check F | robust F\n";
+const USAGE: &[u8] = b"usage: check F | robust F | explain F\n";
 
 /// Writes the answer.
 fn write_answer<K: Sink>(out: &mut K, answer: &Answer) -> Result<bool, Stop>
@@ -49,11 +50,12 @@ fn write_answer<K: Sink>(out: &mut K, answer: &Answer) -> Result<bool, Stop>
 }
 
 /// The answer of a command for a trace that has a row, or why there is none.
-fn answer(alloc: Global, command: Command, case: &Case) -> Result<Answer, Stop>
-    requires case { (f : Parsed) × IsCase f case.now }
+fn answer(alloc: Global, command: Command, formula: &Formula, case: &Case) -> Result<Answer, Stop>
+    requires case { IsCase formula.now case.now }
     requires some { 0 < length case.now.trace.rows }
-    ensures { (f : Parsed) → IsCase f case.now → MatchResult result
-        (λ a. IsAnswerOf (command_of command) f case.now.trace a.holds a.text) (IsUnanswered (command_of command) f case.now.trace) }
+    ensures { MatchResult result
+        (λ a. IsAnswerOf (command_of command) formula.now case.now.trace a.holds a.text)
+        (IsUnanswered (command_of command) formula.now case.now.trace) }
 {
     match command {
         Command::Check => match judge(alloc, case) {
@@ -61,6 +63,7 @@ fn answer(alloc: Global, command: Command, case: &Case) -> Result<Answer, Stop>
             Err(_) => Err(Stop::NoMemory),
         },
         Command::Robust => measure(alloc, case),
+        Command::Explain => give_reasons(alloc, formula, case),
     }
 }
 
@@ -86,7 +89,7 @@ fn whole<S: Source, K: Sink>(
         Ok(case) => case,
         Err(stop) => return Err(stop),
     };
-    match answer(alloc, command, &case) {
+    match answer(alloc, command, formula, &case) {
         Ok(answer) => write_answer(out, &answer),
         Err(stop) => Err(stop),
     }
@@ -133,6 +136,7 @@ fn stop_line(formula: &Formula, stop: Stop) -> Line<'_>
         Stop::Unwritten => Line::plain(b"write fault\n"),
         Stop::NoMemory => Line::plain(NO_MEMORY),
         Stop::Wide { node, den } => wide_line(node, den),
+        Stop::TooMany { count } => too_many_cells_line(count),
     }
 }
 
@@ -146,6 +150,7 @@ fn stop_status(stop: Stop) -> u8
         Stop::Unwritten => 6,
         Stop::NoMemory => 7,
         Stop::Wide { .. } => 8,
+        Stop::TooMany { .. } => 9,
     }
 }
 

@@ -1,7 +1,3 @@
-use Rattle.online_nodes.proofs.StandingLaw.{InputOn}
-use Rattle.online_nodes.proofs.PlacesOn.{places_on}
-use Rattle.online_nodes.proofs.RowsLaw.{trace_so_far, rows_of, goes_on_itself, last_is}
-use Rattle.online_nodes.proofs.KnowingOn.{knows_on, until_on, since_on}
 use Rattle.online_nodes.proofs.ReadersLaw.{has_reader, one_reader, root_unread}
 use Rattle.online_nodes.proofs.laws.each_has_one_reader.Goals as goal
 

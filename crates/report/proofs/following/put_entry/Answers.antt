@@ -50,4 +50,10 @@ returns-clause-ok c = on_ok_weaker c.push-5.result (λ h. grind (arith, common_s
 pub returns-clause-err : goal.returns-clause-err
 returns-clause-err c =
     let v = c.args.v.now in
-    on_err_weaker c.push-5.result (λ h. (entry_begin c.args.json v ++ c.args.from.now ++ codes "," ++ c.args.to.now, entry_end c.args.json c.args.last v, refl, grind (arith, common_steps))) c.push-5.ensures.err
+    on_err_weaker c.push-5.result (λ h. (
+      entry_begin c.args.json v ++ c.args.from.now ++ codes ","
+          ++ c.args.to.now,
+      entry_end c.args.json c.args.last v,
+      refl,
+      grind (arith, common_steps),
+    )) c.push-5.ensures.err

@@ -22,7 +22,8 @@ use Rattle.report.proofs.signal.put_spans.Goals.{After-advance-by_gap, After-clo
 pub loop-i-init : goal.loop-i-init
 loop-i-init c = (
   [],
-  spelled_start c.args.s.now c.knot-first.result c.start-span.result c.knot-first.ensures c.start-span.ensures.from c.start-span.ensures.from_in c.start-span.ensures.holds,
+  spelled_start c.args.s.now c.knot-first.result c.start-span.result c.knot-first.ensures c.start-span.ensures.from c.start-span.ensures.from_in
+      c.start-span.ensures.holds,
   ([], refl, sym (append-nil c.args.text.now)),
   subst (λ f. IsNumberText c.args.style.scale.time (value f) c.in_ok-begin.begin) (sym c.start-span.ensures.from) c.in_ok-begin.ensures,
 )
@@ -34,26 +35,32 @@ returns-in_err-begin-clause-err c =
     let signal = c.len-knots.ensures.signal in
     let some : 0 + suc (length s - 1) ≡ length s = let p = c.len-knots.ensures.some in let v = c.len-knots.ensures.value in omega arith in
     let end = told_to_end s (length s - 1) 0 [] c.start-span.result signal some
-    (spelled_start s c.knot-first.result c.start-span.result c.knot-first.ensures c.start-span.ensures.from c.start-span.ensures.from_in c.start-span.ensures.holds) in
+    (spelled_start s c.knot-first.result c.start-span.result c.knot-first.ensures c.start-span.ensures.from c.start-span.ensures.from_in
+    c.start-span.ensures.holds) in
     on_err c.from_residual.result (entries_unwritten truth_shape c.args.style.json c.args.style.scale s end.0 end.1 c.args.text.now end.2)
 
 pub put_ended-requires-clause-begun : goal.put_ended-requires-clause-begun
 put_ended-requires-clause-begun c =
     let a = c.advance-by_gap.ensures in
-    begun_of c.args.style.scale.time c.loop-i.span a.inside c.knot.result.time true c.knot.result.after.holds c.advance-by_gap.result.0 _ a.gap c.loop-i.invariant.3
+    begun_of c.args.style.scale.time c.loop-i.span a.inside c.knot.result.time true c.knot.result.after.holds c.advance-by_gap.result.0 _ a.gap
+    c.loop-i.invariant.3
 
 pub put_ended-requires-in-loop-i-clause-begun : goal.put_ended-requires-in-loop-i-clause-begun
 put_ended-requires-in-loop-i-clause-begun c =
     let a = c.advance-by_gap.ensures in
-    begun_of c.args.style.scale.time a.inside c.advance-by_gap.new.self c.knot-in-loop-i.result.time false c.knot-in-loop-i.result.point.holds c.advance-by_gap.result.1 _ a.point
-    (begins_next c.args.style.scale.time c.loop-i.span a.inside c.knot.result.time true c.knot.result.after.holds c.advance-by_gap.result.0 c.loop-i.begin c.put_ended.new.begin a.gap c.loop-i.invariant.3
+    begun_of c.args.style.scale.time a.inside c.advance-by_gap.new.self c.knot-in-loop-i.result.time false c.knot-in-loop-i.result.point.holds
+    c.advance-by_gap.result.1 _ a.point
+    (begins_next c.args.style.scale.time c.loop-i.span a.inside c.knot.result.time true c.knot.result.after.holds c.advance-by_gap.result.0 c.loop-i.begin
+    c.put_ended.new.begin a.gap c.loop-i.invariant.3
     c.in_ok-put_ended.ensures.ends)
 
 pub put_next-requires-clause-begun : goal.put_next-requires-clause-begun
-put_next-requires-clause-begun c = subst (λ f. IsNumberText c.args.style.scale.time (value f) c.loop-i.begin) (sym c.close-last.ensures.from) c.loop-i.invariant.3
+put_next-requires-clause-begun c =
+    subst (λ f. IsNumberText c.args.style.scale.time (value f) c.loop-i.begin) (sym c.close-last.ensures.from) c.loop-i.invariant.3
 
 pub advance-by_gap-requires-clause-begun : goal.advance-by_gap-requires-clause-begun
-advance-by_gap-requires-clause-begun c = room_to c.args.s.now (c.loop-i.i - 1) c.loop-i.invariant.0 c.loop-i.span c.knot.result c.knot.ensures c.loop-i.invariant.1
+advance-by_gap-requires-clause-begun c =
+    room_to c.args.s.now (c.loop-i.i - 1) c.loop-i.invariant.0 c.loop-i.span c.knot.result c.knot.ensures c.loop-i.invariant.1
 
 pub advance-by_gap-requires-clause-rising : goal.advance-by_gap-requires-clause-rising
 advance-by_gap-requires-clause-rising c =
@@ -76,12 +83,16 @@ module _ (c : After-advance-by_gap) where
 
   advanced : IsSpelledTo c.args.s.now ((c.loop-i.i - 1) + 1) ((vs ++ gap) ++ point) c.advance-by_gap.new.self
   advanced =
-      spelled_advance c.args.s.now (c.loop-i.i - 1) vs c.loop-i.span c.advance-by_gap.new.self c.knot.result c.knot-in-loop-i.result c.advance-by_gap.result.0 c.advance-by_gap.result.1
-      c.len-knots.ensures.signal c.knot.ensures (subst (λ n. slice_get c.args.s.now n ≡ Some c.knot-in-loop-i.result) next c.knot-in-loop-i.ensures) c.advance-by_gap.ensures c.loop-i.invariant.1
+      spelled_advance c.args.s.now (c.loop-i.i - 1) vs c.loop-i.span c.advance-by_gap.new.self c.knot.result c.knot-in-loop-i.result c.advance-by_gap.result.0
+      c.advance-by_gap.result.1
+      c.len-knots.ensures.signal c.knot.ensures (subst (λ n. slice_get c.args.s.now n
+      ≡ Some c.knot-in-loop-i.result) next c.knot-in-loop-i.ensures) c.advance-by_gap.ensures c.loop-i.invariant.1
 
   to_end : (later : List Verdict) × (end : Verdict)
       × DescribesFunction (IsWorth truth_shape c.args.s.now) (((vs ++ gap) ++ point) ++ (later ++ end ∷ [])) (closed (start c.args.s.now) (stop c.args.s.now))
-  to_end = told_to_end c.args.s.now (length c.args.s.now - suc c.loop-i.i) ((c.loop-i.i - 1) + 1) ((vs ++ gap) ++ point) c.advance-by_gap.new.self c.len-knots.ensures.signal (omega arith) advanced
+  to_end =
+      told_to_end c.args.s.now (length c.args.s.now - suc c.loop-i.i) ((c.loop-i.i - 1) + 1)
+      ((vs ++ gap) ++ point) c.advance-by_gap.new.self c.len-knots.ensures.signal (omega arith) advanced
 
 abbrev Entry : (c : After-advance-by_gap) → Verdict → List ℕ → Type 0
 Entry c = IsEntry c.args.style.json false c.args.style.scale
@@ -94,8 +105,10 @@ returns-in_err-put_ended-clause-err c =
     let f = (goal.at.returns-in_err-put_ended-clause-err c).After-advance-by_gap in
     let end = to_end f in
     on_err c.from_residual-in_err-put_ended.result
-    (entries_part truth_shape c.args.style.json c.args.style.scale c.args.s.now (vs f) (gap f) (point f ++ end.0) end.1 c.args.text.now c.loop-i.text c.put_ended.new.text
-    (subst (λ ws. DescribesFunction (IsWorth truth_shape c.args.s.now) ws (closed (start c.args.s.now) (stop c.args.s.now))) (together (vs f) (gap f) (point f) end.0 (end.1 ∷ [])) end.2)
+    (entries_part truth_shape c.args.style.json c.args.style.scale c.args.s.now (vs f) (gap f)
+    (point f ++ end.0) end.1 c.args.text.now c.loop-i.text c.put_ended.new.text
+    (subst (λ ws. DescribesFunction (IsWorth truth_shape c.args.s.now) ws (closed (start c.args.s.now) (stop c.args.s.now)))
+    (together (vs f) (gap f) (point f) end.0 (end.1 ∷ [])) end.2)
     c.loop-i.invariant.2 c.in_err-put_ended.ensures.err)
 
 pub returns-in_err-put_ended-2-clause-err : goal.returns-in_err-put_ended-2-clause-err
@@ -103,9 +116,12 @@ returns-in_err-put_ended-2-clause-err c =
     let f = (goal.at.returns-in_err-put_ended-2-clause-err c).After-advance-by_gap in
     let end = to_end f in
     on_err c.from_residual-in_err-put_ended-2.result
-    (entries_part truth_shape c.args.style.json c.args.style.scale c.args.s.now (vs f ++ gap f) (point f) end.0 end.1 c.args.text.now c.put_ended.new.text c.put_ended-in-loop-i.new.text
-    (subst (λ ws. DescribesFunction (IsWorth truth_shape c.args.s.now) ws (closed (start c.args.s.now) (stop c.args.s.now))) (append_assoc (vs f ++ gap f) (point f) (end.0 ++ end.1 ∷ [])) end.2)
-    (each_grow (Entry f) (vs f) (gap f) c.args.text.now c.loop-i.text c.put_ended.new.text c.loop-i.invariant.2 c.in_ok-put_ended.ensures.ok) c.in_err-put_ended-2.ensures.err)
+    (entries_part truth_shape c.args.style.json c.args.style.scale c.args.s.now (vs f ++ gap f)
+    (point f) end.0 end.1 c.args.text.now c.put_ended.new.text c.put_ended-in-loop-i.new.text
+    (subst (λ ws. DescribesFunction (IsWorth truth_shape c.args.s.now) ws (closed (start c.args.s.now) (stop c.args.s.now)))
+    (append_assoc (vs f ++ gap f) (point f) (end.0 ++ end.1 ∷ [])) end.2)
+    (each_grow (Entry f) (vs f) (gap f) c.args.text.now c.loop-i.text c.put_ended.new.text c.loop-i.invariant.2 c.in_ok-put_ended.ensures.ok)
+    c.in_err-put_ended-2.ensures.err)
 
 pub loop-i-preserved : goal.loop-i-preserved
 loop-i-preserved c =
@@ -115,30 +131,39 @@ loop-i-preserved c =
       (vs f ++ gap f) ++ point f,
       subst (λ i. IsSpelledTo c.args.s.now i ((vs f ++ gap f) ++ point f) c.advance-by_gap.new.self) there (advanced f),
       each_grow (Entry f) (vs f ++ gap f) (point f) c.args.text.now c.put_ended.new.text c.put_ended-in-loop-i.new.text
-          (each_grow (Entry f) (vs f) (gap f) c.args.text.now c.loop-i.text c.put_ended.new.text c.loop-i.invariant.2 c.in_ok-put_ended.ensures.ok) c.in_ok-put_ended-2.ensures.ok,
-      begins_next c.args.style.scale.time a.inside c.advance-by_gap.new.self c.knot-in-loop-i.result.time false c.knot-in-loop-i.result.point.holds c.advance-by_gap.result.1 c.put_ended.new.begin
+          (each_grow (Entry f) (vs f) (gap f) c.args.text.now c.loop-i.text c.put_ended.new.text c.loop-i.invariant.2 c.in_ok-put_ended.ensures.ok)
+          c.in_ok-put_ended-2.ensures.ok,
+      begins_next c.args.style.scale.time a.inside c.advance-by_gap.new.self c.knot-in-loop-i.result.time false c.knot-in-loop-i.result.point.holds
+          c.advance-by_gap.result.1 c.put_ended.new.begin
           c.put_ended-in-loop-i.new.begin a.point
-          (begins_next c.args.style.scale.time c.loop-i.span a.inside c.knot.result.time true c.knot.result.after.holds c.advance-by_gap.result.0 c.loop-i.begin c.put_ended.new.begin a.gap c.loop-i.invariant.3
+          (begins_next c.args.style.scale.time c.loop-i.span a.inside c.knot.result.time true c.knot.result.after.holds c.advance-by_gap.result.0
+          c.loop-i.begin c.put_ended.new.begin a.gap c.loop-i.invariant.3
           c.in_ok-put_ended.ensures.ends) c.in_ok-put_ended-2.ensures.ends,
     )
 
 pub close-last-requires : goal.close-last-requires
-close-last-requires c = stop_room c.args.s.now (c.loop-i.i - 1) c.loop-i.invariant.0 c.loop-i.span c.stop.result (omega arith) c.loop-i.invariant.1 c.stop.ensures.value
+close-last-requires c =
+    stop_room c.args.s.now (c.loop-i.i - 1) c.loop-i.invariant.0 c.loop-i.span c.stop.result (omega arith) c.loop-i.invariant.1 c.stop.ensures.value
 
 -- the verdicts with the last one describe the signal
-whole : (c : After-close-last) → DescribesFunction (IsWorth truth_shape c.args.s.now) (c.loop-i.invariant.0 ++ c.close-last.result ∷ []) (closed (start c.args.s.now) (stop c.args.s.now))
-whole c = spelled_stop c.args.s.now (c.loop-i.i - 1) c.loop-i.invariant.0 c.loop-i.span c.close-last.result c.stop.result (omega arith) c.loop-i.invariant.1 c.stop.ensures.value c.close-last.ensures
+whole : (c : After-close-last)
+    → DescribesFunction (IsWorth truth_shape c.args.s.now) (c.loop-i.invariant.0 ++ c.close-last.result ∷ []) (closed (start c.args.s.now) (stop c.args.s.now))
+whole c =
+    spelled_stop c.args.s.now (c.loop-i.i - 1) c.loop-i.invariant.0 c.loop-i.span c.close-last.result c.stop.result
+    (omega arith) c.loop-i.invariant.1 c.stop.ensures.value c.close-last.ensures
 
 pub returns-clause-ok : goal.returns-clause-ok
 returns-clause-ok c =
     let all = whole (goal.at.returns-clause-ok c).After-close-last in
     on_ok_weaker c.put_next.result
-    (λ grew. entries_all truth_shape c.args.style.json c.args.style.scale c.args.s.now c.loop-i.invariant.0 c.close-last.result c.args.text.now c.loop-i.text c.put_next.new.text all
+    (λ grew. entries_all truth_shape c.args.style.json c.args.style.scale c.args.s.now c.loop-i.invariant.0 c.close-last.result c.args.text.now c.loop-i.text
+    c.put_next.new.text all
     c.loop-i.invariant.2 grew) c.put_next.ensures.ok
 
 pub returns-clause-err : goal.returns-clause-err
 returns-clause-err c =
     let all = whole (goal.at.returns-clause-err c).After-close-last in
     on_err_weaker c.put_next.result
-    (λ grew. entries_part_last truth_shape c.args.style.json c.args.style.scale c.args.s.now c.loop-i.invariant.0 c.close-last.result c.args.text.now c.loop-i.text c.put_next.new.text all
+    (λ grew. entries_part_last truth_shape c.args.style.json c.args.style.scale c.args.s.now c.loop-i.invariant.0 c.close-last.result c.args.text.now
+    c.loop-i.text c.put_next.new.text all
     c.loop-i.invariant.2 grew) c.put_next.ensures.err

@@ -9,5 +9,6 @@ use Rattle.report.proofs.signal.put_spans.Given as goal
 
 abbrev pub invariant-loop-i : goal.invariant-loop-i
 invariant-loop-i l =
-    (verdicts : List Verdict) × IsSpelledTo l.s (l.i - 1) verdicts l.span × Grew (AreEach (IsEntry l.style.json false l.style.scale) verdicts) l.initial.text l.text
+    (verdicts : List Verdict) × IsSpelledTo l.s (l.i - 1) verdicts l.span × Grew
+    (AreEach (IsEntry l.style.json false l.style.scale) verdicts) l.initial.text l.text
     × IsNumberText l.style.scale.time (value l.span.from) l.begin

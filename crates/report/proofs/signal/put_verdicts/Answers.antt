@@ -11,12 +11,14 @@ pub returns-clause-ok : goal.returns-clause-ok
 returns-clause-ok c =
     let s = c.args.s.now in
     on_ok_weaker c.put_spans.result
-    (grew_as (AreEntries truth_shape false c.args.scale s) (AreSignalLines truth_shape c.args.scale s) c.args.text.now c.put_spans.new.text (entries_are_lines truth_shape c.args.scale s))
+    (grew_as (AreEntries truth_shape false c.args.scale s) (AreSignalLines truth_shape c.args.scale s) c.args.text.now c.put_spans.new.text
+    (entries_are_lines truth_shape c.args.scale s))
     c.put_spans.ensures.ok
 
 pub returns-clause-err : goal.returns-clause-err
 returns-clause-err c =
     let s = c.args.s.now in
     on_err_weaker c.put_spans.result
-    (part_as (AreEntries truth_shape false c.args.scale s) (AreSignalLines truth_shape c.args.scale s) c.args.text.now c.put_spans.new.text (entries_are_lines truth_shape c.args.scale s))
+    (part_as (AreEntries truth_shape false c.args.scale s) (AreSignalLines truth_shape c.args.scale s) c.args.text.now c.put_spans.new.text
+    (entries_are_lines truth_shape c.args.scale s))
     c.put_spans.ensures.err

@@ -18,7 +18,8 @@ put_step-requires-clause-from c =
 
 pub put_step-requires-clause-to : goal.put_step-requires-clause-to
 put_step-requires-clause-to c =
-    knot_within margin_shape _ c.args.s.now (c.loop-i.i + 1) c.knot-in-loop-i.result c.requires.signal c.knot-in-loop-i.ensures c.requires.begins c.requires.ends
+    knot_within margin_shape _ c.args.s.now (c.loop-i.i + 1) c.knot-in-loop-i.result c.requires.signal c.knot-in-loop-i.ensures c.requires.begins
+    c.requires.ends
 
 pub loop-i-init : goal.loop-i-init
 loop-i-init c =
@@ -27,7 +28,8 @@ loop-i-init c =
     let nothing : rows_text rows ≡ [] =
     ap (λ v. v.items ++ writer_pending rows) w.wtr ∙ ap (λ xs. xs ++ writer_pending rows) c.new.ensures.items ∙ w.empty in (
       record { setup = w.cfg; fields = w.fields; wrote = w.wrote },
-      subst (λ xs. AreEach (IsStepRow c.args.scale) xs (rows_text rows)) (sym (between_none c.args.from (steps_of (knots_of margin_shape c.args.s.now)))) nothing,
+      subst (λ xs. AreEach (IsStepRow c.args.scale) xs (rows_text rows))
+          (sym (between_none c.args.from (steps_of (knots_of margin_shape c.args.s.now)))) nothing,
     )
 
 pub loop-i-preserved : goal.loop-i-preserved
@@ -43,9 +45,13 @@ loop-i-preserved c =
     (subst (λ n. slice_get c.args.s.now n ≡ Some c.knot-in-loop-i.result) (sym there) c.knot-in-loop-i.ensures) in
     let (t, p, e) = c.in_ok-put_step.ensures.text in
     let old = rows_text c.loop-i.rows in
-    let more : AreEach P (between from i steps ++ x ∷ []) (old ++ t) = each_join P (between from i steps) (x ∷ []) old t c.loop-i.invariant.1 (each_one P x t p) in
-    let next : AreEach P (between from (suc i) steps) (old ++ t) = subst (λ xs. AreEach P xs (old ++ t)) (sym (between_more from i steps x order at)) more in
-    (c.in_ok-put_step.ensures.ready, subst (λ n. AreEach P (between from n steps) (rows_text c.put_step.new.rows)) there (subst (AreEach P (between from (suc i) steps)) (sym e) next))
+    let more : AreEach P (between from i steps ++ x ∷ []) (old ++ t) =
+    each_join P (between from i steps) (x ∷ []) old t c.loop-i.invariant.1 (each_one P x t p) in
+    let next : AreEach P (between from (suc i) steps) (old ++ t) = subst (λ xs. AreEach P xs (old ++ t)) (sym (between_more from i steps x order at)) more in (
+      c.in_ok-put_step.ensures.ready,
+      subst (λ n. AreEach P (between from n steps) (rows_text c.put_step.new.rows)) there
+          (subst (AreEach P (between from (suc i) steps)) (sym e) next),
+    )
 
 pub returns-clause-ok : goal.returns-clause-ok
 returns-clause-ok c =

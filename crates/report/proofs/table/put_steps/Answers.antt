@@ -24,8 +24,11 @@ pub loop-from-preserved : goal.loop-from-preserved
 loop-from-preserved c =
     let P = IsStepRow c.args.scale in
     let steps = steps_of (knots_of margin_shape c.args.s.now) in
-    let order : c.loop-from.from ≤ c.min-to.result = omega arith in
-    (omega arith, each_between P c.loop-from.from c.min-to.result steps c.args.text.now c.loop-from.text c.put_block.new.text order c.loop-from.invariant.1 c.in_ok-put_block.ensures.ok)
+    let order : c.loop-from.from ≤ c.min-to.result = omega arith in (
+      omega arith,
+      each_between P c.loop-from.from c.min-to.result steps c.args.text.now c.loop-from.text c.put_block.new.text order c.loop-from.invariant.1
+          c.in_ok-put_block.ensures.ok,
+    )
 
 pub returns-clause-ok : goal.returns-clause-ok
 returns-clause-ok c =

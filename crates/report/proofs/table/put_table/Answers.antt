@@ -17,7 +17,8 @@ use Rattle.report.proofs.table.put_table.Goals as goal
 use Rattle.report.proofs.table.put_table.Goals.{After-knot}
 
 -- the record of the last knot is that of the last of the plain knots
-last_row : (c : After-knot) → last_knot (knots_of margin_shape c.args.s.now).first (knots_of margin_shape c.args.s.now).pieces ≡ plain_knot margin_shape c.knot.result
+last_row : (c : After-knot)
+    → last_knot (knots_of margin_shape c.args.s.now).first (knots_of margin_shape c.args.s.now).pieces ≡ plain_knot margin_shape c.knot.result
 last_row c = last_is margin_shape c.args.s.now (c.len-last.result - 1) c.knot.result (omega arith) c.knot.ensures
 
 pub returns-in_err-put_row-clause-err : goal.returns-in_err-put_row-clause-err
@@ -37,7 +38,8 @@ returns-in_err-put_steps-clause-err c =
     let new = c.put_steps.new.text in
     on_err _ (part_as (TableParts s knots) (IsTableText s knots) old new (table_text s knots)
     (part_first (Then Head Body) (IsLastRow s last) old new
-    (part_then Head Body old mid new (grew_is (row_text default_writer heading) old mid c.in_ok-put_row.ensures.ok) c.in_err-put_steps.ensures.err) (last_row_exists s last)))
+    (part_then Head Body old mid new (grew_is (row_text default_writer heading) old mid c.in_ok-put_row.ensures.ok) c.in_err-put_steps.ensures.err)
+    (last_row_exists s last)))
 
 pub put_last-requires-clause-within : goal.put_last-requires-clause-within
 put_last-requires-clause-within c =

@@ -4,12 +4,26 @@ use Rattle.workbench.specs.Wholes.{command_of, IsAnswerOf, IsUnanswered}
 use Rattle.workbench.proofs.RunEnds.{check_answer}
 use Rattle.workbench.proofs.top.answer.Goals as goal
 
+pub judge-requires-clause-case : goal.judge-requires-clause-case
+judge-requires-clause-case c = (c.args.formula.now, c.requires.case)
+
+pub measure-requires-clause-case : goal.measure-requires-clause-case
+measure-requires-clause-case c = (c.args.formula.now, c.requires.case)
+
 pub returns-in-Ok : goal.returns-in-Ok
-returns-in-Ok c = λ f is.
+returns-in-Ok c =
+    let f = c.args.formula.now in
     subst (λ w. IsAnswerOf (command_of w) f c.args.case.now.trace c.in-Ok.answer.holds c.in-Ok.answer.text) (sym c.in-Check.is)
-    (check_answer f c.args.case.now.trace c.in-Ok.answer.holds c.in-Ok.answer.text (c.in-Ok.ensures f is))
+    (check_answer f c.args.case.now.trace c.in-Ok.answer.holds c.in-Ok.answer.text (c.in-Ok.ensures f c.requires.case))
 
 pub returns-in-Robust : goal.returns-in-Robust
-returns-in-Robust c = λ f is.
+returns-in-Robust c =
+    let f = c.args.formula.now in
     subst (λ w. MatchResult c.measure.result (λ a. IsAnswerOf (command_of w) f c.args.case.now.trace a.holds a.text) (IsUnanswered (command_of w) f c.args.case.now.trace))
-    (sym c.in-Robust.is) (c.measure.ensures f is)
+    (sym c.in-Robust.is) (c.measure.ensures f c.requires.case)
+
+pub returns-in-Explain : goal.returns-in-Explain
+returns-in-Explain c =
+    let f = c.args.formula.now in
+    subst (λ w. MatchResult c.give_reasons.result (λ a. IsAnswerOf (command_of w) f c.args.case.now.trace a.holds a.text) (IsUnanswered (command_of w) f c.args.case.now.trace))
+    (sym c.in-Explain.is) c.give_reasons.ensures

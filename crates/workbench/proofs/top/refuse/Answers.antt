@@ -1,4 +1,4 @@
-use Rattle.workbench.specs.Lines.{line_text}
+use Rattle.report.specs.Lines.{line_text}
 use Rattle.workbench.proofs.Endings.{refused_told}
 use Rattle.workbench.proofs.top.refuse.Goals as goal
 

@@ -1,6 +1,6 @@
 use Rattle.std.proofs.Common.{map, refl}
 use Rattle.std.specs.Prelude.{string_bytes}
-use Rattle.workbench.specs.Lines.{line_text}
+use Rattle.report.specs.Lines.{line_text}
 use Rattle.workbench.specs.Wholes.{command_of}
 use Rattle.workbench.proofs.RunEnds.{none_run, refused_run, known_run, ends_soundly, serves}
 use Rattle.workbench.proofs.top.run.Goals as goal

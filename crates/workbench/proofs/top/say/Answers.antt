@@ -1,4 +1,4 @@
-use Rattle.workbench.specs.Lines.{line_text}
+use Rattle.report.specs.Lines.{line_text}
 use Rattle.workbench.proofs.Endings.{said}
 use Rattle.workbench.proofs.top.say.Goals as goal
 

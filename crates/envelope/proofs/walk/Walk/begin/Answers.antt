@@ -19,7 +19,7 @@ none_some e = absurd (cc)
 pub returns-clause-can : goal.returns-clause-can
 returns-clause-can g c = record {
   can = subst (λ items. CanGoOn g.P.Shape c.begin.result (record { at = c.args.at; just_after = false }) items) (sym c.new.ensures.items)
-      (begun_can g.P.Shape (assumption g.met.P.Shape) c.args.side c.begin.result c.of_none.result c.of_none.ensures.value
+      (begun_can g.P.Shape (assumption g.met.P.Shape) c.args.side c.begin.result c.of_none.result c.of_none.ensures.value c.of_none.ensures.still
       c.begin.ensures.side c.begin.ensures.built c.begin.ensures.before c.begin.ensures.point c.begin.ensures.after
       (subst (λ a. IsWithin (2 ^ 34) (value a)) (sym c.begin.ensures.at) c.requires.within) c.begin.ensures.fault
       (record { at = c.args.at; just_after = false }));
@@ -41,7 +41,7 @@ returns-clause-walks g c to = record {
       (record { at = c.args.at; just_after = false }) items) (sym c.new.ensures.items)
       (subst (λ a. Stands g.P.Shape c.args.side (record { at = a; just_after = false }) to [] c.begin.result
       (record { at = c.args.at; just_after = false }) []) c.begin.ensures.at
-      (begun g.P.Shape (assumption g.met.P.Shape) c.args.side c.begin.result c.of_none.result c.of_none.ensures.value
+      (begun g.P.Shape (assumption g.met.P.Shape) c.args.side c.begin.result c.of_none.result c.of_none.ensures.value c.of_none.ensures.still
       c.begin.ensures.side c.begin.ensures.built c.begin.ensures.before c.begin.ensures.point c.begin.ensures.after
       (value c.args.at) to (record { at = c.args.at; just_after = false }) (ap value c.begin.ensures.at)));
 }

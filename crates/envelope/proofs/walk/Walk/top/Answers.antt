@@ -11,8 +11,11 @@ pub returns-in-None : goal.returns-in-None
 returns-in-None g c =
     let e : c.args.self.now.queue.items ≡ [] = empty_list c.args.self.now.queue.items (search rules) in
     subst (λ xs. IsTop g.P.Shape c.args.self.now.course.side xs c.of_none.result) (sym e)
-    (λ t. no_better_same c.args.self.now.course.side (value_at (g.P.Shape.function c.of_none.result) t)
-    (none_of c.args.self.now.course.side g.P.Shape.lowest g.P.Shape.highest) (c.of_none.ensures.value t))
+    (record {
+      value = λ t. no_better_same c.args.self.now.course.side (value_at (g.P.Shape.function c.of_none.result) t)
+          (none_of c.args.self.now.course.side g.P.Shape.lowest g.P.Shape.highest) (c.of_none.ensures.value t);
+      still = c.of_none.ensures.still;
+    })
 
 pub returns-in-Some : goal.returns-in-Some
 returns-in-Some g c = top_first g.P.Shape c.args.self.now.course.side c.args.self.now.queue.items c.in-Some.first.now (search rules) c.in-Some.ensures.lookup

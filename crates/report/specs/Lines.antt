@@ -1,8 +1,8 @@
--- A line for the error stream in its parts.
+-- A line in its parts.
 use Rattle.std.specs.Prelude.{ℕ, List, [], ◌++◌, decimal, Option, Some, None}
-use Rattle.workbench.specs.declared.line.Line.{Line}
-use Rattle.workbench.specs.declared.line.Detail.{Detail}
-use Rattle.workbench.specs.declared.line.Detail.TheVariants.{Nothing, Number, Large, Name}
+use Rattle.report.specs.declared.line.Line.{Line}
+use Rattle.report.specs.declared.line.Detail.{Detail}
+use Rattle.report.specs.declared.line.Detail.TheVariants.{Nothing, Number, Large, Name}
 
 -- a number that may be missing
 abbrev pub number_text : Option ℕ → List ℕ

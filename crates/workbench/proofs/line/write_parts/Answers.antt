@@ -1,8 +1,8 @@
 use Rattle.std.proofs.Common.{◌++◌, List, ℕ}
-use Rattle.workbench.specs.Lines.{number_text, detail_text}
-use Rattle.workbench.specs.declared.line.Line.{Line}
+use Rattle.report.specs.Lines.{number_text, detail_text}
+use Rattle.report.specs.declared.line.Line.{Line}
 use Rattle.workbench.proofs.Devices.{part_err, part_more, part_on, written_on}
-use Rattle.workbench.proofs.line.write_line.Goals as goal
+use Rattle.workbench.proofs.line.write_parts.Goals as goal
 
 -- what follows the middle, the number and the head
 after_middle : Line → List ℕ

@@ -1,0 +1,225 @@
+-- A reader with what follows its rows, as a stream: what a piece and the end come to.
+use Rattle.std.proofs.Common.{◌≡◌, ◌≢◌, ◌⊎◌, inl, inr, ℕ, ◌<◌, ◌≤◌, Bool, true, false, List, [], ◌++◌, length, refl, sym, ap, ◌∙◌, subst, arith, append-nil, append_assoc, Option, Some, None, Result, Ok, Err}
+use Rattle.std.specs.Prelude.{MatchResult, OnOk, option_map}
+use Rattle.std.specs.Io.KnownBytes.{Appends}
+use Rattle.std.proofs.KnownBytes.{Appends-nil}
+use Rattle.std.proofs.lemmas.Bool.{false≢true}
+use Rattle.stl_syntax.specs.Formula.{Formula, root}
+use Rattle.trace_reader.specs.Reader.{Reader, header_of}
+use Rattle.trace_reader.specs.declared.refusal.Limits.{Limits}
+use Rattle.workbench.specs.Requests.{Stream, verdicts, early, margins, stream}
+use Rattle.workbench.specs.Owed.{limits_of, StreamText, StreamOf, OwesRows}
+use Rattle.workbench.specs.Settled.{IsAnswered}
+use Rattle.workbench.specs.Running.{IsBegun}
+use Rattle.workbench.specs.Pushing.{IsPushed, IsPushStop, IsPush}
+use Rattle.workbench.specs.Reading.{IsWhole}
+use Rattle.workbench.specs.InputFaults.{Fault, fault_text, IsInputFault, AreRowsBefore, sound}
+use Rattle.workbench.specs.Wholes.{status_of_truth}
+use Rattle.workbench.specs.Following.{IsTextOf, IsFollowed, IsLive, IsAtRest, IsOver, IsLiveStop, IsToldAs, no_room, told_whole, told_in_part}
+use Rattle.workbench.specs.Writing.{IsPartWritten}
+use Rattle.workbench.specs.declared.case.Case.{Case}
+use Rattle.workbench.specs.declared.live.Live.{Live}
+use Rattle.workbench.specs.declared.fault.Stop.{Stop}
+use Rattle.workbench.specs.declared.fault.Stop.TheVariants.{Fault as Faulty, Unread, Unwritten, NoMemory, Wide, TooMany}
+use Rattle.workbench.proofs.Progress.{sound_so_far}
+use Rattle.workbench.proofs.Sizes.{few_bytes}
+use Rattle.workbench.proofs.StreamSteps.{before_of_kept}
+use Rattle.workbench.proofs.FrontTexts.{front_owed}
+use Rattle.workbench.proofs.Living.{told_of_kept}
+
+-- the limit on lines bounds the bytes
+few_lines : (s : Stream) → (limits_of s).lines ≡ 8589934592
+few_lines verdicts = refl
+few_lines early = refl
+few_lines margins = refl
+
+-- the text of the rows before the first fault is what is owed
+owes_of : (s : Stream) (limits : Limits) (f : Formula) (bytes : List ℕ) (ended : Bool) (text : List ℕ) → limits ≡ limits_of s → IsTextOf s limits f bytes ended text → OwesRows s f bytes ended text
+owes_of s limits f bytes ended text e t =
+    let u : IsTextOf s (limits_of s) f bytes ended text = subst (λ (l : Limits). IsTextOf s l f bytes ended text) e t in
+    record { header = u.header; rows = u.rows; whole = u.whole; before = u.before; is = u.is }
+
+module _ (kind : Stream) where
+  -- what was owed for the first bytes alone
+  begun_before : (f : Formula) (bytes piece text : List ℕ) (ended : Bool) → OwesRows kind f bytes false text → IsBegun (stream kind f) (bytes ++ piece) ended (text ++ []) []
+  begun_before f bytes piece text ended owed = record {
+    seen = bytes;
+    later = piece;
+    parts = refl;
+    seen_end = false;
+    at_end = λ t. absurd (false≢true t);
+    owed = subst (λ t. OwesRows kind f bytes false t) (sym (append-nil (text ++ []) ∙ append-nil text)) owed;
+  }
+
+  -- what was owed for all bytes
+  begun_now : (f : Formula) (bytes text front back made : List ℕ) (ended : Bool) → made ≡ front ++ back → OwesRows kind f bytes ended (text ++ made) → IsBegun (stream kind f) bytes ended (text ++ front) back
+  begun_now f bytes text front back made ended e owed = record {
+    seen = bytes;
+    later = [];
+    parts = sym (append-nil bytes);
+    seen_end = ended;
+    at_end = λ t. (t, refl);
+    owed = subst (λ t. OwesRows kind f bytes ended t) (ap (λ t. text ++ t) e ∙ sym (append_assoc text front back)) owed;
+  }
+
+  -- a fault of the bytes was told
+  fault_told : (limits : Limits) (f : Formula) (bytes text : List ℕ) (ended : Bool) (stop : Stop) → limits ≡ limits_of kind → stop ≢ NoMemory → IsLiveStop kind limits f ended bytes text stop
+      → IsPushStop (stream kind f) bytes ended text stop
+  fault_told limits f bytes text ended (Faulty fault) e ne (x, is, input, t) = (
+    fault_text x,
+    (x, is, refl),
+    (x, subst (λ (l : Limits). IsInputFault l f bytes ended x) e input, refl),
+    owes_of kind limits f bytes ended text e t,
+  )
+  fault_told limits f bytes text ended Unread e ne h = absurd h
+  fault_told limits f bytes text ended Unwritten e ne h = absurd h
+  fault_told limits f bytes text ended NoMemory e ne h = absurd (ne refl)
+  fault_told limits f bytes text ended (Wide i den) e ne h = absurd h
+  fault_told limits f bytes text ended (TooMany count) e ne h = absurd h
+
+  -- and what was owed before it
+  fault_owed : (limits : Limits) (f : Formula) (bytes text : List ℕ) (ended : Bool) (stop : Stop) → limits ≡ limits_of kind → stop ≢ NoMemory → IsLiveStop kind limits f ended bytes text stop → OwesRows kind f bytes ended text
+  fault_owed limits f bytes text ended (Faulty fault) e ne (x, is, input, t) = owes_of kind limits f bytes ended text e t
+  fault_owed limits f bytes text ended Unread e ne h = absurd h
+  fault_owed limits f bytes text ended Unwritten e ne h = absurd h
+  fault_owed limits f bytes text ended NoMemory e ne h = absurd (ne refl)
+  fault_owed limits f bytes text ended (Wide i den) e ne h = absurd h
+  fault_owed limits f bytes text ended (TooMany count) e ne h = absurd h
+
+  -- feeding never fails by a sink
+  pub not_unwritten : (limits : Limits) (f : Formula) (bytes text : List ℕ) (ended : Bool) (stop : Stop) → IsLiveStop kind limits f ended bytes text stop → stop ≢ Unwritten
+  not_unwritten limits f bytes text ended (Faulty fault) h e = let k = e in cc
+  not_unwritten limits f bytes text ended Unread h e = absurd h
+  not_unwritten limits f bytes text ended Unwritten h e = absurd h
+  not_unwritten limits f bytes text ended NoMemory h e = let k = e in cc
+  not_unwritten limits f bytes text ended (Wide i den) h e = absurd h
+  not_unwritten limits f bytes text ended (TooMany count) h e = absurd h
+
+  pub outcome_not_unwritten : {T : Type 0} (limits : Limits) (f : Formula) (bytes text : List ℕ) (ended : Bool) (P : T → Type 0) (r : Result T Stop) → MatchResult r P (λ e. IsLiveStop kind limits f ended bytes text e) → r ≢ Err Unwritten
+  outcome_not_unwritten limits f bytes text ended P (Ok x) h e = let k = e in cc
+  outcome_not_unwritten limits f bytes text ended P (Err stop) h e = not_unwritten limits f bytes text ended stop h (let k = e in cc)
+
+module _ {F : Type 0} (Stands : F → Case → List ℕ → Type 0) (kind : Stream) where
+  -- what stands between pieces
+  pub at_rest : (live : Live F) (bytes text : List ℕ) → IsAtRest Stands kind live bytes text → IsPushed (IsAtRest Stands kind live) (stream kind live.formula) bytes text
+  at_rest live bytes text k = record {
+    input = refl;
+    stands = k;
+    owed = record { header = option_map (header_of live.formula.scale) live.rows.heading; rows = k.live_for.kept.rows; whole = false; before = before; is = told };
+    sound = λ line h. calm h.0 h.1;
+    timely = λ front back e. front_owed kind live.formula bytes front back text e calm before told;
+    few = size;
+  }
+    where
+      calm : (x : Fault) → ¬ IsInputFault (limits_of kind) live.formula bytes false x
+      calm = subst (λ (l : Limits). (x : Fault) → ¬ IsInputFault l live.formula bytes false x) k.limits (sound_so_far live.formula live.rows k.live_for.case bytes k.live_for.kept)
+
+      before : AreRowsBefore (limits_of kind) live.formula bytes false (option_map (header_of live.formula.scale) live.rows.heading) k.live_for.kept.rows false
+      before = subst (λ (l : Limits). AreRowsBefore l live.formula bytes false (option_map (header_of live.formula.scale) live.rows.heading) k.live_for.kept.rows false) k.limits
+          (before_of_kept live.formula live.rows k.live_for.case bytes k.live_for.kept)
+
+      told : StreamOf kind live.formula (option_map (header_of live.formula.scale) live.rows.heading) k.live_for.kept.rows false text
+      told = subst (λ t. StreamOf kind live.formula (option_map (header_of live.formula.scale) live.rows.heading) k.live_for.kept.rows false t) (ap (λ t. text ++ t) k.empty ∙ append-nil text)
+          (told_of_kept Stands kind live.formula live.rows live.follower k.live_for.case bytes (text ++ live.text) k.live_for.kept k.live_for.followed)
+
+      size : length bytes < 9223372036854775808
+      size =
+          let n : live.rows.limits.lines ≡ 8589934592 = ap (λ (l : Limits). l.lines) k.limits ∙ few_lines kind in
+          let b = few_bytes live.rows.limits live.rows.least live.rows.heading bytes k.live_for.kept.rows k.live_for.kept.stands.read k.live_for.kept.stands.sound in
+          omega (arith, n, b)
+
+  -- what is owed while text is to be written
+  owed_now : (live : Live F) (bytes text : List ℕ) → live.rows.limits ≡ limits_of kind → IsLive Stands kind live bytes text → OwesRows kind live.formula bytes false (text ++ live.text)
+  owed_now live bytes text e k = record {
+    header = option_map (header_of live.formula.scale) live.rows.heading;
+    rows = k.kept.rows;
+    whole = false;
+    before = subst (λ (l : Limits). AreRowsBefore l live.formula bytes false (option_map (header_of live.formula.scale) live.rows.heading) k.kept.rows false) e
+        (before_of_kept live.formula live.rows k.case bytes k.kept);
+    is = told_of_kept Stands kind live.formula live.rows live.follower k.case bytes (text ++ live.text) k.kept k.followed;
+  }
+
+  -- once it is written
+  written_all : (mid new : Live F) (bytes text : List ℕ) → new ≡ record mid { text = [] } → mid.rows.limits ≡ limits_of kind → IsLive Stands kind mid bytes text → IsAtRest Stands kind new bytes (text ++ mid.text)
+  written_all mid new bytes text e l k = subst (λ (x : Live F). IsAtRest Stands kind x bytes (text ++ mid.text)) (sym e) (record {
+    live_for = record { case = k.case; kept = k.kept; followed = subst (λ t. IsFollowed Stands kind mid.follower k.case t) (sym (append-nil (text ++ mid.text))) k.followed };
+    limits = l;
+    empty = refl;
+  })
+
+  -- a piece
+  module _ (f : Formula) (mid new : Live F) (held held_after : Option (List ℕ)) (bytes piece text : List ℕ) (before : OwesRows kind f bytes false text) (limits : mid.rows.limits ≡ limits_of kind)
+      (same : mid.formula ≡ f) where
+    pub push_of : (fed result : Result (Unit {0}) Stop) → IsToldAs held held_after mid.text fed result
+        → MatchResult fed (λ _. IsLive Stands kind mid (bytes ++ piece) text) (λ e. IsLiveStop kind mid.rows.limits f false (bytes ++ piece) (text ++ mid.text) e)
+        → OnOk result (new ≡ record mid { text = [] })
+        → IsPush (stream kind f) held held_after (bytes ++ piece) false text (λ _. IsPushed (IsAtRest Stands kind new) (stream kind f) (bytes ++ piece)) result
+    push_of fed result (no_room kept) h done = ([], kept, inr ([], begun_before kind f bytes piece text false before))
+    push_of (Ok x) result (told_whole ne wrote) h done =
+        let rest = written_all mid new (bytes ++ piece) text done limits h in
+        let formula : new.formula ≡ f = ap (λ (z : Live F). z.formula) done ∙ same in
+        (mid.text, wrote, subst (λ (g : Formula). IsPushed (IsAtRest Stands kind new) (stream kind g) (bytes ++ piece) (text ++ mid.text)) formula (at_rest new (bytes ++ piece) (text ++ mid.text) rest))
+    push_of (Err stop) result (told_whole ne wrote) h done =
+        (mid.text, wrote, fault_told kind mid.rows.limits f (bytes ++ piece) (text ++ mid.text) false stop limits (λ e. ne (ap Err e)) h)
+    push_of (Ok x) result (told_in_part ne part) h done = (
+      part.front,
+      part.wrote,
+      (
+        part.back,
+        part.missing,
+        begun_now kind f (bytes ++ piece) text part.front part.back mid.text false part.parts
+            (subst (λ (g : Formula). OwesRows kind g (bytes ++ piece) false (text ++ mid.text)) same (owed_now mid (bytes ++ piece) text limits h)),
+      ),
+    )
+    push_of (Err stop) result (told_in_part ne part) h done = (
+      part.front,
+      part.wrote,
+      (
+        part.back,
+        part.missing,
+        begun_now kind f (bytes ++ piece) text part.front part.back mid.text false part.parts
+            (fault_owed kind mid.rows.limits f (bytes ++ piece) (text ++ mid.text) false stop limits (λ e. ne (ap Err e)) h),
+      ),
+    )
+
+module _ {F : Type 0} (Ended : F → Case → List ℕ → Type 0) (kind : Stream) where
+  -- the answer of a trace that was read
+  answered_by_row : (limits : Limits) (f : Formula) (live : Live F) (bytes text : List ℕ) (holds : Bool) → limits ≡ limits_of kind → IsOver Ended kind limits f live bytes text holds
+      → IsAnswered (stream kind f) bytes true (status_of_truth holds) text
+  answered_by_row limits f live bytes text holds e k = (
+    refl,
+    record {
+      tr = k.case.trace;
+      trace = subst (λ (l : Limits). IsWhole l f bytes k.case.trace) e k.trace;
+      written = subst (λ (g : Formula). StreamText kind (root g.nodes) k.case.trace.header k.case.trace.rows true text) k.fits.formula k.complete.told;
+      verdict = k.complete.verdict f k.fits;
+    },
+  )
+
+  owed_whole : (limits : Limits) (f : Formula) (live : Live F) (bytes text : List ℕ) (holds : Bool) → limits ≡ limits_of kind → IsOver Ended kind limits f live bytes text holds → OwesRows kind f bytes true text
+  owed_whole limits f live bytes text holds e k =
+      let whole = subst (λ (l : Limits). IsWhole l f bytes k.case.trace) e k.trace in
+      record {
+        header = Some k.case.trace.header;
+        rows = k.case.trace.rows;
+        whole = true;
+        before = sound whole.sound whole.trace.text.read;
+        is = subst (λ (g : Formula). StreamText kind (root g.nodes) k.case.trace.header k.case.trace.rows true text) k.fits.formula k.complete.told;
+      }
+
+  module _ (limits : Limits) (f : Formula) (mid : Live F) (held held_after : Option (List ℕ)) (bytes text : List ℕ) (before : OwesRows kind f bytes false text) (same : limits ≡ limits_of kind) where
+    pub end_of : (finished result : Result Bool Stop) → IsToldAs held held_after mid.text finished result
+        → MatchResult finished (IsOver Ended kind limits f mid bytes (text ++ mid.text)) (λ e. IsLiveStop kind limits f true bytes (text ++ mid.text) e)
+        → IsPush (stream kind f) held held_after bytes true text (λ holds. IsAnswered (stream kind f) bytes true (status_of_truth holds)) result
+    end_of finished result (no_room kept) h =
+        ([], kept, inr ([], subst (λ b. IsBegun (stream kind f) b true (text ++ []) []) (append-nil bytes) (begun_before kind f bytes [] text true before)))
+    end_of (Ok holds) result (told_whole ne wrote) h = (mid.text, wrote, answered_by_row limits f mid bytes (text ++ mid.text) holds same h)
+    end_of (Err stop) result (told_whole ne wrote) h = (mid.text, wrote, fault_told kind limits f bytes (text ++ mid.text) true stop same (λ e. ne (ap Err e)) h)
+    end_of (Ok holds) result (told_in_part ne part) h =
+        (part.front, part.wrote, (part.back, part.missing, begun_now kind f bytes text part.front part.back mid.text true part.parts (owed_whole limits f mid bytes (text ++ mid.text) holds same h)))
+    end_of (Err stop) result (told_in_part ne part) h =
+        (part.front, part.wrote, (part.back, part.missing, begun_now kind f bytes text part.front part.back mid.text true part.parts (fault_owed kind limits f bytes (text ++ mid.text) true stop same (λ e. ne (ap Err e)) h)))
+
+-- where memory was wanting nothing is written
+pub starved_told : {T : Type 0} (held : Option (List ℕ)) (text : List ℕ) (outcome : Result T Stop) → outcome ≡ Err NoMemory → IsToldAs held held text outcome outcome
+starved_told {T} held text outcome e = subst (λ (r : Result T Stop). IsToldAs held held text r r) (sym e) (no_room (Appends-nil held))

@@ -1,0 +1,89 @@
+-- What an explanation comes to: its lines refute the formula, and none can be left out.
+use Rattle.std.proofs.Common.{◌≡◌, ◌⊎◌, inl, inr, ℕ, ◌<◌, Bool, true, false, List, [], ◌∷◌, ◌++◌, length, refl, sym, ap, subst, ◌∙◌, append-nil}
+use Rattle.std.specs.Prelude.{MatchBool}
+use Rattle.stl_syntax.specs.Formula.{Formula, root}
+use Rattle.stl_syntax.specs.PostOrder.{IsPostOrder}
+use Rattle.stl_syntax.specs.Trace.{Trace, start}
+use Rattle.stl_syntax.specs.Truth.{Truth}
+use Rattle.stl_syntax.specs.Kleene.{MustNot}
+use Rattle.stl_syntax.specs.Kept.{Kept, Agree}
+use Rattle.stl_syntax.specs.Texts.{start_line}
+use Rattle.stl_syntax.specs.declared.items.Item.{Item}
+use Rattle.implicants.specs.Explaining.{IsExplained, IsExplanation}
+use Rattle.implicants.specs.declared.explaining.Explained.{Explained}
+use Rattle.implicants.specs.declared.explaining.Explained.TheVariants.{Holds, Violated}
+use Rattle.implicants.proofs.KeptCells.{kept_is_needed, certainty_grows}
+use Rattle.implicants.proofs.OneExplanation.{one_is_enough, kept_refutes}
+use Rattle.report.specs.Report.{explain, IsExplained as Described, IsItemLines, AreItemLines, nodes_for}
+use Rattle.report.proofs.JoinedTimes.{SayMore, joined_say, apart_say, line_without}
+use Rattle.report.proofs.JoinedCells.{cover_as, so_as}
+use Rattle.workbench.specs.Answers.{HoldsAtStart}
+use Rattle.workbench.specs.Settled.{Refute, KeptRefute, TellsTruth, IsAnsweredWhole}
+use Rattle.workbench.specs.Accounts.{AreReasons, IsRefutation, IsAccount}
+
+-- what is kept of a violation refutes the formula, since the answer does
+pub kept_refute : (f : Formula) (tr : Trace) (steps : ℕ) (e : Explained) → IsPostOrder (nodes_for f tr) → 0 < length (nodes_for f tr) → IsExplained (nodes_for f tr) tr steps e → KeptRefute f tr
+kept_refute f tr steps Holds post some is items fails kept = absurd (fails is.0)
+kept_refute f tr steps (Violated found) post some is items fails kept =
+    let enough : MustNot (root (nodes_for f tr)) items tr (start tr) = one_is_enough (nodes_for f tr) tr found items is.kept kept is.enough in
+    record { certain = enough; elsewhere = λ tr' agree. kept_refutes (nodes_for f tr) tr tr' items post some kept enough agree }
+
+module _ (f : Formula) (tr : Trace) where
+  -- items that say as much refute as well
+  refute_as : (items lines : List Item) → SayMore items lines → Refute f tr items → Refute f tr lines
+  refute_as items lines more r = record {
+    certain = (certainty_grows (root (nodes_for f tr)) items lines tr (start tr) (cover_as items lines more)).1 r.certain;
+    elsewhere = λ tr' agree. r.elsewhere tr' (record { like = agree.like; so = so_as (nodes_for f tr) tr' items lines more agree.so });
+  }
+
+  -- without a line the others are not enough
+  line_needed : (items lines before after : List Item) (l : Item) → Kept (nodes_for f tr) tr items → IsItemLines items lines → lines ≡ before ++ l ∷ after
+      → ¬ MustNot (root (nodes_for f tr)) (before ++ after) tr (start tr)
+  line_needed items lines before after l kept joined is m =
+      let w = line_without items lines before l after joined is in
+      kept_is_needed (nodes_for f tr) tr items w.before w.after w.e kept w.is
+      ((certainty_grows (root (nodes_for f tr)) (before ++ after) (w.before ++ w.after) tr (start tr) (cover_as (before ++ after) (w.before ++ w.after) w.more)).1 m)
+
+  reasons_of : (items lines : List Item) → KeptRefute f tr → ¬ HoldsAtStart f tr → Kept (nodes_for f tr) tr items → IsItemLines items lines → AreReasons f tr lines
+  reasons_of items lines sure fails kept joined = record {
+    items = items;
+    kept = kept;
+    joined = joined;
+    refute = refute_as items lines (joined_say items lines joined) (sure items fails kept);
+    needed = λ before after l is. line_needed items lines before after l kept joined is;
+  }
+
+  -- the text of a start that is true is its line
+  true_text : (lines : List Item) (line body text : List ℕ) → lines ≡ [] → AreItemLines tr.header.scale f lines body → line ≡ start_line true → text ≡ line ++ body → text ≡ start_line true
+  true_text lines line body text none written first is =
+      let nothing : body ≡ [] = subst (λ ls. AreItemLines tr.header.scale f ls body) none written in
+      is ∙ ap (λ l. l ++ body) first ∙ ap (λ b. start_line true ++ b) nothing ∙ append-nil (start_line true)
+
+  Told : ℕ → List ℕ → Type 0
+  Told status text = ((status ≡ 0) × HoldsAtStart f tr × (text ≡ start_line true)) ⊎ IsRefutation f tr status text
+
+  told : (status : ℕ) (lines : List Item) (line body text : List ℕ) → KeptRefute f tr → TellsTruth f tr status → Described f tr lines → (holds : Bool)
+      → MatchBool holds (Truth (root (nodes_for f tr)) tr (start tr)) (¬ Truth (root (nodes_for f tr)) tr (start tr)) → line ≡ start_line holds
+      → AreItemLines tr.header.scale f lines body → text ≡ line ++ body → Told status text
+  unfolding Told
+  told status lines line body text sure (inl (s, h)) (inl (k, none)) true m first written is = inl (s, h, true_text lines line body text none written first is)
+  told status lines line body text sure (inl (s, h)) (inl (k, none)) false m first written is = absurd (m h)
+  told status lines line body text sure (inl (s, h)) (inr (n, more)) holds m first written is = absurd (n h)
+  told status lines line body text sure (inr (s, n)) (inl (k, none)) holds m first written is = absurd (n k)
+  told status lines line body text sure (inr (s, n)) (inr (o, more)) true m first written is = absurd (n m)
+  told status lines line body text sure (inr (s, n)) (inr (o, (items, kept, joined))) false m first written is = inr (record {
+    status_is = s;
+    fails = n;
+    lines = lines;
+    body = body;
+    reasons = reasons_of items lines sure n kept joined;
+    written = written;
+    text_is = is ∙ ap (λ l. l ++ body) first;
+  })
+
+-- what `explain` wrote is an account
+pub accounted : (f : Formula) (bytes text : List ℕ) (status : ℕ) → IsAnsweredWhole explain f bytes status text → IsAccount f bytes text status
+unfolding Told
+accounted f bytes text status a =
+    let (lines, line, body, explained, started, written, is) = a.written in
+    record { tr = a.tr; trace = a.trace; told = told f a.tr status lines line body text a.sure a.verdict explained started.0 started.1 started.2 written is }

@@ -1,0 +1,5 @@
+use Rattle.workbench.proofs.OwedLaws.{stream_owed_grows}
+use Rattle.workbench.proofs.owing_laws.what_is_owed_only_grows.Goals as goal
+
+pub returns : goal.returns
+returns c = λ s f bytes more text all ended a b. stream_owed_grows s f bytes more ended text all a b
