@@ -84,7 +84,7 @@ rise : (width t : ℕ) (rows : List Row) → AreRowsAfter width t rows → t ≤
 rise width t [] h = omega arith
 rise width t (r ∷ rows) h = let x = rise width r.time rows h.2 in let y = h.0 in omega (arith, x, y)
 
-start_by_last : (width : ℕ) (rows : List Row) (q : Row) → AreRowsSoFar width rows → last_row_of rows ≡ Some q → first_time rows ≤ q.time
+pub start_by_last : (width : ℕ) (rows : List Row) (q : Row) → AreRowsSoFar width rows → last_row_of rows ≡ Some q → first_time rows ≤ q.time
 start_by_last width [] q h e = absurd (let x : None ≡ Some q = e in cc)
 start_by_last width (r ∷ rows) q h e =
     let x = rise width r.time rows h.1 in

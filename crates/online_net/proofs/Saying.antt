@@ -325,7 +325,7 @@ atom_put b i before r {e0} {e1} {e2} {e3} {e4} {out1} {out2} end holds within la
 
 -- what is found at a place that is one of the list
 module _ {X : Type 0} (xs : List (Option X)) (i : ℕ) (r : Option X) (within : i < length xs) (is : r ≡ get_or xs i r) where
-  found : slice_get xs i ≡ Some r
+  pub found : slice_get xs i ≡ Some r
   found = by_case (slice_get_cases xs i).1
     where
       by_case : ((x : Option X) × (i < length xs) × (slice_get xs i ≡ Some x) × (get_or xs i x ≡ x)) ⊎ ((length xs ≤ i) × (slice_get xs i ≡ None))

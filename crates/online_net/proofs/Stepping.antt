@@ -1,9 +1,9 @@
 -- A network's operators belong to its edges, and what a step that moves nothing leaves.
-use Rattle.std.proofs.Common.{◌≡◌, ◌⊎◌, inl, inr, refl, sym, ap, subst, ◌∙◌, ℕ, zero, suc, ◌+◌, ◌-◌, ◌*◌, ◌<◌, ◌≤◌, Bool, true, false, Option, Some, None, List, [], ◌∷◌, ◌++◌, length, drop, ℤ, pos, arith}
-use Rattle.std.specs.Prelude.{MatchBool, ◌≢◌, ◌^◌, cond, not, ◌&&◌, ◌==◌, IsTrue, ◌↔◌, min, slice_get, slice_index_or, option_map}
+use Rattle.std.proofs.Common.{◌≡◌, ◌⊎◌, inl, inr, refl, sym, ap, subst, ◌∙◌, ℕ, zero, suc, ◌+◌, ◌-◌, ◌*◌, ◌<◌, ◌≤◌, Bool, true, false, Option, Some, None, List, [], ◌∷◌, ◌++◌, length, drop, ℤ, pos, ◌<ℤ◌, ◌≤ℤ◌, arith}
+use Rattle.std.specs.Prelude.{MatchBool, int_lt, ◌≢◌, ◌^◌, cond, not, ◌&&◌, ◌==◌, IsTrue, ◌↔◌, min, slice_get, slice_index_or, option_map}
 use Rattle.std.proofs.lemmas.Bool.{cases_order, eq-eqb}
 use Rattle.std.proofs.lemmas.Option.{slice_get_within, get_or_from_slice_get}
-use Rattle.stl_syntax.specs.Trace.{Header, Row, first_time}
+use Rattle.stl_syntax.specs.Trace.{Header, Row, AreRowsAfter, first_time, last_time}
 use Rattle.stl_syntax.specs.PostOrder.{IsPostOrder}
 use Rattle.stl_syntax.specs.WellFormed.{AreWellFormed}
 use Rattle.stl_syntax.specs.declared.items.Verdict.{Verdict}
@@ -11,21 +11,44 @@ use Rattle.stl_syntax.specs.declared.node.Node.{Node}
 use Rattle.stl_syntax.specs.declared.node.Node.TheVariants.{Const, Atom as Leaf}
 use Rattle.stl_syntax.proofs.PostOrderLemmas.{slice_get_at}
 use Rattle.atom_lines.specs.Binding.{IsAtomNode, IsBound}
-use Rattle.online_nodes.specs.Network.{Event, row, step, take, Front, State, last_row, shown, is_atom, node_is_atom, allowed_at, same_front, after_event, state, IsReady, MayCome}
+use Rattle.online_nodes.specs.Network.{Event, row, step, close, take, Front, State, last_row, shown, is_atom, node_is_atom, allowed_at, same_front, after_event, state, IsReady, MayCome}
 use Rattle.online_nodes.specs.Needed.{IsReader, IsEdge, IsRootEdge}
-use Rattle.online_nodes.specs.Held.{Edge, Held, edge_at, held_at, number_at}
-use Rattle.online_nodes.specs.Belonging.{Belongs, HasStepped, StandsForSteps, is_ready, room_of_step, held_by_inputs}
+use Rattle.online_nodes.specs.Held.{Edge, Held, edge_at, held_at, held_of, no_edge, number_at, with_edge, without}
+use Rattle.online_nodes.proofs.RowsLaw.{AreRowsSoFar, rows_of}
+use Rattle.online_nodes.proofs.EmittedLaw.{front_shown}
+use Rattle.stl_syntax.proofs.WellFormedLemmas.{root_some}
+use Rattle.std.proofs.lemmas.List.{get_or-set_same, get_or-set_other, length-set}
+use Rattle.std.proofs.lemmas.Int.{ints}
+use Rattle.rational.specs.Rational.{whole}
+use Rattle.std.specs.Prelude.{IfSome}
+use Rattle.stl_syntax.specs.Trace.{Trace}
+use Rattle.online_nodes.specs.Cuts.{Place, place}
+use Rattle.online_nodes.specs.Operators.{KnowsBy}
+use Rattle.online_nodes.specs.declared.kind.Kind.{Kind}
+use Rattle.online_nodes.specs.declared.kind.Kind.TheVariants.{Const as Constant, Not as Negation, Join as Connective, Ahead, Behind, Until as UntilOf, Since as SinceOf}
+use Rattle.online_nodes.specs.Belonging.{trace_of, Belongs, HasStepped, StandsForSteps, is_ready, room_of_step, held_by_inputs}
 use Rattle.online_nodes.specs.declared.operator.Operator.{Operator}
 use Rattle.online_nodes.proofs.RunLaw.{none_is_none, allowed_bound}
-use Rattle.online_nodes.proofs.DroppingLemmas.{slice_get-drop}
+use Rattle.online_nodes.proofs.DroppingLemmas.{slice_get-drop, held_of-without}
 use Rattle.online_nodes.proofs.RisingLaw.{IsSound, sound_of, same_is, same_of}
 use Rattle.online_nodes.proofs.EdgeLaw.{edge_stays, root_stays, get_within, after_one}
 use Rattle.online_nodes.proofs.ReadersLaw.{root_unread}
 use Rattle.online_nodes.proofs.StandingLaw.{InputOn}
-use Rattle.online_net.specs.Nets.{Parts, Keeps, HasOperator, Stands, IsNext, first_row, last_row_of}
+use Rattle.online_net.specs.Nets.{Parts, Keeps, HasOperator, Stands, IsNext, first_row, last_row_of, last_row_after}
 use Rattle.online_net.specs.Steps.{IsStep}
-use Rattle.online_net.proofs.Events.{stand, keep, operator_stays, input_same, read_place, root_here, stepped_stands}
-use Rattle.online_net.proofs.Feeding.{last_splits, last_time_is, no_last, leaf_of}
+use Rattle.online_net.proofs.Events.{stand, keep, operator_stays, input_same, read_place, root_here, stepped_stands, taken_stands}
+use Rattle.online_net.proofs.Feeding.{last_splits, last_time_is, no_last, leaf_of, start_by_last}
+
+-- what an operator keeps in mind does not speak of spare places
+knows_spare : (k : Kind) (nodes : List Node) (tr : Trace) (e : Held) (n : ℕ) (at reach run : Place) → KnowsBy k nodes tr e at reach run
+    → KnowsBy k nodes tr (record { edges = e.edges; start = e.start; spare = n }) at reach run
+knows_spare (Constant b) nodes tr e n at reach run h = h
+knows_spare (Negation p) nodes tr e n at reach run h = h
+knows_spare (Connective join inputs) nodes tr e n at reach run h = h
+knows_spare (Ahead w) nodes tr e n at reach run h = h
+knows_spare (Behind w) nodes tr e n at reach run h = h
+knows_spare (UntilOf u) nodes tr e n at reach run h = h
+knows_spare (SinceOf s) nodes tr e n at reach run h = h
 
 -- edges with other spare places are as good
 pub belongs_spare : {nodes : List Node} {header : Header} {events : List Event} {op : Operator} {e e' : Held} {now : ℕ} {ended : Bool}
@@ -34,6 +57,14 @@ belongs_spare {nodes} {header} {events} {op} {e} {e'} {now} {ended} x y b =
     subst (λ s. Belongs nodes header events op (record { edges = e'.edges; start = s; spare = e'.spare }) now ended) (sym y)
     (subst (λ es. Belongs nodes header events op (record { edges = es; start = e.start; spare = e'.spare }) now ended) (sym x) same)
   where
+    by_front : (o : Option ℕ)
+        → IfSome o (λ f. KnowsBy op.kind nodes (trace_of header (state nodes events)) e (record { at = whole (pos f); after = true }) (place op.reach) (place op.run))
+        → IfSome o (λ f. KnowsBy op.kind nodes (trace_of header (state nodes events)) (record { edges = e.edges; start = e.start; spare = e'.spare })
+        (record { at = whole (pos f); after = true }) (place op.reach) (place op.run))
+    by_front None h = h
+    by_front (Some f) h = knows_spare op.kind nodes (trace_of header (state nodes events)) e e'.spare (record { at = whole (pos f); after = true })
+        (place op.reach) (place op.run) h
+
     same : Belongs nodes header events op (record { edges = e.edges; start = e.start; spare = e'.spare }) now ended
     same = record {
       formed = b.formed;
@@ -52,7 +83,7 @@ belongs_spare {nodes} {header} {events} {op} {e} {e'} {now} {ended} x y b =
         kind = b.stands.kind;
         front = b.stands.front;
         unread = b.stands.unread;
-        knows = b.stands.knows;
+        knows = by_front op.front b.stands.knows;
       };
     }
 
@@ -272,3 +303,120 @@ module _ (nodes : List Node) (header : Header) (events : List Event) (net : Part
       let leaf = leaf_of (slice_index_or nodes j (Const false)) (no_operator j l is) in
       let k = st.holds.bound.atoms j leaf.0 (at ∙ ap Some leaf.1) in
       (k.0, k.1)
+
+  -- the end may come
+  pub close_may : net.closed ≡ false → (net.last ≡ None → ⊥) → MayCome nodes header s close
+  close_may going some = (sym st.holds.closed ∙ going, λ e. some (st.holds.last ∙ none_last s.rows e))
+    where
+      none_last : (rows : List Row) → last_row (record { rows = rows; closed = s.closed; fronts = s.fronts }) ≡ None → last_row_of rows ≡ None
+      none_last [] e = refl
+      none_last (r ∷ rows) e = absurd (none_is_none (pos (last_time r.time rows)) (sym e))
+
+  -- a row may come
+  pub row_may : (r : Row) → net.closed ≡ false → IfSome net.last (λ q. q.time < r.time) → length r.values ≡ net.bound.width → MayCome nodes header s (row r)
+  row_may r going later wide = (sym st.holds.closed ∙ going, by_last net.last refl later, wide ∙ st.holds.bound.width)
+    where
+      by_last : (o : Option Row) → net.last ≡ o → IfSome o (λ q. q.time < r.time) → IfSome (last_row s) (λ f. f <ℤ pos r.time)
+      by_last None e h = subst (λ l. IfSome (last_row (record { rows = l; closed = s.closed; fronts = s.fronts })) (λ f. f <ℤ pos r.time))
+          (sym (no_last s.rows (sym st.holds.last ∙ e))) tt
+      by_last (Some q) e h = subst (λ o. IfSome o (λ f. f <ℤ pos r.time)) (sym (last_time_is s.rows s.closed s.fronts q (sym st.holds.last ∙ e)))
+          (let l : pos q.time <ℤ pos r.time = omega (arith, ints, h) in l)
+
+  -- the last row has a value for each column
+  pub last_width : IfSome net.last (λ q. length q.values ≡ net.bound.width)
+  last_width = by_last net.last refl
+    where
+      among : (rows : List Row) (time : ℕ) (p q : Row) → length p.values ≡ length header.columns → AreRowsAfter (length header.columns) time rows
+          → Some (last_row_after p rows) ≡ Some q → length q.values ≡ length header.columns
+      among [] time p q w h e = let x : p ≡ q = one p q e in ap (λ (r : Row). length r.values) (sym x) ∙ w
+        where
+          one : (a b : Row) → Some a ≡ Some b → a ≡ b
+          one a b e = cc
+      among (r ∷ rows) time p q w h e = among rows r.time r q h.1 h.2 e
+
+      of_rows : (rows : List Row) (q : Row) → AreRowsSoFar (length header.columns) rows → last_row_of rows ≡ Some q
+          → length q.values ≡ length header.columns
+      of_rows [] q h e = absurd (let x : None ≡ Some q = e in cc)
+      of_rows (r ∷ rows) q h e = among rows r.time r q h.0 h.1 e
+
+      by_last : (o : Option Row) → net.last ≡ o → IfSome o (λ q. length q.values ≡ net.bound.width)
+      by_last None e = tt
+      by_last (Some q) e = of_rows s.rows q (rows_of nodes header events st.run) (sym st.holds.last ∙ e) ∙ sym st.holds.bound.width
+
+  -- an atom is answered up to the last row
+  pub atom_front : (i : ℕ) → i < length nodes → node_is_atom nodes i ≡ true
+      → option_map (λ (n : ℕ). pos n) (option_map (λ (r : Row). r.time) net.last) ≡ shown s i
+  atom_front i l a = by_last net.last refl
+    where
+      front : s.fronts i ≡ last_row s
+      front = sound.atoms i l a
+
+      by_last : (o : Option Row) → net.last ≡ o → option_map (λ (n : ℕ). pos n) (option_map (λ (r : Row). r.time) o) ≡ shown s i
+      by_last None e = sym (unshown (s.fronts i) (front ∙ none))
+        where
+          none : last_row s ≡ None
+          none = subst (λ l. last_row (record { rows = l; closed = s.closed; fronts = s.fronts }) ≡ None) (sym (no_last s.rows (sym st.holds.last ∙ e))) refl
+
+          from : Front → Front
+          from None = None
+          from (Some g) = cond (int_lt g (pos (first_time s.rows))) None (Some g)
+
+          unshown : (o : Front) → o ≡ None → from o ≡ None
+          unshown o x = ap from x
+      by_last (Some q) e =
+          let end = last_time_is s.rows s.closed s.fronts q (sym st.holds.last ∙ e) in
+          let low = start_by_last (length header.columns) s.rows q (rows_of nodes header events st.run) (sym st.holds.last ∙ e) in
+          sym (front_shown s i (pos q.time) (front ∙ end) (omega (arith, ints, low)))
+
+  -- every kept operator shows its node's front
+  pub operator_front : (i : ℕ) (op : Operator) → slice_get net.operators i ≡ Some (Some op) → option_map (λ (n : ℕ). pos n) op.front ≡ shown s i
+  operator_front i op is = let k = kept_operator i op is in sym k.2.front ∙ ap (shown s) k.1
+
+  -- the root's place among the edges
+  pub root_place : (n : ℕ) → n ≡ length net.operators → (1 ≤ n) × (n - 1 ≡ length nodes - 1) × (n - 1 < length net.edges.edges)
+  root_place n e =
+      let h = root_some nodes st.holds.one_root in
+      let c = st.holds.operators in
+      let d = st.holds.edges in
+      (omega (arith, e, h, c), omega (arith, e, c), omega (arith, e, h, c, d))
+
+  -- the root's first verdict is taken
+  pub took_stands : (e' : Held) (k : ℕ) → k ≡ length nodes - 1 → e'.edges ≡ with_edge net.edges k (without 1 (edge_at net.edges k)) → e'.start ≡ net.edges.start
+      → Stands nodes header (record net { edges = e' }) (events ++ take ∷ [])
+  took_stands e' k is x y = taken_stands nodes header events net st e' others held number count y
+    where
+      root_l : length nodes - 1 < length net.edges.edges
+      root_l = let h = root_here nodes header events net st in let d = st.holds.edges in omega (arith, h, d)
+
+      at_root : e'.edges ≡ with_edge net.edges (length nodes - 1) (without 1 (edge_at net.edges (length nodes - 1)))
+      at_root = x ∙ ap (λ k. with_edge net.edges k (without 1 (edge_at net.edges k))) is
+
+      here : edge_at e' (length nodes - 1) ≡ without 1 (edge_at net.edges (length nodes - 1))
+      here = ap (λ es. slice_index_or es (length nodes - 1) no_edge) at_root ∙ get_or-set_same net.edges.edges (length nodes - 1) _ no_edge root_l
+
+      others : (j : ℕ) → j ≢ length nodes - 1 → edge_at e' j ≡ edge_at net.edges j
+      others j d = ap (λ es. slice_index_or es j no_edge) at_root ∙ get_or-set_other net.edges.edges (length nodes - 1) j _ no_edge d
+
+      held : held_at e' (length nodes - 1) ≡ drop 1 (held_at net.edges (length nodes - 1))
+      held = ap held_of here ∙ held_of-without 1 (edge_at net.edges (length nodes - 1))
+
+      number : number_at e' (length nodes - 1) ≡ number_at net.edges (length nodes - 1)
+      number = ap (λ (z : Edge). z.number) here
+
+      count : length e'.edges ≡ length net.edges.edges
+      count = ap length at_root ∙ length-set net.edges.edges (length nodes - 1) _
+
+  -- nothing was left to take
+  pub none_took : (k : ℕ) → k ≡ length nodes - 1 → length (held_at net.edges k) ≡ 0
+      → IsNext nodes header events None × Stands nodes header net (events ++ take ∷ [])
+  none_took k is none = (
+    next_is None (sym (ap (λ l. slice_get l 0) empty)),
+    taken_stands nodes header events net st net.edges (λ j d. refl) (empty ∙ sym (ap (drop 1) empty)) refl refl refl,
+  )
+    where
+      nothing : (l : List Verdict) → length l ≡ 0 → l ≡ []
+      nothing [] e = refl
+      nothing (v ∷ l) e = absurd (let z : suc (length l) ≡ 0 = e in omega (arith, z))
+
+      empty : held_at net.edges (length nodes - 1) ≡ []
+      empty = nothing (held_at net.edges (length nodes - 1)) (ap (λ k. length (held_at net.edges k)) (sym is) ∙ none)

@@ -112,7 +112,7 @@ fn step_one(
     }
     edges.reserve(need)?;
     let mut after = operator;
-    let _moved = after.advance(edges, now, ended)?;
+    after.advance(edges, now, ended)?;
     Ok(Some(after))
 }
 

@@ -1,7 +1,29 @@
+use Rattle.std.proofs.Common.{◌≡◌, ℕ, zero, suc, ◌+◌, ◌-◌, ◌<◌, ◌≤◌, Bool, true, false, Option, Some, None, List, [], ◌∷◌, ◌++◌, length, pos, refl, sym, ap, subst, ◌∙◌, arith}
+use Rattle.std.specs.Prelude.{slice_get, slice_index_or, option_map, IfSome, IsTrue}
+use Rattle.stl_syntax.specs.Trace.{Header, Row}
+use Rattle.stl_syntax.specs.declared.node.Node.{Node}
+use Rattle.online_nodes.specs.Network.{Event, row, step, close, take, state, shown, node_is_atom, IsReady}
+use Rattle.online_nodes.specs.Held.{Held, edge_at, held_at}
+use Rattle.online_nodes.specs.declared.operator.Operator.{Operator}
+use Rattle.online_net.specs.Nets.{Parts, Stands}
+use Rattle.online_net.proofs.Events.{closed_stands}
+use Rattle.online_net.proofs.Stepping.{close_may}
 use Rattle.online_net.proofs.net.Net.close.Goals as goal
 
 pub invariant_of-self : goal.invariant_of-self
-invariant_of-self c = ?
+invariant_of-self c running =
+    let net : Parts = record { edges = c.self.inside.edges; operators = c.self.inside.operators.items; bound = c.self.inside.bound; last = c.self.inside.last; closed = c.self.inside.closed; stopped = c.self.inside.stopped } in
+    let w = c.self.invariant c.if-self.false in (
+      w.0,
+      w.1,
+      w.2 ++ close ∷ [],
+      closed_stands w.0 w.1 w.2 net w.3
+          (close_may w.0 w.1 w.2 net w.3 c.if-self-2.false (λ e. c.requires (ap (λ (p : Parts). p.last) (sym c.self.view_is) ∙ e))),
+    )
 
 pub returns-clause-stands : goal.returns-clause-stands
-returns-clause-stands c = ?
+returns-clause-stands c nodes header events st =
+    let net : Parts = record { edges = c.self.inside.edges; operators = c.self.inside.operators.items; bound = c.self.inside.bound; last = c.self.inside.last; closed = c.self.inside.closed; stopped = c.self.inside.stopped } in
+    let now : Stands nodes header net events = (subst (λ (p : Parts). Stands nodes header p events) (sym c.self.view_is) st) in
+    closed_stands nodes header events net now
+    (close_may nodes header events net now c.if-self-2.false (λ e. c.requires (ap (λ (p : Parts). p.last) (sym c.self.view_is) ∙ e)))
