@@ -131,7 +131,6 @@ fn an_explanation_may_have_65536_cells(rt: HostRuntime) -> Result<(), Fail> {
             err,
             status,
         };
-        assert!(rt; agrees(alloc, case, pieces(1))?, "{formula} {rows}");
         assert!(rt; agrees(alloc, case, pieces(4096))?, "{formula} {rows}");
     }
     Ok(())

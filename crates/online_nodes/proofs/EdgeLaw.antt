@@ -145,7 +145,7 @@ get_within nodes i n e = by_case (slice_get_cases nodes i).1
     by_case (inr h) = absurd (let x = h.1 in cc)
 
 -- a front that is not shown lies below the start
-not_shown : (s : State) (i : ℕ) (f : ℤ) → shown s i ≡ None → s.fronts i ≡ Some f → f <ℤ pos (first_time s.rows)
+pub not_shown : (s : State) (i : ℕ) (f : ℤ) → shown s i ≡ None → s.fronts i ≡ Some f → f <ℤ pos (first_time s.rows)
 not_shown s i f x e = by_test (int_lt f (pos (first_time s.rows))) refl
   where
     by_test : (t : Bool) → int_lt f (pos (first_time s.rows)) ≡ t → f <ℤ pos (first_time s.rows)
@@ -153,7 +153,7 @@ not_shown s i f x e = by_test (int_lt f (pos (first_time s.rows))) refl
     by_test false y = absurd (none_is_none f (sym x ∙ front_shown s i f e (int_order f (pos (first_time s.rows)) false y)))
 
 module _ (nodes : List Node) (header : Header) (formed : AreWellFormed nodes) where
-  order : IsPostOrder nodes
+  abbrev order : IsPostOrder nodes
   order = formed.post_order
 
   -- after the end no row comes
@@ -328,7 +328,7 @@ module _ (nodes : List Node) (header : Header) (formed : AreWellFormed nodes) wh
   }
 
   -- a front that stays is shown as before
-  shown_stays : (s : State) (e : Event) → IsSound nodes header order s → (j : ℕ) → j < length nodes → (after_event nodes s e).fronts j ≡ s.fronts j
+  pub shown_stays : (s : State) (e : Event) → IsSound nodes header order s → (j : ℕ) → j < length nodes → (after_event nodes s e).fronts j ≡ s.fronts j
       → shown s j ≡ shown (after_event nodes s e) j
   shown_stays s e sound j l same = by_front (s.fronts j) refl
     where

@@ -1,17 +1,24 @@
-mod PlaceLemmas
-mod Writing
-mod GotLemmas
+pub mod PlaceLemmas
+pub mod Writing
+pub mod GotLemmas
 pub mod RunLaw
 pub mod StayLaw
-mod FrameLaw
-mod HeldLaw
+mod LowLaw
+mod BelongLemmas
+mod ReaderLemmas
+mod AnsweringLemmas
+mod HeldFacts
+mod StepFacts
+mod InputLemmas
+pub mod FrameLaw
+pub mod HeldLaw
 mod WindowLaw
 mod WindowPlaces
 mod UntilLaw
 mod SinceLaw
 mod SettledLaw
 mod EdgesLemmas
-mod DroppingLemmas
+pub mod DroppingLemmas
 mod WorkLemmas
 mod SaidLemmas
 mod Sweeping
@@ -29,8 +36,13 @@ mod SinceEnds
 mod SinceCounts
 mod SinceReads
 mod NetworkExamples
-mod RisingLaw
-mod EmittedLaw
-mod MeetingLaw
-mod EdgeLaw
+pub mod RisingLaw
+pub mod EmittedLaw
+pub mod MeetingLaw
+pub mod EdgeLaw
 mod StillLaw
+pub mod ReadersLaw
+mod KnowingOn
+pub mod RowsLaw
+mod PlacesOn
+pub mod StandingLaw

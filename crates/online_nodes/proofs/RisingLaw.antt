@@ -114,14 +114,14 @@ from_none : (o : Front) → NeverLess None o
 from_none o f e = absurd (none_is_none f e)
 
 -- the least of two numbers is one of them
-least_of : (g h : ℤ) → (m : ℤ) × (least (Some g) (Some h) ≡ Some m) × ((m ≡ g) ⊎ (m ≡ h))
+pub least_of : (g h : ℤ) → (m : ℤ) × (least (Some g) (Some h) ≡ Some m) × ((m ≡ g) ⊎ (m ≡ h))
 least_of g h = by_test (int_lt h g) refl
   where
     by_test : (t : Bool) → int_lt h g ≡ t → (m : ℤ) × (cond (int_lt h g) (Some h) (Some g) ≡ Some m) × ((m ≡ g) ⊎ (m ≡ h))
     by_test true e = (h, ap (λ t. cond t (Some h) (Some g)) e, inr refl)
     by_test false e = (g, ap (λ t. cond t (Some h) (Some g)) e, inl refl)
 
-least_rises : (o q o' q' : Front) → NeverLess o o' → NeverLess q q' → NeverLess (least o q) (least o' q')
+pub least_rises : (o q o' q' : Front) → NeverLess o o' → NeverLess q q' → NeverLess (least o q) (least o' q')
 least_rises o q o' q' h k f e =
     let low = lesser o q f e in
     let x = h low.0 low.2 in
@@ -628,3 +628,31 @@ module _ (nodes : List Node) (header : Header) (order : IsPostOrder nodes) where
       by_test false x =
           let low = reads_within s n left j reads bounds h.0 (subst (λ t. cond t (last_row s) (open_number n s) ≡ Some h.0) x h.1) in
           (low.0, low.1, inl (let a = low.2 in let b = h.2 in omega (arith, ints)))
+
+  -- since stands no further than its left input
+  pub since_left_behind : (s : State) → IsSound s → (r p q a : ℕ) (b : Option ℕ) → r < length nodes → slice_get nodes r ≡ Some (Since p q a b)
+      → (g : ℤ) → s.fronts r ≡ Some g → (f : ℤ) × (s.fronts p ≡ Some f) × (g ≤ℤ f)
+  since_left_behind s sound r p q a b l at g e = by_test (s.closed && all_at_end s (children n)) refl
+    where
+      n : Node
+      n = Since p q a b
+
+      at_place : slice_index_or nodes r (Const false) ≡ Since p q a b
+      at_place = let x = node_there r l in cc
+
+      h : (h : ℤ) × (allowed (Since p q a b) s ≡ Some h) × (g ≤ℤ h)
+      h = subst (λ m. (h : ℤ) × (allowed m s ≡ Some h) × (g ≤ℤ h)) at_place (sound.rising r l g e)
+
+      by_test : (t : Bool) → (s.closed && all_at_end s (p ∷ q ∷ [])) ≡ t → (f : ℤ) × (s.fronts p ≡ Some f) × (g ≤ℤ f)
+      by_test true x =
+          let last : last_row s ≡ Some h.0 =
+          subst (λ t. cond t (last_row s) (least (s.fronts p) (moved_by (pos a) (s.fronts q))) ≡ Some h.0) x h.1 in
+          (h.0, at_end_reads s (Since p q a b) true p refl (both s.closed (all_at_end s (p ∷ q ∷ [])) x) ∙ last, h.2)
+        where
+          both : (a b : Bool) → (a && b) ≡ true → b ≡ true
+          both true b y = y
+          both false b y = absurd (let z : false ≡ true = y in cc)
+      by_test false x =
+          let low = lesser (s.fronts p) (moved_by (pos a) (s.fronts q)) h.0
+          (subst (λ t. cond t (last_row s) (least (s.fronts p) (moved_by (pos a) (s.fronts q))) ≡ Some h.0) x h.1) in
+          (low.0, low.2, (let c = low.4 in let d = h.2 in omega (arith, ints)))

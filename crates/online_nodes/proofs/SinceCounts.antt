@@ -266,8 +266,13 @@ module _ {old mid : Held} {s : Since} {c : Course} {out : Out} {held begin last 
         owed = g.said.owed;
         worked = worked_then_pass (worked_put g.at.own g.at.left_apart g.at.right_apart g.said.got) read.passed (λ same. g.at.right_apart (sym same))
             (inr refl);
-        fewer = omega (arith, ap length kept_left, ap length kept_right, passed-one read.passed,
-            ap (λ y. length y.fresh) (passed-other read.passed s.window.of g.at.apart));
+        fewer = omega (
+          arith,
+          ap length kept_left,
+          ap length kept_right,
+          passed-one read.passed,
+          ap (λ y. length y.fresh) (passed-other read.passed s.window.of g.at.apart),
+        );
         edge = g.said.edge;
         end = g.said.end;
         sound = g.said.sound;
@@ -294,8 +299,13 @@ module _ {old mid : Held} {s : Since} {c : Course} {out : Out} {held begin last 
         owed = g.said.owed;
         worked = worked_then_pass (worked_put g.at.own g.at.left_apart g.at.right_apart g.said.got) passed (λ same. g.at.left_apart (sym same))
             (inl refl);
-        fewer = omega (arith, ap length kept_left, ap length kept_right, passed-one passed,
-            ap (λ y. length y.fresh) (passed-other passed s.right (λ same. g.at.apart (sym same))));
+        fewer = omega (
+          arith,
+          ap length kept_left,
+          ap length kept_right,
+          passed-one passed,
+          ap (λ y. length y.fresh) (passed-other passed s.right (λ same. g.at.apart (sym same))),
+        );
         edge = g.said.edge;
         end = g.said.end;
         sound = g.said.sound;
@@ -324,10 +334,26 @@ module _ {old mid : Held} {s : Since} {c : Course} {out : Out} {held begin last 
       let some_right = slice_get_within (fresh_at mid s.right) 0 w right_now in
       record {
         more = g.said.more ++ rested.said.more;
-        few = omega (arith, g.said.few, rested.said.few, length-append g.said.more rested.said.more, some_left, some_right,
-            ap length last_left, ap length last_right);
-        owed = omega (arith, g.said.owed, rested.said.owed, length-append g.said.more rested.said.more, some_left, some_right,
-            ap length last_left, ap length last_right);
+        few = omega (
+          arith,
+          g.said.few,
+          rested.said.few,
+          length-append g.said.more rested.said.more,
+          some_left,
+          some_right,
+          ap length last_left,
+          ap length last_right,
+        );
+        owed = omega (
+          arith,
+          g.said.owed,
+          rested.said.owed,
+          length-append g.said.more rested.said.more,
+          some_left,
+          some_right,
+          ap length last_left,
+          ap length last_right,
+        );
         worked = moved_by (subst (λ i. HasWorked mid new i s.window.of s.right rested.said.more) g.said.edge
             (worked_put working_now.own working_now.left_apart working_now.right_apart rested.said.got));
         fewer = omega (arith, ap length last_left, ap length last_right, ap length kept_left, ap length kept_right);

@@ -292,8 +292,7 @@ module _ {old new : Held} {s : Since} {c : Course} {out : Out} {held to : Cut} {
         let e_is : AtMost (place c.out.to) e = λ t h. subst (λ (q : Cut). Upto (place q) t) (sym to_is) h in
         let is_e : AtMost e (place c.out.to) = λ t h. subst (λ (q : Cut). Upto (place q) t) to_is h in
         let ahead : Before r.read (place c.out.to) = read_before begins_before run_before in
-        let ahead_e : Before r.read e = subst (λ (q : Cut). Before r.read (place q)) (sym to_is) ahead in
-        (
+        let ahead_e : Before r.read e = subst (λ (q : Cut). Before r.read (place q)) (sym to_is) ahead in (
           record { read = e; left = r.left; right = r.right },
           record {
             told = said.told x.n x.tr x.begin written m.told (λ t a inside h. found t a inside h) (λ t a inside b u. lost t a inside b);

@@ -340,7 +340,7 @@ left_over {old} {new} {s} {c} {next} {v} at first holding fits why g =
           → ¬ Truth x.n x.tr t =
           λ t a to b u. why.falls x written r of m t a (beyond t b u) to (subst (λ (q : Place). Upto q t) g.cut_is u) in
           let there : IsStaying x s (written ++ g.said.more) (record { out = next.out; reach = c.reach; run = c.run })
-              (record { read = e; left = e; right = r.right }) (fresh_at new s.window.of) (fresh_at new s.right) = record {
+          (record { read = e; left = e; right = r.right }) (fresh_at new s.window.of) (fresh_at new s.right) = record {
             told = g.said.told x.n x.tr x.begin written m.told found lost;
             knows = knows_later x.start (place c.out.at) (place next.out.at) (place c.run) (place c.reach) e r.right x.stop_left x.stop_right later
                 (knows_left_read x.start (place c.out.at) (place c.run) (place c.reach) r.read r.right e x.stop_left x.stop_right m.knows holds

@@ -1,15 +1,15 @@
 -- Laws of runs and of what stands on edges.
-use Rattle.std.specs.Prelude.{◌≡◌, ◌≢◌, ℕ, ◌<◌, ◌≤◌, ◌-◌, None, Bool, true, false, List, [], ◌∷◌, ◌++◌, length, drop, Some, ℤ, pos, ◌+ℤ◌, ◌-ℤ◌, ◌≤ℤ◌, if◌then◌else◌}
+use Rattle.std.specs.Prelude.{◌≡◌, ◌≢◌, ℕ, ◌<◌, ◌≤◌, ◌-◌, None, Bool, true, false, List, [], ◌∷◌, ◌++◌, length, drop, slice_get, Some, ℤ, pos, ◌+ℤ◌, ◌-ℤ◌, ◌≤ℤ◌, if◌then◌else◌}
 use Rattle.rational.specs.Time.{Rational, ◌≤ʳ◌, left_open, less, whole}
 use Rattle.frac128.specs.Value.{value}
 use Rattle.frac128.specs.Spans.{interval}
 use Rattle.stl_syntax.specs.Trace.{Header, Row, Trace, IsTrace, Continues, first_time, last_time}
 use Rattle.stl_syntax.specs.Formula.{Subformula, subformula, horizon, tree_of, HasChildrenBelow}
 use Rattle.stl_syntax.specs.PostOrder.{IsPostOrder}
-use Rattle.stl_syntax.specs.WellFormed.{AreWellFormed}
+use Rattle.stl_syntax.specs.WellFormed.{AreWellFormed, HasOneRoot}
 use Rattle.stl_syntax.specs.Verdicts.{IsTold, AreAlike}
 use Rattle.online_nodes.specs.Network.{Event, step, take, close, Front, State, last_row, open_number, state, shown, IsRun, EmittedAt, Emitted, IsReady}
-use Rattle.online_nodes.specs.Needed.{AreMeeting, IsTaken, IsEdge, IsRootEdge}
+use Rattle.online_nodes.specs.Needed.{AreMeeting, IsTaken, IsEdge, IsReader, IsRootEdge}
 use Rattle.online_nodes.specs.Driven.{IsDriven}
 use Rattle.online_nodes.specs.StreamedWide.{front_at}
 use Rattle.stl_syntax.specs.declared.items.Verdict.{Verdict}
@@ -154,3 +154,11 @@ NumbersSettle =
     (nodes : List Node) (header : Header) → IsPostOrder nodes → (events : List Event) → IsRun nodes header events
     → ((i : ℕ) → i < length nodes → ¬ IsReady nodes (state nodes events) i) → (last : ℤ) → last_row (state nodes events) ≡ Some last
     → (i : ℕ) → i < length nodes → (state nodes events).fronts i ≡ Some (front_at (state nodes events).closed last (subformula nodes i))
+
+-- each node of a formula but the root is the input of just one other node, and the root of none
+abbrev pub EachHasOneReader : Type 0
+EachHasOneReader =
+    (nodes : List Node) → IsPostOrder nodes → HasOneRoot nodes → (j : ℕ) → j < length nodes
+    → (j ≢ length nodes - 1 → (r : ℕ) × (n : Node) × (left : Bool) × (slice_get nodes r ≡ Some n) × IsReader n left j)
+    × ((r s : ℕ) (n m : Node) (left side : Bool) → slice_get nodes r ≡ Some n → slice_get nodes s ≡ Some m → IsReader n left j → IsReader m side j
+    → (r ≡ s) × (j ≢ length nodes - 1))

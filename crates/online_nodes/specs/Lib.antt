@@ -16,3 +16,7 @@ pub mod Negations
 pub mod Looking
 pub mod Untils
 pub mod Sinces
+pub mod Operators
+pub mod Kinds
+pub mod Answering
+pub mod Belonging

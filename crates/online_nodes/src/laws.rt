@@ -1,6 +1,6 @@
 //! Laws of places, of runs and of what stands on edges. Each is the contract of a call that does nothing, so that the gate
 //! proves it.
-ghost use Rattle.online_nodes.specs.Laws.{EdgesGrow, EmittedIsWhole, EmittedStays, FrontsAreTimes, HasTimesBetween, MeetingIsWhatIsLeft, MeetingLaterIsWhatIsLeft, NumbersNeverFall, NumbersSettle, NumbersStayWithinHorizons, OpenNumbersSettle, OthersGiveNothing, RootEdgesGrow, TakenWereGivenOut};
+ghost use Rattle.online_nodes.specs.Laws.{EachHasOneReader, EdgesGrow, EmittedIsWhole, EmittedStays, FrontsAreTimes, HasTimesBetween, MeetingIsWhatIsLeft, MeetingLaterIsWhatIsLeft, NumbersNeverFall, NumbersSettle, NumbersStayWithinHorizons, OpenNumbersSettle, OthersGiveNothing, RootEdgesGrow, TakenWereGivenOut};
 ghost use Rattle.online_nodes.specs.Looking.{ConnectivesJoin, SinceRemembersWhatItKnows, UntilAndSinceLook, UntilRemembersWhatItKnows, WindowsLook};
 
 /// Between two places there is a time.
@@ -37,6 +37,11 @@ pub fn emitted_stays()
 /// A step of one node, a take and the end add nothing to what another node gave out.
 pub fn others_give_nothing()
     ensures { OthersGiveNothing }
+{}
+
+/// Each node of a formula but the root is the input of just one other node, and the root of none.
+pub fn each_has_one_reader()
+    ensures { EachHasOneReader }
 {}
 
 /// What an edge must hold of a node's verdicts is what is left when those that end too early are dropped from the front.

@@ -1,13 +1,16 @@
-//! Streaming operators: places between times, the edges of a network, the writer of a node's verdicts, the bodies of constants,
-//! connectives, bounded windows and until, and the laws on which operators rest. In work: windows with no bound, since, and the
-//! operators themselves come on top.
+//! Streaming operators: places between times, the edges of a network, the writer of a node's verdicts, the bodies of all nodes with
+//! what they let go, the laws on which operators rest, and of an operator its front, whether it is ready and the room that a step
+//! needs. In work: the step itself.
 #![tactic(auto)]
 
+mod answering;
 mod cut;
 mod edges;
 mod join;
+mod kind;
 mod laws;
 mod negation;
+mod operator;
 mod since;
 mod until;
 mod window;
@@ -16,12 +19,13 @@ mod writer;
 pub use cut::Cut;
 pub use edges::Edges;
 pub use laws::{
-    connectives_join, edges_grow, emitted_is_whole, emitted_stays, fronts_are_times,
-    has_times_between, meeting_is_what_is_left, meeting_later_is_what_is_left, numbers_never_fall,
-    numbers_settle, numbers_stay_within_horizons, open_numbers_settle, others_give_nothing,
-    root_edges_grow, since_remembers_what_it_knows, taken_were_given_out, until_and_since_look,
-    until_remembers_what_it_knows, windows_look,
+    connectives_join, each_has_one_reader, edges_grow, emitted_is_whole, emitted_stays,
+    fronts_are_times, has_times_between, meeting_is_what_is_left, meeting_later_is_what_is_left,
+    numbers_never_fall, numbers_settle, numbers_stay_within_horizons, open_numbers_settle,
+    others_give_nothing, root_edges_grow, since_remembers_what_it_knows, taken_were_given_out,
+    until_and_since_look, until_remembers_what_it_knows, windows_look,
 };
+pub use operator::Operator;
 pub use writer::Out;
 
 #[cfg(test)]

@@ -47,7 +47,9 @@ fn rest(edges: &mut Edges, course: Course) -> Result<Course, Memory>
     ensures rested { IfOk result (λ end. HasRested edges.old edges.new course end) }
     ensures memory { OnErr result (edges.old.spare < 2) }
 {
-    let out = course.out.turn(edges, true, course.reach, course.out.end())?;
+    let out = course
+        .out
+        .turn(edges, true, course.reach, course.out.end())?;
     Ok(Course {
         out,
         reach: course.reach,
@@ -129,7 +131,13 @@ fn end_run(edges: &mut Edges, since: Since, course: Course, v: Verdict) -> Resul
 
 /// What was found counts from now on. Of both inputs' next verdicts the one that ends first is read, the right one's time moved by
 /// the window; where both reach beyond the stretch it is told to its end.
-fn pass_first(edges: &mut Edges, since: Since, course: Course, v: Verdict, w: Verdict) -> Result<Turn, Memory>
+fn pass_first(
+    edges: &mut Edges,
+    since: Since,
+    course: Course,
+    v: Verdict,
+    w: Verdict,
+) -> Result<Turn, Memory>
     requires left { since.window.of < length edges.old.edges }
     requires right { since.right < length edges.old.edges }
     requires own { course.out.edge < length edges.old.edges }
@@ -156,7 +164,13 @@ fn pass_first(edges: &mut Edges, since: Since, course: Course, v: Verdict, w: Ve
 }
 
 /// Both inputs hold next: what the right one tells within the left one's run counts, from the time moved by the window on.
-fn count(edges: &mut Edges, since: Since, course: Course, v: Verdict, w: Verdict) -> Result<Turn, Memory>
+fn count(
+    edges: &mut Edges,
+    since: Since,
+    course: Course,
+    v: Verdict,
+    w: Verdict,
+) -> Result<Turn, Memory>
     requires left { since.window.of < length edges.old.edges }
     requires right { since.right < length edges.old.edges }
     requires own { course.out.edge < length edges.old.edges }
@@ -191,8 +205,12 @@ fn count(edges: &mut Edges, since: Since, course: Course, v: Verdict, w: Verdict
         let done = rest(edges, course)?;
         return Ok(Turn::Done(done));
     }
-    let out = course.out.turn(edges, true, course.reach.earlier(v_end), begin)?;
-    let reach = course.reach.later(w_end.shift_end(since.window.end_by, since.window.end_in));
+    let out = course
+        .out
+        .turn(edges, true, course.reach.earlier(v_end), begin)?;
+    let reach = course
+        .reach
+        .later(w_end.shift_end(since.window.end_by, since.window.end_in));
     let run = course.run;
     let turn = pass_first(edges, since, Course { out, reach, run }, v, w)?;
     Ok(turn)

@@ -1,0 +1,281 @@
+//! What an operator does, by its node.
+
+ghost use Rattle.std.specs.Prelude.{◌≡◌, ◌≤ℤ◌, ◌+◌, ◌*◌, ◌<◌, ◌^◌, ◌-◌, min, length, negsuc, pos, IfSome, Some};
+ghost use Rattle.online_nodes.specs.Network.{least, moved_by, same_front};
+ghost use Rattle.online_nodes.specs.Held.{Held, held_at, number_at};
+ghost use Rattle.online_nodes.specs.Operators.{ahead, behind, kind_of};
+ghost use Rattle.online_nodes.specs.Kinds.{allowed_by, all_stand_at, held_in, open_by, inputs_of, AreInputs, AreNear};
+
+use crate::edges::Edges;
+use crate::join::{Inputs, Join};
+use crate::since::Since;
+use crate::until::Until;
+use crate::window::Window;
+use stl_syntax::Node;
+
+/// What an operator does with its inputs.
+#[derive(Clone, Copy, Debug)]
+pub(crate) enum Kind {
+    Const(bool),
+    Not(u32),
+    Join(Join, Inputs),
+    /// A window of the future.
+    Ahead(Window),
+    /// A window of the past.
+    Behind(Window),
+    Until(Until),
+    Since(Since),
+}
+
+/// Later than every row: so long counts what a window of the past with no upper bound found.
+pub(crate) const FOR_EVER: i64 = 8_589_934_592;
+
+/// The window of a node that looks ahead for a time at which its input holds or fails, as `seeks` says.
+fn ahead_of(of: u32, low: u32, high: u32, low_in: bool, high_in: bool, seeks: bool) -> Window
+    ensures { result ≡ ahead of low high low_in high_in seeks }
+{
+    Window {
+        of,
+        begin_by: -i64::from(high),
+        begin_in: high_in,
+        end_by: -i64::from(low),
+        end_in: low_in,
+        seeks,
+    }
+}
+
+/// The window of a node that looks behind.
+fn behind_of(
+    of: u32,
+    low: u32,
+    high: Option<u32>,
+    low_in: bool,
+    high_in: bool,
+    seeks: bool,
+) -> Window
+    ensures { result ≡ behind of low high low_in high_in seeks }
+{
+    let end_by = match high {
+        Some(high) => i64::from(high),
+        None => FOR_EVER,
+    };
+    Window {
+        of,
+        begin_by: i64::from(low),
+        begin_in: low_in,
+        end_by,
+        end_in: high_in,
+        seeks,
+    }
+}
+
+/// What the operator of a node does. Atoms have none; theirs says false.
+pub(crate) fn kind_of_node(node: &Node) -> Kind
+    ensures { result ≡ kind_of node.now }
+{
+    match node {
+        Node::Const(holds) => Kind::Const(*holds),
+        Node::Atom(_) => Kind::Const(false),
+        Node::Not(of) => Kind::Not(*of),
+        Node::And(left, right) => Kind::Join(
+            Join::And,
+            Inputs {
+                left: *left,
+                right: *right,
+            },
+        ),
+        Node::Or(left, right) => Kind::Join(
+            Join::Or,
+            Inputs {
+                left: *left,
+                right: *right,
+            },
+        ),
+        Node::Implies(left, right) => {
+            Kind::Join(
+                Join::Implies,
+                Inputs {
+                    left: *left,
+                    right: *right,
+                },
+            )
+        }
+        Node::Until {
+            left,
+            right,
+            low,
+            high,
+        } => Kind::Until(Until {
+            window: ahead_of(*left, *low, *high, true, true, true),
+            right: *right,
+        }),
+        Node::Eventually {
+            of,
+            low,
+            high,
+            low_in,
+            high_in,
+        } => Kind::Ahead(ahead_of(*of, *low, *high, *low_in, *high_in, true)),
+        Node::Always {
+            of,
+            low,
+            high,
+            low_in,
+            high_in,
+        } => Kind::Ahead(ahead_of(*of, *low, *high, *low_in, *high_in, false)),
+        Node::Since {
+            left,
+            right,
+            low,
+            high,
+        } => Kind::Since(Since {
+            window: behind_of(*left, *low, *high, true, true, true),
+            right: *right,
+        }),
+        Node::Once {
+            of,
+            low,
+            high,
+            low_in,
+            high_in,
+        } => Kind::Behind(behind_of(*of, *low, *high, *low_in, *high_in, true)),
+        Node::Historically {
+            of,
+            low,
+            high,
+            low_in,
+            high_in,
+        } => Kind::Behind(behind_of(*of, *low, *high, *low_in, *high_in, false)),
+    }
+}
+
+/// The lesser of two numbers; nothing where one is nothing.
+pub(crate) fn least_of(f: Option<i64>, g: Option<i64>) -> Option<i64>
+    ensures { result ≡ least f g }
+{
+    let f = f?;
+    let g = g?;
+    if g < f { Some(g) } else { Some(f) }
+}
+
+/// The number moved by `by`.
+pub(crate) fn moved(f: Option<i64>, by: i64) -> Option<i64>
+    requires far { IfSome f (λ n. (negsuc 1099511627775 ≤ℤ n) × (n ≤ℤ pos 1099511627776)) }
+    requires low { negsuc 1099511627775 ≤ℤ by }
+    requires high { by ≤ℤ pos 1099511627776 }
+    ensures { result ≡ moved_by by f }
+{
+    let f = f?;
+    Some(f + by)
+}
+
+/// Whether both are nothing, or one number.
+pub(crate) fn is_same(f: Option<i64>, g: Option<i64>) -> bool
+    ensures { result ≡ same_front f g }
+{
+    match (f, g) {
+        (Some(f), Some(g)) => f == g,
+        (None, None) => true,
+        _ => false,
+    }
+}
+
+/// Whether a number is the last row's time.
+fn stands_at(f: Option<i64>, now: u32) -> bool
+    ensures { result ≡ same_front f (Some (pos now)) }
+{
+    is_same(f, Some(i64::from(now)))
+}
+
+impl Kind {
+    /// Whether all inputs stand at the last row's time.
+    fn all_stand_at(self, edges: &Edges, now: u32) -> bool
+        requires { AreInputs self (length edges.now.edges) }
+        ensures { result ≡ all_stand_at edges.now now (inputs_of self) }
+    {
+        match self {
+            Kind::Const(_) => true,
+            Kind::Not(of) => stands_at(edges.number(of), now),
+            Kind::Ahead(window) => stands_at(edges.number(window.of), now),
+            Kind::Behind(window) => stands_at(edges.number(window.of), now),
+            Kind::Join(_, inputs) => {
+                stands_at(edges.number(inputs.left), now)
+                    && stands_at(edges.number(inputs.right), now)
+            }
+            Kind::Until(until) => {
+                stands_at(edges.number(until.window.of), now)
+                    && stands_at(edges.number(until.right), now)
+            }
+            Kind::Since(since) => {
+                stands_at(edges.number(since.window.of), now)
+                    && stands_at(edges.number(since.right), now)
+            }
+        }
+    }
+
+    /// The number that the node may have before the end is known.
+    fn open_number(self, edges: &Edges, now: u32) -> Option<i64>
+        requires inputs { AreInputs self (length edges.now.edges) }
+        requires near { AreNear self edges.now }
+        ensures { result ≡ open_by self edges.now now }
+    {
+        let last = Some(i64::from(now));
+        match self {
+            Kind::Const(_) => last,
+            Kind::Not(of) => edges.number(of),
+            Kind::Join(_, inputs) => {
+                least_of(edges.number(inputs.left), edges.number(inputs.right))
+            }
+            Kind::Ahead(window) => moved(edges.number(window.of), window.begin_by),
+            Kind::Behind(window) => {
+                least_of(moved(edges.number(window.of), window.begin_by), last)
+            }
+            Kind::Until(until) => {
+                let both = least_of(edges.number(until.window.of), edges.number(until.right));
+                moved(both, until.window.begin_by)
+            }
+            Kind::Since(since) => {
+                let right = moved(edges.number(since.right), since.window.begin_by);
+                least_of(edges.number(since.window.of), right)
+            }
+        }
+    }
+
+    /// The number that the node may have.
+    pub(crate) fn allowed(self, edges: &Edges, now: u32, ended: bool) -> Option<i64>
+        requires inputs { AreInputs self (length edges.now.edges) }
+        requires near { AreNear self edges.now }
+        ensures { result ≡ allowed_by self edges.now now ended }
+    {
+        if ended && self.all_stand_at(edges, now) {
+            return Some(i64::from(now));
+        }
+        self.open_number(edges, now)
+    }
+
+    /// Room for all that a step can put: twice what the inputs hold, plus 2, as far as it can be counted.
+    pub(crate) fn room(self, edges: &Edges) -> usize
+        requires { AreInputs self (length edges.now.edges) }
+        ensures { result ≡ min (2 * held_in edges.now (inputs_of self) + 2) (2 ^ 64 - 1) }
+    {
+        let held = match self {
+            Kind::Const(_) => 0,
+            Kind::Not(of) => edges.held(of),
+            Kind::Ahead(window) => edges.held(window.of),
+            Kind::Behind(window) => edges.held(window.of),
+            Kind::Join(_, inputs) => both_held(edges, inputs.left, inputs.right),
+            Kind::Until(until) => both_held(edges, until.window.of, until.right),
+            Kind::Since(since) => both_held(edges, since.window.of, since.right),
+        };
+        held.saturating_mul(2).saturating_add(2)
+    }
+}
+
+/// How many verdicts two edges hold, as far as they can be counted.
+fn both_held(edges: &Edges, left: u32, right: u32) -> usize
+    requires left { left < length edges.now.edges }
+    requires right { right < length edges.now.edges }
+    ensures { result ≡ min (length (held_at edges.now left) + length (held_at edges.now right)) (2 ^ 64 - 1) }
+{
+    edges.held(left).saturating_add(edges.held(right))
+}
