@@ -1,4 +1,3 @@
-pub mod Ends
 pub mod Growing
 pub mod KeptCells
 pub mod Marking

@@ -10,7 +10,7 @@ ghost use Rattle.implicants.specs.Keeping.{remaining, TellsFailure};
 ghost use Rattle.implicants.specs.Certainty.{stays, known_at, is_false, EndsAt, IsAtomCertainty, AreAtomCertainties};
 
 use crate::cells::Cells;
-use crate::trace_ends::{first, last, tick};
+use crate::ticks::tick;
 use frac128::{Memory, Steps};
 use offline_eval::laws::told_have_values;
 use offline_eval::{Atoms, EvalFault, eval};
@@ -18,6 +18,7 @@ use pl_signal::{Builder, Signal};
 use std::alloc::Global;
 use std::sync::ledger::Ledger;
 use stl_syntax::{Formula, Item, Node};
+use trace_eval::{first, last};
 use trace_reader::Trace;
 use value_laws::{Kleene, Shape};
 

@@ -8,13 +8,14 @@ ghost use Rattle.implicants.specs.Signals.{AreTruths};
 ghost use Rattle.implicants.specs.Explaining.{AreFewCells, IsCellFault};
 
 use crate::ExplainFault;
-use crate::trace_ends::{first, last, tick};
+use crate::ticks::tick;
 use frac128::{Frac, Memory};
 use offline_eval::Evaluated;
 use offline_eval::laws::told_have_values;
 use pl_signal::Signal;
 use std::alloc::Global;
 use stl_syntax::{Formula, Node};
+use trace_eval::{first, last};
 use trace_reader::Trace;
 use value_laws::{Shape, Truth};
 

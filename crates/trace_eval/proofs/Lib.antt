@@ -1,0 +1,2 @@
+pub mod RowTimes
+pub mod AtomsOf
