@@ -18,6 +18,8 @@ mod operator_tests;
 #[cfg(test)]
 mod reason_tests;
 #[cfg(test)]
+mod report_tests;
+#[cfg(test)]
 mod run_tests;
 #[cfg(test)]
 mod shape_tests;
