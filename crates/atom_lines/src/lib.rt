@@ -18,6 +18,3 @@ pub use points::{margin_piece, margin_point, truth_piece, truth_point};
 pub use signal::{AtomShape, atom_signal};
 pub use truth::TruthPiece;
 pub use tying::{BindFault, bind};
-
-#[cfg(test)]
-mod tests;

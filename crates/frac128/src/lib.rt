@@ -14,6 +14,3 @@ pub use ramp::Ramp;
 pub use ratio::{Ratio, cmp_ratio};
 pub use span::Span;
 pub use steps::Steps;
-
-#[cfg(test)]
-mod tests;

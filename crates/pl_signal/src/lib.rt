@@ -16,6 +16,3 @@ pub use joining::{Side, chosen, crossing, favour};
 pub use knot::Knot;
 pub use reading::{Reading, earlier};
 pub use signal::Signal;
-
-#[cfg(test)]
-mod tests;

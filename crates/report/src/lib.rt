@@ -24,6 +24,3 @@ pub use margin::put_margins;
 pub use signal::put_verdicts;
 pub use table::put_table;
 pub use verdict::{put_start, put_verdict};
-
-#[cfg(test)]
-mod tests;

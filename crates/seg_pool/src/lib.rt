@@ -10,8 +10,6 @@ ghost use Rattle.slab.specs.Slab.{ContainsKey};
 ghost use Rattle.seg_pool.specs.Chain.{extended, pointing};
 ghost use Rattle.seg_pool.specs.Lists.{list_at, live, with_list};
 
-#[cfg(test)]
-mod tests;
 mod walk;
 
 use frac128::Memory;

@@ -22,6 +22,3 @@ mod token;
 
 pub use fault::{FormulaFault, What};
 pub use text::parse;
-
-#[cfg(test)]
-mod tests;

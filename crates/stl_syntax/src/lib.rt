@@ -26,6 +26,3 @@ pub use node::Node;
 pub use rel::Rel;
 pub use scale::{Scale, UnitFault};
 pub use text::Text;
-
-#[cfg(test)]
-mod tests;

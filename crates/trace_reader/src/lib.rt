@@ -18,8 +18,6 @@ mod row;
 mod row_line;
 mod rows;
 mod table;
-#[cfg(test)]
-mod tests;
 mod trace;
 mod two_rows;
 

@@ -8,6 +8,3 @@ mod until;
 
 pub use since::since_from_start;
 pub use until::until_to_end;
-
-#[cfg(test)]
-mod tests;

@@ -13,6 +13,3 @@ pub use kleene::Kleene;
 pub use margin::Margin;
 pub use shape::Shape;
 pub use truth::Truth;
-
-#[cfg(test)]
-mod tests;

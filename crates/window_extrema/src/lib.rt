@@ -7,6 +7,3 @@ mod queue;
 mod range;
 
 pub use range::RangeMax;
-
-#[cfg(test)]
-mod tests;

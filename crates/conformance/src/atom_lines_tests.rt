@@ -1,0 +1,284 @@
+//! Atoms over traces that are read from text, with answers by hand.
+ghost use Rattle.std.specs.Prelude.{◌≡◌, ◌≤◌, ◌^◌, length, IsTrue, MatchOption};
+ghost use Rattle.stl_syntax.specs.Names.{is_name};
+ghost use Rattle.stl_syntax.specs.Trace.{last_time};
+
+use atom_lines::*;
+use frac128::{Frac, Ramp};
+use pl_signal::Signal;
+use std::alloc::{AllocError, Global};
+use std::process::Abort;
+use std::test::Fail;
+use stl_syntax::{Formula, FormulaBuilder, Node, Rel, Scale, Term, make_atom};
+use trace_reader::{Event, Limits, Row, Rows, Trace};
+use value_laws::{Margin, Shape, Truth};
+
+/// Ticks of whole units.
+const WHOLE: Scale = Scale { time: 0, value: 0 };
+
+/// A column by its number.
+fn name(which: u8) -> &'static str
+    ensures { IsTrue (is_name result.now) }
+{
+    match which {
+        0 => "x",
+        1 => "y",
+        2 => "z",
+        _ => "w",
+    }
+}
+
+/// The formula of one comparison; a term is a coefficient and the number of its column.
+fn comparison(
+    rt: &impl Abort,
+    alloc: Global,
+    terms: &[(i32, u8)],
+    rel: Rel,
+    limit: i32,
+) -> Result<Formula, Fail> {
+    let mut list = Vec::new(alloc);
+    for (coef, which) in terms {
+        assert!(rt; coef.unsigned_abs() <= 16);
+        list.push(Term::make(alloc, *coef, name(*which))?)?;
+    }
+    assert!(rt; !list.is_empty() && list.len() <= 4 && limit.unsigned_abs() <= 1_073_741_824);
+    let mut builder = FormulaBuilder::new(alloc);
+    builder.add(Node::Atom(make_atom(list, rel, limit)))?;
+    Ok(builder.finish(WHOLE))
+}
+
+/// The time of the last row, where there is one.
+fn last_of(trace: &Trace) -> Option<u32>
+    ensures { MatchOption result (length trace.now.rows ≡ 0) (λ t. t ≡ last_time 0 trace.now.rows) }
+{
+    if trace.rows() == 0 {
+        return None;
+    }
+    Some(trace.time(trace.rows() - 1))
+}
+
+/// One more row, later than those before.
+fn keep(rt: &impl Abort, trace: &mut Trace, row: &Row) -> Result<(), Fail> {
+    assert!(rt; row.columns() == trace.header().columns());
+    if let Some(last) = last_of(trace) {
+        assert!(rt; last < row.time());
+        trace.push(row)?;
+        return Ok(());
+    }
+    trace.push(row)?;
+    Ok(())
+}
+
+/// The trace of a text.
+fn read(rt: &impl Abort, alloc: Global, text: &str) -> Result<Trace, Fail> {
+    let limits = Limits {
+        rows: 100,
+        lines: 100,
+    };
+    let mut reader = Rows::new(alloc, limits, WHOLE)?;
+    let mut trace: Option<Trace> = None;
+    let mut rest = text.as_bytes();
+    for _ in 0..100 {
+        if rest.is_empty() {
+            break;
+        }
+        let Ok(took) = reader.push(rest) else {
+            panic!(rt; "refused: {text:?}");
+        };
+        match took.event {
+            Event::Nothing => {}
+            Event::Header => trace = Some(Trace::new(alloc, reader.header().copy()?)),
+            Event::Row => match &mut trace {
+                Some(trace) => keep(rt, trace, reader.row())?,
+                None => panic!(rt; "no header: {text:?}"),
+            },
+        }
+        rest = &rest[took.bytes..];
+    }
+    match trace {
+        Some(trace) => Ok(trace),
+        None => panic!(rt; "no header: {text:?}"),
+    }
+}
+
+/// The signal of the one atom of a formula.
+fn signal<P: AtomShape>(
+    rt: &impl Abort,
+    alloc: Global,
+    formula: &Formula,
+    trace: &Trace,
+) -> Result<Signal<P>, Fail> {
+    let Ok(bound) = bind(alloc, formula, trace.header()) else {
+        panic!(rt; "not bound");
+    };
+    assert!(rt; formula.len() == 1 && trace.rows() > 0);
+    let Node::Atom(_) = formula.node(0) else {
+        panic!(rt; "no atom");
+    };
+    Ok(atom_signal::<P>(alloc, &bound, 0, trace)?)
+}
+
+/// Adds a number.
+fn put(said: &mut String, number: &Frac) -> Result<(), AllocError> {
+    let whole = number.whole();
+    let rest = number.rest();
+    let den = number.den();
+    if rest == 0 {
+        return write!(said, "{whole}");
+    }
+    write!(said, "{whole}+{rest}/{den}")
+}
+
+/// The knots: a time, the truth there, and the truth up to the next knot.
+fn told(alloc: Global, signal: &Signal<Truth>) -> Result<String, AllocError> {
+    let mut said = String::new(alloc);
+    for i in 0..signal.len() {
+        let knot = signal.knot(i);
+        put(&mut said, &knot.time)?;
+        said.push_str(if knot.point.holds() { ":T" } else { ":F" })?;
+        said.push_str(if knot.after.holds() { "T " } else { "F " })?;
+    }
+    Ok(said)
+}
+
+const RISE: &str = "time,x\n0,0\n10,10\n";
+
+const TRIANGLE: &str = "time,x\n0,0\n5,5\n10,0\n";
+
+const FLAT: &str = "time,x\n0,3\n2,3\n7,3\n";
+
+const STEPS: &str = "time,y:step\n0,0\n4,1\n6,0\n";
+
+const MIXED: &str = "time,x,y:step\n0,0,0\n4,8,1\n6,8,0\n";
+
+const LARGE: &str =
+    "time,x,y,z,w:step\n0,16777216,16777216,16777216,16777216\n4294967295,-16777216,-16777216,-16777216,16777216\n";
+
+#[test]
+fn truth_at_every_time(rt: HostRuntime) -> Result<(), Fail> {
+    let table: [(&str, &[(i32, u8)], Rel, i32, &str); 26] = [
+        (RISE, &[(1, 0)], Rel::AtLeast, 5, "0:FF 5:TT 10:TT "),
+        (RISE, &[(1, 0)], Rel::Above, 5, "0:FF 5:FT 10:TT "),
+        (RISE, &[(1, 0)], Rel::AtMost, 5, "0:TT 5:TF 10:FF "),
+        (RISE, &[(1, 0)], Rel::Below, 5, "0:TT 5:FF 10:FF "),
+        (RISE, &[(-1, 0)], Rel::AtLeast, -5, "0:TT 5:TF 10:FF "),
+        (RISE, &[(7, 0)], Rel::AtLeast, 30, "0:FF 4+2/7:TT 10:TT "),
+        (RISE, &[(1, 0)], Rel::AtLeast, 0, "0:TT 10:TT "),
+        (RISE, &[(1, 0)], Rel::Above, 0, "0:FT 10:TT "),
+        (RISE, &[(1, 0)], Rel::Below, 10, "0:TT 10:FF "),
+        (TRIANGLE, &[(1, 0)], Rel::AtLeast, 5, "0:FF 5:TF 10:FF "),
+        (TRIANGLE, &[(1, 0)], Rel::Above, 5, "0:FF 10:FF "),
+        (TRIANGLE, &[(1, 0)], Rel::Below, 5, "0:TT 5:FT 10:TT "),
+        (TRIANGLE, &[(0, 0)], Rel::AtLeast, 0, "0:TT 10:TT "),
+        (
+            TRIANGLE,
+            &[(1, 0), (1, 0), (-2, 0)],
+            Rel::Above,
+            -1,
+            "0:TT 10:TT ",
+        ),
+        (
+            TRIANGLE,
+            &[(2, 0), (-1, 0)],
+            Rel::AtLeast,
+            4,
+            "0:FF 4:TT 6:TF 10:FF ",
+        ),
+        (FLAT, &[(1, 0)], Rel::AtLeast, 3, "0:TT 7:TT "),
+        (FLAT, &[(1, 0)], Rel::Above, 3, "0:FF 7:FF "),
+        (FLAT, &[(1, 0)], Rel::AtMost, 3, "0:TT 7:TT "),
+        (FLAT, &[(1, 0)], Rel::Below, 3, "0:FF 7:FF "),
+        (STEPS, &[(1, 1)], Rel::AtLeast, 1, "0:FF 4:TT 6:FF "),
+        (
+            MIXED,
+            &[(2, 0), (-3, 1)],
+            Rel::AtLeast,
+            1,
+            "0:FF 0+1/4:TT 6:TT ",
+        ),
+        (
+            MIXED,
+            &[(2, 0), (-3, 1)],
+            Rel::Above,
+            13,
+            "0:FF 3+1/4:FT 4:FF 6:TT ",
+        ),
+        ("time,x\n100,7\n", &[(1, 0)], Rel::AtLeast, 7, "100:TT "),
+        (
+            LARGE,
+            &[(16, 0), (16, 1), (16, 2), (-16, 3)],
+            Rel::AtLeast,
+            -1073741824,
+            "0:TT 4294967295:TT ",
+        ),
+        (
+            LARGE,
+            &[(16, 0), (16, 1), (16, 2), (-16, 3)],
+            Rel::Above,
+            -1073741824,
+            "0:TT 4294967295:FF ",
+        ),
+        (
+            "time,x\n0,0\n4294967295,16777216\n",
+            &[(1, 0)],
+            Rel::AtLeast,
+            1,
+            "0:FF 255+16777215/16777216:TT 4294967295:TT ",
+        ),
+    ];
+    for (text, terms, rel, limit, want) in table {
+        let formula = comparison(&rt, rt.alloc(), terms, rel, limit)?;
+        let trace = read(&rt, rt.alloc(), text)?;
+        let signal = signal::<Truth>(&rt, rt.alloc(), &formula, &trace)?;
+        let said = told(rt.alloc(), &signal)?;
+        assert!(&rt; said.as_str() == want, "{said}");
+    }
+    Ok(())
+}
+
+#[test]
+fn margins_are_ramps_and_constants(rt: HostRuntime) -> Result<(), Fail> {
+    let trace = read(
+        &rt,
+        rt.alloc(),
+        "time,x,y:step\n0,0,4\n5,5,4\n10,10,4\n12,10,1\n",
+    )?;
+    let below = comparison(&rt, rt.alloc(), &[(2, 0), (-1, 1)], Rel::Below, 1)?;
+    let signal = signal::<Margin>(&rt, rt.alloc(), &below, &trace)?;
+    assert!(&rt; signal.len() == 3);
+    let falls = Margin::Ramp(Ramp::make(0, 5, -2, 1));
+    assert!(&rt; Margin::same(&signal.knot(0).point, &Margin::Fixed(Frac::of(5))));
+    assert!(&rt; Margin::same(&signal.knot(0).after, &falls));
+    assert!(&rt; signal.knot(1).time.whole() == 10);
+    assert!(&rt; Margin::same(&signal.knot(1).after, &Margin::Fixed(Frac::of(-15))));
+    assert!(&rt; Margin::same(&signal.knot(2).point, &Margin::Fixed(Frac::of(-18))));
+    Ok(())
+}
+
+#[test]
+fn an_unknown_column_is_named(rt: HostRuntime) -> Result<(), Fail> {
+    let table: [(&str, &[(i32, u8)], Option<u32>); 4] = [
+        ("time,x,y\n0,1,1\n", &[(1, 0), (1, 1)], None),
+        ("time,x,y\n0,1,1\n", &[(1, 0), (1, 2), (1, 3)], Some(1)),
+        ("time,x,y\n0,1,1\n", &[(1, 3)], Some(0)),
+        (
+            "time,y,yy,x\n0,1,1,1\n",
+            &[(1, 0), (1, 1), (1, 0), (1, 2)],
+            Some(3),
+        ),
+    ];
+    for (text, terms, want) in table {
+        let formula = comparison(&rt, rt.alloc(), terms, Rel::Above, 0)?;
+        let trace = read(&rt, rt.alloc(), text)?;
+        let got = match bind(rt.alloc(), &formula, trace.header()) {
+            Ok(_) => None,
+            Err(BindFault::UnknownColumn { atom, term }) => {
+                assert!(&rt; atom == 0);
+                Some(term)
+            }
+            Err(BindFault::Memory) => panic!(&rt; "no memory"),
+        };
+        assert!(&rt; got == want, "{text:?}");
+    }
+    Ok(())
+}

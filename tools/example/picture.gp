@@ -1,0 +1,25 @@
+# A signal, where a requirement on it holds, and by how much. COLUMN is a field of the header, as out:3.
+# gnuplot -c picture.gp RECORDING COLUMN VERDICTS MARGIN PICTURE
+set terminal pngcairo size 800,520 font ",11"
+set output ARG5
+set multiplot layout 3,1 margins 0.10,0.97,0.11,0.97 spacing 0.02
+set grid xtics lc rgb "#dddddd"
+set xrange [*:*] noextend
+unset key
+set format x ""
+set ylabel ARG2
+set datafile separator ","
+plot ARG1 using 1:ARG2 with lines lw 2 lc rgb "#1f5fa8"
+set datafile separator whitespace
+set ylabel "holds"
+set yrange [0:1]
+unset ytics
+plot ARG3 using 1:(0):1:2:(0):(1):($3 == 1 ? 0x8fc1e3 : 0xe08a2e) with boxxyerror fs solid lc rgb variable
+set yrange [*:*]
+set ytics
+set format x "%g"
+set xlabel "time"
+set ylabel "margin"
+set xzeroaxis lc rgb "#888888"
+plot ARG4 using 1:2 with lines lw 2 lc rgb "#1f5fa8"
+unset multiplot
