@@ -17,6 +17,7 @@ pub mod Progress
 pub mod LastFaults
 pub mod FaultsStay
 pub mod RunEnds
+pub mod Leaving
 pub mod CheckPromises
 pub mod StreamSteps
 pub mod Due
@@ -29,6 +30,7 @@ pub mod MarginTruth
 pub mod RowsBefore
 pub mod MarginTexts
 pub mod OwedLaws
+pub mod SureLines
 pub mod OneRequest
 pub mod EndsOnce
 pub mod Passes

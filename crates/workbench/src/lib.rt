@@ -8,8 +8,10 @@ mod explain;
 mod fault;
 mod follow;
 mod json;
+mod kept;
 pub mod laws;
 mod line;
+mod line_laws;
 mod live;
 mod output;
 mod owing_laws;
@@ -23,4 +25,5 @@ mod texts;
 mod top;
 
 pub use entry::program;
+pub use kept::Kept;
 pub use top::run;
