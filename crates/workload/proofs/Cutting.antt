@@ -1,9 +1,9 @@
 -- Verdicts of a whole trace, cut at a front: those up to it tell what the rows so far answer.
-use Rattle.std.proofs.Common.{◌≡◌, ◌⊎◌, inl, inr, ℕ, suc, ◌+◌, ◌<◌, Bool, true, false, ◌&&◌, List, [], ◌∷◌, length, refl, sym, ap, ◌∙◌, subst, arith, IsTrue}
+use Rattle.std.proofs.Common.{◌≡◌, inl, inr, ℕ, suc, Bool, true, false, ◌&&◌, List, [], ◌∷◌, length, refl, sym, ap, ◌∙◌, subst, IsTrue}
 use Rattle.std.specs.Prelude.{MatchBool, ◌≢◌, ◌↔◌}
 use Rattle.std.proofs.lemmas.Bool.{false≢true}
-use Rattle.rational.specs.Time.{Rational, ◌≤ʳ◌, ◌<ʳ◌, ◌≈◌, Interval, IsIn, IsNotEmpty, Precedes, BeginAlike, EndAlike, Touch, closed}
-use Rattle.rational.proofs.Order.{le_of_lt, le_of_same, ge_of_same, le_trans, lt_of_lt_of_le, lt_of_le_of_lt, lt_trans, lt_irrefl, same_refl, same_sym, same_trans}
+use Rattle.rational.specs.Time.{Rational, ◌≤ʳ◌, ◌<ʳ◌, ◌≈◌, Interval, IsIn, IsNotEmpty, Precedes, BeginAlike, Touch, closed}
+use Rattle.rational.proofs.Order.{le_of_lt, le_of_same, ge_of_same, le_trans, lt_of_le_of_lt, lt_irrefl, same_refl, same_trans}
 use Rattle.rational.proofs.TimeLemmas.{precedes_le, precedes_of_lt, room_of_precedes, precedes_of_not_empty}
 use Rattle.frac128.specs.Value.{value}
 use Rattle.frac128.specs.Spans.{interval, interval_between}
@@ -12,7 +12,7 @@ use Rattle.frac128.specs.declared.span.Span.{Span}
 use Rattle.stl_syntax.specs.Trace.{Trace, start, stop}
 use Rattle.stl_syntax.specs.Formula.{Subformula}
 use Rattle.stl_syntax.specs.Truth.{Truth}
-use Rattle.stl_syntax.specs.Verdicts.{IsTold, GoesOn, Describes}
+use Rattle.stl_syntax.specs.Verdicts.{IsTold, GoesOn}
 use Rattle.stl_syntax.specs.declared.items.Verdict.{Verdict}
 use Rattle.workload.specs.Passing.{EndsBefore, Passes, none, beyond, here, next}
 
@@ -32,7 +32,8 @@ truth_by true A B e h = e.0 h
 truth_by false A B e h = λ b. h (e.1 b)
 
 -- the end of a stretch is all that counts of it for what goes on
-pub goes_end : (p : Subformula) (tr : Trace) (a b : Interval) → a.to ≈ b.to → a.to_in ≡ b.to_in → (v : Verdict) (ws : List Verdict) → GoesOn p tr a v ws → GoesOn p tr b v ws
+pub goes_end : (p : Subformula) (tr : Trace) (a b : Interval) → a.to ≈ b.to → a.to_in ≡ b.to_in → (v : Verdict) (ws : List Verdict) → GoesOn p tr a v ws
+    → GoesOn p tr b v ws
 goes_end p tr a b to inside v [] h = record { time = same_trans h.time to; inside = h.inside ∙ inside }
 goes_end p tr a b to inside v (w ∷ ws) (touch, other, told, more) = (touch, other, told, goes_end p tr a b to inside w ws more)
 
@@ -61,7 +62,8 @@ module _ (p : Subformula) (tr : Trace) where
   next_left l = record { room = l.goes.2.not_empty; truth = l.goes.2.truth; goes = l.goes.3 }
 
   -- after one that ends at f, with it
-  left_after : {b : Frac} {b_in : Bool} {v w : Verdict} {ws : List Verdict} (f : Frac) → value v.on.to ≈ value f → v.on.to_in ≡ true → Left b b_in v (w ∷ ws) → Left f false w ws
+  left_after : {b : Frac} {b_in : Bool} {v w : Verdict} {ws : List Verdict} (f : Frac) → value v.on.to ≈ value f → v.on.to_in ≡ true
+      → Left b b_in v (w ∷ ws) → Left f false w ws
   left_after {b} {b_in} {v} {w} {ws} f same inside l =
       let touch = l.goes.0 in
       let told = l.goes.2 in
@@ -69,7 +71,11 @@ module _ (p : Subformula) (tr : Trace) where
       let out : w.on.from_in ≡ false = not_true w.on.from_in (λ e. touch.once (e ∙ sym inside)) in
       record {
         room = by_room out told.not_empty begins;
-        truth = λ t h. told.truth t (record { above = precedes_of_lt w.on.from_in (value w.on.from) t (lt_of_le_of_lt (le_of_same begins) h.above); below = h.below });
+        truth = λ t h. told.truth t (record {
+          above = precedes_of_lt w.on.from_in (value w.on.from) t (lt_of_le_of_lt
+              (le_of_same begins) h.above);
+          below = h.below;
+        });
         goes = l.goes.3;
       }
     where
@@ -94,7 +100,8 @@ module _ (p : Subformula) (tr : Trace) where
 
     -- a part of the first verdict up to some end that is not after f
     part : (b : Frac) (b_in : Bool) (v : Verdict) (rest : List Verdict) → start tr ≤ʳ value b → Left b b_in v rest → (to : Frac) (to_in : Bool)
-        → (some : IsNotEmpty (interval_between b b_in to to_in)) → value to ≤ʳ value f → ((t : Rational) → Precedes to_in t (value to) → Precedes v.on.to_in t (value v.on.to))
+        → (some : IsNotEmpty (interval_between b b_in to to_in)) → value to ≤ʳ value f
+        → ((t : Rational) → Precedes to_in t (value to) → Precedes v.on.to_in t (value v.on.to))
         → IsTold p tr' (record { on = span_of b b_in to to_in some; holds = v.holds })
     part b b_in v rest low l to to_in some within shorter = record {
       not_empty = some;
@@ -104,7 +111,8 @@ module _ (p : Subformula) (tr : Trace) where
     }
 
     -- the verdicts are cut at f
-    pub cut : (b : Frac) (b_in : Bool) (v : Verdict) (left : List Verdict) (n : ℕ) (later : List Verdict) → start tr ≤ʳ value b → IsNotEmpty (interval_between b b_in f true)
+    pub cut : (b : Frac) (b_in : Bool) (v : Verdict) (left : List Verdict) (n : ℕ) (later : List Verdict) → start tr ≤ʳ value b
+        → IsNotEmpty (interval_between b b_in f true)
         → Left b b_in v left → Passes f (v ∷ left) n later → CutAt b b_in v.holds n later
     cut b b_in v left _ _ low some l (beyond after) =
         let within : value b ≤ʳ value f = precedes_le (b_in && true) (value b) (value f) (precedes_of_not_empty (interval_between b b_in f true) some) in
@@ -112,7 +120,8 @@ module _ (p : Subformula) (tr : Trace) where
           head = record { on = span_of b b_in f true some; holds = v.holds };
           tail = [];
           begins = record { time = same_refl (value b); inside = refl };
-          told = part b b_in v left low l f true some (le_of_same (same_refl (value f))) (λ t h. precedes_of_lt v.on.to_in t (value v.on.to) (lt_of_le_of_lt h after));
+          told = part b b_in v left low l f true some (le_of_same (same_refl (value f))) (λ t h. precedes_of_lt v.on.to_in t (value v.on.to)
+              (lt_of_le_of_lt h after));
           goes = record { time = same_refl (value f); inside = refl };
           same = refl;
           count = refl;

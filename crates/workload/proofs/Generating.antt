@@ -1,5 +1,5 @@
 -- The bytes of the generated rows, written one by one.
-use Rattle.std.proofs.Common.{◌≡◌, ℕ, suc, ◌+◌, List, [], ◌∷◌, ◌++◌, append_assoc, refl, sym, ap, ◌∙◌}
+use Rattle.std.proofs.Common.{◌≡◌, ℕ, suc, ◌+◌, List, [], ◌∷◌, ◌++◌, append_assoc, sym, ap, ◌∙◌}
 use Rattle.std.specs.Prelude.{flat_map, ℤ}
 use Rattle.workload.specs.Generated.{next_state, state_value, rows_after, row_line}
 

@@ -1,8 +1,37 @@
 -- How many lines the texts of verdicts have: each verdict one.
-use Rattle.std.proofs.Common.{◌≡◌, ◌⊎◌, inl, inr, ℕ, zero, suc, ◌+◌, ◌/◌, ◌%◌, ◌<◌, Bool, true, false, if◌then◌else◌, List, [], ◌∷◌, ◌++◌, length, ℤ, pos, negsuc, refl, sym, ap, ◌∙◌, subst, arith}
-use Rattle.std.specs.Prelude.{decimal, codes, ◌==◌, nat_lt}
+use Rattle.std.proofs.Common.{
+  ◌≡◌,
+  ◌⊎◌,
+  inl,
+  inr,
+  ℕ,
+  zero,
+  suc,
+  ◌+◌,
+  ◌/◌,
+  ◌%◌,
+  ◌<◌,
+  Bool,
+  true,
+  false,
+  if◌then◌else◌,
+  List,
+  [],
+  ◌∷◌,
+  ◌++◌,
+  length,
+  ℤ,
+  pos,
+  negsuc,
+  refl,
+  sym,
+  ap,
+  ◌∙◌,
+  arith,
+}
+use Rattle.std.specs.Prelude.{decimal, codes, ◌==◌}
 use Rattle.std.specs.Fmt.{signed_decimal, digits, digits_onto, digit_glyph}
-use Rattle.std.proofs.lemmas.Bool.{cases_Bool, cases_eq, eq-eqb, ne_eqb, lt-ltb}
+use Rattle.std.proofs.lemmas.Bool.{cases_Bool, ne_eqb, lt-ltb}
 use Rattle.stl_syntax.specs.Texts.{fraction_text, IsNumberText, IsSpanText, IsVerdictLine, AreVerdictLines, IsStartLine, start_line, bool_text, newline}
 use Rattle.stl_syntax.specs.Formula.{Subformula}
 use Rattle.stl_syntax.specs.Trace.{Trace}
@@ -17,7 +46,8 @@ pub count_join : (x y : List ℕ) → line_count (x ++ y) ≡ line_count x + lin
 count_join [] y = omega arith
 count_join (c ∷ x) y = by_test (cases_Bool (c == 10)) (count_join x y)
   where
-    by_test : ((c == 10) ≡ true) ⊎ ((c == 10) ≡ false) → line_count (x ++ y) ≡ line_count x + line_count y → line_count ((c ∷ x) ++ y) ≡ line_count (c ∷ x) + line_count y
+    by_test : ((c == 10) ≡ true) ⊎ ((c == 10) ≡ false) → line_count (x ++ y) ≡ line_count x + line_count y
+        → line_count ((c ∷ x) ++ y) ≡ line_count (c ∷ x) + line_count y
     by_test (inl e) h = rw e (omega (arith, h))
     by_test (inr e) h = rw e h
 
@@ -80,7 +110,8 @@ count_span scale on text h =
     ∙ count_join (begin ++ h.from ++ codes "," ++ h.to) end
     ∙ sum_of
     (count_join (begin ++ h.from ++ codes ",") h.to
-    ∙ sum_of (count_join (begin ++ h.from) (codes ",") ∙ sum_of (count_join begin h.from ∙ sum_of (opens on.from_in) (count_number scale.time _ h.from h.from_is)) refl)
+    ∙ sum_of (count_join (begin ++ h.from) (codes ",") ∙ sum_of (count_join begin h.from ∙ sum_of (opens on.from_in)
+    (count_number scale.time _ h.from h.from_is)) refl)
     (count_number scale.time _ h.to h.to_is))
     (closes on.to_in)
   where
@@ -97,7 +128,8 @@ pub count_verdict : (scale : Scale) (v : Verdict) (text : List ℕ) → IsVerdic
 count_verdict scale v text (on, is_on, is) =
     ap line_count is
     ∙ count_join (on ++ codes " " ++ bool_text v.holds) newline
-    ∙ sum_of (count_join (on ++ codes " ") (bool_text v.holds) ∙ sum_of (count_join on (codes " ") ∙ sum_of (count_span scale v.on on is_on) refl) (by_truth v.holds)) refl
+    ∙ sum_of (count_join (on ++ codes " ") (bool_text v.holds) ∙ sum_of (count_join on (codes " ") ∙ sum_of (count_span scale v.on on is_on) refl)
+    (by_truth v.holds)) refl
   where
     by_truth : (b : Bool) → line_count (bool_text b) ≡ 0
     by_truth true = refl

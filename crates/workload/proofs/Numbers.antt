@@ -1,6 +1,6 @@
 -- Whole numbers as they are written, read as fields of a trace.
-use Rattle.std.proofs.Common.{◌≡◌, ℕ, suc, ◌*◌, ◌^◌, ◌<◌, ◌≤◌, ◌+◌, ◌-◌, ℤ, pos, negsuc, List, [], ◌∷◌, length, nat_abs, true, refl, sym, ap, subst, arith}
-use Rattle.std.specs.Prelude.{decimal, neg_ℤ, nat_le}
+use Rattle.std.proofs.Common.{◌≡◌, ℕ, suc, ◌*◌, ◌^◌, ◌<◌, ◌≤◌, ◌+◌, ◌-◌, ℤ, pos, negsuc, ◌∷◌, length, nat_abs, true, refl, sym, ap, subst, arith}
+use Rattle.std.specs.Prelude.{decimal, nat_le}
 use Rattle.std.specs.Fmt.{signed_decimal}
 use Rattle.std.proofs.lemmas.Bool.{and_parts, and_from, le-leb}
 use Rattle.std.proofs.lemmas.Fmt.{decimal_nonempty, digits_decimal, digits_value-decimal, length-decimal-le}

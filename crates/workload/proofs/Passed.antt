@@ -1,5 +1,5 @@
 -- The loops that count: verdicts up to a front, and rows.
-use Rattle.std.proofs.Common.{◌≡◌, ◌⊎◌, inl, inr, ℕ, suc, ◌+◌, ◌-◌, ◌*◌, ◌<◌, ◌≤◌, true, false, List, [], ◌∷◌, length, drop, get_or, refl, sym, ap, ◌∙◌, subst, arith, pos}
+use Rattle.std.proofs.Common.{◌≡◌, ℕ, suc, ◌+◌, ◌-◌, ◌<◌, ◌≤◌, true, List, [], ◌∷◌, length, drop, get_or, refl, sym, subst, arith, pos}
 use Rattle.std.proofs.lemmas.List.{drop_more, drop_all}
 use Rattle.rational.specs.Time.{whole, ◌<ʳ◌, ◌≈◌}
 use Rattle.frac128.specs.Value.{value}
@@ -25,7 +25,8 @@ module _ (f : Frac) (all : List Verdict) (at : ℕ) where
       subst (λ m. Passes f (drop at all) m later) k q
 
   -- one goes beyond f
-  pub passed_beyond : (i : ℕ) (d : Verdict) → i < length all → value f <ʳ value (get_or all i d).on.to → HasPassed i → Passes f (drop at all) (i - at + 1) (drop i all)
+  pub passed_beyond : (i : ℕ) (d : Verdict) → i < length all → value f <ʳ value (get_or all i d).on.to → HasPassed i
+      → Passes f (drop at all) (i - at + 1) (drop i all)
   passed_beyond i d h after before = before 1 (drop i all) (subst (λ l. Passes f l 1 l) (sym (drop_more all i d h)) (beyond after))
 
   -- one ends at f, with it
@@ -56,7 +57,8 @@ module _ (begin h : ℕ) (rows : List Row) (all : List Verdict) where
       before n later (subst (λ rs. Walks begin h rs (drop at all) n later) (sym (drop_more rows i d l)) (early soon w))
 
   -- a row with a front
-  pub walked_front : (i at to lines k : ℕ) (d : Row) (f : Frac) → i < length rows → begin + h ≤ (get_or rows i d).time → value f ≈ whole (pos ((get_or rows i d).time - h))
+  pub walked_front : (i at to lines k : ℕ) (d : Row) (f : Frac) → i < length rows → begin + h ≤ (get_or rows i d).time
+      → value f ≈ whole (pos ((get_or rows i d).time - h))
       → Passes f (drop at all) k (drop to all) → HasWalked i at lines → HasWalked (i + 1) to (lines + k)
   walked_front i at to lines k d f l due is passes before n later w =
       let q = before (k + n) later (subst (λ rs. Walks begin h rs (drop at all) (k + n) later) (sym (drop_more rows i d l)) (front f due is passes w)) in

@@ -1,13 +1,39 @@
 -- The line of a generated row: it is whole, not blank, and read as that row, without a fault.
-use Rattle.std.proofs.Common.{◌≡◌, ◌⊎◌, inl, inr, ℕ, suc, ◌+◌, ◌*◌, ◌/◌, ◌%◌, ◌^◌, ◌<◌, ◌≤◌, ℤ, pos, ◌-ℤ◌, List, [], ◌∷◌, ◌++◌, length, length-append, append_assoc, nat_abs, true, false, refl, sym, ap, ◌∙◌, subst, arith}
-use Rattle.std.specs.Prelude.{decimal, flat_map, All, codes}
+use Rattle.std.proofs.Common.{
+  ◌≡◌,
+  inl,
+  ℕ,
+  ◌+◌,
+  ◌*◌,
+  ◌/◌,
+  ◌%◌,
+  ◌^◌,
+  ◌<◌,
+  ◌≤◌,
+  ℤ,
+  List,
+  [],
+  ◌∷◌,
+  ◌++◌,
+  length,
+  length-append,
+  append_assoc,
+  nat_abs,
+  true,
+  false,
+  refl,
+  sym,
+  ap,
+  ◌∙◌,
+  arith,
+}
+use Rattle.std.specs.Prelude.{decimal}
 use Rattle.std.specs.Fmt.{signed_decimal}
 use Rattle.std.proofs.lemmas.Int.{ints}
 use Rattle.std.proofs.lemmas.List.{append-nil}
 use Rattle.std.proofs.lemmas.List.Elements.{All-nil, All-cons}
 use Rattle.std.proofs.lemmas.Fmt.{decimal_nonempty, length-decimal-le}
-use Rattle.stl_syntax.specs.Trace.{Row, IsInRange}
-use Rattle.stl_syntax.specs.Texts.{newline}
+use Rattle.stl_syntax.specs.Trace.{Row}
 use Rattle.trace_reader.specs.TraceText.{Heading, fields, is_blank_line, lines}
 use Rattle.trace_reader.specs.LineParts.{whole_line}
 use Rattle.trace_reader.specs.Feeds.{HasNoFeed}
@@ -60,7 +86,8 @@ module _ (t : ℕ) (v : ℤ) (early : t < 4294967296) (small : nat_abs v ≤ 167
       let time = front_first ticks heading (decimal t) t (decimal_nonempty t (omega (arith, early))) (decimal_plain t (omega (arith, early)))
       (time_read (decimal t) 0 0 t (decimal_ticks t (omega (arith, early))) early) in
       let first = front_next ticks heading (decimal t) 0 (row_made t []) (signed_decimal v) 0 v time refl (signed_plain v small) (signed_read v 2 small) in
-      front_next ticks heading (decimal t ++ 44 ∷ signed_decimal v) 1 (row_made t (v ∷ [])) (signed_decimal v) 0 v first refl (signed_plain v small) (signed_read v 3 small)
+      front_next ticks heading (decimal t ++ 44 ∷ signed_decimal v) 1 (row_made t (v ∷ [])) (signed_decimal v) 0 v first refl (signed_plain v small)
+      (signed_read v 3 small)
 
   -- it has no LF
   pub no_feed : HasNoFeed (front_of t v)
@@ -83,7 +110,11 @@ module _ (t : ℕ) (v : ℤ) (early : t < 4294967296) (small : nat_abs v ≤ 167
   pub row_is_read : IsRowRead counted (fields (whole_line (front_of t v))) (row_of t v)
   row_is_read =
       row_read counted (front_of t v) (front_of t v) 2 (row_of t v) is_front (inl refl) refl refl refl
-      (record { time = omega (arith, early); values = All-cons (λ x. nat_abs x ≤ 16777216) v (v ∷ []) small (All-cons (λ x. nat_abs x ≤ 16777216) v [] small (All-nil (λ x. nat_abs x ≤ 16777216))) })
+      (record {
+        time = omega (arith, early);
+        values = All-cons (λ x. nat_abs x ≤ 16777216) v (v ∷ []) small (All-cons (λ x. nat_abs x ≤ 16777216) v
+            [] small (All-nil (λ x. nat_abs x ≤ 16777216)));
+      })
 
   -- the lines of the bytes that begin with it
   pub first_line : (more : List ℕ) → lines true (row_line (row_of t v) ++ more) ≡ done (front_of t v) ∷ lines true more

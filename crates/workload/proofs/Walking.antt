@@ -1,10 +1,43 @@
 -- What a stream of verdicts writes for the rows of a whole trace has as many lines as the walk over the rows counts.
-use Rattle.std.proofs.Common.{◌≡◌, ◌⊎◌, inl, inr, ℕ, suc, ◌+◌, ◌-◌, ◌<◌, ◌≤◌, Bool, true, false, ◌&&◌, List, [], ◌∷◌, ◌++◌, length, length-append, append_assoc, append-nil, ℤ, pos, ◌-ℤ◌, Option, Some, None, refl, sym, ap, ◌∙◌, subst, arith, IsTrue}
+use Rattle.std.proofs.Common.{
+  ◌≡◌,
+  ◌⊎◌,
+  inl,
+  inr,
+  ℕ,
+  ◌+◌,
+  ◌-◌,
+  ◌<◌,
+  ◌≤◌,
+  Bool,
+  true,
+  false,
+  ◌&&◌,
+  List,
+  [],
+  ◌∷◌,
+  ◌++◌,
+  length,
+  append_assoc,
+  append-nil,
+  ℤ,
+  pos,
+  ◌-ℤ◌,
+  Option,
+  Some,
+  None,
+  refl,
+  sym,
+  ap,
+  ◌∙◌,
+  subst,
+  arith,
+}
 use Rattle.std.specs.Prelude.{MatchBool, int_lt, cond, ◌↔◌, ◌≤ℤ◌, ◌<ℤ◌}
 use Rattle.std.proofs.lemmas.Bool.{false≢true, lt-ltb}
 use Rattle.std.proofs.lemmas.Int.{ints}
-use Rattle.rational.specs.Time.{Rational, ◌≤ʳ◌, ◌<ʳ◌, ◌≈◌, Interval, IsNotEmpty, Precedes, BeginAlike, EndAlike, Touch, closed, left_open, whole, later}
-use Rattle.rational.proofs.Order.{le_of_lt, le_of_same, ge_of_same, le_trans, lt_of_lt_of_le, lt_of_le_of_lt, same_refl, same_sym, same_trans}
+use Rattle.rational.specs.Time.{Rational, ◌≤ʳ◌, ◌<ʳ◌, ◌≈◌, Interval, IsNotEmpty, Precedes, BeginAlike, closed, whole, later}
+use Rattle.rational.proofs.Order.{le_of_same, ge_of_same, le_trans, lt_of_lt_of_le, lt_of_le_of_lt, same_refl, same_trans}
 use Rattle.rational.proofs.TimeLemmas.{later_le, not_empty_of_precedes}
 use Rattle.frac128.specs.Value.{value}
 use Rattle.frac128.specs.Spans.{interval, interval_between}
@@ -12,11 +45,9 @@ use Rattle.frac128.specs.declared.frac.Frac.{Frac}
 use Rattle.stl_syntax.specs.Trace.{Header, Row, Trace, IsTrace, AreRows, AreRowsAfter, Continues, first_time, last_time, start, stop}
 use Rattle.stl_syntax.specs.Formula.{Subformula, horizon}
 use Rattle.stl_syntax.specs.Truth.{Truth}
-use Rattle.stl_syntax.specs.Verdicts.{IsTold, GoesOn, Describes}
+use Rattle.stl_syntax.specs.Verdicts.{GoesOn, Describes}
 use Rattle.stl_syntax.specs.Stream.{after, answered_by, IsStretchText, IsNewText, IsRowsText, IsRestText}
-use Rattle.stl_syntax.specs.Texts.{AreVerdictLines}
 use Rattle.stl_syntax.specs.declared.items.Verdict.{Verdict}
-use Rattle.stl_syntax.specs.declared.scale.Scale.{Scale}
 use Rattle.stl_syntax.proofs.LawProofs.{answers_stay, last_from}
 use Rattle.workload.specs.Counting.{line_count}
 use Rattle.workload.specs.Passing.{Passes, Walks, done, early, front}
@@ -170,7 +201,8 @@ module _ (p : Subformula) (header : Header) (all : List Row) (ok : IsTrace (reco
     before_last = subst (λ rows. r.time ≤ last_time 0 rows) (sym all_is) (row_within (length header.columns) before r more rows_ok)
 
     -- truths up to the front stay
-    stays : (f : Frac) → begin + horizon p ≤ r.time → value f ≈ whole (pos (r.time - horizon p)) → (t : Rational) → start tr ≤ʳ t → t ≤ʳ value f → Truth p tr t ↔ Truth p so_far t
+    stays : (f : Frac) → begin + horizon p ≤ r.time → value f ≈ whole (pos (r.time - horizon p)) → (t : Rational) → start tr ≤ʳ t → t ≤ʳ value f
+        → Truth p tr t ↔ Truth p so_far t
     stays f due at t low high = by_rows (some_rows before r)
       where
         goes : Continues tr header (before ++ r ∷ []) false
@@ -190,7 +222,8 @@ module _ (p : Subformula) (header : Header) (all : List Row) (ok : IsTrace (reco
             subst (λ l. Truth p tr t ↔ Truth p (record { header = header; rows = l }) t) (sym e) (both.1, both.0)
 
     -- before the front of the row there is room
-    room_of : (old : Option ℤ) (b : Frac) (b_in : Bool) (f : Frac) → Place old before b b_in → begin + horizon p ≤ r.time → value f ≈ whole (pos (r.time - horizon p))
+    room_of : (old : Option ℤ) (b : Frac) (b_in : Bool) (f : Frac) → Place old before b b_in → begin + horizon p ≤ r.time
+        → value f ≈ whole (pos (r.time - horizon p))
         → IsNotEmpty (interval_between b b_in f true)
     room_of old b b_in f (inl (_, at, inside)) due is =
         let le : value b ≤ʳ value f = le_trans (le_of_same at) (le_trans (whole_le (omega (arith, due))) (ge_of_same is)) in
@@ -251,7 +284,8 @@ module _ (p : Subformula) (header : Header) (all : List Row) (ok : IsTrace (reco
         still (inr (g, _, _, _, low, by_now)) = absurd (not_behind g before low by_now all_is)
 
     -- a row at or after it answers up to its front
-    answers_some : (old : Option ℤ) (left mid : List Verdict) (k : ℕ) (f : Frac) → begin + horizon p ≤ r.time → value f ≈ whole (pos (r.time - horizon p)) → Passes f left k mid
+    answers_some : (old : Option ℤ) (left mid : List Verdict) (k : ℕ) (f : Frac) → begin + horizon p ≤ r.time → value f ≈ whole (pos (r.time - horizon p))
+        → Passes f left k mid
         → Stands old before left → Answered old k mid
     answers_some old left mid k f due at passes s = record {
       here = given.text;
@@ -277,7 +311,8 @@ module _ (p : Subformula) (header : Header) (all : List Row) (ok : IsTrace (reco
 
         c : CutAt p tr so_far f inside_trace (stays f due at) s.b s.b_in s.v.holds k mid
         c =
-            cut p tr so_far f inside_trace (stays f due at) s.b s.b_in s.v s.rest k mid (low_of old before s.b s.b_in s.place) (room_of old s.b s.b_in f s.place due at) s.is
+            cut p tr so_far f inside_trace (stays f due at) s.b s.b_in s.v s.rest k mid (low_of old before s.b s.b_in s.place)
+            (room_of old s.b s.b_in f s.place due at) s.is
             (subst (λ l. Passes f l k mid) s.left_is passes)
 
         stretch : Option ℤ → Interval
@@ -302,7 +337,8 @@ module _ (p : Subformula) (header : Header) (all : List Row) (ok : IsTrace (reco
         given : Written so_far (stretch old) k
         given = written so_far (stretch old) (c.head ∷ c.tail) k (begins_at old s.place, c.told, ends_at old) c.count
 
-        is_text : (o : Option ℤ) → Place o before s.b s.b_in → IsStretchText p so_far (stretch o) given.text → IsNewText p so_far o (Some (pos (r.time - horizon p))) given.text
+        is_text : (o : Option ℤ) → Place o before s.b s.b_in → IsStretchText p so_far (stretch o) given.text
+            → IsNewText p so_far o (Some (pos (r.time - horizon p))) given.text
         is_text None place h = h
         is_text (Some g) (inl (e, _, _)) h = absurd (none_some (sym e))
         is_text (Some g) (inr (n, e, _, _, low, by_now)) h =
@@ -340,7 +376,8 @@ module _ (p : Subformula) (header : Header) (all : List Row) (ok : IsTrace (reco
         stands = rest.stands;
       }
 
-  follow : (before more : List Row) (old : Option ℤ) (left later : List Verdict) (n : ℕ) → all ≡ before ++ more → Walks begin (horizon p) more left n later → Stands old before left
+  follow : (before more : List Row) (old : Option ℤ) (left later : List Verdict) (n : ℕ) → all ≡ before ++ more → Walks begin (horizon p) more left n later
+      → Stands old before left
       → Followed old before more n later
   follow before _ old left _ _ e done s =
       record { text = []; are = refl; count = refl; last = old; stands = subst (λ rows. Stands old rows left) (sym (e ∙ append-nil before)) s }
@@ -355,7 +392,8 @@ module _ (p : Subformula) (header : Header) (all : List Row) (ok : IsTrace (reco
   -- ---- the rest
 
   -- the first verdict may begin elsewhere
-  goes_begin : (stretch : Interval) (b : Frac) (b_in : Bool) (v : Verdict) (some : IsNotEmpty (interval_between b b_in v.on.to v.on.to_in)) (ws : List Verdict) → GoesOn p tr stretch v ws
+  goes_begin : (stretch : Interval) (b : Frac) (b_in : Bool) (v : Verdict) (some : IsNotEmpty (interval_between b b_in v.on.to v.on.to_in))
+      (ws : List Verdict) → GoesOn p tr stretch v ws
       → GoesOn p tr stretch (record { on = span_of b b_in v.on.to v.on.to_in some; holds = v.holds }) ws
   goes_begin stretch b b_in v some [] h = record { time = h.time; inside = h.inside }
   goes_begin stretch b b_in v some (w ∷ ws) (touch, other, told, more) = (record { time = touch.time; once = touch.once }, other, told, more)
@@ -435,7 +473,8 @@ module _ (p : Subformula) (header : Header) (all : List Row) (ok : IsTrace (reco
     pub during_count : line_count during ≡ n
     pub rest_count : line_count rest ≡ m
 
-  pub streamed : (vs later : List Verdict) (n : ℕ) → Describes vs p tr (closed (start tr) (stop tr)) → Walks begin (horizon p) all vs n later → Streamed n (length later)
+  pub streamed : (vs later : List Verdict) (n : ℕ) → Describes vs p tr (closed (start tr) (stop tr)) → Walks begin (horizon p) all vs n later
+      → Streamed n (length later)
   streamed vs later n h walks =
       let f = follow [] all None vs later n refl walks (fresh vs h) in
       let e = ended f.last later f.stands in

@@ -1,7 +1,7 @@
 -- The generated trace: its rows, and its bytes.
 use Rattle.std.specs.Prelude.{ℕ, zero, suc, ◌+◌, ◌*◌, ◌/◌, ◌%◌, ◌^◌, true, false, List, [], ◌∷◌, ◌++◌, flat_map, ℤ, pos, ◌-ℤ◌, codes, decimal}
 use Rattle.std.specs.Fmt.{signed_decimal}
-use Rattle.stl_syntax.specs.Trace.{Row, Trace, Header, Column}
+use Rattle.stl_syntax.specs.Trace.{Row, Trace, Column}
 use Rattle.stl_syntax.specs.Texts.{newline}
 use Rattle.stl_syntax.specs.declared.scale.Scale.{Scale}
 

@@ -20,6 +20,8 @@ pub data Passes (f : Frac) : List Verdict → ℕ → List Verdict → Type 0 wh
 -- the rows in turn, of a trace from `begin` on and a horizon h: a row that answers nothing, or one whose front has so many verdicts up to it
 pub data Walks (begin h : ℕ) : List Row → List Verdict → ℕ → List Verdict → Type 0 where
   done : {left : List Verdict} → Walks begin h [] left 0 left
-  early : {r : Row} {rows : List Row} {left later : List Verdict} {n : ℕ} → r.time < begin + h → Walks begin h rows left n later → Walks begin h (r ∷ rows) left n later
-  front : {r : Row} {rows : List Row} {left mid later : List Verdict} {k n : ℕ} (f : Frac) → begin + h ≤ r.time → value f ≈ whole (pos (r.time - h)) → Passes f left k mid
+  early : {r : Row} {rows : List Row} {left later : List Verdict} {n : ℕ} → r.time < begin + h → Walks begin h rows left n later
+      → Walks begin h (r ∷ rows) left n later
+  front : {r : Row} {rows : List Row} {left mid later : List Verdict} {k n : ℕ} (f : Frac) → begin + h ≤ r.time → value f ≈ whole (pos (r.time - h))
+      → Passes f left k mid
       → Walks begin h rows mid n later → Walks begin h (r ∷ rows) left (k + n) later

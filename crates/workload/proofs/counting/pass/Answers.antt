@@ -1,4 +1,4 @@
-use Rattle.std.proofs.Common.{◌≡◌, inl, inr, length, sym, subst, arith}
+use Rattle.std.proofs.Common.{◌≡◌, inl, inr, length, subst, arith}
 use Rattle.workload.proofs.Passed.{passed_none, passed_more, passed_beyond, passed_here, passed_all, HasPassed}
 use Rattle.workload.proofs.counting.pass.Goals as goal
 use Rattle.workload.proofs.counting.pass.Goals.{in-Less, in-Equal+else-on}

@@ -4,4 +4,5 @@ use Rattle.workload.proofs.Passed.{HasWalked}
 use Rattle.workload.proofs.counting.stream_lines.Given as goal
 
 abbrev pub invariant-loop-row : goal.invariant-loop-row
-invariant-loop-row l = HasWalked (first_time l.trace.rows) l.horizon l.trace.rows l.verdicts l.row l.at l.lines × (l.at ≤ length l.verdicts) × (l.lines ≤ l.row + l.at)
+invariant-loop-row l = HasWalked (first_time l.trace.rows) l.horizon l.trace.rows l.verdicts l.row l.at l.lines × (l.at ≤ length l.verdicts)
+    × (l.lines ≤ l.row + l.at)
