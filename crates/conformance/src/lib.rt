@@ -14,6 +14,8 @@ mod explain_tests;
 #[cfg(test)]
 mod margin_tests;
 #[cfg(test)]
+mod online_nodes_tests;
+#[cfg(test)]
 mod operator_tests;
 #[cfg(test)]
 mod reason_tests;
@@ -27,6 +29,8 @@ mod signal_tests;
 mod slow;
 #[cfg(test)]
 mod slow_tests;
+#[cfg(test)]
+mod stream_tests;
 #[cfg(test)]
 mod tables;
 #[cfg(test)]
