@@ -6,6 +6,10 @@ mod shapes;
 pub use shapes::greater_at;
 
 #[cfg(test)]
+mod dropping;
+#[cfg(test)]
+mod dropping_tests;
+#[cfg(test)]
 mod eval_tests;
 #[cfg(test)]
 mod evals;
@@ -41,3 +45,5 @@ mod until_tests;
 mod verdict_tests;
 #[cfg(test)]
 mod window_tests;
+#[cfg(test)]
+mod workload_tests;

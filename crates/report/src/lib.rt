@@ -8,6 +8,7 @@ mod items;
 mod json;
 pub mod laws;
 mod line;
+mod listing;
 mod margin;
 mod number;
 mod signal;
@@ -21,6 +22,7 @@ pub use fault::{
 pub use items::put_items;
 pub use json::put_json;
 pub use line::{Detail, Line, put_line};
+pub use listing::verdicts_of;
 pub use margin::put_margins;
 pub use signal::put_verdicts;
 pub use table::put_table;
