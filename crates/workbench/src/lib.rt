@@ -23,6 +23,7 @@ mod stream;
 mod table;
 mod texts;
 mod top;
+mod verdicts;
 
 pub use entry::program;
 pub use kept::Kept;
