@@ -8,6 +8,10 @@ pub use shapes::greater_at;
 #[cfg(test)]
 mod atom_lines_tests;
 #[cfg(test)]
+mod dropping;
+#[cfg(test)]
+mod dropping_tests;
+#[cfg(test)]
 mod eval_tests;
 #[cfg(test)]
 mod evals;
@@ -19,6 +23,8 @@ mod frac128_tests;
 mod io_edge_tests;
 #[cfg(test)]
 mod margin_tests;
+#[cfg(test)]
+mod online_nodes_tests;
 #[cfg(test)]
 mod operator_tests;
 #[cfg(test)]
@@ -44,6 +50,8 @@ mod stl_grammar_tests;
 #[cfg(test)]
 mod stl_syntax_tests;
 #[cfg(test)]
+mod stream_tests;
+#[cfg(test)]
 mod tables;
 #[cfg(test)]
 mod trace_reader_tests;
@@ -61,3 +69,5 @@ mod verdict_tests;
 mod window_extrema_tests;
 #[cfg(test)]
 mod window_tests;
+#[cfg(test)]
+mod workload_tests;

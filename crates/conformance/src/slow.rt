@@ -151,19 +151,17 @@ fn put_time(text: &mut String, halves: usize) -> Result<(), AllocError> {
     }
 }
 
-/// The line of a span: from one cell to another, where even cells are halves of a tick and odd ones the times between two.
-fn put_span(
+/// A span: from one cell to another, where even cells are halves of a tick and odd ones the times between two.
+pub(crate) fn put_span(
     text: &mut String,
     first: usize,
     (from, to): (usize, usize),
-    value: bool,
 ) -> Result<(), AllocError> {
     text.push_str(if from % 2 == 0 { "[" } else { "(" })?;
     put_time(text, first.saturating_add(from / 2))?;
     text.push_str(",")?;
     put_time(text, first.saturating_add(to / 2 + to % 2))?;
-    let close = if to % 2 == 0 { "]" } else { ")" };
-    write!(text, "{close} {value}\n")
+    text.push_str(if to % 2 == 0 { "]" } else { ")" })
 }
 
 /// The verdict lines and the line of the start, of a truth whose first time is in halves of a tick.
@@ -180,7 +178,8 @@ pub(crate) fn verdicts(alloc: Global, first: usize, truth: &[bool]) -> Result<St
         {
             continue;
         }
-        put_span(&mut text, first, (from, i / 2), value)?;
+        put_span(&mut text, first, (from, i / 2))?;
+        write!(text, " {value}\n")?;
         from = i / 2 + 1;
     }
     if let Some(value) = truth.first() {

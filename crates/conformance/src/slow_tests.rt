@@ -6,13 +6,13 @@ use std::test::Fail;
 
 /// Numbers that look random, the same in each run.
 #[derive(Drop)]
-struct Dice {
-    state: u64,
+pub(crate) struct Dice {
+    pub(crate) state: u64,
 }
 
 impl Dice {
     /// A number below `faces`, or 0 where that is 0.
-    fn roll(&mut self, faces: u8) -> u8 {
+    pub(crate) fn roll(&mut self, faces: u8) -> u8 {
         self.state = self
             .state
             .wrapping_mul(6_364_136_223_846_793_005)
@@ -22,7 +22,7 @@ impl Dice {
     }
 
     /// Whether an even number came.
-    fn flip(&mut self) -> bool {
+    pub(crate) fn flip(&mut self) -> bool {
         self.roll(2) == 0
     }
 
@@ -34,9 +34,9 @@ impl Dice {
 
 /// A trace of a ramp and a step column, and the sign of each at each eighth of a tick.
 #[derive(Drop)]
-struct Recording {
-    input: String,
-    first: u8,
+pub(crate) struct Recording {
+    pub(crate) input: String,
+    pub(crate) first: u8,
     ramp: Vec<i64>,
     step: Vec<i64>,
 }
@@ -56,7 +56,7 @@ impl Recording {
 }
 
 /// A trace of at most four rows, one to three ticks apart, whose values are from -1 to 1.
-fn generated(alloc: Global, dice: &mut Dice) -> Result<Recording, AllocError> {
+pub(crate) fn generated(alloc: Global, dice: &mut Dice) -> Result<Recording, AllocError> {
     let first = dice.roll(3);
     let (mut x, mut q) = (dice.level(), dice.level());
     let mut made = Recording {
@@ -81,13 +81,13 @@ fn generated(alloc: Global, dice: &mut Dice) -> Result<Recording, AllocError> {
 
 /// A formula, and the truth that the slow evaluation gives it at each eighth of a tick.
 #[derive(Drop)]
-struct Judged {
-    text: String,
-    truth: Vec<bool>,
+pub(crate) struct Judged {
+    pub(crate) text: String,
+    pub(crate) truth: Vec<bool>,
 }
 
 /// An atom that compares a column with 0.
-fn atom(alloc: Global, dice: &mut Dice, of: &Recording) -> Result<Judged, AllocError> {
+pub(crate) fn atom(alloc: Global, dice: &mut Dice, of: &Recording) -> Result<Judged, AllocError> {
     let (name, levels) = if dice.flip() {
         ("x", &of.ramp)
     } else {
@@ -112,7 +112,7 @@ fn atom(alloc: Global, dice: &mut Dice, of: &Recording) -> Result<Judged, AllocE
 }
 
 /// A bound of at most five ticks, with open ends where the operator has them.
-fn bound(dice: &mut Dice, operator: Temporal) -> Bound {
+pub(crate) fn bound(dice: &mut Dice, operator: Temporal) -> Bound {
     let low = dice.roll(3);
     let wide = dice.roll(4);
     let closed = operator.joins() || wide == 0;
@@ -144,17 +144,16 @@ fn bound_text(alloc: Global, bound: &Bound) -> Result<String, AllocError> {
     }
 }
 
-/// The operator on two formulas, or on the right one.
-fn joined(
+/// The operator with a bound on two formulas, or on the right one.
+pub(crate) fn joined_within(
     alloc: Global,
-    dice: &mut Dice,
     operator: Temporal,
+    bound: &Bound,
     left: &Judged,
     right: &Judged,
 ) -> Result<Judged, AllocError> {
-    let bound = bound(dice, operator);
     let word = operator.word();
-    let within = bound_text(alloc, &bound)?;
+    let within = bound_text(alloc, bound)?;
     let (p, q) = (left.text.as_str(), right.text.as_str());
     let text = if operator.joins() {
         format!(in alloc; "({p}) {word}{within} ({q})")?
@@ -163,11 +162,23 @@ fn joined(
     };
     Ok(Judged {
         text,
-        truth: judged(alloc, operator, &bound, &left.truth, &right.truth)?,
+        truth: judged(alloc, operator, bound, &left.truth, &right.truth)?,
     })
 }
 
-const OPERATORS: [Temporal; 6] = [
+/// The operator with some bound on two formulas, or on the right one.
+fn joined(
+    alloc: Global,
+    dice: &mut Dice,
+    operator: Temporal,
+    left: &Judged,
+    right: &Judged,
+) -> Result<Judged, AllocError> {
+    let bound = bound(dice, operator);
+    joined_within(alloc, operator, &bound, left, right)
+}
+
+pub(crate) const OPERATORS: [Temporal; 6] = [
     Temporal::Eventually,
     Temporal::Always,
     Temporal::Until,

@@ -1,12 +1,14 @@
 //! The texts of verdicts, margins, explanations and faults.
 #![tactic(auto)]
 
+mod before;
 mod fault;
 mod following;
 mod items;
 mod json;
 pub mod laws;
 mod line;
+mod listing;
 mod margin;
 mod number;
 mod signal;
@@ -20,6 +22,7 @@ pub use fault::{
 pub use items::put_items;
 pub use json::put_json;
 pub use line::{Detail, Line, put_line};
+pub use listing::verdicts_of;
 pub use margin::put_margins;
 pub use signal::put_verdicts;
 pub use table::put_table;

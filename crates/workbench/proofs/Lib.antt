@@ -17,6 +17,7 @@ pub mod Progress
 pub mod LastFaults
 pub mod FaultsStay
 pub mod RunEnds
+pub mod Leaving
 pub mod CheckPromises
 pub mod StreamSteps
 pub mod Due
@@ -29,10 +30,14 @@ pub mod MarginTruth
 pub mod RowsBefore
 pub mod MarginTexts
 pub mod OwedLaws
+pub mod SureLines
 pub mod OneRequest
 pub mod EndsOnce
 pub mod Passes
 pub mod Living
 pub mod FrontTexts
 pub mod AtRest
+pub mod Taking
+pub mod Watched
+pub mod WatchedRows
 pub mod Reported

@@ -13,6 +13,7 @@ pub mod Requests
 pub mod Owed
 pub mod Settled
 pub mod Running
+pub mod Keeping
 pub mod Wholes
 pub mod Pushing
 pub mod Promises
@@ -21,3 +22,5 @@ pub mod Measured
 pub mod Following
 pub mod Reasons
 pub mod Accounts
+pub mod SureLines
+pub mod Watching

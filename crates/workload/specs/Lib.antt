@@ -1,0 +1,4 @@
+pub mod Generated
+pub mod Judged
+pub mod Counting
+pub mod Passing
