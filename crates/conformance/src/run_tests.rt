@@ -686,14 +686,14 @@ fn refused<'a>(words: &'a [&'a str], err: &'a str, status: u8) -> Case<'a> {
     }
 }
 
-const USAGE: &str = "usage: check F | robust F | explain F | json F | table F\n";
+const USAGE: &str = "usage: check F | watch F | robust F | explain F | json F | table F\n";
 
 /// Words that are no form.
 const NO_FORMS: [&[&str]; 6] = [
     &[],
     &["check"],
     &["gen", "1", "0"],
-    &["watch", "x >= 5"],
+    &["early", "x >= 5"],
     &["robust"],
     &["check", "x >= 5", "y"],
 ];
