@@ -18,9 +18,13 @@ mod explain_tests;
 #[cfg(test)]
 mod margin_tests;
 #[cfg(test)]
+mod online_net_tests;
+#[cfg(test)]
 mod online_nodes_tests;
 #[cfg(test)]
 mod operator_tests;
+#[cfg(test)]
+mod plain_net;
 #[cfg(test)]
 mod reason_tests;
 #[cfg(test)]
