@@ -1,4 +1,4 @@
-//! Tests across crates: what one crate promises, used from outside through its contract alone.
+//! The tests of all crates: what each promises, used from outside through its contract alone.
 #![tactic(auto)]
 
 mod shapes;
@@ -24,11 +24,15 @@ mod io_edge_tests;
 #[cfg(test)]
 mod margin_tests;
 #[cfg(test)]
+mod online_net_tests;
+#[cfg(test)]
 mod online_nodes_tests;
 #[cfg(test)]
 mod operator_tests;
 #[cfg(test)]
 mod pl_signal_tests;
+#[cfg(test)]
+mod plain_net;
 #[cfg(test)]
 mod reason_tests;
 #[cfg(test)]

@@ -134,7 +134,7 @@ pub(crate) fn bound(dice: &mut Dice, operator: Temporal) -> Bound {
 }
 
 /// The text of a bound.
-fn bound_text(alloc: Global, bound: &Bound) -> Result<String, AllocError> {
+pub(crate) fn bound_text(alloc: Global, bound: &Bound) -> Result<String, AllocError> {
     let open = if bound.low_in { "[" } else { "]" };
     let close = if bound.high_in { "]" } else { "[" };
     let low = bound.low;
@@ -188,7 +188,7 @@ pub(crate) const OPERATORS: [Temporal; 6] = [
 ];
 
 /// Whether `check` writes what the slow evaluation says.
-fn is_so(alloc: Global, of: &Recording, formula: &Judged) -> Result<bool, Fail> {
+pub(crate) fn is_so(alloc: Global, of: &Recording, formula: &Judged) -> Result<bool, Fail> {
     let out = verdicts(alloc, usize::from(of.first) * 2, &formula.truth)?;
     let Some(holds) = formula.truth.first() else {
         return Ok(false);
