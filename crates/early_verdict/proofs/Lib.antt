@@ -4,3 +4,9 @@ pub mod StretchLemmas
 pub mod SpanLemmas
 pub mod Absorbing
 pub mod GrowingLemmas
+pub mod WindowLemmas
+pub mod LoopLemmas
+pub mod RunLemmas
+pub mod SetLaws
+pub mod HoldingLemmas
+pub mod StepLemmas

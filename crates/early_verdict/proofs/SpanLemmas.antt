@@ -36,10 +36,10 @@ without xs at = take at xs ++ drop (suc at) xs
 abbrev pub with_one : List Stretch → ℕ → Stretch → List Stretch
 with_one xs at j = take at xs ++ j ∷ drop at xs
 
-some_same : (a b : Stretch) → Some a ≡ Some b → a ≡ b
+pub some_same : (a b : Stretch) → Some a ≡ Some b → a ≡ b
 some_same a b e = cc
 
-no_stretch : (s : Stretch) → None ≡ Some s → ⊥
+pub no_stretch : (s : Stretch) → None ≡ Some s → ⊥
 no_stretch s e = cc
 
 -- what the list has without one, it has

@@ -9,9 +9,9 @@ use std::collections::VecDeque;
 /// A set of times within bounds that only grows, and the stretches that it gained since they were last cleared.
 #[derive(Drop)]
 pub struct Grown {
-    bounds: Stretch,
-    spans: VecDeque<Stretch>,
-    fresh: Vec<Stretch>,
+    pub(crate) bounds: Stretch,
+    pub(crate) spans: VecDeque<Stretch>,
+    pub(crate) fresh: Vec<Stretch>,
 }
 
 impl Grown {
@@ -31,6 +31,13 @@ impl Grown {
             spans: VecDeque::new(alloc),
             fresh: Vec::new(alloc),
         }
+    }
+
+    /// The times within which the set lies.
+    pub fn bounds(&self) -> Stretch
+        ensures { result ≡ self.now.bounds }
+    {
+        self.bounds
     }
 
     /// Forgets what was gained; the set stays.

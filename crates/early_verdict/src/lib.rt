@@ -1,12 +1,18 @@
 //! Early verdicts: the truth at the start of a trace, told at the first row that settles it. In work: so far the sets of times that
-//! only grow, of which the verdicts are made.
+//! only grow, of which the verdicts are made: of both, of either, and of windows.
 #![tactic(auto)]
 
 mod cut;
 mod grown;
+mod held;
+mod pointwise;
+mod seeing;
+mod steps;
 mod stretch;
 mod touching;
+mod window;
 
 pub use cut::Cut;
 pub use grown::Grown;
 pub use stretch::Stretch;
+pub use window::Window;

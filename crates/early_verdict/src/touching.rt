@@ -2,7 +2,9 @@
 ghost use Rattle.std.specs.Prelude.{◌≡◌, ◌≤◌, ◌++◌, ◌∷◌, ◌↔◌, List, length, take, drop, slice_get, Some, IfOk, OnOk, IfSome, IfNone};
 ghost use Rattle.rational.specs.Time.{Rational};
 ghost use Rattle.early_verdict.specs.Cuts.{After, Upto, Before, place};
-ghost use Rattle.early_verdict.specs.Spans.{AreTidy, BeginsAfter, EndBefore, NoneEndsBefore};
+ghost use Rattle.early_verdict.specs.Spans.{AreTidy, BeginsAfter, EndBefore, IsAmong, NoneEndsBefore};
+ghost use Rattle.early_verdict.specs.Steps.{HoldsFrom};
+ghost use Rattle.early_verdict.specs.declared.stretch.Stretch.{Stretch};
 ghost use Rattle.early_verdict.specs.Joining.{Absorbs, Notes};
 
 use crate::cut::Cut;
@@ -31,12 +33,26 @@ pub(crate) fn first_reaching(spans: &VecDeque<Stretch>, cut: &Cut) -> usize
 }
 
 /// The stretch at the place, if it does not begin after the cut.
-fn begins_by(spans: &VecDeque<Stretch>, at: usize, cut: &Cut) -> Option<Stretch>
+pub(crate) fn begins_by(spans: &VecDeque<Stretch>, at: usize, cut: &Cut) -> Option<Stretch>
     ensures some { IfSome result (λ s. (slice_get spans.now.items at ≡ Some s) × ¬ (Before (place cut.now) (place s.from))) }
     ensures none { IfNone result (BeginsAfter (place cut.now) (drop at spans.now.items)) }
 {
     let next = *spans.get(at)?;
     if cut.precedes(&next.from) {
+        return None;
+    }
+    Some(next)
+}
+
+/// The stretch that holds the times just after the cut.
+pub(crate) fn holding(spans: &VecDeque<Stretch>, cut: &Cut) -> Option<Stretch>
+    requires { AreTidy spans.now.items }
+    ensures some { IfSome result (λ s. IsAmong s spans.now.items × HoldsFrom s (place cut.now)) }
+    ensures none { IfNone result ((s : Stretch) → IsAmong s spans.now.items → ¬ (HoldsFrom s (place cut.now))) }
+{
+    let at = first_reaching(spans, cut);
+    let next = begins_by(spans, at, cut)?;
+    if !cut.precedes(&next.to) {
         return None;
     }
     Some(next)

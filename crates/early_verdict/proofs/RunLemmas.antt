@@ -1,0 +1,177 @@
+-- Times without a break in a list of stretches lie in one of them; and what lists decide.
+use Rattle.std.proofs.Common.{◌≡◌, ◌⊎◌, inl, inr, refl, sym, subst, Bool, true, false, List, [], ◌∷◌}
+use Rattle.std.specs.Prelude.{MatchBool}
+use Rattle.rational.specs.Rational.{Rational, ◌≤ʳ◌, ◌<ʳ◌}
+use Rattle.rational.proofs.Order.{le_trans, le_of_lt, lt_of_lt_of_le, lt_of_le_of_lt}
+use Rattle.early_verdict.specs.Cuts.{Place, place, After, Upto, Before, Same}
+use Rattle.early_verdict.specs.Spans.{Lies, IsOn, IsAmong, AreTidy, BeginsAfter}
+use Rattle.early_verdict.specs.declared.stretch.Stretch.{Stretch}
+use Rattle.early_verdict.proofs.PlaceLemmas.{not_both, between, before_trans, place_order, after_of_before, upto_of_before, upto_same, same_before, same_places, after_same}
+use Rattle.early_verdict.proofs.StretchLemmas.{rises}
+use Rattle.early_verdict.proofs.SpanLemmas.{begins_through, rest_after}
+
+-- what lies before a place comes no later than what lies after it
+pub le_through : (c : Place) (v u : Rational) → Upto c v → After c u → v ≤ʳ u
+le_through c v u = by_side c.after
+  where
+    by_side : (b : Bool) → MatchBool b (v ≤ʳ c.at) (v <ʳ c.at) → MatchBool b (c.at <ʳ u) (c.at ≤ʳ u) → v ≤ʳ u
+    by_side true h k = le_trans h (le_of_lt k)
+    by_side false h k = le_trans (le_of_lt h) k
+
+pub upto_le : (c : Place) (v u : Rational) → v ≤ʳ u → Upto c u → Upto c v
+upto_le c v u l = by_side c.after
+  where
+    by_side : (b : Bool) → MatchBool b (u ≤ʳ c.at) (u <ʳ c.at) → MatchBool b (v ≤ʳ c.at) (v <ʳ c.at)
+    by_side true h = le_trans l h
+    by_side false h = lt_of_le_of_lt l h
+
+pub after_le : (c : Place) (v u : Rational) → v ≤ʳ u → After c v → After c u
+after_le c v u l = by_side c.after
+  where
+    by_side : (b : Bool) → MatchBool b (c.at <ʳ v) (c.at ≤ʳ v) → MatchBool b (c.at <ʳ u) (c.at ≤ʳ u)
+    by_side true h = lt_of_lt_of_le h l
+    by_side false h = le_trans h l
+
+-- of two places before a third, the later one comes before it
+pub later_before : (c d e : Place) → Before c e → Before d e → (m : Place) × Before m e × ((v : Rational) → After m v → After c v × After d v)
+later_before c d e h k = elim (place_order c d) [
+  | inl b ↦ (d, k, λ v a. (after_of_before c d v b a, a))
+  | inr o ↦ elim o [
+    | inl s ↦ (d, k, λ v a. (after_same d c v (same_places s) a, a))
+    | inr b ↦ (c, h, λ v a. (a, after_of_before d c v b a))
+  ]
+]
+
+-- of two places after a third, the earlier one comes after it
+pub earlier_after : (c d e : Place) → Before e c → Before e d → (m : Place) × Before e m × ((v : Rational) → Upto m v → Upto c v × Upto d v)
+earlier_after c d e h k = elim (place_order c d) [
+  | inl b ↦ (c, h, λ v u. (u, upto_of_before c d v b u))
+  | inr o ↦ elim o [
+    | inl s ↦ (c, h, λ v u. (u, upto_same c d v s u))
+    | inr b ↦ (d, k, λ v u. (upto_of_before d c v b u, u))
+  ]
+]
+
+-- what begins after a place has each of it after that
+pub among_after : (c : Place) (xs : List Stretch) (p : Stretch) → BeginsAfter c xs → AreTidy xs → IsAmong p xs → Before c (place p.from)
+among_after c [] p b h m = absurd m
+among_after c (x ∷ xs) p b h (inl e) = subst (λ s. Before c (place s.from)) (sym e) b
+among_after c (x ∷ xs) p b h (inr m) = among_after c xs p (begins_through c x xs b h.0) h.1 m
+
+-- before a stretch of the list there is a gap
+pub gap_before : (xs : List Stretch) (p : Stretch) (c : Place) → AreTidy xs → IsAmong p xs → Before c (place p.from)
+    → (v : Rational) × After c v × Upto (place p.from) v × ¬ (IsOn xs v)
+gap_before [] p c h m b = absurd m
+gap_before (x ∷ xs) p c h (inl e) b =
+    let t = between c (place p.from) b in
+    let u : Upto (place x.from) t.0 = subst (λ s. Upto (place s.from) t.0) e t.2 in (
+      t.0,
+      t.1,
+      t.2,
+      λ o. elim o [
+        | inl l ↦ not_both (place x.from) t.0 u l.0
+        | inr r ↦ not_both (place x.to) t.0 (upto_of_before (place x.from) (place x.to) t.0 (rises x) u) (rest_after (place x.to) xs t.0 h.1 h.0 r)
+      ],
+    )
+gap_before (x ∷ xs) p c h (inr m) b =
+    let k = later_before c (place x.to) (place p.from) b (among_after (place x.to) xs p h.0 h.1 m) in
+    let g = gap_before xs p k.0 h.1 m k.1 in (
+      g.0,
+      (k.2 g.0 g.1).0,
+      g.2,
+      λ o. elim o [ inl l ↦ not_both (place x.to) g.0 l.1 (k.2 g.0 g.1).1 | inr r ↦ g.3 r ],
+    )
+
+-- and so after it
+pub gap_after : (xs : List Stretch) (p : Stretch) (c : Place) → AreTidy xs → IsAmong p xs → Before (place p.to) c
+    → (v : Rational) × After (place p.to) v × Upto c v × ¬ (IsOn xs v)
+gap_after [] p c h m b = absurd m
+gap_after (x ∷ []) p c h (inl e) b =
+    let t = between (place p.to) c b in (
+      t.0,
+      t.1,
+      t.2,
+      λ o. elim o [ inl l ↦ not_both (place x.to) t.0 l.1 (subst (λ s. After (place s.to) t.0) e t.1) | inr r ↦ absurd r ],
+    )
+gap_after (x ∷ y ∷ xs) p c h (inl e) b =
+    let k = earlier_after c (place y.from) (place p.to) b (subst (λ s. Before (place s.to) (place y.from)) (sym e) h.0) in
+    let t = between (place p.to) k.0 k.1 in
+    let u = (k.2 t.0 t.2).1 in (
+      t.0,
+      t.1,
+      (k.2 t.0 t.2).0,
+      λ o. elim o [
+        | inl l ↦ not_both (place x.to) t.0 l.1 (subst (λ s. After (place s.to) t.0) e t.1)
+        | inr r ↦ elim r [
+          | inl l ↦ not_both (place y.from) t.0 u l.0
+          | inr q ↦ not_both (place y.to) t.0 (upto_of_before (place y.from) (place y.to) t.0 (rises y) u)
+              (rest_after (place y.to) xs t.0 h.1.1 h.1.0 q)
+        ]
+      ],
+    )
+gap_after (x ∷ xs) p c h (inr m) b =
+    let g = gap_after xs p c h.1 m b in
+    let k = before_trans (place x.to) (place p.from) (place p.to) (among_after (place x.to) xs p h.0 h.1 m) (rises p) in (
+      g.0,
+      g.1,
+      g.2,
+      λ o. elim o [ inl l ↦ not_both (place x.to) g.0 l.1 (after_of_before (place x.to) (place p.to) g.0 k g.1) | inr r ↦ g.3 r ],
+    )
+
+-- the stretch of the list that holds a time
+pub one_of : (xs : List Stretch) (t : Rational) → IsOn xs t → (p : Stretch) × IsAmong p xs × Lies p t
+one_of [] t o = absurd o
+one_of (x ∷ xs) t (inl l) = (x, inl refl, l)
+one_of (x ∷ xs) t (inr o) = let r = one_of xs t o in (r.0, inr r.1, r.2)
+
+pub on_one : (xs : List Stretch) (p : Stretch) (t : Rational) → IsAmong p xs → Lies p t → IsOn xs t
+on_one [] p t m l = absurd m
+on_one (x ∷ xs) p t (inl e) l = inl (subst (λ s. Lies s t) e l)
+on_one (x ∷ xs) p t (inr m) l = inr (on_one xs p t m l)
+
+-- the order of places decides
+pub decided : (c d : Place) → Before c d ⊎ ¬ (Before c d)
+decided c d = elim (place_order c d) [
+  | inl b ↦ inl b
+  | inr o ↦ inr (λ b. let t = between c d b in elim o [
+    | inl s ↦ not_both c t.0 (upto_same d c t.0 (same_places s) t.2) t.1
+    | inr k ↦ not_both c t.0 (upto_of_before d c t.0 k t.2) t.1
+  ])
+]
+
+pub decided_both : (P Q : Type 0) → P ⊎ ¬ P → Q ⊎ ¬ Q → (P × Q) ⊎ ¬ (P × Q)
+decided_both P Q (inl p) (inl q) = inl (p, q)
+decided_both P Q (inr n) q = inr (λ h. n h.0)
+decided_both P Q (inl p) (inr n) = inr (λ h. n h.1)
+
+pub decided_either : (P Q : Type 0) → P ⊎ ¬ P → Q ⊎ ¬ Q → (P ⊎ Q) ⊎ ¬ (P ⊎ Q)
+decided_either P Q (inl p) q = inl (inl p)
+decided_either P Q (inr n) (inl q) = inl (inr q)
+decided_either P Q (inr n) (inr m) = inr (λ h. elim h [ inl p ↦ n p | inr q ↦ m q ])
+
+pub decided_not : (P : Type 0) → P ⊎ ¬ P → (¬ P) ⊎ ¬ (¬ P)
+decided_not P (inl p) = inr (λ n. n p)
+decided_not P (inr n) = inl n
+
+-- and so whether some stretch of a list is such
+pub decided_among : (Q : Stretch → Type 0) → ((s : Stretch) → Q s ⊎ ¬ (Q s)) → (xs : List Stretch)
+    → ((s : Stretch) × IsAmong s xs × Q s) ⊎ ¬ ((s : Stretch) × IsAmong s xs × Q s)
+decided_among Q d [] = inr (λ h. h.1)
+decided_among Q d (x ∷ xs) = by_first (d x) (decided_among Q d xs)
+  where
+    by_first : Q x ⊎ ¬ (Q x) → ((s : Stretch) × IsAmong s xs × Q s) ⊎ ¬ ((s : Stretch) × IsAmong s xs × Q s)
+        → ((s : Stretch) × IsAmong s (x ∷ xs) × Q s) ⊎ ¬ ((s : Stretch) × IsAmong s (x ∷ xs) × Q s)
+    by_first (inl q) r = inl (x, inl refl, q)
+    by_first (inr n) (inl r) = inl (r.0, inr r.1, r.2)
+    by_first (inr n) (inr m) = inr (λ h. by_one h.0 h.1 h.2)
+      where
+        by_one : (s : Stretch) → IsAmong s (x ∷ xs) → Q s → ⊥
+        by_one s (inl e) q = n (subst Q e q)
+        by_one s (inr k) q = m (s, k, q)
+
+-- a list that holds all of a stretch holds it in one of its own: the one that holds a time of it begins no later
+pub holds_all : (xs : List Stretch) (f p : Stretch) (u : Rational) → AreTidy xs → ((t : Rational) → Lies f t → IsOn xs t) → IsAmong p xs → Lies p u → Lies f u
+    → ¬ (Before (place f.from) (place p.from))
+holds_all xs f p u h all m l k b =
+    let g = gap_before xs p (place f.from) h m b in
+    g.3 (all g.0 (g.1, upto_le (place f.to) g.0 u (le_through (place p.from) g.0 u g.2 l.0) k.1))

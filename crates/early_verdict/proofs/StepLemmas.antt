@@ -1,0 +1,29 @@
+-- What a set gained in one event, and what it tells then.
+use Rattle.std.proofs.Common.{◌≡◌, ◌⊎◌, inl, inr, refl, sym, subst, ◌∙◌, List, [], ◌++◌}
+use Rattle.rational.specs.Time.{Rational}
+use Rattle.early_verdict.specs.Cuts.{Place}
+use Rattle.early_verdict.specs.Spans.{Lies, IsOn, AreTidy, Grows}
+use Rattle.early_verdict.specs.Windows.{SeesPart}
+use Rattle.early_verdict.specs.Steps.{BySome, Common, HeldAt, SeesOne, SeesOnly, Tells, Gains}
+use Rattle.early_verdict.specs.declared.stretch.Stretch.{Stretch}
+use Rattle.early_verdict.specs.declared.window.Window.{Window}
+use Rattle.early_verdict.proofs.LoopLemmas.{grows_then}
+
+-- where nothing was told before, what is told is what was gained
+pub gains_of : (bounds : Stretch) (old new told fresh : List Stretch) (P : Rational → Type 0) → told ≡ [] → Grows bounds old new told fresh P → Gains old new fresh
+gains_of bounds old new told fresh P none g = record {
+  kept = g.keeps;
+  gained = λ t n. elim (g.gained t n) [ inl o ↦ inl o | inr m ↦ inr (subst (λ xs. IsOn xs t) (sym all) m) ];
+  own = λ t m. (g.news t (subst (λ xs. IsOn xs t) all m)).0;
+}
+  where
+    all : fresh ≡ g.more
+    all = g.noted ∙ subst (λ xs. xs ++ g.more ≡ g.more) (sym none) refl
+
+-- both steps of an event
+pub gains_both : (bounds bounds' : Stretch) (old mid new told some fresh : List Stretch) (P Q : Rational → Type 0) → bounds' ≡ bounds → told ≡ []
+    → Grows bounds old mid told some P → Grows bounds' mid new some fresh Q → Gains old new fresh
+gains_both bounds bounds' old mid new told some fresh P Q is none f g =
+    gains_of bounds old new told fresh (λ t. P t ⊎ Q t) none
+    (grows_then bounds old mid new told some fresh P Q (λ t. P t ⊎ Q t) (λ t h. h) (λ t h. h) f
+    (subst (λ b. Grows b mid new some fresh Q) is g))

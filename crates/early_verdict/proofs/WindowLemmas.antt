@@ -1,0 +1,221 @@
+-- Which windows reach past a place.
+use Rattle.std.proofs.Common.{
+  ◌≡◌,
+  ◌⊎◌,
+  inl,
+  inr,
+  refl,
+  sym,
+  ◌∙◌,
+  Bool,
+  true,
+  false,
+  not,
+  ◌||◌,
+  ◌&&◌,
+  ℤ,
+  neg_ℤ,
+  ℕ,
+  ◌+◌,
+  ◌*◌,
+  ◌<◌,
+  ◌≤◌,
+  ◌^◌,
+  Option,
+  Some,
+  None,
+  arith,
+  lit<,
+  ap,
+  subst,
+  mul-pos,
+  mul-lt-mul_of_pos_right,
+}
+use Rattle.std.specs.Prelude.{MatchBool, IfSome, IsTrue, unsigned_abs, ◌↔◌, ◌<ℤ◌}
+use Rattle.std.proofs.lemmas.Int.{by_lt_z, ints, to_z-of_z, fits_signed_from_abs}
+use mir.Val.{hbits}
+use Rattle.std.proofs.Common.{to_z, of_z}
+use Rattle.std.specs.Prelude.{Result, Ok, Err, OnOk}
+use Rattle.std.specs.Int.{w64}
+use Rattle.rational.specs.Rational.{Rational, IsWithin, FitsFloor, ◌≤ʳ◌, ◌<ʳ◌, ◌≈◌, add, whole, part_above, part_below}
+use Rattle.rational.proofs.Order.{
+  lt_or_same_or_gt,
+  le_of_lt,
+  le_of_same,
+  ge_of_same,
+  lt_of_lt_of_le,
+  lt_of_le_of_lt,
+  same_trans,
+  same_sym,
+  same_refl,
+  le_refl,
+  not_lt_of_le,
+}
+use Rattle.rational.proofs.Shift.{lt_shift, same_shift, shift_back, le_shift_by}
+use Rattle.rational.proofs.Mixed.{parts, fits_of_within, within_add, within_whole}
+use Rattle.early_verdict.specs.Cuts.{Place, place, After, Upto, Before, moved_begin, moved_end}
+use Rattle.early_verdict.specs.Spans.{Lies}
+use Rattle.early_verdict.specs.Windows.{Sees, SeesPart, low_place, high_place}
+use Rattle.early_verdict.specs.declared.stretch.Stretch.{Stretch}
+use Rattle.early_verdict.specs.declared.window.Window.{Window}
+use Rattle.early_verdict.proofs.PlaceLemmas.{share, before_through, between, place_order, upto_of_before, upto_same}
+use Rattle.early_verdict.proofs.StretchLemmas.{rises}
+
+-- a bound fits
+pub near_fits : (k : ℤ) → unsigned_abs k ≤ 2 ^ 32 → to_z w64 (of_z w64 k) ≡ k
+near_fits k h = to_z-of_z w64 k (fits_signed_from_abs w64 k (let b : 2 ^ 32 < 2 ^ hbits w64 = lit< tt in omega arith))
+
+-- a near time moved by no more than a bound fits
+pub move_fits : (t : Rational) (k : ℤ) → IsWithin (2 ^ 34) t → unsigned_abs k ≤ 2 ^ 32 → FitsFloor w64 (add t (whole k))
+move_fits t k w h = fits_of_within w64 (2 ^ 34 + 2 ^ 32) (lit< tt) (within_add (2 ^ 34) (2 ^ 32) w (within_whole (2 ^ 32) k h))
+
+shift_forth : (t : Rational) (k : ℤ) → add (add t (whole (neg_ℤ k))) (whole k) ≈ t
+shift_forth t k = record { same = omega (arith, ap (λ n. n * (t.den * t.den)) step) }
+  where
+    step : part_above k + part_above (neg_ℤ k) ≡ part_below k + part_below (neg_ℤ k)
+    step = omega (arith, parts)
+
+lt_back : (c t : Rational) (k : ℤ) → add c (whole (neg_ℤ k)) <ʳ t → c <ʳ add t (whole k)
+lt_back c t k h = lt_of_le_of_lt (ge_of_same (shift_forth c k)) (lt_shift k h)
+
+lt_forth : (c t : Rational) (k : ℤ) → c <ʳ add t (whole k) → add c (whole (neg_ℤ k)) <ʳ t
+lt_forth c t k h = lt_of_lt_of_le (lt_shift (neg_ℤ k) h) (le_of_same (shift_back t k))
+
+gt_back : (c t : Rational) (k : ℤ) → t <ʳ add c (whole (neg_ℤ k)) → add t (whole k) <ʳ c
+gt_back c t k h = lt_of_lt_of_le (lt_shift k h) (le_of_same (shift_forth c k))
+
+gt_forth : (c t : Rational) (k : ℤ) → add t (whole k) <ʳ c → t <ʳ add c (whole (neg_ℤ k))
+gt_forth c t k h = lt_of_le_of_lt (ge_of_same (shift_back t k)) (lt_shift (neg_ℤ k) h)
+
+same_back : (c t : Rational) (k : ℤ) → add c (whole (neg_ℤ k)) ≈ t → c ≈ add t (whole k)
+same_back c t k h = same_trans (same_sym (shift_forth c k)) (same_shift k h)
+
+same_forth : (c t : Rational) (k : ℤ) → c ≈ add t (whole k) → add c (whole (neg_ℤ k)) ≈ t
+same_forth c t k h = same_trans (same_shift (neg_ℤ k) h) (shift_back t k)
+
+-- a window ends behind a place from a time on
+pub ends_past : (k : ℤ) (i : Bool) (c : Place) (t : Rational) → After (moved_begin (neg_ℤ k) i c) t ↔ Before c (high_place k i t)
+ends_past k i c t = (there c.after i refl refl, back c.after i refl refl)
+  where
+    there : (a j : Bool) → c.after ≡ a → i ≡ j → MatchBool (a || not j) (add c.at (whole (neg_ℤ k)) <ʳ t) (add c.at (whole (neg_ℤ k)) ≤ʳ t)
+        → (c.at <ʳ add t (whole k)) ⊎ ((c.at ≈ add t (whole k)) × (c.after ≡ false) × (i ≡ true))
+    there true j e f h = inl (lt_back c.at t k h)
+    there false false e f h = inl (lt_back c.at t k h)
+    there false true e f h = elim (lt_or_same_or_gt (add c.at (whole (neg_ℤ k))) t) [
+      | inl l ↦ inl (lt_back c.at t k l)
+      | inr o ↦ elim o [ inl s ↦ inr (same_back c.at t k s, e, f) | inr l ↦ absurd (not_lt_of_le h l) ]
+    ]
+
+    back : (a j : Bool) → c.after ≡ a → i ≡ j → (c.at <ʳ add t (whole k)) ⊎ ((c.at ≈ add t (whole k)) × (c.after ≡ false) × (i ≡ true))
+        → MatchBool (a || not j) (add c.at (whole (neg_ℤ k)) <ʳ t) (add c.at (whole (neg_ℤ k)) ≤ʳ t)
+    back true j e f (inl l) = lt_forth c.at t k l
+    back true j e f (inr (s, x, y)) = absurd (let z : true ≡ false = sym e ∙ x in cc)
+    back false false e f (inl l) = lt_forth c.at t k l
+    back false false e f (inr (s, x, y)) = absurd (let z : true ≡ false = sym y ∙ f in cc)
+    back false true e f (inl l) = le_of_lt (lt_forth c.at t k l)
+    back false true e f (inr (s, x, y)) = le_of_same (same_forth c.at t k s)
+
+-- and begins before a place up to a time
+pub begins_before : (k : ℤ) (i : Bool) (c : Place) (t : Rational) → Upto (moved_end (neg_ℤ k) i c) t ↔ Before (low_place k i t) c
+begins_before k i c t = (there c.after i refl refl, back c.after i refl refl)
+  where
+    there : (a j : Bool) → c.after ≡ a → i ≡ j → MatchBool (a && j) (t ≤ʳ add c.at (whole (neg_ℤ k))) (t <ʳ add c.at (whole (neg_ℤ k)))
+        → (add t (whole k) <ʳ c.at) ⊎ ((add t (whole k) ≈ c.at) × (not i ≡ false) × (c.after ≡ true))
+    there false j e f h = inl (gt_back c.at t k h)
+    there true false e f h = inl (gt_back c.at t k h)
+    there true true e f h = elim (lt_or_same_or_gt (add c.at (whole (neg_ℤ k))) t) [
+      | inl l ↦ absurd (not_lt_of_le h l)
+      | inr o ↦ elim o [ inl s ↦ inr (same_sym (same_back c.at t k s), ap not f, e) | inr l ↦ inl (gt_back c.at t k l) ]
+    ]
+
+    back : (a j : Bool) → c.after ≡ a → i ≡ j → (add t (whole k) <ʳ c.at) ⊎ ((add t (whole k) ≈ c.at) × (not i ≡ false) × (c.after ≡ true))
+        → MatchBool (a && j) (t ≤ʳ add c.at (whole (neg_ℤ k))) (t <ʳ add c.at (whole (neg_ℤ k)))
+    back false j e f (inl l) = gt_forth c.at t k l
+    back false j e f (inr (s, x, y)) = absurd (let z : true ≡ false = sym y ∙ e in cc)
+    back true false e f (inl l) = gt_forth c.at t k l
+    back true false e f (inr (s, x, y)) = absurd (let z : true ≡ false = sym (ap not f) ∙ x in cc)
+    back true true e f (inl l) = le_of_lt (gt_forth c.at t k l)
+    back true true e f (inr (s, x, y)) = ge_of_same (same_forth c.at t k (same_sym s))
+
+-- a bound that lies before another, or at it with both ends in, leaves room between
+pub room_between : (j k : ℤ) (t : Rational) → j <ℤ k → add t (whole j) <ʳ add t (whole k)
+room_between j k t h = record { lt = omega (arith, mul-lt-mul_of_pos_right step (mul-pos t.positive t.positive)) }
+  where
+    step : part_above j + part_below k < part_above k + part_below j
+    step = omega (arith, parts)
+
+int_order : (j k : ℤ) → (j <ℤ k) ⊎ (j ≡ k) ⊎ (k <ℤ j)
+int_order j k = by_lt_z j k inl (λ h. inr (by_lt_z k j inr (λ l. inl (omega (arith, ints)))))
+
+-- a window has a time exactly where its bounds leave room
+pub room_in : (j k : ℤ) (i h : Bool) (t : Rational) → (j <ℤ k) ⊎ ((j ≡ k) × IsTrue i × IsTrue h) → Before (low_place j i t) (high_place k h t)
+room_in j k i h t (inl l) = inl (room_between j k t l)
+room_in j k i h t (inr (e, x, y)) = inr (subst (λ n. add t (whole j) ≈ add t (whole n)) e (same_refl (add t (whole j))), ap not x, y)
+
+pub room_out : (j k : ℤ) (i h : Bool) (t : Rational) → Before (low_place j i t) (high_place k h t) → (j <ℤ k) ⊎ ((j ≡ k) × IsTrue i × IsTrue h)
+room_out j k i h t b = elim (int_order j k) [
+  | inl l ↦ inl l
+  | inr o ↦ elim o [
+    | inl e ↦ by_before e b
+    | inr l ↦ absurd (turned l b)
+  ]
+]
+  where
+    turned : k <ℤ j → Before (low_place j i t) (high_place k h t) → ⊥
+    turned l (inl x) = not_lt_of_le (le_of_lt (room_between k j t l)) x
+    turned l (inr (s, x, y)) = not_lt_of_le (le_of_same s) (room_between k j t l)
+
+    is_in : (i : Bool) → not i ≡ false → i ≡ true
+    is_in true x = refl
+    is_in false x = absurd (let z : true ≡ false = x in cc)
+
+    by_before : j ≡ k → Before (low_place j i t) (high_place k h t) → (j <ℤ k) ⊎ ((j ≡ k) × IsTrue i × IsTrue h)
+    by_before e (inl x) = absurd (not_lt_of_le (subst (λ n. add t (whole n) ≤ʳ add t (whole j)) e (le_refl (add t (whole j)))) x)
+    by_before e (inr (s, x, y)) = inr (e, is_in i x, y)
+
+-- a window that has a time from everywhere meets a part exactly where it begins before the part ends, and ends behind its beginning
+pub sees_part : (w : Window) (part : Stretch) (t : Rational) → IfSome w.low (λ k. Before (low_place k w.low_in t) (high_place w.high w.high_in t))
+    → Before (place part.from) (high_place w.high w.high_in t) → IfSome w.low (λ k. Before (low_place k w.low_in t) (place part.to)) → SeesPart w part t
+sees_part w part t room high low = by_low w.low (λ u h. h) room low
+  where
+    far : Place
+    far = high_place w.high w.high_in t
+
+    open_low : Before (place part.to) far ⊎ (((u : Rational) → Upto far u → Upto (place part.to) u))
+        → (u : Rational) × After (place part.from) u × Upto (place part.to) u × Upto far u
+    open_low (inl b) = let m = between (place part.from) (place part.to) (rises part) in (m.0, m.1, m.2, upto_of_before (place part.to) far m.0 b m.2)
+    open_low (inr f) = let m = between (place part.from) far high in (m.0, m.1, f m.0 m.2, m.2)
+
+    order : Before (place part.to) far ⊎ (((u : Rational) → Upto far u → Upto (place part.to) u))
+    order = elim (place_order (place part.to) far) [
+      | inl b ↦ inl b
+      | inr o ↦ elim o [
+        | inl s ↦ inr (λ u h. upto_same far (place part.to) u (same_sym s.0, sym s.1) h)
+        | inr b ↦ inr (λ u h. upto_of_before far (place part.to) u b h)
+      ]
+    ]
+
+    by_low : (low : Option ℤ) → ((u : Rational) → IfSome low (λ k. After (low_place k w.low_in t) u) → IfSome w.low (λ k. After (low_place k w.low_in t) u))
+        → IfSome low (λ k. Before (low_place k w.low_in t) far) → IfSome low (λ k. Before (low_place k w.low_in t) (place part.to)) → SeesPart w part t
+    by_low None f r l = let m = open_low order in (m.0, (m.1, m.2), record { begins = f m.0 tt; ends = m.3 })
+    by_low (Some k) f r l =
+        let m = share (place part.from) (place part.to) (low_place k w.low_in t) far (rises part) r high l in
+        (m.0, (m.1, m.2), record { begins = f m.0 m.3; ends = m.4 })
+
+-- what is said of a good answer follows from what is known of it
+pub on_ok : {T E : Type 0} (r : Result T E) (P Q : Type 0) → (P → Q) → OnOk r P → OnOk r Q
+on_ok (Ok x) P Q f h = f h
+on_ok (Err e) P Q f h = tt
+
+pub on_good : {T E : Type 0} (r : Result T E) {P Q : Type 0} → OnOk r P → (P → Q) → OnOk r Q
+on_good (Ok x) h f = f h
+on_good (Err e) h f = tt
+
+-- what it sees of the part is such
+pub part_seen : (w : Window) (part : Stretch) (t : Rational) → SeesPart w part t
+    → Before (place part.from) (high_place w.high w.high_in t) × IfSome w.low (λ k. Before (low_place k w.low_in t) (place part.to))
+part_seen w part t (u, h, s) = (before_through (place part.from) (high_place w.high w.high_in t) u h.0 s.ends, by_low w.low s.begins)
+  where
+    by_low : (low : Option ℤ) → IfSome low (λ k. After (low_place k w.low_in t) u) → IfSome low (λ k. Before (low_place k w.low_in t) (place part.to))
+    by_low None b = tt
+    by_low (Some k) b = before_through (low_place k w.low_in t) (place part.to) u b h.1

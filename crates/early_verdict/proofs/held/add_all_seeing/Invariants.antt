@@ -1,0 +1,14 @@
+use Rattle.std.proofs.Common.{◌≡◌, take}
+use Rattle.early_verdict.specs.Cuts.{place}
+use Rattle.early_verdict.specs.Spans.{AreTidy, Grows}
+use Rattle.early_verdict.specs.Windows.{SeesPart}
+use Rattle.early_verdict.specs.Steps.{BySome, HeldAt}
+use Rattle.early_verdict.proofs.held.add_all_seeing.Given as goal
+
+abbrev pub invariant-loop-part : goal.invariant-loop-part
+invariant-loop-part l = record {
+  tidy : AreTidy l.own.spans.items;
+  bounds : l.own.bounds ≡ l.initial.own.bounds;
+  grows : Grows l.initial.own.bounds l.initial.own.spans.items l.own.spans.items l.initial.own.fresh.items l.own.fresh.items
+      (BySome (SeesPart l.w) (take l.part-index l.parts));
+}

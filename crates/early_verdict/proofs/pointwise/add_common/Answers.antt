@@ -1,0 +1,47 @@
+use Rattle.std.proofs.Common.{rules, ◌≡◌, ◌<◌, ◌∙◌, refl, length, arith}
+use Rattle.std.proofs.lemmas.Option.{slice_get_within}
+use Rattle.early_verdict.specs.Cuts.{place}
+use Rattle.early_verdict.proofs.MakingLemmas.{after_from, after_one, upto_one}
+use Rattle.early_verdict.proofs.LoopLemmas.{common_first, common_on, common_last}
+use Rattle.early_verdict.proofs.pointwise.add_common.Goals as goal
+
+pub loop-next-init : goal.loop-next-init
+loop-next-init c = record {
+  within = c.first_reaching-at.ensures.within;
+  tidy = c.requires.own;
+  bounds = refl;
+  grows = common_first c.args.own.now.bounds c.args.part.now c.args.spans.now.items c.args.own.now.spans.items c.args.own.now.fresh.items
+      c.first_reaching-at.result c.first_reaching-at.ensures.front;
+}
+
+pub loop-next-preserved : goal.loop-next-preserved
+loop-next-preserved c =
+    let own = c.args.own.now in
+    let here = c.loop-next.own in
+    let new = c.add.new.self in
+    let part = c.args.part.now in
+    let next = c.in-Some.next in
+    let below : c.loop-next.at < length c.args.spans.now.items = slice_get_within c.args.spans.now.items c.loop-next.at next c.in-Some.ensures.some.0 in
+    record {
+      within = omega arith;
+      tidy = c.in_ok-add.ensures.tidy;
+      bounds = c.add.ensures.bounds ∙ c.loop-next.invariant.bounds;
+      grows = common_on own.bounds here.bounds part next c.later.result c.earlier.result c.args.spans.now.items own.spans.items here.spans.items
+          new.spans.items own.fresh.items here.fresh.items new.fresh.items c.loop-next.at c.loop-next.invariant.bounds c.in-Some.ensures.some.0
+          (λ t h. (
+            after_one part.from next.from c.later.result t c.later.ensures.one h.0.0 h.1.0,
+            upto_one part.to next.to c.earlier.result t c.earlier.ensures.one h.0.1 h.1.1,
+          ))
+          (λ t h. (
+            (after_from (place part.from) (place c.later.result) t c.later.ensures.first h.0, c.earlier.ensures.first t h.1),
+            (after_from (place next.from) (place c.later.result) t c.later.ensures.second h.0, c.earlier.ensures.second t h.1),
+          ))
+          c.loop-next.invariant.grows c.in_ok-add.ensures.ok;
+    }
+
+pub returns-clause-ok : goal.returns-clause-ok
+returns-clause-ok c =
+    let own = c.args.own.now in
+    let here = c.loop-next.own in
+    common_last own.bounds c.args.part.now c.args.spans.now.items own.spans.items here.spans.items own.fresh.items here.fresh.items c.loop-next.at
+    c.requires.spans c.in_default.ensures.none c.loop-next.invariant.grows
