@@ -70,6 +70,8 @@ mod value_laws_tests;
 #[cfg(test)]
 mod verdict_tests;
 #[cfg(test)]
+mod watch_tests;
+#[cfg(test)]
 mod window_extrema_tests;
 #[cfg(test)]
 mod window_tests;
