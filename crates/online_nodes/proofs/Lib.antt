@@ -54,5 +54,6 @@ mod WorkedLemmas
 mod WindowedLemmas
 mod SweptLemmas
 mod UntilWorked
+mod SinceWorked
 mod DroppedLemmas
 mod SteppedLemmas
