@@ -55,5 +55,6 @@ mod WindowedLemmas
 mod SweptLemmas
 mod UntilWorked
 mod SinceWorked
+mod BodyLemmas
 mod DroppedLemmas
 mod SteppedLemmas

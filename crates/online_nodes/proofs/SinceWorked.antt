@@ -275,7 +275,7 @@ module _ {x : Situation} {op : Operator} {old : Held} {work : Outcome} (d : IsDu
   ]
 
   -- the place at which the trace begins
-  begin_place : Place
+  abbrev begin_place : Place
   begin_place = record { at = whole (pos (first_in x)); after = false }
 
   -- what was known, where there was an answer
@@ -298,7 +298,7 @@ module _ {x : Situation} {op : Operator} {old : Held} {work : Outcome} (d : IsDu
   left_enough t u = subst (λ (o : Front). Upto (place_of o) t) (sym has_numbers.left)
       (le_trans (upto_same (place work.out.to) (end_of x) t g.end u) (le_whole has_numbers.left_front))
 
-  pub stay : Stay
+  abbrev pub stay : Stay
   stay = record {
     n = has.like;
     p = subformula x.nodes s.window.of;
@@ -338,7 +338,7 @@ module _ {x : Situation} {op : Operator} {old : Held} {work : Outcome} (d : IsDu
               let is : w ≡ v = (let y : Some w ≡ Some v = e in cc) in
               subst (λ (y : Verdict). AtMost (begins (interval y.on)) (place work.out.at)) is h
 
-  begun_course : Course
+  abbrev pub begun_course : Course
   begun_course = record { out = work.out; reach = work.marks.reach; run = work.marks.run }
 
   left_tells : Tells (Truth (subformula x.nodes s.window.of) (trace_in x)) (read_upto old s.window.of) (fresh_at old s.window.of)
