@@ -78,7 +78,7 @@ use Rattle.online_nodes.specs.Stepping.{
   stretch_of,
   trace_in,
 }
-use Rattle.online_nodes.specs.Cuts.{After, AtMost, Before, Place, Same, Upto, begins, ends, place}
+use Rattle.online_nodes.specs.Cuts.{After, AtMost, Before, Place, Same, Upto, begins, ends, moved_begin, place}
 use Rattle.online_nodes.specs.Held.{Held, edge_at, fresh_at, held_at, number_at}
 use Rattle.online_nodes.specs.Kinds.{held_in, inputs_of, open_by}
 use Rattle.online_nodes.specs.Operators.{IsSinceKnown, KnowsBy, behind, first_place, front_place, kind_of, place_of, read_upto}
@@ -539,7 +539,14 @@ module _ {x : Situation} {op : Operator} {old : Held} {work : Outcome} (d : IsDu
           ahead = m.ahead;
           from_start = m.from_start;
         });
-        unread = subst (λ k. LeavesLater k new (end_of x)) (sym kind) tt;
+        unread = subst (λ k. LeavesLater k new (end_of x) (place done.marks.run)) (sym kind) (
+          (λ v e. same_before (end_of x) (place work.out.to) (ends (interval v.on)) (same_places g.end) (told.left v e)),
+          (λ w e. elim (after.2 w e) [
+            | inl b ↦ inl (same_before (end_of x) (place work.out.to) (moved_begin s.window.begin_by s.window.begin_in (ends (interval w.on)))
+                (same_places g.end) b)
+            | inr u ↦ inr (λ t h. u t (upto_same (end_of x) (place work.out.to) t (same_places g.end) h))
+          ]),
+        );
       }
 
 -- the operator's since

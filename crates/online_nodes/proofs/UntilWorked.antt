@@ -400,7 +400,7 @@ module _ {x : Situation} {op : Operator} {old : Held} {work : Outcome} (d : IsDu
               (after_same (read_upto new u.right) after.0.right t (same_places right) b);
           ahead = m.ahead;
         });
-        unread = subst (λ k. LeavesLater k new (end_of x)) (sym kind) tt;
+        unread = subst (λ k. LeavesLater k new (end_of x) (place done.marks.run)) (sym kind) tt;
       }
 
 -- the operator's until
