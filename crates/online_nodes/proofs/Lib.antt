@@ -56,5 +56,6 @@ mod SweptLemmas
 mod UntilWorked
 mod SinceWorked
 mod BodyLemmas
+mod AbleLemmas
 mod DroppedLemmas
 mod SteppedLemmas
