@@ -62,7 +62,7 @@ pub record HasCarried (kind : Kind) (old mid : Held) (out : Out) (told : Outcome
   pub sound : IsSound told.out
 
 -- not all that an edge holds need be fresh
-fresh_few : (e : Held) (j : ℕ) → length (fresh_at e j) ≤ length (held_at e j)
+pub fresh_few : (e : Held) (j : ℕ) → length (fresh_at e j) ≤ length (held_at e j)
 fresh_few e j = omega (arith, length-append (edge_at e j).seen (edge_at e j).fresh)
 
 told_all : (kind : Kind) (holds : Bool) (old mid : Held) (out : Out) (marks : Marks) (told : Outcome) → out.edge < length old.edges
@@ -84,7 +84,7 @@ told_all kind holds old mid out marks told own apart none g =
     }
 
 -- one input, or two
-worked_one : (kind : Kind) (j : ℕ) (old mid : Held) (own : ℕ) (more : List Verdict) → ((k : ℕ) → IsInput kind k → j ≡ k)
+pub worked_one : (kind : Kind) (j : ℕ) (old mid : Held) (own : ℕ) (more : List Verdict) → ((k : ℕ) → IsInput kind k → j ≡ k)
     → ((k : ℕ) → j ≡ k → IsInput kind k) → HasWorked old mid own j j more → HasWorkedOn kind old mid own more
 worked_one kind j old mid own more only is g =
     record {
@@ -96,7 +96,7 @@ worked_one kind j old mid own more only is g =
       spare = g.spare;
     }
 
-worked_two : (kind : Kind) (left right : ℕ) (old mid : Held) (own : ℕ) (more : List Verdict)
+pub worked_two : (kind : Kind) (left right : ℕ) (old mid : Held) (own : ℕ) (more : List Verdict)
     → ((k : ℕ) → IsInput kind k → (left ≡ k) ⊎ (right ≡ k)) → ((k : ℕ) → (left ≡ k) ⊎ (right ≡ k) → IsInput kind k)
     → HasWorked old mid own left right more → HasWorkedOn kind old mid own more
 worked_two kind left right old mid own more only is g =

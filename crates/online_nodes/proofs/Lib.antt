@@ -46,3 +46,12 @@ mod KnowingOn
 pub mod RowsLaw
 mod PlacesOn
 pub mod StandingLaw
+mod TellingLemmas
+mod ReadLemmas
+mod DueLemmas
+mod WorkedLemmas
+mod WindowedLemmas
+mod SweptLemmas
+mod UntilWorked
+mod DroppedLemmas
+mod SteppedLemmas

@@ -106,6 +106,7 @@ CanAnswer (Since s) e own marks =
 pub record HasToldAll (old new : Held) (holds : Bool) (out : Out) (marks : Marks) (a : Outcome) : Type 0 where
   pub said : HasAnswer old new out holds a.out
   pub all : AtMost (place out.to) (place a.out.at)
+  pub inside : AtMost (place a.out.at) (place out.to)
   pub kept : a.marks ≡ marks
 
 -- a window was swept, or it is empty and nothing was read
