@@ -153,10 +153,10 @@ module _ {k : Kind} {w : Window} (is : IsWindowKind k w) where
     | inr s ↦ subst (λ k. KnowsBy k x.nodes (trace_in x) e at reach run) s h
   ]
 
-  pub window_leaves : (e : Held) (to : Place) → (is_empty w ≡ false → CountsBeyond e w to) → LeavesLater k e to
-  window_leaves e to h = elim is [
-    | inl s ↦ subst (λ k. LeavesLater k e to) (sym s) h
-    | inr s ↦ subst (λ k. LeavesLater k e to) (sym s) h
+  pub window_leaves : (e : Held) (to run : Place) → (is_empty w ≡ false → CountsBeyond e w to) → LeavesLater k e to run
+  window_leaves e to run h = elim is [
+    | inl s ↦ subst (λ k. LeavesLater k e to run) (sym s) h
+    | inr s ↦ subst (λ k. LeavesLater k e to run) (sym s) h
   ]
 
   -- the number that it may have by its input's
@@ -257,7 +257,7 @@ module _ {x : Situation} {op : Operator} {old : Held} {work : Outcome} (d : IsDu
             (subst (λ (q : Place). Knows w.seeks (Counted w.seeks (subformula x.nodes w.of) (trace_in x)) (low_place w) (high_place w) (end_of x)
             (place done.marks.reach) (read_upto new w.of) q) stop
             (knows_same (place done.out.at) (end_of x) (place done.marks.reach) told.0 (read_upto new w.of) (front_place old w.of) there from told.1.knows));
-        unread = window_leaves is new (end_of x) (λ full v first.
+        unread = window_leaves is new (end_of x) (place done.marks.run) (λ full v first.
             same_before (end_of x) (place work.out.to) (moved_begin w.begin_by w.begin_in (begins (interval v.on))) (same_places g.end)
             (swept.beyond v first));
       }
@@ -273,7 +273,7 @@ module _ {x : Situation} {op : Operator} {old : Held} {work : Outcome} (d : IsDu
             absurd (none_in_window w has.order empty t c.0 c.1 c.2);
         rest = λ t u a b lo hi h. absurd (none_in_window w has.order empty t u lo hi);
       }))
-      (window_leaves is new (end_of x) (λ full. absurd (let z : true ≡ false = sym empty ∙ full in cc)))
+      (window_leaves is new (end_of x) (place done.marks.run) (λ full. absurd (let z : true ≡ false = sym empty ∙ full in cc)))
     where
       before_end : (t : Rational) → After (end_of x) t → After (place work.out.at) t
       before_end t a = after_at_most (place work.out.at) (end_of x) t

@@ -234,13 +234,14 @@ module _ {x : Situation} {op : Operator} {old : Held} {work : Outcome} (d : IsDu
           told = told.1.told;
           knows = subst (λ k. KnowsBy k x.nodes (trace_in x) new (end_of x) (place done.marks.reach) (place done.marks.run)) (sym kind)
               (λ t u. upto_same (place done.out.at) (end_of x) t there (told.1.input.behind t (upto_same (read_upto new of) told.0 t (same_places from) u)));
-          unread = subst (λ k. LeavesLater k new (end_of x)) (sym kind) tt;
+          unread = subst (λ k. LeavesLater k new (end_of x) (place done.marks.run)) (sym kind) tt;
         }
 
   -- a node that is so at every time of the stretch, and reads nothing
   pub all_worked : {new : Held} (b : Bool) (done : Outcome) → HasToldAll old new b work.out work.marks done
       → ((t : Rational) → Is b (Truth (formula_of x op) (trace_in x)) t)
-      → KnowsBy op.kind x.nodes (trace_in x) new (end_of x) (place done.marks.reach) (place done.marks.run) → LeavesLater op.kind new (end_of x)
+      → KnowsBy op.kind x.nodes (trace_in x) new (end_of x) (place done.marks.reach) (place done.marks.run)
+      → LeavesLater op.kind new (end_of x) (place done.marks.run)
       → HasWorkedOut x op old new done
   all_worked {new} b done told holds knows unread =
       let said = told.said in
@@ -277,7 +278,7 @@ module _ {x : Situation} {op : Operator} {old : Held} {work : Outcome} (d : IsDu
         all_worked b done told
         (λ t. subst (λ (n : Subformula). Is b (Truth n (trace_in x)) t) (sym constant_is) (holds b t))
         (subst (λ k. KnowsBy k x.nodes (trace_in x) new (end_of x) (place done.marks.reach) (place done.marks.run)) (sym kind) tt)
-        (subst (λ k. LeavesLater k new (end_of x)) (sym kind) tt)
+        (subst (λ k. LeavesLater k new (end_of x) (place done.marks.run)) (sym kind) tt)
       where
         holds : (b : Bool) (t : Rational) → Is b (Truth (constant b) (trace_in x)) t
         holds true t = refl
@@ -364,5 +365,5 @@ module _ {x : Situation} {op : Operator} {old : Held} {work : Outcome} (d : IsDu
             (λ t u. upto_same (place done.out.at) (end_of x) t there
                 (told.2.right_read.behind t (upto_same (read_upto new inputs.right) told.1 t (same_places right) u))),
           );
-          unread = subst (λ k. LeavesLater k new (end_of x)) (sym kind) tt;
+          unread = subst (λ k. LeavesLater k new (end_of x) (place done.marks.run)) (sym kind) tt;
         }

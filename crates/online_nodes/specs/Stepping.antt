@@ -29,9 +29,11 @@ use Rattle.std.specs.Prelude.{
   Some,
   None,
   option_map,
+  slice_get,
 }
 use Rattle.rational.specs.Rational.{whole}
 use Rattle.rational.specs.Time.{Interval}
+use Rattle.frac128.specs.Spans.{interval}
 use Rattle.stl_syntax.specs.Trace.{Header, Trace, first_time}
 use Rattle.stl_syntax.specs.Formula.{Subformula, subformula}
 use Rattle.stl_syntax.specs.Verdicts.{Describes}
@@ -40,10 +42,11 @@ use Rattle.stl_syntax.specs.declared.items.Verdict.{Verdict}
 use Rattle.stl_syntax.specs.declared.node.Node.{Node}
 use Rattle.online_nodes.specs.Answering.{HasWorkedOn, is_empty}
 use Rattle.online_nodes.specs.Belonging.{Belongs, is_ready, trace_of}
-use Rattle.online_nodes.specs.Cuts.{Place, Same, begins, place}
-use Rattle.online_nodes.specs.Held.{Edge, Held, edge_at, held_of, with_more, IsDroppedBy}
+use Rattle.online_nodes.specs.Cuts.{Before, Place, Same, begins, ends, place}
+use Rattle.online_nodes.specs.Held.{Held, fresh_at}
 use Rattle.online_nodes.specs.Kinds.{held_in, inputs_of}
 use Rattle.online_nodes.specs.Operators.{KnowsBy}
+use Rattle.online_nodes.specs.Sinces.{IsSpent}
 use Rattle.online_nodes.specs.Sweeps.{CountsBeyond}
 use Rattle.online_nodes.specs.Working.{IsReadOn}
 use Rattle.online_nodes.specs.Written.{HasTold, IsSound, waiting}
@@ -100,11 +103,14 @@ pub record IsBegun (x : Situation) (op : Operator) (work : Outcome) : Type 0 whe
   pub first : op.front ≡ None → (work.marks.reach ≡ work.out.from) × (work.marks.run ≡ work.out.from)
   pub later : (f : ℕ) → op.front ≡ Some f → (work.marks.reach ≡ op.reach) × (work.marks.run ≡ op.run)
 
--- what a window with a time in it has not read counts only after the stretch that ends there
-abbrev pub LeavesLater : Kind → Held → Place → Type 0
-LeavesLater (Ahead w) e to = is_empty w ≡ false → CountsBeyond e w to
-LeavesLater (Behind w) e to = is_empty w ≡ false → CountsBeyond e w to
-LeavesLater k e to = Unit {0}
+-- what a window with a time in it has not read counts only after the stretch that ends there; of the inputs of since the left one's next
+-- verdict ends after it, and so does the right one's, moved by the window, or the run begins no earlier than there
+abbrev pub LeavesLater : Kind → Held → Place → Place → Type 0
+LeavesLater (Ahead w) e to run = is_empty w ≡ false → CountsBeyond e w to
+LeavesLater (Behind w) e to run = is_empty w ≡ false → CountsBeyond e w to
+LeavesLater (Since s) e to run =
+    ((v : Verdict) → slice_get (fresh_at e s.window.of) 0 ≡ Some v → Before to (ends (interval v.on))) × IsSpent s (fresh_at e s.right) to run
+LeavesLater k e to run = Unit {0}
 
 -- a body has worked: what it told leads to the end of the stretch, and what it keeps in mind of the inputs is so
 pub record HasWorkedOut (x : Situation) (op : Operator) (old new : Held) (work : Outcome) : Type 0 where
@@ -116,4 +122,11 @@ pub record HasWorkedOut (x : Situation) (op : Operator) (old new : Held) (work :
   pub end : Same (place work.out.at) (end_of x)
   pub told : HasTold (formula_of x op) (trace_in x) (begins (stretch_of x op)) more work.out
   pub knows : KnowsBy op.kind x.nodes (trace_in x) new (end_of x) (place work.marks.reach) (place work.marks.run)
-  pub unread : LeavesLater op.kind new (end_of x)
+  pub unread : LeavesLater op.kind new (end_of x) (place work.marks.run)
+
+-- the step is to this front, over rows from this start on; and a step to it is due in some run
+abbrev pub IsFor : Situation → ℕ → ℕ → Type 0
+IsFor x start front = (first_in x ≡ start) × (x.front ≡ pos front)
+
+abbrev pub IsDueSomewhere : Operator → Held → ℕ → ℕ → Type 0
+IsDueSomewhere op e start front = (x : Situation) × IsFor x start front × IsDue x op e
