@@ -21,6 +21,7 @@ use Rattle.std.proofs.Common.{
   List,
   [],
   ◌∷◌,
+  ◌++◌,
   length,
   ℤ,
   pos,
@@ -28,18 +29,18 @@ use Rattle.std.proofs.Common.{
   ◌<ℤ◌,
   arith,
 }
-use Rattle.std.specs.Prelude.{◌&&◌, cond, option_map, slice_get, IfSome}
+use Rattle.std.specs.Prelude.{◌&&◌, not, cond, int_lt, option_map, slice_get, IfSome}
 use Rattle.std.proofs.lemmas.Int.{ints}
-use Rattle.rational.specs.Rational.{Rational, ◌≤ʳ◌, ◌<ʳ◌, whole}
-use Rattle.rational.proofs.Order.{le_of_lt, le_trans, lt_of_lt_of_le}
-use Rattle.rational.proofs.Shift.{le_whole}
+use Rattle.rational.specs.Rational.{Rational, ◌≤ʳ◌, ◌<ʳ◌, ◌≈◌, whole}
+use Rattle.rational.proofs.Order.{le_of_lt, le_trans, lt_of_lt_of_le, lt_or_same_or_gt, not_lt_of_le}
+use Rattle.rational.proofs.Shift.{le_whole, lt_whole}
 use Rattle.stl_syntax.specs.Trace.{Trace, first_time, start, stop}
 use Rattle.stl_syntax.specs.Formula.{Subformula, subformula, tree_of}
 use Rattle.stl_syntax.specs.Truth.{Truth}
 use Rattle.stl_syntax.proofs.FormulaLemmas.{subformula-at}
 use Rattle.stl_syntax.specs.declared.items.Verdict.{Verdict}
 use Rattle.stl_syntax.specs.declared.node.Node.{Node}
-use Rattle.online_nodes.specs.Network.{Front, allowed_at, is_atom, same_front, shown, state}
+use Rattle.online_nodes.specs.Network.{Front, IsRun, State, allowed_at, is_atom, last_row, same_front, shown, state, step}
 use Rattle.online_nodes.specs.Needed.{IsReader}
 use Rattle.online_nodes.specs.Answering.{IsInput}
 use Rattle.online_nodes.specs.Stepping.{
@@ -64,13 +65,25 @@ use Rattle.online_nodes.specs.declared.kind.Kind.TheVariants.{Const as Constant,
 use Rattle.online_nodes.specs.declared.operator.Operator.{Operator}
 use Rattle.online_nodes.specs.declared.answering.Outcome.{Outcome}
 use Rattle.online_nodes.specs.declared.writer.Out.{Out}
-use Rattle.online_nodes.proofs.BelongLemmas.{allowed_number, inputs_are_children, kind_inputs, own_below, own_edge, same_true}
+use Rattle.online_nodes.proofs.BelongLemmas.{
+  allowed_number,
+  inputs_are_children,
+  kind_inputs,
+  no_atom_here,
+  own_below,
+  own_edge,
+  own_within,
+  same_refl,
+  same_true,
+}
+use Rattle.online_nodes.proofs.EdgeLaw.{run_more}
+use Rattle.online_nodes.proofs.RisingLaw.{sound_of}
 use Rattle.online_nodes.proofs.HeldFacts.{input_within}
 use Rattle.online_nodes.proofs.TellingLemmas.{IsTelling}
 use Rattle.online_nodes.proofs.PlaceLemmas.{same_before, same_places, upto_of_before, upto_same}
-use Rattle.online_nodes.proofs.ReadLemmas.{input_apart, never_less, read_first, stop_is, telling}
+use Rattle.online_nodes.proofs.ReadLemmas.{input_apart, never_less, own_after, read_first, stop_is, telling, with_step}
 use Rattle.online_nodes.proofs.ReaderLemmas.{input_side, inputs_apart, side_reads}
-use Rattle.online_nodes.proofs.RunLaw.{and_left, some_is}
+use Rattle.online_nodes.proofs.RunLaw.{and_left, int_order, some_is}
 use Rattle.online_nodes.proofs.StayLaw.{shown_is}
 use Rattle.online_nodes.proofs.Writing.{same_itself}
 
@@ -164,6 +177,64 @@ module _ {x : Situation} {op : Operator} {e : Held} (d : IsDue x op e) where
       let at = shown_is x.nodes x.header d.belongs.formed.post_order (state_in x) op.node (pos g) shows in
       let up = never_less d.belongs x.front d.allowed (pos g) at.0 in
       subst (λ z. pos g ≤ℤ z) (some_is up.0 x.front (sym up.1)) up.2
+
+  -- the number that it comes to is at most the last row's time
+  step_runs : IsRun x.nodes x.header (x.events ++ step op.node ∷ [])
+  step_runs = run_more x.nodes x.header d.belongs.formed x.events (step op.node) d.belongs.run (own_within d.belongs, no_atom_here d.belongs)
+
+  pub front_by_now : x.front ≤ℤ pos x.now
+  front_by_now =
+      let sound = sound_of x.nodes x.header d.belongs.formed.post_order (x.events ++ step op.node ∷ []) step_runs in
+      let bound = sound.bounded op.node x.front (own_within d.belongs)
+      (ap (λ (s : State). s.fronts op.node) (with_step d.belongs) ∙ own_after d.belongs ∙ d.allowed) in
+      let last : bound.last ≡ pos x.now =
+      some_is bound.last (pos x.now) (sym bound.is_last ∙ ap last_row (with_step d.belongs) ∙ d.belongs.last) in
+      subst (λ z. x.front ≤ℤ z) last bound.by_now
+
+  -- and an old number is below it
+  pub front_before : (g : ℕ) → op.front ≡ Some g → pos g <ℤ x.front
+  front_before g h =
+      let shows : shown (state_in x) op.node ≡ Some (pos g) = d.belongs.stands.front ∙ ap (option_map pos) h in
+      let at = shown_is x.nodes x.header d.belongs.formed.post_order (state_in x) op.node (pos g) shows in
+      let below : pos g ≤ℤ x.front = front_later g h in
+      elim (int_cases (pos g) x.front) [
+        | inl l ↦ l
+        | inr o ↦
+            let one : pos g ≡ x.front = omega (arith, ints, below, o) in
+            let same : same_front (allowed_at x.nodes (state_in x) op.node) ((state_in x).fronts op.node) ≡ true =
+            same_refl (allowed_at x.nodes (state_in x) op.node) ((state_in x).fronts op.node)
+            (d.allowed ∙ ap (λ (z : ℤ). Some z) (sym one) ∙ sym at.0) in
+            absurd (ready_not same (no_atom_here d.belongs) d.ready)
+      ]
+    where
+      int_cases : (i j : ℤ) → (i <ℤ j) ⊎ (j ≤ℤ i)
+      int_cases i j = by_test (int_lt i j) refl
+        where
+          by_test : (t : Bool) → int_lt i j ≡ t → (i <ℤ j) ⊎ (j ≤ℤ i)
+          by_test true e = inl (int_order i j true e)
+          by_test false e = inr (int_order i j false e)
+
+      ready_not : {a t : Bool} → t ≡ true → a ≡ false → (not a && not t) ≡ true → ⊥
+      ready_not {a} {t} p q r =
+          let z : (not false && not true) ≡ true =
+          subst (λ (c : Bool). (not false && not c) ≡ true) p (subst (λ (c : Bool). (not c && not t) ≡ true) q r) in
+          absurd (let w : false ≡ true = z in cc)
+
+  -- the stretch has a time
+  pub begin_before : Before (begins (stretch_of x op)) (end_of x)
+  begin_before = by_front op.front refl
+    where
+      from_start : (whole (pos (first_in x)) <ʳ whole x.front) ⊎ (whole (pos (first_in x)) ≈ whole x.front) ⊎ (whole x.front <ʳ whole (pos (first_in x)))
+          → Before (record { at = whole (pos (first_in x)); after = false }) (end_of x)
+      from_start (inl l) = inl l
+      from_start (inr (inl s)) = inr (s, refl, refl)
+      from_start (inr (inr l)) = absurd (not_lt_of_le (le_whole d.low) l)
+
+      by_front : (o : Option ℕ) → op.front ≡ o → Before (begins (stretch_of x op)) (end_of x)
+      by_front None h = subst (λ (o : Option ℕ). Before (begins (stretch_of x (record op { front = o }))) (end_of x)) (sym h)
+          (from_start (lt_or_same_or_gt (whole (pos (first_in x))) (whole x.front)))
+      by_front (Some g) h = subst (λ (o : Option ℕ). Before (begins (stretch_of x (record op { front = o }))) (end_of x)) (sym h)
+          (inl (lt_whole (front_before g h)))
 
   -- the stretch begins no later than it ends
   pub begin_upto : AtMost (begins (stretch_of x op)) (end_of x)

@@ -46,6 +46,7 @@ mod KnowingOn
 pub mod RowsLaw
 mod PlacesOn
 pub mod StandingLaw
+mod AlikeLemmas
 mod TellingLemmas
 mod ReadLemmas
 mod DueLemmas

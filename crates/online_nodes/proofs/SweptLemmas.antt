@@ -79,7 +79,19 @@ use Rattle.online_nodes.specs.declared.answering.Marks.{Marks}
 use Rattle.online_nodes.specs.declared.answering.Outcome.{Outcome}
 use Rattle.online_nodes.specs.declared.writer.Out.{Out}
 use Rattle.online_nodes.proofs.BelongLemmas.{own_bounds, own_reach_small}
-use Rattle.online_nodes.proofs.DueLemmas.{among_first, among_telling, begun_at, begun_inside, begun_told, due_cases, formula_is, kind_is, knows_at}
+use Rattle.online_nodes.proofs.AlikeLemmas.{is_like, told_like}
+use Rattle.online_nodes.proofs.DueLemmas.{
+  among_first,
+  among_telling,
+  begun_at,
+  begun_inside,
+  begun_told,
+  due_cases,
+  formula_is,
+  front_by_now,
+  kind_is,
+  knows_at,
+}
 use Rattle.online_nodes.proofs.TellingLemmas.{fresh_counted, fresh_within}
 use Rattle.online_nodes.proofs.AnsweringLemmas.{fresh_few, worked_one}
 use Rattle.online_nodes.proofs.JoinLemmas.{after_at_most}
@@ -172,7 +184,7 @@ module _ {k : Kind} {w : Window} (is : IsWindowKind k w) where
   ]
 
 module _ {x : Situation} {op : Operator} {old : Held} {work : Outcome} (d : IsDue x op old) (g : IsBegun x op work) {w : Window}
-    (is : IsWindowKind op.kind w) (has : HasWindow (formula_of x op) (subformula x.nodes w.of) (trace_in x) w) where
+    (is : IsWindowKind op.kind w) (has : HasWindow (formula_of x op) (subformula x.nodes w.of) (trace_in x) w (end_of x)) where
   pub among_window : IsInput op.kind w.of
   among_window = window_input is w.of refl
 
@@ -231,11 +243,11 @@ module _ {x : Situation} {op : Operator} {old : Held} {work : Outcome} (d : IsDu
       → HasSwept old new w (record { out = work.out; reach = work.marks.reach }) (record { out = done.out; reach = done.marks.reach })
       → HasWorkedOut x op old new done
   window_worked {new} done full swept =
-      let of : IsWindowOf (formula_of x op) (subformula x.nodes w.of) (trace_in x) w (place work.out.to) (front_place old w.of) =
+      let of : IsWindowOf has.like (subformula x.nodes w.of) (trace_in x) w (place work.out.to) (front_place old w.of) =
       record { looks = has.looks; some = some_in_window w has.order full; within = within } in
-      let told = swept.told (formula_of x op) (subformula x.nodes w.of) (trace_in x) (begins (stretch_of x op)) [] (read_upto old w.of)
+      let told = swept.told has.like (subformula x.nodes w.of) (trace_in x) (begins (stretch_of x op)) [] (read_upto old w.of)
       (front_place old w.of) of (record {
-        told = begun_told d g (formula_of x op) (trace_in x);
+        told = begun_told d g has.like (trace_in x);
         knows = begun_knows;
         tells = fresh_counted (among_telling d w.of among_window) w.seeks refl (stop_is d.belongs);
       }) in
@@ -252,7 +264,8 @@ module _ {x : Situation} {op : Operator} {old : Held} {work : Outcome} (d : IsDu
         edge = swept.edge ∙ g.edge;
         sound = swept.sound;
         end = there;
-        told = told.1.told;
+        told = told_like has.alike (begins (stretch_of x op)) swept.more done.out
+            (λ t u. upto_same (place done.out.at) (end_of x) t there u) told.1.told;
         knows = window_knows is x new (end_of x) (place done.marks.reach) (place done.marks.run)
             (subst (λ (q : Place). Knows w.seeks (Counted w.seeks (subformula x.nodes w.of) (trace_in x)) (low_place w) (high_place w) (end_of x)
             (place done.marks.reach) (read_upto new w.of) q) stop
@@ -266,7 +279,7 @@ module _ {x : Situation} {op : Operator} {old : Held} {work : Outcome} (d : IsDu
   pub empty_worked : {new : Held} (done : Outcome) → is_empty w ≡ true → HasToldAll old new (not w.seeks) work.out work.marks done → HasWorkedOut x op old new done
   empty_worked {new} done empty told =
       all_worked d g (not w.seeks) done told
-      (λ t. has.looks.spared t (λ u lo hi. absurd (none_in_window w has.order empty t u lo hi)))
+      (λ t h. is_like has.alike (not w.seeks) t h (has.looks.spared t (λ u lo hi. absurd (none_in_window w has.order empty t u lo hi))))
       (window_knows is x new (end_of x) (place done.marks.reach) (place done.marks.run) (record {
         counts = λ t a b.
             let c = begun_knows.counts t (before_end t a) (subst (λ (m : Marks). Upto (place m.reach) t) told.kept b) in
@@ -287,19 +300,14 @@ module _ {x : Situation} {op : Operator} {old : Held} {work : Outcome} (d : IsDu
       by_test true e = empty_worked done e (swept.empty e)
       by_test false e = window_worked done e (swept.swept e)
 
--- the operator's window, ahead, or behind with an upper bound
-pub has_window : {x : Situation} {op : Operator} {old : Held} (d : IsDue x op old) {w : Window}
-    → (op.kind ≡ Ahead w) ⊎ ((op.kind ≡ Behind w) × (w.end_by <ℤ pos 8589934592))
-    → HasWindow (formula_of x op) (subformula x.nodes w.of) (trace_in x) w
+-- the operator's window
+pub has_window : {x : Situation} {op : Operator} {old : Held} (d : IsDue x op old) {w : Window} → IsWindowKind op.kind w
+    → HasWindow (formula_of x op) (subformula x.nodes w.of) (trace_in x) w (end_of x)
 has_window {x} {op} {old} d {w} (inl e) =
-    subst (λ (n : Subformula). HasWindow n (subformula x.nodes w.of) (trace_in x) w) (sym (formula_is d))
-    (ahead_node (subformula x.nodes) op.node (trace_in x) d.belongs.stands.node w (sym (kind_is d) ∙ e) (own_bounds d.belongs)
+    subst (λ (n : Subformula). HasWindow n (subformula x.nodes w.of) (trace_in x) w (end_of x)) (sym (formula_is d))
+    (ahead_node (subformula x.nodes) op.node (trace_in x) (end_of x) d.belongs.stands.node w (sym (kind_is d) ∙ e) (own_bounds d.belongs)
     (own_reach_small d.belongs))
-has_window {x} {op} {old} d {w} (inr (e, l)) =
-    subst (λ (n : Subformula). HasWindow n (subformula x.nodes w.of) (trace_in x) w) (sym (formula_is d))
-    (behind_node (subformula x.nodes) op.node (trace_in x) d.belongs.stands.node w (sym (kind_is d) ∙ e) (own_bounds d.belongs)
-    (own_reach_small d.belongs) l)
-
-pub window_kind : {k : Kind} {w : Window} → (k ≡ Ahead w) ⊎ ((k ≡ Behind w) × (w.end_by <ℤ pos 8589934592)) → IsWindowKind k w
-window_kind (inl e) = inl e
-window_kind (inr h) = inr h.0
+has_window {x} {op} {old} d {w} (inr e) =
+    subst (λ (n : Subformula). HasWindow n (subformula x.nodes w.of) (trace_in x) w (end_of x)) (sym (formula_is d))
+    (behind_node (subformula x.nodes) op.node (trace_in x) (end_of x) x.now d.small (λ t u. le_trans u (le_whole (front_by_now d)))
+    d.belongs.stands.node w (sym (kind_is d) ∙ e) (own_bounds d.belongs) (own_reach_small d.belongs))

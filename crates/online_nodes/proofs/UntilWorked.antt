@@ -192,12 +192,12 @@ module _ {x : Situation} {op : Operator} {old : Held} {work : Outcome} (d : IsDu
   has_lesser : HasLesser
   has_lesser = elim (due_cases d) [
     | inl h ↦ record {
-      f = pos x.now;
-      is = both_now (number_at old u.window.of) (number_at old u.right) (h.0 u.window.of until_left) (h.0 u.right until_right);
-      front = (let e = h.1 in omega (arith, ints));
-      within = λ t v a hi after. beyond_trace true (subformula x.nodes u.right) (trace_in x) v
-          (subst (λ q. q <ʳ v) (sym (stop_is d.belongs)) after);
-    }
+        f = pos x.now;
+        is = both_now (number_at old u.window.of) (number_at old u.right) (h.0 u.window.of until_left) (h.0 u.right until_right);
+        front = (let e = h.1 in omega (arith, ints));
+        within = λ t v a hi after. beyond_trace true (subformula x.nodes u.right) (trace_in x) v
+            (subst (λ q. q <ʳ v) (sym (stop_is d.belongs)) after);
+      }
     | inr h ↦
         let m = moved u.window.begin_by lesser_number x.front (subst (λ k. open_by k old x.now ≡ Some x.front) kind h) in
         record {

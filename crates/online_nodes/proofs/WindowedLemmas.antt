@@ -52,7 +52,7 @@ use Rattle.rational.proofs.Shift.{le_shift, le_shift_by, le_whole, lt_whole}
 use Rattle.frac128.specs.Value.{value}
 use Rattle.frac128.specs.Spans.{interval}
 use Rattle.stl_syntax.specs.Trace.{Trace, start, stop as last}
-use Rattle.stl_syntax.specs.Formula.{Subformula, subformula, tree_of}
+use Rattle.stl_syntax.specs.Formula.{Subformula, historically, once, subformula, tree_of}
 use Rattle.stl_syntax.specs.Truth.{Truth}
 use Rattle.stl_syntax.specs.Limits.{own_reach}
 use Rattle.stl_syntax.specs.WellFormed.{HasBounds}
@@ -81,6 +81,7 @@ use Rattle.online_nodes.specs.Answering.{is_empty}
 use Rattle.online_nodes.specs.declared.kind.Kind.{Kind}
 use Rattle.online_nodes.specs.declared.kind.Kind.TheVariants.{Const as Constant, Not as Negation, Join as Connective, Ahead, Behind, Until as UntilOf, Since as SinceOf}
 use Rattle.online_nodes.specs.declared.window.Window.{Window}
+use Rattle.online_nodes.proofs.AlikeLemmas.{IsLike, historically_like, like_itself, once_like}
 use Rattle.online_nodes.proofs.LooksLaw.{always_looks, eventually_looks, historically_looks, once_looks}
 use Rattle.online_nodes.proofs.ReaderLemmas.{twice_negated}
 use Rattle.online_nodes.proofs.RunLaw.{int_order}
@@ -93,18 +94,22 @@ fits_moved {t} k from to low high = fits_of_within w64 (2 ^ 34) (lit< tt) (
   le_trans (le_add to (le_whole {j = k} {k = pos (2 ^ 33)} high)) (record { le = omega arith }),
 )
 
--- a window's bounds, in order and near, and what its node looks for
-pub record HasWindow (n p : Subformula) (tr : Trace) (w : Window) : Type 0 where
-  pub looks : Looks w.seeks (Truth n tr) (Counted w.seeks p tr) (low_place w) (high_place w)
+-- a window's bounds, in order and near, and what its node looks for: or a node like it up to a place
+pub record HasWindow (n p : Subformula) (tr : Trace) (w : Window) (to : Place) : Type 0 where
+  pub like : Subformula
+  pub alike : IsLike like n tr to
+  pub looks : Looks w.seeks (Truth like tr) (Counted w.seeks p tr) (low_place w) (high_place w)
   pub order : w.begin_by ≤ℤ w.end_by
   pub begin_low : neg_ℤ (pos (2 ^ 33)) ≤ℤ w.begin_by
   pub end_high : w.end_by ≤ℤ pos (2 ^ 33)
 
-module _ (at : ℕ → Subformula) (i : ℕ) (tr : Trace) where
+module _ (at : ℕ → Subformula) (i : ℕ) (tr : Trace) (to : Place) where
   ahead_has : (n : Subformula) (p a b : ℕ) (a_in b_in seeks : Bool) → a ≤ b → b ≤ 4294967295
       → Looks seeks (Truth n tr) (Counted seeks (at p) tr) (place_at (pos a) (not a_in)) (place_at (pos b) b_in)
-      → HasWindow n (at p) tr (ahead p a b a_in b_in seeks)
+      → HasWindow n (at p) tr (ahead p a b a_in b_in seeks) to
   ahead_has n p a b a_in b_in seeks h small looks = record {
+    like = n;
+    alike = like_itself n tr to;
     looks = subst (λ (z : ℤ). Looks seeks (Truth n tr) (Counted seeks (at p) tr) (place_at z (not a_in)) (place_at (neg_ℤ (neg_ℤ (pos b))) b_in))
         (sym (twice_negated a))
         (subst (λ (z : ℤ). Looks seeks (Truth n tr) (Counted seeks (at p) tr) (place_at (pos a) (not a_in)) (place_at z b_in)) (sym (twice_negated b)) looks);
@@ -113,10 +118,11 @@ module _ (at : ℕ → Subformula) (i : ℕ) (tr : Trace) where
     end_high = omega (arith, ints);
   }
 
-  same_ahead : (n : Subformula) (v w : Window) → Ahead v ≡ Ahead w → HasWindow n (at v.of) tr v → HasWindow n (at w.of) tr w
-  same_ahead n v w e h = let s : v ≡ w = cc in subst (λ (u : Window). HasWindow n (at u.of) tr u) s h
+  same_ahead : (n : Subformula) (v w : Window) → Ahead v ≡ Ahead w → HasWindow n (at v.of) tr v to → HasWindow n (at w.of) tr w to
+  same_ahead n v w e h = let s : v ≡ w = cc in subst (λ (u : Window). HasWindow n (at u.of) tr u to) s h
 
-  pub ahead_node : (n : Node) (w : Window) → kind_of n ≡ Ahead w → HasBounds n → own_reach n ≤ 4294967295 → HasWindow (tree_of at i n) (at w.of) tr w
+  pub ahead_node : (n : Node) (w : Window) → kind_of n ≡ Ahead w → HasBounds n → own_reach n ≤ 4294967295
+      → HasWindow (tree_of at i n) (at w.of) tr w to
   ahead_node (Eventually p a b a_in b_in) w e h r =
       same_ahead (tree_of at i (Eventually p a b a_in b_in)) (ahead p a b a_in b_in true) w e
       (ahead_has (tree_of at i (Eventually p a b a_in b_in)) p a b a_in b_in true h r (eventually_looks (at p) tr a a_in b_in b))
@@ -191,41 +197,58 @@ none_in_window w order empty t u lo hi = by_test (int_lt w.begin_by w.end_by) re
               (subst (λ (b : Bool). MatchBool (not b) (add t (whole (neg_ℤ w.end_by)) <ʳ u) (add t (whole (neg_ℤ w.end_by)) ≤ʳ u)) b lo)
         ]
 
-module _ (at : ℕ → Subformula) (i : ℕ) (tr : Trace) where
-  behind_has : (n : Subformula) (p a b : ℕ) (a_in b_in seeks : Bool) → a ≤ b → b ≤ 4294967295
-      → Looks seeks (Truth n tr) (Counted seeks (at p) tr) (place_at (neg_ℤ (pos b)) (not b_in)) (place_at (neg_ℤ (pos a)) a_in)
-      → HasWindow n (at p) tr (behind p a (Some b) a_in b_in seeks)
-  behind_has n p a b a_in b_in seeks h small looks = record {
+module _ (at : ℕ → Subformula) (i : ℕ) (tr : Trace) (to : Place) where
+  behind_has : (m n : Subformula) (p a b : ℕ) (a_in b_in seeks : Bool) → IsLike m n tr to → a ≤ b → b ≤ 8589934592
+      → Looks seeks (Truth m tr) (Counted seeks (at p) tr) (place_at (neg_ℤ (pos b)) (not b_in)) (place_at (neg_ℤ (pos a)) a_in)
+      → HasWindow n (at p) tr (behind p a (Some b) a_in b_in seeks) to
+  behind_has m n p a b a_in b_in seeks same h small looks = record {
+    like = m;
+    alike = same;
     looks = looks;
     order = omega (arith, ints);
     begin_low = omega (arith, ints);
     end_high = omega (arith, ints);
   }
 
-  same_behind : (n : Subformula) (v w : Window) → Behind v ≡ Behind w → HasWindow n (at v.of) tr v → HasWindow n (at w.of) tr w
-  same_behind n v w e h = let s : v ≡ w = cc in subst (λ (u : Window). HasWindow n (at u.of) tr u) s h
+  same_behind : (n : Subformula) (v w : Window) → Behind v ≡ Behind w → HasWindow n (at v.of) tr v to → HasWindow n (at w.of) tr w to
+  same_behind n v w e h = let s : v ≡ w = cc in subst (λ (u : Window). HasWindow n (at u.of) tr u to) s h
 
-  unbounded : (v w : Window) → Behind v ≡ Behind w → v.end_by ≡ pos 8589934592 → w.end_by <ℤ pos 8589934592 → ⊥
-  unbounded v w e f l = let s : v ≡ w = cc in let m : v.end_by ≡ w.end_by = ap (λ (z : Window). z.end_by) s in omega (arith, ints)
+  -- a window behind; with no bound it is one with a bound beyond every trace
+  module _ (now : ℕ) (small : now ≤ 4294967295) (early : (t : Rational) → Upto to t → t ≤ʳ whole (pos now)) where
+    once_has : (p a : ℕ) (b : Option ℕ) (a_in b_in : Bool) → HasBounds (Once p a b a_in b_in) → own_reach (Once p a b a_in b_in) ≤ 4294967295
+        → HasWindow (tree_of at i (Once p a b a_in b_in)) (at p) tr (behind p a b a_in b_in true) to
+    once_has p a (Some b) a_in b_in h r =
+        behind_has (tree_of at i (Once p a (Some b) a_in b_in)) (tree_of at i (Once p a (Some b) a_in b_in)) p a b a_in b_in true
+        (like_itself (tree_of at i (Once p a (Some b) a_in b_in)) tr to) h.0 (omega (arith, r)) (once_looks (at p) tr a a_in b_in (Some b))
+    once_has p a None a_in b_in h r =
+        behind_has (once a (Some 8589934592) a_in b_in (at p)) (tree_of at i (Once p a None a_in b_in)) p a 8589934592 a_in b_in true
+        (once_like tr now small to early a a_in b_in (at p)) (omega (arith, r)) (omega arith) (once_looks (at p) tr a a_in b_in (Some 8589934592))
 
-  -- a window behind with an upper bound
-  pub behind_node : (n : Node) (w : Window) → kind_of n ≡ Behind w → HasBounds n → own_reach n ≤ 4294967295 → w.end_by <ℤ pos 8589934592
-      → HasWindow (tree_of at i n) (at w.of) tr w
-  behind_node (Once p a (Some b) a_in b_in) w e h r l =
-      same_behind (tree_of at i (Once p a (Some b) a_in b_in)) (behind p a (Some b) a_in b_in true) w e
-      (behind_has (tree_of at i (Once p a (Some b) a_in b_in)) p a b a_in b_in true h.0 r (once_looks (at p) tr a a_in b_in (Some b)))
-  behind_node (Historically p a (Some b) a_in b_in) w e h r l =
-      same_behind (tree_of at i (Historically p a (Some b) a_in b_in)) (behind p a (Some b) a_in b_in false) w e
-      (behind_has (tree_of at i (Historically p a (Some b) a_in b_in)) p a b a_in b_in false h.0 r (historically_looks (at p) tr a a_in b_in (Some b)))
-  behind_node (Once p a None a_in b_in) w e h r l = absurd (unbounded (behind p a None a_in b_in true) w e refl l)
-  behind_node (Historically p a None a_in b_in) w e h r l = absurd (unbounded (behind p a None a_in b_in false) w e refl l)
-  behind_node (Const c) w e h r l = absurd (let x : kind_of (Const c) ≡ Behind w = e in cc)
-  behind_node (Leaf f) w e h r l = absurd (let x : kind_of (Leaf f) ≡ Behind w = e in cc)
-  behind_node (Not q) w e h r l = absurd (let x : kind_of (Not q) ≡ Behind w = e in cc)
-  behind_node (And p q) w e h r l = absurd (let x : kind_of (And p q) ≡ Behind w = e in cc)
-  behind_node (Or p q) w e h r l = absurd (let x : kind_of (Or p q) ≡ Behind w = e in cc)
-  behind_node (Implies p q) w e h r l = absurd (let x : kind_of (Implies p q) ≡ Behind w = e in cc)
-  behind_node (Until p q c k) w e h r l = absurd (let x : kind_of (Until p q c k) ≡ Behind w = e in cc)
-  behind_node (Since p q c k) w e h r l = absurd (let x : kind_of (Since p q c k) ≡ Behind w = e in cc)
-  behind_node (Eventually p a b x y) w e h r l = absurd (let z : kind_of (Eventually p a b x y) ≡ Behind w = e in cc)
-  behind_node (Always p a b x y) w e h r l = absurd (let z : kind_of (Always p a b x y) ≡ Behind w = e in cc)
+    historically_has : (p a : ℕ) (b : Option ℕ) (a_in b_in : Bool) → HasBounds (Historically p a b a_in b_in)
+        → own_reach (Historically p a b a_in b_in) ≤ 4294967295
+        → HasWindow (tree_of at i (Historically p a b a_in b_in)) (at p) tr (behind p a b a_in b_in false) to
+    historically_has p a (Some b) a_in b_in h r =
+        behind_has (tree_of at i (Historically p a (Some b) a_in b_in)) (tree_of at i (Historically p a (Some b) a_in b_in)) p a b a_in b_in false
+        (like_itself (tree_of at i (Historically p a (Some b) a_in b_in)) tr to) h.0 (omega (arith, r))
+        (historically_looks (at p) tr a a_in b_in (Some b))
+    historically_has p a None a_in b_in h r =
+        behind_has (historically a (Some 8589934592) a_in b_in (at p)) (tree_of at i (Historically p a None a_in b_in)) p a 8589934592 a_in b_in false
+        (historically_like tr now small to early a a_in b_in (at p)) (omega (arith, r)) (omega arith)
+        (historically_looks (at p) tr a a_in b_in (Some 8589934592))
+
+    pub behind_node : (n : Node) (w : Window) → kind_of n ≡ Behind w → HasBounds n → own_reach n ≤ 4294967295
+        → HasWindow (tree_of at i n) (at w.of) tr w to
+    behind_node (Once p a b a_in b_in) w e h r =
+        same_behind (tree_of at i (Once p a b a_in b_in)) (behind p a b a_in b_in true) w e (once_has p a b a_in b_in h r)
+    behind_node (Historically p a b a_in b_in) w e h r =
+        same_behind (tree_of at i (Historically p a b a_in b_in)) (behind p a b a_in b_in false) w e (historically_has p a b a_in b_in h r)
+    behind_node (Const c) w e h r = absurd (let x : kind_of (Const c) ≡ Behind w = e in cc)
+    behind_node (Leaf f) w e h r = absurd (let x : kind_of (Leaf f) ≡ Behind w = e in cc)
+    behind_node (Not q) w e h r = absurd (let x : kind_of (Not q) ≡ Behind w = e in cc)
+    behind_node (And p q) w e h r = absurd (let x : kind_of (And p q) ≡ Behind w = e in cc)
+    behind_node (Or p q) w e h r = absurd (let x : kind_of (Or p q) ≡ Behind w = e in cc)
+    behind_node (Implies p q) w e h r = absurd (let x : kind_of (Implies p q) ≡ Behind w = e in cc)
+    behind_node (Until p q c k) w e h r = absurd (let x : kind_of (Until p q c k) ≡ Behind w = e in cc)
+    behind_node (Since p q c k) w e h r = absurd (let x : kind_of (Since p q c k) ≡ Behind w = e in cc)
+    behind_node (Eventually p a b x y) w e h r = absurd (let z : kind_of (Eventually p a b x y) ≡ Behind w = e in cc)
+    behind_node (Always p a b x y) w e h r = absurd (let z : kind_of (Always p a b x y) ≡ Behind w = e in cc)

@@ -239,7 +239,7 @@ module _ {x : Situation} {op : Operator} {old : Held} {work : Outcome} (d : IsDu
 
   -- a node that is so at every time of the stretch, and reads nothing
   pub all_worked : {new : Held} (b : Bool) (done : Outcome) → HasToldAll old new b work.out work.marks done
-      → ((t : Rational) → Is b (Truth (formula_of x op) (trace_in x)) t)
+      → ((t : Rational) → Upto (end_of x) t → Is b (Truth (formula_of x op) (trace_in x)) t)
       → KnowsBy op.kind x.nodes (trace_in x) new (end_of x) (place done.marks.reach) (place done.marks.run)
       → LeavesLater op.kind new (end_of x) (place done.marks.run)
       → HasWorkedOut x op old new done
@@ -247,6 +247,8 @@ module _ {x : Situation} {op : Operator} {old : Held} {work : Outcome} (d : IsDu
       let said = told.said in
       let own : op.node < length old.edges = own_edge d.belongs in
       let got : HasGot old new op.node said.more = subst (λ (i : ℕ). HasGot old new i said.more) g.edge said.got in
+      let there : Same (place done.out.at) (end_of x) =
+      same_trans_places (one_place (place done.out.at) (place work.out.to) told.inside told.all) g.end in
       record {
         more = said.more;
         owed = let m = said.few in let w = waiting_few done.out.holds in omega arith;
@@ -260,9 +262,9 @@ module _ {x : Situation} {op : Operator} {old : Held} {work : Outcome} (d : IsDu
         };
         edge = said.edge ∙ g.edge;
         sound = said.sound;
-        end = same_trans_places (one_place (place done.out.at) (place work.out.to) told.inside told.all) g.end;
+        end = there;
         told = said.told (formula_of x op) (trace_in x) (begins (stretch_of x op)) [] (begun_told d g (formula_of x op) (trace_in x))
-            (λ t a u. holds t);
+            (λ t a u. holds t (upto_same (place done.out.at) (end_of x) t there u));
         knows = knows;
         unread = unread;
       }
@@ -276,7 +278,7 @@ module _ {x : Situation} {op : Operator} {old : Held} {work : Outcome} (d : IsDu
     pub constant_worked : {new : Held} (done : Outcome) → HasToldAll old new b work.out work.marks done → HasWorkedOut x op old new done
     constant_worked {new} done told =
         all_worked b done told
-        (λ t. subst (λ (n : Subformula). Is b (Truth n (trace_in x)) t) (sym constant_is) (holds b t))
+        (λ t u. subst (λ (n : Subformula). Is b (Truth n (trace_in x)) t) (sym constant_is) (holds b t))
         (subst (λ k. KnowsBy k x.nodes (trace_in x) new (end_of x) (place done.marks.reach) (place done.marks.run)) (sym kind) tt)
         (subst (λ k. LeavesLater k new (end_of x) (place done.marks.run)) (sym kind) tt)
       where
