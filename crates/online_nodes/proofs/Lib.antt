@@ -54,5 +54,8 @@ mod WorkedLemmas
 mod WindowedLemmas
 mod SweptLemmas
 mod UntilWorked
+mod SinceWorked
 mod DroppedLemmas
+mod ReleasedLemmas
 mod SteppedLemmas
+mod AdvanceLemmas

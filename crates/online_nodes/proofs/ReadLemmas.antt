@@ -206,7 +206,7 @@ module _ {nodes : List Node} {header : Header} {events : List Event} {op : Opera
             by_tiles [] s = absurd (let y : false ≡ true = s.1 in cc)
             by_tiles (v ∷ vs) s = λ t u. upto_same (begins (interval v.on)) (answered_to S None) t (same_places s.0) u
 
-    edge_of : (held : List Verdict) → AreNeeded (first_time (state nodes events).rows)
+    pub edge_of : (held : List Verdict) → AreNeeded (first_time (state nodes events).rows)
         (shown (after_event nodes (state nodes events) (step op.node)) j)
         ((after_event nodes (state nodes events) (step op.node)).fronts op.node) (reach_back b.stands.node left) held_edge.emitted held
         → IsEdge nodes header (events ++ step op.node ∷ []) j held
