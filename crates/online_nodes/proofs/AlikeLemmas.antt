@@ -15,6 +15,8 @@ use Rattle.std.proofs.Common.{
   [],
   ◌∷◌,
   pos,
+  ◌<ℤ◌,
+  ◌≤ℤ◌,
   arith,
 }
 use Rattle.std.proofs.lemmas.Int.{ints}
@@ -36,12 +38,13 @@ use Rattle.online_nodes.specs.declared.writer.Out.{Out}
 use Rattle.online_nodes.proofs.PlaceLemmas.{upto_of_before, upto_same}
 
 -- two formulas of one truth up to a place
-abbrev pub IsLike : Subformula → Subformula → Trace → Place → Type 0
-IsLike m n tr to = (t : Rational) → Upto to t → (Truth m tr t → Truth n tr t) × (Truth n tr t → Truth m tr t)
+pub record IsLike (m n : Subformula) (tr : Trace) (to : Place) : Type 0 where
+  pub there : (t : Rational) → Upto to t → Truth m tr t → Truth n tr t
+  pub back : (t : Rational) → Upto to t → Truth n tr t → Truth m tr t
 
 -- a formula is like itself
 pub like_itself : (n : Subformula) (tr : Trace) (to : Place) → IsLike n n tr to
-like_itself n tr to t u = ((λ h. h), (λ h. h))
+like_itself n tr to = record { there = λ t u h. h; back = λ t u h. h }
 
 -- a list leads no way back
 lead_upto : (n : Subformula) (tr : Trace) (c : Place) (before : Option Bool) (vs : List Verdict) (d : Place) (last : Option Bool)
@@ -53,8 +56,8 @@ lead_upto n tr c before (v ∷ vs) d last (s, b, apart, all, rest) t u =
 
 module _ {m n : Subformula} {tr : Trace} {to : Place} (same : IsLike m n tr to) where
   pub is_like : (b : Bool) (t : Rational) → Upto to t → Is b (Truth m tr) t → Is b (Truth n tr) t
-  is_like true t u h = (same t u).0 h
-  is_like false t u h = λ k. h ((same t u).1 k)
+  is_like true t u h = same.there t u h
+  is_like false t u h = λ k. h (same.back t u k)
 
   lead_like : (c : Place) (before : Option Bool) (vs : List Verdict) (d : Place) (last : Option Bool) → AtMost d to
       → Lead m tr c before vs d last → Lead n tr c before vs d last
@@ -78,7 +81,7 @@ module _ {m n : Subformula} {tr : Trace} {to : Place} (same : IsLike m n tr to) 
     where
       from_at : (o : Option Bool) → IsPending m tr (record out { holds = o }) told.last → AtMost (place out.from) (place out.at)
       from_at None (s, e) t u = upto_same (place out.from) (place out.at) t s u
-      from_at (Some h) (b, rest) t u = upto_of_before (place out.from) (place out.at) t b u
+      from_at (Some h) (b, apart, all) t u = upto_of_before (place out.from) (place out.at) t b u
 
       by_holds : (o : Option Bool) → IsPending m tr (record out { holds = o }) told.last → IsPending n tr (record out { holds = o }) told.last
       by_holds None p = p
@@ -89,9 +92,9 @@ module _ (tr : Trace) (now : ℕ) (small : now ≤ 4294967295) (to : Place) (ear
     (a : ℕ) where
   reaches : (b_in : Bool) (t u : Rational) → Upto to t → Within (start tr) (stop tr) u → Precedes b_in t (later u 8589934592)
   reaches b_in t u h w =
-      let far : whole (pos now) <ʳ whole (pos 8589934592) = lt_whole (omega (arith, ints, small)) in
+      let far : whole (pos now) <ʳ whole (pos 8589934592) = (let l : pos now <ℤ pos 8589934592 = omega (arith, ints, small) in lt_whole l) in
       let zero : whole (pos 8589934592) ≤ʳ later (whole (pos 0)) 8589934592 = record { le = omega arith } in
-      let from : whole (pos 0) ≤ʳ u = le_trans (le_whole (omega (arith, ints))) w.above in
+      let from : whole (pos 0) ≤ʳ u = le_trans (let l : pos 0 ≤ℤ pos (first_time tr.rows) = omega (arith, ints) in le_whole l) w.above in
       precedes_of_lt b_in t (later u 8589934592)
       (lt_of_le_of_lt (early t h) (lt_of_lt_of_le far (le_trans zero (later_le 8589934592 from))))
 
@@ -105,13 +108,13 @@ module _ (tr : Trace) (now : ℕ) (small : now ≤ 4294967295) (to : Place) (ear
     unbounded t u w = record { inside = w.inside; begins = tt; ends = w.ends }
 
     pub once_like : (p : Subformula) → IsLike (once a (Some 8589934592) a_in b_in p) (once a None a_in b_in p) tr to
-    once_like p t h = ((λ e. (e.0, unbounded t e.0 e.1, e.2)), (λ e. (e.0, bounded t e.0 h e.1, e.2)))
+    once_like p = record { there = λ t h e. (e.0, unbounded t e.0 e.1, e.2); back = λ t h e. (e.0, bounded t e.0 h e.1, e.2) }
 
     pub historically_like : (p : Subformula) → IsLike (historically a (Some 8589934592) a_in b_in p) (historically a None a_in b_in p) tr to
-    historically_like p t h = ((λ all u w. all u (bounded t u h w)), (λ all u w. all u (unbounded t u w)))
+    historically_like p = record { there = λ t h all u w. all u (bounded t u h w); back = λ t h all u w. all u (unbounded t u w) }
 
   pub since_like : (p q : Subformula) → IsLike (since a (Some 8589934592) p q) (since a None p q) tr to
-  since_like p q t h = (
-    (λ e. (e.0, unbounded true true t e.0 e.1, e.2, e.3)),
-    (λ e. (e.0, bounded true true t e.0 h e.1, e.2, e.3)),
-  )
+  since_like p q = record {
+    there = λ t h e. (e.0, unbounded true true t e.0 e.1, e.2, e.3);
+    back = λ t h e. (e.0, bounded true true t e.0 h e.1, e.2, e.3);
+  }

@@ -301,10 +301,10 @@ module _ {nodes : List Node} {header : Header} {events : List Event} {op : Opera
           let top : f ≤ℤ pos now = subst (λ z. f ≤ℤ z) last high.by_now in
           near_of f (horizon (subformula nodes p)) (first_time (state nodes events).rows) now low top (omega (arith, far, most)) small
 
-  own_bounds : HasBounds b.stands.node
+  pub own_bounds : HasBounds b.stands.node
   own_bounds = subst HasBounds node_is (b.formed.bounds op.node (Const false) own_within)
 
-  own_reach_small : own_reach b.stands.node ≤ 4294967295
+  pub own_reach_small : own_reach b.stands.node ≤ 4294967295
   own_reach_small =
       let part : own_reach (slice_index_or nodes op.node (Const false)) ≤ reach nodes = get_or-le-sum_by own_reach nodes op.node (Const false) own_within in
       let most = b.formed.reach in

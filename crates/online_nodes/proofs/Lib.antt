@@ -55,6 +55,7 @@ mod WindowedLemmas
 mod SweptLemmas
 mod UntilWorked
 mod SinceWorked
+mod BodyLemmas
 mod DroppedLemmas
 mod ReleasedLemmas
 mod SteppedLemmas

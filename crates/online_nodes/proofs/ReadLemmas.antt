@@ -137,7 +137,7 @@ module _ {nodes : List Node} {header : Header} {events : List Event} {op : Opera
     pub input_apart : j ≢ op.node
     input_apart same = absurd (omega (arith, input_below, same))
 
-    held_edge : IsEdge nodes header events j (held_at e j)
+    abbrev held_edge : IsEdge nodes header events j (held_at e j)
     held_edge = edge b j left r
 
     pub number_is : number_at e j ≡ (state nodes events).fronts j

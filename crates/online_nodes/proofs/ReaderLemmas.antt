@@ -310,7 +310,7 @@ small_less c h = by_test (int_lt (pos c) (pos 8589934592)) refl
     by_test true e = e
     by_test false e = absurd (let x : pos 8589934592 ≤ℤ pos c = int_order (pos c) (pos 8589934592) false e in omega (arith, ints))
 
-twice_negated : (a : ℕ) → neg_ℤ (neg_ℤ (pos a)) ≡ pos a
+pub twice_negated : (a : ℕ) → neg_ℤ (neg_ℤ (pos a)) ≡ pos a
 twice_negated a = omega (arith, ints)
 
 past_by : (a c : ℕ) → c ≤ 4294967295 → neg_ℤ (cond (int_lt (pos c) (pos 8589934592)) (pos c) (pos a)) ≡ neg_ℤ (pos c)

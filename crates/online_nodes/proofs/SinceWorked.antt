@@ -78,7 +78,7 @@ use Rattle.online_nodes.specs.Stepping.{
   stretch_of,
   trace_in,
 }
-use Rattle.online_nodes.specs.Cuts.{After, AtMost, Before, Place, Same, Upto, begins, ends, place}
+use Rattle.online_nodes.specs.Cuts.{After, AtMost, Before, Place, Same, Upto, begins, ends, moved_begin, place}
 use Rattle.online_nodes.specs.Held.{Held, edge_at, fresh_at, held_at, number_at}
 use Rattle.online_nodes.specs.Kinds.{held_in, inputs_of, open_by}
 use Rattle.online_nodes.specs.Operators.{IsSinceKnown, KnowsBy, behind, first_place, front_place, kind_of, place_of, read_upto}
@@ -275,7 +275,7 @@ module _ {x : Situation} {op : Operator} {old : Held} {work : Outcome} (d : IsDu
   ]
 
   -- the place at which the trace begins
-  begin_place : Place
+  abbrev begin_place : Place
   begin_place = record { at = whole (pos (first_in x)); after = false }
 
   -- what was known, where there was an answer
@@ -298,7 +298,7 @@ module _ {x : Situation} {op : Operator} {old : Held} {work : Outcome} (d : IsDu
   left_enough t u = subst (λ (o : Front). Upto (place_of o) t) (sym has_numbers.left)
       (le_trans (upto_same (place work.out.to) (end_of x) t g.end u) (le_whole has_numbers.left_front))
 
-  pub stay : Stay
+  abbrev pub stay : Stay
   stay = record {
     n = has.like;
     p = subformula x.nodes s.window.of;
@@ -338,7 +338,7 @@ module _ {x : Situation} {op : Operator} {old : Held} {work : Outcome} (d : IsDu
               let is : w ≡ v = (let y : Some w ≡ Some v = e in cc) in
               subst (λ (y : Verdict). AtMost (begins (interval y.on)) (place work.out.at)) is h
 
-  begun_course : Course
+  abbrev pub begun_course : Course
   begun_course = record { out = work.out; reach = work.marks.reach; run = work.marks.run }
 
   left_tells : Tells (Truth (subformula x.nodes s.window.of) (trace_in x)) (read_upto old s.window.of) (fresh_at old s.window.of)
@@ -539,7 +539,14 @@ module _ {x : Situation} {op : Operator} {old : Held} {work : Outcome} (d : IsDu
           ahead = m.ahead;
           from_start = m.from_start;
         });
-        unread = subst (λ k. LeavesLater k new (end_of x) (place done.marks.run)) (sym kind) tt;
+        unread = subst (λ k. LeavesLater k new (end_of x) (place done.marks.run)) (sym kind) (
+          (λ v e. same_before (end_of x) (place work.out.to) (ends (interval v.on)) (same_places g.end) (told.left v e)),
+          (λ w e. elim (after.2 w e) [
+            | inl b ↦ inl (same_before (end_of x) (place work.out.to) (moved_begin s.window.begin_by s.window.begin_in (ends (interval w.on)))
+                (same_places g.end) b)
+            | inr u ↦ inr (λ t h. u t (upto_same (end_of x) (place work.out.to) t (same_places g.end) h))
+          ]),
+        );
       }
 
 -- the operator's since

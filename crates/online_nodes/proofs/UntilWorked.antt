@@ -178,7 +178,7 @@ module _ {x : Situation} {op : Operator} {old : Held} {work : Outcome} (d : IsDu
   until_right = subst (λ k. IsInput k u.right) (sym kind) (inr refl)
 
   -- the lesser of its inputs' numbers
-  lesser_number : Front
+  abbrev pub lesser_number : Front
   lesser_number = least (number_at old u.window.of) (number_at old u.right)
 
   -- it is there, the node's number is not above it, and nothing counts beyond it
@@ -216,7 +216,7 @@ module _ {x : Situation} {op : Operator} {old : Held} {work : Outcome} (d : IsDu
   lesser_place = ap place_of has_lesser.is
 
   -- the stretch, its inputs, and up to where they are answered
-  pub stretch : Stretch
+  abbrev pub stretch : Stretch
   stretch = record {
     n = formula_of x op;
     p = subformula x.nodes u.window.of;
@@ -257,10 +257,10 @@ module _ {x : Situation} {op : Operator} {old : Held} {work : Outcome} (d : IsDu
       (front_place old u.right)
   right_tells = fresh_counted (among_telling d u.right until_right) true refl (stop_is d.belongs)
 
-  begun_sweep : Sweep
+  abbrev pub begun_sweep : Sweep
   begun_sweep = record { out = work.out; reach = work.marks.reach }
 
-  first_place_is : Place
+  abbrev first_place_is : Place
   first_place_is = record { at = whole (pos (first_in x)); after = false }
 
   -- at the first answer nothing was read
@@ -276,7 +276,7 @@ module _ {x : Situation} {op : Operator} {old : Held} {work : Outcome} (d : IsDu
       λ t v a lo. after_later first_place_is t v (after_same (place work.out.at) first_place_is t (same_places begin) a) (has.looks.ahead t v lo) in
       let unread : (v : Rational) → After first_place_is v → After read v = λ v h. after_at_most read first_place_is v left h in
       let to_stop : (v : Rational) → After (place_of lesser_number) v → After read v =
-      λ v h. unread v (le_trans (le_whole (let l = d.low in let f = has_lesser.front in omega (arith, ints)))
+      λ v h. unread v (le_trans (let z : pos (first_in x) ≤ℤ has_lesser.f = (let l = d.low in let f = has_lesser.front in omega (arith, ints)) in le_whole z)
       (le_of_lt (subst (λ (q : Place). After q v) lesser_place h))) in (
         record { read = read; left = read; right = read_upto old u.right },
         record {

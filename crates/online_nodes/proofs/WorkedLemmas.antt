@@ -240,8 +240,7 @@ module _ {x : Situation} {op : Operator} {old : Held} {work : Outcome} (d : IsDu
   -- a node that is so at every time of the stretch, and reads nothing
   pub all_worked : {new : Held} (b : Bool) (done : Outcome) → HasToldAll old new b work.out work.marks done
       → ((t : Rational) → Upto (end_of x) t → Is b (Truth (formula_of x op) (trace_in x)) t)
-      → KnowsBy op.kind x.nodes (trace_in x) new (end_of x) (place done.marks.reach) (place done.marks.run)
-      → LeavesLater op.kind new (end_of x) (place done.marks.run)
+      → KnowsBy op.kind x.nodes (trace_in x) new (end_of x) (place done.marks.reach) (place done.marks.run) → LeavesLater op.kind new (end_of x) (place done.marks.run)
       → HasWorkedOut x op old new done
   all_worked {new} b done told holds knows unread =
       let said = told.said in
