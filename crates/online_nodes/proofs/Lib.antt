@@ -58,4 +58,6 @@ mod SinceWorked
 mod BodyLemmas
 mod AbleLemmas
 mod DroppedLemmas
+mod ReleasedLemmas
 mod SteppedLemmas
+mod AdvanceLemmas

@@ -12,6 +12,7 @@ mod laws;
 mod negation;
 mod operator;
 mod since;
+mod trying;
 mod until;
 mod window;
 mod writer;
