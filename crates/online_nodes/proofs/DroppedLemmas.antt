@@ -119,7 +119,7 @@ none_dropped f (v ∷ vs) (suc n) ended later = absurd (not_lt_of_le (ended 0 (o
 
 module _ {f : ℤ} {old new : Edge} (dropped : IsDroppedBy f old new) where
   -- how many of those that were not read are gone
-  pub gone : ℕ
+  abbrev pub gone : ℕ
   gone = dropped.count - length old.seen
 
   pub dropped_fresh : new.fresh ≡ drop gone old.fresh

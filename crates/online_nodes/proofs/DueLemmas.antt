@@ -40,7 +40,7 @@ use Rattle.stl_syntax.specs.Truth.{Truth}
 use Rattle.stl_syntax.proofs.FormulaLemmas.{subformula-at}
 use Rattle.stl_syntax.specs.declared.items.Verdict.{Verdict}
 use Rattle.stl_syntax.specs.declared.node.Node.{Node}
-use Rattle.online_nodes.specs.Network.{Front, IsRun, State, allowed_at, is_atom, last_row, same_front, shown, state, step}
+use Rattle.online_nodes.specs.Network.{Front, allowed_at, is_atom, same_front, shown, state}
 use Rattle.online_nodes.specs.Needed.{IsReader}
 use Rattle.online_nodes.specs.Answering.{IsInput}
 use Rattle.online_nodes.specs.Stepping.{
@@ -76,12 +76,10 @@ use Rattle.online_nodes.proofs.BelongLemmas.{
   same_refl,
   same_true,
 }
-use Rattle.online_nodes.proofs.EdgeLaw.{run_more}
-use Rattle.online_nodes.proofs.RisingLaw.{sound_of}
 use Rattle.online_nodes.proofs.HeldFacts.{input_within}
 use Rattle.online_nodes.proofs.TellingLemmas.{IsTelling}
 use Rattle.online_nodes.proofs.PlaceLemmas.{same_before, same_places, upto_of_before, upto_same}
-use Rattle.online_nodes.proofs.ReadLemmas.{input_apart, never_less, own_after, read_first, stop_is, telling, with_step}
+use Rattle.online_nodes.proofs.ReadLemmas.{allowed_by_now, input_apart, never_less, read_first, stop_is, telling}
 use Rattle.online_nodes.proofs.ReaderLemmas.{input_side, inputs_apart, side_reads}
 use Rattle.online_nodes.proofs.RunLaw.{and_left, int_order, some_is}
 use Rattle.online_nodes.proofs.StayLaw.{shown_is}
@@ -179,17 +177,8 @@ module _ {x : Situation} {op : Operator} {e : Held} (d : IsDue x op e) where
       subst (λ z. pos g ≤ℤ z) (some_is up.0 x.front (sym up.1)) up.2
 
   -- the number that it comes to is at most the last row's time
-  step_runs : IsRun x.nodes x.header (x.events ++ step op.node ∷ [])
-  step_runs = run_more x.nodes x.header d.belongs.formed x.events (step op.node) d.belongs.run (own_within d.belongs, no_atom_here d.belongs)
-
   pub front_by_now : x.front ≤ℤ pos x.now
-  front_by_now =
-      let sound = sound_of x.nodes x.header d.belongs.formed.post_order (x.events ++ step op.node ∷ []) step_runs in
-      let bound = sound.bounded op.node x.front (own_within d.belongs)
-      (ap (λ (s : State). s.fronts op.node) (with_step d.belongs) ∙ own_after d.belongs ∙ d.allowed) in
-      let last : bound.last ≡ pos x.now =
-      some_is bound.last (pos x.now) (sym bound.is_last ∙ ap last_row (with_step d.belongs) ∙ d.belongs.last) in
-      subst (λ z. x.front ≤ℤ z) last bound.by_now
+  front_by_now = allowed_by_now d.belongs x.front d.allowed
 
   -- and an old number is below it
   pub front_before : (g : ℕ) → op.front ≡ Some g → pos g <ℤ x.front

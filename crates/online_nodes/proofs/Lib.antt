@@ -57,6 +57,7 @@ mod UntilWorked
 mod SinceWorked
 mod BodyLemmas
 mod AbleLemmas
+mod IdleLemmas
 mod DroppedLemmas
 mod ReleasedLemmas
 mod SteppedLemmas

@@ -65,7 +65,7 @@ use Rattle.online_nodes.specs.Operators.{first_place, place_of, front_place, rea
 use Rattle.online_nodes.specs.Reading.{Tells}
 use Rattle.online_nodes.specs.Belonging.{Belongs, trace_of}
 use Rattle.online_nodes.specs.declared.operator.Operator.{Operator}
-use Rattle.online_nodes.proofs.BelongLemmas.{own_within}
+use Rattle.online_nodes.proofs.BelongLemmas.{no_atom_here, own_within}
 use Rattle.online_nodes.proofs.EdgeLaw.{after_one, run_more, step_leaves, not_shown}
 use Rattle.online_nodes.proofs.EmittedLaw.{emitted_tiles, front_shown}
 use Rattle.online_nodes.proofs.FrameLaw.{other_step}
@@ -128,6 +128,16 @@ module _ {nodes : List Node} {header : Header} {events : List Event} {op : Opera
   -- the allowed number is not less than the node's
   pub never_less : (f : ℤ) → allowed_at nodes (state nodes events) op.node ≡ Some f → NeverLess ((state nodes events).fronts op.node) (Some f)
   never_less f x = subst (λ (o : Front). NeverLess ((state nodes events).fronts op.node) o) x (run_sound.rising op.node (own_within b))
+
+  -- and it is at most the last row's time
+  pub allowed_by_now : (f : ℤ) → allowed_at nodes (state nodes events) op.node ≡ Some f → f ≤ℤ pos now
+  allowed_by_now f x =
+      let runs : IsRun nodes header (events ++ step op.node ∷ []) =
+      run_more nodes header b.formed events (step op.node) b.run (own_within b, no_atom_here b) in
+      let bound = (sound_of nodes header b.formed.post_order (events ++ step op.node ∷ []) runs).bounded op.node f (own_within b)
+      (ap (λ (s : State). s.fronts op.node) with_step ∙ own_after ∙ x) in
+      let last : bound.last ≡ pos now = some_is bound.last (pos now) (sym bound.is_last ∙ ap last_row with_step ∙ b.last) in
+      subst (λ z. f ≤ℤ z) last bound.by_now
 
   module _ (j : ℕ) (left : Bool) (r : IsReader b.stands.node left j) where
     pub input_below : j < op.node

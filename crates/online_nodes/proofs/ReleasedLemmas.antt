@@ -95,7 +95,7 @@ before_end : (f : ℤ) (v : Verdict) → Before (just_after f) (ends (interval v
 before_end f v (inl l) = l
 before_end f v (inr e) = absurd (let y : true ≡ false = e.1 in cc)
 
-module _ {x : Situation} {op : Operator} {old mid new : Held} {work : Outcome} (d : IsDue x op old) (w : HasWorkedOut x op old mid work)
+module _ {x : Situation} {op : Operator} {old mid : Held} {work : Outcome} (d : IsDue x op old) (w : HasWorkedOut x op old mid work) (new : Held)
     (lets : (j : ℕ) (left : Bool) → IsSide op.kind left j → IsDroppedBy (x.front +ℤ looks_by op.kind left) (edge_at mid j) (edge_at new j)) where
   -- what was not read of an input, once the body worked
   mid_telling : (j : ℕ) → IsInput op.kind j → IsTelling (subformula x.nodes j) (trace_in x) (first_in x) x.now (edge_at mid j)
@@ -136,9 +136,11 @@ module _ {x : Situation} {op : Operator} {old mid new : Held} {work : Outcome} (
       | inl same ↦ inl same
       | inr h ↦ inr (
           h.0,
-          h.1,
-          h.2,
-          subst (λ (c : Place). AtMost (first_place (fresh_at new j) c) (just_after (x.front +ℤ looks_by op.kind left))) (sym stop_same) h.3,
+          (
+            h.1,
+            h.2,
+            subst (λ (c : Place). AtMost (first_place (fresh_at new j) c) (just_after (x.front +ℤ looks_by op.kind left))) (sym stop_same) h.3,
+          ),
         )
     ]
 

@@ -72,19 +72,19 @@ use Rattle.online_nodes.proofs.RunLaw.{int_order, some_is}
 use Rattle.online_nodes.proofs.StayLaw.{shown_is}
 
 -- an edge that notes its number
-pub reached-here : {old new : Held} {i : ℕ} {n : ℤ} → i < length old.edges → new ≡ record old { edges = with_edge old i (with_number (edge_at old i) n) }
+pub reached-here : (old new : Held) (i : ℕ) (n : ℤ) → i < length old.edges → new ≡ record old { edges = with_edge old i (with_number (edge_at old i) n) }
     → edge_at new i ≡ with_number (edge_at old i) n
-reached-here {old} {new} {i} {n} within is =
+reached-here old new i n within is =
     ap (λ (e : Held). edge_at e i) is ∙ get_or-set_same old.edges i (with_number (edge_at old i) n) no_edge within
 
-pub reached-other : {old new : Held} {i : ℕ} {n : ℤ} (j : ℕ) → j ≢ i
+pub reached-other : (old new : Held) (i : ℕ) (n : ℤ) (j : ℕ) → j ≢ i
     → new ≡ record old { edges = with_edge old i (with_number (edge_at old i) n) } → edge_at new j ≡ edge_at old j
-reached-other {old} {new} {i} {n} j other is =
+reached-other old new i n j other is =
     ap (λ (e : Held). edge_at e j) is ∙ get_or-set_other old.edges i j (with_number (edge_at old i) n) no_edge other
 
-pub reached-length : {old new : Held} {i : ℕ} {n : ℤ} → new ≡ record old { edges = with_edge old i (with_number (edge_at old i) n) }
+pub reached-length : (old new : Held) (i : ℕ) (n : ℤ) → new ≡ record old { edges = with_edge old i (with_number (edge_at old i) n) }
     → length new.edges ≡ length old.edges
-reached-length {old} {new} {i} {n} is = ap (λ (e : Held). length e.edges) is ∙ length-set old.edges i (with_number (edge_at old i) n)
+reached-length old new i n is = ap (λ (e : Held). length e.edges) is ∙ length-set old.edges i (with_number (edge_at old i) n)
 
 module _ {nodes : List Node} {header : Header} {events : List Event} {op : Operator} {e : Held} {now : ℕ} {ended : Bool}
     (b : Belongs nodes header events op e now ended) where

@@ -1,37 +1,58 @@
-use Rattle.std.proofs.Common.{rules, ◌≡◌, ◌*◌, ◌+◌, ◌<◌, ◌≤◌, ◌<ℤ◌, ◌↔◌, ◌++◌, ◌∷◌, [], List, ℕ, pos, IfOk, IsTrue, MatchOption, OnErr, OnOk, length, Some, None, true, false, ◌-◌, ◌/◌, ◌%◌, Bool, nat_eq, nat_lt, slice_index_or, slice_set, bit_and, bit_or, Fits, w8, w32, w64, Bor, MutBor, ℤ, ◌+ℤ◌, ◌-ℤ◌, ◌*ℤ◌, ◌≤ℤ◌, FitsSigned, to_z, of_z}
-use Rattle.stl_syntax.specs.Trace.{Header}
-use Rattle.online_nodes.specs.Network.{Event, step, state, node_is_atom, allowed_at, IsReady}
-use Rattle.stl_syntax.specs.declared.node.Node.{Node as ANode}
-use Rattle.online_nodes.specs.Held.{Held, edge_at}
-use Rattle.online_nodes.specs.Kinds.{held_in, inputs_of}
-use Rattle.online_nodes.specs.Stepping.{Situation, IsBegun, IsDue, IsDueSomewhere, IsFor}
-use Rattle.online_nodes.specs.Belonging.{Belongs, BelongsSomewhere, HasStepped, StandsForSteps, held_by_inputs, is_ready, room_of_step}
+use Rattle.std.proofs.Common.{rules, to_z, of_z, w64, arith, ◌≡◌, ◌∙◌, sym, ap, subst, refl, ℕ, ◌^◌, ◌≤◌, ◌<◌, ◌-◌, length, pos, ℤ}
+use Rattle.online_nodes.specs.Answering.{HasReleased}
+use Rattle.online_nodes.specs.Held.{Held, edge_at, held_at, with_edge, with_number}
+use Rattle.online_nodes.proofs.AbleLemmas.{can_answer, can_release}
+use Rattle.online_nodes.proofs.AdvanceLemmas.{put_count, put_within, step_stands, step_stepped}
+use Rattle.online_nodes.proofs.DueLemmas.{begun_inside}
 use Rattle.online_nodes.proofs.operator.Operator.step_to.Goals as goal
 
--- src/operator.rt:135:21
 pub answer-requires-clause-inside : goal.answer-requires-clause-inside
-answer-requires-clause-inside c = ?
+answer-requires-clause-inside c = begun_inside c.requires.2 (c.begin-begun.ensures c.requires.0 c.requires.1)
 
--- src/operator.rt:135:21
 pub answer-requires-clause-able : goal.answer-requires-clause-able
-answer-requires-clause-able c = ?
+answer-requires-clause-able c = can_answer c.requires.2 (c.begin-begun.ensures c.requires.0 c.requires.1)
 
--- src/operator.rt:137:13
 pub held-all-requires : goal.held-all-requires
-held-all-requires c = ?
+held-all-requires c =
+    put_within c.requires.2 (c.begin-begun.ensures c.requires.0 c.requires.1) c.in_ok-marks.ensures.answered
 
--- src/operator.rt:138:9
 pub release-requires-clause-able : goal.release-requires-clause-able
-release-requires-clause-able c = ?
+release-requires-clause-able c =
+    can_release c.requires.2 c.answer.new.edges
+    (put_count c.requires.2 (c.begin-begun.ensures c.requires.0 c.requires.1) c.in_ok-marks.ensures.answered)
 
--- src/operator.rt:139:9
 pub reach-requires : goal.reach-requires
-reach-requires c = ?
+reach-requires c =
+    let n = put_within c.requires.2 (c.begin-begun.ensures c.requires.0 c.requires.1) c.in_ok-marks.ensures.answered in
+    let r = c.release.ensures.count in omega arith
 
--- src/operator.rt:125:5
 pub returns-clause-stepped : goal.returns-clause-stepped
-returns-clause-stepped c = ?
+returns-clause-stepped c = λ x is d.
+    let g = c.begin-begun.ensures x is in
+    let front : to_z w64 (of_z w64 c.from.result) ≡ x.front =
+    (let e : to_z w64 (of_z w64 c.from.result) ≡ pos c.args.front = search rules in e ∙ sym is.1) in
+    let r : HasReleased c.args.self.now.kind x.front c.answer.new.edges c.release.new.edges =
+    subst (λ (z : ℤ). HasReleased c.args.self.now.kind z c.answer.new.edges c.release.new.edges) front c.release.ensures in
+    let front_2 : to_z w64 (of_z w64 c.from-2.result) ≡ x.front =
+    (let e : to_z w64 (of_z w64 c.from-2.result) ≡ pos c.args.front = search rules in e ∙ sym is.1) in
+    let noted : c.reach.new.self ≡ record c.release.new.edges { edges = with_edge c.release.new.edges c.args.self.now.node
+    (with_number (edge_at c.release.new.edges c.args.self.now.node) x.front) } =
+    subst (λ (z : ℤ). c.reach.new.self ≡ record c.release.new.edges { edges = with_edge c.release.new.edges c.args.self.now.node
+    (with_number (edge_at c.release.new.edges c.args.self.now.node) z) }) front_2 c.reach.ensures in
+    let counted : length (held_at c.answer.new.edges c.args.self.now.node) ≤ 2 ^ 64 - 1 = omega (arith, c.held-all.type_inv, c.held-all.ensures) in
+    step_stepped d g c.in_ok-marks.ensures.answered r noted counted
 
--- src/operator.rt:125:5
 pub returns-clause-stands : goal.returns-clause-stands
-returns-clause-stands c = ?
+returns-clause-stands c = λ x is d.
+    let g = c.begin-begun.ensures x is in
+    let front : to_z w64 (of_z w64 c.from.result) ≡ x.front =
+    (let e : to_z w64 (of_z w64 c.from.result) ≡ pos c.args.front = search rules in e ∙ sym is.1) in
+    let r : HasReleased c.args.self.now.kind x.front c.answer.new.edges c.release.new.edges =
+    subst (λ (z : ℤ). HasReleased c.args.self.now.kind z c.answer.new.edges c.release.new.edges) front c.release.ensures in
+    let front_2 : to_z w64 (of_z w64 c.from-2.result) ≡ x.front =
+    (let e : to_z w64 (of_z w64 c.from-2.result) ≡ pos c.args.front = search rules in e ∙ sym is.1) in
+    let noted : c.reach.new.self ≡ record c.release.new.edges { edges = with_edge c.release.new.edges c.args.self.now.node
+    (with_number (edge_at c.release.new.edges c.args.self.now.node) x.front) } =
+    subst (λ (z : ℤ). c.reach.new.self ≡ record c.release.new.edges { edges = with_edge c.release.new.edges c.args.self.now.node
+    (with_number (edge_at c.release.new.edges c.args.self.now.node) z) }) front_2 c.reach.ensures in
+    step_stands d g c.in_ok-marks.ensures.answered r noted c.args.front is.1
