@@ -1,14 +1,13 @@
 -- What answering and letting go need, for a step that is due.
-use Rattle.std.proofs.Common.{◌≡◌, ◌≢◌, inl, inr, refl, sym, ap, subst, ℕ, ◌<◌, ◌^◌, length, pos, neg_ℤ, negsuc, ◌≤ℤ◌, arith}
+use Rattle.std.proofs.Common.{◌≡◌, ◌≢◌, inl, inr, refl, sym, ap, subst, ℕ, ◌<◌, length, arith}
 use Rattle.std.proofs.lemmas.Int.{ints}
 use Rattle.stl_syntax.specs.Formula.{Subformula}
 use Rattle.stl_syntax.specs.Trace.{Trace}
-use Rattle.online_nodes.specs.Answering.{AreNearEnds, CanAnswer, CanRelease, CanSweep, HaveTwo, IsInput}
+use Rattle.online_nodes.specs.Answering.{AreNearEnds, CanAnswer, CanRelease, HaveTwo, IsInput}
 use Rattle.online_nodes.specs.Cuts.{Place}
 use Rattle.online_nodes.specs.Held.{Held}
 use Rattle.online_nodes.specs.Kinds.{IsNear, inputs_of}
 use Rattle.online_nodes.specs.Stepping.{Situation, IsBegun, IsDue}
-use Rattle.online_nodes.specs.declared.answering.Marks.{Marks}
 use Rattle.online_nodes.specs.declared.answering.Outcome.{Outcome}
 use Rattle.online_nodes.specs.declared.kind.Kind.{Kind}
 use Rattle.online_nodes.specs.declared.kind.Kind.TheVariants.{

@@ -1,60 +1,22 @@
 -- From the parts of a step, the body's work, what is put, let go and noted, to what the step leaves.
-use Rattle.std.proofs.Common.{
-  ◌≡◌,
-  ◌≢◌,
-  ◌⊎◌,
-  inl,
-  inr,
-  refl,
-  sym,
-  ap,
-  subst,
-  ◌∙◌,
-  ℕ,
-  ◌+◌,
-  ◌*◌,
-  ◌^◌,
-  ◌<◌,
-  ◌≤◌,
-  Bool,
-  true,
-  false,
-  Option,
-  Some,
-  None,
-  List,
-  [],
-  ◌∷◌,
-  ◌++◌,
-  length,
-  ℤ,
-  pos,
-  ◌+ℤ◌,
-  ◌≤ℤ◌,
-  arith,
-  append_assoc,
-  length-append,
-}
-use Rattle.std.specs.Prelude.{◌-◌, min, option_map, slice_get, IfSome}
-use Rattle.std.proofs.lemmas.Int.{ints}
-use Rattle.rational.specs.Rational.{Rational, whole}
-use Rattle.stl_syntax.specs.Trace.{Trace, first_time}
-use Rattle.stl_syntax.specs.Formula.{subformula}
+use Rattle.std.proofs.Common.{◌≡◌, ◌≢◌, inl, inr, refl, sym, ap, subst, ◌∙◌, ℕ, ◌+◌, ◌*◌, ◌^◌, ◌<◌, ◌≤◌, Bool, true, false, Option, Some, None, List, [], ◌∷◌, ◌++◌, length, ℤ, pos, ◌+ℤ◌, arith, length-append}
+use Rattle.std.specs.Prelude.{◌-◌, min, option_map}
+use Rattle.rational.specs.Rational.{whole}
 use Rattle.stl_syntax.specs.Verdicts.{Describes}
 use Rattle.stl_syntax.specs.declared.items.Verdict.{Verdict}
 use Rattle.stl_syntax.specs.declared.node.Node.{Node}
-use Rattle.online_nodes.specs.Network.{Event, State, after_event, allowed_at, answered, shown, state, step, reach_back}
+use Rattle.online_nodes.specs.Network.{State, after_event, answered, shown, step, reach_back}
 use Rattle.online_nodes.specs.Needed.{IsEdge, IsReader}
 use Rattle.online_nodes.specs.Answering.{HasAnswered, HasReleased, HasWorkedOn, IsInput, IsSide, looks_by}
-use Rattle.online_nodes.specs.Belonging.{HasStepped, StandsForSteps, held_by_inputs, room_of_step, trace_of}
+use Rattle.online_nodes.specs.Belonging.{HasStepped, StandsForSteps, room_of_step, trace_of}
 use Rattle.online_nodes.specs.Stepping.{Situation, HasWorkedOut, IsBegun, IsDue, end_of, first_in, formula_of, state_in, stretch_of, trace_in}
-use Rattle.online_nodes.specs.Cuts.{AtMost, Before, Place, Same, begins, ends, place}
+use Rattle.online_nodes.specs.Cuts.{Before, Place, Same, begins, ends, place}
 use Rattle.online_nodes.specs.Held.{Edge, Held, edge_at, fresh_at, held_at, held_of, number_at, with_edge, with_more, with_number, IsDroppedBy}
 use Rattle.online_nodes.specs.Kinds.{held_in, inputs_of}
 use Rattle.online_nodes.specs.Laws.{beyond}
-use Rattle.online_nodes.specs.Operators.{KnowsBy, kind_of}
+use Rattle.online_nodes.specs.Operators.{KnowsBy}
 use Rattle.online_nodes.specs.Working.{IsReadOn}
-use Rattle.online_nodes.specs.Written.{HasGot, waiting}
+use Rattle.online_nodes.specs.Written.{HasGot}
 use Rattle.online_nodes.specs.declared.answering.Marks.{Marks}
 use Rattle.online_nodes.specs.declared.answering.Outcome.{Outcome}
 use Rattle.online_nodes.specs.declared.kind.Kind.{Kind}
@@ -66,11 +28,9 @@ use Rattle.online_nodes.proofs.DroppedLemmas.{dropped_number}
 use Rattle.online_nodes.proofs.DueLemmas.{among_apart, begin_before, input_reader, kind_is}
 use Rattle.online_nodes.proofs.EmittedLaw.{front_shown}
 use Rattle.online_nodes.proofs.GotLemmas.{got-here, got-length, got-other, with_more-both}
-use Rattle.online_nodes.proofs.PlaceLemmas.{same_trans_places}
 use Rattle.online_nodes.proofs.ReadLemmas.{edge_later, own_after, with_step}
 use Rattle.online_nodes.proofs.ReaderLemmas.{looks_is, reads_side}
 use Rattle.online_nodes.proofs.ReleasedLemmas.{released_knows}
-use Rattle.online_nodes.proofs.RunLaw.{none_is_none}
 use Rattle.online_nodes.proofs.StepFacts.{let_go_is}
 use Rattle.online_nodes.proofs.SteppedLemmas.{emitted_here, reached-here, reached-length, reached-other}
 
@@ -192,8 +152,13 @@ module _ {x : Situation} {op : Operator} {old : Held} (d : IsDue x op old) {begu
         let here : length (held_at put op.node) ≡ length ((edge_at old op.node).seen ++ (fresh_at old op.node ++ verdicts)) =
         ap (λ (y : Edge). length (held_of y)) all_put.got in
         let all : length verdicts ≤ 2 ^ 64 - 1 =
-        omega (arith, counted, here, length-append (edge_at old op.node).seen (fresh_at old op.node ++ verdicts),
-        length-append (fresh_at old op.node) verdicts) in
+        omega (
+          arith,
+          counted,
+          here,
+          length-append (edge_at old op.node).seen (fresh_at old op.node ++ verdicts),
+          length-append (fresh_at old op.node) verdicts,
+        ) in
         let most : length verdicts ≤ 2 * held_in old (inputs_of op.kind) + 2 =
         omega (arith, work.owed, a.finished.owed, length-append work.more a.finished.more) in
         subst (λ (m : ℕ). length verdicts ≤ m) (room_if_ready d.belongs d.ready)

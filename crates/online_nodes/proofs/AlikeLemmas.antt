@@ -1,24 +1,6 @@
 -- Formulas of one truth up to a place: what is told of one is told of the other. Up to the last row a window behind with no bound is one
 -- with a bound that is longer than any trace.
-use Rattle.std.proofs.Common.{
-  ◌≡◌,
-  refl,
-  ℕ,
-  ◌≤◌,
-  Bool,
-  true,
-  false,
-  Option,
-  Some,
-  None,
-  List,
-  [],
-  ◌∷◌,
-  pos,
-  ◌<ℤ◌,
-  ◌≤ℤ◌,
-  arith,
-}
+use Rattle.std.proofs.Common.{ℕ, ◌≤◌, Bool, true, false, Option, Some, None, List, [], ◌∷◌, pos, ◌<ℤ◌, ◌≤ℤ◌, arith}
 use Rattle.std.proofs.lemmas.Int.{ints}
 use Rattle.rational.specs.Rational.{Rational, ◌≤ʳ◌, ◌<ʳ◌, whole}
 use Rattle.rational.specs.Time.{Precedes, Within, later}

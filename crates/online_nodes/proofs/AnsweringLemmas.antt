@@ -1,53 +1,18 @@
 -- What the body of a node did, whatever its kind.
-use Rattle.std.proofs.Common.{
-  ◌≡◌,
-  ◌≢◌,
-  ◌⊎◌,
-  inl,
-  inr,
-  refl,
-  sym,
-  ap,
-  subst,
-  ◌∙◌,
-  ℕ,
-  ◌+◌,
-  ◌*◌,
-  ℤ,
-  pos,
-  ◌+ℤ◌,
-  get_or,
-  ◌<◌,
-  ◌≤◌,
-  Bool,
-  true,
-  false,
-  not,
-  Option,
-  Some,
-  None,
-  List,
-  ◌++◌,
-  length,
-  arith,
-  append_assoc,
-  length-append,
-}
+use Rattle.std.proofs.Common.{◌≡◌, ◌≢◌, ◌⊎◌, inl, inr, refl, sym, ap, subst, ◌∙◌, ℕ, ◌+◌, ◌*◌, ℤ, pos, ◌+ℤ◌, get_or, ◌<◌, ◌≤◌, Bool, true, false, not, Option, Some, None, List, ◌++◌, length, arith, length-append}
 use Rattle.std.specs.Prelude.{cond, int_lt}
 use Rattle.stl_syntax.specs.declared.items.Verdict.{Verdict}
-use Rattle.online_nodes.specs.Cuts.{place, Upto, AtMost}
 use Rattle.std.proofs.lemmas.Int.{ints}
 use Rattle.std.proofs.lemmas.List.{get_or-set_other, length-set}
-use Rattle.online_nodes.specs.Held.{Held, Edge, no_edge, edge_at, fresh_at, held_of, held_at, with_edge, with_more, IsDroppedBy}
-use Rattle.online_nodes.specs.Written.{HasAnswer, HasFinished, HasGot, IsSound, waiting}
+use Rattle.online_nodes.specs.Held.{Held, Edge, no_edge, edge_at, fresh_at, held_at, with_edge, with_more, IsDroppedBy}
+use Rattle.online_nodes.specs.Written.{HasFinished, HasGot, IsSound, waiting}
 use Rattle.online_nodes.specs.Working.{HasWorked, IsReadOn}
 use Rattle.online_nodes.specs.Kinds.{held_in, inputs_of, IsNear}
-use Rattle.online_nodes.specs.Answering.{back_by, is_empty, looks_by, CanAnswer, HasAnswered, HasBody, HasReleased, HasReleasedTwo, HasSweptAll, HasToldAll, HasWorkedOn, IsInput, IsSide}
+use Rattle.online_nodes.specs.Answering.{back_by, is_empty, looks_by, CanAnswer, HasBody, HasReleased, HasReleasedTwo, HasSweptAll, HasToldAll, HasWorkedOn, IsInput, IsSide}
 use Rattle.online_nodes.specs.declared.answering.Outcome.{Outcome}
 use Rattle.online_nodes.specs.declared.answering.Marks.{Marks}
 use Rattle.online_nodes.specs.declared.kind.Kind.{Kind}
 use Rattle.online_nodes.specs.declared.kind.Kind.TheVariants.{Const, Not, Join, Ahead, Behind, Until, Since}
-use Rattle.online_nodes.specs.declared.cut.Cut.{Cut}
 use Rattle.online_nodes.specs.declared.window.Window.{Window}
 use Rattle.online_nodes.specs.declared.writer.Out.{Out}
 use Rattle.online_nodes.proofs.GotLemmas.{got-here, got-length, got-other, with_more-both}

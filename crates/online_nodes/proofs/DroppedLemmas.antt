@@ -32,13 +32,13 @@ use Rattle.std.proofs.Common.{
   arith,
 }
 use Rattle.std.specs.Prelude.{IfSome}
-use Rattle.rational.specs.Rational.{Rational, ◌≤ʳ◌, ◌<ʳ◌, whole}
+use Rattle.rational.specs.Rational.{◌≤ʳ◌, ◌<ʳ◌, whole}
 use Rattle.rational.proofs.Order.{le_of_lt, le_trans, not_lt_of_le}
 use Rattle.frac128.specs.Spans.{interval}
 use Rattle.frac128.specs.Value.{value}
 use Rattle.stl_syntax.specs.declared.items.Verdict.{Verdict}
 use Rattle.online_nodes.specs.Cuts.{AtMost, Before, Place, Same, Upto, begins, ends}
-use Rattle.online_nodes.specs.Held.{Edge, held_of, without, IsDroppedBy}
+use Rattle.online_nodes.specs.Held.{Edge, IsDroppedBy}
 use Rattle.online_nodes.specs.Operators.{first_place}
 use Rattle.online_nodes.specs.Reading.{Tells, Truths}
 use Rattle.online_nodes.proofs.TellingLemmas.{tells_first}
@@ -151,7 +151,7 @@ module _ {f : ℤ} {old new : Edge} (dropped : IsDroppedBy f old new) where
   pub dropped_parts : (P : Truths) (from stop : Place) → Tells P from old.fresh stop
       → (new.fresh ≡ old.fresh)
       ⊎ ((v : Verdict) × (slice_get old.fresh 0 ≡ Some v) × (value v.on.to ≤ʳ whole f) × AtMost (first_place new.fresh stop) (just_after f))
-  dropped_parts P from stop h = elim (dropped_read P from stop h).1 [ | inl same ↦ inl same | inr by ↦ by_first old.fresh refl by ]
+  dropped_parts P from stop h = elim (dropped_read P from stop h).1 [ inl same ↦ inl same | inr by ↦ by_first old.fresh refl by ]
     where
       by_first : (vs : List Verdict) → old.fresh ≡ vs → AtMost (first_place new.fresh stop) (just_after f)
           → (new.fresh ≡ old.fresh)

@@ -1,46 +1,14 @@
 -- What a step that is due may rely on, for any kind of node.
-use Rattle.std.proofs.Common.{
-  ◌≡◌,
-  ◌≢◌,
-  ◌⊎◌,
-  inl,
-  inr,
-  refl,
-  sym,
-  ap,
-  subst,
-  ◌∙◌,
-  ℕ,
-  ◌<◌,
-  Bool,
-  true,
-  false,
-  Option,
-  Some,
-  None,
-  List,
-  [],
-  ◌∷◌,
-  ◌++◌,
-  length,
-  ℤ,
-  pos,
-  ◌≤ℤ◌,
-  ◌<ℤ◌,
-  arith,
-}
-use Rattle.std.specs.Prelude.{◌&&◌, not, cond, int_lt, option_map, slice_get, IfSome}
+use Rattle.std.proofs.Common.{◌≡◌, ◌≢◌, ◌⊎◌, inl, inr, refl, sym, ap, subst, ◌∙◌, ℕ, ◌<◌, Bool, true, false, Option, Some, None, List, [], ◌∷◌, length, ℤ, pos, ◌≤ℤ◌, ◌<ℤ◌, arith}
+use Rattle.std.specs.Prelude.{◌&&◌, not, cond, int_lt, option_map, IfSome}
 use Rattle.std.proofs.lemmas.Int.{ints}
-use Rattle.rational.specs.Rational.{Rational, ◌≤ʳ◌, ◌<ʳ◌, ◌≈◌, whole}
+use Rattle.rational.specs.Rational.{◌≤ʳ◌, ◌<ʳ◌, ◌≈◌, whole}
 use Rattle.rational.proofs.Order.{le_of_lt, le_trans, lt_of_lt_of_le, lt_or_same_or_gt, not_lt_of_le}
 use Rattle.rational.proofs.Shift.{le_whole, lt_whole}
-use Rattle.stl_syntax.specs.Trace.{Trace, first_time, start, stop}
+use Rattle.stl_syntax.specs.Trace.{Trace}
 use Rattle.stl_syntax.specs.Formula.{Subformula, subformula, tree_of}
-use Rattle.stl_syntax.specs.Truth.{Truth}
 use Rattle.stl_syntax.proofs.FormulaLemmas.{subformula-at}
-use Rattle.stl_syntax.specs.declared.items.Verdict.{Verdict}
-use Rattle.stl_syntax.specs.declared.node.Node.{Node}
-use Rattle.online_nodes.specs.Network.{Front, allowed_at, is_atom, same_front, shown, state}
+use Rattle.online_nodes.specs.Network.{allowed_at, same_front, shown}
 use Rattle.online_nodes.specs.Needed.{IsReader}
 use Rattle.online_nodes.specs.Answering.{IsInput}
 use Rattle.online_nodes.specs.Stepping.{
@@ -54,9 +22,9 @@ use Rattle.online_nodes.specs.Stepping.{
   stretch_of,
   trace_in,
 }
-use Rattle.online_nodes.specs.Cuts.{AtMost, Before, Place, Same, Upto, begins, ends, place}
-use Rattle.online_nodes.specs.Held.{Held, edge_at, fresh_at, number_at}
-use Rattle.online_nodes.specs.Kinds.{AreInputs, all_stand_at, allowed_by, inputs_of, open_by}
+use Rattle.online_nodes.specs.Cuts.{AtMost, Before, Same, Upto, begins, place}
+use Rattle.online_nodes.specs.Held.{Held, edge_at, number_at}
+use Rattle.online_nodes.specs.Kinds.{all_stand_at, allowed_by, inputs_of, open_by}
 use Rattle.online_nodes.specs.Operators.{KnowsBy, front_place, kind_of, place_of, read_upto}
 use Rattle.online_nodes.specs.Written.{HasTold, IsPending, IsSound}
 use Rattle.online_nodes.specs.declared.cut.Cut.{Cut}
@@ -64,22 +32,11 @@ use Rattle.online_nodes.specs.declared.kind.Kind.{Kind}
 use Rattle.online_nodes.specs.declared.kind.Kind.TheVariants.{Const as Constant, Not as Negation, Join as Connective, Ahead, Behind, Until as UntilOf, Since as SinceOf}
 use Rattle.online_nodes.specs.declared.operator.Operator.{Operator}
 use Rattle.online_nodes.specs.declared.answering.Outcome.{Outcome}
-use Rattle.online_nodes.specs.declared.writer.Out.{Out}
-use Rattle.online_nodes.proofs.BelongLemmas.{
-  allowed_number,
-  inputs_are_children,
-  kind_inputs,
-  no_atom_here,
-  own_below,
-  own_edge,
-  own_within,
-  same_refl,
-  same_true,
-}
+use Rattle.online_nodes.proofs.BelongLemmas.{allowed_number, inputs_are_children, no_atom_here, own_below, own_edge, same_refl, same_true}
 use Rattle.online_nodes.proofs.HeldFacts.{input_within}
 use Rattle.online_nodes.proofs.TellingLemmas.{IsTelling}
-use Rattle.online_nodes.proofs.PlaceLemmas.{same_before, same_places, upto_of_before, upto_same}
-use Rattle.online_nodes.proofs.ReadLemmas.{allowed_by_now, input_apart, never_less, read_first, stop_is, telling}
+use Rattle.online_nodes.proofs.PlaceLemmas.{same_places, upto_same}
+use Rattle.online_nodes.proofs.ReadLemmas.{allowed_by_now, input_apart, never_less, read_first, telling}
 use Rattle.online_nodes.proofs.ReaderLemmas.{input_side, inputs_apart, side_reads}
 use Rattle.online_nodes.proofs.RunLaw.{and_left, int_order, some_is}
 use Rattle.online_nodes.proofs.StayLaw.{shown_is}

@@ -1,42 +1,10 @@
 -- A step that gives out nothing: of a node that is not ready, and one to a number below the start.
-use Rattle.std.proofs.Common.{
-  ◌≡◌,
-  ◌≢◌,
-  refl,
-  sym,
-  ap,
-  subst,
-  ◌∙◌,
-  ℕ,
-  ◌+◌,
-  ◌<◌,
-  ◌≤◌,
-  Bool,
-  true,
-  false,
-  Option,
-  Some,
-  None,
-  Result,
-  Ok,
-  Err,
-  List,
-  [],
-  ◌∷◌,
-  ◌++◌,
-  length,
-  ℤ,
-  pos,
-  ◌≤ℤ◌,
-  ◌<ℤ◌,
-  arith,
-}
+use Rattle.std.proofs.Common.{◌≡◌, ◌≢◌, refl, sym, ap, subst, ◌∙◌, ℕ, ◌≤◌, Bool, true, false, Option, Some, None, Result, Ok, Err, List, [], ◌∷◌, ◌++◌, ℤ, pos, ◌<ℤ◌, arith}
 use Rattle.std.specs.Prelude.{◌&&◌, not, option_map, slice_get, IfSome, OnErr}
 use Rattle.std.proofs.lemmas.Int.{ints}
 use Rattle.std.proofs.lemmas.List.{append-nil}
 use Rattle.rational.specs.Rational.{whole}
 use Rattle.stl_syntax.specs.Trace.{Header, first_time}
-use Rattle.stl_syntax.specs.declared.items.Verdict.{Verdict}
 use Rattle.stl_syntax.specs.declared.node.Node.{Node}
 use Rattle.online_nodes.specs.Network.{
   Event,
@@ -60,11 +28,10 @@ use Rattle.online_nodes.specs.Held.{Edge, Held, edge_at, fresh_at, held_at, held
 use Rattle.online_nodes.specs.Operators.{KnowsBy}
 use Rattle.online_nodes.specs.declared.operator.Operator.{Operator}
 use Rattle.online_nodes.proofs.BelongLemmas.{no_atom_here, own_edge, same_true}
-use Rattle.online_nodes.proofs.EmittedLaw.{front_shown}
 use Rattle.online_nodes.proofs.FrameLaw.{nothing_given}
 use Rattle.online_nodes.proofs.HeldFacts.{edge, needs}
 use Rattle.online_nodes.proofs.ReadLemmas.{edge_low, edge_of, input_apart, never_less, others_after, own_after, with_step}
-use Rattle.online_nodes.proofs.RunLaw.{none_is_none, some_is}
+use Rattle.online_nodes.proofs.RunLaw.{some_is}
 use Rattle.online_nodes.proofs.StayLaw.{shown_is}
 use Rattle.online_nodes.proofs.SteppedLemmas.{nothing_here, reached-here, reached-length, reached-other}
 

@@ -1,47 +1,15 @@
 -- What an operator that belongs to its edges may rely on: each input's edge tells the input, and holds what is needed.
-use Rattle.std.proofs.Common.{
-  ◌≡◌,
-  ◌≢◌,
-  ◌⊎◌,
-  inl,
-  inr,
-  refl,
-  sym,
-  ap,
-  subst,
-  ◌∙◌,
-  ℕ,
-  ◌<◌,
-  Bool,
-  true,
-  false,
-  Option,
-  Some,
-  None,
-  List,
-  [],
-  ◌∷◌,
-  ◌++◌,
-  length,
-  ℤ,
-  pos,
-  ◌+ℤ◌,
-  ◌≤ℤ◌,
-  ◌<ℤ◌,
-  arith,
-}
-use Rattle.std.specs.Prelude.{cond, ◌==◌, slice_get, option_map}
-use Rattle.std.proofs.lemmas.Bool.{eq-eqb, ne_eqb}
+use Rattle.std.proofs.Common.{◌≡◌, ◌≢◌, inl, inr, refl, sym, ap, subst, ◌∙◌, ℕ, ◌<◌, Bool, true, false, Some, None, List, [], ◌∷◌, ◌++◌, length, ℤ, pos, ◌+ℤ◌, ◌≤ℤ◌, ◌<ℤ◌, arith}
+use Rattle.std.specs.Prelude.{cond, option_map}
+use Rattle.std.proofs.lemmas.Bool.{eq-eqb}
 use Rattle.std.proofs.lemmas.Int.{ints}
-use Rattle.std.proofs.lemmas.Option.{slice_get_within}
-use Rattle.rational.specs.Rational.{Rational, whole, ◌≤ʳ◌, ◌<ʳ◌}
+use Rattle.rational.specs.Rational.{whole}
 use Rattle.rational.proofs.Order.{lt_of_lt_of_le, lt_of_le_of_lt}
 use Rattle.rational.proofs.Shift.{le_whole, lt_whole}
 use Rattle.frac128.specs.Spans.{interval}
-use Rattle.stl_syntax.specs.Trace.{Header, Row, Trace, IsTrace, first_time, last_time, start, stop}
+use Rattle.stl_syntax.specs.Trace.{Header, Row, first_time, last_time, stop}
 use Rattle.stl_syntax.specs.Formula.{subformula}
 use Rattle.stl_syntax.specs.Truth.{Truth}
-use Rattle.stl_syntax.specs.PostOrder.{IsPostOrder}
 use Rattle.stl_syntax.specs.declared.items.Verdict.{Verdict}
 use Rattle.stl_syntax.specs.declared.node.Node.{Node}
 use Rattle.online_nodes.specs.Network.{
@@ -59,8 +27,8 @@ use Rattle.online_nodes.specs.Network.{
 }
 use Rattle.online_nodes.specs.Needed.{IsReader, IsEdge, AreNeeded}
 use Rattle.online_nodes.specs.Laws.{AreTiles, IsWhole, NeverLess, answered_to, beyond}
-use Rattle.online_nodes.specs.Cuts.{AtMost, Place, Same, Upto, begins}
-use Rattle.online_nodes.specs.Held.{Edge, Held, edge_at, fresh_at, held_at, held_of, number_at}
+use Rattle.online_nodes.specs.Cuts.{AtMost, Place, begins}
+use Rattle.online_nodes.specs.Held.{Held, edge_at, fresh_at, held_at, number_at}
 use Rattle.online_nodes.specs.Operators.{first_place, place_of, front_place, read_upto}
 use Rattle.online_nodes.specs.Reading.{Tells}
 use Rattle.online_nodes.specs.Belonging.{Belongs, trace_of}

@@ -1,30 +1,5 @@
 -- What an operator keeps in mind of its inputs stays so once their edges let go what is needed no more.
-use Rattle.std.proofs.Common.{
-  ◌≡◌,
-  ◌⊎◌,
-  inl,
-  inr,
-  refl,
-  sym,
-  ap,
-  subst,
-  ◌∙◌,
-  ℕ,
-  Bool,
-  true,
-  false,
-  Option,
-  Some,
-  List,
-  [],
-  ◌++◌,
-  ℤ,
-  pos,
-  neg_ℤ,
-  ◌+ℤ◌,
-  ◌≤ℤ◌,
-  arith,
-}
+use Rattle.std.proofs.Common.{◌≡◌, ◌⊎◌, inl, inr, refl, sym, ap, subst, ◌∙◌, ℕ, Bool, true, false, Some, List, [], ℤ, pos, neg_ℤ, ◌+ℤ◌, ◌≤ℤ◌, arith}
 use Rattle.std.specs.Prelude.{MatchBool, cond, int_lt, not, slice_get}
 use Rattle.std.proofs.lemmas.Int.{ints}
 use Rattle.rational.specs.Rational.{Rational, ◌≤ʳ◌, ◌<ʳ◌, add, whole}
@@ -37,13 +12,13 @@ use Rattle.stl_syntax.specs.Formula.{Subformula, subformula}
 use Rattle.stl_syntax.specs.Truth.{Truth}
 use Rattle.stl_syntax.specs.declared.items.Verdict.{Verdict}
 use Rattle.online_nodes.specs.Network.{Front, least}
-use Rattle.online_nodes.specs.Answering.{IsInput, IsSide, back_by, is_empty, looks_by}
+use Rattle.online_nodes.specs.Answering.{IsInput, IsSide, is_empty, looks_by}
 use Rattle.online_nodes.specs.Stepping.{Situation, HasWorkedOut, IsDue, LeavesLater, end_of, first_in, trace_in}
 use Rattle.online_nodes.specs.Cuts.{After, AtMost, Before, Place, Upto, begins, ends, moved_begin, place}
 use Rattle.online_nodes.specs.Held.{Edge, Held, edge_at, fresh_at, held_of, number_at, IsDroppedBy}
 use Rattle.online_nodes.specs.Kinds.{open_by}
 use Rattle.online_nodes.specs.Operators.{IsSinceKnown, IsUntilKnown, KnowsBy, first_place, front_place, place_of, read_upto}
-use Rattle.online_nodes.specs.Reading.{Knows, KnowsSince, KnowsUntil, Tells, Truths}
+use Rattle.online_nodes.specs.Reading.{Knows, KnowsSince, Tells}
 use Rattle.online_nodes.specs.Sinces.{IsBackward}
 use Rattle.online_nodes.specs.Sweeps.{Counted, CountsBeyond, high_place, low_place}
 use Rattle.online_nodes.specs.declared.answering.Outcome.{Outcome}
@@ -59,7 +34,7 @@ use Rattle.online_nodes.proofs.DroppedLemmas.{dropped_number, dropped_parts, dro
 use Rattle.online_nodes.proofs.DueLemmas.{among_telling, due_cases}
 use Rattle.online_nodes.proofs.JoinLemmas.{after_at_most}
 use Rattle.online_nodes.proofs.PlaceLemmas.{not_both, upto_of_before}
-use Rattle.online_nodes.proofs.RunLaw.{lesser, moved, some_is}
+use Rattle.online_nodes.proofs.RunLaw.{moved}
 use Rattle.online_nodes.proofs.StepFacts.{just_after}
 use Rattle.online_nodes.proofs.SinceWorked.{has_since}
 use Rattle.online_nodes.proofs.SweptLemmas.{IsWindowKind, has_window, knows_window, whole_sum, window_input, window_knows}
@@ -135,13 +110,13 @@ module _ {x : Situation} {op : Operator} {old mid : Held} {work : Outcome} (d : 
     parts = elim (dropped_parts (lets j left s) (Truth (subformula x.nodes j) (trace_in x)) (read_upto mid j) (front_place mid j) (mid_tells j a)) [
       | inl same ↦ inl same
       | inr h ↦ inr (
-          h.0,
-          (
-            h.1,
-            h.2,
-            subst (λ (c : Place). AtMost (first_place (fresh_at new j) c) (just_after (x.front +ℤ looks_by op.kind left))) (sym stop_same) h.3,
-          ),
-        )
+        h.0,
+        (
+          h.1,
+          h.2,
+          subst (λ (c : Place). AtMost (first_place (fresh_at new j) c) (just_after (x.front +ℤ looks_by op.kind left))) (sym stop_same) h.3,
+        ),
+      )
     ]
 
     -- a node that looks neither ahead nor back has read no further than its front
@@ -356,7 +331,7 @@ module _ {x : Situation} {op : Operator} {old mid : Held} {work : Outcome} (d : 
     until_released =
         subst (λ k. KnowsBy k x.nodes (trace_in x) new (end_of x) (place work.marks.reach) (place work.marks.run)) (sym kind)
         (subst until_at (sym new_stop)
-        (elim (parts u.window.of true left_side left_input) [ | inl same ↦ until_same same | inr g ↦ until_gone g.0 g.1 ]))
+        (elim (parts u.window.of true left_side left_input) [ inl same ↦ until_same same | inr g ↦ until_gone g.0 g.1 ]))
 
   -- since
   module _ {s : SinceWindow} (kind : op.kind ≡ SinceOf s) (back : IsBackward s.window) where
@@ -439,8 +414,8 @@ module _ {x : Situation} {op : Operator} {old mid : Held} {work : Outcome} (d : 
         let is : read_upto new s.window.of ≡ read_upto mid s.window.of =
         read_same s.window.of true since_left_side since_left_input since_left_fresh in
         let known : IsSinceKnown (subformula x.nodes s.window.of) (subformula x.nodes s.right) (trace_in x) s (end_of x) (place work.marks.run)
-            (place work.marks.reach) (read_upto new s.window.of) (read_upto new s.right) (front_place mid s.window.of) (front_place mid s.right)
-            (fresh_at new s.window.of) =
+        (place work.marks.reach) (read_upto new s.window.of) (read_upto new s.right) (front_place mid s.window.of) (front_place mid s.right)
+        (fresh_at new s.window.of) =
         record {
           read = since_known.read;
           knows = since_right;

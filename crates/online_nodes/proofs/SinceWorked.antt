@@ -1,49 +1,13 @@
 -- What the body of since leaves of a step that is due.
-use Rattle.std.proofs.Common.{
-  ◌≡◌,
-  ◌⊎◌,
-  inl,
-  inr,
-  refl,
-  sym,
-  ap,
-  subst,
-  ◌∙◌,
-  ℕ,
-  ◌+◌,
-  ◌<◌,
-  ◌≤◌,
-  ◌^◌,
-  Bool,
-  true,
-  false,
-  not,
-  Option,
-  Some,
-  None,
-  List,
-  [],
-  ◌∷◌,
-  ◌++◌,
-  length,
-  slice_get,
-  ℤ,
-  pos,
-  neg_ℤ,
-  ◌+ℤ◌,
-  ◌≤ℤ◌,
-  ◌<ℤ◌,
-  arith,
-}
-use Rattle.std.specs.Int.{w64}
+use Rattle.std.proofs.Common.{◌≡◌, inl, inr, refl, sym, ap, subst, ◌∙◌, ℕ, ◌+◌, ◌≤◌, ◌^◌, Bool, true, false, not, Option, Some, None, List, [], ◌∷◌, length, slice_get, ℤ, pos, ◌+ℤ◌, ◌≤ℤ◌, arith}
 use Rattle.std.specs.Prelude.{◌*◌, ◌&&◌, int_lt, MatchBool}
 use Rattle.std.proofs.lemmas.Int.{ints}
-use Rattle.rational.specs.Rational.{FitsFloor, Rational, ◌≤ʳ◌, ◌<ʳ◌, ◌≈◌, add, whole}
-use Rattle.rational.proofs.Order.{ge_of_same, le_of_lt, le_of_same, le_trans, lt_of_le_of_lt, lt_of_lt_of_le, lt_or_same_or_gt, not_lt_of_le, same_sym, same_trans}
-use Rattle.rational.proofs.Shift.{le_whole, lt_whole}
+use Rattle.rational.specs.Rational.{Rational, ◌≤ʳ◌, ◌<ʳ◌, whole}
+use Rattle.rational.proofs.Order.{le_of_lt, le_trans, lt_of_lt_of_le}
+use Rattle.rational.proofs.Shift.{le_whole}
 use Rattle.frac128.specs.Value.{value}
 use Rattle.frac128.specs.Spans.{interval}
-use Rattle.stl_syntax.specs.Trace.{Trace, start, stop as last}
+use Rattle.stl_syntax.specs.Trace.{Trace}
 use Rattle.stl_syntax.specs.Formula.{Subformula, since, subformula, tree_of}
 use Rattle.stl_syntax.specs.Truth.{Truth}
 use Rattle.stl_syntax.specs.Limits.{own_reach}
@@ -79,7 +43,7 @@ use Rattle.online_nodes.specs.Stepping.{
   trace_in,
 }
 use Rattle.online_nodes.specs.Cuts.{After, AtMost, Before, Place, Same, Upto, begins, ends, moved_begin, place}
-use Rattle.online_nodes.specs.Held.{Held, edge_at, fresh_at, held_at, number_at}
+use Rattle.online_nodes.specs.Held.{Held, fresh_at, number_at}
 use Rattle.online_nodes.specs.Kinds.{held_in, inputs_of, open_by}
 use Rattle.online_nodes.specs.Operators.{IsSinceKnown, KnowsBy, behind, first_place, front_place, kind_of, place_of, read_upto}
 use Rattle.online_nodes.specs.Reading.{IsSinceOf, KnowsSince, Tells, Truths}
@@ -89,7 +53,6 @@ use Rattle.online_nodes.specs.Untils.{Reads}
 use Rattle.online_nodes.specs.Working.{HasWorked}
 use Rattle.online_nodes.specs.Written.{waiting}
 use Rattle.online_nodes.specs.declared.cut.Cut.{Cut}
-use Rattle.online_nodes.specs.declared.kind.Kind.{Kind}
 use Rattle.online_nodes.specs.declared.kind.Kind.TheVariants.{Since as SinceOf}
 use Rattle.online_nodes.specs.declared.operator.Operator.{Operator}
 use Rattle.online_nodes.specs.declared.since.Course.{Course}
@@ -112,7 +75,7 @@ use Rattle.online_nodes.proofs.DueLemmas.{
   kind_is,
   knows_at,
 }
-use Rattle.online_nodes.proofs.TellingLemmas.{IsTelling, at_most_order, fresh_counted, fresh_tells, fresh_within, tells_between, tells_upto}
+use Rattle.online_nodes.proofs.TellingLemmas.{at_most_order, fresh_counted, fresh_tells, fresh_within, tells_between, tells_upto}
 use Rattle.online_nodes.proofs.AnsweringLemmas.{fresh_few, worked_two}
 use Rattle.online_nodes.proofs.JoinLemmas.{after_at_most}
 use Rattle.online_nodes.proofs.LooksLaw.{since_looks}
@@ -130,7 +93,7 @@ use Rattle.online_nodes.proofs.PlaceLemmas.{
   upto_same,
 }
 use Rattle.online_nodes.proofs.ReadLemmas.{stop_is}
-use Rattle.online_nodes.proofs.RunLaw.{lesser, moved, some_is}
+use Rattle.online_nodes.proofs.RunLaw.{lesser, moved}
 use Rattle.online_nodes.proofs.SweptLemmas.{window_ends}
 use Rattle.online_nodes.proofs.WindowedLemmas.{fits_moved, some_in_window}
 use Rattle.online_nodes.proofs.WorkedLemmas.{one_place, read_place}
@@ -253,13 +216,13 @@ module _ {x : Situation} {op : Operator} {old : Held} {work : Outcome} (d : IsDu
   has_numbers : HasNumbers
   has_numbers = elim (due_cases d) [
     | inl c ↦ record {
-        f = pos x.now;
-        h = pos x.now;
-        left = c.0 s.window.of since_left;
-        right = c.0 s.right since_right;
-        left_front = (let e = c.1 in omega (arith, ints));
-        right_front = (let e = c.1 in let l = has.low in omega (arith, ints));
-      }
+      f = pos x.now;
+      h = pos x.now;
+      left = c.0 s.window.of since_left;
+      right = c.0 s.right since_right;
+      left_front = (let e = c.1 in omega (arith, ints));
+      right_front = (let e = c.1 in let l = has.low in omega (arith, ints));
+    }
     | inr c ↦
         let both = lesser (number_at old s.window.of) (moved_by s.window.begin_by (number_at old s.right)) x.front
         (subst (λ k. open_by k old x.now ≡ Some x.front) kind c) in

@@ -1,46 +1,10 @@
 -- From a step's parts to what it leaves: the verdicts of the stretch on the node's edge, the inputs' edges, and the operator that belongs
 -- to them.
-use Rattle.std.proofs.Common.{
-  ◌≡◌,
-  ◌≢◌,
-  ◌⊎◌,
-  inl,
-  inr,
-  refl,
-  sym,
-  ap,
-  subst,
-  ◌∙◌,
-  ℕ,
-  ◌+◌,
-  ◌<◌,
-  ◌≤◌,
-  ◌^◌,
-  Bool,
-  true,
-  false,
-  Option,
-  Some,
-  None,
-  List,
-  [],
-  ◌∷◌,
-  ◌++◌,
-  length,
-  get_or,
-  ℤ,
-  pos,
-  ◌+ℤ◌,
-  ◌-ℤ◌,
-  ◌≤ℤ◌,
-  ◌<ℤ◌,
-  arith,
-}
-use Rattle.std.specs.Prelude.{◌*◌, ◌-◌, ◌==◌, ◌&&◌, cond, int_lt, min, not, option_map, slice_get, slice_index_or, IfSome, MatchBool}
+use Rattle.std.proofs.Common.{◌≡◌, ◌≢◌, refl, sym, ap, subst, ◌∙◌, ℕ, ◌<◌, Bool, true, false, Some, None, List, [], ◌∷◌, ◌++◌, length, ℤ, pos, ◌≤ℤ◌, ◌<ℤ◌, arith}
+use Rattle.std.specs.Prelude.{◌&&◌, not, option_map, slice_get, MatchBool}
 use Rattle.std.proofs.lemmas.Int.{ints}
 use Rattle.std.proofs.lemmas.List.{get_or-set_same, get_or-set_other, length-set}
-use Rattle.rational.specs.Rational.{whole}
-use Rattle.stl_syntax.specs.Trace.{Header, Trace, first_time}
+use Rattle.stl_syntax.specs.Trace.{Header, first_time}
 use Rattle.stl_syntax.specs.Formula.{subformula}
 use Rattle.stl_syntax.specs.Verdicts.{Describes}
 use Rattle.stl_syntax.specs.declared.items.Verdict.{Verdict}
@@ -60,15 +24,15 @@ use Rattle.online_nodes.specs.Network.{
   shown,
   state,
 }
-use Rattle.online_nodes.specs.Needed.{IsReader, IsEdge}
-use Rattle.online_nodes.specs.Belonging.{Belongs, HasStepped, StandsForSteps, held_by_inputs, is_ready, room_of_step, trace_of}
-use Rattle.online_nodes.specs.Held.{Held, Edge, edge_at, fresh_at, held_at, no_edge, number_at, with_edge, with_number}
+use Rattle.online_nodes.specs.Needed.{IsReader}
+use Rattle.online_nodes.specs.Belonging.{Belongs, HasStepped, StandsForSteps, is_ready, trace_of}
+use Rattle.online_nodes.specs.Held.{Held, edge_at, no_edge, number_at, with_edge, with_number}
 use Rattle.online_nodes.specs.declared.operator.Operator.{Operator}
 use Rattle.online_nodes.proofs.BelongLemmas.{no_atom_here, own_within, same_refl, same_true}
 use Rattle.online_nodes.proofs.EdgeLaw.{run_more, step_leaves}
 use Rattle.online_nodes.proofs.EmittedLaw.{front_shown}
 use Rattle.online_nodes.proofs.ReadLemmas.{input_apart, own_after, with_step}
-use Rattle.online_nodes.proofs.RunLaw.{int_order, some_is}
+use Rattle.online_nodes.proofs.RunLaw.{some_is}
 use Rattle.online_nodes.proofs.StayLaw.{shown_is}
 
 -- an edge that notes its number

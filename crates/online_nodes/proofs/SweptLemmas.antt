@@ -1,54 +1,18 @@
 -- What the body of a window leaves of a step that is due.
-use Rattle.std.proofs.Common.{
-  ◌≡◌,
-  ◌⊎◌,
-  inl,
-  inr,
-  refl,
-  sym,
-  ap,
-  subst,
-  ◌∙◌,
-  ℕ,
-  ◌+◌,
-  ◌<◌,
-  ◌≤◌,
-  ◌^◌,
-  Bool,
-  true,
-  false,
-  not,
-  Option,
-  Some,
-  None,
-  List,
-  [],
-  ◌∷◌,
-  ◌++◌,
-  length,
-  slice_get,
-  ℤ,
-  pos,
-  neg_ℤ,
-  ◌+ℤ◌,
-  ◌≤ℤ◌,
-  ◌<ℤ◌,
-  arith,
-}
-use Rattle.std.specs.Prelude.{◌*◌, MatchBool}
+use Rattle.std.proofs.Common.{◌≡◌, ◌⊎◌, inl, inr, refl, sym, ap, subst, ◌∙◌, ℕ, ◌+◌, ◌^◌, Bool, true, false, not, Option, Some, None, [], length, slice_get, ℤ, pos, neg_ℤ, ◌+ℤ◌, ◌≤ℤ◌, arith}
+use Rattle.std.specs.Prelude.{MatchBool}
 use Rattle.std.proofs.lemmas.Int.{ints}
 use Rattle.rational.specs.Rational.{Rational, ◌≤ʳ◌, ◌<ʳ◌, ◌≈◌, add, whole}
 use Rattle.rational.proofs.Mixed.{parts}
-use Rattle.rational.proofs.Order.{le_trans, le_of_lt, le_of_same, lt_of_le_of_lt, lt_of_lt_of_le, lt_irrefl, not_lt_of_le}
+use Rattle.rational.proofs.Order.{le_trans, le_of_lt, le_of_same, not_lt_of_le}
 use Rattle.rational.proofs.Shift.{le_shift, le_whole}
 use Rattle.frac128.specs.Value.{value}
 use Rattle.frac128.specs.Spans.{interval}
-use Rattle.stl_syntax.specs.Trace.{Trace, first_time, start, stop as last}
+use Rattle.stl_syntax.specs.Trace.{Trace, start, stop as last}
 use Rattle.stl_syntax.specs.Formula.{Subformula, subformula}
-use Rattle.stl_syntax.specs.Truth.{Truth}
 use Rattle.stl_syntax.specs.declared.items.Verdict.{Verdict}
 use Rattle.online_nodes.specs.Network.{moved_by}
-use Rattle.online_nodes.specs.Answering.{HasSweptAll, HasToldAll, HasWorkedOn, IsInput, is_empty}
+use Rattle.online_nodes.specs.Answering.{HasSweptAll, HasToldAll, IsInput, is_empty}
 use Rattle.online_nodes.specs.Stepping.{
   Situation,
   HasWorkedOut,
@@ -61,23 +25,21 @@ use Rattle.online_nodes.specs.Stepping.{
   stretch_of,
   trace_in,
 }
-use Rattle.online_nodes.specs.Cuts.{After, AtMost, Before, Place, Same, Upto, begins, moved_begin, place}
-use Rattle.online_nodes.specs.Held.{Held, edge_at, fresh_at, held_at, number_at}
+use Rattle.online_nodes.specs.Cuts.{After, Place, Same, Upto, begins, moved_begin, place}
+use Rattle.online_nodes.specs.Held.{Held, fresh_at, held_at, number_at}
 use Rattle.online_nodes.specs.Kinds.{held_in, inputs_of, open_by}
 use Rattle.online_nodes.specs.Operators.{KnowsBy, front_place, place_of, read_upto}
-use Rattle.online_nodes.specs.Reading.{Is, Knows, Tells, Truths}
-use Rattle.online_nodes.specs.Sweeps.{Counted, CountsBeyond, FitsIn, HasSwept, IsSwept, IsWindowOf, high_place, low_place}
+use Rattle.online_nodes.specs.Reading.{Is, Knows, Truths}
+use Rattle.online_nodes.specs.Sweeps.{Counted, CountsBeyond, FitsIn, HasSwept, IsWindowOf, high_place, low_place}
 use Rattle.online_nodes.specs.Working.{HasWorked}
-use Rattle.online_nodes.specs.Written.{HasAnswer, waiting}
+use Rattle.online_nodes.specs.Written.{waiting}
 use Rattle.online_nodes.specs.declared.cut.Cut.{Cut}
 use Rattle.online_nodes.specs.declared.kind.Kind.{Kind}
 use Rattle.online_nodes.specs.declared.kind.Kind.TheVariants.{Ahead, Behind}
 use Rattle.online_nodes.specs.declared.operator.Operator.{Operator}
-use Rattle.online_nodes.specs.declared.window.Sweep.{Sweep}
 use Rattle.online_nodes.specs.declared.window.Window.{Window}
 use Rattle.online_nodes.specs.declared.answering.Marks.{Marks}
 use Rattle.online_nodes.specs.declared.answering.Outcome.{Outcome}
-use Rattle.online_nodes.specs.declared.writer.Out.{Out}
 use Rattle.online_nodes.proofs.BelongLemmas.{own_bounds, own_reach_small}
 use Rattle.online_nodes.proofs.AlikeLemmas.{is_like, told_like}
 use Rattle.online_nodes.proofs.DueLemmas.{
@@ -98,7 +60,7 @@ use Rattle.online_nodes.proofs.JoinLemmas.{after_at_most}
 use Rattle.online_nodes.proofs.Writing.{same_itself}
 use Rattle.online_nodes.proofs.PlaceLemmas.{after_same, sides, not_both, same_before, same_places, same_trans_places, upto_same}
 use Rattle.online_nodes.proofs.ReadLemmas.{stop_is}
-use Rattle.online_nodes.proofs.RunLaw.{lesser, moved, some_is}
+use Rattle.online_nodes.proofs.RunLaw.{lesser, moved}
 use Rattle.online_nodes.proofs.WindowedLemmas.{HasWindow, ahead_node, behind_node, fits_moved, none_in_window, some_in_window}
 use Rattle.online_nodes.proofs.WorkedLemmas.{all_worked, one_place, read_place}
 

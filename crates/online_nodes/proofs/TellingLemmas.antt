@@ -1,37 +1,8 @@
 -- What an input's edge tells an operator: what it holds leads from some place to where the input is answered, and is its truth.
-use Rattle.std.proofs.Common.{
-  ◌≡◌,
-  ◌⊎◌,
-  inl,
-  inr,
-  refl,
-  sym,
-  ap,
-  subst,
-  ◌∙◌,
-  ℕ,
-  zero,
-  suc,
-  Bool,
-  true,
-  false,
-  not,
-  Option,
-  Some,
-  None,
-  List,
-  [],
-  ◌∷◌,
-  ◌++◌,
-  slice_get,
-  ℤ,
-  pos,
-  ◌≤ℤ◌,
-  arith,
-}
-use Rattle.std.specs.Prelude.{MatchBool, cond}
+use Rattle.std.proofs.Common.{◌≡◌, ◌⊎◌, inl, inr, sym, ap, subst, ◌∙◌, ℕ, zero, suc, Bool, true, false, Some, None, List, [], ◌∷◌, ◌++◌, slice_get, ℤ, pos, ◌≤ℤ◌}
+use Rattle.std.specs.Prelude.{MatchBool}
 use Rattle.rational.specs.Rational.{Rational, ◌≤ʳ◌, ◌<ʳ◌, whole}
-use Rattle.rational.specs.Time.{Within, less}
+use Rattle.rational.specs.Time.{Within}
 use Rattle.rational.proofs.Order.{le_or_lt, le_of_lt, le_of_same, le_trans, left_of_middle, not_lt_of_le, right_of_middle}
 use Rattle.rational.specs.Rational.{middle}
 use Rattle.rational.proofs.Shift.{le_whole}
@@ -43,9 +14,8 @@ use Rattle.stl_syntax.specs.Truth.{Truth}
 use Rattle.stl_syntax.specs.declared.items.Verdict.{Verdict}
 use Rattle.online_nodes.specs.Cuts.{Place, begins, ends, After, AtMost, Before, Same, Upto}
 use Rattle.online_nodes.specs.Held.{Edge, held_of}
-use Rattle.online_nodes.specs.Laws.{AreTiles, AreTold, beyond}
 use Rattle.online_nodes.specs.Operators.{first_place, place_of}
-use Rattle.online_nodes.specs.Reading.{AllAre, Is, Tells, Truths}
+use Rattle.online_nodes.specs.Reading.{Tells, Truths}
 use Rattle.online_nodes.specs.Sweeps.{Counted}
 use Rattle.online_nodes.proofs.InputLemmas.{counted_tells}
 use Rattle.online_nodes.proofs.JoinLemmas.{after_at_most}

@@ -1,47 +1,13 @@
 -- What the body of until leaves of a step that is due.
-use Rattle.std.proofs.Common.{
-  ◌≡◌,
-  ◌⊎◌,
-  inl,
-  inr,
-  refl,
-  sym,
-  ap,
-  subst,
-  ◌∙◌,
-  ℕ,
-  ◌+◌,
-  ◌<◌,
-  ◌≤◌,
-  ◌^◌,
-  Bool,
-  true,
-  false,
-  not,
-  Option,
-  Some,
-  None,
-  List,
-  [],
-  ◌∷◌,
-  ◌++◌,
-  length,
-  slice_get,
-  ℤ,
-  pos,
-  neg_ℤ,
-  ◌+ℤ◌,
-  ◌≤ℤ◌,
-  arith,
-}
-use Rattle.std.specs.Prelude.{◌*◌, ◌&&◌, cond, int_lt, MatchBool}
+use Rattle.std.proofs.Common.{◌≡◌, inl, inr, refl, sym, ap, subst, ◌∙◌, ℕ, ◌+◌, ◌≤◌, ◌^◌, Bool, true, false, not, Option, Some, None, List, [], ◌∷◌, length, slice_get, ℤ, pos, neg_ℤ, ◌≤ℤ◌, arith}
+use Rattle.std.specs.Prelude.{◌*◌, ◌&&◌, cond, int_lt}
 use Rattle.std.proofs.lemmas.Int.{ints}
-use Rattle.rational.specs.Rational.{Rational, ◌≤ʳ◌, ◌<ʳ◌, add, whole}
+use Rattle.rational.specs.Rational.{Rational, ◌≤ʳ◌, ◌<ʳ◌, whole}
 use Rattle.rational.proofs.Order.{le_of_lt, le_trans, not_lt_of_le}
 use Rattle.rational.proofs.Shift.{le_whole}
 use Rattle.frac128.specs.Value.{value}
 use Rattle.frac128.specs.Spans.{interval}
-use Rattle.stl_syntax.specs.Trace.{Trace, start, stop as last}
+use Rattle.stl_syntax.specs.Trace.{Trace}
 use Rattle.stl_syntax.specs.Formula.{Subformula, subformula, tree_of}
 use Rattle.stl_syntax.specs.Truth.{Truth}
 use Rattle.stl_syntax.specs.Limits.{own_reach}
@@ -76,23 +42,21 @@ use Rattle.online_nodes.specs.Stepping.{
   stretch_of,
   trace_in,
 }
-use Rattle.online_nodes.specs.Cuts.{After, AtMost, Before, Place, Same, Upto, begins, ends, place}
-use Rattle.online_nodes.specs.Held.{Held, edge_at, fresh_at, number_at}
+use Rattle.online_nodes.specs.Cuts.{After, Before, Place, Same, Upto, begins, ends, place}
+use Rattle.online_nodes.specs.Held.{Held, fresh_at, number_at}
 use Rattle.online_nodes.specs.Kinds.{held_in, inputs_of, open_by}
 use Rattle.online_nodes.specs.Looking.{place_at}
 use Rattle.online_nodes.specs.Operators.{IsUntilKnown, KnowsBy, ahead, first_place, front_place, kind_of, place_of, read_upto}
-use Rattle.online_nodes.specs.Reading.{AllAre, IsUntilOf, KnowsUntil, Tells}
+use Rattle.online_nodes.specs.Reading.{IsUntilOf, KnowsUntil, Tells}
 use Rattle.online_nodes.specs.Sweeps.{Counted, FitsIn, high_place, low_place}
 use Rattle.online_nodes.specs.Untils.{HasUntilTold, IsTurned, IsUntil, Reads, Stretch}
 use Rattle.online_nodes.specs.Working.{HasWorked}
 use Rattle.online_nodes.specs.Written.{waiting}
 use Rattle.online_nodes.specs.declared.cut.Cut.{Cut}
-use Rattle.online_nodes.specs.declared.kind.Kind.{Kind}
 use Rattle.online_nodes.specs.declared.kind.Kind.TheVariants.{Until as UntilOf}
 use Rattle.online_nodes.specs.declared.operator.Operator.{Operator}
 use Rattle.online_nodes.specs.declared.until.Until.{Until as UntilWindow}
 use Rattle.online_nodes.specs.declared.window.Sweep.{Sweep}
-use Rattle.online_nodes.specs.declared.window.Window.{Window}
 use Rattle.online_nodes.specs.declared.answering.Outcome.{Outcome}
 use Rattle.online_nodes.proofs.BelongLemmas.{own_bounds, own_reach_small}
 use Rattle.online_nodes.proofs.DueLemmas.{among_first, among_telling, begun_at, begun_told, due_cases, formula_is, kind_is, knows_at}
@@ -100,7 +64,7 @@ use Rattle.online_nodes.proofs.TellingLemmas.{fresh_counted, fresh_tells, fresh_
 use Rattle.online_nodes.proofs.AnsweringLemmas.{fresh_few, worked_two}
 use Rattle.online_nodes.proofs.JoinLemmas.{after_at_most}
 use Rattle.online_nodes.proofs.LooksLaw.{until_looks}
-use Rattle.online_nodes.proofs.PlaceLemmas.{after_same, sides, not_both, same_before, same_places, same_trans_places, upto_same}
+use Rattle.online_nodes.proofs.PlaceLemmas.{after_same, sides, not_both, same_places, same_trans_places, upto_same}
 use Rattle.online_nodes.proofs.ReadLemmas.{stop_is}
 use Rattle.online_nodes.proofs.RunLaw.{lesser, moved, some_is}
 use Rattle.online_nodes.proofs.SweptLemmas.{beyond_trace, window_ends}
@@ -108,7 +72,6 @@ use Rattle.online_nodes.proofs.UntilLaw.{after_later, knows_later}
 use Rattle.online_nodes.proofs.WindowedLemmas.{fits_moved, some_in_window}
 use Rattle.online_nodes.proofs.ReaderLemmas.{twice_negated}
 use Rattle.online_nodes.proofs.WorkedLemmas.{one_place, read_place}
-use Rattle.online_nodes.proofs.Writing.{same_itself}
 
 -- until's bounds, in order and near and not behind, and what its node is
 pub record HasUntil (n p q : Subformula) (tr : Trace) (u : UntilWindow) : Type 0 where
@@ -192,12 +155,12 @@ module _ {x : Situation} {op : Operator} {old : Held} {work : Outcome} (d : IsDu
   has_lesser : HasLesser
   has_lesser = elim (due_cases d) [
     | inl h ↦ record {
-        f = pos x.now;
-        is = both_now (number_at old u.window.of) (number_at old u.right) (h.0 u.window.of until_left) (h.0 u.right until_right);
-        front = (let e = h.1 in omega (arith, ints));
-        within = λ t v a hi after. beyond_trace true (subformula x.nodes u.right) (trace_in x) v
-            (subst (λ q. q <ʳ v) (sym (stop_is d.belongs)) after);
-      }
+      f = pos x.now;
+      is = both_now (number_at old u.window.of) (number_at old u.right) (h.0 u.window.of until_left) (h.0 u.right until_right);
+      front = (let e = h.1 in omega (arith, ints));
+      within = λ t v a hi after. beyond_trace true (subformula x.nodes u.right) (trace_in x) v
+          (subst (λ q. q <ʳ v) (sym (stop_is d.belongs)) after);
+    }
     | inr h ↦
         let m = moved u.window.begin_by lesser_number x.front (subst (λ k. open_by k old x.now ≡ Some x.front) kind h) in
         record {

@@ -1,62 +1,18 @@
 -- What a window's body leaves of a step that is due.
-use Rattle.std.proofs.Common.{
-  ◌≡◌,
-  ◌≢◌,
-  ◌⊎◌,
-  inl,
-  inr,
-  refl,
-  sym,
-  ap,
-  subst,
-  ◌∙◌,
-  ℕ,
-  zero,
-  suc,
-  ◌+◌,
-  ◌<◌,
-  ◌≤◌,
-  ◌^◌,
-  Bool,
-  true,
-  false,
-  not,
-  Option,
-  Some,
-  None,
-  List,
-  [],
-  ◌∷◌,
-  ◌++◌,
-  length,
-  slice_get,
-  ℤ,
-  pos,
-  negsuc,
-  neg_ℤ,
-  ◌+ℤ◌,
-  ◌≤ℤ◌,
-  ◌<ℤ◌,
-  arith,
-  lit<,
-}
+use Rattle.std.proofs.Common.{◌≡◌, ◌⊎◌, inl, inr, refl, sym, ap, subst, ◌∙◌, ℕ, ◌≤◌, ◌^◌, Bool, true, false, not, Option, Some, None, ℤ, pos, neg_ℤ, ◌≤ℤ◌, ◌<ℤ◌, arith, lit<}
 use Rattle.std.specs.Int.{w64}
-use Rattle.std.specs.Prelude.{◌*◌, ◌&&◌, int_lt, MatchBool}
+use Rattle.std.specs.Prelude.{◌&&◌, int_lt, MatchBool}
 use Rattle.std.proofs.lemmas.Int.{ints}
 use Rattle.rational.specs.Rational.{FitsFloor, Rational, ◌≤ʳ◌, ◌<ʳ◌, ◌≈◌, add, whole}
-use Rattle.rational.specs.Time.{Within}
 use Rattle.rational.proofs.Field.{le_add, lt_add_left}
 use Rattle.rational.proofs.Mixed.{fits_of_within}
-use Rattle.rational.proofs.Order.{le_trans, le_of_lt, lt_of_le_of_lt, lt_of_lt_of_le, lt_irrefl, not_lt_of_le, le_refl, le_of_same, same_refl}
-use Rattle.rational.proofs.Shift.{le_shift, le_shift_by, le_whole, lt_whole}
-use Rattle.frac128.specs.Value.{value}
-use Rattle.frac128.specs.Spans.{interval}
-use Rattle.stl_syntax.specs.Trace.{Trace, start, stop as last}
-use Rattle.stl_syntax.specs.Formula.{Subformula, historically, once, subformula, tree_of}
+use Rattle.rational.proofs.Order.{le_trans, le_of_lt, lt_of_le_of_lt, lt_of_lt_of_le, not_lt_of_le, le_refl, same_refl}
+use Rattle.rational.proofs.Shift.{le_shift_by, le_whole, lt_whole}
+use Rattle.stl_syntax.specs.Trace.{Trace}
+use Rattle.stl_syntax.specs.Formula.{Subformula, historically, once, tree_of}
 use Rattle.stl_syntax.specs.Truth.{Truth}
 use Rattle.stl_syntax.specs.Limits.{own_reach}
 use Rattle.stl_syntax.specs.WellFormed.{HasBounds}
-use Rattle.stl_syntax.specs.declared.items.Verdict.{Verdict}
 use Rattle.stl_syntax.specs.declared.node.Node.{Node}
 use Rattle.stl_syntax.specs.declared.node.Node.TheVariants.{
   Const,
@@ -72,14 +28,13 @@ use Rattle.stl_syntax.specs.declared.node.Node.TheVariants.{
   Once,
   Historically,
 }
-use Rattle.online_nodes.specs.Cuts.{After, AtMost, Before, Place, Same, Upto, begins, ends, place}
+use Rattle.online_nodes.specs.Cuts.{After, Before, Place, Upto}
 use Rattle.online_nodes.specs.Looking.{place_at}
-use Rattle.online_nodes.specs.Operators.{ahead, behind, kind_of, upper}
-use Rattle.online_nodes.specs.Reading.{Is, Knows, Looks, Tells}
-use Rattle.online_nodes.specs.Sweeps.{Counted, FitsIn, low_place, high_place}
+use Rattle.online_nodes.specs.Operators.{ahead, behind, kind_of}
+use Rattle.online_nodes.specs.Reading.{Looks}
+use Rattle.online_nodes.specs.Sweeps.{Counted, low_place, high_place}
 use Rattle.online_nodes.specs.Answering.{is_empty}
-use Rattle.online_nodes.specs.declared.kind.Kind.{Kind}
-use Rattle.online_nodes.specs.declared.kind.Kind.TheVariants.{Const as Constant, Not as Negation, Join as Connective, Ahead, Behind, Until as UntilOf, Since as SinceOf}
+use Rattle.online_nodes.specs.declared.kind.Kind.TheVariants.{Ahead, Behind}
 use Rattle.online_nodes.specs.declared.window.Window.{Window}
 use Rattle.online_nodes.proofs.AlikeLemmas.{IsLike, historically_like, like_itself, once_like}
 use Rattle.online_nodes.proofs.LooksLaw.{always_looks, eventually_looks, historically_looks, once_looks}

@@ -1,45 +1,11 @@
 -- What the bodies leave of a step that is due: constants, negations and connectives.
-use Rattle.std.proofs.Common.{
-  ◌≡◌,
-  ◌≢◌,
-  ◌⊎◌,
-  inl,
-  inr,
-  refl,
-  sym,
-  ap,
-  subst,
-  ◌∙◌,
-  ℕ,
-  ◌+◌,
-  ◌<◌,
-  ◌≤◌,
-  Bool,
-  true,
-  false,
-  Option,
-  Some,
-  None,
-  List,
-  [],
-  ◌∷◌,
-  ◌++◌,
-  drop,
-  length,
-  ℤ,
-  pos,
-  ◌≤ℤ◌,
-  arith,
-  length-append,
-}
-use Rattle.std.specs.Prelude.{◌*◌, slice_get}
+use Rattle.std.proofs.Common.{◌≡◌, inl, inr, refl, sym, ap, subst, ◌∙◌, ℕ, ◌+◌, ◌<◌, ◌≤◌, Bool, true, false, Option, Some, None, [], length, pos, arith}
+use Rattle.std.specs.Prelude.{◌*◌}
 use Rattle.std.proofs.lemmas.Int.{ints}
-use Rattle.std.proofs.lemmas.Bool.{cases_eq}
 use Rattle.rational.specs.Rational.{Rational, whole}
-use Rattle.stl_syntax.specs.Trace.{Trace, first_time}
+use Rattle.stl_syntax.specs.Trace.{Trace}
 use Rattle.stl_syntax.specs.Formula.{Subformula, constant, subformula, tree_of}
 use Rattle.stl_syntax.specs.Truth.{Truth}
-use Rattle.stl_syntax.specs.declared.items.Verdict.{Verdict}
 use Rattle.stl_syntax.specs.declared.node.Node.{Node}
 use Rattle.stl_syntax.specs.declared.node.Node.TheVariants.{
   Const,
@@ -55,8 +21,8 @@ use Rattle.stl_syntax.specs.declared.node.Node.TheVariants.{
   Once,
   Historically,
 }
-use Rattle.online_nodes.specs.Network.{is_atom, state}
-use Rattle.online_nodes.specs.Answering.{HasBody, HasToldAll, HasWorkedOn, IsInput}
+use Rattle.online_nodes.specs.Network.{is_atom}
+use Rattle.online_nodes.specs.Answering.{HasToldAll, HasWorkedOn, IsInput}
 use Rattle.online_nodes.specs.Stepping.{
   Situation,
   HasWorkedOut,
@@ -69,22 +35,20 @@ use Rattle.online_nodes.specs.Stepping.{
   trace_in,
 }
 use Rattle.online_nodes.specs.Cuts.{AtMost, Place, Same, Upto, begins, place}
-use Rattle.online_nodes.specs.Held.{Edge, Held, edge_at, fresh_at, held_of, held_at, number_at}
-use Rattle.online_nodes.specs.Joins.{HasJoined, IsJoinOf, IsJoining, IsReadTo}
+use Rattle.online_nodes.specs.Held.{Held, fresh_at, number_at}
+use Rattle.online_nodes.specs.Joins.{HasJoined, IsJoinOf, IsJoining}
 use Rattle.online_nodes.specs.Kinds.{held_in, inputs_of, open_by}
 use Rattle.online_nodes.specs.Negations.{HasNegated, IsNegating, IsNotOf}
-use Rattle.online_nodes.specs.Operators.{KnowsBy, first_place, front_place, kind_of, place_of, read_upto}
-use Rattle.online_nodes.specs.Reading.{AllAre, Is, Tells, Truths}
-use Rattle.online_nodes.specs.Working.{HasWorked, IsReadOn}
-use Rattle.online_nodes.specs.Written.{HasAnswer, HasGot, HasTold, IsSound, waiting}
+use Rattle.online_nodes.specs.Operators.{KnowsBy, front_place, kind_of, place_of, read_upto}
+use Rattle.online_nodes.specs.Reading.{Is, Tells, Truths}
+use Rattle.online_nodes.specs.Working.{HasWorked}
+use Rattle.online_nodes.specs.Written.{HasGot, waiting}
 use Rattle.online_nodes.specs.declared.join.Join.{Join}
 use Rattle.online_nodes.specs.declared.join.Join.TheVariants.{And as Conjunction, Or as Disjunction, Implies as Implication}
 use Rattle.online_nodes.specs.declared.join.Inputs.{Inputs}
-use Rattle.online_nodes.specs.declared.kind.Kind.{Kind}
-use Rattle.online_nodes.specs.declared.kind.Kind.TheVariants.{Const as Constant, Not as Negation, Join as Connective, Ahead, Behind, Until as UntilOf, Since as SinceOf}
+use Rattle.online_nodes.specs.declared.kind.Kind.TheVariants.{Const as Constant, Not as Negation, Join as Connective}
 use Rattle.online_nodes.specs.declared.operator.Operator.{Operator}
 use Rattle.online_nodes.specs.declared.answering.Outcome.{Outcome}
-use Rattle.online_nodes.specs.declared.writer.Out.{Out}
 use Rattle.online_nodes.proofs.AnsweringLemmas.{fresh_few, worked_one, worked_two}
 use Rattle.online_nodes.proofs.BelongLemmas.{own_edge}
 use Rattle.online_nodes.proofs.DueLemmas.{
@@ -102,7 +66,7 @@ use Rattle.online_nodes.proofs.GotLemmas.{got-here, got-length, got-other}
 use Rattle.online_nodes.proofs.TellingLemmas.{fresh_tells, tells_first}
 use Rattle.online_nodes.proofs.LooksLaw.{and_joins, implies_joins, not_denies, or_joins}
 use Rattle.online_nodes.proofs.PlaceLemmas.{between, not_both, place_order, same_places, same_trans_places, upto_same}
-use Rattle.online_nodes.proofs.RunLaw.{lesser, some_is}
+use Rattle.online_nodes.proofs.RunLaw.{lesser}
 use Rattle.online_nodes.proofs.WorkLemmas.{read_none}
 
 -- at most one span waits

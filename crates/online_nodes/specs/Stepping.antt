@@ -1,42 +1,10 @@
 -- A step of an operator, part by part: the step that is due, the work that begins, what a body leaves, and what is dropped after it.
-use Rattle.std.specs.Prelude.{
-  ◌≡◌,
-  ◌≢◌,
-  ◌⊎◌,
-  ℕ,
-  ◌+◌,
-  ◌*◌,
-  ◌^◌,
-  ◌<◌,
-  ◌≤◌,
-  Bool,
-  true,
-  false,
-  if◌then◌else◌,
-  not,
-  ◌&&◌,
-  int_lt,
-  List,
-  [],
-  ◌∷◌,
-  ◌++◌,
-  length,
-  ℤ,
-  pos,
-  ◌-ℤ◌,
-  ◌≤ℤ◌,
-  Option,
-  Some,
-  None,
-  option_map,
-  slice_get,
-}
+use Rattle.std.specs.Prelude.{◌≡◌, ℕ, ◌+◌, ◌*◌, ◌≤◌, Bool, true, false, List, length, ℤ, pos, ◌≤ℤ◌, Some, None, option_map, slice_get}
 use Rattle.rational.specs.Rational.{whole}
 use Rattle.rational.specs.Time.{Interval}
 use Rattle.frac128.specs.Spans.{interval}
 use Rattle.stl_syntax.specs.Trace.{Header, Trace, first_time}
 use Rattle.stl_syntax.specs.Formula.{Subformula, subformula}
-use Rattle.stl_syntax.specs.Verdicts.{Describes}
 use Rattle.online_nodes.specs.Network.{Event, State, allowed_at, answered, state}
 use Rattle.stl_syntax.specs.declared.items.Verdict.{Verdict}
 use Rattle.stl_syntax.specs.declared.node.Node.{Node}
@@ -48,13 +16,11 @@ use Rattle.online_nodes.specs.Kinds.{held_in, inputs_of}
 use Rattle.online_nodes.specs.Operators.{KnowsBy}
 use Rattle.online_nodes.specs.Sinces.{IsSpent}
 use Rattle.online_nodes.specs.Sweeps.{CountsBeyond}
-use Rattle.online_nodes.specs.Working.{IsReadOn}
 use Rattle.online_nodes.specs.Written.{HasTold, IsSound, waiting}
 use Rattle.online_nodes.specs.declared.kind.Kind.{Kind}
-use Rattle.online_nodes.specs.declared.kind.Kind.TheVariants.{Const, Not, Join, Ahead, Behind, Until, Since}
+use Rattle.online_nodes.specs.declared.kind.Kind.TheVariants.{Ahead, Behind, Since}
 use Rattle.online_nodes.specs.declared.operator.Operator.{Operator}
 use Rattle.online_nodes.specs.declared.answering.Outcome.{Outcome}
-use Rattle.online_nodes.specs.declared.window.Window.{Window}
 
 -- the run in which a step is due, the last row's time, whether the input has ended, and the number that the node comes to
 pub record Situation : Type 0 where

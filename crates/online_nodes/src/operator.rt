@@ -148,7 +148,8 @@ impl Operator {
     ///
     /// # Errors
     ///
-    /// `Memory` where there is no memory, which never comes with a spare of `need`. The operator and its edges are given up then.
+    /// `Memory` where there is no memory, which never comes with a spare of twice what the inputs' edges hold, plus 2. The operator
+    /// and its edges are given up then.
     pub fn advance(&mut self, edges: &mut Edges, now: u32, ended: bool) -> Result<bool, Memory>
         requires { BelongsSomewhere self.old edges.old now ended }
         ensures node { self.new.node ≡ self.old.node }

@@ -191,7 +191,7 @@ impl Edges {
     }
 
     /// The first part of an edge.
-    fn first(&self, edge: u32) -> Option<MarginLine>
+    pub(crate) fn first(&self, edge: u32) -> Option<MarginLine>
         requires { edge < length self.now.edges }
         ensures { result ≡ slice_get (held_at self.now edge) 0 }
     {

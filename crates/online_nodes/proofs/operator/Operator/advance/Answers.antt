@@ -1,8 +1,7 @@
-use Rattle.std.proofs.Common.{rules, arith, ◌≡◌, ◌∙◌, refl, sym, ap, subst, ℕ, ◌+◌, ◌*◌, ◌<◌, ◌≤◌, ◌∷◌, ◌++◌, [], ℤ, pos, ◌≤ℤ◌, ◌<ℤ◌, to_z, of_z, w64, Some, true}
+use Rattle.std.proofs.Common.{rules, arith, ◌≡◌, ◌∙◌, refl, sym, subst, ℕ, ◌+◌, ◌*◌, ◌<◌, ◌≤◌, ℤ, pos, ◌≤ℤ◌, ◌<ℤ◌, to_z, of_z, w64}
 use Rattle.std.proofs.lemmas.Int.{ints, to_z-of_z}
 use Rattle.stl_syntax.specs.Trace.{first_time}
-use Rattle.online_nodes.specs.Network.{allowed_at, state, step}
-use Rattle.online_nodes.specs.Belonging.{Belongs, HasStepped, StandsForSteps, held_by_inputs, is_ready}
+use Rattle.online_nodes.specs.Network.{state}
 use Rattle.online_nodes.specs.Held.{edge_at, with_edge, with_number}
 use Rattle.online_nodes.proofs.BelongLemmas.{held_is, own_edge}
 use Rattle.online_nodes.proofs.IdleLemmas.{
@@ -48,10 +47,14 @@ returns-in_default-from_start-clause-stepped c = λ nodes header events b.
     let same : to_z w64 (of_z w64 c.in-Some.number) ≡ c.in-Some.number = search (rules, to_z-of_z) in
     let low : c.in-Some.number <ℤ pos (first_time (state nodes events).rows) =
     omega (arith, ints, first, same, c.in_default-from_start.ensures) in
-    let noted : c.reach.new.self ≡ record c.args.edges.now { edges = with_edge c.args.edges.now c.args.self.now.node
-    (with_number (edge_at c.args.edges.now c.args.self.now.node) c.in-Some.number) } =
-    subst (λ (z : ℤ). c.reach.new.self ≡ record c.args.edges.now { edges = with_edge c.args.edges.now c.args.self.now.node
-    (with_number (edge_at c.args.edges.now c.args.self.now.node) z) }) same c.reach.ensures in
+    let noted : c.reach.new.self ≡ record c.args.edges.now {
+      edges = with_edge c.args.edges.now c.args.self.now.node
+          (with_number (edge_at c.args.edges.now c.args.self.now.node) c.in-Some.number);
+    } =
+    subst (λ (z : ℤ). c.reach.new.self ≡ record c.args.edges.now {
+      edges = with_edge c.args.edges.now c.args.self.now.node
+          (with_number (edge_at c.args.edges.now c.args.self.now.node) z);
+    }) same c.reach.ensures in
     low_stepped b c.in-Some.number due.1 low noted
 
 pub returns-in_default-from_start-clause-belongs : goal.returns-in_default-from_start-clause-belongs
@@ -61,10 +64,14 @@ returns-in_default-from_start-clause-belongs c = λ nodes header events b.
     let same : to_z w64 (of_z w64 c.in-Some.number) ≡ c.in-Some.number = search (rules, to_z-of_z) in
     let low : c.in-Some.number <ℤ pos (first_time (state nodes events).rows) =
     omega (arith, ints, first, same, c.in_default-from_start.ensures) in
-    let noted : c.reach.new.self ≡ record c.args.edges.now { edges = with_edge c.args.edges.now c.args.self.now.node
-    (with_number (edge_at c.args.edges.now c.args.self.now.node) c.in-Some.number) } =
-    subst (λ (z : ℤ). c.reach.new.self ≡ record c.args.edges.now { edges = with_edge c.args.edges.now c.args.self.now.node
-    (with_number (edge_at c.args.edges.now c.args.self.now.node) z) }) same c.reach.ensures in
+    let noted : c.reach.new.self ≡ record c.args.edges.now {
+      edges = with_edge c.args.edges.now c.args.self.now.node
+          (with_number (edge_at c.args.edges.now c.args.self.now.node) c.in-Some.number);
+    } =
+    subst (λ (z : ℤ). c.reach.new.self ≡ record c.args.edges.now {
+      edges = with_edge c.args.edges.now c.args.self.now.node
+          (with_number (edge_at c.args.edges.now c.args.self.now.node) z);
+    }) same c.reach.ensures in
     belongs_after b c.args.self.now c.reach.new.self refl (low_stepped b c.in-Some.number due.1 low noted)
     (low_stands b c.in-Some.number due.1 low noted)
 

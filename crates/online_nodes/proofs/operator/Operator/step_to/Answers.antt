@@ -1,6 +1,6 @@
-use Rattle.std.proofs.Common.{rules, to_z, of_z, w64, arith, ◌≡◌, ◌∙◌, sym, ap, subst, refl, ℕ, ◌^◌, ◌≤◌, ◌<◌, ◌-◌, length, pos, ℤ}
+use Rattle.std.proofs.Common.{rules, to_z, of_z, w64, arith, ◌≡◌, ◌∙◌, sym, subst, ◌^◌, ◌≤◌, ◌-◌, length, pos, ℤ}
 use Rattle.online_nodes.specs.Answering.{HasReleased}
-use Rattle.online_nodes.specs.Held.{Held, edge_at, held_at, with_edge, with_number}
+use Rattle.online_nodes.specs.Held.{edge_at, held_at, with_edge, with_number}
 use Rattle.online_nodes.proofs.AbleLemmas.{can_answer, can_release}
 use Rattle.online_nodes.proofs.AdvanceLemmas.{put_count, put_within, step_stands, step_stepped}
 use Rattle.online_nodes.proofs.DueLemmas.{begun_inside}
@@ -35,10 +35,14 @@ returns-clause-stepped c = λ x is d.
     subst (λ (z : ℤ). HasReleased c.args.self.now.kind z c.answer.new.edges c.release.new.edges) front c.release.ensures in
     let front_2 : to_z w64 (of_z w64 c.from-2.result) ≡ x.front =
     (let e : to_z w64 (of_z w64 c.from-2.result) ≡ pos c.args.front = search rules in e ∙ sym is.1) in
-    let noted : c.reach.new.self ≡ record c.release.new.edges { edges = with_edge c.release.new.edges c.args.self.now.node
-    (with_number (edge_at c.release.new.edges c.args.self.now.node) x.front) } =
-    subst (λ (z : ℤ). c.reach.new.self ≡ record c.release.new.edges { edges = with_edge c.release.new.edges c.args.self.now.node
-    (with_number (edge_at c.release.new.edges c.args.self.now.node) z) }) front_2 c.reach.ensures in
+    let noted : c.reach.new.self ≡ record c.release.new.edges {
+      edges = with_edge c.release.new.edges c.args.self.now.node
+          (with_number (edge_at c.release.new.edges c.args.self.now.node) x.front);
+    } =
+    subst (λ (z : ℤ). c.reach.new.self ≡ record c.release.new.edges {
+      edges = with_edge c.release.new.edges c.args.self.now.node
+          (with_number (edge_at c.release.new.edges c.args.self.now.node) z);
+    }) front_2 c.reach.ensures in
     let counted : length (held_at c.answer.new.edges c.args.self.now.node) ≤ 2 ^ 64 - 1 = omega (arith, c.held-all.type_inv, c.held-all.ensures) in
     step_stepped d g c.in_ok-marks.ensures.answered r noted counted
 
@@ -51,8 +55,12 @@ returns-clause-stands c = λ x is d.
     subst (λ (z : ℤ). HasReleased c.args.self.now.kind z c.answer.new.edges c.release.new.edges) front c.release.ensures in
     let front_2 : to_z w64 (of_z w64 c.from-2.result) ≡ x.front =
     (let e : to_z w64 (of_z w64 c.from-2.result) ≡ pos c.args.front = search rules in e ∙ sym is.1) in
-    let noted : c.reach.new.self ≡ record c.release.new.edges { edges = with_edge c.release.new.edges c.args.self.now.node
-    (with_number (edge_at c.release.new.edges c.args.self.now.node) x.front) } =
-    subst (λ (z : ℤ). c.reach.new.self ≡ record c.release.new.edges { edges = with_edge c.release.new.edges c.args.self.now.node
-    (with_number (edge_at c.release.new.edges c.args.self.now.node) z) }) front_2 c.reach.ensures in
+    let noted : c.reach.new.self ≡ record c.release.new.edges {
+      edges = with_edge c.release.new.edges c.args.self.now.node
+          (with_number (edge_at c.release.new.edges c.args.self.now.node) x.front);
+    } =
+    subst (λ (z : ℤ). c.reach.new.self ≡ record c.release.new.edges {
+      edges = with_edge c.release.new.edges c.args.self.now.node
+          (with_number (edge_at c.release.new.edges c.args.self.now.node) z);
+    }) front_2 c.reach.ensures in
     step_stands d g c.in_ok-marks.ensures.answered r noted c.args.front is.1
