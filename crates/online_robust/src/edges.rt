@@ -6,14 +6,15 @@
 ghost use Rattle.std.specs.Prelude.{◌≡◌, ◌*◌, ◌+◌, ◌<◌, ◌≤◌, ◌^◌, [], ◌∷◌, length, replicate, slice_get, IfOk, IsOk, OnOk, OnErr, OnSome, IfNone, IfSome, None, Some, IsTrue, ◌↔◌};
 ghost use Rattle.rational.specs.Rational.{◌≤ʳ◌};
 ghost use Rattle.frac128.specs.Value.{value};
+ghost use Rattle.online_robust.specs.Lines.{end_of};
 ghost use Rattle.online_robust.specs.Held.{edge_at, fresh_at, held_at, no_edge, number_at, with_edge, with_more, with_number, with_read, without, IsDroppedBy};
 
+use crate::line::MarginLine;
 use frac128::{Frac, Memory};
 use seg_pool::Pool;
 use std::alloc::Global;
 use std::cmp::Ordering;
 use std::marker::Model;
-use crate::line::MarginLine;
 
 /// For each node the parts that its reader may still need and the number noted last, and the time of the first row.
 ///
