@@ -3,6 +3,7 @@
 #![tactic(auto)]
 
 mod edges;
+mod ends;
 mod line;
 mod queue;
 
