@@ -271,7 +271,8 @@ explained_same f tr xs ys (inr (h, (items, kept, lines))) (inr (k, (others, held
     lines_same items others xs ys (kept_same (nodes_for f tr) tr items others kept held) lines bars
 
 -- lines that are the same have one text
-item_texts_once : (scale : Scale) (f : Formula) (xs ys : List Item) (x y : List ℕ) → AreAllSame xs ys → AreItemLines scale f xs x → AreItemLines scale f ys y → x ≡ y
+item_texts_once : (scale : Scale) (f : Formula) (xs ys : List Item) (x y : List ℕ) → AreAllSame xs ys → AreItemLines scale f xs x
+    → AreItemLines scale f ys y → x ≡ y
 item_texts_once scale f [] [] x y s h k = h ∙ sym k
 item_texts_once scale f [] (g ∷ ys) x y s h k = absurd s
 item_texts_once scale f (e ∷ xs) [] x y s h k = absurd s
@@ -282,8 +283,10 @@ item_texts_once scale f (e ∷ xs) (g ∷ ys) x y (s, all) (a, at, (name, on, la
     let names : name ≡ name' = one_printed f.scale (atom 0 b) name name' (subst (λ (c : Atom). IsAtomText f.scale c name) one name_is) name_is' in
     is ∙ ap (λ t. t ++ codes " " ++ bool_text e.holds ++ codes " on " ++ on ++ newline ++ later) names
     ∙ ap (λ h. name' ++ codes " " ++ bool_text h ++ codes " on " ++ on ++ newline ++ later) s.holds
-    ∙ ap (λ t. name' ++ codes " " ++ bool_text g.holds ++ codes " on " ++ t ++ newline ++ later) (span_once scale e.on g.on s.on.begin s.on.end on_is on_is')
-    ∙ ap (λ t. name' ++ codes " " ++ bool_text g.holds ++ codes " on " ++ on' ++ newline ++ t) (item_texts_once scale f xs ys later later' all rest rest') ∙ sym is'
+    ∙ ap (λ t. name' ++ codes " " ++ bool_text g.holds ++ codes " on " ++ t ++ newline ++ later)
+    (span_once scale e.on g.on s.on.begin s.on.end on_is on_is')
+    ∙ ap (λ t. name' ++ codes " " ++ bool_text g.holds ++ codes " on " ++ on' ++ newline ++ t)
+    (item_texts_once scale f xs ys later later' all rest rest') ∙ sym is'
 
 -- `explain` writes one text
 pub explain_once : (f : Formula) (tr : Trace) (x y : List ℕ) → Out explain f tr x → Out explain f tr y → x ≡ y

@@ -41,7 +41,8 @@ verdicts_data scale (v ∷ vs) (w ∷ ws) xs ys (begin, end, holds, e) (on, late
 abbrev item_object : List ℕ → List ℕ → Bool → Data
 item_object name on holds = object (member (codes "atom") (string name) (member (codes "on") (string on) (member (codes "value") (boolean holds) no_members)))
 
-items_data : (scale : Scale) (f : Formula) (es gs : List Item) (xs ys : Items) → AreAllSame es gs → AreItemData scale f es xs → AreItemData scale f gs ys → xs ≡ ys
+items_data : (scale : Scale) (f : Formula) (es gs : List Item) (xs ys : Items) → AreAllSame es gs → AreItemData scale f es xs
+    → AreItemData scale f gs ys → xs ≡ ys
 items_data scale f [] [] xs ys s h k = h ∙ sym k
 items_data scale f [] (g ∷ gs) xs ys s h k = absurd s
 items_data scale f (e ∷ es) [] xs ys s h k = absurd s
@@ -58,13 +59,15 @@ items_data scale f (e ∷ es) (g ∷ gs) xs ys (s, all) (a, at, (name, on, later
 knot_data : (scale : Scale) (k l : Knot) (x y : Data) → KnotsAlike k l → IsKnotData scale k x → IsKnotData scale l y → x ≡ y
 knot_data scale k l x y e (t, v, t_is, v_is, is) (t', v', t_is', v_is', is') =
     is ∙ ap (λ z. object (member (codes "at") (string z) (member (codes "margin") (string v) no_members))) (number_once scale.time e.time t_is t_is')
-    ∙ ap (λ z. object (member (codes "at") (string t') (member (codes "margin") (string z) no_members))) (value_once scale.value k.value l.value e.value v_is v_is')
+    ∙ ap (λ z. object (member (codes "at") (string t') (member (codes "margin") (string z) no_members)))
+    (value_once scale.value k.value l.value e.value v_is v_is')
     ∙ sym is'
 
 -- a piece's object
 abbrev piece_object : List ℕ → List ℕ → List ℕ → List ℕ → Data
 piece_object a b from to =
-    object (member (codes "from") (string from) (member (codes "on") (string (codes "(" ++ a ++ codes "," ++ b ++ codes ")")) (member (codes "to") (string to) no_members)))
+    object (member (codes "from") (string from) (member (codes "on") (string (codes "(" ++ a ++ codes "," ++ b ++ codes ")"))
+    (member (codes "to") (string to) no_members)))
 
 piece_data : (scale : Scale) (k l : Knot) (p q : Piece) (x y : Data) → k.time ≈ l.time → p.from ≈ᵉ q.from → p.to ≈ᵉ q.to → p.next.time ≈ q.next.time
     → IsPieceData scale k p x → IsPieceData scale l q y → x ≡ y
@@ -119,4 +122,5 @@ pub json_once : (f : Formula) (tr : Trace) (x y : List ℕ) → Out json f tr x 
 json_once f tr x y (vs, ks, es, holds, report, v, k, e, h, r, is) (ws, ls, gs, also, other, v', k', e', h', r', is') =
     is ∙ ap (λ d. compact_text d ++ newline)
     (report_data tr.header.scale f vs ws ks ls es gs holds also report other (Describes-unique _ tr _ vs ws v v')
-    (DescribesMargins-unique (root (nodes_for f tr)) tr ks ls k k') (explained_same f tr es gs e e') (one_start (Truth (root (nodes_for f tr)) tr (start tr)) holds also h h') r r') ∙ sym is'
+    (DescribesMargins-unique (root (nodes_for f tr)) tr ks ls k k') (explained_same f tr es gs e e')
+    (one_start (Truth (root (nodes_for f tr)) tr (start tr)) holds also h h') r r') ∙ sym is'
