@@ -38,3 +38,5 @@ pub mod Living
 pub mod FrontTexts
 pub mod AtRest
 pub mod Reported
+pub mod OneFault
+pub mod SessionsTold

@@ -18,6 +18,7 @@ mod owing_laws;
 mod reading;
 mod request;
 mod robust;
+mod session_laws;
 mod signals;
 mod stream;
 mod table;
