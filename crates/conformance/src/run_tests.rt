@@ -3,7 +3,7 @@ use io_edge::{MemSink, MemSource};
 use std::alloc::{AllocError, Global};
 use std::process::Abort;
 use std::test::Fail;
-use workbench::run;
+use workbench::{Kept, run};
 
 /// What is asked, what is read, and what is to be written.
 #[derive(Clone, Copy)]
@@ -60,7 +60,8 @@ pub(crate) fn agrees(alloc: Global, case: Case<'_>, devices: Devices) -> Result<
     let mut input = MemSource::new(bytes, devices.read_most.max(1), fails);
     let mut out = sink(alloc, devices.write_most, devices.write_fails)?;
     let mut err = sink(alloc, devices.write_most, devices.tell_fails)?;
-    let status = run(alloc, &words, &mut input, &mut out, &mut err);
+    let mut kept = Kept::Nothing;
+    let status = run(alloc, &words, &mut input, &mut out, &mut err, &mut kept);
     Ok(
         status == case.status
             && out.written() == case.out.as_bytes()

@@ -4,6 +4,7 @@
 use io_edge::{ReadEdge, WriteEdge};
 use std::process::ExitCode;
 use std::{env, io};
+use workbench::Kept;
 
 /// The words after the program's name.
 fn words(rt: &HostRuntime) -> io::Result<Vec<String>> {
@@ -16,5 +17,13 @@ fn main(rt: HostRuntime) -> ExitCode {
     let mut input = ReadEdge::new(rt.stdin());
     let mut out = WriteEdge::new(rt.stdout());
     let mut err = WriteEdge::new(rt.stderr());
-    ExitCode::from(workbench::program(rt.alloc(), words, &mut input, &mut out, &mut err))
+    let mut kept = Kept::Nothing;
+    ExitCode::from(workbench::program(
+        rt.alloc(),
+        words,
+        &mut input,
+        &mut out,
+        &mut err,
+        &mut kept,
+    ))
 }

@@ -11,11 +11,11 @@ use Rattle.workbench.specs.Requests.{Stream, verdicts, early, margins, stream}
 use Rattle.workbench.specs.Owed.{limits_of, StreamText, StreamOf, OwesRows}
 use Rattle.workbench.specs.Settled.{IsAnswered}
 use Rattle.workbench.specs.Running.{IsBegun}
-use Rattle.workbench.specs.Pushing.{IsPushed, IsPushStop, IsPush}
+use Rattle.workbench.specs.Pushing.{IsPushed, IsPushStop, IsPush, IsFinished}
 use Rattle.workbench.specs.Reading.{IsWhole}
 use Rattle.workbench.specs.InputFaults.{Fault, fault_text, IsInputFault, AreRowsBefore, sound}
 use Rattle.workbench.specs.Wholes.{status_of_truth}
-use Rattle.workbench.specs.Following.{IsTextOf, IsFollowed, IsLive, IsAtRest, IsOver, IsLiveStop, IsToldAs, no_room, told_whole, told_in_part}
+use Rattle.workbench.specs.Following.{IsTextOf, IsFollowed, IsLive, IsAtRest, IsOver, IsDone, IsLiveStop, IsToldAs, no_room, told_whole, told_in_part}
 use Rattle.workbench.specs.Writing.{IsPartWritten}
 use Rattle.workbench.specs.declared.case.Case.{Case}
 use Rattle.workbench.specs.declared.live.Live.{Live}
@@ -207,17 +207,30 @@ module _ {F : Type 0} (Ended : F → Case → List ℕ → Type 0) (kind : Strea
         is = subst (λ (g : Formula). StreamText kind (root g.nodes) k.case.trace.header k.case.trace.rows true text) k.fits.formula k.complete.told;
       }
 
-  module _ (limits : Limits) (f : Formula) (mid : Live F) (held held_after : Option (List ℕ)) (bytes text : List ℕ) (before : OwesRows kind f bytes false text) (same : limits ≡ limits_of kind) where
+  -- it stands for the end when its text is taken away, too
+  done_after : (limits : Limits) (f : Formula) (mid new : Live F) (bytes text : List ℕ) (holds : Bool) → limits ≡ limits_of kind → mid.formula ≡ f → new ≡ record mid { text = [] }
+      → IsOver Ended kind limits f mid bytes text holds → IsDone Ended kind new bytes text
+  done_after limits f mid new bytes text holds e formula done k =
+      let rest : Live F = record mid { text = [] } in
+      let over : IsOver Ended kind limits f rest bytes text holds =
+      record { case = k.case; fits = k.fits; trace = k.trace; follower = k.follower; is = k.is; complete = k.complete } in
+      subst (λ (x : Live F). IsDone Ended kind x bytes text) (sym done)
+      (holds, subst (λ (l : Limits). IsOver Ended kind l mid.formula rest bytes text holds) e (subst (λ (g : Formula). IsOver Ended kind limits g rest bytes text holds) (sym formula) over))
+
+  module _ (limits : Limits) (f : Formula) (mid new : Live F) (held held_after : Option (List ℕ)) (bytes text : List ℕ) (before : OwesRows kind f bytes false text) (same : limits ≡ limits_of kind)
+      (formula : mid.formula ≡ f) where
     pub end_of : (finished result : Result Bool Stop) → IsToldAs held held_after mid.text finished result
         → MatchResult finished (IsOver Ended kind limits f mid bytes (text ++ mid.text)) (λ e. IsLiveStop kind limits f true bytes (text ++ mid.text) e)
-        → IsPush (stream kind f) held held_after bytes true text (λ holds. IsAnswered (stream kind f) bytes true (status_of_truth holds)) result
-    end_of finished result (no_room kept) h =
+        → OnOk result (new ≡ record mid { text = [] })
+        → IsPush (stream kind f) held held_after bytes true text (IsFinished (IsDone Ended kind new) (stream kind f) bytes) result
+    end_of finished result (no_room kept) h done =
         ([], kept, inr ([], subst (λ b. IsBegun (stream kind f) b true (text ++ []) []) (append-nil bytes) (begun_before kind f bytes [] text true before)))
-    end_of (Ok holds) result (told_whole ne wrote) h = (mid.text, wrote, answered_by_row limits f mid bytes (text ++ mid.text) holds same h)
-    end_of (Err stop) result (told_whole ne wrote) h = (mid.text, wrote, fault_told kind limits f bytes (text ++ mid.text) true stop same (λ e. ne (ap Err e)) h)
-    end_of (Ok holds) result (told_in_part ne part) h =
+    end_of (Ok holds) result (told_whole ne wrote) h done =
+        (mid.text, wrote, (answered_by_row limits f mid bytes (text ++ mid.text) holds same h, done_after limits f mid new bytes (text ++ mid.text) holds same formula done h))
+    end_of (Err stop) result (told_whole ne wrote) h done = (mid.text, wrote, fault_told kind limits f bytes (text ++ mid.text) true stop same (λ e. ne (ap Err e)) h)
+    end_of (Ok holds) result (told_in_part ne part) h done =
         (part.front, part.wrote, (part.back, part.missing, begun_now kind f bytes text part.front part.back mid.text true part.parts (owed_whole limits f mid bytes (text ++ mid.text) holds same h)))
-    end_of (Err stop) result (told_in_part ne part) h =
+    end_of (Err stop) result (told_in_part ne part) h done =
         (part.front, part.wrote, (part.back, part.missing, begun_now kind f bytes text part.front part.back mid.text true part.parts (fault_owed kind limits f bytes (text ++ mid.text) true stop same (λ e. ne (ap Err e)) h)))
 
 -- where memory was wanting nothing is written

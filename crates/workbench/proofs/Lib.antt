@@ -17,6 +17,7 @@ pub mod Progress
 pub mod LastFaults
 pub mod FaultsStay
 pub mod RunEnds
+pub mod Leaving
 pub mod CheckPromises
 pub mod StreamSteps
 pub mod Due

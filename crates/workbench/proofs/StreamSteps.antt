@@ -21,7 +21,7 @@ use Rattle.stl_syntax.specs.declared.scale.Scale.{Scale}
 use Rattle.workbench.proofs.HeaderLines.{no_header}
 use Rattle.workbench.proofs.Progress.{sound_so_far}
 use Rattle.workbench.specs.Wholes.{status_of_truth, status_of, IsEndLine}
-use Rattle.workbench.specs.Pushing.{IsPushed, IsPushStop, IsPush, IsLineOf, IsStreamEnd}
+use Rattle.workbench.specs.Pushing.{IsPushed, IsPushStop, IsPush, IsFinished, IsLineOf, IsStreamEnd}
 use Rattle.workbench.specs.declared.fault.Stop.{Stop}
 use Rattle.workbench.specs.declared.fault.Stop.TheVariants.{Fault as Faulty, Unread, Unwritten, NoMemory, Wide, TooMany}
 use Rattle.workbench.specs.ErrTexts.{read_fault, write_fault, out_of_memory}
@@ -71,8 +71,9 @@ module _ {Stands : List ℕ → List ℕ → Type 0} {q : Request} {before now h
   }
 
   -- the source failed
-  pub end_unread : (i : Drained) (o : Filled) → i.before ≡ before → o.before ≡ held → o.after ≡ held_now → Keeps now i.after → i.ended ≡ false → HasFailed i → IsStreamEnd q i o (Err Unread)
-  end_unread i o b h a kept goes_on failed = record {
+  pub end_unread : (Done : List ℕ → List ℕ → Type 0) (i : Drained) (o : Filled) → i.before ≡ before → o.before ≡ held → o.after ≡ held_now → Keeps now i.after → i.ended ≡ false → HasFailed i
+      → IsStreamEnd Done q i o (Err Unread)
+  end_unread Done i o b h a kept goes_on failed = record {
     bytes = p.bytes;
     text = p.text;
     line = read_fault;
@@ -81,16 +82,17 @@ module _ {Stands : List ℕ → List ℕ → Type 0} {q : Request} {before now h
     at_end = λ t. absurd (false≢true (sym goes_on ∙ t));
     is = unread p.is.input goes_on failed p.is.sound p.is.owed;
     told = refl;
+    left = tt;
   }
 
   prompt : (piece : List ℕ) (ended : Bool) → length piece ≤ 4096 → (ended ≡ true → piece ≡ []) → IsPrompt q (p.bytes ++ piece) ended
   prompt piece ended small at_end = record { before = p.bytes; piece = piece; parts = refl; short = small; at_end = at_end; sound = p.is.sound }
 
   -- a piece, or the end, stopped the stream
-  pub end_stop : (i : Drained) (o : Filled) (piece : List ℕ) (ended : Bool) (stop : Stop) → i.before ≡ before → o.before ≡ held → Consumes now i.after piece → i.ended ≡ ended → (ended ≡ true → (piece ≡ []) × IsAtEnd i.after) → length piece ≤ 4096
+  pub end_stop : (Done : List ℕ → List ℕ → Type 0) (i : Drained) (o : Filled) (piece : List ℕ) (ended : Bool) (stop : Stop) → i.before ≡ before → o.before ≡ held → Consumes now i.after piece → i.ended ≡ ended → (ended ≡ true → (piece ≡ []) × IsAtEnd i.after) → length piece ≤ 4096
       → (stop ≡ Unwritten → HasRefused o)
-      → (grown : List ℕ) × Appends held_now o.after grown × IsPushStop q (p.bytes ++ piece) ended (p.text ++ grown) stop → IsStreamEnd q i o (Err stop)
-  end_stop i o piece ended stop b h moved same at_end small cut (grown, wrote, is) = by_stop stop is cut
+      → (grown : List ℕ) × Appends held_now o.after grown × IsPushStop q (p.bytes ++ piece) ended (p.text ++ grown) stop → IsStreamEnd Done q i o (Err stop)
+  end_stop Done i o piece ended stop b h moved same at_end small cut (grown, wrote, is) = by_stop stop is cut
     where
       all_moved : Consumes i.before i.after (p.bytes ++ piece)
       all_moved = subst (λ x. Consumes x i.after (p.bytes ++ piece)) (sym b) (Consumes-trans before now i.after p.bytes piece p.moved moved)
@@ -104,7 +106,7 @@ module _ {Stands : List ℕ → List ℕ → Type 0} {q : Request} {before now h
       as_ended : {rest : List ℕ} → IsBegun q (p.bytes ++ piece) ended (p.text ++ grown) rest → IsBegun q (p.bytes ++ piece) i.ended (p.text ++ grown) rest
       as_ended {rest} x = subst (λ (e : Bool). IsBegun q (p.bytes ++ piece) e (p.text ++ grown) rest) (sym same) x
 
-      with_end : (line : List ℕ) (stop : Stop) → IsEnd q i o (p.bytes ++ piece) (p.text ++ grown) (status_of (Err stop)) line → IsLineOf q (Err stop) line → IsStreamEnd q i o (Err stop)
+      with_end : (line : List ℕ) (stop : Stop) → IsEnd q i o (p.bytes ++ piece) (p.text ++ grown) (status_of (Err stop)) line → IsLineOf q (Err stop) line → IsStreamEnd Done q i o (Err stop)
       with_end line stop is told = record {
         bytes = p.bytes ++ piece;
         text = p.text ++ grown;
@@ -114,12 +116,13 @@ module _ {Stands : List ℕ → List ℕ → Type 0} {q : Request} {before now h
         at_end = λ t. (at_end (sym same ∙ t)).1;
         is = is;
         told = told;
+        left = tt;
       }
 
       known : q ≢ no_form
       known k = false≢true (sym (ap has_input k) ∙ p.is.input)
 
-      by_stop : (stop : Stop) → IsPushStop q (p.bytes ++ piece) ended (p.text ++ grown) stop → (stop ≡ Unwritten → HasRefused o) → IsStreamEnd q i o (Err stop)
+      by_stop : (stop : Stop) → IsPushStop q (p.bytes ++ piece) ended (p.text ++ grown) stop → (stop ≡ Unwritten → HasRefused o) → IsStreamEnd Done q i o (Err stop)
       by_stop (Faulty fault) (line, stored, first, owed) cut = with_end line (Faulty fault)
           (settled (faulty (subst (λ (e : Bool). HasFault q (p.bytes ++ piece) e line) (sym same) first)
           (prompt piece i.ended small (λ t. (at_end (sym same ∙ t)).0))
@@ -132,9 +135,9 @@ module _ {Stands : List ℕ → List ℕ → Type 0} {q : Request} {before now h
       by_stop (TooMany count) is cut = absurd is
 
   -- the stream came to its end
-  pub end_ok : (i : Drained) (o : Filled) (holds : Bool) → i.before ≡ before → o.before ≡ held → Consumes now i.after [] → i.ended ≡ true → IsAtEnd i.after
-      → (grown : List ℕ) × Appends held_now o.after grown × IsAnswered q p.bytes true (status_of_truth holds) (p.text ++ grown) → IsStreamEnd q i o (Ok holds)
-  end_ok i o holds b h moved same at_end (grown, wrote, is) = record {
+  pub end_ok : (Done : List ℕ → List ℕ → Type 0) (i : Drained) (o : Filled) (holds : Bool) → i.before ≡ before → o.before ≡ held → Consumes now i.after [] → i.ended ≡ true → IsAtEnd i.after
+      → (grown : List ℕ) × Appends held_now o.after grown × IsFinished Done q p.bytes holds (p.text ++ grown) → IsStreamEnd Done q i o (Ok holds)
+  end_ok Done i o holds b h moved same at_end (grown, wrote, (is, left)) = record {
     bytes = p.bytes;
     text = p.text ++ grown;
     line = [];
@@ -143,6 +146,7 @@ module _ {Stands : List ℕ → List ℕ → Type 0} {q : Request} {before now h
     at_end = λ _. at_end;
     is = settled (answered (subst (λ (e : Bool). IsAnswered q p.bytes e (status_of_truth holds) (p.text ++ grown)) (sym same) is));
     told = refl;
+    left = left;
   }
 
   -- the formula stays
@@ -150,25 +154,25 @@ module _ {Stands : List ℕ → List ℕ → Type 0} {q : Request} {before now h
   pushed_so_far g e = subst (λ (k : Request). IsPushed Stands k p.bytes p.text) (sym e) p.is
 
   -- the last call of a stream
-  pub end_from : (g : Request) → g ≡ q → (i : Drained) (o : Filled) (r : Result Bool Stop) (none : List ℕ) → none ≡ [] → i.before ≡ before → o.before ≡ held → Consumes now i.after none → i.ended ≡ true → IsAtEnd i.after
+  pub end_from : (Done : List ℕ → List ℕ → Type 0) (g : Request) → g ≡ q → (i : Drained) (o : Filled) (r : Result Bool Stop) (none : List ℕ) → none ≡ [] → i.before ≡ before → o.before ≡ held → Consumes now i.after none → i.ended ≡ true → IsAtEnd i.after
       → (r ≡ Err Unwritten → HasRefused o)
-      → IsPush g held_now o.after p.bytes true p.text (λ holds. IsAnswered g p.bytes true (status_of_truth holds)) r → IsStreamEnd q i o r
-  end_from g e i o r none empty b h moved same at_end cut push =
-      by_result r (subst (λ (k : Request). IsPush k held_now o.after p.bytes true p.text (λ holds. IsAnswered k p.bytes true (status_of_truth holds)) r) e push) cut
+      → IsPush g held_now o.after p.bytes true p.text (IsFinished Done g p.bytes) r → IsStreamEnd Done q i o r
+  end_from Done g e i o r none empty b h moved same at_end cut push =
+      by_result r (subst (λ (k : Request). IsPush k held_now o.after p.bytes true p.text (IsFinished Done k p.bytes) r) e push) cut
     where
-      by_result : (r : Result Bool Stop) → IsPush q held_now o.after p.bytes true p.text (λ holds. IsAnswered q p.bytes true (status_of_truth holds)) r → (r ≡ Err Unwritten → HasRefused o)
-          → IsStreamEnd q i o r
-      by_result (Ok holds) push cut = end_ok i o holds b h (subst (Consumes now i.after) empty moved) same at_end push
+      by_result : (r : Result Bool Stop) → IsPush q held_now o.after p.bytes true p.text (IsFinished Done q p.bytes) r → (r ≡ Err Unwritten → HasRefused o)
+          → IsStreamEnd Done q i o r
+      by_result (Ok holds) push cut = end_ok Done i o holds b h (subst (Consumes now i.after) empty moved) same at_end push
       by_result (Err stop) (grown, wrote, is) cut =
-          end_stop i o [] true stop b h (subst (Consumes now i.after) empty moved) same (λ _. (refl, at_end)) (omega arith) (λ k. cut (ap Err k))
+          end_stop Done i o [] true stop b h (subst (Consumes now i.after) empty moved) same (λ _. (refl, at_end)) (omega arith) (λ k. cut (ap Err k))
           (grown, wrote, subst (λ bs. IsPushStop q bs true (p.text ++ grown) stop) (sym (append-nil p.bytes)) is)
 
   -- a piece that stopped the stream
-  pub stop_from : (g : Request) → g ≡ q → (i : Drained) (o : Filled) (piece : List ℕ) (stop : Stop) → i.before ≡ before → o.before ≡ held → Consumes now i.after piece → i.ended ≡ false → length piece ≤ 4096
+  pub stop_from : (Done : List ℕ → List ℕ → Type 0) (g : Request) → g ≡ q → (i : Drained) (o : Filled) (piece : List ℕ) (stop : Stop) → i.before ≡ before → o.before ≡ held → Consumes now i.after piece → i.ended ≡ false → length piece ≤ 4096
       → (stop ≡ Unwritten → HasRefused o)
-      → (grown : List ℕ) × Appends held_now o.after grown × IsPushStop g (p.bytes ++ piece) false (p.text ++ grown) stop → IsStreamEnd q i o (Err stop)
-  stop_from g e i o piece stop b h moved same small cut (grown, wrote, is) =
-      end_stop i o piece false stop b h moved same (λ t. absurd (false≢true t)) small cut (grown, wrote, subst (λ (k : Request). IsPushStop k (p.bytes ++ piece) false (p.text ++ grown) stop) e is)
+      → (grown : List ℕ) × Appends held_now o.after grown × IsPushStop g (p.bytes ++ piece) false (p.text ++ grown) stop → IsStreamEnd Done q i o (Err stop)
+  stop_from Done g e i o piece stop b h moved same small cut (grown, wrote, is) =
+      end_stop Done i o piece false stop b h moved same (λ t. absurd (false≢true t)) small cut (grown, wrote, subst (λ (k : Request). IsPushStop k (p.bytes ++ piece) false (p.text ++ grown) stop) e is)
 
   -- a piece that was answered
   pub piece_from : (g : Request) → g ≡ q → (After : List ℕ → List ℕ → Type 0) (after held_after : Option (List ℕ)) (piece : List ℕ) → Consumes now after piece → 0 < length piece
@@ -188,9 +192,9 @@ line_is s f (Err (Wide i den)) line other a b = b ∙ sym a
 line_is s f (Err (TooMany count)) line other a b = b ∙ sym a
 
 -- a stream's end is that of the run
-pub stream_run : (words : List (List ℕ)) (s : Stream) (f : Formula) (i : Drained) (o e : Filled) → AreFor words (word_of_stream s) f → (ending : Result Bool Stop) (status : ℕ) (line : List ℕ)
-    → status ≡ status_of ending → IsStreamEnd (stream s f) i o ending → IsAskedOnce i → IsEndLine f ending line → IsSaid e.before e.after e.faults e.faults_after line → IsRun words i o e status
-stream_run words s f i o e ask ending status line same x once told said =
+pub stream_run : {Done : List ℕ → List ℕ → Type 0} (words : List (List ℕ)) (s : Stream) (f : Formula) (i : Drained) (o e : Filled) → AreFor words (word_of_stream s) f → (ending : Result Bool Stop) (status : ℕ) (line : List ℕ)
+    → status ≡ status_of ending → IsStreamEnd Done (stream s f) i o ending → IsAskedOnce i → IsEndLine f ending line → IsSaid e.before e.after e.faults e.faults_after line → IsRun words i o e status
+stream_run {Done} words s f i o e ask ending status line same x once told said =
     subst (λ n. IsRun words i o e n) (sym same) (record {
       bytes = x.bytes;
       text = x.text;

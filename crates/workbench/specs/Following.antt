@@ -89,6 +89,10 @@ module _ {F : Type 0} (Ended : F → Case → List ℕ → Type 0) (kind : Strea
     pub is : live.follower ≡ Some follower
     pub complete : IsComplete (Ended follower) kind case text holds
 
+  -- it stands for these bytes and their end, for which this text was made
+  abbrev pub IsDone : Live F → List ℕ → List ℕ → Type 0
+  IsDone live bytes text = (holds : Bool) × IsOver (limits_of kind) live.formula live bytes text holds
+
 module _ {F : Type 0} (Stands : F → Case → List ℕ → Type 0) (kind : Stream) where
   -- all bytes were taken, which are those of a trace; this text was made for its rows
   pub record IsLastTaken (limits : Limits) (f : Formula) (follower : Option F) (bytes text : List ℕ) : Type 0 where

@@ -13,6 +13,7 @@ pub mod Requests
 pub mod Owed
 pub mod Settled
 pub mod Running
+pub mod Keeping
 pub mod Wholes
 pub mod Pushing
 pub mod Promises

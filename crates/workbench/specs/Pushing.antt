@@ -1,14 +1,14 @@
 -- A stream: what stands after each piece, and how it ends.
-use Rattle.std.specs.Prelude.{◌≡◌, ◌≢◌, ◌⊎◌, ℕ, ◌<◌, Bool, true, false, List, [], ◌++◌, length, Option, Result, Ok, Err}
+use Rattle.std.specs.Prelude.{◌≡◌, ◌≢◌, ◌⊎◌, ℕ, ◌<◌, Bool, true, false, List, [], ◌++◌, length, Option, Result, Ok, Err, OnOk}
 use Rattle.std.specs.Io.KnownBytes.{Appends, Consumes, IsAtEnd}
 use Rattle.io_edge.specs.Calls.{Drained, Filled}
 use Rattle.workbench.specs.Requests.{Request, stream, has_input}
 use Rattle.workbench.specs.Owed.{Owes, OwesByThen}
-use Rattle.workbench.specs.Settled.{HasFault}
+use Rattle.workbench.specs.Settled.{HasFault, IsAnswered}
 use Rattle.workbench.specs.Running.{IsBegun, IsEnd}
 use Rattle.workbench.specs.Cases.{IsFault}
 use Rattle.workbench.specs.InputFaults.{Fault, fault_text}
-use Rattle.workbench.specs.Wholes.{status_of}
+use Rattle.workbench.specs.Wholes.{status_of, status_of_truth}
 use Rattle.workbench.specs.declared.fault.TraceFault.{TraceFault}
 use Rattle.workbench.specs.declared.fault.Stop.{Stop}
 use Rattle.workbench.specs.declared.fault.Stop.TheVariants.{Fault as Faulty, Unread, Unwritten, NoMemory, Wide, TooMany}
@@ -43,6 +43,10 @@ abbrev pub IsPush : {T : Type 0} → Request → Option (List ℕ) → Option (L
 IsPush request held held_after bytes ended text Fine (Ok x) = (grown : List ℕ) × Appends held held_after grown × Fine x (text ++ grown)
 IsPush request held held_after bytes ended text Fine (Err stop) = (grown : List ℕ) × Appends held held_after grown × IsPushStop request bytes ended (text ++ grown) stop
 
+-- all bytes were answered, and what pushed them stands for them and their end
+abbrev pub IsFinished : (List ℕ → List ℕ → Type 0) → Request → List ℕ → Bool → List ℕ → Type 0
+IsFinished Done request bytes holds text = IsAnswered request bytes true (status_of_truth holds) text × Done bytes text
+
 -- the line of an ending
 abbrev pub IsLineOf : Request → Result Bool Stop → List ℕ → Type 0
 IsLineOf request (Ok holds) line = line ≡ []
@@ -53,8 +57,8 @@ IsLineOf request (Err NoMemory) line = line ≡ out_of_memory
 IsLineOf request (Err (Wide i den)) line = line ≡ wide_text i den
 IsLineOf request (Err (TooMany count)) line = line ≡ too_many_cells_text count
 
--- how a stream ends
-pub record IsStreamEnd (request : Request) (i : Drained) (o : Filled) (result : Result Bool Stop) : Type 0 where
+-- how a stream ends; what pushed it stands for all bytes and their end, where they were answered
+pub record IsStreamEnd (Done : List ℕ → List ℕ → Type 0) (request : Request) (i : Drained) (o : Filled) (result : Result Bool Stop) : Type 0 where
   pub bytes : List ℕ
   pub text : List ℕ
   pub line : List ℕ
@@ -63,3 +67,4 @@ pub record IsStreamEnd (request : Request) (i : Drained) (o : Filled) (result : 
   pub at_end : i.ended ≡ true → IsAtEnd i.after
   pub is : IsEnd request i o bytes text (status_of result) line
   pub told : IsLineOf request result line
+  pub left : OnOk result (Done bytes text)

@@ -2,8 +2,9 @@
 ghost use Rattle.std.specs.Prelude.{◌≡◌, ◌≢◌, ◌⊎◌, ◌≤◌, map, string_bytes, MatchOption};
 ghost use Rattle.io_edge.specs.Calls.{drained, filled};
 ghost use Rattle.workbench.specs.Requests.{AreHeld};
-ghost use Rattle.workbench.specs.Running.{IsRun};
+ghost use Rattle.workbench.specs.Keeping.{HasRun};
 
+use crate::kept::Kept;
 use crate::top::run;
 use io_edge::{Sink, Source};
 use std::alloc::Global;
@@ -16,11 +17,12 @@ pub fn program<S: Source, K: Sink, E: Sink>(
     input: &mut S,
     out: &mut K,
     err: &mut E,
+    kept: &mut Kept,
 ) -> u8
     // What the words ask for came to an end with this status, and with these bytes, this text and this line; or there were none.
     ensures ran { MatchOption words (result ≡ 7)
-        (λ ws. IsRun (map string_bytes ws.items) (drained S.left S.ended S.ends S.faults input.old input.new)
-        (filled K.written K.faults out.old out.new) (filled E.written E.faults err.old err.new) result) }
+        (λ ws. HasRun (map string_bytes ws.items) (drained S.left S.ended S.ends S.faults input.old input.new)
+        (filled K.written K.faults out.old out.new) (filled E.written E.faults err.old err.new) kept.old kept.new result) }
 
     // A device that failed is told.
     ensures read_due { result ≢ 5 → S.faults input.new ≡ S.faults input.old }
@@ -31,6 +33,7 @@ pub fn program<S: Source, K: Sink, E: Sink>(
     ensures nothing { MatchOption words (out.new ≡ out.old)
         (λ ws. 2 ≤ result → result ≢ 6 → (result ≤ 3) ⊎ AreHeld (map string_bytes ws.items) → out.new ≡ out.old) }
     ensures quiet { MatchOption words (err.new ≡ err.old) (λ _. result ≤ 1 → err.new ≡ err.old) }
+    ensures unkept { MatchOption words (kept.new ≡ kept.old) (λ ws. (2 ≤ result) ⊎ AreHeld (map string_bytes ws.items) → kept.new ≡ kept.old) }
 
     // Counts of faults never fall.
     ensures input_later { S.faults input.old ≤ S.faults input.new }
@@ -38,7 +41,7 @@ pub fn program<S: Source, K: Sink, E: Sink>(
     ensures err_later { E.faults err.old ≤ E.faults err.new }
 {
     match words {
-        Some(words) => run(alloc, &words, input, out, err),
+        Some(words) => run(alloc, &words, input, out, err, kept),
         None => 7,
     }
 }

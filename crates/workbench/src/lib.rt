@@ -8,6 +8,7 @@ mod explain;
 mod fault;
 mod follow;
 mod json;
+mod kept;
 pub mod laws;
 mod line;
 mod live;
@@ -23,4 +24,5 @@ mod texts;
 mod top;
 
 pub use entry::program;
+pub use kept::Kept;
 pub use top::run;

@@ -4,7 +4,7 @@ ghost use Rattle.io_edge.specs.Causes.{Rose};
 ghost use Rattle.stl_syntax.specs.Formula.{Formula as Parsed};
 ghost use Rattle.stl_syntax.specs.Trace.{IsTrace};
 ghost use Rattle.workbench.specs.Cases.{IsCase, CanKeep, with_row};
-ghost use Rattle.workbench.specs.Following.{Follows, IsFollowed, IsEndedOut, IsLive, HasLived, IsLastTaken, IsOver, IsLiveStop, IsAtRest, IsToldAs};
+ghost use Rattle.workbench.specs.Following.{Follows, IsFollowed, IsEndedOut, IsLive, HasLived, IsLastTaken, IsOver, IsDone, IsLiveStop, IsAtRest, IsToldAs};
 ghost use Rattle.workbench.specs.Requests.{stream};
 ghost use Rattle.workbench.specs.declared.case.Case.{Case as Of};
 
@@ -218,6 +218,8 @@ impl<F: Follow> Push for Live<F> {
     ghost request = { λ s. stream F.kind s.formula };
 
     ghost stands = { λ s bytes text. IsAtRest F.stands F.kind s bytes text };
+
+    ghost done = { λ s bytes text. IsDone F.ended F.kind s bytes text };
 
     fn push<K: Sink>(&mut self, piece: &[u8], out: &mut K) -> Result<(), Stop> {
         let fed = self.feed(piece);

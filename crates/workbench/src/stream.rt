@@ -3,9 +3,7 @@ ghost use Rattle.std.specs.Prelude.{◌≡◌, ◌≢◌, ◌≤◌, ℕ, List, 
 ghost use Rattle.io_edge.specs.Causes.{Rose, after_end};
 ghost use Rattle.io_edge.specs.Calls.{drained, filled};
 ghost use Rattle.workbench.specs.Requests.{Request};
-ghost use Rattle.workbench.specs.Settled.{IsAnswered};
-ghost use Rattle.workbench.specs.Pushing.{IsPushed, IsPush, IsStreamEnd};
-ghost use Rattle.workbench.specs.Wholes.{status_of_truth};
+ghost use Rattle.workbench.specs.Pushing.{IsPushed, IsPush, IsFinished, IsStreamEnd};
 
 use crate::fault::Stop;
 use io_edge::{Sink, Source};
@@ -17,6 +15,9 @@ pub(crate) trait Push {
 
     /// It stands for these bytes, for which this text was written.
     ghost stands: { Self → List ℕ → List ℕ → Type 0 };
+
+    /// It stands for these bytes and their end, for which this text was written.
+    ghost done: { Self → List ℕ → List ℕ → Type 0 };
 
     /// Takes a piece, and writes what it answers.
     fn push<K: Sink>(&mut self, piece: &[u8], out: &mut K) -> Result<(), Stop>
@@ -31,7 +32,7 @@ pub(crate) trait Push {
     fn end<K: Sink>(&mut self, out: &mut K) -> Result<bool, Stop>
         requires { (bytes text : List ℕ) × IsPushed (stands self.old) (request self.old) bytes text }
         ensures ended { (bytes text : List ℕ) → IsPushed (stands self.old) (request self.old) bytes text
-            → IsPush (request self.old) (K.written out.old) (K.written out.new) bytes true text (λ holds. IsAnswered (request self.old) bytes true (status_of_truth holds)) result }
+            → IsPush (request self.old) (K.written out.old) (K.written out.new) bytes true text (IsFinished (done self.new) (request self.old) bytes) result }
         ensures cause { result ≡ Err Stop.Unwritten → Rose (K.faults out.old) (K.faults out.new) }
         ensures still { result ≢ Err Stop.Unwritten → K.faults out.new ≡ K.faults out.old };
 }
@@ -43,7 +44,7 @@ pub(crate) fn stream<P: Push, S: Source, K: Sink>(
     out: &mut K,
 ) -> Result<bool, Stop>
     requires { IsPushed (P.stands pusher.old) (P.request pusher.old) [] [] }
-    ensures ending { IsStreamEnd (P.request pusher.old) (drained S.left S.ended S.ends S.faults input.old input.new) (filled K.written K.faults out.old out.new) result }
+    ensures ending { IsStreamEnd (P.done pusher.new) (P.request pusher.old) (drained S.left S.ended S.ends S.faults input.old input.new) (filled K.written K.faults out.old out.new) result }
     ensures ends { S.ends input.new ≡ after_end (S.ended input.new) (S.ends input.old) }
     ensures read_due { result ≢ Err Stop.Unread → S.faults input.new ≡ S.faults input.old }
     ensures write_due { result ≢ Err Stop.Unwritten → K.faults out.new ≡ K.faults out.old }

@@ -7,7 +7,7 @@ ghost use Rattle.stl_grammar.specs.FormulaRefusals.{IsFormulaFault};
 ghost use Rattle.workbench.specs.Cases.{IsCase};
 ghost use Rattle.report.specs.Lines.{line_text};
 ghost use Rattle.workbench.specs.Requests.{AreHeld};
-ghost use Rattle.workbench.specs.Running.{IsRun};
+ghost use Rattle.workbench.specs.Keeping.{HasRun};
 ghost use Rattle.workbench.specs.Wholes.{command_of, IsAnswerOf, IsUnanswered, IsWrittenWith, IsWholeEnd, IsBadEnd, IsEndLine, IsStopLine, HasFaultFor, EndsSoundly, status_of, status_of_stop, status_of_fault};
 
 use crate::answer::{Answer, judge};
@@ -15,6 +15,7 @@ use crate::case::Case;
 use crate::explain::give_reasons;
 use crate::fault::Stop;
 use crate::json::give_report;
+use crate::kept::Kept;
 use crate::line::write_line;
 use crate::output::write_all;
 use crate::reading::read_trace;
@@ -190,17 +191,18 @@ fn finish<E: Sink>(err: &mut E, formula: &Formula, ending: Result<bool, Stop>) -
 /// - 9: an explanation would have too many cells.
 ///
 /// From 2 on `err` gets one line; a fault of `err` changes no status. The words are judged first, then the formula, then the bytes
-/// in their order.
+/// in their order. `kept` gets what a command that answers row by row leaves; it stays as it was on each other status and command.
 pub fn run<S: Source, K: Sink, E: Sink>(
     alloc: Global,
     words: &[String],
     input: &mut S,
     out: &mut K,
     err: &mut E,
+    kept: &mut Kept,
 ) -> u8
-    // What the words ask for came to an end with this status, and with these bytes, this text and this line.
-    ensures ran { IsRun (map string_bytes words.now) (drained S.left S.ended S.ends S.faults input.old input.new)
-        (filled K.written K.faults out.old out.new) (filled E.written E.faults err.old err.new) result }
+    // What the words ask for came to an end with this status, and with these bytes, this text and this line; and what it left.
+    ensures ran { HasRun (map string_bytes words.now) (drained S.left S.ended S.ends S.faults input.old input.new)
+        (filled K.written K.faults out.old out.new) (filled E.written E.faults err.old err.new) kept.old kept.new result }
 
     // A device that failed is told.
     ensures read_due { result ≢ 5 → S.faults input.new ≡ S.faults input.old }
@@ -210,6 +212,7 @@ pub fn run<S: Source, K: Sink, E: Sink>(
     ensures unread { (result ≡ 2) ⊎ (result ≡ 3) → input.new ≡ input.old }
     ensures nothing { 2 ≤ result → result ≢ 6 → (result ≤ 3) ⊎ AreHeld (map string_bytes words.now) → out.new ≡ out.old }
     ensures quiet { result ≤ 1 → err.new ≡ err.old }
+    ensures unkept { (2 ≤ result) ⊎ AreHeld (map string_bytes words.now) → kept.new ≡ kept.old }
 
     // Counts of faults never fall.
     ensures input_later { S.faults input.old ≤ S.faults input.new }

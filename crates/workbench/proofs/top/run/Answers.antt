@@ -3,22 +3,29 @@ use Rattle.std.specs.Prelude.{string_bytes}
 use Rattle.report.specs.Lines.{line_text}
 use Rattle.workbench.specs.Wholes.{command_of}
 use Rattle.workbench.proofs.RunEnds.{none_run, refused_run, known_run, ends_soundly, serves}
+use Rattle.workbench.proofs.Leaving.{none_left, refused_left, whole_left}
 use Rattle.workbench.proofs.top.run.Goals as goal
 
 pub finish-requires : goal.finish-requires
 finish-requires g c = ends_soundly c.whole-ending.ensures.ending
 
 pub returns-in_default-clause-ran : goal.returns-in_default-clause-ran
-returns-in_default-clause-ran g c = none_run _ _ _ (line_text c.plain.result) c.plain.ensures c.in_default.ensures refl refl c.say.ensures.said
+returns-in_default-clause-ran g c = none_left _ _ c.in_default.ensures refl
+    (none_run _ _ _ (line_text c.plain.result) c.plain.ensures c.in_default.ensures refl refl c.say.ensures.said)
 
 pub returns-in-Ok-clause-ran : goal.returns-in-Ok-clause-ran
 returns-in-Ok-clause-ran g c =
     let told = c.finish.ensures.said in
-    known_run (map string_bytes c.args.words.now) (command_of c.in-Some.asked.command) c.in-Ok.formula _ _ _
-    (record { text = c.in-Some.asked.text.now; form = c.in-Some.ensures; is = c.in-Ok.ensures.ok; served = serves (command_of c.in-Some.asked.command) c.in-Ok.formula })
-    c.whole-ending.result c.finish.result told.0 c.finish.ensures.status c.whole-ending.ensures.ending c.whole-ending.ensures.read c.whole-ending.ensures.write c.whole-ending.ensures.ends told.1 told.2
+    let command = command_of c.in-Some.asked.command in
+    let f = c.in-Ok.formula in
+    whole_left command f _ _ (record { text = c.in-Some.asked.text.now; form = c.in-Some.ensures; is = c.in-Ok.ensures.ok; served = serves command f }) refl
+    (known_run (map string_bytes c.args.words.now) command f _ _ _
+    (record { text = c.in-Some.asked.text.now; form = c.in-Some.ensures; is = c.in-Ok.ensures.ok; served = serves command f })
+    c.whole-ending.result c.finish.result told.0 c.finish.ensures.status c.whole-ending.ensures.ending c.whole-ending.ensures.read c.whole-ending.ensures.write
+    c.whole-ending.ensures.ends told.1 told.2)
 
 pub returns-in-Err-clause-ran : goal.returns-in-Err-clause-ran
 returns-in-Err-clause-ran g c =
     let told = c.refuse.ensures.ended c.in-Some.asked.text.now c.in-Err.ensures.fault in
-    refused_run (command_of c.in-Some.asked.command) _ _ _ c.refuse.result told.0 c.in-Some.ensures told.1 refl refl told.2
+    refused_left (command_of c.in-Some.asked.command) _ _ c.refuse.result c.in-Some.ensures told.1 refl
+    (refused_run (command_of c.in-Some.asked.command) _ _ _ c.refuse.result told.0 c.in-Some.ensures told.1 refl refl told.2)

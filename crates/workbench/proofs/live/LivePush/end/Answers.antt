@@ -13,5 +13,5 @@ tell-requires g c =
 
 pub returns-clause-ended : goal.returns-clause-ended
 returns-clause-ended g c = λ bytes text p.
-    end_of g.F.Follow.ended g.F.Follow.kind c.args.self.now.rows.limits c.args.self.now.formula c.finish-finished.new.self _ _ bytes text p.owed p.stands.limits
-    c.finish-finished.result c.tell.result c.tell.ensures.told (c.finish-finished.ensures.over bytes text p.stands.live_for)
+    end_of g.F.Follow.ended g.F.Follow.kind c.args.self.now.rows.limits c.args.self.now.formula c.finish-finished.new.self c.tell.new.self _ _ bytes text p.owed p.stands.limits
+    c.finish-finished.ensures.formula c.finish-finished.result c.tell.result c.tell.ensures.told (c.finish-finished.ensures.over bytes text p.stands.live_for) c.tell.ensures.done
