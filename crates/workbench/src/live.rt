@@ -200,6 +200,7 @@ impl<F: Follow> Live<F> {
         ensures same { self.new.formula ≡ self.old.formula }
         ensures cause { result ≡ Err Stop.Unwritten → Rose (K.faults out.old) (K.faults out.new) }
         ensures still { result ≢ Err Stop.Unwritten → K.faults out.new ≡ K.faults out.old }
+        ensures later { K.faults out.old ≤ K.faults out.new }
     {
         if is_starved(outcome) {
             return outcome;

@@ -26,15 +26,18 @@ pub(crate) trait Push {
             → IsPush (request self.old) (K.written out.old) (K.written out.new) (bytes ++ piece.now) false text (λ _. IsPushed (stands self.new) (request self.old) (bytes ++ piece.now)) result }
         ensures same { request self.new ≡ request self.old }
         ensures cause { result ≡ Err Stop.Unwritten → Rose (K.faults out.old) (K.faults out.new) }
-        ensures still { result ≢ Err Stop.Unwritten → K.faults out.new ≡ K.faults out.old };
+        ensures still { result ≢ Err Stop.Unwritten → K.faults out.new ≡ K.faults out.old }
+        ensures later { K.faults out.old ≤ K.faults out.new };
 
     /// Writes what is left, and answers the truth at the start.
     fn end<K: Sink>(&mut self, out: &mut K) -> Result<bool, Stop>
         requires { (bytes text : List ℕ) × IsPushed (stands self.old) (request self.old) bytes text }
         ensures ended { (bytes text : List ℕ) → IsPushed (stands self.old) (request self.old) bytes text
             → IsPush (request self.old) (K.written out.old) (K.written out.new) bytes true text (IsFinished (done self.new) (request self.old) bytes) result }
+        ensures same { request self.new ≡ request self.old }
         ensures cause { result ≡ Err Stop.Unwritten → Rose (K.faults out.old) (K.faults out.new) }
-        ensures still { result ≢ Err Stop.Unwritten → K.faults out.new ≡ K.faults out.old };
+        ensures still { result ≢ Err Stop.Unwritten → K.faults out.new ≡ K.faults out.old }
+        ensures later { K.faults out.old ≤ K.faults out.new };
 }
 
 /// Reads the source to its end, and answers each piece, of at most 4,096 bytes, before the next is read.
@@ -45,9 +48,12 @@ pub(crate) fn stream<P: Push, S: Source, K: Sink>(
 ) -> Result<bool, Stop>
     requires { IsPushed (P.stands pusher.old) (P.request pusher.old) [] [] }
     ensures ending { IsStreamEnd (P.done pusher.new) (P.request pusher.old) (drained S.left S.ended S.ends S.faults input.old input.new) (filled K.written K.faults out.old out.new) result }
+    ensures same { P.request pusher.new ≡ P.request pusher.old }
     ensures ends { S.ends input.new ≡ after_end (S.ended input.new) (S.ends input.old) }
     ensures read_due { result ≢ Err Stop.Unread → S.faults input.new ≡ S.faults input.old }
     ensures write_due { result ≢ Err Stop.Unwritten → K.faults out.new ≡ K.faults out.old }
+    ensures input_later { S.faults input.old ≤ S.faults input.new }
+    ensures out_later { K.faults out.old ≤ K.faults out.new }
 {
     let mut buffer = [0u8; 4096];
     for _reads in 0..u64::MAX {

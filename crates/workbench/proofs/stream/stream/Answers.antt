@@ -1,4 +1,4 @@
-use Rattle.std.proofs.Common.{◌<◌, length, take, refl, ap, subst, ◌∙◌, arith}
+use Rattle.std.proofs.Common.{◌<◌, ◌≤◌, length, take, refl, ap, subst, ◌∙◌, arith}
 use Rattle.std.proofs.lemmas.Result.{err_from_is_err_and}
 use Rattle.io_edge.specs.Causes.{Rose, after_end}
 use Rattle.workbench.proofs.Progress.{not_true, unended, none_taken, some_taken, short_taken}
@@ -13,6 +13,38 @@ returns-then-count-eq0-clause-ends g c = c.in-Ok.ensures.ends ∙ ap (after_end 
 
 pub returns-in_err-push-clause-ends : goal.returns-in_err-push-clause-ends
 returns-in_err-push-clause-ends g c = c.in-Ok.ensures.ends ∙ ap (after_end (g.S.Source.ended c.read.new.self)) c.loop-reads.invariant.unended
+
+pub returns-in_default-clause-same : goal.returns-in_default-clause-same
+returns-in_default-clause-same g c = c.loop-reads.invariant.same
+
+pub returns-then-count-eq0-clause-same : goal.returns-then-count-eq0-clause-same
+returns-then-count-eq0-clause-same g c = c.end.ensures.same ∙ c.loop-reads.invariant.same
+
+pub returns-in_err-push-clause-same : goal.returns-in_err-push-clause-same
+returns-in_err-push-clause-same g c = c.in_err-push.ensures.same ∙ c.loop-reads.invariant.same
+
+pub returns-in_default-clause-input_later : goal.returns-in_default-clause-input_later
+returns-in_default-clause-input_later g c =
+    subst (λ n. n ≤ g.S.Source.faults c.read.new.self) c.loop-reads.invariant.still c.in_default.ensures.cause.later
+
+pub returns-in_default-clause-out_later : goal.returns-in_default-clause-out_later
+returns-in_default-clause-out_later g c = let calm = c.loop-reads.invariant.calm in omega (arith, calm)
+
+pub returns-then-count-eq0-clause-input_later : goal.returns-then-count-eq0-clause-input_later
+returns-then-count-eq0-clause-input_later g c =
+    subst (λ n. n ≤ g.S.Source.faults c.read.new.self) c.loop-reads.invariant.still c.in-Ok.ensures.cause.later
+
+pub returns-in_err-push-clause-input_later : goal.returns-in_err-push-clause-input_later
+returns-in_err-push-clause-input_later g c =
+    subst (λ n. n ≤ g.S.Source.faults c.read.new.self) c.loop-reads.invariant.still c.in-Ok.ensures.cause.later
+
+pub returns-then-count-eq0-clause-out_later : goal.returns-then-count-eq0-clause-out_later
+returns-then-count-eq0-clause-out_later g c =
+    subst (λ n. n ≤ g.K.Sink.faults c.end.new.out) c.loop-reads.invariant.calm c.end.ensures.later
+
+pub returns-in_err-push-clause-out_later : goal.returns-in_err-push-clause-out_later
+returns-in_err-push-clause-out_later g c =
+    subst (λ n. n ≤ g.K.Sink.faults c.push.new.out) c.loop-reads.invariant.calm c.in_err-push.ensures.later
 
 pub returns-in_default-clause-ending : goal.returns-in_default-clause-ending
 returns-in_default-clause-ending g c =

@@ -1,4 +1,5 @@
 use Rattle.std.proofs.Common.{◌++◌, true, ◌∙◌, ap}
+use Rattle.workbench.specs.Requests.{stream}
 use Rattle.workbench.proofs.AtRest.{end_of, outcome_not_unwritten}
 use Rattle.workbench.proofs.live.LivePush.end.Goals as goal
 
@@ -15,3 +16,6 @@ pub returns-clause-ended : goal.returns-clause-ended
 returns-clause-ended g c = λ bytes text p.
     end_of g.F.Follow.ended g.F.Follow.kind c.args.self.now.rows.limits c.args.self.now.formula c.finish-finished.new.self c.tell.new.self _ _ bytes text p.owed p.stands.limits
     c.finish-finished.ensures.formula c.finish-finished.result c.tell.result c.tell.ensures.told (c.finish-finished.ensures.over bytes text p.stands.live_for) c.tell.ensures.done
+
+pub returns-clause-same : goal.returns-clause-same
+returns-clause-same g c = ap (stream g.F.Follow.kind) (c.tell.ensures.same ∙ c.finish-finished.ensures.formula)
