@@ -128,24 +128,33 @@ module _ {F : Type 0} (Stands : F → Case → List ℕ → Type 0) (kind : Stre
           let b = few_bytes live.rows.limits live.rows.least live.rows.heading bytes k.live_for.kept.rows k.live_for.kept.stands.read k.live_for.kept.stands.sound in
           omega (arith, n, b)
 
-  -- what is owed while text is to be written
-  owed_now : (live : Live F) (bytes text : List ℕ) → live.rows.limits ≡ limits_of kind → IsLive Stands kind live bytes text → OwesRows kind live.formula bytes false (text ++ live.text)
-  owed_now live bytes text e k = record {
+  -- what was written and is to be written is the text of the rows so far
+  pub told_now : (live : Live F) (bytes text : List ℕ) → IsLive Stands kind live bytes text → IsTextOf kind live.rows.limits live.formula bytes false (text ++ live.text)
+  told_now live bytes text k = record {
     header = option_map (header_of live.formula.scale) live.rows.heading;
     rows = k.kept.rows;
     whole = false;
-    before = subst (λ (l : Limits). AreRowsBefore l live.formula bytes false (option_map (header_of live.formula.scale) live.rows.heading) k.kept.rows false) e
-        (before_of_kept live.formula live.rows k.case bytes k.kept);
+    before = before_of_kept live.formula live.rows k.case bytes k.kept;
     is = told_of_kept Stands kind live.formula live.rows live.follower k.case bytes (text ++ live.text) k.kept k.followed;
   }
 
-  -- once it is written
-  written_all : (mid new : Live F) (bytes text : List ℕ) → new ≡ record mid { text = [] } → mid.rows.limits ≡ limits_of kind → IsLive Stands kind mid bytes text → IsAtRest Stands kind new bytes (text ++ mid.text)
-  written_all mid new bytes text e l k = subst (λ (x : Live F). IsAtRest Stands kind x bytes (text ++ mid.text)) (sym e) (record {
-    live_for = record { case = k.case; kept = k.kept; followed = subst (λ t. IsFollowed Stands kind mid.follower k.case t) (sym (append-nil (text ++ mid.text))) k.followed };
-    limits = l;
-    empty = refl;
-  })
+  -- and they have no fault
+  pub calm_now : (live : Live F) (bytes text : List ℕ) → IsLive Stands kind live bytes text → (x : Fault) → ¬ IsInputFault live.rows.limits live.formula bytes false x
+  calm_now live bytes text k = sound_so_far live.formula live.rows k.case bytes k.kept
+
+  -- what is owed while text is to be written
+  owed_now : (live : Live F) (bytes text : List ℕ) → live.rows.limits ≡ limits_of kind → IsLive Stands kind live bytes text → OwesRows kind live.formula bytes false (text ++ live.text)
+  owed_now live bytes text e k = owes_of kind live.rows.limits live.formula bytes false (text ++ live.text) e (told_now live bytes text k)
+
+  -- it stands for the same bytes once its text is written
+  pub live_after : (mid : Live F) (bytes text : List ℕ) → IsLive Stands kind mid bytes text → IsLive Stands kind (record mid { text = [] }) bytes (text ++ mid.text)
+  live_after mid bytes text k =
+      record { case = k.case; kept = k.kept; followed = subst (λ t. IsFollowed Stands kind mid.follower k.case t) (sym (append-nil (text ++ mid.text))) k.followed }
+
+  written_all : (mid new : Live F) (bytes text : List ℕ) → new ≡ record mid { text = [] } → mid.rows.limits ≡ limits_of kind → IsLive Stands kind mid bytes text
+      → IsAtRest Stands kind new bytes (text ++ mid.text)
+  written_all mid new bytes text e l k =
+      subst (λ (x : Live F). IsAtRest Stands kind x bytes (text ++ mid.text)) (sym e) (record { live_for = live_after mid bytes text k; limits = l; empty = refl })
 
   -- a piece
   module _ (f : Formula) (mid new : Live F) (held held_after : Option (List ℕ)) (bytes piece text : List ℕ) (before : OwesRows kind f bytes false text) (limits : mid.rows.limits ≡ limits_of kind)
@@ -196,26 +205,33 @@ module _ {F : Type 0} (Ended : F → Case → List ℕ → Type 0) (kind : Strea
     },
   )
 
+  -- the whole text is that of all rows and their end
+  pub told_over : (limits : Limits) (f : Formula) (live : Live F) (bytes text : List ℕ) (holds : Bool) → IsOver Ended kind limits f live bytes text holds → IsTextOf kind limits f bytes true text
+  told_over limits f live bytes text holds k = record {
+    header = Some k.case.trace.header;
+    rows = k.case.trace.rows;
+    whole = true;
+    before = sound k.trace.sound k.trace.trace.text.read;
+    is = subst (λ (g : Formula). StreamText kind (root g.nodes) k.case.trace.header k.case.trace.rows true text) k.fits.formula k.complete.told;
+  }
+
   owed_whole : (limits : Limits) (f : Formula) (live : Live F) (bytes text : List ℕ) (holds : Bool) → limits ≡ limits_of kind → IsOver Ended kind limits f live bytes text holds → OwesRows kind f bytes true text
-  owed_whole limits f live bytes text holds e k =
-      let whole = subst (λ (l : Limits). IsWhole l f bytes k.case.trace) e k.trace in
-      record {
-        header = Some k.case.trace.header;
-        rows = k.case.trace.rows;
-        whole = true;
-        before = sound whole.sound whole.trace.text.read;
-        is = subst (λ (g : Formula). StreamText kind (root g.nodes) k.case.trace.header k.case.trace.rows true text) k.fits.formula k.complete.told;
-      }
+  owed_whole limits f live bytes text holds e k = owes_of kind limits f bytes true text e (told_over limits f live bytes text holds k)
 
   -- it stands for the end when its text is taken away, too
+  pub over_after : (limits : Limits) (f : Formula) (mid : Live F) (bytes text : List ℕ) (holds : Bool) → IsOver Ended kind limits f mid bytes text holds
+      → IsOver Ended kind limits f (record mid { text = [] }) bytes text holds
+  over_after limits f mid bytes text holds k = record { case = k.case; fits = k.fits; trace = k.trace; follower = k.follower; is = k.is; complete = k.complete }
+
   done_after : (limits : Limits) (f : Formula) (mid new : Live F) (bytes text : List ℕ) (holds : Bool) → limits ≡ limits_of kind → mid.formula ≡ f → new ≡ record mid { text = [] }
       → IsOver Ended kind limits f mid bytes text holds → IsDone Ended kind new bytes text
   done_after limits f mid new bytes text holds e formula done k =
       let rest : Live F = record mid { text = [] } in
-      let over : IsOver Ended kind limits f rest bytes text holds =
-      record { case = k.case; fits = k.fits; trace = k.trace; follower = k.follower; is = k.is; complete = k.complete } in
-      subst (λ (x : Live F). IsDone Ended kind x bytes text) (sym done)
-      (holds, subst (λ (l : Limits). IsOver Ended kind l mid.formula rest bytes text holds) e (subst (λ (g : Formula). IsOver Ended kind limits g rest bytes text holds) (sym formula) over))
+      subst (λ (x : Live F). IsDone Ended kind x bytes text) (sym done) (
+        holds,
+        subst (λ (l : Limits). IsOver Ended kind l mid.formula rest bytes text holds) e
+            (subst (λ (g : Formula). IsOver Ended kind limits g rest bytes text holds) (sym formula) (over_after limits f mid bytes text holds k)),
+      )
 
   module _ (limits : Limits) (f : Formula) (mid new : Live F) (held held_after : Option (List ℕ)) (bytes text : List ℕ) (before : OwesRows kind f bytes false text) (same : limits ≡ limits_of kind)
       (formula : mid.formula ≡ f) where
