@@ -21,3 +21,4 @@ pub mod Measured
 pub mod Following
 pub mod Reasons
 pub mod Accounts
+pub mod Watching

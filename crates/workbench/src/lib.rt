@@ -21,6 +21,7 @@ mod stream;
 mod table;
 mod texts;
 mod top;
+mod verdicts;
 
 pub use entry::program;
 pub use top::run;
