@@ -22,6 +22,7 @@ mod stream;
 mod table;
 mod texts;
 mod top;
+mod verdicts;
 
 pub use entry::program;
 pub use kept::Kept;

@@ -1,0 +1,172 @@
+//! The network of a formula's operators.
+//!
+//! A network stands for a run of events, a row, a step of a node, the end, a verdict taken, in whatever order they came. It stores
+//! no history: what it shows is, for each run that it stands for, what the run says.
+
+ghost use Rattle.std.specs.Prelude.{◌≡◌, ◌<◌, ◌+◌, ◌-◌, ◌↔◌, ◌++◌, ◌∷◌, [], List, length, IfOk, IfSome, IfNone, IsTrue, MatchOption, MatchResult, Some, None, true, false, pos, option_map, ◌≢◌};
+ghost use Rattle.stl_syntax.specs.Trace.{Header};
+ghost use Rattle.stl_syntax.specs.declared.node.Node.{Node as ANode};
+ghost use Rattle.atom_lines.specs.Binding.{IsBound};
+ghost use Rattle.online_nodes.specs.Network.{Event, row as came, step as stepped, close as ended, take as taken, state, shown, node_is_atom, IsReady};
+ghost use Rattle.online_nodes.specs.Held.{held_at};
+
+use atom_lines::Bound;
+use frac128::Memory;
+use online_nodes::{Edges, Operator};
+use std::alloc::Global;
+use std::marker::Model;
+use stl_syntax::{Formula, Verdict};
+use trace_reader::Row;
+
+/// Why a call was refused.
+#[derive(Clone, Copy, Debug, PartialEq, Eq)]
+pub enum NetFault {
+    /// There was no memory. The network is stopped.
+    Memory,
+    /// An earlier call answered want of memory.
+    Stopped,
+    /// The end came before.
+    Closed,
+}
+
+/// The operators of a formula, the edges between them, and the last row.
+///
+/// Contracts see it as `Parts`. `Stands` says when it stands for a run of events.
+#[derive(Drop)]
+pub struct Net {
+    edges: Edges,
+    /// None at an atom.
+    operators: Vec<Option<Operator>>,
+    bound: Bound,
+    last: Option<Row>,
+    closed: bool,
+    stopped: bool,
+}
+
+impl Model for Net {
+    ghost use Rattle.online_net.specs.Nets.{Parts};
+
+    ghost Value = { Parts };
+
+    ghost view = { λ n. record { edges = n.edges; operators = n.operators.items; bound = n.bound; last = n.last; closed = n.closed; stopped = n.stopped } };
+
+    ghost invariant = { λ n. ⊥ };
+}
+
+impl Net {
+    ghost use Rattle.online_net.specs.Nets.{IsClosed, IsCloseFault, IsFed, IsFeedFault, IsNext, IsStepFault, IsStepped, Stands};
+
+    /// The network of a formula that is bound to a header's columns. It stands for the empty run.
+    ///
+    /// # Errors
+    ///
+    /// `Memory` where there is no memory.
+    pub fn new(alloc: Global, formula: &Formula, bound: Bound) -> Result<Net, Memory>
+        requires { (header : Header) × IsBound bound formula.now header }
+        ensures stands { (header : Header) → IsBound bound formula.now header → IfOk result (λ net. Stands formula.now.nodes header net []) }
+        ensures nodes { IfOk result (λ net. length net.operators ≡ length formula.now.nodes) }
+        ensures bound { IfOk result (λ net. net.bound ≡ bound) }
+        ensures no_row { IfOk result (λ net. net.last ≡ None) }
+    {
+        Err(Memory)
+    }
+
+    /// The next row: each atom gives out its verdicts up to it.
+    ///
+    /// # Errors
+    ///
+    /// `Stopped` where an earlier call answered `Memory`, and `Closed` after the end; nothing changes then. `Memory` where there is
+    /// no memory, and then the network is stopped.
+    pub fn feed(&mut self, row: &Row) -> Result<(), NetFault>
+        requires width { length row.now.values ≡ self.old.bound.width }
+        requires later { IfSome self.old.last (λ r. r.time < row.now.time) }
+        ensures answer { MatchResult result (λ _. IsFed self.old self.new row.now) (IsFeedFault self.old self.new) }
+        ensures stands { (nodes : List ANode) (header : Header) (events : List Event) → Stands nodes header self.old events
+            → IfOk result (λ _. Stands nodes header self.new (events ++ came row.now ∷ [])) }
+        ensures nodes { length self.new.operators ≡ length self.old.operators }
+        ensures bound { self.new.bound ≡ self.old.bound }
+    {
+        unreachable!()
+    }
+
+    /// The end of the rows. It takes no memory.
+    ///
+    /// # Errors
+    ///
+    /// `Stopped` where an earlier call answered `Memory`, and `Closed` where the end came before; nothing changes then.
+    pub fn close(&mut self) -> Result<(), NetFault>
+        requires { self.old.last ≢ None }
+        ensures answer { MatchResult result (λ _. IsClosed self.old self.new) (IsCloseFault self.old self.new) }
+        ensures stands { (nodes : List ANode) (header : Header) (events : List Event) → Stands nodes header self.old events
+            → IfOk result (λ _. Stands nodes header self.new (events ++ ended ∷ [])) }
+    {
+        unreachable!()
+    }
+
+    /// One step of a node: it takes what its children have ready. False where it was not ready, and then nothing changes; an atom
+    /// moves with the rows, and is never ready.
+    ///
+    /// # Errors
+    ///
+    /// `Stopped` where an earlier call answered `Memory`; nothing changes then. `Memory` where there is no memory, and then the network
+    /// is stopped. Never `Closed`.
+    pub fn step(&mut self, node: u32) -> Result<bool, NetFault>
+        requires { node < length self.old.operators }
+        ensures answer { MatchResult result (IsStepped self.old self.new) (IsStepFault self.old self.new) }
+        ensures moved { (nodes : List ANode) (header : Header) (events : List Event) → Stands nodes header self.old events
+            → IfOk result (λ moved. IsTrue moved ↔ IsReady nodes (state nodes events) node) }
+        ensures stands { (nodes : List ANode) (header : Header) (events : List Event) → Stands nodes header self.old events
+            → node_is_atom nodes node ≡ false → IfOk result (λ _. Stands nodes header self.new (events ++ stepped node ∷ [])) }
+        ensures nodes { length self.new.operators ≡ length self.old.operators }
+        ensures bound { self.new.bound ≡ self.old.bound }
+    {
+        unreachable!()
+    }
+
+    /// Whether a step would move the node. It takes no memory. A stopped network is never ready.
+    pub fn ready(&self, node: u32) -> bool
+        requires { node < length self.now.operators }
+        ensures stopped { self.now.stopped ≡ true → result ≡ false }
+        ensures ready { (nodes : List ANode) (header : Header) (events : List Event) → Stands nodes header self.now events
+            → IsTrue result ↔ IsReady nodes (state nodes events) node }
+    {
+        unreachable!()
+    }
+
+    /// All times up to it are answered at the node; None where none is, and where the network is stopped. It takes no memory.
+    pub fn front(&self, node: u32) -> Option<u32>
+        requires { node < length self.now.operators }
+        ensures stopped { self.now.stopped ≡ true → result ≡ None }
+        ensures front { (nodes : List ANode) (header : Header) (events : List Event) → Stands nodes header self.now events
+            → option_map pos result ≡ shown (state nodes events) node }
+    {
+        unreachable!()
+    }
+
+    /// The next verdict of the root; None where all up to the root's front was taken, and where the network is stopped. It takes no
+    /// memory.
+    pub fn take(&mut self) -> Option<Verdict>
+        ensures stopped { self.old.stopped ≡ true → result ≡ None }
+        ensures unchanged { result ≡ None → self.new ≡ self.old }
+        ensures next { (nodes : List ANode) (header : Header) (events : List Event) → Stands nodes header self.old events
+            → IsNext nodes header events result }
+        ensures stands { (nodes : List ANode) (header : Header) (events : List Event) → Stands nodes header self.old events
+            → Stands nodes header self.new (events ++ taken ∷ []) }
+        ensures nodes { length self.new.operators ≡ length self.old.operators }
+        ensures bound { self.new.bound ≡ self.old.bound }
+        ensures last { self.new.last ≡ self.old.last }
+        ensures closed { self.new.closed ≡ self.old.closed }
+        ensures running { self.new.stopped ≡ self.old.stopped }
+    {
+        unreachable!()
+    }
+
+    /// How many verdicts stand on the node's edge; 0 where the network is stopped.
+    pub fn held(&self, node: u32) -> usize
+        requires { node < length self.now.operators }
+        ensures stopped { self.now.stopped ≡ true → result ≡ 0 }
+        ensures held { self.now.stopped ≡ false → result ≡ length (held_at self.now.edges node) }
+    {
+        unreachable!()
+    }
+}
