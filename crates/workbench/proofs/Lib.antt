@@ -18,6 +18,7 @@ pub mod LastFaults
 pub mod FaultsStay
 pub mod RunEnds
 pub mod Leaving
+pub mod WatchCalls
 pub mod CheckPromises
 pub mod StreamSteps
 pub mod Due

@@ -23,3 +23,4 @@ pub mod Following
 pub mod Reasons
 pub mod Accounts
 pub mod Watching
+pub mod Watches

@@ -23,7 +23,9 @@ mod table;
 mod texts;
 mod top;
 mod verdicts;
+mod watch;
 
 pub use entry::program;
 pub use kept::Kept;
 pub use top::run;
+pub use watch::{Watch, WatchFault};
