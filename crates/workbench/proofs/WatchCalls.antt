@@ -157,8 +157,11 @@ module _ (old mid : Live Verdicts) (p : Past) (piece : List ℕ) (phase : Phase)
       → MatchResult fed (λ _. IsLive WatchesRows verdicts mid (p.bytes ++ piece) p.text) (λ e. IsLiveStop verdicts old.rows.limits old.formula false (p.bytes ++ piece) (p.text ++ mid.text) e)
       → MatchResult fed (λ x. Took x × IsTextOf verdicts p.limits p.formula (p.bytes ++ piece) false (p.text ++ mid.text))
       (λ e. IsLiveStop verdicts p.limits p.formula false (p.bytes ++ piece) (p.text ++ mid.text) e)
-  piece_fed (Ok x) h = (h, subst (λ (l : Limits). IsTextOf verdicts l p.formula (p.bytes ++ piece) false (p.text ++ mid.text)) (limits ∙ s.limits)
-      (subst (λ (f : Formula). IsTextOf verdicts mid.rows.limits f (p.bytes ++ piece) false (p.text ++ mid.text)) (formula ∙ s.formula) (told_now WatchesRows verdicts mid (p.bytes ++ piece) p.text h)))
+  piece_fed (Ok x) h = (
+    h,
+    subst (λ (l : Limits). IsTextOf verdicts l p.formula (p.bytes ++ piece) false (p.text ++ mid.text)) (limits ∙ s.limits)
+        (subst (λ (f : Formula). IsTextOf verdicts mid.rows.limits f (p.bytes ++ piece) false (p.text ++ mid.text)) (formula ∙ s.formula) (told_now WatchesRows verdicts mid (p.bytes ++ piece) p.text h)),
+  )
   piece_fed (Err e) h = subst (λ (l : Limits). IsLiveStop verdicts l p.formula false (p.bytes ++ piece) (p.text ++ mid.text) e) s.limits
       (subst (λ (f : Formula). IsLiveStop verdicts old.rows.limits f false (p.bytes ++ piece) (p.text ++ mid.text) e) s.formula h)
 

@@ -193,7 +193,11 @@ impl<F: Follow> Live<F> {
     ///
     /// # Errors
     /// What came of the bytes, or the sink failed.
-    pub(crate) fn tell<T: Copy, K: Sink>(&mut self, outcome: Result<T, Stop>, out: &mut K) -> Result<T, Stop>
+    pub(crate) fn tell<T: Copy, K: Sink>(
+        &mut self,
+        outcome: Result<T, Stop>,
+        out: &mut K,
+    ) -> Result<T, Stop>
         requires { outcome ≢ Err Stop.Unwritten }
         ensures told { IsToldAs (K.written out.old) (K.written out.new) self.old.text outcome result }
         ensures done { OnOk result (self.new ≡ record self.old { text = [] }) }
