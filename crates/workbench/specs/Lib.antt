@@ -22,3 +22,4 @@ pub mod Measured
 pub mod Following
 pub mod Reasons
 pub mod Accounts
+pub mod SureLines
