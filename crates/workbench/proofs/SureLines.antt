@@ -42,12 +42,11 @@ ends_by p tr stretch v [] h = le_of_same h.time
 ends_by p tr stretch v (w ∷ vs) (touch, d, told, rest) = le_trans (ge_of_same touch.time) (le_trans (span_ends w p tr told) (ends_by p tr stretch w vs rest))
 
 -- the traces agree on a stretch
-AgreeOn : Subformula → Trace → Trace → Interval → Type 0
+abbrev AgreeOn : Subformula → Trace → Trace → Interval → Type 0
 AgreeOn p tr tr' stretch = (t : Rational) → stretch.from ≤ʳ t → t ≤ʳ stretch.to → Agree p tr tr' t
 
 one_moved : (p : Subformula) (tr tr' : Trace) (stretch : Interval) (v : Verdict) → stretch.from ≤ʳ value v.on.from → value v.on.to ≤ʳ stretch.to → AgreeOn p tr tr' stretch
     → IsTold p tr v → IsTold p tr' v
-unfolding AgreeOn
 one_moved p tr tr' stretch v b e agree told =
     record { not_empty = told.not_empty; truth = λ t h. by_holds v.holds (agree t (low t h) (high t h)) (told.truth t h) }
   where
@@ -110,7 +109,7 @@ later_row width (q ∷ rows) r more a some = after_last width q.time rows r more
 -- ---- fronts
 
 -- a front does not lie below the start
-Low : ℕ → Option ℤ → Type 0
+abbrev Low : ℕ → Option ℤ → Type 0
 Low first None = Unit {0}
 Low first (Some f) = pos first ≤ℤ f
 
@@ -136,7 +135,6 @@ answered_none first p s e = by_test (int_lt (pos s -ℤ pos (horizon p)) (pos fi
     by_test false x y = absurd (none_is_none (pos s -ℤ pos (horizon p)) (sym y))
 
 low_front : (first : ℕ) (p : Subformula) (s : ℕ) (o : Option ℤ) → answered_by first p s ≡ o → Low first o
-unfolding Low
 low_front first p s None e = tt
 low_front first p s (Some f) e = (answered_is first p s f e).low
 
@@ -162,12 +160,12 @@ row_agrees p header rows r tr f is c a t from to = by_rows rows c from (last_of 
         (ans.0, ans.1)
 
 -- up to where a front leads, and nothing where there is none yet
-Led : ℕ → Option ℤ → List Verdict → Option ℤ → Type 0
+abbrev Led : ℕ → Option ℤ → List Verdict → Option ℤ → Type 0
 Led first old vs None = (old ≡ None) × (vs ≡ [])
 Led first old vs (Some f) = AreTiles (answered_to first old) vs (answered_to first (Some f))
 
 -- the fronts do not fall
-NeverBelow : Option ℤ → Option ℤ → Type 0
+abbrev NeverBelow : Option ℤ → Option ℤ → Type 0
 NeverBelow None o = Unit {0}
 NeverBelow (Some f) None = ⊥
 NeverBelow (Some f) (Some g) = f ≤ℤ g
@@ -181,7 +179,6 @@ record Lines (p : Subformula) (tr : Trace) (first : ℕ) (old new : Option ℤ) 
 
 new_lines : (p : Subformula) (tr : Trace) (old new : Option ℤ) (text : List ℕ) → Low (first_time tr.rows) old → IsNewText p tr old new text
     → Lines p tr (first_time tr.rows) old new text
-unfolding Low, Led, NeverBelow, AgreeOn
 new_lines p tr None None text low is = record { verdicts = []; lines = is; told = λ tr' agree. tt; led = λ never. (refl, refl) }
 new_lines p tr (Some o) None text low is = record { verdicts = []; lines = is; told = λ tr' agree. tt; led = λ never. absurd never }
 new_lines p tr None (Some f) text low (vs, d, lines) = record {
@@ -238,7 +235,6 @@ sure_by_row p header rows old (r ∷ more) text low (here, later, new, rest, is)
 )
 
 at_first : (p : Subformula) (header : Header) (more : List Row) (text : List ℕ) → IsRowsText (IsNewText p) p header [] None more text → AreSureByRow p header [] more text
-unfolding Low
 at_first p header more text t = sure_by_row p header [] None more text (λ r. tt) t
 
 -- the law before the end
@@ -288,23 +284,20 @@ told_append p tr [] ws h k = k
 told_append p tr (v ∷ vs) ws (h, rest) k = (h, told_append p tr vs ws rest k)
 
 -- what is answered after some rows
-Front : Subformula → List Row → Option ℤ
+abbrev Front : Subformula → List Row → Option ℤ
 Front p [] = None
 Front p (r ∷ rows) = answered_by r.time p (last_time r.time rows)
 
 front_is : (p : Subformula) (rows : List Row) (r : Row) → Front p (rows ++ r ∷ []) ≡ answered_by (first_time (rows ++ r ∷ [])) p r.time
-unfolding Front
 front_is p [] r = refl
 front_is p (q ∷ rows) r = ap (λ n. answered_by q.time p n) (last_of q.time rows r)
 
 front_of_all : (p : Subformula) (rows : List Row) → rows ≢ [] → Front p rows ≡ answered_by (first_time rows) p (last_time 0 rows)
-unfolding Front
 front_of_all p [] some = absurd (some refl)
 front_of_all p (r ∷ rows) some = refl
 
 -- which does not fall
 front_rises : (first : ℕ) (p : Subformula) (s u : ℕ) (o q : Option ℤ) → s ≤ u → answered_by first p s ≡ o → answered_by first p u ≡ q → NeverBelow o q
-unfolding NeverBelow
 front_rises first p s u None q l a b = tt
 front_rises first p s u (Some f) None l a b =
     let x = answered_is first p s f a in
@@ -325,12 +318,10 @@ record Course (p : Subformula) (header : Header) (first : ℕ) (old new : Option
   led : Led first old verdicts new
 
 none_led : (first : ℕ) (o : Option ℤ) → Led first o [] o
-unfolding Led
 none_led first None = (refl, refl)
 none_led first (Some f) = same_itself (answered_to first (Some f))
 
 led_append : (first : ℕ) (old mid new : Option ℤ) (vs ws : List Verdict) → Led first old vs mid → Led first mid ws new → Led first old (vs ++ ws) new
-unfolding Led
 led_append first old None None vs ws a b = (a.0, ap (λ l. l ++ ws) a.1 ∙ b.1)
 led_append first old None (Some f) vs ws a b =
     subst (λ (o : Option ℤ). AreTiles (answered_to first o) (vs ++ ws) (answered_to first (Some f))) (sym a.0)
@@ -367,13 +358,11 @@ module _ (p : Subformula) (header : Header) (tr : Trace) (ok : IsTrace tr) (firs
       first_so_far (q ∷ rows) more e = ap first_time (sym e)
 
       low_old : (rows : List Row) → old ≡ Front p rows → first_time (rows ++ r ∷ []) ≡ first → Low (first_time (rows ++ r ∷ [])) old
-      unfolding Low, Front
       low_old [] e b = subst (λ (o : Option ℤ). Low r.time o) (sym e) tt
       low_old (q ∷ rows) e b = subst (λ (o : Option ℤ). Low q.time o) (sym e) (low_front q.time p (last_time q.time rows) _ refl)
 
       rises : (rows : List Row) → old ≡ Front p rows → first_time (rows ++ r ∷ []) ≡ first → AreRows (length header.columns) (rows ++ r ∷ more)
           → NeverBelow old (answered_by (first_time (rows ++ r ∷ [])) p r.time)
-      unfolding NeverBelow, Front
       rises [] e b are = subst (λ (o : Option ℤ). NeverBelow o (answered_by r.time p r.time)) (sym e) tt
       rises (q ∷ rows) e b are =
           let l = after_last (length header.columns) q.time rows r more are.1 in
@@ -405,20 +394,17 @@ covered p header rows text (are, (during, rest, line, t, at_end, first, is)) =
     )
   where
     at_none : None ≡ Front p []
-    unfolding Front
     at_none = refl
 
     no_rows : AreRows (length header.columns) rows → rows ≢ []
     no_rows are e = subst (λ rs. AreRows (length header.columns) rs) e are
 
     by_end : (o : Option ℤ) → answered_by (first_time rows) p (last_time 0 rows) ≡ o → NeverBelow o (Some (pos (last_time 0 rows)))
-    unfolding NeverBelow
     by_end None e = tt
     by_end (Some f) e = let i = (answered_is (first_time rows) p (last_time 0 rows) f e).is in omega (arith, ints)
 
     as_tiles : {vs : List Verdict} → Led (first_time rows) None vs (Some (pos (last_time 0 rows)))
         → AreTiles (begins (closed (whole (pos (first_time rows))) (whole (pos (last_time 0 rows))))) vs (ends (closed (whole (pos (first_time rows))) (whole (pos (last_time 0 rows)))))
-    unfolding Led
     as_tiles h = h
 
 -- ---- what `check` tells
@@ -451,5 +437,4 @@ watch_text f bytes status text a =
     }
   where
     itself : (p : Subformula) (tr : Trace) → AgreeOn p tr tr (closed (start tr) (stop tr))
-    unfolding AgreeOn
     itself p tr = λ t a b. (λ x. x, λ x. x)
