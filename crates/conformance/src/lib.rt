@@ -36,4 +36,6 @@ mod until_tests;
 #[cfg(test)]
 mod verdict_tests;
 #[cfg(test)]
+mod watch_tests;
+#[cfg(test)]
 mod window_tests;

@@ -31,6 +31,7 @@ pub mod MarginTruth
 pub mod RowsBefore
 pub mod MarginTexts
 pub mod OwedLaws
+pub mod SureLines
 pub mod OneRequest
 pub mod EndsOnce
 pub mod Passes

@@ -1,14 +1,20 @@
 -- What is owed is one text, and only grows.
 use Rattle.std.proofs.Common.{◌≡◌, ℕ, Bool, true, false, List, [], ◌∷◌, ◌++◌, refl, sym, ap, ◌∙◌, subst, append_assoc, append-nil, Option, Some, None}
+use Rattle.std.specs.Prelude.{flat_map}
 use Rattle.stl_syntax.specs.Formula.{Formula, Subformula, root}
 use Rattle.stl_syntax.specs.Scaling.{scaled}
+use Rattle.stl_syntax.specs.Knots.{Knot, Piece}
+use Rattle.stl_syntax.specs.Verdicts.{KnotsAlike, PiecesAlike}
+use Rattle.stl_syntax.specs.declared.scale.Scale.{Scale}
+use Rattle.csv.specs.Writing.{row_text, default_writer}
 use Rattle.stl_syntax.specs.Trace.{Header, Row, Trace}
 use Rattle.stl_syntax.specs.EarlyText.{IsEarlyText, at_row, at_end, not_yet}
 use Rattle.stl_syntax.proofs.VerdictsLaw.{Describes-unique}
 use Rattle.stl_syntax.proofs.MarginsLaw.{DescribesMargins-unique}
 use Rattle.trace_reader.proofs.TraceRefusalLaw.{Trace-unique}
-use Rattle.report.specs.Report.{Command, check, robust, Out, nodes_for}
-use Rattle.report.proofs.OneText.{verdicts_once, start_once, margins_once}
+use Rattle.report.specs.Report.{Command, check, robust, table, Out, nodes_for}
+use Rattle.report.specs.Table.{AreRecords, heading}
+use Rattle.report.proofs.OneText.{number_once, value_once, verdicts_once, start_once, margins_once}
 use Rattle.report.proofs.StreamTexts.{IsLonger, stream_once, stream_grows, early_once, early_grows}
 use Rattle.workbench.proofs.MarginTexts.{margin_stream_once, margin_stream_grows}
 use Rattle.workbench.specs.Requests.{Stream, verdicts, early, margins, stream}
@@ -110,6 +116,25 @@ robust_once : (f : Formula) (tr : Trace) (x y : List ℕ) → Out robust f tr x 
 robust_once f tr x y (ks, a, lines) (ls, b, others) =
     let e = DescribesMargins-unique (root (nodes_for f tr)) tr ks ls a b in margins_once tr.header.scale ks ls x y e.0 e.1 lines others
 
+-- knots that are alike have one record
+records_once : (scale : Scale) (k l : Knot) (ps qs : List Piece) (xs ys : List (List (List ℕ))) → KnotsAlike k l → PiecesAlike ps qs → AreRecords scale k ps xs → AreRecords scale l qs ys → xs ≡ ys
+records_once scale k l [] [] xs ys e h (t, v, t_is, v_is, is) (t', v', t_is', v_is', is') =
+    is ∙ ap (λ a. (a ∷ v ∷ [] ∷ [] ∷ []) ∷ []) (number_once scale.time e.time t_is t_is')
+    ∙ ap (λ a. (t' ∷ a ∷ [] ∷ [] ∷ []) ∷ []) (value_once scale.value k.value l.value e.value v_is v_is') ∙ sym is'
+records_once scale k l [] (b ∷ qs) xs ys e h a c = absurd h
+records_once scale k l (a ∷ ps) [] xs ys e h b c = absurd h
+records_once scale k l (a ∷ ps) (b ∷ qs) xs ys e (from, to, next, more) (t, v, x, y, later, t_is, v_is, x_is, y_is, rest, is) (t', v', x', y', later', t_is', v_is', x_is', y_is', rest', is') =
+    is ∙ ap (λ z. (z ∷ v ∷ x ∷ y ∷ []) ∷ later) (number_once scale.time e.time t_is t_is')
+    ∙ ap (λ z. (t' ∷ z ∷ x ∷ y ∷ []) ∷ later) (value_once scale.value k.value l.value e.value v_is v_is')
+    ∙ ap (λ z. (t' ∷ v' ∷ z ∷ y ∷ []) ∷ later) (value_once scale.value a.from b.from from x_is x_is')
+    ∙ ap (λ z. (t' ∷ v' ∷ x' ∷ z ∷ []) ∷ later) (value_once scale.value a.to b.to to y_is y_is')
+    ∙ ap (λ z. (t' ∷ v' ∷ x' ∷ y' ∷ []) ∷ z) (records_once scale a.next b.next ps qs later later' next more rest rest') ∙ sym is'
+
+table_once : (f : Formula) (tr : Trace) (x y : List ℕ) → Out table f tr x → Out table f tr y → x ≡ y
+table_once f tr x y (ks, a, (records, are, is)) (ls, b, (others, are', is')) =
+    let e = DescribesMargins-unique (root (nodes_for f tr)) tr ks ls a b in
+    is ∙ ap (λ rs. flat_map (row_text default_writer) (heading ∷ rs)) (records_once tr.header.scale ks.first ls.first ks.pieces ls.pieces records others e.0 e.1 are are') ∙ sym is'
+
 module _ (c : Command) (f : Formula) (one : (tr : Trace) (x y : List ℕ) → Out c f tr x → Out c f tr y → x ≡ y) where
   whole_owed_once : (bytes : List ℕ) (ended : Bool) (x y : List ℕ) → OwesAtEnd c f bytes ended x → OwesAtEnd c f bytes ended y → x ≡ y
   whole_owed_once bytes ended x y not_yet_owed not_yet_owed = refl
@@ -126,9 +151,12 @@ module _ (c : Command) (f : Formula) (one : (tr : Trace) (x y : List ℕ) → Ou
   whole_owed_once bytes ended x y (at_end_owed tr trace few out) (at_end_owed tr' trace' few' out') =
       one tr' x y (subst (λ (t : Trace). Out c f t x) (whole_once f bytes tr tr' trace trace') out) out'
 
--- `check` and `robust` are owed one text
+-- `check`, `robust` and `table` are owed one text
 pub check_owed_once : (f : Formula) (bytes : List ℕ) (ended : Bool) (x y : List ℕ) → OwesAtEnd check f bytes ended x → OwesAtEnd check f bytes ended y → x ≡ y
 check_owed_once f bytes ended x y a b = whole_owed_once check f (check_once f) bytes ended x y a b
 
 pub robust_owed_once : (f : Formula) (bytes : List ℕ) (ended : Bool) (x y : List ℕ) → OwesAtEnd robust f bytes ended x → OwesAtEnd robust f bytes ended y → x ≡ y
 robust_owed_once f bytes ended x y a b = whole_owed_once robust f (robust_once f) bytes ended x y a b
+
+pub table_owed_once : (f : Formula) (bytes : List ℕ) (ended : Bool) (x y : List ℕ) → OwesAtEnd table f bytes ended x → OwesAtEnd table f bytes ended y → x ≡ y
+table_owed_once f bytes ended x y a b = whole_owed_once table f (table_once f) bytes ended x y a b

@@ -12,6 +12,7 @@ ghost use Rattle.workbench.specs.Measured.{IsMeasured};
 ghost use Rattle.workbench.specs.Words.{AskCheck};
 ghost use Rattle.workbench.specs.Running.{IsEnd, IsRun};
 
+pub use crate::line_laws::{each_line_is_the_truth, the_lines_cover_the_trace};
 pub use crate::owing_laws::{
     one_request_is_asked_for, one_text_is_owed, the_end_is_asked_for_once, what_is_owed_only_grows,
     what_was_written_is_of_all_bytes,

@@ -11,6 +11,7 @@ mod json;
 mod kept;
 pub mod laws;
 mod line;
+mod line_laws;
 mod live;
 mod output;
 mod owing_laws;

@@ -2,7 +2,7 @@
 ghost use Rattle.std.specs.Prelude.{◌≡◌, ◌⊎◌, ◌≤◌, ◌++◌, ℕ, List, Bool, true, false};
 ghost use Rattle.io_edge.specs.Calls.{Drained, Filled};
 ghost use Rattle.stl_syntax.specs.Formula.{Formula};
-ghost use Rattle.report.specs.Report.{Command, check, robust};
+ghost use Rattle.report.specs.Report.{Command, check, robust, table};
 ghost use Rattle.workbench.specs.Requests.{Request, Stream, Asks, whole, stream, has_input};
 ghost use Rattle.workbench.specs.Owed.{OwesRows, OwesAtEnd};
 ghost use Rattle.workbench.specs.Running.{IsBegun, IsRun, HasSaidItsEnd};
@@ -12,11 +12,12 @@ pub fn one_request_is_asked_for()
     ensures { (words : List (List ℕ)) (request other : Request) → Asks words request → Asks words other → request ≡ other }
 {}
 
-/// At most one text is owed for given bytes: to a stream, to `check` and to `robust`.
+/// At most one text is owed for given bytes: to a stream, to `check`, to `robust` and to `table`.
 pub fn one_text_is_owed()
     ensures rows { (s : Stream) (f : Formula) (bytes text other : List ℕ) (ended : Bool) → OwesRows s f bytes ended text → OwesRows s f bytes ended other → text ≡ other }
     ensures check { (f : Formula) (bytes text other : List ℕ) (ended : Bool) → OwesAtEnd check f bytes ended text → OwesAtEnd check f bytes ended other → text ≡ other }
     ensures robust { (f : Formula) (bytes text other : List ℕ) (ended : Bool) → OwesAtEnd robust f bytes ended text → OwesAtEnd robust f bytes ended other → text ≡ other }
+    ensures table { (f : Formula) (bytes text other : List ℕ) (ended : Bool) → OwesAtEnd table f bytes ended text → OwesAtEnd table f bytes ended other → text ≡ other }
 {}
 
 /// What a stream is owed only grows: the text for bytes that go on is the front of the text for these bytes and more, which the input may

@@ -1,0 +1,21 @@
+//! Laws of the lines that a stream of verdicts writes. Each is the contract of a call that does nothing, so that the gate proves it.
+ghost use Rattle.std.specs.Prelude.{ℕ, List, [], true, false};
+ghost use Rattle.stl_syntax.specs.Formula.{Formula, Subformula};
+ghost use Rattle.stl_syntax.specs.Trace.{Header, Row};
+ghost use Rattle.stl_syntax.specs.Stream.{IsStreamText};
+ghost use Rattle.workbench.specs.Requests.{verdicts};
+ghost use Rattle.workbench.specs.Settled.{IsAnsweredByRow};
+ghost use Rattle.workbench.specs.SureLines.{AreSureByRow, AreSureToEnd, IsWatchText};
+
+/// Each line of a verdict is the truth, at each time of its span, in every trace that goes on from the rows up to the one at which the line was
+/// due; those at the end are so in the trace of all rows.
+pub fn each_line_is_the_truth()
+    ensures by_row { (p : Subformula) (header : Header) (rows : List Row) (text : List ℕ) → IsStreamText p header rows false text → AreSureByRow p header [] rows text }
+    ensures to_end { (p : Subformula) (header : Header) (rows : List Row) (text : List ℕ) → IsStreamText p header rows true text → AreSureToEnd p header rows text }
+{}
+
+/// What a stream of verdicts wrote in the end covers the trace without gap or overlap, and tells at each time what `check` tells; its last
+/// line tells the truth at the start.
+pub fn the_lines_cover_the_trace()
+    ensures { (f : Formula) (bytes text : List ℕ) (status : ℕ) → IsAnsweredByRow verdicts f bytes status text → IsWatchText f bytes text }
+{}
