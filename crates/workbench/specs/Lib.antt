@@ -22,9 +22,6 @@ pub mod Measured
 pub mod Following
 pub mod Reasons
 pub mod Accounts
-<<<<<<< HEAD
 pub mod Watching
 pub mod Watches
-=======
 pub mod SureLines
->>>>>>> main
