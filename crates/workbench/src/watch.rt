@@ -92,6 +92,16 @@ fn fault_of(stop: Stop) -> WatchFault
     }
 }
 
+/// Stops a watch, and answers the fault that the reason is.
+fn stopped(phase: &mut Phase, stop: Stop) -> WatchFault
+    requires { (x : Reason) × IsFaultOf stop x }
+    ensures fault { IsFaultOf stop result }
+    ensures now { phase.new ≡ Phase.Stopped }
+{
+    *phase = Phase::Stopped;
+    fault_of(stop)
+}
+
 /// Refuses a call after a fault, and after the end.
 fn allow(phase: Phase) -> Result<(), WatchFault>
     ensures { IsOpen phase result }
@@ -151,10 +161,7 @@ impl Watch {
         let fed = self.live.feed(piece);
         match self.live.tell(fed, out) {
             Ok(()) => Ok(()),
-            Err(stop) => {
-                self.phase = Phase::Stopped;
-                Err(fault_of(stop))
-            }
+            Err(stop) => Err(stopped(&mut self.phase, stop)),
         }
     }
 
@@ -178,10 +185,7 @@ impl Watch {
                 self.phase = Phase::Ended;
                 Ok(holds)
             }
-            Err(stop) => {
-                self.phase = Phase::Stopped;
-                Err(fault_of(stop))
-            }
+            Err(stop) => Err(stopped(&mut self.phase, stop)),
         }
     }
 
