@@ -196,7 +196,7 @@ fn a_watch_that_stopped_stays_so(rt: HostRuntime) -> Result<(), Fail> {
         kind: TraceKind::TimeNotRising,
     };
     assert!(rt; faulty.push(b"time,x\n1,0\n1,1\n", &mut out) == Err(WatchFault::Trace(refusal)));
-    assert!(rt; out.written() == b"[1,1] false\n");
+    assert!(rt; out.written() == b"[1,1] false\n".as_slice());
     assert!(rt; faulty.push(b"2,1\n", &mut out) == Err(WatchFault::Stopped));
     assert!(rt; faulty.end(&mut out) == Err(WatchFault::Stopped));
     let mut lacking = watch(&rt, alloc, "x >= 1 and z >= 0");
