@@ -382,7 +382,7 @@ covered p header rows text (are, (during, rest, line, t, at_end, first, is)) =
       c.verdicts ++ l.verdicts,
       record {
         cover = record {
-          tiles = as_tiles (led_append (first_time rows) None (Front p rows) (Some (pos (last_time 0 rows))) c.verdicts l.verdicts c.led led);
+          tiles = as_tiles (c.verdicts ++ l.verdicts) (led_append (first_time rows) None (Front p rows) (Some (pos (last_time 0 rows))) c.verdicts l.verdicts c.led led);
           told = told_append p tr c.verdicts l.verdicts c.told (l.told tr (λ f e t a b. (λ x. x, λ x. x)));
         };
         body = during ++ rest;
@@ -403,9 +403,9 @@ covered p header rows text (are, (during, rest, line, t, at_end, first, is)) =
     by_end None e = tt
     by_end (Some f) e = let i = (answered_is (first_time rows) p (last_time 0 rows) f e).is in omega (arith, ints)
 
-    as_tiles : {vs : List Verdict} → Led (first_time rows) None vs (Some (pos (last_time 0 rows)))
+    as_tiles : (vs : List Verdict) → Led (first_time rows) None vs (Some (pos (last_time 0 rows)))
         → AreTiles (begins (closed (whole (pos (first_time rows))) (whole (pos (last_time 0 rows))))) vs (ends (closed (whole (pos (first_time rows))) (whole (pos (last_time 0 rows)))))
-    as_tiles h = h
+    as_tiles vs h = h
 
 -- ---- what `check` tells
 
@@ -414,14 +414,14 @@ told_at p tr [] i v a e = absurd (let k = e in cc)
 told_at p tr (w ∷ vs) zero v a e = let same : w ≡ v = (let k = e in cc) in subst (λ (x : Verdict). IsTold p tr x) same a.0
 told_at p tr (w ∷ vs) (suc i) v a e = told_at p tr vs i v a.1 e
 
-one_truth : {P : Type 0} (a b : Bool) → MatchBool a P (¬ P) → MatchBool b P (¬ P) → a ≡ b
-one_truth true true x y = refl
-one_truth true false x y = absurd (y x)
-one_truth false true x y = absurd (x y)
-one_truth false false x y = refl
+one_truth : (P : Type 0) (a b : Bool) → MatchBool a P (¬ P) → MatchBool b P (¬ P) → a ≡ b
+one_truth P true true x y = refl
+one_truth P true false x y = absurd (y x)
+one_truth P false true x y = absurd (x y)
+one_truth P false false x y = refl
 
 tell_alike : (p : Subformula) (tr : Trace) (vs ws : List Verdict) → AreTold p tr vs → AreTold p tr ws → TellAlike vs ws
-tell_alike p tr vs ws a b i j v w t e f x y = one_truth v.holds w.holds ((told_at p tr vs i v a e).truth t x) ((told_at p tr ws j w b f).truth t y)
+tell_alike p tr vs ws a b i j v w t e f x y = one_truth (Truth p tr t) v.holds w.holds ((told_at p tr vs i v a e).truth t x) ((told_at p tr ws j w b f).truth t y)
 
 -- the law of what is written in the end
 pub watch_text : (f : Formula) (bytes : List ℕ) (status : ℕ) (text : List ℕ) → IsAnsweredByRow verdicts f bytes status text → IsWatchText f bytes text
