@@ -2,7 +2,7 @@
 ghost use Rattle.std.specs.Prelude.{◌≡◌, ◌++◌, ℕ, List, length, true, false, IfOk};
 ghost use Rattle.stl_syntax.specs.Trace.{Header};
 ghost use Rattle.stl_syntax.specs.Texts.{IsVerdictLine};
-ghost use Rattle.online_nodes.specs.Network.{Event};
+ghost use Rattle.online_nodes.specs.Network.{Event, is_atom as is_leaf};
 ghost use Rattle.online_nodes.specs.Driven.{steps_of};
 ghost use Rattle.online_net.specs.Nets.{Stands};
 ghost use Rattle.report.specs.Appended.{Grew};
@@ -26,6 +26,13 @@ pub(crate) struct Verdicts {
     start: Option<bool>,
 }
 
+/// Whether a node is an atom, which moves with the rows.
+fn is_atom(node: &Node) -> bool
+    ensures { result ≡ is_leaf node.now }
+{
+    matches!(node, Node::Atom(_))
+}
+
 impl Verdicts {
     /// A step of every node that is no atom, in rising order.
     ///
@@ -39,12 +46,12 @@ impl Verdicts {
         ensures start { self.new.start ≡ self.old.start }
     {
         for node in 0..self.formula.len() {
-            if let Node::Atom(_) = self.formula.node(node) {
+            if is_atom(self.formula.node(node)) {
                 continue;
             }
-            if let Err(_) = self.net.step(node) {
+            let Ok(_) = self.net.step(node) else {
                 return Err(Memory);
-            }
+            };
         }
         Ok(())
     }
@@ -103,17 +110,17 @@ impl Follow for Verdicts {
     }
 
     fn row(&mut self, row: &Row, text: &mut Text) -> Result<(), Memory> {
-        if let Err(_) = self.net.feed(row) {
+        let Ok(()) = self.net.feed(row) else {
             return Err(Memory);
-        }
+        };
         self.step_all()?;
         self.take_all(text)
     }
 
     fn end(&mut self, text: &mut Text) -> Result<bool, Memory> {
-        if let Err(_) = self.net.close() {
+        let Ok(()) = self.net.close() else {
             return Err(Memory);
-        }
+        };
         self.step_all()?;
         self.take_all(text)?;
         let Some(holds) = self.start else {
