@@ -34,7 +34,8 @@ use Rattle.std.proofs.Common.{
   Some,
   None,
 }
-use Rattle.std.specs.Prelude.{◌≢◌, cond, slice_get}
+use Rattle.std.specs.Prelude.{◌≢◌, ◌↔◌, IsTrue, cond, slice_get, slice_index_or}
+use Rattle.std.proofs.lemmas.Bool.{false≢true}
 use Rattle.std.proofs.lemmas.List.{take_more, drop-take, drop-append-le, length-take-le}
 use Rattle.std.proofs.lemmas.Option.{slice_get_within, slice_get_cases, get_or_from_slice_get}
 use Rattle.stl_syntax.specs.Formula.{Formula}
@@ -45,13 +46,13 @@ use Rattle.stl_syntax.specs.declared.items.Verdict.{Verdict}
 use Rattle.stl_syntax.specs.declared.node.Node.{Node}
 use Rattle.stl_syntax.specs.declared.node.Node.TheVariants.{Const}
 use Rattle.stl_syntax.specs.declared.scale.Scale.{Scale}
-use Rattle.online_nodes.specs.Network.{Event, step, take as taken, is_atom, node_is_atom, Emitted}
+use Rattle.online_nodes.specs.Network.{Event, step, take as taken, node_is_atom, state, IsReady, Emitted}
 use Rattle.online_nodes.specs.Needed.{IsTaken, next as next_taken}
 use Rattle.online_nodes.specs.Driven.{steps_of, takes}
 use Rattle.online_nodes.specs.Held.{held_at}
 use Rattle.online_nodes.proofs.EmittedLaw.{taken_within}
 use Rattle.online_nodes.proofs.FrameLaw.{no_more_by_take}
-use Rattle.online_net.specs.Nets.{Parts, Stands, IsNext}
+use Rattle.online_net.specs.Nets.{Parts, Stands, IsNext, IsStepped}
 use Rattle.report.specs.Appended.{Grew}
 use Rattle.workbench.specs.Watching.{first_truth, kept_truth, Pass, CanTake, HasTaken}
 use Rattle.workbench.specs.declared.verdicts.Verdicts.{Verdicts}
@@ -232,24 +233,44 @@ module _ (p : Pass) (given : Emitted p.nodes p.header p.events (length p.nodes -
 
 -- ---- steps
 
--- an atom adds no step
-pub no_step : (nodes : List Node) (header : Header) (i : ℕ) (n : Node) → slice_get nodes i ≡ Some n → is_atom n ≡ true
-    → steps_of 0 (take (i + 1) nodes) ≡ steps_of 0 (take i nodes)
-no_step nodes header i n at leaf =
-    ap (steps_of 0) (take_on nodes i n at) ∙ steps_append nodes header 0 (take i nodes) (n ∷ [])
-    ∙ ap (λ t. steps_of 0 (take i nodes) ++ cond t [] (step (0 + length (take i nodes)) ∷ [])) leaf ∙ append-nil (steps_of 0 (take i nodes))
+module _ (nodes : List Node) (header : Header) where
+  -- the steps of one node more
+  steps_more : (i : ℕ) → i < length nodes
+      → steps_of 0 (take (i + 1) nodes) ≡ steps_of 0 (take i nodes) ++ steps_of i (slice_index_or nodes i (Const false) ∷ [])
+  steps_more i within =
+      let size : length (take i nodes) ≡ i = length-take-le i nodes (omega (arith, within)) in
+      let place : 0 + length (take i nodes) ≡ i = omega (arith, size) in
+      ap (steps_of 0) (take_more nodes i (Const false) within)
+      ∙ steps_append nodes header 0 (take i nodes) (slice_index_or nodes i (Const false) ∷ [])
+      ∙ ap (λ k. steps_of 0 (take i nodes) ++ steps_of k (slice_index_or nodes i (Const false) ∷ [])) place
 
--- another node adds one
-pub one_step : (nodes : List Node) (header : Header) (i : ℕ) (n : Node) → slice_get nodes i ≡ Some n → is_atom n ≡ false
-    → steps_of 0 (take (i + 1) nodes) ≡ steps_of 0 (take i nodes) ++ step i ∷ []
-one_step nodes header i n at other =
-    let within : i < length nodes = slice_get_within nodes i n at in
-    let size : length (take i nodes) ≡ i = length-take-le i nodes (omega (arith, within)) in
-    let place : 0 + length (take i nodes) ≡ i = omega (arith, size) in
-    ap (steps_of 0) (take_on nodes i n at) ∙ steps_append nodes header 0 (take i nodes) (n ∷ [])
-    ∙ ap (λ t. steps_of 0 (take i nodes) ++ cond t [] (step (0 + length (take i nodes)) ∷ [])) other
-    ∙ ap (λ k. steps_of 0 (take i nodes) ++ step k ∷ []) place
+  -- an atom does not move
+  atom_stays : (events : List Event) (i : ℕ) (moved : Bool) → node_is_atom nodes i ≡ true → IsTrue moved ↔ IsReady nodes (state nodes events) i
+      → moved ≡ false
+  atom_stays events i false leaf ready = refl
+  atom_stays events i true leaf ready = absurd (false≢true (sym (ready.0 refl).0 ∙ leaf))
 
--- the node at a place is an atom or not, by both names
-pub atom_at : (nodes : List Node) (i : ℕ) (n : Node) (t : Bool) → slice_get nodes i ≡ Some n → is_atom n ≡ t → node_is_atom nodes i ≡ t
-atom_at nodes i n t at e = ap is_atom (get_or_from_slice_get nodes i n (Const false) at) ∙ e
+  -- a step of one node
+  stepped_on : (events : List Event) (i : ℕ) (net net' : Parts) (moved : Bool) → Stands nodes header net events → IsStepped net net' moved
+      → IsTrue moved ↔ IsReady nodes (state nodes events) i
+      → (node_is_atom nodes i ≡ false → Stands nodes header net' (events ++ step i ∷ []))
+      → Stands nodes header net' (events ++ steps_of i (slice_index_or nodes i (Const false) ∷ []))
+  stepped_on events i net net' moved st is ready stands = by_atom (node_is_atom nodes i) refl
+    where
+      by_atom : (t : Bool) → node_is_atom nodes i ≡ t → Stands nodes header net' (events ++ cond (node_is_atom nodes i) [] (step i ∷ []))
+      by_atom true e =
+          subst (λ t. Stands nodes header net' (events ++ cond t [] (step i ∷ []))) (sym e)
+          (subst (λ l. Stands nodes header net' l) (sym (append-nil events))
+          (subst (λ (q : Parts). Stands nodes header q events) (sym (is.unmoved (atom_stays events i moved e ready))) st))
+      by_atom false e = subst (λ t. Stands nodes header net' (events ++ cond t [] (step i ∷ []))) (sym e) (stands e)
+
+  -- the steps of the nodes before one, and its own
+  pub steps_on : (events : List Event) (i : ℕ) (net net' : Parts) (moved : Bool) → i < length nodes
+      → Stands nodes header net (events ++ steps_of 0 (take i nodes)) → IsStepped net net' moved
+      → IsTrue moved ↔ IsReady nodes (state nodes (events ++ steps_of 0 (take i nodes))) i
+      → (node_is_atom nodes i ≡ false → Stands nodes header net' ((events ++ steps_of 0 (take i nodes)) ++ step i ∷ []))
+      → Stands nodes header net' (events ++ steps_of 0 (take (i + 1) nodes))
+  steps_on events i net net' moved within st is ready stands =
+      subst (λ l. Stands nodes header net' l) (append_assoc events (steps_of 0 (take i nodes)) (steps_of i (slice_index_or nodes i (Const false) ∷ []))
+      ∙ ap (λ l. events ++ l) (sym (steps_more i within)))
+      (stepped_on (events ++ steps_of 0 (take i nodes)) i net net' moved st is ready stands)

@@ -70,7 +70,7 @@ some_row width [] are e = are
 some_row width (q ∷ rows) are e = cc
 
 -- a truth tells itself
-tells : (holds : Bool) (A : Type 0) → MatchBool holds A (¬ A) → ((status_of_truth holds ≡ 0) × A) ⊎ ((status_of_truth holds ≡ 1) × (¬ A))
+pub tells : (holds : Bool) (A : Type 0) → MatchBool holds A (¬ A) → ((status_of_truth holds ≡ 0) × A) ⊎ ((status_of_truth holds ≡ 1) × (¬ A))
 tells true A h = inl (refl, h)
 tells false A h = inr (refl, h)
 

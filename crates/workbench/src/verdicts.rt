@@ -2,7 +2,7 @@
 ghost use Rattle.std.specs.Prelude.{◌≡◌, ◌++◌, ℕ, List, length, true, false, IfOk};
 ghost use Rattle.stl_syntax.specs.Trace.{Header};
 ghost use Rattle.stl_syntax.specs.Texts.{IsVerdictLine};
-ghost use Rattle.online_nodes.specs.Network.{Event, is_atom as is_leaf};
+ghost use Rattle.online_nodes.specs.Network.{Event};
 ghost use Rattle.online_nodes.specs.Driven.{steps_of};
 ghost use Rattle.online_net.specs.Nets.{Stands};
 ghost use Rattle.report.specs.Appended.{Grew};
@@ -15,7 +15,7 @@ use frac128::Memory;
 use online_net::Net;
 use report::{put_start, put_verdict};
 use std::alloc::Global;
-use stl_syntax::{Formula, Node, Text, Verdict};
+use stl_syntax::{Formula, Text, Verdict};
 use trace_reader::Row;
 
 /// The network of a formula in the ticks of a trace, and the truth at the start once the first verdict was taken.
@@ -26,15 +26,8 @@ pub(crate) struct Verdicts {
     start: Option<bool>,
 }
 
-/// Whether a node is an atom, which moves with the rows.
-fn is_atom(node: &Node) -> bool
-    ensures { result ≡ is_leaf node.now }
-{
-    matches!(node, Node::Atom(_))
-}
-
 impl Verdicts {
-    /// A step of every node that is no atom, in rising order.
+    /// A step of every node in rising order, children before the nodes that read them. An atom is never ready.
     ///
     /// # Errors
     /// Want of memory.
@@ -46,9 +39,6 @@ impl Verdicts {
         ensures start { self.new.start ≡ self.old.start }
     {
         for node in 0..self.formula.len() {
-            if is_atom(self.formula.node(node)) {
-                continue;
-            }
             let Ok(_) = self.net.step(node) else {
                 return Err(Memory);
             };
