@@ -31,7 +31,7 @@ use Rattle.std.proofs.Math.Seq.{take-append_seam}
 use Rattle.stl_syntax.specs.Formula.{Formula, root}
 use Rattle.stl_syntax.specs.Scaling.{scaled}
 use Rattle.stl_syntax.specs.declared.items.Verdict.{Verdict}
-use Rattle.stl_syntax.specs.Trace.{Row, Trace, IsTrace, AreRows, first_time, last_time, start}
+use Rattle.stl_syntax.specs.Trace.{Header, Row, Trace, IsTrace, AreRows, first_time, last_time, start}
 use Rattle.stl_syntax.specs.Truth.{Truth}
 use Rattle.stl_syntax.specs.PostOrder.{IsPostOrder}
 use Rattle.stl_syntax.specs.Texts.{AreVerdictLines, start_line}
@@ -103,6 +103,15 @@ module _ (v : Verdicts) (c : Case) (w : IsWatched false v c) where
   -- each node has its place among the operators
   pub places : (net : Parts) (events : List Event) → Stands c.formula.nodes c.trace.header net events → length net.operators ≡ length v.formula.nodes
   places net events st = st.holds.operators ∙ ap (λ (f : Formula). length f.nodes) (sym w.formula)
+
+  -- the network after an event and the steps
+  pub steps_stand : (e : Event) (fed mid : Parts) → Stands c.formula.nodes c.trace.header fed (w.events ++ e ∷ [])
+      → ((header : Header) (events : List Event) → Stands v.formula.nodes header fed events
+      → Stands v.formula.nodes header mid (events ++ steps_of 0 v.formula.nodes))
+      → Stands c.formula.nodes c.trace.header mid ((w.events ++ e ∷ []) ++ steps_of 0 c.formula.nodes)
+  steps_stand e fed mid st step =
+      subst (λ (f : Formula). Stands f.nodes c.trace.header mid ((w.events ++ e ∷ []) ++ steps_of 0 f.nodes)) w.formula
+      (step c.trace.header (w.events ++ e ∷ []) (subst (λ (f : Formula). Stands f.nodes c.trace.header fed (w.events ++ e ∷ [])) (sym w.formula) st))
 
   -- what the root gives out at an event and the steps
   pub passing : (e : Event) (net : Parts) → e ≢ taken → Stands c.formula.nodes c.trace.header net ((w.events ++ e ∷ []) ++ steps_of 0 c.formula.nodes)
