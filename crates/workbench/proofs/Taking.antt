@@ -137,7 +137,6 @@ module _ (nodes : List Node) (header : Header) where
       → Stands nodes header net' (events ++ taken ∷ [])
       → length (held_at net'.edges (length nodes - 1)) < length (held_at net.edges (length nodes - 1))
   held_falls events net net' v s next s' =
-      let k : ℕ = length nodes - 1 in
       let r = s.shows.root in
       let r' = s'.shows.root in
       let same : r.taken ≡ next.taken = taken_once nodes header next.taken r.is_taken next.is_taken in
@@ -175,7 +174,8 @@ module _ (p : Pass) (given : Emitted p.nodes p.header p.events (length p.nodes -
       record {
         within = omega (arith, few);
         stands = subst (λ l. Stands p.nodes p.header v.net l) (sym (append-nil p.events)) can.stands;
-        taken = subst (λ l. IsTaken p.nodes p.header l (p.taken + 0)) (sym (append-nil p.events)) (subst (λ k. IsTaken p.nodes p.header p.events k) same can.taken);
+        taken = subst (λ l. IsTaken p.nodes p.header l (p.taken + 0)) (sym (append-nil p.events))
+            (subst (λ k. IsTaken p.nodes p.header p.events k) same can.taken);
         start = can.start ∙ ap (λ k. first_truth (take k p.given)) same;
         lines = ([], refl, sym (append-nil text));
       }

@@ -92,7 +92,7 @@ use Rattle.online_net.specs.Nets.{Stands}
 use Rattle.report.specs.Appended.{Grew}
 use Rattle.workbench.specs.Watching.{first_truth, Pass, HasTaken, HasTakenAll}
 use Rattle.workbench.specs.declared.verdicts.Verdicts.{Verdicts}
-use Rattle.workbench.proofs.Passes.{state_after, Parted, parted, rows_stay, emitted_alike, alike_length, Gives, PassGives, LeavesRoot, pass_gives, text_of_given}
+use Rattle.workbench.proofs.Passes.{state_after, parted, rows_stay, emitted_alike, alike_length, Gives, LeavesRoot, pass_gives, text_of_given}
 use Rattle.workbench.proofs.Taking.{first_alike, emitted_takes}
 
 -- events that are no take
@@ -152,7 +152,6 @@ module _ (nodes : List Node) (header : Header) where
   pub after_pass : (events : List Event) (e : Event) (n : ℕ)
       → state_from nodes initial (events ++ pass_of e nodes n) ≡ state_from nodes (state_from nodes initial events) (e ∷ steps_of 0 nodes)
   after_pass events e n =
-      let s : State = state_from nodes initial events in
       state_after nodes header initial events (pass_of e nodes n)
       ∙ state_after nodes header (after_event nodes (state_from nodes initial events) e) (steps_of 0 nodes) (takes n)
       ∙ takes_keep (state_from nodes (after_event nodes (state_from nodes initial events) e) (steps_of 0 nodes)) n
@@ -167,7 +166,6 @@ module _ (nodes : List Node) (header : Header) where
   driven_at nothing = record { rows_are = refl; closed_is = refl }
   driven_at (by_row {rows = rows} {events = events} r n before emptied) =
       let at = driven_at before in
-      let s : State = state_from nodes initial events in
       subst (λ (z : State). IsAfter (rows ++ r ∷ []) false z) (sym (after_pass events (row r) n)) (record {
         rows_are = sym (rows_stay nodes header 0 nodes (after_event nodes (state_from nodes initial events) (row r))) ∙ ap (λ l. l ++ r ∷ []) at.rows_are;
         closed_is = sym (ends_stay 0 nodes (after_event nodes (state_from nodes initial events) (row r))) ∙ at.closed_is;
@@ -362,10 +360,10 @@ module _ (nodes : List Node) (header : Header) (order : IsPostOrder nodes) (some
       by_rows : (l : List Row) → rows ≡ l
           → shown (state_from nodes initial events) (length nodes - 1) ≡ shown (after_event nodes (state_from nodes initial events) (row r)) (length nodes - 1)
       by_rows [] e =
-          subst (λ es. shown (state_from nodes initial es) (length nodes - 1) ≡ shown (after_event nodes (state_from nodes initial es) (row r)) (length nodes - 1))
+          subst (λ es. shown (state_from nodes initial es) (length nodes - 1)
+          ≡ shown (after_event nodes (state_from nodes initial es) (row r)) (length nodes - 1))
           (sym (none_driven nodes header d e)) (subst (λ t. None ≡ show r.time (cond t (Some (pos r.time)) None)) (sym not_atom) refl)
       by_rows (q ∷ l) e =
-          let s : State = state_from nodes initial events in
           let rows_are : (state_from nodes initial events).rows ≡ q ∷ l = (driven_at nodes header d).rows_are ∙ e in
           let same : first_time ((state_from nodes initial events).rows ++ r ∷ []) ≡ first_time (state_from nodes initial events).rows =
           subst (λ rs. first_time (rs ++ r ∷ []) ≡ first_time rs) (sym rows_are) refl in

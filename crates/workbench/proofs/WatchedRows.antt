@@ -69,6 +69,10 @@ some_row : (width : ℕ) (rows : List Row) → AreRows width rows → rows ≢ [
 some_row width [] are e = are
 some_row width (q ∷ rows) are e = cc
 
+-- the answer is the formula's truth at the start
+abbrev TellsStart : Formula → Trace → Bool → Type 0
+TellsStart f tr holds = MatchBool holds (Truth (root f.nodes) tr (start tr)) (¬ Truth (root f.nodes) tr (start tr))
+
 -- a truth tells itself
 pub tells : (holds : Bool) (A : Type 0) → MatchBool holds A (¬ A) → ((status_of_truth holds ≡ 0) × A) ⊎ ((status_of_truth holds ≡ 1) × (¬ A))
 tells true A h = inl (refl, h)
@@ -181,7 +185,8 @@ module _ (v : Verdicts) (c : Case) (w : IsWatched false v c) where
       record {
         passed = p;
         driven = driven;
-        truth = start_truth c.formula.nodes c.trace.header order some_node (x.first ++ x.beyond) p.stands.run driven any (first_to_last c.trace t) t p.is_emitted;
+        truth = start_truth c.formula.nodes c.trace.header order some_node (x.first ++ x.beyond) p.stands.run driven any
+            (first_to_last c.trace t) t p.is_emitted;
       }
 
   pub start_kept : (x : Passing c.formula.nodes c.trace.header w.events close w.emitted) (after : Verdicts) (old mid : List ℕ) → IsOut x after old mid
@@ -198,8 +203,7 @@ module _ (v : Verdicts) (c : Case) (w : IsWatched false v c) where
       let any : c.trace.rows ≢ [] = some_row (length c.trace.header.columns) c.trace.rows t.rows in
       let (grown, lines, longer) = p.lines in
       let one : o.truth.holds ≡ holds = (let h : Some o.truth.holds ≡ Some holds = sym o.truth.first ∙ sym p.start ∙ kept in cc) in
-      let truth : MatchBool holds (Truth (root c.formula.nodes) c.trace (start c.trace)) (¬ Truth (root c.formula.nodes) c.trace (start c.trace)) =
-      subst (λ b. MatchBool b (Truth (root c.formula.nodes) c.trace (start c.trace)) (¬ Truth (root c.formula.nodes) c.trace (start c.trace))) one o.truth.truth in (
+      let truth : TellsStart c.formula c.trace holds = subst (λ b. TellsStart c.formula c.trace b) one o.truth.truth in (
         grown ++ start_line holds,
         end_path old mid new grown (start_line holds) longer line,
         record {
@@ -227,6 +231,6 @@ module _ (v : Verdicts) (c : Case) (w : IsWatched false v c) where
           );
           verdict = λ g case.
               tells holds (Truth (root (scaled g c.trace.header.scale).nodes) c.trace (start c.trace))
-              (subst (λ (h : Formula). MatchBool holds (Truth (root h.nodes) c.trace (start c.trace)) (¬ Truth (root h.nodes) c.trace (start c.trace))) case.formula truth);
+              (subst (λ (h : Formula). TellsStart h c.trace holds) case.formula truth);
         },
       )

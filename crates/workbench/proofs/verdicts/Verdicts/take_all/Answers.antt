@@ -42,8 +42,8 @@ returns-clause-taken c = λ p can.
     let (n, h) = c.loop-verdict.invariant.taken p can in
     let same = c.take.ensures.unchanged c.in_default.is in (
       n,
-      subst (λ (q : Parts). HasTaken p n (record { net = q; formula = c.loop-verdict.self.formula; start = c.loop-verdict.self.start }) c.args.text.now c.loop-verdict.text)
-          (sym same) h,
+      subst (λ (q : Parts). HasTaken p n (record { net = q; formula = c.loop-verdict.self.formula; start = c.loop-verdict.self.start })
+          c.args.text.now c.loop-verdict.text) (sym same) h,
       all_taken p can.given n c.loop-verdict.self c.args.text.now c.loop-verdict.text h
           (subst (λ o. IsNext p.nodes p.header (p.events ++ takes n) o) c.in_default.is
           (c.take.ensures.next p.nodes p.header (p.events ++ takes n) h.stands)),

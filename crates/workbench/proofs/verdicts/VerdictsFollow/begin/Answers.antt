@@ -22,5 +22,6 @@ returns c =
         start = refl;
       };
       fits = (f, is);
-      told = subst (λ rows. IsRowsText (IsNewText (root case.formula.nodes)) (root case.formula.nodes) case.trace.header [] None rows []) (sym c.requires.none) refl;
+      told = subst (λ rows. IsRowsText (IsNewText (root case.formula.nodes)) (root case.formula.nodes) case.trace.header [] None rows [])
+          (sym c.requires.none) refl;
     }
