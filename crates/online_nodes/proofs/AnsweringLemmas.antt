@@ -1,53 +1,18 @@
 -- What the body of a node did, whatever its kind.
-use Rattle.std.proofs.Common.{
-  ◌≡◌,
-  ◌≢◌,
-  ◌⊎◌,
-  inl,
-  inr,
-  refl,
-  sym,
-  ap,
-  subst,
-  ◌∙◌,
-  ℕ,
-  ◌+◌,
-  ◌*◌,
-  ℤ,
-  pos,
-  ◌+ℤ◌,
-  get_or,
-  ◌<◌,
-  ◌≤◌,
-  Bool,
-  true,
-  false,
-  not,
-  Option,
-  Some,
-  None,
-  List,
-  ◌++◌,
-  length,
-  arith,
-  append_assoc,
-  length-append,
-}
+use Rattle.std.proofs.Common.{◌≡◌, ◌≢◌, ◌⊎◌, inl, inr, refl, sym, ap, subst, ◌∙◌, ℕ, ◌+◌, ◌*◌, ℤ, pos, ◌+ℤ◌, get_or, ◌<◌, ◌≤◌, Bool, true, false, not, Option, Some, None, List, ◌++◌, length, arith, length-append}
 use Rattle.std.specs.Prelude.{cond, int_lt}
 use Rattle.stl_syntax.specs.declared.items.Verdict.{Verdict}
-use Rattle.online_nodes.specs.Cuts.{place, Upto, AtMost}
 use Rattle.std.proofs.lemmas.Int.{ints}
 use Rattle.std.proofs.lemmas.List.{get_or-set_other, length-set}
-use Rattle.online_nodes.specs.Held.{Held, Edge, no_edge, edge_at, fresh_at, held_of, held_at, with_edge, with_more, IsDroppedBy}
-use Rattle.online_nodes.specs.Written.{HasAnswer, HasFinished, HasGot, IsSound, waiting}
+use Rattle.online_nodes.specs.Held.{Held, Edge, no_edge, edge_at, fresh_at, held_at, with_edge, with_more, IsDroppedBy}
+use Rattle.online_nodes.specs.Written.{HasFinished, HasGot, IsSound, waiting}
 use Rattle.online_nodes.specs.Working.{HasWorked, IsReadOn}
 use Rattle.online_nodes.specs.Kinds.{held_in, inputs_of, IsNear}
-use Rattle.online_nodes.specs.Answering.{back_by, is_empty, looks_by, CanAnswer, HasAnswered, HasBody, HasReleased, HasReleasedTwo, HasSweptAll, HasToldAll, HasWorkedOn, IsInput, IsSide}
+use Rattle.online_nodes.specs.Answering.{back_by, is_empty, looks_by, CanAnswer, HasBody, HasReleased, HasReleasedTwo, HasSweptAll, HasToldAll, HasWorkedOn, IsInput, IsSide}
 use Rattle.online_nodes.specs.declared.answering.Outcome.{Outcome}
 use Rattle.online_nodes.specs.declared.answering.Marks.{Marks}
 use Rattle.online_nodes.specs.declared.kind.Kind.{Kind}
 use Rattle.online_nodes.specs.declared.kind.Kind.TheVariants.{Const, Not, Join, Ahead, Behind, Until, Since}
-use Rattle.online_nodes.specs.declared.cut.Cut.{Cut}
 use Rattle.online_nodes.specs.declared.window.Window.{Window}
 use Rattle.online_nodes.specs.declared.writer.Out.{Out}
 use Rattle.online_nodes.proofs.GotLemmas.{got-here, got-length, got-other, with_more-both}
@@ -62,7 +27,7 @@ pub record HasCarried (kind : Kind) (old mid : Held) (out : Out) (told : Outcome
   pub sound : IsSound told.out
 
 -- not all that an edge holds need be fresh
-fresh_few : (e : Held) (j : ℕ) → length (fresh_at e j) ≤ length (held_at e j)
+pub fresh_few : (e : Held) (j : ℕ) → length (fresh_at e j) ≤ length (held_at e j)
 fresh_few e j = omega (arith, length-append (edge_at e j).seen (edge_at e j).fresh)
 
 told_all : (kind : Kind) (holds : Bool) (old mid : Held) (out : Out) (marks : Marks) (told : Outcome) → out.edge < length old.edges
@@ -84,7 +49,7 @@ told_all kind holds old mid out marks told own apart none g =
     }
 
 -- one input, or two
-worked_one : (kind : Kind) (j : ℕ) (old mid : Held) (own : ℕ) (more : List Verdict) → ((k : ℕ) → IsInput kind k → j ≡ k)
+pub worked_one : (kind : Kind) (j : ℕ) (old mid : Held) (own : ℕ) (more : List Verdict) → ((k : ℕ) → IsInput kind k → j ≡ k)
     → ((k : ℕ) → j ≡ k → IsInput kind k) → HasWorked old mid own j j more → HasWorkedOn kind old mid own more
 worked_one kind j old mid own more only is g =
     record {
@@ -96,7 +61,7 @@ worked_one kind j old mid own more only is g =
       spare = g.spare;
     }
 
-worked_two : (kind : Kind) (left right : ℕ) (old mid : Held) (own : ℕ) (more : List Verdict)
+pub worked_two : (kind : Kind) (left right : ℕ) (old mid : Held) (own : ℕ) (more : List Verdict)
     → ((k : ℕ) → IsInput kind k → (left ≡ k) ⊎ (right ≡ k)) → ((k : ℕ) → (left ≡ k) ⊎ (right ≡ k) → IsInput kind k)
     → HasWorked old mid own left right more → HasWorkedOn kind old mid own more
 worked_two kind left right old mid own more only is g =

@@ -1,50 +1,15 @@
 -- What an operator that belongs to its edges may rely on: its inputs, their numbers, and its own allowed number.
-use Rattle.std.proofs.Common.{
-  ◌≡◌,
-  refl,
-  sym,
-  ap,
-  subst,
-  ◌∙◌,
-  inl,
-  inr,
-  ℕ,
-  zero,
-  suc,
-  ◌+◌,
-  ◌<◌,
-  ◌≤◌,
-  Bool,
-  true,
-  false,
-  not,
-  Option,
-  Some,
-  None,
-  List,
-  [],
-  ◌∷◌,
-  length,
-  ℤ,
-  pos,
-  neg_ℤ,
-  negsuc,
-  ◌+ℤ◌,
-  ◌≤ℤ◌,
-  ◌<ℤ◌,
-  All,
-  arith,
-}
+use Rattle.std.proofs.Common.{◌≡◌, refl, sym, ap, subst, ◌∙◌, ℕ, ◌+◌, ◌<◌, ◌≤◌, Bool, true, false, not, Option, Some, None, List, [], ◌∷◌, length, ℤ, pos, neg_ℤ, ◌+ℤ◌, ◌≤ℤ◌, ◌<ℤ◌, arith}
 use Rattle.rational.specs.Rational.{whole}
-use Rattle.std.specs.Prelude.{◌*◌, ◌-◌, ◌^◌, min, int_lt, cond, ◌&&◌, ◌==◌, ◌↔◌, IsTrue, slice_index_or, slice_get, IfSome, option_map}
+use Rattle.std.specs.Prelude.{◌*◌, ◌-◌, ◌^◌, min, int_lt, ◌&&◌, ◌↔◌, IsTrue, slice_index_or, slice_get, IfSome, option_map}
 use Rattle.std.proofs.lemmas.Int.{ints}
 use Rattle.std.proofs.lemmas.Option.{slice_get_within, get_or_from_slice_get}
 use Rattle.std.proofs.lemmas.List.Sums.{get_or-le-sum_by}
-use Rattle.stl_syntax.specs.Trace.{Header, Trace, first_time}
+use Rattle.stl_syntax.specs.Trace.{Header, first_time}
 use Rattle.stl_syntax.specs.Formula.{subformula, horizon, HasChildrenBelow}
 use Rattle.stl_syntax.specs.Limits.{own_reach, reach}
-use Rattle.stl_syntax.specs.PostOrder.{IsPostOrder, children}
-use Rattle.stl_syntax.specs.WellFormed.{AreWellFormed, HasBounds, HasOneRoot}
+use Rattle.stl_syntax.specs.PostOrder.{children}
+use Rattle.stl_syntax.specs.WellFormed.{HasBounds}
 use Rattle.stl_syntax.proofs.HorizonLemmas.{horizon_within}
 use Rattle.stl_syntax.proofs.PostOrderLemmas.{placed}
 use Rattle.stl_syntax.specs.declared.node.Node.{Node}
@@ -62,35 +27,16 @@ use Rattle.stl_syntax.specs.declared.node.Node.TheVariants.{
   Once,
   Historically,
 }
-use Rattle.online_nodes.specs.Network.{
-  Event,
-  Front,
-  State,
-  least,
-  moved_by,
-  last_row,
-  open_number,
-  allowed,
-  allowed_at,
-  all_at_end,
-  is_atom,
-  node_is_atom,
-  same_front,
-  shown,
-  state,
-  state_from,
-  initial,
-  IsReady,
-}
+use Rattle.online_nodes.specs.Network.{Event, Front, State, last_row, open_number, allowed, allowed_at, all_at_end, is_atom, node_is_atom, same_front, state, initial, IsReady}
 use Rattle.online_nodes.specs.Needed.{IsReader}
 use Rattle.online_nodes.specs.Cuts.{place}
 use Rattle.online_nodes.specs.Held.{Held, edge_at, number_at}
 use Rattle.online_nodes.specs.Kinds.{inputs_of, AreInputs, AreNear, HasNear, IsNear, all_stand_at, open_by, allowed_by, held_in}
-use Rattle.online_nodes.specs.Operators.{kind_of, upper, KnowsBy}
+use Rattle.online_nodes.specs.Operators.{kind_of, KnowsBy}
 use Rattle.online_nodes.specs.Belonging.{Belongs, StandsForSteps, held_by_inputs, is_ready, room_of_step, trace_of}
 use Rattle.online_nodes.specs.declared.operator.Operator.{Operator}
-use Rattle.online_nodes.proofs.LowLaw.{AllFrom, IsFrom, within_start}
-use Rattle.online_nodes.proofs.RunLaw.{int_order, some_is, none_is_none, within_horizon}
+use Rattle.online_nodes.proofs.LowLaw.{within_start}
+use Rattle.online_nodes.proofs.RunLaw.{int_order, some_is, within_horizon}
 
 -- the inputs of a node are its children, which stand below it
 pub inputs_below : (n : Node) (i m : ℕ) → HasChildrenBelow i n → i < m → AreInputs (kind_of n) m
@@ -301,10 +247,10 @@ module _ {nodes : List Node} {header : Header} {events : List Event} {op : Opera
           let top : f ≤ℤ pos now = subst (λ z. f ≤ℤ z) last high.by_now in
           near_of f (horizon (subformula nodes p)) (first_time (state nodes events).rows) now low top (omega (arith, far, most)) small
 
-  own_bounds : HasBounds b.stands.node
+  pub own_bounds : HasBounds b.stands.node
   own_bounds = subst HasBounds node_is (b.formed.bounds op.node (Const false) own_within)
 
-  own_reach_small : own_reach b.stands.node ≤ 4294967295
+  pub own_reach_small : own_reach b.stands.node ≤ 4294967295
   own_reach_small =
       let part : own_reach (slice_index_or nodes op.node (Const false)) ≤ reach nodes = get_or-le-sum_by own_reach nodes op.node (Const false) own_within in
       let most = b.formed.reach in

@@ -31,11 +31,10 @@ use Rattle.std.proofs.Common.{
 use Rattle.std.specs.Prelude.{int_lt, cond, slice_get, IfSome}
 use Rattle.std.proofs.lemmas.Int.{ints}
 use Rattle.std.proofs.lemmas.List.{append-nil}
-use Rattle.rational.specs.Rational.{Rational, ◌≤ʳ◌, whole}
-use Rattle.rational.specs.Time.{Interval, left_open, closed as closed_at}
-use Rattle.stl_syntax.specs.Trace.{Header, Row, Trace, AreRows, AreRowsAfter, IsTrace, Continues, first_time, last_time}
+use Rattle.rational.specs.Rational.{Rational, whole}
+use Rattle.rational.specs.Time.{left_open, closed as closed_at}
+use Rattle.stl_syntax.specs.Trace.{Header, Row, AreRows, AreRowsAfter, IsTrace, Continues, first_time, last_time}
 use Rattle.stl_syntax.specs.Formula.{subformula}
-use Rattle.stl_syntax.specs.PostOrder.{IsPostOrder}
 use Rattle.stl_syntax.specs.declared.items.Verdict.{Verdict}
 use Rattle.stl_syntax.specs.declared.node.Node.{Node}
 use Rattle.online_nodes.specs.Network.{
@@ -59,14 +58,13 @@ use Rattle.online_nodes.specs.Network.{
   MayCome,
 }
 use Rattle.online_nodes.specs.Needed.{AreMeeting, AreNeeded, IsEdge, IsReader}
-use Rattle.online_nodes.specs.Cuts.{Place, AtMost, Upto}
+use Rattle.online_nodes.specs.Cuts.{Place, AtMost}
 use Rattle.online_nodes.specs.Held.{Held, held_at}
 use Rattle.online_nodes.specs.Laws.{answered_to, beyond, AreTiles, AreTold, IsWhole}
 use Rattle.online_nodes.specs.Operators.{place_of}
 use Rattle.online_nodes.specs.Belonging.{trace_of, Belongs}
 use Rattle.online_nodes.specs.declared.operator.Operator.{Operator}
 use Rattle.online_nodes.proofs.BelongLemmas.{own_within}
-use Rattle.online_nodes.proofs.EdgeLaw.{get_within}
 use Rattle.online_nodes.proofs.EmittedLaw.{emitted_tiles}
 use Rattle.online_nodes.proofs.HeldLaw.{meeting_is_suffix}
 use Rattle.online_nodes.proofs.InputLemmas.{tiles_beyond, told_beyond}

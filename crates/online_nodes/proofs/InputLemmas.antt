@@ -1,64 +1,21 @@
 -- What an operator's input edge holds: a part of what the input gave out, up to its front, that tells its truth.
-use Rattle.std.proofs.Common.{
-  ◌≡◌,
-  ◌⊎◌,
-  inl,
-  inr,
-  refl,
-  sym,
-  ap,
-  subst,
-  ◌∙◌,
-  ℕ,
-  ◌<◌,
-  Bool,
-  true,
-  false,
-  not,
-  Some,
-  None,
-  List,
-  [],
-  ◌∷◌,
-  ◌++◌,
-  ℤ,
-  pos,
-  ◌+ℤ◌,
-  ◌≤ℤ◌,
-  ◌<ℤ◌,
-  arith,
-}
-use Rattle.std.specs.Prelude.{MatchBool, int_lt, cond, slice_get, length, IfSome, drop}
-use Rattle.std.proofs.lemmas.Int.{ints}
-use Rattle.std.proofs.lemmas.List.{append-nil}
-use Rattle.rational.specs.Rational.{Rational, ◌≤ʳ◌, ◌<ʳ◌, whole}
-use Rattle.rational.specs.Time.{Interval, IsIn, Within, left_open, less}
-use Rattle.rational.proofs.Order.{le_refl, le_trans, le_of_lt}
-use Rattle.rational.proofs.Shift.{le_whole}
+use Rattle.std.proofs.Common.{◌≡◌, inl, inr, refl, sym, subst, Bool, true, false, not, List, [], ◌∷◌, ◌++◌}
+use Rattle.std.specs.Prelude.{cond}
+use Rattle.rational.specs.Rational.{Rational}
+use Rattle.rational.specs.Time.{Within, less}
 use Rattle.frac128.specs.Spans.{interval}
 use Rattle.frac128.specs.Value.{value}
-use Rattle.stl_syntax.specs.Trace.{Header, Row, Trace, first_time, last_time, start, stop}
-use Rattle.stl_syntax.specs.Formula.{Subformula, subformula}
+use Rattle.stl_syntax.specs.Trace.{Trace, start, stop}
+use Rattle.stl_syntax.specs.Formula.{Subformula}
 use Rattle.stl_syntax.specs.Truth.{Truth}
-use Rattle.stl_syntax.specs.Verdicts.{IsTold}
 use Rattle.stl_syntax.specs.declared.items.Verdict.{Verdict}
-use Rattle.online_nodes.specs.Cuts.{Place, begins, ends, After, Upto, AtMost, Before, Same}
+use Rattle.online_nodes.specs.Cuts.{Place, begins, ends, After, Upto, AtMost}
 use Rattle.online_nodes.specs.Laws.{AreTiles, AreTold, beyond}
-use Rattle.online_nodes.specs.Needed.{AreMeeting}
 use Rattle.online_nodes.specs.Operators.{first_place}
-use Rattle.online_nodes.specs.Reading.{Truths, Is, AllAre, Tells}
+use Rattle.online_nodes.specs.Reading.{Is, Tells}
 use Rattle.online_nodes.specs.Sweeps.{Counted}
 use Rattle.online_nodes.proofs.HeldLaw.{is_in}
-use Rattle.online_nodes.proofs.PlaceLemmas.{
-  sides,
-  not_both,
-  upto_of_before,
-  upto_same,
-  after_same,
-  same_places,
-  same_trans_places,
-  same_before,
-}
+use Rattle.online_nodes.proofs.PlaceLemmas.{sides, not_both, upto_of_before, upto_same, after_same, same_before}
 use Rattle.online_nodes.proofs.Writing.{same_itself}
 
 -- verdicts that lead on without gap and are told tell the truth

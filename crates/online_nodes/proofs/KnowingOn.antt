@@ -1,8 +1,7 @@
 -- What an operator keeps in mind of its inputs stays so once they are answered further and rows have come.
-use Rattle.std.proofs.Common.{◌≡◌, ◌⊎◌, inl, inr, refl, sym, ap, subst, ◌∙◌, Bool, true, false, not, Some, List}
+use Rattle.std.proofs.Common.{◌≡◌, ◌⊎◌, inl, inr, sym, subst, Bool, true, false, not, Some, List}
 use Rattle.std.specs.Prelude.{MatchBool, slice_get}
 use Rattle.rational.specs.Rational.{Rational, ◌≤ʳ◌, ◌<ʳ◌}
-use Rattle.rational.specs.Time.{Within}
 use Rattle.rational.proofs.Order.{le_trans, le_or_lt, lt_of_le_of_lt, not_lt_of_le}
 use Rattle.frac128.specs.Spans.{interval}
 use Rattle.stl_syntax.specs.Trace.{Trace, start, stop as last}
@@ -10,7 +9,7 @@ use Rattle.stl_syntax.specs.Formula.{Subformula}
 use Rattle.stl_syntax.specs.Truth.{Truth}
 use Rattle.stl_syntax.specs.declared.items.Verdict.{Verdict}
 use Rattle.online_nodes.specs.Cuts.{Place, ends, After, Upto, AtMost, Before, Same}
-use Rattle.online_nodes.specs.Reading.{Truths, Is, AllAre, AllFrom, HoldsFrom, Knows, KnowsUntil, KnowsSince}
+use Rattle.online_nodes.specs.Reading.{Truths, Is, AllFrom, Knows}
 use Rattle.online_nodes.specs.Sweeps.{Counted, low_place, high_place}
 use Rattle.online_nodes.specs.Operators.{IsUntilKnown, IsSinceKnown}
 use Rattle.online_nodes.specs.declared.since.Since.{Since as SinceWindow}

@@ -46,3 +46,19 @@ mod KnowingOn
 pub mod RowsLaw
 mod PlacesOn
 pub mod StandingLaw
+mod AlikeLemmas
+mod TellingLemmas
+mod ReadLemmas
+mod DueLemmas
+mod WorkedLemmas
+mod WindowedLemmas
+mod SweptLemmas
+mod UntilWorked
+mod SinceWorked
+mod BodyLemmas
+mod AbleLemmas
+mod IdleLemmas
+mod DroppedLemmas
+mod ReleasedLemmas
+mod SteppedLemmas
+mod AdvanceLemmas

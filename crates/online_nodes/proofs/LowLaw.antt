@@ -1,30 +1,5 @@
 -- How far the numbers of a run lie below its start: by no more than the node's horizon.
-use Rattle.std.proofs.Common.{
-  ◌≡◌,
-  refl,
-  sym,
-  ap,
-  subst,
-  ◌∙◌,
-  ℕ,
-  ◌<◌,
-  ◌+◌,
-  ◌-◌,
-  max,
-  Bool,
-  true,
-  false,
-  Some,
-  None,
-  List,
-  ℤ,
-  pos,
-  neg_ℤ,
-  ◌+ℤ◌,
-  ◌≤ℤ◌,
-  ◌<ℤ◌,
-  arith,
-}
+use Rattle.std.proofs.Common.{◌≡◌, refl, sym, subst, ◌∙◌, ℕ, ◌<◌, ◌+◌, ◌-◌, max, Bool, true, false, Some, None, List, ℤ, pos, neg_ℤ, ◌+ℤ◌, ◌≤ℤ◌, ◌<ℤ◌, arith}
 use Rattle.std.specs.Prelude.{int_lt, cond, ◌&&◌, ◌==◌, slice_index_or, slice_get, length, [], ◌∷◌, ◌++◌, IfSome}
 use Rattle.std.proofs.lemmas.Int.{ints}
 use Rattle.stl_syntax.specs.Trace.{Header, Row, first_time}
@@ -56,7 +31,7 @@ use Rattle.online_nodes.specs.Network.{
   IsRunFrom,
   IsRun,
 }
-use Rattle.online_nodes.proofs.RunLaw.{some_is, none_is_none, moved, int_order, last_appended}
+use Rattle.online_nodes.proofs.RunLaw.{some_is, none_is_none, moved, last_appended}
 use Rattle.stl_syntax.specs.declared.node.Node.{Node}
 use Rattle.stl_syntax.specs.declared.node.Node.TheVariants.{
   Const,

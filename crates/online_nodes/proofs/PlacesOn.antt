@@ -1,13 +1,13 @@
 -- Up to where an input was read, once it is answered further.
-use Rattle.std.proofs.Common.{◌≡◌, ◌⊎◌, inl, inr, refl, sym, ap, subst, ◌∙◌, ℕ, Bool, true, false, Some, None, List, [], ◌∷◌, ◌++◌, ℤ, pos, ◌≤ℤ◌, ◌<ℤ◌, arith}
-use Rattle.std.specs.Prelude.{slice_get, MatchBool}
+use Rattle.std.proofs.Common.{◌≡◌, ◌⊎◌, inl, inr, sym, subst, ℕ, Some, None, List, [], ◌∷◌, ◌++◌, ℤ, pos, ◌≤ℤ◌, ◌<ℤ◌, arith}
+use Rattle.std.specs.Prelude.{slice_get}
 use Rattle.std.proofs.lemmas.Int.{ints}
-use Rattle.rational.specs.Rational.{Rational, ◌≤ʳ◌, ◌<ʳ◌, whole}
+use Rattle.rational.specs.Rational.{Rational, ◌<ʳ◌, whole}
 use Rattle.rational.proofs.Order.{le_trans, le_of_lt, lt_of_le_of_lt, lt_of_lt_of_le}
 use Rattle.rational.proofs.Shift.{le_whole, lt_whole}
 use Rattle.frac128.specs.Spans.{interval}
 use Rattle.stl_syntax.specs.declared.items.Verdict.{Verdict}
-use Rattle.online_nodes.specs.Cuts.{Place, begins, ends, After, Upto, AtMost, Before, Same}
+use Rattle.online_nodes.specs.Cuts.{Place, begins, ends, Upto, AtMost, Before, Same}
 use Rattle.online_nodes.specs.Laws.{AreTiles, answered_to}
 use Rattle.online_nodes.specs.Operators.{place_of, first_place}
 use Rattle.online_nodes.proofs.PlaceLemmas.{same_places, upto_same, after_same, same_before}

@@ -1,51 +1,14 @@
 -- Each node is read by one node at most, and by its kind an operator knows its node's inputs.
-use Rattle.std.proofs.Common.{
-  ◌≡◌,
-  ◌≢◌,
-  ◌⊎◌,
-  inl,
-  inr,
-  refl,
-  sym,
-  ap,
-  subst,
-  ◌∙◌,
-  ℕ,
-  zero,
-  suc,
-  ◌+◌,
-  ◌<◌,
-  ◌≤◌,
-  Bool,
-  true,
-  false,
-  not,
-  Option,
-  Some,
-  None,
-  List,
-  [],
-  ◌∷◌,
-  ◌++◌,
-  length,
-  take,
-  get_or,
-  ℤ,
-  pos,
-  neg_ℤ,
-  ◌≤ℤ◌,
-  All,
-  arith,
-}
+use Rattle.std.proofs.Common.{◌≡◌, ◌≢◌, inl, inr, refl, sym, ap, subst, ◌∙◌, ℕ, zero, suc, ◌+◌, ◌<◌, ◌≤◌, Bool, true, false, not, Some, None, List, [], ◌∷◌, ◌++◌, length, take, get_or, pos, neg_ℤ, ◌≤ℤ◌, All, arith}
 use Rattle.std.specs.List.{list_any, range_with_len}
-use Rattle.std.specs.Prelude.{slice_get, filter, ◌==◌, ◌||◌, cond, int_lt}
+use Rattle.std.specs.Prelude.{slice_get, filter, ◌==◌, cond, int_lt}
 use Rattle.std.proofs.lemmas.Bool.{cases_lt, eq-eqb, or_left, or_right}
 use Rattle.std.proofs.lemmas.Int.{ints}
 use Rattle.std.proofs.lemmas.List.{get_or-take, length-take-le}
 use Rattle.std.proofs.lemmas.List.Folds.{list_any_at}
 use Rattle.std.proofs.lemmas.Option.{slice_get_within, get_or_from_slice_get}
 use Rattle.stl_syntax.specs.Limits.{own_reach}
-use Rattle.stl_syntax.specs.PostOrder.{children, has_child, is_used, unused, IsPostOrder, MayFollow}
+use Rattle.stl_syntax.specs.PostOrder.{children, has_child, is_used, unused, IsPostOrder}
 use Rattle.stl_syntax.proofs.PostOrderLemmas.{children_free}
 use Rattle.stl_syntax.specs.declared.node.Node.{Node}
 use Rattle.stl_syntax.specs.declared.node.Node.TheVariants.{
@@ -64,7 +27,7 @@ use Rattle.stl_syntax.specs.declared.node.Node.TheVariants.{
 }
 use Rattle.online_nodes.specs.Network.{reach_back}
 use Rattle.online_nodes.specs.Needed.{IsReader}
-use Rattle.online_nodes.specs.Operators.{kind_of, upper}
+use Rattle.online_nodes.specs.Operators.{kind_of}
 use Rattle.online_nodes.specs.Answering.{IsInput, IsSide, looks_by}
 use Rattle.online_nodes.proofs.RunLaw.{int_order}
 
@@ -310,7 +273,7 @@ small_less c h = by_test (int_lt (pos c) (pos 8589934592)) refl
     by_test true e = e
     by_test false e = absurd (let x : pos 8589934592 ≤ℤ pos c = int_order (pos c) (pos 8589934592) false e in omega (arith, ints))
 
-twice_negated : (a : ℕ) → neg_ℤ (neg_ℤ (pos a)) ≡ pos a
+pub twice_negated : (a : ℕ) → neg_ℤ (neg_ℤ (pos a)) ≡ pos a
 twice_negated a = omega (arith, ints)
 
 past_by : (a c : ℕ) → c ≤ 4294967295 → neg_ℤ (cond (int_lt (pos c) (pos 8589934592)) (pos c) (pos a)) ≡ neg_ℤ (pos c)

@@ -1,34 +1,5 @@
 -- Each node of a formula but the root is the input of one other node, and the root is the input of none.
-use Rattle.std.proofs.Common.{
-  ◌≡◌,
-  ◌⊎◌,
-  inl,
-  inr,
-  refl,
-  sym,
-  ap,
-  subst,
-  ◌∙◌,
-  ℕ,
-  zero,
-  suc,
-  ◌+◌,
-  ◌-◌,
-  ◌<◌,
-  ◌≤◌,
-  Bool,
-  true,
-  false,
-  not,
-  Some,
-  None,
-  List,
-  [],
-  ◌∷◌,
-  length,
-  take,
-  arith,
-}
+use Rattle.std.proofs.Common.{◌≡◌, ◌⊎◌, inl, inr, refl, sym, ap, subst, ◌∙◌, ℕ, zero, suc, ◌+◌, ◌-◌, ◌<◌, ◌≤◌, Bool, true, false, not, Some, List, [], ◌∷◌, length, take, arith}
 use Rattle.std.specs.Prelude.{◌≢◌, cond, ◌==◌, ◌||◌, slice_get, slice_index_or, All}
 use Rattle.std.specs.List.{list_any, filter, range_with_len}
 use Rattle.std.proofs.lemmas.Bool.{cases_order, eq-eqb, or_left, or_right}

@@ -1,9 +1,9 @@
 -- The rows of a run are those of a trace.
-use Rattle.std.proofs.Common.{◌≡◌, refl, sym, ap, subst, ◌∙◌, ℕ, ◌<◌, Bool, true, false, Some, None, List, [], ◌∷◌, ◌++◌, length, ℤ, pos, ◌<ℤ◌, ◌≤ℤ◌, arith}
-use Rattle.std.specs.Prelude.{IfSome, ◌≢◌}
+use Rattle.std.proofs.Common.{◌≡◌, refl, sym, ℕ, ◌<◌, Bool, false, Some, None, List, [], ◌∷◌, ◌++◌, length, ℤ, pos, ◌<ℤ◌, arith}
+use Rattle.std.specs.Prelude.{IfSome}
 use Rattle.std.proofs.lemmas.Int.{ints}
 use Rattle.std.proofs.lemmas.List.{append-nil}
-use Rattle.stl_syntax.specs.Trace.{Header, Row, Trace, IsTrace, AreRows, AreRowsAfter, Continues, first_time, last_time}
+use Rattle.stl_syntax.specs.Trace.{Header, Row, IsTrace, AreRows, AreRowsAfter, Continues, last_time}
 use Rattle.stl_syntax.specs.declared.node.Node.{Node}
 use Rattle.online_nodes.specs.Network.{Event, row, step, close, take, State, last_row, after_event, state_from, initial, state, MayCome, IsRunFrom, IsRun}
 use Rattle.online_nodes.proofs.RunLaw.{some_is, none_is_none}

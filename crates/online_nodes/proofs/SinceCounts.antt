@@ -1,33 +1,5 @@
 -- Since where both inputs hold: what the right one tells within the run counts from now on.
-use Rattle.std.proofs.Common.{
-  ◌≡◌,
-  ◌≢◌,
-  ◌⊎◌,
-  inl,
-  inr,
-  ◌+◌,
-  ◌<◌,
-  ◌≤◌,
-  true,
-  false,
-  List,
-  [],
-  ◌∷◌,
-  ◌++◌,
-  drop,
-  length,
-  Some,
-  slice_get,
-  refl,
-  sym,
-  ap,
-  subst,
-  ◌∙◌,
-  arith,
-  append_assoc,
-  length-append,
-}
-use Rattle.std.proofs.lemmas.List.{append-nil}
+use Rattle.std.proofs.Common.{◌≡◌, ◌⊎◌, inl, inr, true, List, ◌++◌, drop, length, Some, slice_get, refl, sym, ap, subst, ◌∙◌, arith, append_assoc, length-append}
 use Rattle.std.proofs.lemmas.Option.{slice_get_within}
 use Rattle.rational.specs.Rational.{Rational}
 use Rattle.frac128.specs.Spans.{interval}
@@ -35,8 +7,8 @@ use Rattle.stl_syntax.specs.Truth.{Truth}
 use Rattle.stl_syntax.specs.declared.items.Verdict.{Verdict}
 use Rattle.online_nodes.specs.Cuts.{Place, place, begins, ends, moved_begin, moved_end, After, Upto, AtMost, Before, Same}
 use Rattle.online_nodes.specs.Held.{Held, fresh_at}
-use Rattle.online_nodes.specs.Reading.{AllAre, Tells, KnowsSince, MeetsUpto}
-use Rattle.online_nodes.specs.Written.{HasSaidBoth, IsSound}
+use Rattle.online_nodes.specs.Reading.{AllAre, Tells, MeetsUpto}
+use Rattle.online_nodes.specs.Written.{HasSaidBoth}
 use Rattle.online_nodes.specs.Working.{HasPassed, HasWorked}
 use Rattle.online_nodes.specs.Sweeps.{Counted, low_place, high_place}
 use Rattle.online_nodes.specs.Untils.{Reads}
@@ -56,7 +28,7 @@ use Rattle.online_nodes.specs.declared.cut.Cut.{Cut}
 use Rattle.online_nodes.specs.declared.since.Course.{Course}
 use Rattle.online_nodes.specs.declared.since.Since.{Since}
 use Rattle.online_nodes.specs.declared.writer.Out.{Out}
-use Rattle.online_nodes.proofs.GotLemmas.{got_both, got-length, got-other}
+use Rattle.online_nodes.proofs.GotLemmas.{got-length, got-other}
 use Rattle.online_nodes.proofs.JoinLemmas.{after_at_most, worked_then_pass}
 use Rattle.online_nodes.proofs.PlaceLemmas.{
   sides,

@@ -1,112 +1,29 @@
 -- How since comes to the end of a stretch, and how what was found counts.
-use Rattle.std.proofs.Common.{
-  ◌≡◌,
-  ◌≢◌,
-  ◌⊎◌,
-  inl,
-  inr,
-  ◌+◌,
-  ◌<◌,
-  ◌≤◌,
-  true,
-  false,
-  List,
-  [],
-  ◌∷◌,
-  ◌++◌,
-  drop,
-  length,
-  Some,
-  slice_get,
-  refl,
-  sym,
-  ap,
-  subst,
-  ◌∙◌,
-  arith,
-  append_assoc,
-  length-append,
-}
-use Rattle.std.proofs.lemmas.List.{append-nil}
-use Rattle.std.proofs.lemmas.Option.{slice_get_within}
+use Rattle.std.proofs.Common.{◌≡◌, ◌⊎◌, inl, inr, true, false, List, [], ◌++◌, length, Some, slice_get, refl, sym, ap, subst, ◌∙◌, arith}
 use Rattle.rational.specs.Rational.{Rational}
 use Rattle.rational.proofs.Order.{le_or_lt, le_of_lt}
 use Rattle.frac128.specs.Spans.{interval}
 use Rattle.stl_syntax.specs.Truth.{Truth}
 use Rattle.stl_syntax.specs.declared.items.Verdict.{Verdict}
-use Rattle.online_nodes.specs.Cuts.{Place, place, begins, ends, moved_begin, moved_end, After, Upto, AtMost, Before, Same}
+use Rattle.online_nodes.specs.Cuts.{Place, place, begins, ends, moved_begin, After, Upto, AtMost, Before, Same}
 use Rattle.online_nodes.specs.Held.{Held, fresh_at}
-use Rattle.online_nodes.specs.Reading.{AllAre, Tells, KnowsSince}
-use Rattle.online_nodes.specs.Written.{HasSaidBoth, HasGot, IsSound, waiting}
-use Rattle.online_nodes.specs.Working.{HasPassed, HasWorked}
-use Rattle.online_nodes.specs.Sweeps.{Counted, low_place, high_place}
+use Rattle.online_nodes.specs.Reading.{AllAre, Tells}
+use Rattle.online_nodes.specs.Written.{HasSaidBoth, IsSound, waiting}
+use Rattle.online_nodes.specs.Sweeps.{Counted}
 use Rattle.online_nodes.specs.Untils.{Reads}
-use Rattle.online_nodes.specs.Sinces.{
-  CanMoveRun,
-  HasDone,
-  HasMoved,
-  HasPassedFirst,
-  HasReadLeft,
-  HasReadRight,
-  HasRested,
-  HasSinceTold,
-  IsBackward,
-  IsSince,
-  IsSpent,
-  IsStaying,
-  IsTurn,
-  Stay,
-}
+use Rattle.online_nodes.specs.Sinces.{HasDone, HasRested, IsSince, IsSpent, IsStaying, Stay}
 use Rattle.online_nodes.specs.declared.cut.Cut.{Cut}
 use Rattle.online_nodes.specs.declared.since.Course.{Course}
 use Rattle.online_nodes.specs.declared.since.Since.{Since}
-use Rattle.online_nodes.specs.declared.since.Turn.{Turn}
-use Rattle.online_nodes.specs.declared.since.Turn.TheVariants.{More, Done}
 use Rattle.online_nodes.specs.declared.writer.Out.{Out}
-use Rattle.online_nodes.proofs.GotLemmas.{got_both, got-other}
+use Rattle.online_nodes.proofs.GotLemmas.{got-other}
 use Rattle.online_nodes.proofs.JoinLemmas.{after_at_most}
-use Rattle.online_nodes.proofs.PlaceLemmas.{
-  sides,
-  not_both,
-  between,
-  place_order,
-  upto_of_before,
-  upto_same,
-  after_same,
-  after_of_before,
-  before_same,
-  before_trans,
-  same_before,
-  same_places,
-  at_most_of_not_before,
-}
-use Rattle.online_nodes.proofs.SaidLemmas.{passed-fresh, passed-one}
-use Rattle.online_nodes.proofs.SinceLaw.{goes_on, went_on, fails, settled, knows_new_run, knows_found, knows_right_read, knows_left_read, knows_later}
-use Rattle.online_nodes.proofs.SinceTurns.{
-  IsLaterOf,
-  IsLeftRead,
-  IsWorking,
-  after_later_of,
-  left-first,
-  left_holds_to,
-  left-says,
-  left_within,
-  moved_more,
-  moved_order,
-  moved_up,
-  not_yet_found,
-  right-first,
-  right_within,
-  run_behind,
-  spent_on,
-  staying-remembers,
-}
-use Rattle.online_nodes.proofs.UntilCounts.{meets_from, meets_to}
-use Rattle.online_nodes.proofs.UntilLaw.{after_later, in_order}
+use Rattle.online_nodes.proofs.PlaceLemmas.{not_both, between, place_order, upto_of_before, upto_same, after_same, same_before, same_places, at_most_of_not_before}
+use Rattle.online_nodes.proofs.SinceLaw.{goes_on, went_on, fails, settled, knows_new_run, knows_later}
+use Rattle.online_nodes.proofs.SinceTurns.{IsWorking, left-first, left-says, run_behind, staying-remembers}
+use Rattle.online_nodes.proofs.UntilLaw.{after_later}
 use Rattle.online_nodes.proofs.UntilPasses.{before_of_at_most}
-use Rattle.online_nodes.proofs.UntilTurns.{goes_on_from}
-use Rattle.online_nodes.proofs.WindowPlaces.{meets_after, meets_upto}
-use Rattle.online_nodes.proofs.WorkLemmas.{passed-other, worked_put, worked_pass, worked_none, worked_both}
+use Rattle.online_nodes.proofs.WorkLemmas.{worked_put}
 
 -- a place that is not before another, nor beyond it
 at_most_to : (c d : Place) → (Before d c → ⊥) → AtMost c d

@@ -1,39 +1,9 @@
 -- Since, verdict by verdict.
-use Rattle.std.proofs.Common.{
-  ◌≡◌,
-  ◌≢◌,
-  ◌⊎◌,
-  inl,
-  inr,
-  ◌+◌,
-  ◌*◌,
-  ◌<◌,
-  ◌≤◌,
-  Bool,
-  not,
-  true,
-  false,
-  List,
-  [],
-  ◌++◌,
-  length,
-  Some,
-  slice_get,
-  refl,
-  sym,
-  ap,
-  subst,
-  ◌∙◌,
-  arith,
-  append_assoc,
-  length-append,
-}
+use Rattle.std.proofs.Common.{◌≡◌, inl, inr, ◌+◌, ◌*◌, ◌≤◌, Bool, not, true, false, List, [], ◌++◌, length, Some, slice_get, refl, sym, subst, ◌∙◌, arith, append_assoc, length-append}
 use Rattle.std.proofs.lemmas.List.{append-nil}
-use Rattle.rational.specs.Rational.{Rational}
 use Rattle.frac128.specs.Spans.{interval}
-use Rattle.stl_syntax.specs.Truth.{Truth}
 use Rattle.stl_syntax.specs.declared.items.Verdict.{Verdict}
-use Rattle.online_nodes.specs.Cuts.{Place, place, begins, ends, moved_begin, After, Upto, AtMost, Before, Same}
+use Rattle.online_nodes.specs.Cuts.{Place, place, begins, ends, moved_begin, Upto, AtMost, Before, Same}
 use Rattle.online_nodes.specs.Held.{Held, fresh_at}
 use Rattle.online_nodes.specs.Reading.{AllAre}
 use Rattle.online_nodes.specs.Written.{IsSound, waiting}
@@ -61,19 +31,10 @@ use Rattle.online_nodes.specs.declared.since.Turn.{Turn}
 use Rattle.online_nodes.specs.declared.since.Turn.TheVariants.{More, Done}
 use Rattle.online_nodes.specs.declared.writer.Out.{Out}
 use Rattle.online_nodes.proofs.JoinLemmas.{after_at_most}
-use Rattle.online_nodes.proofs.PlaceLemmas.{
-  not_both,
-  between,
-  upto_of_before,
-  upto_same,
-  before_same,
-  before_trans,
-  same_before,
-  same_places,
-}
+use Rattle.online_nodes.proofs.PlaceLemmas.{not_both, between, upto_of_before, upto_same, before_trans, same_before, same_places}
 use Rattle.online_nodes.proofs.SinceLaw.{knows_right_fails, knows_right_read}
 use Rattle.online_nodes.proofs.SinceCounts.{IsFound, counts_right, counts_left, counts_done}
-use Rattle.online_nodes.proofs.SinceEnds.{IsRest, left_out_rests, rest_done, right_out_falls}
+use Rattle.online_nodes.proofs.SinceEnds.{rest_done}
 use Rattle.online_nodes.proofs.SinceTurns.{
   IsLaterOf,
   IsLeftRead,
@@ -88,7 +49,6 @@ use Rattle.online_nodes.proofs.SinceTurns.{
   run_behind,
 }
 use Rattle.online_nodes.proofs.UntilPasses.{before_of_at_most}
-use Rattle.online_nodes.proofs.UntilTurns.{goes_on_from}
 use Rattle.online_nodes.proofs.WorkLemmas.{worked_none, worked_both}
 
 pub false_of_not : (b : Bool) → not b ≡ true → b ≡ false

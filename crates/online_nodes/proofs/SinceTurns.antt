@@ -1,45 +1,9 @@
 -- The turns of since.
-use Rattle.std.proofs.Common.{
-  ◌≡◌,
-  ◌≢◌,
-  ◌⊎◌,
-  inl,
-  inr,
-  ◌+◌,
-  ◌<◌,
-  ◌≤◌,
-  ℤ,
-  pos,
-  ◌≤ℤ◌,
-  Bool,
-  true,
-  false,
-  not,
-  ◌||◌,
-  ◌&&◌,
-  List,
-  [],
-  ◌∷◌,
-  ◌++◌,
-  drop,
-  length,
-  Some,
-  slice_get,
-  refl,
-  sym,
-  ap,
-  subst,
-  ◌∙◌,
-  arith,
-  append_assoc,
-  length-append,
-}
+use Rattle.std.proofs.Common.{◌≡◌, ◌≢◌, ◌⊎◌, inl, inr, ◌+◌, ◌<◌, ℤ, pos, ◌≤ℤ◌, Bool, true, false, not, ◌||◌, ◌&&◌, List, [], ◌∷◌, ◌++◌, drop, length, Some, slice_get, refl, sym, ap, subst, ◌∙◌, arith}
 use Rattle.std.specs.Prelude.{MatchBool}
 use Rattle.std.proofs.lemmas.List.{append-nil}
-use Rattle.std.proofs.lemmas.Option.{slice_get_within}
 use Rattle.rational.specs.Rational.{Rational, ◌≤ʳ◌, ◌<ʳ◌, add, whole}
-use Rattle.rational.specs.Time.{later}
-use Rattle.rational.proofs.Order.{le_refl, le_trans, le_of_same, lt_of_lt_of_le, le_or_lt}
+use Rattle.rational.proofs.Order.{le_trans, le_of_same, lt_of_lt_of_le}
 use Rattle.rational.proofs.Shift.{lt_shift, same_shift, le_shift_by}
 use Rattle.rational.proofs.TimeLemmas.{later_from, later-add}
 use Rattle.frac128.specs.Spans.{interval}
@@ -47,65 +11,26 @@ use Rattle.stl_syntax.specs.Truth.{Truth}
 use Rattle.stl_syntax.specs.declared.items.Verdict.{Verdict}
 use Rattle.online_nodes.specs.Cuts.{Place, place, begins, ends, moved_begin, moved_end, After, Upto, AtMost, Before, Same}
 use Rattle.online_nodes.specs.Held.{Held, fresh_at}
-use Rattle.online_nodes.specs.Reading.{AllAre, Tells, KnowsSince, SinceRemembers, MeetsAfter, MeetsUpto}
+use Rattle.online_nodes.specs.Reading.{AllAre, Tells, KnowsSince, SinceRemembers}
 use Rattle.online_nodes.specs.Written.{HasSaidBoth, IsSound}
 use Rattle.online_nodes.specs.Working.{HasPassed, HasWorked}
 use Rattle.online_nodes.specs.Sweeps.{Counted, low_place, high_place}
 use Rattle.online_nodes.specs.Untils.{Reads}
-use Rattle.online_nodes.specs.Sinces.{
-  CanMoveRun,
-  HasDone,
-  HasMoved,
-  HasReadLeft,
-  HasReadRight,
-  HasRested,
-  IsBackward,
-  IsSince,
-  IsSpent,
-  IsStaying,
-  Stay,
-}
+use Rattle.online_nodes.specs.Sinces.{CanMoveRun, HasMoved, HasReadLeft, IsSince, IsSpent, IsStaying, Stay}
 use Rattle.online_nodes.specs.declared.cut.Cut.{Cut}
 use Rattle.online_nodes.specs.declared.since.Course.{Course}
 use Rattle.online_nodes.specs.declared.since.Since.{Since}
 use Rattle.online_nodes.specs.declared.writer.Out.{Out}
-use Rattle.online_nodes.proofs.GotLemmas.{got_both, got-other}
+use Rattle.online_nodes.proofs.GotLemmas.{got-other}
 use Rattle.online_nodes.proofs.JoinLemmas.{after_at_most, worked_then_pass}
-use Rattle.online_nodes.proofs.PlaceLemmas.{
-  sides,
-  not_both,
-  between,
-  place_order,
-  upto_of_before,
-  upto_same,
-  after_same,
-  after_of_before,
-  before_same,
-  before_trans,
-  same_places,
-  at_most_of_not_before,
-}
+use Rattle.online_nodes.proofs.PlaceLemmas.{sides, not_both, upto_of_before, upto_same, after_same, after_of_before, before_trans, same_places}
 use Rattle.online_nodes.proofs.SaidLemmas.{passed-fresh, passed-one}
-use Rattle.online_nodes.proofs.SinceLaw.{
-  goes_on,
-  went_on,
-  fails,
-  not_yet,
-  settled,
-  remembers_of,
-  knows_new_run,
-  knows_right_fails,
-  knows_found,
-  knows_right_read,
-  knows_left_read,
-  knows_later,
-}
-use Rattle.online_nodes.proofs.UntilCounts.{meets_from, meets_to}
-use Rattle.online_nodes.proofs.UntilLaw.{after_later, in_order}
-use Rattle.online_nodes.proofs.UntilPasses.{before_of_at_most, told_before}
+use Rattle.online_nodes.proofs.SinceLaw.{goes_on, went_on, fails, not_yet, remembers_of, knows_new_run, knows_left_read, knows_later}
+use Rattle.online_nodes.proofs.UntilCounts.{meets_from}
+use Rattle.online_nodes.proofs.UntilPasses.{told_before}
 use Rattle.online_nodes.proofs.UntilTurns.{goes_on_from}
-use Rattle.online_nodes.proofs.WindowPlaces.{meets_after, meets_upto}
-use Rattle.online_nodes.proofs.WorkLemmas.{passed-other, first_and_rest, worked_none, worked_put, worked_pass}
+use Rattle.online_nodes.proofs.WindowPlaces.{meets_after}
+use Rattle.online_nodes.proofs.WorkLemmas.{passed-other, first_and_rest, worked_put, worked_pass}
 
 -- a time moved on is not earlier
 up_by : (t : Rational) (k : ℤ) → pos 0 ≤ℤ k → t ≤ʳ add t (whole k)

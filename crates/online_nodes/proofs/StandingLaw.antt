@@ -1,48 +1,16 @@
 -- An operator stands for the steps of its node as the others go on, rows come, the end comes and verdicts are taken.
-use Rattle.std.proofs.Common.{
-  ◌≡◌,
-  ◌⊎◌,
-  inl,
-  inr,
-  refl,
-  sym,
-  ap,
-  subst,
-  ◌∙◌,
-  ℕ,
-  ◌<◌,
-  ◌≤◌,
-  Bool,
-  true,
-  false,
-  not,
-  Option,
-  Some,
-  None,
-  List,
-  [],
-  ◌∷◌,
-  ◌++◌,
-  length,
-  ℤ,
-  pos,
-  neg_ℤ,
-  ◌+ℤ◌,
-  ◌≤ℤ◌,
-  ◌<ℤ◌,
-  arith,
-}
-use Rattle.std.specs.Prelude.{MatchBool, ◌≢◌, int_lt, cond, ◌&&◌, slice_get, slice_index_or, IfSome, option_map}
+use Rattle.std.proofs.Common.{◌≡◌, ◌⊎◌, inl, inr, refl, sym, ap, subst, ◌∙◌, ℕ, ◌<◌, Bool, true, false, Option, Some, None, List, [], ◌∷◌, ◌++◌, length, ℤ, pos, ◌+ℤ◌, ◌≤ℤ◌, ◌<ℤ◌, arith}
+use Rattle.std.specs.Prelude.{int_lt, slice_get, IfSome, option_map}
 use Rattle.std.proofs.lemmas.Int.{ints}
 use Rattle.std.proofs.lemmas.Option.{slice_get_within, get_or_from_slice_get}
 use Rattle.rational.specs.Rational.{Rational, ◌≤ʳ◌, whole}
 use Rattle.rational.proofs.Order.{le_trans, le_of_lt}
 use Rattle.rational.proofs.Shift.{le_whole}
 use Rattle.frac128.specs.Spans.{interval}
-use Rattle.stl_syntax.specs.Trace.{Header, Trace, Continues, first_time, last_time, start, stop as last_of}
-use Rattle.stl_syntax.specs.Formula.{Subformula, subformula, horizon}
+use Rattle.stl_syntax.specs.Trace.{Header, Continues, first_time, last_time, start, stop as last_of}
+use Rattle.stl_syntax.specs.Formula.{subformula}
 use Rattle.stl_syntax.specs.Truth.{Truth}
-use Rattle.stl_syntax.specs.PostOrder.{IsPostOrder, children}
+use Rattle.stl_syntax.specs.PostOrder.{IsPostOrder}
 use Rattle.stl_syntax.specs.WellFormed.{AreWellFormed, HasBounds}
 use Rattle.stl_syntax.specs.declared.items.Verdict.{Verdict}
 use Rattle.stl_syntax.specs.declared.node.Node.{Node}
@@ -60,28 +28,10 @@ use Rattle.stl_syntax.specs.declared.node.Node.TheVariants.{
   Once,
   Historically,
 }
-use Rattle.online_nodes.specs.Network.{
-  Event,
-  Front,
-  least,
-  moved_by,
-  State,
-  last_row,
-  shown,
-  open_number,
-  allowed,
-  all_at_end,
-  after_event,
-  state,
-  reach_back,
-  needed,
-  EmittedAt,
-  IsRun,
-  MayCome,
-}
+use Rattle.online_nodes.specs.Network.{Event, Front, least, State, last_row, shown, after_event, state, reach_back, needed, EmittedAt, IsRun, MayCome}
 use Rattle.rational.specs.Time.{Interval}
 use Rattle.online_nodes.specs.Needed.{IsReader, AreMeeting, AreNeeded, IsEdge}
-use Rattle.online_nodes.specs.Cuts.{Place, place, begins, ends, After, Upto, AtMost, Before, Same}
+use Rattle.online_nodes.specs.Cuts.{Place, place, begins, ends, Upto, AtMost, Before, Same}
 use Rattle.online_nodes.specs.Held.{Held, edge_at, fresh_at, number_at}
 use Rattle.online_nodes.specs.Laws.{AreTiles, answered_to, IsWhole, NeverLess}
 use Rattle.online_nodes.specs.Operators.{ahead, behind, kind_of, KnowsBy, place_of, first_place, read_upto, front_place}
@@ -90,16 +40,15 @@ use Rattle.online_nodes.specs.Reading.{Knows}
 use Rattle.online_nodes.specs.declared.window.Window.{Window}
 use Rattle.online_nodes.specs.Belonging.{StandsForSteps, trace_of}
 use Rattle.online_nodes.specs.declared.operator.Operator.{Operator}
-use Rattle.online_nodes.specs.declared.kind.Kind.{Kind}
 use Rattle.online_nodes.proofs.PlaceLemmas.{same_places, upto_same, upto_of_before}
-use Rattle.online_nodes.proofs.RunLaw.{some_is, none_is_none, int_order, lesser}
+use Rattle.online_nodes.proofs.RunLaw.{some_is, int_order, lesser}
 use Rattle.online_nodes.proofs.RisingLaw.{IsSound, sound_after, sound_of, event_later, reader_behind, children_before, least_of, least_rises, since_left_behind}
 use Rattle.online_nodes.proofs.StayLaw.{shown_is, first_same, agrees, goes_on_before}
 use Rattle.online_nodes.proofs.EmittedLaw.{Led, here_led, none_before, front_shown, emitted_tiles}
 use Rattle.online_nodes.proofs.MeetingLaw.{Each, tiled_upto}
-use Rattle.online_nodes.proofs.EdgeLaw.{not_shown, shown_stays, after_one, run_more}
+use Rattle.online_nodes.proofs.EdgeLaw.{shown_stays, after_one}
 use Rattle.online_nodes.proofs.ReadersLaw.{child_read}
-use Rattle.online_nodes.proofs.RowsLaw.{AreRowsSoFar, rows_of, rows_after, trace_so_far, goes_on_itself, last_is}
+use Rattle.online_nodes.proofs.RowsLaw.{rows_of, rows_after, trace_so_far, goes_on_itself, last_is}
 use Rattle.online_nodes.proofs.KnowingOn.{Agrees, AgreesUpto, ReadsOn, counted_agrees, knows_on, until_on, since_on, before_of_at_most}
 use Rattle.online_nodes.proofs.PlacesOn.{after_number, later_place, PlacesOn, Leads, places_on}
 

@@ -1,64 +1,28 @@
 -- What a step leaves of its inputs' edges.
-use Rattle.std.proofs.Common.{
-  ◌≡◌,
-  ◌≢◌,
-  ◌⊎◌,
-  inl,
-  inr,
-  refl,
-  sym,
-  ap,
-  subst,
-  ◌∙◌,
-  ℕ,
-  zero,
-  suc,
-  ◌+◌,
-  ◌-◌,
-  ◌<◌,
-  ◌≤◌,
-  Bool,
-  true,
-  false,
-  Option,
-  Some,
-  None,
-  List,
-  [],
-  ◌∷◌,
-  ◌++◌,
-  drop,
-  length,
-  ℤ,
-  pos,
-  ◌+ℤ◌,
-  ◌≤ℤ◌,
-  ◌<ℤ◌,
-  arith,
-}
+use Rattle.std.proofs.Common.{◌≡◌, ◌⊎◌, inl, inr, refl, sym, ap, subst, ◌∙◌, ℕ, zero, suc, ◌+◌, ◌-◌, ◌<◌, ◌≤◌, Bool, true, false, Option, Some, None, List, [], ◌∷◌, ◌++◌, drop, length, ℤ, pos, ◌+ℤ◌, ◌≤ℤ◌, ◌<ℤ◌, arith}
 use Rattle.std.specs.Prelude.{int_lt, cond, slice_get, IfSome}
 use Rattle.std.proofs.lemmas.Int.{ints}
 use Rattle.std.proofs.lemmas.Bool.{cases_lt}
 use Rattle.rational.specs.Rational.{Rational, ◌≤ʳ◌, ◌<ʳ◌, whole}
-use Rattle.rational.specs.Time.{left_open, less, closed as closed_at}
-use Rattle.rational.proofs.Order.{le_trans, le_of_lt, lt_of_lt_of_le, lt_of_le_of_lt, not_lt_of_le, le_of_same}
+use Rattle.rational.specs.Time.{left_open, closed as closed_at}
+use Rattle.rational.proofs.Order.{le_trans, le_of_lt, lt_of_lt_of_le, le_of_same}
 use Rattle.rational.proofs.Shift.{le_whole, lt_whole}
 use Rattle.rational.proofs.TimeLemmas.{less_in, less_no}
 use Rattle.frac128.specs.Spans.{interval}
 use Rattle.frac128.specs.Value.{value}
 use Rattle.stl_syntax.specs.declared.items.Verdict.{Verdict}
-use Rattle.online_nodes.specs.Cuts.{Place, begins, ends, After, Upto, AtMost, Before, Same}
-use Rattle.online_nodes.specs.Held.{Edge, held_of, without, IsDroppedBy}
+use Rattle.online_nodes.specs.Cuts.{Place, begins, ends, Upto, AtMost, Before}
+use Rattle.online_nodes.specs.Held.{Edge, held_of, IsDroppedBy}
 use Rattle.online_nodes.specs.Laws.{answered_to, beyond, AreTiles}
 use Rattle.online_nodes.specs.Needed.{AreMeeting, AreNeeded}
-use Rattle.online_nodes.specs.Network.{Front, needed}
+use Rattle.online_nodes.specs.Network.{Front}
 use Rattle.online_nodes.specs.Operators.{first_place}
 use Rattle.online_nodes.proofs.DroppingLemmas.{held_of-without}
-use Rattle.online_nodes.proofs.HeldFacts.{needed_part, place_at_start}
+use Rattle.online_nodes.proofs.HeldFacts.{needed_part}
 use Rattle.online_nodes.proofs.HeldLaw.{meeting_is_suffix}
 use Rattle.online_nodes.proofs.MeetingLaw.{beyond_later, needed_first}
 use Rattle.online_nodes.proofs.PlaceLemmas.{same_places, upto_same}
-use Rattle.online_nodes.proofs.RunLaw.{int_order, none_is_none, some_is}
+use Rattle.online_nodes.proofs.RunLaw.{int_order, some_is}
 
 -- a list without those of its first verdicts that end by a time, of which the next one ends later, is what is left by that time
 pub beyond_drop : (lo : Rational) (vs : List Verdict) (count : ℕ)

@@ -1,33 +1,9 @@
 -- What one answer of a node does to the edges, by its kind: its inputs are read on, and its own edge gets the list of the stretch; and how
 -- its inputs are let go then.
-use Rattle.std.specs.Prelude.{
-  ◌≡◌,
-  ◌≢◌,
-  ◌⊎◌,
-  ℕ,
-  ◌+◌,
-  ◌*◌,
-  ◌<◌,
-  ◌≤◌,
-  Bool,
-  true,
-  false,
-  not,
-  ◌&&◌,
-  if◌then◌else◌,
-  List,
-  length,
-  ℤ,
-  pos,
-  neg_ℤ,
-  ◌+ℤ◌,
-  int_lt,
-  Some,
-  slice_get,
-}
+use Rattle.std.specs.Prelude.{◌≡◌, ◌≢◌, ◌⊎◌, ℕ, ◌+◌, ◌<◌, ◌≤◌, Bool, true, false, not, ◌&&◌, if◌then◌else◌, List, length, ℤ, pos, neg_ℤ, ◌+ℤ◌, int_lt, Some, slice_get}
 use Rattle.stl_syntax.specs.declared.items.Verdict.{Verdict}
 use Rattle.online_nodes.specs.Cuts.{place, AtMost}
-use Rattle.online_nodes.specs.Held.{Held, Edge, edge_at, fresh_at, with_more, IsDroppedBy}
+use Rattle.online_nodes.specs.Held.{Held, edge_at, fresh_at, with_more, IsDroppedBy}
 use Rattle.online_nodes.specs.Written.{HasAnswer, HasFinished}
 use Rattle.online_nodes.specs.Working.{IsReadOn}
 use Rattle.online_nodes.specs.Joins.{HasJoined}
@@ -40,8 +16,6 @@ use Rattle.online_nodes.specs.declared.answering.Outcome.{Outcome}
 use Rattle.online_nodes.specs.declared.answering.Marks.{Marks}
 use Rattle.online_nodes.specs.declared.kind.Kind.{Kind}
 use Rattle.online_nodes.specs.declared.kind.Kind.TheVariants.{Const, Not, Join, Ahead, Behind, Until, Since}
-use Rattle.online_nodes.specs.declared.since.Course.{Course}
-use Rattle.online_nodes.specs.declared.window.Sweep.{Sweep}
 use Rattle.online_nodes.specs.declared.window.Window.{Window}
 use Rattle.online_nodes.specs.declared.writer.Out.{Out}
 
@@ -106,6 +80,7 @@ CanAnswer (Since s) e own marks =
 pub record HasToldAll (old new : Held) (holds : Bool) (out : Out) (marks : Marks) (a : Outcome) : Type 0 where
   pub said : HasAnswer old new out holds a.out
   pub all : AtMost (place out.to) (place a.out.at)
+  pub inside : AtMost (place a.out.at) (place out.to)
   pub kept : a.marks ≡ marks
 
 -- a window was swept, or it is empty and nothing was read

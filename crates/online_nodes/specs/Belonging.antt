@@ -1,34 +1,5 @@
 -- What an operator needs to be so before a step, and what the step leaves.
-use Rattle.std.specs.Prelude.{
-  ◌≡◌,
-  ◌≢◌,
-  ℕ,
-  ◌+◌,
-  ◌*◌,
-  ◌-◌,
-  ◌^◌,
-  min,
-  ◌≤◌,
-  Bool,
-  true,
-  false,
-  not,
-  ◌&&◌,
-  if◌then◌else◌,
-  List,
-  [],
-  ◌∷◌,
-  ◌++◌,
-  length,
-  pos,
-  Option,
-  Some,
-  None,
-  IfSome,
-  option_map,
-  slice_get,
-  slice_index_or,
-}
+use Rattle.std.specs.Prelude.{◌≡◌, ◌≢◌, ℕ, ◌+◌, ◌*◌, ◌-◌, ◌^◌, min, ◌≤◌, Bool, true, false, not, ◌&&◌, if◌then◌else◌, List, [], ◌∷◌, ◌++◌, length, pos, Some, None, IfSome, option_map, slice_get, slice_index_or}
 use Rattle.rational.specs.Rational.{whole}
 use Rattle.stl_syntax.specs.Trace.{Header, Trace, first_time}
 use Rattle.stl_syntax.specs.WellFormed.{AreWellFormed, HasOneRoot}
@@ -51,7 +22,7 @@ use Rattle.online_nodes.specs.Needed.{IsEdge, IsReader}
 use Rattle.stl_syntax.specs.declared.items.Verdict.{Verdict}
 use Rattle.stl_syntax.specs.declared.node.Node.{Node}
 use Rattle.stl_syntax.specs.declared.node.Node.TheVariants.{Const}
-use Rattle.online_nodes.specs.Cuts.{Place, place}
+use Rattle.online_nodes.specs.Cuts.{place}
 use Rattle.online_nodes.specs.Held.{Held, edge_at, fresh_at, held_at, number_at}
 use Rattle.online_nodes.specs.Kinds.{held_in}
 use Rattle.online_nodes.specs.Operators.{kind_of, KnowsBy}

@@ -1,26 +1,5 @@
 -- What an operator does, by its kind and the edges alone: its inputs, the number that it may have, and what its inputs hold.
-use Rattle.std.specs.Prelude.{
-  ◌≡◌,
-  ℕ,
-  ◌+◌,
-  ◌<◌,
-  Bool,
-  true,
-  ◌&&◌,
-  if◌then◌else◌,
-  List,
-  [],
-  ◌∷◌,
-  length,
-  ℤ,
-  pos,
-  negsuc,
-  ◌≤ℤ◌,
-  Option,
-  Some,
-  None,
-  IfSome,
-}
+use Rattle.std.specs.Prelude.{ℕ, ◌+◌, ◌<◌, Bool, true, ◌&&◌, if◌then◌else◌, List, [], ◌∷◌, length, ℤ, pos, negsuc, ◌≤ℤ◌, Option, Some, IfSome}
 use Rattle.online_nodes.specs.Network.{least, moved_by, same_front}
 use Rattle.online_nodes.specs.Held.{Held, held_at, number_at}
 use Rattle.online_nodes.specs.declared.kind.Kind.{Kind}

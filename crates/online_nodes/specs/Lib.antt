@@ -20,3 +20,4 @@ pub mod Operators
 pub mod Kinds
 pub mod Answering
 pub mod Belonging
+pub mod Stepping

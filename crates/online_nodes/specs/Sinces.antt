@@ -1,6 +1,6 @@
 -- How since goes through its two inputs. The left one is known up to where its next verdict begins, or its run; the right one is read as
 -- far as its times, moved by the window, lie before that.
-use Rattle.std.specs.Prelude.{◌≡◌, ◌⊎◌, ◌+◌, ◌*◌, ◌≤◌, ◌<◌, ◌≤ℤ◌, Bool, true, pos, List, [], ◌++◌, length, Some, slice_get}
+use Rattle.std.specs.Prelude.{◌≡◌, ◌⊎◌, ◌+◌, ◌*◌, ◌≤◌, ◌<◌, ◌≤ℤ◌, true, pos, List, [], ◌++◌, length, Some, slice_get}
 use Rattle.std.specs.Int.{w64}
 use Rattle.rational.specs.Rational.{Rational, FitsFloor, add, whole}
 use Rattle.frac128.specs.Value.{value}
@@ -9,7 +9,7 @@ use Rattle.stl_syntax.specs.Trace.{Trace}
 use Rattle.stl_syntax.specs.Formula.{Subformula}
 use Rattle.stl_syntax.specs.Truth.{Truth}
 use Rattle.stl_syntax.specs.declared.items.Verdict.{Verdict}
-use Rattle.online_nodes.specs.Cuts.{Place, place, begins, ends, moved_begin, moved_end, After, Upto, AtMost, Before, Same}
+use Rattle.online_nodes.specs.Cuts.{Place, place, begins, ends, moved_begin, After, Upto, AtMost, Before}
 use Rattle.online_nodes.specs.Held.{Held, fresh_at}
 use Rattle.online_nodes.specs.Reading.{Tells, IsSinceOf, KnowsSince}
 use Rattle.online_nodes.specs.Written.{HasTold, HasSaidBoth, IsSound, waiting}

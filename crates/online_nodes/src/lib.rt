@@ -1,6 +1,5 @@
 //! Streaming operators: places between times, the edges of a network, the writer of a node's verdicts, the bodies of all nodes with
-//! what they let go, the laws on which operators rest, and of an operator its front, whether it is ready and the room that a step
-//! needs. In work: the step itself.
+//! what they let go, the operator of a node with its step, and the laws on which operators rest.
 #![tactic(auto)]
 
 mod answering;

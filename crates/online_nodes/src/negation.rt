@@ -86,6 +86,7 @@ pub(crate) fn constant(edges: &mut Edges, holds: bool, out: Out) -> Result<Out, 
     requires inside { AtMost (place out.at) (place out.to) }
     ensures said { IfOk result (λ end. HasAnswer edges.old edges.new out holds end) }
     ensures all { IfOk result (λ end. AtMost (place out.to) (place end.at)) }
+    ensures within { IfOk result (λ end. AtMost (place end.at) (place out.to)) }
     ensures memory { OnErr result (edges.old.spare ≡ 0) }
 {
     let end = out.upto(edges, holds, out.end())?;

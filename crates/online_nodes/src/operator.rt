@@ -1,14 +1,19 @@
-//! Operators: what each keeps beside the edges, whether a step would change its node's number, and the room that one needs.
+//! Operators: each takes the verdicts that its node's inputs have ready, and gives out those of its node.
 
-ghost use Rattle.std.specs.Prelude.{◌≡◌, ◌*◌, ◌+◌, ◌<◌, ◌≤◌, ◌↔◌, [], List, ℕ, IsTrue, length, None, false};
+ghost use Rattle.std.specs.Prelude.{◌≡◌, ◌*◌, ◌+◌, ◌<◌, ◌≤◌, ◌<ℤ◌, ◌≤ℤ◌, ◌↔◌, ◌++◌, ◌∷◌, [], List, ℕ, pos, IfOk, IsTrue, MatchOption, OnErr, OnOk, length, Some, None, true, false};
 ghost use Rattle.stl_syntax.specs.Trace.{Header};
-ghost use Rattle.online_nodes.specs.Network.{Event, state, node_is_atom, IsReady};
+ghost use Rattle.online_nodes.specs.Network.{Event, step, state, node_is_atom, allowed_at, IsReady};
 ghost use Rattle.stl_syntax.specs.declared.node.Node.{Node as ANode};
 ghost use Rattle.online_nodes.specs.Held.{Held, edge_at};
+ghost use Rattle.online_nodes.specs.Kinds.{held_in, inputs_of};
+ghost use Rattle.online_nodes.specs.Stepping.{Situation, IsBegun, IsDue, IsDueSomewhere, IsFor};
 
+use crate::answering::{Marks, Outcome, answer, release};
 use crate::cut::Cut;
 use crate::edges::Edges;
 use crate::kind::{Kind, is_same, kind_of_node};
+use crate::writer::Out;
+use frac128::Memory;
 use stl_syntax::Formula;
 
 /// What a node keeps beside its edges, of a fixed size.
@@ -25,7 +30,7 @@ pub struct Operator {
 }
 
 impl Operator {
-    ghost use Rattle.online_nodes.specs.Belonging.{Belongs, BelongsSomewhere, StandsForSteps, held_by_inputs, is_ready, room_of_step};
+    ghost use Rattle.online_nodes.specs.Belonging.{Belongs, BelongsSomewhere, HasStepped, StandsForSteps, held_by_inputs, is_ready, room_of_step};
 
     /// The operator of a node of the formula that is no atom. It takes no memory, and stands for no step.
     pub fn new(formula: &Formula, node: u32) -> Operator
@@ -77,4 +82,110 @@ impl Operator {
         }
         0
     }
+
+    /// The number that a step would come to; None where it would not change.
+    fn due(&self, edges: &Edges, now: u32, ended: bool) -> Option<i64>
+        requires { BelongsSomewhere self.now edges.now now ended }
+        ensures { (nodes : List ANode) (header : Header) (events : List Event) → Belongs nodes header events self.now edges.now now ended
+            → MatchOption result (is_ready nodes (state nodes events) self.now.node ≡ false)
+            (λ f. (is_ready nodes (state nodes events) self.now.node ≡ true) × (allowed_at nodes (state nodes events) self.now.node ≡ Some f)) }
+    {
+        let allowed = self.kind.allowed(edges, now, ended);
+        if is_same(allowed, edges.number(self.node)) {
+            return None;
+        }
+        allowed
+    }
+
+    /// The writer of the stretch up to a front, on which nothing is written yet, and what is kept in mind as it begins.
+    fn begin(&self, start: u32, front: u32) -> Outcome
+        ensures { (x : Situation) → IsFor x start front → IsBegun x self.now result }
+    {
+        let to = Cut::after_whole(i64::from(front));
+        let Some(before) = self.front else {
+            let from = Cut::before_whole(i64::from(start));
+            return Outcome {
+                out: Out::new(self.node, from, to),
+                marks: Marks {
+                    reach: from,
+                    run: from,
+                },
+            };
+        };
+        Outcome {
+            out: Out::new(self.node, Cut::after_whole(i64::from(before)), to),
+            marks: Marks {
+                reach: self.reach,
+                run: self.run,
+            },
+        }
+    }
+
+    /// A step to a front that is not below the start.
+    fn step_to(&mut self, edges: &mut Edges, start: u32, front: u32) -> Result<(), Memory>
+        requires { IsDueSomewhere self.old edges.old start front }
+        ensures node { self.new.node ≡ self.old.node }
+        ensures stepped { (x : Situation) → IsFor x start front → IsDue x self.old edges.old
+            → OnOk result (HasStepped x.nodes x.header x.events self.old.node edges.old edges.new) }
+        ensures stands { (x : Situation) → IsFor x start front → IsDue x self.old edges.old
+            → OnOk result (StandsForSteps x.nodes x.header (x.events ++ step self.old.node ∷ []) self.new edges.new) }
+        ensures memory { OnErr result (edges.old.spare < 2 * held_in edges.old (inputs_of self.old.kind) + 2) }
+    {
+        let begun = self.begin(start, front);
+        let marks = answer(edges, self.kind, begun.out, begun.marks)?;
+        // for the proof alone: what the edge holds can be counted, so what was put can
+        let _all = edges.held(self.node);
+        release(edges, self.kind, i64::from(front));
+        edges.reach(self.node, i64::from(front));
+        self.front = Some(front);
+        self.reach = marks.reach;
+        self.run = marks.run;
+        Ok(())
+    }
+
+    /// Takes all that the node's inputs have ready, appends the verdicts of the newly answered stretch to the node's own edge, and
+    /// drops from the inputs' edges what is needed no more. False where the node was not ready, and then nothing changed.
+    ///
+    /// # Errors
+    ///
+    /// `Memory` where there is no memory, which never comes with a spare of twice what the inputs' edges hold, plus 2. The operator
+    /// and its edges are given up then.
+    pub fn advance(&mut self, edges: &mut Edges, now: u32, ended: bool) -> Result<bool, Memory>
+        requires { BelongsSomewhere self.old edges.old now ended }
+        ensures node { self.new.node ≡ self.old.node }
+        ensures moved { (nodes : List ANode) (header : Header) (events : List Event) → Belongs nodes header events self.old edges.old now ended
+            → IfOk result (λ moved. IsTrue moved ↔ IsReady nodes (state nodes events) self.old.node) }
+        ensures idle { IfOk result (λ moved. moved ≡ false → self.new ≡ self.old) }
+        ensures idle_edges { IfOk result (λ moved. moved ≡ false → edges.new ≡ edges.old) }
+        ensures stepped { (nodes : List ANode) (header : Header) (events : List Event) → Belongs nodes header events self.old edges.old now ended
+            → IfOk result (λ moved. HasStepped nodes header events self.old.node edges.old edges.new) }
+        ensures belongs { (nodes : List ANode) (header : Header) (events : List Event) → Belongs nodes header events self.old edges.old now ended
+            → IfOk result (λ moved. Belongs nodes header (events ++ step self.old.node ∷ []) self.new edges.new now ended) }
+        ensures memory { (nodes : List ANode) (header : Header) (events : List Event) → Belongs nodes header events self.old edges.old now ended
+            → OnErr result (edges.old.spare < 2 * held_by_inputs nodes self.old.node edges.old + 2) }
+    {
+        let Some(number) = self.due(edges, now, ended) else {
+            return Ok(false);
+        };
+        let Some(start) = edges.start() else {
+            unreachable!()
+        };
+        let Some(front) = from_start(number, start) else {
+            edges.reach(self.node, number);
+            return Ok(true);
+        };
+        self.step_to(edges, start, front)?;
+        Ok(true)
+    }
+}
+
+/// The number, if it is not below the start.
+fn from_start(number: i64, start: u32) -> Option<u32>
+    requires { number ≤ℤ pos 4294967295 }
+    ensures { MatchOption result (number <ℤ pos start) (λ f. (number ≡ pos f) × (start ≤ f)) }
+{
+    if number < i64::from(start) {
+        return None;
+    }
+    Some(number as u32)
 }

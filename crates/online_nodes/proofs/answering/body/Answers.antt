@@ -1,6 +1,3 @@
-use Rattle.online_nodes.proofs.AnsweringLemmas.{carried}
-use Rattle.online_nodes.proofs.HeldFacts.{needed_part}
-use Rattle.online_nodes.proofs.StepFacts.{let_go_is}
 use Rattle.online_nodes.proofs.answering.body.Goals as goal
 
 pub since_on-requires-clause-fits_run : goal.since_on-requires-clause-fits_run

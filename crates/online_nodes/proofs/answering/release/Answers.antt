@@ -1,11 +1,9 @@
-use Rattle.std.proofs.Common.{arith, rules, inl, inr, true, false, refl, sym, ap, subst, ◌≡◌, ◌⊎◌, ◌∙◌, ℕ, ℤ, neg_ℤ, ◌+ℤ◌, to_z, of_z, to_z-of_z}
+use Rattle.std.proofs.Common.{rules, true, false, sym, ap, subst, ◌≡◌, ◌∙◌, ℤ, neg_ℤ, ◌+ℤ◌, to_z, of_z, to_z-of_z}
 use Rattle.std.specs.Int.{w64}
 use Rattle.online_nodes.specs.Answering.{back_by, looks_by, HasReleased, IsSide}
 use Rattle.online_nodes.specs.declared.kind.Kind.{Kind}
 use Rattle.online_nodes.specs.declared.kind.Kind.TheVariants.{Ahead, Behind, Until, Since}
-use Rattle.online_nodes.proofs.AnsweringLemmas.{back_near, front_itself, released_one, released_two}
-use Rattle.online_nodes.proofs.ReaderLemmas.{looks_is}
-use Rattle.online_nodes.proofs.InputLemmas.{tells_of}
+use Rattle.online_nodes.proofs.AnsweringLemmas.{front_itself, released_one, released_two}
 use Rattle.online_nodes.proofs.answering.release.Goals as goal
 
 -- a front moved back, through the machine's numbers

@@ -1,4 +1,4 @@
-use Rattle.std.proofs.Common.{rules, refl, slice_get, ◌≡◌, ◌⊎◌, inl, inr, ap, sym, subst, ◌∙◌, arith, true, false, to_z, of_z, to_z-of_z}
+use Rattle.std.proofs.Common.{rules, refl, ◌≡◌, inl, inr, ap, sym, subst, ◌∙◌, arith, to_z, of_z, to_z-of_z}
 use Rattle.std.specs.Int.{w64}
 use Rattle.rational.specs.Rational.{FitsFloor, add, whole}
 use Rattle.frac128.specs.Spans.{interval}
@@ -8,7 +8,6 @@ use Rattle.online_nodes.specs.Held.{fresh_at}
 use Rattle.online_nodes.specs.Working.{HasPassed}
 use Rattle.stl_syntax.specs.declared.items.Verdict.{Verdict}
 use Rattle.online_nodes.specs.declared.cut.Cut.{Cut}
-use Rattle.online_nodes.proofs.GotLemmas.{got-length}
 use Rattle.online_nodes.proofs.JoinLemmas.{same_first}
 use Rattle.online_nodes.proofs.PlaceLemmas.{at_most_of_not_before}
 use Rattle.online_nodes.proofs.Sweeping.{begin_alike, end_alike, fits_alike}

@@ -1,12 +1,11 @@
-use Rattle.std.proofs.Common.{◌≡◌, ◌⊎◌, inl, inr, ap, sym, subst, ◌∙◌, arith, true, false}
+use Rattle.std.proofs.Common.{inl, inr, ap, sym, subst, ◌∙◌, arith}
 use Rattle.frac128.specs.Spans.{interval}
 use Rattle.std.specs.Int.{w64}
 use Rattle.rational.specs.Rational.{Rational, FitsFloor, add, whole}
 use Rattle.online_nodes.specs.Cuts.{Place, place, begins, ends, AtMost, Before, Upto}
 use Rattle.online_nodes.specs.Working.{HasPassed}
 use Rattle.online_nodes.specs.declared.cut.Cut.{Cut}
-use Rattle.online_nodes.proofs.GotLemmas.{got-length, got-other}
-use Rattle.online_nodes.proofs.JoinLemmas.{same_first}
+use Rattle.online_nodes.proofs.GotLemmas.{got-length}
 use Rattle.online_nodes.proofs.PlaceLemmas.{at_most_of_not_before}
 use Rattle.online_nodes.proofs.SinceTurns.{IsWorking, run_over}
 use Rattle.online_nodes.proofs.SinceEnds.{ends_here, ends_later}

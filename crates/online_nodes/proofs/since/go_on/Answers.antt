@@ -1,4 +1,4 @@
-use Rattle.std.proofs.Common.{slice_get, refl, ◌≡◌, ◌⊎◌, inl, inr, ap, sym, subst, ◌∙◌, arith}
+use Rattle.std.proofs.Common.{slice_get, refl, ◌≡◌, ap, sym, subst, ◌∙◌, arith}
 use Rattle.frac128.specs.Spans.{interval}
 use Rattle.online_nodes.specs.Cuts.{Place, place, ends, AtMost, Before, Upto}
 use Rattle.online_nodes.specs.Held.{fresh_at}
@@ -8,7 +8,6 @@ use Rattle.online_nodes.specs.declared.cut.Cut.{Cut}
 use Rattle.online_nodes.proofs.GotLemmas.{got-length, got-other}
 use Rattle.online_nodes.proofs.JoinLemmas.{same_first}
 use Rattle.online_nodes.proofs.PlaceLemmas.{at_most_of_not_before}
-use Rattle.online_nodes.proofs.SinceCounts.{counts_done}
 use Rattle.online_nodes.proofs.since.go_on.Goals as goal
 
 pub returns-then-precedes-clause-gone : goal.returns-then-precedes-clause-gone

@@ -1,4 +1,4 @@
-use Rattle.std.proofs.Common.{rules, refl, ◌≡◌, ◌⊎◌, inl, inr, ap, sym, subst, ◌∙◌, arith, to_z, of_z, to_z-of_z}
+use Rattle.std.proofs.Common.{rules, refl, ◌≡◌, inl, inr, ap, subst, to_z, of_z, to_z-of_z}
 use Rattle.std.specs.Int.{w64}
 use Rattle.frac128.specs.Spans.{interval}
 use Rattle.frac128.specs.Value.{value}

@@ -1,4 +1,4 @@
-use Rattle.std.proofs.Common.{refl, slice_get, ◌≡◌, ◌∙◌, sym, ap, subst, arith}
+use Rattle.std.proofs.Common.{◌≡◌, ◌∙◌, sym, subst}
 use Rattle.online_nodes.specs.Held.{fresh_at}
 use Rattle.online_nodes.specs.Working.{HasPassed}
 use Rattle.stl_syntax.specs.declared.items.Verdict.{Verdict}

@@ -1,4 +1,4 @@
-use Rattle.std.proofs.Common.{arith, sym, ap, ◌∙◌, ◌≡◌, subst}
+use Rattle.std.proofs.Common.{arith, sym, ◌∙◌}
 use Rattle.online_nodes.proofs.BelongLemmas.{kind_inputs, held_is, room_if_ready, no_room}
 use Rattle.online_nodes.proofs.operator.Operator.need.Goals as goal
 

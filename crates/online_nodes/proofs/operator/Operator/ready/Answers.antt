@@ -1,7 +1,5 @@
-use Rattle.std.proofs.Common.{arith, not, sym, ap, ◌∙◌, ◌≡◌, subst}
-use Rattle.std.specs.Prelude.{IsTrue}
+use Rattle.std.proofs.Common.{arith, not, sym, ap, ◌∙◌}
 use Rattle.online_nodes.specs.Network.{state}
-use Rattle.online_nodes.specs.Belonging.{is_ready}
 use Rattle.online_nodes.proofs.BelongLemmas.{kind_inputs, kind_near, own_edge, ready_by_edges, ready_is}
 use Rattle.online_nodes.proofs.operator.Operator.ready.Goals as goal
 

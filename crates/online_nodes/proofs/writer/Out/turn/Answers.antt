@@ -1,4 +1,4 @@
-use Rattle.std.proofs.Common.{◌≡◌, sym, subst, arith}
+use Rattle.std.proofs.Common.{arith}
 use Rattle.online_nodes.proofs.GotLemmas.{got-length}
 use Rattle.online_nodes.proofs.SaidLemmas.{said_both}
 use Rattle.online_nodes.proofs.writer.Out.turn.Goals as goal

@@ -1,0 +1,178 @@
+-- Up to where an input was read, once what is needed no more was dropped from its edge.
+use Rattle.std.proofs.Common.{
+  ◌≡◌,
+  ◌⊎◌,
+  inl,
+  inr,
+  refl,
+  sym,
+  ap,
+  subst,
+  ◌∙◌,
+  ℕ,
+  zero,
+  suc,
+  ◌+◌,
+  ◌-◌,
+  ◌<◌,
+  Bool,
+  true,
+  false,
+  Option,
+  Some,
+  None,
+  List,
+  [],
+  ◌∷◌,
+  ◌++◌,
+  drop,
+  length,
+  slice_get,
+  ℤ,
+  arith,
+}
+use Rattle.std.specs.Prelude.{IfSome}
+use Rattle.rational.specs.Rational.{◌≤ʳ◌, ◌<ʳ◌, whole}
+use Rattle.rational.proofs.Order.{le_of_lt, le_trans, not_lt_of_le}
+use Rattle.frac128.specs.Spans.{interval}
+use Rattle.frac128.specs.Value.{value}
+use Rattle.stl_syntax.specs.declared.items.Verdict.{Verdict}
+use Rattle.online_nodes.specs.Cuts.{AtMost, Before, Place, Same, Upto, begins, ends}
+use Rattle.online_nodes.specs.Held.{Edge, IsDroppedBy}
+use Rattle.online_nodes.specs.Operators.{first_place}
+use Rattle.online_nodes.specs.Reading.{Tells, Truths}
+use Rattle.online_nodes.proofs.TellingLemmas.{tells_first}
+use Rattle.online_nodes.proofs.StepFacts.{just_after}
+use Rattle.online_nodes.proofs.PlaceLemmas.{same_places, upto_of_before, upto_same}
+use Rattle.online_nodes.proofs.Writing.{same_itself}
+use Rattle.std.specs.Prelude.{MatchBool}
+
+-- an item behind others
+get_behind : {X : Type 0} (xs ys : List X) (k : ℕ) → slice_get (xs ++ ys) (length xs + k) ≡ slice_get ys k
+get_behind [] ys k = ap (slice_get ys) (let e : 0 + k ≡ k = omega arith in e)
+get_behind (x ∷ xs) ys k =
+    ap (slice_get (x ∷ (xs ++ ys))) (let e : suc (length xs) + k ≡ suc (length xs + k) = omega arith in e) ∙ get_behind xs ys k
+
+-- a verdict that ends by a number ends no later than just after it
+pub ends_by_number : (f : ℤ) (v : Verdict) → value v.on.to ≤ʳ whole f → AtMost (ends (interval v.on)) (just_after f)
+ends_by_number f v h t u = le_trans (by_side v.on.to_in u) h
+  where
+    by_side : (b : Bool) → MatchBool b (t ≤ʳ value v.on.to) (t <ʳ value v.on.to) → t ≤ʳ value v.on.to
+    by_side true l = l
+    by_side false l = le_of_lt l
+
+module _ (P : Truths) (f : ℤ) where
+  -- each of the first verdicts ends by the number
+  abbrev pub EndBy : List Verdict → ℕ → Type 0
+  EndBy vs n = (k : ℕ) → k < n → IfSome (slice_get vs k) (λ v. value v.on.to ≤ʳ whole f)
+
+  -- what is left begins no earlier, and no later than that number, if some are gone
+  pub read_after_drop : (from : Place) (vs : List Verdict) (stop : Place) (n : ℕ) → Tells P from vs stop → EndBy vs n
+      → AtMost (first_place vs stop) (first_place (drop n vs) stop)
+      × ((drop n vs ≡ vs) ⊎ AtMost (first_place (drop n vs) stop) (just_after f))
+  read_after_drop from [] stop zero h ended = ((λ t u. u), inl refl)
+  read_after_drop from [] stop (suc n) h ended = ((λ t u. u), inl refl)
+  read_after_drop from (v ∷ vs) stop zero h ended = ((λ t u. u), inl refl)
+  read_after_drop from (v ∷ vs) stop (suc n) (s, b, all, rest) ended =
+      by_rest (read_after_drop (ends (interval v.on)) vs stop n rest (λ k l. ended (suc k) (omega arith)))
+    where
+      next : Same (ends (interval v.on)) (first_place vs stop)
+      next = (tells_first P (ends (interval v.on)) vs stop rest).1
+
+      by_rest : AtMost (first_place vs stop) (first_place (drop n vs) stop)
+          × ((drop n vs ≡ vs) ⊎ AtMost (first_place (drop n vs) stop) (just_after f))
+          → AtMost (begins (interval v.on)) (first_place (drop n vs) stop)
+          × ((drop n vs ≡ v ∷ vs) ⊎ AtMost (first_place (drop n vs) stop) (just_after f))
+      by_rest (later, which) = (
+        (λ t u. later t (upto_same (ends (interval v.on)) (first_place vs stop) t next
+            (upto_of_before from (ends (interval v.on)) t b (upto_same (begins (interval v.on)) from t (same_places s) u)))),
+        inr (elim which [
+          | inl e ↦ λ t u. ends_by_number f v (ended 0 (omega arith)) t
+              (upto_same (first_place vs stop) (ends (interval v.on)) t (same_places next)
+              (subst (λ l. Upto (first_place l stop) t) e u))
+          | inr h ↦ h
+        ]),
+      )
+
+module _ (P : Truths) where
+  -- what tells, without its first verdicts tells the rest
+  pub tells_drop : (c : Place) (vs : List Verdict) (d : Place) (n : ℕ) → Tells P c vs d → Tells P (first_place (drop n vs) d) (drop n vs) d
+  tells_drop c vs d zero h = (tells_first P c vs d h).0
+  tells_drop c [] d (suc n) h = same_itself d
+  tells_drop c (v ∷ vs) d (suc n) (s, b, all, rest) = tells_drop (ends (interval v.on)) vs d n rest
+
+  -- where it begins comes before its first verdict's end
+  pub tells_some : (vs : List Verdict) (d : Place) (v : Verdict) → Tells P (first_place vs d) vs d → slice_get vs 0 ≡ Some v
+      → Before (first_place vs d) (ends (interval v.on))
+  tells_some [] d v h e = absurd (let y : None ≡ Some v = e in cc)
+  tells_some (w ∷ vs) d v h e =
+      let is : w ≡ v = (let y : Some w ≡ Some v = e in cc) in
+      subst (λ (y : Verdict). Before (begins (interval w.on)) (ends (interval y.on))) is h.1
+
+-- where the first one ends later, none is dropped
+pub none_dropped : (f : ℤ) (vs : List Verdict) (n : ℕ) → ((k : ℕ) → k < n → IfSome (slice_get vs k) (λ v. value v.on.to ≤ʳ whole f))
+    → ((v : Verdict) → slice_get vs 0 ≡ Some v → whole f <ʳ value v.on.to) → drop n vs ≡ vs
+none_dropped f [] zero ended later = refl
+none_dropped f [] (suc n) ended later = refl
+none_dropped f (v ∷ vs) zero ended later = refl
+none_dropped f (v ∷ vs) (suc n) ended later = absurd (not_lt_of_le (ended 0 (omega arith)) (later v refl))
+
+module _ {f : ℤ} {old new : Edge} (dropped : IsDroppedBy f old new) where
+  -- how many of those that were not read are gone
+  abbrev pub gone : ℕ
+  gone = dropped.count - length old.seen
+
+  pub dropped_fresh : new.fresh ≡ drop gone old.fresh
+  dropped_fresh = ap (λ (x : Edge). x.fresh) dropped.is
+
+  pub dropped_number : new.number ≡ old.number
+  dropped_number = ap (λ (x : Edge). x.number) dropped.is
+
+  pub gone_end : (k : ℕ) → k < gone → IfSome (slice_get old.fresh k) (λ v. value v.on.to ≤ʳ whole f)
+  gone_end k l =
+      subst (λ (o : Option Verdict). IfSome o (λ v. value v.on.to ≤ʳ whole f)) (get_behind old.seen old.fresh k)
+      (dropped.ended (length old.seen + k) (omega arith))
+
+  -- where the reader reads on: as before, or no later than just after the number
+  pub dropped_read : (P : Truths) (from stop : Place) → Tells P from old.fresh stop
+      → AtMost (first_place old.fresh stop) (first_place new.fresh stop)
+      × ((new.fresh ≡ old.fresh) ⊎ AtMost (first_place new.fresh stop) (just_after f))
+  dropped_read P from stop h =
+      subst (λ l. AtMost (first_place old.fresh stop) (first_place l stop)
+      × ((l ≡ old.fresh) ⊎ AtMost (first_place l stop) (just_after f))) (sym dropped_fresh)
+      (read_after_drop P f from old.fresh stop gone h gone_end)
+
+  -- what tells what was not read tells what is left of it
+  pub dropped_tells : (P : Truths) (from stop : Place) → Tells P from old.fresh stop → Tells P (first_place new.fresh stop) new.fresh stop
+  dropped_tells P from stop h =
+      subst (λ l. Tells P (first_place l stop) l stop) (sym dropped_fresh) (tells_drop P from old.fresh stop gone h)
+
+  -- nothing that was not read is gone, or its first verdict ends by the number, and what is left begins no later than just after it
+  pub dropped_parts : (P : Truths) (from stop : Place) → Tells P from old.fresh stop
+      → (new.fresh ≡ old.fresh)
+      ⊎ ((v : Verdict) × (slice_get old.fresh 0 ≡ Some v) × (value v.on.to ≤ʳ whole f) × AtMost (first_place new.fresh stop) (just_after f))
+  dropped_parts P from stop h = elim (dropped_read P from stop h).1 [ inl same ↦ inl same | inr by ↦ by_first old.fresh refl by ]
+    where
+      by_first : (vs : List Verdict) → old.fresh ≡ vs → AtMost (first_place new.fresh stop) (just_after f)
+          → (new.fresh ≡ old.fresh)
+          ⊎ ((v : Verdict) × (slice_get old.fresh 0 ≡ Some v) × (value v.on.to ≤ʳ whole f) × AtMost (first_place new.fresh stop) (just_after f))
+      by_first [] e by = inl (dropped_fresh ∙ ap (drop gone) e ∙ none gone ∙ sym e)
+        where
+          none : (n : ℕ) → drop {A = Verdict} n [] ≡ []
+          none zero = refl
+          none (suc n) = refl
+      by_first (v ∷ vs) e by = by_gone gone refl
+        where
+          first : slice_get old.fresh 0 ≡ Some v
+          first = ap (λ l. slice_get l 0) e
+
+          by_gone : (n : ℕ) → gone ≡ n
+              → (new.fresh ≡ old.fresh)
+              ⊎ ((v : Verdict) × (slice_get old.fresh 0 ≡ Some v) × (value v.on.to ≤ʳ whole f) × AtMost (first_place new.fresh stop) (just_after f))
+          by_gone zero z = inl (dropped_fresh ∙ ap (λ n. drop n old.fresh) z)
+          by_gone (suc n) z =
+              inr (v, first, subst (λ (o : Option Verdict). IfSome o (λ v. value v.on.to ≤ʳ whole f)) first (gone_end 0 (omega (arith, z))), by)
+
+  -- nothing that was not read is gone, where its first ends later
+  pub dropped_none : ((v : Verdict) → slice_get old.fresh 0 ≡ Some v → whole f <ʳ value v.on.to) → new.fresh ≡ old.fresh
+  dropped_none later = dropped_fresh ∙ none_dropped f old.fresh gone gone_end later
