@@ -86,6 +86,7 @@ impl Net {
         ensures nodes { length self.new.operators ≡ length self.old.operators }
         ensures bound { self.new.bound ≡ self.old.bound }
     {
+        let _stopped = self.stopped;
         unreachable!()
     }
 
@@ -100,6 +101,7 @@ impl Net {
         ensures stands { (nodes : List ANode) (header : Header) (events : List Event) → Stands nodes header self.old events
             → IfOk result (λ _. Stands nodes header self.new (events ++ ended ∷ [])) }
     {
+        let _stopped = self.stopped;
         unreachable!()
     }
 
@@ -120,6 +122,7 @@ impl Net {
         ensures nodes { length self.new.operators ≡ length self.old.operators }
         ensures bound { self.new.bound ≡ self.old.bound }
     {
+        let _stopped = self.stopped;
         unreachable!()
     }
 
@@ -130,6 +133,7 @@ impl Net {
         ensures ready { (nodes : List ANode) (header : Header) (events : List Event) → Stands nodes header self.now events
             → IsTrue result ↔ IsReady nodes (state nodes events) node }
     {
+        let _stopped = self.stopped;
         unreachable!()
     }
 
@@ -140,6 +144,7 @@ impl Net {
         ensures front { (nodes : List ANode) (header : Header) (events : List Event) → Stands nodes header self.now events
             → option_map pos result ≡ shown (state nodes events) node }
     {
+        let _stopped = self.stopped;
         unreachable!()
     }
 
@@ -158,6 +163,7 @@ impl Net {
         ensures closed { self.new.closed ≡ self.old.closed }
         ensures running { self.new.stopped ≡ self.old.stopped }
     {
+        let _stopped = self.stopped;
         unreachable!()
     }
 
@@ -167,6 +173,7 @@ impl Net {
         ensures stopped { self.now.stopped ≡ true → result ≡ 0 }
         ensures held { self.now.stopped ≡ false → result ≡ length (held_at self.now.edges node) }
     {
+        let _stopped = self.stopped;
         unreachable!()
     }
 }

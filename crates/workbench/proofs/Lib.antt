@@ -38,4 +38,7 @@ pub mod Passes
 pub mod Living
 pub mod FrontTexts
 pub mod AtRest
+pub mod Taking
+pub mod Watched
+pub mod WatchedRows
 pub mod Reported

@@ -15,7 +15,7 @@ use frac128::Memory;
 use online_net::Net;
 use report::{put_start, put_verdict};
 use std::alloc::Global;
-use stl_syntax::{Formula, Node, Text, Verdict};
+use stl_syntax::{Formula, Text, Verdict};
 use trace_reader::Row;
 
 /// The network of a formula in the ticks of a trace, and the truth at the start once the first verdict was taken.
@@ -27,7 +27,7 @@ pub(crate) struct Verdicts {
 }
 
 impl Verdicts {
-    /// A step of every node that is no atom, in rising order.
+    /// A step of every node in rising order, children before the nodes that read them. An atom is never ready.
     ///
     /// # Errors
     /// Want of memory.
@@ -39,12 +39,9 @@ impl Verdicts {
         ensures start { self.new.start ≡ self.old.start }
     {
         for node in 0..self.formula.len() {
-            if let Node::Atom(_) = self.formula.node(node) {
-                continue;
-            }
-            if let Err(_) = self.net.step(node) {
+            let Ok(_) = self.net.step(node) else {
                 return Err(Memory);
-            }
+            };
         }
         Ok(())
     }
@@ -103,17 +100,17 @@ impl Follow for Verdicts {
     }
 
     fn row(&mut self, row: &Row, text: &mut Text) -> Result<(), Memory> {
-        if let Err(_) = self.net.feed(row) {
+        let Ok(()) = self.net.feed(row) else {
             return Err(Memory);
-        }
+        };
         self.step_all()?;
         self.take_all(text)
     }
 
     fn end(&mut self, text: &mut Text) -> Result<bool, Memory> {
-        if let Err(_) = self.net.close() {
+        let Ok(()) = self.net.close() else {
             return Err(Memory);
-        }
+        };
         self.step_all()?;
         self.take_all(text)?;
         let Some(holds) = self.start else {
