@@ -1,9 +1,11 @@
 -- What a run leaves to its caller.
 use Rattle.std.proofs.Common.{◌≡◌, ◌≢◌, ◌⊎◌, inl, inr, ℕ, Bool, true, false, List, [], refl, sym, subst, arith, Result, Ok, Err}
 use Rattle.std.specs.Prelude.{MatchResult, OnOk}
+use Rattle.std.specs.Result.{is_err}
+use Rattle.std.proofs.lemmas.Bool.{false≢true}
 use Rattle.std.specs.Io.KnownBytes.{Appends, Consumes}
 use Rattle.std.proofs.KnownBytes.{Appends-nil, Consumes-nil}
-use Rattle.io_edge.specs.Calls.{Drained, Filled}
+use Rattle.io_edge.specs.Calls.{Drained, Filled, IsAskedOnce}
 use Rattle.stl_syntax.specs.Formula.{Formula}
 use Rattle.report.specs.Report.{Command}
 use Rattle.workbench.specs.Commands.{Judge, judge}
@@ -15,7 +17,9 @@ use Rattle.workbench.specs.Running.{IsRun, unknown as run_unknown}
 use Rattle.workbench.specs.Saying.{IsSaid}
 use Rattle.workbench.specs.Keeping.{Holds, IsLeft, asked, unknown, HasRun}
 use Rattle.workbench.specs.Watches.{Watched, StandsForAll}
-use Rattle.workbench.specs.Wholes.{IsBadEnd, refused, no_room, status_of, status_of_stop}
+use Rattle.workbench.specs.Wholes.{IsBadEnd, refused, no_room, status_of, status_of_stop, IsEndLine}
+use Rattle.workbench.specs.Pushing.{IsStreamEnd}
+use Rattle.workbench.proofs.StreamSteps.{stream_run}
 use Rattle.workbench.specs.declared.fault.Stop.{Stop}
 use Rattle.workbench.specs.declared.fault.Stop.TheVariants.{Fault as Faulty, Unread, Unwritten, NoMemory, Wide, TooMany}
 use Rattle.workbench.specs.declared.kept.Kept.{Kept}
@@ -73,3 +77,22 @@ watch_left words f bytes text (Err stop) w old new ask k same =
     not_answer NoMemory = (λ e. omega (arith, e), λ e. omega (arith, e))
     not_answer (Wide i den) = (λ e. omega (arith, e), λ e. omega (arith, e))
     not_answer (TooMany count) = (λ e. omega (arith, e), λ e. omega (arith, e))
+
+-- the answer is kept, or the fault leaves all as it was
+pub kept_fault : (r : Result Bool Stop) (w : Watched) (k : Kept) → is_err r ≡ true → MatchResult r (λ _. k ≡ Watch w) (λ _. k ≡ k)
+kept_fault (Ok holds) w k e = absurd (false≢true e)
+kept_fault (Err stop) w k e = refl
+
+pub kept_answer : (r : Result Bool Stop) (w : Watched) (old : Kept) → is_err r ≡ false → MatchResult r (λ _. Watch w ≡ Watch w) (λ _. Watch w ≡ old)
+kept_answer (Ok holds) w old e = refl
+kept_answer (Err stop) w old e = absurd (false≢true (sym e))
+
+-- the run of `watch`
+pub watch_run : (words : List (List ℕ)) (f g h : Formula) (w : Watched) (i : Drained) (o e : Filled) (old new : Kept) → AreFor words word.watch f → g ≡ f → h ≡ f → (ending : Result Bool Stop) (status : ℕ) (line : List ℕ)
+    → status ≡ status_of ending
+    → IsStreamEnd (λ bytes text. (holds : Bool) × StandsForAll (record { formula = g; limits = stream_limits; bytes = bytes; text = text }) holds w) (stream verdicts g) i o ending
+    → IsAskedOnce i → IsEndLine h ending line → IsSaid e.before e.after e.faults e.faults_after line → MatchResult ending (λ _. new ≡ Watch w) (λ _. new ≡ old) → HasRun words i o e old new status
+watch_run words f g h w i o e old new ask eg eh ending status line same x once told said kept =
+    let y = subst (λ (k : Formula). IsStreamEnd (λ bytes text. (holds : Bool) × StandsForAll (record { formula = k; limits = stream_limits; bytes = bytes; text = text }) holds w) (stream verdicts k) i o ending) eg x in
+    stream_run words verdicts f i o e old new ask ending status line same y once (subst (λ (k : Formula). IsEndLine k ending line) eh told) said
+    (watch_left words f y.bytes y.text ending w old new ask y.left kept)

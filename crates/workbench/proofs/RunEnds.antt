@@ -1,6 +1,6 @@
 -- How a run ends, from how its parts do.
 use Rattle.std.proofs.Common.{◌≡◌, ◌≢◌, ◌⊎◌, inl, inr, ℕ, ◌≤◌, Bool, true, false, List, [], ◌∷◌, refl, sym, ap, subst, arith, append-nil, Result, Ok, Err}
-use Rattle.std.specs.Prelude.{Option, IsErr, codes}
+use Rattle.std.specs.Prelude.{Option, IsErr}
 use Rattle.std.specs.Io.KnownBytes.{Appends, Consumes, IsAtEnd}
 use Rattle.std.proofs.KnownBytes.{Appends-nil, Consumes-nil}
 use Rattle.std.proofs.lemmas.Bool.{false≢true}
@@ -61,16 +61,6 @@ none_asked {words} h (judge j text) a = by_word a.built
     by_word (inr (inr (inr (inr (inr (inl e)))))) = form_of (Whole Table) e
     by_word (inr (inr (inr (inr (inr (inr other)))))) = other
 none_asked h (generate n rows) a = a.built
-
--- a word that is none of those
-pub no_mode : (word : List ℕ) → word ≢ codes "check" → word ≢ codes "watch" → word ≢ codes "robust" → word ≢ codes "explain" → word ≢ codes "json" → word ≢ codes "table"
-    → (m : Mode) → word ≡ judge_word (judge_of m) → ⊥
-no_mode word check watch robust explain json table (Whole Check) e = check e
-no_mode word check watch robust explain json table Watch e = watch e
-no_mode word check watch robust explain json table (Whole Robust) e = robust e
-no_mode word check watch robust explain json table (Whole Explain) e = explain e
-no_mode word check watch robust explain json table (Whole Json) e = json e
-no_mode word check watch robust explain json table (Whole Table) e = table e
 
 -- a command that holds the whole trace serves each formula
 pub serves : (c : Command) (f : Formula) (i : ℕ) → ¬ IsUnserved (word_of c) f i

@@ -67,7 +67,7 @@ has_fault p ended grown (Faulty (InTrace r)) s = (fault.Trace r, refl)
 has_fault p ended grown (Faulty (Unknown line atom term)) s = (fault.Unknown line atom term, refl)
 has_fault p ended grown (Faulty (InTicks line (unit_fault.Constant node))) s = (fault.UnitConstant line node, refl)
 has_fault p ended grown (Faulty (InTicks line (unit_fault.Reach sum))) s = (fault.UnitReach line sum, refl)
-has_fault p ended grown (Faulty (InTicks line unit_fault.Memory)) (x, is, input, told) = absurd (unit_is p.limits p.formula p.bytes ended line x is input)
+has_fault p ended grown (Faulty (InTicks line unit_fault.Memory)) (x, is, h) = absurd (unit_is p.limits p.formula p.bytes ended line x is h.0)
 has_fault p ended grown Unread s = absurd s
 has_fault p ended grown Unwritten s = (fault.Write, refl)
 has_fault p ended grown NoMemory s = (fault.Memory, refl)
@@ -137,13 +137,13 @@ module _ {T : Type 0} (held held_after : Option (List ℕ)) (p : Past) (ended : 
       (part.front, part.wrote, (part.back, part.missing, in_part part.front part.back part.parts (fault_made stop (λ e. ne (ap Err e)) h)))
 
 -- a call that stopped
-pub call_stopped : (held held_after : Option (List ℕ)) (p : Past) (ended : Bool) (made : List ℕ) {T : Type 0} (Good : T → Type 0) (Fine : T → Past → Type 0) (stop : Stop) (w : WatchFault)
+pub call_stopped : (held held_after : Option (List ℕ)) (p : Past) (ended : Bool) (made : List ℕ) (T : Type 0) (Good : T → Type 0) (Fine : T → Past → Type 0) (stop : Stop) (w : WatchFault)
     → IsTold held held_after p ended made Good (Err stop) → IsFaultOf stop w → IsCall held held_after p ended Fine (Err w)
-call_stopped held held_after p ended made Good Fine stop w (grown, wrote, s) e = (grown, wrote, is_watch_fault (with_text p grown) ended grown stop w s e)
+call_stopped held held_after p ended made T Good Fine stop w (grown, wrote, s) e = (grown, wrote, is_watch_fault (with_text p grown) ended grown stop w s e)
 
-pub fault_there : (held held_after : Option (List ℕ)) (p : Past) (ended : Bool) (made : List ℕ) {T : Type 0} (Good : T → Type 0) (stop : Stop)
+pub fault_there : (held held_after : Option (List ℕ)) (p : Past) (ended : Bool) (made : List ℕ) (T : Type 0) (Good : T → Type 0) (stop : Stop)
     → IsTold held held_after p ended made Good (Err stop) → (x : WatchFault) × IsFaultOf stop x
-fault_there held held_after p ended made Good stop (grown, wrote, s) = has_fault (with_text p grown) ended grown stop s
+fault_there held held_after p ended made T Good stop (grown, wrote, s) = has_fault (with_text p grown) ended grown stop s
 
 -- ---- a piece
 
@@ -181,6 +181,15 @@ module _ (old mid : Live Verdicts) (p : Past) (piece : List ℕ) (phase : Phase)
         (subst (λ (f : Formula). ¬ IsInputFault mid.rows.limits f (p.bytes ++ piece) false x) (formula ∙ s.formula) (calm_now WatchesRows verdicts mid (p.bytes ++ piece) p.text k x));
   })
 
+-- what came of a piece, once it was told
+pub push_told : (held held_after : Option (List ℕ)) (old mid : Live Verdicts) (p : Past) (piece : List ℕ) (phase : Phase) (s : StandsFor p (record { live = old; phase = phase }))
+    (formula : mid.formula ≡ old.formula) (limits : mid.rows.limits ≡ old.rows.limits) (fed result : Result (Unit {0}) Stop) → IsToldAs held held_after mid.text fed result
+    → MatchResult fed (λ _. IsLive WatchesRows verdicts mid (p.bytes ++ piece) p.text) (λ e. IsLiveStop verdicts old.rows.limits old.formula false (p.bytes ++ piece) (p.text ++ mid.text) e)
+    → IsTold held held_after (with_piece p piece) false mid.text (λ _. IsLive WatchesRows verdicts mid (p.bytes ++ piece) p.text) result
+push_told held held_after old mid p piece phase s formula limits fed result told taken =
+    told_call held held_after (with_piece p piece) false mid.text (λ _. IsLive WatchesRows verdicts mid (p.bytes ++ piece) p.text) fed result told
+    (piece_fed old mid p piece phase s formula limits fed taken)
+
 -- ---- the end
 
 truth_of : (holds : Bool) (f : Formula) (tr : Trace) → TellsTruth f tr (status_of_truth holds) → MatchBool holds (HoldsAtStart f tr) (¬ HoldsAtStart f tr)
@@ -216,6 +225,15 @@ module _ (old mid : Live Verdicts) (p : Past) (phase : Phase) (s : StandsFor p (
     written = subst (λ (g : Formula). IsStreamText (root g.nodes) k.case.trace.header k.case.trace.rows true (p.text ++ mid.text)) k.fits.formula k.complete.told;
     truth = truth_of holds p.formula k.case.trace (k.complete.verdict p.formula k.fits);
   })
+
+-- what came of the end, once it was told
+pub end_told : (held held_after : Option (List ℕ)) (old mid : Live Verdicts) (p : Past) (phase : Phase) (s : StandsFor p (record { live = old; phase = phase })) (formula : mid.formula ≡ old.formula)
+    (finished result : Result Bool Stop) → IsToldAs held held_after mid.text finished result
+    → MatchResult finished (IsOver WatchesEnd verdicts old.rows.limits old.formula mid p.bytes (p.text ++ mid.text)) (λ e. IsLiveStop verdicts old.rows.limits old.formula true p.bytes (p.text ++ mid.text) e)
+    → IsTold held held_after p true mid.text (IsOver WatchesEnd verdicts p.limits p.formula mid p.bytes (p.text ++ mid.text)) result
+end_told held held_after old mid p phase s formula finished result told over =
+    told_call held held_after p true mid.text (IsOver WatchesEnd verdicts p.limits p.formula mid p.bytes (p.text ++ mid.text)) finished result told
+    (end_fed old mid p phase s formula finished over)
 
 -- ---- a source
 

@@ -97,6 +97,7 @@ impl<F: Follow> Live<F> {
         ensures live { IfOk result (λ x. IsLive F.stands F.kind x [] []) }
         ensures limits { IfOk result (λ x. x.rows.limits ≡ limits) }
         ensures formula { IfOk result (λ x. x.formula ≡ formula) }
+        ensures empty { IfOk result (λ x. x.text ≡ []) }
     {
         let rows = Rows::new(alloc, limits, formula.scale())?;
         Ok(Live {

@@ -1,5 +1,5 @@
 //! Verdicts as the bytes of a trace come.
-ghost use Rattle.std.specs.Prelude.{◌≡◌, ◌≢◌, ◌≤◌, ◌^◌, ◌++◌, ◌×◌, ℕ, List, [], Bool, true, false, Err, IfOk};
+ghost use Rattle.std.specs.Prelude.{◌≡◌, ◌≢◌, ◌≤◌, ◌^◌, ◌++◌, ℕ, List, [], Bool, true, false, Err, IfOk};
 ghost use Rattle.io_edge.specs.Causes.{Rose, after_end};
 ghost use Rattle.io_edge.specs.Calls.{drained, filled};
 ghost use Rattle.workbench.specs.InputFaults.{stream_limits};
