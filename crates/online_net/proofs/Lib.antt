@@ -1,0 +1,5 @@
+mod Saying
+mod Events
+mod Feeding
+mod Fresh
+mod Stepping

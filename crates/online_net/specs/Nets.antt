@@ -1,24 +1,5 @@
 -- What a network holds, when it stands for a run of events, and what its calls answer.
-use Rattle.std.specs.Prelude.{
-  ◌≡◌,
-  ℕ,
-  suc,
-  ◌-◌,
-  Bool,
-  true,
-  false,
-  List,
-  [],
-  ◌∷◌,
-  ◌++◌,
-  length,
-  Option,
-  Some,
-  None,
-  option_map,
-  slice_get,
-  pos,
-}
+use Rattle.std.specs.Prelude.{◌≡◌, ℕ, ◌-◌, Bool, true, false, List, [], ◌∷◌, length, Option, Some, None, option_map, slice_get}
 use Rattle.stl_syntax.specs.Trace.{Header, Row}
 use Rattle.stl_syntax.specs.WellFormed.{AreWellFormed, HasOneRoot}
 use Rattle.stl_syntax.specs.declared.items.Verdict.{Verdict}

@@ -1,6 +1,7 @@
-//! The streaming network: a seam, with no bodies. Never to be landed.
+//! The streaming network: the operators of a formula over the rows of a trace, in any order of its steps.
 #![tactic(auto)]
 
+mod atom;
 mod net;
 
 pub use net::{Net, NetFault};

@@ -9,13 +9,17 @@ ghost use Rattle.stl_syntax.specs.declared.node.Node.{Node as ANode};
 ghost use Rattle.atom_lines.specs.Binding.{IsBound};
 ghost use Rattle.online_nodes.specs.Network.{Event, row as came, step as stepped, close as ended, take as taken, state, shown, node_is_atom, IsReady};
 ghost use Rattle.online_nodes.specs.Held.{held_at};
+ghost use Rattle.online_nodes.specs.Belonging.{Belongs, BelongsSomewhere};
+ghost use Rattle.online_net.specs.Steps.{AreFirstOperators, IsFirstOperator, IsStep};
+ghost use Rattle.stl_syntax.specs.Trace.{Row as ARow};
 
+use crate::atom::put_row;
 use atom_lines::Bound;
 use frac128::Memory;
 use online_nodes::{Edges, Operator};
 use std::alloc::Global;
 use std::marker::Model;
-use stl_syntax::{Formula, Verdict};
+use stl_syntax::{Formula, Node, Verdict};
 use trace_reader::Row;
 
 /// Why a call was refused.
@@ -48,9 +52,75 @@ impl Model for Net {
 
     ghost Value = { Parts };
 
+    ghost use Rattle.online_net.specs.Nets.{HasPast};
+
     ghost view = { λ n. record { edges = n.edges; operators = n.operators.items; bound = n.bound; last = n.last; closed = n.closed; stopped = n.stopped } };
 
-    ghost invariant = { λ n. ⊥ };
+    ghost invariant = { λ n. HasPast (record {
+      edges = n.edges;
+      operators = n.operators.items;
+      bound = n.bound;
+      last = n.last;
+      closed = n.closed;
+      stopped = n.stopped;
+    }) };
+}
+
+/// The operator of a node, before any step; none at an atom.
+fn operator_at(formula: &Formula, node: u32) -> Option<Operator>
+    requires { node < length formula.now.nodes }
+    ensures { IsFirstOperator formula.now.nodes node result }
+{
+    match formula.node(node) {
+        Node::Atom(_) => None,
+        _ => Some(Operator::new(formula, node)),
+    }
+}
+
+/// The operators of all nodes.
+fn operators_of(alloc: Global, formula: &Formula) -> Result<Vec<Option<Operator>>, Memory>
+    ensures { IfOk result (λ v. AreFirstOperators formula.now.nodes v.items (length formula.now.nodes)) }
+{
+    let mut operators = Vec::new(alloc);
+    for i in 0..formula.len() {
+        let Ok(()) = operators.push(operator_at(formula, i)) else {
+            return Err(Memory);
+        };
+    }
+    Ok(operators)
+}
+
+/// The time of a row, if there is one.
+fn time_of(row: &Option<Row>) -> Option<u32>
+    ensures { result ≡ option_map (λ (r : ARow). r.time) row.now }
+{
+    match row {
+        Some(r) => Some(r.time()),
+        None => None,
+    }
+}
+
+/// One step of an operator, with room made for it before. None where it is not ready, and then nothing changes.
+fn step_one(
+    edges: &mut Edges,
+    operator: Operator,
+    now: u32,
+    ended: bool,
+) -> Result<Option<Operator>, Memory>
+    requires { BelongsSomewhere operator edges.old now ended }
+    ensures idle { IfOk result (λ after. after ≡ None → edges.new ≡ edges.old) }
+    ensures stepped { (nodes : List ANode) (header : Header) (events : List Event) → Belongs nodes header events operator edges.old now ended
+        → IfOk result (λ after. MatchOption after (¬ IsReady nodes (state nodes events) operator.node)
+        (IsStep nodes header events operator edges.old edges.new now ended)) }
+{
+    let need = operator.need(edges, now, ended);
+    if need == 0 {
+        return Ok(None);
+    }
+    edges.reserve(need)?;
+    let mut after = operator;
+    after.advance(edges, now, ended)?;
+    Ok(Some(after))
 }
 
 impl Net {
@@ -68,7 +138,16 @@ impl Net {
         ensures bound { IfOk result (λ net. net.bound ≡ bound) }
         ensures no_row { IfOk result (λ net. net.last ≡ None) }
     {
-        Err(Memory)
+        let operators = operators_of(alloc, formula)?;
+        let edges = Edges::new(alloc, formula.len())?;
+        Ok(Net {
+            edges,
+            operators,
+            bound,
+            last: None,
+            closed: false,
+            stopped: false,
+        })
     }
 
     /// The next row: each atom gives out its verdicts up to it.
@@ -86,8 +165,24 @@ impl Net {
         ensures nodes { length self.new.operators ≡ length self.old.operators }
         ensures bound { self.new.bound ≡ self.old.bound }
     {
-        let _stopped = self.stopped;
-        unreachable!()
+        if self.stopped {
+            return Err(NetFault::Stopped);
+        }
+        if self.closed {
+            return Err(NetFault::Closed);
+        }
+        let Ok(kept) = put_row(
+            &mut self.edges,
+            &self.operators,
+            &self.bound,
+            &self.last,
+            row,
+        ) else {
+            self.stopped = true;
+            return Err(NetFault::Memory);
+        };
+        self.last = Some(kept);
+        Ok(())
     }
 
     /// The end of the rows. It takes no memory.
@@ -101,8 +196,14 @@ impl Net {
         ensures stands { (nodes : List ANode) (header : Header) (events : List Event) → Stands nodes header self.old events
             → IfOk result (λ _. Stands nodes header self.new (events ++ ended ∷ [])) }
     {
-        let _stopped = self.stopped;
-        unreachable!()
+        if self.stopped {
+            return Err(NetFault::Stopped);
+        }
+        if self.closed {
+            return Err(NetFault::Closed);
+        }
+        self.closed = true;
+        Ok(())
     }
 
     /// One step of a node: it takes what its children have ready. False where it was not ready, and then nothing changes; an atom
@@ -122,8 +223,25 @@ impl Net {
         ensures nodes { length self.new.operators ≡ length self.old.operators }
         ensures bound { self.new.bound ≡ self.old.bound }
     {
-        let _stopped = self.stopped;
-        unreachable!()
+        if self.stopped {
+            return Err(NetFault::Stopped);
+        }
+        let Some(row) = &self.last else {
+            return Ok(false);
+        };
+        let now = row.time();
+        let Some(operator) = self.operators[node as usize] else {
+            return Ok(false);
+        };
+        let Ok(stepped) = step_one(&mut self.edges, operator, now, self.closed) else {
+            self.stopped = true;
+            return Err(NetFault::Memory);
+        };
+        let Some(after) = stepped else {
+            return Ok(false);
+        };
+        self.operators[node as usize] = Some(after);
+        Ok(true)
     }
 
     /// Whether a step would move the node. It takes no memory. A stopped network is never ready.
@@ -133,8 +251,16 @@ impl Net {
         ensures ready { (nodes : List ANode) (header : Header) (events : List Event) → Stands nodes header self.now events
             → IsTrue result ↔ IsReady nodes (state nodes events) node }
     {
-        let _stopped = self.stopped;
-        unreachable!()
+        if self.stopped {
+            return false;
+        }
+        let Some(row) = &self.last else {
+            return false;
+        };
+        match &self.operators[node as usize] {
+            Some(operator) => operator.ready(&self.edges, row.time(), self.closed),
+            None => false,
+        }
     }
 
     /// All times up to it are answered at the node; None where none is, and where the network is stopped. It takes no memory.
@@ -144,8 +270,13 @@ impl Net {
         ensures front { (nodes : List ANode) (header : Header) (events : List Event) → Stands nodes header self.now events
             → option_map pos result ≡ shown (state nodes events) node }
     {
-        let _stopped = self.stopped;
-        unreachable!()
+        if self.stopped {
+            return None;
+        }
+        match &self.operators[node as usize] {
+            Some(operator) => operator.front(),
+            None => time_of(&self.last),
+        }
     }
 
     /// The next verdict of the root; None where all up to the root's front was taken, and where the network is stopped. It takes no
@@ -163,8 +294,14 @@ impl Net {
         ensures closed { self.new.closed ≡ self.old.closed }
         ensures running { self.new.stopped ≡ self.old.stopped }
     {
-        let _stopped = self.stopped;
-        unreachable!()
+        if self.stopped {
+            return None;
+        }
+        let root = (self.operators.len() - 1) as u32;
+        if self.edges.held(root) == 0 {
+            return None;
+        }
+        self.edges.take(root)
     }
 
     /// How many verdicts stand on the node's edge; 0 where the network is stopped.
@@ -173,7 +310,9 @@ impl Net {
         ensures stopped { self.now.stopped ≡ true → result ≡ 0 }
         ensures held { self.now.stopped ≡ false → result ≡ length (held_at self.now.edges node) }
     {
-        let _stopped = self.stopped;
-        unreachable!()
+        if self.stopped {
+            return 0;
+        }
+        self.edges.held(node)
     }
 }

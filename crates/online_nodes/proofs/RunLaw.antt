@@ -225,7 +225,7 @@ module _ (nodes : List Node) (header : Header) (order : IsPostOrder nodes) where
   node_at : ℕ → Node
   node_at i = slice_index_or nodes i (Const false)
 
-  allowed_bound : (s : State) (i : ℕ) (n : Node) (f : ℤ) → i < length nodes → slice_get nodes i ≡ Some n → AllBounded s
+  pub allowed_bound : (s : State) (i : ℕ) (n : Node) (f : ℤ) → i < length nodes → slice_get nodes i ≡ Some n → AllBounded s
       → allowed n s ≡ Some f → IsBounded s (horizon (subformula nodes i)) f
   allowed_bound s i n f l at all e = by_test (s.closed && all_at_end s (children n)) refl
     where

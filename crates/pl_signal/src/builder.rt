@@ -10,8 +10,9 @@ ghost use Rattle.pl_signal.specs.Knots.{stop, IsSignal};
 ghost use Rattle.frac128.specs.declared.frac.Frac.{Frac};
 ghost use Rattle.pl_signal.specs.Building.{Continues, GoesOn, MiddleIsBetween};
 ghost use Rattle.pl_signal.specs.Joining.{IsGapFault, Joins};
+ghost use Rattle.pl_signal.specs.declared.faults.OpFault.TheVariants as F;
 
-use crate::joining::{Pieces, pieces_over};
+use crate::joining::{Pieces, pieces_over, whole_over};
 use crate::{Knot, OpFault, Side, Signal};
 use frac128::{Frac, Memory};
 use std::alloc::Global;
@@ -115,11 +116,30 @@ impl<P: Shape> Builder<P> {
             (λ e. (from : Frac) × (value from ≡ stop self.old) × IsGapFault P.Shape p.now q.now from to.now e) }
     {
         let from = self.stop();
+        if let Some(taken) = whole_over(side, p, q, &from, to) {
+            return self.go_along(taken, to, point);
+        }
         let taken = pieces_over(side, p, q, &from, to)?;
         if self.knots.reserve(2).is_err() {
             return Err(OpFault::Memory);
         }
         put_pieces(&mut self.knots, &taken, *to, point);
+        Ok(())
+    }
+
+    /// Goes on with one shape.
+    #[inline(always)]
+    fn go_along(&mut self, after: P, to: &Frac, point: P) -> Result<(), OpFault<P>>
+        requires limited { IsWithin (2 ^ 34) (stop self.old) }
+        requires later { stop self.old <ʳ value to.now }
+        ensures ok { OnOk result (GoesOn P.Shape self.old after to.now point self.new) }
+        ensures err { OnErr result (self.new ≡ self.old) }
+        ensures memory { IfErr result (λ e. e ≡ F.Memory) }
+    {
+        if self.knots.reserve(1).is_err() {
+            return Err(OpFault::Memory);
+        }
+        go_on(&mut self.knots, after, *to, point);
         Ok(())
     }
 

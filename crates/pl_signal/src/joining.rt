@@ -1,10 +1,11 @@
 //! The least and the greatest of two shapes over an open gap.
-ghost use Rattle.std.specs.Prelude.{◌≡◌, ◌⊎◌, ◌^◌, MatchResult};
+ghost use Rattle.std.specs.Prelude.{◌≡◌, ◌⊎◌, ◌^◌, IfSome, MatchResult};
 ghost use Rattle.rational.specs.Rational.{IsWithin};
 ghost use Rattle.rational.specs.Time.{◌<ʳ◌};
 ghost use Rattle.rational.specs.Extended.{value_at};
 ghost use Rattle.rational.specs.Affine.{HasBoundedLevel, MeetAlone};
 ghost use Rattle.frac128.specs.Value.{value};
+ghost use Rattle.pl_signal.specs.declared.joining.Pieces.TheVariants.{Whole};
 ghost use Rattle.pl_signal.specs.Joining.{IsChosen, IsFavour, IsGapFault, IsPieces, TurnsOver};
 
 use crate::{OpFault, WidePair};
@@ -82,6 +83,29 @@ pub fn crossing<P: Shape>(p: &P, q: &P, from: &Frac, to: &Frac) -> Result<Frac, 
             to: *to,
             den: wide.den,
         })),
+    }
+}
+
+/// The one of the two that is taken at each time between `from` and `to`, where it is one.
+#[inline(always)]
+pub(crate) fn whole_over<P: Shape>(side: Side, p: &P, q: &P, from: &Frac, to: &Frac) -> Option<P>
+    requires from_within { IsWithin (2 ^ 34) (value from.now) }
+    requires to_within { IsWithin (2 ^ 34) (value to.now) }
+    ensures { IfSome result (λ taken. IsPieces P.Shape side p.now q.now (value from.now) (value to.now) (Whole taken)) }
+{
+    match favour(side, p, q, from) {
+        Ordering::Less => match favour(side, p, q, to) {
+            Ordering::Greater => None,
+            _ => Some(*p),
+        },
+        Ordering::Equal => match favour(side, p, q, to) {
+            Ordering::Greater => Some(*q),
+            _ => Some(*p),
+        },
+        Ordering::Greater => match favour(side, p, q, to) {
+            Ordering::Less => None,
+            _ => Some(*q),
+        },
     }
 }
 

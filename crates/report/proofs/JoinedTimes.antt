@@ -1,11 +1,10 @@
 -- Lines say what the items say that they join: at each time the same truth of the same node.
-use Rattle.std.proofs.Common.{◌≡◌, ◌≢◌, ◌⊎◌, inl, inr, ℕ, ◌&&◌, Bool, true, false, List, [], ◌∷◌, ◌++◌, refl, sym, ap, subst, ◌∙◌, append_assoc, append-nil}
+use Rattle.std.proofs.Common.{◌≡◌, ◌⊎◌, inl, inr, ℕ, ◌&&◌, Bool, true, false, List, [], ◌∷◌, ◌++◌, refl, sym, ap, subst, ◌∙◌, append_assoc}
 use Rattle.std.proofs.lemmas.Bool.{cases_Bool, and_left, and_right}
-use Rattle.rational.specs.Time.{Rational, Interval, IsIn, Precedes, Touch, BeginAlike, EndAlike, HasTimeBetween, ◌≤ʳ◌, ◌<ʳ◌, ◌≈◌}
+use Rattle.rational.specs.Time.{Rational, Interval, IsIn, Precedes, Touch, BeginAlike, EndAlike, HasTimeBetween, ◌≤ʳ◌}
 use Rattle.rational.proofs.Order.{le_or_lt, le_of_same, ge_of_same, le_trans, lt_of_lt_of_le, lt_of_le_of_lt}
 use Rattle.rational.proofs.TimeLemmas.{precedes_after, precedes_before, precedes_le, precedes_of_lt, decided_order}
 use Rattle.frac128.specs.Spans.{interval}
-use Rattle.frac128.specs.Value.{value}
 use Rattle.stl_syntax.specs.declared.items.Item.{Item}
 use Rattle.report.specs.Report.{Join, AreJoined, IsItemLines}
 use Rattle.report.proofs.ItemTexts.{EndsAs, ends_as_itself, join_last, at_most, below}

@@ -1,6 +1,7 @@
 pub mod FurtherExamples
 pub mod ReportExamples
 pub mod Parts
+pub mod Putting
 pub mod Spans
 pub mod Tops
 pub mod Fractions
@@ -8,6 +9,7 @@ pub mod SignalLaw
 pub mod Spellings
 pub mod Lines
 pub mod Advances
+mod EntryRoom
 mod Turns
 pub mod Growths
 pub mod ItemTexts

@@ -3,7 +3,9 @@ pub mod Table
 pub mod Report
 pub mod Units
 pub mod Appended
+pub mod Before
 pub mod Numbers
+pub mod Times
 pub mod SignalVerdicts
 pub mod Spelling
 pub mod VerdictForms

@@ -1,15 +1,14 @@
-//! Verdicts of which each begins where the one before it ends, in lines or in JSON, so that the text of each time is made once.
-ghost use Rattle.std.specs.Prelude.{◌≡◌, ◌≤◌, ◌++◌, IfOk, OnOk, OnErr};
-ghost use Rattle.frac128.specs.Value.{value};
-ghost use Rattle.stl_syntax.specs.Texts.{IsNumberText};
+//! Verdicts of which each begins where the one before it ends, in lines or in JSON, so that each time is brought into units once.
+ghost use Rattle.std.specs.Prelude.{◌≡◌, ◌≤◌, length, OnOk, OnErr};
 ghost use Rattle.report.specs.Appended.{Grew, GrewInPart};
-ghost use Rattle.report.specs.VerdictForms.{entry_begin, entry_end, json_end, line_end, entry_text, IsEntry};
+ghost use Rattle.report.specs.Before.{Puts};
+ghost use Rattle.report.specs.Times.{IsBegun};
+ghost use Rattle.report.specs.VerdictForms.{entry_begin, entry_end, json_end, line_end, IsEntry};
 
-use crate::number::put_time;
+use crate::before::{put_lowest, put_word};
+use crate::number::{Lowest, in_units};
 use crate::verdict::opening;
-use frac128::{Frac, Memory};
-use std::alloc::Global;
-use std::mem;
+use frac128::Memory;
 use stl_syntax::{Scale, Text, Verdict};
 
 /// In which form verdicts are written, and by which scale.
@@ -17,16 +16,6 @@ use stl_syntax::{Scale, Text, Verdict};
 pub(crate) struct Style {
     pub(crate) json: bool,
     pub(crate) scale: Scale,
-}
-
-/// The text of a time in units of `10^digits` ticks.
-pub(crate) fn time_text(alloc: Global, t: &Frac, digits: u8) -> Result<Text, Memory>
-    requires { digits ≤ 6 }
-    ensures { IfOk result (IsNumberText digits (value t.now)) }
-{
-    let mut text = Text::new(alloc);
-    put_time(&mut text, t, digits)?;
-    Ok(text)
 }
 
 /// What a verdict has before its two times.
@@ -82,44 +71,48 @@ fn ending(json: bool, v: &Verdict, last: bool) -> &'static [u8]
     line_ending(v)
 }
 
-/// Appends a verdict whose times have the texts `from` and `to`.
+/// Puts a verdict at the end of the buffer, with the times `from` and `to`, and answers where it begins.
 fn put_entry(
-    text: &mut Text,
+    buf: &mut [u8],
     v: &Verdict,
-    json: bool,
+    style: Style,
     last: bool,
-    from: &[u8],
-    to: &[u8],
-) -> Result<(), Memory>
-    ensures ok { OnOk result (text.new ≡ text.old ++ entry_text json last v.now from.now to.now) }
-    ensures err { OnErr result (GrewInPart (λ w. w ≡ entry_text json last v.now from.now to.now) text.old text.new) }
+    from: &Lowest,
+    to: &Lowest,
+) -> usize
+    requires room { 256 ≤ length buf.old }
+    requires from { IsBegun style.scale.time v.now.on.from from.now }
+    requires to { IsBegun style.scale.time v.now.on.to to.now }
+    ensures { Puts (IsEntry style.json last style.scale v.now) 256 buf.old (length buf.old) buf.new result }
 {
-    text.push(beginning(json, v))?;
-    text.push(from)?;
-    text.push(b",")?;
-    text.push(to)?;
-    text.push(ending(json, v, last))
+    let end = buf.len();
+    let after = put_word(buf, end, ending(style.json, v, last));
+    let second = put_lowest(buf, after, to);
+    let comma = put_word(buf, second, b",");
+    let first = put_lowest(buf, comma, from);
+    put_word(buf, first, beginning(style.json, v))
 }
 
-/// Appends a verdict, the last of its list or not. `begin` has the text of the time where it begins, and then has that of the time
-/// where it ends. What `end` has does not matter: it lends its memory.
+/// Appends a verdict, the last of its list or not. `begin` has the time where it begins, and then has that where it ends. What the
+/// buffer has does not matter: it lends its room.
 pub(crate) fn put_next(
     text: &mut Text,
-    begin: &mut Text,
-    end: &mut Text,
+    buf: &mut [u8],
+    begin: &mut Lowest,
     v: &Verdict,
     style: Style,
     last: bool,
 ) -> Result<(), Memory>
     requires digits { style.scale.time ≤ 6 }
-    requires begun { IsNumberText style.scale.time (value v.now.on.from) begin.old }
+    requires room { 256 ≤ length buf.old }
+    requires begun { IsBegun style.scale.time v.now.on.from begin.old }
     ensures ok { OnOk result (Grew (IsEntry style.json last style.scale v.now) text.old text.new) }
-    ensures ends { OnOk result (IsNumberText style.scale.time (value v.now.on.to) begin.new) }
+    ensures ends { IsBegun style.scale.time v.now.on.to begin.new }
+    ensures room { length buf.new ≡ length buf.old }
     ensures err { OnErr result (GrewInPart (IsEntry style.json last style.scale v.now) text.old text.new) }
 {
-    end.clear();
-    put_time(end, &v.on.to, style.scale.time)?;
-    put_entry(text, v, style.json, last, begin.bytes(), end.bytes())?;
-    mem::swap(begin, end);
-    Ok(())
+    let to = in_units(&v.on.to, style.scale.time);
+    let at = put_entry(buf, v, style, last, begin, &to);
+    *begin = to;
+    text.push(&buf[at..])
 }

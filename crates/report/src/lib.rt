@@ -1,6 +1,7 @@
 //! The texts of verdicts, margins, explanations and faults.
 #![tactic(auto)]
 
+mod before;
 mod fault;
 mod following;
 mod items;

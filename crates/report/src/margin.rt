@@ -1,5 +1,5 @@
 //! The lines of a signal of margins: its knots, and the pieces between them.
-ghost use Rattle.std.specs.Prelude.{◌≤◌, ◌^◌, OnOk, OnErr};
+ghost use Rattle.std.specs.Prelude.{◌≡◌, ◌≤◌, ◌^◌, length, OnOk, OnErr};
 ghost use Rattle.rational.specs.Rational.{IsWithin};
 ghost use Rattle.rational.specs.Extended.{value_at};
 ghost use Rattle.frac128.specs.Value.{value};
@@ -9,8 +9,10 @@ ghost use Rattle.pl_signal.specs.Knots.{start, stop};
 ghost use Rattle.pl_signal.specs.Plain.{knots_of, plain_knot, plain_piece};
 ghost use Rattle.stl_syntax.specs.Texts.{IsValueText, IsKnotLine, IsPieceLine, AreMarginLines};
 ghost use Rattle.report.specs.Appended.{Grew, GrewInPart};
+ghost use Rattle.report.specs.Before.{Puts};
 ghost use Rattle.report.specs.MarginLines.{IsTimeAfter, IsValueAfter, AreNextLines, AreLaterLines};
 
+use crate::before::{put_lowest, put_word};
 use crate::number::{in_units, put_fraction, quotient_in_units};
 use frac128::{Frac, Memory};
 use pl_signal::{Knot, Signal};
@@ -64,22 +66,91 @@ pub(crate) fn put_value_after(
     put_value(text, m, at, digits)
 }
 
-/// Appends the line of a knot.
-fn put_knot(text: &mut Text, k: &Knot<Margin>, scale: Scale) -> Result<(), Memory>
+/// Puts the value of a margin at a time, in units.
+fn put_margin(buf: &mut [u8], end: usize, m: &Margin, at: &Frac, digits: u8) -> usize
+    requires few { digits ≤ 6 }
+    requires time { IsWithin (2 ^ 34) (value at.now) }
+    requires room { 82 ≤ end }
+    requires inside { end ≤ length buf.old }
+    ensures { Puts (IsValueText digits (value_at (margin_function m.now) (value at.now))) 82 buf.old end buf.new result }
+{
+    match m {
+        Margin::Low => put_word(buf, end, b"-inf"),
+        Margin::High => put_word(buf, end, b"inf"),
+        Margin::Fixed(c) => put_lowest(buf, end, &in_units(c, digits)),
+        Margin::Ramp(f) => put_lowest(buf, end, &quotient_in_units(&f.at(at), digits)),
+    }
+}
+
+/// Puts the line of a knot.
+fn put_knot(buf: &mut [u8], end: usize, k: &Knot<Margin>, scale: Scale) -> usize
+    requires time { scale.time ≤ 6 }
+    requires value { scale.value ≤ 6 }
+    requires within { IsWithin (2 ^ 34) (value k.now.time) }
+    requires room { 200 ≤ end }
+    requires inside { end ≤ length buf.old }
+    ensures { Puts (IsKnotLine scale (plain_knot margin_shape k.now)) 200 buf.old end buf.new result }
+{
+    let line = put_word(buf, end, b"\n");
+    let value = put_margin(buf, line, &k.point, &k.time, scale.value);
+    let middle = put_word(buf, value, b"] ");
+    let time = put_lowest(buf, middle, &in_units(&k.time, scale.time));
+    put_word(buf, time, b"[")
+}
+
+/// Puts the line of the piece between two knots.
+fn put_piece(buf: &mut [u8], end: usize, k: &Knot<Margin>, n: &Knot<Margin>, scale: Scale) -> usize
+    requires time { scale.time ≤ 6 }
+    requires value { scale.value ≤ 6 }
+    requires from { IsWithin (2 ^ 34) (value k.now.time) }
+    requires to { IsWithin (2 ^ 34) (value n.now.time) }
+    requires room { 400 ≤ end }
+    requires inside { end ≤ length buf.old }
+    ensures { Puts (IsPieceLine scale (plain_knot margin_shape k.now) (plain_piece margin_shape k.now n.now)) 400 buf.old end buf.new result }
+{
+    let line = put_word(buf, end, b"\n");
+    let last = put_margin(buf, line, &k.after, &n.time, scale.value);
+    let arrow = put_word(buf, last, b" -> ");
+    let first = put_margin(buf, arrow, &k.after, &k.time, scale.value);
+    let middle = put_word(buf, first, b") ");
+    let to = put_lowest(buf, middle, &in_units(&n.time, scale.time));
+    let comma = put_word(buf, to, b",");
+    let from = put_lowest(buf, comma, &in_units(&k.time, scale.time));
+    put_word(buf, from, b"(")
+}
+
+/// Appends the line of the first knot.
+fn put_first(text: &mut Text, k: &Knot<Margin>, scale: Scale) -> Result<(), Memory>
     requires time { scale.time ≤ 6 }
     requires value { scale.value ≤ 6 }
     requires within { IsWithin (2 ^ 34) (value k.now.time) }
     ensures ok { OnOk result (Grew (IsKnotLine scale (plain_knot margin_shape k.now)) text.old text.new) }
     ensures err { OnErr result (GrewInPart (IsKnotLine scale (plain_knot margin_shape k.now)) text.old text.new) }
 {
-    put_time_after(text, b"[", &k.time, scale.time)?;
-    put_value_after(text, b"] ", &k.point, &k.time, scale.value)?;
-    text.push(b"\n")
+    let mut buf = [0u8; 256];
+    let end = buf.len();
+    let at = put_knot(&mut buf, end, k, scale);
+    text.push(&buf[at..])
 }
 
-/// Appends the line of the piece between two knots.
-fn put_piece(
+/// Puts the lines of the piece between two knots and of the second at the end of the buffer.
+fn put_lines(buf: &mut [u8], k: &Knot<Margin>, n: &Knot<Margin>, scale: Scale) -> usize
+    requires time { scale.time ≤ 6 }
+    requires value { scale.value ≤ 6 }
+    requires from { IsWithin (2 ^ 34) (value k.now.time) }
+    requires to { IsWithin (2 ^ 34) (value n.now.time) }
+    requires room { 640 ≤ length buf.old }
+    ensures { Puts (AreNextLines margin_shape scale k.now n.now) 600 buf.old (length buf.old) buf.new result }
+{
+    let end = buf.len();
+    let knot = put_knot(buf, end, n, scale);
+    put_piece(buf, knot, k, n, scale)
+}
+
+/// Appends the lines of the piece between two knots and of the second.
+fn put_next(
     text: &mut Text,
+    buf: &mut [u8],
     k: &Knot<Margin>,
     n: &Knot<Margin>,
     scale: Scale,
@@ -88,27 +159,13 @@ fn put_piece(
     requires value { scale.value ≤ 6 }
     requires from { IsWithin (2 ^ 34) (value k.now.time) }
     requires to { IsWithin (2 ^ 34) (value n.now.time) }
-    ensures ok { OnOk result (Grew (IsPieceLine scale (plain_knot margin_shape k.now) (plain_piece margin_shape k.now n.now)) text.old text.new) }
-    ensures err { OnErr result (GrewInPart (IsPieceLine scale (plain_knot margin_shape k.now) (plain_piece margin_shape k.now n.now)) text.old text.new) }
-{
-    put_time_after(text, b"(", &k.time, scale.time)?;
-    put_time_after(text, b",", &n.time, scale.time)?;
-    put_value_after(text, b") ", &k.after, &k.time, scale.value)?;
-    put_value_after(text, b" -> ", &k.after, &n.time, scale.value)?;
-    text.push(b"\n")
-}
-
-/// Appends the lines of the piece between two knots and of the second.
-fn put_next(text: &mut Text, k: &Knot<Margin>, n: &Knot<Margin>, scale: Scale) -> Result<(), Memory>
-    requires time { scale.time ≤ 6 }
-    requires value { scale.value ≤ 6 }
-    requires from { IsWithin (2 ^ 34) (value k.now.time) }
-    requires to { IsWithin (2 ^ 34) (value n.now.time) }
+    requires room { 640 ≤ length buf.old }
     ensures ok { OnOk result (Grew (AreNextLines margin_shape scale k.now n.now) text.old text.new) }
     ensures err { OnErr result (GrewInPart (AreNextLines margin_shape scale k.now n.now) text.old text.new) }
+    ensures room { length buf.new ≡ length buf.old }
 {
-    put_piece(text, k, n, scale)?;
-    put_knot(text, n, scale)
+    let at = put_lines(buf, k, n, scale);
+    text.push(&buf[at..])
 }
 
 /// Appends the lines after that of the first knot.
@@ -121,8 +178,9 @@ fn put_later(text: &mut Text, s: &Signal<Margin>, scale: Scale) -> Result<(), Me
     ensures err { OnErr result (GrewInPart (AreLaterLines margin_shape scale s.now) text.old text.new) }
 {
     let knots = s.len();
+    let mut buf = [0u8; 640];
     for i in 1..knots {
-        put_next(text, &s.knot(i - 1), &s.knot(i), scale)?;
+        put_next(text, &mut buf, &s.knot(i - 1), &s.knot(i), scale)?;
     }
     Ok(())
 }
@@ -141,6 +199,6 @@ pub fn put_margins(text: &mut Text, s: &Signal<Margin>, scale: Scale) -> Result<
     ensures err { OnErr result (GrewInPart (AreMarginLines scale (knots_of ⟦<Margin as Shape>⟧ s.now)) text.old text.new) }
 {
     let _ = s.len();
-    put_knot(text, &s.knot(0), scale)?;
+    put_first(text, &s.knot(0), scale)?;
     put_later(text, s, scale)
 }

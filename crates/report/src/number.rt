@@ -1,5 +1,5 @@
 //! Numbers of ticks as fractions of units, in lowest terms.
-ghost use Rattle.std.specs.Prelude.{◌≡◌, ◌≢◌, ◌<◌, ◌≤◌, ◌^◌, ◌/◌, ◌%◌, [], ◌++◌, true, if◌then◌else◌, codes, decimal, OnOk, OnErr};
+ghost use Rattle.std.specs.Prelude.{ℕ, ◌≡◌, ◌≢◌, ◌<◌, ◌≤◌, ◌^◌, ◌/◌, ◌%◌, [], ◌++◌, true, if◌then◌else◌, codes, decimal, OnOk, OnErr};
 ghost use Rattle.std.specs.Int.{IsGcd};
 ghost use Rattle.std.specs.Int.RustNames.{unsigned_abs};
 ghost use Rattle.rational.specs.Time.{IsLowest, ratio, ◌≈◌};
@@ -16,9 +16,9 @@ use stl_syntax::Text;
 /// A fraction in lowest terms, by its sign and its size.
 #[derive(Clone, Copy)]
 pub(crate) struct Lowest {
-    negative: bool,
-    size: u128,
-    den: u128,
+    pub(crate) negative: bool,
+    pub(crate) size: u128,
+    pub(crate) den: u128,
 }
 
 /// `n / by`, in 64 bits where `n` has no more.
@@ -53,6 +53,7 @@ fn common_with(size: u128, tens: u64) -> u64
 }
 
 /// The number times its denominator, by its sign and its size.
+#[inline(always)]
 fn top(t: &Frac) -> (bool, u128)
     ensures lowest { IsLowest (signed result.0 result.1) (denominator t.now) }
     ensures value { value t.now ≈ ratio (signed result.0 result.1) (denominator t.now) t.now.positive }
@@ -68,6 +69,7 @@ fn top(t: &Frac) -> (bool, u128)
 }
 
 /// A number of ticks of `1 / 10^digits` as a fraction of units.
+#[inline(always)]
 pub(crate) fn in_units(t: &Frac, digits: u8) -> Lowest
     requires { digits ≤ 6 }
     ensures { IsInUnits digits (value t.now) result.negative result.size result.den }
@@ -102,6 +104,19 @@ fn sized(n: i128) -> (bool, u128)
     }
 }
 
+/// A quotient of two numbers of 64 bits, in lowest terms.
+fn small_quotient(negative: bool, size: u64, den: u64) -> Lowest
+    requires { 0 < den }
+    ensures { (common : ℕ) × IsGcd size den common × (result.negative ≡ negative) × (result.size ≡ size / common) × (result.den ≡ den / common) }
+{
+    let common = gcd(den, size % den);
+    Lowest {
+        negative,
+        size: u128::from(size / common),
+        den: u128::from(den / common),
+    }
+}
+
 /// A quotient of ticks of `1 / 10^digits` as a fraction of units.
 pub(crate) fn quotient_in_units(q: &Ratio, digits: u8) -> Lowest
     requires few { digits ≤ 6 }
@@ -111,6 +126,9 @@ pub(crate) fn quotient_in_units(q: &Ratio, digits: u8) -> Lowest
     let (negative, size) = sized(q.num);
     let tens = 10u64.pow(u32::from(digits));
     let den = q.den.unsigned_abs() * u128::from(tens);
+    if size < 1 << 64 && den < 1 << 64 {
+        return small_quotient(negative, size as u64, den as u64);
+    }
     let common = gcd_of_wide(size, den);
     Lowest {
         negative,

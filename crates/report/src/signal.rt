@@ -1,14 +1,14 @@
 //! The verdicts of a signal, in lines or in JSON.
-ghost use Rattle.std.specs.Prelude.{◌≡◌, ◌≤◌, false, IfSome, MatchOption, OnOk, OnErr};
-ghost use Rattle.frac128.specs.Value.{value};
+ghost use Rattle.std.specs.Prelude.{◌≡◌, ◌≤◌, false, length, IfSome, MatchOption, OnOk, OnErr};
 ghost use Rattle.value_laws.specs.Kinds.{truth_shape};
 ghost use Rattle.report.specs.Appended.{Grew, GrewInPart, AreEach};
 ghost use Rattle.report.specs.SignalVerdicts.{AreSignalLines};
 ghost use Rattle.report.specs.Spelling.{listed};
 ghost use Rattle.report.specs.VerdictForms.{IsEntry, AreEntries};
-ghost use Rattle.stl_syntax.specs.Texts.{IsNumberText};
+ghost use Rattle.report.specs.Times.{IsBegun};
 
-use crate::following::{Style, put_next, time_text};
+use crate::following::{Style, put_next};
+use crate::number::{Lowest, in_units};
 use crate::spelling::OpenSpan;
 use frac128::Memory;
 use pl_signal::Signal;
@@ -18,19 +18,21 @@ use value_laws::{Shape, Truth};
 /// Appends a verdict that another follows, where there is one; `begin` and `end` as in `put_next`.
 fn put_ended(
     text: &mut Text,
-    begin: &mut Text,
-    end: &mut Text,
+    buf: &mut [u8],
+    begin: &mut Lowest,
     ended: Option<Verdict>,
     style: Style,
 ) -> Result<(), Memory>
     requires digits { style.scale.time ≤ 6 }
-    requires begun { IfSome ended (λ v. IsNumberText style.scale.time (value v.on.from) begin.old) }
+    requires room { 256 ≤ length buf.old }
+    requires begun { IfSome ended (λ v. IsBegun style.scale.time v.on.from begin.old) }
     ensures ok { OnOk result (Grew (AreEach (IsEntry style.json false style.scale) (listed ended)) text.old text.new) }
-    ensures ends { OnOk result (MatchOption ended (begin.new ≡ begin.old) (λ v. IsNumberText style.scale.time (value v.on.to) begin.new)) }
+    ensures ends { MatchOption ended (begin.new ≡ begin.old) (λ v. IsBegun style.scale.time v.on.to begin.new) }
+    ensures room { length buf.new ≡ length buf.old }
     ensures err { OnErr result (GrewInPart (AreEach (IsEntry style.json false style.scale) (listed ended)) text.old text.new) }
 {
     match ended {
-        Some(v) => put_next(text, begin, end, &v, style, false),
+        Some(v) => put_next(text, buf, begin, &v, style, false),
         None => Ok(()),
     }
 }
@@ -44,15 +46,15 @@ pub(crate) fn put_spans(text: &mut Text, s: &Signal<Truth>, style: Style) -> Res
     let knots = s.len();
     let first = s.knot(0);
     let mut span = OpenSpan::start(&first);
-    let mut begin = time_text(s.alloc(), &first.time, style.scale.time)?;
-    let mut end = Text::new(s.alloc());
+    let mut begin = in_units(&first.time, style.scale.time);
+    let mut buf = [0u8; 256];
     for i in 1..knots {
         let (by_gap, by_point) = span.advance(&s.knot(i - 1), &s.knot(i));
-        put_ended(text, &mut begin, &mut end, by_gap, style)?;
-        put_ended(text, &mut begin, &mut end, by_point, style)?;
+        put_ended(text, &mut buf, &mut begin, by_gap, style)?;
+        put_ended(text, &mut buf, &mut begin, by_point, style)?;
     }
     let last = span.close(s.stop(), true);
-    put_next(text, &mut begin, &mut end, &last, style, true)
+    put_next(text, &mut buf, &mut begin, &last, style, true)
 }
 
 /// Appends the verdict lines of a signal: the longest spans of one truth, in order, with times in units of the scale.

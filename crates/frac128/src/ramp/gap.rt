@@ -56,7 +56,7 @@ impl Gap {
     pub(crate) fn is_zero(&self) -> bool
         ensures { IsTrue result ↔ ((self.now.base ≡ pos 0) × (self.now.climb ≡ pos 0)) }
     {
-        self.base == 0 && self.climb == 0
+        self.climb == 0 && self.base == 0
     }
 
     /// The time at which the difference is 0, unless it does not change.

@@ -1,59 +1,37 @@
-use Rattle.std.proofs.Common.{◌≡◌, ℕ, List, [], ◌++◌, codes, append_assoc, arith, refl}
-use Rattle.std.proofs.lemmas.Grind.{common_steps}
-use Rattle.std.proofs.lemmas.Result.{on_ok_weaker, on_err_weaker}
+use Rattle.std.proofs.Common.{◌≡◌, ℕ, List, ◌++◌, length, codes, ap, ◌∙◌, arith}
+use Rattle.frac128.specs.Value.{value}
+use Rattle.stl_syntax.specs.Texts.{fraction_text}
+use Rattle.report.specs.Numbers.{signed}
 use Rattle.report.specs.VerdictForms.{entry_begin, entry_end}
-use Rattle.report.proofs.Parts.{part_of}
+use Rattle.report.specs.declared.number.Lowest.{Lowest}
+use Rattle.report.proofs.Putting.{put_then, put_as, five}
+use Rattle.report.proofs.Spans.{number_text, entry_is}
+use Rattle.report.proofs.EntryRoom.{begin_short, end_short}
 use Rattle.report.proofs.following.put_entry.Goals as goal
 
-after_one : (a b c d e : List ℕ) → a ++ (b ++ (c ++ (d ++ e))) ≡ a ++ b ++ c ++ d ++ e
-after_one a b c d e = simp append_assoc
+abbrev text_of : Lowest → List ℕ
+text_of n = fraction_text (signed n.negative n.size) n.den
 
-after_two : (a b c d e : List ℕ) → a ++ b ++ (c ++ (d ++ e)) ≡ a ++ b ++ c ++ d ++ e
-after_two a b c d e = simp append_assoc
-
-after_three : (a b c d e : List ℕ) → a ++ b ++ c ++ (d ++ e) ≡ a ++ b ++ c ++ d ++ e
-after_three a b c d e = simp append_assoc
-
-pub returns-in_err-push-clause-err : goal.returns-in_err-push-clause-err
-returns-in_err-push-clause-err c = part_of _ _ _ _ [] _ refl (grind (arith, common_steps))
-
-pub returns-in_err-push-2-clause-err : goal.returns-in_err-push-2-clause-err
-returns-in_err-push-2-clause-err c =
+pub returns : goal.returns
+returns c =
     let v = c.args.v.now in
-    let b = entry_begin c.args.json v in
-    let end = entry_end c.args.json c.args.last v in
+    let json = c.args.style.json in
+    let scale = c.args.style.scale in
     let from = c.args.from.now in
     let to = c.args.to.now in
-    part_of _ _ _ _ b (from ++ (codes "," ++ (to ++ end))) (after_one b from (codes ",") to end) (grind (arith, common_steps))
-
-pub returns-in_err-push-3-clause-err : goal.returns-in_err-push-3-clause-err
-returns-in_err-push-3-clause-err c =
-    let v = c.args.v.now in
-    let b = entry_begin c.args.json v in
-    let end = entry_end c.args.json c.args.last v in
-    let from = c.args.from.now in
-    let to = c.args.to.now in
-    part_of _ _ _ _ (b ++ from) (codes "," ++ (to ++ end)) (after_two b from (codes ",") to end) (grind (arith, common_steps))
-
-pub returns-in_err-push-4-clause-err : goal.returns-in_err-push-4-clause-err
-returns-in_err-push-4-clause-err c =
-    let v = c.args.v.now in
-    let b = entry_begin c.args.json v in
-    let end = entry_end c.args.json c.args.last v in
-    let from = c.args.from.now in
-    let to = c.args.to.now in
-    part_of _ _ _ _ (b ++ from ++ codes ",") (to ++ end) (after_three b from (codes ",") to end) (grind (arith, common_steps))
-
-pub returns-clause-ok : goal.returns-clause-ok
-returns-clause-ok c = on_ok_weaker c.push-5.result (λ h. grind (arith, common_steps)) c.push-5.ensures.ok
-
-pub returns-clause-err : goal.returns-clause-err
-returns-clause-err c =
-    let v = c.args.v.now in
-    on_err_weaker c.push-5.result (λ h. (
-      entry_begin c.args.json v ++ c.args.from.now ++ codes ","
-          ++ c.args.to.now,
-      entry_end c.args.json c.args.last v,
-      refl,
-      grind (arith, common_steps),
-    )) c.push-5.ensures.err
+    let F = text_of from in
+    let T = text_of to in
+    let p = number_text scale.time (value v.on.from) from.negative from.size from.den c.requires.from in
+    let q = number_text scale.time (value v.on.to) to.negative to.size to.den c.requires.to in
+    let begin : c.beginning.result.now ≡ entry_begin json v = c.beginning.ensures in
+    let end : c.ending.result.now ≡ entry_end json c.args.last v = c.ending.ensures in
+    let first = ap (λ b. b ++ (F ++ (codes "," ++ (T ++ c.ending.result.now)))) begin in
+    let second = ap (λ e. entry_begin json v ++ (F ++ (codes "," ++ (T ++ e)))) end in
+    let together = five (entry_begin json v) F (codes ",") T (entry_end json c.args.last v) in
+    let all =
+    put_then (put_then (put_then (put_then c.put_word-after.ensures c.put_lowest-second.ensures) c.put_word-comma.ensures) c.put_lowest-first.ensures)
+    c.put_word.ensures in (
+      _,
+      entry_is json c.args.last scale v F T p q,
+      put_as (first ∙ second ∙ together) (omega (arith, ap length begin, ap length end, begin_short json v, end_short json c.args.last v)) all,
+    )

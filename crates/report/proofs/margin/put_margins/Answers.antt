@@ -9,17 +9,17 @@ use Rattle.report.proofs.Growths.{grew_then, grew_as, part_then, part_first, par
 use Rattle.report.proofs.MarginTexts.{margin_lines, later_exist, knot_within}
 use Rattle.report.proofs.margin.put_margins.Goals as goal
 
-pub put_knot-requires-clause-within : goal.put_knot-requires-clause-within
-put_knot-requires-clause-within c = knot_within margin_shape _ c.args.s.now 0 c.knot.result c.len.ensures.signal c.knot.ensures c.requires.begins c.requires.ends
+pub put_first-requires-clause-within : goal.put_first-requires-clause-within
+put_first-requires-clause-within c = knot_within margin_shape _ c.args.s.now 0 c.knot.result c.len.ensures.signal c.knot.ensures c.requires.begins c.requires.ends
 
-pub returns-in_err-put_knot-clause-err : goal.returns-in_err-put_knot-clause-err
-returns-in_err-put_knot-clause-err c =
+pub returns-in_err-put_first-clause-err : goal.returns-in_err-put_first-clause-err
+returns-in_err-put_first-clause-err c =
     let f = margin_shape in
     let s = c.args.scale in
     let ks = c.args.s.now in
     let Line = IsKnotLine s (plain_knot f c.knot.result) in
     on_err _ (part_as (Then Line (AreLaterLines f s ks)) (AreMarginLines s (knots_of f ks)) c.args.text.now _ (margin_lines f s ks c.knot.result c.knot.ensures)
-    (part_first Line (AreLaterLines f s ks) c.args.text.now _ c.in_err-put_knot.ensures.err (later_exist f s ks c.knot.result c.knot.ensures)))
+    (part_first Line (AreLaterLines f s ks) c.args.text.now _ c.in_err-put_first.ensures.err (later_exist f s ks c.knot.result c.knot.ensures)))
 
 pub returns-clause-ok : goal.returns-clause-ok
 returns-clause-ok c =
@@ -28,7 +28,7 @@ returns-clause-ok c =
     let ks = c.args.s.now in
     let Line = IsKnotLine s (plain_knot f c.knot.result) in
     on_ok_weaker c.put_later.result (λ more. grew_as (Then Line (AreLaterLines f s ks)) (AreMarginLines s (knots_of f ks)) c.args.text.now _ (margin_lines f s ks c.knot.result c.knot.ensures)
-    (grew_then Line (AreLaterLines f s ks) c.args.text.now _ _ c.in_ok-put_knot.ensures.ok more)) c.put_later.ensures.ok
+    (grew_then Line (AreLaterLines f s ks) c.args.text.now _ _ c.in_ok-put_first.ensures.ok more)) c.put_later.ensures.ok
 
 pub returns-clause-err : goal.returns-clause-err
 returns-clause-err c =
@@ -37,4 +37,4 @@ returns-clause-err c =
     let ks = c.args.s.now in
     let Line = IsKnotLine s (plain_knot f c.knot.result) in
     on_err_weaker c.put_later.result (λ more. part_as (Then Line (AreLaterLines f s ks)) (AreMarginLines s (knots_of f ks)) c.args.text.now _ (margin_lines f s ks c.knot.result c.knot.ensures)
-    (part_then Line (AreLaterLines f s ks) c.args.text.now _ _ c.in_ok-put_knot.ensures.ok more)) c.put_later.ensures.err
+    (part_then Line (AreLaterLines f s ks) c.args.text.now _ _ c.in_ok-put_first.ensures.ok more)) c.put_later.ensures.err

@@ -1,18 +1,18 @@
 use Rattle.std.proofs.Common.{◌≡◌, ℕ, suc, true, false, ◌+◌, ◌-◌, Some, List, [], ◌∷◌, ◌++◌, length, append-nil, append_assoc, refl, sym, subst, arith}
 use Rattle.std.specs.Prelude.{slice_get}
+use Rattle.std.proofs.lemmas.List.{length-replicate}
 use Rattle.std.proofs.lemmas.Result.{on_ok_weaker, on_err_weaker}
 use Rattle.rational.specs.Time.{closed}
-use Rattle.frac128.specs.Value.{value}
 use Rattle.value_laws.specs.Kinds.{truth_shape}
 use Rattle.pl_signal.specs.Knots.{start, stop, IsWorth}
 use Rattle.pl_signal.proofs.Values.{next_rises}
-use Rattle.stl_syntax.specs.Texts.{IsNumberText}
 use Rattle.stl_syntax.specs.declared.items.Verdict.{Verdict}
 use Rattle.report.specs.SignalVerdicts.{DescribesFunction}
 use Rattle.report.specs.Spelling.{listed}
+use Rattle.report.specs.Times.{IsBegun}
 use Rattle.report.specs.VerdictForms.{IsEntry}
 use Rattle.report.proofs.Parts.{on_err}
-use Rattle.report.proofs.Lines.{entries_all, entries_part, entries_part_last, entries_unwritten}
+use Rattle.report.proofs.Lines.{entries_all, entries_part, entries_part_last}
 use Rattle.report.proofs.Sequences.{each_grow}
 use Rattle.report.proofs.Advances.{IsSpelledTo, spelled_start, room_to, spelled_advance, spelled_stop, stop_room, told_to_end}
 use Rattle.report.proofs.Turns.{begun_of, begins_next}
@@ -25,19 +25,9 @@ loop-i-init c = (
   spelled_start c.args.s.now c.knot-first.result c.start-span.result c.knot-first.ensures c.start-span.ensures.from c.start-span.ensures.from_in
       c.start-span.ensures.holds,
   ([], refl, sym (append-nil c.args.text.now)),
-  subst (λ f. IsNumberText c.args.style.scale.time (value f) c.in_ok-begin.begin) (sym c.start-span.ensures.from) c.in_ok-begin.ensures,
+  subst (λ f. IsBegun c.args.style.scale.time f c.in_units-begin.result) (sym c.start-span.ensures.from) c.in_units-begin.ensures,
+  omega (arith, length-replicate {A = ℕ} 256 0),
 )
-
--- with no text of the first time there is no line
-pub returns-in_err-begin-clause-err : goal.returns-in_err-begin-clause-err
-returns-in_err-begin-clause-err c =
-    let s = c.args.s.now in
-    let signal = c.len-knots.ensures.signal in
-    let some : 0 + suc (length s - 1) ≡ length s = let p = c.len-knots.ensures.some in let v = c.len-knots.ensures.value in omega arith in
-    let end = told_to_end s (length s - 1) 0 [] c.start-span.result signal some
-    (spelled_start s c.knot-first.result c.start-span.result c.knot-first.ensures c.start-span.ensures.from c.start-span.ensures.from_in
-    c.start-span.ensures.holds) in
-    on_err c.from_residual.result (entries_unwritten truth_shape c.args.style.json c.args.style.scale s end.0 end.1 c.args.text.now end.2)
 
 pub put_ended-requires-clause-begun : goal.put_ended-requires-clause-begun
 put_ended-requires-clause-begun c =
@@ -52,11 +42,11 @@ put_ended-requires-in-loop-i-clause-begun c =
     c.advance-by_gap.result.1 _ a.point
     (begins_next c.args.style.scale.time c.loop-i.span a.inside c.knot.result.time true c.knot.result.after.holds c.advance-by_gap.result.0 c.loop-i.begin
     c.put_ended.new.begin a.gap c.loop-i.invariant.3
-    c.in_ok-put_ended.ensures.ends)
+    c.put_ended.ensures.ends)
 
 pub put_next-requires-clause-begun : goal.put_next-requires-clause-begun
 put_next-requires-clause-begun c =
-    subst (λ f. IsNumberText c.args.style.scale.time (value f) c.loop-i.begin) (sym c.close-last.ensures.from) c.loop-i.invariant.3
+    subst (λ f. IsBegun c.args.style.scale.time f c.loop-i.begin) (sym c.close-last.ensures.from) c.loop-i.invariant.3
 
 pub advance-by_gap-requires-clause-begun : goal.advance-by_gap-requires-clause-begun
 advance-by_gap-requires-clause-begun c =
@@ -104,7 +94,7 @@ pub returns-in_err-put_ended-clause-err : goal.returns-in_err-put_ended-clause-e
 returns-in_err-put_ended-clause-err c =
     let f = (goal.at.returns-in_err-put_ended-clause-err c).After-advance-by_gap in
     let end = to_end f in
-    on_err c.from_residual-in_err-put_ended.result
+    on_err c.from_residual.result
     (entries_part truth_shape c.args.style.json c.args.style.scale c.args.s.now (vs f) (gap f)
     (point f ++ end.0) end.1 c.args.text.now c.loop-i.text c.put_ended.new.text
     (subst (λ ws. DescribesFunction (IsWorth truth_shape c.args.s.now) ws (closed (start c.args.s.now) (stop c.args.s.now)))
@@ -138,7 +128,8 @@ loop-i-preserved c =
           c.put_ended-in-loop-i.new.begin a.point
           (begins_next c.args.style.scale.time c.loop-i.span a.inside c.knot.result.time true c.knot.result.after.holds c.advance-by_gap.result.0
           c.loop-i.begin c.put_ended.new.begin a.gap c.loop-i.invariant.3
-          c.in_ok-put_ended.ensures.ends) c.in_ok-put_ended-2.ensures.ends,
+          c.put_ended.ensures.ends) c.put_ended-in-loop-i.ensures.ends,
+      omega (arith, c.put_ended.ensures.room, c.put_ended-in-loop-i.ensures.room, c.loop-i.invariant.4),
     )
 
 pub close-last-requires : goal.close-last-requires

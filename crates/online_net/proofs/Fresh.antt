@@ -1,0 +1,123 @@
+-- A new network stands for the empty run.
+use Rattle.std.proofs.Common.{◌≡◌, ◌⊎◌, inl, inr, refl, sym, ap, subst, ◌∙◌, ℕ, zero, suc, ◌+◌, ◌-◌, ◌<◌, ◌≤◌, true, false, Option, Some, None, List, [], ◌∷◌, ◌++◌, length, length-append, arith}
+use Rattle.std.specs.Prelude.{slice_get, slice_index_or, replicate}
+use Rattle.std.proofs.lemmas.Bool.{cases_order}
+use Rattle.std.proofs.lemmas.Option.{slice_get_cases, get_or_from_slice_get}
+use Rattle.std.proofs.Math.ListN.{get_or-append}
+use Rattle.std.proofs.Math.Seq.{get_or-append_seam}
+use Rattle.stl_syntax.specs.Trace.{Header}
+use Rattle.stl_syntax.specs.WellFormed.{AreWellFormed, HasOneRoot}
+use Rattle.stl_syntax.specs.declared.node.Node.{Node}
+use Rattle.stl_syntax.specs.declared.node.Node.TheVariants.{Const}
+use Rattle.stl_syntax.specs.declared.scale.Scale.{Scale}
+use Rattle.atom_lines.specs.Binding.{IsBound}
+use Rattle.online_nodes.specs.Network.{is_atom, node_is_atom, state}
+use Rattle.online_nodes.specs.Needed.{none}
+use Rattle.online_nodes.specs.Held.{Edge, edge_at, held_at, held_of, no_edge}
+use Rattle.online_nodes.specs.declared.operator.Operator.{Operator}
+use Rattle.online_nodes.proofs.EdgeLaw.{get_within}
+use Rattle.online_nodes.proofs.ReadersLaw.{has_reader}
+use Rattle.online_net.specs.Nets.{Parts, Keeps, HasOperator, Stands}
+use Rattle.online_net.specs.Steps.{IsFirstOperator, AreFirstOperators}
+
+-- a list of equal elements, with a default that is one of them
+all_one : {X : Type 0} (n : ℕ) (x : X) (i : ℕ) → slice_index_or (replicate n x) i x ≡ x
+all_one zero x i = refl
+all_one (suc n) x zero = refl
+all_one (suc n) x (suc i) = all_one n x i
+
+pub length_one : {X : Type 0} (n : ℕ) (x : X) → length (replicate n x) ≡ n
+length_one zero x = refl
+length_one (suc n) x = ap suc (length_one n x)
+
+module _ (nodes : List Node) (header : Header) (formed : AreWellFormed nodes) (root : HasOneRoot nodes) (scale : Scale) (net : Parts)
+    (bound : IsBound net.bound (record { nodes = nodes; scale = scale }) header) (edges : net.edges.edges ≡ replicate (length nodes) no_edge)
+    (start : net.edges.start ≡ None) (first : AreFirstOperators nodes net.operators (length nodes)) (last : net.last ≡ None) (closed : net.closed ≡ false)
+    (running : net.stopped ≡ false) where
+  empty : (i : ℕ) → edge_at net.edges i ≡ no_edge
+  empty i = ap (λ es. slice_index_or es i no_edge) edges ∙ all_one (length nodes) no_edge i
+
+  none_held : (i : ℕ) → held_at net.edges i ≡ []
+  none_held i = ap held_of (empty i)
+
+  found : (i : ℕ) → i < length nodes → slice_get net.operators i ≡ Some (slice_index_or net.operators i None)
+  found i l = by_case (slice_get_cases net.operators i).1
+    where
+      by_case : ((x : Option Operator) × (i < length net.operators) × (slice_get net.operators i ≡ Some x) × (slice_index_or net.operators i x ≡ x))
+          ⊎ ((length net.operators ≤ i) × (slice_get net.operators i ≡ None)) → slice_get net.operators i ≡ Some (slice_index_or net.operators i None)
+      by_case (inl h) = h.2 ∙ ap Some (sym (get_or_from_slice_get net.operators i h.0 None h.2))
+      by_case (inr h) = absurd (let a = h.0 in let b = first.count in omega (arith, a, b, l))
+
+  at_node : (i : ℕ) (n : Node) → slice_get nodes i ≡ Some n → node_is_atom nodes i ≡ is_atom n
+  at_node i n at = ap is_atom (get_or_from_slice_get nodes i n (Const false) at)
+
+  keeps : Keeps nodes header net []
+  unfolding state
+  keeps = record {
+    formed = formed;
+    one_root = root;
+    scale = scale;
+    bound = bound;
+    edges = ap length edges ∙ length_one (length nodes) no_edge;
+    operators = first.count;
+    start = start;
+    last = last;
+    closed = closed;
+    running = running;
+    at_atom = λ i n at a. found i (get_within nodes i n at) ∙ ap Some (no_operator i n at a (slice_index_or net.operators i None)
+        (first.first i (get_within nodes i n at)));
+    at_other = λ i n at a. has i n at a (slice_index_or net.operators i None) (found i (get_within nodes i n at))
+        (first.first i (get_within nodes i n at));
+  }
+    where
+      no_operator : (i : ℕ) (n : Node) → slice_get nodes i ≡ Some n → is_atom n ≡ true → (o : Option Operator) → IsFirstOperator nodes i o → o ≡ None
+      no_operator i n at a None h = refl
+      no_operator i n at a (Some op) h = absurd (let x : true ≡ false = sym a ∙ sym (at_node i n at) ∙ h.0 in cc)
+
+      has : (i : ℕ) (n : Node) → slice_get nodes i ≡ Some n → is_atom n ≡ false → (o : Option Operator) → slice_get net.operators i ≡ Some o
+          → IsFirstOperator nodes i o → HasOperator nodes header [] net.edges i (slice_get net.operators i)
+      has i n at a None e h = absurd (let x : true ≡ false = sym h ∙ at_node i n at ∙ a in cc)
+      has i n at a (Some op) e h =
+          record { operator = op; is = e; node = h.1; stands = h.2 header net.edges (λ j. ap (λ (x : Edge). x.seen) (empty j)) }
+
+  pub new_stands : Stands nodes header net []
+  unfolding state
+  new_stands = record {
+    run = tt;
+    holds = keeps;
+    shows = record {
+      fronts = λ i l. ap (λ (x : Edge). x.number) (empty i);
+      edges = λ j l.
+          let r = has_reader nodes root j (omega (arith, l)) (λ e. absurd (omega (arith, l, e))) in
+          record {
+            reader = r.reader;
+            reading = r.node;
+            left = r.left;
+            at_reader = r.at;
+            reads = r.reads;
+            emitted = [];
+            is_emitted = refl;
+            is_needed = none_held j;
+          };
+      root = record { taken = 0; is_taken = none; emitted = []; is_emitted = refl; is = none_held (length nodes - 1) };
+    };
+  }
+
+-- one node's operator more
+pub first_more : (nodes : List Node) (operators : List (Option Operator)) (o : Option Operator) (n : ℕ) → AreFirstOperators nodes operators n
+    → IsFirstOperator nodes n o → AreFirstOperators nodes (operators ++ o ∷ []) (n + 1)
+first_more nodes operators o n done here = record { count = count; first = λ i l. by_order i l (cases_order i n) }
+  where
+    count : length (operators ++ o ∷ []) ≡ n + 1
+    count = let a = length-append operators (o ∷ []) in let b = done.count in omega (arith, a, b)
+
+    own : (i : ℕ) → i ≡ n → IsFirstOperator nodes i (slice_index_or (operators ++ o ∷ []) i None)
+    own i e = subst (λ k. IsFirstOperator nodes k (slice_index_or (operators ++ o ∷ []) k None)) (sym (e ∙ sym done.count))
+        (subst (λ x. IsFirstOperator nodes (length operators) x) (sym (get_or-append_seam operators o [] None))
+        (subst (λ k. IsFirstOperator nodes k o) (sym done.count) here))
+
+    by_order : (i : ℕ) → i < n + 1 → (i ≡ n) ⊎ ((i < n) ⊎ (n < i)) → IsFirstOperator nodes i (slice_index_or (operators ++ o ∷ []) i None)
+    by_order i l (inl e) = own i e
+    by_order i l (inr (inl e)) = subst (λ x. IsFirstOperator nodes i x)
+        (sym (get_or-append operators (o ∷ []) None i (let d = done.count in omega (arith, e, d)))) (done.first i e)
+    by_order i l (inr (inr e)) = absurd (omega (arith, l, e))

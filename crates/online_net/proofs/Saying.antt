@@ -1,0 +1,388 @@
+-- What was said of an atom, verdict by verdict.
+use Rattle.std.proofs.Common.{◌≡◌, suc, ◌+◌, ◌≤◌, Option, get_or, ◌<ℤ◌, ◌⊎◌, inl, inr, refl, sym, ap, subst, ◌∙◌, ℕ, ◌<◌, Bool, true, false, Some, None, List, [], ◌++◌, length, pos, arith, append_assoc}
+use Rattle.std.specs.Prelude.{MatchBool, MatchOption, IfSome, IsTrue, ◌≢◌, slice_get}
+use Rattle.std.specs.Option.{is_some}
+use Rattle.std.proofs.lemmas.Bool.{cases_order}
+use Rattle.std.proofs.lemmas.Option.{slice_get_cases, get_or_from_slice_get}
+use Rattle.online_nodes.specs.declared.operator.Operator.{Operator}
+use Rattle.std.proofs.lemmas.List.{get_or-set_same, get_or-set_other, length-set}
+use Rattle.std.proofs.lemmas.Int.{ints}
+use Rattle.rational.specs.Rational.{Rational, ◌≤ʳ◌, ◌<ʳ◌, ◌≈◌}
+use Rattle.rational.specs.Time.{left_open}
+use Rattle.rational.proofs.Order.{same_refl, le_of_lt}
+use Rattle.rational.proofs.Shift.{lt_whole}
+use Rattle.stl_syntax.specs.Trace.{Row, Trace, row_time}
+use Rattle.stl_syntax.specs.Formula.{Subformula, atom}
+use Rattle.stl_syntax.specs.Truth.{Truth, holds_at}
+use Rattle.stl_syntax.specs.declared.atom.Atom.{Atom}
+use Rattle.stl_syntax.specs.declared.items.Verdict.{Verdict}
+use Rattle.online_nodes.specs.Cuts.{Place, place, begins, ends, Upto, AtMost, Before, Same}
+use Rattle.online_nodes.specs.Held.{Held, edge_at, no_edge, with_edge, with_more, with_number}
+use Rattle.frac128.specs.Value.{value}
+use Rattle.frac128.specs.declared.frac.Frac.{Frac}
+use Rattle.stl_syntax.specs.Verdicts.{Describes}
+use Rattle.atom_lines.specs.Binding.{Binding, IsFor, HasRow, AreNeighbours}
+use Rattle.atom_lines.specs.Points.{IsTruthAt}
+use Rattle.online_nodes.specs.Reading.{AllAre}
+use Rattle.online_nodes.specs.Written.{HasAnswer, HasFinished, HasGot, HasTold, Reaches}
+use Rattle.online_nodes.proofs.GotLemmas.{got_both, got_none, got-here, got-other, got-length}
+use Rattle.online_net.specs.Atoms.{HasSaidThree, HasBegun, IsPut, HasPutAtom, HasPutAtoms, StandsNext, row_stretch, before_row, after_row}
+use Rattle.online_nodes.specs.declared.cut.Cut.{Cut}
+use Rattle.online_nodes.specs.declared.writer.Out.{Out}
+use Rattle.online_nodes.proofs.PlaceLemmas.{sides, not_both, place_order, between, same_places, same_trans_places, before_trans, upto_of_before, upto_same}
+use Rattle.online_nodes.proofs.Writing.{told_same, same_itself}
+
+-- places of which neither comes after the other are one
+pub same_of_most : (c d : Place) → AtMost c d → AtMost d c → Same c d
+same_of_most c d h k = by_order (place_order c d)
+  where
+    apart : (c d : Place) → AtMost d c → Before c d → ⊥
+    apart c d k b = let t = between c d b in not_both c t.0 (k t.0 t.2) t.1
+
+    by_order : Before c d ⊎ Same c d ⊎ Before d c → Same c d
+    by_order (inl b) = absurd (apart c d k b)
+    by_order (inr (inl s)) = s
+    by_order (inr (inr b)) = absurd (apart d c h b)
+
+pub most_of_before : (c d : Place) → Before c d → AtMost c d
+most_of_before c d b t u = upto_of_before c d t b u
+
+pub most_of_same : (c d : Place) → Same c d → AtMost c d
+most_of_same c d s t u = upto_same c d t s u
+
+-- a writer that may go up to a place within its stretch stands there
+pub stands_at : (before after : Out) (cut : Cut) → Reaches before cut after → AtMost (place before.at) (place cut) → AtMost (place cut) (place before.to)
+    → Same (place after.at) (place cut)
+stands_at before after cut r low high = same_of_most (place after.at) (place cut) up down
+  where
+    up : AtMost (place after.at) (place cut)
+    up t u = elim (sides (place before.at) t) [ inl x ↦ low t x | inr x ↦ r.no_more t x u ]
+
+    down : AtMost (place cut) (place after.at)
+    down t u = r.reached t u (high t u)
+
+-- a writer that stands at a place within its stretch may go on from there
+pub may_go_on : (out : Out) (c to : Place) → Same (place out.at) c → AtMost c to → place out.to ≡ to → AtMost (place out.at) (place out.to)
+may_go_on out c to s h e t u = subst (λ d. Upto d t) (sym e) (h t (upto_same (place out.at) c t s u))
+
+-- three verdicts said one after the other
+pub said_three : {e0 e1 e2 e3 : Held} {o0 o1 o2 o3 : Out} {h1 h2 h3 : Bool} (c1 c2 c3 : Cut) → o0.edge < length e0.edges
+    → HasAnswer e0 e1 o0 h1 o1 → Reaches o0 c1 o1 → HasAnswer e1 e2 o1 h2 o2 → Reaches o1 c2 o2 → HasAnswer e2 e3 o2 h3 o3 → Reaches o2 c3 o3
+    → HasSaidThree e0 e3 o0 h1 (place c1) h2 (place c2) h3 (place c3) o3
+said_three {e0} {e1} {e2} {e3} {o0} {o1} {o2} {o3} {h1} {h2} {h3} c1 c2 c3 within a1 r1 a2 r2 a3 r3 = record {
+  more = a1.more ++ a2.more ++ a3.more;
+  got = got_both within (got_both within a1.got (subst (λ i. HasGot e1 e2 i a2.more) a1.edge a2.got))
+      (subst (λ i. HasGot e2 e3 i a3.more) (a2.edge ∙ a1.edge) a3.got);
+  edge = a3.edge ∙ a2.edge ∙ a1.edge;
+  to = a3.end ∙ a2.end ∙ a1.end;
+  sound = a3.sound;
+  inside = subst (λ x. AtMost (place o3.at) (place x)) (sym a3.end) r3.inside;
+  said = said;
+}
+  where
+    said : AtMost (place o0.at) (place c1) → AtMost (place c1) (place c2) → AtMost (place c2) (place c3) → AtMost (place c3) (place o0.to)
+        → Same (place o3.at) (place c3)
+        × ((n : Subformula) (tr : Trace) (begin : Place) (written : List Verdict) → HasTold n tr begin written o0
+        → AllAre h1 (Truth n tr) (place o0.at) (place c1) → AllAre h2 (Truth n tr) (place c1) (place c2) → AllAre h3 (Truth n tr) (place c2) (place c3)
+        → HasTold n tr begin (written ++ (a1.more ++ a2.more ++ a3.more)) o3)
+    said l1 l2 l3 l4 = (at3, told)
+      where
+        upto : (c : Cut) → AtMost (place c) (place c3) → AtMost (place c) (place o0.to)
+        upto c h t u = l4 t (h t u)
+
+        at1 : Same (place o1.at) (place c1)
+        at1 = stands_at o0 o1 c1 r1 l1 (upto c1 (λ t u. l3 t (l2 t u)))
+
+        at2 : Same (place o2.at) (place c2)
+        at2 = stands_at o1 o2 c2 r2 (λ t u. l2 t (upto_same (place o1.at) (place c1) t at1 u))
+            (subst (λ x. AtMost (place c2) (place x)) (sym a1.end) (upto c2 l3))
+
+        at3 : Same (place o3.at) (place c3)
+        at3 = stands_at o2 o3 c3 r3 (λ t u. l3 t (upto_same (place o2.at) (place c2) t at2 u))
+            (subst (λ x. AtMost (place c3) (place x)) (sym (a2.end ∙ a1.end)) l4)
+
+        told : (n : Subformula) (tr : Trace) (begin : Place) (written : List Verdict) → HasTold n tr begin written o0
+            → AllAre h1 (Truth n tr) (place o0.at) (place c1) → AllAre h2 (Truth n tr) (place c1) (place c2) → AllAre h3 (Truth n tr) (place c2) (place c3)
+            → HasTold n tr begin (written ++ (a1.more ++ a2.more ++ a3.more)) o3
+        told n tr begin written before x y z =
+            subst (λ l. HasTold n tr begin l o3)
+            (ap (λ l. l ++ a3.more) (append_assoc written a1.more a2.more) ∙ append_assoc written (a1.more ++ a2.more) a3.more)
+            (a3.told n tr begin ((written ++ a1.more) ++ a2.more)
+            (a2.told n tr begin (written ++ a1.more)
+            (a1.told n tr begin written before
+            (told_same h1 (Truth n tr) (place o0.at) (place c1) (place o0.at) (place o1.at) (same_itself (place o0.at)) (same_places at1) x))
+            (told_same h2 (Truth n tr) (place c1) (place c2) (place o1.at) (place o2.at) (same_places at1) (same_places at2) y))
+            (told_same h3 (Truth n tr) (place c2) (place c3) (place o2.at) (place o3.at) (same_places at2) (same_places at3) z))
+
+-- what a test says is so of an atom's truth
+pub is_test : (a : Atom) (tr : Trace) (t : Rational) (b : Bool) → holds_at a tr t ≡ b → MatchBool b (IsTrue (holds_at a tr t)) (¬ IsTrue (holds_at a tr t))
+is_test a tr t b e = by_value b (holds_at a tr t) e
+  where
+    by_value : (b x : Bool) → x ≡ b → MatchBool b (IsTrue x) (¬ IsTrue x)
+    by_value true true e = refl
+    by_value true false e = absurd (let y : false ≡ true = e in cc)
+    by_value false true e = absurd (let y : true ≡ false = e in cc)
+    by_value false false e = λ h. (let y : false ≡ true = h in cc)
+
+-- a time between just before a time and just after it is that time
+one_time : {c t : Rational} → c ≤ʳ t → t ≤ʳ c → t ≈ c
+one_time h k = record { same = (let a = h.le in let b = k.le in omega arith) }
+
+-- no verdict
+abbrev nothing : Option Bool
+nothing = None
+
+-- a writer that has said nothing has told nothing
+new_told : (n : Subformula) (tr : Trace) (begin : Place) (out : Out) → out.holds ≡ None → Same begin (place out.from) → Same (place out.from) (place out.at)
+    → HasTold n tr begin [] out
+new_told n tr begin out e s r = record {
+  last = nothing;
+  lead = (s, let e : nothing ≡ nothing = refl in e);
+  pending = subst (λ o. MatchOption o (Same (place out.from) (place out.at) × (nothing ≡ None))
+      (λ h. Before (place out.from) (place out.at) × (nothing ≢ Some h) × AllAre h (Truth n tr) (place out.from) (place out.at))) (sym e)
+      (r, let e : nothing ≡ nothing = refl in e);
+}
+
+-- a writer as it is made: at the beginning of its stretch, between two rows
+pub record IsNew (out : Out) (i : ℕ) (begin end : Place) : Type 0 where
+  pub edge : out.edge ≡ i
+  pub from : Same (place out.from) begin
+  pub at : Same (place out.at) begin
+  pub to : Same (place out.to) end
+  pub none : out.holds ≡ None
+
+pub new_is : (out : Out) (i : ℕ) (from to : Cut) (begin end : Place) → out ≡ record { edge = i; from = from; at = from; to = to; holds = None }
+    → Same (place from) begin → Same (place to) end → IsNew out i begin end
+new_is out i from to begin end e s r = subst (λ (o : Out). IsNew o i begin end) (sym e)
+    (record { edge = refl; from = s; at = s; to = r; none = refl })
+
+-- the places of rows, one after the other
+row_order : (r : Row) → Before (before_row r) (after_row r)
+row_order r = inr (same_refl (row_time r), refl, refl)
+
+rows_order : (q r : Row) → q.time < r.time → Before (after_row q) (before_row r)
+rows_order q r l = inl (lt_whole (let h : pos q.time <ℤ pos r.time = omega (arith, ints, l) in h))
+
+-- the test turns over at a time inside the gap
+abbrev pub IsSplitAs : Rational → Rational → (Rational → Bool) → Bool → Frac → Bool → Bool → Type 0
+IsSplitAs from to test h1 at h2 h3 =
+    (from <ʳ value at) × (value at <ʳ to) × ((t : Rational) → from <ʳ t → t <ʳ value at → test t ≡ h1)
+    × ((t : Rational) → t ≈ value at → test t ≡ h2) × ((t : Rational) → value at <ʳ t → t <ʳ to → test t ≡ h3)
+
+-- within its stretch
+pub new_inside : (first r : Row) (i : ℕ) (out : Out) → first.time < r.time → IsNew out i (after_row first) (after_row r)
+    → AtMost (place out.at) (place out.to)
+new_inside first r i out later new t u = upto_same (after_row r) (place out.to) t (same_places new.to)
+    (upto_of_before (before_row r) (after_row r) t (row_order r)
+    (upto_of_before (after_row first) (before_row r) t (rows_order first r later) (upto_same (place out.at) (after_row first) t new.at u)))
+
+module _ (b : Binding) (i : ℕ) (first r : Row) (later : first.time < r.time) (out0 : Out) (new : IsNew out0 i (after_row first) (after_row r))
+    (end : Cut) (ends_so : Same (place end) (before_row r)) where
+  told_first : (a : Atom) (tr : Trace) → HasTold (atom i a) tr (begins (left_open (row_time first) (row_time r))) [] out0
+  told_first a tr = new_told (atom i a) tr (after_row first) out0 new.none (same_places new.from) (same_trans_places new.from (same_places new.at))
+
+  low : AtMost (place out0.at) (place end)
+  low t u = upto_same (before_row r) (place end) t (same_places ends_so)
+      (upto_of_before (after_row first) (before_row r) t (rows_order first r later) (upto_same (place out0.at) (after_row first) t new.at u))
+
+  high : AtMost (place end) (place out0.to)
+  high t u = upto_same (after_row r) (place out0.to) t (same_places new.to)
+      (upto_of_before (before_row r) (after_row r) t (row_order r) (upto_same (place end) (before_row r) t ends_so u))
+
+  -- one truth on the whole gap
+  pub whole_begun : {e0 e1 : Held} {out1 : Out} (holds : Bool) → HasAnswer e0 e1 out0 holds out1 → Reaches out0 end out1
+      → ((a : Atom) (tr : Trace) → IsFor b i a tr → AreNeighbours tr first r
+      → (t : Rational) → row_time first <ʳ t → t <ʳ row_time r → holds_at a tr t ≡ holds)
+      → HasBegun b i (Some first) r e0 e1 out1
+  whole_begun {e0} {e1} {out1} holds answer reaches truth = record {
+    more = answer.more;
+    got = subst (λ k. HasGot e0 e1 k answer.more) new.edge answer.got;
+    edge = answer.edge ∙ new.edge;
+    to = subst (λ c. Same (place c) (after_row r)) (sym answer.end) new.to;
+    sound = answer.sound;
+    inside = subst (λ x. AtMost (place out1.at) (place x)) (sym answer.end) reaches.inside;
+    told = λ a tr for next. (
+      there,
+      answer.told (atom i a) tr (after_row first) [] (told_first a tr)
+          (told_same holds (Truth (atom i a) tr) (after_row first) (before_row r) (place out0.at) (place out1.at) (same_places new.at) (same_places there)
+          (λ t x y. is_test a tr t holds (truth a tr for next t x y))),
+    );
+  }
+    where
+      there : Same (place out1.at) (before_row r)
+      there = same_trans_places (stands_at out0 out1 end reaches low high) ends_so
+
+  -- a truth that turns over
+  pub turn_begun : {e0 e1 : Held} {out1 : Out} (h1 h2 h3 : Bool) (at : Frac)
+      → HasSaidThree e0 e1 out0 h1 (record { at = value at; after = false }) h2 (record { at = value at; after = true }) h3 (place end) out1
+      → ((a : Atom) (tr : Trace) → IsFor b i a tr → AreNeighbours tr first r → IsSplitAs (row_time first) (row_time r) (holds_at a tr) h1 at h2 h3)
+      → HasBegun b i (Some first) r e0 e1 out1
+  turn_begun {e0} {e1} {out1} h1 h2 h3 at said truth = record {
+    more = said.more;
+    got = subst (λ k. HasGot e0 e1 k said.more) new.edge said.got;
+    edge = said.edge ∙ new.edge;
+    to = subst (λ c. Same (place c) (after_row r)) (sym said.to) new.to;
+    sound = said.sound;
+    inside = said.inside;
+    told = λ a tr for next. told a tr (truth a tr for next);
+  }
+    where
+      told : (a : Atom) (tr : Trace) → IsSplitAs (row_time first) (row_time r) (holds_at a tr) h1 at h2 h3
+          → Same (place out1.at) (before_row r) × HasTold (atom i a) tr (after_row first) said.more out1
+      told a tr w = (
+        same_trans_places x.0 ends_so,
+        x.1 (atom i a) tr (after_row first) [] (told_first a tr)
+            (told_same h1 (Truth (atom i a) tr) (after_row first) (record { at = value at; after = false }) (place out0.at)
+            (record { at = value at; after = false }) (same_places new.at) (same_itself (record { at = value at; after = false }))
+            (λ t x y. is_test a tr t h1 (w.2 t x y)))
+            (λ t x y. is_test a tr t h2 (w.3 t (one_time x y)))
+            (told_same h3 (Truth (atom i a) tr) (record { at = value at; after = true }) (before_row r) (record { at = value at; after = true }) (place end)
+            (same_itself (record { at = value at; after = true })) (same_places ends_so) (λ t x y. is_test a tr t h3 (w.4 t x y))),
+      )
+        where
+          x : Same (place out1.at) (place end)
+              × ((n : Subformula) (tr : Trace) (begin : Place) (written : List Verdict) → HasTold n tr begin written out0
+              → AllAre h1 (Truth n tr) (place out0.at) (record { at = value at; after = false })
+              → AllAre h2 (Truth n tr) (record { at = value at; after = false }) (record { at = value at; after = true })
+              → AllAre h3 (Truth n tr) (record { at = value at; after = true }) (place end) → HasTold n tr begin (written ++ said.more) out1)
+          x = said.said
+              (λ t u. upto_of_before (after_row first) (record { at = value at; after = false }) t (inl w.0)
+              (upto_same (place out0.at) (after_row first) t new.at u))
+              (λ t u. le_of_lt u)
+              (λ t u. upto_same (before_row r) (place end) t (same_places ends_so)
+              (upto_of_before (record { at = value at; after = true }) (before_row r) t (inl w.1) u))
+              high
+
+-- the first row: nothing was said before it
+pub first_begun : (b : Binding) (i : ℕ) (r : Row) (e : Held) (out : Out) → IsNew out i (before_row r) (after_row r) → HasBegun b i None r e e out
+first_begun b i r e out new = record {
+  more = [];
+  got = got_none e i;
+  edge = new.edge;
+  to = new.to;
+  sound = subst (λ o. MatchOption o (Same (place out.from) (place out.at)) (λ h. Before (place out.from) (place out.at))) (sym new.none)
+      (same_trans_places new.from (same_places new.at));
+  inside = λ t u. upto_same (after_row r) (place out.to) t (same_places new.to)
+      (upto_of_before (before_row r) (after_row r) t (row_order r) (upto_same (place out.at) (before_row r) t new.at u));
+  told = λ a tr for next. (
+    new.at,
+    new_told (atom i a) tr (before_row r) out new.none (same_places new.from) (same_trans_places new.from (same_places new.at)),
+  );
+}
+
+-- the row itself and then the last span: the atom's verdicts up to the row are put
+row_of_next : (tr : Trace) (before : Option Row) (r : Row) → StandsNext tr before r → HasRow tr r
+row_of_next tr None r h = h
+row_of_next tr (Some first) r (k, x, y) = (suc k, y)
+
+stretch_ends : (before : Option Row) (r : Row) → ends (row_stretch before r) ≡ after_row r
+stretch_ends None r = refl
+stretch_ends (Some first) r = refl
+
+stretch_some : (before : Option Row) (r : Row) → IfSome before (λ q. q.time < r.time) → Before (begins (row_stretch before r)) (ends (row_stretch before r))
+stretch_some None r l = row_order r
+stretch_some (Some first) r l = before_trans (after_row first) (before_row r) (after_row r) (rows_order first r l) (row_order r)
+
+pub atom_put : (b : Binding) (i : ℕ) (before : Option Row) (r : Row) {e0 e1 e2 e3 e4 : Held} {out1 out2 : Out} (end : Cut) (holds : Bool)
+    → i < length e0.edges → IfSome before (λ q. q.time < r.time) → Same (place end) (after_row r) → HasBegun b i before r e0 e1 out1
+    → HasAnswer e1 e2 out1 holds out2 → Reaches out1 end out2 → HasFinished e2 e3 out2
+    → e4.edges ≡ with_edge e3 i (with_number (edge_at e3 i) (pos r.time)) → e4.start ≡ e3.start → IsTruthAt b i r holds
+    → HasPutAtom b before r i e0 e4
+atom_put b i before r {e0} {e1} {e2} {e3} {e4} {out1} {out2} end holds within later ends_so begun answer reaches finished noted start truth = record {
+  here = record { more = all; is = here; describes = describes };
+  others = λ j other. ap (λ es. get_or es j no_edge) noted ∙ get_or-set_other e3.edges i j _ no_edge other ∙ got-other got j other;
+  count = ap length noted ∙ length-set e3.edges i _ ∙ got-length got;
+  start = start ∙ got.start;
+}
+  where
+    all : List Verdict
+    all = (begun.more ++ answer.more) ++ finished.more
+
+    edge2 : out2.edge ≡ i
+    edge2 = answer.edge ∙ begun.edge
+
+    got : HasGot e0 e3 i ((begun.more ++ answer.more) ++ finished.more)
+    got = got_both within (got_both within begun.got (subst (λ k. HasGot e1 e2 k answer.more) begun.edge answer.got))
+        (subst (λ k. HasGot e2 e3 k finished.more) edge2 finished.got)
+
+    here : edge_at e4 i ≡ with_number (with_more (edge_at e0 i) all) (pos r.time)
+    here = ap (λ es. get_or es i no_edge) noted ∙ get_or-set_same e3.edges i _ no_edge (subst (λ n. i < n) (sym (got-length got)) within)
+        ∙ ap (λ x. with_number x (pos r.time)) (got-here got within)
+
+    there : Same (place out1.at) (before_row r) → Same (place out2.at) (after_row r)
+    there begins_so = same_trans_places (stands_at out1 out2 end reaches
+        (λ t u. upto_same (after_row r) (place end) t (same_places ends_so)
+        (upto_of_before (before_row r) (after_row r) t (row_order r) (upto_same (place out1.at) (before_row r) t begins_so u)))
+        (λ t u. upto_same (after_row r) (place out1.to) t (same_places begun.to) (upto_same (place end) (after_row r) t ends_so u))) ends_so
+
+    describes : (a : Atom) (tr : Trace) → IsFor b i a tr → StandsNext tr before r → Describes all (atom i a) tr (row_stretch before r)
+    describes a tr for next =
+        let w = begun.told a tr for next in
+        finished.describes (atom i a) tr (row_stretch before r) (begun.more ++ answer.more) (stretch_some before r later)
+        (answer.told (atom i a) tr (begins (row_stretch before r)) begun.more w.1
+        (told_same holds (Truth (atom i a) tr) (before_row r) (after_row r) (place out1.at) (place out2.at) (same_places w.0) (same_places (there w.0))
+        (λ t x y. is_test a tr t holds (truth a tr t for (row_of_next tr before r next) (one_time x y)))))
+        (subst (λ c. Same (place out2.at) c) (sym (stretch_ends before r)) (there w.0))
+
+-- what is found at a place that is one of the list
+module _ {X : Type 0} (xs : List (Option X)) (i : ℕ) (r : Option X) (within : i < length xs) (is : r ≡ get_or xs i r) where
+  pub found : slice_get xs i ≡ Some r
+  found = by_case (slice_get_cases xs i).1
+    where
+      by_case : ((x : Option X) × (i < length xs) × (slice_get xs i ≡ Some x) × (get_or xs i x ≡ x)) ⊎ ((length xs ≤ i) × (slice_get xs i ≡ None))
+          → slice_get xs i ≡ Some r
+      by_case (inl h) = h.2 ∙ ap Some (sym (is ∙ get_or_from_slice_get xs i h.0 r h.2))
+      by_case (inr h) = absurd (let l = h.0 in omega (arith, l, within))
+
+  pub none_at : is_some r ≡ false → slice_get xs i ≡ Some None
+  none_at e = found ∙ ap Some (by_value r e)
+    where
+      by_value : (r : Option X) → is_some r ≡ false → r ≡ None
+      by_value None e = refl
+      by_value (Some x) e = absurd (let y : true ≡ false = e in cc)
+
+  pub none_not : is_some r ≡ true → slice_get xs i ≡ Some None → ⊥
+  none_not e h = by_value r e (sym found ∙ h)
+    where
+      by_value : (r : Option X) → is_some r ≡ true → Some r ≡ Some None → ⊥
+      by_value None e h = absurd (let y : false ≡ true = e in cc)
+      by_value (Some x) e h = cc
+
+module _ (b : Binding) (before : Option Row) (r : Row) (operators : List (Option Operator)) (i : ℕ) where
+  -- one atom more got its verdicts
+  pub put_more : slice_get operators i ≡ Some None → {old mid new : Held} → HasPutAtoms b before r operators i old mid
+      → HasPutAtom b before r i mid new → HasPutAtoms b before r operators (i + 1) old new
+  put_more e {old} {mid} {new} done one = record {
+    atoms = λ j l x. by_order j l x (cases_order j i);
+    others = λ j none. one.others j (λ x. none (omega (arith, x)) (subst (λ k. slice_get operators k ≡ Some None) (sym x) e))
+        ∙ done.others j (λ l x. none (omega (arith, l)) x);
+    count = one.count ∙ done.count;
+    start = one.start ∙ done.start;
+  }
+    where
+      earlier : (j : ℕ) → j < i → slice_get operators j ≡ Some None → IsPut b before r j (edge_at old j) (edge_at new j)
+      earlier j l x = subst (λ y. IsPut b before r j (edge_at old j) y) (sym (one.others j (λ z. absurd (omega (arith, l, z))))) (done.atoms j l x)
+
+      own : IsPut b before r i (edge_at old i) (edge_at new i)
+      own = subst (λ y. IsPut b before r i y (edge_at new i)) (done.others i (λ l x. absurd (omega (arith, l)))) one.here
+
+      by_order : (j : ℕ) → j < i + 1 → slice_get operators j ≡ Some None → (j ≡ i) ⊎ ((j < i) ⊎ (i < j))
+          → IsPut b before r j (edge_at old j) (edge_at new j)
+      by_order j l x (inl y) = subst (λ k. IsPut b before r k (edge_at old k) (edge_at new k)) (sym y) own
+      by_order j l x (inr (inl y)) = earlier j y x
+      by_order j l x (inr (inr y)) = absurd (omega (arith, l, y))
+
+  -- a node that is no atom
+  pub put_skips : (slice_get operators i ≡ Some None → ⊥) → {old new : Held} → HasPutAtoms b before r operators i old new
+      → HasPutAtoms b before r operators (i + 1) old new
+  put_skips d {old} {new} done = record {
+    atoms = λ j l x. done.atoms j (below j l x (cases_order j i)) x;
+    others = λ j none. done.others j (λ l x. none (omega (arith, l)) x);
+    count = done.count;
+    start = done.start;
+  }
+    where
+      below : (j : ℕ) → j < i + 1 → slice_get operators j ≡ Some None → (j ≡ i) ⊎ ((j < i) ⊎ (i < j)) → j < i
+      below j l x (inl y) = absurd (d (subst (λ k. slice_get operators k ≡ Some None) y x))
+      below j l x (inr (inl y)) = y
+      below j l x (inr (inr y)) = absurd (omega (arith, l, y))

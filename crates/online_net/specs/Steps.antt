@@ -1,0 +1,31 @@
+-- What the network's own calls leave: the operators of a new network, and a step of one.
+use Rattle.std.specs.Prelude.{◌≡◌, ℕ, ◌<◌, Bool, true, false, List, [], ◌∷◌, ◌++◌, length, Option, Some, None, slice_index_or}
+use Rattle.stl_syntax.specs.Trace.{Header}
+use Rattle.stl_syntax.specs.declared.node.Node.{Node}
+use Rattle.online_nodes.specs.Network.{Event, step, state, node_is_atom, IsReady}
+use Rattle.online_nodes.specs.Held.{Held, edge_at}
+use Rattle.online_nodes.specs.Belonging.{Belongs, HasStepped, StandsForSteps}
+use Rattle.online_nodes.specs.declared.operator.Operator.{Operator}
+
+-- an operator of the node at place i that stands for no step, or none at an atom
+abbrev pub IsFirstOperator : List Node → ℕ → Option Operator → Type 0
+IsFirstOperator nodes i None = node_is_atom nodes i ≡ true
+IsFirstOperator nodes i (Some op) =
+    (node_is_atom nodes i ≡ false) × (op.node ≡ i)
+    × ((header : Header) (edges : Held) → ((j : ℕ) → (edge_at edges j).seen ≡ []) → StandsForSteps nodes header [] op edges)
+
+-- one for each of the first n nodes
+pub record AreFirstOperators (nodes : List Node) (operators : List (Option Operator)) (n : ℕ) : Type 0 where
+  pub count : length operators ≡ n
+  pub first : (i : ℕ) → i < n → IsFirstOperator nodes i (slice_index_or operators i None)
+
+-- one step of an operator that was ready, after room was made on its edges
+pub record IsStep (nodes : List Node) (header : Header) (events : List Event) (operator : Operator) (old new : Held) (now : ℕ) (ended : Bool)
+    (after : Operator) : Type 0 where
+  pub room : Held
+  pub same : room.edges ≡ old.edges
+  pub same_start : room.start ≡ old.start
+  pub stepped : HasStepped nodes header events operator.node room new
+  pub belongs : Belongs nodes header (events ++ step operator.node ∷ []) after new now ended
+  pub node : after.node ≡ operator.node
+  pub ready : IsReady nodes (state nodes events) operator.node

@@ -1,0 +1,217 @@
+//! What a row puts onto the edges of the atoms.
+
+ghost use Rattle.std.specs.Prelude.{◌≡◌, ◌<◌, ◌≤◌, ℕ, length, slice_get, IfOk, IfSome, OnOk, Some, None, true, false, pos};
+ghost use Rattle.rational.specs.Rational.{whole};
+ghost use Rattle.frac128.specs.Value.{value};
+ghost use Rattle.online_nodes.specs.Cuts.{place, AtMost, Same};
+ghost use Rattle.online_nodes.specs.Held.{edge_at, with_edge, with_number};
+ghost use Rattle.online_nodes.specs.Written.{IsSound};
+ghost use Rattle.atom_lines.specs.Binding.{IsAtomNode};
+ghost use Rattle.online_net.specs.Atoms.{after_row, before_row, begun, HasSaidThree, HasBegun, HasPutAtom, HasPutAtoms};
+
+use atom_lines::{Bound, TruthPiece, truth_piece, truth_point};
+use frac128::{Frac, Memory};
+use online_nodes::{Cut, Edges, Operator, Out};
+use trace_reader::Row;
+
+/// Just before a time in ticks.
+fn before_tick(n: u32) -> Cut
+    ensures { Same (place result) (record { at = whole (pos n); after = false }) }
+{
+    Cut::before_whole(i64::from(n))
+}
+
+/// Just after a time in ticks.
+fn after_tick(n: u32) -> Cut
+    ensures { Same (place result) (record { at = whole (pos n); after = true }) }
+{
+    Cut::after_whole(i64::from(n))
+}
+
+/// Notes a number in ticks.
+fn note(edges: &mut Edges, node: u32, n: u32)
+    requires { node < length edges.old.edges }
+    ensures { edges.new ≡ record edges.old { edges = with_edge edges.old node (with_number (edge_at edges.old node) (pos n)) } }
+{
+    edges.reach(node, i64::from(n));
+}
+
+/// A truth that turns over at a time: before it, at it, and after it.
+#[derive(Clone, Copy)]
+struct Turn {
+    before: bool,
+    at: Frac,
+    point: bool,
+    after: bool,
+}
+
+/// Says the truth before the time at which it turns over, at it, and after it up to a place.
+fn say_turn(edges: &mut Edges, out: Out, turn: Turn, end: Cut) -> Result<Out, Memory>
+    requires edge { out.edge < length edges.old.edges }
+    requires sound { IsSound out }
+    requires inside { AtMost (place out.at) (place out.to) }
+    ensures { IfOk result (HasSaidThree edges.old edges.new out turn.before (record { at = value turn.at; after = false })
+        turn.point (record { at = value turn.at; after = true }) turn.after (place end)) }
+{
+    let first = Cut {
+        time: turn.at,
+        after: false,
+    };
+    let second = Cut {
+        time: turn.at,
+        after: true,
+    };
+    let before = out.upto(edges, turn.before, first)?;
+    let point = before.upto(edges, turn.point, second)?;
+    let after = point.upto(edges, turn.after, end)?;
+    Ok(after)
+}
+
+/// Says an atom's truth after the row before, up to just before the row.
+fn say_gap(
+    edges: &mut Edges,
+    bound: &Bound,
+    node: u32,
+    first: &Row,
+    row: &Row,
+) -> Result<Out, Memory>
+    requires edge { node < length edges.old.edges }
+    requires atom { IsAtomNode bound.now node }
+    requires first { length first.now.values ≡ bound.now.width }
+    requires second { length row.now.values ≡ bound.now.width }
+    requires later { first.now.time < row.now.time }
+    ensures { IfOk result (HasBegun bound.now node (Some first.now) row.now edges.old edges.new) }
+{
+    let from = after_tick(first.time());
+    let end = before_tick(row.time());
+    let to = after_tick(row.time());
+    let out = Out::new(node, from, to);
+    match truth_piece(bound, node, first, row) {
+        TruthPiece::Whole(truth) => {
+            let said = out.upto(edges, truth.holds(), end)?;
+            Ok(said)
+        }
+        TruthPiece::Split {
+            before,
+            at,
+            point,
+            after,
+        } => {
+            let turn = Turn {
+                before: before.holds(),
+                at,
+                point: point.holds(),
+                after: after.holds(),
+            };
+            let said = say_turn(edges, out, turn, end)?;
+            Ok(said)
+        }
+    }
+}
+
+/// Says an atom's truth up to just before the row.
+fn begin_atom(
+    edges: &mut Edges,
+    bound: &Bound,
+    node: u32,
+    before: &Option<Row>,
+    row: &Row,
+) -> Result<Out, Memory>
+    requires edge { node < length edges.old.edges }
+    requires atom { IsAtomNode bound.now node }
+    requires first { IfSome before.now (λ r. length r.values ≡ bound.now.width) }
+    requires second { length row.now.values ≡ bound.now.width }
+    requires later { IfSome before.now (λ r. r.time < row.now.time) }
+    ensures { IfOk result (HasBegun bound.now node before.now row.now edges.old edges.new) }
+{
+    let Some(first) = before else {
+        let from = before_tick(row.time());
+        let to = after_tick(row.time());
+        return Ok(Out::new(node, from, to));
+    };
+    let out = say_gap(edges, bound, node, first, row)?;
+    Ok(out)
+}
+
+/// Puts an atom's verdicts after the row before, up to the row, onto its edge, and notes its number.
+fn put_atom(
+    edges: &mut Edges,
+    bound: &Bound,
+    node: u32,
+    before: &Option<Row>,
+    row: &Row,
+) -> Result<(), Memory>
+    requires edge { node < length edges.old.edges }
+    requires atom { IsAtomNode bound.now node }
+    requires first { IfSome before.now (λ r. length r.values ≡ bound.now.width) }
+    requires second { length row.now.values ≡ bound.now.width }
+    requires later { IfSome before.now (λ r. r.time < row.now.time) }
+    ensures { OnOk result (HasPutAtom bound.now before.now row.now node edges.old edges.new) }
+{
+    let begun = begin_atom(edges, bound, node, before, row)?;
+    let end = after_tick(row.time());
+    let holds = truth_point(bound, node, row).holds();
+    let out = begun.upto(edges, holds, end)?;
+    out.finish(edges)?;
+    note(edges, node, row.time());
+    Ok(())
+}
+
+/// Puts the verdicts of all atoms.
+pub(crate) fn put_atoms(
+    edges: &mut Edges,
+    operators: &[Option<Operator>],
+    bound: &Bound,
+    before: &Option<Row>,
+    row: &Row,
+) -> Result<(), Memory>
+    requires edges { length operators.now ≡ length edges.old.edges }
+    requires few { length operators.now ≤ 256 }
+    requires atoms { (j : ℕ) → slice_get operators.now j ≡ Some None → IsAtomNode bound.now j }
+    requires first { IfSome before.now (λ r. length r.values ≡ bound.now.width) }
+    requires second { length row.now.values ≡ bound.now.width }
+    requires later { IfSome before.now (λ r. r.time < row.now.time) }
+    ensures { OnOk result (HasPutAtoms bound.now before.now row.now operators.now (length operators.now) edges.old edges.new) }
+{
+    for i in 0..operators.len() {
+        if operators[i].is_none() {
+            put_atom(edges, bound, i as u32, before, row)?;
+        }
+    }
+    Ok(())
+}
+
+/// Notes the time of the first row.
+fn begin_at(edges: &mut Edges, before: &Option<Row>, row: &Row)
+    requires { before.now ≡ None → edges.old.start ≡ None }
+    ensures { edges.new ≡ begun edges.old before.now row.now }
+{
+    match before {
+        None => edges.begin(row.time()),
+        Some(_) => {}
+    }
+}
+
+/// Puts all that a row answers at the atoms, and gives the row to be kept.
+pub(crate) fn put_row(
+    edges: &mut Edges,
+    operators: &[Option<Operator>],
+    bound: &Bound,
+    before: &Option<Row>,
+    row: &Row,
+) -> Result<Row, Memory>
+    requires edges { length operators.now ≡ length edges.old.edges }
+    requires few { length operators.now ≤ 256 }
+    requires atoms { (j : ℕ) → slice_get operators.now j ≡ Some None → IsAtomNode bound.now j }
+    requires first { IfSome before.now (λ r. length r.values ≡ bound.now.width) }
+    requires second { length row.now.values ≡ bound.now.width }
+    requires later { IfSome before.now (λ r. r.time < row.now.time) }
+    requires start { before.now ≡ None → edges.old.start ≡ None }
+    ensures kept { IfOk result (λ kept. kept ≡ row.now) }
+    ensures put { OnOk result (HasPutAtoms bound.now before.now row.now operators.now (length operators.now) (begun edges.old before.now row.now) edges.new) }
+{
+    let kept = row.copy()?;
+    begin_at(edges, before, row);
+    put_atoms(edges, operators, bound, before, row)?;
+    Ok(kept)
+}
