@@ -1,83 +1,25 @@
 -- What the root of a network gives out as the rows of a trace come, and at their end: its text, and the truth at the start.
-use Rattle.std.proofs.Common.{
-  ◌≡◌,
-  ◌⊎◌,
-  inl,
-  inr,
-  ℕ,
-  zero,
-  suc,
-  ◌+◌,
-  ◌-◌,
-  ◌<◌,
-  ◌≤◌,
-  Bool,
-  true,
-  false,
-  not,
-  List,
-  [],
-  ◌∷◌,
-  ◌++◌,
-  length,
-  take,
-  drop,
-  refl,
-  sym,
-  ap,
-  ◌∙◌,
-  subst,
-  arith,
-  append-nil,
-  append_assoc,
-  length-append,
-  Option,
-  Some,
-  None,
-  ℤ,
-  pos,
-  ◌-ℤ◌,
-  ◌<ℤ◌,
-  ◌≤ℤ◌,
-}
+use Rattle.std.proofs.Common.{◌≡◌, inl, inr, ℕ, zero, suc, ◌+◌, ◌-◌, ◌<◌, ◌≤◌, Bool, true, false, not, List, [], ◌∷◌, ◌++◌, length, take, drop, refl, sym, ap, ◌∙◌, subst, arith, append-nil, append_assoc, length-append, Some, None, ℤ, pos, ◌-ℤ◌, ◌<ℤ◌, ◌≤ℤ◌}
 use Rattle.std.specs.Prelude.{◌≢◌, All, cond, int_lt, MatchBool}
 use Rattle.std.proofs.lemmas.Bool.{false≢true}
 use Rattle.std.proofs.lemmas.Int.{ints}
 use Rattle.std.proofs.lemmas.List.Elements.{All-nil, All-cons, All-head, All-tail}
 use Rattle.std.proofs.Math.Seq.{drop-append_seam, take-length}
-use Rattle.rational.specs.Rational.{Rational, ◌≤ʳ◌, ◌<ʳ◌, ◌≈◌, whole}
-use Rattle.rational.specs.Time.{IsIn, Precedes}
-use Rattle.rational.proofs.Order.{le_refl, le_trans, le_of_lt, le_of_same, ge_of_same, lt_of_le_of_lt}
+use Rattle.rational.specs.Rational.{Rational, ◌<ʳ◌, whole}
+use Rattle.rational.specs.Time.{Precedes}
+use Rattle.rational.proofs.Order.{le_trans, le_of_lt, le_of_same, ge_of_same, lt_of_le_of_lt}
 use Rattle.frac128.specs.Spans.{interval}
 use Rattle.frac128.specs.Value.{value}
 use Rattle.stl_syntax.specs.Trace.{Header, Row, Trace, IsTrace, Continues, first_time, last_time, start}
-use Rattle.stl_syntax.specs.Formula.{Subformula, subformula, root, horizon}
+use Rattle.stl_syntax.specs.Formula.{Subformula, root, horizon}
 use Rattle.stl_syntax.specs.Truth.{Truth}
 use Rattle.stl_syntax.specs.PostOrder.{IsPostOrder}
 use Rattle.stl_syntax.specs.Verdicts.{IsTold}
-use Rattle.stl_syntax.specs.Texts.{AreVerdictLines, start_line}
-use Rattle.stl_syntax.specs.Stream.{answered_by, NewText, IsNewText, IsRowsText, IsRestText, IsStreamText}
+use Rattle.stl_syntax.specs.Texts.{AreVerdictLines}
+use Rattle.stl_syntax.specs.Stream.{answered_by, NewText, IsNewText, IsRowsText, IsRestText}
 use Rattle.stl_syntax.specs.declared.items.Verdict.{Verdict}
 use Rattle.stl_syntax.specs.declared.node.Node.{Node}
-use Rattle.online_nodes.specs.Network.{
-  Event,
-  row,
-  step,
-  close,
-  take as taken,
-  is_atom,
-  node_is_atom,
-  initial,
-  after_event,
-  state_from,
-  state,
-  State,
-  Front,
-  shown,
-  IsRun,
-  Emitted,
-  EmittedFrom,
-}
+use Rattle.online_nodes.specs.Network.{Event, row, step, close, take as taken, is_atom, node_is_atom, initial, after_event, state_from, state, State, Front, shown, IsRun, Emitted, EmittedFrom}
 use Rattle.online_nodes.specs.Cuts.{begins, ends, Before, Same}
 use Rattle.online_nodes.specs.Driven.{steps_of, takes, pass_of, IsEmptied, IsDriven, nothing, by_row, by_end}
 use Rattle.online_nodes.specs.Needed.{IsTaken, none as none_taken, other}
@@ -90,7 +32,7 @@ use Rattle.online_nodes.proofs.RunLaw.{some_is, none_is_none, int_order}
 use Rattle.online_nodes.proofs.StayLaw.{emitted_stays}
 use Rattle.online_net.specs.Nets.{Stands}
 use Rattle.report.specs.Appended.{Grew}
-use Rattle.workbench.specs.Watching.{first_truth, Pass, HasTaken, HasTakenAll}
+use Rattle.workbench.specs.Watching.{first_truth, Pass, HasTakenAll}
 use Rattle.workbench.specs.declared.verdicts.Verdicts.{Verdicts}
 use Rattle.workbench.proofs.Passes.{state_after, parted, rows_stay, emitted_alike, alike_length, Gives, LeavesRoot, pass_gives, text_of_given}
 use Rattle.workbench.proofs.Taking.{first_alike, emitted_takes}

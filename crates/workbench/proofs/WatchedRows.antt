@@ -1,51 +1,24 @@
 -- The verdicts of a case after one row more, and at the end: from what the network's calls answer to what follows a case.
-use Rattle.std.proofs.Common.{
-  ◌≡◌,
-  ◌⊎◌,
-  inl,
-  inr,
-  ℕ,
-  ◌<◌,
-  ◌≤◌,
-  Bool,
-  true,
-  false,
-  List,
-  [],
-  ◌∷◌,
-  ◌++◌,
-  length,
-  refl,
-  sym,
-  ap,
-  ◌∙◌,
-  subst,
-  arith,
-  append_assoc,
-  Option,
-  Some,
-  None,
-}
+use Rattle.std.proofs.Common.{◌≡◌, ◌⊎◌, inl, inr, ℕ, ◌<◌, Bool, true, false, List, [], ◌∷◌, ◌++◌, length, refl, sym, ap, ◌∙◌, subst, arith, append_assoc, Some, None}
 use Rattle.std.specs.Prelude.{◌≢◌, IfSome, MatchBool}
 use Rattle.std.proofs.Math.Seq.{take-append_seam}
 use Rattle.stl_syntax.specs.Formula.{Formula, root}
 use Rattle.stl_syntax.specs.Scaling.{scaled}
 use Rattle.stl_syntax.specs.declared.items.Verdict.{Verdict}
-use Rattle.stl_syntax.specs.Trace.{Header, Row, Trace, IsTrace, AreRows, first_time, last_time, start}
+use Rattle.stl_syntax.specs.Trace.{Header, Row, Trace, IsTrace, AreRows, last_time, start}
 use Rattle.stl_syntax.specs.Truth.{Truth}
 use Rattle.stl_syntax.specs.PostOrder.{IsPostOrder}
 use Rattle.stl_syntax.specs.Texts.{AreVerdictLines, start_line}
 use Rattle.stl_syntax.proofs.WellFormedLemmas.{root_some}
-use Rattle.online_nodes.specs.Network.{Event, row as came, close, take as taken, initial, state_from, state}
+use Rattle.online_nodes.specs.Network.{Event, row as came, close, take as taken, state}
 use Rattle.online_nodes.specs.Driven.{steps_of, pass_of, IsDriven, by_row, by_end}
 use Rattle.online_net.specs.Nets.{Parts, Stands, last_row_of, last_row_after}
 use Rattle.workbench.specs.Requests.{verdicts}
 use Rattle.workbench.specs.Owed.{StreamText}
-use Rattle.workbench.specs.Settled.{TellsTruth}
 use Rattle.workbench.specs.Cases.{IsCase, Takes, with_row}
 use Rattle.workbench.specs.Wholes.{status_of_truth}
-use Rattle.workbench.specs.Following.{Follows, IsFollowedOn, IsFollowedOut}
-use Rattle.workbench.specs.Watching.{first_truth, IsWatched, Pass, CanTake, HasTakenAll}
+use Rattle.workbench.specs.Following.{IsFollowedOn, IsFollowedOut}
+use Rattle.workbench.specs.Watching.{first_truth, IsWatched, CanTake, HasTakenAll}
 use Rattle.workbench.specs.declared.case.Case.{Case}
 use Rattle.workbench.specs.declared.verdicts.Verdicts.{Verdicts}
 use Rattle.workbench.proofs.Judged.{first_to_last}

@@ -1,5 +1,4 @@
-use Rattle.std.proofs.Common.{◌≡◌, ◌<◌, List, ◌++◌, length, refl, sym, ap, subst, ◌∙◌, arith, append-nil, take, take_all}
-use Rattle.stl_syntax.specs.Formula.{Formula}
+use Rattle.std.proofs.Common.{◌<◌, ◌++◌, length, refl, sym, subst, ◌∙◌, arith, append-nil, take, take_all}
 use Rattle.online_nodes.specs.Driven.{steps_of}
 use Rattle.online_net.specs.Nets.{Stands}
 use Rattle.workbench.proofs.Taking.{steps_on}

@@ -1,4 +1,4 @@
-use Rattle.std.proofs.Common.{◌≡◌, ℕ, suc, ◌-◌, ◌<◌, None, List, [], ◌∷◌, ◌++◌, length, refl, sym, subst, ◌∙◌}
+use Rattle.std.proofs.Common.{suc, ◌-◌, ◌<◌, [], ◌∷◌, ◌++◌, length, refl, sym, subst, ◌∙◌}
 use Rattle.online_nodes.specs.Network.{take as taken}
 use Rattle.online_nodes.specs.Driven.{takes}
 use Rattle.online_nodes.specs.Held.{held_at}

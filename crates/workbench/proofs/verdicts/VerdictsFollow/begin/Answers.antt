@@ -1,4 +1,4 @@
-use Rattle.std.proofs.Common.{List, [], None, false, refl, sym, subst}
+use Rattle.std.proofs.Common.{[], None, false, refl, sym, subst}
 use Rattle.stl_syntax.specs.Formula.{root}
 use Rattle.stl_syntax.specs.Stream.{IsNewText, IsRowsText}
 use Rattle.online_nodes.specs.Driven.{IsDriven, nothing}

@@ -1,4 +1,4 @@
-use Rattle.std.proofs.Common.{List, [], ◌∷◌, ◌++◌, ◌∙◌}
+use Rattle.std.proofs.Common.{[], ◌∷◌, ◌++◌, ◌∙◌}
 use Rattle.std.specs.Prelude.{◌≢◌}
 use Rattle.online_nodes.specs.Network.{close, take as taken}
 use Rattle.workbench.proofs.Watched.{pass_before}
