@@ -40,6 +40,8 @@ mod until_tests;
 #[cfg(test)]
 mod verdict_tests;
 #[cfg(test)]
+mod watch_tests;
+#[cfg(test)]
 mod window_tests;
 #[cfg(test)]
 mod workload_tests;

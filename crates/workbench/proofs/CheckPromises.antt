@@ -11,12 +11,13 @@ use Rattle.stl_syntax.specs.Trace.{Trace}
 use Rattle.stl_grammar.specs.Grammar.{FormulaText}
 use Rattle.stl_grammar.specs.FormulaRefusals.{IsFormulaOf}
 use Rattle.stl_grammar.proofs.LawProofs.{one_formula}
-use Rattle.report.specs.Report.{check, robust, explain, json, table, Out}
+use Rattle.report.specs.Report.{Command, check, robust, explain, json, table, Out}
 use Rattle.workbench.specs.Words.{AskCheck}
 use Rattle.workbench.specs.Commands.{Judge, judge, judge_word, IsForm, of_formula}
 use Rattle.workbench.specs.declared.request.Command.TheVariants.{Check}
+use Rattle.workbench.specs.declared.request.Mode.TheVariants.{Whole}
 use Rattle.workbench.specs.Commands as word
-use Rattle.workbench.specs.Requests.{Request, no_form, refused, whole, stream, sessions, generated, verdicts, early, margins, Asks, AreNone, IsAsked, IsAmong, built_commands, IsRefusal, AreHeld, is_held, has_input, usage_line}
+use Rattle.workbench.specs.Requests.{Request, no_form, refused, whole, stream, sessions, generated, verdicts, early, margins, Asks, AreNone, IsAsked, word_of, IsRefusal, AreHeld, is_held, has_input, usage_line}
 use Rattle.workbench.specs.Owed.{OwesAtEnd, not_yet, faulty as faulty_at_end, too_many, at_end}
 use Rattle.workbench.specs.Settled.{TellsTruth, none, bad, faulty, answered, wide, overfull}
 use Rattle.workbench.specs.Running.{IsBegun, IsEnd, settled, unread, unwritten, no_memory, HasEnded, IsReadOut, asked, unknown, IsRun}
@@ -79,7 +80,7 @@ check_asked : {words : List (List ℕ)} {text : List ℕ} → IsAsked words (jud
 check_asked a = word_form a.is
 
 asked_check : {words : List (List ℕ)} {text : List ℕ} → AskCheck words text → IsAsked words (judge word.check text)
-asked_check {words} {text} e = asked_word Check text e
+asked_check {words} {text} e = asked_word (Whole Check) text e
 
 no_form_of : {words : List (List ℕ)} → AreNone words → AreNoForm words
 no_form_of h text a = h (judge word.check text) (asked_check a)
@@ -416,15 +417,15 @@ module _ (words : List (List ℕ)) {own : List ℕ} (ask : AskCheck words own) (
     pub run_told : old.IsToldRightly words i.before i.after i.ended e.before e.after e.faults e.faults_after status
     run_told message got = (r.line, line_of r.moved (seen r), message_of r.said message got)
 
--- the commands that are built are no streams
-pub all_held : (words : List (List ℕ)) → AreHeld words
-all_held words (judge command text) a = by_word a.built
-  where
-    by_word : IsAmong command built_commands → is_held (judge command text) ≡ true
-    by_word (inl e) = subst (λ k. is_held (judge k text) ≡ true) (sym e) refl
-    by_word (inr (inl e)) = subst (λ k. is_held (judge k text) ≡ true) (sym e) refl
-    by_word (inr (inr (inl e))) = subst (λ k. is_held (judge k text) ≡ true) (sym e) refl
-    by_word (inr (inr (inr (inl e)))) = subst (λ k. is_held (judge k text) ≡ true) (sym e) refl
-    by_word (inr (inr (inr (inr (inl e))))) = subst (λ k. is_held (judge k text) ≡ true) (sym e) refl
-    by_word (inr (inr (inr (inr (inr other))))) = absurd other
-all_held words (word.generate n rows) a = absurd a.built
+-- words of a command that holds the whole trace ask for no stream
+held_word : (c : Command) (text : List ℕ) → is_held (judge (word_of c) text) ≡ true
+held_word check text = refl
+held_word robust text = refl
+held_word explain text = refl
+held_word json text = refl
+held_word table text = refl
+
+pub all_held : (words : List (List ℕ)) (c : Command) (f : Formula) → Asks words (whole c f) → AreHeld words
+all_held words c f ask (judge command text) a =
+    subst (λ (j : Judge). is_held (judge j text) ≡ true) (one_judged (word_of c) command ask.text text ask.form.is a.is).0 (held_word c text)
+all_held words c f ask (word.generate n rows) a = absurd a.built

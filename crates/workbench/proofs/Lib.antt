@@ -18,6 +18,7 @@ pub mod LastFaults
 pub mod FaultsStay
 pub mod RunEnds
 pub mod Leaving
+pub mod WatchCalls
 pub mod CheckPromises
 pub mod StreamSteps
 pub mod Due
@@ -37,4 +38,7 @@ pub mod Passes
 pub mod Living
 pub mod FrontTexts
 pub mod AtRest
+pub mod Taking
+pub mod Watched
+pub mod WatchedRows
 pub mod Reported

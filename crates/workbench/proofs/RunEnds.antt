@@ -18,9 +18,10 @@ use Rattle.workbench.specs.Saying.{IsSaid}
 use Rattle.workbench.specs.InputFaults.{Fault, whole_limits, IsInputFault}
 use Rattle.workbench.specs.Reading.{IsReadWhole, IsReadPromptly, IsStop}
 use Rattle.workbench.specs.Writing.{IsPartWritten}
-use Rattle.workbench.specs.declared.request.Command.{Command as Word}
 use Rattle.workbench.specs.declared.request.Command.TheVariants.{Check, Robust, Explain, Json, Table}
-use Rattle.workbench.specs.Wholes.{command_of, status_of_truth, IsAnswerOf, IsUnanswered, IsWrittenWith, all_of_it, a_part, IsWholeEnd, answered, unanswered, stopped, status_of, status_of_stop, IsEndLine, IsStopLine, EndsSoundly, IsBadEnd, refused, no_room}
+use Rattle.workbench.specs.declared.request.Mode.{Mode}
+use Rattle.workbench.specs.declared.request.Mode.TheVariants.{Whole, Watch}
+use Rattle.workbench.specs.Wholes.{judge_of, status_of_truth, IsAnswerOf, IsUnanswered, IsWrittenWith, all_of_it, a_part, IsWholeEnd, answered, unanswered, stopped, status_of, status_of_stop, IsEndLine, IsStopLine, EndsSoundly, IsBadEnd, refused, no_room}
 use Rattle.workbench.specs.declared.case.Case.{Case}
 use Rattle.workbench.specs.declared.fault.Stop.{Stop}
 use Rattle.workbench.specs.declared.fault.Stop.TheVariants.{Fault as Faulty, Unread, Unwritten, NoMemory, Wide, TooMany}
@@ -32,29 +33,33 @@ use Rattle.workbench.specs.ErrTexts.{write_fault}
 pub word_form : {words : List (List ℕ)} {j : Judge} {text : List ℕ} → IsForm words (judge j text) → words ≡ judge_word j ∷ text ∷ []
 word_form (of_formula j) = refl
 
-is_built : (w : Word) → IsAmong (word_of (command_of w)) built_commands
-is_built Check = inl refl
-is_built Robust = inr (inl refl)
-is_built Explain = inr (inr (inl refl))
-is_built Json = inr (inr (inr (inl refl)))
-is_built Table = inr (inr (inr (inr (inl refl))))
+is_built : (m : Mode) → IsAmong (judge_of m) built_commands
+is_built (Whole Check) = inl refl
+is_built Watch = inr (inl refl)
+is_built (Whole Robust) = inr (inr (inl refl))
+is_built (Whole Explain) = inr (inr (inr (inl refl)))
+is_built (Whole Json) = inr (inr (inr (inr (inl refl))))
+is_built (Whole Table) = inr (inr (inr (inr (inr (inl refl)))))
 
 -- a command's word and one more are of a form that is built
-pub asked_word : {words : List (List ℕ)} (w : Word) (text : List ℕ) → words ≡ judge_word (word_of (command_of w)) ∷ text ∷ []
-    → IsAsked words (judge (word_of (command_of w)) text)
-asked_word {words} w text e = record { built = is_built w; is = subst (λ ws. IsForm ws (judge (word_of (command_of w)) text)) (sym e) (of_formula (word_of (command_of w))) }
+pub asked_word : {words : List (List ℕ)} (m : Mode) (text : List ℕ) → words ≡ judge_word (judge_of m) ∷ text ∷ [] → IsAsked words (judge (judge_of m) text)
+asked_word {words} m text e = record { built = is_built m; is = subst (λ ws. IsForm ws (judge (judge_of m) text)) (sym e) (of_formula (judge_of m)) }
 
 -- and they alone
-pub none_asked : {words : List (List ℕ)} → ((w : Word) (text : List ℕ) → words ≡ judge_word (word_of (command_of w)) ∷ text ∷ [] → ⊥) → AreNone words
+pub none_asked : {words : List (List ℕ)} → ((m : Mode) (text : List ℕ) → words ≡ judge_word (judge_of m) ∷ text ∷ [] → ⊥) → AreNone words
 none_asked {words} h (judge j text) a = by_word a.built
   where
+    form_of : (m : Mode) → j ≡ judge_of m → ⊥
+    form_of m e = h m text (subst (λ k. words ≡ judge_word k ∷ text ∷ []) e (word_form a.is))
+
     by_word : IsAmong j built_commands → ⊥
-    by_word (inl e) = h Check text (subst (λ k. words ≡ judge_word k ∷ text ∷ []) e (word_form a.is))
-    by_word (inr (inl e)) = h Robust text (subst (λ k. words ≡ judge_word k ∷ text ∷ []) e (word_form a.is))
-    by_word (inr (inr (inl e))) = h Explain text (subst (λ k. words ≡ judge_word k ∷ text ∷ []) e (word_form a.is))
-    by_word (inr (inr (inr (inl e)))) = h Json text (subst (λ k. words ≡ judge_word k ∷ text ∷ []) e (word_form a.is))
-    by_word (inr (inr (inr (inr (inl e))))) = h Table text (subst (λ k. words ≡ judge_word k ∷ text ∷ []) e (word_form a.is))
-    by_word (inr (inr (inr (inr (inr other))))) = other
+    by_word (inl e) = form_of (Whole Check) e
+    by_word (inr (inl e)) = form_of Watch e
+    by_word (inr (inr (inl e))) = form_of (Whole Robust) e
+    by_word (inr (inr (inr (inl e)))) = form_of (Whole Explain) e
+    by_word (inr (inr (inr (inr (inl e))))) = form_of (Whole Json) e
+    by_word (inr (inr (inr (inr (inr (inl e)))))) = form_of (Whole Table) e
+    by_word (inr (inr (inr (inr (inr (inr other)))))) = other
 none_asked h (generate n rows) a = a.built
 
 -- a command that holds the whole trace serves each formula
@@ -135,9 +140,9 @@ none_run i o e line is h same_in same_out said = record {
 }
 
 -- a text that gives no formula
-pub refused_run : {words : List (List ℕ)} {text : List ℕ} (c : Command) (i : Drained) (o e : Filled) (status : ℕ) (line : List ℕ) → IsAsked words (judge (word_of c) text) → IsBadEnd text status line
+pub refused_run : {words : List (List ℕ)} {text : List ℕ} (j : Judge) (i : Drained) (o e : Filled) (status : ℕ) (line : List ℕ) → IsAsked words (judge j text) → IsBadEnd text status line
     → i.after ≡ i.before → o.after ≡ o.before → IsSaid e.before e.after e.faults e.faults_after line → IsRun words i o e status
-refused_run {words} {text} c i o e status line form end same_in same_out said = record {
+refused_run {words} {text} j i o e status line form end same_in same_out said = record {
   bytes = [];
   text = [];
   line = line;
@@ -149,8 +154,8 @@ refused_run {words} {text} c i o e status line form end same_in same_out said = 
   where
     by_end : {status : ℕ} {line : List ℕ} → IsBadEnd text status line → HasEnded words i o [] [] status line
     by_end (refused {line = line} b) =
-        asked (bad_request line) (record { command = word_of c; text = text; form = form; is = inl b }) (λ _. refl) (λ _ x. absurd (false≢true x)) (settled bad)
-    by_end no_room = unknown (λ h. h (judge (word_of c) text) form) refl
+        asked (bad_request line) (record { command = j; text = text; form = form; is = inl b }) (λ _. refl) (λ _ x. absurd (false≢true x)) (settled bad)
+    by_end no_room = unknown (λ h. h (judge j text) form) refl
 
 prompt_of : (c : Command) (f : Formula) (bytes : List ℕ) (ended : Bool) → IsReadPromptly whole_limits f bytes ended → IsPrompt (of_whole c f) bytes ended
 prompt_of c f bytes ended p = record {

@@ -20,7 +20,9 @@ use Rattle.trace_reader.specs.Reader.{Reader, HasRead, header_of}
 use Rattle.stl_syntax.specs.declared.scale.Scale.{Scale}
 use Rattle.workbench.proofs.HeaderLines.{no_header}
 use Rattle.workbench.proofs.Progress.{sound_so_far}
-use Rattle.workbench.specs.Wholes.{status_of_truth, status_of, IsEndLine}
+use Rattle.workbench.specs.Wholes.{status_of_truth, status_of, IsEndLine, EndsSoundly}
+use Rattle.workbench.specs.Keeping.{IsLeft, HasRun}
+use Rattle.workbench.specs.declared.kept.Kept.{Kept}
 use Rattle.workbench.specs.Pushing.{IsPushed, IsPushStop, IsPush, IsFinished, IsLineOf, IsStreamEnd}
 use Rattle.workbench.specs.declared.fault.Stop.{Stop}
 use Rattle.workbench.specs.declared.fault.Stop.TheVariants.{Fault as Faulty, Unread, Unwritten, NoMemory, Wide, TooMany}
@@ -191,19 +193,36 @@ line_is s f (Err NoMemory) line other a b = b ∙ sym a
 line_is s f (Err (Wide i den)) line other a b = b ∙ sym a
 line_is s f (Err (TooMany count)) line other a b = b ∙ sym a
 
--- a stream's end is that of the run
-pub stream_run : {Done : List ℕ → List ℕ → Type 0} (words : List (List ℕ)) (s : Stream) (f : Formula) (i : Drained) (o e : Filled) → AreFor words (word_of_stream s) f → (ending : Result Bool Stop) (status : ℕ) (line : List ℕ)
-    → status ≡ status_of ending → IsStreamEnd Done (stream s f) i o ending → IsAskedOnce i → IsEndLine f ending line → IsSaid e.before e.after e.faults e.faults_after line → IsRun words i o e status
-stream_run {Done} words s f i o e ask ending status line same x once told said =
-    subst (λ n. IsRun words i o e n) (sym same) (record {
-      bytes = x.bytes;
-      text = x.text;
-      line = x.line;
-      moved = x.moved;
-      grew = x.grew;
-      said = subst (λ l. IsSaid e.before e.after e.faults e.faults_after l) (line_is s f ending x.line line x.told told) said;
-      ended = asked (stream s f) ask (λ k. absurd (false≢true (sym k))) (λ _ _. record { none_left = x.at_end; once = once }) x.is;
+-- a stream's end is that of the run, which leaves this
+pub stream_run : {Done : List ℕ → List ℕ → Type 0} (words : List (List ℕ)) (s : Stream) (f : Formula) (i : Drained) (o e : Filled) (old new : Kept) → AreFor words (word_of_stream s) f
+    → (ending : Result Bool Stop) (status : ℕ) (line : List ℕ) → status ≡ status_of ending → (x : IsStreamEnd Done (stream s f) i o ending) → IsAskedOnce i → IsEndLine f ending line
+    → IsSaid e.before e.after e.faults e.faults_after line → IsLeft words x.bytes (status_of ending) old new → HasRun words i o e old new status
+stream_run {Done} words s f i o e old new ask ending status line same x once told said left =
+    subst (λ n. HasRun words i o e old new n) (sym same) (record {
+      run = record {
+        bytes = x.bytes;
+        text = x.text;
+        line = x.line;
+        moved = x.moved;
+        grew = x.grew;
+        said = subst (λ l. IsSaid e.before e.after e.faults e.faults_after l) (line_is s f ending x.line line x.told told) said;
+        ended = asked (stream s f) ask (λ k. absurd (false≢true (sym k))) (λ _ _. record { none_left = x.at_end; once = once }) x.is;
+      };
+      left = left;
     })
+
+-- a fault that ends it is one
+pub stream_soundly : {Done : List ℕ → List ℕ → Type 0} (s : Stream) (f : Formula) (i : Drained) (o : Filled) (ending : Result Bool Stop) → IsStreamEnd Done (stream s f) i o ending → EndsSoundly f ending
+stream_soundly s f i o ending x = by_line ending x.told
+  where
+    by_line : (ending : Result Bool Stop) → IsLineOf (stream s f) ending x.line → EndsSoundly f ending
+    by_line (Ok holds) told = tt
+    by_line (Err (Faulty fault)) (y, is, e) = (y, is)
+    by_line (Err Unread) told = tt
+    by_line (Err Unwritten) told = tt
+    by_line (Err NoMemory) told = tt
+    by_line (Err (Wide i den)) told = tt
+    by_line (Err (TooMany count)) told = tt
 
 -- what a reader has kept are the rows before the first fault
 pub before_of_kept : (f : Formula) (reader : Reader) (case : Option Case) (bytes : List ℕ) (k : IsKept f reader case bytes) → AreRowsBefore reader.limits f bytes false (option_map (header_of f.scale) reader.heading) k.rows false

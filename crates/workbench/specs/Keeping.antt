@@ -1,16 +1,26 @@
 -- What a run leaves to its caller.
-use Rattle.std.specs.Prelude.{◌≡◌, ℕ, Bool, false, List}
+use Rattle.std.specs.Prelude.{◌≡◌, ℕ, Bool, true, false, List}
 use Rattle.io_edge.specs.Calls.{Drained, Filled}
-use Rattle.workbench.specs.Requests.{Request, Asks}
+use Rattle.stl_syntax.specs.Formula.{Formula}
+use Rattle.workbench.specs.InputFaults.{stream_limits}
+use Rattle.workbench.specs.Requests.{Request, stream, verdicts, Asks}
 use Rattle.workbench.specs.Running.{IsKeptRightly, IsRun}
+use Rattle.workbench.specs.Watches.{Watched, StandsForAll}
 use Rattle.workbench.specs.declared.kept.Kept.{Kept}
+use Rattle.workbench.specs.declared.kept.Kept.TheVariants.{Watch}
 
--- the requests that leave something: none that is built
+-- the requests that leave something
 abbrev pub keeps : Request → Bool
+keeps (stream verdicts f) = true
 keeps request = false
+
+-- the watch is of this formula, and stands for the bytes and their end
+abbrev pub IsWatchOf : Formula → List ℕ → Watched → Type 0
+IsWatchOf f bytes w = (text : List ℕ) × (holds : Bool) × StandsForAll (record { formula = f; limits = stream_limits; bytes = bytes; text = text }) holds w
 
 -- it holds what stands for the bytes of a request, all of them
 abbrev pub Holds : Request → List ℕ → Kept → Type 0
+Holds (stream verdicts f) bytes (Watch w) = IsWatchOf f bytes w
 Holds request bytes kept = ⊥
 
 -- what the words ask for left what it leaves, or else all is as it was; so it is where memory was wanting before that was known

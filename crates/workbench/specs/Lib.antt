@@ -22,4 +22,6 @@ pub mod Measured
 pub mod Following
 pub mod Reasons
 pub mod Accounts
+pub mod Watching
+pub mod Watches
 pub mod SureLines

@@ -7,7 +7,9 @@ use Rattle.stl_grammar.specs.declared.fault.FormulaFault.{FormulaFault}
 use Rattle.stl_grammar.specs.declared.fault.FormulaFault.TheVariants as fault
 use Rattle.report.specs.Report.{Command, check, robust, explain, json, table, Out}
 use Rattle.std.specs.Io.KnownBytes.{Appends}
-use Rattle.workbench.specs.Requests.{IsBadText}
+use Rattle.workbench.specs.Commands.{Judge}
+use Rattle.workbench.specs.Commands as word
+use Rattle.workbench.specs.Requests.{IsBadText, word_of}
 use Rattle.workbench.specs.Owed.{HasTooMany}
 use Rattle.workbench.specs.Settled.{IsVerdict, IsSure, HasWide}
 use Rattle.workbench.specs.InputFaults.{Fault, fault_text, whole_limits}
@@ -19,6 +21,8 @@ use Rattle.workbench.specs.declared.fault.Stop.{Stop}
 use Rattle.workbench.specs.declared.fault.Stop.TheVariants.{Fault as Faulty, Unread, Unwritten, NoMemory, Wide, TooMany}
 use Rattle.workbench.specs.declared.request.Command.{Command as Word}
 use Rattle.workbench.specs.declared.request.Command.TheVariants.{Check, Robust, Explain, Json, Table}
+use Rattle.workbench.specs.declared.request.Mode.{Mode}
+use Rattle.workbench.specs.declared.request.Mode.TheVariants.{Whole, Watch}
 use Rattle.workbench.specs.ErrTexts.{out_of_memory, read_fault, write_fault, wide_text, too_many_cells_text}
 
 -- the command of a word
@@ -28,6 +32,11 @@ command_of Robust = robust
 command_of Explain = explain
 command_of Json = json
 command_of Table = table
+
+-- the command of a way to answer
+abbrev pub judge_of : Mode → Judge
+judge_of (Whole c) = word_of (command_of c)
+judge_of Watch = word.watch
 
 -- 0 for true, 1 for false
 abbrev pub status_of_truth : Bool → ℕ

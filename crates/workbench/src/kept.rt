@@ -1,8 +1,11 @@
 //! What a run leaves to its caller.
+use crate::watch::Watch;
 
-/// What a run that answers row by row leaves to its caller. No command that is built answers so yet.
+/// What a run that answers row by row leaves to its caller.
 #[derive(Drop)]
 pub enum Kept {
     /// Nothing was left.
     Nothing,
+    /// The watch by which `watch` answered.
+    Watch(Watch),
 }

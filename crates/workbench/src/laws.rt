@@ -5,7 +5,7 @@ ghost use Rattle.io_edge.specs.Calls.{Drained, Filled, HasFailed, HasRefused};
 ghost use Rattle.workbench.specs.Promises.{IsBadRightly, IsBadWhereDue, IsRefusedRightly, IsRefusedWhereDue, IsAnsweredWhereDue, IsAnsweredRightly, IsCutOffRightly, IsToldRightly};
 ghost use Rattle.stl_syntax.specs.Formula.{Formula};
 ghost use Rattle.report.specs.Report.{Command, robust, explain, json, table};
-ghost use Rattle.workbench.specs.Requests.{Request, AreHeld, AreNone, whole, has_input};
+ghost use Rattle.workbench.specs.Requests.{Request, Asks, AreHeld, AreNone, whole, has_input};
 ghost use Rattle.workbench.specs.Settled.{HasFault, IsAnsweredWhole};
 ghost use Rattle.workbench.specs.Accounts.{IsAccount};
 ghost use Rattle.workbench.specs.Measured.{IsMeasured};
@@ -18,11 +18,11 @@ pub use crate::owing_laws::{
     what_was_written_is_of_all_bytes,
 };
 
-/// 2 comes exactly where the words are of no form that is built.
+/// 2 comes exactly where the words are of no form that is built. Those of a command that holds the whole trace ask for no stream.
 pub fn words_of_no_form_are_told()
     ensures words { (words : List (List ℕ)) (i : Drained) (o e : Filled) (status : ℕ) → IsRun words i o e status → status ≡ 2 → AreNone words }
     ensures words_due { (words : List (List ℕ)) (i : Drained) (o e : Filled) (status : ℕ) → IsRun words i o e status → AreNone words → status ≡ 2 }
-    ensures held { (words : List (List ℕ)) → AreHeld words }
+    ensures held { (words : List (List ℕ)) (c : Command) (f : Formula) → Asks words (whole c f) → AreHeld words }
 {}
 
 /// Where the words ask for `check`, its promises follow clause by clause from how a run ends.

@@ -23,7 +23,10 @@ mod stream;
 mod table;
 mod texts;
 mod top;
+mod verdicts;
+mod watch;
 
 pub use entry::program;
 pub use kept::Kept;
 pub use top::run;
+pub use watch::{Watch, WatchFault};

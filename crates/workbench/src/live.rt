@@ -25,7 +25,7 @@ use trace_reader::{Event, Limits, Row, Rows};
 pub(crate) struct Live<F> {
     alloc: Global,
     rows: Rows,
-    formula: Formula,
+    pub(crate) formula: Formula,
     follower: Option<F>,
     text: Text,
 }
@@ -97,6 +97,7 @@ impl<F: Follow> Live<F> {
         ensures live { IfOk result (λ x. IsLive F.stands F.kind x [] []) }
         ensures limits { IfOk result (λ x. x.rows.limits ≡ limits) }
         ensures formula { IfOk result (λ x. x.formula ≡ formula) }
+        ensures empty { IfOk result (λ x. x.text ≡ []) }
     {
         let rows = Rows::new(alloc, limits, formula.scale())?;
         Ok(Live {
@@ -193,7 +194,11 @@ impl<F: Follow> Live<F> {
     ///
     /// # Errors
     /// What came of the bytes, or the sink failed.
-    fn tell<T: Copy, K: Sink>(&mut self, outcome: Result<T, Stop>, out: &mut K) -> Result<T, Stop>
+    pub(crate) fn tell<T: Copy, K: Sink>(
+        &mut self,
+        outcome: Result<T, Stop>,
+        out: &mut K,
+    ) -> Result<T, Stop>
         requires { outcome ≢ Err Stop.Unwritten }
         ensures told { IsToldAs (K.written out.old) (K.written out.new) self.old.text outcome result }
         ensures done { OnOk result (self.new ≡ record self.old { text = [] }) }

@@ -6,7 +6,8 @@ ghost use Rattle.workbench.specs.Saying.{IsSaid};
 ghost use Rattle.stl_grammar.specs.FormulaRefusals.{IsFormulaFault};
 ghost use Rattle.workbench.specs.Cases.{IsCase};
 ghost use Rattle.report.specs.Lines.{line_text};
-ghost use Rattle.workbench.specs.Requests.{AreHeld};
+ghost use Rattle.workbench.specs.Requests.{AreHeld, AreFor};
+ghost use Rattle.workbench.specs.Commands as word;
 ghost use Rattle.workbench.specs.Keeping.{HasRun};
 ghost use Rattle.workbench.specs.Wholes.{command_of, IsAnswerOf, IsUnanswered, IsWrittenWith, IsWholeEnd, IsBadEnd, IsEndLine, IsStopLine, HasFaultFor, EndsSoundly, status_of, status_of_stop, status_of_fault};
 
@@ -19,10 +20,11 @@ use crate::kept::Kept;
 use crate::line::write_line;
 use crate::output::write_all;
 use crate::reading::read_trace;
-use crate::request::{Command, asked};
+use crate::request::{Command, Mode, asked};
 use crate::robust::measure;
 use crate::table::tabulate;
 use crate::texts::{NO_MEMORY, fault_line, formula_line, too_many_cells_line, wide_line};
+use crate::watch::Watch;
 use io_edge::{Sink, Source};
 use report::Line;
 use std::alloc::Global;
@@ -36,8 +38,14 @@ const LIMITS: Limits = Limits {
     lines: 8_589_934_592,
 };
 
+/// The limits of a trace that is answered row by row.
+const STREAM_LIMITS: Limits = Limits {
+    rows: 4_294_967_296,
+    lines: 8_589_934_592,
+};
+
 /// The line where the words are of no form.
-const USAGE: &[u8] = b"usage: check F | robust F | explain F | json F | table F\n";
+const USAGE: &[u8] = b"usage: check F | watch F | robust F | explain F | json F | table F\n";
 
 /// Writes the answer.
 fn write_answer<K: Sink>(out: &mut K, answer: &Answer) -> Result<bool, Stop>
@@ -177,9 +185,45 @@ fn finish<E: Sink>(err: &mut E, formula: &Formula, ending: Result<bool, Stop>) -
     }
 }
 
+/// Answers row by row, and leaves the watch that did so.
+fn by_row<S: Source, K: Sink, E: Sink>(
+    alloc: Global,
+    formula: Formula,
+    input: &mut S,
+    out: &mut K,
+    err: &mut E,
+    kept: &mut Kept,
+) -> u8
+    ensures ran { (words : List (List ℕ)) → AreFor words word.watch formula → HasRun words (drained S.left S.ended S.ends S.faults input.old input.new)
+        (filled K.written K.faults out.old out.new) (filled E.written E.faults err.old err.new) kept.old kept.new result }
+    ensures known { ¬ ((result ≡ 2) ⊎ (result ≡ 3)) }
+    ensures read_due { result ≢ 5 → S.faults input.new ≡ S.faults input.old }
+    ensures write_due { result ≢ 6 → K.faults out.new ≡ K.faults out.old }
+    ensures quiet { result ≤ 1 → err.new ≡ err.old }
+    ensures unkept { 2 ≤ result → kept.new ≡ kept.old }
+    ensures input_later { S.faults input.old ≤ S.faults input.new }
+    ensures out_later { K.faults out.old ≤ K.faults out.new }
+    ensures err_later { E.faults err.old ≤ E.faults err.new }
+{
+    let mut watch = match Watch::new(alloc, formula, STREAM_LIMITS) {
+        Ok(watch) => watch,
+        Err(_) => {
+            say(err, &Line::plain(NO_MEMORY));
+            return 7;
+        }
+    };
+    let ending = watch.drain(input, out);
+    let status = finish(err, watch.formula(), ending);
+    if ending.is_err() {
+        return status;
+    }
+    *kept = Kept::Watch(watch);
+    status
+}
+
 /// Does all that the program does for its words, and answers the status with which it ends.
 ///
-/// - 0 and 1: `out` got the whole text of the command. The input was read to its end.
+/// - 0 and 1: `out` got the whole text of the command. The input was read to its end. After `watch`, `kept` is its watch.
 /// - 2: the words are of no form.
 /// - 3: the formula is refused.
 /// - 4: the bytes that were read have a first fault: of the trace, a column of the formula that the header lacks, or numbers of
@@ -191,7 +235,8 @@ fn finish<E: Sink>(err: &mut E, formula: &Formula, ending: Result<bool, Stop>) -
 /// - 9: an explanation would have too many cells.
 ///
 /// From 2 on `err` gets one line; a fault of `err` changes no status. The words are judged first, then the formula, then the bytes
-/// in their order. `kept` gets what a command that answers row by row leaves; it stays as it was on each other status and command.
+/// in their order. `watch` writes what each row answers before more is read, also what comes before a fault. On each other status and
+/// command `kept` stays as it was.
 pub fn run<S: Source, K: Sink, E: Sink>(
     alloc: Global,
     words: &[String],
@@ -224,10 +269,13 @@ pub fn run<S: Source, K: Sink, E: Sink>(
         return 2;
     };
     match parse(alloc, asked.text) {
-        Ok(formula) => {
-            let ending = whole(alloc, asked.command, &formula, input, out);
-            finish(err, &formula, ending)
-        }
+        Ok(formula) => match asked.mode {
+            Mode::Whole(command) => {
+                let ending = whole(alloc, command, &formula, input, out);
+                finish(err, &formula, ending)
+            }
+            Mode::Watch => by_row(alloc, formula, input, out, err, kept),
+        },
         Err(fault) => refuse(err, fault),
     }
 }

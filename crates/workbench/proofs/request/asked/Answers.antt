@@ -1,8 +1,7 @@
 use Rattle.std.proofs.Common.{◌≡◌, List, [], ◌∷◌, length, map, get_or, arith, subst}
 use Rattle.std.specs.Prelude.{string_bytes}
 use Rattle.workbench.specs.Commands.{judge_word}
-use Rattle.workbench.specs.Requests.{word_of}
-use Rattle.workbench.specs.Wholes.{command_of}
+use Rattle.workbench.specs.Wholes.{judge_of}
 use Rattle.workbench.proofs.RunEnds.{asked_word, none_asked}
 use Rattle.workbench.proofs.request.asked.Goals as goal
 
@@ -17,7 +16,7 @@ pub returns-in-Some : goal.returns-in-Some
 returns-in-Some c =
     let n : length c.args.words.now ≡ 2 = omega arith in
     let e = two c.args.words.now c.form-item.result c.formula-item.result n c.form-item.is c.formula-item.is in
-    asked_word c.in-Some.command c.as_str-in-Some.result.now
+    asked_word c.in-Some.mode c.as_str-in-Some.result.now
     (rw e (let f = c.as_str.ensures.value in let h = c.as_str-in-Some.ensures.value in let k = c.in-Some.ensures in cc))
 
 pub returns-in-None : goal.returns-in-None
@@ -25,4 +24,4 @@ returns-in-None c =
     let n : length c.args.words.now ≡ 2 = omega arith in
     let e = two c.args.words.now c.form-item.result c.formula-item.result n c.form-item.is c.formula-item.is in
     none_asked (λ w text same. c.in-None.ensures w
-    (let s = subst (λ ws. map string_bytes ws ≡ judge_word (word_of (command_of w)) ∷ text ∷ []) e same in let f = c.as_str.ensures.value in cc))
+    (let s = subst (λ ws. map string_bytes ws ≡ judge_word (judge_of w) ∷ text ∷ []) e same in let f = c.as_str.ensures.value in cc))

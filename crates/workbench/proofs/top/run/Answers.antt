@@ -1,7 +1,10 @@
-use Rattle.std.proofs.Common.{map, refl}
+use Rattle.std.proofs.Common.{List, map, refl, sym, subst, ℕ}
 use Rattle.std.specs.Prelude.{string_bytes}
 use Rattle.report.specs.Lines.{line_text}
-use Rattle.workbench.specs.Wholes.{command_of}
+use Rattle.workbench.specs.Commands.{judge}
+use Rattle.workbench.specs.Requests.{IsAsked}
+use Rattle.workbench.specs.Wholes.{command_of, judge_of}
+use Rattle.workbench.specs.declared.request.Mode.{Mode}
 use Rattle.workbench.proofs.RunEnds.{none_run, refused_run, known_run, ends_soundly, serves}
 use Rattle.workbench.proofs.Leaving.{none_left, refused_left, whole_left}
 use Rattle.workbench.proofs.top.run.Goals as goal
@@ -13,19 +16,32 @@ pub returns-in_default-clause-ran : goal.returns-in_default-clause-ran
 returns-in_default-clause-ran g c = none_left _ _ c.in_default.ensures refl
     (none_run _ _ _ (line_text c.plain.result) c.plain.ensures c.in_default.ensures refl refl c.say.ensures.said)
 
-pub returns-in-Ok-clause-ran : goal.returns-in-Ok-clause-ran
-returns-in-Ok-clause-ran g c =
+pub returns-in-Whole-clause-ran : goal.returns-in-Whole-clause-ran
+returns-in-Whole-clause-ran g c =
+    let words = map string_bytes c.args.words.now in
+    let text = c.in-Some.asked.text.now in
     let told = c.finish.ensures.said in
-    let command = command_of c.in-Some.asked.command in
+    let command = command_of c.in-Whole.command in
     let f = c.in-Ok.formula in
-    whole_left command f _ _ (record { text = c.in-Some.asked.text.now; form = c.in-Some.ensures; is = c.in-Ok.ensures.ok; served = serves command f }) refl
-    (known_run (map string_bytes c.args.words.now) command f _ _ _
-    (record { text = c.in-Some.asked.text.now; form = c.in-Some.ensures; is = c.in-Ok.ensures.ok; served = serves command f })
+    let form = subst (λ (m : Mode). IsAsked words (judge (judge_of m) text)) c.in-Whole.is c.in-Some.ensures in
+    whole_left command f _ _ (record { text = text; form = form; is = c.in-Ok.ensures.ok; served = serves command f }) refl
+    (known_run words command f _ _ _ (record { text = text; form = form; is = c.in-Ok.ensures.ok; served = serves command f })
     c.whole-ending.result c.finish.result told.0 c.finish.ensures.status c.whole-ending.ensures.ending c.whole-ending.ensures.read c.whole-ending.ensures.write
     c.whole-ending.ensures.ends told.1 told.2)
+
+pub returns-in-Watch-clause-ran : goal.returns-in-Watch-clause-ran
+returns-in-Watch-clause-ran g c =
+    let words = map string_bytes c.args.words.now in
+    let text = c.in-Some.asked.text.now in
+    c.by_row.ensures.ran words (record {
+      text = text;
+      form = subst (λ (m : Mode). IsAsked words (judge (judge_of m) text)) c.in-Watch.is c.in-Some.ensures;
+      is = c.in-Ok.ensures.ok;
+      served = λ i h. h;
+    })
 
 pub returns-in-Err-clause-ran : goal.returns-in-Err-clause-ran
 returns-in-Err-clause-ran g c =
     let told = c.refuse.ensures.ended c.in-Some.asked.text.now c.in-Err.ensures.fault in
-    refused_left (command_of c.in-Some.asked.command) _ _ c.refuse.result c.in-Some.ensures told.1 refl
-    (refused_run (command_of c.in-Some.asked.command) _ _ _ c.refuse.result told.0 c.in-Some.ensures told.1 refl refl told.2)
+    refused_left (judge_of c.in-Some.asked.mode) _ _ c.refuse.result c.in-Some.ensures told.1 refl
+    (refused_run (judge_of c.in-Some.asked.mode) _ _ _ c.refuse.result told.0 c.in-Some.ensures told.1 refl refl told.2)

@@ -1,0 +1,277 @@
+-- What a watch's calls come to.
+use Rattle.std.proofs.Common.{◌≡◌, ◌≢◌, ◌⊎◌, inl, inr, ℕ, Bool, true, false, List, [], ◌++◌, refl, sym, ap, ◌∙◌, subst, append_assoc, Option, Result, Ok, Err}
+use Rattle.std.specs.Prelude.{MatchResult, MatchBool, OnOk}
+use Rattle.std.specs.Io.KnownBytes.{Appends}
+use Rattle.stl_syntax.specs.Formula.{Formula, root}
+use Rattle.stl_syntax.specs.Trace.{Trace}
+use Rattle.stl_syntax.specs.Stream.{IsStreamText}
+use Rattle.stl_syntax.specs.declared.scale.UnitFault.{UnitFault}
+use Rattle.stl_syntax.specs.declared.scale.UnitFault.TheVariants as unit_fault
+use Rattle.trace_reader.specs.declared.refusal.Limits.{Limits}
+use Rattle.report.specs.Report.{nodes_for}
+use Rattle.io_edge.specs.Calls.{Drained, Filled}
+use Rattle.workbench.specs.Answers.{HoldsAtStart}
+use Rattle.workbench.specs.Settled.{TellsTruth}
+use Rattle.workbench.specs.Cases.{IsFault, IsNamed}
+use Rattle.workbench.specs.InputFaults.{Fault, of_trace, unknown, unit, stream_limits, IsInputFault}
+use Rattle.workbench.specs.Owed.{limits_of}
+use Rattle.workbench.specs.Reading.{IsWhole}
+use Rattle.workbench.specs.Requests.{Request, stream, verdicts}
+use Rattle.workbench.specs.Writing.{IsPartWritten}
+use Rattle.workbench.specs.Wholes.{status_of_truth}
+use Rattle.workbench.specs.Pushing.{IsPushed, IsStreamEnd}
+use Rattle.workbench.specs.Following.{IsTextOf, IsLive, IsAtRest, IsOver, IsDone, IsLiveStop, IsToldAs, no_room, told_whole, told_in_part}
+use Rattle.workbench.specs.Watches.{Watched, Past, with_piece, with_text, IsText, WatchesRows, WatchesEnd, StandsFor, HasPast, StandsForAll, HasPushed, HasFinished, HasFault, IsWatchFault, IsCall, Moves, IsOpen, IsFaultOf, phase_after}
+use Rattle.workbench.specs.declared.case.Case.{Case}
+use Rattle.workbench.specs.declared.fault.TraceFault.{TraceFault}
+use Rattle.workbench.specs.declared.fault.TraceFault.TheVariants.{Trace as InTrace, Unknown, Unit as InTicks}
+use Rattle.workbench.specs.declared.fault.Stop.{Stop}
+use Rattle.workbench.specs.declared.fault.Stop.TheVariants.{Fault as Faulty, Unread, Unwritten, NoMemory, Wide, TooMany}
+use Rattle.workbench.specs.declared.live.Live.{Live}
+use Rattle.workbench.specs.declared.verdicts.Verdicts.{Verdicts}
+use Rattle.workbench.specs.declared.watch.Phase.{Phase}
+use Rattle.workbench.specs.declared.watch.Phase.TheVariants.{Reading, Stopped, Ended}
+use Rattle.workbench.specs.declared.watch.WatchFault.{WatchFault}
+use Rattle.workbench.specs.declared.watch.WatchFault.TheVariants as fault
+use Rattle.workbench.proofs.AtRest.{told_now, calm_now, live_after, told_over, over_after, at_rest}
+
+-- ---- faults
+
+-- want of memory is no fault of the ticks
+unit_is : (limits : Limits) (f : Formula) (bytes : List ℕ) (ended : Bool) (line : ℕ) (x : Fault) → x ≡ unit line unit_fault.Memory → ¬ IsInputFault limits f bytes ended x
+unit_is limits f bytes ended line x e (inl (n, h, at, inl (atom, term, name, is, same), clean)) = let k = sym e ∙ same in cc
+unit_is limits f bytes ended line x e (inl (n, h, at, inr (none, (u, inl (i, first, is), same)), clean)) =
+    let k : unit line unit_fault.Memory ≡ unit n u = sym e ∙ same in
+    let m : unit_fault.Memory ≡ u = cc in
+    let no : unit_fault.Memory ≡ unit_fault.Constant i = m ∙ is in
+    cc
+unit_is limits f bytes ended line x e (inl (n, h, at, inr (none, (u, inr (few, (large, is)), same)), clean)) =
+    let k : unit line unit_fault.Memory ≡ unit n u = sym e ∙ same in
+    let m : unit_fault.Memory ≡ u = cc in
+    let no = m ∙ is in
+    cc
+unit_is limits f bytes ended line x e (inr (none, (r, first, same))) = let k = sym e ∙ same in cc
+
+-- why the reader under a watch stopped, which wrote this
+abbrev pub IsStoppedBy : Past → Bool → List ℕ → Stop → Type 0
+IsStoppedBy p ended grown (Faulty stored) = (x : Fault) × IsFault p.formula stored x × HasFault p ended x
+IsStoppedBy p ended grown Unread = ⊥
+IsStoppedBy p ended grown Unwritten = (rest : List ℕ) × (rest ≢ []) × IsText (with_text p rest) ended
+IsStoppedBy p ended grown NoMemory = grown ≡ []
+IsStoppedBy p ended grown (Wide i den) = ⊥
+IsStoppedBy p ended grown (TooMany count) = ⊥
+
+-- it is one of a watch's faults
+pub has_fault : (p : Past) (ended : Bool) (grown : List ℕ) (stop : Stop) → IsStoppedBy p ended grown stop → (x : WatchFault) × IsFaultOf stop x
+has_fault p ended grown (Faulty (InTrace r)) s = (fault.Trace r, refl)
+has_fault p ended grown (Faulty (Unknown line atom term)) s = (fault.Unknown line atom term, refl)
+has_fault p ended grown (Faulty (InTicks line (unit_fault.Constant node))) s = (fault.UnitConstant line node, refl)
+has_fault p ended grown (Faulty (InTicks line (unit_fault.Reach sum))) s = (fault.UnitReach line sum, refl)
+has_fault p ended grown (Faulty (InTicks line unit_fault.Memory)) (x, is, h) = absurd (unit_is p.limits p.formula p.bytes ended line x is h.0)
+has_fault p ended grown Unread s = absurd s
+has_fault p ended grown Unwritten s = (fault.Write, refl)
+has_fault p ended grown NoMemory s = (fault.Memory, refl)
+has_fault p ended grown (Wide i den) s = absurd s
+has_fault p ended grown (TooMany count) s = absurd s
+
+same_fault : (p : Past) (ended : Bool) (x y : Fault) → x ≡ y → HasFault p ended x → HasFault p ended y
+same_fault p ended x y e h = subst (λ (z : Fault). HasFault p ended z) e h
+
+-- which says what it is
+pub is_watch_fault : (p : Past) (ended : Bool) (grown : List ℕ) (stop : Stop) (w : WatchFault) → IsStoppedBy p ended grown stop → IsFaultOf stop w → IsWatchFault p ended grown w
+is_watch_fault p ended grown (Faulty (InTrace r)) w (x, is, h) e =
+    subst (λ (v : WatchFault). IsWatchFault p ended grown v) (sym e) (same_fault p ended x (of_trace r) is h)
+is_watch_fault p ended grown (Faulty (Unknown line atom term)) w (x, (name, named, is), h) e =
+    subst (λ (v : WatchFault). IsWatchFault p ended grown v) (sym e) (name, named, same_fault p ended x (unknown line atom term name) is h)
+is_watch_fault p ended grown (Faulty (InTicks line (unit_fault.Constant node))) w (x, is, h) e =
+    subst (λ (v : WatchFault). IsWatchFault p ended grown v) (sym e) (same_fault p ended x (unit line (unit_fault.Constant node)) is h)
+is_watch_fault p ended grown (Faulty (InTicks line (unit_fault.Reach sum))) w (x, is, h) e =
+    subst (λ (v : WatchFault). IsWatchFault p ended grown v) (sym e) (same_fault p ended x (unit line (unit_fault.Reach sum)) is h)
+is_watch_fault p ended grown (Faulty (InTicks line unit_fault.Memory)) w s e = absurd e
+is_watch_fault p ended grown Unread w s e = absurd s
+is_watch_fault p ended grown Unwritten w s e = subst (λ (v : WatchFault). IsWatchFault p ended grown v) (sym e) s
+is_watch_fault p ended grown NoMemory w s e = subst (λ (v : WatchFault). IsWatchFault p ended grown v) (sym e) s
+is_watch_fault p ended grown (Wide i den) w s e = absurd s
+is_watch_fault p ended grown (TooMany count) w s e = absurd s
+
+-- ---- calls
+
+-- what came of a call that was told: all that was made was written, or it stopped
+abbrev pub IsTold : {T : Type 0} → Option (List ℕ) → Option (List ℕ) → Past → Bool → List ℕ → (T → Type 0) → Result T Stop → Type 0
+IsTold held held_after p ended made Good (Ok x) = Appends held held_after made × Good x
+IsTold held held_after p ended made Good (Err stop) = (grown : List ℕ) × Appends held held_after grown × IsStoppedBy (with_text p grown) ended grown stop
+
+module _ {T : Type 0} (held held_after : Option (List ℕ)) (p : Past) (ended : Bool) (made : List ℕ) (Good : T → Type 0) where
+  -- the text that was made is that of the rows
+  abbrev Made : Type 0
+  Made = IsTextOf verdicts p.limits p.formula p.bytes ended (p.text ++ made)
+
+  in_part : (front back : List ℕ) → made ≡ front ++ back → Made → IsText (with_text (with_text p front) back) ended
+  in_part front back e m =
+      subst (λ t. IsTextOf verdicts p.limits p.formula p.bytes ended t) (ap (λ t. p.text ++ t) e ∙ sym (append_assoc p.text front back)) m
+
+  fault_made : (stop : Stop) → stop ≢ NoMemory → IsLiveStop verdicts p.limits p.formula ended p.bytes (p.text ++ made) stop → Made
+  fault_made (Faulty stored) ne (x, is, input, t) = t
+  fault_made Unread ne h = absurd h
+  fault_made Unwritten ne h = absurd h
+  fault_made NoMemory ne h = absurd (ne refl)
+  fault_made (Wide i den) ne h = absurd h
+  fault_made (TooMany count) ne h = absurd h
+
+  stopped_by : (stop : Stop) → stop ≢ NoMemory → IsLiveStop verdicts p.limits p.formula ended p.bytes (p.text ++ made) stop → IsStoppedBy (with_text p made) ended made stop
+  stopped_by (Faulty stored) ne (x, is, input, t) = (x, is, (input, t))
+  stopped_by Unread ne h = absurd h
+  stopped_by Unwritten ne h = absurd h
+  stopped_by NoMemory ne h = absurd (ne refl)
+  stopped_by (Wide i den) ne h = absurd h
+  stopped_by (TooMany count) ne h = absurd h
+
+  -- by what came of the bytes
+  pub told_call : (outcome result : Result T Stop) → IsToldAs held held_after made outcome result
+      → MatchResult outcome (λ x. Good x × Made) (λ e. IsLiveStop verdicts p.limits p.formula ended p.bytes (p.text ++ made) e) → IsTold held held_after p ended made Good result
+  told_call outcome result (no_room kept) h = ([], kept, refl)
+  told_call (Ok x) result (told_whole ne wrote) h = (wrote, h.0)
+  told_call (Err stop) result (told_whole ne wrote) h = (made, wrote, stopped_by stop (λ e. ne (ap Err e)) h)
+  told_call (Ok x) result (told_in_part ne part) h = (part.front, part.wrote, (part.back, part.missing, in_part part.front part.back part.parts h.1))
+  told_call (Err stop) result (told_in_part ne part) h =
+      (part.front, part.wrote, (part.back, part.missing, in_part part.front part.back part.parts (fault_made stop (λ e. ne (ap Err e)) h)))
+
+-- a call that stopped
+pub call_stopped : (held held_after : Option (List ℕ)) (p : Past) (ended : Bool) (made : List ℕ) (T : Type 0) (Good : T → Type 0) (Fine : T → Past → Type 0) (stop : Stop) (w : WatchFault)
+    → IsTold held held_after p ended made Good (Err stop) → IsFaultOf stop w → IsCall held held_after p ended Fine (Err w)
+call_stopped held held_after p ended made T Good Fine stop w (grown, wrote, s) e = (grown, wrote, is_watch_fault (with_text p grown) ended grown stop w s e)
+
+pub fault_there : (held held_after : Option (List ℕ)) (p : Past) (ended : Bool) (made : List ℕ) (T : Type 0) (Good : T → Type 0) (stop : Stop)
+    → IsTold held held_after p ended made Good (Err stop) → (x : WatchFault) × IsFaultOf stop x
+fault_there held held_after p ended made T Good stop (grown, wrote, s) = has_fault (with_text p grown) ended grown stop s
+
+-- ---- a piece
+
+module _ (old mid : Live Verdicts) (p : Past) (piece : List ℕ) (phase : Phase) (s : StandsFor p (record { live = old; phase = phase })) (formula : mid.formula ≡ old.formula) (limits : mid.rows.limits ≡ old.rows.limits) where
+  -- what the reader took of it
+  abbrev pub Took : Unit {0} → Type 0
+  Took x = IsLive WatchesRows verdicts mid (p.bytes ++ piece) p.text
+
+  -- the reader's outcome, as one of the past
+  pub piece_fed : (fed : Result (Unit {0}) Stop)
+      → MatchResult fed (λ _. IsLive WatchesRows verdicts mid (p.bytes ++ piece) p.text) (λ e. IsLiveStop verdicts old.rows.limits old.formula false (p.bytes ++ piece) (p.text ++ mid.text) e)
+      → MatchResult fed (λ x. Took x × IsTextOf verdicts p.limits p.formula (p.bytes ++ piece) false (p.text ++ mid.text))
+      (λ e. IsLiveStop verdicts p.limits p.formula false (p.bytes ++ piece) (p.text ++ mid.text) e)
+  piece_fed (Ok x) h = (
+    h,
+    subst (λ (l : Limits). IsTextOf verdicts l p.formula (p.bytes ++ piece) false (p.text ++ mid.text)) (limits ∙ s.limits)
+        (subst (λ (f : Formula). IsTextOf verdicts mid.rows.limits f (p.bytes ++ piece) false (p.text ++ mid.text)) (formula ∙ s.formula) (told_now WatchesRows verdicts mid (p.bytes ++ piece) p.text h)),
+  )
+  piece_fed (Err e) h = subst (λ (l : Limits). IsLiveStop verdicts l p.formula false (p.bytes ++ piece) (p.text ++ mid.text) e) s.limits
+      (subst (λ (f : Formula). IsLiveStop verdicts old.rows.limits f false (p.bytes ++ piece) (p.text ++ mid.text) e) s.formula h)
+
+  -- what a watch is after it
+  pub has_pushed : (new : Live Verdicts) → new ≡ record mid { text = [] } → phase ≡ Reading → IsLive WatchesRows verdicts mid (p.bytes ++ piece) p.text
+      → HasPushed (with_text (with_piece p piece) mid.text) (record { live = new; phase = phase })
+  has_pushed new e reading k = subst (λ (l : Live Verdicts). HasPushed (with_text (with_piece p piece) mid.text) (record { live = l; phase = phase })) (sym e) (record {
+    stands = record {
+      phase = reading;
+      formula = formula ∙ s.formula;
+      limits = limits ∙ s.limits;
+      empty = refl;
+      live = live_after WatchesRows verdicts mid (p.bytes ++ piece) p.text k;
+    };
+    told = (piece_fed (Ok tt) k).1;
+    sound = λ x. subst (λ (l : Limits). ¬ IsInputFault l p.formula (p.bytes ++ piece) false x) (limits ∙ s.limits)
+        (subst (λ (f : Formula). ¬ IsInputFault mid.rows.limits f (p.bytes ++ piece) false x) (formula ∙ s.formula) (calm_now WatchesRows verdicts mid (p.bytes ++ piece) p.text k x));
+  })
+
+-- what came of a piece, once it was told
+pub push_told : (held held_after : Option (List ℕ)) (old mid : Live Verdicts) (p : Past) (piece : List ℕ) (phase : Phase) (s : StandsFor p (record { live = old; phase = phase }))
+    (formula : mid.formula ≡ old.formula) (limits : mid.rows.limits ≡ old.rows.limits) (fed result : Result (Unit {0}) Stop) → IsToldAs held held_after mid.text fed result
+    → MatchResult fed (λ _. IsLive WatchesRows verdicts mid (p.bytes ++ piece) p.text) (λ e. IsLiveStop verdicts old.rows.limits old.formula false (p.bytes ++ piece) (p.text ++ mid.text) e)
+    → IsTold held held_after (with_piece p piece) false mid.text (λ _. IsLive WatchesRows verdicts mid (p.bytes ++ piece) p.text) result
+push_told held held_after old mid p piece phase s formula limits fed result told taken =
+    told_call held held_after (with_piece p piece) false mid.text (λ _. IsLive WatchesRows verdicts mid (p.bytes ++ piece) p.text) fed result told
+    (piece_fed old mid p piece phase s formula limits fed taken)
+
+-- ---- the end
+
+truth_of : (holds : Bool) (f : Formula) (tr : Trace) → TellsTruth f tr (status_of_truth holds) → MatchBool holds (HoldsAtStart f tr) (¬ HoldsAtStart f tr)
+truth_of true f tr (inl (e, h)) = h
+truth_of true f tr (inr (e, h)) = absurd (let k = e in cc)
+truth_of false f tr (inl (e, h)) = absurd (let k = e in cc)
+truth_of false f tr (inr (e, h)) = h
+
+module _ (old mid : Live Verdicts) (p : Past) (phase : Phase) (s : StandsFor p (record { live = old; phase = phase })) (formula : mid.formula ≡ old.formula) where
+  -- what the reader's end left
+  abbrev pub Over : Bool → Type 0
+  Over holds = IsOver WatchesEnd verdicts p.limits p.formula mid p.bytes (p.text ++ mid.text) holds
+
+  pub end_over : (holds : Bool) → IsOver WatchesEnd verdicts old.rows.limits old.formula mid p.bytes (p.text ++ mid.text) holds → Over holds
+  end_over holds k = subst (λ (l : Limits). IsOver WatchesEnd verdicts l p.formula mid p.bytes (p.text ++ mid.text) holds) s.limits
+      (subst (λ (f : Formula). IsOver WatchesEnd verdicts old.rows.limits f mid p.bytes (p.text ++ mid.text) holds) s.formula k)
+
+  pub end_fed : (finished : Result Bool Stop)
+      → MatchResult finished (IsOver WatchesEnd verdicts old.rows.limits old.formula mid p.bytes (p.text ++ mid.text)) (λ e. IsLiveStop verdicts old.rows.limits old.formula true p.bytes (p.text ++ mid.text) e)
+      → MatchResult finished (λ holds. Over holds × IsTextOf verdicts p.limits p.formula p.bytes true (p.text ++ mid.text))
+      (λ e. IsLiveStop verdicts p.limits p.formula true p.bytes (p.text ++ mid.text) e)
+  end_fed (Ok holds) h = let k = end_over holds h in (k, told_over WatchesEnd verdicts p.limits p.formula mid p.bytes (p.text ++ mid.text) holds k)
+  end_fed (Err e) h = subst (λ (l : Limits). IsLiveStop verdicts l p.formula true p.bytes (p.text ++ mid.text) e) s.limits
+      (subst (λ (f : Formula). IsLiveStop verdicts old.rows.limits f true p.bytes (p.text ++ mid.text) e) s.formula h)
+
+  -- what a watch is after it
+  pub has_finished : (new : Live Verdicts) (next : Phase) (holds : Bool) → new ≡ record mid { text = [] } → next ≡ Ended → Over holds
+      → HasFinished (with_text p mid.text) holds (record { live = new; phase = next })
+  has_finished new next holds e over k = subst (λ (l : Live Verdicts). HasFinished (with_text p mid.text) holds (record { live = l; phase = next })) (sym e) (record {
+    stands = record { phase = over; formula = formula ∙ s.formula; over = over_after WatchesEnd verdicts p.limits p.formula mid p.bytes (p.text ++ mid.text) holds k };
+    tr = k.case.trace;
+    trace = k.trace;
+    written = subst (λ (g : Formula). IsStreamText (root g.nodes) k.case.trace.header k.case.trace.rows true (p.text ++ mid.text)) k.fits.formula k.complete.told;
+    truth = truth_of holds p.formula k.case.trace (k.complete.verdict p.formula k.fits);
+  })
+
+-- what came of the end, once it was told
+pub end_told : (held held_after : Option (List ℕ)) (old mid : Live Verdicts) (p : Past) (phase : Phase) (s : StandsFor p (record { live = old; phase = phase })) (formula : mid.formula ≡ old.formula)
+    (finished result : Result Bool Stop) → IsToldAs held held_after mid.text finished result
+    → MatchResult finished (IsOver WatchesEnd verdicts old.rows.limits old.formula mid p.bytes (p.text ++ mid.text)) (λ e. IsLiveStop verdicts old.rows.limits old.formula true p.bytes (p.text ++ mid.text) e)
+    → IsTold held held_after p true mid.text (IsOver WatchesEnd verdicts p.limits p.formula mid p.bytes (p.text ++ mid.text)) result
+end_told held held_after old mid p phase s formula finished result told over =
+    told_call held held_after p true mid.text (IsOver WatchesEnd verdicts p.limits p.formula mid p.bytes (p.text ++ mid.text)) finished result told
+    (end_fed old mid p phase s formula finished over)
+
+-- ---- a source
+
+-- a watch without bytes may be drained
+pub fresh : (w : Watched) → StandsFor (record { formula = w.live.formula; limits = stream_limits; bytes = []; text = [] }) w
+    → IsPushed (IsAtRest WatchesRows verdicts w.live) (stream verdicts w.live.formula) [] []
+fresh w s = at_rest WatchesRows verdicts w.live [] [] (record { live_for = s.live; limits = s.limits; empty = s.empty })
+
+one_formula : (f g : Formula) → stream verdicts f ≡ stream verdicts g → f ≡ g
+one_formula f g e = cc
+
+all_done : (f : Formula) (live : Live Verdicts) (phase : Phase) (bytes text : List ℕ) → live.formula ≡ f → phase ≡ Ended → IsDone WatchesEnd verdicts live bytes text
+    → (holds : Bool) × StandsForAll (record { formula = f; limits = stream_limits; bytes = bytes; text = text }) holds (record { live = live; phase = phase })
+all_done f live phase bytes text e over (holds, k) =
+    (holds, record { phase = over; formula = e; over = subst (λ (g : Formula). IsOver WatchesEnd verdicts stream_limits g live bytes text holds) e k })
+
+-- after its end the watch stands for all bytes
+pub drained_all : (f : Formula) (live : Live Verdicts) (phase : Phase) (i : Drained) (o : Filled) (r : Result Bool Stop) → live.formula ≡ f → phase ≡ phase_after r
+    → IsStreamEnd (IsDone WatchesEnd verdicts live) (stream verdicts f) i o r
+    → IsStreamEnd (λ bytes text. (holds : Bool) × StandsForAll (record { formula = f; limits = stream_limits; bytes = bytes; text = text }) holds (record { live = live; phase = phase })) (stream verdicts f) i o r
+drained_all f live phase i o r e over x = record {
+  bytes = x.bytes;
+  text = x.text;
+  line = x.line;
+  moved = x.moved;
+  grew = x.grew;
+  at_end = x.at_end;
+  is = x.is;
+  told = x.told;
+  left = by_result r over x.left;
+}
+  where
+    by_result : (r : Result Bool Stop) → phase ≡ phase_after r → OnOk r (IsDone WatchesEnd verdicts live x.bytes x.text)
+        → OnOk r ((holds : Bool) × StandsForAll (record { formula = f; limits = stream_limits; bytes = x.bytes; text = x.text }) holds (record { live = live; phase = phase }))
+    by_result (Ok holds) over k = all_done f live phase x.bytes x.text e over k
+    by_result (Err stop) over k = tt
+
+-- and takes no more
+pub not_reading : (r : Result Bool Stop) → phase_after r ≢ Reading
+not_reading (Ok holds) e = let k = e in cc
+not_reading (Err stop) e = let k = e in cc

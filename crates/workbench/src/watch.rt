@@ -1,0 +1,219 @@
+//! Verdicts as the bytes of a trace come.
+ghost use Rattle.std.specs.Prelude.{◌≡◌, ◌≢◌, ◌≤◌, ◌^◌, ◌++◌, ℕ, List, [], Bool, true, false, Err, IfOk};
+ghost use Rattle.io_edge.specs.Causes.{Rose, after_end};
+ghost use Rattle.io_edge.specs.Calls.{drained, filled};
+ghost use Rattle.workbench.specs.InputFaults.{stream_limits};
+ghost use Rattle.workbench.specs.Requests.{stream as by_row, verdicts};
+ghost use Rattle.workbench.specs.Pushing.{IsStreamEnd};
+ghost use Rattle.workbench.specs.Watches.{Past, with_piece, StandsFor, StandsForAll, HasPushed, HasFinished, IsCall, Moves, IsLate, IsOpen, IsFaultOf, phase_after};
+ghost use Rattle.workbench.specs.declared.watch.WatchFault.{WatchFault as Reason};
+
+use crate::fault::{Stop, TraceFault};
+use crate::live::Live;
+use crate::stream::stream;
+use crate::verdicts::Verdicts;
+use frac128::Memory;
+use io_edge::{Sink, Source};
+use std::alloc::Global;
+use std::marker::Model;
+use stl_syntax::{Formula, UnitFault};
+use trace_reader::{Limits, TraceRefusal};
+
+/// Why a call was refused.
+#[derive(Clone, Copy, Debug, PartialEq, Eq)]
+pub enum WatchFault {
+    /// The bytes have this fault.
+    Trace(TraceRefusal),
+    /// The header in line `line` lacks a column: that of the term at place `term` of the atom at node `atom`.
+    Unknown { line: u64, atom: u32, term: u32 },
+    /// In the ticks of the header in line `line` the constant of the atom at node `node` is too large.
+    UnitConstant { line: u64, node: u32 },
+    /// In the ticks of the header in line `line` the bounds of the formula sum to `sum`, which is too large.
+    UnitReach { line: u64, sum: u64 },
+    /// The sink failed.
+    Write,
+    /// There was too little memory.
+    Memory,
+    /// An earlier call answered one of the faults above.
+    Stopped,
+    /// The end came before.
+    Ended,
+}
+
+/// How far a watch has come.
+#[derive(Clone, Copy)]
+pub(crate) enum Phase {
+    /// More bytes, or the end, may come.
+    Reading,
+    /// A call answered a fault.
+    Stopped,
+    /// The end came.
+    Ended,
+}
+
+/// The verdicts of a formula, written as the bytes of a trace are pushed: at each row those that it answers, and at the end the rest
+/// and the truth at the start.
+///
+/// Contracts see it as `Watched`. `StandsFor` says when it stands for a past, and `StandsForAll` so after the end.
+#[derive(Drop)]
+pub struct Watch {
+    live: Live<Verdicts>,
+    phase: Phase,
+}
+
+impl Model for Watch {
+    ghost use Rattle.workbench.specs.Watches.{Watched, HasPast};
+
+    ghost Value = { Watched };
+
+    ghost view = { λ w. record { live = w.live; phase = w.phase } };
+
+    ghost invariant = { λ w. HasPast (record { live = w.live; phase = w.phase }) };
+}
+
+/// The fault that a reason to stop is.
+fn fault_of(stop: Stop) -> WatchFault
+    requires { (x : Reason) × IsFaultOf stop x }
+    ensures { IsFaultOf stop result }
+{
+    match stop {
+        Stop::Fault(TraceFault::Trace(refusal)) => WatchFault::Trace(refusal),
+        Stop::Fault(TraceFault::Unknown { line, atom, term }) => {
+            WatchFault::Unknown { line, atom, term }
+        }
+        Stop::Fault(TraceFault::Unit { line, fault }) => match fault {
+            UnitFault::Constant { node } => WatchFault::UnitConstant { line, node },
+            UnitFault::Reach { sum } => WatchFault::UnitReach { line, sum },
+            UnitFault::Memory => unreachable!(),
+        },
+        Stop::Unwritten => WatchFault::Write,
+        Stop::NoMemory => WatchFault::Memory,
+        Stop::Unread | Stop::Wide { .. } | Stop::TooMany { .. } => unreachable!(),
+    }
+}
+
+/// Stops a watch, and answers the fault that the reason is.
+fn stopped(phase: &mut Phase, stop: Stop) -> WatchFault
+    requires { (x : Reason) × IsFaultOf stop x }
+    ensures fault { IsFaultOf stop result }
+    ensures now { phase.new ≡ Phase.Stopped }
+{
+    *phase = Phase::Stopped;
+    fault_of(stop)
+}
+
+/// Refuses a call after a fault, and after the end.
+fn allow(phase: Phase) -> Result<(), WatchFault>
+    ensures { IsOpen phase result }
+{
+    match phase {
+        Phase::Reading => Ok(()),
+        Phase::Stopped => Err(WatchFault::Stopped),
+        Phase::Ended => Err(WatchFault::Ended),
+    }
+}
+
+/// The phase after the end of a source.
+fn phase_of(ending: Result<bool, Stop>) -> Phase
+    ensures { result ≡ phase_after ending }
+{
+    match ending {
+        Ok(_) => Phase::Ended,
+        Err(_) => Phase::Stopped,
+    }
+}
+
+impl Watch {
+    /// A watch of a formula that took no bytes yet.
+    ///
+    /// # Errors
+    /// Want of memory.
+    pub fn new(alloc: Global, formula: Formula, limits: Limits) -> Result<Watch, Memory>
+        requires rows { limits.rows ≤ 2 ^ 32 }
+        requires lines { limits.lines ≤ 2 ^ 33 }
+        ensures { IfOk result (StandsFor (record { formula = formula; limits = limits; bytes = []; text = [] })) }
+    {
+        let live = Live::new(alloc, formula, limits)?;
+        Ok(Watch {
+            live,
+            phase: Phase::Reading,
+        })
+    }
+
+    /// Takes a piece of a trace's bytes, and writes the verdicts that the rows in it answer. What was written then is the stream text of the
+    /// whole lines pushed so far.
+    ///
+    /// # Errors
+    /// - `Trace`, `Unknown`, `UnitConstant` or `UnitReach`: the bytes have this first fault. The stream text of the rows before it was
+    ///   written.
+    /// - `Write`: the sink failed in this call. A first part of the stream text was written, and not all of it.
+    /// - `Memory`: there was too little memory. The call wrote nothing.
+    /// - `Stopped` where an earlier call answered one of these, and `Ended` after the end. Nothing changes then.
+    pub fn push<K: Sink>(&mut self, piece: &[u8], out: &mut K) -> Result<(), WatchFault>
+        ensures pushed { (p : Past) → StandsFor p self.old
+            → IsCall (K.written out.old) (K.written out.new) (with_piece p piece.now) false (λ _ q. HasPushed q self.new) result }
+        ensures phase { Moves Phase.Reading self.old self.new result }
+        ensures late { IsLate result → out.new ≡ out.old }
+        ensures cause { result ≡ Err WatchFault.Write → Rose (K.faults out.old) (K.faults out.new) }
+        ensures still { result ≢ Err WatchFault.Write → K.faults out.new ≡ K.faults out.old }
+    {
+        allow(self.phase)?;
+        let fed = self.live.feed(piece);
+        match self.live.tell(fed, out) {
+            Ok(()) => Ok(()),
+            Err(stop) => Err(stopped(&mut self.phase, stop)),
+        }
+    }
+
+    /// Takes the end of the bytes, with a last row that lacks its LF. Writes the verdicts that are left and the line of the truth at the
+    /// start, and answers that truth.
+    ///
+    /// # Errors
+    /// As `push`.
+    pub fn end<K: Sink>(&mut self, out: &mut K) -> Result<bool, WatchFault>
+        ensures ended { (p : Past) → StandsFor p self.old
+            → IsCall (K.written out.old) (K.written out.new) p true (λ holds q. HasFinished q holds self.new) result }
+        ensures phase { Moves Phase.Ended self.old self.new result }
+        ensures late { IsLate result → out.new ≡ out.old }
+        ensures cause { result ≡ Err WatchFault.Write → Rose (K.faults out.old) (K.faults out.new) }
+        ensures still { result ≢ Err WatchFault.Write → K.faults out.new ≡ K.faults out.old }
+    {
+        allow(self.phase)?;
+        let finished = self.live.finish();
+        match self.live.tell(finished, out) {
+            Ok(holds) => {
+                self.phase = Phase::Ended;
+                Ok(holds)
+            }
+            Err(stop) => Err(stopped(&mut self.phase, stop)),
+        }
+    }
+
+    /// The formula.
+    pub(crate) fn formula(&self) -> &Formula
+        ensures { result.now ≡ self.now.live.formula }
+    {
+        &self.live.formula
+    }
+
+    /// Pushes all that a source gives, and takes its end.
+    pub(crate) fn drain<S: Source, K: Sink>(
+        &mut self,
+        input: &mut S,
+        out: &mut K,
+    ) -> Result<bool, Stop>
+        requires { StandsFor (record { formula = self.old.live.formula; limits = stream_limits; bytes = []; text = [] }) self.old }
+        ensures ending { IsStreamEnd (λ bytes text. (holds : Bool) × StandsForAll (record { formula = self.old.live.formula; limits = stream_limits; bytes = bytes; text = text }) holds self.new)
+            (by_row verdicts self.old.live.formula) (drained S.left S.ended S.ends S.faults input.old input.new) (filled K.written K.faults out.old out.new) result }
+        ensures formula { self.new.live.formula ≡ self.old.live.formula }
+        ensures ends { S.ends input.new ≡ after_end (S.ended input.new) (S.ends input.old) }
+        ensures read_due { result ≢ Err Stop.Unread → S.faults input.new ≡ S.faults input.old }
+        ensures write_due { result ≢ Err Stop.Unwritten → K.faults out.new ≡ K.faults out.old }
+        ensures input_later { S.faults input.old ≤ S.faults input.new }
+        ensures out_later { K.faults out.old ≤ K.faults out.new }
+    {
+        let ending = stream(&mut self.live, input, out);
+        self.phase = phase_of(ending);
+        ending
+    }
+}
