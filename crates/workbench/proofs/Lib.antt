@@ -42,3 +42,5 @@ pub mod Taking
 pub mod Watched
 pub mod WatchedRows
 pub mod Reported
+pub mod Summaries
+pub mod NumberWords
