@@ -44,3 +44,4 @@ pub mod WatchedRows
 pub mod Reported
 pub mod Summaries
 pub mod NumberWords
+pub mod Fitting

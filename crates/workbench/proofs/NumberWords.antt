@@ -2,7 +2,7 @@
 use Rattle.std.proofs.Common.{◌≡◌, ◌⊎◌, inl, inr, ℕ, zero, suc, ◌+◌, ◌-◌, ◌*◌, ◌<◌, ◌≤◌, Bool, true, false, List, [], ◌∷◌, ◌++◌, length, take, drop, get_or, refl, sym, ap, ◌∙◌, subst, arith}
 use Rattle.std.specs.Prelude.{codes}
 use Rattle.std.proofs.lemmas.Bool.{and_parts, false≢true}
-use Rattle.std.proofs.lemmas.List.{take-append-drop, take_more, take_length}
+use Rattle.std.proofs.lemmas.List.{take-append-drop, take_more, take_all}
 use Rattle.stl_syntax.specs.Characters.{is_digit, all, decimal_value}
 use Rattle.stl_syntax.proofs.CharacterLemmas.{all-push}
 use Rattle.stl_syntax.proofs.DecimalLemmas.{decimal_value-push, decimal_value-append}
@@ -34,7 +34,7 @@ read_more word i v c h e d r =
 -- all of them
 pub read_all : (word : List ℕ) (most v : ℕ) → 0 < length word → v ≤ most → IsReadTo word (length word) v → IsNumberWord most word v
 read_all word most v some small r =
-    let whole : take (length word) word ≡ word = take_length word in
+    let whole : take (length word) word ≡ word = take_all (length word) word (omega arith) in
     record { some = some; digits = subst (λ w. all is_digit w ≡ true) whole r.digits; value = sym (ap (decimal_value 0) whole) ∙ r.value; small = small }
 
 -- a number that is too large stays so

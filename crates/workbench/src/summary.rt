@@ -8,6 +8,7 @@ ghost use Rattle.workbench.specs.Generator.{IsSummary};
 
 use crate::answer::truth_of;
 use crate::case::Case;
+use crate::fault::Stop;
 use crate::reading::read_trace;
 use crate::top::LIMITS;
 use frac128::Memory;
@@ -33,9 +34,8 @@ fn generated_case(alloc: Global, formula: &Formula, number: u64, rows: u32) -> R
     let mut source = CleanSource::new(bytes);
     match read_trace(&mut source, formula, LIMITS, alloc) {
         Ok(case) => Ok(case),
-        // The bytes are a trace's, with the formula's columns, and the source never fails. That want of memory alone leads here is
-        // tested, and no proof says it.
-        Err(_) => Err(Memory),
+        Err(Stop::NoMemory) => Err(Memory),
+        Err(_) => unreachable!(),
     }
 }
 
