@@ -20,7 +20,7 @@ def trace(rows):
 
 
 def cells(rows):
-    """How many cells the atoms have: each time is a cut of both columns."""
+    """How many cells the atoms have: each time is a cut of both columns. With 4 more of the nodes above they may be 65,536."""
     return 2 * (2 * rows - 1)
 
 
@@ -75,7 +75,7 @@ def main():
     parser.add_argument("--runs", type=int, default=3)
     args = parser.parse_args()
     print(f"{'cells':>7}{'kept':>6}{'evaluations':>13}{'bound':>7}{'seconds':>9}")
-    for rows in (250, 2500, 16384):
+    for rows in (250, 2500, 16383):
         text = trace(rows)
         for width in (0, 5, 50):
             least, out = seconds(args.program, f"eventually[0,{width}] (x >= 1 and y >= 1)", text, args.runs)

@@ -18,6 +18,8 @@ mod explain_tests;
 #[cfg(test)]
 mod margin_tests;
 #[cfg(test)]
+mod online_nodes_tests;
+#[cfg(test)]
 mod operator_tests;
 #[cfg(test)]
 mod reason_tests;
@@ -31,6 +33,8 @@ mod signal_tests;
 mod slow;
 #[cfg(test)]
 mod slow_tests;
+#[cfg(test)]
+mod stream_tests;
 #[cfg(test)]
 mod tables;
 #[cfg(test)]

@@ -710,7 +710,6 @@ const NO_FORMS: [&[&str]; 7] = [
     &["check"],
     &["gen", "1", "0"],
     &["early", "x >= 5"],
-    &["watch"],
     &["robust"],
     &["check", "x >= 5", "y"],
 ];

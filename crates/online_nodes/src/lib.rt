@@ -26,6 +26,3 @@ pub use laws::{
 };
 pub use operator::Operator;
 pub use writer::Out;
-
-#[cfg(test)]
-mod tests;

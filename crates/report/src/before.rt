@@ -1,5 +1,5 @@
 //! Texts put before others: in a buffer that is filled from its end on, so that no number needs a place of its own.
-ghost use Rattle.std.specs.Prelude.{◌≡◌, ◌≢◌, ◌≤◌, ◌<◌, true, length, decimal};
+ghost use Rattle.std.specs.Prelude.{◌≡◌, ◌≢◌, ◌≤◌, ◌<◌, ◌∷◌, [], true, length, decimal};
 ghost use Rattle.std.specs.Fmt.{signed_decimal};
 ghost use Rattle.stl_syntax.specs.Texts.{fraction_text};
 ghost use Rattle.report.specs.Before.{IsPut};
@@ -18,6 +18,17 @@ pub(crate) fn put_word(buf: &mut [u8], end: usize, word: &[u8]) -> usize
     let at = end - word.len();
     buf[at..end].copy_from_slice(word);
     at
+}
+
+/// Puts a byte.
+#[inline(always)]
+pub(crate) fn put_byte(buf: &mut [u8], end: usize, byte: u8) -> usize
+    requires room { 1 ≤ end }
+    requires inside { end ≤ length buf.old }
+    ensures { IsPut (byte ∷ []) 1 buf.old end buf.new result }
+{
+    buf[end - 1] = byte;
+    end - 1
 }
 
 /// Puts the digits of a number.

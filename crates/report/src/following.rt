@@ -1,13 +1,13 @@
 //! Verdicts of which each begins where the one before it ends, in lines or in JSON, so that each time is brought into units once.
-ghost use Rattle.std.specs.Prelude.{◌≡◌, ◌≤◌, length, OnOk, OnErr};
+ghost use Rattle.std.specs.Prelude.{◌≡◌, ◌≤◌, ◌++◌, ◌∷◌, [], if◌then◌else◌, true, length, codes, OnOk, OnErr};
+ghost use Rattle.stl_syntax.specs.Texts.{bool_text, newline};
 ghost use Rattle.report.specs.Appended.{Grew, GrewInPart};
-ghost use Rattle.report.specs.Before.{Puts};
+ghost use Rattle.report.specs.Before.{IsPut, Puts};
 ghost use Rattle.report.specs.Times.{IsBegun};
-ghost use Rattle.report.specs.VerdictForms.{entry_begin, entry_end, json_end, line_end, IsEntry};
+ghost use Rattle.report.specs.VerdictForms.{entry_begin, entry_end, json_end, IsEntry};
 
-use crate::before::{put_lowest, put_word};
+use crate::before::{put_byte, put_lowest, put_word};
 use crate::number::{Lowest, in_units};
-use crate::verdict::opening;
 use frac128::Memory;
 use stl_syntax::{Scale, Text, Verdict};
 
@@ -18,13 +18,10 @@ pub(crate) struct Style {
     pub(crate) scale: Scale,
 }
 
-/// What a verdict has before its two times.
-fn beginning(json: bool, v: &Verdict) -> &'static [u8]
-    ensures { result.now ≡ entry_begin json v.now }
+/// What an object has before its two times.
+fn object_beginning(v: &Verdict) -> &'static [u8]
+    ensures { result.now ≡ entry_begin true v.now }
 {
-    if !json {
-        return opening(v.on.from_in);
-    }
     if v.on.from_in {
         b"{\"on\":\"["
     } else {
@@ -32,17 +29,25 @@ fn beginning(json: bool, v: &Verdict) -> &'static [u8]
     }
 }
 
-/// What a line has after its two times: a bracket, the truth and LF.
-fn line_ending(v: &Verdict) -> &'static [u8]
-    ensures { result.now ≡ line_end v.now }
+/// The bracket before a span.
+#[inline(always)]
+fn bracket(inside: bool) -> u8
+    ensures { result ∷ [] ≡ (if inside then codes "[" else codes "(") }
 {
-    if v.holds {
-        if v.on.to_in { b"] true\n" } else { b") true\n" }
-    } else if v.on.to_in {
-        b"] false\n"
-    } else {
-        b") false\n"
+    if inside { b'[' } else { b'(' }
+}
+
+/// Puts what a verdict has before its two times.
+#[inline(always)]
+fn put_beginning(buf: &mut [u8], end: usize, json: bool, v: &Verdict) -> usize
+    requires room { 8 ≤ end }
+    requires inside { end ≤ length buf.old }
+    ensures { IsPut (entry_begin json v.now) 8 buf.old end buf.new result }
+{
+    if json {
+        return put_word(buf, end, object_beginning(v));
     }
+    put_byte(buf, end, bracket(v.on.from_in))
 }
 
 /// What an object has after its two times: a bracket, the truth, and what ends the list or parts it from the next.
@@ -61,14 +66,49 @@ fn json_ending(v: &Verdict, last: bool) -> &'static [u8]
     }
 }
 
-/// What a verdict has after its two times.
-fn ending(json: bool, v: &Verdict, last: bool) -> &'static [u8]
-    ensures { result.now ≡ entry_end json last v.now }
+/// Puts what a line has after its two times, where the span has its end: a bracket, the truth and LF.
+#[inline(always)]
+fn put_closed(buf: &mut [u8], end: usize, holds: bool) -> usize
+    requires room { 8 ≤ end }
+    requires inside { end ≤ length buf.old }
+    ensures { IsPut (codes "] " ++ bool_text holds ++ newline) 8 buf.old end buf.new result }
+{
+    if holds {
+        put_word(buf, end, b"] true\n")
+    } else {
+        put_word(buf, end, b"] false\n")
+    }
+}
+
+/// The same, where it has not.
+#[inline(always)]
+fn put_open(buf: &mut [u8], end: usize, holds: bool) -> usize
+    requires room { 8 ≤ end }
+    requires inside { end ≤ length buf.old }
+    ensures { IsPut (codes ") " ++ bool_text holds ++ newline) 8 buf.old end buf.new result }
+{
+    if holds {
+        put_word(buf, end, b") true\n")
+    } else {
+        put_word(buf, end, b") false\n")
+    }
+}
+
+/// Puts what a verdict has after its two times.
+#[inline(always)]
+fn put_ending(buf: &mut [u8], end: usize, json: bool, v: &Verdict, last: bool) -> usize
+    requires room { 18 ≤ end }
+    requires inside { end ≤ length buf.old }
+    ensures { IsPut (entry_end json last v.now) 18 buf.old end buf.new result }
 {
     if json {
-        return json_ending(v, last);
+        return put_word(buf, end, json_ending(v, last));
     }
-    line_ending(v)
+    if v.on.to_in {
+        put_closed(buf, end, v.holds)
+    } else {
+        put_open(buf, end, v.holds)
+    }
 }
 
 /// Puts a verdict at the end of the buffer, with the times `from` and `to`, and answers where it begins.
@@ -86,11 +126,11 @@ fn put_entry(
     ensures { Puts (IsEntry style.json last style.scale v.now) 256 buf.old (length buf.old) buf.new result }
 {
     let end = buf.len();
-    let after = put_word(buf, end, ending(style.json, v, last));
+    let after = put_ending(buf, end, style.json, v, last);
     let second = put_lowest(buf, after, to);
     let comma = put_word(buf, second, b",");
     let first = put_lowest(buf, comma, from);
-    put_word(buf, first, beginning(style.json, v))
+    put_beginning(buf, first, style.json, v)
 }
 
 /// Appends a verdict, the last of its list or not. `begin` has the time where it begins, and then has that where it ends. What the

@@ -1,4 +1,4 @@
-use Rattle.std.proofs.Common.{◌≡◌, ℕ, List, ◌++◌, length, codes, ap, ◌∙◌, arith}
+use Rattle.std.proofs.Common.{ℕ, List, codes, arith}
 use Rattle.frac128.specs.Value.{value}
 use Rattle.stl_syntax.specs.Texts.{fraction_text}
 use Rattle.report.specs.Numbers.{signed}
@@ -6,7 +6,6 @@ use Rattle.report.specs.VerdictForms.{entry_begin, entry_end}
 use Rattle.report.specs.declared.number.Lowest.{Lowest}
 use Rattle.report.proofs.Putting.{put_then, put_as, five}
 use Rattle.report.proofs.Spans.{number_text, entry_is}
-use Rattle.report.proofs.EntryRoom.{begin_short, end_short}
 use Rattle.report.proofs.following.put_entry.Goals as goal
 
 abbrev text_of : Lowest → List ℕ
@@ -23,15 +22,11 @@ returns c =
     let T = text_of to in
     let p = number_text scale.time (value v.on.from) from.negative from.size from.den c.requires.from in
     let q = number_text scale.time (value v.on.to) to.negative to.size to.den c.requires.to in
-    let begin : c.beginning.result.now ≡ entry_begin json v = c.beginning.ensures in
-    let end : c.ending.result.now ≡ entry_end json c.args.last v = c.ending.ensures in
-    let first = ap (λ b. b ++ (F ++ (codes "," ++ (T ++ c.ending.result.now)))) begin in
-    let second = ap (λ e. entry_begin json v ++ (F ++ (codes "," ++ (T ++ e)))) end in
-    let together = five (entry_begin json v) F (codes ",") T (entry_end json c.args.last v) in
     let all =
-    put_then (put_then (put_then (put_then c.put_word-after.ensures c.put_lowest-second.ensures) c.put_word-comma.ensures) c.put_lowest-first.ensures)
-    c.put_word.ensures in (
+    put_then
+    (put_then (put_then (put_then c.put_ending-after.ensures c.put_lowest-second.ensures) c.put_word-comma.ensures) c.put_lowest-first.ensures)
+    c.put_beginning.ensures in (
       _,
       entry_is json c.args.last scale v F T p q,
-      put_as (first ∙ second ∙ together) (omega (arith, ap length begin, ap length end, begin_short json v, end_short json c.args.last v)) all,
+      put_as (five (entry_begin json v) F (codes ",") T (entry_end json c.args.last v)) (omega arith) all,
     )

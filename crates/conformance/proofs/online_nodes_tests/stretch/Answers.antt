@@ -4,7 +4,7 @@ use Rattle.online_nodes.specs.Written.{IsSound}
 use Rattle.online_nodes.specs.declared.writer.Out.{Out}
 use Rattle.online_nodes.proofs.PlaceLemmas.{upto_of_before}
 use Rattle.online_nodes.proofs.Writing.{same_itself}
-use Rattle.online_nodes.proofs.tests.stretch.Goals as goal
+use Rattle.conformance.proofs.online_nodes_tests.stretch.Goals as goal
 
 pub returns-clause-sound : goal.returns-clause-sound
 returns-clause-sound c = subst (λ (o : Out). IsSound o) (sym c.new.ensures) (same_itself (place c.args.from))

@@ -1,0 +1,86 @@
+-- Places by their order, and the stretches between the earlier and the later of two.
+use Rattle.std.proofs.Common.{◌≡◌, ◌⊎◌, inl, inr, subst, sym, Bool, true, false, ℕ}
+use Rattle.std.specs.Prelude.{MatchBool}
+use Rattle.rational.specs.Rational.{Rational, IsWithin, ◌≤ʳ◌, ◌<ʳ◌, middle}
+use Rattle.rational.proofs.Order.{le_or_lt, le_trans, le_of_lt, le_of_same, not_lt_of_le, left_of_middle, right_of_middle}
+use Rattle.early_verdict.specs.Cuts.{Place, place, After, Upto, Before, AtMost}
+use Rattle.early_verdict.specs.Spans.{Lies}
+use Rattle.early_verdict.specs.declared.cut.Cut.{Cut}
+use Rattle.early_verdict.specs.declared.stretch.Stretch.{Stretch}
+use Rattle.early_verdict.proofs.PlaceLemmas.{sides, not_both, between, before_through}
+
+-- what comes after a later place comes after an earlier one
+pub before_from : (c d e : Place) → AtMost c d → Before d e → Before c e
+before_from c d e h b =
+    let t = between d e b in
+    elim (sides c t.0) [ inl u ↦ absurd (not_both d t.0 (h t.0 u) t.1) | inr a ↦ before_through c e t.0 a t.2 ]
+
+pub before_to : (c d e : Place) → Before c d → AtMost d e → Before c e
+before_to c d e b h = let t = between c d b in before_through c e t.0 t.1 (h t.0 t.2)
+
+-- what lies after a place lies after each that is at most it
+pub after_from : (c d : Place) (t : Rational) → AtMost c d → After d t → After c t
+after_from c d t h a = elim (sides c t) [ inl u ↦ absurd (not_both d t (h t u) a) | inr b ↦ b ]
+
+-- no place comes before itself
+pub not_itself : (c : Place) → ¬ (Before c c)
+not_itself c b = let t = between c c b in not_both c t.0 t.2 t.1
+
+-- what lies after both lies after the one of the two
+pub after_one : (a b r : Cut) (t : Rational) → (r ≡ a) ⊎ (r ≡ b) → After (place a) t → After (place b) t → After (place r) t
+after_one a b r t (inl e) h k = subst (λ c. After (place c) t) (sym e) h
+after_one a b r t (inr e) h k = subst (λ c. After (place c) t) (sym e) k
+
+pub upto_one : (a b r : Cut) (t : Rational) → (r ≡ a) ⊎ (r ≡ b) → Upto (place a) t → Upto (place b) t → Upto (place r) t
+upto_one a b r t (inl e) h k = subst (λ c. Upto (place c) t) (sym e) h
+upto_one a b r t (inr e) h k = subst (λ c. Upto (place c) t) (sym e) k
+
+-- the times of places in their order
+pub le_of_before : (c d : Place) → Before c d → c.at ≤ʳ d.at
+le_of_before c d (inl l) = le_of_lt l
+le_of_before c d (inr (s, e, f)) = le_of_same s
+
+pub le_of_at_most : (c d : Place) → AtMost c d → c.at ≤ʳ d.at
+le_of_at_most c d h = elim (le_or_lt c.at d.at) [ inl l ↦ l | inr l ↦ absurd (above l) ]
+  where
+    under : (b : Bool) → d.at <ʳ c.at → MatchBool b (middle d.at c.at ≤ʳ c.at) (middle d.at c.at <ʳ c.at)
+    under true l = le_of_lt (right_of_middle l)
+    under false l = right_of_middle l
+
+    over : (b : Bool) → d.at <ʳ c.at → MatchBool b (middle d.at c.at ≤ʳ d.at) (middle d.at c.at <ʳ d.at) → ⊥
+    over true l k = not_lt_of_le k (left_of_middle l)
+    over false l k = not_lt_of_le (le_of_lt k) (left_of_middle l)
+
+    above : d.at <ʳ c.at → ⊥
+    above l = over d.after l (h (middle d.at c.at) (under c.after l))
+
+-- two places between two that are near are near
+pub near_between : (n : ℕ) (f t b e : Place) → AtMost b f → Before f t → AtMost t e → IsWithin n b.at → IsWithin n e.at
+    → IsWithin n f.at × IsWithin n t.at
+near_between n f t b e low order high near far =
+    let l = le_of_at_most b f low in
+    let m = le_of_before f t order in
+    let h = le_of_at_most t e high in
+    ((le_trans near.0 l, le_trans (le_trans m h) far.1), (le_trans near.0 (le_trans l m), le_trans h far.1))
+
+-- between the earlier of two beginnings and the later of two ends there is nothing that neither stretch has, where they meet or touch
+pub in_hull : (s r : Stretch) (from to : Cut) (t : Rational) → (from ≡ s.from) ⊎ (from ≡ r.from) → (to ≡ s.to) ⊎ (to ≡ r.to)
+    → ¬ (Before (place s.to) (place r.from)) → ¬ (Before (place r.to) (place s.from)) → After (place from) t → Upto (place to) t
+    → Lies s t ⊎ Lies r t
+in_hull s r from to t f g first second a u = by_from (sides (place s.from) t) (sides (place s.to) t) (sides (place r.from) t) (sides (place r.to) t)
+  where
+    other_to : (to ≡ s.to) ⊎ (to ≡ r.to) → After (place s.to) t → Upto (place r.to) t
+    other_to (inl e) k = absurd (not_both (place s.to) t (subst (λ c. Upto (place c) t) e u) k)
+    other_to (inr e) k = subst (λ c. Upto (place c) t) e u
+
+    other_from : (from ≡ s.from) ⊎ (from ≡ r.from) → Upto (place s.from) t → After (place r.from) t
+    other_from (inl e) k = absurd (not_both (place s.from) t k (subst (λ c. After (place c) t) e a))
+    other_from (inr e) k = subst (λ c. After (place c) t) e a
+
+    by_from : Upto (place s.from) t ⊎ After (place s.from) t → Upto (place s.to) t ⊎ After (place s.to) t
+        → Upto (place r.from) t ⊎ After (place r.from) t → Upto (place r.to) t ⊎ After (place r.to) t → Lies s t ⊎ Lies r t
+    by_from (inr h) (inl k) x y = inl (h, k)
+    by_from (inr h) (inr k) (inr x) y = inr (x, other_to g k)
+    by_from (inr h) (inr k) (inl x) y = absurd (first (before_through (place s.to) (place r.from) t k x))
+    by_from (inl h) k x (inl y) = inr (other_from f h, y)
+    by_from (inl h) k x (inr y) = absurd (second (before_through (place r.to) (place s.from) t y h))

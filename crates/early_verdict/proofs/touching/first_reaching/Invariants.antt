@@ -1,0 +1,15 @@
+use Rattle.std.proofs.Common.{◌≤◌, ◌-◌, length, take, drop}
+use Rattle.early_verdict.specs.Cuts.{place}
+use Rattle.early_verdict.specs.Spans.{EndBefore, NoneEndsBefore}
+use Rattle.early_verdict.proofs.touching.first_reaching.Given as goal
+
+abbrev pub invariant-loop-low : goal.invariant-loop-low
+invariant-loop-low l = record {
+  order : l.low ≤ l.high;
+  within : l.high ≤ length l.spans.items;
+  front : EndBefore (place l.cut) (take l.low l.spans.items);
+  rest : NoneEndsBefore (place l.cut) (drop l.high l.spans.items);
+}
+
+abbrev pub decreases-loop-low : goal.decreases-loop-low
+decreases-loop-low l = l.high - l.low

@@ -1,0 +1,67 @@
+//! Sets of times that only grow, as stretches that rise and do not touch, with what they gained of late.
+use crate::cut::Cut;
+use crate::stretch::Stretch;
+use crate::touching::{absorb, first_reaching};
+use frac128::Memory;
+use std::alloc::Global;
+use std::collections::VecDeque;
+
+/// A set of times within bounds that only grows, and the stretches that it gained since they were last cleared.
+#[derive(Drop)]
+pub struct Grown {
+    bounds: Stretch,
+    spans: VecDeque<Stretch>,
+    fresh: Vec<Stretch>,
+}
+
+impl Grown {
+    ghost use Rattle.std.specs.Prelude.{◌≡◌, [], OnOk};
+    ghost use Rattle.rational.specs.Time.{Rational};
+    ghost use Rattle.early_verdict.specs.Cuts.{After, Upto, place};
+    ghost use Rattle.early_verdict.specs.Spans.{AreTidy, Grows};
+
+    /// No times yet; it takes no memory.
+    pub fn new(alloc: Global, bounds: Stretch) -> Grown
+        ensures bounds { result.bounds ≡ bounds }
+        ensures spans { result.spans.items ≡ [] }
+        ensures fresh { result.fresh.items ≡ [] }
+    {
+        Grown {
+            bounds,
+            spans: VecDeque::new(alloc),
+            fresh: Vec::new(alloc),
+        }
+    }
+
+    /// Forgets what was gained; the set stays.
+    pub fn rest(&mut self)
+        ensures bounds { self.new.bounds ≡ self.old.bounds }
+        ensures spans { self.new.spans.items ≡ self.old.spans.items }
+        ensures fresh { self.new.fresh.items ≡ [] }
+    {
+        self.fresh.clear();
+    }
+
+    /// Adds the times between the two places, as far as they lie in the bounds, and notes those that are new.
+    ///
+    /// # Errors
+    ///
+    /// `Memory` where memory is wanting; the set is of no use then.
+    pub fn add(&mut self, from: Cut, to: Cut) -> Result<(), Memory>
+        requires { AreTidy self.old.spans.items }
+        ensures tidy { OnOk result (AreTidy self.new.spans.items) }
+        ensures bounds { self.new.bounds ≡ self.old.bounds }
+        ensures ok { OnOk result (Grows self.old.bounds self.old.spans.items self.new.spans.items self.old.fresh.items self.new.fresh.items
+            (λ t. After (place from) t × Upto (place to) t)) }
+    {
+        let Some(part) = Stretch::make(from, to, &self.bounds) else {
+            return Ok(());
+        };
+        let at = first_reaching(&self.spans, &part.from);
+        let joined = absorb(&mut self.spans, at, &part, &mut self.fresh)?;
+        match self.spans.insert(at, joined) {
+            Ok(()) => Ok(()),
+            Err(_) => Err(Memory),
+        }
+    }
+}

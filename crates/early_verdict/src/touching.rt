@@ -1,0 +1,83 @@
+//! The stretches of a list that another one touches.
+ghost use Rattle.std.specs.Prelude.{◌≡◌, ◌≤◌, ◌++◌, ◌∷◌, ◌↔◌, List, length, take, drop, slice_get, Some, IfOk, OnOk, IfSome, IfNone};
+ghost use Rattle.rational.specs.Time.{Rational};
+ghost use Rattle.early_verdict.specs.Cuts.{After, Upto, Before, place};
+ghost use Rattle.early_verdict.specs.Spans.{AreTidy, BeginsAfter, EndBefore, NoneEndsBefore};
+ghost use Rattle.early_verdict.specs.Joining.{Absorbs, Notes};
+
+use crate::cut::Cut;
+use crate::stretch::Stretch;
+use frac128::Memory;
+use std::collections::VecDeque;
+
+/// The place of the first stretch that does not end before the cut.
+pub(crate) fn first_reaching(spans: &VecDeque<Stretch>, cut: &Cut) -> usize
+    requires { AreTidy spans.now.items }
+    ensures within { result ≤ length spans.now.items }
+    ensures front { EndBefore (place cut.now) (take result spans.now.items) }
+    ensures rest { NoneEndsBefore (place cut.now) (drop result spans.now.items) }
+{
+    let mut low = 0;
+    let mut high = spans.len();
+    while low < high {
+        let middle = low + (high - low) / 2;
+        if spans[middle].to.precedes(cut) {
+            low = middle + 1;
+        } else {
+            high = middle;
+        }
+    }
+    low
+}
+
+/// The stretch at the place, if it does not begin after the cut.
+fn begins_by(spans: &VecDeque<Stretch>, at: usize, cut: &Cut) -> Option<Stretch>
+    ensures some { IfSome result (λ s. (slice_get spans.now.items at ≡ Some s) × ¬ (Before (place cut.now) (place s.from))) }
+    ensures none { IfNone result (BeginsAfter (place cut.now) (drop at spans.now.items)) }
+{
+    let next = *spans.get(at)?;
+    if cut.precedes(&next.from) {
+        return None;
+    }
+    Some(next)
+}
+
+/// Notes the times of the part between the two places, if there are any.
+fn note(fresh: &mut Vec<Stretch>, from: &Cut, to: &Cut, part: &Stretch) -> Result<(), Memory>
+    ensures { OnOk result (Notes (place from.now) (place to.now) part.now fresh.old.items fresh.new.items) }
+{
+    match Stretch::make(*from, *to, part) {
+        None => Ok(()),
+        Some(gap) => match fresh.push(gap) {
+            Ok(()) => Ok(()),
+            Err(_) => Err(Memory),
+        },
+    }
+}
+
+/// Takes out the stretches from the place on that the part touches, notes the times of the part that were in none of them, and
+/// gives the part joined with them.
+pub(crate) fn absorb(
+    spans: &mut VecDeque<Stretch>,
+    at: usize,
+    part: &Stretch,
+    fresh: &mut Vec<Stretch>,
+) -> Result<Stretch, Memory>
+    requires tidy { AreTidy spans.old.items }
+    requires within { at ≤ length spans.old.items }
+    requires front { EndBefore (place part.now.from) (take at spans.old.items) }
+    requires rest { NoneEndsBefore (place part.now.from) (drop at spans.old.items) }
+    ensures tidy { AreTidy spans.new.items }
+    ensures ok { IfOk result (λ joined. Absorbs at part.now joined spans.old.items spans.new.items fresh.old.items fresh.new.items) }
+{
+    let mut joined = *part;
+    let mut seen = part.from;
+    while let Some(next) = begins_by(spans, at, &part.to) {
+        note(fresh, &seen, &next.from, part)?;
+        seen = next.to;
+        joined = joined.hull(&next);
+        let _ = spans.remove(at);
+    }
+    note(fresh, &seen, &part.to, part)?;
+    Ok(joined)
+}

@@ -1,0 +1,3 @@
+mod EdgesLemmas
+pub mod DroppingLemmas
+mod QueueLemmas

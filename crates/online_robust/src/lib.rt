@@ -1,0 +1,9 @@
+//! Streamed margins, in work: the parts of a margin over time, the edges between the nodes of a network, and the best of constants that
+//! come and leave.
+#![tactic(auto)]
+
+mod edges;
+mod line;
+mod queue;
+
+pub use line::MarginLine;
