@@ -103,6 +103,7 @@ module _ (nodes : List Node) (header : Header) where
     pub rows_are : s.rows ≡ rows
     pub closed_is : s.closed ≡ ended
 
+  -- after the run that a stream drives the state has the rows, and the end where it came
   pub driven_at : {rows : List Row} {ended : Bool} {events : List Event} → IsDriven nodes header rows ended events
       → IsAfter rows ended (state_from nodes initial events)
   driven_at nothing = record { rows_are = refl; closed_is = refl }
@@ -119,6 +120,7 @@ module _ (nodes : List Node) (header : Header) where
         closed_is = sym (ends_stay 0 nodes (after_event nodes (state_from nodes initial events) close));
       })
 
+  -- and all that the root gave out in it was taken
   pub driven_emptied : {rows : List Row} {ended : Bool} {events : List Event} → IsDriven nodes header rows ended events → IsEmptied nodes header events
   driven_emptied nothing = record { taken = 0; is_taken = none_taken; emitted = []; is_emitted = refl; all = refl }
   driven_emptied (by_row r n before emptied) = emptied
@@ -140,6 +142,7 @@ module _ (nodes : List Node) (header : Header) where
     pub truth : first_truth first ≡ first_truth emitted
     pub gives : EmittedFrom nodes header (length nodes - 1) (state_from nodes initial events) (e ∷ steps_of 0 nodes) beyond
 
+  -- of a driven run, an event and the steps, what was given out parts so
   pub passing_of : {rows : List Row} {events : List Event} (e : Event) (emitted all : List Verdict) → e ≢ taken
       → IsDriven nodes header rows false events → Emitted nodes header events (length nodes - 1) emitted
       → Emitted nodes header ((events ++ e ∷ []) ++ steps_of 0 nodes) (length nodes - 1) all → Passing events e emitted
@@ -179,6 +182,7 @@ module _ (nodes : List Node) (header : Header) where
     pub start : v.start ≡ first_truth given
     pub lines : Grew (AreVerdictLines v.formula.scale beyond) old new
 
+  -- once all was taken the run is driven on, and the lines are of what was given out last
   pub passed_of : (events : List Event) (e : Event) (emitted : List Verdict) (x : Passing events e emitted) (v : Verdicts) (old new : List ℕ)
       → HasTakenAll (pass_before events e x.first x.beyond) v old new → HasPassed events e (x.first ++ x.beyond) x.beyond v old new
   passed_of events e emitted x v old new (n, h, all) =

@@ -70,6 +70,7 @@ module _ (v : Verdicts) (c : Case) (w : IsWatched false v c) where
   unfolding state
   last_is = w.stands.holds.last ∙ ap last_row_of (driven_at c.formula.nodes c.trace.header w.driven).rows_are
 
+  -- and it is later than the last one
   pub fits_time : (r : Row) → Takes r c.trace → IfSome v.net.last (λ (l : Row). l.time < r.time)
   fits_time r t = subst (λ o. IfSome o (λ (l : Row). l.time < r.time)) (sym last_is) (later_row c.trace.rows r t.1)
 
@@ -96,6 +97,7 @@ module _ (v : Verdicts) (c : Case) (w : IsWatched false v c) where
   passing e net ne st =
       passing_of c.formula.nodes c.trace.header e w.emitted st.shows.root.emitted ne w.driven w.is_emitted st.shows.root.is_emitted
 
+  -- so what the root gave out can be taken
   pub can_take : (e : Event) (x : Passing c.formula.nodes c.trace.header w.events e w.emitted) (mid : Verdicts)
       → Stands c.formula.nodes c.trace.header mid.net ((w.events ++ e ∷ []) ++ steps_of 0 c.formula.nodes) → mid.start ≡ v.start
       → CanTake (pass_before c.formula.nodes c.trace.header w.events e x.first x.beyond) mid
@@ -148,6 +150,7 @@ module _ (v : Verdicts) (c : Case) (w : IsWatched false v c) where
     pub driven : IsDriven c.formula.nodes c.trace.header c.trace.rows true (w.events ++ pass_of close c.formula.nodes passed.made)
     pub truth : StartTold (root c.formula.nodes) c.trace (x.first ++ x.beyond)
 
+  -- the pass at the end leaves that
   pub is_out : (x : Passing c.formula.nodes c.trace.header w.events close w.emitted) (after : Verdicts) (old mid : List ℕ) → IsTrace c.trace
       → HasTakenAll (pass_before c.formula.nodes c.trace.header w.events close x.first x.beyond) after old mid → IsOut x after old mid
   is_out x after old mid t h =
@@ -162,6 +165,7 @@ module _ (v : Verdicts) (c : Case) (w : IsWatched false v c) where
             (first_to_last c.trace t) t p.is_emitted;
       }
 
+  -- so a truth is kept
   pub start_kept : (x : Passing c.formula.nodes c.trace.header w.events close w.emitted) (after : Verdicts) (old mid : List ℕ) → IsOut x after old mid
       → after.start ≢ None
   start_kept x after old mid o e = absurd (let h : Some o.truth.holds ≡ None = sym o.truth.first ∙ sym o.passed.start ∙ e in cc)
