@@ -44,8 +44,6 @@ mod until_tests;
 #[cfg(test)]
 mod verdict_tests;
 #[cfg(test)]
-mod watch_tests;
-#[cfg(test)]
 mod window_tests;
 #[cfg(test)]
 mod workload_tests;

@@ -36,22 +36,6 @@ pub(crate) fn pieces(most: usize) -> Devices {
     }
 }
 
-/// Single bytes, and the call of the source that fails.
-pub(crate) fn failing_read(call: u64) -> Devices {
-    Devices {
-        read_fails: call,
-        ..pieces(1)
-    }
-}
-
-/// Single bytes, and the call of the sink that fails.
-pub(crate) fn failing_write(call: u64) -> Devices {
-    Devices {
-        write_fails: call,
-        ..pieces(1)
-    }
-}
-
 fn strings(alloc: Global, words: &[&str]) -> Result<Vec<String>, AllocError> {
     let mut all = Vec::new(alloc);
     for word in words {
@@ -705,7 +689,7 @@ fn refused<'a>(words: &'a [&'a str], err: &'a str, status: u8) -> Case<'a> {
 const USAGE: &str = "usage: check F | watch F | robust F | explain F | json F | table F\n";
 
 /// Words that are no form.
-const NO_FORMS: [&[&str]; 7] = [
+const NO_FORMS: [&[&str]; 6] = [
     &[],
     &["check"],
     &["gen", "1", "0"],
