@@ -1,0 +1,41 @@
+-- The parts of a margin over time.
+use Rattle.std.specs.Prelude.{◌≡◌, IsTrue}
+use Rattle.rational.specs.Rational.{Rational}
+use Rattle.rational.specs.Extended.{value_at, opposite, ◌≈ᵉ◌}
+use Rattle.rational.specs.Affine.{AreSame}
+use Rattle.frac128.specs.declared.frac.Frac.{Frac}
+use Rattle.value_laws.specs.Margins.{is_ramp, margin_base, margin_function}
+use Rattle.value_laws.specs.declared.margin.Margin.{Margin}
+use Rattle.online_robust.specs.declared.line.MarginLine.{MarginLine}
+use Rattle.online_robust.specs.declared.line.MarginLine.TheVariants.{Point, Gap}
+
+-- the time of a point, and where a gap ends
+abbrev pub end_of : MarginLine → Frac
+end_of (Point at value) = at
+end_of (Gap from to piece) = to
+
+-- the margin of the part
+abbrev pub margin_of : MarginLine → Margin
+margin_of (Point at value) = value
+margin_of (Gap from to piece) = piece
+
+-- points at one time, or gaps between the same times
+abbrev pub AreAtOnce : MarginLine → MarginLine → Type 0
+AreAtOnce (Point s v) (Point t w) = s ≡ t
+AreAtOnce (Gap a b p) (Gap c d q) = (a ≡ c) × (b ≡ d)
+AreAtOnce _ _ = ⊥
+
+-- the part with the negated margin
+pub record IsNegated (old new : MarginLine) : Type 0 where
+  pub at_once : AreAtOnce old new
+  pub value : (t : Rational) → value_at (margin_function (margin_of new)) t ≈ᵉ opposite (value_at (margin_function (margin_of old)) t)
+  pub base : IsTrue (is_ramp (margin_of new)) → IsTrue (is_ramp (margin_of old)) × (margin_base (margin_of new) ≡ margin_base (margin_of old))
+
+-- the two have one value at the time
+abbrev pub IsOneValue : Margin → Margin → Rational → Type 0
+IsOneValue p q t = value_at (margin_function p) t ≈ᵉ value_at (margin_function q) t
+
+-- the two gaps and the point between them, at the time, are of one function: the point is no knot
+pub record IsOneLine (before point after : Margin) (t : Rational) : Type 0 where
+  pub gaps : AreSame (margin_function before) (margin_function after)
+  pub there : IsOneValue before point t

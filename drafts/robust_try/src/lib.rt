@@ -1,0 +1,5 @@
+//! A try.
+#![tactic(auto)]
+
+#[cfg(test)]
+mod robust_tests;
