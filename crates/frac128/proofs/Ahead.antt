@@ -1,5 +1,6 @@
 -- The sizes of the products in the value of a ramp, and that value.
-use Rattle.std.proofs.Common.{◌≡◌, ℕ, ℤ, pos, negsuc, ◌+ℤ◌, ◌-ℤ◌, ◌*ℤ◌, ◌<ℤ◌, ◌+◌, ◌*◌, ◌^◌, ◌<◌, ◌≤◌, arith, ap, mul-le-mul, mul-pos, FitsSigned, ◌-◌}
+use Rattle.std.proofs.Common.{◌≡◌, ℕ, ℤ, pos, negsuc, ◌+ℤ◌, ◌-ℤ◌, ◌*ℤ◌, ◌<ℤ◌, ◌+◌, ◌*◌, ◌^◌, ◌<◌, ◌≤◌, arith, ap, sym, subst, ◌∙◌, mul-le-mul, mul-pos, FitsSigned, ◌-◌}
+use Rattle.std.proofs.Math.IntN.{*ℤ-one}
 use mir.Syntax.{w128}
 use Rattle.std.specs.Int.RustNames.{unsigned_abs}
 use Rattle.std.proofs.lemmas.Int.{ints, unsigned_abs-mul, fits_signed_from_abs}
@@ -146,3 +147,16 @@ parts_fit a b c d h =
   where
     abs_sub : (x y : ℤ) → unsigned_abs (x -ℤ y) ≤ unsigned_abs x + unsigned_abs y
     abs_sub x y = omega (arith, ints)
+
+-- at a time of whole ticks the denominator is the run
+pub on_tick_den : (run den : ℕ) → den ≡ 1 → pos run ≡ pos (run * den)
+on_tick_den run den e = ap pos (omega (arith, ap (λ d. run * d) e))
+
+-- and the numerator has one product less
+pub on_tick_num : (a rise gap : ℤ) (den rest : ℕ) → den ≡ 1 → rest ≡ 0 → a +ℤ rise *ℤ gap ≡ a *ℤ pos den +ℤ rise *ℤ (gap *ℤ pos den +ℤ pos rest)
+unfolding lib.IntN.one
+on_tick_num a rise gap den rest e z =
+    let none : gap +ℤ pos 0 ≡ gap = omega (arith, ints) in
+    subst (λ d. a +ℤ rise *ℤ gap ≡ a *ℤ pos d +ℤ rise *ℤ (gap *ℤ pos d +ℤ pos rest)) (sym e)
+    (subst (λ r. a +ℤ rise *ℤ gap ≡ a *ℤ pos 1 +ℤ rise *ℤ (gap *ℤ pos 1 +ℤ pos r)) (sym z)
+    (ap (λ x. x +ℤ rise *ℤ gap) (sym (*ℤ-one a)) ∙ ap (λ x. a *ℤ pos 1 +ℤ rise *ℤ x) (sym (ap (λ x. x +ℤ pos 0) (*ℤ-one gap) ∙ none))))

@@ -58,6 +58,9 @@ impl Ramp {
         ensures small { unsigned_abs result.den < 2 ^ 92 }
     {
         let gap = i128::from(t.whole()) - i128::from(self.t0);
+        if t.den() == 1 {
+            return self.on_tick(gap);
+        }
         value_ahead(
             i128::from(self.v0),
             i128::from(self.rise),
@@ -66,6 +69,25 @@ impl Ramp {
             i128::from(t.rest()),
             i128::from(t.den()),
         )
+    }
+
+    /// The value `gap` ticks after its base, over `run`.
+    #[inline(always)]
+    fn on_tick(&self, gap: i128) -> Ratio
+        requires { unsigned_abs gap ≤ 2 ^ 35 }
+        ensures num { result.num ≡ self.now.v0 *ℤ pos self.now.run +ℤ self.now.rise *ℤ gap }
+        ensures den { result.den ≡ pos self.now.run }
+        ensures small { unsigned_abs result.den < 2 ^ 92 }
+    {
+        Ratio {
+            num: sum_of_products(
+                i128::from(self.v0),
+                i128::from(self.run),
+                i128::from(self.rise),
+                gap,
+            ),
+            den: i128::from(self.run),
+        }
     }
 
     /// The value at `t` as a `Frac`. Err exactly where its denominator in lowest terms is 2^60 or more, which it carries.

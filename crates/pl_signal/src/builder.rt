@@ -119,6 +119,30 @@ impl<P: Shape> Builder<P> {
         if let Some(taken) = whole_over(side, p, q, &from, to) {
             return self.go_along(taken, to, point);
         }
+        self.join_pieces(side, p, q, to, point)
+    }
+
+    /// The same, with a crossing or not.
+    #[inline(never)]
+    fn join_pieces(
+        &mut self,
+        side: Side,
+        p: &P,
+        q: &P,
+        to: &Frac,
+        point: P,
+    ) -> Result<(), OpFault<P>>
+        requires order { stop self.old <ʳ value to.now }
+        requires from_within { IsWithin (2 ^ 34) (stop self.old) }
+        requires to_within { IsWithin (2 ^ 34) (value to.now) }
+        requires first { HasBoundedLevel (2 ^ 31) (P.function p.now) }
+        requires second { HasBoundedLevel (2 ^ 31) (P.function q.now) }
+        ensures ok { OnOk result (Joins P.Shape side self.old p.now q.now to.now point self.new) }
+        ensures err { OnErr result (self.new ≡ self.old) }
+        ensures wide { IfErr result
+            (λ e. (from : Frac) × (value from ≡ stop self.old) × IsGapFault P.Shape p.now q.now from to.now e) }
+    {
+        let from = self.stop();
         let taken = pieces_over(side, p, q, &from, to)?;
         if self.knots.reserve(2).is_err() {
             return Err(OpFault::Memory);
