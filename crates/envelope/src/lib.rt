@@ -7,5 +7,6 @@ mod course;
 mod turns;
 mod walk;
 
+pub use best::{Best, write};
 pub use turns::{Turn, is_later, of_none, trend};
 pub use walk::{Item, Slope, Walk};
