@@ -1,3 +1,6 @@
 pub mod Lines
 pub mod Held
 pub mod Queues
+pub mod Told
+pub mod Standing
+pub mod Turns
