@@ -1,17 +1,7 @@
-use Rattle.std.proofs.Common.{◌-◌, ◌++◌, length, drop, arith, ap, ◌∙◌, take_all, length-drop}
-use Rattle.std.proofs.lemmas.Result.{on_ok_weaker, on_err_weaker}
+use Rattle.std.proofs.lemmas.Result.{on_err_weaker}
 use Rattle.report.specs.PartLines.{IsGapLine}
-use Rattle.report.proofs.Putting.{pushed_puts, unpushed_puts}
+use Rattle.report.proofs.Putting.{unpushed_puts}
 use Rattle.report.proofs.part.put_gap.Goals as goal
-
-pub returns-clause-ok : goal.returns-clause-ok
-returns-clause-ok c =
-    let buf = c.put_piece-at.new.buf in
-    let at = c.put_piece-at.result in
-    let all = take_all (length buf - at) (drop at buf) (omega (arith, length-drop at buf)) in
-    on_ok_weaker c.push.result
-    (λ e. pushed_puts (IsGapLine c.args.scale c.args.from c.args.to c.args.piece) c.args.text.now c.push.new.self c.put_piece-at.ensures
-    (e ∙ ap (λ w. c.args.text.now ++ w) all)) c.push.ensures.ok
 
 pub returns-clause-err : goal.returns-clause-err
 returns-clause-err c =
