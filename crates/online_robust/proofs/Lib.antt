@@ -1,3 +1,7 @@
 mod EdgesLemmas
 pub mod DroppingLemmas
 mod QueueLemmas
+mod Emitting
+mod Growing
+mod Rests
+mod SignalLines

@@ -4,3 +4,8 @@ pub mod Queues
 pub mod Told
 pub mod Standing
 pub mod Turns
+pub mod Pasts
+pub mod Moving
+pub mod Putting
+pub mod Firsts
+pub mod Nets

@@ -105,7 +105,7 @@ pub record Belongs (t : Turn) (op : Operator) (e : Held) (to : ℕ) : Type 0 whe
   pub edges : length e.edges ≡ length t.nodes
   pub is_trace : IsTrace t.trace
   pub start : e.start ≡ Some (begin_of t)
-  pub last : last_time 0 t.trace.rows ≤ 4294967295
+  pub small_now : t.now ≤ 4294967295
   pub by_now : t.now ≤ last_time 0 t.trace.rows
   pub at_end : t.ended ≡ true → t.now ≡ last_time 0 t.trace.rows
   pub number : pos to ≡ front_at t.ended (pos t.now) (subformula t.nodes t.place)

@@ -4,6 +4,11 @@
 
 mod edges;
 mod line;
+mod net;
+mod operator;
+mod put;
 mod queue;
+mod station;
 
 pub use line::MarginLine;
+pub use net::{RobustFault, RobustNet};

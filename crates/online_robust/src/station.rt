@@ -1,4 +1,15 @@
 //! A node of the network: by how much it lags behind the rows, and what it does.
+ghost use Rattle.std.specs.Prelude.{◌≡◌, ◌<◌, ◌≤◌, ◌≤ℤ◌, ◌<ℤ◌, ◌^◌, ℕ, ℤ, pos, negsuc, length, IfErr, OnOk, MatchOption, Some, None};
+ghost use Rattle.stl_syntax.specs.Formula.{HasChildrenBelow, horizon};
+ghost use Rattle.stl_syntax.specs.Horizons.{horizon_above};
+ghost use Rattle.stl_syntax.specs.Trace.{Header};
+ghost use Rattle.stl_syntax.specs.declared.node.Node.{Node as ANode};
+ghost use Rattle.online_nodes.specs.StreamedWide.{IsUnstreamed};
+ghost use Rattle.online_robust.specs.Turns.{IsLeaf};
+ghost use Rattle.online_robust.specs.Moving.{Move, CanGoTo, CanMoveByRow, CanMoveByEnd, HasMoved, IsFaultOf};
+ghost use Rattle.online_robust.specs.Firsts.{IsFirstWork};
+ghost use Rattle.online_robust.specs.declared.station.Work.TheVariants as W;
+
 use crate::edges::Edges;
 use crate::operator::Operator;
 use crate::put::{put_atom, put_const, put_signal};
@@ -27,91 +38,169 @@ pub(crate) struct Station {
 }
 
 /// What a leaf does.
-fn leaf_of(node: &Node) -> Work {
+fn leaf_of(node: &Node) -> Work
+    requires { IsLeaf node.now }
+    ensures { IsFirstWork node.now result }
+{
     match node {
         Node::Const(holds) => Work::Const(*holds),
         _ => Work::Atom,
     }
 }
 
-/// What a node does.
-fn work_of(alloc: Global, node: &Node) -> Work {
+/// What a node does, before any row.
+pub(crate) fn work_of(alloc: Global, node: &Node) -> Work
+    requires { ¬ IsUnstreamed node.now }
+    ensures { IsFirstWork node.now result }
+{
     match Operator::new(alloc, node) {
         Some(operator) => Work::Operator(operator),
         None => leaf_of(node),
     }
 }
 
-/// The greater horizon.
-fn greater(p: u32, q: u32) -> u32 {
-    if p < q { q } else { p }
-}
-
-/// The horizon that is left behind a window of the past.
-fn behind(p: u32, low: u32) -> u32 {
-    if low < p { p - low } else { 0 }
-}
-
 /// The horizon of a node, from those of the nodes before it.
-fn ahead_of(before: &[Station], node: &Node) -> u32 {
+pub(crate) fn horizon_of(before: &[u64], node: &Node) -> u64
+    requires below { HasChildrenBelow (length before.now) node.now }
+    requires small { horizon_above before.now node.now < 2 ^ 32 }
+    ensures { result ≡ horizon_above before.now node.now }
+{
     match node {
-        Node::Const(_) => 0,
-        Node::Atom(_) => 0,
-        Node::Not(of) => before[*of as usize].ahead,
-        Node::And(p, q) => greater(before[*p as usize].ahead, before[*q as usize].ahead),
-        Node::Or(p, q) => greater(before[*p as usize].ahead, before[*q as usize].ahead),
-        Node::Implies(p, q) => greater(before[*p as usize].ahead, before[*q as usize].ahead),
-        Node::Eventually { of, high, .. } => high + before[*of as usize].ahead,
-        Node::Always { of, high, .. } => high + before[*of as usize].ahead,
-        Node::Once { of, low, .. } => behind(before[*of as usize].ahead, *low),
-        Node::Historically { of, low, .. } => behind(before[*of as usize].ahead, *low),
-        Node::Until { .. } => 0,
-        Node::Since { .. } => 0,
+        Node::Const(_) | Node::Atom(_) => 0,
+        Node::Not(p) => before[*p as usize],
+        Node::And(p, q) | Node::Or(p, q) | Node::Implies(p, q) => before[*p as usize].max(
+            before[*q as usize],
+        ),
+        Node::Until {
+            left,
+            right,
+            high,
+            ..
+        } => *high as u64 + before[*left as usize].max(before[*right as usize]),
+        Node::Eventually { of, high, .. } | Node::Always { of, high, .. } => *high as u64
+            + before[*of as usize],
+        Node::Since {
+            left,
+            right,
+            low,
+            ..
+        } => before[*left as usize].max(before[*right as usize].saturating_sub(*low as u64)),
+        Node::Once { of, low, .. } | Node::Historically { of, low, .. } =>
+            before[*of as usize].saturating_sub(*low as u64),
     }
 }
 
-/// The node, before any row.
-pub(crate) fn station_of(alloc: Global, before: &[Station], node: &Node) -> Station {
-    Station {
-        ahead: ahead_of(before, node),
-        work: work_of(alloc, node),
+/// The number, if it is not below the start.
+pub(crate) fn from_start(number: i64, start: u32) -> Option<u32>
+    requires { number ≤ℤ pos 4294967295 }
+    ensures { MatchOption result (number <ℤ pos start) (λ f. (number ≡ pos f) × (start ≤ f)) }
+{
+    if number < i64::from(start) {
+        return None;
+    }
+    Some(number as u32)
+}
+
+/// Whether anything was given out up to the number noted last.
+fn was_shown(number: Option<i64>, start: u32) -> bool
+    ensures { MatchOption number (result ≡ false) (λ g. (result ≡ false → g <ℤ pos start) × (result ≡ true → pos start ≤ℤ g)) }
+{
+    match number {
+        Some(g) => i64::from(start) <= g,
+        None => false,
     }
 }
 
-/// What comes: a row, after the one before, or the end.
-#[derive(Clone, Copy)]
-pub(crate) struct Coming<'a> {
-    pub(crate) bound: &'a Bound,
-    pub(crate) before: &'a Option<Row>,
-    /// None at the end.
-    pub(crate) row: Option<&'a Row>,
-    /// The time of the row, or of the last one.
-    pub(crate) now: u32,
-}
-
-/// An operator goes on to a number, if that is not below the start, and above the number at which it stood.
+/// An operator goes on to a number: where that is not below the start, and above the number at which it stood, it gives out its margins
+/// in between.
 fn go_on(
     alloc: Global,
     edges: &mut Edges,
     operator: &mut Operator,
     node: u32,
-    start: u32,
-    number: u32,
-) -> Result<(), OpFault<Margin>> {
-    let shown = shown_of(edges.number(node), start);
-    if shown == Some(number) {
+    number: i64,
+) -> Result<(), OpFault<Margin>>
+    requires { (m : Move) × CanGoTo m node operator.old edges.old number }
+    ensures moved { (m : Move) → CanGoTo m node operator.old edges.old number
+        → OnOk result (HasMoved m (W.Operator operator.new) edges.old edges.new) }
+    ensures fault { (m : Move) → CanGoTo m node operator.old edges.old number → IfErr result (IsFaultOf m) }
+{
+    let before = edges.number(node);
+    edges.reach(node, number);
+    let Some(start) = edges.start() else {
+        unreachable!()
+    };
+    let Some(to) = from_start(number, start) else {
+        return Ok(());
+    };
+    if before == Some(number) {
         return Ok(());
     }
-    let s = operator.sweep(alloc, edges, number)?;
-    put_signal(edges, node, &s, shown.is_none())?;
+    let swept = operator.sweep(alloc, edges, to)?;
+    put_signal(edges, node, &swept, !was_shown(before, start))?;
     Ok(())
 }
 
-/// The number, if it is not below the start.
-fn shown_of(number: Option<i64>, start: u32) -> Option<u32> {
-    let number = number?;
-    if number < i64::from(start) {
-        return None;
+impl Station {
+    /// The node goes on by a row, after the one before.
+    ///
+    /// # Errors
+    ///
+    /// `Wide` where functions in play need a denominator of 2^60 or more; `Memory` where there is no memory.
+    pub(crate) fn take_row(
+        &mut self,
+        alloc: Global,
+        edges: &mut Edges,
+        node: u32,
+        bound: &Bound,
+        before: &Option<Row>,
+        row: &Row,
+    ) -> Result<(), OpFault<Margin>>
+        requires { (m : Move) × CanMoveByRow m node self.old edges.old bound.now before.now row.now }
+        ensures ahead { self.new.ahead ≡ self.old.ahead }
+        ensures moved { (m : Move) → CanMoveByRow m node self.old edges.old bound.now before.now row.now
+            → OnOk result (HasMoved m self.new.work edges.old edges.new) }
+        ensures fault { (m : Move) → CanMoveByRow m node self.old edges.old bound.now before.now row.now → IfErr result (IsFaultOf m) }
+    {
+        let now = i64::from(row.time());
+        match &mut self.work {
+            Work::Const(holds) => {
+                put_const(edges, node, *holds, before, row)?;
+                edges.reach(node, now);
+                Ok(())
+            }
+            Work::Atom => {
+                put_atom(edges, node, bound, before, row)?;
+                edges.reach(node, now);
+                Ok(())
+            }
+            Work::Operator(operator) => {
+                go_on(alloc, edges, operator, node, now - i64::from(self.ahead))
+            }
+        }
     }
-    Some(number as u32)
+
+    /// The node goes on by the end of the rows, of which the last stands at `now`.
+    ///
+    /// # Errors
+    ///
+    /// `Wide` where functions in play need a denominator of 2^60 or more; `Memory` where there is no memory.
+    pub(crate) fn take_end(
+        &mut self,
+        alloc: Global,
+        edges: &mut Edges,
+        node: u32,
+        now: u32,
+    ) -> Result<(), OpFault<Margin>>
+        requires { (m : Move) × CanMoveByEnd m node self.old edges.old now }
+        ensures ahead { self.new.ahead ≡ self.old.ahead }
+        ensures moved { (m : Move) → CanMoveByEnd m node self.old edges.old now → OnOk result (HasMoved m self.new.work edges.old edges.new) }
+        ensures fault { (m : Move) → CanMoveByEnd m node self.old edges.old now → IfErr result (IsFaultOf m) }
+    {
+        match &mut self.work {
+            Work::Const(_) => Ok(()),
+            Work::Atom => Ok(()),
+            Work::Operator(operator) => go_on(alloc, edges, operator, node, i64::from(now)),
+        }
+    }
 }
