@@ -2,7 +2,7 @@
 use Rattle.std.proofs.Common.{◌≡◌, ◌≢◌, ◌⊎◌, inl, inr, ℕ, suc, ◌+◌, ◌-◌, ◌<◌, ◌≤◌, Bool, true, false, List, [], ◌∷◌, ◌++◌, length, drop, refl, sym, ap, subst, ◌∙◌, arith, append_assoc, append-nil, Option, Some, None, ℤ, pos, ◌+ℤ◌, ◌-ℤ◌, ◌<ℤ◌, ◌≤ℤ◌}
 use Rattle.std.specs.Prelude.{MatchBool, IfSome, int_lt, cond, map, slice_get, IsTrue, take}
 use Rattle.std.proofs.lemmas.Int.{ints}
-use Rattle.std.proofs.lemmas.Bool.{cases_lt}
+use Rattle.std.proofs.lemmas.Bool.{false≢true}
 use Rattle.rational.specs.Time.{Rational, whole, ◌≈◌, ◌≤ʳ◌, ◌<ʳ◌}
 use Rattle.rational.specs.Windows.{Function}
 use Rattle.rational.proofs.Order.{lt_of_lt_of_le, lt_of_le_of_lt, le_trans, le_of_same, ge_of_same}
@@ -81,10 +81,10 @@ module _ (F : Function) (most start : ℕ) where
 pub next_cases : (old new : Past) → IsNext old new → (C : Past → Past → Type 0)
     → ((rows : List Row) (r : Row) → C (record { rows = rows; ended = false }) (record { rows = rows ++ r ∷ []; ended = false }))
     → ((rows : List Row) → C (record { rows = rows; ended = false }) (record { rows = rows; ended = true })) → C old new
-next_cases old new (open, next) C row end = by_case next
+next_cases old new (opened, next) C row end = by_case next
   where
     was : old ≡ record { rows = old.rows; ended = false }
-    was = ap (λ b. record { rows = old.rows; ended = b }) open
+    was = ap (λ b. record { rows = old.rows; ended = b }) opened
 
     by_case : ((r : Row) × (new ≡ with_row old r)) ⊎ (new ≡ with_end old) → C old new
     by_case (inl (r, is)) = subst (λ p. C old p) (sym is) (subst (λ p. C p (with_row old r)) (sym was) (row old.rows r))
@@ -97,11 +97,15 @@ continues_less tr header rows r ended c = record {
   same_header = c.same_header;
   more = r ∷ c.more;
   begins = c.begins ∙ append_assoc rows (r ∷ []) c.more;
-  whole_input = λ h. absurd h;
+  whole_input = λ h. absurd (false≢true h);
 }
 
 pub continues_open : (tr : Trace) (header : Header) (rows : List Row) (ended : Bool) → Continues tr header rows ended → Continues tr header rows false
-continues_open tr header rows ended c = record { same_header = c.same_header; more = c.more; begins = c.begins; whole_input = λ h. absurd h }
+continues_open tr header rows ended c = record { same_header = c.same_header; more = c.more; begins = c.begins; whole_input = λ h. absurd (false≢true h) }
+
+-- a trace goes on from its own rows
+pub itself : (tr : Trace) (ended : Bool) → Continues tr tr.header tr.rows ended
+itself tr ended = record { same_header = refl; more = []; begins = sym (append-nil tr.rows); whole_input = λ h. refl }
 
 -- so it goes on from the past before the next
 abbrev pub GoesOnFrom : Past → Past → Type 0

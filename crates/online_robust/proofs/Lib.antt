@@ -5,3 +5,11 @@ mod Emitting
 mod Growing
 mod Rests
 mod SignalLines
+mod Readers
+mod Passing
+mod Moved
+mod RowFacts
+mod Going
+mod Idling
+mod Leaves
+mod LeafMoved

@@ -1,5 +1,5 @@
 -- What is left of lines when those that end by a time are dropped from the front.
-use Rattle.std.proofs.Common.{◌≡◌, ℕ, zero, suc, ◌+◌, ◌-◌, ◌<◌, ◌≤◌, Bool, true, false, List, [], ◌∷◌, ◌++◌, drop, refl, sym, ap, subst, ◌∙◌, arith, append_assoc, append-nil, Option, Some, None, ℤ, pos, ◌+ℤ◌, ◌<ℤ◌, ◌≤ℤ◌}
+use Rattle.std.proofs.Common.{◌≡◌, inl, inr, ℕ, zero, suc, ◌+◌, ◌-◌, ◌<◌, ◌≤◌, Bool, true, false, List, [], ◌∷◌, ◌++◌, drop, refl, sym, ap, subst, ◌∙◌, arith, append_assoc, append-nil, Option, Some, None, ℤ, pos, ◌+ℤ◌, ◌<ℤ◌, ◌≤ℤ◌}
 use Rattle.std.specs.Prelude.{MatchBool, IfSome, int_lt, cond, slice_get}
 use Rattle.std.proofs.lemmas.Int.{ints}
 use Rattle.std.proofs.lemmas.Bool.{cases_lt}
@@ -11,7 +11,8 @@ use Rattle.frac128.specs.Value.{value}
 use Rattle.online_nodes.proofs.RunLaw.{int_order}
 use Rattle.online_robust.specs.Lines.{end_of}
 use Rattle.online_robust.specs.Held.{Edge, held_of}
-use Rattle.online_robust.specs.Told.{AreTold, AreFit, AreJoined}
+use Rattle.value_laws.specs.declared.margin.Margin.{Margin}
+use Rattle.online_robust.specs.Told.{AreTold, AreFit, AreJoined, IsFitLine, IsMovedBy}
 use Rattle.online_robust.specs.Turns.{AreInputs, AreLeft, IsInput, back_of, IsCut}
 use Rattle.online_robust.specs.Pasts.{IsRest}
 use Rattle.online_robust.specs.declared.line.MarginLine.{MarginLine}
@@ -19,6 +20,11 @@ use Rattle.online_robust.specs.declared.line.MarginLine.TheVariants.{Point, Gap}
 use Rattle.online_robust.proofs.DroppingLemmas.{drop-drop}
 
 -- ---- dropping
+
+drop_none : (n : ℕ) (lines : List MarginLine) → lines ≡ [] → drop n lines ≡ []
+drop_none zero lines e = e
+drop_none (suc n) [] e = refl
+drop_none (suc n) (x ∷ lines) e = absurd (let f = e in cc)
 
 pub told_drop : (F : Function) (n : ℕ) (lines : List MarginLine) → AreTold F lines → AreTold F (drop n lines)
 told_drop F zero lines told = told
@@ -114,11 +120,7 @@ input_rest F reach start before k f lines rest input is = by_test (int_lt f (pos
   where
     rest_none : (back : Option ℤ) → lines ≡ [] → IsRest back lines rest → rest ≡ []
     rest_none None e is = is ∙ e
-    rest_none (Some limit) e (n, is, ended, later) = is ∙ ap (drop n) e ∙ none n
-      where
-        none : (n : ℕ) → drop n ([] {A = MarginLine}) ≡ []
-        none zero = refl
-        none (suc n) = refl
+    rest_none (Some limit) e (n, is, ended, later) = is ∙ drop_none n lines e
 
     all_rest : (back : Option ℤ) → back_of start before k ≡ back → AreInputs F reach start None f lines → IsRest back lines rest → AreInputs F reach start back f rest
     all_rest None e a is = subst (AreInputs F reach start None f) (sym is) a
@@ -136,9 +138,9 @@ input_rest F reach start before k f lines rest input is = by_test (int_lt f (pos
 -- ---- dropping once more
 
 pub slice_get-drop-at : {X : Type 0} (n : ℕ) (xs : List X) (k : ℕ) → slice_get (drop n xs) k ≡ slice_get xs (n + k)
-slice_get-drop-at zero xs k = let e : 0 + k ≡ k = omega arith in rw e refl
-slice_get-drop-at (suc n) [] k = let e : suc n + k ≡ suc (n + k) = omega arith in rw e refl
-slice_get-drop-at (suc n) (x ∷ xs) k = let e : suc n + k ≡ suc (n + k) = omega arith in rw e (slice_get-drop-at n xs k)
+slice_get-drop-at zero xs k = ap (slice_get xs) (omega arith)
+slice_get-drop-at (suc n) [] k = refl
+slice_get-drop-at (suc n) (x ∷ xs) k = let e : suc (n + k) ≡ suc n + k = omega arith in slice_get-drop-at n xs k ∙ ap (slice_get (x ∷ xs)) e
 
 -- what is dropped now is not less than what was dropped before
 abbrev pub IsLaterBack : Option ℤ → Option ℤ → Type 0
@@ -174,3 +176,23 @@ rest_cut (Some a) (Some b) lines x y later (n, is, ended, rest) cut = (
           subst (λ o. IfSome o (λ v. value (end_of v) ≤ʳ whole b)) (ap (λ l. slice_get l (k - n)) is ∙ slice_get-drop-at n lines (k - n) ∙ ap (slice_get lines) e)
           (cut.ended (k - n) (omega (arith, h, high)))
     ]
+
+-- ---- a larger reach
+
+moved_more : (a b : ℕ) (p : Margin) → a ≤ b → IsMovedBy a p → IsMovedBy b p
+moved_more a b p le (low, high) = (omega (arith, ints, le, low), omega (arith, ints, le, high))
+
+fit_line_more : (a b : ℕ) (x : MarginLine) → a ≤ b → IsFitLine a x → IsFitLine b x
+fit_line_more a b (Point at v) le (t, v', m) = (t, v', moved_more a b v le m)
+fit_line_more a b (Gap from to p) le (s, t, v, w, m) = (s, t, v, w, moved_more a b p le m)
+
+pub fit_more : (a b : ℕ) (lines : List MarginLine) → a ≤ b → AreFit a lines → AreFit b lines
+fit_more a b [] le fit = tt
+fit_more a b (x ∷ lines) le fit = (fit_line_more a b x le fit.0, fit_more a b lines le fit.1)
+
+pub input_reach : (F : Function) (a b start : ℕ) (back : Option ℤ) (f : ℤ) (lines : List MarginLine) → a ≤ b → IsInput F a start back f lines → IsInput F b start back f lines
+input_reach F a b start back f lines le input = by_test (int_lt f (pos start)) input
+  where
+    by_test : (t : Bool) → MatchBool t (lines ≡ []) (AreInputs F a start back f lines) → MatchBool t (lines ≡ []) (AreInputs F b start back f lines)
+    by_test true e = e
+    by_test false i = record { told = i.told; fit = fit_more a b lines le i.fit; left = i.left }

@@ -55,7 +55,7 @@ abbrev pub IsNext : Past → Past → Type 0
 IsNext old new = (old.ended ≡ false) × (((r : Row) × (new ≡ with_row old r)) ⊎ (new ≡ with_end old))
 
 -- the node may go on: its inputs have gone on already, and all that it needs of them is on their edges
-pub record CanMove (m : Move) (work : Work) (e : Held) : Type 0 where
+pub record CanMove (m : Move) (w : Work) (e : Held) : Type 0 where
   pub nodes : AreStreamed m.nodes
   pub edges : length e.edges ≡ length m.nodes
   pub node : Node
@@ -64,7 +64,7 @@ pub record CanMove (m : Move) (work : Work) (e : Held) : Type 0 where
   pub start : e.start ≡ Some (first_time m.new.rows)
   pub trace : IsTrace (trace_of m.header m.new)
   pub small : last_time 0 m.new.rows ≤ 4294967295
-  pub work : IsWork m.nodes m.header m.old m.place node (seen_by node e) work
+  pub work : IsWork m.nodes m.header m.old m.place node (seen_by node e) w
   pub number : number_at e m.place ≡ number_of m.nodes m.old m.place
   pub inputs : (j : ℕ) (left : Bool) → IsReader node left j
       → IsHeld m.nodes m.header m.new j m.old m.place (reach_back node left) (held_at e j)
@@ -90,7 +90,7 @@ AreMore P most start (Some old) (Some new) more =
 
 -- what it leaves: its edge got the lines that its new number answers, each of its inputs' edges holds what it still needs, and nothing
 -- else changed
-pub record HasMoved (m : Move) (work : Work) (old new : Held) : Type 0 where
+pub record HasMoved (m : Move) (w : Work) (old new : Held) : Type 0 where
   pub more : List MarginLine
   pub number : ℤ
   pub number_is : number_of m.nodes m.new m.place ≡ Some number
@@ -99,13 +99,22 @@ pub record HasMoved (m : Move) (work : Work) (old new : Held) : Type 0 where
   pub told : (tr : Trace) → IsTrace tr → Continues tr m.header m.new.rows m.new.ended
       → AreMore (Robustness (subformula m.nodes m.place) tr) (reach (take (suc m.place) m.nodes)) (first_time m.new.rows)
       (shown_of m.nodes m.old m.place) (shown_of m.nodes m.new m.place) more
-  pub work : (n : Node) → slice_get m.nodes m.place ≡ Some n → IsWork m.nodes m.header m.new m.place n (seen_by n new) work
+  pub work : (n : Node) → slice_get m.nodes m.place ≡ Some n → IsWork m.nodes m.header m.new m.place n (seen_by n new) w
   pub inputs : (n : Node) (j : ℕ) (left : Bool) → slice_get m.nodes m.place ≡ Some n → IsReader n left j
       → IsHeld m.nodes m.header m.new j m.new m.place (reach_back n left) (held_at new j) × (number_at new j ≡ number_at old j)
   pub others : (j : ℕ) → j ≢ m.place → ((n : Node) (left : Bool) → slice_get m.nodes m.place ≡ Some n → IsReader n left j → ⊥)
       → edge_at new j ≡ edge_at old j
   pub edges : length new.edges ≡ length old.edges
   pub start : new.start ≡ old.start
+
+-- an operator that may go on to a number above the one at which it stood; with the point at the start, where it gave out nothing yet
+pub record CanGiveOut (m : Move) (node : ℕ) (op : Operator) (e : Held) (to : ℕ) (with_first : Bool) : Type 0 where
+  pub place : m.place ≡ node
+  pub can : CanMove m (W.Operator op) e
+  pub number : number_of m.nodes m.new m.place ≡ Some (pos to)
+  pub from_start : first_time m.new.rows ≤ to
+  pub moved : number_of m.nodes m.old m.place ≢ Some (pos to)
+  pub first : MatchBool with_first (shown_of m.nodes m.old m.place ≡ None) ((g : ℤ) × (shown_of m.nodes m.old m.place ≡ Some g))
 
 -- a call with these arguments is one of a node that may go on, to a number, by a row or by the end
 abbrev pub CanGoTo : Move → ℕ → Operator → Held → ℤ → Type 0

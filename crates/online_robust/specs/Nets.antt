@@ -35,14 +35,14 @@ pub record Parts : Type 0 where
 
 -- what the edges and the nodes show, where each node stands for a past of its own: each edge holds what the node's reader still needs, and the
 -- root's what was not given
-pub record Shows (nodes : List Node) (header : Header) (at : ℕ → Past) (given : List MarginLine) (e : Held) (stations : List Station) : Type 0 where
+pub record Shows (nodes : List Node) (header : Header) (at : ℕ → Past) (given : List MarginLine) (e : Held) (sts : List Station) : Type 0 where
   pub edges : length e.edges ≡ length nodes
-  pub stations : length stations ≡ length nodes
+  pub stations : length sts ≡ length nodes
   pub held : (j r : ℕ) (n : Node) (left : Bool) → slice_get nodes r ≡ Some n → IsReader n left j
       → IsHeld nodes header (at j) j (at r) r (reach_back n left) (held_at e j)
   pub root : Gave nodes header (at (length nodes - 1)) (length nodes - 1) (given ++ held_at e (length nodes - 1))
   pub numbers : (j : ℕ) → j < length nodes → number_at e j ≡ number_of nodes (at j) j
-  pub works : (j : ℕ) (n : Node) (st : Station) → slice_get nodes j ≡ Some n → slice_get stations j ≡ Some st
+  pub works : (j : ℕ) (n : Node) (st : Station) → slice_get nodes j ≡ Some n → slice_get sts j ≡ Some st
       → (st.ahead ≡ horizon (subformula nodes j)) × IsWork nodes header (at j) j n (seen_by n e) st.work
 
 -- all nodes go on from one past to the next

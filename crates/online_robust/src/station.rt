@@ -6,7 +6,7 @@ ghost use Rattle.stl_syntax.specs.Trace.{Header};
 ghost use Rattle.stl_syntax.specs.declared.node.Node.{Node as ANode};
 ghost use Rattle.online_nodes.specs.StreamedWide.{IsUnstreamed};
 ghost use Rattle.online_robust.specs.Turns.{IsLeaf};
-ghost use Rattle.online_robust.specs.Moving.{Move, CanGoTo, CanMoveByRow, CanMoveByEnd, HasMoved, IsFaultOf};
+ghost use Rattle.online_robust.specs.Moving.{Move, CanGiveOut, CanGoTo, CanMoveByRow, CanMoveByEnd, HasMoved, IsFaultOf};
 ghost use Rattle.online_robust.specs.Firsts.{IsFirstWork};
 ghost use Rattle.online_robust.specs.declared.station.Work.TheVariants as W;
 
@@ -111,6 +111,26 @@ fn was_shown(number: Option<i64>, start: u32) -> bool
     }
 }
 
+/// An operator gives out its margins from the number at which it stood, or from the start, on up to another.
+fn give_out(
+    alloc: Global,
+    edges: &mut Edges,
+    operator: &mut Operator,
+    node: u32,
+    to: u32,
+    with_first: bool,
+) -> Result<(), OpFault<Margin>>
+    requires { (m : Move) × CanGiveOut m node operator.old edges.old to with_first }
+    ensures moved { (m : Move) → CanGiveOut m node operator.old edges.old to with_first
+        → OnOk result (HasMoved m (W.Operator operator.new) edges.old edges.new) }
+    ensures fault { (m : Move) → CanGiveOut m node operator.old edges.old to with_first → IfErr result (IsFaultOf m) }
+{
+    let swept = operator.sweep(alloc, edges, to)?;
+    put_signal(edges, node, &swept, with_first)?;
+    edges.reach(node, i64::from(to));
+    Ok(())
+}
+
 /// An operator goes on to a number: where that is not below the start, and above the number at which it stood, it gives out its margins
 /// in between.
 fn go_on(
@@ -126,19 +146,17 @@ fn go_on(
     ensures fault { (m : Move) → CanGoTo m node operator.old edges.old number → IfErr result (IsFaultOf m) }
 {
     let before = edges.number(node);
-    edges.reach(node, number);
     let Some(start) = edges.start() else {
         unreachable!()
     };
     let Some(to) = from_start(number, start) else {
+        edges.reach(node, number);
         return Ok(());
     };
     if before == Some(number) {
         return Ok(());
     }
-    let swept = operator.sweep(alloc, edges, to)?;
-    put_signal(edges, node, &swept, !was_shown(before, start))?;
-    Ok(())
+    give_out(alloc, edges, operator, node, to, !was_shown(before, start))
 }
 
 impl Station {
