@@ -107,8 +107,8 @@ reach_take [] (suc j) = omega arith
 reach_take (n ∷ nodes) zero = omega arith
 reach_take (n ∷ nodes) (suc j) =
     let h = reach_take nodes j in
-    let first : reach (take (suc j) (n ∷ nodes)) ≡ own_reach n + reach (take j nodes) = refl in
-    let all : reach (n ∷ nodes) ≡ own_reach n + reach nodes = refl in
+    let first : reach (take (suc j) (n ∷ nodes)) ≡ reach (n ∷ []) + reach (take j nodes) = sum_by-append own_reach (n ∷ []) (take j nodes) in
+    let all : reach (n ∷ nodes) ≡ reach (n ∷ []) + reach nodes = sum_by-append own_reach (n ∷ []) nodes in
     omega (arith, h, first, all)
 
 reach_rises : (nodes : List Node) (j i : ℕ) → j ≤ i → reach (take j nodes) ≤ reach (take i nodes)
@@ -119,8 +119,8 @@ reach_rises (n ∷ nodes) zero i h = omega arith
 reach_rises (n ∷ nodes) (suc j) zero h = absurd (omega (arith, h))
 reach_rises (n ∷ nodes) (suc j) (suc i) h =
     let k = reach_rises nodes j i (omega (arith, h)) in
-    let first : reach (take (suc j) (n ∷ nodes)) ≡ own_reach n + reach (take j nodes) = refl in
-    let all : reach (take (suc i) (n ∷ nodes)) ≡ own_reach n + reach (take i nodes) = refl in
+    let first : reach (take (suc j) (n ∷ nodes)) ≡ reach (n ∷ []) + reach (take j nodes) = sum_by-append own_reach (n ∷ []) (take j nodes) in
+    let all : reach (take (suc i) (n ∷ nodes)) ≡ reach (n ∷ []) + reach (take i nodes) = sum_by-append own_reach (n ∷ []) (take i nodes) in
     omega (arith, k, first, all)
 
 module _ (m : Move) (node : ℕ) (op : Operator) (e : Held) (to : ℕ) (with_first : Bool) (g : CanGiveOut m node op e to with_first) where

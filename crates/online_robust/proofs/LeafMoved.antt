@@ -247,7 +247,7 @@ module _ (nodes : List Node) (header : Header) (b : Binding) (scale : Scale) (bo
 
       by_kind : (f : Row) (t : Bool) → is_ramp piece ≡ t → (IsTrue (is_ramp piece) → margin_base piece ≡ pos f.time)
           → (margin_base piece ≡ pos f.time) ⊎ (margin_base piece ≡ pos 0)
-      by_kind f true e base = inl (base (rw e tt))
+      by_kind f true e base = inl (base e)
       by_kind f false e base = inr (others_base piece e)
 
       bases : (rows : List Row) → IsAtomPiece b i (last_row_of rows) r piece

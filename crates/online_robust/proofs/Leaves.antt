@@ -154,7 +154,7 @@ module _ (p : Subformula) (header : Header) (r : Row) (piece v : Margin) (most :
         (sym (int_below (pos (last_time q.time rows)) (pos r.time) lt)) (
           plain_knot margin_shape k,
           pieces_of margin_shape k (n ∷ []),
-          (begins, tells_after p so_far (whole (pos r.time)) k n [] (first, last, tt) (told_lines from at a b so_far is (itself so_far false)) b),
+          (begins, tells_after p so_far (whole (pos r.time)) k n [] (first, (last, tt)) (told_lines from at a b so_far is (itself so_far false)) b),
           after_parts k (n ∷ []),
         )))
 
@@ -178,8 +178,7 @@ module _ (p : Subformula) (header : Header) (r : Row) (piece v : Margin) (most :
               bounded_at piece (value at) (row_time r) b leaf.limits.1,
               moved_base most f.time piece low leaf.base_since,
             ),
-            (tick_of (value at) r.time b small, leaf.within (value at), moved_base most 0 v (omega arith) (inl leaf.base)),
-            tt,
+            ((tick_of (value at) r.time b small, leaf.within (value at), moved_base most 0 v (omega arith) (inl leaf.base)), tt),
           ),
           (begins, same_refl (value at), b),
         )))

@@ -13,3 +13,11 @@ mod Going
 mod Idling
 mod Leaves
 mod LeafMoved
+mod Loops
+mod Firsting
+mod Standings
+mod Taking
+mod Stationing
+mod EdgeTouches
+mod Puts
+pub mod StreamTexts

@@ -38,7 +38,7 @@ slice_get-set_other (y ∷ xs) zero (suc j) x h = refl
 slice_get-set_other (y ∷ xs) (suc i) zero x h = refl
 slice_get-set_other (y ∷ xs) (suc i) (suc j) x h = slice_get-set_other xs i j x (λ e. h (ap suc e))
 
-length-slice_set : {X : Type 0} (xs : List X) (i : ℕ) (x : X) → length (slice_set xs i x) ≡ length xs
+pub length-slice_set : {X : Type 0} (xs : List X) (i : ℕ) (x : X) → length (slice_set xs i x) ≡ length xs
 length-slice_set [] i x = refl
 length-slice_set (y ∷ xs) zero x = refl
 length-slice_set (y ∷ xs) (suc i) x = ap suc (length-slice_set xs i x)

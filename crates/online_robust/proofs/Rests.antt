@@ -21,7 +21,7 @@ use Rattle.online_robust.proofs.DroppingLemmas.{drop-drop}
 
 -- ---- dropping
 
-drop_none : (n : ℕ) (lines : List MarginLine) → lines ≡ [] → drop n lines ≡ []
+pub drop_none : (n : ℕ) (lines : List MarginLine) → lines ≡ [] → drop n lines ≡ []
 drop_none zero lines e = e
 drop_none (suc n) [] e = refl
 drop_none (suc n) (x ∷ lines) e = absurd (let f = e in cc)

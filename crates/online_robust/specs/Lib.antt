@@ -9,3 +9,4 @@ pub mod Moving
 pub mod Putting
 pub mod Firsts
 pub mod Nets
+pub mod Lining

@@ -46,6 +46,7 @@ pub record Move : Type 0 where
 
 -- what the nodes of a network keep
 pub record AreStreamed (nodes : List Node) : Type 0 where
+  pub some : 0 < length nodes
   pub formed : AreWellFormed nodes
   pub one_root : HasOneRoot nodes
   pub streamed : (i : ℕ) (n : Node) → slice_get nodes i ≡ Some n → ¬ IsUnstreamed n

@@ -1,8 +1,10 @@
 -- What a network of margins holds, when it stands for a past, and what its calls answer.
 use Rattle.std.specs.Prelude.{◌≡◌, ◌≢◌, ℕ, ◌-◌, ◌<◌, ◌≤◌, nat_lt, if◌then◌else◌, Bool, true, false, pos, List, [], ◌∷◌, ◌++◌, length, map, Option, Some, None, option_map, slice_get}
-use Rattle.stl_syntax.specs.Trace.{Header, Row, IsTrace, first_time, last_time}
+use Rattle.rational.specs.Time.{Rational}
+use Rattle.frac128.specs.Value.{value}
+use Rattle.stl_syntax.specs.Trace.{Continues, Header, Row, Trace, IsTrace, first_time, last_time}
 use Rattle.stl_syntax.specs.Formula.{subformula, horizon}
-use Rattle.stl_syntax.specs.SupInf.{margin_setting}
+use Rattle.stl_syntax.specs.SupInf.{Robustness}
 use Rattle.stl_syntax.specs.WellFormed.{AreWellFormed, HasOneRoot}
 use Rattle.stl_syntax.specs.declared.node.Node.{Node}
 use Rattle.stl_syntax.specs.declared.scale.Scale.{Scale}
@@ -15,10 +17,12 @@ use Rattle.online_nodes.specs.Network.{reach_back}
 use Rattle.online_nodes.specs.Needed.{IsReader}
 use Rattle.online_nodes.specs.StreamedWide.{IsUnstreamed}
 use Rattle.online_robust.specs.Held.{Held, held_at, number_at}
+use Rattle.online_robust.specs.Told.{IsTick, IsToldLine}
 use Rattle.online_robust.specs.Turns.{seen_by}
 use Rattle.online_robust.specs.Pasts.{Past, with_row, with_end, trace_of, part_of, number_of, shown_of, Gave, IsHeld, IsWork}
 use Rattle.online_robust.specs.Moving.{Move, AreStreamed, IsNext, IsRowNext, IsEndNext, IsFaultOf, last_row_of}
 use Rattle.online_robust.specs.declared.line.MarginLine.{MarginLine}
+use Rattle.online_robust.specs.declared.line.MarginLine.TheVariants.{Point, Gap}
 use Rattle.online_robust.specs.declared.station.Station.{Station}
 use Rattle.online_robust.specs.declared.net.RobustFault.{RobustFault}
 use Rattle.online_robust.specs.declared.net.RobustFault.TheVariants.{Wide, Stopped, Closed, Memory}
@@ -74,6 +78,11 @@ CanGoByRow p e stations b before r = CanGo p e stations × IsRowNext (move_of p 
 
 abbrev pub CanGoByEnd : Passing → Held → List Station → ℕ → Type 0
 CanGoByEnd p e stations now = CanGo p e stations × IsEndNext (move_of p 0) now
+
+-- the nodes before place i have gone on
+pub record Going (p : Passing) (i : ℕ) (e : Held) (stations : List Station) : Type 0 where
+  pub start : e.start ≡ Some (first_time p.new.rows)
+  pub shows : Shows p.nodes p.header (past_at p i) p.given e stations
 
 -- the network has gone on
 pub record HasGone (p : Passing) (e : Held) (stations : List Station) : Type 0 where
@@ -155,12 +164,30 @@ pub record IsClosed (old new : Parts) : Type 0 where
   pub still_running : new.stopped ≡ false
   pub last : new.last ≡ old.last
 
--- where the network stands for a past, the next line is given, or all were given that the root gives out
+-- the times of the line have 32 bits
+abbrev pub IsTimely : MarginLine → Type 0
+IsTimely (Point at v) = IsTick (value at)
+IsTimely (Gap from to p) = IsTick (value from) × IsTick (value to)
+
+-- a line of the root that is given: its times have 32 bits, and it is the margin of the formula in each trace that goes on from the rows
+pub record IsGiven (nodes : List Node) (header : Header) (past : Past) (given : List MarginLine) (new : Parts) (line : MarginLine) : Type 0 where
+  pub stands : StandsFor nodes header new past (given ++ line ∷ [])
+  pub timely : IsTimely line
+  pub told : (tr : Trace) → IsTrace tr → Continues tr header past.rows past.ended → IsToldLine (Robustness (subformula nodes (length nodes - 1)) tr) line
+
+-- all lines were given that the root gives out
+pub record AreAllGiven (nodes : List Node) (header : Header) (past : Past) (given : List MarginLine) (new : Parts) : Type 0 where
+  pub stands : StandsFor nodes header new past given
+  pub parts : AreEmittedParts (subformula nodes (length nodes - 1)) header past.rows past.ended (map part_of given)
+
+-- where the network stands for a past, the next line is given, or all were
 abbrev pub IsTaken : List Node → Header → Past → List MarginLine → Parts → Option MarginLine → Type 0
-IsTaken nodes header past given new None =
-    StandsFor nodes header new past given
-    × AreEmittedParts (subformula nodes (length nodes - 1)) header past.rows past.ended (map part_of given)
-IsTaken nodes header past given new (Some line) = StandsFor nodes header new past (given ++ line ∷ [])
+IsTaken nodes header past given new None = AreAllGiven nodes header past given new
+IsTaken nodes header past given new (Some line) = IsGiven nodes header past given new line
+
+-- how many lines of the root were not given
+abbrev pub left_of : Parts → ℕ
+left_of net = length (held_at net.edges (length net.stations - 1))
 
 -- the fault of a node, as the network's
 abbrev pub IsFaultAt : ℕ → OpFault Margin → RobustFault → Type 0
@@ -168,9 +195,9 @@ IsFaultAt node F.Memory fault = fault ≡ Memory
 IsFaultAt node (F.Wide pair) fault = fault ≡ Wide (record { node = node; pair = pair })
 
 -- the edges once the first row's time is noted
-abbrev pub begun : Held → Option Row → Row → Held
-begun e None r = record e { start = Some r.time }
-begun e (Some first) r = e
+abbrev pub begun : Held → Option Row → ℕ → Held
+begun e None now = record e { start = Some now }
+begun e (Some first) now = e
 
 -- the edge of a node holds so many parts: those of what it gave out that its reader still needs, and the root's those that were not taken
 abbrev pub IsHeldBy : List Node → Header → Past → ℕ → ℕ → ℕ → Type 0

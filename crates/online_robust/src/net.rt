@@ -108,12 +108,12 @@ fn stations_of(alloc: Global, formula: &Formula) -> Result<Vec<Station>, Memory>
 }
 
 /// Notes the time of the first row.
-fn begin_at(edges: &mut Edges, before: &Option<Row>, row: &Row)
+fn begin_at(edges: &mut Edges, before: &Option<Row>, now: u32)
     requires { before.now ≡ None → edges.old.start ≡ None }
-    ensures { edges.new ≡ begun edges.old before.now row.now }
+    ensures { edges.new ≡ begun edges.old before.now now }
 {
     match before {
-        None => edges.begin(row.time()),
+        None => edges.begin(now),
         Some(_) => {}
     }
 }
@@ -162,7 +162,7 @@ fn take_end_all(
 }
 
 impl RobustNet {
-    ghost use Rattle.online_robust.specs.Nets.{no_past, IsClosed, IsFault, IsFed, IsHeldBy, IsTaken, IsWideIn, StandsFor};
+    ghost use Rattle.online_robust.specs.Nets.{no_past, IsClosed, IsFault, IsFed, IsHeldBy, IsTaken, IsWideIn, left_of, StandsFor};
 
     /// The network of a formula that is bound to a header's columns, and has no until and no since. It stands for no rows.
     ///
@@ -219,7 +219,8 @@ impl RobustNet {
             self.stopped = true;
             return Err(RobustFault::Memory);
         };
-        begin_at(&mut self.edges, &self.last, row);
+        let now = row.time();
+        begin_at(&mut self.edges, &self.last, now);
         let gone = take_row_all(
             self.alloc,
             &mut self.edges,
@@ -291,6 +292,7 @@ impl RobustNet {
         ensures stopped { self.old.stopped ≡ true → (result ≡ None) × (self.new ≡ self.old) }
         ensures taken { (nodes : List ANode) (header : Header) (past : Past) (given : List Line) → StandsFor nodes header self.old past given
             → IsTaken nodes header past given self.new result }
+        ensures fewer { IfSome result (λ _. left_of self.new < left_of self.old) }
         ensures nodes { length self.new.stations ≡ length self.old.stations }
         ensures bound { self.new.bound ≡ self.old.bound }
         ensures last { self.new.last ≡ self.old.last }

@@ -79,6 +79,7 @@ pub(crate) fn put_signal(
         let _ = s.len();
         let first = s.knot(0);
         put_point(edges, node, first.time, first.point)?;
+        return put_later(edges, node, s);
     }
     put_later(edges, node, s)
 }

@@ -1,5 +1,5 @@
 //! A node of the network: by how much it lags behind the rows, and what it does.
-ghost use Rattle.std.specs.Prelude.{◌≡◌, ◌<◌, ◌≤◌, ◌≤ℤ◌, ◌<ℤ◌, ◌^◌, ℕ, ℤ, pos, negsuc, length, IfErr, OnOk, MatchOption, Some, None};
+ghost use Rattle.std.specs.Prelude.{◌≡◌, ◌<◌, ◌≤◌, ◌≤ℤ◌, ◌<ℤ◌, ◌^◌, ℕ, ℤ, pos, negsuc, length, IfErr, OnOk, IsTrue, ◌↔◌, MatchOption, Some, None, false, true};
 ghost use Rattle.stl_syntax.specs.Formula.{HasChildrenBelow, horizon};
 ghost use Rattle.stl_syntax.specs.Horizons.{horizon_above};
 ghost use Rattle.stl_syntax.specs.Trace.{Header};
@@ -101,6 +101,16 @@ pub(crate) fn from_start(number: i64, start: u32) -> Option<u32>
     Some(number as u32)
 }
 
+/// Whether it is this number.
+fn is_at(before: Option<i64>, number: i64) -> bool
+    ensures { IsTrue result ↔ (before ≡ Some number) }
+{
+    match before {
+        Some(g) => g == number,
+        None => false,
+    }
+}
+
 /// Whether anything was given out up to the number noted last.
 fn was_shown(number: Option<i64>, start: u32) -> bool
     ensures { MatchOption number (result ≡ false) (λ g. (result ≡ false → g <ℤ pos start) × (result ≡ true → pos start ≤ℤ g)) }
@@ -153,7 +163,7 @@ fn go_on(
         edges.reach(node, number);
         return Ok(());
     };
-    if before == Some(number) {
+    if is_at(before, number) {
         return Ok(());
     }
     give_out(alloc, edges, operator, node, to, !was_shown(before, start))
