@@ -33,9 +33,9 @@ module _ (p : Subformula) (header : Header) where
       let same : all ≡ before = is ∙ append-nil before in
       let here : AreNewParts p (record { header = header; rows = before ++ r ∷ [] }) old
       (shown_number (first_time (before ++ r ∷ [])) (front_at false (pos r.time) p)) more =
-          subst (λ o. AreNewParts p (record { header = header; rows = before ++ r ∷ [] }) o (shown_number (first_time (before ++ r ∷ [])) (front_at false (pos r.time) p)) more) (sym at)
-          (subst (λ n. AreNewParts p (record { header = header; rows = before ++ r ∷ [] }) (shown_by false p before) n more) (shown_appended p before r)
-          (subst (λ l. AreNewParts p (record { header = header; rows = l ++ r ∷ [] }) (shown_by false p l) (shown_by false p (l ++ r ∷ [])) more) same new)) in
+      subst (λ o. AreNewParts p (record { header = header; rows = before ++ r ∷ [] }) o (shown_number (first_time (before ++ r ∷ [])) (front_at false (pos r.time) p)) more) (sym at)
+      (subst (λ n. AreNewParts p (record { header = header; rows = before ++ r ∷ [] }) (shown_by false p before) n more) (shown_appended p before r)
+      (subst (λ l. AreNewParts p (record { header = header; rows = l ++ r ∷ [] }) (shown_by false p l) (shown_by false p (l ++ r ∷ [])) more) same new)) in
       (more, [], here, refl, ap (λ l. l ++ more) are ∙ sym (append-nil more))
   rows_more before (q ∷ rows) all r old parts more is at (here, later, is_here, are, e) new = (
     here,

@@ -239,14 +239,12 @@ module _ (m : Move) (node : ℕ) (op : Operator) (e : Held) (to : ℕ) (with_fir
     tick_from None e tr trace c =
         let same = begin_is tr trace c in
         let le = g.from_start in
-        let low : first_time tr.rows ≤ to = omega (arith, same, le) in
-        (
+        let low : first_time tr.rows ≤ to = omega (arith, same, le) in (
           le_whole {j = pos 0} {k = pos (first_time tr.rows)} (omega (arith, ints)),
           le_trans (le_whole {j = pos (first_time tr.rows)} {k = pos to} (omega (arith, ints, low))) tick_to.1,
         )
     tick_from (Some k) e tr trace c =
-        let (from, lt) = before_is k e in
-        (
+        let (from, lt) = before_is k e in (
           le_whole {j = pos 0} {k = k} (omega (arith, ints, from)),
           le_trans (le_whole {j = k} {k = pos to} (omega (arith, ints, lt))) tick_to.1,
         )
@@ -273,9 +271,10 @@ module _ (m : Move) (node : ℕ) (op : Operator) (e : Held) (to : ℕ) (with_fir
     closed_parts (k ∷ ks) tells =
         let worth : AreWorth (F so_far) (whole (pos (first_time rows))) (whole (pos to)) (k ∷ ks) = λ t v w. (tells.worth t v).0 w in (
           knots_of margin_shape (k ∷ ks),
-          tells_closed p so_far (whole (pos (first_time rows))) (whole (pos to)) k ks tells.signal.each
-              ((at_first (F so_far) (whole (pos (first_time rows))) (whole (pos to)) k ks worth).1,
-              told_after (F so_far) (whole (pos (first_time rows))) (whole (pos to)) k ks tells.signal.each worth) tells.begins tells.ends,
+          tells_closed p so_far (whole (pos (first_time rows))) (whole (pos to)) k ks tells.signal.each (
+            (at_first (F so_far) (whole (pos (first_time rows))) (whole (pos to)) k ks worth).1,
+            told_after (F so_far) (whole (pos (first_time rows))) (whole (pos to)) k ks tells.signal.each worth,
+          ) tells.begins tells.ends,
           all_parts k ks,
         )
 
@@ -284,8 +283,10 @@ module _ (m : Move) (node : ℕ) (op : Operator) (e : Held) (to : ℕ) (with_fir
     closed_told G [] tells limited moved first = let some = tells.signal.some in absurd (omega (arith, some))
     closed_told G (k ∷ ks) tells limited moved first =
         let worth : AreWorth G (whole (pos (first_time rows))) (whole (pos to)) (k ∷ ks) = λ t v w. (tells.worth t v).0 w in record {
-          told = ((at_first G (whole (pos (first_time rows))) (whole (pos to)) k ks worth).1,
-              told_after G (whole (pos (first_time rows))) (whole (pos to)) k ks tells.signal.each worth);
+          told = (
+            (at_first G (whole (pos (first_time rows))) (whole (pos to)) k ks worth).1,
+            told_after G (whole (pos (first_time rows))) (whole (pos to)) k ks tells.signal.each worth,
+          );
           fit = fit_first G (whole (pos (first_time rows))) (whole (pos to)) most first tick_to k ks worth limited moved;
           left = (k.time, k.point, lines_after k ks, refl, tells.begins, joined_after (whole (pos to)) k ks tells.ends);
         }
@@ -303,8 +304,11 @@ module _ (m : Move) (node : ℕ) (op : Operator) (e : Held) (to : ℕ) (with_fir
         × (map part_of (lines_after k (n ∷ ks)) ≡ parts_after q.time pieces)) (map part_of (lines_after k (n ∷ ks)) ≡ [])) (sym (int_below o (pos to) lt)) (
           plain_knot margin_shape k,
           pieces_of margin_shape k (n ∷ ks),
-          (tells.begins, tells_after p so_far (whole (pos to)) k n ks tells.signal.each
-              (told_after (F so_far) (whole o) (whole (pos to)) k (n ∷ ks) tells.signal.each worth) tells.ends),
+          (
+            tells.begins,
+            tells_after p so_far (whole (pos to)) k n ks tells.signal.each
+                (told_after (F so_far) (whole o) (whole (pos to)) k (n ∷ ks) tells.signal.each worth) tells.ends,
+          ),
           after_parts k (n ∷ ks),
         )
 

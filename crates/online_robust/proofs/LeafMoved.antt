@@ -147,7 +147,7 @@ module _ (m : Move) (w : Work) (e : Held) (can : CanMove m w e) (b : Binding) (b
         subst (λ (q : Past). (tr : Trace) → IsTrace tr → Continues tr m.header q.rows q.ended
         → AreMore (Robustness p tr) most (first_time q.rows) (shown_of m.nodes m.old m.place) (shown_of m.nodes q m.place) put.0) (sym row.new)
         (λ tr trace c.
-            subst (λ o. AreMore (Robustness p tr) most (first_time (m.old.rows ++ r ∷ [])) o (shown_by false p (m.old.rows ++ r ∷ [])) put.0) (sym old_open) (new.1 tr trace c));
+        subst (λ o. AreMore (Robustness p tr) most (first_time (m.old.rows ++ r ∷ [])) o (shown_by false p (m.old.rows ++ r ∷ [])) put.0) (sym old_open) (new.1 tr trace c));
     work = λ n at.
         works n m.old m.new (seen_by n e) (seen_by n noted)
         (subst (λ k. IsWork m.nodes m.header m.old m.place k (seen_by k e) w) (some_is (sym can.at ∙ at)) can.work);

@@ -63,18 +63,18 @@ rest_more : (back : Option ℤ) (lines rest more : List MarginLine) → IsRest b
 rest_more None lines rest more is later = ap (λ l. l ++ more) is
 rest_more (Some limit) lines rest more (n, is, ended, first) later = elim (cases_lt (length lines) n) [
   | inl beyond ↦ (
-      length lines,
-      ap (λ l. l ++ more) (is ∙ drop_beyond n lines (omega (arith, beyond)) ∙ sym (drop_beyond (length lines) lines (omega arith)))
-      ∙ sym (drop_within (length lines) lines more (omega arith)),
-      λ k h. subst (λ o. IfSome o (λ x. value (end_of x) ≤ʳ whole limit)) (sym (get_within k lines more h)) (ended k (omega (arith, h, beyond))),
-      first_of_append (λ x. whole limit <ʳ value (end_of x)) rest more first later,
-    )
+    length lines,
+    ap (λ l. l ++ more) (is ∙ drop_beyond n lines (omega (arith, beyond)) ∙ sym (drop_beyond (length lines) lines (omega arith)))
+        ∙ sym (drop_within (length lines) lines more (omega arith)),
+    λ k h. subst (λ o. IfSome o (λ x. value (end_of x) ≤ʳ whole limit)) (sym (get_within k lines more h)) (ended k (omega (arith, h, beyond))),
+    first_of_append (λ x. whole limit <ʳ value (end_of x)) rest more first later,
+  )
   | inr within ↦ (
-      n,
-      ap (λ l. l ++ more) is ∙ sym (drop_within n lines more within),
-      λ k h. subst (λ o. IfSome o (λ x. value (end_of x) ≤ʳ whole limit)) (sym (get_within k lines more (omega (arith, h, within)))) (ended k h),
-      first_of_append (λ x. whole limit <ʳ value (end_of x)) rest more first later,
-    )
+    n,
+    ap (λ l. l ++ more) is ∙ sym (drop_within n lines more within),
+    λ k h. subst (λ o. IfSome o (λ x. value (end_of x) ≤ʳ whole limit)) (sym (get_within k lines more (omega (arith, h, within)))) (ended k h),
+    first_of_append (λ x. whole limit <ʳ value (end_of x)) rest more first later,
+  )
 ]
 
 -- lines that a number answers beyond an old one end after it

@@ -119,9 +119,11 @@ module _ (header : Header) (p : Subformula) where
   rises_row [] r is g e = absurd (let f = e in cc)
   rises_row (q ∷ rows) r is g e =
       let lt = last_below header q rows r is in
-      let last : last_time q.time (rows ++ r ∷ []) ≡ r.time = last_appended q.time rows r in
-      (subst (λ x. x ≤ℤ front_at false (pos (last_time q.time (rows ++ r ∷ []))) p) (some_is e)
-      (front_rises p (last_time q.time rows) (last_time q.time (rows ++ r ∷ [])) (omega (arith, lt, last))), refl)
+      let last : last_time q.time (rows ++ r ∷ []) ≡ r.time = last_appended q.time rows r in (
+        subst (λ x. x ≤ℤ front_at false (pos (last_time q.time (rows ++ r ∷ []))) p) (some_is e)
+            (front_rises p (last_time q.time rows) (last_time q.time (rows ++ r ∷ [])) (omega (arith, lt, last))),
+        refl,
+      )
 
   rises_end : (rows : List Row) → Rises (record { rows = rows; ended = false }) (record { rows = rows; ended = true })
   rises_end [] is g e = absurd (let f = e in cc)

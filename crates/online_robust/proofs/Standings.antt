@@ -175,7 +175,7 @@ module _ (nodes : List Node) (header : Header) (net : Parts) (past : Past) (give
 
   module _ (r : Row) (width : length r.values ≡ net.bound.width) (later : IfSome net.last (λ q. q.time < r.time)) (small : r.time ≤ 4294967295)
       (opened : net.closed ≡ false) where
-    abbrev passing_row : Passing
+    abbrev pub passing_row : Passing
     passing_row = record { nodes = nodes; header = header; old = past; new = with_row past r; given = given }
 
     begun_edges : (o : Option Row) → (begun net.edges o r.time).edges ≡ net.edges.edges
@@ -204,6 +204,11 @@ module _ (nodes : List Node) (header : Header) (net : Parts) (past : Past) (give
       record { scale = keeps.scale; bound = keeps.bound; last = keeps.last; new = refl },
     )
 
+    -- so it may with the edges as the call leaves them
+    pub row_may : (e : Held) (now : ℕ) → now ≡ r.time → e ≡ begun net.edges net.last now → CanGoByRow passing_row e net.stations net.bound net.last r
+    row_may e now same is =
+        subst (λ x. CanGoByRow passing_row x net.stations net.bound net.last r) (sym (is ∙ ap (begun net.edges net.last) same)) can_row
+
     pub row_stands : (e : Held) (stations : List Station) (kept : Row) → kept ≡ r → HasGone passing_row e stations
         → StandsFor nodes header (record { edges = e; stations = stations; bound = net.bound; last = Some kept; closed = net.closed; stopped = net.stopped })
         (with_row past r) given
@@ -224,7 +229,7 @@ module _ (nodes : List Node) (header : Header) (net : Parts) (past : Past) (give
     }
 
   module _ (some : net.last ≢ None) (opened : net.closed ≡ false) (now : ℕ) (is_now : IfSome net.last (λ q. now ≡ q.time)) where
-    abbrev passing_end : Passing
+    abbrev pub passing_end : Passing
     passing_end = record { nodes = nodes; header = header; old = past; new = with_end past; given = given }
 
     last_after_time : (q : Row) (rows : List Row) → (last_row_after q rows).time ≡ last_time q.time rows

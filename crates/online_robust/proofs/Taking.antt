@@ -33,6 +33,9 @@ pub first_and_rest : (xs : List MarginLine) (line : MarginLine) → slice_get xs
 first_and_rest [] line h = absurd (let f = h in cc)
 first_and_rest (x ∷ xs) line h = let same : x ≡ line = some_is h in ap (λ y. y ∷ xs) (sym same)
 
+abbrev edge_of_parts : List MarginLine → List MarginLine → Option ℤ → Edge
+edge_of_parts seen fresh number = record { seen = seen; fresh = fresh; number = number }
+
 -- ---- what the nodes show, where only what was taken of the root has changed
 
 module _ (nodes : List Node) (header : Header) (streamed : AreStreamed nodes) (at : ℕ → Past) (given given' : List MarginLine) (e e' : Held)
@@ -98,7 +101,7 @@ module _ (nodes : List Node) (header : Header) (streamed : AreStreamed nodes) (a
       empty x h = by_parts x.seen x.fresh h
         where
           by_parts : (seen fresh : List MarginLine) → slice_get (seen ++ fresh) 0 ≡ None
-              → record { seen = drop 1 seen; fresh = drop (1 - length seen) fresh; number = x.number } ≡ record { seen = seen; fresh = fresh; number = x.number }
+              → edge_of_parts (drop 1 seen) (drop (1 - length seen) fresh) x.number ≡ edge_of_parts seen fresh x.number
           by_parts [] [] h = refl
           by_parts [] (y ∷ fresh) h = absurd (let f = h in cc)
           by_parts (y ∷ seen) fresh h = absurd (let f = h in cc)

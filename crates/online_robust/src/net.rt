@@ -221,20 +221,23 @@ impl RobustNet {
         };
         let now = row.time();
         begin_at(&mut self.edges, &self.last, now);
-        let gone = take_row_all(
+        match take_row_all(
             self.alloc,
             &mut self.edges,
             &mut self.stations,
             &self.bound,
             &self.last,
             row,
-        );
-        if let Err(fault) = gone {
-            self.stopped = true;
-            return Err(fault);
+        ) {
+            Ok(()) => {
+                self.last = Some(kept);
+                Ok(())
+            }
+            Err(fault) => {
+                self.stopped = true;
+                Err(fault)
+            }
         }
-        self.last = Some(kept);
-        Ok(())
     }
 
     /// The end of the rows: every node goes on to the last row's time.
@@ -262,13 +265,16 @@ impl RobustNet {
             unreachable!()
         };
         let now = row.time();
-        let gone = take_end_all(self.alloc, &mut self.edges, &mut self.stations, now);
-        if let Err(fault) = gone {
-            self.stopped = true;
-            return Err(fault);
+        match take_end_all(self.alloc, &mut self.edges, &mut self.stations, now) {
+            Ok(()) => {
+                self.closed = true;
+                Ok(())
+            }
+            Err(fault) => {
+                self.stopped = true;
+                Err(fault)
+            }
         }
-        self.closed = true;
-        Ok(())
     }
 
     /// All times up to it are answered at the root; None where none is, and where the network is stopped. It takes no memory.

@@ -1,33 +1,55 @@
-use Rattle.std.proofs.Common.{◌≡◌, ◌≤◌, ◌<◌, ◌+◌, ◌∙◌, ℕ, suc, length, arith, refl, sym, subst}
+use Rattle.std.proofs.Common.{◌≡◌, ◌<◌, ◌+◌, ◌∙◌, suc, length, arith, refl, sym, subst}
 use Rattle.std.specs.Prelude.{slice_set}
-use Rattle.online_robust.specs.Moving.{HasMoved}
-use Rattle.online_robust.specs.Nets.{CanGoByEnd, Going, Passing, move_of}
+use Rattle.online_robust.specs.Nets.{Going, move_of}
 use Rattle.online_robust.proofs.Moved.{length-slice_set}
-use Rattle.online_robust.proofs.Loops.{can_move_by_end, going_next, gone_last, go_fault}
+use Rattle.online_robust.proofs.Loops.{can_move_by_end, going_first, going_next, gone_last, go_fault}
 use Rattle.online_robust.proofs.net.take_end_all.Goals as goal
-use Rattle.online_robust.proofs.net.take_end_all.Goals.{After-index_mut}
 
-within : (c : goal.After-index_mut) (p : Passing) → CanGoByEnd p c.args.edges.now c.args.stations.now.items c.args.now → c.loop-i.i < length p.nodes
-within c p g =
+pub take_end-requires : goal.take_end-requires
+take_end-requires c =
+    let (p, g) = c.requires in
     let all = g.0.shows.stations in
     let same = c.loop-i.invariant.0 in
     let test = c.loop-i-test.true in
-    omega (arith, all, same, test)
+    let end = c.len-i-end.ensures in
+    let within : c.loop-i.i < length p.nodes = omega (arith, all, same, test, end) in (
+      move_of p c.loop-i.i,
+      can_move_by_end p c.args.edges.now c.args.stations.now.items g.0 c.loop-i.i c.loop-i.edges c.loop-i.stations.items c.index_mut.result.now within
+          c.index_mut.ensures.value (c.loop-i.invariant.1 p g) c.args.now c.loop-i.i refl g.1,
+    )
 
-pub take_end-requires : goal.take_end-requires
-take_end-requires c = let (p, g) = c.requires in (
-    move_of p c.loop-i.i,
-    can_move_by_end p c.args.edges.now c.args.stations.now.items g.0 c.loop-i.i c.loop-i.edges c.loop-i.stations.items c.index_mut.result.now (within c p g)
-        c.index_mut.ensures.value (c.loop-i.invariant.1 p g) c.args.now c.loop-i.i refl g.1,
-  )
+pub returns-in-Err-clause-fault : goal.returns-in-Err-clause-fault
+returns-in-Err-clause-fault c = λ p g.
+    let all = g.0.shows.stations in
+    let same = c.loop-i.invariant.0 in
+    let test = c.loop-i-test.true in
+    let end = c.len-i-end.ensures in
+    let within : c.loop-i.i < length p.nodes = omega (arith, all, same, test, end) in
+    go_fault p c.args.edges.now c.args.stations.now.items g.0 c.loop-i.i c.loop-i.edges c.loop-i.stations.items c.index_mut.result.now within
+    c.index_mut.ensures.value (c.loop-i.invariant.1 p g) c.loop-i.i refl c.in-Err.fault c.fault_at.result
+    (c.in-Err.ensures.fault (move_of p c.loop-i.i)
+    (can_move_by_end p c.args.edges.now c.args.stations.now.items g.0 c.loop-i.i c.loop-i.edges c.loop-i.stations.items c.index_mut.result.now within
+    c.index_mut.ensures.value (c.loop-i.invariant.1 p g) c.args.now c.loop-i.i refl g.1)) c.fault_at.ensures
+
+pub loop-i-preserved : goal.loop-i-preserved
+loop-i-preserved c = (
+  length-slice_set c.loop-i.stations.items c.loop-i.i c.take_end.new.self ∙ c.loop-i.invariant.0,
+  λ p g.
+      let all = g.0.shows.stations in
+      let same = c.loop-i.invariant.0 in
+      let test = c.loop-i-test.true in
+      let end = c.len-i-end.ensures in
+      let within : c.loop-i.i < length p.nodes = omega (arith, all, same, test, end) in
+      let up : suc c.loop-i.i ≡ c.loop-i.i + 1 = omega arith in
+      subst (λ k. Going p k c.take_end.new.edges (slice_set c.loop-i.stations.items c.loop-i.i c.take_end.new.self)) up
+      (going_next p c.args.edges.now c.args.stations.now.items g.0 c.loop-i.i c.loop-i.edges c.loop-i.stations.items c.index_mut.result.now within
+      c.index_mut.ensures.value (c.loop-i.invariant.1 p g) c.take_end.new.edges c.take_end.new.self c.take_end.ensures.ahead
+      (c.in-Ok.ensures.moved (move_of p c.loop-i.i)
+      (can_move_by_end p c.args.edges.now c.args.stations.now.items g.0 c.loop-i.i c.loop-i.edges c.loop-i.stations.items c.index_mut.result.now within
+      c.index_mut.ensures.value (c.loop-i.invariant.1 p g) c.args.now c.loop-i.i refl g.1))),
+)
 
 pub returns-clause-gone : goal.returns-clause-gone
 returns-clause-gone c = λ p g.
     gone_last p c.args.edges.now c.args.stations.now.items g.0 c.loop-i.i c.loop-i.edges c.loop-i.stations.items
-    (let all = g.0.shows.stations in let same = c.loop-i.invariant.0 in omega (arith, all, same)) (c.loop-i.invariant.1 p g)
-
-pub returns-in-Err-clause-fault : goal.returns-in-Err-clause-fault
-returns-in-Err-clause-fault c = ?
-
-pub loop-i-preserved : goal.loop-i-preserved
-loop-i-preserved c = ?
+    (let all = g.0.shows.stations in let same = c.loop-i.invariant.0 in let end = c.len-i-end.ensures in omega (arith, all, same, end)) (c.loop-i.invariant.1 p g)

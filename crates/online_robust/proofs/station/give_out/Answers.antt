@@ -28,3 +28,6 @@ returns-clause-moved c = λ m g.
     given_out m c.args.node c.args.operator.now c.args.edges.now c.args.to c.args.with_first g c.in_ok-swept.swept c.sweep.new.self c.sweep.new.edges e c.reach.new.self
     c.in_ok-swept.ensures.told c.in_ok-swept.ensures.edges c.in_ok-swept.ensures.stands c.in_ok-put_signal.ensures
     (c.reach.ensures ∙ ap (λ n. record e { edges = with_edge e c.args.node (with_number (edge_at e c.args.node) n) }) to)
+
+pub returns-in_err-swept-clause-fault : goal.returns-in_err-swept-clause-fault
+returns-in_err-swept-clause-fault c = ?

@@ -34,9 +34,11 @@ pub go_on-requires : goal.go_on-requires
 go_on-requires c =
     let (m, g) = c.requires in
     let n : to_z w64 (of_z w64 (to_z w64 (of_z w64 c.from-now.result) -ℤ to_z w64 (of_z w64 c.from.result))) ≡ pos c.args.row.now.time -ℤ pos c.args.self.now.ahead =
-    search (rules, to_z-of_z) in
-    (m, subst (CanGoTo m c.args.node c.in-Operator.operator c.args.edges.now) (sym n)
-    (row_go m c.args.node c.args.self.now c.args.edges.now c.args.bound.now c.args.before.now c.args.row.now g c.in-Operator.operator c.in-Operator.is))
+    search (rules, to_z-of_z) in (
+      m,
+      subst (CanGoTo m c.args.node c.in-Operator.operator c.args.edges.now) (sym n)
+          (row_go m c.args.node c.args.self.now c.args.edges.now c.args.bound.now c.args.before.now c.args.row.now g c.in-Operator.operator c.in-Operator.is),
+    )
 
 pub returns-in_ok-put_const-in-Const-clause-moved : goal.returns-in_ok-put_const-in-Const-clause-moved
 returns-in_ok-put_const-in-Const-clause-moved c = λ m g.
