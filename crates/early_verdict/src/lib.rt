@@ -5,10 +5,14 @@
 mod cut;
 mod grown;
 mod held;
+mod lasting;
 mod pointwise;
+mod reach;
 mod seeing;
+mod shared;
 mod steps;
 mod stretch;
+mod sure;
 mod touching;
 mod window;
 
