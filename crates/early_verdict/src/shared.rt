@@ -16,7 +16,7 @@ fn shared_at(spans: &VecDeque<Stretch>, at: usize, part: &Stretch) -> Option<Str
     ensures some { IfSome result (λ s. (n : Stretch) × (slice_get spans.now.items at ≡ Some n) × ((t : Rational) → Lies s t ↔ (Lies n t × Lies part.now t))) }
     ensures none { IfNone result ((n : Stretch) → slice_get spans.now.items at ≡ Some n → (t : Rational) → Lies n t → ¬ (Lies part.now t)) }
 {
-    let next = spans.get(at)?;
+    let next = *spans.get(at)?;
     Stretch::make(next.from, next.to, part)
 }
 
