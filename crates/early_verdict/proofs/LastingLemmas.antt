@@ -16,40 +16,51 @@ use Rattle.early_verdict.proofs.SpanLemmas.{front_upto, rest_after, begins_throu
 use Rattle.early_verdict.proofs.RunLemmas.{le_through, upto_le, later_before, decided, decided_either, decided_not}
 use Rattle.early_verdict.proofs.SetLaws.{some_by, by_some, held_sees, found, each_tells}
 
--- a window has a time from the start on, or none
-pub none_or_one : (w : Window) (start : Place) (t : Rational) → SeesNone w start t ⊎ ((u : Rational) × After start u × Sees w t u)
-none_or_one w start t = by_low w.low refl
+-- a window that has a time from everywhere, and ends behind the start, has a time from the start on
+pub seen_from : (w : Window) (start : Place) (t : Rational) → IfSome w.low (λ k. Before (low_place k w.low_in t) (high_place w.high w.high_in t))
+    → Before start (high_place w.high w.high_in t) → (u : Rational) × After start u × Sees w t u
+seen_from w start t room b = by_low w.low room (λ u h. h)
   where
     far : Place
     far = high_place w.high w.high_in t
 
-    by_low : (low : Option ℤ) → w.low ≡ low → SeesNone w start t ⊎ ((u : Rational) × After start u × Sees w t u)
-    by_low None e = elim (decided start far) [
-      | inl b ↦
-          let u = between start far b in
-          inr (u.0, u.1, record { begins = subst (λ l. IfSome l (λ k. After (low_place k w.low_in t) u.0)) (sym e) tt; ends = u.2 })
-      | inr n ↦ inl (λ u a s. n (before_through start far u a s.ends))
-    ]
-    by_low (Some k) e = elim (decided start far) [
-      | inr n ↦ inl (λ u a s. n (before_through start far u a s.ends))
-      | inl b ↦ elim (decided (low_place k w.low_in t) far) [
-        | inr n ↦ inl (λ u a s. n (before_through (low_place k w.low_in t) far u
-            (subst (λ l. IfSome l (λ k. After (low_place k w.low_in t) u)) e s.begins) s.ends))
-        | inl c ↦
-            let m = later_before start (low_place k w.low_in t) far b c in
-            let u = between m.0 far m.1 in
-            let i = m.2 u.0 u.1 in
-            inr (u.0, i.0, record { begins = subst (λ l. IfSome l (λ k. After (low_place k w.low_in t) u.0)) (sym e) i.1; ends = u.2 })
-      ]
+    by_low : (low : Option ℤ) → IfSome low (λ k. Before (low_place k w.low_in t) far)
+        → ((u : Rational) → IfSome low (λ k. After (low_place k w.low_in t) u) → IfSome w.low (λ k. After (low_place k w.low_in t) u))
+        → (u : Rational) × After start u × Sees w t u
+    by_low None r f = let u = between start far b in (u.0, u.1, record { begins = f u.0 tt; ends = u.2 })
+    by_low (Some k) r f =
+        let m = later_before start (low_place k w.low_in t) far b r in
+        let u = between m.0 far m.1 in
+        let i = m.2 u.0 u.1 in
+        (u.0, i.0, record { begins = f u.0 i.1; ends = u.2 })
+
+-- a window has a time from the start on, or none
+pub none_or_one : (w : Window) (start : Place) (t : Rational) → SeesNone w start t ⊎ ((u : Rational) × After start u × Sees w t u)
+none_or_one w start t = elim (decided start far) [
+  | inr n ↦ inl (λ u a s. n (before_through start far u a s.ends))
+  | inl b ↦ by_low b w.low (λ h. seen_from w start t h b) (λ u h. h)
+]
+  where
+    far : Place
+    far = high_place w.high w.high_in t
+
+    by_low : Before start far → (low : Option ℤ)
+        → (IfSome low (λ k. Before (low_place k w.low_in t) far) → (u : Rational) × After start u × Sees w t u)
+        → ((u : Rational) → IfSome w.low (λ k. After (low_place k w.low_in t) u) → IfSome low (λ k. After (low_place k w.low_in t) u))
+        → SeesNone w start t ⊎ ((u : Rational) × After start u × Sees w t u)
+    by_low b None f g = inr (f tt)
+    by_low b (Some k) f g = elim (decided (low_place k w.low_in t) far) [
+      | inl c ↦ inr (f c)
+      | inr n ↦ inl (λ u a s. n (before_through (low_place k w.low_in t) far u (g u s.begins) s.ends))
     ]
 
 -- what the first event adds
 abbrev pub BeginsAll : Window → Place → List Stretch → List Stretch → Rational → Type 0
 BeginsAll w start spans fresh t = SeesNone w start t ⊎ BySome (HeldAt w start spans) fresh t
 
-pub first_tells : (w : Window) (start : Place) (bounds : Stretch) (new told fresh x fx : List Stretch) → AreTidy x → Gains [] x fx
-    → Grows bounds [] new told fresh (BeginsAll w start x fx) → Tells bounds new (SeesOnly w start x)
-first_tells w start bounds new told fresh x fx tidy gx g = record {
+pub first_tells : (w : Window) (start : Place) (bounds : Stretch) (old new told fresh x fx : List Stretch) → AreTidy x → old ≡ [] → Gains [] x fx
+    → Grows bounds old new told fresh (BeginsAll w start x fx) → Tells bounds new (SeesOnly w start x)
+first_tells w start bounds old new told fresh x fx tidy none gx g = record {
   has = λ t b s. elim (none_or_one w start t) [
     | inl n ↦ g.adds t b (inl n)
     | inr o ↦ elim (gx.gained o.0 (s o.0 o.1 o.2)) [
@@ -60,7 +71,7 @@ first_tells w start bounds new told fresh x fx tidy gx g = record {
     ]
   ];
   only = λ t n. elim (g.only t n) [
-    | inl o ↦ absurd o
+    | inl o ↦ absurd (subst (λ xs. IsOn xs t) none o)
     | inr q ↦ (
       q.0,
       elim q.1 [

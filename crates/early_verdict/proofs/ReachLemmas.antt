@@ -79,9 +79,9 @@ module _ (before sure : Place) (s part p : Stretch) (is : (t : Rational) → Lie
       → HoldsFrom p (place part.from)
   from_newly w n l all = (
     λ b.
-      let v = between (place part.from) (place p.from) b in
-      let le = le_through (place p.from) v.0 w v.2 l.0 in
-      not_both (place p.from) v.0 v.2 (all v.0 ((is v.0).0 (v.1, upto_le (place part.to) v.0 w le ((is w).1 n).1)) le).0,
+        let v = between (place part.from) (place p.from) b in
+        let le = le_through (place p.from) v.0 w v.2 l.0 in
+        not_both (place p.from) v.0 v.2 (all v.0 ((is v.0).0 (v.1, upto_le (place part.to) v.0 w le ((is w).1 n).1)) le).0,
     before_through (place part.from) (place p.to) w ((is w).1 n).0 l.1,
   )
 

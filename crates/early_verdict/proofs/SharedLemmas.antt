@@ -4,11 +4,11 @@ use Rattle.std.specs.Prelude.{slice_get, ◌↔◌}
 use Rattle.rational.specs.Rational.{Rational, ◌≤ʳ◌}
 use Rattle.rational.proofs.Order.{le_refl}
 use Rattle.early_verdict.specs.Cuts.{Place, place, After, Upto, Before}
-use Rattle.early_verdict.specs.Spans.{Lies, IsOn, AreTidy, EndBefore, NoneEndsBefore}
+use Rattle.early_verdict.specs.Spans.{Lies, IsOn, AreTidy, BeginsAfter, EndBefore, NoneEndsBefore}
 use Rattle.early_verdict.specs.Reaching.{IsFirstBegin, IsLastEnd}
 use Rattle.early_verdict.specs.declared.stretch.Stretch.{Stretch}
 use Rattle.early_verdict.proofs.StretchLemmas.{rises}
-use Rattle.early_verdict.proofs.PlaceLemmas.{sides, not_both, between, upto_of_before, at_most_of_not_before}
+use Rattle.early_verdict.proofs.PlaceLemmas.{sides, not_both, between, upto_of_before, after_of_before, at_most_of_not_before}
 use Rattle.early_verdict.proofs.MakingLemmas.{after_from}
 use Rattle.early_verdict.proofs.SpanLemmas.{some_same, no_stretch, on_at, on_parts, front_of, front_upto, rest_after, reaches_at, from_one_on}
 use Rattle.early_verdict.proofs.LoopLemmas.{on_less}
@@ -34,10 +34,22 @@ end_at c [] k n f e = absurd (no_stretch n e)
 end_at c (x ∷ xs) zero n f e = subst (λ s. Before (place s.to) c) (some_same x n e) f.0
 end_at c (x ∷ xs) (suc k) n f e = end_at c xs k n f.1 e
 
+-- the one at a place begins after what those from there on begin after
+begins_one : (c : Place) (xs : List Stretch) (at : ℕ) (n : Stretch) → BeginsAfter c (drop at xs) → slice_get xs at ≡ Some n → Before c (place n.from)
+begins_one c [] at n b e = absurd (no_stretch n e)
+begins_one c (x ∷ xs) zero n b e = subst (λ s. Before c (place s.from)) (some_same x n e) b
+begins_one c (x ∷ xs) (suc at) n b e = begins_one c xs at n b e
+
 stretch_at : (xs : List Stretch) (k : ℕ) → k < length xs → (n : Stretch) × (slice_get xs k ≡ Some n)
 stretch_at [] k h = absurd (omega arith)
 stretch_at (x ∷ xs) zero h = (x, refl)
 stretch_at (x ∷ xs) (suc k) h = stretch_at xs k (omega arith)
+
+-- where none from a place on begins before the part ends, nothing there has a time of it
+pub nothing_after : (spans : List Stretch) (part : Stretch) (at : ℕ) → BeginsAfter (place part.to) (drop at spans)
+    → (n : Stretch) → slice_get spans at ≡ Some n → (t : Rational) → Lies n t → ¬ (Lies part t)
+nothing_after spans part at b n e t l k =
+    not_both (place part.to) t k.1 (after_of_before (place part.to) (place n.from) t (begins_one (place part.to) spans at n b e) l.0)
 
 module _ (spans : List Stretch) (tidy : AreTidy spans) (part : Stretch) where
   -- what stands at the place has nothing of the part
@@ -75,10 +87,13 @@ module _ (spans : List Stretch) (tidy : AreTidy spans) (part : Stretch) where
               let m = between (place s.from) (place s.to) (rises s) in
               let x = (is m.0).0 (m.1, m.2) in
               let le = le_through (place s.to) m.0 u m.2 k in
-              absurd (not_both (place s.to) u ((is u).1 ((
-                after_le (place n.from) m.0 u le x.0.0,
-                at_most_of_not_before (place part.to) (place n.to) (reaches_at (place part.to) spans at n rest e) u l.1,
-              ), l)).1 k)
+              absurd (not_both (place s.to) u ((is u).1 (
+                (
+                  after_le (place n.from) m.0 u le x.0.0,
+                  at_most_of_not_before (place part.to) (place n.to) (reaches_at (place part.to) spans at n rest e) u l.1,
+                ),
+                l,
+              )).1 k)
         ]
 
     -- and the first that does not end before the part begins has the first
@@ -93,10 +108,13 @@ module _ (spans : List Stretch) (tidy : AreTidy spans) (part : Stretch) where
             | inr r ↦
                 let m = between (place s.from) (place s.to) (rises s) in
                 let x = (is m.0).0 (m.1, m.2) in
-                ((is u).1 ((
-                  from_one_on spans at n u tidy e r,
-                  upto_le (place n.to) u m.0 (le_through (place s.from) u m.0 k m.1) x.0.1,
-                ), l)).0
+                ((is u).1 (
+                  (
+                    from_one_on spans at n u tidy e r,
+                    upto_le (place n.to) u m.0 (le_through (place s.from) u m.0 k m.1) x.0.1,
+                  ),
+                  l,
+                )).0
           ]
         ]
 
@@ -165,10 +183,13 @@ module _ (spans : List Stretch) (tidy : AreTidy spans) (part : Stretch) where
                 | inr i ↦
                     let m = between (place s.from) (place s.to) (rises s) in
                     let x = (is m.0).0 (m.1, m.2) in
-                    ((is u).1 ((
-                      from_one_on spans (suc at) n u tidy e i,
-                      upto_le (place n.to) u m.0 (le_through (place s.from) u m.0 k m.1) x.0.1,
-                    ), l)).0
+                    ((is u).1 (
+                      (
+                        from_one_on spans (suc at) n u tidy e i,
+                        upto_le (place n.to) u m.0 (le_through (place s.from) u m.0 k m.1) x.0.1,
+                      ),
+                      l,
+                    )).0
               ]
         ]
       ]
@@ -193,7 +214,7 @@ module _ (spans : List Stretch) (tidy : AreTidy spans) (part : Stretch) where
           let behind = after_one_in spans at p m.0 tidy i (on_drop spans (suc at) n m.0 e (m.1, m.2)) in
           nor n e m.0 (m.1, m.2) (
             after_from (place part.from) (place p.to) m.0
-            (at_most_of_not_before (place part.from) (place p.to) (reaches_at (place part.from) spans at p rest i)) behind,
+                (at_most_of_not_before (place part.from) (place p.to) (reaches_at (place part.from) spans at p rest i)) behind,
             upto_le (place part.to) m.0 u (le_through (place n.to) m.0 u m.2 (after_one_in spans (suc at) n u tidy e k)) l.1,
           )
         where

@@ -46,15 +46,15 @@ at_time s c t is h = (
   ],
   let v = between (record { at = t; after = false }) (place s.to)
       (same_before (record { at = t; after = false }) c (place s.to) (same_places is) h.1) in
-  upto_le (place s.to) t v.0 v.1 v.2,
+      upto_le (place s.to) t v.0 v.1 v.2,
 )
 
 pub from_time : (s : Stretch) (c : Place) (t : Rational) → Same c (record { at = t; after = false }) → Lies s t → HoldsFrom s c
 from_time s c t is l = (
   λ b.
-    let v = between (record { at = t; after = false }) (place s.from)
-        (same_before (record { at = t; after = false }) c (place s.from) (same_places is) b) in
-    not_both (place s.from) v.0 v.2 (after_le (place s.from) t v.0 v.1 l.0),
+      let v = between (record { at = t; after = false }) (place s.from)
+      (same_before (record { at = t; after = false }) c (place s.from) (same_places is) b) in
+      not_both (place s.from) v.0 v.2 (after_le (place s.from) t v.0 v.1 l.0),
   same_before c (record { at = t; after = false }) (place s.to) is (before_time (place s.to) t l.1),
 )
 
