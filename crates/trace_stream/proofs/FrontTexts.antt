@@ -1,5 +1,5 @@
 -- What a stream was owed for the first of its bytes: there is a text for them, and it is a front of the text for all.
-use Rattle.std.proofs.Common.{◌≡◌, ◌⊎◌, inl, inr, ℕ, ◌+◌, ◌<◌, ◌≤◌, Bool, true, false, List, [], ◌∷◌, ◌++◌, length, refl, sym, ap, ◌∙◌, subst, arith, append-nil, append_assoc, length-append, Option, Some, None, ℤ}
+use Rattle.std.proofs.Common.{◌≡◌, ◌⊎◌, inl, inr, ℕ, false, List, [], ◌∷◌, ◌++◌, refl, sym, ap, ◌∙◌, subst, append_assoc, Option, Some, None, ℤ}
 use Rattle.std.specs.Prelude.{All}
 use Rattle.std.proofs.lemmas.Bool.{false≢true}
 use Rattle.std.proofs.lemmas.List.Elements.{All-nil, All-cons, All-head, All-tail}
@@ -7,15 +7,14 @@ use Rattle.stl_syntax.specs.Formula.{Formula, Subformula, root}
 use Rattle.stl_syntax.specs.Scaling.{scaled}
 use Rattle.stl_syntax.specs.Trace.{Header, Row}
 use Rattle.stl_syntax.specs.declared.scale.Scale.{Scale}
-use Rattle.stl_syntax.specs.Stream.{NewText, answered_by, IsNewText, IsRowsText}
+use Rattle.stl_syntax.specs.Stream.{NewText, IsNewText, IsRowsText}
 use Rattle.stl_syntax.specs.EarlyText.{IsEarlyText, at_row, at_end, not_yet}
 use Rattle.stl_syntax.specs.Early.{NoneDecides}
 use Rattle.online_nodes.specs.MarginStream.{IsNewMargins}
-use Rattle.trace_reader.specs.TraceText.{Line, lines, is_blank_line, fields, Heading, IsHeading, IsRow, scale_of, AreRowLines, none as no_lines, unfinished, blank, row, AreTraceLines, heading}
+use Rattle.trace_reader.specs.TraceText.{Line, lines, Heading, scale_of, AreRowLines, none as no_lines, unfinished, blank, row, AreTraceLines, heading}
 use Rattle.trace_reader.specs.declared.refusal.Limits.{Limits}
 use Rattle.trace_reader.proofs.LineLemmas.{rest, IsDone}
-use Rattle.trace_reader.proofs.OpenLines.{Parts, parts, lines-now, open_line}
-use Rattle.report.proofs.StreamTexts.{IsLonger}
+use Rattle.trace_reader.proofs.OpenLines.{parts, lines-now, open_line}
 use Rattle.trace_stream.specs.Streams.{Stream, verdicts, early, margins, limits_of, StreamText, StreamOf, OwesRows}
 use Rattle.trace_reader.specs.InputFaults.{Fault, IsHeaderAt, IsInputFault, AreRowsBefore, sound, no_header_yet, faulted, faulted_header}
 use Rattle.trace_stream.proofs.HeaderLines.{IsBlank, header_stays, no_header}

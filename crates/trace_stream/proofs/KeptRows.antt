@@ -1,5 +1,5 @@
 -- What a reader has kept of its bytes: they have no fault so far, and the rows are those before the first fault.
-use Rattle.std.proofs.Common.{◌≡◌, inr, inl, Bool, true, false, List, ℕ, [], ◌++◌, refl, sym, ap, ◌∙◌, subst, append-nil, Some, None}
+use Rattle.std.proofs.Common.{◌≡◌, inr, inl, false, List, ℕ, [], refl, sym, subst, append-nil, Some, None}
 use Rattle.std.specs.Prelude.{Option, option_map}
 use Rattle.stl_syntax.specs.Formula.{Formula}
 use Rattle.stl_syntax.specs.Trace.{Header}
@@ -8,7 +8,6 @@ use Rattle.stl_syntax.specs.declared.scale.Scale.{Scale}
 use Rattle.trace_reader.specs.TraceText.{Line, Heading, lines, AreTraceLines, blank, heading}
 use Rattle.trace_reader.specs.TraceRefusals.{IsFirstFault}
 use Rattle.trace_reader.specs.Reader.{Reader, StandsFor, HasRead, header_of}
-use Rattle.trace_reader.specs.declared.refusal.Limits.{Limits}
 use Rattle.trace_reader.specs.InputFaults.{Fault, IsLack, IsInputFault, AreRowsBefore, no_header_yet, sound}
 use Rattle.trace_reader.proofs.LineLemmas.{lines-nil}
 use Rattle.trace_stream.specs.Reading.{IsSound, IsKept, IsTied}

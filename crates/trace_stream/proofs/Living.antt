@@ -1,21 +1,20 @@
 -- A reader of a trace with what follows its rows: what each of its steps comes to.
-use Rattle.std.proofs.Common.{◌≡◌, ◌⊎◌, inl, inr, ℕ, ◌+◌, ◌-◌, ◌<◌, ◌≤◌, Bool, true, false, List, [], ◌∷◌, ◌++◌, length, take, drop, refl, sym, ap, ◌∙◌, subst, arith, append-nil, append_assoc, take-append-drop, Option, Some, None, Result, Ok, Err}
+use Rattle.std.proofs.Common.{◌≡◌, inl, inr, ℕ, ◌-◌, Bool, true, false, List, [], ◌++◌, take, drop, refl, sym, ap, ◌∙◌, subst, arith, append-nil, append_assoc, take-append-drop, Option, Some, None, Result, Ok, Err}
 use Rattle.std.specs.Prelude.{MatchOption, MatchResult, IfOk, IfErr, option_map, All}
 use Rattle.std.proofs.lemmas.List.{length-take-le}
 use Rattle.stl_syntax.specs.Formula.{Formula, root}
-use Rattle.stl_syntax.specs.Scaling.{scaled}
-use Rattle.stl_syntax.specs.Trace.{Header, Row, Trace}
+use Rattle.stl_syntax.specs.Trace.{Header, Row}
 use Rattle.stl_syntax.specs.declared.scale.Scale.{Scale}
-use Rattle.trace_reader.specs.TraceText.{Line, lines, is_blank_line, Heading, AreTraceLines}
+use Rattle.trace_reader.specs.TraceText.{Line, lines, Heading, AreTraceLines}
 use Rattle.trace_reader.specs.TraceRefusals.{FaultFrom}
 use Rattle.trace_reader.specs.Feeds.{through_feed}
-use Rattle.trace_reader.specs.Reader.{Reader, StandsFor, HasRead, HoldLines, HasReadBefore, IsFaultOfAll, header_of}
+use Rattle.trace_reader.specs.Reader.{Reader, HasRead, HoldLines, HasReadBefore, IsFaultOfAll, header_of}
 use Rattle.trace_reader.specs.declared.refusal.Limits.{Limits}
 use Rattle.trace_reader.specs.declared.refusal.TraceRefusal.{TraceRefusal}
 use Rattle.trace_reader.proofs.ReaderTakes.{through_parts}
 use Rattle.trace_stream.specs.Streams.{Stream, StreamText, StreamOf}
-use Rattle.trace_reader.specs.InputFaults.{Fault, of_trace, line_of, IsHeaderAt, IsLack, IsInputFault, AreRowsBefore, faulted, faulted_header}
-use Rattle.trace_stream.specs.Cases.{IsFault, IsCase, IsLacking, IsNoBegin, IsBegun, IsHeaderOf, CanKeep, with_row}
+use Rattle.trace_reader.specs.InputFaults.{Fault, of_trace, line_of, IsHeaderAt, IsLack, IsInputFault, faulted, faulted_header}
+use Rattle.trace_stream.specs.Cases.{IsCase, IsLacking, IsNoBegin, IsHeaderOf, with_row}
 use Rattle.trace_stream.specs.Reading.{IsWhole, IsKept, IsTied, IsRefused, IsEnded, IsLastFault, of_header, own}
 use Rattle.trace_stream.specs.Following.{Follows, IsTextOf, IsFollowed, IsComplete, IsEndedOut, IsLive, IsLastTaken, IsOver, IsLiveStop}
 use Rattle.trace_stream.specs.declared.case.Case.{Case}
@@ -28,7 +27,7 @@ use Rattle.trace_stream.proofs.KeptRows.{sound_so_far}
 use Rattle.trace_stream.proofs.KeptRows.{before_of_kept}
 use Rattle.trace_stream.proofs.RowsBefore.{BeforeEnd, the_same, no_rows_there, before_end}
 use Rattle.trace_stream.proofs.OwedRows.{no_rows_no_text}
-use Rattle.trace_stream.proofs.Feeding.{IsNext, refused_next, same_header, HeaderStep, HasHeaderLine}
+use Rattle.trace_stream.proofs.Feeding.{IsNext, refused_next, same_header, HeaderStep}
 
 -- among blank lines there is no header
 none_blank : (ls : List Line) {n : ℕ} {h : Heading} → All IsBlank ls → ¬ IsHeaderAt ls n h

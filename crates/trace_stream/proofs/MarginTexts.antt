@@ -1,5 +1,5 @@
 -- What a stream of robustness writes for rows is one text, and rows more only make it longer.
-use Rattle.std.proofs.Common.{◌≡◌, Bool, true, false, List, [], ◌++◌, ap, ◌∙◌, sym, append_assoc, Option, Some, None, ℤ, ℕ}
+use Rattle.std.proofs.Common.{◌≡◌, Bool, true, false, List, [], ◌++◌, ap, ◌∙◌, sym, append_assoc, Some, None, ℤ, ℕ}
 use Rattle.std.specs.Prelude.{int_lt}
 use Rattle.rational.specs.Time.{whole}
 use Rattle.rational.proofs.Order.{same_sym, same_trans}

@@ -1,5 +1,5 @@
 -- Bytes have at most one first fault.
-use Rattle.std.proofs.Common.{◌≡◌, ◌⊎◌, inl, inr, refl, sym, ap, subst, ◌∙◌, ℕ, zero, suc, ◌<◌, Bool, true, false, List, [], ◌∷◌, length, take, arith}
+use Rattle.std.proofs.Common.{◌≡◌, ◌⊎◌, inl, inr, sym, ap, subst, ◌∙◌, ℕ, zero, suc, ◌<◌, Bool, List, [], ◌∷◌, take, arith}
 use Rattle.std.specs.Prelude.{Some, None, Option, slice_get, All}
 use Rattle.std.proofs.lemmas.Bool.{cases_order}
 use Rattle.std.proofs.lemmas.List.Elements.{All-head, All-tail}
@@ -11,17 +11,15 @@ use Rattle.stl_syntax.specs.Trace.{Column}
 use Rattle.stl_syntax.specs.Binding.{HasColumn, HasColumns, IsUnknown, IsUnitFault}
 use Rattle.stl_syntax.specs.declared.atom.Atom.{Atom}
 use Rattle.stl_syntax.specs.declared.atom.Term.{Term}
-use Rattle.stl_syntax.specs.declared.node.Node.{Node}
 use Rattle.stl_syntax.specs.declared.node.Node.TheVariants.{Atom as Leaf}
 use Rattle.stl_syntax.specs.declared.scale.Scale.{Scale}
-use Rattle.stl_syntax.specs.declared.scale.UnitFault.{UnitFault}
 use Rattle.stl_syntax.specs.declared.scale.UnitFault.TheVariants.{Constant, Reach}
 use Rattle.stl_syntax.proofs.ChoiceLemmas.{AtMostOne, or_else-unique, where-unique}
 use Rattle.stl_syntax.proofs.ScalingLemmas.{one_first}
-use Rattle.trace_reader.specs.TraceText.{Heading, lines, scale_of}
+use Rattle.trace_reader.specs.TraceText.{Heading, scale_of}
 use Rattle.trace_reader.specs.declared.refusal.Limits.{Limits}
 use Rattle.trace_reader.proofs.TraceRefusalLaw.{FirstFault-unique}
-use Rattle.trace_reader.specs.InputFaults.{Fault, of_trace, unknown, unit, IsHeaderAt, IsInputFault, IsUnknownIn, IsUnitIn}
+use Rattle.trace_reader.specs.InputFaults.{of_trace, unknown, unit, IsInputFault, IsUnknownIn, IsUnitIn}
 use Rattle.trace_stream.proofs.HeaderLines.{header_once}
 
 -- what holds of all of a list holds of each, and what holds of its front holds of each there

@@ -1,23 +1,23 @@
 -- What the root of a network gives out in one pass of a stream: a row or the end, and a step of every node.
-use Rattle.std.proofs.Common.{◌≡◌, ◌⊎◌, inl, inr, ℕ, suc, ◌+◌, ◌-◌, ◌<◌, ◌≤◌, Bool, true, false, not, ◌&&◌, List, [], ◌∷◌, ◌++◌, length, take, drop, refl, sym, ap, ◌∙◌, subst, arith, append-nil, append_assoc, take-append-drop, length-drop, Option, Some, None, ℤ, pos, ◌<ℤ◌, if◌then◌else◌, codes, length-append}
-use Rattle.std.specs.Prelude.{MatchBool, int_lt, cond, ◌==◌, ◌≢◌, slice_index_or, slice_get}
+use Rattle.std.proofs.Common.{◌≡◌, ℕ, suc, ◌+◌, ◌-◌, ◌<◌, ◌≤◌, Bool, true, false, not, ◌&&◌, List, [], ◌∷◌, ◌++◌, length, take, drop, refl, sym, ap, ◌∙◌, subst, arith, append-nil, append_assoc, take-append-drop, length-drop, Some, None, ℤ, ◌<ℤ◌, if◌then◌else◌, codes, length-append}
+use Rattle.std.specs.Prelude.{MatchBool, int_lt, cond, ◌==◌, ◌≢◌, slice_index_or}
 use Rattle.std.proofs.lemmas.Int.{ints}
 use Rattle.std.proofs.lemmas.List.{length-take-le}
 use Rattle.std.proofs.Math.Seq.{get_or-append_seam}
 use Rattle.online_nodes.proofs.RunLaw.{int_order}
-use Rattle.stl_syntax.specs.Trace.{Header, Row, Trace, first_time, last_time}
-use Rattle.stl_syntax.specs.Formula.{Subformula, subformula, root, horizon}
+use Rattle.stl_syntax.specs.Trace.{Header, Trace, first_time}
+use Rattle.stl_syntax.specs.Formula.{subformula, root}
 use Rattle.rational.specs.Time.{Rational, ◌≈◌}
 use Rattle.rational.proofs.Order.{same_sym, same_trans}
 use Rattle.stl_syntax.specs.Verdicts.{Describes, AreAlike}
 use Rattle.stl_syntax.specs.Texts.{IsNumberText, AreVerdictLines, bool_text, newline}
 use Rattle.stl_syntax.specs.declared.scale.Scale.{Scale}
 use Rattle.stl_syntax.proofs.VerdictsLaw.{Describes-unique}
-use Rattle.stl_syntax.specs.Stream.{answered_by, IsStretchText, IsNewText, after}
+use Rattle.stl_syntax.specs.Stream.{IsStretchText, IsNewText, after}
 use Rattle.stl_syntax.specs.declared.items.Verdict.{Verdict}
 use Rattle.stl_syntax.specs.declared.node.Node.{Node}
 use Rattle.stl_syntax.specs.declared.node.Node.TheVariants.{Const}
-use Rattle.online_nodes.specs.Network.{Event, row, step, close, take as taken, initial, Emitted, Front, State, shown, same_front, is_atom, node_is_atom, allowed_at, answered, after_event, state_from, EmittedAt, EmittedFrom}
+use Rattle.online_nodes.specs.Network.{Event, step, take as taken, initial, Emitted, Front, State, shown, same_front, is_atom, node_is_atom, allowed_at, answered, after_event, state_from, EmittedAt, EmittedFrom}
 use Rattle.online_nodes.specs.Driven.{steps_of}
 use Rattle.online_nodes.specs.Needed.{IsTaken, none as none_taken, other, next, nothing_left}
 

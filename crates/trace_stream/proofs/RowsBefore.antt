@@ -5,12 +5,12 @@ use Rattle.std.proofs.lemmas.Bool.{false≢true}
 use Rattle.std.proofs.lemmas.List.{take-append-le, take_all}
 use Rattle.std.proofs.Math.Seq.{take-append-add}
 use Rattle.std.proofs.lemmas.Bool.{cases_lt}
-use Rattle.std.proofs.lemmas.List.Elements.{All-nil, All-cons, All-head, All-tail}
+use Rattle.std.proofs.lemmas.List.Elements.{All-head, All-tail}
 use Rattle.stl_syntax.specs.Formula.{Formula}
 use Rattle.stl_syntax.specs.Trace.{Header, Row}
 use Rattle.stl_syntax.specs.declared.scale.Scale.{Scale}
 use Rattle.trace_reader.specs.TraceText.{Line, lines, is_blank_line, fields, Heading, IsHeading, IsRow, scale_of, AreRowLines, none as no_lines, unfinished, blank, row, AreTraceLines, heading}
-use Rattle.trace_reader.specs.TraceRefusals.{InLine, LineFault, HeaderFault, RowFault, FaultFrom, FaultAfter, IsFirstFault}
+use Rattle.trace_reader.specs.TraceRefusals.{FaultFrom, FaultAfter, IsFirstFault}
 use Rattle.trace_reader.specs.Reader.{header_of}
 use Rattle.trace_reader.specs.declared.refusal.Limits.{Limits}
 use Rattle.trace_reader.specs.declared.refusal.TraceRefusal.{TraceRefusal}
@@ -18,7 +18,7 @@ use Rattle.trace_reader.proofs.TraceRefusalLaw.{heading-unique, row-unique, Firs
 use Rattle.trace_reader.proofs.FirstFaultStays.{first_fault_stays}
 use Rattle.trace_reader.proofs.LineLemmas.{rest, IsDone}
 use Rattle.trace_reader.proofs.OpenLines.{Parts, parts, lines-now, open_line}
-use Rattle.trace_reader.specs.InputFaults.{Fault, of_trace, line_of, IsHeaderAt, here as at_first, later as at_later, IsLack, IsTraceFault, IsInputFault, AreRowsBefore, sound, no_header_yet, faulted, faulted_header}
+use Rattle.trace_reader.specs.InputFaults.{Fault, of_trace, line_of, IsHeaderAt, here as at_first, later as at_later, IsLack, IsInputFault, AreRowsBefore, sound, no_header_yet, faulted, faulted_header}
 use Rattle.trace_stream.proofs.HeaderLines.{header_once, header_read, header_stays, header_within}
 use Rattle.trace_stream.proofs.FaultsStay.{lack_stays}
 use Rattle.trace_stream.proofs.FaultPlaces.{fault_within, to_true, to_false, at_true, at_false, InRow, InHeading, after_header, open_kind}

@@ -1,5 +1,5 @@
 -- The text of a reader with what follows its rows: that of the rows so far, and that of all; and what stands once it was taken.
-use Rattle.std.proofs.Common.{◌≡◌, ℕ, Bool, true, false, List, [], ◌++◌, sym, subst, append-nil, Option, Some, None}
+use Rattle.std.proofs.Common.{ℕ, Bool, true, false, List, [], ◌++◌, sym, subst, append-nil, Some}
 use Rattle.std.specs.Prelude.{option_map}
 use Rattle.stl_syntax.specs.Formula.{Formula, root}
 use Rattle.trace_reader.specs.Reader.{header_of}

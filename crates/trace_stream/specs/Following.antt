@@ -1,7 +1,7 @@
 -- What follows the rows of a trace, and the reader over it.
 use Rattle.std.specs.Prelude.{◌≡◌, ℕ, Bool, true, false, List, [], ◌++◌, Option, Some, None}
 use Rattle.stl_syntax.specs.Formula.{Formula, root}
-use Rattle.stl_syntax.specs.Trace.{Header, Row, Trace}
+use Rattle.stl_syntax.specs.Trace.{Header, Row}
 use Rattle.trace_reader.specs.declared.refusal.Limits.{Limits}
 use Rattle.trace_stream.specs.Streams.{Stream, limits_of, StreamText, StreamOf, IsLastVerdict, status_of_truth}
 use Rattle.trace_reader.specs.InputFaults.{Fault, IsInputFault, AreRowsBefore}

@@ -46,7 +46,13 @@ fn unit_stop(line: u64, fault: UnitFault) -> StreamStop
 }
 
 /// Why a formula whose numbers do not fit the header, in line `line`, has no case: a column that the header lacks comes first.
-fn misfit(alloc: Global, formula: &Formula, header: &Header, line: u64, fault: UnitFault) -> StreamStop
+fn misfit(
+    alloc: Global,
+    formula: &Formula,
+    header: &Header,
+    line: u64,
+    fault: UnitFault,
+) -> StreamStop
     requires { (fault ≡ UnitFault.Memory) ⊎ IsUnitFault formula.now header.now.scale fault }
     ensures { (h : Heading) → header.now ≡ header_of formula.now.scale h → IsNoBegin formula.now line h result }
 {

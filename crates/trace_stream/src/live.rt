@@ -42,7 +42,11 @@ fn follow<F: Follow>(alloc: Global, case: Case) -> Result<F, StreamStop>
 }
 
 /// Takes a row, and adds to the text what it answers.
-fn take_row<F: Follow>(follower: &mut Option<F>, row: &Row, text: &mut Text) -> Result<(), StreamStop>
+fn take_row<F: Follow>(
+    follower: &mut Option<F>,
+    row: &Row,
+    text: &mut Text,
+) -> Result<(), StreamStop>
     requires { (case : Option Of) × (made : List ℕ) × IsFollowed F.stands F.kind follower.old case made × CanKeep case row.now }
     ensures ok { (case : Option Of) (made : List ℕ) → IsFollowed F.stands F.kind follower.old case made → CanKeep case row.now
         → IfOk result (λ _. (grown : List ℕ) × (text.new ≡ text.old ++ grown) × IsFollowed F.stands F.kind follower.new (option_map (with_row row.now) case) (made ++ grown)) }

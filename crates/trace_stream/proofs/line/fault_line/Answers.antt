@@ -1,6 +1,6 @@
 use Rattle.report.specs.Lines.{line_text}
 use Rattle.trace_stream.proofs.FaultLines.{name_of, trace_line, unit_line, column_line}
-use Rattle.trace_stream.proofs.texts.fault_line.Goals as goal
+use Rattle.trace_stream.proofs.line.fault_line.Goals as goal
 
 pub name_at-requires : goal.name_at-requires
 name_at-requires c = name_of c.in-Unknown.is c.requires

@@ -1,4 +1,4 @@
-use Rattle.std.proofs.Common.{◌≡◌, ◌++◌, refl, sym, ◌∙◌, subst, true}
+use Rattle.std.proofs.Common.{◌≡◌, ◌++◌, sym, ◌∙◌, subst}
 use Rattle.std.specs.Prelude.{option_map, IfOk, List, ℕ}
 use Rattle.stl_syntax.specs.Trace.{Row}
 use Rattle.trace_reader.specs.Feeds.{rows_after}
@@ -7,7 +7,7 @@ use Rattle.trace_reader.specs.declared.event.Event.{Event}
 use Rattle.trace_stream.specs.Cases.{CanKeep, with_row}
 use Rattle.trace_stream.specs.Following.{IsFollowed}
 use Rattle.trace_stream.proofs.Ends.{ended_now, ended_row, end_can, has_header, refused_end}
-use Rattle.trace_stream.proofs.Living.{more_text, last_by_case, live_end_refused, last_taken, last_row}
+use Rattle.trace_stream.proofs.Living.{last_by_case, live_end_refused, last_taken, last_row}
 use Rattle.trace_stream.proofs.live.Live.last.Goals as goal
 
 pub take_row-requires : goal.take_row-requires

@@ -1,4 +1,4 @@
-use Rattle.std.proofs.Common.{false, Option, Some, ◌++◌, take, drop, refl, sym, ap, ◌∙◌, subst}
+use Rattle.std.proofs.Common.{Some, ◌++◌, take, refl, sym, ◌∙◌, subst}
 use Rattle.std.proofs.lemmas.Result.{err_from_is_err_and}
 use Rattle.std.specs.Prelude.{option_map}
 use Rattle.stl_syntax.specs.Trace.{Row}
@@ -6,10 +6,8 @@ use Rattle.trace_reader.specs.Reader.{HasCome}
 use Rattle.trace_reader.specs.declared.event.Event.{Event}
 use Rattle.trace_reader.specs.declared.refusal.Limits.{Limits}
 use Rattle.trace_stream.specs.Cases.{IsNoBegin, IsBegun, CanKeep, with_row}
-use Rattle.trace_stream.specs.declared.case.Case.{Case}
-use Rattle.trace_stream.specs.Reading.{IsKept}
 use Rattle.trace_stream.specs.Following.{Follows, IsFollowed}
-use Rattle.trace_stream.proofs.Feeding.{HasHeaderLine, HeaderStep, RowStep, front_same, first_next, header_step, row_step, nothing_step, kept_begun, kept_row}
+use Rattle.trace_stream.proofs.Feeding.{HasHeaderLine, front_same, first_next, header_step, row_step, nothing_step, kept_begun, kept_row}
 use Rattle.trace_stream.proofs.Living.{next_of, live_refused, live_lacks, none_made, more_text}
 use Rattle.trace_stream.proofs.live.Live.step.Goals as goal
 
