@@ -134,6 +134,10 @@ not_unread (Faulty fault) same = let k = same in cc
 not_unread NoMemory same = let k = same in cc
 not_unread (Wide i den) same = let k = same in cc
 
+pub end_not_unread : (r : Result (Unit {0}) StreamStop) → outcome_of r ≡ Err Unread → ⊥
+end_not_unread (Ok x) same = let k = same in cc
+end_not_unread (Err e) same = not_unread e (let k = same in cc)
+
 pub none_taken : (n : ℕ) (buf : List ℕ) → n ≡ 0 → take n buf ≡ []
 none_taken n buf e = subst (λ m. take m buf ≡ []) (sym e) refl
 
