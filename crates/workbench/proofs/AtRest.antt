@@ -1,11 +1,10 @@
 -- A reader with what follows its rows, as a stream: what a piece and the end come to.
-use Rattle.std.proofs.Common.{◌≡◌, ◌≢◌, ◌⊎◌, inl, inr, ℕ, ◌<◌, ◌≤◌, Bool, true, false, List, [], ◌++◌, length, refl, sym, ap, ◌∙◌, subst, arith, append-nil, append_assoc, Option, Some, None, Result, Ok, Err}
+use Rattle.std.proofs.Common.{◌≡◌, ◌≢◌, inr, ℕ, ◌<◌, Bool, true, false, List, [], ◌++◌, length, refl, sym, ap, ◌∙◌, subst, arith, append-nil, append_assoc, Option, Result, Ok, Err}
 use Rattle.std.specs.Prelude.{MatchResult, OnOk, option_map}
-use Rattle.std.specs.Io.KnownBytes.{Appends}
 use Rattle.std.proofs.KnownBytes.{Appends-nil}
 use Rattle.std.proofs.lemmas.Bool.{false≢true}
 use Rattle.stl_syntax.specs.Formula.{Formula, root}
-use Rattle.trace_reader.specs.Reader.{Reader, header_of}
+use Rattle.trace_reader.specs.Reader.{header_of}
 use Rattle.trace_reader.specs.declared.refusal.Limits.{Limits}
 use Rattle.workbench.specs.Requests.{Stream, verdicts, early, margins, stream}
 use Rattle.workbench.specs.Owed.{limits_of, StreamText, StreamOf, OwesRows}
@@ -13,11 +12,10 @@ use Rattle.workbench.specs.Settled.{IsAnswered}
 use Rattle.workbench.specs.Running.{IsBegun}
 use Rattle.workbench.specs.Pushing.{IsPushed, IsPushStop, IsPush, IsFinished}
 use Rattle.trace_stream.specs.Reading.{IsWhole}
-use Rattle.workbench.specs.InputFaults.{Fault, fault_text, IsInputFault, AreRowsBefore, sound}
+use Rattle.workbench.specs.InputFaults.{Fault, fault_text, IsInputFault, AreRowsBefore}
 use Rattle.workbench.specs.Wholes.{status_of_truth}
-use Rattle.trace_stream.specs.Following.{IsTextOf, IsFollowed, IsLive, IsAtRest, IsOver, IsDone, IsLiveStop}
+use Rattle.trace_stream.specs.Following.{IsTextOf, IsLive, IsAtRest, IsOver, IsDone, IsLiveStop}
 use Rattle.workbench.specs.Telling.{IsToldAs, no_room, told_whole, told_in_part}
-use Rattle.workbench.specs.Writing.{IsPartWritten}
 use Rattle.trace_stream.specs.declared.case.Case.{Case}
 use Rattle.trace_stream.specs.declared.live.Live.{Live}
 use Rattle.trace_stream.specs.declared.fault.StreamStop.{StreamStop}
