@@ -21,3 +21,12 @@ mod Stationing
 mod EdgeTouches
 mod Puts
 pub mod StreamTexts
+pub mod JoinedLemmas
+pub mod Losses
+pub mod Robustly
+pub mod Builts
+pub mod Choosing
+pub mod WindowLaw
+pub mod PointwiseLemmas
+pub mod NotLemmas
+pub mod TwoLemmas

@@ -10,3 +10,6 @@ pub mod Putting
 pub mod Firsts
 pub mod Nets
 pub mod Lining
+pub mod Reading
+pub mod Couples
+pub mod Sweeping

@@ -3,10 +3,12 @@
 #![tactic(auto)]
 
 mod edges;
+mod ends;
 mod line;
 mod net;
 mod operator;
 mod put;
+mod pointwise;
 mod queue;
 mod station;
 
