@@ -433,8 +433,8 @@ module _ (m : Move) (node : ℕ) (op : Operator) (e : Held) (to : ℕ) (with_fir
       work = λ n at. (
         subst (λ k. ¬ IsLeaf k) (some_is (sym g.can.at ∙ at)) g.can.work.0,
         λ tr trace c.
-            subst (λ o. Stands n m.nodes tr o op' (seen_by n noted)) (sym shown_new)
-            (subst (λ l. Stands n m.nodes tr (Some (pos to)) op' l) (sym (seen_kept n at)) (stands tr trace c n at)),
+            subst (λ o. Stands n m.nodes m.place tr o op' (seen_by n noted)) (sym shown_new)
+            (subst (λ l. Stands n m.nodes m.place tr (Some (pos to)) op' l) (sym (seen_kept n at)) (stands tr trace c n at)),
       );
       inputs = input_left;
       others = λ j apart unread. other'' j apart ∙ left.others j unread;

@@ -74,8 +74,8 @@ module _ (m : Move) (w : Work) (e e' : Held) (can : CanMove m w e) (number : ℤ
   work_on n at (W.Operator op) h = (
     h.0,
     λ tr trace c.
-        subst (λ l. Stands n m.nodes tr (shown_of m.nodes m.new m.place) op l) (sym seen)
-        (subst (λ o. Stands n m.nodes tr o op (seen_by n e)) (sym same) (h.1 tr trace (goes_on_from m.old m.new can.next tr m.header c))),
+        subst (λ l. Stands n m.nodes m.place tr (shown_of m.nodes m.new m.place) op l) (sym seen)
+        (subst (λ o. Stands n m.nodes m.place tr o op (seen_by n e)) (sym same) (h.1 tr trace (goes_on_from m.old m.new can.next tr m.header c))),
   )
     where
       seen : seen_by n e' ≡ seen_by n e

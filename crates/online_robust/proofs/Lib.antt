@@ -14,6 +14,8 @@ mod Idling
 mod Leaves
 mod LeafMoved
 mod Loops
+mod Apart
+mod Bridging
 mod Firsting
 mod Standings
 mod Taking

@@ -70,7 +70,7 @@ module _ (f : Formula) (header : Header) (b : Binding) (bound : IsBound b f head
   work_first : (i : ℕ) (n : Node) (w : Work) → IsFirstWork n w → IsWork f.nodes header no_past i n (seen_by n e) w
   work_first i n (W.Const c) h = h
   work_first i n W.Atom h = h
-  work_first i n (W.Operator op) h = (h.0, λ tr is c. subst (λ l. Stands n f.nodes tr None op l) (sym (seen_none n)) (h.1 f.nodes tr))
+  work_first i n (W.Operator op) h = (h.0, λ tr is c. subst (λ l. Stands n f.nodes i tr None op l) (sym (seen_none n)) (h.1 f.nodes i tr))
 
   pub new_stands : StandsFor f.nodes header (record { edges = e; stations = stations; bound = b; last = None; closed = false; stopped = false }) no_past []
   new_stands = record {

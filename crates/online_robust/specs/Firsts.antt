@@ -15,7 +15,7 @@ use Rattle.online_robust.specs.declared.station.Work.TheVariants as W
 abbrev pub IsFirstWork : Node → Work → Type 0
 IsFirstWork n (W.Const b) = n ≡ Const b
 IsFirstWork n W.Atom = (a : Atom) × (n ≡ Leaf a)
-IsFirstWork n (W.Operator op) = (¬ IsLeaf n) × ((nodes : List Node) (tr : Trace) → Stands n nodes tr None op [])
+IsFirstWork n (W.Operator op) = (¬ IsLeaf n) × ((nodes : List Node) (place : ℕ) (tr : Trace) → Stands n nodes place tr None op [])
 
 -- the first n nodes before any row
 pub record AreFirstStations (nodes : List Node) (n : ℕ) (stations : List Station) : Type 0 where

@@ -92,7 +92,7 @@ IsWork nodes header past i n seen (W.Const b) = n ≡ Const b
 IsWork nodes header past i n seen W.Atom = (a : Atom) × (n ≡ Leaf a)
 IsWork nodes header past i n seen (W.Operator op) =
     (¬ IsLeaf n)
-    × ((tr : Trace) → IsTrace tr → Continues tr header past.rows past.ended → Stands n nodes tr (shown_of nodes past i) op seen)
+    × ((tr : Trace) → IsTrace tr → Continues tr header past.rows past.ended → Stands n nodes i tr (shown_of nodes past i) op seen)
 
 -- the node at place i, over the past
 pub record IsStation (nodes : List Node) (header : Header) (past : Past) (i : ℕ) (n : Node) (e : Held) (st : Station) : Type 0 where

@@ -88,7 +88,7 @@ seen_by n e = []
 -- the operator of a node before it gave out anything
 abbrev pub IsFirstOperator : Node → Option Operator → Type 0
 IsFirstOperator n None = IsLeaf n
-IsFirstOperator n (Some op) = (¬ IsLeaf n) × ((nodes : List Node) (tr : Trace) → Stands n nodes tr None op [])
+IsFirstOperator n (Some op) = (¬ IsLeaf n) × ((nodes : List Node) (place : ℕ) (tr : Trace) → Stands n nodes place tr None op [])
 
 -- the reach of the nodes before the place
 abbrev pub reach_before : Turn → ℕ
@@ -115,7 +115,7 @@ pub record Belongs (t : Turn) (op : Operator) (e : Held) (to : ℕ) : Type 0 whe
   pub inputs : (j : ℕ) (left : Bool) → IsReader node left j
       → IsInput (Robustness (subformula t.nodes j) t.trace) (reach_before t) (begin_of t) (back_of (begin_of t) t.before (reach_back node left))
       (front_at t.ended (pos t.now) (subformula t.nodes j)) (held_at e j)
-  pub stands : Stands node t.nodes t.trace t.before op (seen_by node e)
+  pub stands : Stands node t.nodes t.place t.trace t.before op (seen_by node e)
 
 -- a call with these arguments is one of an operator that may go on
 abbrev pub BelongsSomewhere : Operator → Held → ℕ → Type 0
@@ -158,7 +158,7 @@ pub record HasSwept (t : Turn) (old new : Held) (to : ℕ) : Type 0 where
 
 -- the operator stands for its node at the number `to`
 abbrev pub StandsNow : Turn → Operator → Held → ℕ → Type 0
-StandsNow t op e to = (node : Node) → slice_get t.nodes t.place ≡ Some node → Stands node t.nodes t.trace (Some (pos to)) op (seen_by node e)
+StandsNow t op e to = (node : Node) → slice_get t.nodes t.place ≡ Some node → Stands node t.nodes t.place t.trace (Some (pos to)) op (seen_by node e)
 
 -- the pair is in play at the node by what the rows have settled
 abbrev pub IsStreamedCause : Turn → WidePair Margin → Type 0
