@@ -30,4 +30,5 @@ returns-clause-moved c = λ m g.
     (c.reach.ensures ∙ ap (λ n. record e { edges = with_edge e c.args.node (with_number (edge_at e c.args.node) n) }) to)
 
 pub returns-in_err-swept-clause-fault : goal.returns-in_err-swept-clause-fault
-returns-in_err-swept-clause-fault c = ?
+returns-in_err-swept-clause-fault c = λ m g.
+    swept_fault m c.args.node c.args.operator.now c.args.edges.now c.args.to c.args.with_first g c.in_err-swept.field-0.0 c.in_err-swept.ensures.wide

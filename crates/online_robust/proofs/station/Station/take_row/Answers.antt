@@ -4,6 +4,7 @@ use Rattle.std.proofs.lemmas.Int.{to_z-of_z}
 use Rattle.online_robust.specs.Held.{edge_at, with_edge, with_number}
 use Rattle.online_robust.specs.Moving.{Move, CanGoTo, CanMoveByRow, HasMoved}
 use Rattle.online_robust.specs.declared.station.Work.TheVariants as W
+use Rattle.online_robust.proofs.Puts.{put_within}
 use Rattle.online_robust.proofs.Stationing.{row_atom, row_bound, row_const, row_edge, row_go, row_last}
 use Rattle.online_robust.proofs.station.Station.take_row.Goals as goal
 
@@ -28,7 +29,11 @@ put_atom-requires-clause-later c =
     (row_last m c.args.node c.args.self.now c.args.edges.now c.args.bound.now c.args.before.now c.args.row.now g).later
 
 pub reach-requires-in-Atom : goal.reach-requires-in-Atom
-reach-requires-in-Atom c = ?
+reach-requires-in-Atom c =
+    let (m, g) = c.requires in
+    let (piece, v, is_piece, is_value, (more, lines, put)) = c.in_ok-put_atom-in-Atom.ensures in
+    put_within c.args.node more c.args.edges.now c.put_atom.new.edges put
+    (row_edge m c.args.node c.args.self.now c.args.edges.now c.args.bound.now c.args.before.now c.args.row.now g)
 
 pub go_on-requires : goal.go_on-requires
 go_on-requires c =
