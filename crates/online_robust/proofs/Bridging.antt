@@ -150,10 +150,7 @@ reached_before G most (Some g) last from is (r, kept, reached) =
 
 -- and as it leaves it
 stood_after : (G : Function) (most : ℕ) (g : ℤ) (last : Option Reached) → IsSome last → HasReached G most (whole g) last → HasStood G most (Some g) last
-stood_after G most g None some reached = absurd (none_is_some some)
-  where
-    none_is_some : IsSome (None {A = Reached}) → ⊥
-    none_is_some h = let e = h in cc
+stood_after G most g None some reached = absurd (let e = some in cc)
 stood_after G most g (Some r) some reached = (r, refl, reached)
 
 -- ---- what was dropped

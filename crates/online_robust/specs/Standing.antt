@@ -10,6 +10,7 @@ use Rattle.stl_syntax.specs.Limits.{reach}
 use Rattle.stl_syntax.specs.SupInf.{Robustness}
 use Rattle.stl_syntax.specs.declared.node.Node.{Node}
 use Rattle.stl_syntax.specs.declared.node.Node.TheVariants.{Not, And, Or, Implies, Eventually, Always, Once, Historically}
+use Rattle.online_nodes.specs.StreamedWide.{IsUnstreamed}
 use Rattle.online_robust.specs.Reading.{HasReached, turned_by}
 use Rattle.online_robust.specs.declared.line.MarginLine.{MarginLine}
 use Rattle.online_robust.specs.declared.line.Reached.{Reached}
@@ -24,6 +25,10 @@ IsWindow (Always p a b a_in b_in) = Unit {0}
 IsWindow (Once p a b a_in b_in) = Unit {0}
 IsWindow (Historically p a b a_in b_in) = Unit {0}
 IsWindow n = ⊥
+
+-- the node has an operator of margins, or needs none
+abbrev pub IsStreamed : Node → Type 0
+IsStreamed n = (¬ IsUnstreamed n) × (¬ IsWindow n)
 
 -- a node gave out nothing yet, and nothing is kept; or it stands at a number, and its value there is kept
 abbrev pub HasStood : Function → ℕ → Option ℤ → Option Reached → Type 0

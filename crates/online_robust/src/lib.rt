@@ -7,10 +7,12 @@ mod ends;
 mod line;
 mod net;
 mod operator;
-mod put;
 mod pointwise;
+mod put;
 mod queue;
 mod station;
+mod streamed;
 
 pub use line::MarginLine;
 pub use net::{RobustFault, RobustNet};
+pub use streamed::first_unstreamed;

@@ -9,9 +9,8 @@ ghost use Rattle.stl_syntax.specs.declared.node.Node.{Node as ANode};
 ghost use Rattle.atom_lines.specs.Binding.{Binding, IsBound};
 ghost use Rattle.online_robust.specs.Held.{held_at};
 ghost use Rattle.online_robust.specs.Firsts.{AreFirstStations};
-ghost use Rattle.online_robust.specs.Standing.{IsWindow};
+ghost use Rattle.online_robust.specs.Standing.{IsStreamed};
 ghost use Rattle.online_robust.specs.Pasts.{Past, shown_of, with_row, with_end};
-ghost use Rattle.online_nodes.specs.StreamedWide.{IsUnstreamed};
 ghost use Rattle.online_robust.specs.Nets.{begun, CanGoByRow, CanGoByEnd, HasGone, IsFaultAt, IsGoFault, Passing};
 ghost use Rattle.online_robust.specs.declared.line.MarginLine.{MarginLine as Line};
 
@@ -86,8 +85,7 @@ fn fault_at(node: u32, fault: OpFault<Margin>) -> RobustFault
 
 /// The nodes of a formula, before any row.
 fn stations_of(alloc: Global, formula: &Formula) -> Result<Vec<Station>, Memory>
-    requires streamed { (i : ℕ) (n : ANode) → slice_get formula.now.nodes i ≡ Some n → ¬ IsUnstreamed n }
-    requires built { (i : ℕ) (n : ANode) → slice_get formula.now.nodes i ≡ Some n → ¬ IsWindow n }
+    requires { (i : ℕ) (n : ANode) → slice_get formula.now.nodes i ≡ Some n → IsStreamed n }
     ensures { IfOk result (λ v. AreFirstStations formula.now.nodes (length formula.now.nodes) v.items) }
 {
     let mut stations = Vec::new(alloc);
@@ -174,8 +172,7 @@ impl RobustNet {
     /// `Memory` where there is no memory.
     pub fn new(alloc: Global, formula: &Formula, bound: Bound) -> Result<RobustNet, Memory>
         requires bound { (header : Header) × IsBound bound formula.now header }
-        requires streamed { (i : ℕ) (n : ANode) → slice_get formula.now.nodes i ≡ Some n → ¬ IsUnstreamed n }
-        requires built { (i : ℕ) (n : ANode) → slice_get formula.now.nodes i ≡ Some n → ¬ IsWindow n }
+        requires streamed { (i : ℕ) (n : ANode) → slice_get formula.now.nodes i ≡ Some n → IsStreamed n }
         ensures stands { (header : Header) → IsBound bound formula.now header
             → IfOk result (λ net. StandsFor formula.now.nodes header net no_past []) }
         ensures nodes { IfOk result (λ net. length net.stations ≡ length formula.now.nodes) }

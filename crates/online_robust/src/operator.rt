@@ -1,7 +1,6 @@
 //! The operator of a node: what it keeps in mind of its inputs, and how it goes on.
 ghost use Rattle.std.specs.Prelude.{◌≡◌, IfOk, IfErr, OnOk, Some, None};
-ghost use Rattle.online_nodes.specs.StreamedWide.{IsUnstreamed};
-ghost use Rattle.online_robust.specs.Standing.{IsWindow};
+ghost use Rattle.online_robust.specs.Standing.{IsStreamed};
 ghost use Rattle.online_robust.specs.declared.operator.Operator.TheVariants as Op;
 ghost use Rattle.online_robust.specs.Turns.{Turn, Belongs, BelongsSomewhere, HasSwept, IsFirstOperator, IsStreamedFault, IsSwept, StandsNow};
 
@@ -76,8 +75,7 @@ fn sweep_two(
 impl Operator {
     /// The operator of a node before it gave out anything; none at a constant and at an atom. Windows are not built yet.
     pub(crate) fn new(node: &Node) -> Option<Operator>
-        requires streamed { ¬ IsUnstreamed node.now }
-        requires built { ¬ IsWindow node.now }
+        requires { IsStreamed node.now }
         ensures { IsFirstOperator node.now result }
     {
         match node {

@@ -19,9 +19,11 @@ take_end-requires c =
     let within : c.loop-i.i < length p.nodes = omega (arith, all, same, test, end) in
     let low : c.loop-i.i < length c.loop-i.stations.items = omega (arith, same, test, end) in
     let here : slice_get c.loop-i.stations.items c.loop-i.i ≡ Some c.index_mut.result.now =
-    slice_get-get_or c.loop-i.stations.items c.loop-i.i c.index_mut.result.now low ∙ ap Some (sym c.index_mut.ensures.value) in
-    (move_of p c.loop-i.i, can_move_by_end p c.args.edges.now c.args.stations.now.items g.0 c.loop-i.i c.loop-i.edges c.loop-i.stations.items c.index_mut.result.now within
-    here (c.loop-i.invariant.1 p g) c.args.now c.loop-i.i refl g.1)
+    slice_get-get_or c.loop-i.stations.items c.loop-i.i c.index_mut.result.now low ∙ ap Some (sym c.index_mut.ensures.value) in (
+      move_of p c.loop-i.i,
+      can_move_by_end p c.args.edges.now c.args.stations.now.items g.0 c.loop-i.i c.loop-i.edges c.loop-i.stations.items c.index_mut.result.now within
+          here (c.loop-i.invariant.1 p g) c.args.now c.loop-i.i refl g.1,
+    )
 
 pub returns-in-Err-clause-fault : goal.returns-in-Err-clause-fault
 returns-in-Err-clause-fault c = λ p g.
@@ -55,7 +57,7 @@ loop-i-preserved c = (
       (going_next p c.args.edges.now c.args.stations.now.items g.0 c.loop-i.i c.loop-i.edges c.loop-i.stations.items c.index_mut.result.now within
       here (c.loop-i.invariant.1 p g) c.take_end.new.edges c.take_end.new.self c.take_end.ensures.ahead
       (c.in-Ok.ensures.moved (move_of p c.loop-i.i) (can_move_by_end p c.args.edges.now c.args.stations.now.items g.0 c.loop-i.i c.loop-i.edges c.loop-i.stations.items c.index_mut.result.now within
-    here (c.loop-i.invariant.1 p g) c.args.now c.loop-i.i refl g.1))),
+      here (c.loop-i.invariant.1 p g) c.args.now c.loop-i.i refl g.1))),
 )
 
 pub returns-clause-gone : goal.returns-clause-gone

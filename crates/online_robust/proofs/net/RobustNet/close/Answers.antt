@@ -45,8 +45,7 @@ invariant_of-self c running =
     let is_now = subst (λ o. IfSome o (λ q. c.time-now.result ≡ q.time)) (sym c.in-Some.is) c.time-now.ensures in
     let net = the_view c.self.inside in
     let pass = passing_end nodes header net past given st some c.if-self-2.false c.time-now.result is_now in
-    let may = can_end nodes header net past given st some c.if-self-2.false c.time-now.result is_now in
-    (
+    let may = can_end nodes header net past given st some c.if-self-2.false c.time-now.result is_now in (
       nodes,
       header,
       with_end past,

@@ -58,8 +58,7 @@ invariant_of-self-in-Ok-take_row_all c running =
     let small : r.time ≤ 4294967295 = omega arith in
     let net = the_view c.self.inside in
     let pass = passing_row nodes header net past given st r width later small c.if-self-2.false in
-    let may = row_may nodes header net past given st r width later small c.if-self-2.false c.begin_at.new.edges c.time-now.result c.time-now.ensures c.begin_at.ensures in
-    (
+    let may = row_may nodes header net past given st r width later small c.if-self-2.false c.begin_at.new.edges c.time-now.result c.time-now.ensures c.begin_at.ensures in (
       nodes,
       header,
       with_row past r,
