@@ -1,5 +1,5 @@
 -- A network stands for a past: a new one for no rows, and one that took a row, or the end, for the past with it.
-use Rattle.std.proofs.Common.{◌≡◌, ◌≢◌, inl, inr, ℕ, suc, zero, ◌+◌, ◌-◌, ◌<◌, ◌≤◌, Bool, true, false, List, [], ◌∷◌, ◌++◌, length, drop, refl, sym, ap, subst, ◌∙◌, arith, append-nil, Option, Some, None, pos, get_or}
+use Rattle.std.proofs.Common.{◌≡◌, ◌≢◌, inl, inr, ℕ, suc, zero, ◌+◌, ◌-◌, ◌^◌, ◌<◌, ◌≤◌, Bool, true, false, List, [], ◌∷◌, ◌++◌, length, drop, refl, sym, ap, subst, ◌∙◌, arith, append-nil, Option, Some, None, pos, get_or}
 use Rattle.std.specs.Prelude.{IfSome, map, option_map, replicate, slice_get}
 use Rattle.std.proofs.lemmas.Bool.{false≢true}
 use Rattle.pl_signal.proofs.Values.{some_is}
@@ -19,10 +19,15 @@ use Rattle.online_robust.specs.Standing.{Stands}
 use Rattle.online_robust.specs.Turns.{seen_by}
 use Rattle.online_robust.specs.Pasts.{Past, with_row, with_end, part_of, Gave, IsWork}
 use Rattle.online_robust.specs.Moving.{last_row_of, last_row_after}
-use Rattle.online_robust.specs.Nets.{begun, first_row_of, no_past, AreRowsSoFar, CanGoByEnd, CanGoByRow, HasGone, IsFault, IsGoFault, IsHeldBy, IsTaken, IsWideIn, Keeps, Parts, Passing, StandsFor}
+use Rattle.online_robust.specs.Nets.{begun, first_row_of, no_past, AreRowsSoFar, CanGoByEnd, CanGoByRow, HasGone, IsFault, IsGoFault, IsHeldBy, IsNear, IsTaken, IsTimely, IsWideIn, Keeps, Parts, Passing, StandsFor}
 use Rattle.online_robust.specs.declared.net.RobustFault.{RobustFault}
 use Rattle.online_robust.specs.declared.net.RobustFault.TheVariants.{Wide, Stopped, Closed, Memory}
+use Rattle.rational.specs.Rational.{Rational, IsWithin}
+use Rattle.rational.proofs.Order.{le_trans}
+use Rattle.frac128.specs.Value.{value}
+use Rattle.online_robust.specs.Told.{IsTick}
 use Rattle.online_robust.specs.declared.line.MarginLine.{MarginLine}
+use Rattle.online_robust.specs.declared.line.MarginLine.TheVariants.{Point, Gap}
 use Rattle.online_robust.specs.declared.station.Station.{Station}
 use Rattle.online_robust.specs.declared.station.Work.{Work}
 use Rattle.online_robust.specs.declared.station.Work.TheVariants as W
@@ -352,6 +357,18 @@ module _ (nodes : List Node) (header : Header) (net : Parts) (past : Past) (give
   pub taken_stands : (new : Parts) (o : Option MarginLine) → IsTaken nodes header past given new o → (more : List MarginLine) × StandsFor nodes header new past more
   taken_stands new None h = (given, h.stands)
   taken_stands new (Some line) h = (given ++ line ∷ [], h.stands)
+
+  -- the times of a line that is given
+  pub taken_near : (new : Parts) (o : Option MarginLine) → IsTaken nodes header past given new o → IfSome o IsNear
+  taken_near new None h = tt
+  taken_near new (Some line) h = near line h.timely
+    where
+      within : (t : Rational) → IsTick t → IsWithin (2 ^ 34) t
+      within t tick = (le_trans (record { le = omega arith }) tick.0, le_trans tick.1 (record { le = omega arith }))
+
+      near : (x : MarginLine) → IsTimely x → IsNear x
+      near (Point at v) h = within (value at) h
+      near (Gap from to p) h = (within (value from) h.0, within (value to) h.1)
 
   -- what an edge holds
   pub held_by : (i : ℕ) → i < length net.stations → IsHeldBy nodes header past (length given) i (length (held_at net.edges i))

@@ -1,5 +1,6 @@
 -- What a network of margins holds, when it stands for a past, and what its calls answer.
-use Rattle.std.specs.Prelude.{◌≡◌, ◌≢◌, ℕ, ◌-◌, ◌<◌, ◌≤◌, nat_lt, if◌then◌else◌, Bool, true, false, pos, List, [], ◌∷◌, ◌++◌, length, map, Option, Some, None, option_map, slice_get}
+use Rattle.std.specs.Prelude.{◌≡◌, ◌≢◌, ℕ, ◌-◌, ◌^◌, ◌<◌, ◌≤◌, nat_lt, if◌then◌else◌, Bool, true, false, pos, List, [], ◌∷◌, ◌++◌, length, map, Option, Some, None, option_map, slice_get}
+use Rattle.rational.specs.Rational.{IsWithin}
 use Rattle.rational.specs.Time.{Rational}
 use Rattle.frac128.specs.Value.{value}
 use Rattle.stl_syntax.specs.Trace.{Continues, Header, Row, Trace, IsTrace, first_time, last_time}
@@ -168,6 +169,11 @@ pub record IsClosed (old new : Parts) : Type 0 where
 abbrev pub IsTimely : MarginLine → Type 0
 IsTimely (Point at v) = IsTick (value at)
 IsTimely (Gap from to p) = IsTick (value from) × IsTick (value to)
+
+-- so they are within 2^34
+abbrev pub IsNear : MarginLine → Type 0
+IsNear (Point at v) = IsWithin (2 ^ 34) (value at)
+IsNear (Gap from to p) = IsWithin (2 ^ 34) (value from) × IsWithin (2 ^ 34) (value to)
 
 -- a line of the root that is given: its times have 32 bits, and it is the margin of the formula in each trace that goes on from the rows
 pub record IsGiven (nodes : List Node) (header : Header) (past : Past) (given : List MarginLine) (new : Parts) (line : MarginLine) : Type 0 where

@@ -12,7 +12,7 @@ use Rattle.pl_signal.specs.declared.knot.Knot.{Knot}
 use Rattle.stl_syntax.specs.Trace.{Row, row_time}
 use Rattle.atom_lines.specs.Binding.{Binding}
 use Rattle.atom_lines.specs.Points.{IsMarginAt, IsMarginOn}
-use Rattle.online_robust.specs.Held.{Held, edge_at, with_edge, with_more}
+use Rattle.online_robust.specs.Held.{Held, edge_at, with_edge, with_more, with_number}
 use Rattle.online_robust.specs.declared.line.MarginLine.{MarginLine}
 use Rattle.online_robust.specs.declared.line.MarginLine.TheVariants.{Point, Gap}
 
@@ -36,6 +36,11 @@ lines_of false (k ∷ knots) = lines_after k knots
 pub record HasPut (node : ℕ) (more : List MarginLine) (old new : Held) : Type 0 where
   pub edges : new.edges ≡ with_edge old node (with_more (edge_at old node) more)
   pub start : new.start ≡ old.start
+
+-- so did it, and then its number was noted
+abbrev pub HasPutOut : ℕ → List MarginLine → ℕ → Held → Held → Type 0
+HasPutOut node more to old new =
+    (e : Held) × HasPut node more old e × (new ≡ record e { edges = with_edge e node (with_number (edge_at e node) (pos to)) })
 
 -- the lines of a row, after the row before, if there is one: the gap since then with this margin, and the point with that value
 abbrev pub AreRowLines : Option Row → Row → Margin → Margin → List MarginLine → Type 0

@@ -162,7 +162,7 @@ fn take_end_all(
 }
 
 impl RobustNet {
-    ghost use Rattle.online_robust.specs.Nets.{no_past, IsClosed, IsFault, IsFed, IsHeldBy, IsTaken, IsWideIn, left_of, StandsFor};
+    ghost use Rattle.online_robust.specs.Nets.{no_past, IsClosed, IsFault, IsFed, IsHeldBy, IsNear, IsTaken, IsWideIn, left_of, StandsFor};
 
     /// The network of a formula that is bound to a header's columns, and has no until and no since. Windows are not built yet, so it has
     /// none of them either. It stands for no rows.
@@ -299,6 +299,7 @@ impl RobustNet {
         ensures stopped { self.old.stopped ≡ true → (result ≡ None) × (self.new ≡ self.old) }
         ensures taken { (nodes : List ANode) (header : Header) (past : Past) (given : List Line) → StandsFor nodes header self.old past given
             → IsTaken nodes header past given self.new result }
+        ensures near { IfSome result IsNear }
         ensures fewer { IfSome result (λ _. left_of self.new < left_of self.old) }
         ensures nodes { length self.new.stations ≡ length self.old.stations }
         ensures bound { self.new.bound ≡ self.old.bound }

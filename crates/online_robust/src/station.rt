@@ -6,6 +6,7 @@ ghost use Rattle.stl_syntax.specs.Trace.{Header};
 ghost use Rattle.stl_syntax.specs.declared.node.Node.{Node as ANode};
 ghost use Rattle.online_robust.specs.Standing.{IsStreamed};
 ghost use Rattle.online_robust.specs.Turns.{IsLeaf};
+ghost use Rattle.online_robust.specs.Putting.{lines_of, HasPutOut};
 ghost use Rattle.online_robust.specs.Moving.{Move, CanGiveOut, CanGoTo, CanMoveByRow, CanMoveByEnd, HasMoved, IsFaultOf};
 ghost use Rattle.online_robust.specs.Firsts.{IsFirstWork};
 ghost use Rattle.online_robust.specs.declared.station.Work.TheVariants as W;
@@ -15,7 +16,7 @@ use crate::operator::Operator;
 use crate::put::{put_atom, put_const, put_signal};
 use atom_lines::Bound;
 use frac128::Memory;
-use pl_signal::OpFault;
+use pl_signal::{OpFault, Signal};
 use std::alloc::Global;
 use stl_syntax::Node;
 use trace_reader::Row;
@@ -121,6 +122,22 @@ fn was_shown(number: Option<i64>, start: u32) -> bool
     }
 }
 
+/// Puts the parts of a signal onto an edge, and notes up to where they go.
+fn put_out(
+    edges: &mut Edges,
+    node: u32,
+    s: &Signal<Margin>,
+    with_first: bool,
+    to: u32,
+) -> Result<(), Memory>
+    requires { node < length edges.old.edges }
+    ensures { OnOk result (HasPutOut node (lines_of with_first s.now) to edges.old edges.new) }
+{
+    put_signal(edges, node, s, with_first)?;
+    edges.reach(node, i64::from(to));
+    Ok(())
+}
+
 /// An operator gives out its margins from the number at which it stood, or from the start, on up to another.
 fn give_out(
     alloc: Global,
@@ -135,10 +152,15 @@ fn give_out(
         → OnOk result (HasMoved m (W.Operator operator.new) edges.old edges.new) }
     ensures fault { (m : Move) → CanGiveOut m node operator.old edges.old to with_first → IfErr result (IsFaultOf m) }
 {
-    let swept = operator.sweep(alloc, edges, to)?;
-    put_signal(edges, node, &swept, with_first)?;
-    edges.reach(node, i64::from(to));
-    Ok(())
+    match operator.sweep(alloc, edges, to) {
+        Ok(swept) => {
+            let Ok(()) = put_out(edges, node, &swept, with_first, to) else {
+                return Err(OpFault::Memory);
+            };
+            Ok(())
+        }
+        Err(fault) => Err(fault),
+    }
 }
 
 /// An operator goes on to a number: where that is not below the start, and above the number at which it stood, it gives out its margins

@@ -25,7 +25,8 @@ pub fn first_unstreamed(formula: &Formula) -> Option<u32>
     ensures { MatchOption result ((i : ℕ) (n : ANode) → slice_get formula.now.nodes i ≡ Some n → IsStreamed n) (λ i. i < length formula.now.nodes) }
 {
     for i in 0..formula.len() {
-        if !is_streamed(formula.node(i)) {
+        let streamed = is_streamed(formula.node(i));
+        if !streamed {
             return Some(i);
         }
     }

@@ -5,7 +5,7 @@ use Rattle.online_robust.specs.Nets.{Parts, StandsFor, IsTaken}
 use Rattle.online_robust.specs.Pasts.{Past}
 use Rattle.online_robust.specs.contracts.net.RobustNet.{the_view}
 use Rattle.online_robust.specs.declared.line.MarginLine.{MarginLine}
-use Rattle.online_robust.proofs.Standings.{taken, taken_stands}
+use Rattle.online_robust.proofs.Standings.{taken, taken_near, taken_stands}
 use Rattle.online_robust.proofs.net.RobustNet.take.Goals as goal
 use Rattle.online_robust.proofs.net.RobustNet.take.Goals.{After-take}
 
@@ -25,3 +25,9 @@ invariant_of-self c running =
 pub returns-clause-taken : goal.returns-clause-taken
 returns-clause-taken c nodes header past given st =
     left c nodes header past given (subst (λ (p : Parts). StandsFor nodes header p past given) (sym c.self.view_is) st)
+
+pub returns-clause-near : goal.returns-clause-near
+returns-clause-near c =
+    let (nodes, header, past, given, st) = c.self.invariant c.if-self.false in
+    taken_near nodes header (the_view c.self.inside) past given st (record (the_view c.self.inside) { edges = c.take.new.self }) c.take.result
+    (left c nodes header past given st)
