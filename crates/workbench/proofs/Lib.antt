@@ -44,3 +44,6 @@ pub mod WatchedRows
 pub mod Reported
 pub mod OneFault
 pub mod SessionsTold
+pub mod Summaries
+pub mod NumberWords
+pub mod Fitting

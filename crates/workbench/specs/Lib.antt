@@ -26,3 +26,5 @@ pub mod Accounts
 pub mod Watching
 pub mod Watches
 pub mod SureLines
+pub mod Numerals
+pub mod Made
