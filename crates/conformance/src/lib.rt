@@ -20,6 +20,8 @@ mod explain_tests;
 #[cfg(test)]
 mod frac128_tests;
 #[cfg(test)]
+mod gen_tests;
+#[cfg(test)]
 mod io_edge_tests;
 #[cfg(test)]
 mod margin_tests;

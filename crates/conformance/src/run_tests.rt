@@ -686,13 +686,22 @@ fn refused<'a>(words: &'a [&'a str], err: &'a str, status: u8) -> Case<'a> {
     }
 }
 
-const USAGE: &str = "usage: check F | watch F | robust F | explain F | json F | table F\n";
+const USAGE: &str =
+    "usage: check F | watch F | robust F | explain F | json F | table F | gen NUMBER ROWS\n";
 
 /// Words that are no form.
-const NO_FORMS: [&[&str]; 6] = [
+const NO_FORMS: [&[&str]; 14] = [
     &[],
     &["check"],
+    &["gen"],
+    &["gen", "1"],
+    &["gen", "1", "1", "1"],
     &["gen", "1", "0"],
+    &["gen", "1", "200001"],
+    &["gen", "18446744073709551616", "1"],
+    &["gen", "+1", "1"],
+    &["gen", "", "1"],
+    &["gen", "1", "1.0"],
     &["early", "x >= 5"],
     &["robust"],
     &["check", "x >= 5", "y"],

@@ -47,3 +47,4 @@ pub mod SessionsTold
 pub mod Summaries
 pub mod NumberWords
 pub mod Fitting
+pub mod Completing

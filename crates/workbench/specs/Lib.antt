@@ -28,3 +28,4 @@ pub mod Watches
 pub mod SureLines
 pub mod Numerals
 pub mod Made
+pub mod Complete
