@@ -30,6 +30,8 @@ pub mod NoForm
 pub mod MarginTruth
 pub mod RowsBefore
 pub mod MarginTexts
+mod ExplainTexts
+mod JsonTexts
 pub mod OwedLaws
 pub mod SureLines
 pub mod OneRequest
