@@ -7,7 +7,11 @@ const SUMMARIES: [(&str, &str, &str); 6] = [
     ("0", "1", "rows 1\ncheck 1\nwatch 1\nstart false\n"),
     ("3", "5", "rows 5\ncheck 1\nwatch 2\nstart true\n"),
     ("3", "100", "rows 100\ncheck 16\nwatch 112\nstart true\n"),
-    ("0003", "0100", "rows 100\ncheck 16\nwatch 112\nstart true\n"),
+    (
+        "0003",
+        "0100",
+        "rows 100\ncheck 16\nwatch 112\nstart true\n",
+    ),
     (
         "18446744073709551615",
         "1",

@@ -8,6 +8,8 @@ pub use shapes::greater_at;
 #[cfg(test)]
 mod atom_lines_tests;
 #[cfg(test)]
+mod device_tests;
+#[cfg(test)]
 mod dropping;
 #[cfg(test)]
 mod dropping_tests;
