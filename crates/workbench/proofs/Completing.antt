@@ -75,11 +75,11 @@ wide_own (generated number rows) bytes text ended i den w = absurd w
 overfull_own : (request : Request) (bytes : List ℕ) (ended : Bool) (count : ℕ) → IsOverfull request bytes ended count → IsOwnStatus request 9
 overfull_own no_form bytes ended count h = h
 overfull_own (refused line) bytes ended count h = h
-overfull_own (whole check f) bytes ended count (e, t, is, many) = absurd many
-overfull_own (whole robust f) bytes ended count (e, t, is, many) = absurd many
+overfull_own (whole check f) bytes ended count (e, (t, is, many)) = absurd many
+overfull_own (whole robust f) bytes ended count (e, (t, is, many)) = absurd many
 overfull_own (whole explain f) bytes ended count h = inr (inr refl)
 overfull_own (whole json f) bytes ended count h = inr (inr (inr refl))
-overfull_own (whole table f) bytes ended count (e, t, is, many) = absurd many
+overfull_own (whole table f) bytes ended count (e, (t, is, many)) = absurd many
 overfull_own (stream verdicts f) bytes ended count h = absurd h
 overfull_own (stream early f) bytes ended count h = absurd h
 overfull_own (stream margins f) bytes ended count h = absurd h
@@ -132,26 +132,29 @@ full_own (stream s f) read left ended count at h = absurd h
 full_own (sessions f) read left ended count at h = absurd h
 full_own (generated number rows) read left ended count at h = absurd h
 
-module _ (request : Request) (i : Drained) (o : Filled) (read left text : List ℕ) (fit : AreFit request (read ++ left)) (calm : ¬ HasFailed i) (quiet : ¬ HasRefused o)
-    where
-  abbrev Own : ℕ → Type 0
-  Own status = IsOwnStatus request status × IsComplete request (read ++ left) text status
+-- a status of the command's own, and what came of all bytes
+abbrev Own : Request → List ℕ → List ℕ → ℕ → Type 0
+Own request bytes text status = IsOwnStatus request status × IsComplete request bytes text status
 
-  own_settled : {status : ℕ} {line : List ℕ} → (status ≢ 7 → i.ended ≡ true → left ≡ []) → IsSettled read i.ended request status line text → Own status
-  own_settled at none = absurd fit
-  own_settled at bad = absurd fit
-  own_settled at (faulty {line = line} h prompt owed) = absurd (fit_has_none request read left line i.ended (at (λ k. omega (arith, k))) fit h)
-  own_settled at (answered {status = status} h) = let own = answer_own request read left text i.ended status at fit h in (own.0, complete_answer own.1)
-  own_settled at (wide n den h) =
-      (wide_own request read text i.ended n den h, complete_wide read left i.ended n den refl (at (λ k. omega (arith, k))) h)
-  own_settled at (overfull count h) =
-      (overfull_own request read i.ended count h, complete_overfull count (full_own request read left i.ended count (at (λ k. omega (arith, k))) h) refl)
+own_settled : (request : Request) (read left text line : List ℕ) (ended : Bool) (status : ℕ) → AreFit request (read ++ left)
+    → (status ≢ 7 → ended ≡ true → left ≡ []) → IsSettled read ended request status line text → Own request (read ++ left) text status
+own_settled request read left text line ended status fit at none = absurd fit
+own_settled request read left text line ended status fit at bad = absurd fit
+own_settled request read left text line ended status fit at (faulty h prompt owed) =
+    absurd (fit_has_none request read left line ended (at (λ k. omega (arith, k))) fit h)
+own_settled request read left text line ended status fit at (answered h) =
+    let own = answer_own request read left text ended status at fit h in (own.0, complete_answer own.1)
+own_settled request read left text line ended status fit at (wide n den h) =
+    (wide_own request read text ended n den h, complete_wide read left ended n den refl (at (λ k. omega (arith, k))) h)
+own_settled request read left text line ended status fit at (overfull count h) =
+    (overfull_own request read ended count h, complete_overfull count (full_own request read left ended count (at (λ k. omega (arith, k))) h) refl)
 
-  own_end : {status : ℕ} {line : List ℕ} → (status ≢ 7 → i.ended ≡ true → left ≡ []) → IsEnd request i o read text status line → Own status
-  own_end at (settled h) = own_settled at h
-  own_end at (unread has ended failed sound owed) = absurd (calm failed)
-  own_end at (unwritten rest some failed begun timely) = absurd (quiet failed)
-  own_end at (no_memory known begun timely) = (starved_own request (read ++ left) fit, complete_starved)
+own_end : (request : Request) (i : Drained) (o : Filled) (read left text line : List ℕ) (status : ℕ) → AreFit request (read ++ left) → (¬ HasFailed i)
+    → (¬ HasRefused o) → (status ≢ 7 → i.ended ≡ true → left ≡ []) → IsEnd request i o read text status line → Own request (read ++ left) text status
+own_end request i o read left text line status fit calm quiet at (settled h) = own_settled request read left text line i.ended status fit at h
+own_end request i o read left text line status fit calm quiet at (unread has ended failed sound owed) = absurd (calm failed)
+own_end request i o read left text line status fit calm quiet at (unwritten rest some failed begun timely) = absurd (quiet failed)
+own_end request i o read left text line status fit calm quiet at (no_memory known begun timely) = (starved_own request (read ++ left) fit, complete_starved)
 
 -- the end of a request that reads nothing
 made_settled : (number rows : ℕ) (read text line : List ℕ) (ended : Bool) {status : ℕ} → IsSettled read ended (generated number rows) status line text
@@ -189,7 +192,7 @@ module _ (words : List (List ℕ)) (request : Request) (i : Drained) (o : Filled
       by_input : (b : Bool) → has_input request ≡ b → IsCompleteRun request o bytes status
       by_input true has =
           let (left, after, parts) = rest_of i.before i.after bytes read (calm.held has) moved in
-          let own = own_end request i o read left text (subst (AreFit request) parts calm.fit) calm.source_works calm.sink_works
+          let own = own_end request i o read left text line status (subst (AreFit request) parts calm.fit) calm.source_works calm.sink_works
           (λ n said. subst IsAtEnd after ((at n (ap has_input same ∙ has)).none_left said)) ended in
           record { text = text; grew = grew; own = own.0; is = subst (λ b. IsComplete request b text status) (sym parts) own.1 }
       by_input false has =

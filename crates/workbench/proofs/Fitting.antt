@@ -16,6 +16,7 @@ use Rattle.trace_reader.proofs.LineLemmas.{done}
 use Rattle.trace_reader.proofs.TraceRefusalLaw.{heading-unique}
 use Rattle.workload.specs.Generated.{ticks, columns, generated, generated_bytes}
 use Rattle.workload.specs.Judged.{judged_formula}
+use Rattle.workload.proofs.Listed.{all_of}
 use Rattle.workload.proofs.RowLines.{heading}
 use Rattle.workload.proofs.TraceBytes.{header, header_first, is_heading, rest_bytes, bytes_of_trace}
 use Rattle.workbench.specs.InputFaults.{Fault, whole_limits, IsHeaderAt, here, later, IsUnknownIn, IsUnitIn, IsInputFault}
@@ -30,25 +31,21 @@ header_is : (more : List Line) (n : ℕ) (h : Heading) → IsHeaderAt (done head
 header_is more _ h (here whole solid is) = heading-unique (fields (done header)) h heading is is_heading
 header_is more _ h (later whole blank at) = absurd (false≢true blank)
 
--- what holds of each node
-each : (P : Node → Type 0) (a b c d e f g h i j : Node) → P a → P b → P c → P d → P e → P f → P g → P h → P i → P j
-    → All P (a ∷ b ∷ c ∷ d ∷ e ∷ f ∷ g ∷ h ∷ i ∷ j ∷ [])
-each P a b c d e f g h i j pa pb pc pd pe pf pg ph pi pj =
-    All-cons P a _ pa (All-cons P b _ pb (All-cons P c _ pc (All-cons P d _ pd (All-cons P e _ pe (All-cons P f _ pf (All-cons P g _ pg
-    (All-cons P h _ ph (All-cons P i _ pi (All-cons P j [] pj (All-nil P))))))))))
-
 -- each term of an atom of one column names one
-one_term : {t : Term} → HasColumn columns t → All (HasColumn columns) (t ∷ [])
-one_term {t} h = All-cons (HasColumn columns) t [] h (All-nil (HasColumn columns))
+one_term : (t : Term) → HasColumn columns t → All (HasColumn columns) (t ∷ [])
+one_term t h = All-cons (HasColumn columns) t [] h (All-nil (HasColumn columns))
 
 all_named : All (HasColumns columns) judged_formula.nodes
-all_named = each (HasColumns columns) _ _ _ _ _ _ _ _ _ _ (one_term refl) (one_term refl) tt tt tt (one_term refl) (one_term refl) tt tt tt
+all_named =
+    all_of (HasColumns columns) judged_formula.nodes
+    (one_term _ refl, (one_term _ refl, (tt, (tt, (tt, (one_term _ refl, (one_term _ refl, (tt, (tt, (tt, tt))))))))))
 
 -- no constant is large
 small_constants : All (λ n. ¬ HasLargeConstant n) (scaled judged_formula ticks).nodes
 small_constants =
-    each (λ n. ¬ HasLargeConstant n) _ _ _ _ _ _ _ _ _ _ (λ h. omega (arith, h)) (λ h. omega (arith, h)) (λ h. h) (λ h. h) (λ h. h) (λ h. omega (arith, h))
-    (λ h. omega (arith, h)) (λ h. h) (λ h. h) (λ h. h)
+    all_of (λ n. ¬ HasLargeConstant n) (scaled judged_formula ticks).nodes
+    (λ h. omega (arith, h), (λ h. omega (arith, h), (λ h. h, (λ h. h, (λ h. h, (λ h. omega (arith, h), (λ h. omega (arith, h),
+    (λ h. h, (λ h. h, (λ h. h, tt))))))))))
 
 no_unit_fault : (fault : UnitFault) → ¬ IsUnitFault judged_formula ticks fault
 no_unit_fault fault (inl (i, first, e)) = All-get (λ n. ¬ HasLargeConstant n) (scaled judged_formula ticks).nodes i first.node small_constants first.at first.is

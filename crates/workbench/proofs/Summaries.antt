@@ -31,6 +31,7 @@ use Rattle.report.proofs.SignalLaw.{truth_at, signal_describes}
 use Rattle.workbench.specs.Cases.{IsCase}
 use Rattle.workbench.specs.Generator.{IsSummary}
 use Rattle.workbench.specs.Judging.{IsRootOf}
+use Rattle.workbench.proofs.Endings.{some_rows}
 use Rattle.workbench.proofs.Judged.{at_start}
 use Rattle.workbench.specs.declared.case.Case.{Case}
 
@@ -85,41 +86,45 @@ module _ (number rows : ℕ) (some : 1 ≤ rows) (few : rows ≤ 200000) (vs : L
       counted : (x : List ℕ) (m : ℕ) → line_count x ≡ m → line_count (x ++ start_line holds) ≡ suc m
       counted x m e = let a = count_join x (start_line holds) in let b = one holds in omega (arith, a, b, e)
 
+-- the generated trace has a row
+pub has_rows : (number rows : ℕ) → 1 ≤ rows → rows ≤ 200000 → (t : Trace) → t ≡ generated number rows → 0 < length t.rows
+has_rows number rows some few t same =
+    subst (λ (u : Trace). 0 < length u.rows) (sym same) (some_rows _ (generated number rows).rows (text_of_trace number rows some few).rising.rows)
+
+-- the text of a summary
+abbrev pub summary_text : ℕ → ℕ → ℕ → Bool → List ℕ
+summary_text rows checked streamed holds =
+    codes "rows " ++ decimal rows ++ newline ++ codes "check " ++ decimal checked ++ newline ++ codes "watch " ++ decimal streamed ++ newline
+    ++ start_line holds
+
 -- a count of the lines of a stream over a trace, by the verdicts of the whole trace and how far the formula looks ahead
 abbrev pub IsCount : List Verdict → Trace → ℕ → ℕ → Type 0
 IsCount vs t ahead n =
     (p : Subformula) → IsTrace t → 0 < horizon p → ahead ≡ horizon p → Describes vs p t (closed (start t) (stop t)) → HasStreamLines p t n
+
+-- the truth of the formula at the start of a trace
+abbrev pub IsNow : Bool → Subformula → Trace → Type 0
+IsNow holds p t = MatchBool holds (Truth p t (start t)) (¬ Truth p t (start t))
+
+-- the verdicts of the formula over all of a trace
+abbrev pub AreAll : List Verdict → Subformula → Trace → Type 0
+AreAll vs p t = Describes vs p t (closed (start t) (stop t))
 
 -- the summary of the generated trace, as it was read and judged
 pub summed_case : (number rows : ℕ) → 1 ≤ rows → rows ≤ 200000 → (c : Case) → IsCase judged_formula c → c.trace ≡ generated number rows
     → (x : List (Knot Kind)) → IsRootOf truth_shape truths c x → (vs : List Verdict)
     → DescribesFunction (knots.IsWorth truth_shape x) vs (closed (knots.start x) (knots.stop x)) → (ahead n : ℕ) → ahead ≡ horizon (root c.formula.nodes)
     → IsCount vs c.trace ahead n → (k : Knot Kind) → slice_get x 0 ≡ Some k → (text : List ℕ)
-    → text ≡ codes "rows " ++ decimal rows ++ newline ++ codes "check " ++ decimal (length vs) ++ newline ++ codes "watch " ++ decimal n ++ newline
-    ++ start_line k.point.holds → IsSummary number rows text
+    → text ≡ summary_text rows (length vs) n k.point.holds → IsSummary number rows text
 summed_case number rows some few c case same x is vs described ahead n far count k at text parts =
-    summed number rows some few vs n k.point.holds (along told) (subst (λ (t : Trace). HasStreamLines judged_root t n) same counted) (subst Now same now) text parts
-  where
-    roots : root c.formula.nodes ≡ judged_root
-    roots = ap (λ (g : Formula). root g.nodes) (case.formula ∙ ap (λ (t : Trace). scaled judged_formula t.header.scale) same)
-
-    abbrev Told : Trace → Type 0
-    Told t = Describes vs judged_root t (closed (start t) (stop t))
-
-    abbrev Now : Trace → Type 0
-    Now t = MatchBool k.point.holds (Truth judged_root t (start t)) (¬ Truth judged_root t (start t))
-
-    told : Told c.trace
-    told = subst (λ (p : Subformula). Describes vs p c.trace (closed (start c.trace) (stop c.trace))) roots
-        (signal_describes truth_shape (root c.formula.nodes) c.trace x is.values is.tells vs described)
-
-    along : Told c.trace → Told (generated number rows)
-    along h = subst Told same h
-
-    now : Now c.trace
-    now = subst (λ (p : Subformula). MatchBool k.point.holds (Truth p c.trace (start c.trace)) (¬ Truth p c.trace (start c.trace))) roots
-        (truth_at truth_shape (root c.formula.nodes) c.trace x is.values is.tells k.point.holds (start c.trace)
-        (at_start x k at (start c.trace) (same_sym is.tells.begins)))
-
-    counted : HasStreamLines judged_root c.trace n
-    counted = count judged_root (subst IsTrace (sym same) (text_of_trace number rows some few).rising) is_ahead (far ∙ ap horizon roots) told
+    let roots : root c.formula.nodes ≡ judged_root =
+    ap (λ (g : Formula). root g.nodes) (case.formula ∙ ap (λ (t : Trace). scaled judged_formula t.header.scale) same) in
+    let told : AreAll vs judged_root c.trace = subst (λ (p : Subformula). AreAll vs p c.trace) roots
+    (signal_describes truth_shape (root c.formula.nodes) c.trace x is.values is.tells vs described) in
+    let now : IsNow k.point.holds judged_root c.trace = subst (λ (p : Subformula). IsNow k.point.holds p c.trace) roots
+    (truth_at truth_shape (root c.formula.nodes) c.trace x is.values is.tells k.point.holds (start c.trace)
+    (at_start x k at (start c.trace) (same_sym is.tells.begins))) in
+    let counted : HasStreamLines judged_root c.trace n =
+    count judged_root (subst (λ (t : Trace). IsTrace t) (sym same) (text_of_trace number rows some few).rising) is_ahead (far ∙ ap horizon roots) told in
+    summed number rows some few vs n k.point.holds (subst (λ (t : Trace). AreAll vs judged_root t) same told)
+    (subst (λ (t : Trace). HasStreamLines judged_root t n) same counted) (subst (λ (t : Trace). IsNow k.point.holds judged_root t) same now) text parts

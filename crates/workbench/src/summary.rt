@@ -1,6 +1,6 @@
 //! What `gen` writes: how many verdict lines `check` and a stream write for a generated trace, and the truth at its start.
-ghost use Rattle.std.specs.Prelude.{◌≡◌, ◌≤◌, ◌++◌, decimal, IfOk, OnOk};
-ghost use Rattle.stl_syntax.specs.Texts.{newline};
+ghost use Rattle.std.specs.Prelude.{◌≡◌, ◌≤◌, ◌++◌, codes, decimal, IfOk, OnOk};
+ghost use Rattle.stl_syntax.specs.Texts.{newline, start_line};
 ghost use Rattle.workload.specs.Generated.{generated};
 ghost use Rattle.workload.specs.Judged.{judged_formula as formula_of_workload};
 ghost use Rattle.workbench.specs.Cases.{IsCase};
@@ -34,8 +34,10 @@ fn generated_case(alloc: Global, formula: &Formula, number: u64, rows: u32) -> R
     let mut source = CleanSource::new(bytes);
     match read_trace(&mut source, formula, LIMITS, alloc) {
         Ok(case) => Ok(case),
-        Err(Stop::NoMemory) => Err(Memory),
-        Err(_) => unreachable!(),
+        Err(stop) => match stop {
+            Stop::NoMemory => Err(Memory),
+            _ => unreachable!(),
+        },
     }
 }
 
@@ -46,6 +48,25 @@ fn put_count(text: &mut Text, name: &[u8], count: u128) -> Result<(), Memory>
     text.push(name)?;
     text.push(Buffer::new().format(count).as_bytes())?;
     text.push(b"\n")
+}
+
+/// How many rows there are, how many verdict lines `check` and a stream write for them, and the truth at the start.
+fn counts(
+    alloc: Global,
+    rows: u32,
+    checked: usize,
+    streamed: u128,
+    holds: bool,
+) -> Result<Text, Memory>
+    ensures { IfOk result (λ text. text ≡ codes "rows " ++ decimal rows ++ newline ++ codes "check " ++ decimal checked ++ newline
+        ++ codes "watch " ++ decimal streamed ++ newline ++ start_line holds) }
+{
+    let mut text = Text::new(alloc);
+    put_count(&mut text, b"rows ", u128::from(rows))?;
+    put_count(&mut text, b"check ", checked as u128)?;
+    put_count(&mut text, b"watch ", streamed)?;
+    put_start(&mut text, holds)?;
+    Ok(text)
 }
 
 /// The summary of a generated trace: how many rows it has, how many verdict lines `check` and a stream write for it before the line
@@ -60,16 +81,10 @@ pub(crate) fn summary(alloc: Global, number: u64, rows: u32) -> Result<Text, Mem
 {
     let formula = judged_formula(alloc)?;
     let case = generated_case(alloc, &formula, number, rows)?;
-    let _ = case.trace.rows();
-    let horizon = case.formula.horizon();
     let truth = truth_of(alloc, &case)?;
     let verdicts = verdicts_of(alloc, &truth)?;
-    let streamed = stream_lines(&verdicts, &case.trace, horizon);
+    let streamed = stream_lines(&verdicts, &case.trace, case.formula.horizon());
+    let _ = truth.len();
     let holds = truth.knot(0).point.holds();
-    let mut text = Text::new(alloc);
-    put_count(&mut text, b"rows ", u128::from(rows))?;
-    put_count(&mut text, b"check ", verdicts.len() as u128)?;
-    put_count(&mut text, b"watch ", streamed)?;
-    put_start(&mut text, holds)?;
-    Ok(text)
+    counts(alloc, rows, verdicts.len(), streamed, holds)
 }
