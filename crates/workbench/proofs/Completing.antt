@@ -10,12 +10,12 @@ use Rattle.report.specs.Report.{Command, check, robust, explain, json, table}
 use Rattle.workbench.specs.Requests.{Stream, verdicts, early, margins, Request, no_form, refused, whole, stream, sessions, generated, Asks, has_input}
 use Rattle.workbench.specs.InputFaults.{Fault, fault_text, whole_limits, IsInputFault}
 use Rattle.workbench.specs.Owed.{limits_of, HasTooMany}
-use Rattle.workbench.specs.Reading.{IsSound, IsWhole}
+use Rattle.trace_stream.specs.Reading.{IsSound, IsWhole}
 use Rattle.workbench.specs.Generator.{IsSummary}
 use Rattle.workbench.specs.Settled.{TellsTruth, IsVerdict, IsLastVerdict, HasFault, IsAnswered, IsAnsweredWhole, IsAnsweredByRow, IsWide, IsOverfull, IsSettled, none, bad, faulty, answered, wide, overfull}
 use Rattle.workbench.specs.Running.{IsEnd, settled, unread, unwritten, no_memory, IsReadOut, HasEnded, asked, unknown, IsRun}
 use Rattle.workbench.specs.Complete.{AreFit, IsUndisturbed, IsComplete, answered as complete_answer, wide as complete_wide, overfull as complete_overfull, no_memory as complete_starved, IsOwnStatus, IsCompleteRun}
-use Rattle.workbench.proofs.FaultsStay.{unsound}
+use Rattle.trace_stream.proofs.FaultsStay.{unsound}
 use Rattle.workbench.proofs.OneRequest.{one_request}
 
 -- the bytes that were there are those that were consumed, and the others

@@ -20,11 +20,12 @@ use Rattle.workload.proofs.Listed.{all_of}
 use Rattle.workload.proofs.RowLines.{heading}
 use Rattle.workload.proofs.TraceBytes.{header, header_first, is_heading, rest_bytes, bytes_of_trace}
 use Rattle.workbench.specs.InputFaults.{Fault, whole_limits, IsHeaderAt, here, later, IsUnknownIn, IsUnitIn, IsInputFault}
-use Rattle.workbench.specs.Reading.{IsSound, IsStop, IsReadFault}
+use Rattle.trace_stream.specs.Reading.{IsSound}
+use Rattle.workbench.specs.Reading.{IsStop, IsReadFault}
 use Rattle.workbench.specs.declared.fault.Stop.{Stop}
 use Rattle.workbench.specs.declared.fault.Stop.TheVariants.{Fault as Faulty, Unread, Unwritten, NoMemory, Wide, TooMany}
-use Rattle.workbench.proofs.FaultsStay.{unsound}
-use Rattle.workbench.proofs.Columns.{All-get, none_unknown}
+use Rattle.trace_stream.proofs.FaultsStay.{unsound}
+use Rattle.trace_stream.proofs.Columns.{All-get, none_unknown}
 
 -- the header of the bytes is the generated one
 header_is : (more : List Line) (n : ℕ) (h : Heading) → IsHeaderAt (done header ∷ more) n h → h ≡ heading

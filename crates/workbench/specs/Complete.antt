@@ -6,7 +6,7 @@ use Rattle.report.specs.Report.{check, robust, explain, json, table}
 use Rattle.workbench.specs.Requests.{verdicts, early, margins, Request, whole, stream, generated, has_input}
 use Rattle.workbench.specs.InputFaults.{whole_limits}
 use Rattle.workbench.specs.Owed.{limits_of}
-use Rattle.workbench.specs.Reading.{IsSound}
+use Rattle.trace_stream.specs.Reading.{IsSound}
 use Rattle.workbench.specs.Settled.{IsAnswered, IsWide, IsOverfull}
 
 -- the bytes have no fault for the request: for one with a formula they are those of a trace with its columns, in ticks that hold its numbers

@@ -3,11 +3,10 @@ ghost use Rattle.std.specs.Prelude.{◌≡◌, ◌≤◌, ◌++◌, codes, decim
 ghost use Rattle.stl_syntax.specs.Texts.{newline, start_line};
 ghost use Rattle.workload.specs.Generated.{generated};
 ghost use Rattle.workload.specs.Judged.{judged_formula as formula_of_workload};
-ghost use Rattle.workbench.specs.Cases.{IsCase};
+ghost use Rattle.trace_stream.specs.Cases.{IsCase};
 ghost use Rattle.workbench.specs.Generator.{IsSummary};
 
 use crate::answer::truth_of;
-use crate::case::Case;
 use crate::fault::Stop;
 use crate::reading::read_trace;
 use crate::top::LIMITS;
@@ -17,6 +16,7 @@ use itoa::Buffer;
 use report::{put_start, verdicts_of};
 use std::alloc::Global;
 use stl_syntax::{Formula, Text};
+use trace_stream::Case;
 use workload::{gen_trace, judged_formula, stream_lines};
 
 /// The generated trace, as it is read from its bytes, with the formula bound to it.

@@ -1,7 +1,7 @@
 use Rattle.std.proofs.Common.{◌≡◌, arith, length, ap, ◌∙◌, subst}
 use Rattle.std.proofs.lemmas.Result.{IfOk-weaker}
 use Rattle.stl_syntax.specs.Formula.{Formula}
-use Rattle.workbench.specs.Cases.{IsCase}
+use Rattle.trace_stream.specs.Cases.{IsCase}
 use Rattle.workbench.proofs.Summaries.{has_rows, IsCount, summary_text, summed_case}
 use Rattle.workbench.proofs.summary.summary.Goals as goal
 
