@@ -44,9 +44,28 @@ all_named =
 -- no constant is large
 small_constants : All (λ n. ¬ HasLargeConstant n) (scaled judged_formula ticks).nodes
 small_constants =
-    all_of (λ n. ¬ HasLargeConstant n) (scaled judged_formula ticks).nodes
-    (λ h. omega (arith, h), (λ h. omega (arith, h), (λ h. h, (λ h. h, (λ h. h, (λ h. omega (arith, h), (λ h. omega (arith, h),
-    (λ h. h, (λ h. h, (λ h. h, tt))))))))))
+    all_of (λ n. ¬ HasLargeConstant n) (scaled judged_formula ticks).nodes (
+      λ h. omega (arith, h),
+      (
+        λ h. omega (arith, h),
+        (
+          λ h. h,
+          (
+            λ h. h,
+            (
+              λ h. h,
+              (
+                λ h. omega (arith, h),
+                (
+                  λ h. omega (arith, h),
+                  (λ h. h, (λ h. h, (λ h. h, tt))),
+                ),
+              ),
+            ),
+          ),
+        ),
+      ),
+    )
 
 no_unit_fault : (fault : UnitFault) → ¬ IsUnitFault judged_formula ticks fault
 no_unit_fault fault (inl (i, first, e)) = All-get (λ n. ¬ HasLargeConstant n) (scaled judged_formula ticks).nodes i first.node small_constants first.at first.is

@@ -259,8 +259,22 @@ well_formed = record {
     few = omega arith;
     post_order = tree_order tree;
     atoms =
-        all_of IsLeafInLimits judged_formula.nodes (within (codes "x") Below 0 refl (lit≤ tt), (within (codes "s") AtLeast 0 refl (lit≤ tt), (tt, (tt, (tt,
-        (within (codes "s") Below 0 refl (lit≤ tt), (within (codes "x") AtLeast 500000 refl (lit≤ tt), (tt, (tt, (tt, tt))))))))));
+        all_of IsLeafInLimits judged_formula.nodes (
+          within (codes "x") Below 0 refl (lit≤ tt),
+          (
+            within (codes "s") AtLeast 0 refl (lit≤ tt),
+            (
+              tt,
+              (
+                tt,
+                (
+                  tt,
+                  (within (codes "s") Below 0 refl (lit≤ tt), (within (codes "x") AtLeast 500000 refl (lit≤ tt), (tt, (tt, (tt, tt))))),
+                ),
+              ),
+            ),
+          ),
+        );
     bounds = all_of HasBounds judged_formula.nodes (tt, (tt, (lit≤ tt, (tt, (lit≤ tt, (tt, (tt, (lit≤ tt, (tt, (tt, tt))))))))));
     reach = lit≤ tt;
   };
