@@ -9,7 +9,7 @@ use Rattle.online_robust.proofs.streamed.first_unstreamed.Goals as goal
 pub loop-i-preserved : goal.loop-i-preserved
 loop-i-preserved c =
     below_more (λ k. (n : Node) → slice_get c.args.formula.now.nodes k ≡ Some n → IsStreamed n) c.loop-i.i c.loop-i.invariant
-    (λ n at. subst IsStreamed (some_is (sym c.node.ensures.node ∙ at)) (c.is_streamed-streamed.ensures ?))
+    (λ n at. subst IsStreamed (some_is (sym c.node.ensures.node ∙ at)) (c.is_streamed-streamed.ensures c.if-not-streamed.false))
 
 pub returns : goal.returns
 returns c = λ i n at.
