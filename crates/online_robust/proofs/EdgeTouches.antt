@@ -1,19 +1,18 @@
 -- What an edge must hold of the parts of a node is what is left when those that end too early are dropped from the front.
-use Rattle.std.proofs.Common.{◌≡◌, ◌≢◌, ◌⊎◌, inl, inr, ℕ, suc, zero, ◌+◌, ◌-◌, ◌<◌, ◌≤◌, Bool, true, false, List, [], ◌∷◌, ◌++◌, length, drop, refl, sym, ap, subst, ◌∙◌, arith, Option, Some, None, ℤ, pos, ◌+ℤ◌, ◌<ℤ◌, ◌≤ℤ◌, take}
+use Rattle.std.proofs.Common.{◌≡◌, ◌⊎◌, inl, inr, ℕ, suc, zero, Bool, true, false, List, [], ◌∷◌, drop, refl, sym, ap, subst, ◌∙◌, arith, Option, Some, None, ℤ, pos, ◌+ℤ◌, ◌≤ℤ◌, take}
 use Rattle.std.specs.Prelude.{MatchBool, IfSome, int_lt, cond, map, slice_get}
-use Rattle.std.proofs.lemmas.Int.{ints}
 use Rattle.rational.specs.Rational.{middle}
-use Rattle.rational.specs.Time.{Rational, Interval, IsIn, closed, left_open, whole, ◌≈◌, ◌≤ʳ◌, ◌<ʳ◌}
+use Rattle.rational.specs.Time.{Rational, Interval, IsIn, closed, left_open, whole, ◌≤ʳ◌, ◌<ʳ◌}
 use Rattle.rational.specs.Windows.{Function}
-use Rattle.rational.proofs.Order.{le_refl, le_of_lt, le_of_same, ge_of_same, le_or_lt, le_trans, left_of_middle, right_of_middle, lt_of_le_of_lt, lt_of_lt_of_le, lt_trans, not_lt_of_le}
+use Rattle.rational.proofs.Order.{le_of_lt, le_of_same, ge_of_same, le_or_lt, le_trans, left_of_middle, right_of_middle, lt_of_le_of_lt, lt_of_lt_of_le, lt_trans, not_lt_of_le}
 use Rattle.rational.proofs.Shift.{le_whole}
 use Rattle.frac128.specs.Value.{value}
 use Rattle.stl_syntax.specs.Formula.{subformula}
-use Rattle.stl_syntax.specs.Trace.{Header, Row, Trace, IsTrace, first_time, last_time}
+use Rattle.stl_syntax.specs.Trace.{Header, IsTrace, first_time, last_time}
 use Rattle.stl_syntax.specs.SupInf.{Robustness}
 use Rattle.stl_syntax.specs.Limits.{reach}
 use Rattle.stl_syntax.specs.declared.node.Node.{Node}
-use Rattle.online_nodes.specs.MarginEdges.{Part, point, gap, Touches, AreTouching, IsMarginEdge, shown_number}
+use Rattle.online_nodes.specs.MarginEdges.{AreTouching, IsMarginEdge, shown_number}
 use Rattle.online_nodes.specs.Network.{reach_back, needed}
 use Rattle.online_nodes.specs.Needed.{IsReader}
 use Rattle.online_nodes.specs.StreamedWide.{front_at}
@@ -23,8 +22,7 @@ use Rattle.online_robust.specs.Told.{AreTold, AreJoined}
 use Rattle.frac128.specs.declared.frac.Frac.{Frac}
 use Rattle.value_laws.specs.declared.margin.Margin.{Margin}
 use Rattle.online_robust.specs.Turns.{AreInputs, AreLeft, back_of}
-use Rattle.online_robust.specs.Pasts.{Past, trace_of, part_of, shown_of, shown_by, Gave, IsRest, IsHeld}
-use Rattle.online_robust.specs.Moving.{AreStreamed}
+use Rattle.online_robust.specs.Pasts.{Past, trace_of, part_of, shown_of, Gave, IsRest}
 use Rattle.online_robust.specs.declared.line.MarginLine.{MarginLine}
 use Rattle.online_robust.specs.declared.line.MarginLine.TheVariants.{Point, Gap}
 use Rattle.online_robust.proofs.Growing.{itself}

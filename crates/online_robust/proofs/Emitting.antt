@@ -1,14 +1,14 @@
 -- What a node gave out, with one row more and with the end.
-use Rattle.std.proofs.Common.{◌≡◌, ◌≢◌, ℕ, ◌≤◌, Bool, true, false, List, [], ◌∷◌, ◌++◌, length, refl, sym, ap, subst, ◌∙◌, arith, append_assoc, append-nil, Option, Some, None, ℤ, pos}
-use Rattle.std.specs.Prelude.{map, int_lt, cond}
+use Rattle.std.proofs.Common.{◌≡◌, ℕ, ◌≤◌, Bool, true, false, List, [], ◌∷◌, ◌++◌, length, refl, sym, ap, subst, ◌∙◌, arith, append_assoc, append-nil, Option, Some, None, ℤ, pos}
+use Rattle.std.specs.Prelude.{int_lt, cond}
 use Rattle.std.proofs.lemmas.Int.{ints}
-use Rattle.stl_syntax.specs.Trace.{Header, Row, Trace, IsTrace, first_time, last_time}
+use Rattle.stl_syntax.specs.Trace.{Header, Row, IsTrace, first_time, last_time}
 use Rattle.stl_syntax.specs.Formula.{Subformula}
 use Rattle.stl_syntax.proofs.LawProofs.{last_from}
 use Rattle.online_nodes.specs.MarginEdges.{Part, AreNewParts, AreRowsParts, AreEmittedParts, shown_number}
 use Rattle.online_nodes.specs.StreamedWide.{front_at}
 use Rattle.online_nodes.proofs.RunLaw.{int_order}
-use Rattle.online_robust.specs.Pasts.{Past, with_row, with_end, trace_of, shown_by}
+use Rattle.online_robust.specs.Pasts.{shown_by}
 
 -- the last time is that of the row that came last
 pub last_appended : (time : ℕ) (rows : List Row) (r : Row) → last_time time (rows ++ r ∷ []) ≡ r.time

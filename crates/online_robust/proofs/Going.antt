@@ -1,5 +1,5 @@
 -- An operator goes on: it belongs to its edges in each trace that goes on from the rows, and what it leaves is what its node's new number answers.
-use Rattle.std.proofs.Common.{◌≡◌, ◌≢◌, ◌⊎◌, inl, inr, ℕ, suc, zero, ◌+◌, ◌-◌, ◌<◌, ◌≤◌, Bool, true, false, List, [], ◌∷◌, ◌++◌, length, refl, sym, ap, subst, ◌∙◌, arith, Option, Some, None, ℤ, pos, neg_ℤ, ◌+ℤ◌, ◌<ℤ◌, ◌≤ℤ◌, take, get_or, get_or-set_same, get_or-set_other, length-set}
+use Rattle.std.proofs.Common.{◌≡◌, ◌≢◌, ℕ, suc, zero, ◌+◌, ◌<◌, ◌≤◌, Bool, true, false, List, [], ◌∷◌, ◌++◌, length, refl, sym, ap, subst, ◌∙◌, arith, Option, Some, None, ℤ, pos, ◌+ℤ◌, ◌<ℤ◌, ◌≤ℤ◌, take, get_or, get_or-set_same, get_or-set_other, length-set}
 use Rattle.std.specs.Prelude.{MatchBool, IfSome, int_lt, cond, map, slice_get, slice_index_or}
 use Rattle.std.proofs.lemmas.Int.{ints}
 use Rattle.std.proofs.lemmas.List.{take_more}
@@ -8,21 +8,19 @@ use Rattle.std.proofs.lemmas.Option.{slice_get_within, get_or_from_slice_get}
 use Rattle.rational.specs.Knots as plain
 use Rattle.rational.specs.Knots.{Piece}
 use Rattle.rational.specs.Windows.{Function}
-use Rattle.rational.specs.Time.{Rational, Within, whole, ◌≈◌, ◌≤ʳ◌, ◌<ʳ◌}
-use Rattle.rational.proofs.Order.{le_refl, le_trans, lt_irrefl, lt_of_lt_of_le, lt_of_le_of_lt, le_of_same, ge_of_same, same_refl}
+use Rattle.rational.specs.Time.{Rational, whole}
+use Rattle.rational.proofs.Order.{le_trans, lt_irrefl, lt_of_le_of_lt, le_of_same, ge_of_same}
 use Rattle.rational.proofs.Shift.{le_whole, lt_whole}
-use Rattle.frac128.specs.Value.{value}
 use Rattle.value_laws.specs.Kinds.{margin_shape}
 use Rattle.value_laws.specs.declared.margin.Margin.{Margin}
 use Rattle.pl_signal.specs.declared.knot.Knot.{Knot}
-use Rattle.pl_signal.specs.Knots as knots
 use Rattle.pl_signal.specs.Knots.{time, HasShape}
 use Rattle.pl_signal.specs.Limits.{IsLimited}
 use Rattle.pl_signal.specs.Moves.{Tells}
 use Rattle.pl_signal.specs.Plain.{plain_knot, pieces_of, knots_of}
 use Rattle.pl_signal.proofs.Values.{some_is}
-use Rattle.stl_syntax.specs.Trace.{Header, Row, Trace, IsTrace, Continues, first_time, last_time}
-use Rattle.stl_syntax.specs.Formula.{Subformula, subformula, horizon}
+use Rattle.stl_syntax.specs.Trace.{Row, Trace, IsTrace, Continues, first_time, last_time}
+use Rattle.stl_syntax.specs.Formula.{Subformula, subformula}
 use Rattle.stl_syntax.specs.SupInf.{Robustness}
 use Rattle.stl_syntax.specs.Limits.{reach, own_reach}
 use Rattle.stl_syntax.specs.declared.node.Node.{Node}
@@ -36,18 +34,17 @@ use Rattle.online_nodes.specs.StreamedWide.{front_at}
 use Rattle.online_robust.specs.Held.{Edge, Held, edge_at, held_at, held_of, no_edge, number_at, with_edge, with_more, with_number}
 use Rattle.online_robust.specs.Told.{AreTold, AreFit, AreJoined, IsTick, IsMovedBy}
 use Rattle.online_robust.specs.Standing.{Stands}
-use Rattle.online_robust.specs.Turns.{IsLeaf, Turn, Belongs, IsSwept, HasSwept, StandsNow, AreInputs, IsInput, back_of, begin_of, from_of, reach_before, seen_by}
+use Rattle.online_robust.specs.Turns.{IsLeaf, Turn, Belongs, IsSwept, HasSwept, StandsNow, AreInputs, IsInput, back_of, from_of, seen_by}
 use Rattle.online_robust.specs.Putting.{lines_after, lines_of, HasPut}
-use Rattle.online_robust.specs.Pasts.{Past, trace_of, part_of, number_of, shown_of, number_by, shown_by, Gave, IsRest, IsHeld, IsWork}
-use Rattle.online_robust.specs.Moving.{Move, AreStreamed, AreMore, IsNext, CanMove, CanGiveOut, HasMoved, turn_of}
+use Rattle.online_robust.specs.Pasts.{trace_of, part_of, shown_of, IsRest, IsHeld}
+use Rattle.online_robust.specs.Moving.{Move, AreMore, CanGiveOut, HasMoved, turn_of}
 use Rattle.online_robust.specs.declared.line.MarginLine.{MarginLine}
 use Rattle.online_robust.specs.declared.operator.Operator.{Operator}
-use Rattle.online_robust.specs.declared.station.Work.{Work}
 use Rattle.online_robust.specs.declared.station.Work.TheVariants as W
 use Rattle.online_robust.proofs.Growing.{goes_on_from, itself}
 use Rattle.online_robust.proofs.Readers.{reader_above, seen_same}
 use Rattle.online_robust.proofs.Rests.{IsLaterBack, joined_from, input_rest, input_reach, rest_cut}
-use Rattle.online_robust.proofs.RowFacts.{number_here, shown_here, told_here, first_goes_on, last_goes_on, last_at_end, shown_is, number_shown, number_rises}
+use Rattle.online_robust.proofs.RowFacts.{number_here, told_here, first_goes_on, last_goes_on, last_at_end, shown_is, number_shown, number_rises}
 use Rattle.online_robust.proofs.SignalLines.{AreWorth, after_parts, all_parts, told_after, fit_after, fit_first, at_first, joined_after, tells_after, tells_closed}
 
 -- ---- small facts

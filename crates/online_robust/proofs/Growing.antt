@@ -1,30 +1,25 @@
 -- What a node gave out grows from one past to the next.
-use Rattle.std.proofs.Common.{◌≡◌, ◌≢◌, ◌⊎◌, inl, inr, ℕ, suc, ◌+◌, ◌-◌, ◌<◌, ◌≤◌, Bool, true, false, List, [], ◌∷◌, ◌++◌, length, drop, refl, sym, ap, subst, ◌∙◌, arith, append_assoc, append-nil, Option, Some, None, ℤ, pos, ◌+ℤ◌, ◌-ℤ◌, ◌<ℤ◌, ◌≤ℤ◌}
-use Rattle.std.specs.Prelude.{MatchBool, IfSome, int_lt, cond, map, slice_get, IsTrue, take}
+use Rattle.std.proofs.Common.{◌≡◌, ◌⊎◌, inl, inr, ℕ, suc, ◌<◌, ◌≤◌, Bool, true, false, List, [], ◌∷◌, ◌++◌, length, refl, sym, ap, subst, ◌∙◌, arith, append_assoc, append-nil, Some, None, ℤ, pos, ◌≤ℤ◌}
+use Rattle.std.specs.Prelude.{MatchBool, int_lt, cond, map, take}
 use Rattle.std.proofs.lemmas.Int.{ints}
 use Rattle.std.proofs.lemmas.Bool.{false≢true}
-use Rattle.rational.specs.Time.{Rational, whole, ◌≈◌, ◌≤ʳ◌, ◌<ʳ◌}
+use Rattle.rational.specs.Time.{whole}
 use Rattle.rational.specs.Windows.{Function}
-use Rattle.rational.proofs.Order.{lt_of_lt_of_le, lt_of_le_of_lt, le_trans, le_of_same, ge_of_same}
-use Rattle.rational.proofs.Shift.{le_whole}
 use Rattle.frac128.specs.Value.{value}
-use Rattle.stl_syntax.specs.Trace.{Header, Row, Trace, AreRows, AreRowsAfter, IsTrace, Continues, first_time, last_time}
-use Rattle.stl_syntax.specs.Formula.{Subformula, subformula, horizon}
+use Rattle.stl_syntax.specs.Trace.{Header, Row, Trace, AreRowsAfter, IsTrace, Continues, first_time, last_time}
+use Rattle.stl_syntax.specs.Formula.{Subformula, subformula}
 use Rattle.stl_syntax.specs.SupInf.{Robustness}
 use Rattle.stl_syntax.specs.Limits.{reach}
 use Rattle.stl_syntax.specs.declared.node.Node.{Node}
-use Rattle.stl_syntax.proofs.LawProofs.{last_from}
-use Rattle.online_nodes.specs.MarginEdges.{Part, AreNewParts, AreEmittedParts, shown_number}
+use Rattle.online_nodes.specs.MarginEdges.{AreNewParts, AreEmittedParts, shown_number}
 use Rattle.online_nodes.specs.StreamedWide.{front_at}
 use Rattle.online_nodes.proofs.RunLaw.{int_order}
-use Rattle.online_robust.specs.Lines.{end_of}
 use Rattle.online_robust.specs.Told.{AreTold, AreFit, AreJoined}
 use Rattle.online_robust.specs.Turns.{AreInputs, AreLeft, IsInput}
 use Rattle.online_robust.specs.Moving.{AreMore, IsNext}
-use Rattle.online_robust.specs.Pasts.{Past, with_row, with_end, trace_of, part_of, number_by, shown_by, number_of, shown_of, Gave, AreToldOver, IsRest}
+use Rattle.online_robust.specs.Pasts.{Past, with_row, with_end, trace_of, part_of, shown_of, Gave, AreToldOver}
 use Rattle.online_robust.specs.declared.line.MarginLine.{MarginLine}
-use Rattle.online_robust.specs.declared.line.MarginLine.TheVariants.{Point, Gap}
-use Rattle.online_robust.proofs.Emitting.{last_appended, emitted_row, emitted_end, last_above}
+use Rattle.online_robust.proofs.Emitting.{last_appended, emitted_row, emitted_end}
 use Rattle.online_robust.proofs.Rests.{told_append, fit_append, joined_append}
 
 -- ---- the lines of an edge

@@ -1,26 +1,23 @@
 -- A node that gives out nothing from one past to the next.
-use Rattle.std.proofs.Common.{◌≡◌, ◌≢◌, ◌⊎◌, inl, inr, ℕ, suc, ◌<◌, ◌≤◌, Bool, true, false, List, [], ◌∷◌, ◌++◌, length, refl, sym, ap, subst, ◌∙◌, arith, append-nil, Option, Some, None, ℤ, pos, ◌<ℤ◌, ◌≤ℤ◌, take}
-use Rattle.std.specs.Prelude.{MatchBool, int_lt, map, slice_get}
+use Rattle.std.proofs.Common.{◌≡◌, ◌≢◌, ◌⊎◌, inl, inr, ℕ, suc, ◌<◌, Bool, true, false, List, [], length, refl, sym, ap, subst, ◌∙◌, arith, append-nil, Option, Some, None, ℤ, pos, ◌<ℤ◌, ◌≤ℤ◌, take}
+use Rattle.std.specs.Prelude.{int_lt, map, slice_get}
 use Rattle.std.proofs.lemmas.Int.{ints}
-use Rattle.std.proofs.lemmas.Option.{slice_get_within}
 use Rattle.rational.specs.Windows.{Function}
-use Rattle.rational.specs.Time.{whole}
 use Rattle.pl_signal.proofs.Values.{some_is}
-use Rattle.stl_syntax.specs.Trace.{Trace, IsTrace, Continues, first_time, last_time}
+use Rattle.stl_syntax.specs.Trace.{Trace, first_time}
 use Rattle.stl_syntax.specs.Formula.{Subformula, subformula}
 use Rattle.stl_syntax.specs.SupInf.{Robustness}
 use Rattle.stl_syntax.specs.Limits.{reach}
 use Rattle.stl_syntax.specs.declared.node.Node.{Node}
-use Rattle.online_nodes.specs.MarginEdges.{Part, AreNewParts}
+use Rattle.online_nodes.specs.MarginEdges.{AreNewParts}
 use Rattle.online_nodes.specs.Network.{reach_back}
 use Rattle.online_nodes.specs.Needed.{IsReader}
-use Rattle.online_nodes.specs.StreamedWide.{front_at}
 use Rattle.online_nodes.proofs.RunLaw.{int_order}
 use Rattle.online_robust.specs.Held.{Edge, Held, edge_at, held_at, held_of, number_at, with_edge, with_more, with_number}
 use Rattle.online_robust.specs.Standing.{Stands}
 use Rattle.online_robust.specs.Turns.{back_of, seen_by}
-use Rattle.online_robust.specs.Pasts.{Past, trace_of, part_of, number_of, shown_of, IsHeld, IsRest, IsWork}
-use Rattle.online_robust.specs.Moving.{Move, AreMore, IsNext, CanMove, HasMoved}
+use Rattle.online_robust.specs.Pasts.{trace_of, part_of, number_of, shown_of, IsRest, IsWork}
+use Rattle.online_robust.specs.Moving.{Move, AreMore, CanMove, HasMoved}
 use Rattle.online_robust.specs.declared.line.MarginLine.{MarginLine}
 use Rattle.online_robust.specs.declared.station.Work.{Work}
 use Rattle.online_robust.specs.declared.station.Work.TheVariants as W

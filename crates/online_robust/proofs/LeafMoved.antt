@@ -1,9 +1,9 @@
 -- What a constant or an atom leaves at a row.
-use Rattle.std.proofs.Common.{◌≡◌, ◌≢◌, ◌⊎◌, inl, inr, ℕ, suc, zero, ◌+◌, ◌<◌, ◌≤◌, ◌^◌, Bool, true, false, List, [], ◌∷◌, ◌++◌, length, refl, sym, ap, subst, ◌∙◌, arith, append_assoc, Option, Some, None, ℤ, pos, ◌-ℤ◌, ◌<ℤ◌, ◌≤ℤ◌, take, get_or}
+use Rattle.std.proofs.Common.{◌≡◌, ◌≢◌, ◌⊎◌, inl, inr, ℕ, suc, ◌<◌, ◌≤◌, ◌^◌, Bool, true, false, List, [], ◌∷◌, ◌++◌, length, refl, sym, ap, subst, ◌∙◌, arith, Option, Some, None, pos, ◌-ℤ◌, take, get_or}
 use Rattle.std.specs.Prelude.{IfSome, IsTrue, map, slice_get}
 use Rattle.std.proofs.lemmas.Int.{ints}
 use Rattle.std.proofs.lemmas.Option.{slice_get_within}
-use Rattle.rational.specs.Rational.{Rational, whole, ◌≈◌}
+use Rattle.rational.specs.Rational.{Rational}
 use Rattle.rational.specs.Time.{◌<ʳ◌}
 use Rattle.rational.specs.Extended.{value_at, infinity, minus_infinity}
 use Rattle.rational.proofs.AffineLemmas.{same_reflᵉ}
@@ -18,20 +18,18 @@ use Rattle.stl_syntax.specs.Limits.{reach}
 use Rattle.stl_syntax.specs.declared.scale.Scale.{Scale}
 use Rattle.stl_syntax.specs.declared.atom.Atom.{Atom}
 use Rattle.stl_syntax.specs.declared.node.Node.{Node}
-use Rattle.stl_syntax.specs.declared.node.Node.TheVariants.{Const, Atom as Leaf}
-use Rattle.atom_lines.specs.Binding.{Binding, IsBound, IsFor, HasRow, AreNeighbours}
-use Rattle.atom_lines.specs.Points.{IsMarginAt, IsMarginOn}
+use Rattle.stl_syntax.specs.declared.node.Node.TheVariants.{Atom as Leaf}
+use Rattle.atom_lines.specs.Binding.{Binding, IsBound, IsFor}
 use Rattle.online_nodes.specs.MarginEdges.{AreNewParts}
 use Rattle.online_nodes.specs.Needed.{IsReader}
 use Rattle.online_nodes.specs.StreamedWide.{front_at}
-use Rattle.online_robust.specs.Held.{Edge, Held, edge_at, no_edge, with_edge, with_more, with_number}
+use Rattle.online_robust.specs.Held.{Held, edge_at, no_edge, with_edge, with_more, with_number}
 use Rattle.online_robust.specs.Turns.{seen_by}
 use Rattle.online_robust.specs.Putting.{constant_margin, AreRowLines, HasPutRow, IsAtomPiece, IsAtomValue}
-use Rattle.online_robust.specs.Pasts.{Past, with_row, trace_of, part_of, number_of, shown_of, number_by, shown_by, IsWork}
-use Rattle.online_robust.specs.Moving.{Move, AreMore, IsNext, CanMove, HasMoved, IsRowNext, last_row_of, last_row_after}
+use Rattle.online_robust.specs.Pasts.{Past, trace_of, part_of, shown_of, number_by, shown_by, IsWork}
+use Rattle.online_robust.specs.Moving.{Move, AreMore, CanMove, HasMoved, IsRowNext, last_row_of, last_row_after}
 use Rattle.online_robust.specs.declared.line.MarginLine.{MarginLine}
 use Rattle.online_robust.specs.declared.station.Work.{Work}
-use Rattle.online_robust.specs.declared.station.Work.TheVariants as W
 use Rattle.online_robust.proofs.Emitting.{last_appended}
 use Rattle.online_robust.proofs.Going.{edge_other, edge_same, length-set-edges}
 use Rattle.online_robust.proofs.Leaves.{IsLeafAt, first_parts, first_told, later_parts, later_told}

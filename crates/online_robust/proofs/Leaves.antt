@@ -1,15 +1,14 @@
 -- A constant or an atom goes on by a row.
-use Rattle.std.proofs.Common.{◌≡◌, ◌≢◌, ◌⊎◌, inl, inr, ℕ, suc, zero, ◌+◌, ◌<◌, ◌≤◌, ◌^◌, Bool, true, false, List, [], ◌∷◌, ◌++◌, length, refl, sym, ap, subst, ◌∙◌, arith, append_assoc, Option, Some, None, ℤ, pos, ◌-ℤ◌, ◌<ℤ◌, ◌≤ℤ◌, take}
-use Rattle.std.specs.Prelude.{MatchBool, IfSome, int_lt, map, slice_get}
+use Rattle.std.proofs.Common.{◌≡◌, ◌⊎◌, inl, inr, ℕ, ◌<◌, ◌≤◌, ◌^◌, false, List, [], ◌∷◌, ◌++◌, length, refl, sym, ap, subst, arith, Option, Some, None, pos, ◌-ℤ◌, ◌<ℤ◌}
+use Rattle.std.specs.Prelude.{MatchBool, IfSome, map}
 use Rattle.std.proofs.lemmas.Int.{ints}
-use Rattle.rational.specs.Rational.{Rational, whole, ◌≈◌, ◌≤ʳ◌}
+use Rattle.rational.specs.Rational.{Rational, whole, ◌≈◌}
 use Rattle.rational.specs.Time.{◌<ʳ◌}
 use Rattle.rational.specs.Knots as plain
 use Rattle.rational.specs.Knots.{Piece}
-use Rattle.rational.specs.Windows.{Function}
 use Rattle.rational.specs.Extended.{value_at}
 use Rattle.rational.specs.Affine.{IsBounded}
-use Rattle.rational.proofs.Order.{le_trans, lt_of_le_of_lt, lt_of_lt_of_le, le_of_same, ge_of_same, same_refl, same_sym, same_trans}
+use Rattle.rational.proofs.Order.{le_trans, lt_of_le_of_lt, lt_of_lt_of_le, le_of_same, ge_of_same, same_refl}
 use Rattle.rational.proofs.AffineLemmas.{bounded_same, value_same}
 use Rattle.rational.proofs.Shift.{le_whole, lt_whole}
 use Rattle.frac128.specs.Value.{value}
@@ -18,25 +17,21 @@ use Rattle.value_laws.specs.Kinds.{margin_shape}
 use Rattle.value_laws.specs.Margins.{margin_base, margin_function}
 use Rattle.value_laws.specs.declared.margin.Margin.{Margin}
 use Rattle.pl_signal.specs.declared.knot.Knot.{Knot}
-use Rattle.pl_signal.specs.Knots.{Each, IsKnot}
+use Rattle.pl_signal.specs.Knots.{IsKnot}
 use Rattle.pl_signal.specs.Plain.{plain_knot, pieces_of, knots_of}
-use Rattle.pl_signal.proofs.Values.{some_is}
-use Rattle.stl_syntax.specs.Trace.{AreRowsAfter, Header, Row, Trace, IsTrace, Continues, first_time, last_time, row_time}
-use Rattle.stl_syntax.specs.Formula.{Subformula, subformula, horizon}
+use Rattle.stl_syntax.specs.Trace.{AreRowsAfter, Header, Row, Trace, IsTrace, Continues, last_time, row_time}
+use Rattle.stl_syntax.specs.Formula.{Subformula, horizon}
 use Rattle.stl_syntax.specs.SupInf.{Robustness}
-use Rattle.stl_syntax.specs.Limits.{reach}
 use Rattle.stl_syntax.proofs.LawProofs.{last_from}
 use Rattle.online_nodes.specs.MarginEdges.{AreNewParts, parts_after}
 use Rattle.online_nodes.specs.MarginStream.{TellsLeftOpen}
 use Rattle.online_nodes.specs.StreamedWide.{front_at}
 use Rattle.online_robust.specs.Told.{AreTold, AreFit, AreJoined, IsTick, IsMovedBy}
-use Rattle.online_robust.specs.Turns.{AreInputs}
-use Rattle.online_robust.specs.Putting.{lines_after, lines_of, AreRowLines}
+use Rattle.online_robust.specs.Putting.{lines_after, AreRowLines}
 use Rattle.online_robust.specs.Pasts.{part_of, shown_by}
-use Rattle.online_robust.specs.Moving.{AreMore, last_row_of, last_row_after}
+use Rattle.online_robust.specs.Moving.{AreMore, last_row_after}
 use Rattle.online_robust.specs.declared.line.MarginLine.{MarginLine}
 use Rattle.online_robust.specs.declared.line.MarginLine.TheVariants.{Point, Gap}
-use Rattle.online_robust.proofs.Emitting.{last_appended}
 use Rattle.online_robust.proofs.Growing.{itself, last_below}
 use Rattle.online_robust.proofs.Going.{int_below}
 use Rattle.online_robust.proofs.RowFacts.{number_shown}

@@ -1,12 +1,12 @@
 -- All nodes go on from one past to the next: the first one may, each leaves the next so that it may, and the last one leaves all gone on.
-use Rattle.std.proofs.Common.{◌≡◌, ◌≢◌, inl, inr, ℕ, suc, ◌+◌, ◌-◌, ◌<◌, ◌≤◌, Bool, true, false, List, [], ◌∷◌, ◌++◌, length, refl, sym, ap, subst, ◌∙◌, arith, Option, Some, None}
-use Rattle.std.specs.Prelude.{slice_get, slice_set, slice_index_or, nat_lt, if◌then◌else◌}
+use Rattle.std.proofs.Common.{◌≡◌, ◌≢◌, inl, inr, ℕ, suc, ◌-◌, ◌<◌, ◌≤◌, Bool, false, List, ◌++◌, length, refl, sym, ap, subst, ◌∙◌, arith, Option, Some}
+use Rattle.std.specs.Prelude.{slice_get, slice_set, slice_index_or, if◌then◌else◌}
 use Rattle.std.proofs.lemmas.Bool.{lt-ltb, le-ltb, cases_lt}
 use Rattle.std.proofs.lemmas.Option.{slice_get_within}
 use Rattle.pl_signal.specs.declared.faults.OpFault.{OpFault}
 use Rattle.pl_signal.specs.declared.faults.OpFault.TheVariants as F
 use Rattle.value_laws.specs.declared.margin.Margin.{Margin}
-use Rattle.stl_syntax.specs.Trace.{Header, Row, first_time}
+use Rattle.stl_syntax.specs.Trace.{Header, Row}
 use Rattle.stl_syntax.specs.Formula.{subformula, horizon}
 use Rattle.stl_syntax.specs.declared.node.Node.{Node}
 use Rattle.stl_syntax.specs.declared.node.Node.TheVariants.{Const}
@@ -17,13 +17,12 @@ use Rattle.online_nodes.specs.Needed.{IsReader}
 use Rattle.online_robust.specs.Held.{Held, held_at, number_at}
 use Rattle.online_robust.specs.Turns.{seen_by}
 use Rattle.online_robust.specs.Pasts.{Past, number_of, Gave, IsHeld, IsWork}
-use Rattle.online_robust.specs.Moving.{Move, CanMove, CanMoveByRow, CanMoveByEnd, HasMoved, IsRowNext, IsEndNext, IsFaultOf}
-use Rattle.online_robust.specs.Nets.{Shows, Passing, past_at, move_of, CanGo, CanGoByRow, CanGoByEnd, Going, HasGone, IsGoFault, IsFaultAt}
+use Rattle.online_robust.specs.Moving.{CanMove, CanMoveByRow, CanMoveByEnd, HasMoved, IsRowNext, IsEndNext, IsFaultOf}
+use Rattle.online_robust.specs.Nets.{Shows, Passing, past_at, move_of, CanGo, Going, HasGone, IsGoFault, IsFaultAt}
 use Rattle.online_robust.specs.declared.line.MarginLine.{MarginLine}
 use Rattle.online_robust.specs.declared.net.RobustFault.{RobustFault}
-use Rattle.online_robust.specs.declared.net.RobustFault.TheVariants.{Wide, Stopped, Closed, Memory}
+use Rattle.online_robust.specs.declared.net.RobustFault.TheVariants.{Wide}
 use Rattle.online_robust.specs.declared.station.Station.{Station}
-use Rattle.online_robust.specs.declared.station.Work.{Work}
 use Rattle.online_robust.proofs.Moved.{AtNext, shows_moved}
 use Rattle.online_robust.proofs.Readers.{reader_above}
 

@@ -1,9 +1,9 @@
 -- What a network shows once one node more has gone on.
-use Rattle.std.proofs.Common.{◌≡◌, ◌≢◌, ◌⊎◌, inl, inr, ℕ, suc, zero, ◌+◌, ◌-◌, ◌<◌, ◌≤◌, Bool, true, false, List, [], ◌∷◌, ◌++◌, length, refl, sym, ap, subst, ◌∙◌, arith, append_assoc, Option, Some, None, ℤ, set, length-set}
+use Rattle.std.proofs.Common.{◌≡◌, ◌≢◌, inl, inr, ℕ, suc, zero, ◌-◌, ◌<◌, Bool, false, List, [], ◌∷◌, ◌++◌, length, refl, sym, ap, subst, ◌∙◌, arith, append_assoc, Some, ℤ}
 use Rattle.std.specs.Prelude.{slice_get, slice_set, slice_index_or}
 use Rattle.std.proofs.lemmas.Bool.{cases_eq}
 use Rattle.std.proofs.lemmas.Option.{slice_get_within}
-use Rattle.stl_syntax.specs.Trace.{Header, Row, Trace, IsTrace, first_time}
+use Rattle.stl_syntax.specs.Trace.{Header, IsTrace}
 use Rattle.stl_syntax.specs.Formula.{subformula, horizon}
 use Rattle.stl_syntax.specs.declared.node.Node.{Node}
 use Rattle.stl_syntax.specs.declared.node.Node.TheVariants.{Const}
@@ -14,7 +14,7 @@ use Rattle.online_nodes.proofs.ReadersLaw.{one_reader, root_unread}
 use Rattle.online_robust.specs.Held.{Edge, Held, edge_at, held_at, held_of, number_at, with_more, with_number}
 use Rattle.online_robust.specs.Turns.{seen_by}
 use Rattle.online_robust.specs.Pasts.{Past, trace_of, number_of, Gave, IsHeld, IsWork}
-use Rattle.online_robust.specs.Moving.{Move, AreStreamed, IsNext, HasMoved}
+use Rattle.online_robust.specs.Moving.{AreStreamed, IsNext, HasMoved}
 use Rattle.online_robust.specs.Nets.{Shows}
 use Rattle.online_robust.specs.declared.line.MarginLine.{MarginLine}
 use Rattle.online_robust.specs.declared.station.Station.{Station}

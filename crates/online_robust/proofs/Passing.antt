@@ -1,36 +1,30 @@
 -- All nodes of a network go on from one past to the next, one after another.
-use Rattle.std.proofs.Common.{◌≡◌, ◌≢◌, ◌⊎◌, inl, inr, ℕ, suc, zero, ◌+◌, ◌-◌, ◌<◌, ◌≤◌, Bool, true, false, List, [], ◌∷◌, ◌++◌, length, drop, refl, sym, ap, subst, ◌∙◌, arith, append_assoc, append-nil, Option, Some, None, ℤ, pos, ◌+ℤ◌, ◌-ℤ◌, ◌<ℤ◌, ◌≤ℤ◌, set, get_or}
-use Rattle.std.specs.Prelude.{MatchBool, IfSome, int_lt, cond, map, slice_get, slice_set, nat_lt, take}
+use Rattle.std.proofs.Common.{◌≡◌, inl, inr, ℕ, suc, zero, ◌<◌, ◌≤◌, Bool, true, false, List, [], ◌∷◌, ◌++◌, length, drop, refl, sym, ap, subst, ◌∙◌, arith, Option, Some, None, ℤ, pos, ◌≤ℤ◌}
+use Rattle.std.specs.Prelude.{MatchBool, IfSome, int_lt, cond, slice_get}
 use Rattle.std.proofs.lemmas.Int.{ints}
-use Rattle.std.proofs.lemmas.Bool.{cases_eq, cases_lt, lt-ltb, le-ltb}
-use Rattle.std.proofs.lemmas.Option.{slice_get_within}
-use Rattle.rational.specs.Time.{Rational, whole, ◌≤ʳ◌, ◌<ʳ◌}
+use Rattle.std.proofs.lemmas.Bool.{cases_lt}
+use Rattle.rational.specs.Time.{whole, ◌≤ʳ◌, ◌<ʳ◌}
 use Rattle.rational.specs.Windows.{Function}
-use Rattle.rational.proofs.Order.{lt_of_le_of_lt, lt_of_lt_of_le, le_of_same, ge_of_same}
+use Rattle.rational.proofs.Order.{lt_of_le_of_lt, ge_of_same}
 use Rattle.rational.proofs.Shift.{le_whole}
 use Rattle.frac128.specs.Value.{value}
-use Rattle.stl_syntax.specs.Trace.{Header, Row, Trace, IsTrace, Continues, first_time, last_time}
-use Rattle.stl_syntax.specs.Formula.{Subformula, subformula, horizon, HasChildrenBelow}
+use Rattle.stl_syntax.specs.Trace.{Header, Row, IsTrace, first_time, last_time}
+use Rattle.stl_syntax.specs.Formula.{subformula}
 use Rattle.stl_syntax.specs.declared.node.Node.{Node}
-use Rattle.online_nodes.specs.MarginEdges.{shown_number}
 use Rattle.online_nodes.specs.Network.{reach_back}
 use Rattle.online_nodes.specs.Needed.{IsReader}
 use Rattle.online_nodes.specs.StreamedWide.{front_at}
 use Rattle.online_nodes.proofs.RunLaw.{int_order}
-use Rattle.online_nodes.proofs.ReadersLaw.{one_reader, root_unread}
 use Rattle.online_robust.specs.Lines.{end_of}
-use Rattle.online_robust.specs.Held.{Edge, Held, edge_at, held_at, held_of, number_at, with_more, with_number}
 use Rattle.online_robust.specs.Told.{AreTold, AreFit, AreJoined}
-use Rattle.online_robust.specs.Turns.{IsInput, back_of, seen_by}
-use Rattle.online_robust.specs.Pasts.{Past, with_row, with_end, trace_of, part_of, number_of, shown_of, shown_by, Gave, IsRest, IsHeld, IsWork}
-use Rattle.online_robust.specs.Moving.{Move, AreStreamed, AreMore, IsNext, HasMoved}
-use Rattle.online_robust.specs.Nets.{Shows, Passing, past_at, move_of}
+use Rattle.online_robust.specs.Turns.{back_of}
+use Rattle.online_robust.specs.Pasts.{Past, trace_of, shown_by, IsRest, IsHeld}
+use Rattle.online_robust.specs.Moving.{AreStreamed, AreMore, IsNext}
 use Rattle.online_robust.specs.declared.line.MarginLine.{MarginLine}
 use Rattle.online_robust.specs.declared.line.MarginLine.TheVariants.{Point, Gap}
-use Rattle.online_robust.specs.declared.station.Station.{Station}
-use Rattle.online_robust.proofs.Growing.{AreNext, gave_grows, continues_less, continues_open, goes_on_from, itself, next_cases}
+use Rattle.online_robust.proofs.Growing.{AreNext, gave_grows, itself, next_cases}
 use Rattle.online_robust.proofs.Rests.{back_above}
-use Rattle.online_robust.proofs.Readers.{may_read, seen_same, back_within}
+use Rattle.online_robust.proofs.Readers.{back_within}
 
 -- ---- what is left, with more behind it
 

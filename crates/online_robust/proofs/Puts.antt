@@ -5,7 +5,7 @@ use Rattle.std.proofs.lemmas.List.{set-get_or}
 use Rattle.value_laws.specs.declared.margin.Margin.{Margin}
 use Rattle.pl_signal.specs.declared.knot.Knot.{Knot}
 use Rattle.pl_signal.proofs.Values.{some_is}
-use Rattle.online_robust.specs.Held.{Edge, Held, edge_at, no_edge, with_edge, with_more}
+use Rattle.online_robust.specs.Held.{Edge, Held, edge_at, no_edge, with_more}
 use Rattle.online_robust.specs.Putting.{later_lines, lines_after, lines_of, HasPut}
 use Rattle.online_robust.specs.declared.line.MarginLine.{MarginLine}
 use Rattle.online_robust.specs.declared.line.MarginLine.TheVariants.{Point, Gap}

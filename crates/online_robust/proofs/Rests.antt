@@ -1,11 +1,11 @@
 -- What is left of lines when those that end by a time are dropped from the front.
-use Rattle.std.proofs.Common.{◌≡◌, inl, inr, ℕ, zero, suc, ◌+◌, ◌-◌, ◌<◌, ◌≤◌, Bool, true, false, List, [], ◌∷◌, ◌++◌, drop, refl, sym, ap, subst, ◌∙◌, arith, append_assoc, append-nil, Option, Some, None, ℤ, pos, ◌+ℤ◌, ◌<ℤ◌, ◌≤ℤ◌}
+use Rattle.std.proofs.Common.{◌≡◌, inl, inr, ℕ, zero, suc, ◌+◌, ◌-◌, ◌<◌, ◌≤◌, Bool, true, false, List, [], ◌∷◌, ◌++◌, drop, refl, sym, ap, subst, ◌∙◌, arith, Option, Some, None, ℤ, pos, ◌+ℤ◌, ◌≤ℤ◌}
 use Rattle.std.specs.Prelude.{MatchBool, IfSome, int_lt, cond, slice_get}
 use Rattle.std.proofs.lemmas.Int.{ints}
 use Rattle.std.proofs.lemmas.Bool.{cases_lt}
 use Rattle.rational.specs.Time.{Rational, whole, ◌≈◌, ◌≤ʳ◌, ◌<ʳ◌}
 use Rattle.rational.specs.Windows.{Function}
-use Rattle.rational.proofs.Order.{le_trans, le_refl, le_of_same, ge_of_same, same_refl, same_sym, same_trans, not_lt_of_le, lt_of_lt_of_le}
+use Rattle.rational.proofs.Order.{le_trans, le_of_same, ge_of_same, same_sym, same_trans, not_lt_of_le}
 use Rattle.rational.proofs.Shift.{le_whole}
 use Rattle.frac128.specs.Value.{value}
 use Rattle.online_nodes.proofs.RunLaw.{int_order}

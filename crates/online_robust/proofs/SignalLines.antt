@@ -1,18 +1,17 @@
 -- The lines of a signal: what they tell, and that they are the parts of what it tells.
-use Rattle.std.proofs.Common.{◌≡◌, ◌⊎◌, inl, inr, ℕ, true, false, List, [], ◌∷◌, refl, ap, arith}
-use Rattle.std.specs.Prelude.{map, pos}
-use Rattle.rational.specs.Time.{Rational, Within, whole, ◌≈◌, ◌≤ʳ◌, ◌<ʳ◌}
+use Rattle.std.proofs.Common.{◌≡◌, inl, inr, ℕ, true, List, [], ◌∷◌, refl, ap}
+use Rattle.std.specs.Prelude.{map}
+use Rattle.rational.specs.Time.{Rational, Within, ◌≈◌}
 use Rattle.rational.specs.Extended.{Extended, value_at}
 use Rattle.rational.specs.Windows.{Function}
 use Rattle.rational.proofs.Order.{le_trans, same_refl, same_sym, same_trans}
 use Rattle.rational.proofs.AffineLemmas.{same_reflᵉ}
-use Rattle.frac128.specs.Value.{value}
 use Rattle.value_laws.specs.Kinds.{margin_shape}
 use Rattle.value_laws.specs.declared.margin.Margin.{Margin}
 use Rattle.pl_signal.specs.declared.knot.Knot.{Knot}
 use Rattle.pl_signal.specs.Knots as knots
 use Rattle.pl_signal.specs.Knots.{time, Each, IsKnot, IsWorth, HasShape}
-use Rattle.pl_signal.specs.Limits.{IsLimited, IsLimitedKnot}
+use Rattle.pl_signal.specs.Limits.{IsLimited}
 use Rattle.pl_signal.specs.Plain.{plain_knot, plain_piece, pieces_of, knots_of}
 use Rattle.pl_signal.proofs.PlainLemmas.{of_between, left_out_of_line}
 use Rattle.stl_syntax.specs.Formula.{Subformula}

@@ -1,14 +1,12 @@
 -- A network stands for a past: a new one for no rows, and one that took a row, or the end, for the past with it.
-use Rattle.std.proofs.Common.{◌≡◌, ◌≢◌, inl, inr, ℕ, suc, zero, ◌+◌, ◌-◌, ◌^◌, ◌<◌, ◌≤◌, Bool, true, false, List, [], ◌∷◌, ◌++◌, length, drop, refl, sym, ap, subst, ◌∙◌, arith, append-nil, Option, Some, None, pos, get_or}
+use Rattle.std.proofs.Common.{◌≡◌, ◌≢◌, inl, inr, ℕ, suc, zero, ◌-◌, ◌^◌, ◌<◌, ◌≤◌, true, false, List, [], ◌∷◌, ◌++◌, length, drop, refl, sym, ap, subst, ◌∙◌, arith, append-nil, Option, Some, None, get_or}
 use Rattle.std.specs.Prelude.{IfSome, map, option_map, replicate, slice_get}
 use Rattle.std.proofs.lemmas.Bool.{false≢true}
-use Rattle.pl_signal.proofs.Values.{some_is}
-use Rattle.stl_syntax.specs.Trace.{AreRows, AreRowsAfter, Header, Row, IsTrace, first_time, last_time}
-use Rattle.stl_syntax.specs.Formula.{Formula, subformula, horizon}
+use Rattle.stl_syntax.specs.Trace.{AreRowsAfter, Header, Row, IsTrace, first_time, last_time}
+use Rattle.stl_syntax.specs.Formula.{Formula}
 use Rattle.stl_syntax.specs.WellFormed.{IsWellFormed}
 use Rattle.stl_syntax.specs.declared.node.Node.{Node}
 use Rattle.stl_syntax.specs.declared.node.Node.TheVariants.{Const, Atom as Leaf, Not, And, Or, Implies, Until, Eventually, Always, Since, Once, Historically}
-use Rattle.stl_syntax.specs.declared.scale.Scale.{Scale}
 use Rattle.atom_lines.specs.Binding.{Binding, IsBound}
 use Rattle.online_nodes.specs.MarginEdges.{IsMarginEdge, IsMarginRootEdge}
 use Rattle.online_nodes.specs.StreamedWide.{IsUnstreamed}

@@ -1,5 +1,5 @@
 -- What the calls of a node leave, as the code makes them.
-use Rattle.std.proofs.Common.{◌≡◌, ◌≢◌, ℕ, ◌<◌, ◌≤◌, Bool, true, false, List, [], ◌∷◌, ◌++◌, length, refl, sym, ap, subst, ◌∙◌, arith, Option, Some, None, ℤ, pos, ◌-ℤ◌, ◌<ℤ◌, ◌≤ℤ◌}
+use Rattle.std.proofs.Common.{◌≡◌, ℕ, ◌<◌, ◌≤◌, Bool, true, false, List, [], ◌∷◌, ◌++◌, length, refl, sym, ap, subst, ◌∙◌, arith, Option, Some, None, ℤ, pos, ◌-ℤ◌, ◌<ℤ◌, ◌≤ℤ◌}
 use Rattle.std.specs.Prelude.{IfSome, MatchBool, MatchOption, not, slice_get}
 use Rattle.std.proofs.lemmas.Int.{ints}
 use Rattle.std.proofs.lemmas.Bool.{false≢true}
@@ -7,20 +7,17 @@ use Rattle.pl_signal.specs.declared.knot.Knot.{Knot}
 use Rattle.pl_signal.specs.declared.faults.OpFault.{OpFault}
 use Rattle.pl_signal.proofs.Values.{some_is}
 use Rattle.value_laws.specs.declared.margin.Margin.{Margin}
-use Rattle.stl_syntax.specs.Trace.{AreRows, AreRowsAfter, Header, Row, Trace, IsTrace, Continues, first_time, last_time}
+use Rattle.stl_syntax.specs.Trace.{AreRows, AreRowsAfter, Row, IsTrace, first_time, last_time}
 use Rattle.stl_syntax.specs.Formula.{Subformula, constant, atom, subformula, horizon}
-use Rattle.stl_syntax.specs.declared.atom.Atom.{Atom}
-use Rattle.stl_syntax.specs.declared.node.Node.{Node}
 use Rattle.stl_syntax.specs.declared.node.Node.TheVariants.{Const, Atom as Leaf}
 use Rattle.atom_lines.specs.Binding.{Binding, IsAtomNode}
 use Rattle.online_nodes.specs.Needed.{IsReader}
 use Rattle.online_nodes.specs.StreamedWide.{front_at}
-use Rattle.online_robust.specs.Held.{Edge, Held, edge_at, number_at, with_edge, with_number}
+use Rattle.online_robust.specs.Held.{Held, edge_at, number_at, with_edge, with_number}
 use Rattle.online_robust.specs.Turns.{Turn, Belongs, HasSwept, IsStreamedFault, IsSwept, StandsNow}
 use Rattle.online_robust.specs.Putting.{constant_margin, lines_of, HasPut, HasPutAtom, HasPutRow, IsAtomPiece, IsAtomValue}
-use Rattle.online_robust.specs.Pasts.{Past, with_row, with_end, trace_of, number_by, shown_by, number_of, shown_of, IsWork}
+use Rattle.online_robust.specs.Pasts.{Past, trace_of, number_by, shown_by, number_of, shown_of}
 use Rattle.online_robust.specs.Moving.{Move, CanMove, CanGiveOut, CanGoTo, CanMoveByRow, CanMoveByEnd, HasMoved, IsFaultOf, last_row_after, last_row_of, turn_of}
-use Rattle.online_robust.specs.declared.line.MarginLine.{MarginLine}
 use Rattle.online_robust.specs.declared.operator.Operator.{Operator}
 use Rattle.online_robust.specs.declared.station.Station.{Station}
 use Rattle.online_robust.specs.declared.station.Work.{Work}

@@ -1,15 +1,14 @@
 -- The text of the lines that a node gave out is that of the stream of its margins.
 use Rattle.std.proofs.Common.{◌≡◌, ℕ, Bool, true, false, List, [], ◌∷◌, ◌++◌, length, refl, sym, ap, subst, ◌∙◌, append_assoc, append-nil, Option, Some, None, ℤ, pos}
 use Rattle.std.specs.Prelude.{MatchBool, int_lt}
-use Rattle.rational.specs.Time.{Rational, whole}
-use Rattle.stl_syntax.specs.Trace.{Header, Row, Trace, AreRows, first_time, last_time, start}
+use Rattle.rational.specs.Time.{whole}
+use Rattle.stl_syntax.specs.Trace.{Header, Row, Trace, AreRows, first_time, last_time}
 use Rattle.stl_syntax.specs.Formula.{Subformula}
 use Rattle.stl_syntax.specs.Knots.{Knot, Piece, Knots}
 use Rattle.stl_syntax.specs.Stream.{IsRowsText}
 use Rattle.stl_syntax.specs.Texts.{AreMarginLines, ArePieceLines}
-use Rattle.stl_syntax.specs.Verdicts.{TellsClosed}
 use Rattle.stl_syntax.specs.declared.scale.Scale.{Scale}
-use Rattle.online_nodes.specs.MarginEdges.{Part, point, gap, parts_after, parts_of, IsPartLine, AreNewParts, AreRowsParts, AreEmittedParts, shown_number}
+use Rattle.online_nodes.specs.MarginEdges.{Part, parts_after, parts_of, IsPartLine, AreNewParts, AreRowsParts, AreEmittedParts, shown_number}
 use Rattle.online_nodes.specs.MarginStream.{TellsLeftOpen, IsNewMargins, IsMarginStream}
 use Rattle.online_nodes.specs.StreamedWide.{front_at}
 use Rattle.online_robust.specs.Lining.{ArePartLines}

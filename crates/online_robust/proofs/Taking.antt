@@ -1,24 +1,22 @@
 -- A line of the root is taken, or nothing that the nodes hold has changed.
-use Rattle.std.proofs.Common.{◌≡◌, ◌≢◌, ℕ, suc, zero, ◌+◌, ◌-◌, ◌<◌, ◌≤◌, Bool, true, false, List, [], ◌∷◌, ◌++◌, length, drop, refl, sym, ap, subst, ◌∙◌, arith, append_assoc, append-nil, inl, inr, Option, Some, None, ℤ, pos, set, take, get_or, get_or-set_same, get_or-set_other, length-set}
-use Rattle.std.specs.Prelude.{IfSome, MatchBool, int_lt, map, slice_get}
+use Rattle.std.proofs.Common.{◌≡◌, ◌≢◌, ℕ, suc, ◌-◌, ◌<◌, Bool, true, false, List, [], ◌∷◌, ◌++◌, length, drop, refl, sym, ap, subst, ◌∙◌, append_assoc, inl, inr, Option, Some, None, ℤ, pos, set, take, get_or, get_or-set_same, get_or-set_other, length-set}
+use Rattle.std.specs.Prelude.{MatchBool, int_lt, slice_get}
 use Rattle.std.proofs.lemmas.Bool.{cases_eq}
 use Rattle.std.proofs.lemmas.List.{set-get_or}
 use Rattle.rational.specs.Windows.{Function}
 use Rattle.pl_signal.proofs.Values.{some_is}
-use Rattle.stl_syntax.specs.Trace.{Header, Row, Trace, IsTrace, Continues, first_time, last_time}
+use Rattle.stl_syntax.specs.Trace.{Header, Row, Trace, IsTrace, Continues, last_time}
 use Rattle.stl_syntax.specs.Formula.{subformula}
 use Rattle.stl_syntax.specs.SupInf.{Robustness}
 use Rattle.stl_syntax.specs.Limits.{reach}
 use Rattle.stl_syntax.specs.declared.node.Node.{Node}
-use Rattle.online_nodes.specs.MarginEdges.{AreEmittedParts}
 use Rattle.online_nodes.specs.Network.{reach_back}
-use Rattle.online_nodes.specs.Needed.{IsReader}
 use Rattle.online_nodes.specs.StreamedWide.{front_at}
 use Rattle.online_nodes.proofs.ReadersLaw.{root_unread}
 use Rattle.online_robust.specs.Held.{Edge, Held, edge_at, held_at, held_of, no_edge, number_at, with_edge, without}
 use Rattle.online_robust.specs.Told.{AreTold, AreFit, IsFitLine, IsToldLine}
 use Rattle.online_robust.specs.Turns.{AreInputs, IsInput, seen_by}
-use Rattle.online_robust.specs.Pasts.{Past, trace_of, number_of, part_of, Gave, AreToldOver, IsHeld, IsWork}
+use Rattle.online_robust.specs.Pasts.{Past, number_of, Gave, AreToldOver, IsHeld, IsWork}
 use Rattle.online_robust.specs.Moving.{AreStreamed}
 use Rattle.online_robust.specs.Nets.{Shows, AreRowsSoFar, IsTimely}
 use Rattle.online_robust.specs.declared.line.MarginLine.{MarginLine}

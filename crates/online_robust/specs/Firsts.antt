@@ -1,5 +1,5 @@
 -- The nodes of a network before any row.
-use Rattle.std.specs.Prelude.{◌≡◌, ℕ, ◌<◌, List, [], length, Option, Some, None, slice_get}
+use Rattle.std.specs.Prelude.{◌≡◌, ℕ, List, [], length, Some, None, slice_get}
 use Rattle.stl_syntax.specs.Trace.{Trace}
 use Rattle.stl_syntax.specs.Formula.{subformula, horizon}
 use Rattle.stl_syntax.specs.declared.atom.Atom.{Atom}

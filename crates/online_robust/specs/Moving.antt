@@ -1,8 +1,7 @@
 -- How a node of the network goes on from one past to the next.
-use Rattle.std.specs.Prelude.{◌≡◌, ◌≢◌, ◌⊎◌, ℕ, suc, ◌<◌, ◌≤◌, Bool, true, false, ℤ, pos, int_lt, List, [], ◌∷◌, ◌++◌, length, take, map, Option, Some, None, MatchBool, slice_get}
+use Rattle.std.specs.Prelude.{◌≡◌, ◌≢◌, ◌⊎◌, ℕ, suc, ◌<◌, ◌≤◌, Bool, false, ℤ, pos, int_lt, List, [], ◌∷◌, length, take, map, Option, Some, None, MatchBool, slice_get}
 use Rattle.rational.specs.Time.{whole}
 use Rattle.rational.specs.Windows.{Function}
-use Rattle.frac128.specs.Value.{value}
 use Rattle.pl_signal.specs.declared.faults.OpFault.{OpFault}
 use Rattle.value_laws.specs.declared.margin.Margin.{Margin}
 use Rattle.stl_syntax.specs.Trace.{Header, Row, Trace, IsTrace, Continues, first_time, last_time}
@@ -16,7 +15,7 @@ use Rattle.atom_lines.specs.Binding.{Binding, IsBound}
 use Rattle.online_nodes.specs.MarginEdges.{AreNewParts}
 use Rattle.online_nodes.specs.Network.{reach_back}
 use Rattle.online_nodes.specs.Needed.{IsReader}
-use Rattle.online_nodes.specs.StreamedWide.{IsUnstreamed, front_at}
+use Rattle.online_nodes.specs.StreamedWide.{IsUnstreamed}
 use Rattle.online_robust.specs.Held.{Held, edge_at, held_at, number_at, with_more, with_number}
 use Rattle.online_robust.specs.Told.{AreTold, AreFit, AreJoined}
 use Rattle.online_robust.specs.Turns.{Turn, AreInputs, IsStreamedFault, seen_by}

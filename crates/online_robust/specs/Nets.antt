@@ -1,12 +1,10 @@
 -- What a network of margins holds, when it stands for a past, and what its calls answer.
-use Rattle.std.specs.Prelude.{◌≡◌, ◌≢◌, ℕ, ◌-◌, ◌^◌, ◌<◌, ◌≤◌, nat_lt, if◌then◌else◌, Bool, true, false, pos, List, [], ◌∷◌, ◌++◌, length, map, Option, Some, None, option_map, slice_get}
+use Rattle.std.specs.Prelude.{◌≡◌, ◌≢◌, ℕ, ◌-◌, ◌^◌, ◌<◌, ◌≤◌, nat_lt, if◌then◌else◌, Bool, true, false, List, [], ◌∷◌, ◌++◌, length, map, Option, Some, None, option_map, slice_get}
 use Rattle.rational.specs.Rational.{IsWithin}
-use Rattle.rational.specs.Time.{Rational}
 use Rattle.frac128.specs.Value.{value}
 use Rattle.stl_syntax.specs.Trace.{Continues, Header, Row, Trace, IsTrace, first_time, last_time}
 use Rattle.stl_syntax.specs.Formula.{subformula, horizon}
 use Rattle.stl_syntax.specs.SupInf.{Robustness}
-use Rattle.stl_syntax.specs.WellFormed.{AreWellFormed, HasOneRoot}
 use Rattle.stl_syntax.specs.declared.node.Node.{Node}
 use Rattle.stl_syntax.specs.declared.scale.Scale.{Scale}
 use Rattle.pl_signal.specs.declared.faults.OpFault.{OpFault}
@@ -16,11 +14,10 @@ use Rattle.atom_lines.specs.Binding.{Binding, IsBound}
 use Rattle.online_nodes.specs.MarginEdges.{Part, AreEmittedParts, IsMarginEdge, IsMarginRootEdge}
 use Rattle.online_nodes.specs.Network.{reach_back}
 use Rattle.online_nodes.specs.Needed.{IsReader}
-use Rattle.online_nodes.specs.StreamedWide.{IsUnstreamed}
 use Rattle.online_robust.specs.Held.{Held, held_at, number_at}
 use Rattle.online_robust.specs.Told.{IsTick, IsToldLine}
 use Rattle.online_robust.specs.Turns.{seen_by}
-use Rattle.online_robust.specs.Pasts.{Past, with_row, with_end, trace_of, part_of, number_of, shown_of, Gave, IsHeld, IsWork}
+use Rattle.online_robust.specs.Pasts.{Past, trace_of, part_of, number_of, Gave, IsHeld, IsWork}
 use Rattle.online_robust.specs.Moving.{Move, AreStreamed, IsNext, IsRowNext, IsEndNext, IsFaultOf, last_row_of}
 use Rattle.online_robust.specs.declared.line.MarginLine.{MarginLine}
 use Rattle.online_robust.specs.declared.line.MarginLine.TheVariants.{Point, Gap}

@@ -1,9 +1,8 @@
 -- What a network of margins stands for: the rows so far and whether the input has ended; what each node gave out for them, and what its
 -- reader still needs of it.
-use Rattle.std.specs.Prelude.{◌≡◌, ℕ, suc, ◌-◌, ◌<◌, ◌≤◌, ◌<ℤ◌, Bool, true, false, ℤ, pos, int_lt, List, [], ◌∷◌, ◌++◌, length, take, drop, map, Option, Some, None, IfSome, MatchBool, slice_get}
-use Rattle.rational.specs.Time.{Rational, whole, ◌≤ʳ◌, ◌<ʳ◌}
+use Rattle.std.specs.Prelude.{◌≡◌, ℕ, suc, ◌<◌, Bool, true, false, ℤ, pos, List, [], ◌∷◌, ◌++◌, take, drop, map, Option, Some, None, IfSome, slice_get}
+use Rattle.rational.specs.Time.{whole, ◌≤ʳ◌, ◌<ʳ◌}
 use Rattle.rational.specs.Extended.{value_at}
-use Rattle.rational.specs.Windows.{Function}
 use Rattle.frac128.specs.Value.{value}
 use Rattle.value_laws.specs.Margins.{margin_function}
 use Rattle.stl_syntax.specs.Trace.{Header, Row, Trace, IsTrace, Continues, first_time, last_time}

@@ -1,5 +1,5 @@
 -- What is put onto a node's edge: the lines of a signal, and those of a constant or an atom at a row.
-use Rattle.std.specs.Prelude.{◌≡◌, ℕ, ◌^◌, pos, false, true, Bool, IsTrue, List, [], ◌∷◌, ◌++◌, Option, Some, None}
+use Rattle.std.specs.Prelude.{◌≡◌, ℕ, ◌^◌, pos, false, true, Bool, IsTrue, List, [], ◌∷◌, Option, Some, None}
 use Rattle.rational.specs.Rational.{Rational, ◌≈◌}
 use Rattle.rational.specs.Extended.{value_at}
 use Rattle.rational.specs.Affine.{IsBounded}

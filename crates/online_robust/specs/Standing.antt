@@ -1,5 +1,5 @@
 -- When an operator stands for its node.
-use Rattle.std.specs.Prelude.{◌≡◌, ℕ, ℤ, Bool, true, false, List, Option, Some, None, take}
+use Rattle.std.specs.Prelude.{◌≡◌, ℕ, ℤ, true, false, List, Option, Some, None, take}
 use Rattle.rational.specs.Time.{whole}
 use Rattle.rational.specs.Windows.{Function}
 use Rattle.pl_signal.specs.Joining.{ChosenOf}

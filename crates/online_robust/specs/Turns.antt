@@ -1,5 +1,5 @@
 -- How an operator is driven: what it needs to be so before it goes on to a number, and what it leaves.
-use Rattle.std.specs.Prelude.{◌≡◌, ℕ, suc, ◌+◌, ◌<◌, ◌≤◌, ◌<ℤ◌, ◌≤ℤ◌, ◌+ℤ◌, ℤ, pos, int_lt, if◌then◌else◌, Bool, true, false, List, [], ◌∷◌, length, take, drop, Option, Some, None, IfSome, MatchOption, MatchBool, slice_get}
+use Rattle.std.specs.Prelude.{◌≡◌, ℕ, ◌+◌, ◌<◌, ◌≤◌, ◌<ℤ◌, ◌≤ℤ◌, ◌+ℤ◌, ℤ, pos, int_lt, if◌then◌else◌, Bool, true, List, [], ◌∷◌, length, take, drop, Option, Some, None, IfSome, MatchBool, slice_get}
 use Rattle.rational.specs.Time.{Rational, whole, ◌≈◌, ◌≤ʳ◌, ◌<ʳ◌}
 use Rattle.rational.specs.Windows.{Function}
 use Rattle.frac128.specs.Value.{value}
@@ -21,7 +21,7 @@ use Rattle.stl_syntax.specs.SupInf.{Robustness, margin_setting}
 use Rattle.stl_syntax.specs.WellFormed.{AreWellFormed, HasOneRoot}
 use Rattle.stl_syntax.specs.Limits.{reach, own_reach}
 use Rattle.stl_syntax.specs.declared.node.Node.{Node}
-use Rattle.stl_syntax.specs.declared.node.Node.TheVariants.{Const, Atom as Leaf, Until, Since, Eventually, Always, Once, Historically}
+use Rattle.stl_syntax.specs.declared.node.Node.TheVariants.{Const, Atom as Leaf, Eventually, Always, Once, Historically}
 use Rattle.online_nodes.specs.Network.{reach_back}
 use Rattle.online_nodes.specs.Needed.{IsReader}
 use Rattle.online_nodes.specs.StreamedWide.{IsUnstreamed, front_at, IsStreamedCrossing, IsStreamedValue}

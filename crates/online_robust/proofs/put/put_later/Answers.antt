@@ -1,4 +1,4 @@
-use Rattle.std.proofs.Common.{[], ◌∷◌, ◌++◌, ◌+◌, ◌≡◌, subst, sym, take, arith}
+use Rattle.std.proofs.Common.{[], ◌∷◌, subst, sym, take, arith}
 use Rattle.online_robust.specs.Putting.{later_lines, HasPut}
 use Rattle.online_robust.specs.declared.line.MarginLine.TheVariants as Part
 use Rattle.online_robust.proofs.Puts.{later_more, put_both}

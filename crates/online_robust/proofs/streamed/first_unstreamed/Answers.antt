@@ -1,4 +1,4 @@
-use Rattle.std.proofs.Common.{◌≡◌, ◌<◌, ◌∙◌, ℕ, Some, sym, ap, subst, arith, length, inl, inr, below_more}
+use Rattle.std.proofs.Common.{◌≡◌, ◌∙◌, Some, sym, subst, arith, below_more}
 use Rattle.std.specs.Prelude.{slice_get}
 use Rattle.std.proofs.lemmas.Option.{slice_get_within}
 use Rattle.pl_signal.proofs.Values.{some_is}

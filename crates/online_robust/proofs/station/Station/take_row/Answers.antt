@@ -2,8 +2,7 @@ use Rattle.std.proofs.Common.{rules, ◌≡◌, ◌∙◌, ap, subst, sym, pos, 
 use Rattle.std.specs.Int.{w64}
 use Rattle.std.proofs.lemmas.Int.{to_z-of_z}
 use Rattle.online_robust.specs.Held.{edge_at, with_edge, with_number}
-use Rattle.online_robust.specs.Moving.{Move, CanGoTo, CanMoveByRow, HasMoved}
-use Rattle.online_robust.specs.declared.station.Work.TheVariants as W
+use Rattle.online_robust.specs.Moving.{CanGoTo, HasMoved}
 use Rattle.online_robust.proofs.Puts.{put_within}
 use Rattle.online_robust.proofs.Stationing.{row_atom, row_bound, row_const, row_edge, row_go, row_last}
 use Rattle.online_robust.proofs.station.Station.take_row.Goals as goal
