@@ -1,6 +1,6 @@
 -- A network's operators belong to its edges, and what a step that moves nothing leaves.
 use Rattle.std.proofs.Common.{◌≡◌, refl, sym, ap, subst, ◌∙◌, ℕ, zero, suc, ◌+◌, ◌-◌, ◌*◌, ◌<◌, ◌≤◌, Bool, true, false, Option, Some, None, List, [], ◌∷◌, ◌++◌, length, drop, ℤ, pos, ◌<ℤ◌, arith}
-use Rattle.std.specs.Prelude.{MatchOption, int_lt, ◌≢◌, ◌^◌, cond, not, ◌&&◌, ◌==◌, min, slice_get, slice_index_or, slice_set, option_map}
+use Rattle.std.specs.Prelude.{MatchBool, MatchOption, int_lt, ◌≢◌, ◌^◌, cond, not, ◌&&◌, ◌==◌, min, slice_get, slice_index_or, slice_set, option_map}
 use Rattle.std.proofs.lemmas.Option.{slice_get_within}
 use Rattle.stl_syntax.specs.Trace.{Header, Row, AreRowsAfter, first_time, last_time}
 use Rattle.stl_syntax.specs.WellFormed.{AreWellFormed}
@@ -127,6 +127,23 @@ set_here [] i x l = absurd (let z : i < 0 = l in omega (arith, z))
 set_here (y ∷ xs) zero x l = refl
 set_here (y ∷ xs) (suc i) x l = set_here xs i x (let z : suc i < suc (length xs) = l in omega (arith, z))
 
+-- what is there already, written once more
+pub set_same : {X : Type 0} (xs : List X) (i : ℕ) (x : X) → slice_get xs i ≡ Some x → slice_set xs i x ≡ xs
+set_same [] i x is = refl
+set_same (y ∷ xs) zero x is = (let e : y ≡ x = one y x is in ap (λ z. z ∷ xs) (sym e))
+  where
+    one : {X : Type 0} (a b : X) → Some a ≡ Some b → a ≡ b
+    one a b e = cc
+set_same (y ∷ xs) (suc i) x is = ap (λ ys. y ∷ ys) (set_same xs i x is)
+
+-- a step that moved nothing leaves what the network has
+pub unmoved_parts : (net : Parts) (i : ℕ) (op after : Operator) (e' : Held) → slice_get net.operators i ≡ Some (Some op) → e' ≡ net.edges
+    → after ≡ op → net ≡ record net { edges = e'; operators = slice_set net.operators i (Some after) }
+unmoved_parts net i op after e' is same still =
+    sym (ap (λ e. record net { edges = e; operators = slice_set net.operators i (Some after) }) same
+    ∙ ap (λ (o : Operator). record net { operators = slice_set net.operators i (Some o) }) still
+    ∙ ap (λ os. record net { operators = os }) (set_same net.operators i (Some op) is))
+
 pub set_other : {X : Type 0} (xs : List X) (i : ℕ) (x : X) (j : ℕ) → j ≢ i → slice_get (slice_set xs i x) j ≡ slice_get xs j
 set_other [] i x j d = refl
 set_other (y ∷ xs) zero x zero d = absurd (d refl)
@@ -215,18 +232,19 @@ module _ (nodes : List Node) (header : Header) (events : List Event) (net : Part
   belongs_now i op q time is last e = subst (λ t. Belongs nodes header events op net.edges t net.closed) (sym e) (belongs_of i op q is last)
 
   -- what the answer of one step says where it was none, and where it was an operator
-  pub unready_by : (i : ℕ) (op : Operator) (e' : Held) (time : ℕ) (o : Option Operator) → slice_get net.operators i ≡ Some (Some op)
-      → MatchOption o (¬ IsReady nodes s op.node) (IsStep nodes header events op net.edges e' time net.closed) → o ≡ None → ¬ IsReady nodes s i
-  unready_by i op e' time o is answer none =
+  pub unready_by : (i : ℕ) (op after : Operator) (e' : Held) (time : ℕ) (moved : Bool) → slice_get net.operators i ≡ Some (Some op)
+      → MatchBool moved (IsStep nodes header events op net.edges e' time net.closed after) (¬ IsReady nodes s op.node) → moved ≡ false
+      → ¬ IsReady nodes s i
+  unready_by i op after e' time moved is answer none =
       subst (λ k. ¬ IsReady nodes s k) (kept_operator i op is).1
-      (subst (λ x. MatchOption x (¬ IsReady nodes s op.node) (IsStep nodes header events op net.edges e' time net.closed)) none answer)
+      (subst (λ x. MatchBool x (IsStep nodes header events op net.edges e' time net.closed after) (¬ IsReady nodes s op.node)) none answer)
 
-  pub step_by : (op : Operator) (e' : Held) (q : Row) (time : ℕ) (o : Option Operator) (after : Operator) → time ≡ q.time
-      → MatchOption o (¬ IsReady nodes s op.node) (IsStep nodes header events op net.edges e' time net.closed) → o ≡ Some after
+  pub step_by : (op after : Operator) (e' : Held) (q : Row) (time : ℕ) (moved : Bool) → time ≡ q.time
+      → MatchBool moved (IsStep nodes header events op net.edges e' time net.closed after) (¬ IsReady nodes s op.node) → moved ≡ true
       → IsStep nodes header events op net.edges e' q.time net.closed after
-  step_by op e' q time o after now answer some =
+  step_by op after e' q time moved now answer some =
       subst (λ t. IsStep nodes header events op net.edges e' t net.closed after) now
-      (subst (λ x. MatchOption x (¬ IsReady nodes s op.node) (IsStep nodes header events op net.edges e' time net.closed)) some answer)
+      (subst (λ x. MatchBool x (IsStep nodes header events op net.edges e' time net.closed after) (¬ IsReady nodes s op.node)) some answer)
 
   -- before any row no node is ready
   pub none_ready : net.last ≡ None → (i : ℕ) → i < length nodes → ¬ IsReady nodes s i

@@ -8,19 +8,17 @@ advance-requires c =
 
 pub returns-then-need-eq0-clause-stepped : goal.returns-then-need-eq0-clause-stepped
 returns-then-need-eq0-clause-stepped c nodes header events b =
-    no_room nodes events c.args.operator.node c.args.edges.now (sym (c.need-need.ensures.room nodes header events b) ∙ c.if-need-eq0.true)
+    no_room nodes events c.args.operator.now.node c.args.edges.now (sym (c.need-need.ensures.room nodes header events b) ∙ c.if-need-eq0.true)
 
-pub returns : goal.returns
-returns c = record {
-  idle = λ e. absurd (cc);
-  stepped = λ nodes header events b. record {
-    room = c.reserve.new.self;
-    same = c.reserve.ensures.edges;
-    same_start = c.reserve.ensures.start;
-    stepped = c.in_ok-advance.ensures.stepped nodes header events (belongs_spare c.reserve.ensures.edges c.reserve.ensures.start b);
-    belongs = c.in_ok-advance.ensures.belongs nodes header events (belongs_spare c.reserve.ensures.edges c.reserve.ensures.start b);
-    node = c.advance.ensures.node;
-    ready = some_room nodes events c.args.operator.node c.args.edges.now
-        (λ e. absurd (let r = c.need-need.ensures.room nodes header events b in let d = c.if-need-eq0.false in omega (arith, r, d, e)));
-  };
-}
+pub returns-clause-stepped : goal.returns-clause-stepped
+returns-clause-stepped c nodes header events b =
+    record {
+      room = c.reserve.new.self;
+      same = c.reserve.ensures.edges;
+      same_start = c.reserve.ensures.start;
+      stepped = c.in_ok-advance.ensures.stepped nodes header events (belongs_spare c.reserve.ensures.edges c.reserve.ensures.start b);
+      belongs = c.in_ok-advance.ensures.belongs nodes header events (belongs_spare c.reserve.ensures.edges c.reserve.ensures.start b);
+      node = c.advance.ensures.node;
+      ready = some_room nodes events c.args.operator.now.node c.args.edges.now
+          (λ e. absurd (let r = c.need-need.ensures.room nodes header events b in let d = c.if-need-eq0.false in omega (arith, r, d, e)));
+    }
