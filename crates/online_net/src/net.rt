@@ -100,7 +100,7 @@ fn time_of(row: &Option<Row>) -> Option<u32>
     }
 }
 
-/// One step of an operator, with room made for it before. False where it is not ready, and then nothing changes.
+/// One step of an operator. False where it is not ready, and then nothing changes.
 fn step_one(
     edges: &mut Edges,
     operator: &mut Operator,
@@ -114,12 +114,10 @@ fn step_one(
         → IfOk result (λ moved. MatchBool moved (IsStep nodes header events operator.old edges.old edges.new now ended operator.new)
         (¬ IsReady nodes (state nodes events) operator.old.node)) }
 {
-    let need = operator.need(edges, now, ended);
-    if need == 0 {
+    let moved = operator.advance(edges, now, ended)?;
+    if !moved {
         return Ok(false);
     }
-    edges.reserve(need)?;
-    operator.advance(edges, now, ended)?;
     Ok(true)
 }
 

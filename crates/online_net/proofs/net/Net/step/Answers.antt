@@ -2,8 +2,7 @@ use Rattle.std.proofs.Common.{◌≡◌, ◌<◌, Bool, true, false, Some, List,
 use Rattle.std.specs.Prelude.{slice_get, IsTrue}
 use Rattle.stl_syntax.specs.Trace.{Header}
 use Rattle.stl_syntax.specs.declared.node.Node.{Node}
-use Rattle.online_nodes.specs.Network.{Event, step, state, node_is_atom, IsReady}
-use Rattle.online_nodes.specs.Held.{Held}
+use Rattle.online_nodes.specs.Network.{Event, step, state, IsReady}
 use Rattle.online_net.specs.Nets.{Parts, Stands}
 use Rattle.std.specs.Prelude.{slice_set}
 use Rattle.std.proofs.lemmas.List.{length-set}
