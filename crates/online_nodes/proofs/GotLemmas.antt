@@ -2,7 +2,7 @@
 use Rattle.std.proofs.Common.{◌≡◌, ◌≢◌, ℕ, ◌<◌, List, [], ◌++◌, length, get_or, set, refl, sym, ap, ◌∙◌, arith, append_assoc, length-append}
 use Rattle.std.proofs.lemmas.List.{append-nil, get_or-set_same, get_or-set_other, length-set, set-get_or}
 use Rattle.stl_syntax.specs.declared.items.Verdict.{Verdict}
-use Rattle.online_nodes.proofs.QueueLemmas.{set-set_same}
+use Rattle.seg_pool.proofs.ListsLemmas.{set-set_same}
 use Rattle.online_nodes.specs.Held.{Held, Edge, no_edge, edge_at, with_more}
 use Rattle.online_nodes.specs.Written.{HasGot}
 

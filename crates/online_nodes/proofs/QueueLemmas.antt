@@ -1,5 +1,5 @@
 -- How a change of one queue shows in the edges that a caller sees.
-use Rattle.std.proofs.Common.{◌≡◌, ◌≢◌, ◌⊎◌, ℕ, zero, suc, ◌+◌, ◌<◌, ◌≤◌, List, [], ◌∷◌, ◌++◌, get_or, set, map, length, refl, sym, ap, subst, ◌∙◌, inl, inr, arith}
+use Rattle.std.proofs.Common.{◌≡◌, ◌≢◌, ◌⊎◌, ℕ, zero, suc, ◌+◌, ◌<◌, ◌≤◌, List, [], ◌∷◌, ◌++◌, get_or, set, map, length, sym, ap, subst, ◌∙◌, inl, inr, arith}
 use Rattle.std.specs.List.{All}
 use Rattle.std.proofs.lemmas.Bool.{cases_eq}
 use Rattle.std.proofs.lemmas.List.{get_or-map, get_or-set_same, get_or-set_other, length-map, map-set}
@@ -8,13 +8,6 @@ use Rattle.std.proofs.Math.Seq.{map-set_same}
 use Rattle.online_nodes.specs.declared.queue.Queue.{Queue}
 use Rattle.online_nodes.specs.Held.{Edge, no_edge}
 use Rattle.online_nodes.specs.Queues.{edge_of, IsQueue}
-
--- of two writes at one place the later one stands
-pub set-set_same : {X : Type 0} (xs : List X) (i : ℕ) (a b : X) → set (set xs i a) i b ≡ set xs i b
-set-set_same [] zero a b = refl
-set-set_same [] (suc i) a b = refl
-set-set_same (x ∷ xs) zero a b = refl
-set-set_same (x ∷ xs) (suc i) a b = ap (λ ys. x ∷ ys) (set-set_same xs i a b)
 
 -- one queue more, behind the others
 pub all_more : {n : ℕ} (qs : List Queue) (q : Queue) → All (IsQueue n) qs → IsQueue n q → All (IsQueue n) (qs ++ q ∷ [])

@@ -1,6 +1,6 @@
-use Rattle.std.proofs.Common.{◌≡◌, ◌<◌, map, set, ap, length, ◌∙◌, arith}
+use Rattle.std.proofs.Common.{◌<◌, map, length, ◌∙◌, arith}
 use Rattle.std.proofs.lemmas.List.{length-map, length-set}
-use Rattle.online_nodes.specs.Queues.{edge_of, IsQueue}
+use Rattle.online_nodes.specs.Queues.{edge_of}
 use Rattle.online_nodes.proofs.QueueLemmas.{queue_at, queue_same, queues_room, room_on}
 use Rattle.online_nodes.proofs.edges.make_room.Goals as goal
 use Rattle.online_nodes.proofs.edges.make_room.Goals.{After-index_mut}

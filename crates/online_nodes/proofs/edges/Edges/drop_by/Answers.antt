@@ -2,7 +2,7 @@ use Rattle.std.proofs.Common.{◌≡◌, sym, ap, subst, ◌∙◌, get_or, set,
 use Rattle.std.proofs.lemmas.List.{get_or-set_same, length-set}
 use Rattle.rational.specs.Rational.{◌<ʳ◌, ◌≈◌, whole}
 use Rattle.frac128.specs.Value.{value}
-use Rattle.online_nodes.proofs.QueueLemmas.{set-set_same}
+use Rattle.seg_pool.proofs.ListsLemmas.{set-set_same}
 use Rattle.online_nodes.specs.Held.{edge_at, held_at, no_edge, without}
 use Rattle.online_nodes.proofs.DroppingLemmas.{IsCutBy, cut_one, dropped_by, above_of_not}
 use Rattle.online_nodes.proofs.edges.Edges.drop_by.Goals as goal

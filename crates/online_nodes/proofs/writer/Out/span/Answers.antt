@@ -1,2 +1,0 @@
-use Rattle.std.proofs.Common.{refl}
-use Rattle.online_nodes.proofs.writer.Out.span.Goals as goal
