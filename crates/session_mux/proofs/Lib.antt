@@ -1,0 +1,4 @@
+pub mod TagLemmas
+pub mod OwnLemmas
+pub mod RecentLemmas
+pub mod LineTexts

@@ -1,0 +1,5 @@
+pub mod Sessions
+pub mod Tags
+pub mod Telling
+pub mod Owning
+pub mod SessionsAlone

@@ -1,0 +1,12 @@
+-- The lines that a session is told: words of private contracts.
+use Rattle.std.specs.Prelude.{ℕ, List, ◌++◌, map, flat_map, true}
+use Rattle.stl_syntax.specs.Texts.{newline}
+use Rattle.trace_reader.specs.TraceText.{Line, lines}
+
+-- the lines of a text, without their LF
+abbrev pub texts : List ℕ → List (List ℕ)
+texts text = map (λ (line : Line). line.bytes) (lines true text)
+
+-- lines, each after a prefix
+abbrev pub prefixed_texts : List ℕ → List (List ℕ) → List ℕ
+prefixed_texts prefix all = flat_map (λ (line : List ℕ). prefix ++ line ++ newline) all
