@@ -1,7 +1,8 @@
 -- The lines that a session is told: words of private contracts.
-use Rattle.std.specs.Prelude.{ℕ, List, ◌++◌, map, flat_map, true}
+use Rattle.std.specs.Prelude.{ℕ, List, ◌++◌, map, flat_map, true, codes}
 use Rattle.stl_syntax.specs.Texts.{newline}
 use Rattle.trace_reader.specs.TraceText.{Line, lines}
+use Rattle.session_mux.specs.Sessions.{prefixed}
 
 -- the lines of a text, without their LF
 abbrev pub texts : List ℕ → List (List ℕ)
@@ -10,3 +11,7 @@ texts text = map (λ (line : Line). line.bytes) (lines true text)
 -- lines, each after a prefix
 abbrev pub prefixed_texts : List ℕ → List (List ℕ) → List ℕ
 prefixed_texts prefix all = flat_map (λ (line : List ℕ). prefix ++ line ++ newline) all
+
+-- the lines of a text, each after a tag and a space
+abbrev pub told_lines : List ℕ → List ℕ → List ℕ
+told_lines tag text = prefixed (tag ++ codes " ") (lines true text)

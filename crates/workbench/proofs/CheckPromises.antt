@@ -23,11 +23,11 @@ use Rattle.workbench.specs.Settled.{TellsTruth, none, bad, faulty, answered, wid
 use Rattle.workbench.specs.Running.{IsBegun, IsEnd, settled, unread, unwritten, no_memory, HasEnded, IsReadOut, asked, unknown, IsRun}
 use Rattle.workbench.specs.Saying.{IsSaid, whole as all_said, part as part_said}
 use Rattle.workbench.specs.InputFaults.{Fault, fault_text, whole_limits, IsInputFault}
-use Rattle.workbench.specs.Reading.{IsWhole, IsSound}
+use Rattle.trace_stream.specs.Reading.{IsWhole, IsSound}
 use Rattle.workbench.specs.ErrTexts.{out_of_memory, read_fault, write_fault}
 use Rattle.workbench.specs.Promises as old
 use Rattle.workbench.specs.Promises.{AreNoForm, AskForBad, AskFor, Took, Got, IsChecked, IsCutOff, IsErrLine, IsMessage}
-use Rattle.workbench.proofs.FaultsStay.{unsound}
+use Rattle.trace_stream.proofs.FaultsStay.{unsound}
 use Rattle.workbench.proofs.NoForm.{two_is_none}
 use Rattle.workbench.proofs.RunEnds.{word_form, asked_word}
 use Rattle.workbench.proofs.OneRequest.{one_judged}

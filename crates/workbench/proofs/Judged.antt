@@ -34,8 +34,8 @@ use Rattle.offline_eval.specs.Evaluation.{TellNodes}
 use Rattle.offline_eval.proofs.Places.{atoms_on_atom, atoms_on_other, told_none, told_atom, told_other}
 use Rattle.report.specs.SignalVerdicts.{sign_of}
 use Rattle.report.proofs.SignalLaw.{truth_at, signal_describes}
-use Rattle.workbench.specs.declared.case.Case.{Case}
-use Rattle.workbench.specs.Cases.{IsCase}
+use Rattle.trace_stream.specs.declared.case.Case.{Case}
+use Rattle.trace_stream.specs.Cases.{IsCase}
 use Rattle.workbench.specs.Answers.{IsJudged}
 use Rattle.workbench.specs.Judging.{setting_of, AreAtomsOf, IsRootOf, IsSignalText}
 
@@ -52,13 +52,6 @@ last_is time [] n h = absurd (omega (arith, h))
 last_is time (r ∷ []) n h = let e : n ≡ 0 = omega (arith, h) in subst (λ m. (slice_index_or (r ∷ []) m no_row).time ≡ r.time) (sym e) refl
 last_is time (r ∷ s ∷ rows) zero h = absurd (omega (arith, h))
 last_is time (r ∷ s ∷ rows) (suc n) h = last_is r.time (s ∷ rows) n (omega (arith, h))
-
-up_to_last : (width : ℕ) (rows : List Row) → AreRows width rows → first_time rows ≤ last_time 0 rows
-up_to_last width [] h = absurd h
-up_to_last width (r ∷ rows) h = last_from width r.time rows h.1
-
-pub first_to_last : (t : Trace) → IsTrace t → first_time t.rows ≤ last_time 0 t.rows
-first_to_last t ok = up_to_last (length t.header.columns) t.rows ok.rows
 
 module _ {P : Type 0} (shape : ShapeOf P) (reading : Trace → Reading) (c : Case) where
   pub no_atoms : AreAtomsOf shape reading c 0 []

@@ -22,7 +22,7 @@ use Rattle.workbench.specs.declared.request.Command.TheVariants.{Check, Robust, 
 use Rattle.workbench.specs.declared.request.Mode.{Mode}
 use Rattle.workbench.specs.declared.request.Mode.TheVariants.{Whole, Watch}
 use Rattle.workbench.specs.Wholes.{judge_of, status_of_truth, IsAnswerOf, IsUnanswered, IsWrittenWith, all_of_it, a_part, IsWholeEnd, answered, unanswered, stopped, status_of, status_of_stop, IsEndLine, IsStopLine, EndsSoundly, IsBadEnd, refused, no_room}
-use Rattle.workbench.specs.declared.case.Case.{Case}
+use Rattle.trace_stream.specs.declared.case.Case.{Case}
 use Rattle.workbench.specs.declared.fault.Stop.{Stop}
 use Rattle.workbench.specs.declared.fault.Stop.TheVariants.{Fault as Faulty, Unread, Unwritten, NoMemory, Wide, TooMany}
 use Rattle.workbench.specs.ErrTexts.{write_fault}

@@ -27,7 +27,7 @@ use Rattle.online_nodes.proofs.Writing.{same_itself}
 use Rattle.online_nodes.proofs.EmittedLaw.{describes_tiles, tiles_append}
 use Rattle.report.specs.Report.{nodes_for}
 use Rattle.workbench.specs.InputFaults.{stream_limits}
-use Rattle.workbench.specs.Reading.{IsWhole}
+use Rattle.trace_stream.specs.Reading.{IsWhole}
 use Rattle.workbench.specs.Requests.{verdicts}
 use Rattle.workbench.specs.Settled.{IsAnsweredByRow}
 use Rattle.workbench.specs.SureLines.{AreSure, AreSureByRow, AreSureToEnd, Cover, IsCoverText, TellAlike, IsWatchText}

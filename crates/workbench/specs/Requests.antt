@@ -6,15 +6,10 @@ use Rattle.online_nodes.specs.StreamedWide.{IsFirstUnstreamed}
 use Rattle.stl_grammar.specs.FormulaRefusals.{IsFormulaOf, IsFormulaFault}
 use Rattle.stl_grammar.specs.declared.fault.FormulaFault.{FormulaFault}
 use Rattle.report.specs.Report.{Command, check, robust, explain, json, table}
+pub use Rattle.trace_stream.specs.Streams.{Stream, verdicts, early, margins}
 use Rattle.workbench.specs.Commands.{Judge, Form, judge, generate, IsForm, judge_word}
 use Rattle.workbench.specs.Commands as word
 use Rattle.workbench.specs.ErrTexts.{formula_fault_text, not_streamed_text}
-
--- the commands that answer row by row
-pub data Stream : Type 0 where
-  verdicts : Stream
-  early : Stream
-  margins : Stream
 
 -- words of no form, a formula that is refused with a line, a formula with what is to be done by it, or a trace to be generated
 pub data Request : Type 0 where

@@ -2,11 +2,9 @@
 #![tactic(auto)]
 
 mod answer;
-mod case;
 mod entry;
 mod explain;
 mod fault;
-mod follow;
 mod json;
 mod kept;
 pub mod laws;
@@ -24,7 +22,6 @@ mod stream;
 mod table;
 mod texts;
 mod top;
-mod verdicts;
 mod watch;
 
 pub use entry::program;

@@ -4,7 +4,7 @@ ghost use Rattle.io_edge.specs.Causes.{Rose, after_end};
 ghost use Rattle.io_edge.specs.Calls.{drained, filled};
 ghost use Rattle.workbench.specs.Saying.{IsSaid};
 ghost use Rattle.stl_grammar.specs.FormulaRefusals.{IsFormulaFault};
-ghost use Rattle.workbench.specs.Cases.{IsCase};
+ghost use Rattle.trace_stream.specs.Cases.{IsCase};
 ghost use Rattle.report.specs.Lines.{line_text};
 ghost use Rattle.workbench.specs.Requests.{AreHeld, AreFor};
 ghost use Rattle.workbench.specs.Commands as word;
@@ -12,7 +12,6 @@ ghost use Rattle.workbench.specs.Keeping.{HasRun};
 ghost use Rattle.workbench.specs.Wholes.{command_of, IsAnswerOf, IsUnanswered, IsWrittenWith, IsWholeEnd, IsBadEnd, IsEndLine, IsStopLine, HasFaultFor, EndsSoundly, status_of, status_of_stop, status_of_fault};
 
 use crate::answer::{Answer, judge};
-use crate::case::Case;
 use crate::explain::give_reasons;
 use crate::fault::Stop;
 use crate::json::give_report;
@@ -23,7 +22,7 @@ use crate::reading::read_trace;
 use crate::request::{Command, Mode, asked};
 use crate::robust::measure;
 use crate::table::tabulate;
-use crate::texts::{NO_MEMORY, fault_line, formula_line, too_many_cells_line, wide_line};
+use crate::texts::{NO_MEMORY, formula_line, too_many_cells_line, wide_line};
 use crate::watch::Watch;
 use io_edge::{Sink, Source};
 use report::Line;
@@ -31,6 +30,7 @@ use std::alloc::Global;
 use stl_grammar::{FormulaFault, parse};
 use stl_syntax::Formula;
 use trace_reader::Limits;
+use trace_stream::{Case, fault_line};
 
 /// The limits of a trace that is held whole.
 const LIMITS: Limits = Limits {

@@ -1,4 +1,5 @@
-use Rattle.workbench.proofs.OwedLaws.{stream_owed_once, check_owed_once, robust_owed_once, table_owed_once}
+use Rattle.trace_stream.proofs.OwedRows.{stream_owed_once}
+use Rattle.workbench.proofs.OwedLaws.{check_owed_once, robust_owed_once, table_owed_once}
 use Rattle.workbench.proofs.owing_laws.one_text_is_owed.Goals as goal
 
 pub returns : goal.returns
