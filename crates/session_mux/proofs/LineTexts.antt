@@ -51,8 +51,7 @@ telling_begins prefix text before first room = record {
 }
 
 module _ (prefix text before : List ℕ) (first : Buffer (List ℕ)) (rest mid : List ℕ) (now : Buffer (List ℕ)) (t : Telling prefix text before first rest mid now)
-  (line others : List ℕ) (is : lines true rest ≡ done line ∷ lines true others) where
-
+    (line others : List ℕ) (is : lines true rest ≡ done line ∷ lines true others) where
   all : lines true text ≡ (t.front ++ done line ∷ []) ++ lines true others
   all = t.split ∙ ap (λ ls. t.front ++ ls) is ∙ sym (append_assoc t.front (done line ∷ []) (lines true others))
 

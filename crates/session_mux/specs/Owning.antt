@@ -19,6 +19,14 @@ asks content = bytes_eq content (codes "?")
 abbrev pub stops : List ℕ → Bool
 stops content = bytes_eq content (codes ".")
 
+-- with one line of its trace more, unless it was stopped
+abbrev pub next_line : Own → List ℕ → Own
+next_line o content = if o.stopped then o else record o { bytes = o.bytes ++ (content ++ newline) }
+
+-- stopped
+abbrev pub stopped_now : Own → Own
+stopped_now o = record o { stopped = true }
+
 -- with one content more: nothing by a question, and nothing once it was stopped
 abbrev pub with_content : Own → List ℕ → Own
 with_content o content =

@@ -44,6 +44,7 @@ fn tag_len(line: &[u8]) -> usize
 }
 
 /// A line that is cut after its tag.
+#[derive(Clone, Copy)]
 pub(crate) struct TaggedLine<'a> {
     pub(crate) tag: &'a [u8],
     pub(crate) content: &'a [u8],

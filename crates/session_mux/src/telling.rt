@@ -1,11 +1,9 @@
 //! Lines of a session, told to its bench after its tag.
-ghost use Rattle.std.specs.Prelude.{◌≡◌, ◌<◌, ◌++◌, ◌∷◌, true, codes, length, OnOk, OnErr, List, ℕ};
+ghost use Rattle.std.specs.Prelude.{◌≡◌, ◌<◌, ◌++◌, ◌∷◌, true, codes, length, OnOk, OnErr, MatchResult};
 ghost use Rattle.stl_syntax.specs.Texts.{newline};
 ghost use Rattle.trace_reader.specs.TraceText.{lines};
 ghost use Rattle.report.specs.Appended.{GrewInPart, Is};
-ghost use Rattle.circular_buffer.specs.Buffer.{buffer, keep_last};
-ghost use Rattle.session_mux.specs.Sessions.{prefixed};
-ghost use Rattle.session_mux.specs.Telling.{texts, prefixed_texts};
+ghost use Rattle.session_mux.specs.Telling.{prefixed_texts, told_lines, HasSaid};
 
 use crate::recent::{Recent, keep};
 use frac128::Memory;
@@ -51,9 +49,9 @@ pub(crate) fn tell(
     out: &mut Text,
 ) -> Result<(), Memory>
     requires { recent.old.capacity ≡ 8 }
-    ensures ok { OnOk result (out.new ≡ out.old ++ prefixed (tag.now ++ codes " ") (lines true text.now)) }
-    ensures kept { OnOk result ((told : List (List ℕ)) → recent.old ≡ buffer (keep_last 8 told) 8 → recent.new ≡ buffer (keep_last 8 (told ++ texts text.now)) 8) }
-    ensures err { OnErr result (GrewInPart (Is (prefixed (tag.now ++ codes " ") (lines true text.now))) out.old out.new) }
+    ensures { MatchResult result
+        (λ _. HasSaid tag.now text.now recent.old recent.new out.old out.new)
+        (λ _. GrewInPart (Is (told_lines tag.now text.now)) out.old out.new) }
 {
     let mut rest = text;
     while !rest.is_empty() {

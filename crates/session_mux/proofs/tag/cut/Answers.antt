@@ -10,7 +10,7 @@ returns-then-len-eq0 c =
     elim c.then-len-eq0.branch [
       | then-len-eq0-via-then-len-eq0 w ↦ no_tag c.args.line.now len.result len.ensures.within len.ensures.front len.ensures.stops (inl (omega (arith, w.if-len-eq0.true)))
       | then-len-eq0-via-else-len-eq0+then-len-gt-LONGEST w ↦
-        no_tag c.args.line.now len.result len.ensures.within len.ensures.front len.ensures.stops (inr (omega (arith, w.if-len-gt-LONGEST.true)))
+          no_tag c.args.line.now len.result len.ensures.within len.ensures.front len.ensures.stops (inr (omega (arith, w.if-len-gt-LONGEST.true)))
     ]
 
 pub returns-then-len-line : goal.returns-then-len-line
