@@ -10,3 +10,9 @@ pub mod RunLemmas
 pub mod SetLaws
 pub mod HoldingLemmas
 pub mod StepLemmas
+pub mod TickLemmas
+pub mod SharedLemmas
+pub mod BetweenLemmas
+pub mod SureLemmas
+pub mod LastingLemmas
+pub mod ReachLemmas

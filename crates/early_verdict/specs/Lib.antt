@@ -4,3 +4,6 @@ pub mod Joining
 pub mod Bounds
 pub mod Windows
 pub mod Steps
+pub mod Sure
+pub mod Lasting
+pub mod Reaching

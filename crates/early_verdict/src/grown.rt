@@ -1,7 +1,7 @@
 //! Sets of times that only grow, as stretches that rise and do not touch, with what they gained of late.
 use crate::cut::Cut;
 use crate::stretch::Stretch;
-use crate::touching::{absorb, first_reaching};
+use crate::touching::{absorb, first_reaching, holding};
 use frac128::Memory;
 use std::alloc::Global;
 use std::collections::VecDeque;
@@ -15,10 +15,11 @@ pub struct Grown {
 }
 
 impl Grown {
-    ghost use Rattle.std.specs.Prelude.{◌≡◌, [], OnOk};
+    ghost use Rattle.std.specs.Prelude.{◌≡◌, ◌↔◌, [], IsTrue, OnOk};
+    ghost use Rattle.rational.specs.Rational.{whole};
     ghost use Rattle.rational.specs.Time.{Rational};
     ghost use Rattle.early_verdict.specs.Cuts.{After, Upto, place};
-    ghost use Rattle.early_verdict.specs.Spans.{AreTidy, Grows};
+    ghost use Rattle.early_verdict.specs.Spans.{AreTidy, Grows, IsOn};
 
     /// No times yet; it takes no memory.
     pub fn new(alloc: Global, bounds: Stretch) -> Grown
@@ -38,6 +39,17 @@ impl Grown {
         ensures { result ≡ self.now.bounds }
     {
         self.bounds
+    }
+
+    /// Whether the tick is one of the set's times.
+    pub fn has(&self, tick: i64) -> bool
+        requires { AreTidy self.now.spans.items }
+        ensures { IsTrue result ↔ IsOn self.now.spans.items (whole tick) }
+    {
+        match holding(&self.spans, &Cut::before_whole(tick)) {
+            Some(_) => true,
+            None => false,
+        }
     }
 
     /// Forgets what was gained; the set stays.

@@ -17,10 +17,25 @@ pub struct Stretch {
 }
 
 impl Stretch {
-    ghost use Rattle.std.specs.Prelude.{◌≡◌, ◌⊎◌, ◌↔◌, IfNone, IfSome};
+    ghost use Rattle.std.specs.Prelude.{◌≡◌, ◌≤◌, ◌≤ℤ◌, ◌⊎◌, ◌↔◌, IfNone, IfSome, false, true, unsigned_abs};
     ghost use Rattle.rational.specs.Time.{Rational};
-    ghost use Rattle.early_verdict.specs.Cuts.{place, After, AtMost, Before, Upto};
+    ghost use Rattle.rational.specs.Rational.{whole};
+    ghost use Rattle.early_verdict.specs.Cuts.{place, After, AtMost, Before, Same, Upto};
     ghost use Rattle.early_verdict.specs.Spans.{Lies};
+
+    /// From just before the one tick to just after the other.
+    pub fn over(first: i64, last: i64) -> Stretch
+        requires order { first ≤ℤ last }
+        requires near { unsigned_abs first ≤ 2 ^ 33 }
+        requires far { unsigned_abs last ≤ 2 ^ 33 }
+        ensures from { Same (place result.from) (record { at = whole first; after = false }) }
+        ensures to { Same (place result.to) (record { at = whole last; after = true }) }
+    {
+        Stretch {
+            from: Cut::before_whole(first),
+            to: Cut::after_whole(last),
+        }
+    }
 
     /// The times between the two places that lie in the bounds. None exactly where there are none.
     pub fn make(from: Cut, to: Cut, bounds: &Stretch) -> Option<Stretch>

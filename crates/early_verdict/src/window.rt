@@ -69,4 +69,18 @@ impl Window {
     {
         cut.shift_end(minus(low), self.low_in)
     }
+
+    /// Whether a time lies in the window from it.
+    pub fn sees_itself(&self) -> bool
+        ensures yes { IsTrue result → (t : Rational) → Sees self.now t t }
+        ensures no { IsFalse result → (t : Rational) → ¬ (Sees self.now t t) }
+    {
+        if !has_room(0, true, self.high, self.high_in) {
+            return false;
+        }
+        match self.low {
+            None => true,
+            Some(low) => has_room(low, self.low_in, 0, true),
+        }
+    }
 }

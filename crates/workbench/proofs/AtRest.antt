@@ -1,11 +1,10 @@
 -- A reader with what follows its rows, as a stream: what a piece and the end come to.
-use Rattle.std.proofs.Common.{◌≡◌, ◌≢◌, ◌⊎◌, inl, inr, ℕ, ◌<◌, ◌≤◌, Bool, true, false, List, [], ◌++◌, length, refl, sym, ap, ◌∙◌, subst, arith, append-nil, append_assoc, Option, Some, None, Result, Ok, Err}
+use Rattle.std.proofs.Common.{◌≡◌, ◌≢◌, inr, ℕ, ◌<◌, Bool, true, false, List, [], ◌++◌, length, refl, sym, ap, ◌∙◌, subst, arith, append-nil, append_assoc, Option, Result, Ok, Err}
 use Rattle.std.specs.Prelude.{MatchResult, OnOk, option_map}
-use Rattle.std.specs.Io.KnownBytes.{Appends}
 use Rattle.std.proofs.KnownBytes.{Appends-nil}
 use Rattle.std.proofs.lemmas.Bool.{false≢true}
 use Rattle.stl_syntax.specs.Formula.{Formula, root}
-use Rattle.trace_reader.specs.Reader.{Reader, header_of}
+use Rattle.trace_reader.specs.Reader.{header_of}
 use Rattle.trace_reader.specs.declared.refusal.Limits.{Limits}
 use Rattle.workbench.specs.Requests.{Stream, verdicts, early, margins, stream}
 use Rattle.workbench.specs.Owed.{limits_of, StreamText, StreamOf, OwesRows}
@@ -13,11 +12,10 @@ use Rattle.workbench.specs.Settled.{IsAnswered}
 use Rattle.workbench.specs.Running.{IsBegun}
 use Rattle.workbench.specs.Pushing.{IsPushed, IsPushStop, IsPush, IsFinished}
 use Rattle.trace_stream.specs.Reading.{IsWhole}
-use Rattle.workbench.specs.InputFaults.{Fault, fault_text, IsInputFault, AreRowsBefore, sound}
+use Rattle.workbench.specs.InputFaults.{Fault, fault_text, IsInputFault, AreRowsBefore}
 use Rattle.workbench.specs.Wholes.{status_of_truth}
-use Rattle.trace_stream.specs.Following.{IsTextOf, IsFollowed, IsLive, IsAtRest, IsOver, IsDone, IsLiveStop}
+use Rattle.trace_stream.specs.Following.{IsTextOf, IsLive, IsAtRest, IsOver, IsDone, IsLiveStop}
 use Rattle.workbench.specs.Telling.{IsToldAs, no_room, told_whole, told_in_part}
-use Rattle.workbench.specs.Writing.{IsPartWritten}
 use Rattle.trace_stream.specs.declared.case.Case.{Case}
 use Rattle.trace_stream.specs.declared.live.Live.{Live}
 use Rattle.trace_stream.specs.declared.fault.StreamStop.{StreamStop}
@@ -116,12 +114,12 @@ module _ {F : Type 0} (Stands : F → Case → List ℕ → Type 0) (kind : Stre
 
   -- what is owed while text is to be written
   owed_now : (live : Live F) (bytes text : List ℕ) → live.rows.limits ≡ limits_of kind → IsLive Stands kind live bytes text → OwesRows kind live.formula bytes false (text ++ live.text)
-  owed_now live bytes text e k = owes_of kind live.rows.limits live.formula bytes false (text ++ live.text) e (told_now live bytes text k)
+  owed_now live bytes text e k = owes_of kind live.rows.limits live.formula bytes false (text ++ live.text) e (told_now Stands kind live bytes text k)
 
   written_all : (mid new : Live F) (bytes text : List ℕ) → new ≡ record mid { text = [] } → mid.rows.limits ≡ limits_of kind → IsLive Stands kind mid bytes text
       → IsAtRest Stands kind new bytes (text ++ mid.text)
   written_all mid new bytes text e l k =
-      subst (λ (x : Live F). IsAtRest Stands kind x bytes (text ++ mid.text)) (sym e) (record { live_for = live_after mid bytes text k; limits = l; empty = refl })
+      subst (λ (x : Live F). IsAtRest Stands kind x bytes (text ++ mid.text)) (sym e) (record { live_for = live_after Stands kind mid bytes text k; limits = l; empty = refl })
 
   -- a piece
   module _ (f : Formula) (mid new : Live F) (held held_after : Option (List ℕ)) (bytes piece text : List ℕ) (before : OwesRows kind f bytes false text) (limits : mid.rows.limits ≡ limits_of kind)
@@ -173,7 +171,7 @@ module _ {F : Type 0} (Ended : F → Case → List ℕ → Type 0) (kind : Strea
   )
 
   owed_whole : (limits : Limits) (f : Formula) (live : Live F) (bytes text : List ℕ) (holds : Bool) → limits ≡ limits_of kind → IsOver Ended kind limits f live bytes text holds → OwesRows kind f bytes true text
-  owed_whole limits f live bytes text holds e k = owes_of kind limits f bytes true text e (told_over limits f live bytes text holds k)
+  owed_whole limits f live bytes text holds e k = owes_of kind limits f bytes true text e (told_over Ended kind limits f live bytes text holds k)
 
   done_after : (limits : Limits) (f : Formula) (mid new : Live F) (bytes text : List ℕ) (holds : Bool) → limits ≡ limits_of kind → mid.formula ≡ f → new ≡ record mid { text = [] }
       → IsOver Ended kind limits f mid bytes text holds → IsDone Ended kind new bytes text
@@ -182,7 +180,7 @@ module _ {F : Type 0} (Ended : F → Case → List ℕ → Type 0) (kind : Strea
       subst (λ (x : Live F). IsDone Ended kind x bytes text) (sym done) (
         holds,
         subst (λ (l : Limits). IsOver Ended kind l mid.formula rest bytes text holds) e
-            (subst (λ (g : Formula). IsOver Ended kind limits g rest bytes text holds) (sym formula) (over_after limits f mid bytes text holds k)),
+            (subst (λ (g : Formula). IsOver Ended kind limits g rest bytes text holds) (sym formula) (over_after Ended kind limits f mid bytes text holds k)),
       )
 
   module _ (limits : Limits) (f : Formula) (mid new : Live F) (held held_after : Option (List ℕ)) (bytes text : List ℕ) (before : OwesRows kind f bytes false text) (same : limits ≡ limits_of kind)

@@ -1,13 +1,12 @@
 -- What is owed is one text, and only grows.
-use Rattle.std.proofs.Common.{◌≡◌, ℕ, Bool, true, false, List, [], ◌∷◌, ◌++◌, refl, sym, ap, ◌∙◌, subst, append_assoc, append-nil, Option, Some, None}
+use Rattle.std.proofs.Common.{◌≡◌, ℕ, Bool, true, false, List, [], ◌∷◌, ◌++◌, refl, sym, ap, ◌∙◌, subst, append_assoc, append-nil}
 use Rattle.std.specs.Prelude.{flat_map}
-use Rattle.stl_syntax.specs.Formula.{Formula, Subformula, root}
-use Rattle.stl_syntax.specs.Scaling.{scaled}
+use Rattle.stl_syntax.specs.Formula.{Formula, root}
 use Rattle.stl_syntax.specs.Knots.{Knot, Piece}
 use Rattle.stl_syntax.specs.Verdicts.{KnotsAlike, PiecesAlike}
 use Rattle.stl_syntax.specs.declared.scale.Scale.{Scale}
 use Rattle.csv.specs.Writing.{row_text, default_writer}
-use Rattle.stl_syntax.specs.Trace.{Header, Row, Trace}
+use Rattle.stl_syntax.specs.Trace.{Trace}
 use Rattle.stl_syntax.proofs.VerdictsLaw.{Describes-unique}
 use Rattle.stl_syntax.proofs.MarginsLaw.{DescribesMargins-unique}
 use Rattle.trace_reader.proofs.TraceRefusalLaw.{Trace-unique}
@@ -16,11 +15,11 @@ use Rattle.report.specs.Table.{AreRecords, heading}
 use Rattle.report.proofs.StreamTexts.{IsLonger}
 use Rattle.trace_stream.proofs.OwedRows.{stream_owed_once, stream_owed_grows}
 use Rattle.report.proofs.OneText.{number_once, value_once, verdicts_once, start_once, margins_once}
-use Rattle.workbench.specs.Requests.{Stream, verdicts, early, margins, stream}
+use Rattle.workbench.specs.Requests.{Stream, stream}
 use Rattle.workbench.specs.Running.{IsBegun}
 use Rattle.trace_stream.specs.Reading.{IsWhole}
-use Rattle.workbench.specs.Owed.{limits_of, StreamText, StreamOf, OwesRows, HasTooMany, OwesAtEnd, not_yet as not_yet_owed, faulty, too_many, at_end as at_end_owed}
-use Rattle.workbench.specs.InputFaults.{AreRowsBefore, whole_limits}
+use Rattle.workbench.specs.Owed.{OwesRows, HasTooMany, OwesAtEnd, not_yet as not_yet_owed, faulty, too_many, at_end as at_end_owed}
+use Rattle.workbench.specs.InputFaults.{whole_limits}
 
 -- ---- streams
 

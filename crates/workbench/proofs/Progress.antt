@@ -1,5 +1,5 @@
 -- How far the reading of a source has come.
-use Rattle.std.proofs.Common.{◌≡◌, ℕ, ◌+◌, ◌<◌, ◌≤◌, inl, inr, Bool, true, false, List, [], ◌++◌, length, take, length-take, refl, sym, ap, ◌∙◌, subst, arith, append-nil, length-append, Some, None, Ok, Err, Result}
+use Rattle.std.proofs.Common.{◌≡◌, ℕ, ◌+◌, ◌<◌, ◌≤◌, Bool, true, false, List, [], ◌++◌, length, take, length-take, refl, sym, ap, ◌∙◌, subst, arith, append-nil, length-append, Some, None, Ok, Err, Result}
 use Rattle.std.specs.Prelude.{Option, MatchOption, MatchResult}
 use Rattle.std.specs.Io.KnownBytes.{Consumes, Keeps, IsAtEnd}
 use Rattle.std.proofs.KnownBytes.{Consumes-trans, Consumes-kept}
@@ -7,27 +7,18 @@ use Rattle.std.proofs.lemmas.Bool.{false≢true}
 use Rattle.std.proofs.lemmas.List.{length-take-le}
 use Rattle.io_edge.specs.Causes.{after_end}
 use Rattle.stl_syntax.specs.Formula.{Formula}
-use Rattle.stl_syntax.specs.Trace.{Header}
-use Rattle.stl_syntax.specs.WellFormed.{IsScale}
-use Rattle.stl_syntax.specs.declared.scale.Scale.{Scale}
-use Rattle.trace_reader.specs.TraceText.{Line, Heading, lines, AreTraceLines, blank, heading}
-use Rattle.trace_reader.specs.TraceRefusals.{IsFirstFault}
-use Rattle.trace_reader.specs.Reader.{Reader, StandsFor, HasRead}
+use Rattle.trace_reader.specs.Reader.{Reader}
 use Rattle.trace_reader.specs.declared.refusal.Limits.{Limits}
-use Rattle.trace_reader.proofs.LineLemmas.{lines-nil}
-use Rattle.workbench.specs.InputFaults.{IsLack, IsInputFault}
-use Rattle.trace_stream.specs.Reading.{IsSound, IsRefused, IsKept, HasKept, IsTied, IsEnded, IsWhole}
+use Rattle.workbench.specs.InputFaults.{IsInputFault}
+use Rattle.trace_stream.specs.Reading.{IsSound, IsRefused, IsKept, HasKept, IsEnded, IsWhole}
 use Rattle.workbench.specs.Reading.{IsRead, IsReadPromptly, IsReadWhole, IsReadInPart, IsStop}
 use Rattle.trace_stream.specs.declared.case.Case.{Case}
 use Rattle.trace_stream.specs.declared.fault.StreamStop.{StreamStop}
 use Rattle.trace_stream.specs.declared.fault.StreamStop.TheVariants.{Fault as Faulty, NoMemory, Wide}
-use Rattle.workbench.specs.declared.fault.Stop.{Stop}
 use Rattle.workbench.specs.declared.fault.Stop.TheVariants.{Unread}
 use Rattle.workbench.specs.Stopping.{stop_of, outcome_of}
 use Rattle.trace_stream.proofs.KeptRows.{sound_so_far}
-use Rattle.trace_stream.proofs.HeaderLines.{no_header}
 use Rattle.trace_stream.proofs.Sizes.{few_bytes}
-use Rattle.trace_stream.proofs.Feeding.{no_lack}
 
 -- some bytes were read and kept, in so many reads
 pub record Progress (limits : Limits) (f : Formula) (before now : Option (List ℕ)) (reader : Reader) (case : Option Case) (reads : ℕ) : Type 0 where
@@ -133,6 +124,10 @@ pub not_unread : (e : StreamStop) → stop_of e ≡ Unread → ⊥
 not_unread (Faulty fault) same = let k = same in cc
 not_unread NoMemory same = let k = same in cc
 not_unread (Wide i den) same = let k = same in cc
+
+pub end_not_unread : (r : Result (Unit {0}) StreamStop) → outcome_of r ≡ Err Unread → ⊥
+end_not_unread (Ok x) same = let k = same in cc
+end_not_unread (Err e) same = not_unread e (let k = same in cc)
 
 pub none_taken : (n : ℕ) (buf : List ℕ) → n ≡ 0 → take n buf ≡ []
 none_taken n buf e = subst (λ m. take m buf ≡ []) (sym e) refl

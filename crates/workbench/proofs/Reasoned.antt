@@ -1,5 +1,5 @@
 -- The answer of `explain`: the text of an explanation is the command's, and why there is none.
-use Rattle.std.proofs.Common.{◌≡◌, ℕ, ◌<◌, length, Bool, true, false, List, [], ◌++◌, inl, inr, refl, ap, subst, arith, Some}
+use Rattle.std.proofs.Common.{◌≡◌, ℕ, ◌<◌, length, Bool, true, false, List, inl, inr, refl, ap, subst, arith, Some}
 use Rattle.std.specs.Prelude.{All, slice_get}
 use Rattle.std.proofs.lemmas.List.Elements.{All-nil, All-weaker}
 use Rattle.stl_syntax.specs.Formula.{Formula}

@@ -1,6 +1,6 @@
 -- How far a stream has come, and how it ends.
 use Rattle.std.proofs.Common.{◌≡◌, ◌≢◌, inl, inr, ℕ, ◌+◌, ◌-◌, ◌<◌, ◌≤◌, Bool, true, false, List, [], ◌++◌, length, take, drop, take-append-drop, length-append, append_assoc, refl, sym, ap, ◌∙◌, subst, arith, append-nil, Result, Ok, Err}
-use Rattle.std.specs.Prelude.{Option, Some, None, option_map}
+use Rattle.std.specs.Prelude.{Option}
 use Rattle.std.specs.Io.KnownBytes.{Appends, Consumes, Keeps, IsAtEnd}
 use Rattle.std.proofs.KnownBytes.{Appends-nil, Appends-trans, Consumes-nil, Consumes-trans, Consumes-kept}
 use Rattle.std.proofs.lemmas.Bool.{false≢true}
@@ -10,16 +10,8 @@ use Rattle.stl_syntax.specs.Formula.{Formula}
 use Rattle.workbench.specs.Requests.{Request, no_form, has_input, Stream, stream, word_of_stream, AreFor}
 use Rattle.workbench.specs.Owed.{Owes, OwesByThen}
 use Rattle.workbench.specs.Settled.{HasFault, IsPrompt, IsAnswered, faulty, answered}
-use Rattle.workbench.specs.Running.{IsBegun, IsTimely, IsEnd, settled, unread, unwritten, no_memory, asked, IsRun}
-use Rattle.workbench.specs.InputFaults.{Fault, fault_text, IsInputFault, AreRowsBefore, no_header_yet, sound}
+use Rattle.workbench.specs.Running.{IsBegun, IsTimely, IsEnd, settled, unread, unwritten, no_memory, asked}
 use Rattle.workbench.specs.Saying.{IsSaid}
-use Rattle.trace_stream.specs.Reading.{IsKept}
-use Rattle.trace_stream.specs.declared.case.Case.{Case}
-use Rattle.trace_reader.specs.TraceText.{lines, Heading}
-use Rattle.trace_reader.specs.Reader.{Reader, HasRead, header_of}
-use Rattle.stl_syntax.specs.declared.scale.Scale.{Scale}
-use Rattle.trace_stream.proofs.HeaderLines.{no_header}
-use Rattle.trace_stream.proofs.KeptRows.{sound_so_far}
 use Rattle.workbench.specs.Wholes.{status_of_truth, status_of, IsEndLine, EndsSoundly}
 use Rattle.workbench.specs.Keeping.{IsLeft, HasRun}
 use Rattle.workbench.specs.declared.kept.Kept.{Kept}

@@ -1,30 +1,23 @@
 -- What a watch's calls come to.
-use Rattle.std.proofs.Common.{◌≡◌, ◌≢◌, ◌⊎◌, inl, inr, ℕ, Bool, true, false, List, [], ◌++◌, refl, sym, ap, ◌∙◌, subst, append_assoc, Option, Result, Ok, Err}
+use Rattle.std.proofs.Common.{◌≡◌, ◌≢◌, inl, inr, ℕ, Bool, true, false, List, [], ◌++◌, refl, sym, ap, ◌∙◌, subst, append_assoc, Option, Result, Ok, Err}
 use Rattle.std.specs.Prelude.{MatchResult, MatchBool, OnOk}
 use Rattle.std.specs.Io.KnownBytes.{Appends}
 use Rattle.stl_syntax.specs.Formula.{Formula, root}
 use Rattle.stl_syntax.specs.Trace.{Trace}
 use Rattle.stl_syntax.specs.Stream.{IsStreamText}
-use Rattle.stl_syntax.specs.declared.scale.UnitFault.{UnitFault}
 use Rattle.stl_syntax.specs.declared.scale.UnitFault.TheVariants as unit_fault
 use Rattle.trace_reader.specs.declared.refusal.Limits.{Limits}
-use Rattle.report.specs.Report.{nodes_for}
 use Rattle.io_edge.specs.Calls.{Drained, Filled}
 use Rattle.workbench.specs.Answers.{HoldsAtStart}
 use Rattle.workbench.specs.Settled.{TellsTruth}
-use Rattle.trace_stream.specs.Cases.{IsFault, IsNamed}
+use Rattle.trace_stream.specs.Cases.{IsFault}
 use Rattle.workbench.specs.InputFaults.{Fault, of_trace, unknown, unit, stream_limits, IsInputFault}
-use Rattle.workbench.specs.Owed.{limits_of}
-use Rattle.trace_stream.specs.Reading.{IsWhole}
-use Rattle.workbench.specs.Requests.{Request, stream, verdicts}
-use Rattle.workbench.specs.Writing.{IsPartWritten}
+use Rattle.workbench.specs.Requests.{stream, verdicts}
 use Rattle.workbench.specs.Wholes.{status_of_truth}
 use Rattle.workbench.specs.Pushing.{IsPushed, IsStreamEnd}
 use Rattle.trace_stream.specs.Following.{IsTextOf, IsLive, IsAtRest, IsOver, IsDone, IsLiveStop}
 use Rattle.workbench.specs.Telling.{IsToldAs, no_room, told_whole, told_in_part}
-use Rattle.workbench.specs.Watches.{Watched, Past, with_piece, with_text, IsText, WatchesRows, WatchesEnd, StandsFor, HasPast, StandsForAll, HasPushed, HasFinished, HasFault, IsWatchFault, IsCall, Moves, IsOpen, IsFaultOf, phase_after}
-use Rattle.trace_stream.specs.declared.case.Case.{Case}
-use Rattle.trace_stream.specs.declared.fault.TraceFault.{TraceFault}
+use Rattle.workbench.specs.Watches.{Watched, Past, with_piece, with_text, IsText, WatchesRows, WatchesEnd, StandsFor, StandsForAll, HasPushed, HasFinished, HasFault, IsWatchFault, IsCall, IsFaultOf, phase_after}
 use Rattle.trace_stream.specs.declared.fault.TraceFault.TheVariants.{Trace as InTrace, Unknown, Unit as InTicks}
 use Rattle.trace_stream.specs.declared.fault.StreamStop.{StreamStop}
 use Rattle.trace_stream.specs.declared.fault.StreamStop.TheVariants as stream_stop
@@ -34,7 +27,7 @@ use Rattle.workbench.specs.declared.fault.Stop.TheVariants.{Fault as Faulty, Unr
 use Rattle.trace_stream.specs.declared.live.Live.{Live}
 use Rattle.trace_stream.specs.declared.verdicts.Verdicts.{Verdicts}
 use Rattle.workbench.specs.declared.watch.Phase.{Phase}
-use Rattle.workbench.specs.declared.watch.Phase.TheVariants.{Reading, Stopped, Ended}
+use Rattle.workbench.specs.declared.watch.Phase.TheVariants.{Reading, Ended}
 use Rattle.workbench.specs.declared.watch.WatchFault.{WatchFault}
 use Rattle.workbench.specs.declared.watch.WatchFault.TheVariants as fault
 use Rattle.trace_stream.proofs.Told.{told_now, calm_now, live_after, told_over, over_after}

@@ -1,8 +1,7 @@
 -- Answers of `check`.
 use Rattle.std.specs.Prelude.{ℕ, Bool, List, MatchBool}
-use Rattle.stl_syntax.specs.Formula.{Formula, root}
-use Rattle.stl_syntax.specs.Trace.{Trace, start}
-use Rattle.stl_syntax.specs.Truth.{Truth}
+use Rattle.stl_syntax.specs.Formula.{Formula}
+use Rattle.stl_syntax.specs.Trace.{Trace}
 use Rattle.report.specs.Report.{Out, check}
 pub use Rattle.trace_stream.specs.Streams.{HoldsAtStart}
 

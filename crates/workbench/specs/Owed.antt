@@ -1,19 +1,14 @@
 -- The text that a request is owed for the bytes so far, which the input may have ended.
-use Rattle.std.specs.Prelude.{◌≡◌, ℕ, ◌-◌, Bool, true, false, List, [], take, Option, Some, None}
-use Rattle.stl_syntax.specs.Formula.{Formula, Subformula, root}
-use Rattle.stl_syntax.specs.Scaling.{scaled}
-use Rattle.stl_syntax.specs.Trace.{Header, Row, Trace}
-use Rattle.stl_syntax.specs.Stream.{IsStreamText}
-use Rattle.stl_syntax.specs.EarlyText.{IsEarlyText}
-use Rattle.online_nodes.specs.MarginStream.{IsMarginStream}
+use Rattle.std.specs.Prelude.{◌≡◌, ℕ, ◌-◌, Bool, true, false, List, [], take}
+use Rattle.stl_syntax.specs.Formula.{Formula}
+use Rattle.stl_syntax.specs.Trace.{Trace}
 use Rattle.trace_reader.specs.TraceText.{lines}
-use Rattle.trace_reader.specs.declared.refusal.Limits.{Limits}
 use Rattle.stl_syntax.specs.Kept.{most_cells, IsTooMany}
 use Rattle.report.specs.Report.{Command, explain, json, Out, nodes_for}
 pub use Rattle.trace_stream.specs.Streams.{limits_of, StreamText, StreamOf, OwesRows}
 use Rattle.workbench.specs.Answers.{HoldsAtStart}
-use Rattle.workbench.specs.Requests.{Stream, verdicts, early, margins, Request, no_form, refused, whole, stream, sessions, generated}
-use Rattle.workbench.specs.InputFaults.{Fault, whole_limits, stream_limits, IsInputFault, AreRowsBefore}
+use Rattle.workbench.specs.Requests.{Request, no_form, refused, whole, stream, sessions, generated}
+use Rattle.workbench.specs.InputFaults.{Fault, whole_limits, IsInputFault}
 use Rattle.trace_stream.specs.Reading.{IsWhole}
 use Rattle.workbench.specs.Sessions.{Tagged, AreTagged, MuxText, InputFault, too_many_lines, too_long, bad_tag, too_many_sessions, FaultOfInput}
 use Rattle.workbench.specs.Generator.{IsSummary}

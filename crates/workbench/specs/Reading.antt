@@ -1,19 +1,12 @@
 -- Reading the trace of a formula from a source.
-use Rattle.std.specs.Prelude.{◌≡◌, ℕ, ◌≤◌, Bool, true, false, List, [], ◌++◌, length, Option, Some, None}
+use Rattle.std.specs.Prelude.{◌≡◌, ℕ, ◌≤◌, Bool, true, false, List, [], ◌++◌, length, Option}
 use Rattle.std.specs.Io.KnownBytes.{Consumes, IsAtEnd}
 use Rattle.stl_syntax.specs.Formula.{Formula}
-use Rattle.stl_syntax.specs.Trace.{Row, Trace}
-use Rattle.stl_syntax.specs.WellFormed.{IsScale}
-use Rattle.trace_reader.specs.TraceText.{Heading, scale_of}
-use Rattle.trace_reader.specs.TraceRefusals.{HasTrace}
-use Rattle.trace_reader.specs.Reader.{Reader, StandsFor}
 use Rattle.trace_reader.specs.declared.refusal.Limits.{Limits}
-use Rattle.trace_reader.specs.declared.refusal.TraceRefusal.{TraceRefusal}
-use Rattle.trace_reader.specs.declared.refusal.TraceKind.TheVariants.{NoRows}
-use Rattle.workbench.specs.InputFaults.{Fault, IsInputFault}
-use Rattle.trace_stream.specs.Cases.{IsFault, IsCase, IsHeaderOf, IsLacking, IsNoBegin}
+use Rattle.trace_stream.specs.Cases.{IsFault, IsCase}
+use Rattle.trace_stream.specs.Reading.{IsSound, IsWhole}
 use Rattle.trace_stream.specs.declared.case.Case.{Case}
-use Rattle.trace_stream.specs.declared.fault.TraceFault.TheVariants.{Trace as InTrace}
+use Rattle.workbench.specs.InputFaults.{Fault, IsInputFault}
 use Rattle.workbench.specs.declared.fault.Stop.{Stop}
 use Rattle.workbench.specs.declared.fault.Stop.TheVariants.{Fault as Faulty, Unread, Unwritten, NoMemory, Wide, TooMany}
 

@@ -19,7 +19,7 @@ use Rattle.trace_reader.specs.TraceText.{lines}
 use Rattle.report.specs.Report.{Command, check, robust, explain, json, table, Out, nodes_for}
 pub use Rattle.trace_stream.specs.Streams.{TellsTruth, IsLastVerdict}
 use Rattle.workbench.specs.Answers.{HoldsAtStart}
-use Rattle.workbench.specs.Requests.{Stream, verdicts, early, margins, Request, no_form, refused, whole, stream, sessions, generated, usage_line}
+use Rattle.workbench.specs.Requests.{Stream, margins, Request, no_form, refused, whole, stream, sessions, generated, usage_line}
 use Rattle.workbench.specs.Owed.{limits_of, StreamText, Owes, OwesLines, HasTooMany}
 use Rattle.workbench.specs.InputFaults.{Fault, fault_text, whole_limits, IsInputFault, AreRowsBefore}
 use Rattle.trace_stream.specs.Reading.{IsWhole}

@@ -1,4 +1,4 @@
-use Rattle.std.proofs.Common.{◌++◌, true, ◌∙◌, ap}
+use Rattle.std.proofs.Common.{◌∙◌, ap}
 use Rattle.workbench.specs.Requests.{stream}
 use Rattle.workbench.proofs.AtRest.{end_of}
 use Rattle.workbench.proofs.live.LivePush.end.Goals as goal

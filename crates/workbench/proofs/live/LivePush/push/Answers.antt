@@ -1,5 +1,5 @@
 use Rattle.std.proofs.Common.{◌++◌, false, ◌∙◌, ap, subst, sym}
-use Rattle.std.specs.Prelude.{MatchResult, List, ℕ}
+use Rattle.std.specs.Prelude.{MatchResult}
 use Rattle.trace_reader.specs.declared.refusal.Limits.{Limits}
 use Rattle.workbench.specs.Requests.{stream}
 use Rattle.trace_stream.specs.Following.{IsLive, IsLiveStop}

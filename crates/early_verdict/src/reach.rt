@@ -1,0 +1,173 @@
+//! Runs that reach a time of another set, ahead or behind.
+ghost use Rattle.std.specs.Prelude.{◌≡◌, OnOk};
+ghost use Rattle.early_verdict.specs.Cuts.{place};
+ghost use Rattle.early_verdict.specs.Spans.{AreTidy, Grows};
+ghost use Rattle.early_verdict.specs.Steps.{BySome};
+ghost use Rattle.early_verdict.specs.Reaching.{ReachedAt, ReachesAt, ReachesBy, ReachesIn};
+
+use crate::cut::Cut;
+use crate::grown::Grown;
+use crate::shared::{first_begin, last_end};
+use crate::stretch::Stretch;
+use crate::touching::{begins_by, first_reaching, holding};
+use frac128::Memory;
+use std::collections::VecDeque;
+
+/// Adds the times of the run from which on it has a sure time of the spans.
+fn add_reaching(
+    own: &mut Grown,
+    run: &Stretch,
+    spans: &VecDeque<Stretch>,
+    sure: &Cut,
+) -> Result<(), Memory>
+    requires own { AreTidy own.old.spans.items }
+    requires spans { AreTidy spans.now.items }
+    ensures tidy { OnOk result (AreTidy own.new.spans.items) }
+    ensures bounds { own.new.bounds ≡ own.old.bounds }
+    ensures ok { OnOk result (Grows own.old.bounds own.old.spans.items own.new.spans.items own.old.fresh.items own.new.fresh.items
+        (ReachesIn spans.now.items (place sure.now) run.now)) }
+{
+    let Some(part) = Stretch::make(run.from, *sure, run) else {
+        return Ok(());
+    };
+    match last_end(spans, &part) {
+        None => Ok(()),
+        Some(end) => own.add(run.from, end),
+    }
+}
+
+/// So for the run that holds the part's first times.
+fn add_reaching_at(
+    own: &mut Grown,
+    part: &Stretch,
+    runs: &VecDeque<Stretch>,
+    spans: &VecDeque<Stretch>,
+    sure: &Cut,
+) -> Result<(), Memory>
+    requires own { AreTidy own.old.spans.items }
+    requires runs { AreTidy runs.now.items }
+    requires spans { AreTidy spans.now.items }
+    ensures tidy { OnOk result (AreTidy own.new.spans.items) }
+    ensures bounds { own.new.bounds ≡ own.old.bounds }
+    ensures ok { OnOk result (Grows own.old.bounds own.old.spans.items own.new.spans.items own.old.fresh.items own.new.fresh.items
+        (ReachesAt runs.now.items spans.now.items (place sure.now) part.now)) }
+{
+    match holding(runs, &part.from) {
+        None => Ok(()),
+        Some(run) => add_reaching(own, &run, spans, sure),
+    }
+}
+
+/// So for each of the parts.
+pub(crate) fn add_all_reaching(
+    own: &mut Grown,
+    parts: &[Stretch],
+    runs: &VecDeque<Stretch>,
+    spans: &VecDeque<Stretch>,
+    sure: &Cut,
+) -> Result<(), Memory>
+    requires own { AreTidy own.old.spans.items }
+    requires runs { AreTidy runs.now.items }
+    requires spans { AreTidy spans.now.items }
+    ensures tidy { OnOk result (AreTidy own.new.spans.items) }
+    ensures bounds { own.new.bounds ≡ own.old.bounds }
+    ensures ok { OnOk result (Grows own.old.bounds own.old.spans.items own.new.spans.items own.old.fresh.items own.new.fresh.items
+        (BySome (ReachesAt runs.now.items spans.now.items (place sure.now)) parts.now)) }
+{
+    for part in parts {
+        add_reaching_at(own, part, runs, spans, sure)?;
+    }
+    Ok(())
+}
+
+/// So for the run that holds the first times of the stretch between the two cuts.
+fn add_reaching_by(
+    own: &mut Grown,
+    part: &Stretch,
+    runs: &VecDeque<Stretch>,
+    spans: &VecDeque<Stretch>,
+    before: &Cut,
+    sure: &Cut,
+) -> Result<(), Memory>
+    requires own { AreTidy own.old.spans.items }
+    requires runs { AreTidy runs.now.items }
+    requires spans { AreTidy spans.now.items }
+    ensures tidy { OnOk result (AreTidy own.new.spans.items) }
+    ensures bounds { own.new.bounds ≡ own.old.bounds }
+    ensures ok { OnOk result (Grows own.old.bounds own.old.spans.items own.new.spans.items own.old.fresh.items own.new.fresh.items
+        (ReachesBy runs.now.items spans.now.items (place before.now) (place sure.now) part.now)) }
+{
+    match Stretch::make(*before, *sure, part) {
+        None => Ok(()),
+        Some(newly) => add_reaching_at(own, &newly, runs, spans, sure),
+    }
+}
+
+/// So for each stretch of the spans.
+pub(crate) fn add_reaching_between(
+    own: &mut Grown,
+    runs: &VecDeque<Stretch>,
+    spans: &VecDeque<Stretch>,
+    before: &Cut,
+    sure: &Cut,
+) -> Result<(), Memory>
+    requires own { AreTidy own.old.spans.items }
+    requires runs { AreTidy runs.now.items }
+    requires spans { AreTidy spans.now.items }
+    ensures tidy { OnOk result (AreTidy own.new.spans.items) }
+    ensures bounds { own.new.bounds ≡ own.old.bounds }
+    ensures ok { OnOk result (Grows own.old.bounds own.old.spans.items own.new.spans.items own.old.fresh.items own.new.fresh.items
+        (BySome (ReachesBy runs.now.items spans.now.items (place before.now) (place sure.now)) spans.now.items)) }
+{
+    let mut at = first_reaching(spans, before);
+    while let Some(next) = begins_by(spans, at, sure) {
+        add_reaching_by(own, &next, runs, spans, before, sure)?;
+        at += 1;
+    }
+    Ok(())
+}
+
+/// Adds the times back from which the run that holds the part's first times has a time of the spans.
+fn add_reached_at(
+    own: &mut Grown,
+    part: &Stretch,
+    runs: &VecDeque<Stretch>,
+    spans: &VecDeque<Stretch>,
+) -> Result<(), Memory>
+    requires own { AreTidy own.old.spans.items }
+    requires runs { AreTidy runs.now.items }
+    requires spans { AreTidy spans.now.items }
+    ensures tidy { OnOk result (AreTidy own.new.spans.items) }
+    ensures bounds { own.new.bounds ≡ own.old.bounds }
+    ensures ok { OnOk result (Grows own.old.bounds own.old.spans.items own.new.spans.items own.old.fresh.items own.new.fresh.items
+        (ReachedAt runs.now.items spans.now.items part.now)) }
+{
+    let Some(run) = holding(runs, &part.from) else {
+        return Ok(());
+    };
+    match first_begin(spans, &run) {
+        None => Ok(()),
+        Some(begin) => own.add(begin, run.to),
+    }
+}
+
+/// So for each of the parts.
+pub(crate) fn add_all_reached(
+    own: &mut Grown,
+    parts: &[Stretch],
+    runs: &VecDeque<Stretch>,
+    spans: &VecDeque<Stretch>,
+) -> Result<(), Memory>
+    requires own { AreTidy own.old.spans.items }
+    requires runs { AreTidy runs.now.items }
+    requires spans { AreTidy spans.now.items }
+    ensures tidy { OnOk result (AreTidy own.new.spans.items) }
+    ensures bounds { own.new.bounds ≡ own.old.bounds }
+    ensures ok { OnOk result (Grows own.old.bounds own.old.spans.items own.new.spans.items own.old.fresh.items own.new.fresh.items
+        (BySome (ReachedAt runs.now.items spans.now.items) parts.now)) }
+{
+    for part in parts {
+        add_reached_at(own, part, runs, spans)?;
+    }
+    Ok(())
+}
