@@ -22,4 +22,3 @@ pub mod OneRequest
 pub mod EndsOnce
 pub mod AtRest
 pub mod Reported
-pub mod SessionsTold
