@@ -8,3 +8,4 @@ pub mod SessionLemmas
 pub mod KnowingLemmas
 pub mod AnsweringLemmas
 pub mod MuxLemmas
+pub mod EndsTold
