@@ -52,7 +52,7 @@ tags_once t known (x ∷ seen) = by_known (tags_once t known seen) (tags_once t 
 module _ (f : Formula) (t : List ℕ) (all : List Tagged) where
   -- there is something that they tell
   some_told : (tags : List (List ℕ)) (text : List ℕ) → AreEnds f all tags text → (told : List ℕ) × AreToldAtEnd f t all tags text told
-  some_told [] text e = ([], e, refl)
+  some_told [] text e = ([], (e, refl))
   some_told (u ∷ tags) text (old, grown, later, so, is, ends, e) =
       let (more, on) = some_told tags later ends in
       ((if bytes_eq u t then grown else []) ++ more, (old, grown, later, more, so, is, on, e, refl))
