@@ -16,9 +16,15 @@ pub mod Reasoned
 pub mod Refuting
 pub mod NoForm
 pub mod MarginTruth
+mod ExplainTexts
+mod JsonTexts
 pub mod OwedLaws
 pub mod SureLines
 pub mod OneRequest
 pub mod EndsOnce
 pub mod AtRest
 pub mod Reported
+pub mod Summaries
+pub mod NumberWords
+pub mod Fitting
+pub mod Completing

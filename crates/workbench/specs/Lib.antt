@@ -24,3 +24,6 @@ pub mod Reasons
 pub mod Accounts
 pub mod Watches
 pub mod SureLines
+pub mod Numerals
+pub mod Made
+pub mod Complete
