@@ -1,18 +1,18 @@
 -- What is answered to a line, and what the end of the input adds.
-use Rattle.std.proofs.Common.{◌≡◌, ◌≢◌, ◌⊎◌, inl, inr, refl, sym, ap, subst, ◌∙◌, ℕ, zero, suc, ◌+◌, ◌<◌, ◌≤◌, Bool, true, false, List, [], ◌∷◌, ◌++◌, append_assoc, length, take, drop, set, arith, add-one, Option, Some, None, Result, Ok, Err}
-use Rattle.std.specs.Prelude.{bytes_eq, codes, map, slice_get, MatchBool, MatchResult}
-use Rattle.std.proofs.lemmas.Bool.{false≢true, cases_eq}
+use Rattle.std.proofs.Common.{◌≡◌, ◌≢◌, inl, inr, refl, sym, ap, subst, ◌∙◌, ℕ, zero, suc, ◌+◌, ◌<◌, ◌≤◌, Bool, true, false, List, [], ◌∷◌, ◌++◌, append_assoc, length, take, drop, set, arith, add-one, Option, Some, None}
+use Rattle.std.specs.Prelude.{bytes_eq, codes, slice_get, MatchBool}
+use Rattle.std.proofs.lemmas.Bool.{cases_eq}
 use Rattle.std.proofs.lemmas.List.{append-nil, take-append-drop, take_all}
 use Rattle.std.proofs.lemmas.Slice.Eq.{bytes_eq-Decides}
 use Rattle.stl_syntax.specs.Formula.{Formula}
 use Rattle.report.proofs.Sequences.{take_at, place_inside}
 use Rattle.trace_reader.specs.TraceText.{lines}
-use Rattle.session_mux.specs.Sessions.{Tagged, IsTag, IsAnswer, AreEnds, Alone, SoFar, own, is_stopped, prefixed, last_eight}
+use Rattle.session_mux.specs.Sessions.{Tagged, IsTag, IsAnswer, AreEnds, prefixed, last_eight}
 use Rattle.session_mux.specs.Tags.{number_of}
 use Rattle.session_mux.specs.Telling.{told_lines}
 use Rattle.session_mux.specs.Owning.{Own, own_of, asks, with_content, stopped_now}
-use Rattle.session_mux.specs.Standing.{IsOwnText, HasTold, HasSomeTold, IsGrowth, IsReply, HasReplied, IsCutShort}
-use Rattle.session_mux.specs.Knowing.{Register, place_in, tags_of, tag_list, EachTold, AreFound, Knows, IsLastFound, IsReady, IsTurnedAway, HasAnswered, IsUnanswered, HasEnded}
+use Rattle.session_mux.specs.Standing.{IsOwnText, HasTold, IsGrowth, IsReply, HasReplied, IsCutShort}
+use Rattle.session_mux.specs.Knowing.{Register, place_in, tags_of, tag_list, EachTold, AreFound, IsLastFound, IsReady, IsTurnedAway, HasAnswered, IsUnanswered, HasEnded}
 use Rattle.session_mux.specs.declared.fault.MuxFault.{MuxFault}
 use Rattle.session_mux.specs.declared.fault.MuxFault.TheVariants as fault
 use Rattle.session_mux.specs.declared.known.Found.{Found}

@@ -1,14 +1,13 @@
 -- What a session is told to the end of the input.
 use Rattle.std.proofs.Common.{◌≡◌, refl, sym, ap, subst, ◌∙◌, ℕ, Bool, true, false, cond, List, [], ◌∷◌, ◌++◌}
-use Rattle.std.specs.Prelude.{◌||◌, codes, bytes_eq, if◌then◌else◌}
+use Rattle.std.specs.Prelude.{◌||◌, bytes_eq, if◌then◌else◌}
 use Rattle.std.proofs.lemmas.List.{append-nil}
 use Rattle.std.proofs.lemmas.Bool.{false≢true}
 use Rattle.std.proofs.lemmas.Slice.Eq.{bytes_eq-Decides}
 use Rattle.stl_syntax.specs.Characters.{is_among}
 use Rattle.stl_syntax.specs.Formula.{Formula}
-use Rattle.trace_reader.specs.TraceText.{lines}
-use Rattle.session_mux.specs.Sessions.{Tagged, own, is_stopped, Alone, SoFar, prefixed, AreAnswers, AreEnds, tags_after, MuxText}
-use Rattle.session_mux.specs.SessionsAlone.{AreTold, AreToldAtEnd, AreToldInAll, EachIsToldToItsEnd, OthersAddNothingAtTheEnd, lines_of}
+use Rattle.session_mux.specs.Sessions.{Tagged, own, is_stopped, Alone, SoFar, AreEnds, tags_after}
+use Rattle.session_mux.specs.SessionsAlone.{AreToldAtEnd, AreToldInAll, EachIsToldToItsEnd, OthersAddNothingAtTheEnd}
 use Rattle.session_mux.proofs.SessionsTold.{text_alone_once, told_as_alone, told_alone, nothing_alone, own_of_lines}
 
 -- ---- each tag stands once

@@ -1,29 +1,23 @@
 -- Sessions that are found by their tags: a line is its own session's alone.
-use Rattle.std.proofs.Common.{◌≡◌, ◌≢◌, ◌⊎◌, inl, inr, refl, sym, ap, subst, ◌∙◌, ℕ, zero, suc, ◌+◌, ◌-◌, ◌<◌, ◌≤◌, Bool, true, false, List, [], ◌∷◌, ◌++◌, append_assoc, length, length-append, take, drop, set, arith, add-one, Option, Some, None, Result, Ok, Err}
-use Rattle.std.specs.Prelude.{bytes_eq, codes, map, slice_get, MatchBool, MatchResult, if◌then◌else◌, cond, ◌||◌}
+use Rattle.std.proofs.Common.{◌≡◌, ◌≢◌, ◌⊎◌, inl, inr, refl, sym, ap, subst, ◌∙◌, ℕ, zero, suc, ◌<◌, Bool, true, false, List, [], ◌∷◌, ◌++◌, length, drop, set, arith, Option, Some, None}
+use Rattle.std.specs.Prelude.{bytes_eq, slice_get, if◌then◌else◌, ◌||◌}
 use Rattle.std.specs.Ordering.{nat_cmp, is_eq}
 use Rattle.std.proofs.lemmas.Bool.Decides.{nat_tests}
 use Rattle.std.proofs.lemmas.Bool.{false≢true, cases_eq}
-use Rattle.std.proofs.lemmas.List.{append-nil, map-append, take-append-drop}
+use Rattle.std.proofs.lemmas.List.{append-nil, map-append}
 use Rattle.std.proofs.lemmas.Slice.Eq.{bytes_eq-Decides}
 use Rattle.stl_syntax.specs.Characters.{is_among}
 use Rattle.stl_syntax.specs.Formula.{Formula}
-use Rattle.report.proofs.Sequences.{take_at, place_inside}
-use Rattle.trace_stream.proofs.FaultPlaces.{to_true, to_false, at_true, at_false}
-use Rattle.trace_reader.specs.TraceText.{lines}
-use Rattle.session_mux.specs.Sessions.{Tagged, IsTag, IsAnswer, AreEnds, Alone, SoFar, tags_after, is_query, prefixed, last_eight}
+use Rattle.session_mux.specs.Sessions.{Tagged, IsTag}
 use Rattle.session_mux.specs.Tags.{number_of}
-use Rattle.session_mux.specs.Telling.{told_lines}
-use Rattle.session_mux.specs.Owning.{Own, own_of, asks, with_content, stopped_now}
-use Rattle.session_mux.specs.Standing.{IsOwnText, HasTold, IsGrowth, IsReply, HasReplied, IsCutShort}
-use Rattle.session_mux.specs.Knowing.{Register, shown, place_in, tags_of, tag_list, EachTold, AreFound, IsLastFound, Knows, HasBegun, IsNotBegun, IsTurnedAway, IsRoomFor, IsReady, HasAnswered, HasEnded}
+use Rattle.session_mux.specs.Owning.{Own, own_of}
+use Rattle.session_mux.specs.Standing.{HasTold}
+use Rattle.session_mux.specs.Knowing.{Register, shown, place_in, tags_of, tag_list, EachTold, AreFound, Knows, HasBegun, IsNotBegun, IsTurnedAway, IsReady}
 use Rattle.session_mux.specs.declared.fault.MuxFault.{MuxFault}
 use Rattle.session_mux.specs.declared.fault.MuxFault.TheVariants as fault
-use Rattle.session_mux.specs.declared.known.Found.{Found}
 use Rattle.session_mux.specs.declared.known.Known.{Known}
 use Rattle.session_mux.specs.declared.session.Session.{Session}
-use Rattle.session_mux.proofs.OwnLemmas.{own_grows, own_stays, own_of_none, tags_grow}
-use Rattle.session_mux.proofs.SessionLemmas.{growth_once}
+use Rattle.session_mux.proofs.OwnLemmas.{own_of_none, tags_grow}
 use Rattle.session_mux.proofs.TagLemmas.{tag_once}
 
 -- ---- places

@@ -1,7 +1,7 @@
 -- The first line of a text, and the lines of one line after another.
-use Rattle.std.proofs.Common.{◌≡◌, refl, sym, ap, subst, ◌∙◌, ℕ, suc, ◌+◌, ◌-◌, ◌<◌, ◌≤◌, true, List, [], ◌∷◌, ◌++◌, length, take, drop, append_assoc, length-drop, arith}
-use Rattle.std.specs.Prelude.{map, Some, slice_get}
-use Rattle.std.proofs.lemmas.List.{append-nil, take-append-drop, drop_more, take_all, map-append}
+use Rattle.std.proofs.Common.{◌≡◌, refl, sym, ap, ◌∙◌, ℕ, ◌+◌, ◌-◌, ◌<◌, true, List, [], ◌∷◌, ◌++◌, length, take, drop, append_assoc, length-drop, arith}
+use Rattle.std.specs.Prelude.{map}
+use Rattle.std.proofs.lemmas.List.{append-nil, take-append-drop, take_all, map-append}
 use Rattle.std.proofs.lemmas.Grind.{flat_map-append}
 use Rattle.circular_buffer.specs.Buffer.{Buffer, buffer, keep_last}
 use Rattle.memchr.specs.Find.{is_byte, Nowhere, NoneBefore, Passes}
@@ -11,7 +11,7 @@ use Rattle.trace_reader.specs.TraceText.{Line, lines}
 use Rattle.trace_reader.proofs.FeedLemmas.{none-free, at-free, at-taken}
 use Rattle.trace_reader.proofs.LineLemmas.{done, lines-nil, lines-append, lines-rest, lines-line}
 use Rattle.session_mux.specs.Sessions.{prefixed}
-use Rattle.session_mux.specs.Telling.{texts, prefixed_texts}
+use Rattle.session_mux.specs.Telling.{texts}
 use Rattle.session_mux.proofs.RecentLemmas.{kept_again}
 
 -- up to its first LF

@@ -1,17 +1,16 @@
 -- What a call for a line, and for the end of the input, comes to.
-use Rattle.std.proofs.Common.{◌≡◌, ◌≢◌, refl, sym, ap, subst, ◌∙◌, ℕ, ◌≤◌, Bool, true, false, List, [], ◌∷◌, ◌++◌, Result, Ok, Err}
-use Rattle.std.specs.Prelude.{MatchResult, MatchBool}
+use Rattle.std.proofs.Common.{◌≡◌, sym, ap, subst, ◌∙◌, ℕ, false, List, Result, Ok, Err}
+use Rattle.std.specs.Prelude.{MatchResult}
 use Rattle.stl_syntax.specs.Characters.{is_space, all}
 use Rattle.trace_stream.proofs.FaultPlaces.{to_false}
-use Rattle.session_mux.specs.Sessions.{Tagged, IsTagged, IsAnswer}
-use Rattle.session_mux.specs.Standing.{IsCutShort}
-use Rattle.session_mux.specs.Knowing.{Register, shown, Knows, HasAnswered, IsUnanswered}
-use Rattle.session_mux.specs.Muxes.{Muxed, Past, with_line, StandsFor, HasTaken, IsTakenLine, IsLineCall, Moves, IsLate, phase_after}
+use Rattle.session_mux.specs.Sessions.{Tagged, IsTagged}
+use Rattle.session_mux.specs.Knowing.{shown, Knows, HasAnswered, IsUnanswered}
+use Rattle.session_mux.specs.Muxes.{Muxed, Past, with_line, StandsFor, IsLineCall, Moves, IsLate, phase_after}
 use Rattle.session_mux.specs.declared.fault.MuxFault.{MuxFault}
 use Rattle.session_mux.specs.declared.fault.MuxFault.TheVariants as fault
 use Rattle.session_mux.specs.declared.known.Known.{Known}
 use Rattle.session_mux.specs.declared.mux.Phase.{Phase}
-use Rattle.session_mux.specs.declared.mux.Phase.TheVariants.{Taking, Stopped, Ended}
+use Rattle.session_mux.specs.declared.mux.Phase.TheVariants.{Taking, Stopped}
 
 -- what came of a line that has a tag
 abbrev pub IsOutcome : Past → Tagged → Known → Known → List ℕ → List ℕ → Result (Unit {0}) MuxFault → Type 0

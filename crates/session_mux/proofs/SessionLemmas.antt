@@ -1,6 +1,6 @@
 -- What a session's calls come to.
-use Rattle.std.proofs.Common.{◌≡◌, ◌⊎◌, inl, inr, refl, sym, ap, subst, ◌∙◌, ℕ, Bool, true, false, cond, List, [], ◌∷◌, ◌++◌, append_assoc, Option, Some, None, Result, Ok, Err}
-use Rattle.std.specs.Prelude.{codes, map, ◌||◌, MatchBool, MatchResult, OnOk, OnErr}
+use Rattle.std.proofs.Common.{◌≡◌, inl, inr, refl, sym, ap, subst, ◌∙◌, ℕ, Bool, true, false, cond, List, [], ◌++◌, append_assoc, Some, None, Result, Ok, Err}
+use Rattle.std.specs.Prelude.{codes, map, ◌||◌, MatchResult, OnOk, OnErr}
 use Rattle.std.proofs.lemmas.Bool.{false≢true}
 use Rattle.std.proofs.lemmas.List.{append-nil, append_cancel_left}
 use Rattle.std.proofs.lemmas.Grind.{flat_map-append}
@@ -14,7 +14,6 @@ use Rattle.trace_reader.specs.InputFaults.{Fault, stream_limits, IsInputFault}
 use Rattle.trace_reader.specs.declared.refusal.Limits.{Limits}
 use Rattle.trace_reader.proofs.LineLemmas.{lines-nil}
 use Rattle.trace_stream.specs.Streams.{verdicts}
-use Rattle.trace_stream.specs.Cases.{IsFault}
 use Rattle.trace_stream.specs.Following.{IsTextOf, IsLive, IsOver, IsLiveStop}
 use Rattle.trace_stream.specs.declared.fault.TraceFault.{TraceFault}
 use Rattle.trace_stream.specs.declared.fault.StreamStop.{StreamStop}

@@ -1,12 +1,12 @@
 -- Tags as numbers: each tag has one of its own, which is not 0.
 use Rattle.std.proofs.Common.{◌≡◌, get_or, drop, length-drop, refl, sym, ap, subst, ◌∙◌, ℕ, zero, suc, ◌+◌, ◌-◌, ◌*◌, ◌^◌, ◌⊎◌, inl, inr, ◌++◌, take, append-nil, ◌≢◌, ◌<◌, ◌≤◌, Bool, true, false, List, [], ◌∷◌, length, arith}
-use Rattle.std.specs.Prelude.{◌&&◌, ◌||◌, nat_le, ◌==◌}
+use Rattle.std.specs.Prelude.{◌&&◌, ◌||◌}
 use Rattle.std.proofs.lemmas.Bool.{false≢true}
 use Rattle.std.proofs.lemmas.Bool.Decides.{nat_tests}
 use Rattle.std.proofs.lemmas.List.{drop_more, drop_all, take_all, take-append-drop, length-take-le}
 use Rattle.std.proofs.Math.Seq.{drop-append_seam}
 use Rattle.std.proofs.Math.Nat.{pow-suc}
-use Rattle.stl_syntax.specs.Characters.{all, StopsAt, begins_word, is_digit}
+use Rattle.stl_syntax.specs.Characters.{all, StopsAt}
 use Rattle.session_mux.specs.Sessions.{Tagged, is_tag_byte, IsTag, tag, IsTagged, alone, followed}
 use Rattle.session_mux.specs.Tags.{number_of}
 

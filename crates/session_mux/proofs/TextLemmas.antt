@@ -4,7 +4,7 @@ use Rattle.std.specs.Prelude.{codes, decimal, int_lt, map, MatchBool, Option, So
 use Rattle.std.proofs.lemmas.List.{append-nil, map-append}
 use Rattle.stl_syntax.specs.Formula.{Formula, Subformula, root}
 use Rattle.stl_syntax.specs.Scaling.{scaled}
-use Rattle.stl_syntax.specs.Stream.{IsStretchText, IsNewText, IsRowsText, IsRestText, IsStreamText, answered_by, after}
+use Rattle.stl_syntax.specs.Stream.{IsStretchText, IsNewText, IsRowsText, IsStreamText, answered_by, after}
 use Rattle.stl_syntax.specs.Texts.{newline, bool_text, AreVerdictLines}
 use Rattle.stl_syntax.specs.Trace.{Header, Row, Trace, first_time, last_time}
 use Rattle.stl_syntax.specs.declared.items.Verdict.{Verdict}

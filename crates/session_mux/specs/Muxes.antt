@@ -1,5 +1,5 @@
 -- When the sessions of an input stand for its lines, and what a call answers.
-use Rattle.std.specs.Prelude.{◌≡◌, ℕ, ◌≤◌, Bool, true, false, List, [], ◌∷◌, ◌++◌, length, Result, Ok, Err, MatchBool}
+use Rattle.std.specs.Prelude.{◌≡◌, ℕ, ◌≤◌, false, List, [], ◌∷◌, ◌++◌, length, Result, Ok, Err, MatchBool}
 use Rattle.stl_syntax.specs.Characters.{is_space, all, is_among}
 use Rattle.stl_syntax.specs.Formula.{Formula}
 use Rattle.session_mux.specs.Sessions.{Tagged, IsTagged, IsAnswer, AreEnds}

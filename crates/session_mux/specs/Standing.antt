@@ -2,7 +2,6 @@
 use Rattle.std.specs.Prelude.{◌≡◌, ◌⊎◌, ℕ, Bool, true, false, List, [], ◌++◌, codes, Option, Some, None, MatchBool}
 use Rattle.circular_buffer.specs.Buffer.{Buffer, buffer, keep_last}
 use Rattle.stl_syntax.specs.Formula.{Formula}
-use Rattle.stl_syntax.specs.Texts.{newline}
 use Rattle.trace_reader.specs.TraceText.{lines}
 use Rattle.trace_reader.specs.InputFaults.{Fault, stream_limits, IsInputFault}
 use Rattle.trace_stream.specs.Cases.{IsFault}

@@ -1,4 +1,4 @@
-use Rattle.std.proofs.Common.{◌≡◌, sym, ap, subst, ◌∙◌, List, ℕ, ◌++◌, true}
+use Rattle.std.proofs.Common.{sym, subst, ◌∙◌, ◌++◌, true}
 use Rattle.std.specs.Prelude.{MatchResult}
 use Rattle.report.specs.Appended.{GrewInPart, Is}
 use Rattle.stl_syntax.specs.Formula.{Formula}

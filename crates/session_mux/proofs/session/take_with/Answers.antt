@@ -1,5 +1,4 @@
-use Rattle.std.proofs.Common.{◌≡◌, sym, ap, subst, ◌∙◌, List, ℕ, ◌++◌, false, true}
-use Rattle.std.specs.Prelude.{MatchResult}
+use Rattle.std.proofs.Common.{sym, subst, ◌∙◌, ◌++◌, false, true}
 use Rattle.std.proofs.lemmas.Result.{err_from_is_err_and}
 use Rattle.report.specs.Appended.{GrewInPart, Is}
 use Rattle.stl_syntax.specs.Formula.{Formula}

@@ -1,12 +1,12 @@
-use Rattle.std.proofs.Common.{◌≡◌, sym, ap, subst, ◌∙◌, List, ℕ, ◌++◌}
+use Rattle.std.proofs.Common.{sym, subst, ◌∙◌, ◌++◌}
 use Rattle.std.proofs.lemmas.Result.{err_from_is_err_and}
 use Rattle.report.specs.Appended.{GrewInPart, Is}
 use Rattle.stl_syntax.specs.Formula.{Formula}
 use Rattle.trace_stream.specs.Cases.{IsFault}
 use Rattle.trace_stream.specs.declared.fault.StreamStop.{StreamStop}
 use Rattle.session_mux.specs.Telling.{told_lines, HasSaid}
-use Rattle.session_mux.specs.Standing.{IsStoppedAt, IsGrowth}
-use Rattle.session_mux.proofs.SessionLemmas.{cut_none, stop_cut_first, stop_told}
+use Rattle.session_mux.specs.Standing.{IsStoppedAt}
+use Rattle.session_mux.proofs.SessionLemmas.{stop_cut_first, stop_told}
 use Rattle.session_mux.proofs.session.tell_stop.Goals as goal
 
 pub returns-in_err-tell : goal.returns-in_err-tell

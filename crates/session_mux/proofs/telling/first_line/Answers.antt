@@ -1,5 +1,5 @@
-use Rattle.std.proofs.Common.{◌≡◌, ap, ◌∙◌, sym, true, length, ◌+◌, ◌∷◌, take, drop, arith}
-use Rattle.std.proofs.lemmas.List.{take_all, drop_all}
+use Rattle.std.proofs.Common.{ap, ◌∙◌, sym, true, length, ◌+◌, ◌∷◌, take, arith}
+use Rattle.std.proofs.lemmas.List.{drop_all}
 use Rattle.trace_reader.specs.TraceText.{lines}
 use Rattle.trace_reader.proofs.LineLemmas.{done, lines-nil}
 use Rattle.session_mux.proofs.LineTexts.{line_found, line_alone, whole_drop}

@@ -1,5 +1,4 @@
 use Rattle.std.proofs.Common.{◌≡◌, ℕ, List, ◌++◌, append_assoc, ap, sym, ◌∙◌, refl}
-use Rattle.std.proofs.lemmas.Result.{on_ok_weaker, on_err_weaker}
 use Rattle.report.specs.Appended.{GrewInPart, Is}
 use Rattle.report.proofs.Parts.{on_err}
 use Rattle.stl_syntax.specs.Texts.{newline}

@@ -1,5 +1,5 @@
-use Rattle.std.proofs.Common.{◌≡◌, ℕ, suc, ◌+◌, ◌++◌, ◌∷◌, [], List, take, drop, sym, ap, ◌∙◌, append_assoc, add-one, arith, zero, Option, Some, None}
-use Rattle.std.specs.Prelude.{codes, slice_get, flat_map}
+use Rattle.std.proofs.Common.{◌≡◌, ℕ, suc, ◌+◌, ◌++◌, ◌∷◌, [], List, take, drop, sym, ap, ◌∙◌, append_assoc, add-one, zero, Some, None}
+use Rattle.std.specs.Prelude.{codes, slice_get}
 use Rattle.std.proofs.lemmas.List.{append-nil, take-append-drop}
 use Rattle.std.proofs.lemmas.Grind.{flat_map-append}
 use Rattle.report.specs.Appended.{GrewInPart, Is}

@@ -1,8 +1,8 @@
-use Rattle.std.proofs.Common.{◌≡◌, ◌++◌, sym, ap, refl, List, ℕ, [], ◌∷◌, length, true, arith}
+use Rattle.std.proofs.Common.{◌≡◌, ◌++◌, sym, refl, List, ℕ, [], ◌∷◌, length, true, arith}
 use Rattle.std.proofs.lemmas.Bool.{eqb-true}
 use Rattle.std.proofs.lemmas.Result.{err_from_is_err_and}
 use Rattle.std.specs.Prelude.{codes, ◌==◌}
-use Rattle.session_mux.proofs.LineTexts.{Telling, telling_begins, telling_on, telling_cut, telling_stopped, telling_all, telling_kept}
+use Rattle.session_mux.proofs.LineTexts.{telling_begins, telling_on, telling_cut, telling_stopped, telling_all, telling_kept}
 use Rattle.session_mux.proofs.telling.tell.Goals as goal
 
 none_left : (rest : List ℕ) → (length rest == 0) ≡ true → rest ≡ []

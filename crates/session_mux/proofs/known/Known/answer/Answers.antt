@@ -1,4 +1,4 @@
-use Rattle.std.proofs.Common.{◌≡◌, sym, ap, subst, ◌∙◌, refl, List, ℕ, ◌<◌, length, arith, Some, get_or}
+use Rattle.std.proofs.Common.{◌≡◌, sym, ap, subst, refl, List, ℕ, ◌<◌, length, arith, Some, get_or}
 use Rattle.std.specs.Prelude.{slice_get}
 use Rattle.std.proofs.lemmas.Option.{slice_get_read}
 use Rattle.std.proofs.lemmas.Result.{err_from_is_err_and}

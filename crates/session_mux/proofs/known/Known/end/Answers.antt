@@ -1,4 +1,4 @@
-use Rattle.std.proofs.Common.{◌≡◌, sym, ap, subst, ◌∙◌, refl, List, ℕ, ◌<◌, ◌≤◌, ◌+◌, length, arith, Some, get_or, set}
+use Rattle.std.proofs.Common.{◌≡◌, sym, subst, ◌∙◌, refl, List, ℕ, ◌<◌, length, arith, Some, get_or}
 use Rattle.std.specs.Prelude.{slice_get}
 use Rattle.std.proofs.lemmas.Option.{slice_get_read}
 use Rattle.std.proofs.lemmas.Result.{err_from_is_err_and}
@@ -6,8 +6,8 @@ use Rattle.std.proofs.lemmas.List.{length-set}
 use Rattle.stl_syntax.specs.Formula.{Formula}
 use Rattle.session_mux.specs.Sessions.{Tagged, AreEnds}
 use Rattle.session_mux.specs.Owning.{own_of, stopped_now}
-use Rattle.session_mux.specs.Standing.{HasTold, HasSomeTold, IsGrowth, HasReplied, IsCutShort}
-use Rattle.session_mux.specs.Knowing.{shown, Knows, tag_list, tags_of}
+use Rattle.session_mux.specs.Standing.{HasTold, IsGrowth, HasReplied, IsCutShort}
+use Rattle.session_mux.specs.Knowing.{shown, Knows}
 use Rattle.session_mux.specs.declared.known.Known.{Known}
 use Rattle.session_mux.specs.declared.session.Session.{Session}
 use Rattle.session_mux.proofs.AnsweringLemmas.{Ending, ending_begins, ending_on, ending_cut, ended_all}

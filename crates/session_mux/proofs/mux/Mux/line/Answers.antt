@@ -1,4 +1,4 @@
-use Rattle.std.proofs.Common.{◌≡◌, sym, ap, subst, ◌∙◌, refl}
+use Rattle.std.proofs.Common.{sym, subst, ◌∙◌, refl}
 use Rattle.session_mux.specs.Sessions.{Tagged}
 use Rattle.session_mux.specs.Muxes.{Muxed, StandsFor}
 use Rattle.session_mux.proofs.MuxLemmas.{goes_on_after, line_call, line_moves, line_late}

@@ -1,4 +1,4 @@
-use Rattle.std.proofs.Common.{◌≡◌, sym, ap, subst, ◌∙◌, inl, refl, Option, Some, None, ◌++◌}
+use Rattle.std.proofs.Common.{sym, subst, inl, refl, Option, ◌++◌}
 use Rattle.trace_stream.specs.declared.live.Live.{Live}
 use Rattle.trace_stream.specs.declared.verdicts.Verdicts.{Verdicts}
 use Rattle.session_mux.specs.Owning.{stopped_now}

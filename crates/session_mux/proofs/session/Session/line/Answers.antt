@@ -1,4 +1,4 @@
-use Rattle.std.proofs.Common.{◌≡◌, sym, ap, subst, ◌∙◌, List, ℕ, ◌++◌}
+use Rattle.std.proofs.Common.{◌≡◌, sym, subst, ◌∙◌, ◌++◌}
 use Rattle.std.specs.Prelude.{codes, OnOk, OnErr}
 use Rattle.report.specs.Appended.{GrewInPart, Is}
 use Rattle.session_mux.specs.Owning.{stopped_now, next_line, with_content}
