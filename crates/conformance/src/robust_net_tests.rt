@@ -1,0 +1,197 @@
+//! The network of streamed margins: what the root gives out after each row and at the end, in worked cases.
+ghost use Rattle.std.specs.Prelude.{◌≡◌, ◌^◌, length, option_map};
+ghost use Rattle.stl_syntax.specs.Trace.{Row as ARow};
+ghost use Rattle.report.specs.PartLines.{IsPartWithin};
+ghost use Rattle.online_robust.specs.Nets.{IsNear};
+
+use super::evals::parsed;
+use super::traces::WHOLE;
+use atom_lines::bind;
+use online_robust::{MarginLine, RobustNet, first_unstreamed};
+use report::{MarginPart, put_margin_line};
+use std::alloc::Global;
+use std::process::Abort;
+use std::test::Fail;
+use stl_syntax::Text;
+use trace_reader::{Event, Limits, Rows};
+
+const HILL: &str = "time,x\n0,0\n4,4\n10,10\n";
+
+const TWO: &str = "time,x,y:step\n0,0,5\n6,6,0\n8,2,0\n";
+
+/// A formula, a trace, and what the root gives out after each row and at the end, parted by `/`.
+const STREAMS: [(&str, &str, &str); 6] = [
+    (
+        "x >= 0",
+        HILL,
+        "[0] 0\n/(0,4) 0 -> 4\n[4] 4\n/(4,10) 4 -> 10\n[10] 10\n//",
+    ),
+    (
+        "not x >= 5",
+        HILL,
+        "[0] 5\n/(0,4) 5 -> 1\n[4] 1\n/(4,10) 1 -> -5\n[10] -5\n//",
+    ),
+    (
+        "x >= 0 and y >= 3",
+        TWO,
+        "[0] 0\n/(0,2) 0 -> 2\n[2] 2\n(2,6) 2 -> 2\n[6] -3\n/(6,8) -3 -> -3\n[8] -3\n//",
+    ),
+    (
+        "x >= 3 or false",
+        TWO,
+        "[0] -3\n/(0,6) -3 -> 3\n[6] 3\n/(6,8) 3 -> -1\n[8] -1\n//",
+    ),
+    (
+        "x >= 3 implies y >= 1",
+        TWO,
+        "[0] 4\n/(0,6) 4 -> 4\n[6] -1\n/(6,7) -1 -> -1\n[7] -1\n(7,8) -1 -> 1\n[8] 1\n//",
+    ),
+    ("true", "time,x\n100,7\n", "[100] inf\n//"),
+];
+
+/// A network with the rows that it is fed, the number of columns, the time of the last row, and the lines so far.
+#[derive(Drop)]
+struct Fed<'a> {
+    net: RobustNet,
+    reader: Rows,
+    rest: &'a [u8],
+    columns: usize,
+    last: Option<u32>,
+    text: Text,
+    ghost wide: { net.bound.width ≡ columns },
+    ghost late: { option_map (λ (r : ARow). r.time) net.last ≡ last },
+}
+
+/// The network of a formula over the header of a trace.
+fn begin_on<'a>(
+    rt: &impl Abort,
+    alloc: Global,
+    text: &str,
+    input: &'a str,
+) -> Result<Fed<'a>, Fail> {
+    let limits = Limits {
+        rows: 1000,
+        lines: 1001,
+    };
+    let mut reader = Rows::new(alloc, limits, WHOLE)?;
+    let bytes = input.as_bytes();
+    let Ok(took) = reader.push(bytes) else {
+        panic!(rt; "header");
+    };
+    let Event::Header = took.event else {
+        panic!(rt; "header");
+    };
+    let formula = parsed(rt, alloc, text);
+    let None = first_unstreamed(&formula) else {
+        panic!(rt; "streamed");
+    };
+    let Ok(bound) = bind(alloc, &formula, reader.header()) else {
+        panic!(rt; "bind");
+    };
+    let columns = reader.header().columns();
+    let net = RobustNet::new(alloc, &formula, bound)?;
+    Ok(Fed {
+        net,
+        reader,
+        rest: &bytes[took.bytes..],
+        columns,
+        last: None,
+        text: Text::new(alloc),
+    })
+}
+
+/// A line of the root as the report has it.
+fn part_of(line: MarginLine) -> MarginPart
+    requires { IsNear line }
+    ensures { IsPartWithin (2 ^ 34) result }
+{
+    match line {
+        MarginLine::Point { at, value } => MarginPart::Point { at, value },
+        MarginLine::Gap { from, to, piece } => MarginPart::Gap { from, to, piece },
+    }
+}
+
+impl<'a> Fed<'a> {
+    /// Takes all that the root gives out, and adds its lines, and a `/`.
+    fn take_all(&mut self, rt: &impl Abort) -> Result<(), Fail> {
+        for _ in 0..1000 {
+            let Some(line) = self.net.take() else {
+                self.text.push(b"/")?;
+                return Ok(());
+            };
+            put_margin_line(&mut self.text, &part_of(line), WHOLE)?;
+        }
+        panic!(rt; "too many lines");
+    }
+
+    /// The next row; false where there is none.
+    fn row(&mut self, rt: &impl Abort) -> Result<bool, Fail> {
+        if self.rest.is_empty() {
+            return Ok(false);
+        }
+        let Ok(took) = self.reader.push(self.rest) else {
+            panic!(rt; "row");
+        };
+        self.rest = &self.rest[took.bytes..];
+        let Event::Row = took.event else {
+            return Ok(false);
+        };
+        let row = self.reader.row();
+        assert!(rt; row.columns() == self.columns);
+        if let Some(last) = self.last {
+            assert!(rt; last < row.time());
+        }
+        let Ok(()) = self.net.feed(row) else {
+            panic!(rt; "feed");
+        };
+        self.last = Some(row.time());
+        Ok(true)
+    }
+
+    /// The end of the rows.
+    fn close(&mut self, rt: &impl Abort) -> Result<(), Fail> {
+        assert!(rt; self.last.is_some());
+        let Ok(()) = self.net.close() else {
+            panic!(rt; "close");
+        };
+        Ok(())
+    }
+}
+
+/// All that a network gives out, row by row and at the end.
+fn streamed(rt: &impl Abort, alloc: Global, formula: &str, input: &str) -> Result<Text, Fail> {
+    let mut fed = begin_on(rt, alloc, formula, input)?;
+    for _ in 0..1000 {
+        if !fed.row(rt)? {
+            break;
+        }
+        fed.take_all(rt)?;
+    }
+    fed.close(rt)?;
+    fed.take_all(rt)?;
+    let Fed { text, .. } = fed;
+    Ok(text)
+}
+
+#[test]
+fn margins_come_as_the_rows_decide_them(rt: HostRuntime) -> Result<(), Fail> {
+    for (formula, input, expected) in STREAMS.iter() {
+        let text = streamed(&rt, rt.alloc(), formula, input)?;
+        assert_eq!(rt; text.bytes(), expected.as_bytes(), "{formula}");
+    }
+    Ok(())
+}
+
+#[test]
+fn windows_and_until_are_not_streamed(rt: HostRuntime) -> Result<(), Fail> {
+    let alloc = rt.alloc();
+    assert_eq!(rt;
+        first_unstreamed(&parsed(&rt, alloc, "true until[0,1] x >= 0")),
+        Some(2)
+    );
+    assert_eq!(rt;
+        first_unstreamed(&parsed(&rt, alloc, "not (x >= 0 implies true)")),
+        None
+    );
+    Ok(())
+}
