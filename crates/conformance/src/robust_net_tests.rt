@@ -1,4 +1,4 @@
-//! The network of streamed margins: worked rows, and the lines of random recordings against the margins of the whole.
+//! The network of streamed margins: what the root gives out after each row and at the end, in worked cases.
 ghost use Rattle.std.specs.Prelude.{◌≡◌, ◌^◌, length, option_map};
 ghost use Rattle.stl_syntax.specs.Trace.{Row as ARow};
 ghost use Rattle.report.specs.PartLines.{IsPartWithin};

@@ -8,12 +8,13 @@ use Rattle.stl_syntax.specs.Formula.{Formula}
 use Rattle.stl_syntax.specs.Texts.{newline}
 use Rattle.stl_syntax.specs.Trace.{Header, Row}
 use Rattle.trace_reader.specs.TraceText.{Line, Heading, lines}
-use Rattle.workbench.specs.InputFaults.{stream_limits, Fault, fault_text, IsHeaderAt, here, later, IsInputFault, no_header_yet}
-use Rattle.workbench.specs.Requests.{verdicts}
-use Rattle.workbench.specs.Owed.{StreamOf}
-use Rattle.workbench.specs.Sessions.{Tagged, is_query, is_stop, own, is_stopped, Alone, SoFar, IsRowsStream, IsFaultLine, prefixed, IsAnswer, AreAnswers}
-use Rattle.workbench.specs.SessionsAlone.{lines_of, is_of, IsAdded, AreTold, OneTextAlone, EachIsToldAsAlone, OthersAddNothing}
+use Rattle.trace_reader.specs.InputFaults.{stream_limits, Fault, IsHeaderAt, here, later, IsInputFault, no_header_yet}
+use Rattle.report.specs.FaultTexts.{fault_text}
+use Rattle.trace_stream.specs.Streams.{verdicts, StreamOf}
+use Rattle.session_mux.specs.Sessions.{Tagged, is_query, is_stop, own, is_stopped, Alone, SoFar, IsRowsStream, IsFaultLine, prefixed, IsAnswer, AreAnswers}
+use Rattle.session_mux.specs.SessionsAlone.{lines_of, is_of, IsAdded, AreTold, OneTextAlone, EachIsToldAsAlone, OthersAddNothing}
 use Rattle.trace_stream.proofs.FaultPlaces.{at_true, at_false, to_true, to_false}
+use Rattle.session_mux.proofs.OwnLemmas.{own_by_other, stopped_by_other}
 use Rattle.trace_stream.proofs.OneFault.{one_fault}
 use Rattle.trace_stream.proofs.OwedRows.{stream_owed_once}
 
@@ -51,36 +52,9 @@ unfolding lines
 no_fault f x (inl (n, h, a, l, k)) = no_header n h a
 no_fault f x (inr (_, (r, (e, (t, z)), y))) = cc
 
-nothing_alone : (f : Formula) → Alone f [] false []
+pub nothing_alone : (f : Formula) → Alone f [] false []
 unfolding lines
 nothing_alone f = (None, [], false, [], [], no_header_yet (no_fault f) no_header, refl, inl (no_fault f, refl), refl)
-
--- a query is no stop
-no_stop : (line : Tagged) → is_query line ≡ true → is_stop line ≡ false
-no_stop line q = ap (λ w. bytes_eq w (codes ".")) ((bytes_eq-Decides line.content (codes "?")).0 q)
-
--- a line that is none of the session's, or a query, leaves both as they are
-by_other : (line : Tagged) (t : List ℕ) (b q : Bool) → bytes_eq line.tag t ≡ b → is_query line ≡ q → (b && not q) ≡ false
-    → (own (line ∷ []) t ≡ []) × (is_stopped (line ∷ []) t ≡ false)
-by_other line t true true e k h = (
-  ap (λ c. cond c (cond (is_query line) [] (cond (is_stop line) [] (line.content ++ newline ++ []))) []) e
-      ∙ ap (λ c. cond c [] (cond (is_stop line) [] (line.content ++ newline ++ []))) k,
-  ap (λ c. cond c (is_stop line || false) false) e ∙ ap (λ c. c || false) (no_stop line k),
-)
-by_other line t true false e k h = absurd (false≢true (sym h))
-by_other line t false q e k h = (
-  ap (λ c. cond c (cond (is_query line) [] (cond (is_stop line) [] (line.content ++ newline ++ []))) []) e,
-  ap (λ c. cond c (is_stop line || false) false) e,
-)
-
-own_by_other : (seen : List Tagged) (line : Tagged) (t : List ℕ) → is_of t line ≡ false → own (seen ++ line ∷ []) t ≡ own seen t
-own_by_other [] line t h = (by_other line t (bytes_eq line.tag t) (is_query line) refl refl h).0
-own_by_other (x ∷ seen) line t h =
-    ap (λ o. cond (bytes_eq x.tag t) (cond (is_query x) o (cond (is_stop x) [] (x.content ++ newline ++ o))) o) (own_by_other seen line t h)
-
-stopped_by_other : (seen : List Tagged) (line : Tagged) (t : List ℕ) → is_of t line ≡ false → is_stopped (seen ++ line ∷ []) t ≡ is_stopped seen t
-stopped_by_other [] line t h = (by_other line t (bytes_eq line.tag t) (is_query line) refl refl h).1
-stopped_by_other (x ∷ seen) line t h = ap (λ o. cond (bytes_eq x.tag t) (is_stop x || o) o) (stopped_by_other seen line t h)
 
 so_far_by_other : (f : Formula) (seen : List Tagged) (line : Tagged) (t : List ℕ) (text : List ℕ) → is_of t line ≡ false → SoFar f seen t text
     → SoFar f (seen ++ line ∷ []) t text
@@ -89,7 +63,7 @@ so_far_by_other f seen line t text h so =
     (subst (λ s. Alone f (own seen t) s text) (sym (stopped_by_other seen line t h)) so)
 
 -- the bytes of a session, and its stop, are of its own lines
-own_of_lines : (all : List Tagged) (t : List ℕ) → own all t ≡ own (lines_of t all) t
+pub own_of_lines : (all : List Tagged) (t : List ℕ) → own all t ≡ own (lines_of t all) t
 own_of_lines [] t = refl
 own_of_lines (x ∷ all) t = by_tag (own_of_lines all t) (bytes_eq x.tag t) refl
   where
@@ -171,7 +145,7 @@ module _ (f : Formula) (t : List ℕ) where
           let got = at_true _ _ (is_of t line) e is in
           subst (λ w. SoFar f (seen ++ line ∷ []) t (w ++ added)) (text_alone_once f (own seen t) (is_stopped seen t) got.0 old got.1 so) got.2
 
-  told_alone : (seen more : List Tagged) (old text told : List ℕ) → SoFar f seen t old → AreTold f t seen more text told
+  pub told_alone : (seen more : List Tagged) (old text told : List ℕ) → SoFar f seen t old → AreTold f t seen more text told
       → SoFar f (seen ++ more) t (old ++ told)
   told_alone seen [] old text told so (e, k) =
       subst (λ s. SoFar f s t (old ++ told)) (sym (append-nil seen))
