@@ -92,10 +92,10 @@ all_taken g m net old new h all = record { taken = record { more = h.more; stand
 
 -- a network that runs and has not ended tells its first fault
 pub of_first : (old new : Parts) (fault : RobustFault) → old.stopped ≡ false → old.closed ≡ false → IsFault old new fault → IsOfFirst fault
-of_first old new (R.Wide cause) running open f = tt
-of_first old new R.Memory running open f = tt
-of_first old new R.Stopped running open (stopped, same) = false≢true (sym running ∙ stopped)
-of_first old new R.Closed running open (runs, closed, same) = false≢true (sym open ∙ closed)
+of_first old new (R.Wide cause) running going f = tt
+of_first old new R.Memory running going f = tt
+of_first old new R.Stopped running going (stopped, same) = false≢true (sym running ∙ stopped)
+of_first old new R.Closed running going (runs, closed, same) = false≢true (sym going ∙ closed)
 
 needed : (m : Move) (pair : WidePair Margin) → IsStreamedCause (turn_of m (trace_of m.header m.new)) pair
     → IsNeededByThen m.nodes (trace_of m.header m.new) m.new.ended m.place (denominator_of pair)

@@ -1,5 +1,5 @@
 //! The margins of a formula as the rows of a trace come: a network of margins follows them.
-ghost use Rattle.std.specs.Prelude.{◌≡◌, ◌^◌, ℕ, List, [], IfOk, IfErr, OnOk};
+ghost use Rattle.std.specs.Prelude.{◌≡◌, ◌^◌, ℕ, List, [], false, true, IfOk, IfErr, OnOk};
 ghost use Rattle.stl_syntax.specs.Formula.{Formula as Parsed};
 ghost use Rattle.stl_syntax.specs.Trace.{IsTrace};
 ghost use Rattle.stl_syntax.specs.declared.scale.Scale.{Scale as Ticks};

@@ -1,5 +1,5 @@
 use Rattle.std.proofs.Common.{[], ◌∷◌, ◌++◌, ◌∙◌, false, true, sym, subst}
-use Rattle.trace_stream.specs.Margining.{past_of}
+use Rattle.trace_stream.specs.Margining.{past_of, IsFollowFault}
 use Rattle.trace_stream.proofs.Margined.{of_first, fault_so, may_end, given_on, end_followed}
 use Rattle.trace_stream.proofs.margins.Margins.end.Goals as goal
 
@@ -10,3 +10,17 @@ pub first_fault-requires : goal.first_fault-requires
 first_fault-requires c =
     let (case, made, k, t) = c.requires in
     of_first c.args.self.now.net c.close.new.self c.in-Err.fault k.stands.stands.keeps.running k.stands.stands.keeps.closed c.in-Err.ensures.answer
+
+pub returns-in-Err-clause-wide : goal.returns-in-Err-clause-wide
+returns-in-Err-clause-wide c = λ case made k t.
+    subst (IsFollowFault case true) (sym c.first_fault.ensures)
+    (fault_so case true (past_of case false) c.in-Err.fault
+    (c.in-Err.ensures.wide case.formula.nodes case.trace.header (past_of case false) k.stands.given k.stands.stands))
+
+pub returns-in-Ok-clause-followed : goal.returns-in-Ok-clause-followed
+returns-in-Ok-clause-followed c = λ case made k t.
+    let (f, is) = k.fits in
+    end_followed c.args.self.now case f made k.stands c.take_all.new.self c.args.text.now c.take_all.new.text is t
+    c.take_all.ensures.formula
+    (c.in-Ok-2.ensures.taken (given_on c.args.self.now case made k.stands (past_of case true))
+    (c.in-Ok.ensures.stands case.formula.nodes case.trace.header (past_of case false) k.stands.given k.stands.stands))

@@ -1,5 +1,6 @@
 use Rattle.std.proofs.Common.{◌≡◌, ◌∙◌, ◌++◌, refl, sym, subst}
 use Rattle.online_robust.specs.Nets.{IsTaken}
+use Rattle.report.specs.PartLines.{IsPartLine}
 use Rattle.trace_stream.proofs.Margined.{none_taken, one_taken, all_taken}
 use Rattle.trace_stream.proofs.margins.Margins.take_all.Goals as goal
 
@@ -17,7 +18,8 @@ loop-line-preserved c = record {
       let (here, is, longer) = c.in_ok-put_margin_line.ensures.ok in
       one_taken g c.loop-line.self c.take.new.self c.in-Some.line c.args.text.now c.loop-line.text c.put_margin_line.new.text here h
       (c.in-Some.ensures.taken g.nodes g.header g.past (g.lines ++ h.more) h.stands)
-      (c.part_of.ensures.same c.loop-line.self.formula.scale here ?) longer;
+      (c.part_of.ensures.same c.loop-line.self.formula.scale here
+      (subst (λ t. IsPartLine t c.part_of.result here) c.scale.ensures.scale is)) longer;
 }
 
 pub loop-line-smaller : goal.loop-line-smaller
