@@ -25,8 +25,10 @@ use Rattle.online_robust.proofs.StreamTexts.{lines_more, stream_text}
 use Rattle.trace_stream.specs.Cases.{IsCase, Takes, with_row}
 use Rattle.trace_stream.specs.Streams.{margins}
 use Rattle.trace_stream.specs.Following.{Follows, IsFollowedOn, IsFollowedOut}
-use Rattle.trace_stream.specs.Margining.{past_of, AreEmitted, denominator_of, fault_of, Given, HasTaken, HasTakenAll, IsFollowFault, IsMargined, IsNeededByThen, IsOfFirst, IsStanding}
+use Rattle.trace_stream.specs.Margining.{past_of, AreEmitted, denominator_of, fault_of, Given, HasTaken, HasTakenAll, IsFollowFault, IsMargined, IsNeededByThen, IsOfFirst, IsStanding, IsUnwritten}
 use Rattle.trace_stream.specs.declared.case.Case.{Case}
+use Rattle.trace_stream.specs.declared.margins.FollowFault.{FollowFault}
+use Rattle.trace_stream.specs.declared.margins.FollowFault.TheVariants as F
 use Rattle.trace_stream.specs.declared.margins.Margins.{Margins}
 
 -- ---- rows
@@ -110,6 +112,11 @@ fault_so c ended old (R.Wide cause) (inside, is) =
 fault_so c ended old R.Memory is = tt
 fault_so c ended old R.Stopped is = tt
 fault_so c ended old R.Closed is = tt
+
+-- where nothing was put, nothing was written
+pub unwritten : (text : List ℕ) (fault : FollowFault) → IsUnwritten text text fault
+unwritten text F.Memory = tt
+unwritten text (F.Wide i den) = refl
 
 module _ (m : Margins) (c : Case) (made : List ℕ) (w : IsMargined false m c made) where
   -- the row may come

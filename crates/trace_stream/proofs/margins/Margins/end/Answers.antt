@@ -1,6 +1,6 @@
 use Rattle.std.proofs.Common.{[], ◌∷◌, ◌++◌, ◌∙◌, false, true, sym, subst}
 use Rattle.trace_stream.specs.Margining.{past_of, IsFollowFault}
-use Rattle.trace_stream.proofs.Margined.{of_first, fault_so, may_end, given_on, end_followed}
+use Rattle.trace_stream.proofs.Margined.{of_first, fault_so, unwritten, may_end, given_on, end_followed}
 use Rattle.trace_stream.proofs.margins.Margins.end.Goals as goal
 
 pub close-requires : goal.close-requires
@@ -24,3 +24,6 @@ returns-in-Ok-clause-followed c = λ case made k t.
     c.take_all.ensures.formula
     (c.in-Ok-2.ensures.taken (given_on c.args.self.now case made k.stands (past_of case true))
     (c.in-Ok.ensures.stands case.formula.nodes case.trace.header (past_of case false) k.stands.given k.stands.stands))
+
+pub returns-in-Err-clause-unwritten : goal.returns-in-Err-clause-unwritten
+returns-in-Err-clause-unwritten c = unwritten c.args.text.now c.first_fault.result

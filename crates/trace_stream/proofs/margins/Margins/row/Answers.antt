@@ -2,7 +2,7 @@ use Rattle.std.proofs.Common.{[], ◌∷◌, ◌++◌, ◌∙◌, false, sym, su
 use Rattle.std.proofs.lemmas.Result.{IfOk-weaker}
 use Rattle.trace_stream.specs.Cases.{with_row}
 use Rattle.trace_stream.specs.Margining.{past_of, IsFollowFault}
-use Rattle.trace_stream.proofs.Margined.{of_first, fault_so, fits_width, fits_time, given_on, row_followed}
+use Rattle.trace_stream.proofs.Margined.{of_first, fault_so, unwritten, fits_width, fits_time, given_on, row_followed}
 use Rattle.trace_stream.proofs.margins.Margins.row.Goals as goal
 
 pub feed-requires-clause-width : goal.feed-requires-clause-width
@@ -29,3 +29,6 @@ returns-in-Ok-clause-followed c = λ case made k t.
     c.take_all.ensures.formula
     (c.in-Ok-2.ensures.taken (given_on c.args.self.now case made k.stands (past_of (with_row c.args.row.now case) false))
     (c.in-Ok.ensures.stands case.formula.nodes case.trace.header (past_of case false) k.stands.given k.stands.stands))
+
+pub returns-in-Err-clause-unwritten : goal.returns-in-Err-clause-unwritten
+returns-in-Err-clause-unwritten c = unwritten c.args.text.now c.first_fault.result
