@@ -20,7 +20,6 @@ use Rattle.online_robust.specs.Turns.{IsStreamedCause}
 use Rattle.online_robust.specs.declared.line.MarginLine.{MarginLine}
 use Rattle.online_robust.specs.declared.net.RobustFault.{RobustFault}
 use Rattle.online_robust.specs.declared.net.RobustFault.TheVariants as R
-use Rattle.online_robust.proofs.Growing.{map-append}
 use Rattle.online_robust.proofs.StreamTexts.{lines_more, stream_text}
 use Rattle.trace_stream.specs.Cases.{IsCase, Takes, with_row}
 use Rattle.trace_stream.specs.Streams.{margins}
@@ -46,6 +45,10 @@ has_last_row width [] are e = are
 has_last_row width (q ∷ rows) are e = cc
 
 -- ---- lines
+
+map-append : {A B : Type 0} (f : A → B) (xs ys : List A) → map f (xs ++ ys) ≡ map f xs ++ map f ys
+map-append f [] ys = refl
+map-append f (x ∷ xs) ys = ap (λ l. f x ∷ l) (map-append f xs ys)
 
 lines_joined : (scale : Scale) (a b : List Part) (x y : List ℕ) → ArePartLines scale a x → ArePartLines scale b y → ArePartLines scale (a ++ b) (x ++ y)
 lines_joined scale [] b x y first second = subst (λ l. ArePartLines scale b (l ++ y)) (sym first) second

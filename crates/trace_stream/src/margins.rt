@@ -1,10 +1,11 @@
 //! The margins of a formula as the rows of a trace come: a network of margins follows them.
-ghost use Rattle.std.specs.Prelude.{◌≡◌, ◌^◌, ℕ, List, [], false, true, IfOk, IfErr, OnOk};
+ghost use Rattle.std.specs.Prelude.{◌≡◌, ◌^◌, ℕ, List, [], false, true, Some, slice_get, IfOk, IfErr, OnOk};
 ghost use Rattle.stl_syntax.specs.Formula.{Formula as Parsed};
 ghost use Rattle.stl_syntax.specs.Trace.{IsTrace};
+ghost use Rattle.stl_syntax.specs.declared.node.Node.{Node as ANode};
 ghost use Rattle.stl_syntax.specs.declared.scale.Scale.{Scale as Ticks};
 ghost use Rattle.online_nodes.specs.MarginEdges.{IsPartLine};
-ghost use Rattle.online_robust.specs.Moving.{AreStreamed};
+ghost use Rattle.online_robust.specs.Standing.{IsStreamed};
 ghost use Rattle.online_robust.specs.Nets.{IsNear};
 ghost use Rattle.online_robust.specs.Pasts.{part_of as as_part};
 ghost use Rattle.report.specs.PartLines.{IsPartLine as IsReported, IsPartWithin};
@@ -86,7 +87,7 @@ impl Margins {
     pub fn begin(alloc: Global, case: Case) -> Result<Margins, Memory>
         requires case { (f : Parsed) × IsCase f case }
         requires none { case.trace.rows ≡ [] }
-        requires streamed { AreStreamed case.formula.nodes }
+        requires streamed { (i : ℕ) (n : ANode) → slice_get case.formula.nodes i ≡ Some n → IsStreamed n }
         ensures { IfOk result (λ m. Follows (IsMargined false m) margins case []) }
     {
         let Case {
