@@ -135,7 +135,7 @@ module _ (m : Margins) (c : Case) (made : List ℕ) (w : IsMargined false m c ma
   may_end t e = has_last_row (length c.trace.header.columns) c.trace.rows t.rows (sym w.stands.keeps.last ∙ e)
 
   -- the rows with a new one, or their end, and what was taken before
-  pub given_on : Past → Given
+  abbrev pub given_on : Past → Given
   given_on past = record { nodes = c.formula.nodes; header = c.trace.header; past = past; lines = w.given }
 
   -- the follower stands for these rows of the case

@@ -17,12 +17,12 @@ returns-in-Err-clause-wide c = λ case made k t.
     (fault_so case true (past_of case false) c.in-Err.fault
     (c.in-Err.ensures.wide case.formula.nodes case.trace.header (past_of case false) k.stands.given k.stands.stands))
 
-pub returns-in-Ok-clause-followed : goal.returns-in-Ok-clause-followed
-returns-in-Ok-clause-followed c = λ case made k t.
+pub returns-in-Ok-take_all-clause-followed : goal.returns-in-Ok-take_all-clause-followed
+returns-in-Ok-take_all-clause-followed c = λ case made k t.
     let (f, is) = k.fits in
     end_followed c.args.self.now case f made k.stands c.take_all.new.self c.args.text.now c.take_all.new.text is t
-    c.take_all.ensures.formula
-    (c.in-Ok-2.ensures.taken (given_on c.args.self.now case made k.stands (past_of case true))
+    c.in-Ok-take_all.ensures.formula
+    (c.in-Ok-take_all.ensures.taken (given_on c.args.self.now case made k.stands (past_of case true))
     (c.in-Ok.ensures.stands case.formula.nodes case.trace.header (past_of case false) k.stands.given k.stands.stands))
 
 pub returns-in-Err-clause-unwritten : goal.returns-in-Err-clause-unwritten

@@ -22,12 +22,12 @@ returns-in-Err-clause-wide c = λ case made k t.
     (fault_so (with_row c.args.row.now case) false (past_of case false) c.in-Err.fault
     (c.in-Err.ensures.wide case.formula.nodes case.trace.header (past_of case false) k.stands.given k.stands.stands))
 
-pub returns-in-Ok-clause-followed : goal.returns-in-Ok-clause-followed
-returns-in-Ok-clause-followed c = λ case made k t.
+pub returns-in-Ok-take_all-clause-followed : goal.returns-in-Ok-take_all-clause-followed
+returns-in-Ok-take_all-clause-followed c = λ case made k t.
     let (f, is) = k.fits in
     row_followed c.args.self.now case f made k.stands c.args.row.now c.take_all.new.self c.args.text.now c.take_all.new.text is
-    c.take_all.ensures.formula
-    (c.in-Ok-2.ensures.taken (given_on c.args.self.now case made k.stands (past_of (with_row c.args.row.now case) false))
+    c.in-Ok-take_all.ensures.formula
+    (c.in-Ok-take_all.ensures.taken (given_on c.args.self.now case made k.stands (past_of (with_row c.args.row.now case) false))
     (c.in-Ok.ensures.stands case.formula.nodes case.trace.header (past_of case false) k.stands.given k.stands.stands))
 
 pub returns-in-Err-clause-unwritten : goal.returns-in-Err-clause-unwritten
