@@ -2,21 +2,28 @@
 //! only grow, of which the verdicts are made: of both, of either, and of windows.
 #![tactic(auto)]
 
+mod atoms;
 mod cut;
+mod early;
+mod event;
 mod grown;
 mod held;
 mod lasting;
+mod net;
 mod pointwise;
 mod reach;
 mod seeing;
+mod sets;
 mod shared;
 mod steps;
 mod stretch;
 mod sure;
+mod tops;
 mod touching;
 mod window;
 
 pub use cut::Cut;
+pub use early::{Decided, Early, EarlyFault};
 pub use grown::Grown;
 pub use stretch::Stretch;
 pub use window::Window;

@@ -100,21 +100,21 @@ impl Grown {
         add_all_held(self, &x.fresh, &x.spans, start, w)
     }
 
-    /// All times within the bounds.
+    /// The times of the set, once it gained what is fresh of it.
     ///
     /// # Errors
     ///
     /// `Memory` where memory is wanting; the set is of no use then.
-    pub fn fill(&mut self) -> Result<(), Memory>
+    pub fn same(&mut self, x: &Grown) -> Result<(), Memory>
         requires { AreTidy self.old.spans.items }
         ensures tidy { OnOk result (AreTidy self.new.spans.items) }
         ensures bounds { self.new.bounds ≡ self.old.bounds }
         ensures gains { OnOk result (Gains self.old.spans.items self.new.spans.items self.new.fresh.items) }
-        ensures tells { OnOk result ((P : Rational → Type 0) → Tells self.old.bounds self.old.spans.items P
-            → Tells self.old.bounds self.new.spans.items (λ t. Unit {0})) }
+        ensures tells { OnOk result ((x' : List Stretch) → Gains x' x.now.spans.items x.now.fresh.items
+            → Tells self.old.bounds self.old.spans.items (IsOn x') → Tells self.old.bounds self.new.spans.items (IsOn x.now.spans.items)) }
     {
         self.fresh.clear();
-        self.add(self.bounds.from, self.bounds.to)
+        add_all(self, &x.fresh)
     }
 
     /// The times from which some sure time of the set lies in the window, or they themselves do, once the set gained what is fresh of it
