@@ -7,3 +7,7 @@ pub mod Steps
 pub mod Sure
 pub mod Lasting
 pub mod Reaching
+pub mod Readings
+pub mod Fitting
+pub mod Happening
+pub mod Looking

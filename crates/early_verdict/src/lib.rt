@@ -3,15 +3,18 @@
 #![tactic(auto)]
 
 mod atoms;
+mod connectives;
 mod cut;
 mod early;
 mod event;
 mod grown;
 mod held;
 mod lasting;
+mod looks;
 mod net;
 mod pointwise;
 mod reach;
+mod runs;
 mod seeing;
 mod sets;
 mod shared;

@@ -3,10 +3,12 @@
 use crate::atoms::step_atom;
 use crate::cut::Cut;
 use crate::event::Event;
-use crate::sets::{
-    Sets, step_always, step_conjunction, step_constant, step_disjunction, step_eventually,
-    step_historically, step_implication, step_negation, step_once, step_since, step_until,
+use crate::connectives::{
+    step_conjunction, step_constant, step_disjunction, step_implication, step_negation,
 };
+use crate::looks::{step_always, step_eventually, step_historically, step_once};
+use crate::runs::{step_since, step_until};
+use crate::sets::Sets;
 use crate::stretch::Stretch;
 use crate::tops::tops_of;
 use crate::window::Window;
