@@ -10,3 +10,12 @@ pub mod RunLemmas
 pub mod SetLaws
 pub mod HoldingLemmas
 pub mod StepLemmas
+pub mod SureLemmas
+pub mod ReachLemmas
+pub mod Gaps
+pub mod Failures
+pub mod Telling
+pub mod UntilSets
+pub mod SinceSets
+pub mod Settling
+pub mod SettledSets

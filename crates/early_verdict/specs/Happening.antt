@@ -1,5 +1,5 @@
 -- What comes to the sets of all nodes: a row, or the end of the input.
-use Rattle.std.specs.Prelude.{◌≡◌, ◌^◌, Bool, true, false, Option, Some, None, MatchOption}
+use Rattle.std.specs.Prelude.{◌≡◌, ◌^◌, true, false, Option, Some, None, MatchOption}
 use Rattle.rational.specs.Rational.{IsWithin}
 use Rattle.rational.specs.Time.{Rational, ◌≤ʳ◌}
 use Rattle.frac128.specs.Value.{value}
@@ -18,10 +18,10 @@ pub record IsEvent (e : Event) : Type 0 where
 
 -- the trace goes on from the one before it, if there is one
 pub record Happens (e : Event) (old : Option Trace) (tr : Trace) : Type 0 where
-  pub start : Same (place e.start) (start_place tr)
-  pub sure : Same (place e.sure) (sure_place tr)
-  pub before : MatchOption old (Same (place e.before) (start_place tr)) (λ o. (start o ≡ start tr) × Same (place e.before) (sure_place o))
-  pub first : MatchOption old ((e.first ≡ true) × (e.ended ≡ false)) (λ o. e.first ≡ false)
+  pub starts : Same (place e.start) (start_place tr)
+  pub sure_to : Same (place e.sure) (sure_place tr)
+  pub sure_before : MatchOption old (Same (place e.before) (start_place tr)) (λ o. (start o ≡ start tr) × Same (place e.before) (sure_place o))
+  pub is_first : MatchOption old ((e.first ≡ true) × (e.ended ≡ false)) (λ o. e.first ≡ false)
 
 -- the sets fitted the trace before; before any row they were empty
 abbrev pub Was : Option Trace → (Trace → Sets → Type 0) → Sets → Type 0
@@ -29,8 +29,8 @@ Was None F s = AreEmpty s
 Was (Some o) F s = F o s
 
 -- these are the lists of the sets before what is fresh in them; before any row there was nothing; and none lies before the start
-pub record Had (old : Option Trace) (tr : Trace) (lists : Lists) (s : Sets) : Type 0 where
-  pub lists : HadLists lists s
-  pub first : MatchOption old (lists ≡ nothing) (λ o. Unit {0})
+pub record Had (old : Option Trace) (tr : Trace) (l : Lists) (s : Sets) : Type 0 where
+  pub lists : HadLists l s
+  pub first : MatchOption old (l ≡ nothing) (λ o. Unit {0})
   pub yes_after : (u : Rational) → IsOn s.yes.spans.items u → start tr ≤ʳ u
   pub no_after : (u : Rational) → IsOn s.no.spans.items u → start tr ≤ʳ u

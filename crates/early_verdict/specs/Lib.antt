@@ -11,3 +11,4 @@ pub mod Readings
 pub mod Fitting
 pub mod Happening
 pub mod Looking
+pub mod Standing

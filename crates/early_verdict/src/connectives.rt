@@ -44,7 +44,8 @@ pub(crate) fn step_negation(own: &mut Sets, p: &Sets) -> Result<(), Memory>
         → Was old (λ o. NegationFits p') own.old → NegationFits (lists_of p.now) own.new) }
 {
     own.yes.same(&p.no)?;
-    own.no.same(&p.yes)
+    own.no.same(&p.yes)?;
+    Ok(())
 }
 
 /// Both.
@@ -57,7 +58,8 @@ pub(crate) fn step_conjunction(own: &mut Sets, p: &Sets, q: &Sets) -> Result<(),
         → Was old (λ o. ConjunctionFits p' q') own.old → ConjunctionFits (lists_of p.now) (lists_of q.now) own.new) }
 {
     own.yes.both(&p.yes, &q.yes)?;
-    own.no.either(&p.no, &q.no)
+    own.no.either(&p.no, &q.no)?;
+    Ok(())
 }
 
 /// One of the two.
@@ -70,7 +72,8 @@ pub(crate) fn step_disjunction(own: &mut Sets, p: &Sets, q: &Sets) -> Result<(),
         → Was old (λ o. DisjunctionFits p' q') own.old → DisjunctionFits (lists_of p.now) (lists_of q.now) own.new) }
 {
     own.yes.either(&p.yes, &q.yes)?;
-    own.no.both(&p.no, &q.no)
+    own.no.both(&p.no, &q.no)?;
+    Ok(())
 }
 
 /// The second where the first is.
@@ -83,5 +86,6 @@ pub(crate) fn step_implication(own: &mut Sets, p: &Sets, q: &Sets) -> Result<(),
         → Was old (λ o. ImplicationFits p' q') own.old → ImplicationFits (lists_of p.now) (lists_of q.now) own.new) }
 {
     own.yes.either(&p.no, &q.yes)?;
-    own.no.both(&p.yes, &q.no)
+    own.no.both(&p.yes, &q.no)?;
+    Ok(())
 }

@@ -13,6 +13,7 @@ mod lasting;
 mod looks;
 mod net;
 mod pointwise;
+pub mod probe;
 mod reach;
 mod runs;
 mod seeing;

@@ -51,7 +51,8 @@ pub(crate) fn each_ahead(own: &mut Grown, x: &Grown, event: &Event, w: &Window) 
     if event.ended {
         return own.each_last(x, &event.start, &event.sure, w);
     }
-    each_open(own, x, event, w)
+    each_open(own, x, event, w)?;
+    Ok(())
 }
 
 /// Some time of a window ahead.
@@ -65,7 +66,8 @@ pub(crate) fn step_eventually(own: &mut Sets, p: &Sets, w: &Window, event: &Even
         → Happens event.now old tr → Had old tr p' p.now → Was old (λ o. EventuallyFits false o a b a_in b_in p') own.old → EventuallyFits event.now.ended tr a b a_in b_in (lists_of p.now) own.new) }
 {
     own.yes.some_sure(&p.yes, &event.before, &event.sure, w)?;
-    each_ahead(&mut own.no, &p.no, event, w)
+    each_ahead(&mut own.no, &p.no, event, w)?;
+    Ok(())
 }
 
 /// Each time of a window ahead.
@@ -79,7 +81,8 @@ pub(crate) fn step_always(own: &mut Sets, p: &Sets, w: &Window, event: &Event) -
         → Happens event.now old tr → Had old tr p' p.now → Was old (λ o. AlwaysFits false o a b a_in b_in p') own.old → AlwaysFits event.now.ended tr a b a_in b_in (lists_of p.now) own.new) }
 {
     own.no.some_sure(&p.no, &event.before, &event.sure, w)?;
-    each_ahead(&mut own.yes, &p.yes, event, w)
+    each_ahead(&mut own.yes, &p.yes, event, w)?;
+    Ok(())
 }
 
 /// Some time of a window behind.
@@ -93,7 +96,8 @@ pub(crate) fn step_once(own: &mut Sets, p: &Sets, w: &Window, event: &Event) -> 
         → Happens event.now old tr → Had old tr p' p.now → Was old (λ o. OnceFits o a b a_in b_in p') own.old → OnceFits tr a b a_in b_in (lists_of p.now) own.new) }
 {
     own.yes.some(&p.yes, w)?;
-    each_open(&mut own.no, &p.no, event, w)
+    each_open(&mut own.no, &p.no, event, w)?;
+    Ok(())
 }
 
 /// Each time of a window behind.
@@ -107,5 +111,6 @@ pub(crate) fn step_historically(own: &mut Sets, p: &Sets, w: &Window, event: &Ev
         → Happens event.now old tr → Had old tr p' p.now → Was old (λ o. HistoricallyFits o a b a_in b_in p') own.old → HistoricallyFits tr a b a_in b_in (lists_of p.now) own.new) }
 {
     own.no.some(&p.no, w)?;
-    each_open(&mut own.yes, &p.yes, event, w)
+    each_open(&mut own.yes, &p.yes, event, w)?;
+    Ok(())
 }

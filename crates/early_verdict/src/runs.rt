@@ -36,7 +36,8 @@ fn until_holds(
     own.both.both(&p.yes, &q.yes)?;
     own.run.reach_sure(&p.yes, &own.both, &event.before, &event.sure)?;
     own.some.some_sure(&q.yes, &event.before, &event.sure, w)?;
-    each_open(&mut own.each, &own.run, event, up_to)
+    each_open(&mut own.each, &own.run, event, up_to)?;
+    Ok(())
 }
 
 /// Where it is certainly false: the right operand is all over the window, or from some time up to the window on one of the two is, up to
@@ -65,7 +66,8 @@ fn until_fails(
     own.fail.either(&p.no, &q.no)?;
     own.stop.reach(&own.fail, &p.no)?;
     each_ahead(&mut own.never, &q.no, event, w)?;
-    own.broken.some(&own.stop, up_to)
+    own.broken.some(&own.stop, up_to)?;
+    Ok(())
 }
 
 /// Where since is certainly true: some time of the window has the right operand, and back from each time after it the left one goes on
@@ -93,7 +95,8 @@ fn since_holds(
     own.both.both(&p.yes, &q.yes)?;
     own.run.reach_back(&p.yes, &own.both)?;
     own.some.some(&q.yes, w)?;
-    each_open(&mut own.each, &own.run, event, down_to)
+    each_open(&mut own.each, &own.run, event, down_to)?;
+    Ok(())
 }
 
 /// Where it is certainly false: the right operand is all over the window, or back from some time after it one of the two is, down to a
@@ -122,7 +125,8 @@ fn since_fails(
     own.fail.either(&p.no, &q.no)?;
     own.stop.reach_back(&own.fail, &p.no)?;
     each_open(&mut own.never, &q.no, event, w)?;
-    own.broken.some(&own.stop, down_to)
+    own.broken.some(&own.stop, down_to)?;
+    Ok(())
 }
 
 /// Until: its sets between, and then its own.
@@ -152,7 +156,8 @@ pub(crate) fn step_until(
     until_holds(&mut parts.holding, p, q, w, up_to, event)?;
     until_fails(&mut parts.failing, p, q, w, up_to, event)?;
     own.yes.both(&parts.holding.some, &parts.holding.each)?;
-    own.no.either(&parts.failing.never, &parts.failing.broken)
+    own.no.either(&parts.failing.never, &parts.failing.broken)?;
+    Ok(())
 }
 
 /// Since: its sets between, and then its own.
@@ -182,5 +187,6 @@ pub(crate) fn step_since(
     since_holds(&mut parts.holding, p, q, w, down_to, event)?;
     since_fails(&mut parts.failing, p, q, w, down_to, event)?;
     own.yes.both(&parts.holding.some, &parts.holding.each)?;
-    own.no.either(&parts.failing.never, &parts.failing.broken)
+    own.no.either(&parts.failing.never, &parts.failing.broken)?;
+    Ok(())
 }
