@@ -19,3 +19,6 @@ pub mod UntilSets
 pub mod SinceSets
 pub mod Settling
 pub mod SettledSets
+pub mod EndedSets
+pub mod AllSets
+pub mod AtomSets

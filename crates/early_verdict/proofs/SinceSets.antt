@@ -41,7 +41,7 @@ from_end t u a h = record { le = omega (arith, h.le) }
 earlier : (t u v : Rational) (a : ℕ) → later u a ≤ʳ t → t ≤ʳ later v a → u ≤ʳ v
 earlier t u v a h k = let c = le_trans h k in record { le = omega (arith, c.le) }
 
-none_later : (u t : Rational) (a : ℕ) → later u a ≤ʳ t → u ≤ʳ t
+pub none_later : (u t : Rational) (a : ℕ) → later u a ≤ʳ t → u ≤ʳ t
 none_later u t a h = record { le = omega (arith, h.le) }
 
 later_none : (u t : Rational) → u ≤ʳ t → later u 0 ≤ʳ t

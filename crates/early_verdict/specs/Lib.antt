@@ -12,3 +12,5 @@ pub mod Fitting
 pub mod Happening
 pub mod Looking
 pub mod Standing
+pub mod Tops
+pub mod Adding

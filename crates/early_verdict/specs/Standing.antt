@@ -1,12 +1,16 @@
 -- What the sets of all nodes keep from event to event.
-use Rattle.std.specs.Prelude.{◌≡◌, ◌↔◌, ◌⊎◌, ℕ, ◌+◌, ◌≤◌, Bool, Option, Some, None, List, length, MatchOption, slice_get, slice_index_or}
+use Rattle.std.specs.Prelude.{◌≡◌, ◌↔◌, ◌⊎◌, ℕ, ◌+◌, ◌≤◌, ◌<◌, ◌≢◌, Bool, Option, Some, None, List, length, MatchOption, MatchBool, IsSome, slice_get, slice_index_or}
 use Rattle.rational.specs.Time.{Rational, later, ◌≤ʳ◌}
-use Rattle.stl_syntax.specs.Trace.{Trace, start}
+use Rattle.stl_syntax.specs.Trace.{Row, Trace, start}
 use Rattle.stl_syntax.specs.declared.node.Node.{Node}
 use Rattle.stl_syntax.specs.declared.node.Node.TheVariants.{Const, Atom as Leaf, Not, And, Or, Implies, Until, Eventually, Always, Since, Once, Historically}
 use Rattle.early_verdict.specs.Spans.{Lies}
 use Rattle.early_verdict.specs.Fitting.{Fits, AreSetsTidy, AreEmpty, HasStepped, HadLists, HasFailBounds, Lists, lists_at, lists_of}
-use Rattle.early_verdict.specs.Happening.{Was}
+use Rattle.atom_lines.specs.Binding.{Binding, IsFor, IsAtomNode}
+use Rattle.early_verdict.specs.Adding.{IsNextRow}
+use Rattle.early_verdict.specs.Happening.{Was, Had}
+use Rattle.early_verdict.specs.declared.event.Event.{Event}
+use Rattle.stl_syntax.specs.declared.atom.Atom.{Atom}
 use Rattle.early_verdict.specs.declared.stretch.Stretch.{Stretch}
 use Rattle.early_verdict.specs.declared.sets.Sets.{Sets}
 use Rattle.early_verdict.specs.declared.sets.Parts.{Parts}
@@ -68,7 +72,6 @@ left_of n = None
 pub record HasSets (from : Rational) (tops : List ℕ) (sets : List Sets) (i : ℕ) (n : Node) (s : Sets) : Type 0 where
   pub wide : ℕ
   pub asked : AreAsked from (top_at tops i) wide s
-  pub tidy : AreSetsTidy s
   pub left : MatchOption (left_of n) (s.parts ≡ None) (λ p. (top_at tops p ≡ wide) × ((l : Sets) → slice_get sets p ≡ Some l → HasFailBounds s l) × (s.parts ≡ None → ⊥))
 
 -- each node has sets, and asks its children
@@ -81,6 +84,63 @@ pub record HaveSets (nodes : List Node) (from : Rational) (tops : List ℕ) (set
 abbrev pub AllFit : List Node → Bool → Trace → List Sets → Type 0
 AllFit nodes ended tr sets = (i : ℕ) (n : Node) (s : Sets) → slice_get nodes i ≡ Some n → slice_get sets i ≡ Some s → Fits n ended tr (lists_at sets) s
 
+-- the lists of all sets rise
+abbrev pub AllTidy : List Sets → Type 0
+AllTidy sets = (i : ℕ) (s : Sets) → slice_get sets i ≡ Some s → AreSetsTidy s
+
+-- the lists that all sets had before what is fresh in them
+abbrev pub HadAll : Option Trace → Trace → (ℕ → Lists) → List Sets → Type 0
+HadAll old tr was sets = (p : ℕ) (s : Sets) → slice_get sets p ≡ Some s → Had old tr (was p) s
+
+-- until and since have sets between
+abbrev pub HasParts : Node → Sets → List Sets → Type 0
+HasParts n s below = MatchOption (left_of n) (Unit {0}) (λ p. IsSome s.parts × ((l : Sets) → slice_get below p ≡ Some l → HasFailBounds s l))
+
+-- an atom's sets go on with the row, and stay at the end of the input
+abbrev pub GoesOnWith : Event → Option Trace → Trace → Option Row → Row → Atom → Type 0
+GoesOnWith e old tr before r a = MatchBool e.ended (old ≡ Some tr) (IsNextRow a old tr before r)
+
+-- so does an atom among the nodes
+abbrev pub LeafGoes : Binding → ℕ → Event → Option Trace → Trace → Option Row → Row → Sets → Node → Type 0
+LeafGoes b i e old tr before r s (Leaf a) =
+    IsFor b i a tr × GoesOnWith e old tr before r a × ((t : Rational) → Lies s.yes.bounds t ⊎ Lies s.no.bounds t → start tr ≤ʳ t)
+LeafGoes b i e old tr before r s n = Unit {0}
+
+-- the columns of an atom are bound
+abbrev pub LeafIsBound : Binding → ℕ → Node → Type 0
+LeafIsBound b i (Leaf a) = IsAtomNode b i
+LeafIsBound b i n = Unit {0}
+
+-- an operator's sets go on by those of its children
+abbrev pub IsOperator : Node → Type 0
+IsOperator (Leaf a) = ⊥
+IsOperator n = Unit {0}
+
+-- the sets at one place stepped, and those at the others are as they were
+pub record StepsAt (i : ℕ) (old new : List Sets) : Type 0 where
+  pub was : Sets
+  pub is : Sets
+  pub at_old : slice_get old i ≡ Some was
+  pub at_new : slice_get new i ≡ Some is
+  pub others : (j : ℕ) → j ≢ i → slice_get new j ≡ slice_get old j
+  pub count : length new ≡ length old
+  pub stepped : HasStepped was is
+
+-- those before a place stepped, and those from it on are as they were
+pub record SteppedTo (n : ℕ) (old new : List Sets) : Type 0 where
+  pub count : length new ≡ length old
+  pub stepped : (j : ℕ) (s s' : Sets) → j < n → slice_get old j ≡ Some s → slice_get new j ≡ Some s' → HasStepped s s'
+  pub others : (j : ℕ) → n ≤ j → slice_get new j ≡ slice_get old j
+
 -- no set has a time
 abbrev pub AllEmpty : List Sets → Type 0
 AllEmpty sets = (i : ℕ) (s : Sets) → slice_get sets i ≡ Some s → AreEmpty s
+
+-- each atom goes on with the row, or stays at the end of the input
+abbrev pub AllGo : List Node → Binding → Event → Option Trace → Trace → Option Row → Row → Type 0
+AllGo nodes b e old tr before r =
+    (i : ℕ) (a : Atom) → slice_get nodes i ≡ Some (Leaf a) → IsFor b i a tr × GoesOnWith e old tr before r a
+
+-- the sets fitted the trace before, or were empty; and their lists lie after the start
+abbrev pub AllWere : Option Trace → List Node → List Sets → Type 0
+AllWere old nodes sets = MatchOption old (AllEmpty sets) (λ o. AllFit nodes false o sets)

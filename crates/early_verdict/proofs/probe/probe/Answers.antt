@@ -1,7 +1,7 @@
 use Rattle.std.proofs.Common.{refl}
 use Rattle.early_verdict.proofs.UntilSets.{until_is_true}
-use Rattle.early_verdict.proofs.SinceSets.{since_is_true}
-use Rattle.early_verdict.proofs.SettledSets.{node_told}
+use Rattle.early_verdict.proofs.AllSets.{all_known, all_final}
+use Rattle.early_verdict.proofs.AtomSets.{atom_fits}
 use Rattle.early_verdict.proofs.probe.probe.Goals as goal
 
 pub returns : goal.returns
