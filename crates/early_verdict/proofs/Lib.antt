@@ -22,3 +22,7 @@ pub mod SettledSets
 pub mod EndedSets
 pub mod AllSets
 pub mod AtomSets
+pub mod TickLemmas
+pub mod SharedLemmas
+pub mod BetweenLemmas
+pub mod LastingLemmas

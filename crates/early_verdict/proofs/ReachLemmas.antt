@@ -1,39 +1,33 @@
 -- Sets of times from which a run reaches another set go on to tell so.
-use Rattle.std.proofs.Common.{◌≡◌, ◌⊎◌, inl, inr, true, false, Bool, refl, List}
-use Rattle.std.specs.Prelude.{MatchBool}
-use Rattle.rational.specs.Rational.{Rational, ◌≤ʳ◌, ◌<ʳ◌, ◌≈◌}
+use Rattle.std.proofs.Common.{◌≡◌, ◌⊎◌, inl, inr, true, false, List}
+use Rattle.std.specs.Prelude.{◌↔◌}
+use Rattle.rational.specs.Rational.{Rational, ◌≤ʳ◌}
 use Rattle.rational.specs.Time.{Within}
-use Rattle.rational.proofs.Order.{lt_or_same_or_gt, le_refl, not_lt_of_le}
 use Rattle.early_verdict.specs.Cuts.{Place, place, After, Upto, Before, AtMost}
 use Rattle.early_verdict.specs.Spans.{Lies, IsOn, IsAmong, AreTidy, Grows}
 use Rattle.early_verdict.specs.Steps.{BySome, HoldsFrom, Tells, Gains}
-use Rattle.early_verdict.specs.Reaching.{ReachesIn, ReachesAt, ReachedIn, ReachedAt, GoesOn, GoesBack}
+use Rattle.early_verdict.specs.Reaching.{IsNew, ReachesIn, ReachesAt, ReachesBy, ReachedIn, ReachedAt, GoesOn, GoesTo, GoesBack}
 use Rattle.early_verdict.specs.declared.stretch.Stretch.{Stretch}
-use Rattle.early_verdict.proofs.PlaceLemmas.{sides, not_both, before_through}
-use Rattle.early_verdict.proofs.RunLemmas.{le_through, upto_le, after_le, gap_before, gap_after, one_of, on_one, holds_all, decided, decided_both, decided_not, decided_among}
-use Rattle.early_verdict.proofs.SetLaws.{some_by, by_some}
-
--- the place just before a time comes before each place that the time does not lie after
-before_time : (c : Place) (t : Rational) → Upto c t → Before (record { at = t; after = false }) c
-before_time c t = by_side c.after refl
-  where
-    by_side : (b : Bool) → c.after ≡ b → MatchBool b (t ≤ʳ c.at) (t <ʳ c.at) → (t <ʳ c.at) ⊎ ((t ≈ c.at) × (false ≡ false) × (c.after ≡ true))
-    by_side true e h = elim (lt_or_same_or_gt t c.at) [
-      | inl l ↦ inl l
-      | inr o ↦ elim o [ inl s ↦ inr (s, refl, e) | inr l ↦ absurd (not_lt_of_le h l) ]
-    ]
-    by_side false e h = inl h
-
--- and the place just after it after each that it lies after
-after_time : (c : Place) (t : Rational) → After c t → Before c (record { at = t; after = true })
-after_time c t = by_side c.after refl
-  where
-    by_side : (b : Bool) → c.after ≡ b → MatchBool b (c.at <ʳ t) (c.at ≤ʳ t) → (c.at <ʳ t) ⊎ ((c.at ≈ t) × (c.after ≡ false) × (true ≡ true))
-    by_side true e h = inl h
-    by_side false e h = elim (lt_or_same_or_gt c.at t) [
-      | inl l ↦ inl l
-      | inr o ↦ elim o [ inl s ↦ inr (s, e, refl) | inr l ↦ absurd (not_lt_of_le h l) ]
-    ]
+use Rattle.early_verdict.proofs.PlaceLemmas.{sides, not_both, between, before_through, at_most_of_not_before}
+use Rattle.early_verdict.proofs.StretchLemmas.{rises}
+use Rattle.early_verdict.proofs.MakingLemmas.{after_from}
+use Rattle.early_verdict.proofs.RunLemmas.{
+  le_through,
+  upto_le,
+  after_le,
+  gap_before,
+  gap_after,
+  earlier_after,
+  one_of,
+  on_one,
+  holds_all,
+  decided,
+  decided_both,
+  decided_not,
+  decided_among,
+}
+use Rattle.early_verdict.proofs.TickLemmas.{before_time, after_time}
+use Rattle.early_verdict.proofs.SetLaws.{some_by, by_some, decided_from}
 
 -- a run that ends in a stretch of the list lies in it
 pub run_into : (xs : List Stretch) (p : Stretch) (t u : Rational) → AreTidy xs → IsAmong p xs → Lies p u → t ≤ʳ u
@@ -59,49 +53,97 @@ run_from xs p u t tidy m l le run = (after_le (place p.from) u t le l.0, elim (s
 pub no_break : (xs : List Stretch) (p : Stretch) (t u v : Rational) → IsAmong p xs → Lies p t → Lies p u → Within t u v → IsOn xs v
 no_break xs p t u v m l k w = on_one xs p v m (after_le (place p.from) t v w.above l.0, upto_le (place p.to) v u w.below k.1)
 
-decided_from : (p : Stretch) (c : Place) → HoldsFrom p c ⊎ ¬ (HoldsFrom p c)
-decided_from p c = decided_both (¬ (Before c (place p.from))) (Before c (place p.to)) (decided_not (Before c (place p.from)) (decided c (place p.from)))
-    (decided c (place p.to))
+-- the stretch of a list that holds a time of a part, which lies in the list, holds the part's first times
+pub holds_part : (xs : List Stretch) (p f : Stretch) (u : Rational) → AreTidy xs → ((t : Rational) → Lies f t → IsOn xs t) → IsAmong p xs → Lies p u → Lies f u
+    → HoldsFrom p (place f.from)
+holds_part xs p f u tidy all m l k = (holds_all xs f p u tidy all m l k, before_through (place f.from) (place p.to) u k.0 l.1)
 
-module _ (bounds : Stretch) (z z' fz y y' fy : List Stretch) (gz : Gains z z' fz) (gy : Gains y y' fy) (tidy : AreTidy z')
-    (inside : (t : Rational) → IsOn y' t → IsOn z' t) where
-  -- the stretch that holds a time of a fresh part holds the part's beginning
-  holds_part : (p f : Stretch) (u : Rational) → ((t : Rational) → Lies f t → IsOn z' t) → IsAmong p z' → Lies p u → Lies f u → HoldsFrom p (place f.from)
-  holds_part p f u all m l k = (holds_all z' f p u tidy all m l k, before_through (place f.from) (place p.to) u k.0 l.1)
+-- a stretch holds the first times of what lies in another one between two places exactly where it holds the times from one on down
+module _ (before sure : Place) (s part p : Stretch) (is : (t : Rational) → Lies part t ↔ IsNew before sure s t) where
+  pub newly : HoldsFrom p (place part.from)
+      → (w : Rational) × IsNew before sure s w × Lies p w × ((v : Rational) → IsNew before sure s v → v ≤ʳ w → Lies p v)
+  newly h =
+      let q = earlier_after (place part.to) (place p.to) (place part.from) (rises part) h.1 in
+      let w = between (place part.from) q.0 q.1 in
+      let k = q.2 w.0 w.2 in (
+        w.0,
+        (is w.0).0 (w.1, k.0),
+        (begun w.0 w.1, k.1),
+        λ v n le. (begun v ((is v).1 n).0, upto_le (place p.to) v w.0 le k.1),
+      )
+    where
+      begun : (v : Rational) → After (place part.from) v → After (place p.from) v
+      begun v a = after_from (place p.from) (place part.from) v (at_most_of_not_before (place p.from) (place part.from) h.0) a
 
-  -- a run in a stretch that holds the beginning of no fresh part was there before
+  pub from_newly : (w : Rational) → IsNew before sure s w → Lies p w → ((v : Rational) → IsNew before sure s v → v ≤ʳ w → Lies p v)
+      → HoldsFrom p (place part.from)
+  from_newly w n l all = (
+    λ b.
+        let v = between (place part.from) (place p.from) b in
+        let le = le_through (place p.from) v.0 w v.2 l.0 in
+        not_both (place p.from) v.0 v.2 (all v.0 ((is v.0).0 (v.1, upto_le (place part.to) v.0 w le ((is w).1 n).1)) le).0,
+    before_through (place part.from) (place p.to) w ((is w).1 n).0 l.1,
+  )
+
+-- what an event adds: for what the set and the runs gained, for what became sure, and what the set gained itself
+abbrev pub ReachesAnew : List Stretch → List Stretch → List Stretch → List Stretch → Place → Place → Rational → Type 0
+ReachesAnew runs more spans fresh before sure t =
+    ((BySome (ReachesAt runs spans sure) fresh t ⊎ BySome (ReachesAt runs spans sure) more t) ⊎ BySome (ReachesBy runs spans before sure) spans t)
+    ⊎ BySome Lies fresh t
+
+-- the same where each time is sure, and backwards
+abbrev pub ReachesNew : List Stretch → List Stretch → List Stretch → List Stretch → Place → Rational → Type 0
+ReachesNew runs more spans fresh end t = BySome (ReachesAt runs spans end) fresh t ⊎ BySome (ReachesAt runs spans end) more t
+
+abbrev pub ReachedNew : List Stretch → List Stretch → List Stretch → List Stretch → Rational → Type 0
+ReachedNew runs more spans fresh t = BySome (ReachedAt runs spans) fresh t ⊎ BySome (ReachedAt runs spans) more t
+
+-- runs z that became z', and a set y that became y', which lies in them
+module _ (z z' fz y y' fy : List Stretch) (gz : Gains z z' fz) (gy : Gains y y' fy) (tidy : AreTidy z') (inside : (t : Rational) → IsOn y' t → IsOn z' t) where
+  -- a run in a stretch that holds the first times of no part that was gained was there before
   old_run : (p : Stretch) → IsAmong p z' → ¬ ((f : Stretch) × IsAmong f fz × HoldsFrom p (place f.from)) → (v : Rational) → Lies p v → IsOn z v
   old_run p m n v l = elim (gz.gained v (on_one z' p v m l)) [
     | inl k ↦ k
     | inr k ↦
         let f = one_of fz v k in
-        absurd (n (f.0, f.1, holds_part p f.0 v (λ t h. gz.own t (on_one fz f.0 t f.1 h)) m l f.2))
+        absurd (n (f.0, f.1, holds_part z' p f.0 v tidy (λ t h. gz.own t (on_one fz f.0 t f.1 h)) m l f.2))
   ]
 
-  module _ (before sure : Place) (order : AtMost before sure) (old first second third new told some more most fresh : List Stretch)
-      (between : Rational → Type 0)
-      (between_has : (p : Stretch) (t u : Rational) → IsAmong p z' → Lies p u → IsOn y' u → After before u → Upto sure u → ReachesIn y' sure p t → between t)
-      (between_only : (t : Rational) → between t → (p : Stretch) × IsAmong p z' × ReachesIn y' sure p t) where
-    -- times from which the runs go on to a sure time
-    pub reach_tells : Tells bounds old (GoesOn z y before) → Grows bounds old first told some (BySome (ReachesAt z' y' sure) fy)
-        → Grows bounds first second some more (BySome (ReachesAt z' y' sure) fz) → Grows bounds second third more most between
-        → Grows bounds third new most fresh (BySome Lies fy) → Tells bounds new (GoesOn z' y' sure)
-    reach_tells h f g k e = record { has = has_it; only = only_it }
-      where
-        from_old : (t : Rational) → IsOn old t → IsOn new t
-        from_old t o = e.keeps t (k.keeps t (g.keeps t (f.keeps t o)))
+  holds_gained : (p f : Stretch) (u : Rational) → IsAmong p z' → IsAmong f fy → Lies p u → Lies f u → HoldsFrom p (place f.from)
+  holds_gained p f u m n l k = holds_part z' p f u tidy (λ v j. inside v (gy.own v (on_one fy f v n j))) m l k
 
+  gained_run : (p : Stretch) → ((x : Stretch) × IsAmong x fz × HoldsFrom p (place x.from)) ⊎ ¬ ((x : Stretch) × IsAmong x fz × HoldsFrom p (place x.from))
+  gained_run p = decided_among (λ x. HoldsFrom p (place x.from)) (λ x. decided_from p (place x.from)) fz
+
+  module _ (bounds : Stretch) (old new told fresh : List Stretch) where
+    -- times from which the runs go on to a sure time
+    pub reach_tells : (before sure : Place) → AtMost before sure → Tells bounds old (GoesOn z y before)
+        → Grows bounds old new told fresh (ReachesAnew z' fz y' fy before sure) → Tells bounds new (GoesOn z' y' sure)
+    reach_tells before sure order h g = record { has = has_it; only = only_it }
+      where
         by_run : (t u : Rational) (p : Stretch) → Lies bounds t → (t ≤ʳ u) → IsAmong p z' → Lies p u → Lies p t → IsOn y' u → Upto sure u
             → Upto before u ⊎ After before u → IsOn new t
-        by_run t u p b le m l i o s (inr a) = e.keeps t (k.adds t b (between_has p t u m l o a s (i, (u, le, (l, o, s)))))
+        by_run t u p b le m l i o s (inr a) =
+            let x = one_of y' u o in
+            g.adds t b (inl (inr (by_some (ReachesBy z' y' before sure) y' x.0 t x.1 (
+              p,
+              m,
+              (i, (u, le, (l, o, s))),
+              (
+                u,
+                (x.2, a, s),
+                l,
+                λ v k q. run_into z' p v u tidy m l q
+                    (λ r w. inside r (no_break y' x.0 v u r x.1 k.0 x.2 w)),
+              ),
+            ))))
         by_run t u p b le m l i o s (inl q) = elim (gy.gained u o) [
           | inr n ↦
               let x = one_of fy u n in
-              e.keeps t (k.keeps t (g.keeps t (f.adds t b (by_some (ReachesAt z' y' sure) fy x.0 t x.1
-              (p, m, holds_part p x.0 u (λ v j. inside v (gy.own v (on_one fy x.0 v x.1 j))) m l x.2, (i, (u, le, (l, o, s))))))))
-          | inl n ↦ elim (decided_among (λ x. HoldsFrom p (place x.from)) (λ x. decided_from p (place x.from)) fz) [
-            | inl x ↦ e.keeps t (k.keeps t (g.adds t b (by_some (ReachesAt z' y' sure) fz x.0 t x.1 (p, m, x.2, (i, (u, le, (l, o, s)))))))
-            | inr x ↦ from_old t (h.has t b (inl (
+              g.adds t b (inl (inl (inl (by_some (ReachesAt z' y' sure) fy x.0 t x.1 (p, m, holds_gained p x.0 u m x.1 l x.2, (i, (u, le, (l, o, s))))))))
+          | inl n ↦ elim (gained_run p) [
+            | inl x ↦ g.adds t b (inl (inl (inr (by_some (ReachesAt z' y' sure) fz x.0 t x.1 (p, m, x.2, (i, (u, le, (l, o, s))))))))
+            | inr x ↦ g.keeps t (h.has t b (inl (
               u,
               le,
               (n, q),
@@ -113,8 +155,8 @@ module _ (bounds : Stretch) (z z' fz y y' fy : List Stretch) (gz : Gains z z' fz
 
         has_it : (t : Rational) → Lies bounds t → GoesOn z' y' sure t → IsOn new t
         has_it t b (inr o) = elim (gy.gained t o) [
-          | inl n ↦ from_old t (h.has t b (inr n))
-          | inr n ↦ let x = one_of fy t n in e.adds t b (by_some Lies fy x.0 t x.1 x.2)
+          | inl n ↦ g.keeps t (h.has t b (inr n))
+          | inr n ↦ let x = one_of fy t n in g.adds t b (inr (by_some Lies fy x.0 t x.1 x.2))
         ]
         has_it t b (inl (u, le, o, run)) =
             let p = one_of z' u (inside u o.0) in
@@ -127,42 +169,77 @@ module _ (bounds : Stretch) (z z' fz y y' fy : List Stretch) (gz : Gains z z' fz
         wider t (inl (u, le, o, run)) = inl (u, le, (gy.kept u o.0, order u o.1), λ v w. gz.kept v (run v w))
         wider t (inr o) = inr (gy.kept t o)
 
+        added : (t : Rational) → ReachesAnew z' fz y' fy before sure t → GoesOn z' y' sure t
+        added t (inl (inl (inl q))) = let x = some_by (ReachesAt z' y' sure) fy t q in goes t x.2.0 x.2.1 x.2.3
+        added t (inl (inl (inr q))) = let x = some_by (ReachesAt z' y' sure) fz t q in goes t x.2.0 x.2.1 x.2.3
+        added t (inl (inr q)) = let x = some_by (ReachesBy z' y' before sure) y' t q in goes t x.2.0 x.2.1 x.2.2
+        added t (inr q) = let x = some_by Lies fy t q in inr (gy.own t (on_one fy x.0 t x.1 x.2))
+
         only_it : (t : Rational) → IsOn new t → Lies bounds t × GoesOn z' y' sure t
-        only_it t n = elim (e.only t n) [
-          | inr q ↦ let x = some_by Lies fy t q.1 in (q.0, inr (gy.own t (on_one fy x.0 t x.1 x.2)))
-          | inl m ↦ elim (k.only t m) [
-            | inr q ↦ let x = between_only t q.1 in (q.0, goes t x.0 x.1 x.2)
-            | inl r ↦ elim (g.only t r) [
-              | inr q ↦ let x = some_by (ReachesAt z' y' sure) fz t q.1 in (q.0, goes t x.2.0 x.2.1 x.2.3)
-              | inl s ↦ elim (f.only t s) [
-                | inr q ↦ let x = some_by (ReachesAt z' y' sure) fy t q.1 in (q.0, goes t x.2.0 x.2.1 x.2.3)
-                | inl o ↦ let q = h.only t o in (q.0, wider t q.1)
-              ]
-            ]
+        only_it t n = elim (g.only t n) [
+          | inr q ↦ (q.0, added t q.1)
+          | inl o ↦ let q = h.only t o in (q.0, wider t q.1)
+        ]
+
+    -- times from which the runs go on to a time
+    pub to_tells : (end : Place) → ((t : Rational) → IsOn y' t → Upto end t) → Tells bounds old (GoesTo z y)
+        → Grows bounds old new told fresh (ReachesNew z' fz y' fy end) → Tells bounds new (GoesTo z' y')
+    to_tells end within h g = record { has = has_it; only = only_it }
+      where
+        by_run : (t u : Rational) (p : Stretch) → Lies bounds t → (t ≤ʳ u) → IsAmong p z' → Lies p u → Lies p t → IsOn y' u → IsOn new t
+        by_run t u p b le m l i o = elim (gy.gained u o) [
+          | inr n ↦
+              let x = one_of fy u n in
+              g.adds t b (inl (by_some (ReachesAt z' y' end) fy x.0 t x.1 (p, m, holds_gained p x.0 u m x.1 l x.2, (i, (u, le, (l, o, within u o))))))
+          | inl n ↦ elim (gained_run p) [
+            | inl x ↦ g.adds t b (inr (by_some (ReachesAt z' y' end) fz x.0 t x.1 (p, m, x.2, (i, (u, le, (l, o, within u o))))))
+            | inr x ↦ g.keeps t (h.has t b (
+              u,
+              le,
+              n,
+              λ v w. old_run p m x v
+                  (after_le (place p.from) t v w.above i.0, upto_le (place p.to) v u w.below l.1),
+            ))
           ]
         ]
 
-  module _ (old mid new told some fresh : List Stretch) where
+        has_it : (t : Rational) → Lies bounds t → GoesTo z' y' t → IsOn new t
+        has_it t b (u, le, o, run) =
+            let p = one_of z' u (inside u o) in by_run t u p.0 b le p.1 p.2 (run_into z' p.0 t u tidy p.1 p.2 le run) o
+
+        goes : (t : Rational) (p : Stretch) → IsAmong p z' → ReachesIn y' end p t → GoesTo z' y' t
+        goes t p m r = (r.1.0, r.1.1, r.1.2.1, λ v w. no_break z' p t r.1.0 v m r.0 r.1.2.0 w)
+
+        only_it : (t : Rational) → IsOn new t → Lies bounds t × GoesTo z' y' t
+        only_it t n = elim (g.only t n) [
+          | inr q ↦ (
+            q.0,
+            elim q.1 [
+              | inl k ↦ let x = some_by (ReachesAt z' y' end) fy t k in goes t x.2.0 x.2.1 x.2.3
+              | inr k ↦ let x = some_by (ReachesAt z' y' end) fz t k in goes t x.2.0 x.2.1 x.2.3
+            ],
+          )
+          | inl o ↦ let q = h.only t o in (q.0, (q.1.0, q.1.1, gy.kept q.1.0 q.1.2, λ v w. gz.kept v (q.1.3 v w)))
+        ]
+
     -- times back from which the runs go on to a time
-    pub back_tells : Tells bounds old (GoesBack z y) → Grows bounds old mid told some (BySome (ReachedAt z' y') fy)
-        → Grows bounds mid new some fresh (BySome (ReachedAt z' y') fz) → Tells bounds new (GoesBack z' y')
-    back_tells h f g = record { has = has_it; only = only_it }
+    pub back_tells : Tells bounds old (GoesBack z y) → Grows bounds old new told fresh (ReachedNew z' fz y' fy) → Tells bounds new (GoesBack z' y')
+    back_tells h g = record { has = has_it; only = only_it }
       where
         by_run : (t u : Rational) (p : Stretch) → Lies bounds t → (u ≤ʳ t) → IsAmong p z' → Lies p u → Lies p t → IsOn y' u → IsOn new t
         by_run t u p b le m l i o = elim (gy.gained u o) [
           | inr n ↦
               let x = one_of fy u n in
-              g.keeps t (f.adds t b (by_some (ReachedAt z' y') fy x.0 t x.1
-              (p, m, holds_part p x.0 u (λ v j. inside v (gy.own v (on_one fy x.0 v x.1 j))) m l x.2, (i, (u, le, (l, o))))))
-          | inl n ↦ elim (decided_among (λ x. HoldsFrom p (place x.from)) (λ x. decided_from p (place x.from)) fz) [
-            | inl x ↦ g.adds t b (by_some (ReachedAt z' y') fz x.0 t x.1 (p, m, x.2, (i, (u, le, (l, o)))))
-            | inr x ↦ g.keeps t (f.keeps t (h.has t b (
+              g.adds t b (inl (by_some (ReachedAt z' y') fy x.0 t x.1 (p, m, holds_gained p x.0 u m x.1 l x.2, (i, (u, le, (l, o))))))
+          | inl n ↦ elim (gained_run p) [
+            | inl x ↦ g.adds t b (inr (by_some (ReachedAt z' y') fz x.0 t x.1 (p, m, x.2, (i, (u, le, (l, o))))))
+            | inr x ↦ g.keeps t (h.has t b (
               u,
               le,
               n,
               λ v w. old_run p m x v
                   (after_le (place p.from) u v w.above l.0, upto_le (place p.to) v t w.below i.1),
-            )))
+            ))
           ]
         ]
 
@@ -175,9 +252,12 @@ module _ (bounds : Stretch) (z z' fz y y' fy : List Stretch) (gz : Gains z z' fz
 
         only_it : (t : Rational) → IsOn new t → Lies bounds t × GoesBack z' y' t
         only_it t n = elim (g.only t n) [
-          | inr q ↦ let x = some_by (ReachedAt z' y') fz t q.1 in (q.0, goes t x.2.0 x.2.1 x.2.3)
-          | inl s ↦ elim (f.only t s) [
-            | inr q ↦ let x = some_by (ReachedAt z' y') fy t q.1 in (q.0, goes t x.2.0 x.2.1 x.2.3)
-            | inl o ↦ let q = h.only t o in (q.0, (q.1.0, q.1.1, gy.kept q.1.0 q.1.2, λ v w. gz.kept v (q.1.3 v w)))
-          ]
+          | inr q ↦ (
+            q.0,
+            elim q.1 [
+              | inl k ↦ let x = some_by (ReachedAt z' y') fy t k in goes t x.2.0 x.2.1 x.2.3
+              | inr k ↦ let x = some_by (ReachedAt z' y') fz t k in goes t x.2.0 x.2.1 x.2.3
+            ],
+          )
+          | inl o ↦ let q = h.only t o in (q.0, (q.1.0, q.1.1, gy.kept q.1.0 q.1.2, λ v w. gz.kept v (q.1.3 v w)))
         ]

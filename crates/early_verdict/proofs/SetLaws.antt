@@ -82,6 +82,20 @@ module _ (bounds : Stretch) (old mid new told some fresh : List Stretch) (x x' f
     ];
   }
 
+-- a set as it is
+pub same_tells : (bounds : Stretch) (old new told fresh x x' fx : List Stretch) → Gains x x' fx → Tells bounds old (IsOn x)
+    → Grows bounds old new told fresh (BySome Lies fx) → Tells bounds new (IsOn x')
+same_tells bounds old new told fresh x x' fx gx h g = record {
+  has = λ t b o. elim (gx.gained t o) [
+    | inl k ↦ g.keeps t (h.has t b k)
+    | inr k ↦ let p = one_of fx t k in g.adds t b (by_some Lies fx p.0 t p.1 p.2)
+  ];
+  only = λ t n. elim (g.only t n) [
+    | inl o ↦ let k = h.only t o in (k.0, gx.kept t k.1)
+    | inr k ↦ let s = some_by Lies fx t k.1 in (k.0, gx.own t (on_one fx s.0 t s.1 s.2))
+  ];
+}
+
 module _ (w : Window) (bounds : Stretch) (old new told fresh x x' fx : List Stretch) (gx : Gains x x' fx) where
   -- some time of the window
   pub some_tells : Tells bounds old (SeesOne w x) → Grows bounds old new told fresh (BySome (SeesPart w) fx) → Tells bounds new (SeesOne w x')
@@ -96,111 +110,115 @@ module _ (w : Window) (bounds : Stretch) (old new told fresh x x' fx : List Stre
     ];
   }
 
-  module _ (start : Place) (tidy : AreTidy x') where
-    -- a stretch that holds the window holds its times
-    held_sees : (p : Stretch) (t : Rational) → IsAmong p x' → IsHeld w start p t → SeesOnly w start x' t
-    held_sees p t m h u a s = on_one x' p u m (by_begin h.0, at_most_of_not_before (high_place w.high w.high_in t) (place p.to) h.1 u s.ends)
-      where
-        by_low : (low : Option ℤ) → MatchOption low ⊥ (λ k. ¬ (Before (low_place k w.low_in t) (place p.from)))
-            → IfSome low (λ k. After (low_place k w.low_in t) u) → After (place p.from) u
-        by_low None n b = absurd n
-        by_low (Some k) n b = after_from (place p.from) (low_place k w.low_in t) u (at_most_of_not_before (place p.from) (low_place k w.low_in t) n) b
+-- whether a stretch holds the times just after a place is decided
+pub decided_from : (p : Stretch) (c : Place) → HoldsFrom p c ⊎ ¬ (HoldsFrom p c)
+decided_from p c = decided_both (¬ (Before c (place p.from))) (Before c (place p.to)) (decided_not (Before c (place p.from)) (decided c (place p.from)))
+    (decided c (place p.to))
 
-        by_begin : ¬ (Before start (place p.from)) ⊎ MatchOption w.low ⊥ (λ k. ¬ (Before (low_place k w.low_in t) (place p.from))) → After (place p.from) u
-        by_begin (inl n) = after_from (place p.from) start u (at_most_of_not_before (place p.from) start n) a
-        by_begin (inr n) = by_low w.low n s.begins
+-- what a tidy list holds
+module _ (w : Window) (xs : List Stretch) (start : Place) (tidy : AreTidy xs) where
+  -- a stretch that holds the window holds its times
+  pub held_sees : (p : Stretch) (t : Rational) → IsAmong p xs → IsHeld w start p t → SeesOnly w start xs t
+  held_sees p t m h u a s = on_one xs p u m (by_begin h.0, at_most_of_not_before (high_place w.high w.high_in t) (place p.to) h.1 u s.ends)
+    where
+      by_low : (low : Option ℤ) → MatchOption low ⊥ (λ k. ¬ (Before (low_place k w.low_in t) (place p.from)))
+          → IfSome low (λ k. After (low_place k w.low_in t) u) → After (place p.from) u
+      by_low None n b = absurd n
+      by_low (Some k) n b = after_from (place p.from) (low_place k w.low_in t) u (at_most_of_not_before (place p.from) (low_place k w.low_in t) n) b
 
-    -- and where the list holds a window that has a time, the stretch of that time holds the window
-    sees_held : (p : Stretch) (t u : Rational) → IsAmong p x' → Lies p u → After start u → Sees w t u → SeesOnly w start x' t → IsHeld w start p t
-    sees_held p t u m l a s all = (by_start (decided start (place p.from)), at_end)
-      where
-        at_end : ¬ (Before (place p.to) (high_place w.high w.high_in t))
-        at_end b =
-            let g = gap_after x' p (high_place w.high w.high_in t) tidy m b in
-            let later = le_through (place p.to) u g.0 l.1 g.1 in
-            g.3 (all g.0 (after_le start u g.0 later a) (record { begins = by_low w.low g.0 later s.begins; ends = g.2 }))
-          where
-            by_low : (low : Option ℤ) (v : Rational) → u ≤ʳ v → IfSome low (λ k. After (low_place k w.low_in t) u)
-                → IfSome low (λ k. After (low_place k w.low_in t) v)
-            by_low None v q b = tt
-            by_low (Some k) v q b = after_le (low_place k w.low_in t) u v q b
+      by_begin : ¬ (Before start (place p.from)) ⊎ MatchOption w.low ⊥ (λ k. ¬ (Before (low_place k w.low_in t) (place p.from))) → After (place p.from) u
+      by_begin (inl n) = after_from (place p.from) start u (at_most_of_not_before (place p.from) start n) a
+      by_begin (inr n) = by_low w.low n s.begins
 
-        -- a time before the stretch that lies in the window is one too many
-        missed : (v : Rational) → After start v → Upto (place p.from) v → ¬ (IsOn x' v) → IfSome w.low (λ k. After (low_place k w.low_in t) v) → ⊥
-        missed v b r n f =
-            n (all v b (record { begins = f; ends = upto_le (high_place w.high w.high_in t) v u (le_through (place p.from) v u r l.0) s.ends }))
+  -- and where the list holds a window that has a time, the stretch of that time holds the window
+  pub sees_held : (p : Stretch) (t u : Rational) → IsAmong p xs → Lies p u → After start u → Sees w t u → SeesOnly w start xs t → IsHeld w start p t
+  sees_held p t u m l a s all = (by_start (decided start (place p.from)), at_end)
+    where
+      at_end : ¬ (Before (place p.to) (high_place w.high w.high_in t))
+      at_end b =
+          let g = gap_after xs p (high_place w.high w.high_in t) tidy m b in
+          let later = le_through (place p.to) u g.0 l.1 g.1 in
+          g.3 (all g.0 (after_le start u g.0 later a) (record { begins = by_low w.low g.0 later s.begins; ends = g.2 }))
+        where
+          by_low : (low : Option ℤ) (v : Rational) → u ≤ʳ v → IfSome low (λ k. After (low_place k w.low_in t) u)
+              → IfSome low (λ k. After (low_place k w.low_in t) v)
+          by_low None v q b = tt
+          by_low (Some k) v q b = after_le (low_place k w.low_in t) u v q b
 
-        by_low : (low : Option ℤ) → ((v : Rational) → IfSome low (λ k. After (low_place k w.low_in t) v) → IfSome w.low (λ k. After (low_place k w.low_in t) v))
-            → Before start (place p.from) → MatchOption low ⊥ (λ k. ¬ (Before (low_place k w.low_in t) (place p.from)))
-        by_low None f b = let g = gap_before x' p start tidy m b in missed g.0 g.1 g.2 g.3 (f g.0 tt)
-        by_low (Some k) f b = λ q.
-            let n = later_before start (low_place k w.low_in t) (place p.from) b q in
-            let g = gap_before x' p n.0 tidy m n.1 in
-            missed g.0 (n.2 g.0 g.1).0 g.2 g.3 (f g.0 (n.2 g.0 g.1).1)
+      -- a time before the stretch that lies in the window is one too many
+      missed : (v : Rational) → After start v → Upto (place p.from) v → ¬ (IsOn xs v) → IfSome w.low (λ k. After (low_place k w.low_in t) v) → ⊥
+      missed v b r n f =
+          n (all v b (record { begins = f; ends = upto_le (high_place w.high w.high_in t) v u (le_through (place p.from) v u r l.0) s.ends }))
 
-        by_start : Before start (place p.from) ⊎ ¬ (Before start (place p.from))
-            → ¬ (Before start (place p.from)) ⊎ MatchOption w.low ⊥ (λ k. ¬ (Before (low_place k w.low_in t) (place p.from)))
-        by_start (inr n) = inl n
-        by_start (inl b) = inr (by_low w.low (λ v h. h) b)
+      by_low : (low : Option ℤ) → ((v : Rational) → IfSome low (λ k. After (low_place k w.low_in t) v) → IfSome w.low (λ k. After (low_place k w.low_in t) v))
+          → Before start (place p.from) → MatchOption low ⊥ (λ k. ¬ (Before (low_place k w.low_in t) (place p.from)))
+      by_low None f b = let g = gap_before xs p start tidy m b in missed g.0 g.1 g.2 g.3 (f g.0 tt)
+      by_low (Some k) f b = λ q.
+          let n = later_before start (low_place k w.low_in t) (place p.from) b q in
+          let g = gap_before xs p n.0 tidy m n.1 in
+          missed g.0 (n.2 g.0 g.1).0 g.2 g.3 (f g.0 (n.2 g.0 g.1).1)
 
-    decided_low : (low : Option ℤ) (t : Rational) (c : Place) → MatchOption low ⊥ (λ k. ¬ (Before (low_place k w.low_in t) c))
-        ⊎ ¬ (MatchOption low ⊥ (λ k. ¬ (Before (low_place k w.low_in t) c)))
-    decided_low None t c = inr (λ h. h)
-    decided_low (Some k) t c = decided_not (Before (low_place k w.low_in t) c) (decided (low_place k w.low_in t) c)
+      by_start : Before start (place p.from) ⊎ ¬ (Before start (place p.from))
+          → ¬ (Before start (place p.from)) ⊎ MatchOption w.low ⊥ (λ k. ¬ (Before (low_place k w.low_in t) (place p.from)))
+      by_start (inr n) = inl n
+      by_start (inl b) = inr (by_low w.low (λ v h. h) b)
 
-    decided_held : (p : Stretch) (t : Rational) → IsHeld w start p t ⊎ ¬ (IsHeld w start p t)
-    decided_held p t =
-        decided_both (¬ (Before start (place p.from)) ⊎ MatchOption w.low ⊥ (λ k. ¬ (Before (low_place k w.low_in t) (place p.from))))
-        (¬ (Before (place p.to) (high_place w.high w.high_in t)))
-        (decided_either (¬ (Before start (place p.from))) (MatchOption w.low ⊥ (λ k. ¬ (Before (low_place k w.low_in t) (place p.from))))
-        (decided_not (Before start (place p.from)) (decided start (place p.from))) (decided_low w.low t (place p.from)))
-        (decided_not (Before (place p.to) (high_place w.high w.high_in t)) (decided (place p.to) (high_place w.high w.high_in t)))
+  decided_low : (low : Option ℤ) (t : Rational) (c : Place) → MatchOption low ⊥ (λ k. ¬ (Before (low_place k w.low_in t) c))
+      ⊎ ¬ (MatchOption low ⊥ (λ k. ¬ (Before (low_place k w.low_in t) c)))
+  decided_low None t c = inr (λ h. h)
+  decided_low (Some k) t c = decided_not (Before (low_place k w.low_in t) c) (decided (low_place k w.low_in t) c)
 
-    decided_from : (p : Stretch) (c : Place) → HoldsFrom p c ⊎ ¬ (HoldsFrom p c)
-    decided_from p c = decided_both (¬ (Before c (place p.from))) (Before c (place p.to)) (decided_not (Before c (place p.from)) (decided c (place p.from)))
-        (decided c (place p.to))
+  decided_held : (p : Stretch) (t : Rational) → IsHeld w start p t ⊎ ¬ (IsHeld w start p t)
+  decided_held p t =
+      decided_both (¬ (Before start (place p.from)) ⊎ MatchOption w.low ⊥ (λ k. ¬ (Before (low_place k w.low_in t) (place p.from))))
+      (¬ (Before (place p.to) (high_place w.high w.high_in t)))
+      (decided_either (¬ (Before start (place p.from))) (MatchOption w.low ⊥ (λ k. ¬ (Before (low_place k w.low_in t) (place p.from))))
+      (decided_not (Before start (place p.from)) (decided start (place p.from))) (decided_low w.low t (place p.from)))
+      (decided_not (Before (place p.to) (high_place w.high w.high_in t)) (decided (place p.to) (high_place w.high w.high_in t)))
 
-    pub decided_at : (part : Stretch) (t : Rational) → HeldAt w start x' part t ⊎ ¬ (HeldAt w start x' part t)
-    decided_at part t =
-        elim (decided_among (λ p. HoldsFrom p (place part.from) × IsHeld w start p t)
-        (λ p. decided_both (HoldsFrom p (place part.from)) (IsHeld w start p t) (decided_from p (place part.from)) (decided_held p t)) x') [
-          | inl h ↦ inl (h.0, h.1, h.2.0, h.2.1)
-          | inr n ↦ inr (λ h. n (h.0, h.1, (h.2, h.3)))
-        ]
+  pub decided_at : (part : Stretch) (t : Rational) → HeldAt w start xs part t ⊎ ¬ (HeldAt w start xs part t)
+  decided_at part t =
+      elim (decided_among (λ p. HoldsFrom p (place part.from) × IsHeld w start p t)
+      (λ p. decided_both (HoldsFrom p (place part.from)) (IsHeld w start p t) (decided_from p (place part.from)) (decided_held p t)) xs) [
+        | inl h ↦ inl (h.0, h.1, h.2.0, h.2.1)
+        | inr n ↦ inr (λ h. n (h.0, h.1, (h.2, h.3)))
+      ]
 
-    -- each time of the window
-    pub each_tells : Tells bounds old (SeesOnly w start x) → Grows bounds old new told fresh (BySome (HeldAt w start x') fx)
-        → Tells bounds new (SeesOnly w start x')
-    each_tells h g = record {
-      has = λ t b s. by_gained t b s (decided_among (λ part. HeldAt w start x' part t) (λ part. decided_at part t) fx);
-      only = λ t n. elim (g.only t n) [
-        | inl o ↦ let k = h.only t o in (k.0, λ u a s. gx.kept u (k.1 u a s))
-        | inr k ↦ let s = some_by (HeldAt w start x') fx t k.1 in (k.0, held_sees s.2.0 t s.2.1 s.2.3)
-      ];
-    }
-      where
-        -- a time of the window that the list gained lies in a stretch of it that holds the window
-        found : (t u : Rational) → After start u → Sees w t u → SeesOnly w start x' t → IsOn fx u → (part : Stretch) × IsAmong part fx × HeldAt w start x' part t
-        found t u a s all k =
-            let f = one_of fx u k in
-            let p = one_of x' u (gx.own u k) in (
-              f.0,
-              f.1,
-              (
-                p.0,
-                p.1,
-                (
-                  holds_all x' f.0 p.0 u tidy (λ v l. gx.own v (on_one fx f.0 v f.1 l)) p.1 p.2 f.2,
-                  before_through (place (f.0).from) (place (p.0).to) u f.2.0 p.2.1,
-                ),
-                sees_held p.0 t u p.1 p.2 a s all,
-              ),
-            )
+  -- a time of the window that the list gained lies in a part that it gained, whose first times a stretch holds that holds the window
+  pub found : (fx : List Stretch) → ((v : Rational) → IsOn fx v → IsOn xs v) → (t u : Rational) → After start u → Sees w t u → SeesOnly w start xs t
+      → IsOn fx u → (part : Stretch) × IsAmong part fx × HeldAt w start xs part t
+  found fx own t u a s all k =
+      let f = one_of fx u k in
+      let p = one_of xs u (own u k) in (
+        f.0,
+        f.1,
+        (
+          p.0,
+          p.1,
+          (
+            holds_all xs f.0 p.0 u tidy (λ v l. own v (on_one fx f.0 v f.1 l)) p.1 p.2 f.2,
+            before_through (place (f.0).from) (place (p.0).to) u f.2.0 p.2.1,
+          ),
+          sees_held p.0 t u p.1 p.2 a s all,
+        ),
+      )
 
-        by_gained : (t : Rational) → Lies bounds t → SeesOnly w start x' t → ((part : Stretch) × IsAmong part fx × HeldAt w start x' part t)
-            ⊎ ¬ ((part : Stretch) × IsAmong part fx × HeldAt w start x' part t) → IsOn new t
-        by_gained t b s (inl k) = g.adds t b (by_some (HeldAt w start x') fx k.0 t k.1 k.2)
-        by_gained t b s (inr n) = g.keeps t (h.has t b (λ u a v. elim (gx.gained u (s u a v)) [
-          | inl k ↦ k
-          | inr k ↦ absurd (n (found t u a v s k))
-        ]))
+module _ (w : Window) (bounds : Stretch) (old new told fresh x x' fx : List Stretch) (gx : Gains x x' fx) (start : Place) (tidy : AreTidy x') where
+  -- each time of the window
+  pub each_tells : Tells bounds old (SeesOnly w start x) → Grows bounds old new told fresh (BySome (HeldAt w start x') fx)
+      → Tells bounds new (SeesOnly w start x')
+  each_tells h g = record {
+    has = λ t b s. by_gained t b s (decided_among (λ part. HeldAt w start x' part t) (λ part. decided_at w x' start tidy part t) fx);
+    only = λ t n. elim (g.only t n) [
+      | inl o ↦ let k = h.only t o in (k.0, λ u a s. gx.kept u (k.1 u a s))
+      | inr k ↦ let s = some_by (HeldAt w start x') fx t k.1 in (k.0, held_sees w x' start tidy s.2.0 t s.2.1 s.2.3)
+    ];
+  }
+    where
+      by_gained : (t : Rational) → Lies bounds t → SeesOnly w start x' t → ((part : Stretch) × IsAmong part fx × HeldAt w start x' part t)
+          ⊎ ¬ ((part : Stretch) × IsAmong part fx × HeldAt w start x' part t) → IsOn new t
+      by_gained t b s (inl k) = g.adds t b (by_some (HeldAt w start x') fx k.0 t k.1 k.2)
+      by_gained t b s (inr n) = g.keeps t (h.has t b (λ u a v. elim (gx.gained u (s u a v)) [
+        | inl k ↦ k
+        | inr k ↦ absurd (n (found w x' start tidy fx gx.own t u a v s k))
+      ]))

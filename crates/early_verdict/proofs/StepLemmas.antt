@@ -6,6 +6,7 @@ use Rattle.early_verdict.specs.Spans.{Lies, IsOn, AreTidy, Grows}
 use Rattle.early_verdict.specs.Windows.{SeesPart}
 use Rattle.early_verdict.specs.Steps.{BySome, Common, HeldAt, SeesOne, SeesOnly, Tells, Gains}
 use Rattle.early_verdict.specs.declared.stretch.Stretch.{Stretch}
+use Rattle.early_verdict.specs.declared.grown.Grown.{Grown}
 use Rattle.early_verdict.specs.declared.window.Window.{Window}
 use Rattle.early_verdict.proofs.LoopLemmas.{grows_then}
 
@@ -27,3 +28,12 @@ gains_both bounds bounds' old mid new told some fresh P Q is none f g =
     gains_of bounds old new told fresh (λ t. P t ⊎ Q t) none
     (grows_then bounds old mid new told some fresh P Q (λ t. P t ⊎ Q t) (λ t h. h) (λ t h. h) f
     (subst (λ b. Grows b mid new some fresh Q) is g))
+
+-- two steps of an event are one
+pub grown_then : (own mid new : Grown) (told : List Stretch) (P Q : Rational → Type 0) → mid.bounds ≡ own.bounds
+    → Grows own.bounds own.spans.items mid.spans.items told mid.fresh.items P
+    → Grows mid.bounds mid.spans.items new.spans.items mid.fresh.items new.fresh.items Q
+    → Grows own.bounds own.spans.items new.spans.items told new.fresh.items (λ t. P t ⊎ Q t)
+grown_then own mid new told P Q is f g =
+    grows_then own.bounds own.spans.items mid.spans.items new.spans.items told mid.fresh.items new.fresh.items P Q (λ t. P t ⊎ Q t) (λ t h. h) (λ t h. h) f
+    (subst (λ b. Grows b mid.spans.items new.spans.items mid.fresh.items new.fresh.items Q) is g)

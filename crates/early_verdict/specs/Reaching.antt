@@ -20,10 +20,15 @@ ReachesAt runs spans sure part t = (p : Stretch) × IsAmong p runs × HoldsFrom 
 abbrev pub ReachedAt : List Stretch → List Stretch → Stretch → Rational → Type 0
 ReachedAt runs spans part t = (p : Stretch) × IsAmong p runs × HoldsFrom p (place part.from) × ReachedIn spans p t
 
--- so does a run that has a time of the stretch between the two places
+-- the time lies in the stretch, between the two places
+abbrev pub IsNew : Place → Place → Stretch → Rational → Type 0
+IsNew before sure s u = Lies s u × After before u × Upto sure u
+
+-- so does a run that holds the first times of the stretch between the two places
 abbrev pub ReachesBy : List Stretch → List Stretch → Place → Place → Stretch → Rational → Type 0
 ReachesBy runs spans before sure s t =
-    (p : Stretch) × IsAmong p runs × ReachesIn spans sure p t × ((w : Rational) × (Lies s w × After before w × Upto sure w) × Lies p w)
+    (p : Stretch) × IsAmong p runs × ReachesIn spans sure p t
+    × ((w : Rational) × IsNew before sure s w × Lies p w × ((v : Rational) → IsNew before sure s v → v ≤ʳ w → Lies p v))
 
 -- from t the runs go on without a break to a sure time of the list, or t itself is one of the list
 abbrev pub GoesOn : List Stretch → List Stretch → Place → Rational → Type 0
@@ -41,9 +46,9 @@ GoesBack runs spans t = (u : Rational) × (u ≤ʳ t) × IsOn spans u × ((v : R
 -- the place is where what the list has within the part ends
 pub record IsLastEnd (spans : List Stretch) (part : Stretch) (c : Place) : Type 0 where
   pub bounds : (u : Rational) → Lies part u → IsOn spans u → Upto c u
-  pub reached : (t : Rational) → After (place part.from) t → Upto c t → (u : Rational) × (t ≤ʳ u) × (Lies part u × IsOn spans u)
+  pub reached : (t : Rational) → Upto c t → (u : Rational) × (t ≤ʳ u) × (Lies part u × IsOn spans u)
 
 -- the place is where what the list has within the part begins
 pub record IsFirstBegin (spans : List Stretch) (part : Stretch) (c : Place) : Type 0 where
   pub bounds : (u : Rational) → Lies part u → IsOn spans u → After c u
-  pub reached : (t : Rational) → Upto (place part.to) t → After c t → (u : Rational) × (u ≤ʳ t) × (Lies part u × IsOn spans u)
+  pub reached : (t : Rational) → After c t → (u : Rational) × (u ≤ʳ t) × (Lies part u × IsOn spans u)

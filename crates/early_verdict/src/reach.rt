@@ -1,11 +1,9 @@
 //! Runs that reach a time of another set, ahead or behind.
-ghost use Rattle.std.specs.Prelude.{◌≡◌, ◌↔◌, OnOk, IfSome, IfNone};
-ghost use Rattle.rational.specs.Time.{Rational};
+ghost use Rattle.std.specs.Prelude.{◌≡◌, OnOk};
 ghost use Rattle.early_verdict.specs.Cuts.{place};
-ghost use Rattle.early_verdict.specs.Spans.{AreTidy, Grows, IsAmong, IsOn, Lies};
+ghost use Rattle.early_verdict.specs.Spans.{AreTidy, Grows};
 ghost use Rattle.early_verdict.specs.Steps.{BySome};
-ghost use Rattle.early_verdict.specs.Reaching.{IsFirstBegin, IsLastEnd, ReachedAt, ReachedIn, ReachesAt, ReachesBy, ReachesIn};
-ghost use Rattle.early_verdict.specs.declared.stretch.Stretch.{Stretch};
+ghost use Rattle.early_verdict.specs.Reaching.{ReachedAt, ReachesAt, ReachesBy, ReachesIn};
 
 use crate::cut::Cut;
 use crate::grown::Grown;
@@ -82,7 +80,7 @@ pub(crate) fn add_all_reaching(
     Ok(())
 }
 
-/// So for the run that has what the stretch has between the two cuts.
+/// So for the run that holds the first times of the stretch between the two cuts.
 fn add_reaching_by(
     own: &mut Grown,
     part: &Stretch,
@@ -94,7 +92,6 @@ fn add_reaching_by(
     requires own { AreTidy own.old.spans.items }
     requires runs { AreTidy runs.now.items }
     requires spans { AreTidy spans.now.items }
-    requires inside { (t : Rational) → Lies part.now t → IsOn runs.now.items t }
     ensures tidy { OnOk result (AreTidy own.new.spans.items) }
     ensures bounds { own.new.bounds ≡ own.old.bounds }
     ensures ok { OnOk result (Grows own.old.bounds own.old.spans.items own.new.spans.items own.old.fresh.items own.new.fresh.items
@@ -117,7 +114,6 @@ pub(crate) fn add_reaching_between(
     requires own { AreTidy own.old.spans.items }
     requires runs { AreTidy runs.now.items }
     requires spans { AreTidy spans.now.items }
-    requires inside { (t : Rational) → IsOn spans.now.items t → IsOn runs.now.items t }
     ensures tidy { OnOk result (AreTidy own.new.spans.items) }
     ensures bounds { own.new.bounds ≡ own.old.bounds }
     ensures ok { OnOk result (Grows own.old.bounds own.old.spans.items own.new.spans.items own.old.fresh.items own.new.fresh.items

@@ -8,7 +8,7 @@ ghost use Rattle.early_verdict.specs.declared.stretch.Stretch.{Stretch};
 
 use crate::cut::Cut;
 use crate::stretch::Stretch;
-use crate::touching::first_reaching;
+use crate::touching::{begins_by, first_reaching};
 use std::collections::VecDeque;
 
 /// What the stretch at the place has within the part.
@@ -16,7 +16,7 @@ fn shared_at(spans: &VecDeque<Stretch>, at: usize, part: &Stretch) -> Option<Str
     ensures some { IfSome result (λ s. (n : Stretch) × (slice_get spans.now.items at ≡ Some n) × ((t : Rational) → Lies s t ↔ (Lies n t × Lies part.now t))) }
     ensures none { IfNone result ((n : Stretch) → slice_get spans.now.items at ≡ Some n → (t : Rational) → Lies n t → ¬ (Lies part.now t)) }
 {
-    let next = spans.get(at)?;
+    let next = begins_by(spans, at, &part.to)?;
     Stretch::make(next.from, next.to, part)
 }
 

@@ -212,12 +212,13 @@ impl Grown {
         requires runs { AreTidy runs.now.spans.items }
         requires input { AreTidy x.now.spans.items }
         requires order { AtMost (place before.now) (place sure.now) }
-        requires inside { (t : Rational) → IsOn x.now.spans.items t → IsOn runs.now.spans.items t }
         ensures tidy { OnOk result (AreTidy self.new.spans.items) }
         ensures bounds { self.new.bounds ≡ self.old.bounds }
         ensures gains { OnOk result (Gains self.old.spans.items self.new.spans.items self.new.fresh.items) }
         ensures tells { OnOk result ((z' x' : List Stretch) → Gains z' runs.now.spans.items runs.now.fresh.items
-            → Gains x' x.now.spans.items x.now.fresh.items → Tells self.old.bounds self.old.spans.items (GoesOn z' x' (place before.now))
+            → Gains x' x.now.spans.items x.now.fresh.items
+            → ((t : Rational) → IsOn x.now.spans.items t → IsOn runs.now.spans.items t)
+            → Tells self.old.bounds self.old.spans.items (GoesOn z' x' (place before.now))
             → Tells self.old.bounds self.new.spans.items (GoesOn runs.now.spans.items x.now.spans.items (place sure.now))) }
     {
         self.fresh.clear();
@@ -236,13 +237,13 @@ impl Grown {
         requires own { AreTidy self.old.spans.items }
         requires runs { AreTidy runs.now.spans.items }
         requires input { AreTidy x.now.spans.items }
-        requires inside { (t : Rational) → IsOn x.now.spans.items t → IsOn runs.now.spans.items t }
-        requires within { (t : Rational) → IsOn x.now.spans.items t → Lies x.now.bounds t }
         ensures tidy { OnOk result (AreTidy self.new.spans.items) }
         ensures bounds { self.new.bounds ≡ self.old.bounds }
         ensures gains { OnOk result (Gains self.old.spans.items self.new.spans.items self.new.fresh.items) }
         ensures tells { OnOk result ((z' x' : List Stretch) → Gains z' runs.now.spans.items runs.now.fresh.items
-            → Gains x' x.now.spans.items x.now.fresh.items → Tells self.old.bounds self.old.spans.items (GoesTo z' x')
+            → Gains x' x.now.spans.items x.now.fresh.items
+            → ((t : Rational) → IsOn x.now.spans.items t → IsOn runs.now.spans.items t)
+            → ((t : Rational) → IsOn x.now.spans.items t → Lies x.now.bounds t) → Tells self.old.bounds self.old.spans.items (GoesTo z' x')
             → Tells self.old.bounds self.new.spans.items (GoesTo runs.now.spans.items x.now.spans.items)) }
     {
         self.fresh.clear();
@@ -259,12 +260,13 @@ impl Grown {
         requires own { AreTidy self.old.spans.items }
         requires runs { AreTidy runs.now.spans.items }
         requires input { AreTidy x.now.spans.items }
-        requires inside { (t : Rational) → IsOn x.now.spans.items t → IsOn runs.now.spans.items t }
         ensures tidy { OnOk result (AreTidy self.new.spans.items) }
         ensures bounds { self.new.bounds ≡ self.old.bounds }
         ensures gains { OnOk result (Gains self.old.spans.items self.new.spans.items self.new.fresh.items) }
         ensures tells { OnOk result ((z' x' : List Stretch) → Gains z' runs.now.spans.items runs.now.fresh.items
-            → Gains x' x.now.spans.items x.now.fresh.items → Tells self.old.bounds self.old.spans.items (GoesBack z' x')
+            → Gains x' x.now.spans.items x.now.fresh.items
+            → ((t : Rational) → IsOn x.now.spans.items t → IsOn runs.now.spans.items t)
+            → Tells self.old.bounds self.old.spans.items (GoesBack z' x')
             → Tells self.old.bounds self.new.spans.items (GoesBack runs.now.spans.items x.now.spans.items)) }
     {
         self.fresh.clear();

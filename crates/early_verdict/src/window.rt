@@ -75,10 +75,12 @@ impl Window {
         ensures yes { IsTrue result → (t : Rational) → Sees self.now t t }
         ensures no { IsFalse result → (t : Rational) → ¬ (Sees self.now t t) }
     {
-        let begun = match self.low {
+        if !has_room(0, true, self.high, self.high_in) {
+            return false;
+        }
+        match self.low {
             None => true,
             Some(low) => has_room(low, self.low_in, 0, true),
-        };
-        begun && has_room(0, true, self.high, self.high_in)
+        }
     }
 }

@@ -1,9 +1,9 @@
-use Rattle.std.proofs.Common.{◌≡◌, subst, []}
+use Rattle.std.proofs.Common.{◌≡◌, subst}
 use Rattle.early_verdict.specs.Spans.{Grows, Lies}
 use Rattle.early_verdict.specs.Steps.{BySome}
 use Rattle.early_verdict.proofs.WindowLemmas.{on_good}
 use Rattle.early_verdict.proofs.StepLemmas.{gains_of}
-use Rattle.early_verdict.proofs.Telling.{same_tells}
+use Rattle.early_verdict.proofs.SetLaws.{same_tells}
 use Rattle.early_verdict.proofs.grown.Grown.same.Goals as goal
 
 pub returns-clause-gains : goal.returns-clause-gains
@@ -19,5 +19,6 @@ returns-clause-tells c =
     let own = c.args.self.now in
     let new = c.add_all.new.own in
     on_good c.add_all.result c.add_all.ensures.ok
-    (λ g x gx t. same_tells own.bounds own.spans.items new.spans.items c.clear.new.self.items new.fresh.items x c.args.x.now.spans.items c.args.x.now.fresh.items gx t
+    (λ g x gx t. same_tells own.bounds own.spans.items new.spans.items c.clear.new.self.items new.fresh.items
+    x c.args.x.now.spans.items c.args.x.now.fresh.items gx t
     (subst (λ xs. Grows own.bounds own.spans.items new.spans.items c.clear.new.self.items new.fresh.items (BySome Lies xs)) c.deref.ensures.value g))

@@ -1,0 +1,44 @@
+use Rattle.std.proofs.Common.{◌≡◌, ◌⊎◌, ◌∙◌, subst}
+use Rattle.early_verdict.specs.Cuts.{place}
+use Rattle.early_verdict.specs.Spans.{Grows, Lies}
+use Rattle.early_verdict.specs.Steps.{BySome, HeldAt}
+use Rattle.early_verdict.specs.Reaching.{ReachedAt}
+use Rattle.early_verdict.proofs.WindowLemmas.{on_good}
+use Rattle.early_verdict.proofs.StepLemmas.{gains_of, grown_then}
+use Rattle.early_verdict.proofs.ReachLemmas.{ReachedNew, back_tells}
+use Rattle.early_verdict.proofs.grown.Grown.reach_back.Goals as goal
+
+pub returns-clause-gains : goal.returns-clause-gains
+returns-clause-gains c =
+    let told = c.clear.new.self.items in
+    let z = c.args.runs.now.spans.items in
+    let fz = c.args.runs.now.fresh.items in
+    let x = c.args.x.now.spans.items in
+    let fx = c.args.x.now.fresh.items in
+    let own = c.args.self.now in
+    let first = c.add_all_reached.new.own in
+    let new = c.add_all_reached-2.new.own in
+    let f = subst (λ xs. Grows own.bounds own.spans.items first.spans.items told first.fresh.items (BySome (ReachedAt z x) xs)) c.deref.ensures.value
+    c.in_ok-add_all_reached.ensures.ok in
+    on_good c.add_all_reached-2.result c.add_all_reached-2.ensures.ok
+    (λ k. gains_of own.bounds own.spans.items new.spans.items told new.fresh.items
+    (ReachedNew z fz x fx) c.clear.ensures.items
+    (grown_then own first new told (BySome (ReachedAt z x) fx) (BySome (ReachedAt z x) fz) c.add_all_reached.ensures.bounds f
+    (subst (λ xs. Grows first.bounds first.spans.items new.spans.items first.fresh.items new.fresh.items (BySome (ReachedAt z x) xs)) c.deref-2.ensures.value k)))
+
+pub returns-clause-tells : goal.returns-clause-tells
+returns-clause-tells c =
+    let told = c.clear.new.self.items in
+    let z = c.args.runs.now.spans.items in
+    let fz = c.args.runs.now.fresh.items in
+    let x = c.args.x.now.spans.items in
+    let fx = c.args.x.now.fresh.items in
+    let own = c.args.self.now in
+    let first = c.add_all_reached.new.own in
+    let new = c.add_all_reached-2.new.own in
+    let f = subst (λ xs. Grows own.bounds own.spans.items first.spans.items told first.fresh.items (BySome (ReachedAt z x) xs)) c.deref.ensures.value
+    c.in_ok-add_all_reached.ensures.ok in
+    on_good c.add_all_reached-2.result c.add_all_reached-2.ensures.ok
+    (λ k y v gz gx inside t. back_tells y z fz v x fx gz gx c.requires.runs inside own.bounds own.spans.items new.spans.items told new.fresh.items t
+    (grown_then own first new told (BySome (ReachedAt z x) fx) (BySome (ReachedAt z x) fz) c.add_all_reached.ensures.bounds f
+    (subst (λ xs. Grows first.bounds first.spans.items new.spans.items first.fresh.items new.fresh.items (BySome (ReachedAt z x) xs)) c.deref-2.ensures.value k)))
