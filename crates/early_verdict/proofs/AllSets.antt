@@ -1,5 +1,5 @@
 -- What the sets of all nodes tell, where they fit.
-use Rattle.std.proofs.Common.{◌≡◌, ◌⊎◌, inl, inr, refl, sym, ap, subst, ◌∙◌, ℕ, zero, suc, ◌+◌, ◌-◌, ◌<◌, ◌≤◌, Bool, true, false, Option, Some, None, List, [], ◌∷◌, length, arith}
+use Rattle.std.proofs.Common.{◌≡◌, ◌⊎◌, inl, inr, refl, sym, ap, subst, ◌∙◌, ℕ, zero, suc, ◌+◌, ◌-◌, ◌<◌, ◌≤◌, Bool, true, false, Option, Some, None, List, [], ◌∷◌, length, arith, below_more}
 use Rattle.std.specs.Prelude.{MatchOption, slice_get, slice_index_or, All}
 use Rattle.rational.specs.Time.{Rational, later, ◌≤ʳ◌}
 use Rattle.stl_syntax.specs.Trace.{Trace, start}
@@ -59,9 +59,6 @@ module _ (nodes : List Node) (tr : Trace) (tops : List ℕ) (sets : List Sets) (
         no_out = λ u o. (h.no.only u o).1;
       })
 
-  order_of : (p m : ℕ) → p ≤ m → (p < m) ⊎ (p ≡ m)
-  order_of p m h = omega (arith, h)
-
   -- one node more
   next_known : AllFit nodes false tr sets → (m : ℕ) → m < length nodes
       → ((p : ℕ) → p < m → Known (start tr) (top_at tops p) (lists_at sets p) (Settled (subformula nodes p) tr) (SettledNot (subformula nodes p) tr))
@@ -80,11 +77,9 @@ module _ (nodes : List Node) (tr : Trace) (tops : List ℕ) (sets : List Sets) (
   pub all_known : AllFit nodes false tr sets → (m : ℕ) → m ≤ length nodes → (p : ℕ) → p < m
       → Known (start tr) (top_at tops p) (lists_at sets p) (Settled (subformula nodes p) tr) (SettledNot (subformula nodes p) tr)
   all_known fit zero le p lt = absurd (omega (arith, lt))
-  all_known fit (suc m) le p lt = elim (order_of p m (omega (arith, lt))) [
-    | inl l ↦ all_known fit m (omega (arith, le)) p l
-    | inr e ↦ subst (λ k. Known (start tr) (top_at tops k) (lists_at sets k) (Settled (subformula nodes k) tr) (SettledNot (subformula nodes k) tr)) (sym e)
-        (next_known fit m (omega (arith, le)) (all_known fit m (omega (arith, le))))
-  ]
+  all_known fit (suc m) le p lt =
+      below_more (λ k. Known (start tr) (top_at tops k) (lists_at sets k) (Settled (subformula nodes k) tr) (SettledNot (subformula nodes k) tr)) m
+      (all_known fit m (omega (arith, le))) (next_known fit m (omega (arith, le)) (all_known fit m (omega (arith, le)))) p (omega (arith, lt))
 
   next_final : AllFit nodes true tr sets → (m : ℕ) → m < length nodes → ((p : ℕ) → p < m → Final tr (top_at tops p) (lists_at sets p) (subformula nodes p))
       → Final tr (top_at tops m) (lists_at sets m) (subformula nodes m)
@@ -103,8 +98,6 @@ module _ (nodes : List Node) (tr : Trace) (tops : List ℕ) (sets : List Sets) (
   pub all_final : AllFit nodes true tr sets → (m : ℕ) → m ≤ length nodes → (p : ℕ) → p < m
       → Final tr (top_at tops p) (lists_at sets p) (subformula nodes p)
   all_final fit zero le p lt = absurd (omega (arith, lt))
-  all_final fit (suc m) le p lt = elim (order_of p m (omega (arith, lt))) [
-    | inl l ↦ all_final fit m (omega (arith, le)) p l
-    | inr e ↦ subst (λ k. Final tr (top_at tops k) (lists_at sets k) (subformula nodes k)) (sym e)
-        (next_final fit m (omega (arith, le)) (all_final fit m (omega (arith, le))))
-  ]
+  all_final fit (suc m) le p lt =
+      below_more (λ k. Final tr (top_at tops k) (lists_at sets k) (subformula nodes k)) m
+      (all_final fit m (omega (arith, le))) (next_final fit m (omega (arith, le)) (all_final fit m (omega (arith, le)))) p (omega (arith, lt))

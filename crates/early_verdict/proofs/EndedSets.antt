@@ -57,9 +57,9 @@ module _ (tr : Trace) (top : ℕ) (s : Sets) (wide : ℕ) (asked : AreAsked (sta
   final : (P N : Rational → Type 0) (p : Subformula) → SayBoth s P N → ((t : Rational) → start tr ≤ʳ t → t ≤ʳ stop tr → P t → Truth p tr t)
       → ((t : Rational) → start tr ≤ʳ t → t ≤ʳ stop tr → N t → ¬ (Truth p tr t))
       → ((t : Rational) → start tr ≤ʳ t → t ≤ʳ later (start tr) top → t ≤ʳ stop tr → P t ⊎ N t) → Final tr top (lists_of s) p
-  final P N p h yes no all = record {
-    yes = λ u o l. let k = h.yes.only u o in yes u ((asked.yes u).0 k.0).0 l k.1;
-    no = λ u o l. let k = h.no.only u o in no u ((asked.no u).0 k.0).0 l k.1;
+  final P N p h holds fails all = record {
+    yes = λ u o l. let k = h.yes.only u o in holds u ((asked.yes u).0 k.0).0 l k.1;
+    no = λ u o l. let k = h.no.only u o in fails u ((asked.no u).0 k.0).0 l k.1;
     all = λ u f l e. elim (all u f l e) [ inl y ↦ inl (h.yes.has u ((asked.yes u).1 (f, l)) y) | inr y ↦ inr (h.no.has u ((asked.no u).1 (f, l)) y) ];
   }
 

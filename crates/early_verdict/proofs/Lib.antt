@@ -26,3 +26,4 @@ pub mod TickLemmas
 pub mod SharedLemmas
 pub mod BetweenLemmas
 pub mod LastingLemmas
+pub mod Looks

@@ -76,16 +76,3 @@ parts_kept (Some x) new e = subst (λ y. MatchOption y ⊥ (KeepsBounds x)) (sym
 pub parts_tidy : (old new : Option Parts) → new ≡ old → MatchOption old (Unit {0}) ArePartsTidy → MatchOption new (Unit {0}) ArePartsTidy
 parts_tidy old new e h = subst (λ y. MatchOption y (Unit {0}) ArePartsTidy) (sym e) h
 
--- a set that told another goes on to do so
-pub same_tells : (bounds : Stretch) (old new told fresh x x' fx : List Stretch) → Gains x x' fx → Tells bounds old (IsOn x)
-    → Grows bounds old new told fresh (BySome Lies fx) → Tells bounds new (IsOn x')
-same_tells bounds old new told fresh x x' fx gx h g = record {
-  has = λ t b o. elim (gx.gained t o) [
-    | inl k ↦ g.keeps t (h.has t b k)
-    | inr k ↦ let p = one_of fx t k in g.adds t b (by_some Lies fx p.0 t p.1 p.2)
-  ];
-  only = λ t n. elim (g.only t n) [
-    | inl o ↦ let k = h.only t o in (k.0, gx.kept t k.1)
-    | inr k ↦ let s = some_by Lies fx t k.1 in (k.0, gx.own t (on_one fx s.0 t s.1 s.2))
-  ];
-}

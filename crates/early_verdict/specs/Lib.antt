@@ -14,3 +14,5 @@ pub mod Looking
 pub mod Standing
 pub mod Tops
 pub mod Adding
+pub mod Making
+pub mod Deciding

@@ -1,5 +1,5 @@
 -- What the sets of all nodes keep from event to event.
-use Rattle.std.specs.Prelude.{◌≡◌, ◌↔◌, ◌⊎◌, ℕ, ◌+◌, ◌≤◌, ◌<◌, ◌≢◌, Bool, Option, Some, None, List, length, MatchOption, MatchBool, IsSome, slice_get, slice_index_or}
+use Rattle.std.specs.Prelude.{◌≡◌, ◌↔◌, ◌⊎◌, ℕ, ◌+◌, ◌≤◌, ◌<◌, ◌≢◌, Bool, false, Option, Some, None, List, length, MatchOption, MatchBool, IsSome, slice_get, slice_index_or}
 use Rattle.rational.specs.Time.{Rational, later, ◌≤ʳ◌}
 use Rattle.stl_syntax.specs.Trace.{Row, Trace, start}
 use Rattle.stl_syntax.specs.declared.node.Node.{Node}

@@ -1,12 +1,17 @@
 //! The verdict at the start, at the first row that settles it.
+//!
+//! An early verdict stands for the rows that it took, and whether they have ended. It stores none of them: what its sets tell is what the
+//! rows settle, whatever they were.
+ghost use Rattle.std.specs.Prelude.{◌≡◌, ◌<◌, ◌+◌, ◌++◌, ◌∷◌, [], List, length, IfOk, IfSome, IsSome, MatchResult, MatchOption, Some, None, Option, true, false};
+ghost use Rattle.stl_syntax.specs.Trace.{Header as AHeader, Row as ARow};
+ghost use Rattle.stl_syntax.specs.Formula.{root};
+ghost use Rattle.atom_lines.specs.Binding.{IsBound};
 
-use crate::cut::Cut;
-use crate::event::Event;
-use crate::net::{Rows, all_sets, step_all};
+use crate::events::{end_sets, first_sets, next_sets, root_verdict};
 use crate::sets::Sets;
 use atom_lines::Bound;
-use frac128::Memory;
 use std::alloc::Global;
+use std::marker::Model;
 use stl_syntax::Formula;
 use trace_reader::{Header, Row};
 
@@ -27,31 +32,74 @@ pub enum EarlyFault {
 }
 
 /// What the rows of a trace have decided of a formula at the start.
+///
+/// Contracts see it as `Kept`. `Stands` says when it stands for rows.
 #[derive(Drop)]
 pub struct Early {
     alloc: Global,
     formula: Formula,
-    bound: Bound,
     header: Header,
-    /// Of each node, in post-order; none before the first row.
+    bound: Bound,
+    /// Of each node, in post-order; none before the first row, and none once a row has decided.
     sets: Vec<Sets>,
-    start: u32,
+    begin: u32,
     last: Option<Row>,
     decided: Option<Decided>,
     ended: bool,
     stopped: bool,
 }
 
+impl Model for Early {
+    ghost use Rattle.early_verdict.specs.Deciding.{Kept};
+
+    ghost Value = { Kept };
+
+    ghost use Rattle.early_verdict.specs.Deciding.{HasPast};
+
+    ghost view = { λ e. record {
+      nodes = e.formula.nodes;
+      header = e.header;
+      bound = e.bound;
+      sets = e.sets.items;
+      begin = e.begin;
+      last = e.last;
+      decided = e.decided;
+      ended = e.ended;
+      stopped = e.stopped;
+    } };
+
+    ghost invariant = { λ e. HasPast (record {
+      nodes = e.formula.nodes;
+      header = e.header;
+      bound = e.bound;
+      sets = e.sets.items;
+      begin = e.begin;
+      last = e.last;
+      decided = e.decided;
+      ended = e.ended;
+      stopped = e.stopped;
+    }) };
+}
+
 impl Early {
-    /// Nothing is decided yet; it takes no memory.
-    pub fn new(alloc: Global, formula: Formula, bound: Bound, header: Header) -> Early {
+    ghost use Rattle.early_verdict.specs.Deciding.{IsAnswer, IsFault, IsFed, IsFor, IsTruthAtStart, Stands, trace_of};
+
+    /// Nothing is decided yet; it takes no memory. It stands for no rows.
+    pub fn new(alloc: Global, formula: Formula, bound: Bound, header: Header) -> Early
+        requires { IsBound bound formula header }
+        ensures stands { Stands result [] false }
+        ensures nodes { result.nodes ≡ formula.nodes }
+        ensures header { result.header ≡ header }
+        ensures bound { result.bound ≡ bound }
+    {
+        let _ = formula.len();
         Early {
             alloc,
             formula,
-            bound,
             header,
+            bound,
             sets: Vec::new(alloc),
-            start: 0,
+            begin: 0,
             last: None,
             decided: None,
             ended: false,
@@ -60,58 +108,10 @@ impl Early {
     }
 
     /// The verdict of the row that decided, if one did.
-    pub fn decided(&self) -> Option<Decided> {
+    pub fn decided(&self) -> Option<Decided>
+        ensures { result ≡ self.now.decided }
+    {
         self.decided
-    }
-
-    /// The sets after a row.
-    fn take_row(&mut self, row: &Row) -> Result<(), Memory> {
-        let sure = Cut::after_whole(i64::from(row.time()));
-        match &self.last {
-            None => {
-                self.start = row.time();
-                self.sets = all_sets(self.alloc, &self.formula, self.start)?;
-                let start = Cut::before_whole(i64::from(self.start));
-                let event = Event {
-                    start,
-                    before: start,
-                    sure,
-                    first: true,
-                    ended: false,
-                };
-                let rows = Rows {
-                    before: &self.last,
-                    row,
-                };
-                step_all(&mut self.sets, &self.formula, &self.bound, Some(rows), &event)
-            }
-            Some(last) => {
-                let event = Event {
-                    start: Cut::before_whole(i64::from(self.start)),
-                    before: Cut::after_whole(i64::from(last.time())),
-                    sure,
-                    first: false,
-                    ended: false,
-                };
-                let rows = Rows {
-                    before: &self.last,
-                    row,
-                };
-                step_all(&mut self.sets, &self.formula, &self.bound, Some(rows), &event)
-            }
-        }
-    }
-
-    /// What the root's sets say of the start.
-    fn verdict(&self) -> Option<bool> {
-        let root = &self.sets[self.sets.len() - 1];
-        if root.yes.has(i64::from(self.start)) {
-            return Some(true);
-        }
-        if root.no.has(i64::from(self.start)) {
-            return Some(false);
-        }
-        None
     }
 
     /// Takes the next row. Some exactly where it is the first that decides.
@@ -119,7 +119,15 @@ impl Early {
     /// # Errors
     ///
     /// `Stopped` where an earlier call answered `Memory`; nothing changes then. `Memory` where there is no memory; then it is stopped.
-    pub fn feed(&mut self, row: &Row) -> Result<Option<Decided>, EarlyFault> {
+    pub fn feed(&mut self, row: &Row) -> Result<Option<Decided>, EarlyFault>
+        requires open { self.old.ended ≡ false }
+        requires width { length row.now.values ≡ self.old.bound.width }
+        requires later { IfSome self.old.last (λ r. r.time < row.now.time) }
+        ensures answer { MatchResult result (IsFed self.old self.new row.now) (IsFault self.old self.new) }
+        ensures stands { (rows : List ARow) → Stands self.old rows false → IfOk result (λ d. Stands self.new (rows ++ row.now ∷ []) false
+            × IsAnswer (root self.old.nodes) self.old.header rows row.now d) }
+        ensures same { IsFor self.old self.new }
+    {
         if self.stopped {
             return Err(EarlyFault::Stopped);
         }
@@ -131,23 +139,37 @@ impl Early {
             self.last = Some(kept);
             return Ok(None);
         }
-        if self.take_row(row).is_err() {
-            self.stopped = true;
-            return Err(EarlyFault::Memory);
+        if self.last.is_none() {
+            let Ok(sets) = first_sets(self.alloc, &self.formula, &self.bound, row) else {
+                self.stopped = true;
+                return Err(EarlyFault::Memory);
+            };
+            self.sets = sets;
+            self.begin = row.time();
+        } else {
+            let Ok(()) = next_sets(
+                &mut self.sets,
+                &self.formula,
+                &self.bound,
+                self.begin,
+                &self.last,
+                row,
+            ) else {
+                self.stopped = true;
+                return Err(EarlyFault::Memory);
+            };
         }
         self.last = Some(kept);
-        match self.verdict() {
-            None => Ok(None),
-            Some(holds) => {
-                let decided = Decided {
-                    at: row.time(),
-                    holds,
-                };
-                self.decided = Some(decided);
-                self.sets = Vec::new(self.alloc);
-                Ok(Some(decided))
-            }
-        }
+        let Some(holds) = root_verdict(&self.sets, self.begin) else {
+            return Ok(None);
+        };
+        let decided = Decided {
+            at: row.time(),
+            holds,
+        };
+        self.decided = Some(decided);
+        self.sets = Vec::new(self.alloc);
+        Ok(Some(decided))
     }
 
     /// The end of the input: the truth at the start.
@@ -155,7 +177,16 @@ impl Early {
     /// # Errors
     ///
     /// `Stopped` where an earlier call answered `Memory`; nothing changes then. `Memory` where there is no memory; then it is stopped.
-    pub fn end(&mut self) -> Result<bool, EarlyFault> {
+    pub fn end(&mut self) -> Result<bool, EarlyFault>
+        requires open { self.old.ended ≡ false }
+        requires fed { IsSome self.old.last }
+        ensures fault { IfErr result (IsFault self.old self.new) }
+        ensures truth { (rows : List ARow) → Stands self.old rows false
+            → IfOk result (IsTruthAtStart (root self.old.nodes) (trace_of self.old.header rows)) }
+        ensures stands { (rows : List ARow) → Stands self.old rows false → IfOk result (λ holds. Stands self.new rows true) }
+        ensures same { IsFor self.old self.new }
+        ensures decided { self.new.decided ≡ self.old.decided }
+    {
         if self.stopped {
             return Err(EarlyFault::Stopped);
         }
@@ -164,22 +195,13 @@ impl Early {
             return Ok(decided.holds);
         }
         let Some(last) = &self.last else {
-            return Ok(false);
+            unreachable!();
         };
-        let sure = Cut::after_whole(i64::from(last.time()));
-        let event = Event {
-            start: Cut::before_whole(i64::from(self.start)),
-            before: sure,
-            sure,
-            first: false,
-            ended: true,
-        };
-        if step_all(&mut self.sets, &self.formula, &self.bound, None, &event).is_err() {
+        let Ok(holds) = end_sets(&mut self.sets, &self.formula, &self.bound, self.begin, last) else {
             self.stopped = true;
             return Err(EarlyFault::Memory);
-        }
+        };
         self.ended = true;
-        let root = &self.sets[self.sets.len() - 1];
-        Ok(root.yes.has(i64::from(self.start)))
+        Ok(holds)
     }
 }

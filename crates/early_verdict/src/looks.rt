@@ -29,9 +29,11 @@ pub(crate) fn each_open(own: &mut Grown, x: &Grown, event: &Event, w: &Window) -
         → Says own.new (SeesOnly w.now (place event.now.start) x.now.spans.items)) }
 {
     if event.first {
-        return own.each_first(x, &event.start, w);
+        own.each_first(x, &event.start, w)?;
+        return Ok(());
     }
-    own.each(x, &event.start, w)
+    own.each(x, &event.start, w)?;
+    Ok(())
 }
 
 /// The times each of whose window is one of the set; at the end of the input each up to the last row.
@@ -49,7 +51,8 @@ pub(crate) fn each_ahead(own: &mut Grown, x: &Grown, event: &Event, w: &Window) 
         → Says own.new (SeesOnlyTo event.now.ended w.now (place event.now.start) (place event.now.sure) x.now.spans.items)) }
 {
     if event.ended {
-        return own.each_last(x, &event.start, &event.sure, w);
+        own.each_last(x, &event.start, &event.sure, w)?;
+        return Ok(());
     }
     each_open(own, x, event, w)?;
     Ok(())

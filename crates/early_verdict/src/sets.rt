@@ -1,4 +1,7 @@
 //! The two sets of a node: the times at which it is certainly true, and those at which it is certainly false.
+ghost use Rattle.std.specs.Prelude.{◌≡◌, None};
+ghost use Rattle.early_verdict.specs.Fitting.{AreEmpty, ArePartsEmpty};
+ghost use Rattle.early_verdict.specs.Making.{HasPartBounds, HasPartsFor};
 
 use crate::grown::Grown;
 use crate::stretch::Stretch;
@@ -47,7 +50,10 @@ pub(crate) struct Sets {
 
 impl Parts {
     /// No times yet, of an until or a since that is asked within the bounds and whose left operand has the sets `left`.
-    fn new(alloc: Global, bounds: Stretch, left: &Sets) -> Parts {
+    fn new(alloc: Global, bounds: Stretch, left: &Sets) -> Parts
+        ensures bounds { HasPartBounds bounds left.now result }
+        ensures empty { ArePartsEmpty result }
+    {
         Parts {
             holding: Holding {
                 both: Grown::new(alloc, left.yes.bounds()),
@@ -67,7 +73,12 @@ impl Parts {
 
 impl Sets {
     /// No times yet.
-    pub(crate) fn new(alloc: Global, bounds: Stretch) -> Sets {
+    pub(crate) fn new(alloc: Global, bounds: Stretch) -> Sets
+        ensures yes { result.yes.bounds ≡ bounds }
+        ensures no { result.no.bounds ≡ bounds }
+        ensures parts { result.parts ≡ None }
+        ensures empty { AreEmpty result }
+    {
         Sets {
             yes: Grown::new(alloc, bounds),
             no: Grown::new(alloc, bounds),
@@ -76,7 +87,12 @@ impl Sets {
     }
 
     /// No times yet, of an until or a since whose left operand has the sets `left`.
-    pub(crate) fn with_parts(alloc: Global, bounds: Stretch, left: &Sets) -> Sets {
+    pub(crate) fn with_parts(alloc: Global, bounds: Stretch, left: &Sets) -> Sets
+        ensures yes { result.yes.bounds ≡ bounds }
+        ensures no { result.no.bounds ≡ bounds }
+        ensures parts { HasPartsFor bounds left.now result }
+        ensures empty { AreEmpty result }
+    {
         Sets {
             yes: Grown::new(alloc, bounds),
             no: Grown::new(alloc, bounds),
