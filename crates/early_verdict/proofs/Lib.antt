@@ -26,4 +26,9 @@ pub mod TickLemmas
 pub mod SharedLemmas
 pub mod BetweenLemmas
 pub mod LastingLemmas
-pub mod Looks
+pub mod LookLemmas
+pub mod FitLemmas
+pub mod Places
+pub mod Netting
+pub mod TopLemmas
+pub mod RowLemmas
