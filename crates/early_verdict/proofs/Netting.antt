@@ -99,8 +99,10 @@ module _ (nodes : List Node) (b : Binding) (e : Event) (before : Option Row) (r 
       record {
         lists = subst (λ (x : Lists). HadLists x s) (sym (lists_are first p w.0 w.1)) (record { yes = step.gains_yes; no = step.gains_no });
         first = had_first p w.0 w.1;
-        yes_after = λ u o. ((asked.yes u).0 (subst (λ x. Lies x u) step.yes (within.yes_within u o))).0;
-        no_after = λ u o. ((asked.no u).0 (subst (λ x. Lies x u) step.no (within.no_within u o))).0;
+        yes_within = within.yes_within;
+        no_within = within.no_within;
+        yes_from = λ u l. ((asked.yes u).0 (subst (λ x. Lies x u) step.yes l)).0;
+        no_from = λ u l. ((asked.no u).0 (subst (λ x. Lies x u) step.no l)).0;
       }
 
   -- until and since have their sets between
@@ -110,14 +112,15 @@ module _ (nodes : List Node) (b : Binding) (e : Event) (before : Option Row) (r 
     where
       is_some : (o : Option Parts) → (o ≡ None → ⊥) → IsSome o
       is_some None f = absurd (f refl)
-      is_some (Some x) f = tt
+      is_some (Some x) f = refl
 
       fail_bounds : (l l' : Sets) → l'.no.bounds ≡ l.no.bounds → HasFailBounds s l → HasFailBounds s l'
       fail_bounds l l' q f = by_parts s.parts f
         where
-          by_parts : (o : Option Parts) → MatchOption o (Unit {0}) (λ x. x.failing.fail.bounds ≡ l.no.bounds) → MatchOption o (Unit {0}) (λ x. x.failing.fail.bounds ≡ l'.no.bounds)
+          by_parts : (o : Option Parts) → MatchOption o (Unit {0}) (λ x. (x.failing.fail.bounds ≡ l.no.bounds) × (x.failing.stop.bounds ≡ l.no.bounds))
+              → MatchOption o (Unit {0}) (λ x. (x.failing.fail.bounds ≡ l'.no.bounds) × (x.failing.stop.bounds ≡ l'.no.bounds))
           by_parts None f = f
-          by_parts (Some x) f = f ∙ sym q
+          by_parts (Some x) f = (f.0 ∙ sym q, f.1 ∙ sym q)
 
       by_left : (o : Option ℕ) → MatchOption o (s.parts ≡ None) (λ p. (top_at tops p ≡ (have.has i n s at is).wide) × ((l : Sets) → slice_get first p ≡ Some l → HasFailBounds s l) × (s.parts ≡ None → ⊥))
           → MatchOption o (Unit {0}) (λ p. IsSome s.parts × ((l : Sets) → slice_get (take i mid) p ≡ Some l → HasFailBounds s l))
