@@ -32,3 +32,4 @@ pub mod Places
 pub mod Netting
 pub mod TopLemmas
 pub mod RowLemmas
+pub mod RunSets

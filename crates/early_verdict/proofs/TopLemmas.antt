@@ -1,6 +1,7 @@
 -- How far the nodes of a formula are asked.
 use Rattle.std.proofs.Common.{◌≡◌, ◌≢◌, ◌⊎◌, inl, inr, refl, sym, ap, subst, ◌∙◌, ℕ, zero, suc, ◌+◌, ◌<◌, ◌≤◌, Option, Some, None, List, [], ◌∷◌, length, drop, arith, get_or-set_other, get_or-set_same, set, below_more}
 use Rattle.std.specs.Prelude.{slice_get, slice_index_or, IfSome, sum_by}
+use Rattle.std.proofs.lemmas.List.Sums.{sum_by-cons}
 use Rattle.stl_syntax.specs.Formula.{HasChildrenBelow}
 use Rattle.stl_syntax.specs.PostOrder.{children}
 use Rattle.stl_syntax.specs.Limits.{own_reach}
@@ -70,7 +71,7 @@ looks_within (Historically p a b i j) = omega arith
 -- the reach from a place on has the node's own
 pub rest_at : (nodes : List Node) (i : ℕ) (n : Node) → slice_get nodes i ≡ Some n → rest_reach nodes i ≡ own_reach n + rest_reach nodes (i + 1)
 rest_at [] i n e = absurd (let f : None ≡ Some n = e in cc)
-rest_at (m ∷ nodes) zero n e = ap (λ x. own_reach x + sum_by own_reach nodes) (same m n e)
+rest_at (m ∷ nodes) zero n e = sum_by-cons own_reach m nodes ∙ ap (λ x. own_reach x + sum_by own_reach nodes) (same m n e)
   where
     same : (a b : Node) → Some a ≡ Some b → a ≡ b
     same a b e = cc
@@ -80,7 +81,7 @@ pub rest_less : (nodes : List Node) (i : ℕ) → rest_reach nodes i ≤ rest_re
 rest_less [] zero = omega arith
 rest_less [] (suc i) = omega arith
 rest_less (m ∷ nodes) zero = omega arith
-rest_less (m ∷ nodes) (suc i) = let h = rest_less nodes i in omega (arith, h)
+rest_less (m ∷ nodes) (suc i) = let h = rest_less nodes i in let c = sum_by-cons own_reach m nodes in omega (arith, h, c)
 
 pub rest_none : (nodes : List Node) → rest_reach nodes (length nodes) ≡ 0
 rest_none [] = refl

@@ -94,7 +94,7 @@ pub record Stands (x : Kept) (rows : List Row) (ended : Bool) : Type 0 where
   pub some : 0 < length x.nodes
   pub scale : Scale
   pub bound : IsBound x.bound (record { nodes = x.nodes; scale = scale }) x.header
-  pub rows : AreRowsSoFar (length x.header.columns) rows
+  pub so_far : AreRowsSoFar (length x.header.columns) rows
   pub running : x.stopped ≡ false
   pub is_ended : x.ended ≡ ended
   pub last : x.last ≡ last_of rows
