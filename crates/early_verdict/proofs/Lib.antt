@@ -33,3 +33,10 @@ pub mod Netting
 pub mod TopLemmas
 pub mod RowLemmas
 pub mod RunSets
+pub mod Operating
+pub mod Windowing
+pub mod Having
+pub mod DecideLemmas
+pub mod EventLemmas
+pub mod GoingOn
+pub mod StandingOn
