@@ -40,3 +40,4 @@ pub mod DecideLemmas
 pub mod EventLemmas
 pub mod GoingOn
 pub mod StandingOn
+pub mod PartSets

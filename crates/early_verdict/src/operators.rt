@@ -43,19 +43,19 @@ fn ticks_before(ticks: u32) -> i64
 fn behind(low: u32, high: Option<u32>, low_in: bool, high_in: bool) -> Window
     ensures { IsBehind result low high low_in high_in }
 {
-    match high {
-        Some(most) => Window {
-            low: Some(ticks_before(most)),
-            high: ticks_before(low),
-            low_in: high_in,
-            high_in: low_in,
-        },
-        None => Window {
+    let Some(most) = high else {
+        return Window {
             low: None,
             high: ticks_before(low),
             low_in: high_in,
             high_in: low_in,
-        },
+        };
+    };
+    Window {
+        low: Some(ticks_before(most)),
+        high: ticks_before(low),
+        low_in: high_in,
+        high_in: low_in,
     }
 }
 
