@@ -1,5 +1,5 @@
 //! Early verdicts: the truth at the start of a trace, told at the first row that settles it. In work: so far the sets of times that
-//! only grow, of which the verdicts are made: of both, of either, and of windows.
+//! only grow, of which the verdicts are made: of both, of either, of windows with their sure times, and of runs that reach another set.
 #![tactic(auto)]
 
 mod atoms;

@@ -18,3 +18,4 @@ pub mod JsonTexts
 pub mod ReportText
 pub mod Lines
 pub mod FaultTexts
+pub mod PartLines

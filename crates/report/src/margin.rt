@@ -99,7 +99,13 @@ fn put_knot(buf: &mut [u8], end: usize, k: &Knot<Margin>, scale: Scale) -> usize
 }
 
 /// Puts the line of the piece between two knots.
-fn put_piece(buf: &mut [u8], end: usize, k: &Knot<Margin>, n: &Knot<Margin>, scale: Scale) -> usize
+pub(crate) fn put_piece(
+    buf: &mut [u8],
+    end: usize,
+    k: &Knot<Margin>,
+    n: &Knot<Margin>,
+    scale: Scale,
+) -> usize
     requires time { scale.time ≤ 6 }
     requires value { scale.value ≤ 6 }
     requires from { IsWithin (2 ^ 34) (value k.now.time) }
@@ -120,7 +126,7 @@ fn put_piece(buf: &mut [u8], end: usize, k: &Knot<Margin>, n: &Knot<Margin>, sca
 }
 
 /// Appends the line of the first knot.
-fn put_first(text: &mut Text, k: &Knot<Margin>, scale: Scale) -> Result<(), Memory>
+pub(crate) fn put_first(text: &mut Text, k: &Knot<Margin>, scale: Scale) -> Result<(), Memory>
     requires time { scale.time ≤ 6 }
     requires value { scale.value ≤ 6 }
     requires within { IsWithin (2 ^ 34) (value k.now.time) }

@@ -1,0 +1,9 @@
+use Rattle.std.proofs.lemmas.Result.{on_err_weaker}
+use Rattle.report.specs.PartLines.{IsGapLine}
+use Rattle.report.proofs.Putting.{unpushed_puts}
+use Rattle.report.proofs.part.put_gap.Goals as goal
+
+pub returns-clause-err : goal.returns-clause-err
+returns-clause-err c =
+    on_err_weaker c.push.result
+    (unpushed_puts (IsGapLine c.args.scale c.args.from c.args.to c.args.piece) c.args.text.now c.push.new.self c.put_piece-at.ensures) c.push.ensures.err

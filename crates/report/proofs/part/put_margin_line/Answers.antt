@@ -1,0 +1,16 @@
+use Rattle.std.proofs.Common.{subst, sym}
+use Rattle.std.specs.Prelude.{OnErr}
+use Rattle.report.specs.Appended.{GrewInPart}
+use Rattle.report.specs.PartLines.{IsPartLine}
+use Rattle.report.specs.declared.part.MarginPart.{MarginPart}
+use Rattle.report.proofs.part.put_margin_line.Goals as goal
+
+pub returns-in-Point-clause-err : goal.returns-in-Point-clause-err
+returns-in-Point-clause-err c =
+    subst (λ (l : MarginPart). OnErr c.put_first.result (GrewInPart (IsPartLine c.args.scale l) c.args.text.now c.put_first.new.text))
+    (sym c.in-Point.is) c.put_first.ensures.err
+
+pub returns-in-Gap-clause-err : goal.returns-in-Gap-clause-err
+returns-in-Gap-clause-err c =
+    subst (λ (l : MarginPart). OnErr c.put_gap.result (GrewInPart (IsPartLine c.args.scale l) c.args.text.now c.put_gap.new.text))
+    (sym c.in-Gap.is) c.put_gap.ensures.err
