@@ -26,4 +26,5 @@ pub mod TickLemmas
 pub mod SharedLemmas
 pub mod BetweenLemmas
 pub mod LastingLemmas
-pub mod Looks
+pub mod LookLemmas
+pub mod TopsLemmas

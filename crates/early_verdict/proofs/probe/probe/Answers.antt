@@ -2,7 +2,7 @@ use Rattle.std.proofs.Common.{refl}
 use Rattle.early_verdict.proofs.UntilSets.{until_is_true}
 use Rattle.early_verdict.proofs.AllSets.{all_known, all_final}
 use Rattle.early_verdict.proofs.AtomSets.{atom_fits}
-use Rattle.early_verdict.proofs.Looks.{was_sure}
+use Rattle.early_verdict.proofs.LookLemmas.{was_sure}
 use Rattle.early_verdict.proofs.probe.probe.Goals as goal
 
 pub returns : goal.returns
