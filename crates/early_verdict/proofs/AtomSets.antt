@@ -1,5 +1,5 @@
 -- What a row adds to the two sets of an atom, piece by piece.
-use Rattle.std.proofs.Common.{◌≡◌, ◌⊎◌, inl, inr, refl, sym, ap, subst, ◌∙◌, ℕ, ◌<◌, arith, Bool, true, false, Option, Some, None, List, []}
+use Rattle.std.proofs.Common.{◌≡◌, ◌⊎◌, inl, inr, refl, sym, ap, subst, ◌∙◌, ℕ, ◌<◌, arith, Bool, true, false, Option, Some, None, List, [], ◌++◌, append_assoc}
 use Rattle.std.specs.Prelude.{MatchOption, IfSome, IsTrue, IsFalse}
 use Rattle.rational.specs.Time.{Rational, ◌≤ʳ◌, ◌<ʳ◌, ◌≈◌}
 use Rattle.rational.proofs.Order.{le_refl, le_trans, le_of_lt, le_or_lt, lt_or_same_or_gt, le_of_same, ge_of_same, same_of_le, same_refl, not_lt_of_le, lt_of_lt_of_le, lt_of_le_of_lt, lt_irrefl}
@@ -11,7 +11,7 @@ use Rattle.atom_lines.specs.Binding.{AreNeighbours}
 use Rattle.early_verdict.specs.Cuts.{Place, place, After, Upto, Same}
 use Rattle.early_verdict.specs.Spans.{Lies, IsOn, Grows}
 use Rattle.early_verdict.specs.Steps.{Tells, Gains}
-use Rattle.early_verdict.specs.Adding.{HasAdded, HasRested, Piece, ThreePieces, BetweenRows, AfterRow, IsNextRow, before_row, after_row}
+use Rattle.early_verdict.specs.Adding.{Enlarges, HasAdded, HasGrown, HasRested, Piece, ThreePieces, BetweenRows, AfterRow, IsNextRow, before_row, after_row}
 use Rattle.early_verdict.specs.Fitting.{AtomFits, SayBoth, AreSetsTidy, HasStepped, Says}
 use Rattle.early_verdict.specs.Happening.{Was}
 use Rattle.early_verdict.specs.declared.stretch.Stretch.{Stretch}
@@ -19,7 +19,7 @@ use Rattle.early_verdict.specs.declared.sets.Sets.{Sets}
 use Rattle.early_verdict.proofs.PlaceLemmas.{upto_same, after_same, same_places}
 use Rattle.early_verdict.proofs.GrowingLemmas.{grows_not}
 use Rattle.early_verdict.proofs.LoopLemmas.{grows_then, grows_alike}
-use Rattle.early_verdict.proofs.StepLemmas.{gains_of}
+use Rattle.early_verdict.proofs.Absorbing.{no_more, on_append, on_first, on_second}
 use Rattle.early_verdict.proofs.Telling.{parts_kept}
 
 -- one thing is added after another
@@ -118,17 +118,75 @@ module _ (a : Atom) (tr : Trace) (q r : Row) (from to : Place) (starts : Same fr
         ]
       ]
 
+-- what was added made both sets grow
+pub grown_of : (a b : Sets) (Q : Bool → Rational → Type 0) → HasAdded a b Q → HasGrown a b
+grown_of a b Q h = record {
+  tidy = h.tidy;
+  parts = h.parts;
+  yes_bounds = h.yes_bounds;
+  no_bounds = h.no_bounds;
+  yes = record { more = h.yes.more; noted = h.yes.noted; keeps = h.yes.keeps; gained = h.yes.gained; own = λ t m. (h.yes.news t m).0 };
+  no = record { more = h.no.more; noted = h.no.noted; keeps = h.no.keeps; gained = h.no.gained; own = λ t m. (h.no.news t m).0 };
+}
+
+enlarges_then : (old mid new told some fresh : List Stretch) → Enlarges old mid told some → Enlarges mid new some fresh → Enlarges old new told fresh
+enlarges_then old mid new told some fresh f g = record {
+  more = f.more ++ g.more;
+  noted = g.noted ∙ ap (λ xs. xs ++ g.more) f.noted ∙ append_assoc told f.more g.more;
+  keeps = λ t h. g.keeps t (f.keeps t h);
+  gained = λ t h. elim (g.gained t h) [
+    | inl m ↦ elim (f.gained t m) [ inl o ↦ inl o | inr k ↦ inr (on_first f.more g.more t k) ]
+    | inr k ↦ inr (on_second f.more g.more t k)
+  ];
+  own = λ t h. elim (on_append f.more g.more t h) [ inl k ↦ g.keeps t (f.own t k) | inr k ↦ g.own t k ];
+}
+
+pub grown_then : (a b c : Sets) → HasGrown a b → HasGrown b c → HasGrown a c
+grown_then a b c f g = record {
+  tidy = g.tidy;
+  parts = g.parts ∙ f.parts;
+  yes_bounds = g.yes_bounds ∙ f.yes_bounds;
+  no_bounds = g.no_bounds ∙ f.no_bounds;
+  yes = enlarges_then a.yes.spans.items b.yes.spans.items c.yes.spans.items a.yes.fresh.items b.yes.fresh.items c.yes.fresh.items f.yes g.yes;
+  no = enlarges_then a.no.spans.items b.no.spans.items c.no.spans.items a.no.fresh.items b.no.fresh.items c.no.fresh.items f.no g.no;
+}
+
+-- nothing was added
+pub grown_none : (a : Sets) → AreSetsTidy a → HasGrown a a
+grown_none a tidy = record {
+  tidy = tidy;
+  parts = refl;
+  yes_bounds = refl;
+  no_bounds = refl;
+  yes = none a.yes.spans.items a.yes.fresh.items;
+  no = none a.no.spans.items a.no.fresh.items;
+}
+  where
+    none : (xs told : List Stretch) → Enlarges xs xs told told
+    none xs told = record { more = []; noted = no_more told; keeps = λ t h. h; gained = λ t h. inl h; own = λ t h. absurd h }
+
+-- where nothing was told before, what is told is what was gained
+gains_by : (old new told fresh : List Stretch) → told ≡ [] → Enlarges old new told fresh → Gains old new fresh
+gains_by old new told fresh none g = record {
+  kept = g.keeps;
+  gained = λ t n. elim (g.gained t n) [ inl o ↦ inl o | inr m ↦ inr (subst (λ xs. IsOn xs t) (sym all) m) ];
+  own = λ t m. g.own t (subst (λ xs. IsOn xs t) all m);
+}
+  where
+    all : fresh ≡ g.more
+    all = g.noted ∙ subst (λ xs. xs ++ g.more ≡ g.more) (sym none) refl
+
 -- after a rest, gap and row are new
-pub atom_stepped : (old mid new : Sets) (Q : Bool → Rational → Type 0) → HasRested old mid → HasAdded mid new Q → HasStepped old new
-atom_stepped old mid new Q r g = record {
+pub atom_stepped : (old mid new : Sets) → HasRested old mid → HasGrown mid new → HasStepped old new
+atom_stepped old mid new r g = record {
   tidy = g.tidy;
   yes = g.yes_bounds ∙ r.yes_bounds;
   no = g.no_bounds ∙ r.no_bounds;
   parts = parts_kept old.parts new.parts (g.parts ∙ r.parts);
   gains_yes = subst (λ xs. Gains xs new.yes.spans.items new.yes.fresh.items) r.yes
-      (gains_of mid.yes.bounds mid.yes.spans.items new.yes.spans.items mid.yes.fresh.items new.yes.fresh.items (Q true) r.yes_fresh g.yes);
+      (gains_by mid.yes.spans.items new.yes.spans.items mid.yes.fresh.items new.yes.fresh.items r.yes_fresh g.yes);
   gains_no = subst (λ xs. Gains xs new.no.spans.items new.no.fresh.items) r.no
-      (gains_of mid.no.bounds mid.no.spans.items new.no.spans.items mid.no.fresh.items new.no.fresh.items (Q false) r.no_fresh g.no);
+      (gains_by mid.no.spans.items new.no.spans.items mid.no.fresh.items new.no.fresh.items r.no_fresh g.no);
 }
 
 -- the truth of an atom up to the row
@@ -222,3 +280,22 @@ module _ (a : Atom) (tr : Trace) (before : Option Row) (r : Row) (holds : Bool) 
           → MatchOption old (was.no.spans.items ≡ []) (λ o. Tells was.no.bounds was.no.spans.items (λ t. (t ≤ʳ stop o) × (holds_at a o t ≡ false)))
       was_no None w = w.no
       was_no (Some o) w = w.no
+
+-- what a rest and nothing more makes of an atom's sets
+pub rested_fits : (a : Atom) (tr : Trace) (was new : Sets) → HasRested was new → AtomFits a tr was → AtomFits a tr new
+rested_fits a tr was new r h = record {
+  yes = subst (λ b. Tells b new.yes.spans.items (λ t. (t ≤ʳ stop tr) × IsTrue (holds_at a tr t))) (sym r.yes_bounds)
+      (subst (λ xs. Tells was.yes.bounds xs (λ t. (t ≤ʳ stop tr) × IsTrue (holds_at a tr t))) (sym r.yes) h.yes);
+  no = subst (λ b. Tells b new.no.spans.items (λ t. (t ≤ʳ stop tr) × IsFalse (holds_at a tr t))) (sym r.no_bounds)
+      (subst (λ xs. Tells was.no.bounds xs (λ t. (t ≤ʳ stop tr) × IsFalse (holds_at a tr t))) (sym r.no) h.no);
+}
+
+-- where the rows stand side by side
+pub near_of : (a : Atom) (old : Option Trace) (tr : Trace) (before : Option Row) (r : Row) → IsNextRow a old tr before r → IfSome before (λ q. AreNeighbours tr q r)
+near_of a old tr before r h = by_old old h.first
+  where
+    by_old : (old : Option Trace) → MatchOption old ((before ≡ None) × (start tr ≡ row_time r))
+        (λ o. (q : Row) × (before ≡ Some q) × (stop o ≡ row_time q) × (q.time < r.time) × AreNeighbours tr q r
+        × ((t : Rational) → start tr ≤ʳ t → t ≤ʳ stop o → holds_at a tr t ≡ holds_at a o t)) → IfSome before (λ q. AreNeighbours tr q r)
+    by_old None h = subst (λ b. IfSome b (λ q. AreNeighbours tr q r)) (sym h.0) tt
+    by_old (Some o) h = subst (λ b. IfSome b (λ q. AreNeighbours tr q r)) (sym h.1) h.4

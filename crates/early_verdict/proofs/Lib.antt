@@ -27,4 +27,10 @@ pub mod SharedLemmas
 pub mod BetweenLemmas
 pub mod LastingLemmas
 pub mod LookLemmas
+pub mod FitLemmas
+pub mod Places
+pub mod Netting
+pub mod TopLemmas
+pub mod RowLemmas
+pub mod RunSets
 pub mod TopsLemmas

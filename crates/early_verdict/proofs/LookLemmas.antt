@@ -174,3 +174,10 @@ module _ (e : Event) (tr : Trace) (x : Grown) (l : List Stretch) where
 -- what a list had, the list has
 pub kept_from : (was now more : List Stretch) (from : Rational) → Gains was now more → ((u : Rational) → IsOn now u → from ≤ʳ u) → (u : Rational) → IsOn was u → from ≤ʳ u
 kept_from was now more from g f u o = f u (g.kept u o)
+
+-- no time of a child lies before the start
+pub yes_after : (old : Option Trace) (tr : Trace) (l : Lists) (s : Sets) → Had old tr l s → (u : Rational) → IsOn s.yes.spans.items u → start tr ≤ʳ u
+yes_after old tr l s h u o = h.yes_from u (h.yes_within u o)
+
+pub no_after : (old : Option Trace) (tr : Trace) (l : Lists) (s : Sets) → Had old tr l s → (u : Rational) → IsOn s.no.spans.items u → start tr ≤ʳ u
+no_after old tr l s h u o = h.no_from u (h.no_within u o)

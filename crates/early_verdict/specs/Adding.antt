@@ -1,5 +1,5 @@
 -- What a row adds to the two sets of an atom.
-use Rattle.std.specs.Prelude.{◌≡◌, ◌<◌, ◌⊎◌, ℕ, Bool, true, false, Option, Some, None, List, [], MatchOption}
+use Rattle.std.specs.Prelude.{◌≡◌, ◌<◌, ◌⊎◌, ℕ, Bool, true, false, Option, Some, None, List, [], ◌++◌, MatchOption}
 use Rattle.rational.specs.Time.{Rational, ◌≤ʳ◌, ◌<ʳ◌}
 use Rattle.frac128.specs.Value.{value}
 use Rattle.stl_syntax.specs.Trace.{Row, Trace, row_time, start, stop}
@@ -7,9 +7,10 @@ use Rattle.stl_syntax.specs.Truth.{holds_at}
 use Rattle.stl_syntax.specs.declared.atom.Atom.{Atom}
 use Rattle.atom_lines.specs.Binding.{Binding, IsFor, HasRow, AreNeighbours}
 use Rattle.early_verdict.specs.Cuts.{Place, After, Upto}
-use Rattle.early_verdict.specs.Spans.{Grows}
+use Rattle.early_verdict.specs.Spans.{Grows, IsOn}
 use Rattle.early_verdict.specs.Fitting.{AreSetsTidy}
 use Rattle.early_verdict.specs.declared.sets.Sets.{Sets}
+use Rattle.early_verdict.specs.declared.stretch.Stretch.{Stretch}
 
 -- the two sets grew by the times at which the atom has the truth true, and by those at which it has the truth false
 pub record HasAdded (old new : Sets) (Q : Bool → Rational → Type 0) : Type 0 where
@@ -19,6 +20,23 @@ pub record HasAdded (old new : Sets) (Q : Bool → Rational → Type 0) : Type 0
   pub no_bounds : new.no.bounds ≡ old.no.bounds
   pub yes : Grows old.yes.bounds old.yes.spans.items new.yes.spans.items old.yes.fresh.items new.yes.fresh.items (Q true)
   pub no : Grows old.no.bounds old.no.spans.items new.no.spans.items old.no.fresh.items new.no.fresh.items (Q false)
+
+-- a list got more, and what is new of it is noted
+pub record Enlarges (old new told fresh : List Stretch) : Type 0 where
+  pub more : List Stretch
+  pub noted : fresh ≡ told ++ more
+  pub keeps : (t : Rational) → IsOn old t → IsOn new t
+  pub gained : (t : Rational) → IsOn new t → IsOn old t ⊎ IsOn more t
+  pub own : (t : Rational) → IsOn more t → IsOn new t
+
+-- both sets grew by some times
+pub record HasGrown (old new : Sets) : Type 0 where
+  pub tidy : AreSetsTidy new
+  pub parts : new.parts ≡ old.parts
+  pub yes_bounds : new.yes.bounds ≡ old.yes.bounds
+  pub no_bounds : new.no.bounds ≡ old.no.bounds
+  pub yes : Enlarges old.yes.spans.items new.yes.spans.items old.yes.fresh.items new.yes.fresh.items
+  pub no : Enlarges old.no.spans.items new.no.spans.items old.no.fresh.items new.no.fresh.items
 
 -- between two places it has the truth b
 abbrev pub Piece : Bool → Place → Place → Bool → Rational → Type 0

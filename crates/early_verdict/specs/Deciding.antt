@@ -1,13 +1,16 @@
 -- When an early verdict stands for rows, and what its calls answer.
-use Rattle.std.specs.Prelude.{◌≡◌, ℕ, ◌-◌, ◌<◌, Bool, true, false, List, [], ◌∷◌, ◌++◌, length, Option, Some, None, MatchOption, MatchBool, IfSome}
-use Rattle.stl_syntax.specs.Trace.{Header, Row, Trace, AreRows, row_time, start}
-use Rattle.stl_syntax.specs.Formula.{Subformula, root}
+use Rattle.std.specs.Prelude.{◌≡◌, ℕ, ◌-◌, ◌<◌, Bool, true, false, List, [], ◌∷◌, ◌++◌, length, Option, Some, None, MatchOption, MatchBool, pos}
+use Rattle.stl_syntax.specs.Trace.{Header, Row, Trace, AreRows, start}
+use Rattle.rational.specs.Time.{whole}
+use Rattle.stl_syntax.specs.Formula.{Formula, Subformula, root}
 use Rattle.stl_syntax.specs.Truth.{Truth}
 use Rattle.stl_syntax.specs.Early.{NoneDecides, FirstDecides}
 use Rattle.stl_syntax.specs.WellFormed.{AreWellFormed}
 use Rattle.stl_syntax.specs.declared.node.Node.{Node}
 use Rattle.stl_syntax.specs.declared.scale.Scale.{Scale}
 use Rattle.atom_lines.specs.Binding.{Binding, IsBound}
+use Rattle.early_verdict.specs.Spans.{IsOn}
+use Rattle.early_verdict.specs.Fitting.{lists_at}
 use Rattle.early_verdict.specs.Standing.{AllFit, AllTidy, HaveSets}
 use Rattle.early_verdict.specs.declared.sets.Sets.{Sets}
 use Rattle.early_verdict.specs.declared.early.Decided.{Decided}
@@ -52,9 +55,25 @@ pub record SetsStand (nodes : List Node) (tr : Trace) (sets : List Sets) : Type 
   pub fit : AllFit nodes false tr sets
 
 -- before any row there are none
-abbrev pub SetsOf : Kept → List Row → Type 0
-SetsOf x [] = x.sets ≡ []
-SetsOf x (r ∷ rows) = (x.begin ≡ r.time) × SetsStand x.nodes (trace_of x.header (r ∷ rows)) x.sets
+abbrev pub SetsAre : List Node → Header → ℕ → List Sets → List Row → Type 0
+SetsAre nodes header begin sets [] = sets ≡ []
+SetsAre nodes header begin sets (r ∷ rows) = (begin ≡ r.time) × SetsStand nodes (trace_of header (r ∷ rows)) sets
+
+-- what is kept while nothing is decided: the rows are so far those of a trace for the formula, and the sets tell what they settle
+pub record IsOpen (f : Formula) (b : Binding) (header : Header) (rows : List Row) (begin : ℕ) (last : Option Row) (sets : List Sets) : Type 0 where
+  pub bound : IsBound b f header
+  pub formed : AreWellFormed f.nodes
+  pub some : 0 < length f.nodes
+  pub so_far : AreRowsSoFar (length header.columns) rows
+  pub ends : last ≡ last_of rows
+  pub sets_are : SetsAre f.nodes header begin sets rows
+
+-- the sets of the root, the last, say of the start that it is certainly true, certainly false, or neither
+abbrev pub IsVerdict : List Sets → ℕ → Option Bool → Type 0
+IsVerdict sets start verdict =
+    let root = lists_at sets (length sets - 1) in
+    let at = whole (pos start) in
+    MatchOption verdict (¬ (IsOn root.yes at) × ¬ (IsOn root.no at)) (λ holds. MatchBool holds (IsOn root.yes at) (IsOn root.no at))
 
 -- one of the rows was the first that decided, at its time and with its verdict
 pub record WasDecided (p : Subformula) (header : Header) (rows : List Row) (d : Decided) : Type 0 where
@@ -67,7 +86,7 @@ pub record WasDecided (p : Subformula) (header : Header) (rows : List Row) (d : 
 
 -- nothing is decided, and the sets tell what is settled so far; or a row has decided
 abbrev pub StandsBy : Kept → List Row → Type 0
-StandsBy x rows = MatchOption x.decided (NoneDecides (root x.nodes) x.header rows × (x.ended ≡ false → SetsOf x rows)) (WasDecided (root x.nodes) x.header rows)
+StandsBy x rows = MatchOption x.decided (NoneDecides (root x.nodes) x.header rows × (x.ended ≡ false → SetsAre x.nodes x.header x.begin x.sets rows)) (WasDecided (root x.nodes) x.header rows)
 
 -- an early verdict stands for these rows, ended or not
 pub record Stands (x : Kept) (rows : List Row) (ended : Bool) : Type 0 where
@@ -75,7 +94,7 @@ pub record Stands (x : Kept) (rows : List Row) (ended : Bool) : Type 0 where
   pub some : 0 < length x.nodes
   pub scale : Scale
   pub bound : IsBound x.bound (record { nodes = x.nodes; scale = scale }) x.header
-  pub rows : AreRowsSoFar (length x.header.columns) rows
+  pub so_far : AreRowsSoFar (length x.header.columns) rows
   pub running : x.stopped ≡ false
   pub is_ended : x.ended ≡ ended
   pub last : x.last ≡ last_of rows

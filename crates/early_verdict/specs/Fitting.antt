@@ -218,4 +218,4 @@ pub record HadLists (old : Lists) (s : Sets) : Type 0 where
 
 -- the failures of an until or a since are looked for as far as those of its left operand
 abbrev pub HasFailBounds : Sets → Sets → Type 0
-HasFailBounds s left = MatchOption s.parts (Unit {0}) (λ x. x.failing.fail.bounds ≡ left.no.bounds)
+HasFailBounds s left = MatchOption s.parts (Unit {0}) (λ x. (x.failing.fail.bounds ≡ left.no.bounds) × (x.failing.stop.bounds ≡ left.no.bounds))

@@ -5,7 +5,7 @@ use Rattle.rational.specs.Time.{Rational, ◌≤ʳ◌}
 use Rattle.frac128.specs.Value.{value}
 use Rattle.stl_syntax.specs.Trace.{Trace, start}
 use Rattle.early_verdict.specs.Cuts.{place, AtMost, Same}
-use Rattle.early_verdict.specs.Spans.{IsOn}
+use Rattle.early_verdict.specs.Spans.{IsOn, Lies}
 use Rattle.early_verdict.specs.Fitting.{Lists, nothing, HadLists, AreEmpty, start_place, sure_place}
 use Rattle.early_verdict.specs.declared.event.Event.{Event}
 use Rattle.early_verdict.specs.declared.sets.Sets.{Sets}
@@ -28,9 +28,12 @@ abbrev pub Was : Option Trace → (Trace → Sets → Type 0) → Sets → Type 
 Was None F s = AreEmpty s
 Was (Some o) F s = F o s
 
--- these are the lists of the sets before what is fresh in them; before any row there was nothing; and none lies before the start
+-- these are the lists of the sets before what is fresh in them; before any row there was nothing; and none
+-- lies before the start
 pub record Had (old : Option Trace) (tr : Trace) (l : Lists) (s : Sets) : Type 0 where
   pub lists : HadLists l s
   pub first : MatchOption old (l ≡ nothing) (λ o. Unit {0})
-  pub yes_after : (u : Rational) → IsOn s.yes.spans.items u → start tr ≤ʳ u
-  pub no_after : (u : Rational) → IsOn s.no.spans.items u → start tr ≤ʳ u
+  pub yes_within : (u : Rational) → IsOn s.yes.spans.items u → Lies s.yes.bounds u
+  pub no_within : (u : Rational) → IsOn s.no.spans.items u → Lies s.no.bounds u
+  pub yes_from : (u : Rational) → Lies s.yes.bounds u → start tr ≤ʳ u
+  pub no_from : (u : Rational) → Lies s.no.bounds u → start tr ≤ʳ u

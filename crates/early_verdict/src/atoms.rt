@@ -1,12 +1,12 @@
 //! What a row adds to the two sets of an atom.
-ghost use Rattle.std.specs.Prelude.{◌≡◌, ◌<◌, ◌⊎◌, OnOk, IfSome, Option, length, pos};
+ghost use Rattle.std.specs.Prelude.{◌≡◌, ◌<◌, ◌⊎◌, OnOk, IfSome, Option, length, pos, true, false};
 ghost use Rattle.rational.specs.Rational.{whole};
 ghost use Rattle.rational.specs.Time.{Rational, ◌≤ʳ◌};
 ghost use Rattle.frac128.specs.Value.{value};
 ghost use Rattle.stl_syntax.specs.Trace.{Trace, start};
 ghost use Rattle.stl_syntax.specs.declared.atom.Atom.{Atom};
 ghost use Rattle.atom_lines.specs.Binding.{AreNeighbours, IsAtomNode, IsFor};
-ghost use Rattle.early_verdict.specs.Adding.{AfterRow, BetweenRows, HasAdded, HasRested, IsNextRow, Piece, ThreePieces};
+ghost use Rattle.early_verdict.specs.Adding.{AfterRow, BetweenRows, HasAdded, HasGrown, HasRested, IsNextRow, Piece, ThreePieces};
 ghost use Rattle.early_verdict.specs.Cuts.{place, Same};
 ghost use Rattle.early_verdict.specs.Spans.{Lies};
 ghost use Rattle.early_verdict.specs.Fitting.{AreSetsTidy, AtomFits, HasStepped};
@@ -81,7 +81,8 @@ fn add_gap(own: &mut Sets, bound: &Bound, node: u32, first: &Row, row: &Row) -> 
     requires first { length first.now.values ≡ bound.now.width }
     requires second { length row.now.values ≡ bound.now.width }
     requires later { first.now.time < row.now.time }
-    ensures { OnOk result ((a : Atom) (tr : Trace) → IsFor bound.now node a tr → AreNeighbours tr first.now row.now
+    ensures grown { OnOk result (HasGrown own.old own.new) }
+    ensures added { OnOk result ((a : Atom) (tr : Trace) → IsFor bound.now node a tr → AreNeighbours tr first.now row.now
         → HasAdded own.old own.new (BetweenRows a tr first.now row.now)) }
 {
     let from = after_tick(first.time());
@@ -131,7 +132,8 @@ fn add_before(
     requires first { IfSome before.now (λ r. length r.values ≡ bound.now.width) }
     requires second { length row.now.values ≡ bound.now.width }
     requires later { IfSome before.now (λ r. r.time < row.now.time) }
-    ensures { OnOk result ((a : Atom) (tr : Trace) → IsFor bound.now node a tr → IfSome before.now (λ q. AreNeighbours tr q row.now)
+    ensures grown { OnOk result (HasGrown own.old own.new) }
+    ensures added { OnOk result ((a : Atom) (tr : Trace) → IsFor bound.now node a tr → IfSome before.now (λ q. AreNeighbours tr q row.now)
         → HasAdded own.old own.new (AfterRow a tr before.now row.now)) }
 {
     match before {

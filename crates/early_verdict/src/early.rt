@@ -2,12 +2,12 @@
 //!
 //! An early verdict stands for the rows that it took, and whether they have ended. It stores none of them: what its sets tell is what the
 //! rows settle, whatever they were.
-ghost use Rattle.std.specs.Prelude.{◌≡◌, ◌<◌, ◌+◌, ◌++◌, ◌∷◌, [], List, length, IfOk, IfSome, IsSome, MatchResult, MatchOption, Some, None, Option, true, false};
-ghost use Rattle.stl_syntax.specs.Trace.{Header as AHeader, Row as ARow};
+ghost use Rattle.std.specs.Prelude.{◌≡◌, ◌<◌, ◌++◌, ◌∷◌, [], List, length, IfOk, IfSome, IsSome, MatchResult, IfErr, None, false, option_map};
+ghost use Rattle.stl_syntax.specs.Trace.{Row as ARow};
 ghost use Rattle.stl_syntax.specs.Formula.{root};
 ghost use Rattle.atom_lines.specs.Binding.{IsBound};
 
-use crate::events::{end_sets, first_sets, next_sets, root_verdict};
+use crate::events::{end_sets, root_verdict, take_row};
 use crate::sets::Sets;
 use atom_lines::Bound;
 use std::alloc::Global;
@@ -81,6 +81,25 @@ impl Model for Early {
     }) };
 }
 
+/// The verdict with the time of the row that decided it.
+fn decided_at(at: u32, verdict: Option<bool>) -> Option<Decided>
+    ensures { result ≡ option_map (λ holds. record { at = at; holds = holds }) verdict }
+{
+    match verdict {
+        Some(holds) => Some(Decided { at, holds }),
+        None => None,
+    }
+}
+
+/// Lets the sets go once a row has decided.
+fn let_go(sets: &mut Vec<Sets>, decided: &Option<Decided>)
+    ensures { decided.now ≡ None → sets.new.items ≡ sets.old.items }
+{
+    if decided.is_some() {
+        sets.clear();
+    }
+}
+
 impl Early {
     ghost use Rattle.early_verdict.specs.Deciding.{IsAnswer, IsFault, IsFed, IsFor, IsTruthAtStart, Stands, trace_of};
 
@@ -139,37 +158,24 @@ impl Early {
             self.last = Some(kept);
             return Ok(None);
         }
-        if self.last.is_none() {
-            let Ok(sets) = first_sets(self.alloc, &self.formula, &self.bound, row) else {
-                self.stopped = true;
-                return Err(EarlyFault::Memory);
-            };
-            self.sets = sets;
-            self.begin = row.time();
-        } else {
-            let Ok(()) = next_sets(
-                &mut self.sets,
-                &self.formula,
-                &self.bound,
-                self.begin,
-                &self.last,
-                row,
-            ) else {
-                self.stopped = true;
-                return Err(EarlyFault::Memory);
-            };
-        }
+        let Ok(begin) = take_row(
+            self.alloc,
+            &mut self.sets,
+            &self.formula,
+            &self.bound,
+            self.begin,
+            &self.last,
+            row,
+        ) else {
+            self.stopped = true;
+            return Err(EarlyFault::Memory);
+        };
+        let decided = decided_at(row.time(), root_verdict(&self.sets, begin));
+        let_go(&mut self.sets, &decided);
+        self.begin = begin;
         self.last = Some(kept);
-        let Some(holds) = root_verdict(&self.sets, self.begin) else {
-            return Ok(None);
-        };
-        let decided = Decided {
-            at: row.time(),
-            holds,
-        };
-        self.decided = Some(decided);
-        self.sets = Vec::new(self.alloc);
-        Ok(Some(decided))
+        self.decided = decided;
+        Ok(decided)
     }
 
     /// The end of the input: the truth at the start.
@@ -194,10 +200,13 @@ impl Early {
             self.ended = true;
             return Ok(decided.holds);
         }
-        let Some(last) = &self.last else {
-            unreachable!();
-        };
-        let Ok(holds) = end_sets(&mut self.sets, &self.formula, &self.bound, self.begin, last) else {
+        let Ok(holds) = end_sets(
+            &mut self.sets,
+            &self.formula,
+            &self.bound,
+            self.begin,
+            &self.last,
+        ) else {
             self.stopped = true;
             return Err(EarlyFault::Memory);
         };

@@ -1,11 +1,10 @@
 //! Rows and the end of the input, as they come to the sets of all nodes.
-ghost use Rattle.std.specs.Prelude.{◌≡◌, ◌≤◌, ◌<◌, ◌+◌, ◌++◌, ◌∷◌, [], ℕ, List, length, IfOk, OnOk, IfSome, Some, None, Option, MatchOption, slice_get, Bool, IsSome, IfNone};
-ghost use Rattle.stl_syntax.specs.Trace.{Header, Row as ARow, AreRows};
-ghost use Rattle.stl_syntax.specs.Formula.{Formula as AFormula, root, subformula};
-ghost use Rattle.stl_syntax.specs.Early.{Decides};
-ghost use Rattle.atom_lines.specs.Binding.{IsBound};
-ghost use Rattle.early_verdict.specs.Deciding.{IsTruthAtStart, SetsStand, trace_of, last_after};
-ghost use Rattle.early_verdict.specs.declared.sets.Sets.{Sets as ASets};
+ghost use Rattle.std.specs.Prelude.{◌≡◌, ◌<◌, ◌++◌, ◌∷◌, ◌-◌, [], List, length, IfOk, IfSome, Some, None, Option, true, false};
+ghost use Rattle.stl_syntax.specs.Trace.{Header, Row as ARow};
+ghost use Rattle.stl_syntax.specs.Formula.{root};
+ghost use Rattle.early_verdict.specs.Happening.{Happens, IsEvent};
+ghost use Rattle.early_verdict.specs.Standing.{AllTidy};
+ghost use Rattle.early_verdict.specs.Deciding.{IsOpen, IsTruthAtStart, IsVerdict, SetsAre, last_after, trace_of};
 
 use crate::cut::Cut;
 use crate::event::Event;
@@ -19,7 +18,12 @@ use stl_syntax::Formula;
 use trace_reader::Row;
 
 /// The first row of a trace.
-fn first_event(row: &Row) -> Event {
+fn first_event(row: &Row) -> Event
+    ensures event { IsEvent result }
+    ensures first { result.first ≡ true }
+    ensures open { result.ended ≡ false }
+    ensures happens { (header : Header) → Happens result None (trace_of header (row.now ∷ [])) }
+{
     let start = Cut::before_whole(i64::from(row.time()));
     Event {
         start,
@@ -31,7 +35,14 @@ fn first_event(row: &Row) -> Event {
 }
 
 /// A row after another, of a trace that starts there.
-fn next_event(start: u32, last: &Row, row: &Row) -> Event {
+fn next_event(start: u32, last: &Row, row: &Row) -> Event
+    requires { last.now.time < row.now.time }
+    ensures event { IsEvent result }
+    ensures first { result.first ≡ false }
+    ensures open { result.ended ≡ false }
+    ensures happens { (header : Header) (r : ARow) (rows : List ARow) → start ≡ r.time → last.now ≡ last_after r rows
+        → Happens result (Some (trace_of header (r ∷ rows))) (trace_of header (r ∷ (rows ++ row.now ∷ []))) }
+{
     Event {
         start: Cut::before_whole(i64::from(start)),
         before: Cut::after_whole(i64::from(last.time())),
@@ -42,7 +53,13 @@ fn next_event(start: u32, last: &Row, row: &Row) -> Event {
 }
 
 /// The end of a trace that starts there, after its last row.
-fn end_event(start: u32, last: &Row) -> Event {
+fn end_event(start: u32, last: &Row) -> Event
+    ensures event { IsEvent result }
+    ensures first { result.first ≡ false }
+    ensures ended { result.ended ≡ true }
+    ensures happens { (header : Header) (r : ARow) (rows : List ARow) → start ≡ r.time → last.now ≡ last_after r rows
+        → Happens result (Some (trace_of header (r ∷ rows))) (trace_of header (r ∷ rows)) }
+{
     let sure = Cut::after_whole(i64::from(last.time()));
     Event {
         start: Cut::before_whole(i64::from(start)),
@@ -53,49 +70,78 @@ fn end_event(start: u32, last: &Row) -> Event {
     }
 }
 
-/// The sets after the first row.
-pub(crate) fn first_sets(
+/// The sets after the first row, of nothing before.
+fn take_first(
     alloc: Global,
-    formula: &Formula,
-    bound: &Bound,
-    row: &Row,
-) -> Result<Vec<Sets>, Memory>
-    requires bound { (header : Header) × IsBound bound.now formula.now header }
-    requires width { length row.now.values ≡ bound.now.width }
-    ensures { IfOk result (λ v. (header : Header) → IsBound bound.now formula.now header
-        → SetsStand formula.now.nodes (trace_of header (row.now ∷ [])) v.items) }
-{
-    let mut sets = all_sets(alloc, formula, row.time())?;
-    let event = first_event(row);
-    step_all(&mut sets, formula, bound, &None, row, &event)?;
-    Ok(sets)
-}
-
-/// The sets after a row that follows others.
-pub(crate) fn next_sets(
     sets: &mut Vec<Sets>,
     formula: &Formula,
     bound: &Bound,
-    start: u32,
+    row: &Row,
+) -> Result<(), Memory>
+    requires open { (header : Header) × IsOpen formula.now bound.now header [] 0 None sets.old.items }
+    requires width { length row.now.values ≡ bound.now.width }
+    ensures { OnOk result ((header : Header) → IsOpen formula.now bound.now header [] 0 None sets.old.items
+        → SetsAre formula.now.nodes header row.now.time sets.new.items (row.now ∷ [])) }
+{
+    *sets = all_sets(alloc, formula, row.time())?;
+    let event = first_event(row);
+    step_all(sets, formula, bound, &None, row, &event)?;
+    Ok(())
+}
+
+/// The sets after a row that follows others.
+fn take_next(
+    sets: &mut Vec<Sets>,
+    formula: &Formula,
+    bound: &Bound,
+    begin: u32,
     last: &Option<Row>,
     row: &Row,
 ) -> Result<(), Memory>
-    requires stand { (header : Header) × (r : ARow) × (rows : List ARow) × IsGoingOn formula.now bound.now header r rows start last.now sets.old.items }
+    requires open { (header : Header) × (r : ARow) × (rows : List ARow) × IsOpen formula.now bound.now header (r ∷ rows) begin last.now sets.old.items }
     requires width { length row.now.values ≡ bound.now.width }
     requires later { IfSome last.now (λ q. q.time < row.now.time) }
-    ensures { OnOk result ((header : Header) (r : ARow) (rows : List ARow) → IsGoingOn formula.now bound.now header r rows start last.now sets.old.items
-        → SetsStand formula.now.nodes (trace_of header (r ∷ (rows ++ row.now ∷ []))) sets.new.items) }
+    ensures { OnOk result ((header : Header) (r : ARow) (rows : List ARow) → IsOpen formula.now bound.now header (r ∷ rows) begin last.now sets.old.items
+        → SetsAre formula.now.nodes header begin sets.new.items (r ∷ (rows ++ row.now ∷ []))) }
 {
     let Some(before) = last else {
         unreachable!();
     };
-    let event = next_event(start, before, row);
+    let event = next_event(begin, before, row);
     step_all(sets, formula, bound, last, row, &event)?;
     Ok(())
 }
 
+/// The sets after a row, and the time of the first one.
+pub(crate) fn take_row(
+    alloc: Global,
+    sets: &mut Vec<Sets>,
+    formula: &Formula,
+    bound: &Bound,
+    begin: u32,
+    last: &Option<Row>,
+    row: &Row,
+) -> Result<u32, Memory>
+    requires open { (header : Header) × (rows : List ARow) × IsOpen formula.now bound.now header rows begin last.now sets.old.items }
+    requires width { length row.now.values ≡ bound.now.width }
+    requires later { IfSome last.now (λ q. q.time < row.now.time) }
+    ensures { IfOk result (λ start. (header : Header) (rows : List ARow) → IsOpen formula.now bound.now header rows begin last.now sets.old.items
+        → SetsAre formula.now.nodes header start sets.new.items (rows ++ row.now ∷ [])) }
+{
+    if last.is_none() {
+        take_first(alloc, sets, formula, bound, row)?;
+        return Ok(row.time());
+    }
+    take_next(sets, formula, bound, begin, last, row)?;
+    Ok(begin)
+}
+
 /// What the sets of the root say of the start.
-pub(crate) fn root_verdict(sets: &[Sets], start: u32) -> Option<bool> {
+pub(crate) fn root_verdict(sets: &[Sets], start: u32) -> Option<bool>
+    requires some { 0 < length sets.now }
+    requires tidy { AllTidy sets.now }
+    ensures { IsVerdict sets.now start result }
+{
     let root = &sets[sets.len() - 1];
     if root.yes.has(i64::from(start)) {
         return Some(true);
@@ -111,11 +157,20 @@ pub(crate) fn end_sets(
     sets: &mut Vec<Sets>,
     formula: &Formula,
     bound: &Bound,
-    start: u32,
-    last: &Row,
-) -> Result<bool, Memory> {
-    let event = end_event(start, last);
-    step_all(sets, formula, bound, &None, last, &event)?;
-    let root = &sets[sets.len() - 1];
-    Ok(root.yes.has(i64::from(start)))
+    begin: u32,
+    last: &Option<Row>,
+) -> Result<bool, Memory>
+    requires open { (header : Header) × (r : ARow) × (rows : List ARow) × IsOpen formula.now bound.now header (r ∷ rows) begin last.now sets.old.items }
+    ensures { IfOk result (λ holds. (header : Header) (r : ARow) (rows : List ARow) → IsOpen formula.now bound.now header (r ∷ rows) begin last.now sets.old.items
+        → IsTruthAtStart (root formula.now.nodes) (trace_of header (r ∷ rows)) holds) }
+{
+    let Some(row) = last else {
+        unreachable!();
+    };
+    let event = end_event(begin, row);
+    step_all(sets, formula, bound, &None, row, &event)?;
+    match root_verdict(sets, begin) {
+        Some(holds) => Ok(holds),
+        None => unreachable!(),
+    }
 }

@@ -100,7 +100,14 @@ fn step_operator(own: &mut Sets, node: &Node, below: &[Sets], event: &Event) -> 
         } => {
             let w = ahead(*low, *high, true, true);
             let up_to = ahead(0, *low, true, true);
-            step_until(own, &below[*left as usize], &below[*right as usize], &w, &up_to, event)?;
+            step_until(
+                own,
+                &below[*left as usize],
+                &below[*right as usize],
+                &w,
+                &up_to,
+                event,
+            )?;
             Ok(())
         }
         Node::Eventually {
@@ -133,7 +140,14 @@ fn step_operator(own: &mut Sets, node: &Node, below: &[Sets], event: &Event) -> 
         } => {
             let w = behind(*low, *high, true, true);
             let down_to = behind(0, Some(*low), true, true);
-            step_since(own, &below[*left as usize], &below[*right as usize], &w, &down_to, event)?;
+            step_since(
+                own,
+                &below[*left as usize],
+                &below[*right as usize],
+                &w,
+                &down_to,
+                event,
+            )?;
             Ok(())
         }
         Node::Once {

@@ -34,7 +34,8 @@ fn until_holds(
         → UntilHolding tr a b (lists_of p.now) (lists_of q.now) own.new) }
 {
     own.both.both(&p.yes, &q.yes)?;
-    own.run.reach_sure(&p.yes, &own.both, &event.before, &event.sure)?;
+    own.run
+        .reach_sure(&p.yes, &own.both, &event.before, &event.sure)?;
     own.some.some_sure(&q.yes, &event.before, &event.sure, w)?;
     each_open(&mut own.each, &own.run, event, up_to)?;
     Ok(())
@@ -59,7 +60,7 @@ fn until_fails(
     ensures bounds { OnOk result (KeepsFailing own.old own.new) }
     ensures fits { OnOk result ((old : Option Trace) (tr : Trace) (p' q' : Lists) (a b : ℕ) → IsAhead w.now a b true true → IsAhead up_to.now 0 a true true
         → Happens event.now old tr → Had old tr p' p.now → Had old tr q' q.now
-        → own.old.fail.bounds ≡ p.now.no.bounds
+        → own.old.fail.bounds ≡ p.now.no.bounds → own.old.stop.bounds ≡ p.now.no.bounds
         → MatchOption old (IsFailingEmpty own.old) (λ o. UntilFailing false o a b p' q' own.old)
         → UntilFailing event.now.ended tr a b (lists_of p.now) (lists_of q.now) own.new) }
 {
@@ -118,7 +119,7 @@ fn since_fails(
     ensures bounds { OnOk result (KeepsFailing own.old own.new) }
     ensures fits { OnOk result ((old : Option Trace) (tr : Trace) (p' q' : Lists) (a : ℕ) (b : Option ℕ) → IsBehind w.now a b true true → IsBehind down_to.now 0 (Some a) true true
         → Happens event.now old tr → Had old tr p' p.now → Had old tr q' q.now
-        → own.old.fail.bounds ≡ p.now.no.bounds
+        → own.old.fail.bounds ≡ p.now.no.bounds → own.old.stop.bounds ≡ p.now.no.bounds
         → MatchOption old (IsFailingEmpty own.old) (λ o. SinceFailing o a b p' q' own.old)
         → SinceFailing tr a b (lists_of p.now) (lists_of q.now) own.new) }
 {

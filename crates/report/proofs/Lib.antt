@@ -41,3 +41,11 @@ pub mod JsonParts
 pub mod JsonItems
 pub mod ReportTexts
 pub mod FaultLines
+mod NearTimes
+mod MovedWindows
+mod CalmTruth
+mod GapLines
+mod SmallFractions
+mod CalmFormulas
+mod TurningTimes
+mod CoarserVerdicts

@@ -1,8 +1,8 @@
 -- The law of units: smaller ticks change no text.
 use Rattle.std.specs.Prelude.{ℕ, ◌+◌, ◌*◌, ◌^◌, ◌≤◌, ◌↔◌, pos, ◌*ℤ◌, List, map}
-use Rattle.rational.specs.Time.{Rational}
+use Rattle.rational.specs.Time.{Rational, ◌<ʳ◌, ◌≈◌}
 use Rattle.stl_syntax.specs.Trace.{Row, Trace, IsTrace, AreInRange}
-use Rattle.stl_syntax.specs.Formula.{Formula, root}
+use Rattle.stl_syntax.specs.Formula.{Formula, Subformula, root}
 use Rattle.stl_syntax.specs.Truth.{Truth}
 use Rattle.stl_syntax.specs.WellFormed.{IsWellFormed}
 use Rattle.report.specs.Report.{Command, check, robust, Out, nodes_for}
@@ -45,6 +45,18 @@ abbrev pub RobustIsOfUnits : Type 0
 RobustIsOfUnits =
     (f : Formula) (tr : Trace) (k m : ℕ) → IsTrace tr → f.scale.time ≤ tr.header.scale.time → f.scale.value ≤ tr.header.scale.value
     → WritesAlike robust f tr (finer k m tr)
+
+-- about t the formula has one truth
+abbrev pub IsOneTruthAbout : Subformula → Trace → Rational → Type 0
+IsOneTruthAbout p tr t =
+    (from to : Rational) × (from <ʳ t) × (t <ʳ to)
+    × ((u v : Rational) → from <ʳ u → u <ʳ to → from <ʳ v → v <ʳ to → Truth p tr u → Truth p tr v)
+
+-- the truth turns only at fractions with denominators up to 2^31
+abbrev pub TruthTurnsAtFractions : Type 0
+TruthTurnsAtFractions =
+    (f : Formula) (tr : Trace) (t : Rational) → IsWellFormed f → IsTrace tr → AreInRange tr.rows
+    → ((v : Rational) → v.den ≤ 2 ^ 31 → ¬ (t ≈ v)) → IsOneTruthAbout (root (nodes_for f tr)) tr t
 
 -- what `check` writes it writes in smaller ticks too
 abbrev pub CheckKeepsItsText : Type 0

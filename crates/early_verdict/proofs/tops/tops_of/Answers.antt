@@ -18,7 +18,7 @@ loop-i-preserved c =
     let kept : length new ≡ length c.loop-i.tops.items = search rules in
     let is : new ≡ take c.loop-i.tops.len (new ++ drop (length new) c.loop-i.tops.items) = written new c.loop-i.tops.items c.loop-i.tops.len len in
     let all = raised nodes k old new c.raise_at.ensures.asks c.raise_at.ensures.rises c.raise_at.ensures.others
-        (λ j n below e. subst (λ (xs : List ℕ). AsksBelow (top_at xs) (top_at xs j) n) (sym was) (c.loop-i.invariant.asks j n (omega arith) e)) in
+    (λ j n below e. subst (λ (xs : List ℕ). AsksBelow (top_at xs) (top_at xs j) n) (sym was) (c.loop-i.invariant.asks j n (omega arith) e)) in
     record {
       within = omega arith;
       count = subst (λ (xs : List ℕ). length xs ≡ length nodes) is (omega arith);
