@@ -30,7 +30,6 @@ pub mod LookLemmas
 pub mod FitLemmas
 pub mod Places
 pub mod Netting
-pub mod TopLemmas
 pub mod RowLemmas
 pub mod RunSets
 pub mod TopsLemmas
