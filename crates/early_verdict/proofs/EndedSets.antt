@@ -147,7 +147,7 @@ module _ (tr : Trace) (top : ℕ) (s : Sets) (wide : ℕ) (asked : AreAsked (sta
         let b = until_fits tr top wide (at p) (at q) s asked tidy (tidy_at q) true x y o (subst (λ z. top + y ≤ z) w a.0) h in
         final (UntilHolds tr x y (IsOn (at p).yes) (IsOn (at q).yes)) (UntilFails true tr x y (IsOn (at p).no) (IsOn (at q).no)) (tree_of sub i (Until p q x y)) b
         (λ t f e (u, d, r, g, z). let us = sure_in tr t u e r in
-          (u, met tr x y true true t u d us, m.yes u g us, λ v j. k.yes v (z v j) (le_trans j.below us)))
+        (u, met tr x y true true t u d us, m.yes u g us, λ v j. k.yes v (z v j) (le_trans j.below us)))
         (λ t f e z (u, d, g, j). elim (z u (open_ahead tr x y true true t u d) d.inside.below) [
           | inl i ↦ m.no u i d.inside.below g
           | inr (v, n, i) ↦ k.no v i (le_trans n.below d.inside.below) (j v n)
@@ -186,20 +186,20 @@ module _ (tr : Trace) (top : ℕ) (s : Sets) (wide : ℕ) (asked : AreAsked (sta
         let b = since_fits tr top wide (at p) (at q) s asked tidy (tidy_at q) x y (subst (λ z. top ≤ z) w a.0) h in
         final (SinceHolds tr x y (IsOn (at p).yes) (IsOn (at q).yes)) (SinceFails tr x y (IsOn (at p).no) (IsOn (at q).no)) (tree_of sub i (Since p q x y)) b
         (λ t f e (u, d, r, g, z). let us = sure_in tr t u e r in
-          (u, met_behind tr x y true true t u d us, m.yes u g us, λ v j. k.yes v (z v j) (le_trans j.below e)))
+        (u, met_behind tr x y true true t u d us, m.yes u g us, λ v j. k.yes v (z v j) (le_trans j.below e)))
         (λ t f e z (u, d, g, j). elim (z u (open_behind tr x y true true t u d)) [
           | inl i ↦ m.no u i d.inside.below g
           | inr (v, n, i) ↦ k.no v i (le_trans n.below e) (j v n)
         ])
         (λ t f l e. one_side (SinceHolds tr x y (IsOn (at p).yes) (IsOn (at q).yes)) (SinceFails tr x y (IsOn (at p).no) (IsOn (at q).no)) b t f l
         (λ n u d. let ut = none_later u t x d.ends in let us = le_trans ut e in
-          elim (m.all u d.after (reach_now (start tr) t u top (tops q) l ut a.1) us) [
-            | inr z ↦ inl z
-            | inl z ↦ elim (broken p c.0 u t d.after (near (tops p) a.0 t l) e) [
-              | inl all ↦ absurd (n (u, d, (d.after, inl us), z, all))
-              | inr g ↦ inr g
-            ]
-          ]))
+        elim (m.all u d.after (reach_now (start tr) t u top (tops q) l ut a.1) us) [
+          | inr z ↦ inl z
+          | inl z ↦ elim (broken p c.0 u t d.after (near (tops p) a.0 t l) e) [
+            | inl all ↦ absurd (n (u, d, (d.after, inl us), z, all))
+            | inr g ↦ inr g
+          ]
+        ]))
     node_final (Once p x y x_in y_in) c o a w h =
         let k = known p c in
         final (SomeBehind tr x y x_in y_in (IsOn (at p).yes)) (OnlyBehind tr x y x_in y_in (IsOn (at p).no)) (tree_of sub i (Once p x y x_in y_in)) h
@@ -207,10 +207,10 @@ module _ (tr : Trace) (top : ℕ) (s : Sets) (wide : ℕ) (asked : AreAsked (sta
         (λ t f e z (u, d, g). k.no u (z u (open_behind tr x y x_in y_in t u d)) d.inside.below g)
         (λ t f l e. one_side (SomeBehind tr x y x_in y_in (IsOn (at p).yes)) (OnlyBehind tr x y x_in y_in (IsOn (at p).no)) h t f l
         (λ n u d. let ut = none_later u t x (precedes_le x_in (later u x) t d.ends) in
-          elim (k.all u d.after (reach_now (start tr) t u top (tops p) l ut a) (le_trans ut e)) [
-            | inl z ↦ absurd (n (u, d, (d.after, inr ut), z))
-            | inr z ↦ z
-          ]))
+        elim (k.all u d.after (reach_now (start tr) t u top (tops p) l ut a) (le_trans ut e)) [
+          | inl z ↦ absurd (n (u, d, (d.after, inr ut), z))
+          | inr z ↦ z
+        ]))
     node_final (Historically p x y x_in y_in) c o a w h =
         let k = known p c in
         final (OnlyBehind tr x y x_in y_in (IsOn (at p).yes)) (SomeBehind tr x y x_in y_in (IsOn (at p).no)) (tree_of sub i (Historically p x y x_in y_in)) h
@@ -218,7 +218,7 @@ module _ (tr : Trace) (top : ℕ) (s : Sets) (wide : ℕ) (asked : AreAsked (sta
         (λ t f e (u, d, r, g) z. let us = sure_in tr t u e r in k.no u g us (z u (met_behind tr x y x_in y_in t u d us)))
         (λ t f l e. other_side (OnlyBehind tr x y x_in y_in (IsOn (at p).yes)) (SomeBehind tr x y x_in y_in (IsOn (at p).no)) h t f l
         (λ n u d. let ut = none_later u t x (precedes_le x_in (later u x) t d.ends) in
-          elim (k.all u d.after (reach_now (start tr) t u top (tops p) l ut a) (le_trans ut e)) [
-            | inl z ↦ z
-            | inr z ↦ absurd (n (u, d, (d.after, inr ut), z))
-          ]))
+        elim (k.all u d.after (reach_now (start tr) t u top (tops p) l ut a) (le_trans ut e)) [
+          | inl z ↦ z
+          | inr z ↦ absurd (n (u, d, (d.after, inr ut), z))
+        ]))

@@ -74,11 +74,11 @@ gap_last (x ∷ xs) p c h (inl e) b =
       t.1,
       t.2,
       λ y l u o.
-        let w : Upto (place x.from) y = subst (λ s. Upto (place s.from) y) e u in
-        elim o [
-          | inl i ↦ not_both (place x.from) y w i.0
-          | inr r ↦ not_both (place x.to) y (upto_of_before (place x.from) (place x.to) y (rises x) w) (rest_after (place x.to) xs y h.1 h.0 r)
-        ],
+          let w : Upto (place x.from) y = subst (λ s. Upto (place s.from) y) e u in
+          elim o [
+            | inl i ↦ not_both (place x.from) y w i.0
+            | inr r ↦ not_both (place x.to) y (upto_of_before (place x.from) (place x.to) y (rises x) w) (rest_after (place x.to) xs y h.1 h.0 r)
+          ],
     )
 gap_last (x ∷ xs) p c h (inr m) b =
     let k = later_before c (place x.to) (place p.from) b (among_after (place x.to) xs p h.0 h.1 m) in

@@ -30,7 +30,6 @@ pub mod LookLemmas
 pub mod FitLemmas
 pub mod Places
 pub mod Netting
-pub mod TopLemmas
 pub mod RowLemmas
 pub mod RunSets
 pub mod Operating
@@ -41,3 +40,4 @@ pub mod EventLemmas
 pub mod GoingOn
 pub mod StandingOn
 pub mod PartSets
+pub mod TopsLemmas

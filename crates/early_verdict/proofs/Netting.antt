@@ -125,12 +125,15 @@ module _ (nodes : List Node) (b : Binding) (e : Event) (before : Option Row) (r 
       by_left : (o : Option ℕ) → MatchOption o (s.parts ≡ None) (λ p. (top_at tops p ≡ (have.has i n s at is).wide) × ((l : Sets) → slice_get first p ≡ Some l → HasFailBounds s l) × (s.parts ≡ None → ⊥))
           → MatchOption o (Unit {0}) (λ p. IsSome s.parts × ((l : Sets) → slice_get (take i mid) p ≡ Some l → HasFailBounds s l))
       by_left None x = tt
-      by_left (Some p) x = (is_some s.parts x.2, λ l g.
-        let k = taken_within mid i p l g in
-        let f = sym (taken_at mid i p k) ∙ g in
-        let q = get_within mid p l f in
-        let w = sets_at first p (let c = h.count in omega (arith, q, c)) in
-        fail_bounds w.0 l (h.stepped p w.0 l k w.1 f).no (x.1 w.0 w.1))
+      by_left (Some p) x = (
+        is_some s.parts x.2,
+        λ l g.
+            let k = taken_within mid i p l g in
+            let f = sym (taken_at mid i p k) ∙ g in
+            let q = get_within mid p l f in
+            let w = sets_at first p (let c = h.count in omega (arith, q, c)) in
+            fail_bounds w.0 l (h.stepped p w.0 l k w.1 f).no (x.1 w.0 w.1),
+      )
 
   leaf_goes : (i : ℕ) (n : Node) (s : Sets) → slice_get nodes i ≡ Some n → slice_get first i ≡ Some s → LeafGoes b i e old tr before r s n
   leaf_goes i (Leaf a) s at is =

@@ -19,7 +19,6 @@ use Rattle.early_verdict.proofs.Telling.{tells_alike}
 use Rattle.early_verdict.proofs.SinceSets.{none_later}
 use Rattle.early_verdict.proofs.Settling.{Known, reach, reach_now, until_fits, since_fits}
 
-
 module _ (tr : Trace) (top : ℕ) (s : Sets) (wide : ℕ) (asked : AreAsked (start tr) top wide s) (tidy : AreSetsTidy s) where
   -- the sets tell the same by other words
   said : (P P' N N' : Rational → Type 0) → ((t : Rational) → start tr ≤ʳ t → t ≤ʳ later (start tr) top → P t → P' t)

@@ -72,14 +72,14 @@ module _ (tr : Trace) (a : ℕ) (b : Option ℕ) (p q : Lists) (x : Holding) (h 
   back t (u, o, c, y) runs =
       let e = less_by t a in
       let run = λ (v : Rational) (f : start tr ≤ʳ v) (k : e ≤ʳ v) (l : v ≤ʳ t).
-          (h.run.only v (runs v (back_way (start tr) t v a f (past_end t v a k) l))).1 in
+      (h.run.only v (runs v (back_way (start tr) t v a f (past_end t v a k) l))).1 in
       let ue = before_end t u a o.ends in
       let r = run e (le_trans o.after ue) (le_refl e) (end_past t a) in
       let along : (f : Rational) → start tr ≤ʳ f → r.0 ≤ʳ f → (v : Rational) → Within f t v → IsOn p.yes v = λ f s k v l.
-          elim (le_or_lt v e) [
-            | inl m ↦ r.3 v (record { above = le_trans k l.above; below = m })
-            | inr m ↦ let g = run v (le_trans s l.above) (le_of_lt m) l.below in g.3 v (record { above = g.1; below = le_refl v })
-          ] in
+      elim (le_or_lt v e) [
+        | inl m ↦ r.3 v (record { above = le_trans k l.above; below = m })
+        | inr m ↦ let g = run v (le_trans s l.above) (le_of_lt m) l.below in g.3 v (record { above = g.1; below = le_refl v })
+      ] in
       elim (le_or_lt u r.0) [
         | inl k ↦
             let f = le_trans o.after k in
@@ -99,9 +99,9 @@ module _ (tr : Trace) (a : ℕ) (b : Option ℕ) (p q : Lists) (x : Holding) (h 
       let both = h.both.has u ((wide t u i o.after ut).0) (z u (record { above = le_refl u; below = ut }), y) in (
         h.some.has t ((own t i).0) (u, o, c, y),
         h.each.has t ((own t i).1) (λ v w.
-          let vt = none_later v t 0 w.ends in
-          h.run.has v ((wide t v i w.after vt).1)
-          (u, earlier t u v a o.ends w.begins, both, λ k l. z k (record { above = l.above; below = le_trans l.below vt }))),
+            let vt = none_later v t 0 w.ends in
+            h.run.has v ((wide t v i w.after vt).1)
+            (u, earlier t u v a o.ends w.begins, both, λ k l. z k (record { above = l.above; below = le_trans l.below vt }))),
       )
 
   -- the set of since, where it is certainly true

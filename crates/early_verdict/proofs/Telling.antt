@@ -75,4 +75,3 @@ parts_kept (Some x) new e = subst (λ y. MatchOption y ⊥ (KeepsBounds x)) (sym
 
 pub parts_tidy : (old new : Option Parts) → new ≡ old → MatchOption old (Unit {0}) ArePartsTidy → MatchOption new (Unit {0}) ArePartsTidy
 parts_tidy old new e h = subst (λ y. MatchOption y (Unit {0}) ArePartsTidy) (sym e) h
-

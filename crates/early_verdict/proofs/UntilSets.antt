@@ -62,10 +62,10 @@ module _ (tr : Trace) (a b : ℕ) (order : a ≤ b) (p q : Lists) (x : Holding) 
       let run = λ (v : Rational) (k : t ≤ʳ v) (l : v ≤ʳ e). goes v (runs v (on_way (start tr) t v a (le_trans s k) k l) tt) in
       let r = run e (later_from t a) (le_refl e) in
       let along : (f : Rational) → f ≤ʳ r.0 → (v : Rational) → Within t f v → IsOn p.yes v = λ f k v l.
-          elim (le_or_lt v e) [
-            | inl m ↦ let g = run v l.above m in g.3 v (record { above = le_refl v; below = g.1 })
-            | inr m ↦ r.3 v (record { above = le_of_lt m; below = le_trans l.below k })
-          ] in
+      elim (le_or_lt v e) [
+        | inl m ↦ let g = run v l.above m in g.3 v (record { above = le_refl v; below = g.1 })
+        | inr m ↦ r.3 v (record { above = le_of_lt m; below = le_trans l.below k })
+      ] in
       elim (le_or_lt r.0 u) [
         | inl k ↦
             let f = le_trans s (le_trans (later_from t a) r.1) in (
@@ -85,9 +85,9 @@ module _ (tr : Trace) (a b : ℕ) (order : a ≤ b) (p q : Lists) (x : Holding) 
       let both = h.both.has u ((wide t u i o.after o.ends).0) (z u (record { above = tu; below = le_refl u }), y) in (
         h.some.has t ((own t i).0) (u, o, c, y),
         h.each.has t ((own t i).1) (λ v w k.
-          let tv = later_zero_out t v w.begins in
-          let vu = le_trans w.ends o.begins in
-          h.run.has v ((wide t v i w.after (le_trans vu o.ends)).1) (by_sure v tv vu both c.1)),
+            let tv = later_zero_out t v w.begins in
+            let vu = le_trans w.ends o.begins in
+            h.run.has v ((wide t v i w.after (le_trans vu o.ends)).1) (by_sure v tv vu both c.1)),
       )
     where
       by_sure : (v : Rational) → t ≤ʳ v → v ≤ʳ u → IsOn x.both.spans.items u → (u ≤ʳ stop tr) ⊎ (u ≤ʳ t) → GoesOn p.yes x.both.spans.items (sure_place tr) v

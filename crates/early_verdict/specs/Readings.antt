@@ -38,4 +38,3 @@ SinceHolds tr a b P Q t = (u : Rational) × OpenBehind (start tr) a b true true 
 
 abbrev pub SinceFails : Trace → ℕ → Option ℕ → (Rational → Type 0) → (Rational → Type 0) → Rational → Type 0
 SinceFails tr a b N M t = (u : Rational) → OpenBehind (start tr) a b true true t u → M u ⊎ ((v : Rational) × Within u t v × N v)
-

@@ -1,5 +1,5 @@
 -- How far the nodes of a formula are asked.
-use Rattle.std.specs.Prelude.{◌≡◌, ℕ, ◌≤◌, Option, Some, None, List, [], ◌∷◌, length, drop, sum_by, slice_get}
+use Rattle.std.specs.Prelude.{◌≡◌, ℕ, ◌≤◌, List, length, drop, sum_by, Some, slice_get}
 use Rattle.stl_syntax.specs.Limits.{own_reach}
 use Rattle.stl_syntax.specs.declared.node.Node.{Node}
 use Rattle.early_verdict.specs.Standing.{AsksBelow, top_at}
@@ -25,10 +25,3 @@ pub record AreTops (nodes : List Node) (tops : List ℕ) : Type 0 where
   pub count : length tops ≡ length nodes
   pub asks : (i : ℕ) (n : Node) → slice_get nodes i ≡ Some n → AsksBelow (top_at tops) (top_at tops i) n
   pub most : AreUpTo (rest_reach nodes 0) tops
-
--- the places that there are
-abbrev pub both : Option ℕ → Option ℕ → List ℕ
-both None None = []
-both None (Some q) = q ∷ []
-both (Some p) None = p ∷ []
-both (Some p) (Some q) = p ∷ q ∷ []

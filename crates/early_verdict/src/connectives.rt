@@ -33,7 +33,11 @@ pub(crate) fn step_constant(own: &mut Sets, holds: bool, event: &Event) -> Resul
     if !event.first {
         return Ok(());
     }
-    if holds { fill(&mut own.yes) } else { fill(&mut own.no) }
+    if holds {
+        fill(&mut own.yes)
+    } else {
+        fill(&mut own.no)
+    }
 }
 
 /// The contrary.

@@ -37,7 +37,12 @@ pub(crate) fn each_open(own: &mut Grown, x: &Grown, event: &Event, w: &Window) -
 }
 
 /// The times each of whose window is one of the set; at the end of the input each up to the last row.
-pub(crate) fn each_ahead(own: &mut Grown, x: &Grown, event: &Event, w: &Window) -> Result<(), Memory>
+pub(crate) fn each_ahead(
+    own: &mut Grown,
+    x: &Grown,
+    event: &Event,
+    w: &Window,
+) -> Result<(), Memory>
     requires own { IsTidy own.old }
     requires input { IsTidy x.now }
     requires event { IsEvent event.now }
@@ -59,7 +64,12 @@ pub(crate) fn each_ahead(own: &mut Grown, x: &Grown, event: &Event, w: &Window) 
 }
 
 /// Some time of a window ahead.
-pub(crate) fn step_eventually(own: &mut Sets, p: &Sets, w: &Window, event: &Event) -> Result<(), Memory>
+pub(crate) fn step_eventually(
+    own: &mut Sets,
+    p: &Sets,
+    w: &Window,
+    event: &Event,
+) -> Result<(), Memory>
     requires own { AreSetsTidy own.old }
     requires operand { AreSetsTidy p.now }
     requires event { IsEvent event.now }
@@ -104,7 +114,12 @@ pub(crate) fn step_once(own: &mut Sets, p: &Sets, w: &Window, event: &Event) -> 
 }
 
 /// Each time of a window behind.
-pub(crate) fn step_historically(own: &mut Sets, p: &Sets, w: &Window, event: &Event) -> Result<(), Memory>
+pub(crate) fn step_historically(
+    own: &mut Sets,
+    p: &Sets,
+    w: &Window,
+    event: &Event,
+) -> Result<(), Memory>
     requires own { AreSetsTidy own.old }
     requires operand { AreSetsTidy p.now }
     requires event { IsEvent event.now }

@@ -35,7 +35,8 @@ fn until_holds(
         → UntilHolding tr a b (lists_of p.now) (lists_of q.now) own.new) }
 {
     own.both.both(&p.yes, &q.yes)?;
-    own.run.reach_sure(&p.yes, &own.both, &event.before, &event.sure)?;
+    own.run
+        .reach_sure(&p.yes, &own.both, &event.before, &event.sure)?;
     own.some.some_sure(&q.yes, &event.before, &event.sure, w)?;
     each_open(&mut own.each, &own.run, event, up_to)?;
     Ok(())

@@ -7,8 +7,8 @@ use Rattle.early_verdict.proofs.connectives.step_disjunction.Goals as goal
 pub returns-clause-fits : goal.returns-clause-fits
 returns-clause-fits c = λ old tr p q h k w.
     let was = was_said old c.args.own.now (λ t. IsOn p.yes t ⊎ IsOn q.yes t) (λ t. IsOn p.no t × IsOn q.no t)
-        (neither old (IsOn p.yes) (IsOn q.yes) (had_yes old tr p c.args.p.now h) (had_yes old tr q c.args.q.now k))
-        (not_with old (IsOn p.no) (IsOn q.no) (had_no old tr p c.args.p.now h)) w in
+    (neither old (IsOn p.yes) (IsOn q.yes) (had_yes old tr p c.args.p.now h) (had_yes old tr q c.args.q.now k))
+    (not_with old (IsOn p.no) (IsOn q.no) (had_no old tr p c.args.p.now h)) w in
     record {
       yes = says_of c.either.new.self c.args.own.now.yes.bounds (λ t. IsOn c.args.p.now.yes.spans.items t ⊎ IsOn c.args.q.now.yes.spans.items t) c.in_ok-either.ensures.bounds
           (c.in_ok-either.ensures.tells p.yes q.yes h.lists.yes k.lists.yes was.yes);

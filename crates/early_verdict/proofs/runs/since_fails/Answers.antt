@@ -24,12 +24,12 @@ returns-clause-fits c = λ old tr p q a b is is_down h hp hq same_fail same_stop
     let w = c.args.w.now in
     let u = c.args.down_to.now in
     let fail = says_of c.either.new.self x.fail.bounds (λ t. IsOn P.no.spans.items t ⊎ IsOn Q.no.spans.items t) c.in_ok-either.ensures.bounds
-        (c.in_ok-either.ensures.tells p.no q.no hp.lists.no hq.lists.no (since_fail e tr old h p q a b w u is is_down x was none none_q from_stop)) in
+    (c.in_ok-either.ensures.tells p.no q.no hp.lists.no hq.lists.no (since_fail e tr old h p q a b w u is is_down x was none none_q from_stop)) in
     let inside = λ (t : Rational) (o : IsOn P.no.spans.items t).
-        fail.has t (subst (λ s. Lies s t) (sym (c.in_ok-either.ensures.bounds ∙ same_fail)) (hp.no_within t o)) (inl o) in
+    fail.has t (subst (λ s. Lies s t) (sym (c.in_ok-either.ensures.bounds ∙ same_fail)) (hp.no_within t o)) (inl o) in
     let stop = says_of c.reach_back.new.self x.stop.bounds (GoesBack c.either.new.self.spans.items P.no.spans.items) c.in_ok-reach_back.ensures.bounds
-        (c.in_ok-reach_back.ensures.tells x.fail.spans.items p.no c.in_ok-either.ensures.gains hp.lists.no inside
-        (since_stop e tr old h p q a b w u is is_down x was none none_q from_stop)) in
+    (c.in_ok-reach_back.ensures.tells x.fail.spans.items p.no c.in_ok-either.ensures.gains hp.lists.no inside
+    (since_stop e tr old h p q a b w u is is_down x was none none_q from_stop)) in
     record {
       fail = fail;
       stop = stop;

@@ -24,7 +24,7 @@ returns-clause-fits c = λ old tr p q a b is is_down h hp hq was.
     let w = c.args.w.now in
     let u = c.args.down_to.now in
     let both = says_of c.both.new.self x.both.bounds (λ t. IsOn P.yes.spans.items t × IsOn Q.yes.spans.items t) c.in_ok-both.ensures.bounds
-        (c.in_ok-both.ensures.tells p.yes q.yes hp.lists.yes hq.lists.yes (since_both e tr old h p q a b w u is is_down x was none none_q from_q)) in
+    (c.in_ok-both.ensures.tells p.yes q.yes hp.lists.yes hq.lists.yes (since_both e tr old h p q a b w u is is_down x was none none_q from_q)) in
     record {
       both = both;
       run = says_of c.reach_back.new.self x.run.bounds (GoesBack P.yes.spans.items c.both.new.self.spans.items) c.in_ok-reach_back.ensures.bounds

@@ -24,12 +24,12 @@ returns-clause-fits c = λ old tr p q a b is is_up h hp hq same_fail same_stop w
     let w = c.args.w.now in
     let u = c.args.up_to.now in
     let fail = says_of c.either.new.self x.fail.bounds (λ t. IsOn P.no.spans.items t ⊎ IsOn Q.no.spans.items t) c.in_ok-either.ensures.bounds
-        (c.in_ok-either.ensures.tells p.no q.no hp.lists.no hq.lists.no (until_fail e tr old h p q a b w u is is_up x was none none_q from_stop)) in
+    (c.in_ok-either.ensures.tells p.no q.no hp.lists.no hq.lists.no (until_fail e tr old h p q a b w u is is_up x was none none_q from_stop)) in
     let inside = λ (t : Rational) (o : IsOn P.no.spans.items t).
-        fail.has t (subst (λ s. Lies s t) (sym (c.in_ok-either.ensures.bounds ∙ same_fail)) (hp.no_within t o)) (inl o) in
+    fail.has t (subst (λ s. Lies s t) (sym (c.in_ok-either.ensures.bounds ∙ same_fail)) (hp.no_within t o)) (inl o) in
     let stop = says_of c.reach.new.self x.stop.bounds (GoesTo c.either.new.self.spans.items P.no.spans.items) c.in_ok-reach.ensures.bounds
-        (c.in_ok-reach.ensures.tells x.fail.spans.items p.no c.in_ok-either.ensures.gains hp.lists.no inside hp.no_within
-        (until_stop e tr old h p q a b w u is is_up x was none none_q from_stop)) in
+    (c.in_ok-reach.ensures.tells x.fail.spans.items p.no c.in_ok-either.ensures.gains hp.lists.no inside hp.no_within
+    (until_stop e tr old h p q a b w u is is_up x was none none_q from_stop)) in
     record {
       fail = fail;
       stop = stop;

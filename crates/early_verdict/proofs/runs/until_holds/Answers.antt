@@ -24,9 +24,9 @@ returns-clause-fits c = λ old tr p q a b is is_up h hp hq was.
     let w = c.args.w.now in
     let u = c.args.up_to.now in
     let both = says_of c.both.new.self x.both.bounds (λ t. IsOn P.yes.spans.items t × IsOn Q.yes.spans.items t) c.in_ok-both.ensures.bounds
-        (c.in_ok-both.ensures.tells p.yes q.yes hp.lists.yes hq.lists.yes (until_both e tr old h p q a b w u is is_up x was none none_q from_q)) in
+    (c.in_ok-both.ensures.tells p.yes q.yes hp.lists.yes hq.lists.yes (until_both e tr old h p q a b w u is is_up x was none none_q from_q)) in
     let run = c.in_ok-reach_sure.ensures.tells p.yes x.both.spans.items hp.lists.yes c.in_ok-both.ensures.gains (λ t o. (both.only t o).1.0)
-        (until_run e tr old h p q a b w u is is_up x was none none_q from_q) in
+    (until_run e tr old h p q a b w u is is_up x was none none_q from_q) in
     record {
       both = both;
       run = says_of c.reach_sure.new.self x.run.bounds (GoesOn P.yes.spans.items c.both.new.self.spans.items (sure_place tr)) c.in_ok-reach_sure.ensures.bounds
