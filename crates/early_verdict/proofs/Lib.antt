@@ -41,3 +41,4 @@ pub mod GoingOn
 pub mod StandingOn
 pub mod PartSets
 pub mod TopsLemmas
+pub mod Splitting

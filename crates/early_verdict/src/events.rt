@@ -1,13 +1,16 @@
 //! Rows and the end of the input, as they come to the sets of all nodes.
-ghost use Rattle.std.specs.Prelude.{◌≡◌, ◌<◌, ◌++◌, ◌∷◌, ◌-◌, [], List, length, IfOk, IfSome, Some, None, Option, true, false};
+ghost use Rattle.std.specs.Prelude.{◌≡◌, ◌<◌, ◌++◌, ◌∷◌, ◌↔◌, [], List, length, pos, IfOk, IfSome, IsTrue, OnOk, Some, None, true, false};
 ghost use Rattle.stl_syntax.specs.Trace.{Header, Row as ARow};
 ghost use Rattle.stl_syntax.specs.Formula.{root};
+ghost use Rattle.rational.specs.Rational.{whole};
+ghost use Rattle.early_verdict.specs.Spans.{AreTidy, IsOn};
 ghost use Rattle.early_verdict.specs.Happening.{Happens, IsEvent};
 ghost use Rattle.early_verdict.specs.Standing.{AllTidy};
 ghost use Rattle.early_verdict.specs.Deciding.{IsOpen, IsTruthAtStart, IsVerdict, SetsAre, last_after, trace_of};
 
 use crate::atoms::{after_tick, before_tick};
 use crate::event::Event;
+use crate::grown::Grown;
 use crate::making::all_sets;
 use crate::net::step_all;
 use crate::sets::Sets;
@@ -141,6 +144,14 @@ pub(crate) fn take_row(
     Ok(begin)
 }
 
+/// Whether the tick is one of the set's times.
+fn has_tick(set: &Grown, tick: u32) -> bool
+    requires { AreTidy set.now.spans.items }
+    ensures { IsTrue result ↔ IsOn set.now.spans.items (whole (pos tick)) }
+{
+    set.has(i64::from(tick))
+}
+
 /// What the sets of the root say of the start.
 pub(crate) fn root_verdict(sets: &[Sets], start: u32) -> Option<bool>
     requires some { 0 < length sets.now }
@@ -148,10 +159,10 @@ pub(crate) fn root_verdict(sets: &[Sets], start: u32) -> Option<bool>
     ensures { IsVerdict sets.now start result }
 {
     let root = &sets[sets.len() - 1];
-    if root.yes.has(i64::from(start)) {
+    if has_tick(&root.yes, start) {
         return Some(true);
     }
-    if root.no.has(i64::from(start)) {
+    if has_tick(&root.no, start) {
         return Some(false);
     }
     None
