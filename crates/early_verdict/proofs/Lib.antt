@@ -33,3 +33,4 @@ pub mod Netting
 pub mod RowLemmas
 pub mod RunSets
 pub mod TopsLemmas
+pub mod MadeLemmas

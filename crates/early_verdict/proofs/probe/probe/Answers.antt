@@ -4,7 +4,6 @@ use Rattle.early_verdict.proofs.AllSets.{all_known, all_final}
 use Rattle.early_verdict.proofs.AtomSets.{atom_fits}
 use Rattle.early_verdict.proofs.LookLemmas.{was_sure}
 use Rattle.early_verdict.proofs.Netting.{fits_on}
-use Rattle.early_verdict.proofs.TopLemmas.{asks_of}
 use Rattle.early_verdict.proofs.RowLemmas.{is_next}
 use Rattle.early_verdict.proofs.probe.probe.Goals as goal
 
