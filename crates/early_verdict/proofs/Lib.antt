@@ -32,5 +32,13 @@ pub mod Places
 pub mod Netting
 pub mod RowLemmas
 pub mod RunSets
+pub mod Operating
+pub mod Windowing
+pub mod Having
+pub mod DecideLemmas
+pub mod EventLemmas
+pub mod GoingOn
+pub mod StandingOn
+pub mod PartSets
 pub mod TopsLemmas
 pub mod MadeLemmas

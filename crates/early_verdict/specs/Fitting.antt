@@ -202,6 +202,15 @@ pub record KeepsBounds (old new : Parts) : Type 0 where
   pub holding : KeepsHolding old.holding new.holding
   pub failing : KeepsFailing old.failing new.failing
 
+-- what the sets that a node's own are made of gained
+pub record GainsHolding (old new : Holding) : Type 0 where
+  pub some : Gains old.some.spans.items new.some.spans.items new.some.fresh.items
+  pub each : Gains old.each.spans.items new.each.spans.items new.each.fresh.items
+
+pub record GainsFailing (old new : Failing) : Type 0 where
+  pub never : Gains old.never.spans.items new.never.spans.items new.never.fresh.items
+  pub broken : Gains old.broken.spans.items new.broken.spans.items new.broken.fresh.items
+
 -- a node's sets after an event
 pub record HasStepped (old new : Sets) : Type 0 where
   pub tidy : AreSetsTidy new

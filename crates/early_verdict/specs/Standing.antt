@@ -8,7 +8,7 @@ use Rattle.early_verdict.specs.Spans.{Lies}
 use Rattle.early_verdict.specs.Fitting.{Fits, AreSetsTidy, AreEmpty, HasStepped, HadLists, HasFailBounds, Lists, lists_at, lists_of}
 use Rattle.atom_lines.specs.Binding.{Binding, IsFor, IsAtomNode}
 use Rattle.early_verdict.specs.Adding.{IsNextRow}
-use Rattle.early_verdict.specs.Happening.{Was, Had}
+use Rattle.early_verdict.specs.Happening.{Was, Had, Happens}
 use Rattle.early_verdict.specs.declared.event.Event.{Event}
 use Rattle.stl_syntax.specs.declared.atom.Atom.{Atom}
 use Rattle.early_verdict.specs.declared.stretch.Stretch.{Stretch}
@@ -115,6 +115,12 @@ LeafIsBound b i n = Unit {0}
 abbrev pub IsOperator : Node → Type 0
 IsOperator (Leaf a) = ⊥
 IsOperator n = Unit {0}
+
+-- the sets of an operator go on from fitting the trace before to fitting the trace now, by what those of its children gained
+abbrev pub GoesBy : Node → Event → List Sets → Sets → Sets → Type 0
+GoesBy n e below own new =
+    (old : Option Trace) (tr : Trace) (was : ℕ → Lists) → Happens e old tr → HadAll old tr was below → HasParts n own below
+    → Was old (λ o. Fits n false o was) own → Fits n e.ended tr (lists_at below) new
 
 -- the sets at one place stepped, and those at the others are as they were
 pub record StepsAt (i : ℕ) (old new : List Sets) : Type 0 where

@@ -19,14 +19,14 @@ use frac128::{Frac, Memory};
 use trace_reader::Row;
 
 /// Just before a time in ticks.
-fn before_tick(n: u32) -> Cut
+pub(crate) fn before_tick(n: u32) -> Cut
     ensures { Same (place result) (record { at = whole (pos n); after = false }) }
 {
     Cut::before_whole(i64::from(n))
 }
 
 /// Just after a time in ticks.
-fn after_tick(n: u32) -> Cut
+pub(crate) fn after_tick(n: u32) -> Cut
     ensures { Same (place result) (record { at = whole (pos n); after = true }) }
 {
     Cut::after_whole(i64::from(n))

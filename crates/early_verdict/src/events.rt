@@ -6,7 +6,7 @@ ghost use Rattle.early_verdict.specs.Happening.{Happens, IsEvent};
 ghost use Rattle.early_verdict.specs.Standing.{AllTidy};
 ghost use Rattle.early_verdict.specs.Deciding.{IsOpen, IsTruthAtStart, IsVerdict, SetsAre, last_after, trace_of};
 
-use crate::cut::Cut;
+use crate::atoms::{after_tick, before_tick};
 use crate::event::Event;
 use crate::making::all_sets;
 use crate::net::step_all;
@@ -18,51 +18,56 @@ use stl_syntax::Formula;
 use trace_reader::Row;
 
 /// The first row of a trace.
-fn first_event(row: &Row) -> Event
+fn first_event(time: u32) -> Event
     ensures event { IsEvent result }
     ensures first { result.first ≡ true }
     ensures open { result.ended ≡ false }
-    ensures happens { (header : Header) → Happens result None (trace_of header (row.now ∷ [])) }
+    ensures happens { (header : Header) (x : ARow) → time ≡ x.time → Happens result None (trace_of header (x ∷ [])) }
 {
-    let start = Cut::before_whole(i64::from(row.time()));
+    let start = before_tick(time);
+    let sure = after_tick(time);
     Event {
         start,
         before: start,
-        sure: Cut::after_whole(i64::from(row.time())),
+        sure,
         first: true,
         ended: false,
     }
 }
 
 /// A row after another, of a trace that starts there.
-fn next_event(start: u32, last: &Row, row: &Row) -> Event
-    requires { last.now.time < row.now.time }
+fn next_event(start: u32, last: u32, time: u32) -> Event
+    requires { last < time }
     ensures event { IsEvent result }
     ensures first { result.first ≡ false }
     ensures open { result.ended ≡ false }
-    ensures happens { (header : Header) (r : ARow) (rows : List ARow) → start ≡ r.time → last.now ≡ last_after r rows
-        → Happens result (Some (trace_of header (r ∷ rows))) (trace_of header (r ∷ (rows ++ row.now ∷ []))) }
+    ensures happens { (header : Header) (r : ARow) (rows : List ARow) (x : ARow) → start ≡ r.time → last ≡ (last_after r rows).time → time ≡ x.time
+        → Happens result (Some (trace_of header (r ∷ rows))) (trace_of header (r ∷ (rows ++ x ∷ []))) }
 {
+    let start = before_tick(start);
+    let before = after_tick(last);
+    let sure = after_tick(time);
     Event {
-        start: Cut::before_whole(i64::from(start)),
-        before: Cut::after_whole(i64::from(last.time())),
-        sure: Cut::after_whole(i64::from(row.time())),
+        start,
+        before,
+        sure,
         first: false,
         ended: false,
     }
 }
 
 /// The end of a trace that starts there, after its last row.
-fn end_event(start: u32, last: &Row) -> Event
+fn end_event(start: u32, last: u32) -> Event
     ensures event { IsEvent result }
     ensures first { result.first ≡ false }
     ensures ended { result.ended ≡ true }
-    ensures happens { (header : Header) (r : ARow) (rows : List ARow) → start ≡ r.time → last.now ≡ last_after r rows
+    ensures happens { (header : Header) (r : ARow) (rows : List ARow) → start ≡ r.time → last ≡ (last_after r rows).time
         → Happens result (Some (trace_of header (r ∷ rows))) (trace_of header (r ∷ rows)) }
 {
-    let sure = Cut::after_whole(i64::from(last.time()));
+    let start = before_tick(start);
+    let sure = after_tick(last);
     Event {
-        start: Cut::before_whole(i64::from(start)),
+        start,
         before: sure,
         sure,
         first: false,
@@ -84,7 +89,7 @@ fn take_first(
         → SetsAre formula.now.nodes header row.now.time sets.new.items (row.now ∷ [])) }
 {
     *sets = all_sets(alloc, formula, row.time())?;
-    let event = first_event(row);
+    let event = first_event(row.time());
     step_all(sets, formula, bound, &None, row, &event)?;
     Ok(())
 }
@@ -107,7 +112,7 @@ fn take_next(
     let Some(before) = last else {
         unreachable!();
     };
-    let event = next_event(begin, before, row);
+    let event = next_event(begin, before.time(), row.time());
     step_all(sets, formula, bound, last, row, &event)?;
     Ok(())
 }
@@ -167,7 +172,7 @@ pub(crate) fn end_sets(
     let Some(row) = last else {
         unreachable!();
     };
-    let event = end_event(begin, row);
+    let event = end_event(begin, row.time());
     step_all(sets, formula, bound, &None, row, &event)?;
     match root_verdict(sets, begin) {
         Some(holds) => Ok(holds),

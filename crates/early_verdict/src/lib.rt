@@ -14,6 +14,7 @@ mod lasting;
 mod looks;
 mod making;
 mod net;
+mod operators;
 mod pointwise;
 pub mod probe;
 mod reach;

@@ -3,177 +3,19 @@ ghost use Rattle.std.specs.Prelude.{◌≡◌, ◌≤◌, ◌<◌, ◌+◌, ◌�
 ghost use Rattle.stl_syntax.specs.Trace.{Trace, start};
 ghost use Rattle.stl_syntax.specs.Formula.{HasChildrenBelow};
 ghost use Rattle.stl_syntax.specs.declared.node.Node.{Node as ANode};
-ghost use Rattle.early_verdict.specs.Looking.{IsAhead, IsBehind};
 ghost use Rattle.early_verdict.specs.Fitting.{Lists, Fits, AreEmpty, AreSetsTidy, HasStepped, lists_at};
 ghost use Rattle.early_verdict.specs.Happening.{Happens, IsEvent, Was};
 ghost use Rattle.early_verdict.specs.declared.sets.Sets.{Sets as ASets};
 ghost use Rattle.early_verdict.specs.Standing.{AllEmpty, AllFit, AllGo, AllTidy, AllWere, HadAll, HasParts, HaveSets, IsOperator, LeafGoes, LeafIsBound, StepsAt, SteppedTo};
 
 use crate::atoms::{rest, step_atom};
-use crate::connectives::{
-    step_conjunction, step_constant, step_disjunction, step_implication, step_negation,
-};
 use crate::event::Event;
-use crate::looks::{step_always, step_eventually, step_historically, step_once};
-use crate::runs::{step_since, step_until};
+use crate::operators::step_operator;
 use crate::sets::Sets;
-use crate::window::Window;
 use atom_lines::Bound;
 use frac128::Memory;
 use stl_syntax::{Formula, Node};
 use trace_reader::Row;
-
-/// The window of an operator that looks ahead.
-fn ahead(low: u32, high: u32, low_in: bool, high_in: bool) -> Window
-    ensures { IsAhead result low high low_in high_in }
-{
-    Window {
-        low: Some(i64::from(low)),
-        high: i64::from(high),
-        low_in,
-        high_in,
-    }
-}
-
-/// The window of an operator that looks behind.
-fn behind(low: u32, high: Option<u32>, low_in: bool, high_in: bool) -> Window
-    ensures { IsBehind result low high low_in high_in }
-{
-    match high {
-        Some(most) => Window {
-            low: Some(-i64::from(most)),
-            high: -i64::from(low),
-            low_in: high_in,
-            high_in: low_in,
-        },
-        None => Window {
-            low: None,
-            high: -i64::from(low),
-            low_in: high_in,
-            high_in: low_in,
-        },
-    }
-}
-
-/// Steps the sets of an operator from those of its children.
-fn step_operator(own: &mut Sets, node: &Node, below: &[Sets], event: &Event) -> Result<(), Memory>
-    requires own { AreSetsTidy own.old }
-    requires below { AllTidy below.now }
-    requires children { HasChildrenBelow (length below.now) node.now }
-    requires event { IsEvent event.now }
-    requires none { event.now.first ≡ true → AreEmpty own.old }
-    ensures stepped { OnOk result (HasStepped own.old own.new) }
-    ensures fits { OnOk result ((old : Option Trace) (tr : Trace) (was : ℕ → Lists) → IsOperator node.now → Happens event.now old tr
-        → HadAll old tr was below.now → HasParts node.now own.old below.now → Was old (λ o. Fits node.now false o was) own.old
-        → Fits node.now event.now.ended tr (lists_at below.now) own.new) }
-{
-    match node {
-        Node::Const(holds) => {
-            step_constant(own, *holds, event)?;
-            Ok(())
-        }
-        Node::Atom(_) => {
-            rest(own);
-            Ok(())
-        }
-        Node::Not(of) => {
-            step_negation(own, &below[*of as usize])?;
-            Ok(())
-        }
-        Node::And(left, right) => {
-            step_conjunction(own, &below[*left as usize], &below[*right as usize])?;
-            Ok(())
-        }
-        Node::Or(left, right) => {
-            step_disjunction(own, &below[*left as usize], &below[*right as usize])?;
-            Ok(())
-        }
-        Node::Implies(left, right) => {
-            step_implication(own, &below[*left as usize], &below[*right as usize])?;
-            Ok(())
-        }
-        Node::Until {
-            left,
-            right,
-            low,
-            high,
-        } => {
-            let w = ahead(*low, *high, true, true);
-            let up_to = ahead(0, *low, true, true);
-            step_until(
-                own,
-                &below[*left as usize],
-                &below[*right as usize],
-                &w,
-                &up_to,
-                event,
-            )?;
-            Ok(())
-        }
-        Node::Eventually {
-            of,
-            low,
-            high,
-            low_in,
-            high_in,
-        } => {
-            let w = ahead(*low, *high, *low_in, *high_in);
-            step_eventually(own, &below[*of as usize], &w, event)?;
-            Ok(())
-        }
-        Node::Always {
-            of,
-            low,
-            high,
-            low_in,
-            high_in,
-        } => {
-            let w = ahead(*low, *high, *low_in, *high_in);
-            step_always(own, &below[*of as usize], &w, event)?;
-            Ok(())
-        }
-        Node::Since {
-            left,
-            right,
-            low,
-            high,
-        } => {
-            let w = behind(*low, *high, true, true);
-            let down_to = behind(0, Some(*low), true, true);
-            step_since(
-                own,
-                &below[*left as usize],
-                &below[*right as usize],
-                &w,
-                &down_to,
-                event,
-            )?;
-            Ok(())
-        }
-        Node::Once {
-            of,
-            low,
-            high,
-            low_in,
-            high_in,
-        } => {
-            let w = behind(*low, *high, *low_in, *high_in);
-            step_once(own, &below[*of as usize], &w, event)?;
-            Ok(())
-        }
-        Node::Historically {
-            of,
-            low,
-            high,
-            low_in,
-            high_in,
-        } => {
-            let w = behind(*low, *high, *low_in, *high_in);
-            step_historically(own, &below[*of as usize], &w, event)?;
-            Ok(())
-        }
-    }
-}
 
 /// Steps the sets of a node.
 fn step_node(
@@ -210,10 +52,7 @@ fn step_node(
             step_atom(own, bound, below.len() as u32, before, row)?;
             Ok(())
         }
-        _ => {
-            step_operator(own, node, below, event)?;
-            Ok(())
-        }
+        _ => step_operator(own, node, below, event),
     }
 }
 

@@ -1,7 +1,7 @@
 //! One event over the sets of until and since.
 ghost use Rattle.std.specs.Prelude.{◌≡◌, OnOk, Option, Some, ℕ, true, false, MatchOption, IsSome};
 ghost use Rattle.stl_syntax.specs.Trace.{Trace};
-ghost use Rattle.early_verdict.specs.Fitting.{Lists, lists_of, AreEmpty, AreSetsTidy, IsHoldingTidy, IsFailingTidy, IsHoldingEmpty, IsFailingEmpty, HasFailBounds, HasStepped, KeepsHolding, KeepsFailing, UntilHolding, UntilFailing, SinceHolding, SinceFailing, UntilFits, SinceFits};
+ghost use Rattle.early_verdict.specs.Fitting.{Lists, lists_of, AreEmpty, AreSetsTidy, IsHoldingTidy, IsFailingTidy, IsHoldingEmpty, IsFailingEmpty, GainsHolding, GainsFailing, HasFailBounds, HasStepped, KeepsHolding, KeepsFailing, UntilHolding, UntilFailing, SinceHolding, SinceFailing, UntilFits, SinceFits};
 ghost use Rattle.early_verdict.specs.Happening.{Had, Happens, IsEvent, Was};
 ghost use Rattle.early_verdict.specs.Looking.{IsAhead, IsBehind};
 
@@ -28,6 +28,7 @@ fn until_holds(
     requires none { event.now.first ≡ true → IsHoldingEmpty own.old }
     ensures tidy { OnOk result (IsHoldingTidy own.new) }
     ensures bounds { OnOk result (KeepsHolding own.old own.new) }
+    ensures gains { OnOk result (GainsHolding own.old own.new) }
     ensures fits { OnOk result ((old : Option Trace) (tr : Trace) (p' q' : Lists) (a b : ℕ) → IsAhead w.now a b true true → IsAhead up_to.now 0 a true true
         → Happens event.now old tr → Had old tr p' p.now → Had old tr q' q.now
         → MatchOption old (IsHoldingEmpty own.old) (λ o. UntilHolding o a b p' q' own.old)
@@ -58,6 +59,7 @@ fn until_fails(
     requires none { event.now.first ≡ true → IsFailingEmpty own.old }
     ensures tidy { OnOk result (IsFailingTidy own.new) }
     ensures bounds { OnOk result (KeepsFailing own.old own.new) }
+    ensures gains { OnOk result (GainsFailing own.old own.new) }
     ensures fits { OnOk result ((old : Option Trace) (tr : Trace) (p' q' : Lists) (a b : ℕ) → IsAhead w.now a b true true → IsAhead up_to.now 0 a true true
         → Happens event.now old tr → Had old tr p' p.now → Had old tr q' q.now
         → own.old.fail.bounds ≡ p.now.no.bounds → own.old.stop.bounds ≡ p.now.no.bounds
@@ -88,6 +90,7 @@ fn since_holds(
     requires none { event.now.first ≡ true → IsHoldingEmpty own.old }
     ensures tidy { OnOk result (IsHoldingTidy own.new) }
     ensures bounds { OnOk result (KeepsHolding own.old own.new) }
+    ensures gains { OnOk result (GainsHolding own.old own.new) }
     ensures fits { OnOk result ((old : Option Trace) (tr : Trace) (p' q' : Lists) (a : ℕ) (b : Option ℕ) → IsBehind w.now a b true true → IsBehind down_to.now 0 (Some a) true true
         → Happens event.now old tr → Had old tr p' p.now → Had old tr q' q.now
         → MatchOption old (IsHoldingEmpty own.old) (λ o. SinceHolding o a b p' q' own.old)
@@ -117,6 +120,7 @@ fn since_fails(
     requires none { event.now.first ≡ true → IsFailingEmpty own.old }
     ensures tidy { OnOk result (IsFailingTidy own.new) }
     ensures bounds { OnOk result (KeepsFailing own.old own.new) }
+    ensures gains { OnOk result (GainsFailing own.old own.new) }
     ensures fits { OnOk result ((old : Option Trace) (tr : Trace) (p' q' : Lists) (a : ℕ) (b : Option ℕ) → IsBehind w.now a b true true → IsBehind down_to.now 0 (Some a) true true
         → Happens event.now old tr → Had old tr p' p.now → Had old tr q' q.now
         → own.old.fail.bounds ≡ p.now.no.bounds → own.old.stop.bounds ≡ p.now.no.bounds
