@@ -42,3 +42,4 @@ pub mod StandingOn
 pub mod PartSets
 pub mod TopsLemmas
 pub mod Splitting
+pub mod MadeLemmas
