@@ -43,3 +43,5 @@ pub mod PartSets
 pub mod TopsLemmas
 pub mod Splitting
 pub mod MadeLemmas
+pub mod Opening
+pub mod Feeding

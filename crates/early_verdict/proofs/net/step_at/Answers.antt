@@ -1,4 +1,5 @@
 use Rattle.std.proofs.Common.{◌≡◌, ℕ, List, sym, subst, ap, ◌∙◌, take, length, Option, Some}
+use Rattle.std.specs.Prelude.{slice_index_or}
 use Rattle.stl_syntax.specs.Trace.{Trace}
 use Rattle.early_verdict.specs.Fitting.{Fits, Lists, lists_at}
 use Rattle.early_verdict.specs.Happening.{Was}
@@ -28,6 +29,7 @@ returns c =
     let i = c.args.i in
     let n = c.args.node.now in
     let front = f.result.0.now in
+    let own : Sets = slice_index_or f.result.1.now 0 c.index-from-0.result in
     let e = f.ensures.front in
     let size : length front ≡ i = ap (λ (xs : List Sets). length xs) e ∙ length_front sets i c.requires.within in
     on_two c.step_node.result c.step_node.ensures.stepped c.step_node.ensures.fits (λ step fits. (
@@ -35,6 +37,6 @@ returns c =
       λ old tr was h had parts leaf w.
           subst (λ (xs : List Sets). Fits n c.args.event.now.ended tr (lists_at xs) c.step_node.new.own) e
           (fits old tr was h (subst (λ (xs : List Sets). HadAll old tr was xs) (sym e) had)
-          (subst (λ (xs : List Sets). HasParts n _ xs) (sym e) parts)
-          (subst (λ (k : ℕ). LeafGoes c.args.bound.now k c.args.event.now old tr c.args.before.now c.args.row.now _ n) (sym size) leaf) w),
+          (subst (λ (xs : List Sets). HasParts n own xs) (sym e) parts)
+          (subst (λ (k : ℕ). LeafGoes c.args.bound.now k c.args.event.now old tr c.args.before.now c.args.row.now own n) (sym size) leaf) w),
     ))
