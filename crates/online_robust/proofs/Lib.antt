@@ -1,3 +1,12 @@
 mod EdgesLemmas
 pub mod DroppingLemmas
 mod QueueLemmas
+pub mod JoinedLemmas
+pub mod Losses
+pub mod Robustly
+pub mod Builts
+pub mod Choosing
+pub mod WindowLaw
+pub mod PointwiseLemmas
+pub mod NotLemmas
+pub mod TwoLemmas

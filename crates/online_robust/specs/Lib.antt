@@ -1,3 +1,7 @@
 pub mod Lines
 pub mod Held
 pub mod Queues
+pub mod Told
+pub mod Reading
+pub mod Couples
+pub mod Sweeping

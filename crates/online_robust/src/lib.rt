@@ -3,7 +3,9 @@
 #![tactic(auto)]
 
 mod edges;
+mod ends;
 mod line;
+mod pointwise;
 mod queue;
 
 pub use line::MarginLine;

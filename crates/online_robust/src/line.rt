@@ -16,6 +16,13 @@ pub enum MarginLine {
     Gap { from: Frac, to: Frac, piece: Margin },
 }
 
+/// The margin of a node at the time up to which it was told.
+#[derive(Clone, Copy, Debug)]
+pub(crate) struct Reached {
+    pub(crate) at: Frac,
+    pub(crate) value: Margin,
+}
+
 impl MarginLine {
     /// The time of a point, and where a gap ends.
     pub(crate) fn end(&self) -> Frac

@@ -1,6 +1,6 @@
 -- What a session is told among the lines of many.
-use Rattle.std.proofs.Common.{◌≡◌, ◌⊎◌, inl, inr, refl, sym, ap, subst, ◌∙◌, ℕ, Bool, true, false, cond, List, [], ◌∷◌, ◌++◌, append_assoc}
-use Rattle.std.specs.Prelude.{◌&&◌, ◌||◌, not, codes, bytes_eq, Option, Some, None, MatchBool, ◌≢◌}
+use Rattle.std.proofs.Common.{◌≡◌, inl, inr, refl, sym, ap, subst, ◌∙◌, ℕ, Bool, true, false, cond, List, [], ◌∷◌, ◌++◌, append_assoc}
+use Rattle.std.specs.Prelude.{◌&&◌, ◌||◌, not, codes, bytes_eq, Option, Some, None, ◌≢◌}
 use Rattle.std.proofs.lemmas.List.{append-nil}
 use Rattle.std.proofs.lemmas.Bool.{false≢true}
 use Rattle.std.proofs.lemmas.Slice.Eq.{bytes_eq-Decides}
@@ -13,9 +13,9 @@ use Rattle.workbench.specs.Requests.{verdicts}
 use Rattle.workbench.specs.Owed.{StreamOf}
 use Rattle.workbench.specs.Sessions.{Tagged, is_query, is_stop, own, is_stopped, Alone, SoFar, IsRowsStream, IsFaultLine, prefixed, IsAnswer, AreAnswers}
 use Rattle.workbench.specs.SessionsAlone.{lines_of, is_of, IsAdded, AreTold, OneTextAlone, EachIsToldAsAlone, OthersAddNothing}
-use Rattle.workbench.proofs.FaultPlaces.{at_true, at_false, to_true, to_false}
-use Rattle.workbench.proofs.OneFault.{one_fault}
-use Rattle.workbench.proofs.OwedLaws.{stream_owed_once}
+use Rattle.trace_stream.proofs.FaultPlaces.{at_true, at_false, to_true, to_false}
+use Rattle.trace_stream.proofs.OneFault.{one_fault}
+use Rattle.trace_stream.proofs.OwedRows.{stream_owed_once}
 
 -- the stream of rows under a header is that of verdicts
 stream_of : (f : Formula) (header : Option Header) (rows : List Row) (whole : Bool) (s : List ℕ) → IsRowsStream f header rows whole s

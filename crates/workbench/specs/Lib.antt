@@ -8,8 +8,9 @@ pub mod Words
 pub mod Writing
 pub mod Answers
 pub mod Reading
-pub mod Cases
 pub mod Saying
+pub mod Stopping
+pub mod Telling
 pub mod Requests
 pub mod Owed
 pub mod Settled
@@ -20,9 +21,10 @@ pub mod Pushing
 pub mod Promises
 pub mod Judging
 pub mod Measured
-pub mod Following
 pub mod Reasons
 pub mod Accounts
-pub mod Watching
 pub mod Watches
 pub mod SureLines
+pub mod Numerals
+pub mod Made
+pub mod Complete

@@ -1,5 +1,5 @@
 -- What a session is told among the lines of many, and that it is what its own lines get alone.
-use Rattle.std.specs.Prelude.{◌≡◌, ℕ, Bool, true, false, ◌&&◌, not, List, [], ◌∷◌, ◌++◌, codes, bytes_eq, if◌then◌else◌, MatchBool}
+use Rattle.std.specs.Prelude.{◌≡◌, ℕ, Bool, true, ◌&&◌, not, List, [], ◌∷◌, ◌++◌, codes, bytes_eq, if◌then◌else◌, MatchBool}
 use Rattle.stl_syntax.specs.Formula.{Formula}
 use Rattle.trace_reader.specs.TraceText.{lines}
 use Rattle.workbench.specs.Sessions.{Tagged, is_query, own, is_stopped, Alone, SoFar, prefixed, IsAnswer, AreAnswers}

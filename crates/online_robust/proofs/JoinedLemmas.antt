@@ -1,0 +1,189 @@
+-- How lines are read from a time on.
+use Rattle.std.proofs.Common.{◌≡◌, ◌≢◌, ℕ, zero, suc, ◌+◌, ◌-◌, ◌<◌, ◌≤◌, ◌^◌, List, [], ◌∷◌, Some, None, Option, refl, sym, ap, subst, ◌∙◌, length, drop, get_or, slice_get, arith, length-drop}
+use Rattle.std.specs.Prelude.{IfSome}
+use Rattle.std.proofs.lemmas.List.{get_or-set_other, get_or-set_same, length-set}
+use Rattle.rational.specs.Rational.{IsWithin}
+use Rattle.rational.specs.Time.{Rational, ◌≈◌, ◌≤ʳ◌, ◌<ʳ◌, whole}
+use Rattle.rational.specs.Extended.{value_at}
+use Rattle.rational.specs.Affine.{IsBounded}
+use Rattle.rational.specs.Windows.{Function}
+use Rattle.rational.proofs.Order.{le_refl, le_of_lt, le_of_same, ge_of_same, le_trans, lt_of_le_of_lt, lt_of_lt_of_le, lt_irrefl, same_refl, same_sym, same_trans}
+use Rattle.rational.proofs.Sames.{symᵉ}
+use Rattle.rational.proofs.AffineLemmas.{value_same, bounded_same}
+use Rattle.rational.proofs.Bounds.{bounded_between}
+use Rattle.rational.proofs.TimeFunctions.{IsFunction}
+use Rattle.frac128.specs.Value.{value}
+use Rattle.frac128.specs.declared.frac.Frac.{Frac}
+use Rattle.value_laws.specs.Margins.{margin_function}
+use Rattle.value_laws.specs.declared.margin.Margin.{Margin}
+use Rattle.online_robust.specs.Lines.{end_of}
+use Rattle.online_robust.specs.Held.{Edge, Held, edge_at, held_at, held_of, no_edge, with_edge, without}
+use Rattle.online_robust.specs.Told.{AreFit, AreJoined, AreTold, IsFitLine, IsToldLine, IsMovedBy, IsTick}
+use Rattle.online_robust.specs.Reading.{IsAhead, IsThere, Loses, LosesAt, LosesAtBoth}
+use Rattle.online_robust.specs.declared.line.MarginLine.{MarginLine}
+use Rattle.online_robust.specs.declared.line.MarginLine.TheVariants.{Point, Gap}
+use Rattle.online_robust.proofs.DroppingLemmas.{drop-drop, held_of-without, slice_get-drop, without-none}
+
+-- lines that begin with a gap about the time and the point behind it
+pub record FirstGap (P : Function) (reach : ℕ) (at to : Rational) (lines : List MarginLine) : Type 0 where
+  pub a : Frac
+  pub b : Frac
+  pub p : Margin
+  pub u : Frac
+  pub v : Margin
+  pub rest : List MarginLine
+  pub is : lines ≡ Gap a b p ∷ Point u v ∷ rest
+  pub begun : value a ≤ʳ at
+  pub ends : value b ≈ value u
+  pub later : at <ʳ value b
+  pub joined : AreJoined (value u) to rest
+  pub gap : IsToldLine P (Gap a b p)
+  pub gap_fit : IsFitLine reach (Gap a b p)
+  pub point : IsToldLine P (Point u v)
+  pub point_fit : IsFitLine reach (Point u v)
+  pub told : AreTold P rest
+  pub fit : AreFit reach rest
+
+-- what is to be read before the end begins with a gap
+pub first_gap : (P : Function) (reach : ℕ) (at to : Rational) (lines : List MarginLine) → IsAhead P reach at to lines → at <ʳ to
+    → FirstGap P reach at to lines
+first_gap P reach at to [] h lt = absurd (lt_irrefl (lt_of_lt_of_le lt (le_trans (ge_of_same h.joined) h.begun)))
+first_gap P reach at to (Point u v ∷ lines) h lt = absurd h.joined
+first_gap P reach at to (Gap a b p ∷ []) h lt = absurd h.joined
+first_gap P reach at to (Gap a b p ∷ Gap c d q ∷ lines) h lt = absurd h.joined
+first_gap P reach at to (Gap a b p ∷ Point u v ∷ lines) h lt = record {
+  a = a;
+  b = b;
+  p = p;
+  u = u;
+  v = v;
+  rest = lines;
+  is = refl;
+  begun = le_trans (le_of_same h.joined.0) h.begun;
+  ends = h.joined.1;
+  later = h.later;
+  joined = h.joined.2;
+  gap = h.told.0;
+  gap_fit = h.fit.0;
+  point = h.told.1.0;
+  point_fit = h.fit.1.0;
+  told = h.told.1.1;
+  fit = h.fit.1.1;
+}
+
+-- lines that are joined from a time on are ahead of it
+pub ahead_from : (P : Function) (reach : ℕ) (at to : Rational) (lines : List MarginLine) → AreTold P lines → AreFit reach lines → AreJoined at to lines
+    → IsAhead P reach at to lines
+ahead_from P reach at to [] told fit joined = record { told = told; fit = fit; from = at; begun = le_refl at; joined = joined; later = tt }
+ahead_from P reach at to (Point u v ∷ lines) told fit joined = absurd joined
+ahead_from P reach at to (Gap a b p ∷ []) told fit joined = absurd joined
+ahead_from P reach at to (Gap a b p ∷ Gap c d q ∷ lines) told fit joined = absurd joined
+ahead_from P reach at to (Gap a b p ∷ Point u v ∷ lines) told fit joined = record {
+  told = told;
+  fit = fit;
+  from = at;
+  begun = le_refl at;
+  joined = joined;
+  later = lt_of_le_of_lt (ge_of_same joined.0) told.0.0;
+}
+
+-- from a time on that comes before another
+pub joined_same : (s t to : Rational) (lines : List MarginLine) → s ≈ t → AreJoined s to lines → AreJoined t to lines
+joined_same s t to [] e h = same_trans (same_sym e) h
+joined_same s t to (Point u v ∷ lines) e h = absurd h
+joined_same s t to (Gap a b p ∷ []) e h = absurd h
+joined_same s t to (Gap a b p ∷ Gap c d q ∷ lines) e h = absurd h
+joined_same s t to (Gap a b p ∷ Point u v ∷ lines) e (x, y, z) = (same_of x e, y, z)
+  where
+    same_of : value a ≈ s → s ≈ t → value a ≈ t
+    same_of x e = same_trans x e
+
+module _ (P : Function) (reach : ℕ) (is_function : IsFunction P) where
+  -- at a time strictly inside a gap the function is the gap's margin
+  pub there_in : (a b : Frac) (p : Margin) (t : Rational) → IsToldLine P (Gap a b p) → IsFitLine reach (Gap a b p) → value a <ʳ t → t <ʳ value b
+      → IsThere P reach t p
+  there_in a b p t told fit x y = record {
+    told = told.1 t x y;
+    bounded = bounded_between (2 ^ 31) (margin_function p) (value a) t (value b) x y fit.2 fit.3;
+    moved = fit.4;
+  }
+
+  -- at the time of a point it is the point's margin
+  pub there_at : (u : Frac) (v : Margin) (t : Rational) → IsToldLine P (Point u v) → IsFitLine reach (Point u v) → value u ≈ t → IsThere P reach t v
+  there_at u v t told fit e = record {
+    told = is_function.alike (value u) t (value_at (margin_function v) (value u)) (value_at (margin_function v) t) e (value_same (margin_function v) e) told;
+    bounded = bounded_same (2 ^ 31) (value_at (margin_function v) t) (value_at (margin_function v) (value u)) (symᵉ (value_same (margin_function v) e)) fit.1;
+    moved = fit.2;
+  }
+
+  module _ (at to : Rational) (lines : List MarginLine) where
+    -- behind the first gap and its point the lines are ahead of that point
+    pub ahead_next : (g : FirstGap P reach at to lines) (t : Rational) → value g.b ≈ t → IsAhead P reach t to g.rest
+    ahead_next g t e = ahead_from P reach t to g.rest g.told g.fit (joined_same (value g.u) t to g.rest
+        (same_trans (same_sym g.ends) e) g.joined)
+
+    -- within the first gap they stay ahead
+    pub ahead_on : (h : IsAhead P reach at to lines) (g : FirstGap P reach at to lines) (t : Rational) → at ≤ʳ t → t <ʳ value g.b
+        → IsAhead P reach t to lines
+    ahead_on h g t le lt = record {
+      told = h.told;
+      fit = h.fit;
+      from = h.from;
+      begun = le_trans h.begun le;
+      joined = h.joined;
+      later = subst (λ (l : List MarginLine). IfSome (slice_get l 0) (λ x. t <ʳ value (end_of x))) (sym g.is) lt;
+    }
+
+-- what is to be read begins with a gap where there is something
+pub first_of : (P : Function) (reach : ℕ) (at to : Rational) (lines : List MarginLine) (gap : MarginLine) → IsAhead P reach at to lines
+    → slice_get lines 0 ≡ Some gap → (g : FirstGap P reach at to lines) × (gap ≡ Gap g.a g.b g.p)
+first_of P reach at to [] gap h e = absurd (let x : None ≡ Some gap = e in cc)
+first_of P reach at to (Point u v ∷ lines) gap h e = absurd h.joined
+first_of P reach at to (Gap a b p ∷ []) gap h e = absurd h.joined
+first_of P reach at to (Gap a b p ∷ Gap c d q ∷ lines) gap h e = absurd h.joined
+first_of P reach at to (Gap a b p ∷ Point u v ∷ lines) gap h e = (
+  record {
+    a = a;
+    b = b;
+    p = p;
+    u = u;
+    v = v;
+    rest = lines;
+    is = refl;
+    begun = le_trans (le_of_same h.joined.0) h.begun;
+    ends = h.joined.1;
+    later = h.later;
+    joined = h.joined.2;
+    gap = h.told.0;
+    gap_fit = h.fit.0;
+    point = h.told.1.0;
+    point_fit = h.fit.1.0;
+    told = h.told.1.1;
+    fit = h.fit.1.1;
+  },
+  let x : Some (Gap a b p) ≡ Some gap = e in let y : gap ≡ Gap a b p = cc in y,
+)
+
+-- joined lines begin before they end
+pub joined_to : (from to : Rational) (P : Function) (lines : List MarginLine) → AreTold P lines → AreJoined from to lines → from ≤ʳ to
+joined_to from to P [] told joined = le_of_same joined
+joined_to from to P (Point u v ∷ lines) told joined = absurd joined
+joined_to from to P (Gap a b p ∷ []) told joined = absurd joined
+joined_to from to P (Gap a b p ∷ Gap c d q ∷ lines) told joined = absurd joined
+joined_to from to P (Gap a b p ∷ Point u v ∷ lines) told joined =
+    le_trans (ge_of_same joined.0) (le_trans (le_of_lt told.0.0) (le_trans (le_of_same joined.1) (joined_to (value u) to P lines told.1.1 joined.2)))
+
+-- what is ahead of a time is ahead of it by another pair
+pub ahead_same : (P : Function) (reach : ℕ) (t u to : Rational) (lines : List MarginLine) → t ≈ u → IsAhead P reach t to lines → IsAhead P reach u to lines
+ahead_same P reach t u to lines e h = record {
+  told = h.told;
+  fit = h.fit;
+  from = h.from;
+  begun = le_trans h.begun (le_of_same e);
+  joined = h.joined;
+  later = by_first (slice_get lines 0) h.later;
+}
+  where
+    by_first : (o : Option MarginLine) → IfSome o (λ x. t <ʳ value (end_of x)) → IfSome o (λ x. u <ʳ value (end_of x))
+    by_first None k = k
+    by_first (Some x) k = lt_of_le_of_lt (ge_of_same e) k

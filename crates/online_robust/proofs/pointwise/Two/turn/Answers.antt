@@ -1,0 +1,253 @@
+use Rattle.std.proofs.Common.{◌≡◌, ◌≢◌, ◌⊎◌, inl, inr, Some, None, sym, subst, ap, ◌∙◌, ◌^◌, ◌<◌, ◌≤◌, slice_get, length, arith}
+use Rattle.std.specs.Prelude.{IsTrue}
+use Rattle.std.proofs.lemmas.Result.{err_from_is_err_and}
+use Rattle.rational.specs.Rational.{IsWithin}
+use Rattle.rational.specs.Time.{Rational, ◌≈◌, ◌<ʳ◌, ◌≤ʳ◌}
+use Rattle.rational.specs.Extended.{value_at, ◌≈ᵉ◌}
+use Rattle.rational.specs.Affine.{HasBoundedLevel}
+use Rattle.rational.proofs.Order.{le_of_lt, le_of_same, ge_of_same, le_trans, lt_of_le_of_lt, lt_of_lt_of_le, same_refl, same_sym, same_trans}
+use Rattle.rational.proofs.Mixed.{within_same}
+use Rattle.frac128.specs.Value.{value}
+use Rattle.frac128.specs.declared.frac.Frac.{Frac}
+use Rattle.value_laws.specs.Kinds.{margin_shape}
+use Rattle.value_laws.specs.Margins.{is_ramp, margin_base, margin_function}
+use Rattle.value_laws.specs.declared.margin.Margin.{Margin}
+use Rattle.pl_signal.specs.Knots.{stop}
+use Rattle.pl_signal.specs.Joining.{IsGapFault, Joins}
+use Rattle.stl_syntax.specs.SupInf.{Robustness}
+use Rattle.online_robust.specs.Lines.{end_of, margin_of}
+use Rattle.online_robust.specs.Held.{Held, held_at, held_of}
+use Rattle.online_robust.specs.Told.{IsTick}
+use Rattle.online_robust.specs.Reading.{IsAhead, IsThere, LosesAtBoth, value_turned}
+use Rattle.online_robust.specs.Couples.{Couple, IsJoinedTo, IsReadTo, Source, both_of, right_of, turns_left}
+use Rattle.online_robust.specs.declared.line.MarginLine.{MarginLine}
+use Rattle.online_robust.proofs.Builts.{tick_between, tick_within}
+use Rattle.online_robust.proofs.Losses.{both_of as lost_both}
+use Rattle.online_robust.proofs.TwoLemmas.{IsStop, built_joined, counted_level, joined_fault, left_later, left_level, left_some, left_source, right_later, right_level, right_some_too, right_source, stop_of, turn_nearer}
+use Rattle.online_robust.proofs.pointwise.Two.turn.Goals.{After-earlier-t, After-up_to-x, After-up_to-y, After-left_of}
+use Rattle.online_robust.proofs.pointwise.Two.turn.Goals as goal
+
+pub unreachable-requires : goal.unreachable-requires
+unreachable-requires c =
+    let (x, to, e, built) = c.requires.joined in
+    left_some x c.args.self.now c.args.edges.now (value c.args.at.now) to (lt_of_lt_of_le c.requires.order (le_of_same e))
+    (sym c.first.ensures ∙ c.in_default.is)
+
+pub unreachable-requires-in_default-first : goal.unreachable-requires-in_default-first
+unreachable-requires-in_default-first c =
+    let (x, to, e, built) = c.requires.joined in
+    right_some_too x c.args.self.now c.args.edges.now (value c.args.at.now) to (lt_of_lt_of_le c.requires.order (le_of_same e))
+    (sym c.first-2.ensures ∙ c.in_default-first.is)
+
+-- where the turn stops
+stop_at : (c : After-earlier-t) → (x : Couple) → IsJoinedTo x c.args.self.now c.args.edges.now (value c.args.at.now) → value c.args.to.now ≈ x.to
+    → IsStop (value c.args.at.now) c.in-Some.p c.in-Some-first.q (value c.earlier-t.result) (value c.args.to.now)
+stop_at c x to e =
+    let more = lt_of_lt_of_le c.requires.order (le_of_same e) in
+    let first = sym c.first.ensures ∙ c.in-Some.is in
+    let second = sym c.first-2.ensures ∙ c.in-Some-first.is in
+    stop_of (value c.args.at.now) c.in-Some.p c.in-Some-first.q c.end.result c.end-2.result c.earlier.result c.earlier-t.result c.args.to.now
+    c.end.ensures c.end-2.ensures
+    (left_later x c.args.self.now c.args.edges.now (value c.args.at.now) to more c.in-Some.p c.in-Some-first.q first second)
+    (right_later x c.args.self.now c.args.edges.now (value c.args.at.now) to more c.in-Some.p c.in-Some-first.q first second)
+    c.requires.order c.earlier.ensures.left c.earlier.ensures.right c.earlier.ensures.one c.earlier-t.ensures.left c.earlier-t.ensures.right
+    c.earlier-t.ensures.one
+
+read_left : (c : After-earlier-t) → (x : Couple) → IsJoinedTo x c.args.self.now c.args.edges.now (value c.args.at.now) → value c.args.to.now ≈ x.to
+    → IsReadTo (left_source x c.args.self.now (value c.args.at.now)) c.in-Some.p (value c.earlier-t.result) (held_at c.args.edges.now c.args.self.now.left)
+read_left c x to e =
+    let s = stop_at c x to e in
+    record { ahead = to.left; first = sym c.first.ensures ∙ c.in-Some.is; after = s.after; before = s.left }
+
+read_right : (c : After-up_to-x) → (x : Couple) → IsJoinedTo x c.args.self.now c.args.edges.now (value c.args.at.now) → value c.args.to.now ≈ x.to
+    → IsStop (value c.args.at.now) c.in-Some.p c.in-Some-first.q (value c.earlier-t.result) (value c.args.to.now)
+    → IsReadTo (right_source x c.args.self.now (value c.args.at.now)) c.in-Some-first.q (value c.earlier-t.result)
+    (held_at c.up_to-x.new.edges c.args.self.now.right)
+read_right c x to e s =
+    let same : held_at c.args.edges.now c.args.self.now.right ≡ held_at c.up_to-x.new.edges c.args.self.now.right =
+    sym (ap held_of (c.up_to-x.ensures.lost.others c.args.self.now.right (λ f. to.apart (sym f)))) in
+    record {
+      ahead = subst (λ (l : _). IsAhead (Robustness x.right x.trace) x.reach (value c.args.at.now) x.right_to l) same to.right;
+      first = subst (λ (l : _). slice_get l 0 ≡ Some c.in-Some-first.q) same (sym c.first-2.ensures ∙ c.in-Some-first.is);
+      after = s.after;
+      before = s.right;
+    }
+
+tick_at : (c : After-earlier-t) → (x : Couple) → IsJoinedTo x c.args.self.now c.args.edges.now (value c.args.at.now) → value c.args.to.now ≈ x.to
+    → IsTick (value c.earlier-t.result)
+tick_at c x to e =
+    let s = stop_at c x to e in
+    tick_between to.span.begin to.span.end (le_trans to.span.first (le_trans to.from (le_of_lt s.after))) (le_trans s.by (le_of_same e))
+
+pub up_to-x-requires-clause-read : goal.up_to-x-requires-clause-read
+up_to-x-requires-clause-read c =
+    let (x, to, e, built) = c.requires.joined in
+    (left_source x c.args.self.now (value c.args.at.now), read_left (goal.at.up_to-x-requires-clause-read c).After-earlier-t x to e)
+
+pub up_to-y-requires-clause-of : goal.up_to-y-requires-clause-of
+up_to-y-requires-clause-of c =
+    let (x, to, e, built) = c.requires.joined in
+    let within = to.right_in in
+    omega (arith, within, c.up_to-x.ensures.lost.edges)
+
+pub up_to-y-requires-clause-read : goal.up_to-y-requires-clause-read
+up_to-y-requires-clause-read c =
+    let (x, to, e, built) = c.requires.joined in (
+      right_source x c.args.self.now (value c.args.at.now),
+      read_right (goal.at.up_to-y-requires-clause-read c).After-up_to-x x to e
+          (stop_at (goal.at.up_to-y-requires-clause-read c).After-earlier-t x to e),
+    )
+
+there_left : (c : After-up_to-y) → (x : Couple) → IsReadTo (left_source x c.args.self.now (value c.args.at.now)) c.in-Some.p (value c.earlier-t.result)
+    (held_at c.args.edges.now c.args.self.now.left) → IsThere (Robustness x.left x.trace) x.reach (value c.earlier-t.result) c.up_to-x.result
+there_left c x read = c.up_to-x.ensures.there (left_source x c.args.self.now (value c.args.at.now)) read
+
+there_right : (c : After-up_to-y) → (x : Couple) → IsReadTo (right_source x c.args.self.now (value c.args.at.now)) c.in-Some-first.q
+    (value c.earlier-t.result) (held_at c.up_to-x.new.edges c.args.self.now.right)
+    → IsThere (Robustness x.right x.trace) x.reach (value c.earlier-t.result) c.up_to-y.result
+there_right c x read = c.up_to-y.ensures.there (right_source x c.args.self.now (value c.args.at.now)) read
+
+pub of_both-value-requires : goal.of_both-value-requires
+of_both-value-requires c =
+    let (x, to, e, built) = c.requires.joined in
+    let step = (goal.at.of_both-value-requires c).After-earlier-t in (
+      x,
+      there_left (goal.at.of_both-value-requires c).After-up_to-y x (read_left step x to e),
+      there_right (goal.at.of_both-value-requires c).After-up_to-y x
+          (read_right (goal.at.of_both-value-requires c).After-up_to-x x to e (stop_at step x to e)),
+      tick_at step x to e,
+    )
+
+pub left_of-requires : goal.left_of-requires
+left_of-requires c =
+    let (x, to, e, built) = c.requires.joined in
+    subst (λ (m : Margin). HasBoundedLevel (2 ^ 31) (margin_function m)) (sym c.margin.ensures)
+    (left_level x c.args.self.now c.args.edges.now (value c.args.at.now) to (lt_of_lt_of_le c.requires.order (le_of_same e)) c.in-Some.p c.in-Some-first.q
+    (sym c.first.ensures ∙ c.in-Some.is) (sym c.first-2.ensures ∙ c.in-Some-first.is))
+
+pub join-requires-clause-order : goal.join-requires-clause-order
+join-requires-clause-order c =
+    let (x, to, e, built) = c.requires.joined in
+    lt_of_le_of_lt (le_of_same built.ends) (stop_at (goal.at.join-requires-clause-order c).After-earlier-t x to e).after
+
+pub join-requires-clause-from_within : goal.join-requires-clause-from_within
+join-requires-clause-from_within c =
+    let (x, to, e, built) = c.requires.joined in
+    within_same (2 ^ 34) (same_sym built.ends) (tick_within (tick_between to.span.begin to.span.end (le_trans to.span.first to.from) to.to))
+
+pub join-requires-clause-to_within : goal.join-requires-clause-to_within
+join-requires-clause-to_within c =
+    let (x, to, e, built) = c.requires.joined in
+    tick_within (tick_at (goal.at.join-requires-clause-to_within c).After-earlier-t x to e)
+
+-- what the left input counts as
+turned_at : (c : After-left_of) → (t : Rational)
+    → value_at (margin_function c.left_of.result) t ≈ᵉ value_turned c.args.self.now.turned (value_at (margin_function (margin_of c.in-Some.p)) t)
+turned_at c t = subst
+    (λ (m : Margin). value_at (margin_function c.left_of.result) t ≈ᵉ value_turned c.args.self.now.turned (value_at (margin_function m) t))
+    c.margin.ensures (c.left_of.ensures.value t)
+
+based_at : (c : After-left_of) → IsTrue (is_ramp c.left_of.result)
+    → IsTrue (is_ramp (margin_of c.in-Some.p)) × (margin_base c.left_of.result ≡ margin_base (margin_of c.in-Some.p))
+based_at c = subst
+    (λ (m : Margin). IsTrue (is_ramp c.left_of.result) → IsTrue (is_ramp m) × (margin_base c.left_of.result ≡ margin_base m))
+    c.margin.ensures c.left_of.ensures.base
+
+pub join-requires-clause-first : goal.join-requires-clause-first
+join-requires-clause-first c =
+    let (x, to, e, built) = c.requires.joined in
+    counted_level x c.args.self.now c.args.edges.now (value c.args.at.now) to (lt_of_lt_of_le c.requires.order (le_of_same e)) c.in-Some.p c.in-Some-first.q
+    (sym c.first.ensures ∙ c.in-Some.is) (sym c.first-2.ensures ∙ c.in-Some-first.is) c.left_of.result
+    (turned_at (goal.at.join-requires-clause-first c).After-left_of) (based_at (goal.at.join-requires-clause-first c).After-left_of)
+
+pub join-requires-clause-second : goal.join-requires-clause-second
+join-requires-clause-second c =
+    let (x, to, e, built) = c.requires.joined in
+    subst (λ (m : Margin). HasBoundedLevel (2 ^ 31) (margin_function m)) (sym c.margin-2.ensures)
+    (right_level x c.args.self.now c.args.edges.now (value c.args.at.now) to (lt_of_lt_of_le c.requires.order (le_of_same e)) c.in-Some.p c.in-Some-first.q
+    (sym c.first.ensures ∙ c.in-Some.is) (sym c.first-2.ensures ∙ c.in-Some-first.is))
+
+pub returns-in_err-join-clause-wide : goal.returns-in_err-join-clause-wide
+returns-in_err-join-clause-wide c x to e built =
+    let p = err_from_is_err_and c.from_residual.result c.from_residual.ensures.1 in
+    let (from, at, fault) = c.in_err-join.ensures.wide in
+    let step = (goal.at.returns-in_err-join-clause-wide c).After-earlier-t in
+    let s = stop_at step x to e in
+    rw (p.1, p.2) (joined_fault x c.args.self.now c.args.edges.now (value c.args.at.now) to (lt_of_lt_of_le c.requires.order (le_of_same e)) c.in-Some.p
+    c.in-Some-first.q (sym c.first.ensures ∙ c.in-Some.is) (sym c.first-2.ensures ∙ c.in-Some-first.is) c.left_of.result
+    (turned_at (goal.at.returns-in_err-join-clause-wide c).After-left_of) (based_at (goal.at.returns-in_err-join-clause-wide c).After-left_of)
+    c.earlier-t.result s.left s.right s.after (le_trans s.by (le_of_same e)) from (subst (λ (t : Rational). t ≈ value c.args.at.now) (sym at) built.ends)
+    c.in_err-join.field-0.0
+    (subst (λ (m : Margin). IsGapFault margin_shape c.left_of.result m from c.earlier-t.result c.in_err-join.field-0.0) c.margin-2.ensures fault))
+
+pub returns-clause-reached : goal.returns-clause-reached
+returns-clause-reached c x to e =
+    let step = (goal.at.returns-clause-reached c).After-earlier-t in (
+      same_refl (value c.earlier-t.result),
+      tick_at step x to e,
+      c.of_both-value.ensures x (there_left (goal.at.returns-clause-reached c).After-up_to-y x (read_left step x to e))
+          (there_right (goal.at.returns-clause-reached c).After-up_to-y x
+          (read_right (goal.at.returns-clause-reached c).After-up_to-x x to e (stop_at step x to e))),
+    )
+
+pub returns-clause-joined : goal.returns-clause-joined
+returns-clause-joined c x to e =
+    let step = (goal.at.returns-clause-joined c).After-earlier-t in
+    let s = stop_at step x to e in
+    let same : held_at c.up_to-x.new.edges c.args.self.now.left ≡ held_at c.up_to-y.new.edges c.args.self.now.left =
+    sym (ap held_of (c.up_to-y.ensures.lost.others c.args.self.now.left to.apart)) in
+    let left_in = to.left_in in
+    let right_in = to.right_in in
+    record {
+      span = to.span;
+      left_in = omega (arith, left_in, c.up_to-x.ensures.lost.edges, c.up_to-y.ensures.lost.edges);
+      right_in = omega (arith, right_in, c.up_to-x.ensures.lost.edges, c.up_to-y.ensures.lost.edges);
+      apart = to.apart;
+      from = le_trans to.from (le_of_lt s.after);
+      to = le_trans s.by (le_of_same e);
+      left = subst (λ (l : _). IsAhead (Robustness x.left x.trace) x.reach (value c.earlier-t.result) x.left_to l) same
+          (c.up_to-x.ensures.ahead (left_source x c.args.self.now (value c.args.at.now)) (read_left step x to e));
+      right = c.up_to-y.ensures.ahead (right_source x c.args.self.now (value c.args.at.now))
+          (read_right (goal.at.returns-clause-joined c).After-up_to-x x to e s);
+    }
+
+pub returns-clause-built : goal.returns-clause-built
+returns-clause-built c x to e built =
+    let step = (goal.at.returns-clause-built c).After-earlier-t in
+    let s = stop_at step x to e in
+    built_joined x c.args.self.now c.args.edges.now (value c.args.at.now) to (lt_of_lt_of_le c.requires.order (le_of_same e)) c.in-Some.p
+    c.in-Some-first.q (sym c.first.ensures ∙ c.in-Some.is) (sym c.first-2.ensures ∙ c.in-Some-first.is) c.left_of.result
+    (turned_at (goal.at.returns-clause-built c).After-left_of) (based_at (goal.at.returns-clause-built c).After-left_of)
+    c.earlier-t.result s.left s.right s.after (le_trans s.by (le_of_same e)) c.of_both-value.result c.args.built.now c.join.new.self built
+    (subst (λ (m : Margin). Joins margin_shape c.args.self.now.side c.args.built.now c.left_of.result m c.earlier-t.result c.of_both-value.result c.join.new.self)
+    c.margin-2.ensures c.in_ok-join.ensures.ok)
+    (c.of_both-value.ensures x (there_left (goal.at.returns-clause-built c).After-up_to-y x (read_left step x to e))
+    (there_right (goal.at.returns-clause-built c).After-up_to-y x
+    (read_right (goal.at.returns-clause-built c).After-up_to-x x to e s)))
+
+pub returns-clause-lost : goal.returns-clause-lost
+returns-clause-lost c =
+    let (x, to, e, built) = c.requires.joined in lost_both to.apart c.up_to-x.ensures.lost c.up_to-y.ensures.lost
+
+pub returns-clause-nearer : goal.returns-clause-nearer
+returns-clause-nearer c =
+    let (x, to, e, built) = c.requires.joined in
+    let step = (goal.at.returns-clause-nearer c).After-earlier-t in
+    let s = stop_at step x to e in
+    let left : length (held_at c.up_to-x.new.edges c.args.self.now.left) ≡ length (held_at c.up_to-y.new.edges c.args.self.now.left) =
+    ap (λ (l : _). length l) (sym (ap held_of (c.up_to-y.ensures.lost.others c.args.self.now.left to.apart))) in
+    let right : length (held_at c.args.edges.now c.args.self.now.right) ≡ length (held_at c.up_to-x.new.edges c.args.self.now.right) =
+    ap (λ (l : _). length l) (sym (ap held_of (c.up_to-x.ensures.lost.others c.args.self.now.right (λ f. to.apart (sym f))))) in
+    let left_no_more = c.up_to-x.ensures.no_more in
+    let right_no_more = c.up_to-y.ensures.no_more in
+    turn_nearer (length (held_at c.args.edges.now c.args.self.now.left)) (length (held_at c.up_to-y.new.edges c.args.self.now.left))
+    (length (held_at c.args.edges.now c.args.self.now.right)) (length (held_at c.up_to-y.new.edges c.args.self.now.right))
+    (value c.args.at.now) (value c.earlier-t.result) (value c.args.to.now) c.requires.order (omega (arith, left, left_no_more))
+    (omega (arith, right, right_no_more))
+    (elim s.one [
+      | inl h ↦ inl (let fewer = c.up_to-x.ensures.fewer h in omega (arith, left, fewer))
+      | inr o ↦ elim o [
+        | inl h ↦ inr (inl (let fewer = c.up_to-y.ensures.fewer h in omega (arith, right, fewer)))
+        | inr h ↦ inr (inr h)
+      ]
+    ])

@@ -1,0 +1,253 @@
+//! Negation and the connectives over a stretch.
+ghost use Rattle.std.specs.Prelude.{◌≡◌, ◌<◌, ◌≤◌, ◌^◌, true, IsTrue, length, IfOk, OnOk, IfErr, Some};
+ghost use Rattle.rational.specs.Rational.{Rational, ◌≈◌, ◌<ʳ◌};
+ghost use Rattle.rational.specs.Extended.{value_at, ◌≈ᵉ◌};
+ghost use Rattle.rational.specs.Affine.{HasBoundedLevel};
+ghost use Rattle.value_laws.specs.Margins.{is_ramp, margin_base, margin_function};
+ghost use Rattle.frac128.specs.Value.{value};
+ghost use Rattle.stl_syntax.specs.SupInf.{Robustness};
+ghost use Rattle.online_robust.specs.Held.{held_at};
+ghost use Rattle.online_robust.specs.Lines.{end_of};
+ghost use Rattle.online_robust.specs.Told.{IsTick};
+ghost use Rattle.online_robust.specs.Reading.{HasReached, IsAhead, IsBuilt, IsStretch, IsThere, LosesAt, LosesAtBoth, value_turned};
+ghost use Rattle.online_robust.specs.Couples.{CanJoin, CanNegate, Couple, IsCoupleFault, IsJoinedTo, IsNegatedTo, IsReadTo, Source, both_of, left_of, right_of, turns_left, turns_left_of};
+
+use crate::edges::Edges;
+use crate::line::{MarginLine, Reached};
+use frac128::{Frac, Memory};
+use pl_signal::{Builder, OpFault, Side, Signal, chosen, earlier};
+use std::alloc::Global;
+use std::cmp::Ordering;
+use value_laws::{Margin, Shape};
+
+/// A negation, and up to where it was told.
+#[derive(Clone, Copy, Debug)]
+pub(crate) struct Not {
+    pub(crate) of: u32,
+    pub(crate) last: Option<Reached>,
+}
+
+/// A connective: the least or the greatest of its inputs, the left one negated before; and up to where it was told.
+#[derive(Clone, Copy, Debug)]
+pub(crate) struct Two {
+    pub(crate) left: u32,
+    pub(crate) right: u32,
+    pub(crate) side: Side,
+    pub(crate) turned: bool,
+    pub(crate) last: Option<Reached>,
+}
+
+/// The margin of an input at the time, which lies in its first gap or at the end of it. What ends by the time is taken.
+fn up_to(edges: &mut Edges, of: u32, gap: &MarginLine, t: &Frac) -> Margin
+    requires of { of < length edges.old.edges }
+    requires read { (x : Source) × IsReadTo x gap.now (value t.now) (held_at edges.old of) }
+    ensures there { (x : Source) → IsReadTo x gap.now (value t.now) (held_at edges.old of)
+        → IsThere (Robustness x.formula x.trace) x.reach (value t.now) result }
+    ensures ahead { (x : Source) → IsReadTo x gap.now (value t.now) (held_at edges.old of)
+        → IsAhead (Robustness x.formula x.trace) x.reach (value t.now) x.to (held_at edges.new of) }
+    ensures lost { LosesAt (value t.now) of edges.old edges.new }
+    ensures fewer { (value (end_of gap.now) ≈ value t.now → length (held_at edges.new of) < length (held_at edges.old of)) }
+    ensures no_more { length (held_at edges.new of) ≤ length (held_at edges.old of) }
+{
+    match gap.end().cmp(t) {
+        Ordering::Equal => {
+            let _ = edges.take(of);
+            let Some(point) = edges.take(of) else {
+                unreachable!()
+            };
+            point.margin()
+        }
+        _ => gap.margin(),
+    }
+}
+
+impl Not {
+    /// Where it was told before, or the point at the start, which is taken from the input.
+    fn begin(&self, edges: &mut Edges) -> Reached
+        requires { (x : Couple) × CanNegate x self.now edges.old }
+        ensures reached { (x : Couple) → CanNegate x self.now edges.old → HasReached (left_of x true) x.reach x.from (Some result) }
+        ensures negated { (x : Couple) → CanNegate x self.now edges.old → IsNegatedTo x self.now edges.new (value result.at) }
+        ensures lost { LosesAt (value result.at) self.now.of edges.old edges.new }
+    {
+        if let Some(reached) = self.last {
+            return reached;
+        }
+        let Some(point) = edges.take(self.of) else {
+            unreachable!()
+        };
+        Reached {
+            at: point.end(),
+            value: point.margin().neg(),
+        }
+    }
+
+    /// Goes on over a gap of the input and the point behind it.
+    fn turn(
+        &self,
+        edges: &mut Edges,
+        built: &mut Builder<Margin>,
+        at: &Frac,
+    ) -> Result<Reached, Memory>
+        requires { (x : Couple) × IsNegatedTo x self.now edges.old (value at.now) × (value at.now <ʳ x.to)
+            × IsBuilt (left_of x true) x.reach x.from (value at.now) built.old }
+        ensures reached { (x : Couple) → IsNegatedTo x self.now edges.old (value at.now) → value at.now <ʳ x.to
+            → IfOk result (λ r. HasReached (left_of x true) x.reach (value r.at) (Some r)) }
+        ensures negated { (x : Couple) → IsNegatedTo x self.now edges.old (value at.now) → value at.now <ʳ x.to
+            → IfOk result (λ r. IsNegatedTo x self.now edges.new (value r.at)) }
+        ensures built { (x : Couple) → IsNegatedTo x self.now edges.old (value at.now) → value at.now <ʳ x.to
+            → IsBuilt (left_of x true) x.reach x.from (value at.now) built.old
+            → IfOk result (λ r. IsBuilt (left_of x true) x.reach x.from (value r.at) built.new) }
+        ensures lost { IfOk result (λ r. LosesAt (value r.at) self.now.of edges.old edges.new) }
+        ensures nearer { OnOk result (turns_left_of self.now edges.new < turns_left_of self.now edges.old) }
+    {
+        let Some(gap) = edges.take(self.of) else {
+            unreachable!()
+        };
+        let Some(point) = edges.take(self.of) else {
+            unreachable!()
+        };
+        let at = point.end();
+        let value = point.margin().neg();
+        built.step(gap.margin().neg(), at, value)?;
+        Ok(Reached { at, value })
+    }
+
+    /// The negated margins from where they were told before, or from the start, on up to a time.
+    ///
+    /// # Errors
+    ///
+    /// `Memory` where there is no memory. It is of no use then.
+    pub(crate) fn sweep(
+        &mut self,
+        alloc: Global,
+        edges: &mut Edges,
+        to: &Frac,
+    ) -> Result<Signal<Margin>, Memory>
+        requires { (x : Couple) × CanNegate x self.old edges.old × (value to.now ≈ x.to) }
+        ensures told { (x : Couple) → CanNegate x self.old edges.old → value to.now ≈ x.to
+            → IfOk result (IsStretch (left_of x true) x.reach x.from x.to) }
+        ensures reached { (x : Couple) → CanNegate x self.old edges.old → value to.now ≈ x.to
+            → OnOk result (HasReached (left_of x true) x.reach x.to self.new.last) }
+        ensures lost { OnOk result (LosesAt (value to.now) self.old.of edges.old edges.new) }
+        ensures ahead { (x : Couple) → CanNegate x self.old edges.old → value to.now ≈ x.to → OnOk result (IsNegatedTo x self.old edges.new (value to.now)) }
+        ensures kept { self.new ≡ record self.old { last = self.new.last } }
+    {
+        let mut reached = self.begin(edges);
+        let mut built = Builder::start(alloc, reached.at, reached.value)?;
+        while let Ordering::Less = reached.at.cmp(to) {
+            let at = reached.at;
+            reached = self.turn(edges, &mut built, &at)?;
+        }
+        self.last = Some(reached);
+        Ok(built.finish())
+    }
+}
+
+impl Two {
+    /// The left input's margin, as it counts.
+    fn left_of(&self, shape: Margin) -> Margin
+        requires { HasBoundedLevel (2 ^ 31) (margin_function shape) }
+        ensures value { (t : Rational) → value_at (margin_function result) t ≈ᵉ value_turned self.now.turned (value_at (margin_function shape) t) }
+        ensures base { IsTrue (is_ramp result) → IsTrue (is_ramp shape) × (margin_base result ≡ margin_base shape) }
+    {
+        if self.turned { shape.neg() } else { shape }
+    }
+
+    /// The margin of the connective of two margins at the time.
+    fn of_both(&self, p: Margin, q: Margin, t: &Frac) -> Margin
+        requires { (x : Couple) × (IsThere (Robustness x.left x.trace) x.reach (value t.now) p) × (IsThere (right_of x) x.reach (value t.now) q) × IsTick (value t.now) }
+        ensures { (x : Couple) → IsThere (Robustness x.left x.trace) x.reach (value t.now) p → IsThere (right_of x) x.reach (value t.now) q
+            → IsThere (both_of x self.now) x.reach (value t.now) result }
+    {
+        chosen(self.side, &self.left_of(p), &q, t)
+    }
+
+    /// Where it was told before, or the point at the start, which is taken from both inputs.
+    fn begin(&self, edges: &mut Edges) -> Reached
+        requires { (x : Couple) × CanJoin x self.now edges.old }
+        ensures reached { (x : Couple) → CanJoin x self.now edges.old → HasReached (both_of x self.now) x.reach x.from (Some result) }
+        ensures joined { (x : Couple) → CanJoin x self.now edges.old → IsJoinedTo x self.now edges.new (value result.at) }
+        ensures lost { LosesAtBoth (value result.at) self.now.left self.now.right edges.old edges.new }
+    {
+        if let Some(reached) = self.last {
+            return reached;
+        }
+        let Some(p) = edges.take(self.left) else {
+            unreachable!()
+        };
+        let Some(q) = edges.take(self.right) else {
+            unreachable!()
+        };
+        let at = p.end();
+        let value = self.of_both(p.margin(), q.margin(), &at);
+        Reached { at, value }
+    }
+
+    /// Goes on to the next time at which a gap of an input ends, or to the end of the stretch.
+    fn turn(
+        &self,
+        edges: &mut Edges,
+        built: &mut Builder<Margin>,
+        at: &Frac,
+        to: &Frac,
+    ) -> Result<Reached, OpFault<Margin>>
+        requires order { value at.now <ʳ value to.now }
+        requires joined { (x : Couple) × IsJoinedTo x self.now edges.old (value at.now) × (value to.now ≈ x.to)
+            × IsBuilt (both_of x self.now) x.reach x.from (value at.now) built.old }
+        ensures reached { (x : Couple) → IsJoinedTo x self.now edges.old (value at.now) → value to.now ≈ x.to
+            → IfOk result (λ r. HasReached (both_of x self.now) x.reach (value r.at) (Some r)) }
+        ensures joined { (x : Couple) → IsJoinedTo x self.now edges.old (value at.now) → value to.now ≈ x.to
+            → IfOk result (λ r. IsJoinedTo x self.now edges.new (value r.at)) }
+        ensures built { (x : Couple) → IsJoinedTo x self.now edges.old (value at.now) → value to.now ≈ x.to
+            → IsBuilt (both_of x self.now) x.reach x.from (value at.now) built.old
+            → IfOk result (λ r. IsBuilt (both_of x self.now) x.reach x.from (value r.at) built.new) }
+        ensures lost { IfOk result (λ r. LosesAtBoth (value r.at) self.now.left self.now.right edges.old edges.new) }
+        ensures nearer { IfOk result (λ r. turns_left self.now edges.new (value r.at) (value to.now) < turns_left self.now edges.old (value at.now) (value to.now)) }
+        ensures wide { (x : Couple) → IsJoinedTo x self.now edges.old (value at.now) → value to.now ≈ x.to
+            → IsBuilt (both_of x self.now) x.reach x.from (value at.now) built.old → IfErr result (IsCoupleFault x self.now) }
+    {
+        let Some(p) = edges.first(self.left) else {
+            unreachable!()
+        };
+        let Some(q) = edges.first(self.right) else {
+            unreachable!()
+        };
+        let t = earlier(&earlier(&p.end(), &q.end()), to);
+        let x = up_to(edges, self.left, &p, &t);
+        let y = up_to(edges, self.right, &q, &t);
+        let value = self.of_both(x, y, &t);
+        built.join(self.side, &self.left_of(p.margin()), &q.margin(), &t, value)?;
+        Ok(Reached { at: t, value })
+    }
+
+    /// The margins from where they were told before, or from the start, on up to a time.
+    ///
+    /// # Errors
+    ///
+    /// `Wide` for a crossing of two parts of the inputs; `Memory` where there is no memory. It is of no use then.
+    pub(crate) fn sweep(
+        &mut self,
+        alloc: Global,
+        edges: &mut Edges,
+        to: &Frac,
+    ) -> Result<Signal<Margin>, OpFault<Margin>>
+        requires { (x : Couple) × CanJoin x self.old edges.old × (value to.now ≈ x.to) }
+        ensures told { (x : Couple) → CanJoin x self.old edges.old → value to.now ≈ x.to
+            → IfOk result (IsStretch (both_of x self.old) x.reach x.from x.to) }
+        ensures reached { (x : Couple) → CanJoin x self.old edges.old → value to.now ≈ x.to
+            → OnOk result (HasReached (both_of x self.old) x.reach x.to self.new.last) }
+        ensures lost { OnOk result (LosesAtBoth (value to.now) self.old.left self.old.right edges.old edges.new) }
+        ensures ahead { (x : Couple) → CanJoin x self.old edges.old → value to.now ≈ x.to → OnOk result (IsJoinedTo x self.old edges.new (value to.now)) }
+        ensures kept { self.new ≡ record self.old { last = self.new.last } }
+        ensures wide { (x : Couple) → CanJoin x self.old edges.old → value to.now ≈ x.to → IfErr result (IsCoupleFault x self.old) }
+    {
+        let mut reached = self.begin(edges);
+        let mut built = Builder::start(alloc, reached.at, reached.value)?;
+        while let Ordering::Less = reached.at.cmp(to) {
+            let at = reached.at;
+            reached = self.turn(edges, &mut built, &at, to)?;
+        }
+        self.last = Some(reached);
+        Ok(built.finish())
+    }
+}
