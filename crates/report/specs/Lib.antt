@@ -19,4 +19,3 @@ pub mod ReportText
 pub mod Lines
 pub mod FaultTexts
 pub mod PartLines
-pub mod EarlyLines
