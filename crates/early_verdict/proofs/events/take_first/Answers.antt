@@ -1,5 +1,4 @@
-use Rattle.std.proofs.Common.{◌≡◌, ℕ, pos, refl, sym, ap, subst, ◌∙◌, Option, Some, None, [], ◌∷◌}
-use Rattle.std.specs.Prelude.{slice_get}
+use Rattle.std.proofs.Common.{ℕ, pos, refl, subst}
 use Rattle.rational.specs.Time.{whole}
 use Rattle.early_verdict.specs.Making.{AreMade}
 use Rattle.early_verdict.proofs.GoingOn.{first_stand, leaves_bound}
