@@ -42,8 +42,6 @@ mod reason_tests;
 #[cfg(test)]
 mod report_tests;
 #[cfg(test)]
-mod robust_net_tests;
-#[cfg(test)]
 mod run_tests;
 #[cfg(test)]
 mod seg_pool_tests;
