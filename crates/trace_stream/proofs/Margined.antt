@@ -1,5 +1,5 @@
 -- What follows the rows of a case by a network of margins: from what the network's calls answer to the text of a stream.
-use Rattle.std.proofs.Common.{◌≡◌, inl, inr, ℕ, ◌<◌, ◌-◌, Bool, true, false, List, [], ◌∷◌, ◌++◌, length, map, refl, sym, ap, ◌∙◌, subst, arith, append-nil, append_assoc, Some, None}
+use Rattle.std.proofs.Common.{◌≡◌, inl, inr, ℕ, ◌<◌, Bool, true, false, List, [], ◌∷◌, ◌++◌, length, map, refl, sym, ap, ◌∙◌, subst, arith, append-nil, append_assoc, None}
 use Rattle.std.specs.Prelude.{◌≢◌, IfSome}
 use Rattle.std.proofs.lemmas.Bool.{false≢true}
 use Rattle.frac128.specs.Value.{value}
@@ -8,7 +8,7 @@ use Rattle.value_laws.specs.declared.margin.Margin.{Margin}
 use Rattle.pl_signal.specs.declared.faults.WidePair.{WidePair}
 use Rattle.pl_signal.specs.declared.faults.WidePair.TheVariants.{Cross, Value}
 use Rattle.stl_syntax.specs.Formula.{Formula, root}
-use Rattle.stl_syntax.specs.Trace.{Row, Trace, IsTrace, AreRows, last_time}
+use Rattle.stl_syntax.specs.Trace.{Row, IsTrace, AreRows, last_time}
 use Rattle.stl_syntax.specs.declared.scale.Scale.{Scale}
 use Rattle.online_nodes.specs.MarginEdges.{Part, IsPartLine}
 use Rattle.online_nodes.specs.MarginStream.{IsMarginStream}
@@ -23,8 +23,8 @@ use Rattle.online_robust.specs.declared.net.RobustFault.TheVariants as R
 use Rattle.online_robust.proofs.StreamTexts.{lines_more, stream_text}
 use Rattle.trace_stream.specs.Cases.{IsCase, Takes, with_row}
 use Rattle.trace_stream.specs.Streams.{margins}
-use Rattle.trace_stream.specs.Following.{Follows, IsFollowedOn, IsFollowedOut}
-use Rattle.trace_stream.specs.Margining.{past_of, AreEmitted, denominator_of, fault_of, Given, HasTaken, HasTakenAll, IsFollowFault, IsMargined, IsNeededByThen, IsOfFirst, IsStanding, IsUnwritten}
+use Rattle.trace_stream.specs.Following.{IsFollowedOn, IsFollowedOut}
+use Rattle.trace_stream.specs.Margining.{past_of, denominator_of, fault_of, Given, HasTaken, HasTakenAll, IsFollowFault, IsMargined, IsNeededByThen, IsOfFirst, IsStanding, IsUnwritten}
 use Rattle.trace_stream.specs.declared.case.Case.{Case}
 use Rattle.trace_stream.specs.declared.margins.FollowFault.{FollowFault}
 use Rattle.trace_stream.specs.declared.margins.FollowFault.TheVariants as F

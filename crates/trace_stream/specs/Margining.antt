@@ -1,5 +1,5 @@
 -- When the network of a formula's margins stands for the rows of a case, and why its rows are not followed on.
-use Rattle.std.specs.Prelude.{◌≡◌, ◌⊎◌, ℕ, pos, Bool, true, false, List, ◌++◌, map}
+use Rattle.std.specs.Prelude.{◌≡◌, ◌⊎◌, ℕ, pos, Bool, List, ◌++◌, map}
 use Rattle.rational.specs.Time.{Rational}
 use Rattle.rational.specs.Extended.{Affine}
 use Rattle.stl_syntax.specs.Formula.{root}

@@ -4,7 +4,6 @@ use Rattle.stl_syntax.specs.Stream.{IsRowsText}
 use Rattle.online_nodes.specs.MarginStream.{IsNewMargins}
 use Rattle.online_robust.specs.Nets.{StandsFor}
 use Rattle.trace_stream.specs.Margining.{AreEmitted}
-use Rattle.trace_stream.specs.declared.case.Case.{Case}
 use Rattle.trace_stream.proofs.margins.Margins.begin.Goals as goal
 
 pub new-requires-clause-bound : goal.new-requires-clause-bound

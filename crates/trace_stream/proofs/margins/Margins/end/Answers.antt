@@ -1,4 +1,4 @@
-use Rattle.std.proofs.Common.{[], ◌∷◌, ◌++◌, ◌∙◌, false, true, sym, subst}
+use Rattle.std.proofs.Common.{false, true, sym, subst}
 use Rattle.trace_stream.specs.Margining.{past_of, IsFollowFault}
 use Rattle.trace_stream.proofs.Margined.{of_first, fault_so, unwritten, may_end, given_on, end_followed}
 use Rattle.trace_stream.proofs.margins.Margins.end.Goals as goal

@@ -1,5 +1,4 @@
-use Rattle.std.proofs.Common.{[], ◌∷◌, ◌++◌, ◌∙◌, false, sym, subst}
-use Rattle.std.proofs.lemmas.Result.{IfOk-weaker}
+use Rattle.std.proofs.Common.{false, sym, subst}
 use Rattle.trace_stream.specs.Cases.{with_row}
 use Rattle.trace_stream.specs.Margining.{past_of, IsFollowFault}
 use Rattle.trace_stream.proofs.Margined.{of_first, fault_so, unwritten, fits_width, fits_time, given_on, row_followed}

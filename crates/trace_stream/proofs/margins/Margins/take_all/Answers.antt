@@ -1,4 +1,4 @@
-use Rattle.std.proofs.Common.{◌≡◌, ◌∙◌, ◌++◌, refl, sym, subst}
+use Rattle.std.proofs.Common.{◌++◌, refl, subst}
 use Rattle.online_robust.specs.Nets.{IsTaken}
 use Rattle.report.specs.PartLines.{IsPartLine}
 use Rattle.trace_stream.proofs.Margined.{none_taken, one_taken, all_taken}
