@@ -12,3 +12,5 @@ pub mod EndsTold
 mod Tagging
 pub mod Passing
 pub mod Inputting
+pub mod PlainTexts
+pub mod HearingLemmas

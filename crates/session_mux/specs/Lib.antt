@@ -8,3 +8,4 @@ pub mod Knowing
 pub mod Muxes
 pub mod Inputs
 pub mod Taking
+pub mod Hearing
