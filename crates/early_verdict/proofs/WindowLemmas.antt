@@ -69,7 +69,7 @@ near_fits k h = to_z-of_z w64 k (fits_signed_from_abs w64 k (let b : 2 ^ 32 < 2 
 pub move_fits : (t : Rational) (k : ℤ) → IsWithin (2 ^ 34) t → unsigned_abs k ≤ 2 ^ 32 → FitsFloor w64 (add t (whole k))
 move_fits t k w h = fits_of_within w64 (2 ^ 34 + 2 ^ 32) (lit< tt) (within_add (2 ^ 34) (2 ^ 32) w (within_whole (2 ^ 32) k h))
 
-shift_forth : (t : Rational) (k : ℤ) → add (add t (whole (neg_ℤ k))) (whole k) ≈ t
+pub shift_forth : (t : Rational) (k : ℤ) → add (add t (whole (neg_ℤ k))) (whole k) ≈ t
 shift_forth t k = record { same = omega (arith, ap (λ n. n * (t.den * t.den)) step) }
   where
     step : part_above k + part_above (neg_ℤ k) ≡ part_below k + part_below (neg_ℤ k)
