@@ -96,3 +96,44 @@ watch_run words f g h w i o e old new ask eg eh ending status line same x once t
     let y = subst (λ (k : Formula). IsStreamEnd (λ bytes text. (holds : Bool) × StandsForAll (record { formula = k; limits = stream_limits; bytes = bytes; text = text }) holds w) (stream verdicts k) i o ending) eg x in
     stream_run words verdicts f i o e old new ask ending status line same y once (subst (λ (k : Formula). IsEndLine k ending line) eh told) said
     (watch_left words f y.bytes y.text ending w old new ask y.left kept)
+
+-- `early` leaves what decided on an answer, and nothing else
+pub early_left : (words : List (List ℕ)) (f : Formula) (bytes : List ℕ) (ending : Result Bool Stop) (x : Deciding) (old new : Kept) → AreFor words word.early f
+    → OnOk ending (IsEarlyOf f bytes x) → MatchResult ending (λ _. new ≡ Early x) (λ _. new ≡ old) → IsLeft words bytes (status_of ending) old new
+early_left words f bytes (Ok true) x old new ask k same =
+    asked (stream early f) ask (inl (refl, inl refl, subst (λ (y : Kept). Holds (stream early f) bytes y) (sym same) k))
+early_left words f bytes (Ok false) x old new ask k same =
+    asked (stream early f) ask (inl (refl, inr refl, subst (λ (y : Kept). Holds (stream early f) bytes y) (sym same) k))
+early_left words f bytes (Err stop) x old new ask k same =
+    asked (stream early f) ask (inr (inr (not_answer stop), same))
+  where
+    not_answer : (stop : Stop) → (status_of_stop stop ≢ 0) × (status_of_stop stop ≢ 1)
+    not_answer (Faulty fault) = (λ e. omega (arith, e), λ e. omega (arith, e))
+    not_answer Unread = (λ e. omega (arith, e), λ e. omega (arith, e))
+    not_answer Unwritten = (λ e. omega (arith, e), λ e. omega (arith, e))
+    not_answer NoMemory = (λ e. omega (arith, e), λ e. omega (arith, e))
+    not_answer (Wide i den) = (λ e. omega (arith, e), λ e. omega (arith, e))
+    not_answer (TooMany count) = (λ e. omega (arith, e), λ e. omega (arith, e))
+
+-- the reader that has come to its end has what decided
+pub early_over : (f : Formula) (bytes text : List ℕ) (live : Live Follower) → IsDone (λ s c made. IsDeciding true s c) early live bytes text → live.formula ≡ f
+    → (x : Follower) × (live.follower ≡ Some x) × IsEarlyOf f bytes x.early
+early_over f bytes text live (holds, over) e = (
+  over.follower,
+  over.is,
+  record {
+    tr = over.case.trace;
+    trace = subst (λ (g : Formula). IsWhole whole_limits g bytes over.case.trace) e over.trace;
+    nodes = over.complete.ended.nodes ∙ ap (λ (g : Formula). g.nodes) over.fits.formula ∙ ap (λ (g : Formula). nodes_for g over.case.trace) e;
+    header = over.complete.ended.header;
+    stands = over.complete.ended.stands;
+  },
+)
+
+-- the run of `early`
+pub early_run : (words : List (List ℕ)) (f g h : Formula) (x : Deciding) (i : Drained) (o e : Filled) (old new : Kept) → AreFor words word.early f → g ≡ f → h ≡ f
+    → (ending : Result Bool Stop) (status : ℕ) (line : List ℕ) → status ≡ status_of ending → (Done : List ℕ → List ℕ → Type 0)
+    → IsStreamEnd Done (stream early g) i o ending → ((bytes text : List ℕ) → OnOk ending (Done bytes text) → OnOk ending (IsEarlyOf f bytes x))
+    → IsAskedOnce i → IsEndLine h ending line → IsSaid e.before e.after e.faults e.faults_after line → MatchResult ending (λ _. new ≡ Early x) (λ _. new ≡ old)
+    → HasRun words i o e old new status
+early_run words f g h x i o e old new ask eg eh ending status line same Done y once told said kept = ?

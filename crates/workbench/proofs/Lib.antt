@@ -23,3 +23,4 @@ pub mod EndsOnce
 pub mod AtRest
 pub mod Reported
 pub mod SessionsTold
+pub mod EarlyFollows

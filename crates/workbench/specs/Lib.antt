@@ -25,3 +25,5 @@ pub mod Reasons
 pub mod Accounts
 pub mod Watches
 pub mod SureLines
+pub mod EarlyLines
+pub mod Deciding

@@ -36,7 +36,7 @@ word_of_stream margins = word.rwatch
 
 -- the commands that are built, in the order in which the usage line names them
 abbrev pub built_commands : List Judge
-built_commands = word.check ∷ word.watch ∷ word.robust ∷ word.explain ∷ word.json ∷ word.table ∷ []
+built_commands = word.check ∷ word.watch ∷ word.robust ∷ word.explain ∷ word.json ∷ word.table ∷ word.early ∷ []
 
 -- the command is in the list
 abbrev pub IsAmong : Judge → List Judge → Type 0

@@ -2,6 +2,7 @@
 #![tactic(auto)]
 
 mod answer;
+mod early;
 mod entry;
 mod explain;
 mod fault;

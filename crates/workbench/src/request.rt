@@ -19,6 +19,7 @@ pub(crate) enum Command {
 pub(crate) enum Mode {
     Whole(Command),
     Watch,
+    Early,
 }
 
 /// How to answer, and the text of the formula.
@@ -36,6 +37,7 @@ fn named(word: &str) -> Option<Mode>
     match word {
         "check" => Some(Mode::Whole(Command::Check)),
         "watch" => Some(Mode::Watch),
+        "early" => Some(Mode::Early),
         "robust" => Some(Mode::Whole(Command::Robust)),
         "explain" => Some(Mode::Whole(Command::Explain)),
         "json" => Some(Mode::Whole(Command::Json)),
