@@ -41,3 +41,7 @@ pub mod GoingOn
 pub mod StandingOn
 pub mod PartSets
 pub mod TopsLemmas
+pub mod Splitting
+pub mod MadeLemmas
+pub mod Opening
+pub mod Feeding

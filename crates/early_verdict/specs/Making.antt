@@ -29,7 +29,7 @@ pub record IsMade (from : Rational) (top : ℕ) (n : Node) (below : List Sets) (
   pub yes : s.yes.bounds ≡ bounds
   pub no : s.no.bounds ≡ bounds
   pub empty : AreEmpty s
-  pub parts : MatchOption (left_of n) (s.parts ≡ None) (λ p. (l : Sets) → slice_get below p ≡ Some l → HasPartsFor bounds l s)
+  pub parts : MatchOption (left_of n) (s.parts ≡ None) (λ p. (l : Sets) × (slice_get below p ≡ Some l) × HasPartsFor bounds l s)
 
 -- the empty sets of all nodes
 pub record AreMade (nodes : List Node) (from : Rational) (sets : List Sets) : Type 0 where

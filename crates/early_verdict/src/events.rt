@@ -1,13 +1,17 @@
 //! Rows and the end of the input, as they come to the sets of all nodes.
-ghost use Rattle.std.specs.Prelude.{◌≡◌, ◌<◌, ◌++◌, ◌∷◌, ◌-◌, [], List, length, IfOk, IfSome, Some, None, Option, true, false};
-ghost use Rattle.stl_syntax.specs.Trace.{Header, Row as ARow};
+ghost use Rattle.std.specs.Prelude.{◌≡◌, ◌<◌, ◌++◌, ◌∷◌, ◌↔◌, [], ℕ, List, Option, length, pos, slice_get, IfOk, IfSome, IsTrue, OnOk, Some, None, true, false};
+ghost use Rattle.stl_syntax.specs.Trace.{Header, Row as ARow, Trace, start};
 ghost use Rattle.stl_syntax.specs.Formula.{root};
+ghost use Rattle.rational.specs.Rational.{whole};
+ghost use Rattle.early_verdict.specs.Spans.{AreTidy, IsOn};
 ghost use Rattle.early_verdict.specs.Happening.{Happens, IsEvent};
-ghost use Rattle.early_verdict.specs.Standing.{AllTidy};
+ghost use Rattle.stl_syntax.specs.declared.node.Node.{Node as ANode};
+ghost use Rattle.early_verdict.specs.Standing.{AllEmpty, AllFit, AllGo, AllTidy, AllWere, HaveSets, LeafIsBound, SteppedTo};
 ghost use Rattle.early_verdict.specs.Deciding.{IsOpen, IsTruthAtStart, IsVerdict, SetsAre, last_after, trace_of};
 
 use crate::atoms::{after_tick, before_tick};
 use crate::event::Event;
+use crate::grown::Grown;
 use crate::making::all_sets;
 use crate::net::step_all;
 use crate::sets::Sets;
@@ -75,6 +79,32 @@ fn end_event(start: u32, last: u32) -> Event
     }
 }
 
+/// The sets of all nodes once an event has come.
+fn step_sets(
+    sets: &mut Vec<Sets>,
+    formula: &Formula,
+    bound: &Bound,
+    before: &Option<Row>,
+    row: &Row,
+    event: &Event,
+) -> Result<(), Memory>
+    requires count { length sets.old.items ≡ length formula.now.nodes }
+    requires tidy { AllTidy sets.old.items }
+    requires event { IsEvent event.now }
+    requires none { event.now.first ≡ true → AllEmpty sets.old.items }
+    requires atoms { (i : ℕ) (n : ANode) → slice_get formula.now.nodes i ≡ Some n → LeafIsBound bound.now i n }
+    requires first { IfSome before.now (λ r. length r.values ≡ bound.now.width) }
+    requires second { length row.now.values ≡ bound.now.width }
+    requires later { IfSome before.now (λ r. r.time < row.now.time) }
+    ensures stepped { OnOk result (SteppedTo (length formula.now.nodes) sets.old.items sets.new.items) }
+    ensures fits { OnOk result ((old : Option Trace) (tr : Trace) (tops : List ℕ) → Happens event.now old tr
+        → HaveSets formula.now.nodes (start tr) tops sets.old.items → AllGo formula.now.nodes bound.now event.now old tr before.now row.now
+        → AllWere old formula.now.nodes sets.old.items → AllFit formula.now.nodes event.now.ended tr sets.new.items) }
+{
+    step_all(sets, formula, bound, before, row, event)?;
+    Ok(())
+}
+
 /// The sets after the first row, of nothing before.
 fn take_first(
     alloc: Global,
@@ -88,9 +118,10 @@ fn take_first(
     ensures { OnOk result ((header : Header) → IsOpen formula.now bound.now header [] 0 None sets.old.items
         → SetsAre formula.now.nodes header row.now.time sets.new.items (row.now ∷ [])) }
 {
-    *sets = all_sets(alloc, formula, row.time())?;
+    let made = all_sets(alloc, formula, row.time())?;
+    *sets = made;
     let event = first_event(row.time());
-    step_all(sets, formula, bound, &None, row, &event)?;
+    step_sets(sets, formula, bound, &None, row, &event)?;
     Ok(())
 }
 
@@ -113,7 +144,7 @@ fn take_next(
         unreachable!();
     };
     let event = next_event(begin, before.time(), row.time());
-    step_all(sets, formula, bound, last, row, &event)?;
+    step_sets(sets, formula, bound, last, row, &event)?;
     Ok(())
 }
 
@@ -133,12 +164,24 @@ pub(crate) fn take_row(
     ensures { IfOk result (λ start. (header : Header) (rows : List ARow) → IsOpen formula.now bound.now header rows begin last.now sets.old.items
         → SetsAre formula.now.nodes header start sets.new.items (rows ++ row.now ∷ [])) }
 {
-    if last.is_none() {
-        take_first(alloc, sets, formula, bound, row)?;
-        return Ok(row.time());
+    match last {
+        None => {
+            take_first(alloc, sets, formula, bound, row)?;
+            Ok(row.time())
+        }
+        Some(_) => {
+            take_next(sets, formula, bound, begin, last, row)?;
+            Ok(begin)
+        }
     }
-    take_next(sets, formula, bound, begin, last, row)?;
-    Ok(begin)
+}
+
+/// Whether the tick is one of the set's times.
+fn has_tick(set: &Grown, tick: u32) -> bool
+    requires { AreTidy set.now.spans.items }
+    ensures { IsTrue result ↔ IsOn set.now.spans.items (whole (pos tick)) }
+{
+    set.has(i64::from(tick))
 }
 
 /// What the sets of the root say of the start.
@@ -148,10 +191,10 @@ pub(crate) fn root_verdict(sets: &[Sets], start: u32) -> Option<bool>
     ensures { IsVerdict sets.now start result }
 {
     let root = &sets[sets.len() - 1];
-    if root.yes.has(i64::from(start)) {
+    if has_tick(&root.yes, start) {
         return Some(true);
     }
-    if root.no.has(i64::from(start)) {
+    if has_tick(&root.no, start) {
         return Some(false);
     }
     None
@@ -173,7 +216,7 @@ pub(crate) fn end_sets(
         unreachable!();
     };
     let event = end_event(begin, row.time());
-    step_all(sets, formula, bound, &None, row, &event)?;
+    step_sets(sets, formula, bound, &None, row, &event)?;
     match root_verdict(sets, begin) {
         Some(holds) => Ok(holds),
         None => unreachable!(),

@@ -55,11 +55,11 @@ fn say_turn(edges: &mut Edges, out: Out, turn: Turn, end: Cut) -> Result<Out, Me
 {
     let first = Cut {
         time: turn.at,
-        after: false,
+        side: 0,
     };
     let second = Cut {
         time: turn.at,
-        after: true,
+        side: 1,
     };
     let before = out.upto(edges, turn.before, first)?;
     let point = before.upto(edges, turn.point, second)?;

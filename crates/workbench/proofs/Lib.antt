@@ -16,6 +16,8 @@ pub mod Reasoned
 pub mod Refuting
 pub mod NoForm
 pub mod MarginTruth
+mod ExplainTexts
+mod JsonTexts
 pub mod OwedLaws
 pub mod SureLines
 pub mod OneRequest
@@ -23,4 +25,8 @@ pub mod EndsOnce
 pub mod AtRest
 pub mod Reported
 pub mod SessionsTold
+pub mod Summaries
+pub mod NumberWords
+pub mod Fitting
+pub mod Completing
 pub mod EarlyFollows

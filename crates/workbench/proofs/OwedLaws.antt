@@ -10,11 +10,13 @@ use Rattle.stl_syntax.specs.Trace.{Trace}
 use Rattle.stl_syntax.proofs.VerdictsLaw.{Describes-unique}
 use Rattle.stl_syntax.proofs.MarginsLaw.{DescribesMargins-unique}
 use Rattle.trace_reader.proofs.TraceRefusalLaw.{Trace-unique}
-use Rattle.report.specs.Report.{Command, check, robust, table, Out, nodes_for}
+use Rattle.report.specs.Report.{Command, check, robust, explain, json, table, Out, nodes_for}
 use Rattle.report.specs.Table.{AreRecords, heading}
 use Rattle.report.proofs.StreamTexts.{IsLonger}
 use Rattle.trace_stream.proofs.OwedRows.{stream_owed_once, stream_owed_grows}
 use Rattle.report.proofs.OneText.{number_once, value_once, verdicts_once, start_once, margins_once}
+use Rattle.workbench.proofs.ExplainTexts.{explain_once}
+use Rattle.workbench.proofs.JsonTexts.{json_once}
 use Rattle.workbench.specs.Requests.{Stream, stream}
 use Rattle.workbench.specs.Running.{IsBegun}
 use Rattle.trace_stream.specs.Reading.{IsWhole}
@@ -86,7 +88,7 @@ module _ (c : Command) (f : Formula) (one : (tr : Trace) (x y : List ℕ) → Ou
   whole_owed_once bytes ended x y (at_end_owed tr trace few out) (at_end_owed tr' trace' few' out') =
       one tr' x y (subst (λ (t : Trace). Out c f t x) (whole_once f bytes tr tr' trace trace') out) out'
 
--- `check`, `robust` and `table` are owed one text
+-- each command that holds the whole trace is owed one text
 pub check_owed_once : (f : Formula) (bytes : List ℕ) (ended : Bool) (x y : List ℕ) → OwesAtEnd check f bytes ended x → OwesAtEnd check f bytes ended y → x ≡ y
 check_owed_once f bytes ended x y a b = whole_owed_once check f (check_once f) bytes ended x y a b
 
@@ -95,3 +97,9 @@ robust_owed_once f bytes ended x y a b = whole_owed_once robust f (robust_once f
 
 pub table_owed_once : (f : Formula) (bytes : List ℕ) (ended : Bool) (x y : List ℕ) → OwesAtEnd table f bytes ended x → OwesAtEnd table f bytes ended y → x ≡ y
 table_owed_once f bytes ended x y a b = whole_owed_once table f (table_once f) bytes ended x y a b
+
+pub explain_owed_once : (f : Formula) (bytes : List ℕ) (ended : Bool) (x y : List ℕ) → OwesAtEnd explain f bytes ended x → OwesAtEnd explain f bytes ended y → x ≡ y
+explain_owed_once f bytes ended x y a b = whole_owed_once explain f (explain_once f) bytes ended x y a b
+
+pub json_owed_once : (f : Formula) (bytes : List ℕ) (ended : Bool) (x y : List ℕ) → OwesAtEnd json f bytes ended x → OwesAtEnd json f bytes ended y → x ≡ y
+json_owed_once f bytes ended x y a b = whole_owed_once json f (json_once f) bytes ended x y a b

@@ -25,5 +25,8 @@ pub mod Reasons
 pub mod Accounts
 pub mod Watches
 pub mod SureLines
+pub mod Numerals
+pub mod Made
+pub mod Complete
 pub mod EarlyLines
 pub mod Deciding

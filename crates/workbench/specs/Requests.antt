@@ -46,7 +46,7 @@ IsAmong command (j ∷ commands) = (command ≡ j) ⊎ IsAmong command commands
 -- the forms that are built; words of another form are of none
 abbrev pub IsBuilt : Form → Type 0
 IsBuilt (judge command text) = IsAmong command built_commands
-IsBuilt (generate number rows) = ⊥
+IsBuilt (generate number rows) = Unit {0}
 
 -- the forms of commands, with a bar between two
 abbrev pub forms_text : List Judge → List ℕ
@@ -56,7 +56,7 @@ forms_text (j ∷ k ∷ commands) = judge_word j ++ codes " F | " ++ forms_text 
 
 -- the usage line, which names the forms that are built
 abbrev pub usage_line : List ℕ
-usage_line = codes "usage: " ++ forms_text built_commands ++ newline
+usage_line = codes "usage: " ++ forms_text built_commands ++ codes " | gen NUMBER ROWS" ++ newline
 
 -- the words are of this form
 pub record IsAsked (words : List (List ℕ)) (form : Form) : Type 0 where
@@ -66,6 +66,14 @@ pub record IsAsked (words : List (List ℕ)) (form : Form) : Type 0 where
 -- the words are of no form
 abbrev pub AreNone : List (List ℕ) → Type 0
 AreNone words = (form : Form) → ¬ IsAsked words form
+
+-- the words are of no form that has a formula
+abbrev pub AreOfNoFormula : List (List ℕ) → Type 0
+AreOfNoFormula words = (command : Judge) (text : List ℕ) → ¬ IsAsked words (judge command text)
+
+-- the words ask for a trace to be generated
+abbrev pub AskToGenerate : List (List ℕ) → Type 0
+AskToGenerate words = (number rows : ℕ) × IsAsked words (generate number rows)
 
 -- the text is refused with this line
 abbrev pub IsBadText : List ℕ → List ℕ → Type 0

@@ -1,5 +1,6 @@
 use Rattle.std.proofs.Common.{refl, arith, true, false}
 use Rattle.early_verdict.specs.Cuts.{place}
+use Rattle.early_verdict.specs.declared.event.Event.{Event}
 use Rattle.early_verdict.proofs.EventLemmas.{near_tick, up_to, happens_end}
 use Rattle.early_verdict.proofs.events.end_event.Goals as goal
 
@@ -15,5 +16,6 @@ returns-clause-event c =
 
 pub returns-clause-happens : goal.returns-clause-happens
 returns-clause-happens c header r rows is_start is_last =
-    happens_end c.result c.args.start c.args.last c.before_tick-start.ensures c.after_tick-sure.ensures c.after_tick-sure.ensures refl
+    let e : Event = record { start = c.before_tick-start.result; before = c.after_tick-sure.result; sure = c.after_tick-sure.result; first = false; ended = true } in
+    happens_end e c.args.start c.args.last c.before_tick-start.ensures c.after_tick-sure.ensures c.after_tick-sure.ensures refl
     header r rows is_start is_last

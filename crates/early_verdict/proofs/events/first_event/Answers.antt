@@ -1,5 +1,6 @@
 use Rattle.std.proofs.Common.{refl, arith, true, false}
 use Rattle.early_verdict.specs.Cuts.{place}
+use Rattle.early_verdict.specs.declared.event.Event.{Event}
 use Rattle.early_verdict.proofs.EventLemmas.{near_tick, up_to_now, happens_first}
 use Rattle.early_verdict.proofs.events.first_event.Goals as goal
 
@@ -16,4 +17,5 @@ returns-clause-event c =
 
 pub returns-clause-happens : goal.returns-clause-happens
 returns-clause-happens c header x is =
-    happens_first c.result c.args.time c.before_tick-start.ensures c.before_tick-start.ensures c.after_tick-sure.ensures refl refl header x is
+    let e : Event = record { start = c.before_tick-start.result; before = c.before_tick-start.result; sure = c.after_tick-sure.result; first = true; ended = false } in
+    happens_first e c.args.time c.before_tick-start.ensures c.before_tick-start.ensures c.after_tick-sure.ensures refl refl header x is

@@ -1,5 +1,6 @@
 use Rattle.std.proofs.Common.{refl, arith, true, false}
 use Rattle.early_verdict.specs.Cuts.{place}
+use Rattle.early_verdict.specs.declared.event.Event.{Event}
 use Rattle.early_verdict.proofs.EventLemmas.{near_tick, up_to, happens_next}
 use Rattle.early_verdict.proofs.events.next_event.Goals as goal
 
@@ -16,5 +17,6 @@ returns-clause-event c =
 
 pub returns-clause-happens : goal.returns-clause-happens
 returns-clause-happens c header r rows x is_start is_last is_now =
-    happens_next c.result c.args.start c.args.last c.args.time c.before_tick-start.ensures c.after_tick-before.ensures c.after_tick-sure.ensures refl
+    let e : Event = record { start = c.before_tick-start.result; before = c.after_tick-before.result; sure = c.after_tick-sure.result; first = false; ended = false } in
+    happens_next e c.args.start c.args.last c.args.time c.before_tick-start.ensures c.after_tick-before.ensures c.after_tick-sure.ensures refl
     header r rows x is_start is_last is_now
