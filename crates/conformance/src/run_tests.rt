@@ -381,6 +381,63 @@ fn windows_tell_the_truth_at_every_time(rt: HostRuntime) -> Result<(), Fail> {
     expect_judged(&rt, rt.alloc(), &WINDOWS)
 }
 
+/// Formulas, traces, what `early` writes, and the status.
+const EARLY: [(&str, &str, &str, u8); 6] = [
+    (
+        "always[0,10] x <= 5",
+        "time,x\n0,0\n5,7\n10,0\n",
+        "decided at 5\nstart false\n",
+        1,
+    ),
+    (
+        "eventually[0,10] x >= 5",
+        TRIANGLE,
+        "decided at 5\nstart true\n",
+        0,
+    ),
+    (
+        "eventually[0,20] x >= 7",
+        TRIANGLE,
+        "decided at end\nstart false\n",
+        1,
+    ),
+    (
+        "eventually[5,5] true",
+        "time,x\n0,0\n4,0\n",
+        "decided at end\nstart false\n",
+        1,
+    ),
+    (
+        "eventually[5,5] true",
+        "time,x\n0,0\n5,0\n",
+        "decided at 5\nstart true\n",
+        0,
+    ),
+    (
+        "x >= 1",
+        "time,x\n0.5,2\n1,0\n",
+        "decided at 0.5\nstart true\n",
+        0,
+    ),
+];
+
+#[test]
+fn early_verdicts_are_told_at_the_row_that_decides(rt: HostRuntime) -> Result<(), Fail> {
+    let alloc = rt.alloc();
+    for (i, (formula, input, out, status)) in EARLY.iter().enumerate() {
+        let case = Case {
+            words: &["early", *formula],
+            input: *input,
+            out: *out,
+            err: "",
+            status: *status,
+        };
+        assert!(rt; agrees(alloc, case, pieces(1))?, "row {i}");
+        assert!(rt; agrees(alloc, case, pieces(4096))?, "row {i}");
+    }
+    Ok(())
+}
+
 /// Formulas, and what is told of them.
 const REFUSED: [(&str, &str); 25] = [
     ("eventually x >= 1", "formula at 0: unbounded future\n"),
@@ -713,10 +770,10 @@ fn refused<'a>(words: &'a [&'a str], err: &'a str, status: u8) -> Case<'a> {
 }
 
 const USAGE: &str =
-    "usage: check F | watch F | robust F | explain F | json F | table F | gen NUMBER ROWS\n";
+    "usage: check F | watch F | robust F | explain F | json F | table F | gen NUMBER ROWS | early F\n";
 
 /// Words that are no form.
-const NO_FORMS: [&[&str]; 14] = [
+const NO_FORMS: [&[&str]; 15] = [
     &[],
     &["check"],
     &["gen"],
@@ -728,7 +785,8 @@ const NO_FORMS: [&[&str]; 14] = [
     &["gen", "+1", "1"],
     &["gen", "", "1"],
     &["gen", "1", "1.0"],
-    &["early", "x >= 5"],
+    &["early"],
+    &["early", "x >= 5", "y"],
     &["robust"],
     &["check", "x >= 5", "y"],
 ];

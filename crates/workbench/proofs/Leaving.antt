@@ -1,21 +1,27 @@
 -- What a run leaves to its caller.
-use Rattle.std.proofs.Common.{◌≡◌, ◌≢◌, inl, inr, ℕ, Bool, true, false, List, [], refl, sym, subst, arith, Result, Ok, Err}
-use Rattle.std.specs.Prelude.{MatchResult, OnOk}
+use Rattle.std.proofs.Common.{◌≡◌, ◌≢◌, ◌∙◌, inl, inr, ℕ, Bool, true, false, Option, Some, List, [], refl, sym, ap, subst, arith, Result, Ok, Err}
+use Rattle.std.specs.Prelude.{IsSome, MatchResult, OnOk}
 use Rattle.std.specs.Result.{is_err}
 use Rattle.std.proofs.lemmas.Bool.{false≢true}
 use Rattle.std.specs.Io.KnownBytes.{Appends, Consumes}
 use Rattle.std.proofs.KnownBytes.{Appends-nil, Consumes-nil}
 use Rattle.io_edge.specs.Calls.{Drained, Filled, IsAskedOnce}
 use Rattle.stl_syntax.specs.Formula.{Formula}
-use Rattle.report.specs.Report.{Command}
+use Rattle.report.specs.Report.{Command, nodes_for}
+use Rattle.early_verdict.specs.Deciding.{Kept as Deciding}
+use Rattle.trace_stream.specs.Reading.{IsWhole}
+use Rattle.trace_stream.specs.Following.{IsDone}
+use Rattle.trace_stream.specs.declared.live.Live.{Live}
 use Rattle.workbench.specs.Commands.{Judge, judge, generate}
 use Rattle.workbench.specs.Commands as word
 use Rattle.workbench.specs.ErrTexts.{out_of_memory}
-use Rattle.workbench.specs.InputFaults.{stream_limits}
-use Rattle.workbench.specs.Requests.{no_form, refused as bad_request, whole, stream, verdicts, generated, AreNone, AreFor, IsAsked, word_of}
+use Rattle.workbench.specs.InputFaults.{stream_limits, whole_limits}
+use Rattle.workbench.specs.Requests.{no_form, refused as bad_request, whole, stream, verdicts, early, generated, AreNone, AreFor, IsAsked, word_of}
 use Rattle.workbench.specs.Running.{IsRun, unknown as run_unknown}
 use Rattle.workbench.specs.Saying.{IsSaid}
-use Rattle.workbench.specs.Keeping.{Holds, IsLeft, asked, unknown, HasRun}
+use Rattle.workbench.specs.Deciding.{IsDeciding}
+use Rattle.workbench.specs.declared.early.Deciding.{Deciding as Follower}
+use Rattle.workbench.specs.Keeping.{Holds, IsEarlyOf, IsLeft, asked, unknown, HasRun}
 use Rattle.workbench.specs.Watches.{Watched, StandsForAll}
 use Rattle.workbench.specs.Wholes.{IsBadEnd, refused, no_room, status_of, status_of_stop, IsEndLine}
 use Rattle.workbench.specs.Pushing.{IsStreamEnd}
@@ -23,7 +29,7 @@ use Rattle.workbench.proofs.StreamSteps.{stream_run}
 use Rattle.workbench.specs.declared.fault.Stop.{Stop}
 use Rattle.workbench.specs.declared.fault.Stop.TheVariants.{Fault as Faulty, Unread, Unwritten, NoMemory, Wide, TooMany}
 use Rattle.workbench.specs.declared.kept.Kept.{Kept}
-use Rattle.workbench.specs.declared.kept.Kept.TheVariants.{Watch}
+use Rattle.workbench.specs.declared.kept.Kept.TheVariants.{Watch, Early}
 
 -- words of no form leave nothing
 pub none_left : {words : List (List ℕ)} {i : Drained} {o e : Filled} {status : ℕ} (old new : Kept) → AreNone words → new ≡ old → IsRun words i o e status → HasRun words i o e old new status
@@ -141,4 +147,51 @@ pub early_run : (words : List (List ℕ)) (f g h : Formula) (x : Deciding) (i : 
     → IsStreamEnd Done (stream early g) i o ending → ((bytes text : List ℕ) → OnOk ending (Done bytes text) → OnOk ending (IsEarlyOf f bytes x))
     → IsAskedOnce i → IsEndLine h ending line → IsSaid e.before e.after e.faults e.faults_after line → MatchResult ending (λ _. new ≡ Early x) (λ _. new ≡ old)
     → HasRun words i o e old new status
-early_run words f g h x i o e old new ask eg eh ending status line same Done y once told said kept = ?
+early_run words f g h x i o e old new ask eg eh ending status line same Done y as_done once told said kept =
+    let z = subst (λ (k : Formula). IsStreamEnd Done (stream early k) i o ending) eg y in
+    stream_run words early f i o e old new ask ending status line same z once (subst (λ (k : Formula). IsEndLine k ending line) eh told) said
+    (early_left words f z.bytes ending x old new ask (as_done z.bytes z.text z.left) kept)
+
+-- the answer is kept
+pub early_answer : (r : Result Bool Stop) (x : Deciding) (old : Kept) → is_err r ≡ false → MatchResult r (λ _. Early x ≡ Early x) (λ _. Early x ≡ old)
+early_answer (Ok holds) x old e = refl
+early_answer (Err stop) x old e = absurd (false≢true (sym e))
+
+-- on an answer what decided is of the formula
+pub early_of_done : (f : Formula) (live : Live Follower) (ending : Result Bool Stop) (x : Deciding) → live.formula ≡ f → ((y : Follower) → live.follower ≡ Some y → x ≡ y.early)
+    → (bytes text : List ℕ) → OnOk ending (IsDone (λ s c made. IsDeciding true s c) early live bytes text) → OnOk ending (IsEarlyOf f bytes x)
+early_of_done f live (Ok holds) x e is bytes text k =
+    let w = early_over f bytes text live k e in subst (λ (y : Deciding). IsEarlyOf f bytes y) (sym (is w.0 w.1)) w.2
+early_of_done f live (Err stop) x e is bytes text k = tt
+
+-- the run of `early` on a fault
+pub early_stopped : (words : List (List ℕ)) (f g h : Formula) (i : Drained) (o e : Filled) (old : Kept) → AreFor words word.early f → g ≡ f → h ≡ f
+    → (ending : Result Bool Stop) (status : ℕ) (line : List ℕ) → status ≡ status_of ending → (Done : List ℕ → List ℕ → Type 0)
+    → IsStreamEnd Done (stream early g) i o ending → is_err ending ≡ true
+    → IsAskedOnce i → IsEndLine h ending line → IsSaid e.before e.after e.faults e.faults_after line
+    → HasRun words i o e old old status
+early_stopped words f g h i o e old ask eg eh ending status line same Done y err once told said =
+    let z = subst (λ (k : Formula). IsStreamEnd Done (stream early k) i o ending) eg y in
+    stream_run words early f i o e old old ask ending status line same z once (subst (λ (k : Formula). IsEndLine k ending line) eh told) said
+    (left_by ending z.bytes err)
+  where
+    left_by : (r : Result Bool Stop) (bytes : List ℕ) → is_err r ≡ true → IsLeft words bytes (status_of r) old old
+    left_by (Ok holds) bytes e = absurd (false≢true e)
+    left_by (Err stop) bytes e = asked (stream early f) ask (inr (inr (not_answer stop), refl))
+      where
+        not_answer : (stop : Stop) → (status_of_stop stop ≢ 0) × (status_of_stop stop ≢ 1)
+        not_answer (Faulty fault) = (λ e. omega (arith, e), λ e. omega (arith, e))
+        not_answer Unread = (λ e. omega (arith, e), λ e. omega (arith, e))
+        not_answer Unwritten = (λ e. omega (arith, e), λ e. omega (arith, e))
+        not_answer NoMemory = (λ e. omega (arith, e), λ e. omega (arith, e))
+        not_answer (Wide i den) = (λ e. omega (arith, e), λ e. omega (arith, e))
+        not_answer (TooMany count) = (λ e. omega (arith, e), λ e. omega (arith, e))
+
+pub same_formula : (f g : Formula) → stream early f ≡ stream early g → f ≡ g
+same_formula f g e = cc
+
+-- a reader that has come to its end has what follows its rows
+pub has_follower : (live : Live Follower) (ending : Result Bool Stop) → is_err ending ≡ false → (bytes text : List ℕ)
+    → OnOk ending (IsDone (λ s c made. IsDeciding true s c) early live bytes text) → IsSome live.follower
+has_follower live (Ok holds) e bytes text (h, over) = subst (λ (o : Option Follower). IsSome o) (sym over.is) refl
+has_follower live (Err stop) e bytes text k = absurd (false≢true (sym e))

@@ -1,8 +1,9 @@
 //! `early`: the verdict at the start, at the first row that settles it.
-ghost use Rattle.std.specs.Prelude.{◌≡◌, ◌≤◌, ◌++◌, codes, true, false, OnOk, IsSome, Some};
+ghost use Rattle.std.specs.Prelude.{◌≡◌, ◌≤◌, ◌++◌, codes, true, false, MatchOption, OnOk, IsSome, Some};
 ghost use Rattle.stl_syntax.specs.Texts.{newline, start_line};
 ghost use Rattle.report.specs.Appended.{Grew};
 ghost use Rattle.workbench.specs.EarlyLines.{AreDecidedLines};
+ghost use Rattle.workbench.specs.declared.early.Deciding.{Deciding as Follower};
 
 use early_verdict::{Decided, Early};
 use frac128::Memory;
@@ -33,6 +34,20 @@ fn put_verdict(text: &mut Text, decided: Decided, scale: Scale) -> Result<(), Me
     Ok(())
 }
 
+/// Adds the lines of the row that decided, where it did.
+///
+/// # Errors
+/// Want of memory.
+fn put_answer(text: &mut Text, answer: Option<Decided>, scale: Scale) -> Result<(), Memory>
+    requires { scale.time ≤ 6 }
+    ensures { OnOk result (MatchOption answer (text.new ≡ text.old) (λ d. Grew (AreDecidedLines scale d.at d.holds) text.old text.new)) }
+{
+    let Some(decided) = answer else {
+        return Ok(());
+    };
+    put_verdict(text, decided, scale)
+}
+
 /// Adds the line of a verdict that no row decided, and that of the verdict.
 ///
 /// # Errors
@@ -45,18 +60,32 @@ fn put_end(text: &mut Text, holds: bool) -> Result<(), Memory>
     Ok(())
 }
 
+/// Adds the lines of the end, where no row has decided.
+///
+/// # Errors
+/// Want of memory.
+fn put_rest(text: &mut Text, decided: Option<Decided>, holds: bool) -> Result<(), Memory>
+    ensures { OnOk result (MatchOption decided (text.new ≡ text.old ++ (codes "decided at end" ++ newline ++ start_line holds)) (λ d. text.new ≡ text.old)) }
+{
+    if decided.is_some() {
+        return Ok(());
+    }
+    put_end(text, holds)
+}
+
 /// What decided, of a reader that has read a trace to its end.
 pub(crate) fn early_of(live: Live<Deciding>) -> Early
     requires { IsSome live.follower }
     ensures { (x : Follower) → live.follower ≡ Some x → result ≡ x.early }
 {
-    match live.into_follower() {
-        Some(deciding) => {
-            let Deciding { early, scale: _scale } = deciding;
-            early
-        }
-        None => unreachable!(),
-    }
+    let Some(deciding) = live.into_follower() else {
+        unreachable!();
+    };
+    let Deciding {
+        early,
+        scale: _scale,
+    } = deciding;
+    early
 }
 
 impl Follow for Deciding {
@@ -79,32 +108,24 @@ impl Follow for Deciding {
             return Err(Memory);
         };
         let scale = formula.scale();
-        Ok(Deciding {
-            early: Early::new(alloc, formula, bound, header),
-            scale,
-        })
+        let early = Early::new(alloc, formula, bound, header);
+        Ok(Deciding { early, scale })
     }
 
     fn row(&mut self, row: &Row, text: &mut Text) -> Result<(), Memory> {
-        match self.early.feed(row) {
-            Ok(Some(decided)) => {
-                put_verdict(text, decided, self.scale)?;
-                Ok(())
-            }
-            Ok(None) => Ok(()),
-            Err(_) => Err(Memory),
-        }
+        let Ok(answer) = self.early.feed(row) else {
+            return Err(Memory);
+        };
+        put_answer(text, answer, self.scale)?;
+        Ok(())
     }
 
     fn end(&mut self, text: &mut Text) -> Result<bool, Memory> {
-        let open = self.early.decided().is_none();
+        let decided = self.early.decided();
         let Ok(holds) = self.early.end() else {
             return Err(Memory);
         };
-        if open {
-            put_end(text, holds)?;
-            return Ok(holds);
-        }
+        put_rest(text, decided, holds)?;
         Ok(holds)
     }
 }
