@@ -415,8 +415,8 @@ const EARLY: [(&str, &str, &str, u8); 6] = [
     ),
     (
         "x >= 1",
-        "time,x\n0.5,2\n1,0\n",
-        "decided at 0.5\nstart true\n",
+        "time:1,x\n0.5,2\n1.0,0\n",
+        "decided at 1/2\nstart true\n",
         0,
     ),
 ];
