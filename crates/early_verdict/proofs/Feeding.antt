@@ -1,11 +1,13 @@
 -- An early verdict goes on with a row.
 use Rattle.std.proofs.Common.{◌≡◌, refl, sym, ap, subst, ◌∙◌, ℕ, ◌<◌, Bool, true, false, Option, Some, None, List, [], ◌∷◌, ◌++◌, length}
-use Rattle.std.specs.Prelude.{IfSome, is_some}
+use Rattle.std.specs.Prelude.{IfSome, IsSome, is_some}
 use Rattle.stl_syntax.specs.Trace.{Header, Row}
 use Rattle.stl_syntax.specs.Formula.{Formula, root}
 use Rattle.stl_syntax.specs.WellFormed.{AreWellFormed}
 use Rattle.atom_lines.specs.Binding.{Binding, IsBound}
-use Rattle.early_verdict.specs.Deciding.{Kept, IsAnswer, IsVerdict, SetsAre, Stands}
+use Rattle.stl_syntax.specs.declared.node.Node.{Node}
+use Rattle.early_verdict.specs.Standing.{AllTidy}
+use Rattle.early_verdict.specs.Deciding.{Kept, IsAnswer, IsVerdict, SetsAre, Stands, decided_by, last_of}
 use Rattle.early_verdict.specs.declared.sets.Sets.{Sets}
 use Rattle.early_verdict.specs.declared.early.Decided.{Decided}
 use Rattle.early_verdict.proofs.DecideLemmas.{none_first}
@@ -57,3 +59,36 @@ passed_by x rows r kept st some width later same =
       subst (λ k. Stands (record x { last = Some k }) (rows ++ r ∷ []) false) (sym same) (passed_stands x rows st d.0 d.1 r width later),
       passed_answer x rows st d.0 d.1 r,
     )
+
+-- what is decided once a row has come
+pub by_now : (o now : Option Decided) → o ≡ None → now ≡ decided_by o now
+by_now o now e = subst (λ x. now ≡ decided_by x now) (sym e) refl
+
+pub by_then : (o now : Option Decided) → is_some o ≡ true → o ≡ decided_by o now
+by_then None now e = absurd (let f : false ≡ true = e in cc)
+by_then (Some d) now e = refl
+
+-- not ended yet, as the caller sees it
+pub unended : (x y : Kept) (rows : List Row) → x ≡ y → y.ended ≡ false → Stands x rows x.ended → Stands x rows false
+unended x y rows e o st = subst (λ b. Stands x rows b) (ap (λ (z : Kept). z.ended) e ∙ o) st
+
+pub as_ended : (x : Kept) (rows : List Row) (b : Bool) → Stands x rows b → Stands x rows x.ended
+as_ended x rows b st = subst (λ c. Stands x rows c) (sym st.is_ended) st
+
+pub sets_tidy : (nodes : List Node) (header : Header) (begin : ℕ) (sets : List Sets) (rows : List Row) (x : Row) → SetsAre nodes header begin sets (rows ++ x ∷ []) → AllTidy sets
+sets_tidy nodes header begin sets [] x s = s.1.tidy
+sets_tidy nodes header begin sets (r ∷ rows) x s = s.1.tidy
+
+pub some_sets : (nodes : List Node) (header : Header) (begin : ℕ) (sets : List Sets) (rows : List Row) (x : Row) → SetsAre nodes header begin sets (rows ++ x ∷ []) → 0 < length nodes
+    → 0 < length sets
+some_sets nodes header begin sets [] x s some = subst (λ n. 0 < n) (sym s.1.have.count) some
+some_sets nodes header begin sets (r ∷ rows) x s some = subst (λ n. 0 < n) (sym s.1.have.count) some
+
+none_has : (o : Option Row) → o ≡ None → IsSome o → ⊥
+none_has None e s = let f : false ≡ true = s in cc
+none_has (Some x) e s = let f : Some x ≡ None = e in cc
+
+-- rows that have a last one
+pub fed_rows : (rows : List Row) (last : Option Row) → last ≡ last_of rows → IsSome last → (r : Row) × (more : List Row) × (rows ≡ r ∷ more)
+fed_rows [] last e s = absurd (none_has last e s)
+fed_rows (r ∷ rows) last e s = (r, rows, refl)

@@ -2,7 +2,7 @@
 //!
 //! An early verdict stands for the rows that it took, and whether they have ended. It stores none of them: what its sets tell is what the
 //! rows settle, whatever they were.
-ghost use Rattle.std.specs.Prelude.{◌≡◌, ◌<◌, ◌++◌, ◌∷◌, [], List, length, IfOk, IfSome, IsSome, MatchResult, IfErr, None, false, option_map};
+ghost use Rattle.std.specs.Prelude.{◌≡◌, ◌<◌, ◌++◌, ◌∷◌, [], List, length, IfOk, IfSome, IsSome, MatchResult, IfErr, None, true, false, option_map};
 ghost use Rattle.stl_syntax.specs.Trace.{Row as ARow};
 ghost use Rattle.stl_syntax.specs.Formula.{root};
 ghost use Rattle.atom_lines.specs.Binding.{IsBound};

@@ -24,7 +24,6 @@ pub mod OneRequest
 pub mod EndsOnce
 pub mod AtRest
 pub mod Reported
-pub mod SessionsTold
 pub mod Summaries
 pub mod NumberWords
 pub mod Fitting

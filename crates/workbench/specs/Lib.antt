@@ -3,7 +3,6 @@ pub mod Generator
 pub mod Commands
 pub mod InputFaults
 pub mod Sessions
-pub mod SessionsAlone
 pub mod Words
 pub mod Writing
 pub mod Answers

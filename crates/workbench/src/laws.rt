@@ -18,9 +18,6 @@ pub use crate::owing_laws::{
     one_request_is_asked_for, one_text_is_owed, the_end_is_asked_for_once, what_is_owed_only_grows,
     what_was_written_is_of_all_bytes,
 };
-pub use crate::session_laws::{
-    each_session_is_told_as_alone, one_text_alone, other_sessions_add_nothing,
-};
 
 /// 2 comes exactly where the words are of no form that is built. Those of a command that holds the whole trace ask for no stream.
 pub fn words_of_no_form_are_told()

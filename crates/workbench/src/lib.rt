@@ -17,7 +17,6 @@ mod owing_laws;
 mod reading;
 mod request;
 mod robust;
-mod session_laws;
 mod signals;
 mod stream;
 mod summary;

@@ -21,7 +21,7 @@ returns-clause-stepped c =
     let old = c.deref_mut.result.now in
     let new = c.step_all.new.sets in
     let was : old ≡ c.args.sets.now.items = c.deref_mut.ensures.value in
-    let stepped = c.in_ok-step_all.ensures.0 in
+    let stepped = c.in_ok-step_all.ensures.stepped in
     let len : length new ≡ c.args.sets.now.len = search rules in
     subst (λ (xs : List Sets). SteppedTo (length nodes) c.args.sets.now.items xs) (sets_written new c.args.sets.now.items c.args.sets.now.len len)
     (subst (λ (xs : List Sets). SteppedTo (length nodes) xs new) was stepped)
@@ -34,5 +34,5 @@ returns-clause-fits c = λ before tr tops h have go were.
     let was : old ≡ c.args.sets.now.items = c.deref_mut.ensures.value in
     let len : length new ≡ c.args.sets.now.len = search rules in
     subst (λ (xs : List Sets). AllFit nodes c.args.event.now.ended tr xs) (sets_written new c.args.sets.now.items c.args.sets.now.len len)
-    (c.in_ok-step_all.ensures.1 before tr tops h (subst (λ (xs : List Sets). HaveSets nodes (start tr) tops xs) (sym was) have) go
+    (c.in_ok-step_all.ensures.fits before tr tops h (subst (λ (xs : List Sets). HaveSets nodes (start tr) tops xs) (sym was) have) go
     (subst (λ (xs : List Sets). AllWere before nodes xs) (sym was) were))

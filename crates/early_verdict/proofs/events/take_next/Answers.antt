@@ -6,12 +6,6 @@ use Rattle.early_verdict.proofs.GoingOn.{next_stand, leaves_bound}
 use Rattle.early_verdict.proofs.Opening.{after_last, last_wide, same_row}
 use Rattle.early_verdict.proofs.events.take_next.Goals as goal
 
-pub returns-in_default : goal.returns-in_default
-returns-in_default c = absurd (let o = c.requires.open.3.ends in let n = c.in_default.is in cc)
-
-pub next_event-requires : goal.next_event-requires
-next_event-requires c = subst (λ (t : ℕ). t < c.time.result) (sym c.time-2.ensures) c.requires.later
-
 pub step_sets-requires-clause-count : goal.step_sets-requires-clause-count
 step_sets-requires-clause-count c = c.requires.open.3.sets_are.1.have.count
 
@@ -37,5 +31,5 @@ returns c = λ header r rows o.
       next_stand c.args.bound.now c.args.formula.now header r rows c.args.row.now c.next_event-event.result c.args.last.now c.args.sets.now.items c.step_sets.new.sets.items
           o.bound o.so_far (after_last r rows c.args.last.now c.args.row.now o.ends c.requires.later) c.requires.width o.ends e.open
           (e.happens header r rows c.args.row.now o.sets_are.0 (c.time.ensures ∙ ap (λ (q : Row). q.time) last) c.time-2.ensures) o.sets_are.1
-          c.in_ok-step_sets.ensures.0 c.in_ok-step_sets.ensures.1,
+          c.in_ok-step_sets.ensures.stepped c.in_ok-step_sets.ensures.fits,
     )

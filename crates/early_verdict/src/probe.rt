@@ -1,8 +1,0 @@
-//! For checking lemma files alone.
-ghost use Rattle.std.specs.Prelude.{◌≡◌};
-
-pub fn probe() -> u32
-    ensures { result ≡ 1 }
-{
-    1
-}
