@@ -121,11 +121,8 @@ module _ (x y : Deciding) (case : Case) (made : List ℕ) (h : Follows (λ c tex
       → IsTruthAtStart (root x.early.nodes) (trace_of x.early.header case.trace.rows) holds
       → MatchOption decided (new ≡ old ++ (codes "decided at end" ++ newline ++ start_line holds)) (λ d. new ≡ old)
       → IsFollowedOut (λ c text. IsDeciding true y c) early case old new made holds
-  end_on old new decided holds was st ok truth grew = by_decided x.early.decided h.stands.stands.by (subst (λ o. IsGrown o) was grew)
+  end_on old new decided holds was st ok truth grew = by_decided x.early.decided h.stands.stands.by (subst (λ o. MatchOption o (new ≡ old ++ (codes "decided at end" ++ newline ++ start_line holds)) (λ d. new ≡ old)) was grew)
     where
-      abbrev IsGrown : Option Decided → Type 0
-      IsGrown o = MatchOption o (new ≡ old ++ (codes "decided at end" ++ newline ++ start_line holds)) (λ d. new ≡ old)
-
       here : IsTruthAtStart (root case.formula.nodes) case.trace holds
       here = subst (λ n. IsTruthAtStart (root n) case.trace holds) h.stands.nodes
           (subst (λ l. IsTruthAtStart (root x.early.nodes) (trace_of l case.trace.rows) holds) h.stands.header truth)
@@ -145,7 +142,7 @@ module _ (x y : Deciding) (case : Case) (made : List ℕ) (h : Follows (λ c tex
 
       by_decided : (o : Option Decided)
           → MatchOption o (NoneDecides (root x.early.nodes) x.early.header case.trace.rows × (x.early.ended ≡ false → SetsAre x.early.nodes x.early.header x.early.begin x.early.sets case.trace.rows))
-          (WasDecided (root x.early.nodes) x.early.header case.trace.rows) → IsGrown o → IsFollowedOut (λ c text. IsDeciding true y c) early case old new made holds
+          (WasDecided (root x.early.nodes) x.early.header case.trace.rows) → MatchOption o (new ≡ old ++ (codes "decided at end" ++ newline ++ start_line holds)) (λ d. new ≡ old) → IsFollowedOut (λ c text. IsDeciding true y c) early case old new made holds
       by_decided None none e = (
         codes "decided at end" ++ newline ++ start_line holds,
         e,

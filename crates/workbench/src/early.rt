@@ -1,9 +1,8 @@
 //! `early`: the verdict at the start, at the first row that settles it.
-ghost use Rattle.std.specs.Prelude.{◌≡◌, ◌≤◌, ◌++◌, codes, true, false, MatchOption, OnOk, IsSome, Some};
+ghost use Rattle.std.specs.Prelude.{◌≡◌, ◌≤◌, ◌++◌, codes, true, false, MatchOption, OnOk};
 ghost use Rattle.stl_syntax.specs.Texts.{newline, start_line};
 ghost use Rattle.report.specs.Appended.{Grew};
 ghost use Rattle.workbench.specs.EarlyLines.{AreDecidedLines};
-ghost use Rattle.workbench.specs.declared.early.Deciding.{Deciding as Follower};
 
 use early_verdict::{Decided, Early};
 use frac128::Memory;
@@ -11,7 +10,7 @@ use report::{put_decided, put_start};
 use std::alloc::Global;
 use stl_syntax::{Scale, Text};
 use trace_reader::Row;
-use trace_stream::{Case, Follow, Live};
+use trace_stream::{Case, Follow};
 
 /// What follows the rows of a trace for its early verdict, with the ticks in which its times are written.
 #[derive(Drop)]
@@ -73,19 +72,17 @@ fn put_rest(text: &mut Text, decided: Option<Decided>, holds: bool) -> Result<()
     put_end(text, holds)
 }
 
-/// What decided, of a reader that has read a trace to its end.
-pub(crate) fn early_of(live: Live<Deciding>) -> Early
-    requires { IsSome live.follower }
-    ensures { (x : Follower) → live.follower ≡ Some x → result ≡ x.early }
-{
-    let Some(deciding) = live.into_follower() else {
-        unreachable!();
-    };
-    let Deciding {
-        early,
-        scale: _scale,
-    } = deciding;
-    early
+impl Deciding {
+    /// The early verdict itself.
+    pub(crate) fn into_early(self) -> Early
+        ensures { result ≡ self.early }
+    {
+        let Deciding {
+            early,
+            scale: _scale,
+        } = self;
+        early
+    }
 }
 
 impl Follow for Deciding {

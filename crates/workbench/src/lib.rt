@@ -2,6 +2,7 @@
 #![tactic(auto)]
 
 mod answer;
+mod decided;
 mod early;
 mod entry;
 mod explain;

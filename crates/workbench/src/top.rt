@@ -13,7 +13,8 @@ ghost use Rattle.workbench.specs.Keeping.{HasRun};
 ghost use Rattle.workbench.specs.Wholes.{command_of, IsAnswerOf, IsUnanswered, IsWrittenWith, IsWholeEnd, IsBadEnd, IsEndLine, IsStopLine, HasFaultFor, EndsSoundly, status_of, status_of_stop, status_of_fault};
 
 use crate::answer::{Answer, judge};
-use crate::early::{Deciding, early_of};
+use crate::decided::early_of;
+use crate::early::Deciding;
 use crate::explain::give_reasons;
 use crate::fault::Stop;
 use crate::json::give_report;
