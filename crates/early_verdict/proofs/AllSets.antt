@@ -1,18 +1,17 @@
 -- What the sets of all nodes tell, where they fit.
-use Rattle.std.proofs.Common.{◌≡◌, ◌⊎◌, inl, inr, refl, sym, ap, subst, ◌∙◌, ℕ, zero, suc, ◌+◌, ◌-◌, ◌<◌, ◌≤◌, Bool, true, false, Option, Some, None, List, [], ◌∷◌, length, arith, below_more}
-use Rattle.std.specs.Prelude.{MatchOption, slice_get, slice_index_or, All}
-use Rattle.rational.specs.Time.{Rational, later, ◌≤ʳ◌}
+use Rattle.std.proofs.Common.{◌≡◌, refl, sym, ap, subst, ℕ, zero, suc, ◌<◌, ◌≤◌, true, false, Option, Some, None, List, [], ◌∷◌, length, arith, below_more}
+use Rattle.std.specs.Prelude.{MatchOption, slice_get, slice_index_or}
 use Rattle.stl_syntax.specs.Trace.{Trace, start}
-use Rattle.stl_syntax.specs.Formula.{Subformula, subformula, tree_of, HasChildrenBelow}
+use Rattle.stl_syntax.specs.Formula.{subformula}
 use Rattle.stl_syntax.specs.Early.{Settled, SettledNot}
-use Rattle.stl_syntax.specs.WellFormed.{AreWellFormed, HasBounds}
+use Rattle.stl_syntax.specs.WellFormed.{AreWellFormed}
 use Rattle.stl_syntax.specs.declared.node.Node.{Node}
 use Rattle.stl_syntax.specs.declared.node.Node.TheVariants.{Const}
 use Rattle.stl_syntax.proofs.FormulaLemmas.{subformula-at}
 use Rattle.stl_syntax.proofs.PostOrderLemmas.{placed, slice_get_at}
-use Rattle.early_verdict.specs.Spans.{IsOn, AreTidy}
-use Rattle.early_verdict.specs.Fitting.{Lists, lists_of, lists_at, nothing, SayBoth, AreSetsTidy, Fits, HasFailBounds}
-use Rattle.early_verdict.specs.Standing.{AreAsked, HaveSets, HasSets, AllFit, AllTidy, top_at, left_of}
+use Rattle.early_verdict.specs.Spans.{AreTidy}
+use Rattle.early_verdict.specs.Fitting.{Lists, lists_of, lists_at, SayBoth, HasFailBounds}
+use Rattle.early_verdict.specs.Standing.{HaveSets, HasSets, AllFit, AllTidy, top_at, left_of}
 use Rattle.early_verdict.specs.declared.sets.Sets.{Sets}
 use Rattle.early_verdict.proofs.Settling.{Known}
 use Rattle.early_verdict.proofs.SettledSets.{node_told}

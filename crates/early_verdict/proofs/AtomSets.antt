@@ -1,18 +1,17 @@
 -- What a row adds to the two sets of an atom, piece by piece.
-use Rattle.std.proofs.Common.{◌≡◌, ◌⊎◌, inl, inr, refl, sym, ap, subst, ◌∙◌, ℕ, ◌<◌, arith, Bool, true, false, Option, Some, None, List, [], ◌++◌, append_assoc}
+use Rattle.std.proofs.Common.{◌≡◌, ◌⊎◌, inl, inr, refl, sym, ap, subst, ◌∙◌, ◌<◌, arith, Bool, true, false, Option, Some, None, List, [], ◌++◌, append_assoc}
 use Rattle.std.specs.Prelude.{MatchOption, IfSome, IsTrue, IsFalse}
 use Rattle.rational.specs.Time.{Rational, ◌≤ʳ◌, ◌<ʳ◌, ◌≈◌}
-use Rattle.rational.proofs.Order.{le_refl, le_trans, le_of_lt, le_or_lt, lt_or_same_or_gt, le_of_same, ge_of_same, same_of_le, same_refl, not_lt_of_le, lt_of_lt_of_le, lt_of_le_of_lt, lt_irrefl}
-use Rattle.frac128.specs.Value.{value}
+use Rattle.rational.proofs.Order.{le_trans, le_of_lt, le_or_lt, lt_or_same_or_gt, le_of_same, ge_of_same, same_of_le, not_lt_of_le, lt_of_lt_of_le, lt_of_le_of_lt}
 use Rattle.stl_syntax.specs.Trace.{Row, Trace, row_time, start, stop}
 use Rattle.stl_syntax.specs.Truth.{holds_at}
 use Rattle.stl_syntax.specs.declared.atom.Atom.{Atom}
 use Rattle.atom_lines.specs.Binding.{AreNeighbours}
-use Rattle.early_verdict.specs.Cuts.{Place, place, After, Upto, Same}
+use Rattle.early_verdict.specs.Cuts.{Place, After, Upto, Same}
 use Rattle.early_verdict.specs.Spans.{Lies, IsOn, Grows}
 use Rattle.early_verdict.specs.Steps.{Tells, Gains}
 use Rattle.early_verdict.specs.Adding.{Enlarges, HasAdded, HasGrown, HasRested, Piece, ThreePieces, BetweenRows, AfterRow, IsNextRow, before_row, after_row}
-use Rattle.early_verdict.specs.Fitting.{AtomFits, SayBoth, AreSetsTidy, HasStepped, Says}
+use Rattle.early_verdict.specs.Fitting.{AtomFits, AreSetsTidy, HasStepped}
 use Rattle.early_verdict.specs.Happening.{Was}
 use Rattle.early_verdict.specs.declared.stretch.Stretch.{Stretch}
 use Rattle.early_verdict.specs.declared.sets.Sets.{Sets}

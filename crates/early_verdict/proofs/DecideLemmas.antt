@@ -1,26 +1,23 @@
 -- What sets decide of the start, row by row and at the end.
-use Rattle.std.proofs.Common.{◌≡◌, ◌⊎◌, inl, inr, refl, sym, ap, subst, ◌∙◌, ℕ, ◌+◌, ◌-◌, ◌<◌, ◌≤◌, Bool, true, false, Option, Some, None, List, [], ◌∷◌, ◌++◌, length, pos, arith, append_assoc}
-use Rattle.std.specs.Prelude.{MatchOption, MatchBool, IsTrue, slice_get}
-use Rattle.rational.specs.Time.{Rational, whole, later, ◌≤ʳ◌}
+use Rattle.std.proofs.Common.{◌≡◌, ◌⊎◌, inl, inr, refl, sym, ap, subst, ◌∙◌, ℕ, ◌-◌, ◌<◌, Bool, true, false, Option, Some, None, List, [], ◌∷◌, ◌++◌, length, arith, append_assoc}
+use Rattle.std.specs.Prelude.{MatchOption}
+use Rattle.rational.specs.Time.{◌≤ʳ◌}
 use Rattle.rational.proofs.Order.{le_refl}
 use Rattle.rational.proofs.TimeLemmas.{later_from}
-use Rattle.stl_syntax.specs.Trace.{Header, Row, Trace, IsTrace, AreRows, Continues, row_time, start, stop, last_time}
-use Rattle.stl_syntax.specs.Formula.{Formula, Subformula, root, subformula}
-use Rattle.stl_syntax.specs.Truth.{Truth}
+use Rattle.stl_syntax.specs.Trace.{Header, Row, Trace, AreRows, row_time, start, stop}
+use Rattle.stl_syntax.specs.Formula.{Subformula, root}
 use Rattle.stl_syntax.specs.Early.{Settled, SettledNot, Decides, NoneDecides, FirstDecides}
 use Rattle.stl_syntax.specs.WellFormed.{AreWellFormed}
 use Rattle.stl_syntax.specs.declared.node.Node.{Node}
 use Rattle.stl_syntax.proofs.LawProofs.{decisions_stay}
-use Rattle.early_verdict.specs.Spans.{IsOn}
 use Rattle.early_verdict.specs.Fitting.{Lists, lists_at}
 use Rattle.early_verdict.specs.Standing.{AllFit, AllTidy, HaveSets, top_at}
-use Rattle.early_verdict.specs.Deciding.{IsTruthAtStart, IsVerdict, SetsStand, WasDecided, last_after, trace_of}
+use Rattle.early_verdict.specs.Deciding.{IsTruthAtStart, IsVerdict, SetsStand, WasDecided, trace_of}
 use Rattle.early_verdict.specs.declared.sets.Sets.{Sets}
 use Rattle.early_verdict.specs.declared.early.Decided.{Decided}
 use Rattle.early_verdict.proofs.Settling.{Known}
 use Rattle.early_verdict.proofs.EndedSets.{Final}
 use Rattle.early_verdict.proofs.AllSets.{all_known, all_final}
-use Rattle.early_verdict.proofs.RowLemmas.{last_is}
 
 -- the root's sets are those of the last node
 root_place : (nodes : List Node) (sets : List Sets) → length sets ≡ length nodes → lists_at sets (length sets - 1) ≡ lists_at sets (length nodes - 1)

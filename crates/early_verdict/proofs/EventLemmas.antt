@@ -1,14 +1,13 @@
 -- What comes to the sets of all nodes, by ticks.
-use Rattle.std.proofs.Common.{◌≡◌, refl, sym, ap, subst, ◌∙◌, ℕ, ◌<◌, ◌≤◌, ◌^◌, Bool, true, false, Option, Some, None, List, [], ◌∷◌, ◌++◌, pos, lit≤, arith}
-use Rattle.std.specs.Prelude.{unsigned_abs}
+use Rattle.std.proofs.Common.{◌≡◌, refl, sym, subst, ◌∙◌, ℕ, ◌≤◌, ◌^◌, Bool, true, false, Some, None, List, [], ◌∷◌, ◌++◌, pos, lit≤, arith}
 use Rattle.rational.specs.Rational.{IsWithin}
-use Rattle.rational.specs.Time.{Rational, whole, ◌≤ʳ◌}
+use Rattle.rational.specs.Time.{whole}
 use Rattle.rational.proofs.Order.{le_trans, le_of_lt, same_sym}
 use Rattle.rational.proofs.Mixed.{within_same, within_more, within_whole}
 use Rattle.frac128.specs.Value.{value}
-use Rattle.stl_syntax.specs.Trace.{Header, Row, row_time, last_time}
-use Rattle.early_verdict.specs.Cuts.{Place, place, AtMost, Upto, Same}
-use Rattle.early_verdict.specs.Happening.{Happens, IsEvent}
+use Rattle.stl_syntax.specs.Trace.{Header, Row}
+use Rattle.early_verdict.specs.Cuts.{Place, place, AtMost, Same}
+use Rattle.early_verdict.specs.Happening.{Happens}
 use Rattle.early_verdict.specs.Deciding.{last_after, trace_of}
 use Rattle.early_verdict.specs.declared.cut.Cut.{Cut}
 use Rattle.early_verdict.specs.declared.event.Event.{Event}

@@ -1,9 +1,9 @@
 -- Where each time of a window is of X, or has a time of Y on the way to it, all of the window is of X, or the times on the way go on in both
 -- to one of Y: by the lists.
-use Rattle.std.proofs.Common.{◌≡◌, ◌⊎◌, inl, inr, refl, true, false, List}
+use Rattle.std.proofs.Common.{◌⊎◌, inl, inr, true, false, List}
 use Rattle.rational.specs.Time.{Rational, Within, ◌≤ʳ◌, ◌<ʳ◌}
 use Rattle.rational.proofs.Order.{le_refl, le_trans, le_of_lt, le_or_lt, same_of_le}
-use Rattle.early_verdict.specs.Cuts.{Place, place, After, Upto, Before}
+use Rattle.early_verdict.specs.Cuts.{Place, place, After, Upto}
 use Rattle.early_verdict.specs.Spans.{Lies, IsOn, IsAmong, AreTidy}
 use Rattle.early_verdict.specs.Reaching.{GoesTo, GoesBack}
 use Rattle.early_verdict.specs.declared.stretch.Stretch.{Stretch}

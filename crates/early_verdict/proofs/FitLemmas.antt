@@ -1,6 +1,6 @@
 -- Sets that fit do so by whatever function the children's lists are given, and lie within their bounds.
-use Rattle.std.proofs.Common.{◌≡◌, ◌⊎◌, inl, inr, refl, sym, ap, subst, ◌∙◌, ℕ, zero, suc, ◌<◌, ◌≤◌, Bool, true, false, Option, Some, None, List, [], ◌∷◌, arith}
-use Rattle.std.specs.Prelude.{MatchOption, slice_get, slice_index_or, length}
+use Rattle.std.proofs.Common.{◌≡◌, ◌⊎◌, subst, ℕ, ◌<◌, Bool, Option, Some, None}
+use Rattle.std.specs.Prelude.{MatchOption}
 use Rattle.rational.specs.Time.{Rational}
 use Rattle.stl_syntax.specs.Trace.{Trace}
 use Rattle.stl_syntax.specs.Formula.{HasChildrenBelow}

@@ -1,10 +1,10 @@
 -- Gaps right beside a stretch of a list, and what a list has between two places.
-use Rattle.std.proofs.Common.{◌≡◌, ◌⊎◌, inl, inr, refl, sym, subst, List, [], ◌∷◌}
+use Rattle.std.proofs.Common.{◌⊎◌, inl, inr, sym, subst, List, [], ◌∷◌}
 use Rattle.rational.specs.Time.{Rational, ◌≤ʳ◌}
 use Rattle.rational.proofs.Order.{le_of_same, ge_of_same}
 use Rattle.rational.specs.Rational.{◌≈◌}
 use Rattle.early_verdict.specs.Cuts.{Place, place, After, Upto, Before}
-use Rattle.early_verdict.specs.Spans.{Lies, IsOn, IsAmong, AreTidy}
+use Rattle.early_verdict.specs.Spans.{IsOn, IsAmong, AreTidy}
 use Rattle.early_verdict.specs.Steps.{HoldsFrom}
 use Rattle.early_verdict.specs.declared.stretch.Stretch.{Stretch}
 use Rattle.early_verdict.proofs.PlaceLemmas.{sides, not_both, between, share, before_trans, before_through, upto_of_before, after_of_before, at_most_of_not_before}

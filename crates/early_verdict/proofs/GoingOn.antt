@@ -1,7 +1,7 @@
 -- Sets go on with rows, and to the end.
-use Rattle.std.proofs.Common.{◌≡◌, refl, sym, ap, subst, ◌∙◌, ℕ, ◌<◌, Bool, true, false, Option, Some, None, List, [], ◌∷◌, ◌++◌, length, arith}
-use Rattle.std.specs.Prelude.{MatchBool, MatchOption, IfSome, slice_get}
-use Rattle.stl_syntax.specs.Trace.{Header, Row, Trace, IsTrace, AreRows, row_time, start}
+use Rattle.std.proofs.Common.{◌≡◌, refl, sym, subst, ◌∙◌, ℕ, ◌<◌, true, false, Option, Some, None, List, [], ◌∷◌, ◌++◌, length}
+use Rattle.std.specs.Prelude.{MatchBool, slice_get}
+use Rattle.stl_syntax.specs.Trace.{Header, Row, Trace, AreRows, row_time, start}
 use Rattle.stl_syntax.specs.Formula.{Formula}
 use Rattle.stl_syntax.specs.declared.atom.Atom.{Atom}
 use Rattle.stl_syntax.specs.declared.node.Node.{Node}
@@ -9,9 +9,9 @@ use Rattle.stl_syntax.specs.declared.node.Node.TheVariants.{Const, Atom as Leaf,
 use Rattle.atom_lines.specs.Binding.{Binding, IsBound}
 use Rattle.early_verdict.specs.Adding.{IsNextRow}
 use Rattle.early_verdict.specs.Happening.{Happens}
-use Rattle.early_verdict.specs.Standing.{AllEmpty, AllFit, AllGo, AllTidy, AllWere, GoesOnWith, HaveSets, LeafIsBound, SteppedTo}
+use Rattle.early_verdict.specs.Standing.{AllFit, AllGo, AllWere, GoesOnWith, HaveSets, LeafIsBound, SteppedTo}
 use Rattle.early_verdict.specs.Making.{AreMade}
-use Rattle.early_verdict.specs.Deciding.{IsOpen, SetsAre, SetsStand, last_after, last_of, trace_of}
+use Rattle.early_verdict.specs.Deciding.{SetsStand, last_after, trace_of}
 use Rattle.early_verdict.specs.declared.event.Event.{Event}
 use Rattle.early_verdict.specs.declared.sets.Sets.{Sets}
 use Rattle.early_verdict.proofs.Having.{have_still, tidy_still}

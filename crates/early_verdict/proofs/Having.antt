@@ -1,10 +1,10 @@
 -- An event leaves the sets of all nodes asked as they were.
-use Rattle.std.proofs.Common.{◌≡◌, refl, sym, ap, subst, ◌∙◌, ℕ, ◌<◌, Option, Some, None, List, length, arith}
+use Rattle.std.proofs.Common.{◌≡◌, refl, sym, subst, ◌∙◌, ℕ, Option, Some, None, List, length, arith}
 use Rattle.std.specs.Prelude.{MatchOption, slice_get}
 use Rattle.rational.specs.Time.{Rational}
 use Rattle.stl_syntax.specs.declared.node.Node.{Node}
-use Rattle.early_verdict.specs.Fitting.{AreSetsTidy, HasFailBounds, HasStepped, KeepsBounds}
-use Rattle.early_verdict.specs.Standing.{AllTidy, AreAsked, ArePartsAsked, HaveSets, HasSets, IsFrom, SteppedTo, left_of, top_at}
+use Rattle.early_verdict.specs.Fitting.{HasFailBounds, HasStepped, KeepsBounds}
+use Rattle.early_verdict.specs.Standing.{AllTidy, ArePartsAsked, HaveSets, HasSets, IsFrom, SteppedTo, left_of, top_at}
 use Rattle.early_verdict.specs.declared.stretch.Stretch.{Stretch}
 use Rattle.early_verdict.specs.declared.sets.Sets.{Sets}
 use Rattle.early_verdict.specs.declared.sets.Parts.{Parts}

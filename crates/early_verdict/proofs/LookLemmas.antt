@@ -1,13 +1,13 @@
 -- Windows of lists, in the words of the early reading.
-use Rattle.std.proofs.Common.{◌≡◌, ◌⊎◌, inl, inr, refl, sym, ap, subst, ◌∙◌, ℕ, Bool, true, false, Option, Some, None, List, []}
+use Rattle.std.proofs.Common.{◌≡◌, ◌⊎◌, inl, inr, sym, ap, subst, ℕ, Bool, true, false, Option, Some, None, List}
 use Rattle.std.specs.Prelude.{MatchOption}
 use Rattle.rational.specs.Time.{Rational, later, ◌≤ʳ◌, ◌≈◌}
 use Rattle.rational.proofs.Order.{le_refl, le_trans, same_of_le}
 use Rattle.rational.proofs.TimeLemmas.{later_from, precedes_le, precedes_before, precedes_after}
 use Rattle.stl_syntax.specs.Trace.{Trace, start, stop}
-use Rattle.stl_syntax.specs.Early.{OpenAhead, OpenBehind, IsSure}
-use Rattle.early_verdict.specs.Cuts.{Place, place, After, Upto, Same}
-use Rattle.early_verdict.specs.Spans.{Lies, IsOn}
+use Rattle.stl_syntax.specs.Early.{OpenAhead, OpenBehind}
+use Rattle.early_verdict.specs.Cuts.{Place, place, Same}
+use Rattle.early_verdict.specs.Spans.{IsOn}
 use Rattle.early_verdict.specs.Steps.{Tells, Gains, SeesOne, SeesOnly}
 use Rattle.early_verdict.specs.Sure.{SeesSure}
 use Rattle.early_verdict.specs.Lasting.{SeesOnlyBy}

@@ -1,19 +1,19 @@
 -- The empty sets of all nodes of a formula are such as an event begins with.
-use Rattle.std.proofs.Common.{◌≡◌, ◌⊎◌, inl, inr, refl, sym, subst, ap, ◌∙◌, ℕ, zero, suc, ◌+◌, ◌<◌, ◌≤◌, ℤ, pos, true, false, Option, Some, None, List, [], ◌∷◌, ◌++◌, length, take, arith, add-one}
-use Rattle.std.specs.Prelude.{slice_get, MatchOption, ◌↔◌}
+use Rattle.std.proofs.Common.{◌≡◌, ◌⊎◌, inl, inr, refl, sym, subst, ap, ◌∙◌, ℕ, zero, suc, ◌+◌, ◌<◌, pos, true, false, Option, Some, None, List, [], ◌∷◌, ◌++◌, length, take, arith}
+use Rattle.std.specs.Prelude.{slice_get, MatchOption}
 use Rattle.std.proofs.lemmas.List.{take-append-le, length-append}
 use Rattle.std.proofs.lemmas.Option.{slice_get_within}
 use Rattle.std.proofs.Math.Seq.{take-append_seam}
-use Rattle.rational.specs.Rational.{Rational, ◌≤ʳ◌, ◌≈◌, whole}
+use Rattle.rational.specs.Rational.{Rational, ◌≈◌, whole}
 use Rattle.rational.specs.Time.{later}
 use Rattle.rational.proofs.Order.{le_trans, le_of_same, ge_of_same}
 use Rattle.stl_syntax.specs.Formula.{HasChildrenBelow}
 use Rattle.stl_syntax.specs.declared.node.Node.{Node}
 use Rattle.stl_syntax.specs.declared.node.Node.TheVariants.{Const, Atom as Leaf, Not, And, Or, Implies, Until, Eventually, Always, Since, Once, Historically}
-use Rattle.early_verdict.specs.Cuts.{place, After, Upto, Same}
-use Rattle.early_verdict.specs.Spans.{Lies, AreTidy}
+use Rattle.early_verdict.specs.Cuts.{place, Same}
+use Rattle.early_verdict.specs.Spans.{AreTidy}
 use Rattle.early_verdict.specs.Fitting.{AreEmpty, ArePartsEmpty, AreSetsTidy, ArePartsTidy, HasFailBounds, IsEmpty, IsTidy}
-use Rattle.early_verdict.specs.Standing.{AllEmpty, AllTidy, AreAsked, ArePartsAsked, HasSets, HaveSets, IsFrom, left_of, top_at}
+use Rattle.early_verdict.specs.Standing.{ArePartsAsked, HasSets, IsFrom, left_of, top_at}
 use Rattle.early_verdict.specs.Tops.{AreTops}
 use Rattle.early_verdict.specs.Making.{AreMade, HasPartBounds, HasPartsFor, IsMade}
 use Rattle.early_verdict.specs.declared.stretch.Stretch.{Stretch}

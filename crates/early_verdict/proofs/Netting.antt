@@ -1,17 +1,15 @@
 -- One event goes on from node to node.
-use Rattle.std.proofs.Common.{◌≡◌, ◌≢◌, ◌⊎◌, inl, inr, refl, sym, ap, subst, ◌∙◌, ℕ, zero, suc, ◌+◌, ◌<◌, ◌≤◌, Bool, true, false, Option, Some, None, List, [], ◌∷◌, length, take, arith, below_more}
+use Rattle.std.proofs.Common.{◌≡◌, ◌≢◌, ◌⊎◌, inl, inr, refl, sym, ap, subst, ◌∙◌, ℕ, zero, suc, ◌+◌, ◌<◌, ◌≤◌, false, Option, Some, None, List, [], ◌∷◌, length, take, arith, below_more}
 use Rattle.std.specs.Prelude.{MatchOption, IsSome, slice_get}
-use Rattle.rational.specs.Time.{Rational, ◌≤ʳ◌}
 use Rattle.stl_syntax.specs.Trace.{Row, Trace, start}
 use Rattle.stl_syntax.specs.Formula.{HasChildrenBelow}
 use Rattle.stl_syntax.specs.declared.node.Node.{Node}
 use Rattle.stl_syntax.specs.declared.node.Node.TheVariants.{Const, Atom as Leaf, Not, And, Or, Implies, Until, Eventually, Always, Since, Once, Historically}
 use Rattle.atom_lines.specs.Binding.{Binding}
-use Rattle.early_verdict.specs.Spans.{Lies, IsOn}
-use Rattle.early_verdict.specs.Steps.{Gains}
-use Rattle.early_verdict.specs.Fitting.{Lists, Fits, HasStepped, HadLists, HasFailBounds, AreSetsTidy, lists_at, lists_of, nothing}
+use Rattle.early_verdict.specs.Spans.{Lies}
+use Rattle.early_verdict.specs.Fitting.{Lists, Fits, HasStepped, HadLists, HasFailBounds, AreSetsTidy, lists_at, nothing}
 use Rattle.early_verdict.specs.Happening.{Had, Happens, Was}
-use Rattle.early_verdict.specs.Standing.{AllEmpty, AllFit, AllGo, AllTidy, AllWere, HadAll, HasParts, HaveSets, HasSets, LeafGoes, StepsAt, SteppedTo, left_of, top_at}
+use Rattle.early_verdict.specs.Standing.{AllGo, AllTidy, AllWere, HadAll, HasParts, HaveSets, LeafGoes, StepsAt, SteppedTo, left_of, top_at}
 use Rattle.early_verdict.specs.declared.event.Event.{Event}
 use Rattle.early_verdict.specs.declared.stretch.Stretch.{Stretch}
 use Rattle.early_verdict.specs.declared.sets.Sets.{Sets}

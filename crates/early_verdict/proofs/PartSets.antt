@@ -1,11 +1,10 @@
 -- What the sets of until and since, and those between, told before an event.
-use Rattle.std.proofs.Common.{◌≡◌, ◌⊎◌, inl, inr, refl, sym, subst, ℕ, Bool, false, Option, Some, None, List}
+use Rattle.std.proofs.Common.{◌≡◌, ◌⊎◌, inl, inr, subst, ℕ, false, Option, Some, None}
 use Rattle.std.specs.Prelude.{MatchOption}
-use Rattle.rational.specs.Time.{Rational}
 use Rattle.stl_syntax.specs.Trace.{Trace}
 use Rattle.early_verdict.specs.Spans.{IsOn}
 use Rattle.early_verdict.specs.Steps.{Tells}
-use Rattle.early_verdict.specs.Fitting.{Lists, SayOfParts, SayBoth, ArePartsEmpty, AreEmpty, IsHoldingEmpty, IsFailingEmpty, HasFailBounds, UntilFits, UntilHolding, UntilFailing, SinceFits, SinceHolding, SinceFailing}
+use Rattle.early_verdict.specs.Fitting.{Lists, SayOfParts, ArePartsEmpty, AreEmpty, IsHoldingEmpty, IsFailingEmpty, HasFailBounds, UntilFits, UntilHolding, UntilFailing, SinceFits, SinceHolding, SinceFailing}
 use Rattle.early_verdict.specs.Happening.{Was}
 use Rattle.early_verdict.specs.declared.sets.Sets.{Sets}
 use Rattle.early_verdict.specs.declared.sets.Parts.{Parts}

@@ -1,5 +1,5 @@
 -- Sets at the places of a list: one that is put in the place of another.
-use Rattle.std.proofs.Common.{◌≡◌, ◌≢◌, refl, sym, ap, subst, ◌∙◌, ℕ, zero, suc, ◌+◌, ◌<◌, ◌≤◌, Option, Some, None, List, [], ◌∷◌, ◌++◌, length, take, drop, get_or, arith}
+use Rattle.std.proofs.Common.{◌≡◌, ◌≢◌, refl, sym, ap, ◌∙◌, ℕ, zero, suc, ◌<◌, Option, Some, None, List, [], ◌∷◌, ◌++◌, length, take, drop, get_or, arith}
 use Rattle.std.specs.Prelude.{slice_get, slice_set}
 use Rattle.early_verdict.specs.Fitting.{Lists, lists_at, lists_of, nothing}
 use Rattle.early_verdict.specs.declared.sets.Sets.{Sets}

@@ -1,14 +1,13 @@
 -- Rows with one more: its time, its place, and what they said before.
-use Rattle.std.proofs.Common.{◌≡◌, refl, sym, ap, subst, ◌∙◌, ℕ, suc, ◌<◌, ◌≤◌, Bool, true, false, Option, Some, None, List, [], ◌∷◌, ◌++◌, length, pos, arith}
+use Rattle.std.proofs.Common.{◌≡◌, refl, sym, ap, subst, ℕ, suc, ◌<◌, Bool, true, false, Some, None, List, [], ◌∷◌, ◌++◌, length, pos}
 use Rattle.std.specs.Prelude.{slice_get, IsTrue}
-use Rattle.rational.specs.Time.{Rational, ◌≤ʳ◌, ◌≈◌, whole}
+use Rattle.rational.specs.Time.{Rational, ◌≤ʳ◌, whole}
 use Rattle.rational.proofs.Order.{same_sym}
-use Rattle.stl_syntax.specs.Trace.{Header, Row, Trace, IsTrace, AreRows, AreRowsAfter, row_time, last_time, start, stop}
-use Rattle.stl_syntax.specs.Truth.{holds_at, compares}
+use Rattle.stl_syntax.specs.Trace.{Header, Row, AreRows, AreRowsAfter, row_time, last_time}
+use Rattle.stl_syntax.specs.Truth.{holds_at}
 use Rattle.stl_syntax.specs.declared.atom.Atom.{Atom}
 use Rattle.stl_syntax.proofs.TruthLemmas.{compares_same}
 use Rattle.stl_syntax.proofs.PrefixLaw.{same_atom}
-use Rattle.atom_lines.specs.Binding.{HasRow, AreNeighbours}
 use Rattle.early_verdict.specs.Adding.{IsNextRow}
 use Rattle.early_verdict.specs.Deciding.{last_after, trace_of}
 

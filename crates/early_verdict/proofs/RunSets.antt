@@ -1,21 +1,20 @@
 -- What the sets between told before an event, in the words of lists.
-use Rattle.std.proofs.Common.{◌≡◌, ◌⊎◌, inl, inr, refl, sym, ap, subst, ◌∙◌, ℕ, Bool, true, false, Option, Some, None, List, []}
+use Rattle.std.proofs.Common.{◌≡◌, ◌⊎◌, inl, inr, sym, subst, ℕ, true, false, Option, Some, None, List}
 use Rattle.std.specs.Prelude.{MatchOption}
 use Rattle.rational.specs.Time.{Rational, ◌≤ʳ◌}
 use Rattle.stl_syntax.specs.Trace.{Trace, start}
 use Rattle.stl_syntax.specs.Early.{OpenAhead}
-use Rattle.early_verdict.specs.Cuts.{Place, place, Upto, Same}
+use Rattle.early_verdict.specs.Cuts.{Place, place, Same}
 use Rattle.early_verdict.specs.Spans.{Lies, IsOn}
-use Rattle.early_verdict.specs.Steps.{Tells, Gains, SeesOne, SeesOnly}
+use Rattle.early_verdict.specs.Steps.{Tells, SeesOne, SeesOnly}
 use Rattle.early_verdict.specs.Sure.{SeesSure}
 use Rattle.early_verdict.specs.Reaching.{GoesOn, GoesTo, GoesBack}
 use Rattle.early_verdict.specs.Readings.{SomeAhead, OnlyAhead, SomeBehind, OnlyBehind}
-use Rattle.early_verdict.specs.Fitting.{Lists, Says, IsEmpty, sure_place, UntilHolding, UntilFailing, SinceHolding, SinceFailing, IsHoldingEmpty, IsFailingEmpty}
+use Rattle.early_verdict.specs.Fitting.{Lists, sure_place, UntilHolding, UntilFailing, SinceHolding, SinceFailing, IsHoldingEmpty, IsFailingEmpty}
 use Rattle.early_verdict.specs.Happening.{Happens}
 use Rattle.early_verdict.specs.Looking.{IsAhead, IsBehind, WasTold, WasList}
 use Rattle.early_verdict.specs.declared.event.Event.{Event}
 use Rattle.early_verdict.specs.declared.stretch.Stretch.{Stretch}
-use Rattle.early_verdict.specs.declared.grown.Grown.{Grown}
 use Rattle.early_verdict.specs.declared.sets.Holding.{Holding}
 use Rattle.early_verdict.specs.declared.sets.Failing.{Failing}
 use Rattle.early_verdict.specs.declared.window.Window.{Window}

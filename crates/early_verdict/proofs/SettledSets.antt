@@ -1,16 +1,16 @@
 -- Sets that fit tell what rows settle.
-use Rattle.std.proofs.Common.{◌≡◌, ◌⊎◌, inl, inr, refl, sym, ap, subst, ◌∙◌, ℕ, zero, suc, ◌+◌, ◌<◌, ◌≤◌, Bool, true, false, Option, Some, None, List, arith}
+use Rattle.std.proofs.Common.{◌≡◌, ◌⊎◌, inl, inr, subst, ℕ, ◌+◌, ◌<◌, ◌≤◌, Bool, true, false, Option}
 use Rattle.std.specs.Prelude.{MatchOption}
 use Rattle.rational.specs.Time.{Rational, Within, later, ◌≤ʳ◌}
 use Rattle.rational.proofs.Order.{le_refl, le_trans}
-use Rattle.rational.proofs.TimeLemmas.{precedes_le, later_from}
+use Rattle.rational.proofs.TimeLemmas.{precedes_le}
 use Rattle.stl_syntax.specs.Trace.{Trace, start}
 use Rattle.stl_syntax.specs.Formula.{Subformula, tree_of, HasChildrenBelow}
-use Rattle.stl_syntax.specs.Early.{OpenAhead, OpenBehind, IsSure, Settled, SettledNot}
+use Rattle.stl_syntax.specs.Early.{OpenAhead, Settled, SettledNot}
 use Rattle.stl_syntax.specs.WellFormed.{HasBounds}
 use Rattle.stl_syntax.specs.declared.node.Node.{Node}
 use Rattle.stl_syntax.specs.declared.node.Node.TheVariants.{Const, Atom as Leaf, Not, And, Or, Implies, Until, Eventually, Always, Since, Once, Historically}
-use Rattle.early_verdict.specs.Spans.{Lies, IsOn, AreTidy}
+use Rattle.early_verdict.specs.Spans.{IsOn, AreTidy}
 use Rattle.early_verdict.specs.Readings.{SomeAhead, OnlyAhead, SomeBehind, OnlyBehind, UntilHolds, UntilFails, SinceHolds, SinceFails}
 use Rattle.early_verdict.specs.Fitting.{Lists, SayBoth, AreSetsTidy, Fits}
 use Rattle.early_verdict.specs.Standing.{AsksBelow, AreAsked, left_of}

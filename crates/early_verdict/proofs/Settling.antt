@@ -1,26 +1,19 @@
 -- Sets that fit tell what rows settle.
-use Rattle.std.proofs.Common.{◌≡◌, ◌⊎◌, inl, inr, refl, sym, ap, subst, ◌∙◌, ℕ, zero, suc, ◌+◌, ◌*◌, ◌<◌, ◌≤◌, Bool, true, false, Option, Some, None, List, arith}
-use Rattle.std.specs.Prelude.{MatchOption, slice_get}
-use Rattle.rational.specs.Time.{Rational, Within, later, ◌≤ʳ◌, Precedes}
-use Rattle.rational.proofs.Order.{le_refl, le_trans}
-use Rattle.rational.proofs.TimeLemmas.{precedes_le, later_le, later_more}
-use Rattle.stl_syntax.specs.Trace.{Trace, start, stop}
-use Rattle.stl_syntax.specs.Formula.{Subformula, tree_of, HasChildrenBelow}
-use Rattle.stl_syntax.specs.Early.{OpenAhead, OpenBehind, IsSure, Settled, SettledNot}
-use Rattle.stl_syntax.specs.WellFormed.{HasBounds}
-use Rattle.stl_syntax.specs.declared.node.Node.{Node}
-use Rattle.stl_syntax.specs.declared.node.Node.TheVariants.{Const, Atom as Leaf, Not, And, Or, Implies, Until, Eventually, Always, Since, Once, Historically}
+use Rattle.std.proofs.Common.{ℕ, ◌+◌, ◌≤◌, Bool, Option, Some, None, arith}
+use Rattle.std.specs.Prelude.{MatchOption}
+use Rattle.rational.specs.Time.{Rational, later, ◌≤ʳ◌}
+use Rattle.rational.proofs.Order.{le_trans}
+use Rattle.rational.proofs.TimeLemmas.{later_le, later_more}
+use Rattle.stl_syntax.specs.Trace.{Trace, start}
 use Rattle.early_verdict.specs.Spans.{Lies, IsOn, AreTidy}
-use Rattle.early_verdict.specs.Steps.{Tells}
 use Rattle.early_verdict.specs.Readings.{UntilHolds, UntilFails, SinceHolds, SinceFails}
-use Rattle.early_verdict.specs.Fitting.{Lists, Says, SayBoth, SayOfParts, AreSetsTidy, ArePartsTidy, UntilHolding, UntilFailing, SinceHolding, SinceFailing, Fits}
-use Rattle.early_verdict.specs.Standing.{IsFrom, AsksBelow, AreAsked, ArePartsAsked}
+use Rattle.early_verdict.specs.Fitting.{Lists, SayBoth, SayOfParts, AreSetsTidy, ArePartsTidy, UntilHolding, UntilFailing, SinceHolding, SinceFailing}
+use Rattle.early_verdict.specs.Standing.{IsFrom, AreAsked, ArePartsAsked}
 use Rattle.early_verdict.specs.declared.sets.Sets.{Sets}
 use Rattle.early_verdict.specs.declared.sets.Parts.{Parts}
 use Rattle.early_verdict.specs.declared.stretch.Stretch.{Stretch}
-use Rattle.early_verdict.proofs.Telling.{tells_alike}
 use Rattle.early_verdict.proofs.UntilSets.{until_is_true, until_is_false}
-use Rattle.early_verdict.proofs.SinceSets.{since_is_true, since_is_false, none_later}
+use Rattle.early_verdict.proofs.SinceSets.{since_is_true, since_is_false}
 
 -- lists tell, as far as they are asked, the times of Y and those of N
 pub record Known (from : Rational) (top : ℕ) (l : Lists) (Y N : Rational → Type 0) : Type 0 where

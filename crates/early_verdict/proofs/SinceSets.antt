@@ -1,15 +1,14 @@
 -- Since by the sets between: where it holds and where it fails.
-use Rattle.std.proofs.Common.{◌≡◌, ◌⊎◌, inl, inr, refl, ℕ, ◌≤◌, ◌+◌, ◌*◌, Bool, true, false, List, arith}
+use Rattle.std.proofs.Common.{◌⊎◌, inl, inr, ℕ, ◌+◌, ◌*◌, true, List, arith}
 use Rattle.std.specs.Prelude.{Option, Some, None, IfSome}
-use Rattle.rational.specs.Time.{Rational, Within, later, ◌≤ʳ◌, ◌<ʳ◌}
+use Rattle.rational.specs.Time.{Rational, Within, later, ◌≤ʳ◌}
 use Rattle.rational.proofs.Order.{le_refl, le_trans, le_of_lt, le_or_lt}
 use Rattle.rational.proofs.TimeLemmas.{later_le}
-use Rattle.stl_syntax.specs.Trace.{Trace, start, stop}
-use Rattle.stl_syntax.specs.Early.{OpenBehind, IsSure}
-use Rattle.early_verdict.specs.Cuts.{Place, place, After}
+use Rattle.stl_syntax.specs.Trace.{Trace, start}
+use Rattle.stl_syntax.specs.Early.{OpenBehind}
+use Rattle.early_verdict.specs.Cuts.{Place, After}
 use Rattle.early_verdict.specs.Spans.{Lies, IsOn, AreTidy}
 use Rattle.early_verdict.specs.Steps.{Tells}
-use Rattle.early_verdict.specs.Reaching.{GoesBack}
 use Rattle.early_verdict.specs.Readings.{OnlyBehind, SomeBehind, SinceHolds, SinceFails}
 use Rattle.early_verdict.specs.Fitting.{Lists, SinceHolding, SinceFailing}
 use Rattle.early_verdict.specs.declared.stretch.Stretch.{Stretch}

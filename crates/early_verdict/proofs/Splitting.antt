@@ -1,7 +1,7 @@
 -- A list of sets that is split at a place, and what is put there.
-use Rattle.std.proofs.Common.{◌≡◌, ◌≢◌, refl, sym, ap, subst, ◌∙◌, ℕ, zero, suc, ◌<◌, Option, Some, None, List, [], ◌∷◌, ◌++◌, length, take, drop, Result, Ok, Err, OnOk, arith}
+use Rattle.std.proofs.Common.{◌≡◌, refl, sym, ap, subst, ◌∙◌, ℕ, zero, suc, ◌<◌, Some, List, [], ◌∷◌, ◌++◌, length, take, drop, Result, Ok, Err, OnOk, arith}
 use Rattle.std.specs.Prelude.{slice_get, slice_set, slice_index_or}
-use Rattle.early_verdict.specs.Fitting.{HasStepped, AreSetsTidy}
+use Rattle.early_verdict.specs.Fitting.{HasStepped}
 use Rattle.early_verdict.specs.Standing.{AllTidy, StepsAt}
 use Rattle.early_verdict.specs.declared.sets.Sets.{Sets}
 use Rattle.early_verdict.proofs.Places.{put, put_here, put_there, put_count, put_joined, taken_at, taken_within}

@@ -1,8 +1,8 @@
 -- What an early verdict stands for goes on with a row, and to the end.
-use Rattle.std.proofs.Common.{◌≡◌, refl, sym, ap, subst, ◌∙◌, ℕ, ◌<◌, Bool, true, false, Option, Some, None, List, [], ◌∷◌, ◌++◌, length, pos, arith}
+use Rattle.std.proofs.Common.{◌≡◌, refl, sym, ap, subst, ◌∙◌, ℕ, ◌<◌, Bool, true, false, Option, Some, None, List, [], ◌∷◌, ◌++◌, length, arith}
 use Rattle.std.specs.Prelude.{MatchOption, IfSome, option_map, IsSome, slice_get}
-use Rattle.rational.specs.Time.{whole, ◌≤ʳ◌}
-use Rattle.stl_syntax.specs.Trace.{Header, Row, Trace, AreRows, AreRowsAfter, row_time, stop, last_time}
+use Rattle.rational.specs.Time.{◌≤ʳ◌}
+use Rattle.stl_syntax.specs.Trace.{Header, Row, AreRows, row_time, stop}
 use Rattle.stl_syntax.specs.Formula.{Formula, root}
 use Rattle.stl_syntax.specs.Early.{Decides, NoneDecides, FirstDecides}
 use Rattle.stl_syntax.specs.WellFormed.{AreWellFormed}
@@ -10,11 +10,11 @@ use Rattle.stl_syntax.specs.declared.node.Node.{Node}
 use Rattle.stl_syntax.specs.declared.node.Node.TheVariants.{Atom as Leaf}
 use Rattle.stl_syntax.proofs.LawProofs.{last_from}
 use Rattle.atom_lines.specs.Binding.{Binding, IsBound}
-use Rattle.early_verdict.specs.Deciding.{Kept, AreRowsSoFar, IsAnswer, IsOpen, IsTruthAtStart, IsVerdict, SetsAre, SetsStand, Stands, StandsBy, WasDecided, last_after, last_of, trace_of}
+use Rattle.early_verdict.specs.Deciding.{Kept, AreRowsSoFar, IsAnswer, IsOpen, IsTruthAtStart, IsVerdict, SetsAre, Stands, StandsBy, WasDecided, last_of, trace_of}
 use Rattle.early_verdict.specs.declared.sets.Sets.{Sets}
 use Rattle.early_verdict.specs.declared.early.Decided.{Decided}
-use Rattle.early_verdict.proofs.DecideLemmas.{decided_of, decided_truth, none_first, none_more, not_again, still_decided}
-use Rattle.early_verdict.proofs.RowLemmas.{last_is, last_row_pushed, rows_pushed}
+use Rattle.early_verdict.proofs.DecideLemmas.{decided_of, decided_truth, none_more, not_again, still_decided}
+use Rattle.early_verdict.proofs.RowLemmas.{last_row_pushed, rows_pushed}
 
 pub bound_any : (b : Binding) (f g : Formula) (h : Header) → f.nodes ≡ g.nodes → IsBound b f h → IsBound b g h
 bound_any b f g h e k = record { width = k.width; atoms = λ i a at. k.atoms i a (subst (λ l. slice_get l i ≡ Some (Leaf a)) (sym e) at) }

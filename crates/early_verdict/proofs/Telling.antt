@@ -3,16 +3,14 @@ use Rattle.std.proofs.Common.{◌≡◌, ◌⊎◌, inl, inr, refl, sym, subst, 
 use Rattle.std.specs.Prelude.{MatchOption}
 use Rattle.rational.specs.Time.{Rational}
 use Rattle.stl_syntax.specs.Trace.{Trace}
-use Rattle.early_verdict.specs.Spans.{Lies, IsOn, Grows}
-use Rattle.early_verdict.specs.Steps.{Tells, Gains, BySome}
-use Rattle.early_verdict.specs.Fitting.{Lists, nothing, Says, SayBoth, IsEmpty, AreEmpty, AreSetsTidy, HasStepped, IsTidy, KeepsBounds, ArePartsTidy}
+use Rattle.early_verdict.specs.Spans.{Lies, IsOn}
+use Rattle.early_verdict.specs.Steps.{Tells}
+use Rattle.early_verdict.specs.Fitting.{Lists, nothing, Says, SayBoth, KeepsBounds, ArePartsTidy}
 use Rattle.early_verdict.specs.Happening.{Had, Was}
 use Rattle.early_verdict.specs.declared.stretch.Stretch.{Stretch}
 use Rattle.early_verdict.specs.declared.grown.Grown.{Grown}
 use Rattle.early_verdict.specs.declared.sets.Sets.{Sets}
 use Rattle.early_verdict.specs.declared.sets.Parts.{Parts}
-use Rattle.early_verdict.proofs.RunLemmas.{one_of, on_one}
-use Rattle.early_verdict.proofs.SetLaws.{some_by, by_some}
 
 -- in other words
 pub tells_alike : (bounds : Stretch) (xs : List Stretch) (P Q : Rational → Type 0) → ((t : Rational) → Lies bounds t → P t → Q t)

@@ -1,16 +1,16 @@
 -- Until by the sets between: where it holds and where it fails.
-use Rattle.std.proofs.Common.{◌≡◌, ◌⊎◌, inl, inr, refl, ℕ, ◌≤◌, ◌+◌, ◌*◌, Bool, true, false, List, arith}
-use Rattle.rational.specs.Time.{Rational, Within, later, ◌≤ʳ◌, ◌<ʳ◌}
+use Rattle.std.proofs.Common.{◌⊎◌, inl, inr, ℕ, ◌≤◌, Bool, true, false, List, arith}
+use Rattle.rational.specs.Time.{Rational, Within, later, ◌≤ʳ◌}
 use Rattle.rational.proofs.Order.{le_refl, le_trans, le_of_lt, le_or_lt, same_of_le}
 use Rattle.rational.proofs.TimeLemmas.{later_from, later_more}
 use Rattle.stl_syntax.specs.Trace.{Trace, start, stop}
 use Rattle.stl_syntax.specs.Early.{OpenAhead, IsSure}
-use Rattle.early_verdict.specs.Cuts.{Place, place, Upto}
+use Rattle.early_verdict.specs.Cuts.{Place, Upto}
 use Rattle.early_verdict.specs.Spans.{Lies, IsOn, AreTidy}
 use Rattle.early_verdict.specs.Steps.{Tells}
-use Rattle.early_verdict.specs.Reaching.{GoesOn, GoesTo}
+use Rattle.early_verdict.specs.Reaching.{GoesOn}
 use Rattle.early_verdict.specs.Readings.{Counts, OnlyAhead, SomeAhead, UntilHolds, UntilFails}
-use Rattle.early_verdict.specs.Fitting.{Lists, Says, sure_place, UntilHolding, UntilFailing}
+use Rattle.early_verdict.specs.Fitting.{Lists, sure_place, UntilHolding, UntilFailing}
 use Rattle.early_verdict.specs.declared.stretch.Stretch.{Stretch}
 use Rattle.early_verdict.specs.declared.sets.Holding.{Holding}
 use Rattle.early_verdict.specs.declared.sets.Failing.{Failing}

@@ -1,13 +1,13 @@
 -- The windows of operators, in the words of the early reading.
-use Rattle.std.proofs.Common.{◌≡◌, refl, sym, subst, ℕ, ◌+◌, ◌*◌, Bool, true, false, Option, Some, None, ℤ, pos, arith}
-use Rattle.std.specs.Prelude.{◌↔◌, IfSome, not, MatchBool}
+use Rattle.std.proofs.Common.{◌≡◌, sym, subst, ℕ, Bool, true, false, Some, None, pos}
+use Rattle.std.specs.Prelude.{◌↔◌, IfSome}
 use lib.IntN.{neg_ℤ}
-use Rattle.rational.specs.Time.{Rational, ◌≤ʳ◌, ◌<ʳ◌, ◌≈◌, later, add, whole, Precedes}
-use Rattle.rational.proofs.Order.{le_trans, le_of_same, ge_of_same, lt_of_lt_of_le, lt_of_le_of_lt, same_sym, same_trans}
-use Rattle.rational.proofs.Shift.{le_shift, lt_shift, le_shift_cancel, lt_shift_cancel, shift_back}
+use Rattle.rational.specs.Time.{Rational, ◌≤ʳ◌, ◌<ʳ◌, later, add, whole, Precedes}
+use Rattle.rational.proofs.Order.{le_trans, le_of_same, ge_of_same, lt_of_lt_of_le, lt_of_le_of_lt}
+use Rattle.rational.proofs.Shift.{le_shift, lt_shift, le_shift_cancel, lt_shift_cancel}
 use Rattle.rational.proofs.TimeLemmas.{later-add}
 use Rattle.early_verdict.specs.Cuts.{After, Upto}
-use Rattle.early_verdict.specs.Windows.{Sees, low_place, high_place}
+use Rattle.early_verdict.specs.Windows.{low_place, high_place}
 use Rattle.early_verdict.specs.Looking.{IsAhead, IsBehind}
 use Rattle.early_verdict.specs.declared.window.Window.{Window}
 use Rattle.early_verdict.proofs.WindowLemmas.{shift_forth}

@@ -1,11 +1,10 @@
 -- What a row adds to the two sets of an atom.
-use Rattle.std.specs.Prelude.{◌≡◌, ◌<◌, ◌⊎◌, ℕ, Bool, true, false, Option, Some, None, List, [], ◌++◌, MatchOption}
+use Rattle.std.specs.Prelude.{◌≡◌, ◌<◌, ◌⊎◌, Bool, true, false, Option, Some, None, List, [], ◌++◌, MatchOption}
 use Rattle.rational.specs.Time.{Rational, ◌≤ʳ◌, ◌<ʳ◌}
-use Rattle.frac128.specs.Value.{value}
 use Rattle.stl_syntax.specs.Trace.{Row, Trace, row_time, start, stop}
 use Rattle.stl_syntax.specs.Truth.{holds_at}
 use Rattle.stl_syntax.specs.declared.atom.Atom.{Atom}
-use Rattle.atom_lines.specs.Binding.{Binding, IsFor, HasRow, AreNeighbours}
+use Rattle.atom_lines.specs.Binding.{HasRow, AreNeighbours}
 use Rattle.early_verdict.specs.Cuts.{Place, After, Upto}
 use Rattle.early_verdict.specs.Spans.{Grows, IsOn}
 use Rattle.early_verdict.specs.Fitting.{AreSetsTidy}

@@ -8,7 +8,7 @@ use Rattle.stl_syntax.specs.declared.atom.Atom.{Atom}
 use Rattle.stl_syntax.specs.declared.node.Node.{Node}
 use Rattle.stl_syntax.specs.declared.node.Node.TheVariants.{Const, Atom as Leaf, Not, And, Or, Implies, Until, Eventually, Always, Since, Once, Historically}
 use Rattle.early_verdict.specs.Cuts.{Place}
-use Rattle.early_verdict.specs.Spans.{Lies, IsOn, AreTidy}
+use Rattle.early_verdict.specs.Spans.{IsOn, AreTidy}
 use Rattle.early_verdict.specs.Steps.{Tells, Gains}
 use Rattle.early_verdict.specs.Reaching.{GoesOn, GoesTo, GoesBack}
 use Rattle.early_verdict.specs.Readings.{SomeAhead, OnlyAhead, SomeBehind, OnlyBehind}

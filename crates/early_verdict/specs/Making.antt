@@ -1,5 +1,5 @@
 -- The sets of a formula's nodes, before any row.
-use Rattle.std.specs.Prelude.{◌≡◌, ℕ, List, None, Some, MatchOption, length, slice_get, take}
+use Rattle.std.specs.Prelude.{◌≡◌, ℕ, List, None, Some, MatchOption, slice_get}
 use Rattle.rational.specs.Time.{Rational}
 use Rattle.stl_syntax.specs.declared.node.Node.{Node}
 use Rattle.early_verdict.specs.Fitting.{AreEmpty}

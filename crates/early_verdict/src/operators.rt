@@ -84,7 +84,13 @@ fn go_negation(own: &mut Sets, of: u32, below: &[Sets], event: &Event) -> Result
 }
 
 /// Both of two.
-fn go_conjunction(own: &mut Sets, left: u32, right: u32, below: &[Sets], event: &Event) -> Result<(), Memory>
+fn go_conjunction(
+    own: &mut Sets,
+    left: u32,
+    right: u32,
+    below: &[Sets],
+    event: &Event,
+) -> Result<(), Memory>
     requires own { AreSetsTidy own.old }
     requires below { AllTidy below.now }
     requires left { left < length below.now }
@@ -99,7 +105,13 @@ fn go_conjunction(own: &mut Sets, left: u32, right: u32, below: &[Sets], event: 
 }
 
 /// One of two.
-fn go_disjunction(own: &mut Sets, left: u32, right: u32, below: &[Sets], event: &Event) -> Result<(), Memory>
+fn go_disjunction(
+    own: &mut Sets,
+    left: u32,
+    right: u32,
+    below: &[Sets],
+    event: &Event,
+) -> Result<(), Memory>
     requires own { AreSetsTidy own.old }
     requires below { AllTidy below.now }
     requires left { left < length below.now }
@@ -114,7 +126,13 @@ fn go_disjunction(own: &mut Sets, left: u32, right: u32, below: &[Sets], event: 
 }
 
 /// The second where the first is.
-fn go_implication(own: &mut Sets, left: u32, right: u32, below: &[Sets], event: &Event) -> Result<(), Memory>
+fn go_implication(
+    own: &mut Sets,
+    left: u32,
+    right: u32,
+    below: &[Sets],
+    event: &Event,
+) -> Result<(), Memory>
     requires own { AreSetsTidy own.old }
     requires below { AllTidy below.now }
     requires left { left < length below.now }
@@ -138,7 +156,13 @@ struct Bounds<B> {
 }
 
 /// Some time of a window ahead.
-fn go_eventually(own: &mut Sets, of: u32, b: Bounds<u32>, below: &[Sets], event: &Event) -> Result<(), Memory>
+fn go_eventually(
+    own: &mut Sets,
+    of: u32,
+    b: Bounds<u32>,
+    below: &[Sets],
+    event: &Event,
+) -> Result<(), Memory>
     requires own { AreSetsTidy own.old }
     requires below { AllTidy below.now }
     requires of { of < length below.now }
@@ -153,7 +177,13 @@ fn go_eventually(own: &mut Sets, of: u32, b: Bounds<u32>, below: &[Sets], event:
 }
 
 /// Each time of a window ahead.
-fn go_always(own: &mut Sets, of: u32, b: Bounds<u32>, below: &[Sets], event: &Event) -> Result<(), Memory>
+fn go_always(
+    own: &mut Sets,
+    of: u32,
+    b: Bounds<u32>,
+    below: &[Sets],
+    event: &Event,
+) -> Result<(), Memory>
     requires own { AreSetsTidy own.old }
     requires below { AllTidy below.now }
     requires of { of < length below.now }
@@ -168,7 +198,13 @@ fn go_always(own: &mut Sets, of: u32, b: Bounds<u32>, below: &[Sets], event: &Ev
 }
 
 /// Some time of a window behind.
-fn go_once(own: &mut Sets, of: u32, b: Bounds<Option<u32>>, below: &[Sets], event: &Event) -> Result<(), Memory>
+fn go_once(
+    own: &mut Sets,
+    of: u32,
+    b: Bounds<Option<u32>>,
+    below: &[Sets],
+    event: &Event,
+) -> Result<(), Memory>
     requires own { AreSetsTidy own.old }
     requires below { AllTidy below.now }
     requires of { of < length below.now }
@@ -183,7 +219,13 @@ fn go_once(own: &mut Sets, of: u32, b: Bounds<Option<u32>>, below: &[Sets], even
 }
 
 /// Each time of a window behind.
-fn go_historically(own: &mut Sets, of: u32, b: Bounds<Option<u32>>, below: &[Sets], event: &Event) -> Result<(), Memory>
+fn go_historically(
+    own: &mut Sets,
+    of: u32,
+    b: Bounds<Option<u32>>,
+    below: &[Sets],
+    event: &Event,
+) -> Result<(), Memory>
     requires own { AreSetsTidy own.old }
     requires below { AllTidy below.now }
     requires of { of < length below.now }
@@ -198,7 +240,15 @@ fn go_historically(own: &mut Sets, of: u32, b: Bounds<Option<u32>>, below: &[Set
 }
 
 /// Until.
-fn go_until(own: &mut Sets, left: u32, right: u32, low: u32, high: u32, below: &[Sets], event: &Event) -> Result<(), Memory>
+fn go_until(
+    own: &mut Sets,
+    left: u32,
+    right: u32,
+    low: u32,
+    high: u32,
+    below: &[Sets],
+    event: &Event,
+) -> Result<(), Memory>
     requires own { AreSetsTidy own.old }
     requires below { AllTidy below.now }
     requires left { left < length below.now }
@@ -215,7 +265,15 @@ fn go_until(own: &mut Sets, left: u32, right: u32, low: u32, high: u32, below: &
 }
 
 /// Since.
-fn go_since(own: &mut Sets, left: u32, right: u32, low: u32, high: Option<u32>, below: &[Sets], event: &Event) -> Result<(), Memory>
+fn go_since(
+    own: &mut Sets,
+    left: u32,
+    right: u32,
+    low: u32,
+    high: Option<u32>,
+    below: &[Sets],
+    event: &Event,
+) -> Result<(), Memory>
     requires own { AreSetsTidy own.old }
     requires below { AllTidy below.now }
     requires left { left < length below.now }

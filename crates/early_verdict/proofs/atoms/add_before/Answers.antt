@@ -1,4 +1,4 @@
-use Rattle.std.proofs.Common.{◌≡◌, sym, subst, None, Some}
+use Rattle.std.proofs.Common.{sym, subst}
 use Rattle.std.specs.Prelude.{IfSome}
 use Rattle.atom_lines.specs.Binding.{AreNeighbours}
 use Rattle.early_verdict.specs.Adding.{AfterRow, HasAdded}

@@ -1,5 +1,4 @@
-use Rattle.std.proofs.Common.{◌⊎◌, Bool, true, false}
-use Rattle.rational.specs.Time.{Rational}
+use Rattle.std.proofs.Common.{◌⊎◌, true, false}
 use Rattle.frac128.specs.Value.{value}
 use Rattle.early_verdict.specs.Adding.{Piece}
 use Rattle.early_verdict.specs.Cuts.{Place, place}

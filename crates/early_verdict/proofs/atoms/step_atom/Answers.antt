@@ -1,6 +1,6 @@
-use Rattle.std.proofs.Common.{◌≡◌, ◌⊎◌, ℕ, Bool, false, true, sym, subst, pos, ◌∙◌}
-use Rattle.rational.specs.Time.{Rational, whole}
-use Rattle.early_verdict.specs.Adding.{AfterRow, IsNextRow, Piece}
+use Rattle.std.proofs.Common.{◌≡◌, ℕ, Bool, false, true, sym, subst, pos, ◌∙◌}
+use Rattle.rational.specs.Time.{whole}
+use Rattle.early_verdict.specs.Adding.{AfterRow, Piece}
 use Rattle.early_verdict.specs.Cuts.{place, Same}
 use Rattle.early_verdict.specs.declared.cut.Cut.{Cut}
 use Rattle.early_verdict.proofs.AtomSets.{added_then, atom_fits, atom_stepped, grown_of, grown_then, near_of}

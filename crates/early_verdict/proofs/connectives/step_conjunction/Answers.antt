@@ -1,5 +1,4 @@
 use Rattle.std.proofs.Common.{◌⊎◌}
-use Rattle.rational.specs.Time.{Rational}
 use Rattle.early_verdict.specs.Spans.{IsOn}
 use Rattle.early_verdict.proofs.Telling.{says_of, was_said, had_yes, had_no, neither, not_with}
 use Rattle.early_verdict.proofs.connectives.step_conjunction.Goals as goal

@@ -1,11 +1,11 @@
-use Rattle.std.proofs.Common.{◌≡◌, ℕ, ◌<◌, refl, sym, ap, subst, ◌∙◌, Option, Some, None, List, [], ◌∷◌, ◌++◌, length, true, false, arith}
+use Rattle.std.proofs.Common.{◌≡◌, sym, ap, subst, ◌∙◌, Option, List, length, arith}
 use Rattle.std.specs.Prelude.{IfSome}
 use Rattle.stl_syntax.specs.Trace.{Row, row_time}
 use Rattle.early_verdict.specs.Deciding.{last_after, IsVerdict}
 use Rattle.early_verdict.specs.Standing.{AllTidy}
 use Rattle.early_verdict.specs.declared.sets.Sets.{Sets}
 use Rattle.early_verdict.proofs.GoingOn.{leaves_bound}
-use Rattle.early_verdict.proofs.Having.{have_still, tidy_still}
+use Rattle.early_verdict.proofs.Having.{tidy_still}
 use Rattle.early_verdict.proofs.Opening.{end_some, end_truth, last_wide, same_row}
 use Rattle.early_verdict.proofs.events.end_sets.Goals as goal
 

@@ -1,5 +1,4 @@
-use Rattle.std.proofs.Common.{◌≡◌, ℕ, ◌-◌, sym, subst, length, pos, Some, arith, false, true}
-use Rattle.std.specs.Prelude.{slice_get}
+use Rattle.std.proofs.Common.{◌-◌, sym, subst, length, pos, arith}
 use Rattle.rational.specs.Time.{whole}
 use Rattle.early_verdict.specs.Spans.{IsOn}
 use Rattle.early_verdict.specs.Fitting.{Lists}

@@ -1,7 +1,6 @@
-use Rattle.std.proofs.Common.{rules, ◌≡◌, ℕ, ◌++◌, sym, subst, ap, ◌∙◌, length, take, drop, List, Option}
-use Rattle.stl_syntax.specs.Trace.{Trace, start}
-use Rattle.early_verdict.specs.Happening.{Happens}
-use Rattle.early_verdict.specs.Standing.{AllEmpty, AllFit, AllGo, AllTidy, AllWere, HaveSets, SteppedTo}
+use Rattle.std.proofs.Common.{rules, ◌≡◌, sym, subst, ap, ◌∙◌, length, List}
+use Rattle.stl_syntax.specs.Trace.{start}
+use Rattle.early_verdict.specs.Standing.{AllEmpty, AllFit, AllTidy, AllWere, HaveSets, SteppedTo}
 use Rattle.early_verdict.specs.declared.sets.Sets.{Sets}
 use Rattle.early_verdict.proofs.Opening.{sets_written}
 use Rattle.early_verdict.proofs.events.step_sets.Goals as goal

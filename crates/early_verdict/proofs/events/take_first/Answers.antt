@@ -1,5 +1,4 @@
-use Rattle.std.proofs.Common.{◌≡◌, ℕ, pos, refl, sym, ap, subst, ◌∙◌, Option, Some, None, [], ◌∷◌}
-use Rattle.std.specs.Prelude.{slice_get}
+use Rattle.std.proofs.Common.{ℕ, pos, refl, subst}
 use Rattle.rational.specs.Time.{whole}
 use Rattle.early_verdict.specs.Making.{AreMade}
 use Rattle.early_verdict.proofs.GoingOn.{first_stand, leaves_bound}
@@ -19,9 +18,9 @@ step_sets-requires-clause-atoms c = leaves_bound c.args.bound.now c.args.formula
 
 pub returns : goal.returns
 returns c = λ header o. (
-    refl,
-    first_stand c.args.bound.now c.args.formula.now header c.args.row.now c.first_event-event.result c.in_ok-made.made.items c.step_sets.new.sets.items o.bound
-        c.requires.width c.first_event-event.ensures.open (c.first_event-event.ensures.happens header c.args.row.now c.time-2.ensures)
-        (subst (λ (t : ℕ). AreMade c.args.formula.now.nodes (whole (pos t)) c.in_ok-made.made.items) c.time.ensures c.in_ok-made.ensures)
-        c.in_ok-step_sets.ensures.stepped c.in_ok-step_sets.ensures.fits,
+  refl,
+  first_stand c.args.bound.now c.args.formula.now header c.args.row.now c.first_event-event.result c.in_ok-made.made.items c.step_sets.new.sets.items o.bound
+      c.requires.width c.first_event-event.ensures.open (c.first_event-event.ensures.happens header c.args.row.now c.time-2.ensures)
+      (subst (λ (t : ℕ). AreMade c.args.formula.now.nodes (whole (pos t)) c.in_ok-made.made.items) c.time.ensures c.in_ok-made.ensures)
+      c.in_ok-step_sets.ensures.stepped c.in_ok-step_sets.ensures.fits,
 )

@@ -1,5 +1,4 @@
-use Rattle.std.proofs.Common.{◌≡◌, ℕ, ◌<◌, refl, sym, ap, subst, ◌∙◌, Option, Some, None, [], ◌∷◌, ◌++◌, length, true, false}
-use Rattle.std.specs.Prelude.{slice_get, IfSome}
+use Rattle.std.proofs.Common.{◌≡◌, sym, ap, ◌∙◌}
 use Rattle.stl_syntax.specs.Trace.{Row}
 use Rattle.early_verdict.specs.Deciding.{last_after}
 use Rattle.early_verdict.proofs.GoingOn.{next_stand, leaves_bound}

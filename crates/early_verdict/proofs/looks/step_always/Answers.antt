@@ -1,11 +1,10 @@
 use Rattle.std.proofs.Common.{false}
-use Rattle.rational.specs.Time.{Rational}
-use Rattle.stl_syntax.specs.Trace.{Trace, start}
+use Rattle.stl_syntax.specs.Trace.{start}
 use Rattle.early_verdict.specs.Cuts.{place}
 use Rattle.early_verdict.specs.Spans.{IsOn}
 use Rattle.early_verdict.specs.Readings.{SomeAhead, OnlyAhead}
 use Rattle.early_verdict.proofs.Telling.{says_of}
-use Rattle.early_verdict.proofs.LookLemmas.{told_yes, told_no, had_list_yes, had_list_no, was_sure, was_only, sure_says, only_says, kept_from, yes_after, no_after}
+use Rattle.early_verdict.proofs.LookLemmas.{told_yes, told_no, had_list_yes, had_list_no, was_sure, was_only, sure_says, only_says, kept_from, no_after}
 use Rattle.early_verdict.proofs.looks.step_always.Goals as goal
 
 pub returns-clause-fits : goal.returns-clause-fits

@@ -1,4 +1,4 @@
-use Rattle.std.proofs.Common.{◌≡◌, ◌≤◌, ℕ, pos, length, take, List}
+use Rattle.std.proofs.Common.{◌≡◌, ℕ, pos, length, take}
 use Rattle.std.specs.Prelude.{slice_get, Some}
 use Rattle.rational.specs.Rational.{whole}
 use Rattle.stl_syntax.specs.declared.node.Node.{Node}

@@ -1,15 +1,13 @@
-use Rattle.std.proofs.Common.{◌≡◌, ◌∙◌, ◌+◌, ◌<◌, ◌≤◌, ◌^◌, ℤ, ◌+ℤ◌, pos, sym, subst, true, false, Option, Some, None, List, length, arith, lit<, to_z, of_z, ℕ}
-use Rattle.std.specs.Prelude.{unsigned_abs, MatchOption, slice_get}
+use Rattle.std.proofs.Common.{◌≡◌, ◌∙◌, ◌+◌, ◌<◌, ◌≤◌, ◌^◌, ℤ, ◌+ℤ◌, pos, sym, subst, true, false, Some, None, arith, lit<, to_z, of_z, ℕ}
+use Rattle.std.specs.Prelude.{MatchOption, slice_get}
 use Rattle.std.specs.Int.{w64}
 use Rattle.std.proofs.lemmas.Int.{to_z-of_z, fits_signed_from_abs}
 use mir.Val.{hbits}
 use Rattle.rational.specs.Rational.{whole}
 use Rattle.stl_syntax.specs.Formula.{HasChildrenBelow}
-use Rattle.stl_syntax.specs.declared.node.Node.{Node}
 use Rattle.early_verdict.specs.Cuts.{place, Same}
-use Rattle.early_verdict.specs.Standing.{IsFrom, left_of}
-use Rattle.early_verdict.specs.Making.{HasPartsFor, IsMade}
-use Rattle.early_verdict.specs.declared.stretch.Stretch.{Stretch}
+use Rattle.early_verdict.specs.Standing.{left_of}
+use Rattle.early_verdict.specs.Making.{HasPartsFor}
 use Rattle.early_verdict.specs.declared.sets.Sets.{Sets}
 use Rattle.early_verdict.proofs.MadeLemmas.{from_over, some_node, with_left}
 use Rattle.early_verdict.proofs.making.make_at.Goals as goal

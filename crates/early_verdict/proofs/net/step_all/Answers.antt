@@ -1,7 +1,5 @@
-use Rattle.std.proofs.Common.{◌≡◌, ℕ, ◌<◌, ◌≤◌, ◌+◌, sym, subst, ◌∙◌, length, List, Some, arith}
-use Rattle.std.specs.Prelude.{slice_get}
+use Rattle.std.proofs.Common.{◌≡◌, sym, subst, ◌∙◌, length, arith}
 use Rattle.stl_syntax.proofs.PostOrderLemmas.{placed}
-use Rattle.stl_syntax.specs.declared.node.Node.{Node}
 use Rattle.early_verdict.specs.Standing.{SteppedTo}
 use Rattle.early_verdict.proofs.Netting.{fits_on, stepped_none, stepped_on, tidy_on}
 use Rattle.early_verdict.proofs.Places.{get_within}

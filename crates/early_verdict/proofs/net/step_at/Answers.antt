@@ -1,8 +1,6 @@
-use Rattle.std.proofs.Common.{◌≡◌, ℕ, List, sym, subst, ap, ◌∙◌, take, length, Option, Some}
+use Rattle.std.proofs.Common.{◌≡◌, ℕ, List, sym, subst, ap, ◌∙◌, length}
 use Rattle.std.specs.Prelude.{slice_index_or}
-use Rattle.stl_syntax.specs.Trace.{Trace}
-use Rattle.early_verdict.specs.Fitting.{Fits, Lists, lists_at}
-use Rattle.early_verdict.specs.Happening.{Was}
+use Rattle.early_verdict.specs.Fitting.{Fits, lists_at}
 use Rattle.early_verdict.specs.Standing.{HadAll, HasParts, LeafGoes}
 use Rattle.early_verdict.specs.declared.sets.Sets.{Sets}
 use Rattle.early_verdict.proofs.Splitting.{at_split, front_tidy, steps_at, on_two, length_front}

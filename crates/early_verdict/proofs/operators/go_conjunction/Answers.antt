@@ -1,7 +1,5 @@
-use Rattle.std.proofs.Common.{◌≡◌, ℕ, subst, sym, Some, Bool, true}
 use Rattle.early_verdict.specs.Fitting.{ConjunctionFits}
-use Rattle.early_verdict.specs.declared.sets.Sets.{Sets}
-use Rattle.early_verdict.proofs.Operating.{one_list, two_lists}
+use Rattle.early_verdict.proofs.Operating.{two_lists}
 use Rattle.early_verdict.proofs.operators.go_conjunction.Goals as goal
 
 pub returns-clause-fits : goal.returns-clause-fits

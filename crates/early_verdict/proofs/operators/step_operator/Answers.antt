@@ -1,4 +1,4 @@
-use Rattle.std.proofs.Common.{◌≡◌, subst, sym}
+use Rattle.std.proofs.Common.{subst, sym}
 use Rattle.std.specs.Prelude.{OnOk}
 use Rattle.early_verdict.specs.Standing.{GoesBy}
 use Rattle.early_verdict.proofs.WindowLemmas.{on_good}

@@ -1,14 +1,11 @@
-use Rattle.std.proofs.Common.{◌≡◌, ◌⊎◌, ℕ, Bool, true, false, Option, Some, inl, refl, sym, subst, ◌∙◌}
-use Rattle.rational.specs.Time.{Rational}
-use Rattle.stl_syntax.specs.Trace.{Trace, start}
-use Rattle.stl_syntax.specs.Early.{OpenAhead}
+use Rattle.std.proofs.Common.{true, Some}
+use Rattle.stl_syntax.specs.Trace.{start}
 use Rattle.early_verdict.specs.Cuts.{place}
-use Rattle.early_verdict.specs.Spans.{Lies, IsOn}
-use Rattle.early_verdict.specs.Reaching.{GoesOn, GoesTo, GoesBack}
-use Rattle.early_verdict.specs.Readings.{SomeAhead, OnlyAhead, SomeBehind, OnlyBehind}
-use Rattle.early_verdict.specs.Fitting.{sure_place}
+use Rattle.early_verdict.specs.Spans.{IsOn}
+use Rattle.early_verdict.specs.Reaching.{GoesBack}
+use Rattle.early_verdict.specs.Readings.{SomeBehind}
 use Rattle.early_verdict.proofs.Telling.{says_of}
-use Rattle.early_verdict.proofs.LookLemmas.{had_list_yes, had_list_no, sure_says, only_says, one_says, back_says, kept_from, yes_after, no_after}
+use Rattle.early_verdict.proofs.LookLemmas.{had_list_yes, one_says, back_says, kept_from, yes_after}
 use Rattle.early_verdict.proofs.RunSets.{since_both, since_run, since_some, since_each, since_no_run}
 use Rattle.early_verdict.proofs.runs.since_holds.Goals as goal
 

@@ -1,6 +1,6 @@
-use Rattle.std.proofs.Common.{◌≡◌, ◌+◌, ◌<◌, ◌≤◌, ℕ, arith, w32, Fits}
+use Rattle.std.proofs.Common.{◌≡◌, ◌+◌, ◌<◌, ◌≤◌, arith}
 use Rattle.early_verdict.specs.Standing.{looks_ahead, top_at}
-use Rattle.early_verdict.specs.Tops.{AreUpTo, rest_reach}
+use Rattle.early_verdict.specs.Tops.{rest_reach}
 use Rattle.early_verdict.proofs.TopsLemmas.{reach_from, reach_all}
 use Rattle.early_verdict.proofs.tops.raise_at.Goals as goal
 

@@ -1,9 +1,7 @@
-use Rattle.std.proofs.Common.{rules, ◌≡◌, ◌-◌, ◌+◌, ◌≤◌, ◌<◌, ◌++◌, sym, subst, ap, ℕ, suc, List, length, take, drop, arith, Some}
-use Rattle.std.specs.Prelude.{slice_get}
+use Rattle.std.proofs.Common.{rules, ◌≡◌, ◌-◌, ◌+◌, ◌++◌, sym, subst, ℕ, List, length, take, drop, arith}
 use Rattle.early_verdict.specs.Standing.{AsksBelow, top_at}
 use Rattle.early_verdict.specs.Tops.{AreUpTo, rest_reach}
-use Rattle.stl_syntax.specs.declared.node.Node.{Node}
-use Rattle.early_verdict.proofs.TopsLemmas.{asks_still, raised, written}
+use Rattle.early_verdict.proofs.TopsLemmas.{raised, written}
 use Rattle.early_verdict.proofs.tops.tops_of.Goals as goal
 
 pub loop-i-preserved : goal.loop-i-preserved

@@ -1,10 +1,10 @@
-use Rattle.std.proofs.Common.{◌≡◌, Bool, true, false, Option, Some, None, List, [], ◌∷◌, ◌++◌, refl, sym, ap, subst, ◌∙◌}
+use Rattle.std.proofs.Common.{false, List, refl, sym, subst}
 use Rattle.std.specs.Prelude.{IsSome}
 use Rattle.stl_syntax.specs.Trace.{Row}
 use Rattle.stl_syntax.specs.Formula.{root}
 use Rattle.early_verdict.specs.Deciding.{Kept, IsOpen, IsTruthAtStart, Stands, trace_of}
-use Rattle.early_verdict.proofs.StandingOn.{decided_end, ended_stands, open_of}
-use Rattle.early_verdict.proofs.Feeding.{fed_rows, unended}
+use Rattle.early_verdict.proofs.StandingOn.{decided_end, open_of}
+use Rattle.early_verdict.proofs.Feeding.{fed_rows}
 use Rattle.early_verdict.specs.contracts.early.Early.{the_view}
 use Rattle.early_verdict.proofs.early.Early.end.Goals as goal
 

@@ -1,9 +1,9 @@
-use Rattle.std.proofs.Common.{◌≡◌, ◌<◌, ℕ, Bool, true, false, Option, Some, None, List, [], ◌∷◌, ◌++◌, length, refl, sym, ap, subst, ◌∙◌}
-use Rattle.std.specs.Prelude.{IfSome, is_some}
+use Rattle.std.proofs.Common.{◌≡◌, ◌<◌, ℕ, false, Some, None, List, [], ◌∷◌, ◌++◌, length, refl, sym, ap, subst, ◌∙◌}
+use Rattle.std.specs.Prelude.{IfSome}
 use Rattle.stl_syntax.specs.Trace.{Row}
 use Rattle.stl_syntax.specs.Formula.{root}
 use Rattle.early_verdict.specs.Standing.{AllTidy}
-use Rattle.early_verdict.specs.Deciding.{Kept, IsAnswer, IsVerdict, SetsAre, Stands}
+use Rattle.early_verdict.specs.Deciding.{Kept, IsAnswer, IsVerdict, Stands}
 use Rattle.early_verdict.specs.declared.sets.Sets.{Sets}
 use Rattle.early_verdict.proofs.StandingOn.{decided_now, open_of}
 use Rattle.early_verdict.proofs.Feeding.{as_ended, fed_by, none_if, passed_by, sets_tidy, some_sets, unended}
