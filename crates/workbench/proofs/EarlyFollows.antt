@@ -178,8 +178,7 @@ pub two_lines : (scale : Scale) (at : ℕ) (holds : Bool) (old mid new : List �
     → Grew (AreDecidedLines scale at holds) old new
 two_lines scale at holds old mid new (line, (time, num, is), e) f = (
   line ++ start_line holds,
-  (time, num, ap (λ l. l ++ start_line holds) is ∙ append_assoc (codes "decided at ") (time ++ newline) (start_line holds)
-      ∙ ap (λ l. codes "decided at " ++ l) (append_assoc time newline (start_line holds))),
+  (time, num, ap (λ l. l ++ start_line holds) is),
   f ∙ ap (λ l. l ++ start_line holds) e ∙ append_assoc old line (start_line holds),
 )
 

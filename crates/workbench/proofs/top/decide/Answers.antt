@@ -1,4 +1,4 @@
-use Rattle.std.proofs.Common.{[], refl, sym, ◌∙◌}
+use Rattle.std.proofs.Common.{[], true, false, refl, sym, ◌∙◌}
 use Rattle.report.specs.Lines.{line_text}
 use Rattle.trace_stream.specs.Streams.{early}
 use Rattle.trace_stream.specs.Following.{IsDone}
