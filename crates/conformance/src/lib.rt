@@ -46,6 +46,8 @@ mod run_tests;
 #[cfg(test)]
 mod seg_pool_tests;
 #[cfg(test)]
+mod session_mux_tests;
+#[cfg(test)]
 mod shape_tests;
 #[cfg(test)]
 mod signal_tests;
