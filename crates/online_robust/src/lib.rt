@@ -5,7 +5,14 @@
 mod edges;
 mod ends;
 mod line;
+mod net;
+mod operator;
 mod pointwise;
+mod put;
 mod queue;
+mod station;
+mod streamed;
 
 pub use line::MarginLine;
+pub use net::{RobustFault, RobustNet};
+pub use streamed::first_unstreamed;

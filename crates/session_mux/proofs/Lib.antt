@@ -9,3 +9,5 @@ pub mod KnowingLemmas
 pub mod AnsweringLemmas
 pub mod MuxLemmas
 pub mod EndsTold
+pub mod PlainTexts
+pub mod HearingLemmas

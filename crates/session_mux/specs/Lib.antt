@@ -6,3 +6,4 @@ pub mod SessionsAlone
 pub mod Standing
 pub mod Knowing
 pub mod Muxes
+pub mod Hearing
