@@ -18,7 +18,7 @@ pub(crate) struct Case<'a> {
 /// How a run's devices behave: the room of the output, most bytes a call, and the call of each that fails, 0 for none.
 #[derive(Clone, Copy)]
 pub(crate) struct Devices {
-    room: usize,
+    pub(crate) room: usize,
     pub(crate) read_most: usize,
     pub(crate) write_most: usize,
     pub(crate) read_fails: u64,
