@@ -15,9 +15,10 @@ pub(crate) struct Case<'a> {
     pub(crate) status: u8,
 }
 
-/// How a run's devices behave: most bytes a call, and the call of each that fails, 0 for none.
+/// How a run's devices behave: the room of the output, most bytes a call, and the call of each that fails, 0 for none.
 #[derive(Clone, Copy)]
 pub(crate) struct Devices {
+    room: usize,
     read_most: usize,
     write_most: usize,
     read_fails: u64,
@@ -28,11 +29,36 @@ pub(crate) struct Devices {
 /// Pieces of this size, and no fault.
 pub(crate) fn pieces(most: usize) -> Devices {
     Devices {
+        room: 4096,
         read_most: most,
         write_most: most,
         read_fails: 0,
         write_fails: 0,
         tell_fails: 0,
+    }
+}
+
+/// Large pieces, and so much room.
+pub(crate) fn roomy(room: usize) -> Devices {
+    Devices {
+        room,
+        ..pieces(4096)
+    }
+}
+
+/// Single bytes, and the call of the source that fails.
+pub(crate) fn failing_read(call: u64) -> Devices {
+    Devices {
+        read_fails: call,
+        ..pieces(1)
+    }
+}
+
+/// Single bytes, and the call of the sink that fails.
+pub(crate) fn failing_write(call: u64) -> Devices {
+    Devices {
+        write_fails: call,
+        ..pieces(1)
     }
 }
 
@@ -44,9 +70,9 @@ fn strings(alloc: Global, words: &[&str]) -> Result<Vec<String>, AllocError> {
     Ok(all)
 }
 
-fn sink(alloc: Global, most: usize, fails: u64) -> Result<MemSink, Fail> {
+fn sink(alloc: Global, room: usize, most: usize, fails: u64) -> Result<MemSink, Fail> {
     let fails = Vec::from_slice(alloc, &[fails])?;
-    match MemSink::new(alloc, 4096, most.max(1), fails) {
+    match MemSink::new(alloc, room, most.max(1), fails) {
         Ok(sink) => Ok(sink),
         Err(memory) => Err(Fail::from(memory)),
     }
@@ -58,8 +84,8 @@ pub(crate) fn agrees(alloc: Global, case: Case<'_>, devices: Devices) -> Result<
     let bytes = Vec::from_slice(alloc, case.input.as_bytes())?;
     let fails = Vec::from_slice(alloc, &[devices.read_fails])?;
     let mut input = MemSource::new(bytes, devices.read_most.max(1), fails);
-    let mut out = sink(alloc, devices.write_most, devices.write_fails)?;
-    let mut err = sink(alloc, devices.write_most, devices.tell_fails)?;
+    let mut out = sink(alloc, devices.room, devices.write_most, devices.write_fails)?;
+    let mut err = sink(alloc, 4096, devices.write_most, devices.tell_fails)?;
     let mut kept = Kept::Nothing;
     let status = run(alloc, &words, &mut input, &mut out, &mut err, &mut kept);
     Ok(
@@ -689,11 +715,12 @@ fn refused<'a>(words: &'a [&'a str], err: &'a str, status: u8) -> Case<'a> {
 const USAGE: &str = "usage: check F | watch F | robust F | explain F | json F | table F\n";
 
 /// Words that are no form.
-const NO_FORMS: [&[&str]; 6] = [
+const NO_FORMS: [&[&str]; 7] = [
     &[],
     &["check"],
     &["gen", "1", "0"],
     &["early", "x >= 5"],
+    &["watch"],
     &["robust"],
     &["check", "x >= 5", "y"],
 ];

@@ -164,6 +164,63 @@ pub(crate) fn put_span(
     text.push_str(if to % 2 == 0 { "]" } else { ")" })
 }
 
+/// The verdict lines of some cells, and which cell comes after them. The first time is in halves of a tick.
+fn put_cells(
+    text: &mut String,
+    first: usize,
+    truth: &[bool],
+    (from, to): (usize, usize),
+) -> Result<usize, AllocError> {
+    let mut begin = from;
+    for cell in from..to.saturating_add(1) {
+        let Some(value) = truth.get(cell.saturating_mul(2)) else {
+            return Ok(begin);
+        };
+        let next = cell.saturating_add(1);
+        if next <= to
+            && let Some(more) = truth.get(next.saturating_mul(2))
+            && *more == *value
+        {
+            continue;
+        }
+        put_span(text, first, (begin, cell))?;
+        write!(text, " {value}\n")?;
+        begin = next;
+    }
+    Ok(begin)
+}
+
+/// What a stream of verdicts writes for rows at these times, of a formula that looks so far ahead: at each row the lines of what it answers,
+/// and at the end the rest and the line of the start.
+pub(crate) fn streamed(
+    alloc: Global,
+    times: &[u32],
+    horizon: u32,
+    truth: &[bool],
+) -> Result<String, AllocError> {
+    let mut text = String::new(alloc);
+    let (Some(first), Some(last)) = (times.first(), times.last()) else {
+        return Ok(text);
+    };
+    let halves = (*first as usize).saturating_mul(2);
+    let mut cell = 0;
+    for time in times {
+        let front = time.checked_sub(horizon);
+        if let Some(front) = front
+            && let Some(ticks) = front.checked_sub(*first)
+        {
+            let to = (ticks as usize).saturating_mul(4);
+            cell = put_cells(&mut text, halves, truth, (cell, to))?;
+        }
+    }
+    let end = (last.saturating_sub(*first) as usize).saturating_mul(4);
+    let _ = put_cells(&mut text, halves, truth, (cell, end))?;
+    if let Some(value) = truth.first() {
+        write!(text, "start {value}\n")?;
+    }
+    Ok(text)
+}
+
 /// The verdict lines and the line of the start, of a truth whose first time is in halves of a tick.
 pub(crate) fn verdicts(alloc: Global, first: usize, truth: &[bool]) -> Result<String, AllocError> {
     let mut text = String::new(alloc);
