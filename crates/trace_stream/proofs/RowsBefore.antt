@@ -387,6 +387,20 @@ pub rows_go_on : (limits : Limits) (f : Formula) (bytes more : List ℕ) (ended 
     → AreRowsBefore limits f (bytes ++ more) ended other beyond whole → GoesOnFrom header rows other beyond
 rows_go_on limits f bytes more ended a b = let (line, o) = open_line bytes in goes_on_by limits f (parts o) more ended a b
 
+-- a fault stops the rows for good
+pub rows_stay : (limits : Limits) (f : Formula) (bytes more : List ℕ) (ended : Bool) {header : Option Header} {rows : List Row} → ((x : Fault) × IsInputFault limits f bytes false x)
+    → AreRowsBefore limits f bytes false header rows false → AreRowsBefore limits f (bytes ++ more) ended header rows false
+rows_stay limits f bytes more ended (x, fault) (sound calm read) = absurd (calm x fault)
+rows_stay limits f bytes more ended (x, fault) (no_header_yet calm none) = absurd (calm x fault)
+rows_stay limits f bytes more ended some (faulted {header = header} {rows = rows} y fault read) =
+    let (line, o) = open_line bytes in
+    let now = stays limits f (parts o) more ended y fault in
+    faulted y now (subst (λ ls. AreTraceLines f.scale ls header rows) (sym (before_fault limits f (parts o) more ended y y fault now)) read)
+rows_stay limits f bytes more ended some (faulted_header y fault none) =
+    let (line, o) = open_line bytes in
+    let now = stays limits f (parts o) more ended y fault in
+    faulted_header y now (λ n h at. none n h (subst (λ ls. IsHeaderAt ls n h) (before_fault limits f (parts o) more ended y y fault now) at))
+
 -- there are at most one header and one list of rows before the first fault
 pub record IsOneBefore (header other : Option Header) (rows beyond : List Row) (whole complete : Bool) : Type 0 where
   pub same_header : header ≡ other

@@ -1,0 +1,43 @@
+-- What a session is told among the lines of many, and that it is what its own lines get alone.
+use Rattle.std.specs.Prelude.{◌≡◌, ℕ, Bool, true, false, ◌&&◌, not, List, [], ◌∷◌, ◌++◌, codes, bytes_eq, if◌then◌else◌, MatchBool}
+use Rattle.stl_syntax.specs.Formula.{Formula}
+use Rattle.trace_reader.specs.TraceText.{lines}
+use Rattle.session_mux.specs.Sessions.{Tagged, is_query, own, is_stopped, Alone, SoFar, prefixed, IsAnswer, AreAnswers}
+
+-- the lines with this tag
+abbrev pub lines_of : List ℕ → List Tagged → List Tagged
+lines_of t [] = []
+lines_of t (line ∷ more) = if bytes_eq line.tag t then line ∷ lines_of t more else lines_of t more
+
+-- the line is one of the session's own, and no query
+abbrev pub is_of : List ℕ → Tagged → Bool
+is_of t line = bytes_eq line.tag t && not (is_query line)
+
+-- the answer to one of the session's own lines is what the session got by it, each line after its tag; another line adds nothing to what
+-- the session was told
+abbrev pub IsAdded : Formula → List ℕ → List Tagged → Tagged → List ℕ → List ℕ → Type 0
+IsAdded f t seen line answer added =
+    MatchBool (is_of t line)
+    ((old : List ℕ) × SoFar f seen t old × SoFar f (seen ++ line ∷ []) t (old ++ added) × (answer ≡ prefixed (t ++ codes " ") (lines true added)))
+    (added ≡ [])
+
+-- what the session of the tag is told by the answers to the lines, one after the other
+abbrev pub AreTold : Formula → List ℕ → List Tagged → List Tagged → List ℕ → List ℕ → Type 0
+AreTold f t seen [] text told = (text ≡ []) × (told ≡ [])
+AreTold f t seen (line ∷ more) text told =
+    (answer rest added later : List ℕ) × IsAnswer f seen line answer × IsAdded f t seen line answer added × AreTold f t (seen ++ line ∷ []) more rest later
+    × (text ≡ answer ++ rest) × (told ≡ added ++ later)
+
+-- given bytes get one text alone
+abbrev pub OneTextAlone : Type 0
+OneTextAlone = (f : Formula) (bytes : List ℕ) (ended : Bool) (text other : List ℕ) → Alone f bytes ended text → Alone f bytes ended other → text ≡ other
+
+-- what a session is told among all lines is what its bytes get alone
+abbrev pub EachIsToldAsAlone : Type 0
+EachIsToldAsAlone = (f : Formula) (t : List ℕ) (all : List Tagged) (text : List ℕ) → AreAnswers f [] all text
+    → (told : List ℕ) × AreTold f t [] all text told × Alone f (own all t) (is_stopped all t) told
+
+-- so two inputs with the same lines of a tag tell its session the same, whatever lines of others come between
+abbrev pub OthersAddNothing : Type 0
+OthersAddNothing = (f : Formula) (t : List ℕ) (all others : List Tagged) (text other told heard : List ℕ) → lines_of t all ≡ lines_of t others
+    → AreTold f t [] all text told → AreTold f t [] others other heard → told ≡ heard
