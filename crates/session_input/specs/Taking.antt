@@ -47,13 +47,13 @@ pub record HasLines (f : Formula) (mux : Muxed) (front : List Line) (text : List
 -- an input took these bytes; this text was written for them, and the input's own text is to come after it
 pub record IsTaking (f : Formula) (i : Input) (bytes written : List ℕ) : Type 0 where
   pub front : List Line
-  pub free : HasNoFeed i.open
-  pub joins : (e : Bool) (more : List ℕ) → lines e (bytes ++ more) ≡ front ++ lines e (i.open ++ more)
+  pub free : HasNoFeed i.part
+  pub joins : (e : Bool) (more : List ℕ) → lines e (bytes ++ more) ≡ front ++ lines e (i.part ++ more)
   pub count : i.whole ≡ length front
   pub few : i.whole ≤ 8589934592
-  pub open_few : 0 < length i.open → i.whole < 8589934592
-  pub short : length i.open ≤ 4113
-  pub small : length bytes ≤ 4114 * i.whole + length i.open
+  pub part_few : 0 < length i.part → i.whole < 8589934592
+  pub short : length i.part ≤ 4113
+  pub small : length bytes ≤ 4114 * i.whole + length i.part
   pub taken : HasLines f i.mux front (written ++ i.text)
 
 -- some bytes of an input of some formula

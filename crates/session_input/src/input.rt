@@ -27,7 +27,7 @@ const LONGEST: usize = 4_113;
 #[derive(Drop)]
 pub struct Input {
     mux: Mux,
-    open: Text,
+    part: Text,
     whole: u64,
     text: Text,
 }
@@ -86,7 +86,7 @@ impl Input {
     {
         Input {
             mux: Mux::new(alloc, formula),
-            open: Text::new(alloc),
+            part: Text::new(alloc),
             whole: 0,
             text: Text::new(alloc),
         }
@@ -103,8 +103,8 @@ impl Input {
         if part.is_empty() {
             return Ok(());
         }
-        sized(self.whole + 1, self.open.len() + part.len())?;
-        match self.open.push(part) {
+        sized(self.whole + 1, self.part.bytes().len() + part.len())?;
+        match self.part.push(part) {
             Ok(()) => Ok(()),
             Err(_) => Err(InputStop::NoMemory),
         }
@@ -113,15 +113,15 @@ impl Input {
     /// Answers the line whose bytes are there, which has ended.
     fn answer(&mut self) -> Result<(), InputStop>
         requires { HasTakenSome self.old }
-        ensures ok { OnOk result ((self.new.open ≡ []) × (self.new.whole ≡ self.old.whole + 1) × IsSized (self.old.whole + 1) (length self.old.open)) }
+        ensures ok { OnOk result ((self.new.part ≡ []) × (self.new.whole ≡ self.old.whole + 1) × IsSized (self.old.whole + 1) (length self.old.part)) }
         ensures lines { (f : Parsed) (bytes written : List ℕ) → (k : IsTaking f self.old bytes written) → MatchResult result
-            (λ _. HasLines f self.new.mux (k.front ++ ended_line self.old.open ∷ []) (written ++ self.new.text))
-            (IsLineStop f k.front self.old.open (written ++ self.new.text)) }
+            (λ _. HasLines f self.new.mux (k.front ++ ended_line self.old.part ∷ []) (written ++ self.new.text))
+            (IsLineStop f k.front self.old.part (written ++ self.new.text)) }
     {
         let number = self.whole + 1;
-        sized(number, self.open.len())?;
-        hand(&mut self.mux, number, self.open.bytes(), &mut self.text)?;
-        self.open.clear();
+        sized(number, self.part.bytes().len())?;
+        hand(&mut self.mux, number, self.part.bytes(), &mut self.text)?;
+        self.part.clear();
         self.whole = number;
         Ok(())
     }
@@ -169,10 +169,10 @@ impl Input {
     fn last(&mut self) -> Result<(), InputStop>
         requires { HasTakenSome self.old }
         ensures { (f : Parsed) (bytes written : List ℕ) → (k : IsTaking f self.old bytes written) → MatchResult result
-            (λ _. HasLines f self.new.mux (k.front ++ rest true self.old.open) (written ++ self.new.text))
+            (λ _. HasLines f self.new.mux (k.front ++ rest true self.old.part) (written ++ self.new.text))
             (λ e. IsInputStop f bytes true (written ++ self.new.text) e) }
     {
-        if self.open.is_empty() {
+        if self.part.bytes().is_empty() {
             return Ok(());
         }
         self.answer()
@@ -215,7 +215,7 @@ impl Input {
     {
         let Input {
             mux,
-            open: _open,
+            part: _part,
             whole: _whole,
             text: _text,
         } = self;

@@ -156,8 +156,7 @@ ready_known f seen x i old new k is e n =
 -- ---- a line of a new tag
 
 module _ (f : Formula) (seen : List Tagged) (x : Tagged) (i : ℕ) (old mid : Known) (k : Knows f seen (shown old)) (is : IsTag x.tag) (none : place_in old.places.entries (number_of x.tag) ≡ None)
-  (b : HasBegun x.tag (number_of x.tag) i old mid) where
-
+    (b : HasBegun x.tag (number_of x.tag) i old mid) where
   pub is_new : is_among x.tag (tags_of seen) ≡ false
   is_new = subst (λ ts. is_among x.tag ts ≡ false) k.tags (not_found old.sessions.items old.places.entries x.tag k.found none)
 
@@ -181,9 +180,12 @@ module _ (f : Formula) (seen : List Tagged) (x : Tagged) (i : ℕ) (old mid : Kn
       fresh_told s e =
           subst (λ (t : Session). IsTag t.tag × ((told : List ℕ) × HasTold f (own_of seen t.tag) told t)) (sym e) (
             subst (λ t. IsTag t) (sym b.tag) is,
-            ([], subst (λ t. HasTold f (own_of seen t) [] b.session) (sym b.tag)
-                (subst (λ (o : Own). HasTold f o [] b.session) (sym (own_of_none seen x.tag is_new))
-                (subst (λ (g : Formula). HasTold g (record { bytes = []; stopped = false }) [] b.session) k.formula b.fresh))),
+            (
+              [],
+              subst (λ t. HasTold f (own_of seen t) [] b.session) (sym b.tag)
+                  (subst (λ (o : Own). HasTold f o [] b.session) (sym (own_of_none seen x.tag is_new))
+                  (subst (λ (g : Formula). HasTold g (record { bytes = []; stopped = false }) [] b.session) k.formula b.fresh)),
+            ),
           )
 
   are_found : AreFound mid.sessions.items mid.places.entries
@@ -199,7 +201,7 @@ module _ (f : Formula) (seen : List Tagged) (x : Tagged) (i : ℕ) (old mid : Kn
         ap number_of b.tag ∙ sym same,
       )
       | inr ne ↦ (let (s, at, same) = k.found.only n j (sym (at_other n ne) ∙ e) in
-        (s, subst (λ ss. slice_get ss j ≡ Some s) (sym b.sessions) (item_stays old.sessions.items b.session j s at), same))
+          (s, subst (λ ss. slice_get ss j ≡ Some s) (sym b.sessions) (item_stays old.sessions.items b.session j s at), same))
     ];
   }
     where

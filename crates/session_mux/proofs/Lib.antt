@@ -7,3 +7,5 @@ pub mod SessionsTold
 pub mod SessionLemmas
 pub mod KnowingLemmas
 pub mod AnsweringLemmas
+pub mod MuxLemmas
+pub mod EndsTold

@@ -63,7 +63,7 @@ so_far_by_other f seen line t text h so =
     (subst (λ s. Alone f (own seen t) s text) (sym (stopped_by_other seen line t h)) so)
 
 -- the bytes of a session, and its stop, are of its own lines
-own_of_lines : (all : List Tagged) (t : List ℕ) → own all t ≡ own (lines_of t all) t
+pub own_of_lines : (all : List Tagged) (t : List ℕ) → own all t ≡ own (lines_of t all) t
 own_of_lines [] t = refl
 own_of_lines (x ∷ all) t = by_tag (own_of_lines all t) (bytes_eq x.tag t) refl
   where
@@ -145,7 +145,7 @@ module _ (f : Formula) (t : List ℕ) where
           let got = at_true _ _ (is_of t line) e is in
           subst (λ w. SoFar f (seen ++ line ∷ []) t (w ++ added)) (text_alone_once f (own seen t) (is_stopped seen t) got.0 old got.1 so) got.2
 
-  told_alone : (seen more : List Tagged) (old text told : List ℕ) → SoFar f seen t old → AreTold f t seen more text told
+  pub told_alone : (seen more : List Tagged) (old text told : List ℕ) → SoFar f seen t old → AreTold f t seen more text told
       → SoFar f (seen ++ more) t (old ++ told)
   told_alone seen [] old text told so (e, k) =
       subst (λ s. SoFar f s t (old ++ told)) (sym (append-nil seen))

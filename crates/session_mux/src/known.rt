@@ -1,5 +1,5 @@
 //! The sessions of an input, found by their tags.
-ghost use Rattle.std.specs.Prelude.{◌≡◌, ◌<◌, ◌≤◌, ℕ, List, [], length, MatchResult};
+ghost use Rattle.std.specs.Prelude.{◌≡◌, ◌<◌, ◌≤◌, ℕ, List, [], length, OnOk, MatchResult};
 ghost use Rattle.stl_syntax.specs.Formula.{Formula as Parsed};
 ghost use Rattle.session_mux.specs.Sessions.{Tagged, IsTag, AreEnds};
 ghost use Rattle.session_mux.specs.Standing.{IsCutShort};
@@ -149,7 +149,8 @@ impl Known {
         ensures ended { (f : Parsed) (seen : List Tagged) → Knows f seen (shown self.old) → MatchResult result
             (λ _. HasEnded f seen out.old out.new)
             (λ _. IsCutShort (AreEnds f seen (tags_of seen)) out.old out.new) }
-        ensures tags { tag_list self.new.sessions.items ≡ tag_list self.old.sessions.items }
+        ensures tags { OnOk result (tag_list self.new.sessions.items ≡ tag_list self.old.sessions.items) }
+        ensures few { length self.new.sessions.items ≡ length self.old.sessions.items }
     {
         for place in 0..self.sessions.len() {
             self.sessions[place].end(out)?;

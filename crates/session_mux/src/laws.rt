@@ -1,5 +1,5 @@
 //! Laws of several sessions in one input. Each is the contract of a call that does nothing, so that the gate proves it.
-ghost use Rattle.session_mux.specs.SessionsAlone.{EachIsToldAsAlone, OneTextAlone, OthersAddNothing};
+ghost use Rattle.session_mux.specs.SessionsAlone.{EachIsToldAsAlone, EachIsToldToItsEnd, OneTextAlone, OthersAddNothing, OthersAddNothingAtTheEnd};
 
 /// Given bytes, ended or not, get a session at most one text by itself: the stream of the rows before the first fault, and its line.
 pub fn one_text_alone()
@@ -14,4 +14,14 @@ pub fn each_session_is_told_as_alone()
 /// Two inputs that agree on the lines of a tag tell its session the same, however the lines of others come between.
 pub fn other_sessions_add_nothing()
     ensures { OthersAddNothing }
+{}
+
+/// What a session is told in all, the end of the input with it, is what the bytes of its own lines get alone, with their end.
+pub fn each_session_is_told_to_its_end()
+    ensures { EachIsToldToItsEnd }
+{}
+
+/// So two inputs that agree on the lines of a tag tell its session the same to its end.
+pub fn other_sessions_add_nothing_at_the_end()
+    ensures { OthersAddNothingAtTheEnd }
 {}

@@ -1,0 +1,2 @@
+mod Tagging
+pub mod Passing
