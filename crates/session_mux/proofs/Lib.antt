@@ -9,3 +9,6 @@ pub mod KnowingLemmas
 pub mod AnsweringLemmas
 pub mod MuxLemmas
 pub mod EndsTold
+mod Tagging
+pub mod Passing
+pub mod Inputting

@@ -6,3 +6,5 @@ pub mod SessionsAlone
 pub mod Standing
 pub mod Knowing
 pub mod Muxes
+pub mod Inputs
+pub mod Taking

@@ -5,11 +5,12 @@ ghost use Rattle.trace_reader.specs.TraceText.{content};
 ghost use Rattle.trace_reader.specs.Feeds.{HasNoFeed};
 ghost use Rattle.trace_reader.proofs.LineLemmas.{rest};
 ghost use Rattle.session_mux.specs.Muxes.{Past, StandsFor};
-ghost use Rattle.session_input.specs.Taking.{ended_line, IsSized, HasLines, IsTaking, HasTakenSome, IsInputStop, IsLineStop, IsPartStop, HasAll, IsHanded, IsNotHanded, IsUnsized};
+ghost use Rattle.session_mux.specs.Taking.{ended_line, IsSized, HasLines, IsTaking, HasTakenSome, IsInputStop, IsLineStop, IsPartStop, HasAll, IsHanded, IsNotHanded, IsUnsized};
 
-use crate::fault::{InputStop, LineFault, LineKind};
+use crate::fault::MuxFault;
+use crate::mux::Mux;
+use crate::stop::{InputStop, LineFault, LineKind};
 use memchr::memchr;
-use session_mux::{Mux, MuxFault};
 use std::alloc::Global;
 use stl_syntax::{Formula, Text};
 

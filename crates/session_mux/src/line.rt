@@ -1,10 +1,10 @@
 //! The line of the first fault of an input of several sessions.
 ghost use Rattle.std.specs.Prelude.{◌≡◌};
 ghost use Rattle.report.specs.Lines.{line_text};
-ghost use Rattle.session_input.specs.Inputs.{input_fault_text};
-ghost use Rattle.session_input.specs.Taking.{fault_of};
+ghost use Rattle.session_mux.specs.Inputs.{input_fault_text};
+ghost use Rattle.session_mux.specs.Taking.{fault_of};
 
-use crate::fault::{LineFault, LineKind};
+use crate::stop::{LineFault, LineKind};
 use report::Line;
 
 /// The line of the first fault of an input of several sessions.

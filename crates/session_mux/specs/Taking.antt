@@ -8,13 +8,13 @@ use Rattle.session_mux.specs.Sessions.{Tagged, IsTagged, AreAnswers}
 use Rattle.session_mux.specs.Knowing.{tags_of}
 use Rattle.session_mux.specs.Muxes.{Muxed, Past, StandsFor, HasTags, HasTaken}
 use Rattle.session_mux.specs.declared.mux.Phase.TheVariants.{Ended}
-use Rattle.session_input.specs.Inputs.{InputFault, too_many_lines, too_long, bad_tag, too_many_sessions, FaultOfInput, OwesLines}
-use Rattle.session_input.specs.declared.fault.LineFault.{LineFault}
-use Rattle.session_input.specs.declared.fault.LineKind.{LineKind}
-use Rattle.session_input.specs.declared.fault.LineKind.TheVariants as kind
-use Rattle.session_input.specs.declared.fault.InputStop.{InputStop}
-use Rattle.session_input.specs.declared.fault.InputStop.TheVariants.{Fault as Faulty, NoMemory}
-use Rattle.session_input.specs.declared.input.Input.{Input}
+use Rattle.session_mux.specs.Inputs.{InputFault, too_many_lines, too_long, bad_tag, too_many_sessions, FaultOfInput, OwesLines}
+use Rattle.session_mux.specs.declared.stop.LineFault.{LineFault}
+use Rattle.session_mux.specs.declared.stop.LineKind.{LineKind}
+use Rattle.session_mux.specs.declared.stop.LineKind.TheVariants as kind
+use Rattle.session_mux.specs.declared.stop.InputStop.{InputStop}
+use Rattle.session_mux.specs.declared.stop.InputStop.TheVariants.{Fault as Faulty, NoMemory}
+use Rattle.session_mux.specs.declared.input.Input.{Input}
 
 -- these bytes as a line that has ended
 abbrev pub ended_line : List ℕ → Line
@@ -63,15 +63,16 @@ pub record HasTakenSome (i : Input) : Type 0 where
   pub written : List ℕ
   pub is : IsTaking formula i bytes written
 
+-- the fault of a line
+abbrev pub fault_in : ℕ → LineKind → InputFault
+fault_in n kind.TooManyLines = too_many_lines n
+fault_in n kind.TooLong = too_long n
+fault_in n kind.BadTag = bad_tag n
+fault_in n kind.TooManySessions = too_many_sessions n
+
 -- the fault that is stored
 abbrev pub fault_of : LineFault → InputFault
-fault_of x = by_kind x.kind
-  where
-    by_kind : LineKind → InputFault
-    by_kind kind.TooManyLines = too_many_lines x.line
-    by_kind kind.TooLong = too_long x.line
-    by_kind kind.BadTag = bad_tag x.line
-    by_kind kind.TooManySessions = too_many_sessions x.line
+fault_of x = fault_in x.line x.kind
 
 -- why no more was taken of these bytes, of which this text was made
 abbrev pub IsInputStop : Formula → List ℕ → Bool → List ℕ → InputStop → Type 0
@@ -100,27 +101,26 @@ IsHanded p line new before after = MatchBool (is_blank_line (ended_line line)) (
     ((x : Tagged) × IsTagged (content (ended_line line)) x × HasTaken p x new before after)
 
 -- why the sessions refused it
-abbrev pub IsRefusedLine : Past → ℕ → List ℕ → List ℕ → List ℕ → LineFault → Type 0
-IsRefusedLine p n line before after x =
-    (x.line ≡ n) × (is_blank_line (ended_line line) ≡ false) × (after ≡ before) × by_kind x.kind
-  where
-    by_kind : LineKind → Type 0
-    by_kind kind.TooManyLines = ⊥
-    by_kind kind.TooLong = ⊥
-    by_kind kind.BadTag = (t : Tagged) → ¬ IsTagged (content (ended_line line)) t
-    by_kind kind.TooManySessions = ((t : Tagged) × IsTagged (content (ended_line line)) t × (is_among t.tag (tags_of p.seen) ≡ false)) × (1024 ≤ length (tags_of p.seen))
+abbrev pub IsRefusedBy : Past → List ℕ → LineKind → Type 0
+IsRefusedBy p line kind.TooManyLines = ⊥
+IsRefusedBy p line kind.TooLong = ⊥
+IsRefusedBy p line kind.BadTag = (t : Tagged) → ¬ IsTagged (content (ended_line line)) t
+IsRefusedBy p line kind.TooManySessions =
+    ((t : Tagged) × IsTagged (content (ended_line line)) t × (is_among t.tag (tags_of p.seen) ≡ false)) × (1024 ≤ length (tags_of p.seen))
 
+-- so of line n, and nothing was added
 abbrev pub IsNotHanded : Past → ℕ → List ℕ → List ℕ → List ℕ → InputStop → Type 0
-IsNotHanded p n line before after (Faulty x) = IsRefusedLine p n line before after x
+IsNotHanded p n line before after (Faulty x) = (x.line ≡ n) × (is_blank_line (ended_line line) ≡ false) × (after ≡ before) × IsRefusedBy p line x.kind
 IsNotHanded p n line before after NoMemory = Unit {0}
 
--- why a line of so many bytes is none that is taken
+-- a line of so many bytes is one too many, or too long
+abbrev pub IsUnsizedBy : ℕ → ℕ → LineKind → Type 0
+IsUnsizedBy n size kind.TooManyLines = 8589934592 < n
+IsUnsizedBy n size kind.TooLong = (n ≤ 8589934592) × (4113 < size)
+IsUnsizedBy n size kind.BadTag = ⊥
+IsUnsizedBy n size kind.TooManySessions = ⊥
+
+-- so of line n
 abbrev pub IsUnsized : ℕ → ℕ → InputStop → Type 0
-IsUnsized n size (Faulty x) = (x.line ≡ n) × by_kind x.kind
-  where
-    by_kind : LineKind → Type 0
-    by_kind kind.TooManyLines = 8589934592 < n
-    by_kind kind.TooLong = (n ≤ 8589934592) × (4113 < size)
-    by_kind kind.BadTag = ⊥
-    by_kind kind.TooManySessions = ⊥
+IsUnsized n size (Faulty x) = (x.line ≡ n) × IsUnsizedBy n size x.kind
 IsUnsized n size NoMemory = ⊥

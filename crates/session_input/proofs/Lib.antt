@@ -1,2 +1,0 @@
-mod Tagging
-pub mod Passing
