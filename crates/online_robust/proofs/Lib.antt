@@ -10,3 +10,10 @@ pub mod WindowLaw
 pub mod PointwiseLemmas
 pub mod NotLemmas
 pub mod TwoLemmas
+pub mod Marks
+pub mod Spreads
+pub mod Outcomes
+pub mod HighLemmas
+pub mod FrozenLemmas
+pub mod LowLemmas
+pub mod WindowFits

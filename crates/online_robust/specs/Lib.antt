@@ -5,3 +5,4 @@ pub mod Told
 pub mod Reading
 pub mod Couples
 pub mod Sweeping
+pub mod Windows

@@ -11,7 +11,8 @@ use Rattle.value_laws.specs.declared.margin.Margin.{Margin}
 use Rattle.pl_signal.specs.declared.joining.Side.{Side}
 use Rattle.envelope.specs.Turns.{IsNoBetter}
 use Rattle.online_robust.specs.Lines.{end_of, margin_of, IsOneLine}
-use Rattle.online_robust.specs.Told.{AreFit, AreJoined, AreTold, IsMovedBy}
+use Rattle.online_robust.specs.Reading.{IsThere}
+use Rattle.online_robust.specs.Told.{AreFit, AreJoined, AreTold, IsMovedBy, IsTick}
 use Rattle.online_robust.specs.declared.ends.Gap.{Gap}
 use Rattle.online_robust.specs.declared.line.MarginLine.{MarginLine}
 use Rattle.online_robust.specs.declared.line.MarginLine.TheVariants.{Point}
@@ -47,6 +48,11 @@ pub record Mark : Type 0 where
   pub point : Margin
   pub after : Gap
 
+-- the marks have times of 32 bits
+abbrev pub AreTicks : List Mark → Type 0
+AreTicks [] = Unit {0}
+AreTicks (k ∷ marks) = IsTick (value k.at) × AreTicks marks
+
 -- the gap behind the last mark
 abbrev pub last_gap : Gap → List Mark → Gap
 last_gap low [] = low
@@ -61,7 +67,7 @@ AreBy t (k ∷ marks) = (value k.at ≤ʳ t) × AreBy t marks
 abbrev pub Runs : Function → ℕ → Rational → Gap → List Mark → Type 0
 Runs Q reach from low [] = IsOn Q reach from low × IsBefore from low.until
 Runs Q reach from low (k ∷ marks) =
-    IsOn Q reach from low × EndsAt low.until (value k.at) × (from <ʳ value k.at) × Q (value k.at) (value_at (margin_function k.point) (value k.at))
+    IsOn Q reach from low × EndsAt low.until (value k.at) × (from <ʳ value k.at) × IsThere Q reach (value k.at) k.point
     × Runs Q reach (value k.at) k.after marks
 
 -- a mark that gives no constant: the gaps about it and its point are of one function, or it comes too early

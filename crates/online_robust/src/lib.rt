@@ -7,5 +7,6 @@ mod ends;
 mod line;
 mod pointwise;
 mod queue;
+mod window;
 
 pub use line::MarginLine;

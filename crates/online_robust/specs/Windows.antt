@@ -1,0 +1,195 @@
+-- Where a window stands over its input, and what it tells.
+use Rattle.std.specs.Prelude.{◌≡◌, ◌≢◌, ◌⊎◌, ℕ, ℤ, pos, neg_ℤ, ◌+◌, ◌<◌, ◌≤◌, ◌^◌, ◌≤ℤ◌, ◌<ℤ◌, Bool, true, false, List, [], ◌∷◌, length, drop, slice_get, IfSome, Option, Some, None, MatchBool}
+use Rattle.rational.specs.Time.{Rational, HasDenominator, Within, Precedes, shifted, whole, ◌≈◌, ◌≤ʳ◌, ◌<ʳ◌}
+use Rattle.rational.specs.Extended.{Extended, minus_infinity, finite, infinity, value_at, ◌≈ᵉ◌}
+use Rattle.rational.specs.Windows.{Function}
+use Rattle.frac128.specs.Value.{value}
+use Rattle.frac128.specs.declared.frac.Frac.{Frac}
+use Rattle.value_laws.specs.Margins.{margin_function}
+use Rattle.value_laws.specs.declared.margin.Margin.{Margin}
+use Rattle.pl_signal.specs.declared.joining.Side.{Side}
+use Rattle.pl_signal.specs.declared.faults.WidePair.TheVariants.{Cross, Value}
+use Rattle.pl_signal.specs.declared.faults.OpFault.{OpFault}
+use Rattle.pl_signal.specs.declared.faults.OpFault.TheVariants as F
+use Rattle.envelope.specs.Turns.{none_of}
+use Rattle.window_ops.specs.Over.{IsBestOver}
+use Rattle.stl_syntax.specs.Trace.{Trace, start, stop}
+use Rattle.stl_syntax.specs.Formula.{Subformula}
+use Rattle.stl_syntax.specs.SupInf.{Robustness}
+use Rattle.online_robust.specs.Lines.{end_of, margin_of, IsOneLine}
+use Rattle.online_robust.specs.Held.{Held, edge_at, fresh_at, held_at}
+use Rattle.online_robust.specs.Queues.{StandsFor}
+use Rattle.online_robust.specs.Told.{AreFit, AreJoined, AreTold, IsMovedBy, IsTick}
+use Rattle.online_robust.specs.Sweeping.{AreBy, AreFrozen, AreTicks, EndsAt, IsBefore, IsOn, IsUpTo, Mark, Runs, last_gap, with_outside}
+use Rattle.online_robust.specs.declared.ends.Gap.{Gap}
+use Rattle.online_robust.specs.declared.line.MarginLine.{MarginLine}
+use Rattle.online_robust.specs.declared.line.MarginLine.TheVariants as L
+use Rattle.online_robust.specs.declared.queue.Queue.{Queue}
+use Rattle.online_robust.specs.declared.window.Sweep.{Sweep}
+use Rattle.online_robust.specs.declared.window.Window.{Window}
+
+-- the input of a window in a trace, by how much its bases were moved, up to where it is told, and how far its high end comes, and the time
+-- from which its ends are counted
+pub record Scope : Type 0 where
+  pub formula : Subformula
+  pub trace : Trace
+  pub reach : ℕ
+  pub front : Rational
+  pub bound : Rational
+  pub at : Rational
+
+-- the input, and outside the domain the value of no values
+abbrev pub input_of : Scope → Side → Function
+input_of x side = with_outside (Robustness x.formula x.trace) (start x.trace) (stop x.trace) (none_of side minus_infinity infinity)
+
+-- u lies in the window at t, as far as that lies between `from` and `to`
+pub record Holds (from to : Rational) (w : Window) (t u : Rational) : Type 0 where
+  pub inside : Within from to u
+  pub begins : Precedes w.low_in (shifted t w.low) u
+  pub ends : Precedes w.high_in u (shifted t w.high)
+
+-- at each time the best of the input over the window
+abbrev pub best_of : Scope → Window → Function
+best_of x w t r = IsBestOver w.side minus_infinity infinity (Holds (start x.trace) (stop x.trace) w t) (Robustness x.formula x.trace) r
+
+-- the offsets are in order, and small
+pub record IsFitWindow (w : Window) (reach : ℕ) : Type 0 where
+  pub order : w.low <ℤ w.high
+  pub low : neg_ℤ (pos 4294967295) ≤ℤ w.low
+  pub high : w.high ≤ℤ pos 4294967295
+  pub small : reach ≤ 4294967295
+
+-- the lines are the gap, if it stands on the edge
+abbrev pub IsStanding : Gap → List MarginLine → List MarginLine → Type 0
+IsStanding gap lines rest =
+    MatchBool gap.stands ((a b : Frac) × (gap.until ≡ Some b) × (lines ≡ L.Gap a b gap.shape ∷ rest)) (lines ≡ rest)
+
+-- the low gap and the marks are what the high end has read and the low end has not left
+abbrev pub AreSeen : Gap → List Mark → List MarginLine → Type 0
+AreSeen low [] lines = IsStanding low lines []
+AreSeen low (k ∷ marks) lines =
+    (rest : List MarginLine) × IsStanding low lines (L.Point k.at k.point ∷ rest) × AreSeen k.after marks rest
+
+-- a gap behind a mark stands on the edge, but for what comes after the end
+abbrev pub AreStanding : Margin → List Mark → Type 0
+AreStanding none [] = Unit {0}
+AreStanding none (k ∷ marks) =
+    ((k.after.stands ≡ true) ⊎ ((k.after ≡ record { shape = none; until = None; stands = false }) × (marks ≡ []))) × AreStanding none marks
+
+-- what is to be read begins with the point at the end of the gap about the high end
+abbrev pub IsToCome : Scope → Option Frac → List MarginLine → Type 0
+IsToCome x None lines = lines ≡ []
+IsToCome x (Some u) lines =
+    (p : Frac) × (v : Margin) × (rest : List MarginLine) × (lines ≡ L.Point p v ∷ rest) × (value u ≈ value p) × (start x.trace ≤ʳ value p)
+    × AreTold (Robustness x.formula x.trace) lines × AreFit x.reach lines × AreJoined (value p) x.front rest
+
+-- the gap of a line
+abbrev pub gap_of : MarginLine → Gap
+gap_of v = record { shape = margin_of v; until = Some (end_of v); stands = true }
+
+-- no gap
+abbrev pub no_gap : Margin → Gap
+no_gap none = record { shape = none; until = None; stands = false }
+
+-- a window with its ends at two times: the gap about each end, the marks between, and what of them stands where
+pub record IsSpread (x : Scope) (w : Window) (begin : Frac) (none : Margin) (low high : Gap) (q : Queue Margin) (seen fresh : List MarginLine) (l h : Rational)
+    : Type 0 where
+  pub fit : IsFitWindow w x.reach
+  pub tick : IsTick (value begin)
+  pub begins : value begin ≈ start x.trace
+  pub within : (start x.trace ≤ʳ x.front) × (x.front ≤ʳ stop x.trace)
+  pub ended : (x.bound ≤ʳ x.front) ⊎ (x.front ≈ stop x.trace)
+  pub none_value : (t : Rational) → value_at (margin_function none) t ≈ᵉ none_of w.side minus_infinity infinity
+  pub none_moved : IsMovedBy x.reach none
+  pub from : Rational
+  pub marks : List Mark
+  pub constants : List Margin
+  pub begun : from ≤ʳ l
+  pub runs : Runs (input_of x w.side) x.reach from low marks
+  pub by : AreBy h marks
+  pub ticks : AreTicks marks
+  pub last : high ≡ last_gap low marks
+  pub low_later : IsUpTo l low.until
+  pub high_later : IsUpTo h high.until
+  pub frozen : AreFrozen w.side (shifted (start x.trace) w.low) low marks constants
+  pub side : q.side ≡ w.side
+  pub among : StandsFor margin_function q.older.items q.newer.items q.side q.best constants
+  pub standing : AreStanding none marks
+  pub seen_is : AreSeen low marks seen
+  pub to_come : IsToCome x high.until fresh
+
+-- where the window's ends are
+abbrev pub low_at : Scope → Window → Rational
+low_at x w = shifted x.at w.low
+
+abbrev pub high_at : Scope → Window → Rational
+high_at x w = shifted x.at w.high
+
+-- the window stands over its input at the time
+pub record IsAt (x : Scope) (s : Sweep) (e : Held) : Type 0 where
+  pub within : s.window.of < length e.edges
+  pub spread : IsSpread x s.window s.start s.none s.place.low s.place.high s.among (edge_at e s.window.of).seen (fresh_at e s.window.of)
+      (low_at x s.window) (high_at x s.window)
+
+-- all but the places of the ends and the constants stays
+pub record Keeps (old new : Sweep) : Type 0 where
+  pub window : new.window ≡ old.window
+  pub start : new.start ≡ old.start
+  pub none : new.none ≡ old.none
+  pub last : new.last ≡ old.last
+  pub at : new.place.at ≡ old.place.at
+
+-- some lines are gone from the front of an edge, each of which ends by the limit
+pub record Sheds (limit : Rational) (i : ℕ) (old new : Held) : Type 0 where
+  pub count : ℕ
+  pub is : held_at new i ≡ drop count (held_at old i)
+  pub ended : (k : ℕ) → k < count → IfSome (slice_get (held_at old i) k) (λ x. value (end_of x) ≤ʳ limit)
+  pub number : (edge_at new i).number ≡ (edge_at old i).number
+  pub others : (j : ℕ) → j ≢ i → edge_at new j ≡ edge_at old j
+  pub edges : length new.edges ≡ length old.edges
+  pub start : new.start ≡ old.start
+
+-- the high end stands on the end of the gap about it, and goes on
+pub record IsHigh (x : Scope) (s : Sweep) : Type 0 where
+  pub ends : EndsAt s.place.high.until (high_at x s.window)
+  pub more : high_at x s.window <ʳ x.bound
+
+-- one of the three has a value at the time that is not stored
+pub record IsUnstored (before point after : Margin) (u : Frac) (p : Margin) (at : Frac) (den : ℕ) : Type 0 where
+  pub one : (p ≡ before) ⊎ (p ≡ point) ⊎ (p ≡ after)
+  pub when : at ≡ u
+  pub number : Rational
+  pub is : value_at (margin_function p) (value u) ≈ᵉ finite number
+  pub denominator : HasDenominator number den
+  pub wide : 2 ^ 60 ≤ den
+
+-- such a value alone is refused
+abbrev pub IsUnfixed : Margin → Margin → Margin → Frac → OpFault Margin → Type 0
+IsUnfixed before point after u F.Memory = Unit {0}
+IsUnfixed before point after u (F.Wide (Cross p q a b den)) = ⊥
+IsUnfixed before point after u (F.Wide (Value p at den)) = IsUnstored before point after u p at den
+
+-- it is that of a knot under the high end, which is strictly inside the window after the start
+pub record IsUnfixedKnot (x : Scope) (s : Sweep) (fault : OpFault Margin) : Type 0 where
+  pub k : Mark
+  pub here : value k.at ≈ high_at x s.window
+  pub counts : shifted (start x.trace) s.window.low <ʳ value k.at
+  pub knot : IsOneLine s.place.high.shape k.point k.after.shape (value k.at) → ⊥
+  pub from : Rational
+  pub rises : from <ʳ value k.at
+  pub before : IsOn (input_of x s.window.side) x.reach from s.place.high
+  pub ends : EndsAt s.place.high.until (value k.at)
+  pub point : input_of x s.window.side (value k.at) (value_at (margin_function k.point) (value k.at))
+  pub after : IsOn (input_of x s.window.side) x.reach (value k.at) k.after
+  pub goes_on : IsBefore (value k.at) k.after.until
+  pub by_front : value k.at ≤ʳ x.front
+  pub unfixed : IsUnfixed s.place.high.shape k.point k.after.shape k.at fault
+
+abbrev pub IsUnfixedHigh : Scope → Sweep → OpFault Margin → Type 0
+IsUnfixedHigh x s F.Memory = Unit {0}
+IsUnfixedHigh x s (F.Wide pair) = IsUnfixedKnot x s (F.Wide pair)
+
+-- the low end stands on the end of the gap about it, before the high end
+pub record IsLow (x : Scope) (s : Sweep) : Type 0 where
+  pub ends : EndsAt s.place.low.until (low_at x s.window)
+  pub order : low_at x s.window <ʳ high_at x s.window

@@ -1,0 +1,414 @@
+//! The windows with a low end: what stands about the two ends, and the best constant between them.
+
+ghost use Rattle.std.specs.Prelude.{◌≡◌, ◌⊎◌, ◌↔◌, ◌<◌, ◌^◌, ◌≢◌, Some, None, true, false, IsTrue, length, slice_get, IfOk, OnOk, IfErr, IfSome, MatchBool, MatchOption, MatchResult};
+ghost use Rattle.rational.specs.Rational.{Rational, IsWithin};
+ghost use Rattle.rational.specs.Time.{◌<ʳ◌, ◌≤ʳ◌, shifted};
+ghost use Rattle.rational.specs.Extended.{value_at};
+ghost use Rattle.rational.specs.Affine.{IsBounded};
+ghost use Rattle.frac128.specs.Value.{value};
+ghost use Rattle.value_laws.specs.Margins.{margin_function};
+ghost use Rattle.online_robust.specs.Held.{edge_at, fresh_at, held_at, with_edge, with_read, without};
+ghost use Rattle.online_robust.specs.Sweeping.{IsBefore, IsFrozen};
+ghost use Rattle.online_robust.specs.Lines.{IsOneLine};
+ghost use Rattle.online_robust.specs.Reading.{IsThere};
+ghost use Rattle.online_robust.specs.Told.{IsTick};
+ghost use Rattle.online_robust.specs.Windows.{IsAt, IsFitWindow, IsHigh, IsUnfixed, IsUnfixedHigh, Keeps, Scope, Sheds, gap_of as gap_that, high_at, input_of, low_at, no_gap, IsLow};
+
+use crate::edges::Edges;
+use crate::ends::{Gap, is_at, is_one};
+use crate::line::{MarginLine, Reached};
+use crate::queue::Queue;
+use envelope::{Best, of_none, write};
+use frac128::{Frac, Memory};
+use pl_signal::{Builder, OpFault, Side, Signal, WidePair, chosen, earlier};
+use std::alloc::Global;
+use std::cmp::Ordering;
+use value_laws::{Margin, Shape};
+
+/// A window: at t it goes from t + low to t + high, each end in or out. The one end lies before the other.
+#[derive(Clone, Copy, Debug)]
+pub(crate) struct Window {
+    pub(crate) of: u32,
+    /// The greatest is wanted, or the least.
+    pub(crate) side: Side,
+    pub(crate) low: i64,
+    pub(crate) high: i64,
+    pub(crate) low_in: bool,
+    pub(crate) high_in: bool,
+}
+
+/// Where a window stands: the time from which its ends are counted, and the gap about each end.
+#[derive(Clone, Copy, Debug)]
+pub(crate) struct Place {
+    pub(crate) at: Frac,
+    pub(crate) low: Gap,
+    pub(crate) high: Gap,
+}
+
+/// A step of a window: what counts on the way, and the margin at its end.
+#[derive(Clone, Copy)]
+struct Gone {
+    best: Best<Margin>,
+    to: Reached,
+}
+
+/// What a window keeps in mind.
+#[derive(Drop)]
+pub(crate) struct Sweep {
+    pub(crate) window: Window,
+    start: Frac,
+    /// The value of no times.
+    none: Margin,
+    place: Place,
+    /// The constants of the knots strictly between the ends.
+    among: Queue<Margin>,
+    /// The margin at the time up to which it was told.
+    last: Option<Reached>,
+}
+
+/// The gap that comes next at the back end of what was read, which is read; nothing where there is none.
+fn enter(edges: &mut Edges, of: u32, none: Margin) -> Gap
+    requires { of < length edges.old.edges }
+    ensures { MatchOption (slice_get (fresh_at edges.old of) 0) ((result ≡ no_gap none) × (edges.new ≡ edges.old))
+        (λ line. (result ≡ gap_that line) × (edges.new.edges ≡ with_edge edges.old of (with_read (edge_at edges.old of) line)) × (edges.new.start ≡ edges.old.start)) }
+{
+    match edges.next(of) {
+        Some(_) => gap_of(&edges.pass(of)),
+        None => Gap::nothing(none, None),
+    }
+}
+
+/// The first gap of an edge; nothing where there is none.
+fn front(edges: &Edges, of: u32, none: Margin) -> Gap
+    requires { of < length edges.now.edges }
+    ensures { MatchOption (slice_get (held_at edges.now of) 0) (result ≡ no_gap none) (λ line. result ≡ gap_that line) }
+{
+    match edges.first(of) {
+        Some(line) => gap_of(&line),
+        None => Gap::nothing(none, None),
+    }
+}
+
+/// The gap of a line.
+fn gap_of(line: &MarginLine) -> Gap
+    ensures { result ≡ gap_that line.now }
+{
+    Gap {
+        shape: line.margin(),
+        until: Some(line.end()),
+        stands: true,
+    }
+}
+
+/// The best of the two limits and the value at a time, as a constant.
+fn frozen(
+    side: Side,
+    before: &Margin,
+    point: &Margin,
+    after: &Margin,
+    u: &Frac,
+) -> Result<Margin, OpFault<Margin>>
+    requires within { IsWithin (2 ^ 34) (value u.now) }
+    requires before { IsBounded (2 ^ 31) (value_at (margin_function before.now) (value u.now)) }
+    requires point { IsBounded (2 ^ 31) (value_at (margin_function point.now) (value u.now)) }
+    requires after { IsBounded (2 ^ 31) (value_at (margin_function after.now) (value u.now)) }
+    ensures { MatchResult result (IsFrozen side before.now point.now after.now (value u.now)) (IsUnfixed before.now point.now after.now u.now) }
+{
+    let first = chosen(side, before, point, u);
+    let best = chosen(side, &first, after, u);
+    match best.fix(u) {
+        Ok(constant) => Ok(constant),
+        Err(refused) => Err(OpFault::Wide(WidePair::Value {
+            p: best,
+            at: *u,
+            den: refused.den,
+        })),
+    }
+}
+
+/// The better of the shape and another one at the time, where that one counts.
+#[tactic(none)]
+fn or_better(side: Side, best: Margin, other: Option<Margin>, t: &Frac) -> Margin {
+    match other {
+        Some(other) => chosen(side, &best, &other, t),
+        None => best,
+    }
+}
+
+/// The earlier of a time and another, if there is one.
+#[tactic(none)]
+fn first_of(t: &Frac, other: &Option<Frac>) -> Frac {
+    match other {
+        Some(u) => earlier(t, u),
+        None => *t,
+    }
+}
+
+impl Gap {
+    /// When the end of a window that is `by` later comes to the end of the gap.
+    #[tactic(none)]
+    fn leaves(&self, by: i64) -> Option<Frac> {
+        match self.until {
+            Some(until) => Some(until.shift(-by)),
+            None => None,
+        }
+    }
+}
+
+impl Sweep {
+    /// A window that has not begun.
+    #[tactic(none)]
+    pub(crate) fn new(alloc: Global, window: Window, start: u32) -> Sweep {
+        let begin = i64::from(start);
+        let start = Frac::of(begin);
+        let none = of_none(window.side);
+        let before = Gap::nothing(none, Some(start));
+        Sweep {
+            window,
+            start,
+            none,
+            place: Place {
+                at: Frac::of(begin - 4294967296),
+                low: before,
+                high: before,
+            },
+            among: Queue::new(alloc, window.side),
+            last: None,
+        }
+    }
+
+    /// Whether a knot at the time may come strictly into a window after the start.
+    fn counts(&self, u: &Frac) -> bool
+        requires { (x : Scope) × IsFitWindow self.now.window x.reach × IsTick (value self.now.start) }
+        ensures { IsTrue result ↔ shifted (value self.now.start) self.now.window.low <ʳ value u.now }
+    {
+        match self.start.shift(self.window.low).cmp(u) {
+            Ordering::Less => true,
+            _ => false,
+        }
+    }
+
+    /// Whether a mark gives no constant: it is no knot, or comes strictly into no window after the start.
+    fn is_plain(&self, before: &Margin, point: &Margin, after: &Margin, u: &Frac) -> bool
+        requires window { (x : Scope) × IsFitWindow self.now.window x.reach × IsTick (value self.now.start) }
+        requires within { IsWithin (2 ^ 34) (value u.now) }
+        ensures plain { IsTrue result → (value u.now ≤ʳ shifted (value self.now.start) self.now.window.low)
+            ⊎ IsOneLine before.now point.now after.now (value u.now) }
+        ensures counts { result ≡ false → shifted (value self.now.start) self.now.window.low <ʳ value u.now }
+        ensures knot { result ≡ false → IsOneLine before.now point.now after.now (value u.now) → ⊥ }
+    {
+        if self.counts(u) {
+            return is_one(before, point, after, u);
+        }
+        true
+    }
+
+    /// The high end stands on a point, and goes on: the gap behind it is known.
+    fn go_high(&mut self, edges: &mut Edges) -> Result<(), OpFault<Margin>>
+        requires { (x : Scope) × IsAt x self.old edges.old × IsHigh x self.old }
+        ensures stands { (x : Scope) → IsAt x self.old edges.old → IsHigh x self.old
+            → OnOk result (IsAt x self.new edges.new × IsBefore (high_at x self.new.window) self.new.place.high.until) }
+        ensures kept { OnOk result (Keeps self.old self.new × (self.new.place.low ≡ self.old.place.low)) }
+        ensures shed { OnOk result ((limit : Rational) → Sheds limit self.old.window.of edges.old edges.new) }
+        ensures wide { (x : Scope) → IsAt x self.old edges.old → IsHigh x self.old → IfErr result (IsUnfixedHigh x self.old) }
+    {
+        let line = edges.pass(self.window.of);
+        let u = line.end();
+        let point = line.margin();
+        let next = enter(edges, self.window.of, self.none);
+        if self.is_plain(&self.place.high.shape, &point, &next.shape, &u) {
+            self.place.high = next;
+            return Ok(());
+        }
+        let constant = frozen(
+            self.window.side,
+            &self.place.high.shape,
+            &point,
+            &next.shape,
+            &u,
+        )?;
+        self.among.come(constant)?;
+        self.place.high = next;
+        Ok(())
+    }
+
+    /// Takes the gap about the low end, if it stands on the edge.
+    fn drop_gap(&self, edges: &mut Edges)
+        requires { self.now.window.of < length edges.old.edges }
+        ensures { MatchBool self.now.place.low.stands
+            ((edges.new.edges ≡ with_edge edges.old self.now.window.of (without 1 (edge_at edges.old self.now.window.of))) × (edges.new.start ≡ edges.old.start))
+            (edges.new ≡ edges.old) }
+    {
+        if self.place.low.stands {
+            let _ = edges.take(self.window.of);
+        }
+    }
+
+    /// The low end stands on a point, and goes on. It gives the margin of the point.
+    fn go_low(&mut self, edges: &mut Edges) -> Result<Margin, Memory>
+        requires { (x : Scope) × IsAt x self.old edges.old × IsLow x self.old }
+        ensures stands { (x : Scope) → IsAt x self.old edges.old → IsLow x self.old
+            → OnOk result (IsAt x self.new edges.new × IsBefore (low_at x self.new.window) self.new.place.low.until) }
+        ensures point { (x : Scope) → IsAt x self.old edges.old → IsLow x self.old
+            → IfOk result (IsThere (input_of x self.old.window.side) x.reach (low_at x self.old.window)) }
+        ensures kept { OnOk result (Keeps self.old self.new × (self.new.place.high ≡ self.old.place.high)) }
+        ensures shed { (x : Scope) → IsAt x self.old edges.old → IsLow x self.old
+            → OnOk result (Sheds (low_at x self.old.window) self.old.window.of edges.old edges.new) }
+    {
+        self.drop_gap(edges);
+        let Some(line) = edges.take(self.window.of) else {
+            unreachable!()
+        };
+        let u = line.end();
+        let point = line.margin();
+        let next = front(edges, self.window.of, self.none);
+        if self.is_plain(&self.place.low.shape, &point, &next.shape, &u) {
+            self.place.low = next;
+            return Ok(point);
+        }
+        self.among.leave()?;
+        self.place.low = next;
+        Ok(point)
+    }
+
+    /// What counts between here and the next time at which that may change.
+    #[tactic(none)]
+    fn best(&self) -> Best<Margin> {
+        let top = match self.among.top() {
+            Some(top) => top,
+            None => self.none,
+        };
+        Best {
+            top,
+            low: Some(self.place.low.shape.shift(self.window.low)),
+            high: Some(self.place.high.shape.shift(self.window.high)),
+        }
+    }
+
+    /// The next time at which what counts may change, or the time `to`.
+    #[tactic(none)]
+    fn next_stop(&self, to: &Frac) -> Frac {
+        let t = first_of(to, &self.place.high.leaves(self.window.high));
+        first_of(&t, &self.place.low.leaves(self.window.low))
+    }
+
+    /// The point under the high end at the time, where it stands on one and that end is in.
+    #[tactic(none)]
+    fn high_point(&self, edges: &Edges, t: &Frac) -> Option<Margin> {
+        if !self.window.high_in || !is_at(t, &self.place.high.leaves(self.window.high)) {
+            return None;
+        }
+        match edges.next(self.window.of) {
+            Some(line) => Some(line.margin().shift(self.window.high)),
+            None => None,
+        }
+    }
+
+    /// The low end comes to the time: where it stands on a point it goes on, and the point is given if that end is in.
+    #[tactic(none)]
+    fn low_point(&mut self, edges: &mut Edges, t: &Frac) -> Result<Option<Margin>, Memory> {
+        if !is_at(t, &self.place.low.leaves(self.window.low)) {
+            return Ok(None);
+        }
+        let point = self.go_low(edges)?;
+        if self.window.low_in {
+            return Ok(Some(point.shift(self.window.low)));
+        }
+        Ok(None)
+    }
+
+    /// Goes on to the next time at which what counts may change, or to the time `to`.
+    #[tactic(none)]
+    fn go_on(&mut self, edges: &mut Edges, to: &Frac) -> Result<Gone, OpFault<Margin>> {
+        let side = self.window.side;
+        if is_at(&self.place.at, &self.place.high.leaves(self.window.high)) {
+            self.go_high(edges)?;
+        }
+        let t = self.next_stop(to);
+        let best = self.best();
+        let at_high = self.high_point(edges, &t);
+        let at_low = self.low_point(edges, &t)?;
+        let inside = self.best();
+        let limits = or_better(
+            side,
+            or_better(side, inside.top, inside.low, &t),
+            inside.high,
+            &t,
+        );
+        let value = or_better(side, or_better(side, limits, at_high, &t), at_low, &t);
+        self.place.at = t;
+        Ok(Gone {
+            best,
+            to: Reached { at: t, value },
+        })
+    }
+
+    /// Goes on to the start.
+    #[tactic(none)]
+    fn begin(&mut self, edges: &mut Edges) -> Result<Reached, OpFault<Margin>> {
+        if let Some(reached) = self.last {
+            return Ok(reached);
+        }
+        let start = self.start;
+        let mut reached = Reached {
+            at: self.place.at,
+            value: self.none,
+        };
+        while let Ordering::Less = reached.at.cmp(&start) {
+            reached = self.go_on(edges, &start)?.to;
+        }
+        Ok(reached)
+    }
+
+    /// Goes on, and tells the margins on the way.
+    #[tactic(none)]
+    fn tell_on(
+        &mut self,
+        edges: &mut Edges,
+        built: &mut Builder<Margin>,
+        to: &Frac,
+    ) -> Result<Reached, OpFault<Margin>> {
+        let gone = self.go_on(edges, to)?;
+        let mut fault = None;
+        match write(
+            self.window.side,
+            built,
+            &gone.best,
+            &gone.to.at,
+            gone.to.value,
+            &mut fault,
+        ) {
+            Ok(()) => Ok(gone.to),
+            Err(Memory) => Err(refused(fault)),
+        }
+    }
+
+    /// The margins from where they were told before, or from the start, on up to a time.
+    ///
+    /// # Errors
+    ///
+    /// `Wide` for what is in play below that time; `Memory` where there is no memory. It is of no use then.
+    #[tactic(none)]
+    pub(crate) fn sweep(
+        &mut self,
+        alloc: Global,
+        edges: &mut Edges,
+        to: &Frac,
+    ) -> Result<Signal<Margin>, OpFault<Margin>> {
+        let mut reached = self.begin(edges)?;
+        let mut built = Builder::start(alloc, reached.at, reached.value)?;
+        while let Ordering::Less = reached.at.cmp(to) {
+            reached = self.tell_on(edges, &mut built, to)?;
+        }
+        self.last = Some(reached);
+        Ok(built.finish())
+    }
+}
+
+/// What was refused, or want of memory.
+fn refused(fault: Option<WidePair<Margin>>) -> OpFault<Margin> {
+    match fault {
+        Some(pair) => OpFault::Wide(pair),
+        None => OpFault::Memory,
+    }
+}
