@@ -17,3 +17,7 @@ pub mod HighLemmas
 pub mod FrozenLemmas
 pub mod LowLemmas
 pub mod WindowFits
+pub mod WindowStops
+pub mod WindowPoints
+pub mod WindowTurns
+pub mod WindowSteps

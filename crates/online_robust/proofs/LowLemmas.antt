@@ -44,7 +44,7 @@ before_own Q reach from low (k ∷ marks) runs = by_until low.until runs.1
     by_until (Some u) e = lt_of_lt_of_le runs.2 (ge_of_same e)
 
 module _ (x : Scope) (w : Window) (begin : Frac) (none : Margin) (low high : Gap) (q : Queue Margin) (seen fresh : List MarginLine) (l h : Rational)
-    (s : IsSpread x w begin none low high q seen fresh l h) (ends : EndsAt low.until l) (order : l <ʳ h) where
+    (s : IsSpread x w begin none low high q seen fresh l h) (ends : EndsAt low.until l) (ahead : Rational) (order : l <ʳ ahead) (reaches : IsUpTo ahead high.until) where
   -- what the low end stands on: the first mark
   pub record Leaves : Type 0 where
     pub k : Mark
@@ -66,7 +66,7 @@ module _ (x : Scope) (w : Window) (begin : Frac) (none : Margin) (low high : Gap
   by_marks : (ms : List Mark) → s.marks ≡ ms → Leaves
   by_marks [] e =
       let last : high ≡ low = s.last ∙ ap (last_gap low) e in
-      absurd (lt_irrefl (lt_of_lt_of_le order (ends_up high.until (subst (λ (g : Gap). EndsAt g.until l) (sym last) ends) s.high_later)))
+      absurd (lt_irrefl (lt_of_lt_of_le order (ends_up high.until (subst (λ (g : Gap). EndsAt g.until l) (sym last) ends) reaches)))
   by_marks (k ∷ marks) e =
       let runs = subst (Runs (input_of x w.side) x.reach s.from low) e s.runs in
       let seen' = subst (λ (ms : List Mark). AreSeen low ms seen) e s.seen_is in
@@ -274,9 +274,9 @@ module _ (x : Scope) (s : Sweep) (e mid : Held) (at : IsAt x s e) (low : IsLow x
     ((mid.edges ≡ with_edge e s.window.of (without 1 (edge_at e s.window.of))) × (mid.start ≡ e.start)) (mid ≡ e)) where
   -- what the low end of the window leaves
   pub leaving : Leaves x s.window s.start s.none s.place.low s.place.high s.among (edge_at e s.window.of).seen (fresh_at e s.window.of)
-      (low_at x s.window) (high_at x s.window) at.spread low.ends low.order
+      (low_at x s.window) (high_at x s.window) at.spread low.ends low.ahead low.order low.reaches
   leaving = leaves x s.window s.start s.none s.place.low s.place.high s.among (edge_at e s.window.of).seen (fresh_at e s.window.of)
-      (low_at x s.window) (high_at x s.window) at.spread low.ends low.order
+      (low_at x s.window) (high_at x s.window) at.spread low.ends low.ahead low.order low.reaches
 
   first_line : slice_get (held_at mid s.window.of) 0 ≡ Some (L.Point leaving.k.at leaving.k.point)
   first_line = point_first s.window.of e mid mid s.place.low leaving.k leaving.rest (low_at x s.window) at.within leaving.front dropped low.ends leaving.here
@@ -364,7 +364,7 @@ module _ (x : Scope) (s : Sweep) (e mid : Held) (at : IsAt x s e) (low : IsLow x
         (high_at x s.window)
     plain_spread plain = placed s.among
         (left_plain x s.window s.start s.none s.place.low s.place.high s.among (edge_at e s.window.of).seen (fresh_at e s.window.of)
-        (low_at x s.window) (high_at x s.window) at.spread low.ends low.order leaving plain)
+        (low_at x s.window) (high_at x s.window) at.spread low.ends low.ahead low.order low.reaches leaving plain)
 
     pub frozen_spread : (q : Queue Margin) → ¬ IsNoKnot (shifted (start x.trace) s.window.low) s.place.low leaving.k → q.side ≡ s.among.side
         → ((d : Margin) (cs : List Margin)
@@ -374,12 +374,12 @@ module _ (x : Scope) (s : Sweep) (e mid : Held) (at : IsAt x s e) (low : IsLow x
         (high_at x s.window)
     frozen_spread q knot same leave = placed q
         (left_frozen x s.window s.start s.none s.place.low s.place.high s.among (edge_at e s.window.of).seen (fresh_at e s.window.of)
-        (low_at x s.window) (high_at x s.window) at.spread low.ends low.order leaving q knot same leave)
+        (low_at x s.window) (high_at x s.window) at.spread low.ends low.ahead low.order low.reaches leaving q knot same leave)
 
     pub before_goes : IsBefore (low_at x s.window) next.until
     before_goes = subst (λ (g : Gap). IsBefore (low_at x s.window) g.until) (sym next_is)
         (low_goes x s.window s.start s.none s.place.low s.place.high s.among (edge_at e s.window.of).seen (fresh_at e s.window.of)
-        (low_at x s.window) (high_at x s.window) at.spread low.ends low.order leaving)
+        (low_at x s.window) (high_at x s.window) at.spread low.ends low.ahead low.order low.reaches leaving)
 
     -- the point, as the input has it where the low end is
     pub point_there : (m : Margin) → m ≡ margin_of line → IsThere (input_of x s.window.side) x.reach (low_at x s.window) m

@@ -209,7 +209,7 @@ module _ (x : Scope) (w : Wide) (begin : Frac) (none : Margin) (low high : Gap) 
         by_kind (inr b) = subst
             (AreUnder (input_of x w.side) x.reach (input_is_function x w.side) w.side (shifted (start x.trace) w.low) (shifted t w.high) v) (sym b.0) tt
 
-    top_one : (v : Extended) → IsNoBetter w.side v (value_at (margin_function top) t)
+    pub top_one : (v : Extended) → IsNoBetter w.side v (value_at (margin_function top) t)
         → IsOneOf (input_of x w.side) x.reach (input_is_function x w.side) w.side (none_of w.side minus_infinity infinity)
         (shifted (start x.trace) w.low) (shifted t w.low) h (shifted t w.high) low s.marks s.constants (times_of w t) v
     top_one v le = by_kind is_top.best

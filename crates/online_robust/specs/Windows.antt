@@ -1,35 +1,41 @@
 -- Where a window stands over its input, and what it tells.
-use Rattle.std.specs.Prelude.{◌≡◌, ◌≢◌, ◌⊎◌, ℕ, ℤ, pos, neg_ℤ, ◌+◌, ◌<◌, ◌≤◌, ◌^◌, ◌≤ℤ◌, ◌<ℤ◌, Bool, true, false, List, [], ◌∷◌, length, drop, slice_get, IfSome, Option, Some, None, MatchBool}
+use Rattle.std.specs.Prelude.{◌≡◌, ◌≢◌, ◌⊎◌, ℕ, ℤ, pos, neg_ℤ, ◌-ℤ◌, IsTrue, ◌+◌, ◌<◌, ◌≤◌, ◌^◌, ◌≤ℤ◌, ◌<ℤ◌, Bool, true, false, List, [], ◌∷◌, length, drop, slice_get, IfSome, Option, Some, None, MatchBool}
+use Rattle.rational.specs.Rational.{IsWithin}
 use Rattle.rational.specs.Time.{Rational, HasDenominator, Within, Precedes, shifted, whole, ◌≈◌, ◌≤ʳ◌, ◌<ʳ◌}
-use Rattle.rational.specs.Extended.{Extended, minus_infinity, finite, infinity, value_at, ◌≈ᵉ◌}
+use Rattle.rational.specs.Extended.{Affine, Extended, minus_infinity, finite, infinity, value_at, ◌≈ᵉ◌}
 use Rattle.rational.specs.Windows.{Function}
 use Rattle.frac128.specs.Value.{value}
 use Rattle.frac128.specs.declared.frac.Frac.{Frac}
-use Rattle.value_laws.specs.Margins.{margin_function}
+use Rattle.value_laws.specs.Kinds.{margin_shape}
+use Rattle.value_laws.specs.Margins.{is_ramp, margin_base, margin_function}
 use Rattle.value_laws.specs.declared.margin.Margin.{Margin}
 use Rattle.pl_signal.specs.declared.joining.Side.{Side}
 use Rattle.pl_signal.specs.declared.faults.WidePair.TheVariants.{Cross, Value}
 use Rattle.pl_signal.specs.declared.faults.OpFault.{OpFault}
 use Rattle.pl_signal.specs.declared.faults.OpFault.TheVariants as F
-use Rattle.envelope.specs.Turns.{none_of}
+use Rattle.envelope.specs.Best.{IsBestAt}
+use Rattle.envelope.specs.declared.best.Best.{Best}
+use Rattle.envelope.specs.Turns.{IsNoBetter, none_of}
 use Rattle.window_ops.specs.Over.{IsBestOver}
 use Rattle.stl_syntax.specs.Trace.{Trace, start, stop}
 use Rattle.stl_syntax.specs.Formula.{Subformula}
 use Rattle.stl_syntax.specs.SupInf.{Robustness}
 use Rattle.online_robust.specs.Lines.{end_of, margin_of, IsOneLine}
 use Rattle.online_robust.specs.Held.{Held, edge_at, fresh_at, held_at}
-use Rattle.online_robust.specs.Queues.{StandsFor}
+use Rattle.online_robust.specs.Queues.{IsBest, StandsFor}
+use Rattle.online_robust.specs.Reading.{IsThere}
 use Rattle.online_robust.specs.Told.{AreFit, AreJoined, AreTold, IsMovedBy, IsTick}
 use Rattle.online_robust.specs.Sweeping.{AreBy, AreFrozen, AreTicks, EndsAt, IsBefore, IsOn, IsUpTo, Mark, Runs, last_gap, with_outside}
 use Rattle.online_robust.specs.declared.ends.Gap.{Gap}
 use Rattle.online_robust.specs.declared.line.MarginLine.{MarginLine}
+use Rattle.online_robust.specs.declared.line.Reached.{Reached}
 use Rattle.online_robust.specs.declared.line.MarginLine.TheVariants as L
 use Rattle.online_robust.specs.declared.queue.Queue.{Queue}
 use Rattle.online_robust.specs.declared.window.Sweep.{Sweep}
 use Rattle.online_robust.specs.declared.window.Window.{Window}
 
--- the input of a window in a trace, by how much its bases were moved, up to where it is told, and how far its high end comes, and the time
--- from which its ends are counted
+-- the input of a window in a trace, by how much its bases were moved, up to where it is told, and how far its high end comes, and the times
+-- from which its low end and its high end are counted
 pub record Scope : Type 0 where
   pub formula : Subformula
   pub trace : Trace
@@ -37,6 +43,7 @@ pub record Scope : Type 0 where
   pub front : Rational
   pub bound : Rational
   pub at : Rational
+  pub behind : Rational
 
 -- the input, and outside the domain the value of no values
 abbrev pub input_of : Scope → Side → Function
@@ -123,7 +130,7 @@ abbrev pub low_at : Scope → Window → Rational
 low_at x w = shifted x.at w.low
 
 abbrev pub high_at : Scope → Window → Rational
-high_at x w = shifted x.at w.high
+high_at x w = shifted x.behind w.high
 
 -- the window stands over its input at the time
 pub record IsAt (x : Scope) (s : Sweep) (e : Held) : Type 0 where
@@ -189,7 +196,84 @@ abbrev pub IsUnfixedHigh : Scope → Sweep → OpFault Margin → Type 0
 IsUnfixedHigh x s F.Memory = Unit {0}
 IsUnfixedHigh x s (F.Wide pair) = IsUnfixedKnot x s (F.Wide pair)
 
--- the low end stands on the end of the gap about it, before the high end
+-- the low end stands on the end of the gap about it, before a time to which the gap about the high end goes
 pub record IsLow (x : Scope) (s : Sweep) : Type 0 where
   pub ends : EndsAt s.place.low.until (low_at x s.window)
-  pub order : low_at x s.window <ʳ high_at x s.window
+  pub ahead : Rational
+  pub order : low_at x s.window <ʳ ahead
+  pub reaches : IsUpTo ahead s.place.high.until
+
+-- the gap has no end, or one of 32 bits
+abbrev pub IsTickEnd : Option Frac → Type 0
+IsTickEnd None = Unit {0}
+IsTickEnd (Some u) = IsTick (value u)
+
+-- the time at which the end of a window that is `by` later comes to the end of the gap, if it has one
+abbrev pub LeavesAt : Option Frac → ℤ → Option Frac → Type 0
+LeavesAt None by r = r ≡ None
+LeavesAt (Some u) by r = (f : Frac) × (r ≡ Some f) × (shifted (value f) by ≈ value u)
+
+-- the shape is the other one, moved
+pub record IsShifted (p : Margin) (k : ℤ) (q : Margin) : Type 0 where
+  pub value : (t : Rational) → value_at (margin_function q) t ≈ᵉ value_at (margin_function p) (shifted t k)
+  pub base : IsTrue (is_ramp q) → IsTrue (is_ramp p) × (margin_base q ≡ margin_base p -ℤ k)
+
+-- the constant that counts: the best of those between the ends, or the value of no times where there is none
+abbrev pub IsTopOf : (Margin → Affine) → Side → Margin → List Margin → Margin → Type 0
+IsTopOf function side none cs top = IsBest function side cs top ⊎ ((cs ≡ []) × (top ≡ none))
+
+-- no end of the window comes past the end of its gap before that time, which is the end of the stretch or that of a gap
+pub record IsNextStop (s : Sweep) (to t : Rational) : Type 0 where
+  pub by : t ≤ʳ to
+  pub high : IsUpTo (shifted t s.window.high) s.place.high.until
+  pub low : IsUpTo (shifted t s.window.low) s.place.low.until
+  pub one : (t ≡ to) ⊎ EndsAt s.place.high.until (shifted t s.window.high) ⊎ EndsAt s.place.low.until (shifted t s.window.low)
+
+-- the point under an end that is in, moved back by that end's offset; none where the end is out or stands on no point
+abbrev pub IsPointOf : Function → ℕ → Bool → ℤ → Gap → Rational → Option Margin → Type 0
+IsPointOf Q reach inside by gap t None = (inside ≡ false) ⊎ (EndsAt gap.until (shifted t by) → ⊥)
+IsPointOf Q reach inside by gap t (Some m) =
+    (inside ≡ true) × EndsAt gap.until (shifted t by) × ((v : Margin) × IsThere Q reach (shifted t by) v × IsShifted v by m)
+
+-- the better of a shape and another one at a time, where that one counts
+pub record IsBetterOf (side : Side) (p : Margin) (other : Option Margin) (t : Rational) (m : Margin) : Type 0 where
+  pub one : (m ≡ p) ⊎ (other ≡ Some m)
+  pub left : IsNoBetter side (value_at (margin_function p) t) (value_at (margin_function m) t)
+  pub right : IfSome other (λ q. IsNoBetter side (value_at (margin_function q) t) (value_at (margin_function m) t))
+
+-- the best at a time of what counts about it, and of the points under the ends
+pub record IsOutcome (side : Side) (top : Margin) (low high at_high at_low : Option Margin) (t : Rational) (m : Margin) : Type 0 where
+  pub one : (m ≡ top) ⊎ (low ≡ Some m) ⊎ (high ≡ Some m) ⊎ (at_high ≡ Some m) ⊎ (at_low ≡ Some m)
+  pub of_top : IsNoBetter side (value_at (margin_function top) t) (value_at (margin_function m) t)
+  pub of_low : IfSome low (λ q. IsNoBetter side (value_at (margin_function q) t) (value_at (margin_function m) t))
+  pub of_high : IfSome high (λ q. IsNoBetter side (value_at (margin_function q) t) (value_at (margin_function m) t))
+  pub of_high_point : IfSome at_high (λ q. IsNoBetter side (value_at (margin_function q) t) (value_at (margin_function m) t))
+  pub of_low_point : IfSome at_low (λ q. IsNoBetter side (value_at (margin_function q) t) (value_at (margin_function m) t))
+
+-- the ends go by other times
+abbrev pub at_time : Scope → Rational → Rational → Scope
+at_time x at behind = record { formula = x.formula; trace = x.trace; reach = x.reach; front = x.front; bound = x.bound; at = at; behind = behind }
+
+-- both ends stand within the gaps about them, before a time to go to
+pub record IsOpen (x : Scope) (s : Sweep) (to : Rational) : Type 0 where
+  pub behind : x.behind ≡ x.at
+  pub within : IsWithin (2 ^ 34) x.at
+  pub to_within : IsWithin (2 ^ 34) to
+  pub before : x.at <ʳ to
+  pub low_before : IsBefore (low_at x s.window) s.place.low.until
+  pub high_before : IsBefore (high_at x s.window) s.place.high.until
+
+-- all but the place and the constants stays
+pub record Goes (old new : Sweep) : Type 0 where
+  pub window : new.window ≡ old.window
+  pub start : new.start ≡ old.start
+  pub none : new.none ≡ old.none
+  pub last : new.last ≡ old.last
+
+-- the best over the window was told from the time of the scope, which is left out, up to another one
+pub record IsGone (x : Scope) (w : Window) (to t : Rational) (best : Best Margin) (reached : Reached) : Type 0 where
+  pub here : value reached.at ≡ t
+  pub after : x.at <ʳ t
+  pub by : t ≤ʳ to
+  pub between : (u : Rational) → x.at <ʳ u → u <ʳ t → start x.trace ≤ʳ u → (v : Extended) → IsBestAt margin_shape w.side best u v → best_of x w u v
+  pub there : start x.trace ≤ʳ t → best_of x w t (value_at (margin_function reached.value) t)

@@ -1,6 +1,6 @@
 //! The windows with a low end: what stands about the two ends, and the best constant between them.
 
-ghost use Rattle.std.specs.Prelude.{◌≡◌, ◌⊎◌, ◌↔◌, ◌<◌, ◌^◌, ◌≢◌, Some, None, true, false, IsTrue, length, slice_get, IfOk, OnOk, IfErr, IfSome, MatchBool, MatchOption, MatchResult};
+ghost use Rattle.std.specs.Prelude.{◌≡◌, ◌⊎◌, ◌↔◌, ◌<◌, ◌^◌, ◌≢◌, List, Some, None, true, false, pos, neg_ℤ, ◌≤ℤ◌, IsTrue, length, slice_get, IfOk, OnOk, IfErr, IfSome, IsSomeAnd, MatchBool, MatchOption, MatchResult};
 ghost use Rattle.rational.specs.Rational.{Rational, IsWithin};
 ghost use Rattle.rational.specs.Time.{◌<ʳ◌, ◌≤ʳ◌, shifted};
 ghost use Rattle.rational.specs.Extended.{value_at};
@@ -8,14 +8,15 @@ ghost use Rattle.rational.specs.Affine.{IsBounded};
 ghost use Rattle.frac128.specs.Value.{value};
 ghost use Rattle.value_laws.specs.Margins.{margin_function};
 ghost use Rattle.online_robust.specs.Held.{edge_at, fresh_at, held_at, with_edge, with_read, without};
-ghost use Rattle.online_robust.specs.Sweeping.{IsBefore, IsFrozen};
+ghost use Rattle.online_robust.specs.Sweeping.{EndsAt, IsBefore, IsFrozen, IsUpTo};
 ghost use Rattle.online_robust.specs.Lines.{IsOneLine};
 ghost use Rattle.online_robust.specs.Reading.{IsThere};
-ghost use Rattle.online_robust.specs.Told.{IsTick};
-ghost use Rattle.online_robust.specs.Windows.{IsAt, IsFitWindow, IsHigh, IsUnfixed, IsUnfixedHigh, Keeps, Scope, Sheds, gap_of as gap_that, high_at, input_of, low_at, no_gap, IsLow};
+ghost use Rattle.online_robust.specs.Told.{IsMovedBy, IsTick};
+ghost use Rattle.online_robust.specs.Queues.{StandsFor};
+ghost use Rattle.online_robust.specs.Windows.{Goes, IsAt, IsBetterOf, IsFitWindow, IsGone, IsHigh, IsUnfixed, IsUnfixedHigh, Keeps, Scope, Sheds, IsLow, IsNextStop, IsOpen, IsOutcome, IsPointOf, IsShifted, IsTickEnd, IsTopOf, LeavesAt, at_time, gap_of as gap_that, high_at, input_of, low_at, no_gap};
 
 use crate::edges::Edges;
-use crate::ends::{Gap, is_at, is_one};
+use crate::ends::{Gap, is_one, is_same};
 use crate::line::{MarginLine, Reached};
 use crate::queue::Queue;
 use envelope::{Best, of_none, write};
@@ -127,17 +128,39 @@ fn frozen(
 }
 
 /// The better of the shape and another one at the time, where that one counts.
-#[tactic(none)]
-fn or_better(side: Side, best: Margin, other: Option<Margin>, t: &Frac) -> Margin {
+fn or_better(side: Side, best: Margin, other: Option<Margin>, t: &Frac) -> Margin
+    requires { IsWithin (2 ^ 34) (value t.now) }
+    ensures { IsBetterOf side best other (value t.now) result }
+{
     match other {
         Some(other) => chosen(side, &best, &other, t),
         None => best,
     }
 }
 
+/// The best at a time of what counts about it, and of the points under the ends.
+fn worth(
+    side: Side,
+    inside: &Best<Margin>,
+    at_high: Option<Margin>,
+    at_low: Option<Margin>,
+    t: &Frac,
+) -> Margin
+    requires { IsWithin (2 ^ 34) (value t.now) }
+    ensures { IsOutcome side inside.now.top inside.now.low inside.now.high at_high at_low (value t.now) result }
+{
+    let left = or_better(side, inside.top, inside.low, t);
+    let limits = or_better(side, left, inside.high, t);
+    let over = or_better(side, limits, at_high, t);
+    or_better(side, over, at_low, t)
+}
+
 /// The earlier of a time and another, if there is one.
-#[tactic(none)]
-fn first_of(t: &Frac, other: &Option<Frac>) -> Frac {
+fn first_of(t: &Frac, other: &Option<Frac>) -> Frac
+    ensures by { value result ≤ʳ value t.now }
+    ensures other { IfSome other.now (λ u. value result ≤ʳ value u) }
+    ensures one { (value result ≡ value t.now) ⊎ IsSomeAnd other.now (λ u. value result ≡ value u) }
+{
     match other {
         Some(u) => earlier(t, u),
         None => *t,
@@ -146,11 +169,29 @@ fn first_of(t: &Frac, other: &Option<Frac>) -> Frac {
 
 impl Gap {
     /// When the end of a window that is `by` later comes to the end of the gap.
-    #[tactic(none)]
-    fn leaves(&self, by: i64) -> Option<Frac> {
+    fn leaves(&self, by: i64) -> Option<Frac>
+        requires from { neg_ℤ (pos (2 ^ 32)) ≤ℤ by }
+        requires to { by ≤ℤ pos (2 ^ 32) }
+        requires tick { IsTickEnd self.now.until }
+        ensures { LeavesAt self.now.until by result }
+    {
         match self.until {
             Some(until) => Some(until.shift(-by)),
             None => None,
+        }
+    }
+
+    /// Whether the end of a window that is `by` later comes to the end of the gap at the time.
+    fn ends_at(&self, by: i64, t: &Frac) -> bool
+        requires from { neg_ℤ (pos (2 ^ 32)) ≤ℤ by }
+        requires to { by ≤ℤ pos (2 ^ 32) }
+        requires within { IsWithin (2 ^ 34) (value t.now) }
+        ensures yes { IsTrue result → EndsAt self.now.until (shifted (value t.now) by) }
+        ensures no { result ≡ false → EndsAt self.now.until (shifted (value t.now) by) → ⊥ }
+    {
+        match &self.until {
+            Some(until) => is_same(until, &t.shift(by)),
+            None => false,
         }
     }
 }
@@ -271,45 +312,106 @@ impl Sweep {
         Ok(point)
     }
 
-    /// What counts between here and the next time at which that may change.
-    #[tactic(none)]
-    fn best(&self) -> Best<Margin> {
-        let top = match self.among.top() {
+    /// The best of the constants between the ends, or the value of no times.
+    fn top(&self) -> Margin
+        ensures { (cs : List Margin) → StandsFor margin_function self.now.among.older.items self.now.among.newer.items self.now.among.side self.now.among.best cs
+            → IsTopOf margin_function self.now.among.side self.now.none cs result }
+    {
+        match self.among.top() {
             Some(top) => top,
             None => self.none,
-        };
+        }
+    }
+
+    /// What counts between here and the next time at which that may change.
+    fn best(&self) -> Best<Margin>
+        requires { (x : Scope) × IsFitWindow self.now.window x.reach × IsMovedBy x.reach self.now.place.low.shape × IsMovedBy x.reach self.now.place.high.shape }
+        ensures top { (cs : List Margin) → StandsFor margin_function self.now.among.older.items self.now.among.newer.items self.now.among.side self.now.among.best cs
+            → IsTopOf margin_function self.now.among.side self.now.none cs result.top }
+        ensures low { IsSomeAnd result.low (IsShifted self.now.place.low.shape self.now.window.low) }
+        ensures high { IsSomeAnd result.high (IsShifted self.now.place.high.shape self.now.window.high) }
+    {
+        let top = self.top();
+        let low = self.place.low.shape.shift(self.window.low);
+        let high = self.place.high.shape.shift(self.window.high);
         Best {
             top,
-            low: Some(self.place.low.shape.shift(self.window.low)),
-            high: Some(self.place.high.shape.shift(self.window.high)),
+            low: Some(low),
+            high: Some(high),
         }
     }
 
     /// The next time at which what counts may change, or the time `to`.
-    #[tactic(none)]
-    fn next_stop(&self, to: &Frac) -> Frac {
+    fn next_stop(&self, to: &Frac) -> Frac
+        requires window { (x : Scope) × IsFitWindow self.now.window x.reach }
+        requires low { IsTickEnd self.now.place.low.until }
+        requires high { IsTickEnd self.now.place.high.until }
+        ensures { IsNextStop self.now (value to.now) (value result) }
+    {
         let t = first_of(to, &self.place.high.leaves(self.window.high));
         first_of(&t, &self.place.low.leaves(self.window.low))
     }
 
     /// The point under the high end at the time, where it stands on one and that end is in.
-    #[tactic(none)]
-    fn high_point(&self, edges: &Edges, t: &Frac) -> Option<Margin> {
-        if !self.window.high_in || !is_at(t, &self.place.high.leaves(self.window.high)) {
-            return None;
+    fn high_point(&self, edges: &Edges, t: &Frac) -> Option<Margin>
+        requires at { (x : Scope) × IsAt x self.now edges.now × (x.behind ≡ value t.now) }
+        requires within { IsWithin (2 ^ 34) (value t.now) }
+        ensures { (x : Scope) → IsAt x self.now edges.now → x.behind ≡ value t.now
+            → IsPointOf (input_of x self.now.window.side) x.reach self.now.window.high_in self.now.window.high self.now.place.high (value t.now) result }
+    {
+        if self.window.high_in {
+            return self.under_high(edges, t);
         }
-        match edges.next(self.window.of) {
-            Some(line) => Some(line.margin().shift(self.window.high)),
-            None => None,
+        None
+    }
+
+    /// The point under the high end at the time, where it stands on one.
+    fn under_high(&self, edges: &Edges, t: &Frac) -> Option<Margin>
+        requires at { (x : Scope) × IsAt x self.now edges.now × (x.behind ≡ value t.now) }
+        requires within { IsWithin (2 ^ 34) (value t.now) }
+        ensures { (x : Scope) → IsAt x self.now edges.now → x.behind ≡ value t.now
+            → IsPointOf (input_of x self.now.window.side) x.reach true self.now.window.high self.now.place.high (value t.now) result }
+    {
+        if self.place.high.ends_at(self.window.high, t) {
+            let Some(line) = edges.next(self.window.of) else {
+                unreachable!()
+            };
+            return Some(line.margin().shift(self.window.high));
         }
+        None
     }
 
     /// The low end comes to the time: where it stands on a point it goes on, and the point is given if that end is in.
-    #[tactic(none)]
-    fn low_point(&mut self, edges: &mut Edges, t: &Frac) -> Result<Option<Margin>, Memory> {
-        if !is_at(t, &self.place.low.leaves(self.window.low)) {
-            return Ok(None);
+    fn low_point(&mut self, edges: &mut Edges, t: &Frac) -> Result<Option<Margin>, Memory>
+        requires at { (x : Scope) × IsAt x self.old edges.old × (x.at ≡ value t.now) }
+        requires within { IsWithin (2 ^ 34) (value t.now) }
+        requires reaches { IsUpTo (shifted (value t.now) self.old.window.high) self.old.place.high.until }
+        ensures stands { (x : Scope) → IsAt x self.old edges.old → x.at ≡ value t.now
+            → OnOk result (IsAt x self.new edges.new × IsBefore (low_at x self.new.window) self.new.place.low.until) }
+        ensures point { (x : Scope) → IsAt x self.old edges.old → x.at ≡ value t.now
+            → IfOk result (IsPointOf (input_of x self.old.window.side) x.reach self.old.window.low_in self.old.window.low self.old.place.low (value t.now)) }
+        ensures kept { OnOk result (Keeps self.old self.new × (self.new.place.high ≡ self.old.place.high)) }
+        ensures shed { (x : Scope) → IsAt x self.old edges.old → x.at ≡ value t.now
+            → OnOk result (Sheds (low_at x self.old.window) self.old.window.of edges.old edges.new) }
+        ensures stays { ¬ EndsAt self.old.place.low.until (shifted (value t.now) self.old.window.low) → OnOk result (self.new ≡ self.old) }
+    {
+        if self.place.low.ends_at(self.window.low, t) {
+            return self.under_low(edges);
         }
+        Ok(None)
+    }
+
+    /// The low end stands on a point, and goes on. It gives the margin of the point, if that end is in.
+    fn under_low(&mut self, edges: &mut Edges) -> Result<Option<Margin>, Memory>
+        requires { (x : Scope) × IsAt x self.old edges.old × IsLow x self.old }
+        ensures stands { (x : Scope) → IsAt x self.old edges.old → IsLow x self.old
+            → OnOk result (IsAt x self.new edges.new × IsBefore (low_at x self.new.window) self.new.place.low.until) }
+        ensures point { (x : Scope) → IsAt x self.old edges.old → IsLow x self.old
+            → IfOk result (IsPointOf (input_of x self.old.window.side) x.reach self.old.window.low_in self.old.window.low self.old.place.low x.at) }
+        ensures kept { OnOk result (Keeps self.old self.new × (self.new.place.high ≡ self.old.place.high)) }
+        ensures shed { (x : Scope) → IsAt x self.old edges.old → IsLow x self.old
+            → OnOk result (Sheds (low_at x self.old.window) self.old.window.of edges.old edges.new) }
+    {
         let point = self.go_low(edges)?;
         if self.window.low_in {
             return Ok(Some(point.shift(self.window.low)));
@@ -317,30 +419,53 @@ impl Sweep {
         Ok(None)
     }
 
+    /// Where the high end stands on a point, it goes on.
+    fn high_on(&mut self, edges: &mut Edges) -> Result<(), OpFault<Margin>>
+        requires at { (x : Scope) × IsAt x self.old edges.old × (x.behind ≡ value self.old.place.at) × (high_at x self.old.window <ʳ x.bound) }
+        requires within { IsWithin (2 ^ 34) (value self.old.place.at) }
+        ensures stands { (x : Scope) → IsAt x self.old edges.old → x.behind ≡ value self.old.place.at → high_at x self.old.window <ʳ x.bound
+            → OnOk result (IsAt x self.new edges.new × IsBefore (high_at x self.new.window) self.new.place.high.until) }
+        ensures kept { OnOk result (Keeps self.old self.new × (self.new.place.low ≡ self.old.place.low)) }
+        ensures shed { OnOk result ((limit : Rational) → Sheds limit self.old.window.of edges.old edges.new) }
+        ensures wide { (x : Scope) → IsAt x self.old edges.old → x.behind ≡ value self.old.place.at → high_at x self.old.window <ʳ x.bound
+            → IfErr result (IsUnfixedHigh x self.old) }
+    {
+        if self.place.high.ends_at(self.window.high, &self.place.at) {
+            return self.go_high(edges);
+        }
+        Ok(())
+    }
+
+    /// Both ends stand within their gaps. Goes on to the next time at which what counts may change, or to the time `to`.
+    fn go_to(&mut self, edges: &mut Edges, to: &Frac) -> Result<Gone, Memory>
+        requires { (x : Scope) × IsAt x self.old edges.old × IsOpen x self.old (value to.now) }
+        ensures stands { (x : Scope) → IsAt x self.old edges.old → IsOpen x self.old (value to.now)
+            → OnOk result (IsAt (at_time x (value self.new.place.at) (value self.new.place.at)) self.new edges.new
+            × IsBefore (shifted (value self.new.place.at) self.new.window.low) self.new.place.low.until) }
+        ensures told { (x : Scope) → IsAt x self.old edges.old → IsOpen x self.old (value to.now)
+            → IfOk result (λ gone. IsGone x self.old.window (value to.now) (value self.new.place.at) gone.best gone.to) }
+        ensures kept { OnOk result (Goes self.old self.new) }
+        ensures shed { (x : Scope) → IsAt x self.old edges.old → IsOpen x self.old (value to.now)
+            → OnOk result (Sheds (shifted (value self.new.place.at) self.old.window.low) self.old.window.of edges.old edges.new) }
+    {
+        let t = self.next_stop(to);
+        let before = self.best();
+        let at_high = self.high_point(edges, &t);
+        let at_low = self.low_point(edges, &t)?;
+        let after = self.best();
+        let value = worth(self.window.side, &after, at_high, at_low, &t);
+        self.place.at = t;
+        Ok(Gone {
+            best: before,
+            to: Reached { at: t, value },
+        })
+    }
+
     /// Goes on to the next time at which what counts may change, or to the time `to`.
     #[tactic(none)]
     fn go_on(&mut self, edges: &mut Edges, to: &Frac) -> Result<Gone, OpFault<Margin>> {
-        let side = self.window.side;
-        if is_at(&self.place.at, &self.place.high.leaves(self.window.high)) {
-            self.go_high(edges)?;
-        }
-        let t = self.next_stop(to);
-        let best = self.best();
-        let at_high = self.high_point(edges, &t);
-        let at_low = self.low_point(edges, &t)?;
-        let inside = self.best();
-        let limits = or_better(
-            side,
-            or_better(side, inside.top, inside.low, &t),
-            inside.high,
-            &t,
-        );
-        let value = or_better(side, or_better(side, limits, at_high, &t), at_low, &t);
-        self.place.at = t;
-        Ok(Gone {
-            best,
-            to: Reached { at: t, value },
-        })
+        self.high_on(edges)?;
+        Ok(self.go_to(edges, to)?)
     }
 
     /// Goes on to the start.
