@@ -1,9 +1,9 @@
 -- The best of two limits and a value at a time.
-use Rattle.std.proofs.Common.{◌≡◌, ◌⊎◌, inl, inr, ℕ, ◌^◌, refl, sym, ap, subst, ◌∙◌}
+use Rattle.std.proofs.Common.{◌≡◌, ◌⊎◌, inl, inr, ℕ, ◌^◌, refl, sym, ap, subst, ◌∙◌, false}
 use Rattle.rational.specs.Time.{Rational}
 use Rattle.rational.specs.Extended.{Extended, value_at, ◌≈ᵉ◌}
 use Rattle.rational.specs.Affine.{IsBounded}
-use Rattle.value_laws.specs.Margins.{margin_function}
+use Rattle.value_laws.specs.Margins.{is_ramp, margin_function}
 use Rattle.value_laws.specs.declared.margin.Margin.{Margin}
 use Rattle.pl_signal.specs.declared.joining.Side.{Side}
 use Rattle.pl_signal.specs.Joining.{IsChosen}
@@ -35,15 +35,16 @@ module _ (side : Side) (before point after first best : Margin) (u : Rational) (
       by_three (inr (inr e)) = subst (λ (m : Margin). IsBounded (2 ^ 31) (value_at (margin_function m) u)) (sym e) c
 
   -- fixed as a constant it is the best of them
-  pub three_frozen : (c : Margin) → ((t : Rational) → value_at (margin_function c) t ≈ᵉ value_at (margin_function best) u)
+  pub three_frozen : (c : Margin) → ((t : Rational) → value_at (margin_function c) t ≈ᵉ value_at (margin_function best) u) → is_ramp c ≡ false
       → IsFrozen side before point after u c
-  three_frozen c constant =
+  three_frozen c constant still =
       let better = chosen_better side (value_at (margin_function before) u) (value_at (margin_function point) u) (value_at (margin_function first) u) chosen in
       let better' = chosen_better side (value_at (margin_function first) u) (value_at (margin_function after) u) (value_at (margin_function best) u) chosen' in
       record {
         of = best;
         one = of_three;
         constant = constant;
+        still = still;
         left = no_better_trans side (value_at (margin_function before) u) (value_at (margin_function first) u) (value_at (margin_function best) u)
             better.left better'.left;
         there = no_better_trans side (value_at (margin_function point) u) (value_at (margin_function first) u) (value_at (margin_function best) u)

@@ -21,3 +21,6 @@ pub mod WindowStops
 pub mod WindowPoints
 pub mod WindowTurns
 pub mod WindowSteps
+pub mod Sheddings
+pub mod WindowBounds
+pub mod WindowTelling

@@ -1,10 +1,11 @@
 -- How a window goes on to its next stop.
-use Rattle.std.proofs.Common.{◌≡◌, ◌⊎◌, inl, inr, ℕ, ℤ, ◌^◌, Bool, true, false, List, [], ◌∷◌, Option, Some, None, refl, sym, ap, subst, ◌∙◌}
+use Rattle.std.proofs.Common.{◌≡◌, ◌⊎◌, inl, inr, ℕ, ℤ, ◌+◌, ◌^◌, Bool, true, false, List, [], ◌∷◌, Option, Some, None, refl, sym, ap, subst, ◌∙◌}
 use Rattle.std.specs.Prelude.{IsSomeAnd}
 use Rattle.rational.specs.Rational.{IsWithin}
 use Rattle.rational.specs.Time.{Rational, ◌≈◌, ◌≤ʳ◌, ◌<ʳ◌, shifted}
 use Rattle.rational.specs.Extended.{Extended, value_at}
 use Rattle.rational.specs.Windows.{Function}
+use Rattle.rational.specs.Affine.{IsBounded}
 use Rattle.rational.proofs.Order.{ge_of_same, le_of_lt, le_of_same, le_refl, le_trans, lt_of_le_of_lt, same_sym}
 use Rattle.frac128.specs.Value.{value}
 use Rattle.frac128.specs.declared.frac.Frac.{Frac}
@@ -12,7 +13,7 @@ use Rattle.value_laws.specs.Kinds.{margin_shape}
 use Rattle.value_laws.specs.Margins.{margin_function}
 use Rattle.value_laws.specs.declared.margin.Margin.{Margin}
 use Rattle.pl_signal.specs.declared.joining.Side.{Side}
-use Rattle.envelope.specs.Best.{IsBestAt}
+use Rattle.envelope.specs.Best.{Has, IsBestAt}
 use Rattle.envelope.specs.declared.best.Best.{Best}
 use Rattle.stl_syntax.specs.Trace.{start}
 use Rattle.window_ops.proofs.Ends.{le_shifted, lt_shifted, lt_shifted_back}
@@ -20,7 +21,7 @@ use Rattle.online_robust.specs.Held.{Held, edge_at, fresh_at}
 use Rattle.online_robust.specs.Queues.{StandsFor}
 use Rattle.online_robust.specs.Sweeping.{AreTicks, EndsAt, IsBefore, IsUpTo, Mark, Runs, last_gap}
 use Rattle.online_robust.specs.Told.{AreFit, IsMovedBy, IsTick}
-use Rattle.online_robust.specs.Windows.{IsAt, IsNextStop, IsOpen, IsOutcome, IsPointOf, IsShifted, IsSpread, IsTickEnd, IsToCome, IsTopOf, Keeps, Scope, at_time, best_of, high_at, input_of, low_at}
+use Rattle.online_robust.specs.Windows.{Goes, IsAt, IsGoing, IsNextStop, IsOpen, IsOutcome, IsOwn, IsPointOf, IsShifted, IsSpread, IsTickEnd, IsToCome, IsTopOf, Keeps, Scope, at_time, best_of, high_at, input_of, low_at}
 use Rattle.online_robust.specs.declared.ends.Gap.{Gap}
 use Rattle.online_robust.specs.declared.line.MarginLine.{MarginLine}
 use Rattle.online_robust.specs.declared.line.MarginLine.TheVariants as L
@@ -30,6 +31,7 @@ use Rattle.online_robust.specs.declared.window.Window.{Window}
 use Rattle.online_robust.proofs.Outcomes.{IsIn, IsTopOf as IsTop, best_between}
 use Rattle.online_robust.proofs.Spreads.{last_from, spread_on}
 use Rattle.online_robust.proofs.WindowLaw.{before_of, before_of_end, last_on_of, runs_on, up_to_of}
+use Rattle.online_robust.proofs.WindowBounds.{high_bounded, low_bounded, moved_more, shifted_bounded, shifted_moved, top_bounded, top_moved}
 use Rattle.online_robust.proofs.WindowPoints.{before_apart, in_order}
 use Rattle.online_robust.proofs.WindowTurns.{IsSeen, outcome_is, seen_of, top_is}
 
@@ -169,6 +171,33 @@ module _ (x : Scope) (s : Sweep) (e : Held) (at : IsAt x s e) (to : Rational) (o
         order = in_order u s.window.low s.window.high at.spread.fit.order;
       }
 
+  -- each that counts between here and there is bounded, and its base is moved by no more than the offsets
+  pub each : (best : Best Margin)
+      → ((cs : List Margin) → StandsFor margin_function s.among.older.items s.among.newer.items s.among.side s.among.best cs
+      → IsTopOf margin_function s.among.side s.none cs best.top)
+      → IsSomeAnd best.low (IsShifted s.place.low.shape s.window.low) → IsSomeAnd best.high (IsShifted s.place.high.shape s.window.high)
+      → (p : Margin) → Has best p
+      → ((u : Rational) → x.at ≤ʳ u → u ≤ʳ t → IsBounded (2 ^ 31) (value_at (margin_function p) u))
+      × ((own : ℕ) → IsOwn s.window own → IsMovedBy (x.reach + own) p)
+  each best tops lows highs p (inl e') = (
+    λ u after before. subst (λ (m : Margin). IsBounded (2 ^ 31) (value_at (margin_function m) u)) (sym e') (top_bounded x s e at best.top tops u),
+    λ own is. moved_more x.reach own p (subst (IsMovedBy x.reach) (sym e') (top_moved x s e at best.top tops)),
+  )
+  each best tops lows highs p (inr (inl e')) =
+      let moved : IsShifted s.place.low.shape s.window.low p = subst (λ (o : Option Margin). IsSomeAnd o (IsShifted s.place.low.shape s.window.low)) e' lows in (
+        λ u after before. shifted_bounded s.place.low.shape s.window.low p u moved (low_bounded x s e at u (le_shifted s.window.low after)
+            (up_to_of s.place.low.until (le_shifted s.window.low before) stop.low)),
+        λ own is. shifted_moved x.reach own s.place.low.shape s.window.low p moved (low_moved x s e at) is.low_from is.low_to,
+      )
+  each best tops lows highs p (inr (inr e')) =
+      let moved : IsShifted s.place.high.shape s.window.high p = subst (λ (o : Option Margin). IsSomeAnd o (IsShifted s.place.high.shape s.window.high)) e' highs
+      in (
+        λ u after before. shifted_bounded s.place.high.shape s.window.high p u moved (high_bounded x s e at high_order u
+            (le_shifted s.window.high (subst (λ (z : Rational). z ≤ʳ u) (sym o.behind) after))
+            (up_to_of s.place.high.until (le_shifted s.window.high before) stop.high)),
+        λ own is. shifted_moved x.reach own s.place.high.shape s.window.high p moved (high_moved x s e at) is.high_from is.high_to,
+      )
+
   -- what stands under the ends
   high_seen : (point : Option Margin) → IsPointOf (input_of x s.window.side) x.reach s.window.high_in s.window.high s.place.high t point
       → IsSeen (input_of x s.window.side) x.reach s.window.high_in s.window.high s.place.high t point
@@ -247,3 +276,74 @@ module _ (x : Scope) (s : Sweep) (e : Held) (at : IsAt x s e) (to : Rational) (o
         (le_shifted s'.window.high (le_of_lt behind_later))
         (subst (λ (g : Gap). IsUpTo (shifted t s'.window.high) g.until) (sym high_same)
         (subst (λ (w : Window). IsUpTo (shifted t w.high) s.place.high.until) (sym keeps.window) stop.high))
+
+    -- what is told at the stop is bounded, and its base moved by no more than the offsets
+    pub there_fit : (best : Best Margin)
+        → ((cs : List Margin) → StandsFor margin_function s'.among.older.items s'.among.newer.items s'.among.side s'.among.best cs
+        → IsTopOf margin_function s'.among.side s'.none cs best.top)
+        → IsSomeAnd best.low (IsShifted s'.place.low.shape s'.window.low) → IsSomeAnd best.high (IsShifted s'.place.high.shape s'.window.high)
+        → (at_high at_low : Option Margin)
+        → IsPointOf (input_of x s.window.side) x.reach s.window.high_in s.window.high s.place.high t at_high
+        → IsPointOf (input_of x s.window.side) x.reach s.window.low_in s.window.low s.place.low t at_low → (m : Margin)
+        → IsOutcome s'.window.side best.top best.low best.high at_high at_low t m
+        → IsBounded (2 ^ 31) (value_at (margin_function m) t) × ((own : ℕ) → IsOwn s.window own → IsMovedBy (x.reach + own) m)
+    there_fit best tops lows highs at_high at_low high_is low_is m outcome = by_one outcome.one
+      where
+        by_one : (m ≡ best.top) ⊎ (best.low ≡ Some m) ⊎ (best.high ≡ Some m) ⊎ (at_high ≡ Some m) ⊎ (at_low ≡ Some m)
+            → IsBounded (2 ^ 31) (value_at (margin_function m) t) × ((own : ℕ) → IsOwn s.window own → IsMovedBy (x.reach + own) m)
+        by_one (inl f) = (
+          subst (λ (k : Margin). IsBounded (2 ^ 31) (value_at (margin_function k) t)) (sym f) (top_bounded (at_time x t t) s' e' at_end best.top tops t),
+          λ own is. moved_more x.reach own m (subst (IsMovedBy x.reach) (sym f) (top_moved (at_time x t t) s' e' at_end best.top tops)),
+        )
+        by_one (inr (inl f)) =
+            let moved : IsShifted s'.place.low.shape s'.window.low m =
+                subst (λ (k : Option Margin). IsSomeAnd k (IsShifted s'.place.low.shape s'.window.low)) f lows in (
+              shifted_bounded s'.place.low.shape s'.window.low m t moved
+                  (low_bounded (at_time x t t) s' e' at_end t (le_refl (shifted t s'.window.low)) at_end.spread.low_later),
+              λ own is.
+                  let is' : IsOwn s'.window own = subst (λ (w : Window). IsOwn w own) (sym keeps.window) is in
+                  shifted_moved x.reach own s'.place.low.shape s'.window.low m moved (low_moved (at_time x t t) s' e' at_end) is'.low_from is'.low_to,
+            )
+        by_one (inr (inr (inl f))) =
+            let moved : IsShifted s'.place.high.shape s'.window.high m =
+                subst (λ (k : Option Margin). IsSomeAnd k (IsShifted s'.place.high.shape s'.window.high)) f highs in (
+              shifted_bounded s'.place.high.shape s'.window.high m t moved
+                  (high_bounded (at_time x t t) s' e' at_end (le_of_lt (in_order t s'.window.low s'.window.high at_end.spread.fit.order)) t
+                  (le_refl (shifted t s'.window.high)) at_end.spread.high_later),
+              λ own is.
+                  let is' : IsOwn s'.window own = subst (λ (w : Window). IsOwn w own) (sym keeps.window) is in
+                  shifted_moved x.reach own s'.place.high.shape s'.window.high m moved (high_moved (at_time x t t) s' e' at_end) is'.high_from is'.high_to,
+            )
+        by_one (inr (inr (inr (inl f)))) =
+            let (inside, ends, (v, there, moved)) =
+                subst (λ (k : Option Margin). IsPointOf (input_of x s.window.side) x.reach s.window.high_in s.window.high s.place.high t k) f high_is in (
+              shifted_bounded v s.window.high m t moved there.bounded,
+              λ own is. shifted_moved x.reach own v s.window.high m moved there.moved is.high_from is.high_to,
+            )
+        by_one (inr (inr (inr (inr f)))) =
+            let (inside, ends, (v, there, moved)) =
+                subst (λ (k : Option Margin). IsPointOf (input_of x s.window.side) x.reach s.window.low_in s.window.low s.place.low t k) f low_is in (
+              shifted_bounded v s.window.low m t moved there.bounded,
+              λ own is. shifted_moved x.reach own v s.window.low m moved there.moved is.low_from is.low_to,
+            )
+
+-- where the high end has gone on, both stand within their gaps
+pub open_of : (x : Scope) (s s' : Sweep) (to : Rational) → IsGoing x s to → Keeps s s' → s'.place.low ≡ s.place.low
+    → IsBefore (high_at x s'.window) s'.place.high.until → IsOpen x s' to
+open_of x s s' to g keeps low_same before = record {
+  behind = g.behind;
+  within = g.within;
+  to_within = g.to_within;
+  before = g.before;
+  low_before = subst (λ (p : Gap). IsBefore (low_at x s'.window) p.until) (sym low_same)
+      (subst (λ (w : Window). IsBefore (low_at x w) s.place.low.until) (sym keeps.window) g.low_before);
+  high_before = before;
+}
+
+pub goes_both : (s s' s'' : Sweep) → Keeps s s' → Goes s' s'' → Goes s s''
+goes_both s s' s'' k g = record {
+  window = g.window ∙ k.window;
+  start = g.start ∙ k.start;
+  none = g.none ∙ k.none;
+  last = g.last ∙ k.last;
+}

@@ -38,8 +38,8 @@ better_some side p q other t m is one chosen =
     let better = chosen_better side (value_at (margin_function p) t) (value_at (margin_function q) t) (value_at (margin_function m) t) chosen in
     record {
       one = by_one one;
-      left = better.0;
-      right = subst (λ o. IfSome o (λ (n : Margin). IsNoBetter side (value_at (margin_function n) t) (value_at (margin_function m) t))) (sym is) better.1;
+      left = better.left;
+      right = subst (λ o. IfSome o (λ (n : Margin). IsNoBetter side (value_at (margin_function n) t) (value_at (margin_function m) t))) (sym is) better.right;
     }
   where
     by_one : (m ≡ p) ⊎ (m ≡ q) → (m ≡ p) ⊎ (other ≡ Some m)

@@ -6,7 +6,7 @@ use Rattle.rational.specs.Affine.{IsBounded}
 use Rattle.rational.specs.Windows.{Function, Window}
 use Rattle.frac128.specs.Value.{value}
 use Rattle.frac128.specs.declared.frac.Frac.{Frac}
-use Rattle.value_laws.specs.Margins.{margin_function}
+use Rattle.value_laws.specs.Margins.{is_ramp, margin_function}
 use Rattle.value_laws.specs.declared.margin.Margin.{Margin}
 use Rattle.pl_signal.specs.declared.joining.Side.{Side}
 use Rattle.envelope.specs.Turns.{IsNoBetter}
@@ -79,6 +79,7 @@ pub record IsFrozen (side : Side) (before point after : Margin) (u : Rational) (
   pub of : Margin
   pub one : (of ≡ before) ⊎ (of ≡ point) ⊎ (of ≡ after)
   pub constant : (t : Rational) → value_at (margin_function c) t ≈ᵉ value_at (margin_function of) u
+  pub still : is_ramp c ≡ false
   pub left : IsNoBetter side (value_at (margin_function before) u) (value_at (margin_function of) u)
   pub there : IsNoBetter side (value_at (margin_function point) u) (value_at (margin_function of) u)
   pub right : IsNoBetter side (value_at (margin_function after) u) (value_at (margin_function of) u)

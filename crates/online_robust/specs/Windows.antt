@@ -2,6 +2,7 @@
 use Rattle.std.specs.Prelude.{◌≡◌, ◌≢◌, ◌⊎◌, ℕ, ℤ, pos, neg_ℤ, ◌-ℤ◌, IsTrue, ◌+◌, ◌<◌, ◌≤◌, ◌^◌, ◌≤ℤ◌, ◌<ℤ◌, Bool, true, false, List, [], ◌∷◌, length, drop, slice_get, IfSome, Option, Some, None, MatchBool}
 use Rattle.rational.specs.Rational.{IsWithin}
 use Rattle.rational.specs.Time.{Rational, HasDenominator, Within, Precedes, shifted, whole, ◌≈◌, ◌≤ʳ◌, ◌<ʳ◌}
+use Rattle.rational.specs.Affine.{IsBounded}
 use Rattle.rational.specs.Extended.{Affine, Extended, minus_infinity, finite, infinity, value_at, ◌≈ᵉ◌}
 use Rattle.rational.specs.Windows.{Function}
 use Rattle.frac128.specs.Value.{value}
@@ -13,7 +14,7 @@ use Rattle.pl_signal.specs.declared.joining.Side.{Side}
 use Rattle.pl_signal.specs.declared.faults.WidePair.TheVariants.{Cross, Value}
 use Rattle.pl_signal.specs.declared.faults.OpFault.{OpFault}
 use Rattle.pl_signal.specs.declared.faults.OpFault.TheVariants as F
-use Rattle.envelope.specs.Best.{IsBestAt}
+use Rattle.envelope.specs.Best.{Has, IsBestAt, IsJoinFault}
 use Rattle.envelope.specs.declared.best.Best.{Best}
 use Rattle.envelope.specs.Turns.{IsNoBetter, none_of}
 use Rattle.window_ops.specs.Over.{IsBestOver}
@@ -270,6 +271,13 @@ pub record Goes (old new : Sweep) : Type 0 where
   pub none : new.none ≡ old.none
   pub last : new.last ≡ old.last
 
+-- the offsets are no more than that, either way
+pub record IsOwn (w : Window) (own : ℕ) : Type 0 where
+  pub low_from : neg_ℤ (pos own) ≤ℤ w.low
+  pub low_to : w.low ≤ℤ pos own
+  pub high_from : neg_ℤ (pos own) ≤ℤ w.high
+  pub high_to : w.high ≤ℤ pos own
+
 -- the best over the window was told from the time of the scope, which is left out, up to another one
 pub record IsGone (x : Scope) (w : Window) (to t : Rational) (best : Best Margin) (reached : Reached) : Type 0 where
   pub here : value reached.at ≡ t
@@ -277,3 +285,22 @@ pub record IsGone (x : Scope) (w : Window) (to t : Rational) (best : Best Margin
   pub by : t ≤ʳ to
   pub between : (u : Rational) → x.at <ʳ u → u <ʳ t → start x.trace ≤ʳ u → (v : Extended) → IsBestAt margin_shape w.side best u v → best_of x w u v
   pub there : start x.trace ≤ʳ t → best_of x w t (value_at (margin_function reached.value) t)
+  pub bounded : (p : Margin) → Has best p → (u : Rational) → x.at ≤ʳ u → u ≤ʳ t → IsBounded (2 ^ 31) (value_at (margin_function p) u)
+  pub limited : IsBounded (2 ^ 31) (value_at (margin_function reached.value) t)
+  pub moved : (p : Margin) → Has best p → (own : ℕ) → IsOwn w own → IsMovedBy (x.reach + own) p
+  pub moved_there : (own : ℕ) → IsOwn w own → IsMovedBy (x.reach + own) reached.value
+
+-- memory was wanted, or two that count on the way cross between the times, at a time that is not stored
+abbrev pub IsUnmet : Scope → Window → Rational → Rational → OpFault Margin → Type 0
+IsUnmet x w to from fault =
+    (best : Best Margin) × (reached : Reached) × (t : Rational) × IsGone x w to t best reached × IsJoinFault margin_shape best from (value reached.at) fault
+
+-- a window that has come to a time goes on to another one
+pub record IsGoing (x : Scope) (s : Sweep) (to : Rational) : Type 0 where
+  pub here : x.at ≡ value s.place.at
+  pub behind : x.behind ≡ x.at
+  pub within : IsWithin (2 ^ 34) x.at
+  pub to_within : IsWithin (2 ^ 34) to
+  pub before : x.at <ʳ to
+  pub low_before : IsBefore (low_at x s.window) s.place.low.until
+  pub more : high_at x s.window <ʳ x.bound

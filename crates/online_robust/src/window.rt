@@ -1,19 +1,22 @@
 //! The windows with a low end: what stands about the two ends, and the best constant between them.
 
-ghost use Rattle.std.specs.Prelude.{◌≡◌, ◌⊎◌, ◌↔◌, ◌<◌, ◌^◌, ◌≢◌, List, Some, None, true, false, pos, neg_ℤ, ◌≤ℤ◌, IsTrue, length, slice_get, IfOk, OnOk, IfErr, IfSome, IsSomeAnd, MatchBool, MatchOption, MatchResult};
-ghost use Rattle.rational.specs.Rational.{Rational, IsWithin};
+ghost use Rattle.std.specs.Prelude.{◌≡◌, ◌⊎◌, ◌↔◌, ◌<◌, ◌^◌, ◌+◌, ℕ, ◌≢◌, List, Some, None, true, false, pos, neg_ℤ, ◌≤ℤ◌, IsTrue, length, slice_get, IfOk, OnOk, IfErr, IfSome, IsSomeAnd, MatchBool, MatchOption, MatchResult};
+ghost use Rattle.rational.specs.Rational.{Rational, IsWithin, ◌≈◌};
 ghost use Rattle.rational.specs.Time.{◌<ʳ◌, ◌≤ʳ◌, shifted};
 ghost use Rattle.rational.specs.Extended.{value_at};
 ghost use Rattle.rational.specs.Affine.{IsBounded};
 ghost use Rattle.frac128.specs.Value.{value};
 ghost use Rattle.value_laws.specs.Margins.{margin_function};
+ghost use Rattle.envelope.specs.Best.{IsKept};
 ghost use Rattle.online_robust.specs.Held.{edge_at, fresh_at, held_at, with_edge, with_read, without};
 ghost use Rattle.online_robust.specs.Sweeping.{EndsAt, IsBefore, IsFrozen, IsUpTo};
 ghost use Rattle.online_robust.specs.Lines.{IsOneLine};
-ghost use Rattle.online_robust.specs.Reading.{IsThere};
+ghost use Rattle.online_robust.specs.Reading.{IsBuilt, IsThere};
+ghost use Rattle.pl_signal.specs.Knots.{stop as last_of};
+ghost use Rattle.stl_syntax.specs.Trace.{start as start_of};
 ghost use Rattle.online_robust.specs.Told.{IsMovedBy, IsTick};
 ghost use Rattle.online_robust.specs.Queues.{StandsFor};
-ghost use Rattle.online_robust.specs.Windows.{Goes, IsAt, IsBetterOf, IsFitWindow, IsGone, IsHigh, IsUnfixed, IsUnfixedHigh, Keeps, Scope, Sheds, IsLow, IsNextStop, IsOpen, IsOutcome, IsPointOf, IsShifted, IsTickEnd, IsTopOf, LeavesAt, at_time, gap_of as gap_that, high_at, input_of, low_at, no_gap};
+ghost use Rattle.online_robust.specs.Windows.{Goes, IsAt, IsBetterOf, IsFitWindow, IsGoing, IsGone, IsHigh, IsUnfixed, IsUnfixedHigh, IsUnmet, Keeps, Scope, Sheds, IsLow, IsNextStop, IsOpen, IsOutcome, IsOwn, IsPointOf, IsShifted, IsTickEnd, IsTopOf, LeavesAt, at_time, best_of, gap_of as gap_that, high_at, input_of, low_at, no_gap};
 
 use crate::edges::Edges;
 use crate::ends::{Gap, is_one, is_same};
@@ -462,10 +465,21 @@ impl Sweep {
     }
 
     /// Goes on to the next time at which what counts may change, or to the time `to`.
-    #[tactic(none)]
-    fn go_on(&mut self, edges: &mut Edges, to: &Frac) -> Result<Gone, OpFault<Margin>> {
+    fn go_on(&mut self, edges: &mut Edges, to: &Frac) -> Result<Gone, OpFault<Margin>>
+        requires { (x : Scope) × IsAt x self.old edges.old × IsGoing x self.old (value to.now) }
+        ensures stands { (x : Scope) → IsAt x self.old edges.old → IsGoing x self.old (value to.now)
+            → OnOk result (IsAt (at_time x (value self.new.place.at) (value self.new.place.at)) self.new edges.new
+            × IsBefore (shifted (value self.new.place.at) self.new.window.low) self.new.place.low.until) }
+        ensures told { (x : Scope) → IsAt x self.old edges.old → IsGoing x self.old (value to.now)
+            → IfOk result (λ gone. IsGone x self.old.window (value to.now) (value self.new.place.at) gone.best gone.to) }
+        ensures kept { OnOk result (Goes self.old self.new) }
+        ensures shed { (x : Scope) → IsAt x self.old edges.old → IsGoing x self.old (value to.now)
+            → OnOk result (Sheds (shifted (value self.new.place.at) self.old.window.low) self.old.window.of edges.old edges.new) }
+        ensures wide { (x : Scope) → IsAt x self.old edges.old → IsGoing x self.old (value to.now) → IfErr result (IsUnfixedHigh x self.old) }
+    {
         self.high_on(edges)?;
-        Ok(self.go_to(edges, to)?)
+        let gone = self.go_to(edges, to)?;
+        Ok(gone)
     }
 
     /// Goes on to the start.
@@ -486,13 +500,30 @@ impl Sweep {
     }
 
     /// Goes on, and tells the margins on the way.
-    #[tactic(none)]
     fn tell_on(
         &mut self,
         edges: &mut Edges,
         built: &mut Builder<Margin>,
         to: &Frac,
-    ) -> Result<Reached, OpFault<Margin>> {
+    ) -> Result<Reached, OpFault<Margin>>
+        requires at { (x : Scope) × IsAt x self.old edges.old × IsGoing x self.old (value to.now) }
+        requires ends { last_of built.old ≈ value self.old.place.at }
+        ensures stands { (x : Scope) → IsAt x self.old edges.old → IsGoing x self.old (value to.now)
+            → OnOk result (IsAt (at_time x (value self.new.place.at) (value self.new.place.at)) self.new edges.new
+            × IsBefore (shifted (value self.new.place.at) self.new.window.low) self.new.place.low.until) }
+        ensures told { (x : Scope) → IsAt x self.old edges.old → IsGoing x self.old (value to.now) → start_of x.trace ≤ʳ x.at
+            → (own : ℕ) → IsOwn self.old.window own → (from : Rational) → IsBuilt (best_of x self.old.window) (x.reach + own) from x.at built.old
+            → OnOk result (IsBuilt (best_of x self.old.window) (x.reach + own) from (value self.new.place.at) built.new) }
+        ensures reached { (x : Scope) → IsAt x self.old edges.old → IsGoing x self.old (value to.now) → start_of x.trace ≤ʳ x.at
+            → (own : ℕ) → IsOwn self.old.window own
+            → IfOk result (λ r. (value r.at ≡ value self.new.place.at) × IsThere (best_of x self.old.window) (x.reach + own) (value r.at) r.value) }
+        ensures fault { (x : Scope) → IsAt x self.old edges.old → IsGoing x self.old (value to.now)
+            → IfErr result (λ f. IsUnfixedHigh x self.old f ⊎ IsUnmet x self.old.window (value to.now) (last_of built.old) f) }
+        ensures later { IfOk result (λ r. (value self.old.place.at <ʳ value r.at) × (value r.at ≤ʳ value to.now)) }
+        ensures kept { OnOk result (Goes self.old self.new) }
+        ensures shed { (x : Scope) → IsAt x self.old edges.old → IsGoing x self.old (value to.now)
+            → OnOk result (Sheds (shifted (value self.new.place.at) self.old.window.low) self.old.window.of edges.old edges.new) }
+    {
         let gone = self.go_on(edges, to)?;
         let mut fault = None;
         match write(
@@ -531,7 +562,9 @@ impl Sweep {
 }
 
 /// What was refused, or want of memory.
-fn refused(fault: Option<WidePair<Margin>>) -> OpFault<Margin> {
+fn refused(fault: Option<WidePair<Margin>>) -> OpFault<Margin>
+    ensures { IsKept result fault }
+{
     match fault {
         Some(pair) => OpFault::Wide(pair),
         None => OpFault::Memory,

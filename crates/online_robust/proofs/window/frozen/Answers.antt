@@ -11,7 +11,7 @@ fix-requires-clause-small c = three_bounded c.args.side c.args.before.now c.args
 pub returns-in-Ok : goal.returns-in-Ok
 returns-in-Ok c = three_frozen c.args.side c.args.before.now c.args.point.now c.args.after.now c.chosen-first.result c.chosen-best.result
     (value c.args.u.now) c.chosen-first.ensures.one c.chosen-first.ensures.value c.chosen-best.ensures.one c.chosen-best.ensures.value
-    c.in-Ok.constant c.in-Ok.ensures.value.0
+    c.in-Ok.constant c.in-Ok.ensures.value.0 c.in-Ok.ensures.value.1
 
 pub returns-in-Err : goal.returns-in-Err
 returns-in-Err c =
