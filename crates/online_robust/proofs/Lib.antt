@@ -24,3 +24,4 @@ pub mod WindowSteps
 pub mod Sheddings
 pub mod WindowBounds
 pub mod WindowTelling
+pub mod WindowFirst

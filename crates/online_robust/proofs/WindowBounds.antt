@@ -34,7 +34,7 @@ use Rattle.online_robust.proofs.WindowLaw.{last_on_of, runs_on, up_to_before, up
 some_is : {X : Type 0} {a b : X} → Some a ≡ Some b → a ≡ b
 some_is h = cc
 
-none_bounded : (side : Side) → IsBounded (2 ^ 31) (none_of side minus_infinity infinity)
+pub none_bounded : (side : Side) → IsBounded (2 ^ 31) (none_of side minus_infinity infinity)
 none_bounded Greatest = tt
 none_bounded Least = tt
 
