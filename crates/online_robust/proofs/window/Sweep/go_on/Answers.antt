@@ -59,5 +59,5 @@ returns-in_err-high_on-clause-wide c x at going =
 
 pub returns-in_err-gone-clause-wide : goal.returns-in_err-gone-clause-wide
 returns-in_err-gone-clause-wide c x at going =
-    let p = err_from_is_err_and c.from_residual.result c.from_residual.ensures.1 in
+    let p = err_from_is_err_and c.from_residual-in_err-gone.result c.from_residual-in_err-gone.ensures.1 in
     rw (p.1, p.2) tt
