@@ -13,17 +13,13 @@ use Rattle.stl_syntax.specs.Trace.{start, stop}
 use Rattle.online_robust.specs.Queues.{StandsFor}
 use Rattle.online_robust.specs.Sweeping.{IsOn}
 use Rattle.online_robust.specs.Told.{IsMovedBy, IsTick}
-use Rattle.online_robust.specs.Windows.{IsFitWindow, IsSpread, IsToCome, Scope, input_of}
+use Rattle.online_robust.specs.Windows.{IsFitWindow, IsSpread, IsToCome, Scope, before_start, input_of}
 use Rattle.online_robust.specs.declared.ends.Gap.{Gap}
 use Rattle.online_robust.specs.declared.line.MarginLine.{MarginLine}
 use Rattle.online_robust.specs.declared.queue.Queue.{Queue}
 use Rattle.online_robust.specs.declared.window.Window.{Window}
 use Rattle.online_robust.proofs.WindowBounds.{none_bounded}
 use Rattle.online_robust.proofs.WindowPoints.{in_order}
-
--- what lies before the start
-abbrev pub before_start : Margin → Frac → Gap
-before_start none begin = record { shape = none; until = Some begin; stands = false }
 
 -- both ends lie before the start
 pub first_spread : (x : Scope) (w : Window) (begin : Frac) (none : Margin) (q : Queue Margin) (fresh : List MarginLine) (t : Rational)

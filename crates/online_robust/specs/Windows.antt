@@ -95,6 +95,10 @@ IsToCome x (Some u) lines =
 abbrev pub gap_of : MarginLine → Gap
 gap_of v = record { shape = margin_of v; until = Some (end_of v); stands = true }
 
+-- what lies before the start
+abbrev pub before_start : Margin → Frac → Gap
+before_start none begin = record { shape = none; until = Some begin; stands = false }
+
 -- no gap
 abbrev pub no_gap : Margin → Gap
 no_gap none = record { shape = none; until = None; stands = false }

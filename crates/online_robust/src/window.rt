@@ -1,13 +1,14 @@
 //! The windows with a low end: what stands about the two ends, and the best constant between them.
 
-ghost use Rattle.std.specs.Prelude.{◌≡◌, ◌⊎◌, ◌↔◌, ◌<◌, ◌^◌, ◌+◌, ℕ, ◌≢◌, List, Some, None, true, false, pos, neg_ℤ, ◌≤ℤ◌, IsTrue, length, slice_get, IfOk, OnOk, IfErr, IfSome, IsSomeAnd, MatchBool, MatchOption, MatchResult};
-ghost use Rattle.rational.specs.Rational.{Rational, IsWithin, ◌≈◌};
+ghost use Rattle.std.specs.Prelude.{◌≡◌, ◌⊎◌, ◌↔◌, ◌<◌, ◌^◌, ◌+◌, ◌-ℤ◌, ℕ, ◌≢◌, List, [], Some, None, true, false, pos, neg_ℤ, ◌≤ℤ◌, IsTrue, length, slice_get, IfOk, OnOk, IfErr, IfSome, IsSomeAnd, MatchBool, MatchOption, MatchResult};
+ghost use Rattle.rational.specs.Rational.{Rational, IsWithin, ◌≈◌, whole};
 ghost use Rattle.rational.specs.Time.{◌<ʳ◌, ◌≤ʳ◌, shifted};
-ghost use Rattle.rational.specs.Extended.{value_at};
+ghost use Rattle.rational.specs.Extended.{value_at, minus_infinity, infinity, ◌≈ᵉ◌};
 ghost use Rattle.rational.specs.Affine.{IsBounded};
 ghost use Rattle.frac128.specs.Value.{value};
-ghost use Rattle.value_laws.specs.Margins.{margin_function};
+ghost use Rattle.value_laws.specs.Margins.{is_ramp, margin_function};
 ghost use Rattle.envelope.specs.Best.{IsKept};
+ghost use Rattle.envelope.specs.Turns.{none_of};
 ghost use Rattle.online_robust.specs.Held.{edge_at, fresh_at, held_at, with_edge, with_read, without};
 ghost use Rattle.online_robust.specs.Sweeping.{EndsAt, IsBefore, IsFrozen, IsUpTo};
 ghost use Rattle.online_robust.specs.Lines.{IsOneLine};
@@ -16,7 +17,7 @@ ghost use Rattle.pl_signal.specs.Knots.{stop as last_of};
 ghost use Rattle.stl_syntax.specs.Trace.{start as start_of};
 ghost use Rattle.online_robust.specs.Told.{IsMovedBy, IsTick};
 ghost use Rattle.online_robust.specs.Queues.{StandsFor};
-ghost use Rattle.online_robust.specs.Windows.{Goes, IsAt, IsBetterOf, IsFitWindow, IsGoing, IsGone, IsHigh, IsUnfixed, IsUnfixedHigh, IsUnmet, Keeps, Scope, Sheds, IsLow, IsNextStop, IsOpen, IsOutcome, IsOwn, IsPointOf, IsShifted, IsTickEnd, IsTopOf, LeavesAt, at_time, best_of, gap_of as gap_that, high_at, input_of, low_at, no_gap};
+ghost use Rattle.online_robust.specs.Windows.{Goes, IsAt, IsBetterOf, IsFitWindow, IsGoing, IsGone, IsHigh, IsUnfixed, IsUnfixedHigh, IsUnmet, Keeps, Scope, Sheds, IsLow, IsNextStop, IsOpen, IsOutcome, IsOwn, IsPointOf, IsShifted, IsTickEnd, IsTopOf, LeavesAt, at_time, before_start, best_of, gap_of as gap_that, high_at, input_of, low_at, no_gap};
 
 use crate::edges::Edges;
 use crate::ends::{Gap, is_one, is_same};
@@ -201,8 +202,18 @@ impl Gap {
 
 impl Sweep {
     /// A window that has not begun.
-    #[tactic(none)]
-    pub(crate) fn new(alloc: Global, window: Window, start: u32) -> Sweep {
+    pub(crate) fn new(alloc: Global, window: Window, start: u32) -> Sweep
+        ensures window { result.window ≡ window }
+        ensures start { value result.start ≈ whole (pos start) }
+        ensures none { (t : Rational) → value_at (margin_function result.none) t ≈ᵉ none_of window.side minus_infinity infinity }
+        ensures still { is_ramp result.none ≡ false }
+        ensures low { result.place.low ≡ before_start result.none result.start }
+        ensures high { result.place.high ≡ before_start result.none result.start }
+        ensures at { value result.place.at ≈ whole (pos start -ℤ pos 4294967296) }
+        ensures last { result.last ≡ None }
+        ensures side { result.among.side ≡ window.side }
+        ensures among { StandsFor margin_function result.among.older.items result.among.newer.items window.side result.among.best [] }
+    {
         let begin = i64::from(start);
         let start = Frac::of(begin);
         let none = of_none(window.side);
