@@ -1,4 +1,4 @@
-use Rattle.std.proofs.Common.{◌≡◌, Some, None, false, sym, subst, ◌∙◌, w64}
+use Rattle.std.proofs.Common.{sym, subst, w64}
 use Rattle.std.specs.Prelude.{IsTrue}
 use Rattle.rational.specs.Rational.{FitsFloor, add, whole}
 use Rattle.rational.specs.Time.{◌≈◌, shifted}

@@ -1,5 +1,5 @@
 use Rattle.std.proofs.Common.{Some, refl, sym, subst, ◌^◌, w64, pos, arith}
-use Rattle.std.specs.Prelude.{neg_ℤ, ◌≤ℤ◌}
+use Rattle.std.specs.Prelude.{neg_ℤ}
 use Rattle.std.proofs.lemmas.Int.{ints}
 use Rattle.rational.specs.Rational.{FitsFloor, add, whole}
 use Rattle.rational.specs.Time.{◌≈◌}

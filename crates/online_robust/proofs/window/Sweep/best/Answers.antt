@@ -1,7 +1,7 @@
 use Rattle.std.proofs.Common.{◌≡◌, ◌≤◌, ◌^◌, sym, subst}
 use Rattle.std.specs.Prelude.{◌-ℤ◌, IsTrue}
 use Rattle.std.specs.Int.RustNames.{unsigned_abs}
-use Rattle.rational.specs.Rational.{Rational, add, whole}
+use Rattle.rational.specs.Rational.{add, whole}
 use Rattle.rational.specs.Extended.{value_at, ◌≈ᵉ◌}
 use Rattle.rational.proofs.AffineLemmas.{value_same}
 use Rattle.rational.proofs.Order.{same_sym}

@@ -1,12 +1,10 @@
-use Rattle.std.proofs.Common.{◌≡◌, ◌^◌, true, false, refl, sym, subst, w64, pos, arith}
-use Rattle.std.specs.Prelude.{neg_ℤ, ◌≤ℤ◌}
-use Rattle.std.proofs.lemmas.Int.{ints}
+use Rattle.std.proofs.Common.{◌≡◌, true, false, refl, sym, subst, w64}
 use Rattle.rational.specs.Rational.{FitsFloor, add, whole}
-use Rattle.rational.specs.Time.{◌≈◌, ◌≤ʳ◌, ◌<ʳ◌, shifted}
+use Rattle.rational.specs.Time.{◌≈◌, shifted}
 use Rattle.rational.proofs.Order.{ge_of_same, le_of_same, le_trans, lt_of_le_of_lt, not_lt_of_le, same_sym, same_trans}
 use Rattle.rational.proofs.TimeLemmas.{shifted-add}
 use Rattle.frac128.specs.Value.{value}
-use Rattle.window_ops.proofs.Shifts.{fits, passed}
+use Rattle.window_ops.proofs.Shifts.{passed}
 use Rattle.online_robust.proofs.PointwiseLemmas.{not_less}
 use Rattle.online_robust.proofs.WindowFits.{low_fits, low_from, low_to}
 use Rattle.online_robust.proofs.window.Sweep.counts.Goals.{After-shift}

@@ -1,19 +1,16 @@
-use Rattle.std.proofs.Common.{◌≡◌, ◌<◌, ◌^◌, Some, None, List, [], ◌∷◌, ◌++◌, refl, sym, subst, ap, ◌∙◌, slice_get, length, arith}
+use Rattle.std.proofs.Common.{◌<◌, ◌^◌, List, sym, subst, length, arith}
 use Rattle.std.proofs.lemmas.Result.{err_from_is_err_and}
 use Rattle.rational.specs.Rational.{IsWithin}
-use Rattle.rational.specs.Time.{Rational}
 use Rattle.rational.specs.Extended.{value_at}
 use Rattle.rational.specs.Affine.{IsBounded}
 use Rattle.frac128.specs.Value.{value}
 use Rattle.frac128.specs.declared.frac.Frac.{Frac}
 use Rattle.value_laws.specs.Margins.{margin_function}
 use Rattle.value_laws.specs.declared.margin.Margin.{Margin}
-use Rattle.online_robust.specs.Lines.{end_of, margin_of}
 use Rattle.online_robust.specs.Held.{edge_at, fresh_at}
 use Rattle.online_robust.specs.Sweeping.{IsFrozen}
 use Rattle.online_robust.specs.Windows.{IsAt, IsHigh, Scope, high_at, low_at}
 use Rattle.online_robust.specs.declared.line.MarginLine.{MarginLine}
-use Rattle.online_robust.specs.declared.line.MarginLine.TheVariants as L
 use Rattle.online_robust.proofs.Builts.{tick_within}
 use Rattle.online_robust.proofs.HighLemmas.{HasEntered, before_goes, frozen_spread, has_entered, high_small, knot_is, next_is, next_small, no_knot_is, plain_spread, point_at, point_is, read_count, unfixed_high}
 use Rattle.online_robust.proofs.Spreads.{comes_next}

@@ -1,6 +1,4 @@
-use Rattle.std.proofs.Common.{sym, subst, ◌∙◌, ◌^◌}
-use Rattle.rational.specs.Rational.{IsWithin}
-use Rattle.frac128.specs.Value.{value}
+use Rattle.std.proofs.Common.{sym, ◌∙◌}
 use Rattle.online_robust.proofs.Builts.{tick_within}
 use Rattle.online_robust.proofs.LowLemmas.{before_goes, frozen_spread, knot_is, line_tick, plain_is, plain_spread, point_there, shed, some_line, within_new}
 use Rattle.online_robust.proofs.window.Sweep.go_low.Goals as goal

@@ -1,4 +1,4 @@
-use Rattle.std.proofs.Common.{◌≡◌, Bool, inl, sym, subst}
+use Rattle.std.proofs.Common.{Bool, inl, sym, subst}
 use Rattle.frac128.specs.Value.{value}
 use Rattle.online_robust.specs.Windows.{IsPointOf, input_of}
 use Rattle.online_robust.proofs.window.Sweep.high_point.Goals as goal

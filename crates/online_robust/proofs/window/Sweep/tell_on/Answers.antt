@@ -1,15 +1,13 @@
-use Rattle.std.proofs.Common.{◌≡◌, ◌∙◌, ◌+◌, ◌^◌, inl, inr, refl, sym, subst}
+use Rattle.std.proofs.Common.{◌≡◌, ◌^◌, inl, inr, sym, subst}
 use Rattle.std.proofs.lemmas.Result.{err_from_is_err_and}
 use Rattle.rational.specs.Rational.{Rational, IsWithin}
 use Rattle.rational.specs.Time.{◌≤ʳ◌, ◌<ʳ◌}
 use Rattle.rational.proofs.Mixed.{within_same}
-use Rattle.rational.proofs.Order.{le_of_same, lt_of_le_of_lt, same_sym}
+use Rattle.rational.proofs.Order.{same_sym}
 use Rattle.frac128.specs.Value.{value}
 use Rattle.value_laws.specs.Kinds.{margin_shape}
-use Rattle.pl_signal.specs.declared.joining.Side.{Side}
 use Rattle.pl_signal.specs.Knots.{stop as last_of}
 use Rattle.envelope.specs.Best.{IsWritten}
-use Rattle.online_robust.specs.Windows.{IsGone}
 use Rattle.online_robust.specs.declared.window.Window.{Window}
 use Rattle.online_robust.proofs.WindowTelling.{gone_later, gone_there, gone_within, kept_fault, levels, written_at}
 use Rattle.online_robust.proofs.window.Sweep.tell_on.Goals as goal

@@ -1,5 +1,5 @@
-use Rattle.std.proofs.Common.{◌≡◌, ◌≤◌, ◌^◌, ◌∙◌, false, inr, refl, sym, subst}
-use Rattle.std.specs.Prelude.{◌-ℤ◌, IsTrue}
+use Rattle.std.proofs.Common.{◌≤◌, ◌^◌, ◌∙◌, inr, refl, sym, subst}
+use Rattle.std.specs.Prelude.{◌-ℤ◌}
 use Rattle.std.specs.Int.RustNames.{unsigned_abs}
 use Rattle.rational.specs.Time.{shifted}
 use Rattle.frac128.specs.Value.{value}

@@ -1,11 +1,11 @@
-use Rattle.std.proofs.Common.{◌≡◌, ◌≤◌, ◌^◌, inl, refl, sym, subst, ap, ◌∙◌, to_z, of_z, w64}
+use Rattle.std.proofs.Common.{◌≤◌, ◌^◌, inl, sym, subst, ap, ◌∙◌, to_z, of_z, w64}
 use Rattle.std.specs.Prelude.{◌-ℤ◌}
 use Rattle.std.specs.Int.RustNames.{unsigned_abs}
 use Rattle.value_laws.specs.Margins.{margin_base}
 use Rattle.online_robust.specs.Windows.{input_of, low_at}
 use Rattle.online_robust.specs.declared.window.Window.{Window}
 use Rattle.online_robust.proofs.WindowFits.{low_from, low_to}
-use Rattle.online_robust.proofs.WindowPoints.{low_passed, low_under, shifted_point, there_room}
+use Rattle.online_robust.proofs.WindowPoints.{low_passed, low_under, there_room}
 use Rattle.online_robust.proofs.window.Sweep.under_low.Goals as goal
 
 pub shift-requires : goal.shift-requires
