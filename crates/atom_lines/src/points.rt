@@ -1,6 +1,7 @@
 //! Atoms at rows and on the gaps between rows, without memory.
 ghost use Rattle.std.specs.Prelude.{◌≡◌, ◌<◌, ◌≤◌, ◌^◌, pos, length, IsTrue, false};
 ghost use Rattle.std.specs.Int.RustNames.{unsigned_abs};
+ghost use Rattle.rational.specs.Rational.{Rational};
 ghost use Rattle.rational.specs.Extended.{value_at};
 ghost use Rattle.rational.specs.Affine.{IsBounded};
 ghost use Rattle.value_laws.specs.Margins.{margin_function, margin_base, is_ramp};
@@ -66,6 +67,7 @@ pub fn margin_point(bound: &Bound, node: u32, row: &Row) -> Margin
     requires width { length row.now.values ≡ bound.now.width }
     ensures margin { IsMarginAt bound.now node row.now (margin_function result) }
     ensures level { is_ramp result ≡ false }
+    ensures within { (t : Rational) → IsBounded (2 ^ 31) (value_at (margin_function result) t) }
 {
     let atom = bound.atom(node);
     margin_at(atom.rel, reach_of(atom, row, row))

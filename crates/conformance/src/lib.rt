@@ -8,6 +8,8 @@ pub use shapes::greater_at;
 #[cfg(test)]
 mod atom_lines_tests;
 #[cfg(test)]
+mod device_tests;
+#[cfg(test)]
 mod dropping;
 #[cfg(test)]
 mod dropping_tests;
@@ -19,6 +21,8 @@ mod evals;
 mod explain_tests;
 #[cfg(test)]
 mod frac128_tests;
+#[cfg(test)]
+mod gen_tests;
 #[cfg(test)]
 mod io_edge_tests;
 #[cfg(test)]

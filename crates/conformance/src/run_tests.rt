@@ -18,11 +18,19 @@ pub(crate) struct Case<'a> {
 /// How a run's devices behave: most bytes a call, and the call of each that fails, 0 for none.
 #[derive(Clone, Copy)]
 pub(crate) struct Devices {
-    read_most: usize,
-    write_most: usize,
-    read_fails: u64,
-    write_fails: u64,
-    tell_fails: u64,
+    pub(crate) read_most: usize,
+    pub(crate) write_most: usize,
+    pub(crate) read_fails: u64,
+    pub(crate) write_fails: u64,
+    pub(crate) tell_fails: u64,
+}
+
+/// How a run ended: its status, and what its two sinks got.
+#[derive(Drop)]
+struct Ended {
+    status: u8,
+    out: MemSink,
+    err: MemSink,
 }
 
 /// Pieces of this size, and no fault.
@@ -52,8 +60,8 @@ fn sink(alloc: Global, most: usize, fails: u64) -> Result<MemSink, Fail> {
     }
 }
 
-/// Whether the run writes what is expected, and answers the status.
-pub(crate) fn agrees(alloc: Global, case: Case<'_>, devices: Devices) -> Result<bool, Fail> {
+/// Runs the words over the input.
+fn runs(alloc: Global, case: Case<'_>, devices: Devices) -> Result<Ended, Fail> {
     let words = strings(alloc, case.words)?;
     let bytes = Vec::from_slice(alloc, case.input.as_bytes())?;
     let fails = Vec::from_slice(alloc, &[devices.read_fails])?;
@@ -62,11 +70,29 @@ pub(crate) fn agrees(alloc: Global, case: Case<'_>, devices: Devices) -> Result<
     let mut err = sink(alloc, devices.write_most, devices.tell_fails)?;
     let mut kept = Kept::Nothing;
     let status = run(alloc, &words, &mut input, &mut out, &mut err, &mut kept);
+    Ok(Ended { status, out, err })
+}
+
+/// Whether the run writes the first bytes of what is expected, so many or all, and answers the status and its line.
+pub(crate) fn agrees_so_far(
+    alloc: Global,
+    case: Case<'_>,
+    devices: Devices,
+    written: usize,
+) -> Result<bool, Fail> {
+    let end = runs(alloc, case, devices)?;
+    let out = case.out.as_bytes();
+    let first = &out[..written.min(out.len())];
     Ok(
-        status == case.status
-            && out.written() == case.out.as_bytes()
-            && err.written() == case.err.as_bytes(),
+        end.status == case.status
+            && end.out.written() == first
+            && end.err.written() == case.err.as_bytes(),
     )
+}
+
+/// Whether the run writes what is expected, and answers the status.
+pub(crate) fn agrees(alloc: Global, case: Case<'_>, devices: Devices) -> Result<bool, Fail> {
+    agrees_so_far(alloc, case, devices, case.out.len())
 }
 
 /// Whether it does so for pieces of each size up to `most`, and for all bytes at once.
@@ -686,13 +712,22 @@ fn refused<'a>(words: &'a [&'a str], err: &'a str, status: u8) -> Case<'a> {
     }
 }
 
-const USAGE: &str = "usage: check F | watch F | robust F | explain F | json F | table F\n";
+const USAGE: &str =
+    "usage: check F | watch F | robust F | explain F | json F | table F | gen NUMBER ROWS\n";
 
 /// Words that are no form.
-const NO_FORMS: [&[&str]; 6] = [
+const NO_FORMS: [&[&str]; 14] = [
     &[],
     &["check"],
+    &["gen"],
+    &["gen", "1"],
+    &["gen", "1", "1", "1"],
     &["gen", "1", "0"],
+    &["gen", "1", "200001"],
+    &["gen", "18446744073709551616", "1"],
+    &["gen", "+1", "1"],
+    &["gen", "", "1"],
+    &["gen", "1", "1.0"],
     &["early", "x >= 5"],
     &["robust"],
     &["check", "x >= 5", "y"],

@@ -1,6 +1,6 @@
 -- A network's operators belong to its edges, and what a step that moves nothing leaves.
-use Rattle.std.proofs.Common.{◌≡◌, refl, sym, ap, subst, ◌∙◌, ℕ, zero, suc, ◌+◌, ◌-◌, ◌*◌, ◌<◌, ◌≤◌, Bool, true, false, Option, Some, None, List, [], ◌∷◌, ◌++◌, length, drop, ℤ, pos, ◌<ℤ◌, arith}
-use Rattle.std.specs.Prelude.{MatchOption, int_lt, ◌≢◌, ◌^◌, cond, not, ◌&&◌, ◌==◌, min, slice_get, slice_index_or, slice_set, option_map}
+use Rattle.std.proofs.Common.{◌≡◌, refl, sym, ap, subst, ◌∙◌, ℕ, zero, suc, ◌-◌, ◌<◌, ◌≤◌, Bool, true, false, Option, Some, None, List, [], ◌∷◌, ◌++◌, length, drop, ℤ, pos, ◌<ℤ◌, arith}
+use Rattle.std.specs.Prelude.{MatchBool, int_lt, ◌≢◌, cond, ◌==◌, slice_get, slice_index_or, slice_set, option_map}
 use Rattle.std.proofs.lemmas.Option.{slice_get_within}
 use Rattle.stl_syntax.specs.Trace.{Header, Row, AreRowsAfter, first_time, last_time}
 use Rattle.stl_syntax.specs.WellFormed.{AreWellFormed}
@@ -16,14 +16,8 @@ use Rattle.online_nodes.proofs.EmittedLaw.{front_shown}
 use Rattle.stl_syntax.proofs.WellFormedLemmas.{root_some}
 use Rattle.std.proofs.lemmas.List.{get_or-set_same, get_or-set_other, length-set}
 use Rattle.std.proofs.lemmas.Int.{ints}
-use Rattle.rational.specs.Rational.{whole}
 use Rattle.std.specs.Prelude.{IfSome}
-use Rattle.stl_syntax.specs.Trace.{Trace}
-use Rattle.online_nodes.specs.Cuts.{Place, place}
-use Rattle.online_nodes.specs.Operators.{KnowsBy}
-use Rattle.online_nodes.specs.declared.kind.Kind.{Kind}
-use Rattle.online_nodes.specs.declared.kind.Kind.TheVariants.{Const as Constant, Not as Negation, Join as Connective, Ahead, Behind, Until as UntilOf, Since as SinceOf}
-use Rattle.online_nodes.specs.Belonging.{trace_of, Belongs, HasStepped, StandsForSteps, is_ready, room_of_step, held_by_inputs}
+use Rattle.online_nodes.specs.Belonging.{Belongs, HasStepped, StandsForSteps}
 use Rattle.online_nodes.specs.declared.operator.Operator.{Operator}
 use Rattle.online_nodes.proofs.RunLaw.{none_is_none, allowed_bound}
 use Rattle.online_nodes.proofs.DroppingLemmas.{slice_get-drop, held_of-without}
@@ -34,98 +28,28 @@ use Rattle.online_net.specs.Steps.{IsStep}
 use Rattle.online_net.proofs.Events.{stand, keep, operator_stays, input_same, read_place, root_here, stepped_stands, taken_stands}
 use Rattle.online_net.proofs.Feeding.{last_time_is, no_last, leaf_of, start_by_last}
 
--- what an operator keeps in mind does not speak of spare places
-knows_spare : (k : Kind) (nodes : List Node) (tr : Trace) (e : Held) (n : ℕ) (at reach run : Place) → KnowsBy k nodes tr e at reach run
-    → KnowsBy k nodes tr (record { edges = e.edges; start = e.start; spare = n }) at reach run
-knows_spare (Constant b) nodes tr e n at reach run h = h
-knows_spare (Negation p) nodes tr e n at reach run h = h
-knows_spare (Connective join inputs) nodes tr e n at reach run h = h
-knows_spare (Ahead w) nodes tr e n at reach run h = h
-knows_spare (Behind w) nodes tr e n at reach run h = h
-knows_spare (UntilOf u) nodes tr e n at reach run h = h
-knows_spare (SinceOf s) nodes tr e n at reach run h = h
-
--- edges with other spare places are as good
-pub belongs_spare : {nodes : List Node} {header : Header} {events : List Event} {op : Operator} {e e' : Held} {now : ℕ} {ended : Bool}
-    → e'.edges ≡ e.edges → e'.start ≡ e.start → Belongs nodes header events op e now ended → Belongs nodes header events op e' now ended
-belongs_spare {nodes} {header} {events} {op} {e} {e'} {now} {ended} x y b =
-    subst (λ s. Belongs nodes header events op (record { edges = e'.edges; start = s; spare = e'.spare }) now ended) (sym y)
-    (subst (λ es. Belongs nodes header events op (record { edges = es; start = e.start; spare = e'.spare }) now ended) (sym x) same)
-  where
-    by_front : (o : Option ℕ)
-        → IfSome o (λ f. KnowsBy op.kind nodes (trace_of header (state nodes events)) e (record { at = whole (pos f); after = true })
-        (place op.reach) (place op.run))
-        → IfSome o (λ f. KnowsBy op.kind nodes (trace_of header (state nodes events)) (record { edges = e.edges; start = e.start; spare = e'.spare })
-        (record { at = whole (pos f); after = true }) (place op.reach) (place op.run))
-    by_front None h = h
-    by_front (Some f) h = knows_spare op.kind nodes (trace_of header (state nodes events)) e e'.spare (record { at = whole (pos f); after = true })
-        (place op.reach) (place op.run) h
-
-    same : Belongs nodes header events op (record { edges = e.edges; start = e.start; spare = e'.spare }) now ended
-    same = record {
-      formed = b.formed;
-      one_root = b.one_root;
-      run = b.run;
-      edges = b.edges;
-      start = b.start;
-      last = b.last;
-      closed = b.closed;
-      number = b.number;
-      inputs = b.inputs;
-      stands = record {
-        node = b.stands.node;
-        at = b.stands.at;
-        no_atom = b.stands.no_atom;
-        kind = b.stands.kind;
-        front = b.stands.front;
-        unread = b.stands.unread;
-        knows = by_front op.front b.stands.knows;
-      };
-    }
-
--- no room is needed just where a node is not ready
-pub no_room : (nodes : List Node) (events : List Event) (i : ℕ) (e : Held) → room_of_step nodes events i e ≡ 0 → ¬ IsReady nodes (state nodes events) i
-no_room nodes events i e x ready = by_test (is_ready nodes (state nodes events) i) refl x
-  where
-    ready_is : is_ready nodes (state nodes events) i ≡ true
-    ready_is = by_atom (node_is_atom nodes i) refl (same_front (allowed_at nodes (state nodes events) i) ((state nodes events).fronts i)) refl
-      where
-        by_atom : (t : Bool) → node_is_atom nodes i ≡ t → (u : Bool) → same_front (allowed_at nodes (state nodes events) i) ((state nodes events).fronts i) ≡ u
-            → (not (node_is_atom nodes i) && not (same_front (allowed_at nodes (state nodes events) i) ((state nodes events).fronts i))) ≡ true
-        by_atom true y u z = absurd (let w : true ≡ false = sym y ∙ ready.0 in cc)
-        by_atom false y true z = absurd (ready.1 (same_is (allowed_at nodes (state nodes events) i) ((state nodes events).fronts i) z))
-        by_atom false y false z = ap (λ t. not t && not (same_front (allowed_at nodes (state nodes events) i) ((state nodes events).fronts i))) y
-            ∙ ap (λ u. not false && not u) z
-
-    by_test : (t : Bool) → is_ready nodes (state nodes events) i ≡ t → room_of_step nodes events i e ≡ 0 → ⊥
-    by_test true y z =
-        let w : min (2 * held_by_inputs nodes i e + 2) (2 ^ 64 - 1) ≡ 0 =
-        subst (λ t. cond t (min (2 * held_by_inputs nodes i e + 2) (2 ^ 64 - 1)) 0 ≡ 0) y z in
-        omega (arith, w)
-    by_test false y z = let w : true ≡ false = sym ready_is ∙ y in cc
-
-pub some_room : (nodes : List Node) (events : List Event) (i : ℕ) (e : Held) → room_of_step nodes events i e ≢ 0 → IsReady nodes (state nodes events) i
-some_room nodes events i e d = by_atom (node_is_atom nodes i) refl
-  where
-    s : State
-    s = state nodes events
-
-    zero_if : is_ready nodes s i ≡ false → ⊥
-    zero_if x = d (ap (λ t. cond t (min (2 * held_by_inputs nodes i e + 2) (2 ^ 64 - 1)) 0) x)
-
-    by_atom : (t : Bool) → node_is_atom nodes i ≡ t → IsReady nodes s i
-    by_atom true y = absurd (zero_if (ap (λ t. not t && not (same_front (allowed_at nodes s i) (s.fronts i))) y))
-    by_atom false y = (
-      y,
-      λ z. zero_if (ap (λ t. not t && not (same_front (allowed_at nodes s i) (s.fronts i))) y
-          ∙ ap (λ u. not false && not u) (same_of (allowed_at nodes s i) (s.fronts i) z)),
-    )
-
 -- a list with one element in another's place
 pub set_here : {X : Type 0} (xs : List X) (i : ℕ) (x : X) → i < length xs → slice_get (slice_set xs i x) i ≡ Some x
 set_here [] i x l = absurd (let z : i < 0 = l in omega (arith, z))
 set_here (y ∷ xs) zero x l = refl
 set_here (y ∷ xs) (suc i) x l = set_here xs i x (let z : suc i < suc (length xs) = l in omega (arith, z))
+
+-- what is there already, written once more
+pub set_same : {X : Type 0} (xs : List X) (i : ℕ) (x : X) → slice_get xs i ≡ Some x → slice_set xs i x ≡ xs
+set_same [] i x is = refl
+set_same (y ∷ xs) zero x is = (let e : y ≡ x = one y x is in ap (λ z. z ∷ xs) (sym e))
+  where
+    one : {X : Type 0} (a b : X) → Some a ≡ Some b → a ≡ b
+    one a b e = cc
+set_same (y ∷ xs) (suc i) x is = ap (λ ys. y ∷ ys) (set_same xs i x is)
+
+-- a step that moved nothing leaves what the network has
+pub unmoved_parts : (net : Parts) (i : ℕ) (op after : Operator) (e' : Held) → slice_get net.operators i ≡ Some (Some op) → e' ≡ net.edges
+    → after ≡ op → net ≡ record net { edges = e'; operators = slice_set net.operators i (Some after) }
+unmoved_parts net i op after e' is same still =
+    sym (ap (λ e. record net { edges = e; operators = slice_set net.operators i (Some after) }) same
+    ∙ ap (λ (o : Operator). record net { operators = slice_set net.operators i (Some o) }) still
+    ∙ ap (λ os. record net { operators = os }) (set_same net.operators i (Some op) is))
 
 pub set_other : {X : Type 0} (xs : List X) (i : ℕ) (x : X) (j : ℕ) → j ≢ i → slice_get (slice_set xs i x) j ≡ slice_get xs j
 set_other [] i x j d = refl
@@ -215,18 +139,19 @@ module _ (nodes : List Node) (header : Header) (events : List Event) (net : Part
   belongs_now i op q time is last e = subst (λ t. Belongs nodes header events op net.edges t net.closed) (sym e) (belongs_of i op q is last)
 
   -- what the answer of one step says where it was none, and where it was an operator
-  pub unready_by : (i : ℕ) (op : Operator) (e' : Held) (time : ℕ) (o : Option Operator) → slice_get net.operators i ≡ Some (Some op)
-      → MatchOption o (¬ IsReady nodes s op.node) (IsStep nodes header events op net.edges e' time net.closed) → o ≡ None → ¬ IsReady nodes s i
-  unready_by i op e' time o is answer none =
+  pub unready_by : (i : ℕ) (op after : Operator) (e' : Held) (time : ℕ) (moved : Bool) → slice_get net.operators i ≡ Some (Some op)
+      → MatchBool moved (IsStep nodes header events op net.edges e' time net.closed after) (¬ IsReady nodes s op.node) → moved ≡ false
+      → ¬ IsReady nodes s i
+  unready_by i op after e' time moved is answer none =
       subst (λ k. ¬ IsReady nodes s k) (kept_operator i op is).1
-      (subst (λ x. MatchOption x (¬ IsReady nodes s op.node) (IsStep nodes header events op net.edges e' time net.closed)) none answer)
+      (subst (λ x. MatchBool x (IsStep nodes header events op net.edges e' time net.closed after) (¬ IsReady nodes s op.node)) none answer)
 
-  pub step_by : (op : Operator) (e' : Held) (q : Row) (time : ℕ) (o : Option Operator) (after : Operator) → time ≡ q.time
-      → MatchOption o (¬ IsReady nodes s op.node) (IsStep nodes header events op net.edges e' time net.closed) → o ≡ Some after
+  pub step_by : (op after : Operator) (e' : Held) (q : Row) (time : ℕ) (moved : Bool) → time ≡ q.time
+      → MatchBool moved (IsStep nodes header events op net.edges e' time net.closed after) (¬ IsReady nodes s op.node) → moved ≡ true
       → IsStep nodes header events op net.edges e' q.time net.closed after
-  step_by op e' q time o after now answer some =
+  step_by op after e' q time moved now answer some =
       subst (λ t. IsStep nodes header events op net.edges e' t net.closed after) now
-      (subst (λ x. MatchOption x (¬ IsReady nodes s op.node) (IsStep nodes header events op net.edges e' time net.closed)) some answer)
+      (subst (λ x. MatchBool x (IsStep nodes header events op net.edges e' time net.closed after) (¬ IsReady nodes s op.node)) some answer)
 
   -- before any row no node is ready
   pub none_ready : net.last ≡ None → (i : ℕ) → i < length nodes → ¬ IsReady nodes s i
@@ -299,14 +224,10 @@ module _ (nodes : List Node) (header : Header) (events : List Event) (net : Part
       → slice_get ops i ≡ Some (Some after) → ((j : ℕ) → j ≢ i → slice_get ops j ≡ slice_get net.operators j)
       → Stands nodes header (record net { edges = e'; operators = ops }) (events ++ step i ∷ [])
   moved_stands i op after q e' ops is last x long here others =
-      stepped_stands nodes header events net st i after x.room e' ops (l, kept.0) (λ j. ap (λ es. slice_index_or es j none) x.same)
-      (subst (λ k. HasStepped nodes header events k x.room e') kept.1 x.stepped)
-      (x.stepped.edges ∙ ap length x.same) (x.stepped.start ∙ x.same_start)
+      stepped_stands nodes header events net st i after net.edges e' ops (l, kept.0) (λ j. refl)
+      (subst (λ k. HasStepped nodes header events k net.edges e') kept.1 x.stepped) x.stepped.edges x.stepped.start
       (subst (λ k. StandsForSteps nodes header (events ++ step k ∷ []) after e') kept.1 x.belongs.stands) (x.node ∙ kept.1) long here others
     where
-      none : Edge
-      none = record { seen = []; fresh = []; number = None }
-
       kept : (node_is_atom nodes i ≡ false) × (op.node ≡ i) × StandsForSteps nodes header events op net.edges
       kept = kept_operator i op is
 

@@ -19,13 +19,10 @@ pub record AreFirstOperators (nodes : List Node) (operators : List (Option Opera
   pub count : length operators ≡ n
   pub first : (i : ℕ) → i < n → IsFirstOperator nodes i (slice_index_or operators i None)
 
--- one step of an operator that was ready, after room was made on its edges
+-- one step of an operator that was ready
 pub record IsStep (nodes : List Node) (header : Header) (events : List Event) (operator : Operator) (old new : Held) (now : ℕ) (ended : Bool)
     (after : Operator) : Type 0 where
-  pub room : Held
-  pub same : room.edges ≡ old.edges
-  pub same_start : room.start ≡ old.start
-  pub stepped : HasStepped nodes header events operator.node room new
+  pub stepped : HasStepped nodes header events operator.node old new
   pub belongs : Belongs nodes header (events ++ step operator.node ∷ []) after new now ended
   pub node : after.node ≡ operator.node
   pub ready : IsReady nodes (state nodes events) operator.node

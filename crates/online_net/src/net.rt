@@ -3,7 +3,7 @@
 //! A network stands for a run of events, a row, a step of a node, the end, a verdict taken, in whatever order they came. It stores
 //! no history: what it shows is, for each run that it stands for, what the run says.
 
-ghost use Rattle.std.specs.Prelude.{◌≡◌, ◌<◌, ◌+◌, ◌-◌, ◌↔◌, ◌++◌, ◌∷◌, [], List, length, IfOk, IfSome, IfNone, IsTrue, MatchOption, MatchResult, Some, None, true, false, pos, option_map, ◌≢◌};
+ghost use Rattle.std.specs.Prelude.{◌≡◌, ◌<◌, ◌+◌, ◌-◌, ◌↔◌, ◌++◌, ◌∷◌, [], List, length, IfOk, IfSome, IfNone, IsTrue, MatchBool, MatchResult, Some, None, true, false, pos, option_map, ◌≢◌};
 ghost use Rattle.stl_syntax.specs.Trace.{Header};
 ghost use Rattle.stl_syntax.specs.declared.node.Node.{Node as ANode};
 ghost use Rattle.atom_lines.specs.Binding.{IsBound};
@@ -100,27 +100,25 @@ fn time_of(row: &Option<Row>) -> Option<u32>
     }
 }
 
-/// One step of an operator, with room made for it before. None where it is not ready, and then nothing changes.
+/// One step of an operator. False where it is not ready, and then nothing changes.
 fn step_one(
     edges: &mut Edges,
-    operator: Operator,
+    operator: &mut Operator,
     now: u32,
     ended: bool,
-) -> Result<Option<Operator>, Memory>
-    requires { BelongsSomewhere operator edges.old now ended }
-    ensures idle { IfOk result (λ after. after ≡ None → edges.new ≡ edges.old) }
-    ensures stepped { (nodes : List ANode) (header : Header) (events : List Event) → Belongs nodes header events operator edges.old now ended
-        → IfOk result (λ after. MatchOption after (¬ IsReady nodes (state nodes events) operator.node)
-        (IsStep nodes header events operator edges.old edges.new now ended)) }
+) -> Result<bool, Memory>
+    requires { BelongsSomewhere operator.old edges.old now ended }
+    ensures idle { IfOk result (λ moved. moved ≡ false → edges.new ≡ edges.old) }
+    ensures idle_operator { IfOk result (λ moved. moved ≡ false → operator.new ≡ operator.old) }
+    ensures stepped { (nodes : List ANode) (header : Header) (events : List Event) → Belongs nodes header events operator.old edges.old now ended
+        → IfOk result (λ moved. MatchBool moved (IsStep nodes header events operator.old edges.old edges.new now ended operator.new)
+        (¬ IsReady nodes (state nodes events) operator.old.node)) }
 {
-    let need = operator.need(edges, now, ended);
-    if need == 0 {
-        return Ok(None);
+    let moved = operator.advance(edges, now, ended)?;
+    if !moved {
+        return Ok(false);
     }
-    edges.reserve(need)?;
-    let mut after = operator;
-    after.advance(edges, now, ended)?;
-    Ok(Some(after))
+    Ok(true)
 }
 
 impl Net {
@@ -171,13 +169,17 @@ impl Net {
         if self.closed {
             return Err(NetFault::Closed);
         }
-        let Ok(kept) = put_row(
+        let Ok(()) = put_row(
             &mut self.edges,
             &self.operators,
             &self.bound,
             &self.last,
             row,
         ) else {
+            self.stopped = true;
+            return Err(NetFault::Memory);
+        };
+        let Ok(kept) = row.copy() else {
             self.stopped = true;
             return Err(NetFault::Memory);
         };
@@ -230,17 +232,16 @@ impl Net {
             return Ok(false);
         };
         let now = row.time();
-        let Some(operator) = self.operators[node as usize] else {
+        let Some(operator) = &mut self.operators[node as usize] else {
             return Ok(false);
         };
-        let Ok(stepped) = step_one(&mut self.edges, operator, now, self.closed) else {
+        let Ok(moved) = step_one(&mut self.edges, operator, now, self.closed) else {
             self.stopped = true;
             return Err(NetFault::Memory);
         };
-        let Some(after) = stepped else {
+        if !moved {
             return Ok(false);
-        };
-        self.operators[node as usize] = Some(after);
+        }
         Ok(true)
     }
 

@@ -18,6 +18,7 @@ mod UntilLaw
 mod SinceLaw
 mod SettledLaw
 mod EdgesLemmas
+mod QueueLemmas
 pub mod DroppingLemmas
 mod WorkLemmas
 mod SaidLemmas

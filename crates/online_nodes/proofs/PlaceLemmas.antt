@@ -1,5 +1,5 @@
 -- The order of places.
-use Rattle.std.proofs.Common.{◌≡◌, ◌⊎◌, inl, inr, Bool, true, false, sym, ◌∙◌, refl}
+use Rattle.std.proofs.Common.{◌≡◌, ◌⊎◌, inl, inr, Bool, true, false, not, ◌&&◌, sym, ◌∙◌, refl}
 use Rattle.std.specs.Prelude.{MatchBool}
 use Rattle.rational.specs.Rational.{Rational, ◌≤ʳ◌, ◌<ʳ◌, ◌≈◌, middle}
 use Rattle.rational.proofs.Order.{
@@ -18,6 +18,8 @@ use Rattle.rational.proofs.Order.{
   left_of_middle,
   right_of_middle,
 }
+use Rattle.rational.specs.Time.{HasTimeBetween}
+use Rattle.rational.proofs.TimeLemmas.{room_of_precedes, precedes_of_lt}
 use Rattle.online_nodes.specs.Cuts.{Place, After, Upto, Before, Same}
 
 -- each time lies on one side of a place
@@ -171,3 +173,8 @@ before_trans c d e h k = let t = between c d h in before_through c e t.0 t.1 (up
 
 pub same_trans_places : {c d e : Place} → Same c d → Same d e → Same c e
 same_trans_places (s, e) (r, f) = (same_trans s r, e ∙ f)
+
+-- between two places there is room where the one comes before the other
+pub room_of_before : (c d : Place) → Before c d → HasTimeBetween c.at d.at (not c.after && d.after)
+room_of_before c d (inl l) = room_of_precedes (not c.after && d.after) c.at d.at (precedes_of_lt (not c.after && d.after) c.at d.at l)
+room_of_before c d (inr (s, e, f)) = rw (e, f) (room_of_precedes true c.at d.at (le_of_same s))

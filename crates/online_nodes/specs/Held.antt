@@ -2,10 +2,8 @@
 use Rattle.std.specs.Prelude.{
   ◌≡◌,
   ℕ,
-  ◌*◌,
   ◌-◌,
   ◌<◌,
-  ◌^◌,
   ℤ,
   List,
   [],
@@ -85,14 +83,3 @@ pub record IsDroppedBy (limit : ℤ) (old new : Edge) : Type 0 where
   pub is : new ≡ without count old
   pub ended : (k : ℕ) → k < count → IfSome (slice_get (held_of old) k) (λ v. value v.on.to ≤ʳ whole limit)
   pub rest : IfSome (slice_get (held_of new) 0) (λ v. whole limit <ʳ value v.on.to)
-
--- the edges of a pool's lists: list 2 * i has what was read of edge i, and the next list what was not. No public clause cites it
-abbrev pub edges_of : List (Option ℤ) → List (List Verdict) → List Edge
-edges_of [] lists = []
-edges_of (n ∷ numbers) lists =
-    record { seen = slice_index_or lists 0 []; fresh = slice_index_or lists 1 []; number = n } ∷ edges_of numbers (drop 2 lists)
-
--- each number has two lists, and the lists can be counted
-pub record HasTwoLists (lists : List (List Verdict)) (numbers : List (Option ℤ)) : Type 0 where
-  pub two : length lists ≡ 2 * length numbers
-  pub few : 2 * length numbers < 2 ^ 32

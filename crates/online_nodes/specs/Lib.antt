@@ -7,6 +7,7 @@ pub mod MarginEdges
 pub mod Cuts
 pub mod Reading
 pub mod Held
+pub mod Queues
 pub mod Written
 pub mod Laws
 pub mod Working

@@ -1,27 +1,31 @@
 //! The edges of a network.
 //!
-//! An edge is two lists of one pool: what its reader has read and may still need, and behind it what it has not read. So an
+//! An edge is a queue of its own: what its reader has read and may still need, and behind it what it has not read. So an
 //! operator goes on in the middle of its input's edge with no walk, and to read a verdict takes no memory.
 
-ghost use Rattle.std.specs.Prelude.{◌≡◌, ◌*◌, ◌+◌, ◌<◌, ◌≤◌, ◌^◌, [], ◌∷◌, length, replicate, slice_get, IfOk, IsOk, OnOk, OnErr, OnSome, IfNone, IfSome, None, Some, IsTrue, ◌↔◌};
+ghost use Rattle.std.specs.Prelude.{◌≡◌, ◌*◌, ◌+◌, ◌<◌, ◌≤◌, ◌^◌, [], ◌∷◌, length, replicate, slice_get, IfOk, IsOk, OnOk, OnErr, None, Some, IsTrue, ◌↔◌, ℕ, map, All};
 ghost use Rattle.rational.specs.Rational.{◌≤ʳ◌};
 ghost use Rattle.frac128.specs.Value.{value};
+ghost use Rattle.online_nodes.specs.Queues.{edge_of, IsQueue};
 ghost use Rattle.online_nodes.specs.Held.{edge_at, fresh_at, held_at, no_edge, number_at, with_edge, with_more, with_number, with_read, without, IsDroppedBy};
 
+use crate::queue::Queue;
 use frac128::{Frac, Memory};
-use seg_pool::Pool;
 use std::alloc::Global;
 use std::cmp::Ordering;
 use std::marker::Model;
 use stl_syntax::Verdict;
 
+/// How much room is made at once for each edge, where there is too little.
+const ROOM: usize = 64;
+
 /// For each node the verdicts that its reader may still need and the number noted last, and the time of the first row.
 ///
-/// Contracts see it as `Held`.
+/// `spare` says how many verdicts each queue has room for, at least. Contracts see it as `Held`.
 #[derive(Drop)]
 pub struct Edges {
-    pool: Pool<Verdict>,
-    numbers: Vec<Option<i64>>,
+    queues: Vec<Queue>,
+    spare: usize,
     start: Option<u32>,
 }
 
@@ -30,11 +34,12 @@ impl Model for Edges {
 
     ghost Value = { Held };
 
-    ghost use Rattle.online_nodes.specs.Held.{edges_of, HasTwoLists};
+    ghost use Rattle.std.specs.Prelude.{map, All};
+    ghost use Rattle.online_nodes.specs.Queues.{edge_of, IsQueue};
 
-    ghost view = { λ e. record { edges = edges_of e.numbers.items e.pool.all; start = e.start; spare = e.pool.spare } };
+    ghost view = { λ e. record { edges = map edge_of e.queues.items; start = e.start; spare = e.spare } };
 
-    ghost invariant = { λ e. HasTwoLists e.pool.all e.numbers.items };
+    ghost invariant = { λ e. All (IsQueue e.spare) e.queues.items };
 }
 
 impl Edges {
@@ -48,18 +53,15 @@ impl Edges {
         ensures edges { IfOk result (λ e. e.edges ≡ replicate count no_edge) }
         ensures start { IfOk result (λ e. e.start ≡ None) }
     {
-        let mut pool = Pool::new(alloc);
-        let mut numbers = Vec::new(alloc);
+        let mut queues = Vec::new(alloc);
         for made in 0..count {
-            pool.new_list()?;
-            pool.new_list()?;
-            let Ok(()) = numbers.push(None) else {
+            let Ok(()) = queues.push(Queue::new(alloc)) else {
                 return Err(Memory);
             };
         }
         Ok(Edges {
-            pool,
-            numbers,
+            queues,
+            spare: 0,
             start: None,
         })
     }
@@ -73,6 +75,7 @@ impl Edges {
     }
 
     /// The time of the first row, once it was noted.
+    #[inline(always)]
     pub(crate) fn start(&self) -> Option<u32>
         ensures { result ≡ self.now.start }
     {
@@ -84,6 +87,7 @@ impl Edges {
     /// # Errors
     ///
     /// `Memory` where there is no memory, and then nothing changes. With a spare of 1 it never comes.
+    #[inline(never)]
     pub fn put(&mut self, edge: u32, piece: Verdict) -> Result<(), Memory>
         requires { edge < length self.old.edges }
         ensures put { OnOk result (self.new.edges ≡ with_edge self.old edge (with_more (edge_at self.old edge) (piece ∷ []))) }
@@ -92,29 +96,35 @@ impl Edges {
         ensures had_room { 0 < self.old.spare → IsOk result }
         ensures memory { OnErr result (self.new ≡ self.old) }
     {
-        match self.pool.push_back(2 * edge + 1, piece) {
-            Ok(()) => Ok(()),
+        match self.queues[edge as usize].put(piece) {
+            Ok(()) => {
+                self.spare = self.spare.saturating_sub(1);
+                Ok(())
+            }
             Err(_) => Err(Memory),
         }
     }
 
     /// Notes a node's number.
+    #[inline(always)]
     pub fn reach(&mut self, edge: u32, number: i64)
         requires { edge < length self.old.edges }
         ensures { self.new ≡ record self.old { edges = with_edge self.old edge (with_number (edge_at self.old edge) number) } }
     {
-        self.numbers[edge as usize] = Some(number);
+        self.queues[edge as usize].reach(number);
     }
 
     /// The number noted last.
+    #[inline(always)]
     pub fn number(&self, edge: u32) -> Option<i64>
         requires { edge < length self.now.edges }
         ensures { result ≡ number_at self.now edge }
     {
-        self.numbers[edge as usize]
+        self.queues[edge as usize].number()
     }
 
     /// Takes out the first verdict of an edge. None where the edge holds none.
+    #[inline(always)]
     pub fn take(&mut self, edge: u32) -> Option<Verdict>
         requires { edge < length self.old.edges }
         ensures first { result ≡ slice_get (held_at self.old edge) 0 }
@@ -122,20 +132,16 @@ impl Edges {
         ensures start { self.new.start ≡ self.old.start }
         ensures spare { self.old.spare ≤ self.new.spare }
     {
-        match self.pool.pop_front(2 * edge) {
-            Some(v) => Some(v),
-            None => self.pool.pop_front(2 * edge + 1),
-        }
+        self.queues[edge as usize].take()
     }
 
     /// How many verdicts an edge holds.
+    #[inline(always)]
     pub fn held(&self, edge: u32) -> usize
         requires { edge < length self.now.edges }
         ensures { result ≡ length (held_at self.now edge) }
     {
-        // for the proof alone: all verdicts together can be counted, so those of one edge can
-        let _all = self.pool.live();
-        self.pool.len(2 * edge) + self.pool.len(2 * edge + 1)
+        self.queues[edge as usize].len()
     }
 
     /// Makes room for `n` verdicts in all edges together.
@@ -151,28 +157,33 @@ impl Edges {
         ensures had_room { n ≤ self.old.spare → IsOk result }
         ensures memory { OnErr result (self.new ≡ self.old) }
     {
-        self.pool.reserve(n)
+        if n <= self.spare {
+            return Ok(());
+        }
+        let room = n.max(ROOM);
+        make_room(&mut self.queues, room)?;
+        self.spare = room;
+        Ok(())
     }
 
     /// How many verdicts can be put with no allocation.
     pub fn spare(&self) -> usize
         ensures { result ≡ self.now.spare }
     {
-        self.pool.spare()
+        self.spare
     }
 
     /// The first verdict of an edge that its reader has not read.
+    #[inline(always)]
     pub(crate) fn next(&self, edge: u32) -> Option<Verdict>
         requires { edge < length self.now.edges }
         ensures { result ≡ slice_get (fresh_at self.now edge) 0 }
     {
-        match self.pool.front(2 * edge + 1) {
-            Some(v) => Some(*v),
-            None => None,
-        }
+        self.queues[edge as usize].next()
     }
 
     /// Reads the first verdict of an edge that was not read, and gives it. It takes no memory.
+    #[inline(always)]
     pub(crate) fn pass(&mut self, edge: u32) -> Verdict
         requires edge { edge < length self.old.edges }
         requires some { 0 < length (fresh_at self.old edge) }
@@ -181,24 +192,16 @@ impl Edges {
         ensures start { self.new.start ≡ self.old.start }
         ensures spare { self.old.spare ≤ self.new.spare }
     {
-        let Some(v) = self.pool.pop_front(2 * edge + 1) else {
-            unreachable!()
-        };
-        let Ok(()) = self.pool.push_back(2 * edge, v) else {
-            unreachable!()
-        };
-        v
+        self.queues[edge as usize].pass()
     }
 
     /// The first verdict of an edge.
+    #[inline(always)]
     fn first(&self, edge: u32) -> Option<Verdict>
         requires { edge < length self.now.edges }
         ensures { result ≡ slice_get (held_at self.now edge) 0 }
     {
-        match self.pool.front(2 * edge) {
-            Some(v) => Some(*v),
-            None => self.next(edge),
-        }
+        self.queues[edge as usize].first()
     }
 
     /// Drops from the front of an edge what ends by the time `limit`.
@@ -219,7 +222,21 @@ impl Edges {
     }
 }
 
+/// Makes room for so many verdicts in each queue.
+fn make_room(queues: &mut Vec<Queue>, room: usize) -> Result<(), Memory>
+    requires { All (IsQueue 0) queues.old.items }
+    ensures same { map edge_of queues.new.items ≡ map edge_of queues.old.items }
+    ensures kept { (spare : ℕ) → All (IsQueue spare) queues.old.items → All (IsQueue spare) queues.new.items }
+    ensures room { OnOk result (All (IsQueue room) queues.new.items) }
+{
+    for i in 0..queues.len() {
+        queues[i].reserve(room)?;
+    }
+    Ok(())
+}
+
 /// Whether the verdict ends by the time `end`.
+#[inline(always)]
 fn ends_by(v: &Verdict, end: &Frac) -> bool
     ensures { IsTrue result ↔ value v.now.on.to ≤ʳ value end.now }
 {

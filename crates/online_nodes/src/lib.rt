@@ -10,6 +10,7 @@ mod kind;
 mod laws;
 mod negation;
 mod operator;
+mod queue;
 mod since;
 mod until;
 mod window;

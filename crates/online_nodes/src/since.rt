@@ -40,6 +40,7 @@ enum Turn {
 }
 
 /// Tells the rest of the stretch, through which the left input holds: beyond what was found nothing counts in it.
+#[inline(always)]
 fn rest(edges: &mut Edges, course: Course) -> Result<Course, Memory>
     requires own { course.out.edge < length edges.old.edges }
     requires sound { IsSound course.out }
@@ -58,6 +59,7 @@ fn rest(edges: &mut Edges, course: Course) -> Result<Course, Memory>
 }
 
 /// The left input holds next: it is read, and up to where its verdict ends only what was found counts.
+#[inline(always)]
 fn go_on(edges: &mut Edges, since: Since, course: Course, v: Verdict) -> Result<Turn, Memory>
     requires left { since.window.of < length edges.old.edges }
     requires own { course.out.edge < length edges.old.edges }

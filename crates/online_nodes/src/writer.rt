@@ -23,6 +23,7 @@ pub struct Out {
 
 impl Out {
     /// Nothing was said yet of the stretch between the two places.
+    #[inline(always)]
     pub fn new(edge: u32, from: Cut, to: Cut) -> Out
         ensures { result ≡ record { edge = edge; from = from; at = from; to = to; holds = None } }
     {
@@ -36,6 +37,7 @@ impl Out {
     }
 
     /// Where the stretch ends.
+    #[inline(always)]
     pub fn end(&self) -> Cut
         ensures { result ≡ self.now.to }
     {
@@ -43,23 +45,22 @@ impl Out {
     }
 
     /// The span that ends where the writer stands.
+    #[inline(always)]
     fn span(self) -> Span
         requires { Before (place self.from) (place self.at) }
         ensures begin { Same (place self.from) (begins (interval result)) }
         ensures end { Same (place self.at) (ends (interval result)) }
     {
-        let Some(span) = Span::make(
-            self.from.time,
-            !self.from.after,
-            self.at.time,
-            self.at.after,
-        ) else {
-            unreachable!()
-        };
-        span
+        Span {
+            from: self.from.time,
+            from_in: self.from.side == 0,
+            to: self.at.time,
+            to_in: self.at.side != 0,
+        }
     }
 
     /// Puts that span onto the edge.
+    #[inline(always)]
     fn write(self, edges: &mut Edges, holds: bool) -> Result<(), Memory>
         requires edge { self.edge < length edges.old.edges }
         requires some { Before (place self.from) (place self.at) }
@@ -72,6 +73,7 @@ impl Out {
     }
 
     /// The verdict up to a later place.
+    #[inline(always)]
     fn go_on(self, edges: &mut Edges, holds: bool, cut: Cut) -> Result<Out, Memory>
         requires edge { self.edge < length edges.old.edges }
         requires sound { IsSound self }
@@ -108,6 +110,7 @@ impl Out {
     /// # Errors
     ///
     /// `Memory` where there is no memory, which never comes with a spare of 1.
+    #[inline(always)]
     pub fn upto(self, edges: &mut Edges, holds: bool, cut: Cut) -> Result<Out, Memory>
         requires edge { self.edge < length edges.old.edges }
         requires inside { AtMost (place self.at) (place self.to) }
@@ -129,6 +132,7 @@ impl Out {
     /// # Errors
     ///
     /// `Memory` where there is no memory, which never comes with a spare of 2.
+    #[inline(always)]
     pub(crate) fn turn(
         self,
         edges: &mut Edges,
@@ -152,6 +156,7 @@ impl Out {
     /// # Errors
     ///
     /// `Memory` where there is no memory, which never comes with a spare of 1.
+    #[inline(always)]
     pub fn finish(self, edges: &mut Edges) -> Result<(), Memory>
         requires edge { self.edge < length edges.old.edges }
         requires sound { IsSound self }

@@ -1,5 +1,5 @@
 -- A signal of margins that is made step by step, and tells a function.
-use Rattle.std.proofs.Common.{◌≡◌, ◌⊎◌, inl, inr, ℕ, pos, neg_ℤ, ◌^◌, List, [], ◌∷◌, refl, sym, subst, arith}
+use Rattle.std.proofs.Common.{◌≡◌, ◌⊎◌, inl, inr, ℕ, pos, neg_ℤ, ◌^◌, List, [], ◌∷◌, sym, subst, arith}
 use Rattle.rational.specs.Rational.{IsWithin}
 use Rattle.rational.specs.Time.{Rational, ◌≈◌, ◌≤ʳ◌, ◌<ʳ◌, whole}
 use Rattle.rational.specs.Extended.{Extended, Passes, value_at}
@@ -7,7 +7,7 @@ use Rattle.rational.specs.Affine.{IsBounded}
 use Rattle.rational.specs.Windows.{Function}
 use Rattle.rational.proofs.Order.{ge_of_same, le_trans, lt_of_le_of_lt, same_refl, same_sym, same_trans}
 use Rattle.rational.proofs.Mixed.{within_same}
-use Rattle.rational.proofs.Sames.{symᵉ, transᵉ}
+use Rattle.rational.proofs.Sames.{transᵉ}
 use Rattle.rational.proofs.AffineLemmas.{bounded_same, value_same}
 use Rattle.rational.proofs.TimeFunctions.{IsFunction}
 use Rattle.frac128.specs.Value.{value}
@@ -19,7 +19,7 @@ use Rattle.pl_signal.specs.declared.knot.Knot.{Knot}
 use Rattle.pl_signal.specs.declared.joining.Side.{Side}
 use Rattle.pl_signal.specs.Building.{GoesOn}
 use Rattle.pl_signal.specs.Joining.{IsChosen, Joins}
-use Rattle.pl_signal.specs.Knots.{start, stop, HasShape, IsWorth}
+use Rattle.pl_signal.specs.Knots.{stop, HasShape, IsWorth}
 use Rattle.pl_signal.proofs.Limits.{limited}
 use Rattle.pl_signal.proofs.Telling.{TellsSoFar, told, tells_first, tells_on, tells_join}
 use Rattle.online_robust.specs.Told.{IsMovedBy, IsTick}

@@ -1,15 +1,15 @@
 -- Margins negated, and chosen of two, at a time.
-use Rattle.std.proofs.Common.{◌≡◌, ◌⊎◌, inl, inr, ℕ, ℤ, pos, neg_ℤ, ◌+◌, ◌^◌, Bool, true, false, refl, sym, subst, ap, ◌∙◌, arith}
+use Rattle.std.proofs.Common.{◌≡◌, ◌⊎◌, inl, inr, ℕ, ℤ, pos, neg_ℤ, ◌+◌, ◌^◌, Bool, true, false, refl, sym, subst, arith}
 use Rattle.std.specs.Prelude.{IsTrue, ◌≤ℤ◌, ◌<ℤ◌}
 use Rattle.std.proofs.lemmas.Int.{ints}
-use Rattle.rational.specs.Time.{Rational, ◌≈◌}
+use Rattle.rational.specs.Time.{Rational}
 use Rattle.rational.specs.Extended.{Extended, opposite, value_at, ◌≈ᵉ◌}
 use Rattle.rational.specs.Affine.{IsBounded, HasBoundedLevel}
 use Rattle.rational.specs.Windows.{Function}
 use Rattle.rational.proofs.Order.{same_refl}
 use Rattle.rational.proofs.ExtendedLemmas.{opposite_twice}
 use Rattle.rational.proofs.AffineLemmas.{same_reflᵉ, bounded_same, opposite_back, opposite_same}
-use Rattle.rational.proofs.Sames.{symᵉ, transᵉ}
+use Rattle.rational.proofs.Sames.{symᵉ}
 use Rattle.rational.proofs.Bounds.{greatest_bounded, least_bounded, level_bounded, opposite_bounded}
 use Rattle.rational.proofs.TimeFunctions.{IsFunction}
 use Rattle.value_laws.specs.Margins.{is_ramp, margin_base, margin_function, others_base}

@@ -1,13 +1,10 @@
 -- How lines are read from a time on.
-use Rattle.std.proofs.Common.{◌≡◌, ◌≢◌, ℕ, zero, suc, ◌+◌, ◌-◌, ◌<◌, ◌≤◌, ◌^◌, List, [], ◌∷◌, Some, None, Option, refl, sym, ap, subst, ◌∙◌, length, drop, get_or, slice_get, arith, length-drop}
+use Rattle.std.proofs.Common.{◌≡◌, ℕ, ◌^◌, List, [], ◌∷◌, Some, None, Option, refl, sym, subst, slice_get}
 use Rattle.std.specs.Prelude.{IfSome}
-use Rattle.std.proofs.lemmas.List.{get_or-set_other, get_or-set_same, length-set}
-use Rattle.rational.specs.Rational.{IsWithin}
-use Rattle.rational.specs.Time.{Rational, ◌≈◌, ◌≤ʳ◌, ◌<ʳ◌, whole}
+use Rattle.rational.specs.Time.{Rational, ◌≈◌, ◌≤ʳ◌, ◌<ʳ◌}
 use Rattle.rational.specs.Extended.{value_at}
-use Rattle.rational.specs.Affine.{IsBounded}
 use Rattle.rational.specs.Windows.{Function}
-use Rattle.rational.proofs.Order.{le_refl, le_of_lt, le_of_same, ge_of_same, le_trans, lt_of_le_of_lt, lt_of_lt_of_le, lt_irrefl, same_refl, same_sym, same_trans}
+use Rattle.rational.proofs.Order.{le_refl, le_of_lt, le_of_same, ge_of_same, le_trans, lt_of_le_of_lt, lt_of_lt_of_le, lt_irrefl, same_sym, same_trans}
 use Rattle.rational.proofs.Sames.{symᵉ}
 use Rattle.rational.proofs.AffineLemmas.{value_same, bounded_same}
 use Rattle.rational.proofs.Bounds.{bounded_between}
@@ -17,12 +14,10 @@ use Rattle.frac128.specs.declared.frac.Frac.{Frac}
 use Rattle.value_laws.specs.Margins.{margin_function}
 use Rattle.value_laws.specs.declared.margin.Margin.{Margin}
 use Rattle.online_robust.specs.Lines.{end_of}
-use Rattle.online_robust.specs.Held.{Edge, Held, edge_at, held_at, held_of, no_edge, with_edge, without}
-use Rattle.online_robust.specs.Told.{AreFit, AreJoined, AreTold, IsFitLine, IsToldLine, IsMovedBy, IsTick}
-use Rattle.online_robust.specs.Reading.{IsAhead, IsThere, Loses, LosesAt, LosesAtBoth}
+use Rattle.online_robust.specs.Told.{AreFit, AreJoined, AreTold, IsFitLine, IsToldLine}
+use Rattle.online_robust.specs.Reading.{IsAhead, IsThere}
 use Rattle.online_robust.specs.declared.line.MarginLine.{MarginLine}
 use Rattle.online_robust.specs.declared.line.MarginLine.TheVariants.{Point, Gap}
-use Rattle.online_robust.proofs.DroppingLemmas.{drop-drop, held_of-without, slice_get-drop, without-none}
 
 -- lines that begin with a gap about the time and the point behind it
 pub record FirstGap (P : Function) (reach : ℕ) (at to : Rational) (lines : List MarginLine) : Type 0 where

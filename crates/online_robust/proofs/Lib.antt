@@ -1,6 +1,28 @@
 mod EdgesLemmas
 pub mod DroppingLemmas
 mod QueueLemmas
+mod Emitting
+mod Growing
+mod Rests
+mod SignalLines
+mod Readers
+mod Passing
+mod Moved
+mod RowFacts
+mod Going
+mod Idling
+mod Leaves
+mod LeafMoved
+mod Loops
+mod Apart
+mod Bridging
+mod Firsting
+mod Standings
+mod Taking
+mod Stationing
+mod EdgeTouches
+mod Puts
+pub mod StreamTexts
 pub mod JoinedLemmas
 pub mod Losses
 pub mod Robustly

@@ -1,15 +1,11 @@
 -- How a negation goes through its input.
-use Rattle.std.proofs.Common.{◌≡◌, ◌⊎◌, inl, inr, ℕ, ◌+◌, ◌<◌, ◌≤◌, ◌^◌, true, List, [], ◌∷◌, Option, Some, None, refl, sym, ap, subst, ◌∙◌, length, drop, slice_get, arith, length-drop}
+use Rattle.std.proofs.Common.{◌≡◌, ◌<◌, ◌^◌, true, List, ◌∷◌, Some, None, sym, ap, subst, ◌∙◌, length, slice_get, arith}
 use Rattle.std.specs.Prelude.{IsTrue}
-use Rattle.rational.specs.Rational.{IsWithin}
 use Rattle.rational.specs.Time.{Rational, ◌≈◌, ◌≤ʳ◌, ◌<ʳ◌}
 use Rattle.rational.specs.Extended.{opposite, value_at, ◌≈ᵉ◌}
 use Rattle.rational.specs.Affine.{HasBoundedLevel}
-use Rattle.rational.specs.Windows.{Function}
-use Rattle.rational.proofs.Order.{le_refl, le_of_lt, le_of_same, ge_of_same, le_trans, lt_of_le_of_lt, lt_of_lt_of_le, same_refl, same_sym, same_trans}
+use Rattle.rational.proofs.Order.{le_refl, le_of_lt, le_of_same, ge_of_same, le_trans, lt_of_le_of_lt, lt_of_lt_of_le, same_refl}
 use Rattle.rational.proofs.Bounds.{level_bounded}
-use Rattle.rational.proofs.Mixed.{within_same}
-use Rattle.rational.proofs.TimeFunctions.{IsFunction}
 use Rattle.frac128.specs.Value.{value}
 use Rattle.frac128.specs.declared.frac.Frac.{Frac}
 use Rattle.value_laws.specs.Kinds.{margin_shape}
@@ -20,17 +16,17 @@ use Rattle.pl_signal.specs.Building.{GoesOn}
 use Rattle.stl_syntax.specs.SupInf.{Robustness}
 use Rattle.online_robust.specs.Lines.{end_of, margin_of}
 use Rattle.online_robust.specs.Held.{Held, edge_at, held_at, with_edge, without}
-use Rattle.online_robust.specs.Told.{IsMovedBy, IsTick, IsFitLine, IsToldLine, AreJoined}
-use Rattle.online_robust.specs.Reading.{Begins, HasReached, IsAhead, IsBuilt, IsReady, IsThere, LosesAt, turned_by}
+use Rattle.online_robust.specs.Told.{IsMovedBy, IsTick}
+use Rattle.online_robust.specs.Reading.{Begins, HasReached, IsAhead, IsBuilt, IsReady, IsThere, LosesAt}
 use Rattle.online_robust.specs.Couples.{CanNegate, Couple, IsNegatedTo, left_of, turns_left_of}
 use Rattle.online_robust.specs.declared.line.MarginLine.{MarginLine}
 use Rattle.online_robust.specs.declared.line.MarginLine.TheVariants.{Point, Gap}
 use Rattle.online_robust.specs.declared.pointwise.Not.{Not}
-use Rattle.online_robust.proofs.Builts.{built_on, tick_between, tick_within}
-use Rattle.online_robust.proofs.Choosing.{level_there, moved_as, turned_is_function, turned_there}
+use Rattle.online_robust.proofs.Builts.{built_on}
+use Rattle.online_robust.proofs.Choosing.{moved_as, turned_is_function, turned_there}
 use Rattle.online_robust.proofs.JoinedLemmas.{FirstGap, ahead_same, ahead_next, first_gap, joined_to, there_at, there_in}
 use Rattle.online_robust.proofs.Losses.{took_held}
-use Rattle.online_robust.proofs.PointwiseLemmas.{TakesTwo, begun_point, begun_rest, begun_some, has_second, is_gap, is_point, is_rest, two_held, two_lost}
+use Rattle.online_robust.proofs.PointwiseLemmas.{TakesTwo, begun_point, begun_rest, is_gap, is_point, is_rest, two_lost}
 use Rattle.online_robust.proofs.Robustly.{robust_is_function}
 
 -- the margin is minus the other

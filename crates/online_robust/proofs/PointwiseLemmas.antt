@@ -1,21 +1,15 @@
 -- How negation and the connectives go through their inputs.
-use Rattle.std.proofs.Common.{◌≡◌, ◌≢◌, ◌⊎◌, inl, inr, ℕ, ◌+◌, ◌<◌, ◌≤◌, ◌^◌, Bool, true, false, List, [], ◌∷◌, Option, Some, None, refl, sym, ap, subst, ◌∙◌, length, drop, get_or, slice_get, arith, length-drop}
-use Rattle.std.specs.Prelude.{IfSome}
+use Rattle.std.proofs.Common.{◌≡◌, ℕ, ◌<◌, List, ◌∷◌, Some, None, refl, sym, ap, subst, ◌∙◌, length, drop, slice_get, arith}
 use Rattle.std.specs.declared.cmp.Ordering.{Ordering}
 use Rattle.std.specs.declared.cmp.Ordering.TheVariants.{Less, Equal, Greater}
 use Rattle.rational.specs.Rational.{IsOrder}
 use Rattle.rational.specs.Time.{Rational, ◌≈◌, ◌≤ʳ◌, ◌<ʳ◌}
-use Rattle.rational.specs.Extended.{value_at, ◌≈ᵉ◌}
 use Rattle.rational.specs.Windows.{Function}
-use Rattle.rational.proofs.Order.{le_refl, le_of_lt, le_of_same, ge_of_same, le_trans, lt_of_le_of_lt, lt_of_lt_of_le, not_lt_of_le, same_refl, same_sym, same_trans}
-use Rattle.rational.proofs.TimeFunctions.{IsFunction}
+use Rattle.rational.proofs.Order.{le_refl, le_of_lt, le_of_same, ge_of_same, lt_of_le_of_lt, not_lt_of_le, same_sym, same_trans}
 use Rattle.frac128.specs.Value.{value}
-use Rattle.value_laws.specs.Margins.{margin_function}
-use Rattle.value_laws.specs.declared.margin.Margin.{Margin}
 use Rattle.stl_syntax.specs.SupInf.{Robustness}
 use Rattle.online_robust.specs.Lines.{end_of, margin_of}
-use Rattle.online_robust.specs.Held.{Edge, Held, edge_at, held_at, held_of, with_edge, without}
-use Rattle.online_robust.specs.Told.{IsTick}
+use Rattle.online_robust.specs.Held.{Held, edge_at, held_at, with_edge, without}
 use Rattle.online_robust.specs.Reading.{Begins, IsAhead, IsThere, LosesAt}
 use Rattle.online_robust.specs.Couples.{IsReadTo, Source}
 use Rattle.online_robust.specs.declared.line.MarginLine.{MarginLine}

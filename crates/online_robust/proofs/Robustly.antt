@@ -1,8 +1,7 @@
 -- The robustness is a function of time.
-use Rattle.std.proofs.Common.{Bool, true, false}
-use Rattle.rational.specs.Time.{Rational, ◌≈◌}
+use Rattle.std.proofs.Common.{true, false}
+use Rattle.rational.specs.Time.{Rational}
 use Rattle.rational.specs.Extended.{Extended, minus_infinity, finite, infinity, opposite, ◌≈ᵉ◌}
-use Rattle.rational.specs.Windows.{Function}
 use Rattle.rational.proofs.AffineLemmas.{same_symᵉ, same_transᵉ, opposite_same}
 use Rattle.rational.proofs.Sups.{sup_value_same, inf_value_same}
 use Rattle.rational.proofs.TimeFunctions.{IsFunction}

@@ -1,13 +1,12 @@
 -- How a connective goes through its inputs.
-use Rattle.std.proofs.Common.{◌≡◌, ◌≢◌, ◌⊎◌, inl, inr, ℕ, ◌+◌, ◌<◌, ◌≤◌, ◌^◌, true, false, List, [], ◌∷◌, Option, Some, None, refl, sym, ap, subst, ◌∙◌, length, drop, slice_get, arith}
-use Rattle.std.specs.Prelude.{Bool, IfSome, IsTrue, if◌then◌else◌}
-use Rattle.rational.specs.Rational.{IsWithin, middle}
+use Rattle.std.proofs.Common.{◌≡◌, ◌⊎◌, inl, inr, ℕ, ◌+◌, ◌<◌, ◌≤◌, ◌^◌, true, false, List, Some, None, sym, ap, subst, ◌∙◌, length, drop, slice_get, arith}
+use Rattle.std.specs.Prelude.{Bool, IsTrue, if◌then◌else◌}
+use Rattle.rational.specs.Rational.{middle}
 use Rattle.rational.specs.Time.{Rational, less, ◌≈◌, ◌≤ʳ◌, ◌<ʳ◌}
-use Rattle.rational.specs.Extended.{Extended, value_at, ◌≈ᵉ◌}
-use Rattle.rational.specs.Affine.{HasBoundedLevel, IsBounded}
+use Rattle.rational.specs.Extended.{value_at, ◌≈ᵉ◌}
+use Rattle.rational.specs.Affine.{HasBoundedLevel}
 use Rattle.rational.specs.Windows.{Function}
-use Rattle.rational.specs.InPlay.{IsPart, of_two, IsInPlay}
-use Rattle.rational.proofs.Order.{le_refl, le_of_lt, le_of_same, ge_of_same, le_trans, left_of_middle, lt_of_le_of_lt, lt_of_lt_of_le, right_of_middle, same_refl, same_sym, same_trans}
+use Rattle.rational.proofs.Order.{le_refl, le_of_same, ge_of_same, le_trans, left_of_middle, lt_of_le_of_lt, lt_of_lt_of_le, right_of_middle, same_refl, same_sym, same_trans}
 use Rattle.rational.proofs.AffineLemmas.{bounded_same, same_reflᵉ, value_same}
 use Rattle.rational.proofs.Bounds.{level_bounded}
 use Rattle.rational.proofs.Sames.{symᵉ}
@@ -22,18 +21,17 @@ use Rattle.pl_signal.specs.declared.knot.Knot.{Knot}
 use Rattle.pl_signal.specs.declared.faults.WidePair.TheVariants.{Cross, Value}
 use Rattle.pl_signal.specs.declared.faults.OpFault.{OpFault}
 use Rattle.pl_signal.specs.declared.faults.OpFault.TheVariants as F
-use Rattle.pl_signal.specs.Joining.{IsChosen, IsGapFault, Joins}
-use Rattle.stl_syntax.specs.Trace.{start, stop}
+use Rattle.pl_signal.specs.Joining.{IsGapFault, Joins}
 use Rattle.stl_syntax.specs.SupInf.{Robustness}
 use Rattle.online_robust.specs.Lines.{end_of, margin_of}
-use Rattle.online_robust.specs.Held.{Edge, Held, edge_at, held_at, held_of, with_edge, without}
+use Rattle.online_robust.specs.Held.{Held, edge_at, held_at, held_of, with_edge, without}
 use Rattle.online_robust.specs.Told.{IsMovedBy, IsTick}
-use Rattle.online_robust.specs.Reading.{Begins, HasReached, IsAhead, IsBuilt, IsReady, IsThere, LosesAt, LosesAtBoth, turned_by, value_turned}
-use Rattle.online_robust.specs.Couples.{CanJoin, Couple, IsCoupleFault, IsJoinedTo, IsReadTo, Source, both_of, left_of, right_of, turns_left}
+use Rattle.online_robust.specs.Reading.{Begins, HasReached, IsAhead, IsBuilt, IsReady, IsThere, LosesAt, LosesAtBoth, value_turned}
+use Rattle.online_robust.specs.Couples.{CanJoin, Couple, IsCoupleFault, IsJoinedTo, Source, both_of, left_of, right_of}
 use Rattle.online_robust.specs.declared.line.MarginLine.{MarginLine}
 use Rattle.online_robust.specs.declared.line.MarginLine.TheVariants.{Point, Gap}
 use Rattle.online_robust.specs.declared.pointwise.Two.{Two}
-use Rattle.online_robust.proofs.Builts.{built_join, tick_between}
+use Rattle.online_robust.proofs.Builts.{built_join}
 use Rattle.online_robust.proofs.Choosing.{chosen_bounded, chosen_is_function, moved_as, turned_is_function, turned_there}
 use Rattle.online_robust.proofs.JoinedLemmas.{FirstGap, ahead_same, first_gap, first_of, there_in}
 use Rattle.online_robust.proofs.Losses.{took, took_held, both_of as lost_both}

@@ -1,11 +1,11 @@
 -- The best of a function over a window: of the limits at the window's ends, of the constants of the knots between, and of the values at
 -- those ends that are in.
-use Rattle.std.proofs.Common.{◌≡◌, ◌⊎◌, inl, inr, ℕ, ◌^◌, List, [], ◌∷◌, Option, Some, None, refl, sym, ap, subst, ◌∙◌}
+use Rattle.std.proofs.Common.{◌≡◌, ◌⊎◌, inl, inr, ℕ, ◌^◌, List, [], ◌∷◌, Option, Some, None, sym, subst}
 use Rattle.rational.specs.Time.{Rational, ◌≈◌, ◌≤ʳ◌, ◌<ʳ◌}
-use Rattle.rational.specs.Extended.{Extended, Affine, value_at, ◌≤ᵉ◌, ◌≈ᵉ◌}
+use Rattle.rational.specs.Extended.{Extended, Affine, value_at, ◌≈ᵉ◌}
 use Rattle.rational.specs.Affine.{IsBounded}
 use Rattle.rational.specs.Windows.{Function, Window}
-use Rattle.rational.proofs.Order.{le_refl, le_of_lt, le_of_same, ge_of_same, le_or_lt, le_trans, lt_of_le_of_lt, lt_of_lt_of_le, lt_trans, lt_irrefl, not_lt_of_le, lt_or_same_or_gt, same_refl, same_sym}
+use Rattle.rational.proofs.Order.{le_refl, le_of_lt, le_of_same, ge_of_same, le_or_lt, le_trans, lt_of_le_of_lt, lt_of_lt_of_le, lt_trans, not_lt_of_le, lt_or_same_or_gt, same_refl, same_sym}
 use Rattle.rational.proofs.AffineLemmas.{at_most_an_end, at_least_an_end, bounded_same, same_reflᵉ, value_same}
 use Rattle.rational.proofs.LimitLemmas.{earlier_end, later_end}
 use Rattle.rational.proofs.Sames.{symᵉ, transᵉ}
@@ -17,13 +17,12 @@ use Rattle.value_laws.specs.declared.margin.Margin.{Margin}
 use Rattle.pl_signal.specs.declared.joining.Side.{Side}
 use Rattle.pl_signal.specs.declared.joining.Side.TheVariants.{Least, Greatest}
 use Rattle.envelope.specs.Turns.{IsNoBetter}
-use Rattle.envelope.proofs.Bests.{no_better_same, no_better_back, no_better_trans, no_better_refl}
+use Rattle.envelope.proofs.Bests.{no_better_same, no_better_back, no_better_trans}
 use Rattle.window_ops.specs.Going.{Reaches}
 use Rattle.window_ops.proofs.Values.{reaches_end, reaches_same, reaches_value, worse_clash, worse_than_better}
 use Rattle.online_robust.specs.Lines.{IsOneLine}
 use Rattle.online_robust.specs.Queues.{IsAmong}
-use Rattle.online_robust.specs.Told.{IsMovedBy}
-use Rattle.online_robust.specs.Sweeping.{AreBy, AreFrozen, IsBefore, IsFrozen, IsNoKnot, IsOn, IsUpTo, EndsAt, Mark, Runs, last_gap}
+use Rattle.online_robust.specs.Sweeping.{AreBy, AreFrozen, IsBefore, IsFrozen, IsOn, IsUpTo, EndsAt, Mark, Runs, last_gap}
 use Rattle.online_robust.specs.declared.ends.Gap.{Gap}
 
 -- a function of time is no better on a stretch than at one of its ends

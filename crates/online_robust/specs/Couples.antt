@@ -1,10 +1,9 @@
 -- A node that is made of one input or two: what it needs to be so before it goes on, and what it tells.
-use Rattle.std.specs.Prelude.{◌≡◌, ◌≢◌, ℕ, ◌+◌, ◌<◌, ◌≤◌, ◌^◌, Bool, true, if◌then◌else◌, length, List, Some, pos, slice_get}
-use Rattle.rational.specs.Time.{Rational, less, whole, ◌≈◌, ◌≤ʳ◌, ◌<ʳ◌}
+use Rattle.std.specs.Prelude.{◌≡◌, ◌≢◌, ℕ, ◌+◌, ◌<◌, Bool, true, if◌then◌else◌, length, List, Some, slice_get}
+use Rattle.rational.specs.Time.{Rational, less, ◌≈◌, ◌≤ʳ◌, ◌<ʳ◌}
 use Rattle.rational.specs.InPlay.{of_two, IsInPlay, IsWideCrossing}
 use Rattle.rational.specs.Windows.{Function}
 use Rattle.frac128.specs.Value.{value}
-use Rattle.frac128.specs.declared.frac.Frac.{Frac}
 use Rattle.value_laws.specs.Margins.{margin_function}
 use Rattle.value_laws.specs.declared.margin.Margin.{Margin}
 use Rattle.pl_signal.specs.Joining.{ChosenOf}

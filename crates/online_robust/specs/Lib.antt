@@ -2,6 +2,14 @@ pub mod Lines
 pub mod Held
 pub mod Queues
 pub mod Told
+pub mod Standing
+pub mod Turns
+pub mod Pasts
+pub mod Moving
+pub mod Putting
+pub mod Firsts
+pub mod Nets
+pub mod Lining
 pub mod Reading
 pub mod Couples
 pub mod Sweeping

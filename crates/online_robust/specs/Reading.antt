@@ -1,6 +1,6 @@
 -- Lines that are read from a time on, and a signal that is made of what was read.
-use Rattle.std.specs.Prelude.{◌≡◌, ◌≢◌, ℕ, ◌<◌, ◌≤◌, ◌^◌, Bool, true, false, List, [], ◌∷◌, length, Option, Some, None, IfSome, MatchOption, slice_get}
-use Rattle.rational.specs.Time.{Rational, whole, ◌≈◌, ◌≤ʳ◌, ◌<ʳ◌}
+use Rattle.std.specs.Prelude.{◌≡◌, ◌≢◌, ℕ, ◌<◌, ◌^◌, Bool, true, false, List, ◌∷◌, length, Option, Some, None, IfSome, slice_get}
+use Rattle.rational.specs.Time.{Rational, ◌≈◌, ◌≤ʳ◌, ◌<ʳ◌}
 use Rattle.rational.specs.Extended.{Extended, value_at, opposite}
 use Rattle.rational.specs.Affine.{IsBounded}
 use Rattle.rational.specs.Windows.{Function}
@@ -14,7 +14,7 @@ use Rattle.pl_signal.specs.Knots.{start, stop, HasShape, IsSignal, IsWorth}
 use Rattle.pl_signal.specs.Limits.{IsLimited}
 use Rattle.pl_signal.specs.Moves.{Tells}
 use Rattle.online_robust.specs.Lines.{end_of}
-use Rattle.online_robust.specs.Held.{Edge, Held, edge_at, held_of, held_at, without}
+use Rattle.online_robust.specs.Held.{Edge, Held, edge_at, held_of, without}
 use Rattle.online_robust.specs.Told.{AreFit, AreJoined, AreTold, IsMovedBy, IsTick}
 use Rattle.online_robust.specs.declared.line.MarginLine.{MarginLine}
 use Rattle.online_robust.specs.declared.line.MarginLine.TheVariants.{Point}

@@ -1,21 +1,19 @@
 -- A window that sweeps over its input: the gap about each end, and the points between with the gaps behind them.
-use Rattle.std.specs.Prelude.{◌≡◌, ◌≢◌, ◌⊎◌, ℕ, ℤ, pos, ◌+◌, ◌<◌, ◌≤◌, ◌^◌, ◌≤ℤ◌, ◌<ℤ◌, neg_ℤ, Bool, true, false, MatchBool, List, [], ◌∷◌, ◌++◌, length, Option, Some, None, IfSome, MatchOption, slice_get}
-use Rattle.rational.specs.Time.{Rational, Within, Precedes, shifted, whole, ◌≈◌, ◌≤ʳ◌, ◌<ʳ◌}
+use Rattle.std.specs.Prelude.{◌≡◌, ◌⊎◌, ℕ, ◌^◌, List, [], ◌∷◌, false, Option, Some, None}
+use Rattle.rational.specs.Time.{Rational, Within, ◌≈◌, ◌≤ʳ◌, ◌<ʳ◌}
 use Rattle.rational.specs.Extended.{Extended, value_at, ◌≈ᵉ◌}
 use Rattle.rational.specs.Affine.{IsBounded}
-use Rattle.rational.specs.Windows.{Function, Window}
+use Rattle.rational.specs.Windows.{Function}
 use Rattle.frac128.specs.Value.{value}
 use Rattle.frac128.specs.declared.frac.Frac.{Frac}
 use Rattle.value_laws.specs.Margins.{is_ramp, margin_function}
 use Rattle.value_laws.specs.declared.margin.Margin.{Margin}
 use Rattle.pl_signal.specs.declared.joining.Side.{Side}
 use Rattle.envelope.specs.Turns.{IsNoBetter}
-use Rattle.online_robust.specs.Lines.{end_of, margin_of, IsOneLine}
+use Rattle.online_robust.specs.Lines.{IsOneLine}
 use Rattle.online_robust.specs.Reading.{IsThere}
-use Rattle.online_robust.specs.Told.{AreFit, AreJoined, AreTold, IsMovedBy, IsTick}
+use Rattle.online_robust.specs.Told.{IsMovedBy, IsTick}
 use Rattle.online_robust.specs.declared.ends.Gap.{Gap}
-use Rattle.online_robust.specs.declared.line.MarginLine.{MarginLine}
-use Rattle.online_robust.specs.declared.line.MarginLine.TheVariants.{Point}
 
 -- the function inside the domain, and the value of no values outside
 abbrev pub with_outside : Function → Rational → Rational → Extended → Function

@@ -5,8 +5,15 @@
 mod edges;
 mod ends;
 mod line;
+mod net;
+mod operator;
 mod pointwise;
+mod put;
 mod queue;
+mod station;
+mod streamed;
 mod window;
 
 pub use line::MarginLine;
+pub use net::{RobustFault, RobustNet};
+pub use streamed::first_unstreamed;

@@ -1,5 +1,5 @@
 //! Negation and the connectives over a stretch.
-ghost use Rattle.std.specs.Prelude.{◌≡◌, ◌<◌, ◌≤◌, ◌^◌, true, IsTrue, length, IfOk, OnOk, IfErr, Some};
+ghost use Rattle.std.specs.Prelude.{◌≡◌, ◌<◌, ◌≤◌, ◌^◌, true, IsSome, IsTrue, length, IfOk, OnOk, IfErr, Some};
 ghost use Rattle.rational.specs.Rational.{Rational, ◌≈◌, ◌<ʳ◌};
 ghost use Rattle.rational.specs.Extended.{value_at, ◌≈ᵉ◌};
 ghost use Rattle.rational.specs.Affine.{HasBoundedLevel};
@@ -128,6 +128,7 @@ impl Not {
             → IfOk result (IsStretch (left_of x true) x.reach x.from x.to) }
         ensures reached { (x : Couple) → CanNegate x self.old edges.old → value to.now ≈ x.to
             → OnOk result (HasReached (left_of x true) x.reach x.to self.new.last) }
+        ensures some { OnOk result (IsSome self.new.last) }
         ensures lost { OnOk result (LosesAt (value to.now) self.old.of edges.old edges.new) }
         ensures ahead { (x : Couple) → CanNegate x self.old edges.old → value to.now ≈ x.to → OnOk result (IsNegatedTo x self.old edges.new (value to.now)) }
         ensures kept { self.new ≡ record self.old { last = self.new.last } }
@@ -236,6 +237,7 @@ impl Two {
             → IfOk result (IsStretch (both_of x self.old) x.reach x.from x.to) }
         ensures reached { (x : Couple) → CanJoin x self.old edges.old → value to.now ≈ x.to
             → OnOk result (HasReached (both_of x self.old) x.reach x.to self.new.last) }
+        ensures some { OnOk result (IsSome self.new.last) }
         ensures lost { OnOk result (LosesAtBoth (value to.now) self.old.left self.old.right edges.old edges.new) }
         ensures ahead { (x : Couple) → CanJoin x self.old edges.old → value to.now ≈ x.to → OnOk result (IsJoinedTo x self.old edges.new (value to.now)) }
         ensures kept { self.new ≡ record self.old { last = self.new.last } }

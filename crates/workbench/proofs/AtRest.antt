@@ -1,31 +1,34 @@
 -- A reader with what follows its rows, as a stream: what a piece and the end come to.
-use Rattle.std.proofs.Common.{◌≡◌, ◌≢◌, ◌⊎◌, inl, inr, ℕ, ◌<◌, ◌≤◌, Bool, true, false, List, [], ◌++◌, length, refl, sym, ap, ◌∙◌, subst, arith, append-nil, append_assoc, Option, Some, None, Result, Ok, Err}
+use Rattle.std.proofs.Common.{◌≡◌, ◌≢◌, inr, ℕ, ◌<◌, Bool, true, false, List, [], ◌++◌, length, refl, sym, ap, ◌∙◌, subst, arith, append-nil, append_assoc, Option, Result, Ok, Err}
 use Rattle.std.specs.Prelude.{MatchResult, OnOk, option_map}
-use Rattle.std.specs.Io.KnownBytes.{Appends}
 use Rattle.std.proofs.KnownBytes.{Appends-nil}
 use Rattle.std.proofs.lemmas.Bool.{false≢true}
 use Rattle.stl_syntax.specs.Formula.{Formula, root}
-use Rattle.trace_reader.specs.Reader.{Reader, header_of}
+use Rattle.trace_reader.specs.Reader.{header_of}
 use Rattle.trace_reader.specs.declared.refusal.Limits.{Limits}
 use Rattle.workbench.specs.Requests.{Stream, verdicts, early, margins, stream}
 use Rattle.workbench.specs.Owed.{limits_of, StreamText, StreamOf, OwesRows}
 use Rattle.workbench.specs.Settled.{IsAnswered}
 use Rattle.workbench.specs.Running.{IsBegun}
 use Rattle.workbench.specs.Pushing.{IsPushed, IsPushStop, IsPush, IsFinished}
-use Rattle.workbench.specs.Reading.{IsWhole}
-use Rattle.workbench.specs.InputFaults.{Fault, fault_text, IsInputFault, AreRowsBefore, sound}
+use Rattle.trace_stream.specs.Reading.{IsWhole}
+use Rattle.workbench.specs.InputFaults.{Fault, fault_text, IsInputFault, AreRowsBefore}
 use Rattle.workbench.specs.Wholes.{status_of_truth}
-use Rattle.workbench.specs.Following.{IsTextOf, IsFollowed, IsLive, IsAtRest, IsOver, IsDone, IsLiveStop, IsToldAs, no_room, told_whole, told_in_part}
-use Rattle.workbench.specs.Writing.{IsPartWritten}
-use Rattle.workbench.specs.declared.case.Case.{Case}
-use Rattle.workbench.specs.declared.live.Live.{Live}
+use Rattle.trace_stream.specs.Following.{IsTextOf, IsLive, IsAtRest, IsOver, IsDone, IsLiveStop}
+use Rattle.workbench.specs.Telling.{IsToldAs, no_room, told_whole, told_in_part}
+use Rattle.trace_stream.specs.declared.case.Case.{Case}
+use Rattle.trace_stream.specs.declared.live.Live.{Live}
+use Rattle.trace_stream.specs.declared.fault.StreamStop.{StreamStop}
+use Rattle.trace_stream.specs.declared.fault.StreamStop.TheVariants.{Fault as Faulty, NoMemory, Wide}
 use Rattle.workbench.specs.declared.fault.Stop.{Stop}
-use Rattle.workbench.specs.declared.fault.Stop.TheVariants.{Fault as Faulty, Unread, Unwritten, NoMemory, Wide, TooMany}
-use Rattle.workbench.proofs.Progress.{sound_so_far}
-use Rattle.workbench.proofs.Sizes.{few_bytes}
-use Rattle.workbench.proofs.StreamSteps.{before_of_kept}
-use Rattle.workbench.proofs.FrontTexts.{front_owed}
-use Rattle.workbench.proofs.Living.{told_of_kept}
+use Rattle.workbench.specs.declared.fault.Stop.TheVariants.{Unwritten, NoMemory as Starved}
+use Rattle.workbench.specs.Stopping.{stop_of, outcome_of}
+use Rattle.trace_stream.proofs.KeptRows.{sound_so_far}
+use Rattle.trace_stream.proofs.Sizes.{few_bytes}
+use Rattle.trace_stream.proofs.KeptRows.{before_of_kept}
+use Rattle.trace_stream.proofs.FrontTexts.{front_owed}
+use Rattle.trace_stream.proofs.Living.{told_of_kept}
+use Rattle.trace_stream.proofs.Told.{told_now, live_after, told_over, over_after}
 
 -- the limit on lines bounds the bytes
 few_lines : (s : Stream) → (limits_of s).lines ≡ 8589934592
@@ -63,41 +66,22 @@ module _ (kind : Stream) where
   }
 
   -- a fault of the bytes was told
-  fault_told : (limits : Limits) (f : Formula) (bytes text : List ℕ) (ended : Bool) (stop : Stop) → limits ≡ limits_of kind → stop ≢ NoMemory → IsLiveStop kind limits f ended bytes text stop
-      → IsPushStop (stream kind f) bytes ended text stop
+  fault_told : (limits : Limits) (f : Formula) (bytes text : List ℕ) (ended : Bool) (stop : StreamStop) → limits ≡ limits_of kind → stop ≢ NoMemory → IsLiveStop kind limits f ended bytes text stop
+      → IsPushStop (stream kind f) bytes ended text (stop_of stop)
   fault_told limits f bytes text ended (Faulty fault) e ne (x, is, input, t) = (
     fault_text x,
     (x, is, refl),
     (x, subst (λ (l : Limits). IsInputFault l f bytes ended x) e input, refl),
     owes_of kind limits f bytes ended text e t,
   )
-  fault_told limits f bytes text ended Unread e ne h = absurd h
-  fault_told limits f bytes text ended Unwritten e ne h = absurd h
   fault_told limits f bytes text ended NoMemory e ne h = absurd (ne refl)
   fault_told limits f bytes text ended (Wide i den) e ne h = absurd h
-  fault_told limits f bytes text ended (TooMany count) e ne h = absurd h
 
   -- and what was owed before it
-  fault_owed : (limits : Limits) (f : Formula) (bytes text : List ℕ) (ended : Bool) (stop : Stop) → limits ≡ limits_of kind → stop ≢ NoMemory → IsLiveStop kind limits f ended bytes text stop → OwesRows kind f bytes ended text
+  fault_owed : (limits : Limits) (f : Formula) (bytes text : List ℕ) (ended : Bool) (stop : StreamStop) → limits ≡ limits_of kind → stop ≢ NoMemory → IsLiveStop kind limits f ended bytes text stop → OwesRows kind f bytes ended text
   fault_owed limits f bytes text ended (Faulty fault) e ne (x, is, input, t) = owes_of kind limits f bytes ended text e t
-  fault_owed limits f bytes text ended Unread e ne h = absurd h
-  fault_owed limits f bytes text ended Unwritten e ne h = absurd h
   fault_owed limits f bytes text ended NoMemory e ne h = absurd (ne refl)
   fault_owed limits f bytes text ended (Wide i den) e ne h = absurd h
-  fault_owed limits f bytes text ended (TooMany count) e ne h = absurd h
-
-  -- feeding never fails by a sink
-  pub not_unwritten : (limits : Limits) (f : Formula) (bytes text : List ℕ) (ended : Bool) (stop : Stop) → IsLiveStop kind limits f ended bytes text stop → stop ≢ Unwritten
-  not_unwritten limits f bytes text ended (Faulty fault) h e = let k = e in cc
-  not_unwritten limits f bytes text ended Unread h e = absurd h
-  not_unwritten limits f bytes text ended Unwritten h e = absurd h
-  not_unwritten limits f bytes text ended NoMemory h e = let k = e in cc
-  not_unwritten limits f bytes text ended (Wide i den) h e = absurd h
-  not_unwritten limits f bytes text ended (TooMany count) h e = absurd h
-
-  pub outcome_not_unwritten : {T : Type 0} (limits : Limits) (f : Formula) (bytes text : List ℕ) (ended : Bool) (P : T → Type 0) (r : Result T Stop) → MatchResult r P (λ e. IsLiveStop kind limits f ended bytes text e) → r ≢ Err Unwritten
-  outcome_not_unwritten limits f bytes text ended P (Ok x) h e = let k = e in cc
-  outcome_not_unwritten limits f bytes text ended P (Err stop) h e = not_unwritten limits f bytes text ended stop h (let k = e in cc)
 
 module _ {F : Type 0} (Stands : F → Case → List ℕ → Type 0) (kind : Stream) where
   -- what stands between pieces
@@ -128,38 +112,19 @@ module _ {F : Type 0} (Stands : F → Case → List ℕ → Type 0) (kind : Stre
           let b = few_bytes live.rows.limits live.rows.least live.rows.heading bytes k.live_for.kept.rows k.live_for.kept.stands.read k.live_for.kept.stands.sound in
           omega (arith, n, b)
 
-  -- what was written and is to be written is the text of the rows so far
-  pub told_now : (live : Live F) (bytes text : List ℕ) → IsLive Stands kind live bytes text → IsTextOf kind live.rows.limits live.formula bytes false (text ++ live.text)
-  told_now live bytes text k = record {
-    header = option_map (header_of live.formula.scale) live.rows.heading;
-    rows = k.kept.rows;
-    whole = false;
-    before = before_of_kept live.formula live.rows k.case bytes k.kept;
-    is = told_of_kept Stands kind live.formula live.rows live.follower k.case bytes (text ++ live.text) k.kept k.followed;
-  }
-
-  -- and they have no fault
-  pub calm_now : (live : Live F) (bytes text : List ℕ) → IsLive Stands kind live bytes text → (x : Fault) → ¬ IsInputFault live.rows.limits live.formula bytes false x
-  calm_now live bytes text k = sound_so_far live.formula live.rows k.case bytes k.kept
-
   -- what is owed while text is to be written
   owed_now : (live : Live F) (bytes text : List ℕ) → live.rows.limits ≡ limits_of kind → IsLive Stands kind live bytes text → OwesRows kind live.formula bytes false (text ++ live.text)
-  owed_now live bytes text e k = owes_of kind live.rows.limits live.formula bytes false (text ++ live.text) e (told_now live bytes text k)
-
-  -- it stands for the same bytes once its text is written
-  pub live_after : (mid : Live F) (bytes text : List ℕ) → IsLive Stands kind mid bytes text → IsLive Stands kind (record mid { text = [] }) bytes (text ++ mid.text)
-  live_after mid bytes text k =
-      record { case = k.case; kept = k.kept; followed = subst (λ t. IsFollowed Stands kind mid.follower k.case t) (sym (append-nil (text ++ mid.text))) k.followed }
+  owed_now live bytes text e k = owes_of kind live.rows.limits live.formula bytes false (text ++ live.text) e (told_now Stands kind live bytes text k)
 
   written_all : (mid new : Live F) (bytes text : List ℕ) → new ≡ record mid { text = [] } → mid.rows.limits ≡ limits_of kind → IsLive Stands kind mid bytes text
       → IsAtRest Stands kind new bytes (text ++ mid.text)
   written_all mid new bytes text e l k =
-      subst (λ (x : Live F). IsAtRest Stands kind x bytes (text ++ mid.text)) (sym e) (record { live_for = live_after mid bytes text k; limits = l; empty = refl })
+      subst (λ (x : Live F). IsAtRest Stands kind x bytes (text ++ mid.text)) (sym e) (record { live_for = live_after Stands kind mid bytes text k; limits = l; empty = refl })
 
   -- a piece
   module _ (f : Formula) (mid new : Live F) (held held_after : Option (List ℕ)) (bytes piece text : List ℕ) (before : OwesRows kind f bytes false text) (limits : mid.rows.limits ≡ limits_of kind)
       (same : mid.formula ≡ f) where
-    pub push_of : (fed result : Result (Unit {0}) Stop) → IsToldAs held held_after mid.text fed result
+    pub push_of : (fed : Result (Unit {0}) StreamStop) (result : Result (Unit {0}) Stop) → IsToldAs held held_after mid.text fed result
         → MatchResult fed (λ _. IsLive Stands kind mid (bytes ++ piece) text) (λ e. IsLiveStop kind mid.rows.limits f false (bytes ++ piece) (text ++ mid.text) e)
         → OnOk result (new ≡ record mid { text = [] })
         → IsPush (stream kind f) held held_after (bytes ++ piece) false text (λ _. IsPushed (IsAtRest Stands kind new) (stream kind f) (bytes ++ piece)) result
@@ -205,23 +170,8 @@ module _ {F : Type 0} (Ended : F → Case → List ℕ → Type 0) (kind : Strea
     },
   )
 
-  -- the whole text is that of all rows and their end
-  pub told_over : (limits : Limits) (f : Formula) (live : Live F) (bytes text : List ℕ) (holds : Bool) → IsOver Ended kind limits f live bytes text holds → IsTextOf kind limits f bytes true text
-  told_over limits f live bytes text holds k = record {
-    header = Some k.case.trace.header;
-    rows = k.case.trace.rows;
-    whole = true;
-    before = sound k.trace.sound k.trace.trace.text.read;
-    is = subst (λ (g : Formula). StreamText kind (root g.nodes) k.case.trace.header k.case.trace.rows true text) k.fits.formula k.complete.told;
-  }
-
   owed_whole : (limits : Limits) (f : Formula) (live : Live F) (bytes text : List ℕ) (holds : Bool) → limits ≡ limits_of kind → IsOver Ended kind limits f live bytes text holds → OwesRows kind f bytes true text
-  owed_whole limits f live bytes text holds e k = owes_of kind limits f bytes true text e (told_over limits f live bytes text holds k)
-
-  -- it stands for the end when its text is taken away, too
-  pub over_after : (limits : Limits) (f : Formula) (mid : Live F) (bytes text : List ℕ) (holds : Bool) → IsOver Ended kind limits f mid bytes text holds
-      → IsOver Ended kind limits f (record mid { text = [] }) bytes text holds
-  over_after limits f mid bytes text holds k = record { case = k.case; fits = k.fits; trace = k.trace; follower = k.follower; is = k.is; complete = k.complete }
+  owed_whole limits f live bytes text holds e k = owes_of kind limits f bytes true text e (told_over Ended kind limits f live bytes text holds k)
 
   done_after : (limits : Limits) (f : Formula) (mid new : Live F) (bytes text : List ℕ) (holds : Bool) → limits ≡ limits_of kind → mid.formula ≡ f → new ≡ record mid { text = [] }
       → IsOver Ended kind limits f mid bytes text holds → IsDone Ended kind new bytes text
@@ -230,12 +180,12 @@ module _ {F : Type 0} (Ended : F → Case → List ℕ → Type 0) (kind : Strea
       subst (λ (x : Live F). IsDone Ended kind x bytes text) (sym done) (
         holds,
         subst (λ (l : Limits). IsOver Ended kind l mid.formula rest bytes text holds) e
-            (subst (λ (g : Formula). IsOver Ended kind limits g rest bytes text holds) (sym formula) (over_after limits f mid bytes text holds k)),
+            (subst (λ (g : Formula). IsOver Ended kind limits g rest bytes text holds) (sym formula) (over_after Ended kind limits f mid bytes text holds k)),
       )
 
   module _ (limits : Limits) (f : Formula) (mid new : Live F) (held held_after : Option (List ℕ)) (bytes text : List ℕ) (before : OwesRows kind f bytes false text) (same : limits ≡ limits_of kind)
       (formula : mid.formula ≡ f) where
-    pub end_of : (finished result : Result Bool Stop) → IsToldAs held held_after mid.text finished result
+    pub end_of : (finished : Result Bool StreamStop) (result : Result Bool Stop) → IsToldAs held held_after mid.text finished result
         → MatchResult finished (IsOver Ended kind limits f mid bytes (text ++ mid.text)) (λ e. IsLiveStop kind limits f true bytes (text ++ mid.text) e)
         → OnOk result (new ≡ record mid { text = [] })
         → IsPush (stream kind f) held held_after bytes true text (IsFinished (IsDone Ended kind new) (stream kind f) bytes) result
@@ -250,5 +200,12 @@ module _ {F : Type 0} (Ended : F → Case → List ℕ → Type 0) (kind : Strea
         (part.front, part.wrote, (part.back, part.missing, begun_now kind f bytes text part.front part.back mid.text true part.parts (fault_owed kind limits f bytes (text ++ mid.text) true stop same (λ e. ne (ap Err e)) h)))
 
 -- where memory was wanting nothing is written
-pub starved_told : {T : Type 0} (held : Option (List ℕ)) (text : List ℕ) (outcome : Result T Stop) → outcome ≡ Err NoMemory → IsToldAs held held text outcome outcome
-starved_told {T} held text outcome e = subst (λ (r : Result T Stop). IsToldAs held held text r r) (sym e) (no_room (Appends-nil held))
+pub starved_told : {T : Type 0} (held : Option (List ℕ)) (text : List ℕ) (outcome : Result T StreamStop) → outcome ≡ Err NoMemory → IsToldAs held held text outcome (Err Starved)
+starved_told {T} held text outcome e = subst (λ (r : Result T StreamStop). IsToldAs held held text r (Err Starved)) (sym e) (no_room (Appends-nil held))
+
+-- the reason of a stream is no fault of a sink
+pub not_unwritten : {T : Type 0} (outcome : Result T StreamStop) → outcome_of outcome ≢ Err Unwritten
+not_unwritten (Ok x) e = let k = e in cc
+not_unwritten (Err (Faulty fault)) e = let k = e in cc
+not_unwritten (Err NoMemory) e = let k = e in cc
+not_unwritten (Err (Wide i den)) e = let k = e in cc

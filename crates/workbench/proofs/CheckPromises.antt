@@ -1,5 +1,5 @@
 -- The promises of `check`, each from how a run ends whose words ask for it.
-use Rattle.std.proofs.Common.{◌≡◌, ◌≢◌, ◌⊎◌, inl, inr, ℕ, ◌≤◌, Bool, true, false, List, [], ◌∷◌, ◌++◌, refl, sym, ap, ◌∙◌, subst, arith, append-nil, Some, None}
+use Rattle.std.proofs.Common.{◌≡◌, ◌≢◌, ◌⊎◌, inl, inr, ℕ, ◌≤◌, Bool, true, false, List, [], ◌∷◌, ◌++◌, refl, sym, ap, ◌∙◌, subst, arith, append-nil, Some, None, codes}
 use Rattle.std.specs.Prelude.{Option}
 use Rattle.std.proofs.lemmas.Bool.{false≢true}
 use Rattle.std.proofs.lemmas.List.{append_cancel_left, append_cancel_right}
@@ -23,11 +23,12 @@ use Rattle.workbench.specs.Settled.{TellsTruth, none, bad, faulty, answered, wid
 use Rattle.workbench.specs.Running.{IsBegun, IsEnd, settled, unread, unwritten, no_memory, HasEnded, IsReadOut, asked, unknown, IsRun}
 use Rattle.workbench.specs.Saying.{IsSaid, whole as all_said, part as part_said}
 use Rattle.workbench.specs.InputFaults.{Fault, fault_text, whole_limits, IsInputFault}
-use Rattle.workbench.specs.Reading.{IsWhole, IsSound}
+use Rattle.trace_stream.specs.Reading.{IsWhole, IsSound}
 use Rattle.workbench.specs.ErrTexts.{out_of_memory, read_fault, write_fault}
 use Rattle.workbench.specs.Promises as old
 use Rattle.workbench.specs.Promises.{AreNoForm, AskForBad, AskFor, Took, Got, IsChecked, IsCutOff, IsErrLine, IsMessage}
-use Rattle.workbench.proofs.FaultsStay.{unsound}
+use Rattle.workbench.proofs.NumberWords.{two_words}
+use Rattle.trace_stream.proofs.FaultsStay.{unsound}
 use Rattle.workbench.proofs.NoForm.{two_is_none}
 use Rattle.workbench.proofs.RunEnds.{word_form, asked_word}
 use Rattle.workbench.proofs.OneRequest.{one_judged}
@@ -98,7 +99,7 @@ module _ {words : List (List ℕ)} {own : List ℕ} (ask : AskCheck words own) w
   built (stream early f) a = absurd (let e = check_alone ask word.early a.text a.form in cc)
   built (stream margins f) a = absurd (let e = check_alone ask word.rwatch a.text a.form in cc)
   built (sessions f) a = absurd (let e = check_alone ask word.mux a.text a.form in cc)
-  built (generated n rows) a = absurd a.built
+  built (generated n rows) a = absurd (two_words (codes "check") own ask a.is)
 
   bad_of : (line : List ℕ) → Asks words (refused line) → AskForBad words line
   bad_of line a = by_refusal (subst (λ k. IsRefusal k a.text line) same a.is)
@@ -428,4 +429,4 @@ held_word table text = refl
 pub all_held : (words : List (List ℕ)) (c : Command) (f : Formula) → Asks words (whole c f) → AreHeld words
 all_held words c f ask (judge command text) a =
     subst (λ (j : Judge). is_held (judge j text) ≡ true) (one_judged (word_of c) command ask.text text ask.form.is a.is).0 (held_word c text)
-all_held words c f ask (word.generate n rows) a = absurd a.built
+all_held words c f ask (word.generate n rows) a = refl

@@ -10,7 +10,7 @@ use Rattle.workbench.specs.Owed.{OwesAtEnd, not_yet, faulty as faulty_at_end, to
 use Rattle.workbench.specs.Settled.{TellsTruth, IsVerdict, IsLastVerdict, IsAnswered, HasFault, none, bad, faulty, answered, wide, overfull}
 use Rattle.workbench.specs.Running.{IsBegun, IsEnd, settled, unread, unwritten, no_memory}
 use Rattle.workbench.specs.InputFaults.{whole_limits, IsInputFault}
-use Rattle.workbench.specs.Reading.{IsSound}
+use Rattle.trace_stream.specs.Reading.{IsSound}
 
 some_more : (text rest : List ℕ) → rest ≢ [] → text ++ rest ≡ [] → ⊥
 some_more [] rest h e = h e

@@ -1,13 +1,12 @@
 -- The end was asked for once.
-use Rattle.std.proofs.Common.{◌≡◌, ◌≢◌, ◌⊎◌, inl, inr, ℕ, ◌≤◌, Bool, true, false, List, [], ◌∷◌, ◌++◌, arith, refl, sym, ◌∙◌, subst}
+use Rattle.std.proofs.Common.{◌≡◌, ◌≢◌, ◌⊎◌, inl, inr, ℕ, ◌≤◌, Bool, true, List, arith, refl, sym, ◌∙◌, subst}
 use Rattle.io_edge.specs.Causes.{next_count, after_end}
 use Rattle.io_edge.specs.Calls.{Drained, Filled, IsAskedOnce}
 use Rattle.stl_syntax.specs.Formula.{Formula}
 use Rattle.report.specs.Report.{Command}
 use Rattle.workbench.specs.Requests.{Request, no_form, refused, whole, stream, sessions, generated, Asks, has_input}
-use Rattle.workbench.specs.Settled.{IsSettled, none, bad, faulty, answered, wide, overfull, IsAnswered}
-use Rattle.workbench.specs.Owed.{OwesAtEnd, not_yet, faulty as faulty_at_end, too_many, at_end}
-use Rattle.workbench.specs.Running.{IsBegun, IsEnd, settled, unread, unwritten, no_memory, HasEnded, asked, unknown, IsReadOut, IsRun, HasSaidItsEnd}
+use Rattle.workbench.specs.Settled.{none, bad, faulty, answered, wide, overfull, IsAnswered}
+use Rattle.workbench.specs.Running.{IsEnd, settled, unread, unwritten, no_memory, HasEnded, asked, unknown, HasSaidItsEnd}
 use Rattle.workbench.proofs.Due.{begun_sound}
 use Rattle.workbench.proofs.OneRequest.{one_request}
 

@@ -1,5 +1,5 @@
 -- The answer of a case: the times of its trace, the signals of its atoms, and what the root's signal tells of the formula.
-use Rattle.std.proofs.Common.{◌≡◌, ℕ, zero, suc, ◌+◌, ◌-◌, ◌<◌, ◌≤◌, Bool, true, false, List, [], ◌∷◌, ◌++◌, length, Some, refl, sym, ◌∙◌, subst, arith, length-append, inl}
+use Rattle.std.proofs.Common.{◌≡◌, ℕ, zero, suc, ◌+◌, ◌-◌, ◌<◌, Bool, true, false, List, [], ◌∷◌, ◌++◌, length, Some, refl, sym, ◌∙◌, subst, arith, length-append, inl}
 use Rattle.std.specs.Prelude.{slice_get, slice_index_or, MatchBool}
 use Rattle.std.proofs.lemmas.List.Elements.{All-push}
 use Rattle.rational.specs.Time.{Rational, closed, ◌≈◌}
@@ -16,7 +16,7 @@ use Rattle.pl_signal.specs.Moves.{Tells}
 use Rattle.pl_signal.proofs.Values.{some_is}
 use Rattle.value_laws.specs.declared.truth.Truth.{Truth}
 use Rattle.value_laws.specs.Values.{truth_value}
-use Rattle.stl_syntax.specs.Trace.{Row, Trace, AreRows, IsTrace, first_time, last_time, start, stop}
+use Rattle.stl_syntax.specs.Trace.{Row, Trace, IsTrace, first_time, last_time, start, stop}
 use Rattle.stl_syntax.specs.Formula.{Formula, root}
 use Rattle.stl_syntax.specs.Truth.{Truth as Holds}
 use Rattle.stl_syntax.specs.SupInf.{Reading, SupInf, HasValues, HasInfs, one, minus_one, truth_setting}
@@ -26,7 +26,6 @@ use Rattle.stl_syntax.specs.declared.items.Verdict.{Verdict}
 use Rattle.stl_syntax.specs.declared.atom.Atom.{Atom}
 use Rattle.stl_syntax.specs.declared.node.Node.{Node}
 use Rattle.stl_syntax.specs.declared.node.Node.TheVariants.{Atom as Leaf}
-use Rattle.stl_syntax.proofs.LawProofs.{last_from}
 use Rattle.atom_lines.specs.Binding.{IsBound}
 use Rattle.atom_lines.specs.AtomSignals.{IsAtomSignal}
 use Rattle.offline_eval.specs.Inputs.{is_atom, IsInput}
@@ -34,8 +33,8 @@ use Rattle.offline_eval.specs.Evaluation.{TellNodes}
 use Rattle.offline_eval.proofs.Places.{atoms_on_atom, atoms_on_other, told_none, told_atom, told_other}
 use Rattle.report.specs.SignalVerdicts.{sign_of}
 use Rattle.report.proofs.SignalLaw.{truth_at, signal_describes}
-use Rattle.workbench.specs.declared.case.Case.{Case}
-use Rattle.workbench.specs.Cases.{IsCase}
+use Rattle.trace_stream.specs.declared.case.Case.{Case}
+use Rattle.trace_stream.specs.Cases.{IsCase}
 use Rattle.workbench.specs.Answers.{IsJudged}
 use Rattle.workbench.specs.Judging.{setting_of, AreAtomsOf, IsRootOf, IsSignalText}
 
@@ -52,13 +51,6 @@ last_is time [] n h = absurd (omega (arith, h))
 last_is time (r ∷ []) n h = let e : n ≡ 0 = omega (arith, h) in subst (λ m. (slice_index_or (r ∷ []) m no_row).time ≡ r.time) (sym e) refl
 last_is time (r ∷ s ∷ rows) zero h = absurd (omega (arith, h))
 last_is time (r ∷ s ∷ rows) (suc n) h = last_is r.time (s ∷ rows) n (omega (arith, h))
-
-up_to_last : (width : ℕ) (rows : List Row) → AreRows width rows → first_time rows ≤ last_time 0 rows
-up_to_last width [] h = absurd h
-up_to_last width (r ∷ rows) h = last_from width r.time rows h.1
-
-pub first_to_last : (t : Trace) → IsTrace t → first_time t.rows ≤ last_time 0 t.rows
-first_to_last t ok = up_to_last (length t.header.columns) t.rows ok.rows
 
 module _ {P : Type 0} (shape : ShapeOf P) (reading : Trace → Reading) (c : Case) where
   pub no_atoms : AreAtomsOf shape reading c 0 []

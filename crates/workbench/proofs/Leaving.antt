@@ -1,5 +1,5 @@
 -- What a run leaves to its caller.
-use Rattle.std.proofs.Common.{◌≡◌, ◌≢◌, ◌⊎◌, inl, inr, ℕ, Bool, true, false, List, [], refl, sym, subst, arith, Result, Ok, Err}
+use Rattle.std.proofs.Common.{◌≡◌, ◌≢◌, inl, inr, ℕ, Bool, true, false, List, [], refl, sym, subst, arith, Result, Ok, Err}
 use Rattle.std.specs.Prelude.{MatchResult, OnOk}
 use Rattle.std.specs.Result.{is_err}
 use Rattle.std.proofs.lemmas.Bool.{false≢true}
@@ -8,11 +8,11 @@ use Rattle.std.proofs.KnownBytes.{Appends-nil, Consumes-nil}
 use Rattle.io_edge.specs.Calls.{Drained, Filled, IsAskedOnce}
 use Rattle.stl_syntax.specs.Formula.{Formula}
 use Rattle.report.specs.Report.{Command}
-use Rattle.workbench.specs.Commands.{Judge, judge}
+use Rattle.workbench.specs.Commands.{Judge, judge, generate}
 use Rattle.workbench.specs.Commands as word
 use Rattle.workbench.specs.ErrTexts.{out_of_memory}
 use Rattle.workbench.specs.InputFaults.{stream_limits}
-use Rattle.workbench.specs.Requests.{no_form, refused as bad_request, whole, stream, verdicts, AreNone, AreFor, IsAsked, word_of}
+use Rattle.workbench.specs.Requests.{no_form, refused as bad_request, whole, stream, verdicts, generated, AreNone, AreFor, IsAsked, word_of}
 use Rattle.workbench.specs.Running.{IsRun, unknown as run_unknown}
 use Rattle.workbench.specs.Saying.{IsSaid}
 use Rattle.workbench.specs.Keeping.{Holds, IsLeft, asked, unknown, HasRun}
@@ -28,6 +28,11 @@ use Rattle.workbench.specs.declared.kept.Kept.TheVariants.{Watch}
 -- words of no form leave nothing
 pub none_left : {words : List (List ℕ)} {i : Drained} {o e : Filled} {status : ℕ} (old new : Kept) → AreNone words → new ≡ old → IsRun words i o e status → HasRun words i o e old new status
 none_left old new h same run = record { run = run; left = asked no_form h (inr (inl refl, same)) }
+
+-- nor does a generated trace
+pub made_left : {words : List (List ℕ)} {i : Drained} {o e : Filled} {status : ℕ} (number rows : ℕ) (old new : Kept) → IsAsked words (generate number rows) → new ≡ old
+    → IsRun words i o e status → HasRun words i o e old new status
+made_left number rows old new form same run = record { run = run; left = asked (generated number rows) form (inr (inl refl, same)) }
 
 -- nor does a text that gives no formula
 pub refused_left : {words : List (List ℕ)} {text : List ℕ} {i : Drained} {o e : Filled} {line : List ℕ} (j : Judge) (old new : Kept) (status : ℕ) → IsAsked words (judge j text)

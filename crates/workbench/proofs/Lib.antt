@@ -1,21 +1,9 @@
 pub mod TextExamples
 pub mod SessionExamples
 pub mod Devices
-pub mod Columns
-pub mod Lacking
 pub mod LineTexts
-pub mod FaultLines
 pub mod Endings
-pub mod HeaderLines
-pub mod FaultPlaces
-pub mod Sizes
-pub mod OneLine
-pub mod Feeding
-pub mod Fed
-pub mod Ends
 pub mod Progress
-pub mod LastFaults
-pub mod FaultsStay
 pub mod RunEnds
 pub mod Leaving
 pub mod WatchCalls
@@ -28,19 +16,15 @@ pub mod Reasoned
 pub mod Refuting
 pub mod NoForm
 pub mod MarginTruth
-pub mod RowsBefore
-pub mod MarginTexts
+mod ExplainTexts
+mod JsonTexts
 pub mod OwedLaws
 pub mod SureLines
 pub mod OneRequest
 pub mod EndsOnce
-pub mod Passes
-pub mod Living
-pub mod FrontTexts
 pub mod AtRest
-pub mod Taking
-pub mod Watched
-pub mod WatchedRows
 pub mod Reported
-pub mod OneFault
-pub mod SessionsTold
+pub mod Summaries
+pub mod NumberWords
+pub mod Fitting
+pub mod Completing

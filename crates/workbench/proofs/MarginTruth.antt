@@ -17,7 +17,7 @@ use Rattle.report.specs.Report.{Command, robust, json, table, nodes_for}
 use Rattle.workbench.specs.Settled.{TellTruth, IsAnsweredWhole}
 use Rattle.workbench.specs.Measured.{IsBelowSize, AreTrueKnots, HasKnots, IsMeasured}
 use Rattle.workbench.specs.InputFaults.{whole_limits}
-use Rattle.workbench.specs.Reading.{IsWhole}
+use Rattle.trace_stream.specs.Reading.{IsWhole}
 
 -- a trace is like itself, and close to itself
 close_to_itself : (tr : Trace) (p : Subformula) → AreClose (whole (pos 0)) tr tr p

@@ -26,8 +26,8 @@ use Rattle.offline_eval.specs.declared.faults.EvalFault.TheVariants as E
 use Rattle.report.specs.Report.{robust, table}
 use Rattle.report.specs.Table.{IsTableText}
 use Rattle.report.proofs.MarginLaw.{knots_describe}
-use Rattle.workbench.specs.declared.case.Case.{Case}
-use Rattle.workbench.specs.Cases.{IsCase}
+use Rattle.trace_stream.specs.declared.case.Case.{Case}
+use Rattle.trace_stream.specs.Cases.{IsCase}
 use Rattle.workbench.specs.Judging.{IsFaultIn, IsRootOf, denominator_of, stop_of_fault}
 use Rattle.workbench.specs.Settled.{TellTruth, IsNeeded}
 use Rattle.workbench.specs.Wholes.{IsAnswerOf, IsUnanswered}

@@ -7,6 +7,7 @@ use Rattle.online_nodes.specs.StreamedWide.{IsUnstreamed}
 use Rattle.stl_grammar.specs.FormulaRefusals.{IsFormulaOf}
 use Rattle.stl_grammar.proofs.LawProofs.{one_formula, one_refusal}
 use Rattle.report.specs.Report.{check, robust, explain, json, table}
+use Rattle.workbench.proofs.NumberWords.{two_words, one_workload}
 use Rattle.workbench.specs.Commands.{Judge, Form, judge, generate, IsForm, of_formula, gen, judge_word}
 use Rattle.workbench.specs.Commands as word
 use Rattle.workbench.specs.Requests.{Request, no_form, refused, whole, stream, sessions, generated, verdicts, early, margins, Asks, AreNone, AreFor, AreRefused, IsAsked, IsRefusal, IsUnserved}
@@ -66,6 +67,7 @@ data AskedAs (words : List (List ℕ)) (r : Request) : Type 0 where
   as_none : AreNone words → r ≡ no_form → AskedAs words r
   as_bad : (line : List ℕ) → AreRefused words line → r ≡ refused line → AskedAs words r
   as_judged : (j : Judge) (f : Formula) → AreFor words j f → r ≡ request_of j f → AskedAs words r
+  as_made : (n rows : ℕ) → IsAsked words (generate n rows) → r ≡ generated n rows → AskedAs words r
 
 asked_as : (words : List (List ℕ)) (r : Request) → Asks words r → AskedAs words r
 unfolding request_of
@@ -80,7 +82,7 @@ asked_as words (stream verdicts f) a = as_judged word.watch f a refl
 asked_as words (stream early f) a = as_judged word.early f a refl
 asked_as words (stream margins f) a = as_judged word.rwatch f a refl
 asked_as words (sessions f) a = as_judged word.mux f a refl
-asked_as words (generated n rows) a = absurd a.built
+asked_as words (generated n rows) a = as_made n rows a refl
 
 -- a text is refused with one line
 one_unserved : (j : Judge) (f : Formula) (i k : ℕ) → IsUnserved j f i → IsUnserved j f k → i ≡ k
@@ -120,6 +122,15 @@ one_request words r q a b = by_cases (asked_as words r a) (asked_as words q b)
     by_cases (as_none a e) (as_none b f) = e ∙ sym f
     by_cases (as_none a e) (as_bad line b f) = absurd (a (judge b.command b.text) b.form)
     by_cases (as_none a e) (as_judged j g b f) = absurd (a (judge j b.text) b.form)
+    by_cases (as_none a e) (as_made n rows b f) = absurd (a (generate n rows) b)
+    by_cases (as_made n rows a e) (as_none b f) = absurd (b (generate n rows) a)
+    by_cases (as_made n rows a e) (as_bad line b f) = absurd (two_words (judge_word b.command) b.text (judged_form b.form.is) a.is)
+    by_cases (as_made n rows a e) (as_judged j g b f) = absurd (two_words (judge_word j) b.text (judged_form b.form.is) a.is)
+    by_cases (as_made n rows a e) (as_made m more b f) =
+        let same = one_workload a.is b.is in
+        e ∙ ap (λ i. generated i rows) same.0 ∙ ap (λ i. generated m i) same.1 ∙ sym f
+    by_cases (as_bad line a e) (as_made n rows b f) = absurd (two_words (judge_word a.command) a.text (judged_form a.form.is) b.is)
+    by_cases (as_judged j g a e) (as_made n rows b f) = absurd (two_words (judge_word j) a.text (judged_form a.form.is) b.is)
     by_cases (as_bad line a e) (as_none b f) = absurd (b (judge a.command a.text) a.form)
     by_cases (as_bad line a e) (as_bad other b f) = e ∙ ap refused (one_line b.command b.text line other (refusal_of a b.command b.text b.form) b.is) ∙ sym f
     by_cases (as_bad line a e) (as_judged j g b f) = absurd (not_both j b.text line g (refusal_of a j b.text b.form) b.is b.served)

@@ -1,92 +1,29 @@
 -- What is owed is one text, and only grows.
-use Rattle.std.proofs.Common.{◌≡◌, ℕ, Bool, true, false, List, [], ◌∷◌, ◌++◌, refl, sym, ap, ◌∙◌, subst, append_assoc, append-nil, Option, Some, None}
+use Rattle.std.proofs.Common.{◌≡◌, ℕ, Bool, true, false, List, [], ◌∷◌, ◌++◌, refl, sym, ap, ◌∙◌, subst, append_assoc, append-nil}
 use Rattle.std.specs.Prelude.{flat_map}
-use Rattle.stl_syntax.specs.Formula.{Formula, Subformula, root}
-use Rattle.stl_syntax.specs.Scaling.{scaled}
+use Rattle.stl_syntax.specs.Formula.{Formula, root}
 use Rattle.stl_syntax.specs.Knots.{Knot, Piece}
 use Rattle.stl_syntax.specs.Verdicts.{KnotsAlike, PiecesAlike}
 use Rattle.stl_syntax.specs.declared.scale.Scale.{Scale}
 use Rattle.csv.specs.Writing.{row_text, default_writer}
-use Rattle.stl_syntax.specs.Trace.{Header, Row, Trace}
-use Rattle.stl_syntax.specs.EarlyText.{IsEarlyText, at_row, at_end, not_yet}
+use Rattle.stl_syntax.specs.Trace.{Trace}
 use Rattle.stl_syntax.proofs.VerdictsLaw.{Describes-unique}
 use Rattle.stl_syntax.proofs.MarginsLaw.{DescribesMargins-unique}
 use Rattle.trace_reader.proofs.TraceRefusalLaw.{Trace-unique}
-use Rattle.report.specs.Report.{Command, check, robust, table, Out, nodes_for}
+use Rattle.report.specs.Report.{Command, check, robust, explain, json, table, Out, nodes_for}
 use Rattle.report.specs.Table.{AreRecords, heading}
+use Rattle.report.proofs.StreamTexts.{IsLonger}
+use Rattle.trace_stream.proofs.OwedRows.{stream_owed_once, stream_owed_grows}
 use Rattle.report.proofs.OneText.{number_once, value_once, verdicts_once, start_once, margins_once}
-use Rattle.report.proofs.StreamTexts.{IsLonger, stream_once, stream_grows, early_once, early_grows}
-use Rattle.workbench.proofs.MarginTexts.{margin_stream_once, margin_stream_grows}
-use Rattle.workbench.specs.Requests.{Stream, verdicts, early, margins, stream}
+use Rattle.workbench.proofs.ExplainTexts.{explain_once}
+use Rattle.workbench.proofs.JsonTexts.{json_once}
+use Rattle.workbench.specs.Requests.{Stream, stream}
 use Rattle.workbench.specs.Running.{IsBegun}
-use Rattle.workbench.specs.Reading.{IsWhole}
-use Rattle.workbench.specs.Owed.{limits_of, StreamText, StreamOf, OwesRows, HasTooMany, OwesAtEnd, not_yet as not_yet_owed, faulty, too_many, at_end as at_end_owed}
-use Rattle.workbench.specs.InputFaults.{AreRowsBefore, whole_limits}
-use Rattle.workbench.proofs.RowsBefore.{GoesOnFrom, from_none, from_some, rows_go_on, rows_once}
+use Rattle.trace_stream.specs.Reading.{IsWhole}
+use Rattle.workbench.specs.Owed.{OwesRows, HasTooMany, OwesAtEnd, not_yet as not_yet_owed, faulty, too_many, at_end as at_end_owed}
+use Rattle.workbench.specs.InputFaults.{whole_limits}
 
 -- ---- streams
-
-text_once : (s : Stream) (p : Subformula) (header : Header) (rows : List Row) (ended : Bool) (x y : List ℕ) → StreamText s p header rows ended x → StreamText s p header rows ended y → x ≡ y
-text_once verdicts p header rows ended x y a b = stream_once p header rows ended x y a b
-text_once early p header rows ended x y a b = early_once p header rows ended x y a b
-text_once margins p header rows ended x y a b = margin_stream_once p header rows ended x y a b
-
-text_grows : (s : Stream) (p : Subformula) (header : Header) (rows beyond : List Row) (ended : Bool) (x y : List ℕ) → StreamText s p header rows false x → StreamText s p header (rows ++ beyond) ended y → IsLonger x y
-text_grows verdicts p header rows beyond ended x y a b = stream_grows p header rows beyond ended x y a b
-text_grows early p header rows beyond ended x y a b = early_grows p header rows beyond ended x y a b
-text_grows margins p header rows beyond ended x y a b = margin_stream_grows p header rows beyond ended x y a b
-
--- without a row there is no text before the end
-none_early : (p : Subformula) (header : Header) (rows : List Row) (x : List ℕ) → rows ≡ [] → IsEarlyText p header rows false x → x ≡ []
-none_early p header rows x e (at_row before after r holds time k first is text) = absurd (no_row before (sym k ∙ e))
-  where
-    no_row : (before : List Row) → before ++ r ∷ after ≡ [] → ⊥
-    no_row [] e = cc
-    no_row (q ∷ before) e = cc
-none_early p header rows x e (at_end line ended k none is text) = let b : false ≡ true = ended in absurd cc
-none_early p header rows x e (not_yet ended none text) = text
-
-none_yet : (s : Stream) (p : Subformula) (header : Header) (rows : List Row) (x : List ℕ) → rows ≡ [] → StreamText s p header rows false x → x ≡ []
-none_yet verdicts p header rows x e a = subst (λ l. StreamText verdicts p header l false x → x ≡ []) (sym e) (λ k. k) a
-none_yet early p header rows x e a = none_early p header rows x e a
-none_yet margins p header rows x e a = subst (λ l. StreamText margins p header l false x → x ≡ []) (sym e) (λ k. k) a
-
-of_once : (s : Stream) (f : Formula) (header : Option Header) (rows : List Row) (ended : Bool) (x y : List ℕ) → StreamOf s f header rows ended x → StreamOf s f header rows ended y → x ≡ y
-of_once s f None rows ended x y a b = a ∙ sym b
-of_once s f (Some header) rows ended x y a b = text_once s _ header rows ended x y a b
-
--- no text is told of no rows before the end
-pub no_rows_no_text : (s : Stream) (f : Formula) (header : Option Header) (rows : List Row) (x : List ℕ) → rows ≡ [] → StreamOf s f header rows false x → x ≡ []
-no_rows_no_text s f None rows x e a = a
-no_rows_no_text s f (Some header) rows x e a = none_yet s _ header rows x e a
-
-longer_nil : (x y : List ℕ) → x ≡ [] → IsLonger x y
-longer_nil x y e = (y, ap (λ t. t ++ y) (sym e))
-
-of_grows : (s : Stream) (f : Formula) (header other : Option Header) (rows more : List Row) (whole : Bool) (x y : List ℕ) → GoesOnFrom header rows other more
-    → StreamOf s f header rows false x → StreamOf s f other more whole y → IsLonger x y
-of_grows s f None other rows more whole x y g a b = longer_nil x y a
-of_grows s f (Some header) other rows more whole x y (from_none none) a b = longer_nil x y (none_yet s _ header rows x none a)
-of_grows s f (Some header) other rows more whole x y (from_some same (beyond, e)) a b =
-    text_grows s _ header rows beyond whole x y a (subst (λ l. StreamOf s f (Some header) l whole y) e (subst (λ h. StreamOf s f h more whole y) same b))
-
--- a stream is owed one text
-pub stream_owed_once : (s : Stream) (f : Formula) (bytes : List ℕ) (ended : Bool) (x y : List ℕ) → OwesRows s f bytes ended x → OwesRows s f bytes ended y → x ≡ y
-stream_owed_once s f bytes ended x y a b =
-    let e = rows_once (limits_of s) f bytes ended a.before b.before in
-    of_once s f b.header b.rows b.whole x y
-    (subst (λ (w : Bool). StreamOf s f b.header b.rows w x) e.same_end (subst (λ l. StreamOf s f b.header l a.whole x) e.same_rows (subst (λ h. StreamOf s f h a.rows a.whole x) e.same_header a.is))) b.is
-
-never_whole : (s : Stream) (f : Formula) (bytes : List ℕ) {header : Option Header} {rows : List Row} → ¬ AreRowsBefore (limits_of s) f bytes false header rows true
-never_whole s f bytes k = elim k [ ]
-
--- which is the front of what it is owed for more bytes
-pub stream_owed_grows : (s : Stream) (f : Formula) (bytes more : List ℕ) (ended : Bool) (x y : List ℕ) → OwesRows s f bytes false x → OwesRows s f (bytes ++ more) ended y → IsLonger x y
-stream_owed_grows s f bytes more ended x y a b = by_whole a.whole a.before a.is
-  where
-    by_whole : (w : Bool) → AreRowsBefore (limits_of s) f bytes false a.header a.rows w → StreamOf s f a.header a.rows w x → IsLonger x y
-    by_whole false before is = of_grows s f a.header b.header a.rows b.rows b.whole x y (rows_go_on (limits_of s) f bytes more ended before b.before) is b.is
-    by_whole true before is = absurd (never_whole s f bytes before)
 
 -- what was written and a rest were owed for the bytes that were answered: then it is the front of what is owed for all that were read
 pub begun_of_all : (s : Stream) (f : Formula) (bytes : List ℕ) (ended : Bool) (text rest all : List ℕ) → IsBegun (stream s f) bytes ended text rest → OwesRows s f bytes ended all → IsLonger text all
@@ -151,7 +88,7 @@ module _ (c : Command) (f : Formula) (one : (tr : Trace) (x y : List ℕ) → Ou
   whole_owed_once bytes ended x y (at_end_owed tr trace few out) (at_end_owed tr' trace' few' out') =
       one tr' x y (subst (λ (t : Trace). Out c f t x) (whole_once f bytes tr tr' trace trace') out) out'
 
--- `check`, `robust` and `table` are owed one text
+-- each command that holds the whole trace is owed one text
 pub check_owed_once : (f : Formula) (bytes : List ℕ) (ended : Bool) (x y : List ℕ) → OwesAtEnd check f bytes ended x → OwesAtEnd check f bytes ended y → x ≡ y
 check_owed_once f bytes ended x y a b = whole_owed_once check f (check_once f) bytes ended x y a b
 
@@ -160,3 +97,9 @@ robust_owed_once f bytes ended x y a b = whole_owed_once robust f (robust_once f
 
 pub table_owed_once : (f : Formula) (bytes : List ℕ) (ended : Bool) (x y : List ℕ) → OwesAtEnd table f bytes ended x → OwesAtEnd table f bytes ended y → x ≡ y
 table_owed_once f bytes ended x y a b = whole_owed_once table f (table_once f) bytes ended x y a b
+
+pub explain_owed_once : (f : Formula) (bytes : List ℕ) (ended : Bool) (x y : List ℕ) → OwesAtEnd explain f bytes ended x → OwesAtEnd explain f bytes ended y → x ≡ y
+explain_owed_once f bytes ended x y a b = whole_owed_once explain f (explain_once f) bytes ended x y a b
+
+pub json_owed_once : (f : Formula) (bytes : List ℕ) (ended : Bool) (x y : List ℕ) → OwesAtEnd json f bytes ended x → OwesAtEnd json f bytes ended y → x ≡ y
+json_owed_once f bytes ended x y a b = whole_owed_once json f (json_once f) bytes ended x y a b

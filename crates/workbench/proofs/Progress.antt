@@ -1,5 +1,5 @@
 -- How far the reading of a source has come.
-use Rattle.std.proofs.Common.{◌≡◌, ℕ, ◌+◌, ◌<◌, ◌≤◌, inl, inr, Bool, true, false, List, [], ◌++◌, length, take, length-take, refl, sym, ap, ◌∙◌, subst, arith, append-nil, length-append, Some, None, Ok, Err, Result}
+use Rattle.std.proofs.Common.{◌≡◌, ℕ, ◌+◌, ◌<◌, ◌≤◌, Bool, true, false, List, [], ◌++◌, length, take, length-take, refl, sym, ap, ◌∙◌, subst, arith, append-nil, length-append, Some, None, Ok, Err, Result}
 use Rattle.std.specs.Prelude.{Option, MatchOption, MatchResult}
 use Rattle.std.specs.Io.KnownBytes.{Consumes, Keeps, IsAtEnd}
 use Rattle.std.proofs.KnownBytes.{Consumes-trans, Consumes-kept}
@@ -7,35 +7,18 @@ use Rattle.std.proofs.lemmas.Bool.{false≢true}
 use Rattle.std.proofs.lemmas.List.{length-take-le}
 use Rattle.io_edge.specs.Causes.{after_end}
 use Rattle.stl_syntax.specs.Formula.{Formula}
-use Rattle.stl_syntax.specs.Trace.{Header}
-use Rattle.stl_syntax.specs.WellFormed.{IsScale}
-use Rattle.stl_syntax.specs.declared.scale.Scale.{Scale}
-use Rattle.trace_reader.specs.TraceText.{Line, Heading, lines, AreTraceLines, blank, heading}
-use Rattle.trace_reader.specs.TraceRefusals.{IsFirstFault}
-use Rattle.trace_reader.specs.Reader.{Reader, StandsFor, HasRead}
+use Rattle.trace_reader.specs.Reader.{Reader}
 use Rattle.trace_reader.specs.declared.refusal.Limits.{Limits}
-use Rattle.trace_reader.proofs.LineLemmas.{lines-nil}
-use Rattle.workbench.specs.InputFaults.{IsLack, IsInputFault}
-use Rattle.workbench.specs.Reading.{IsRead, IsReadPromptly, IsReadWhole, IsReadInPart, IsSound, IsStop, IsRefused, IsKept, HasKept, IsTied, IsEnded, IsWhole}
-use Rattle.workbench.specs.declared.case.Case.{Case}
-use Rattle.workbench.specs.declared.fault.Stop.{Stop}
-use Rattle.workbench.specs.declared.fault.Stop.TheVariants.{Fault as Faulty, Unread, Unwritten, NoMemory, Wide, TooMany}
-use Rattle.workbench.proofs.HeaderLines.{no_header}
-use Rattle.workbench.proofs.Sizes.{few_bytes}
-use Rattle.workbench.proofs.Feeding.{no_lack}
-
--- bytes that were kept have no fault so far
-pub sound_so_far : (f : Formula) (reader : Reader) (case : Option Case) (bytes : List ℕ) (k : IsKept f reader case bytes) → IsSound reader.limits f bytes false
-sound_so_far f reader case bytes k x (inl lack) = by_heading reader.heading k.stands.read k.tied
-  where
-    by_heading : (o : Option Heading) → HasRead o reader.least bytes k.rows → IsTied f o bytes k.rows case → ⊥
-    by_heading None read t = no_header (lines false bytes) read.0 lack.2
-    by_heading (Some h) read t = by_case case t
-      where
-        by_case : (c : Option Case) → IsTied f (Some h) bytes k.rows c → ⊥
-        by_case None t = t
-        by_case (Some c) t = no_lack t.2 reader.limits false [] x (subst (λ b. IsLack reader.limits f b false x) (sym (append-nil bytes)) lack)
-sound_so_far f reader case bytes k x (inr (known, (r, first, e))) = k.stands.sound r (subst (λ (s : Scale). IsFirstFault bytes false reader.limits s r) (sym k.least) first)
+use Rattle.workbench.specs.InputFaults.{IsInputFault}
+use Rattle.trace_stream.specs.Reading.{IsSound, IsRefused, IsKept, HasKept, IsEnded, IsWhole}
+use Rattle.workbench.specs.Reading.{IsRead, IsReadPromptly, IsReadWhole, IsReadInPart, IsStop}
+use Rattle.trace_stream.specs.declared.case.Case.{Case}
+use Rattle.trace_stream.specs.declared.fault.StreamStop.{StreamStop}
+use Rattle.trace_stream.specs.declared.fault.StreamStop.TheVariants.{Fault as Faulty, NoMemory, Wide}
+use Rattle.workbench.specs.declared.fault.Stop.TheVariants.{Unread}
+use Rattle.workbench.specs.Stopping.{stop_of, outcome_of}
+use Rattle.trace_stream.proofs.KeptRows.{sound_so_far}
+use Rattle.trace_stream.proofs.Sizes.{few_bytes}
 
 -- some bytes were read and kept, in so many reads
 pub record Progress (limits : Limits) (f : Formula) (before now : Option (List ℕ)) (reader : Reader) (case : Option Case) (reads : ℕ) : Type 0 where
@@ -107,8 +90,8 @@ module _ {limits : Limits} {f : Formula} {before now : Option (List ℕ)} {reade
   }
 
 -- why the reading stopped
-pub stop_from : (l limits : Limits) (f : Formula) (before after : Option (List ℕ)) (ended known : Bool) (bytes : List ℕ) (e : Stop) → l ≡ limits → ended ≡ known
-    → IsRefused l f known bytes e → IsRead before after ended bytes → IsReadPromptly limits f bytes ended → IsStop limits f before after ended e
+pub stop_from : (l limits : Limits) (f : Formula) (before after : Option (List ℕ)) (ended known : Bool) (bytes : List ℕ) (e : StreamStop) → l ≡ limits → ended ≡ known
+    → IsRefused l f known bytes e → IsRead before after ended bytes → IsReadPromptly limits f bytes ended → IsStop limits f before after ended (stop_of e)
 stop_from l limits f before after ended known bytes (Faulty fault) s k (x, is, first) read prompt = (
   x,
   is,
@@ -119,16 +102,13 @@ stop_from l limits f before after ended known bytes (Faulty fault) s k (x, is, f
     prompt = prompt;
   },
 )
-stop_from l limits f before after ended known bytes Unread s k r read prompt = absurd r
-stop_from l limits f before after ended known bytes Unwritten s k r read prompt = absurd r
 stop_from l limits f before after ended known bytes NoMemory s k r read prompt = (bytes, read.moved)
 stop_from l limits f before after ended known bytes (Wide i den) s k r read prompt = absurd r
-stop_from l limits f before after ended known bytes (TooMany count) s k r read prompt = absurd r
 
-pub end_from : (l limits : Limits) (f : Formula) (before after : Option (List ℕ)) (ended : Bool) (bytes : List ℕ) (r : Result (Unit {0}) Stop) (case : Option Case)
+pub end_from : (l limits : Limits) (f : Formula) (before after : Option (List ℕ)) (ended : Bool) (bytes : List ℕ) (r : Result (Unit {0}) StreamStop) (case : Option Case)
     → l ≡ limits → ended ≡ true → IsRead before after ended bytes → IsReadPromptly limits f bytes ended
     → MatchResult r (λ _. MatchOption case ⊥ (IsEnded l f bytes)) (IsRefused l f true bytes)
-    → MatchResult r (λ _. MatchOption case ⊥ (IsReadWhole limits f before after ended)) (IsStop limits f before after ended)
+    → MatchResult (outcome_of r) (λ _. MatchOption case ⊥ (IsReadWhole limits f before after ended)) (IsStop limits f before after ended)
 end_from l limits f before after ended bytes (Ok x) None s k read prompt m = absurd m
 end_from l limits f before after ended bytes (Ok x) (Some c) s k read prompt m = record {
   bytes = bytes;
@@ -140,17 +120,14 @@ end_from l limits f before after ended bytes (Ok x) (Some c) s k read prompt m =
 end_from l limits f before after ended bytes (Err e) case s k read prompt m = stop_from l limits f before after ended true bytes e s k m read prompt
 
 -- a refusal is no fault of the source
-pub not_unread : (l : Limits) (f : Formula) (ended : Bool) (bytes : List ℕ) (e : Stop) → IsRefused l f ended bytes e → ◌≡◌ {A = Result (Unit {0}) Stop} (Err e) (Err Unread) → ⊥
-not_unread l f ended bytes (Faulty fault) r same = let k = same in cc
-not_unread l f ended bytes Unread r same = r
-not_unread l f ended bytes Unwritten r same = r
-not_unread l f ended bytes NoMemory r same = let k = same in cc
-not_unread l f ended bytes (Wide i den) r same = r
-not_unread l f ended bytes (TooMany count) r same = r
+pub not_unread : (e : StreamStop) → stop_of e ≡ Unread → ⊥
+not_unread (Faulty fault) same = let k = same in cc
+not_unread NoMemory same = let k = same in cc
+not_unread (Wide i den) same = let k = same in cc
 
-pub end_not_unread : (l : Limits) (f : Formula) (ended : Bool) (bytes : List ℕ) (P : Unit {0} → Type 0) (r : Result (Unit {0}) Stop) → MatchResult r P (IsRefused l f ended bytes) → r ≡ Err Unread → ⊥
-end_not_unread l f ended bytes P (Ok x) m same = let k = same in cc
-end_not_unread l f ended bytes P (Err e) m same = not_unread l f ended bytes e m same
+pub end_not_unread : (r : Result (Unit {0}) StreamStop) → outcome_of r ≡ Err Unread → ⊥
+end_not_unread (Ok x) same = let k = same in cc
+end_not_unread (Err e) same = not_unread e (let k = same in cc)
 
 pub none_taken : (n : ℕ) (buf : List ℕ) → n ≡ 0 → take n buf ≡ []
 none_taken n buf e = subst (λ m. take m buf ≡ []) (sym e) refl
@@ -170,23 +147,3 @@ not_true false h = refl
 pub unended : (said : Bool) (before now : ℕ) → now ≡ after_end said before → said ≡ false → now ≡ before
 unended true before now e same = let k = same in cc
 unended false before now e same = e
-
--- before the first read
-pub at_first : (f : Formula) (reader : Reader) → reader.least ≡ f.scale → IsScale f.scale → StandsFor reader [] [] → IsKept f reader None []
-at_first f reader least ticks s =
-    let no_heading : reader.heading ≡ None = none reader.heading refl in
-    record {
-      rows = [];
-      ticks = ticks;
-      least = least;
-      stands = s;
-      tied = subst (λ o. IsTied f o [] [] None) (sym no_heading) refl;
-    }
-  where
-    none : (o : Option Heading) → reader.heading ≡ o → reader.heading ≡ None
-    none None e = e
-    none (Some h) e = absurd (empty (lines-nil false) (subst (λ o. HasRead o reader.least [] []) e s.read))
-      where
-        empty : {ls : List Line} {header : Header} → ls ≡ [] → AreTraceLines reader.least ls header [] → ⊥
-        empty e (blank w b m) = let k = e in cc
-        empty e (heading g w b k m) = let k = e in cc

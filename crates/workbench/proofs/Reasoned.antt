@@ -1,5 +1,5 @@
 -- The answer of `explain`: the text of an explanation is the command's, and why there is none.
-use Rattle.std.proofs.Common.{◌≡◌, ℕ, ◌<◌, length, Bool, true, false, List, [], ◌++◌, inl, inr, refl, ap, subst, arith, Some}
+use Rattle.std.proofs.Common.{◌≡◌, ℕ, ◌<◌, length, Bool, true, false, List, inl, inr, refl, ap, subst, arith, Some}
 use Rattle.std.specs.Prelude.{All, slice_get}
 use Rattle.std.proofs.lemmas.List.Elements.{All-nil, All-weaker}
 use Rattle.stl_syntax.specs.Formula.{Formula}
@@ -20,12 +20,12 @@ use Rattle.implicants.proofs.Counting.{too_many_is_more}
 use Rattle.implicants.proofs.OfAtoms.{OfAtom, kept_of_atoms}
 use Rattle.report.specs.ItemLines.{IsOfAtom}
 use Rattle.report.specs.Report.{explain, nodes_for, AreItemLines}
-use Rattle.workbench.specs.declared.case.Case.{Case}
-use Rattle.workbench.specs.Cases.{IsCase}
+use Rattle.trace_stream.specs.declared.case.Case.{Case}
+use Rattle.trace_stream.specs.Cases.{IsCase}
 use Rattle.workbench.specs.Owed.{IsUnexplained}
 use Rattle.workbench.specs.Reasons.{items_of, IsReasonText, stop_of_explaining}
 use Rattle.workbench.specs.Wholes.{IsAnswerOf, IsUnanswered}
-use Rattle.workbench.proofs.Columns.{atom_unscaled}
+use Rattle.trace_stream.proofs.Columns.{atom_unscaled}
 use Rattle.workbench.proofs.Refuting.{kept_refute}
 
 -- in a case of the formula its nodes are those in the trace's ticks

@@ -1,21 +1,21 @@
 -- What an explanation comes to: its lines refute the formula, and none can be left out.
-use Rattle.std.proofs.Common.{◌≡◌, ◌⊎◌, inl, inr, ℕ, ◌<◌, Bool, true, false, List, [], ◌∷◌, ◌++◌, length, refl, sym, ap, subst, ◌∙◌, append-nil}
+use Rattle.std.proofs.Common.{◌≡◌, ◌⊎◌, inl, inr, ℕ, ◌<◌, Bool, true, false, List, [], ◌∷◌, ◌++◌, length, ap, subst, ◌∙◌, append-nil}
 use Rattle.std.specs.Prelude.{MatchBool}
 use Rattle.stl_syntax.specs.Formula.{Formula, root}
 use Rattle.stl_syntax.specs.PostOrder.{IsPostOrder}
 use Rattle.stl_syntax.specs.Trace.{Trace, start}
 use Rattle.stl_syntax.specs.Truth.{Truth}
 use Rattle.stl_syntax.specs.Kleene.{MustNot}
-use Rattle.stl_syntax.specs.Kept.{Kept, Agree}
+use Rattle.stl_syntax.specs.Kept.{Kept}
 use Rattle.stl_syntax.specs.Texts.{start_line}
 use Rattle.stl_syntax.specs.declared.items.Item.{Item}
-use Rattle.implicants.specs.Explaining.{IsExplained, IsExplanation}
+use Rattle.implicants.specs.Explaining.{IsExplained}
 use Rattle.implicants.specs.declared.explaining.Explained.{Explained}
 use Rattle.implicants.specs.declared.explaining.Explained.TheVariants.{Holds, Violated}
 use Rattle.implicants.proofs.KeptCells.{kept_is_needed, certainty_grows}
 use Rattle.implicants.proofs.OneExplanation.{one_is_enough, kept_refutes}
 use Rattle.report.specs.Report.{explain, IsExplained as Described, IsItemLines, AreItemLines, nodes_for}
-use Rattle.report.proofs.JoinedTimes.{SayMore, joined_say, apart_say, line_without}
+use Rattle.report.proofs.JoinedTimes.{SayMore, joined_say, line_without}
 use Rattle.report.proofs.JoinedCells.{cover_as, so_as}
 use Rattle.workbench.specs.Answers.{HoldsAtStart}
 use Rattle.workbench.specs.Settled.{Refute, KeptRefute, TellsTruth, IsAnsweredWhole}

@@ -33,10 +33,10 @@ use Rattle.report.specs.ReportText.{IsReportText}
 use Rattle.report.specs.SignalVerdicts.{sign_of}
 use Rattle.report.proofs.MarginLaw.{knots_describe}
 use Rattle.report.proofs.SignalLaw.{truth_at, signal_describes}
-use Rattle.workbench.specs.declared.case.Case.{Case}
+use Rattle.trace_stream.specs.declared.case.Case.{Case}
 use Rattle.workbench.specs.declared.fault.Stop.{Stop}
 use Rattle.workbench.specs.declared.fault.Stop.TheVariants.{Fault as Faulty, Unread, Unwritten, NoMemory, Wide, TooMany}
-use Rattle.workbench.specs.Cases.{IsCase}
+use Rattle.trace_stream.specs.Cases.{IsCase}
 use Rattle.workbench.specs.Judging.{IsRootOf}
 use Rattle.workbench.specs.Owed.{IsUnexplained}
 use Rattle.workbench.specs.Reasons.{truth_of, items_of}

@@ -10,7 +10,7 @@ use Rattle.stl_syntax.specs.Trace.{Trace}
 use Rattle.report.specs.Report.{Command, check, robust, explain, json, table, Out}
 use Rattle.workbench.specs.Answers.{IsJudged}
 use Rattle.workbench.specs.Commands.{Judge, judge, generate, IsForm, of_formula, judge_word}
-use Rattle.workbench.specs.Requests.{no_form, refused as bad_request, whole as of_whole, IsAsked, IsAmong, built_commands, AreNone, AreFor, word_of, usage_line, IsUnserved}
+use Rattle.workbench.specs.Requests.{no_form, refused as bad_request, whole as of_whole, IsAsked, IsAmong, built_commands, AreNone, AreOfNoFormula, generated, AreFor, word_of, usage_line, IsUnserved}
 use Rattle.workbench.specs.Owed.{OwesAtEnd, not_yet, faulty as faulty_at_end, at_end as owed_at_end}
 use Rattle.workbench.specs.Settled.{IsPrompt, none, bad, faulty, answered as settled_answer, wide as settled_wide, overfull as settled_overfull}
 use Rattle.workbench.specs.Running.{IsTimely, IsEnd, settled, unread, unwritten, no_memory, HasEnded, asked, unknown, IsRun}
@@ -22,10 +22,12 @@ use Rattle.workbench.specs.declared.request.Command.TheVariants.{Check, Robust, 
 use Rattle.workbench.specs.declared.request.Mode.{Mode}
 use Rattle.workbench.specs.declared.request.Mode.TheVariants.{Whole, Watch}
 use Rattle.workbench.specs.Wholes.{judge_of, status_of_truth, IsAnswerOf, IsUnanswered, IsWrittenWith, all_of_it, a_part, IsWholeEnd, answered, unanswered, stopped, status_of, status_of_stop, IsEndLine, IsStopLine, EndsSoundly, IsBadEnd, refused, no_room}
-use Rattle.workbench.specs.declared.case.Case.{Case}
+use Rattle.trace_stream.specs.declared.case.Case.{Case}
 use Rattle.workbench.specs.declared.fault.Stop.{Stop}
 use Rattle.workbench.specs.declared.fault.Stop.TheVariants.{Fault as Faulty, Unread, Unwritten, NoMemory, Wide, TooMany}
-use Rattle.workbench.specs.ErrTexts.{write_fault}
+use Rattle.workbench.specs.ErrTexts.{write_fault, out_of_memory}
+use Rattle.workbench.specs.Generator.{IsSummary}
+use Rattle.workbench.specs.Made.{IsMade, written, cut_off, no_room as no_room_for_it}
 
 -- ---- words
 
@@ -46,8 +48,8 @@ pub asked_word : {words : List (List ℕ)} (m : Mode) (text : List ℕ) → word
 asked_word {words} m text e = record { built = is_built m; is = subst (λ ws. IsForm ws (judge (judge_of m) text)) (sym e) (of_formula (judge_of m)) }
 
 -- and they alone
-pub none_asked : {words : List (List ℕ)} → ((m : Mode) (text : List ℕ) → words ≡ judge_word (judge_of m) ∷ text ∷ [] → ⊥) → AreNone words
-none_asked {words} h (judge j text) a = by_word a.built
+pub none_asked : {words : List (List ℕ)} → ((m : Mode) (text : List ℕ) → words ≡ judge_word (judge_of m) ∷ text ∷ [] → ⊥) → AreOfNoFormula words
+none_asked {words} h j text a = by_word a.built
   where
     form_of : (m : Mode) → j ≡ judge_of m → ⊥
     form_of m e = h m text (subst (λ k. words ≡ judge_word k ∷ text ∷ []) e (word_form a.is))
@@ -60,7 +62,11 @@ none_asked {words} h (judge j text) a = by_word a.built
     by_word (inr (inr (inr (inr (inl e))))) = form_of (Whole Json) e
     by_word (inr (inr (inr (inr (inr (inl e)))))) = form_of (Whole Table) e
     by_word (inr (inr (inr (inr (inr (inr other)))))) = other
-none_asked h (generate n rows) a = a.built
+
+-- words that are of neither form are of none
+pub none_of_both : {words : List (List ℕ)} → AreOfNoFormula words → ((number rows : ℕ) → ¬ IsAsked words (generate number rows)) → AreNone words
+none_of_both h k (judge j text) a = h j text a
+none_of_both h k (generate number rows) a = k number rows a
 
 -- a command that holds the whole trace serves each formula
 pub serves : (c : Command) (f : Formula) (i : ℕ) → ¬ IsUnserved (word_of c) f i
@@ -137,6 +143,44 @@ none_run i o e line is h same_in same_out said = record {
   grew = kept_all o.before o.after same_out;
   said = subst (λ l. IsSaid e.before e.after e.faults e.faults_after l) is said;
   ended = asked no_form h (λ _. refl) (λ _ b. absurd (false≢true b)) (settled none);
+}
+
+-- a generated trace
+pub made_run : {words : List (List ℕ)} (number rows : ℕ) (i : Drained) (o e : Filled) (status : ℕ) (line : List ℕ) → IsAsked words (generate number rows)
+    → IsMade number rows o status line → i.after ≡ i.before → IsSaid e.before e.after e.faults e.faults_after line → IsRun words i o e status
+made_run {words} number rows i o e _ _ form (written {text = text} is w) same said = record {
+  bytes = [];
+  text = text;
+  line = [];
+  moved = kept_left i.before i.after same;
+  grew = w;
+  said = said;
+  ended = asked (generated number rows) form (λ _. refl) (λ _ x. absurd (false≢true x)) (settled (settled_answer (refl, is)));
+}
+made_run {words} number rows i o e _ _ form (cut_off is p failed) same said = record {
+  bytes = [];
+  text = p.front;
+  line = write_fault;
+  moved = kept_left i.before i.after same;
+  grew = p.wrote;
+  said = said;
+  ended = asked (generated number rows) form (λ _. refl) (λ _ x. absurd (false≢true x)) (unwritten p.back p.missing failed (record {
+    seen = [];
+    later = [];
+    parts = refl;
+    seen_end = false;
+    at_end = λ h. absurd (false≢true h);
+    owed = subst (IsSummary number rows) p.parts is;
+  }) ([], p.front, refl, refl));
+}
+made_run {words} number rows i o e _ _ form (no_room_for_it same_out) same said = record {
+  bytes = [];
+  text = [];
+  line = out_of_memory;
+  moved = kept_left i.before i.after same;
+  grew = kept_all o.before o.after same_out;
+  said = said;
+  ended = asked (generated number rows) form (λ _. refl) (λ _ x. absurd (false≢true x)) (no_memory (λ k. let h = k in cc) (inl refl) ([], [], refl, refl));
 }
 
 -- a text that gives no formula

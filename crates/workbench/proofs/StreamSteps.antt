@@ -1,6 +1,6 @@
 -- How far a stream has come, and how it ends.
 use Rattle.std.proofs.Common.{◌≡◌, ◌≢◌, inl, inr, ℕ, ◌+◌, ◌-◌, ◌<◌, ◌≤◌, Bool, true, false, List, [], ◌++◌, length, take, drop, take-append-drop, length-append, append_assoc, refl, sym, ap, ◌∙◌, subst, arith, append-nil, Result, Ok, Err}
-use Rattle.std.specs.Prelude.{Option, Some, None, option_map}
+use Rattle.std.specs.Prelude.{Option}
 use Rattle.std.specs.Io.KnownBytes.{Appends, Consumes, Keeps, IsAtEnd}
 use Rattle.std.proofs.KnownBytes.{Appends-nil, Appends-trans, Consumes-nil, Consumes-trans, Consumes-kept}
 use Rattle.std.proofs.lemmas.Bool.{false≢true}
@@ -10,16 +10,8 @@ use Rattle.stl_syntax.specs.Formula.{Formula}
 use Rattle.workbench.specs.Requests.{Request, no_form, has_input, Stream, stream, word_of_stream, AreFor}
 use Rattle.workbench.specs.Owed.{Owes, OwesByThen}
 use Rattle.workbench.specs.Settled.{HasFault, IsPrompt, IsAnswered, faulty, answered}
-use Rattle.workbench.specs.Running.{IsBegun, IsTimely, IsEnd, settled, unread, unwritten, no_memory, asked, IsRun}
-use Rattle.workbench.specs.InputFaults.{Fault, fault_text, IsInputFault, AreRowsBefore, no_header_yet, sound}
+use Rattle.workbench.specs.Running.{IsBegun, IsTimely, IsEnd, settled, unread, unwritten, no_memory, asked}
 use Rattle.workbench.specs.Saying.{IsSaid}
-use Rattle.workbench.specs.Reading.{IsKept}
-use Rattle.workbench.specs.declared.case.Case.{Case}
-use Rattle.trace_reader.specs.TraceText.{lines, Heading}
-use Rattle.trace_reader.specs.Reader.{Reader, HasRead, header_of}
-use Rattle.stl_syntax.specs.declared.scale.Scale.{Scale}
-use Rattle.workbench.proofs.HeaderLines.{no_header}
-use Rattle.workbench.proofs.Progress.{sound_so_far}
 use Rattle.workbench.specs.Wholes.{status_of_truth, status_of, IsEndLine, EndsSoundly}
 use Rattle.workbench.specs.Keeping.{IsLeft, HasRun}
 use Rattle.workbench.specs.declared.kept.Kept.{Kept}
@@ -223,14 +215,3 @@ stream_soundly s f i o ending x = by_line ending x.told
     by_line (Err NoMemory) told = tt
     by_line (Err (Wide i den)) told = tt
     by_line (Err (TooMany count)) told = tt
-
--- what a reader has kept are the rows before the first fault
-pub before_of_kept : (f : Formula) (reader : Reader) (case : Option Case) (bytes : List ℕ) (k : IsKept f reader case bytes) → AreRowsBefore reader.limits f bytes false (option_map (header_of f.scale) reader.heading) k.rows false
-before_of_kept f reader case bytes k = by_heading reader.heading (subst (λ (s : Scale). HasRead reader.heading s bytes k.rows) k.least k.stands.read)
-  where
-    clean : (x : Fault) → ¬ IsInputFault reader.limits f bytes false x
-    clean = sound_so_far f reader case bytes k
-
-    by_heading : (o : Option Heading) → HasRead o f.scale bytes k.rows → AreRowsBefore reader.limits f bytes false (option_map (header_of f.scale) o) k.rows false
-    by_heading None read = subst (λ rows. AreRowsBefore reader.limits f bytes false None rows false) (sym read.1) (no_header_yet clean (λ n h at. no_header (lines false bytes) read.0 at))
-    by_heading (Some h) read = sound clean read

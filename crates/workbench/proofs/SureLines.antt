@@ -1,10 +1,10 @@
 -- The lines of a stream of verdicts are the truth in each trace that goes on from the rows, and in the end they cover the trace.
 use Rattle.std.proofs.Common.{◌≡◌, ◌≢◌, inl, inr, refl, sym, ap, subst, ◌∙◌, ℕ, zero, suc, ◌<◌, ◌≤◌, Bool, true, false, Option, Some, None, List, [], ◌∷◌, ◌++◌, length, ℤ, pos, ◌+ℤ◌, ◌-ℤ◌, ◌≤ℤ◌, ◌<ℤ◌, arith, append_assoc, append-nil}
-use Rattle.std.specs.Prelude.{MatchBool, IsTrue, int_lt, cond, slice_get}
+use Rattle.std.specs.Prelude.{MatchBool, int_lt, cond, slice_get}
 use Rattle.std.proofs.lemmas.Bool.{false≢true}
 use Rattle.std.proofs.lemmas.Int.{ints}
 use Rattle.rational.specs.Time.{Rational, ◌≤ʳ◌, ◌<ʳ◌, Interval, IsIn, later, whole, closed, left_open}
-use Rattle.rational.proofs.Order.{le_trans, le_of_same, ge_of_same, le_of_lt, same_refl}
+use Rattle.rational.proofs.Order.{le_trans, le_of_same, ge_of_same, le_of_lt}
 use Rattle.rational.proofs.TimeLemmas.{later_le}
 use Rattle.rational.proofs.Mixed.{parts}
 use Rattle.rational.proofs.Shift.{le_whole}
@@ -14,23 +14,21 @@ use Rattle.stl_syntax.specs.Trace.{Header, Row, Trace, IsTrace, Continues, AreRo
 use Rattle.stl_syntax.specs.Formula.{Formula, Subformula, root, horizon}
 use Rattle.stl_syntax.specs.Truth.{Truth}
 use Rattle.stl_syntax.specs.Verdicts.{Describes, GoesOn, IsTold}
-use Rattle.stl_syntax.specs.Stream.{after, answered_by, IsStretchText, IsNewText, IsRowsText, IsRestText, IsStreamText}
-use Rattle.stl_syntax.specs.Texts.{AreVerdictLines, IsVerdictLine, IsStartLine}
+use Rattle.stl_syntax.specs.Stream.{answered_by, IsStretchText, IsNewText, IsRowsText, IsRestText, IsStreamText}
+use Rattle.stl_syntax.specs.Texts.{AreVerdictLines}
 use Rattle.stl_syntax.specs.declared.items.Verdict.{Verdict}
 use Rattle.stl_syntax.specs.declared.scale.Scale.{Scale}
 use Rattle.stl_syntax.proofs.LawProofs.{answers_stay}
-use Rattle.online_nodes.specs.Cuts.{Place, begins, ends, Same}
+use Rattle.online_nodes.specs.Cuts.{begins, ends, Same}
 use Rattle.online_nodes.specs.Laws.{AreTold, AreTiles, answered_to}
 use Rattle.online_nodes.proofs.RunLaw.{int_order, some_is, none_is_none}
 use Rattle.online_nodes.proofs.StayLaw.{Agree}
 use Rattle.online_nodes.proofs.Writing.{same_itself}
 use Rattle.online_nodes.proofs.EmittedLaw.{describes_tiles, tiles_append}
 use Rattle.report.specs.Report.{nodes_for}
-use Rattle.workbench.specs.InputFaults.{stream_limits}
-use Rattle.workbench.specs.Reading.{IsWhole}
 use Rattle.workbench.specs.Requests.{verdicts}
 use Rattle.workbench.specs.Settled.{IsAnsweredByRow}
-use Rattle.workbench.specs.SureLines.{AreSure, AreSureByRow, AreSureToEnd, Cover, IsCoverText, TellAlike, IsWatchText}
+use Rattle.workbench.specs.SureLines.{AreSure, AreSureByRow, AreSureToEnd, IsCoverText, TellAlike, IsWatchText}
 
 -- ---- a list read in a trace that agrees on its stretch
 

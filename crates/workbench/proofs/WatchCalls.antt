@@ -1,39 +1,37 @@
 -- What a watch's calls come to.
-use Rattle.std.proofs.Common.{◌≡◌, ◌≢◌, ◌⊎◌, inl, inr, ℕ, Bool, true, false, List, [], ◌++◌, refl, sym, ap, ◌∙◌, subst, append_assoc, Option, Result, Ok, Err}
+use Rattle.std.proofs.Common.{◌≡◌, ◌≢◌, inl, inr, ℕ, Bool, true, false, List, [], ◌++◌, refl, sym, ap, ◌∙◌, subst, append_assoc, Option, Result, Ok, Err}
 use Rattle.std.specs.Prelude.{MatchResult, MatchBool, OnOk}
 use Rattle.std.specs.Io.KnownBytes.{Appends}
 use Rattle.stl_syntax.specs.Formula.{Formula, root}
 use Rattle.stl_syntax.specs.Trace.{Trace}
 use Rattle.stl_syntax.specs.Stream.{IsStreamText}
-use Rattle.stl_syntax.specs.declared.scale.UnitFault.{UnitFault}
 use Rattle.stl_syntax.specs.declared.scale.UnitFault.TheVariants as unit_fault
 use Rattle.trace_reader.specs.declared.refusal.Limits.{Limits}
-use Rattle.report.specs.Report.{nodes_for}
 use Rattle.io_edge.specs.Calls.{Drained, Filled}
 use Rattle.workbench.specs.Answers.{HoldsAtStart}
 use Rattle.workbench.specs.Settled.{TellsTruth}
-use Rattle.workbench.specs.Cases.{IsFault, IsNamed}
+use Rattle.trace_stream.specs.Cases.{IsFault}
 use Rattle.workbench.specs.InputFaults.{Fault, of_trace, unknown, unit, stream_limits, IsInputFault}
-use Rattle.workbench.specs.Owed.{limits_of}
-use Rattle.workbench.specs.Reading.{IsWhole}
-use Rattle.workbench.specs.Requests.{Request, stream, verdicts}
-use Rattle.workbench.specs.Writing.{IsPartWritten}
+use Rattle.workbench.specs.Requests.{stream, verdicts}
 use Rattle.workbench.specs.Wholes.{status_of_truth}
 use Rattle.workbench.specs.Pushing.{IsPushed, IsStreamEnd}
-use Rattle.workbench.specs.Following.{IsTextOf, IsLive, IsAtRest, IsOver, IsDone, IsLiveStop, IsToldAs, no_room, told_whole, told_in_part}
-use Rattle.workbench.specs.Watches.{Watched, Past, with_piece, with_text, IsText, WatchesRows, WatchesEnd, StandsFor, HasPast, StandsForAll, HasPushed, HasFinished, HasFault, IsWatchFault, IsCall, Moves, IsOpen, IsFaultOf, phase_after}
-use Rattle.workbench.specs.declared.case.Case.{Case}
-use Rattle.workbench.specs.declared.fault.TraceFault.{TraceFault}
-use Rattle.workbench.specs.declared.fault.TraceFault.TheVariants.{Trace as InTrace, Unknown, Unit as InTicks}
+use Rattle.trace_stream.specs.Following.{IsTextOf, IsLive, IsAtRest, IsOver, IsDone, IsLiveStop}
+use Rattle.workbench.specs.Telling.{IsToldAs, no_room, told_whole, told_in_part}
+use Rattle.workbench.specs.Watches.{Watched, Past, with_piece, with_text, IsText, WatchesRows, WatchesEnd, StandsFor, StandsForAll, HasPushed, HasFinished, HasFault, IsWatchFault, IsCall, IsFaultOf, phase_after}
+use Rattle.trace_stream.specs.declared.fault.TraceFault.TheVariants.{Trace as InTrace, Unknown, Unit as InTicks}
+use Rattle.trace_stream.specs.declared.fault.StreamStop.{StreamStop}
+use Rattle.trace_stream.specs.declared.fault.StreamStop.TheVariants as stream_stop
+use Rattle.workbench.specs.Stopping.{stop_of}
 use Rattle.workbench.specs.declared.fault.Stop.{Stop}
 use Rattle.workbench.specs.declared.fault.Stop.TheVariants.{Fault as Faulty, Unread, Unwritten, NoMemory, Wide, TooMany}
-use Rattle.workbench.specs.declared.live.Live.{Live}
-use Rattle.workbench.specs.declared.verdicts.Verdicts.{Verdicts}
+use Rattle.trace_stream.specs.declared.live.Live.{Live}
+use Rattle.trace_stream.specs.declared.verdicts.Verdicts.{Verdicts}
 use Rattle.workbench.specs.declared.watch.Phase.{Phase}
-use Rattle.workbench.specs.declared.watch.Phase.TheVariants.{Reading, Stopped, Ended}
+use Rattle.workbench.specs.declared.watch.Phase.TheVariants.{Reading, Ended}
 use Rattle.workbench.specs.declared.watch.WatchFault.{WatchFault}
 use Rattle.workbench.specs.declared.watch.WatchFault.TheVariants as fault
-use Rattle.workbench.proofs.AtRest.{told_now, calm_now, live_after, told_over, over_after, at_rest}
+use Rattle.trace_stream.proofs.Told.{told_now, calm_now, live_after, told_over, over_after}
+use Rattle.workbench.proofs.AtRest.{at_rest}
 
 -- ---- faults
 
@@ -110,24 +108,19 @@ module _ {T : Type 0} (held held_after : Option (List ℕ)) (p : Past) (ended : 
   in_part front back e m =
       subst (λ t. IsTextOf verdicts p.limits p.formula p.bytes ended t) (ap (λ t. p.text ++ t) e ∙ sym (append_assoc p.text front back)) m
 
-  fault_made : (stop : Stop) → stop ≢ NoMemory → IsLiveStop verdicts p.limits p.formula ended p.bytes (p.text ++ made) stop → Made
-  fault_made (Faulty stored) ne (x, is, input, t) = t
-  fault_made Unread ne h = absurd h
-  fault_made Unwritten ne h = absurd h
-  fault_made NoMemory ne h = absurd (ne refl)
-  fault_made (Wide i den) ne h = absurd h
-  fault_made (TooMany count) ne h = absurd h
+  fault_made : (e : StreamStop) → e ≢ stream_stop.NoMemory → IsLiveStop verdicts p.limits p.formula ended p.bytes (p.text ++ made) e → Made
+  fault_made (stream_stop.Fault stored) ne (x, is, input, t) = t
+  fault_made stream_stop.NoMemory ne h = absurd (ne refl)
+  fault_made (stream_stop.Wide i den) ne h = absurd h
 
-  stopped_by : (stop : Stop) → stop ≢ NoMemory → IsLiveStop verdicts p.limits p.formula ended p.bytes (p.text ++ made) stop → IsStoppedBy (with_text p made) ended made stop
-  stopped_by (Faulty stored) ne (x, is, input, t) = (x, is, (input, t))
-  stopped_by Unread ne h = absurd h
-  stopped_by Unwritten ne h = absurd h
-  stopped_by NoMemory ne h = absurd (ne refl)
-  stopped_by (Wide i den) ne h = absurd h
-  stopped_by (TooMany count) ne h = absurd h
+  stopped_by : (e : StreamStop) → e ≢ stream_stop.NoMemory → IsLiveStop verdicts p.limits p.formula ended p.bytes (p.text ++ made) e
+      → IsStoppedBy (with_text p made) ended made (stop_of e)
+  stopped_by (stream_stop.Fault stored) ne (x, is, input, t) = (x, is, (input, t))
+  stopped_by stream_stop.NoMemory ne h = absurd (ne refl)
+  stopped_by (stream_stop.Wide i den) ne h = absurd h
 
   -- by what came of the bytes
-  pub told_call : (outcome result : Result T Stop) → IsToldAs held held_after made outcome result
+  pub told_call : (outcome : Result T StreamStop) (result : Result T Stop) → IsToldAs held held_after made outcome result
       → MatchResult outcome (λ x. Good x × Made) (λ e. IsLiveStop verdicts p.limits p.formula ended p.bytes (p.text ++ made) e) → IsTold held held_after p ended made Good result
   told_call outcome result (no_room kept) h = ([], kept, refl)
   told_call (Ok x) result (told_whole ne wrote) h = (wrote, h.0)
@@ -153,7 +146,7 @@ module _ (old mid : Live Verdicts) (p : Past) (piece : List ℕ) (phase : Phase)
   Took x = IsLive WatchesRows verdicts mid (p.bytes ++ piece) p.text
 
   -- the reader's outcome, as one of the past
-  pub piece_fed : (fed : Result (Unit {0}) Stop)
+  pub piece_fed : (fed : Result (Unit {0}) StreamStop)
       → MatchResult fed (λ _. IsLive WatchesRows verdicts mid (p.bytes ++ piece) p.text) (λ e. IsLiveStop verdicts old.rows.limits old.formula false (p.bytes ++ piece) (p.text ++ mid.text) e)
       → MatchResult fed (λ x. Took x × IsTextOf verdicts p.limits p.formula (p.bytes ++ piece) false (p.text ++ mid.text))
       (λ e. IsLiveStop verdicts p.limits p.formula false (p.bytes ++ piece) (p.text ++ mid.text) e)
@@ -183,7 +176,7 @@ module _ (old mid : Live Verdicts) (p : Past) (piece : List ℕ) (phase : Phase)
 
 -- what came of a piece, once it was told
 pub push_told : (held held_after : Option (List ℕ)) (old mid : Live Verdicts) (p : Past) (piece : List ℕ) (phase : Phase) (s : StandsFor p (record { live = old; phase = phase }))
-    (formula : mid.formula ≡ old.formula) (limits : mid.rows.limits ≡ old.rows.limits) (fed result : Result (Unit {0}) Stop) → IsToldAs held held_after mid.text fed result
+    (formula : mid.formula ≡ old.formula) (limits : mid.rows.limits ≡ old.rows.limits) (fed : Result (Unit {0}) StreamStop) (result : Result (Unit {0}) Stop) → IsToldAs held held_after mid.text fed result
     → MatchResult fed (λ _. IsLive WatchesRows verdicts mid (p.bytes ++ piece) p.text) (λ e. IsLiveStop verdicts old.rows.limits old.formula false (p.bytes ++ piece) (p.text ++ mid.text) e)
     → IsTold held held_after (with_piece p piece) false mid.text (λ _. IsLive WatchesRows verdicts mid (p.bytes ++ piece) p.text) result
 push_told held held_after old mid p piece phase s formula limits fed result told taken =
@@ -207,7 +200,7 @@ module _ (old mid : Live Verdicts) (p : Past) (phase : Phase) (s : StandsFor p (
   end_over holds k = subst (λ (l : Limits). IsOver WatchesEnd verdicts l p.formula mid p.bytes (p.text ++ mid.text) holds) s.limits
       (subst (λ (f : Formula). IsOver WatchesEnd verdicts old.rows.limits f mid p.bytes (p.text ++ mid.text) holds) s.formula k)
 
-  pub end_fed : (finished : Result Bool Stop)
+  pub end_fed : (finished : Result Bool StreamStop)
       → MatchResult finished (IsOver WatchesEnd verdicts old.rows.limits old.formula mid p.bytes (p.text ++ mid.text)) (λ e. IsLiveStop verdicts old.rows.limits old.formula true p.bytes (p.text ++ mid.text) e)
       → MatchResult finished (λ holds. Over holds × IsTextOf verdicts p.limits p.formula p.bytes true (p.text ++ mid.text))
       (λ e. IsLiveStop verdicts p.limits p.formula true p.bytes (p.text ++ mid.text) e)
@@ -228,7 +221,7 @@ module _ (old mid : Live Verdicts) (p : Past) (phase : Phase) (s : StandsFor p (
 
 -- what came of the end, once it was told
 pub end_told : (held held_after : Option (List ℕ)) (old mid : Live Verdicts) (p : Past) (phase : Phase) (s : StandsFor p (record { live = old; phase = phase })) (formula : mid.formula ≡ old.formula)
-    (finished result : Result Bool Stop) → IsToldAs held held_after mid.text finished result
+    (finished : Result Bool StreamStop) (result : Result Bool Stop) → IsToldAs held held_after mid.text finished result
     → MatchResult finished (IsOver WatchesEnd verdicts old.rows.limits old.formula mid p.bytes (p.text ++ mid.text)) (λ e. IsLiveStop verdicts old.rows.limits old.formula true p.bytes (p.text ++ mid.text) e)
     → IsTold held held_after p true mid.text (IsOver WatchesEnd verdicts p.limits p.formula mid p.bytes (p.text ++ mid.text)) result
 end_told held held_after old mid p phase s formula finished result told over =

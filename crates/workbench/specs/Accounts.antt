@@ -9,7 +9,7 @@ use Rattle.stl_syntax.specs.declared.items.Item.{Item}
 use Rattle.report.specs.Report.{IsItemLines, AreItemLines, nodes_for}
 use Rattle.workbench.specs.Answers.{HoldsAtStart}
 use Rattle.workbench.specs.InputFaults.{whole_limits}
-use Rattle.workbench.specs.Reading.{IsWhole}
+use Rattle.trace_stream.specs.Reading.{IsWhole}
 use Rattle.workbench.specs.Settled.{Refute}
 
 -- the lines are those of the cells that are kept, where neighbours that touch are one; they refute the formula, and without any one of

@@ -19,7 +19,7 @@ use Rattle.offline_eval.specs.Evaluation.{IsFault}
 use Rattle.offline_eval.specs.declared.faults.EvalFault.{EvalFault}
 use Rattle.offline_eval.specs.declared.faults.EvalFault.TheVariants as E
 use Rattle.report.specs.SignalVerdicts.{sign_of, AreSignalLines}
-use Rattle.workbench.specs.declared.case.Case.{Case}
+use Rattle.trace_stream.specs.declared.case.Case.{Case}
 use Rattle.workbench.specs.declared.fault.Stop.{Stop}
 use Rattle.workbench.specs.declared.fault.Stop.TheVariants.{NoMemory, Wide}
 

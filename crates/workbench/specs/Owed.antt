@@ -1,38 +1,17 @@
 -- The text that a request is owed for the bytes so far, which the input may have ended.
-use Rattle.std.specs.Prelude.{◌≡◌, ℕ, ◌-◌, Bool, true, false, List, [], take, Option, Some, None}
-use Rattle.stl_syntax.specs.Formula.{Formula, Subformula, root}
-use Rattle.stl_syntax.specs.Scaling.{scaled}
-use Rattle.stl_syntax.specs.Trace.{Header, Row, Trace}
-use Rattle.stl_syntax.specs.Stream.{IsStreamText}
-use Rattle.stl_syntax.specs.EarlyText.{IsEarlyText}
-use Rattle.online_nodes.specs.MarginStream.{IsMarginStream}
+use Rattle.std.specs.Prelude.{◌≡◌, ℕ, ◌-◌, Bool, true, false, List, [], take}
+use Rattle.stl_syntax.specs.Formula.{Formula}
+use Rattle.stl_syntax.specs.Trace.{Trace}
 use Rattle.trace_reader.specs.TraceText.{lines}
-use Rattle.trace_reader.specs.declared.refusal.Limits.{Limits}
 use Rattle.stl_syntax.specs.Kept.{most_cells, IsTooMany}
 use Rattle.report.specs.Report.{Command, explain, json, Out, nodes_for}
+pub use Rattle.trace_stream.specs.Streams.{limits_of, StreamText, StreamOf, OwesRows}
 use Rattle.workbench.specs.Answers.{HoldsAtStart}
-use Rattle.workbench.specs.Requests.{Stream, verdicts, early, margins, Request, no_form, refused, whole, stream, sessions, generated}
-use Rattle.workbench.specs.InputFaults.{Fault, whole_limits, stream_limits, IsInputFault, AreRowsBefore}
-use Rattle.workbench.specs.Reading.{IsWhole}
+use Rattle.workbench.specs.Requests.{Request, no_form, refused, whole, stream, sessions, generated}
+use Rattle.workbench.specs.InputFaults.{Fault, whole_limits, IsInputFault}
+use Rattle.trace_stream.specs.Reading.{IsWhole}
 use Rattle.workbench.specs.Sessions.{Tagged, AreTagged, MuxText, InputFault, too_many_lines, too_long, bad_tag, too_many_sessions, FaultOfInput}
 use Rattle.workbench.specs.Generator.{IsSummary}
-
--- the limits of a stream: an early verdict needs the rows so far
-abbrev pub limits_of : Stream → Limits
-limits_of verdicts = stream_limits
-limits_of early = whole_limits
-limits_of margins = stream_limits
-
--- the text of a stream for rows under a header, with its end where the input has ended
-abbrev pub StreamText : Stream → Subformula → Header → List Row → Bool → List ℕ → Type 0
-StreamText verdicts p header rows ended text = IsStreamText p header rows ended text
-StreamText early p header rows ended text = IsEarlyText p header rows ended text
-StreamText margins p header rows ended text = IsMarginStream p header rows ended text
-
--- the text of a stream for the rows under a header, once it was read
-abbrev pub StreamOf : Stream → Formula → Option Header → List Row → Bool → List ℕ → Type 0
-StreamOf s f None rows ended text = text ≡ []
-StreamOf s f (Some header) rows ended text = StreamText s (root (scaled f header.scale).nodes) header rows ended text
 
 -- the formula fails at the start, and an explanation would have too many cells
 pub record IsUnexplained (f : Formula) (tr : Trace) (count : ℕ) : Type 0 where
@@ -52,14 +31,6 @@ pub data OwesAtEnd (c : Command) (f : Formula) (bytes : List ℕ) : Bool → Lis
   too_many : (tr : Trace) (count : ℕ) → IsWhole whole_limits f bytes tr → HasTooMany c f tr count → OwesAtEnd c f bytes true []
   at_end : {text : List ℕ} (tr : Trace) → IsWhole whole_limits f bytes tr → ((count : ℕ) → ¬ HasTooMany c f tr count) → Out c f tr text
       → OwesAtEnd c f bytes true text
-
--- of a stream: the text of the rows before the first fault, with its end where the input has ended without one
-pub record OwesRows (s : Stream) (f : Formula) (bytes : List ℕ) (ended : Bool) (text : List ℕ) : Type 0 where
-  pub header : Option Header
-  pub rows : List Row
-  pub whole : Bool
-  pub before : AreRowsBefore (limits_of s) f bytes ended header rows whole
-  pub is : StreamOf s f header rows whole text
 
 -- the line of a fault of the input of several sessions
 abbrev pub fault_line : InputFault → ℕ

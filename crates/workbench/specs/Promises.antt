@@ -10,7 +10,7 @@ use Rattle.workbench.specs.Words.{AskCheck}
 use Rattle.workbench.specs.Requests.{usage_line}
 use Rattle.workbench.specs.InputFaults.{Fault, fault_text, whole_limits, IsInputFault}
 use Rattle.workbench.specs.Answers.{HoldsAtStart}
-use Rattle.workbench.specs.Reading.{IsWhole, IsSound}
+use Rattle.trace_stream.specs.Reading.{IsWhole, IsSound}
 use Rattle.workbench.specs.ErrTexts.{formula_fault_text, out_of_memory, read_fault, write_fault}
 
 -- the text is refused with this line

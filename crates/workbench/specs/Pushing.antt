@@ -6,10 +6,10 @@ use Rattle.workbench.specs.Requests.{Request, stream, has_input}
 use Rattle.workbench.specs.Owed.{Owes, OwesByThen}
 use Rattle.workbench.specs.Settled.{HasFault, IsAnswered}
 use Rattle.workbench.specs.Running.{IsBegun, IsEnd}
-use Rattle.workbench.specs.Cases.{IsFault}
+use Rattle.trace_stream.specs.Cases.{IsFault}
 use Rattle.workbench.specs.InputFaults.{Fault, fault_text}
 use Rattle.workbench.specs.Wholes.{status_of, status_of_truth}
-use Rattle.workbench.specs.declared.fault.TraceFault.{TraceFault}
+use Rattle.trace_stream.specs.declared.fault.TraceFault.{TraceFault}
 use Rattle.workbench.specs.declared.fault.Stop.{Stop}
 use Rattle.workbench.specs.declared.fault.Stop.TheVariants.{Fault as Faulty, Unread, Unwritten, NoMemory, Wide, TooMany}
 use Rattle.workbench.specs.ErrTexts.{out_of_memory, read_fault, write_fault, wide_text, too_many_cells_text}

@@ -6,15 +6,10 @@ use Rattle.online_nodes.specs.StreamedWide.{IsFirstUnstreamed}
 use Rattle.stl_grammar.specs.FormulaRefusals.{IsFormulaOf, IsFormulaFault}
 use Rattle.stl_grammar.specs.declared.fault.FormulaFault.{FormulaFault}
 use Rattle.report.specs.Report.{Command, check, robust, explain, json, table}
+pub use Rattle.trace_stream.specs.Streams.{Stream, verdicts, early, margins}
 use Rattle.workbench.specs.Commands.{Judge, Form, judge, generate, IsForm, judge_word}
 use Rattle.workbench.specs.Commands as word
 use Rattle.workbench.specs.ErrTexts.{formula_fault_text, not_streamed_text}
-
--- the commands that answer row by row
-pub data Stream : Type 0 where
-  verdicts : Stream
-  early : Stream
-  margins : Stream
 
 -- words of no form, a formula that is refused with a line, a formula with what is to be done by it, or a trace to be generated
 pub data Request : Type 0 where
@@ -51,7 +46,7 @@ IsAmong command (j ∷ commands) = (command ≡ j) ⊎ IsAmong command commands
 -- the forms that are built; words of another form are of none
 abbrev pub IsBuilt : Form → Type 0
 IsBuilt (judge command text) = IsAmong command built_commands
-IsBuilt (generate number rows) = ⊥
+IsBuilt (generate number rows) = Unit {0}
 
 -- the forms of commands, with a bar between two
 abbrev pub forms_text : List Judge → List ℕ
@@ -61,7 +56,7 @@ forms_text (j ∷ k ∷ commands) = judge_word j ++ codes " F | " ++ forms_text 
 
 -- the usage line, which names the forms that are built
 abbrev pub usage_line : List ℕ
-usage_line = codes "usage: " ++ forms_text built_commands ++ newline
+usage_line = codes "usage: " ++ forms_text built_commands ++ codes " | gen NUMBER ROWS" ++ newline
 
 -- the words are of this form
 pub record IsAsked (words : List (List ℕ)) (form : Form) : Type 0 where
@@ -71,6 +66,14 @@ pub record IsAsked (words : List (List ℕ)) (form : Form) : Type 0 where
 -- the words are of no form
 abbrev pub AreNone : List (List ℕ) → Type 0
 AreNone words = (form : Form) → ¬ IsAsked words form
+
+-- the words are of no form that has a formula
+abbrev pub AreOfNoFormula : List (List ℕ) → Type 0
+AreOfNoFormula words = (command : Judge) (text : List ℕ) → ¬ IsAsked words (judge command text)
+
+-- the words ask for a trace to be generated
+abbrev pub AskToGenerate : List (List ℕ) → Type 0
+AskToGenerate words = (number rows : ℕ) × IsAsked words (generate number rows)
 
 -- the text is refused with this line
 abbrev pub IsBadText : List ℕ → List ℕ → Type 0

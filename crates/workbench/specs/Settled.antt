@@ -17,18 +17,15 @@ use Rattle.stl_syntax.specs.declared.node.Node.{Node}
 use Rattle.stl_syntax.specs.declared.items.Item.{Item}
 use Rattle.trace_reader.specs.TraceText.{lines}
 use Rattle.report.specs.Report.{Command, check, robust, explain, json, table, Out, nodes_for}
+pub use Rattle.trace_stream.specs.Streams.{TellsTruth, IsLastVerdict}
 use Rattle.workbench.specs.Answers.{HoldsAtStart}
-use Rattle.workbench.specs.Requests.{Stream, verdicts, early, margins, Request, no_form, refused, whole, stream, sessions, generated, usage_line}
+use Rattle.workbench.specs.Requests.{Stream, margins, Request, no_form, refused, whole, stream, sessions, generated, usage_line}
 use Rattle.workbench.specs.Owed.{limits_of, StreamText, Owes, OwesLines, HasTooMany}
 use Rattle.workbench.specs.InputFaults.{Fault, fault_text, whole_limits, IsInputFault, AreRowsBefore}
-use Rattle.workbench.specs.Reading.{IsWhole}
+use Rattle.trace_stream.specs.Reading.{IsWhole}
 use Rattle.workbench.specs.Sessions.{InputFault, FaultOfInput, input_fault_text}
 use Rattle.workbench.specs.Generator.{IsSummary}
 use Rattle.workbench.specs.ErrTexts.{wide_text, too_many_cells_text}
-
--- the status tells the truth at the start
-abbrev pub TellsTruth : Formula → Trace → ℕ → Type 0
-TellsTruth f tr status = ((status ≡ 0) × HoldsAtStart f tr) ⊎ ((status ≡ 1) × (¬ HoldsAtStart f tr))
 
 -- the status of an answer over the whole trace
 abbrev pub IsVerdict : Command → Formula → Trace → ℕ → Type 0
@@ -61,12 +58,6 @@ IsSure check f tr = Unit {0}
 IsSure explain f tr = KeptRefute f tr
 IsSure json f tr = TellTruth (root (nodes_for f tr)) tr × KeptRefute f tr
 IsSure c f tr = TellTruth (root (nodes_for f tr)) tr
-
--- the status of a stream that came to its end
-abbrev pub IsLastVerdict : Stream → Formula → Trace → ℕ → Type 0
-IsLastVerdict verdicts f tr status = TellsTruth f tr status
-IsLastVerdict early f tr status = TellsTruth f tr status
-IsLastVerdict margins f tr status = status ≡ 0
 
 -- a pair of functions, or a constant, that is in play at node i needs this denominator
 abbrev pub IsNeeded : List Node → Setting → ℕ → ℕ → Type 0

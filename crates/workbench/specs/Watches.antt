@@ -4,23 +4,22 @@ use Rattle.std.specs.Io.KnownBytes.{Appends}
 use Rattle.stl_syntax.specs.Formula.{Formula, root}
 use Rattle.stl_syntax.specs.Trace.{Trace}
 use Rattle.stl_syntax.specs.Stream.{IsStreamText}
-use Rattle.stl_syntax.specs.declared.scale.UnitFault.{UnitFault}
 use Rattle.stl_syntax.specs.declared.scale.UnitFault.TheVariants as unit_fault
 use Rattle.trace_reader.specs.declared.refusal.Limits.{Limits}
 use Rattle.report.specs.Report.{nodes_for}
 use Rattle.workbench.specs.Answers.{HoldsAtStart}
-use Rattle.workbench.specs.Cases.{IsNamed}
+use Rattle.trace_stream.specs.Cases.{IsNamed}
 use Rattle.workbench.specs.InputFaults.{Fault, of_trace, unknown, unit, IsInputFault}
-use Rattle.workbench.specs.Reading.{IsSound, IsWhole}
+use Rattle.trace_stream.specs.Reading.{IsSound, IsWhole}
 use Rattle.workbench.specs.Requests.{verdicts}
-use Rattle.workbench.specs.Following.{IsTextOf, IsLive, IsOver}
-use Rattle.workbench.specs.Watching.{IsWatched}
-use Rattle.workbench.specs.declared.case.Case.{Case}
-use Rattle.workbench.specs.declared.fault.TraceFault.TheVariants as trace_fault
+use Rattle.trace_stream.specs.Following.{IsTextOf, IsLive, IsOver}
+use Rattle.trace_stream.specs.Watching.{IsWatched}
+use Rattle.trace_stream.specs.declared.case.Case.{Case}
+use Rattle.trace_stream.specs.declared.fault.TraceFault.TheVariants as trace_fault
 use Rattle.workbench.specs.declared.fault.Stop.{Stop}
 use Rattle.workbench.specs.declared.fault.Stop.TheVariants as stop
-use Rattle.workbench.specs.declared.live.Live.{Live}
-use Rattle.workbench.specs.declared.verdicts.Verdicts.{Verdicts}
+use Rattle.trace_stream.specs.declared.live.Live.{Live}
+use Rattle.trace_stream.specs.declared.verdicts.Verdicts.{Verdicts}
 use Rattle.workbench.specs.declared.watch.Phase.{Phase}
 use Rattle.workbench.specs.declared.watch.Phase.TheVariants.{Reading, Stopped, Ended}
 use Rattle.workbench.specs.declared.watch.WatchFault.{WatchFault}

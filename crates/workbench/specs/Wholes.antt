@@ -1,5 +1,5 @@
 -- A command that holds the whole trace: its answer, and how it ends.
-use Rattle.std.specs.Prelude.{◌≡◌, ℕ, Bool, true, false, List, [], Option, Result, Ok, Err}
+use Rattle.std.specs.Prelude.{◌≡◌, ℕ, Bool, List, [], Option, Result, Ok, Err}
 use Rattle.io_edge.specs.Calls.{Drained, Filled}
 use Rattle.stl_syntax.specs.Formula.{Formula}
 use Rattle.stl_syntax.specs.Trace.{Trace}
@@ -13,10 +13,11 @@ use Rattle.workbench.specs.Requests.{IsBadText, word_of}
 use Rattle.workbench.specs.Owed.{HasTooMany}
 use Rattle.workbench.specs.Settled.{IsVerdict, IsSure, HasWide}
 use Rattle.workbench.specs.InputFaults.{Fault, fault_text, whole_limits}
-use Rattle.workbench.specs.Cases.{IsFault}
+use Rattle.trace_stream.specs.Cases.{IsFault}
 use Rattle.workbench.specs.Reading.{IsReadWhole, IsStop}
 use Rattle.workbench.specs.Writing.{IsPartWritten}
-use Rattle.workbench.specs.declared.case.Case.{Case}
+pub use Rattle.trace_stream.specs.Streams.{status_of_truth}
+use Rattle.trace_stream.specs.declared.case.Case.{Case}
 use Rattle.workbench.specs.declared.fault.Stop.{Stop}
 use Rattle.workbench.specs.declared.fault.Stop.TheVariants.{Fault as Faulty, Unread, Unwritten, NoMemory, Wide, TooMany}
 use Rattle.workbench.specs.declared.request.Command.{Command as Word}
@@ -37,11 +38,6 @@ command_of Table = table
 abbrev pub judge_of : Mode → Judge
 judge_of (Whole c) = word_of (command_of c)
 judge_of Watch = word.watch
-
--- 0 for true, 1 for false
-abbrev pub status_of_truth : Bool → ℕ
-status_of_truth true = 0
-status_of_truth false = 1
 
 -- the answer of a command: what its status tells, and its whole text
 pub record IsAnswerOf (c : Command) (f : Formula) (tr : Trace) (holds : Bool) (text : List ℕ) : Type 0 where

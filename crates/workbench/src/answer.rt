@@ -3,11 +3,10 @@ ghost use Rattle.std.specs.Prelude.{◌≤◌, ◌<◌, length, IfOk};
 ghost use Rattle.stl_syntax.specs.Formula.{Formula as Parsed};
 ghost use Rattle.stl_syntax.specs.SupInf.{truths};
 ghost use Rattle.atom_lines.specs.Binding.{IsBound};
-ghost use Rattle.workbench.specs.Cases.{IsCase};
+ghost use Rattle.trace_stream.specs.Cases.{IsCase};
 ghost use Rattle.workbench.specs.Answers.{IsJudged};
 ghost use Rattle.workbench.specs.Judging.{IsRootOf, IsSignalText};
 
-use crate::case::Case;
 use crate::signals::root_of;
 use frac128::Memory;
 use offline_eval::EvalFault;
@@ -17,6 +16,7 @@ use std::alloc::Global;
 use std::marker::Brand;
 use std::sync::ledger::Blank;
 use stl_syntax::{Scale, Text};
+use trace_stream::Case;
 use value_laws::{Shape, Truth};
 
 /// What a status tells, and the whole text of a command.

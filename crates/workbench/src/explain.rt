@@ -4,12 +4,11 @@ ghost use Rattle.atom_lines.specs.Binding.{IsBound};
 ghost use Rattle.implicants.specs.Explaining.{IsExplained, IsExplainFault};
 ghost use Rattle.report.specs.ItemLines.{IsOfAtom};
 ghost use Rattle.report.specs.Report.{explain as explaining};
-ghost use Rattle.workbench.specs.Cases.{IsCase};
+ghost use Rattle.trace_stream.specs.Cases.{IsCase};
 ghost use Rattle.workbench.specs.Reasons.{items_of, IsReasonText, stop_of_explaining};
 ghost use Rattle.workbench.specs.Wholes.{IsAnswerOf, IsUnanswered};
 
 use crate::answer::Answer;
-use crate::case::Case;
 use crate::fault::Stop;
 use frac128::{Memory, Steps};
 use implicants::{ExplainFault, Explained, explain};
@@ -18,6 +17,7 @@ use std::alloc::Global;
 use std::marker::Brand;
 use std::sync::ledger::{Blank, Ledger};
 use stl_syntax::{Formula, Scale, Text};
+use trace_stream::Case;
 
 /// Why the formula of the case is false at the start of the trace, or that it holds there.
 ///

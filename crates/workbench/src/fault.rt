@@ -1,17 +1,8 @@
 //! Why a command stops before its answer.
-use stl_syntax::UnitFault;
-use trace_reader::TraceRefusal;
+ghost use Rattle.std.specs.Prelude.{◌≡◌};
+ghost use Rattle.workbench.specs.Stopping.{stop_of, outcome_of};
 
-/// The first fault of a trace's bytes for a formula, with its line.
-#[derive(Clone, Copy)]
-pub(crate) enum TraceFault {
-    /// A fault of the trace itself.
-    Trace(TraceRefusal),
-    /// The header lacks a column: that of the term at place `term` of the atom at node `atom`.
-    Unknown { line: u64, atom: u32, term: u32 },
-    /// The formula's numbers do not fit in the ticks of the header.
-    Unit { line: u64, fault: UnitFault },
-}
+use trace_stream::{StreamStop, TraceFault};
 
 /// Why there is no answer, or not all of it was written.
 #[derive(Clone, Copy)]
@@ -28,4 +19,25 @@ pub(crate) enum Stop {
     Wide { node: u32, den: u128 },
     /// An explanation would have more than 65,536 cells: so many at the first node at which their running sum passes that limit.
     TooMany { count: u64 },
+}
+
+/// The reason to stop that a stream's is.
+pub(crate) fn stop_from(stop: StreamStop) -> Stop
+    ensures { result ≡ stop_of stop }
+{
+    match stop {
+        StreamStop::Fault(fault) => Stop::Fault(fault),
+        StreamStop::NoMemory => Stop::NoMemory,
+        StreamStop::Wide { node, den } => Stop::Wide { node, den },
+    }
+}
+
+/// What came of bytes, with the reason of the command.
+pub(crate) fn outcome_from<T: Copy>(outcome: Result<T, StreamStop>) -> Result<T, Stop>
+    ensures { result ≡ outcome_of outcome }
+{
+    match outcome {
+        Ok(x) => Ok(x),
+        Err(stop) => Err(stop_from(stop)),
+    }
 }

@@ -1,12 +1,11 @@
 //! The answer of `json` for a formula and a trace.
 ghost use Rattle.std.specs.Prelude.{◌≡◌, ◌<◌, length, MatchResult};
 ghost use Rattle.report.specs.Report.{json};
-ghost use Rattle.workbench.specs.Cases.{IsCase};
+ghost use Rattle.trace_stream.specs.Cases.{IsCase};
 ghost use Rattle.workbench.specs.Reasons.{truth_of as truth_told, items_of};
 ghost use Rattle.workbench.specs.Wholes.{IsAnswerOf, IsUnanswered};
 
 use crate::answer::{Answer, truth_of};
-use crate::case::Case;
 use crate::explain::{fault_stop, reasons};
 use crate::fault::Stop;
 use crate::robust::margins_of;
@@ -16,6 +15,7 @@ use std::alloc::Global;
 use std::marker::Brand;
 use std::sync::ledger::Blank;
 use stl_syntax::{Formula, Items, Text};
+use trace_stream::Case;
 
 /// What an explanation says of the start, and its items.
 fn told(alloc: Global, explained: Explained) -> (bool, Items)

@@ -11,14 +11,12 @@ ghost use Rattle.workbench.specs.Accounts.{IsAccount};
 ghost use Rattle.workbench.specs.Measured.{IsMeasured};
 ghost use Rattle.workbench.specs.Words.{AskCheck};
 ghost use Rattle.workbench.specs.Running.{IsEnd, IsRun};
+ghost use Rattle.workbench.specs.Complete.{IsUndisturbed, IsCompleteRun};
 
 pub use crate::line_laws::{each_line_is_the_truth, the_lines_cover_the_trace};
 pub use crate::owing_laws::{
     one_request_is_asked_for, one_text_is_owed, the_end_is_asked_for_once, what_is_owed_only_grows,
     what_was_written_is_of_all_bytes,
-};
-pub use crate::session_laws::{
-    each_session_is_told_as_alone, one_text_alone, other_sessions_add_nothing,
 };
 
 /// 2 comes exactly where the words are of no form that is built. Those of a command that holds the whole trace ask for no stream.
@@ -90,4 +88,12 @@ pub fn a_fault_is_told()
 pub fn an_answer_is_due()
     ensures { (request : Request) (i : Drained) (o : Filled) (bytes text line : List ℕ) (status : ℕ) → IsEnd request i o bytes text status line → has_input request ≡ true
         → ((l : List ℕ) → ¬ HasFault request bytes i.ended l) → (¬ HasFailed i) → (¬ HasRefused o) → (status ≤ 1) ⊎ (7 ≤ status) }
+{}
+
+/// Completeness. Where the words ask for a formula to be answered or a trace to be generated, the input is all bytes of a trace for the
+/// formula, and no device fails, the run ends with a status of its command's own: with the whole text of the answer; with 8 or 9, where the
+/// command may, a margin needs too large a denominator or the cells are too many; or for want of memory.
+pub fn a_run_is_complete()
+    ensures { (words : List (List ℕ)) (request : Request) (i : Drained) (o e : Filled) (bytes : List ℕ) (status : ℕ) → Asks words request
+        → IsUndisturbed request i o bytes → IsRun words i o e status → IsCompleteRun request o bytes status }
 {}

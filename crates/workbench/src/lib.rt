@@ -2,11 +2,9 @@
 #![tactic(auto)]
 
 mod answer;
-mod case;
 mod entry;
 mod explain;
 mod fault;
-mod follow;
 mod json;
 mod kept;
 pub mod laws;
@@ -18,16 +16,16 @@ mod owing_laws;
 mod reading;
 mod request;
 mod robust;
-mod session_laws;
 mod signals;
 mod stream;
+mod summary;
 mod table;
 mod texts;
 mod top;
-mod verdicts;
 mod watch;
 
 pub use entry::program;
 pub use kept::Kept;
 pub use top::run;
 pub use watch::{Watch, WatchFault};
+pub use workload::gen_trace;

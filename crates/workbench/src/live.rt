@@ -1,222 +1,52 @@
-//! A trace that is read as its bytes come, with what follows its rows.
-ghost use Rattle.std.specs.Prelude.{◌≡◌, ◌≢◌, OnOk, IsTrue, Err, ◌^◌, ◌<◌, ◌≤◌, ◌++◌, ℕ, List, [], length, take, true, false, Option, Some, option_map, IfOk, IfErr, MatchResult};
+//! A trace that is read as its bytes come, as a stream: the text that its rows make is written.
+ghost use Rattle.std.specs.Prelude.{◌≡◌, ◌≢◌, ◌≤◌, OnOk, IsTrue, Err, [], false};
 ghost use Rattle.io_edge.specs.Causes.{Rose};
-ghost use Rattle.stl_syntax.specs.Formula.{Formula as Parsed};
-ghost use Rattle.stl_syntax.specs.Trace.{IsTrace};
-ghost use Rattle.workbench.specs.Cases.{IsCase, CanKeep, with_row};
-ghost use Rattle.workbench.specs.Following.{Follows, IsFollowed, IsEndedOut, IsLive, HasLived, IsLastTaken, IsOver, IsDone, IsLiveStop, IsAtRest, IsToldAs};
+ghost use Rattle.trace_stream.specs.Following.{IsAtRest, IsDone};
 ghost use Rattle.workbench.specs.Requests.{stream};
-ghost use Rattle.workbench.specs.declared.case.Case.{Case as Of};
+ghost use Rattle.workbench.specs.Telling.{IsToldAs};
 
-use crate::case::{Case, begin};
-use crate::fault::{Stop, TraceFault};
-use crate::follow::Follow;
+use crate::fault::{Stop, outcome_from};
 use crate::output::write_all;
-use crate::reading::{last_fault, next_bytes};
 use crate::stream::Push;
-use frac128::Memory;
 use io_edge::Sink;
-use std::alloc::Global;
-use stl_syntax::{Formula, Text};
-use trace_reader::{Event, Limits, Row, Rows};
-
-/// A reader of a trace, what follows the rows once the header was read, and the text that they made and that is to be written.
-#[derive(Drop)]
-pub(crate) struct Live<F> {
-    alloc: Global,
-    rows: Rows,
-    pub(crate) formula: Formula,
-    follower: Option<F>,
-    text: Text,
-}
-
-/// What follows a case without rows.
-fn follow<F: Follow>(alloc: Global, case: Case) -> Result<F, Stop>
-    requires case { (f : Parsed) × IsCase f case }
-    requires none { case.trace.rows ≡ [] }
-    ensures ok { IfOk result (λ x. Follows (F.stands x) F.kind case []) }
-    ensures err { IfErr result (λ e. e ≡ Stop.NoMemory) }
-{
-    match F::begin(alloc, case) {
-        Ok(follower) => Ok(follower),
-        Err(_) => Err(Stop::NoMemory),
-    }
-}
-
-/// Takes a row, and adds to the text what it answers.
-fn take_row<F: Follow>(follower: &mut Option<F>, row: &Row, text: &mut Text) -> Result<(), Stop>
-    requires { (case : Option Of) × (made : List ℕ) × IsFollowed F.stands F.kind follower.old case made × CanKeep case row.now }
-    ensures ok { (case : Option Of) (made : List ℕ) → IsFollowed F.stands F.kind follower.old case made → CanKeep case row.now
-        → IfOk result (λ _. (grown : List ℕ) × (text.new ≡ text.old ++ grown) × IsFollowed F.stands F.kind follower.new (option_map (with_row row.now) case) (made ++ grown)) }
-    ensures err { IfErr result (λ e. e ≡ Stop.NoMemory) }
-{
-    match follower {
-        Some(follower) => match follower.row(row, text) {
-            Ok(()) => Ok(()),
-            Err(_) => Err(Stop::NoMemory),
-        },
-        None => unreachable!(),
-    }
-}
-
-/// Takes the end of the rows, adds to the text what is left, and answers the verdict of the status.
-fn take_end<F: Follow>(follower: &mut Option<F>, text: &mut Text) -> Result<bool, Stop>
-    requires { (c : Of) × (made : List ℕ) × IsFollowed F.stands F.kind follower.old (Some c) made × IsTrace c.trace }
-    ensures ok { (c : Of) (made : List ℕ) → IsFollowed F.stands F.kind follower.old (Some c) made → IsTrace c.trace
-        → IfOk result (IsEndedOut F.ended F.kind follower.new c text.old text.new made) }
-    ensures err { IfErr result (λ e. e ≡ Stop.NoMemory) }
-{
-    match follower {
-        Some(follower) => match follower.end(text) {
-            Ok(holds) => Ok(holds),
-            Err(_) => Err(Stop::NoMemory),
-        },
-        None => unreachable!(),
-    }
-}
+use trace_stream::{Follow, Live, StreamStop};
 
 /// Whether memory was wanting.
-fn is_starved<T: Copy>(outcome: Result<T, Stop>) -> bool
-    ensures yes { IsTrue result → outcome ≡ Err Stop.NoMemory }
-    ensures no { result ≡ false → outcome ≢ Err Stop.NoMemory }
+fn is_starved<T: Copy>(outcome: Result<T, StreamStop>) -> bool
+    ensures yes { IsTrue result → outcome ≡ Err StreamStop.NoMemory }
+    ensures no { result ≡ false → outcome ≢ Err StreamStop.NoMemory }
 {
     match outcome {
-        Err(Stop::NoMemory) => true,
+        Err(StreamStop::NoMemory) => true,
         _ => false,
     }
 }
 
-impl<F: Follow> Live<F> {
-    /// Takes no bytes yet.
-    ///
-    /// # Errors
-    /// Want of memory.
-    pub(crate) fn new(alloc: Global, formula: Formula, limits: Limits) -> Result<Live<F>, Memory>
-        requires rows { limits.rows ≤ 2 ^ 32 }
-        requires lines { limits.lines ≤ 2 ^ 33 }
-        ensures live { IfOk result (λ x. IsLive F.stands F.kind x [] []) }
-        ensures limits { IfOk result (λ x. x.rows.limits ≡ limits) }
-        ensures formula { IfOk result (λ x. x.formula ≡ formula) }
-        ensures empty { IfOk result (λ x. x.text ≡ []) }
-    {
-        let rows = Rows::new(alloc, limits, formula.scale())?;
-        Ok(Live {
-            alloc,
-            rows,
-            formula,
-            follower: None,
-            text: Text::new(alloc),
-        })
+/// Writes the text that was made, unless memory was wanting, and answers what came of the bytes.
+///
+/// # Errors
+/// What came of the bytes, or the sink failed.
+pub(crate) fn tell<F: Follow, T: Copy, K: Sink>(
+    live: &mut Live<F>,
+    outcome: Result<T, StreamStop>,
+    out: &mut K,
+) -> Result<T, Stop>
+    ensures told { IsToldAs (K.written out.old) (K.written out.new) live.old.text outcome result }
+    ensures done { OnOk result (live.new ≡ record live.old { text = [] }) }
+    ensures same { live.new.formula ≡ live.old.formula }
+    ensures cause { result ≡ Err Stop.Unwritten → Rose (K.faults out.old) (K.faults out.new) }
+    ensures still { result ≢ Err Stop.Unwritten → K.faults out.new ≡ K.faults out.old }
+    ensures later { K.faults out.old ≤ K.faults out.new }
+{
+    if is_starved(outcome) {
+        return Err(Stop::NoMemory);
     }
-
-    /// Takes some bytes of a piece, up to the header's line or a row's at most, and answers how many.
-    fn step(&mut self, piece: &[u8]) -> Result<usize, Stop>
-        requires { HasLived F.stands F.kind self.old }
-        ensures taken { (bytes written : List ℕ) → IsLive F.stands F.kind self.old bytes written → MatchResult result
-            (λ n. IsLive F.stands F.kind self.new (bytes ++ take n piece.now) written)
-            (λ e. IsLiveStop F.kind self.old.rows.limits self.old.formula false (bytes ++ piece.now) (written ++ self.new.text) e) }
-        ensures within { MatchResult result (λ n. n ≤ length piece.now) (λ _. Unit {0}) }
-        ensures progress { MatchResult result (λ n. 0 < length piece.now → 0 < n) (λ _. Unit {0}) }
-        ensures limits { self.new.rows.limits ≡ self.old.rows.limits }
-        ensures formula { self.new.formula ≡ self.old.formula }
-    {
-        let took = match self.rows.push(next_bytes(&self.follower, piece)) {
-            Ok(took) => took,
-            Err(refusal) => return Err(Stop::Fault(TraceFault::Trace(refusal))),
-        };
-        match took.event {
-            Event::Nothing => {}
-            Event::Header => {
-                let case = begin(
-                    self.alloc,
-                    &self.formula,
-                    self.rows.header(),
-                    self.rows.line(),
-                )?;
-                self.follower = Some(follow(self.alloc, case)?);
-            }
-            Event::Row => take_row(&mut self.follower, self.rows.row(), &mut self.text)?,
+    match write_all(out, live.text()) {
+        Ok(()) => {
+            live.clear();
+            outcome_from(outcome)
         }
-        Ok(took.bytes)
-    }
-
-    /// Takes all bytes of a piece.
-    pub(crate) fn feed(&mut self, piece: &[u8]) -> Result<(), Stop>
-        requires { HasLived F.stands F.kind self.old }
-        ensures taken { (bytes written : List ℕ) → IsLive F.stands F.kind self.old bytes written → MatchResult result
-            (λ _. IsLive F.stands F.kind self.new (bytes ++ piece.now) written)
-            (λ e. IsLiveStop F.kind self.old.rows.limits self.old.formula false (bytes ++ piece.now) (written ++ self.new.text) e) }
-        ensures limits { self.new.rows.limits ≡ self.old.rows.limits }
-        ensures formula { self.new.formula ≡ self.old.formula }
-    {
-        let mut at = 0;
-        while at < piece.len() {
-            at += self.step(&piece[at..])?;
-        }
-        Ok(())
-    }
-
-    /// Takes a last row without LF, where the bytes end here.
-    fn last(&mut self) -> Result<(), Stop>
-        requires { HasLived F.stands F.kind self.old }
-        ensures formula { self.new.formula ≡ self.old.formula }
-        ensures last { (bytes written : List ℕ) → IsLive F.stands F.kind self.old bytes written → MatchResult result
-            (λ _. IsLastTaken F.stands F.kind self.old.rows.limits self.old.formula self.new.follower bytes (written ++ self.new.text))
-            (λ e. IsLiveStop F.kind self.old.rows.limits self.old.formula true bytes (written ++ self.new.text) e) }
-    {
-        match self.rows.end() {
-            Ok(Event::Row) => take_row(&mut self.follower, self.rows.row(), &mut self.text),
-            Ok(Event::Nothing) => Ok(()),
-            Ok(Event::Header) => unreachable!(),
-            Err(refusal) => Err(last_fault(
-                self.alloc,
-                &self.rows,
-                &self.follower,
-                refusal,
-                &self.formula,
-            )),
-        }
-    }
-
-    /// Takes the end of the bytes, and answers the verdict of the status.
-    pub(crate) fn finish(&mut self) -> Result<bool, Stop>
-        requires { HasLived F.stands F.kind self.old }
-        ensures formula { self.new.formula ≡ self.old.formula }
-        ensures over { (bytes written : List ℕ) → IsLive F.stands F.kind self.old bytes written → MatchResult result
-            (IsOver F.ended F.kind self.old.rows.limits self.old.formula self.new bytes (written ++ self.new.text))
-            (λ e. IsLiveStop F.kind self.old.rows.limits self.old.formula true bytes (written ++ self.new.text) e) }
-    {
-        self.last()?;
-        take_end(&mut self.follower, &mut self.text)
-    }
-
-    /// Writes the text that was made, unless memory was wanting, and answers what came of the bytes.
-    ///
-    /// # Errors
-    /// What came of the bytes, or the sink failed.
-    pub(crate) fn tell<T: Copy, K: Sink>(
-        &mut self,
-        outcome: Result<T, Stop>,
-        out: &mut K,
-    ) -> Result<T, Stop>
-        requires { outcome ≢ Err Stop.Unwritten }
-        ensures told { IsToldAs (K.written out.old) (K.written out.new) self.old.text outcome result }
-        ensures done { OnOk result (self.new ≡ record self.old { text = [] }) }
-        ensures same { self.new.formula ≡ self.old.formula }
-        ensures cause { result ≡ Err Stop.Unwritten → Rose (K.faults out.old) (K.faults out.new) }
-        ensures still { result ≢ Err Stop.Unwritten → K.faults out.new ≡ K.faults out.old }
-        ensures later { K.faults out.old ≤ K.faults out.new }
-    {
-        if is_starved(outcome) {
-            return outcome;
-        }
-        match write_all(out, self.text.bytes()) {
-            Ok(()) => {
-                self.text.clear();
-                outcome
-            }
-            Err(_) => Err(Stop::Unwritten),
-        }
+        Err(_) => Err(Stop::Unwritten),
     }
 }
 
@@ -229,11 +59,11 @@ impl<F: Follow> Push for Live<F> {
 
     fn push<K: Sink>(&mut self, piece: &[u8], out: &mut K) -> Result<(), Stop> {
         let fed = self.feed(piece);
-        self.tell(fed, out)
+        tell(self, fed, out)
     }
 
     fn end<K: Sink>(&mut self, out: &mut K) -> Result<bool, Stop> {
         let finished = self.finish();
-        self.tell(finished, out)
+        tell(self, finished, out)
     }
 }

@@ -2,7 +2,7 @@
 ghost use Rattle.std.specs.Prelude.{◌≡◌, ◌⊎◌, ◌≤◌, ◌++◌, ℕ, List, Bool, true, false};
 ghost use Rattle.io_edge.specs.Calls.{Drained, Filled};
 ghost use Rattle.stl_syntax.specs.Formula.{Formula};
-ghost use Rattle.report.specs.Report.{Command, check, robust, table};
+ghost use Rattle.report.specs.Report.{Command, check, robust, explain, json, table};
 ghost use Rattle.workbench.specs.Requests.{Request, Stream, Asks, whole, stream, has_input};
 ghost use Rattle.workbench.specs.Owed.{OwesRows, OwesAtEnd};
 ghost use Rattle.workbench.specs.Running.{IsBegun, IsRun, HasSaidItsEnd};
@@ -12,11 +12,13 @@ pub fn one_request_is_asked_for()
     ensures { (words : List (List ℕ)) (request other : Request) → Asks words request → Asks words other → request ≡ other }
 {}
 
-/// At most one text is owed for given bytes: to a stream, to `check`, to `robust` and to `table`.
+/// At most one text is owed for given bytes: to a stream, and to each command that holds the whole trace.
 pub fn one_text_is_owed()
     ensures rows { (s : Stream) (f : Formula) (bytes text other : List ℕ) (ended : Bool) → OwesRows s f bytes ended text → OwesRows s f bytes ended other → text ≡ other }
     ensures check { (f : Formula) (bytes text other : List ℕ) (ended : Bool) → OwesAtEnd check f bytes ended text → OwesAtEnd check f bytes ended other → text ≡ other }
     ensures robust { (f : Formula) (bytes text other : List ℕ) (ended : Bool) → OwesAtEnd robust f bytes ended text → OwesAtEnd robust f bytes ended other → text ≡ other }
+    ensures explain { (f : Formula) (bytes text other : List ℕ) (ended : Bool) → OwesAtEnd explain f bytes ended text → OwesAtEnd explain f bytes ended other → text ≡ other }
+    ensures json { (f : Formula) (bytes text other : List ℕ) (ended : Bool) → OwesAtEnd json f bytes ended text → OwesAtEnd json f bytes ended other → text ≡ other }
     ensures table { (f : Formula) (bytes text other : List ℕ) (ended : Bool) → OwesAtEnd table f bytes ended text → OwesAtEnd table f bytes ended other → text ≡ other }
 {}
 

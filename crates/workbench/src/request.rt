@@ -1,7 +1,8 @@
 //! What the words ask for.
-ghost use Rattle.std.specs.Prelude.{◌≡◌, map, string_bytes, MatchOption};
-ghost use Rattle.workbench.specs.Commands.{judge, judge_word};
-ghost use Rattle.workbench.specs.Requests.{AreNone, IsAsked};
+ghost use Rattle.std.specs.Prelude.{◌≡◌, ◌≤◌, ℕ, List, map, string_bytes, MatchOption};
+ghost use Rattle.workbench.specs.Commands.{judge, generate, judge_word};
+ghost use Rattle.workbench.specs.Numerals.{IsNumberWord};
+ghost use Rattle.workbench.specs.Requests.{AreOfNoFormula, IsAsked};
 ghost use Rattle.workbench.specs.Wholes.{judge_of};
 
 /// The commands that hold the whole trace.
@@ -28,6 +29,13 @@ pub(crate) struct Task<'a> {
     pub(crate) text: &'a str,
 }
 
+/// A trace to be generated: its number, and how many rows it has.
+#[derive(Clone, Copy)]
+pub(crate) struct Workload {
+    pub(crate) number: u64,
+    pub(crate) rows: u32,
+}
+
 /// What the word of a command asks for.
 fn named(word: &str) -> Option<Mode>
     ensures { MatchOption result ((m : Mode) → word.now ≡ judge_word (judge_of m) → ⊥)
@@ -44,9 +52,9 @@ fn named(word: &str) -> Option<Mode>
     }
 }
 
-/// What the words ask for, exactly where they are of a form.
+/// What the words ask for, exactly where they are of the form of a formula.
 pub(crate) fn asked(words: &[String]) -> Option<Task<'_>>
-    ensures { MatchOption result (AreNone (map string_bytes words.now))
+    ensures { MatchOption result (AreOfNoFormula (map string_bytes words.now))
         (λ a. IsAsked (map string_bytes words.now) (judge (judge_of a.mode) a.text.now)) }
 {
     match words {
@@ -57,6 +65,49 @@ pub(crate) fn asked(words: &[String]) -> Option<Task<'_>>
             }),
             None => None,
         },
+        _ => None,
+    }
+}
+
+/// The number that the bytes are, digits alone, where it is at most `most`.
+fn numeral(bytes: &[u8], most: u64) -> Option<u64>
+    ensures { MatchOption result ((n : ℕ) → ¬ IsNumberWord most bytes.now n) (IsNumberWord most bytes.now) }
+{
+    if bytes.is_empty() {
+        return None;
+    }
+    let mut value = 0u64;
+    for i in 0..bytes.len() {
+        let byte = bytes[i];
+        if byte < b'0' || byte > b'9' {
+            return None;
+        }
+        let longer = u128::from(value) * 10 + u128::from(byte - b'0');
+        if longer > u128::from(most) {
+            return None;
+        }
+        value = longer as u64;
+    }
+    Some(value)
+}
+
+/// The trace that the words ask to generate, exactly where they are of that form.
+pub(crate) fn workload_of(words: &[String]) -> Option<Workload>
+    ensures { MatchOption result ((number rows : ℕ) → ¬ IsAsked (map string_bytes words.now) (generate number rows))
+        (λ w. IsAsked (map string_bytes words.now) (generate w.number w.rows) × (1 ≤ w.rows) × (w.rows ≤ 200000)) }
+{
+    match words {
+        [form, number, rows] if form.as_str() == "gen" => {
+            let number = numeral(number.as_bytes(), u64::MAX)?;
+            let rows = numeral(rows.as_bytes(), 200_000)?;
+            if rows == 0 {
+                return None;
+            }
+            Some(Workload {
+                number,
+                rows: rows as u32,
+            })
+        }
         _ => None,
     }
 }

@@ -5,12 +5,11 @@ ghost use Rattle.pl_signal.specs.Knots.{start, stop};
 ghost use Rattle.stl_syntax.specs.Formula.{Formula as Parsed};
 ghost use Rattle.stl_syntax.specs.SupInf.{margins};
 ghost use Rattle.report.specs.Report.{robust};
-ghost use Rattle.workbench.specs.Cases.{IsCase};
+ghost use Rattle.trace_stream.specs.Cases.{IsCase};
 ghost use Rattle.workbench.specs.Judging.{denominator_of, stop_of_fault, IsRootOf};
 ghost use Rattle.workbench.specs.Wholes.{IsAnswerOf, IsUnanswered};
 
 use crate::answer::Answer;
-use crate::case::Case;
 use crate::fault::Stop;
 use crate::signals::root_of;
 use offline_eval::EvalFault;
@@ -20,6 +19,7 @@ use std::alloc::Global;
 use std::marker::Brand;
 use std::sync::ledger::Blank;
 use stl_syntax::Text;
+use trace_stream::Case;
 use value_laws::{Margin, Shape};
 
 /// The denominator that a pair needs.

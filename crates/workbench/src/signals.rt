@@ -4,7 +4,6 @@ ghost use Rattle.stl_syntax.specs.Trace.{first_time, last_time};
 ghost use Rattle.atom_lines.specs.Binding.{IsBound};
 ghost use Rattle.workbench.specs.Judging.{AreAtomsOf, IsFaultIn, IsRootOf};
 
-use crate::case::Case;
 use atom_lines::{AtomShape, atom_signal};
 use frac128::{Memory, Steps};
 use offline_eval::laws::told_have_values;
@@ -14,6 +13,7 @@ use std::alloc::Global;
 use std::sync::ledger::{Blank, Ledger};
 use stl_syntax::Node;
 use trace_reader::Trace;
+use trace_stream::Case;
 
 /// The time of the first row.
 fn first(trace: &Trace) -> u32

@@ -2,16 +2,16 @@
 ghost use Rattle.std.specs.Prelude.{◌<◌, length, MatchResult};
 ghost use Rattle.stl_syntax.specs.Formula.{Formula as Parsed};
 ghost use Rattle.report.specs.Report.{table};
-ghost use Rattle.workbench.specs.Cases.{IsCase};
+ghost use Rattle.trace_stream.specs.Cases.{IsCase};
 ghost use Rattle.workbench.specs.Wholes.{IsAnswerOf, IsUnanswered};
 
 use crate::answer::Answer;
-use crate::case::Case;
 use crate::fault::Stop;
 use crate::robust::margins_of;
 use report::put_table;
 use std::alloc::Global;
 use stl_syntax::Text;
+use trace_stream::Case;
 
 /// The robustness over a trace that has a row, of the formula that is bound to it: its knots and pieces as a table.
 ///

@@ -1,15 +1,11 @@
 //! The lines for the error stream: one for each way in which a check can stop.
-ghost use Rattle.std.specs.Prelude.{◌≡◌, ℕ, List, ◌++◌, codes, decimal};
+ghost use Rattle.std.specs.Prelude.{◌≡◌, ◌++◌, codes, decimal};
 ghost use Rattle.stl_syntax.specs.Texts.{newline};
-ghost use Rattle.workbench.specs.Cases.{IsFault, IsNamed};
-ghost use Rattle.workbench.specs.ErrTexts.{formula_fault_text, what_text, out_of_memory, wide_text, too_many_cells_text};
-ghost use Rattle.workbench.specs.InputFaults.{Fault as FirstFault, fault_text};
+ghost use Rattle.workbench.specs.ErrTexts.{formula_fault_text, what_text, wide_text, too_many_cells_text};
 ghost use Rattle.report.specs.Lines.{line_text};
 
-use crate::fault::TraceFault;
-use report::{Detail, Line, trace_fault_line, unit_fault_line, unknown_line};
+use report::{Detail, Line};
 use stl_grammar::{FormulaFault, What};
-use stl_syntax::{Formula, Name, Node};
 
 /// The line where memory was wanting.
 pub(crate) const NO_MEMORY: &[u8] = b"out of memory\n";
@@ -85,29 +81,4 @@ pub(crate) fn too_many_cells_line(count: u64) -> Line<'static>
     ensures { line_text result ≡ too_many_cells_text count }
 {
     Line::numbered(b"too many cells: ", count, b"\n")
-}
-
-/// The name in a term of the formula.
-fn name_at(formula: &Formula, atom: u32, term: u32) -> &Name
-    requires { (name : List ℕ) × IsNamed formula.now atom term name }
-    ensures { IsNamed formula.now atom term result.now }
-{
-    match formula.node(atom) {
-        Node::Atom(atom) => atom.term(term as usize).name(),
-        _ => unreachable!(),
-    }
-}
-
-/// The line of the first fault of a trace's bytes.
-pub(crate) fn fault_line(formula: &Formula, fault: TraceFault) -> Line<'_>
-    requires { (x : FirstFault) × IsFault formula.now fault x }
-    ensures { (x : FirstFault) → IsFault formula.now fault x → line_text result ≡ fault_text x }
-{
-    match fault {
-        TraceFault::Trace(refusal) => trace_fault_line(&refusal),
-        TraceFault::Unknown { line, atom, term } => {
-            unknown_line(line, name_at(formula, atom, term))
-        }
-        TraceFault::Unit { line, fault } => unit_fault_line(line, &fault),
-    }
 }

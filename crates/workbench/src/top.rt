@@ -4,15 +4,15 @@ ghost use Rattle.io_edge.specs.Causes.{Rose, after_end};
 ghost use Rattle.io_edge.specs.Calls.{drained, filled};
 ghost use Rattle.workbench.specs.Saying.{IsSaid};
 ghost use Rattle.stl_grammar.specs.FormulaRefusals.{IsFormulaFault};
-ghost use Rattle.workbench.specs.Cases.{IsCase};
+ghost use Rattle.trace_stream.specs.Cases.{IsCase};
 ghost use Rattle.report.specs.Lines.{line_text};
-ghost use Rattle.workbench.specs.Requests.{AreHeld, AreFor};
+ghost use Rattle.workbench.specs.Made.{IsMade};
+ghost use Rattle.workbench.specs.Requests.{AreHeld, AreFor, AskToGenerate};
 ghost use Rattle.workbench.specs.Commands as word;
 ghost use Rattle.workbench.specs.Keeping.{HasRun};
 ghost use Rattle.workbench.specs.Wholes.{command_of, IsAnswerOf, IsUnanswered, IsWrittenWith, IsWholeEnd, IsBadEnd, IsEndLine, IsStopLine, HasFaultFor, EndsSoundly, status_of, status_of_stop, status_of_fault};
 
 use crate::answer::{Answer, judge};
-use crate::case::Case;
 use crate::explain::give_reasons;
 use crate::fault::Stop;
 use crate::json::give_report;
@@ -20,10 +20,11 @@ use crate::kept::Kept;
 use crate::line::write_line;
 use crate::output::write_all;
 use crate::reading::read_trace;
-use crate::request::{Command, Mode, asked};
+use crate::request::{Command, Mode, Workload, asked, workload_of};
 use crate::robust::measure;
+use crate::summary::summary;
 use crate::table::tabulate;
-use crate::texts::{NO_MEMORY, fault_line, formula_line, too_many_cells_line, wide_line};
+use crate::texts::{NO_MEMORY, formula_line, too_many_cells_line, wide_line};
 use crate::watch::Watch;
 use io_edge::{Sink, Source};
 use report::Line;
@@ -31,9 +32,10 @@ use std::alloc::Global;
 use stl_grammar::{FormulaFault, parse};
 use stl_syntax::Formula;
 use trace_reader::Limits;
+use trace_stream::{Case, fault_line};
 
 /// The limits of a trace that is held whole.
-const LIMITS: Limits = Limits {
+pub(crate) const LIMITS: Limits = Limits {
     rows: 1_000_000,
     lines: 8_589_934_592,
 };
@@ -45,7 +47,11 @@ const STREAM_LIMITS: Limits = Limits {
 };
 
 /// The line where the words are of no form.
-const USAGE: &[u8] = b"usage: check F | watch F | robust F | explain F | json F | table F\n";
+const USAGE: &[u8] =
+    b"usage: check F | watch F | robust F | explain F | json F | table F | gen NUMBER ROWS\n";
+
+/// The line where the output failed.
+const WRITE_FAULT: &[u8] = b"write fault\n";
 
 /// Writes the answer.
 fn write_answer<K: Sink>(out: &mut K, answer: &Answer) -> Result<bool, Stop>
@@ -146,7 +152,7 @@ fn stop_line(formula: &Formula, stop: Stop) -> Line<'_>
     match stop {
         Stop::Fault(fault) => fault_line(formula, fault),
         Stop::Unread => Line::plain(b"read fault\n"),
-        Stop::Unwritten => Line::plain(b"write fault\n"),
+        Stop::Unwritten => Line::plain(WRITE_FAULT),
         Stop::NoMemory => Line::plain(NO_MEMORY),
         Stop::Wide { node, den } => wide_line(node, den),
         Stop::TooMany { count } => too_many_cells_line(count),
@@ -221,9 +227,35 @@ fn by_row<S: Source, K: Sink, E: Sink>(
     status
 }
 
+/// Writes the summary of a generated trace; the reason why it could not is told.
+fn generate<K: Sink, E: Sink>(alloc: Global, workload: Workload, out: &mut K, err: &mut E) -> u8
+    requires some { 1 ≤ workload.rows }
+    requires few { workload.rows ≤ 200000 }
+    ensures made { (line : List ℕ) × IsMade workload.number workload.rows (filled K.written K.faults out.old out.new) result line
+        × IsSaid (E.written err.old) (E.written err.new) (E.faults err.old) (E.faults err.new) line }
+    ensures write_due { result ≢ 6 → K.faults out.new ≡ K.faults out.old }
+    ensures nothing { 2 ≤ result → result ≢ 6 → out.new ≡ out.old }
+    ensures quiet { result ≤ 1 → err.new ≡ err.old }
+    ensures out_later { K.faults out.old ≤ K.faults out.new }
+    ensures err_later { E.faults err.old ≤ E.faults err.new }
+{
+    let Ok(text) = summary(alloc, workload.number, workload.rows) else {
+        say(err, &Line::plain(NO_MEMORY));
+        return 7;
+    };
+    match write_all(out, text.bytes()) {
+        Ok(()) => 0,
+        Err(_) => {
+            say(err, &Line::plain(WRITE_FAULT));
+            6
+        }
+    }
+}
+
 /// Does all that the program does for its words, and answers the status with which it ends.
 ///
-/// - 0 and 1: `out` got the whole text of the command. The input was read to its end. After `watch`, `kept` is its watch.
+/// - 0 and 1: `out` got the whole text of the command. The input was read to its end, but for `gen`, which reads
+///   none. After `watch`, `kept` is its watch.
 /// - 2: the words are of no form.
 /// - 3: the formula is refused.
 /// - 4: the bytes that were read have a first fault: of the trace, a column of the formula that the header lacks, or numbers of
@@ -254,7 +286,7 @@ pub fn run<S: Source, K: Sink, E: Sink>(
     ensures write_due { result ≢ 6 → K.faults out.new ≡ K.faults out.old }
 
     // What was not touched, also of devices that do not tell their bytes.
-    ensures unread { (result ≡ 2) ⊎ (result ≡ 3) → input.new ≡ input.old }
+    ensures unread { (result ≡ 2) ⊎ (result ≡ 3) ⊎ AskToGenerate (map string_bytes words.now) → input.new ≡ input.old }
     ensures nothing { 2 ≤ result → result ≢ 6 → (result ≤ 3) ⊎ AreHeld (map string_bytes words.now) → out.new ≡ out.old }
     ensures quiet { result ≤ 1 → err.new ≡ err.old }
     ensures unkept { (2 ≤ result) ⊎ AreHeld (map string_bytes words.now) → kept.new ≡ kept.old }
@@ -264,6 +296,9 @@ pub fn run<S: Source, K: Sink, E: Sink>(
     ensures out_later { K.faults out.old ≤ K.faults out.new }
     ensures err_later { E.faults err.old ≤ E.faults err.new }
 {
+    if let Some(workload) = workload_of(words) {
+        return generate(alloc, workload, out, err);
+    }
     let Some(asked) = asked(words) else {
         say(err, &Line::plain(USAGE));
         return 2;

@@ -8,16 +8,16 @@ ghost use Rattle.workbench.specs.Pushing.{IsStreamEnd};
 ghost use Rattle.workbench.specs.Watches.{Past, with_piece, StandsFor, StandsForAll, HasPushed, HasFinished, IsCall, Moves, IsLate, IsOpen, IsFaultOf, phase_after};
 ghost use Rattle.workbench.specs.declared.watch.WatchFault.{WatchFault as Reason};
 
-use crate::fault::{Stop, TraceFault};
-use crate::live::Live;
+use crate::fault::Stop;
+use crate::live::tell;
 use crate::stream::stream;
-use crate::verdicts::Verdicts;
 use frac128::Memory;
 use io_edge::{Sink, Source};
 use std::alloc::Global;
 use std::marker::Model;
 use stl_syntax::{Formula, UnitFault};
 use trace_reader::{Limits, TraceRefusal};
+use trace_stream::{Live, TraceFault, Verdicts};
 
 /// Why a call was refused.
 #[derive(Clone, Copy, Debug, PartialEq, Eq)]
@@ -159,7 +159,7 @@ impl Watch {
     {
         allow(self.phase)?;
         let fed = self.live.feed(piece);
-        match self.live.tell(fed, out) {
+        match tell(&mut self.live, fed, out) {
             Ok(()) => Ok(()),
             Err(stop) => Err(stopped(&mut self.phase, stop)),
         }
@@ -180,7 +180,7 @@ impl Watch {
     {
         allow(self.phase)?;
         let finished = self.live.finish();
-        match self.live.tell(finished, out) {
+        match tell(&mut self.live, finished, out) {
             Ok(holds) => {
                 self.phase = Phase::Ended;
                 Ok(holds)
@@ -193,7 +193,7 @@ impl Watch {
     pub(crate) fn formula(&self) -> &Formula
         ensures { result.now ≡ self.now.live.formula }
     {
-        &self.live.formula
+        self.live.formula()
     }
 
     /// Pushes all that a source gives, and takes its end.

@@ -8,3 +8,5 @@ pub mod LineCounts
 pub mod SomeLines
 pub mod Walking
 mod Passed
+pub mod Listed
+mod NoRefusal

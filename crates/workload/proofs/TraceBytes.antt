@@ -162,7 +162,7 @@ no_fault_after s t (suc n) k count last r h few rows some before fault =
             (Some x.time) more q)
 
 -- the header
-abbrev header : List ℕ
+abbrev pub header : List ℕ
 header = codes "time,x,s:step"
 
 -- its line
@@ -170,7 +170,7 @@ header_alone : lines false (header ++ 10 ∷ []) ≡ done header ∷ []
 unfolding lines
 header_alone = refl
 
-header_first : (more : List ℕ) → lines true (header ++ 10 ∷ more) ≡ done header ∷ lines true more
+pub header_first : (more : List ℕ) → lines true (header ++ 10 ∷ more) ≡ done header ∷ lines true more
 header_first more = lines-append true header more ∙ ap (λ ls. ls ++ lines true more) header_alone
 
 -- its fields
@@ -179,7 +179,7 @@ unfolding fields
 header_fields = refl
 
 -- they are those of the heading
-is_heading : IsHeading (fields (done header)) heading
+pub is_heading : IsHeading (fields (done header)) heading
 is_heading =
     subst (λ fs. IsHeading fs heading) (sym header_fields) (
       time no_digits,

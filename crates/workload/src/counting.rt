@@ -1,8 +1,11 @@
 //! How many verdict lines a stream writes, counted from the verdicts of the whole trace.
-ghost use Rattle.std.specs.Prelude.{◌≡◌, ◌<◌, ◌≤◌, ◌+◌, ◌^◌, ℕ, List, drop, length};
-ghost use Rattle.stl_syntax.specs.Trace.{first_time};
-ghost use Rattle.stl_syntax.specs.declared.items.Verdict.{Verdict as Told};
-ghost use Rattle.workload.specs.Passing.{Passes, Walks};
+ghost use Rattle.std.specs.Prelude.{◌≡◌, ◌<◌, ◌≤◌, ◌+◌, ◌^◌, drop, length};
+ghost use Rattle.rational.specs.Time.{closed};
+ghost use Rattle.stl_syntax.specs.Formula.{Subformula, horizon as horizon_of};
+ghost use Rattle.stl_syntax.specs.Trace.{IsTrace, start, stop};
+ghost use Rattle.stl_syntax.specs.Verdicts.{Describes};
+ghost use Rattle.workload.specs.Counting.{HasStreamLines};
+ghost use Rattle.workload.specs.Passing.{Passes};
 
 use frac128::Frac;
 use std::cmp::Ordering;
@@ -28,12 +31,13 @@ fn pass(verdicts: &[Verdict], at: usize, f: &Frac) -> (usize, usize)
     (verdicts.len() - at, verdicts.len())
 }
 
-/// How many verdict lines a stream writes for the rows of a trace, up to and with its end: one for each verdict that has times in
-/// what a row newly answers, or the end. The verdicts are those of the formula over the whole trace, and `horizon` is the formula's.
+/// How many verdict lines a stream writes for the rows of a trace, up to and with its end, for a formula that looks ahead so far: one
+/// for each verdict that has times in what a row newly answers, or the end. The verdicts are those of the formula over the whole trace.
 pub fn stream_lines(verdicts: &[Verdict], trace: &Trace, horizon: u64) -> u128
     requires some { 0 < length trace.now.rows }
     requires near { horizon < 2 ^ 32 }
-    ensures { (n : ℕ) × (later : List Told) × Walks (first_time trace.now.rows) horizon trace.now.rows verdicts.now n later × (result ≡ n + length later) }
+    ensures { (p : Subformula) → IsTrace trace.now → 0 < horizon_of p → horizon ≡ horizon_of p
+        → Describes verdicts.now p trace.now (closed (start trace.now) (stop trace.now)) → HasStreamLines p trace.now result }
 {
     let due = u64::from(trace.time(0)) + horizon;
     let mut lines = 0u128;

@@ -4,7 +4,7 @@ ghost use Rattle.workload.specs.Judged.{judged_formula as formula_of_workload};
 
 use frac128::Memory;
 use std::alloc::Global;
-use stl_grammar::parse;
+use stl_grammar::{FormulaFault, parse};
 use stl_syntax::Formula;
 
 /// Its text.
@@ -20,7 +20,9 @@ pub fn judged_formula(alloc: Global) -> Result<Formula, Memory>
 {
     match parse(alloc, JUDGED) {
         Ok(formula) => Ok(formula),
-        // The text is refused for want of memory alone. No proof says so; a test does.
-        Err(_) => Err(Memory),
+        Err(fault) => match fault {
+            FormulaFault::Memory => Err(Memory),
+            _ => unreachable!(),
+        },
     }
 }

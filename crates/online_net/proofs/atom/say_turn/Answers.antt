@@ -1,4 +1,4 @@
-use Rattle.std.proofs.Common.{false, true, sym, subst}
+use Rattle.std.proofs.Common.{sym, subst}
 use Rattle.online_nodes.specs.Cuts.{place, Upto}
 use Rattle.online_net.proofs.Saying.{said_three}
 use Rattle.online_net.proofs.atom.say_turn.Goals as goal
@@ -13,6 +13,6 @@ upto-requires-3-clause-inside c t u =
 
 pub returns : goal.returns
 returns c = said_three
-    (record { time = c.args.turn.at; after = false }) (record { time = c.args.turn.at; after = true }) c.args.end c.requires.edge
+    (record { time = c.args.turn.at; side = 0 }) (record { time = c.args.turn.at; side = 1 }) c.args.end c.requires.edge
     c.in_ok-before.ensures.said c.in_ok-before.ensures.reaches c.in_ok-point.ensures.said c.in_ok-point.ensures.reaches
     c.in_ok-after.ensures.said c.in_ok-after.ensures.reaches

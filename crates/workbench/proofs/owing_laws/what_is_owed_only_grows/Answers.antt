@@ -1,4 +1,4 @@
-use Rattle.workbench.proofs.OwedLaws.{stream_owed_grows}
+use Rattle.trace_stream.proofs.OwedRows.{stream_owed_grows}
 use Rattle.workbench.proofs.owing_laws.what_is_owed_only_grows.Goals as goal
 
 pub returns : goal.returns

@@ -1,6 +1,5 @@
 use Rattle.std.proofs.Common.{refl, sym, ◌∙◌}
 use Rattle.report.specs.Lines.{line_text}
-use Rattle.workbench.proofs.StreamSteps.{stream_soundly}
 use Rattle.workbench.proofs.Leaving.{starved_left, kept_fault, kept_answer, watch_run}
 use Rattle.workbench.proofs.top.by_row.Goals as goal
 

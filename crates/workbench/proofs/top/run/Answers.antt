@@ -1,29 +1,52 @@
-use Rattle.std.proofs.Common.{List, map, refl, sym, subst, ℕ}
+use Rattle.std.proofs.Common.{List, map, refl, sym, ◌∙◌, subst, ℕ, inl, inr}
 use Rattle.std.specs.Prelude.{string_bytes}
 use Rattle.report.specs.Lines.{line_text}
 use Rattle.workbench.specs.Commands.{judge}
 use Rattle.workbench.specs.Requests.{IsAsked}
 use Rattle.workbench.specs.Wholes.{command_of, judge_of}
 use Rattle.workbench.specs.declared.request.Mode.{Mode}
-use Rattle.workbench.proofs.RunEnds.{none_run, refused_run, known_run, ends_soundly, serves}
-use Rattle.workbench.proofs.Leaving.{none_left, refused_left, whole_left}
+use Rattle.workbench.proofs.RunEnds.{none_of_both, none_run, made_run, refused_run, known_run, ends_soundly, serves, not_words}
+use Rattle.workbench.proofs.Leaving.{none_left, made_left, refused_left, whole_left}
 use Rattle.workbench.proofs.top.run.Goals as goal
 
 pub finish-requires : goal.finish-requires
 finish-requires g c = ends_soundly c.whole-ending.ensures.ending
 
-pub returns-in_default-clause-ran : goal.returns-in_default-clause-ran
-returns-in_default-clause-ran g c = none_left _ _ c.in_default.ensures refl
-    (none_run _ _ _ (line_text c.plain.result) c.plain.ensures c.in_default.ensures refl refl c.say.ensures.said)
+pub returns-in-Some-clause-ran : goal.returns-in-Some-clause-ran
+returns-in-Some-clause-ran g c =
+    let number = c.in-Some.workload.number in
+    let rows = c.in-Some.workload.rows in
+    let form = c.in-Some.ensures.0 in
+    let made = c.generate.ensures.made in
+    made_left number rows _ _ form refl (made_run number rows _ _ _ c.generate.result made.0 form made.1 refl made.2)
+
+pub returns-in_default-asked-clause-ran : goal.returns-in_default-asked-clause-ran
+returns-in_default-asked-clause-ran g c =
+    let none = none_of_both c.in_default-asked.ensures c.in_default.ensures in
+    none_left _ _ none refl (none_run _ _ _ (line_text c.plain.result) c.plain.ensures none refl refl c.say.ensures.said)
+
+pub returns-in-Whole-clause-unread : goal.returns-in-Whole-clause-unread
+returns-in-Whole-clause-unread g c = λ h. elim h [
+  | inl two ↦ absurd (not_words c.whole-ending.result (inl (sym c.finish.ensures.status ∙ two)))
+  | inr (inl three) ↦ absurd (not_words c.whole-ending.result (inr (sym c.finish.ensures.status ∙ three)))
+  | inr (inr (number, rows, asked)) ↦ absurd (c.in_default.ensures number rows asked)
+]
+
+pub returns-in-Watch-clause-unread : goal.returns-in-Watch-clause-unread
+returns-in-Watch-clause-unread g c = λ h. elim h [
+  | inl two ↦ absurd (c.by_row.ensures.known (inl two))
+  | inr (inl three) ↦ absurd (c.by_row.ensures.known (inr three))
+  | inr (inr (number, rows, asked)) ↦ absurd (c.in_default.ensures number rows asked)
+]
 
 pub returns-in-Whole-clause-ran : goal.returns-in-Whole-clause-ran
 returns-in-Whole-clause-ran g c =
     let words = map string_bytes c.args.words.now in
-    let text = c.in-Some.asked.text.now in
+    let text = c.in-Some-asked.asked.text.now in
     let told = c.finish.ensures.said in
     let command = command_of c.in-Whole.command in
     let f = c.in-Ok.formula in
-    let form = subst (λ (m : Mode). IsAsked words (judge (judge_of m) text)) c.in-Whole.is c.in-Some.ensures in
+    let form = subst (λ (m : Mode). IsAsked words (judge (judge_of m) text)) c.in-Whole.is c.in-Some-asked.ensures in
     whole_left command f _ _ (record { text = text; form = form; is = c.in-Ok.ensures.ok; served = serves command f }) refl
     (known_run words command f _ _ _ (record { text = text; form = form; is = c.in-Ok.ensures.ok; served = serves command f })
     c.whole-ending.result c.finish.result told.0 c.finish.ensures.status c.whole-ending.ensures.ending c.whole-ending.ensures.read c.whole-ending.ensures.write
@@ -32,16 +55,16 @@ returns-in-Whole-clause-ran g c =
 pub returns-in-Watch-clause-ran : goal.returns-in-Watch-clause-ran
 returns-in-Watch-clause-ran g c =
     let words = map string_bytes c.args.words.now in
-    let text = c.in-Some.asked.text.now in
+    let text = c.in-Some-asked.asked.text.now in
     c.by_row.ensures.ran words (record {
       text = text;
-      form = subst (λ (m : Mode). IsAsked words (judge (judge_of m) text)) c.in-Watch.is c.in-Some.ensures;
+      form = subst (λ (m : Mode). IsAsked words (judge (judge_of m) text)) c.in-Watch.is c.in-Some-asked.ensures;
       is = c.in-Ok.ensures.ok;
       served = λ i h. h;
     })
 
 pub returns-in-Err-clause-ran : goal.returns-in-Err-clause-ran
 returns-in-Err-clause-ran g c =
-    let told = c.refuse.ensures.ended c.in-Some.asked.text.now c.in-Err.ensures.fault in
-    refused_left (judge_of c.in-Some.asked.mode) _ _ c.refuse.result c.in-Some.ensures told.1 refl
-    (refused_run (judge_of c.in-Some.asked.mode) _ _ _ c.refuse.result told.0 c.in-Some.ensures told.1 refl refl told.2)
+    let told = c.refuse.ensures.ended c.in-Some-asked.asked.text.now c.in-Err.ensures.fault in
+    refused_left (judge_of c.in-Some-asked.asked.mode) _ _ c.refuse.result c.in-Some-asked.ensures told.1 refl
+    (refused_run (judge_of c.in-Some-asked.asked.mode) _ _ _ c.refuse.result told.0 c.in-Some-asked.ensures told.1 refl refl told.2)

@@ -1,9 +1,13 @@
-use Rattle.std.proofs.Common.{◌≡◌, ◌+◌, ◌-◌, ◌<◌, ◌≤◌, length, get_or, pos, sym, ap, ◌∙◌, subst, arith, to_z, w64}
+use Rattle.std.proofs.Common.{◌≡◌, ◌+◌, ◌-◌, ◌<◌, ◌≤◌, length, drop, get_or, pos, ap, ◌∙◌, subst, arith, to_z, w64}
 use Rattle.std.proofs.lemmas.Int.{to_z_pos}
 use Rattle.std.proofs.lemmas.List.{length-drop}
 use Rattle.rational.specs.Time.{whole, ◌≈◌}
 use Rattle.frac128.specs.Value.{value}
 use Rattle.stl_syntax.specs.Trace.{first_time}
+use Rattle.workload.specs.Counting.{line_count}
+use Rattle.workload.specs.Passing.{Walks}
+use Rattle.workload.proofs.LineCounts.{count_join}
+use Rattle.workload.proofs.Walking.{streamed}
 use Rattle.workload.proofs.Passed.{HasWalked, walked_early, walked_front, walked_all, no_row, first_is}
 use Rattle.workload.proofs.counting.stream_lines.Goals as goal
 
@@ -45,12 +49,19 @@ loop-row-preserved c =
     )
 
 pub returns : goal.returns
-returns c =
+returns c = λ p ok ahead same told.
     let rows = c.args.trace.now.rows in
-    let e : c.loop-row.row ≡ length rows = omega (arith, c.loop-row-test.false, c.loop-row.auto.row-end, c.rows-row-end.ensures.count) in (
-      c.loop-row.lines,
-      _,
-      walked_all (first_time rows) c.args.horizon rows c.args.verdicts.now c.loop-row.at c.loop-row.lines
-          (subst (λ i. HasWalked (first_time rows) c.args.horizon rows c.args.verdicts.now i c.loop-row.at c.loop-row.lines) e c.loop-row.invariant.0),
-      ap (λ k. c.loop-row.lines + k) (sym (length-drop c.loop-row.at c.args.verdicts.now)),
-    )
+    let e : c.loop-row.row ≡ length rows = omega (arith, c.loop-row-test.false, c.loop-row.auto.row-end, c.rows-row-end.ensures.count) in
+    let all = walked_all (first_time rows) c.args.horizon rows c.args.verdicts.now c.loop-row.at c.loop-row.lines
+    (subst (λ i. HasWalked (first_time rows) c.args.horizon rows c.args.verdicts.now i c.loop-row.at c.loop-row.lines) e c.loop-row.invariant.0) in
+    let left = drop c.loop-row.at c.args.verdicts.now in
+    let walks = subst (λ h. Walks (first_time rows) h rows c.args.verdicts.now c.loop-row.lines left) same all in
+    let s = streamed p c.args.trace.now.header rows ok ahead c.args.verdicts.now left c.loop-row.lines told walks in
+    record {
+      during = s.during;
+      rest = s.rest;
+      rows = s.rows;
+      at_end = s.at_end;
+      lines = count_join s.during s.rest ∙ ap (λ k. k + line_count s.rest) s.during_count
+          ∙ ap (λ k. c.loop-row.lines + k) (s.rest_count ∙ length-drop c.loop-row.at c.args.verdicts.now);
+    }

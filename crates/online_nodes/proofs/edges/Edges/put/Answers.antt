@@ -1,23 +1,31 @@
-use Rattle.std.proofs.Common.{ap, ◌∙◌, arith}
-use Rattle.online_nodes.specs.Held.{edges_of}
-use Rattle.online_nodes.proofs.EdgesLemmas.{numbered, put_changes}
+use Rattle.std.proofs.Common.{[], ◌∷◌, ap}
+use Rattle.online_nodes.specs.Held.{with_more}
+use Rattle.online_nodes.proofs.QueueLemmas.{queue_at, queue_changed, queue_same, queues_room}
 use Rattle.online_nodes.proofs.edges.Edges.put.Goals as goal
-use Rattle.online_nodes.proofs.edges.Edges.put.Goals.{in-Ok, in-Err}
 
-pub overflow_mul-edge : goal.overflow_mul-edge
-overflow_mul-edge c = let h = numbered _ _ _ c.self.invariant (rw (← c.self.view_is) at c.requires) in omega (arith, h.fits)
+pub invariant_of-self-in-Err : goal.invariant_of-self-in-Err
+invariant_of-self-in-Err c =
+    let within = rw (← c.self.view_is) at c.requires in
+    let qs = c.self.inside.queues.items in
+    let here = queue_at qs c.args.edge c.index_mut.result.now within c.index_mut.ensures.value c.self.invariant in
+    queues_room qs c.args.edge c.index_mut.result.now within c.index_mut.ensures.value c.put.new.self
+    (c.in-Err.ensures.still c.self.inside.spare here) c.self.invariant
 
-pub overflow_add-edge : goal.overflow_add-edge
-overflow_add-edge c = let h = numbered _ _ _ c.self.invariant (rw (← c.self.view_is) at c.requires) in omega (arith, h.fits)
+pub returns-in-Ok-clause-put : goal.returns-in-Ok-clause-put
+returns-in-Ok-clause-put c =
+    let within = rw (← c.self.view_is) at c.requires in
+    rw (← c.self.view_is) (queue_changed c.self.inside.queues.items c.args.edge c.index_mut.result.now within c.index_mut.ensures.value
+    c.put.new.self (λ x. with_more x (c.args.piece ∷ [])) c.in-Ok.ensures.put)
 
-pub push_back-requires : goal.push_back-requires
-push_back-requires c = (numbered _ _ _ c.self.invariant (rw (← c.self.view_is) at c.requires)).unread
+pub returns-in-Err-clause-had_room : goal.returns-in-Err-clause-had_room
+returns-in-Err-clause-had_room c some =
+    let within = rw (← c.self.view_is) at c.requires in
+    let here = queue_at c.self.inside.queues.items c.args.edge c.index_mut.result.now within c.index_mut.ensures.value c.self.invariant in
+    c.in-Err.ensures.had_room c.self.inside.spare here (rw (← c.self.view_is) at some)
 
-pub returns-clause-put : goal.returns-clause-put
-returns-clause-put c =
-    let h = numbered _ _ _ c.self.invariant (rw (← c.self.view_is) at c.requires) in
-    elim c.match-push_back.branch [
-      | in-Ok w ↦ rw w.result-is (rw (← c.self.view_is) (ap (edges_of c.self.inside.numbers.items) w.in-Ok.ensures.pushed
-          ∙ put_changes _ _ _ c.self.invariant h.within c.args.piece))
-      | in-Err w ↦ rw w.result-is tt
-    ]
+pub returns-in-Err-clause-memory : goal.returns-in-Err-clause-memory
+returns-in-Err-clause-memory c =
+    let within = rw (← c.self.view_is) at c.requires in
+    rw (← c.self.view_is) (ap (λ es. record { edges = es; start = c.self.inside.start; spare = c.self.inside.spare })
+    (queue_same c.self.inside.queues.items c.args.edge c.index_mut.result.now within c.index_mut.ensures.value c.put.new.self
+    c.in-Err.ensures.memory))

@@ -1,20 +1,22 @@
-use Rattle.std.proofs.Common.{◌≡◌, length, ap, ◌∙◌, arith, Some}
-use Rattle.std.proofs.Common.{◌<◌, rules, set, to_z-of_z, to_z, of_z, w64}
-use Rattle.std.proofs.lemmas.Grind.{common_steps}
-use Rattle.online_nodes.specs.Held.{edges_of}
-use Rattle.online_nodes.proofs.EdgesLemmas.{numbered, reach_changes}
+use Rattle.std.proofs.Common.{◌≡◌, ◌∙◌, ap, rules, to_z-of_z, to_z, of_z, w64}
+use Rattle.online_nodes.specs.Queues.{edge_of}
+use Rattle.online_nodes.specs.Held.{with_number}
+use Rattle.online_nodes.proofs.QueueLemmas.{queue_at, queue_changed, queues_room}
 use Rattle.online_nodes.proofs.edges.Edges.reach.Goals as goal
 
-pub index_mut-requires : goal.index_mut-requires
-index_mut-requires c =
-    let h = numbered _ _ _ c.self.invariant (rw (← c.self.view_is) at c.requires) in
-    let below : c.args.edge < length c.self.inside.numbers.items = h.within in
-    grind (arith, common_steps)
+pub invariant_of-self : goal.invariant_of-self
+invariant_of-self c =
+    let within = rw (← c.self.view_is) at c.requires in
+    let qs = c.self.inside.queues.items in
+    let here = queue_at qs c.args.edge c.index_mut.result.now within c.index_mut.ensures.value c.self.invariant in
+    queues_room qs c.args.edge c.index_mut.result.now within c.index_mut.ensures.value c.reach.new.self
+    (c.reach.ensures.kept c.self.inside.spare here) c.self.invariant
 
 pub returns : goal.returns
 returns c =
-    let h = numbered _ _ _ c.self.invariant (rw (← c.self.view_is) at c.requires) in
+    let within = rw (← c.self.view_is) at c.requires in
     let noted : to_z w64 (of_z w64 c.args.number) ≡ c.args.number = search (rules, to_z-of_z) in
-    rw (← c.self.view_is) (ap (λ es. record { edges = es; start = c.self.inside.start; spare = c.self.inside.pool.spare })
-    (ap (λ n. edges_of (set c.self.inside.numbers.items c.args.edge (Some n)) c.self.inside.pool.all) noted
-    ∙ reach_changes c.self.inside.numbers.items c.self.inside.pool.all c.args.edge c.self.invariant h.within c.args.number))
+    rw (← c.self.view_is) (ap (λ es. record { edges = es; start = c.self.inside.start; spare = c.self.inside.spare })
+    (queue_changed c.self.inside.queues.items c.args.edge c.index_mut.result.now within c.index_mut.ensures.value c.reach.new.self
+    (λ x. with_number x c.args.number)
+    (c.reach.ensures.noted ∙ ap (with_number (edge_of c.index_mut.result.now)) noted)))

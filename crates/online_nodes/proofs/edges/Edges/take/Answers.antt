@@ -1,56 +1,17 @@
-use Rattle.std.proofs.Common.{sym, ap, ◌∙◌, arith, slice_get}
-use Rattle.online_nodes.specs.Held.{edges_of, held_of}
-use Rattle.online_nodes.proofs.EdgesLemmas.{
-  numbered,
-  edge_at-edges_of,
-  take_seen_changes,
-  take_fresh_changes,
-  first_of_both,
-  first_of_first,
-  empty_of_none,
-}
+use Rattle.online_nodes.specs.Held.{without}
+use Rattle.online_nodes.proofs.QueueLemmas.{queue_at, queue_changed, queues_room}
 use Rattle.online_nodes.proofs.edges.Edges.take.Goals as goal
 
-pub overflow_mul-edge : goal.overflow_mul-edge
-overflow_mul-edge c = let h = numbered _ _ _ c.self.invariant (rw (← c.self.view_is) at c.requires) in omega (arith, h.fits)
+pub invariant_of-self : goal.invariant_of-self
+invariant_of-self c =
+    let within = rw (← c.self.view_is) at c.requires in
+    let qs = c.self.inside.queues.items in
+    let here = queue_at qs c.args.edge c.index_mut.result.now within c.index_mut.ensures.value c.self.invariant in
+    queues_room qs c.args.edge c.index_mut.result.now within c.index_mut.ensures.value c.take.new.self
+    (c.take.ensures.kept c.self.inside.spare here) c.self.invariant
 
-pub pop_front-requires : goal.pop_front-requires
-pop_front-requires c = (numbered _ _ _ c.self.invariant (rw (← c.self.view_is) at c.requires)).read
-
-pub overflow_mul-edge-in-None : goal.overflow_mul-edge-in-None
-overflow_mul-edge-in-None c =
-    let h = numbered _ _ _ c.self.invariant (rw (← c.self.view_is) at c.requires) in
-    omega (arith, h.fits)
-
-pub overflow_add-edge : goal.overflow_add-edge
-overflow_add-edge c = let h = numbered _ _ _ c.self.invariant (rw (← c.self.view_is) at c.requires) in omega (arith, h.fits)
-
-pub pop_front-requires-in-None : goal.pop_front-requires-in-None
-pop_front-requires-in-None c =
-    let h = numbered _ _ _ c.self.invariant (rw (← c.self.view_is) at c.requires) in rw c.in-None.ensures.empty h.unread
-
-pub returns-in-Some-clause-first : goal.returns-in-Some-clause-first
-returns-in-Some-clause-first c =
-    let h = numbered _ _ _ c.self.invariant (rw (← c.self.view_is) at c.requires) in
-    rw (← c.self.view_is)
-    (sym (ap (λ x. slice_get (held_of x) 0) (edge_at-edges_of _ _ _ h.within) ∙ first_of_first _ _ _ (sym c.in-Some.ensures.first)))
-
-pub returns-in-Some-clause-taken : goal.returns-in-Some-clause-taken
-returns-in-Some-clause-taken c =
-    let h = numbered _ _ _ c.self.invariant (rw (← c.self.view_is) at c.requires) in
-    rw (← c.self.view_is) (ap (edges_of c.self.inside.numbers.items) c.in-Some.ensures.popped
-    ∙ take_seen_changes _ _ _ c.self.invariant h.within c.in-Some.v (sym c.in-Some.ensures.first))
-
-pub returns-in-None-clause-first : goal.returns-in-None-clause-first
-returns-in-None-clause-first c =
-    let h = numbered _ _ _ c.self.invariant (rw (← c.self.view_is) at c.requires) in
-    let next = rw c.in-None.ensures.empty at c.pop_front-in-None.ensures.first in
-    rw (← c.self.view_is) (next
-    ∙ sym (ap (λ x. slice_get (held_of x) 0) (edge_at-edges_of _ _ _ h.within) ∙ first_of_both _ _ (sym c.in-None.ensures.first)))
-
-pub returns-in-None-clause-taken : goal.returns-in-None-clause-taken
-returns-in-None-clause-taken c =
-    let h = numbered _ _ _ c.self.invariant (rw (← c.self.view_is) at c.requires) in
-    let popped = rw c.in-None.ensures.empty at c.pop_front-in-None.ensures.popped in
-    rw (← c.self.view_is) (ap (edges_of c.self.inside.numbers.items) popped
-    ∙ take_fresh_changes _ _ _ c.self.invariant h.within (empty_of_none _ (sym c.in-None.ensures.first)))
+pub returns-clause-taken : goal.returns-clause-taken
+returns-clause-taken c =
+    let within = rw (← c.self.view_is) at c.requires in
+    rw (← c.self.view_is) (queue_changed c.self.inside.queues.items c.args.edge c.index_mut.result.now within c.index_mut.ensures.value
+    c.take.new.self (without 1) c.take.ensures.taken)

@@ -1,12 +1,10 @@
-use Rattle.std.proofs.Common.{◌≡◌, sym, subst, ◌∙◌, ◌^◌, true}
-use Rattle.rational.specs.Time.{Rational, ◌≈◌, ◌≤ʳ◌, ◌<ʳ◌}
+use Rattle.std.proofs.Common.{sym, subst, true}
+use Rattle.rational.specs.Time.{◌≈◌, ◌<ʳ◌}
 use Rattle.rational.proofs.Order.{le_of_same, ge_of_same, le_trans, lt_of_lt_of_le, same_of_le, same_refl, same_trans}
 use Rattle.frac128.specs.Value.{value}
-use Rattle.pl_signal.specs.declared.knot.Knot.{Knot}
 use Rattle.stl_syntax.specs.SupInf.{Robustness}
-use Rattle.value_laws.specs.declared.margin.Margin.{Margin}
-use Rattle.online_robust.specs.Reading.{IsStretch, LosesAt}
-use Rattle.online_robust.specs.Couples.{CanNegate, Couple, IsNegatedTo, left_of}
+use Rattle.online_robust.specs.Reading.{IsStretch}
+use Rattle.online_robust.specs.Couples.{CanNegate, Couple, left_of}
 use Rattle.online_robust.proofs.Builts.{built_done, built_first, tick_between}
 use Rattle.online_robust.proofs.Choosing.{turned_is_function}
 use Rattle.online_robust.proofs.Losses.{loses_at_both, loses_at_later}

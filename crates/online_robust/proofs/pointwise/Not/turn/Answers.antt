@@ -1,6 +1,5 @@
-use Rattle.std.proofs.Common.{◌≡◌, Some, sym, subst, ◌∙◌, ◌^◌, slice_get, None}
+use Rattle.std.proofs.Common.{sym, subst, ◌∙◌, ◌^◌}
 use Rattle.rational.specs.Affine.{HasBoundedLevel}
-use Rattle.rational.specs.Rational.{IsWithin}
 use Rattle.rational.specs.Time.{◌<ʳ◌}
 use Rattle.rational.proofs.Order.{le_trans, lt_of_le_of_lt, le_of_same, lt_of_lt_of_le, ge_of_same, same_sym}
 use Rattle.rational.proofs.Mixed.{within_same}
@@ -8,14 +7,13 @@ use Rattle.frac128.specs.Value.{value}
 use Rattle.frac128.specs.declared.frac.Frac.{Frac}
 use Rattle.value_laws.specs.Margins.{margin_function}
 use Rattle.value_laws.specs.declared.margin.Margin.{Margin}
-use Rattle.pl_signal.specs.Knots.{stop}
 use Rattle.stl_syntax.specs.SupInf.{Robustness}
-use Rattle.online_robust.specs.Lines.{end_of, margin_of}
+use Rattle.online_robust.specs.Lines.{margin_of}
 use Rattle.online_robust.specs.Held.{held_at}
 use Rattle.online_robust.specs.Reading.{LosesAt}
 use Rattle.online_robust.specs.Couples.{Couple, IsNegatedTo}
 use Rattle.online_robust.proofs.Builts.{tick_between, tick_within}
-use Rattle.online_robust.proofs.JoinedLemmas.{FirstGap, first_gap}
+use Rattle.online_robust.proofs.JoinedLemmas.{first_gap}
 use Rattle.online_robust.proofs.PointwiseLemmas.{TakesTwo, has_second, no_gap_none}
 use Rattle.online_robust.proofs.NotLemmas.{IsMinus, built_more, fewer_left, gap_level, later_point, point_level, point_negated, point_reached, two_lost_here}
 use Rattle.online_robust.proofs.pointwise.Not.turn.Goals.{After-neg, In_ok-step}

@@ -1,15 +1,13 @@
-use Rattle.std.proofs.Common.{◌≡◌, Some, None, sym, subst, ◌∙◌, ◌^◌, ◌<◌, slice_get, length, arith}
+use Rattle.std.proofs.Common.{sym, subst, ◌∙◌, arith}
 use Rattle.rational.specs.Time.{◌≈◌}
-use Rattle.rational.proofs.Order.{le_refl}
 use Rattle.frac128.specs.Value.{value}
 use Rattle.frac128.specs.declared.frac.Frac.{Frac}
 use Rattle.value_laws.specs.declared.margin.Margin.{Margin}
 use Rattle.stl_syntax.specs.SupInf.{Robustness}
 use Rattle.online_robust.specs.Lines.{end_of, margin_of}
-use Rattle.online_robust.specs.Held.{held_at}
 use Rattle.online_robust.specs.Told.{IsTick}
-use Rattle.online_robust.specs.Reading.{HasReached, IsThere, LosesAtBoth}
-use Rattle.online_robust.specs.Couples.{CanJoin, Couple, IsJoinedTo, both_of, right_of}
+use Rattle.online_robust.specs.Reading.{IsThere, LosesAtBoth}
+use Rattle.online_robust.specs.Couples.{IsJoinedTo}
 use Rattle.online_robust.proofs.Losses.{both_none}
 use Rattle.online_robust.proofs.PointwiseLemmas.{begun_some}
 use Rattle.online_robust.proofs.TwoLemmas.{join_first, join_stood, join_stood_to, left_begins, left_there, left_tick, left_when, lost_first, mid_count, right_some, right_there}

@@ -1,4 +1,3 @@
-use Rattle.std.proofs.Common.{◌^◌}
 use Rattle.frac128.specs.Value.{value}
 use Rattle.stl_syntax.specs.SupInf.{Robustness}
 use Rattle.online_robust.specs.Couples.{left_of, right_of}

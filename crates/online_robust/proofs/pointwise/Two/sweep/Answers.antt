@@ -1,12 +1,10 @@
-use Rattle.std.proofs.Common.{◌≡◌, sym, subst, ◌∙◌, ◌^◌}
+use Rattle.std.proofs.Common.{sym, subst}
 use Rattle.std.proofs.lemmas.Result.{err_from_is_err_and}
-use Rattle.rational.specs.Time.{Rational, ◌≈◌, ◌≤ʳ◌, ◌<ʳ◌}
-use Rattle.rational.proofs.Order.{le_of_same, ge_of_same, le_trans, lt_of_lt_of_le, same_of_le, same_refl, same_trans}
+use Rattle.rational.specs.Time.{◌≈◌}
+use Rattle.rational.proofs.Order.{ge_of_same, le_trans, same_of_le, same_refl, same_trans}
 use Rattle.frac128.specs.Value.{value}
-use Rattle.pl_signal.specs.declared.knot.Knot.{Knot}
-use Rattle.value_laws.specs.declared.margin.Margin.{Margin}
-use Rattle.online_robust.specs.Reading.{IsStretch, LosesAtBoth}
-use Rattle.online_robust.specs.Couples.{CanJoin, Couple, IsJoinedTo, both_of}
+use Rattle.online_robust.specs.Reading.{IsStretch}
+use Rattle.online_robust.specs.Couples.{CanJoin, Couple, both_of}
 use Rattle.online_robust.proofs.Builts.{built_done, built_first, tick_between}
 use Rattle.online_robust.proofs.Losses.{both_both, both_later}
 use Rattle.online_robust.proofs.TwoLemmas.{both_is, joined_same_time}

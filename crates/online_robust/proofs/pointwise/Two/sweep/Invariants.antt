@@ -1,4 +1,3 @@
-use Rattle.std.proofs.Common.{◌≡◌}
 use Rattle.rational.specs.Time.{◌≈◌}
 use Rattle.frac128.specs.Value.{value}
 use Rattle.std.specs.Prelude.{Some}

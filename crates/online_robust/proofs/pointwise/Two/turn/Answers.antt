@@ -1,26 +1,22 @@
-use Rattle.std.proofs.Common.{◌≡◌, ◌≢◌, ◌⊎◌, inl, inr, Some, None, sym, subst, ap, ◌∙◌, ◌^◌, ◌<◌, ◌≤◌, slice_get, length, arith}
+use Rattle.std.proofs.Common.{◌≡◌, inl, inr, Some, sym, subst, ap, ◌∙◌, ◌^◌, slice_get, length, arith}
 use Rattle.std.specs.Prelude.{IsTrue}
 use Rattle.std.proofs.lemmas.Result.{err_from_is_err_and}
-use Rattle.rational.specs.Rational.{IsWithin}
-use Rattle.rational.specs.Time.{Rational, ◌≈◌, ◌<ʳ◌, ◌≤ʳ◌}
+use Rattle.rational.specs.Time.{Rational, ◌≈◌}
 use Rattle.rational.specs.Extended.{value_at, ◌≈ᵉ◌}
 use Rattle.rational.specs.Affine.{HasBoundedLevel}
-use Rattle.rational.proofs.Order.{le_of_lt, le_of_same, ge_of_same, le_trans, lt_of_le_of_lt, lt_of_lt_of_le, same_refl, same_sym, same_trans}
+use Rattle.rational.proofs.Order.{le_of_lt, le_of_same, le_trans, lt_of_le_of_lt, lt_of_lt_of_le, same_refl, same_sym}
 use Rattle.rational.proofs.Mixed.{within_same}
 use Rattle.frac128.specs.Value.{value}
-use Rattle.frac128.specs.declared.frac.Frac.{Frac}
 use Rattle.value_laws.specs.Kinds.{margin_shape}
 use Rattle.value_laws.specs.Margins.{is_ramp, margin_base, margin_function}
 use Rattle.value_laws.specs.declared.margin.Margin.{Margin}
-use Rattle.pl_signal.specs.Knots.{stop}
 use Rattle.pl_signal.specs.Joining.{IsGapFault, Joins}
 use Rattle.stl_syntax.specs.SupInf.{Robustness}
-use Rattle.online_robust.specs.Lines.{end_of, margin_of}
-use Rattle.online_robust.specs.Held.{Held, held_at, held_of}
+use Rattle.online_robust.specs.Lines.{margin_of}
+use Rattle.online_robust.specs.Held.{held_at, held_of}
 use Rattle.online_robust.specs.Told.{IsTick}
-use Rattle.online_robust.specs.Reading.{IsAhead, IsThere, LosesAtBoth, value_turned}
-use Rattle.online_robust.specs.Couples.{Couple, IsJoinedTo, IsReadTo, Source, both_of, right_of, turns_left}
-use Rattle.online_robust.specs.declared.line.MarginLine.{MarginLine}
+use Rattle.online_robust.specs.Reading.{IsAhead, IsThere, value_turned}
+use Rattle.online_robust.specs.Couples.{Couple, IsJoinedTo, IsReadTo}
 use Rattle.online_robust.proofs.Builts.{tick_between, tick_within}
 use Rattle.online_robust.proofs.Losses.{both_of as lost_both}
 use Rattle.online_robust.proofs.TwoLemmas.{IsStop, built_joined, counted_level, joined_fault, left_later, left_level, left_some, left_source, right_later, right_level, right_some_too, right_source, stop_of, turn_nearer}

@@ -1,20 +1,14 @@
-use Rattle.std.proofs.Common.{◌++◌, true, ◌∙◌, ap}
+use Rattle.std.proofs.Common.{◌∙◌, ap}
 use Rattle.workbench.specs.Requests.{stream}
-use Rattle.workbench.proofs.AtRest.{end_of, outcome_not_unwritten}
+use Rattle.workbench.proofs.AtRest.{end_of}
 use Rattle.workbench.proofs.live.LivePush.end.Goals as goal
 
 pub finish-finished-requires : goal.finish-finished-requires
 finish-finished-requires g c = let (bytes, text, p) = c.requires in record { bytes = bytes; written = text; is = p.stands.live_for }
 
-pub tell-requires : goal.tell-requires
-tell-requires g c =
-    let (bytes, text, p) = c.requires in
-    outcome_not_unwritten g.F.Follow.kind c.args.self.now.rows.limits c.args.self.now.formula bytes (text ++ c.finish-finished.new.self.text) true _ c.finish-finished.result
-    (c.finish-finished.ensures.over bytes text p.stands.live_for)
-
 pub returns-clause-ended : goal.returns-clause-ended
 returns-clause-ended g c = λ bytes text p.
-    end_of g.F.Follow.ended g.F.Follow.kind c.args.self.now.rows.limits c.args.self.now.formula c.finish-finished.new.self c.tell.new.self _ _ bytes text p.owed p.stands.limits
+    end_of g.F.Follow.ended g.F.Follow.kind c.args.self.now.rows.limits c.args.self.now.formula c.finish-finished.new.self c.tell.new.live _ _ bytes text p.owed p.stands.limits
     c.finish-finished.ensures.formula c.finish-finished.result c.tell.result c.tell.ensures.told (c.finish-finished.ensures.over bytes text p.stands.live_for) c.tell.ensures.done
 
 pub returns-clause-same : goal.returns-clause-same

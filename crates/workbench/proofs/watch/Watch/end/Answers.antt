@@ -1,18 +1,10 @@
 use Rattle.std.proofs.Common.{◌++◌, Bool, true, Ok, Err, refl, sym, subst}
 use Rattle.workbench.specs.Requests.{verdicts}
-use Rattle.workbench.specs.Following.{IsOver}
+use Rattle.trace_stream.specs.Following.{IsOver}
 use Rattle.workbench.specs.Watches.{Watched, StandsFor, WatchesEnd, HasPushed}
 use Rattle.workbench.specs.declared.watch.Phase.TheVariants.{Ended}
-use Rattle.workbench.proofs.AtRest.{outcome_not_unwritten}
 use Rattle.workbench.proofs.WatchCalls.{end_told, has_finished, call_stopped, fault_there}
 use Rattle.workbench.proofs.watch.Watch.end.Goals as goal
-
-pub tell-requires : goal.tell-requires
-tell-requires g c =
-    let (p, s) = c.self.invariant c.in_ok-allow.ensures in
-    let old = c.self.inside.live in
-    outcome_not_unwritten verdicts old.rows.limits old.formula p.bytes (p.text ++ c.finish-finished.new.self.text) true _ c.finish-finished.result
-    (c.finish-finished.ensures.over p.bytes p.text s.live)
 
 pub stopped-requires : goal.stopped-requires
 stopped-requires g c =
@@ -31,7 +23,7 @@ returns-in-Ok-clause-ended g c = λ p stands.
     c.finish-finished.result (Ok c.in-Ok.holds) c.in-Ok.ensures.told (c.finish-finished.ensures.over p.bytes p.text s.live) in (
       mid.text,
       told.0,
-      has_finished c.self.inside.live mid p c.self.inside.phase s c.finish-finished.ensures.formula c.tell.new.self Ended c.in-Ok.holds c.in-Ok.ensures.done refl told.1,
+      has_finished c.self.inside.live mid p c.self.inside.phase s c.finish-finished.ensures.formula c.tell.new.live Ended c.in-Ok.holds c.in-Ok.ensures.done refl told.1,
     )
 
 pub returns-in-Err-clause-ended : goal.returns-in-Err-clause-ended

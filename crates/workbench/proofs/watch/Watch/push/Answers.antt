@@ -1,17 +1,9 @@
 use Rattle.std.proofs.Common.{◌++◌, false, Ok, Err, sym, subst}
 use Rattle.workbench.specs.Requests.{verdicts}
-use Rattle.workbench.specs.Following.{IsLive}
+use Rattle.trace_stream.specs.Following.{IsLive}
 use Rattle.workbench.specs.Watches.{Watched, StandsFor, WatchesRows, with_piece, with_text, HasPushed}
-use Rattle.workbench.proofs.AtRest.{outcome_not_unwritten}
 use Rattle.workbench.proofs.WatchCalls.{push_told, has_pushed, call_stopped, fault_there}
 use Rattle.workbench.proofs.watch.Watch.push.Goals as goal
-
-pub tell-requires : goal.tell-requires
-tell-requires g c =
-    let (p, s) = c.self.invariant c.in_ok-allow.ensures in
-    let old = c.self.inside.live in
-    outcome_not_unwritten verdicts old.rows.limits old.formula (p.bytes ++ c.args.piece.now) (p.text ++ c.feed-fed.new.self.text) false _ c.feed-fed.result
-    (c.feed-fed.ensures.taken p.bytes p.text s.live)
 
 pub invariant_of-self : goal.invariant_of-self
 invariant_of-self g c = λ reading.
@@ -19,7 +11,7 @@ invariant_of-self g c = λ reading.
     let mid = c.feed-fed.new.self in
     let told = push_told (g.K.Sink.written c.args.out.now) (g.K.Sink.written c.tell.new.out) c.self.inside.live mid p c.args.piece.now c.self.inside.phase s c.feed-fed.ensures.formula c.feed-fed.ensures.limits
     c.feed-fed.result (Ok c.in-Ok.field-0) c.in-Ok.ensures.told (c.feed-fed.ensures.taken p.bytes p.text s.live) in
-    let pushed = has_pushed c.self.inside.live mid p c.args.piece.now c.self.inside.phase s c.feed-fed.ensures.formula c.feed-fed.ensures.limits c.tell.new.self c.in-Ok.ensures.done reading told.1 in
+    let pushed = has_pushed c.self.inside.live mid p c.args.piece.now c.self.inside.phase s c.feed-fed.ensures.formula c.feed-fed.ensures.limits c.tell.new.live c.in-Ok.ensures.done reading told.1 in
     (with_text (with_piece p c.args.piece.now) mid.text, pushed.stands)
 
 pub stopped-requires : goal.stopped-requires
@@ -39,7 +31,7 @@ returns-in-Ok-clause-pushed g c = λ p stands.
     c.feed-fed.result (Ok c.in-Ok.field-0) c.in-Ok.ensures.told (c.feed-fed.ensures.taken p.bytes p.text s.live) in (
       mid.text,
       told.0,
-      has_pushed c.self.inside.live mid p c.args.piece.now c.self.inside.phase s c.feed-fed.ensures.formula c.feed-fed.ensures.limits c.tell.new.self c.in-Ok.ensures.done c.in_ok-allow.ensures told.1,
+      has_pushed c.self.inside.live mid p c.args.piece.now c.self.inside.phase s c.feed-fed.ensures.formula c.feed-fed.ensures.limits c.tell.new.live c.in-Ok.ensures.done c.in_ok-allow.ensures told.1,
     )
 
 pub returns-in-Err-clause-pushed : goal.returns-in-Err-clause-pushed

@@ -1,0 +1,255 @@
+//! Every command over devices of which one call fails, each in turn, and over inputs that end after each byte.
+use crate::run_tests::{Case, Devices, agrees, agrees_so_far, pieces};
+use std::alloc::Global;
+use std::test::Fail;
+
+/// The commands that hold the whole trace: what they write for `x >= 5` on `RISE`, and the status.
+const WHOLE: [(&str, &str, u8); 5] = [
+    ("check", "[0,5) false\n[5,10] true\nstart false\n", 1),
+    ("robust", "[0] -5\n(0,10) -5 -> 5\n[10] 5\n", 0),
+    ("explain", "start false\nx >= 5 false on [0,0]\n", 1),
+    (
+        "json",
+        "{\"formula\":\"x >= 5\",\"items\":[{\"atom\":\"x >= 5\",\"on\":\"[0,0]\",\"value\":false}],\"margins\":[{\"at\":\"0\",\"margin\":\"-5\"},{\"from\":\"-5\",\"on\":\"(0,10)\",\"to\":\"5\"},{\"at\":\"10\",\"margin\":\"5\"}],\"start\":false,\"verdicts\":[{\"on\":\"[0,5)\",\"value\":false},{\"on\":\"[5,10]\",\"value\":true}]}\n",
+        1,
+    ),
+    ("table", "time,margin,from,to\n0,-5,-5,5\n10,5,,\n", 0),
+];
+
+const RISE: &str = "time,x\n0,0\n10,10\n";
+
+/// What `watch` writes for it: a line for the first row, two for the second, and the start.
+const WATCHED: &str = "[0,0] false\n(0,5) false\n[5,10] true\nstart false\n";
+
+const SUMMARY: &str = "rows 5\ncheck 1\nwatch 2\nstart true\n";
+
+/// Whether a command of `x >= 5` on `RISE` is answered so.
+fn answers(
+    alloc: Global,
+    command: &str,
+    out: &str,
+    err: &str,
+    status: u8,
+    devices: Devices,
+) -> Result<bool, Fail> {
+    let case = Case {
+        words: &[command, "x >= 5"],
+        input: RISE,
+        out,
+        err,
+        status,
+    };
+    agrees(alloc, case, devices)
+}
+
+/// Whether `watch` of it is cut off so, once it has written so many bytes.
+fn is_watched(
+    alloc: Global,
+    err: &str,
+    status: u8,
+    written: usize,
+    devices: Devices,
+) -> Result<bool, Fail> {
+    let case = Case {
+        words: &["watch", "x >= 5"],
+        input: RISE,
+        out: WATCHED,
+        err,
+        status,
+    };
+    agrees_so_far(alloc, case, devices, written)
+}
+
+#[test]
+fn each_read_may_fail(rt: HostRuntime) -> Result<(), Fail> {
+    let alloc = rt.alloc();
+    for (command, out, status) in WHOLE {
+        for read_fails in 1..=7 {
+            let devices = Devices {
+                read_fails,
+                ..pieces(4)
+            };
+            let is_answered = if read_fails == 7 {
+                answers(alloc, command, out, "", status, devices)?
+            } else {
+                answers(alloc, command, "", "read fault\n", 5, devices)?
+            };
+            assert!(rt; is_answered, "{command}, read {read_fails}");
+        }
+    }
+    Ok(())
+}
+
+/// A read of four bytes that fails, and how many bytes `watch` has written by then.
+const WATCHED_BY: [(u64, usize); 6] = [(1, 0), (2, 0), (3, 0), (4, 12), (5, 12), (6, 36)];
+
+#[test]
+fn watch_has_answered_the_rows_before_a_read_that_fails(rt: HostRuntime) -> Result<(), Fail> {
+    let alloc = rt.alloc();
+    for (read_fails, written) in WATCHED_BY {
+        let devices = Devices {
+            read_fails,
+            ..pieces(4)
+        };
+        assert!(rt;
+            is_watched(alloc, "read fault\n", 5, written, devices)?,
+            "read {read_fails}"
+        );
+    }
+    Ok(())
+}
+
+/// Whether a first part is written, of whole writes of five bytes, whichever write fails.
+fn is_cut_off(alloc: Global, words: &[&str], out: &str) -> Result<bool, Fail> {
+    for k in 0..60u64 {
+        let written = 5 * k as usize;
+        if written >= out.len() {
+            break;
+        }
+        let devices = Devices {
+            write_most: 5,
+            write_fails: k + 1,
+            ..pieces(4096)
+        };
+        let case = Case {
+            words,
+            input: RISE,
+            out,
+            err: "write fault\n",
+            status: 6,
+        };
+        if !agrees_so_far(alloc, case, devices, written)? {
+            return Ok(false);
+        }
+    }
+    Ok(true)
+}
+
+#[test]
+fn each_write_may_fail(rt: HostRuntime) -> Result<(), Fail> {
+    let alloc = rt.alloc();
+    for (command, out, _) in WHOLE {
+        assert!(rt; is_cut_off(alloc, &[command, "x >= 5"], out)?, "{command}");
+    }
+    assert!(rt; is_cut_off(alloc, &["gen", "3", "5"], SUMMARY)?);
+    Ok(())
+}
+
+/// A write that fails, of at most seven bytes, and how many bytes `watch` has written by then: what a piece and what the end answers are
+/// written apart.
+const WATCHED_IN: [(u64, usize); 8] = [
+    (1, 0),
+    (2, 7),
+    (3, 14),
+    (4, 21),
+    (5, 28),
+    (6, 35),
+    (7, 36),
+    (8, 43),
+];
+
+#[test]
+fn each_write_of_watch_may_fail(rt: HostRuntime) -> Result<(), Fail> {
+    let alloc = rt.alloc();
+    for (write_fails, written) in WATCHED_IN {
+        let devices = Devices {
+            write_most: 7,
+            write_fails,
+            ..pieces(4096)
+        };
+        assert!(rt;
+            is_watched(alloc, "write fault\n", 6, written, devices)?,
+            "write {write_fails}"
+        );
+    }
+    Ok(())
+}
+
+/// A write of six bytes to the error stream that fails, and what was told by then.
+const TOLD: [(u64, &str); 3] = [(1, ""), (2, "read f"), (3, "read fault\n")];
+
+#[test]
+fn each_write_of_the_line_may_fail(rt: HostRuntime) -> Result<(), Fail> {
+    let alloc = rt.alloc();
+    for (command, _, _) in WHOLE {
+        for (tell_fails, told) in TOLD {
+            let devices = Devices {
+                write_most: 6,
+                read_fails: 1,
+                tell_fails,
+                ..pieces(4)
+            };
+            assert!(rt;
+                answers(alloc, command, "", told, 5, devices)?,
+                "{command}, {told}"
+            );
+        }
+    }
+    Ok(())
+}
+
+/// How many bytes of `RISE` there are, and the line that is told; at the other places they are a trace.
+const CUTS: [(usize, &str); 13] = [
+    (0, "line 0: no header\n"),
+    (1, "line 1: field 1: bad name\n"),
+    (2, "line 1: field 1: bad name\n"),
+    (3, "line 1: field 1: bad name\n"),
+    (4, "line 1: unknown column x\n"),
+    (5, "line 1: field 2: bad name\n"),
+    (6, "line 1: no rows\n"),
+    (7, "line 1: no rows\n"),
+    (8, "line 2: 1 fields\n"),
+    (9, "line 2: field 2: bad number\n"),
+    (12, "line 3: 1 fields\n"),
+    (13, "line 3: 1 fields\n"),
+    (14, "line 3: field 2: bad number\n"),
+];
+
+/// The first bytes of `RISE`.
+fn first_bytes(alloc: Global, count: usize) -> Result<String, Fail> {
+    let mut text = String::new(alloc);
+    for (i, c) in RISE.chars().enumerate() {
+        if i < count {
+            text.push(c)?;
+        }
+    }
+    Ok(text)
+}
+
+#[test]
+fn an_input_may_end_after_each_byte(rt: HostRuntime) -> Result<(), Fail> {
+    let alloc = rt.alloc();
+    for (count, err) in CUTS {
+        let input = first_bytes(alloc, count)?;
+        for (command, _, _) in WHOLE {
+            let case = Case {
+                words: &[command, "x >= 5"],
+                input: input.as_str(),
+                out: "",
+                err,
+                status: 4,
+            };
+            assert!(rt; agrees(alloc, case, pieces(3))?, "{command}, {count} bytes");
+        }
+    }
+    Ok(())
+}
+
+#[test]
+fn watch_answers_the_rows_before_the_byte_at_which_an_input_ends(
+    rt: HostRuntime,
+) -> Result<(), Fail> {
+    let alloc = rt.alloc();
+    for (count, err) in CUTS {
+        let input = first_bytes(alloc, count)?;
+        let case = Case {
+            words: &["watch", "x >= 5"],
+            input: input.as_str(),
+            out: if count < 11 { "" } else { "[0,0] false\n" },
+            err,
+            status: 4,
+        };
+        assert!(rt; agrees(alloc, case, pieces(3))?, "{count} bytes");
+    }
+    Ok(())
+}

@@ -1,0 +1,34 @@
+use Rattle.std.proofs.Common.{rules, ◌≡◌, ap, pos, to_z, of_z, subst}
+use Rattle.std.specs.Int.{w64}
+use Rattle.std.proofs.lemmas.Int.{to_z-of_z}
+use Rattle.rational.specs.Rational.{◌≈◌, whole}
+use Rattle.frac128.specs.Value.{value}
+use Rattle.online_robust.specs.declared.pointwise.Not as Own
+use Rattle.online_robust.proofs.Bridging.{can_negate, not_couple, not_edges, not_stands, not_told}
+use Rattle.online_robust.proofs.operator.sweep_not.Goals as goal
+
+pub sweep-requires : goal.sweep-requires
+sweep-requires c =
+    let (t, b) = c.requires in
+    let to : to_z w64 (of_z w64 c.from.result) ≡ pos c.args.to = search (rules, to_z-of_z) in
+    let end : value c.of-end.result ≈ whole (pos c.args.to) = subst (λ n. value c.of-end.result ≈ whole n) to c.of-end.ensures.value in
+    (not_couple t c.args.not.now c.args.edges.now c.args.to b, can_negate t c.args.not.now c.args.edges.now c.args.to b, end)
+
+pub returns-in-Ok-clause-told : goal.returns-in-Ok-clause-told
+returns-in-Ok-clause-told c = λ t b.
+    let to : to_z w64 (of_z w64 c.from.result) ≡ pos c.args.to = search (rules, to_z-of_z) in
+    let end : value c.of-end.result ≈ whole (pos c.args.to) = subst (λ n. value c.of-end.result ≈ whole n) to c.of-end.ensures.value in
+    not_told t c.args.not.now c.args.edges.now c.args.to b c.in-Ok.swept (c.in-Ok.ensures.told (not_couple t c.args.not.now c.args.edges.now c.args.to b) (can_negate t c.args.not.now c.args.edges.now c.args.to b) end)
+
+pub returns-in-Ok-clause-edges : goal.returns-in-Ok-clause-edges
+returns-in-Ok-clause-edges c = λ t b.
+    let to : to_z w64 (of_z w64 c.from.result) ≡ pos c.args.to = search (rules, to_z-of_z) in
+    let end : value c.of-end.result ≈ whole (pos c.args.to) = subst (λ n. value c.of-end.result ≈ whole n) to c.of-end.ensures.value in
+    not_edges t c.args.not.now c.args.edges.now c.args.to b c.sweep.new.edges (value c.of-end.result) end c.in-Ok.ensures.lost (c.in-Ok.ensures.ahead (not_couple t c.args.not.now c.args.edges.now c.args.to b) (can_negate t c.args.not.now c.args.edges.now c.args.to b) end)
+
+pub returns-in-Ok-clause-stands : goal.returns-in-Ok-clause-stands
+returns-in-Ok-clause-stands c = λ t b.
+    let to : to_z w64 (of_z w64 c.from.result) ≡ pos c.args.to = search (rules, to_z-of_z) in
+    let end : value c.of-end.result ≈ whole (pos c.args.to) = subst (λ n. value c.of-end.result ≈ whole n) to c.of-end.ensures.value in
+    not_stands t c.args.not.now c.args.edges.now c.args.to b c.sweep.new.self c.sweep.new.edges (ap (λ (y : Own.Not). y.of) c.sweep.ensures.kept) c.in-Ok.ensures.some
+    (c.in-Ok.ensures.reached (not_couple t c.args.not.now c.args.edges.now c.args.to b) (can_negate t c.args.not.now c.args.edges.now c.args.to b) end)

@@ -1,0 +1,18 @@
+use Rattle.std.proofs.Common.{◌≡◌, ◌∙◌, Some, sym, subst, arith, below_more}
+use Rattle.std.specs.Prelude.{slice_get}
+use Rattle.std.proofs.lemmas.Option.{slice_get_within}
+use Rattle.pl_signal.proofs.Values.{some_is}
+use Rattle.stl_syntax.specs.declared.node.Node.{Node}
+use Rattle.online_robust.specs.Standing.{IsStreamed}
+use Rattle.online_robust.proofs.streamed.first_unstreamed.Goals as goal
+
+pub loop-i-preserved : goal.loop-i-preserved
+loop-i-preserved c =
+    below_more (λ k. (n : Node) → slice_get c.args.formula.now.nodes k ≡ Some n → IsStreamed n) c.loop-i.i c.loop-i.invariant
+    (λ n at. subst IsStreamed (some_is (sym c.node.ensures.node ∙ at)) (c.is_streamed-streamed.ensures c.if-not-streamed.false))
+
+pub returns : goal.returns
+returns c = λ i n at.
+    let within = slice_get_within c.args.formula.now.nodes i n at in
+    let end = c.len-i-end.ensures.count in
+    c.loop-i.invariant i (omega (arith, within, end)) n at

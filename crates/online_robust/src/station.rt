@@ -1,0 +1,256 @@
+//! A node of the network: by how much it lags behind the rows, and what it does.
+ghost use Rattle.std.specs.Prelude.{◌≡◌, ◌<◌, ◌≤◌, ◌≤ℤ◌, ◌<ℤ◌, ◌^◌, ℕ, ℤ, pos, negsuc, length, IfErr, OnOk, IsTrue, ◌↔◌, MatchOption, Some, None, false, true};
+ghost use Rattle.stl_syntax.specs.Formula.{HasChildrenBelow, horizon};
+ghost use Rattle.stl_syntax.specs.Horizons.{horizon_above};
+ghost use Rattle.stl_syntax.specs.Trace.{Header};
+ghost use Rattle.stl_syntax.specs.declared.node.Node.{Node as ANode};
+ghost use Rattle.online_robust.specs.Standing.{IsStreamed};
+ghost use Rattle.online_robust.specs.Turns.{IsLeaf};
+ghost use Rattle.online_robust.specs.Putting.{lines_of, HasPutOut};
+ghost use Rattle.online_robust.specs.Moving.{Move, CanGiveOut, CanGoTo, CanMoveByRow, CanMoveByEnd, HasMoved, IsFaultOf};
+ghost use Rattle.online_robust.specs.Firsts.{IsFirstWork};
+ghost use Rattle.online_robust.specs.declared.station.Work.TheVariants as W;
+
+use crate::edges::Edges;
+use crate::operator::Operator;
+use crate::put::{put_atom, put_const, put_signal};
+use atom_lines::Bound;
+use frac128::Memory;
+use pl_signal::{OpFault, Signal};
+use std::alloc::Global;
+use stl_syntax::Node;
+use trace_reader::Row;
+use value_laws::Margin;
+
+/// What a node does.
+#[derive(Drop)]
+pub(crate) enum Work {
+    Const(bool),
+    Atom,
+    Operator(Operator),
+}
+
+/// A node.
+#[derive(Drop)]
+pub(crate) struct Station {
+    /// Its horizon, in ticks.
+    pub(crate) ahead: u32,
+    pub(crate) work: Work,
+}
+
+/// What a leaf does.
+fn leaf_of(node: &Node) -> Work
+    requires { IsLeaf node.now }
+    ensures { IsFirstWork node.now result }
+{
+    match node {
+        Node::Const(holds) => Work::Const(*holds),
+        _ => Work::Atom,
+    }
+}
+
+/// What a node does, before any row.
+pub(crate) fn work_of(node: &Node) -> Work
+    requires { IsStreamed node.now }
+    ensures { IsFirstWork node.now result }
+{
+    match Operator::new(node) {
+        Some(operator) => Work::Operator(operator),
+        None => leaf_of(node),
+    }
+}
+
+/// The horizon of a node, from those of the nodes before it.
+pub(crate) fn horizon_of(before: &[u64], node: &Node) -> u64
+    requires below { HasChildrenBelow (length before.now) node.now }
+    requires small { horizon_above before.now node.now < 2 ^ 32 }
+    ensures { result ≡ horizon_above before.now node.now }
+{
+    match node {
+        Node::Const(_) | Node::Atom(_) => 0,
+        Node::Not(p) => before[*p as usize],
+        Node::And(p, q) | Node::Or(p, q) | Node::Implies(p, q) => before[*p as usize].max(
+            before[*q as usize],
+        ),
+        Node::Until {
+            left,
+            right,
+            high,
+            ..
+        } => *high as u64 + before[*left as usize].max(before[*right as usize]),
+        Node::Eventually { of, high, .. } | Node::Always { of, high, .. } => *high as u64
+            + before[*of as usize],
+        Node::Since {
+            left,
+            right,
+            low,
+            ..
+        } => before[*left as usize].max(before[*right as usize].saturating_sub(*low as u64)),
+        Node::Once { of, low, .. } | Node::Historically { of, low, .. } =>
+            before[*of as usize].saturating_sub(*low as u64),
+    }
+}
+
+/// The number, if it is not below the start.
+pub(crate) fn from_start(number: i64, start: u32) -> Option<u32>
+    requires { number ≤ℤ pos 4294967295 }
+    ensures { MatchOption result (number <ℤ pos start) (λ f. (number ≡ pos f) × (start ≤ f)) }
+{
+    if number < i64::from(start) {
+        return None;
+    }
+    Some(number as u32)
+}
+
+/// Whether it is this number.
+fn is_at(before: Option<i64>, number: i64) -> bool
+    ensures { IsTrue result ↔ (before ≡ Some number) }
+{
+    match before {
+        Some(g) => g == number,
+        None => false,
+    }
+}
+
+/// Whether anything was given out up to the number noted last.
+fn was_shown(number: Option<i64>, start: u32) -> bool
+    ensures { MatchOption number (result ≡ false) (λ g. (result ≡ false → g <ℤ pos start) × (result ≡ true → pos start ≤ℤ g)) }
+{
+    match number {
+        Some(g) => i64::from(start) <= g,
+        None => false,
+    }
+}
+
+/// Puts the parts of a signal onto an edge, and notes up to where they go.
+fn put_out(
+    edges: &mut Edges,
+    node: u32,
+    s: &Signal<Margin>,
+    with_first: bool,
+    to: u32,
+) -> Result<(), Memory>
+    requires { node < length edges.old.edges }
+    ensures { OnOk result (HasPutOut node (lines_of with_first s.now) to edges.old edges.new) }
+{
+    put_signal(edges, node, s, with_first)?;
+    edges.reach(node, i64::from(to));
+    Ok(())
+}
+
+/// An operator gives out its margins from the number at which it stood, or from the start, on up to another.
+fn give_out(
+    alloc: Global,
+    edges: &mut Edges,
+    operator: &mut Operator,
+    node: u32,
+    to: u32,
+    with_first: bool,
+) -> Result<(), OpFault<Margin>>
+    requires { (m : Move) × CanGiveOut m node operator.old edges.old to with_first }
+    ensures moved { (m : Move) → CanGiveOut m node operator.old edges.old to with_first
+        → OnOk result (HasMoved m (W.Operator operator.new) edges.old edges.new) }
+    ensures fault { (m : Move) → CanGiveOut m node operator.old edges.old to with_first → IfErr result (IsFaultOf m) }
+{
+    match operator.sweep(alloc, edges, to) {
+        Ok(swept) => {
+            let Ok(()) = put_out(edges, node, &swept, with_first, to) else {
+                return Err(OpFault::Memory);
+            };
+            Ok(())
+        }
+        Err(fault) => Err(fault),
+    }
+}
+
+/// An operator goes on to a number: where that is not below the start, and above the number at which it stood, it gives out its margins
+/// in between.
+fn go_on(
+    alloc: Global,
+    edges: &mut Edges,
+    operator: &mut Operator,
+    node: u32,
+    number: i64,
+) -> Result<(), OpFault<Margin>>
+    requires { (m : Move) × CanGoTo m node operator.old edges.old number }
+    ensures moved { (m : Move) → CanGoTo m node operator.old edges.old number
+        → OnOk result (HasMoved m (W.Operator operator.new) edges.old edges.new) }
+    ensures fault { (m : Move) → CanGoTo m node operator.old edges.old number → IfErr result (IsFaultOf m) }
+{
+    let before = edges.number(node);
+    let Some(start) = edges.start() else {
+        unreachable!()
+    };
+    let Some(to) = from_start(number, start) else {
+        edges.reach(node, number);
+        return Ok(());
+    };
+    if is_at(before, number) {
+        return Ok(());
+    }
+    give_out(alloc, edges, operator, node, to, !was_shown(before, start))
+}
+
+impl Station {
+    /// The node goes on by a row, after the one before.
+    ///
+    /// # Errors
+    ///
+    /// `Wide` where functions in play need a denominator of 2^60 or more; `Memory` where there is no memory.
+    pub(crate) fn take_row(
+        &mut self,
+        alloc: Global,
+        edges: &mut Edges,
+        node: u32,
+        bound: &Bound,
+        before: &Option<Row>,
+        row: &Row,
+    ) -> Result<(), OpFault<Margin>>
+        requires { (m : Move) × CanMoveByRow m node self.old edges.old bound.now before.now row.now }
+        ensures ahead { self.new.ahead ≡ self.old.ahead }
+        ensures moved { (m : Move) → CanMoveByRow m node self.old edges.old bound.now before.now row.now
+            → OnOk result (HasMoved m self.new.work edges.old edges.new) }
+        ensures fault { (m : Move) → CanMoveByRow m node self.old edges.old bound.now before.now row.now → IfErr result (IsFaultOf m) }
+    {
+        let now = i64::from(row.time());
+        match &mut self.work {
+            Work::Const(holds) => {
+                put_const(edges, node, *holds, before, row)?;
+                edges.reach(node, now);
+                Ok(())
+            }
+            Work::Atom => {
+                put_atom(edges, node, bound, before, row)?;
+                edges.reach(node, now);
+                Ok(())
+            }
+            Work::Operator(operator) => {
+                go_on(alloc, edges, operator, node, now - i64::from(self.ahead))
+            }
+        }
+    }
+
+    /// The node goes on by the end of the rows, of which the last stands at `now`.
+    ///
+    /// # Errors
+    ///
+    /// `Wide` where functions in play need a denominator of 2^60 or more; `Memory` where there is no memory.
+    pub(crate) fn take_end(
+        &mut self,
+        alloc: Global,
+        edges: &mut Edges,
+        node: u32,
+        now: u32,
+    ) -> Result<(), OpFault<Margin>>
+        requires { (m : Move) × CanMoveByEnd m node self.old edges.old now }
+        ensures ahead { self.new.ahead ≡ self.old.ahead }
+        ensures moved { (m : Move) → CanMoveByEnd m node self.old edges.old now → OnOk result (HasMoved m self.new.work edges.old edges.new) }
+        ensures fault { (m : Move) → CanMoveByEnd m node self.old edges.old now → IfErr result (IsFaultOf m) }
+    {
+        match &mut self.work {
+            Work::Const(_) => Ok(()),
+            Work::Atom => Ok(()),
+            Work::Operator(operator) => go_on(alloc, edges, operator, node, i64::from(now)),
+        }
+    }
+}

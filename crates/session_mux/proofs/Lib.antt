@@ -1,0 +1,13 @@
+pub mod TagLemmas
+pub mod OwnLemmas
+pub mod RecentLemmas
+pub mod LineTexts
+pub mod TextLemmas
+pub mod SessionsTold
+pub mod SessionLemmas
+pub mod KnowingLemmas
+pub mod AnsweringLemmas
+pub mod MuxLemmas
+pub mod EndsTold
+pub mod PlainTexts
+pub mod HearingLemmas

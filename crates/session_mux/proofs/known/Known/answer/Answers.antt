@@ -1,0 +1,74 @@
+use Rattle.std.proofs.Common.{◌≡◌, sym, ap, subst, refl, List, ℕ, ◌<◌, length, arith, Some, get_or}
+use Rattle.std.specs.Prelude.{slice_get}
+use Rattle.std.proofs.lemmas.Option.{slice_get_read}
+use Rattle.std.proofs.lemmas.Result.{err_from_is_err_and}
+use Rattle.report.proofs.Sequences.{place_inside}
+use Rattle.session_mux.specs.Sessions.{Tagged}
+use Rattle.session_mux.specs.Owning.{own_of, with_content}
+use Rattle.session_mux.specs.Standing.{HasTold, HasReplied, HasSomeTold, IsReply, IsCutShort}
+use Rattle.session_mux.specs.Knowing.{shown}
+use Rattle.session_mux.specs.declared.session.Session.{Session}
+use Rattle.session_mux.proofs.AnsweringLemmas.{unanswered, stands_for, has_answered, cut_answer}
+use Rattle.session_mux.proofs.KnowingLemmas.{one_item}
+use Rattle.session_mux.proofs.known.Known.answer.Goals as goal
+
+pub returns-in_err-place-clause-answered : goal.returns-in_err-place-clause-answered
+returns-in_err-place-clause-answered c =
+    let p = err_from_is_err_and c.from_residual.result c.from_residual.ensures.1 in
+    rw (p.1, p.2) (λ f seen x k same.
+    unanswered f seen x c.args.self.now c.place_for.new.self c.args.out.now c.in_err-place.field-0.0
+    (c.in_err-place.ensures.ready f seen x k (ap (λ (y : Tagged). y.tag) same)))
+
+pub index_mut-requires : goal.index_mut-requires
+index_mut-requires c =
+    let (f, seen, k) = c.requires.known in
+    let r = c.in_ok-place.ensures.ready f seen (record { tag = c.args.tag.now; content = c.args.content.now }) k refl in
+    let within : c.in_ok-place.place < length c.place_for.new.self.sessions.items = place_inside c.place_for.new.self.sessions.items c.in_ok-place.place r.session r.at in
+    omega (arith, c.place_for.new.self.sessions.ok.0, within)
+
+pub line-requires : goal.line-requires
+line-requires c =
+    let (f, seen, k) = c.requires.known in
+    let x : Tagged = record { tag = c.args.tag.now; content = c.args.content.now } in
+    let r = c.in_ok-place.ensures.ready f seen x k refl in
+    let items = c.place_for.new.self.sessions.items in
+    let place = c.in_ok-place.place in
+    let got : slice_get items place ≡ Some c.index_mut.result.now =
+    slice_get_read items (length items) place c.index_mut.result.now refl (place_inside items place r.session r.at) c.index_mut.ensures.value in
+    let told = stands_for f seen x place (shown c.place_for.new.self) r in
+    subst (λ (s : Session). HasSomeTold s) (one_item (slice_get items place) r.session c.index_mut.result.now r.at got) (f, own_of seen x.tag, told.0, told.1)
+
+-- the session at the place is the one that was read
+read_is : (items : List Session) (place : ℕ) (s read : Session) → slice_get items place ≡ Some s → read ≡ get_or items place read → s ≡ read
+read_is items place s read at e = one_item (slice_get items place) s read at (slice_get_read items (length items) place read refl (place_inside items place s at) e)
+
+pub returns-in-Ok-clause-answered : goal.returns-in-Ok-clause-answered
+returns-in-Ok-clause-answered c = λ f seen x k same.
+    let mid = c.place_for.new.self in
+    let place = c.in_ok-place.place in
+    let r = c.in_ok-place.ensures.ready f seen x k (ap (λ (y : Tagged). y.tag) same) in
+    let told = stands_for f seen x place (shown mid) r in
+    let read = read_is mid.sessions.items place r.session c.index_mut.result.now r.at c.index_mut.ensures.value in
+    let o = own_of seen x.tag in
+    let content : c.args.content.now ≡ x.content = ap (λ (y : Tagged). y.content) (sym same) in
+    let replied = c.in-Ok.ensures f o told.0 (subst (λ (s : Session). HasTold f o told.0 s) read told.1) in
+    has_answered f seen x place (shown mid) r c.line.new.self c.args.out.now c.line.new.out
+    (subst (λ t. HasReplied f (with_content o x.content) r.session c.line.new.self (IsReply f t o x.content) c.args.out.now c.line.new.out) r.tag
+    (subst (λ (s : Session). HasReplied f (with_content o x.content) s c.line.new.self (IsReply f s.tag o x.content) c.args.out.now c.line.new.out) (sym read)
+    (subst (λ w. HasReplied f (with_content o w) c.index_mut.result.now c.line.new.self (IsReply f c.index_mut.result.now.tag o w) c.args.out.now c.line.new.out) content replied)))
+    _ refl refl refl refl
+
+pub returns-in-Err-clause-answered : goal.returns-in-Err-clause-answered
+returns-in-Err-clause-answered c = λ f seen x k same.
+    let mid = c.place_for.new.self in
+    let place = c.in_ok-place.place in
+    let r = c.in_ok-place.ensures.ready f seen x k (ap (λ (y : Tagged). y.tag) same) in
+    let told = stands_for f seen x place (shown mid) r in
+    let read = read_is mid.sessions.items place r.session c.index_mut.result.now r.at c.index_mut.ensures.value in
+    let o = own_of seen x.tag in
+    let content : c.args.content.now ≡ x.content = ap (λ (y : Tagged). y.content) (sym same) in
+    let cut = c.in-Err.ensures f o told.0 (subst (λ (s : Session). HasTold f o told.0 s) read told.1) in
+    cut_answer f seen x c.args.out.now c.line.new.out
+    (subst (λ t. IsCutShort (IsReply f t o x.content) c.args.out.now c.line.new.out) r.tag
+    (subst (λ (s : Session). IsCutShort (IsReply f s.tag o x.content) c.args.out.now c.line.new.out) (sym read)
+    (subst (λ w. IsCutShort (IsReply f c.index_mut.result.now.tag o w) c.args.out.now c.line.new.out) content cut)))

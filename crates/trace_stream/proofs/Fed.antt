@@ -1,0 +1,25 @@
+-- A piece in parts.
+use Rattle.std.proofs.Common.{◌≡◌, ℕ, ◌+◌, ◌-◌, false, List, ◌++◌, length, take, drop, sym, ap, ◌∙◌, subst, take-append-drop, take-add, append_assoc, arith, length-drop, take_all}
+use Rattle.stl_syntax.specs.Formula.{Formula}
+use Rattle.trace_reader.specs.declared.refusal.Limits.{Limits}
+use Rattle.trace_stream.specs.Reading.{IsRefused}
+use Rattle.trace_stream.specs.declared.fault.StreamStop.{StreamStop}
+
+-- the rest of a piece
+pub rest_is : (text : List ℕ) (at : ℕ) → take (length text - at) (drop at text) ≡ drop at text
+rest_is text at = take_all (length text - at) (drop at text) (omega (arith, length-drop at text))
+
+pub fed : (bytes piece : List ℕ) (at n : ℕ) → (bytes ++ take at piece) ++ take n (take (length piece - at) (drop at piece)) ≡ bytes ++ take (at + n) piece
+fed bytes piece at n =
+    append_assoc bytes (take at piece) (take n (take (length piece - at) (drop at piece)))
+    ∙ ap (λ l. bytes ++ (take at piece ++ take n l)) (rest_is piece at)
+    ∙ ap (λ l. bytes ++ l) (sym (take-add at n piece))
+
+fed_all : (bytes piece : List ℕ) (at : ℕ) → (bytes ++ take at piece) ++ take (length piece - at) (drop at piece) ≡ bytes ++ piece
+fed_all bytes piece at =
+    ap (λ l. (bytes ++ take at piece) ++ l) (rest_is piece at) ∙ append_assoc bytes (take at piece) (drop at piece) ∙ ap (λ l. bytes ++ l) (take-append-drop at piece)
+
+pub fed_err : (f : Formula) (l m : Limits) (bytes piece : List ℕ) (at : ℕ) (e : StreamStop) → l ≡ m
+    → IsRefused l f false ((bytes ++ take at piece) ++ take (length piece - at) (drop at piece)) e → IsRefused m f false (bytes ++ piece) e
+fed_err f l m bytes piece at e same r =
+    subst (λ (x : Limits). IsRefused x f false (bytes ++ piece) e) same (subst (λ b. IsRefused l f false b e) (fed_all bytes piece at) r)

@@ -1,0 +1,104 @@
+-- What follows the rows of a trace, and the reader over it.
+use Rattle.std.specs.Prelude.{◌≡◌, ℕ, Bool, true, false, List, [], ◌++◌, Option, Some, None}
+use Rattle.stl_syntax.specs.Formula.{Formula, root}
+use Rattle.stl_syntax.specs.Trace.{Header, Row}
+use Rattle.trace_reader.specs.declared.refusal.Limits.{Limits}
+use Rattle.trace_stream.specs.Streams.{Stream, limits_of, StreamText, StreamOf, IsLastVerdict, status_of_truth}
+use Rattle.trace_reader.specs.InputFaults.{Fault, IsInputFault, AreRowsBefore}
+use Rattle.trace_stream.specs.Cases.{IsFault, IsCase, Takes}
+use Rattle.trace_stream.specs.Reading.{IsKept, IsWhole}
+use Rattle.trace_stream.specs.declared.case.Case.{Case}
+use Rattle.trace_stream.specs.declared.fault.StreamStop.{StreamStop}
+use Rattle.trace_stream.specs.declared.fault.StreamStop.TheVariants.{Fault as Faulty, NoMemory, Wide}
+use Rattle.trace_stream.specs.declared.live.Live.{Live}
+
+-- the text that was made is that of the rows of the case
+pub record Follows (Stands : Case → List ℕ → Type 0) (kind : Stream) (c : Case) (made : List ℕ) : Type 0 where
+  pub stands : Stands c made
+  pub fits : (f : Formula) × IsCase f c
+  pub told : StreamText kind (root c.formula.nodes) c.trace.header c.trace.rows false made
+
+-- for some case, which can take the row
+abbrev pub HasFollowed : (Case → List ℕ → Type 0) → Stream → Row → Type 0
+HasFollowed Stands kind r = (c : Case) × (made : List ℕ) × Follows Stands kind c made × Takes r c.trace
+
+-- the text grew to that of the rows of the case
+abbrev pub IsFollowedOn : (Case → List ℕ → Type 0) → Stream → Case → List ℕ → List ℕ → List ℕ → Type 0
+IsFollowedOn Stands kind c old new made = (grown : List ℕ) × (new ≡ old ++ grown) × Follows Stands kind c (made ++ grown)
+
+-- the whole text of the case was made, and this is the verdict of its status
+pub record IsComplete (Ended : Case → List ℕ → Type 0) (kind : Stream) (c : Case) (made : List ℕ) (holds : Bool) : Type 0 where
+  pub ended : Ended c made
+  pub told : StreamText kind (root c.formula.nodes) c.trace.header c.trace.rows true made
+  pub verdict : (f : Formula) → IsCase f c → IsLastVerdict kind f c.trace (status_of_truth holds)
+
+-- the text grew to that
+abbrev pub IsFollowedOut : (Case → List ℕ → Type 0) → Stream → Case → List ℕ → List ℕ → List ℕ → Bool → Type 0
+IsFollowedOut Ended kind c old new made holds = (grown : List ℕ) × (new ≡ old ++ grown) × IsComplete Ended kind c (made ++ grown) holds
+
+-- the text of the rows before the first fault of the bytes, with its end where there is none and the input has ended
+pub record IsTextOf (kind : Stream) (limits : Limits) (f : Formula) (bytes : List ℕ) (ended : Bool) (text : List ℕ) : Type 0 where
+  pub header : Option Header
+  pub rows : List Row
+  pub whole : Bool
+  pub before : AreRowsBefore limits f bytes ended header rows whole
+  pub is : StreamOf kind f header rows whole text
+
+module _ {F : Type 0} (Stands : F → Case → List ℕ → Type 0) (kind : Stream) where
+  -- once the header was read, the text is that of the case's rows
+  abbrev pub IsFollowed : Option F → Option Case → List ℕ → Type 0
+  IsFollowed None None made = made ≡ []
+  IsFollowed None (Some c) made = ⊥
+  IsFollowed (Some x) None made = ⊥
+  IsFollowed (Some x) (Some c) made = Follows (Stands x) kind c made
+
+  -- the reader took these bytes; this text was written for them, and the reader's own text is to come after it
+  pub record IsLive (live : Live F) (bytes written : List ℕ) : Type 0 where
+    pub case : Option Case
+    pub kept : IsKept live.formula live.rows case bytes
+    pub followed : IsFollowed live.follower case (written ++ live.text)
+
+  -- some bytes and some text
+  pub record HasLived (live : Live F) : Type 0 where
+    pub bytes : List ℕ
+    pub written : List ℕ
+    pub is : IsLive live bytes written
+
+  -- it stands for these bytes, for which this text was written; nothing is to be written
+  pub record IsAtRest (live : Live F) (bytes written : List ℕ) : Type 0 where
+    pub live_for : IsLive live bytes written
+    pub limits : live.rows.limits ≡ limits_of kind
+    pub empty : live.text ≡ []
+
+module _ {F : Type 0} (Ended : F → Case → List ℕ → Type 0) (kind : Stream) where
+  -- what follows the rows took their end
+  abbrev pub IsEndedOut : Option F → Case → List ℕ → List ℕ → List ℕ → Bool → Type 0
+  IsEndedOut follower c old new made holds = (x : F) × (follower ≡ Some x) × IsFollowedOut (Ended x) kind c old new made holds
+
+  -- all bytes were taken, which are those of a trace, and their end; this is the whole text
+  pub record IsOver (limits : Limits) (f : Formula) (live : Live F) (bytes text : List ℕ) (holds : Bool) : Type 0 where
+    pub case : Case
+    pub fits : IsCase f case
+    pub trace : IsWhole limits f bytes case.trace
+    pub follower : F
+    pub is : live.follower ≡ Some follower
+    pub complete : IsComplete (Ended follower) kind case text holds
+
+  -- it stands for these bytes and their end, for which this text was made
+  abbrev pub IsDone : Live F → List ℕ → List ℕ → Type 0
+  IsDone live bytes text = (holds : Bool) × IsOver (limits_of kind) live.formula live bytes text holds
+
+module _ {F : Type 0} (Stands : F → Case → List ℕ → Type 0) (kind : Stream) where
+  -- all bytes were taken, which are those of a trace; this text was made for its rows
+  pub record IsLastTaken (limits : Limits) (f : Formula) (follower : Option F) (bytes text : List ℕ) : Type 0 where
+    pub case : Case
+    pub fits : IsCase f case
+    pub trace : IsWhole limits f bytes case.trace
+    pub followed : IsFollowed Stands kind follower (Some case) text
+
+-- why no more was taken of these bytes, of which this text was made
+abbrev pub IsLiveStop : Stream → Limits → Formula → Bool → List ℕ → List ℕ → StreamStop → Type 0
+IsLiveStop kind limits f ended bytes text (Faulty fault) =
+    (x : Fault) × IsFault f fault x × IsInputFault limits f bytes ended x × IsTextOf kind limits f bytes ended text
+IsLiveStop kind limits f ended bytes text NoMemory = Unit {0}
+IsLiveStop kind limits f ended bytes text (Wide i den) = ⊥

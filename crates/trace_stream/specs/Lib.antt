@@ -1,0 +1,5 @@
+pub mod Streams
+pub mod Cases
+pub mod Reading
+pub mod Following
+pub mod Watching

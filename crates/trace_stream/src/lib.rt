@@ -1,0 +1,20 @@
+//! A trace that is read as its bytes come: held whole, or with what follows its rows and makes the text of a stream.
+//!
+//! There is no device here: bytes are handed over in pieces, cut anywhere, and the text is taken by whoever writes it.
+#![tactic(auto)]
+
+mod case;
+mod fault;
+mod follow;
+mod line;
+mod live;
+mod reading;
+mod verdicts;
+
+pub use case::Case;
+pub use fault::{StreamStop, TraceFault};
+pub use follow::Follow;
+pub use line::fault_line;
+pub use live::Live;
+pub use reading::Reading;
+pub use verdicts::Verdicts;

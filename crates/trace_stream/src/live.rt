@@ -1,0 +1,210 @@
+//! A trace that is read as its bytes come, with what follows its rows.
+ghost use Rattle.std.specs.Prelude.{◌≡◌, ◌^◌, ◌<◌, ◌≤◌, ◌++◌, ℕ, List, [], length, take, true, false, Option, Some, option_map, IfOk, IfErr, MatchResult};
+ghost use Rattle.stl_syntax.specs.Formula.{Formula as Parsed};
+ghost use Rattle.stl_syntax.specs.Trace.{IsTrace};
+ghost use Rattle.trace_stream.specs.Cases.{IsCase, CanKeep, with_row};
+ghost use Rattle.trace_stream.specs.Following.{Follows, IsFollowed, IsEndedOut, IsLive, HasLived, IsLastTaken, IsOver, IsLiveStop};
+ghost use Rattle.trace_stream.specs.declared.case.Case.{Case as Of};
+
+use crate::case::{Case, begin};
+use crate::fault::{StreamStop, TraceFault};
+use crate::follow::Follow;
+use crate::reading::{last_fault, next_bytes};
+use frac128::Memory;
+use std::alloc::Global;
+use stl_syntax::{Formula, Text};
+use trace_reader::{Event, Limits, Row, Rows};
+
+/// A reader of a trace, what follows the rows once the header was read, and the text that they made and that is to be written.
+///
+/// `IsLive` says when it stands for the bytes that it took, and for the text that was taken from it. After a refusal it stands for
+/// nothing: its text is that of the rows before the fault, and no more is asked of it.
+#[derive(Drop)]
+pub struct Live<F> {
+    alloc: Global,
+    rows: Rows,
+    formula: Formula,
+    follower: Option<F>,
+    text: Text,
+}
+
+/// What follows a case without rows.
+fn follow<F: Follow>(alloc: Global, case: Case) -> Result<F, StreamStop>
+    requires case { (f : Parsed) × IsCase f case }
+    requires none { case.trace.rows ≡ [] }
+    ensures ok { IfOk result (λ x. Follows (F.stands x) F.kind case []) }
+    ensures err { IfErr result (λ e. e ≡ StreamStop.NoMemory) }
+{
+    match F::begin(alloc, case) {
+        Ok(follower) => Ok(follower),
+        Err(_) => Err(StreamStop::NoMemory),
+    }
+}
+
+/// Takes a row, and adds to the text what it answers.
+fn take_row<F: Follow>(
+    follower: &mut Option<F>,
+    row: &Row,
+    text: &mut Text,
+) -> Result<(), StreamStop>
+    requires { (case : Option Of) × (made : List ℕ) × IsFollowed F.stands F.kind follower.old case made × CanKeep case row.now }
+    ensures ok { (case : Option Of) (made : List ℕ) → IsFollowed F.stands F.kind follower.old case made → CanKeep case row.now
+        → IfOk result (λ _. (grown : List ℕ) × (text.new ≡ text.old ++ grown) × IsFollowed F.stands F.kind follower.new (option_map (with_row row.now) case) (made ++ grown)) }
+    ensures err { IfErr result (λ e. e ≡ StreamStop.NoMemory) }
+{
+    match follower {
+        Some(follower) => match follower.row(row, text) {
+            Ok(()) => Ok(()),
+            Err(_) => Err(StreamStop::NoMemory),
+        },
+        None => unreachable!(),
+    }
+}
+
+/// Takes the end of the rows, adds to the text what is left, and answers the verdict of the status.
+fn take_end<F: Follow>(follower: &mut Option<F>, text: &mut Text) -> Result<bool, StreamStop>
+    requires { (c : Of) × (made : List ℕ) × IsFollowed F.stands F.kind follower.old (Some c) made × IsTrace c.trace }
+    ensures ok { (c : Of) (made : List ℕ) → IsFollowed F.stands F.kind follower.old (Some c) made → IsTrace c.trace
+        → IfOk result (IsEndedOut F.ended F.kind follower.new c text.old text.new made) }
+    ensures err { IfErr result (λ e. e ≡ StreamStop.NoMemory) }
+{
+    match follower {
+        Some(follower) => match follower.end(text) {
+            Ok(holds) => Ok(holds),
+            Err(_) => Err(StreamStop::NoMemory),
+        },
+        None => unreachable!(),
+    }
+}
+
+impl<F: Follow> Live<F> {
+    /// Takes no bytes yet.
+    ///
+    /// # Errors
+    /// Want of memory.
+    pub fn new(alloc: Global, formula: Formula, limits: Limits) -> Result<Live<F>, Memory>
+        requires rows { limits.rows ≤ 2 ^ 32 }
+        requires lines { limits.lines ≤ 2 ^ 33 }
+        ensures live { IfOk result (λ x. IsLive F.stands F.kind x [] []) }
+        ensures limits { IfOk result (λ x. x.rows.limits ≡ limits) }
+        ensures formula { IfOk result (λ x. x.formula ≡ formula) }
+        ensures empty { IfOk result (λ x. x.text ≡ []) }
+    {
+        let rows = Rows::new(alloc, limits, formula.scale())?;
+        Ok(Live {
+            alloc,
+            rows,
+            formula,
+            follower: None,
+            text: Text::new(alloc),
+        })
+    }
+
+    /// Takes some bytes of a piece, up to the header's line or a row's at most, and answers how many.
+    fn step(&mut self, piece: &[u8]) -> Result<usize, StreamStop>
+        requires { HasLived F.stands F.kind self.old }
+        ensures taken { (bytes written : List ℕ) → IsLive F.stands F.kind self.old bytes written → MatchResult result
+            (λ n. IsLive F.stands F.kind self.new (bytes ++ take n piece.now) written)
+            (λ e. IsLiveStop F.kind self.old.rows.limits self.old.formula false (bytes ++ piece.now) (written ++ self.new.text) e) }
+        ensures within { MatchResult result (λ n. n ≤ length piece.now) (λ _. Unit {0}) }
+        ensures progress { MatchResult result (λ n. 0 < length piece.now → 0 < n) (λ _. Unit {0}) }
+        ensures limits { self.new.rows.limits ≡ self.old.rows.limits }
+        ensures formula { self.new.formula ≡ self.old.formula }
+    {
+        let took = match self.rows.push(next_bytes(&self.follower, piece)) {
+            Ok(took) => took,
+            Err(refusal) => return Err(StreamStop::Fault(TraceFault::Trace(refusal))),
+        };
+        match took.event {
+            Event::Nothing => {}
+            Event::Header => {
+                let case = begin(
+                    self.alloc,
+                    &self.formula,
+                    self.rows.header(),
+                    self.rows.line(),
+                )?;
+                self.follower = Some(follow(self.alloc, case)?);
+            }
+            Event::Row => take_row(&mut self.follower, self.rows.row(), &mut self.text)?,
+        }
+        Ok(took.bytes)
+    }
+
+    /// Takes all bytes of a piece. The text grows by what the rows in it answer.
+    ///
+    /// # Errors
+    /// The bytes have a fault, and the text grew to that of the rows before it; want of memory.
+    pub fn feed(&mut self, piece: &[u8]) -> Result<(), StreamStop>
+        requires { HasLived F.stands F.kind self.old }
+        ensures taken { (bytes written : List ℕ) → IsLive F.stands F.kind self.old bytes written → MatchResult result
+            (λ _. IsLive F.stands F.kind self.new (bytes ++ piece.now) written)
+            (λ e. IsLiveStop F.kind self.old.rows.limits self.old.formula false (bytes ++ piece.now) (written ++ self.new.text) e) }
+        ensures limits { self.new.rows.limits ≡ self.old.rows.limits }
+        ensures formula { self.new.formula ≡ self.old.formula }
+    {
+        let mut at = 0;
+        while at < piece.len() {
+            at += self.step(&piece[at..])?;
+        }
+        Ok(())
+    }
+
+    /// Takes a last row without LF, where the bytes end here.
+    fn last(&mut self) -> Result<(), StreamStop>
+        requires { HasLived F.stands F.kind self.old }
+        ensures formula { self.new.formula ≡ self.old.formula }
+        ensures last { (bytes written : List ℕ) → IsLive F.stands F.kind self.old bytes written → MatchResult result
+            (λ _. IsLastTaken F.stands F.kind self.old.rows.limits self.old.formula self.new.follower bytes (written ++ self.new.text))
+            (λ e. IsLiveStop F.kind self.old.rows.limits self.old.formula true bytes (written ++ self.new.text) e) }
+    {
+        match self.rows.end() {
+            Ok(Event::Row) => take_row(&mut self.follower, self.rows.row(), &mut self.text),
+            Ok(Event::Nothing) => Ok(()),
+            Ok(Event::Header) => unreachable!(),
+            Err(refusal) => Err(last_fault(
+                self.alloc,
+                &self.rows,
+                &self.follower,
+                refusal,
+                &self.formula,
+            )),
+        }
+    }
+
+    /// Takes the end of the bytes, with a last row that lacks its LF, and answers the verdict of the status. The text grows by what is left.
+    ///
+    /// # Errors
+    /// As `feed`.
+    pub fn finish(&mut self) -> Result<bool, StreamStop>
+        requires { HasLived F.stands F.kind self.old }
+        ensures formula { self.new.formula ≡ self.old.formula }
+        ensures over { (bytes written : List ℕ) → IsLive F.stands F.kind self.old bytes written → MatchResult result
+            (IsOver F.ended F.kind self.old.rows.limits self.old.formula self.new bytes (written ++ self.new.text))
+            (λ e. IsLiveStop F.kind self.old.rows.limits self.old.formula true bytes (written ++ self.new.text) e) }
+    {
+        self.last()?;
+        take_end(&mut self.follower, &mut self.text)
+    }
+
+    /// The formula.
+    pub fn formula(&self) -> &Formula
+        ensures { result.now ≡ self.now.formula }
+    {
+        &self.formula
+    }
+
+    /// The text that was made since it was cleared.
+    pub fn text(&self) -> &[u8]
+        ensures { result.now ≡ self.now.text }
+    {
+        self.text.bytes()
+    }
+
+    /// Lets go of the text, once it was written.
+    pub fn clear(&mut self)
+        ensures { self.new ≡ record self.old { text = [] } }
+    {
+        self.text.clear();
+    }
+}

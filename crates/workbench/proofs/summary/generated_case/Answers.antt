@@ -1,0 +1,31 @@
+use Rattle.std.proofs.Common.{◌≡◌, ◌≢◌, Some, Err, sym, ap, ◌∙◌, subst, arith, Result}
+use Rattle.io_edge.specs.InMemory.{CleanBytes}
+use Rattle.stl_syntax.specs.Formula.{Formula}
+use Rattle.workload.specs.Generated.{generated_bytes}
+use Rattle.workbench.specs.InputFaults.{whole_limits}
+use Rattle.workbench.specs.Reading.{IsReadWhole, IsStop}
+use Rattle.workbench.specs.declared.fault.Stop.TheVariants.{Unread}
+use Rattle.workbench.proofs.Fitting.{only_memory}
+use Rattle.workbench.proofs.Summaries.{read_generated}
+use Rattle.workbench.proofs.summary.generated_case.Goals as goal
+
+pub returns-in-Ok-read_trace-clause-trace : goal.returns-in-Ok-read_trace-clause-trace
+returns-in-Ok-read_trace-clause-trace c =
+    let all = c.new-source.result.left in
+    let left = c.read_trace.new.input.left in
+    let same : all ≡ generated_bytes c.args.number c.args.rows =
+    ap (λ (s : CleanBytes). s.left) c.new-source.ensures ∙ c.in-Ok.ensures.items ∙ c.bytes.ensures ∙ c.in_ok-text.ensures in
+    read_generated c.args.number c.args.rows c.requires.some c.requires.few all left c.read_trace.new.input.ended c.in-Ok-read_trace.case same
+    (subst (λ (f : Formula). IsReadWhole whole_limits f (Some all) (Some left) c.read_trace.new.input.ended c.in-Ok-read_trace.case) c.requires.formula
+    c.in-Ok-read_trace.ensures.read)
+
+pub unreachable-requires : goal.unreachable-requires
+unreachable-requires c =
+    let all = c.new-source.result.left in
+    let left = c.read_trace.new.input.left in
+    let same : all ≡ generated_bytes c.args.number c.args.rows =
+    ap (λ (s : CleanBytes). s.left) c.new-source.ensures ∙ c.in-Ok.ensures.items ∙ c.bytes.ensures ∙ c.in_ok-text.ensures in
+    let not_unread : c.in-Err.stop ≢ Unread = λ e. (let rose = c.in-Err.ensures.unread (let f = e in cc) in omega (arith, rose)) in
+    only_memory c.args.number c.args.rows c.requires.some c.requires.few all left c.read_trace.new.input.ended c.in-Err.stop same
+    (subst (λ (f : Formula). IsStop whole_limits f (Some all) (Some left) c.read_trace.new.input.ended c.in-Err.stop) c.requires.formula c.in-Err.ensures.read)
+    not_unread c.in_default-stop.not-NoMemory

@@ -1,0 +1,35 @@
+use Rattle.std.proofs.Common.{[], refl, subst}
+use Rattle.std.specs.Io.KnownBytes.{Appends}
+use Rattle.std.proofs.KnownBytes.{Appends-nil}
+use Rattle.workbench.specs.ErrTexts.{out_of_memory, write_fault}
+use Rattle.workbench.specs.Made.{written, cut_off, no_room}
+use Rattle.workbench.specs.Saying.{IsSaid, whole}
+use Rattle.workbench.specs.Writing.{IsPartWritten}
+use Rattle.workbench.proofs.top.generate.Goals as goal
+
+pub returns-in_default-clause-made : goal.returns-in_default-clause-made
+returns-in_default-clause-made g c = (
+  out_of_memory,
+  no_room refl,
+  subst
+      (λ line. IsSaid (g.E.Sink.written c.args.err.now) (g.E.Sink.written c.say.new.err) (g.E.Sink.faults c.args.err.now) (g.E.Sink.faults c.say.new.err) line)
+      c.plain.ensures c.say.ensures.said,
+)
+
+pub returns-in-Ok-write_all-clause-made : goal.returns-in-Ok-write_all-clause-made
+returns-in-Ok-write_all-clause-made g c = (
+  [],
+  written c.in-Ok.ensures
+      (subst (λ text. Appends (g.K.Sink.written c.args.out.now) (g.K.Sink.written c.write_all.new.sink) text) c.bytes.ensures c.in-Ok-write_all.ensures.written),
+  whole (Appends-nil (g.E.Sink.written c.args.err.now)),
+)
+
+pub returns-clause-made : goal.returns-clause-made
+returns-clause-made g c = (
+  write_fault,
+  cut_off c.in-Ok.ensures
+      (subst (λ text. IsPartWritten (g.K.Sink.written c.args.out.now) (g.K.Sink.written c.write_all.new.sink) text) c.bytes.ensures c.in-Err.ensures.written)
+      c.in-Err.ensures.cause.failed,
+  subst (λ line. IsSaid (g.E.Sink.written c.args.err.now) (g.E.Sink.written c.say-in-Err.new.err) (g.E.Sink.faults c.args.err.now)
+      (g.E.Sink.faults c.say-in-Err.new.err) line) c.plain-in-Err.ensures c.say-in-Err.ensures.said,
+)
