@@ -99,7 +99,7 @@ const STREAMS: [(&str, &str, &str); 16] = [
     ("true", "time,x\n100,7\n", "[100] inf\n//"),
 ];
 
-/// A network with the rows that it is fed, the number of columns, the time of the last row, and the lines so far.
+/// A network with the rows that it is fed, the number of columns, the time of the last row, the number of nodes, and the lines so far.
 #[derive(Drop)]
 struct Fed<'a> {
     net: RobustNet,
@@ -107,8 +107,10 @@ struct Fed<'a> {
     rest: &'a [u8],
     columns: usize,
     last: Option<u32>,
+    nodes: u32,
     text: Text,
     ghost wide: { net.bound.width ≡ columns },
+    ghost counted: { length net.stations ≡ nodes },
     ghost late: { option_map (λ (r : ARow). r.time) net.last ≡ last },
 }
 
@@ -146,6 +148,7 @@ fn begin_on<'a>(
         rest: &bytes[took.bytes..],
         columns,
         last: None,
+        nodes: formula.len(),
         text: Text::new(alloc),
     })
 }
@@ -162,16 +165,28 @@ fn part_of(line: MarginLine) -> MarginPart
 }
 
 impl<'a> Fed<'a> {
+    /// How many parts stand on the root's edge. Each other edge holds none: no node lags behind the one that reads it.
+    fn held(&self, rt: &impl Abort) -> usize {
+        let mut left = 0;
+        for i in 0..self.nodes {
+            assert!(rt; left == 0, "edge before {i}");
+            left = self.net.held(i);
+        }
+        left
+    }
+
     /// Takes all that the root gives out, and adds its lines, and a `/`.
     fn take_all(&mut self, rt: &impl Abort) -> Result<(), Fail> {
-        for _ in 0..1000 {
+        let left = self.held(rt);
+        for _ in 0..left {
             let Some(line) = self.net.take() else {
-                self.text.push(b"/")?;
-                return Ok(());
+                panic!(rt; "too few lines");
             };
             put_margin_line(&mut self.text, &part_of(line), WHOLE)?;
         }
-        panic!(rt; "too many lines");
+        assert!(rt; self.net.take().is_none(), "too many lines");
+        self.text.push(b"/")?;
+        Ok(())
     }
 
     /// The next row; false where there is none.
