@@ -1,5 +1,5 @@
 //! The network of streamed margins: what the root gives out after each row and at the end, in worked cases.
-ghost use Rattle.std.specs.Prelude.{◌≡◌, ◌^◌, length, option_map};
+ghost use Rattle.std.specs.Prelude.{◌≡◌, ◌^◌, length, option_map, false};
 ghost use Rattle.stl_syntax.specs.Trace.{Row as ARow};
 ghost use Rattle.report.specs.PartLines.{IsPartWithin};
 ghost use Rattle.online_robust.specs.Nets.{IsNear};
@@ -112,6 +112,7 @@ struct Fed<'a> {
     ghost wide: { net.bound.width ≡ columns },
     ghost counted: { length net.stations ≡ nodes },
     ghost late: { option_map (λ (r : ARow). r.time) net.last ≡ last },
+    ghost going: { reader.ended ≡ false },
 }
 
 /// The network of a formula over the header of a trace.
