@@ -2,7 +2,7 @@
 use Rattle.std.proofs.Common.{◌≡◌, ◌⊎◌, inl, inr, refl, sym, ap, subst, ◌∙◌, ℕ, ◌≤◌, List, [], ◌∷◌, ◌++◌, Some, length, take, drop, append_assoc}
 use Rattle.std.specs.Prelude.{slice_get}
 use Rattle.rational.specs.Time.{Rational}
-use Rattle.early_verdict.specs.Cuts.{Place, place, After, Upto, Before, AtMost}
+use Rattle.early_verdict.specs.Cuts.{place, After, Upto, Before, AtMost}
 use Rattle.early_verdict.specs.Spans.{Lies, IsOn, BeginsAfter, AreTidy, EndBefore, NoneEndsBefore}
 use Rattle.early_verdict.specs.Joining.{Notes, Absorbs}
 use Rattle.early_verdict.specs.declared.cut.Cut.{Cut}

@@ -1,8 +1,8 @@
 -- How a set grows by those stretches of a list that have a time between two places.
-use Rattle.std.proofs.Common.{◌≡◌, ◌⊎◌, inl, inr, ℕ, zero, suc, List, [], ◌∷◌, take, drop}
+use Rattle.std.proofs.Common.{◌⊎◌, inl, inr, ℕ, zero, suc, List, [], ◌∷◌, take, drop}
 use Rattle.rational.specs.Time.{Rational}
 use Rattle.early_verdict.specs.Cuts.{Place, After, Upto}
-use Rattle.early_verdict.specs.Spans.{Lies, IsOn, AreTidy, BeginsAfter, EndBefore, Grows}
+use Rattle.early_verdict.specs.Spans.{Lies, AreTidy, BeginsAfter, EndBefore, Grows}
 use Rattle.early_verdict.specs.Steps.{BySome}
 use Rattle.early_verdict.specs.declared.stretch.Stretch.{Stretch}
 use Rattle.early_verdict.proofs.PlaceLemmas.{not_both}

@@ -1,8 +1,6 @@
 -- How a set grows as a stretch is added.
-use Rattle.std.proofs.Common.{◌≡◌, ◌⊎◌, inl, inr, sym, subst, ℕ, List, [], Some, None}
-use Rattle.std.specs.Prelude.{◌↔◌}
+use Rattle.std.proofs.Common.{◌≡◌, ◌⊎◌, inl, inr, sym, subst, ℕ, List, []}
 use Rattle.rational.specs.Time.{Rational}
-use Rattle.early_verdict.specs.Cuts.{place}
 use Rattle.early_verdict.specs.Spans.{Lies, IsOn, AreTidy, Grows}
 use Rattle.early_verdict.specs.Joining.{Absorbs}
 use Rattle.early_verdict.specs.declared.stretch.Stretch.{Stretch}

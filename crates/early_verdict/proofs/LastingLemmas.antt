@@ -1,20 +1,19 @@
 -- Sets of the times all of whose window a set has: at their first event, and where no row follows.
-use Rattle.std.proofs.Common.{◌≡◌, ◌⊎◌, inl, inr, refl, sym, subst, ℕ, zero, suc, ℤ, Option, Some, None, List, [], ◌∷◌, take, drop}
+use Rattle.std.proofs.Common.{◌≡◌, ◌⊎◌, inl, inr, subst, ℕ, zero, suc, ℤ, Option, Some, None, List, [], ◌∷◌, take, drop}
 use Rattle.std.specs.Prelude.{IfSome, MatchOption}
-use Rattle.rational.specs.Rational.{Rational, ◌≤ʳ◌}
-use Rattle.early_verdict.specs.Cuts.{Place, place, After, Upto, Before, AtMost}
-use Rattle.early_verdict.specs.Spans.{Lies, IsOn, IsAmong, AreTidy, BeginsAfter, EndBefore, Grows}
+use Rattle.rational.specs.Rational.{Rational}
+use Rattle.early_verdict.specs.Cuts.{Place, place, After, Upto, Before}
+use Rattle.early_verdict.specs.Spans.{IsOn, AreTidy, BeginsAfter, EndBefore, Grows}
 use Rattle.early_verdict.specs.Windows.{Sees, low_place, high_place}
 use Rattle.early_verdict.specs.Steps.{BySome, HeldAt, SeesOnly, Tells, Gains}
 use Rattle.early_verdict.specs.Lasting.{SeesNone, SeesOnlyBy, BeginsFrom, IsRunTo}
 use Rattle.early_verdict.specs.declared.stretch.Stretch.{Stretch}
 use Rattle.early_verdict.specs.declared.window.Window.{Window}
-use Rattle.early_verdict.proofs.StretchLemmas.{rises}
-use Rattle.early_verdict.proofs.PlaceLemmas.{sides, not_both, between, before_through, before_trans, upto_of_before, after_of_before, at_most_of_not_before}
-use Rattle.early_verdict.proofs.MakingLemmas.{after_from, before_from, before_to}
-use Rattle.early_verdict.proofs.SpanLemmas.{front_upto, rest_after, begins_through}
+use Rattle.early_verdict.proofs.PlaceLemmas.{sides, not_both, between, before_through, at_most_of_not_before}
+use Rattle.early_verdict.proofs.MakingLemmas.{after_from}
+use Rattle.early_verdict.proofs.SpanLemmas.{rest_after}
 use Rattle.early_verdict.proofs.RunLemmas.{le_through, upto_le, later_before, decided, decided_either, decided_not}
-use Rattle.early_verdict.proofs.SetLaws.{some_by, by_some, held_sees, found, each_tells}
+use Rattle.early_verdict.proofs.SetLaws.{some_by, by_some, held_sees, found}
 
 -- a window that has a time from everywhere, and ends behind the start, has a time from the start on
 pub seen_from : (w : Window) (start : Place) (t : Rational) → IfSome w.low (λ k. Before (low_place k w.low_in t) (high_place w.high w.high_in t))

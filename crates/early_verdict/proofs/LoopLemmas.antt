@@ -1,5 +1,5 @@
 -- How a set grows as stretches are added one after another.
-use Rattle.std.proofs.Common.{◌≡◌, ◌⊎◌, inl, inr, sym, ap, subst, ◌∙◌, ℕ, zero, suc, ◌+◌, List, [], ◌∷◌, ◌++◌, Some, None, length, take, drop, append_assoc, add-one}
+use Rattle.std.proofs.Common.{◌≡◌, ◌⊎◌, inl, inr, sym, ap, subst, ◌∙◌, ℕ, zero, suc, ◌+◌, List, [], ◌∷◌, ◌++◌, Some, take, drop, append_assoc, add-one}
 use Rattle.std.specs.Prelude.{slice_get}
 use Rattle.rational.specs.Time.{Rational}
 use Rattle.early_verdict.specs.Cuts.{place, After, Upto}
@@ -9,7 +9,6 @@ use Rattle.early_verdict.specs.declared.cut.Cut.{Cut}
 use Rattle.early_verdict.specs.declared.stretch.Stretch.{Stretch}
 use Rattle.early_verdict.proofs.Absorbing.{on_append, on_first, on_second}
 use Rattle.early_verdict.proofs.PlaceLemmas.{not_both}
-use Rattle.early_verdict.proofs.MakingLemmas.{after_from, after_one, upto_one}
 use Rattle.early_verdict.proofs.GrowingLemmas.{grows_not}
 use Rattle.early_verdict.proofs.SpanLemmas.{some_same, no_stretch, on_parts, front_upto, rest_after, tidy_drop}
 

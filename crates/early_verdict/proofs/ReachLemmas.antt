@@ -1,9 +1,9 @@
 -- Sets of times from which a run reaches another set go on to tell so.
-use Rattle.std.proofs.Common.{◌≡◌, ◌⊎◌, inl, inr, true, false, List}
+use Rattle.std.proofs.Common.{◌⊎◌, inl, inr, true, false, List}
 use Rattle.std.specs.Prelude.{◌↔◌}
 use Rattle.rational.specs.Rational.{Rational, ◌≤ʳ◌}
 use Rattle.rational.specs.Time.{Within}
-use Rattle.early_verdict.specs.Cuts.{Place, place, After, Upto, Before, AtMost}
+use Rattle.early_verdict.specs.Cuts.{Place, place, After, Upto, AtMost}
 use Rattle.early_verdict.specs.Spans.{Lies, IsOn, IsAmong, AreTidy, Grows}
 use Rattle.early_verdict.specs.Steps.{BySome, HoldsFrom, Tells, Gains}
 use Rattle.early_verdict.specs.Reaching.{IsNew, ReachesIn, ReachesAt, ReachesBy, ReachedIn, ReachedAt, GoesOn, GoesTo, GoesBack}
@@ -11,21 +11,7 @@ use Rattle.early_verdict.specs.declared.stretch.Stretch.{Stretch}
 use Rattle.early_verdict.proofs.PlaceLemmas.{sides, not_both, between, before_through, at_most_of_not_before}
 use Rattle.early_verdict.proofs.StretchLemmas.{rises}
 use Rattle.early_verdict.proofs.MakingLemmas.{after_from}
-use Rattle.early_verdict.proofs.RunLemmas.{
-  le_through,
-  upto_le,
-  after_le,
-  gap_before,
-  gap_after,
-  earlier_after,
-  one_of,
-  on_one,
-  holds_all,
-  decided,
-  decided_both,
-  decided_not,
-  decided_among,
-}
+use Rattle.early_verdict.proofs.RunLemmas.{le_through, upto_le, after_le, gap_before, gap_after, earlier_after, one_of, on_one, holds_all, decided_among}
 use Rattle.early_verdict.proofs.TickLemmas.{before_time, after_time}
 use Rattle.early_verdict.proofs.SetLaws.{some_by, by_some, decided_from}
 

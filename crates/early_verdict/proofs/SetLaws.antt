@@ -1,5 +1,5 @@
 -- A set that told what its kind tells of its inputs does so after what they gained was added.
-use Rattle.std.proofs.Common.{◌≡◌, ◌⊎◌, inl, inr, refl, subst, Option, Some, None, ℤ, List, [], ◌∷◌}
+use Rattle.std.proofs.Common.{◌⊎◌, inl, inr, refl, subst, Option, Some, None, ℤ, List, [], ◌∷◌}
 use Rattle.std.specs.Prelude.{IfSome, MatchOption}
 use Rattle.rational.specs.Time.{Rational, ◌≤ʳ◌}
 use Rattle.early_verdict.specs.Cuts.{Place, place, After, Upto, Before}
@@ -8,7 +8,7 @@ use Rattle.early_verdict.specs.Windows.{Sees, SeesPart, IsHeld, low_place, high_
 use Rattle.early_verdict.specs.Steps.{BySome, HoldsFrom, Common, HeldAt, SeesOnly, SeesOne, Tells, Gains}
 use Rattle.early_verdict.specs.declared.stretch.Stretch.{Stretch}
 use Rattle.early_verdict.specs.declared.window.Window.{Window}
-use Rattle.early_verdict.proofs.PlaceLemmas.{sides, not_both, before_through, at_most_of_not_before}
+use Rattle.early_verdict.proofs.PlaceLemmas.{before_through, at_most_of_not_before}
 use Rattle.early_verdict.proofs.MakingLemmas.{after_from}
 use Rattle.early_verdict.proofs.RunLemmas.{
   le_through,

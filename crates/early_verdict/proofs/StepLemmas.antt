@@ -1,13 +1,10 @@
 -- What a set gained in one event, and what it tells then.
 use Rattle.std.proofs.Common.{◌≡◌, ◌⊎◌, inl, inr, refl, sym, subst, ◌∙◌, List, [], ◌++◌}
 use Rattle.rational.specs.Time.{Rational}
-use Rattle.early_verdict.specs.Cuts.{Place}
-use Rattle.early_verdict.specs.Spans.{Lies, IsOn, AreTidy, Grows}
-use Rattle.early_verdict.specs.Windows.{SeesPart}
-use Rattle.early_verdict.specs.Steps.{BySome, Common, HeldAt, SeesOne, SeesOnly, Tells, Gains}
+use Rattle.early_verdict.specs.Spans.{IsOn, Grows}
+use Rattle.early_verdict.specs.Steps.{Gains}
 use Rattle.early_verdict.specs.declared.stretch.Stretch.{Stretch}
 use Rattle.early_verdict.specs.declared.grown.Grown.{Grown}
-use Rattle.early_verdict.specs.declared.window.Window.{Window}
 use Rattle.early_verdict.proofs.LoopLemmas.{grows_then}
 
 -- where nothing was told before, what is told is what was gained

@@ -1,7 +1,7 @@
 -- A stretch begins before it ends.
-use Rattle.std.proofs.Common.{◌≡◌, ◌⊎◌, inl, inr, refl, Bool, true, false, not, ◌&&◌, sym, ◌∙◌}
+use Rattle.std.proofs.Common.{◌≡◌, inl, inr, refl, Bool, true, false, not, ◌&&◌}
 use Rattle.rational.specs.Time.{HasTimeBetween}
-use Rattle.rational.proofs.Order.{lt_or_same_or_gt, not_lt_of_le, le_of_same, le_of_lt}
+use Rattle.rational.proofs.Order.{lt_or_same_or_gt, not_lt_of_le, le_of_same}
 use Rattle.rational.proofs.TimeLemmas.{precedes_of_room, room_of_precedes, precedes_of_lt}
 use Rattle.early_verdict.specs.Cuts.{Place, place, Before}
 use Rattle.early_verdict.specs.declared.stretch.Stretch.{Stretch}

@@ -1,9 +1,8 @@
 -- A set of the times whose windows see a sure time goes on to tell so.
-use Rattle.std.proofs.Common.{◌≡◌, ◌⊎◌, inl, inr, List}
+use Rattle.std.proofs.Common.{◌⊎◌, inl, inr, List}
 use Rattle.rational.specs.Time.{Rational}
-use Rattle.early_verdict.specs.Cuts.{Place, place, After, Upto, AtMost}
+use Rattle.early_verdict.specs.Cuts.{Place, AtMost}
 use Rattle.early_verdict.specs.Spans.{Lies, IsOn, Grows}
-use Rattle.early_verdict.specs.Windows.{Sees}
 use Rattle.early_verdict.specs.Steps.{BySome, Tells, Gains}
 use Rattle.early_verdict.specs.Sure.{SeesWithin, SeesUpto, SeesItself, SeesSure}
 use Rattle.early_verdict.specs.declared.stretch.Stretch.{Stretch}

@@ -1,13 +1,13 @@
 -- A time among the places: just before it and just after it.
-use Rattle.std.proofs.Common.{◌≡◌, ◌⊎◌, inl, inr, true, false, Bool, refl, ℕ, ℤ, pos, Option, Some, None, sym, subst}
-use Rattle.std.specs.Prelude.{MatchBool, IfSome, ◌<ℤ◌, ◌≤ℤ◌, IsTrue, ◌↔◌}
-use Rattle.rational.specs.Rational.{Rational, ◌≤ʳ◌, ◌<ʳ◌, ◌≈◌, add, whole}
+use Rattle.std.proofs.Common.{◌≡◌, ◌⊎◌, inl, inr, true, false, Bool, refl, ℤ, pos}
+use Rattle.std.specs.Prelude.{MatchBool, ◌<ℤ◌, ◌≤ℤ◌, IsTrue}
+use Rattle.rational.specs.Rational.{Rational, ◌≤ʳ◌, ◌<ʳ◌, ◌≈◌, whole}
 use Rattle.rational.proofs.Order.{lt_or_same_or_gt, le_or_lt, le_trans, le_of_same, ge_of_same, same_of_le, not_lt_of_le}
 use Rattle.rational.proofs.Field.{add_zero}
 use Rattle.rational.proofs.Shift.{le_whole}
 use Rattle.early_verdict.specs.Cuts.{Place, place, After, Upto, Before, Same}
-use Rattle.early_verdict.specs.Spans.{Lies, IsOn, IsAmong}
-use Rattle.early_verdict.specs.Windows.{Sees, low_place, high_place}
+use Rattle.early_verdict.specs.Spans.{Lies}
+use Rattle.early_verdict.specs.Windows.{low_place, high_place}
 use Rattle.early_verdict.specs.Steps.{HoldsFrom}
 use Rattle.early_verdict.specs.declared.stretch.Stretch.{Stretch}
 use Rattle.early_verdict.specs.declared.window.Window.{Window}

@@ -1,36 +1,5 @@
 -- Which windows reach past a place.
-use Rattle.std.proofs.Common.{
-  ◌≡◌,
-  ◌⊎◌,
-  inl,
-  inr,
-  refl,
-  sym,
-  ◌∙◌,
-  Bool,
-  true,
-  false,
-  not,
-  ◌||◌,
-  ◌&&◌,
-  ℤ,
-  neg_ℤ,
-  ℕ,
-  ◌+◌,
-  ◌*◌,
-  ◌<◌,
-  ◌≤◌,
-  ◌^◌,
-  Option,
-  Some,
-  None,
-  arith,
-  lit<,
-  ap,
-  subst,
-  mul-pos,
-  mul-lt-mul_of_pos_right,
-}
+use Rattle.std.proofs.Common.{◌≡◌, ◌⊎◌, inl, inr, refl, sym, ◌∙◌, Bool, true, false, not, ◌||◌, ◌&&◌, ℤ, neg_ℤ, ◌+◌, ◌*◌, ◌<◌, ◌≤◌, ◌^◌, Option, Some, None, arith, lit<, ap, subst, mul-pos, mul-lt-mul_of_pos_right}
 use Rattle.std.specs.Prelude.{MatchBool, IfSome, IsTrue, unsigned_abs, ◌↔◌, ◌<ℤ◌}
 use Rattle.std.proofs.lemmas.Int.{by_lt_z, ints, to_z-of_z, fits_signed_from_abs}
 use mir.Val.{hbits}
@@ -51,11 +20,10 @@ use Rattle.rational.proofs.Order.{
   le_refl,
   not_lt_of_le,
 }
-use Rattle.rational.proofs.Shift.{lt_shift, same_shift, shift_back, le_shift_by}
+use Rattle.rational.proofs.Shift.{lt_shift, same_shift, shift_back}
 use Rattle.rational.proofs.Mixed.{parts, fits_of_within, within_add, within_whole}
 use Rattle.early_verdict.specs.Cuts.{Place, place, After, Upto, Before, moved_begin, moved_end}
-use Rattle.early_verdict.specs.Spans.{Lies}
-use Rattle.early_verdict.specs.Windows.{Sees, SeesPart, low_place, high_place}
+use Rattle.early_verdict.specs.Windows.{SeesPart, low_place, high_place}
 use Rattle.early_verdict.specs.declared.stretch.Stretch.{Stretch}
 use Rattle.early_verdict.specs.declared.window.Window.{Window}
 use Rattle.early_verdict.proofs.PlaceLemmas.{share, before_through, between, place_order, upto_of_before, upto_same}
@@ -69,7 +37,7 @@ near_fits k h = to_z-of_z w64 k (fits_signed_from_abs w64 k (let b : 2 ^ 32 < 2 
 pub move_fits : (t : Rational) (k : ℤ) → IsWithin (2 ^ 34) t → unsigned_abs k ≤ 2 ^ 32 → FitsFloor w64 (add t (whole k))
 move_fits t k w h = fits_of_within w64 (2 ^ 34 + 2 ^ 32) (lit< tt) (within_add (2 ^ 34) (2 ^ 32) w (within_whole (2 ^ 32) k h))
 
-shift_forth : (t : Rational) (k : ℤ) → add (add t (whole (neg_ℤ k))) (whole k) ≈ t
+pub shift_forth : (t : Rational) (k : ℤ) → add (add t (whole (neg_ℤ k))) (whole k) ≈ t
 shift_forth t k = record { same = omega (arith, ap (λ n. n * (t.den * t.den)) step) }
   where
     step : part_above k + part_above (neg_ℤ k) ≡ part_below k + part_below (neg_ℤ k)

@@ -7,3 +7,12 @@ pub mod Steps
 pub mod Sure
 pub mod Lasting
 pub mod Reaching
+pub mod Readings
+pub mod Fitting
+pub mod Happening
+pub mod Looking
+pub mod Standing
+pub mod Tops
+pub mod Adding
+pub mod Making
+pub mod Deciding

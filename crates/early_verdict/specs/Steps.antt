@@ -1,5 +1,5 @@
 -- What one event adds to a set of each kind, and what sets of each kind tell.
-use Rattle.std.specs.Prelude.{◌≡◌, ◌⊎◌, List, [], ◌∷◌}
+use Rattle.std.specs.Prelude.{◌⊎◌, List, [], ◌∷◌}
 use Rattle.rational.specs.Time.{Rational}
 use Rattle.early_verdict.specs.Cuts.{Place, place, After, Before}
 use Rattle.early_verdict.specs.Spans.{Lies, IsOn, IsAmong}

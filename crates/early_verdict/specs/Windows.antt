@@ -1,5 +1,5 @@
 -- Windows of time: what they see from a time, and the times that see something.
-use Rattle.std.specs.Prelude.{◌⊎◌, Bool, not, ℕ, ℤ, Option, MatchOption, IfSome}
+use Rattle.std.specs.Prelude.{◌⊎◌, Bool, not, ℤ, MatchOption, IfSome}
 use Rattle.rational.specs.Time.{Rational, add, whole}
 use Rattle.early_verdict.specs.Cuts.{Place, place, After, Upto, Before}
 use Rattle.early_verdict.specs.Spans.{Lies}

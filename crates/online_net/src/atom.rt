@@ -192,14 +192,14 @@ fn begin_at(edges: &mut Edges, before: &Option<Row>, row: &Row)
     }
 }
 
-/// Puts all that a row answers at the atoms, and gives the row to be kept.
+/// Puts all that a row answers at the atoms.
 pub(crate) fn put_row(
     edges: &mut Edges,
     operators: &[Option<Operator>],
     bound: &Bound,
     before: &Option<Row>,
     row: &Row,
-) -> Result<Row, Memory>
+) -> Result<(), Memory>
     requires edges { length operators.now ≡ length edges.old.edges }
     requires few { length operators.now ≤ 256 }
     requires atoms { (j : ℕ) → slice_get operators.now j ≡ Some None → IsAtomNode bound.now j }
@@ -207,11 +207,8 @@ pub(crate) fn put_row(
     requires second { length row.now.values ≡ bound.now.width }
     requires later { IfSome before.now (λ r. r.time < row.now.time) }
     requires start { before.now ≡ None → edges.old.start ≡ None }
-    ensures kept { IfOk result (λ kept. kept ≡ row.now) }
-    ensures put { OnOk result (HasPutAtoms bound.now before.now row.now operators.now (length operators.now) (begun edges.old before.now row.now) edges.new) }
+    ensures { OnOk result (HasPutAtoms bound.now before.now row.now operators.now (length operators.now) (begun edges.old before.now row.now) edges.new) }
 {
-    let kept = row.copy()?;
     begin_at(edges, before, row);
-    put_atoms(edges, operators, bound, before, row)?;
-    Ok(kept)
+    put_atoms(edges, operators, bound, before, row)
 }

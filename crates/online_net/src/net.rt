@@ -169,13 +169,17 @@ impl Net {
         if self.closed {
             return Err(NetFault::Closed);
         }
-        let Ok(kept) = put_row(
+        let Ok(()) = put_row(
             &mut self.edges,
             &self.operators,
             &self.bound,
             &self.last,
             row,
         ) else {
+            self.stopped = true;
+            return Err(NetFault::Memory);
+        };
+        let Ok(kept) = row.copy() else {
             self.stopped = true;
             return Err(NetFault::Memory);
         };

@@ -66,6 +66,7 @@ fn tell_all(edges: &mut Edges, holds: bool, out: Out, marks: Marks) -> Result<Ou
 }
 
 /// A window, which where it is empty needs nothing of its input.
+#[inline(always)]
 fn sweep_all(edges: &mut Edges, window: Window, out: Out, marks: Marks) -> Result<Outcome, Memory>
     requires own { out.edge < length edges.old.edges }
     requires sound { IsSound out }

@@ -9,3 +9,8 @@ pub mod KnowingLemmas
 pub mod AnsweringLemmas
 pub mod MuxLemmas
 pub mod EndsTold
+mod Tagging
+pub mod Passing
+pub mod Inputting
+pub mod PlainTexts
+pub mod HearingLemmas

@@ -35,7 +35,7 @@ ends_joined a b text p (inr (x, e)) k = inr (a ++ x, k ∙ ap (λ t. a ++ t) e �
 
 -- ---- the texts of streams
 
-verdict_lines_end : (scale : Scale) (given : List Verdict) (text : List ℕ) → AreVerdictLines scale given text → EndsInFeed text
+pub verdict_lines_end : (scale : Scale) (given : List Verdict) (text : List ℕ) → AreVerdictLines scale given text → EndsInFeed text
 verdict_lines_end scale [] text e = inl e
 verdict_lines_end scale (v ∷ given) text (here, later, (on, is, e), more, k) =
     ends_joined here later text (inr (on ++ codes " " ++ bool_text v.holds, e)) (verdict_lines_end scale given later more) k
@@ -43,7 +43,7 @@ verdict_lines_end scale (v ∷ given) text (here, later, (on, is, e), more, k) =
 stretch_ends : (p : Subformula) (tr : Trace) (old : Option ℤ) (new : ℤ) (text : List ℕ) → IsStretchText p tr (after (first_time tr.rows) old new) text → EndsInFeed text
 stretch_ends p tr old new text (given, is, all) = verdict_lines_end tr.header.scale given text all
 
-new_ends : (p : Subformula) (tr : Trace) (old new : Option ℤ) (text : List ℕ) → IsNewText p tr old new text → EndsInFeed text
+pub new_ends : (p : Subformula) (tr : Trace) (old new : Option ℤ) (text : List ℕ) → IsNewText p tr old new text → EndsInFeed text
 new_ends p tr old None text h = inl h
 new_ends p tr None (Some new) text h = stretch_ends p tr None new text h
 new_ends p tr (Some old) (Some new) text h = by_order (int_lt old new) h
@@ -52,7 +52,7 @@ new_ends p tr (Some old) (Some new) text h = by_order (int_lt old new) h
     by_order true k = stretch_ends p tr (Some old) new text k
     by_order false k = inl k
 
-rows_end : (p : Subformula) (header : Header) (rows : List Row) (old : Option ℤ) (more : List Row) (text : List ℕ) → IsRowsText (IsNewText p) p header rows old more text → EndsInFeed text
+pub rows_end : (p : Subformula) (header : Header) (rows : List Row) (old : Option ℤ) (more : List Row) (text : List ℕ) → IsRowsText (IsNewText p) p header rows old more text → EndsInFeed text
 rows_end p header rows old [] text e = inl e
 rows_end p header rows old (r ∷ more) text (here, later, is, on, e) =
     ends_joined here later text
@@ -68,7 +68,7 @@ stream_ends p header rows true text (are, (during, rest, line, on, left, (holds,
     (new_ends p tr (answered_by (first_time rows) p (last_time 0 rows)) (Some _) rest left) refl)
     (inr (codes "start " ++ bool_text holds, is)) e
 
-rows_stream_ends : (f : Formula) (header : Option Header) (rows : List Row) (whole : Bool) (text : List ℕ) → IsRowsStream f header rows whole text → EndsInFeed text
+pub rows_stream_ends : (f : Formula) (header : Option Header) (rows : List Row) (whole : Bool) (text : List ℕ) → IsRowsStream f header rows whole text → EndsInFeed text
 rows_stream_ends f None rows whole text e = inl e
 rows_stream_ends f (Some header) rows whole text h = stream_ends (root (scaled f header.scale).nodes) header rows whole text h
 

@@ -6,3 +6,6 @@ pub mod SessionsAlone
 pub mod Standing
 pub mod Knowing
 pub mod Muxes
+pub mod Inputs
+pub mod Taking
+pub mod Hearing

@@ -1,4 +1,5 @@
 //! Laws of several sessions in one input. Each is the contract of a call that does nothing, so that the gate proves it.
+ghost use Rattle.session_mux.specs.Hearing.{EachHearsItsEnd, EachHearsWhatItIsTold};
 ghost use Rattle.session_mux.specs.SessionsAlone.{EachIsToldAsAlone, EachIsToldToItsEnd, OneTextAlone, OthersAddNothing, OthersAddNothingAtTheEnd};
 
 /// Given bytes, ended or not, get a session at most one text by itself: the stream of the rows before the first fault, and its line.
@@ -24,4 +25,15 @@ pub fn each_session_is_told_to_its_end()
 /// So two inputs that agree on the lines of a tag tell its session the same to its end.
 pub fn other_sessions_add_nothing_at_the_end()
     ensures { OthersAddNothingAtTheEnd }
+{}
+
+/// The lines of all that was written which begin with a tag and a space, and do not answer a query, are those that its session is told.
+/// The names of the formula have no LF, as those of a formula that was read.
+pub fn each_bench_hears_what_it_is_told()
+    ensures { EachHearsWhatItIsTold }
+{}
+
+/// So it is with what is written at the end of the input.
+pub fn each_bench_hears_its_end()
+    ensures { EachHearsItsEnd }
 {}

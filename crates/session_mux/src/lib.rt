@@ -2,13 +2,19 @@
 #![tactic(auto)]
 
 mod fault;
+mod input;
 mod known;
 pub mod laws;
+mod line;
 mod mux;
 mod recent;
 mod session;
+mod stop;
 mod tag;
 mod telling;
 
 pub use fault::MuxFault;
+pub use input::Input;
+pub use line::input_fault_line;
 pub use mux::Mux;
+pub use stop::{InputStop, LineFault, LineKind};

@@ -23,3 +23,4 @@ pub mod Passes
 pub mod Taking
 pub mod Watched
 pub mod WatchedRows
+pub mod Margined

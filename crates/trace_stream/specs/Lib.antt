@@ -3,3 +3,4 @@ pub mod Cases
 pub mod Reading
 pub mod Following
 pub mod Watching
+pub mod Margining

@@ -8,6 +8,7 @@ mod fault;
 mod follow;
 mod line;
 mod live;
+mod margins;
 mod reading;
 mod verdicts;
 
@@ -16,5 +17,6 @@ pub use fault::{StreamStop, TraceFault};
 pub use follow::Follow;
 pub use line::fault_line;
 pub use live::Live;
+pub use margins::{FollowFault, Margins};
 pub use reading::Reading;
 pub use verdicts::Verdicts;

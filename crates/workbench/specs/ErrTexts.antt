@@ -5,6 +5,7 @@ use Rattle.stl_grammar.specs.declared.fault.What.{What}
 use Rattle.stl_grammar.specs.declared.fault.What.TheVariants.{Operand, Number, Comma, Bracket, Star, Name, Term, Relation, Constant, Paren, End}
 use Rattle.stl_grammar.specs.declared.fault.FormulaFault.{FormulaFault}
 use Rattle.stl_grammar.specs.declared.fault.FormulaFault.TheVariants as formula
+pub use Rattle.session_mux.specs.Inputs.{bad_tag_text, too_many_sessions_text}
 pub use Rattle.report.specs.FaultTexts.{out_of_memory, in_line, in_field, kind_text, trace_fault_text, unknown_text, unit_fault_text}
 
 -- what is expected, in words
@@ -48,14 +49,6 @@ formula_fault_text formula.Memory = out_of_memory
 -- the first node that a stream of margins can't serve
 abbrev pub not_streamed_text : ℕ → List ℕ
 not_streamed_text i = of_formula (codes "node " ++ decimal i ++ codes " not streamed")
-
--- the faults of the lines of several sessions
-abbrev pub bad_tag_text : ℕ → List ℕ
-bad_tag_text n = in_line n (codes "bad tag")
-
--- a tag too many
-abbrev pub too_many_sessions_text : ℕ → List ℕ
-too_many_sessions_text n = in_line n (codes "too many sessions")
 
 -- the node that needs too large a denominator
 abbrev pub wide_text : ℕ → ℕ → List ℕ

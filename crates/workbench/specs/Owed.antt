@@ -10,7 +10,7 @@ use Rattle.workbench.specs.Answers.{HoldsAtStart}
 use Rattle.workbench.specs.Requests.{Request, no_form, refused, whole, stream, sessions, generated}
 use Rattle.workbench.specs.InputFaults.{Fault, whole_limits, IsInputFault}
 use Rattle.trace_stream.specs.Reading.{IsWhole}
-use Rattle.workbench.specs.Sessions.{Tagged, AreTagged, MuxText, InputFault, too_many_lines, too_long, bad_tag, too_many_sessions, FaultOfInput}
+pub use Rattle.session_mux.specs.Inputs.{fault_line, AreLinesBefore, sound, faulted, OwesLines}
 use Rattle.workbench.specs.Generator.{IsSummary}
 
 -- the formula fails at the start, and an explanation would have too many cells
@@ -31,27 +31,6 @@ pub data OwesAtEnd (c : Command) (f : Formula) (bytes : List ℕ) : Bool → Lis
   too_many : (tr : Trace) (count : ℕ) → IsWhole whole_limits f bytes tr → HasTooMany c f tr count → OwesAtEnd c f bytes true []
   at_end : {text : List ℕ} (tr : Trace) → IsWhole whole_limits f bytes tr → ((count : ℕ) → ¬ HasTooMany c f tr count) → Out c f tr text
       → OwesAtEnd c f bytes true text
-
--- the line of a fault of the input of several sessions
-abbrev pub fault_line : InputFault → ℕ
-fault_line (too_many_lines n) = n
-fault_line (too_long n) = n
-fault_line (bad_tag n) = n
-fault_line (too_many_sessions n) = n
-
--- the lines of several sessions before the first fault; `whole` where the input has ended and there is none
-pub data AreLinesBefore (bytes : List ℕ) (ended : Bool) : List Tagged → Bool → Type 0 where
-  sound : {tagged : List Tagged} → ((x : InputFault) → ¬ FaultOfInput 1 [] (lines ended bytes) x) → AreTagged (lines ended bytes) tagged
-      → AreLinesBefore bytes ended tagged ended
-  faulted : {tagged : List Tagged} (x : InputFault) → FaultOfInput 1 [] (lines ended bytes) x → AreTagged (take (fault_line x - 1) (lines ended bytes)) tagged
-      → AreLinesBefore bytes ended tagged false
-
--- of several sessions
-pub record OwesLines (f : Formula) (bytes : List ℕ) (ended : Bool) (text : List ℕ) : Type 0 where
-  pub tagged : List Tagged
-  pub whole : Bool
-  pub before : AreLinesBefore bytes ended tagged whole
-  pub is : MuxText f tagged whole text
 
 -- the text that is owed
 abbrev pub Owes : Request → List ℕ → Bool → List ℕ → Type 0

@@ -1,11 +1,10 @@
 -- Nothing in the text of the judged formula is refused.
-use Rattle.std.proofs.Common.{◌≡◌, ◌⊎◌, inl, inr, ℕ, suc, ◌+◌, ◌*◌, ◌<◌, ◌≤◌, Bool, true, false, List, [], ◌∷◌, ◌++◌, length, refl, sym, ap, ◌∙◌, subst, arith, append-nil, lit≤, Some}
-use Rattle.std.specs.Prelude.{codes, decimal, ◌==◌, if◌then◌else◌, All, IsTrue, bytes_eq}
+use Rattle.std.proofs.Common.{◌≡◌, ◌⊎◌, inl, inr, ℕ, ◌+◌, ◌*◌, ◌<◌, ◌≤◌, Bool, true, false, List, [], ◌∷◌, ◌++◌, length, refl, sym, ap, ◌∙◌, subst, arith, append-nil, lit≤, Some}
+use Rattle.std.specs.Prelude.{codes, decimal, ◌==◌, if◌then◌else◌, IsTrue, bytes_eq}
 use Rattle.std.specs.Fmt.{digits}
 use Rattle.std.proofs.lemmas.Bool.{false≢true, or_cases}
 use Rattle.std.proofs.lemmas.List.Elements.{All-nil, All-cons}
 use Rattle.std.proofs.lemmas.Slice.Eq.{bytes_eq-Decides}
-use Rattle.stl_syntax.specs.Choice.{◌or_else◌, Where}
 use Rattle.stl_syntax.specs.Characters.{is_among, decimal_value, without_zeros}
 use Rattle.stl_syntax.specs.Limits.{IsTooLarge}
 use Rattle.stl_syntax.specs.Names.{is_name}
@@ -16,78 +15,13 @@ use Rattle.stl_syntax.specs.Print.{IsDecimalText, IsAtomText, IsBoundText, IsPri
 use Rattle.stl_syntax.specs.WellFormed.{IsWellFormed, IsAtomInLimits, IsTermInLimits, IsLeafInLimits, HasBounds}
 use Rattle.stl_syntax.specs.declared.rel.Rel.{Rel}
 use Rattle.stl_syntax.specs.declared.rel.Rel.TheVariants.{AtLeast, Below}
-use Rattle.stl_syntax.specs.declared.node.Node.{Node}
 use Rattle.stl_syntax.specs.declared.node.Node.TheVariants.{Atom as Leaf, Not, And, Implies, Eventually, Always, Since}
 use Rattle.stl_syntax.proofs.TreeOrder.{tree_order, tree_root}
-use Rattle.stl_grammar.specs.Tokens.{
-  Token,
-  word,
-  number,
-  relation,
-  open_paren,
-  close_paren,
-  open_bracket,
-  close_bracket,
-  comma,
-  star,
-  plus,
-  minus,
-  IsToken,
-  a_word,
-  an_integer,
-  a_decimal,
-  at_least,
-  at_most,
-  above,
-  below,
-  paren,
-  paren_end,
-  bracket,
-  bracket_end,
-  a_comma,
-  a_star,
-  a_plus,
-  a_minus,
-}
-use Rattle.stl_grammar.specs.FormulaRefusals.{
-  Pending,
-  a_paren,
-  an_operator,
-  an_implies,
-  after_operand,
-  after_paren,
-  constants,
-  prefixes,
-  pending_after,
-  pending,
-  ends_constant,
-  RefusedAt,
-  TokenFault,
-  blank,
-  bad_byte,
-  here,
-  later,
-  at_end,
-  IsLateFault,
-  IsFormulaFault,
-}
+use Rattle.stl_grammar.specs.Tokens.{Token, word, number, IsToken, a_word, an_integer, a_decimal, at_least, at_most, above, below, paren, paren_end, bracket, bracket_end, a_comma, a_star, a_plus, a_minus}
+use Rattle.stl_grammar.specs.FormulaRefusals.{Pending, a_paren, an_operator, an_implies, after_operand, after_paren, constants, prefixes, pending_after, pending, ends_constant, RefusedAt, TokenFault, blank, bad_byte, here, later, at_end, IsFormulaFault}
 use Rattle.stl_grammar.specs.Laws.{IsTooLongOrDeep}
 use Rattle.stl_grammar.specs.declared.fault.FormulaFault.{FormulaFault}
-use Rattle.stl_grammar.specs.declared.fault.FormulaFault.TheVariants.{
-  Empty,
-  BadByte,
-  Expected,
-  BadNumber,
-  BoundOrder,
-  UnboundedFuture,
-  TooManyTerms,
-  TooLong,
-  TooDeep,
-  TooManyNodes,
-  ReachTooLarge,
-  ConstantTooLarge,
-  Memory,
-}
+use Rattle.stl_grammar.specs.declared.fault.FormulaFault.TheVariants.{ReachTooLarge, ConstantTooLarge, Memory}
 use Rattle.stl_grammar.proofs.ReadScale.{read_scales_are_least}
 use Rattle.stl_grammar.proofs.PrintedLaw.{printed_texts_are_formulas}
 use Rattle.workload.specs.Generated.{ticks}
@@ -168,14 +102,16 @@ number_grown true n k ps = shorter ps
 number_grown false n k ps = omega arith
 
 -- a token adds no more to what is pending than it weighs, three for one
-grown : (constant : Bool) {bytes text : List ℕ} {t : Token} (ps : List Pending) → IsToken bytes text t → 3 * length (pending_after constant t ps) ≤ 3 * length ps + weight bytes
+grown : (constant : Bool) {bytes text : List ℕ} {t : Token} (ps : List Pending) → IsToken bytes text t
+    → 3 * length (pending_after constant t ps) ≤ 3 * length ps + weight bytes
 unfolding weight byte_weight
 grown constant ps (a_word {c = c} {rest = rest} begins goes stops) =
     let h = word_grown constant (c ∷ rest) ps in let k = heavy (c ∷ rest) in omega (arith, h, k)
 grown constant ps (an_integer {c = c} {digits = digits} all stops ends) =
     let h = number_grown constant (decimal_value 0 (c ∷ digits ++ [])) 0 ps in omega (arith, h)
 grown constant ps (a_decimal c digits d decimals ds es stops) =
-    let h = number_grown constant (decimal_value 0 ((c ∷ digits) ++ without_zeros (d ∷ decimals))) (length (without_zeros (d ∷ decimals))) ps in omega (arith, h)
+    let h = number_grown constant (decimal_value 0 ((c ∷ digits) ++ without_zeros (d ∷ decimals))) (length (without_zeros (d ∷ decimals))) ps in
+    omega (arith, h)
 grown constant ps at_least = omega arith
 grown constant ps at_most = omega arith
 grown constant ps (above stops) = omega arith
@@ -192,7 +128,8 @@ grown constant ps a_minus = omega arith
 -- ---- a text that is too deep weighs much
 
 -- the refusals of a token, by whether they are for the depth or the length
-deep_at : (before : List Token) (t : Token) (text : List ℕ) (p : ℕ) (r : FormulaFault) → IsTooLongOrDeep r → RefusedAt before t text p r → 64 < length (pending (t ∷ before))
+deep_at : (before : List Token) (t : Token) (text : List ℕ) (p : ℕ) (r : FormulaFault) → IsTooLongOrDeep r → RefusedAt before t text p r
+    → 64 < length (pending (t ∷ before))
 deep_at before t text p r (inl (n, k)) (inl (h, e)) = absurd cc
 deep_at before t text p r (inr (n, k)) (inl (h, e)) = absurd cc
 deep_at before t text p r (inl (n, k)) (inr (_, inl (h, e))) = absurd cc
@@ -208,7 +145,8 @@ deep_at before t text p r (inl (n, k)) (inr (_, inr (_, inr (_, inr (_, inr (_, 
 deep_at before t text p r (inr (n, k)) (inr (_, inr (_, inr (_, inr (_, inr (_, inr (_, (h, e)))))))) = absurd cc
 
 -- a refusal of the tokens for the depth, or the length, comes only in a heavy text
-deep : {before : List Token} {p : ℕ} {text : List ℕ} {r : FormulaFault} → IsTooLongOrDeep r → TokenFault before p text r → 192 < 3 * length (pending before) + weight text
+deep : {before : List Token} {p : ℕ} {text : List ℕ} {r : FormulaFault} → IsTooLongOrDeep r → TokenFault before p text r
+    → 192 < 3 * length (pending before) + weight text
 unfolding weight
 deep k (blank {c = c} is f) = let h = deep k f in let s = some_weight c in omega (arith, h, s)
 deep (inl (n, k)) (bad_byte is none) = absurd cc
@@ -285,7 +223,8 @@ well_formed = record {
 whole_text : (n : ℕ) → decimal n ++ [] ≡ decimal n → IsDecimalText 0 n (decimal n)
 whole_text n e = record { whole = n; decimals = []; are_digits = refl; fewest = refl; same = omega arith; is = sym e }
 
-atom_text : (name : List ℕ) (rel : Rel) (n : ℕ) → IsAtomText ticks (compared name rel n) ((name ++ []) ++ codes " " ++ relation_text rel ++ codes " " ++ decimal n)
+atom_text : (name : List ℕ) (rel : Rel) (n : ℕ)
+    → IsAtomText ticks (compared name rel n) ((name ++ []) ++ codes " " ++ relation_text rel ++ codes " " ++ decimal n)
 atom_text name rel n = (decimal n, whole_text n (append-nil (decimal n)), refl)
 
 bound_text : (a b : ℕ) → IsBoundText ticks a (Some b) true true (codes "[" ++ decimal a ++ codes "," ++ decimal b ++ codes "]")

@@ -1,10 +1,9 @@
-use Rattle.std.proofs.Common.{◌≡◌, ◌∙◌, refl, subst, take, length}
+use Rattle.std.proofs.Common.{◌∙◌, refl, subst, take, length}
 use Rattle.std.proofs.lemmas.List.{take_all}
 use Rattle.std.proofs.lemmas.Option.{slice_get_read}
 use Rattle.early_verdict.specs.Cuts.{place}
-use Rattle.early_verdict.specs.Spans.{Grows, Lies}
-use Rattle.early_verdict.specs.Windows.{SeesPart}
-use Rattle.early_verdict.specs.Steps.{BySome, Common, HeldAt}
+use Rattle.early_verdict.specs.Spans.{Grows}
+use Rattle.early_verdict.specs.Steps.{BySome, HeldAt}
 use Rattle.early_verdict.proofs.GrowingLemmas.{grows_not}
 use Rattle.early_verdict.proofs.LoopLemmas.{grows_on}
 use Rattle.early_verdict.proofs.held.add_all_held.Goals as goal

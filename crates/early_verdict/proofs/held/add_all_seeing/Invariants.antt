@@ -1,8 +1,7 @@
 use Rattle.std.proofs.Common.{◌≡◌, take}
-use Rattle.early_verdict.specs.Cuts.{place}
 use Rattle.early_verdict.specs.Spans.{AreTidy, Grows}
 use Rattle.early_verdict.specs.Windows.{SeesPart}
-use Rattle.early_verdict.specs.Steps.{BySome, HeldAt}
+use Rattle.early_verdict.specs.Steps.{BySome}
 use Rattle.early_verdict.proofs.held.add_all_seeing.Given as goal
 
 abbrev pub invariant-loop-part : goal.invariant-loop-part

@@ -1,4 +1,4 @@
-use Rattle.std.proofs.Common.{◌≡◌, ◌⊎◌, inl, inr, sym, subst, true, false, ◌≤◌, ◌^◌}
+use Rattle.std.proofs.Common.{inl, inr, sym, subst, ◌≤◌, ◌^◌}
 use Rattle.std.specs.Prelude.{◌↔◌, unsigned_abs, MatchOption}
 use Rattle.rational.specs.Time.{Rational}
 use Rattle.early_verdict.specs.Bounds.{reach_of}

@@ -1,4 +1,4 @@
-use Rattle.std.proofs.Common.{◌≡◌, ◌⊎◌, inl, inr, sym, subst}
+use Rattle.std.proofs.Common.{inl, inr, sym, subst}
 use Rattle.early_verdict.specs.Cuts.{place, After, Upto}
 use Rattle.early_verdict.specs.Windows.{high_place}
 use Rattle.early_verdict.specs.Lasting.{SeesNone}

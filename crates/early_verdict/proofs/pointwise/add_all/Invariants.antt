@@ -1,6 +1,6 @@
 use Rattle.std.proofs.Common.{◌≡◌, take}
 use Rattle.early_verdict.specs.Spans.{AreTidy, Grows, Lies}
-use Rattle.early_verdict.specs.Steps.{BySome, Common}
+use Rattle.early_verdict.specs.Steps.{BySome}
 use Rattle.early_verdict.proofs.pointwise.add_all.Given as goal
 
 abbrev pub invariant-loop-part : goal.invariant-loop-part

@@ -1,5 +1,5 @@
 use Rattle.std.proofs.Common.{◌≡◌, take}
-use Rattle.early_verdict.specs.Spans.{AreTidy, Grows, Lies}
+use Rattle.early_verdict.specs.Spans.{AreTidy, Grows}
 use Rattle.early_verdict.specs.Steps.{BySome, Common}
 use Rattle.early_verdict.proofs.pointwise.add_all_common.Given as goal
 

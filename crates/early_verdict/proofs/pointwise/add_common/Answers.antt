@@ -1,4 +1,4 @@
-use Rattle.std.proofs.Common.{rules, ◌≡◌, ◌<◌, ◌∙◌, refl, length, arith}
+use Rattle.std.proofs.Common.{◌<◌, ◌∙◌, refl, length, arith}
 use Rattle.std.proofs.lemmas.Option.{slice_get_within}
 use Rattle.early_verdict.specs.Cuts.{place}
 use Rattle.early_verdict.proofs.MakingLemmas.{after_from, after_one, upto_one}

@@ -1,7 +1,6 @@
-use Rattle.std.proofs.Common.{◌≡◌, ◌∙◌, refl, subst, take, length}
+use Rattle.std.proofs.Common.{◌∙◌, refl, subst, take, length}
 use Rattle.std.proofs.lemmas.List.{take_all}
 use Rattle.std.proofs.lemmas.Option.{slice_get_read}
-use Rattle.early_verdict.specs.Cuts.{place}
 use Rattle.early_verdict.specs.Spans.{Grows}
 use Rattle.early_verdict.specs.Steps.{BySome}
 use Rattle.early_verdict.specs.Reaching.{ReachedAt}

@@ -1,4 +1,4 @@
-use Rattle.std.proofs.Common.{◌≡◌, ◌∙◌, refl, subst, take, length}
+use Rattle.std.proofs.Common.{◌∙◌, refl, subst, take, length}
 use Rattle.std.proofs.lemmas.List.{take_all}
 use Rattle.std.proofs.lemmas.Option.{slice_get_read}
 use Rattle.early_verdict.specs.Cuts.{place}

@@ -1,4 +1,4 @@
-use Rattle.std.proofs.Common.{◌≡◌, subst}
+use Rattle.std.proofs.Common.{subst}
 use Rattle.early_verdict.specs.Cuts.{place}
 use Rattle.early_verdict.specs.Reaching.{ReachesIn, ReachesAt}
 use Rattle.early_verdict.proofs.GrowingLemmas.{grows_not}

@@ -1,4 +1,4 @@
-use Rattle.std.proofs.Common.{◌≡◌, sym, subst}
+use Rattle.std.proofs.Common.{sym, subst}
 use Rattle.std.proofs.Common.{◌≤◌, ◌^◌}
 use Rattle.rational.specs.Time.{Rational}
 use Rattle.early_verdict.specs.Bounds.{reach_of}

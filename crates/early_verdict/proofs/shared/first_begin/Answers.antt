@@ -1,8 +1,7 @@
-use Rattle.std.proofs.Common.{rules, ◌≡◌, ◌<◌, ◌≤◌, ◌+◌, ℕ, suc, sym, subst, length, arith, add-one, Some}
+use Rattle.std.proofs.Common.{rules, ◌≡◌, ◌<◌, suc, sym, subst, length, arith, add-one, Some}
 use Rattle.std.specs.Prelude.{IfNone, slice_get}
 use Rattle.std.proofs.lemmas.Option.{slice_get_within}
 use Rattle.rational.specs.Time.{Rational}
-use Rattle.early_verdict.specs.Cuts.{place}
 use Rattle.early_verdict.specs.Spans.{IsOn, Lies}
 use Rattle.early_verdict.proofs.SharedLemmas.{NothingAt, first_in, first_after, first_not}
 use Rattle.early_verdict.proofs.shared.first_begin.Goals as goal

@@ -1,7 +1,6 @@
-use Rattle.std.proofs.Common.{◌≡◌, ◌<◌, ◌≤◌, ◌-◌, ℕ, suc, sym, subst, length, drop, arith}
+use Rattle.std.proofs.Common.{◌≡◌, ◌<◌, ◌-◌, suc, sym, subst, length, drop, arith}
 use Rattle.std.specs.Prelude.{IfNone}
 use Rattle.rational.specs.Time.{Rational}
-use Rattle.early_verdict.specs.Cuts.{place}
 use Rattle.early_verdict.specs.Spans.{IsOn, Lies}
 use Rattle.early_verdict.proofs.SharedLemmas.{last_in, last_before, last_not, none_from}
 use Rattle.early_verdict.proofs.shared.last_end.Goals as goal

@@ -1,7 +1,6 @@
-use Rattle.std.proofs.Common.{rules, ◌≡◌, ◌<◌, ◌∙◌, refl, length, take, arith}
+use Rattle.std.proofs.Common.{◌<◌, ◌∙◌, refl, length, arith}
 use Rattle.std.proofs.lemmas.Option.{slice_get_within}
 use Rattle.early_verdict.specs.Cuts.{place}
-use Rattle.early_verdict.specs.Steps.{BySome}
 use Rattle.early_verdict.specs.Sure.{SeesWithin}
 use Rattle.early_verdict.proofs.LoopLemmas.{grows_on}
 use Rattle.early_verdict.proofs.BetweenLemmas.{between_first, between_last}

@@ -1,5 +1,4 @@
 use Rattle.early_verdict.specs.Cuts.{place}
-use Rattle.early_verdict.specs.Spans.{Grows}
 use Rattle.early_verdict.specs.Windows.{SeesPart}
 use Rattle.early_verdict.specs.Sure.{SeesWithin}
 use Rattle.early_verdict.proofs.GrowingLemmas.{grows_not}

@@ -1,4 +1,4 @@
-use Rattle.early_verdict.specs.Spans.{Grows, Lies}
+use Rattle.early_verdict.specs.Spans.{Lies}
 use Rattle.early_verdict.specs.Steps.{BySome}
 use Rattle.early_verdict.specs.Sure.{SeesItself}
 use Rattle.early_verdict.proofs.GrowingLemmas.{grows_not}

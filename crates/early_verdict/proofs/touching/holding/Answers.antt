@@ -1,4 +1,4 @@
-use Rattle.std.proofs.Common.{◌≡◌, sym, subst}
+use Rattle.std.proofs.Common.{sym, subst}
 use Rattle.std.specs.Prelude.{IfNone}
 use Rattle.early_verdict.specs.Cuts.{place}
 use Rattle.early_verdict.specs.Spans.{IsAmong}

@@ -1,6 +1,6 @@
-use Rattle.std.proofs.Common.{◌≡◌, ◌⊎◌, ◌∙◌, subst}
+use Rattle.std.proofs.Common.{◌⊎◌, subst}
 use Rattle.early_verdict.specs.Cuts.{place}
-use Rattle.early_verdict.specs.Spans.{Grows, Lies}
+use Rattle.early_verdict.specs.Spans.{Grows}
 use Rattle.early_verdict.specs.Steps.{BySome, HeldAt}
 use Rattle.early_verdict.specs.Lasting.{BeginsFrom}
 use Rattle.early_verdict.proofs.WindowLemmas.{on_good}

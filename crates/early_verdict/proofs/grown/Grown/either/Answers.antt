@@ -1,11 +1,9 @@
-use Rattle.std.proofs.Common.{◌≡◌, ◌⊎◌, subst, []}
-use Rattle.early_verdict.specs.Cuts.{place}
-use Rattle.early_verdict.specs.Spans.{Grows, Lies, IsOn}
-use Rattle.early_verdict.specs.Windows.{SeesPart}
-use Rattle.early_verdict.specs.Steps.{BySome, Common, HeldAt}
+use Rattle.std.proofs.Common.{subst}
+use Rattle.early_verdict.specs.Spans.{Grows, Lies}
+use Rattle.early_verdict.specs.Steps.{BySome}
 use Rattle.early_verdict.proofs.WindowLemmas.{on_good}
-use Rattle.early_verdict.proofs.StepLemmas.{gains_of, gains_both}
-use Rattle.early_verdict.proofs.SetLaws.{either_tells, both_tells, some_tells, each_tells}
+use Rattle.early_verdict.proofs.StepLemmas.{gains_both}
+use Rattle.early_verdict.proofs.SetLaws.{either_tells}
 use Rattle.early_verdict.proofs.grown.Grown.either.Goals as goal
 
 pub returns-clause-gains : goal.returns-clause-gains

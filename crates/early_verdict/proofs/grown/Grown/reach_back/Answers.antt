@@ -1,7 +1,6 @@
-use Rattle.std.proofs.Common.{◌≡◌, ◌⊎◌, ◌∙◌, subst}
-use Rattle.early_verdict.specs.Cuts.{place}
-use Rattle.early_verdict.specs.Spans.{Grows, Lies}
-use Rattle.early_verdict.specs.Steps.{BySome, HeldAt}
+use Rattle.std.proofs.Common.{subst}
+use Rattle.early_verdict.specs.Spans.{Grows}
+use Rattle.early_verdict.specs.Steps.{BySome}
 use Rattle.early_verdict.specs.Reaching.{ReachedAt}
 use Rattle.early_verdict.proofs.WindowLemmas.{on_good}
 use Rattle.early_verdict.proofs.StepLemmas.{gains_of, grown_then}

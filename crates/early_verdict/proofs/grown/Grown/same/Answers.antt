@@ -1,4 +1,4 @@
-use Rattle.std.proofs.Common.{◌≡◌, subst}
+use Rattle.std.proofs.Common.{subst}
 use Rattle.early_verdict.specs.Spans.{Grows, Lies}
 use Rattle.early_verdict.specs.Steps.{BySome}
 use Rattle.early_verdict.proofs.WindowLemmas.{on_good}

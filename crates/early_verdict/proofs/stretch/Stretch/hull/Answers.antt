@@ -1,4 +1,4 @@
-use Rattle.std.proofs.Common.{◌≡◌, ◌⊎◌, inl, inr, subst, sym, ◌^◌}
+use Rattle.std.proofs.Common.{inl, inr, subst, sym, ◌^◌}
 use Rattle.rational.specs.Rational.{IsWithin}
 use Rattle.frac128.specs.Value.{value}
 use Rattle.early_verdict.specs.Cuts.{place}

@@ -1,4 +1,4 @@
-use Rattle.std.proofs.Common.{◌≤◌, ◌^◌, true, false, subst, ℤ, lit≤}
+use Rattle.std.proofs.Common.{◌^◌, true, false, subst, ℤ, lit≤}
 use Rattle.std.specs.Int.{w64}
 use Rattle.std.proofs.lemmas.Int.{to_z-of_z}
 use Rattle.rational.specs.Rational.{whole}

@@ -1,5 +1,5 @@
 use Rattle.std.proofs.Common.{◌≡◌, ◌≤◌, ◌^◌, ◌⊎◌, Bool, true, false, not, refl, sym, subst, to_z, of_z}
-use Rattle.std.specs.Prelude.{IfSome, IsTrue, IsFalse, unsigned_abs, ◌<ℤ◌, ◌↔◌}
+use Rattle.std.specs.Prelude.{IfSome, IsTrue, IsFalse, unsigned_abs, ◌<ℤ◌}
 use Rattle.std.specs.Int.{w64}
 use Rattle.early_verdict.specs.Bounds.{reach_of}
 use Rattle.early_verdict.specs.Cuts.{After, Before}

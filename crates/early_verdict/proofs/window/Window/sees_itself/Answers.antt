@@ -1,6 +1,5 @@
-use Rattle.std.proofs.Common.{◌≡◌, ◌≤◌, ◌^◌, ◌⊎◌, true, false, sym, subst, ℤ, pos, to_z, of_z}
+use Rattle.std.proofs.Common.{◌≡◌, ◌≤◌, ◌^◌, ◌⊎◌, true, sym, subst, ℤ, pos}
 use Rattle.std.specs.Prelude.{IfSome, IsTrue, unsigned_abs, ◌<ℤ◌}
-use Rattle.std.specs.Int.{w64}
 use Rattle.early_verdict.specs.Bounds.{reach_of}
 use Rattle.early_verdict.specs.Cuts.{After}
 use Rattle.early_verdict.specs.Windows.{low_place}

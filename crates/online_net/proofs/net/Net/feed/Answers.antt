@@ -35,25 +35,25 @@ invariant_of-self-2 c running =
       w.0,
       w.1,
       w.2 ++ row c.args.row.now ∷ [],
-      with_row net w.0 w.1 (w.2 ++ row c.args.row.now ∷ []) c.put_row.new.edges c.args.row.now c.in-Ok.kept
-          c.in-Ok.ensures.kept (fed_stands w.0 w.1 w.2 net w.3 c.args.row.now
+      with_row net w.0 w.1 (w.2 ++ row c.args.row.now ∷ []) c.put_row.new.edges c.args.row.now c.in-Ok-copy.kept
+          c.in-Ok-copy.ensures (fed_stands w.0 w.1 w.2 net w.3 c.args.row.now
           (row_may w.0 w.1 w.2 net w.3 c.args.row.now c.if-self-2.false
           (subst (λ (p : Parts). IfSome p.last (λ q. q.time < c.args.row.now.time)) (sym c.self.view_is) c.requires.later)
           (subst (λ (p : Parts). length c.args.row.now.values ≡ p.bound.width) (sym c.self.view_is) c.requires.width))
           c.put_row.new.edges
           (subst (λ l. HasPutAtoms c.self.inside.bound c.self.inside.last c.args.row.now l (length l)
-          (begun c.self.inside.edges c.self.inside.last c.args.row.now) c.put_row.new.edges) c.deref.ensures.value c.in-Ok.ensures.put)),
+          (begun c.self.inside.edges c.self.inside.last c.args.row.now) c.put_row.new.edges) c.deref.ensures.value c.in-Ok.ensures)),
     )
 
 pub returns-clause-stands : goal.returns-clause-stands
 returns-clause-stands c nodes header events st =
     let net : Parts = the_view c.self.inside in
     let now : Stands nodes header net events = (subst (λ (p : Parts). Stands nodes header p events) (sym c.self.view_is) st) in
-    with_row net nodes header (events ++ row c.args.row.now ∷ []) c.put_row.new.edges c.args.row.now c.in-Ok.kept c.in-Ok.ensures.kept
+    with_row net nodes header (events ++ row c.args.row.now ∷ []) c.put_row.new.edges c.args.row.now c.in-Ok-copy.kept c.in-Ok-copy.ensures
     (fed_stands nodes header events net now c.args.row.now
     (row_may nodes header events net now c.args.row.now c.if-self-2.false
     (subst (λ (p : Parts). IfSome p.last (λ q. q.time < c.args.row.now.time)) (sym c.self.view_is) c.requires.later)
     (subst (λ (p : Parts). length c.args.row.now.values ≡ p.bound.width) (sym c.self.view_is) c.requires.width))
     c.put_row.new.edges
     (subst (λ l. HasPutAtoms c.self.inside.bound c.self.inside.last c.args.row.now l (length l) (begun c.self.inside.edges c.self.inside.last c.args.row.now)
-    c.put_row.new.edges) c.deref.ensures.value c.in-Ok.ensures.put))
+    c.put_row.new.edges) c.deref.ensures.value c.in-Ok.ensures))

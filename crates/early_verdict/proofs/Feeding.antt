@@ -1,0 +1,94 @@
+-- An early verdict goes on with a row.
+use Rattle.std.proofs.Common.{◌≡◌, refl, sym, ap, subst, ◌∙◌, ℕ, ◌<◌, Bool, true, false, Option, Some, None, List, [], ◌∷◌, ◌++◌, length}
+use Rattle.std.specs.Prelude.{IfSome, IsSome, is_some}
+use Rattle.stl_syntax.specs.Trace.{Header, Row}
+use Rattle.stl_syntax.specs.Formula.{Formula, root}
+use Rattle.stl_syntax.specs.WellFormed.{AreWellFormed}
+use Rattle.atom_lines.specs.Binding.{Binding, IsBound}
+use Rattle.stl_syntax.specs.declared.node.Node.{Node}
+use Rattle.early_verdict.specs.Standing.{AllTidy}
+use Rattle.early_verdict.specs.Deciding.{Kept, IsAnswer, IsVerdict, SetsAre, Stands, decided_by, last_of}
+use Rattle.early_verdict.specs.declared.sets.Sets.{Sets}
+use Rattle.early_verdict.specs.declared.early.Decided.{Decided}
+use Rattle.early_verdict.proofs.DecideLemmas.{none_first}
+use Rattle.early_verdict.proofs.StandingOn.{bound_any, decided_now, fed_answer, fed_stands, passed_answer, passed_stands}
+
+-- nothing is taken yet
+pub fresh : (b : Binding) (f : Formula) (header : Header) → AreWellFormed f.nodes → 0 < length f.nodes → IsBound b f header
+    → Stands (record { nodes = f.nodes; header = header; bound = b; sets = []; begin = 0; last = None; decided = None; ended = false; stopped = false }) [] false
+fresh b f header formed some bound = record {
+  formed = formed;
+  some = some;
+  scale = f.scale;
+  bound = bound_any b f (record { nodes = f.nodes; scale = f.scale }) header refl bound;
+  so_far = tt;
+  running = refl;
+  is_ended = refl;
+  last = refl;
+  by = (none_first (root f.nodes) header, λ e. refl);
+}
+
+pub none_if : {A : Type 0} (o : Option A) → is_some o ≡ false → o ≡ None
+none_if None e = refl
+none_if (Some x) e = absurd (let f : true ≡ false = e in cc)
+
+pub some_if : {A : Type 0} (o : Option A) → is_some o ≡ true → (x : A) × (o ≡ Some x)
+some_if None e = absurd (let f : false ≡ true = e in cc)
+some_if (Some x) e = (x, refl)
+
+-- a row while nothing is decided
+pub fed_by : (x : Kept) (rows : List Row) (r kept : Row) (begin : ℕ) (sets left : List Sets) (verdict : Option Bool) (decided : Option Decided)
+    → Stands x rows false → x.decided ≡ None → length r.values ≡ x.bound.width → IfSome x.last (λ q. q.time < r.time)
+    → SetsAre x.nodes x.header begin sets (rows ++ r ∷ []) → IsVerdict sets begin verdict → (decided ≡ None → left ≡ sets) → kept ≡ r
+    → decided ≡ decided_now r.time verdict
+    → Stands (record x { sets = left; begin = begin; last = Some kept; decided = decided }) (rows ++ r ∷ []) false × IsAnswer (root x.nodes) x.header rows r decided
+fed_by x rows r kept begin sets left verdict decided st none width later are v let_go same is =
+    let go : decided_now r.time verdict ≡ None → left ≡ sets = λ e. let_go (is ∙ e) in (
+      subst (λ k. Stands (record x { sets = left; begin = begin; last = Some k; decided = decided }) (rows ++ r ∷ []) false) (sym same)
+          (subst (λ d. Stands (record x { sets = left; begin = begin; last = Some r; decided = d }) (rows ++ r ∷ []) false) (sym is)
+          (fed_stands x rows st none r width later begin sets left are verdict v go)),
+      subst (λ d. IsAnswer (root x.nodes) x.header rows r d) (sym is) (fed_answer x rows st none r width later begin sets left are verdict v go),
+    )
+
+-- a row after the one that decided
+pub passed_by : (x : Kept) (rows : List Row) (r kept : Row) → Stands x rows false → is_some x.decided ≡ true → length r.values ≡ x.bound.width
+    → IfSome x.last (λ q. q.time < r.time) → kept ≡ r
+    → Stands (record x { last = Some kept }) (rows ++ r ∷ []) false × IsAnswer (root x.nodes) x.header rows r None
+passed_by x rows r kept st some width later same =
+    let d = some_if x.decided some in (
+      subst (λ k. Stands (record x { last = Some k }) (rows ++ r ∷ []) false) (sym same) (passed_stands x rows st d.0 d.1 r width later),
+      passed_answer x rows st d.0 d.1 r,
+    )
+
+-- what is decided once a row has come
+pub by_now : (o now : Option Decided) → o ≡ None → now ≡ decided_by o now
+by_now o now e = subst (λ x. now ≡ decided_by x now) (sym e) refl
+
+pub by_then : (o now : Option Decided) → is_some o ≡ true → o ≡ decided_by o now
+by_then None now e = absurd (let f : false ≡ true = e in cc)
+by_then (Some d) now e = refl
+
+-- not ended yet, as the caller sees it
+pub unended : (x y : Kept) (rows : List Row) → x ≡ y → y.ended ≡ false → Stands x rows x.ended → Stands x rows false
+unended x y rows e o st = subst (λ b. Stands x rows b) (ap (λ (z : Kept). z.ended) e ∙ o) st
+
+pub as_ended : (x : Kept) (rows : List Row) (b : Bool) → Stands x rows b → Stands x rows x.ended
+as_ended x rows b st = subst (λ c. Stands x rows c) (sym st.is_ended) st
+
+pub sets_tidy : (nodes : List Node) (header : Header) (begin : ℕ) (sets : List Sets) (rows : List Row) (x : Row) → SetsAre nodes header begin sets (rows ++ x ∷ []) → AllTidy sets
+sets_tidy nodes header begin sets [] x s = s.1.tidy
+sets_tidy nodes header begin sets (r ∷ rows) x s = s.1.tidy
+
+pub some_sets : (nodes : List Node) (header : Header) (begin : ℕ) (sets : List Sets) (rows : List Row) (x : Row) → SetsAre nodes header begin sets (rows ++ x ∷ []) → 0 < length nodes
+    → 0 < length sets
+some_sets nodes header begin sets [] x s some = subst (λ n. 0 < n) (sym s.1.have.count) some
+some_sets nodes header begin sets (r ∷ rows) x s some = subst (λ n. 0 < n) (sym s.1.have.count) some
+
+none_has : (o : Option Row) → o ≡ None → IsSome o → ⊥
+none_has None e s = let f : false ≡ true = s in cc
+none_has (Some x) e s = let f : Some x ≡ None = e in cc
+
+-- rows that have a last one
+pub fed_rows : (rows : List Row) (last : Option Row) → last ≡ last_of rows → IsSome last → (r : Row) × (more : List Row) × (rows ≡ r ∷ more)
+fed_rows [] last e s = absurd (none_has last e s)
+fed_rows (r ∷ rows) last e s = (r, rows, refl)

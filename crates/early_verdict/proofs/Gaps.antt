@@ -1,0 +1,165 @@
+-- Gaps right beside a stretch of a list, and what a list has between two places.
+use Rattle.std.proofs.Common.{◌⊎◌, inl, inr, sym, subst, List, [], ◌∷◌}
+use Rattle.rational.specs.Time.{Rational, ◌≤ʳ◌}
+use Rattle.rational.proofs.Order.{le_of_same, ge_of_same}
+use Rattle.rational.specs.Rational.{◌≈◌}
+use Rattle.early_verdict.specs.Cuts.{Place, place, After, Upto, Before}
+use Rattle.early_verdict.specs.Spans.{IsOn, IsAmong, AreTidy}
+use Rattle.early_verdict.specs.Steps.{HoldsFrom}
+use Rattle.early_verdict.specs.declared.stretch.Stretch.{Stretch}
+use Rattle.early_verdict.proofs.PlaceLemmas.{sides, not_both, between, share, before_trans, before_through, upto_of_before, after_of_before, at_most_of_not_before}
+use Rattle.early_verdict.proofs.MakingLemmas.{after_from}
+use Rattle.early_verdict.proofs.StretchLemmas.{rises}
+use Rattle.early_verdict.proofs.SpanLemmas.{rest_after}
+use Rattle.early_verdict.proofs.RunLemmas.{
+  le_through,
+  upto_le,
+  after_le,
+  later_before,
+  earlier_after,
+  among_after,
+  gap_before,
+  gap_after,
+  one_of,
+  on_one,
+  decided,
+  decided_both,
+  decided_not,
+  decided_among,
+}
+
+-- right after a stretch of the list there is a gap, up to some time before a place
+pub gap_next : (xs : List Stretch) (p : Stretch) (c : Place) → AreTidy xs → IsAmong p xs → Before (place p.to) c
+    → (v : Rational) × After (place p.to) v × Upto c v × ((y : Rational) → After (place p.to) y → y ≤ʳ v → ¬ (IsOn xs y))
+gap_next [] p c h m b = absurd m
+gap_next (x ∷ []) p c h (inl e) b =
+    let t = between (place p.to) c b in (
+      t.0,
+      t.1,
+      t.2,
+      λ y a l o. elim o [ inl k ↦ not_both (place x.to) y k.1 (subst (λ s. After (place s.to) y) e a) | inr r ↦ absurd r ],
+    )
+gap_next (x ∷ r ∷ xs) p c h (inl e) b =
+    let k = earlier_after c (place r.from) (place p.to) b (subst (λ s. Before (place s.to) (place r.from)) (sym e) h.0) in
+    let t = between (place p.to) k.0 k.1 in
+    let u = (k.2 t.0 t.2).1 in (
+      t.0,
+      t.1,
+      (k.2 t.0 t.2).0,
+      λ y a l o. elim o [
+        | inl i ↦ not_both (place x.to) y i.1 (subst (λ s. After (place s.to) y) e a)
+        | inr q ↦ elim q [
+          | inl i ↦ not_both (place r.from) y (upto_le (place r.from) y t.0 l u) i.0
+          | inr i ↦ not_both (place r.to) y (upto_of_before (place r.from) (place r.to) y (rises r) (upto_le (place r.from) y t.0 l u))
+              (rest_after (place r.to) xs y h.1.1 h.1.0 i)
+        ]
+      ],
+    )
+gap_next (x ∷ xs) p c h (inr m) b =
+    let g = gap_next xs p c h.1 m b in
+    let k = before_trans (place x.to) (place p.from) (place p.to) (among_after (place x.to) xs p h.0 h.1 m) (rises p) in (
+      g.0,
+      g.1,
+      g.2,
+      λ y a l o. elim o [ inl i ↦ not_both (place x.to) y i.1 (after_of_before (place x.to) (place p.to) y k a) | inr r ↦ g.3 y a l r ],
+    )
+
+-- and right before it, from some time after a place on
+pub gap_last : (xs : List Stretch) (p : Stretch) (c : Place) → AreTidy xs → IsAmong p xs → Before c (place p.from)
+    → (v : Rational) × After c v × Upto (place p.from) v × ((y : Rational) → v ≤ʳ y → Upto (place p.from) y → ¬ (IsOn xs y))
+gap_last [] p c h m b = absurd m
+gap_last (x ∷ xs) p c h (inl e) b =
+    let t = between c (place p.from) b in (
+      t.0,
+      t.1,
+      t.2,
+      λ y l u o.
+          let w : Upto (place x.from) y = subst (λ s. Upto (place s.from) y) e u in
+          elim o [
+            | inl i ↦ not_both (place x.from) y w i.0
+            | inr r ↦ not_both (place x.to) y (upto_of_before (place x.from) (place x.to) y (rises x) w) (rest_after (place x.to) xs y h.1 h.0 r)
+          ],
+    )
+gap_last (x ∷ xs) p c h (inr m) b =
+    let k = later_before c (place x.to) (place p.from) b (among_after (place x.to) xs p h.0 h.1 m) in
+    let g = gap_last xs p k.0 h.1 m k.1 in (
+      g.0,
+      (k.2 g.0 g.1).0,
+      g.2,
+      λ y l u o. elim o [ inl i ↦ not_both (place x.to) y i.1 (k.2 y (after_le k.0 g.0 y l g.1)).1 | inr r ↦ g.3 y l u r ],
+    )
+
+-- the list has some time between two places, or none
+pub meets : (c d : Place) (xs : List Stretch)
+    → ((u : Rational) × IsOn xs u × After c u × Upto d u) ⊎ ((u : Rational) → IsOn xs u → After c u → Upto d u → ⊥)
+meets c d [] = inr (λ u o a b. o)
+meets c d (x ∷ xs) = elim (meets c d xs) [
+  | inl m ↦ inl (m.0, inr m.1, m.2, m.3)
+  | inr n ↦ by_first n (decided c d) (decided c (place x.to)) (decided (place x.from) d)
+]
+  where
+    by_first : ((u : Rational) → IsOn xs u → After c u → Upto d u → ⊥) → Before c d ⊎ ¬ (Before c d) → Before c (place x.to) ⊎ ¬ (Before c (place x.to))
+        → Before (place x.from) d ⊎ ¬ (Before (place x.from) d)
+        → ((u : Rational) × IsOn (x ∷ xs) u × After c u × Upto d u) ⊎ ((u : Rational) → IsOn (x ∷ xs) u → After c u → Upto d u → ⊥)
+    by_first n (inl b) (inl e) (inl f) =
+        let s = share c d (place x.from) (place x.to) b (rises x) e f in inl (s.0, inl (s.3, s.4), s.1, s.2)
+    by_first n (inr b) e f = inr (λ u o k l. b (before_through c d u k l))
+    by_first n (inl b) (inr e) f = inr (λ u o k l. elim o [ inl i ↦ e (before_through c (place x.to) u k i.1) | inr r ↦ n u r k l ])
+    by_first n (inl b) (inl e) (inr f) = inr (λ u o k l. elim o [ inl i ↦ f (before_through (place x.from) d u i.0 l) | inr r ↦ n u r k l ])
+
+decided_from : (p : Stretch) (c : Place) → HoldsFrom p c ⊎ ¬ (HoldsFrom p c)
+decided_from p c = decided_both (¬ (Before c (place p.from))) (Before c (place p.to)) (decided_not (Before c (place p.from)) (decided c (place p.from)))
+    (decided c (place p.to))
+
+-- the list has each time between two places, or some is missing
+pub covers : (c d : Place) (xs : List Stretch) → AreTidy xs
+    → ((u : Rational) → After c u → Upto d u → IsOn xs u) ⊎ ((u : Rational) × After c u × Upto d u × ¬ (IsOn xs u))
+covers c d xs tidy = by_order (decided c d)
+  where
+    by_end : (p : Stretch) → IsAmong p xs → HoldsFrom p c → Before (place p.to) d ⊎ ¬ (Before (place p.to) d)
+        → ((u : Rational) → After c u → Upto d u → IsOn xs u) ⊎ ((u : Rational) × After c u × Upto d u × ¬ (IsOn xs u))
+    by_end p m k (inl b) =
+        let g = gap_after xs p d tidy m b in inr (g.0, after_of_before c (place p.to) g.0 k.1 g.1, g.2, g.3)
+    by_end p m k (inr n) = inl (λ u a e. on_one xs p u m (
+      after_from (place p.from) c u (at_most_of_not_before (place p.from) c k.0) a,
+      at_most_of_not_before d (place p.to) n u e,
+    ))
+
+    -- no stretch holds the times right after the place
+    by_none : ¬ ((p : Stretch) × IsAmong p xs × HoldsFrom p c) → Before c d
+        → ((u : Rational) × IsOn xs u × After c u × Upto d u) ⊎ ((u : Rational) → IsOn xs u → After c u → Upto d u → ⊥)
+        → ((u : Rational) → After c u → Upto d u → IsOn xs u) ⊎ ((u : Rational) × After c u × Upto d u × ¬ (IsOn xs u))
+    by_none n b (inr none) = let t = between c d b in inr (t.0, t.1, t.2, λ o. none t.0 o t.1 t.2)
+    by_none n b (inl (u, o, a, e)) =
+        let p = one_of xs u o in
+        elim (decided c (place (p.0).from)) [
+          | inl k ↦ let g = gap_before xs p.0 c tidy p.1 k in inr (g.0, g.1, upto_le d g.0 u (le_through (place (p.0).from) g.0 u g.2 p.2.0) e, g.3)
+          | inr k ↦ absurd (n (p.0, p.1, (k, before_through c (place (p.0).to) u a p.2.1)))
+        ]
+
+    by_order : Before c d ⊎ ¬ (Before c d) → ((u : Rational) → After c u → Upto d u → IsOn xs u) ⊎ ((u : Rational) × After c u × Upto d u × ¬ (IsOn xs u))
+    by_order (inr n) = inl (λ u a e. absurd (n (before_through c d u a e)))
+    by_order (inl b) = elim (decided_among (λ p. HoldsFrom p c) (λ p. decided_from p c) xs) [
+      | inl (p, m, k) ↦ by_end p m k (decided (place p.to) d)
+      | inr n ↦ by_none n b (meets c d xs)
+    ]
+
+-- the list has a time or not
+pub decided_on : (xs : List Stretch) (t : Rational) → IsOn xs t ⊎ ¬ (IsOn xs t)
+decided_on [] t = inr (λ h. h)
+decided_on (x ∷ xs) t = elim (decided_on xs t) [
+  | inl o ↦ inl (inr o)
+  | inr n ↦ by_first n (sides (place x.from) t) (sides (place x.to) t)
+]
+  where
+    by_first : ¬ (IsOn xs t) → Upto (place x.from) t ⊎ After (place x.from) t → Upto (place x.to) t ⊎ After (place x.to) t
+        → IsOn (x ∷ xs) t ⊎ ¬ (IsOn (x ∷ xs) t)
+    by_first n (inr a) (inl u) = inl (inl (a, u))
+    by_first n (inl u) e = inr (λ o. elim o [ inl i ↦ not_both (place x.from) t u i.0 | inr r ↦ n r ])
+    by_first n (inr a) (inr e) = inr (λ o. elim o [ inl i ↦ not_both (place x.to) t i.1 e | inr r ↦ n r ])
+
+-- a list has a time by whatever pair it is written
+pub on_same : (xs : List Stretch) (t u : Rational) → t ≈ u → IsOn xs t → IsOn xs u
+on_same xs t u s o =
+    let p = one_of xs t o in
+    on_one xs p.0 u p.1 (after_le (place (p.0).from) t u (le_of_same s) p.2.0, upto_le (place (p.0).to) u t (ge_of_same s) p.2.1)

@@ -1,0 +1,83 @@
+-- What is known while nothing is decided.
+use Rattle.std.proofs.Common.{◌≡◌, refl, sym, ap, subst, ◌∙◌, ℕ, ◌<◌, Bool, true, Option, Some, None, List, [], ◌∷◌, ◌++◌, length, take, drop}
+use Rattle.std.specs.Prelude.{IfSome}
+use Rattle.stl_syntax.specs.Trace.{Header, Row, Trace, AreRows, row_time, start}
+use Rattle.stl_syntax.specs.Formula.{Formula, root}
+use Rattle.atom_lines.specs.Binding.{Binding}
+use Rattle.early_verdict.specs.Standing.{AllFit, AllGo, AllWere, HaveSets, SteppedTo}
+use Rattle.early_verdict.specs.Happening.{Happens}
+use Rattle.early_verdict.specs.Deciding.{IsOpen, IsTruthAtStart, IsVerdict, SetsStand, last_after, last_of, trace_of}
+use Rattle.early_verdict.specs.declared.event.Event.{Event}
+use Rattle.early_verdict.specs.declared.sets.Sets.{Sets}
+use Rattle.early_verdict.proofs.GoingOn.{end_fit}
+use Rattle.early_verdict.proofs.Having.{have_still, tidy_still}
+use Rattle.early_verdict.proofs.DecideLemmas.{some_truth, truth_of}
+use Rattle.early_verdict.proofs.StandingOn.{rise_of}
+
+-- what is written back of as many sets is these
+pub sets_written : (new items : List Sets) (len : ℕ) → length new ≡ len → new ≡ take len (new ++ drop (length new) items)
+sets_written new items len e = subst (λ k. new ≡ take k (new ++ drop (length new) items)) e (sym (front new (drop (length new) items)))
+  where
+    front : (xs ys : List Sets) → take (length xs) (xs ++ ys) ≡ xs
+    front [] ys = refl
+    front (x ∷ xs) ys = ap (λ zs. x ∷ zs) (front xs ys)
+
+pub same_row : (a b : Row) → Some a ≡ Some b → a ≡ b
+same_row a b e = cc
+
+last_width : (width : ℕ) (r : Row) (rows : List Row) → AreRows width (r ∷ rows) → length (last_after r rows).values ≡ width
+last_width width r [] h = h.0
+last_width width r (x ∷ rows) h = last_width width x rows (h.1.1, h.1.2)
+
+-- the last row has the columns of the atoms
+pub last_wide : (f : Formula) (b : Binding) (header : Header) (r : Row) (rows : List Row) (begin : ℕ) (last : Option Row) (sets : List Sets)
+    → IsOpen f b header (r ∷ rows) begin last sets → IfSome last (λ q. length q.values ≡ b.width)
+last_wide f b header r rows begin last sets o =
+    subst (λ x. IfSome x (λ q. length q.values ≡ b.width)) (sym o.ends) (last_width (length header.columns) r rows o.so_far ∙ sym o.bound.width)
+
+-- a row after the last
+pub after_last : (r : Row) (rows : List Row) (last : Option Row) (x : Row) → last ≡ Some (last_after r rows) → IfSome last (λ q. q.time < x.time) → (last_after r rows).time < x.time
+after_last r rows last x e h = subst (λ o. IfSome o (λ q. q.time < x.time)) e h
+
+-- no rows, no last
+pub none_rows : (rows : List Row) → last_of rows ≡ None → rows ≡ []
+none_rows [] e = refl
+none_rows (r ∷ rows) e = absurd (let f : Some (last_after r rows) ≡ None = e in cc)
+
+pub some_rows : (rows : List Row) (q : Row) → last_of rows ≡ Some q → (r : Row) × (more : List Row) × (rows ≡ r ∷ more)
+some_rows [] q e = absurd (let f : None ≡ Some q = e in cc)
+some_rows (r ∷ rows) q e = (r, rows, refl)
+
+-- before the first row
+pub open_first : (f : Formula) (b : Binding) (header : Header) (rows : List Row) (begin : ℕ) (last : Option Row) (sets : List Sets)
+    → last ≡ None → IsOpen f b header rows begin last sets → (rows ≡ []) × IsOpen f b header [] 0 None sets
+open_first f b header rows begin last sets none o = by_rows rows (none_rows rows (sym o.ends ∙ none)) o
+  where
+    by_rows : (l : List Row) → l ≡ [] → IsOpen f b header l begin last sets → (l ≡ []) × IsOpen f b header [] 0 None sets
+    by_rows [] e o = (refl, record { bound = o.bound; formed = o.formed; some = o.some; so_far = tt; ends = refl; sets_are = o.sets_are })
+    by_rows (r ∷ l) e o = absurd (let f : r ∷ l ≡ [] = e in cc)
+
+-- after others
+pub open_next : (f : Formula) (b : Binding) (header : Header) (rows : List Row) (begin : ℕ) (last : Option Row) (sets : List Sets) (q : Row)
+    → last ≡ Some q → IsOpen f b header rows begin last sets → (r : Row) × (more : List Row) × (rows ≡ r ∷ more) × IsOpen f b header (r ∷ more) begin last sets
+open_next f b header rows begin last sets q some o =
+    let w = some_rows rows q (sym o.ends ∙ some) in (w.0, w.1, w.2, subst (λ l. IsOpen f b header l begin last sets) w.2 o)
+
+-- once the input has ended, what the root says is the truth
+module _ (f : Formula) (b : Binding) (header : Header) (r : Row) (rows : List Row) (begin : ℕ) (before : Option Row) (sets new : List Sets)
+    (o : IsOpen f b header (r ∷ rows) begin before sets) (last : Row) (e : Event) (ended : e.ended ≡ true)
+    (happens : Happens e (Some (trace_of header (r ∷ rows))) (trace_of header (r ∷ rows))) (stepped : SteppedTo (length f.nodes) sets new)
+    (fits : (old : Option Trace) (tr : Trace) (tops : List ℕ) → Happens e old tr → HaveSets f.nodes (start tr) tops sets → AllGo f.nodes b e old tr None last
+    → AllWere old f.nodes sets → AllFit f.nodes e.ended tr new) where
+  stand : SetsStand f.nodes (trace_of header (r ∷ rows)) sets
+  stand = o.sets_are.1
+
+  pub end_truth : (holds : Bool) → IsVerdict new begin (Some holds) → IsTruthAtStart (root f.nodes) (trace_of header (r ∷ rows)) holds
+  end_truth holds v = truth_of f.nodes header r rows new stand.tops o.formed o.some (have_still f.nodes (row_time r) stand.tops sets new stepped stand.have)
+      (tidy_still f.nodes (row_time r) stand.tops sets new stepped stand.have) (end_fit b f header r rows last e sets new o.bound o.so_far ended happens stand fits)
+      (rise_of header r rows o.so_far) holds (subst (λ k. IsVerdict new k (Some holds)) o.sets_are.0 v)
+
+  pub end_some : IsVerdict new begin None → ⊥
+  end_some v = some_truth f.nodes header r rows new stand.tops o.formed o.some (have_still f.nodes (row_time r) stand.tops sets new stepped stand.have)
+      (tidy_still f.nodes (row_time r) stand.tops sets new stepped stand.have) (end_fit b f header r rows last e sets new o.bound o.so_far ended happens stand fits)
+      (rise_of header r rows o.so_far) (subst (λ k. IsVerdict new k None) o.sets_are.0 v)

@@ -1,0 +1,49 @@
+-- A list of sets that is split at a place, and what is put there.
+use Rattle.std.proofs.Common.{◌≡◌, refl, sym, ap, subst, ◌∙◌, ℕ, zero, suc, ◌<◌, Some, List, [], ◌∷◌, ◌++◌, length, take, drop, Result, Ok, Err, OnOk, arith}
+use Rattle.std.specs.Prelude.{slice_get, slice_set, slice_index_or}
+use Rattle.early_verdict.specs.Fitting.{HasStepped}
+use Rattle.early_verdict.specs.Standing.{AllTidy, StepsAt}
+use Rattle.early_verdict.specs.declared.sets.Sets.{Sets}
+use Rattle.early_verdict.proofs.Places.{put, put_here, put_there, put_count, put_joined, taken_at, taken_within}
+
+-- the first of those from a place on stands there
+pub at_drop : (sets : List Sets) (i : ℕ) (d : Sets) → i < length sets → slice_get sets i ≡ Some (slice_index_or (drop i sets) 0 d)
+at_drop [] i d h = absurd (omega (arith, h))
+at_drop (x ∷ xs) zero d h = refl
+at_drop (x ∷ xs) (suc i) d h = at_drop xs i d (omega (arith, h))
+
+pub at_split : (sets back : List Sets) (i : ℕ) (d : Sets) → back ≡ drop i sets → i < length sets → slice_get sets i ≡ Some (slice_index_or back 0 d)
+at_split sets back i d e h = subst (λ xs. slice_get sets i ≡ Some (slice_index_or xs 0 d)) (sym e) (at_drop sets i d h)
+
+pub front_tidy : (sets front : List Sets) (i : ℕ) → front ≡ take i sets → AllTidy sets → AllTidy front
+front_tidy sets front i e h j s is =
+    let f = subst (λ xs. slice_get xs j ≡ Some s) e is in
+    h j s (sym (taken_at sets i j (taken_within sets i j s f)) ∙ f)
+
+pub joined_is : (sets front back : List Sets) (i : ℕ) (own : Sets) → front ≡ take i sets → back ≡ drop i sets → i < length sets
+    → front ++ slice_set back 0 own ≡ put sets i own
+joined_is sets front back i own e f h =
+    ap (λ xs. xs ++ slice_set back 0 own) e ∙ ap (λ xs. take i sets ++ slice_set xs 0 own) f ∙ put_joined sets i own h
+
+-- one place stepped
+abbrev pub steps_at : (sets front back : List Sets) (i : ℕ) (d own : Sets) → front ≡ take i sets → back ≡ drop i sets → i < length sets
+    → HasStepped (slice_index_or back 0 d) own → StepsAt i sets (front ++ slice_set back 0 own)
+steps_at sets front back i d own e f h step = record {
+  was = slice_index_or back 0 d;
+  is = own;
+  at_old = at_split sets back i d f h;
+  at_new = subst (λ xs. slice_get xs i ≡ Some own) (sym (joined_is sets front back i own e f h)) (put_here sets i own h);
+  others = λ j n. subst (λ xs. slice_get xs j ≡ slice_get sets j) (sym (joined_is sets front back i own e f h)) (put_there sets i j own n);
+  count = subst (λ xs. length xs ≡ length sets) (sym (joined_is sets front back i own e f h)) (put_count sets i own);
+  stepped = step;
+}
+
+-- of two facts for one answer, a third
+pub on_two : {T E : Type 0} (r : Result T E) {P Q R : Type 0} → OnOk r P → OnOk r Q → (P → Q → R) → OnOk r R
+on_two (Ok x) p q f = f p q
+on_two (Err e) p q f = tt
+
+pub length_front : (sets : List Sets) (i : ℕ) → i < length sets → length (take i sets) ≡ i
+length_front [] i h = absurd (omega (arith, h))
+length_front (x ∷ xs) zero h = refl
+length_front (x ∷ xs) (suc i) h = ap suc (length_front xs i (omega (arith, h)))

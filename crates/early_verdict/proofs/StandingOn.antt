@@ -1,0 +1,185 @@
+-- What an early verdict stands for goes on with a row, and to the end.
+use Rattle.std.proofs.Common.{◌≡◌, refl, sym, ap, subst, ◌∙◌, ℕ, ◌<◌, Bool, true, false, Option, Some, None, List, [], ◌∷◌, ◌++◌, length, arith}
+use Rattle.std.specs.Prelude.{MatchOption, IfSome, option_map, IsSome, slice_get}
+use Rattle.rational.specs.Time.{◌≤ʳ◌}
+use Rattle.stl_syntax.specs.Trace.{Header, Row, AreRows, row_time, stop}
+use Rattle.stl_syntax.specs.Formula.{Formula, root}
+use Rattle.stl_syntax.specs.Early.{Decides, NoneDecides, FirstDecides}
+use Rattle.stl_syntax.specs.WellFormed.{AreWellFormed}
+use Rattle.stl_syntax.specs.declared.node.Node.{Node}
+use Rattle.stl_syntax.specs.declared.node.Node.TheVariants.{Atom as Leaf}
+use Rattle.stl_syntax.proofs.LawProofs.{last_from}
+use Rattle.atom_lines.specs.Binding.{Binding, IsBound}
+use Rattle.early_verdict.specs.Deciding.{Kept, AreRowsSoFar, IsAnswer, IsOpen, IsTruthAtStart, IsVerdict, SetsAre, Stands, StandsBy, WasDecided, last_of, trace_of}
+use Rattle.early_verdict.specs.declared.sets.Sets.{Sets}
+use Rattle.early_verdict.specs.declared.early.Decided.{Decided}
+use Rattle.early_verdict.proofs.DecideLemmas.{decided_of, decided_truth, none_more, not_again, still_decided}
+use Rattle.early_verdict.proofs.RowLemmas.{last_row_pushed, rows_pushed}
+
+pub bound_any : (b : Binding) (f g : Formula) (h : Header) → f.nodes ≡ g.nodes → IsBound b f h → IsBound b g h
+bound_any b f g h e k = record { width = k.width; atoms = λ i a at. k.atoms i a (subst (λ l. slice_get l i ≡ Some (Leaf a)) (sym e) at) }
+
+-- while nothing is decided it is open
+pub open_of : (x : Kept) (f : Formula) (rows : List Row) → x.nodes ≡ f.nodes → Stands x rows false → x.decided ≡ None → IsOpen f x.bound x.header rows x.begin x.last x.sets
+open_of x f rows e s none = record {
+  bound = bound_any x.bound (record { nodes = x.nodes; scale = s.scale }) f x.header e s.bound;
+  formed = subst (λ l. AreWellFormed l) e s.formed;
+  some = subst (λ l. 0 < length l) e s.some;
+  so_far = s.so_far;
+  ends = s.last;
+  sets_are = subst (λ l. SetsAre l x.header x.begin x.sets rows) e (by_none x.decided none s.by);
+}
+  where
+    by_none : (d : Option Decided) → d ≡ None
+        → MatchOption d (NoneDecides (root x.nodes) x.header rows × (x.ended ≡ false → SetsAre x.nodes x.header x.begin x.sets rows)) (WasDecided (root x.nodes) x.header rows)
+        → SetsAre x.nodes x.header x.begin x.sets rows
+    by_none None n h = h.1 s.is_ended
+    by_none (Some d) n h = absurd (let f : Some d ≡ None = n in cc)
+
+-- rows with one more
+rows_on : (width : ℕ) (rows : List Row) (last : Option Row) (x : Row) → AreRowsSoFar width rows → last ≡ last_of rows → IfSome last (λ r. r.time < x.time) → length x.values ≡ width
+    → AreRowsSoFar width (rows ++ x ∷ [])
+rows_on width [] last x ok e l w = (w, tt)
+rows_on width (r ∷ rows) last x ok e l w = rows_pushed width r rows x ok (subst (λ o. IfSome o (λ r. r.time < x.time)) e l) w
+
+last_on : (rows : List Row) (x : Row) → Some x ≡ last_of (rows ++ x ∷ [])
+last_on [] x = refl
+last_on (r ∷ rows) x = ap Some (sym (last_row_pushed r rows x))
+
+-- what the sets say of rows with one more
+decided_on : (nodes : List Node) (header : Header) (rows : List Row) (x : Row) (begin : ℕ) (sets : List Sets) (verdict : Option Bool) → AreWellFormed nodes → 0 < length nodes
+    → SetsAre nodes header begin sets (rows ++ x ∷ []) → IsVerdict sets begin verdict
+    → MatchOption verdict ((b : Bool) → Decides (root nodes) (trace_of header (rows ++ x ∷ [])) b → ⊥) (λ b. Decides (root nodes) (trace_of header (rows ++ x ∷ [])) b)
+decided_on nodes header [] x begin sets verdict formed some (e, s) v = decided_of nodes header x [] sets formed some s verdict (subst (λ k. IsVerdict sets k verdict) e v)
+decided_on nodes header (r ∷ rows) x begin sets verdict formed some (e, s) v =
+    decided_of nodes header r (rows ++ x ∷ []) sets formed some s verdict (subst (λ k. IsVerdict sets k verdict) e v)
+
+-- the verdict of the row
+abbrev pub decided_now : ℕ → Option Bool → Option Decided
+decided_now t verdict = option_map (λ holds. record { at = t; holds = holds }) verdict
+
+module _ (x : Kept) (rows : List Row) (st : Stands x rows false) (none : x.decided ≡ None) (r : Row) (width : length r.values ≡ x.bound.width)
+    (later : IfSome x.last (λ q. q.time < r.time)) (begin : ℕ) (sets left : List Sets) (are : SetsAre x.nodes x.header begin sets (rows ++ r ∷ []))
+    (verdict : Option Bool) (v : IsVerdict sets begin verdict) (let_go : decided_now r.time verdict ≡ None → left ≡ sets) where
+  none_yet : NoneDecides (root x.nodes) x.header rows
+  none_yet = by_none x.decided none st.by
+    where
+      by_none : (d : Option Decided) → d ≡ None
+          → MatchOption d (NoneDecides (root x.nodes) x.header rows × (x.ended ≡ false → SetsAre x.nodes x.header x.begin x.sets rows)) (WasDecided (root x.nodes) x.header rows)
+          → NoneDecides (root x.nodes) x.header rows
+      by_none None n h = h.0
+      by_none (Some d) n h = absurd (let f : Some d ≡ None = n in cc)
+
+  -- what is kept with the row
+  abbrev pub with_row : Kept
+  with_row = record x { sets = left; begin = begin; last = Some r; decided = decided_now r.time verdict }
+
+  stands_by : StandsBy with_row (rows ++ r ∷ [])
+  stands_by = by_verdict verdict v let_go
+    where
+      by_verdict : (o : Option Bool) → IsVerdict sets begin o → (decided_now r.time o ≡ None → left ≡ sets)
+          → MatchOption (decided_now r.time o) (NoneDecides (root x.nodes) x.header (rows ++ r ∷ []) × (x.ended ≡ false → SetsAre x.nodes x.header begin left (rows ++ r ∷ [])))
+          (WasDecided (root x.nodes) x.header (rows ++ r ∷ []))
+      by_verdict None u g = (
+        none_more (root x.nodes) x.header rows r none_yet (decided_on x.nodes x.header rows r begin sets None st.formed st.some are u),
+        λ o. subst (λ l. SetsAre x.nodes x.header begin l (rows ++ r ∷ [])) (sym (g refl)) are,
+      )
+      by_verdict (Some holds) u g = record {
+        before = rows;
+        row = r;
+        after = [];
+        among = refl;
+        at = refl;
+        first = record { decides = decided_on x.nodes x.header rows r begin sets (Some holds) st.formed st.some are u; not_before = none_yet };
+      }
+
+  pub fed_stands : Stands with_row (rows ++ r ∷ []) false
+  fed_stands = record {
+    formed = st.formed;
+    some = st.some;
+    scale = st.scale;
+    bound = st.bound;
+    so_far = rows_on (length x.header.columns) rows x.last r st.so_far st.last later (width ∙ st.bound.width);
+    running = st.running;
+    is_ended = st.is_ended;
+    last = last_on rows r;
+    by = stands_by;
+  }
+
+  pub fed_answer : IsAnswer (root x.nodes) x.header rows r (decided_now r.time verdict)
+  fed_answer = by_verdict verdict v
+    where
+      by_verdict : (o : Option Bool) → IsVerdict sets begin o → IsAnswer (root x.nodes) x.header rows r (decided_now r.time o)
+      by_verdict None u = λ b f. decided_on x.nodes x.header rows r begin sets None st.formed st.some are u b f.decides
+      by_verdict (Some holds) u = (
+        refl,
+        record { decides = decided_on x.nodes x.header rows r begin sets (Some holds) st.formed st.some are u; not_before = none_yet },
+      )
+
+-- a row after one that has decided
+module _ (x : Kept) (rows : List Row) (st : Stands x rows false) (d : Decided) (is : x.decided ≡ Some d) where
+  pub was : WasDecided (root x.nodes) x.header rows d
+  was = by_some x.decided is st.by
+    where
+      by_some : (o : Option Decided) → o ≡ Some d
+          → MatchOption o (NoneDecides (root x.nodes) x.header rows × (x.ended ≡ false → SetsAre x.nodes x.header x.begin x.sets rows)) (WasDecided (root x.nodes) x.header rows)
+          → WasDecided (root x.nodes) x.header rows d
+      by_some None e h = absurd (let f : None ≡ Some d = e in cc)
+      by_some (Some b) e h = subst (λ y. WasDecided (root x.nodes) x.header rows y) (same b d e) h
+        where
+          same : (a b : Decided) → Some a ≡ Some b → a ≡ b
+          same a b e = cc
+
+  pub passed_stands : (r : Row) → length r.values ≡ x.bound.width → IfSome x.last (λ q. q.time < r.time)
+      → Stands (record x { last = Some r }) (rows ++ r ∷ []) false
+  passed_stands r width later = record {
+    formed = st.formed;
+    some = st.some;
+    scale = st.scale;
+    bound = st.bound;
+    so_far = rows_on (length x.header.columns) rows x.last r st.so_far st.last later (width ∙ st.bound.width);
+    running = st.running;
+    is_ended = st.is_ended;
+    last = last_on rows r;
+    by = subst (λ o. MatchOption o (NoneDecides (root x.nodes) x.header (rows ++ r ∷ []) × (x.ended ≡ false → SetsAre x.nodes x.header x.begin x.sets (rows ++ r ∷ [])))
+        (WasDecided (root x.nodes) x.header (rows ++ r ∷ []))) (sym is) (still_decided (root x.nodes) x.header rows d r was);
+  }
+
+  pub passed_answer : (r : Row) (b : Bool) → FirstDecides (root x.nodes) x.header rows r b → ⊥
+  passed_answer r b f = not_again (root x.nodes) x.header rows d r b was f
+
+-- the end
+pub ended_stands : (x : Kept) (rows : List Row) (sets : List Sets) → Stands x rows false → Stands (record x { sets = sets; ended = true }) rows true
+ended_stands x rows sets st = record {
+  formed = st.formed;
+  some = st.some;
+  scale = st.scale;
+  bound = st.bound;
+  so_far = st.so_far;
+  running = st.running;
+  is_ended = refl;
+  last = st.last;
+  by = by_some x.decided st.by;
+}
+  where
+    by_some : (o : Option Decided)
+        → MatchOption o (NoneDecides (root x.nodes) x.header rows × (x.ended ≡ false → SetsAre x.nodes x.header x.begin x.sets rows)) (WasDecided (root x.nodes) x.header rows)
+        → MatchOption o (NoneDecides (root x.nodes) x.header rows × (true ≡ false → SetsAre x.nodes x.header x.begin sets rows)) (WasDecided (root x.nodes) x.header rows)
+    by_some None h = (h.0, λ e. absurd (let f : true ≡ false = e in cc))
+    by_some (Some d) h = h
+
+-- what had been decided is the truth at the end
+pub decided_end : (x : Kept) (rows : List Row) (d : Decided) → Stands x rows false → x.decided ≡ Some d → IsSome x.last → IsTruthAtStart (root x.nodes) (trace_of x.header rows) d.holds
+decided_end x rows d st is fed = by_rows rows st (was x rows st d is)
+  where
+    by_rows : (rows : List Row) → Stands x rows false → WasDecided (root x.nodes) x.header rows d → IsTruthAtStart (root x.nodes) (trace_of x.header rows) d.holds
+    by_rows [] st w = absurd (no_rows w.before w.among)
+      where
+        no_rows : (before : List Row) → [] ≡ before ++ w.row ∷ w.after → ⊥
+        no_rows [] e = cc
+        no_rows (q ∷ before) e = cc
+    by_rows (r ∷ rows) st w = decided_truth (root x.nodes) x.header (r ∷ rows) d st.so_far w
+
+-- the first row is no later than the last
+pub rise_of : (header : Header) (r : Row) (rows : List Row) → AreRows (length header.columns) (r ∷ rows) → row_time r ≤ʳ stop (trace_of header (r ∷ rows))
+rise_of header r rows ok = let h = last_from (length header.columns) r.time rows ok.1 in record { le = omega (arith, h) }

@@ -1,0 +1,21 @@
+use Rattle.std.proofs.Common.{refl, arith, true, false}
+use Rattle.early_verdict.specs.Cuts.{place}
+use Rattle.early_verdict.specs.declared.event.Event.{Event}
+use Rattle.early_verdict.proofs.EventLemmas.{near_tick, up_to, happens_end}
+use Rattle.early_verdict.proofs.events.end_event.Goals as goal
+
+pub returns-clause-event : goal.returns-clause-event
+returns-clause-event c =
+    let start = c.before_tick-start.result in
+    let sure = c.after_tick-sure.result in
+    record {
+      order = up_to (place sure) (place sure) c.args.last c.args.last (omega arith) c.after_tick-sure.ensures c.after_tick-sure.ensures;
+      near_start = near_tick start c.args.start false (omega (arith, c.ranges.start)) c.before_tick-start.ensures;
+      near_sure = near_tick sure c.args.last true (omega (arith, c.ranges.last)) c.after_tick-sure.ensures;
+    }
+
+pub returns-clause-happens : goal.returns-clause-happens
+returns-clause-happens c header r rows is_start is_last =
+    let e : Event = record { start = c.before_tick-start.result; before = c.after_tick-sure.result; sure = c.after_tick-sure.result; first = false; ended = true } in
+    happens_end e c.args.start c.args.last c.before_tick-start.ensures c.after_tick-sure.ensures c.after_tick-sure.ensures refl
+    header r rows is_start is_last

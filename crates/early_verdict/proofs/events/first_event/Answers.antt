@@ -1,0 +1,21 @@
+use Rattle.std.proofs.Common.{refl, arith, true, false}
+use Rattle.early_verdict.specs.Cuts.{place}
+use Rattle.early_verdict.specs.declared.event.Event.{Event}
+use Rattle.early_verdict.proofs.EventLemmas.{near_tick, up_to_now, happens_first}
+use Rattle.early_verdict.proofs.events.first_event.Goals as goal
+
+pub returns-clause-event : goal.returns-clause-event
+returns-clause-event c =
+    let n = c.args.time in
+    let start = c.before_tick-start.result in
+    let sure = c.after_tick-sure.result in
+    record {
+      order = up_to_now (place start) (place sure) n c.before_tick-start.ensures c.after_tick-sure.ensures;
+      near_start = near_tick start n false (omega (arith, c.ranges.time)) c.before_tick-start.ensures;
+      near_sure = near_tick sure n true (omega (arith, c.ranges.time)) c.after_tick-sure.ensures;
+    }
+
+pub returns-clause-happens : goal.returns-clause-happens
+returns-clause-happens c header x is =
+    let e : Event = record { start = c.before_tick-start.result; before = c.before_tick-start.result; sure = c.after_tick-sure.result; first = true; ended = false } in
+    happens_first e c.args.time c.before_tick-start.ensures c.before_tick-start.ensures c.after_tick-sure.ensures refl refl header x is

@@ -1,0 +1,79 @@
+-- What a row adds to the two sets of an atom.
+use Rattle.std.specs.Prelude.{◌≡◌, ◌<◌, ◌⊎◌, Bool, true, false, Option, Some, None, List, [], ◌++◌, MatchOption}
+use Rattle.rational.specs.Time.{Rational, ◌≤ʳ◌, ◌<ʳ◌}
+use Rattle.stl_syntax.specs.Trace.{Row, Trace, row_time, start, stop}
+use Rattle.stl_syntax.specs.Truth.{holds_at}
+use Rattle.stl_syntax.specs.declared.atom.Atom.{Atom}
+use Rattle.atom_lines.specs.Binding.{HasRow, AreNeighbours}
+use Rattle.early_verdict.specs.Cuts.{Place, After, Upto}
+use Rattle.early_verdict.specs.Spans.{Grows, IsOn}
+use Rattle.early_verdict.specs.Fitting.{AreSetsTidy}
+use Rattle.early_verdict.specs.declared.sets.Sets.{Sets}
+use Rattle.early_verdict.specs.declared.stretch.Stretch.{Stretch}
+
+-- the two sets grew by the times at which the atom has the truth true, and by those at which it has the truth false
+pub record HasAdded (old new : Sets) (Q : Bool → Rational → Type 0) : Type 0 where
+  pub tidy : AreSetsTidy new
+  pub parts : new.parts ≡ old.parts
+  pub yes_bounds : new.yes.bounds ≡ old.yes.bounds
+  pub no_bounds : new.no.bounds ≡ old.no.bounds
+  pub yes : Grows old.yes.bounds old.yes.spans.items new.yes.spans.items old.yes.fresh.items new.yes.fresh.items (Q true)
+  pub no : Grows old.no.bounds old.no.spans.items new.no.spans.items old.no.fresh.items new.no.fresh.items (Q false)
+
+-- a list got more, and what is new of it is noted
+pub record Enlarges (old new told fresh : List Stretch) : Type 0 where
+  pub more : List Stretch
+  pub noted : fresh ≡ told ++ more
+  pub keeps : (t : Rational) → IsOn old t → IsOn new t
+  pub gained : (t : Rational) → IsOn new t → IsOn old t ⊎ IsOn more t
+  pub own : (t : Rational) → IsOn more t → IsOn new t
+
+-- both sets grew by some times
+pub record HasGrown (old new : Sets) : Type 0 where
+  pub tidy : AreSetsTidy new
+  pub parts : new.parts ≡ old.parts
+  pub yes_bounds : new.yes.bounds ≡ old.yes.bounds
+  pub no_bounds : new.no.bounds ≡ old.no.bounds
+  pub yes : Enlarges old.yes.spans.items new.yes.spans.items old.yes.fresh.items new.yes.fresh.items
+  pub no : Enlarges old.no.spans.items new.no.spans.items old.no.fresh.items new.no.fresh.items
+
+-- between two places it has the truth b
+abbrev pub Piece : Bool → Place → Place → Bool → Rational → Type 0
+Piece b c d v t = (b ≡ v) × After c t × Upto d t
+
+-- three pieces from c on
+abbrev pub ThreePieces : Place → Bool → Place → Bool → Place → Bool → Place → Bool → Rational → Type 0
+ThreePieces c first d second e third f v t = Piece first c d v t ⊎ Piece second d e v t ⊎ Piece third e f v t
+
+-- it has the truth v at a time between the rows
+abbrev pub BetweenRows : Atom → Trace → Row → Row → Bool → Rational → Type 0
+BetweenRows a tr q r v t = (row_time q <ʳ t) × (t <ʳ row_time r) × (holds_at a tr t ≡ v)
+
+abbrev pub AfterRow : Atom → Trace → Option Row → Row → Bool → Rational → Type 0
+AfterRow a tr None r v t = ⊥
+AfterRow a tr (Some q) r v t = BetweenRows a tr q r v t
+
+-- what was new is so no more, and else they are as they were
+pub record HasRested (old new : Sets) : Type 0 where
+  pub tidy : AreSetsTidy new
+  pub parts : new.parts ≡ old.parts
+  pub yes_bounds : new.yes.bounds ≡ old.yes.bounds
+  pub no_bounds : new.no.bounds ≡ old.no.bounds
+  pub yes : new.yes.spans.items ≡ old.yes.spans.items
+  pub no : new.no.spans.items ≡ old.no.spans.items
+  pub yes_fresh : new.yes.fresh.items ≡ []
+  pub no_fresh : new.no.fresh.items ≡ []
+
+abbrev pub before_row : Row → Place
+before_row r = record { at = row_time r; after = false }
+
+abbrev pub after_row : Row → Place
+after_row r = record { at = row_time r; after = true }
+
+-- the row is the last of the trace, and the first or right after the last of the trace before; up to that the atom is as it was
+pub record IsNextRow (a : Atom) (old : Option Trace) (tr : Trace) (before : Option Row) (r : Row) : Type 0 where
+  pub stops : stop tr ≡ row_time r
+  pub stands : HasRow tr r
+  pub first : MatchOption old ((before ≡ None) × (start tr ≡ row_time r))
+      (λ o. (q : Row) × (before ≡ Some q) × (stop o ≡ row_time q) × (q.time < r.time) × AreNeighbours tr q r
+      × ((t : Rational) → start tr ≤ʳ t → t ≤ʳ stop o → holds_at a tr t ≡ holds_at a o t))

@@ -1,0 +1,152 @@
+-- What the sets of all nodes keep from event to event.
+use Rattle.std.specs.Prelude.{◌≡◌, ◌↔◌, ◌⊎◌, ℕ, ◌+◌, ◌≤◌, ◌<◌, ◌≢◌, Bool, false, Option, Some, None, List, length, MatchOption, MatchBool, IsSome, slice_get, slice_index_or}
+use Rattle.rational.specs.Time.{Rational, later, ◌≤ʳ◌}
+use Rattle.stl_syntax.specs.Trace.{Row, Trace, start}
+use Rattle.stl_syntax.specs.declared.node.Node.{Node}
+use Rattle.stl_syntax.specs.declared.node.Node.TheVariants.{Const, Atom as Leaf, Not, And, Or, Implies, Until, Eventually, Always, Since, Once, Historically}
+use Rattle.early_verdict.specs.Spans.{Lies}
+use Rattle.early_verdict.specs.Fitting.{Fits, AreSetsTidy, AreEmpty, HasStepped, HasFailBounds, Lists, lists_at}
+use Rattle.atom_lines.specs.Binding.{Binding, IsFor, IsAtomNode}
+use Rattle.early_verdict.specs.Adding.{IsNextRow}
+use Rattle.early_verdict.specs.Happening.{Was, Had, Happens}
+use Rattle.early_verdict.specs.declared.event.Event.{Event}
+use Rattle.stl_syntax.specs.declared.atom.Atom.{Atom}
+use Rattle.early_verdict.specs.declared.stretch.Stretch.{Stretch}
+use Rattle.early_verdict.specs.declared.sets.Sets.{Sets}
+use Rattle.early_verdict.specs.declared.sets.Parts.{Parts}
+
+-- the stretch has the times from `from` on, up to `top` ticks later
+abbrev pub IsFrom : Rational → ℕ → Stretch → Type 0
+IsFrom from top s = (t : Rational) → Lies s t ↔ ((from ≤ʳ t) × (t ≤ʳ later from top))
+
+-- how far ahead of a time the node looks at its children
+abbrev pub looks_ahead : Node → ℕ
+looks_ahead (Until p q a b) = b
+looks_ahead (Eventually p a b a_in b_in) = b
+looks_ahead (Always p a b a_in b_in) = b
+looks_ahead n = 0
+
+-- where the node is asked up to `top`, its children are asked as far as it looks
+abbrev pub AsksBelow : (ℕ → ℕ) → ℕ → Node → Type 0
+AsksBelow tops top (Const b) = Unit {0}
+AsksBelow tops top (Leaf a) = Unit {0}
+AsksBelow tops top (Not p) = top ≤ tops p
+AsksBelow tops top (And p q) = (top ≤ tops p) × (top ≤ tops q)
+AsksBelow tops top (Or p q) = (top ≤ tops p) × (top ≤ tops q)
+AsksBelow tops top (Implies p q) = (top ≤ tops p) × (top ≤ tops q)
+AsksBelow tops top (Until p q a b) = (top + b ≤ tops p) × (top + b ≤ tops q)
+AsksBelow tops top (Eventually p a b a_in b_in) = top + b ≤ tops p
+AsksBelow tops top (Always p a b a_in b_in) = top + b ≤ tops p
+AsksBelow tops top (Since p q a b) = (top ≤ tops p) × (top ≤ tops q)
+AsksBelow tops top (Once p a b a_in b_in) = top ≤ tops p
+AsksBelow tops top (Historically p a b a_in b_in) = top ≤ tops p
+
+-- the ticks up to which each node is asked
+abbrev pub top_at : List ℕ → ℕ → ℕ
+top_at tops i = slice_index_or tops i 0
+
+-- the sets between are looked at as far as the node looks
+pub record ArePartsAsked (from : Rational) (top wide : ℕ) (x : Parts) : Type 0 where
+  pub some : IsFrom from top x.holding.some.bounds
+  pub each : IsFrom from top x.holding.each.bounds
+  pub never : IsFrom from top x.failing.never.bounds
+  pub broken : IsFrom from top x.failing.broken.bounds
+  pub both : IsFrom from wide x.holding.both.bounds
+  pub run : IsFrom from wide x.holding.run.bounds
+  pub fail : IsFrom from wide x.failing.fail.bounds
+  pub stop : IsFrom from wide x.failing.stop.bounds
+
+-- so are the node's own
+pub record AreAsked (from : Rational) (top wide : ℕ) (s : Sets) : Type 0 where
+  pub yes : IsFrom from top s.yes.bounds
+  pub no : IsFrom from top s.no.bounds
+  pub parts : MatchOption s.parts (Unit {0}) (ArePartsAsked from top wide)
+
+-- of until and since the place of the left operand
+abbrev pub left_of : Node → Option ℕ
+left_of (Until p q a b) = Some p
+left_of (Since p q a b) = Some p
+left_of n = None
+
+-- a node's sets are asked as far as `tops` says; until and since have sets between, as wide as those of the left operand
+pub record HasSets (from : Rational) (tops : List ℕ) (sets : List Sets) (i : ℕ) (n : Node) (s : Sets) : Type 0 where
+  pub wide : ℕ
+  pub asked : AreAsked from (top_at tops i) wide s
+  pub left : MatchOption (left_of n) (s.parts ≡ None) (λ p. (top_at tops p ≡ wide) × ((l : Sets) → slice_get sets p ≡ Some l → HasFailBounds s l) × (s.parts ≡ None → ⊥))
+
+-- each node has sets, and asks its children
+pub record HaveSets (nodes : List Node) (from : Rational) (tops : List ℕ) (sets : List Sets) : Type 0 where
+  pub count : length sets ≡ length nodes
+  pub has : (i : ℕ) (n : Node) (s : Sets) → slice_get nodes i ≡ Some n → slice_get sets i ≡ Some s → HasSets from tops sets i n s
+  pub asks : (i : ℕ) (n : Node) → slice_get nodes i ≡ Some n → AsksBelow (top_at tops) (top_at tops i) n
+
+-- the sets of each node fit those of its children
+abbrev pub AllFit : List Node → Bool → Trace → List Sets → Type 0
+AllFit nodes ended tr sets = (i : ℕ) (n : Node) (s : Sets) → slice_get nodes i ≡ Some n → slice_get sets i ≡ Some s → Fits n ended tr (lists_at sets) s
+
+-- the lists of all sets rise
+abbrev pub AllTidy : List Sets → Type 0
+AllTidy sets = (i : ℕ) (s : Sets) → slice_get sets i ≡ Some s → AreSetsTidy s
+
+-- the lists that all sets had before what is fresh in them
+abbrev pub HadAll : Option Trace → Trace → (ℕ → Lists) → List Sets → Type 0
+HadAll old tr was sets = (p : ℕ) (s : Sets) → slice_get sets p ≡ Some s → Had old tr (was p) s
+
+-- until and since have sets between
+abbrev pub HasParts : Node → Sets → List Sets → Type 0
+HasParts n s below = MatchOption (left_of n) (Unit {0}) (λ p. IsSome s.parts × ((l : Sets) → slice_get below p ≡ Some l → HasFailBounds s l))
+
+-- an atom's sets go on with the row, and stay at the end of the input
+abbrev pub GoesOnWith : Event → Option Trace → Trace → Option Row → Row → Atom → Type 0
+GoesOnWith e old tr before r a = MatchBool e.ended (old ≡ Some tr) (IsNextRow a old tr before r)
+
+-- so does an atom among the nodes
+abbrev pub LeafGoes : Binding → ℕ → Event → Option Trace → Trace → Option Row → Row → Sets → Node → Type 0
+LeafGoes b i e old tr before r s (Leaf a) =
+    IsFor b i a tr × GoesOnWith e old tr before r a × ((t : Rational) → Lies s.yes.bounds t ⊎ Lies s.no.bounds t → start tr ≤ʳ t)
+LeafGoes b i e old tr before r s n = Unit {0}
+
+-- the columns of an atom are bound
+abbrev pub LeafIsBound : Binding → ℕ → Node → Type 0
+LeafIsBound b i (Leaf a) = IsAtomNode b i
+LeafIsBound b i n = Unit {0}
+
+-- an operator's sets go on by those of its children
+abbrev pub IsOperator : Node → Type 0
+IsOperator (Leaf a) = ⊥
+IsOperator n = Unit {0}
+
+-- the sets of an operator go on from fitting the trace before to fitting the trace now, by what those of its children gained
+abbrev pub GoesBy : Node → Event → List Sets → Sets → Sets → Type 0
+GoesBy n e below own new =
+    (old : Option Trace) (tr : Trace) (was : ℕ → Lists) → Happens e old tr → HadAll old tr was below → HasParts n own below
+    → Was old (λ o. Fits n false o was) own → Fits n e.ended tr (lists_at below) new
+
+-- the sets at one place stepped, and those at the others are as they were
+pub record StepsAt (i : ℕ) (old new : List Sets) : Type 0 where
+  pub was : Sets
+  pub is : Sets
+  pub at_old : slice_get old i ≡ Some was
+  pub at_new : slice_get new i ≡ Some is
+  pub others : (j : ℕ) → j ≢ i → slice_get new j ≡ slice_get old j
+  pub count : length new ≡ length old
+  pub stepped : HasStepped was is
+
+-- those before a place stepped, and those from it on are as they were
+pub record SteppedTo (n : ℕ) (old new : List Sets) : Type 0 where
+  pub count : length new ≡ length old
+  pub stepped : (j : ℕ) (s s' : Sets) → j < n → slice_get old j ≡ Some s → slice_get new j ≡ Some s' → HasStepped s s'
+  pub others : (j : ℕ) → n ≤ j → slice_get new j ≡ slice_get old j
+
+-- no set has a time
+abbrev pub AllEmpty : List Sets → Type 0
+AllEmpty sets = (i : ℕ) (s : Sets) → slice_get sets i ≡ Some s → AreEmpty s
+
+-- each atom goes on with the row, or stays at the end of the input
+abbrev pub AllGo : List Node → Binding → Event → Option Trace → Trace → Option Row → Row → Type 0
+AllGo nodes b e old tr before r =
+    (i : ℕ) (a : Atom) → slice_get nodes i ≡ Some (Leaf a) → IsFor b i a tr × GoesOnWith e old tr before r a
+
+-- the sets fitted the trace before, or were empty; and their lists lie after the start
+abbrev pub AllWere : Option Trace → List Node → List Sets → Type 0
+AllWere old nodes sets = MatchOption old (AllEmpty sets) (λ o. AllFit nodes false o sets)

@@ -1,0 +1,216 @@
+//! The verdict at the start, at the first row that settles it.
+//!
+//! An early verdict stands for the rows that it took, and whether they have ended. It stores none of them: what its sets tell is what the
+//! rows settle, whatever they were.
+ghost use Rattle.std.specs.Prelude.{◌≡◌, ◌<◌, ◌++◌, ◌∷◌, [], List, length, IfOk, IfSome, IsSome, MatchResult, IfErr, None, true, false, option_map};
+ghost use Rattle.stl_syntax.specs.Trace.{Row as ARow};
+ghost use Rattle.stl_syntax.specs.Formula.{root};
+ghost use Rattle.atom_lines.specs.Binding.{IsBound};
+
+use crate::events::{end_sets, root_verdict, take_row};
+use crate::sets::Sets;
+use atom_lines::Bound;
+use std::alloc::Global;
+use std::marker::Model;
+use stl_syntax::Formula;
+use trace_reader::{Header, Row};
+
+/// A verdict at the start, and the time of the row that decided it, in ticks.
+#[derive(Clone, Copy, Debug, PartialEq, Eq)]
+pub struct Decided {
+    pub at: u32,
+    pub holds: bool,
+}
+
+/// Why a call was refused.
+#[derive(Clone, Copy, Debug, PartialEq, Eq)]
+pub enum EarlyFault {
+    /// An earlier call answered want of memory.
+    Stopped,
+    /// There was no memory. It is stopped.
+    Memory,
+}
+
+/// What the rows of a trace have decided of a formula at the start.
+///
+/// Contracts see it as `Kept`. `Stands` says when it stands for rows.
+#[derive(Drop)]
+pub struct Early {
+    alloc: Global,
+    formula: Formula,
+    header: Header,
+    bound: Bound,
+    /// Of each node, in post-order; none before the first row, and none once a row has decided.
+    sets: Vec<Sets>,
+    begin: u32,
+    last: Option<Row>,
+    decided: Option<Decided>,
+    ended: bool,
+    stopped: bool,
+}
+
+impl Model for Early {
+    ghost use Rattle.early_verdict.specs.Deciding.{Kept};
+
+    ghost Value = { Kept };
+
+    ghost use Rattle.early_verdict.specs.Deciding.{HasPast};
+
+    ghost view = { λ e. record {
+      nodes = e.formula.nodes;
+      header = e.header;
+      bound = e.bound;
+      sets = e.sets.items;
+      begin = e.begin;
+      last = e.last;
+      decided = e.decided;
+      ended = e.ended;
+      stopped = e.stopped;
+    } };
+
+    ghost invariant = { λ e. HasPast (record {
+      nodes = e.formula.nodes;
+      header = e.header;
+      bound = e.bound;
+      sets = e.sets.items;
+      begin = e.begin;
+      last = e.last;
+      decided = e.decided;
+      ended = e.ended;
+      stopped = e.stopped;
+    }) };
+}
+
+/// The verdict with the time of the row that decided it.
+fn decided_at(at: u32, verdict: Option<bool>) -> Option<Decided>
+    ensures { result ≡ option_map (λ holds. record { at = at; holds = holds }) verdict }
+{
+    match verdict {
+        Some(holds) => Some(Decided { at, holds }),
+        None => None,
+    }
+}
+
+/// Lets the sets go once a row has decided.
+fn let_go(sets: &mut Vec<Sets>, decided: &Option<Decided>)
+    ensures { decided.now ≡ None → sets.new.items ≡ sets.old.items }
+{
+    if decided.is_some() {
+        sets.clear();
+    }
+}
+
+impl Early {
+    ghost use Rattle.early_verdict.specs.Deciding.{IsAnswer, IsFault, IsFed, IsFor, IsTruthAtStart, Stands, trace_of};
+
+    /// Nothing is decided yet; it takes no memory. It stands for no rows.
+    pub fn new(alloc: Global, formula: Formula, bound: Bound, header: Header) -> Early
+        requires { IsBound bound formula header }
+        ensures stands { Stands result [] false }
+        ensures nodes { result.nodes ≡ formula.nodes }
+        ensures header { result.header ≡ header }
+        ensures bound { result.bound ≡ bound }
+    {
+        let _ = formula.len();
+        Early {
+            alloc,
+            formula,
+            header,
+            bound,
+            sets: Vec::new(alloc),
+            begin: 0,
+            last: None,
+            decided: None,
+            ended: false,
+            stopped: false,
+        }
+    }
+
+    /// The verdict of the row that decided, if one did.
+    pub fn decided(&self) -> Option<Decided>
+        ensures { result ≡ self.now.decided }
+    {
+        self.decided
+    }
+
+    /// Takes the next row. Some exactly where it is the first that decides.
+    ///
+    /// # Errors
+    ///
+    /// `Stopped` where an earlier call answered `Memory`; nothing changes then. `Memory` where there is no memory; then it is stopped.
+    pub fn feed(&mut self, row: &Row) -> Result<Option<Decided>, EarlyFault>
+        requires open { self.old.ended ≡ false }
+        requires width { length row.now.values ≡ self.old.bound.width }
+        requires later { IfSome self.old.last (λ r. r.time < row.now.time) }
+        ensures answer { MatchResult result (IsFed self.old self.new row.now) (IsFault self.old self.new) }
+        ensures stands { (rows : List ARow) → Stands self.old rows false → IfOk result (λ d. Stands self.new (rows ++ row.now ∷ []) false
+            × IsAnswer (root self.old.nodes) self.old.header rows row.now d) }
+        ensures same { IsFor self.old self.new }
+    {
+        if self.stopped {
+            return Err(EarlyFault::Stopped);
+        }
+        let Ok(kept) = row.copy() else {
+            self.stopped = true;
+            return Err(EarlyFault::Memory);
+        };
+        if self.decided.is_some() {
+            self.last = Some(kept);
+            return Ok(None);
+        }
+        let Ok(begin) = take_row(
+            self.alloc,
+            &mut self.sets,
+            &self.formula,
+            &self.bound,
+            self.begin,
+            &self.last,
+            row,
+        ) else {
+            self.stopped = true;
+            return Err(EarlyFault::Memory);
+        };
+        let decided = decided_at(row.time(), root_verdict(&self.sets, begin));
+        let_go(&mut self.sets, &decided);
+        self.begin = begin;
+        self.last = Some(kept);
+        self.decided = decided;
+        Ok(decided)
+    }
+
+    /// The end of the input: the truth at the start.
+    ///
+    /// # Errors
+    ///
+    /// `Stopped` where an earlier call answered `Memory`; nothing changes then. `Memory` where there is no memory; then it is stopped.
+    pub fn end(&mut self) -> Result<bool, EarlyFault>
+        requires open { self.old.ended ≡ false }
+        requires fed { IsSome self.old.last }
+        ensures fault { IfErr result (IsFault self.old self.new) }
+        ensures truth { (rows : List ARow) → Stands self.old rows false
+            → IfOk result (IsTruthAtStart (root self.old.nodes) (trace_of self.old.header rows)) }
+        ensures stands { (rows : List ARow) → Stands self.old rows false → IfOk result (λ holds. Stands self.new rows true) }
+        ensures same { IsFor self.old self.new }
+        ensures decided { self.new.decided ≡ self.old.decided }
+    {
+        if self.stopped {
+            return Err(EarlyFault::Stopped);
+        }
+        if let Some(decided) = self.decided {
+            self.ended = true;
+            return Ok(decided.holds);
+        }
+        let Ok(holds) = end_sets(
+            &mut self.sets,
+            &self.formula,
+            &self.bound,
+            self.begin,
+            &self.last,
+        ) else {
+            self.stopped = true;
+            return Err(EarlyFault::Memory);
+        };
+        self.ended = true;
+        Ok(holds)
+    }
+}

@@ -1,0 +1,59 @@
+//! The sets of all nodes, before any row.
+ghost use Rattle.std.specs.Prelude.{◌≡◌, ◌≤◌, ◌<◌, ◌+◌, ℕ, IfOk, IfSome, List, Some, None, MatchOption, length, slice_get, pos};
+ghost use Rattle.rational.specs.Rational.{whole};
+ghost use Rattle.stl_syntax.specs.Formula.{HasChildrenBelow};
+ghost use Rattle.stl_syntax.specs.declared.node.Node.{Node as ANode};
+ghost use Rattle.early_verdict.specs.Fitting.{AreEmpty, AreSetsTidy, HasFailBounds};
+ghost use Rattle.early_verdict.specs.Standing.{AllEmpty, AllTidy, AreAsked, HasSets, HaveSets, IsFrom, left_of, top_at};
+ghost use Rattle.early_verdict.specs.Tops.{AreTops};
+ghost use Rattle.early_verdict.specs.Making.{AreMade, HasPartsFor, IsMade};
+ghost use Rattle.early_verdict.specs.declared.sets.Sets.{Sets as ASets};
+
+use crate::sets::Sets;
+use crate::stretch::Stretch;
+use crate::tops::tops_of;
+use frac128::Memory;
+use std::alloc::Global;
+use stl_syntax::{Formula, Node};
+
+/// The sets of a node that is asked within the bounds.
+fn sets_of(alloc: Global, node: &Node, bounds: Stretch, below: &[Sets]) -> Sets
+    requires { HasChildrenBelow (length below.now) node.now }
+    ensures yes { result.yes.bounds ≡ bounds }
+    ensures no { result.no.bounds ≡ bounds }
+    ensures empty { AreEmpty result }
+    ensures parts { MatchOption (left_of node.now) (result.parts ≡ None)
+        (λ p. (l : ASets) → slice_get below.now p ≡ Some l → HasPartsFor bounds l result) }
+{
+    match node {
+        Node::Until { left, .. } => Sets::with_parts(alloc, bounds, &below[*left as usize]),
+        Node::Since { left, .. } => Sets::with_parts(alloc, bounds, &below[*left as usize]),
+        _ => Sets::new(alloc, bounds),
+    }
+}
+
+/// The sets of the node at a place, which is asked up to `top` ticks after the start.
+fn make_at(alloc: Global, formula: &Formula, i: u32, start: u32, top: u32, below: &[Sets]) -> Sets
+    requires within { i < length formula.now.nodes }
+    requires place { length below.now ≡ i }
+    ensures { (n : ANode) → slice_get formula.now.nodes i ≡ Some n → IsMade (whole (pos start)) top n below.now result }
+{
+    let first = i64::from(start);
+    let bounds = Stretch::over(first, first + i64::from(top));
+    sets_of(alloc, formula.node(i), bounds, below)
+}
+
+/// The sets of all nodes, before any row, of a trace that starts there.
+pub(crate) fn all_sets(alloc: Global, formula: &Formula, start: u32) -> Result<Vec<Sets>, Memory>
+    ensures { IfOk result (λ v. AreMade formula.now.nodes (whole (pos start)) v.items) }
+{
+    let tops = tops_of(alloc, formula)?;
+    let mut all = Vec::new(alloc);
+    for i in 0..formula.len() {
+        let sets = make_at(alloc, formula, i, start, tops[i as usize], &all);
+        let Ok(()) = all.push(sets) else {
+            return Err(Memory);
+        };
+    }
+    Ok(all)
+}

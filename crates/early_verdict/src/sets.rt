@@ -1,0 +1,102 @@
+//! The two sets of a node: the times at which it is certainly true, and those at which it is certainly false.
+ghost use Rattle.std.specs.Prelude.{◌≡◌, None};
+ghost use Rattle.early_verdict.specs.Fitting.{AreEmpty, ArePartsEmpty};
+ghost use Rattle.early_verdict.specs.Making.{HasPartBounds, HasPartsFor};
+
+use crate::grown::Grown;
+use crate::stretch::Stretch;
+use std::alloc::Global;
+
+/// The sets between that at which until or since is certainly true and those of its operands.
+#[derive(Drop)]
+pub(crate) struct Holding {
+    /// The times at which both operands are certainly true.
+    pub(crate) both: Grown,
+    /// Those from which the left one goes on to one of them; for since back from which.
+    pub(crate) run: Grown,
+    /// Those whose window has a time at which the right one is certainly true.
+    pub(crate) some: Grown,
+    /// Those from which each time up to the window is one of `run`.
+    pub(crate) each: Grown,
+}
+
+/// The sets between that at which it is certainly false and those of its operands.
+#[derive(Drop)]
+pub(crate) struct Failing {
+    /// The times at which an operand is certainly false.
+    pub(crate) fail: Grown,
+    /// Those from which one of them goes on being so to a time at which the left one is; for since back from which.
+    pub(crate) stop: Grown,
+    /// Those in whose windows the right one is certainly false.
+    pub(crate) never: Grown,
+    /// Those from which some time up to the window is one of `stop`.
+    pub(crate) broken: Grown,
+}
+
+/// The sets between those of until or since and those of its operands.
+#[derive(Drop)]
+pub(crate) struct Parts {
+    pub(crate) holding: Holding,
+    pub(crate) failing: Failing,
+}
+
+/// Where a node is certainly true, and where certainly false; and the sets between, of until and since.
+#[derive(Drop)]
+pub(crate) struct Sets {
+    pub(crate) yes: Grown,
+    pub(crate) no: Grown,
+    pub(crate) parts: Option<Parts>,
+}
+
+impl Parts {
+    /// No times yet, of an until or a since that is asked within the bounds and whose left operand has the sets `left`.
+    fn new(alloc: Global, bounds: Stretch, left: &Sets) -> Parts
+        ensures bounds { HasPartBounds bounds left.now result }
+        ensures empty { ArePartsEmpty result }
+    {
+        Parts {
+            holding: Holding {
+                both: Grown::new(alloc, left.yes.bounds()),
+                run: Grown::new(alloc, left.yes.bounds()),
+                some: Grown::new(alloc, bounds),
+                each: Grown::new(alloc, bounds),
+            },
+            failing: Failing {
+                fail: Grown::new(alloc, left.no.bounds()),
+                stop: Grown::new(alloc, left.no.bounds()),
+                never: Grown::new(alloc, bounds),
+                broken: Grown::new(alloc, bounds),
+            },
+        }
+    }
+}
+
+impl Sets {
+    /// No times yet.
+    pub(crate) fn new(alloc: Global, bounds: Stretch) -> Sets
+        ensures yes { result.yes.bounds ≡ bounds }
+        ensures no { result.no.bounds ≡ bounds }
+        ensures parts { result.parts ≡ None }
+        ensures empty { AreEmpty result }
+    {
+        Sets {
+            yes: Grown::new(alloc, bounds),
+            no: Grown::new(alloc, bounds),
+            parts: None,
+        }
+    }
+
+    /// No times yet, of an until or a since whose left operand has the sets `left`.
+    pub(crate) fn with_parts(alloc: Global, bounds: Stretch, left: &Sets) -> Sets
+        ensures yes { result.yes.bounds ≡ bounds }
+        ensures no { result.no.bounds ≡ bounds }
+        ensures parts { HasPartsFor bounds left.now result }
+        ensures empty { AreEmpty result }
+    {
+        Sets {
+            yes: Grown::new(alloc, bounds),
+            no: Grown::new(alloc, bounds),
+            parts: Some(Parts::new(alloc, bounds, left)),
+        }
+    }
+}

@@ -1,0 +1,225 @@
+//! An input of several sessions, whose lines are cut from the pieces of its bytes.
+ghost use Rattle.std.specs.Prelude.{◌≡◌, ◌<◌, ◌≤◌, ◌++◌, ◌∷◌, ◌+◌, ℕ, List, [], true, false, length, take, MatchResult, OnOk};
+ghost use Rattle.stl_syntax.specs.Formula.{Formula as Parsed};
+ghost use Rattle.trace_reader.specs.TraceText.{content};
+ghost use Rattle.trace_reader.specs.Feeds.{HasNoFeed};
+ghost use Rattle.trace_reader.proofs.LineLemmas.{rest};
+ghost use Rattle.session_mux.specs.Muxes.{Past, StandsFor};
+ghost use Rattle.session_mux.specs.Taking.{ended_line, IsSized, HasLines, IsTaking, HasTakenSome, IsInputStop, IsLineStop, IsPartStop, HasAll, IsHanded, IsNotHanded, IsUnsized};
+
+use crate::fault::MuxFault;
+use crate::mux::Mux;
+use crate::stop::{InputStop, LineFault, LineKind};
+use memchr::memchr;
+use std::alloc::Global;
+use stl_syntax::{Formula, Text};
+
+/// The most lines.
+const MOST_LINES: u64 = 8_589_934_592;
+
+/// The most bytes of a line.
+const LONGEST: usize = 4_113;
+
+/// An input of several sessions: its sessions, the bytes of a line that has not ended, how many lines have, and the text that was made
+/// and that is to be written.
+///
+/// `IsTaking` says when it stands for the bytes that it took, and for the text that was taken from it. After a refusal it stands for
+/// nothing: its text is that of the lines before the fault, and no more is asked of it.
+#[derive(Drop)]
+pub struct Input {
+    mux: Mux,
+    part: Text,
+    whole: u64,
+    text: Text,
+}
+
+/// A fault of line `line`.
+fn refused(line: u64, kind: LineKind) -> InputStop
+    ensures { result ≡ InputStop.Fault (record { line = line; kind = kind }) }
+{
+    InputStop::Fault(LineFault { line, kind })
+}
+
+/// Refuses a line that is one too many, or too long.
+fn sized(number: u64, size: usize) -> Result<(), InputStop>
+    ensures { MatchResult result (λ _. IsSized number size) (IsUnsized number size) }
+{
+    if number > MOST_LINES {
+        return Err(refused(number, LineKind::TooManyLines));
+    }
+    if size > LONGEST {
+        return Err(refused(number, LineKind::TooLong));
+    }
+    Ok(())
+}
+
+/// A line's bytes without one CR at the end.
+fn content_of(line: &[u8]) -> &[u8]
+    ensures { result.now ≡ content (ended_line line.now) }
+{
+    let Some((last, others)) = line.split_last() else {
+        return line;
+    };
+    if *last == b'\r' {
+        return others;
+    }
+    line
+}
+
+/// Hands line `number` to the sessions.
+fn hand(mux: &mut Mux, number: u64, line: &[u8], text: &mut Text) -> Result<(), InputStop>
+    requires { (p : Past) × StandsFor p mux.old }
+    ensures { (p : Past) → StandsFor p mux.old → MatchResult result (λ _. IsHanded p line.now mux.new text.old text.new) (IsNotHanded p number line.now text.old text.new) }
+{
+    match mux.line(content_of(line), text) {
+        Ok(()) => Ok(()),
+        Err(MuxFault::BadTag) => Err(refused(number, LineKind::BadTag)),
+        Err(MuxFault::TooManySessions) => Err(refused(number, LineKind::TooManySessions)),
+        Err(MuxFault::Stopped | MuxFault::Ended | MuxFault::Memory) => Err(InputStop::NoMemory),
+    }
+}
+
+impl Input {
+    /// Takes no bytes yet. It takes no memory.
+    pub fn new(alloc: Global, formula: Formula) -> Input
+        ensures live { IsTaking formula result [] [] }
+        ensures empty { result.text ≡ [] }
+    {
+        Input {
+            mux: Mux::new(alloc, formula),
+            part: Text::new(alloc),
+            whole: 0,
+            text: Text::new(alloc),
+        }
+    }
+
+    /// Takes bytes of a line that goes on, none of them an LF.
+    fn go_on(&mut self, part: &[u8]) -> Result<(), InputStop>
+        requires taking { HasTakenSome self.old }
+        requires free { HasNoFeed part.now }
+        ensures { (f : Parsed) (bytes written : List ℕ) → IsTaking f self.old bytes written → MatchResult result
+            (λ _. IsTaking f self.new (bytes ++ part.now) written)
+            (IsPartStop f (bytes ++ part.now) (written ++ self.new.text)) }
+    {
+        if part.is_empty() {
+            return Ok(());
+        }
+        sized(self.whole + 1, self.part.bytes().len() + part.len())?;
+        match self.part.push(part) {
+            Ok(()) => Ok(()),
+            Err(_) => Err(InputStop::NoMemory),
+        }
+    }
+
+    /// Answers the line whose bytes are there, which has ended.
+    fn answer(&mut self) -> Result<(), InputStop>
+        requires { HasTakenSome self.old }
+        ensures ok { OnOk result ((self.new.part ≡ []) × (self.new.whole ≡ self.old.whole + 1) × IsSized (self.old.whole + 1) (length self.old.part)) }
+        ensures lines { (f : Parsed) (bytes written : List ℕ) → (k : IsTaking f self.old bytes written) → MatchResult result
+            (λ _. HasLines f self.new.mux (k.front ++ ended_line self.old.part ∷ []) (written ++ self.new.text))
+            (IsLineStop f k.front self.old.part (written ++ self.new.text)) }
+    {
+        let number = self.whole + 1;
+        sized(number, self.part.bytes().len())?;
+        hand(&mut self.mux, number, self.part.bytes(), &mut self.text)?;
+        self.part.clear();
+        self.whole = number;
+        Ok(())
+    }
+
+    /// Takes bytes of a piece, up to and with its first LF, and answers how many.
+    fn step(&mut self, piece: &[u8]) -> Result<usize, InputStop>
+        requires { HasTakenSome self.old }
+        ensures taken { (f : Parsed) (bytes written : List ℕ) → IsTaking f self.old bytes written → MatchResult result
+            (λ n. IsTaking f self.new (bytes ++ take n piece.now) written)
+            (λ e. IsInputStop f (bytes ++ piece.now) false (written ++ self.new.text) e) }
+        ensures within { MatchResult result (λ n. n ≤ length piece.now) (λ _. Unit {0}) }
+        ensures progress { MatchResult result (λ n. 0 < length piece.now → 0 < n) (λ _. Unit {0}) }
+    {
+        match memchr(b'\n', piece) {
+            Some(at) => {
+                self.go_on(&piece[..at])?;
+                self.answer()?;
+                Ok(at + 1)
+            }
+            None => {
+                self.go_on(piece)?;
+                Ok(piece.len())
+            }
+        }
+    }
+
+    /// Takes all bytes of a piece. The text grows by the answers to the lines that end in it.
+    ///
+    /// # Errors
+    /// A line of the bytes has a fault, and the text grew to that of the lines before it; want of memory.
+    pub fn feed(&mut self, piece: &[u8]) -> Result<(), InputStop>
+        requires { HasTakenSome self.old }
+        ensures { (f : Parsed) (bytes written : List ℕ) → IsTaking f self.old bytes written → MatchResult result
+            (λ _. IsTaking f self.new (bytes ++ piece.now) written)
+            (λ e. IsInputStop f (bytes ++ piece.now) false (written ++ self.new.text) e) }
+    {
+        let mut at = 0;
+        while at < piece.len() {
+            at += self.step(&piece[at..])?;
+        }
+        Ok(())
+    }
+
+    /// Answers a last line without LF, where the bytes end here.
+    fn last(&mut self) -> Result<(), InputStop>
+        requires { HasTakenSome self.old }
+        ensures { (f : Parsed) (bytes written : List ℕ) → (k : IsTaking f self.old bytes written) → MatchResult result
+            (λ _. HasLines f self.new.mux (k.front ++ rest true self.old.part) (written ++ self.new.text))
+            (λ e. IsInputStop f bytes true (written ++ self.new.text) e) }
+    {
+        if self.part.bytes().is_empty() {
+            return Ok(());
+        }
+        self.answer()
+    }
+
+    /// Takes the end of the bytes, with a last line that lacks its LF. The text grows by what is left.
+    ///
+    /// # Errors
+    /// As `feed`.
+    pub fn finish(&mut self) -> Result<(), InputStop>
+        requires { HasTakenSome self.old }
+        ensures { (f : Parsed) (bytes written : List ℕ) → IsTaking f self.old bytes written → MatchResult result
+            (λ _. HasAll f self.new.mux bytes (written ++ self.new.text))
+            (λ e. IsInputStop f bytes true (written ++ self.new.text) e) }
+    {
+        self.last()?;
+        match self.mux.end(&mut self.text) {
+            Ok(()) => Ok(()),
+            Err(_) => Err(InputStop::NoMemory),
+        }
+    }
+
+    /// The text that was made since it was cleared.
+    pub fn text(&self) -> &[u8]
+        ensures { result.now ≡ self.now.text }
+    {
+        self.text.bytes()
+    }
+
+    /// Lets go of the text, once it was written.
+    pub fn clear(&mut self)
+        ensures { self.new ≡ record self.old { text = [] } }
+    {
+        self.text.clear();
+    }
+
+    /// The sessions.
+    pub fn into_mux(self) -> Mux
+        ensures { result ≡ self.mux }
+    {
+        let Input {
+            mux,
+            part: _part,
+            whole: _whole,
+            text: _text,
+        } = self;
+        mux
+    }
+}

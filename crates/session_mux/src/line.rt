@@ -1,0 +1,21 @@
+//! The line of the first fault of an input of several sessions.
+ghost use Rattle.std.specs.Prelude.{◌≡◌};
+ghost use Rattle.report.specs.Lines.{line_text};
+ghost use Rattle.session_mux.specs.Inputs.{input_fault_text};
+ghost use Rattle.session_mux.specs.Taking.{fault_of};
+
+use crate::stop::{LineFault, LineKind};
+use report::Line;
+
+/// The line of the first fault of an input of several sessions.
+pub fn input_fault_line(fault: LineFault) -> Line<'static>
+    ensures { line_text result ≡ input_fault_text (fault_of fault) }
+{
+    let n = fault.line;
+    match fault.kind {
+        LineKind::TooManyLines => Line::numbered(b"line ", n, b": too many lines\n"),
+        LineKind::TooLong => Line::numbered(b"line ", n, b": line too long\n"),
+        LineKind::BadTag => Line::numbered(b"line ", n, b": bad tag\n"),
+        LineKind::TooManySessions => Line::numbered(b"line ", n, b": too many sessions\n"),
+    }
+}

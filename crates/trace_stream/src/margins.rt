@@ -1,0 +1,159 @@
+//! The margins of a formula as the rows of a trace come: a network of margins follows them.
+ghost use Rattle.std.specs.Prelude.{◌≡◌, ◌^◌, ℕ, List, [], false, true, Some, slice_get, IfOk, IfErr, OnOk};
+ghost use Rattle.stl_syntax.specs.Formula.{Formula as Parsed};
+ghost use Rattle.stl_syntax.specs.Trace.{IsTrace};
+ghost use Rattle.stl_syntax.specs.declared.node.Node.{Node as ANode};
+ghost use Rattle.stl_syntax.specs.declared.scale.Scale.{Scale as Ticks};
+ghost use Rattle.online_nodes.specs.MarginEdges.{IsPartLine};
+ghost use Rattle.online_robust.specs.Standing.{IsStreamed};
+ghost use Rattle.online_robust.specs.Nets.{IsNear};
+ghost use Rattle.online_robust.specs.Pasts.{part_of as as_part};
+ghost use Rattle.report.specs.PartLines.{IsPartLine as IsReported, IsPartWithin};
+ghost use Rattle.trace_stream.specs.Cases.{IsCase, Takes, with_row};
+ghost use Rattle.trace_stream.specs.Streams.{margins};
+ghost use Rattle.trace_stream.specs.Following.{Follows, HasFollowed, IsFollowedOn, IsFollowedOut};
+ghost use Rattle.trace_stream.specs.Margining.{denominator_of, fault_of, Given, HasTakenAll, IsFollowFault, IsMargined, IsOfFirst, IsStanding, IsUnwritten};
+ghost use Rattle.trace_stream.specs.declared.case.Case.{Case as Of};
+
+use crate::case::Case;
+use frac128::Memory;
+use online_robust::{MarginLine, RobustFault, RobustNet};
+use pl_signal::WidePair;
+use report::{MarginPart, put_margin_line};
+use std::alloc::Global;
+use stl_syntax::{Formula, Text};
+use trace_reader::Row;
+use value_laws::Margin;
+
+/// Why rows are not followed on.
+#[derive(Clone, Copy, Debug)]
+pub enum FollowFault {
+    /// There was too little memory.
+    Memory,
+    /// The robustness at node `node` needs this denominator, of 2^60 or more.
+    Wide { node: u32, den: u128 },
+}
+
+/// The network of a formula in the ticks of a trace.
+#[derive(Drop)]
+pub struct Margins {
+    net: RobustNet,
+    formula: Formula,
+}
+
+/// A part that the root gave out, for its line.
+fn part_of(line: MarginLine) -> MarginPart
+    requires { IsNear line }
+    ensures within { IsPartWithin (2 ^ 34) result }
+    ensures same { (scale : Ticks) (text : List ℕ) → IsReported scale result text → IsPartLine scale (as_part line) text }
+{
+    match line {
+        MarginLine::Point { at, value } => MarginPart::Point { at, value },
+        MarginLine::Gap { from, to, piece } => MarginPart::Gap { from, to, piece },
+    }
+}
+
+/// The denominator that a pair needs.
+fn denominator(pair: &WidePair<Margin>) -> u128
+    ensures { result ≡ denominator_of pair.now }
+{
+    match pair {
+        WidePair::Cross { den, .. } => *den,
+        WidePair::Value { den, .. } => *den,
+    }
+}
+
+/// The first fault of a network.
+fn first_fault(fault: RobustFault) -> FollowFault
+    requires { IsOfFirst fault }
+    ensures { result ≡ fault_of fault }
+{
+    match fault {
+        RobustFault::Wide(cause) => FollowFault::Wide {
+            node: cause.node,
+            den: denominator(&cause.pair),
+        },
+        RobustFault::Memory => FollowFault::Memory,
+        RobustFault::Stopped => unreachable!(),
+        RobustFault::Closed => unreachable!(),
+    }
+}
+
+impl Margins {
+    /// What follows a case without rows, whose formula has a network of margins.
+    ///
+    /// # Errors
+    /// Want of memory.
+    pub fn begin(alloc: Global, case: Case) -> Result<Margins, Memory>
+        requires case { (f : Parsed) × IsCase f case }
+        requires none { case.trace.rows ≡ [] }
+        requires streamed { (i : ℕ) (n : ANode) → slice_get case.formula.nodes i ≡ Some n → IsStreamed n }
+        ensures { IfOk result (λ m. Follows (IsMargined false m) margins case []) }
+    {
+        let Case {
+            formula,
+            bound,
+            trace: _trace,
+        } = case;
+        let net = RobustNet::new(alloc, &formula, bound)?;
+        Ok(Margins { net, formula })
+    }
+
+    /// Takes what the root gave out until nothing is left, and adds its lines.
+    ///
+    /// # Errors
+    /// Want of memory.
+    fn take_all(&mut self, text: &mut Text) -> Result<(), Memory>
+        ensures taken { (g : Given) → IsStanding g self.old → OnOk result (HasTakenAll g self.new text.old text.new) }
+        ensures formula { self.new.formula ≡ self.old.formula }
+    {
+        while let Some(line) = self.net.take() {
+            put_margin_line(text, &part_of(line), self.formula.scale())?;
+        }
+        Ok(())
+    }
+
+    /// Takes the next row, and adds to the text what it answers.
+    ///
+    /// # Errors
+    /// A denominator of 2^60 or more, by what the rows have settled; the text is as before then. Want of memory.
+    pub fn row(&mut self, row: &Row, text: &mut Text) -> Result<(), FollowFault>
+        requires { HasFollowed (IsMargined false self.old) margins row.now }
+        ensures followed { (c : Of) (made : List ℕ) → Follows (IsMargined false self.old) margins c made → Takes row.now c.trace
+            → IfOk result (λ _. IsFollowedOn (IsMargined false self.new) margins (with_row row.now c) text.old text.new made) }
+        ensures wide { (c : Of) (made : List ℕ) → Follows (IsMargined false self.old) margins c made → Takes row.now c.trace
+            → IfErr result (IsFollowFault (with_row row.now c) false) }
+        ensures unwritten { IfErr result (IsUnwritten text.old text.new) }
+    {
+        match self.net.feed(row) {
+            Ok(()) => {}
+            Err(fault) => return Err(first_fault(fault)),
+        }
+        match self.take_all(text) {
+            Ok(()) => Ok(()),
+            Err(_) => Err(FollowFault::Memory),
+        }
+    }
+
+    /// Takes the end, and adds to the text what is left.
+    ///
+    /// # Errors
+    /// As `row`.
+    pub fn end(&mut self, text: &mut Text) -> Result<(), FollowFault>
+        requires { (c : Of) × (made : List ℕ) × Follows (IsMargined false self.old) margins c made × IsTrace c.trace }
+        ensures followed { (c : Of) (made : List ℕ) → Follows (IsMargined false self.old) margins c made → IsTrace c.trace
+            → IfOk result (λ _. IsFollowedOut (IsMargined true self.new) margins c text.old text.new made true) }
+        ensures wide { (c : Of) (made : List ℕ) → Follows (IsMargined false self.old) margins c made → IsTrace c.trace
+            → IfErr result (IsFollowFault c true) }
+        ensures unwritten { IfErr result (IsUnwritten text.old text.new) }
+    {
+        match self.net.close() {
+            Ok(()) => {}
+            Err(fault) => return Err(first_fault(fault)),
+        }
+        match self.take_all(text) {
+            Ok(()) => Ok(()),
+            Err(_) => Err(FollowFault::Memory),
+        }
+    }
+}
