@@ -2,7 +2,10 @@
 ghost use Rattle.std.specs.Prelude.{◌≡◌, ◌^◌, ◌<◌, ◌≤◌, ◌++◌, ℕ, List, [], length, take, true, false, Option, Some, option_map, IfOk, IfErr, MatchResult};
 ghost use Rattle.stl_syntax.specs.Formula.{Formula as Parsed};
 ghost use Rattle.stl_syntax.specs.Trace.{IsTrace};
-ghost use Rattle.trace_stream.specs.Cases.{IsCase, CanKeep, with_row};
+ghost use Rattle.stl_syntax.specs.WellFormed.{IsScale};
+ghost use Rattle.trace_reader.specs.TraceText.{Heading, scale_of};
+ghost use Rattle.trace_reader.specs.Reader.{header_of};
+ghost use Rattle.trace_stream.specs.Cases.{IsBegun, IsCase, IsNoBegin, CanKeep, with_row};
 ghost use Rattle.trace_stream.specs.Following.{Follows, IsFollowed, IsEndedOut, IsLive, HasLived, IsLastTaken, IsOver, IsLiveStop};
 ghost use Rattle.trace_stream.specs.declared.case.Case.{Case as Of};
 
@@ -13,7 +16,7 @@ use crate::reading::{last_fault, next_bytes};
 use frac128::Memory;
 use std::alloc::Global;
 use stl_syntax::{Formula, Text};
-use trace_reader::{Event, Limits, Row, Rows};
+use trace_reader::{Event, Header, Limits, Row, Rows};
 
 /// A reader of a trace, what follows the rows once the header was read, and the text that they made and that is to be written.
 ///
@@ -39,6 +42,25 @@ fn follow<F: Follow>(alloc: Global, case: Case) -> Result<F, StreamStop>
         Ok(follower) => Ok(follower),
         Err(_) => Err(StreamStop::NoMemory),
     }
+}
+
+/// What follows a trace from its header, in line `line`, on. It is a call of its own, so that the rows pay nothing for it.
+#[inline(never)]
+fn follow_on<F: Follow>(
+    follower: &mut Option<F>,
+    alloc: Global,
+    formula: &Formula,
+    header: &Header,
+    line: u64,
+) -> Result<(), StreamStop>
+    requires { (h : Heading) × (header.now ≡ header_of formula.now.scale h) × IsScale (scale_of formula.now.scale h) }
+    ensures { (h : Heading) → header.now ≡ header_of formula.now.scale h
+        → MatchResult result (λ _. (case : Of) × IsBegun formula.now line h case × IsFollowed F.stands F.kind follower.new (Some case) [])
+        (IsNoBegin formula.now line h) }
+{
+    let case = begin(alloc, formula, header, line)?;
+    *follower = Some(follow(alloc, case)?);
+    Ok(())
 }
 
 /// Takes a row, and adds to the text what it answers.
@@ -117,15 +139,13 @@ impl<F: Follow> Live<F> {
         };
         match took.event {
             Event::Nothing => {}
-            Event::Header => {
-                let case = begin(
-                    self.alloc,
-                    &self.formula,
-                    self.rows.header(),
-                    self.rows.line(),
-                )?;
-                self.follower = Some(follow(self.alloc, case)?);
-            }
+            Event::Header => follow_on(
+                &mut self.follower,
+                self.alloc,
+                &self.formula,
+                self.rows.header(),
+                self.rows.line(),
+            )?,
             Event::Row => take_row(&mut self.follower, self.rows.row(), &mut self.text)?,
         }
         Ok(took.bytes)

@@ -16,8 +16,8 @@ returns-in-Err-clause-taken g c = λ bytes written k.
     live_refused g.F.Follow.stands g.F.Follow.kind c.args.self.now bytes written c.args.piece.now c.next_bytes.result.now c.in-Err.refusal k c.next_bytes.ensures.line
     (c.in-Err.ensures.fault bytes k.kept.rows k.kept.stands) (c.in-Err.ensures.before bytes k.kept.rows k.kept.stands)
 
-pub begin-requires : goal.begin-requires
-begin-requires g c =
+pub follow_on-requires : goal.follow_on-requires
+follow_on-requires g c =
     let k = c.requires.is in
     let ok = c.in-Ok.ensures in
     let old = c.args.self.now in
@@ -28,8 +28,8 @@ begin-requires g c =
     ok.within.0 c.in-Header.is ok.came (ok.ok c.requires.bytes k.kept.rows k.kept.stands) ok.kept.0 ok.kept.1 c.header.ensures in
     (s.columns, s.is, s.ticks)
 
-pub returns-in_err-case-in-Header-clause-taken : goal.returns-in_err-case-in-Header-clause-taken
-returns-in_err-case-in-Header-clause-taken g c =
+pub returns-in_err-follow_on-in-Header-clause-taken : goal.returns-in_err-follow_on-in-Header-clause-taken
+returns-in_err-follow_on-in-Header-clause-taken g c =
     let p = err_from_is_err_and c.from_residual.result c.from_residual.ensures.1 in
     rw (p.1, p.2) (λ bytes written k.
     let ok = c.in-Ok.ensures in
@@ -39,8 +39,8 @@ returns-in_err-case-in-Header-clause-taken g c =
     (next_of g.F.Follow.stands g.F.Follow.kind old.follower k.case (written ++ old.text) c.args.piece.now c.next_bytes.result.now k.followed c.next_bytes.ensures.line) in
     let s = header_step old.formula old.rows c.push.new.self k.case bytes c.args.piece.now c.next_bytes.result.now c.in-Ok.took.bytes c.in-Ok.took.event c.header.result.now k.kept one
     ok.within.0 c.in-Header.is ok.came (ok.ok bytes k.kept.rows k.kept.stands) ok.kept.0 ok.kept.1 c.header.ensures in
-    live_lacks g.F.Follow.stands g.F.Follow.kind old old.rows c.push.new.self k.kept.rows bytes written c.args.piece.now c.in-Ok.took.bytes c.header.result.now c.in_err-case-in-Header.field-0.0 refl s
-    (subst (λ n. IsNoBegin old.formula n s.columns c.in_err-case-in-Header.field-0.0) c.line.ensures (c.in_err-case-in-Header.ensures s.columns s.is))
+    live_lacks g.F.Follow.stands g.F.Follow.kind old old.rows c.push.new.self k.kept.rows bytes written c.args.piece.now c.in-Ok.took.bytes c.header.result.now c.in_err-follow_on-in-Header.field-0.0 refl s
+    (subst (λ n. IsNoBegin old.formula n s.columns c.in_err-follow_on-in-Header.field-0.0) c.line.ensures (c.in_err-follow_on-in-Header.ensures s.columns s.is))
     (none_made g.F.Follow.stands g.F.Follow.kind old.follower old.formula old.rows.heading bytes k.kept.rows k.case (written ++ old.text) k.kept.tied came k.followed))
 
 pub take_row-requires : goal.take_row-requires
@@ -66,8 +66,8 @@ returns-in-Nothing-clause-taken g c = λ bytes written k.
       followed = k.followed;
     }
 
-pub returns-in_ok-follow-in-Header-clause-taken : goal.returns-in_ok-follow-in-Header-clause-taken
-returns-in_ok-follow-in-Header-clause-taken g c = λ bytes written k.
+pub returns-in_ok-follow_on-in-Header-clause-taken : goal.returns-in_ok-follow_on-in-Header-clause-taken
+returns-in_ok-follow_on-in-Header-clause-taken g c = λ bytes written k.
     let ok = c.in-Ok.ensures in
     let old = c.args.self.now in
     let came = (subst (λ (e : Event). HasCome e old.rows c.push.new.self (take c.in-Ok.took.bytes c.next_bytes.result.now)) c.in-Header.is ok.came).0 in
@@ -75,14 +75,14 @@ returns-in_ok-follow-in-Header-clause-taken g c = λ bytes written k.
     (next_of g.F.Follow.stands g.F.Follow.kind old.follower k.case (written ++ old.text) c.args.piece.now c.next_bytes.result.now k.followed c.next_bytes.ensures.line) in
     let s = header_step old.formula old.rows c.push.new.self k.case bytes c.args.piece.now c.next_bytes.result.now c.in-Ok.took.bytes c.in-Ok.took.event c.header.result.now k.kept one
     ok.within.0 c.in-Header.is ok.came (ok.ok bytes k.kept.rows k.kept.stands) ok.kept.0 ok.kept.1 c.header.ensures in
-    let case = c.in_ok-case-in-Header.case in
-    let begun = subst (λ n. IsBegun old.formula n s.columns case) c.line.ensures (c.in_ok-case-in-Header.ensures s.columns s.is) in
+    let (case, its, follows) = c.in_ok-follow_on-in-Header.ensures s.columns s.is in
+    let begun = subst (λ n. IsBegun old.formula n s.columns case) c.line.ensures its in
     let none = none_made g.F.Follow.stands g.F.Follow.kind old.follower old.formula old.rows.heading bytes k.kept.rows k.case (written ++ old.text) k.kept.tied came k.followed in
     record {
       case = Some case;
       kept = kept_begun old.formula old.rows c.push.new.self k.case bytes (bytes ++ take c.in-Ok.took.bytes c.args.piece.now) c.push.new.self.begun s.heading s.columns case k.kept s.first s.stands
           (ok.kept.1 ∙ k.kept.least) s.some (subst (λ (l : Limits). HasHeaderLine l old.formula.scale (bytes ++ take c.in-Ok.took.bytes c.args.piece.now) c.push.new.self.begun s.columns) (sym ok.kept.0) s.line) begun;
-      followed = subst (λ made. Follows (g.F.Follow.stands c.in_ok-follow-in-Header.field-0) g.F.Follow.kind case made) (sym none) (c.in_ok-follow-in-Header.ensures.ok);
+      followed = subst (λ made. IsFollowed g.F.Follow.stands g.F.Follow.kind c.follow_on.new.follower (Some case) made) (sym none) follows;
     }
 
 pub returns-in_ok-take_row-in-Row-clause-taken : goal.returns-in_ok-take_row-in-Row-clause-taken
