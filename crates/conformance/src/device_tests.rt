@@ -23,41 +23,59 @@ const WATCHED: &str = "[0,0] false\n(0,5) false\n[5,10] true\nstart false\n";
 
 const SUMMARY: &str = "rows 5\ncheck 1\nwatch 2\nstart true\n";
 
-/// The formula by a command, on `RISE` where it is read.
-fn asked<'a>(words: &'a [&'a str], out: &'a str, err: &'a str, status: u8) -> Case<'a> {
-    Case {
-        words,
+/// Whether a command of `x >= 5` on `RISE` is answered so.
+fn answers(
+    alloc: Global,
+    command: &str,
+    out: &str,
+    err: &str,
+    status: u8,
+    devices: Devices,
+) -> Result<bool, Fail> {
+    let case = Case {
+        words: &[command, "x >= 5"],
         input: RISE,
         out,
         err,
         status,
-    }
+    };
+    agrees(alloc, case, devices)
+}
+
+/// Whether `watch` of it is cut off so, once it has written so many bytes.
+fn is_watched(
+    alloc: Global,
+    err: &str,
+    status: u8,
+    written: usize,
+    devices: Devices,
+) -> Result<bool, Fail> {
+    let case = Case {
+        words: &["watch", "x >= 5"],
+        input: RISE,
+        out: WATCHED,
+        err,
+        status,
+    };
+    agrees_so_far(alloc, case, devices, written)
 }
 
 #[test]
 fn each_read_may_fail(rt: HostRuntime) -> Result<(), Fail> {
     let alloc = rt.alloc();
     for (command, out, status) in WHOLE {
-        let words: &[&str] = &[command, "x >= 5"];
-        for read_fails in 1..=6 {
+        for read_fails in 1..=7 {
             let devices = Devices {
                 read_fails,
                 ..pieces(4)
             };
-            let unread = asked(words, "", "read fault\n", 5);
-            assert!(rt;
-                agrees(alloc, unread, devices)?,
-                "{command}, read {read_fails}"
-            );
+            let is_answered = if read_fails == 7 {
+                answers(alloc, command, out, "", status, devices)?
+            } else {
+                answers(alloc, command, "", "read fault\n", 5, devices)?
+            };
+            assert!(rt; is_answered, "{command}, read {read_fails}");
         }
-        let devices = Devices {
-            read_fails: 7,
-            ..pieces(4)
-        };
-        assert!(rt;
-            agrees(alloc, asked(words, out, "", status), devices)?,
-            "{command}"
-        );
     }
     Ok(())
 }
@@ -68,15 +86,13 @@ const WATCHED_BY: [(u64, usize); 6] = [(1, 0), (2, 0), (3, 0), (4, 12), (5, 12),
 #[test]
 fn watch_has_answered_the_rows_before_a_read_that_fails(rt: HostRuntime) -> Result<(), Fail> {
     let alloc = rt.alloc();
-    let words: &[&str] = &["watch", "x >= 5"];
     for (read_fails, written) in WATCHED_BY {
         let devices = Devices {
             read_fails,
             ..pieces(4)
         };
-        let unread = asked(words, WATCHED, "read fault\n", 5);
         assert!(rt;
-            agrees_so_far(alloc, unread, devices, written)?,
+            is_watched(alloc, "read fault\n", 5, written, devices)?,
             "read {read_fails}"
         );
     }
@@ -95,8 +111,14 @@ fn is_cut_off(alloc: Global, words: &[&str], out: &str) -> Result<bool, Fail> {
             write_fails: k + 1,
             ..pieces(4096)
         };
-        let cut = asked(words, out, "write fault\n", 6);
-        if !agrees_so_far(alloc, cut, devices, written)? {
+        let case = Case {
+            words,
+            input: RISE,
+            out,
+            err: "write fault\n",
+            status: 6,
+        };
+        if !agrees_so_far(alloc, case, devices, written)? {
             return Ok(false);
         }
     }
@@ -107,8 +129,7 @@ fn is_cut_off(alloc: Global, words: &[&str], out: &str) -> Result<bool, Fail> {
 fn each_write_may_fail(rt: HostRuntime) -> Result<(), Fail> {
     let alloc = rt.alloc();
     for (command, out, _) in WHOLE {
-        let words: &[&str] = &[command, "x >= 5"];
-        assert!(rt; is_cut_off(alloc, words, out)?, "{command}");
+        assert!(rt; is_cut_off(alloc, &[command, "x >= 5"], out)?, "{command}");
     }
     assert!(rt; is_cut_off(alloc, &["gen", "3", "5"], SUMMARY)?);
     Ok(())
@@ -130,28 +151,28 @@ const WATCHED_IN: [(u64, usize); 8] = [
 #[test]
 fn each_write_of_watch_may_fail(rt: HostRuntime) -> Result<(), Fail> {
     let alloc = rt.alloc();
-    let words: &[&str] = &["watch", "x >= 5"];
     for (write_fails, written) in WATCHED_IN {
         let devices = Devices {
             write_most: 7,
             write_fails,
             ..pieces(4096)
         };
-        let cut = asked(words, WATCHED, "write fault\n", 6);
         assert!(rt;
-            agrees_so_far(alloc, cut, devices, written)?,
+            is_watched(alloc, "write fault\n", 6, written, devices)?,
             "write {write_fails}"
         );
     }
     Ok(())
 }
 
+/// A write of six bytes to the error stream that fails, and what was told by then.
+const TOLD: [(u64, &str); 3] = [(1, ""), (2, "read f"), (3, "read fault\n")];
+
 #[test]
 fn each_write_of_the_line_may_fail(rt: HostRuntime) -> Result<(), Fail> {
     let alloc = rt.alloc();
     for (command, _, _) in WHOLE {
-        let words: &[&str] = &[command, "x >= 5"];
-        for (tell_fails, told) in [(1, ""), (2, "read f"), (3, "read fault\n")] {
+        for (tell_fails, told) in TOLD {
             let devices = Devices {
                 write_most: 6,
                 read_fails: 1,
@@ -159,7 +180,7 @@ fn each_write_of_the_line_may_fail(rt: HostRuntime) -> Result<(), Fail> {
                 ..pieces(4)
             };
             assert!(rt;
-                agrees(alloc, asked(words, "", told, 5), devices)?,
+                answers(alloc, command, "", told, 5, devices)?,
                 "{command}, {told}"
             );
         }
