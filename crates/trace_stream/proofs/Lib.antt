@@ -23,4 +23,7 @@ pub mod Passes
 pub mod Taking
 pub mod Watched
 pub mod WatchedRows
+pub mod Cutting
+pub mod CutRows
+pub mod Owing
 pub mod Margined

@@ -1,5 +1,5 @@
 -- What follows the rows of a trace, and the reader over it.
-use Rattle.std.specs.Prelude.{◌≡◌, ℕ, Bool, true, false, List, [], ◌++◌, Option, Some, None}
+use Rattle.std.specs.Prelude.{◌≡◌, ◌⊎◌, ℕ, Bool, true, false, List, [], ◌++◌, Option, Some, None}
 use Rattle.stl_syntax.specs.Formula.{Formula, root}
 use Rattle.stl_syntax.specs.Trace.{Header, Row}
 use Rattle.trace_reader.specs.declared.refusal.Limits.{Limits}
@@ -18,9 +18,17 @@ pub record Follows (Stands : Case → List ℕ → Type 0) (kind : Stream) (c : 
   pub fits : (f : Formula) × IsCase f c
   pub told : StreamText kind (root c.formula.nodes) c.trace.header c.trace.rows false made
 
+-- the text that was made is that of the rows of the case, or some of it is owed
+abbrev pub IsOpen : (Case → List ℕ → Type 0) → (Case → List ℕ → Type 0) → Stream → Case → List ℕ → Type 0
+IsOpen Stands Owes kind c made = Follows Stands kind c made ⊎ Owes c made
+
 -- for some case, which can take the row
-abbrev pub HasFollowed : (Case → List ℕ → Type 0) → Stream → Row → Type 0
-HasFollowed Stands kind r = (c : Case) × (made : List ℕ) × Follows Stands kind c made × Takes r c.trace
+abbrev pub HasOpen : (Case → List ℕ → Type 0) → (Case → List ℕ → Type 0) → Stream → Row → Type 0
+HasOpen Stands Owes kind r = (c : Case) × (made : List ℕ) × IsOpen Stands Owes kind c made × Takes r c.trace
+
+-- the text grew, and that of the rows of the case is made, or some of it is owed
+abbrev pub IsOpenOn : (Case → List ℕ → Type 0) → (Case → List ℕ → Type 0) → Stream → Case → List ℕ → List ℕ → List ℕ → Type 0
+IsOpenOn Stands Owes kind c old new made = (grown : List ℕ) × (new ≡ old ++ grown) × IsOpen Stands Owes kind c (made ++ grown)
 
 -- the text grew to that of the rows of the case
 abbrev pub IsFollowedOn : (Case → List ℕ → Type 0) → Stream → Case → List ℕ → List ℕ → List ℕ → Type 0
@@ -102,3 +110,30 @@ IsLiveStop kind limits f ended bytes text (Faulty fault) =
     (x : Fault) × IsFault f fault x × IsInputFault limits f bytes ended x × IsTextOf kind limits f bytes ended text
 IsLiveStop kind limits f ended bytes text NoMemory = Unit {0}
 IsLiveStop kind limits f ended bytes text (Wide i den) = ⊥
+
+module _ {F : Type 0} (Stands Owes : F → Case → List ℕ → Type 0) (kind : Stream) where
+  -- once the header was read, the text is that of the case's rows, but for what is owed
+  abbrev pub IsOpened : Option F → Option Case → List ℕ → Type 0
+  IsOpened None None made = made ≡ []
+  IsOpened None (Some c) made = ⊥
+  IsOpened (Some x) None made = ⊥
+  IsOpened (Some x) (Some c) made = IsOpen (Stands x) (Owes x) kind c made
+
+  -- as `IsLive`, but for text that is owed
+  pub record IsLiveOpen (live : Live F) (bytes written : List ℕ) : Type 0 where
+    pub case : Option Case
+    pub kept : IsKept live.formula live.rows case bytes
+    pub followed : IsOpened live.follower case (written ++ live.text)
+
+  -- some bytes and some text
+  pub record HasLivedOpen (live : Live F) : Type 0 where
+    pub bytes : List ℕ
+    pub written : List ℕ
+    pub is : IsLiveOpen live bytes written
+
+  -- why no more was taken of these bytes: at a fault the text, once what is owed was made, is that of the rows before it
+  abbrev pub IsOpenStop : Limits → Formula → Bool → List ℕ → Option F → List ℕ → StreamStop → Type 0
+  IsOpenStop limits f ended bytes follower text (Faulty fault) =
+      (x : Fault) × IsFault f fault x × IsInputFault limits f bytes ended x × (case : Option Case) × IsOpened follower case text
+      × ((after : Option F) (made : List ℕ) → IsFollowed Stands kind after case made → IsTextOf kind limits f bytes ended made)
+  IsOpenStop limits f ended bytes follower text stop = IsLiveStop kind limits f ended bytes text stop

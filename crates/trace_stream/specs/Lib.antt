@@ -2,5 +2,6 @@ pub mod Streams
 pub mod Cases
 pub mod Reading
 pub mod Following
+pub mod Pendings
 pub mod Watching
 pub mod Margining

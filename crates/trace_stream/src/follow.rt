@@ -4,7 +4,7 @@ ghost use Rattle.stl_syntax.specs.Formula.{Formula as Parsed};
 ghost use Rattle.stl_syntax.specs.Trace.{IsTrace};
 ghost use Rattle.trace_stream.specs.Cases.{IsCase, Takes, with_row};
 ghost use Rattle.trace_stream.specs.Streams.{Stream as Kind};
-ghost use Rattle.trace_stream.specs.Following.{Follows, HasFollowed, IsFollowedOn, IsFollowedOut};
+ghost use Rattle.trace_stream.specs.Following.{Follows, HasOpen, IsOpen, IsOpenOn, IsFollowedOn, IsFollowedOut};
 ghost use Rattle.trace_stream.specs.declared.case.Case.{Case as Of};
 
 use crate::case::Case;
@@ -22,6 +22,9 @@ pub trait Follow: Drop {
     /// It stands for the rows of a case so far, for which this text was made.
     ghost stands: { Self → Of → List ℕ → Type 0 };
 
+    /// It stands for the rows of a case so far, of which this text was made for the first; the text of the others is owed.
+    ghost owes: { Self → Of → List ℕ → Type 0 };
+
     /// It stands for all the rows of a case, and their end, for which this text was made.
     ghost ended: { Self → Of → List ℕ → Type 0 };
 
@@ -34,14 +37,23 @@ pub trait Follow: Drop {
         requires none { case.trace.rows ≡ [] }
         ensures { IfOk result (λ x. Follows (stands x) kind case []) };
 
-    /// Takes the next row, and adds to the text what it answers.
+    /// Takes the next row. What it answers is added to the text now, or by `flush`.
     ///
     /// # Errors
     /// Want of memory.
     fn row(&mut self, row: &Row, text: &mut Text) -> Result<(), Memory>
-        requires { HasFollowed (stands self.old) kind row.now }
-        ensures { (c : Of) (made : List ℕ) → Follows (stands self.old) kind c made → Takes row.now c.trace
-            → IfOk result (λ _. IsFollowedOn (stands self.new) kind (with_row row.now c) text.old text.new made) };
+        requires { HasOpen (stands self.old) (owes self.old) kind row.now }
+        ensures { (c : Of) (made : List ℕ) → IsOpen (stands self.old) (owes self.old) kind c made → Takes row.now c.trace
+            → IfOk result (λ _. IsOpenOn (stands self.new) (owes self.new) kind (with_row row.now c) text.old text.new made) };
+
+    /// Adds to the text what the rows answer and what it does not have yet.
+    ///
+    /// # Errors
+    /// Want of memory.
+    fn flush(&mut self, text: &mut Text) -> Result<(), Memory>
+        requires { (c : Of) × (made : List ℕ) × IsOpen (stands self.old) (owes self.old) kind c made }
+        ensures { (c : Of) (made : List ℕ) → IsOpen (stands self.old) (owes self.old) kind c made
+            → IfOk result (λ _. IsFollowedOn (stands self.new) kind c text.old text.new made) };
 
     /// Takes the end, adds to the text what is left, and answers the verdict of the status.
     ///

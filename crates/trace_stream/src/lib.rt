@@ -9,6 +9,7 @@ mod follow;
 mod line;
 mod live;
 mod margins;
+mod pending;
 mod reading;
 mod verdicts;
 

@@ -11,22 +11,43 @@ ghost use Rattle.trace_stream.specs.Watching.{IsWatched, Pass, CanTake, HasTaken
 
 use crate::case::Case;
 use crate::follow::Follow;
+use crate::pending::Pending;
 use frac128::Memory;
 use online_net::Net;
 use report::{put_start, put_verdict};
 use std::alloc::Global;
-use stl_syntax::{Formula, Text, Verdict};
+use stl_syntax::{Formula, Node, Text, Verdict};
 use trace_reader::Row;
 
 /// The network of a formula in the ticks of a trace, and the truth at the start once the first verdict was taken.
 #[derive(Drop)]
-pub struct Verdicts {
+pub struct Network {
     net: Net,
     formula: Formula,
     start: Option<bool>,
 }
 
-impl Verdicts {
+/// A network, the times of the rows that it took and that are not answered yet, and what of its verdicts is not written yet.
+///
+/// A step of a node costs much the same for one row and for many. So the nodes step once for the rows of a piece, and what the root then
+/// gives out is cut where the answer of each row ends. A root that is an atom gives out its verdicts at each row without a step.
+#[derive(Drop)]
+pub struct Verdicts {
+    network: Network,
+    /// How far ahead the formula looks.
+    horizon: u64,
+    times: Vec<u32>,
+    pending: Pending,
+}
+
+/// Whether the root of a formula is an atom.
+fn is_atom(formula: &Formula) -> bool
+    ensures { result ≡ node_is_atom formula.now.nodes (length formula.now.nodes - 1) }
+{
+    matches!(formula.node(formula.len() - 1), Node::Atom(_))
+}
+
+impl Network {
     /// A step of every node in rising order, children before the nodes that read them. An atom is never ready.
     ///
     /// # Errors
@@ -46,6 +67,17 @@ impl Verdicts {
         Ok(())
     }
 
+    /// Keeps the truth of the first verdict.
+    fn keep(&mut self, holds: bool)
+        ensures start { self.new.start ≡ kept_truth self.old.start holds }
+        ensures net { self.new.net ≡ self.old.net }
+        ensures formula { self.new.formula ≡ self.old.formula }
+    {
+        if self.start.is_none() {
+            self.start = Some(holds);
+        }
+    }
+
     /// Adds the line of a verdict, and keeps the first one's truth.
     ///
     /// # Errors
@@ -56,10 +88,24 @@ impl Verdicts {
         ensures net { self.new.net ≡ self.old.net }
         ensures formula { self.new.formula ≡ self.old.formula }
     {
-        if self.start.is_none() {
-            self.start = Some(verdict.holds);
-        }
+        self.keep(verdict.holds);
         put_verdict(text, verdict, self.formula.scale())
+    }
+
+    /// Takes what the root gave out until nothing is left, and keeps it for its lines.
+    ///
+    /// # Errors
+    /// Want of memory.
+    fn give_all(&mut self, pending: &mut Pending) -> Result<(), Memory>
+        requires { (p : Pass) × CanTake p self.old }
+        ensures given { (p : Pass) → CanTake p self.old → IfOk result (λ _. HasGivenAll p self.new pending.old pending.new) }
+        ensures formula { self.new.formula ≡ self.old.formula }
+    {
+        while let Some(verdict) = self.net.take() {
+            self.keep(verdict.holds);
+            pending.push(verdict)?;
+        }
+        Ok(())
     }
 
     /// Takes what the root gave out until nothing is left, and adds its lines.
@@ -78,10 +124,33 @@ impl Verdicts {
     }
 }
 
+impl Verdicts {
+    /// Adds the lines of what was given out, cut where the answer of each row ends.
+    ///
+    /// # Errors
+    /// Want of memory.
+    fn put_rows(&mut self, text: &mut Text) -> Result<(), Memory>
+        ensures lines { IfOk result (λ _. Grew (λ grown. IsTextOfRows self.old.network.formula.scale self.old.horizon self.old.times.items self.old.pending grown self.new.pending) text.old text.new) }
+        ensures network { self.new.network ≡ self.old.network }
+        ensures horizon { self.new.horizon ≡ self.old.horizon }
+    {
+        let scale = self.network.formula.scale();
+        for i in 0..self.times.len() {
+            let time = u64::from(self.times[i]);
+            if self.horizon <= time {
+                self.pending.put_up_to((time - self.horizon) as u32, scale, text)?;
+            }
+        }
+        Ok(())
+    }
+}
+
 impl Follow for Verdicts {
     ghost kind = { verdicts };
 
     ghost stands = { λ s c made. IsWatched false s c };
+
+    ghost owes = { λ s c made. IsOwing s c made };
 
     ghost ended = { λ s c made. IsWatched true s c };
 
@@ -92,28 +161,52 @@ impl Follow for Verdicts {
             trace: _trace,
         } = case;
         let net = Net::new(alloc, &formula, bound)?;
+        let horizon = formula.horizon();
         Ok(Verdicts {
-            net,
-            formula,
-            start: None,
+            network: Network {
+                net,
+                formula,
+                start: None,
+            },
+            horizon,
+            times: Vec::new(alloc),
+            pending: Pending::new(alloc),
         })
     }
 
     fn row(&mut self, row: &Row, text: &mut Text) -> Result<(), Memory> {
-        let Ok(()) = self.net.feed(row) else {
+        let Ok(()) = self.network.net.feed(row) else {
             return Err(Memory);
         };
-        self.step_all()?;
-        self.take_all(text)
+        if is_atom(&self.network.formula) {
+            self.network.step_all()?;
+            return self.network.take_all(text);
+        }
+        match self.times.push(row.time()) {
+            Ok(()) => Ok(()),
+            Err(_) => Err(Memory),
+        }
+    }
+
+    fn flush(&mut self, text: &mut Text) -> Result<(), Memory> {
+        if self.times.is_empty() {
+            return Ok(());
+        }
+        self.network.step_all()?;
+        self.network.give_all(&mut self.pending)?;
+        self.put_rows(text)?;
+        self.times.clear();
+        self.pending.clear();
+        Ok(())
     }
 
     fn end(&mut self, text: &mut Text) -> Result<bool, Memory> {
-        let Ok(()) = self.net.close() else {
+        let Ok(()) = self.network.net.close() else {
             return Err(Memory);
         };
-        self.step_all()?;
-        self.take_all(text)?;
-        let Some(holds) = self.start else {
+        self.network.step_all()?;
+        self.network.take_all(text)?;
+        let Some(holds) = self.network.start else {
             unreachable!()
         };
         put_start(text, holds)?;

@@ -21,7 +21,7 @@ take_row-requires g c =
     let next = subst (λ (e : Event). IsNextRow e new.heading k.kept.rows new.row) c.in-Ok-Row.field-0-is (ok.next bytes k.kept.rows k.kept.stands) in (
       k.case,
       c.requires.written ++ old.text,
-      k.followed,
+      open_of g.F.Follow.stands g.F.Follow.owes g.F.Follow.kind old.follower k.case (c.requires.written ++ old.text) k.followed,
       subst (λ (r : Row). CanKeep k.case r) (sym c.row.ensures)
           (end_can old.formula old.rows new k.case bytes k.kept ok.kept.0 ok.kept.1 new.row whole next),
     )

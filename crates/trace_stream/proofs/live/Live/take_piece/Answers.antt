@@ -2,18 +2,18 @@ use Rattle.std.proofs.Common.{◌≤◌, ◌++◌, length, take, drop, false, re
 use Rattle.std.proofs.lemmas.Result.{err_from_is_err_and}
 use Rattle.stl_syntax.specs.Formula.{Formula}
 use Rattle.trace_reader.specs.declared.refusal.Limits.{Limits}
-use Rattle.trace_stream.specs.Following.{IsLive, IsLiveStop}
+use Rattle.trace_stream.specs.Following.{IsLiveOpen, IsOpenStop}
 use Rattle.trace_stream.proofs.Fed.{rest_is}
 use Rattle.trace_stream.proofs.Fed.{fed}
 use Rattle.trace_stream.proofs.Living.{live_fed}
-use Rattle.trace_stream.proofs.live.Live.feed.Goals as goal
+use Rattle.trace_stream.proofs.live.Live.take_piece.Goals as goal
 
 pub loop-at-init : goal.loop-at-init
 loop-at-init g c = record {
   within = omega arith;
   limits = refl;
   formula = refl;
-  taken = λ bytes written k. subst (λ b. IsLive g.F.Follow.stands g.F.Follow.kind c.args.self.now b written) (sym (append-nil bytes)) k;
+  taken = λ bytes written k. subst (λ b. IsLiveOpen g.F.Follow.stands g.F.Follow.owes g.F.Follow.kind c.args.self.now b written) (sym (append-nil bytes)) k;
 }
 
 pub step-requires : goal.step-requires
@@ -28,10 +28,10 @@ returns-in_err-at-clause-taken g c =
     let p = err_from_is_err_and c.from_residual.result c.from_residual.ensures.1 in
     let piece = c.args.piece.now in
     rw (p.1, p.2) (λ bytes written k.
-    live_fed g.F.Follow.stands g.F.Follow.kind c.args.self.now.rows.limits c.args.self.now.formula bytes piece (written ++ c.step.new.self.text) c.loop-at.at c.in_err-at.field-0.0
-    (subst (λ (l : Limits). IsLiveStop g.F.Follow.kind l c.args.self.now.formula false ((bytes ++ take c.loop-at.at piece) ++ drop c.loop-at.at piece) (written ++ c.step.new.self.text) c.in_err-at.field-0.0) c.loop-at.invariant.limits
-    (subst (λ (f : Formula). IsLiveStop g.F.Follow.kind c.loop-at.self.rows.limits f false ((bytes ++ take c.loop-at.at piece) ++ drop c.loop-at.at piece) (written ++ c.step.new.self.text) c.in_err-at.field-0.0) c.loop-at.invariant.formula
-    (subst (λ b. IsLiveStop g.F.Follow.kind c.loop-at.self.rows.limits c.loop-at.self.formula false ((bytes ++ take c.loop-at.at piece) ++ b) (written ++ c.step.new.self.text) c.in_err-at.field-0.0) (rest_is piece c.loop-at.at)
+    live_fed g.F.Follow.stands g.F.Follow.owes g.F.Follow.kind c.args.self.now.rows.limits c.args.self.now.formula bytes piece (written ++ c.step.new.self.text) c.loop-at.at c.step.new.self.follower c.in_err-at.field-0.0
+    (subst (λ (l : Limits). IsOpenStop g.F.Follow.stands g.F.Follow.owes g.F.Follow.kind l c.args.self.now.formula false ((bytes ++ take c.loop-at.at piece) ++ drop c.loop-at.at piece) c.step.new.self.follower (written ++ c.step.new.self.text) c.in_err-at.field-0.0) c.loop-at.invariant.limits
+    (subst (λ (f : Formula). IsOpenStop g.F.Follow.stands g.F.Follow.owes g.F.Follow.kind c.loop-at.self.rows.limits f false ((bytes ++ take c.loop-at.at piece) ++ drop c.loop-at.at piece) c.step.new.self.follower (written ++ c.step.new.self.text) c.in_err-at.field-0.0) c.loop-at.invariant.formula
+    (subst (λ b. IsOpenStop g.F.Follow.stands g.F.Follow.owes g.F.Follow.kind c.loop-at.self.rows.limits c.loop-at.self.formula false ((bytes ++ take c.loop-at.at piece) ++ b) c.step.new.self.follower (written ++ c.step.new.self.text) c.in_err-at.field-0.0) (rest_is piece c.loop-at.at)
     (c.in_err-at.ensures.taken (bytes ++ take c.loop-at.at piece) written (c.loop-at.invariant.taken bytes written k))))))
 
 pub returns-in_err-at-clause-limits : goal.returns-in_err-at-clause-limits
@@ -49,13 +49,13 @@ loop-at-preserved g c =
       within = omega (arith, length-drop c.loop-at.at c.args.piece.now);
       limits = c.in_ok-at.ensures.limits ∙ c.loop-at.invariant.limits;
       formula = c.in_ok-at.ensures.formula ∙ c.loop-at.invariant.formula;
-      taken = λ bytes written k. subst (λ b. IsLive g.F.Follow.stands g.F.Follow.kind c.step.new.self b written)
+      taken = λ bytes written k. subst (λ b. IsLiveOpen g.F.Follow.stands g.F.Follow.owes g.F.Follow.kind c.step.new.self b written)
           (fed bytes c.args.piece.now c.loop-at.at c.in_ok-at.field-0)
           (c.in_ok-at.ensures.taken (bytes ++ take c.loop-at.at c.args.piece.now) written (c.loop-at.invariant.taken bytes written k));
     }
 
 pub returns-clause-taken : goal.returns-clause-taken
-returns-clause-taken g c = λ bytes written k. subst (λ b. IsLive g.F.Follow.stands g.F.Follow.kind c.loop-at.self (bytes ++ b) written)
+returns-clause-taken g c = λ bytes written k. subst (λ b. IsLiveOpen g.F.Follow.stands g.F.Follow.owes g.F.Follow.kind c.loop-at.self (bytes ++ b) written)
     (take_all c.loop-at.at c.args.piece.now c.loop-at-test.false) (c.loop-at.invariant.taken bytes written k)
 
 pub returns-clause-limits : goal.returns-clause-limits
