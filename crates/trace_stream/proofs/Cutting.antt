@@ -1,6 +1,7 @@
 -- Verdicts that are cut at a time: where they describe a stretch, what lies up to the time and what lies after it describe its parts.
-use Rattle.std.proofs.Common.{◌≡◌, ◌⊎◌, inl, inr, ℕ, Bool, true, false, not, List, [], ◌∷◌, refl, sym, ap, ◌∙◌, subst}
+use Rattle.std.proofs.Common.{◌≡◌, ◌⊎◌, inl, inr, ℕ, Bool, true, false, not, List, [], ◌∷◌, refl, sym, ap, ◌∙◌, subst, Option, Some, None}
 use Rattle.std.specs.Prelude.{◌≢◌, MatchBool}
+use Rattle.std.specs.Option.{option_to_list}
 use Rattle.rational.specs.Time.{Rational, Interval, IsIn}
 use Rattle.rational.proofs.Order.{same_refl, same_sym}
 use Rattle.frac128.specs.Spans.{interval}
@@ -17,11 +18,20 @@ use Rattle.online_nodes.proofs.HeldLaw.{is_in}
 use Rattle.online_nodes.proofs.MeetingLaw.{tiled_upto}
 use Rattle.online_nodes.proofs.EmittedLaw.{describes_tiles}
 use Rattle.online_nodes.proofs.StayLaw.{Agree}
-use Rattle.trace_stream.specs.Pendings.{just_after, IsPartBefore, IsPartAfter, AreUpTo, none_left, all_later, one_whole, one_cut}
+use Rattle.trace_stream.specs.Pendings.{just_after, GoesBeyond, IsCut, IsPartBefore, IsPartAfter, AreUpTo, none_left, all_later, one_whole, one_cut}
 
 -- of no verdicts none lies up to a time
 pub of_none : {f : ℕ} {some left : List Verdict} → AreUpTo f [] some left → (some ≡ []) × (left ≡ [])
 of_none none_left = (refl, refl)
+
+-- what a cut takes and leaves
+pub cut_parts : (f : ℕ) (vs left : List Verdict) (part : Option Verdict) → GoesBeyond f vs → IsCut f vs part left
+    → AreUpTo f vs (option_to_list part) left
+cut_parts f [] left None b h = subst (λ l. AreUpTo f [] [] l) (sym h) none_left
+cut_parts f [] left (Some part) b h = absurd h
+cut_parts f (v ∷ vs) left None b (later, e) = subst (λ l. AreUpTo f (v ∷ vs) [] l) (sym e) (all_later v vs later)
+cut_parts f (v ∷ vs) left (Some part) b (begun, before, (rest, after, e)) =
+    subst (λ l. AreUpTo f (v ∷ vs) (part ∷ []) l) (sym e) (one_cut v part rest vs begun b before after)
 
 -- ---- places
 

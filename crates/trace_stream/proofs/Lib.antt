@@ -26,4 +26,5 @@ pub mod WatchedRows
 pub mod Cutting
 pub mod CutRows
 pub mod Owing
+pub mod Opening
 pub mod Margined

@@ -341,17 +341,18 @@ module _ (v : Verdicts) (c : Case) (made : List ℕ) (o : IsOwing v c made) wher
     start = same ∙ o.start ∙ sym fed.truth ∙ sym x.truth ∙ sym (ap first_truth (take-append_seam x.first x.beyond));
   }
 
+  -- its rows are the case's
+  pub owing_rows : (state c.formula.nodes o.events).rows ≡ c.trace.rows
+  unfolding state
+  owing_rows =
+      ap (λ es. (state_from c.formula.nodes initial es).rows) o.fed.is
+      ∙ ap (λ (z : State). z.rows) (state_after c.formula.nodes c.trace.header initial fed_by (row o.last ∷ []))
+      ∙ ap (λ l. l ++ o.last ∷ []) (fed_rows c.formula.nodes c.trace.header o.more o.fed.driven) ∙ sym o.rows
+
   are_rows : AreRows (length c.trace.header.columns) c.trace.rows
   are_rows = by_rows c.trace.rows o.rows
-      (subst (λ l. AreRowsSoFar (length c.trace.header.columns) l) came (rows_came c.formula.nodes c.trace.header o.events o.stands.run))
+      (subst (λ l. AreRowsSoFar (length c.trace.header.columns) l) owing_rows (rows_came c.formula.nodes c.trace.header o.events o.stands.run))
     where
-      came : (state c.formula.nodes o.events).rows ≡ c.trace.rows
-      unfolding state
-      came =
-          ap (λ es. (state_from c.formula.nodes initial es).rows) o.fed.is
-          ∙ ap (λ (z : State). z.rows) (state_after c.formula.nodes c.trace.header initial fed_by (row o.last ∷ []))
-          ∙ ap (λ l. l ++ o.last ∷ []) (fed_rows c.formula.nodes c.trace.header o.more o.fed.driven) ∙ sym o.rows
-
       by_rows : (l : List Row) → l ≡ (o.before ++ o.more) ++ o.last ∷ [] → AreRowsSoFar (length c.trace.header.columns) l → AreRows (length c.trace.header.columns) l
       by_rows [] e k = absurd (no_row (o.before ++ o.more) o.last (sym e))
       by_rows (q ∷ l) e k = k

@@ -60,7 +60,7 @@ first_alike [] (w ∷ ws) e = absurd e
 first_alike (v ∷ vs) [] e = absurd e
 first_alike (v ∷ vs) (w ∷ ws) e = ap (λ (b : Bool). Some b) e.2
 
-lines_more : (scale : Scale) (vs : List Verdict) (v : Verdict) (text line : List ℕ) → AreVerdictLines scale vs text → IsVerdictLine scale v line
+pub lines_more : (scale : Scale) (vs : List Verdict) (v : Verdict) (text line : List ℕ) → AreVerdictLines scale vs text → IsVerdictLine scale v line
     → AreVerdictLines scale (vs ++ v ∷ []) (text ++ line)
 lines_more scale [] v text line none is = (line, [], is, refl, ap (λ t. t ++ line) none ∙ sym (append-nil line))
 lines_more scale (w ∷ vs) v text line (here, later, first, rest, e) is =

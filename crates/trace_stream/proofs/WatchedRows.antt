@@ -29,7 +29,7 @@ after_time : (r : Row) (rows : List Row) → (last_row_after r rows).time ≡ la
 after_time r [] = refl
 after_time r (q ∷ rows) = after_time q rows
 
-later_row : (rows : List Row) (r : Row) → (0 < length rows → last_time 0 rows < r.time) → IfSome (last_row_of rows) (λ (l : Row). l.time < r.time)
+pub later_row : (rows : List Row) (r : Row) → (0 < length rows → last_time 0 rows < r.time) → IfSome (last_row_of rows) (λ (l : Row). l.time < r.time)
 later_row [] r h = tt
 later_row (q ∷ rows) r h = subst (λ n. n < r.time) (sym (after_time q rows)) (h (omega arith))
 

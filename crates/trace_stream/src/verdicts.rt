@@ -1,13 +1,14 @@
 //! The verdicts of a formula as the rows of a trace come: a network of operators follows them.
-ghost use Rattle.std.specs.Prelude.{◌≡◌, ◌++◌, ℕ, List, length, true, false, IfOk};
+ghost use Rattle.std.specs.Prelude.{◌≡◌, ◌-◌, ◌++◌, ℕ, List, length, true, false, IfOk};
 ghost use Rattle.stl_syntax.specs.Trace.{Header};
 ghost use Rattle.stl_syntax.specs.Texts.{IsVerdictLine};
-ghost use Rattle.online_nodes.specs.Network.{Event};
+ghost use Rattle.online_nodes.specs.Network.{Event, node_is_atom};
 ghost use Rattle.online_nodes.specs.Driven.{steps_of};
 ghost use Rattle.online_net.specs.Nets.{Stands};
 ghost use Rattle.report.specs.Appended.{Grew};
+ghost use Rattle.trace_stream.specs.Pendings.{IsTextOfRow, IsTextOfRows};
 ghost use Rattle.trace_stream.specs.Streams.{verdicts};
-ghost use Rattle.trace_stream.specs.Watching.{IsWatched, Pass, CanTake, HasTakenAll, kept_truth};
+ghost use Rattle.trace_stream.specs.Watching.{IsWatched, IsOwing, Pass, CanTake, HasGivenAll, HasTakenAll, kept_truth};
 
 use crate::case::Case;
 use crate::follow::Follow;
@@ -125,6 +126,24 @@ impl Network {
 }
 
 impl Verdicts {
+    /// Adds the lines of what a row at this time answers, of what was given out.
+    ///
+    /// # Errors
+    /// Want of memory.
+    fn put_row(&mut self, time: u32, text: &mut Text) -> Result<(), Memory>
+        ensures lines { IfOk result (λ _. Grew (λ grown. IsTextOfRow self.old.network.formula.scale self.old.horizon time self.old.pending grown self.new.pending) text.old text.new) }
+        ensures network { self.new.network ≡ self.old.network }
+        ensures horizon { self.new.horizon ≡ self.old.horizon }
+        ensures times { self.new.times ≡ self.old.times }
+    {
+        let time = u64::from(time);
+        if time < self.horizon {
+            return Ok(());
+        }
+        let front = (time - self.horizon) as u32;
+        self.pending.put_up_to(front, self.network.formula.scale(), text)
+    }
+
     /// Adds the lines of what was given out, cut where the answer of each row ends.
     ///
     /// # Errors
@@ -134,12 +153,9 @@ impl Verdicts {
         ensures network { self.new.network ≡ self.old.network }
         ensures horizon { self.new.horizon ≡ self.old.horizon }
     {
-        let scale = self.network.formula.scale();
         for i in 0..self.times.len() {
-            let time = u64::from(self.times[i]);
-            if self.horizon <= time {
-                self.pending.put_up_to((time - self.horizon) as u32, scale, text)?;
-            }
+            let time = self.times[i];
+            self.put_row(time, text)?;
         }
         Ok(())
     }
