@@ -1,5 +1,5 @@
 -- Verdicts that are cut at a time: where they describe a stretch, what lies up to the time and what lies after it describe its parts.
-use Rattle.std.proofs.Common.{◌≡◌, ◌⊎◌, inl, inr, ℕ, Bool, true, false, not, List, [], ◌∷◌, refl, sym, ap, ◌∙◌, subst, Option, Some, None}
+use Rattle.std.proofs.Common.{◌≡◌, ◌⊎◌, inl, inr, ℕ, Bool, true, false, not, List, [], ◌∷◌, ◌++◌, refl, sym, ap, ◌∙◌, subst, append-nil, append_assoc, Option, Some, None}
 use Rattle.std.specs.Prelude.{◌≢◌, MatchBool}
 use Rattle.std.specs.Option.{option_to_list}
 use Rattle.rational.specs.Time.{Rational, Interval, IsIn}
@@ -9,7 +9,9 @@ use Rattle.stl_syntax.specs.Formula.{Subformula}
 use Rattle.stl_syntax.specs.Trace.{Trace}
 use Rattle.stl_syntax.specs.Truth.{Truth}
 use Rattle.stl_syntax.specs.Verdicts.{Describes, GoesOn, IsTold, AreAlike}
+use Rattle.stl_syntax.specs.Texts.{AreVerdictLines, IsVerdictLine}
 use Rattle.stl_syntax.specs.declared.items.Verdict.{Verdict}
+use Rattle.stl_syntax.specs.declared.scale.Scale.{Scale}
 use Rattle.online_nodes.specs.Cuts.{Place, begins, ends, After, Upto, Before, Same}
 use Rattle.online_nodes.specs.Laws.{AreTiles, AreTold}
 use Rattle.online_nodes.proofs.PlaceLemmas.{not_both, place_order, upto_of_before, after_of_before, same_places, upto_same, after_same, between, same_before, before_same, before_trans, same_trans_places}
@@ -32,6 +34,13 @@ cut_parts f [] left (Some part) b h = absurd h
 cut_parts f (v ∷ vs) left None b (later, e) = subst (λ l. AreUpTo f (v ∷ vs) [] l) (sym e) (all_later v vs later)
 cut_parts f (v ∷ vs) left (Some part) b (begun, before, (rest, after, e)) =
     subst (λ l. AreUpTo f (v ∷ vs) (part ∷ []) l) (sym e) (one_cut v part rest vs begun b before after)
+
+-- the lines of one verdict more
+pub lines_more : (scale : Scale) (vs : List Verdict) (v : Verdict) (text line : List ℕ) → AreVerdictLines scale vs text → IsVerdictLine scale v line
+    → AreVerdictLines scale (vs ++ v ∷ []) (text ++ line)
+lines_more scale [] v text line none is = (line, [], is, refl, ap (λ t. t ++ line) none ∙ sym (append-nil line))
+lines_more scale (w ∷ vs) v text line (here, later, first, rest, e) is =
+    (here, later ++ line, first, lines_more scale vs v later line rest is, ap (λ t. t ++ line) e ∙ append_assoc here later line)
 
 -- ---- places
 

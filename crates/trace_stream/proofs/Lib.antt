@@ -20,10 +20,10 @@ pub mod FrontTexts
 pub mod Living
 pub mod Told
 pub mod Passes
+pub mod Cutting
 pub mod Taking
 pub mod Watched
 pub mod WatchedRows
-pub mod Cutting
 pub mod CutRows
 pub mod Owing
 pub mod Opening

@@ -22,6 +22,7 @@ use Rattle.online_net.specs.Nets.{Parts, Stands, IsNext, IsStepped}
 use Rattle.report.specs.Appended.{Grew}
 use Rattle.trace_stream.specs.Watching.{first_truth, kept_truth, Pass, CanTake, HasTaken, HasGiven}
 use Rattle.trace_stream.specs.declared.verdicts.Network.{Network}
+use Rattle.trace_stream.proofs.Cutting.{lines_more}
 use Rattle.trace_stream.proofs.Passes.{steps_append, alike_append, emitted_alike, alike_length, taken_once, lines_alike}
 
 -- ---- lists
@@ -59,12 +60,6 @@ first_alike [] [] e = refl
 first_alike [] (w ∷ ws) e = absurd e
 first_alike (v ∷ vs) [] e = absurd e
 first_alike (v ∷ vs) (w ∷ ws) e = ap (λ (b : Bool). Some b) e.2
-
-pub lines_more : (scale : Scale) (vs : List Verdict) (v : Verdict) (text line : List ℕ) → AreVerdictLines scale vs text → IsVerdictLine scale v line
-    → AreVerdictLines scale (vs ++ v ∷ []) (text ++ line)
-lines_more scale [] v text line none is = (line, [], is, refl, ap (λ t. t ++ line) none ∙ sym (append-nil line))
-lines_more scale (w ∷ vs) v text line (here, later, first, rest, e) is =
-    (here, later ++ line, first, lines_more scale vs v later line rest is, ap (λ t. t ++ line) e ∙ append_assoc here later line)
 
 line_alike : (scale : Scale) (v w : Verdict) (line : List ℕ) → AreAlike (v ∷ []) (w ∷ []) → IsVerdictLine scale v line → IsVerdictLine scale w line
 line_alike scale v w line same is =

@@ -1,7 +1,6 @@
 use Rattle.std.proofs.Common.{[], ◌∷◌, ◌++◌, length, refl, sym, ap, ◌∙◌, subst, append-nil, append_assoc, Some, None, arith}
 use Rattle.trace_stream.specs.Pendings.{AreUpTo, GoesBeyond, IsNextUpTo, one_whole}
-use Rattle.trace_stream.proofs.Cutting.{cut_parts}
-use Rattle.trace_stream.proofs.Taking.{lines_more}
+use Rattle.trace_stream.proofs.Cutting.{cut_parts, lines_more}
 use Rattle.trace_stream.proofs.pending.Pending.put_up_to.Goals as goal
 
 pub loop-verdict-init : goal.loop-verdict-init
