@@ -256,9 +256,9 @@ last_row_is (r ∷ rows) s some e =
 -- after a row
 at_row : (nodes : List Node) (rows : List Row) (r : Row) (s : State) → IsPostOrder nodes → s.rows ≡ rows → s.closed ≡ false
     → IsAt nodes (rows ++ r ∷ []) false (state_from nodes (after_event nodes s (row r)) (steps_of 0 nodes))
-at_row nodes rows r s order rows_are open = record {
+at_row nodes rows r s order rows_are still = record {
   rows_are = kept.0 ∙ ap (λ x. x ++ r ∷ []) rows_are;
-  closed = kept.1 ∙ open;
+  closed = kept.1 ∙ still;
   fronts = λ some i h.
       stepped nodes order false (pos r.time) 0 [] nodes refl refl (after_event nodes s (row r)) passing (λ j g. absurd (omega arith)) i h
       ∙ ap (λ t. Some (front_at false (pos t) (subformula nodes i))) (sym (time_appended 0 rows r));
@@ -277,7 +277,7 @@ at_row nodes rows r s order rows_are open = record {
         (ap (λ (z : ℤ). Some z) same)
 
     passing : IsPassing nodes order false (pos r.time) (after_event nodes s (row r))
-    passing = record { last = last_appended s.rows r s.closed (after_event nodes s (row r)).fronts; closed = open; atoms = by_atom }
+    passing = record { last = last_appended s.rows r s.closed (after_event nodes s (row r)).fronts; closed = still; atoms = by_atom }
 
 -- after rows that no step follows
 rows_come : (nodes : List Node) (s : State) (more : List Row)

@@ -263,6 +263,23 @@ module _ {F : Type 0} (Stands Owes : F → Case → List ℕ → Type 0) (kind :
     followed = subst (λ made. IsFollowed Stands kind after k.case made) (sym (more_text written mid.text new grown e)) t;
   }
 
+  -- so where that answers
+  pub flushed : (limits : Limits) (f : Formula) (mid : Live F) (bytes written new : List ℕ) (after : Option F) (r : Result (Unit {0}) StreamStop)
+      → (k : IsLiveOpen Stands Owes kind mid bytes written)
+      → IfOk r (λ _. (grown : List ℕ) × (new ≡ mid.text ++ grown) × IsFollowed Stands kind after k.case ((written ++ mid.text) ++ grown))
+      → IfErr r (λ e. e ≡ NoMemory)
+      → MatchResult r (λ _. IsLive Stands kind (record mid { follower = after; text = new }) bytes written)
+      (λ e. IsLiveStop kind limits f false bytes (written ++ new) e)
+  flushed limits f mid bytes written new after (Ok x) k (grown, e, t) none = open_flushed mid bytes written new grown after k e t
+  flushed limits f mid bytes written new after (Err e) k ok none =
+      subst (λ (s : StreamStop). IsLiveStop kind limits f false bytes (written ++ new) s) (sym none) tt
+
+  -- before the header nothing is owed
+  pub none_flushed : (case : Option Case) (made text : List ℕ) → IsOpened Stands Owes kind None case made
+      → (grown : List ℕ) × (text ≡ text ++ grown) × IsFollowed Stands kind None case (made ++ grown)
+  none_flushed None made text t = ([], sym (append-nil text), append-nil made ∙ t)
+  none_flushed (Some c) made text t = absurd t
+
   -- so at a fault
   pub fault_flushed : (limits : Limits) (f : Formula) (ended : Bool) (bytes written old new grown : List ℕ) (follower after : Option F) (fault : TraceFault)
       → (k : IsOpenStop Stands Owes kind limits f ended bytes follower (written ++ old) (Faulty fault)) → new ≡ old ++ grown

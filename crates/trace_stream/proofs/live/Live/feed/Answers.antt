@@ -1,0 +1,25 @@
+use Rattle.std.proofs.Common.{◌++◌, sym, ◌∙◌, subst}
+use Rattle.std.proofs.lemmas.Result.{err_from_is_err_and}
+use Rattle.trace_stream.specs.declared.fault.StreamStop.{StreamStop}
+use Rattle.trace_stream.specs.Following.{IsLiveStop, IsOpenStop}
+use Rattle.trace_stream.proofs.Living.{live_open, flushed, fault_flushed}
+use Rattle.trace_stream.proofs.live.Live.feed.Goals as goal
+
+pub take_piece-requires : goal.take_piece-requires
+take_piece-requires g c = record {
+  bytes = c.requires.bytes;
+  written = c.requires.written;
+  is = live_open g.F.Follow.stands g.F.Follow.owes g.F.Follow.kind c.args.self.now c.requires.bytes c.requires.written c.requires.is;
+}
+
+pub flush-requires : goal.flush-requires
+flush-requires g c =
+    let k = c.in-Ok.ensures.taken c.requires.bytes c.requires.written
+    (live_open g.F.Follow.stands g.F.Follow.owes g.F.Follow.kind c.args.self.now c.requires.bytes c.requires.written c.requires.is) in
+    (k.case, c.requires.written ++ c.take_piece.new.self.text, k.followed)
+
+pub returns-in-Ok-clause-taken : goal.returns-in-Ok-clause-taken
+returns-in-Ok-clause-taken g c = λ bytes written k.
+    let k2 = c.in-Ok.ensures.taken bytes written (live_open g.F.Follow.stands g.F.Follow.owes g.F.Follow.kind c.args.self.now bytes written k) in
+    flushed g.F.Follow.stands g.F.Follow.owes g.F.Follow.kind c.args.self.now.rows.limits c.args.self.now.formula c.take_piece.new.self (bytes ++ c.args.piece.now) written
+    c.flush.new.text c.flush.new.follower c.flush.result k2 (c.flush.ensures.ok k2.case (written ++ c.take_piece.new.self.text) k2.followed) c.flush.ensures.err
