@@ -1,28 +1,30 @@
-use Rattle.std.proofs.Common.{[], ◌∷◌, ◌++◌, ◌∙◌}
+use Rattle.std.proofs.Common.{[], ◌∷◌, ◌++◌, sym, ap, ◌∙◌, subst, append-nil, inl, inr}
 use Rattle.std.specs.Prelude.{◌≢◌}
 use Rattle.std.proofs.lemmas.Result.{IfOk-weaker}
 use Rattle.online_nodes.specs.Network.{row as came, take as taken}
+use Rattle.trace_stream.specs.Cases.{with_row}
+use Rattle.trace_stream.specs.Watching.{IsOwing}
 use Rattle.trace_stream.proofs.Watched.{pass_before}
-use Rattle.trace_stream.proofs.WatchedRows.{fits_width, fits_time, places, steps_stand, passing, can_take, row_followed}
+use Rattle.trace_stream.proofs.WatchedRows.{steps_stand, passing, can_take, row_followed}
+use Rattle.trace_stream.proofs.Opening.{open_width, open_time, open_places, atom_owes_none, owes_on}
 use Rattle.trace_stream.proofs.verdicts.VerdictsFollow.row.Goals as goal
 
 pub feed-requires-clause-width : goal.feed-requires-clause-width
-feed-requires-clause-width c = let (case, made, k, t) = c.requires in fits_width c.args.self.now case k.stands c.args.row.now t
+feed-requires-clause-width c = let (case, made, opened, t) = c.requires in open_width c.args.self.now case made opened c.args.row.now t
 
 pub feed-requires-clause-later : goal.feed-requires-clause-later
-feed-requires-clause-later c = let (case, made, k, t) = c.requires in fits_time c.args.self.now case k.stands c.args.row.now t
+feed-requires-clause-later c = let (case, made, opened, t) = c.requires in open_time c.args.self.now case made opened c.args.row.now t
 
 pub step_all-requires : goal.step_all-requires
 step_all-requires c =
-    let (case, made, k, t) = c.requires in
-    let w = k.stands in
-    places c.args.self.now case w c.feed.new.self (w.events ++ came c.args.row.now ∷ [])
-    (c.in-Ok.ensures.stands case.formula.nodes case.trace.header w.events w.stands)
+    let (case, made, opened, t) = c.requires in
+    c.in-Ok.ensures.nodes ∙ open_places c.args.self.now case made opened
 
 pub take_all-requires : goal.take_all-requires
 take_all-requires c =
-    let (case, made, k, t) = c.requires in
+    let (case, made, opened, t) = c.requires in
     let v = c.args.self.now in
+    let k = atom_owes_none v case made opened (sym c.is_atom.ensures ∙ c.if-is_atom.true) in
     let w = k.stands in
     let e = came c.args.row.now in
     let mid = c.step_all.new.self in
@@ -32,9 +34,10 @@ take_all-requires c =
     let x = passing v case w e mid.net ne st in
     (pass_before case.formula.nodes case.trace.header w.events e x.first x.beyond, can_take v case w e x mid st c.step_all.ensures.start)
 
-pub returns : goal.returns
-returns c = λ case made k t.
+pub returns-in_ok-step_all : goal.returns-in_ok-step_all
+returns-in_ok-step_all c = λ case made opened t.
     let v = c.args.self.now in
+    let k = atom_owes_none v case made opened (sym c.is_atom.ensures ∙ c.if-is_atom.true) in
     let w = k.stands in
     let (f, is) = k.fits in
     let e = came c.args.row.now in
@@ -46,6 +49,18 @@ returns c = λ case made k t.
     let x = passing v case w e mid.net ne st in
     let can = can_take v case w e x mid st c.step_all.ensures.start in
     IfOk-weaker c.take_all.result _ _
-    (λ u h. row_followed v case w f made c.args.row.now x after c.args.text.now c.take_all.new.text is k.told t
-    (c.take_all.ensures.formula ∙ c.step_all.ensures.formula) h)
+    (λ u h.
+    let (grown, is_grown, follows) = row_followed v case w f made c.args.row.now x after c.args.text.now c.take_all.new.text is k.told t
+    (c.take_all.ensures.formula ∙ c.step_all.ensures.formula) h in (grown, is_grown, inl follows))
     (c.take_all.ensures.taken (pass_before case.formula.nodes case.trace.header w.events e x.first x.beyond) can)
+
+pub returns-in-Ok-2 : goal.returns-in-Ok-2
+returns-in-Ok-2 c = λ case made opened t.
+    let v = c.args.self.now in (
+      [],
+      sym (append-nil c.args.text.now),
+      inr (subst (λ m. IsOwing _ (with_row c.args.row.now case) m) (sym (append-nil made))
+          (owes_on v case made opened (sym c.is_atom.ensures ∙ c.if-is_atom.false) _ c.args.row.now
+          (λ nodes header events st. c.in-Ok.ensures.stands nodes header events st) refl refl refl
+          (c.in-Ok-2.ensures.items ∙ ap (λ n. v.times.items ++ n ∷ []) c.time.ensures) refl)),
+    )
