@@ -1,10 +1,13 @@
 -- Verdicts that are cut at a time: where they describe a stretch, what lies up to the time and what lies after it describe its parts.
-use Rattle.std.proofs.Common.{◌≡◌, ◌⊎◌, inl, inr, ℕ, Bool, true, false, not, List, [], ◌∷◌, ◌++◌, refl, sym, ap, ◌∙◌, subst, append-nil, append_assoc, Option, Some, None}
-use Rattle.std.specs.Prelude.{◌≢◌, MatchBool}
+use Rattle.std.proofs.Common.{◌≡◌, ◌⊎◌, inl, inr, ℕ, ◌<◌, pos, arith, length, Bool, true, false, not, ◌&&◌, List, [], ◌∷◌, ◌++◌, refl, sym, ap, ◌∙◌, subst, append-nil, append_assoc, Option, Some, None}
+use Rattle.std.specs.Prelude.{◌≢◌, MatchBool, slice_index_or, slice_set}
 use Rattle.std.specs.Option.{option_to_list}
-use Rattle.rational.specs.Time.{Rational, Interval, IsIn}
+use Rattle.rational.specs.Rational.{whole, ◌≈◌}
+use Rattle.rational.specs.Time.{Rational, Interval, IsIn, HasTimeBetween}
 use Rattle.rational.proofs.Order.{same_refl, same_sym}
 use Rattle.frac128.specs.Spans.{interval}
+use Rattle.frac128.specs.Value.{value}
+use Rattle.frac128.specs.declared.frac.Frac.{Frac}
 use Rattle.stl_syntax.specs.Formula.{Subformula}
 use Rattle.stl_syntax.specs.Trace.{Trace}
 use Rattle.stl_syntax.specs.Truth.{Truth}
@@ -14,7 +17,7 @@ use Rattle.stl_syntax.specs.declared.items.Verdict.{Verdict}
 use Rattle.stl_syntax.specs.declared.scale.Scale.{Scale}
 use Rattle.online_nodes.specs.Cuts.{Place, begins, ends, After, Upto, Before, Same}
 use Rattle.online_nodes.specs.Laws.{AreTiles, AreTold}
-use Rattle.online_nodes.proofs.PlaceLemmas.{not_both, place_order, upto_of_before, after_of_before, same_places, upto_same, after_same, between, same_before, before_same, before_trans, same_trans_places}
+use Rattle.online_nodes.proofs.PlaceLemmas.{not_both, place_order, upto_of_before, after_of_before, same_places, upto_same, after_same, between, same_before, before_same, before_trans, same_trans_places, room_of_before}
 use Rattle.online_nodes.proofs.Writing.{in_after, in_upto, some_in}
 use Rattle.online_nodes.proofs.HeldLaw.{is_in}
 use Rattle.online_nodes.proofs.MeetingLaw.{tiled_upto}
@@ -42,6 +45,26 @@ lines_more scale [] v text line none is = (line, [], is, refl, ap (λ t. t ++ li
 lines_more scale (w ∷ vs) v text line (here, later, first, rest, e) is =
     (here, later ++ line, first, lines_more scale vs v later line rest is, ap (λ t. t ++ line) e ∙ append_assoc here later line)
 
+-- the same of a verdict that was replaced by what is left of it
+pub cut_is : (f : ℕ) (vs : List Verdict) (v part rest : Verdict) → 0 < length vs → v ≡ slice_index_or vs 0 v → Before (begins (interval v.on)) (just_after f)
+    → IsPartBefore f v part → IsPartAfter f v rest → IsCut f vs (Some part) (slice_set vs 0 rest)
+cut_is f [] v part rest some e begun before after = absurd (omega (arith, some))
+cut_is f (w ∷ vs) v part rest some e begun before after =
+    subst (λ (z : Verdict). Before (begins (interval z.on)) (just_after f) × IsPartBefore f z part
+    × ((more : Verdict) × IsPartAfter f z more × (slice_set (w ∷ vs) 0 rest ≡ more ∷ vs))) e (begun, before, (rest, after, refl))
+
+-- the same verdicts the other way round
+pub alike_sym : (vs ws : List Verdict) → AreAlike vs ws → AreAlike ws vs
+alike_sym [] [] e = tt
+alike_sym [] (w ∷ ws) e = absurd e
+alike_sym (v ∷ vs) [] e = absurd e
+alike_sym (v ∷ vs) (w ∷ ws) (begin, end, holds, e) = (
+  record { time = same_sym begin.time; inside = sym begin.inside },
+  record { time = same_sym end.time; inside = sym end.inside },
+  sym holds,
+  alike_sym vs ws e,
+)
+
 -- ---- places
 
 -- no place comes before itself, by two names
@@ -68,6 +91,25 @@ not_alike false true e = e
 not_self : (b : Bool) → b ≡ not b → ⊥
 not_self true e = let h = e in cc
 not_self false e = let h = e in cc
+
+not_not : (b : Bool) → not (not b) ≡ b
+not_not true = refl
+not_not false = refl
+
+-- there is room in what of a verdict lies up to a time by which it begins
+pub room_before : (f : ℕ) (v : Verdict) (to : Frac) → value to ≈ whole (pos f) → Before (begins (interval v.on)) (just_after f)
+    → HasTimeBetween (value v.on.from) (value to) (v.on.from_in && true)
+room_before f v to same h =
+    subst (λ b. HasTimeBetween (value v.on.from) (value to) (b && true)) (not_not v.on.from_in)
+    (room_of_before (begins (interval v.on)) (record { at = value to; after = true })
+    (before_same (begins (interval v.on)) (just_after f) (record { at = value to; after = true }) h (same_sym same, refl)))
+
+-- and in what of it lies after a time beyond which it goes on
+pub room_after : (f : ℕ) (v : Verdict) (from : Frac) → value from ≈ whole (pos f) → Before (just_after f) (ends (interval v.on))
+    → HasTimeBetween (value from) (value v.on.to) (false && v.on.to_in)
+room_after f v from same h =
+    room_of_before (record { at = value from; after = true }) (ends (interval v.on))
+    (same_before (record { at = value from; after = true }) (just_after f) (ends (interval v.on)) (same, refl) h)
 
 -- ---- verdicts that lead from one place to another
 

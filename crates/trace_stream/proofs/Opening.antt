@@ -1,6 +1,6 @@
 -- A network of verdicts that follows a case, whose text is made for all rows or is owed for some.
 use Rattle.std.proofs.Common.{◌≡◌, inl, inr, ℕ, ◌-◌, ◌<◌, Bool, true, false, List, [], ◌∷◌, ◌++◌, length, map, refl, sym, ap, ◌∙◌, subst, arith}
-use Rattle.std.specs.Prelude.{IfSome}
+use Rattle.std.specs.Prelude.{IfSome, ◌==◌}
 use Rattle.std.proofs.lemmas.Bool.{false≢true}
 use Rattle.stl_syntax.specs.Formula.{Formula}
 use Rattle.stl_syntax.specs.Trace.{Header, Row, last_time}
@@ -15,6 +15,11 @@ use Rattle.trace_stream.specs.declared.case.Case.{Case}
 use Rattle.trace_stream.specs.declared.verdicts.Verdicts.{Verdicts}
 use Rattle.trace_stream.proofs.Owing.{owes_first, owes_more, owing_places, owing_rows}
 use Rattle.trace_stream.proofs.WatchedRows.{fits_width, fits_time, places, later_row}
+
+-- what has no length is empty
+pub empty_of : (l : List ℕ) (n : ℕ) → n ≡ length l → (n == 0) ≡ true → l ≡ []
+empty_of [] n e t = refl
+empty_of (x ∷ l) n e t = absurd (let z : n ≡ 0 = grind (arith, t) in omega (arith, e, z))
 
 some_time : (rows : List Row) (r : Row) → map (λ (q : Row). q.time) (rows ++ r ∷ []) ≡ [] → ⊥
 some_time [] r e = cc

@@ -1,12 +1,12 @@
 -- Rows whose text is owed: the network takes them without a step. Then a step of every node gives out what all of them answer, and cut row
 -- by row that is their text.
-use Rattle.std.proofs.Common.{◌≡◌, ℕ, ◌-◌, ◌<◌, Bool, true, false, List, [], ◌∷◌, ◌++◌, length, map, take, drop, refl, sym, ap, ◌∙◌, subst, arith, append-nil, append_assoc, length-append, Some, None, ℤ, pos, inl, inr}
+use Rattle.std.proofs.Common.{◌≡◌, ℕ, ◌+◌, ◌-◌, ◌<◌, Bool, true, false, List, [], ◌∷◌, ◌++◌, length, map, take, drop, refl, sym, ap, ◌∙◌, subst, arith, append-nil, append_assoc, length-append, Some, None, ℤ, pos, inl, inr}
 use Rattle.std.specs.Prelude.{◌≢◌, cond, MatchBool}
 use Rattle.std.proofs.lemmas.List.Elements.{All-nil, All-cons}
 use Rattle.std.proofs.Math.Seq.{drop-append_seam, take-length, take-append_seam}
 use Rattle.rational.specs.Rational.{whole}
 use Rattle.rational.specs.Time.{closed, left_open}
-use Rattle.stl_syntax.specs.Formula.{Formula, root, subformula}
+use Rattle.stl_syntax.specs.Formula.{Formula, horizon, root, subformula}
 use Rattle.stl_syntax.specs.Trace.{Header, Row, Trace, AreRows, first_time}
 use Rattle.stl_syntax.specs.PostOrder.{IsPostOrder}
 use Rattle.stl_syntax.specs.Verdicts.{Describes, AreAlike}
@@ -34,7 +34,7 @@ use Rattle.trace_stream.specs.declared.verdicts.Verdicts.{Verdicts}
 use Rattle.trace_stream.proofs.Passes.{state_after, parted, emitted_alike, alike_length, Gives, AreQuiet, quiet_shown, quiet_gives, LeavesRoot, pass_gives}
 use Rattle.trace_stream.proofs.Taking.{first_alike, emitted_takes}
 use Rattle.trace_stream.proofs.Watched.{no_row, show, shown_by, AreOthers, steps_others, taken_on, rows_at, driven_at, driven_emptied, none_driven, after_pass, Passing, passing_of, pass_before, front_after, shown_after, rows_told}
-use Rattle.trace_stream.proofs.Cutting.{Leads, describes_leads, leads_alike}
+use Rattle.trace_stream.proofs.Cutting.{Leads, describes_leads, alike_sym, leads_alike}
 use Rattle.trace_stream.proofs.CutRows.{whole_trace, LeftTo, rows_cut}
 
 module _ (nodes : List Node) (header : Header) where
@@ -177,7 +177,7 @@ module _ (nodes : List Node) (header : Header) where
       by_size [] a = refl
       by_size (w ∷ ws) a = absurd a
   alike_left all are old (Some f) vs ws e l =
-      leads_alike (root nodes) (record { header = header; rows = all }) (answered_to (first_time all) old) (answered_to (first_time all) (Some f)) vs ws e l
+      leads_alike (root nodes) (record { header = header; rows = all }) (answered_to (first_time all) old) (answered_to (first_time all) (Some f)) vs ws (alike_sym ws vs e) l
 
   module _ (order : IsPostOrder nodes) (some : 0 < length nodes) where
     -- what the pass after the last of some rows gives out is what is left for these rows to answer
@@ -237,12 +237,12 @@ pub owes_first : (v after : Verdicts) (c : Case) (made : List ℕ) (r : Row) →
     → Stands c.formula.nodes c.trace.header after.network.net (k.stands.events ++ row r ∷ []) → after.network.formula ≡ v.network.formula
     → after.network.start ≡ v.network.start → after.horizon ≡ v.horizon → after.times.items ≡ v.times.items ++ r.time ∷ [] → after.pending ≡ v.pending
     → IsOwing after (with_row r c) made
-owes_first v after c made r k no_atom stands formula start horizon times pending =
+owes_first v after c made r k no_atom stands formula start same_horizon times pending =
     let w = k.stands in
     record {
       fits = (k.fits.0, record { formula = k.fits.1.formula; bound = k.fits.1.bound });
       formula = formula ∙ w.formula;
-      horizon = horizon ∙ w.horizon;
+      horizon = same_horizon ∙ w.horizon;
       no_atom = no_atom;
       before = c.trace.rows;
       more = [];
@@ -264,10 +264,10 @@ pub owes_more : (v after : Verdicts) (c : Case) (made : List ℕ) (r : Row) → 
     → Stands c.formula.nodes c.trace.header after.network.net (o.events ++ row r ∷ []) → after.network.formula ≡ v.network.formula
     → after.network.start ≡ v.network.start → after.horizon ≡ v.horizon → after.times.items ≡ v.times.items ++ r.time ∷ [] → after.pending ≡ v.pending
     → IsOwing after (with_row r c) made
-owes_more v after c made r o stands formula start horizon times pending = record {
+owes_more v after c made r o stands formula start same_horizon times pending = record {
   fits = (o.fits.0, record { formula = o.fits.1.formula; bound = o.fits.1.bound });
   formula = formula ∙ o.formula;
-  horizon = horizon ∙ o.horizon;
+  horizon = same_horizon ∙ o.horizon;
   no_atom = o.no_atom;
   before = o.before;
   more = o.more ++ o.last ∷ [];
@@ -291,7 +291,7 @@ owes_more v after c made r o stands formula start horizon times pending = record
 -- ---- the text of what is owed
 
 module _ (v : Verdicts) (c : Case) (made : List ℕ) (o : IsOwing v c made) where
-  fed_by : List Event
+  abbrev pub fed_by : List Event
   fed_by = o.fed.base ++ rows_of o.more
 
   order : IsPostOrder c.formula.nodes
@@ -313,7 +313,7 @@ module _ (v : Verdicts) (c : Case) (made : List ℕ) (o : IsOwing v c made) wher
       (subst (λ (f : Formula). Stands f.nodes c.trace.header mid (o.events ++ steps_of 0 f.nodes)) o.formula
       (step c.trace.header o.events (subst (λ (f : Formula). Stands f.nodes c.trace.header v.network.net o.events) (sym o.formula) o.stands)))
 
-  fed : HasFed c.formula.nodes c.trace.header o.fed.base o.more o.emitted
+  pub fed : HasFed c.formula.nodes c.trace.header o.fed.base o.more o.emitted
   fed =
       let root_edge = o.stands.shows.root in
       let x = emitted_last c.formula.nodes c.trace.header (length c.formula.nodes - 1) fed_by (row o.last) root_edge.emitted
@@ -360,10 +360,10 @@ module _ (v : Verdicts) (c : Case) (made : List ℕ) (o : IsOwing v c made) wher
   -- once its lines were put, the text is that of all rows
   pub owing_followed : (x : Passing c.formula.nodes c.trace.header fed_by (row o.last) fed.emptied.emitted) (given : Network) (after : Verdicts)
       (pending rest : List Verdict) (old new : List ℕ) (grown : List ℕ) → HasGivenAll (Before x) given v.pending pending
-      → IsTextOfRows v.network.formula.scale v.horizon v.times.items pending grown rest → new ≡ old ++ grown
+      → IsTextOfRows given.formula.scale v.horizon v.times.items pending grown rest → new ≡ old ++ grown
       → after.network ≡ given → given.formula ≡ v.network.formula → after.horizon ≡ v.horizon → after.times.items ≡ [] → after.pending ≡ []
       → IsFollowedOn (λ case text. IsWatched false after case) verdicts c old new made
-  owing_followed x given after pending rest old new grown h lines longer network formula horizon times none =
+  owing_followed x given after pending rest old new grown h lines longer network formula same_horizon times none =
       let p = given_out c.formula.nodes c.trace.header fed_by (row o.last) fed.emptied.emitted x given v.pending pending h in
       let driven = by_rows o.more o.last p.made o.fed.driven p.emptied in
       let put : pending ≡ p.put = p.pending ∙ ap (λ l. l ++ p.put) o.none_pending in
@@ -371,10 +371,10 @@ module _ (v : Verdicts) (c : Case) (made : List ℕ) (o : IsOwing v c made) wher
       let left = left_of_pass c.formula.nodes c.trace.header order some_node o.more o.last p.made x.beyond p.put fed.emptied.emitted x o.no_atom o.fed.driven
       driven c.trace.rows are_rows o.rows p.are in
       let (f, is) = o.fits in
-      let scale : v.network.formula.scale ≡ c.trace.header.scale = ap (λ (g : Formula). g.scale) (o.formula ∙ is.formula) in
+      let scale : given.formula.scale ≡ c.trace.header.scale = ap (λ (g : Formula). g.scale) (formula ∙ o.formula ∙ is.formula) in
       let told = rows_cut (root c.formula.nodes) c.trace.header c.trace.rows are_rows o.before (o.more ++ o.last ∷ []) p.put rest grown rows
-      (subst (λ vs. IsTextOfRows c.trace.header.scale _ _ vs grown rest) put
-      (subst (λ ts. IsTextOfRows c.trace.header.scale _ ts pending grown rest) o.times
+      (subst (λ vs. IsTextOfRows c.trace.header.scale (horizon (root c.formula.nodes)) (map (λ (r : Row). r.time) (o.more ++ o.last ∷ [])) vs grown rest) put
+      (subst (λ ts. IsTextOfRows c.trace.header.scale (horizon (root c.formula.nodes)) ts pending grown rest) o.times
       (subst (λ n. IsTextOfRows c.trace.header.scale n v.times.items pending grown rest) o.horizon
       (subst (λ (s : Scale). IsTextOfRows s v.horizon v.times.items pending grown rest) scale lines)))) left in (
         grown,
@@ -382,7 +382,7 @@ module _ (v : Verdicts) (c : Case) (made : List ℕ) (o : IsOwing v c made) wher
         record {
           stands = record {
             formula = ap (λ (n : Network). n.formula) network ∙ formula ∙ o.formula;
-            horizon = horizon ∙ o.horizon;
+            horizon = same_horizon ∙ o.horizon;
             events = fed_by ++ pass_of (row o.last) c.formula.nodes p.made;
             driven = subst (λ l. IsDriven c.formula.nodes c.trace.header l false (fed_by ++ pass_of (row o.last) c.formula.nodes p.made)) (sym o.rows) driven;
             stands = subst (λ (n : Network). Stands c.formula.nodes c.trace.header n.net (fed_by ++ pass_of (row o.last) c.formula.nodes p.made)) (sym network) p.stands;

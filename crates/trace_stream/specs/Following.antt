@@ -18,6 +18,10 @@ pub record Follows (Stands : Case → List ℕ → Type 0) (kind : Stream) (c : 
   pub fits : (f : Formula) × IsCase f c
   pub told : StreamText kind (root c.formula.nodes) c.trace.header c.trace.rows false made
 
+-- for some case, which can take the row
+abbrev pub HasFollowed : (Case → List ℕ → Type 0) → Stream → Row → Type 0
+HasFollowed Stands kind r = (c : Case) × (made : List ℕ) × Follows Stands kind c made × Takes r c.trace
+
 -- the text that was made is that of the rows of the case, or some of it is owed
 abbrev pub IsOpen : (Case → List ℕ → Type 0) → (Case → List ℕ → Type 0) → Stream → Case → List ℕ → Type 0
 IsOpen Stands Owes kind c made = Follows Stands kind c made ⊎ Owes c made

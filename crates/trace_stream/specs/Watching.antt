@@ -20,7 +20,7 @@ use Rattle.trace_stream.specs.declared.verdicts.Verdicts.{Verdicts}
 -- the truth of the first of the verdicts
 abbrev pub first_truth : List Verdict → Option Bool
 first_truth [] = None
-first_truth (v ∷ verdicts) = Some v.holds
+first_truth (v ∷ vs) = Some v.holds
 
 -- the network stands for the run that a stream of the case's rows drives, with their end where they have ended; the truth of the first
 -- verdict that the root gave out is kept; and no text is owed

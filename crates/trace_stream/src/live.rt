@@ -202,7 +202,8 @@ impl<F: Follow> Live<F> {
                 flush(&mut self.follower, &mut self.text)?;
                 Err(StreamStop::Fault(fault))
             }
-            Err(stop) => Err(stop),
+            Err(StreamStop::NoMemory) => Err(StreamStop::NoMemory),
+            Err(StreamStop::Wide { node, den }) => Err(StreamStop::Wide { node, den }),
         }
     }
 

@@ -134,7 +134,7 @@ impl Verdicts {
         ensures lines { IfOk result (λ _. Grew (λ grown. IsTextOfRow self.old.network.formula.scale self.old.horizon time self.old.pending grown self.new.pending) text.old text.new) }
         ensures network { self.new.network ≡ self.old.network }
         ensures horizon { self.new.horizon ≡ self.old.horizon }
-        ensures times { self.new.times ≡ self.old.times }
+        ensures times { self.new.times.items ≡ self.old.times.items }
     {
         let time = u64::from(time);
         if time < self.horizon {

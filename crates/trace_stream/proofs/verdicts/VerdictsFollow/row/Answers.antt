@@ -1,4 +1,4 @@
-use Rattle.std.proofs.Common.{[], ◌∷◌, ◌++◌, sym, ap, ◌∙◌, subst, append-nil, inl, inr}
+use Rattle.std.proofs.Common.{[], ◌∷◌, ◌++◌, refl, sym, ap, ◌∙◌, subst, append-nil, inl, inr, false}
 use Rattle.std.specs.Prelude.{◌≢◌}
 use Rattle.std.proofs.lemmas.Result.{IfOk-weaker}
 use Rattle.online_nodes.specs.Network.{row as came, take as taken}
@@ -34,8 +34,8 @@ take_all-requires c =
     let x = passing v case w e mid.net ne st in
     (pass_before case.formula.nodes case.trace.header w.events e x.first x.beyond, can_take v case w e x mid st c.step_all.ensures.start)
 
-pub returns-in_ok-step_all : goal.returns-in_ok-step_all
-returns-in_ok-step_all c = λ case made opened t.
+pub returns-then-is_atom : goal.returns-then-is_atom
+returns-then-is_atom c = λ case made opened t.
     let v = c.args.self.now in
     let k = atom_owes_none v case made opened (sym c.is_atom.ensures ∙ c.if-is_atom.true) in
     let w = k.stands in
@@ -54,13 +54,19 @@ returns-in_ok-step_all c = λ case made opened t.
     (c.take_all.ensures.formula ∙ c.step_all.ensures.formula) h in (grown, is_grown, inl follows))
     (c.take_all.ensures.taken (pass_before case.formula.nodes case.trace.header w.events e x.first x.beyond) can)
 
-pub returns-in-Ok-2 : goal.returns-in-Ok-2
-returns-in-Ok-2 c = λ case made opened t.
-    let v = c.args.self.now in (
+pub returns-in-Ok-push : goal.returns-in-Ok-push
+returns-in-Ok-push c = λ case made opened t.
+    let v = c.args.self.now in
+    let after = record {
+      network = record { net = c.feed.new.self; formula = v.network.formula; start = v.network.start };
+      horizon = v.horizon;
+      times = c.push.new.self;
+      pending = v.pending;
+    } in (
       [],
       sym (append-nil c.args.text.now),
-      inr (subst (λ m. IsOwing _ (with_row c.args.row.now case) m) (sym (append-nil made))
-          (owes_on v case made opened (sym c.is_atom.ensures ∙ c.if-is_atom.false) _ c.args.row.now
+      inr (subst (λ m. IsOwing after (with_row c.args.row.now case) m) (sym (append-nil made))
+          (owes_on v case made opened (sym c.is_atom.ensures ∙ c.if-is_atom.false) after c.args.row.now
           (λ nodes header events st. c.in-Ok.ensures.stands nodes header events st) refl refl refl
-          (c.in-Ok-2.ensures.items ∙ ap (λ n. v.times.items ++ n ∷ []) c.time.ensures) refl)),
+          (c.in-Ok-push.ensures.items ∙ ap (λ n. v.times.items ++ n ∷ []) c.time.ensures) refl)),
     )
