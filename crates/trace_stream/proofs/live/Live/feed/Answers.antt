@@ -1,7 +1,6 @@
-use Rattle.std.proofs.Common.{◌++◌, sym, ◌∙◌, subst}
-use Rattle.std.proofs.lemmas.Result.{err_from_is_err_and}
+use Rattle.std.proofs.Common.{false, ◌++◌, subst}
 use Rattle.trace_stream.specs.declared.fault.StreamStop.{StreamStop}
-use Rattle.trace_stream.specs.Following.{IsLiveStop, IsOpenStop}
+use Rattle.trace_stream.specs.Following.{IsOpenStop}
 use Rattle.trace_stream.proofs.Living.{live_open, flushed, fault_flushed}
 use Rattle.trace_stream.proofs.live.Live.feed.Goals as goal
 
@@ -42,3 +41,10 @@ returns-in_ok-flush-in-Err-Fault-clause-taken g c = λ bytes written live.
     let (grown, longer, followed) = c.in_ok-flush-in-Err-Fault.ensures.ok k.3 (written ++ mid.text) k.4 in
     fault_flushed g.F.Follow.stands g.F.Follow.owes g.F.Follow.kind c.args.self.now.rows.limits c.args.self.now.formula false (bytes ++ c.args.piece.now) written mid.text
     c.flush-in-Err-Fault.new.text grown mid.follower c.flush-in-Err-Fault.new.follower c.in-Err-Fault.fault k longer followed
+
+pub returns-in-Err-Wide-clause-taken : goal.returns-in-Err-Wide-clause-taken
+returns-in-Err-Wide-clause-taken g c = λ bytes written live.
+    let mid = c.take_piece.new.self in
+    subst (λ (s : StreamStop). IsOpenStop g.F.Follow.stands g.F.Follow.owes g.F.Follow.kind c.args.self.now.rows.limits c.args.self.now.formula false
+    (bytes ++ c.args.piece.now) mid.follower (written ++ mid.text) s) c.in-Err-Wide.field-0-is
+    (c.in-Err-Wide.ensures.taken bytes written (live_open g.F.Follow.stands g.F.Follow.owes g.F.Follow.kind c.args.self.now bytes written live))
