@@ -4,6 +4,7 @@ use Rattle.std.proofs.lemmas.Result.{IfOk-weaker}
 use Rattle.online_nodes.specs.Network.{row as came, take as taken}
 use Rattle.trace_stream.specs.Cases.{with_row}
 use Rattle.trace_stream.specs.Watching.{IsOwing}
+use Rattle.trace_stream.specs.declared.verdicts.Verdicts.{Verdicts}
 use Rattle.trace_stream.proofs.Watched.{pass_before}
 use Rattle.trace_stream.proofs.WatchedRows.{steps_stand, passing, can_take, row_followed}
 use Rattle.trace_stream.proofs.Opening.{open_width, open_time, open_places, atom_owes_none, owes_on}
@@ -57,7 +58,7 @@ returns-then-is_atom c = λ case made opened t.
 pub returns-in-Ok-push : goal.returns-in-Ok-push
 returns-in-Ok-push c = λ case made opened t.
     let v = c.args.self.now in
-    let after = record {
+    let after : Verdicts = record {
       network = record { net = c.feed.new.self; formula = v.network.formula; start = v.network.start };
       horizon = v.horizon;
       times = c.push.new.self;
