@@ -16,7 +16,7 @@ use Rattle.trace_stream.specs.Streams.{Stream, StreamText, StreamOf}
 use Rattle.trace_reader.specs.InputFaults.{Fault, of_trace, line_of, IsHeaderAt, IsLack, IsInputFault, faulted, faulted_header}
 use Rattle.trace_stream.specs.Cases.{IsCase, IsLacking, IsNoBegin, IsHeaderOf, with_row}
 use Rattle.trace_stream.specs.Reading.{IsWhole, IsKept, IsTied, IsRefused, IsEnded, IsLastFault, of_header, own}
-use Rattle.trace_stream.specs.Following.{Follows, IsTextOf, IsFollowed, IsComplete, IsEndedOut, IsLive, IsLastTaken, IsOver, IsLiveStop}
+use Rattle.trace_stream.specs.Following.{Follows, IsTextOf, IsFollowed, IsComplete, IsEndedOut, IsHeldUp, IsLive, IsLastTaken, IsOver, IsLiveStop}
 use Rattle.trace_stream.specs.declared.case.Case.{Case}
 use Rattle.trace_stream.specs.declared.live.Live.{Live}
 use Rattle.trace_stream.specs.declared.fault.TraceFault.TheVariants.{Trace as InTrace}
@@ -28,6 +28,7 @@ use Rattle.trace_stream.proofs.KeptRows.{before_of_kept}
 use Rattle.trace_stream.proofs.RowsBefore.{BeforeEnd, the_same, no_rows_there, before_end}
 use Rattle.trace_stream.proofs.OwedRows.{no_rows_no_text}
 use Rattle.trace_stream.proofs.Feeding.{IsNext, refused_next, same_header, HeaderStep}
+use Rattle.trace_stream.proofs.Refused.{read_of_ended, row_held, end_held}
 
 -- among blank lines there is no header
 none_blank : (ls : List Line) {n : ℕ} {h : Heading} → All IsBlank ls → ¬ IsHeaderAt ls n h
@@ -141,7 +142,7 @@ module _ {F : Type 0} (Stands : F → Case → List ℕ → Type 0) (kind : Stre
         record { header = None; rows = []; whole = false; before = faulted_header y (inl lack) (none_before_lack live.rows.limits live.formula (bytes ++ piece) false y lack); is = none },
       )
   live_lacks live old new rows bytes written piece at header NoMemory e s never none = tt
-  live_lacks live old new rows bytes written piece at header (Wide i den) e s never none = never
+  live_lacks live old new rows bytes written piece at header (Wide i den) e s never none = absurd never
 
   -- nothing was made before the header
   pub none_made : (follower : Option F) (f : Formula) (o : Option Heading) (bytes : List ℕ) (rows : List Row) (case : Option Case) (made : List ℕ) → IsTied f o bytes rows case → o ≡ None
@@ -197,7 +198,7 @@ module _ {F : Type 0} (Stands : F → Case → List ℕ → Type 0) (kind : Stre
       by_end (no_rows_there none before) =
           record { header = None; rows = []; whole = false; before = before; is = no_rows_no_text kind f (option_map (header_of f.scale) r.heading) k.rows made none told }
   live_end_refused f r follower case bytes made k NoMemory t is = tt
-  live_end_refused f r follower case bytes made k (Wide i den) t is = is
+  live_end_refused f r follower case bytes made k (Wide i den) t is = absurd is
 
   -- the case of all bytes
   pub last_taken : (limits : Limits) (f : Formula) (follower : Option F) (case : Option Case) (bytes made : List ℕ) → MatchOption case ⊥ (IsEnded limits f bytes) → IsFollowed Stands kind follower case made
@@ -206,20 +207,24 @@ module _ {F : Type 0} (Stands : F → Case → List ℕ → Type 0) (kind : Stre
   last_taken limits f follower (Some c) bytes made e t = record { case = c; fits = e.case; trace = e.whole; followed = t }
 
   -- so with one row more
-  pub last_row : (limits : Limits) (f : Formula) (bytes written old new : List ℕ) (follower : Option F) (case : Option Case) (row : Row) (r : Result (Unit {0}) StreamStop)
-      → IfOk r (λ _. (grown : List ℕ) × (new ≡ old ++ grown) × IsFollowed Stands kind follower (option_map (with_row row) case) ((written ++ old) ++ grown)) → IfErr r (λ e. e ≡ NoMemory)
+  pub last_row : (limits : Limits) (f : Formula) (bytes written old new : List ℕ) (before follower : Option F) (case : Option Case) (row : Row) (r : Result (Unit {0}) StreamStop)
+      → IfOk r (λ _. (grown : List ℕ) × (new ≡ old ++ grown) × IsFollowed Stands kind follower (option_map (with_row row) case) ((written ++ old) ++ grown))
+      → IfErr r (IsHeldUp kind (option_map (with_row row) case) false old new) → IsFollowed Stands kind before case (written ++ old)
       → MatchOption (option_map (with_row row) case) ⊥ (IsEnded limits f bytes)
       → MatchResult r (λ _. IsLastTaken Stands kind limits f follower bytes (written ++ new)) (λ e. IsLiveStop kind limits f true bytes (written ++ new) e)
-  last_row limits f bytes written old new follower case row (Ok x) (grown, e, t) none ended =
+  last_row limits f bytes written old new before follower case row (Ok x) (grown, e, t) held was ended =
       last_taken limits f follower (option_map (with_row row) case) bytes (written ++ new) ended
       (subst (λ made. IsFollowed Stands kind follower (option_map (with_row row) case) made) (sym (more_text written old new grown e)) t)
-  last_row limits f bytes written old new follower case row (Err e) ok none ended = subst (λ (s : StreamStop). IsLiveStop kind limits f true bytes (written ++ new) s) (sym none) tt
+  last_row limits f bytes written old new before follower case row (Err e) ok held was ended =
+      row_held Stands kind limits f bytes true bytes [] (sym (append-nil bytes)) true (λ k. (refl, refl)) before case row written old new e
+      (λ c is. read_of_ended limits f bytes c (subst (λ (o : Option Case). MatchOption o ⊥ (IsEnded limits f bytes)) is ended)) was held
 
 -- the end was taken
-pub over_of : {F : Type 0} (Ended : F → Case → List ℕ → Type 0) (kind : Stream) (limits : Limits) (f : Formula) (live : Live F) (bytes written old : List ℕ) (case : Case) (r : Result Bool StreamStop)
-    → IsCase f case → IsWhole limits f bytes case.trace → IfOk r (IsEndedOut Ended kind live.follower case old live.text (written ++ old)) → IfErr r (λ e. e ≡ NoMemory)
+pub over_of : {F : Type 0} (Stands Ended : F → Case → List ℕ → Type 0) (kind : Stream) (limits : Limits) (f : Formula) (before : Option F) (live : Live F) (bytes written old : List ℕ) (case : Case)
+    (r : Result Bool StreamStop) → IsCase f case → IsWhole limits f bytes case.trace → IsFollowed Stands kind before (Some case) (written ++ old)
+    → IfOk r (IsEndedOut Ended kind live.follower case old live.text (written ++ old)) → IfErr r (IsHeldUp kind (Some case) true old live.text)
     → MatchResult r (IsOver Ended kind limits f live bytes (written ++ live.text)) (λ e. IsLiveStop kind limits f true bytes (written ++ live.text) e)
-over_of Ended kind limits f live bytes written old case (Ok holds) fits trace (x, is, (grown, e, complete)) none = record {
+over_of Stands Ended kind limits f before live bytes written old case (Ok holds) fits trace was (x, is, (grown, e, complete)) held = record {
   case = case;
   fits = fits;
   trace = trace;
@@ -227,4 +232,6 @@ over_of Ended kind limits f live bytes written old case (Ok holds) fits trace (x
   is = is;
   complete = subst (λ made. IsComplete (Ended x) kind case made holds) (sym (more_text written old live.text grown e)) complete;
 }
-over_of Ended kind limits f live bytes written old case (Err e) fits trace ok none = subst (λ (s : StreamStop). IsLiveStop kind limits f true bytes (written ++ live.text) s) (sym none) tt
+over_of Stands Ended kind limits f before live bytes written old case (Err e) fits trace was ok held =
+    end_held Stands kind limits f bytes true bytes [] (sym (append-nil bytes)) true (λ k. (refl, refl)) before case written old live.text e refl
+    (record { fits = fits; sound = trace.sound; read = trace.trace.text.read }) was held

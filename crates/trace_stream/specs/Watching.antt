@@ -1,5 +1,5 @@
 -- When the network of a formula stands for the rows of a case, and what was taken of what its root gave out.
-use Rattle.std.specs.Prelude.{◌≡◌, ℕ, ◌+◌, ◌-◌, ◌≤◌, Bool, List, [], ◌∷◌, ◌++◌, length, take, drop, Option, Some, None}
+use Rattle.std.specs.Prelude.{◌≡◌, ℕ, ◌+◌, ◌-◌, ◌≤◌, Bool, true, false, List, [], ◌∷◌, ◌++◌, length, take, drop, Option, Some, None}
 use Rattle.stl_syntax.specs.Trace.{Header}
 use Rattle.stl_syntax.specs.Texts.{AreVerdictLines}
 use Rattle.stl_syntax.specs.declared.items.Verdict.{Verdict}
@@ -27,6 +27,14 @@ pub record IsWatched (ended : Bool) (v : Verdicts) (c : Case) : Type 0 where
   pub emitted : List Verdict
   pub is_emitted : Emitted c.formula.nodes c.trace.header events (length c.formula.nodes - 1) emitted
   pub start : v.start ≡ first_truth emitted
+
+-- the network stands for the rows so far
+abbrev pub WatchesRows : Verdicts → Case → List ℕ → Type 0
+WatchesRows v c made = IsWatched false v c
+
+-- the network stands for all rows and their end
+abbrev pub WatchesEnd : Verdicts → Case → List ℕ → Type 0
+WatchesEnd v c made = IsWatched true v c
 
 -- a run of a network, what its root gave out in it, and how many of these verdicts were taken
 pub record Pass : Type 0 where

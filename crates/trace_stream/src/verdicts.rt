@@ -1,16 +1,19 @@
 //! The verdicts of a formula as the rows of a trace come: a network of operators follows them.
-ghost use Rattle.std.specs.Prelude.{◌≡◌, ◌++◌, ℕ, List, length, true, false, IfOk};
-ghost use Rattle.stl_syntax.specs.Trace.{Header};
+ghost use Rattle.std.specs.Prelude.{◌≡◌, ◌++◌, ℕ, List, length, IfOk};
+ghost use Rattle.stl_syntax.specs.Trace.{Header, IsTrace};
 ghost use Rattle.stl_syntax.specs.Texts.{IsVerdictLine};
 ghost use Rattle.online_nodes.specs.Network.{Event};
 ghost use Rattle.online_nodes.specs.Driven.{steps_of};
 ghost use Rattle.online_net.specs.Nets.{Stands};
 ghost use Rattle.report.specs.Appended.{Grew};
 ghost use Rattle.trace_stream.specs.Streams.{verdicts};
-ghost use Rattle.trace_stream.specs.Watching.{IsWatched, Pass, CanTake, HasTakenAll, kept_truth};
+ghost use Rattle.trace_stream.specs.Cases.{Takes, with_row};
+ghost use Rattle.trace_stream.specs.Following.{Follows, HasFollowed, IsFollowedOn, IsFollowedOut};
+ghost use Rattle.trace_stream.specs.Watching.{WatchesRows, WatchesEnd, Pass, CanTake, HasTakenAll, kept_truth};
+ghost use Rattle.trace_stream.specs.declared.case.Case.{Case as Of};
 
 use crate::case::Case;
-use crate::follow::Follow;
+use crate::follow::{Follow, FollowFault};
 use frac128::Memory;
 use online_net::Net;
 use report::{put_start, put_verdict};
@@ -76,14 +79,51 @@ impl Verdicts {
         }
         Ok(())
     }
+
+    /// Takes the next row, and adds to the text what it answers.
+    ///
+    /// # Errors
+    /// Want of memory.
+    fn take_row(&mut self, row: &Row, text: &mut Text) -> Result<(), Memory>
+        requires { HasFollowed (WatchesRows self.old) verdicts row.now }
+        ensures { (c : Of) (made : List ℕ) → Follows (WatchesRows self.old) verdicts c made → Takes row.now c.trace
+            → IfOk result (λ _. IsFollowedOn (WatchesRows self.new) verdicts (with_row row.now c) text.old text.new made) }
+    {
+        let Ok(()) = self.net.feed(row) else {
+            return Err(Memory);
+        };
+        self.step_all()?;
+        self.take_all(text)
+    }
+
+    /// Takes the end, adds to the text what is left, and answers the truth at the start.
+    ///
+    /// # Errors
+    /// Want of memory.
+    fn take_end(&mut self, text: &mut Text) -> Result<bool, Memory>
+        requires { (c : Of) × (made : List ℕ) × Follows (WatchesRows self.old) verdicts c made × IsTrace c.trace }
+        ensures { (c : Of) (made : List ℕ) → Follows (WatchesRows self.old) verdicts c made → IsTrace c.trace
+            → IfOk result (λ holds. IsFollowedOut (WatchesEnd self.new) verdicts c text.old text.new made holds) }
+    {
+        let Ok(()) = self.net.close() else {
+            return Err(Memory);
+        };
+        self.step_all()?;
+        self.take_all(text)?;
+        let Some(holds) = self.start else {
+            unreachable!()
+        };
+        put_start(text, holds)?;
+        Ok(holds)
+    }
 }
 
 impl Follow for Verdicts {
     ghost kind = { verdicts };
 
-    ghost stands = { λ s c made. IsWatched false s c };
+    ghost stands = { WatchesRows };
 
-    ghost ended = { λ s c made. IsWatched true s c };
+    ghost ended = { WatchesEnd };
 
     fn begin(alloc: Global, case: Case) -> Result<Verdicts, Memory> {
         let Case {
@@ -99,24 +139,17 @@ impl Follow for Verdicts {
         })
     }
 
-    fn row(&mut self, row: &Row, text: &mut Text) -> Result<(), Memory> {
-        let Ok(()) = self.net.feed(row) else {
-            return Err(Memory);
-        };
-        self.step_all()?;
-        self.take_all(text)
+    fn row(&mut self, row: &Row, text: &mut Text) -> Result<(), FollowFault> {
+        match self.take_row(row, text) {
+            Ok(()) => Ok(()),
+            Err(_) => Err(FollowFault::Memory),
+        }
     }
 
-    fn end(&mut self, text: &mut Text) -> Result<bool, Memory> {
-        let Ok(()) = self.net.close() else {
-            return Err(Memory);
-        };
-        self.step_all()?;
-        self.take_all(text)?;
-        let Some(holds) = self.start else {
-            unreachable!()
-        };
-        put_start(text, holds)?;
-        Ok(holds)
+    fn end(&mut self, text: &mut Text) -> Result<bool, FollowFault> {
+        match self.take_end(text) {
+            Ok(start) => Ok(start),
+            Err(_) => Err(FollowFault::Memory),
+        }
     }
 }

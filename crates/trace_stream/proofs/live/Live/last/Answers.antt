@@ -1,11 +1,11 @@
-use Rattle.std.proofs.Common.{◌≡◌, ◌++◌, sym, ◌∙◌, subst}
-use Rattle.std.specs.Prelude.{option_map, IfOk, List, ℕ}
+use Rattle.std.proofs.Common.{◌≡◌, ◌++◌, false, sym, ◌∙◌, subst}
+use Rattle.std.specs.Prelude.{option_map, IfOk, IfErr, List, ℕ}
 use Rattle.stl_syntax.specs.Trace.{Row}
 use Rattle.trace_reader.specs.Feeds.{rows_after}
 use Rattle.trace_reader.specs.Reader.{IsWholeTrace, IsNextRow, HasEndedWith}
 use Rattle.trace_reader.specs.declared.event.Event.{Event}
 use Rattle.trace_stream.specs.Cases.{CanKeep, with_row}
-use Rattle.trace_stream.specs.Following.{IsFollowed}
+use Rattle.trace_stream.specs.Following.{IsFollowed, IsHeldUp}
 use Rattle.trace_stream.proofs.Ends.{ended_now, ended_row, end_can, has_header, refused_end}
 use Rattle.trace_stream.proofs.Living.{last_by_case, live_end_refused, last_taken, last_row}
 use Rattle.trace_stream.proofs.live.Live.last.Goals as goal
@@ -43,9 +43,11 @@ returns-in-Ok-Row-clause-last g c = λ bytes written k.
     let whole = subst (λ (e : Event). IsWholeTrace new bytes (rows_after e k.kept.rows new.row)) c.in-Ok-Row.field-0-is (ok.ok bytes k.kept.rows k.kept.stands) in
     let next = subst (λ (e : Event). IsNextRow e new.heading k.kept.rows new.row) c.in-Ok-Row.field-0-is (ok.next bytes k.kept.rows k.kept.stands) in
     let can = end_can old.formula old.rows new k.case bytes k.kept ok.kept.0 ok.kept.1 new.row whole next in
-    last_row g.F.Follow.stands g.F.Follow.kind old.rows.limits old.formula bytes written old.text c.take_row.new.text c.take_row.new.follower k.case new.row c.take_row.result
+    last_row g.F.Follow.stands g.F.Follow.kind old.rows.limits old.formula bytes written old.text c.take_row.new.text old.follower c.take_row.new.follower k.case new.row c.take_row.result
     (subst (λ (r : Row). IfOk c.take_row.result (λ _. (grown : List ℕ) × (c.take_row.new.text ≡ old.text ++ grown) × IsFollowed g.F.Follow.stands g.F.Follow.kind c.take_row.new.follower (option_map (with_row r) k.case) ((written ++ old.text) ++ grown)))
-    c.row.ensures (c.take_row.ensures.ok k.case (written ++ old.text) k.followed (subst (λ (r : Row). CanKeep k.case r) (sym c.row.ensures) can))) c.take_row.ensures.err
+    c.row.ensures (c.take_row.ensures.ok k.case (written ++ old.text) k.followed (subst (λ (r : Row). CanKeep k.case r) (sym c.row.ensures) can)))
+    (subst (λ (r : Row). IfErr c.take_row.result (IsHeldUp g.F.Follow.kind (option_map (with_row r) k.case) false old.text c.take_row.new.text)) c.row.ensures
+    (c.take_row.ensures.err k.case (written ++ old.text) k.followed (subst (λ (r : Row). CanKeep k.case r) (sym c.row.ensures) can))) k.followed
     (ended_row old.formula old.rows new k.case bytes k.kept ok.kept.0 ok.kept.1 new.row whole)
 
 pub returns-in-Ok-Nothing-clause-last : goal.returns-in-Ok-Nothing-clause-last

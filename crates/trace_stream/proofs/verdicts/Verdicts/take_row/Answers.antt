@@ -4,7 +4,7 @@ use Rattle.std.proofs.lemmas.Result.{IfOk-weaker}
 use Rattle.online_nodes.specs.Network.{row as came, take as taken}
 use Rattle.trace_stream.proofs.Watched.{pass_before}
 use Rattle.trace_stream.proofs.WatchedRows.{fits_width, fits_time, places, steps_stand, passing, can_take, row_followed}
-use Rattle.trace_stream.proofs.verdicts.VerdictsFollow.row.Goals as goal
+use Rattle.trace_stream.proofs.verdicts.Verdicts.take_row.Goals as goal
 
 pub feed-requires-clause-width : goal.feed-requires-clause-width
 feed-requires-clause-width c = let (case, made, k, t) = c.requires in fits_width c.args.self.now case k.stands c.args.row.now t
