@@ -16,7 +16,9 @@ pub mod KeptRows
 pub mod RowTimes
 pub mod MarginTexts
 pub mod OwedRows
+pub mod WideTexts
 pub mod FrontTexts
+pub mod Refused
 pub mod Living
 pub mod Told
 pub mod Passes

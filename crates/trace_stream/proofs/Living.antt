@@ -16,8 +16,9 @@ use Rattle.trace_stream.specs.Streams.{Stream, StreamText, StreamOf}
 use Rattle.trace_reader.specs.InputFaults.{Fault, of_trace, line_of, IsHeaderAt, IsLack, IsInputFault, faulted, faulted_header}
 use Rattle.trace_stream.specs.Cases.{IsCase, IsLacking, IsNoBegin, IsHeaderOf, with_row}
 use Rattle.trace_stream.specs.Reading.{IsWhole, IsKept, IsTied, IsRefused, IsEnded, IsLastFault, of_header, own}
-use Rattle.trace_stream.specs.Following.{Follows, IsTextOf, IsFollowed, IsOpened, IsComplete, IsEndedOut, IsLive, IsLiveOpen, IsLastTaken, IsOver, IsLiveStop, IsOpenStop}
+use Rattle.trace_stream.specs.Following.{Follows, IsTextOf, IsFollowed, IsOpened, IsComplete, IsEndedOut, IsHeldUp, IsLive, IsLiveOpen, IsLastTaken, IsOver, IsLiveStop, IsOpenStop}
 use Rattle.trace_stream.specs.declared.case.Case.{Case}
+use Rattle.trace_stream.specs.declared.follow.FollowFault.TheVariants as follow
 use Rattle.trace_stream.specs.declared.live.Live.{Live}
 use Rattle.trace_stream.specs.declared.fault.TraceFault.{TraceFault}
 use Rattle.trace_stream.specs.declared.fault.TraceFault.TheVariants.{Trace as InTrace}
@@ -29,6 +30,7 @@ use Rattle.trace_stream.proofs.KeptRows.{before_of_kept}
 use Rattle.trace_stream.proofs.RowsBefore.{BeforeEnd, the_same, no_rows_there, before_end}
 use Rattle.trace_stream.proofs.OwedRows.{no_rows_no_text}
 use Rattle.trace_stream.proofs.Feeding.{IsNext, refused_next, same_header, HeaderStep}
+use Rattle.trace_stream.proofs.Refused.{read_of_ended, row_held, end_held}
 
 -- among blank lines there is no header
 none_blank : (ls : List Line) {n : ℕ} {h : Heading} → All IsBlank ls → ¬ IsHeaderAt ls n h
@@ -63,7 +65,7 @@ module _ {F : Type 0} (Stands Owes : F → Case → List ℕ → Type 0) (kind :
   open_of (Some x) (Some c) made t = inl t
 
   pub live_open : (live : Live F) (bytes written : List ℕ) → IsLive Stands kind live bytes written → IsLiveOpen Stands Owes kind live bytes written
-  live_open live bytes written k = record { case = k.case; kept = k.kept; followed = open_of live.follower k.case (written ++ live.text) k.followed }
+  live_open live bytes written k = record { served = k.served; case = k.case; kept = k.kept; followed = open_of live.follower k.case (written ++ live.text) k.followed }
 
   -- the bytes to read next, by what follows the rows
   pub next_of : (follower : Option F) (case : Option Case) (made piece line : List ℕ) → IsOpened Stands Owes kind follower case made
@@ -169,7 +171,7 @@ module _ {F : Type 0} (Stands : F → Case → List ℕ → Type 0) (kind : Stre
       by_end (no_rows_there none before) =
           record { header = None; rows = []; whole = false; before = before; is = no_rows_no_text kind f (option_map (header_of f.scale) r.heading) k.rows made none told }
   live_end_refused f r follower case bytes made k NoMemory t is = tt
-  live_end_refused f r follower case bytes made k (Wide i den) t is = is
+  live_end_refused f r follower case bytes made k (Wide i den) t is = absurd is
 
   -- the case of all bytes
   pub last_taken : (limits : Limits) (f : Formula) (follower : Option F) (case : Option Case) (bytes made : List ℕ) → MatchOption case ⊥ (IsEnded limits f bytes) → IsFollowed Stands kind follower case made
@@ -177,7 +179,7 @@ module _ {F : Type 0} (Stands : F → Case → List ℕ → Type 0) (kind : Stre
   last_taken limits f follower None bytes made e t = absurd e
   last_taken limits f follower (Some c) bytes made e t = record { case = c; fits = e.case; trace = e.whole; followed = t }
 
-  -- so with one row more
+  -- so with one row more, once its text was made
   pub last_row : (limits : Limits) (f : Formula) (bytes written old new : List ℕ) (follower : Option F) (case : Option Case) (row : Row) (r : Result (Unit {0}) StreamStop)
       → IfOk r (λ _. (grown : List ℕ) × (new ≡ old ++ grown) × IsFollowed Stands kind follower (option_map (with_row row) case) ((written ++ old) ++ grown)) → IfErr r (λ e. e ≡ NoMemory)
       → MatchOption (option_map (with_row row) case) ⊥ (IsEnded limits f bytes)
@@ -186,6 +188,14 @@ module _ {F : Type 0} (Stands : F → Case → List ℕ → Type 0) (kind : Stre
       last_taken limits f follower (option_map (with_row row) case) bytes (written ++ new) ended
       (subst (λ made. IsFollowed Stands kind follower (option_map (with_row row) case) made) (sym (more_text written old new grown e)) t)
   last_row limits f bytes written old new follower case row (Err e) ok none ended = subst (λ (s : StreamStop). IsLiveStop kind limits f true bytes (written ++ new) s) (sym none) tt
+
+  -- and where that row was not taken
+  pub last_held : (limits : Limits) (f : Formula) (bytes written old new : List ℕ) (before : Option F) (case : Option Case) (row : Row) (e : StreamStop)
+      → IsHeldUp kind (option_map (with_row row) case) false old new e → IsFollowed Stands kind before case (written ++ old)
+      → MatchOption (option_map (with_row row) case) ⊥ (IsEnded limits f bytes) → IsLiveStop kind limits f true bytes (written ++ new) e
+  last_held limits f bytes written old new before case row e held was ended =
+      row_held Stands kind limits f bytes true bytes [] (sym (append-nil bytes)) true (λ k. (refl, refl)) before case row written old new e
+      (λ c is. read_of_ended limits f bytes c (subst (λ (o : Option Case). MatchOption o ⊥ (IsEnded limits f bytes)) is ended)) was held
 
 module _ {F : Type 0} (Stands Owes : F → Case → List ℕ → Type 0) (kind : Stream) where
   -- a piece was refused
@@ -243,7 +253,7 @@ module _ {F : Type 0} (Stands Owes : F → Case → List ℕ → Type 0) (kind :
         },
       )
   live_lacks live old new rows bytes written piece at header NoMemory e s never follower case text tied came t = tt
-  live_lacks live old new rows bytes written piece at header (Wide i den) e s never follower case text tied came t = never
+  live_lacks live old new rows bytes written piece at header (Wide i den) e s never follower case text tied came t = absurd never
 
   -- a stop in the bytes that were left is one of the whole piece
   pub live_fed : (limits : Limits) (f : Formula) (bytes piece text : List ℕ) (at : ℕ) (follower : Option F) (stop : StreamStop)
@@ -253,11 +263,22 @@ module _ {F : Type 0} (Stands Owes : F → Case → List ℕ → Type 0) (kind :
       subst (λ b. IsOpenStop Stands Owes kind limits f false b follower text stop)
       (append_assoc bytes (take at piece) (drop at piece) ∙ ap (λ p. bytes ++ p) (take-append-drop at piece)) h
 
+  -- a row was not taken, for a fault of what follows the rows
+  pub open_held : (limits : Limits) (f : Formula) (ended : Bool) (bytes : List ℕ) (case : Option Case) (last : Bool) (old new : List ℕ) (follower : Option F) (text : List ℕ) (stop : StreamStop)
+      → IsHeldUp kind case last old new stop → IsLiveStop kind limits f ended bytes text stop → IsOpenStop Stands Owes kind limits f ended bytes follower text stop
+  open_held limits f ended bytes None last old new follower text stop held is = absurd held
+  open_held limits f ended bytes (Some c) last old new follower text stop (follow.Memory, same, why, none) is =
+      subst (λ (s : StreamStop). IsOpenStop Stands Owes kind limits f ended bytes follower text s) (sym same) tt
+  open_held limits f ended bytes (Some c) last old new follower text stop (follow.Wide i den, same, why, none) is =
+      subst (λ (s : StreamStop). IsOpenStop Stands Owes kind limits f ended bytes follower text s) (sym same)
+      (subst (λ (s : StreamStop). IsLiveStop kind limits f ended bytes text s) same is)
+
   -- what is owed was made
   pub open_flushed : (mid : Live F) (bytes written new grown : List ℕ) (after : Option F) → (k : IsLiveOpen Stands Owes kind mid bytes written) → new ≡ mid.text ++ grown
       → IsFollowed Stands kind after k.case ((written ++ mid.text) ++ grown)
       → IsLive Stands kind (record mid { follower = after; text = new }) bytes written
   open_flushed mid bytes written new grown after k e t = record {
+    served = k.served;
     case = k.case;
     kept = k.kept;
     followed = subst (λ made. IsFollowed Stands kind after k.case made) (sym (more_text written mid.text new grown e)) t;
@@ -292,10 +313,11 @@ module _ {F : Type 0} (Stands Owes : F → Case → List ℕ → Type 0) (kind :
   )
 
 -- the end was taken
-pub over_of : {F : Type 0} (Ended : F → Case → List ℕ → Type 0) (kind : Stream) (limits : Limits) (f : Formula) (live : Live F) (bytes written old : List ℕ) (case : Case) (r : Result Bool StreamStop)
-    → IsCase f case → IsWhole limits f bytes case.trace → IfOk r (IsEndedOut Ended kind live.follower case old live.text (written ++ old)) → IfErr r (λ e. e ≡ NoMemory)
+pub over_of : {F : Type 0} (Stands Ended : F → Case → List ℕ → Type 0) (kind : Stream) (limits : Limits) (f : Formula) (before : Option F) (live : Live F) (bytes written old : List ℕ) (case : Case)
+    (r : Result Bool StreamStop) → IsCase f case → IsWhole limits f bytes case.trace → IsFollowed Stands kind before (Some case) (written ++ old)
+    → IfOk r (IsEndedOut Ended kind live.follower case old live.text (written ++ old)) → IfErr r (IsHeldUp kind (Some case) true old live.text)
     → MatchResult r (IsOver Ended kind limits f live bytes (written ++ live.text)) (λ e. IsLiveStop kind limits f true bytes (written ++ live.text) e)
-over_of Ended kind limits f live bytes written old case (Ok holds) fits trace (x, is, (grown, e, complete)) none = record {
+over_of Stands Ended kind limits f before live bytes written old case (Ok holds) fits trace was (x, is, (grown, e, complete)) held = record {
   case = case;
   fits = fits;
   trace = trace;
@@ -303,4 +325,6 @@ over_of Ended kind limits f live bytes written old case (Ok holds) fits trace (x
   is = is;
   complete = subst (λ made. IsComplete (Ended x) kind case made holds) (sym (more_text written old live.text grown e)) complete;
 }
-over_of Ended kind limits f live bytes written old case (Err e) fits trace ok none = subst (λ (s : StreamStop). IsLiveStop kind limits f true bytes (written ++ live.text) s) (sym none) tt
+over_of Stands Ended kind limits f before live bytes written old case (Err e) fits trace was ok held =
+    end_held Stands kind limits f bytes true bytes [] (sym (append-nil bytes)) true (λ k. (refl, refl)) before case written old live.text e refl
+    (record { fits = fits; sound = trace.sound; read = trace.trace.text.read }) was held

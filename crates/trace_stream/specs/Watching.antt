@@ -1,5 +1,5 @@
 -- When the network of a formula stands for the rows of a case, and what was taken of what its root gave out.
-use Rattle.std.specs.Prelude.{◌≡◌, ℕ, ◌+◌, ◌-◌, ◌≤◌, Bool, false, List, [], ◌∷◌, ◌++◌, length, map, take, drop, Option, Some, None}
+use Rattle.std.specs.Prelude.{◌≡◌, ℕ, ◌+◌, ◌-◌, ◌≤◌, Bool, true, false, List, [], ◌∷◌, ◌++◌, length, map, take, drop, Option, Some, None}
 use Rattle.stl_syntax.specs.Formula.{Formula, horizon, root}
 use Rattle.stl_syntax.specs.Trace.{Header, Row}
 use Rattle.stl_syntax.specs.Verdicts.{AreAlike}
@@ -62,6 +62,14 @@ pub record IsOwing (v : Verdicts) (c : Case) (made : List ℕ) : Type 0 where
   pub times : v.times.items ≡ map (λ (r : Row). r.time) (more ++ last ∷ [])
   pub none_pending : v.pending ≡ []
   pub told : StreamText verdicts (root c.formula.nodes) c.trace.header before false made
+
+-- the network stands for the rows so far
+abbrev pub WatchesRows : Verdicts → Case → List ℕ → Type 0
+WatchesRows v c made = IsWatched false v c
+
+-- the network stands for all rows and their end
+abbrev pub WatchesEnd : Verdicts → Case → List ℕ → Type 0
+WatchesEnd v c made = IsWatched true v c
 
 -- a run of a network, what its root gave out in it, and how many of these verdicts were taken
 pub record Pass : Type 0 where

@@ -15,9 +15,9 @@ mod verdicts;
 
 pub use case::Case;
 pub use fault::{StreamStop, TraceFault};
-pub use follow::Follow;
+pub use follow::{Follow, FollowFault};
 pub use line::fault_line;
 pub use live::Live;
-pub use margins::{FollowFault, Margins};
+pub use margins::Margins;
 pub use reading::Reading;
 pub use verdicts::Verdicts;

@@ -1,17 +1,18 @@
 //! A trace that is read as its bytes come, with what follows its rows.
-ghost use Rattle.std.specs.Prelude.{◌≡◌, ◌^◌, ◌<◌, ◌≤◌, ◌++◌, ℕ, List, [], length, take, true, false, Option, Some, option_map, IfOk, IfErr, OnErr, MatchResult};
+ghost use Rattle.std.specs.Prelude.{◌≡◌, ◌⊎◌, ◌^◌, ◌<◌, ◌≤◌, ◌++◌, ℕ, List, [], length, take, true, false, Option, Some, option_map, IfOk, IfErr, OnErr, MatchResult};
 ghost use Rattle.stl_syntax.specs.Formula.{Formula as Parsed};
 ghost use Rattle.stl_syntax.specs.Trace.{IsTrace};
 ghost use Rattle.stl_syntax.specs.WellFormed.{IsScale};
 ghost use Rattle.trace_reader.specs.TraceText.{Heading, scale_of};
 ghost use Rattle.trace_reader.specs.Reader.{header_of};
 ghost use Rattle.trace_stream.specs.Cases.{IsBegun, IsCase, IsNoBegin, CanKeep, with_row};
-ghost use Rattle.trace_stream.specs.Following.{Follows, IsFollowed, IsOpened, IsEndedOut, IsLive, HasLived, IsLiveOpen, HasLivedOpen, IsLastTaken, IsOver, IsLiveStop, IsOpenStop};
+ghost use Rattle.trace_stream.specs.Streams.{HasStream};
+ghost use Rattle.trace_stream.specs.Following.{Follows, IsFollowed, IsOpened, IsEndedOut, IsHeldUp, IsLive, HasLived, IsLiveOpen, HasLivedOpen, IsLastTaken, IsOver, IsLiveStop, IsOpenStop, stop_of};
 ghost use Rattle.trace_stream.specs.declared.case.Case.{Case as Of};
 
 use crate::case::{Case, begin};
 use crate::fault::{StreamStop, TraceFault};
-use crate::follow::Follow;
+use crate::follow::{Follow, FollowFault};
 use crate::reading::{last_fault, next_bytes};
 use frac128::Memory;
 use std::alloc::Global;
@@ -35,6 +36,7 @@ pub struct Live<F> {
 fn follow<F: Follow>(alloc: Global, case: Case) -> Result<F, StreamStop>
     requires case { (f : Parsed) × IsCase f case }
     requires none { case.trace.rows ≡ [] }
+    requires streamed { HasStream F.kind case.formula }
     ensures ok { IfOk result (λ x. Follows (F.stands x) F.kind case []) }
     ensures err { IfErr result (λ e. e ≡ StreamStop.NoMemory) }
 {
@@ -53,7 +55,8 @@ fn follow_on<F: Follow>(
     header: &Header,
     line: u64,
 ) -> Result<(), StreamStop>
-    requires { (h : Heading) × (header.now ≡ header_of formula.now.scale h) × IsScale (scale_of formula.now.scale h) }
+    requires header { (h : Heading) × (header.now ≡ header_of formula.now.scale h) × IsScale (scale_of formula.now.scale h) }
+    requires streamed { HasStream F.kind formula.now }
     ensures begun { (h : Heading) → header.now ≡ header_of formula.now.scale h
         → MatchResult result (λ _. (case : Of) × IsBegun formula.now line h case × IsFollowed F.stands F.kind follower.new (Some case) [])
         (IsNoBegin formula.now line h) }
@@ -62,6 +65,16 @@ fn follow_on<F: Follow>(
     let case = begin(alloc, formula, header, line)?;
     *follower = Some(follow(alloc, case)?);
     Ok(())
+}
+
+/// The reason to stop that a fault of what follows the rows is.
+fn stop_from(fault: FollowFault) -> StreamStop
+    ensures { result ≡ stop_of fault }
+{
+    match fault {
+        FollowFault::Memory => StreamStop::NoMemory,
+        FollowFault::Wide { node, den } => StreamStop::Wide { node, den },
+    }
 }
 
 /// Takes a row. What it answers is added to the text now, or by `flush`.
@@ -73,12 +86,15 @@ fn take_row<F: Follow>(
     requires { (case : Option Of) × (made : List ℕ) × IsOpened F.stands F.owes F.kind follower.old case made × CanKeep case row.now }
     ensures ok { (case : Option Of) (made : List ℕ) → IsOpened F.stands F.owes F.kind follower.old case made → CanKeep case row.now
         → IfOk result (λ _. (grown : List ℕ) × (text.new ≡ text.old ++ grown) × IsOpened F.stands F.owes F.kind follower.new (option_map (with_row row.now) case) (made ++ grown)) }
-    ensures err { IfErr result (λ e. e ≡ StreamStop.NoMemory) }
+    ensures err { (case : Option Of) (made : List ℕ) → IsOpened F.stands F.owes F.kind follower.old case made → CanKeep case row.now
+        → IfErr result (IsHeldUp F.kind (option_map (with_row row.now) case) false text.old text.new) }
+    ensures owing { (case : Option Of) (made : List ℕ) → IsOpened F.stands F.owes F.kind follower.old case made
+        → IfErr result (λ e. IsFollowed F.stands F.kind follower.old case made ⊎ (e ≡ StreamStop.NoMemory)) }
 {
     match follower {
         Some(follower) => match follower.row(row, text) {
             Ok(()) => Ok(()),
-            Err(_) => Err(StreamStop::NoMemory),
+            Err(fault) => Err(stop_from(fault)),
         },
         None => unreachable!(),
     }
@@ -105,25 +121,27 @@ fn take_end<F: Follow>(follower: &mut Option<F>, text: &mut Text) -> Result<bool
     requires { (c : Of) × (made : List ℕ) × IsFollowed F.stands F.kind follower.old (Some c) made × IsTrace c.trace }
     ensures ok { (c : Of) (made : List ℕ) → IsFollowed F.stands F.kind follower.old (Some c) made → IsTrace c.trace
         → IfOk result (IsEndedOut F.ended F.kind follower.new c text.old text.new made) }
-    ensures err { IfErr result (λ e. e ≡ StreamStop.NoMemory) }
+    ensures err { (c : Of) (made : List ℕ) → IsFollowed F.stands F.kind follower.old (Some c) made → IsTrace c.trace
+        → IfErr result (IsHeldUp F.kind (Some c) true text.old text.new) }
 {
     match follower {
         Some(follower) => match follower.end(text) {
             Ok(holds) => Ok(holds),
-            Err(_) => Err(StreamStop::NoMemory),
+            Err(fault) => Err(stop_from(fault)),
         },
         None => unreachable!(),
     }
 }
 
 impl<F: Follow> Live<F> {
-    /// Takes no bytes yet.
+    /// Takes no bytes yet. The formula has a stream.
     ///
     /// # Errors
     /// Want of memory.
     pub fn new(alloc: Global, formula: Formula, limits: Limits) -> Result<Live<F>, Memory>
         requires rows { limits.rows ≤ 2 ^ 32 }
         requires lines { limits.lines ≤ 2 ^ 33 }
+        requires streamed { HasStream F.kind formula }
         ensures live { IfOk result (λ x. IsLive F.stands F.kind x [] []) }
         ensures limits { IfOk result (λ x. x.rows.limits ≡ limits) }
         ensures formula { IfOk result (λ x. x.formula ≡ formula) }
@@ -187,7 +205,8 @@ impl<F: Follow> Live<F> {
     /// Takes all bytes of a piece. The text grows by what the rows in it answer.
     ///
     /// # Errors
-    /// The bytes have a fault, and the text grew to that of the rows before it; want of memory.
+    /// The bytes have a fault, and the text grew to that of the rows before it; a row needs too large a denominator, and so did the text;
+    /// want of memory.
     pub fn feed(&mut self, piece: &[u8]) -> Result<(), StreamStop>
         requires { HasLived F.stands F.kind self.old }
         ensures taken { (bytes written : List ℕ) → IsLive F.stands F.kind self.old bytes written → MatchResult result

@@ -1,6 +1,6 @@
 //! The verdicts of a formula as the rows of a trace come: a network of operators follows them.
 ghost use Rattle.std.specs.Prelude.{◌≡◌, ◌-◌, ◌++◌, ℕ, List, length, true, false, IfOk};
-ghost use Rattle.stl_syntax.specs.Trace.{Header};
+ghost use Rattle.stl_syntax.specs.Trace.{Header, IsTrace};
 ghost use Rattle.stl_syntax.specs.Texts.{IsVerdictLine};
 ghost use Rattle.online_nodes.specs.Network.{Event, node_is_atom};
 ghost use Rattle.online_nodes.specs.Driven.{steps_of};
@@ -8,10 +8,13 @@ ghost use Rattle.online_net.specs.Nets.{Stands};
 ghost use Rattle.report.specs.Appended.{Grew};
 ghost use Rattle.trace_stream.specs.Pendings.{IsTextOfRow, IsTextOfRows};
 ghost use Rattle.trace_stream.specs.Streams.{verdicts};
-ghost use Rattle.trace_stream.specs.Watching.{IsWatched, IsOwing, Pass, CanTake, HasGivenAll, HasTakenAll, kept_truth};
+ghost use Rattle.trace_stream.specs.Cases.{Takes, with_row};
+ghost use Rattle.trace_stream.specs.Following.{Follows, HasOpen, IsOpen, IsOpenOn, IsFollowedOut};
+ghost use Rattle.trace_stream.specs.Watching.{WatchesRows, WatchesEnd, IsOwing, Pass, CanTake, HasGivenAll, HasTakenAll, kept_truth};
+ghost use Rattle.trace_stream.specs.declared.case.Case.{Case as Of};
 
 use crate::case::Case;
-use crate::follow::Follow;
+use crate::follow::{Follow, FollowFault};
 use crate::pending::Pending;
 use frac128::Memory;
 use online_net::Net;
@@ -126,6 +129,49 @@ impl Network {
 }
 
 impl Verdicts {
+    /// Takes the next row. A root that is an atom answers it at once; else its answer is owed.
+    ///
+    /// # Errors
+    /// Want of memory.
+    fn take_row(&mut self, row: &Row, text: &mut Text) -> Result<(), Memory>
+        requires { HasOpen (WatchesRows self.old) (IsOwing self.old) verdicts row.now }
+        ensures { (c : Of) (made : List ℕ) → IsOpen (WatchesRows self.old) (IsOwing self.old) verdicts c made → Takes row.now c.trace
+            → IfOk result (λ _. IsOpenOn (WatchesRows self.new) (IsOwing self.new) verdicts (with_row row.now c) text.old text.new made) }
+    {
+        let Ok(()) = self.network.net.feed(row) else {
+            return Err(Memory);
+        };
+        if is_atom(&self.network.formula) {
+            self.network.step_all()?;
+            return self.network.take_all(text);
+        }
+        match self.times.push(row.time()) {
+            Ok(()) => Ok(()),
+            Err(_) => Err(Memory),
+        }
+    }
+
+    /// Takes the end, adds to the text what is left, and answers the truth at the start.
+    ///
+    /// # Errors
+    /// Want of memory.
+    fn take_end(&mut self, text: &mut Text) -> Result<bool, Memory>
+        requires { (c : Of) × (made : List ℕ) × Follows (WatchesRows self.old) verdicts c made × IsTrace c.trace }
+        ensures { (c : Of) (made : List ℕ) → Follows (WatchesRows self.old) verdicts c made → IsTrace c.trace
+            → IfOk result (λ holds. IsFollowedOut (WatchesEnd self.new) verdicts c text.old text.new made holds) }
+    {
+        let Ok(()) = self.network.net.close() else {
+            return Err(Memory);
+        };
+        self.network.step_all()?;
+        self.network.take_all(text)?;
+        let Some(holds) = self.network.start else {
+            unreachable!()
+        };
+        put_start(text, holds)?;
+        Ok(holds)
+    }
+
     /// Adds the lines of what a row at this time answers, of what was given out.
     ///
     /// # Errors
@@ -164,11 +210,11 @@ impl Verdicts {
 impl Follow for Verdicts {
     ghost kind = { verdicts };
 
-    ghost stands = { λ s c made. IsWatched false s c };
+    ghost stands = { WatchesRows };
 
     ghost owes = { λ s c made. IsOwing s c made };
 
-    ghost ended = { λ s c made. IsWatched true s c };
+    ghost ended = { WatchesEnd };
 
     fn begin(alloc: Global, case: Case) -> Result<Verdicts, Memory> {
         let Case {
@@ -190,17 +236,10 @@ impl Follow for Verdicts {
         })
     }
 
-    fn row(&mut self, row: &Row, text: &mut Text) -> Result<(), Memory> {
-        let Ok(()) = self.network.net.feed(row) else {
-            return Err(Memory);
-        };
-        if is_atom(&self.network.formula) {
-            self.network.step_all()?;
-            return self.network.take_all(text);
-        }
-        match self.times.push(row.time()) {
+    fn row(&mut self, row: &Row, text: &mut Text) -> Result<(), FollowFault> {
+        match self.take_row(row, text) {
             Ok(()) => Ok(()),
-            Err(_) => Err(Memory),
+            Err(_) => Err(FollowFault::Memory),
         }
     }
 
@@ -216,16 +255,10 @@ impl Follow for Verdicts {
         Ok(())
     }
 
-    fn end(&mut self, text: &mut Text) -> Result<bool, Memory> {
-        let Ok(()) = self.network.net.close() else {
-            return Err(Memory);
-        };
-        self.network.step_all()?;
-        self.network.take_all(text)?;
-        let Some(holds) = self.network.start else {
-            unreachable!()
-        };
-        put_start(text, holds)?;
-        Ok(holds)
+    fn end(&mut self, text: &mut Text) -> Result<bool, FollowFault> {
+        match self.take_end(text) {
+            Ok(start) => Ok(start),
+            Err(_) => Err(FollowFault::Memory),
+        }
     }
 }

@@ -1,4 +1,4 @@
-use Rattle.std.proofs.Common.{◌≡◌, true, ◌++◌, sym, ◌∙◌, subst}
+use Rattle.std.proofs.Common.{false, ◌++◌, sym, ◌∙◌, subst}
 use Rattle.std.proofs.lemmas.Result.{err_from_is_err_and}
 use Rattle.std.specs.Prelude.{option_map}
 use Rattle.stl_syntax.specs.Trace.{Row}
@@ -6,10 +6,9 @@ use Rattle.trace_reader.specs.Feeds.{rows_after}
 use Rattle.trace_reader.specs.Reader.{IsWholeTrace, IsNextRow, HasEndedWith}
 use Rattle.trace_reader.specs.declared.event.Event.{Event}
 use Rattle.trace_stream.specs.Cases.{CanKeep, with_row}
-use Rattle.trace_stream.specs.Following.{IsOpened, IsLiveStop}
-use Rattle.trace_stream.specs.declared.fault.StreamStop.{StreamStop}
+use Rattle.trace_stream.specs.Following.{IsOpened, IsHeldUp}
 use Rattle.trace_stream.proofs.Ends.{ended_now, ended_row, end_can, has_header, refused_end}
-use Rattle.trace_stream.proofs.Living.{open_of, more_text, last_by_case, live_end_refused, last_taken, last_row}
+use Rattle.trace_stream.proofs.Living.{open_of, more_text, last_by_case, live_end_refused, last_taken, last_row, last_held}
 use Rattle.trace_stream.proofs.live.Live.last.Goals as goal
 
 pub take_row-requires : goal.take_row-requires
@@ -75,8 +74,19 @@ pub returns-in_err-take_row-in-Ok-Row-clause-last : goal.returns-in_err-take_row
 returns-in_err-take_row-in-Ok-Row-clause-last g c =
     let p = err_from_is_err_and c.from_residual.result c.from_residual.ensures.1 in
     rw (p.1, p.2) (λ bytes written k.
-    subst (λ (s : StreamStop). IsLiveStop g.F.Follow.kind c.args.self.now.rows.limits c.args.self.now.formula true bytes (written ++ c.take_row.new.text) s)
-    (sym c.in_err-take_row-in-Ok-Row.ensures.err) tt)
+    let old = c.args.self.now in
+    let new = c.end.new.self in
+    let ok = c.in-Ok-Row.ensures in
+    let whole = subst (λ (e : Event). IsWholeTrace new bytes (rows_after e k.kept.rows new.row)) c.in-Ok-Row.field-0-is (ok.ok bytes k.kept.rows k.kept.stands) in
+    let next = subst (λ (e : Event). IsNextRow e new.heading k.kept.rows new.row) c.in-Ok-Row.field-0-is (ok.next bytes k.kept.rows k.kept.stands) in
+    let can = end_can old.formula old.rows new k.case bytes k.kept ok.kept.0 ok.kept.1 new.row whole next in
+    let stop = c.in_err-take_row-in-Ok-Row.field-0.0 in
+    let held = subst (λ (r : Row). IsHeldUp g.F.Follow.kind (option_map (with_row r) k.case) false old.text c.take_row.new.text stop) c.row.ensures
+    (c.in_err-take_row-in-Ok-Row.ensures.err k.case (written ++ old.text)
+    (open_of g.F.Follow.stands g.F.Follow.owes g.F.Follow.kind old.follower k.case (written ++ old.text) k.followed)
+    (subst (λ (r : Row). CanKeep k.case r) (sym c.row.ensures) can)) in
+    last_held g.F.Follow.stands g.F.Follow.kind old.rows.limits old.formula bytes written old.text c.take_row.new.text old.follower k.case new.row stop held k.followed
+    (ended_row old.formula old.rows new k.case bytes k.kept ok.kept.0 ok.kept.1 new.row whole))
 
 pub returns-in-Ok-Nothing-clause-last : goal.returns-in-Ok-Nothing-clause-last
 returns-in-Ok-Nothing-clause-last g c = λ bytes written k.

@@ -8,7 +8,7 @@ use Rattle.trace_stream.specs.declared.verdicts.Verdicts.{Verdicts}
 use Rattle.trace_stream.proofs.Watched.{pass_before}
 use Rattle.trace_stream.proofs.WatchedRows.{steps_stand, passing, can_take, row_followed}
 use Rattle.trace_stream.proofs.Opening.{open_width, open_time, open_places, atom_owes_none, owes_on}
-use Rattle.trace_stream.proofs.verdicts.VerdictsFollow.row.Goals as goal
+use Rattle.trace_stream.proofs.verdicts.Verdicts.take_row.Goals as goal
 
 pub feed-requires-clause-width : goal.feed-requires-clause-width
 feed-requires-clause-width c = let (case, made, opened, t) = c.requires in open_width c.args.self.now case made opened c.args.row.now t
