@@ -187,7 +187,8 @@ impl Verdicts {
             return Ok(());
         }
         let front = (time - self.horizon) as u32;
-        self.pending.put_up_to(front, self.network.formula.scale(), text)
+        self.pending
+            .put_up_to(front, self.network.formula.scale(), text)
     }
 
     /// Adds the lines of what was given out, cut where the answer of each row ends.
