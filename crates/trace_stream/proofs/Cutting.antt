@@ -238,7 +238,8 @@ module _ (p : Subformula) where
           tiles = (after.begin, more, tiles_from d vs after.end l.tiles.2);
           told = (
             part_told tr v rest l.told.0 more after.holds
-                (λ t h. after_of_before (begins (interval v.on)) (just_after f) t begun (after_same (begins (interval rest.on)) (just_after f) t (same_places after.begin) h))
+                (λ t h. after_of_before (begins (interval v.on)) (just_after f) t begun
+                (after_same (begins (interval rest.on)) (just_after f) t (same_places after.begin) h))
                 (λ t h. upto_same (ends (interval rest.on)) (ends (interval v.on)) t (same_places after.end) h),
             l.told.1,
           );
@@ -255,7 +256,8 @@ module _ (p : Subformula) where
   none_up_to {f = f} c d (one_whole v n more) (s, some, rest) b =
       absurd (n (before_trans (just_after f) (begins (interval v.on)) (ends (interval v.on)) (before_same (just_after f) c (begins (interval v.on)) b s) some))
   none_up_to {f = f} c d (one_cut v part rest vs begun beyond before after) (s, some, tiles) b =
-      absurd (not_before (refl_place (just_after f)) (before_trans (just_after f) (begins (interval v.on)) (just_after f) (before_same (just_after f) c (begins (interval v.on)) b s) begun))
+      absurd (not_before (refl_place (just_after f))
+      (before_trans (just_after f) (begins (interval v.on)) (just_after f) (before_same (just_after f) c (begins (interval v.on)) b s) begun))
     where
       refl_place : (c : Place) → Same c c
       refl_place c = (same_refl c.at, refl)
@@ -272,7 +274,8 @@ module _ (p : Subformula) where
           (tiled_upto (ends (interval v.on)) vs d rest t (in_upto (interval v.on) t h))) (told.truth t h);
     },
     told_moves tr tr' (ends (interval v.on)) d vs rest
-        (λ t a u. agree t (after_same (begins (interval v.on)) c t (same_places s) (after_of_before (begins (interval v.on)) (ends (interval v.on)) t b a)) u) more,
+        (λ t a u. agree t (after_same (begins (interval v.on)) c t (same_places s)
+        (after_of_before (begins (interval v.on)) (ends (interval v.on)) t b a)) u) more,
   )
     where
       by_holds : {A B : Type 0} (b : Bool) → (A → B) × (B → A) → MatchBool b A (¬ A) → MatchBool b B (¬ B)

@@ -177,7 +177,8 @@ module _ (nodes : List Node) (header : Header) where
       by_size [] a = refl
       by_size (w ∷ ws) a = absurd a
   alike_left all are old (Some f) vs ws e l =
-      leads_alike (root nodes) (record { header = header; rows = all }) (answered_to (first_time all) old) (answered_to (first_time all) (Some f)) vs ws (alike_sym ws vs e) l
+      leads_alike (root nodes) (record { header = header; rows = all }) (answered_to (first_time all) old) (answered_to (first_time all) (Some f)) vs
+      ws (alike_sym ws vs e) l
 
   module _ (order : IsPostOrder nodes) (some : 0 < length nodes) where
     -- what the pass after the last of some rows gives out is what is left for these rows to answer
@@ -189,8 +190,10 @@ module _ (nodes : List Node) (header : Header) where
     left_of_pass {before} {base} more last n beyond put emitted x no_atom d d' all are e same =
         alike_left all are (front_after (root nodes) before) (front_after (root nodes) all) x.beyond put same
         (left_of_gives all are (front_after (root nodes) before) (front_after (root nodes) all) x.beyond
-        (subst (λ rs. Gives nodes header Top (record { header = header; rows = rs }) (front_after (root nodes) before) (front_after (root nodes) rs) x.beyond) (sym e)
-        (subst (λ o. Gives nodes header Top (record { header = header; rows = (before ++ more) ++ last ∷ [] }) (front_after (root nodes) before) o x.beyond) new_is
+        (subst (λ rs. Gives nodes header Top (record { header = header; rows = rs }) (front_after (root nodes) before) (front_after (root nodes) rs)
+        x.beyond) (sym e)
+        (subst (λ o. Gives nodes header Top (record { header = header; rows = (before ++ more) ++ last ∷ [] }) (front_after (root nodes) before) o
+        x.beyond) new_is
         (subst (λ o. Gives nodes header Top (record { header = header; rows = (before ++ more) ++ last ∷ [] }) o (shown end Top) x.beyond) old_is
         (subst (λ rs. Gives nodes header Top (record { header = header; rows = rs }) (shown s Top) (shown end Top) x.beyond) rows_are
         (pass_gives nodes header some s (row last) x.beyond (λ n. quiet_row s last opens n) x.gives).gives)))))
@@ -209,7 +212,8 @@ module _ (nodes : List Node) (header : Header) where
 
         old_is : shown s Top ≡ front_after (root nodes) before
         old_is = ap (λ (z : State). shown z Top) on
-            ∙ sym (quiet_shown nodes header Top (state_from nodes initial base) (rows_of more) (rows_quiet (state_from nodes initial base) more (driven_opens d) no_atom))
+            ∙ sym (quiet_shown nodes header Top (state_from nodes initial base) (rows_of more)
+            (rows_quiet (state_from nodes initial base) more (driven_opens d) no_atom))
             ∙ shown_after nodes header order some d
 
         rows_are : end.rows ≡ (before ++ more) ++ last ∷ []
@@ -353,7 +357,8 @@ module _ (v : Verdicts) (c : Case) (made : List ℕ) (o : IsOwing v c made) wher
   are_rows = by_rows c.trace.rows o.rows
       (subst (λ l. AreRowsSoFar (length c.trace.header.columns) l) owing_rows (rows_came c.formula.nodes c.trace.header o.events o.stands.run))
     where
-      by_rows : (l : List Row) → l ≡ (o.before ++ o.more) ++ o.last ∷ [] → AreRowsSoFar (length c.trace.header.columns) l → AreRows (length c.trace.header.columns) l
+      by_rows : (l : List Row) → l ≡ (o.before ++ o.more) ++ o.last ∷ [] → AreRowsSoFar (length c.trace.header.columns) l
+          → AreRows (length c.trace.header.columns) l
       by_rows [] e k = absurd (no_row (o.before ++ o.more) o.last (sym e))
       by_rows (q ∷ l) e k = k
 
@@ -385,7 +390,8 @@ module _ (v : Verdicts) (c : Case) (made : List ℕ) (o : IsOwing v c made) wher
             horizon = same_horizon ∙ o.horizon;
             events = fed_by ++ pass_of (row o.last) c.formula.nodes p.made;
             driven = subst (λ l. IsDriven c.formula.nodes c.trace.header l false (fed_by ++ pass_of (row o.last) c.formula.nodes p.made)) (sym o.rows) driven;
-            stands = subst (λ (n : Network). Stands c.formula.nodes c.trace.header n.net (fed_by ++ pass_of (row o.last) c.formula.nodes p.made)) (sym network) p.stands;
+            stands = subst (λ (n : Network). Stands c.formula.nodes c.trace.header n.net (fed_by ++ pass_of (row o.last) c.formula.nodes p.made))
+                (sym network) p.stands;
             emitted = x.first ++ x.beyond;
             is_emitted = p.is_emitted;
             start = ap (λ (n : Network). n.start) network ∙ p.start;

@@ -177,7 +177,8 @@ impl Verdicts {
     /// # Errors
     /// Want of memory.
     fn put_row(&mut self, time: u32, text: &mut Text) -> Result<(), Memory>
-        ensures lines { IfOk result (λ _. Grew (λ grown. IsTextOfRow self.old.network.formula.scale self.old.horizon time self.old.pending grown self.new.pending) text.old text.new) }
+        ensures lines { IfOk result (λ _. Grew (λ grown.
+            IsTextOfRow self.old.network.formula.scale self.old.horizon time self.old.pending grown self.new.pending) text.old text.new) }
         ensures network { self.new.network ≡ self.old.network }
         ensures horizon { self.new.horizon ≡ self.old.horizon }
         ensures times { self.new.times.items ≡ self.old.times.items }
@@ -196,7 +197,8 @@ impl Verdicts {
     /// # Errors
     /// Want of memory.
     fn put_rows(&mut self, text: &mut Text) -> Result<(), Memory>
-        ensures lines { IfOk result (λ _. Grew (λ grown. IsTextOfRows self.old.network.formula.scale self.old.horizon self.old.times.items self.old.pending grown self.new.pending) text.old text.new) }
+        ensures lines { IfOk result (λ _. Grew (λ grown.
+            IsTextOfRows self.old.network.formula.scale self.old.horizon self.old.times.items self.old.pending grown self.new.pending) text.old text.new) }
         ensures network { self.new.network ≡ self.old.network }
         ensures horizon { self.new.horizon ≡ self.old.horizon }
     {

@@ -37,7 +37,8 @@ returns-in-Some-cut c =
     let part = c.in-Some-cut.part in
     let (put, (grown, lines, is), on) = c.loop-verdict.invariant in
     let (same, beyond) = subst (λ o. IsNextUpTo c.args.front c.loop-verdict.self o c.next.new.self) c.in_default.is c.next.ensures in
-    let up = cut_parts c.args.front c.next.new.self c.cut.new.self (Some part) (subst (λ l. GoesBeyond c.args.front l) (sym same) beyond) c.in-Some-cut.ensures in
+    let up = cut_parts c.args.front c.next.new.self c.cut.new.self (Some part) (subst (λ l. GoesBeyond c.args.front l) (sym same) beyond)
+    c.in-Some-cut.ensures in
     IfOk-weaker c.put_verdict-in-Some-cut.result _ _ (λ u h.
     let (line, is_line, longer) = h in (
       grown ++ line,
