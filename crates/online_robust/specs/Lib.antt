@@ -13,3 +13,4 @@ pub mod Lining
 pub mod Reading
 pub mod Couples
 pub mod Sweeping
+pub mod Windows

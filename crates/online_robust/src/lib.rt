@@ -12,6 +12,7 @@ mod put;
 mod queue;
 mod station;
 mod streamed;
+mod window;
 
 pub use line::MarginLine;
 pub use net::{RobustFault, RobustNet};
