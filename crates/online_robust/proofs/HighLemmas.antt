@@ -26,7 +26,7 @@ use Rattle.online_robust.specs.declared.line.MarginLine.{MarginLine}
 use Rattle.online_robust.specs.declared.line.MarginLine.TheVariants as L
 use Rattle.online_robust.specs.declared.queue.Queue.{Queue}
 use Rattle.online_robust.specs.declared.window.Sweep.{Sweep}
-use Rattle.online_robust.proofs.Spreads.{ComesNext, before_next, comes_next, gap_behind, gone_frozen, gone_plain, last_from, nothing_behind}
+use Rattle.online_robust.proofs.Spreads.{ComesNext, before_next, comes_next, gap_behind, goes_beyond, gone_frozen, gone_plain, last_from, nothing_behind}
 use Rattle.online_robust.proofs.WindowLaw.{before_of_end, up_to_before, up_to_end}
 
 -- what an edge is once its first line was read
@@ -122,7 +122,8 @@ module _ (x : Scope) (s : Sweep) (e mid new : Held) (line : MarginLine) (next : 
         before = subst (λ (g : Gap). IsBefore (value next_is.p) g.until) (sym gap) tt;
         stands = inr gap;
         standing = subst (λ (g : Gap). IsStanding g [] []) (sym gap) refl;
-        come = subst (λ (g : Gap). IsToCome x g.until []) (sym gap) refl;
+        come = subst (λ (g : Gap). IsToCome x g.until []) (sym gap) (refl, goes_beyond x s.window s.start s.none s.place.low s.place.high s.among
+            (edge_at e s.window.of).seen (fresh_at e s.window.of) (low_at x s.window) (high_at x s.window) at.spread next_is is high.more);
         seen_is = ap (λ (h : Held). (edge_at h s.window.of).seen) same ∙ mid_seen;
         fresh_is = ap (λ (h : Held). fresh_at h s.window.of) same ∙ mid_fresh ∙ is;
         shed = λ limit. subst (Sheds limit s.window.of e) (sym same) (shed_mid limit);

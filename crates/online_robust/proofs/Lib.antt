@@ -47,3 +47,4 @@ pub mod Sheddings
 pub mod WindowBounds
 pub mod WindowTelling
 pub mod WindowFirst
+pub mod Countdown

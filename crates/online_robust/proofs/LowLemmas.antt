@@ -17,7 +17,7 @@ use Rattle.online_robust.specs.Held.{Edge, Held, edge_at, fresh_at, held_at, hel
 use Rattle.online_robust.specs.Queues.{StandsFor}
 use Rattle.online_robust.specs.Reading.{IsThere, Loses, LosesAt}
 use Rattle.online_robust.specs.Sweeping.{AreBy, AreFrozen, AreTicks, EndsAt, IsBefore, IsFrozen, IsNoKnot, IsOn, IsUpTo, Mark, Runs, last_gap}
-use Rattle.online_robust.specs.Windows.{AreSeen, AreStanding, IsAt, IsLow, IsSpread, IsStanding, IsToCome, Scope, Sheds, gap_of, high_at, input_of, low_at, no_gap}
+use Rattle.online_robust.specs.Windows.{AreSeen, AreStanding, IsAt, IsLow, IsSpread, IsStanding, IsToCome, Scope, Sheds, before_start, gap_of, high_at, input_of, low_at, no_gap}
 use Rattle.online_robust.specs.declared.ends.Gap.{Gap}
 use Rattle.online_robust.specs.declared.line.MarginLine.{MarginLine}
 use Rattle.online_robust.specs.declared.line.MarginLine.TheVariants as L
@@ -122,9 +122,15 @@ module _ (x : Scope) (w : Window) (begin : Frac) (none : Margin) (low high : Gap
     among = among;
     standing = c.standing.1;
     seen_is = c.seen_is;
+    low_stands = stands c.standing.0;
     to_come = s.to_come;
   }
     where
+      stands : (c.k.after.stands ≡ true) ⊎ ((c.k.after ≡ no_gap none) × (c.marks ≡ []))
+          → (c.k.after.stands ≡ true) ⊎ (c.k.after ≡ no_gap none) ⊎ (c.k.after ≡ before_start none begin)
+      stands (inl e) = inl e
+      stands (inr (e, nil)) = inr (inl e)
+
       up : (o : Option Frac) → IsBefore (value c.k.at) o → IsUpTo l o
       up None b = tt
       up (Some u) b = le_trans (ge_of_same c.here) (le_of_lt b)
@@ -239,7 +245,7 @@ pub front_is : (x : Scope) (none : Margin) (k : Mark) (marks : List Mark) (high 
 front_is x none k marks high rest fresh (inr (e, nil)) seen last come next found =
     let rest_nil : rest ≡ [] = no_lines k.after (ap (λ (g : Gap). g.stands) e) (subst (λ (ms : List Mark). AreSeen k.after ms rest) nil seen) in
     let high_is : high ≡ no_gap none = last ∙ ap (last_gap k.after) nil ∙ e in
-    let fresh_nil : fresh ≡ [] = subst (λ (g : Gap). IsToCome x g.until fresh) high_is come in
+    let fresh_nil : fresh ≡ [] = (subst (λ (g : Gap). IsToCome x g.until fresh) high_is come).0 in
     let none_there : slice_get (rest ++ fresh) 0 ≡ None =
     ap (λ (l : List MarginLine). slice_get (l ++ fresh) 0) rest_nil ∙ ap (λ (l : List MarginLine). slice_get l 0) fresh_nil in
     subst (λ o. MatchOption o (next ≡ no_gap none) (λ line. next ≡ gap_of line)) none_there found ∙ sym e

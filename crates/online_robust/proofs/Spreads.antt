@@ -119,6 +119,7 @@ module _ (x : Scope) (w : Window) (begin : Frac) (none : Margin) (low high : Gap
     among = s.among;
     standing = s.standing;
     seen_is = s.seen_is;
+    low_stands = s.low_stands;
     to_come = s.to_come;
   }
     where
@@ -192,7 +193,12 @@ module _ (x : Scope) (w : Window) (begin : Frac) (none : Margin) (low high : Gap
         (u, v, rest, refl, joined.1, le_trans c.from_start (le_trans (le_of_lt before) (le_of_same joined.1)), told.1, fit.1, joined.2),
       )
 
-  -- where there is none the input has ended
+  -- where there is none the high end goes on beyond the input
+  pub goes_beyond : (c : ComesNext) → c.rest ≡ [] → h <ʳ x.bound → x.front <ʳ x.bound
+  goes_beyond c is more =
+      lt_of_le_of_lt (ge_of_same (subst (AreJoined (value c.p) x.front) is c.joined)) (lt_of_le_of_lt (le_of_same c.here) more)
+
+  -- and has ended
   pub nothing_behind : (c : ComesNext) → c.rest ≡ [] → h <ʳ x.bound → IsOn Q x.reach (value c.p) (no_gap none)
   nothing_behind c is more = by_ended s.ended
     where
@@ -240,6 +246,7 @@ module _ (x : Scope) (w : Window) (begin : Frac) (none : Margin) (low high : Gap
       among = among;
       standing = standing_more_marks none low s.marks mark (value c.p) s.standing (subst (λ (g : Gap). EndsAt g.until (value c.p)) s.last c.ends) stands;
       seen_is = seen_more low s.marks mark seen tail s.seen_is standing;
+      low_stands = s.low_stands;
       to_come = come;
     }
       where

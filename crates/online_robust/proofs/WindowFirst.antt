@@ -51,6 +51,7 @@ first_spread x w begin none q fresh t fit tick begins within ended none_value no
   among = among;
   standing = tt;
   seen_is = refl;
+  low_stands = inr (inr refl);
   to_come = to_come;
 }
   where
@@ -96,5 +97,6 @@ spread_told x front bound w begin none low high q seen fresh more l h s within e
   among = s.among;
   standing = s.standing;
   seen_is = s.seen_is;
+  low_stands = s.low_stands;
   to_come = to_come;
 }

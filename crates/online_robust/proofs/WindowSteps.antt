@@ -69,6 +69,7 @@ spread_same x at behind w begin none low high q seen fresh l h s = record {
   among = s.among;
   standing = s.standing;
   seen_is = s.seen_is;
+  low_stands = s.low_stands;
   to_come = come_same x at behind high.until fresh s.to_come;
 }
 

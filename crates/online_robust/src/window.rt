@@ -409,9 +409,10 @@ impl Sweep {
         ensures kept { OnOk result (Keeps self.old self.new × (self.new.place.high ≡ self.old.place.high)) }
         ensures shed { (x : Scope) → IsAt x self.old edges.old → x.at ≡ value t.now
             → OnOk result (Sheds (low_at x self.old.window) self.old.window.of edges.old edges.new) }
-        ensures stays { ¬ EndsAt self.old.place.low.until (shifted (value t.now) self.old.window.low) → OnOk result ((self.new ≡ self.old) × (edges.new ≡ edges.old)) }
+        ensures stays { ¬ EndsAt self.old.place.low.until (shifted (value t.now) self.old.window.low) → OnOk result (self.new ≡ self.old) }
         ensures fewer { EndsAt self.old.place.low.until (shifted (value t.now) self.old.window.low)
             → OnOk result (lines_left (edge_at edges.new self.old.window.of) < lines_left (edge_at edges.old self.old.window.of)) }
+        ensures no_more { OnOk result (lines_left (edge_at edges.new self.old.window.of) ≤ lines_left (edge_at edges.old self.old.window.of)) }
     {
         if self.place.low.ends_at(self.window.low, t) {
             return self.under_low(edges);

@@ -9,9 +9,10 @@ use Rattle.value_laws.specs.Margins.{margin_function}
 use Rattle.value_laws.specs.declared.margin.Margin.{Margin}
 use Rattle.online_robust.specs.Held.{edge_at, fresh_at}
 use Rattle.online_robust.specs.Sweeping.{IsFrozen}
-use Rattle.online_robust.specs.Windows.{IsAt, IsHigh, Scope, high_at, low_at}
+use Rattle.online_robust.specs.Windows.{IsAt, IsHigh, Scope, high_at, lines_left, low_at}
 use Rattle.online_robust.specs.declared.line.MarginLine.{MarginLine}
 use Rattle.online_robust.proofs.Builts.{tick_within}
+use Rattle.online_robust.proofs.Countdown.{enter_no_more, pass_fewer}
 use Rattle.online_robust.proofs.HighLemmas.{HasEntered, before_goes, frozen_spread, has_entered, high_small, knot_is, next_is, next_small, no_knot_is, plain_spread, point_at, point_is, read_count, unfixed_high}
 use Rattle.online_robust.proofs.Spreads.{comes_next}
 use Rattle.online_robust.proofs.window.Sweep.go_high.Goals.{After-enter-next}
@@ -140,3 +141,20 @@ returns-clause-stands c x at high =
 pub returns-clause-shed : goal.returns-clause-shed
 returns-clause-shed c =
     let (x, at, high) = c.requires in (entered (goal.at.returns-clause-shed c).After-enter-next x at high).shed
+
+fewer : (c : After-enter-next) → lines_left (edge_at c.enter-next.new.edges c.args.self.now.window.of) < lines_left (edge_at c.args.edges.now c.args.self.now.window.of)
+fewer c =
+    let (x, at, high) = c.requires in
+    let within = at.within in
+    let count = read_count c.args.self.now.window.of c.args.edges.now c.pass-line.new.self c.pass-line.result c.pass-line.ensures.read in
+    let passed = pass_fewer c.args.self.now.window.of c.args.edges.now c.pass-line.new.self c.pass-line.result within c.pass-line.ensures.first
+    c.pass-line.ensures.read in
+    let entered = enter_no_more c.args.self.now.window.of c.pass-line.new.self c.enter-next.new.edges c.args.self.now.none c.enter-next.result
+    (omega (arith, count, within)) c.enter-next.ensures in
+    omega (arith, passed, entered)
+
+pub returns-then-is_plain-clause-fewer : goal.returns-then-is_plain-clause-fewer
+returns-then-is_plain-clause-fewer c = fewer (goal.at.returns-then-is_plain-clause-fewer c).After-enter-next
+
+pub returns-clause-fewer : goal.returns-clause-fewer
+returns-clause-fewer c = fewer (goal.at.returns-clause-fewer c).After-enter-next

@@ -1,5 +1,6 @@
 use Rattle.std.proofs.Common.{sym, ◌∙◌}
 use Rattle.online_robust.proofs.Builts.{tick_within}
+use Rattle.online_robust.proofs.Countdown.{low_fewer}
 use Rattle.online_robust.proofs.LowLemmas.{before_goes, frozen_spread, knot_is, line_tick, plain_is, plain_spread, point_there, shed, some_line, within_new}
 use Rattle.online_robust.proofs.window.Sweep.go_low.Goals as goal
 
@@ -68,3 +69,13 @@ pub returns-clause-shed : goal.returns-clause-shed
 returns-clause-shed c x at low =
     shed x c.args.self.now c.args.edges.now c.drop_gap.new.edges at low c.drop_gap.ensures c.take.new.self c.in-Some.line
     c.front-next.result (sym c.take.ensures.first ∙ c.in-Some.is) c.take.ensures.taken c.take.ensures.start c.front-next.ensures
+
+pub returns-then-is_plain-clause-fewer : goal.returns-then-is_plain-clause-fewer
+returns-then-is_plain-clause-fewer c =
+    low_fewer c.args.self.now.window.of c.args.edges.now c.drop_gap.new.edges c.take.new.self c.args.self.now.place.low.stands c.in-Some.line
+    c.requires.1.within c.drop_gap.ensures (sym c.take.ensures.first ∙ c.in-Some.is) c.take.ensures.taken
+
+pub returns-clause-fewer : goal.returns-clause-fewer
+returns-clause-fewer c =
+    low_fewer c.args.self.now.window.of c.args.edges.now c.drop_gap.new.edges c.take.new.self c.args.self.now.place.low.stands c.in-Some.line
+    c.requires.1.within c.drop_gap.ensures (sym c.take.ensures.first ∙ c.in-Some.is) c.take.ensures.taken

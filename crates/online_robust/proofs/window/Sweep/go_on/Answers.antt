@@ -1,10 +1,13 @@
-use Rattle.std.proofs.Common.{◌^◌, ◌∙◌, subst}
+use Rattle.std.proofs.Common.{◌^◌, ◌∙◌, ◌+◌, ◌*◌, ◌<◌, subst}
 use Rattle.std.proofs.lemmas.Result.{err_from_is_err_and}
 use Rattle.frac128.specs.Value.{value}
 use Rattle.rational.specs.Rational.{IsWithin}
-use Rattle.rational.specs.Time.{shifted}
-use Rattle.online_robust.specs.Windows.{IsGone, Sheds}
+use Rattle.rational.specs.Time.{Rational, shifted, ◌<ʳ◌}
+use Rattle.online_robust.specs.Held.{edge_at}
+use Rattle.online_robust.specs.Sweeping.{IsBefore}
+use Rattle.online_robust.specs.Windows.{IsGone, Sheds, lines_left, steps_left}
 use Rattle.online_robust.specs.declared.window.Window.{Window}
+use Rattle.online_robust.proofs.Countdown.{both_fewer}
 use Rattle.online_robust.proofs.Sheddings.{sheds_both}
 use Rattle.online_robust.proofs.WindowSteps.{goes_both, open_of}
 use Rattle.online_robust.proofs.window.Sweep.go_on.Goals as goal
@@ -61,3 +64,17 @@ pub returns-in_err-gone-clause-wide : goal.returns-in_err-gone-clause-wide
 returns-in_err-gone-clause-wide c x at going =
     let p = err_from_is_err_and c.from_residual-in_err-gone.result c.from_residual-in_err-gone.ensures.1 in
     rw (p.1, p.2) tt
+
+pub returns-clause-fewer : goal.returns-clause-fewer
+returns-clause-fewer c =
+    let (x, at, going) = c.requires in
+    let went = c.in_ok-high_on.ensures.stands x at (going.behind ∙ going.here) going.more in
+    let open = open_of x c.args.self.now c.high_on.new.self (value c.args.to.now) going c.in_ok-high_on.ensures.kept.0 c.in_ok-high_on.ensures.kept.1 went.1 in
+    let high_before = subst (λ (z : Rational). IsBefore (shifted z c.args.self.now.window.high) c.high_on.new.self.place.high.until) (going.behind ∙ going.here)
+    (subst (λ (w : Window). IsBefore (shifted x.behind w.high) c.high_on.new.self.place.high.until) c.in_ok-high_on.ensures.kept.0.window went.1) in
+    let step = subst (λ (w : Window). steps_left w c.go_to.new.self.place (edge_at c.go_to.new.edges w.of) (value c.args.to.now)
+    < 2 * lines_left (edge_at c.high_on.new.edges w.of) + 2) c.in_ok-high_on.ensures.kept.0.window (c.in_ok-gone.ensures.fewer x went.0 open) in
+    both_fewer c.args.self.now.window c.args.self.now.place c.high_on.new.self.place c.go_to.new.self.place
+    (edge_at c.args.edges.now c.args.self.now.window.of) (edge_at c.high_on.new.edges c.args.self.now.window.of)
+    (edge_at c.go_to.new.edges c.args.self.now.window.of) (value c.args.to.now)
+    (subst (λ (z : Rational). z <ʳ value c.args.to.now) going.here going.before) high_before c.in_ok-high_on.ensures.fewer step

@@ -1,7 +1,8 @@
-use Rattle.std.proofs.Common.{inr, refl, sym, subst}
+use Rattle.std.proofs.Common.{arith, inr, refl, sym, subst}
 use Rattle.rational.specs.Time.{shifted}
 use Rattle.frac128.specs.Value.{value}
 use Rattle.online_robust.specs.Sweeping.{EndsAt}
+use Rattle.online_robust.proofs.Countdown.{on_ok}
 use Rattle.online_robust.proofs.WindowPoints.{low_before, low_from_passed, low_passed, low_stands, low_to_passed, no_sheds, point_at}
 use Rattle.online_robust.proofs.window.Sweep.low_point.Goals as goal
 
@@ -59,3 +60,15 @@ returns-then-ends_at-clause-stays c apart =
     let (x, at, here) = c.requires.at in
     absurd (apart (subst (λ z. EndsAt c.args.self.now.place.low.until (shifted (value c.args.t.now) z))
     (low_passed c.args.self.now.window x.reach at.spread.fit) (c.ends_at.ensures.yes c.if-ends_at.true)))
+
+pub returns-then-ends_at-clause-fewer : goal.returns-then-ends_at-clause-fewer
+returns-then-ends_at-clause-fewer c ends = c.under_low.ensures.fewer
+
+pub returns-then-ends_at-clause-no_more : goal.returns-then-ends_at-clause-no_more
+returns-then-ends_at-clause-no_more c = on_ok c.under_low.result (λ less. omega (arith, less)) c.under_low.ensures.fewer
+
+pub returns-clause-fewer : goal.returns-clause-fewer
+returns-clause-fewer c ends =
+    let (x, at, here) = c.requires.at in
+    absurd (c.ends_at.ensures.no c.if-ends_at.false
+    (subst (λ z. EndsAt c.args.self.now.place.low.until (shifted (value c.args.t.now) z)) (sym (low_passed c.args.self.now.window x.reach at.spread.fit)) ends))

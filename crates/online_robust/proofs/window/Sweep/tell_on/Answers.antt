@@ -85,3 +85,6 @@ returns-in_err-gone-clause-fault c x at going =
     let p = err_from_is_err_and c.from_residual.result c.from_residual.ensures.1 in
     let h = c.in_err-gone.ensures.wide x at going in
     rw (p.1, p.2) (inl h)
+
+pub returns-in-Ok-clause-fewer : goal.returns-in-Ok-clause-fewer
+returns-in-Ok-clause-fewer c = c.in_ok-gone.ensures.fewer

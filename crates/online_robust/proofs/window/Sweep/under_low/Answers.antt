@@ -39,3 +39,9 @@ returns-clause-point c x at low = inl (sym (ap (λ (w : Window). w.low_in) c.in_
 
 pub returns-clause-shed : goal.returns-clause-shed
 returns-clause-shed c x at low = c.in_ok-point.ensures.shed x at low
+
+pub returns-then-self-clause-fewer : goal.returns-then-self-clause-fewer
+returns-then-self-clause-fewer c = c.in_ok-point.ensures.fewer
+
+pub returns-clause-fewer : goal.returns-clause-fewer
+returns-clause-fewer c = c.in_ok-point.ensures.fewer
