@@ -15,6 +15,7 @@ mod Leaves
 mod LeafMoved
 mod Loops
 mod Apart
+mod BestWindows
 mod Bridging
 mod Firsting
 mod Standings
@@ -48,3 +49,6 @@ pub mod WindowBounds
 pub mod WindowTelling
 pub mod WindowFirst
 pub mod Countdown
+mod Glancing
+mod Instants
+mod GlanceBridging

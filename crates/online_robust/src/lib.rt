@@ -4,6 +4,7 @@
 
 mod edges;
 mod ends;
+mod glance;
 mod line;
 mod net;
 mod operator;

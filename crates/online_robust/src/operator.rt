@@ -5,6 +5,7 @@ ghost use Rattle.online_robust.specs.declared.operator.Operator.TheVariants as O
 ghost use Rattle.online_robust.specs.Turns.{Turn, Belongs, BelongsSomewhere, HasSwept, IsFirstOperator, IsStreamedFault, IsSwept, StandsNow};
 
 use crate::edges::Edges;
+use crate::glance::Moved;
 use crate::pointwise::{Not, Two};
 use frac128::Frac;
 use pl_signal::{OpFault, Side, Signal};
@@ -17,6 +18,7 @@ use value_laws::Margin;
 pub(crate) enum Operator {
     Not(Not),
     Two(Two),
+    Moved(Moved),
 }
 
 /// A connective before anything was told.
@@ -72,6 +74,29 @@ fn sweep_two(
     }
 }
 
+/// A window of one instant goes on to a number.
+fn sweep_moved(
+    moved: &mut Moved,
+    alloc: Global,
+    edges: &mut Edges,
+    to: u32,
+) -> Result<Signal<Margin>, OpFault<Margin>>
+    requires { BelongsSomewhere (Op.Moved moved.old) edges.old to }
+    ensures told { (t : Turn) → Belongs t (Op.Moved moved.old) edges.old to → IfOk result (IsSwept t to) }
+    ensures edges { (t : Turn) → Belongs t (Op.Moved moved.old) edges.old to → OnOk result (HasSwept t edges.old edges.new to) }
+    ensures stands { (t : Turn) → Belongs t (Op.Moved moved.old) edges.old to → OnOk result (StandsNow t (Op.Moved moved.new) edges.new to) }
+    ensures wide { (t : Turn) → Belongs t (Op.Moved moved.old) edges.old to → IfErr result (IsStreamedFault t) }
+{
+    let Some(start) = edges.start() else {
+        unreachable!()
+    };
+    let end = Frac::of(i64::from(to));
+    match moved.sweep(alloc, edges, start, &end) {
+        Ok(swept) => Ok(swept),
+        Err(_) => Err(OpFault::Memory),
+    }
+}
+
 impl Operator {
     /// The operator of a node before it gave out anything; none at a constant and at an atom. Windows are not built yet.
     pub(crate) fn new(node: &Node) -> Option<Operator>
@@ -118,6 +143,7 @@ impl Operator {
         match self {
             Operator::Not(not) => sweep_not(not, alloc, edges, to),
             Operator::Two(two) => sweep_two(two, alloc, edges, to),
+            Operator::Moved(moved) => sweep_moved(moved, alloc, edges, to),
         }
     }
 }
