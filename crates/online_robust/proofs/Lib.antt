@@ -48,3 +48,6 @@ pub mod WindowBounds
 pub mod WindowTelling
 pub mod WindowFirst
 pub mod Countdown
+pub mod WindowCauses
+pub mod WindowFaults
+pub mod WindowRuns

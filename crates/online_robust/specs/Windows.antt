@@ -304,7 +304,7 @@ pub record IsGone (x : Scope) (w : Window) (to t : Rational) (best : Best Margin
   pub there : start x.trace ≤ʳ t → best_of x w t (value_at (margin_function reached.value) t)
   pub bounded : (p : Margin) → Has best p → (u : Rational) → x.at ≤ʳ u → u ≤ʳ t → IsBounded (2 ^ 31) (value_at (margin_function p) u)
   pub limited : IsBounded (2 ^ 31) (value_at (margin_function reached.value) t)
-  pub in_play : (p : Margin) → Has best p → (u : Rational) → x.at <ʳ u → u <ʳ t → start x.trace ≤ʳ u → u ≤ʳ stop x.trace → IsInPlayOver x w u p
+  pub in_play : (p : Margin) → Has best p → (u : Rational) → x.at <ʳ u → u <ʳ t → IsInPlayOver x w u p
   pub moved : (p : Margin) → Has best p → (own : ℕ) → IsOwn w own → IsMovedBy (x.reach + own) p
   pub moved_there : (own : ℕ) → IsOwn w own → IsMovedBy (x.reach + own) reached.value
 

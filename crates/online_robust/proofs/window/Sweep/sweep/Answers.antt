@@ -1,0 +1,1 @@
+use Rattle.online_robust.proofs.window.Sweep.sweep.Goals as goal
