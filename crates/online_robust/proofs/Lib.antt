@@ -51,3 +51,4 @@ pub mod Countdown
 pub mod WindowCauses
 pub mod WindowFaults
 pub mod WindowRuns
+pub mod WindowAgain

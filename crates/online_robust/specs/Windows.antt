@@ -1,5 +1,5 @@
 -- Where a window stands over its input, and what it tells.
-use Rattle.std.specs.Prelude.{◌≡◌, ◌≢◌, ◌⊎◌, ℕ, ℤ, pos, neg_ℤ, ◌-ℤ◌, IsTrue, ◌+◌, ◌*◌, ◌<◌, ◌≤◌, ◌^◌, ◌≤ℤ◌, if◌then◌else◌, ◌<ℤ◌, Bool, true, false, List, [], ◌∷◌, length, drop, slice_get, IfSome, Option, Some, None, MatchBool}
+use Rattle.std.specs.Prelude.{◌≡◌, ◌≢◌, ◌⊎◌, ℕ, ℤ, pos, neg_ℤ, ◌-ℤ◌, IsTrue, ◌+◌, ◌*◌, ◌<◌, ◌≤◌, ◌^◌, ◌≤ℤ◌, if◌then◌else◌, ◌<ℤ◌, Bool, true, false, List, [], ◌∷◌, length, drop, slice_get, IfSome, IsSome, IsSomeAnd, Option, Some, None, MatchBool}
 use Rattle.rational.specs.Rational.{IsWithin}
 use Rattle.rational.specs.Time.{Rational, HasDenominator, Within, Precedes, less, shifted, whole, ◌≈◌, ◌≤ʳ◌, ◌<ʳ◌}
 use Rattle.rational.specs.Affine.{IsBounded}
@@ -367,6 +367,24 @@ pub record CanSweep (x : Scope) (own : ℕ) (from to : Rational) (s : Sweep) (e 
 pub record HasCome (x : Scope) (s : Sweep) (e : Held) : Type 0 where
   pub at : IsAt (at_time x (value s.place.at) (value s.place.at)) s e
   pub low_before : IsBefore (shifted (value s.place.at) s.window.low) s.place.low.until
+
+-- a scope whose both ends are counted from one time
+abbrev pub scope_at : Subformula → Trace → ℕ → Rational → Rational → Rational → Scope
+scope_at f tr reach front bound at = record { formula = f; trace = tr; reach = reach; front = front; bound = bound; at = at; behind = at }
+
+-- a window was told up to g, where its value is kept: it stands over its input as that was told up to some time then, with what it has read of
+-- it, and goes on unless g is the end
+pub record StoodOver (f : Subformula) (tr : Trace) (reach own : ℕ) (g : Rational) (s : Sweep) (seen : List MarginLine) : Type 0 where
+  pub at : value s.place.at ≈ g
+  pub front : Rational
+  pub bound : Rational
+  pub fresh : List MarginLine
+  pub spread : IsSpread (scope_at f tr reach front bound (value s.place.at)) s.window s.start s.none s.place.low s.place.high s.among seen fresh
+      (shifted (value s.place.at) s.window.low) (shifted (value s.place.at) s.window.high)
+  pub low_before : IsBefore (shifted (value s.place.at) s.window.low) s.place.low.until
+  pub goes_on : (g ≈ stop tr) ⊎ IsSome s.place.high.until
+  pub last : IsSomeAnd s.last (λ r. (value r.at ≡ value s.place.at)
+      × IsThere (best_of (scope_at f tr reach front bound (value s.place.at)) s.window) (reach + own) (value r.at) r.value)
 
 -- a constant that the input has at a breakpoint before the time up to which it is told is in play at tau
 abbrev pub IsSettledOver : Scope → Window → Rational → Affine → Type 0
