@@ -12,9 +12,10 @@ use Rattle.value_laws.specs.Margins.{margin_function}
 use Rattle.value_laws.specs.declared.margin.Margin.{Margin}
 use Rattle.pl_signal.specs.declared.joining.Side.{Side}
 use Rattle.pl_signal.specs.declared.joining.Side.TheVariants.{Least, Greatest}
-use Rattle.window_ops.specs.Over.{InPlayOver, IsBestOver, Over, closed_over}
-use Rattle.window_ops.proofs.AheadOver.{ahead_of_over, ahead_offsets, over_of_ahead, shifted_pos}
-use Rattle.window_ops.proofs.BehindOver.{after_back, back_after, back_before, before_back, behind_offsets}
+use Rattle.window_ops.specs.Over.{IsBestOver}
+use Rattle.window_ops.proofs.AheadOver.{shifted_pos}
+use Rattle.rational.proofs.TimeLemmas.{precedes_after, precedes_before}
+use Rattle.window_ops.proofs.BehindOver.{after_back, back_after, back_before, before_back}
 use Rattle.stl_syntax.specs.Trace.{Trace, start, stop}
 use Rattle.stl_syntax.specs.Formula.{Subformula, eventually, always, once, historically, tree_of}
 use Rattle.stl_syntax.specs.SupInf.{Robustness, margin_setting}
@@ -23,20 +24,25 @@ use Rattle.stl_syntax.specs.declared.node.Node.{Node}
 use Rattle.stl_syntax.specs.declared.node.Node.TheVariants as N
 use Rattle.online_nodes.specs.StreamedWide.{AheadConstant, BehindConstant, IsSettledConstant, front_at}
 use Rattle.online_robust.specs.Standing.{IsWindowOf, ahead_window, behind_window}
-use Rattle.online_robust.specs.Windows.{Holds, offsets_of}
+use Rattle.online_robust.specs.Windows.{Holds, InPlayOver, closed}
 use Rattle.online_robust.specs.declared.window.Window.{Window}
 
 -- ---- times in a window
 
 module _ (from to : Rational) (p : ℕ) (side : Side) (a b : ℕ) (a_in b_in : Bool) (t u : Rational) where
   holds_ahead : Holds from to (ahead_window p side a b a_in b_in) t u → Ahead from to a b a_in b_in t u
-  holds_ahead h = ahead_of_over from to a b a_in b_in t u (record { inside = h.inside; begins = h.begins; ends = h.ends })
+  holds_ahead h = record {
+    inside = h.inside;
+    begins = precedes_after a_in (later t a) (shifted t (pos a)) u (ge_of_same (shifted_pos t a)) h.begins;
+    ends = precedes_before b_in u (shifted t (pos b)) (later t b) h.ends (le_of_same (shifted_pos t b));
+  }
 
   ahead_holds : Ahead from to a b a_in b_in t u → Holds from to (ahead_window p side a b a_in b_in) t u
-  ahead_holds h = let o = over_of_ahead from to a b a_in b_in t u h in record { inside = o.inside; begins = o.begins; ends = o.ends }
-
-  over_behind : Over from to (behind_offsets a (Some b) a_in b_in) t u → Behind from to a (Some b) a_in b_in t u
-  over_behind h = record { inside = h.inside; begins = after_back b_in t u b h.begins; ends = before_back a_in t u a h.ends }
+  ahead_holds h = record {
+    inside = h.inside;
+    begins = precedes_after a_in (shifted t (pos a)) (later t a) u (le_of_same (shifted_pos t a)) h.begins;
+    ends = precedes_before b_in u (later t b) (shifted t (pos b)) h.ends (ge_of_same (shifted_pos t b));
+  }
 
   holds_behind : Holds from to (behind_window p side a b a_in b_in) t u → Behind from to a (Some b) a_in b_in t u
   holds_behind h = record { inside = h.inside; begins = after_back b_in t u b h.begins; ends = before_back a_in t u a h.ends }
@@ -99,16 +105,16 @@ best_is f place (N.Since p q a b) w tr is t r = absurd is
 -- ---- in play
 
 -- over a window ahead
-in_play_ahead : (P : Function) (from to : Rational) (a b : ℕ) (a_in b_in : Bool) (tau : Rational) (line : Affine) → InPlayOver P from to (ahead_offsets a b a_in b_in) tau line
-    → IsInPlay (window_ahead P a b a_in b_in) from to tau line
-in_play_ahead P from to a b a_in b_in tau line (has, inl h) = ((has.0, ahead_of_over from to a b a_in b_in tau has.0 has.1), inl h)
-in_play_ahead P from to a b a_in b_in tau line (has, inr (inl (u, point, inside, v, f, constant))) = (
-  (has.0, ahead_of_over from to a b a_in b_in tau has.0 has.1),
-  inr (inl (u, point, ahead_of_over from to a b a_in b_in tau u inside, v, f, constant)),
+in_play_ahead : (P : Function) (from to : Rational) (p : ℕ) (side : Side) (a b : ℕ) (a_in b_in : Bool) (tau : Rational) (line : Affine)
+    → InPlayOver P from to (ahead_window p side a b a_in b_in) tau line → IsInPlay (window_ahead P a b a_in b_in) from to tau line
+in_play_ahead P from to p side a b a_in b_in tau line (has, inl h) = ((has.0, holds_ahead from to p side a b a_in b_in tau has.0 has.1), inl h)
+in_play_ahead P from to p side a b a_in b_in tau line (has, inr (inl (u, point, inside, v, f, constant))) = (
+  (has.0, holds_ahead from to p side a b a_in b_in tau has.0 has.1),
+  inr (inl (u, point, holds_ahead from to p side a b a_in b_in tau u inside, v, f, constant)),
 )
-in_play_ahead P from to a b a_in b_in tau line (has, inr (inr (u, point, closed, v, side, constant))) = (
-  (has.0, ahead_of_over from to a b a_in b_in tau has.0 has.1),
-  inr (inr (u, point, ahead_of_over from to a b true true tau u closed, v, side, constant)),
+in_play_ahead P from to p side a b a_in b_in tau line (has, inr (inr (u, point, closes, v, sides, constant))) = (
+  (has.0, holds_ahead from to p side a b a_in b_in tau has.0 has.1),
+  inr (inr (u, point, holds_ahead from to p side a b true true tau u closes, v, sides, constant)),
 )
 
 -- the sides from which a window behind goes on
@@ -119,38 +125,38 @@ sides_behind P from to a b tau u v (inl h) = inl (h.0, lt_of_lt_of_le (after_bac
 sides_behind P from to a b tau u v (inr h) = inr (h.0, lt_of_le_of_lt (le_of_same (shifted_pos u a)) (before_back false tau u a h.1), h.2)
 
 -- over a window behind
-in_play_behind : (P : Function) (from to : Rational) (p : ℕ) (a b : ℕ) (a_in b_in : Bool) (tau : Rational) (line : Affine)
-    → InPlayOver P from to (behind_offsets a (Some b) a_in b_in) tau line → IsInPlay (window_behind P a (Some b) a_in b_in) from to tau line
-in_play_behind P from to p a b a_in b_in tau line (has, inl (k, is, old, inside, part, moved)) =
-    ((has.0, over_behind from to p Greatest a b a_in b_in tau has.0 has.1), inl (k, by_end is, old, inside, part, moved))
+in_play_behind : (P : Function) (from to : Rational) (p : ℕ) (side : Side) (a b : ℕ) (a_in b_in : Bool) (tau : Rational) (line : Affine)
+    → InPlayOver P from to (behind_window p side a b a_in b_in) tau line → IsInPlay (window_behind P a (Some b) a_in b_in) from to tau line
+in_play_behind P from to p side a b a_in b_in tau line (has, inl (k, is, old, inside, part, moved)) =
+    ((has.0, holds_behind from to p side a b a_in b_in tau has.0 has.1), inl (k, by_end is, old, inside, part, moved))
   where
     by_end : (k ≡ neg_ℤ (pos b)) ⊎ (k ≡ neg_ℤ (pos a)) → (k ≡ neg_ℤ (pos a)) ⊎ (k ≡ neg_ℤ (pos b))
     by_end (inl e) = inr e
     by_end (inr e) = inl e
-in_play_behind P from to p a b a_in b_in tau line (has, inr (inl (u, point, inside, v, f, constant))) = (
-  (has.0, over_behind from to p Greatest a b a_in b_in tau has.0 has.1),
-  inr (inl (u, point, over_behind from to p Greatest a b a_in b_in tau u inside, v, f, constant)),
+in_play_behind P from to p side a b a_in b_in tau line (has, inr (inl (u, point, inside, v, f, constant))) = (
+  (has.0, holds_behind from to p side a b a_in b_in tau has.0 has.1),
+  inr (inl (u, point, holds_behind from to p side a b a_in b_in tau u inside, v, f, constant)),
 )
-in_play_behind P from to p a b a_in b_in tau line (has, inr (inr (u, point, closed, v, side, constant))) = (
-  (has.0, over_behind from to p Greatest a b a_in b_in tau has.0 has.1),
-  inr (inr (u, point, over_behind from to p Greatest a b true true tau u closed, v, sides_behind P from to a b tau u v side, constant)),
+in_play_behind P from to p side a b a_in b_in tau line (has, inr (inr (u, point, closes, v, sides, constant))) = (
+  (has.0, holds_behind from to p side a b a_in b_in tau has.0 has.1),
+  inr (inr (u, point, holds_behind from to p side a b true true tau u closes, v, sides_behind P from to a b tau u v sides, constant)),
 )
 
 -- at the node of the window
 pub in_play_is : (f : ℕ → Subformula) (place : ℕ) (n : Node) (w : Window) (tr : Trace) → IsWindowOf n w → (tau : Rational) (line : Affine)
-    → InPlayOver (Robustness (f w.of) tr) (start tr) (stop tr) (offsets_of w) tau line → IsInPlayAt (tree_of f place n) (margin_setting tr) tau line
+    → InPlayOver (Robustness (f w.of) tr) (start tr) (stop tr) w tau line → IsInPlayAt (tree_of f place n) (margin_setting tr) tau line
 in_play_is f place (N.Eventually p a b a_in b_in) w tr is tau line h =
-    in_play_ahead (Robustness (f p) tr) (start tr) (stop tr) a b a_in b_in tau line
-    (subst (λ (x : Window). InPlayOver (Robustness (f x.of) tr) (start tr) (stop tr) (offsets_of x) tau line) is h)
+    in_play_ahead (Robustness (f p) tr) (start tr) (stop tr) p Greatest a b a_in b_in tau line
+    (subst (λ (x : Window). InPlayOver (Robustness (f x.of) tr) (start tr) (stop tr) x tau line) is h)
 in_play_is f place (N.Always p a b a_in b_in) w tr is tau line h =
-    in_play_ahead (Robustness (f p) tr) (start tr) (stop tr) a b a_in b_in tau line
-    (subst (λ (x : Window). InPlayOver (Robustness (f x.of) tr) (start tr) (stop tr) (offsets_of x) tau line) is h)
+    in_play_ahead (Robustness (f p) tr) (start tr) (stop tr) p Least a b a_in b_in tau line
+    (subst (λ (x : Window). InPlayOver (Robustness (f x.of) tr) (start tr) (stop tr) x tau line) is h)
 in_play_is f place (N.Once p a (Some b) a_in b_in) w tr is tau line h =
-    in_play_behind (Robustness (f p) tr) (start tr) (stop tr) p a b a_in b_in tau line
-    (subst (λ (x : Window). InPlayOver (Robustness (f x.of) tr) (start tr) (stop tr) (offsets_of x) tau line) is h)
+    in_play_behind (Robustness (f p) tr) (start tr) (stop tr) p Greatest a b a_in b_in tau line
+    (subst (λ (x : Window). InPlayOver (Robustness (f x.of) tr) (start tr) (stop tr) x tau line) is h)
 in_play_is f place (N.Historically p a (Some b) a_in b_in) w tr is tau line h =
-    in_play_behind (Robustness (f p) tr) (start tr) (stop tr) p a b a_in b_in tau line
-    (subst (λ (x : Window). InPlayOver (Robustness (f x.of) tr) (start tr) (stop tr) (offsets_of x) tau line) is h)
+    in_play_behind (Robustness (f p) tr) (start tr) (stop tr) p Least a b a_in b_in tau line
+    (subst (λ (x : Window). InPlayOver (Robustness (f x.of) tr) (start tr) (stop tr) x tau line) is h)
 in_play_is f place (N.Once p a None a_in b_in) w tr is tau line h = absurd is
 in_play_is f place (N.Historically p a None a_in b_in) w tr is tau line h = absurd is
 in_play_is f place (N.Const c) w tr is tau line h = absurd is
@@ -167,24 +173,24 @@ in_play_is f place (N.Since p q a b) w tr is tau line h = absurd is
 -- a constant that the input has at a breakpoint before a time is in play
 abbrev SettledOver : Function → Rational → Rational → Rational → Window → Rational → Affine → Type 0
 SettledOver P from to front w tau line =
-    IsValueWithin P from to (λ u. Over from to (offsets_of w) tau u × (u <ʳ front)) line
-    ⊎ IsLimitWithin P from to (λ u. Over from to (closed_over (offsets_of w)) tau u × (u <ʳ front)) (λ u. shifted tau w.low <ʳ u) (λ u. u <ʳ shifted tau w.high) line
+    IsValueWithin P from to (λ u. Holds from to w tau u × (u <ʳ front)) line
+    ⊎ IsLimitWithin P from to (λ u. Holds from to (closed w) tau u × (u <ʳ front)) (λ u. shifted tau w.low <ʳ u) (λ u. u <ʳ shifted tau w.high) line
 
 settled_ahead : (ended : Bool) (now : ℤ) (p : Subformula) (tr : Trace) (of : ℕ) (side : Side) (a b : ℕ) (a_in b_in : Bool) (tau : Rational) (line : Affine)
     → SettledOver (Robustness p tr) (start tr) (stop tr) (whole (front_at ended now p)) (ahead_window of side a b a_in b_in) tau line
     → AheadConstant ended now p (margin_setting tr) a b a_in b_in tau line
 settled_ahead ended now p tr of side a b a_in b_in tau line (inl (u, point, (inside, before), v, f, constant)) =
-    inl (u, point, (ahead_of_over (start tr) (stop tr) a b a_in b_in tau u inside, before), v, f, constant)
-settled_ahead ended now p tr of side a b a_in b_in tau line (inr (u, point, (closed, before), v, sides, constant)) =
-    inr (u, point, (ahead_of_over (start tr) (stop tr) a b true true tau u closed, before), v, sides, constant)
+    inl (u, point, (holds_ahead (start tr) (stop tr) of side a b a_in b_in tau u inside, before), v, f, constant)
+settled_ahead ended now p tr of side a b a_in b_in tau line (inr (u, point, (closes, before), v, sides, constant)) =
+    inr (u, point, (holds_ahead (start tr) (stop tr) of side a b true true tau u closes, before), v, sides, constant)
 
 settled_behind : (ended : Bool) (now : ℤ) (p : Subformula) (tr : Trace) (of : ℕ) (side : Side) (a b : ℕ) (a_in b_in : Bool) (tau : Rational) (line : Affine)
     → SettledOver (Robustness p tr) (start tr) (stop tr) (whole (front_at ended now p)) (behind_window of side a b a_in b_in) tau line
     → BehindConstant ended now p (margin_setting tr) a (Some b) a_in b_in tau line
 settled_behind ended now p tr of side a b a_in b_in tau line (inl (u, point, (inside, before), v, f, constant)) =
-    inl (u, point, (over_behind (start tr) (stop tr) of side a b a_in b_in tau u inside, before), v, f, constant)
-settled_behind ended now p tr of side a b a_in b_in tau line (inr (u, point, (closed, before), v, sides, constant)) =
-    inr (u, point, (over_behind (start tr) (stop tr) of side a b true true tau u closed, before), v, sides_behind (Robustness p tr) (start tr) (stop tr) a b tau u v sides, constant)
+    inl (u, point, (holds_behind (start tr) (stop tr) of side a b a_in b_in tau u inside, before), v, f, constant)
+settled_behind ended now p tr of side a b a_in b_in tau line (inr (u, point, (closes, before), v, sides, constant)) =
+    inr (u, point, (holds_behind (start tr) (stop tr) of side a b true true tau u closes, before), v, sides_behind (Robustness p tr) (start tr) (stop tr) a b tau u v sides, constant)
 
 -- at the node of the window, before the input's number
 pub settled_is : (f : ℕ → Subformula) (place : ℕ) (n : Node) (w : Window) (tr : Trace) (ended : Bool) (now : ℤ) → IsWindowOf n w → (tau : Rational) (line : Affine)

@@ -52,3 +52,7 @@ pub mod Countdown
 mod Glancing
 mod Instants
 mod GlanceBridging
+pub mod WindowCauses
+pub mod WindowFaults
+pub mod WindowRuns
+pub mod WindowAgain

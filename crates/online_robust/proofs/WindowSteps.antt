@@ -3,10 +3,11 @@ use Rattle.std.proofs.Common.{◌≡◌, ◌⊎◌, inl, inr, ℕ, ℤ, ◌+◌,
 use Rattle.std.specs.Prelude.{IsSomeAnd}
 use Rattle.rational.specs.Rational.{IsWithin}
 use Rattle.rational.specs.Time.{Rational, ◌≈◌, ◌≤ʳ◌, ◌<ʳ◌, shifted}
-use Rattle.rational.specs.Extended.{Extended, value_at}
+use Rattle.rational.specs.Extended.{Extended, finite, infinity, minus_infinity, value_at, ◌≈ᵉ◌}
 use Rattle.rational.specs.Windows.{Function}
 use Rattle.rational.specs.Affine.{IsBounded}
 use Rattle.rational.proofs.Order.{ge_of_same, le_of_lt, le_of_same, le_refl, le_trans, lt_of_le_of_lt, same_sym}
+use Rattle.rational.proofs.Sames.{symᵉ, transᵉ}
 use Rattle.frac128.specs.Value.{value}
 use Rattle.frac128.specs.declared.frac.Frac.{Frac}
 use Rattle.value_laws.specs.Kinds.{margin_shape}
@@ -15,13 +16,15 @@ use Rattle.value_laws.specs.declared.margin.Margin.{Margin}
 use Rattle.pl_signal.specs.declared.joining.Side.{Side}
 use Rattle.envelope.specs.Best.{Has, IsBestAt}
 use Rattle.envelope.specs.declared.best.Best.{Best}
-use Rattle.stl_syntax.specs.Trace.{start}
+use Rattle.envelope.specs.Turns.{none_of}
+use Rattle.stl_syntax.specs.SupInf.{Robustness}
+use Rattle.stl_syntax.specs.Trace.{start, stop as stop_of}
 use Rattle.window_ops.proofs.Ends.{le_shifted, lt_shifted, lt_shifted_back}
 use Rattle.online_robust.specs.Held.{Held, edge_at, fresh_at}
 use Rattle.online_robust.specs.Queues.{StandsFor}
-use Rattle.online_robust.specs.Sweeping.{AreTicks, EndsAt, IsBefore, IsUpTo, Mark, Runs, last_gap}
+use Rattle.online_robust.specs.Sweeping.{AreTicks, EndsAt, IsBefore, IsOn, IsUpTo, Mark, Runs, last_gap}
 use Rattle.online_robust.specs.Told.{AreFit, IsMovedBy, IsTick}
-use Rattle.online_robust.specs.Windows.{Goes, IsAt, IsGoing, IsNextStop, IsOpen, IsOutcome, IsOwn, IsPointOf, IsShifted, IsSpread, IsTickEnd, IsToCome, IsTopOf, Keeps, Scope, at_time, best_of, high_at, input_of, low_at}
+use Rattle.online_robust.specs.Windows.{Goes, InPlayOver, IsAt, IsGoing, IsInPlayOver, IsNextStop, IsOpen, IsOutcome, IsOwn, IsPointOf, IsShifted, IsSpread, IsTickEnd, IsToCome, IsTopOf, Keeps, Scope, at_time, best_of, high_at, input_of, low_at}
 use Rattle.online_robust.specs.declared.ends.Gap.{Gap}
 use Rattle.online_robust.specs.declared.line.MarginLine.{MarginLine}
 use Rattle.online_robust.specs.declared.line.MarginLine.TheVariants as L
@@ -31,6 +34,7 @@ use Rattle.online_robust.specs.declared.window.Window.{Window}
 use Rattle.online_robust.proofs.Outcomes.{IsIn, IsTopOf as IsTop, best_between}
 use Rattle.online_robust.proofs.Spreads.{last_from, spread_on}
 use Rattle.online_robust.proofs.WindowLaw.{before_of, before_of_end, last_on_of, runs_on, up_to_of}
+use Rattle.online_robust.proofs.WindowCauses.{constant_in_play, high_in_play, low_in_play, none_apart}
 use Rattle.online_robust.proofs.WindowBounds.{high_bounded, low_bounded, moved_more, shifted_bounded, shifted_moved, top_bounded, top_moved}
 use Rattle.online_robust.proofs.WindowPoints.{before_apart, in_order}
 use Rattle.online_robust.proofs.WindowTurns.{IsSeen, outcome_is, seen_of, top_is}
@@ -198,6 +202,42 @@ module _ (x : Scope) (s : Sweep) (e : Held) (at : IsAt x s e) (to : Rational) (o
             (up_to_of s.place.high.until (le_shifted s.window.high before) stop.high)),
         λ own is. shifted_moved x.reach own s.place.high.shape s.window.high p moved (high_moved x s e at) is.high_from is.high_to,
       )
+
+  -- and it is in play
+  pub plays : (best : Best Margin)
+      → ((cs : List Margin) → StandsFor margin_function s.among.older.items s.among.newer.items s.among.side s.among.best cs
+      → IsTopOf margin_function s.among.side s.none cs best.top)
+      → IsSomeAnd best.low (IsShifted s.place.low.shape s.window.low) → IsSomeAnd best.high (IsShifted s.place.high.shape s.window.high)
+      → (p : Margin) → Has best p → (u : Rational) → x.at <ʳ u → u <ʳ t → IsInPlayOver x s.window u p
+  plays best tops lows highs p (inl e') u after before v is =
+      by_kind (tops at.spread.constants at.spread.among)
+    where
+      is' : value_at (margin_function best.top) u ≈ᵉ finite v
+      is' = subst (λ (m : Margin). value_at (margin_function m) u ≈ᵉ finite v) e' is
+
+      by_kind : IsTopOf margin_function s.among.side s.none at.spread.constants best.top
+          → InPlayOver (Robustness x.formula x.trace) (start x.trace) (stop_of x.trace) s.window u (margin_function p)
+      by_kind (inl b) = subst
+          (λ (m : Margin). InPlayOver (Robustness x.formula x.trace) (start x.trace) (stop_of x.trace) s.window u (margin_function m)) (sym e')
+          (constant_in_play x s.window.side s.window u (high_at x s.window) (shifted (start x.trace) s.window.low) at.spread.from s.place.low at.spread.marks
+          at.spread.constants at.spread.runs at.spread.frozen (before_of s.place.low.until (lt_shifted s.window.low before) stop.low)
+          (lt_shifted s.window.high (subst (λ (z : Rational). z <ʳ u) (sym o.behind) after)) at.spread.by best.top b.one v is')
+      by_kind (inr b) = absurd (none_apart s.window.side v
+          (transᵉ (symᵉ is') (subst (λ (m : Margin). value_at (margin_function m) u ≈ᵉ none_of s.window.side minus_infinity infinity) (sym b.1)
+          (at.spread.none_value u))))
+  plays best tops lows highs p (inr (inl e')) u after before =
+      low_in_play x s.window.side s.window u (in_order u s.window.low s.window.high at.spread.fit.order) s.place.low at.spread.from
+      (runs_on (input_of x s.window.side) x.reach at.spread.from s.place.low at.spread.marks at.spread.runs) p
+      (subst (λ (o : Option Margin). IsSomeAnd o (IsShifted s.place.low.shape s.window.low)) e' lows)
+      (lt_of_le_of_lt at.spread.begun (lt_shifted s.window.low after)) (before_of s.place.low.until (lt_shifted s.window.low before) stop.low)
+  plays best tops lows highs p (inr (inr e')) u after before =
+      high_in_play x s.window.side s.window u (in_order u s.window.low s.window.high at.spread.fit.order) s.place.high (high_at x s.window)
+      (subst (λ (g : Gap). IsOn (input_of x s.window.side) x.reach (high_at x s.window) g) (sym at.spread.last)
+      (last_on_of (input_of x s.window.side) x.reach at.spread.from (high_at x s.window) s.place.low at.spread.marks (le_trans at.spread.begun high_order)
+      at.spread.by at.spread.runs)) p
+      (subst (λ (o : Option Margin). IsSomeAnd o (IsShifted s.place.high.shape s.window.high)) e' highs)
+      (lt_shifted s.window.high (subst (λ (z : Rational). z <ʳ u) (sym o.behind) after))
+      (before_of s.place.high.until (lt_shifted s.window.high before) stop.high)
 
   -- what stands under the ends
   high_seen : (point : Option Margin) → IsPointOf (input_of x s.window.side) x.reach s.window.high_in s.window.high s.place.high t point

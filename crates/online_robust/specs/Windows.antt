@@ -1,10 +1,10 @@
 -- Where a window stands over its input, and what it tells.
-use Rattle.std.specs.Prelude.{◌≡◌, ◌≢◌, ◌⊎◌, ℕ, ℤ, pos, neg_ℤ, ◌-ℤ◌, IsTrue, ◌+◌, ◌*◌, ◌<◌, ◌≤◌, ◌^◌, ◌≤ℤ◌, if◌then◌else◌, ◌<ℤ◌, Bool, true, false, List, [], ◌∷◌, length, drop, slice_get, IfSome, Option, Some, None, MatchBool}
+use Rattle.std.specs.Prelude.{◌≡◌, ◌≢◌, ◌⊎◌, ℕ, ℤ, pos, neg_ℤ, ◌-ℤ◌, IsTrue, ◌+◌, ◌*◌, ◌<◌, ◌≤◌, ◌^◌, ◌≤ℤ◌, if◌then◌else◌, ◌<ℤ◌, Bool, true, false, List, [], ◌∷◌, length, drop, slice_get, IfSome, IsSome, IsSomeAnd, Option, Some, None, MatchBool}
 use Rattle.rational.specs.Rational.{IsWithin}
 use Rattle.rational.specs.Time.{Rational, HasDenominator, Within, Precedes, less, shifted, whole, ◌≈◌, ◌≤ʳ◌, ◌<ʳ◌}
 use Rattle.rational.specs.Affine.{IsBounded}
 use Rattle.rational.specs.Extended.{Affine, Extended, minus_infinity, finite, infinity, value_at, ◌≈ᵉ◌}
-use Rattle.rational.specs.InPlay.{IsLimitWithin, IsValueWithin, IsWideCrossing, IsWideValue}
+use Rattle.rational.specs.InPlay.{HasTime, IsEndPart, IsLimitWithin, IsValueWithin, IsWideCrossing, IsWideValue}
 use Rattle.rational.specs.Windows.{Function}
 use Rattle.frac128.specs.Value.{value}
 use Rattle.frac128.specs.declared.frac.Frac.{Frac}
@@ -18,8 +18,7 @@ use Rattle.pl_signal.specs.declared.faults.OpFault.TheVariants as F
 use Rattle.envelope.specs.Best.{Has, IsBestAt, IsJoinFault}
 use Rattle.envelope.specs.declared.best.Best.{Best}
 use Rattle.envelope.specs.Turns.{IsNoBetter, none_of}
-use Rattle.window_ops.specs.Over.{InPlayOver, IsBestOver, Over, closed_over}
-use Rattle.window_ops.specs.declared.offsets.Offsets.{Offsets}
+use Rattle.window_ops.specs.Over.{IsBestOver}
 use Rattle.stl_syntax.specs.Trace.{Trace, start, stop}
 use Rattle.stl_syntax.specs.Formula.{Subformula}
 use Rattle.stl_syntax.specs.SupInf.{Robustness}
@@ -286,14 +285,22 @@ pub record IsOwn (w : Window) (own : ℕ) : Type 0 where
   pub high_from : neg_ℤ (pos own) ≤ℤ w.high
   pub high_to : w.high ≤ℤ pos own
 
--- the window as one of `window_ops`
-abbrev pub offsets_of : Window → Offsets
-offsets_of w = record { low = w.low; high = w.high; low_in = w.low_in; high_in = w.high_in }
+-- the same window with both ends
+abbrev pub closed : Window → Window
+closed w = record w { low_in = true; high_in = true }
+
+-- the line is in play at tau in the step that takes the best over the window
+abbrev pub InPlayOver : Function → Rational → Rational → Window → Rational → Affine → Type 0
+InPlayOver F from to w tau line =
+    HasTime (Holds from to w tau)
+    × (IsEndPart F from to tau line (λ k. (k ≡ w.low) ⊎ (k ≡ w.high))
+    ⊎ IsValueWithin F from to (Holds from to w tau) line
+    ⊎ IsLimitWithin F from to (Holds from to (closed w) tau) (λ u. shifted tau w.low <ʳ u) (λ u. u <ʳ shifted tau w.high) line)
 
 -- the margin, where it is finite at the time, is in play in the step that takes the best over the window
 abbrev pub IsInPlayOver : Scope → Window → Rational → Margin → Type 0
 IsInPlayOver x w u p = (v : Rational) → value_at (margin_function p) u ≈ᵉ finite v
-    → InPlayOver (Robustness x.formula x.trace) (start x.trace) (stop x.trace) (offsets_of w) u (margin_function p)
+    → InPlayOver (Robustness x.formula x.trace) (start x.trace) (stop x.trace) w u (margin_function p)
 
 -- the best over the window was told from the time of the scope, which is left out, up to another one
 pub record IsGone (x : Scope) (w : Window) (to t : Rational) (best : Best Margin) (reached : Reached) : Type 0 where
@@ -304,7 +311,7 @@ pub record IsGone (x : Scope) (w : Window) (to t : Rational) (best : Best Margin
   pub there : start x.trace ≤ʳ t → best_of x w t (value_at (margin_function reached.value) t)
   pub bounded : (p : Margin) → Has best p → (u : Rational) → x.at ≤ʳ u → u ≤ʳ t → IsBounded (2 ^ 31) (value_at (margin_function p) u)
   pub limited : IsBounded (2 ^ 31) (value_at (margin_function reached.value) t)
-  pub in_play : (p : Margin) → Has best p → (u : Rational) → x.at <ʳ u → u <ʳ t → start x.trace ≤ʳ u → u ≤ʳ stop x.trace → IsInPlayOver x w u p
+  pub in_play : (p : Margin) → Has best p → (u : Rational) → x.at <ʳ u → u <ʳ t → IsInPlayOver x w u p
   pub moved : (p : Margin) → Has best p → (own : ℕ) → IsOwn w own → IsMovedBy (x.reach + own) p
   pub moved_there : (own : ℕ) → IsOwn w own → IsMovedBy (x.reach + own) reached.value
 
@@ -368,18 +375,36 @@ pub record HasCome (x : Scope) (s : Sweep) (e : Held) : Type 0 where
   pub at : IsAt (at_time x (value s.place.at) (value s.place.at)) s e
   pub low_before : IsBefore (shifted (value s.place.at) s.window.low) s.place.low.until
 
+-- a scope whose both ends are counted from one time
+abbrev pub scope_at : Subformula → Trace → ℕ → Rational → Rational → Rational → Scope
+scope_at f tr reach front bound at = record { formula = f; trace = tr; reach = reach; front = front; bound = bound; at = at; behind = at }
+
+-- a window was told up to g, where its value is kept: it stands over its input as that was told up to some time then, with what it has read of
+-- it, and goes on unless g is the end
+pub record StoodOver (f : Subformula) (tr : Trace) (reach own : ℕ) (g : Rational) (s : Sweep) (seen : List MarginLine) : Type 0 where
+  pub at : value s.place.at ≈ g
+  pub front : Rational
+  pub bound : Rational
+  pub fresh : List MarginLine
+  pub spread : IsSpread (scope_at f tr reach front bound (value s.place.at)) s.window s.start s.none s.place.low s.place.high s.among seen fresh
+      (shifted (value s.place.at) s.window.low) (shifted (value s.place.at) s.window.high)
+  pub low_before : IsBefore (shifted (value s.place.at) s.window.low) s.place.low.until
+  pub goes_on : (g ≈ stop tr) ⊎ IsSome s.place.high.until
+  pub last : IsSomeAnd s.last (λ r. (value r.at ≡ value s.place.at)
+      × IsThere (best_of (scope_at f tr reach front bound (value s.place.at)) s.window) (reach + own) (value r.at) r.value)
+
 -- a constant that the input has at a breakpoint before the time up to which it is told is in play at tau
 abbrev pub IsSettledOver : Scope → Window → Rational → Affine → Type 0
 IsSettledOver x w tau line =
     IsValueWithin (Robustness x.formula x.trace) (start x.trace) (stop x.trace)
-    (λ u. Over (start x.trace) (stop x.trace) (offsets_of w) tau u × (u <ʳ x.front)) line
+    (λ u. Holds (start x.trace) (stop x.trace) w tau u × (u <ʳ x.front)) line
     ⊎ IsLimitWithin (Robustness x.formula x.trace) (start x.trace) (stop x.trace)
-    (λ u. Over (start x.trace) (stop x.trace) (closed_over (offsets_of w)) tau u × (u <ʳ x.front)) (λ u. shifted tau w.low <ʳ u) (λ u. u <ʳ shifted tau w.high) line
+    (λ u. Holds (start x.trace) (stop x.trace) (closed w) tau u × (u <ʳ x.front)) (λ u. shifted tau w.low <ʳ u) (λ u. u <ʳ shifted tau w.high) line
 
 -- what is in play before the time `to`
 abbrev pub IsInPlayBefore : Scope → Window → Rational → Rational → Affine → Type 0
 IsInPlayBefore x w to tau line =
-    InPlayOver (Robustness x.formula x.trace) (start x.trace) (stop x.trace) (offsets_of w) tau line × (tau <ʳ to)
+    InPlayOver (Robustness x.formula x.trace) (start x.trace) (stop x.trace) w tau line × (tau <ʳ to)
 
 -- want of memory; or two that are in play before the time `to` cross, or the constant of a knot that is, or that comes into play just after
 -- the start

@@ -525,7 +525,8 @@ impl Sweep {
             value: self.none,
         };
         while let Ordering::Less = reached.at.cmp(&start) {
-            reached = self.go_on(edges, &start)?.to;
+            let gone = self.go_on(edges, &start)?;
+            reached = gone.to;
         }
         Ok(reached)
     }

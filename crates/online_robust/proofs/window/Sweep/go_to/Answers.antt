@@ -6,7 +6,7 @@ use Rattle.online_robust.specs.Sweeping.{EndsAt}
 use Rattle.online_robust.specs.Windows.{at_time, lines_left}
 use Rattle.online_robust.specs.declared.ends.Gap.{Gap}
 use Rattle.online_robust.proofs.Countdown.{go_fewer}
-use Rattle.online_robust.proofs.WindowSteps.{at_both, at_end, at_low, between, each, high_moved, high_tick, later, low_moved, low_tick, stop_within, there, there_fit}
+use Rattle.online_robust.proofs.WindowSteps.{at_both, at_end, at_low, between, each, high_moved, high_tick, later, low_moved, low_tick, plays, stop_within, there, there_fit}
 use Rattle.online_robust.proofs.window.Sweep.go_to.Goals as goal
 
 pub next_stop-t-requires-clause-window : goal.next_stop-t-requires-clause-window
@@ -97,6 +97,8 @@ returns-clause-told c x at ready =
           c.worth-value.ensures;
       bounded = λ p h. (fits p h).0;
       limited = fit.0;
+      in_play = plays x c.args.self.now c.args.edges.now at (value c.args.to.now) ready t c.next_stop-t.ensures c.best-before.result c.best-before.ensures.top
+          c.best-before.ensures.low c.best-before.ensures.high;
       moved = λ p h. (fits p h).1;
       moved_there = fit.1;
     }
