@@ -281,8 +281,8 @@ module _ (x : Scope) (s : Sweep) (e : Held) (at : IsAt x s e) (to : Rational) (o
         let (low_shape, is_low, low_shifted) = some_and (IsShifted s'.place.low.shape s'.window.low) best.low lows in
         let (high_shape, is_high, high_shifted) = some_and (IsShifted s'.place.high.shape s'.window.high) best.high highs in
         let outcome' : IsOutcome s'.window.side best.top (Some low_shape) (Some high_shape) at_high at_low t m =
-            subst (λ (h : Option Margin). IsOutcome s'.window.side best.top (Some low_shape) h at_high at_low t m) is_high
-            (subst (λ (l : Option Margin). IsOutcome s'.window.side best.top l best.high at_high at_low t m) is_low outcome) in
+        subst (λ (h : Option Margin). IsOutcome s'.window.side best.top (Some low_shape) h at_high at_low t m) is_high
+        (subst (λ (l : Option Margin). IsOutcome s'.window.side best.top l best.high at_high at_low t m) is_low outcome) in
         subst (λ (w : Window). best_of x w t (value_at (margin_function m) t)) keeps.window
         (outcome_is (at_time x t x.behind) s'.window s'.start s'.none s'.place.low s'.place.high s'.among (edge_at e' s'.window.of).seen
         (fresh_at e' s'.window.of) (shifted t s'.window.low) (shifted x.behind s'.window.high) at'.spread t inside best.top
@@ -338,7 +338,7 @@ module _ (x : Scope) (s : Sweep) (e : Held) (at : IsAt x s e) (to : Rational) (o
         )
         by_one (inr (inl f)) =
             let moved : IsShifted s'.place.low.shape s'.window.low m =
-                subst (λ (k : Option Margin). IsSomeAnd k (IsShifted s'.place.low.shape s'.window.low)) f lows in (
+            subst (λ (k : Option Margin). IsSomeAnd k (IsShifted s'.place.low.shape s'.window.low)) f lows in (
               shifted_bounded s'.place.low.shape s'.window.low m t moved
                   (low_bounded (at_time x t t) s' e' at_end t (le_refl (shifted t s'.window.low)) at_end.spread.low_later),
               λ own is.
@@ -347,7 +347,7 @@ module _ (x : Scope) (s : Sweep) (e : Held) (at : IsAt x s e) (to : Rational) (o
             )
         by_one (inr (inr (inl f))) =
             let moved : IsShifted s'.place.high.shape s'.window.high m =
-                subst (λ (k : Option Margin). IsSomeAnd k (IsShifted s'.place.high.shape s'.window.high)) f highs in (
+            subst (λ (k : Option Margin). IsSomeAnd k (IsShifted s'.place.high.shape s'.window.high)) f highs in (
               shifted_bounded s'.place.high.shape s'.window.high m t moved
                   (high_bounded (at_time x t t) s' e' at_end (le_of_lt (in_order t s'.window.low s'.window.high at_end.spread.fit.order)) t
                   (le_refl (shifted t s'.window.high)) at_end.spread.high_later),
@@ -357,13 +357,13 @@ module _ (x : Scope) (s : Sweep) (e : Held) (at : IsAt x s e) (to : Rational) (o
             )
         by_one (inr (inr (inr (inl f)))) =
             let (inside, ends, (v, there, moved)) =
-                subst (λ (k : Option Margin). IsPointOf (input_of x s.window.side) x.reach s.window.high_in s.window.high s.place.high t k) f high_is in (
+            subst (λ (k : Option Margin). IsPointOf (input_of x s.window.side) x.reach s.window.high_in s.window.high s.place.high t k) f high_is in (
               shifted_bounded v s.window.high m t moved there.bounded,
               λ own is. shifted_moved x.reach own v s.window.high m moved there.moved is.high_from is.high_to,
             )
         by_one (inr (inr (inr (inr f)))) =
             let (inside, ends, (v, there, moved)) =
-                subst (λ (k : Option Margin). IsPointOf (input_of x s.window.side) x.reach s.window.low_in s.window.low s.place.low t k) f low_is in (
+            subst (λ (k : Option Margin). IsPointOf (input_of x s.window.side) x.reach s.window.low_in s.window.low s.place.low t k) f low_is in (
               shifted_bounded v s.window.low m t moved there.bounded,
               λ own is. shifted_moved x.reach own v s.window.low m moved there.moved is.low_from is.low_to,
             )
