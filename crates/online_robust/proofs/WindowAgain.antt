@@ -247,7 +247,7 @@ can_go_on f tr reach own g s e st front to inputs of_in order begun from_tick to
   within = within_same (2 ^ 34) (same_sym st.at) (tick_within from_tick);
   low_before = st.low_before;
   last = by_last s.last st.last;
-  own = own_is;
+  owns = own_is;
   aside = aside;
   order = le_of_lt (lt_whole order);
   from_tick = from_tick;
@@ -294,7 +294,7 @@ can_begin f tr reach own s e front to begins none_value still low high at last s
       within = at_within;
       low_before = subst (λ (g : Gap). IsBefore (shifted (value s.place.at) s.window.low) g.until) (sym low) low_early;
       last = subst (λ (o : Option Reached). HasTold x own (start tr) s.window o) (sym last) (same_refl (start tr), early);
-      own = own_is;
+      owns = own_is;
       aside = aside;
       order = order;
       from_tick = first_tick;

@@ -283,7 +283,7 @@ module _ (x : Scope) (side : Side) where
         → IsEndPart P (start x.trace) (stop x.trace) tau (margin_function p) (λ k. (k ≡ w.low) ⊎ (k ≡ w.high))
         × ((t : Rational) → from <ʳ t → t <ʳ b → Within (start x.trace) (stop x.trace) t)
     end_part by p moved is_end above b below until v is = (
-      (by, is_end, margin_function gap.shape, (inside (shifted tau by) above below), part, λ t. moved.value t),
+      (by, is_end, margin_function gap.shape, (inside (shifted tau by) above below), part, λ t. symᵉ (moved.value t)),
       inside,
     )
       where

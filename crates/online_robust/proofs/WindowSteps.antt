@@ -225,19 +225,19 @@ module _ (x : Scope) (s : Sweep) (e : Held) (at : IsAt x s e) (to : Rational) (o
       by_kind (inr b) = absurd (none_apart s.window.side v
           (transᵉ (symᵉ is') (subst (λ (m : Margin). value_at (margin_function m) u ≈ᵉ none_of s.window.side minus_infinity infinity) (sym b.1)
           (at.spread.none_value u))))
-  plays best tops lows highs p (inr (inl e')) u after before =
+  plays best tops lows highs p (inr (inl e')) u after before v is =
       low_in_play x s.window.side s.window u (in_order u s.window.low s.window.high at.spread.fit.order) s.place.low at.spread.from
       (runs_on (input_of x s.window.side) x.reach at.spread.from s.place.low at.spread.marks at.spread.runs) p
       (subst (λ (o : Option Margin). IsSomeAnd o (IsShifted s.place.low.shape s.window.low)) e' lows)
-      (lt_of_le_of_lt at.spread.begun (lt_shifted s.window.low after)) (before_of s.place.low.until (lt_shifted s.window.low before) stop.low)
-  plays best tops lows highs p (inr (inr e')) u after before =
+      (lt_of_le_of_lt at.spread.begun (lt_shifted s.window.low after)) (before_of s.place.low.until (lt_shifted s.window.low before) stop.low) v is
+  plays best tops lows highs p (inr (inr e')) u after before v is =
       high_in_play x s.window.side s.window u (in_order u s.window.low s.window.high at.spread.fit.order) s.place.high (high_at x s.window)
       (subst (λ (g : Gap). IsOn (input_of x s.window.side) x.reach (high_at x s.window) g) (sym at.spread.last)
       (last_on_of (input_of x s.window.side) x.reach at.spread.from (high_at x s.window) s.place.low at.spread.marks (le_trans at.spread.begun high_order)
       at.spread.by at.spread.runs)) p
       (subst (λ (o : Option Margin). IsSomeAnd o (IsShifted s.place.high.shape s.window.high)) e' highs)
       (lt_shifted s.window.high (subst (λ (z : Rational). z <ʳ u) (sym o.behind) after))
-      (before_of s.place.high.until (lt_shifted s.window.high before) stop.high)
+      (before_of s.place.high.until (lt_shifted s.window.high before) stop.high) v is
 
   -- what stands under the ends
   high_seen : (point : Option Margin) → IsPointOf (input_of x s.window.side) x.reach s.window.high_in s.window.high s.place.high t point
