@@ -41,13 +41,10 @@ use Rattle.online_robust.specs.declared.operator.Operator.TheVariants as Op
 use Rattle.online_robust.proofs.Bridging.{ahead, begins, from_none, from_some, input_within, last_to, small_to, span_from, stood_after, tick_of, tree}
 use Rattle.online_robust.proofs.Builts.{tick_between}
 use Rattle.online_robust.proofs.DroppingLemmas.{held_of-without}
+use Rattle.online_robust.proofs.Looking.{front_by_stop, looks_before, shifted_whole, told_as_far}
 use Rattle.online_robust.proofs.Instants.{IsInstantNode, instant}
 use Rattle.online_robust.proofs.Losses.{loses_number}
 use Rattle.online_robust.proofs.Robustly.{robust_is_function}
-
--- a whole time moved by an offset
-shifted_whole : (k j : ℤ) → shifted (whole k) j ≈ whole (k +ℤ j)
-shifted_whole k j = omega (arith, ints)
 
 -- the lines of an input, as a window of one instant has them
 module _ (P : Function) (reach begin : ℕ) (k F : ℤ) (bound : Rational) (lines : List MarginLine) (short : F <ℤ pos begin → bound <ʳ whole (pos begin)) where
@@ -104,49 +101,18 @@ module _ (t : Turn) (z : Moved) (e : Held) (to : ℕ) (b : Belongs t (Op.Moved z
   far : pos (horizon child) +ℤ z.by ≤ℤ pos (horizon (subformula t.nodes t.place))
   far = subst (λ p. pos (horizon child) +ℤ z.by ≤ℤ pos (horizon p)) (sym own_is) here.far
 
-  -- what is looked at is told, or the input has ended
-  limit : (pos to +ℤ z.by ≤ℤ F) ⊎ (t.ended ≡ true)
-  limit = by_end t.ended refl b.number
-    where
-      by_end : (c : Bool) → t.ended ≡ c → pos to ≡ front_at c (pos t.now) (subformula t.nodes t.place)
-          → (pos to +ℤ z.by ≤ℤ front_at c (pos t.now) child) ⊎ (t.ended ≡ true)
-      by_end true same e = inr same
-      by_end false same e = inl (omega (arith, ints, e, far))
-
-  -- the input stands by the last row
-  front_by : F ≤ℤ pos t.now
-  front_by = by_end t.ended
-    where
-      by_end : (c : Bool) → front_at c (pos t.now) child ≤ℤ pos t.now
-      by_end true = omega (arith, ints)
-      by_end false = omega (arith, ints)
-
   front_last : whole F ≤ʳ stop t.trace
-  front_last = let le = front_by in let last = b.by_now in le_whole {j = F} {k = pos (last_time 0 t.trace.rows)} (omega (arith, ints, le, last))
-
-  at_stop : t.ended ≡ true → whole F ≈ stop t.trace
-  at_stop ended =
-      let now : F ≡ pos t.now = ap (λ c. front_at c (pos t.now) child) ended in
-      let last = b.at_end ended in
-      subst (λ k. whole F ≈ whole k) (now ∙ ap pos last) (same_refl (whole F))
+  front_last = front_by_stop t (Op.Moved z) e to b z.of
 
   told_far : (glance.bound ≤ʳ whole F) ⊎ (whole F ≈ stop t.trace)
-  told_far = by_limit limit
+  told_far = by_limit (told_as_far t (Op.Moved z) e to b z.of z.by far)
     where
-      by_limit : (pos to +ℤ z.by ≤ℤ F) ⊎ (t.ended ≡ true) → (glance.bound ≤ʳ whole F) ⊎ (whole F ≈ stop t.trace)
-      by_limit (inl le) = inl (le_trans (le_of_same (shifted_whole (pos to) z.by)) (le_whole le))
-      by_limit (inr ended) = inr (at_stop ended)
+      by_limit : (glance.bound ≤ʳ whole F) ⊎ ((whole F ≈ stop t.trace) × (whole (pos to) ≈ stop t.trace)) → (glance.bound ≤ʳ whole F) ⊎ (whole F ≈ stop t.trace)
+      by_limit (inl le) = inl le
+      by_limit (inr ended) = inr ended.0
 
   short : F <ℤ pos (begin_of t) → glance.bound <ʳ whole (pos (begin_of t))
-  short lt = by_limit limit
-    where
-      by_limit : (pos to +ℤ z.by ≤ℤ F) ⊎ (t.ended ≡ true) → glance.bound <ʳ whole (pos (begin_of t))
-      by_limit (inl le) = lt_of_le_of_lt (le_trans (le_of_same (shifted_whole (pos to) z.by)) (le_whole le)) (lt_whole lt)
-      by_limit (inr ended) =
-          let now : F ≡ pos t.now = ap (λ c. front_at c (pos t.now) child) ended in
-          let small = small_to t (Op.Moved z) e to b in
-          let from = b.from_start in
-          absurd (omega (arith, ints, now, small, from, lt))
+  short lt = lt_of_le_of_lt (le_of_same (shifted_whole (pos to) z.by)) (lt_whole (looks_before t (Op.Moved z) e to b z.of z.by far lt))
 
   input : IsInput (Robustness child t.trace) (reach_before t) (begin_of t) (back_of (begin_of t) t.before z.by) F (held_at e z.of)
   input = subst (λ k. IsInput (Robustness child t.trace) (reach_before t) (begin_of t) (back_of (begin_of t) t.before k) F (held_at e z.of)) here.back (b.inputs z.of true here.reads)

@@ -3,7 +3,9 @@ use Rattle.std.proofs.Common.{◌≡◌, ◌⊎◌, inl, inr, ℕ, ◌+◌, ◌<
 use Rattle.std.specs.Prelude.{neg_ℤ, ◌-ℤ◌, ◌+ℤ◌, ◌≤ℤ◌, ◌<ℤ◌, IsTrue, MatchBool, if◌then◌else◌}
 use Rattle.std.specs.Int.RustNames.{unsigned_abs}
 use Rattle.std.proofs.lemmas.Int.{ints}
-use Rattle.rational.specs.Rational.{add, whole}
+use Rattle.std.specs.declared.cmp.Ordering.{Ordering}
+use Rattle.std.specs.declared.cmp.Ordering.TheVariants.{Less, Equal, Greater}
+use Rattle.rational.specs.Rational.{IsOrder, add, whole}
 use Rattle.rational.specs.Time.{Rational, Within, less, shifted, ◌≈◌, ◌≤ʳ◌, ◌<ʳ◌}
 use Rattle.rational.specs.Extended.{Extended, value_at, ◌≈ᵉ◌}
 use Rattle.rational.specs.Affine.{IsBounded}
@@ -93,6 +95,12 @@ module _ (x : Glance) (op : Moved) (own : ℕ) (own_by : IsOwnOffset op.by own) 
 
 -- ---- numbers
 
+-- a number that is not above another is at most that
+pub not_greater : (o : Ordering) {a b : Rational} → IsOrder o a b → (o ≡ Greater → ⊥) → a ≤ʳ b
+not_greater Less h n = le_of_lt h
+not_greater Equal h n = le_of_same h
+not_greater Greater h n = absurd (n refl)
+
 -- a time moved by an offset, and back
 module _ (u s : Rational) (k : ℤ) (is : s ≈ add u (whole (neg_ℤ k))) where
   moved_back : shifted s k ≈ u
@@ -158,6 +166,7 @@ module _ (x : Glance) (op : Moved) (old : Held) (t : Rational) (at : IsGlanceAt 
     g = (first_of (input x) x.reach (shifted t op.by) x.front (held_at old op.of) gap over.1 first).0
 
     pub gap_is : gap ≡ Gap g.a g.b g.p
+    unfolding g
     gap_is = (first_of (input x) x.reach (shifted t op.by) x.front (held_at old op.of) gap over.1 first).1
 
     pub gap_tick : IsTick (value (end_of gap))
@@ -319,7 +328,7 @@ module _ (x : Glance) (op : Moved) (own : ℕ) (old : Held) (t to : Rational) (a
         inside_there x op own can.own_by u (margin_of gap) m (le_trans bg.0 (le_of_lt (lt_shifted op.by after)))
         (le_trans (le_of_lt upto) (le_trans (le_of_same fg.ends) last_inside))
         (subst (λ (l : MarginLine). IsThere (input x) x.reach (shifted u op.by) (margin_of l)) (sym is_fg)
-        (there_in (input x) x.reach (robust_is_fgunction x.formula x.trace) fg.a fg.b fg.p (shifted u op.by) fg.gap fg.gap_fit (lt_of_le_of_lt fg.begun (lt_shifted op.by after)) upto)) seen
+        (there_in (input x) x.reach (robust_is_function x.formula x.trace) fg.a fg.b fg.p (shifted u op.by) fg.gap fg.gap_fit (lt_of_le_of_lt fg.begun (lt_shifted op.by after)) upto)) seen
 
     module _ (s : Frac) (is : value s ≈ add (value (end_of gap)) (whole (neg_ℤ op.by))) where
       back : shifted (value s) op.by ≈ value fg.b
@@ -332,7 +341,7 @@ module _ (x : Glance) (op : Moved) (own : ℕ) (old : Held) (t to : Rational) (a
         by = le_of_same (subst (λ (y : Rational). y ≈ to) (sym e) (same_refl to));
         stands = stands_over old (value z) refl (subst (λ (z : Rational). AreToSee (input x) x.reach (start x.trace) x.front x.bound (shifted z op.by) (held_at old op.of)) (sym e)
             (within (le_trans bg.0 (le_of_lt (lt_shifted op.by can.before)))
-            (ahead_on (input x) x.reach (robust_is_fgunction x.formula x.trace) (shifted t op.by) x.front (held_at old op.of) bg.1 fg (shifted to op.by) (le_of_lt (lt_shifted op.by can.before)) early)));
+            (ahead_on (input x) x.reach (robust_is_function x.formula x.trace) (shifted t op.by) x.front (held_at old op.of) bg.1 fg (shifted to op.by) (le_of_lt (lt_shifted op.by can.before)) early)));
         told = λ u after upto. seen_in m seen u after (lt_of_lt_of_le (lt_shifted op.by (subst (λ (z : Rational). u <ʳ z) e upto)) (le_of_lt early));
         moved = seen_moves x op own can.own_by (margin_of gap) m seen (gap_moves x op old t at gap first is_gap_line);
         there = subst (λ (z : Rational). IsThere (glance_of x op) (x.reach + own) z m) (sym e) (seen_in m seen to can.before early);
@@ -372,13 +381,13 @@ module _ (x : Glance) (op : Moved) (own : ℕ) (old : Held) (t to : Rational) (a
           by = by;
           stands = stands_over new (value s) lost_two.edges (within (le_trans bg.0 (le_of_lt (lt_shifted op.by after_here)))
               (subst (λ (ls : List MarginLine). IsAhead (input x) x.reach (shifted (value s) op.by) x.front ls) (sym (is_rest two fg))
-              (ahead_next (input x) x.reach (robust_is_fgunction x.formula x.trace) (shifted t op.by) x.front (held_at old op.of) fg (shifted (value s) op.by) (same_sym back))));
+              (ahead_next (input x) x.reach (robust_is_function x.formula x.trace) (shifted t op.by) x.front (held_at old op.of) fg (shifted (value s) op.by) (same_sym back))));
           told = λ u after upto. seen_in m seen u after (lt_of_lt_of_le (lt_shifted op.by upto) (le_of_same back));
           moved = seen_moves x op own can.own_by (margin_of gap) m seen (gap_moves x op old t at gap first is_gap_line);
           there = inside_there x op own can.own_by (value s) (margin_of point) v (le_trans bg.0 (le_of_lt (lt_shifted op.by after_here)))
               (le_trans (le_of_same (same_trans back fg.ends)) last_inside)
               (subst (λ (l : MarginLine). IsThere (input x) x.reach (shifted (value s) op.by) (margin_of l)) (sym (is_point two fg))
-              (there_at (input x) x.reach (robust_is_fgunction x.formula x.trace) fg.u fg.v (shifted (value s) op.by) fg.point fg.point_fit (same_sym (same_trans back fg.ends)))) seen_point;
+              (there_at (input x) x.reach (robust_is_function x.formula x.trace) fg.u fg.v (shifted (value s) op.by) fg.point fg.point_fit (same_sym (same_trans back fg.ends)))) seen_point;
           lost = lost_two;
           fewer = nearer (length (held_at new op.of)) (length (held_at old op.of)) (value s) t to can.before (omega (arith, fewer_two)) (inl fewer_two);
         }

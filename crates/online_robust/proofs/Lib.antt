@@ -51,6 +51,10 @@ pub mod WindowFirst
 pub mod Countdown
 mod Glancing
 mod Instants
+mod Looking
+mod WindowNodes
+mod WindowBridging
+mod WindowTurnings
 mod GlanceBridging
 pub mod WindowCauses
 pub mod WindowFaults

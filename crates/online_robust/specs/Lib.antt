@@ -15,3 +15,4 @@ pub mod Couples
 pub mod Sweeping
 pub mod Windows
 pub mod Glances
+pub mod Waiting

@@ -1,12 +1,12 @@
 -- When an operator stands for its node.
-use Rattle.std.specs.Prelude.{◌≡◌, ℕ, ◌+◌, ℤ, pos, neg_ℤ, if◌then◌else◌, Bool, true, false, List, Option, Some, None, take}
-use Rattle.rational.specs.Time.{whole}
+use Rattle.std.specs.Prelude.{◌≡◌, ◌⊎◌, ℕ, ◌+◌, ℤ, pos, neg_ℤ, ◌+ℤ◌, ◌-ℤ◌, ◌<ℤ◌, ◌≤ℤ◌, [], IfSome, IsSomeAnd, MatchOption, if◌then◌else◌, Bool, true, false, List, Option, Some, None, take}
+use Rattle.rational.specs.Time.{whole, ◌≈◌}
 use Rattle.rational.specs.Windows.{Function}
 use Rattle.pl_signal.specs.Joining.{ChosenOf}
 use Rattle.pl_signal.specs.declared.joining.Side.{Side}
 use Rattle.pl_signal.specs.declared.joining.Side.TheVariants.{Least, Greatest}
-use Rattle.stl_syntax.specs.Trace.{Trace, start, stop}
-use Rattle.stl_syntax.specs.Formula.{subformula}
+use Rattle.stl_syntax.specs.Trace.{Trace, first_time, start, stop}
+use Rattle.stl_syntax.specs.Formula.{horizon, subformula}
 use Rattle.stl_syntax.specs.Limits.{own_reach, reach}
 use Rattle.stl_syntax.specs.SupInf.{Robustness}
 use Rattle.stl_syntax.specs.declared.node.Node.{Node}
@@ -14,12 +14,16 @@ use Rattle.stl_syntax.specs.declared.node.Node.TheVariants.{Not, And, Or, Implie
 use Rattle.online_nodes.specs.StreamedWide.{IsUnstreamed}
 use Rattle.online_robust.specs.Reading.{HasReached, turned_by}
 use Rattle.online_robust.specs.Glances.{glance_over}
+use Rattle.online_robust.specs.Waiting.{silent_margin, silent_of}
+use Rattle.online_robust.specs.Windows.{StoodOver}
 use Rattle.online_robust.specs.declared.line.MarginLine.{MarginLine}
 use Rattle.online_robust.specs.declared.line.Reached.{Reached}
 use Rattle.online_robust.specs.declared.operator.Operator.{Operator}
 use Rattle.online_robust.specs.declared.operator.Operator.TheVariants as Op
 use Rattle.online_robust.specs.declared.pointwise.Two.{Two}
 use Rattle.online_robust.specs.declared.glance.Moved.{Moved}
+use Rattle.online_robust.specs.declared.lazy.Lazy.{Lazy}
+use Rattle.online_robust.specs.declared.window.Sweep.{Sweep}
 use Rattle.online_robust.specs.declared.window.Window.{Window}
 
 -- the node is a window
@@ -81,10 +85,26 @@ two_of nodes tr op = ChosenOf op.side (turned_by op.turned (Robustness (subformu
 abbrev pub instant_margin : List Node → Trace → Moved → Function
 instant_margin nodes tr z = glance_over (Robustness (subformula nodes z.of) tr) (start tr) (stop tr) z
 
+-- an empty window stands for the window so far, since all that it saw lies before the start
+pub record HasWaited (z : Lazy) (begin most : ℕ) (before : Option ℤ) : Type 0 where
+  pub silent : z.silent ≡ silent_of z.window z.silent.last
+  pub short : IfSome before (λ g. g +ℤ z.window.high <ℤ pos begin)
+  pub stood : HasStood (silent_margin z.window.side) most before z.silent.last
+
+-- the window was told up to g, by when its input had given out something, or at the end
+abbrev pub HasSweptTo : List Node → ℕ → Trace → ℕ → ℕ → Sweep → List MarginLine → ℤ → Type 0
+HasSweptTo nodes place tr of own s seen g =
+    StoodOver (subformula nodes of) tr (reach (take place nodes)) own (whole g) s seen
+    × ((whole g ≈ stop tr) ⊎ (pos (first_time tr.rows) ≤ℤ (g +ℤ pos (horizon (subformula nodes place))) -ℤ pos (horizon (subformula nodes of))))
+
 -- the operator is that of the node n at a place, and stands at a number, with what it has read of its input
 abbrev pub Stands : Node → List Node → ℕ → Trace → Option ℤ → Operator → List MarginLine → Type 0
 Stands n nodes place tr before (Op.Not op) seen =
     (n ≡ Not op.of) × HasStood (turned_by true (Robustness (subformula nodes op.of) tr)) (reach (take place nodes)) before op.last
 Stands n nodes place tr before (Op.Moved z) seen =
     IsInstantOf n z × HasStood (instant_margin nodes tr z) (reach (take place nodes) + own_reach n) before z.last
+Stands n nodes place tr before (Op.Sweep z) seen =
+    IsWindowOf n z.window × (z.window.low <ℤ z.window.high)
+    × MatchOption z.sweep ((seen ≡ []) × HasWaited z (first_time tr.rows) (reach (take place nodes) + own_reach n) before)
+    (λ s. (s.window ≡ z.window) × IsSomeAnd before (HasSweptTo nodes place tr z.window.of (own_reach n) s seen))
 Stands n nodes place tr before (Op.Two op) seen = IsTwoOf n op × HasStood (two_of nodes tr op) (reach (take place nodes)) before op.last

@@ -1,5 +1,5 @@
 //! A window with a low end, which begins once its input has given out something.
-ghost use Rattle.std.specs.Prelude.{◌≡◌, OnOk, IfOk, IfErr, IsSome, None, slice_get};
+ghost use Rattle.std.specs.Prelude.{◌≡◌, ◌≢◌, OnOk, IfOk, IfErr, IsSome, None, slice_get};
 ghost use Rattle.online_robust.specs.Held.{held_at};
 ghost use Rattle.online_robust.specs.Turns.{Turn, Belongs, BelongsSomewhere, HasSwept, IsStreamedFault, IsSwept, StandsNow};
 ghost use Rattle.online_robust.specs.Waiting.{IsBegun, lazy_of};
@@ -26,9 +26,12 @@ pub(crate) struct Lazy {
 fn begun(alloc: Global, window: Window, start: u32, told: Option<Reached>) -> Sweep
     ensures { IsBegun window start told result }
 {
-    let sweep = Sweep::new(alloc, window, start);
+    let mut sweep = Sweep::new(alloc, window, start);
     match told {
-        Some(reached) => sweep.stand(reached),
+        Some(reached) => {
+            sweep.stand(reached);
+            sweep
+        }
         None => sweep,
     }
 }

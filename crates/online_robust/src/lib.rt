@@ -5,6 +5,7 @@
 mod edges;
 mod ends;
 mod glance;
+mod lazy;
 mod line;
 mod net;
 mod operator;

@@ -6,6 +6,7 @@ ghost use Rattle.online_robust.specs.Turns.{Turn, Belongs, BelongsSomewhere, Has
 
 use crate::edges::Edges;
 use crate::glance::Moved;
+use crate::lazy::Lazy;
 use crate::pointwise::{Not, Two};
 use frac128::Frac;
 use pl_signal::{OpFault, Side, Signal};
@@ -19,6 +20,7 @@ pub(crate) enum Operator {
     Not(Not),
     Two(Two),
     Moved(Moved),
+    Sweep(Lazy),
 }
 
 /// A connective before anything was told.
@@ -144,6 +146,7 @@ impl Operator {
             Operator::Not(not) => sweep_not(not, alloc, edges, to),
             Operator::Two(two) => sweep_two(two, alloc, edges, to),
             Operator::Moved(moved) => sweep_moved(moved, alloc, edges, to),
+            Operator::Sweep(window) => window.sweep(alloc, edges, to),
         }
     }
 }
