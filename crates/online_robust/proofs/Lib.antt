@@ -55,6 +55,8 @@ mod Looking
 mod WindowNodes
 mod WindowBridging
 mod WindowTurnings
+mod WaitBridging
+mod FirstWindows
 mod GlanceBridging
 pub mod WindowCauses
 pub mod WindowFaults

@@ -14,7 +14,7 @@ use Rattle.stl_syntax.specs.declared.node.Node.TheVariants.{Not, And, Or, Implie
 use Rattle.online_nodes.specs.StreamedWide.{IsUnstreamed}
 use Rattle.online_robust.specs.Reading.{HasReached, turned_by}
 use Rattle.online_robust.specs.Glances.{glance_over}
-use Rattle.online_robust.specs.Waiting.{silent_margin, silent_of}
+use Rattle.online_robust.specs.Waiting.{lazy_of, silent_margin, silent_of}
 use Rattle.online_robust.specs.Windows.{StoodOver}
 use Rattle.online_robust.specs.declared.line.MarginLine.{MarginLine}
 use Rattle.online_robust.specs.declared.line.Reached.{Reached}
@@ -76,6 +76,14 @@ IsInstantOf (Once p a (Some b) a_in b_in) z =
 IsInstantOf (Historically p a (Some b) a_in b_in) z =
     (z.of ≡ p) × (z.side ≡ Least) × (z.by ≡ neg_ℤ (pos a)) × (z.inside ≡ (if b_in then a_in else false)) × (a ≡ b)
 IsInstantOf n z = ⊥
+
+-- a window of one instant before anything was told
+abbrev pub instant_of : Window → Moved
+instant_of w = record { of = w.of; side = w.side; by = w.low; inside = if w.low_in then w.high_in else false; last = None }
+
+-- the operator is that of the window before anything was told
+abbrev pub IsWindowOperator : Window → Operator → Type 0
+IsWindowOperator w op = ((w.low <ℤ w.high) × (op ≡ Op.Sweep (lazy_of w))) ⊎ ((w.low ≡ w.high) × (op ≡ Op.Moved (instant_of w)))
 
 -- the margin that a connective makes of its inputs
 abbrev pub two_of : List Node → Trace → Two → Function

@@ -134,8 +134,14 @@ impl Moved {
     {
         match edges.first(self.of) {
             None => outside(self.side, to),
-            Some(MarginLine::Point { at, value }) => self.to_point(edges, &at, &value, to),
-            Some(gap) => self.over_gap(edges, &gap, to),
+            Some(line) => match line {
+                MarginLine::Point { at, value } => self.to_point(edges, &at, &value, to),
+                MarginLine::Gap {
+                    from: _,
+                    to: _,
+                    piece: _,
+                } => self.over_gap(edges, &line, to),
+            },
         }
     }
 
@@ -150,13 +156,13 @@ impl Moved {
             return reached;
         }
         let begin = i64::from(start);
-        let start = Frac::of(begin);
+        let first = Frac::of(begin);
         let mut reached = Reached {
             at: Frac::of(begin - 4294967296),
             value: nothing(self.side),
         };
-        while let Ordering::Less = reached.at.cmp(&start) {
-            reached = self.next(edges, &start).to;
+        while let Ordering::Less = reached.at.cmp(&first) {
+            reached = self.next(edges, &first).to;
         }
         reached
     }
