@@ -4,7 +4,7 @@ use Rattle.rational.specs.Rational.{IsWithin}
 use Rattle.rational.specs.Time.{Rational, HasDenominator, Within, Precedes, less, shifted, whole, ◌≈◌, ◌≤ʳ◌, ◌<ʳ◌}
 use Rattle.rational.specs.Affine.{IsBounded}
 use Rattle.rational.specs.Extended.{Affine, Extended, minus_infinity, finite, infinity, value_at, ◌≈ᵉ◌}
-use Rattle.rational.specs.InPlay.{IsLimitWithin, IsValueWithin, IsWideCrossing, IsWideValue}
+use Rattle.rational.specs.InPlay.{HasTime, IsEndPart, IsLimitWithin, IsValueWithin, IsWideCrossing, IsWideValue}
 use Rattle.rational.specs.Windows.{Function}
 use Rattle.frac128.specs.Value.{value}
 use Rattle.frac128.specs.declared.frac.Frac.{Frac}
@@ -18,8 +18,7 @@ use Rattle.pl_signal.specs.declared.faults.OpFault.TheVariants as F
 use Rattle.envelope.specs.Best.{Has, IsBestAt, IsJoinFault}
 use Rattle.envelope.specs.declared.best.Best.{Best}
 use Rattle.envelope.specs.Turns.{IsNoBetter, none_of}
-use Rattle.window_ops.specs.Over.{InPlayOver, IsBestOver, Over, closed_over}
-use Rattle.window_ops.specs.declared.offsets.Offsets.{Offsets}
+use Rattle.window_ops.specs.Over.{IsBestOver}
 use Rattle.stl_syntax.specs.Trace.{Trace, start, stop}
 use Rattle.stl_syntax.specs.Formula.{Subformula}
 use Rattle.stl_syntax.specs.SupInf.{Robustness}
@@ -133,6 +132,22 @@ pub record IsSpread (x : Scope) (w : Window) (begin : Frac) (none : Margin) (low
   pub seen_is : AreSeen low marks seen
   pub low_stands : (low.stands ≡ true) ⊎ (low ≡ no_gap none) ⊎ (low ≡ before_start none begin)
   pub to_come : IsToCome x high.until fresh
+
+-- the gaps about the ends of a window at two times, the marks between, and the constants that these give
+pub record IsCore (x : Scope) (w : Window) (none : Margin) (low high : Gap) (l h : Rational) : Type 0 where
+  pub order : w.low <ℤ w.high
+  pub none_value : (t : Rational) → value_at (margin_function none) t ≈ᵉ none_of w.side minus_infinity infinity
+  pub none_moved : IsMovedBy x.reach none
+  pub from : Rational
+  pub marks : List Mark
+  pub constants : List Margin
+  pub begun : from ≤ʳ l
+  pub runs : Runs (input_of x w.side) x.reach from low marks
+  pub by : AreBy h marks
+  pub last : high ≡ last_gap low marks
+  pub low_later : IsUpTo l low.until
+  pub high_later : IsUpTo h high.until
+  pub frozen : AreFrozen w.side (shifted (start x.trace) w.low) low marks constants
 
 -- where the window's ends are
 abbrev pub low_at : Scope → Window → Rational
@@ -286,14 +301,22 @@ pub record IsOwn (w : Window) (own : ℕ) : Type 0 where
   pub high_from : neg_ℤ (pos own) ≤ℤ w.high
   pub high_to : w.high ≤ℤ pos own
 
--- the window as one of `window_ops`
-abbrev pub offsets_of : Window → Offsets
-offsets_of w = record { low = w.low; high = w.high; low_in = w.low_in; high_in = w.high_in }
+-- the same window with both ends
+abbrev pub closed : Window → Window
+closed w = record w { low_in = true; high_in = true }
+
+-- the line is in play at tau in the step that takes the best over the window
+abbrev pub InPlayOver : Function → Rational → Rational → Window → Rational → Affine → Type 0
+InPlayOver F from to w tau line =
+    HasTime (Holds from to w tau)
+    × (IsEndPart F from to tau line (λ k. (k ≡ w.low) ⊎ (k ≡ w.high))
+    ⊎ IsValueWithin F from to (Holds from to w tau) line
+    ⊎ IsLimitWithin F from to (Holds from to (closed w) tau) (λ u. shifted tau w.low <ʳ u) (λ u. u <ʳ shifted tau w.high) line)
 
 -- the margin, where it is finite at the time, is in play in the step that takes the best over the window
 abbrev pub IsInPlayOver : Scope → Window → Rational → Margin → Type 0
 IsInPlayOver x w u p = (v : Rational) → value_at (margin_function p) u ≈ᵉ finite v
-    → InPlayOver (Robustness x.formula x.trace) (start x.trace) (stop x.trace) (offsets_of w) u (margin_function p)
+    → InPlayOver (Robustness x.formula x.trace) (start x.trace) (stop x.trace) w u (margin_function p)
 
 -- the best over the window was told from the time of the scope, which is left out, up to another one
 pub record IsGone (x : Scope) (w : Window) (to t : Rational) (best : Best Margin) (reached : Reached) : Type 0 where
@@ -390,14 +413,14 @@ pub record StoodOver (f : Subformula) (tr : Trace) (reach own : ℕ) (g : Ration
 abbrev pub IsSettledOver : Scope → Window → Rational → Affine → Type 0
 IsSettledOver x w tau line =
     IsValueWithin (Robustness x.formula x.trace) (start x.trace) (stop x.trace)
-    (λ u. Over (start x.trace) (stop x.trace) (offsets_of w) tau u × (u <ʳ x.front)) line
+    (λ u. Holds (start x.trace) (stop x.trace) w tau u × (u <ʳ x.front)) line
     ⊎ IsLimitWithin (Robustness x.formula x.trace) (start x.trace) (stop x.trace)
-    (λ u. Over (start x.trace) (stop x.trace) (closed_over (offsets_of w)) tau u × (u <ʳ x.front)) (λ u. shifted tau w.low <ʳ u) (λ u. u <ʳ shifted tau w.high) line
+    (λ u. Holds (start x.trace) (stop x.trace) (closed w) tau u × (u <ʳ x.front)) (λ u. shifted tau w.low <ʳ u) (λ u. u <ʳ shifted tau w.high) line
 
 -- what is in play before the time `to`
 abbrev pub IsInPlayBefore : Scope → Window → Rational → Rational → Affine → Type 0
 IsInPlayBefore x w to tau line =
-    InPlayOver (Robustness x.formula x.trace) (start x.trace) (stop x.trace) (offsets_of w) tau line × (tau <ʳ to)
+    InPlayOver (Robustness x.formula x.trace) (start x.trace) (stop x.trace) w tau line × (tau <ʳ to)
 
 -- want of memory; or two that are in play before the time `to` cross, or the constant of a knot that is, or that comes into play just after
 -- the start
