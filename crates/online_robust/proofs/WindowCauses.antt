@@ -22,11 +22,10 @@ use Rattle.pl_signal.specs.declared.joining.Side.TheVariants.{Greatest, Least}
 use Rattle.envelope.specs.Turns.{none_of}
 use Rattle.stl_syntax.specs.SupInf.{Robustness}
 use Rattle.stl_syntax.specs.Trace.{start, stop}
-use Rattle.window_ops.specs.Over.{InPlayOver, Over, closed_over}
 use Rattle.online_robust.specs.Lines.{IsOneLine}
 use Rattle.online_robust.specs.Queues.{IsAmong}
 use Rattle.online_robust.specs.Sweeping.{AreBy, AreFrozen, EndsAt, IsBefore, IsOn, IsUpTo, Mark, Runs, last_gap}
-use Rattle.online_robust.specs.Windows.{IsInPlayOver, IsShifted, Scope, input_of, offsets_of}
+use Rattle.online_robust.specs.Windows.{Holds, InPlayOver, IsInPlayOver, IsShifted, Scope, closed, input_of}
 use Rattle.online_robust.specs.declared.ends.Gap.{Gap}
 use Rattle.online_robust.specs.declared.window.Window.{Window}
 use Rattle.online_robust.proofs.Robustly.{robust_is_function}
@@ -226,10 +225,10 @@ module _ (x : Scope) (side : Side) where
     -- so it is in play at each time from which the window holds it strictly inside
     pub knot_in_play : (w : Window) (tau : Rational) → shifted tau w.low <ʳ u → u <ʳ shifted tau w.high → (of : Margin)
         → (of ≡ low.shape) ⊎ (of ≡ k.point) ⊎ (of ≡ k.after.shape) → (v : Rational) → value_at (margin_function of) u ≈ᵉ finite v → (line : Affine)
-        → IsConstant line (finite v) → InPlayOver P (start x.trace) (stop x.trace) (offsets_of w) tau line
+        → IsConstant line (finite v) → InPlayOver P (start x.trace) (stop x.trace) w tau line
     knot_in_play w tau l h of one v is line constant =
-        let (inside, found) = knot_within of one v is line constant (Over (start x.trace) (stop x.trace) (offsets_of w) tau)
-        (Over (start x.trace) (stop x.trace) (closed_over (offsets_of w)) tau) (λ r. shifted tau w.low <ʳ r) (λ r. r <ʳ shifted tau w.high)
+        let (inside, found) = knot_within of one v is line constant (Holds (start x.trace) (stop x.trace) w tau)
+        (Holds (start x.trace) (stop x.trace) (closed w) tau) (λ r. shifted tau w.low <ʳ r) (λ r. r <ʳ shifted tau w.high)
         (λ inside. record { inside = inside; begins = precedes_of_lt w.low_in (shifted tau w.low) u l; ends = precedes_of_lt w.high_in u (shifted tau w.high) h })
         (λ inside. record { inside = inside; begins = le_of_lt l; ends = le_of_lt h }) l h in
         ((u, record { inside = inside; begins = precedes_of_lt w.low_in (shifted tau w.low) u l; ends = precedes_of_lt w.high_in u (shifted tau w.high) h }), inr found)
@@ -247,7 +246,7 @@ module _ (x : Scope) (side : Side) where
   pub constant_in_play : (w : Window) (tau h limit from : Rational) (low : Gap) (marks : List Mark) (cs : List Margin) → Runs Q x.reach from low marks
       → AreFrozen side limit low marks cs → IsBefore (shifted tau w.low) low.until → h <ʳ shifted tau w.high → AreBy h marks
       → (c : Margin) → IsAmong cs c → (v : Rational) → value_at (margin_function c) tau ≈ᵉ finite v
-      → InPlayOver P (start x.trace) (stop x.trace) (offsets_of w) tau (margin_function c)
+      → InPlayOver P (start x.trace) (stop x.trace) w tau (margin_function c)
   constant_in_play w tau h limit from low [] cs runs frozen before up by c one v is = absurd (subst (λ (l : List Margin). IsAmong l c) frozen one)
   constant_in_play w tau h limit from low (k ∷ marks) cs (on, ends, rises, point, rest) (inl (skip, frozen)) before up by c one v is =
       constant_in_play w tau h limit (value k.at) k.after marks cs rest frozen
@@ -262,7 +261,7 @@ module _ (x : Scope) (side : Side) where
       lower = before_of_end low.until ends before
 
       here : (c : Margin) → c ≡ d → value_at (margin_function c) tau ≈ᵉ finite v
-          → InPlayOver P (start x.trace) (stop x.trace) (offsets_of w) tau (margin_function c)
+          → InPlayOver P (start x.trace) (stop x.trace) w tau (margin_function c)
       here c e is =
           let all : (t : Rational) → value_at (margin_function c) t ≈ᵉ value_at (margin_function frozen.of) (value k.at) =
               subst (λ (m : Margin). (t : Rational) → value_at (margin_function m) t ≈ᵉ value_at (margin_function frozen.of) (value k.at)) (sym e) frozen.constant in
@@ -271,8 +270,8 @@ module _ (x : Scope) (side : Side) where
           (own_before (value k.at) k.after marks rest) (λ line. knot (inl line)) w tau lower (lt_of_le_of_lt by.0 up) frozen.of frozen.one v there
           (margin_function c) (λ t. transᵉ (symᵉ there) (symᵉ (all t)))
 
-      by_one : (c ≡ d) ⊎ IsAmong others c → (IsAmong others c → InPlayOver P (start x.trace) (stop x.trace) (offsets_of w) tau (margin_function c))
-          → InPlayOver P (start x.trace) (stop x.trace) (offsets_of w) tau (margin_function c)
+      by_one : (c ≡ d) ⊎ IsAmong others c → (IsAmong others c → InPlayOver P (start x.trace) (stop x.trace) w tau (margin_function c))
+          → InPlayOver P (start x.trace) (stop x.trace) w tau (margin_function c)
       by_one (inl e) go = here c e is
       by_one (inr one') go = go one'
 
@@ -300,7 +299,7 @@ module _ (x : Scope) (side : Side) where
         part = record { a = from; b = b; above = above; below = below; on = gap_line gap.shape from b (shifted tau by) v told there }
 
     in_window : (r : Rational) → shifted tau w.low <ʳ r → r <ʳ shifted tau w.high → Within (start x.trace) (stop x.trace) r
-        → Over (start x.trace) (stop x.trace) (offsets_of w) tau r
+        → Holds (start x.trace) (stop x.trace) w tau r
     in_window r a b inside = record {
       inside = inside;
       begins = precedes_of_lt w.low_in (shifted tau w.low) r a;

@@ -28,10 +28,9 @@ use Rattle.envelope.specs.Best.{Has, IsJoinFault}
 use Rattle.envelope.specs.declared.best.Best.{Best}
 use Rattle.stl_syntax.specs.SupInf.{Robustness}
 use Rattle.stl_syntax.specs.Trace.{start, stop}
-use Rattle.window_ops.specs.Over.{InPlayOver, Over, closed_over}
 use Rattle.window_ops.proofs.Ends.{at_is, gt_to, le_shifted, lt_shifted, lt_shifted_back}
 use Rattle.online_robust.specs.Held.{Held}
-use Rattle.online_robust.specs.Windows.{CanSweep, IsGone, IsInPlayBefore, IsSettledOver, IsUnfixed, IsUnfixedHigh, IsUnfixedKnot, IsUnmet, IsUnstored, IsWindowFault, Scope, at_time, offsets_of}
+use Rattle.online_robust.specs.Windows.{CanSweep, Holds, InPlayOver, IsGone, IsInPlayBefore, IsSettledOver, IsUnfixed, IsUnfixedHigh, IsUnfixedKnot, IsUnmet, IsUnstored, IsWindowFault, Scope, at_time, closed}
 use Rattle.online_robust.specs.declared.line.Reached.{Reached}
 use Rattle.online_robust.specs.declared.window.Sweep.{Sweep}
 use Rattle.online_robust.specs.declared.window.Window.{Window}
@@ -142,7 +141,7 @@ module _ (x : Scope) (own : ℕ) (from to : Rational) (s : Sweep) (e : Held) (ca
       leaves_after l = lt_shifted_back w.low (lt_of_lt_of_le l (ge_of_same (at_is u leaves w.low (shifted-add u (neg_ℤ w.low)))))
 
       in_play : (tau : Rational) → shifted tau w.low <ʳ u → u <ʳ shifted tau w.high → (line : Affine) → IsConstant line (finite v)
-          → InPlayOver (Robustness x.formula x.trace) (start x.trace) (stop x.trace) (offsets_of w) tau line
+          → InPlayOver (Robustness x.formula x.trace) (start x.trace) (stop x.trace) w tau line
       in_play tau l r line constant = knot_in_play x w.side now.place.high h.k h.from h.before h.ends h.rises h.point h.after h.goes_on h.knot w tau l r q
           h.unfixed.one v is line constant
 
@@ -206,8 +205,8 @@ module _ (x : Scope) (own : ℕ) (from to : Rational) (s : Sweep) (e : Held) (ca
                 same_of_le le (le_trans can.begins can.order),
                 wide_value x w to (IsSettledOver x w) q a den v at_u h.unfixed.denominator h.unfixed.wide tau after (lt_of_lt_of_le before c.2)
                     (λ line constant. (knot_within x w.side now.place.high h.k h.from h.before h.ends h.rises h.point h.after h.goes_on h.knot q h.unfixed.one v is line
-                    constant (λ r. Over (start x.trace) (stop x.trace) (offsets_of w) tau r × (r <ʳ x.front))
-                    (λ r. Over (start x.trace) (stop x.trace) (closed_over (offsets_of w)) tau r × (r <ʳ x.front)) (λ r. shifted tau w.low <ʳ r)
+                    constant (λ r. Holds (start x.trace) (stop x.trace) w tau r × (r <ʳ x.front))
+                    (λ r. Holds (start x.trace) (stop x.trace) (closed w) tau r × (r <ʳ x.front)) (λ r. shifted tau w.low <ʳ r)
                     (λ r. r <ʳ shifted tau w.high)
                     (λ i. (record { inside = i; begins = precedes_of_lt w.low_in (shifted tau w.low) u low; ends = precedes_of_lt w.high_in u (shifted tau w.high) high }, told can.told))
                     (λ i. (record { inside = i; begins = le_of_lt low; ends = le_of_lt high }, told can.told)) low high).1),

@@ -1,5 +1,5 @@
 -- How a window goes on over a stretch.
-use Rattle.std.proofs.Common.{arith, ◌≡◌, ◌⊎◌, inl, inr, ℕ, ℤ, pos, ◌+◌, ◌*◌, ◌<◌, ◌≤◌, ◌^◌, List, Option, Some, None, refl, sym, ap, subst, ◌∙◌}
+use Rattle.std.proofs.Common.{arith, ◌≡◌, ◌⊎◌, inl, inr, ℕ, ℤ, pos, ◌+◌, ◌*◌, ◌<◌, ◌≤◌, ◌^◌, List, [], ◌∷◌, Option, Some, None, refl, sym, ap, subst, ◌∙◌}
 use Rattle.std.specs.Prelude.{IsSome}
 use Rattle.rational.specs.Rational.{IsWithin}
 use Rattle.rational.specs.Time.{Rational, shifted, ◌≈◌, ◌≤ʳ◌, ◌<ʳ◌}
@@ -23,11 +23,12 @@ use Rattle.online_robust.specs.declared.line.Reached.{Reached}
 use Rattle.online_robust.specs.declared.window.Place.{Place}
 use Rattle.online_robust.specs.declared.window.Sweep.{Sweep}
 use Rattle.online_robust.specs.declared.window.Window.{Window}
-use Rattle.online_robust.proofs.Builts.{tick_between, tick_within}
+use Rattle.online_robust.proofs.Builts.{built_first, tick_within}
 use Rattle.online_robust.proofs.Sheddings.{sheds_both, sheds_later}
 use Rattle.online_robust.proofs.WindowFaults.{unfixed_fault, unmet_fault}
 use Rattle.online_robust.proofs.WindowPoints.{no_sheds}
 use Rattle.online_robust.proofs.WindowSteps.{at_moved}
+use Rattle.online_robust.proofs.WindowTelling.{best_is_function}
 
 -- the window goes on to its start, or has come to it
 pub record IsBegun (x : Scope) (own : ℕ) (old s : Sweep) (old_e e : Held) (r : Reached) : Type 0 where
@@ -75,6 +76,14 @@ module _ (x : Scope) (own : ℕ) (from to : Rational) (s : Sweep) (e : Held) (ca
   pub start_by : value s.start ≤ʳ to
   start_by = le_trans (le_of_same start_is) (le_trans can.begins can.order)
 
+  -- its ends are counted from no later than where it tells from
+  pub at_by : x.at ≤ʳ from
+  at_by = by_last s.last can.last
+    where
+      by_last : (o : Option Reached) → HasTold x own from s.window o → x.at ≤ʳ from
+      by_last None told = le_trans (le_of_lt told.1) can.begins
+      by_last (Some r) told = subst (λ (z : Rational). z ≤ʳ from) told.0 (le_of_same told.1)
+
   -- where nothing was told it begins before the start
   pub begun_first : (r : Reached) → s.last ≡ None → value r.at ≡ value s.place.at → IsBegun x own s s e e r
   begun_first r none here =
@@ -95,6 +104,22 @@ module _ (x : Scope) (own : ℕ) (from to : Rational) (s : Sweep) (e : Held) (ca
   stood r some =
       let told : HasTold x own from s.window (Some r) = subst (HasTold x own from s.window) some can.last in
       (told.0 ∙ can.here, told.1, told.2)
+
+  -- where it tells from
+  pub swept_first : (now : Sweep) (now_e : Held) (r : Reached) (built : List (Knot Margin)) → Goes s now → HasCome x now now_e
+      → (value r.at ≡ value now.place.at) × (value r.at ≈ from) × IsThere (best_of x s.window) (x.reach + own) (value r.at) r.value
+      → built ≡ record { time = r.at; point = r.value; after = r.value } ∷ [] → Sheds (shifted (value now.place.at) s.window.low) s.window.of e now_e
+      → IsSwept x own from to s now e now_e r built
+  swept_first now now_e r built goes came (here, first, there) is shed = record {
+    came = came;
+    here = here;
+    later = subst (λ (z : Rational). from ≤ʳ z) here (ge_of_same first);
+    by = le_trans (subst (λ (z : Rational). z ≤ʳ from) here (le_of_same first)) can.order;
+    there = there;
+    built = subst (λ (z : Rational). IsBuilt (best_of x s.window) (x.reach + own) from z built) here
+        (built_first (best_of x s.window) (x.reach + own) (best_is_function x s.window) r.at r.value from built there first is);
+    shed = shed;
+  }
 
   module _ (now : Sweep) (now_e : Held) (goes : Goes s now) (came : HasCome x now now_e) (later' : x.at ≤ʳ value now.place.at) where
     -- it may go on before the time `to`

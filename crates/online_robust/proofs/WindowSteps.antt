@@ -19,13 +19,12 @@ use Rattle.envelope.specs.declared.best.Best.{Best}
 use Rattle.envelope.specs.Turns.{none_of}
 use Rattle.stl_syntax.specs.SupInf.{Robustness}
 use Rattle.stl_syntax.specs.Trace.{start, stop as stop_of}
-use Rattle.window_ops.specs.Over.{InPlayOver}
 use Rattle.window_ops.proofs.Ends.{le_shifted, lt_shifted, lt_shifted_back}
 use Rattle.online_robust.specs.Held.{Held, edge_at, fresh_at}
 use Rattle.online_robust.specs.Queues.{StandsFor}
 use Rattle.online_robust.specs.Sweeping.{AreTicks, EndsAt, IsBefore, IsOn, IsUpTo, Mark, Runs, last_gap}
 use Rattle.online_robust.specs.Told.{AreFit, IsMovedBy, IsTick}
-use Rattle.online_robust.specs.Windows.{Goes, IsAt, IsGoing, IsInPlayOver, IsNextStop, IsOpen, IsOutcome, IsOwn, IsPointOf, IsShifted, IsSpread, IsTickEnd, IsToCome, IsTopOf, Keeps, Scope, at_time, best_of, high_at, input_of, low_at, offsets_of}
+use Rattle.online_robust.specs.Windows.{Goes, InPlayOver, IsAt, IsGoing, IsInPlayOver, IsNextStop, IsOpen, IsOutcome, IsOwn, IsPointOf, IsShifted, IsSpread, IsTickEnd, IsToCome, IsTopOf, Keeps, Scope, at_time, best_of, high_at, input_of, low_at}
 use Rattle.online_robust.specs.declared.ends.Gap.{Gap}
 use Rattle.online_robust.specs.declared.line.MarginLine.{MarginLine}
 use Rattle.online_robust.specs.declared.line.MarginLine.TheVariants as L
@@ -217,9 +216,9 @@ module _ (x : Scope) (s : Sweep) (e : Held) (at : IsAt x s e) (to : Rational) (o
       is' = subst (λ (m : Margin). value_at (margin_function m) u ≈ᵉ finite v) e' is
 
       by_kind : IsTopOf margin_function s.among.side s.none at.spread.constants best.top
-          → InPlayOver (Robustness x.formula x.trace) (start x.trace) (stop_of x.trace) (offsets_of s.window) u (margin_function p)
+          → InPlayOver (Robustness x.formula x.trace) (start x.trace) (stop_of x.trace) s.window u (margin_function p)
       by_kind (inl b) = subst
-          (λ (m : Margin). InPlayOver (Robustness x.formula x.trace) (start x.trace) (stop_of x.trace) (offsets_of s.window) u (margin_function m)) (sym e')
+          (λ (m : Margin). InPlayOver (Robustness x.formula x.trace) (start x.trace) (stop_of x.trace) s.window u (margin_function m)) (sym e')
           (constant_in_play x s.window.side s.window u (high_at x s.window) (shifted (start x.trace) s.window.low) at.spread.from s.place.low at.spread.marks
           at.spread.constants at.spread.runs at.spread.frozen (before_of s.place.low.until (lt_shifted s.window.low before) stop.low)
           (lt_shifted s.window.high (subst (λ (z : Rational). z <ʳ u) (sym o.behind) after)) at.spread.by best.top b.one v is')
