@@ -124,9 +124,9 @@ pub both_fewer : (w : Window) (old mid new : Place) (x y z : Edge) (to : Rationa
     → 2 * lines_left y + is_before_end (shifted (value old.at) w.high) mid.high.until
     ≤ 2 * lines_left x + is_before_end (shifted (value old.at) w.high) old.high.until
     → steps_left w new z to < 2 * lines_left y + 2 → steps_left w new z to < steps_left w old x to
-both_fewer w old mid new x y z to before open high step =
+both_fewer w old mid new x y z to before ahead high step =
     let one : ◌≡◌ {A = ℕ} (if less (value old.at) to then 1 else 0) 1 = ap (λ (b : Bool). if b then 1 else 0) (less_in (value old.at) to before) in
-    let at_end = end_is_before (shifted (value old.at) w.high) mid.high.until open in
+    let at_end = end_is_before (shifted (value old.at) w.high) mid.high.until ahead in
     omega (arith, one, at_end, high, step)
 
 -- the low end goes on with a line fewer

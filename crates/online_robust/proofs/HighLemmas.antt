@@ -122,8 +122,11 @@ module _ (x : Scope) (s : Sweep) (e mid new : Held) (line : MarginLine) (next : 
         before = subst (λ (g : Gap). IsBefore (value next_is.p) g.until) (sym gap) tt;
         stands = inr gap;
         standing = subst (λ (g : Gap). IsStanding g [] []) (sym gap) refl;
-        come = subst (λ (g : Gap). IsToCome x g.until []) (sym gap) (refl, goes_beyond x s.window s.start s.none s.place.low s.place.high s.among
-            (edge_at e s.window.of).seen (fresh_at e s.window.of) (low_at x s.window) (high_at x s.window) at.spread next_is is high.more);
+        come = subst (λ (g : Gap). IsToCome x g.until []) (sym gap) (
+          refl,
+          goes_beyond x s.window s.start s.none s.place.low s.place.high s.among
+              (edge_at e s.window.of).seen (fresh_at e s.window.of) (low_at x s.window) (high_at x s.window) at.spread next_is is high.more,
+        );
         seen_is = ap (λ (h : Held). (edge_at h s.window.of).seen) same ∙ mid_seen;
         fresh_is = ap (λ (h : Held). fresh_at h s.window.of) same ∙ mid_fresh ∙ is;
         shed = λ limit. subst (Sheds limit s.window.of e) (sym same) (shed_mid limit);

@@ -247,7 +247,7 @@ can_go_on f tr reach own g s e st front to inputs of_in order begun from_tick to
   within = within_same (2 ^ 34) (same_sym st.at) (tick_within from_tick);
   low_before = st.low_before;
   last = by_last s.last st.last;
-  own = own_is;
+  owns = own_is;
   aside = aside;
   order = le_of_lt (lt_whole order);
   from_tick = from_tick;
@@ -294,7 +294,7 @@ can_begin f tr reach own s e front to begins none_value still low high at last s
       within = at_within;
       low_before = subst (λ (g : Gap). IsBefore (shifted (value s.place.at) s.window.low) g.until) (sym low) low_early;
       last = subst (λ (o : Option Reached). HasTold x own (start tr) s.window o) (sym last) (same_refl (start tr), early);
-      own = own_is;
+      owns = own_is;
       aside = aside;
       order = order;
       from_tick = first_tick;
@@ -312,13 +312,13 @@ can_begin f tr reach own s e front to begins none_value still low high at last s
     first = first_time tr.rows
 
     early : value s.place.at <ʳ start tr
-    early = lt_of_le_of_lt (le_of_same at) (lt_whole {pos first -ℤ pos 4294967296} {pos first} (omega (arith, ints)))
+    early = lt_of_le_of_lt (le_of_same at) (lt_whole {j = pos first -ℤ pos 4294967296} {k = pos first} (omega (arith, ints)))
 
     at_within : IsWithin (2 ^ 34) (value s.place.at)
-    at_within = within_same (2 ^ 34) (same_sym at) (low_bound first, le_trans (le_of_lt (lt_whole {pos first -ℤ pos 4294967296} {pos first} (omega (arith, ints)))) (tick_within first_tick).1)
+    at_within = within_same (2 ^ 34) (same_sym at) (low_bound first, le_trans (le_of_lt (lt_whole {j = pos first -ℤ pos 4294967296} {k = pos first} (omega (arith, ints)))) (tick_within first_tick).1)
       where
         low_bound : (n : ℕ) → whole (neg_ℤ (pos (2 ^ 34))) ≤ʳ whole (pos n -ℤ pos 4294967296)
-        low_bound n = le_whole {neg_ℤ (pos (2 ^ 34))} {pos n -ℤ pos 4294967296} (omega (arith, ints))
+        low_bound n = le_whole {j = neg_ℤ (pos (2 ^ 34))} {k = pos n -ℤ pos 4294967296} (omega (arith, ints))
 
     high_early : shifted (value s.place.at) s.window.high ≤ʳ value s.start
     high_early = le_trans (le_of_same (moved_whole (value s.place.at) (pos first -ℤ pos 4294967296) s.window.high at))

@@ -87,10 +87,11 @@ module _ (x : Scope) (side : Side) where
   module _ (p : Margin) (a b : Rational) (on : (t : Rational) → a <ʳ t → t <ʳ b → Q t (value_at (margin_function p) t)) where
     -- strictly inside the domain so is each
     pub line_strictly : start x.trace ≤ʳ a → b ≤ʳ stop x.trace → IsLineOn P a b (margin_function p)
-    line_strictly from to t after before =
-        (value_at (margin_function p) t,
-        strictly t (value_at (margin_function p) t) (lt_of_le_of_lt from after) (lt_of_lt_of_le before to) (on t after before),
-        same_reflᵉ (value_at (margin_function p) t))
+    line_strictly from to t after before = (
+      value_at (margin_function p) t,
+      strictly t (value_at (margin_function p) t) (lt_of_le_of_lt from after) (lt_of_lt_of_le before to) (on t after before),
+      same_reflᵉ (value_at (margin_function p) t),
+    )
 
   -- a knot: a gap that ends at a time, the point there, and the gap behind it, that are not of one function
   module _ (low : Gap) (k : Mark) (from : Rational) (on : IsOn Q x.reach from low) (ends : EndsAt low.until (value k.at)) (rises : from <ʳ value k.at)
@@ -264,7 +265,7 @@ module _ (x : Scope) (side : Side) where
           → InPlayOver P (start x.trace) (stop x.trace) w tau (margin_function c)
       here c e is =
           let all : (t : Rational) → value_at (margin_function c) t ≈ᵉ value_at (margin_function frozen.of) (value k.at) =
-              subst (λ (m : Margin). (t : Rational) → value_at (margin_function m) t ≈ᵉ value_at (margin_function frozen.of) (value k.at)) (sym e) frozen.constant in
+          subst (λ (m : Margin). (t : Rational) → value_at (margin_function m) t ≈ᵉ value_at (margin_function frozen.of) (value k.at)) (sym e) frozen.constant in
           let there : value_at (margin_function frozen.of) (value k.at) ≈ᵉ finite v = transᵉ (symᵉ (all tau)) is in
           knot_in_play low k from on ends rises point.told (runs_on Q x.reach (value k.at) k.after marks rest)
           (own_before (value k.at) k.after marks rest) (λ line. knot (inl line)) w tau lower (lt_of_le_of_lt by.0 up) frozen.of frozen.one v there
@@ -282,7 +283,7 @@ module _ (x : Scope) (side : Side) where
         → IsEndPart P (start x.trace) (stop x.trace) tau (margin_function p) (λ k. (k ≡ w.low) ⊎ (k ≡ w.high))
         × ((t : Rational) → from <ʳ t → t <ʳ b → Within (start x.trace) (stop x.trace) t)
     end_part by p moved is_end above b below until v is = (
-      (by, is_end, margin_function gap.shape, (inside (shifted tau by) above below), part, λ t. moved.value t),
+      (by, is_end, margin_function gap.shape, (inside (shifted tau by) above below), part, λ t. symᵉ (moved.value t)),
       inside,
     )
       where

@@ -70,7 +70,7 @@ module _ (x : Scope) (s : Sweep) (e : Held) (at : IsAt x s e) (t : Rational) (he
   pub point_next : EndsAt s.place.high.until (shifted t s.window.high) → slice_get (fresh_at e s.window.of) 0 ≡ None → ⊥
   point_next ends none =
       let c = comes_next x s.window s.start s.none s.place.low s.place.high s.among (edge_at e s.window.of).seen (fresh_at e s.window.of)
-          (low_at x s.window) (high_at x s.window) at.spread (ends_here ends) in
+      (low_at x s.window) (high_at x s.window) at.spread (ends_here ends) in
       let y : Some (L.Point c.p c.v) ≡ None = sym (ap (λ (l : List MarginLine). slice_get l 0) c.is) ∙ none in
       absurd (let z : ◌≡◌ {A = Option MarginLine} (Some (L.Point c.p c.v)) None = y in cc)
 
@@ -79,13 +79,13 @@ module _ (x : Scope) (s : Sweep) (e : Held) (at : IsAt x s e) (t : Rational) (he
       → (m : Margin) → m ≡ margin_of line → IsThere (input_of x s.window.side) x.reach (shifted t s.window.high) m
   high_there ends line is m f =
       let c = comes_next x s.window s.start s.none s.place.low s.place.high s.among (edge_at e s.window.of).seen (fresh_at e s.window.of)
-          (low_at x s.window) (high_at x s.window) at.spread (ends_here ends) in
+      (low_at x s.window) (high_at x s.window) at.spread (ends_here ends) in
       let line_is : line ≡ L.Point c.p c.v = some_is (sym is ∙ ap (λ (l : List MarginLine). slice_get l 0) c.is) in
       let point : IsThere (input_of x s.window.side) x.reach (value c.p) c.v = record { told = c.point; bounded = c.bounded; moved = c.moved } in
       let there : IsThere (input_of x s.window.side) x.reach (high_at x s.window) c.v =
-          there_same (input_of x s.window.side) x.reach (value c.p) (high_at x s.window) c.v (input_is_function x s.window.side) c.here point in
+      there_same (input_of x s.window.side) x.reach (value c.p) (high_at x s.window) c.v (input_is_function x s.window.side) c.here point in
       let moved : IsThere (input_of x s.window.side) x.reach (shifted t s.window.high) c.v =
-          subst (λ (z : Rational). IsThere (input_of x s.window.side) x.reach (shifted z s.window.high) c.v) here there in
+      subst (λ (z : Rational). IsThere (input_of x s.window.side) x.reach (shifted z s.window.high) c.v) here there in
       subst (λ (n : Margin). IsThere (input_of x s.window.side) x.reach (shifted t s.window.high) n) (sym (f ∙ ap margin_of line_is)) moved
 
   -- the high end stands on the end of its gap, or before it

@@ -40,13 +40,13 @@ pub record IsBegun (x : Scope) (own : ℕ) (old s : Sweep) (old_e e : Held) (r :
   pub shed : Sheds (shifted (value s.place.at) old.window.low) old.window.of old_e e
 
 -- it tells the stretch up to where it has come
-pub record IsSwept (x : Scope) (own : ℕ) (from to : Rational) (old s : Sweep) (old_e e : Held) (r : Reached) (built : List (Knot Margin)) : Type 0 where
+pub record IsSwept (x : Scope) (own : ℕ) (from to : Rational) (old s : Sweep) (old_e e : Held) (r : Reached) (knots : List (Knot Margin)) : Type 0 where
   pub came : HasCome x s e
   pub here : value r.at ≡ value s.place.at
   pub later : from ≤ʳ value s.place.at
   pub by : value s.place.at ≤ʳ to
   pub there : IsThere (best_of x old.window) (x.reach + own) (value r.at) r.value
-  pub built : IsBuilt (best_of x old.window) (x.reach + own) from (value s.place.at) built
+  pub built : IsBuilt (best_of x old.window) (x.reach + own) from (value s.place.at) knots
   pub shed : Sheds (shifted (value s.place.at) old.window.low) old.window.of old_e e
 
 module _ (x : Scope) (own : ℕ) (from to : Rational) (s : Sweep) (e : Held) (can : CanSweep x own from to s e) where
@@ -163,7 +163,7 @@ module _ (x : Scope) (own : ℕ) (from to : Rational) (s : Sweep) (e : Held) (ca
       by = le_trans gone.by (le_of_same same);
       there = λ begun. subst (λ (w : Window). IsThere (best_of x w) (x.reach + own) (value r.at) r.value) goes.window
           (subst (λ (z : Rational). IsThere (best_of x now.window) (x.reach + own) z r.value) (sym gone.here)
-          (record { told = gone.there begun; bounded = gone.limited; moved = gone.moved_there own (owns can.own) }));
+          (record { told = gone.there begun; bounded = gone.limited; moved = gone.moved_there own (owns can.owns) }));
       shed = sheds_both (shifted (value next.place.at) s.window.low) s.window.of e now_e next_e
           (sheds_later (shifted (value now.place.at) s.window.low) (shifted (value next.place.at) s.window.low) s.window.of e now_e
           (le_shifted s.window.low (le_of_lt gone.after)) shed')

@@ -225,19 +225,19 @@ module _ (x : Scope) (s : Sweep) (e : Held) (at : IsAt x s e) (to : Rational) (o
       by_kind (inr b) = absurd (none_apart s.window.side v
           (transᵉ (symᵉ is') (subst (λ (m : Margin). value_at (margin_function m) u ≈ᵉ none_of s.window.side minus_infinity infinity) (sym b.1)
           (at.spread.none_value u))))
-  plays best tops lows highs p (inr (inl e')) u after before =
+  plays best tops lows highs p (inr (inl e')) u after before v is =
       low_in_play x s.window.side s.window u (in_order u s.window.low s.window.high at.spread.fit.order) s.place.low at.spread.from
       (runs_on (input_of x s.window.side) x.reach at.spread.from s.place.low at.spread.marks at.spread.runs) p
       (subst (λ (o : Option Margin). IsSomeAnd o (IsShifted s.place.low.shape s.window.low)) e' lows)
-      (lt_of_le_of_lt at.spread.begun (lt_shifted s.window.low after)) (before_of s.place.low.until (lt_shifted s.window.low before) stop.low)
-  plays best tops lows highs p (inr (inr e')) u after before =
+      (lt_of_le_of_lt at.spread.begun (lt_shifted s.window.low after)) (before_of s.place.low.until (lt_shifted s.window.low before) stop.low) v is
+  plays best tops lows highs p (inr (inr e')) u after before v is =
       high_in_play x s.window.side s.window u (in_order u s.window.low s.window.high at.spread.fit.order) s.place.high (high_at x s.window)
       (subst (λ (g : Gap). IsOn (input_of x s.window.side) x.reach (high_at x s.window) g) (sym at.spread.last)
       (last_on_of (input_of x s.window.side) x.reach at.spread.from (high_at x s.window) s.place.low at.spread.marks (le_trans at.spread.begun high_order)
       at.spread.by at.spread.runs)) p
       (subst (λ (o : Option Margin). IsSomeAnd o (IsShifted s.place.high.shape s.window.high)) e' highs)
       (lt_shifted s.window.high (subst (λ (z : Rational). z <ʳ u) (sym o.behind) after))
-      (before_of s.place.high.until (lt_shifted s.window.high before) stop.high)
+      (before_of s.place.high.until (lt_shifted s.window.high before) stop.high) v is
 
   -- what stands under the ends
   high_seen : (point : Option Margin) → IsPointOf (input_of x s.window.side) x.reach s.window.high_in s.window.high s.place.high t point
@@ -281,8 +281,8 @@ module _ (x : Scope) (s : Sweep) (e : Held) (at : IsAt x s e) (to : Rational) (o
         let (low_shape, is_low, low_shifted) = some_and (IsShifted s'.place.low.shape s'.window.low) best.low lows in
         let (high_shape, is_high, high_shifted) = some_and (IsShifted s'.place.high.shape s'.window.high) best.high highs in
         let outcome' : IsOutcome s'.window.side best.top (Some low_shape) (Some high_shape) at_high at_low t m =
-            subst (λ (h : Option Margin). IsOutcome s'.window.side best.top (Some low_shape) h at_high at_low t m) is_high
-            (subst (λ (l : Option Margin). IsOutcome s'.window.side best.top l best.high at_high at_low t m) is_low outcome) in
+        subst (λ (h : Option Margin). IsOutcome s'.window.side best.top (Some low_shape) h at_high at_low t m) is_high
+        (subst (λ (l : Option Margin). IsOutcome s'.window.side best.top l best.high at_high at_low t m) is_low outcome) in
         subst (λ (w : Window). best_of x w t (value_at (margin_function m) t)) keeps.window
         (outcome_is (at_time x t x.behind) s'.window s'.start s'.none s'.place.low s'.place.high s'.among (edge_at e' s'.window.of).seen
         (fresh_at e' s'.window.of) (shifted t s'.window.low) (shifted x.behind s'.window.high) at'.spread t inside best.top
@@ -338,7 +338,7 @@ module _ (x : Scope) (s : Sweep) (e : Held) (at : IsAt x s e) (to : Rational) (o
         )
         by_one (inr (inl f)) =
             let moved : IsShifted s'.place.low.shape s'.window.low m =
-                subst (λ (k : Option Margin). IsSomeAnd k (IsShifted s'.place.low.shape s'.window.low)) f lows in (
+            subst (λ (k : Option Margin). IsSomeAnd k (IsShifted s'.place.low.shape s'.window.low)) f lows in (
               shifted_bounded s'.place.low.shape s'.window.low m t moved
                   (low_bounded (at_time x t t) s' e' at_end t (le_refl (shifted t s'.window.low)) at_end.spread.low_later),
               λ own is.
@@ -347,7 +347,7 @@ module _ (x : Scope) (s : Sweep) (e : Held) (at : IsAt x s e) (to : Rational) (o
             )
         by_one (inr (inr (inl f))) =
             let moved : IsShifted s'.place.high.shape s'.window.high m =
-                subst (λ (k : Option Margin). IsSomeAnd k (IsShifted s'.place.high.shape s'.window.high)) f highs in (
+            subst (λ (k : Option Margin). IsSomeAnd k (IsShifted s'.place.high.shape s'.window.high)) f highs in (
               shifted_bounded s'.place.high.shape s'.window.high m t moved
                   (high_bounded (at_time x t t) s' e' at_end (le_of_lt (in_order t s'.window.low s'.window.high at_end.spread.fit.order)) t
                   (le_refl (shifted t s'.window.high)) at_end.spread.high_later),
@@ -357,13 +357,13 @@ module _ (x : Scope) (s : Sweep) (e : Held) (at : IsAt x s e) (to : Rational) (o
             )
         by_one (inr (inr (inr (inl f)))) =
             let (inside, ends, (v, there, moved)) =
-                subst (λ (k : Option Margin). IsPointOf (input_of x s.window.side) x.reach s.window.high_in s.window.high s.place.high t k) f high_is in (
+            subst (λ (k : Option Margin). IsPointOf (input_of x s.window.side) x.reach s.window.high_in s.window.high s.place.high t k) f high_is in (
               shifted_bounded v s.window.high m t moved there.bounded,
               λ own is. shifted_moved x.reach own v s.window.high m moved there.moved is.high_from is.high_to,
             )
         by_one (inr (inr (inr (inr f)))) =
             let (inside, ends, (v, there, moved)) =
-                subst (λ (k : Option Margin). IsPointOf (input_of x s.window.side) x.reach s.window.low_in s.window.low s.place.low t k) f low_is in (
+            subst (λ (k : Option Margin). IsPointOf (input_of x s.window.side) x.reach s.window.low_in s.window.low s.place.low t k) f low_is in (
               shifted_bounded v s.window.low m t moved there.bounded,
               λ own is. shifted_moved x.reach own v s.window.low m moved there.moved is.low_from is.low_to,
             )

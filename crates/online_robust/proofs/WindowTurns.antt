@@ -154,9 +154,10 @@ module _ (x : Scope) (w : Wide) (none : Margin) (low high : Gap) (l h : Rational
         low_there None h' e = absurd (let z : ◌≡◌ {A = Option Margin} None (Some m) = e in cc)
         low_there (Some n) (is, (p, there, moved)) e =
             let same : n ≡ m = some_is e in
-            IsOneOf.there (shifted t w.low) (value_at (margin_function p) (shifted t w.low))
-            (subst (λ (b : Bool). Precedes b (shifted t w.low) (shifted t w.low)) (sym is) (le_refl (shifted t w.low)),
-            precedes_of_lt w.high_in (shifted t w.low) (shifted t w.high) i.order) there.told
+            IsOneOf.there (shifted t w.low) (value_at (margin_function p) (shifted t w.low)) (
+              subst (λ (b : Bool). Precedes b (shifted t w.low) (shifted t w.low)) (sym is) (le_refl (shifted t w.low)),
+              precedes_of_lt w.high_in (shifted t w.low) (shifted t w.high) i.order,
+            ) there.told
             (subst (λ (k : Margin). IsNoBetter w.side (value_at (margin_function k) t) (value_at (margin_function p) (shifted t w.low))) same
             (no_better_same w.side (value_at (margin_function n) t) (value_at (margin_function p) (shifted t w.low)) (moved.value t)))
 
@@ -164,9 +165,10 @@ module _ (x : Scope) (w : Wide) (none : Margin) (low high : Gap) (l h : Rational
         high_there None h' e = absurd (let z : ◌≡◌ {A = Option Margin} None (Some m) = e in cc)
         high_there (Some n) (is, (p, there, moved)) e =
             let same : n ≡ m = some_is e in
-            IsOneOf.there (shifted t w.high) (value_at (margin_function p) (shifted t w.high))
-            (precedes_of_lt w.low_in (shifted t w.low) (shifted t w.high) i.order,
-            subst (λ (b : Bool). Precedes b (shifted t w.high) (shifted t w.high)) (sym is) (le_refl (shifted t w.high))) there.told
+            IsOneOf.there (shifted t w.high) (value_at (margin_function p) (shifted t w.high)) (
+              precedes_of_lt w.low_in (shifted t w.low) (shifted t w.high) i.order,
+              subst (λ (b : Bool). Precedes b (shifted t w.high) (shifted t w.high)) (sym is) (le_refl (shifted t w.high)),
+            ) there.told
             (subst (λ (k : Margin). IsNoBetter w.side (value_at (margin_function k) t) (value_at (margin_function p) (shifted t w.high))) same
             (no_better_same w.side (value_at (margin_function n) t) (value_at (margin_function p) (shifted t w.high)) (moved.value t)))
 

@@ -376,7 +376,7 @@ pub record CanSweep (x : Scope) (own : ℕ) (from to : Rational) (s : Sweep) (e 
   pub within : IsWithin (2 ^ 34) x.at
   pub low_before : IsBefore (low_at x s.window) s.place.low.until
   pub last : HasTold x own from s.window s.last
-  pub own : IsOwn s.window own
+  pub owns : IsOwn s.window own
   pub aside : (pos 0 ≤ℤ s.window.low) ⊎ (s.window.high ≤ℤ pos 0)
   pub order : from ≤ʳ to
   pub from_tick : IsTick from

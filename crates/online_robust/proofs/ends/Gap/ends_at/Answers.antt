@@ -17,13 +17,13 @@ shift-requires c = subst (λ z. FitsFloor w64 (add (value c.args.t.now) (whole z
 pub returns-in-Some-clause-yes : goal.returns-in-Some-clause-yes
 returns-in-Some-clause-yes c h =
     let there = same_trans (subst (λ z. value c.shift.result ≈ add (value c.args.t.now) (whole z)) (passed c.args.by c.requires.from c.requires.to)
-        c.shift.ensures.value) (same_sym (shifted-add (value c.args.t.now) c.args.by)) in
+    c.shift.ensures.value) (same_sym (shifted-add (value c.args.t.now) c.args.by)) in
     subst (λ o. EndsAt o (shifted (value c.args.t.now) c.args.by)) (sym c.in-Some.is) (same_trans (c.is_same.ensures.0 h) there)
 
 pub returns-in-Some-clause-no : goal.returns-in-Some-clause-no
 returns-in-Some-clause-no c h e =
     let there = same_trans (subst (λ z. value c.shift.result ≈ add (value c.args.t.now) (whole z)) (passed c.args.by c.requires.from c.requires.to)
-        c.shift.ensures.value) (same_sym (shifted-add (value c.args.t.now) c.args.by)) in
+    c.shift.ensures.value) (same_sym (shifted-add (value c.args.t.now) c.args.by)) in
     let at = subst (λ o. EndsAt o (shifted (value c.args.t.now) c.args.by)) c.in-Some.is e in
     no_truth (subst IsTrue h (c.is_same.ensures.1 (same_trans at (same_sym there))))
 

@@ -24,8 +24,8 @@ pub returns-in-Some-clause-shed : goal.returns-in-Some-clause-shed
 returns-in-Some-clause-shed c x own from to can =
     no_sheds (shifted (value c.args.self.now.place.at) c.args.self.now.window.low) c.args.self.now.window.of c.args.edges.now
 
-pub loop-reached-init : goal.loop-reached-init
-loop-reached-init c = record {
+pub loop-self-init : goal.loop-self-init
+loop-self-init c = record {
   begun = λ x own from to can. begun_first x own from to c.args.self.now c.args.edges.now can (record { at = c.args.self.now.place.at; value = c.args.self.now.none }) c.in_default.is refl;
   goes = goes_none c.args.self.now;
   none = c.in_default.is;

@@ -69,11 +69,11 @@ pub returns-clause-fewer : goal.returns-clause-fewer
 returns-clause-fewer c =
     let (x, at, going) = c.requires in
     let went = c.in_ok-high_on.ensures.stands x at (going.behind ∙ going.here) going.more in
-    let open = open_of x c.args.self.now c.high_on.new.self (value c.args.to.now) going c.in_ok-high_on.ensures.kept.0 c.in_ok-high_on.ensures.kept.1 went.1 in
+    let ahead = open_of x c.args.self.now c.high_on.new.self (value c.args.to.now) going c.in_ok-high_on.ensures.kept.0 c.in_ok-high_on.ensures.kept.1 went.1 in
     let high_before = subst (λ (z : Rational). IsBefore (shifted z c.args.self.now.window.high) c.high_on.new.self.place.high.until) (going.behind ∙ going.here)
     (subst (λ (w : Window). IsBefore (shifted x.behind w.high) c.high_on.new.self.place.high.until) c.in_ok-high_on.ensures.kept.0.window went.1) in
     let step = subst (λ (w : Window). steps_left w c.go_to.new.self.place (edge_at c.go_to.new.edges w.of) (value c.args.to.now)
-    < 2 * lines_left (edge_at c.high_on.new.edges w.of) + 2) c.in_ok-high_on.ensures.kept.0.window (c.in_ok-gone.ensures.fewer x went.0 open) in
+    < 2 * lines_left (edge_at c.high_on.new.edges w.of) + 2) c.in_ok-high_on.ensures.kept.0.window (c.in_ok-gone.ensures.fewer x went.0 ahead) in
     both_fewer c.args.self.now.window c.args.self.now.place c.high_on.new.self.place c.go_to.new.self.place
     (edge_at c.args.edges.now c.args.self.now.window.of) (edge_at c.high_on.new.edges c.args.self.now.window.of)
     (edge_at c.go_to.new.edges c.args.self.now.window.of) (value c.args.to.now)

@@ -53,9 +53,12 @@ best-after-requires c =
     let (x, at, ready) = c.requires in
     let t = value c.next_stop-t.result in
     let low = at_low x c.args.self.now c.args.edges.now at (value c.args.to.now) ready t c.next_stop-t.ensures in
-    let went = c.in_ok-at_low.ensures.stands (at_time x t x.behind) low refl in
-    (at_time x t x.behind, went.0.spread.fit, low_moved (at_time x t x.behind) c.low_point.new.self c.low_point.new.edges went.0,
-    high_moved (at_time x t x.behind) c.low_point.new.self c.low_point.new.edges went.0)
+    let went = c.in_ok-at_low.ensures.stands (at_time x t x.behind) low refl in (
+      at_time x t x.behind,
+      went.0.spread.fit,
+      low_moved (at_time x t x.behind) c.low_point.new.self c.low_point.new.edges went.0,
+      high_moved (at_time x t x.behind) c.low_point.new.self c.low_point.new.edges went.0,
+    )
 
 pub worth-value-requires : goal.worth-value-requires
 worth-value-requires c =
@@ -68,7 +71,7 @@ returns-clause-stands c x at ready =
     let low = at_low x c.args.self.now c.args.edges.now at (value c.args.to.now) ready t c.next_stop-t.ensures in
     let went = c.in_ok-at_low.ensures.stands (at_time x t x.behind) low refl in
     let end = at_end x c.args.self.now c.args.edges.now at (value c.args.to.now) ready t c.next_stop-t.ensures c.low_point.new.self c.low_point.new.edges went.0
-        c.in_ok-at_low.ensures.kept.0 c.in_ok-at_low.ensures.kept.1 went.1 c.in_ok-at_low.ensures.stays in
+    c.in_ok-at_low.ensures.kept.0 c.in_ok-at_low.ensures.kept.1 went.1 c.in_ok-at_low.ensures.stays in
     (record { within = end.within; spread = end.spread }, went.1)
 
 pub returns-clause-told : goal.returns-clause-told
@@ -78,12 +81,12 @@ returns-clause-told c x at ready =
     let both = at_both x c.args.self.now c.args.edges.now at (value c.args.to.now) ready t c.next_stop-t.ensures in
     let went = c.in_ok-at_low.ensures.stands (at_time x t x.behind) low refl in
     let fits = each x c.args.self.now c.args.edges.now at (value c.args.to.now) ready t c.next_stop-t.ensures c.best-before.result c.best-before.ensures.top
-        c.best-before.ensures.low c.best-before.ensures.high in
+    c.best-before.ensures.low c.best-before.ensures.high in
     let fit = there_fit x c.args.self.now c.args.edges.now at (value c.args.to.now) ready t c.next_stop-t.ensures c.low_point.new.self c.low_point.new.edges
-        went.0 c.in_ok-at_low.ensures.kept.0 c.in_ok-at_low.ensures.kept.1 went.1 c.in_ok-at_low.ensures.stays c.best-after.result
-        c.best-after.ensures.top c.best-after.ensures.low c.best-after.ensures.high c.high_point-at_high.result c.in_ok-at_low.at_low
-        (c.high_point-at_high.ensures (at_time x t t) both refl) (c.in_ok-at_low.ensures.point (at_time x t x.behind) low refl) c.worth-value.result
-        c.worth-value.ensures in
+    went.0 c.in_ok-at_low.ensures.kept.0 c.in_ok-at_low.ensures.kept.1 went.1 c.in_ok-at_low.ensures.stays c.best-after.result
+    c.best-after.ensures.top c.best-after.ensures.low c.best-after.ensures.high c.high_point-at_high.result c.in_ok-at_low.at_low
+    (c.high_point-at_high.ensures (at_time x t t) both refl) (c.in_ok-at_low.ensures.point (at_time x t x.behind) low refl) c.worth-value.result
+    c.worth-value.ensures in
     record {
       here = refl;
       after = later x c.args.self.now c.args.edges.now at (value c.args.to.now) ready t c.next_stop-t.ensures;

@@ -18,27 +18,29 @@ pub go_high-requires : goal.go_high-requires
 go_high-requires c =
     let (x, at, here, more) = c.requires.at in
     let ends = subst (λ z. EndsAt c.args.self.now.place.high.until (shifted (value c.args.self.now.place.at) z))
-        (high_passed c.args.self.now.window x.reach at.spread.fit) (c.ends_at.ensures.yes c.if-ends_at.true) in
+    (high_passed c.args.self.now.window x.reach at.spread.fit) (c.ends_at.ensures.yes c.if-ends_at.true) in
     (x, at, high_goes x c.args.self.now c.args.edges.now at (value c.args.self.now.place.at) here ends more)
 
 pub returns-then-ends_at-clause-stands : goal.returns-then-ends_at-clause-stands
 returns-then-ends_at-clause-stands c x at here more =
     let ends = subst (λ z. EndsAt c.args.self.now.place.high.until (shifted (value c.args.self.now.place.at) z))
-        (high_passed c.args.self.now.window x.reach at.spread.fit) (c.ends_at.ensures.yes c.if-ends_at.true) in
+    (high_passed c.args.self.now.window x.reach at.spread.fit) (c.ends_at.ensures.yes c.if-ends_at.true) in
     c.go_high.ensures.stands x at (high_goes x c.args.self.now c.args.edges.now at (value c.args.self.now.place.at) here ends more)
 
 pub returns-then-ends_at-clause-wide : goal.returns-then-ends_at-clause-wide
 returns-then-ends_at-clause-wide c x at here more =
     let ends = subst (λ z. EndsAt c.args.self.now.place.high.until (shifted (value c.args.self.now.place.at) z))
-        (high_passed c.args.self.now.window x.reach at.spread.fit) (c.ends_at.ensures.yes c.if-ends_at.true) in
+    (high_passed c.args.self.now.window x.reach at.spread.fit) (c.ends_at.ensures.yes c.if-ends_at.true) in
     c.go_high.ensures.wide x at (high_goes x c.args.self.now c.args.edges.now at (value c.args.self.now.place.at) here ends more)
 
 pub returns-clause-stands : goal.returns-clause-stands
-returns-clause-stands c x at here more =
-    (at, high_stays x c.args.self.now c.args.edges.now at (value c.args.self.now.place.at) here
-    (λ ends. c.ends_at.ensures.no c.if-ends_at.false
-    (subst (λ z. EndsAt c.args.self.now.place.high.until (shifted (value c.args.self.now.place.at) z))
-    (sym (high_passed c.args.self.now.window x.reach at.spread.fit)) ends)))
+returns-clause-stands c x at here more = (
+  at,
+  high_stays x c.args.self.now c.args.edges.now at (value c.args.self.now.place.at) here
+      (λ ends. c.ends_at.ensures.no c.if-ends_at.false
+      (subst (λ z. EndsAt c.args.self.now.place.high.until (shifted (value c.args.self.now.place.at) z))
+      (sym (high_passed c.args.self.now.window x.reach at.spread.fit)) ends)),
+)
 
 pub returns-clause-kept : goal.returns-clause-kept
 returns-clause-kept c = (record { window = refl; start = refl; none = refl; last = refl; at = refl }, refl)

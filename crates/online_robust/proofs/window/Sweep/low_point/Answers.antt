@@ -16,33 +16,35 @@ pub under_low-requires : goal.under_low-requires
 under_low-requires c =
     let (x, at, here) = c.requires.at in
     let ends = subst (λ z. EndsAt c.args.self.now.place.low.until (shifted (value c.args.t.now) z)) (low_passed c.args.self.now.window x.reach at.spread.fit)
-        (c.ends_at.ensures.yes c.if-ends_at.true) in
+    (c.ends_at.ensures.yes c.if-ends_at.true) in
     (x, at, low_stands x c.args.self.now c.args.edges.now at (value c.args.t.now) here ends c.requires.reaches)
 
 pub returns-then-ends_at-clause-stands : goal.returns-then-ends_at-clause-stands
 returns-then-ends_at-clause-stands c x at here =
     let ends = subst (λ z. EndsAt c.args.self.now.place.low.until (shifted (value c.args.t.now) z)) (low_passed c.args.self.now.window x.reach at.spread.fit)
-        (c.ends_at.ensures.yes c.if-ends_at.true) in
+    (c.ends_at.ensures.yes c.if-ends_at.true) in
     c.under_low.ensures.stands x at (low_stands x c.args.self.now c.args.edges.now at (value c.args.t.now) here ends c.requires.reaches)
 
 pub returns-then-ends_at-clause-point : goal.returns-then-ends_at-clause-point
 returns-then-ends_at-clause-point c x at here =
     let ends = subst (λ z. EndsAt c.args.self.now.place.low.until (shifted (value c.args.t.now) z)) (low_passed c.args.self.now.window x.reach at.spread.fit)
-        (c.ends_at.ensures.yes c.if-ends_at.true) in
+    (c.ends_at.ensures.yes c.if-ends_at.true) in
     point_at x c.args.self.now (value c.args.t.now) here c.under_low.result
     (c.under_low.ensures.point x at (low_stands x c.args.self.now c.args.edges.now at (value c.args.t.now) here ends c.requires.reaches))
 
 pub returns-then-ends_at-clause-shed : goal.returns-then-ends_at-clause-shed
 returns-then-ends_at-clause-shed c x at here =
     let ends = subst (λ z. EndsAt c.args.self.now.place.low.until (shifted (value c.args.t.now) z)) (low_passed c.args.self.now.window x.reach at.spread.fit)
-        (c.ends_at.ensures.yes c.if-ends_at.true) in
+    (c.ends_at.ensures.yes c.if-ends_at.true) in
     c.under_low.ensures.shed x at (low_stands x c.args.self.now c.args.edges.now at (value c.args.t.now) here ends c.requires.reaches)
 
 pub returns-clause-stands : goal.returns-clause-stands
-returns-clause-stands c x at here =
-    (at, low_before x c.args.self.now c.args.edges.now at (value c.args.t.now) here
-    (λ ends. c.ends_at.ensures.no c.if-ends_at.false
-    (subst (λ z. EndsAt c.args.self.now.place.low.until (shifted (value c.args.t.now) z)) (sym (low_passed c.args.self.now.window x.reach at.spread.fit)) ends)))
+returns-clause-stands c x at here = (
+  at,
+  low_before x c.args.self.now c.args.edges.now at (value c.args.t.now) here
+      (λ ends. c.ends_at.ensures.no c.if-ends_at.false
+      (subst (λ z. EndsAt c.args.self.now.place.low.until (shifted (value c.args.t.now) z)) (sym (low_passed c.args.self.now.window x.reach at.spread.fit)) ends)),
+)
 
 pub returns-clause-point : goal.returns-clause-point
 returns-clause-point c x at here =

@@ -51,9 +51,11 @@ returns-in-Ok-clause-told c x at going begun own is from b =
 
 pub returns-in-Ok-clause-reached : goal.returns-in-Ok-clause-reached
 returns-in-Ok-clause-reached c x at going begun own is =
-    let gone = c.in_ok-gone.ensures.told x at going in
-    (gone.here, gone_there x c.args.self.now.window (value c.args.to.now) (value c.go_on.new.self.place.at) c.in_ok-gone.gone.best c.in_ok-gone.gone.to gone own
-    is begun)
+    let gone = c.in_ok-gone.ensures.told x at going in (
+      gone.here,
+      gone_there x c.args.self.now.window (value c.args.to.now) (value c.go_on.new.self.place.at) c.in_ok-gone.gone.best c.in_ok-gone.gone.to gone own
+          is begun,
+    )
 
 pub returns-in-Ok-clause-later : goal.returns-in-Ok-clause-later
 returns-in-Ok-clause-later c =

@@ -23,14 +23,14 @@ pub unreachable-requires : goal.unreachable-requires
 unreachable-requires c =
     let (x, at, here) = c.requires.at in
     let ends = subst (λ z. EndsAt c.args.self.now.place.high.until (shifted (value c.args.t.now) z)) (high_passed c.args.self.now.window x.reach at.spread.fit)
-        (c.ends_at.ensures.yes c.if-ends_at.true) in
+    (c.ends_at.ensures.yes c.if-ends_at.true) in
     point_next x c.args.self.now c.args.edges.now at (value c.args.t.now) here ends (sym c.next.ensures ∙ c.in_default.is)
 
 pub shift-requires : goal.shift-requires
 shift-requires c =
     let (x, at, here) = c.requires.at in
     let ends = subst (λ z. EndsAt c.args.self.now.place.high.until (shifted (value c.args.t.now) z)) (high_passed c.args.self.now.window x.reach at.spread.fit)
-        (c.ends_at.ensures.yes c.if-ends_at.true) in
+    (c.ends_at.ensures.yes c.if-ends_at.true) in
     subst (λ z. unsigned_abs (margin_base c.margin.result -ℤ z) ≤ 2 ^ 34) (sym (high_passed c.args.self.now.window x.reach at.spread.fit))
     (there_room (input_of x c.args.self.now.window.side) x.reach (shifted (value c.args.t.now) c.args.self.now.window.high) c.margin.result
     c.args.self.now.window.high
@@ -40,7 +40,7 @@ shift-requires c =
 pub returns-then-ends_at : goal.returns-then-ends_at
 returns-then-ends_at c x at here =
     let ends = subst (λ z. EndsAt c.args.self.now.place.high.until (shifted (value c.args.t.now) z)) (high_passed c.args.self.now.window x.reach at.spread.fit)
-        (c.ends_at.ensures.yes c.if-ends_at.true) in (
+    (c.ends_at.ensures.yes c.if-ends_at.true) in (
       refl,
       ends,
       (
