@@ -247,15 +247,18 @@ can_go_on f tr reach own g s e st front to inputs of_in order begun from_tick to
   within = within_same (2 ^ 34) (same_sym st.at) (tick_within from_tick);
   low_before = st.low_before;
   last = by_last s.last st.last;
-  owns = own_is;
-  aside = aside;
-  order = le_of_lt (lt_whole order);
-  from_tick = from_tick;
-  to_tick = to_tick;
-  begins = begun;
-  ends = ends;
-  by = le_refl (shifted (whole to) s.window.high);
-  told = told;
+  span = record {
+    offsets = st.spread.fit.order;
+    owns = own_is;
+    aside = aside;
+    order = le_of_lt (lt_whole order);
+    from_tick = from_tick;
+    to_tick = to_tick;
+    begins = begun;
+    ends = ends;
+    by = le_refl (shifted (whole to) s.window.high);
+    told = told;
+  };
 }
   where
     goes : (whole g ≈ stop tr) ⊎ IsSome s.place.high.until → IsSome s.place.high.until
@@ -294,15 +297,18 @@ can_begin f tr reach own s e front to begins none_value still low high at last s
       within = at_within;
       low_before = subst (λ (g : Gap). IsBefore (shifted (value s.place.at) s.window.low) g.until) (sym low) low_early;
       last = subst (λ (o : Option Reached). HasTold x own (start tr) s.window o) (sym last) (same_refl (start tr), early);
-      owns = own_is;
-      aside = aside;
-      order = order;
-      from_tick = first_tick;
-      to_tick = to_tick;
-      begins = le_refl (start tr);
-      ends = ends;
-      by = le_refl (shifted (whole to) s.window.high);
-      told = told;
+      span = record {
+        offsets = fit.order;
+        owns = own_is;
+        aside = aside;
+        order = order;
+        from_tick = first_tick;
+        to_tick = to_tick;
+        begins = le_refl (start tr);
+        ends = ends;
+        by = le_refl (shifted (whole to) s.window.high);
+        told = told;
+      };
     }
   where
     x : Scope
@@ -377,7 +383,7 @@ stood_over x own from to old s old_e e can came same last bound = record {
   fresh = fresh_at e s.window.of;
   spread = came.at.spread;
   low_before = came.low_before;
-  goes_on = goes can.told (some_or_none s.place.high.until);
+  goes_on = goes can.span.told (some_or_none s.place.high.until);
   last = (by_last s.last last).1;
 }
   where

@@ -40,23 +40,27 @@ some_and P None h = absurd h
 some_and P (Some m) h = (m, refl, h)
 
 module _ (x : Scope) (w : Window) (none : Margin) (low high : Gap) (l h : Rational) (s : IsCore x w none low high l h) where
-  -- both ends move on within their gaps
-  pub core_on : (l' h' : Rational) → l ≤ʳ l' → IsUpTo l' low.until → h ≤ʳ h' → IsUpTo h' high.until → IsCore x w none low high l' h'
-  core_on l' h' le up le' up' = record {
-    order = s.order;
-    none_value = s.none_value;
-    none_moved = s.none_moved;
-    from = s.from;
-    marks = s.marks;
-    constants = s.constants;
-    begun = le_trans s.begun le;
-    runs = s.runs;
-    by = by_later s.marks s.by;
-    last = s.last;
-    low_later = up;
-    high_later = up';
-    frozen = s.frozen;
-  }
+  -- both ends move on within their gaps, and the constants stay
+  pub core_on : (l' h' : Rational) → l ≤ʳ l' → IsUpTo l' low.until → h ≤ʳ h' → IsUpTo h' high.until → (B : List Margin → Type 0) → B s.constants
+      → (d : IsCore x w none low high l' h') × B d.constants
+  core_on l' h' le up le' up' B b = (
+    record {
+      order = s.order;
+      none_value = s.none_value;
+      none_moved = s.none_moved;
+      from = s.from;
+      marks = s.marks;
+      constants = s.constants;
+      begun = le_trans s.begun le;
+      runs = s.runs;
+      by = by_later s.marks s.by;
+      last = s.last;
+      low_later = up;
+      high_later = up';
+      frozen = s.frozen;
+    },
+    b,
+  )
     where
       by_later : (ms : List Mark) → AreBy h ms → AreBy h' ms
       by_later [] b = tt
@@ -92,14 +96,14 @@ module _ (x : Scope) (w : Window) (none : Margin) (low high : Gap) (a : Rational
       by_one (inr (inl ends)) = lt_shifted_back w.high (before_of_end high.until ends g.high_before)
       by_one (inr (inr ends)) = lt_shifted_back w.low (before_of_end low.until ends g.low_before)
 
-  -- both ends at the stop, or the low one alone
-  pub core_both : IsCore x w none low high (shifted t w.low) (shifted t w.high)
-  core_both = core_on x w none low high (shifted a w.low) (shifted a w.high) s (shifted t w.low) (shifted t w.high) (le_shifted w.low (le_of_lt later)) g.low
-      (le_shifted w.high (le_of_lt later)) g.high
+  -- both ends at the stop, or the low one alone, with the same constants
+  pub core_both : (B : List Margin → Type 0) → B s.constants → (d : IsCore x w none low high (shifted t w.low) (shifted t w.high)) × B d.constants
+  core_both B b = core_on x w none low high (shifted a w.low) (shifted a w.high) s (shifted t w.low) (shifted t w.high) (le_shifted w.low (le_of_lt later)) g.low
+      (le_shifted w.high (le_of_lt later)) g.high B b
 
-  pub core_low : IsCore x w none low high (shifted t w.low) (shifted a w.high)
-  core_low = core_on x w none low high (shifted a w.low) (shifted a w.high) s (shifted t w.low) (shifted a w.high) (le_shifted w.low (le_of_lt later)) g.low
-      (le_refl (shifted a w.high)) s.high_later
+  pub core_low : (B : List Margin → Type 0) → B s.constants → (d : IsCore x w none low high (shifted t w.low) (shifted a w.high)) × B d.constants
+  core_low B b = core_on x w none low high (shifted a w.low) (shifted a w.high) s (shifted t w.low) (shifted a w.high) (le_shifted w.low (le_of_lt later)) g.low
+      (le_refl (shifted a w.high)) s.high_later B b
 
   order_at : shifted a w.low ≤ʳ shifted a w.high
   order_at = le_of_lt (in_order a w.low w.high s.order)
@@ -163,15 +167,15 @@ module _ (x : Scope) (w : Window) (none : Margin) (low high : Gap) (a : Rational
             (before_of low.until (lt_shifted w.low before) g.low) (lt_shifted w.high after) s.by best.top b.one v is')
         by_kind (inr b) = absurd (none_apart w.side v
             (transᵉ (symᵉ is') (subst (λ (m : Margin). value_at (margin_function m) u ≈ᵉ none_of w.side minus_infinity infinity) (sym b.1) (s.none_value u))))
-    plays p (inr (inl e')) u after before =
+    plays p (inr (inl e')) u after before v is =
         low_in_play x w.side w u (in_order u w.low w.high s.order) low s.from (low_on x w none low high (shifted a w.low) (shifted a w.high) s) p
         (subst (λ (o : Option Margin). IsSomeAnd o (IsShifted low.shape w.low)) e' lows) (lt_of_le_of_lt s.begun (lt_shifted w.low after))
-        (before_of low.until (lt_shifted w.low before) g.low)
-    plays p (inr (inr e')) u after before =
+        (before_of low.until (lt_shifted w.low before) g.low) v is
+    plays p (inr (inr e')) u after before v is =
         high_in_play x w.side w u (in_order u w.low w.high s.order) high (shifted a w.high)
         (high_on x w none low high (shifted a w.low) (shifted a w.high) s order_at) p
         (subst (λ (o : Option Margin). IsSomeAnd o (IsShifted high.shape w.high)) e' highs) (lt_shifted w.high after)
-        (before_of high.until (lt_shifted w.high before) g.high)
+        (before_of high.until (lt_shifted w.high before) g.high) v is
 
   -- what stands under the ends
   high_seen : (point : Option Margin) → IsPointOf (input_of x w.side) x.reach w.high_in w.high high t point
@@ -191,10 +195,6 @@ module _ (x : Scope) (w : Window) (none : Margin) (low high : Gap) (a : Rational
   -- at the stop, where the low end has gone on
   module _ (low' : Gap) (s' : IsCore x w none low' high (shifted t w.low) (shifted a w.high)) (before' : IsBefore (shifted t w.low) low'.until)
       (stays : ¬ EndsAt low.until (shifted t w.low) → low' ≡ low) where
-    pub core_end : IsCore x w none low' high (shifted t w.low) (shifted t w.high)
-    core_end = core_on x w none low' high (shifted t w.low) (shifted a w.high) s' (shifted t w.low) (shifted t w.high) (le_refl (shifted t w.low)) s'.low_later
-        (le_shifted w.high (le_of_lt later)) g.high
-
     module _ (best : Best Margin) (top : IsTopOf margin_function w.side none s'.constants best.top) (lows : IsSomeAnd best.low (IsShifted low'.shape w.low))
         (highs : IsSomeAnd best.high (IsShifted high.shape w.high)) (at_high at_low : Option Margin)
         (high_is : IsPointOf (input_of x w.side) x.reach w.high_in w.high high t at_high)

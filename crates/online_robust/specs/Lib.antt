@@ -14,3 +14,4 @@ pub mod Reading
 pub mod Couples
 pub mod Sweeping
 pub mod Windows
+pub mod WindowPasts

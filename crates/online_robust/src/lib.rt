@@ -7,6 +7,7 @@ mod ends;
 mod line;
 mod net;
 mod operator;
+mod past;
 mod pointwise;
 mod put;
 mod queue;

@@ -52,9 +52,9 @@ pub(crate) struct Place {
 
 /// A step of a window: what counts on the way, and the margin at its end.
 #[derive(Clone, Copy)]
-struct Gone {
-    best: Best<Margin>,
-    to: Reached,
+pub(crate) struct Gone {
+    pub(crate) best: Best<Margin>,
+    pub(crate) to: Reached,
 }
 
 /// What a window keeps in mind.
@@ -72,7 +72,7 @@ pub(crate) struct Sweep {
 }
 
 /// The gap that comes next at the back end of what was read, which is read; nothing where there is none.
-fn enter(edges: &mut Edges, of: u32, none: Margin) -> Gap
+pub(crate) fn enter(edges: &mut Edges, of: u32, none: Margin) -> Gap
     requires { of < length edges.old.edges }
     ensures { MatchOption (slice_get (fresh_at edges.old of) 0) ((result ≡ no_gap none) × (edges.new ≡ edges.old))
         (λ line. (result ≡ gap_that line) × (edges.new.edges ≡ with_edge edges.old of (with_read (edge_at edges.old of) line)) × (edges.new.start ≡ edges.old.start)) }
@@ -106,7 +106,7 @@ fn gap_of(line: &MarginLine) -> Gap
 }
 
 /// The best of the two limits and the value at a time, as a constant.
-fn frozen(
+pub(crate) fn frozen(
     side: Side,
     before: &Margin,
     point: &Margin,
@@ -143,7 +143,7 @@ fn or_better(side: Side, best: Margin, other: Option<Margin>, t: &Frac) -> Margi
 }
 
 /// The best at a time of what counts about it, and of the points under the ends.
-fn worth(
+pub(crate) fn worth(
     side: Side,
     inside: &Best<Margin>,
     at_high: Option<Margin>,
@@ -160,7 +160,7 @@ fn worth(
 }
 
 /// The earlier of a time and another, if there is one.
-fn first_of(t: &Frac, other: &Option<Frac>) -> Frac
+pub(crate) fn first_of(t: &Frac, other: &Option<Frac>) -> Frac
     ensures by { value result ≤ʳ value t.now }
     ensures other { IfSome other.now (λ u. value result ≤ʳ value u) }
     ensures one { (value result ≡ value t.now) ⊎ IsSomeAnd other.now (λ u. value result ≡ value u) }
@@ -173,7 +173,7 @@ fn first_of(t: &Frac, other: &Option<Frac>) -> Frac
 
 impl Gap {
     /// When the end of a window that is `by` later comes to the end of the gap.
-    fn leaves(&self, by: i64) -> Option<Frac>
+    pub(crate) fn leaves(&self, by: i64) -> Option<Frac>
         requires from { neg_ℤ (pos (2 ^ 32)) ≤ℤ by }
         requires to { by ≤ℤ pos (2 ^ 32) }
         requires tick { IsTickEnd self.now.until }
@@ -186,7 +186,7 @@ impl Gap {
     }
 
     /// Whether the end of a window that is `by` later comes to the end of the gap at the time.
-    fn ends_at(&self, by: i64, t: &Frac) -> bool
+    pub(crate) fn ends_at(&self, by: i64, t: &Frac) -> bool
         requires from { neg_ℤ (pos (2 ^ 32)) ≤ℤ by }
         requires to { by ≤ℤ pos (2 ^ 32) }
         requires within { IsWithin (2 ^ 34) (value t.now) }
@@ -608,7 +608,7 @@ impl Sweep {
 }
 
 /// What was refused, or want of memory.
-fn refused(fault: Option<WidePair<Margin>>) -> OpFault<Margin>
+pub(crate) fn refused(fault: Option<WidePair<Margin>>) -> OpFault<Margin>
     ensures { IsKept result fault }
 {
     match fault {
