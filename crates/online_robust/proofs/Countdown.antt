@@ -34,13 +34,16 @@ without_no_more x =
     omega (arith, a, b)
 
 taken_fewer : (x : Edge) (v : MarginLine) → slice_get (held_of x) 0 ≡ Some v → lines_left (without 1 x) < lines_left x
-taken_fewer x v first = by_seen x.seen x.fresh first
+taken_fewer x v first =
+    let a = length-drop 1 x.seen in
+    let b = length-drop (1 - length x.seen) x.fresh in
+    let some = some_line x.seen x.fresh first in
+    omega (arith, a, b, some)
   where
-    by_seen : (seen fresh : List MarginLine) → slice_get (seen ++ fresh) 0 ≡ Some v
-        → lines_left (without 1 (record { seen = seen; fresh = fresh; number = x.number })) < length seen + 2 * length fresh
-    by_seen [] [] e = absurd (let z : ◌≡◌ {A = Option MarginLine} None (Some v) = e in cc)
-    by_seen [] (f ∷ fresh) e = omega arith
-    by_seen (s ∷ seen) fresh e = omega arith
+    some_line : (seen fresh : List MarginLine) → slice_get (seen ++ fresh) 0 ≡ Some v → 0 < length seen + length fresh
+    some_line [] [] e = absurd (let z : ◌≡◌ {A = Option MarginLine} None (Some v) = e in cc)
+    some_line [] (f ∷ fresh) e = omega arith
+    some_line (s ∷ seen) fresh e = omega arith
 
 module _ (i : ℕ) (e mid : Held) where
   pub pass_fewer : (line : MarginLine) → i < length e.edges → slice_get (fresh_at e i) 0 ≡ Some line

@@ -105,6 +105,18 @@ module _ (x : Scope) (own : ℕ) (from to : Rational) (s : Sweep) (e : Held) (ca
       let told : HasTold x own from s.window (Some r) = subst (HasTold x own from s.window) some can.last in
       (told.0 ∙ can.here, told.1, told.2)
 
+  -- once it has come to the start
+  pub begun_told : (now : Sweep) (now_e : Held) (r : Reached) → s.last ≡ None → IsBegun x own s now e now_e r → value s.start ≤ʳ value r.at
+      → (value r.at ≡ value now.place.at) × (value r.at ≈ from) × IsThere (best_of x s.window) (x.reach + own) (value r.at) r.value
+  begun_told now now_e r none b reached =
+      let told : HasTold x own from s.window None = subst (HasTold x own from s.window) none can.last in
+      let there : start x.trace ≤ʳ value now.place.at =
+          le_trans (ge_of_same start_is) (subst (λ (z : Rational). value s.start ≤ʳ z) b.here reached) in (
+        b.here,
+        subst (λ (z : Rational). z ≈ from) (sym b.here) (same_trans (same_of_le b.by there) (same_sym told.0)),
+        b.there there,
+      )
+
   -- where it tells from
   pub swept_first : (now : Sweep) (now_e : Held) (r : Reached) (built : List (Knot Margin)) → Goes s now → HasCome x now now_e
       → (value r.at ≡ value now.place.at) × (value r.at ≈ from) × IsThere (best_of x s.window) (x.reach + own) (value r.at) r.value

@@ -63,12 +63,12 @@ pub(crate) struct Sweep {
     pub(crate) window: Window,
     start: Frac,
     /// The value of no times.
-    none: Margin,
-    place: Place,
+    pub(crate) none: Margin,
+    pub(crate) place: Place,
     /// The constants of the knots strictly between the ends.
     among: Queue<Margin>,
     /// The margin at the time up to which it was told.
-    last: Option<Reached>,
+    pub(crate) last: Option<Reached>,
 }
 
 /// The gap that comes next at the back end of what was read, which is read; nothing where there is none.
