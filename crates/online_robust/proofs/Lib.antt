@@ -55,3 +55,4 @@ pub mod WindowRuns
 pub mod WindowAgain
 pub mod PastLemmas
 pub mod PastSteps
+pub mod PastAgain

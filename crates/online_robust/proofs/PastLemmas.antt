@@ -28,7 +28,7 @@ use Rattle.online_robust.specs.Reading.{IsThere, LosesAt}
 use Rattle.online_robust.specs.Sweeping.{AreBy, AreFrozen, EndsAt, IsBefore, IsFrozen, IsNoKnot, IsOn, IsUpTo, Mark, Runs, last_gap}
 use Rattle.online_robust.specs.Told.{AreFit, AreJoined, AreTold, IsMovedBy, IsTick}
 use Rattle.online_robust.specs.WindowPasts.{AreKept, IsFitPast, IsFollowed, IsPastAt, IsSettled, IsUnder, StaysPast}
-use Rattle.online_robust.specs.Windows.{IsCore, IsStanding, IsToCome, IsUnfixed, IsUnfixedUnder, Scope, Sheds, at_time, before_start, gap_of, input_of, no_gap}
+use Rattle.online_robust.specs.Windows.{IsCore, IsStanding, IsTickEnd, IsToCome, IsUnfixed, IsUnfixedUnder, Scope, Sheds, at_time, before_start, gap_of, input_of, no_gap}
 use Rattle.online_robust.specs.declared.ends.Gap.{Gap}
 use Rattle.online_robust.specs.declared.line.MarginLine.{MarginLine}
 use Rattle.online_robust.specs.declared.line.MarginLine.TheVariants as L
@@ -65,6 +65,7 @@ module _ (x : Scope) (p : Past) (e : Held) (at : IsPastAt x p e) where
     pub ends : EndsAt p.gap.until (value u)
     pub here : value u ≈ h
     pub there : IsThere (input_of x p.window.side) x.reach (value u) v
+    pub told_here : Robustness x.formula x.trace (value u) (value_at (margin_function v) (value u))
     pub tick : IsTick (value u)
     pub from_start : start x.trace ≤ʳ value u
     pub by_front : value u ≤ʳ x.front
@@ -93,6 +94,7 @@ module _ (x : Scope) (p : Past) (e : Held) (at : IsPastAt x p e) where
               bounded = fit'.0.1;
               moved = fit'.0.2;
             };
+            told_here = told'.0;
             tick = fit'.0.0;
             from_start = from_start;
             by_front = by_front;
@@ -154,6 +156,16 @@ module _ (x : Scope) (p : Past) (e : Held) (at : IsPastAt x p e) where
 
   pub gap_moved : IsMovedBy x.reach p.gap.shape
   gap_moved = high_from.1.moved
+
+  -- its end is a time of 32 bits
+  pub high_tick : IsTickEnd p.gap.until
+  high_tick = by_until p.gap.until at.lines at.to_come
+    where
+      by_until : (o : Option Frac) (lines : List MarginLine) → IsToCome x o lines → IsTickEnd o
+      by_until None lines h = tt
+      by_until (Some u) lines (q, v, rest, is, same, from, told, fit, joined) =
+          let fit' : AreFit x.reach (L.Point q v ∷ rest) = subst (AreFit x.reach) is fit in
+          (le_trans fit'.0.0.0 (ge_of_same same), le_trans (le_of_same same) fit'.0.0.1)
 
   -- no knot comes as early as the low end
   pub counts : (c : Comes) → shifted (start x.trace) p.window.low <ʳ value c.u
@@ -236,23 +248,27 @@ module _ (x : Scope) (p : Past) (e : Held) (at : IsPastAt x p e) where
     pub here_is : (value r.at ≈ h) × EndsAt p.gap.until h
     here_is = subst (IsUnder h p.gap) some at.under
 
-    pub c : Comes
-    c = comes here_is.1
+    pub met : Comes
+    met = comes here_is.1
 
-    first_is : (rest fresh : List MarginLine) → IsFollowed r (L.Point c.u c.v ∷ rest) fresh → L.Point c.u c.v ≡ L.Point r.at r.value
-    first_is rest fresh (inl (nil, is)) = let f : Some (L.Point c.u c.v) ≡ Some (L.Point r.at r.value) = ap (λ (z : List MarginLine). slice_get z 0) is in some_is f
+    first_is : (rest fresh : List MarginLine) → IsFollowed r (L.Point met.u met.v ∷ rest) fresh → L.Point met.u met.v ≡ L.Point r.at r.value
+    first_is rest fresh (inl (nil, is)) = let f : Some (L.Point met.u met.v) ≡ Some (L.Point r.at r.value) = ap (λ (z : List MarginLine). slice_get z 0) is in some_is f
     first_is rest fresh (inr (a, b, d, m, more', is', is)) =
-        let f : Some (L.Point c.u c.v) ≡ Some (L.Point r.at r.value) = ap (λ (z : List MarginLine). slice_get z 0) is in some_is f
+        let f : Some (L.Point met.u met.v) ≡ Some (L.Point r.at r.value) = ap (λ (z : List MarginLine). slice_get z 0) is in some_is f
 
-    point_is : L.Point c.u c.v ≡ L.Point r.at r.value
-    point_is = first_is c.rest (edge_at e p.window.of).fresh
-        (subst (λ (z : List MarginLine). IsFollowed r z (edge_at e p.window.of).fresh) c.is followed)
+    point_is : L.Point met.u met.v ≡ L.Point r.at r.value
+    point_is = first_is met.rest (edge_at e p.window.of).fresh
+        (subst (λ (z : List MarginLine). IsFollowed r z (edge_at e p.window.of).fresh) met.is followed)
 
-    pub u_is : c.u ≡ r.at
+    pub u_is : met.u ≡ r.at
     u_is = ap end_of point_is
 
-    pub v_is : c.v ≡ r.value
+    pub v_is : met.v ≡ r.value
     v_is = ap margin_of point_is
+
+    pub before_small : IsBounded (2 ^ 31) (value_at (margin_function p.gap.shape) (value met.u))
+    before_small = high_from.1.bounded (value met.u) (le_of_lt (before_of_end p.gap.until met.ends high_from.2))
+        (up_to_end p.gap.until met.ends (le_refl (value met.u)))
 
     -- the gap behind it was entered
     module _ (more : h <ʳ x.bound) (new : Held) (next : Gap)
@@ -260,20 +276,20 @@ module _ (x : Scope) (p : Past) (e : Held) (at : IsPastAt x p e) where
         (λ y. (next ≡ gap_of y) × (new.edges ≡ with_edge e p.window.of (with_read (edge_at e p.window.of) y)) × (new.start ≡ e.start))) where
       pub record HasEntered : Type 0 where
         pub lines : List MarginLine
-        pub on : IsOn (input_of x p.window.side) x.reach (value c.u) next
-        pub before : IsBefore (value c.u) next.until
+        pub on : IsOn (input_of x p.window.side) x.reach (value met.u) next
+        pub before : IsBefore (value met.u) next.until
         pub come : IsToCome x next.until lines
         pub kept : AreKept next None lines (edge_at new p.window.of)
         pub stands : (next.stands ≡ true) ⊎ (next ≡ no_gap p.none) ⊎ (next ≡ before_start p.none p.start)
         pub shed : (limit : Rational) → Sheds limit p.window.of e new
 
-      by_follow : (fresh : List MarginLine) → fresh_at e p.window.of ≡ fresh → IsFollowed r (L.Point c.u c.v ∷ c.rest) fresh → HasEntered
+      by_follow : (fresh : List MarginLine) → fresh_at e p.window.of ≡ fresh → IsFollowed r (L.Point met.u met.v ∷ met.rest) fresh → HasEntered
       by_follow fresh is (inl (nil, all)) =
-          let rest_nil : c.rest ≡ [] = ap (λ (z : List MarginLine). drop 1 z) all in
+          let rest_nil : met.rest ≡ [] = ap (λ (z : List MarginLine). drop 1 z) all in
           let none : slice_get (fresh_at e p.window.of) 0 ≡ None = ap (λ (z : List MarginLine). slice_get z 0) (is ∙ nil) in
           let (gap, same) = subst (λ o. MatchOption o ((next ≡ no_gap p.none) × (new ≡ e))
-              (λ y. (next ≡ gap_of y) × (new.edges ≡ with_edge e p.window.of (with_read (edge_at e p.window.of) y)) × (new.start ≡ e.start))) none entered in
-          let (on, before, come) = nothing_behind c rest_nil more next gap in
+          (λ y. (next ≡ gap_of y) × (new.edges ≡ with_edge e p.window.of (with_read (edge_at e p.window.of) y)) × (new.start ≡ e.start))) none entered in
+          let (on, before, come) = nothing_behind met rest_nil more next gap in
           record {
             lines = [];
             on = on;
@@ -288,20 +304,20 @@ module _ (x : Scope) (p : Past) (e : Held) (at : IsPastAt x p e) where
             shed = λ limit. subst (Sheds limit p.window.of e) (sym same) (no_sheds limit p.window.of e);
           }
       by_follow fresh is (inr (a, b, d, m, tail, fresh_is, all)) =
-          let rest_is : c.rest ≡ L.Gap d b m ∷ tail = ap (λ (z : List MarginLine). drop 1 z) all in
-          by_tail tail (is ∙ fresh_is) rest_is (subst (AreJoined (value c.u) x.front) rest_is c.joined)
+          let rest_is : met.rest ≡ L.Gap d b m ∷ tail = ap (λ (z : List MarginLine). drop 1 z) all in
+          by_tail tail (is ∙ fresh_is) rest_is (subst (AreJoined (value met.u) x.front) rest_is met.joined)
         where
-          by_tail : (tail : List MarginLine) → fresh_at e p.window.of ≡ L.Gap a b m ∷ tail → c.rest ≡ L.Gap d b m ∷ tail
-              → AreJoined (value c.u) x.front (L.Gap d b m ∷ tail) → HasEntered
+          by_tail : (tail : List MarginLine) → fresh_at e p.window.of ≡ L.Gap a b m ∷ tail → met.rest ≡ L.Gap d b m ∷ tail
+              → AreJoined (value met.u) x.front (L.Gap d b m ∷ tail) → HasEntered
           by_tail [] f_is rest_is joined = absurd joined
           by_tail (L.Gap u w n ∷ tail) f_is rest_is joined = absurd joined
           by_tail (L.Point w v ∷ tail) f_is rest_is joined =
               let some' : slice_get (fresh_at e p.window.of) 0 ≡ Some (L.Gap a b m) = ap (λ (z : List MarginLine). slice_get z 0) f_is in
               let (gap, read, start_new) = subst (λ o. MatchOption o ((next ≡ no_gap p.none) × (new ≡ e))
-                  (λ y. (next ≡ gap_of y) × (new.edges ≡ with_edge e p.window.of (with_read (edge_at e p.window.of) y)) × (new.start ≡ e.start))) some' entered in
-              let (on, before, come) = gap_behind c d b m w v tail rest_is next gap in
+              (λ y. (next ≡ gap_of y) × (new.edges ≡ with_edge e p.window.of (with_read (edge_at e p.window.of) y)) × (new.start ≡ e.start))) some' entered in
+              let (on, before, come) = gap_behind met d b m w v tail rest_is next gap in
               let new_edge : edge_at new p.window.of ≡ with_read (edge_at e p.window.of) (L.Gap a b m) =
-                  read_edge p.window.of e new (L.Gap a b m) at.within read in
+              read_edge p.window.of e new (L.Gap a b m) at.within read in
               record {
                 lines = L.Point w v ∷ tail;
                 on = on;
@@ -333,7 +349,10 @@ module _ (x : Scope) (p : Past) (e : Held) (at : IsPastAt x p e) where
 
       pub has_entered : HasEntered
       has_entered = by_follow (fresh_at e p.window.of) refl
-          (subst (λ (z : List MarginLine). IsFollowed r z (edge_at e p.window.of).fresh) c.is followed)
+          (subst (λ (z : List MarginLine). IsFollowed r z (edge_at e p.window.of).fresh) met.is followed)
+
+      pub after_small : (en : HasEntered) → IsBounded (2 ^ 31) (value_at (margin_function next.shape) (value met.u))
+      after_small en = en.on.bounded (value met.u) (le_refl (value met.u)) (up_to_before (value met.u) next.until en.before)
 
       -- the window stands as before, over the gap behind the point
       pub past_on : (en : HasEntered) (best : Option Margin)
@@ -359,22 +378,22 @@ module _ (x : Scope) (p : Past) (e : Held) (at : IsPastAt x p e) where
       }
 
       -- what is refused of the mark
-      pub unfixed_past : (en : HasEntered) → (IsOneLine p.gap.shape c.v next.shape (value c.u) → ⊥) → (fault : OpFault Margin)
-          → IsUnfixed p.gap.shape c.v next.shape c.u fault → IsUnfixedUnder (at_time x (value p.at) (value p.at)) p.window p.gap fault
+      pub unfixed_past : (en : HasEntered) → (IsOneLine p.gap.shape met.v next.shape (value met.u) → ⊥) → (fault : OpFault Margin)
+          → IsUnfixed p.gap.shape met.v next.shape met.u fault → IsUnfixedUnder (at_time x (value p.at) (value p.at)) p.window p.gap fault
       unfixed_past en knot F.Memory unfixed = tt
       unfixed_past en knot (F.Wide pair) unfixed = record {
-        k = record { at = c.u; point = c.v; after = next };
-        here = c.here;
-        counts = counts c;
+        k = record { at = met.u; point = met.v; after = next };
+        here = met.here;
+        counts = counts met;
         knot = knot;
         from = high_from.0;
-        rises = before_of_end p.gap.until c.ends high_from.2;
+        rises = before_of_end p.gap.until met.ends high_from.2;
         before = high_from.1;
-        ends = c.ends;
-        point = c.there.told;
+        ends = met.ends;
+        point = met.there.told;
         after = en.on;
         goes_on = en.before;
-        by_front = c.by_front;
+        by_front = met.by_front;
         unfixed = unfixed;
       }
 
@@ -402,7 +421,7 @@ module _ (x : Scope) (p : Past) (e : Held) (at : IsPastAt x p e) where
         let gap_end : value c ≈ h = subst (λ o. EndsAt o h) until ends in
         let first : slice_get (held_at e i) 0 ≡ Some (L.Gap a c p.gap.shape) = ap (λ (z : List MarginLine). slice_get (z ++ fresh_at e i) 0) seen in
         let mid_is : edge_at mid i ≡ without 1 (edge_at e i) =
-            ap (λ (es : List Edge). get_or es i no_edge) taken ∙ get_or-set_same e.edges i (without 1 (edge_at e i)) no_edge at.within in
+        ap (λ (es : List Edge). get_or es i no_edge) taken ∙ get_or-set_same e.edges i (without 1 (edge_at e i)) no_edge at.within in
         let count = ap (λ (es : List Edge). length es) taken ∙ length-set e.edges i (without 1 (edge_at e i)) in
         let within = at.within in
         record {

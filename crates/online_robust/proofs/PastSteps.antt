@@ -8,7 +8,7 @@ use Rattle.rational.specs.Time.{Rational, less, shifted, ◌≈◌, ◌≤ʳ◌,
 use Rattle.rational.specs.Extended.{minus_infinity, infinity, value_at, ◌≈ᵉ◌}
 use Rattle.rational.specs.Affine.{IsBounded}
 use Rattle.rational.proofs.AffineLemmas.{value_same}
-use Rattle.rational.proofs.Order.{ge_of_same, le_of_lt, le_of_same, le_refl, le_trans, lt_irrefl, lt_of_le_of_lt, lt_of_lt_of_le, not_lt_of_le, same_refl, same_sym, same_trans}
+use Rattle.rational.proofs.Order.{ge_of_same, le_of_lt, le_of_same, le_refl, le_trans, lt_irrefl, lt_of_le_of_lt, lt_of_lt_of_le, not_lt_of_le, same_of_le, same_refl, same_sym, same_trans}
 use Rattle.rational.proofs.Sames.{symᵉ, transᵉ}
 use Rattle.rational.proofs.TimeLemmas.{less_in, less_no, shifted-add}
 use Rattle.frac128.specs.Value.{value}
@@ -36,7 +36,7 @@ use Rattle.online_robust.specs.declared.line.Reached.{Reached}
 use Rattle.online_robust.specs.declared.past.Past.{Past}
 use Rattle.online_robust.specs.declared.window.Window.{Window}
 use Rattle.online_robust.proofs.Builts.{built_first, tick_within}
-use Rattle.online_robust.proofs.PastLemmas.{c, comes, gap_moved, u_is, v_is}
+use Rattle.online_robust.proofs.PastLemmas.{met, v_is}
 use Rattle.online_robust.proofs.Sheddings.{sheds_both, sheds_later}
 use Rattle.online_robust.proofs.TwoLemmas.{there_same}
 use Rattle.online_robust.proofs.Spreads.{input_is_function}
@@ -77,9 +77,14 @@ low_early t s k is up down = lt_of_lt_of_le (lt_of_le_of_lt (le_shifted k up) (s
 pub kept_there : (x : Scope) (p : Past) (e : Held) (at : IsPastAt x p e) (r : Reached) → p.point ≡ Some r
     → IsThere (input_of x p.window.side) x.reach (shifted (value p.at) p.window.high) r.value
 kept_there x p e at r some =
-    let k = c x p e at r some in
+    let k = met x p e at r some in
     subst (λ (m : Margin). IsThere (input_of x p.window.side) x.reach (shifted (value p.at) p.window.high) m) (v_is x p e at r some)
     (there_same (input_of x p.window.side) x.reach (value k.u) (shifted (value p.at) p.window.high) k.v (input_is_function x p.window.side) k.here k.there)
+
+-- a time before the end of a gap is not its end
+pub apart_of_before : (o : Option Frac) (h : Rational) → IsBefore h o → EndsAt o h → ⊥
+apart_of_before None h before same = same
+apart_of_before (Some u) h before same = lt_irrefl (lt_of_lt_of_le before (le_of_same same))
 
 -- the constant that counts
 pub top_of : (side : Side) (none top : Margin) (best : Option Margin) (cs : List Margin) → IsBestOf margin_function side cs best
@@ -204,7 +209,7 @@ module _ (x : Scope) (p : Past) (e : Held) (at : IsPastAt x p e) (to : Rational)
       by_one : (t ≡ to) ⊎ IsSomeAnd leave (λ u. t ≡ value u) → lines_left y + (if less t to then 1 else 0) < lines_left (edge_at e p.window.of) + 1
       by_one (inl same) =
           let last : ◌≡◌ {A = ℕ} (if less t to then 1 else 0) 0 =
-              ap (λ (b : Bool). if b then 1 else 0) (less_no t to (subst (λ (z : Rational). z ≤ʳ t) same (le_refl t))) in
+          ap (λ (b : Bool). if b then 1 else 0) (less_no t to (subst (λ (z : Rational). z ≤ʳ t) same (le_refl t))) in
           omega (arith, last, no_more)
       by_one (inr h) =
           let less' = fewer (ends p.gap.until p.window.high leave t leaves h) in
@@ -222,6 +227,50 @@ stays_on p q r k g = record {
 
 pub stays_none : (p : Past) → StaysPast p p
 stays_none p = record { window = refl; start = refl; none = refl; last = refl }
+
+-- where the high end has gone on it stands within its gap
+pub passing_on : (x : Scope) (p q : Past) (to : Rational) → IsPassing x p to → StaysPast p q → q.at ≡ p.at → q.point ≡ None
+    → IsBefore (shifted (value q.at) q.window.high) q.gap.until → IsPassing x q to
+passing_on x p q to g stays same none before = record {
+  before = subst (λ (f : Frac). value f <ʳ to) (sym same) g.before;
+  tick = g.tick;
+  more = subst (λ (f : Frac). shifted (value f) q.window.high <ʳ x.bound) (sym same)
+      (subst (λ (w : Window). shifted (value p.at) w.high <ʳ x.bound) (sym stays.window) g.more);
+  settled = subst (λ (o : Option Reached). MatchOption o (IsBefore (shifted (value q.at) q.window.high) q.gap.until) (λ r. Unit {0})) (sym none) before;
+}
+
+-- what is kept of what was told changes nothing of it
+pub with_last : (x : Scope) (p : Past) (e : Held) → IsPastAt x p e → (o : Option Reached) → IsPastAt x (record p { last = o }) e
+with_last x p e at o = record {
+  within = at.within;
+  fit = at.fit;
+  tick = at.tick;
+  begins = at.begins;
+  domain = at.domain;
+  ended = at.ended;
+  near = at.near;
+  still = at.still;
+  low_early = at.low_early;
+  core = at.core;
+  best = at.best;
+  lines = at.lines;
+  to_come = at.to_come;
+  kept = at.kept;
+  under = at.under;
+  stands = at.stands;
+}
+
+-- a step fewer is left
+pub fewer_both : (p : Past) (x y : Edge) (to : Rational) (n : ℕ) → value p.at <ʳ to → lines_left y ≤ lines_left x → n < lines_left y + 1 → n < past_steps p x to
+fewer_both p x y to n before no_more step =
+    let one : ◌≡◌ {A = ℕ} (if less (value p.at) to then 1 else 0) 1 = ap (λ (b : Bool). if b then 1 else 0) (less_in (value p.at) to before) in
+    omega (arith, one, no_more, step)
+
+pub past_falls : (old new : Past) (x y : Held) (to : Rational) → new.window ≡ old.window
+    → past_steps new (edge_at y old.window.of) to < past_steps old (edge_at x old.window.of) to
+    → past_steps new (edge_at y new.window.of) to < past_steps old (edge_at x old.window.of) to
+past_falls old new x y to same less' =
+    subst (λ (w : Window). past_steps new (edge_at y w.of) to < past_steps old (edge_at x old.window.of) to) (sym same) less'
 
 -- ---- a stretch
 
@@ -251,7 +300,7 @@ module _ (x : Scope) (own : ℕ) (from to : Rational) (s : Past) (e : Held) (can
   pub begun_first : (r : Reached) → s.last ≡ None → value r.at ≡ value s.at → IsBegun x own s s e e r
   begun_first r none here =
       let told : HasTold (at_time x (value s.at) (value s.at)) own from s.window None =
-          subst (HasTold (at_time x (value s.at) (value s.at)) own from s.window) none can.last in
+      subst (HasTold (at_time x (value s.at) (value s.at)) own from s.window) none can.last in
       record {
         came = (can.at, can.settled);
         here = here;
@@ -264,8 +313,21 @@ module _ (x : Scope) (own : ℕ) (from to : Rational) (s : Past) (e : Held) (can
   pub stood : (r : Reached) → s.last ≡ Some r → (value r.at ≡ value s.at) × (value r.at ≈ from) × IsThere (best_of x s.window) (x.reach + own) (value r.at) r.value
   stood r some =
       let told : HasTold (at_time x (value s.at) (value s.at)) own from s.window (Some r) =
-          subst (HasTold (at_time x (value s.at) (value s.at)) own from s.window) some can.last in
+      subst (HasTold (at_time x (value s.at) (value s.at)) own from s.window) some can.last in
       (told.0, told.1, told.2)
+
+  -- once it has come to the start
+  pub begun_told : (now : Past) (now_e : Held) (r : Reached) → s.last ≡ None → IsBegun x own s now e now_e r → value s.start ≤ʳ value r.at
+      → (value r.at ≡ value now.at) × (value r.at ≈ from) × IsThere (best_of x s.window) (x.reach + own) (value r.at) r.value
+  begun_told now now_e r none b reached =
+      let told : HasTold (at_time x (value s.at) (value s.at)) own from s.window None =
+      subst (HasTold (at_time x (value s.at) (value s.at)) own from s.window) none can.last in
+      let there : start x.trace ≤ʳ value now.at =
+      le_trans (ge_of_same can.at.begins) (subst (λ (z : Rational). value s.start ≤ʳ z) b.here reached) in (
+        b.here,
+        subst (λ (z : Rational). z ≈ from) (sym b.here) (same_trans (same_of_le b.by there) (same_sym told.0)),
+        b.there there,
+      )
 
   -- where it tells from
   pub swept_first : (now : Past) (now_e : Held) (r : Reached) (built : List (Knot Margin)) → HasPassed x now now_e

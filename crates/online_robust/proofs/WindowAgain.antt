@@ -52,7 +52,7 @@ behind_gap a b m from to (L.Gap c d n ∷ lines) joined = absurd joined
 behind_gap a b m from to (L.Point u v ∷ lines) joined = (u, v, lines, refl, joined.1, joined.2)
 
 -- behind what was read comes the point at the end of the last gap
-next_of : (none : Margin) (low : Gap) (marks : List Mark) (seen fresh : List MarginLine) (from to : Rational) → low.stands ≡ true → AreSeen low marks seen
+pub next_of : (none : Margin) (low : Gap) (marks : List Mark) (seen fresh : List MarginLine) (from to : Rational) → low.stands ≡ true → AreSeen low marks seen
     → AreStanding none marks → IsSome (last_gap low marks).until → AreJoined from to (seen ++ fresh) → IsNext (last_gap low marks).until fresh to
 next_of none low [] seen fresh from to stands is standing some joined = by_stands low.stands stands is
   where
@@ -73,15 +73,15 @@ next_of none low (k ∷ marks) seen fresh from to stands (rest, is, more) ((inl 
 next_of none low (k ∷ marks) seen fresh from to stands (rest, is, more) ((inr (e, nil)), standing) some joined =
     absurd (subst (λ (g : Gap). IsSome g.until) e (subst (λ (l : List Mark). IsSome (last_gap k.after l).until) nil some))
 
-told_tail : (P : Function) (xs ys : List MarginLine) → AreTold P (xs ++ ys) → AreTold P ys
+pub told_tail : (P : Function) (xs ys : List MarginLine) → AreTold P (xs ++ ys) → AreTold P ys
 told_tail P [] ys h = h
 told_tail P (x ∷ xs) ys h = told_tail P xs ys h.1
 
-fit_tail : (reach : ℕ) (xs ys : List MarginLine) → AreFit reach (xs ++ ys) → AreFit reach ys
+pub fit_tail : (reach : ℕ) (xs ys : List MarginLine) → AreFit reach (xs ++ ys) → AreFit reach ys
 fit_tail reach [] ys h = h
 fit_tail reach (x ∷ xs) ys h = fit_tail reach xs ys h.1
 
-some_or_none : (o : Option Frac) → (o ≡ None) ⊎ IsSome o
+pub some_or_none : (o : Option Frac) → (o ≡ None) ⊎ IsSome o
 some_or_none None = inl refl
 some_or_none (Some u) = inr tt
 
@@ -93,7 +93,7 @@ some_is : {X : Type 0} {a b : X} → Some a ≡ Some b → a ≡ b
 some_is h = cc
 
 -- the first of the lines that were read is the low gap, if it stands on the edge
-front_gap : (low : Gap) (marks : List Mark) (seen : List MarginLine) → low.stands ≡ true → AreSeen low marks seen
+pub front_gap : (low : Gap) (marks : List Mark) (seen : List MarginLine) → low.stands ≡ true → AreSeen low marks seen
     → (a c : Frac) × (rest : List MarginLine) × (low.until ≡ Some c) × (seen ≡ L.Gap a c low.shape ∷ rest)
 front_gap low [] seen stands is = by_stands low.stands stands is
   where
@@ -110,7 +110,7 @@ front_gap low (k ∷ marks) seen stands (rest, is, more) = by_stands low.stands 
     by_stands false e h = absurd (let z : false ≡ true = e in cc)
 
 -- else it is the first mark's point
-no_front : (low : Gap) (seen rest : List MarginLine) → low.stands ≡ false → IsStanding low seen rest → seen ≡ rest
+pub no_front : (low : Gap) (seen rest : List MarginLine) → low.stands ≡ false → IsStanding low seen rest → seen ≡ rest
 no_front low seen rest stands is = by_stands low.stands stands is
   where
     by_stands : (b : Bool) → b ≡ false → MatchBool b ((a c : Frac) × (low.until ≡ Some c) × (seen ≡ L.Gap a c low.shape ∷ rest)) (seen ≡ rest) → seen ≡ rest
@@ -161,7 +161,7 @@ module _ (f : Subformula) (tr : Trace) (reach own : ℕ) (g : ℤ) (s : Sweep) (
   by_start : s.place.low ≡ before_start s.none s.start → IsNext (last_gap s.place.low marks).until fresh (whole front)
   by_start is_low =
       let before : shifted (value s.place.at) s.window.low <ʳ value s.start =
-          subst (λ (l : Gap). IsBefore (shifted (value s.place.at) s.window.low) l.until) is_low st.low_before in
+      subst (λ (l : Gap). IsBefore (shifted (value s.place.at) s.window.low) l.until) is_low st.low_before in
       let none = back_before (first_time tr.rows) g s.window.low (shifted (value s.place.at) s.window.low) low_is
       (lt_of_lt_of_le before (le_of_same st.spread.begins)) in
       by_marks marks refl st.spread.seen_is st.spread.standing some_last
@@ -184,7 +184,7 @@ module _ (f : Subformula) (tr : Trace) (reach own : ℕ) (g : ℤ) (s : Sweep) (
           )
       by_marks (k ∷ ms) e' (rest', is, more) ((inl stands'), standing) some' (at, v, rest, all, when, joined) =
           let one : L.Point k.at k.point ∷ (rest' ++ fresh) ≡ L.Point at v ∷ rest =
-              sym (ap (λ (l : List MarginLine). l ++ fresh) (no_front s.place.low seen (L.Point k.at k.point ∷ rest') stands is)) ∙ all in
+          sym (ap (λ (l : List MarginLine). l ++ fresh) (no_front s.place.low seen (L.Point k.at k.point ∷ rest') stands is)) ∙ all in
           let tail : rest' ++ fresh ≡ rest = ap (λ (l : List MarginLine). drop 1 l) one in
           next_of s.none k.after ms rest' fresh (value at) (whole front) stands' more standing some'
           (subst (λ (l : List MarginLine). AreJoined (value at) (whole front) l) (sym tail) joined)
@@ -431,7 +431,7 @@ cut_window x first to back front s e' e starts came at F reach inputs early shed
     none_gone lt (p, v, rest, is, when, joined) (suc k) n =
         let h = shed.ended 0 (omega (arith, n)) in
         let h' : value p ≤ʳ shifted (whole to) s.window.low =
-            subst (λ (l : List MarginLine). IfSome (slice_get l 0) (λ y. value (end_of y) ≤ʳ shifted (whole to) s.window.low)) is h in
+        subst (λ (l : List MarginLine). IfSome (slice_get l 0) (λ y. value (end_of y) ≤ʳ shifted (whole to) s.window.low)) is h in
         absurd (not_lt_of_le (le_trans (ge_of_same when) (le_trans h' (le_of_same limit))) (lt_whole lt))
 
     -- the first line that is left ends later
@@ -448,11 +448,11 @@ cut_window x first to back front s e' e starts came at F reach inputs early shed
         by_low (inl stands) =
             let (a, c, more, until, is) = front_gap s.place.low came.at.spread.marks (edge_at e s.window.of).seen stands came.at.spread.seen_is in
             let before : shifted (value s.place.at) s.window.low <ʳ value c =
-                subst (λ (o : Option Frac). IsBefore (shifted (value s.place.at) s.window.low) o) until came.low_before in
+            subst (λ (o : Option Frac). IsBefore (shifted (value s.place.at) s.window.low) o) until came.low_before in
             by_gap (edge_at e s.window.of).seen (edge_at e s.window.of).fresh a c s.place.low.shape more is (lt_of_le_of_lt (ge_of_same at_limit) before)
         by_low (inr (inr is)) =
             let before : shifted (value s.place.at) s.window.low <ʳ value s.start =
-                subst (λ (g : Gap). IsBefore (shifted (value s.place.at) s.window.low) g.until) is came.low_before in
+            subst (λ (g : Gap). IsBefore (shifted (value s.place.at) s.window.low) g.until) is came.low_before in
             absurd (not_lt_of_le (le_whole le) (lt_of_le_of_lt (ge_of_same at_limit)
             (lt_of_lt_of_le before (le_trans (le_of_same came.at.spread.begins) (le_of_same starts)))))
         by_low (inr (inl is)) = by_marks came.at.spread.marks came.at.spread.runs came.at.spread.seen_is came.at.spread.last
@@ -467,7 +467,7 @@ cut_window x first to back front s e' e starts came at F reach inputs early shed
                 let fresh_nil = (subst (λ (o : Option Frac). IsToCome (at_time x (value s.place.at) (value s.place.at)) o (fresh_at e s.window.of)) none
                 came.at.spread.to_come).0 in
                 let held_nil : held_at e s.window.of ≡ [] =
-                    ap (λ (l : List MarginLine). l ++ fresh_at e s.window.of) seen_nil ∙ fresh_nil in
+                ap (λ (l : List MarginLine). l ++ fresh_at e s.window.of) seen_nil ∙ fresh_nil in
                 subst (λ (l : List MarginLine). IfSome (slice_get l 0) (λ y. whole (to +ℤ s.window.low) <ʳ value (end_of y))) (sym held_nil) tt
 
     by_test : (b : Bool) → int_lt (to +ℤ s.window.low) (pos first) ≡ b

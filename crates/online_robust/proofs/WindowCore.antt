@@ -205,8 +205,8 @@ module _ (x : Scope) (w : Window) (none : Margin) (low high : Gap) (a : Rational
           let (low_shape, is_low, low_shifted) = some_and (IsShifted low'.shape w.low) best.low lows in
           let (high_shape, is_high, high_shifted) = some_and (IsShifted high.shape w.high) best.high highs in
           let outcome' : IsOutcome w.side best.top (Some low_shape) (Some high_shape) at_high at_low t m =
-              subst (λ (h : Option Margin). IsOutcome w.side best.top (Some low_shape) h at_high at_low t m) is_high
-              (subst (λ (l : Option Margin). IsOutcome w.side best.top l best.high at_high at_low t m) is_low outcome) in
+          subst (λ (h : Option Margin). IsOutcome w.side best.top (Some low_shape) h at_high at_low t m) is_high
+          (subst (λ (l : Option Margin). IsOutcome w.side best.top l best.high at_high at_low t m) is_low outcome) in
           outcome_is x w none low' high (shifted t w.low) (shifted a w.high) s' t inside best.top
           (top_is x w none low' high (shifted t w.low) (shifted a w.high) s' best.top top) low_shape high_shape at_high at_low m low_shifted high_shifted
           outcome' (high_seen at_high high_is) (low_seen low' stays at_low low_is)
@@ -247,13 +247,13 @@ module _ (x : Scope) (w : Window) (none : Margin) (low high : Gap) (a : Rational
               )
           by_one (inr (inr (inr (inl f)))) =
               let (inside, ends, (v, there', moved)) =
-                  subst (λ (k : Option Margin). IsPointOf (input_of x w.side) x.reach w.high_in w.high high t k) f high_is in (
+              subst (λ (k : Option Margin). IsPointOf (input_of x w.side) x.reach w.high_in w.high high t k) f high_is in (
                 shifted_bounded v w.high m t moved there'.bounded,
                 λ own is. shifted_moved x.reach own v w.high m moved there'.moved is.high_from is.high_to,
               )
           by_one (inr (inr (inr (inr f)))) =
               let (inside, ends, (v, there', moved)) =
-                  subst (λ (k : Option Margin). IsPointOf (input_of x w.side) x.reach w.low_in w.low low t k) f low_is in (
+              subst (λ (k : Option Margin). IsPointOf (input_of x w.side) x.reach w.low_in w.low low t k) f low_is in (
                 shifted_bounded v w.low m t moved there'.bounded,
                 λ own is. shifted_moved x.reach own v w.low m moved there'.moved is.low_from is.low_to,
               )

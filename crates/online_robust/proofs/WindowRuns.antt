@@ -111,7 +111,7 @@ module _ (x : Scope) (own : ℕ) (from to : Rational) (s : Sweep) (e : Held) (ca
   begun_told now now_e r none b reached =
       let told : HasTold x own from s.window None = subst (HasTold x own from s.window) none can.last in
       let there : start x.trace ≤ʳ value now.place.at =
-          le_trans (ge_of_same start_is) (subst (λ (z : Rational). value s.start ≤ʳ z) b.here reached) in (
+      le_trans (ge_of_same start_is) (subst (λ (z : Rational). value s.start ≤ʳ z) b.here reached) in (
         b.here,
         subst (λ (z : Rational). z ≈ from) (sym b.here) (same_trans (same_of_le b.by there) (same_sym told.0)),
         b.there there,

@@ -97,3 +97,17 @@ pub record CanPass (x : Scope) (own : ℕ) (from to : Rational) (p : Past) (e : 
 -- the window has come to a time
 abbrev pub HasPassed : Scope → Past → Held → Type 0
 HasPassed x p e = IsPastAt x p e × IsSettled p
+
+-- a window was told up to g, where its value is kept: it stands over its input as that was told up to some time then, with what it has read of
+-- it, and goes on unless g is the end
+pub record StoodPast (f : Subformula) (tr : Trace) (reach own : ℕ) (g : Rational) (p : Past) (seen : List MarginLine) : Type 0 where
+  pub at : value p.at ≈ g
+  pub front : Rational
+  pub bound : Rational
+  pub old : Held
+  pub was : IsPastAt (scope_at f tr reach front bound (value p.at)) p old
+  pub settled : IsSettled p
+  pub seen_is : (edge_at old p.window.of).seen ≡ seen
+  pub goes_on : (g ≈ stop tr) ⊎ IsSome p.gap.until
+  pub last : IsSomeAnd p.last (λ r. (value r.at ≡ value p.at)
+      × IsThere (best_of (scope_at f tr reach front bound (value p.at)) p.window) (reach + own) (value r.at) r.value)

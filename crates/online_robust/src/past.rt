@@ -34,9 +34,9 @@ pub(crate) struct Past {
     pub(crate) window: Window,
     start: Frac,
     /// The value of no times.
-    none: Margin,
+    pub(crate) none: Margin,
     /// The time from which the high end is counted.
-    at: Frac,
+    pub(crate) at: Frac,
     /// The gap about the high end.
     gap: Gap,
     /// The point under the high end, where it stands on one.
@@ -44,7 +44,7 @@ pub(crate) struct Past {
     /// The best of the constants of the knots so far.
     best: Option<Margin>,
     /// The margin at the time up to which it was told.
-    last: Option<Reached>,
+    pub(crate) last: Option<Reached>,
 }
 
 impl Past {
@@ -83,7 +83,7 @@ impl Past {
             → OnOk result (IsPastAt x self.new edges.new × (self.new.point ≡ None)
             × IsBefore (shifted (value self.new.at) self.new.window.high) self.new.gap.until) }
         ensures kept { OnOk result (StaysPast self.old self.new × (self.new.at ≡ self.old.at)) }
-        ensures shed { (x : Scope) → IsPastAt x self.old edges.old → OnOk result ((limit : Rational) → Sheds limit self.old.window.of edges.old edges.new) }
+        ensures shed { OnOk result ((limit : Rational) → Sheds limit self.old.window.of edges.old edges.new) }
         ensures no_more { OnOk result (lines_left (edge_at edges.new self.old.window.of) ≤ lines_left (edge_at edges.old self.old.window.of)) }
         ensures wide { (x : Scope) → IsPastAt x self.old edges.old → self.old.point ≡ Some point.now → shifted (value self.old.at) self.old.window.high <ʳ x.bound
             → IfErr result (IsUnfixedUnder (at_time x (value self.old.at) (value self.old.at)) self.old.window self.old.gap) }
@@ -95,7 +95,13 @@ impl Past {
         if is_one(&before, &point.value, &next.shape, &point.at) {
             return Ok(());
         }
-        let constant = frozen(self.window.side, &before, &point.value, &next.shape, &point.at)?;
+        let constant = frozen(
+            self.window.side,
+            &before,
+            &point.value,
+            &next.shape,
+            &point.at,
+        )?;
         self.best = Some(better_of(self.window.side, constant, self.best));
         Ok(())
     }
@@ -107,7 +113,7 @@ impl Past {
             → OnOk result (IsPastAt x self.new edges.new × (self.new.point ≡ None)
             × IsBefore (shifted (value self.new.at) self.new.window.high) self.new.gap.until) }
         ensures kept { OnOk result (StaysPast self.old self.new × (self.new.at ≡ self.old.at)) }
-        ensures shed { (x : Scope) → IsPastAt x self.old edges.old → OnOk result ((limit : Rational) → Sheds limit self.old.window.of edges.old edges.new) }
+        ensures shed { OnOk result ((limit : Rational) → Sheds limit self.old.window.of edges.old edges.new) }
         ensures no_more { OnOk result (lines_left (edge_at edges.new self.old.window.of) ≤ lines_left (edge_at edges.old self.old.window.of)) }
         ensures wide { (x : Scope) → IsPastAt x self.old edges.old → IsSettled self.old → shifted (value self.old.at) self.old.window.high <ʳ x.bound
             → IfErr result (IsUnfixedUnder (at_time x (value self.old.at) (value self.old.at)) self.old.window self.old.gap) }
@@ -187,7 +193,7 @@ impl Past {
         ensures no_more { lines_left (edge_at edges.new self.old.window.of) ≤ lines_left (edge_at edges.old self.old.window.of) }
     {
         if self.gap.ends_at(self.window.high, &self.at) {
-            self.leave(edges);
+            return self.leave(edges);
         }
     }
 
