@@ -107,9 +107,9 @@ module _ (f : Subformula) (tr : Trace) (reach own : ℕ) (g : ℤ) (p : Past) (e
       by_kind (inr (inl is)) = absurd (subst (λ (y : Gap). IsSome y.until) is some)
       by_kind (inr (inr is)) =
           let before : shifted (value p.at) p.window.high <ʳ value p.start =
-              subst (λ (y : Gap). IsBefore (shifted (value p.at) p.window.high) y.until) is (settled_before p st.settled none) in
+          subst (λ (y : Gap). IsBefore (shifted (value p.at) p.window.high) y.until) is (settled_before p st.settled none) in
           let nothing = back_before (first_time tr.rows) g p.window.high (shifted (value p.at) p.window.high) high_is
-              (lt_of_lt_of_le before (le_of_same st.was.begins)) in
+          (lt_of_lt_of_le before (le_of_same st.was.begins)) in
           let (at, v, rest, all, when, joined) = subst (λ (o : Option ℤ). AreLeft (first_time tr.rows) o front (seen ++ fresh)) nothing inputs.left in
           let nil = no_front p.gap seen [] (ap (λ (y : Gap). y.stands) is) standing in
           subst (λ (y : Gap). IsNext y.until fresh (whole front)) (sym is) (
@@ -250,8 +250,8 @@ module _ (f : Subformula) (tr : Trace) (reach own : ℕ) (g : ℤ) (p : Past) (e
       → IsPastAt now p e
   past_again of_in domain ended =
       let core = core_again f tr reach st.front st.bound (whole front) bound (value p.at) p.window p.none (before_start p.none p.start) p.gap
-          (shifted (value p.at) p.window.low) (shifted (value p.at) p.window.high) (λ (cs : List Margin). IsBestOf margin_function p.window.side cs p.best) st.was.core
-          st.was.best in
+      (shifted (value p.at) p.window.low) (shifted (value p.at) p.window.high) (λ (cs : List Margin). IsBestOf margin_function p.window.side cs p.best) st.was.core
+      st.was.best in
       record {
         within = of_in;
         fit = st.was.fit;
@@ -387,32 +387,35 @@ past_first f tr reach p e front bound begins none_value still gap point best nea
       moved = still_moved reach p.none still;
     }
 
-    first : IsCore x p.window p.none (before_start p.none p.start) (before_start p.none p.start) (shifted (value p.at) p.window.low) (shifted (value p.at) p.window.high)
-    first = record {
-      order = order;
-      none_value = none_value;
-      none_moved = still_moved reach p.none still;
-      from = shifted (value p.at) p.window.low;
-      marks = [];
-      constants = [];
-      begun = le_refl (shifted (value p.at) p.window.low);
-      runs = (on, low_early);
-      by = tt;
-      last = refl;
-      low_later = le_of_lt low_early;
-      high_later = le_of_lt early;
-      frozen = refl;
-    }
+    first : (d : IsCore x p.window p.none (before_start p.none p.start) (before_start p.none p.start) (shifted (value p.at) p.window.low)
+        (shifted (value p.at) p.window.high)) × IsBestOf margin_function p.window.side d.constants None
+    first = (
+      record {
+        order = order;
+        none_value = none_value;
+        none_moved = still_moved reach p.none still;
+        from = shifted (value p.at) p.window.low;
+        marks = [];
+        constants = [];
+        begun = le_refl (shifted (value p.at) p.window.low);
+        runs = (on, low_early);
+        by = tt;
+        last = refl;
+        low_later = le_of_lt low_early;
+        high_later = le_of_lt early;
+        frozen = refl;
+      },
+      refl,
+    )
 
     core : (d : IsCore x p.window p.none (before_start p.none p.start) p.gap (shifted (value p.at) p.window.low) (shifted (value p.at) p.window.high))
         × IsBestOf margin_function p.window.side d.constants p.best
-    unfolding first
     core = subst
         (λ (g : Gap). (d : IsCore x p.window p.none (before_start p.none p.start) g (shifted (value p.at) p.window.low) (shifted (value p.at) p.window.high))
         × IsBestOf margin_function p.window.side d.constants p.best) (sym gap)
         (subst
         (λ (o : Option Margin). (d : IsCore x p.window p.none (before_start p.none p.start) (before_start p.none p.start) (shifted (value p.at) p.window.low)
-        (shifted (value p.at) p.window.high)) × IsBestOf margin_function p.window.side d.constants o) (sym best) (first, refl))
+        (shifted (value p.at) p.window.high)) × IsBestOf margin_function p.window.side d.constants o) (sym best) first)
 
 -- a window that has told its input up to a number is kept for the next turn
 pub stood_past : (x : Scope) (own : ℕ) (from : Rational) (to : ℤ) (old p : Past) (old_e e : Held) → CanPass x own from (whole to) old old_e → HasPassed x p e
@@ -434,24 +437,24 @@ stood_past x own from to old p old_e e can came same last = record {
     again : IsPastAt x p e → IsPastAt (scope_at x.formula x.trace x.reach x.front x.bound (value p.at)) p e
     again at =
         let core : (r : IsCore (scope_at x.formula x.trace x.reach x.front x.bound (value p.at)) p.window p.none (before_start p.none p.start) p.gap
-            (shifted (value p.at) p.window.low) (shifted (value p.at) p.window.high)) × IsBestOf margin_function p.window.side r.constants p.best = (
-              record {
-                order = at.core.order;
-                none_value = at.core.none_value;
-                none_moved = at.core.none_moved;
-                from = at.core.from;
-                marks = at.core.marks;
-                constants = at.core.constants;
-                begun = at.core.begun;
-                runs = at.core.runs;
-                by = at.core.by;
-                last = at.core.last;
-                low_later = at.core.low_later;
-                high_later = at.core.high_later;
-                frozen = at.core.frozen;
-              },
-              at.best,
-            ) in
+        (shifted (value p.at) p.window.low) (shifted (value p.at) p.window.high)) × IsBestOf margin_function p.window.side r.constants p.best = (
+          record {
+            order = at.core.order;
+            none_value = at.core.none_value;
+            none_moved = at.core.none_moved;
+            from = at.core.from;
+            marks = at.core.marks;
+            constants = at.core.constants;
+            begun = at.core.begun;
+            runs = at.core.runs;
+            by = at.core.by;
+            last = at.core.last;
+            low_later = at.core.low_later;
+            high_later = at.core.high_later;
+            frozen = at.core.frozen;
+          },
+          at.best,
+        ) in
         record {
           within = at.within;
           fit = at.fit;
@@ -519,7 +522,7 @@ cut_past x first to back front p e' e starts came at F reach inputs early shed =
     none_gone lt (q, v, rest, is, when, joined) (suc k) n =
         let h = shed.ended 0 (omega (arith, n)) in
         let h' : value q ≤ʳ shifted (whole to) p.window.high =
-            subst (λ (l : List MarginLine). IfSome (slice_get l 0) (λ y. value (end_of y) ≤ʳ shifted (whole to) p.window.high)) is h in
+        subst (λ (l : List MarginLine). IfSome (slice_get l 0) (λ y. value (end_of y) ≤ʳ shifted (whole to) p.window.high)) is h in
         absurd (not_lt_of_le (le_trans (ge_of_same when) (le_trans h' (le_of_same limit))) (lt_whole lt))
 
     IsRest : List MarginLine → Type 0
@@ -535,11 +538,11 @@ cut_past x first to back front p e' e starts came at F reach inputs early shed =
         by_gap standing is before (inl stands) =
             let (a, c, more, until, gap) = front_gap p.gap [] (edge_at e p.window.of).seen stands standing in
             let before' : shifted (value p.at) p.window.high <ʳ value c =
-                subst (λ (o : Option Frac). IsBefore (shifted (value p.at) p.window.high) o) until before in
+            subst (λ (o : Option Frac). IsBefore (shifted (value p.at) p.window.high) o) until before in
             subst (λ (l : List MarginLine). IsRest (l ++ fresh_at e p.window.of)) (sym gap) (lt_of_le_of_lt (ge_of_same at_limit) before')
         by_gap standing is before (inr (inr gap)) =
             let before' : shifted (value p.at) p.window.high <ʳ value p.start =
-                subst (λ (g : Gap). IsBefore (shifted (value p.at) p.window.high) g.until) gap before in
+            subst (λ (g : Gap). IsBefore (shifted (value p.at) p.window.high) g.until) gap before in
             absurd (not_lt_of_le (le_whole le) (lt_of_le_of_lt (ge_of_same at_limit)
             (lt_of_lt_of_le before' (le_trans (le_of_same came.0.begins) (le_of_same starts)))))
         by_gap standing is before (inr (inl gap)) =
@@ -560,7 +563,7 @@ cut_past x first to back front p e' e starts came at F reach inputs early shed =
             by_until None h come = absurd h
             by_until (Some u) h (q, v, rest, is', same, begun, told, fit, joined) =
                 let told' : AreTold (Robustness x.formula x.trace) (L.Point r.at r.value ∷ L.Gap c b m ∷ more) =
-                    subst (AreTold (Robustness x.formula x.trace)) all told in
+                subst (AreTold (Robustness x.formula x.trace)) all told in
                 let one : L.Point q v ∷ rest ≡ L.Point r.at r.value ∷ L.Gap c b m ∷ more = sym is' ∙ all in
                 let rest_is : rest ≡ L.Gap c b m ∷ more = ap (λ (l : List MarginLine). drop 1 l) one in
                 lt_of_le_of_lt (le_trans (ge_of_same at_limit) (le_trans (ge_of_same h) (le_trans (le_of_same same)

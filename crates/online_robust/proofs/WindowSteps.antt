@@ -115,7 +115,7 @@ module _ (x : Scope) (s : Sweep) (e : Held) (at : IsAt x s e) where
 
 module _ (x : Scope) (s : Sweep) (e : Held) (at : IsAt x s e) (to : Rational) (o : IsOpen x s to) (t : Rational) (stop : IsNextStop s to t) where
   -- the window at the time from which both its ends are counted
-  core : IsCore x s.window s.none s.place.low s.place.high (shifted x.at s.window.low) (shifted x.at s.window.high)
+  abbrev core : IsCore x s.window s.none s.place.low s.place.high (shifted x.at s.window.low) (shifted x.at s.window.high)
   core = record {
     order = at.spread.fit.order;
     none_value = at.spread.none_value;
