@@ -398,7 +398,7 @@ module _ (x : Scope) (p : Past) (e : Held) (at : IsPastAt x p e) where
       }
 
   -- the gap about the high end, and the point at its end, are taken
-  module _ (none : p.point ≡ None) (ends : EndsAt p.gap.until h) (mid new : Held) (line : MarginLine)
+  module _ (none : p.point ≡ None) (ends : EndsAt p.gap.until h) (mid : Held)
       (dropped : MatchBool p.gap.stands ((mid.edges ≡ with_edge e p.window.of (without 1 (edge_at e p.window.of))) × (mid.start ≡ e.start)) (mid ≡ e)) where
     abbrev i : ℕ
     i = p.window.of
@@ -433,7 +433,7 @@ module _ (x : Scope) (p : Past) (e : Held) (at : IsPastAt x p e) where
     by_stands false seen same = record {
       seen = ap (λ (y : Held). (edge_at y i).seen) same ∙ seen;
       fresh = ap (λ (y : Held). fresh_at y i) same ∙ kept_none.1 ∙ d.is;
-      lost = subst (LosesAt h i e) (sym same) (loses_at_none h i e);
+      lost = subst (LosesAt h i e) (sym same) (loses_at_none e);
       mid_in = subst (λ (y : Held). i < length y.edges) (sym same) at.within;
     }
 
@@ -443,7 +443,7 @@ module _ (x : Scope) (p : Past) (e : Held) (at : IsPastAt x p e) where
     pub point_first : slice_get (held_at mid i) 0 ≡ Some (L.Point d.u d.v)
     point_first = ap (λ (z : List MarginLine). slice_get (z ++ fresh_at mid i) 0) gap_gone.seen ∙ ap (λ (z : List MarginLine). slice_get z 0) gap_gone.fresh
 
-    module _ (first : slice_get (held_at mid i) 0 ≡ Some line) (taken : new.edges ≡ with_edge mid i (without 1 (edge_at mid i))) (start_new : new.start ≡ mid.start) where
+    module _ (new : Held) (line : MarginLine) (first : slice_get (held_at mid i) 0 ≡ Some line) (taken : new.edges ≡ with_edge mid i (without 1 (edge_at mid i))) (start_new : new.start ≡ mid.start) where
       pub line_is : line ≡ L.Point d.u d.v
       line_is = some_is (sym first ∙ point_first)
 
@@ -458,7 +458,7 @@ module _ (x : Scope) (p : Past) (e : Held) (at : IsPastAt x p e) where
           ∙ ap (λ (z : List MarginLine). drop 1 z) gap_gone.fresh
 
       pub left_both : LosesAt h i e new
-      left_both = loses_at_both h i gap_gone.lost (took h i mid new (L.Point d.u d.v) gap_gone.mid_in taken start_new point_first (le_of_same d.here))
+      left_both = loses_at_both gap_gone.lost (took h i mid new (L.Point d.u d.v) gap_gone.mid_in taken start_new point_first (le_of_same d.here))
 
       pub left_shed : Sheds h i e new
       left_shed = sheds_of h i e new left_both

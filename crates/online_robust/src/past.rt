@@ -9,7 +9,7 @@ ghost use Rattle.value_laws.specs.Margins.{is_ramp, margin_function};
 ghost use Rattle.envelope.specs.Turns.{none_of};
 ghost use Rattle.pl_signal.specs.Knots.{stop as last_of};
 ghost use Rattle.stl_syntax.specs.Trace.{start as start_of};
-ghost use Rattle.online_robust.specs.Held.{edge_at, with_edge, without};
+ghost use Rattle.online_robust.specs.Held.{Held, edge_at, with_edge, without};
 ghost use Rattle.online_robust.specs.Sweeping.{EndsAt, IsBefore};
 ghost use Rattle.online_robust.specs.Reading.{IsBuilt, IsStretch, IsThere};
 ghost use Rattle.online_robust.specs.Told.{IsMovedBy};

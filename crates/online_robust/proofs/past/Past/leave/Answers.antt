@@ -22,7 +22,7 @@ unreachable-requires c =
 
 pub returns-clause-stands : goal.returns-clause-stands
 returns-clause-stands c x at none ends =
-    past_left x c.args.self.now c.args.edges.now at none ends c.drop_gap.new.edges c.take.new.self c.in-Some.line c.drop_gap.ensures
+    past_left x c.args.self.now c.args.edges.now at none ends c.drop_gap.new.edges c.drop_gap.ensures c.take.new.self c.in-Some.line
     (sym c.take.ensures.first ∙ c.in-Some.is) c.take.ensures.taken c.take.ensures.start (record { at = c.end.result; value = c.margin.result }) c.end.ensures
     c.margin.ensures
 
@@ -31,7 +31,7 @@ returns-clause-kept c = refl
 
 pub returns-clause-shed : goal.returns-clause-shed
 returns-clause-shed c x at none ends =
-    left_shed x c.args.self.now c.args.edges.now at none ends c.drop_gap.new.edges c.take.new.self c.in-Some.line c.drop_gap.ensures
+    left_shed x c.args.self.now c.args.edges.now at none ends c.drop_gap.new.edges c.drop_gap.ensures c.take.new.self c.in-Some.line
     (sym c.take.ensures.first ∙ c.in-Some.is) c.take.ensures.taken c.take.ensures.start
 
 pub returns-clause-fewer : goal.returns-clause-fewer
