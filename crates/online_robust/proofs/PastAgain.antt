@@ -29,7 +29,7 @@ use Rattle.online_robust.specs.Sweeping.{EndsAt, IsBefore, IsOn}
 use Rattle.online_robust.specs.Told.{AreFit, AreJoined, AreTold, IsMovedBy, IsTick}
 use Rattle.online_robust.specs.Turns.{AreInputs, AreLeft, IsCut, back_of}
 use Rattle.online_robust.specs.WindowPasts.{AreKept, CanPass, HasPassed, IsFitPast, IsFollowed, IsPastAt, IsSettled, IsUnder, StoodPast}
-use Rattle.online_robust.specs.Windows.{HasTold, IsCore, IsOwn, IsSpan, IsStanding, IsToCome, Scope, Sheds, at_time, before_start, best_of, input_of, no_gap, scope_at}
+use Rattle.online_robust.specs.Windows.{HasTold, IsCore, IsOwned, IsSpan, IsStanding, IsToCome, Scope, Sheds, at_time, before_start, best_of, input_of, no_gap, scope_at}
 use Rattle.online_robust.specs.declared.ends.Gap.{Gap}
 use Rattle.online_robust.specs.declared.line.MarginLine.{MarginLine}
 use Rattle.online_robust.specs.declared.line.MarginLine.TheVariants as L
@@ -52,6 +52,7 @@ core_again : (f : Subformula) (tr : Trace) (reach : ℕ) (a b c d t : Rational) 
 core_again f tr reach a b c d t w none low high l h B s best = (
   record {
     order = s.order;
+    still = s.still;
     none_value = s.none_value;
     none_moved = s.none_moved;
     from = s.from;
@@ -277,7 +278,7 @@ pub past_go_on : (f : Subformula) (tr : Trace) (reach own : ℕ) (g : ℤ) (p : 
     → AreInputs (Robustness f tr) reach (first_time tr.rows) (back_of (first_time tr.rows) (Some g) p.window.high) front (held_at e p.window.of)
     → p.window.of < length e.edges → g <ℤ to → start tr ≤ʳ whole g → IsTick (whole g) → IsTick (whole to) → whole to ≤ʳ stop tr
     → (start tr ≤ʳ whole front) × (whole front ≤ʳ stop tr)
-    → (shifted (whole to) p.window.high ≤ʳ whole front) ⊎ ((whole front ≈ stop tr) × (whole to ≈ stop tr)) → IsOwn p.window own
+    → (shifted (whole to) p.window.high ≤ʳ whole front) ⊎ ((whole front ≈ stop tr) × (whole to ≈ stop tr)) → IsOwned p.window own
     → CanPass (scope_at f tr reach (whole front) (shifted (whole to) p.window.high) (value p.at)) own (whole g) (whole to) p e
 past_go_on f tr reach own g p e st front to inputs of_in order begun from_tick to_tick ends within told own_is = record {
   at = past_again f tr reach own g p e st front inputs (shifted (whole to) p.window.high) (goes st.goes_on) (by_front told) of_in within (ended told);
@@ -392,6 +393,7 @@ past_first f tr reach p e front bound begins none_value still gap point best nea
     first = (
       record {
         order = order;
+        still = λ far. still;
         none_value = none_value;
         none_moved = still_moved reach p.none still;
         from = shifted (value p.at) p.window.low;
@@ -440,6 +442,7 @@ stood_past x own from to old p old_e e can came same last = record {
         (shifted (value p.at) p.window.low) (shifted (value p.at) p.window.high)) × IsBestOf margin_function p.window.side r.constants p.best = (
           record {
             order = at.core.order;
+            still = at.core.still;
             none_value = at.core.none_value;
             none_moved = at.core.none_moved;
             from = at.core.from;

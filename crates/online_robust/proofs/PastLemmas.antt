@@ -183,6 +183,7 @@ module _ (x : Scope) (p : Past) (e : Held) (at : IsPastAt x p e) where
         → IsCore x p.window p.none (before_start p.none p.start) next l h
     gone cs frozen = record {
       order = at.core.order;
+      still = at.core.still;
       none_value = at.core.none_value;
       none_moved = at.core.none_moved;
       from = at.core.from;

@@ -30,7 +30,7 @@ use Rattle.online_robust.specs.Reading.{IsBuilt, IsThere}
 use Rattle.online_robust.specs.Sweeping.{EndsAt, IsBefore, IsUpTo}
 use Rattle.online_robust.specs.Told.{IsMovedBy, IsTick}
 use Rattle.online_robust.specs.WindowPasts.{AreKept, CanPass, HasPassed, IsFitPast, IsPassing, IsPastAt, IsSettled, IsUnder, StaysPast, past_steps}
-use Rattle.online_robust.specs.Windows.{HasTold, IsCore, IsGone, IsOutcome, IsOwn, IsPointOf, IsShifted, IsSpan, IsStep, IsTopOf, IsUnfixedUnder, IsUnmet, IsWindowFault, LeavesAt, Scope, Sheds, at_time, before_start, best_of, input_of, lines_left}
+use Rattle.online_robust.specs.Windows.{HasTold, IsCore, IsGone, IsOutcome, IsOwned, IsPointOf, IsShifted, IsSpan, IsStep, IsTopOf, IsUnfixedUnder, IsUnmet, IsWindowFault, LeavesAt, Scope, Sheds, at_time, before_start, best_of, input_of, lines_left}
 use Rattle.online_robust.specs.declared.ends.Gap.{Gap}
 use Rattle.online_robust.specs.declared.line.Reached.{Reached}
 use Rattle.online_robust.specs.declared.past.Past.{Past}
@@ -180,7 +180,7 @@ module _ (x : Scope) (p : Past) (e : Held) (at : IsPastAt x p e) (to : Rational)
       between = between x p.window p.none (before_start p.none p.start) p.gap (value p.at) at.core to t step best top lows highs;
       there = λ from. subst (λ (n : Margin). best_of x p.window t (value_at (margin_function n) t)) (sym is)
           (there x p.window p.none (before_start p.none p.start) p.gap (value p.at) at.core to t step (before_start p.none p.start) low_then.0 low_stays (λ _. refl)
-          best low_then.1 lows highs at_high None high_is no_low_point m outcome from);
+          best low_then.1 lows highs at_high None high_is no_low_point m outcome (λ far. refl) from);
       bounded = λ q has. (fits q has).0;
       limited = subst (λ (n : Margin). IsBounded (2 ^ 31) (value_at (margin_function n) t)) (sym is) fit.0;
       in_play = plays x p.window p.none (before_start p.none p.start) p.gap (value p.at) at.core to t step best top lows highs;
@@ -189,12 +189,12 @@ module _ (x : Scope) (p : Past) (e : Held) (at : IsPastAt x p e) (to : Rational)
     }
       where
         fits : (q : Margin) → Has best q → ((u : Rational) → value p.at ≤ʳ u → u ≤ʳ t → IsBounded (2 ^ 31) (value_at (margin_function q) u))
-            × ((own : ℕ) → IsOwn p.window own → IsMovedBy (x.reach + own) q)
+            × ((own : ℕ) → IsOwned p.window own → IsMovedBy (x.reach + own) q)
         fits = each x p.window p.none (before_start p.none p.start) p.gap (value p.at) at.core to t step best top lows highs
 
-        fit : IsBounded (2 ^ 31) (value_at (margin_function m) t) × ((own : ℕ) → IsOwn p.window own → IsMovedBy (x.reach + own) m)
+        fit : IsBounded (2 ^ 31) (value_at (margin_function m) t) × ((own : ℕ) → IsOwned p.window own → IsMovedBy (x.reach + own) m)
         fit = there_fit x p.window p.none (before_start p.none p.start) p.gap (value p.at) at.core to t step (before_start p.none p.start) low_then.0 low_stays
-            (λ _. refl) best low_then.1 lows highs at_high None high_is no_low_point m outcome
+            (λ _. refl) best low_then.1 lows highs at_high None high_is no_low_point m outcome (λ far. refl)
 
   -- a step fewer is left
   pub step_fewer : (y : Edge) (q : Past) → value q.at ≡ t → lines_left y ≤ lines_left (edge_at e p.window.of)
@@ -391,8 +391,8 @@ module _ (x : Scope) (own : ℕ) (from to : Rational) (s : Past) (e : Held) (can
       shed = sheds_on next next_e (le_of_lt gone.after) shed shed';
     }
       where
-        owns : IsOwn s.window own → IsOwn now.window own
-        owns is = subst (λ (w : Window). IsOwn w own) (sym goes.window) is
+        owns : IsOwned s.window own → IsOwned now.window own
+        owns is = subst (λ (w : Window). IsOwned w own) (sym goes.window) is
 
     -- a step that is told
     pub swept_next : (next : Past) (next_e : Held) (r r' : Reached) (built built' : List (Knot Margin)) → HasPassed x next next_e

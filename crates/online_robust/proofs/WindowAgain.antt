@@ -28,7 +28,7 @@ use Rattle.online_robust.specs.Sweeping.{AreBy, EndsAt, IsBefore, IsUpTo, Mark, 
 use Rattle.online_robust.specs.Told.{AreFit, AreJoined, AreTold, IsMovedBy, IsTick}
 use Rattle.online_robust.specs.Turns.{AreInputs, AreLeft, IsCut, IsCutBy, back_of}
 use Rattle.online_robust.specs.Reading.{IsThere}
-use Rattle.online_robust.specs.Windows.{AreSeen, AreStanding, CanSweep, HasCome, HasTold, IsAt, IsFitWindow, IsOwn, IsSpread, IsStanding, IsToCome, Scope, Sheds, StoodOver, at_time, before_start, best_of, input_of, no_gap, scope_at}
+use Rattle.online_robust.specs.Windows.{AreSeen, AreStanding, CanSweep, HasCome, HasTold, IsAt, IsFitWindow, IsOwn, IsOwned, IsSpread, IsStanding, IsToCome, Scope, Sheds, StoodOver, at_time, before_start, best_of, input_of, no_gap, scope_at}
 use Rattle.online_robust.specs.declared.ends.Gap.{Gap}
 use Rattle.online_robust.specs.declared.line.MarginLine.{MarginLine}
 use Rattle.online_robust.specs.declared.line.MarginLine.TheVariants as L
@@ -231,6 +231,9 @@ module _ (f : Subformula) (tr : Trace) (reach own : ℕ) (g : ℤ) (s : Sweep) (
       spread_told (scope_at f tr reach st.front st.bound (value s.place.at)) (whole front) bound s.window s.start s.none s.place.low s.place.high s.among seen
       st.fresh fresh (shifted (value s.place.at) s.window.low) (shifted (value s.place.at) s.window.high) st.spread within ended (to_come bound)
 
+owned_of : {w : Window} {own : ℕ} → IsOwn w own → IsOwned w own
+owned_of is = record { low = inl (is.low_from, is.low_to); high_from = is.high_from; high_to = is.high_to }
+
 -- a later turn: what was kept before, over what the input has given out by now, is what a window needs to go on
 pub can_go_on : (f : Subformula) (tr : Trace) (reach own : ℕ) (g : ℤ) (s : Sweep) (e : Held)
     → StoodOver f tr reach own (whole g) s (edge_at e s.window.of).seen → (front to : ℤ)
@@ -249,7 +252,7 @@ can_go_on f tr reach own g s e st front to inputs of_in order begun from_tick to
   last = by_last s.last st.last;
   span = record {
     offsets = st.spread.fit.order;
-    owns = own_is;
+    owns = owned_of own_is;
     aside = aside;
     order = le_of_lt (lt_whole order);
     from_tick = from_tick;
@@ -299,7 +302,7 @@ can_begin f tr reach own s e front to begins none_value still low high at last s
       last = subst (λ (o : Option Reached). HasTold x own (start tr) s.window o) (sym last) (same_refl (start tr), early);
       span = record {
         offsets = fit.order;
-        owns = own_is;
+        owns = owned_of own_is;
         aside = aside;
         order = order;
         from_tick = first_tick;

@@ -1,5 +1,5 @@
 -- A window over its input at a time, and how what counts goes on to the next stop.
-use Rattle.std.proofs.Common.{◌≡◌, ◌⊎◌, inl, inr, ℕ, ℤ, ◌+◌, ◌^◌, Bool, true, false, List, [], ◌∷◌, Option, Some, None, refl, sym, ap, subst, ◌∙◌}
+use Rattle.std.proofs.Common.{◌≡◌, ◌⊎◌, inl, inr, ℕ, ℤ, pos, neg_ℤ, ◌+◌, ◌^◌, ◌≤ℤ◌, Bool, true, false, List, [], ◌∷◌, Option, Some, None, refl, sym, ap, subst, ◌∙◌}
 use Rattle.std.specs.Prelude.{IsSomeAnd}
 use Rattle.rational.specs.Time.{Rational, ◌≈◌, ◌≤ʳ◌, ◌<ʳ◌, shifted}
 use Rattle.rational.specs.Extended.{Extended, finite, infinity, minus_infinity, value_at, ◌≈ᵉ◌}
@@ -11,7 +11,7 @@ use Rattle.rational.proofs.Sames.{symᵉ, transᵉ}
 use Rattle.frac128.specs.Value.{value}
 use Rattle.frac128.specs.declared.frac.Frac.{Frac}
 use Rattle.value_laws.specs.Kinds.{margin_shape}
-use Rattle.value_laws.specs.Margins.{margin_function}
+use Rattle.value_laws.specs.Margins.{is_ramp, margin_function}
 use Rattle.value_laws.specs.declared.margin.Margin.{Margin}
 use Rattle.pl_signal.specs.declared.joining.Side.{Side}
 use Rattle.envelope.specs.Best.{Has, IsBestAt}
@@ -24,7 +24,7 @@ use Rattle.online_robust.specs.Queues.{IsBest}
 use Rattle.online_robust.specs.Reading.{IsThere}
 use Rattle.online_robust.specs.Sweeping.{AreBy, EndsAt, IsBefore, IsOn, IsUpTo, Mark, Runs, last_gap}
 use Rattle.online_robust.specs.Told.{IsMovedBy}
-use Rattle.online_robust.specs.Windows.{InPlayOver, IsCore, IsInPlayOver, IsOutcome, IsOwn, IsPointOf, IsShifted, IsStep, IsTopOf, Scope, best_of, input_of}
+use Rattle.online_robust.specs.Windows.{InPlayOver, IsCore, IsInPlayOver, IsOutcome, IsOwned, IsPointOf, IsShifted, IsStep, IsTopOf, Scope, best_of, input_of}
 use Rattle.online_robust.specs.declared.ends.Gap.{Gap}
 use Rattle.online_robust.specs.declared.window.Window.{Window}
 use Rattle.online_robust.proofs.Outcomes.{IsIn, best_between}
@@ -46,6 +46,7 @@ module _ (x : Scope) (w : Window) (none : Margin) (low high : Gap) (l h : Ration
   core_on l' h' le up le' up' B b = (
     record {
       order = s.order;
+      still = s.still;
       none_value = s.none_value;
       none_moved = s.none_moved;
       from = s.from;
@@ -105,6 +106,16 @@ module _ (x : Scope) (w : Window) (none : Margin) (low high : Gap) (a : Rational
   core_low B b = core_on x w none low high (shifted a w.low) (shifted a w.high) s (shifted t w.low) (shifted a w.high) (le_shifted w.low (le_of_lt later)) g.low
       (le_refl (shifted a w.high)) s.high_later B b
 
+  -- the low gap's margin, moved by the low offset
+  low_fit : (low : Gap) → (w.low ≡ neg_ℤ (pos 4294967296) → is_ramp low.shape ≡ false) → (p : Margin) → IsShifted low.shape w.low p → IsMovedBy x.reach low.shape
+      → (own : ℕ) → ((neg_ℤ (pos own) ≤ℤ w.low) × (w.low ≤ℤ pos own)) ⊎ (w.low ≡ neg_ℤ (pos 4294967296)) → IsMovedBy (x.reach + own) p
+  low_fit low still p moved is own (inl (from, to)) = shifted_moved x.reach own low.shape w.low p moved is from to
+  low_fit low still p moved is own (inr far) = still_moved (x.reach + own) p (no_ramp (is_ramp p) (λ r. (moved.base r).0))
+    where
+      no_ramp : (b : Bool) → (b ≡ true → is_ramp low.shape ≡ true) → b ≡ false
+      no_ramp false h = refl
+      no_ramp true h = absurd (let z : false ≡ true = sym (still far) ∙ h refl in cc)
+
   order_at : shifted a w.low ≤ʳ shifted a w.high
   order_at = le_of_lt (in_order a w.low w.high s.order)
 
@@ -131,7 +142,7 @@ module _ (x : Scope) (w : Window) (none : Margin) (low high : Gap) (a : Rational
 
     -- each that counts between here and there is bounded, and its base is moved by no more than the offsets
     pub each : (p : Margin) → Has best p → ((u : Rational) → a ≤ʳ u → u ≤ʳ t → IsBounded (2 ^ 31) (value_at (margin_function p) u))
-        × ((own : ℕ) → IsOwn w own → IsMovedBy (x.reach + own) p)
+        × ((own : ℕ) → IsOwned w own → IsMovedBy (x.reach + own) p)
     each p (inl e') = (
       λ u after before. subst (λ (m : Margin). IsBounded (2 ^ 31) (value_at (margin_function m) u)) (sym e')
           (top_bounded x w none low high (shifted a w.low) (shifted a w.high) s best.top top u),
@@ -142,7 +153,7 @@ module _ (x : Scope) (w : Window) (none : Margin) (low high : Gap) (a : Rational
         let on = low_on x w none low high (shifted a w.low) (shifted a w.high) s in (
           λ u after before. shifted_bounded low.shape w.low p u moved (on.bounded (shifted u w.low) (le_trans s.begun (le_shifted w.low after))
               (up_to_of low.until (le_shifted w.low before) g.low)),
-          λ own is. shifted_moved x.reach own low.shape w.low p moved on.moved is.low_from is.low_to,
+          λ own is. low_fit low s.still p moved on.moved own is.low,
         )
     each p (inr (inr e')) =
         let moved : IsShifted high.shape w.high p = subst (λ (o : Option Margin). IsSomeAnd o (IsShifted high.shape w.high)) e' highs in
@@ -199,7 +210,7 @@ module _ (x : Scope) (w : Window) (none : Margin) (low high : Gap) (a : Rational
         (highs : IsSomeAnd best.high (IsShifted high.shape w.high)) (at_high at_low : Option Margin)
         (high_is : IsPointOf (input_of x w.side) x.reach w.high_in w.high high t at_high)
         (low_is : IsPointOf (input_of x w.side) x.reach w.low_in w.low low t at_low) (m : Margin)
-        (outcome : IsOutcome w.side best.top best.low best.high at_high at_low t m) where
+        (outcome : IsOutcome w.side best.top best.low best.high at_high at_low t m) (no_far : w.low ≡ neg_ℤ (pos 4294967296) → at_low ≡ None) where
       pub there : start x.trace ≤ʳ t → best_of x w t (value_at (margin_function m) t)
       there from =
           let (low_shape, is_low, low_shifted) = some_and (IsShifted low'.shape w.low) best.low lows in
@@ -222,11 +233,16 @@ module _ (x : Scope) (w : Window) (none : Margin) (low high : Gap) (a : Rational
           }
 
       -- what is told at the stop is bounded, and its base moved by no more than the offsets
-      pub there_fit : IsBounded (2 ^ 31) (value_at (margin_function m) t) × ((own : ℕ) → IsOwn w own → IsMovedBy (x.reach + own) m)
+      by_low : (own : ℕ) (v : Margin) → IsShifted v w.low m → IsMovedBy x.reach v → at_low ≡ Some m
+          → ((neg_ℤ (pos own) ≤ℤ w.low) × (w.low ≤ℤ pos own)) ⊎ (w.low ≡ neg_ℤ (pos 4294967296)) → IsMovedBy (x.reach + own) m
+      by_low own v moved is here (inl (from, to)) = shifted_moved x.reach own v w.low m moved is from to
+      by_low own v moved is here (inr far) = absurd (let z : ◌≡◌ {A = Option Margin} None (Some m) = sym (no_far far) ∙ here in cc)
+
+      pub there_fit : IsBounded (2 ^ 31) (value_at (margin_function m) t) × ((own : ℕ) → IsOwned w own → IsMovedBy (x.reach + own) m)
       there_fit = by_one outcome.one
         where
           by_one : (m ≡ best.top) ⊎ (best.low ≡ Some m) ⊎ (best.high ≡ Some m) ⊎ (at_high ≡ Some m) ⊎ (at_low ≡ Some m)
-              → IsBounded (2 ^ 31) (value_at (margin_function m) t) × ((own : ℕ) → IsOwn w own → IsMovedBy (x.reach + own) m)
+              → IsBounded (2 ^ 31) (value_at (margin_function m) t) × ((own : ℕ) → IsOwned w own → IsMovedBy (x.reach + own) m)
           by_one (inl f) = (
             subst (λ (k : Margin). IsBounded (2 ^ 31) (value_at (margin_function k) t)) (sym f)
                 (top_bounded x w none low' high (shifted t w.low) (shifted a w.high) s' best.top top t),
@@ -237,7 +253,7 @@ module _ (x : Scope) (w : Window) (none : Margin) (low high : Gap) (a : Rational
               let moved : IsShifted low'.shape w.low m = subst (λ (k : Option Margin). IsSomeAnd k (IsShifted low'.shape w.low)) f lows in
               let on = low_on x w none low' high (shifted t w.low) (shifted a w.high) s' in (
                 shifted_bounded low'.shape w.low m t moved (on.bounded (shifted t w.low) s'.begun s'.low_later),
-                λ own is. shifted_moved x.reach own low'.shape w.low m moved on.moved is.low_from is.low_to,
+                λ own is. low_fit low' s'.still m moved on.moved own is.low,
               )
           by_one (inr (inr (inl f))) =
               let moved : IsShifted high.shape w.high m = subst (λ (k : Option Margin). IsSomeAnd k (IsShifted high.shape w.high)) f highs in
@@ -255,5 +271,5 @@ module _ (x : Scope) (w : Window) (none : Margin) (low high : Gap) (a : Rational
               let (inside, ends, (v, there', moved)) =
               subst (λ (k : Option Margin). IsPointOf (input_of x w.side) x.reach w.low_in w.low low t k) f low_is in (
                 shifted_bounded v w.low m t moved there'.bounded,
-                λ own is. shifted_moved x.reach own v w.low m moved there'.moved is.low_from is.low_to,
+                λ own is. by_low own v moved there'.moved f is.low,
               )

@@ -18,7 +18,7 @@ use Rattle.online_robust.specs.Held.{Held, edge_at}
 use Rattle.online_robust.specs.Reading.{IsBuilt, IsThere}
 use Rattle.online_robust.specs.Sweeping.{IsBefore, IsUpTo}
 use Rattle.online_robust.specs.Told.{IsTick}
-use Rattle.online_robust.specs.Windows.{CanSweep, Goes, HasCome, HasTold, IsAt, IsGoing, IsGone, IsOwn, IsSpan, IsUnfixedHigh, IsUnmet, IsWindowFault, Scope, Sheds, at_time, best_of, steps_left}
+use Rattle.online_robust.specs.Windows.{CanSweep, Goes, HasCome, HasTold, IsAt, IsGoing, IsGone, IsOwned, IsSpan, IsUnfixedHigh, IsUnmet, IsWindowFault, Scope, Sheds, at_time, best_of, steps_left}
 use Rattle.online_robust.specs.declared.line.Reached.{Reached}
 use Rattle.online_robust.specs.declared.window.Place.{Place}
 use Rattle.online_robust.specs.declared.window.Sweep.{Sweep}
@@ -183,8 +183,8 @@ module _ (x : Scope) (own : ℕ) (from to : Rational) (s : Sweep) (e : Held) (ca
           (subst (λ (w : Window). Sheds (shifted (value next.place.at) w.low) w.of now_e next_e) goes.window shed);
     }
       where
-        owns : IsOwn s.window own → IsOwn now.window own
-        owns is = subst (λ (w : Window). IsOwn w own) (sym goes.window) is
+        owns : IsOwned s.window own → IsOwned now.window own
+        owns is = subst (λ (w : Window). IsOwned w own) (sym goes.window) is
 
     -- a step that is told
     pub swept_next : (next : Sweep) (next_e : Held) (r r' : Reached) (built built' : List (Knot Margin)) → Goes now next

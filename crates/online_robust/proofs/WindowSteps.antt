@@ -1,6 +1,7 @@
 -- How a window goes on to its next stop.
-use Rattle.std.proofs.Common.{◌≡◌, ◌⊎◌, inl, inr, ℕ, ℤ, ◌+◌, ◌^◌, Bool, true, false, List, [], ◌∷◌, Option, Some, None, refl, sym, ap, subst, ◌∙◌}
+use Rattle.std.proofs.Common.{arith, ◌≡◌, ◌⊎◌, inl, inr, ℕ, ℤ, pos, neg_ℤ, ◌+◌, ◌^◌, ◌≤ℤ◌, Bool, true, false, List, [], ◌∷◌, Option, Some, None, refl, sym, ap, subst, ◌∙◌}
 use Rattle.std.specs.Prelude.{IsSomeAnd}
+use Rattle.std.proofs.lemmas.Int.{ints}
 use Rattle.rational.specs.Rational.{IsWithin}
 use Rattle.rational.specs.Time.{Rational, ◌≈◌, ◌≤ʳ◌, ◌<ʳ◌, shifted}
 use Rattle.rational.specs.Extended.{Extended, finite, infinity, minus_infinity, value_at, ◌≈ᵉ◌}
@@ -24,7 +25,7 @@ use Rattle.online_robust.specs.Held.{Held, edge_at, fresh_at}
 use Rattle.online_robust.specs.Queues.{StandsFor}
 use Rattle.online_robust.specs.Sweeping.{AreBy, AreTicks, EndsAt, IsBefore, IsOn, IsUpTo, Mark, Runs, last_gap}
 use Rattle.online_robust.specs.Told.{AreFit, IsMovedBy, IsTick}
-use Rattle.online_robust.specs.Windows.{Goes, InPlayOver, IsAt, IsCore, IsGoing, IsInPlayOver, IsNextStop, IsOpen, IsOutcome, IsOwn, IsPointOf, IsShifted, IsSpread, IsStep, IsTickEnd, IsToCome, IsTopOf, Keeps, Scope, at_time, best_of, high_at, input_of, low_at}
+use Rattle.online_robust.specs.Windows.{Goes, InPlayOver, IsAt, IsCore, IsGoing, IsInPlayOver, IsNextStop, IsOpen, IsOutcome, IsOwned, IsPointOf, IsShifted, IsSpread, IsStep, IsTickEnd, IsToCome, IsTopOf, Keeps, Scope, at_time, best_of, high_at, input_of, low_at}
 use Rattle.online_robust.specs.declared.ends.Gap.{Gap}
 use Rattle.online_robust.specs.declared.line.MarginLine.{MarginLine}
 use Rattle.online_robust.specs.declared.line.MarginLine.TheVariants as L
@@ -35,6 +36,10 @@ use Rattle.online_robust.proofs.WindowCore.{between as core_between, each as cor
 use Rattle.online_robust.proofs.Spreads.{last_from, spread_on}
 use Rattle.online_robust.proofs.WindowLaw.{before_of, before_of_end, last_on_of, runs_on, up_to_of}
 use Rattle.online_robust.proofs.WindowPoints.{before_apart, in_order}
+
+-- a low end that counts does not lie before any time
+not_far : (k : ℤ) → neg_ℤ (pos 4294967295) ≤ℤ k → k ≡ neg_ℤ (pos 4294967296) → ⊥
+not_far k from is = omega (arith, ints, from, is)
 
 -- the ends go by other times
 come_same : (x : Scope) (at behind : Rational) (o : Option Frac) (fresh : List MarginLine) → IsToCome x o fresh → IsToCome (at_time x at behind) o fresh
@@ -118,6 +123,7 @@ module _ (x : Scope) (s : Sweep) (e : Held) (at : IsAt x s e) (to : Rational) (o
   abbrev core : IsCore x s.window s.none s.place.low s.place.high (shifted x.at s.window.low) (shifted x.at s.window.high)
   core = record {
     order = at.spread.fit.order;
+    still = λ far. absurd (not_far s.window.low at.spread.fit.low far);
     none_value = at.spread.none_value;
     none_moved = at.spread.none_moved;
     from = at.spread.from;
@@ -172,7 +178,7 @@ module _ (x : Scope) (s : Sweep) (e : Held) (at : IsAt x s e) (to : Rational) (o
 
     -- each that counts between here and there is bounded, and its base is moved by no more than the offsets
     pub each : (p : Margin) → Has best p → ((u : Rational) → x.at ≤ʳ u → u ≤ʳ t → IsBounded (2 ^ 31) (value_at (margin_function p) u))
-        × ((own : ℕ) → IsOwn s.window own → IsMovedBy (x.reach + own) p)
+        × ((own : ℕ) → IsOwned s.window own → IsMovedBy (x.reach + own) p)
     each = core_each x s.window s.none s.place.low s.place.high x.at core to t step best top lows highs
 
     -- and it is in play
@@ -205,6 +211,7 @@ module _ (x : Scope) (s : Sweep) (e : Held) (at : IsAt x s e) (to : Rational) (o
       then_at = (
         record {
           order = at'.spread.fit.order;
+          still = λ far. absurd (not_far s'.window.low at'.spread.fit.low far);
           none_value = at'.spread.none_value;
           none_moved = at'.spread.none_moved;
           from = at'.spread.from;
@@ -245,12 +252,12 @@ module _ (x : Scope) (s : Sweep) (e : Held) (at : IsAt x s e) (to : Rational) (o
 
       pub there : start x.trace ≤ʳ t → best_of x s.window t (value_at (margin_function m) t)
       there = core_there x s.window s.none s.place.low s.place.high x.at core to t step s'.place.low now_at.0 now_before low_stays best now_at.1 now_low now_high
-          at_high at_low high_is low_is m now_outcome
+          at_high at_low high_is low_is m now_outcome (λ far. absurd (not_far s.window.low at.spread.fit.low far))
 
       -- what is told at the stop is bounded, and its base moved by no more than the offsets
-      pub there_fit : IsBounded (2 ^ 31) (value_at (margin_function m) t) × ((own : ℕ) → IsOwn s.window own → IsMovedBy (x.reach + own) m)
+      pub there_fit : IsBounded (2 ^ 31) (value_at (margin_function m) t) × ((own : ℕ) → IsOwned s.window own → IsMovedBy (x.reach + own) m)
       there_fit = core_there_fit x s.window s.none s.place.low s.place.high x.at core to t step s'.place.low now_at.0 now_before low_stays best now_at.1 now_low
-          now_high at_high at_low high_is low_is m now_outcome
+          now_high at_high at_low high_is low_is m now_outcome (λ far. absurd (not_far s.window.low at.spread.fit.low far))
 
 -- where the high end has gone on, both stand within their gaps
 pub open_of : (x : Scope) (s s' : Sweep) (to : Rational) → IsGoing x s to → Keeps s s' → s'.place.low ≡ s.place.low

@@ -136,6 +136,7 @@ pub record IsSpread (x : Scope) (w : Window) (begin : Frac) (none : Margin) (low
 -- the gaps about the ends of a window at two times, the marks between, and the constants that these give
 pub record IsCore (x : Scope) (w : Window) (none : Margin) (low high : Gap) (l h : Rational) : Type 0 where
   pub order : w.low <ℤ w.high
+  pub still : w.low ≡ neg_ℤ (pos 4294967296) → is_ramp low.shape ≡ false
   pub none_value : (t : Rational) → value_at (margin_function none) t ≈ᵉ none_of w.side minus_infinity infinity
   pub none_moved : IsMovedBy x.reach none
   pub from : Rational
@@ -314,6 +315,12 @@ pub record IsOwn (w : Window) (own : ℕ) : Type 0 where
   pub high_from : neg_ℤ (pos own) ≤ℤ w.high
   pub high_to : w.high ≤ℤ pos own
 
+-- so is the high one, and the low one unless it lies before any time
+pub record IsOwned (w : Window) (own : ℕ) : Type 0 where
+  pub low : ((neg_ℤ (pos own) ≤ℤ w.low) × (w.low ≤ℤ pos own)) ⊎ (w.low ≡ neg_ℤ (pos 4294967296))
+  pub high_from : neg_ℤ (pos own) ≤ℤ w.high
+  pub high_to : w.high ≤ℤ pos own
+
 -- the same window with both ends
 abbrev pub closed : Window → Window
 closed w = record w { low_in = true; high_in = true }
@@ -341,8 +348,8 @@ pub record IsGone (x : Scope) (w : Window) (to t : Rational) (best : Best Margin
   pub bounded : (p : Margin) → Has best p → (u : Rational) → x.at ≤ʳ u → u ≤ʳ t → IsBounded (2 ^ 31) (value_at (margin_function p) u)
   pub limited : IsBounded (2 ^ 31) (value_at (margin_function reached.value) t)
   pub in_play : (p : Margin) → Has best p → (u : Rational) → x.at <ʳ u → u <ʳ t → IsInPlayOver x w u p
-  pub moved : (p : Margin) → Has best p → (own : ℕ) → IsOwn w own → IsMovedBy (x.reach + own) p
-  pub moved_there : (own : ℕ) → IsOwn w own → IsMovedBy (x.reach + own) reached.value
+  pub moved : (p : Margin) → Has best p → (own : ℕ) → IsOwned w own → IsMovedBy (x.reach + own) p
+  pub moved_there : (own : ℕ) → IsOwned w own → IsMovedBy (x.reach + own) reached.value
 
 -- memory was wanted, or two that count on the way cross between the times, at a time that is not stored
 abbrev pub IsUnmet : Scope → Window → Rational → Rational → OpFault Margin → Type 0
@@ -384,7 +391,7 @@ HasTold x own from w (Some r) = (value r.at ≡ x.at) × (value r.at ≈ from) �
 -- a stretch over which a window may go on: its input is told as far as the high end comes, or to the end
 pub record IsSpan (x : Scope) (w : Window) (own : ℕ) (from to : Rational) : Type 0 where
   pub offsets : w.low <ℤ w.high
-  pub owns : IsOwn w own
+  pub owns : IsOwned w own
   pub aside : (pos 0 ≤ℤ w.low) ⊎ (w.high ≤ℤ pos 0)
   pub order : from ≤ʳ to
   pub from_tick : IsTick from

@@ -13,7 +13,7 @@ ghost use Rattle.online_robust.specs.Held.{Held, edge_at, with_edge, without};
 ghost use Rattle.online_robust.specs.Sweeping.{EndsAt, IsBefore};
 ghost use Rattle.online_robust.specs.Reading.{IsBuilt, IsStretch, IsThere};
 ghost use Rattle.online_robust.specs.Told.{IsMovedBy};
-ghost use Rattle.online_robust.specs.Windows.{IsGone, IsOwn, IsPointOf, IsShifted, IsUnfixedUnder, IsUnmet, IsWindowFault, Scope, Sheds, at_time, before_start, best_of, input_of, lines_left};
+ghost use Rattle.online_robust.specs.Windows.{IsGone, IsOwned, IsPointOf, IsShifted, IsUnfixedUnder, IsUnmet, IsWindowFault, Scope, Sheds, at_time, before_start, best_of, input_of, lines_left};
 ghost use Rattle.online_robust.specs.WindowPasts.{CanPass, HasPassed, IsFitPast, IsPassing, IsPastAt, IsSettled, StaysPast, past_steps};
 
 use crate::edges::Edges;
@@ -299,10 +299,10 @@ impl Past {
         requires ends { last_of built.old ≈ value self.old.at }
         ensures stands { (x : Scope) → IsPastAt x self.old edges.old → IsPassing x self.old (value to.now) → OnOk result (HasPassed x self.new edges.new) }
         ensures told { (x : Scope) → IsPastAt x self.old edges.old → IsPassing x self.old (value to.now) → start_of x.trace ≤ʳ value self.old.at
-            → (own : ℕ) → IsOwn self.old.window own → (from : Rational) → IsBuilt (best_of x self.old.window) (x.reach + own) from (value self.old.at) built.old
+            → (own : ℕ) → IsOwned self.old.window own → (from : Rational) → IsBuilt (best_of x self.old.window) (x.reach + own) from (value self.old.at) built.old
             → OnOk result (IsBuilt (best_of x self.old.window) (x.reach + own) from (value self.new.at) built.new) }
         ensures reached { (x : Scope) → IsPastAt x self.old edges.old → IsPassing x self.old (value to.now) → start_of x.trace ≤ʳ value self.old.at
-            → (own : ℕ) → IsOwn self.old.window own
+            → (own : ℕ) → IsOwned self.old.window own
             → IfOk result (λ r. (value r.at ≡ value self.new.at) × IsThere (best_of x self.old.window) (x.reach + own) (value r.at) r.value) }
         ensures fault { (x : Scope) → IsPastAt x self.old edges.old → IsPassing x self.old (value to.now)
             → IfErr result (λ f. IsUnfixedUnder (at_time x (value self.old.at) (value self.old.at)) self.old.window self.old.gap f

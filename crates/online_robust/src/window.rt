@@ -17,7 +17,7 @@ ghost use Rattle.pl_signal.specs.Knots.{stop as last_of};
 ghost use Rattle.stl_syntax.specs.Trace.{start as start_of};
 ghost use Rattle.online_robust.specs.Told.{IsMovedBy, IsTick};
 ghost use Rattle.online_robust.specs.Queues.{StandsFor};
-ghost use Rattle.online_robust.specs.Windows.{CanSweep, Goes, HasCome, IsAt, IsWindowFault, IsBetterOf, IsFitWindow, IsGoing, IsGone, IsHigh, IsUnfixed, IsUnfixedHigh, IsUnmet, Keeps, Scope, Sheds, IsLow, IsNextStop, IsOpen, IsOutcome, IsOwn, IsPointOf, IsShifted, IsTickEnd, IsTopOf, LeavesAt, at_time, before_start, best_of, gap_of as gap_that, high_at, input_of, is_before_end, lines_left, low_at, no_gap, steps_left};
+ghost use Rattle.online_robust.specs.Windows.{CanSweep, Goes, HasCome, IsAt, IsWindowFault, IsBetterOf, IsFitWindow, IsGoing, IsGone, IsHigh, IsUnfixed, IsUnfixedHigh, IsUnmet, Keeps, Scope, Sheds, IsLow, IsNextStop, IsOpen, IsOutcome, IsOwned, IsPointOf, IsShifted, IsTickEnd, IsTopOf, LeavesAt, at_time, before_start, best_of, gap_of as gap_that, high_at, input_of, is_before_end, lines_left, low_at, no_gap, steps_left};
 
 use crate::edges::Edges;
 use crate::ends::{Gap, is_one, is_same};
@@ -544,10 +544,10 @@ impl Sweep {
             → OnOk result (IsAt (at_time x (value self.new.place.at) (value self.new.place.at)) self.new edges.new
             × IsBefore (shifted (value self.new.place.at) self.new.window.low) self.new.place.low.until) }
         ensures told { (x : Scope) → IsAt x self.old edges.old → IsGoing x self.old (value to.now) → start_of x.trace ≤ʳ x.at
-            → (own : ℕ) → IsOwn self.old.window own → (from : Rational) → IsBuilt (best_of x self.old.window) (x.reach + own) from x.at built.old
+            → (own : ℕ) → IsOwned self.old.window own → (from : Rational) → IsBuilt (best_of x self.old.window) (x.reach + own) from x.at built.old
             → OnOk result (IsBuilt (best_of x self.old.window) (x.reach + own) from (value self.new.place.at) built.new) }
         ensures reached { (x : Scope) → IsAt x self.old edges.old → IsGoing x self.old (value to.now) → start_of x.trace ≤ʳ x.at
-            → (own : ℕ) → IsOwn self.old.window own
+            → (own : ℕ) → IsOwned self.old.window own
             → IfOk result (λ r. (value r.at ≡ value self.new.place.at) × IsThere (best_of x self.old.window) (x.reach + own) (value r.at) r.value) }
         ensures fault { (x : Scope) → IsAt x self.old edges.old → IsGoing x self.old (value to.now)
             → IfErr result (λ f. IsUnfixedHigh x self.old f ⊎ IsUnmet x self.old.window (value to.now) (last_of built.old) f) }

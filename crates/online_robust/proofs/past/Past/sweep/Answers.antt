@@ -7,7 +7,7 @@ use Rattle.pl_signal.specs.Knots.{stop as last_of}
 use Rattle.window_ops.proofs.Ends.{le_shifted}
 use Rattle.online_robust.specs.Reading.{IsBuilt, IsStretch}
 use Rattle.online_robust.specs.WindowPasts.{CanPass, IsPassing}
-use Rattle.online_robust.specs.Windows.{IsOwn, Scope, best_of}
+use Rattle.online_robust.specs.Windows.{IsOwned, Scope, best_of}
 use Rattle.online_robust.specs.declared.window.Window.{Window}
 use Rattle.online_robust.proofs.Builts.{built_done}
 use Rattle.online_robust.proofs.PointwiseLemmas.{not_less}
@@ -78,7 +78,7 @@ loop-self-preserved c = record {
       let same = c.loop-self.invariant.goes.window in
       let goes = going_on (goal.at.loop-self-preserved c).After-cmp x own from can c.in-Less.ensures in
       let begun = le_trans can.span.begins w.later in
-      let owns = subst (λ (z : Window). IsOwn z own) (sym same) can.span.owns in
+      let owns = subst (λ (z : Window). IsOwned z own) (sym same) can.span.owns in
       let stands = c.in_ok-reached-2.ensures.stands x w.came.0 goes.0 in
       let built = subst (λ (z : Window). IsBuilt (best_of x z) (x.reach + own) from (value c.loop-self.self.at) c.loop-self.built) (sym same) w.built in
       swept_next x own from (value c.args.to.now) c.args.self.now c.args.edges.now can c.loop-self.self c.loop-self.edges c.loop-self.invariant.goes w.came

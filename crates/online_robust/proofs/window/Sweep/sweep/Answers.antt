@@ -6,7 +6,7 @@ use Rattle.frac128.specs.Value.{value}
 use Rattle.pl_signal.specs.Knots.{stop as last_of}
 use Rattle.window_ops.proofs.Ends.{le_shifted}
 use Rattle.online_robust.specs.Reading.{IsBuilt, IsStretch}
-use Rattle.online_robust.specs.Windows.{CanSweep, IsGoing, IsOwn, Scope, at_time, best_of}
+use Rattle.online_robust.specs.Windows.{CanSweep, IsGoing, IsOwned, Scope, at_time, best_of}
 use Rattle.online_robust.specs.declared.window.Window.{Window}
 use Rattle.online_robust.proofs.Builts.{built_done}
 use Rattle.online_robust.proofs.PointwiseLemmas.{not_less}
@@ -78,7 +78,7 @@ loop-self-preserved c = record {
       let here = at_time x (value c.loop-self.self.place.at) (value c.loop-self.self.place.at) in
       let goes = going_on (goal.at.loop-self-preserved c).After-cmp x own from can c.in-Less.ensures in
       let begun = le_trans can.span.begins w.later in
-      let owns = subst (λ (z : Window). IsOwn z own) (sym same) can.span.owns in
+      let owns = subst (λ (z : Window). IsOwned z own) (sym same) can.span.owns in
       let stands = c.in_ok-reached-2.ensures.stands here w.came.at goes.0 in
       let built = subst (λ (z : Window). IsBuilt (best_of x z) (x.reach + own) from (value c.loop-self.self.place.at) c.loop-self.built) (sym same) w.built in
       swept_next x own from (value c.args.to.now) c.args.self.now c.args.edges.now can c.loop-self.self c.loop-self.edges c.loop-self.invariant.goes w.came
