@@ -15,6 +15,7 @@ mod Leaves
 mod LeafMoved
 mod Loops
 mod Apart
+mod BestWindows
 mod Bridging
 mod Firsting
 mod Standings
@@ -49,6 +50,14 @@ pub mod WindowBounds
 pub mod WindowTelling
 pub mod WindowFirst
 pub mod Countdown
+mod Glancing
+mod Instants
+mod Looking
+mod WindowNodes
+mod WindowBridging
+mod WindowTurnings
+mod FirstWindows
+mod GlanceBridging
 pub mod WindowCauses
 pub mod WindowFaults
 pub mod WindowRuns

@@ -4,6 +4,8 @@
 
 mod edges;
 mod ends;
+mod glance;
+mod lazy;
 mod line;
 mod net;
 mod operator;
