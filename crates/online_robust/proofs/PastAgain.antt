@@ -519,7 +519,7 @@ cut_past x first to back front p e' e starts came at F reach inputs early shed =
     ends_by None h = tt
     ends_by (Some l) h = le_trans h (le_of_same limit)
 
-    none_gone : to +ℤ p.window.high <ℤ pos first → AreLeft first None front (held_at e' p.window.of) → (n : ℕ) → shed.count ≡ n
+    none_gone : (to +ℤ p.window.high) <ℤ pos first → AreLeft first None front (held_at e' p.window.of) → (n : ℕ) → shed.count ≡ n
         → held_at e p.window.of ≡ held_at e' p.window.of
     none_gone lt (q, v, rest, is, when, joined) zero n = shed.is ∙ ap (λ (k : ℕ). drop k (held_at e' p.window.of)) n
     none_gone lt (q, v, rest, is, when, joined) (suc k) n =

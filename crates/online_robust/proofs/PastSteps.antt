@@ -63,6 +63,9 @@ module _ (w : Window) (reach : ℕ) (fit : IsFitPast w reach) where
   pub high_to_passed : to_z w64 (of_z w64 w.high) ≤ℤ pos (2 ^ 32)
   high_to_passed = subst (λ z. z ≤ℤ pos (2 ^ 32)) (sym high_passed) high_to
 
+  pub leaves_at : (until r : Option Frac) → LeavesAt until (to_z w64 (of_z w64 w.high)) r → LeavesAt until w.high r
+  leaves_at until r leaves = subst (λ z. LeavesAt until z r) high_passed leaves
+
   pub room : (m : Margin) → IsMovedBy reach m → unsigned_abs (margin_base m -ℤ to_z w64 (of_z w64 w.high)) ≤ 2 ^ 34
   room m moved = subst (λ z. unsigned_abs (margin_base m -ℤ z) ≤ 2 ^ 34) (sym high_passed) (base_room reach m w.high moved fit.small high_from high_to)
 

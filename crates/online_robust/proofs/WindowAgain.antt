@@ -61,15 +61,14 @@ next_of none low [] seen fresh from to stands is standing some joined = by_stand
     by_stands true e (a, c, until, is') = subst (λ (o : Option Frac). IsNext o fresh to) (sym until)
         (behind_gap a c low.shape from to fresh (subst (λ (l : List MarginLine). AreJoined from to (l ++ fresh)) is' joined))
     by_stands false e h = absurd (let z : false ≡ true = e in cc)
-next_of none low (k ∷ marks) seen fresh from to stands (rest, is, more) ((inl stands'), standing) some joined = by_stands low.stands stands is
+next_of none low (k ∷ marks) seen fresh from to stands (rest, is, more) ((inl stands'), standing) some joined =
+    by_stands low.stands stands is (next_of none k.after marks rest fresh (value k.at) to stands' more standing some)
   where
     by_stands : (b : Bool) → b ≡ true
         → MatchBool b ((a c : Frac) × (low.until ≡ Some c) × (seen ≡ L.Gap a c low.shape ∷ L.Point k.at k.point ∷ rest)) (seen ≡ L.Point k.at k.point ∷ rest)
-        → IsNext (last_gap k.after marks).until fresh to
-    by_stands true e (a, c, until, is') =
-        let joined' = subst (λ (l : List MarginLine). AreJoined from to (l ++ fresh)) is' joined in
-        next_of none k.after marks rest fresh (value k.at) to stands' more standing some joined'.2
-    by_stands false e h = absurd (let z : false ≡ true = e in cc)
+        → (AreJoined (value k.at) to (rest ++ fresh) → IsNext (last_gap k.after marks).until fresh to) → IsNext (last_gap k.after marks).until fresh to
+    by_stands true e (a, c, until, is') go = go (subst (λ (l : List MarginLine). AreJoined from to (l ++ fresh)) is' joined).2
+    by_stands false e h go = absurd (let z : false ≡ true = e in cc)
 next_of none low (k ∷ marks) seen fresh from to stands (rest, is, more) ((inr (e, nil)), standing) some joined =
     absurd (subst (λ (g : Gap). IsSome g.until) e (subst (λ (l : List Mark). IsSome (last_gap k.after l).until) nil some))
 
@@ -83,7 +82,7 @@ fit_tail reach (x ∷ xs) ys h = fit_tail reach xs ys h.1
 
 pub some_or_none : (o : Option Frac) → (o ≡ None) ⊎ IsSome o
 some_or_none None = inl refl
-some_or_none (Some u) = inr tt
+some_or_none (Some u) = inr refl
 
 -- a number moved by an offset is that moved time
 pub moved_whole : (t : Rational) (g k : ℤ) → t ≈ whole g → shifted t k ≈ whole (g +ℤ k)
@@ -331,7 +330,7 @@ can_begin f tr reach own s e front to begins none_value still low high at last s
 
     high_early : shifted (value s.place.at) s.window.high ≤ʳ value s.start
     high_early = le_trans (le_of_same (moved_whole (value s.place.at) (pos first -ℤ pos 4294967296) s.window.high at))
-        (le_trans (le_whole (let up = fit.high in omega (arith, ints, up))) (ge_of_same begins))
+        (le_trans (le_whole {j = (pos first -ℤ pos 4294967296) +ℤ s.window.high} {k = pos first} (let up = fit.high in omega (arith, ints, up))) (ge_of_same begins))
 
     low_early : shifted (value s.place.at) s.window.low <ʳ value s.start
     low_early = lt_of_lt_of_le (in_order (value s.place.at) s.window.low s.window.high fit.order) high_early
@@ -428,7 +427,7 @@ cut_window x first to back front s e' e starts came at F reach inputs early shed
     ends_by (Some l) h = le_trans h (le_of_same limit)
 
     -- before the start nothing has gone
-    none_gone : to +ℤ s.window.low <ℤ pos first → AreLeft first None front (held_at e' s.window.of) → (n : ℕ) → shed.count ≡ n
+    none_gone : (to +ℤ s.window.low) <ℤ pos first → AreLeft first None front (held_at e' s.window.of) → (n : ℕ) → shed.count ≡ n
         → held_at e s.window.of ≡ held_at e' s.window.of
     none_gone lt (p, v, rest, is, when, joined) zero n = shed.is ∙ ap (λ (k : ℕ). drop k (held_at e' s.window.of)) n
     none_gone lt (p, v, rest, is, when, joined) (suc k) n =
@@ -441,10 +440,10 @@ cut_window x first to back front s e' e starts came at F reach inputs early shed
     rest_later : pos first ≤ℤ (to +ℤ s.window.low) → IfSome (slice_get (held_at e s.window.of) 0) (λ l. whole (to +ℤ s.window.low) <ʳ value (end_of l))
     rest_later le = by_low came.at.spread.low_stands
       where
-        by_gap : (seen fresh : List MarginLine) (a c : Frac) (m : Margin) (more : List MarginLine) → seen ≡ L.Gap a c m ∷ more
-            → whole (to +ℤ s.window.low) <ʳ value c → IfSome (slice_get (seen ++ fresh) 0) (λ l. whole (to +ℤ s.window.low) <ʳ value (end_of l))
-        by_gap seen fresh a c m more is lt =
-            subst (λ (l : List MarginLine). IfSome (slice_get (l ++ fresh) 0) (λ y. whole (to +ℤ s.window.low) <ʳ value (end_of y))) (sym is) lt
+        by_gap : (lines behind : List MarginLine) (a c : Frac) (m : Margin) (more : List MarginLine) → lines ≡ L.Gap a c m ∷ more
+            → whole (to +ℤ s.window.low) <ʳ value c → IfSome (slice_get (lines ++ behind) 0) (λ l. whole (to +ℤ s.window.low) <ʳ value (end_of l))
+        by_gap lines behind a c m more is lt =
+            subst (λ (l : List MarginLine). IfSome (slice_get (l ++ behind) 0) (λ y. whole (to +ℤ s.window.low) <ʳ value (end_of y))) (sym is) lt
 
         by_low : (s.place.low.stands ≡ true) ⊎ (s.place.low ≡ no_gap s.none) ⊎ (s.place.low ≡ before_start s.none s.start)
             → IfSome (slice_get (held_at e s.window.of) 0) (λ l. whole (to +ℤ s.window.low) <ʳ value (end_of l))

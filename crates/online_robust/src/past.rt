@@ -1,6 +1,6 @@
 //! The windows without a low end: the best of all that came up to the high end.
 
-ghost use Rattle.std.specs.Prelude.{◌≡◌, ◌⊎◌, ◌<◌, ◌≤◌, ◌^◌, ◌+◌, ◌-ℤ◌, ℕ, Some, None, false, pos, neg_ℤ, IfOk, OnOk, IfErr, IsSomeAnd, MatchBool, MatchOption, length};
+ghost use Rattle.std.specs.Prelude.{◌≡◌, ◌⊎◌, ◌<◌, ◌≤◌, ◌^◌, ◌+◌, ◌-ℤ◌, ℕ, Some, None, false, true, pos, neg_ℤ, IfOk, OnOk, IfErr, IsSomeAnd, MatchBool, MatchOption, length};
 ghost use Rattle.rational.specs.Rational.{Rational, ◌≈◌, whole};
 ghost use Rattle.rational.specs.Time.{◌<ʳ◌, ◌≤ʳ◌, shifted};
 ghost use Rattle.rational.specs.Extended.{value_at, minus_infinity, infinity, ◌≈ᵉ◌};

@@ -3,17 +3,12 @@ use Rattle.rational.specs.Time.{shifted}
 use Rattle.frac128.specs.Value.{value}
 use Rattle.online_robust.specs.Held.{edge_at}
 use Rattle.online_robust.specs.WindowPasts.{HasPassed, IsPassing, IsPastAt}
-use Rattle.online_robust.specs.Windows.{IsGone, IsOutcome, IsPointOf, LeavesAt, Scope, Sheds, at_time, input_of}
+use Rattle.online_robust.specs.Windows.{IsGone, IsOutcome, IsPointOf, Scope, Sheds, at_time, input_of}
 use Rattle.online_robust.specs.declared.past.Past.{Past}
 use Rattle.online_robust.proofs.PastLemmas.{gap_moved, high_tick}
-use Rattle.online_robust.proofs.PastSteps.{high_from_passed, high_passed, high_to_passed, past_at, past_gone, step_fewer}
-use Rattle.online_robust.proofs.past.Past.go_to.Goals.{After-come, After-first_of-t}
+use Rattle.online_robust.proofs.PastSteps.{high_from_passed, high_to_passed, leaves_at, past_at, past_gone, step_fewer}
+use Rattle.online_robust.proofs.past.Past.go_to.Goals.{After-come}
 use Rattle.online_robust.proofs.past.Past.go_to.Goals as goal
-
-leaves_is : (c : After-first_of-t) → (x : Scope) → IsPastAt x c.args.self.now c.args.edges.now
-    → LeavesAt c.args.self.now.gap.until c.args.self.now.window.high c.leaves.result
-leaves_is c x at =
-    subst (λ z. LeavesAt c.args.self.now.gap.until z c.leaves.result) (high_passed c.args.self.now.window x.reach at.fit) c.leaves.ensures
 
 pub leaves-requires-clause-from : goal.leaves-requires-clause-from
 leaves-requires-clause-from c = let (x, at, going, none) = c.requires in high_from_passed c.args.self.now.window x.reach at.fit
@@ -32,7 +27,7 @@ come-requires c =
     let (x, at, going, none) = c.requires in (
       x,
       past_at x c.args.self.now c.args.edges.now at (value c.args.to.now) going none c.first_of-t.result c.leaves.result
-          (leaves_is (goal.at.come-requires c).After-first_of-t x at) c.first_of-t.ensures.by c.first_of-t.ensures.other c.first_of-t.ensures.one,
+          (leaves_at c.args.self.now.window x.reach at.fit c.args.self.now.gap.until c.leaves.result c.leaves.ensures) c.first_of-t.ensures.by c.first_of-t.ensures.other c.first_of-t.ensures.one,
       none,
     )
 
@@ -40,7 +35,7 @@ came : (c : After-come) → (x : Scope) → (at : IsPastAt x c.args.self.now c.a
     → c.args.self.now.point ≡ None → HasPassed x c.come.new.self c.come.new.edges
 came c x at going none =
     c.come.ensures.stands x (past_at x c.args.self.now c.args.edges.now at (value c.args.to.now) going none c.first_of-t.result c.leaves.result
-    (leaves_is c.After-first_of-t x at) c.first_of-t.ensures.by c.first_of-t.ensures.other c.first_of-t.ensures.one) none
+    (leaves_at c.args.self.now.window x.reach at.fit c.args.self.now.gap.until c.leaves.result c.leaves.ensures) c.first_of-t.ensures.by c.first_of-t.ensures.other c.first_of-t.ensures.one) none
 
 pub under-requires : goal.under-requires
 under-requires c =
@@ -51,7 +46,7 @@ pub worth-value-requires : goal.worth-value-requires
 worth-value-requires c =
     let (x, at, going, none) = c.requires in
     (past_at x c.args.self.now c.args.edges.now at (value c.args.to.now) going none c.first_of-t.result c.leaves.result
-    (leaves_is (goal.at.worth-value-requires c).After-first_of-t x at) c.first_of-t.ensures.by c.first_of-t.ensures.other c.first_of-t.ensures.one).near
+    (leaves_at c.args.self.now.window x.reach at.fit c.args.self.now.gap.until c.leaves.result c.leaves.ensures) c.first_of-t.ensures.by c.first_of-t.ensures.other c.first_of-t.ensures.one).near
 
 pub returns-clause-stands : goal.returns-clause-stands
 returns-clause-stands c x at going none = came (goal.at.returns-clause-stands c).After-come x at going none
@@ -64,7 +59,7 @@ returns-clause-told c x at going none =
     subst (λ (q : Past). IsGone (at_time x (value c.args.self.now.at) (value c.args.self.now.at)) c.args.self.now.window (value c.args.to.now) (value q.at)
     c.best-before.result (record { at = c.first_of-t.result; value = c.worth-value.result })) (sym c.come.ensures.kept)
     (past_gone x c.args.self.now c.args.edges.now at (value c.args.to.now) going none c.first_of-t.result c.leaves.result
-    (leaves_is (goal.at.returns-clause-told c).After-first_of-t x at) c.first_of-t.ensures.by c.first_of-t.ensures.other c.first_of-t.ensures.one
+    (leaves_at c.args.self.now.window x.reach at.fit c.args.self.now.gap.until c.leaves.result c.leaves.ensures) c.first_of-t.ensures.by c.first_of-t.ensures.other c.first_of-t.ensures.one
     c.best-before.result c.best-before.ensures.top c.best-before.ensures.low c.best-before.ensures.high c.under.result under c.worth-value.result
     (subst (λ (q : Past). IsOutcome q.window.side c.best-before.result.top c.best-before.result.low c.best-before.result.high c.under.result None
     (value c.first_of-t.result) c.worth-value.result) c.come.ensures.kept c.worth-value.ensures)
@@ -83,11 +78,11 @@ returns-clause-shed c x at going none =
     subst (λ (q : Past). Sheds (shifted (value q.at) c.args.self.now.window.high) c.args.self.now.window.of c.args.edges.now c.come.new.edges)
     (sym c.come.ensures.kept)
     (c.come.ensures.shed x (past_at x c.args.self.now c.args.edges.now at (value c.args.to.now) going none c.first_of-t.result c.leaves.result
-    (leaves_is (goal.at.returns-clause-shed c).After-first_of-t x at) c.first_of-t.ensures.by c.first_of-t.ensures.other c.first_of-t.ensures.one) none)
+    (leaves_at c.args.self.now.window x.reach at.fit c.args.self.now.gap.until c.leaves.result c.leaves.ensures) c.first_of-t.ensures.by c.first_of-t.ensures.other c.first_of-t.ensures.one) none)
 
 pub returns-clause-fewer : goal.returns-clause-fewer
 returns-clause-fewer c x at going none =
     step_fewer x c.args.self.now c.args.edges.now at (value c.args.to.now) going none c.first_of-t.result c.leaves.result
-    (leaves_is (goal.at.returns-clause-fewer c).After-first_of-t x at) c.first_of-t.ensures.by c.first_of-t.ensures.other c.first_of-t.ensures.one
+    (leaves_at c.args.self.now.window x.reach at.fit c.args.self.now.gap.until c.leaves.result c.leaves.ensures) c.first_of-t.ensures.by c.first_of-t.ensures.other c.first_of-t.ensures.one
     (edge_at c.come.new.edges c.args.self.now.window.of) c.come.new.self (ap (λ (q : Past). value q.at) c.come.ensures.kept) c.come.ensures.no_more
     c.come.ensures.fewer
