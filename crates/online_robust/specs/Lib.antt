@@ -14,9 +14,6 @@ pub mod Reading
 pub mod Couples
 pub mod Sweeping
 pub mod Windows
-<<<<<<< HEAD
 pub mod WindowPasts
-=======
 pub mod Glances
 pub mod Waiting
->>>>>>> 4936bc5130bf1e1e860e11c58124fb711de9d13c
