@@ -40,7 +40,7 @@ use Rattle.online_robust.proofs.Builts.{tick_within}
 use Rattle.online_robust.proofs.PastLemmas.{here_is, met, u_is, v_is}
 use Rattle.online_robust.proofs.PastSteps.{settled_before}
 use Rattle.online_robust.proofs.Spreads.{bounded_on}
-use Rattle.online_robust.proofs.WindowAgain.{IsNext, back_before, fit_tail, front_gap, moved_whole, next_of, no_front, some_or_none, told_tail}
+use Rattle.online_robust.proofs.WindowAgain.{IsNext, back_before, fit_tail, front_gap, moved_whole, next_of, no_front, no_none, some_or_none, told_tail}
 use Rattle.online_robust.proofs.WindowBounds.{none_bounded, still_moved}
 use Rattle.online_robust.proofs.WindowPoints.{in_order}
 use Rattle.rational.proofs.Mixed.{within_same}
@@ -105,7 +105,7 @@ module _ (f : Subformula) (tr : Trace) (reach own : ℕ) (g : ℤ) (p : Past) (e
               let one : L.Gap a c p.gap.shape ∷ (more ++ fresh) ≡ L.Point at v ∷ rest = sym (ap (λ (l : List MarginLine). l ++ fresh) gap) ∙ is in
               absurd (let z : Some (L.Gap a c p.gap.shape) ≡ Some (L.Point at v) = ap (λ (l : List MarginLine). slice_get l 0) one in cc)
           by_back false (from, le, joined, later) = next_of p.none p.gap [] seen fresh from (whole front) stands standing tt some joined
-      by_kind (inr (inl is)) = absurd (subst (λ (y : Gap). IsSome y.until) is some)
+      by_kind (inr (inl is)) = absurd (no_none (subst (λ (y : Gap). IsSome y.until) is some))
       by_kind (inr (inr is)) =
           let before : shifted (value p.at) p.window.high <ʳ value p.start =
           subst (λ (y : Gap). IsBefore (shifted (value p.at) p.window.high) y.until) is (settled_before p st.settled none) in

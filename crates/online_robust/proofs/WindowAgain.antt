@@ -51,6 +51,10 @@ behind_gap a b m from to [] joined = absurd joined
 behind_gap a b m from to (L.Gap c d n ∷ lines) joined = absurd joined
 behind_gap a b m from to (L.Point u v ∷ lines) joined = (u, v, lines, refl, joined.1, joined.2)
 
+-- nothing is none
+pub no_none : IsSome {T = Frac} None → ⊥
+no_none h = absurd (let z : false ≡ true = h in cc)
+
 -- behind what was read comes the point at the end of the last gap
 pub next_of : (none : Margin) (low : Gap) (marks : List Mark) (seen fresh : List MarginLine) (from to : Rational) → low.stands ≡ true → AreSeen low marks seen
     → AreStanding none marks → IsSome (last_gap low marks).until → AreJoined from to (seen ++ fresh) → IsNext (last_gap low marks).until fresh to
@@ -70,7 +74,7 @@ next_of none low (k ∷ marks) seen fresh from to stands (rest, is, more) ((inl 
     by_stands true e (a, c, until, is') go = go (subst (λ (l : List MarginLine). AreJoined from to (l ++ fresh)) is' joined).2
     by_stands false e h go = absurd (let z : false ≡ true = e in cc)
 next_of none low (k ∷ marks) seen fresh from to stands (rest, is, more) ((inr (e, nil)), standing) some joined =
-    absurd (subst (λ (g : Gap). IsSome g.until) e (subst (λ (l : List Mark). IsSome (last_gap k.after l).until) nil some))
+    absurd (no_none (subst (λ (g : Gap). IsSome g.until) e (subst (λ (l : List Mark). IsSome (last_gap k.after l).until) nil some)))
 
 pub told_tail : (P : Function) (xs ys : List MarginLine) → AreTold P (xs ++ ys) → AreTold P ys
 told_tail P [] ys h = h
@@ -188,7 +192,7 @@ module _ (f : Subformula) (tr : Trace) (reach own : ℕ) (g : ℤ) (s : Sweep) (
           next_of s.none k.after ms rest' fresh (value at) (whole front) stands' more standing some'
           (subst (λ (l : List MarginLine). AreJoined (value at) (whole front) l) (sym tail) joined)
       by_marks (k ∷ ms) e' seen_is ((inr (is, nil)), standing) some' left =
-          absurd (subst (λ (h : Gap). IsSome h.until) is (subst (λ (l : List Mark). IsSome (last_gap k.after l).until) nil some'))
+          absurd (no_none (subst (λ (h : Gap). IsSome h.until) is (subst (λ (l : List Mark). IsSome (last_gap k.after l).until) nil some')))
 
   by_low : (s.place.low.stands ≡ true) ⊎ (s.place.low ≡ no_gap s.none) ⊎ (s.place.low ≡ before_start s.none s.start)
       → IsNext (last_gap s.place.low marks).until fresh (whole front)
@@ -199,7 +203,7 @@ module _ (f : Subformula) (tr : Trace) (reach own : ℕ) (g : ℤ) (s : Sweep) (
       by_marks : (ms : List Mark) → marks ≡ ms
           → Runs (input_of (scope_at f tr reach st.front st.bound (value s.place.at)) s.window.side) reach st.spread.from s.place.low ms
           → IsSome (last_gap s.place.low ms).until → ⊥
-      by_marks [] e' runs some' = subst (λ (l : Gap). IsSome l.until) is some'
+      by_marks [] e' runs some' = no_none (subst (λ (l : Gap). IsSome l.until) is some')
       by_marks (k ∷ ms) e' runs some' = subst (λ (l : Gap). EndsAt l.until (value k.at)) is runs.1
 
   -- what is to be read of it
