@@ -52,7 +52,7 @@ module _ (from to : Rational) (p : ℕ) (side : Side) (a b : ℕ) (a_in b_in : B
 
 -- ---- the best over the window
 
-abbrev best_over : Trace → Function → Window → Function
+abbrev pub best_over : Trace → Function → Window → Function
 best_over tr P w t r = IsBestOver w.side minus_infinity infinity (Holds (start tr) (stop tr) w t) P r
 
 -- it is the margin of the node
@@ -171,7 +171,7 @@ in_play_is f place (N.Since p q a b) w tr is tau line h = absurd is
 -- ---- constants that are settled
 
 -- a constant that the input has at a breakpoint before a time is in play
-abbrev SettledOver : Function → Rational → Rational → Rational → Window → Rational → Affine → Type 0
+abbrev pub SettledOver : Function → Rational → Rational → Rational → Window → Rational → Affine → Type 0
 SettledOver P from to front w tau line =
     IsValueWithin P from to (λ u. Holds from to w tau u × (u <ʳ front)) line
     ⊎ IsLimitWithin P from to (λ u. Holds from to (closed w) tau u × (u <ʳ front)) (λ u. shifted tau w.low <ʳ u) (λ u. u <ʳ shifted tau w.high) line

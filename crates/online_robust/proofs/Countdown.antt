@@ -109,7 +109,7 @@ go_fewer w t to p x old here by le one =
         → 2 * lines_left x + is_before_end (shifted t w.high) p.high.until + (if less t to then 1 else 0) < 2 * old + 2
     by_one (inl e) =
         let last : ◌≡◌ {A = ℕ} (if less t to then 1 else 0) 0 =
-            ap (λ (b : Bool). if b then 1 else 0) (less_no t to (subst (λ (z : Rational). z ≤ʳ t) e (le_refl t))) in
+        ap (λ (b : Bool). if b then 1 else 0) (less_no t to (subst (λ (z : Rational). z ≤ʳ t) e (le_refl t))) in
         let one' = end_at_most (shifted t w.high) p.high.until in
         omega (arith, last, one', le)
     by_one (inr (inl ends)) =

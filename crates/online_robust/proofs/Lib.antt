@@ -43,6 +43,7 @@ pub mod WindowFits
 pub mod WindowStops
 pub mod WindowPoints
 pub mod WindowTurns
+pub mod WindowCore
 pub mod WindowSteps
 pub mod Sheddings
 pub mod WindowBounds
@@ -62,3 +63,6 @@ pub mod WindowCauses
 pub mod WindowFaults
 pub mod WindowRuns
 pub mod WindowAgain
+pub mod PastLemmas
+pub mod PastSteps
+pub mod PastAgain

@@ -29,10 +29,8 @@ use Rattle.stl_syntax.specs.Trace.{start, stop}
 use Rattle.stl_syntax.specs.SupInf.{Robustness}
 use Rattle.online_robust.specs.Queues.{constant_of, IsAmong, IsBest, IsBestOf, NoneIsBetter}
 use Rattle.online_robust.specs.Sweeping.{AreBy, AreFrozen, IsBefore, IsFrozen, IsOn, IsUpTo, Mark, Runs, last_gap, with_outside}
-use Rattle.online_robust.specs.Windows.{Holds, IsSpread, Scope, best_of, input_of}
+use Rattle.online_robust.specs.Windows.{Holds, IsCore, Scope, best_of, input_of}
 use Rattle.online_robust.specs.declared.ends.Gap.{Gap}
-use Rattle.online_robust.specs.declared.line.MarginLine.{MarginLine}
-use Rattle.online_robust.specs.declared.queue.Queue.{Queue}
 use Rattle.online_robust.specs.declared.window.Window.{Window as Wide}
 use Rattle.online_robust.proofs.Spreads.{input_is_function}
 use Rattle.online_robust.proofs.WindowLaw.{AreUnder, IsOneOf, IsSpanned, IsWindow, before_of, last_on_of, runs_later, runs_on, window_bound, window_reached}
@@ -159,8 +157,7 @@ floor_any Least infinity = tt
 pub record IsTopOf (side : Side) (cs : List Margin) (top : Margin) : Type 0 where
   pub best : IsBest margin_function side cs top ⊎ ((cs ≡ []) × ((t : Rational) → value_at (margin_function top) t ≈ᵉ none_of side minus_infinity infinity))
 
-module _ (x : Scope) (w : Wide) (begin : Frac) (none : Margin) (low high : Gap) (q : Queue Margin) (seen fresh : List MarginLine) (l h : Rational)
-    (s : IsSpread x w begin none low high q seen fresh l h) where
+module _ (x : Scope) (w : Wide) (none : Margin) (low high : Gap) (l h : Rational) (s : IsCore x w none low high l h) where
   -- a time at which the ends stand within the gaps about them
   pub record IsIn (t : Rational) : Type 0 where
     pub from_start : start x.trace ≤ʳ t

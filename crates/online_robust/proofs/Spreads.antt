@@ -74,7 +74,7 @@ input_is_function x side = record { alike = alike; one = one }
     one t v w (inr (o, h)) (inr (o', k)) = transᵉ h (symᵉ k)
 
 -- a bounded function on a stretch with its ends
-bounded_on : (p : Margin) (a b t : Rational) → IsBounded (2 ^ 31) (value_at (margin_function p) a) → IsBounded (2 ^ 31) (value_at (margin_function p) b)
+pub bounded_on : (p : Margin) (a b t : Rational) → IsBounded (2 ^ 31) (value_at (margin_function p) a) → IsBounded (2 ^ 31) (value_at (margin_function p) b)
     → a ≤ʳ t → t ≤ʳ b → IsBounded (2 ^ 31) (value_at (margin_function p) t)
 bounded_on p a b t ha hb le le' = by_order (lt_or_same_or_gt a t) (lt_or_same_or_gt t b)
   where

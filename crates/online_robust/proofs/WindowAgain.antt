@@ -28,7 +28,7 @@ use Rattle.online_robust.specs.Sweeping.{AreBy, EndsAt, IsBefore, IsUpTo, Mark, 
 use Rattle.online_robust.specs.Told.{AreFit, AreJoined, AreTold, IsMovedBy, IsTick}
 use Rattle.online_robust.specs.Turns.{AreInputs, AreLeft, IsCut, IsCutBy, back_of}
 use Rattle.online_robust.specs.Reading.{IsThere}
-use Rattle.online_robust.specs.Windows.{AreSeen, AreStanding, CanSweep, HasCome, HasTold, IsAt, IsFitWindow, IsOwn, IsSpread, IsStanding, IsToCome, Scope, Sheds, StoodOver, at_time, before_start, best_of, input_of, no_gap, scope_at}
+use Rattle.online_robust.specs.Windows.{AreSeen, AreStanding, CanSweep, HasCome, HasTold, IsAt, IsFitWindow, IsOwn, IsOwned, IsSpread, IsStanding, IsToCome, Scope, Sheds, StoodOver, at_time, before_start, best_of, input_of, no_gap, scope_at}
 use Rattle.online_robust.specs.declared.ends.Gap.{Gap}
 use Rattle.online_robust.specs.declared.line.MarginLine.{MarginLine}
 use Rattle.online_robust.specs.declared.line.MarginLine.TheVariants as L
@@ -51,8 +51,12 @@ behind_gap a b m from to [] joined = absurd joined
 behind_gap a b m from to (L.Gap c d n ∷ lines) joined = absurd joined
 behind_gap a b m from to (L.Point u v ∷ lines) joined = (u, v, lines, refl, joined.1, joined.2)
 
+-- nothing is none
+pub no_none : IsSome {T = Frac} None → ⊥
+no_none h = absurd (let z : false ≡ true = h in cc)
+
 -- behind what was read comes the point at the end of the last gap
-next_of : (none : Margin) (low : Gap) (marks : List Mark) (seen fresh : List MarginLine) (from to : Rational) → low.stands ≡ true → AreSeen low marks seen
+pub next_of : (none : Margin) (low : Gap) (marks : List Mark) (seen fresh : List MarginLine) (from to : Rational) → low.stands ≡ true → AreSeen low marks seen
     → AreStanding none marks → IsSome (last_gap low marks).until → AreJoined from to (seen ++ fresh) → IsNext (last_gap low marks).until fresh to
 next_of none low [] seen fresh from to stands is standing some joined = by_stands low.stands stands is
   where
@@ -61,29 +65,28 @@ next_of none low [] seen fresh from to stands is standing some joined = by_stand
     by_stands true e (a, c, until, is') = subst (λ (o : Option Frac). IsNext o fresh to) (sym until)
         (behind_gap a c low.shape from to fresh (subst (λ (l : List MarginLine). AreJoined from to (l ++ fresh)) is' joined))
     by_stands false e h = absurd (let z : false ≡ true = e in cc)
-next_of none low (k ∷ marks) seen fresh from to stands (rest, is, more) ((inl stands'), standing) some joined = by_stands low.stands stands is
+next_of none low (k ∷ marks) seen fresh from to stands (rest, is, more) ((inl stands'), standing) some joined =
+    by_stands low.stands stands is (next_of none k.after marks rest fresh (value k.at) to stands' more standing some)
   where
     by_stands : (b : Bool) → b ≡ true
         → MatchBool b ((a c : Frac) × (low.until ≡ Some c) × (seen ≡ L.Gap a c low.shape ∷ L.Point k.at k.point ∷ rest)) (seen ≡ L.Point k.at k.point ∷ rest)
-        → IsNext (last_gap k.after marks).until fresh to
-    by_stands true e (a, c, until, is') =
-        let joined' = subst (λ (l : List MarginLine). AreJoined from to (l ++ fresh)) is' joined in
-        next_of none k.after marks rest fresh (value k.at) to stands' more standing some joined'.2
-    by_stands false e h = absurd (let z : false ≡ true = e in cc)
+        → (AreJoined (value k.at) to (rest ++ fresh) → IsNext (last_gap k.after marks).until fresh to) → IsNext (last_gap k.after marks).until fresh to
+    by_stands true e (a, c, until, is') go = go (subst (λ (l : List MarginLine). AreJoined from to (l ++ fresh)) is' joined).2
+    by_stands false e h go = absurd (let z : false ≡ true = e in cc)
 next_of none low (k ∷ marks) seen fresh from to stands (rest, is, more) ((inr (e, nil)), standing) some joined =
-    absurd (subst (λ (g : Gap). IsSome g.until) e (subst (λ (l : List Mark). IsSome (last_gap k.after l).until) nil some))
+    absurd (no_none (subst (λ (g : Gap). IsSome g.until) e (subst (λ (l : List Mark). IsSome (last_gap k.after l).until) nil some)))
 
-told_tail : (P : Function) (xs ys : List MarginLine) → AreTold P (xs ++ ys) → AreTold P ys
+pub told_tail : (P : Function) (xs ys : List MarginLine) → AreTold P (xs ++ ys) → AreTold P ys
 told_tail P [] ys h = h
 told_tail P (x ∷ xs) ys h = told_tail P xs ys h.1
 
-fit_tail : (reach : ℕ) (xs ys : List MarginLine) → AreFit reach (xs ++ ys) → AreFit reach ys
+pub fit_tail : (reach : ℕ) (xs ys : List MarginLine) → AreFit reach (xs ++ ys) → AreFit reach ys
 fit_tail reach [] ys h = h
 fit_tail reach (x ∷ xs) ys h = fit_tail reach xs ys h.1
 
-some_or_none : (o : Option Frac) → (o ≡ None) ⊎ IsSome o
+pub some_or_none : (o : Option Frac) → (o ≡ None) ⊎ IsSome o
 some_or_none None = inl refl
-some_or_none (Some u) = inr tt
+some_or_none (Some u) = inr refl
 
 -- a number moved by an offset is that moved time
 pub moved_whole : (t : Rational) (g k : ℤ) → t ≈ whole g → shifted t k ≈ whole (g +ℤ k)
@@ -93,7 +96,7 @@ some_is : {X : Type 0} {a b : X} → Some a ≡ Some b → a ≡ b
 some_is h = cc
 
 -- the first of the lines that were read is the low gap, if it stands on the edge
-front_gap : (low : Gap) (marks : List Mark) (seen : List MarginLine) → low.stands ≡ true → AreSeen low marks seen
+pub front_gap : (low : Gap) (marks : List Mark) (seen : List MarginLine) → low.stands ≡ true → AreSeen low marks seen
     → (a c : Frac) × (rest : List MarginLine) × (low.until ≡ Some c) × (seen ≡ L.Gap a c low.shape ∷ rest)
 front_gap low [] seen stands is = by_stands low.stands stands is
   where
@@ -110,7 +113,7 @@ front_gap low (k ∷ marks) seen stands (rest, is, more) = by_stands low.stands 
     by_stands false e h = absurd (let z : false ≡ true = e in cc)
 
 -- else it is the first mark's point
-no_front : (low : Gap) (seen rest : List MarginLine) → low.stands ≡ false → IsStanding low seen rest → seen ≡ rest
+pub no_front : (low : Gap) (seen rest : List MarginLine) → low.stands ≡ false → IsStanding low seen rest → seen ≡ rest
 no_front low seen rest stands is = by_stands low.stands stands is
   where
     by_stands : (b : Bool) → b ≡ false → MatchBool b ((a c : Frac) × (low.until ≡ Some c) × (seen ≡ L.Gap a c low.shape ∷ rest)) (seen ≡ rest) → seen ≡ rest
@@ -161,7 +164,7 @@ module _ (f : Subformula) (tr : Trace) (reach own : ℕ) (g : ℤ) (s : Sweep) (
   by_start : s.place.low ≡ before_start s.none s.start → IsNext (last_gap s.place.low marks).until fresh (whole front)
   by_start is_low =
       let before : shifted (value s.place.at) s.window.low <ʳ value s.start =
-          subst (λ (l : Gap). IsBefore (shifted (value s.place.at) s.window.low) l.until) is_low st.low_before in
+      subst (λ (l : Gap). IsBefore (shifted (value s.place.at) s.window.low) l.until) is_low st.low_before in
       let none = back_before (first_time tr.rows) g s.window.low (shifted (value s.place.at) s.window.low) low_is
       (lt_of_lt_of_le before (le_of_same st.spread.begins)) in
       by_marks marks refl st.spread.seen_is st.spread.standing some_last
@@ -184,12 +187,12 @@ module _ (f : Subformula) (tr : Trace) (reach own : ℕ) (g : ℤ) (s : Sweep) (
           )
       by_marks (k ∷ ms) e' (rest', is, more) ((inl stands'), standing) some' (at, v, rest, all, when, joined) =
           let one : L.Point k.at k.point ∷ (rest' ++ fresh) ≡ L.Point at v ∷ rest =
-              sym (ap (λ (l : List MarginLine). l ++ fresh) (no_front s.place.low seen (L.Point k.at k.point ∷ rest') stands is)) ∙ all in
+          sym (ap (λ (l : List MarginLine). l ++ fresh) (no_front s.place.low seen (L.Point k.at k.point ∷ rest') stands is)) ∙ all in
           let tail : rest' ++ fresh ≡ rest = ap (λ (l : List MarginLine). drop 1 l) one in
           next_of s.none k.after ms rest' fresh (value at) (whole front) stands' more standing some'
           (subst (λ (l : List MarginLine). AreJoined (value at) (whole front) l) (sym tail) joined)
       by_marks (k ∷ ms) e' seen_is ((inr (is, nil)), standing) some' left =
-          absurd (subst (λ (h : Gap). IsSome h.until) is (subst (λ (l : List Mark). IsSome (last_gap k.after l).until) nil some'))
+          absurd (no_none (subst (λ (h : Gap). IsSome h.until) is (subst (λ (l : List Mark). IsSome (last_gap k.after l).until) nil some')))
 
   by_low : (s.place.low.stands ≡ true) ⊎ (s.place.low ≡ no_gap s.none) ⊎ (s.place.low ≡ before_start s.none s.start)
       → IsNext (last_gap s.place.low marks).until fresh (whole front)
@@ -200,7 +203,7 @@ module _ (f : Subformula) (tr : Trace) (reach own : ℕ) (g : ℤ) (s : Sweep) (
       by_marks : (ms : List Mark) → marks ≡ ms
           → Runs (input_of (scope_at f tr reach st.front st.bound (value s.place.at)) s.window.side) reach st.spread.from s.place.low ms
           → IsSome (last_gap s.place.low ms).until → ⊥
-      by_marks [] e' runs some' = subst (λ (l : Gap). IsSome l.until) is some'
+      by_marks [] e' runs some' = no_none (subst (λ (l : Gap). IsSome l.until) is some')
       by_marks (k ∷ ms) e' runs some' = subst (λ (l : Gap). EndsAt l.until (value k.at)) is runs.1
 
   -- what is to be read of it
@@ -231,6 +234,9 @@ module _ (f : Subformula) (tr : Trace) (reach own : ℕ) (g : ℤ) (s : Sweep) (
       spread_told (scope_at f tr reach st.front st.bound (value s.place.at)) (whole front) bound s.window s.start s.none s.place.low s.place.high s.among seen
       st.fresh fresh (shifted (value s.place.at) s.window.low) (shifted (value s.place.at) s.window.high) st.spread within ended (to_come bound)
 
+owned_of : {w : Window} {own : ℕ} → IsOwn w own → IsOwned w own
+owned_of is = record { low = inl (is.low_from, is.low_to); high_from = is.high_from; high_to = is.high_to }
+
 -- a later turn: what was kept before, over what the input has given out by now, is what a window needs to go on
 pub can_go_on : (f : Subformula) (tr : Trace) (reach own : ℕ) (g : ℤ) (s : Sweep) (e : Held)
     → StoodOver f tr reach own (whole g) s (edge_at e s.window.of).seen → (front to : ℤ)
@@ -247,15 +253,18 @@ can_go_on f tr reach own g s e st front to inputs of_in order begun from_tick to
   within = within_same (2 ^ 34) (same_sym st.at) (tick_within from_tick);
   low_before = st.low_before;
   last = by_last s.last st.last;
-  owns = own_is;
-  aside = aside;
-  order = le_of_lt (lt_whole order);
-  from_tick = from_tick;
-  to_tick = to_tick;
-  begins = begun;
-  ends = ends;
-  by = le_refl (shifted (whole to) s.window.high);
-  told = told;
+  span = record {
+    offsets = st.spread.fit.order;
+    owns = owned_of own_is;
+    aside = aside;
+    order = le_of_lt (lt_whole order);
+    from_tick = from_tick;
+    to_tick = to_tick;
+    begins = begun;
+    ends = ends;
+    by = le_refl (shifted (whole to) s.window.high);
+    told = told;
+  };
 }
   where
     goes : (whole g ≈ stop tr) ⊎ IsSome s.place.high.until → IsSome s.place.high.until
@@ -294,15 +303,18 @@ can_begin f tr reach own s e front to begins none_value still low high at last s
       within = at_within;
       low_before = subst (λ (g : Gap). IsBefore (shifted (value s.place.at) s.window.low) g.until) (sym low) low_early;
       last = subst (λ (o : Option Reached). HasTold x own (start tr) s.window o) (sym last) (same_refl (start tr), early);
-      owns = own_is;
-      aside = aside;
-      order = order;
-      from_tick = first_tick;
-      to_tick = to_tick;
-      begins = le_refl (start tr);
-      ends = ends;
-      by = le_refl (shifted (whole to) s.window.high);
-      told = told;
+      span = record {
+        offsets = fit.order;
+        owns = owned_of own_is;
+        aside = aside;
+        order = order;
+        from_tick = first_tick;
+        to_tick = to_tick;
+        begins = le_refl (start tr);
+        ends = ends;
+        by = le_refl (shifted (whole to) s.window.high);
+        told = told;
+      };
     }
   where
     x : Scope
@@ -322,7 +334,7 @@ can_begin f tr reach own s e front to begins none_value still low high at last s
 
     high_early : shifted (value s.place.at) s.window.high ≤ʳ value s.start
     high_early = le_trans (le_of_same (moved_whole (value s.place.at) (pos first -ℤ pos 4294967296) s.window.high at))
-        (le_trans (le_whole (let up = fit.high in omega (arith, ints, up))) (ge_of_same begins))
+        (le_trans (le_whole {j = (pos first -ℤ pos 4294967296) +ℤ s.window.high} {k = pos first} (let up = fit.high in omega (arith, ints, up))) (ge_of_same begins))
 
     low_early : shifted (value s.place.at) s.window.low <ʳ value s.start
     low_early = lt_of_lt_of_le (in_order (value s.place.at) s.window.low s.window.high fit.order) high_early
@@ -377,7 +389,7 @@ stood_over x own from to old s old_e e can came same last bound = record {
   fresh = fresh_at e s.window.of;
   spread = came.at.spread;
   low_before = came.low_before;
-  goes_on = goes can.told (some_or_none s.place.high.until);
+  goes_on = goes can.span.told (some_or_none s.place.high.until);
   last = (by_last s.last last).1;
 }
   where
@@ -419,34 +431,34 @@ cut_window x first to back front s e' e starts came at F reach inputs early shed
     ends_by (Some l) h = le_trans h (le_of_same limit)
 
     -- before the start nothing has gone
-    none_gone : to +ℤ s.window.low <ℤ pos first → AreLeft first None front (held_at e' s.window.of) → (n : ℕ) → shed.count ≡ n
+    none_gone : (to +ℤ s.window.low) <ℤ pos first → AreLeft first None front (held_at e' s.window.of) → (n : ℕ) → shed.count ≡ n
         → held_at e s.window.of ≡ held_at e' s.window.of
     none_gone lt (p, v, rest, is, when, joined) zero n = shed.is ∙ ap (λ (k : ℕ). drop k (held_at e' s.window.of)) n
     none_gone lt (p, v, rest, is, when, joined) (suc k) n =
         let h = shed.ended 0 (omega (arith, n)) in
         let h' : value p ≤ʳ shifted (whole to) s.window.low =
-            subst (λ (l : List MarginLine). IfSome (slice_get l 0) (λ y. value (end_of y) ≤ʳ shifted (whole to) s.window.low)) is h in
+        subst (λ (l : List MarginLine). IfSome (slice_get l 0) (λ y. value (end_of y) ≤ʳ shifted (whole to) s.window.low)) is h in
         absurd (not_lt_of_le (le_trans (ge_of_same when) (le_trans h' (le_of_same limit))) (lt_whole lt))
 
     -- the first line that is left ends later
     rest_later : pos first ≤ℤ (to +ℤ s.window.low) → IfSome (slice_get (held_at e s.window.of) 0) (λ l. whole (to +ℤ s.window.low) <ʳ value (end_of l))
     rest_later le = by_low came.at.spread.low_stands
       where
-        by_gap : (seen fresh : List MarginLine) (a c : Frac) (m : Margin) (more : List MarginLine) → seen ≡ L.Gap a c m ∷ more
-            → whole (to +ℤ s.window.low) <ʳ value c → IfSome (slice_get (seen ++ fresh) 0) (λ l. whole (to +ℤ s.window.low) <ʳ value (end_of l))
-        by_gap seen fresh a c m more is lt =
-            subst (λ (l : List MarginLine). IfSome (slice_get (l ++ fresh) 0) (λ y. whole (to +ℤ s.window.low) <ʳ value (end_of y))) (sym is) lt
+        by_gap : (lines behind : List MarginLine) (a c : Frac) (m : Margin) (more : List MarginLine) → lines ≡ L.Gap a c m ∷ more
+            → whole (to +ℤ s.window.low) <ʳ value c → IfSome (slice_get (lines ++ behind) 0) (λ l. whole (to +ℤ s.window.low) <ʳ value (end_of l))
+        by_gap lines behind a c m more is lt =
+            subst (λ (l : List MarginLine). IfSome (slice_get (l ++ behind) 0) (λ y. whole (to +ℤ s.window.low) <ʳ value (end_of y))) (sym is) lt
 
         by_low : (s.place.low.stands ≡ true) ⊎ (s.place.low ≡ no_gap s.none) ⊎ (s.place.low ≡ before_start s.none s.start)
             → IfSome (slice_get (held_at e s.window.of) 0) (λ l. whole (to +ℤ s.window.low) <ʳ value (end_of l))
         by_low (inl stands) =
             let (a, c, more, until, is) = front_gap s.place.low came.at.spread.marks (edge_at e s.window.of).seen stands came.at.spread.seen_is in
             let before : shifted (value s.place.at) s.window.low <ʳ value c =
-                subst (λ (o : Option Frac). IsBefore (shifted (value s.place.at) s.window.low) o) until came.low_before in
+            subst (λ (o : Option Frac). IsBefore (shifted (value s.place.at) s.window.low) o) until came.low_before in
             by_gap (edge_at e s.window.of).seen (edge_at e s.window.of).fresh a c s.place.low.shape more is (lt_of_le_of_lt (ge_of_same at_limit) before)
         by_low (inr (inr is)) =
             let before : shifted (value s.place.at) s.window.low <ʳ value s.start =
-                subst (λ (g : Gap). IsBefore (shifted (value s.place.at) s.window.low) g.until) is came.low_before in
+            subst (λ (g : Gap). IsBefore (shifted (value s.place.at) s.window.low) g.until) is came.low_before in
             absurd (not_lt_of_le (le_whole le) (lt_of_le_of_lt (ge_of_same at_limit)
             (lt_of_lt_of_le before (le_trans (le_of_same came.at.spread.begins) (le_of_same starts)))))
         by_low (inr (inl is)) = by_marks came.at.spread.marks came.at.spread.runs came.at.spread.seen_is came.at.spread.last
@@ -461,7 +473,7 @@ cut_window x first to back front s e' e starts came at F reach inputs early shed
                 let fresh_nil = (subst (λ (o : Option Frac). IsToCome (at_time x (value s.place.at) (value s.place.at)) o (fresh_at e s.window.of)) none
                 came.at.spread.to_come).0 in
                 let held_nil : held_at e s.window.of ≡ [] =
-                    ap (λ (l : List MarginLine). l ++ fresh_at e s.window.of) seen_nil ∙ fresh_nil in
+                ap (λ (l : List MarginLine). l ++ fresh_at e s.window.of) seen_nil ∙ fresh_nil in
                 subst (λ (l : List MarginLine). IfSome (slice_get l 0) (λ y. whole (to +ℤ s.window.low) <ʳ value (end_of y))) (sym held_nil) tt
 
     by_test : (b : Bool) → int_lt (to +ℤ s.window.low) (pos first) ≡ b

@@ -29,10 +29,9 @@ use Rattle.envelope.specs.declared.best.Best.{Best}
 use Rattle.stl_syntax.specs.SupInf.{Robustness}
 use Rattle.stl_syntax.specs.Trace.{start, stop}
 use Rattle.window_ops.proofs.Ends.{at_is, gt_to, le_shifted, lt_shifted, lt_shifted_back}
-use Rattle.online_robust.specs.Held.{Held}
-use Rattle.online_robust.specs.Windows.{CanSweep, Holds, InPlayOver, IsGone, IsInPlayBefore, IsSettledOver, IsUnfixed, IsUnfixedHigh, IsUnfixedKnot, IsUnmet, IsUnstored, IsWindowFault, Scope, at_time, closed}
+use Rattle.online_robust.specs.Windows.{Holds, InPlayOver, IsGone, IsInPlayBefore, IsSettledOver, IsSpan, IsUnfixed, IsUnfixedKnot, IsUnfixedUnder, IsUnmet, IsUnstored, IsWindowFault, Scope, at_time, closed}
+use Rattle.online_robust.specs.declared.ends.Gap.{Gap}
 use Rattle.online_robust.specs.declared.line.Reached.{Reached}
-use Rattle.online_robust.specs.declared.window.Sweep.{Sweep}
 use Rattle.online_robust.specs.declared.window.Window.{Window}
 use Rattle.online_robust.proofs.WindowCauses.{knot_in_play, knot_within}
 use Rattle.online_robust.proofs.WindowPoints.{in_order}
@@ -110,12 +109,8 @@ module _ (x : Scope) (w : Window) (to : Rational) where
   }
 
 -- a refused constant of a knot
-module _ (x : Scope) (own : ℕ) (from to : Rational) (s : Sweep) (e : Held) (can : CanSweep x own from to s e) (p : Rational) (by : p <ʳ to) (now : Sweep)
-    (same : now.window ≡ s.window) where
-  abbrev w : Window
-  w = now.window
-
-  knot_fault : (q : Margin) (a : Frac) (den : ℕ) → IsUnfixedKnot (at_time x p p) now (F.Wide (Value q a den)) → IsWindowFault x w to (F.Wide (Value q a den))
+module _ (x : Scope) (own : ℕ) (from to : Rational) (w : Window) (span : IsSpan x w own from to) (p : Rational) (by : p <ʳ to) (gap : Gap) where
+  knot_fault : (q : Margin) (a : Frac) (den : ℕ) → IsUnfixedKnot (at_time x p p) w gap (F.Wide (Value q a den)) → IsWindowFault x w to (F.Wide (Value q a den))
   knot_fault q a den h = by_start (le_or_lt (start x.trace) p)
     where
       v : Rational
@@ -142,7 +137,7 @@ module _ (x : Scope) (own : ℕ) (from to : Rational) (s : Sweep) (e : Held) (ca
 
       in_play : (tau : Rational) → shifted tau w.low <ʳ u → u <ʳ shifted tau w.high → (line : Affine) → IsConstant line (finite v)
           → InPlayOver (Robustness x.formula x.trace) (start x.trace) (stop x.trace) w tau line
-      in_play tau l r line constant = knot_in_play x w.side now.place.high h.k h.from h.before h.ends h.rises h.point h.after h.goes_on h.knot w tau l r q
+      in_play tau l r line constant = knot_in_play x w.side gap h.k h.from h.before h.ends h.rises h.point h.after h.goes_on h.knot w tau l r q
           h.unfixed.one v is line constant
 
       over : (tau : Rational) → p <ʳ tau → u <ʳ shifted tau w.high
@@ -151,29 +146,26 @@ module _ (x : Scope) (own : ℕ) (from to : Rational) (s : Sweep) (e : Held) (ca
       -- the time is after the start
       from_start : start x.trace ≤ʳ p → IsWindowFault x w to (F.Wide (Value q a den))
       from_start begun =
-          let c = earlier_end by (leaves_after (lt_of_lt_of_le (in_order p w.low w.high order) (ge_of_same h.here))) in
+          let c = earlier_end by (leaves_after (lt_of_lt_of_le (in_order p w.low w.high span.offsets) (ge_of_same h.here))) in
           let tau = middle p c.0 in
           let after : p <ʳ tau = left_of_middle c.1 in
           let before : tau <ʳ c.0 = right_of_middle c.1 in
           let by_to : tau <ʳ to = lt_of_lt_of_le before c.2 in
           inl (wide_value x w to (IsInPlayBefore x w to) q a den v at_u h.unfixed.denominator h.unfixed.wide tau (lt_of_le_of_lt begun after)
-          (lt_of_lt_of_le by_to can.ends)
+          (lt_of_lt_of_le by_to span.ends)
           (λ line constant. (in_play tau (before_low (lt_of_lt_of_le before c.3)) (over tau after) line constant, by_to)))
-        where
-          order : w.low <ℤ w.high
-          order = subst (λ (z : Window). z.low <ℤ z.high) (sym same) can.at.spread.fit.order
 
       -- or before it: the knot comes strictly into the window just after it
       before_start : p <ʳ start x.trace → IsWindowFault x w to (F.Wide (Value q a den))
       before_start early = by_to (le_or_lt to (start x.trace))
         where
           inside : Within (start x.trace) (stop x.trace) u
-          inside = (knot_within x w.side now.place.high h.k h.from h.before h.ends h.rises h.point h.after h.goes_on h.knot q h.unfixed.one v is
+          inside = (knot_within x w.side gap h.k h.from h.before h.ends h.rises h.point h.after h.goes_on h.knot q h.unfixed.one v is
               (affine (constant v)) (λ t. finite_same (same_sym (at_constant v t))) (λ t. Unit {0}) (λ t. Unit {0}) (λ t. Unit {0}) (λ t. Unit {0}) (λ i. tt) (λ i. tt)
               tt tt).0
 
           low_on : pos 0 ≤ℤ w.low
-          low_on = by_side (subst (λ (z : Window). (pos 0 ≤ℤ z.low) ⊎ (z.high ≤ℤ pos 0)) (sym same) can.aside)
+          low_on = by_side span.aside
             where
               by_side : (pos 0 ≤ℤ w.low) ⊎ (w.high ≤ℤ pos 0) → pos 0 ≤ℤ w.low
               by_side (inl k) = k
@@ -192,7 +184,7 @@ module _ (x : Scope) (own : ℕ) (from to : Rational) (s : Sweep) (e : Held) (ca
               let after : start x.trace <ʳ tau = left_of_middle c.1 in
               let before : tau <ʳ c.0 = right_of_middle c.1 in
               let by_to' : tau <ʳ to = lt_of_lt_of_le before c.2 in
-              inl (wide_value x w to (IsInPlayBefore x w to) q a den v at_u h.unfixed.denominator h.unfixed.wide tau after (lt_of_lt_of_le by_to' can.ends)
+              inl (wide_value x w to (IsInPlayBefore x w to) q a den v at_u h.unfixed.denominator h.unfixed.wide tau after (lt_of_lt_of_le by_to' span.ends)
               (λ line constant. (in_play tau (before_low (lt_of_lt_of_le before c.3)) (over tau (lt_trans early after)) line constant, by_to')))
           by_to (inl le) =
               let c = earlier_end wide_domain (leaves_after h.counts) in
@@ -202,26 +194,26 @@ module _ (x : Scope) (own : ℕ) (from to : Rational) (s : Sweep) (e : Held) (ca
               let low : shifted tau w.low <ʳ u = before_low (lt_of_lt_of_le before c.3) in
               let high : u <ʳ shifted tau w.high = over tau (lt_trans early after) in
               inr (
-                same_of_le le (le_trans can.begins can.order),
+                same_of_le le (le_trans span.begins span.order),
                 wide_value x w to (IsSettledOver x w) q a den v at_u h.unfixed.denominator h.unfixed.wide tau after (lt_of_lt_of_le before c.2)
-                    (λ line constant. (knot_within x w.side now.place.high h.k h.from h.before h.ends h.rises h.point h.after h.goes_on h.knot q h.unfixed.one v is line
+                    (λ line constant. (knot_within x w.side gap h.k h.from h.before h.ends h.rises h.point h.after h.goes_on h.knot q h.unfixed.one v is line
                     constant (λ r. Holds (start x.trace) (stop x.trace) w tau r × (r <ʳ x.front))
                     (λ r. Holds (start x.trace) (stop x.trace) (closed w) tau r × (r <ʳ x.front)) (λ r. shifted tau w.low <ʳ r)
                     (λ r. r <ʳ shifted tau w.high)
-                    (λ i. (record { inside = i; begins = precedes_of_lt w.low_in (shifted tau w.low) u low; ends = precedes_of_lt w.high_in u (shifted tau w.high) high }, told can.told))
-                    (λ i. (record { inside = i; begins = le_of_lt low; ends = le_of_lt high }, told can.told)) low high).1),
+                    (λ i. (record { inside = i; begins = precedes_of_lt w.low_in (shifted tau w.low) u low; ends = precedes_of_lt w.high_in u (shifted tau w.high) high }, told span.told))
+                    (λ i. (record { inside = i; begins = le_of_lt low; ends = le_of_lt high }, told span.told)) low high).1),
               )
             where
               told : (x.bound ≤ʳ x.front) ⊎ ((x.front ≈ stop x.trace) × (to ≈ stop x.trace)) → u <ʳ x.front
-              told (inl k) = lt_of_lt_of_le (lt_of_lt_of_le (over (start x.trace) early) (le_shifted w.high (le_trans can.begins can.order)))
-                  (le_trans (subst (λ (z : Window). shifted to z.high ≤ʳ x.bound) (sym same) can.by) k)
+              told (inl k) = lt_of_lt_of_le (lt_of_lt_of_le (over (start x.trace) early) (le_shifted w.high (le_trans span.begins span.order)))
+                  (le_trans span.by k)
               told (inr (f, g)) = absurd (not_lt_of_le (le_trans (ge_of_same g) le) wide_domain)
 
       by_start : (start x.trace ≤ʳ p) ⊎ (p <ʳ start x.trace) → IsWindowFault x w to (F.Wide (Value q a den))
       by_start (inl begun) = from_start begun
       by_start (inr early) = before_start early
 
-  pub unfixed_fault : (f : OpFault Margin) → IsUnfixedHigh (at_time x p p) now f → IsWindowFault x s.window to f
+  pub unfixed_fault : (f : OpFault Margin) → IsUnfixedUnder (at_time x p p) w gap f → IsWindowFault x w to f
   unfixed_fault F.Memory h = tt
   unfixed_fault (F.Wide (Cross q r a b den)) h = absurd h.unfixed
-  unfixed_fault (F.Wide (Value q a den)) h = subst (λ (z : Window). IsWindowFault x z to (F.Wide (Value q a den))) same (knot_fault q a den h)
+  unfixed_fault (F.Wide (Value q a den)) h = knot_fault q a den h

@@ -18,7 +18,7 @@ use Rattle.online_robust.specs.Held.{Held, edge_at}
 use Rattle.online_robust.specs.Reading.{IsBuilt, IsThere}
 use Rattle.online_robust.specs.Sweeping.{IsBefore, IsUpTo}
 use Rattle.online_robust.specs.Told.{IsTick}
-use Rattle.online_robust.specs.Windows.{CanSweep, Goes, HasCome, HasTold, IsAt, IsGoing, IsGone, IsOwn, IsUnfixedHigh, IsUnmet, IsWindowFault, Scope, Sheds, at_time, best_of, steps_left}
+use Rattle.online_robust.specs.Windows.{CanSweep, Goes, HasCome, HasTold, IsAt, IsGoing, IsGone, IsOwned, IsSpan, IsUnfixedHigh, IsUnmet, IsWindowFault, Scope, Sheds, at_time, best_of, steps_left}
 use Rattle.online_robust.specs.declared.line.Reached.{Reached}
 use Rattle.online_robust.specs.declared.window.Place.{Place}
 use Rattle.online_robust.specs.declared.window.Sweep.{Sweep}
@@ -74,14 +74,14 @@ module _ (x : Scope) (own : ℕ) (from to : Rational) (s : Sweep) (e : Held) (ca
   start_is = can.at.spread.begins
 
   pub start_by : value s.start ≤ʳ to
-  start_by = le_trans (le_of_same start_is) (le_trans can.begins can.order)
+  start_by = le_trans (le_of_same start_is) (le_trans can.span.begins can.span.order)
 
   -- its ends are counted from no later than where it tells from
   pub at_by : x.at ≤ʳ from
   at_by = by_last s.last can.last
     where
       by_last : (o : Option Reached) → HasTold x own from s.window o → x.at ≤ʳ from
-      by_last None told = le_trans (le_of_lt told.1) can.begins
+      by_last None told = le_trans (le_of_lt told.1) can.span.begins
       by_last (Some r) told = subst (λ (z : Rational). z ≤ʳ from) told.0 (le_of_same told.1)
 
   -- where nothing was told it begins before the start
@@ -111,7 +111,7 @@ module _ (x : Scope) (own : ℕ) (from to : Rational) (s : Sweep) (e : Held) (ca
   begun_told now now_e r none b reached =
       let told : HasTold x own from s.window None = subst (HasTold x own from s.window) none can.last in
       let there : start x.trace ≤ʳ value now.place.at =
-          le_trans (ge_of_same start_is) (subst (λ (z : Rational). value s.start ≤ʳ z) b.here reached) in (
+      le_trans (ge_of_same start_is) (subst (λ (z : Rational). value s.start ≤ʳ z) b.here reached) in (
         b.here,
         subst (λ (z : Rational). z ≈ from) (sym b.here) (same_trans (same_of_le b.by there) (same_sym told.0)),
         b.there there,
@@ -126,7 +126,7 @@ module _ (x : Scope) (own : ℕ) (from to : Rational) (s : Sweep) (e : Held) (ca
     came = came;
     here = here;
     later = subst (λ (z : Rational). from ≤ʳ z) here (ge_of_same first);
-    by = le_trans (subst (λ (z : Rational). z ≤ʳ from) here (le_of_same first)) can.order;
+    by = le_trans (subst (λ (z : Rational). z ≤ʳ from) here (le_of_same first)) can.span.order;
     there = there;
     built = subst (λ (z : Rational). IsBuilt (best_of x s.window) (x.reach + own) from z built) here
         (built_first (best_of x s.window) (x.reach + own) (best_is_function x s.window) r.at r.value from built there first is);
@@ -145,13 +145,14 @@ module _ (x : Scope) (own : ℕ) (from to : Rational) (s : Sweep) (e : Held) (ca
       before = before;
       low_before = came.low_before;
       more = lt_of_lt_of_le (lt_shifted now.window.high before) (le_trans (le_shifted now.window.high by)
-          (subst (λ (w : Window). shifted to w.high ≤ʳ x.bound) (sym goes.window) can.by));
+          (subst (λ (w : Window). shifted to w.high ≤ʳ x.bound) (sym goes.window) can.span.by));
     }
 
     -- what is refused then
     pub refused_knot : value now.place.at <ʳ to → (f : OpFault Margin)
         → IsUnfixedHigh (at_time x (value now.place.at) (value now.place.at)) now f → IsWindowFault x s.window to f
-    refused_knot before f h = unfixed_fault x own from to s e can (value now.place.at) before now goes.window f h
+    refused_knot before f h = subst (λ (w : Window). IsWindowFault x w to f) goes.window
+        (unfixed_fault x own from to now.window (subst (λ (w : Window). IsSpan x w own from to) (sym goes.window) can.span) (value now.place.at) before now.place.high f h)
 
     pub refused_either : (begun : start x.trace ≤ʳ value now.place.at) → value now.place.at <ʳ to → (at : Rational) → at ≈ value now.place.at → (f : OpFault Margin)
         → IsUnfixedHigh (at_time x (value now.place.at) (value now.place.at)) now f
@@ -159,7 +160,7 @@ module _ (x : Scope) (own : ℕ) (from to : Rational) (s : Sweep) (e : Held) (ca
     refused_either begun before at same f (inl h) = refused_knot before f h
     refused_either begun before at same f (inr (best, reached, t, gone, h)) =
         subst (λ (w : Window). IsWindowFault x w to f) goes.window
-        (unmet_fault x (value now.place.at) now.window to t best reached gone at (ge_of_same same) begun can.ends f h)
+        (unmet_fault x (value now.place.at) now.window to t best reached gone at (ge_of_same same) begun can.span.ends f h)
 
     -- a step to the start
     pub begun_next : (next : Sweep) (next_e : Held) (r : Reached) (until : Frac) (best : Best Margin) → Goes now next
@@ -175,15 +176,15 @@ module _ (x : Scope) (own : ℕ) (from to : Rational) (s : Sweep) (e : Held) (ca
       by = le_trans gone.by (le_of_same same);
       there = λ begun. subst (λ (w : Window). IsThere (best_of x w) (x.reach + own) (value r.at) r.value) goes.window
           (subst (λ (z : Rational). IsThere (best_of x now.window) (x.reach + own) z r.value) (sym gone.here)
-          (record { told = gone.there begun; bounded = gone.limited; moved = gone.moved_there own (owns can.owns) }));
+          (record { told = gone.there begun; bounded = gone.limited; moved = gone.moved_there own (owns can.span.owns) }));
       shed = sheds_both (shifted (value next.place.at) s.window.low) s.window.of e now_e next_e
           (sheds_later (shifted (value now.place.at) s.window.low) (shifted (value next.place.at) s.window.low) s.window.of e now_e
           (le_shifted s.window.low (le_of_lt gone.after)) shed')
           (subst (λ (w : Window). Sheds (shifted (value next.place.at) w.low) w.of now_e next_e) goes.window shed);
     }
       where
-        owns : IsOwn s.window own → IsOwn now.window own
-        owns is = subst (λ (w : Window). IsOwn w own) (sym goes.window) is
+        owns : IsOwned s.window own → IsOwned now.window own
+        owns is = subst (λ (w : Window). IsOwned w own) (sym goes.window) is
 
     -- a step that is told
     pub swept_next : (next : Sweep) (next_e : Held) (r r' : Reached) (built built' : List (Knot Margin)) → Goes now next

@@ -26,13 +26,13 @@ base_room reach p k moved small from to = room (margin_base p) k (omega (arith, 
     room b k x y z w = omega (arith, ints, x, y, z, w)
 
 -- a time that is no later than when an end leaves its gap
-up_to : (until : Option Frac) (by : ℤ) (r : Option Frac) (t : Rational) → LeavesAt until by r → IfSome r (λ u. t ≤ʳ value u) → IsUpTo (shifted t by) until
+pub up_to : (until : Option Frac) (by : ℤ) (r : Option Frac) (t : Rational) → LeavesAt until by r → IfSome r (λ u. t ≤ʳ value u) → IsUpTo (shifted t by) until
 up_to None by r t leaves h = tt
 up_to (Some u) by r t (f, is, there) h =
     le_trans (le_shifted by (subst (λ o. IfSome o (λ u. t ≤ʳ value u)) is h)) (le_of_same there)
 
 -- or is that time
-ends : (until : Option Frac) (by : ℤ) (r : Option Frac) (t : Rational) → LeavesAt until by r → IsSomeAnd r (λ u. t ≡ value u) → EndsAt until (shifted t by)
+pub ends : (until : Option Frac) (by : ℤ) (r : Option Frac) (t : Rational) → LeavesAt until by r → IsSomeAnd r (λ u. t ≡ value u) → EndsAt until (shifted t by)
 ends None by r t leaves h = absurd (subst (λ o. IsSomeAnd o (λ u. t ≡ value u)) leaves h)
 ends (Some u) by r t (f, is, there) h =
     let same : t ≡ value f = subst (λ o. IsSomeAnd o (λ u. t ≡ value u)) is h in

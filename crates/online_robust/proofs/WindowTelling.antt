@@ -35,7 +35,7 @@ use Rattle.stl_syntax.specs.Trace.{start, stop}
 use Rattle.stl_syntax.specs.SupInf.{Robustness}
 use Rattle.online_robust.specs.Reading.{IsBuilt, IsThere}
 use Rattle.online_robust.specs.Told.{IsMovedBy}
-use Rattle.online_robust.specs.Windows.{Holds, IsGoing, IsGone, IsOwn, Scope, best_of}
+use Rattle.online_robust.specs.Windows.{Holds, IsGoing, IsGone, IsOwned, Scope, best_of}
 use Rattle.online_robust.specs.declared.line.Reached.{Reached}
 use Rattle.online_robust.specs.declared.window.Sweep.{Sweep}
 use Rattle.online_robust.specs.declared.window.Window.{Window}
@@ -115,7 +115,7 @@ module _ (x : Scope) (w : Window) (to t : Rational) (best : Best Margin) (reache
   pub levels : (p : Margin) → Has best p → HasBoundedLevel (2 ^ 31) (margin_function p)
   levels p h = level_bounded (2 ^ 31) (margin_function p) x.at (gone.bounded p h x.at (le_refl x.at) (le_of_lt gone.after))
 
-  pub gone_written : (own : ℕ) → IsOwn w own → start x.trace ≤ʳ x.at → (from : Rational) (old new : List (Knot Margin))
+  pub gone_written : (own : ℕ) → IsOwned w own → start x.trace ≤ʳ x.at → (from : Rational) (old new : List (Knot Margin))
       → IsBuilt (best_of x w) (x.reach + own) from x.at old → IsWritten margin_shape w.side old best reached.at reached.value new
       → IsBuilt (best_of x w) (x.reach + own) from (value reached.at) new
   gone_written own is begun from old new b written =
@@ -128,11 +128,11 @@ module _ (x : Scope) (w : Window) (to t : Rational) (best : Best Margin) (reache
       le_of_here : {a b : Rational} → a ≡ b → a ≤ʳ b
       le_of_here {a} {b} e = subst (λ (z : Rational). a ≤ʳ z) e (le_refl a)
 
-  pub gone_there : (own : ℕ) → IsOwn w own → start x.trace ≤ʳ x.at → IsThere (best_of x w) (x.reach + own) (value reached.at) reached.value
+  pub gone_there : (own : ℕ) → IsOwned w own → start x.trace ≤ʳ x.at → IsThere (best_of x w) (x.reach + own) (value reached.at) reached.value
   gone_there own is begun = subst (λ (z : Rational). IsThere (best_of x w) (x.reach + own) z reached.value) (sym gone.here)
       (record { told = gone.there (le_trans begun (le_of_lt gone.after)); bounded = gone.limited; moved = gone.moved_there own is })
 
-  pub written_at : (own : ℕ) → IsOwn w own → start x.trace ≤ʳ x.at → (from : Rational) (old new : List (Knot Margin))
+  pub written_at : (own : ℕ) → IsOwned w own → start x.trace ≤ʳ x.at → (from : Rational) (old new : List (Knot Margin))
       → IsBuilt (best_of x w) (x.reach + own) from x.at old → IsWritten margin_shape w.side old best reached.at reached.value new
       → IsBuilt (best_of x w) (x.reach + own) from t new
   written_at own is begun from old new b written =

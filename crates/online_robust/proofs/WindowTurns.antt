@@ -18,10 +18,8 @@ use Rattle.envelope.proofs.Bests.{chosen_better, no_better_back, no_better_refl,
 use Rattle.stl_syntax.specs.Trace.{start}
 use Rattle.online_robust.specs.Reading.{IsThere}
 use Rattle.online_robust.specs.Sweeping.{EndsAt, IsBefore, IsUpTo, last_gap}
-use Rattle.online_robust.specs.Windows.{IsBetterOf, IsOutcome, IsPointOf, IsShifted, IsSpread, IsTopOf, Scope, best_of, input_of}
+use Rattle.online_robust.specs.Windows.{IsBetterOf, IsOutcome, IsPointOf, IsShifted, IsCore, IsTopOf, Scope, best_of, input_of}
 use Rattle.online_robust.specs.declared.ends.Gap.{Gap}
-use Rattle.online_robust.specs.declared.line.MarginLine.{MarginLine}
-use Rattle.online_robust.specs.declared.queue.Queue.{Queue}
 use Rattle.online_robust.specs.declared.window.Window.{Window as Wide}
 use Rattle.online_robust.proofs.Outcomes.{IsIn, IsTopOf as IsTop, outcome, times_of, top_one}
 use Rattle.online_robust.proofs.Spreads.{input_is_function}
@@ -106,15 +104,14 @@ seen_of Q reach inside by gap t None reaches told (inl e) = inl e
 seen_of Q reach inside by gap t None reaches told (inr apart) = inr (told (before_apart gap.until (shifted t by) reaches apart))
 seen_of Q reach inside by gap t (Some m) reaches told (is, ends, there) = (is, there)
 
-module _ (x : Scope) (w : Wide) (begin : Frac) (none : Margin) (low high : Gap) (q : Queue Margin) (seen fresh : List MarginLine) (l h : Rational)
-    (s : IsSpread x w begin none low high q seen fresh l h) where
+module _ (x : Scope) (w : Wide) (none : Margin) (low high : Gap) (l h : Rational) (s : IsCore x w none low high l h) where
   pub top_is : (top : Margin) → IsTopOf margin_function w.side none s.constants top → IsTop w.side s.constants top
   top_is top (inl b) = record { best = inl b }
   top_is top (inr (nil, e)) = record {
     best = inr (nil, subst (λ (m : Margin). (t : Rational) → value_at (margin_function m) t ≈ᵉ none_of w.side minus_infinity infinity) (sym e) s.none_value);
   }
 
-  module _ (t : Rational) (i : IsIn x w begin none low high q seen fresh l h s t) (top : Margin) (is_top : IsTop w.side s.constants top) where
+  module _ (t : Rational) (i : IsIn x w none low high l h s t) (top : Margin) (is_top : IsTop w.side s.constants top) where
     abbrev pub Q : Function
     Q = input_of x w.side
 
@@ -128,7 +125,7 @@ module _ (x : Scope) (w : Wide) (begin : Frac) (none : Margin) (low high : Gap) 
         → IsSeen Q x.reach w.high_in w.high high t at_high → IsSeen Q x.reach w.low_in w.low low t at_low
         → best_of x w t (value_at (margin_function m) t)
     outcome_is low_shape high_shape at_high at_low m low_moved high_moved o high_seen low_seen =
-        outcome x w begin none low high q seen fresh l h s t i top is_top (value_at (margin_function m) t) left right o.of_top (point_bound w.low_in w.low low at_low left low_seen o.of_low_point)
+        outcome x w none low high l h s t i top is_top (value_at (margin_function m) t) left right o.of_top (point_bound w.low_in w.low low at_low left low_seen o.of_low_point)
         (point_bound w.high_in w.high high at_high right high_seen o.of_high_point) (one o.one high_seen low_seen)
       where
         left : IsNoBetter w.side (value_at (margin_function low.shape) (shifted t w.low)) (value_at (margin_function m) t)
@@ -177,7 +174,7 @@ module _ (x : Scope) (w : Wide) (begin : Frac) (none : Margin) (low high : Gap) 
 
         one : (m ≡ top) ⊎ (Some low_shape ≡ Some m) ⊎ (Some high_shape ≡ Some m) ⊎ (at_high ≡ Some m) ⊎ (at_low ≡ Some m)
             → IsSeen Q x.reach w.high_in w.high high t at_high → IsSeen Q x.reach w.low_in w.low low t at_low → One (value_at (margin_function m) t)
-        one (inl e) hs ls = top_one x w begin none low high q seen fresh l h s t i top is_top (value_at (margin_function m) t)
+        one (inl e) hs ls = top_one x w none low high l h s t i top is_top (value_at (margin_function m) t)
             (subst (λ (k : Margin). IsNoBetter w.side (value_at (margin_function m) t) (value_at (margin_function k) t)) e (no_better_refl w.side (value_at (margin_function m) t)))
         one (inr (inl e)) hs ls =
             let same : low_shape ≡ m = some_is e in

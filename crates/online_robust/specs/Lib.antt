@@ -14,5 +14,6 @@ pub mod Reading
 pub mod Couples
 pub mod Sweeping
 pub mod Windows
+pub mod WindowPasts
 pub mod Glances
 pub mod Waiting

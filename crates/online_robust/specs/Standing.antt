@@ -22,7 +22,10 @@ use Rattle.online_robust.specs.declared.operator.Operator.{Operator}
 use Rattle.online_robust.specs.declared.operator.Operator.TheVariants as Op
 use Rattle.online_robust.specs.declared.pointwise.Two.{Two}
 use Rattle.online_robust.specs.declared.glance.Moved.{Moved}
+use Rattle.online_robust.specs.declared.endless.Endless.{Endless}
 use Rattle.online_robust.specs.declared.lazy.Lazy.{Lazy}
+use Rattle.online_robust.specs.declared.past.Past.{Past}
+use Rattle.online_robust.specs.WindowPasts.{StoodPast}
 use Rattle.online_robust.specs.declared.window.Sweep.{Sweep}
 use Rattle.online_robust.specs.declared.window.Window.{Window}
 
@@ -65,6 +68,16 @@ IsWindowOf (Once p a (Some b) a_in b_in) w = w ≡ behind_window p Greatest a b 
 IsWindowOf (Historically p a (Some b) a_in b_in) w = w ≡ behind_window p Least a b a_in b_in
 IsWindowOf n w = ⊥
 
+-- the window of `once` and `historically` without a far bound: its low end lies before any time
+abbrev pub past_window : ℕ → Side → ℕ → Bool → Window
+past_window p side a a_in = record { of = p; side = side; low = neg_ℤ (pos 4294967296); high = neg_ℤ (pos a); low_in = true; high_in = a_in }
+
+-- that window is the node's
+abbrev pub IsPastOf : Node → Window → Type 0
+IsPastOf (Once p a None a_in b_in) w = w ≡ past_window p Greatest a a_in
+IsPastOf (Historically p a None a_in b_in) w = w ≡ past_window p Least a a_in
+IsPastOf n w = ⊥
+
 -- so is a window of one instant, or one without a time
 abbrev pub IsInstantOf : Node → Moved → Type 0
 IsInstantOf (Eventually p a b a_in b_in) z =
@@ -105,6 +118,17 @@ HasSweptTo nodes place tr of own s seen g =
     StoodOver (subformula nodes of) tr (reach (take place nodes)) own (whole g) s seen
     × ((whole g ≈ stop tr) ⊎ (pos (first_time tr.rows) ≤ℤ (g +ℤ pos (horizon (subformula nodes place))) -ℤ pos (horizon (subformula nodes of))))
 
+-- the same of a window without a low end
+pub record HasWaitedPast (z : Endless) (begin most : ℕ) (before : Option ℤ) : Type 0 where
+  pub silent : z.silent ≡ silent_of z.window z.silent.last
+  pub short : IfSome before (λ g. g +ℤ z.window.high <ℤ pos begin)
+  pub stood : HasStood (silent_margin z.window.side) most before z.silent.last
+
+abbrev pub HasPassedTo : List Node → ℕ → Trace → ℕ → ℕ → Past → List MarginLine → ℤ → Type 0
+HasPassedTo nodes place tr of own p seen g =
+    StoodPast (subformula nodes of) tr (reach (take place nodes)) own (whole g) p seen
+    × ((whole g ≈ stop tr) ⊎ (pos (first_time tr.rows) ≤ℤ (g +ℤ pos (horizon (subformula nodes place))) -ℤ pos (horizon (subformula nodes of))))
+
 -- the operator is that of the node n at a place, and stands at a number, with what it has read of its input
 abbrev pub Stands : Node → List Node → ℕ → Trace → Option ℤ → Operator → List MarginLine → Type 0
 Stands n nodes place tr before (Op.Not op) seen =
@@ -115,4 +139,8 @@ Stands n nodes place tr before (Op.Sweep z) seen =
     IsWindowOf n z.window × (z.window.low <ℤ z.window.high)
     × MatchOption z.sweep ((seen ≡ []) × HasWaited z (first_time tr.rows) (reach (take place nodes) + own_reach n) before)
     (λ s. (s.window ≡ z.window) × IsSomeAnd before (HasSweptTo nodes place tr z.window.of (own_reach n) s seen))
+Stands n nodes place tr before (Op.Past z) seen =
+    IsPastOf n z.window
+    × MatchOption z.past ((seen ≡ []) × HasWaitedPast z (first_time tr.rows) (reach (take place nodes) + own_reach n) before)
+    (λ p. (p.window ≡ z.window) × IsSomeAnd before (HasPassedTo nodes place tr z.window.of (own_reach n) p seen))
 Stands n nodes place tr before (Op.Two op) seen = IsTwoOf n op × HasStood (two_of nodes tr op) (reach (take place nodes)) before op.last

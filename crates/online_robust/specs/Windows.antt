@@ -133,6 +133,23 @@ pub record IsSpread (x : Scope) (w : Window) (begin : Frac) (none : Margin) (low
   pub low_stands : (low.stands ≡ true) ⊎ (low ≡ no_gap none) ⊎ (low ≡ before_start none begin)
   pub to_come : IsToCome x high.until fresh
 
+-- the gaps about the ends of a window at two times, the marks between, and the constants that these give
+pub record IsCore (x : Scope) (w : Window) (none : Margin) (low high : Gap) (l h : Rational) : Type 0 where
+  pub order : w.low <ℤ w.high
+  pub still : w.low ≡ neg_ℤ (pos 4294967296) → is_ramp low.shape ≡ false
+  pub none_value : (t : Rational) → value_at (margin_function none) t ≈ᵉ none_of w.side minus_infinity infinity
+  pub none_moved : IsMovedBy x.reach none
+  pub from : Rational
+  pub marks : List Mark
+  pub constants : List Margin
+  pub begun : from ≤ʳ l
+  pub runs : Runs (input_of x w.side) x.reach from low marks
+  pub by : AreBy h marks
+  pub last : high ≡ last_gap low marks
+  pub low_later : IsUpTo l low.until
+  pub high_later : IsUpTo h high.until
+  pub frozen : AreFrozen w.side (shifted (start x.trace) w.low) low marks constants
+
 -- where the window's ends are
 abbrev pub low_at : Scope → Window → Rational
 low_at x w = shifted x.at w.low
@@ -185,24 +202,27 @@ IsUnfixed before point after u (F.Wide (Cross p q a b den)) = ⊥
 IsUnfixed before point after u (F.Wide (Value p at den)) = IsUnstored before point after u p at den
 
 -- it is that of a knot under the high end, which is strictly inside the window after the start
-pub record IsUnfixedKnot (x : Scope) (s : Sweep) (fault : OpFault Margin) : Type 0 where
+pub record IsUnfixedKnot (x : Scope) (w : Window) (gap : Gap) (fault : OpFault Margin) : Type 0 where
   pub k : Mark
-  pub here : value k.at ≈ high_at x s.window
-  pub counts : shifted (start x.trace) s.window.low <ʳ value k.at
-  pub knot : IsOneLine s.place.high.shape k.point k.after.shape (value k.at) → ⊥
+  pub here : value k.at ≈ high_at x w
+  pub counts : shifted (start x.trace) w.low <ʳ value k.at
+  pub knot : IsOneLine gap.shape k.point k.after.shape (value k.at) → ⊥
   pub from : Rational
   pub rises : from <ʳ value k.at
-  pub before : IsOn (input_of x s.window.side) x.reach from s.place.high
-  pub ends : EndsAt s.place.high.until (value k.at)
-  pub point : input_of x s.window.side (value k.at) (value_at (margin_function k.point) (value k.at))
-  pub after : IsOn (input_of x s.window.side) x.reach (value k.at) k.after
+  pub before : IsOn (input_of x w.side) x.reach from gap
+  pub ends : EndsAt gap.until (value k.at)
+  pub point : input_of x w.side (value k.at) (value_at (margin_function k.point) (value k.at))
+  pub after : IsOn (input_of x w.side) x.reach (value k.at) k.after
   pub goes_on : IsBefore (value k.at) k.after.until
   pub by_front : value k.at ≤ʳ x.front
-  pub unfixed : IsUnfixed s.place.high.shape k.point k.after.shape k.at fault
+  pub unfixed : IsUnfixed gap.shape k.point k.after.shape k.at fault
+
+abbrev pub IsUnfixedUnder : Scope → Window → Gap → OpFault Margin → Type 0
+IsUnfixedUnder x w gap F.Memory = Unit {0}
+IsUnfixedUnder x w gap (F.Wide pair) = IsUnfixedKnot x w gap (F.Wide pair)
 
 abbrev pub IsUnfixedHigh : Scope → Sweep → OpFault Margin → Type 0
-IsUnfixedHigh x s F.Memory = Unit {0}
-IsUnfixedHigh x s (F.Wide pair) = IsUnfixedKnot x s (F.Wide pair)
+IsUnfixedHigh x s f = IsUnfixedUnder x s.window s.place.high f
 
 -- the low end stands on the end of the gap about it, before a time to which the gap about the high end goes
 pub record IsLow (x : Scope) (s : Sweep) : Type 0 where
@@ -236,6 +256,16 @@ pub record IsNextStop (s : Sweep) (to t : Rational) : Type 0 where
   pub high : IsUpTo (shifted t s.window.high) s.place.high.until
   pub low : IsUpTo (shifted t s.window.low) s.place.low.until
   pub one : (t ≡ to) ⊎ EndsAt s.place.high.until (shifted t s.window.high) ⊎ EndsAt s.place.low.until (shifted t s.window.low)
+
+-- both ends go on from a time, at which they stand within the gaps about them, to a stop
+pub record IsStep (w : Window) (l h : Gap) (at to t : Rational) : Type 0 where
+  pub before : at <ʳ to
+  pub low_before : IsBefore (shifted at w.low) l.until
+  pub high_before : IsBefore (shifted at w.high) h.until
+  pub by : t ≤ʳ to
+  pub high : IsUpTo (shifted t w.high) h.until
+  pub low : IsUpTo (shifted t w.low) l.until
+  pub one : (t ≡ to) ⊎ EndsAt h.until (shifted t w.high) ⊎ EndsAt l.until (shifted t w.low)
 
 -- the point under an end that is in, moved back by that end's offset; none where the end is out or stands on no point
 abbrev pub IsPointOf : Function → ℕ → Bool → ℤ → Gap → Rational → Option Margin → Type 0
@@ -285,6 +315,12 @@ pub record IsOwn (w : Window) (own : ℕ) : Type 0 where
   pub high_from : neg_ℤ (pos own) ≤ℤ w.high
   pub high_to : w.high ≤ℤ pos own
 
+-- so is the high one, and the low one unless it lies before any time
+pub record IsOwned (w : Window) (own : ℕ) : Type 0 where
+  pub low : ((neg_ℤ (pos own) ≤ℤ w.low) × (w.low ≤ℤ pos own)) ⊎ (w.low ≡ neg_ℤ (pos 4294967296))
+  pub high_from : neg_ℤ (pos own) ≤ℤ w.high
+  pub high_to : w.high ≤ℤ pos own
+
 -- the same window with both ends
 abbrev pub closed : Window → Window
 closed w = record w { low_in = true; high_in = true }
@@ -312,8 +348,8 @@ pub record IsGone (x : Scope) (w : Window) (to t : Rational) (best : Best Margin
   pub bounded : (p : Margin) → Has best p → (u : Rational) → x.at ≤ʳ u → u ≤ʳ t → IsBounded (2 ^ 31) (value_at (margin_function p) u)
   pub limited : IsBounded (2 ^ 31) (value_at (margin_function reached.value) t)
   pub in_play : (p : Margin) → Has best p → (u : Rational) → x.at <ʳ u → u <ʳ t → IsInPlayOver x w u p
-  pub moved : (p : Margin) → Has best p → (own : ℕ) → IsOwn w own → IsMovedBy (x.reach + own) p
-  pub moved_there : (own : ℕ) → IsOwn w own → IsMovedBy (x.reach + own) reached.value
+  pub moved : (p : Margin) → Has best p → (own : ℕ) → IsOwned w own → IsMovedBy (x.reach + own) p
+  pub moved_there : (own : ℕ) → IsOwned w own → IsMovedBy (x.reach + own) reached.value
 
 -- memory was wanted, or two that count on the way cross between the times, at a time that is not stored
 abbrev pub IsUnmet : Scope → Window → Rational → Rational → OpFault Margin → Type 0
@@ -352,7 +388,20 @@ abbrev pub HasTold : Scope → ℕ → Rational → Window → Option Reached �
 HasTold x own from w None = (from ≈ start x.trace) × (x.at <ʳ start x.trace)
 HasTold x own from w (Some r) = (value r.at ≡ x.at) × (value r.at ≈ from) × IsThere (best_of x w) (x.reach + own) (value r.at) r.value
 
--- a window may go on from one time up to another: it stands over its input, which is told as far as its high end comes, or to the end
+-- a stretch over which a window may go on: its input is told as far as the high end comes, or to the end
+pub record IsSpan (x : Scope) (w : Window) (own : ℕ) (from to : Rational) : Type 0 where
+  pub offsets : w.low <ℤ w.high
+  pub owns : IsOwned w own
+  pub aside : (pos 0 ≤ℤ w.low) ⊎ (w.high ≤ℤ pos 0)
+  pub order : from ≤ʳ to
+  pub from_tick : IsTick from
+  pub to_tick : IsTick to
+  pub begins : start x.trace ≤ʳ from
+  pub ends : to ≤ʳ stop x.trace
+  pub by : shifted to w.high ≤ʳ x.bound
+  pub told : (x.bound ≤ʳ x.front) ⊎ ((x.front ≈ stop x.trace) × (to ≈ stop x.trace))
+
+-- a window may go on from one time up to another, over its input
 pub record CanSweep (x : Scope) (own : ℕ) (from to : Rational) (s : Sweep) (e : Held) : Type 0 where
   pub at : IsAt x s e
   pub here : x.at ≡ value s.place.at
@@ -360,15 +409,7 @@ pub record CanSweep (x : Scope) (own : ℕ) (from to : Rational) (s : Sweep) (e 
   pub within : IsWithin (2 ^ 34) x.at
   pub low_before : IsBefore (low_at x s.window) s.place.low.until
   pub last : HasTold x own from s.window s.last
-  pub owns : IsOwn s.window own
-  pub aside : (pos 0 ≤ℤ s.window.low) ⊎ (s.window.high ≤ℤ pos 0)
-  pub order : from ≤ʳ to
-  pub from_tick : IsTick from
-  pub to_tick : IsTick to
-  pub begins : start x.trace ≤ʳ from
-  pub ends : to ≤ʳ stop x.trace
-  pub by : shifted to s.window.high ≤ʳ x.bound
-  pub told : (x.bound ≤ʳ x.front) ⊎ ((x.front ≈ stop x.trace) × (to ≈ stop x.trace))
+  pub span : IsSpan x s.window own from to
 
 -- the window has come to the time from which its ends are counted now, and its low end stands before the end of its gap
 pub record HasCome (x : Scope) (s : Sweep) (e : Held) : Type 0 where

@@ -9,6 +9,7 @@ mod lazy;
 mod line;
 mod net;
 mod operator;
+mod past;
 mod pointwise;
 mod put;
 mod queue;

@@ -17,7 +17,7 @@ ghost use Rattle.pl_signal.specs.Knots.{stop as last_of};
 ghost use Rattle.stl_syntax.specs.Trace.{start as start_of};
 ghost use Rattle.online_robust.specs.Told.{IsMovedBy, IsTick};
 ghost use Rattle.online_robust.specs.Queues.{StandsFor};
-ghost use Rattle.online_robust.specs.Windows.{CanSweep, Goes, HasCome, IsAt, IsWindowFault, IsBetterOf, IsFitWindow, IsGoing, IsGone, IsHigh, IsUnfixed, IsUnfixedHigh, IsUnmet, Keeps, Scope, Sheds, IsLow, IsNextStop, IsOpen, IsOutcome, IsOwn, IsPointOf, IsShifted, IsTickEnd, IsTopOf, LeavesAt, at_time, before_start, best_of, gap_of as gap_that, high_at, input_of, is_before_end, lines_left, low_at, no_gap, steps_left};
+ghost use Rattle.online_robust.specs.Windows.{CanSweep, Goes, HasCome, IsAt, IsWindowFault, IsBetterOf, IsFitWindow, IsGoing, IsGone, IsHigh, IsUnfixed, IsUnfixedHigh, IsUnmet, Keeps, Scope, Sheds, IsLow, IsNextStop, IsOpen, IsOutcome, IsOwned, IsPointOf, IsShifted, IsTickEnd, IsTopOf, LeavesAt, at_time, before_start, best_of, gap_of as gap_that, high_at, input_of, is_before_end, lines_left, low_at, no_gap, steps_left};
 
 use crate::edges::Edges;
 use crate::ends::{Gap, is_one, is_same};
@@ -52,9 +52,9 @@ pub(crate) struct Place {
 
 /// A step of a window: what counts on the way, and the margin at its end.
 #[derive(Clone, Copy)]
-struct Gone {
-    best: Best<Margin>,
-    to: Reached,
+pub(crate) struct Gone {
+    pub(crate) best: Best<Margin>,
+    pub(crate) to: Reached,
 }
 
 /// What a window keeps in mind.
@@ -72,7 +72,7 @@ pub(crate) struct Sweep {
 }
 
 /// The gap that comes next at the back end of what was read, which is read; nothing where there is none.
-fn enter(edges: &mut Edges, of: u32, none: Margin) -> Gap
+pub(crate) fn enter(edges: &mut Edges, of: u32, none: Margin) -> Gap
     requires { of < length edges.old.edges }
     ensures { MatchOption (slice_get (fresh_at edges.old of) 0) ((result ≡ no_gap none) × (edges.new ≡ edges.old))
         (λ line. (result ≡ gap_that line) × (edges.new.edges ≡ with_edge edges.old of (with_read (edge_at edges.old of) line)) × (edges.new.start ≡ edges.old.start)) }
@@ -106,7 +106,7 @@ fn gap_of(line: &MarginLine) -> Gap
 }
 
 /// The best of the two limits and the value at a time, as a constant.
-fn frozen(
+pub(crate) fn frozen(
     side: Side,
     before: &Margin,
     point: &Margin,
@@ -143,7 +143,7 @@ fn or_better(side: Side, best: Margin, other: Option<Margin>, t: &Frac) -> Margi
 }
 
 /// The best at a time of what counts about it, and of the points under the ends.
-fn worth(
+pub(crate) fn worth(
     side: Side,
     inside: &Best<Margin>,
     at_high: Option<Margin>,
@@ -160,7 +160,7 @@ fn worth(
 }
 
 /// The earlier of a time and another, if there is one.
-fn first_of(t: &Frac, other: &Option<Frac>) -> Frac
+pub(crate) fn first_of(t: &Frac, other: &Option<Frac>) -> Frac
     ensures by { value result ≤ʳ value t.now }
     ensures other { IfSome other.now (λ u. value result ≤ʳ value u) }
     ensures one { (value result ≡ value t.now) ⊎ IsSomeAnd other.now (λ u. value result ≡ value u) }
@@ -173,7 +173,7 @@ fn first_of(t: &Frac, other: &Option<Frac>) -> Frac
 
 impl Gap {
     /// When the end of a window that is `by` later comes to the end of the gap.
-    fn leaves(&self, by: i64) -> Option<Frac>
+    pub(crate) fn leaves(&self, by: i64) -> Option<Frac>
         requires from { neg_ℤ (pos (2 ^ 32)) ≤ℤ by }
         requires to { by ≤ℤ pos (2 ^ 32) }
         requires tick { IsTickEnd self.now.until }
@@ -186,7 +186,7 @@ impl Gap {
     }
 
     /// Whether the end of a window that is `by` later comes to the end of the gap at the time.
-    fn ends_at(&self, by: i64, t: &Frac) -> bool
+    pub(crate) fn ends_at(&self, by: i64, t: &Frac) -> bool
         requires from { neg_ℤ (pos (2 ^ 32)) ≤ℤ by }
         requires to { by ≤ℤ pos (2 ^ 32) }
         requires within { IsWithin (2 ^ 34) (value t.now) }
@@ -552,10 +552,10 @@ impl Sweep {
             → OnOk result (IsAt (at_time x (value self.new.place.at) (value self.new.place.at)) self.new edges.new
             × IsBefore (shifted (value self.new.place.at) self.new.window.low) self.new.place.low.until) }
         ensures told { (x : Scope) → IsAt x self.old edges.old → IsGoing x self.old (value to.now) → start_of x.trace ≤ʳ x.at
-            → (own : ℕ) → IsOwn self.old.window own → (from : Rational) → IsBuilt (best_of x self.old.window) (x.reach + own) from x.at built.old
+            → (own : ℕ) → IsOwned self.old.window own → (from : Rational) → IsBuilt (best_of x self.old.window) (x.reach + own) from x.at built.old
             → OnOk result (IsBuilt (best_of x self.old.window) (x.reach + own) from (value self.new.place.at) built.new) }
         ensures reached { (x : Scope) → IsAt x self.old edges.old → IsGoing x self.old (value to.now) → start_of x.trace ≤ʳ x.at
-            → (own : ℕ) → IsOwn self.old.window own
+            → (own : ℕ) → IsOwned self.old.window own
             → IfOk result (λ r. (value r.at ≡ value self.new.place.at) × IsThere (best_of x self.old.window) (x.reach + own) (value r.at) r.value) }
         ensures fault { (x : Scope) → IsAt x self.old edges.old → IsGoing x self.old (value to.now)
             → IfErr result (λ f. IsUnfixedHigh x self.old f ⊎ IsUnmet x self.old.window (value to.now) (last_of built.old) f) }
@@ -616,7 +616,7 @@ impl Sweep {
 }
 
 /// What was refused, or want of memory.
-fn refused(fault: Option<WidePair<Margin>>) -> OpFault<Margin>
+pub(crate) fn refused(fault: Option<WidePair<Margin>>) -> OpFault<Margin>
     ensures { IsKept result fault }
 {
     match fault {

@@ -6,7 +6,7 @@ use Rattle.frac128.specs.Value.{value}
 use Rattle.pl_signal.specs.Knots.{stop as last_of}
 use Rattle.window_ops.proofs.Ends.{le_shifted}
 use Rattle.online_robust.specs.Reading.{IsBuilt, IsStretch}
-use Rattle.online_robust.specs.Windows.{CanSweep, IsGoing, IsOwn, Scope, at_time, best_of}
+use Rattle.online_robust.specs.Windows.{CanSweep, IsGoing, IsOwned, Scope, at_time, best_of}
 use Rattle.online_robust.specs.declared.window.Window.{Window}
 use Rattle.online_robust.proofs.Builts.{built_done}
 use Rattle.online_robust.proofs.PointwiseLemmas.{not_less}
@@ -43,7 +43,7 @@ going_on c x own from can less =
     let w = c.loop-self.invariant.swept x own from can in
     let before = subst (λ (z : Rational). z <ʳ value c.args.to.now) w.here less in (
       going x own from (value c.args.to.now) c.args.self.now c.args.edges.now can c.loop-self.self c.loop-self.edges c.loop-self.invariant.goes w.came
-          (le_trans (at_by x own from (value c.args.to.now) c.args.self.now c.args.edges.now can) w.later) (value c.args.to.now) can.to_tick
+          (le_trans (at_by x own from (value c.args.to.now) c.args.self.now c.args.edges.now can) w.later) (value c.args.to.now) can.span.to_tick
           (le_refl (value c.args.to.now)) before,
       before,
     )
@@ -65,7 +65,7 @@ returns-in_err-reached-2-clause-wide c x own from can =
     let goes = going_on (goal.at.returns-in_err-reached-2-clause-wide c).After-cmp x own from can c.in-Less.ensures in
     let p = err_from_is_err_and c.from_residual-in_err-reached-2.result c.from_residual-in_err-reached-2.ensures.1 in
     let h = refused_either x own from (value c.args.to.now) c.args.self.now c.args.edges.now can c.loop-self.self c.loop-self.edges c.loop-self.invariant.goes
-    w.came (le_trans (at_by x own from (value c.args.to.now) c.args.self.now c.args.edges.now can) w.later) (le_trans can.begins w.later) goes.1
+    w.came (le_trans (at_by x own from (value c.args.to.now) c.args.self.now c.args.edges.now can) w.later) (le_trans can.span.begins w.later) goes.1
     (last_of c.loop-self.built) w.built.ends c.in_err-reached-2.field-0.0
     (c.in_err-reached-2.ensures.fault (at_time x (value c.loop-self.self.place.at) (value c.loop-self.self.place.at)) w.came.at goes.0) in
     rw (p.1, p.2) h
@@ -77,8 +77,8 @@ loop-self-preserved c = record {
       let same = c.loop-self.invariant.goes.window in
       let here = at_time x (value c.loop-self.self.place.at) (value c.loop-self.self.place.at) in
       let goes = going_on (goal.at.loop-self-preserved c).After-cmp x own from can c.in-Less.ensures in
-      let begun = le_trans can.begins w.later in
-      let owns = subst (λ (z : Window). IsOwn z own) (sym same) can.owns in
+      let begun = le_trans can.span.begins w.later in
+      let owns = subst (λ (z : Window). IsOwned z own) (sym same) can.span.owns in
       let stands = c.in_ok-reached-2.ensures.stands here w.came.at goes.0 in
       let built = subst (λ (z : Window). IsBuilt (best_of x z) (x.reach + own) from (value c.loop-self.self.place.at) c.loop-self.built) (sym same) w.built in
       swept_next x own from (value c.args.to.now) c.args.self.now c.args.edges.now can c.loop-self.self c.loop-self.edges c.loop-self.invariant.goes w.came
@@ -100,7 +100,7 @@ returns-clause-told c x own from can =
     let w = c.loop-self.invariant.swept x own from can in
     subst (λ (ks : _). IsStretch (best_of x c.args.self.now.window) (x.reach + own) from (value c.args.to.now) ks) (sym c.finish.ensures.value)
     (built_done (best_of x c.args.self.now.window) (x.reach + own) (best_is_function x c.args.self.now.window) from (value c.loop-self.self.place.at)
-    (value c.args.to.now) c.loop-self.built w.built (ended (goal.at.returns-clause-told c).After-finish x own from can) can.from_tick can.to_tick)
+    (value c.args.to.now) c.loop-self.built w.built (ended (goal.at.returns-clause-told c).After-finish x own from can) can.span.from_tick can.span.to_tick)
 
 pub returns-clause-stands : goal.returns-clause-stands
 returns-clause-stands c x own from can =
