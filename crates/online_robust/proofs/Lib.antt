@@ -57,6 +57,7 @@ mod WindowNodes
 mod WindowBridging
 mod WindowTurnings
 mod WaitBridging
+mod WindowLeaving
 mod FirstWindows
 mod GlanceBridging
 pub mod WindowCauses
