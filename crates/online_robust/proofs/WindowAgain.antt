@@ -20,7 +20,7 @@ use Rattle.stl_syntax.specs.Formula.{Subformula}
 use Rattle.stl_syntax.specs.SupInf.{Robustness}
 use Rattle.stl_syntax.specs.Trace.{Trace, first_time, start, stop}
 use Rattle.online_nodes.proofs.RunLaw.{int_order}
-use Rattle.window_ops.proofs.Ends.{lt_shifted}
+use Rattle.window_ops.proofs.Ends.{le_shifted}
 use Rattle.online_robust.specs.Held.{Edge, Held, edge_at, fresh_at, held_at, held_of}
 use Rattle.online_robust.specs.Lines.{end_of}
 use Rattle.online_robust.specs.Queues.{StandsFor}
@@ -28,7 +28,7 @@ use Rattle.online_robust.specs.Sweeping.{AreBy, EndsAt, IsBefore, IsUpTo, Mark, 
 use Rattle.online_robust.specs.Told.{AreFit, AreJoined, AreTold, IsMovedBy, IsTick}
 use Rattle.online_robust.specs.Turns.{AreInputs, AreLeft, IsCut, IsCutBy, back_of}
 use Rattle.online_robust.specs.Reading.{IsThere}
-use Rattle.online_robust.specs.Windows.{AreSeen, AreStanding, CanSweep, HasCome, HasTold, IsAt, IsFitWindow, IsOwn, IsOwned, IsSpread, IsStanding, IsToCome, Scope, Sheds, StoodOver, at_time, before_start, best_of, input_of, no_gap, scope_at}
+use Rattle.online_robust.specs.Windows.{AreSeen, AreStanding, CanSweep, HasCome, HasTold, IsAt, IsFitWindow, IsOwn, IsOwned, IsSpan, IsSpread, IsStanding, IsToCome, Scope, Sheds, StoodOver, at_time, before_start, best_of, input_of, no_gap, scope_at}
 use Rattle.online_robust.specs.declared.ends.Gap.{Gap}
 use Rattle.online_robust.specs.declared.line.MarginLine.{MarginLine}
 use Rattle.online_robust.specs.declared.line.MarginLine.TheVariants as L
@@ -233,6 +233,26 @@ module _ (f : Subformula) (tr : Trace) (reach own : ℕ) (g : ℤ) (s : Sweep) (
   again_spread bound within ended =
       spread_told (scope_at f tr reach st.front st.bound (value s.place.at)) (whole front) bound s.window s.start s.none s.place.low s.place.high s.among seen
       st.fresh fresh (shifted (value s.place.at) s.window.low) (shifted (value s.place.at) s.window.high) st.spread within ended (to_come bound)
+
+-- a stretch up to a time is one up to it by another pair
+pub span_same : (x : Scope) (w : Window) (own : ℕ) (from to end : Rational) → to ≈ end → x.bound ≡ shifted to w.high → IsSpan x w own from to
+    → IsSpan x w own from end
+span_same x w own from to end same bound is = record {
+  offsets = is.offsets;
+  owns = is.owns;
+  aside = is.aside;
+  order = le_trans is.order (le_of_same same);
+  from_tick = is.from_tick;
+  to_tick = (le_trans is.to_tick.0 (le_of_same same), le_trans (ge_of_same same) is.to_tick.1);
+  begins = is.begins;
+  ends = le_trans (ge_of_same same) is.ends;
+  by = subst (λ (b : Rational). shifted end w.high ≤ʳ b) (sym bound) (le_shifted w.high (ge_of_same same));
+  told = by_told is.told;
+}
+  where
+    by_told : (x.bound ≤ʳ x.front) ⊎ ((x.front ≈ stop x.trace) × (to ≈ stop x.trace)) → (x.bound ≤ʳ x.front) ⊎ ((x.front ≈ stop x.trace) × (end ≈ stop x.trace))
+    by_told (inl le) = inl le
+    by_told (inr h) = inr (h.0, same_trans (same_sym same) h.1)
 
 owned_of : {w : Window} {own : ℕ} → IsOwn w own → IsOwned w own
 owned_of is = record { low = inl (is.low_from, is.low_to); high_from = is.high_from; high_to = is.high_to }

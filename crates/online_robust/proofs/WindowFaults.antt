@@ -55,7 +55,7 @@ meet_finite always_high always_high l r t m = absurd (next_apart t (m.alone (lat
 no_earlier : (t : Rational) (k : ℤ) → pos 0 ≤ℤ k → t ≤ʳ shifted t k
 no_earlier t k le = le_trans (record { le = omega arith }) (le_trans (le_shift_by {j = pos 0} {k = k} t le) (ge_of_same (shifted-add t k)))
 
-no_later : (t : Rational) (k : ℤ) → k ≤ℤ pos 0 → shifted t k ≤ʳ t
+pub no_later : (t : Rational) (k : ℤ) → k ≤ℤ pos 0 → shifted t k ≤ʳ t
 no_later t k le = le_trans (le_of_same (shifted-add t k)) (le_trans (le_shift_by {j = k} {k = pos 0} t le) (record { le = omega arith }))
 
 -- a refused crossing
