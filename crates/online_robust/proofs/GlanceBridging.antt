@@ -144,6 +144,7 @@ module _ (t : Turn) (z : Moved) (e : Held) (to : ℕ) (b : Belongs t (Op.Moved z
     pub can_glance : CanGlance glance z own (from_of t) end e
     can_glance = record {
       stands = by_stood t.before refl input z.last b.stands.1;
+      offset = offset;
       own_by = here.own;
       order = le_trans (span_from t (Op.Moved z) e to b).1 (ge_of_same same);
       from_tick = tick_between (tick_of t (Op.Moved z) e to b (begin_of t) b.from_start) (tick_of t (Op.Moved z) e to b to (omega arith))

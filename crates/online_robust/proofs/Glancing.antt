@@ -13,7 +13,7 @@ use Rattle.rational.specs.Windows.{Function}
 use Rattle.rational.proofs.AffineLemmas.{bounded_same, same_symᵉ, same_transᵉ, value_same}
 use Rattle.rational.proofs.Order.{ge_of_same, le_of_lt, le_of_same, le_refl, le_trans, lt_irrefl, lt_of_le_of_lt, lt_of_lt_of_le, not_lt_of_le, same_refl, same_sym, same_trans}
 use Rattle.rational.proofs.TimeFunctions.{IsFunction}
-use Rattle.rational.proofs.TimeLemmas.{less_in, less_no, shifted-add}
+use Rattle.rational.proofs.TimeLemmas.{less_in, less_no, same_shifted, shifted-add}
 use Rattle.rational.proofs.Shift.{same_shift}
 use Rattle.frac128.specs.Value.{value}
 use Rattle.frac128.specs.declared.frac.Frac.{Frac}
@@ -36,6 +36,7 @@ use Rattle.online_robust.specs.declared.glance.Moved.{Moved}
 use Rattle.online_robust.proofs.JoinedLemmas.{FirstGap, ahead_next, ahead_on, ahead_same, first_of, joined_to, there_at, there_in}
 use Rattle.online_robust.proofs.Losses.{loses_at_none, took, took_held}
 use Rattle.online_robust.proofs.PointwiseLemmas.{TakesTwo, begun_point, begun_rest, begun_some, is_gap, is_point, is_rest, two_lost}
+use Rattle.online_robust.proofs.Spreads.{input_is_function}
 use Rattle.online_robust.proofs.TwoLemmas.{there_same}
 use Rattle.online_robust.proofs.Robustly.{robust_is_function, value_alike}
 use Rattle.online_robust.proofs.WindowBounds.{none_bounded, still_moved}
@@ -120,6 +121,46 @@ nearer m l t at to lt no_more (inr h) =
     let none : ◌≡◌ {A = ℕ} (if less t to then 1 else 0) 0 = ap (λ (b : Bool). if b then 1 else 0) (less_no t to h) in
     omega (arith, now, none, no_more)
 
+-- the time by another pair
+pub glance_same : (x : Glance) (op : Moved) (e : Held) {t u : Rational} → t ≈ u → IsGlanceAt x op e t → IsGlanceAt x op e u
+glance_same x op e {t} {u} same at = record {
+  of_in = at.of_in;
+  offset = at.offset;
+  small = at.small;
+  begin = at.begin;
+  order = at.order;
+  last = at.last;
+  told = at.told;
+  lines = by_lines at.lines;
+}
+  where
+    moved : shifted t op.by ≈ shifted u op.by
+    moved = same_shifted op.by same
+
+    by_lines : AreToSee (Robustness x.formula x.trace) x.reach (start x.trace) x.front x.bound (shifted t op.by) (held_at e op.of)
+        → AreToSee (Robustness x.formula x.trace) x.reach (start x.trace) x.front x.bound (shifted u op.by) (held_at e op.of)
+    by_lines (before early begins) = before (lt_of_le_of_lt (ge_of_same moved) early) begins
+    by_lines (within begun ahead) =
+        within (le_trans begun (le_of_same moved)) (ahead_same (Robustness x.formula x.trace) x.reach (shifted t op.by) (shifted u op.by) x.front (held_at e op.of) moved ahead)
+    by_lines (unseen early none) = unseen early none
+
+-- what is told is a function of time
+pub glance_is_function : (x : Glance) (op : Moved) → IsFunction (glance_of x op)
+glance_is_function x op = by_case op.inside refl
+  where
+    over : IsFunction (looked_at x op.side)
+    over = input_is_function (record { formula = x.formula; trace = x.trace; reach = x.reach; front = x.front; bound = x.bound; at = x.front; behind = x.front }) op.side
+
+    by_case : (b : Bool) → op.inside ≡ b → IsFunction (glance_of x op)
+    by_case true e = subst (λ b. IsFunction (λ t v. MatchBool b (looked_at x op.side (shifted t op.by) v) (v ≈ᵉ nothing_of op.side))) (sym e) (record {
+      alike = λ t u v w same f h. over.alike (shifted t op.by) (shifted u op.by) v w (same_shifted op.by same) f h;
+      one = λ t v w h k. over.one (shifted t op.by) v w h k;
+    })
+    by_case false e = subst (λ b. IsFunction (λ t v. MatchBool b (looked_at x op.side (shifted t op.by) v) (v ≈ᵉ nothing_of op.side))) (sym e) (record {
+      alike = λ t u v w same f h. same_transᵉ w v (nothing_of op.side) (same_symᵉ v w f) h;
+      one = λ t v w h k. same_transᵉ v (nothing_of op.side) w h (same_symᵉ w (nothing_of op.side) k);
+    })
+
 -- ---- steps
 
 -- the input as it is told
@@ -174,6 +215,11 @@ module _ (x : Glance) (op : Moved) (old : Held) (t : Rational) (at : IsGlanceAt 
 
     pub gap_moves : IsMovedBy x.reach (margin_of gap)
     gap_moves = subst (λ (m : MarginLine). IsMovedBy x.reach (margin_of m)) (sym gap_is) g.gap_fit.4
+
+    -- the point behind it
+    module _ (mid new : Held) (point : MarginLine) (two : TakesTwo old mid new op.of gap point) where
+      pub behind_moves : IsMovedBy x.reach (margin_of point)
+      behind_moves = subst (λ (m : MarginLine). IsMovedBy x.reach (margin_of m)) (sym (is_point two g)) g.point_fit.2
 
     pub ends_inside : value g.u ≤ʳ stop x.trace
     ends_inside = le_trans (joined_to (value g.u) x.front (input x) g.rest g.told g.joined) at.last
@@ -354,9 +400,6 @@ module _ (x : Glance) (op : Moved) (own : ℕ) (old : Held) (t to : Rational) (a
 
       -- or it is the next stop
       module _ (mid new : Held) (point : MarginLine) (two : TakesTwo old mid new op.of gap point) where
-        pub point_level : IsMovedBy x.reach (margin_of point)
-        point_level = subst (λ (m : MarginLine). IsMovedBy x.reach (margin_of m)) (sym (is_point two fg)) fg.point_fit.2
-
         point_at : value (end_of point) ≈ shifted (value s) op.by
         point_at = subst (λ (m : MarginLine). value (end_of m) ≈ shifted (value s) op.by) (sym (is_point two fg)) (same_sym (same_trans back fg.ends))
 

@@ -56,6 +56,7 @@ mod Looking
 mod WindowNodes
 mod WindowBridging
 mod WindowTurnings
+mod WaitBridging
 mod FirstWindows
 mod GlanceBridging
 pub mod WindowCauses

@@ -146,7 +146,7 @@ none_there f tr reach most front bound at w u v early there = record {
     weak false a d h = le_of_lt h
 
 module _ (t : Turn) (z : Lazy) (e : Held) (to : ℕ) (b : Belongs t (Op.Sweep z) e to) (none : z.sweep ≡ None) where
-  waited : (seen_by b.node e ≡ []) × HasWaited z (begin_of t) (reach_before t + own t z e to b) t.before
+  pub waited : (seen_by b.node e ≡ []) × HasWaited z (begin_of t) (reach_before t + own t z e to b) t.before
   waited = subst (λ (o : Option Sweep). MatchOption o ((seen_by b.node e ≡ []) × HasWaited z (begin_of t) (reach_before t + own t z e to b) t.before)
       (λ s. (s.window ≡ z.window) × IsSomeAnd t.before (HasSweptTo t.nodes t.place t.trace z.window.of (own t z e to b) s (seen_by b.node e)))) none b.stands.2
 

@@ -116,6 +116,7 @@ HasGlanced x op most e from (Some r) = IsGlanceAt x op e (value r.at) × HasReac
 -- the window may go on from one time up to another
 pub record CanGlance (x : Glance) (op : Moved) (own : ℕ) (from to : Rational) (e : Held) : Type 0 where
   pub stands : HasGlanced x op (x.reach + own) e from op.last
+  pub offset : IsOffset op.by
   pub own_by : IsOwnOffset op.by own
   pub order : from ≤ʳ to
   pub from_tick : IsTick from

@@ -134,8 +134,14 @@ impl Moved {
     {
         match edges.first(self.of) {
             None => outside(self.side, to),
-            Some(MarginLine::Point { at, value }) => self.to_point(edges, &at, &value, to),
-            Some(gap) => self.over_gap(edges, &gap, to),
+            Some(line) => match line {
+                MarginLine::Point { at, value } => self.to_point(edges, &at, &value, to),
+                MarginLine::Gap {
+                    from: _,
+                    to: _,
+                    piece: _,
+                } => self.over_gap(edges, &line, to),
+            },
         }
     }
 
