@@ -57,7 +57,7 @@ use Rattle.online_robust.proofs.PastNodes.{IsPastNode, past_node}
 -- ---- the end by another pair
 
 -- a window that may go on up to a time may go on up to it by another pair
-pass_same : (x : Scope) (own : ℕ) (from to end : Rational) (p : Past) (e : Held) → to ≈ end → x.bound ≡ shifted to p.window.high → CanPass x own from to p e
+pub pass_same : (x : Scope) (own : ℕ) (from to end : Rational) (p : Past) (e : Held) → to ≈ end → x.bound ≡ shifted to p.window.high → CanPass x own from to p e
     → CanPass x own from end p e
 pass_same x own from to end p e same bound can = record {
   at = can.at;

@@ -38,7 +38,7 @@ use Rattle.online_robust.specs.Told.{IsMovedBy, IsTick}
 use Rattle.online_robust.specs.Reading.{IsStretch, IsThere}
 use Rattle.online_robust.specs.Standing.{HasSweptTo, HasWaited, IsWindowOf, Stands}
 use Rattle.online_robust.specs.Turns.{Turn, Belongs, AreInputs, HasSwept, IsCut, IsInput, IsStreamedFault, IsSwept, StandsNow, back_of, begin_of, from_of, reach_before, seen_by}
-use Rattle.online_robust.specs.Windows.{CanSweep, HasCome, IsFitWindow, IsSettledOver, IsWindowFault, Scope, Sheds, StoodOver, best_of, scope_at}
+use Rattle.online_robust.specs.Windows.{CanSweep, HasCome, InPlayOver, IsFitWindow, IsSettledOver, IsWindowFault, Scope, Sheds, StoodOver, best_of, scope_at}
 use Rattle.online_robust.specs.declared.lazy.Lazy.{Lazy}
 use Rattle.online_robust.specs.declared.line.MarginLine.{MarginLine}
 use Rattle.online_robust.specs.declared.line.Reached.{Reached}
@@ -49,13 +49,13 @@ use Rattle.online_robust.proofs.BestWindows.{best_is, in_play_is, settled_is}
 use Rattle.online_robust.proofs.Bridging.{crossing_by, from_none, from_some, input_within, inputs_of, last_to, small_to, span_from, tick_of, tree}
 use Rattle.online_robust.proofs.Looking.{front_by_stop, looks_before, shifted_whole, told_as_far}
 use Rattle.online_robust.proofs.Robustly.{robust_is_function}
-use Rattle.online_robust.proofs.WindowAgain.{can_go_on, cut_window, stood_over}
+use Rattle.online_robust.proofs.WindowAgain.{can_go_on, cut_window, span_same, stood_over}
 use Rattle.online_robust.proofs.WindowNodes.{IsWindowNode, window_node}
 
 -- ---- the end by another pair
 
 -- a window that may go on up to a time may go on up to it by another pair
-sweep_same : (x : Scope) (own : ℕ) (from to end : Rational) (s : Sweep) (e : Held) → to ≈ end → x.bound ≡ shifted to s.window.high → CanSweep x own from to s e
+pub sweep_same : (x : Scope) (own : ℕ) (from to end : Rational) (s : Sweep) (e : Held) → to ≈ end → x.bound ≡ shifted to s.window.high → CanSweep x own from to s e
     → CanSweep x own from end s e
 sweep_same x own from to end s e same bound can = record {
   at = can.at;
@@ -64,20 +64,8 @@ sweep_same x own from to end s e same bound can = record {
   within = can.within;
   low_before = can.low_before;
   last = can.last;
-  owns = can.owns;
-  aside = can.aside;
-  order = le_trans can.order (le_of_same same);
-  from_tick = can.from_tick;
-  to_tick = (le_trans can.to_tick.0 (le_of_same same), le_trans (ge_of_same same) can.to_tick.1);
-  begins = can.begins;
-  ends = le_trans (ge_of_same same) can.ends;
-  by = subst (λ (b : Rational). shifted end s.window.high ≤ʳ b) (sym bound) (le_shifted s.window.high (ge_of_same same));
-  told = by_told can.told;
+  span = span_same x s.window own from to end same bound can.span;
 }
-  where
-    by_told : (x.bound ≤ʳ x.front) ⊎ ((x.front ≈ stop x.trace) × (to ≈ stop x.trace)) → (x.bound ≤ʳ x.front) ⊎ ((x.front ≈ stop x.trace) × (end ≈ stop x.trace))
-    by_told (inl le) = inl le
-    by_told (inr h) = inr (h.0, same_trans (same_sym same) h.1)
 
 -- what is in play in one way is so in another
 value_by : (A B : Rational → Affine → Type 0) (from to : Rational) (p : Affine) (u : Rational) (den : ℕ) → ((tau : Rational) (line : Affine) → A tau line → B tau line)
@@ -197,6 +185,13 @@ module _ (t : Turn) (z : Lazy) (e : Held) (to : ℕ) (b : Belongs t (Op.Sweep z)
       limited = is.limited;
       moved = λ node found p has. subst (λ (n : Node). IsMovedBy (reach_before t + own_reach n) p) (some_is (sym b.at ∙ found)) (is.moved p has);
     }
+
+    in_play_before : (tau : Rational) (line : Affine) → InPlayOver (Robustness child t.trace) (start t.trace) (stop t.trace) z.window tau line → tau <ʳ end
+        → IsInPlayAt (subformula t.nodes t.place) (margin_setting t.trace) tau line × (tau <ʳ whole (front_at t.ended (pos t.now) (subformula t.nodes t.place)))
+    in_play_before tau line play lt = (
+      subst (λ p. IsInPlayAt p (margin_setting t.trace) tau line) (sym own_tree) (in_play_is (subformula t.nodes) t.place b.node z.window t.trace b.stands.0 tau line play),
+      subst (λ k. tau <ʳ whole k) b.number (lt_of_lt_of_le lt (le_of_same same)),
+    )
 
     -- what is refused is in play at the node
     pub window_fault : (fault : OpFault Margin) → IsWindowFault x z.window end fault → IsStreamedFault t fault
