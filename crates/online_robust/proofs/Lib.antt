@@ -67,3 +67,7 @@ pub mod WindowAgain
 pub mod PastLemmas
 pub mod PastSteps
 pub mod PastAgain
+pub mod BestPasts
+pub mod PastNodes
+pub mod PastBridging
+pub mod PastTurnings

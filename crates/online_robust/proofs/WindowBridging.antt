@@ -38,7 +38,7 @@ use Rattle.online_robust.specs.Told.{IsMovedBy, IsTick}
 use Rattle.online_robust.specs.Reading.{IsStretch, IsThere}
 use Rattle.online_robust.specs.Standing.{HasSweptTo, HasWaited, IsWindowOf, Stands}
 use Rattle.online_robust.specs.Turns.{Turn, Belongs, AreInputs, HasSwept, IsCut, IsInput, IsStreamedFault, IsSwept, StandsNow, back_of, begin_of, from_of, reach_before, seen_by}
-use Rattle.online_robust.specs.Windows.{CanSweep, HasCome, IsFitWindow, IsSettledOver, IsWindowFault, Scope, Sheds, StoodOver, best_of, scope_at}
+use Rattle.online_robust.specs.Windows.{CanSweep, HasCome, InPlayOver, IsFitWindow, IsSettledOver, IsWindowFault, Scope, Sheds, StoodOver, best_of, scope_at}
 use Rattle.online_robust.specs.declared.lazy.Lazy.{Lazy}
 use Rattle.online_robust.specs.declared.line.MarginLine.{MarginLine}
 use Rattle.online_robust.specs.declared.line.Reached.{Reached}
@@ -185,6 +185,13 @@ module _ (t : Turn) (z : Lazy) (e : Held) (to : ℕ) (b : Belongs t (Op.Sweep z)
       limited = is.limited;
       moved = λ node found p has. subst (λ (n : Node). IsMovedBy (reach_before t + own_reach n) p) (some_is (sym b.at ∙ found)) (is.moved p has);
     }
+
+    in_play_before : (tau : Rational) (line : Affine) → InPlayOver (Robustness child t.trace) (start t.trace) (stop t.trace) z.window tau line → tau <ʳ end
+        → IsInPlayAt (subformula t.nodes t.place) (margin_setting t.trace) tau line × (tau <ʳ whole (front_at t.ended (pos t.now) (subformula t.nodes t.place)))
+    in_play_before tau line play lt = (
+      subst (λ p. IsInPlayAt p (margin_setting t.trace) tau line) (sym own_tree) (in_play_is (subformula t.nodes) t.place b.node z.window t.trace b.stands.0 tau line play),
+      subst (λ k. tau <ʳ whole k) b.number (lt_of_lt_of_le lt (le_of_same same)),
+    )
 
     -- what is refused is in play at the node
     pub window_fault : (fault : OpFault Margin) → IsWindowFault x z.window end fault → IsStreamedFault t fault

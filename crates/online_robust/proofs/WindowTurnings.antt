@@ -132,7 +132,7 @@ begun_spread f tr reach w first told s seen fresh front bound at k starts fit ti
     )
 
 -- a window that looks before the start alone has the value of no times
-none_there : (f : Subformula) (tr : Trace) (reach most : ℕ) (front bound at : Rational) (w : Window) (u : Rational) (v : Margin) → shifted u w.high <ʳ start tr
+pub none_there : (f : Subformula) (tr : Trace) (reach most : ℕ) (front bound at : Rational) (w : Window) (u : Rational) (v : Margin) → shifted u w.high <ʳ start tr
     → IsThere (silent_margin w.side) most u v → IsThere (best_of (scope_at f tr reach front bound at) w) most u v
 none_there f tr reach most front bound at w u v early there = record {
   told = best_of_none (Holds (start tr) (stop tr) w u) (Robustness f tr) (robust_is_function f tr) w.side (value_at (margin_function v) u)

@@ -3,6 +3,7 @@
 #![tactic(auto)]
 
 mod edges;
+mod endless;
 mod ends;
 mod glance;
 mod lazy;

@@ -6,6 +6,7 @@ ghost use Rattle.online_robust.specs.declared.operator.Operator.TheVariants as O
 ghost use Rattle.online_robust.specs.Turns.{Turn, Belongs, BelongsSomewhere, HasSwept, IsFirstOperator, IsStreamedFault, IsSwept, StandsNow};
 
 use crate::edges::Edges;
+use crate::endless::Endless;
 use crate::glance::Moved;
 use crate::lazy::Lazy;
 use crate::pointwise::{Not, Two};
@@ -23,6 +24,7 @@ pub(crate) enum Operator {
     Two(Two),
     Moved(Moved),
     Sweep(Lazy),
+    Past(Endless),
 }
 
 /// A connective before anything was told.
@@ -248,6 +250,7 @@ impl Operator {
             Operator::Two(two) => sweep_two(two, alloc, edges, to),
             Operator::Moved(moved) => sweep_moved(moved, alloc, edges, to),
             Operator::Sweep(window) => window.sweep(alloc, edges, to),
+            Operator::Past(window) => window.sweep(alloc, edges, to),
         }
     }
 }
