@@ -15,6 +15,7 @@ mod Leaves
 mod LeafMoved
 mod Loops
 mod Apart
+mod BestWindows
 mod Bridging
 mod Firsting
 mod Standings
@@ -32,3 +33,41 @@ pub mod WindowLaw
 pub mod PointwiseLemmas
 pub mod NotLemmas
 pub mod TwoLemmas
+pub mod Marks
+pub mod Spreads
+pub mod Outcomes
+pub mod HighLemmas
+pub mod FrozenLemmas
+pub mod LowLemmas
+pub mod WindowFits
+pub mod WindowStops
+pub mod WindowPoints
+pub mod WindowTurns
+pub mod WindowCore
+pub mod WindowSteps
+pub mod Sheddings
+pub mod WindowBounds
+pub mod WindowTelling
+pub mod WindowFirst
+pub mod Countdown
+mod Glancing
+mod Instants
+mod Looking
+mod WindowNodes
+mod WindowBridging
+mod WindowTurnings
+mod WaitBridging
+mod WindowLeaving
+mod FirstWindows
+mod GlanceBridging
+pub mod WindowCauses
+pub mod WindowFaults
+pub mod WindowRuns
+pub mod WindowAgain
+pub mod PastLemmas
+pub mod PastSteps
+pub mod PastAgain
+pub mod BestPasts
+pub mod PastNodes
+pub mod PastBridging
+pub mod PastTurnings

@@ -13,3 +13,7 @@ pub mod Lining
 pub mod Reading
 pub mod Couples
 pub mod Sweeping
+pub mod Windows
+pub mod WindowPasts
+pub mod Glances
+pub mod Waiting

@@ -3,15 +3,20 @@
 #![tactic(auto)]
 
 mod edges;
+mod endless;
 mod ends;
+mod glance;
+mod lazy;
 mod line;
 mod net;
 mod operator;
+mod past;
 mod pointwise;
 mod put;
 mod queue;
 mod station;
 mod streamed;
+mod window;
 
 pub use line::MarginLine;
 pub use net::{RobustFault, RobustNet};
