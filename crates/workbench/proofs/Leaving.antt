@@ -1,27 +1,35 @@
 -- What a run leaves to its caller.
 use Rattle.std.proofs.Common.{◌≡◌, ◌≢◌, ◌∙◌, inl, inr, ℕ, Bool, true, false, Option, Some, List, [], refl, sym, ap, subst, arith, Result, Ok, Err}
-use Rattle.std.specs.Prelude.{IsSome, MatchResult, OnOk}
+use Rattle.std.specs.Prelude.{IsSome, MatchResult, OnOk, map}
 use Rattle.std.specs.Result.{is_err}
 use Rattle.std.proofs.lemmas.Bool.{false≢true}
 use Rattle.std.specs.Io.KnownBytes.{Appends, Consumes}
 use Rattle.std.proofs.KnownBytes.{Appends-nil, Consumes-nil}
 use Rattle.io_edge.specs.Calls.{Drained, Filled, IsAskedOnce}
-use Rattle.stl_syntax.specs.Formula.{Formula}
 use Rattle.report.specs.Report.{Command, nodes_for}
 use Rattle.early_verdict.specs.Deciding.{Kept as Deciding}
+use Rattle.stl_syntax.specs.Formula.{Formula, root}
+use Rattle.stl_syntax.specs.declared.node.Node.{Node}
+use Rattle.online_nodes.specs.MarginEdges.{AreEmittedParts}
+use Rattle.online_robust.specs.Nets.{Parts, StandsFor}
+use Rattle.online_robust.specs.Pasts.{part_of}
+use Rattle.trace_stream.specs.Margining.{IsMargined}
+use Rattle.trace_stream.specs.declared.margins.Margins.{Margins as Measurer}
+use Rattle.stl_grammar.specs.FormulaRefusals.{IsFormulaOf}
 use Rattle.trace_stream.specs.Reading.{IsWhole}
 use Rattle.trace_stream.specs.Following.{IsDone}
 use Rattle.trace_stream.specs.declared.live.Live.{Live}
 use Rattle.workbench.specs.Commands.{Judge, judge, generate}
 use Rattle.workbench.specs.Commands as word
-use Rattle.workbench.specs.ErrTexts.{out_of_memory}
+use Rattle.workbench.specs.ErrTexts.{not_streamed_text, out_of_memory}
 use Rattle.workbench.specs.InputFaults.{stream_limits, whole_limits}
-use Rattle.workbench.specs.Requests.{Request, no_form, refused as bad_request, whole, stream, verdicts, early, generated, Asks, AreNone, AreFor, IsAsked, word_of}
-use Rattle.workbench.specs.Running.{IsRun, unknown as run_unknown}
+use Rattle.workbench.specs.Requests.{Request, no_form, refused as bad_request, whole, stream, verdicts, early, margins, generated, Asks, AreNone, AreFor, IsAsked, IsUnserved, word_of}
+use Rattle.workbench.specs.Running.{IsRun, asked as run_asked, settled, unknown as run_unknown}
+use Rattle.workbench.specs.Settled.{bad}
 use Rattle.workbench.specs.Saying.{IsSaid}
 use Rattle.workbench.specs.Deciding.{IsDeciding}
 use Rattle.workbench.specs.declared.early.Deciding.{Deciding as Follower}
-use Rattle.workbench.specs.Keeping.{Holds, IsEarlyOf, IsLeft, asked, unknown, HasRun}
+use Rattle.workbench.specs.Keeping.{Holds, IsEarlyOf, IsLeft, IsNetOf, asked, unknown, HasRun}
 use Rattle.workbench.specs.Watches.{Watched, StandsForAll}
 use Rattle.workbench.specs.Wholes.{IsBadEnd, refused, no_room, status_of, status_of_stop, IsEndLine}
 use Rattle.workbench.specs.Pushing.{IsStreamEnd}
@@ -29,7 +37,7 @@ use Rattle.workbench.proofs.StreamSteps.{stream_run}
 use Rattle.workbench.specs.declared.fault.Stop.{Stop}
 use Rattle.workbench.specs.declared.fault.Stop.TheVariants.{Fault as Faulty, Unread, Unwritten, NoMemory, Wide, TooMany}
 use Rattle.workbench.specs.declared.kept.Kept.{Kept}
-use Rattle.workbench.specs.declared.kept.Kept.TheVariants.{Watch, Early}
+use Rattle.workbench.specs.declared.kept.Kept.TheVariants.{Watch, Early, Margins}
 
 -- words of no form leave nothing
 pub none_left : {words : List (List ℕ)} {i : Drained} {o e : Filled} {status : ℕ} (old new : Kept) → AreNone words → new ≡ old → IsRun words i o e status → HasRun words i o e old new status
@@ -183,3 +191,95 @@ pub has_follower : (live : Live Follower) (ending : Result Bool Stop) → is_err
     → OnOk ending (IsDone (λ s c made. IsDeciding true s c) early live bytes text) → IsSome live.follower
 has_follower live (Ok holds) e bytes text (h, over) = subst (λ (o : Option Follower). IsSome o) (sym over.is) refl
 has_follower live (Err stop) e bytes text k = absurd (false≢true (sym e))
+
+-- ---- `rwatch`
+
+-- it leaves its network on an answer, and nothing else
+pub margins_left : (words : List (List ℕ)) (f : Formula) (bytes : List ℕ) (ending : Result Bool Stop) (net : Parts) (old new : Kept) → AreFor words word.rwatch f
+    → OnOk ending (IsNetOf f bytes net) → MatchResult ending (λ _. new ≡ Margins net) (λ _. new ≡ old) → IsLeft words bytes (status_of ending) old new
+margins_left words f bytes (Ok true) net old new ask k same =
+    asked (stream margins f) ask (inl (refl, inl refl, subst (λ (y : Kept). Holds (stream margins f) bytes y) (sym same) k))
+margins_left words f bytes (Ok false) net old new ask k same =
+    asked (stream margins f) ask (inl (refl, inr refl, subst (λ (y : Kept). Holds (stream margins f) bytes y) (sym same) k))
+margins_left words f bytes (Err stop) net old new ask k same =
+    asked (stream margins f) ask (inr (inr (not_answer stop), same))
+
+-- the reader that has come to its end has the network
+pub margins_over : (f : Formula) (bytes text : List ℕ) (live : Live Measurer) → IsDone (λ s c made. IsMargined true s c made) margins live bytes text → live.formula ≡ f
+    → (x : Measurer) × (live.follower ≡ Some x) × IsNetOf f bytes x.net
+margins_over f bytes text live (holds, over) e =
+    let is : over.case.formula.nodes ≡ nodes_for f over.case.trace = ap (λ (g : Formula). g.nodes) over.fits.formula ∙ ap (λ (g : Formula). nodes_for g over.case.trace) e in (
+      over.follower,
+      over.is,
+      record {
+        tr = over.case.trace;
+        trace = subst (λ (g : Formula). IsWhole whole_limits g bytes over.case.trace) e over.trace;
+        given = over.complete.ended.given;
+        stands = subst (λ (ns : List Node). StandsFor ns over.case.trace.header over.follower.net (record { rows = over.case.trace.rows; ended = true }) over.complete.ended.given) is
+            over.complete.ended.stands;
+        all = subst (λ (ns : List Node). AreEmittedParts (root ns) over.case.trace.header over.case.trace.rows true (map part_of over.complete.ended.given)) is over.complete.ended.emitted;
+      },
+    )
+
+-- the run of `rwatch`
+pub margins_run : (words : List (List ℕ)) (f g h : Formula) (net : Parts) (i : Drained) (o e : Filled) (old new : Kept) → AreFor words word.rwatch f → g ≡ f → h ≡ f
+    → (ending : Result Bool Stop) (status : ℕ) (line : List ℕ) → status ≡ status_of ending → (Done : List ℕ → List ℕ → Type 0)
+    → IsStreamEnd Done (stream margins g) i o ending → ((bytes text : List ℕ) → OnOk ending (Done bytes text) → OnOk ending (IsNetOf f bytes net))
+    → IsAskedOnce i → IsEndLine h ending line → IsSaid e.before e.after e.faults e.faults_after line → MatchResult ending (λ _. new ≡ Margins net) (λ _. new ≡ old)
+    → HasRun words i o e old new status
+margins_run words f g h net i o e old new ask eg eh ending status line same Done y as_done once told said kept =
+    let z = subst (λ (k : Formula). IsStreamEnd Done (stream margins k) i o ending) eg y in
+    stream_run words margins f i o e old new ask ending status line same z once (subst (λ (k : Formula). IsEndLine k ending line) eh told) said
+    (margins_left words f z.bytes ending net old new ask (as_done z.bytes z.text z.left) kept)
+
+-- the answer is kept
+pub margins_answer : (r : Result Bool Stop) (net : Parts) (old : Kept) → is_err r ≡ false → MatchResult r (λ _. Margins net ≡ Margins net) (λ _. Margins net ≡ old)
+margins_answer (Ok holds) net old e = refl
+margins_answer (Err stop) net old e = absurd (false≢true (sym e))
+
+-- on an answer the network is of the formula
+pub net_of_done : (f : Formula) (live : Live Measurer) (ending : Result Bool Stop) (net : Parts) → live.formula ≡ f → ((y : Measurer) → live.follower ≡ Some y → net ≡ y.net)
+    → (bytes text : List ℕ) → OnOk ending (IsDone (λ s c made. IsMargined true s c made) margins live bytes text) → OnOk ending (IsNetOf f bytes net)
+net_of_done f live (Ok holds) net e is bytes text k =
+    let w = margins_over f bytes text live k e in subst (λ (y : Parts). IsNetOf f bytes y) (sym (is w.0 w.1)) w.2
+net_of_done f live (Err stop) net e is bytes text k = tt
+
+-- the run of `rwatch` on a fault
+pub margins_stopped : (words : List (List ℕ)) (f g h : Formula) (i : Drained) (o e : Filled) (old : Kept) → AreFor words word.rwatch f → g ≡ f → h ≡ f
+    → (ending : Result Bool Stop) (status : ℕ) (line : List ℕ) → status ≡ status_of ending → (Done : List ℕ → List ℕ → Type 0)
+    → IsStreamEnd Done (stream margins g) i o ending → is_err ending ≡ true
+    → IsAskedOnce i → IsEndLine h ending line → IsSaid e.before e.after e.faults e.faults_after line
+    → HasRun words i o e old old status
+margins_stopped words f g h i o e old ask eg eh ending status line same Done y err once told said =
+    let z = subst (λ (k : Formula). IsStreamEnd Done (stream margins k) i o ending) eg y in
+    stream_run words margins f i o e old old ask ending status line same z once (subst (λ (k : Formula). IsEndLine k ending line) eh told) said
+    (stopped_left words (stream margins f) z.bytes ending old ask err)
+
+-- streams of margins that are one are of one formula
+pub same_measured : (f g : Formula) → stream margins f ≡ stream margins g → f ≡ g
+same_measured f g e = cc
+
+-- a reader that has come to its end has its network
+pub has_measurer : (live : Live Measurer) (ending : Result Bool Stop) → is_err ending ≡ false → (bytes text : List ℕ)
+    → OnOk ending (IsDone (λ s c made. IsMargined true s c made) margins live bytes text) → IsSome live.follower
+has_measurer live (Ok holds) e bytes text (h, over) = subst (λ (o : Option Measurer). IsSome o) (sym over.is) refl
+has_measurer live (Err stop) e bytes text k = absurd (false≢true (sym e))
+
+-- a formula that is not served is refused before anything is read
+pub unserved_left : (words : List (List ℕ)) (text : List ℕ) (f : Formula) (node : ℕ) (i : Drained) (o e : Filled) (old new : Kept) (line : List ℕ) → IsAsked words (judge word.rwatch text)
+    → IsFormulaOf text f → IsUnserved word.rwatch f node → line ≡ not_streamed_text node → i.after ≡ i.before → o.after ≡ o.before
+    → IsSaid e.before e.after e.faults e.faults_after line → new ≡ old → HasRun words i o e old new 3
+unserved_left words text f node i o e old new line form is unserved line_is same_in same_out said same =
+    let ask : Asks words (bad_request line) = record { command = word.rwatch; text = text; form = form; is = inr (f, node, is, unserved, line_is) } in
+    record {
+      run = record {
+        bytes = [];
+        text = [];
+        line = line;
+        moved = subst (λ x. Consumes i.before x []) (sym same_in) (Consumes-nil i.before);
+        grew = subst (λ x. Appends o.before x []) (sym same_out) (Appends-nil o.before);
+        said = said;
+        ended = run_asked (bad_request line) ask (λ _. refl) (λ _ x. absurd (false≢true x)) (settled bad);
+      };
+      left = asked (bad_request line) ask (inr (inl refl, same));
+    }

@@ -4,7 +4,7 @@ use Rattle.std.specs.Prelude.{codes, decimal}
 use Rattle.stl_syntax.specs.Texts.{newline}
 use Rattle.stl_grammar.specs.declared.fault.What.{What}
 use Rattle.stl_grammar.specs.declared.fault.FormulaFault.TheVariants.{Expected, ConstantTooLarge}
-use Rattle.workbench.specs.ErrTexts.{what_text, formula_fault_text, wide_text}
+use Rattle.workbench.specs.ErrTexts.{what_text, formula_fault_text, not_streamed_text, wide_text}
 
 -- parts to the right
 at_once : (a d c x e f : List ℕ) → (((a ++ d) ++ c) ++ (x ++ e)) ++ f ≡ a ++ (d ++ (c ++ (x ++ (e ++ f))))
@@ -23,6 +23,9 @@ expected_text p w = expected_whole p (what_text w)
 
 pub constant_text : (i : ℕ) → codes "formula: node " ++ (decimal i ++ (codes ": constant too large" ++ newline)) ≡ formula_fault_text (ConstantTooLarge i)
 constant_text i = sym (with_tail (codes "formula: ") (codes "node ") (decimal i) (codes ": constant too large") newline)
+
+pub not_streamed_line_text : (i : ℕ) → codes "formula: node " ++ (decimal i ++ (codes " not streamed" ++ newline)) ≡ not_streamed_text i
+not_streamed_line_text i = sym (with_tail (codes "formula: ") (codes "node ") (decimal i) (codes " not streamed") newline)
 
 in_row : (a d b e f : List ℕ) → (((a ++ d) ++ b) ++ e) ++ f ≡ a ++ (d ++ (b ++ (e ++ f)))
 in_row a d b e f = simp append_assoc

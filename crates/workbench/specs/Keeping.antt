@@ -1,22 +1,27 @@
 -- What a run leaves to its caller.
-use Rattle.std.specs.Prelude.{◌≡◌, ℕ, Bool, true, false, List}
+use Rattle.std.specs.Prelude.{◌≡◌, ℕ, Bool, true, false, List, map}
 use Rattle.io_edge.specs.Calls.{Drained, Filled}
-use Rattle.stl_syntax.specs.Formula.{Formula}
+use Rattle.stl_syntax.specs.Formula.{Formula, root}
 use Rattle.stl_syntax.specs.Trace.{Trace}
 use Rattle.early_verdict.specs.Deciding.{Kept as Deciding, Stands}
+use Rattle.online_nodes.specs.MarginEdges.{AreEmittedParts}
+use Rattle.online_robust.specs.Nets.{Parts, StandsFor}
+use Rattle.online_robust.specs.Pasts.{part_of}
+use Rattle.online_robust.specs.declared.line.MarginLine.{MarginLine}
 use Rattle.report.specs.Report.{nodes_for}
 use Rattle.trace_stream.specs.Reading.{IsWhole}
 use Rattle.workbench.specs.InputFaults.{stream_limits, whole_limits}
-use Rattle.workbench.specs.Requests.{Request, stream, verdicts, early, Asks}
+use Rattle.workbench.specs.Requests.{Request, stream, verdicts, early, margins, Asks}
 use Rattle.workbench.specs.Running.{IsKeptRightly, IsRun}
 use Rattle.workbench.specs.Watches.{Watched, StandsForAll}
 use Rattle.workbench.specs.declared.kept.Kept.{Kept}
-use Rattle.workbench.specs.declared.kept.Kept.TheVariants.{Watch, Early}
+use Rattle.workbench.specs.declared.kept.Kept.TheVariants.{Watch, Early, Margins}
 
 -- the requests that leave something
 abbrev pub keeps : Request → Bool
 keeps (stream verdicts f) = true
 keeps (stream early f) = true
+keeps (stream margins f) = true
 keeps request = false
 
 -- the watch is of this formula, and stands for the bytes and their end
@@ -31,10 +36,20 @@ pub record IsEarlyOf (f : Formula) (bytes : List ℕ) (x : Deciding) : Type 0 wh
   pub header : x.header ≡ tr.header
   pub stands : Stands x tr.rows true
 
+-- the network is of this formula, in the ticks of the trace of these bytes, and stands for its rows and their end; all that its root gave out
+-- was taken
+pub record IsNetOf (f : Formula) (bytes : List ℕ) (net : Parts) : Type 0 where
+  pub tr : Trace
+  pub trace : IsWhole stream_limits f bytes tr
+  pub given : List MarginLine
+  pub stands : StandsFor (nodes_for f tr) tr.header net (record { rows = tr.rows; ended = true }) given
+  pub all : AreEmittedParts (root (nodes_for f tr)) tr.header tr.rows true (map part_of given)
+
 -- it holds what stands for the bytes of a request, all of them
 abbrev pub Holds : Request → List ℕ → Kept → Type 0
 Holds (stream verdicts f) bytes (Watch w) = IsWatchOf f bytes w
 Holds (stream early f) bytes (Early x) = IsEarlyOf f bytes x
+Holds (stream margins f) bytes (Margins net) = IsNetOf f bytes net
 Holds request bytes kept = ⊥
 
 -- what the words ask for left what it leaves, or else all is as it was; so it is where memory was wanting before that was known

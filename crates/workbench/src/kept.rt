@@ -1,6 +1,7 @@
 //! What a run leaves to its caller.
 use crate::watch::Watch;
 use early_verdict::Early;
+use online_robust::RobustNet;
 
 /// What a run that answers row by row leaves to its caller.
 #[derive(Drop)]
@@ -11,4 +12,6 @@ pub enum Kept {
     Watch(Watch),
     /// What decided, by which `early` answered.
     Early(Early),
+    /// The network of margins by which `rwatch` answered, all of which was taken.
+    Margins(RobustNet),
 }

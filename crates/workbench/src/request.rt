@@ -21,6 +21,7 @@ pub(crate) enum Mode {
     Whole(Command),
     Watch,
     Early,
+    Margins,
 }
 
 /// How to answer, and the text of the formula.
@@ -46,6 +47,7 @@ fn named(word: &str) -> Option<Mode>
         "check" => Some(Mode::Whole(Command::Check)),
         "watch" => Some(Mode::Watch),
         "early" => Some(Mode::Early),
+        "rwatch" => Some(Mode::Margins),
         "robust" => Some(Mode::Whole(Command::Robust)),
         "explain" => Some(Mode::Whole(Command::Explain)),
         "json" => Some(Mode::Whole(Command::Json)),

@@ -1,7 +1,7 @@
 //! The lines for the error stream: one for each way in which a check can stop.
 ghost use Rattle.std.specs.Prelude.{◌≡◌, ◌++◌, codes, decimal};
 ghost use Rattle.stl_syntax.specs.Texts.{newline};
-ghost use Rattle.workbench.specs.ErrTexts.{formula_fault_text, what_text, wide_text, too_many_cells_text};
+ghost use Rattle.workbench.specs.ErrTexts.{formula_fault_text, not_streamed_text, what_text, wide_text, too_many_cells_text};
 ghost use Rattle.report.specs.Lines.{line_text};
 
 use report::{Detail, Line};
@@ -61,6 +61,13 @@ pub(crate) fn formula_line(fault: FormulaFault) -> Line<'static>
         ),
         FormulaFault::Memory => Line::plain(NO_MEMORY),
     }
+}
+
+/// The line of a node for which margins are not streamed.
+pub(crate) fn not_streamed_line(node: u32) -> Line<'static>
+    ensures { line_text result ≡ not_streamed_text node }
+{
+    Line::numbered(b"formula: node ", u64::from(node), b" not streamed\n")
 }
 
 /// The line of a node that needs too large a denominator.

@@ -3,11 +3,13 @@ ghost use Rattle.std.specs.Prelude.{◌≡◌, ◌≢◌, ◌⊎◌, ◌≤◌, 
 ghost use Rattle.io_edge.specs.Causes.{Rose, after_end};
 ghost use Rattle.io_edge.specs.Calls.{drained, filled};
 ghost use Rattle.workbench.specs.Saying.{IsSaid};
-ghost use Rattle.stl_grammar.specs.FormulaRefusals.{IsFormulaFault};
+ghost use Rattle.stl_grammar.specs.FormulaRefusals.{IsFormulaFault, IsFormulaOf};
 ghost use Rattle.trace_stream.specs.Cases.{IsCase};
 ghost use Rattle.report.specs.Lines.{line_text};
 ghost use Rattle.workbench.specs.Made.{IsMade};
-ghost use Rattle.workbench.specs.Requests.{AreHeld, AreFor, AskToGenerate};
+ghost use Rattle.trace_stream.specs.Streams.{HasStream, margins};
+ghost use Rattle.workbench.specs.Requests.{AreHeld, AreFor, AskToGenerate, IsAsked};
+ghost use Rattle.workbench.specs.Commands.{judge};
 ghost use Rattle.workbench.specs.Commands as word;
 ghost use Rattle.workbench.specs.Keeping.{HasRun};
 ghost use Rattle.workbench.specs.Wholes.{command_of, IsAnswerOf, IsUnanswered, IsWrittenWith, IsWholeEnd, IsBadEnd, IsEndLine, IsStopLine, HasFaultFor, EndsSoundly, status_of, status_of_stop, status_of_fault};
@@ -20,6 +22,7 @@ use crate::fault::Stop;
 use crate::json::give_report;
 use crate::kept::Kept;
 use crate::line::write_line;
+use crate::margins::net_of;
 use crate::output::write_all;
 use crate::reading::read_trace;
 use crate::request::{Command, Mode, Workload, asked, workload_of};
@@ -27,15 +30,16 @@ use crate::robust::measure;
 use crate::stream::stream;
 use crate::summary::summary;
 use crate::table::tabulate;
-use crate::texts::{NO_MEMORY, formula_line, too_many_cells_line, wide_line};
+use crate::texts::{NO_MEMORY, formula_line, not_streamed_line, too_many_cells_line, wide_line};
 use crate::watch::Watch;
 use io_edge::{Sink, Source};
+use online_robust::first_unstreamed;
 use report::Line;
 use std::alloc::Global;
 use stl_grammar::{FormulaFault, parse};
 use stl_syntax::Formula;
 use trace_reader::Limits;
-use trace_stream::{Case, Live, fault_line};
+use trace_stream::{Case, Live, Margins, fault_line};
 
 /// The limits of a trace that is held whole.
 pub(crate) const LIMITS: Limits = Limits {
@@ -51,7 +55,7 @@ const STREAM_LIMITS: Limits = Limits {
 
 /// The line where the words are of no form.
 const USAGE: &[u8] =
-    b"usage: check F | watch F | robust F | explain F | json F | table F | gen NUMBER ROWS | early F\n";
+    b"usage: check F | watch F | robust F | explain F | json F | table F | gen NUMBER ROWS | early F | rwatch F\n";
 
 /// The line where the output failed.
 const WRITE_FAULT: &[u8] = b"write fault\n";
@@ -291,12 +295,79 @@ fn decide<S: Source, K: Sink, E: Sink>(
     status
 }
 
+/// Tells the margins as the rows come, and leaves the network that did so.
+fn measure_by_row<S: Source, K: Sink, E: Sink>(
+    alloc: Global,
+    formula: Formula,
+    input: &mut S,
+    out: &mut K,
+    err: &mut E,
+    kept: &mut Kept,
+) -> u8
+    requires { HasStream margins formula }
+    ensures ran { (words : List (List ℕ)) → AreFor words word.rwatch formula → HasRun words (drained S.left S.ended S.ends S.faults input.old input.new)
+        (filled K.written K.faults out.old out.new) (filled E.written E.faults err.old err.new) kept.old kept.new result }
+    ensures known { ¬ ((result ≡ 2) ⊎ (result ≡ 3)) }
+    ensures read_due { result ≢ 5 → S.faults input.new ≡ S.faults input.old }
+    ensures write_due { result ≢ 6 → K.faults out.new ≡ K.faults out.old }
+    ensures quiet { result ≤ 1 → err.new ≡ err.old }
+    ensures unkept { 2 ≤ result → kept.new ≡ kept.old }
+    ensures input_later { S.faults input.old ≤ S.faults input.new }
+    ensures out_later { K.faults out.old ≤ K.faults out.new }
+    ensures err_later { E.faults err.old ≤ E.faults err.new }
+{
+    let mut live = match Live::new(alloc, formula, STREAM_LIMITS) {
+        Ok(live) => live,
+        Err(_) => {
+            say(err, &Line::plain(NO_MEMORY));
+            return 7;
+        }
+    };
+    let ending = stream::<Live<Margins>, S, K>(&mut live, input, out);
+    let status = finish(err, live.formula(), ending);
+    if ending.is_err() {
+        return status;
+    }
+    *kept = Kept::Margins(net_of(live));
+    status
+}
+
+/// Tells the margins as the rows come, where they are streamed.
+fn margins_of_rows<S: Source, K: Sink, E: Sink>(
+    alloc: Global,
+    formula: Formula,
+    input: &mut S,
+    out: &mut K,
+    err: &mut E,
+    kept: &mut Kept,
+) -> u8
+    ensures ran { (words : List (List ℕ)) (text : List ℕ) → IsAsked words (judge word.rwatch text) → IsFormulaOf text formula
+        → HasRun words (drained S.left S.ended S.ends S.faults input.old input.new)
+        (filled K.written K.faults out.old out.new) (filled E.written E.faults err.old err.new) kept.old kept.new result }
+    ensures known { result ≢ 2 }
+    ensures unread { result ≡ 3 → input.new ≡ input.old }
+    ensures nothing { result ≡ 3 → out.new ≡ out.old }
+    ensures read_due { result ≢ 5 → S.faults input.new ≡ S.faults input.old }
+    ensures write_due { result ≢ 6 → K.faults out.new ≡ K.faults out.old }
+    ensures quiet { result ≤ 1 → err.new ≡ err.old }
+    ensures unkept { 2 ≤ result → kept.new ≡ kept.old }
+    ensures input_later { S.faults input.old ≤ S.faults input.new }
+    ensures out_later { K.faults out.old ≤ K.faults out.new }
+    ensures err_later { E.faults err.old ≤ E.faults err.new }
+{
+    if let Some(node) = first_unstreamed(&formula) {
+        say(err, &not_streamed_line(node));
+        return 3;
+    }
+    measure_by_row(alloc, formula, input, out, err, kept)
+}
+
 /// Does all that the program does for its words, and answers the status with which it ends.
 ///
 /// - 0 and 1: `out` got the whole text of the command. The input was read to its end, but for `gen`, which reads
-///   none. After `watch`, `kept` is its watch, and after `early` what decided.
+///   none. After `watch`, `kept` is its watch, after `early` what decided, and after `rwatch` the network of margins.
 /// - 2: the words are of no form.
-/// - 3: the formula is refused.
+/// - 3: the formula is refused; by `rwatch` one with until or since.
 /// - 4: the bytes that were read have a first fault: of the trace, a column of the formula that the header lacks, or numbers of
 ///   the formula that do not fit in the header's ticks.
 /// - 5: `input` failed.
@@ -306,7 +377,7 @@ fn decide<S: Source, K: Sink, E: Sink>(
 /// - 9: an explanation would have too many cells.
 ///
 /// From 2 on `err` gets one line; a fault of `err` changes no status. The words are judged first, then the formula, then the bytes
-/// in their order. `watch` and `early` write what each row answers before more is read, also what comes before a fault. On each other status and
+/// in their order. `watch`, `early` and `rwatch` write what each row answers before more is read, also what comes before a fault. On each other status and
 /// command `kept` stays as it was.
 pub fn run<S: Source, K: Sink, E: Sink>(
     alloc: Global,
@@ -350,6 +421,7 @@ pub fn run<S: Source, K: Sink, E: Sink>(
             }
             Mode::Watch => by_row(alloc, formula, input, out, err, kept),
             Mode::Early => decide(alloc, formula, input, out, err, kept),
+            Mode::Margins => margins_of_rows(alloc, formula, input, out, err, kept),
         },
         Err(fault) => refuse(err, fault),
     }
