@@ -5,9 +5,9 @@ use Rattle.std.proofs.lemmas.Int.{ints}
 use Rattle.stl_syntax.specs.Trace.{Trace}
 use Rattle.stl_syntax.specs.declared.node.Node.{Node}
 use Rattle.stl_syntax.specs.declared.node.Node.TheVariants as N
-use Rattle.online_robust.specs.Standing.{IsInstantOf, IsWindowOf, IsWindowOperator, Stands, instant_of}
+use Rattle.online_robust.specs.Standing.{IsInstantOf, IsPastOf, IsWindowOf, IsWindowOperator, Stands, instant_of}
 use Rattle.online_robust.specs.Turns.{IsFirstOperator, IsLeaf}
-use Rattle.online_robust.specs.Waiting.{lazy_of}
+use Rattle.online_robust.specs.Waiting.{endless_of, lazy_of}
 use Rattle.online_robust.specs.declared.glance.Moved.{Moved}
 use Rattle.online_robust.specs.declared.operator.Operator.{Operator}
 use Rattle.online_robust.specs.declared.operator.Operator.TheVariants as Op
@@ -60,3 +60,23 @@ first_window n w op is (inl (order, same)) =
     (no_leaf n w is, λ nodes place tr. (is, order, (refl, record { silent = refl; short = tt; stood = refl })))
 first_window n w op is (inr (equal, same)) =
     subst (λ (o : Operator). IsFirstOperator n (Some o)) (sym same) (no_leaf n w is, λ nodes place tr. (instant_is n w is equal, refl))
+
+-- so does that of a window without a low end
+pub first_past : (n : Node) (w : Window) → IsPastOf n w → IsFirstOperator n (Some (Op.Past (endless_of w)))
+first_past n w is = (leafless n is, λ nodes place tr. (is, (refl, record { silent = refl; short = tt; stood = refl })))
+  where
+    leafless : (n : Node) → IsPastOf n w → ¬ IsLeaf n
+    leafless (N.Once p a None i j) is leaf = leaf
+    leafless (N.Historically p a None i j) is leaf = leaf
+    leafless (N.Once p a (Some b) i j) is leaf = is
+    leafless (N.Historically p a (Some b) i j) is leaf = is
+    leafless (N.Const c) is leaf = is
+    leafless (N.Atom a) is leaf = is
+    leafless (N.Not p) is leaf = is
+    leafless (N.And p q) is leaf = is
+    leafless (N.Or p q) is leaf = is
+    leafless (N.Implies p q) is leaf = is
+    leafless (N.Until p q a b) is leaf = is
+    leafless (N.Eventually p a b i j) is leaf = is
+    leafless (N.Always p a b i j) is leaf = is
+    leafless (N.Since p q a b) is leaf = is

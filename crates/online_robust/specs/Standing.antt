@@ -11,7 +11,6 @@ use Rattle.stl_syntax.specs.Limits.{own_reach, reach}
 use Rattle.stl_syntax.specs.SupInf.{Robustness}
 use Rattle.stl_syntax.specs.declared.node.Node.{Node}
 use Rattle.stl_syntax.specs.declared.node.Node.TheVariants.{Not, And, Or, Implies, Eventually, Always, Once, Historically}
-use Rattle.online_nodes.specs.StreamedWide.{IsUnstreamed}
 use Rattle.online_robust.specs.Reading.{HasReached, turned_by}
 use Rattle.online_robust.specs.Glances.{glance_over}
 use Rattle.online_robust.specs.Waiting.{lazy_of, silent_margin, silent_of}
@@ -28,18 +27,6 @@ use Rattle.online_robust.specs.declared.past.Past.{Past}
 use Rattle.online_robust.specs.WindowPasts.{StoodPast}
 use Rattle.online_robust.specs.declared.window.Sweep.{Sweep}
 use Rattle.online_robust.specs.declared.window.Window.{Window}
-
--- the node is a window
-abbrev pub IsWindow : Node → Type 0
-IsWindow (Eventually p a b a_in b_in) = Unit {0}
-IsWindow (Always p a b a_in b_in) = Unit {0}
-IsWindow (Once p a b a_in b_in) = Unit {0}
-IsWindow (Historically p a b a_in b_in) = Unit {0}
-IsWindow n = ⊥
-
--- the node has an operator of margins, or needs none
-abbrev pub IsStreamed : Node → Type 0
-IsStreamed n = (¬ IsUnstreamed n) × (¬ IsWindow n)
 
 -- a node gave out nothing yet, and nothing is kept; or it stands at a number, and its value there is kept
 abbrev pub HasStood : Function → ℕ → Option ℤ → Option Reached → Type 0

@@ -1,7 +1,9 @@
 //! The operator of a node: what it keeps in mind of its inputs, and how it goes on.
 ghost use Rattle.std.specs.Prelude.{◌≡◌, ◌≤◌, ◌≤ℤ◌, if◌then◌else◌, false, IfOk, IfErr, IfSome, MatchOption, OnOk, Some, None};
-ghost use Rattle.stl_syntax.specs.WellFormed.{HasBounds};
-ghost use Rattle.online_robust.specs.Standing.{IsStreamed, IsWindowOperator, ahead_window, behind_window};
+ghost use Rattle.stl_syntax.specs.WellFormed.{HasBounds, IsInOrder};
+ghost use Rattle.online_nodes.specs.StreamedWide.{IsUnstreamed};
+ghost use Rattle.online_robust.specs.Standing.{IsWindowOperator, ahead_window, behind_window, past_window};
+ghost use Rattle.online_robust.specs.Waiting.{endless_of};
 ghost use Rattle.online_robust.specs.declared.operator.Operator.TheVariants as Op;
 ghost use Rattle.online_robust.specs.Turns.{Turn, Belongs, BelongsSomewhere, HasSwept, IsFirstOperator, IsStreamedFault, IsSwept, StandsNow};
 
@@ -79,7 +81,7 @@ fn ahead(of: u32, side: Side, low: u32, high: u32, low_in: bool, high_in: bool) 
     )
 }
 
-/// That of a window behind, which has a far bound.
+/// That of a window behind: without a low end where it has no far bound.
 fn behind(
     of: u32,
     side: Side,
@@ -87,20 +89,27 @@ fn behind(
     high: Option<u32>,
     low_in: bool,
     high_in: bool,
-) -> Option<Operator>
-    requires { MatchOption high ⊥ (λ b. low ≤ b) }
-    ensures { MatchOption high ⊥ (λ b. IfSome result (IsWindowOperator (behind_window of side low b low_in high_in))) }
+) -> Operator
+    requires { IsInOrder low high }
+    ensures { MatchOption high (result ≡ Op.Past (endless_of (past_window of side low low_in))) (λ b. IsWindowOperator (behind_window of side low b low_in high_in) result) }
 {
     match high {
-        Some(high) => Some(window(
+        Some(high) => window(
             of,
             side,
             -i64::from(high),
             -i64::from(low),
             high_in,
             low_in,
-        )),
-        None => unreachable!(),
+        ),
+        None => Operator::Past(Endless::new(Window {
+            of,
+            side,
+            low: -4294967296,
+            high: -i64::from(low),
+            low_in: true,
+            high_in: low_in,
+        })),
     }
 }
 
@@ -178,9 +187,9 @@ fn sweep_moved(
 }
 
 impl Operator {
-    /// The operator of a node before it gave out anything; none at a constant and at an atom. Windows are not built yet.
+    /// The operator of a node before it gave out anything; none at a constant and at an atom.
     pub(crate) fn new(node: &Node) -> Option<Operator>
-        requires streamed { IsStreamed node.now }
+        requires streamed { ¬ IsUnstreamed node.now }
         requires bounds { HasBounds node.now }
         ensures { IsFirstOperator node.now result }
     {
@@ -216,14 +225,14 @@ impl Operator {
                 high,
                 low_in,
                 high_in,
-            } => behind(*of, Side::Greatest, *low, *high, *low_in, *high_in),
+            } => Some(behind(*of, Side::Greatest, *low, *high, *low_in, *high_in)),
             Node::Historically {
                 of,
                 low,
                 high,
                 low_in,
                 high_in,
-            } => behind(*of, Side::Least, *low, *high, *low_in, *high_in),
+            } => Some(behind(*of, Side::Least, *low, *high, *low_in, *high_in)),
         }
     }
 
