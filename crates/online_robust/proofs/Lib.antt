@@ -56,8 +56,8 @@ mod Looking
 mod WindowNodes
 mod WindowBridging
 mod WindowTurnings
-mod WaitBridging
-mod WindowLeaving
+pub mod WaitBridging
+pub mod WaitPast
 mod FirstWindows
 mod GlanceBridging
 pub mod WindowCauses
@@ -71,3 +71,5 @@ pub mod BestPasts
 pub mod PastNodes
 pub mod PastBridging
 pub mod PastTurnings
+pub mod LazyTurns
+pub mod EndlessTurns
