@@ -98,8 +98,8 @@ module _ (t : Turn) (z : Moved) (e : Held) (to : ℕ) (b : Belongs t (Op.Moved z
   abbrev pub glance : Glance
   glance = record { formula = child; trace = t.trace; reach = reach_before t; front = whole F; bound = shifted (whole (pos to)) z.by }
 
-  far : pos (horizon child) +ℤ z.by ≤ℤ pos (horizon (subformula t.nodes t.place))
-  far = subst (λ p. pos (horizon child) +ℤ z.by ≤ℤ pos (horizon p)) (sym own_is) here.far
+  far : (pos (horizon child) +ℤ z.by) ≤ℤ pos (horizon (subformula t.nodes t.place))
+  far = subst (λ p. (pos (horizon child) +ℤ z.by) ≤ℤ pos (horizon p)) (sym own_is) here.far
 
   front_last : whole F ≤ʳ stop t.trace
   front_last = front_by_stop t (Op.Moved z) e to b z.of
@@ -189,7 +189,7 @@ module _ (t : Turn) (z : Moved) (e : Held) (to : ℕ) (b : Belongs t (Op.Moved z
         at_limit = same_trans (same_shifted z.by same) (shifted_whole (pos to) z.by)
 
         -- where all that is looked at lies before the start, nothing was lost
-        first_later : (pos to +ℤ z.by <ℤ pos (begin_of t)) → IfSome (slice_get (held_at e z.of) 0) (λ x. shifted end z.by <ʳ value (end_of x))
+        first_later : ((pos to +ℤ z.by) <ℤ pos (begin_of t)) → IfSome (slice_get (held_at e z.of) 0) (λ x. shifted end z.by <ʳ value (end_of x))
         first_later lt = by_before t.before b.forth input
           where
             by_left : AreLeft (begin_of t) None F (held_at e z.of) → IfSome (slice_get (held_at e z.of) 0) (λ x. shifted end z.by <ʳ value (end_of x))

@@ -134,7 +134,7 @@ pub record IsInstantNode (f : ℕ → Subformula) (place : ℕ) (tr : Trace) (n 
   pub only : (j : ℕ) (left : Bool) → IsReader n left j → (j ≡ z.of) × (left ≡ true)
   pub back : reach_back n true ≡ z.by
   pub own : IsOwnOffset z.by (own_reach n)
-  pub far : pos (horizon (f z.of)) +ℤ z.by ≤ℤ pos (horizon (tree_of f place n))
+  pub far : (pos (horizon (f z.of)) +ℤ z.by) ≤ℤ pos (horizon (tree_of f place n))
   pub value : (t : Rational) (v : Extended) → glance_over (Robustness (f z.of) tr) (start tr) (stop tr) z t v → Robustness (tree_of f place n) tr t v
 
 -- a window by its parts

@@ -41,20 +41,20 @@ module _ (t : Turn) (op : Operator) (e : Held) (to : ℕ) (b : Belongs t op e to
   at_stop : t.ended ≡ true → whole (pos t.now) ≈ stop t.trace
   at_stop ended = let last = b.at_end ended in subst (λ k. whole (pos t.now) ≈ whole (pos k)) last (same_refl (whole (pos t.now)))
 
-  module _ (by : ℤ) (far : pos (horizon (subformula t.nodes of)) +ℤ by ≤ℤ pos (horizon (subformula t.nodes t.place))) where
+  module _ (by : ℤ) (far : (pos (horizon (subformula t.nodes of)) +ℤ by) ≤ℤ pos (horizon (subformula t.nodes t.place))) where
     -- what is looked at is told, or the input has ended
-    limit : (pos to +ℤ by ≤ℤ front_of) ⊎ (t.ended ≡ true)
+    limit : ((pos to +ℤ by) ≤ℤ front_of) ⊎ (t.ended ≡ true)
     limit = by_end t.ended refl b.number
       where
         by_end : (c : Bool) → t.ended ≡ c → pos to ≡ front_at c (pos t.now) (subformula t.nodes t.place)
-            → (pos to +ℤ by ≤ℤ front_at c (pos t.now) (subformula t.nodes of)) ⊎ (t.ended ≡ true)
+            → ((pos to +ℤ by) ≤ℤ front_at c (pos t.now) (subformula t.nodes of)) ⊎ (t.ended ≡ true)
         by_end true same e = inr same
         by_end false same e = inl (omega (arith, ints, e, far))
 
     pub told_as_far : (shifted (whole (pos to)) by ≤ʳ whole front_of) ⊎ ((whole front_of ≈ stop t.trace) × (whole (pos to) ≈ stop t.trace))
     told_as_far = by_limit limit
       where
-        by_limit : (pos to +ℤ by ≤ℤ front_of) ⊎ (t.ended ≡ true)
+        by_limit : ((pos to +ℤ by) ≤ℤ front_of) ⊎ (t.ended ≡ true)
             → (shifted (whole (pos to)) by ≤ʳ whole front_of) ⊎ ((whole front_of ≈ stop t.trace) × (whole (pos to) ≈ stop t.trace))
         by_limit (inl le) = inl (le_trans (le_of_same (shifted_whole (pos to) by)) (le_whole le))
         by_limit (inr ended) = inr (
@@ -63,10 +63,10 @@ module _ (t : Turn) (op : Operator) (e : Held) (to : ℕ) (b : Belongs t op e to
         )
 
     -- where the input has given out nothing, all that is looked at lies before the start
-    pub looks_before : front_of <ℤ pos (begin_of t) → pos to +ℤ by <ℤ pos (begin_of t)
+    pub looks_before : front_of <ℤ pos (begin_of t) → (pos to +ℤ by) <ℤ pos (begin_of t)
     looks_before lt = by_limit limit
       where
-        by_limit : (pos to +ℤ by ≤ℤ front_of) ⊎ (t.ended ≡ true) → pos to +ℤ by <ℤ pos (begin_of t)
+        by_limit : ((pos to +ℤ by) ≤ℤ front_of) ⊎ (t.ended ≡ true) → (pos to +ℤ by) <ℤ pos (begin_of t)
         by_limit (inl le) = omega (arith, ints, le, lt)
         by_limit (inr ended) =
             let now = at_now ended in

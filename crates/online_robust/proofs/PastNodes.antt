@@ -22,7 +22,7 @@ pub record IsPastNode (f : ℕ → Subformula) (place : ℕ) (n : Node) (w : Win
   pub only : (j : ℕ) (left : Bool) → IsReader n left j → (j ≡ w.of) × (left ≡ true)
   pub back : reach_back n true ≡ w.high
   pub own : IsOwned w (own_reach n)
-  pub far : pos (horizon (f w.of)) +ℤ w.high ≤ℤ pos (horizon (tree_of f place n))
+  pub far : (pos (horizon (f w.of)) +ℤ w.high) ≤ℤ pos (horizon (tree_of f place n))
   pub low : w.low ≡ neg_ℤ (pos 4294967296)
   pub low_in : w.low_in ≡ true
   pub behind : w.high ≤ℤ pos 0

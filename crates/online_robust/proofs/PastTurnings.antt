@@ -103,7 +103,7 @@ module _ (t : Turn) (z : Endless) (e : Held) (to : ℕ) (b : Belongs t (Op.Past 
   nothing_seen = sym ((here t z e to b).seen e) ∙ waited.0
 
   -- it has read none of the input's lines
-  back_none : (o : Option ℤ) → IfSome o (λ g. g +ℤ z.window.high <ℤ pos (begin_of t)) → back_of (begin_of t) o z.window.high ≡ None
+  back_none : (o : Option ℤ) → IfSome o (λ g. (g +ℤ z.window.high) <ℤ pos (begin_of t)) → back_of (begin_of t) o z.window.high ≡ None
   back_none None short = refl
   back_none (Some g) short = by_test (int_lt (g +ℤ z.window.high) (pos (begin_of t))) refl
     where
@@ -205,7 +205,7 @@ module _ (t : Turn) (z : Endless) (e : Held) (to : ℕ) (b : Belongs t (Op.Past 
         }
 
     -- the empty window was told up to a number
-    later_turn : (g : ℤ) (r : Reached) → s.at ≡ r.at → s.last ≡ Some r → g +ℤ z.window.high <ℤ pos (begin_of t)
+    later_turn : (g : ℤ) (r : Reached) → s.at ≡ r.at → s.last ≡ Some r → (g +ℤ z.window.high) <ℤ pos (begin_of t)
         → HasReached (silent_margin z.window.side) (reach_before t + own t z e to b) (whole g) (Some r) → pos (begin_of t) ≤ℤ g → g <ℤ pos to
         → CanPass x (own t z e to b) (whole g) (whole (pos to)) s e
     later_turn g r placed last short there from after =
@@ -233,7 +233,7 @@ module _ (t : Turn) (z : Endless) (e : Held) (to : ℕ) (b : Belongs t (Op.Past 
     beginning = by_told z.silent.last t.before refl k.told waited.1.short waited.1.stood b.forth
       where
         by_told : (o : Option Reached) (before : Option ℤ) → t.before ≡ before → HasToldPast (begin_of t) o s
-            → IfSome before (λ g. g +ℤ z.window.high <ℤ pos (begin_of t))
+            → IfSome before (λ g. (g +ℤ z.window.high) <ℤ pos (begin_of t))
             → HasStood (silent_margin z.window.side) (reach_before t + own t z e to b) before o → IfSome before (λ g. (pos (begin_of t) ≤ℤ g) × (g <ℤ pos to))
             → (from : Rational) × (from ≡ from_of t) × CanPass x (own t z e to b) from (whole (pos to)) s e
         by_told None None is told short stood forth = (start t.trace, sym (from_none t (Op.Past z) e to b is), first_turn told.0 told.1)

@@ -82,7 +82,7 @@ module _ (t : Turn) (z : Endless) (e : Held) (to : ℕ) (b : Belongs t (Op.Past 
   nil : held_at e z.window.of ≡ []
   nil = no_lines (held_at e w.of) empty
 
-  short : pos to +ℤ z.window.high <ℤ pos (begin_of t)
+  short : (pos to +ℤ z.window.high) <ℤ pos (begin_of t)
   short = looks_before t (Op.Past z) e to b w.of w.high (far t z e to b) (not_begun t z e to b none empty)
 
   abbrev pub silence : Glance
@@ -227,7 +227,7 @@ module _ (t : Turn) (z : Endless) (e : Held) (to : ℕ) (b : Belongs t (Op.Past 
         still : HasWaitedPast z' (begin_of t) most (Some (pos to))
         still = record {
           silent = silent ∙ ap (λ (m : Moved). record m { last = z'.silent.last }) has_waited.silent ∙ ap (λ (v : Window). silent_of v z'.silent.last) (sym window);
-          short = subst (λ (v : Window). pos to +ℤ v.high <ℤ pos (begin_of t)) (sym window) short;
+          short = subst (λ (v : Window). (pos to +ℤ v.high) <ℤ pos (begin_of t)) (sym window) short;
           stood = subst (λ (v : Window). HasStood (silent_margin v.side) most (Some (pos to)) z'.silent.last) (sym window)
               (stood_after (silent_margin z.window.side) most (pos to) z'.silent.last some reached);
         }

@@ -102,8 +102,8 @@ module _ (t : Turn) (z : Lazy) (e : Held) (to : ℕ) (b : Belongs t (Op.Sweep z)
   own_tree : subformula t.nodes t.place ≡ tree_of (subformula t.nodes) t.place b.node
   own_tree = tree t (Op.Sweep z) e to b
 
-  pub far : pos (horizon (subformula t.nodes z.window.of)) +ℤ z.window.high ≤ℤ pos (horizon (subformula t.nodes t.place))
-  far = subst (λ p. pos (horizon (subformula t.nodes z.window.of)) +ℤ z.window.high ≤ℤ pos (horizon p)) (sym own_tree) here.far
+  pub far : (pos (horizon (subformula t.nodes z.window.of)) +ℤ z.window.high) ≤ℤ pos (horizon (subformula t.nodes t.place))
+  far = subst (λ p. (pos (horizon (subformula t.nodes z.window.of)) +ℤ z.window.high) ≤ℤ pos (horizon p)) (sym own_tree) here.far
 
   abbrev pub scope_of : Rational → Scope
   scope_of at = scope_at (subformula t.nodes z.window.of) t.trace (reach_before t) (whole (front_at t.ended (pos t.now) (subformula t.nodes z.window.of))) (shifted (whole (pos to)) z.window.high) at
@@ -143,27 +143,27 @@ module _ (t : Turn) (z : Lazy) (e : Held) (to : ℕ) (b : Belongs t (Op.Sweep z)
   told_far = told_as_far t (Op.Sweep z) e to b z.window.of z.window.high far
 
   -- how much earlier its input stands is the same at every number, but at the end
-  pub stays_begun : (g : ℤ) → t.before ≡ Some g → (whole g ≈ stop t.trace) ⊎ (pos (begin_of t) ≤ℤ (g +ℤ pos (horizon (subformula t.nodes t.place))) -ℤ pos (horizon child)) → pos (begin_of t) ≤ℤ F
+  pub stays_begun : (g : ℤ) → t.before ≡ Some g → (whole g ≈ stop t.trace) ⊎ (pos (begin_of t) ≤ℤ ((g +ℤ pos (horizon (subformula t.nodes t.place))) -ℤ pos (horizon child))) → pos (begin_of t) ≤ℤ F
   stays_begun g is begun = by_begun begun
     where
       after : g <ℤ pos to
       after = (subst (λ (o : Option ℤ). IfSome o (λ g. (pos (begin_of t) ≤ℤ g) × (g <ℤ pos to))) is b.forth).1
 
-      by_end : (c : Bool) → pos to ≡ front_at c (pos t.now) (subformula t.nodes t.place) → pos (begin_of t) ≤ℤ (g +ℤ pos (horizon (subformula t.nodes t.place))) -ℤ pos (horizon child)
+      by_end : (c : Bool) → pos to ≡ front_at c (pos t.now) (subformula t.nodes t.place) → pos (begin_of t) ≤ℤ ((g +ℤ pos (horizon (subformula t.nodes t.place))) -ℤ pos (horizon child))
           → pos (begin_of t) ≤ℤ front_at c (pos t.now) child
       by_end true e le = let from = b.from_start in omega (arith, ints, e, from)
       by_end false e le = omega (arith, ints, e, le, after)
 
-      by_begun : (whole g ≈ stop t.trace) ⊎ (pos (begin_of t) ≤ℤ (g +ℤ pos (horizon (subformula t.nodes t.place))) -ℤ pos (horizon child)) → pos (begin_of t) ≤ℤ F
+      by_begun : (whole g ≈ stop t.trace) ⊎ (pos (begin_of t) ≤ℤ ((g +ℤ pos (horizon (subformula t.nodes t.place))) -ℤ pos (horizon child))) → pos (begin_of t) ≤ℤ F
       by_begun (inl at_end) = absurd (not_lt_of_le (le_trans to_last (ge_of_same at_end)) (lt_whole after))
       by_begun (inr le) = by_end t.ended b.number le
 
   -- the same of the number that it comes to, where its input has given out something
-  pub begun_now : pos (begin_of t) ≤ℤ F → (whole (pos to) ≈ stop t.trace) ⊎ (pos (begin_of t) ≤ℤ (pos to +ℤ pos (horizon (subformula t.nodes t.place))) -ℤ pos (horizon child))
+  pub begun_now : pos (begin_of t) ≤ℤ F → (whole (pos to) ≈ stop t.trace) ⊎ (pos (begin_of t) ≤ℤ ((pos to +ℤ pos (horizon (subformula t.nodes t.place))) -ℤ pos (horizon child)))
   begun_now le = by_end t.ended refl b.number le
     where
       by_end : (c : Bool) → t.ended ≡ c → pos to ≡ front_at c (pos t.now) (subformula t.nodes t.place) → pos (begin_of t) ≤ℤ front_at c (pos t.now) child
-          → (whole (pos to) ≈ stop t.trace) ⊎ (pos (begin_of t) ≤ℤ (pos to +ℤ pos (horizon (subformula t.nodes t.place))) -ℤ pos (horizon child))
+          → (whole (pos to) ≈ stop t.trace) ⊎ (pos (begin_of t) ≤ℤ ((pos to +ℤ pos (horizon (subformula t.nodes t.place))) -ℤ pos (horizon child)))
       by_end true same e le = let last = b.at_end same in inl (subst (λ k. whole k ≈ stop t.trace) (sym (e ∙ ap pos last)) (same_refl (stop t.trace)))
       by_end false same e le = inr (omega (arith, ints, e, le))
 

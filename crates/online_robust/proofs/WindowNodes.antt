@@ -22,7 +22,7 @@ pub record IsWindowNode (f : ℕ → Subformula) (place : ℕ) (n : Node) (w : W
   pub only : (j : ℕ) (left : Bool) → IsReader n left j → (j ≡ w.of) × (left ≡ true)
   pub back : reach_back n true ≡ w.low
   pub own : IsOwn w (own_reach n)
-  pub far : pos (horizon (f w.of)) +ℤ w.high ≤ℤ pos (horizon (tree_of f place n))
+  pub far : (pos (horizon (f w.of)) +ℤ w.high) ≤ℤ pos (horizon (tree_of f place n))
   pub aside : (pos 0 ≤ℤ w.low) ⊎ (w.high ≤ℤ pos 0)
   pub seen : (e : Held) → seen_by n e ≡ (edge_at e w.of).seen
 

@@ -154,7 +154,7 @@ module _ (t : Turn) (z : Lazy) (e : Held) (to : ℕ) (b : Belongs t (Op.Sweep z)
   nothing_seen = sym ((here t z e to b).seen e) ∙ waited.0
 
   -- it has read none of the input's lines
-  back_none : (o : Option ℤ) → IfSome o (λ g. g +ℤ z.window.high <ℤ pos (begin_of t)) → back_of (begin_of t) o z.window.low ≡ None
+  back_none : (o : Option ℤ) → IfSome o (λ g. (g +ℤ z.window.high) <ℤ pos (begin_of t)) → back_of (begin_of t) o z.window.low ≡ None
   back_none None short = refl
   back_none (Some g) short = by_test (int_lt (g +ℤ z.window.low) (pos (begin_of t))) refl
     where
@@ -228,7 +228,7 @@ module _ (t : Turn) (z : Lazy) (e : Held) (to : ℕ) (b : Belongs t (Op.Sweep z)
         k.none k.side k.among inputs_now nothing_seen (of_in t z e to b) (fit t z e to b) (told_far t z e to b) (here t z e to b).own (here t z e to b).aside
 
     -- the empty window was told up to a number
-    module _ (g : ℤ) (r : Reached) (placed : s.place.at ≡ r.at) (last : s.last ≡ Some r) (short : g +ℤ z.window.high <ℤ pos (begin_of t))
+    module _ (g : ℤ) (r : Reached) (placed : s.place.at ≡ r.at) (last : s.last ≡ Some r) (short : (g +ℤ z.window.high) <ℤ pos (begin_of t))
         (there : HasReached (silent_margin z.window.side) (reach_before t + own t z e to b) (whole g) (Some r)) (from : pos (begin_of t) ≤ℤ g) (after : g <ℤ pos to) where
       at_g : value s.place.at ≈ whole g
       at_g = subst (λ (i : Frac). value i ≈ whole g) (sym placed) there.0
@@ -280,7 +280,7 @@ module _ (t : Turn) (z : Lazy) (e : Held) (to : ℕ) (b : Belongs t (Op.Sweep z)
     pub beginning : (from : Rational) × (from ≡ from_of t) × Result from z.window
     beginning = by_told z.silent.last t.before refl k.told waited.1.short waited.1.stood b.forth
       where
-        by_told : (o : Option Reached) (before : Option ℤ) → t.before ≡ before → HasTold (begin_of t) o s → IfSome before (λ g. g +ℤ z.window.high <ℤ pos (begin_of t))
+        by_told : (o : Option Reached) (before : Option ℤ) → t.before ≡ before → HasTold (begin_of t) o s → IfSome before (λ g. (g +ℤ z.window.high) <ℤ pos (begin_of t))
             → HasStood (silent_margin z.window.side) (reach_before t + own t z e to b) before o → IfSome before (λ g. (pos (begin_of t) ≤ℤ g) × (g <ℤ pos to))
             → (from : Rational) × (from ≡ from_of t) × Result from z.window
         by_told None None is told short stood forth = (start t.trace, sym (from_none t (Op.Sweep z) e to b is), first_turn told.0 told.1)

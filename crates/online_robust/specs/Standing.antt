@@ -96,25 +96,25 @@ instant_margin nodes tr z = glance_over (Robustness (subformula nodes z.of) tr) 
 -- an empty window stands for the window so far, since all that it saw lies before the start
 pub record HasWaited (z : Lazy) (begin most : ℕ) (before : Option ℤ) : Type 0 where
   pub silent : z.silent ≡ silent_of z.window z.silent.last
-  pub short : IfSome before (λ g. g +ℤ z.window.high <ℤ pos begin)
+  pub short : IfSome before (λ g. (g +ℤ z.window.high) <ℤ pos begin)
   pub stood : HasStood (silent_margin z.window.side) most before z.silent.last
 
 -- the window was told up to g, by when its input had given out something, or at the end
 abbrev pub HasSweptTo : List Node → ℕ → Trace → ℕ → ℕ → Sweep → List MarginLine → ℤ → Type 0
 HasSweptTo nodes place tr of own s seen g =
     StoodOver (subformula nodes of) tr (reach (take place nodes)) own (whole g) s seen
-    × ((whole g ≈ stop tr) ⊎ (pos (first_time tr.rows) ≤ℤ (g +ℤ pos (horizon (subformula nodes place))) -ℤ pos (horizon (subformula nodes of))))
+    × ((whole g ≈ stop tr) ⊎ (pos (first_time tr.rows) ≤ℤ ((g +ℤ pos (horizon (subformula nodes place))) -ℤ pos (horizon (subformula nodes of)))))
 
 -- the same of a window without a low end
 pub record HasWaitedPast (z : Endless) (begin most : ℕ) (before : Option ℤ) : Type 0 where
   pub silent : z.silent ≡ silent_of z.window z.silent.last
-  pub short : IfSome before (λ g. g +ℤ z.window.high <ℤ pos begin)
+  pub short : IfSome before (λ g. (g +ℤ z.window.high) <ℤ pos begin)
   pub stood : HasStood (silent_margin z.window.side) most before z.silent.last
 
 abbrev pub HasPassedTo : List Node → ℕ → Trace → ℕ → ℕ → Past → List MarginLine → ℤ → Type 0
 HasPassedTo nodes place tr of own p seen g =
     StoodPast (subformula nodes of) tr (reach (take place nodes)) own (whole g) p seen
-    × ((whole g ≈ stop tr) ⊎ (pos (first_time tr.rows) ≤ℤ (g +ℤ pos (horizon (subformula nodes place))) -ℤ pos (horizon (subformula nodes of))))
+    × ((whole g ≈ stop tr) ⊎ (pos (first_time tr.rows) ≤ℤ ((g +ℤ pos (horizon (subformula nodes place))) -ℤ pos (horizon (subformula nodes of)))))
 
 -- the operator is that of the node n at a place, and stands at a number, with what it has read of its input
 abbrev pub Stands : Node → List Node → ℕ → Trace → Option ℤ → Operator → List MarginLine → Type 0

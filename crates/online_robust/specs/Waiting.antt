@@ -41,7 +41,7 @@ HasTold start None s = (value s.place.at ≈ whole (pos start -ℤ pos 429496729
 HasTold start (Some r) s = (s.place.at ≡ r.at) × (s.last ≡ Some r)
 
 -- a window both ends of which lie before the start
-pub record IsBegun (w : Window) (start : ℕ) (told : Option Reached) (s : Sweep) : Type 0 where
+pub record IsBegun (w : Window) (start : ℕ) (reached : Option Reached) (s : Sweep) : Type 0 where
   pub window : s.window ≡ w
   pub begins : value s.start ≈ whole (pos start)
   pub none : (t : Rational) → value_at (margin_function s.none) t ≈ᵉ none_of w.side minus_infinity infinity
@@ -50,7 +50,7 @@ pub record IsBegun (w : Window) (start : ℕ) (told : Option Reached) (s : Sweep
   pub high : s.place.high ≡ before_start s.none s.start
   pub side : s.among.side ≡ w.side
   pub among : StandsFor margin_function s.among.older.items s.among.newer.items w.side s.among.best []
-  pub told : HasTold start told s
+  pub told : HasTold start reached s
 
 -- the same of a window without a low end
 abbrev pub HasToldPast : ℕ → Option Reached → Past → Type 0

@@ -21,8 +21,8 @@ returns-in-Some c x own from to can starts =
     (at, reached, loses_at_none c.args.edges.now)
 
 -- it stands before the start
-pub loop-reached-init : goal.loop-reached-init
-loop-reached-init c = record {
+pub loop-edges-init : goal.loop-edges-init
+loop-edges-init c = record {
   went = λ x own from to can starts.
       let low : to_z w64 (of_z w64 (to_z w64 (of_z w64 (pos c.args.start)) -ℤ pos 4294967296)) ≡ pos c.args.start -ℤ pos 4294967296 = ? in
       let high : to_z w64 (of_z w64 (pos c.args.start)) ≡ pos c.args.start = search (rules, to_z-of_z) in
@@ -45,19 +45,19 @@ loop-reached-init c = record {
 pub next-requires : goal.next-requires
 next-requires c =
     let (x, own, from, to, can, starts) = c.requires in
-    let (at, lost, by, there) = c.loop-reached.invariant.went x own from to can starts in
-    (x, value c.loop-reached.reached.at, at)
+    let (at, lost, by, there) = c.loop-edges.invariant.went x own from to can starts in
+    (x, value c.loop-edges.reached.at, at)
 
-pub loop-reached-preserved : goal.loop-reached-preserved
-loop-reached-preserved c = record {
+pub loop-edges-preserved : goal.loop-edges-preserved
+loop-edges-preserved c = record {
   went = λ x own from to can starts.
-      let (at, lost, by, there) = c.loop-reached.invariant.went x own from to can starts in
+      let (at, lost, by, there) = c.loop-edges.invariant.went x own from to can starts in
       let high : to_z w64 (of_z w64 (pos c.args.start)) ≡ pos c.args.start = search (rules, to_z-of_z) in
       let first : value c.of-first.result ≈ whole (pos c.args.start) = subst (λ n. value c.of-first.result ≈ whole n) high c.of-first.ensures.value in
       let (same, stands) = subst (HasGlanced x c.args.self.now (x.reach + own) c.args.edges.now from) c.in_default.is can.stands in
       let bound : shifted (value c.of-first.result) c.args.self.now.by ≤ʳ x.bound =
           le_trans (le_shifted c.args.self.now.by (le_trans (le_of_same (same_trans first (same_trans starts (same_sym same)))) can.order)) can.bound in
-      let stride = c.next.ensures x own (value c.loop-reached.reached.at) at (record { own_by = can.own_by; before = c.in-Less.ensures; bound = bound }) in (
+      let stride = c.next.ensures x own (value c.loop-edges.reached.at) at (record { own_by = can.own_by; before = c.in-Less.ensures; bound = bound }) in (
         stride.stands,
         loses_at_both (loses_at_later (le_shifted c.args.self.now.by (le_of_lt stride.later)) lost) stride.lost,
         stride.by,
@@ -65,24 +65,24 @@ loop-reached-preserved c = record {
       );
 }
 
-pub loop-reached-smaller : goal.loop-reached-smaller
-loop-reached-smaller c =
+pub loop-edges-smaller : goal.loop-edges-smaller
+loop-edges-smaller c =
     let (x, own, from, to, can, starts) = c.requires in
-    let (at, lost, by, there) = c.loop-reached.invariant.went x own from to can starts in
+    let (at, lost, by, there) = c.loop-edges.invariant.went x own from to can starts in
     let high : to_z w64 (of_z w64 (pos c.args.start)) ≡ pos c.args.start = search (rules, to_z-of_z) in
     let first : value c.of-first.result ≈ whole (pos c.args.start) = subst (λ n. value c.of-first.result ≈ whole n) high c.of-first.ensures.value in
     let (same, stands) = subst (HasGlanced x c.args.self.now (x.reach + own) c.args.edges.now from) c.in_default.is can.stands in
     let bound : shifted (value c.of-first.result) c.args.self.now.by ≤ʳ x.bound =
         le_trans (le_shifted c.args.self.now.by (le_trans (le_of_same (same_trans first (same_trans starts (same_sym same)))) can.order)) can.bound in
-    let stride = c.next.ensures x own (value c.loop-reached.reached.at) at (record { own_by = can.own_by; before = c.in-Less.ensures; bound = bound }) in
+    let stride = c.next.ensures x own (value c.loop-edges.reached.at) at (record { own_by = can.own_by; before = c.in-Less.ensures; bound = bound }) in
     stride.fewer
 
 pub returns : goal.returns
 returns c x own from to can starts =
-    let (at, lost, by, there) = c.loop-reached.invariant.went x own from to can starts in
+    let (at, lost, by, there) = c.loop-edges.invariant.went x own from to can starts in
     let high : to_z w64 (of_z w64 (pos c.args.start)) ≡ pos c.args.start = search (rules, to_z-of_z) in
     let first : value c.of-first.result ≈ whole (pos c.args.start) = subst (λ n. value c.of-first.result ≈ whole n) high c.of-first.ensures.value in
     let (same, stands) = subst (HasGlanced x c.args.self.now (x.reach + own) c.args.edges.now from) c.in_default.is can.stands in
-    let end : value c.loop-reached.reached.at ≈ value c.of-first.result = same_of_le by (not_less c.cmp.result c.cmp.ensures c.in_default-cmp.not-Less) in
+    let end : value c.loop-edges.reached.at ≈ value c.of-first.result = same_of_le by (not_less c.cmp.result c.cmp.ensures c.in_default-cmp.not-Less) in
     let begins = same_trans end (same_trans first starts) in
     (at, (same_trans begins (same_sym same), (le_trans at.begin.0 (ge_of_same begins), le_trans (le_of_same begins) at.begin.1), there end), lost)
