@@ -161,3 +161,8 @@ ok_by (Err e) by h = tt
 pub err_by : {A E : Type 0} {P Q : E → Type 0} (r : Result A E) → ((f : E) → P f → Q f) → IfErr r P → IfErr r Q
 err_by (Ok a) by h = tt
 err_by (Err e) by h = by e h
+
+-- two things are so where a call succeeds
+pub both_ok : {A E : Type 0} {P Q : Type 0} (r : Result A E) → OnOk r P → OnOk r Q → OnOk r (P × Q)
+both_ok (Ok x) p q = (p, q)
+both_ok (Err e) p q = tt

@@ -30,7 +30,7 @@ use Rattle.online_robust.specs.Glances.{AreToSee, unseen, CanGlance, Glance, Has
 use Rattle.online_robust.specs.Standing.{HasStood, HasSweptTo, HasWaited, IsWindowOf, Stands}
 use Rattle.online_robust.specs.Turns.{Turn, Belongs, HasSwept, IsCut, IsSwept, StandsNow, back_of, begin_of, from_of, reach_before, seen_by}
 use Rattle.online_robust.specs.Waiting.{silent_margin, silent_of}
-use Rattle.online_robust.specs.Windows.{Holds, best_of}
+use Rattle.online_robust.specs.Windows.{Holds, best_of, scope_at}
 use Rattle.online_robust.specs.declared.glance.Moved.{Moved}
 use Rattle.online_robust.specs.declared.lazy.Lazy.{Lazy}
 use Rattle.online_robust.specs.declared.line.MarginLine.{MarginLine}
@@ -157,7 +157,7 @@ module _ (t : Turn) (z : Lazy) (e : Held) (to : ℕ) (b : Belongs t (Op.Sweep z)
         weak true a d h = h
         weak false a d h = le_of_lt h
 
-        best_none : (u : Rational) (v : Extended) → u ≤ʳ end → v ≈ᵉ nothing_of w.side → _
+        best_none : (u : Rational) (v : Extended) → u ≤ʳ end → v ≈ᵉ nothing_of w.side → best_of (scope_at child t.trace (reach_before t) (whole F) silence.bound end) w u v
         best_none u v by there = best_of_none (Holds (start t.trace) (stop t.trace) w u) (Robustness child t.trace) (robust_is_function child t.trace) w.side v
             (λ y h. not_lt_of_le (le_trans h.inside.above (weak w.high_in y (shifted u w.high) h.ends))
             (lt_of_le_of_lt (le_trans (le_shifted w.high by) (le_shifted w.high (le_of_same same))) too_early)) there

@@ -71,7 +71,10 @@ impl Endless {
     {
         let end = Frac::of(i64::from(to));
         match &mut self.past {
-            Some(past) => past.sweep(alloc, edges, &end),
+            Some(past) => {
+                let swept = past.sweep(alloc, edges, &end)?;
+                Ok(swept)
+            }
             None => unreachable!(),
         }
     }

@@ -70,7 +70,10 @@ impl Lazy {
     {
         let end = Frac::of(i64::from(to));
         match &mut self.sweep {
-            Some(sweep) => sweep.sweep(alloc, edges, &end),
+            Some(sweep) => {
+                let swept = sweep.sweep(alloc, edges, &end)?;
+                Ok(swept)
+            }
             None => unreachable!(),
         }
     }

@@ -1,0 +1,31 @@
+use Rattle.std.proofs.Common.{◌≡◌, refl, sym, subst, Some, None}
+use Rattle.online_robust.specs.Waiting.{IsBegunPast}
+use Rattle.online_robust.proofs.endless.begun.Goals as goal
+
+pub returns-in-None : goal.returns-in-None
+returns-in-None c =
+    let is = c.new-past.ensures in
+    record {
+      window = is.window;
+      begins = is.start;
+      none = is.none;
+      still = is.still;
+      gap = is.gap;
+      point = is.point;
+      best = is.best;
+      told = (is.at, is.last);
+    }
+
+pub returns-in-Some : goal.returns-in-Some
+returns-in-Some c =
+    let is = c.new-past.ensures in
+    subst (IsBegunPast c.args.window c.args.start (Some c.in-Some.reached)) (sym c.stand.ensures) (record {
+      window = is.window;
+      begins = is.start;
+      none = is.none;
+      still = is.still;
+      gap = is.gap;
+      point = is.point;
+      best = is.best;
+      told = (refl, refl);
+    })

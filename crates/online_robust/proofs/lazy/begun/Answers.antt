@@ -1,0 +1,33 @@
+use Rattle.std.proofs.Common.{◌≡◌, refl, sym, subst, Some, None}
+use Rattle.online_robust.specs.Waiting.{IsBegun}
+use Rattle.online_robust.proofs.lazy.begun.Goals as goal
+
+pub returns-in-None : goal.returns-in-None
+returns-in-None c =
+    let is = c.new-sweep.ensures in
+    record {
+      window = is.window;
+      begins = is.start;
+      none = is.none;
+      still = is.still;
+      low = is.low;
+      high = is.high;
+      side = is.side;
+      among = is.among;
+      told = (is.at, is.last);
+    }
+
+pub returns-in-Some : goal.returns-in-Some
+returns-in-Some c =
+    let is = c.new-sweep.ensures in
+    subst (IsBegun c.args.window c.args.start (Some c.in-Some.reached)) (sym c.stand.ensures) (record {
+      window = is.window;
+      begins = is.start;
+      none = is.none;
+      still = is.still;
+      low = is.low;
+      high = is.high;
+      side = is.side;
+      among = is.among;
+      told = (refl, refl);
+    })
