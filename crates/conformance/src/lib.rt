@@ -46,6 +46,8 @@ mod report_tests;
 #[cfg(test)]
 mod run_tests;
 #[cfg(test)]
+mod rwatch_tests;
+#[cfg(test)]
 mod seg_pool_tests;
 #[cfg(test)]
 mod shape_tests;
