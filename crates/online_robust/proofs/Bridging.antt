@@ -189,7 +189,7 @@ same_told F G from to s same tells = record {
 -- ---- a crossing in play
 
 -- what crosses in play in one way does so in another
-crossing_by : (A B : Rational → Affine → Type 0) (from to : Rational) (p q : Affine) (a b : Rational) (den : ℕ) → ((tau : Rational) (line : Affine) → A tau line → B tau line)
+pub crossing_by : (A B : Rational → Affine → Type 0) (from to : Rational) (p q : Affine) (a b : Rational) (den : ℕ) → ((tau : Rational) (line : Affine) → A tau line → B tau line)
     → IsWideCrossing A from to p q a b den → IsWideCrossing B from to p q a b den
 crossing_by A B from to p q a b den more h = record {
   tau = h.tau;

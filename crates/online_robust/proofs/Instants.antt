@@ -60,7 +60,7 @@ module _ (W : Window) (P : Function) (is : IsFunction P) where
       same w = record { at_most = le_reflᵉ w; at_least = le_reflᵉ w }
 
   -- none
-  best_of_none : (side : Side) (v : Extended) → ((t : Rational) → ¬ (W t)) → v ≈ᵉ nothing_of side → IsBestOver side minus_infinity infinity W P v
+  pub best_of_none : (side : Side) (v : Extended) → ((t : Rational) → ¬ (W t)) → v ≈ᵉ nothing_of side → IsBestOver side minus_infinity infinity W P v
   best_of_none Greatest v empty same = sup_value_same minus_infinity v (symᵉ same) (sup_of_none minus_infinity (λ w (t, inside, there). empty t inside))
   best_of_none Least v empty same = inf_value_same infinity v (symᵉ same) (inf_of_none infinity (λ w (t, inside, there). empty t inside))
 

@@ -95,7 +95,7 @@ module _ (t : Turn) (z : Endless) (e : Held) (to : ℕ) (b : Belongs t (Op.Past 
 -- ---- a window that begins
 
 module _ (t : Turn) (z : Endless) (e : Held) (to : ℕ) (b : Belongs t (Op.Past z) e to) (none : z.past ≡ None) where
-  waited : (seen_by b.node e ≡ []) × HasWaitedPast z (begin_of t) (reach_before t + own t z e to b) t.before
+  pub waited : (seen_by b.node e ≡ []) × HasWaitedPast z (begin_of t) (reach_before t + own t z e to b) t.before
   waited = subst (λ (o : Option Past). MatchOption o ((seen_by b.node e ≡ []) × HasWaitedPast z (begin_of t) (reach_before t + own t z e to b) t.before)
       (λ s. (s.window ≡ z.window) × IsSomeAnd t.before (HasPassedTo t.nodes t.place t.trace z.window.of (own t z e to b) s (seen_by b.node e)))) none b.stands.1
 

@@ -149,9 +149,9 @@ impl Endless {
         if self.past.is_some() {
             return self.go_on(alloc, edges, to);
         }
-        if edges.first(self.window.of).is_none() {
-            return self.wait(alloc, edges, to);
+        match edges.first(self.window.of) {
+            Some(_) => self.begin(alloc, edges, to),
+            None => self.wait(alloc, edges, to),
         }
-        self.begin(alloc, edges, to)
     }
 }

@@ -148,9 +148,9 @@ impl Lazy {
         if self.sweep.is_some() {
             return self.go_on(alloc, edges, to);
         }
-        if edges.first(self.window.of).is_none() {
-            return self.wait(alloc, edges, to);
+        match edges.first(self.window.of) {
+            Some(_) => self.begin(alloc, edges, to),
+            None => self.wait(alloc, edges, to),
         }
-        self.begin(alloc, edges, to)
     }
 }
