@@ -8,6 +8,7 @@ use Rattle.rational.proofs.Shift.{lt_whole}
 use Rattle.rational.proofs.TimeLemmas.{same_shifted}
 use Rattle.frac128.specs.Value.{value}
 use Rattle.window_ops.proofs.Ends.{le_shifted}
+use Rattle.stl_syntax.specs.Trace.{start}
 use Rattle.online_robust.specs.Glances.{CanGlance, CanStride, Glance, HasGlanced, IsGlanceAt}
 use Rattle.online_robust.proofs.Looking.{shifted_whole}
 use Rattle.online_robust.proofs.Losses.{loses_at_both, loses_at_later, loses_at_none}
@@ -27,7 +28,7 @@ loop-edges-init c = record {
       let by = can.offset.to in
       let less : value c.long_before-far.result <ʳ value c.first_time-first.result =
           lt_of_le_of_lt (le_of_same c.long_before-far.ensures) (lt_of_lt_of_le (lt_whole {j = pos c.args.start -ℤ pos 4294967296} {k = pos c.args.start} (omega (arith, ints))) (ge_of_same c.first_time-first.ensures)) in
-      let early : shifted (value c.long_before-far.result) c.args.self.now.by <ʳ _ =
+      let early : shifted (value c.long_before-far.result) c.args.self.now.by <ʳ start x.trace =
           lt_of_le_of_lt (le_of_same (same_trans (same_shifted c.args.self.now.by c.long_before-far.ensures) (shifted_whole (pos c.args.start -ℤ pos 4294967296) c.args.self.now.by)))
           (lt_of_lt_of_le (lt_whole {j = (pos c.args.start -ℤ pos 4294967296) +ℤ c.args.self.now.by} {k = pos c.args.start} (omega (arith, ints, by))) (le_of_same starts)) in (
         stands (value c.long_before-far.result) early,
