@@ -1,6 +1,6 @@
 -- A window goes on in a limited number of steps.
 use Rattle.std.proofs.Common.{◌≡◌, ◌⊎◌, inl, inr, ℕ, ◌+◌, ◌-◌, ◌*◌, ◌<◌, ◌≤◌, Bool, true, false, List, [], ◌∷◌, ◌++◌, length, Option, Some, None, refl, sym, ap, subst, ◌∙◌, get_or, slice_get, arith}
-use Rattle.std.specs.Prelude.{IfErr, IfOk, MatchBool, MatchOption, OnOk, Result, Ok, Err, if◌then◌else◌}
+use Rattle.std.specs.Prelude.{MatchBool, MatchOption, OnOk, Result, Ok, Err, if◌then◌else◌}
 use Rattle.std.proofs.lemmas.List.{get_or-set_same, length-append, length-drop, length-set}
 use Rattle.rational.specs.Time.{Rational, less, shifted, ◌≈◌, ◌≤ʳ◌, ◌<ʳ◌}
 use Rattle.rational.proofs.Order.{le_of_same, le_refl}
@@ -152,17 +152,3 @@ low_fewer i e mid new b line within dropped first taken =
 pub on_ok : {A E : Type 0} {P Q : Type 0} (r : Result A E) → (P → Q) → OnOk r P → OnOk r Q
 on_ok (Ok x) f h = f h
 on_ok (Err e) f h = tt
-
--- what is so of a result makes something else so
-pub ok_by : {A E : Type 0} {P Q : A → Type 0} (r : Result A E) → ((a : A) → P a → Q a) → IfOk r P → IfOk r Q
-ok_by (Ok a) by h = by a h
-ok_by (Err e) by h = tt
-
-pub err_by : {A E : Type 0} {P Q : E → Type 0} (r : Result A E) → ((f : E) → P f → Q f) → IfErr r P → IfErr r Q
-err_by (Ok a) by h = tt
-err_by (Err e) by h = by e h
-
--- two things are so where a call succeeds
-pub both_ok : {A E : Type 0} {P Q : Type 0} (r : Result A E) → OnOk r P → OnOk r Q → OnOk r (P × Q)
-both_ok (Ok x) p q = (p, q)
-both_ok (Err e) p q = tt

@@ -106,7 +106,7 @@ begun_spread f tr reach w first told s seen fresh front bound at k starts fit ti
     (subst (λ (l : List MarginLine). IsSpread x w s.start s.none (before_start s.none s.start) (before_start s.none s.start) s.among l fresh (shifted at w.low) (shifted at w.high)) (sym nil)
     (first_spread x w s.start s.none s.among fresh at fit
     (le_trans tick.0 (ge_of_same begins), le_trans (le_of_same begins) tick.1) begins within ended k.none (still_moved reach s.none k.still) k.side
-    (subst (λ (d : Side). StandsFor margin_function s.among.older.items s.among.newer.items d s.among.best []) refl k.among) to_come
+    (subst (λ (d : Side). StandsFor margin_function s.among.older.items s.among.newer.items d s.among.best []) (sym k.side) k.among) to_come
     (le_trans (le_of_lt early) (ge_of_same begins))))))
   where
     x : Scope

@@ -1,5 +1,5 @@
 //! Windows of one instant: the input moved. And empty windows, which have the value of no times throughout.
-ghost use Rattle.std.specs.Prelude.{◌≡◌, ◌<◌, ◌≤◌, ◌≤ℤ◌, ◌+◌, ◌^◌, ℕ, pos, neg_ℤ, length, slice_get, OnOk, IfOk, IsSome, Some};
+ghost use Rattle.std.specs.Prelude.{◌≡◌, ◌<◌, ◌≤◌, ◌≤ℤ◌, ◌+◌, ◌-ℤ◌, ◌^◌, ℕ, pos, neg_ℤ, length, slice_get, OnOk, IfOk, IsSome, Some};
 ghost use Rattle.rational.specs.Rational.{Rational, whole, ◌≈◌};
 ghost use Rattle.rational.specs.Time.{shifted, ◌<ʳ◌, ◌≤ʳ◌};
 ghost use Rattle.frac128.specs.Value.{value as value_of};
@@ -57,6 +57,21 @@ fn outside(side: Side, to: &Frac) -> Stride
             value: none,
         },
     }
+}
+
+/// The time of the first row.
+fn first_time(start: u32) -> Frac
+    ensures { value_of result ≈ whole (pos start) }
+{
+    Frac::of(i64::from(start))
+}
+
+/// A time from which no offset leads to the first row.
+fn long_before(start: u32) -> Frac
+    ensures { value_of result ≈ whole (pos start -ℤ pos 4294967296) }
+{
+    let begin = i64::from(start);
+    Frac::of(begin - 4294967296)
 }
 
 impl Moved {
@@ -155,10 +170,10 @@ impl Moved {
         if let Some(reached) = self.last {
             return reached;
         }
-        let begin = i64::from(start);
-        let first = Frac::of(begin);
+        let first = first_time(start);
+        let far = long_before(start);
         let mut reached = Reached {
-            at: Frac::of(begin - 4294967296),
+            at: far,
             value: nothing(self.side),
         };
         while let Ordering::Less = reached.at.cmp(&first) {
