@@ -18,7 +18,7 @@ use Rattle.pl_signal.specs.declared.knot.Knot.{Knot}
 use Rattle.pl_signal.specs.Moves.{Tells}
 use Rattle.pl_signal.proofs.Telling.{told}
 use Rattle.pl_signal.specs.declared.faults.OpFault.{OpFault}
-use Rattle.pl_signal.specs.declared.faults.OpFault.TheVariants as O
+use Rattle.pl_signal.specs.declared.faults.OpFault.TheVariants as Faults
 use Rattle.pl_signal.specs.declared.faults.WidePair.TheVariants.{Cross, Value}
 use Rattle.pl_signal.proofs.Values.{some_is}
 use Rattle.window_ops.proofs.Ends.{le_shifted}
@@ -195,12 +195,12 @@ module _ (t : Turn) (z : Lazy) (e : Held) (to : ℕ) (b : Belongs t (Op.Sweep z)
 
     -- what is refused is in play at the node
     pub window_fault : (fault : OpFault Margin) → IsWindowFault x z.window end fault → IsStreamedFault t fault
-    window_fault O.Memory h = tt
-    window_fault (O.Wide (Cross p q c d den)) h =
+    window_fault Faults.Memory h = tt
+    window_fault (Faults.Wide (Cross p q c d den)) h =
         crossing_by _ _ (start t.trace) (stop t.trace) (margin_function p) (margin_function q) (value c) (value d) den (λ tau line m. in_play_before tau line m.0 m.1) h
-    window_fault (O.Wide (Value p u den)) (inl h) =
+    window_fault (Faults.Wide (Value p u den)) (inl h) =
         inl (value_by _ _ (start t.trace) (stop t.trace) (margin_function p) (value u) den (λ tau line m. in_play_before tau line m.0 m.1) h)
-    window_fault (O.Wide (Value p u den)) (inr (first, h)) = inr (
+    window_fault (Faults.Wide (Value p u den)) (inr (first, h)) = inr (
       same_trans (same_trans (subst (λ k. whole k ≈ whole (pos to)) b.number (same_refl (whole (pos to)))) (same_sym same)) first,
       value_by _ _ (start t.trace) (stop t.trace) (margin_function p) (value u) den
           (λ tau line m. subst (λ q. IsSettledConstant t.ended (pos t.now) q (margin_setting t.trace) tau line) (sym own_tree)
