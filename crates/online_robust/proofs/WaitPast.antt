@@ -1,9 +1,9 @@
 -- From what an operator needs before it goes on to what a window needs without a low end needs whose input has given out nothing, and back from what it leaves.
-use Rattle.std.proofs.Common.{◌≡◌, ◌⊎◌, inl, inr, ℕ, ◌+◌, ◌<◌, ◌≤◌, Bool, true, false, List, [], ◌∷◌, drop, refl, sym, ap, subst, ◌∙◌, arith, Option, Some, None, ℤ, pos, ◌+ℤ◌, ◌<ℤ◌, ◌≤ℤ◌}
+use Rattle.std.proofs.Common.{◌≡◌, ◌⊎◌, inl, inr, ℕ, zero, suc, ◌+◌, ◌<◌, ◌≤◌, Bool, true, false, List, [], ◌∷◌, drop, refl, sym, ap, subst, ◌∙◌, arith, Option, Some, None, ℤ, pos, ◌+ℤ◌, ◌<ℤ◌, ◌≤ℤ◌}
 use Rattle.std.specs.Prelude.{MatchOption, IfSome, IsSome, IsSomeAnd, int_lt, cond, neg_ℤ, slice_get}
 use Rattle.std.proofs.lemmas.Int.{ints}
 use Rattle.rational.specs.Time.{Rational, Precedes, shifted, whole, ◌≈◌, ◌≤ʳ◌, ◌<ʳ◌}
-use Rattle.rational.specs.Extended.{Extended, ◌≈ᵉ◌}
+use Rattle.rational.specs.Extended.{Extended, minus_infinity, infinity, ◌≈ᵉ◌}
 use Rattle.rational.specs.Windows.{Function}
 use Rattle.rational.proofs.Order.{le_trans, le_of_lt, le_of_same, ge_of_same, lt_of_le_of_lt, not_lt_of_le, same_refl, same_trans}
 use Rattle.rational.proofs.Shift.{lt_whole}
@@ -14,6 +14,7 @@ use Rattle.pl_signal.specs.declared.knot.Knot.{Knot}
 use Rattle.pl_signal.proofs.Telling.{told}
 use Rattle.pl_signal.proofs.Values.{some_is}
 use Rattle.window_ops.proofs.Ends.{le_shifted}
+use Rattle.window_ops.specs.Over.{IsBestOver}
 use Rattle.stl_syntax.specs.Trace.{start, stop}
 use Rattle.stl_syntax.specs.Formula.{Subformula, subformula, tree_of}
 use Rattle.stl_syntax.specs.SupInf.{Robustness}
@@ -156,7 +157,8 @@ module _ (t : Turn) (z : Endless) (e : Held) (to : ℕ) (b : Belongs t (Op.Past 
         weak true a d h = h
         weak false a d h = le_of_lt h
 
-        best_none : (u : Rational) (v : Extended) → u ≤ʳ end → v ≈ᵉ nothing_of w.side → _
+        best_none : (u : Rational) (v : Extended) → u ≤ʳ end → v ≈ᵉ nothing_of w.side
+            → IsBestOver w.side minus_infinity infinity (Holds (start t.trace) (stop t.trace) w u) (Robustness child t.trace) v
         best_none u v by there = best_of_none (Holds (start t.trace) (stop t.trace) w u) (Robustness child t.trace) (robust_is_function child t.trace) w.side v
             (λ y h. not_lt_of_le (le_trans h.inside.above (weak w.high_in y (shifted u w.high) h.ends))
             (lt_of_le_of_lt (le_trans (le_shifted w.high by) (le_shifted w.high (le_of_same same))) too_early)) there
