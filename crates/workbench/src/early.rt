@@ -130,7 +130,6 @@ impl Follow for Deciding {
     ghost use Rattle.trace_stream.specs.Streams.{early};
     ghost use Rattle.workbench.specs.Deciding.{IsDeciding};
 
-
     ghost kind = { early };
 
     ghost stands = { λ s c made. IsDeciding false s c };
