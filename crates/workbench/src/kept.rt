@@ -2,8 +2,9 @@
 use crate::watch::Watch;
 use early_verdict::Early;
 use online_robust::RobustNet;
+use session_mux::Mux;
 
-/// What a run that answers row by row leaves to its caller.
+/// What a run that answers row by row, or line by line, leaves to its caller.
 #[derive(Drop)]
 pub enum Kept {
     /// Nothing was left.
@@ -12,6 +13,8 @@ pub enum Kept {
     Watch(Watch),
     /// What decided, by which `early` answered.
     Early(Early),
+    /// The sessions that `mux` answered.
+    Mux(Mux),
     /// The network of margins by which `rwatch` answered, all of which was taken.
     Margins(RobustNet),
 }

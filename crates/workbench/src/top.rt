@@ -22,6 +22,7 @@ use crate::fault::Stop;
 use crate::json::give_report;
 use crate::kept::Kept;
 use crate::line::write_line;
+use crate::many::Many;
 use crate::margins::net_of;
 use crate::output::write_all;
 use crate::reading::read_trace;
@@ -35,6 +36,7 @@ use crate::watch::Watch;
 use io_edge::{Sink, Source};
 use online_robust::first_unstreamed;
 use report::Line;
+use session_mux::input_fault_line;
 use std::alloc::Global;
 use stl_grammar::{FormulaFault, parse};
 use stl_syntax::Formula;
@@ -55,7 +57,7 @@ const STREAM_LIMITS: Limits = Limits {
 
 /// The line where the words are of no form.
 const USAGE: &[u8] =
-    b"usage: check F | watch F | robust F | explain F | json F | table F | gen NUMBER ROWS | early F | rwatch F\n";
+    b"usage: check F | watch F | robust F | explain F | json F | table F | gen NUMBER ROWS | early F | mux F | rwatch F\n";
 
 /// The line where the output failed.
 const WRITE_FAULT: &[u8] = b"write fault\n";
@@ -158,6 +160,7 @@ fn stop_line(formula: &Formula, stop: Stop) -> Line<'_>
 {
     match stop {
         Stop::Fault(fault) => fault_line(formula, fault),
+        Stop::Input(fault) => input_fault_line(fault),
         Stop::Unread => Line::plain(b"read fault\n"),
         Stop::Unwritten => Line::plain(WRITE_FAULT),
         Stop::NoMemory => Line::plain(NO_MEMORY),
@@ -171,7 +174,7 @@ fn stop_status(stop: Stop) -> u8
     ensures { result ≡ status_of_stop stop }
 {
     match stop {
-        Stop::Fault(_) => 4,
+        Stop::Fault(_) | Stop::Input(_) => 4,
         Stop::Unread => 5,
         Stop::Unwritten => 6,
         Stop::NoMemory => 7,
@@ -295,6 +298,42 @@ fn decide<S: Source, K: Sink, E: Sink>(
     status
 }
 
+/// Answers the lines of several sessions, and leaves the sessions.
+fn by_line<S: Source, K: Sink, E: Sink>(
+    alloc: Global,
+    formula: Formula,
+    input: &mut S,
+    out: &mut K,
+    err: &mut E,
+    kept: &mut Kept,
+) -> u8
+    ensures ran { (words : List (List ℕ)) → AreFor words word.mux formula → HasRun words (drained S.left S.ended S.ends S.faults input.old input.new)
+        (filled K.written K.faults out.old out.new) (filled E.written E.faults err.old err.new) kept.old kept.new result }
+    ensures known { ¬ ((result ≡ 2) ⊎ (result ≡ 3)) }
+    ensures read_due { result ≢ 5 → S.faults input.new ≡ S.faults input.old }
+    ensures write_due { result ≢ 6 → K.faults out.new ≡ K.faults out.old }
+    ensures quiet { result ≤ 1 → err.new ≡ err.old }
+    ensures unkept { 2 ≤ result → kept.new ≡ kept.old }
+    ensures input_later { S.faults input.old ≤ S.faults input.new }
+    ensures out_later { K.faults out.old ≤ K.faults out.new }
+    ensures err_later { E.faults err.old ≤ E.faults err.new }
+{
+    let mut many = match Many::new(alloc, formula) {
+        Ok(many) => many,
+        Err(_) => {
+            say(err, &Line::plain(NO_MEMORY));
+            return 7;
+        }
+    };
+    let ending = stream(&mut many, input, out);
+    let status = finish(err, many.formula(), ending);
+    if ending.is_err() {
+        return status;
+    }
+    *kept = Kept::Mux(many.into_mux());
+    status
+}
+
 /// Tells the margins as the rows come, and leaves the network that did so.
 fn measure_by_row<S: Source, K: Sink, E: Sink>(
     alloc: Global,
@@ -365,11 +404,12 @@ fn margins_of_rows<S: Source, K: Sink, E: Sink>(
 /// Does all that the program does for its words, and answers the status with which it ends.
 ///
 /// - 0 and 1: `out` got the whole text of the command. The input was read to its end, but for `gen`, which reads
-///   none. After `watch`, `kept` is its watch, after `early` what decided, and after `rwatch` the network of margins.
+///   none. After `watch`, `kept` is its watch, after `early` what decided, after `mux`, whose status is 0, its sessions, and after
+///   `rwatch`, whose status is 0 as well, the network of margins.
 /// - 2: the words are of no form.
 /// - 3: the formula is refused; by `rwatch` one with until or since.
 /// - 4: the bytes that were read have a first fault: of the trace, a column of the formula that the header lacks, or numbers of
-///   the formula that do not fit in the header's ticks.
+///   the formula that do not fit in the header's ticks. For `mux`, of the input's lines.
 /// - 5: `input` failed.
 /// - 6: `out` failed, after a first part of the text.
 /// - 7: memory was wanting.
@@ -377,8 +417,8 @@ fn margins_of_rows<S: Source, K: Sink, E: Sink>(
 /// - 9: an explanation would have too many cells.
 ///
 /// From 2 on `err` gets one line; a fault of `err` changes no status. The words are judged first, then the formula, then the bytes
-/// in their order. `watch`, `early` and `rwatch` write what each row answers before more is read, also what comes before a fault. On each other status and
-/// command `kept` stays as it was.
+/// in their order. `watch`, `early` and `rwatch` write what each row answers before more is read, and `mux` what each line does, also
+/// what comes before a fault. On each other status and command `kept` stays as it was.
 pub fn run<S: Source, K: Sink, E: Sink>(
     alloc: Global,
     words: &[String],
@@ -421,6 +461,7 @@ pub fn run<S: Source, K: Sink, E: Sink>(
             }
             Mode::Watch => by_row(alloc, formula, input, out, err, kept),
             Mode::Early => decide(alloc, formula, input, out, err, kept),
+            Mode::Mux => by_line(alloc, formula, input, out, err, kept),
             Mode::Margins => margins_of_rows(alloc, formula, input, out, err, kept),
         },
         Err(fault) => refuse(err, fault),
