@@ -16,3 +16,4 @@ pub mod Tops
 pub mod Adding
 pub mod Making
 pub mod Deciding
+pub mod Showing

@@ -8,7 +8,8 @@ ghost use Rattle.stl_syntax.specs.Formula.{root};
 ghost use Rattle.atom_lines.specs.Binding.{IsBound};
 
 use crate::events::{end_sets, root_verdict, take_row};
-use crate::sets::Sets;
+use crate::letting::let_go;
+use crate::sets::Net;
 use atom_lines::Bound;
 use std::alloc::Global;
 use std::marker::Model;
@@ -41,7 +42,7 @@ pub struct Early {
     header: Header,
     bound: Bound,
     /// Of each node, in post-order; none before the first row, and none once a row has decided.
-    sets: Vec<Sets>,
+    net: Net,
     begin: u32,
     last: Option<Row>,
     decided: Option<Decided>,
@@ -60,7 +61,7 @@ impl Model for Early {
       nodes = e.formula.nodes;
       header = e.header;
       bound = e.bound;
-      sets = e.sets.items;
+      sets = e.net.live.items;
       begin = e.begin;
       last = e.last;
       decided = e.decided;
@@ -72,7 +73,7 @@ impl Model for Early {
       nodes = e.formula.nodes;
       header = e.header;
       bound = e.bound;
-      sets = e.sets.items;
+      sets = e.net.live.items;
       begin = e.begin;
       last = e.last;
       decided = e.decided;
@@ -91,13 +92,15 @@ fn decided_at(at: u32, verdict: Option<bool>) -> Option<Decided>
     }
 }
 
-/// Lets the sets go once a row has decided.
-fn let_go(sets: &mut Vec<Sets>, decided: &Option<Decided>)
-    ensures { decided.now ≡ None → sets.new.items ≡ sets.old.items }
+/// Lets go of what no later answer needs; of all sets, once a row has decided.
+fn let_go_by(net: &mut Net, formula: &Formula, decided: &Option<Decided>)
 {
     if decided.is_some() {
-        sets.clear();
+        net.live.clear();
+        net.shown.clear();
+        return;
     }
+    let_go(net, formula);
 }
 
 impl Early {
@@ -117,7 +120,10 @@ impl Early {
             formula,
             header,
             bound,
-            sets: Vec::new(alloc),
+            net: Net {
+                live: Vec::new(alloc),
+                shown: Vec::new(alloc),
+            },
             begin: 0,
             last: None,
             decided: None,
@@ -160,7 +166,7 @@ impl Early {
         }
         let Ok(begin) = take_row(
             self.alloc,
-            &mut self.sets,
+            &mut self.net,
             &self.formula,
             &self.bound,
             self.begin,
@@ -170,8 +176,8 @@ impl Early {
             self.stopped = true;
             return Err(EarlyFault::Memory);
         };
-        let decided = decided_at(row.time(), root_verdict(&self.sets, begin));
-        let_go(&mut self.sets, &decided);
+        let decided = decided_at(row.time(), root_verdict(&self.net.shown, begin));
+        let_go_by(&mut self.net, &self.formula, &decided);
         self.begin = begin;
         self.last = Some(kept);
         self.decided = decided;
@@ -201,7 +207,7 @@ impl Early {
             return Ok(decided.holds);
         }
         let Ok(holds) = end_sets(
-            &mut self.sets,
+            &mut self.net,
             &self.formula,
             &self.bound,
             self.begin,

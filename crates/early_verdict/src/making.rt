@@ -57,3 +57,15 @@ pub(crate) fn all_sets(alloc: Global, formula: &Formula, start: u32) -> Result<V
     }
     Ok(all)
 }
+
+/// As many sets with the same bounds, with no times.
+pub(crate) fn shown_of(alloc: Global, live: &[Sets]) -> Result<Vec<Sets>, Memory>
+{
+    let mut all = Vec::new(alloc);
+    for own in live {
+        let Ok(()) = all.push(Sets::new(alloc, own.no.bounds())) else {
+            return Err(Memory);
+        };
+    }
+    Ok(all)
+}

@@ -12,6 +12,7 @@ use crate::atoms::{rest, step_atom};
 use crate::event::Event;
 use crate::operators::step_operator;
 use crate::sets::Sets;
+use crate::showing::take_in;
 use atom_lines::Bound;
 use frac128::Memory;
 use stl_syntax::{Formula, Node};
@@ -56,9 +57,10 @@ fn step_node(
     }
 }
 
-/// Steps the sets at a place.
+/// Steps the sets at a place, by what those below show.
 fn step_at(
-    sets: &mut [Sets],
+    live: &mut [Sets],
+    shown: &[Sets],
     i: usize,
     node: &Node,
     bound: &Bound,
@@ -66,52 +68,40 @@ fn step_at(
     row: &Row,
     event: &Event,
 ) -> Result<(), Memory>
-    requires within { i < length sets.old }
-    requires few { i < 256 }
-    requires tidy { AllTidy sets.old }
-    requires children { HasChildrenBelow i node.now }
-    requires event { IsEvent event.now }
-    requires none { event.now.first ≡ true → (s : ASets) → slice_get sets.old i ≡ Some s → AreEmpty s }
-    requires atom { LeafIsBound bound.now i node.now }
-    requires first { IfSome before.now (λ r. length r.values ≡ bound.now.width) }
-    requires second { length row.now.values ≡ bound.now.width }
-    requires later { IfSome before.now (λ r. r.time < row.now.time) }
-    ensures { OnOk result ((stepped : StepsAt i sets.old sets.new)
-        × ((old : Option Trace) (tr : Trace) (was : ℕ → Lists) → Happens event.now old tr
-        → HadAll old tr was (take i sets.old) → HasParts node.now stepped.was (take i sets.old)
-        → LeafGoes bound.now i event.now old tr before.now row.now stepped.was node.now
-        → Was old (λ o. Fits node.now false o was) stepped.was → Fits node.now event.now.ended tr (lists_at (take i sets.old)) stepped.is)) }
 {
-    let (below, from) = sets.split_at_mut(i);
-    let own = &mut from[0];
+    let own = &mut live[i];
+    let below = &shown[..i];
     step_node(own, node, below, bound, before, row, event)
+}
+
+/// Shows what the sets at a place gained.
+fn show_at(shown: &mut [Sets], live: &[Sets], i: usize) -> Result<(), Memory>
+{
+    show(&mut shown[i], &live[i])
+}
+
+/// Shows what the sets of a node gained.
+fn show(shown: &mut Sets, own: &Sets) -> Result<(), Memory>
+{
+    take_in(&mut shown.yes, &own.yes)?;
+    take_in(&mut shown.no, &own.no)
 }
 
 /// One event over all sets: a row, or, once it has ended, the end of the input, whose last row is given again.
 pub(crate) fn step_all(
-    sets: &mut [Sets],
+    live: &mut [Sets],
+    shown: &mut [Sets],
     formula: &Formula,
     bound: &Bound,
     before: &Option<Row>,
     row: &Row,
     event: &Event,
 ) -> Result<(), Memory>
-    requires count { length sets.old ≡ length formula.now.nodes }
-    requires tidy { AllTidy sets.old }
-    requires event { IsEvent event.now }
-    requires none { event.now.first ≡ true → AllEmpty sets.old }
-    requires atoms { (i : ℕ) (n : ANode) → slice_get formula.now.nodes i ≡ Some n → LeafIsBound bound.now i n }
-    requires first { IfSome before.now (λ r. length r.values ≡ bound.now.width) }
-    requires second { length row.now.values ≡ bound.now.width }
-    requires later { IfSome before.now (λ r. r.time < row.now.time) }
-    ensures stepped { OnOk result (SteppedTo (length formula.now.nodes) sets.old sets.new) }
-    ensures fits { OnOk result ((old : Option Trace) (tr : Trace) (tops : List ℕ) → Happens event.now old tr
-        → HaveSets formula.now.nodes (start tr) tops sets.old → AllGo formula.now.nodes bound.now event.now old tr before.now row.now
-        → AllWere old formula.now.nodes sets.old → AllFit formula.now.nodes event.now.ended tr sets.new) }
 {
     let count = formula.len();
     for i in 0..count {
-        step_at(sets, i as usize, formula.node(i), bound, before, row, event)?;
+        step_at(live, shown, i as usize, formula.node(i), bound, before, row, event)?;
+        show_at(shown, live, i as usize)?;
     }
     Ok(())
 }
