@@ -3,7 +3,8 @@
 //! An early verdict stands for the rows that it took, and whether they have ended. It stores none of them: what its sets tell is what the
 //! rows settle, whatever they were.
 ghost use Rattle.std.specs.Prelude.{◌≡◌, ◌<◌, ◌++◌, ◌∷◌, [], List, length, IfOk, IfSome, IsSome, MatchResult, IfErr, None, true, false, option_map};
-ghost use Rattle.stl_syntax.specs.Trace.{Row as ARow};
+ghost use Rattle.stl_syntax.specs.Trace.{Row as ARow, Trace as ATrace};
+ghost use Rattle.early_verdict.specs.Living.{NetStands};
 ghost use Rattle.stl_syntax.specs.Formula.{root};
 ghost use Rattle.atom_lines.specs.Binding.{IsBound};
 
@@ -61,7 +62,8 @@ impl Model for Early {
       nodes = e.formula.nodes;
       header = e.header;
       bound = e.bound;
-      sets = e.net.live.items;
+      live = e.net.live.items;
+      shown = e.net.shown.items;
       begin = e.begin;
       last = e.last;
       decided = e.decided;
@@ -73,7 +75,8 @@ impl Model for Early {
       nodes = e.formula.nodes;
       header = e.header;
       bound = e.bound;
-      sets = e.net.live.items;
+      live = e.net.live.items;
+      shown = e.net.shown.items;
       begin = e.begin;
       last = e.last;
       decided = e.decided;
@@ -94,6 +97,9 @@ fn decided_at(at: u32, verdict: Option<bool>) -> Option<Decided>
 
 /// Lets go of what no later answer needs; of all sets, once a row has decided.
 fn let_go_by(net: &mut Net, formula: &Formula, decided: &Option<Decided>)
+    requires { decided.now ≡ None → (tr : ATrace) × NetStands formula.now.nodes tr net.old.live.items net.old.shown.items }
+    ensures { decided.now ≡ None → (tr : ATrace) → NetStands formula.now.nodes tr net.old.live.items net.old.shown.items
+        → NetStands formula.now.nodes tr net.new.live.items net.new.shown.items }
 {
     if decided.is_some() {
         net.live.clear();

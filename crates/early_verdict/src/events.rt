@@ -1,12 +1,13 @@
 //! Rows and the end of the input, as they come to the sets of all nodes.
 ghost use Rattle.std.specs.Prelude.{◌≡◌, ◌<◌, ◌++◌, ◌∷◌, ◌↔◌, [], ℕ, List, Option, length, pos, slice_get, IfOk, IfSome, IsTrue, OnOk, Some, None, true, false};
-ghost use Rattle.stl_syntax.specs.Trace.{Header, Row as ARow, Trace, start};
+ghost use Rattle.stl_syntax.specs.Trace.{Header, Row as ARow};
 ghost use Rattle.stl_syntax.specs.Formula.{root};
 ghost use Rattle.rational.specs.Rational.{whole};
 ghost use Rattle.early_verdict.specs.Spans.{AreTidy, IsOn};
 ghost use Rattle.early_verdict.specs.Happening.{Happens, IsEvent};
 ghost use Rattle.stl_syntax.specs.declared.node.Node.{Node as ANode};
-ghost use Rattle.early_verdict.specs.Standing.{AllEmpty, AllFit, AllGo, AllTidy, AllWere, HaveSets, LeafIsBound, SteppedTo};
+ghost use Rattle.early_verdict.specs.Standing.{AllEmpty, AllTidy, LeafIsBound};
+ghost use Rattle.early_verdict.specs.Living.{ComesOn};
 ghost use Rattle.early_verdict.specs.Deciding.{IsOpen, IsTruthAtStart, IsVerdict, SetsAre, last_after, trace_of};
 
 use crate::atoms::{after_tick, before_tick};
@@ -88,6 +89,17 @@ fn step_sets(
     row: &Row,
     event: &Event,
 ) -> Result<(), Memory>
+    requires count { length net.old.live.items ≡ length formula.now.nodes }
+    requires shown_count { length net.old.shown.items ≡ length formula.now.nodes }
+    requires tidy { AllTidy net.old.live.items }
+    requires shown_tidy { AllTidy net.old.shown.items }
+    requires event { IsEvent event.now }
+    requires none { event.now.first ≡ true → AllEmpty net.old.live.items }
+    requires atoms { (i : ℕ) (n : ANode) → slice_get formula.now.nodes i ≡ Some n → LeafIsBound bound.now i n }
+    requires first { IfSome before.now (λ r. length r.values ≡ bound.now.width) }
+    requires second { length row.now.values ≡ bound.now.width }
+    requires later { IfSome before.now (λ r. r.time < row.now.time) }
+    ensures { OnOk result (ComesOn formula.now.nodes bound.now event.now before.now row.now net.old.live.items net.new.live.items net.old.shown.items net.new.shown.items) }
 {
     step_all(&mut net.live, &mut net.shown, formula, bound, before, row, event)?;
     Ok(())
@@ -101,6 +113,10 @@ fn take_first(
     bound: &Bound,
     row: &Row,
 ) -> Result<(), Memory>
+    requires open { (header : Header) × IsOpen formula.now bound.now header [] 0 None net.old.live.items net.old.shown.items }
+    requires width { length row.now.values ≡ bound.now.width }
+    ensures { OnOk result ((header : Header) → IsOpen formula.now bound.now header [] 0 None net.old.live.items net.old.shown.items
+        → SetsAre formula.now.nodes header row.now.time net.new.live.items net.new.shown.items (row.now ∷ [])) }
 {
     let live = all_sets(alloc, formula, row.time())?;
     let shown = shown_of(alloc, &live)?;
@@ -119,6 +135,11 @@ fn take_next(
     last: &Option<Row>,
     row: &Row,
 ) -> Result<(), Memory>
+    requires open { (header : Header) × (r : ARow) × (rows : List ARow) × IsOpen formula.now bound.now header (r ∷ rows) begin last.now net.old.live.items net.old.shown.items }
+    requires width { length row.now.values ≡ bound.now.width }
+    requires later { IfSome last.now (λ q. q.time < row.now.time) }
+    ensures { OnOk result ((header : Header) (r : ARow) (rows : List ARow) → IsOpen formula.now bound.now header (r ∷ rows) begin last.now net.old.live.items net.old.shown.items
+        → SetsAre formula.now.nodes header begin net.new.live.items net.new.shown.items (r ∷ (rows ++ row.now ∷ []))) }
 {
     let Some(before) = last else {
         unreachable!();
@@ -138,6 +159,11 @@ pub(crate) fn take_row(
     last: &Option<Row>,
     row: &Row,
 ) -> Result<u32, Memory>
+    requires open { (header : Header) × (rows : List ARow) × IsOpen formula.now bound.now header rows begin last.now net.old.live.items net.old.shown.items }
+    requires width { length row.now.values ≡ bound.now.width }
+    requires later { IfSome last.now (λ q. q.time < row.now.time) }
+    ensures { IfOk result (λ start. (header : Header) (rows : List ARow) → IsOpen formula.now bound.now header rows begin last.now net.old.live.items net.old.shown.items
+        → SetsAre formula.now.nodes header start net.new.live.items net.new.shown.items (rows ++ row.now ∷ [])) }
 {
     match last {
         None => {
@@ -153,12 +179,17 @@ pub(crate) fn take_row(
 
 /// Whether the tick is one of the set's times.
 fn has_tick(set: &Grown, tick: u32) -> bool
+    requires { AreTidy set.now.spans.items }
+    ensures { IsTrue result ↔ IsOn set.now.spans.items (whole (pos tick)) }
 {
     set.has(i64::from(tick))
 }
 
 /// What the sets of the root say of the start.
 pub(crate) fn root_verdict(sets: &[Sets], start: u32) -> Option<bool>
+    requires some { 0 < length sets.now }
+    requires tidy { AllTidy sets.now }
+    ensures { IsVerdict sets.now start result }
 {
     let root = &sets[sets.len() - 1];
     if has_tick(&root.yes, start) {
@@ -178,6 +209,10 @@ pub(crate) fn end_sets(
     begin: u32,
     last: &Option<Row>,
 ) -> Result<bool, Memory>
+    requires open { (header : Header) × (r : ARow) × (rows : List ARow) × IsOpen formula.now bound.now header (r ∷ rows) begin last.now net.old.live.items net.old.shown.items }
+    ensures { IfOk result (λ holds. (header : Header) (r : ARow) (rows : List ARow)
+        → IsOpen formula.now bound.now header (r ∷ rows) begin last.now net.old.live.items net.old.shown.items
+        → IsTruthAtStart (root formula.now.nodes) (trace_of header (r ∷ rows)) holds) }
 {
     let Some(row) = last else {
         unreachable!();
