@@ -136,8 +136,8 @@ used_by (x ∷ nodes) (suc i) p n e h = or_right _ _ (used_by nodes i p n e h)
 module _ (nodes : List Node) (order : IsPostOrder nodes) where
   one_before : (i j p : ℕ) (n m : Node) → i < j → slice_get nodes i ≡ Some n → slice_get nodes j ≡ Some m → IsChild p n → IsChild p m → ⊥
   one_before i j p n m l at here c d =
-      let free = child_of_all (λ q. is_used (take j nodes) q ≡ false) p m (children_free (take j nodes) m (order.follows j m here)) d in
-      let used = used_by (take j nodes) i p n (node_before nodes j i n l at) (child_has p n c) in cc
+      let free : is_used (take j nodes) p ≡ false = child_of_all (λ q. is_used (take j nodes) q ≡ false) p m (children_free (take j nodes) m (order.follows j m here)) d in
+      let used : is_used (take j nodes) p ≡ true = used_by (take j nodes) i p n (node_before nodes j i n l at) (child_has p n c) in cc
 
   pub one_parent : (i j p : ℕ) (n m : Node) → i ≢ j → slice_get nodes i ≡ Some n → slice_get nodes j ≡ Some m → IsChild p n → IsChild p m → ⊥
   one_parent i j p n m d at here c e = elim (order_of i j) [

@@ -37,7 +37,7 @@ module _ (nodes : List Node) (from : Rational) (old new old_shown new_shown : Li
   same_one : (a b : Sets) → Some a ≡ Some b → a ≡ b
   same_one a b e = cc
 
-  shown_still : (p : ℕ) (u : Rational) → IsShown old_shown p u → IsShown new_shown p u
+  pub shown_still : (p : ℕ) (u : Rational) → IsShown old_shown p u → IsShown new_shown p u
   shown_still p u o =
       let c = g.count in
       let l = shown_within old_shown p u o in

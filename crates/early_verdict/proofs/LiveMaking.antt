@@ -60,8 +60,8 @@ module _ (nodes : List Node) (from : Rational) (live shown : List Sets) (made : 
     ahead_parts b far (Some x) k = record {
       some = λ t l. let g = in_own t l in ((k.some t).1 g, (k.each t).1 g);
       never = λ t l. let g = in_own t l in ((k.never t).1 g, (k.broken t).1 g);
-      both = λ t u l f e. let g = (f, reach from t u (top_at made.tops i) b h.wide (in_own t l).1 e far) in ((k.both u).1 g, (k.run u).1 g);
-      fail = λ t u l f e. let g = (f, reach from t u (top_at made.tops i) b h.wide (in_own t l).1 e far) in ((k.fail u).1 g, (k.stop u).1 g);
+      both = λ t u l f e. let g : (from ≤ʳ u) × (u ≤ʳ later from h.wide) = (f, reach from t u (top_at made.tops i) b h.wide (in_own t l).1 e far) in ((k.both u).1 g, (k.run u).1 g);
+      fail = λ t u l f e. let g : (from ≤ʳ u) × (u ≤ʳ later from h.wide) = (f, reach from t u (top_at made.tops i) b h.wide (in_own t l).1 e far) in ((k.fail u).1 g, (k.stop u).1 g);
     }
 
     back_parts : top_at made.tops i ≤ h.wide → (o : Option Parts) → MatchOption o (Unit {0}) (ArePartsAsked from (top_at made.tops i) h.wide)
@@ -70,8 +70,8 @@ module _ (nodes : List Node) (from : Rational) (live shown : List Sets) (made : 
     back_parts far (Some x) k = record {
       some = λ t l. let g = in_own t l in ((k.some t).1 g, (k.each t).1 g);
       never = λ t l. let g = in_own t l in ((k.never t).1 g, (k.broken t).1 g);
-      both = λ t u l f e. let g = (f, reach_now from t u (top_at made.tops i) h.wide (in_own t l).1 e far) in ((k.both u).1 g, (k.run u).1 g);
-      fail = λ t u l f e. let g = (f, reach_now from t u (top_at made.tops i) h.wide (in_own t l).1 e far) in ((k.fail u).1 g, (k.stop u).1 g);
+      both = λ t u l f e. let g : (from ≤ʳ u) × (u ≤ʳ later from h.wide) = (f, reach_now from t u (top_at made.tops i) h.wide (in_own t l).1 e far) in ((k.both u).1 g, (k.run u).1 g);
+      fail = λ t u l f e. let g : (from ≤ʳ u) × (u ≤ʳ later from h.wide) = (f, reach_now from t u (top_at made.tops i) h.wide (in_own t l).1 e far) in ((k.fail u).1 g, (k.stop u).1 g);
     }
 
     here : (p : ℕ) → p < i → top_at made.tops i ≤ top_at made.tops p → (t : Rational) → Lies s.no.bounds t → IsShown shown p t

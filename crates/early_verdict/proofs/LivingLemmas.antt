@@ -1,5 +1,5 @@
 -- What nodes look at, where they go on from fewer times, or where their children show other ones.
-use Rattle.std.proofs.Common.{◌≡◌, ◌≢◌, ◌⊎◌, inl, inr, refl, sym, subst, ◌∙◌, ℕ, Option, Some, None, List}
+use Rattle.std.proofs.Common.{◌≡◌, ◌≢◌, ◌⊎◌, inl, inr, refl, sym, subst, ◌∙◌, ℕ, false, true, Option, Some, None, List}
 use Rattle.std.specs.Prelude.{MatchOption, IsSome, slice_get}
 use Rattle.rational.specs.Time.{Rational}
 use Rattle.stl_syntax.specs.declared.node.Node.{Node}
@@ -60,7 +60,7 @@ module _ (from : Rational) (own own' : Stretch) (less : (t : Rational) → Lies 
   looks_as (Historically p a b i j) shown shown' old new f e h = λ t u l o. f p refl u (h t u (less t l) o)
 
 some_still : (old new : Option Parts) → ArePartsKept old new → IsSome old → IsSome new
-some_still None new e s = absurd (let f : IsSome {Parts} None = s in cc)
+some_still None new e s = absurd (let f : false ≡ true = s in cc)
 some_still (Some x) None e s = absurd e
 some_still (Some x) (Some y) e s = refl
 

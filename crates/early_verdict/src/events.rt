@@ -101,7 +101,15 @@ fn step_sets(
     requires later { IfSome before.now (λ r. r.time < row.now.time) }
     ensures { OnOk result (ComesOn formula.now.nodes bound.now event.now before.now row.now net.old.live.items net.new.live.items net.old.shown.items net.new.shown.items) }
 {
-    step_all(&mut net.live, &mut net.shown, formula, bound, before, row, event)?;
+    step_all(
+        &mut net.live,
+        &mut net.shown,
+        formula,
+        bound,
+        before,
+        row,
+        event,
+    )?;
     Ok(())
 }
 

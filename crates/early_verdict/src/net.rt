@@ -139,7 +139,16 @@ pub(crate) fn step_all(
 {
     let count = formula.len();
     for i in 0..count {
-        step_at(live, shown, i as usize, formula.node(i), bound, before, row, event)?;
+        step_at(
+            live,
+            shown,
+            i as usize,
+            formula.node(i),
+            bound,
+            before,
+            row,
+            event,
+        )?;
         show_at(shown, live, i as usize)?;
     }
     Ok(())

@@ -9,9 +9,9 @@ use Rattle.early_verdict.specs.declared.sets.Sets.{Sets}
 use Rattle.early_verdict.proofs.GoingOn.{first_stand, leaves_bound}
 use Rattle.early_verdict.proofs.LiveMaking.{shown_tidy}
 use Rattle.early_verdict.proofs.events.take_first.Goals as goal
-use Rattle.early_verdict.proofs.events.take_first.Goals.{Ok-shown}
+use Rattle.early_verdict.proofs.events.take_first.Goals.{In_ok-shown}
 
-are : (c : Ok-shown) → AreShownOf c.in_ok-live.live.items c.in_ok-shown.shown.items
+are : (c : In_ok-shown) → AreShownOf c.in_ok-live.live.items c.in_ok-shown.shown.items
 are c = subst (λ (xs : List Sets). AreShownOf xs c.in_ok-shown.shown.items) c.deref.ensures.value c.in_ok-shown.ensures
 
 pub step_sets-requires-clause-count : goal.step_sets-requires-clause-count

@@ -1,10 +1,10 @@
-use Rattle.std.proofs.Common.{rules, ◌≡◌, ◌∙◌, ◌≤◌, sym, subst, ap, List, length, arith}
+use Rattle.std.proofs.Common.{rules, ◌≡◌, ◌∙◌, ◌≤◌, sym, subst, ap, ◌++◌, List, length, take, drop, arith}
 use Rattle.stl_syntax.specs.Trace.{Trace}
 use Rattle.early_verdict.specs.Living.{NetStands}
 use Rattle.early_verdict.specs.declared.sets.Sets.{Sets}
 use Rattle.early_verdict.proofs.Opening.{sets_written}
 use Rattle.early_verdict.proofs.letting.let_go.Goals as goal
-use Rattle.early_verdict.proofs.letting.let_go.Goals.{After-deref_mut-2}
+use Rattle.early_verdict.proofs.letting.let_go.Goals.{After-deref_mut-in-loop-i}
 
 pub loop-i-init : goal.loop-i-init
 loop-i-init c = record { within = omega (arith, c.len-count.ensures.count); stands = λ tr h. h }
@@ -16,12 +16,12 @@ pub let_go_at-requires-clause-formed : goal.let_go_at-requires-clause-formed
 let_go_at-requires-clause-formed c = c.len-count.ensures.well_formed.nodes
 
 -- what stands, seen as slices
-seen : (c : After-deref_mut-2) (tr : Trace) → NetStands c.args.formula.now.nodes tr c.loop-i.net.live.items c.loop-i.net.shown.items
-    → NetStands c.args.formula.now.nodes tr c.deref_mut.result.now c.deref_mut-2.result.now
+seen : (c : After-deref_mut-in-loop-i) (tr : Trace) → NetStands c.args.formula.now.nodes tr c.loop-i.net.live.items c.loop-i.net.shown.items
+    → NetStands c.args.formula.now.nodes tr c.deref_mut.result.now c.deref_mut-in-loop-i.result.now
 seen c tr h =
     let nodes = c.args.formula.now.nodes in
-    subst (λ (xs : List Sets). NetStands nodes tr xs c.deref_mut-2.result.now) (sym c.deref_mut.ensures.value)
-    (subst (λ (xs : List Sets). NetStands nodes tr c.loop-i.net.live.items xs) (sym c.deref_mut-2.ensures.value) h)
+    subst (λ (xs : List Sets). NetStands nodes tr xs c.deref_mut-in-loop-i.result.now) (sym c.deref_mut.ensures.value)
+    (subst (λ (xs : List Sets). NetStands nodes tr c.loop-i.net.live.items xs) (sym c.deref_mut-in-loop-i.ensures.value) h)
 
 pub let_go_at-requires-clause-stands : goal.let_go_at-requires-clause-stands
 let_go_at-requires-clause-stands c = (c.requires.0, seen c c.requires.0 (c.loop-i.invariant.stands c.requires.0 c.requires.1))
@@ -39,11 +39,11 @@ loop-i-preserved c =
     let b : length shown.items ≡ shown.len = search rules in
     let long : length new ≡ live.len = is.have.count ∙ sym was.have.count ∙ ap (λ (xs : List Sets). length xs) c.deref_mut.ensures.value ∙ a in
     let long_shown : length new_shown ≡ shown.len =
-    is.have.shown_count ∙ sym was.have.shown_count ∙ ap (λ (xs : List Sets). length xs) c.deref_mut-2.ensures.value ∙ b in
+    is.have.shown_count ∙ sym was.have.shown_count ∙ ap (λ (xs : List Sets). length xs) c.deref_mut-in-loop-i.ensures.value ∙ b in
     record {
       within = omega (arith, c.loop-i.invariant.within);
       stands = λ tr h.
-          subst (λ (xs : List Sets). NetStands nodes tr xs _) (sets_written new live.items live.len long)
+          subst (λ (xs : List Sets). NetStands nodes tr xs (take shown.len (new_shown ++ drop (length new_shown) shown.items))) (sets_written new live.items live.len long)
           (subst (λ (xs : List Sets). NetStands nodes tr new xs) (sets_written new_shown shown.items shown.len long_shown)
           (c.let_go_at.ensures tr (seen c tr (c.loop-i.invariant.stands tr h))));
     }

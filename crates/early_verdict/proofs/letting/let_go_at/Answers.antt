@@ -3,6 +3,7 @@ use Rattle.frac128.specs.Value.{value}
 use Rattle.stl_syntax.proofs.PostOrderLemmas.{placed}
 use Rattle.early_verdict.specs.Cuts.{place}
 use Rattle.early_verdict.specs.Spans.{Lies}
+use Rattle.early_verdict.specs.declared.sets.Sets.{Sets}
 use Rattle.early_verdict.proofs.Places.{item_at}
 use Rattle.early_verdict.proofs.Narrowing.{asked_stands, children_more, le_after, live_inside, settled_stands, shown_inside}
 use Rattle.early_verdict.proofs.letting.let_go_at.Goals as goal
@@ -41,5 +42,5 @@ returns c = λ tr st.
     let l : c.args.i < length mid = let a = e.count in let b = st.have.count in let d = c.requires.within in omega (arith, a, b, d) in
     asked_stands nodes c.requires.formed tr mid c.args.shown.now c.ask_children.new.shown c.args.i c.node.result.now c.node.ensures.node s
     (item_at mid c.args.i s l c.index-live-at.is) (value c.bounds-own.result.from.time)
-    (λ t o. le_after (place c.bounds-own.result.from) t (subst (λ b. Lies b t) (sym c.bounds-own.ensures) o).0) c.ask_children.ensures
+    (λ t o. le_after (place c.bounds-own.result.from) t (subst (λ b. Lies b t) (sym c.bounds-own.ensures) (subst (λ (z : Sets). Lies z.no.bounds t) c.index-live-at.is o)).0) c.ask_children.ensures
     (settled_stands nodes tr c.args.live.now mid c.args.shown.now c.args.i e st)

@@ -12,7 +12,7 @@ runs-preserved c = λ t a u. elim (sides (place c.runs.cut) t) [
   | inl b ↦ c.runs.invariant t a b
   | inr b ↦ elim (sides (place c.in-Some.span.to) t) [
     | inl d ↦ inl (past_one c.args.own.now.yes.spans.items c.in-Some.span (place c.runs.cut) t c.in-Some.ensures.some.0 c.in-Some.ensures.some.1 b d)
-    | inr d ↦ inr (c.past-cut-2.ensures t d u)
+    | inr d ↦ inr (c.past-cut-in-runs.ensures t d u)
   ]
 ]
 

@@ -8,7 +8,8 @@ use Rattle.early_verdict.proofs.MadeLemmas.{shown_more}
 use Rattle.early_verdict.proofs.making.shown_of.Goals as goal
 
 nothing_at : (xs : List Sets) (i : ℕ) (x : Sets) → xs ≡ [] → slice_get xs i ≡ Some x → ⊥
-nothing_at xs i x e f = let g : slice_get {Sets} [] i ≡ Some x = subst (λ l. slice_get l i ≡ Some x) e f in cc
+nothing_at [] i x e f = let g : None ≡ Some x = f in cc
+nothing_at (y ∷ xs) i x e f = let g : y ∷ xs ≡ [] = e in cc
 
 pub loop-own-init : goal.loop-own-init
 loop-own-init c = record {
