@@ -1,7 +1,7 @@
 //! The verdict at the start, at the first row that settles it.
 //!
 //! An early verdict stands for the rows that it took, and whether they have ended. It stores none of them: what its sets tell is what the
-//! rows settle, whatever they were.
+//! rows settle, whatever they were; and of that it keeps what a later answer may look at.
 ghost use Rattle.std.specs.Prelude.{◌≡◌, ◌<◌, ◌++◌, ◌∷◌, [], List, length, IfOk, IfSome, IsSome, MatchResult, IfErr, None, true, false, option_map};
 ghost use Rattle.stl_syntax.specs.Trace.{Row as ARow, Trace as ATrace};
 ghost use Rattle.early_verdict.specs.Living.{NetStands};
@@ -42,7 +42,7 @@ pub struct Early {
     formula: Formula,
     header: Header,
     bound: Bound,
-    /// Of each node, in post-order; none before the first row, and none once a row has decided.
+    /// The sets of each node; none before the first row, and none once a row has decided.
     net: Net,
     begin: u32,
     last: Option<Row>,

@@ -9,23 +9,22 @@ use Rattle.early_verdict.specs.declared.sets.Sets.{Sets}
 use Rattle.early_verdict.proofs.GoingOn.{first_stand, leaves_bound}
 use Rattle.early_verdict.proofs.LiveMaking.{shown_tidy}
 use Rattle.early_verdict.proofs.events.take_first.Goals as goal
-use Rattle.early_verdict.proofs.events.take_first.Goals.{In_ok-shown}
 
-are : (c : In_ok-shown) → AreShownOf c.in_ok-live.live.items c.in_ok-shown.shown.items
-are c = subst (λ (xs : List Sets). AreShownOf xs c.in_ok-shown.shown.items) c.deref.ensures.value c.in_ok-shown.ensures
+are : (live seen shown : List Sets) → seen ≡ live → AreShownOf seen shown → AreShownOf live shown
+are live seen shown e h = subst (λ (xs : List Sets). AreShownOf xs shown) e h
 
 pub step_sets-requires-clause-count : goal.step_sets-requires-clause-count
 step_sets-requires-clause-count c = c.in_ok-live.ensures.have.count
 
 pub step_sets-requires-clause-shown_count : goal.step_sets-requires-clause-shown_count
-step_sets-requires-clause-shown_count c = (are c).count ∙ c.in_ok-live.ensures.have.count
+step_sets-requires-clause-shown_count c = (are c.in_ok-live.live.items c.deref.result.now c.in_ok-shown.shown.items c.deref.ensures.value c.in_ok-shown.ensures).count ∙ c.in_ok-live.ensures.have.count
 
 pub step_sets-requires-clause-tidy : goal.step_sets-requires-clause-tidy
 step_sets-requires-clause-tidy c = c.in_ok-live.ensures.tidy
 
 pub step_sets-requires-clause-shown_tidy : goal.step_sets-requires-clause-shown_tidy
 step_sets-requires-clause-shown_tidy c =
-    shown_tidy c.args.formula.now.nodes (whole (pos c.time.result)) c.in_ok-live.live.items c.in_ok-shown.shown.items c.in_ok-live.ensures (are c)
+    shown_tidy c.args.formula.now.nodes (whole (pos c.time.result)) c.in_ok-live.live.items c.in_ok-shown.shown.items c.in_ok-live.ensures (are c.in_ok-live.live.items c.deref.result.now c.in_ok-shown.shown.items c.deref.ensures.value c.in_ok-shown.ensures)
     (λ i n at. placed c.args.formula.now.nodes i n c.requires.open.1.formed.post_order at)
 
 pub step_sets-requires-clause-none : goal.step_sets-requires-clause-none
@@ -42,5 +41,5 @@ returns c = λ header o.
           c.step_sets.new.net.live.items c.step_sets.new.net.shown.items o.formed o.some o.bound
           c.requires.width c.first_event-event.ensures.open (c.first_event-event.ensures.happens header c.args.row.now c.time-2.ensures)
           (subst (λ (t : ℕ). AreMade c.args.formula.now.nodes (whole (pos t)) c.in_ok-live.live.items) c.time.ensures c.in_ok-live.ensures)
-          (are c) k.stepped k.shows k.tidy k.fits,
+          (are c.in_ok-live.live.items c.deref.result.now c.in_ok-shown.shown.items c.deref.ensures.value c.in_ok-shown.ensures) k.stepped k.shows k.tidy k.fits,
     )

@@ -1,10 +1,10 @@
 use Rattle.std.proofs.Common.{rules, ◌≡◌, ◌∙◌, ◌≤◌, sym, subst, ap, ◌++◌, List, length, take, drop, arith}
 use Rattle.stl_syntax.specs.Trace.{Trace}
+use Rattle.stl_syntax.specs.declared.node.Node.{Node}
 use Rattle.early_verdict.specs.Living.{NetStands}
 use Rattle.early_verdict.specs.declared.sets.Sets.{Sets}
 use Rattle.early_verdict.proofs.Opening.{sets_written}
 use Rattle.early_verdict.proofs.letting.let_go.Goals as goal
-use Rattle.early_verdict.proofs.letting.let_go.Goals.{After-deref_mut-in-loop-i}
 
 pub loop-i-init : goal.loop-i-init
 loop-i-init c = record { within = omega (arith, c.len-count.ensures.count); stands = λ tr h. h }
@@ -16,15 +16,11 @@ pub let_go_at-requires-clause-formed : goal.let_go_at-requires-clause-formed
 let_go_at-requires-clause-formed c = c.len-count.ensures.well_formed.nodes
 
 -- what stands, seen as slices
-seen : (c : After-deref_mut-in-loop-i) (tr : Trace) → NetStands c.args.formula.now.nodes tr c.loop-i.net.live.items c.loop-i.net.shown.items
-    → NetStands c.args.formula.now.nodes tr c.deref_mut.result.now c.deref_mut-in-loop-i.result.now
-seen c tr h =
-    let nodes = c.args.formula.now.nodes in
-    subst (λ (xs : List Sets). NetStands nodes tr xs c.deref_mut-in-loop-i.result.now) (sym c.deref_mut.ensures.value)
-    (subst (λ (xs : List Sets). NetStands nodes tr c.loop-i.net.live.items xs) (sym c.deref_mut-in-loop-i.ensures.value) h)
+seen : (nodes : List Node) (tr : Trace) (live shown xs ys : List Sets) → xs ≡ live → ys ≡ shown → NetStands nodes tr live shown → NetStands nodes tr xs ys
+seen nodes tr live shown xs ys e f h = subst (λ (zs : List Sets). NetStands nodes tr zs ys) (sym e) (subst (λ (zs : List Sets). NetStands nodes tr live zs) (sym f) h)
 
 pub let_go_at-requires-clause-stands : goal.let_go_at-requires-clause-stands
-let_go_at-requires-clause-stands c = (c.requires.0, seen c c.requires.0 (c.loop-i.invariant.stands c.requires.0 c.requires.1))
+let_go_at-requires-clause-stands c = (c.requires.0, seen c.args.formula.now.nodes c.requires.0 c.loop-i.net.live.items c.loop-i.net.shown.items c.deref_mut.result.now c.deref_mut-in-loop-i.result.now c.deref_mut.ensures.value c.deref_mut-in-loop-i.ensures.value (c.loop-i.invariant.stands c.requires.0 c.requires.1))
 
 pub loop-i-preserved : goal.loop-i-preserved
 loop-i-preserved c =
@@ -33,7 +29,7 @@ loop-i-preserved c =
     let shown = c.loop-i.net.shown in
     let new = c.let_go_at.new.live in
     let new_shown = c.let_go_at.new.shown in
-    let was = seen c c.requires.0 (c.loop-i.invariant.stands c.requires.0 c.requires.1) in
+    let was = seen c.args.formula.now.nodes c.requires.0 c.loop-i.net.live.items c.loop-i.net.shown.items c.deref_mut.result.now c.deref_mut-in-loop-i.result.now c.deref_mut.ensures.value c.deref_mut-in-loop-i.ensures.value (c.loop-i.invariant.stands c.requires.0 c.requires.1) in
     let is = c.let_go_at.ensures c.requires.0 was in
     let a : length live.items ≡ live.len = search rules in
     let b : length shown.items ≡ shown.len = search rules in
@@ -45,7 +41,7 @@ loop-i-preserved c =
       stands = λ tr h.
           subst (λ (xs : List Sets). NetStands nodes tr xs (take shown.len (new_shown ++ drop (length new_shown) shown.items))) (sets_written new live.items live.len long)
           (subst (λ (xs : List Sets). NetStands nodes tr new xs) (sets_written new_shown shown.items shown.len long_shown)
-          (c.let_go_at.ensures tr (seen c tr (c.loop-i.invariant.stands tr h))));
+          (c.let_go_at.ensures tr (seen c.args.formula.now.nodes tr c.loop-i.net.live.items c.loop-i.net.shown.items c.deref_mut.result.now c.deref_mut-in-loop-i.result.now c.deref_mut.ensures.value c.deref_mut-in-loop-i.ensures.value (c.loop-i.invariant.stands tr h))));
     }
 
 pub returns : goal.returns
