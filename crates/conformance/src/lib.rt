@@ -14,8 +14,6 @@ mod dropping;
 #[cfg(test)]
 mod dropping_tests;
 #[cfg(test)]
-mod early_tests;
-#[cfg(test)]
 mod eval_tests;
 #[cfg(test)]
 mod evals;
@@ -37,8 +35,6 @@ mod online_nodes_tests;
 mod operator_tests;
 #[cfg(test)]
 mod pl_signal_tests;
-#[cfg(test)]
-mod plain_early;
 #[cfg(test)]
 mod plain_net;
 #[cfg(test)]
