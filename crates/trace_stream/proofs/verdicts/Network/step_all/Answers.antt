@@ -2,7 +2,7 @@ use Rattle.std.proofs.Common.{◌<◌, ◌++◌, length, refl, sym, subst, ◌�
 use Rattle.online_nodes.specs.Driven.{steps_of}
 use Rattle.online_net.specs.Nets.{Stands}
 use Rattle.trace_stream.proofs.Taking.{steps_on}
-use Rattle.trace_stream.proofs.verdicts.Verdicts.step_all.Goals as goal
+use Rattle.trace_stream.proofs.verdicts.Network.step_all.Goals as goal
 
 pub loop-node-init : goal.loop-node-init
 loop-node-init c = record {

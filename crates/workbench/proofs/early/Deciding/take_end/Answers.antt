@@ -1,6 +1,6 @@
 use Rattle.std.proofs.Common.{subst, sym, refl, ap, ◌∙◌, length}
 use Rattle.workbench.proofs.EarlyFollows.{end_on, some_last}
-use Rattle.workbench.proofs.early.DecidingFollow.end.Goals as goal
+use Rattle.workbench.proofs.early.Deciding.take_end.Goals as goal
 
 pub end-requires-clause-open : goal.end-requires-clause-open
 end-requires-clause-open c = c.requires.2.stands.stands.is_ended

@@ -3,7 +3,7 @@ use Rattle.std.specs.Prelude.{◌≢◌}
 use Rattle.online_nodes.specs.Network.{close, take as taken}
 use Rattle.trace_stream.proofs.Watched.{pass_before}
 use Rattle.trace_stream.proofs.WatchedRows.{may_end, places, steps_stand, passing, can_take, is_out, start_kept, end_followed}
-use Rattle.trace_stream.proofs.verdicts.VerdictsFollow.end.Goals as goal
+use Rattle.trace_stream.proofs.verdicts.Verdicts.take_end.Goals as goal
 
 pub close-requires : goal.close-requires
 close-requires c = let (case, made, k, t) = c.requires in may_end c.args.self.now case k.stands t

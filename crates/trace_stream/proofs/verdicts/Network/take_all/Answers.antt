@@ -5,7 +5,7 @@ use Rattle.online_nodes.specs.Held.{held_at}
 use Rattle.online_net.specs.Nets.{Parts, Stands, IsNext}
 use Rattle.trace_stream.specs.Watching.{HasTaken}
 use Rattle.trace_stream.proofs.Taking.{none_yet, takes_one, all_taken, measure_falls}
-use Rattle.trace_stream.proofs.verdicts.Verdicts.take_all.Goals as goal
+use Rattle.trace_stream.proofs.verdicts.Network.take_all.Goals as goal
 
 pub loop-verdict-init : goal.loop-verdict-init
 loop-verdict-init c = record {
