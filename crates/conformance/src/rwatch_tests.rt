@@ -20,11 +20,7 @@ const MARGINS: [(&str, &str, &str); 6] = [
         TRIANGLE,
         "[0] 0\n(0,5) 0 -> 0\n[5] 0\n(5,10) 0 -> -5\n[10] -5\n",
     ),
-    (
-        "once[0,4] x >= 5",
-        RISE,
-        "[0] -5\n(0,10) -5 -> 5\n[10] 5\n",
-    ),
+    ("once[0,4] x >= 5", RISE, "[0] -5\n(0,10) -5 -> 5\n[10] 5\n"),
     (
         "historically x >= 5",
         RISE,
