@@ -214,7 +214,7 @@ margins_over f bytes text live (holds, over) e =
       over.is,
       record {
         tr = over.case.trace;
-        trace = subst (λ (g : Formula). IsWhole whole_limits g bytes over.case.trace) e over.trace;
+        trace = subst (λ (g : Formula). IsWhole stream_limits g bytes over.case.trace) e over.trace;
         given = over.complete.ended.given;
         stands = subst (λ (ns : List Node). StandsFor ns over.case.trace.header over.follower.net (record { rows = over.case.trace.rows; ended = true }) over.complete.ended.given) is
             over.complete.ended.stands;

@@ -12,7 +12,7 @@ returns-in-Err-clause-ran g c = λ words ask. starved_left _ _ _ _ _ (line_text 
 
 pub stream-ending-requires : goal.stream-ending-requires
 stream-ending-requires g c =
-    at_rest (λ s k made. IsMargined false s k) margins c.in-Ok.live [] []
+    at_rest (λ s k made. IsMargined false s k made) margins c.in-Ok.live [] []
     (record { live_for = c.in-Ok.ensures.live; limits = c.in-Ok.ensures.limits; empty = c.in-Ok.ensures.empty })
 
 pub returns-then-is_err-clause-ran : goal.returns-then-is_err-clause-ran
@@ -21,7 +21,7 @@ returns-then-is_err-clause-ran g c = λ words ask.
     let e = c.in-Ok.ensures.formula in
     margins_stopped words c.args.formula c.in-Ok.live.formula c.formula.result.now _ _ _ _ ask e
     (c.formula.ensures ∙ same_measured c.stream-ending.new.pusher.formula c.in-Ok.live.formula c.stream-ending.ensures.same ∙ e)
-    c.stream-ending.result c.finish-status.result told.0 c.finish-status.ensures.status (IsDone (λ s k made. IsMargined true s k) margins c.stream-ending.new.pusher)
+    c.stream-ending.result c.finish-status.result told.0 c.finish-status.ensures.status (IsDone (λ s k made. IsMargined true s k made) margins c.stream-ending.new.pusher)
     c.stream-ending.ensures.ending (sym c.is_err.ensures.value ∙ c.if-is_err.true) c.stream-ending.ensures.ends told.1 told.2
 
 pub net_of-requires : goal.net_of-requires
@@ -36,7 +36,7 @@ returns-clause-ran g c = λ words ask.
     let live = c.stream-ending.new.pusher in
     let same = same_measured live.formula c.in-Ok.live.formula c.stream-ending.ensures.same ∙ e in
     margins_run words c.args.formula c.in-Ok.live.formula c.formula.result.now c.net_of.result _ _ _ _ _ ask e (c.formula.ensures ∙ same)
-    c.stream-ending.result c.finish-status.result told.0 c.finish-status.ensures.status (IsDone (λ s k made. IsMargined true s k) margins live)
+    c.stream-ending.result c.finish-status.result told.0 c.finish-status.ensures.status (IsDone (λ s k made. IsMargined true s k made) margins live)
     c.stream-ending.ensures.ending (net_of_done c.args.formula live c.stream-ending.result c.net_of.result same c.net_of.ensures)
     c.stream-ending.ensures.ends told.1 told.2
     (margins_answer c.stream-ending.result c.net_of.result c.args.kept.now (sym c.is_err.ensures.value ∙ c.if-is_err.false))
