@@ -30,6 +30,8 @@ mod io_edge_tests;
 #[cfg(test)]
 mod margin_tests;
 #[cfg(test)]
+mod mux_tests;
+#[cfg(test)]
 mod online_net_tests;
 #[cfg(test)]
 mod online_nodes_tests;
@@ -49,6 +51,8 @@ mod run_tests;
 mod rwatch_tests;
 #[cfg(test)]
 mod seg_pool_tests;
+#[cfg(test)]
+mod session_mux_tests;
 #[cfg(test)]
 mod shape_tests;
 #[cfg(test)]
