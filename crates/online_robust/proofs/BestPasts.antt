@@ -123,8 +123,14 @@ settled_over : (ended : Bool) (now : ℤ) (p : Subformula) (tr : Trace) (of : �
 settled_over ended now p tr of side a a_in b_in tau line (inl (u, point, (inside, before), v, f, constant)) =
     inl (u, point, (holds_past (start tr) (stop tr) of side a a_in b_in tau u inside, before), v, f, constant)
 settled_over ended now p tr of side a a_in b_in tau line (inr (u, point, (closes, before), v, sides, constant)) =
-    inr (u, point, (holds_past (start tr) (stop tr) of side a true true tau u closes, before), v,
-    sides_past (Robustness p tr) (start tr) (stop tr) a (neg_ℤ (pos 4294967296)) tau u v sides, constant)
+    inr (
+      u,
+      point,
+      (holds_past (start tr) (stop tr) of side a true true tau u closes, before),
+      v,
+      sides_past (Robustness p tr) (start tr) (stop tr) a (neg_ℤ (pos 4294967296)) tau u v sides,
+      constant,
+    )
 
 pub settled_past : (f : ℕ → Subformula) (place : ℕ) (n : Node) (w : Window) (tr : Trace) (ended : Bool) (now : ℤ) → IsPastOf n w → (tau : Rational) (line : Affine)
     → SettledOver (Robustness (f w.of) tr) (start tr) (stop tr) (whole (front_at ended now (f w.of))) w tau line

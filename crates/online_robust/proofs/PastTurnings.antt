@@ -69,14 +69,14 @@ module _ (t : Turn) (z : Endless) (e : Held) (to : ℕ) (b : Belongs t (Op.Past 
           let le = stays_begun t z e to b g before begun in
           let forth = subst (λ (o : Option ℤ). IfSome o (λ g. (pos (begin_of t) ≤ℤ g) × (g <ℤ pos to))) before b.forth in
           let inputs = inputs_of (Robustness (subformula t.nodes z.window.of) t.trace) (reach_before t) (begin_of t) (back_of (begin_of t) (Some g) z.window.high)
-              (front_at t.ended (pos t.now) (subformula t.nodes z.window.of)) (held_at e z.window.of) le
-              (subst (λ (o : Option ℤ). IsInput (Robustness (subformula t.nodes z.window.of) t.trace) (reach_before t) (begin_of t) (back_of (begin_of t) o z.window.high)
-              (front_at t.ended (pos t.now) (subformula t.nodes z.window.of)) (held_at e z.window.of)) before (input t z e to b)) in
+          (front_at t.ended (pos t.now) (subformula t.nodes z.window.of)) (held_at e z.window.of) le
+          (subst (λ (o : Option ℤ). IsInput (Robustness (subformula t.nodes z.window.of) t.trace) (reach_before t) (begin_of t) (back_of (begin_of t) o z.window.high)
+          (front_at t.ended (pos t.now) (subformula t.nodes z.window.of)) (held_at e z.window.of)) before (input t z e to b)) in
           let last : whole g ≤ʳ whole (pos to) = le_of_lt (lt_whole forth.1) in (
             whole g,
             sym (from_some t (Op.Past z) e to b g before),
             subst (λ (v : Window). CanPass (scope_at (subformula t.nodes z.window.of) t.trace (reach_before t) (whole (front_at t.ended (pos t.now) (subformula t.nodes z.window.of)))
-            (shifted (whole (pos to)) v.high) (value s.at)) (own t z e to b) (whole g) (whole (pos to)) s e) state.0
+                (shifted (whole (pos to)) v.high) (value s.at)) (own t z e to b) (whole g) (whole (pos to)) s e) state.0
                 (past_go_on (subformula t.nodes z.window.of) t.trace (reach_before t) (own t z e to b) g s e
                 (subst (λ l. StoodPast (subformula t.nodes z.window.of) t.trace (reach_before t) (own t z e to b) (whole g) s l)
                 ((here t z e to b).seen e ∙ ap (λ (v : Window). (edge_at e v.of).seen) (sym state.0)) over)
@@ -191,9 +191,9 @@ module _ (t : Turn) (z : Endless) (e : Held) (to : ℕ) (b : Belongs t (Op.Past 
     first_turn : (value s.at ≈ whole (pos (begin_of t) -ℤ pos 4294967296)) → s.last ≡ None → CanPass x (own t z e to b) (start t.trace) (whole (pos to)) s e
     first_turn at last =
         let before : value s.at <ʳ start t.trace = lt_of_le_of_lt (le_of_same at) (lt_whole {j = pos (begin_of t) -ℤ pos 4294967296} {k = pos (begin_of t)}
-            (omega (arith, ints))) in
+        (omega (arith, ints))) in
         let low : whole (neg_ℤ (pos (2 ^ 34))) ≤ʳ value s.at = le_trans (le_whole {j = neg_ℤ (pos (2 ^ 34))} {k = pos (begin_of t) -ℤ pos 4294967296}
-            (omega (arith, ints))) (ge_of_same at) in
+        (omega (arith, ints))) (ge_of_same at) in
         let near : IsWithin (2 ^ 34) (value s.at) = (low, le_trans (le_of_lt before) (tick_within (first_tick t z e to b)).1) in
         let now = first near (lt_of_le_of_lt (no_later (value s.at) z.window.high (here t z e to b).behind) before) in
         record {
@@ -211,7 +211,7 @@ module _ (t : Turn) (z : Endless) (e : Held) (to : ℕ) (b : Belongs t (Op.Past 
     later_turn g r placed last short there from after =
         let at_g : value s.at ≈ whole g = subst (λ (i : Frac). value i ≈ whole g) (sym placed) there.0 in
         let early : shifted (value s.at) z.window.high <ʳ start t.trace = lt_of_le_of_lt
-            (le_of_same (same_trans (same_shifted z.window.high at_g) (shifted_whole g z.window.high))) (lt_whole short) in
+        (le_of_same (same_trans (same_shifted z.window.high at_g) (shifted_whole g z.window.high))) (lt_whole short) in
         let begins : start t.trace ≤ʳ whole g = le_whole {j = pos (begin_of t)} {k = g} from in
         let order : whole g ≤ʳ whole (pos to) = le_of_lt (lt_whole after) in
         let tick : IsTick (whole g) = (le_trans (first_tick t z e to b).0 begins, le_trans order (to_tick t z e to b).1) in

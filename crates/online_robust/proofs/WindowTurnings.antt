@@ -67,14 +67,14 @@ module _ (t : Turn) (z : Lazy) (e : Held) (to : ℕ) (b : Belongs t (Op.Sweep z)
           let le = stays_begun t z e to b g before begun in
           let forth = subst (λ (o : Option ℤ). IfSome o (λ g. (pos (begin_of t) ≤ℤ g) × (g <ℤ pos to))) before b.forth in
           let inputs = inputs_of (Robustness (subformula t.nodes z.window.of) t.trace) (reach_before t) (begin_of t) (back_of (begin_of t) (Some g) z.window.low)
-              (front_at t.ended (pos t.now) (subformula t.nodes z.window.of)) (held_at e z.window.of) le
-              (subst (λ (o : Option ℤ). IsInput (Robustness (subformula t.nodes z.window.of) t.trace) (reach_before t) (begin_of t) (back_of (begin_of t) o z.window.low)
-              (front_at t.ended (pos t.now) (subformula t.nodes z.window.of)) (held_at e z.window.of)) before (input t z e to b)) in
+          (front_at t.ended (pos t.now) (subformula t.nodes z.window.of)) (held_at e z.window.of) le
+          (subst (λ (o : Option ℤ). IsInput (Robustness (subformula t.nodes z.window.of) t.trace) (reach_before t) (begin_of t) (back_of (begin_of t) o z.window.low)
+          (front_at t.ended (pos t.now) (subformula t.nodes z.window.of)) (held_at e z.window.of)) before (input t z e to b)) in
           let last : whole g ≤ʳ whole (pos to) = le_of_lt (lt_whole forth.1) in (
             whole g,
             sym (from_some t (Op.Sweep z) e to b g before),
             subst (λ (v : Window). CanSweep (scope_at (subformula t.nodes z.window.of) t.trace (reach_before t) (whole (front_at t.ended (pos t.now) (subformula t.nodes z.window.of)))
-            (shifted (whole (pos to)) v.high) (value s.place.at)) (own t z e to b) (whole g) (whole (pos to)) s e) state.0
+                (shifted (whole (pos to)) v.high) (value s.place.at)) (own t z e to b) (whole g) (whole (pos to)) s e) state.0
                 (can_go_on (subformula t.nodes z.window.of) t.trace (reach_before t) (own t z e to b) g s e
                 (subst (λ l. StoodOver (subformula t.nodes z.window.of) t.trace (reach_before t) (own t z e to b) (whole g) s l)
                 ((here t z e to b).seen e ∙ ap (λ (v : Window). (edge_at e v.of).seen) (sym state.0)) over)

@@ -71,37 +71,16 @@ fn ahead(of: u32, side: Side, low: u32, high: u32, low_in: bool, high_in: bool) 
     requires { low ≤ high }
     ensures { IsWindowOperator (ahead_window of side low high low_in high_in) result }
 {
-    window(
-        of,
-        side,
-        i64::from(low),
-        i64::from(high),
-        low_in,
-        high_in,
-    )
+    window(of, side, i64::from(low), i64::from(high), low_in, high_in)
 }
 
 /// That of a window behind: without a low end where it has no far bound.
-fn behind(
-    of: u32,
-    side: Side,
-    low: u32,
-    high: Option<u32>,
-    low_in: bool,
-    high_in: bool,
-) -> Operator
+fn behind(of: u32, side: Side, low: u32, high: Option<u32>, low_in: bool, high_in: bool) -> Operator
     requires { IsInOrder low high }
     ensures { MatchOption high (result ≡ Op.Past (endless_of (past_window of side low low_in))) (λ b. IsWindowOperator (behind_window of side low b low_in high_in) result) }
 {
     match high {
-        Some(high) => window(
-            of,
-            side,
-            -i64::from(high),
-            -i64::from(low),
-            high_in,
-            low_in,
-        ),
+        Some(high) => window(of, side, -i64::from(high), -i64::from(low), high_in, low_in),
         None => Operator::Past(Endless::new(Window {
             of,
             side,

@@ -52,8 +52,12 @@ seen-requires c =
     } in
     record {
       offset = at.offset;
-      moved = (x.reach, at.small, subst (λ (m : Margin). IsMovedBy x.reach m) (sym c.margin-in_default.ensures)
-          (behind_moves x c.args.self.now c.args.edges.now t at c.args.gap.now first gap c.take.new.self c.take-in_default.new.self c.in-Some.point two));
+      moved = (
+        x.reach,
+        at.small,
+        subst (λ (m : Margin). IsMovedBy x.reach m) (sym c.margin-in_default.ensures)
+            (behind_moves x c.args.self.now c.args.edges.now t at c.args.gap.now first gap c.take.new.self c.take-in_default.new.self c.in-Some.point two),
+      );
     }
 
 pub returns-in-Greater : goal.returns-in-Greater
