@@ -1,4 +1,4 @@
-//! Streamed margins, in work: the parts of a margin over time, the edges between the nodes of a network, and the best of constants that
+//! Streamed margins: the parts of a margin over time, the edges between the nodes of a network, and the best of constants that
 //! come and leave.
 #![tactic(auto)]
 
