@@ -129,7 +129,7 @@ module _ (ended : Bool) (tr : Trace) (a b : ℕ) (order : a ≤ b) (p q : Lists)
       let e = later t a in
       let d = window_end ended tr (later t b) in
       elim (all_or_broken q.no p.no x.fail.spans.items tidy_q tidy_fail d.0 t e (later_from t a)
-      (λ u k l m. h.fail.has u ((wide t u i (le_trans (later_from t a) k) (d.1 u l).0).0) m)
+      (λ u k l m. h.fail.has u ((wide t u i k (d.1 u l).0).0) m)
       (λ u k l. f u (record { after = le_trans s (le_trans (later_from t a) k); begins = k; ends = (d.1 u l).0 }) (d.1 u l).1)) [
         | inl all ↦ inl (h.never.has t ((own t i).0) (λ u o c. all u o.begins (d.2 u o.ends c)))
         | inr (v, w, g) ↦

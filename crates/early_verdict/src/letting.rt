@@ -193,11 +193,13 @@ fn cut_run(own: &mut Sets, wide: Stretch, cut: &Cut)
     requires inside { ArePartsInside wide own.old }
     ensures { IsRunCut (value cut.now.time) wide own.old own.new }
 {
-    let Some(parts) = &mut own.parts else {
-        return;
-    };
-    cut_holding(&mut parts.holding, cut);
-    cut_failing(&mut parts.failing, wide, cut);
+    match &mut own.parts {
+        Some(parts) => {
+            cut_holding(&mut parts.holding, cut);
+            cut_failing(&mut parts.failing, wide, cut);
+        }
+        None => {}
+    }
 }
 
 /// So of the until at a place.
@@ -239,7 +241,8 @@ fn shown_at(shown: &[Sets], place: u32) -> Stretch
     requires { place < length shown.now }
     ensures { (x : ASets) × (slice_get shown.now place ≡ Some x) × (result ≡ x.no.bounds) }
 {
-    shown[place as usize].no.bounds()
+    let at = place as usize;
+    shown[at].no.bounds()
 }
 
 /// Lets go of what the node at the place needs no more, of its own and of its children's.
