@@ -14,6 +14,8 @@ mod dropping;
 #[cfg(test)]
 mod dropping_tests;
 #[cfg(test)]
+mod early_tests;
+#[cfg(test)]
 mod eval_tests;
 #[cfg(test)]
 mod evals;
@@ -27,6 +29,8 @@ mod gen_tests;
 mod io_edge_tests;
 #[cfg(test)]
 mod margin_tests;
+#[cfg(test)]
+mod mux_tests;
 #[cfg(test)]
 mod online_net_tests;
 #[cfg(test)]
@@ -45,6 +49,8 @@ mod report_tests;
 mod run_tests;
 #[cfg(test)]
 mod seg_pool_tests;
+#[cfg(test)]
+mod session_mux_tests;
 #[cfg(test)]
 mod shape_tests;
 #[cfg(test)]

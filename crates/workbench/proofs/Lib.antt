@@ -20,11 +20,14 @@ mod ExplainTexts
 mod JsonTexts
 pub mod OwedLaws
 pub mod SureLines
+pub mod SureDecisions
 pub mod OneRequest
 pub mod EndsOnce
 pub mod AtRest
+pub mod ManyLines
 pub mod Reported
 pub mod Summaries
 pub mod NumberWords
 pub mod Fitting
 pub mod Completing
+pub mod EarlyFollows

@@ -1,11 +1,17 @@
 //! What a run leaves to its caller.
 use crate::watch::Watch;
+use early_verdict::Early;
+use session_mux::Mux;
 
-/// What a run that answers row by row leaves to its caller.
+/// What a run that answers row by row, or line by line, leaves to its caller.
 #[derive(Drop)]
 pub enum Kept {
     /// Nothing was left.
     Nothing,
     /// The watch by which `watch` answered.
     Watch(Watch),
+    /// What decided, by which `early` answered.
+    Early(Early),
+    /// The sessions that `mux` answered.
+    Mux(Mux),
 }

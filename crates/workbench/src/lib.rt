@@ -2,6 +2,8 @@
 #![tactic(auto)]
 
 mod answer;
+mod decided;
+mod early;
 mod entry;
 mod explain;
 mod fault;
@@ -11,6 +13,7 @@ pub mod laws;
 mod line;
 mod line_laws;
 mod live;
+mod many;
 mod output;
 mod owing_laws;
 mod reading;

@@ -15,11 +15,13 @@ pub(crate) enum Command {
     Table,
 }
 
-/// How a formula is answered: over the whole trace, or row by row.
+/// How a formula is answered: over the whole trace, row by row, or for several sessions in one input.
 #[derive(Clone, Copy)]
 pub(crate) enum Mode {
     Whole(Command),
     Watch,
+    Early,
+    Mux,
 }
 
 /// How to answer, and the text of the formula.
@@ -44,10 +46,12 @@ fn named(word: &str) -> Option<Mode>
     match word {
         "check" => Some(Mode::Whole(Command::Check)),
         "watch" => Some(Mode::Watch),
+        "early" => Some(Mode::Early),
         "robust" => Some(Mode::Whole(Command::Robust)),
         "explain" => Some(Mode::Whole(Command::Explain)),
         "json" => Some(Mode::Whole(Command::Json)),
         "table" => Some(Mode::Whole(Command::Table)),
+        "mux" => Some(Mode::Mux),
         _ => None,
     }
 }
