@@ -1,19 +1,21 @@
 -- What the sets of all nodes tell, where they fit.
-use Rattle.std.proofs.Common.{◌≡◌, refl, sym, ap, subst, ℕ, zero, suc, ◌<◌, ◌≤◌, true, false, Option, Some, None, List, [], ◌∷◌, length, arith, below_more}
-use Rattle.std.specs.Prelude.{MatchOption, slice_get, slice_index_or}
-use Rattle.stl_syntax.specs.Trace.{Trace, start}
-use Rattle.stl_syntax.specs.Formula.{subformula}
+use Rattle.std.proofs.Common.{◌≡◌, ◌⊎◌, inl, inr, refl, sym, ap, subst, ℕ, zero, suc, ◌<◌, ◌≤◌, Bool, true, false, Some, None, List, [], ◌∷◌, length, arith, below_more}
+use Rattle.std.specs.Prelude.{slice_get, slice_index_or, IsTrue, IsFalse}
+use Rattle.rational.specs.Time.{Rational, ◌≤ʳ◌}
+use Rattle.stl_syntax.specs.Trace.{Trace, start, stop}
+use Rattle.stl_syntax.specs.Formula.{Subformula, subformula, constant, atom, negation, conjunction, disjunction, implication, until, eventually, always, since, once, historically}
+use Rattle.stl_syntax.specs.Truth.{Truth, holds_at}
 use Rattle.stl_syntax.specs.Early.{Settled, SettledNot}
 use Rattle.stl_syntax.specs.WellFormed.{AreWellFormed}
 use Rattle.stl_syntax.specs.declared.node.Node.{Node}
 use Rattle.stl_syntax.specs.declared.node.Node.TheVariants.{Const}
 use Rattle.stl_syntax.proofs.FormulaLemmas.{subformula-at}
 use Rattle.stl_syntax.proofs.PostOrderLemmas.{placed, slice_get_at}
-use Rattle.early_verdict.specs.Spans.{AreTidy}
-use Rattle.early_verdict.specs.Fitting.{Lists, lists_of, lists_at, SayBoth, HasFailBounds}
-use Rattle.early_verdict.specs.Standing.{HaveSets, HasSets, AllFit, AllTidy, top_at, left_of}
+use Rattle.early_verdict.specs.Spans.{AreTidy, Lies, IsOn}
+use Rattle.early_verdict.specs.Fitting.{Lists, lists_of, lists_at, SayBoth}
+use Rattle.early_verdict.specs.Standing.{AllFit, AllTidy}
+use Rattle.early_verdict.specs.Living.{AreLive, IsLive, IsShown, Known}
 use Rattle.early_verdict.specs.declared.sets.Sets.{Sets}
-use Rattle.early_verdict.proofs.Settling.{Known}
 use Rattle.early_verdict.proofs.SettledSets.{node_told}
 use Rattle.early_verdict.proofs.EndedSets.{Final, node_final}
 
@@ -36,67 +38,141 @@ lists_tidy [] h p = (tt, tt)
 lists_tidy (s ∷ sets) h zero = let t = h 0 s refl in (t.yes, t.no)
 lists_tidy (s ∷ sets) h (suc p) = lists_tidy sets (λ i r e. h (suc i) r e) p
 
-module _ (nodes : List Node) (tr : Trace) (tops : List ℕ) (sets : List Sets) (formed : AreWellFormed nodes) (have : HaveSets nodes (start tr) tops sets)
-    (tidy : AllTidy sets) where
-  left_wide : (i : ℕ) (n : Node) (s : Sets) (h : HasSets (start tr) tops sets i n s) → MatchOption (left_of n) (Unit {0}) (λ p. top_at tops p ≡ h.wide)
-  left_wide i n s h = by_left (left_of n) h.left
-    where
-      by_left : (o : Option ℕ) → MatchOption o (s.parts ≡ None) (λ p. (top_at tops p ≡ h.wide) × ((l : Sets) → slice_get sets p ≡ Some l → HasFailBounds s l) × (s.parts ≡ None → ⊥))
-          → MatchOption o (Unit {0}) (λ p. top_at tops p ≡ h.wide)
-      by_left None e = tt
-      by_left (Some p) e = e.0
+-- what a node shows is what its shown sets lie within
+pub shown_is : (shown : List Sets) (i : ℕ) (x : Sets) (u : Rational) → slice_get shown i ≡ Some x → IsShown shown i u → Lies x.no.bounds u
+shown_is [] i x u e h = absurd h
+shown_is (y ∷ shown) zero x u e h = subst (λ z. Lies z.no.bounds u) (same y x e) h
+  where
+    same : (a b : Sets) → Some a ≡ Some b → a ≡ b
+    same a b e = cc
+shown_is (y ∷ shown) (suc i) x u e h = shown_is shown i x u e h
 
-  known_of : (i : ℕ) (n : Node) (s : Sets) → slice_get nodes i ≡ Some n → slice_get sets i ≡ Some s
-      → SayBoth s (Settled (subformula nodes i) tr) (SettledNot (subformula nodes i) tr)
-      → Known (start tr) (top_at tops i) (lists_at sets i) (Settled (subformula nodes i) tr) (SettledNot (subformula nodes i) tr)
-  known_of i n s at is h =
-      let asked = (have.has i n s at is).asked in
-      subst (λ (l : Lists). Known (start tr) (top_at tops i) l (Settled (subformula nodes i) tr) (SettledNot (subformula nodes i) tr)) (sym (lists_are sets i s is)) (record {
-        yes_in = λ u f l y. h.yes.has u ((asked.yes u).1 (f, l)) y;
-        yes_out = λ u o. (h.yes.only u o).1;
-        no_in = λ u f l y. h.no.has u ((asked.no u).1 (f, l)) y;
-        no_out = λ u o. (h.no.only u o).1;
-      })
+pub is_shown : (shown : List Sets) (i : ℕ) (x : Sets) (u : Rational) → slice_get shown i ≡ Some x → Lies x.no.bounds u → IsShown shown i u
+is_shown [] i x u e h = absurd (let f : None ≡ Some x = e in cc)
+is_shown (y ∷ shown) zero x u e h = subst (λ z. Lies z.no.bounds u) (sym (same y x e)) h
+  where
+    same : (a b : Sets) → Some a ≡ Some b → a ≡ b
+    same a b e = cc
+is_shown (y ∷ shown) (suc i) x u e h = is_shown shown i x u e h
 
-  -- one node more
-  next_known : AllFit nodes false tr sets → (m : ℕ) → m < length nodes
-      → ((p : ℕ) → p < m → Known (start tr) (top_at tops p) (lists_at sets p) (Settled (subformula nodes p) tr) (SettledNot (subformula nodes p) tr))
-      → Known (start tr) (top_at tops m) (lists_at sets m) (Settled (subformula nodes m) tr) (SettledNot (subformula nodes m) tr)
-  next_known fit m le known =
-      let n = slice_index_or nodes m (Const false) in
-      let at = slice_get_at nodes m (Const false) le in
-      let s = sets_at sets m (let c = have.count in omega (arith, le, c)) in
-      let h = have.has m n s.0 at s.1 in
-      let below = placed nodes m n formed.post_order at in
-      known_of m n s.0 at s.1
-      (subst (λ x. SayBoth s.0 (Settled x tr) (SettledNot x tr)) (sym (subformula-at nodes m n at below))
-      (node_told tr (top_at tops m) s.0 h.wide h.asked (tidy m s.0 s.1) (top_at tops) (lists_at sets) (subformula nodes) m known
-      (λ q. (lists_tidy sets tidy q).1) n below (formed.bounds m (Const false) le) (have.asks m n at) (left_wide m n s.0 h) (fit m n s.0 at s.1)))
+pub shown_within : (shown : List Sets) (i : ℕ) (u : Rational) → IsShown shown i u → i < length shown
+shown_within [] i u h = absurd h
+shown_within (x ∷ shown) zero u h = omega arith
+shown_within (x ∷ shown) (suc i) u h = let k = shown_within shown i u h in omega (arith, k)
 
-  pub all_known : AllFit nodes false tr sets → (m : ℕ) → m ≤ length nodes → (p : ℕ) → p < m
-      → Known (start tr) (top_at tops p) (lists_at sets p) (Settled (subformula nodes p) tr) (SettledNot (subformula nodes p) tr)
-  all_known fit zero le p lt = absurd (omega (arith, lt))
-  all_known fit (suc m) le p lt =
-      below_more (λ k. Known (start tr) (top_at tops k) (lists_at sets k) (Settled (subformula nodes k) tr) (SettledNot (subformula nodes k) tr)) m
-      (all_known fit m (omega (arith, le))) (next_known fit m (omega (arith, le)) (all_known fit m (omega (arith, le)))) p (omega (arith, lt))
+-- nothing is settled both true and false
+not_both_tests : (b : Bool) → IsTrue b → IsFalse b → ⊥
+not_both_tests true t f = cc
+not_both_tests false t f = cc
 
-  next_final : AllFit nodes true tr sets → (m : ℕ) → m < length nodes → ((p : ℕ) → p < m → Final tr (top_at tops p) (lists_at sets p) (subformula nodes p))
-      → Final tr (top_at tops m) (lists_at sets m) (subformula nodes m)
-  next_final fit m le known =
-      let n = slice_index_or nodes m (Const false) in
-      let at = slice_get_at nodes m (Const false) le in
-      let s = sets_at sets m (let c = have.count in omega (arith, le, c)) in
-      let h = have.has m n s.0 at s.1 in
-      let below = placed nodes m n formed.post_order at in
-      subst (λ (l : Lists). Final tr (top_at tops m) l (subformula nodes m)) (sym (lists_are sets m s.0 s.1))
-      (subst (λ x. Final tr (top_at tops m) (lists_of s.0) x) (sym (subformula-at nodes m n at below))
-      (node_final tr (top_at tops m) s.0 h.wide h.asked (tidy m s.0 s.1) (top_at tops) (lists_at sets) (subformula nodes) m known
-      (λ q. (lists_tidy sets tidy q).1) (λ q. (lists_tidy sets tidy q).0) n below (formed.bounds m (Const false) le) (have.asks m n at) (left_wide m n s.0 h)
-      (fit m n s.0 at s.1)))
+pub never_both : (p : Subformula) (tr : Trace) (t : Rational) → Settled p tr t → SettledNot p tr t → ⊥
+never_both (constant b) tr t h k = not_both_tests b h k
+never_both (atom i a) tr t h k = not_both_tests (holds_at a tr t) h.1 k.1
+never_both (negation p) tr t h k = never_both p tr t k h
+never_both (conjunction p q) tr t h (inl k) = never_both p tr t h.0 k
+never_both (conjunction p q) tr t h (inr k) = never_both q tr t h.1 k
+never_both (disjunction p q) tr t (inl h) k = never_both p tr t h k.0
+never_both (disjunction p q) tr t (inr h) k = never_both q tr t h k.1
+never_both (implication p q) tr t (inl h) k = never_both p tr t k.0 h
+never_both (implication p q) tr t (inr h) k = never_both q tr t h k.1
+never_both (eventually a b a_in b_in p) tr t (u, w, s, h) k = never_both p tr u h (k u w)
+never_both (always a b a_in b_in p) tr t h (u, w, s, k) = never_both p tr u (h u w) k
+never_both (once a b a_in b_in p) tr t (u, w, s, h) k = never_both p tr u h (k u w)
+never_both (historically a b a_in b_in p) tr t h (u, w, s, k) = never_both p tr u (h u w) k
+never_both (until a b p q) tr t (u, w, s, h, l) k = elim (k u w) [ inl m ↦ never_both q tr u h m | inr m ↦ never_both p tr m.0 (l m.0 m.1) m.2 ]
+never_both (since a b p q) tr t (u, w, s, h, l) k = elim (k u w) [ inl m ↦ never_both q tr u h m | inr m ↦ never_both p tr m.0 (l m.0 m.1) m.2 ]
 
-  pub all_final : AllFit nodes true tr sets → (m : ℕ) → m ≤ length nodes → (p : ℕ) → p < m
-      → Final tr (top_at tops p) (lists_at sets p) (subformula nodes p)
-  all_final fit zero le p lt = absurd (omega (arith, lt))
-  all_final fit (suc m) le p lt =
-      below_more (λ k. Final tr (top_at tops k) (lists_at sets k) (subformula nodes k)) m
-      (all_final fit m (omega (arith, le))) (next_final fit m (omega (arith, le)) (all_final fit m (omega (arith, le)))) p (omega (arith, lt))
+-- what the nodes show was told before, or is what their sets have
+pub record AreSound (Yes No : ℕ → Rational → Type 0) (live shown : List Sets) : Type 0 where
+  pub yes : (i : ℕ) (s x : Sets) → slice_get live i ≡ Some s → slice_get shown i ≡ Some x → (u : Rational) → IsOn x.yes.spans.items u → Yes i u ⊎ IsOn s.yes.spans.items u
+  pub no : (i : ℕ) (s x : Sets) → slice_get live i ≡ Some s → slice_get shown i ≡ Some x → (u : Rational) → IsOn x.no.spans.items u → No i u ⊎ IsOn s.no.spans.items u
+
+module _ (nodes : List Node) (tr : Trace) (live shown : List Sets) (formed : AreWellFormed nodes) (have : AreLive nodes (start tr) live shown)
+    (tidy : AllTidy live) (shown_tidy : AllTidy shown) where
+  module _ (sound : AreSound (λ i. Settled (subformula nodes i) tr) (λ i. SettledNot (subformula nodes i) tr) live shown) where
+    known_of : (i : ℕ) (n : Node) (s x : Sets) → slice_get nodes i ≡ Some n → slice_get live i ≡ Some s → slice_get shown i ≡ Some x
+        → SayBoth s (Settled (subformula nodes i) tr) (SettledNot (subformula nodes i) tr)
+        → Known (IsShown shown i) (lists_at shown i) (Settled (subformula nodes i) tr) (SettledNot (subformula nodes i) tr)
+    known_of i n s x at is ix h =
+        subst (λ (l : Lists). Known (IsShown shown i) l (Settled (subformula nodes i) tr) (SettledNot (subformula nodes i) tr)) (sym (lists_are shown i x ix)) (record {
+          yes_in = λ u f y. let l = shown_is shown i x u ix f in elim (k.early u l) [
+            | inl o ↦ k.shows_yes u (h.yes.has u (subst (λ b. Lies b u) (sym k.yes) o) y) l
+            | inr (inl z) ↦ z
+            | inr (inr z) ↦ absurd (never_both (subformula nodes i) tr u y (no_out u z))
+          ];
+          yes_out = yes_out;
+          no_in = λ u f y. let l = shown_is shown i x u ix f in elim (k.early u l) [
+            | inl o ↦ k.shows_no u (h.no.has u (subst (λ b. Lies b u) (sym k.no) o) y) l
+            | inr (inl z) ↦ absurd (never_both (subformula nodes i) tr u (yes_out u z) y)
+            | inr (inr z) ↦ z
+          ];
+          no_out = no_out;
+        })
+      where
+        k : IsLive (start tr) shown n s x
+        k = have.has i n s x at is ix
+
+        yes_out : (u : Rational) → IsOn x.yes.spans.items u → Settled (subformula nodes i) tr u
+        yes_out u o = elim (sound.yes i s x is ix u o) [ inl z ↦ z | inr z ↦ (h.yes.only u z).1 ]
+
+        no_out : (u : Rational) → IsOn x.no.spans.items u → SettledNot (subformula nodes i) tr u
+        no_out u o = elim (sound.no i s x is ix u o) [ inl z ↦ z | inr z ↦ (h.no.only u z).1 ]
+
+    -- one node more
+    next_known : AllFit nodes false tr live shown → (m : ℕ) → m < length nodes
+        → ((p : ℕ) → p < m → Known (IsShown shown p) (lists_at shown p) (Settled (subformula nodes p) tr) (SettledNot (subformula nodes p) tr))
+        → Known (IsShown shown m) (lists_at shown m) (Settled (subformula nodes m) tr) (SettledNot (subformula nodes m) tr)
+    next_known fit m le known =
+        let n = slice_index_or nodes m (Const false) in
+        let at = slice_get_at nodes m (Const false) le in
+        let s = sets_at live m (let c = have.count in omega (arith, le, c)) in
+        let x = sets_at shown m (let c = have.shown_count in omega (arith, le, c)) in
+        let h = have.has m n s.0 x.0 at s.1 x.1 in
+        let below = placed nodes m n formed.post_order at in
+        known_of m n s.0 x.0 at s.1 x.1
+        (subst (λ z. SayBoth s.0 (Settled z tr) (SettledNot z tr)) (sym (subformula-at nodes m n at below))
+        (node_told tr h.own s.0 h.yes h.no h.starts (tidy m s.0 s.1) shown (lists_at shown) (subformula nodes) m known
+        (λ q. (lists_tidy shown shown_tidy q).1) n below (formed.bounds m (Const false) le) h.looks (fit m n s.0 at s.1)))
+
+    pub all_known : AllFit nodes false tr live shown → (m : ℕ) → m ≤ length nodes → (p : ℕ) → p < m
+        → Known (IsShown shown p) (lists_at shown p) (Settled (subformula nodes p) tr) (SettledNot (subformula nodes p) tr)
+    all_known fit zero le p lt = absurd (omega (arith, lt))
+    all_known fit (suc m) le p lt =
+        below_more (λ k. Known (IsShown shown k) (lists_at shown k) (Settled (subformula nodes k) tr) (SettledNot (subformula nodes k) tr)) m
+        (all_known fit m (omega (arith, le))) (next_known fit m (omega (arith, le)) (all_known fit m (omega (arith, le)))) p (omega (arith, lt))
+
+  module _ (sound : AreSound (λ i u. u ≤ʳ stop tr → Truth (subformula nodes i) tr u) (λ i u. u ≤ʳ stop tr → ¬ (Truth (subformula nodes i) tr u)) live shown) where
+    final_of : (i : ℕ) (n : Node) (s x : Sets) → slice_get nodes i ≡ Some n → slice_get live i ≡ Some s → slice_get shown i ≡ Some x
+        → (own : IsLive (start tr) shown n s x) → Final tr (Lies own.own) (lists_of s) (subformula nodes i)
+        → Final tr (IsShown shown i) (lists_at shown i) (subformula nodes i)
+    final_of i n s x at is ix k f =
+        subst (λ (l : Lists). Final tr (IsShown shown i) l (subformula nodes i)) (sym (lists_are shown i x ix)) (record {
+          yes = λ u o e. elim (sound.yes i s x is ix u o) [ inl z ↦ z e | inr z ↦ f.yes u z e ];
+          no = λ u o e. elim (sound.no i s x is ix u o) [ inl z ↦ z e | inr z ↦ f.no u z e ];
+          all = λ u g e. let l = shown_is shown i x u ix g in elim (k.early u l) [
+            | inl o ↦ elim (f.all u o e) [ inl y ↦ inl (k.shows_yes u y l) | inr y ↦ inr (k.shows_no u y l) ]
+            | inr z ↦ z
+          ];
+        })
+
+    next_final : AllFit nodes true tr live shown → (m : ℕ) → m < length nodes → ((p : ℕ) → p < m → Final tr (IsShown shown p) (lists_at shown p) (subformula nodes p))
+        → Final tr (IsShown shown m) (lists_at shown m) (subformula nodes m)
+    next_final fit m le known =
+        let n = slice_index_or nodes m (Const false) in
+        let at = slice_get_at nodes m (Const false) le in
+        let s = sets_at live m (let c = have.count in omega (arith, le, c)) in
+        let x = sets_at shown m (let c = have.shown_count in omega (arith, le, c)) in
+        let h = have.has m n s.0 x.0 at s.1 x.1 in
+        let below = placed nodes m n formed.post_order at in
+        final_of m n s.0 x.0 at s.1 x.1 h
+        (subst (λ z. Final tr (Lies h.own) (lists_of s.0) z) (sym (subformula-at nodes m n at below))
+        (node_final tr h.own s.0 h.yes h.no h.starts (tidy m s.0 s.1) shown (lists_at shown) (subformula nodes) m known
+        (λ q. (lists_tidy shown shown_tidy q).1) (λ q. (lists_tidy shown shown_tidy q).0) n below (formed.bounds m (Const false) le) h.looks
+        (fit m n s.0 at s.1)))
+
+    pub all_final : AllFit nodes true tr live shown → (m : ℕ) → m ≤ length nodes → (p : ℕ) → p < m
+        → Final tr (IsShown shown p) (lists_at shown p) (subformula nodes p)
+    all_final fit zero le p lt = absurd (omega (arith, lt))
+    all_final fit (suc m) le p lt =
+        below_more (λ k. Final tr (IsShown shown k) (lists_at shown k) (subformula nodes k)) m
+        (all_final fit m (omega (arith, le))) (next_final fit m (omega (arith, le)) (all_final fit m (omega (arith, le)))) p (omega (arith, lt))

@@ -2,65 +2,58 @@
 use Rattle.std.proofs.Common.{◌≡◌, ◌⊎◌, inl, inr, refl, sym, ap, subst, ◌∙◌, ℕ, ◌-◌, ◌<◌, Bool, true, false, Option, Some, None, List, [], ◌∷◌, ◌++◌, length, arith, append_assoc}
 use Rattle.std.specs.Prelude.{MatchOption}
 use Rattle.rational.specs.Time.{◌≤ʳ◌}
-use Rattle.rational.proofs.Order.{le_refl}
-use Rattle.rational.proofs.TimeLemmas.{later_from}
 use Rattle.stl_syntax.specs.Trace.{Header, Row, Trace, AreRows, row_time, start, stop}
 use Rattle.stl_syntax.specs.Formula.{Subformula, root}
 use Rattle.stl_syntax.specs.Early.{Settled, SettledNot, Decides, NoneDecides, FirstDecides}
-use Rattle.stl_syntax.specs.WellFormed.{AreWellFormed}
 use Rattle.stl_syntax.specs.declared.node.Node.{Node}
 use Rattle.stl_syntax.proofs.LawProofs.{decisions_stay}
 use Rattle.early_verdict.specs.Fitting.{Lists, lists_at}
-use Rattle.early_verdict.specs.Standing.{AllFit, AllTidy, HaveSets, top_at}
-use Rattle.early_verdict.specs.Deciding.{IsTruthAtStart, IsVerdict, SetsStand, WasDecided, trace_of}
+use Rattle.early_verdict.specs.Living.{IsShown, Known, NetStands}
+use Rattle.early_verdict.specs.Deciding.{IsTruthAtStart, IsVerdict, WasDecided, trace_of}
 use Rattle.early_verdict.specs.declared.sets.Sets.{Sets}
 use Rattle.early_verdict.specs.declared.early.Decided.{Decided}
-use Rattle.early_verdict.proofs.Settling.{Known}
 use Rattle.early_verdict.proofs.EndedSets.{Final}
-use Rattle.early_verdict.proofs.AllSets.{all_known, all_final}
 
 -- the root's sets are those of the last node
 root_place : (nodes : List Node) (sets : List Sets) → length sets ≡ length nodes → lists_at sets (length sets - 1) ≡ lists_at sets (length nodes - 1)
 root_place nodes sets e = ap (λ k. lists_at sets (k - 1)) e
 
 -- what the sets that stand for rows say of the start
-module _ (nodes : List Node) (header : Header) (r : Row) (rows : List Row) (sets : List Sets) (formed : AreWellFormed nodes) (some : 0 < length nodes)
-    (stand : SetsStand nodes (trace_of header (r ∷ rows)) sets) where
+module _ (nodes : List Node) (header : Header) (r : Row) (rows : List Row) (live shown : List Sets) (some : 0 < length nodes)
+    (stand : NetStands nodes (trace_of header (r ∷ rows)) live shown) where
   abbrev tr : Trace
   tr = trace_of header (r ∷ rows)
 
-  at_root : Known (start tr) (top_at stand.tops (length nodes - 1)) (lists_at sets (length sets - 1)) (Settled (root nodes) tr) (SettledNot (root nodes) tr)
-  at_root = subst (λ (l : Lists). Known (start tr) (top_at stand.tops (length nodes - 1)) l (Settled (root nodes) tr) (SettledNot (root nodes) tr))
-      (sym (root_place nodes sets stand.have.count))
-      (all_known nodes tr stand.tops sets formed stand.have stand.tidy stand.fit (length nodes) (omega arith) (length nodes - 1) (omega (arith, some)))
+  at_root : Known (IsShown shown (length nodes - 1)) (lists_at shown (length shown - 1)) (Settled (root nodes) tr) (SettledNot (root nodes) tr)
+  at_root = subst (λ (l : Lists). Known (IsShown shown (length nodes - 1)) l (Settled (root nodes) tr) (SettledNot (root nodes) tr))
+      (sym (root_place nodes shown stand.have.shown_count)) (stand.known (length nodes - 1) (omega (arith, some)))
 
-  pub decided_of : (verdict : Option Bool) → IsVerdict sets r.time verdict
+  pub decided_of : (verdict : Option Bool) → IsVerdict shown r.time verdict
       → MatchOption verdict ((b : Bool) → Decides (root nodes) tr b → ⊥) (λ b. Decides (root nodes) tr b)
   decided_of None v = by_truth
     where
       by_truth : (b : Bool) → Decides (root nodes) tr b → ⊥
-      by_truth true d = v.0 (at_root.yes_in (start tr) (le_refl (start tr)) (later_from (start tr) (top_at stand.tops (length nodes - 1))) d)
-      by_truth false d = v.1 (at_root.no_in (start tr) (le_refl (start tr)) (later_from (start tr) (top_at stand.tops (length nodes - 1))) d)
+      by_truth true d = v.0 (at_root.yes_in (start tr) stand.root d)
+      by_truth false d = v.1 (at_root.no_in (start tr) stand.root d)
   decided_of (Some true) v = at_root.yes_out (start tr) v
   decided_of (Some false) v = at_root.no_out (start tr) v
 
 -- once the input has ended they say the truth
-module _ (nodes : List Node) (header : Header) (r : Row) (rows : List Row) (sets : List Sets) (tops : List ℕ) (formed : AreWellFormed nodes) (some : 0 < length nodes)
-    (have : HaveSets nodes (row_time r) tops sets) (tidy : AllTidy sets) (fit : AllFit nodes true (trace_of header (r ∷ rows)) sets)
-    (rise : row_time r ≤ʳ stop (trace_of header (r ∷ rows))) where
+module _ (nodes : List Node) (header : Header) (r : Row) (rows : List Row) (shown : List Sets) (count : length shown ≡ length nodes)
+    (final : Final (trace_of header (r ∷ rows)) (IsShown shown (length nodes - 1)) (lists_at shown (length nodes - 1)) (root nodes))
+    (shows : IsShown shown (length nodes - 1) (row_time r)) (rise : row_time r ≤ʳ stop (trace_of header (r ∷ rows))) where
   abbrev ended : Trace
   ended = trace_of header (r ∷ rows)
 
-  final_root : Final ended (top_at tops (length nodes - 1)) (lists_at sets (length sets - 1)) (root nodes)
-  final_root = subst (λ (l : Lists). Final ended (top_at tops (length nodes - 1)) l (root nodes)) (sym (root_place nodes sets have.count))
-      (all_final nodes ended tops sets formed have tidy fit (length nodes) (omega arith) (length nodes - 1) (omega (arith, some)))
+  final_root : Final ended (IsShown shown (length nodes - 1)) (lists_at shown (length shown - 1)) (root nodes)
+  final_root = subst (λ (l : Lists). Final ended (IsShown shown (length nodes - 1)) l (root nodes)) (sym (root_place nodes shown count)) final
 
-  pub truth_of : (holds : Bool) → IsVerdict sets r.time (Some holds) → IsTruthAtStart (root nodes) ended holds
+  pub truth_of : (holds : Bool) → IsVerdict shown r.time (Some holds) → IsTruthAtStart (root nodes) ended holds
   truth_of true v = final_root.yes (start ended) v rise
   truth_of false v = final_root.no (start ended) v rise
 
-  pub some_truth : IsVerdict sets r.time None → ⊥
-  some_truth v = elim (final_root.all (start ended) (le_refl (start ended)) (later_from (start ended) (top_at tops (length nodes - 1))) rise) [ inl y ↦ v.0 y | inr y ↦ v.1 y ]
+  pub some_truth : IsVerdict shown r.time None → ⊥
+  some_truth v = elim (final_root.all (start ended) shows rise) [ inl y ↦ v.0 y | inr y ↦ v.1 y ]
 
 -- rows with one more, split at one of them: the last, or one before
 pub split_last : (rows before after : List Row) (x r : Row) → rows ++ x ∷ [] ≡ before ++ r ∷ after

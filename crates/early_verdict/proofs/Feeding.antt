@@ -1,12 +1,13 @@
 -- An early verdict goes on with a row.
 use Rattle.std.proofs.Common.{◌≡◌, refl, sym, ap, subst, ◌∙◌, ℕ, ◌<◌, Bool, true, false, Option, Some, None, List, [], ◌∷◌, ◌++◌, length}
 use Rattle.std.specs.Prelude.{IfSome, IsSome, is_some}
-use Rattle.stl_syntax.specs.Trace.{Header, Row}
+use Rattle.stl_syntax.specs.Trace.{Header, Row, Trace}
 use Rattle.stl_syntax.specs.Formula.{Formula, root}
 use Rattle.stl_syntax.specs.WellFormed.{AreWellFormed}
 use Rattle.atom_lines.specs.Binding.{Binding, IsBound}
 use Rattle.stl_syntax.specs.declared.node.Node.{Node}
 use Rattle.early_verdict.specs.Standing.{AllTidy}
+use Rattle.early_verdict.specs.Living.{NetStands}
 use Rattle.early_verdict.specs.Deciding.{Kept, IsAnswer, IsVerdict, SetsAre, Stands, decided_by, last_of}
 use Rattle.early_verdict.specs.declared.sets.Sets.{Sets}
 use Rattle.early_verdict.specs.declared.early.Decided.{Decided}
@@ -14,9 +15,9 @@ use Rattle.early_verdict.proofs.DecideLemmas.{none_first}
 use Rattle.early_verdict.proofs.StandingOn.{bound_any, decided_now, fed_answer, fed_stands, passed_answer, passed_stands}
 
 -- nothing is taken yet
-pub fresh : (b : Binding) (f : Formula) (header : Header) → AreWellFormed f.nodes → 0 < length f.nodes → IsBound b f header
-    → Stands (record { nodes = f.nodes; header = header; bound = b; sets = []; begin = 0; last = None; decided = None; ended = false; stopped = false }) [] false
-fresh b f header formed some bound = record {
+pub fresh : (b : Binding) (f : Formula) (header : Header) (live shown : List Sets) → AreWellFormed f.nodes → 0 < length f.nodes → IsBound b f header
+    → Stands (record { nodes = f.nodes; header = header; bound = b; live = live; shown = shown; begin = 0; last = None; decided = None; ended = false; stopped = false }) [] false
+fresh b f header live shown formed some bound = record {
   formed = formed;
   some = some;
   scale = f.scale;
@@ -25,7 +26,7 @@ fresh b f header formed some bound = record {
   running = refl;
   is_ended = refl;
   last = refl;
-  by = (none_first (root f.nodes) header, λ e. refl);
+  by = (none_first (root f.nodes) header, λ e. tt);
 }
 
 pub none_if : {A : Type 0} (o : Option A) → is_some o ≡ false → o ≡ None
@@ -36,18 +37,32 @@ pub some_if : {A : Type 0} (o : Option A) → is_some o ≡ true → (x : A) × 
 some_if None e = absurd (let f : false ≡ true = e in cc)
 some_if (Some x) e = (x, refl)
 
+-- where what stands for the rows goes on to stand for them
+sets_as : (nodes : List Node) (header : Header) (begin : ℕ) (live shown left left_shown : List Sets) (rows : List Row) (x : Row)
+    → ((tr : Trace) → NetStands nodes tr live shown → NetStands nodes tr left left_shown) → SetsAre nodes header begin live shown (rows ++ x ∷ [])
+    → SetsAre nodes header begin left left_shown (rows ++ x ∷ [])
+sets_as nodes header begin live shown left left_shown [] x f s = (s.0, f _ s.1)
+sets_as nodes header begin live shown left left_shown (r ∷ rows) x f s = (s.0, f _ s.1)
+
+pub net_of : (nodes : List Node) (header : Header) (begin : ℕ) (live shown : List Sets) (rows : List Row) (x : Row) → SetsAre nodes header begin live shown (rows ++ x ∷ [])
+    → (tr : Trace) × NetStands nodes tr live shown
+net_of nodes header begin live shown [] x s = (_, s.1)
+net_of nodes header begin live shown (r ∷ rows) x s = (_, s.1)
+
 -- a row while nothing is decided
-pub fed_by : (x : Kept) (rows : List Row) (r kept : Row) (begin : ℕ) (sets left : List Sets) (verdict : Option Bool) (decided : Option Decided)
+pub fed_by : (x : Kept) (rows : List Row) (r kept : Row) (begin : ℕ) (live shown left left_shown : List Sets) (verdict : Option Bool) (decided : Option Decided)
     → Stands x rows false → x.decided ≡ None → length r.values ≡ x.bound.width → IfSome x.last (λ q. q.time < r.time)
-    → SetsAre x.nodes x.header begin sets (rows ++ r ∷ []) → IsVerdict sets begin verdict → (decided ≡ None → left ≡ sets) → kept ≡ r
+    → SetsAre x.nodes x.header begin live shown (rows ++ r ∷ []) → IsVerdict shown begin verdict
+    → (decided ≡ None → (tr : Trace) → NetStands x.nodes tr live shown → NetStands x.nodes tr left left_shown) → kept ≡ r
     → decided ≡ decided_now r.time verdict
-    → Stands (record x { sets = left; begin = begin; last = Some kept; decided = decided }) (rows ++ r ∷ []) false × IsAnswer (root x.nodes) x.header rows r decided
-fed_by x rows r kept begin sets left verdict decided st none width later are v let_go same is =
-    let go : decided_now r.time verdict ≡ None → left ≡ sets = λ e. let_go (is ∙ e) in (
-      subst (λ k. Stands (record x { sets = left; begin = begin; last = Some k; decided = decided }) (rows ++ r ∷ []) false) (sym same)
-          (subst (λ d. Stands (record x { sets = left; begin = begin; last = Some r; decided = d }) (rows ++ r ∷ []) false) (sym is)
-          (fed_stands x rows st none r width later begin sets left are verdict v go)),
-      subst (λ d. IsAnswer (root x.nodes) x.header rows r d) (sym is) (fed_answer x rows st none r width later begin sets left are verdict v go),
+    → Stands (record x { live = left; shown = left_shown; begin = begin; last = Some kept; decided = decided }) (rows ++ r ∷ []) false × IsAnswer (root x.nodes) x.header rows r decided
+fed_by x rows r kept begin live shown left left_shown verdict decided st none width later are v let_go same is =
+    let go : decided_now r.time verdict ≡ None → SetsAre x.nodes x.header begin left left_shown (rows ++ r ∷ []) =
+    λ e. sets_as x.nodes x.header begin live shown left left_shown rows r (let_go (is ∙ e)) are in (
+      subst (λ k. Stands (record x { live = left; shown = left_shown; begin = begin; last = Some k; decided = decided }) (rows ++ r ∷ []) false) (sym same)
+          (subst (λ d. Stands (record x { live = left; shown = left_shown; begin = begin; last = Some r; decided = d }) (rows ++ r ∷ []) false) (sym is)
+          (fed_stands x rows st none r width later begin live shown left left_shown are verdict v go)),
+      subst (λ d. IsAnswer (root x.nodes) x.header rows r d) (sym is) (fed_answer x rows st none r width later begin live shown left left_shown are verdict v go),
     )
 
 -- a row after the one that decided
@@ -75,14 +90,14 @@ unended x y rows e o st = subst (λ b. Stands x rows b) (ap (λ (z : Kept). z.en
 pub as_ended : (x : Kept) (rows : List Row) (b : Bool) → Stands x rows b → Stands x rows x.ended
 as_ended x rows b st = subst (λ c. Stands x rows c) (sym st.is_ended) st
 
-pub sets_tidy : (nodes : List Node) (header : Header) (begin : ℕ) (sets : List Sets) (rows : List Row) (x : Row) → SetsAre nodes header begin sets (rows ++ x ∷ []) → AllTidy sets
-sets_tidy nodes header begin sets [] x s = s.1.tidy
-sets_tidy nodes header begin sets (r ∷ rows) x s = s.1.tidy
+pub shown_tidy : (nodes : List Node) (header : Header) (begin : ℕ) (live shown : List Sets) (rows : List Row) (x : Row) → SetsAre nodes header begin live shown (rows ++ x ∷ [])
+    → AllTidy shown
+shown_tidy nodes header begin live shown rows x s = (net_of nodes header begin live shown rows x s).1.shown_tidy
 
-pub some_sets : (nodes : List Node) (header : Header) (begin : ℕ) (sets : List Sets) (rows : List Row) (x : Row) → SetsAre nodes header begin sets (rows ++ x ∷ []) → 0 < length nodes
-    → 0 < length sets
-some_sets nodes header begin sets [] x s some = subst (λ n. 0 < n) (sym s.1.have.count) some
-some_sets nodes header begin sets (r ∷ rows) x s some = subst (λ n. 0 < n) (sym s.1.have.count) some
+pub some_shown : (nodes : List Node) (header : Header) (begin : ℕ) (live shown : List Sets) (rows : List Row) (x : Row) → SetsAre nodes header begin live shown (rows ++ x ∷ [])
+    → 0 < length nodes → 0 < length shown
+some_shown nodes header begin live shown rows x s some =
+    subst (λ n. 0 < n) (sym (net_of nodes header begin live shown rows x s).1.have.shown_count) some
 
 none_has : (o : Option Row) → o ≡ None → IsSome o → ⊥
 none_has None e s = let f : false ≡ true = s in cc

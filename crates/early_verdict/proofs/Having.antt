@@ -1,56 +1,21 @@
--- An event leaves the sets of all nodes asked as they were.
-use Rattle.std.proofs.Common.{◌≡◌, refl, sym, subst, ◌∙◌, ℕ, Option, Some, None, List, length, arith}
-use Rattle.std.specs.Prelude.{MatchOption, slice_get}
+-- An event leaves what all nodes look at as it was.
+use Rattle.std.proofs.Common.{◌≡◌, ◌⊎◌, inl, inr, sym, subst, ◌∙◌, ℕ, ◌<◌, Some, List, length, arith}
+use Rattle.std.specs.Prelude.{slice_get}
 use Rattle.rational.specs.Time.{Rational}
 use Rattle.stl_syntax.specs.declared.node.Node.{Node}
-use Rattle.early_verdict.specs.Fitting.{HasFailBounds, HasStepped, KeepsBounds}
-use Rattle.early_verdict.specs.Standing.{AllTidy, ArePartsAsked, HaveSets, HasSets, IsFrom, SteppedTo, left_of, top_at}
-use Rattle.early_verdict.specs.declared.stretch.Stretch.{Stretch}
+use Rattle.early_verdict.specs.Spans.{IsOn, Lies}
+use Rattle.early_verdict.specs.Fitting.{HasStepped}
+use Rattle.early_verdict.specs.Standing.{SteppedTo}
+use Rattle.early_verdict.specs.Living.{AreLive, HasShown, IsLive, IsShown, ShownTo}
 use Rattle.early_verdict.specs.declared.sets.Sets.{Sets}
-use Rattle.early_verdict.specs.declared.sets.Parts.{Parts}
-use Rattle.early_verdict.proofs.AllSets.{sets_at}
+use Rattle.early_verdict.proofs.AllSets.{AreSound, is_shown, sets_at, shown_is, shown_within}
+use Rattle.early_verdict.proofs.LivingLemmas.{looks_as, parts_as}
+use Rattle.early_verdict.proofs.Netting.{nodes_at}
 use Rattle.early_verdict.proofs.Places.{get_within}
 
-from_same : (from : Rational) (top : ℕ) (a b : Stretch) → b ≡ a → IsFrom from top a → IsFrom from top b
-from_same from top a b e h = subst (λ s. IsFrom from top s) (sym e) h
-
-parts_asked : (from : Rational) (top wide : ℕ) (old new : Option Parts) → MatchOption old (new ≡ None) (λ x. MatchOption new ⊥ (KeepsBounds x))
-    → MatchOption old (Unit {0}) (ArePartsAsked from top wide) → MatchOption new (Unit {0}) (ArePartsAsked from top wide)
-parts_asked from top wide None new e h = subst (λ o. MatchOption o (Unit {0}) (ArePartsAsked from top wide)) (sym e) tt
-parts_asked from top wide (Some x) None e h = absurd e
-parts_asked from top wide (Some x) (Some y) e h = record {
-  some = from_same from top x.holding.some.bounds y.holding.some.bounds e.holding.some h.some;
-  each = from_same from top x.holding.each.bounds y.holding.each.bounds e.holding.each h.each;
-  never = from_same from top x.failing.never.bounds y.failing.never.bounds e.failing.never h.never;
-  broken = from_same from top x.failing.broken.bounds y.failing.broken.bounds e.failing.broken h.broken;
-  both = from_same from wide x.holding.both.bounds y.holding.both.bounds e.holding.both h.both;
-  run = from_same from wide x.holding.run.bounds y.holding.run.bounds e.holding.run h.run;
-  fail = from_same from wide x.failing.fail.bounds y.failing.fail.bounds e.failing.fail h.fail;
-  stop = from_same from wide x.failing.stop.bounds y.failing.stop.bounds e.failing.stop h.stop;
-}
-
-still_none : (old new : Option Parts) → MatchOption old (new ≡ None) (λ x. MatchOption new ⊥ (KeepsBounds x)) → old ≡ None → new ≡ None
-still_none None new e n = e
-still_none (Some x) new e n = absurd (let f : Some x ≡ None = n in cc)
-
-still_some : (old new : Option Parts) → MatchOption old (new ≡ None) (λ x. MatchOption new ⊥ (KeepsBounds x)) → (old ≡ None → ⊥) → new ≡ None → ⊥
-still_some None new e n m = n refl
-still_some (Some x) None e n m = e
-still_some (Some x) (Some y) e n m = let f : Some y ≡ None = m in cc
-
-fail_bounds : (s s' l l' : Sets) → MatchOption s.parts (s'.parts ≡ None) (λ x. MatchOption s'.parts ⊥ (KeepsBounds x)) → l'.no.bounds ≡ l.no.bounds
-    → HasFailBounds s l → HasFailBounds s' l'
-fail_bounds s s' l l' e q h = by_parts s.parts s'.parts e h
-  where
-    by_parts : (o n : Option Parts) → MatchOption o (n ≡ None) (λ x. MatchOption n ⊥ (KeepsBounds x))
-        → MatchOption o (Unit {0}) (λ x. (x.failing.fail.bounds ≡ l.no.bounds) × (x.failing.stop.bounds ≡ l.no.bounds))
-        → MatchOption n (Unit {0}) (λ x. (x.failing.fail.bounds ≡ l'.no.bounds) × (x.failing.stop.bounds ≡ l'.no.bounds))
-    by_parts None n e h = subst (λ o. MatchOption o (Unit {0}) (λ x. (x.failing.fail.bounds ≡ l'.no.bounds) × (x.failing.stop.bounds ≡ l'.no.bounds))) (sym e) tt
-    by_parts (Some x) None e h = absurd e
-    by_parts (Some x) (Some y) e h = (e.failing.fail ∙ h.0 ∙ sym q, e.failing.stop ∙ h.1 ∙ sym q)
-
-module _ (nodes : List Node) (from : Rational) (tops : List ℕ) (old new : List Sets) (h : SteppedTo (length nodes) old new) (have : HaveSets nodes from tops old) where
-  was_at : (i : ℕ) (s : Sets) → slice_get new i ≡ Some s → (r : Sets) × (slice_get old i ≡ Some r) × HasStepped r s
+module _ (nodes : List Node) (from : Rational) (old new old_shown new_shown : List Sets) (h : SteppedTo (length nodes) old new)
+    (g : ShownTo (length nodes) new old_shown new_shown) (have : AreLive nodes from old old_shown) where
+  pub was_at : (i : ℕ) (s : Sets) → slice_get new i ≡ Some s → (r : Sets) × (slice_get old i ≡ Some r) × HasStepped r s
   was_at i s is =
       let l = get_within new i s is in
       let c = h.count in
@@ -58,35 +23,99 @@ module _ (nodes : List Node) (from : Rational) (tops : List ℕ) (old new : List
       let w = sets_at old i (omega (arith, l, c)) in
       (w.0, w.1, h.stepped i w.0 s (omega (arith, l, c, d)) w.1 is)
 
-  sets_still : (i : ℕ) (n : Node) (s : Sets) → slice_get nodes i ≡ Some n → slice_get new i ≡ Some s → HasSets from tops new i n s
-  sets_still i n s at is = by_old (was_at i s is)
+  pub showed_at : (i : ℕ) (x : Sets) → slice_get new_shown i ≡ Some x → (s : Sets) × (slice_get new i ≡ Some s) × (w : Sets) × (slice_get old_shown i ≡ Some w) × HasShown w x s
+  showed_at i x is =
+      let l = get_within new_shown i x is in
+      let c = g.count in
+      let d = have.shown_count in
+      let e = have.count in
+      let f = h.count in
+      let w = sets_at old_shown i (omega (arith, l, c)) in
+      let s = sets_at new i (omega (arith, l, c, d, e, f)) in
+      (s.0, s.1, w.0, w.1, g.shown i s.0 w.0 x (omega (arith, l, c, d)) s.1 w.1 is)
+
+  same_one : (a b : Sets) → Some a ≡ Some b → a ≡ b
+  same_one a b e = cc
+
+  pub shown_still : (p : ℕ) (u : Rational) → IsShown old_shown p u → IsShown new_shown p u
+  shown_still p u o =
+      let c = g.count in
+      let l = shown_within old_shown p u o in
+      let x = sets_at new_shown p (omega (arith, c, l)) in
+      let w = showed_at p x.0 x.1 in
+      is_shown new_shown p x.0 u x.1 (subst (λ b. Lies b u) (sym w.4.no) (shown_is old_shown p w.2 u w.3 o))
+
+  live_still : (i : ℕ) (n : Node) (s x : Sets) → slice_get nodes i ≡ Some n → slice_get new i ≡ Some s → slice_get new_shown i ≡ Some x → IsLive from new_shown n s x
+  live_still i n s x at is ix = by_old (was_at i s is) (showed_at i x ix)
     where
-      by_old : ((r : Sets) × (slice_get old i ≡ Some r) × HasStepped r s) → HasSets from tops new i n s
-      by_old (r, e, step) = record {
-        wide = k.wide;
-        asked = record {
-          yes = from_same from (top_at tops i) r.yes.bounds s.yes.bounds step.yes k.asked.yes;
-          no = from_same from (top_at tops i) r.no.bounds s.no.bounds step.no k.asked.no;
-          parts = parts_asked from (top_at tops i) k.wide r.parts s.parts step.parts k.asked.parts;
-        };
-        left = by_left (left_of n) k.left;
+      by_old : ((r : Sets) × (slice_get old i ≡ Some r) × HasStepped r s)
+          → ((s : Sets) × (slice_get new i ≡ Some s) × (w : Sets) × (slice_get old_shown i ≡ Some w) × HasShown w x s) → IsLive from new_shown n s x
+      by_old (r, e, step) (s', e', w, f, sh) = record {
+        own = k.own;
+        yes = step.yes ∙ k.yes;
+        no = step.no ∙ k.no;
+        starts = k.starts;
+        looks = looks_as from k.own k.own (λ t l. l) n old_shown new_shown r.parts s.parts (λ p e. shown_still p) step.parts k.looks;
+        left = parts_as n r s old_shown new_shown step.parts (λ p l' q z. let m = showed_at p l' z in (m.2, m.3, m.4.no)) k.left;
+        shown_yes = shows.yes ∙ k.shown_yes ∙ sym shows.no;
+        shown_starts = λ t l. k.shown_starts t (subst (λ b. Lies b t) shows.no l);
+        yes_within = λ t o. subst (λ b. Lies b t) (sym shows.no) (elim (shows.takes_yes.only t o) [
+          | inl z ↦ k.yes_within t z
+          | inr z ↦ subst (λ b. Lies b t) k.shown_yes z.0
+        ]);
+        no_within = λ t o. subst (λ b. Lies b t) (sym shows.no) (elim (shows.takes_no.only t o) [
+          | inl z ↦ k.no_within t z
+          | inr z ↦ z.0
+        ]);
+        shows_yes = λ t o l. let m = subst (λ b. Lies b t) shows.no l in elim (step.gains_yes.gained t o) [
+          | inl z ↦ shows.gains_yes.kept t (k.shows_yes t z m)
+          | inr z ↦ shows.takes_yes.has t (subst (λ b. Lies b t) (sym k.shown_yes) m) z
+        ];
+        shows_no = λ t o l. let m = subst (λ b. Lies b t) shows.no l in elim (step.gains_no.gained t o) [
+          | inl z ↦ shows.gains_no.kept t (k.shows_no t z m)
+          | inr z ↦ shows.takes_no.has t m z
+        ];
+        early = λ t l. elim (k.early t (subst (λ b. Lies b t) shows.no l)) [
+          | inl z ↦ inl z
+          | inr (inl z) ↦ inr (inl (shows.gains_yes.kept t z))
+          | inr (inr z) ↦ inr (inr (shows.gains_no.kept t z))
+        ];
       }
         where
-          k : HasSets from tops old i n r
-          k = have.has i n r at e
+          k : IsLive from old_shown n r w
+          k = have.has i n r w at e f
 
-          by_left : (o : Option ℕ) → MatchOption o (r.parts ≡ None) (λ p. (top_at tops p ≡ k.wide) × ((l : Sets) → slice_get old p ≡ Some l → HasFailBounds r l) × (r.parts ≡ None → ⊥))
-              → MatchOption o (s.parts ≡ None) (λ p. (top_at tops p ≡ k.wide) × ((l : Sets) → slice_get new p ≡ Some l → HasFailBounds s l) × (s.parts ≡ None → ⊥))
-          by_left None x = still_none r.parts s.parts step.parts x
-          by_left (Some p) x = (
-            x.0,
-            λ l f. let w = was_at p l f in fail_bounds r s w.0 l step.parts w.2.no (x.1 w.0 w.1),
-            still_some r.parts s.parts step.parts x.2,
-          )
+          shows : HasShown w x s
+          shows = subst (λ z. HasShown w x z) (same_one s' s (sym e' ∙ is)) sh
 
-  -- all nodes have their sets still
-  pub have_still : HaveSets nodes from tops new
-  have_still = record { count = h.count ∙ have.count; has = sets_still; asks = have.asks }
+  -- all nodes look at what they did
+  pub live_on : AreLive nodes from new new_shown
+  live_on = record { count = h.count ∙ have.count; shown_count = g.count ∙ have.shown_count; has = live_still }
 
-  pub tidy_still : AllTidy new
-  tidy_still i s is = let w = was_at i s is in (w.2).tidy
+  -- what is shown was so before, or is what the sets have
+  pub sound_of : (Yes No : ℕ → Rational → Type 0)
+      → ((i : ℕ) (w : Sets) (u : Rational) → slice_get old_shown i ≡ Some w → IsOn w.yes.spans.items u → Yes i u)
+      → ((i : ℕ) (w : Sets) (u : Rational) → slice_get old_shown i ≡ Some w → IsOn w.no.spans.items u → No i u)
+      → AreSound Yes No new new_shown
+  sound_of Yes No f k = record {
+    yes = λ i s x is ix u o. let r = was_at i s is in let m = showed_at i x ix in elim (m.4.takes_yes.only u o) [
+      | inl z ↦ inl (f i m.2 u m.3 z)
+      | inr z ↦ inr (r.2.gains_yes.own u (subst (λ q. IsOn q.yes.fresh.items u) (same_one m.0 s (sym m.1 ∙ is)) z.1))
+    ];
+    no = λ i s x is ix u o. let r = was_at i s is in let m = showed_at i x ix in elim (m.4.takes_no.only u o) [
+      | inl z ↦ inl (k i m.2 u m.3 z)
+      | inr z ↦ inr (r.2.gains_no.own u (subst (λ q. IsOn q.no.fresh.items u) (same_one m.0 s (sym m.1 ∙ is)) z.1))
+    ];
+  }
+
+  -- the node at a place, and what it goes on from
+  pub at_place : (i : ℕ) (w : Sets) → slice_get old_shown i ≡ Some w
+      → (i < length nodes) × (n : Node) × (s : Sets) × IsLive from old_shown n s w
+  at_place i w f =
+      let a = get_within old_shown i w f in
+      let c = have.count in
+      let d = have.shown_count in
+      let l : i < length nodes = omega (arith, a, d) in
+      let n = nodes_at nodes i l in
+      let s = sets_at old i (omega (arith, a, c, d)) in
+      (l, n.0, s.0, have.has i n.0 s.0 w n.1 s.1 f)

@@ -45,3 +45,9 @@ pub mod Splitting
 pub mod MadeLemmas
 pub mod Opening
 pub mod Feeding
+mod ShowingLemmas
+mod LivingLemmas
+mod LiveMaking
+mod Childhood
+mod LettingLemmas
+mod Narrowing

@@ -163,6 +163,7 @@ module _ (nodes : List Node) (from : Rational) (tops : List ℕ) (sets : List Se
     have = record { count = count; has = has_sets count; asks = t.asks };
     tidy = λ i s f. let n = node_of i s f in sets_tidy s (made i n.0 s n.1 f).empty;
     empty = λ i s f. let n = node_of i s f in (made i n.0 s n.1 f).empty;
+    same = λ i s f. let n = node_of i s f in let m = made i n.0 s n.1 f in m.yes ∙ sym m.no;
   }
     where
       node_of : (i : ℕ) (s : Sets) → slice_get sets i ≡ Some s → (n : Node) × (slice_get nodes i ≡ Some n)
@@ -246,3 +247,20 @@ pub top_of : (xs : List ℕ) (i r : ℕ) → slice_get xs i ≡ Some r → r ≡
 top_of [] i r e = absurd (let x : None ≡ Some r = e in cc)
 top_of (x ∷ xs) zero r e = let s : x ≡ r = cc in sym s
 top_of (x ∷ xs) (suc i) r e = top_of xs i r e
+
+-- one more empty set for those that are shown
+pub shown_more : (live shown : List Sets) (s x : Sets) (k : ℕ) → slice_get live k ≡ Some s → length shown ≡ k
+    → ((i : ℕ) (s x : Sets) → slice_get live i ≡ Some s → slice_get shown i ≡ Some x → (x.yes.bounds ≡ s.no.bounds) × (x.no.bounds ≡ s.no.bounds) × AreEmpty x)
+    → x.yes.bounds ≡ s.no.bounds → x.no.bounds ≡ s.no.bounds → AreEmpty x
+    → (i : ℕ) (r y : Sets) → slice_get live i ≡ Some r → slice_get (shown ++ x ∷ []) i ≡ Some y → (y.yes.bounds ≡ r.no.bounds) × (y.no.bounds ≡ r.no.bounds) × AreEmpty y
+shown_more live shown s x k at count h same_yes same_no empty i r y e f = elim (last_or_before i (length shown) within) [
+  | inl l ↦ h i r y e (sym (still_there shown x i l) ∙ f)
+  | inr is ↦
+      let a : x ≡ y = some_sets x y (sym (at_its_end shown x) ∙ subst (λ j. slice_get (shown ++ x ∷ []) j ≡ Some y) is f) in
+      let b : s ≡ r = some_sets s r (sym at ∙ subst (λ j. slice_get live j ≡ Some r) (is ∙ count) e) in
+      subst (λ q. (y.yes.bounds ≡ q.no.bounds) × (y.no.bounds ≡ q.no.bounds) × AreEmpty y) b
+      (subst (λ q. (q.yes.bounds ≡ s.no.bounds) × (q.no.bounds ≡ s.no.bounds) × AreEmpty q) a (same_yes, same_no, empty))
+]
+  where
+    within : i < length shown + 1
+    within = subst (λ k. i < k) (length-append shown (x ∷ [])) (slice_get_within (shown ++ x ∷ []) i y f)

@@ -4,13 +4,12 @@ use Rattle.std.specs.Prelude.{IfSome}
 use Rattle.stl_syntax.specs.Trace.{Header, Row, Trace, AreRows, row_time, start}
 use Rattle.stl_syntax.specs.Formula.{Formula, root}
 use Rattle.atom_lines.specs.Binding.{Binding}
-use Rattle.early_verdict.specs.Standing.{AllFit, AllGo, AllWere, HaveSets, SteppedTo}
+use Rattle.early_verdict.specs.Living.{ComesOn, NetStands}
 use Rattle.early_verdict.specs.Happening.{Happens}
-use Rattle.early_verdict.specs.Deciding.{IsOpen, IsTruthAtStart, IsVerdict, SetsStand, last_after, last_of, trace_of}
+use Rattle.early_verdict.specs.Deciding.{IsOpen, IsTruthAtStart, IsVerdict, last_after, last_of, trace_of}
 use Rattle.early_verdict.specs.declared.event.Event.{Event}
 use Rattle.early_verdict.specs.declared.sets.Sets.{Sets}
-use Rattle.early_verdict.proofs.GoingOn.{end_fit}
-use Rattle.early_verdict.proofs.Having.{have_still, tidy_still}
+use Rattle.early_verdict.proofs.GoingOn.{end_final}
 use Rattle.early_verdict.proofs.DecideLemmas.{some_truth, truth_of}
 use Rattle.early_verdict.proofs.StandingOn.{rise_of}
 
@@ -30,9 +29,9 @@ last_width width r [] h = h.0
 last_width width r (x ∷ rows) h = last_width width x rows (h.1.1, h.1.2)
 
 -- the last row has the columns of the atoms
-pub last_wide : (f : Formula) (b : Binding) (header : Header) (r : Row) (rows : List Row) (begin : ℕ) (last : Option Row) (sets : List Sets)
-    → IsOpen f b header (r ∷ rows) begin last sets → IfSome last (λ q. length q.values ≡ b.width)
-last_wide f b header r rows begin last sets o =
+pub last_wide : (f : Formula) (b : Binding) (header : Header) (r : Row) (rows : List Row) (begin : ℕ) (last : Option Row) (live shown : List Sets)
+    → IsOpen f b header (r ∷ rows) begin last live shown → IfSome last (λ q. length q.values ≡ b.width)
+last_wide f b header r rows begin last live shown o =
     subst (λ x. IfSome x (λ q. length q.values ≡ b.width)) (sym o.ends) (last_width (length header.columns) r rows o.so_far ∙ sym o.bound.width)
 
 -- a row after the last
@@ -49,35 +48,35 @@ some_rows [] q e = absurd (let f : None ≡ Some q = e in cc)
 some_rows (r ∷ rows) q e = (r, rows, refl)
 
 -- before the first row
-pub open_first : (f : Formula) (b : Binding) (header : Header) (rows : List Row) (begin : ℕ) (last : Option Row) (sets : List Sets)
-    → last ≡ None → IsOpen f b header rows begin last sets → (rows ≡ []) × IsOpen f b header [] 0 None sets
-open_first f b header rows begin last sets none o = by_rows rows (none_rows rows (sym o.ends ∙ none)) o
+pub open_first : (f : Formula) (b : Binding) (header : Header) (rows : List Row) (begin : ℕ) (last : Option Row) (live shown : List Sets)
+    → last ≡ None → IsOpen f b header rows begin last live shown → (rows ≡ []) × IsOpen f b header [] 0 None live shown
+open_first f b header rows begin last live shown none o = by_rows rows (none_rows rows (sym o.ends ∙ none)) o
   where
-    by_rows : (l : List Row) → l ≡ [] → IsOpen f b header l begin last sets → (l ≡ []) × IsOpen f b header [] 0 None sets
+    by_rows : (l : List Row) → l ≡ [] → IsOpen f b header l begin last live shown → (l ≡ []) × IsOpen f b header [] 0 None live shown
     by_rows [] e o = (refl, record { bound = o.bound; formed = o.formed; some = o.some; so_far = tt; ends = refl; sets_are = o.sets_are })
     by_rows (r ∷ l) e o = absurd (let f : r ∷ l ≡ [] = e in cc)
 
 -- after others
-pub open_next : (f : Formula) (b : Binding) (header : Header) (rows : List Row) (begin : ℕ) (last : Option Row) (sets : List Sets) (q : Row)
-    → last ≡ Some q → IsOpen f b header rows begin last sets → (r : Row) × (more : List Row) × (rows ≡ r ∷ more) × IsOpen f b header (r ∷ more) begin last sets
-open_next f b header rows begin last sets q some o =
-    let w = some_rows rows q (sym o.ends ∙ some) in (w.0, w.1, w.2, subst (λ l. IsOpen f b header l begin last sets) w.2 o)
+pub open_next : (f : Formula) (b : Binding) (header : Header) (rows : List Row) (begin : ℕ) (last : Option Row) (live shown : List Sets) (q : Row)
+    → last ≡ Some q → IsOpen f b header rows begin last live shown → (r : Row) × (more : List Row) × (rows ≡ r ∷ more) × IsOpen f b header (r ∷ more) begin last live shown
+open_next f b header rows begin last live shown q some o =
+    let w = some_rows rows q (sym o.ends ∙ some) in (w.0, w.1, w.2, subst (λ l. IsOpen f b header l begin last live shown) w.2 o)
 
 -- once the input has ended, what the root says is the truth
-module _ (f : Formula) (b : Binding) (header : Header) (r : Row) (rows : List Row) (begin : ℕ) (before : Option Row) (sets new : List Sets)
-    (o : IsOpen f b header (r ∷ rows) begin before sets) (last : Row) (e : Event) (ended : e.ended ≡ true)
-    (happens : Happens e (Some (trace_of header (r ∷ rows))) (trace_of header (r ∷ rows))) (stepped : SteppedTo (length f.nodes) sets new)
-    (fits : (old : Option Trace) (tr : Trace) (tops : List ℕ) → Happens e old tr → HaveSets f.nodes (start tr) tops sets → AllGo f.nodes b e old tr None last
-    → AllWere old f.nodes sets → AllFit f.nodes e.ended tr new) where
-  stand : SetsStand f.nodes (trace_of header (r ∷ rows)) sets
+module _ (f : Formula) (b : Binding) (header : Header) (r : Row) (rows : List Row) (begin : ℕ) (before : Option Row) (live shown new new_shown : List Sets)
+    (o : IsOpen f b header (r ∷ rows) begin before live shown) (last : Row) (e : Event) (ended : e.ended ≡ true)
+    (happens : Happens e (Some (trace_of header (r ∷ rows))) (trace_of header (r ∷ rows))) (on : ComesOn f.nodes b e None last live new shown new_shown) where
+  stand : NetStands f.nodes (trace_of header (r ∷ rows)) live shown
   stand = o.sets_are.1
 
-  pub end_truth : (holds : Bool) → IsVerdict new begin (Some holds) → IsTruthAtStart (root f.nodes) (trace_of header (r ∷ rows)) holds
-  end_truth holds v = truth_of f.nodes header r rows new stand.tops o.formed o.some (have_still f.nodes (row_time r) stand.tops sets new stepped stand.have)
-      (tidy_still f.nodes (row_time r) stand.tops sets new stepped stand.have) (end_fit b f header r rows last e sets new o.bound o.so_far ended happens stand fits)
-      (rise_of header r rows o.so_far) holds (subst (λ k. IsVerdict new k (Some holds)) o.sets_are.0 v)
+  pub end_truth : (holds : Bool) → IsVerdict new_shown begin (Some holds) → IsTruthAtStart (root f.nodes) (trace_of header (r ∷ rows)) holds
+  end_truth holds v =
+      let k = end_final b f header r rows last e live shown new new_shown o.formed o.some o.bound o.so_far ended happens stand on.stepped on.shows on.tidy on.fits in
+      truth_of f.nodes header r rows new_shown (on.shows.count ∙ stand.have.shown_count) k.0 k.1 (rise_of header r rows o.so_far) holds
+      (subst (λ k. IsVerdict new_shown k (Some holds)) o.sets_are.0 v)
 
-  pub end_some : IsVerdict new begin None → ⊥
-  end_some v = some_truth f.nodes header r rows new stand.tops o.formed o.some (have_still f.nodes (row_time r) stand.tops sets new stepped stand.have)
-      (tidy_still f.nodes (row_time r) stand.tops sets new stepped stand.have) (end_fit b f header r rows last e sets new o.bound o.so_far ended happens stand fits)
-      (rise_of header r rows o.so_far) (subst (λ k. IsVerdict new k None) o.sets_are.0 v)
+  pub end_some : IsVerdict new_shown begin None → ⊥
+  end_some v =
+      let k = end_final b f header r rows last e live shown new new_shown o.formed o.some o.bound o.so_far ended happens stand on.stepped on.shows on.tidy on.fits in
+      some_truth f.nodes header r rows new_shown (on.shows.count ∙ stand.have.shown_count) k.0 k.1 (rise_of header r rows o.so_far)
+      (subst (λ k. IsVerdict new_shown k None) o.sets_are.0 v)

@@ -20,19 +20,19 @@ pub bound_any : (b : Binding) (f g : Formula) (h : Header) → f.nodes ≡ g.nod
 bound_any b f g h e k = record { width = k.width; atoms = λ i a at. k.atoms i a (subst (λ l. slice_get l i ≡ Some (Leaf a)) (sym e) at) }
 
 -- while nothing is decided it is open
-pub open_of : (x : Kept) (f : Formula) (rows : List Row) → x.nodes ≡ f.nodes → Stands x rows false → x.decided ≡ None → IsOpen f x.bound x.header rows x.begin x.last x.sets
+pub open_of : (x : Kept) (f : Formula) (rows : List Row) → x.nodes ≡ f.nodes → Stands x rows false → x.decided ≡ None → IsOpen f x.bound x.header rows x.begin x.last x.live x.shown
 open_of x f rows e s none = record {
   bound = bound_any x.bound (record { nodes = x.nodes; scale = s.scale }) f x.header e s.bound;
   formed = subst (λ l. AreWellFormed l) e s.formed;
   some = subst (λ l. 0 < length l) e s.some;
   so_far = s.so_far;
   ends = s.last;
-  sets_are = subst (λ l. SetsAre l x.header x.begin x.sets rows) e (by_none x.decided none s.by);
+  sets_are = subst (λ l. SetsAre l x.header x.begin x.live x.shown rows) e (by_none x.decided none s.by);
 }
   where
     by_none : (d : Option Decided) → d ≡ None
-        → MatchOption d (NoneDecides (root x.nodes) x.header rows × (x.ended ≡ false → SetsAre x.nodes x.header x.begin x.sets rows)) (WasDecided (root x.nodes) x.header rows)
-        → SetsAre x.nodes x.header x.begin x.sets rows
+        → MatchOption d (NoneDecides (root x.nodes) x.header rows × (x.ended ≡ false → SetsAre x.nodes x.header x.begin x.live x.shown rows)) (WasDecided (root x.nodes) x.header rows)
+        → SetsAre x.nodes x.header x.begin x.live x.shown rows
     by_none None n h = h.1 s.is_ended
     by_none (Some d) n h = absurd (let f : Some d ≡ None = n in cc)
 
@@ -47,42 +47,43 @@ last_on [] x = refl
 last_on (r ∷ rows) x = ap Some (sym (last_row_pushed r rows x))
 
 -- what the sets say of rows with one more
-decided_on : (nodes : List Node) (header : Header) (rows : List Row) (x : Row) (begin : ℕ) (sets : List Sets) (verdict : Option Bool) → AreWellFormed nodes → 0 < length nodes
-    → SetsAre nodes header begin sets (rows ++ x ∷ []) → IsVerdict sets begin verdict
+decided_on : (nodes : List Node) (header : Header) (rows : List Row) (x : Row) (begin : ℕ) (live shown : List Sets) (verdict : Option Bool) → 0 < length nodes
+    → SetsAre nodes header begin live shown (rows ++ x ∷ []) → IsVerdict shown begin verdict
     → MatchOption verdict ((b : Bool) → Decides (root nodes) (trace_of header (rows ++ x ∷ [])) b → ⊥) (λ b. Decides (root nodes) (trace_of header (rows ++ x ∷ [])) b)
-decided_on nodes header [] x begin sets verdict formed some (e, s) v = decided_of nodes header x [] sets formed some s verdict (subst (λ k. IsVerdict sets k verdict) e v)
-decided_on nodes header (r ∷ rows) x begin sets verdict formed some (e, s) v =
-    decided_of nodes header r (rows ++ x ∷ []) sets formed some s verdict (subst (λ k. IsVerdict sets k verdict) e v)
+decided_on nodes header [] x begin live shown verdict some (e, s) v = decided_of nodes header x [] live shown some s verdict (subst (λ k. IsVerdict shown k verdict) e v)
+decided_on nodes header (r ∷ rows) x begin live shown verdict some (e, s) v =
+    decided_of nodes header r (rows ++ x ∷ []) live shown some s verdict (subst (λ k. IsVerdict shown k verdict) e v)
 
 -- the verdict of the row
 abbrev pub decided_now : ℕ → Option Bool → Option Decided
 decided_now t verdict = option_map (λ holds. record { at = t; holds = holds }) verdict
 
 module _ (x : Kept) (rows : List Row) (st : Stands x rows false) (none : x.decided ≡ None) (r : Row) (width : length r.values ≡ x.bound.width)
-    (later : IfSome x.last (λ q. q.time < r.time)) (begin : ℕ) (sets left : List Sets) (are : SetsAre x.nodes x.header begin sets (rows ++ r ∷ []))
-    (verdict : Option Bool) (v : IsVerdict sets begin verdict) (let_go : decided_now r.time verdict ≡ None → left ≡ sets) where
+    (later : IfSome x.last (λ q. q.time < r.time)) (begin : ℕ) (live shown left left_shown : List Sets) (are : SetsAre x.nodes x.header begin live shown (rows ++ r ∷ []))
+    (verdict : Option Bool) (v : IsVerdict shown begin verdict)
+    (let_go : decided_now r.time verdict ≡ None → SetsAre x.nodes x.header begin left left_shown (rows ++ r ∷ [])) where
   none_yet : NoneDecides (root x.nodes) x.header rows
   none_yet = by_none x.decided none st.by
     where
       by_none : (d : Option Decided) → d ≡ None
-          → MatchOption d (NoneDecides (root x.nodes) x.header rows × (x.ended ≡ false → SetsAre x.nodes x.header x.begin x.sets rows)) (WasDecided (root x.nodes) x.header rows)
+          → MatchOption d (NoneDecides (root x.nodes) x.header rows × (x.ended ≡ false → SetsAre x.nodes x.header x.begin x.live x.shown rows)) (WasDecided (root x.nodes) x.header rows)
           → NoneDecides (root x.nodes) x.header rows
       by_none None n h = h.0
       by_none (Some d) n h = absurd (let f : Some d ≡ None = n in cc)
 
   -- what is kept with the row
   abbrev pub with_row : Kept
-  with_row = record x { sets = left; begin = begin; last = Some r; decided = decided_now r.time verdict }
+  with_row = record x { live = left; shown = left_shown; begin = begin; last = Some r; decided = decided_now r.time verdict }
 
   stands_by : StandsBy with_row (rows ++ r ∷ [])
   stands_by = by_verdict verdict v let_go
     where
-      by_verdict : (o : Option Bool) → IsVerdict sets begin o → (decided_now r.time o ≡ None → left ≡ sets)
-          → MatchOption (decided_now r.time o) (NoneDecides (root x.nodes) x.header (rows ++ r ∷ []) × (x.ended ≡ false → SetsAre x.nodes x.header begin left (rows ++ r ∷ [])))
+      by_verdict : (o : Option Bool) → IsVerdict shown begin o → (decided_now r.time o ≡ None → SetsAre x.nodes x.header begin left left_shown (rows ++ r ∷ []))
+          → MatchOption (decided_now r.time o) (NoneDecides (root x.nodes) x.header (rows ++ r ∷ []) × (x.ended ≡ false → SetsAre x.nodes x.header begin left left_shown (rows ++ r ∷ [])))
           (WasDecided (root x.nodes) x.header (rows ++ r ∷ []))
       by_verdict None u g = (
-        none_more (root x.nodes) x.header rows r none_yet (decided_on x.nodes x.header rows r begin sets None st.formed st.some are u),
-        λ o. subst (λ l. SetsAre x.nodes x.header begin l (rows ++ r ∷ [])) (sym (g refl)) are,
+        none_more (root x.nodes) x.header rows r none_yet (decided_on x.nodes x.header rows r begin live shown None st.some are u),
+        λ o. g refl,
       )
       by_verdict (Some holds) u g = record {
         before = rows;
@@ -90,7 +91,7 @@ module _ (x : Kept) (rows : List Row) (st : Stands x rows false) (none : x.decid
         after = [];
         among = refl;
         at = refl;
-        first = record { decides = decided_on x.nodes x.header rows r begin sets (Some holds) st.formed st.some are u; not_before = none_yet };
+        first = record { decides = decided_on x.nodes x.header rows r begin live shown (Some holds) st.some are u; not_before = none_yet };
       }
 
   pub fed_stands : Stands with_row (rows ++ r ∷ []) false
@@ -109,11 +110,11 @@ module _ (x : Kept) (rows : List Row) (st : Stands x rows false) (none : x.decid
   pub fed_answer : IsAnswer (root x.nodes) x.header rows r (decided_now r.time verdict)
   fed_answer = by_verdict verdict v
     where
-      by_verdict : (o : Option Bool) → IsVerdict sets begin o → IsAnswer (root x.nodes) x.header rows r (decided_now r.time o)
-      by_verdict None u = λ b f. decided_on x.nodes x.header rows r begin sets None st.formed st.some are u b f.decides
+      by_verdict : (o : Option Bool) → IsVerdict shown begin o → IsAnswer (root x.nodes) x.header rows r (decided_now r.time o)
+      by_verdict None u = λ b f. decided_on x.nodes x.header rows r begin live shown None st.some are u b f.decides
       by_verdict (Some holds) u = (
         refl,
-        record { decides = decided_on x.nodes x.header rows r begin sets (Some holds) st.formed st.some are u; not_before = none_yet },
+        record { decides = decided_on x.nodes x.header rows r begin live shown (Some holds) st.some are u; not_before = none_yet },
       )
 
 -- a row after one that has decided
@@ -122,7 +123,7 @@ module _ (x : Kept) (rows : List Row) (st : Stands x rows false) (d : Decided) (
   was = by_some x.decided is st.by
     where
       by_some : (o : Option Decided) → o ≡ Some d
-          → MatchOption o (NoneDecides (root x.nodes) x.header rows × (x.ended ≡ false → SetsAre x.nodes x.header x.begin x.sets rows)) (WasDecided (root x.nodes) x.header rows)
+          → MatchOption o (NoneDecides (root x.nodes) x.header rows × (x.ended ≡ false → SetsAre x.nodes x.header x.begin x.live x.shown rows)) (WasDecided (root x.nodes) x.header rows)
           → WasDecided (root x.nodes) x.header rows d
       by_some None e h = absurd (let f : None ≡ Some d = e in cc)
       by_some (Some b) e h = subst (λ y. WasDecided (root x.nodes) x.header rows y) (same b d e) h
@@ -141,7 +142,7 @@ module _ (x : Kept) (rows : List Row) (st : Stands x rows false) (d : Decided) (
     running = st.running;
     is_ended = st.is_ended;
     last = last_on rows r;
-    by = subst (λ o. MatchOption o (NoneDecides (root x.nodes) x.header (rows ++ r ∷ []) × (x.ended ≡ false → SetsAre x.nodes x.header x.begin x.sets (rows ++ r ∷ [])))
+    by = subst (λ o. MatchOption o (NoneDecides (root x.nodes) x.header (rows ++ r ∷ []) × (x.ended ≡ false → SetsAre x.nodes x.header x.begin x.live x.shown (rows ++ r ∷ [])))
         (WasDecided (root x.nodes) x.header (rows ++ r ∷ []))) (sym is) (still_decided (root x.nodes) x.header rows d r was);
   }
 
@@ -149,8 +150,8 @@ module _ (x : Kept) (rows : List Row) (st : Stands x rows false) (d : Decided) (
   passed_answer r b f = not_again (root x.nodes) x.header rows d r b was f
 
 -- the end
-pub ended_stands : (x : Kept) (rows : List Row) (sets : List Sets) → Stands x rows false → Stands (record x { sets = sets; ended = true }) rows true
-ended_stands x rows sets st = record {
+pub ended_stands : (x : Kept) (rows : List Row) (live shown : List Sets) → Stands x rows false → Stands (record x { live = live; shown = shown; ended = true }) rows true
+ended_stands x rows live shown st = record {
   formed = st.formed;
   some = st.some;
   scale = st.scale;
@@ -163,8 +164,8 @@ ended_stands x rows sets st = record {
 }
   where
     by_some : (o : Option Decided)
-        → MatchOption o (NoneDecides (root x.nodes) x.header rows × (x.ended ≡ false → SetsAre x.nodes x.header x.begin x.sets rows)) (WasDecided (root x.nodes) x.header rows)
-        → MatchOption o (NoneDecides (root x.nodes) x.header rows × (true ≡ false → SetsAre x.nodes x.header x.begin sets rows)) (WasDecided (root x.nodes) x.header rows)
+        → MatchOption o (NoneDecides (root x.nodes) x.header rows × (x.ended ≡ false → SetsAre x.nodes x.header x.begin x.live x.shown rows)) (WasDecided (root x.nodes) x.header rows)
+        → MatchOption o (NoneDecides (root x.nodes) x.header rows × (true ≡ false → SetsAre x.nodes x.header x.begin live shown rows)) (WasDecided (root x.nodes) x.header rows)
     by_some None h = (h.0, λ e. absurd (let f : true ≡ false = e in cc))
     by_some (Some d) h = h
 

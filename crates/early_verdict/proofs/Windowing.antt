@@ -34,7 +34,7 @@ back_lt k t u = (
   λ h. lt_shift_cancel (pos k) (lt_of_le_of_lt (le_of_same (shift_forth t (pos k))) (lt_of_lt_of_le h (le_of_same (later-add u k)))),
 )
 
-le_back : (k : ℕ) (t u : Rational) → (u ≤ʳ add t (whole (neg_ℤ (pos k)))) ↔ (later u k ≤ʳ t)
+pub le_back : (k : ℕ) (t u : Rational) → (u ≤ʳ add t (whole (neg_ℤ (pos k)))) ↔ (later u k ≤ʳ t)
 le_back k t u = (
   λ h. le_trans (le_of_same (later-add u k)) (le_trans (le_shift (pos k) h) (le_of_same (shift_forth t (pos k)))),
   λ h. le_shift_cancel (pos k) (le_trans (ge_of_same (later-add u k)) (le_trans h (ge_of_same (shift_forth t (pos k))))),

@@ -11,19 +11,20 @@ use Rattle.stl_syntax.specs.declared.scale.Scale.{Scale}
 use Rattle.atom_lines.specs.Binding.{Binding, IsBound}
 use Rattle.early_verdict.specs.Spans.{IsOn}
 use Rattle.early_verdict.specs.Fitting.{lists_at}
-use Rattle.early_verdict.specs.Standing.{AllFit, AllTidy, HaveSets}
+use Rattle.early_verdict.specs.Living.{NetStands}
 use Rattle.early_verdict.specs.declared.sets.Sets.{Sets}
 use Rattle.early_verdict.specs.declared.early.Decided.{Decided}
 use Rattle.early_verdict.specs.declared.early.EarlyFault.{EarlyFault}
 use Rattle.early_verdict.specs.declared.early.EarlyFault.TheVariants.{Stopped, Memory}
 
--- what an early verdict keeps: the formula and its atoms' columns, the sets of its nodes, the first time and the last row, the verdict of
+-- what an early verdict keeps: the formula and its atoms' columns, what its nodes go on from and what they show, the first time and the last row, the verdict of
 -- the row that decided, whether the input has ended, and whether a call answered want of memory
 pub record Kept : Type 0 where
   pub nodes : List Node
   pub header : Header
   pub bound : Binding
-  pub sets : List Sets
+  pub live : List Sets
+  pub shown : List Sets
   pub begin : ℕ
   pub last : Option Row
   pub decided : Option Decided
@@ -47,26 +48,19 @@ abbrev pub AreRowsSoFar : ℕ → List Row → Type 0
 AreRowsSoFar width [] = Unit {0}
 AreRowsSoFar width (r ∷ rows) = AreRows width (r ∷ rows)
 
--- the sets tell what the rows settle
-pub record SetsStand (nodes : List Node) (tr : Trace) (sets : List Sets) : Type 0 where
-  pub tops : List ℕ
-  pub have : HaveSets nodes (start tr) tops sets
-  pub tidy : AllTidy sets
-  pub fit : AllFit nodes false tr sets
-
--- before any row there are none
-abbrev pub SetsAre : List Node → Header → ℕ → List Sets → List Row → Type 0
-SetsAre nodes header begin sets [] = sets ≡ []
-SetsAre nodes header begin sets (r ∷ rows) = (begin ≡ r.time) × SetsStand nodes (trace_of header (r ∷ rows)) sets
+-- before any row there are no sets; then they tell what the rows settle
+abbrev pub SetsAre : List Node → Header → ℕ → List Sets → List Sets → List Row → Type 0
+SetsAre nodes header begin live shown [] = Unit {0}
+SetsAre nodes header begin live shown (r ∷ rows) = (begin ≡ r.time) × NetStands nodes (trace_of header (r ∷ rows)) live shown
 
 -- what is kept while nothing is decided: the rows are so far those of a trace for the formula, and the sets tell what they settle
-pub record IsOpen (f : Formula) (b : Binding) (header : Header) (rows : List Row) (begin : ℕ) (last : Option Row) (sets : List Sets) : Type 0 where
+pub record IsOpen (f : Formula) (b : Binding) (header : Header) (rows : List Row) (begin : ℕ) (last : Option Row) (live shown : List Sets) : Type 0 where
   pub bound : IsBound b f header
   pub formed : AreWellFormed f.nodes
   pub some : 0 < length f.nodes
   pub so_far : AreRowsSoFar (length header.columns) rows
   pub ends : last ≡ last_of rows
-  pub sets_are : SetsAre f.nodes header begin sets rows
+  pub sets_are : SetsAre f.nodes header begin live shown rows
 
 -- the sets of the root, the last, say of the start that it is certainly true, certainly false, or neither
 abbrev pub IsVerdict : List Sets → ℕ → Option Bool → Type 0
@@ -86,7 +80,7 @@ pub record WasDecided (p : Subformula) (header : Header) (rows : List Row) (d : 
 
 -- nothing is decided, and the sets tell what is settled so far; or a row has decided
 abbrev pub StandsBy : Kept → List Row → Type 0
-StandsBy x rows = MatchOption x.decided (NoneDecides (root x.nodes) x.header rows × (x.ended ≡ false → SetsAre x.nodes x.header x.begin x.sets rows)) (WasDecided (root x.nodes) x.header rows)
+StandsBy x rows = MatchOption x.decided (NoneDecides (root x.nodes) x.header rows × (x.ended ≡ false → SetsAre x.nodes x.header x.begin x.live x.shown rows)) (WasDecided (root x.nodes) x.header rows)
 
 -- an early verdict stands for these rows, ended or not
 pub record Stands (x : Kept) (rows : List Row) (ended : Bool) : Type 0 where

@@ -12,6 +12,9 @@ pub mod Fitting
 pub mod Happening
 pub mod Looking
 pub mod Standing
+pub mod Showing
+pub mod Living
+pub mod Letting
 pub mod Tops
 pub mod Adding
 pub mod Making

@@ -1,5 +1,5 @@
 -- The sets of a formula's nodes, before any row.
-use Rattle.std.specs.Prelude.{◌≡◌, ℕ, List, None, Some, MatchOption, slice_get}
+use Rattle.std.specs.Prelude.{◌≡◌, ℕ, List, None, Some, MatchOption, length, slice_get}
 use Rattle.rational.specs.Time.{Rational}
 use Rattle.stl_syntax.specs.declared.node.Node.{Node}
 use Rattle.early_verdict.specs.Fitting.{AreEmpty}
@@ -37,3 +37,9 @@ pub record AreMade (nodes : List Node) (from : Rational) (sets : List Sets) : Ty
   pub have : HaveSets nodes from tops sets
   pub tidy : AllTidy sets
   pub empty : AllEmpty sets
+  pub same : (i : ℕ) (s : Sets) → slice_get sets i ≡ Some s → s.yes.bounds ≡ s.no.bounds
+
+-- as many empty sets with the same bounds
+pub record AreShownOf (live shown : List Sets) : Type 0 where
+  pub count : length shown ≡ length live
+  pub has : (i : ℕ) (s x : Sets) → slice_get live i ≡ Some s → slice_get shown i ≡ Some x → (x.yes.bounds ≡ s.no.bounds) × (x.no.bounds ≡ s.no.bounds) × AreEmpty x

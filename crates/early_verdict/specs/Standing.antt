@@ -80,9 +80,9 @@ pub record HaveSets (nodes : List Node) (from : Rational) (tops : List ℕ) (set
   pub has : (i : ℕ) (n : Node) (s : Sets) → slice_get nodes i ≡ Some n → slice_get sets i ≡ Some s → HasSets from tops sets i n s
   pub asks : (i : ℕ) (n : Node) → slice_get nodes i ≡ Some n → AsksBelow (top_at tops) (top_at tops i) n
 
--- the sets of each node fit those of its children
-abbrev pub AllFit : List Node → Bool → Trace → List Sets → Type 0
-AllFit nodes ended tr sets = (i : ℕ) (n : Node) (s : Sets) → slice_get nodes i ≡ Some n → slice_get sets i ≡ Some s → Fits n ended tr (lists_at sets) s
+-- what each node goes on from fits what its children show
+abbrev pub AllFit : List Node → Bool → Trace → List Sets → List Sets → Type 0
+AllFit nodes ended tr live shown = (i : ℕ) (n : Node) (s : Sets) → slice_get nodes i ≡ Some n → slice_get live i ≡ Some s → Fits n ended tr (lists_at shown) s
 
 -- the lists of all sets rise
 abbrev pub AllTidy : List Sets → Type 0
@@ -147,6 +147,6 @@ abbrev pub AllGo : List Node → Binding → Event → Option Trace → Trace �
 AllGo nodes b e old tr before r =
     (i : ℕ) (a : Atom) → slice_get nodes i ≡ Some (Leaf a) → IsFor b i a tr × GoesOnWith e old tr before r a
 
--- the sets fitted the trace before, or were empty; and their lists lie after the start
-abbrev pub AllWere : Option Trace → List Node → List Sets → Type 0
-AllWere old nodes sets = MatchOption old (AllEmpty sets) (λ o. AllFit nodes false o sets)
+-- the sets fitted the trace before, or were empty
+abbrev pub AllWere : Option Trace → List Node → List Sets → List Sets → Type 0
+AllWere old nodes live shown = MatchOption old (AllEmpty live × AllEmpty shown) (λ o. AllFit nodes false o live shown)

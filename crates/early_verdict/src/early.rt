@@ -1,14 +1,16 @@
 //! The verdict at the start, at the first row that settles it.
 //!
 //! An early verdict stands for the rows that it took, and whether they have ended. It stores none of them: what its sets tell is what the
-//! rows settle, whatever they were.
+//! rows settle, whatever they were; and of that it keeps what a later answer may look at.
 ghost use Rattle.std.specs.Prelude.{◌≡◌, ◌<◌, ◌++◌, ◌∷◌, [], List, length, IfOk, IfSome, IsSome, MatchResult, IfErr, None, true, false, option_map};
-ghost use Rattle.stl_syntax.specs.Trace.{Row as ARow};
+ghost use Rattle.stl_syntax.specs.Trace.{Row as ARow, Trace as ATrace};
+ghost use Rattle.early_verdict.specs.Living.{NetStands};
 ghost use Rattle.stl_syntax.specs.Formula.{root};
 ghost use Rattle.atom_lines.specs.Binding.{IsBound};
 
 use crate::events::{end_sets, root_verdict, take_row};
-use crate::sets::Sets;
+use crate::letting::let_go;
+use crate::sets::Net;
 use atom_lines::Bound;
 use std::alloc::Global;
 use std::marker::Model;
@@ -40,8 +42,8 @@ pub struct Early {
     formula: Formula,
     header: Header,
     bound: Bound,
-    /// Of each node, in post-order; none before the first row, and none once a row has decided.
-    sets: Vec<Sets>,
+    /// The sets of each node; none before the first row, and none once a row has decided.
+    net: Net,
     begin: u32,
     last: Option<Row>,
     decided: Option<Decided>,
@@ -60,7 +62,8 @@ impl Model for Early {
       nodes = e.formula.nodes;
       header = e.header;
       bound = e.bound;
-      sets = e.sets.items;
+      live = e.net.live.items;
+      shown = e.net.shown.items;
       begin = e.begin;
       last = e.last;
       decided = e.decided;
@@ -72,7 +75,8 @@ impl Model for Early {
       nodes = e.formula.nodes;
       header = e.header;
       bound = e.bound;
-      sets = e.sets.items;
+      live = e.net.live.items;
+      shown = e.net.shown.items;
       begin = e.begin;
       last = e.last;
       decided = e.decided;
@@ -91,13 +95,18 @@ fn decided_at(at: u32, verdict: Option<bool>) -> Option<Decided>
     }
 }
 
-/// Lets the sets go once a row has decided.
-fn let_go(sets: &mut Vec<Sets>, decided: &Option<Decided>)
-    ensures { decided.now ≡ None → sets.new.items ≡ sets.old.items }
+/// Lets go of what no later answer needs; of all sets, once a row has decided.
+fn let_go_by(net: &mut Net, formula: &Formula, decided: &Option<Decided>)
+    requires { decided.now ≡ None → (tr : ATrace) × NetStands formula.now.nodes tr net.old.live.items net.old.shown.items }
+    ensures { decided.now ≡ None → (tr : ATrace) → NetStands formula.now.nodes tr net.old.live.items net.old.shown.items
+        → NetStands formula.now.nodes tr net.new.live.items net.new.shown.items }
 {
     if decided.is_some() {
-        sets.clear();
+        net.live.clear();
+        net.shown.clear();
+        return;
     }
+    let_go(net, formula);
 }
 
 impl Early {
@@ -117,7 +126,10 @@ impl Early {
             formula,
             header,
             bound,
-            sets: Vec::new(alloc),
+            net: Net {
+                live: Vec::new(alloc),
+                shown: Vec::new(alloc),
+            },
             begin: 0,
             last: None,
             decided: None,
@@ -160,7 +172,7 @@ impl Early {
         }
         let Ok(begin) = take_row(
             self.alloc,
-            &mut self.sets,
+            &mut self.net,
             &self.formula,
             &self.bound,
             self.begin,
@@ -170,8 +182,8 @@ impl Early {
             self.stopped = true;
             return Err(EarlyFault::Memory);
         };
-        let decided = decided_at(row.time(), root_verdict(&self.sets, begin));
-        let_go(&mut self.sets, &decided);
+        let decided = decided_at(row.time(), root_verdict(&self.net.shown, begin));
+        let_go_by(&mut self.net, &self.formula, &decided);
         self.begin = begin;
         self.last = Some(kept);
         self.decided = decided;
@@ -201,7 +213,7 @@ impl Early {
             return Ok(decided.holds);
         }
         let Ok(holds) = end_sets(
-            &mut self.sets,
+            &mut self.net,
             &self.formula,
             &self.bound,
             self.begin,

@@ -1,20 +1,21 @@
 //! Rows and the end of the input, as they come to the sets of all nodes.
 ghost use Rattle.std.specs.Prelude.{◌≡◌, ◌<◌, ◌++◌, ◌∷◌, ◌↔◌, [], ℕ, List, Option, length, pos, slice_get, IfOk, IfSome, IsTrue, OnOk, Some, None, true, false};
-ghost use Rattle.stl_syntax.specs.Trace.{Header, Row as ARow, Trace, start};
+ghost use Rattle.stl_syntax.specs.Trace.{Header, Row as ARow};
 ghost use Rattle.stl_syntax.specs.Formula.{root};
 ghost use Rattle.rational.specs.Rational.{whole};
 ghost use Rattle.early_verdict.specs.Spans.{AreTidy, IsOn};
 ghost use Rattle.early_verdict.specs.Happening.{Happens, IsEvent};
 ghost use Rattle.stl_syntax.specs.declared.node.Node.{Node as ANode};
-ghost use Rattle.early_verdict.specs.Standing.{AllEmpty, AllFit, AllGo, AllTidy, AllWere, HaveSets, LeafIsBound, SteppedTo};
+ghost use Rattle.early_verdict.specs.Standing.{AllEmpty, AllTidy, LeafIsBound};
+ghost use Rattle.early_verdict.specs.Living.{ComesOn};
 ghost use Rattle.early_verdict.specs.Deciding.{IsOpen, IsTruthAtStart, IsVerdict, SetsAre, last_after, trace_of};
 
 use crate::atoms::{after_tick, before_tick};
 use crate::event::Event;
 use crate::grown::Grown;
-use crate::making::all_sets;
+use crate::making::{all_sets, shown_of};
 use crate::net::step_all;
-use crate::sets::Sets;
+use crate::sets::{Net, Sets};
 use atom_lines::Bound;
 use frac128::Memory;
 use std::alloc::Global;
@@ -81,96 +82,104 @@ fn end_event(start: u32, last: u32) -> Event
 
 /// The sets of all nodes once an event has come.
 fn step_sets(
-    sets: &mut Vec<Sets>,
+    net: &mut Net,
     formula: &Formula,
     bound: &Bound,
     before: &Option<Row>,
     row: &Row,
     event: &Event,
 ) -> Result<(), Memory>
-    requires count { length sets.old.items ≡ length formula.now.nodes }
-    requires tidy { AllTidy sets.old.items }
+    requires count { length net.old.live.items ≡ length formula.now.nodes }
+    requires shown_count { length net.old.shown.items ≡ length formula.now.nodes }
+    requires tidy { AllTidy net.old.live.items }
+    requires shown_tidy { AllTidy net.old.shown.items }
     requires event { IsEvent event.now }
-    requires none { event.now.first ≡ true → AllEmpty sets.old.items }
+    requires none { event.now.first ≡ true → AllEmpty net.old.live.items }
     requires atoms { (i : ℕ) (n : ANode) → slice_get formula.now.nodes i ≡ Some n → LeafIsBound bound.now i n }
     requires first { IfSome before.now (λ r. length r.values ≡ bound.now.width) }
     requires second { length row.now.values ≡ bound.now.width }
     requires later { IfSome before.now (λ r. r.time < row.now.time) }
-    ensures stepped { OnOk result (SteppedTo (length formula.now.nodes) sets.old.items sets.new.items) }
-    ensures fits { OnOk result ((old : Option Trace) (tr : Trace) (tops : List ℕ) → Happens event.now old tr
-        → HaveSets formula.now.nodes (start tr) tops sets.old.items → AllGo formula.now.nodes bound.now event.now old tr before.now row.now
-        → AllWere old formula.now.nodes sets.old.items → AllFit formula.now.nodes event.now.ended tr sets.new.items) }
+    ensures { OnOk result (ComesOn formula.now.nodes bound.now event.now before.now row.now net.old.live.items net.new.live.items net.old.shown.items net.new.shown.items) }
 {
-    step_all(sets, formula, bound, before, row, event)?;
+    step_all(
+        &mut net.live,
+        &mut net.shown,
+        formula,
+        bound,
+        before,
+        row,
+        event,
+    )?;
     Ok(())
 }
 
 /// The sets after the first row, of nothing before.
 fn take_first(
     alloc: Global,
-    sets: &mut Vec<Sets>,
+    net: &mut Net,
     formula: &Formula,
     bound: &Bound,
     row: &Row,
 ) -> Result<(), Memory>
-    requires open { (header : Header) × IsOpen formula.now bound.now header [] 0 None sets.old.items }
+    requires open { (header : Header) × IsOpen formula.now bound.now header [] 0 None net.old.live.items net.old.shown.items }
     requires width { length row.now.values ≡ bound.now.width }
-    ensures { OnOk result ((header : Header) → IsOpen formula.now bound.now header [] 0 None sets.old.items
-        → SetsAre formula.now.nodes header row.now.time sets.new.items (row.now ∷ [])) }
+    ensures { OnOk result ((header : Header) → IsOpen formula.now bound.now header [] 0 None net.old.live.items net.old.shown.items
+        → SetsAre formula.now.nodes header row.now.time net.new.live.items net.new.shown.items (row.now ∷ [])) }
 {
-    let made = all_sets(alloc, formula, row.time())?;
-    *sets = made;
+    let live = all_sets(alloc, formula, row.time())?;
+    let shown = shown_of(alloc, &live)?;
+    *net = Net { live, shown };
     let event = first_event(row.time());
-    step_sets(sets, formula, bound, &None, row, &event)?;
+    step_sets(net, formula, bound, &None, row, &event)?;
     Ok(())
 }
 
 /// The sets after a row that follows others.
 fn take_next(
-    sets: &mut Vec<Sets>,
+    net: &mut Net,
     formula: &Formula,
     bound: &Bound,
     begin: u32,
     last: &Option<Row>,
     row: &Row,
 ) -> Result<(), Memory>
-    requires open { (header : Header) × (r : ARow) × (rows : List ARow) × IsOpen formula.now bound.now header (r ∷ rows) begin last.now sets.old.items }
+    requires open { (header : Header) × (r : ARow) × (rows : List ARow) × IsOpen formula.now bound.now header (r ∷ rows) begin last.now net.old.live.items net.old.shown.items }
     requires width { length row.now.values ≡ bound.now.width }
     requires later { IfSome last.now (λ q. q.time < row.now.time) }
-    ensures { OnOk result ((header : Header) (r : ARow) (rows : List ARow) → IsOpen formula.now bound.now header (r ∷ rows) begin last.now sets.old.items
-        → SetsAre formula.now.nodes header begin sets.new.items (r ∷ (rows ++ row.now ∷ []))) }
+    ensures { OnOk result ((header : Header) (r : ARow) (rows : List ARow) → IsOpen formula.now bound.now header (r ∷ rows) begin last.now net.old.live.items net.old.shown.items
+        → SetsAre formula.now.nodes header begin net.new.live.items net.new.shown.items (r ∷ (rows ++ row.now ∷ []))) }
 {
     let Some(before) = last else {
         unreachable!();
     };
     let event = next_event(begin, before.time(), row.time());
-    step_sets(sets, formula, bound, last, row, &event)?;
+    step_sets(net, formula, bound, last, row, &event)?;
     Ok(())
 }
 
 /// The sets after a row, and the time of the first one.
 pub(crate) fn take_row(
     alloc: Global,
-    sets: &mut Vec<Sets>,
+    net: &mut Net,
     formula: &Formula,
     bound: &Bound,
     begin: u32,
     last: &Option<Row>,
     row: &Row,
 ) -> Result<u32, Memory>
-    requires open { (header : Header) × (rows : List ARow) × IsOpen formula.now bound.now header rows begin last.now sets.old.items }
+    requires open { (header : Header) × (rows : List ARow) × IsOpen formula.now bound.now header rows begin last.now net.old.live.items net.old.shown.items }
     requires width { length row.now.values ≡ bound.now.width }
     requires later { IfSome last.now (λ q. q.time < row.now.time) }
-    ensures { IfOk result (λ start. (header : Header) (rows : List ARow) → IsOpen formula.now bound.now header rows begin last.now sets.old.items
-        → SetsAre formula.now.nodes header start sets.new.items (rows ++ row.now ∷ [])) }
+    ensures { IfOk result (λ start. (header : Header) (rows : List ARow) → IsOpen formula.now bound.now header rows begin last.now net.old.live.items net.old.shown.items
+        → SetsAre formula.now.nodes header start net.new.live.items net.new.shown.items (rows ++ row.now ∷ [])) }
 {
     match last {
         None => {
-            take_first(alloc, sets, formula, bound, row)?;
+            take_first(alloc, net, formula, bound, row)?;
             Ok(row.time())
         }
         Some(_) => {
-            take_next(sets, formula, bound, begin, last, row)?;
+            take_next(net, formula, bound, begin, last, row)?;
             Ok(begin)
         }
     }
@@ -202,22 +211,23 @@ pub(crate) fn root_verdict(sets: &[Sets], start: u32) -> Option<bool>
 
 /// The truth at the start, once the input has ended after that row.
 pub(crate) fn end_sets(
-    sets: &mut Vec<Sets>,
+    net: &mut Net,
     formula: &Formula,
     bound: &Bound,
     begin: u32,
     last: &Option<Row>,
 ) -> Result<bool, Memory>
-    requires open { (header : Header) × (r : ARow) × (rows : List ARow) × IsOpen formula.now bound.now header (r ∷ rows) begin last.now sets.old.items }
-    ensures { IfOk result (λ holds. (header : Header) (r : ARow) (rows : List ARow) → IsOpen formula.now bound.now header (r ∷ rows) begin last.now sets.old.items
+    requires open { (header : Header) × (r : ARow) × (rows : List ARow) × IsOpen formula.now bound.now header (r ∷ rows) begin last.now net.old.live.items net.old.shown.items }
+    ensures { IfOk result (λ holds. (header : Header) (r : ARow) (rows : List ARow)
+        → IsOpen formula.now bound.now header (r ∷ rows) begin last.now net.old.live.items net.old.shown.items
         → IsTruthAtStart (root formula.now.nodes) (trace_of header (r ∷ rows)) holds) }
 {
     let Some(row) = last else {
         unreachable!();
     };
     let event = end_event(begin, row.time());
-    step_sets(sets, formula, bound, &None, row, &event)?;
-    match root_verdict(sets, begin) {
+    step_sets(net, formula, bound, &None, row, &event)?;
+    match root_verdict(&net.shown, begin) {
         Some(holds) => Ok(holds),
         None => unreachable!(),
     }

@@ -1,7 +1,8 @@
 //! Early verdicts: the truth at the start of a trace, told at the first row that settles it, whatever follows.
 //!
 //! `Early` keeps two sets of times for each node of a formula: those at which it is certainly true, and those at which it is certainly
-//! false. Each set only grows, and is made of what its inputs gained at a row. No row is kept but the last.
+//! false. Each set grows by what its inputs gained at a row, and lets go of the times that no later answer looks at. No row is kept but
+//! the last.
 #![tactic(auto)]
 
 mod atoms;
@@ -13,6 +14,7 @@ mod events;
 mod grown;
 mod held;
 mod lasting;
+mod letting;
 mod looks;
 mod making;
 mod net;
@@ -23,6 +25,7 @@ mod runs;
 mod seeing;
 mod sets;
 mod shared;
+mod showing;
 mod steps;
 mod stretch;
 mod sure;

@@ -6,7 +6,7 @@ ghost use Rattle.stl_syntax.specs.declared.node.Node.{Node as ANode};
 ghost use Rattle.early_verdict.specs.Fitting.{AreEmpty, AreSetsTidy, HasFailBounds};
 ghost use Rattle.early_verdict.specs.Standing.{AllEmpty, AllTidy, AreAsked, HasSets, HaveSets, IsFrom, left_of, top_at};
 ghost use Rattle.early_verdict.specs.Tops.{AreTops};
-ghost use Rattle.early_verdict.specs.Making.{AreMade, HasPartsFor, IsMade};
+ghost use Rattle.early_verdict.specs.Making.{AreMade, AreShownOf, HasPartsFor, IsMade};
 ghost use Rattle.early_verdict.specs.declared.sets.Sets.{Sets as ASets};
 
 use crate::sets::Sets;
@@ -52,6 +52,19 @@ pub(crate) fn all_sets(alloc: Global, formula: &Formula, start: u32) -> Result<V
     for i in 0..formula.len() {
         let sets = make_at(alloc, formula, i, start, tops[i as usize], &all);
         let Ok(()) = all.push(sets) else {
+            return Err(Memory);
+        };
+    }
+    Ok(all)
+}
+
+/// As many sets with the same bounds, with no times.
+pub(crate) fn shown_of(alloc: Global, live: &[Sets]) -> Result<Vec<Sets>, Memory>
+    ensures { IfOk result (λ v. AreShownOf live.now v.items) }
+{
+    let mut all = Vec::new(alloc);
+    for own in live {
+        let Ok(()) = all.push(Sets::new(alloc, own.no.bounds())) else {
             return Err(Memory);
         };
     }

@@ -6,12 +6,14 @@ ghost use Rattle.stl_syntax.specs.declared.node.Node.{Node as ANode};
 ghost use Rattle.early_verdict.specs.Fitting.{Lists, Fits, AreEmpty, AreSetsTidy, HasStepped, lists_at};
 ghost use Rattle.early_verdict.specs.Happening.{Happens, IsEvent, Was};
 ghost use Rattle.early_verdict.specs.declared.sets.Sets.{Sets as ASets};
-ghost use Rattle.early_verdict.specs.Standing.{AllEmpty, AllFit, AllGo, AllTidy, AllWere, HadAll, HasParts, HaveSets, IsOperator, LeafGoes, LeafIsBound, StepsAt, SteppedTo};
+ghost use Rattle.early_verdict.specs.Standing.{AllEmpty, AllTidy, HadAll, HasParts, LeafGoes, LeafIsBound, StepsAt};
+ghost use Rattle.early_verdict.specs.Living.{ComesOn, HasShown, ShowsAt};
 
 use crate::atoms::{rest, step_atom};
 use crate::event::Event;
 use crate::operators::step_operator;
 use crate::sets::Sets;
+use crate::showing::take_in;
 use atom_lines::Bound;
 use frac128::Memory;
 use stl_syntax::{Formula, Node};
@@ -56,9 +58,10 @@ fn step_node(
     }
 }
 
-/// Steps the sets at a place.
+/// Steps the sets at a place, by what those below show.
 fn step_at(
-    sets: &mut [Sets],
+    live: &mut [Sets],
+    shown: &[Sets],
     i: usize,
     node: &Node,
     bound: &Bound,
@@ -66,52 +69,87 @@ fn step_at(
     row: &Row,
     event: &Event,
 ) -> Result<(), Memory>
-    requires within { i < length sets.old }
+    requires within { i < length live.old }
+    requires shown_within { i < length shown.now }
     requires few { i < 256 }
-    requires tidy { AllTidy sets.old }
+    requires tidy { AllTidy live.old }
+    requires shown_tidy { AllTidy shown.now }
     requires children { HasChildrenBelow i node.now }
     requires event { IsEvent event.now }
-    requires none { event.now.first ≡ true → (s : ASets) → slice_get sets.old i ≡ Some s → AreEmpty s }
+    requires none { event.now.first ≡ true → (s : ASets) → slice_get live.old i ≡ Some s → AreEmpty s }
     requires atom { LeafIsBound bound.now i node.now }
     requires first { IfSome before.now (λ r. length r.values ≡ bound.now.width) }
     requires second { length row.now.values ≡ bound.now.width }
     requires later { IfSome before.now (λ r. r.time < row.now.time) }
-    ensures { OnOk result ((stepped : StepsAt i sets.old sets.new)
+    ensures { OnOk result ((stepped : StepsAt i live.old live.new)
         × ((old : Option Trace) (tr : Trace) (was : ℕ → Lists) → Happens event.now old tr
-        → HadAll old tr was (take i sets.old) → HasParts node.now stepped.was (take i sets.old)
+        → HadAll old tr was (take i shown.now) → HasParts node.now stepped.was (take i shown.now)
         → LeafGoes bound.now i event.now old tr before.now row.now stepped.was node.now
-        → Was old (λ o. Fits node.now false o was) stepped.was → Fits node.now event.now.ended tr (lists_at (take i sets.old)) stepped.is)) }
+        → Was old (λ o. Fits node.now false o was) stepped.was → Fits node.now event.now.ended tr (lists_at (take i shown.now)) stepped.is)) }
 {
-    let (below, from) = sets.split_at_mut(i);
+    let (_, from) = live.split_at_mut(i);
     let own = &mut from[0];
+    let below = &shown[..i];
     step_node(own, node, below, bound, before, row, event)
+}
+
+/// Shows what the sets at a place gained.
+fn show_at(shown: &mut [Sets], live: &[Sets], i: usize) -> Result<(), Memory>
+    requires within { i < length shown.old }
+    requires live_within { i < length live.now }
+    requires tidy { AllTidy shown.old }
+    ensures { OnOk result (ShowsAt i live.now shown.old shown.new) }
+{
+    let (_, from) = shown.split_at_mut(i);
+    show(&mut from[0], &live[i])?;
+    Ok(())
+}
+
+/// Shows what the sets of a node gained.
+fn show(shown: &mut Sets, own: &Sets) -> Result<(), Memory>
+    requires { AreSetsTidy shown.old }
+    ensures { OnOk result (HasShown shown.old shown.new own.now) }
+{
+    take_in(&mut shown.yes, &own.yes)?;
+    take_in(&mut shown.no, &own.no)?;
+    Ok(())
 }
 
 /// One event over all sets: a row, or, once it has ended, the end of the input, whose last row is given again.
 pub(crate) fn step_all(
-    sets: &mut [Sets],
+    live: &mut [Sets],
+    shown: &mut [Sets],
     formula: &Formula,
     bound: &Bound,
     before: &Option<Row>,
     row: &Row,
     event: &Event,
 ) -> Result<(), Memory>
-    requires count { length sets.old ≡ length formula.now.nodes }
-    requires tidy { AllTidy sets.old }
+    requires count { length live.old ≡ length formula.now.nodes }
+    requires shown_count { length shown.old ≡ length formula.now.nodes }
+    requires tidy { AllTidy live.old }
+    requires shown_tidy { AllTidy shown.old }
     requires event { IsEvent event.now }
-    requires none { event.now.first ≡ true → AllEmpty sets.old }
+    requires none { event.now.first ≡ true → AllEmpty live.old }
     requires atoms { (i : ℕ) (n : ANode) → slice_get formula.now.nodes i ≡ Some n → LeafIsBound bound.now i n }
     requires first { IfSome before.now (λ r. length r.values ≡ bound.now.width) }
     requires second { length row.now.values ≡ bound.now.width }
     requires later { IfSome before.now (λ r. r.time < row.now.time) }
-    ensures stepped { OnOk result (SteppedTo (length formula.now.nodes) sets.old sets.new) }
-    ensures fits { OnOk result ((old : Option Trace) (tr : Trace) (tops : List ℕ) → Happens event.now old tr
-        → HaveSets formula.now.nodes (start tr) tops sets.old → AllGo formula.now.nodes bound.now event.now old tr before.now row.now
-        → AllWere old formula.now.nodes sets.old → AllFit formula.now.nodes event.now.ended tr sets.new) }
+    ensures { OnOk result (ComesOn formula.now.nodes bound.now event.now before.now row.now live.old live.new shown.old shown.new) }
 {
     let count = formula.len();
     for i in 0..count {
-        step_at(sets, i as usize, formula.node(i), bound, before, row, event)?;
+        step_at(
+            live,
+            shown,
+            i as usize,
+            formula.node(i),
+            bound,
+            before,
+            row,
+            event,
+        )?;
+        show_at(shown, live, i as usize)?;
     }
     Ok(())
 }

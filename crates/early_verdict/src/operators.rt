@@ -32,7 +32,7 @@ fn ahead(low: u32, high: u32, low_in: bool, high_in: bool) -> Window
 }
 
 /// So many ticks before.
-fn ticks_before(ticks: u32) -> i64
+pub(crate) fn ticks_before(ticks: u32) -> i64
     ensures value { result ≡ neg_ℤ (pos ticks) }
     ensures near { unsigned_abs result ≤ 2 ^ 32 }
 {

@@ -48,6 +48,15 @@ pub(crate) struct Sets {
     pub(crate) parts: Option<Parts>,
 }
 
+/// The sets of all nodes, in post-order.
+#[derive(Drop)]
+pub(crate) struct Net {
+    /// What each node's step goes on from: from the times on that are not decided yet, or are asked for no more.
+    pub(crate) live: Vec<Sets>,
+    /// What a node shows the one above it: from the times on that this one still asks for.
+    pub(crate) shown: Vec<Sets>,
+}
+
 impl Parts {
     /// No times yet, of an until or a since that is asked within the bounds and whose left operand has the sets `left`.
     fn new(alloc: Global, bounds: Stretch, left: &Sets) -> Parts

@@ -1,5 +1,5 @@
 -- In the run that a stream drives the front of each node is the last row's time less the horizon, and that time itself after the end.
-use Rattle.std.proofs.Common.{◌≡◌, refl, sym, ap, subst, ◌∙◌, ℕ, zero, suc, ◌<◌, ◌+◌, ◌-◌, max, Bool, true, false, Some, None, List, [], ◌∷◌, ◌++◌, length, take as first, ℤ, pos, neg_ℤ, ◌+ℤ◌, ◌-ℤ◌, ◌<ℤ◌, ◌≤ℤ◌, ◌≢◌, inl, inr, All, arith, append_assoc, length-append}
+use Rattle.std.proofs.Common.{◌≡◌, refl, sym, ap, subst, ◌∙◌, ℕ, zero, suc, ◌<◌, ◌+◌, ◌-◌, max, Bool, true, false, Some, None, List, [], ◌∷◌, ◌++◌, length, take as first, ℤ, pos, neg_ℤ, ◌+ℤ◌, ◌-ℤ◌, ◌<ℤ◌, ◌≤ℤ◌, ◌≢◌, inl, inr, All, arith, append-nil, append_assoc, length-append}
 use Rattle.std.proofs.Math.Seq.{get_or-append_seam}
 use Rattle.std.proofs.lemmas.List.{length_push, length-take-le}
 use Rattle.std.proofs.lemmas.Bool.{cases_lt, eq-eqb}
@@ -9,7 +9,7 @@ use Rattle.stl_syntax.specs.Trace.{Header, Row, last_time}
 use Rattle.stl_syntax.specs.Formula.{Subformula, subformula, horizon, tree_of, HasChildrenBelow}
 use Rattle.stl_syntax.specs.PostOrder.{IsPostOrder, children}
 use Rattle.online_nodes.specs.Network.{Event, row, step, close, Front, least, moved_by, State, last_row, open_number, same_front, all_at_end, allowed, allowed_at, is_atom, node_is_atom, initial, after_event, state_from, state}
-use Rattle.online_nodes.specs.Driven.{steps_of, takes, pass_of, IsDriven, nothing, by_row, by_end}
+use Rattle.online_nodes.specs.Driven.{rows_of, steps_of, takes, pass_of, IsDriven, nothing, by_rows, by_end}
 use Rattle.online_nodes.specs.StreamedWide.{front_at}
 use Rattle.online_nodes.specs.Laws.{FrontsAreTimes}
 use Rattle.stl_syntax.proofs.FormulaLemmas.{subformula-at}
@@ -254,11 +254,11 @@ last_row_is (r ∷ rows) s some e =
     subst (λ x. last_row (record { rows = x; closed = s.closed; fronts = s.fronts }) ≡ Some (pos (last_time r.time rows))) (sym e) refl
 
 -- after a row
-at_row : (nodes : List Node) (rows : List Row) (r : Row) (s : State) → IsPostOrder nodes → IsAt nodes rows false s
+at_row : (nodes : List Node) (rows : List Row) (r : Row) (s : State) → IsPostOrder nodes → s.rows ≡ rows → s.closed ≡ false
     → IsAt nodes (rows ++ r ∷ []) false (state_from nodes (after_event nodes s (row r)) (steps_of 0 nodes))
-at_row nodes rows r s order at = record {
-  rows_are = kept.0 ∙ ap (λ x. x ++ r ∷ []) at.rows_are;
-  closed = kept.1 ∙ at.closed;
+at_row nodes rows r s order rows_are still = record {
+  rows_are = kept.0 ∙ ap (λ x. x ++ r ∷ []) rows_are;
+  closed = kept.1 ∙ still;
   fronts = λ some i h.
       stepped nodes order false (pos r.time) 0 [] nodes refl refl (after_event nodes s (row r)) passing (λ j g. absurd (omega arith)) i h
       ∙ ap (λ t. Some (front_at false (pos t) (subformula nodes i))) (sym (time_appended 0 rows r));
@@ -277,7 +277,14 @@ at_row nodes rows r s order at = record {
         (ap (λ (z : ℤ). Some z) same)
 
     passing : IsPassing nodes order false (pos r.time) (after_event nodes s (row r))
-    passing = record { last = last_appended s.rows r s.closed (after_event nodes s (row r)).fronts; closed = at.closed; atoms = by_atom }
+    passing = record { last = last_appended s.rows r s.closed (after_event nodes s (row r)).fronts; closed = still; atoms = by_atom }
+
+-- after rows that no step follows
+rows_come : (nodes : List Node) (s : State) (more : List Row)
+    → ((state_from nodes s (rows_of more)).rows ≡ s.rows ++ more) × ((state_from nodes s (rows_of more)).closed ≡ s.closed)
+rows_come nodes s [] = (sym (append-nil s.rows), refl)
+rows_come nodes s (q ∷ more) =
+    let on = rows_come nodes (after_event nodes s (row q)) more in (on.0 ∙ append_assoc s.rows (q ∷ []) more, on.1)
 
 -- after the end
 at_close : (nodes : List Node) (rows : List Row) (s : State) → IsPostOrder nodes → rows ≢ [] → IsAt nodes rows false s
@@ -305,10 +312,15 @@ at_close nodes rows s order some at = record {
 driven : {nodes : List Node} {header : Header} {rows : List Row} {ended : Bool} {events : List Event} → IsPostOrder nodes
     → IsDriven nodes header rows ended events → IsAt nodes rows ended (state_from nodes initial events)
 driven order nothing = record { rows_are = refl; closed = refl; fronts = λ some i h. absurd (some refl) }
-driven {nodes = nodes} order (by_row {rows = rows} {events = events} r n before emptied) =
-    let s = state_from nodes initial events in
-    let same = state_on nodes initial events (pass_of (row r) nodes n) ∙ after_pass nodes s (row r) n in
-    subst (IsAt nodes (rows ++ r ∷ []) false) (sym same) (at_row nodes rows r s order (driven order before))
+driven {nodes = nodes} order (by_rows {rows = rows} {events = events} more r n before emptied) =
+    let at = driven order before in
+    let s = state_from nodes initial (events ++ rows_of more) in
+    let came = rows_come nodes (state_from nodes initial events) more in
+    let on = state_on nodes initial events (rows_of more) in
+    let same = state_on nodes initial (events ++ rows_of more) (pass_of (row r) nodes n) ∙ after_pass nodes s (row r) n in
+    subst (IsAt nodes ((rows ++ more) ++ r ∷ []) false) (sym same)
+    (at_row nodes (rows ++ more) r s order (ap (λ (z : State). z.rows) on ∙ came.0 ∙ ap (λ l. l ++ more) at.rows_are)
+    (ap (λ (z : State). z.closed) on ∙ came.1 ∙ at.closed))
 driven {nodes = nodes} order (by_end {rows = rows} {events = events} n before some emptied) =
     let s = state_from nodes initial events in
     let same = state_on nodes initial events (pass_of close nodes n) ∙ after_pass nodes s close n in

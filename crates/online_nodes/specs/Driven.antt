@@ -1,5 +1,5 @@
--- The run that a stream of rows drives: each row, and the end, is followed by a step of every node that is no atom, in rising order, and by
--- takes until nothing is left.
+-- The run that a stream of rows drives: the rows that come together, and the end, are followed by a step of every node that is no atom, in
+-- rising order, and by takes until nothing is left.
 use Rattle.std.specs.Prelude.{◌≡◌, ◌≢◌, ℕ, zero, suc, ◌-◌, Bool, true, false, if◌then◌else◌, List, [], ◌∷◌, ◌++◌, length}
 use Rattle.stl_syntax.specs.Trace.{Header, Row}
 use Rattle.online_nodes.specs.Network.{Event, row, step, close, take, is_atom, Emitted}
@@ -11,6 +11,11 @@ use Rattle.stl_syntax.specs.declared.node.Node.{Node}
 abbrev pub steps_of : ℕ → List Node → List Event
 steps_of i [] = []
 steps_of i (n ∷ nodes) = if is_atom n then steps_of (suc i) nodes else step i ∷ steps_of (suc i) nodes
+
+-- the rows as they come
+abbrev pub rows_of : List Row → List Event
+rows_of [] = []
+rows_of (r ∷ rows) = row r ∷ rows_of rows
 
 -- that many takes
 abbrev pub takes : ℕ → List Event
@@ -32,9 +37,9 @@ pub record IsEmptied (nodes : List Node) (header : Header) (events : List Event)
 -- the run after these rows, and after the end where the input has ended
 pub data IsDriven (nodes : List Node) (header : Header) : List Row → Bool → List Event → Type 0 where
   nothing : IsDriven nodes header [] false []
-  by_row : {rows : List Row} {events : List Event} (r : Row) (n : ℕ) → IsDriven nodes header rows false events
-      → IsEmptied nodes header (events ++ pass_of (row r) nodes n)
-      → IsDriven nodes header (rows ++ r ∷ []) false (events ++ pass_of (row r) nodes n)
+  by_rows : {rows : List Row} {events : List Event} (more : List Row) (r : Row) (n : ℕ) → IsDriven nodes header rows false events
+      → IsEmptied nodes header ((events ++ rows_of more) ++ pass_of (row r) nodes n)
+      → IsDriven nodes header ((rows ++ more) ++ r ∷ []) false ((events ++ rows_of more) ++ pass_of (row r) nodes n)
   by_end : {rows : List Row} {events : List Event} (n : ℕ) → IsDriven nodes header rows false events → rows ≢ []
       → IsEmptied nodes header (events ++ pass_of close nodes n)
       → IsDriven nodes header rows true (events ++ pass_of close nodes n)

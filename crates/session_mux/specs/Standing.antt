@@ -7,8 +7,7 @@ use Rattle.trace_reader.specs.InputFaults.{Fault, stream_limits, IsInputFault}
 use Rattle.trace_stream.specs.Cases.{IsFault}
 use Rattle.trace_stream.specs.Streams.{verdicts}
 use Rattle.trace_stream.specs.Following.{IsLive, IsLiveStop}
-use Rattle.trace_stream.specs.Watching.{IsWatched}
-use Rattle.trace_stream.specs.declared.case.Case.{Case}
+pub use Rattle.trace_stream.specs.Watching.{WatchesRows, WatchesEnd}
 use Rattle.trace_stream.specs.declared.fault.StreamStop.{StreamStop}
 use Rattle.trace_stream.specs.declared.fault.StreamStop.TheVariants.{Fault as Faulty, NoMemory, Wide}
 use Rattle.trace_stream.specs.declared.live.Live.{Live}
@@ -29,14 +28,6 @@ HasFault f bytes = (x : Fault) × IsInputFault stream_limits f bytes false x
 -- what was got stops so: its trace has a fault, at its end too
 abbrev pub HasStopped : Formula → Own → Type 0
 HasStopped f o = (x : Fault) × IsInputFault stream_limits f o.bytes o.stopped x
-
--- the network stands for the rows so far
-abbrev pub WatchesRows : Verdicts → Case → List ℕ → Type 0
-WatchesRows v c made = IsWatched false v c
-
--- the network stands for all rows and their end
-abbrev pub WatchesEnd : Verdicts → Case → List ℕ → Type 0
-WatchesEnd v c made = IsWatched true v c
 
 -- the reader stands for the bytes; all of its text was told
 pub record IsOpen (f : Formula) (bytes told : List ℕ) (live : Live Verdicts) : Type 0 where

@@ -16,11 +16,17 @@ pub mod KeptRows
 pub mod RowTimes
 pub mod MarginTexts
 pub mod OwedRows
+pub mod WideTexts
 pub mod FrontTexts
+pub mod Refused
 pub mod Living
 pub mod Told
 pub mod Passes
+pub mod Cutting
 pub mod Taking
 pub mod Watched
 pub mod WatchedRows
+pub mod CutRows
+pub mod Owing
+pub mod Opening
 pub mod Margined

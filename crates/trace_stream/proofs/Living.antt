@@ -16,9 +16,11 @@ use Rattle.trace_stream.specs.Streams.{Stream, StreamText, StreamOf}
 use Rattle.trace_reader.specs.InputFaults.{Fault, of_trace, line_of, IsHeaderAt, IsLack, IsInputFault, faulted, faulted_header}
 use Rattle.trace_stream.specs.Cases.{IsCase, IsLacking, IsNoBegin, IsHeaderOf, with_row}
 use Rattle.trace_stream.specs.Reading.{IsWhole, IsKept, IsTied, IsRefused, IsEnded, IsLastFault, of_header, own}
-use Rattle.trace_stream.specs.Following.{Follows, IsTextOf, IsFollowed, IsComplete, IsEndedOut, IsLive, IsLastTaken, IsOver, IsLiveStop}
+use Rattle.trace_stream.specs.Following.{Follows, IsTextOf, IsFollowed, IsOpened, IsComplete, IsEndedOut, IsHeldUp, IsLive, IsLiveOpen, IsLastTaken, IsOver, IsLiveStop, IsOpenStop}
 use Rattle.trace_stream.specs.declared.case.Case.{Case}
+use Rattle.trace_stream.specs.declared.follow.FollowFault.TheVariants as follow
 use Rattle.trace_stream.specs.declared.live.Live.{Live}
+use Rattle.trace_stream.specs.declared.fault.TraceFault.{TraceFault}
 use Rattle.trace_stream.specs.declared.fault.TraceFault.TheVariants.{Trace as InTrace}
 use Rattle.trace_stream.specs.declared.fault.StreamStop.{StreamStop}
 use Rattle.trace_stream.specs.declared.fault.StreamStop.TheVariants.{Fault as Faulty, NoMemory, Wide}
@@ -28,6 +30,7 @@ use Rattle.trace_stream.proofs.KeptRows.{before_of_kept}
 use Rattle.trace_stream.proofs.RowsBefore.{BeforeEnd, the_same, no_rows_there, before_end}
 use Rattle.trace_stream.proofs.OwedRows.{no_rows_no_text}
 use Rattle.trace_stream.proofs.Feeding.{IsNext, refused_next, same_header, HeaderStep}
+use Rattle.trace_stream.proofs.Refused.{read_of_ended, row_held, end_held}
 
 -- among blank lines there is no header
 none_blank : (ls : List Line) {n : ℕ} {h : Heading} → All IsBlank ls → ¬ IsHeaderAt ls n h
@@ -52,21 +55,48 @@ none_before_lack limits f bytes ended x (n, h, at, lacking, clean) m g there =
 pub more_text : (written old new grown : List ℕ) → new ≡ old ++ grown → written ++ new ≡ (written ++ old) ++ grown
 more_text written old new grown e = ap (λ t. written ++ t) e ∙ sym (append_assoc written old grown)
 
-module _ {F : Type 0} (Stands : F → Case → List ℕ → Type 0) (kind : Stream) where
+module _ {F : Type 0} (Stands Owes : F → Case → List ℕ → Type 0) (kind : Stream) where
+  -- where no text is owed
+  pub open_of : (follower : Option F) (case : Option Case) (made : List ℕ) → IsFollowed Stands kind follower case made
+      → IsOpened Stands Owes kind follower case made
+  open_of None None made t = t
+  open_of None (Some c) made t = t
+  open_of (Some x) None made t = t
+  open_of (Some x) (Some c) made t = inl t
+
+  pub live_open : (live : Live F) (bytes written : List ℕ) → IsLive Stands kind live bytes written → IsLiveOpen Stands Owes kind live bytes written
+  live_open live bytes written k = record { served = k.served; case = k.case; kept = k.kept; followed = open_of live.follower k.case (written ++ live.text) k.followed }
+
   -- the bytes to read next, by what follows the rows
-  pub next_of : (follower : Option F) (case : Option Case) (made piece line : List ℕ) → IsFollowed Stands kind follower case made
+  pub next_of : (follower : Option F) (case : Option Case) (made piece line : List ℕ) → IsOpened Stands Owes kind follower case made
       → MatchOption follower (line ≡ through_feed piece) (λ _. line ≡ piece) → IsNext case piece line
   next_of None None made piece line t m = m
   next_of None (Some c) made piece line t m = absurd t
   next_of (Some x) None made piece line t m = absurd t
   next_of (Some x) (Some c) made piece line t m = m
 
+  -- nothing was made before the header
+  pub none_open : (follower : Option F) (f : Formula) (o : Option Heading) (bytes : List ℕ) (rows : List Row) (case : Option Case) (made : List ℕ) → IsTied f o bytes rows case → o ≡ None
+      → IsOpened Stands Owes kind follower case made → made ≡ []
+  none_open None f o bytes rows None made tied e t = t
+  none_open (Some x) f o bytes rows None made tied e t = absurd t
+  none_open follower f o bytes rows (Some c) made tied e t = absurd (no_case (subst (λ p. IsTied f p bytes rows (Some c)) e tied))
+    where
+      no_case : IsTied f None bytes rows (Some c) → ⊥
+      no_case k = let h = k in cc
+
+module _ {F : Type 0} (Stands : F → Case → List ℕ → Type 0) (kind : Stream) where
+  -- nothing was made before the header
+  pub none_made : (follower : Option F) (f : Formula) (o : Option Heading) (bytes : List ℕ) (rows : List Row) (case : Option Case) (made : List ℕ) → IsTied f o bytes rows case → o ≡ None
+      → IsFollowed Stands kind follower case made → made ≡ []
+  none_made follower f o bytes rows case made tied e t = none_open Stands Stands kind follower f o bytes rows case made tied e (open_of Stands Stands kind follower case made t)
+
   -- the text of the rows of a case is that of the stream
   pub text_of_case : (f : Formula) (x : F) (c : Case) (made : List ℕ) → IsCase f c → Follows (Stands x) kind c made → StreamOf kind f (Some c.trace.header) c.trace.rows false made
   text_of_case f x c made fits told = subst (λ (g : Formula). StreamText kind (root g.nodes) c.trace.header c.trace.rows false made) fits.formula told.told
 
   -- the rows before a line that was refused
-  text_before : (f : Formula) (r : Reader) (follower : Option F) (case : Option Case) (bytes all made : List ℕ) (ended : Bool) (x : Fault) (k : IsKept f r case bytes)
+  pub text_before : (f : Formula) (r : Reader) (follower : Option F) (case : Option Case) (bytes all made : List ℕ) (ended : Bool) (x : Fault) (k : IsKept f r case bytes)
       → HoldLines r.heading f.scale (take (line_of x - 1) (lines ended all)) k.rows → IsInputFault r.limits f all ended x → IsFollowed Stands kind follower case made
       → IsTextOf kind r.limits f all ended made
   text_before f r follower case bytes all made ended x k hold fault t = by_heading r.heading refl k.tied hold t
@@ -102,62 +132,6 @@ module _ {F : Type 0} (Stands : F → Case → List ℕ → Type 0) (kind : Stre
                 (subst (λ rs. AreTraceLines f.scale (take (line_of x - 1) (lines ended all)) (header_of f.scale h) rs) (sym rows) lines_are));
             is = text_of_case f y c made fits t;
           }
-
-  -- a piece was refused
-  pub live_refused : (live : Live F) (bytes written piece line : List ℕ) (x : TraceRefusal) → (k : IsLive Stands kind live bytes written)
-      → MatchOption live.follower (line ≡ through_feed piece) (λ _. line ≡ piece) → IsFaultOfAll live.rows.limits live.rows.least (bytes ++ line) x
-      → HasReadBefore x.line live.rows.heading live.rows.least (bytes ++ line) k.kept.rows
-      → IsLiveStop kind live.rows.limits live.formula false (bytes ++ piece) (written ++ live.text) (Faulty (InTrace x))
-  live_refused live bytes written piece line x k next fault before =
-      let one = next_of live.follower k.case (written ++ live.text) piece line k.followed next in
-      let first = refused_next live.formula live.rows k.case bytes piece line x k.kept one fault in
-      (of_trace x, refl, first, text_before live.formula live.rows live.follower k.case bytes (bytes ++ piece) (written ++ live.text) false (of_trace x) k.kept (held (left k.case one)) first k.followed)
-    where
-      left : (case : Option Case) → IsNext case piece line → (more : List ℕ) × (piece ≡ line ++ more)
-      left None e = let (others, p) = through_parts piece in (others, p ∙ ap (λ l. l ++ others) (sym e))
-      left (Some c) e = ([], sym (append-nil line ∙ e))
-
-      held : (more : List ℕ) × (piece ≡ line ++ more) → HoldLines live.rows.heading live.formula.scale (take (x.line - 1) (lines false (bytes ++ piece))) k.kept.rows
-      held (more, e) =
-          subst (λ b. HoldLines live.rows.heading live.formula.scale (take (x.line - 1) (lines false b)) k.kept.rows) (append_assoc bytes line more ∙ ap (λ p. bytes ++ p) (sym e))
-          (subst (λ (s : Scale). HoldLines live.rows.heading s (take (x.line - 1) (lines false ((bytes ++ line) ++ more))) k.kept.rows) k.kept.least (before more false))
-
-  -- the header that came lacks something
-  pub live_lacks : (live : Live F) (old new : Reader) (rows : List Row) (bytes written piece : List ℕ) (at : ℕ) (header : Header) (stop : StreamStop) → live.rows ≡ old
-      → (s : HeaderStep live.formula old new rows bytes piece at header) → IsNoBegin live.formula new.begun s.columns stop → written ++ live.text ≡ []
-      → IsLiveStop kind live.rows.limits live.formula false (bytes ++ piece) (written ++ live.text) stop
-  live_lacks live old new rows bytes written piece at header (Faulty fault) e s (y, is, lacking) none =
-      let lack : IsLack live.rows.limits live.formula (bytes ++ piece) false y = (
-        new.begun,
-        s.columns,
-        subst (λ b. IsHeaderAt (lines false b) new.begun s.columns) (sym s.left) (s.line.at false (drop at piece)),
-        lacking,
-        λ r fault. s.line.clean false (drop at piece) r (subst (λ (l : Limits). FaultFrom l live.formula.scale false 1 (take new.begun (lines false ((bytes ++ take at piece) ++ drop at piece))) r) (ap (λ (q : Reader). q.limits) e)
-            (subst (λ b. FaultFrom live.rows.limits live.formula.scale false 1 (take new.begun (lines false b)) r) s.left fault)),
-      ) in (
-        y,
-        is,
-        inl lack,
-        record { header = None; rows = []; whole = false; before = faulted_header y (inl lack) (none_before_lack live.rows.limits live.formula (bytes ++ piece) false y lack); is = none },
-      )
-  live_lacks live old new rows bytes written piece at header NoMemory e s never none = tt
-  live_lacks live old new rows bytes written piece at header (Wide i den) e s never none = never
-
-  -- nothing was made before the header
-  pub none_made : (follower : Option F) (f : Formula) (o : Option Heading) (bytes : List ℕ) (rows : List Row) (case : Option Case) (made : List ℕ) → IsTied f o bytes rows case → o ≡ None
-      → IsFollowed Stands kind follower case made → made ≡ []
-  none_made None f o bytes rows None made tied e t = t
-  none_made (Some x) f o bytes rows None made tied e t = absurd t
-  none_made follower f o bytes rows (Some c) made tied e t = absurd (no_case (subst (λ p. IsTied f p bytes rows (Some c)) e tied))
-    where
-      no_case : IsTied f None bytes rows (Some c) → ⊥
-      no_case k = let h = k in cc
-
-  -- a stop in the bytes that were left is one of the whole piece
-  pub live_fed : (limits : Limits) (f : Formula) (bytes piece text : List ℕ) (at : ℕ) (stop : StreamStop) → IsLiveStop kind limits f false ((bytes ++ take at piece) ++ drop at piece) text stop
-      → IsLiveStop kind limits f false (bytes ++ piece) text stop
-  live_fed limits f bytes piece text at stop h =
-      subst (λ b. IsLiveStop kind limits f false b text stop) (append_assoc bytes (take at piece) (drop at piece) ∙ ap (λ p. bytes ++ p) (take-append-drop at piece)) h
 
   -- what was made is the text of the rows that were kept
   pub told_of_kept : (f : Formula) (r : Reader) (follower : Option F) (case : Option Case) (bytes made : List ℕ) (k : IsKept f r case bytes) → IsFollowed Stands kind follower case made
@@ -197,7 +171,7 @@ module _ {F : Type 0} (Stands : F → Case → List ℕ → Type 0) (kind : Stre
       by_end (no_rows_there none before) =
           record { header = None; rows = []; whole = false; before = before; is = no_rows_no_text kind f (option_map (header_of f.scale) r.heading) k.rows made none told }
   live_end_refused f r follower case bytes made k NoMemory t is = tt
-  live_end_refused f r follower case bytes made k (Wide i den) t is = is
+  live_end_refused f r follower case bytes made k (Wide i den) t is = absurd is
 
   -- the case of all bytes
   pub last_taken : (limits : Limits) (f : Formula) (follower : Option F) (case : Option Case) (bytes made : List ℕ) → MatchOption case ⊥ (IsEnded limits f bytes) → IsFollowed Stands kind follower case made
@@ -205,7 +179,7 @@ module _ {F : Type 0} (Stands : F → Case → List ℕ → Type 0) (kind : Stre
   last_taken limits f follower None bytes made e t = absurd e
   last_taken limits f follower (Some c) bytes made e t = record { case = c; fits = e.case; trace = e.whole; followed = t }
 
-  -- so with one row more
+  -- so with one row more, once its text was made
   pub last_row : (limits : Limits) (f : Formula) (bytes written old new : List ℕ) (follower : Option F) (case : Option Case) (row : Row) (r : Result (Unit {0}) StreamStop)
       → IfOk r (λ _. (grown : List ℕ) × (new ≡ old ++ grown) × IsFollowed Stands kind follower (option_map (with_row row) case) ((written ++ old) ++ grown)) → IfErr r (λ e. e ≡ NoMemory)
       → MatchOption (option_map (with_row row) case) ⊥ (IsEnded limits f bytes)
@@ -215,11 +189,135 @@ module _ {F : Type 0} (Stands : F → Case → List ℕ → Type 0) (kind : Stre
       (subst (λ made. IsFollowed Stands kind follower (option_map (with_row row) case) made) (sym (more_text written old new grown e)) t)
   last_row limits f bytes written old new follower case row (Err e) ok none ended = subst (λ (s : StreamStop). IsLiveStop kind limits f true bytes (written ++ new) s) (sym none) tt
 
+  -- and where that row was not taken
+  pub last_held : (limits : Limits) (f : Formula) (bytes written old new : List ℕ) (before : Option F) (case : Option Case) (row : Row) (e : StreamStop)
+      → IsHeldUp kind (option_map (with_row row) case) false old new e → IsFollowed Stands kind before case (written ++ old)
+      → MatchOption (option_map (with_row row) case) ⊥ (IsEnded limits f bytes) → IsLiveStop kind limits f true bytes (written ++ new) e
+  last_held limits f bytes written old new before case row e held was ended =
+      row_held Stands kind limits f bytes true bytes [] (sym (append-nil bytes)) true (λ k. (refl, refl)) before case row written old new e
+      (λ c is. read_of_ended limits f bytes c (subst (λ (o : Option Case). MatchOption o ⊥ (IsEnded limits f bytes)) is ended)) was held
+
+module _ {F : Type 0} (Stands Owes : F → Case → List ℕ → Type 0) (kind : Stream) where
+  -- a piece was refused
+  pub live_refused : (live : Live F) (bytes written piece line : List ℕ) (x : TraceRefusal) → (k : IsLiveOpen Stands Owes kind live bytes written)
+      → MatchOption live.follower (line ≡ through_feed piece) (λ _. line ≡ piece) → IsFaultOfAll live.rows.limits live.rows.least (bytes ++ line) x
+      → HasReadBefore x.line live.rows.heading live.rows.least (bytes ++ line) k.kept.rows
+      → IsOpenStop Stands Owes kind live.rows.limits live.formula false (bytes ++ piece) live.follower (written ++ live.text) (Faulty (InTrace x))
+  live_refused live bytes written piece line x k next fault before =
+      let one = next_of Stands Owes kind live.follower k.case (written ++ live.text) piece line k.followed next in
+      let first = refused_next live.formula live.rows k.case bytes piece line x k.kept one fault in (
+        of_trace x,
+        refl,
+        first,
+        k.case,
+        k.followed,
+        λ after made t.
+            text_before Stands kind live.formula live.rows after k.case bytes (bytes ++ piece) made false (of_trace x) k.kept (held (left k.case one)) first t,
+      )
+    where
+      left : (case : Option Case) → IsNext case piece line → (more : List ℕ) × (piece ≡ line ++ more)
+      left None e = let (others, p) = through_parts piece in (others, p ∙ ap (λ l. l ++ others) (sym e))
+      left (Some c) e = ([], sym (append-nil line ∙ e))
+
+      held : (more : List ℕ) × (piece ≡ line ++ more) → HoldLines live.rows.heading live.formula.scale (take (x.line - 1) (lines false (bytes ++ piece))) k.kept.rows
+      held (more, e) =
+          subst (λ b. HoldLines live.rows.heading live.formula.scale (take (x.line - 1) (lines false b)) k.kept.rows) (append_assoc bytes line more ∙ ap (λ p. bytes ++ p) (sym e))
+          (subst (λ (s : Scale). HoldLines live.rows.heading s (take (x.line - 1) (lines false ((bytes ++ line) ++ more))) k.kept.rows) k.kept.least (before more false))
+
+  -- the header that came lacks something
+  pub live_lacks : (live : Live F) (old new : Reader) (rows : List Row) (bytes written piece : List ℕ) (at : ℕ) (header : Header) (stop : StreamStop) → live.rows ≡ old
+      → (s : HeaderStep live.formula old new rows bytes piece at header) → IsNoBegin live.formula new.begun s.columns stop
+      → (follower : Option F) (case : Option Case) (text : List ℕ) → IsTied live.formula old.heading bytes rows case → old.heading ≡ None
+      → IsOpened Stands Owes kind follower case text
+      → IsOpenStop Stands Owes kind live.rows.limits live.formula false (bytes ++ piece) follower text stop
+  live_lacks live old new rows bytes written piece at header (Faulty fault) e s (y, is, lacking) follower case text tied came t =
+      let lack : IsLack live.rows.limits live.formula (bytes ++ piece) false y = (
+        new.begun,
+        s.columns,
+        subst (λ b. IsHeaderAt (lines false b) new.begun s.columns) (sym s.left) (s.line.at false (drop at piece)),
+        lacking,
+        λ r fault. s.line.clean false (drop at piece) r (subst (λ (l : Limits). FaultFrom l live.formula.scale false 1 (take new.begun (lines false ((bytes ++ take at piece) ++ drop at piece))) r) (ap (λ (q : Reader). q.limits) e)
+            (subst (λ b. FaultFrom live.rows.limits live.formula.scale false 1 (take new.begun (lines false b)) r) s.left fault)),
+      ) in (
+        y,
+        is,
+        inl lack,
+        case,
+        t,
+        λ after made u. record {
+          header = None;
+          rows = [];
+          whole = false;
+          before = faulted_header y (inl lack) (none_before_lack live.rows.limits live.formula (bytes ++ piece) false y lack);
+          is = none_made Stands kind after live.formula old.heading bytes rows case made tied came u;
+        },
+      )
+  live_lacks live old new rows bytes written piece at header NoMemory e s never follower case text tied came t = tt
+  live_lacks live old new rows bytes written piece at header (Wide i den) e s never follower case text tied came t = absurd never
+
+  -- a stop in the bytes that were left is one of the whole piece
+  pub live_fed : (limits : Limits) (f : Formula) (bytes piece text : List ℕ) (at : ℕ) (follower : Option F) (stop : StreamStop)
+      → IsOpenStop Stands Owes kind limits f false ((bytes ++ take at piece) ++ drop at piece) follower text stop
+      → IsOpenStop Stands Owes kind limits f false (bytes ++ piece) follower text stop
+  live_fed limits f bytes piece text at follower stop h =
+      subst (λ b. IsOpenStop Stands Owes kind limits f false b follower text stop)
+      (append_assoc bytes (take at piece) (drop at piece) ∙ ap (λ p. bytes ++ p) (take-append-drop at piece)) h
+
+  -- a row was not taken, for a fault of what follows the rows
+  pub open_held : (limits : Limits) (f : Formula) (ended : Bool) (bytes : List ℕ) (case : Option Case) (last : Bool) (old new : List ℕ) (follower : Option F) (text : List ℕ) (stop : StreamStop)
+      → IsHeldUp kind case last old new stop → IsLiveStop kind limits f ended bytes text stop → IsOpenStop Stands Owes kind limits f ended bytes follower text stop
+  open_held limits f ended bytes None last old new follower text stop held is = absurd held
+  open_held limits f ended bytes (Some c) last old new follower text stop (follow.Memory, same, why, none) is =
+      subst (λ (s : StreamStop). IsOpenStop Stands Owes kind limits f ended bytes follower text s) (sym same) tt
+  open_held limits f ended bytes (Some c) last old new follower text stop (follow.Wide i den, same, why, none) is =
+      subst (λ (s : StreamStop). IsOpenStop Stands Owes kind limits f ended bytes follower text s) (sym same)
+      (subst (λ (s : StreamStop). IsLiveStop kind limits f ended bytes text s) same is)
+
+  -- what is owed was made
+  pub open_flushed : (mid : Live F) (bytes written new grown : List ℕ) (after : Option F) → (k : IsLiveOpen Stands Owes kind mid bytes written) → new ≡ mid.text ++ grown
+      → IsFollowed Stands kind after k.case ((written ++ mid.text) ++ grown)
+      → IsLive Stands kind (record mid { follower = after; text = new }) bytes written
+  open_flushed mid bytes written new grown after k e t = record {
+    served = k.served;
+    case = k.case;
+    kept = k.kept;
+    followed = subst (λ made. IsFollowed Stands kind after k.case made) (sym (more_text written mid.text new grown e)) t;
+  }
+
+  -- so where that answers
+  pub flushed : (limits : Limits) (f : Formula) (mid : Live F) (bytes written new : List ℕ) (after : Option F) (r : Result (Unit {0}) StreamStop)
+      → (k : IsLiveOpen Stands Owes kind mid bytes written)
+      → IfOk r (λ _. (grown : List ℕ) × (new ≡ mid.text ++ grown) × IsFollowed Stands kind after k.case ((written ++ mid.text) ++ grown))
+      → IfErr r (λ e. e ≡ NoMemory)
+      → MatchResult r (λ _. IsLive Stands kind (record mid { follower = after; text = new }) bytes written)
+      (λ e. IsLiveStop kind limits f false bytes (written ++ new) e)
+  flushed limits f mid bytes written new after (Ok x) k (grown, e, t) none = open_flushed mid bytes written new grown after k e t
+  flushed limits f mid bytes written new after (Err e) k ok none =
+      subst (λ (s : StreamStop). IsLiveStop kind limits f false bytes (written ++ new) s) (sym none) tt
+
+  -- before the header nothing is owed
+  pub none_flushed : (case : Option Case) (made text : List ℕ) → IsOpened Stands Owes kind None case made
+      → (grown : List ℕ) × (text ≡ text ++ grown) × IsFollowed Stands kind None case (made ++ grown)
+  none_flushed None made text t = ([], sym (append-nil text), append-nil made ∙ t)
+  none_flushed (Some c) made text t = absurd t
+
+  -- so at a fault
+  pub fault_flushed : (limits : Limits) (f : Formula) (ended : Bool) (bytes written old new grown : List ℕ) (follower after : Option F) (fault : TraceFault)
+      → (k : IsOpenStop Stands Owes kind limits f ended bytes follower (written ++ old) (Faulty fault)) → new ≡ old ++ grown
+      → IsFollowed Stands kind after k.3 ((written ++ old) ++ grown) → IsLiveStop kind limits f ended bytes (written ++ new) (Faulty fault)
+  fault_flushed limits f ended bytes written old new grown follower after fault k e t = (
+    k.0,
+    k.1,
+    k.2,
+    subst (λ made. IsTextOf kind limits f bytes ended made) (sym (more_text written old new grown e)) (k.5 after ((written ++ old) ++ grown) t),
+  )
+
 -- the end was taken
-pub over_of : {F : Type 0} (Ended : F → Case → List ℕ → Type 0) (kind : Stream) (limits : Limits) (f : Formula) (live : Live F) (bytes written old : List ℕ) (case : Case) (r : Result Bool StreamStop)
-    → IsCase f case → IsWhole limits f bytes case.trace → IfOk r (IsEndedOut Ended kind live.follower case old live.text (written ++ old)) → IfErr r (λ e. e ≡ NoMemory)
+pub over_of : {F : Type 0} (Stands Ended : F → Case → List ℕ → Type 0) (kind : Stream) (limits : Limits) (f : Formula) (before : Option F) (live : Live F) (bytes written old : List ℕ) (case : Case)
+    (r : Result Bool StreamStop) → IsCase f case → IsWhole limits f bytes case.trace → IsFollowed Stands kind before (Some case) (written ++ old)
+    → IfOk r (IsEndedOut Ended kind live.follower case old live.text (written ++ old)) → IfErr r (IsHeldUp kind (Some case) true old live.text)
     → MatchResult r (IsOver Ended kind limits f live bytes (written ++ live.text)) (λ e. IsLiveStop kind limits f true bytes (written ++ live.text) e)
-over_of Ended kind limits f live bytes written old case (Ok holds) fits trace (x, is, (grown, e, complete)) none = record {
+over_of Stands Ended kind limits f before live bytes written old case (Ok holds) fits trace was (x, is, (grown, e, complete)) held = record {
   case = case;
   fits = fits;
   trace = trace;
@@ -227,4 +325,6 @@ over_of Ended kind limits f live bytes written old case (Ok holds) fits trace (x
   is = is;
   complete = subst (λ made. IsComplete (Ended x) kind case made holds) (sym (more_text written old live.text grown e)) complete;
 }
-over_of Ended kind limits f live bytes written old case (Err e) fits trace ok none = subst (λ (s : StreamStop). IsLiveStop kind limits f true bytes (written ++ live.text) s) (sym none) tt
+over_of Stands Ended kind limits f before live bytes written old case (Err e) fits trace was ok held =
+    end_held Stands kind limits f bytes true bytes [] (sym (append-nil bytes)) true (λ k. (refl, refl)) before case written old live.text e refl
+    (record { fits = fits; sound = trace.sound; read = trace.trace.text.read }) was held

@@ -23,11 +23,12 @@ use Rattle.online_robust.specs.declared.net.RobustFault.TheVariants as R
 use Rattle.online_robust.proofs.StreamTexts.{lines_more, stream_text}
 use Rattle.trace_stream.specs.Cases.{IsCase, Takes, with_row}
 use Rattle.trace_stream.specs.Streams.{margins}
-use Rattle.trace_stream.specs.Following.{IsFollowedOn, IsFollowedOut}
-use Rattle.trace_stream.specs.Margining.{past_of, denominator_of, fault_of, Given, HasTaken, HasTakenAll, IsFollowFault, IsMargined, IsNeededByThen, IsOfFirst, IsStanding, IsUnwritten}
+use Rattle.trace_stream.specs.Wides.{IsNeededByThen}
+use Rattle.trace_stream.specs.Following.{IsFollowedOn, IsFollowedOut, IsFollowFault, IsUnwritten}
+use Rattle.trace_stream.specs.Margining.{past_of, denominator_of, fault_of, Given, HasTaken, HasTakenAll, IsMargined, IsOfFirst, IsStanding}
 use Rattle.trace_stream.specs.declared.case.Case.{Case}
-use Rattle.trace_stream.specs.declared.margins.FollowFault.{FollowFault}
-use Rattle.trace_stream.specs.declared.margins.FollowFault.TheVariants as F
+use Rattle.trace_stream.specs.declared.follow.FollowFault.{FollowFault}
+use Rattle.trace_stream.specs.declared.follow.FollowFault.TheVariants as F
 use Rattle.trace_stream.specs.declared.margins.Margins.{Margins}
 
 -- ---- rows
@@ -109,7 +110,7 @@ needed m (Value p at den) cause = inr (margin_function p, value at, cause)
 
 -- its cause is that of the follower
 pub fault_so : (c : Case) (ended : Bool) (old : Past) (fault : RobustFault) → IsWideIn c.formula.nodes c.trace.header old (past_of c ended) fault
-    → IsFollowFault c ended (fault_of fault)
+    → IsFollowFault margins c ended (fault_of fault)
 fault_so c ended old (R.Wide cause) (inside, is) =
     needed (record { nodes = c.formula.nodes; header = c.trace.header; old = old; new = past_of c ended; place = cause.node }) cause.pair is
 fault_so c ended old R.Memory is = tt

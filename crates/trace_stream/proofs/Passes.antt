@@ -260,7 +260,7 @@ lines_alike scale (v ∷ vs) (w ∷ ws) text (begin, end, holds, e) (here, later
 
 -- ---- what a node gives out in a run is one list, but for the pairs by which times are written
 
-alike_append : (a b c d : List Verdict) → AreAlike a c → AreAlike b d → AreAlike (a ++ b) (c ++ d)
+pub alike_append : (a b c d : List Verdict) → AreAlike a c → AreAlike b d → AreAlike (a ++ b) (c ++ d)
 alike_append [] b [] d e f = f
 alike_append [] b (w ∷ c) d e f = absurd e
 alike_append (v ∷ a) b [] d e f = absurd e

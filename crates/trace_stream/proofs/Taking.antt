@@ -20,9 +20,10 @@ use Rattle.online_nodes.proofs.EmittedLaw.{taken_within}
 use Rattle.online_nodes.proofs.FrameLaw.{no_more_by_take}
 use Rattle.online_net.specs.Nets.{Parts, Stands, IsNext, IsStepped}
 use Rattle.report.specs.Appended.{Grew}
-use Rattle.trace_stream.specs.Watching.{first_truth, kept_truth, Pass, CanTake, HasTaken}
-use Rattle.trace_stream.specs.declared.verdicts.Verdicts.{Verdicts}
-use Rattle.trace_stream.proofs.Passes.{steps_append, emitted_alike, alike_length, taken_once, lines_alike}
+use Rattle.trace_stream.specs.Watching.{first_truth, kept_truth, Pass, CanTake, HasTaken, HasGiven}
+use Rattle.trace_stream.specs.declared.verdicts.Network.{Network}
+use Rattle.trace_stream.proofs.Cutting.{lines_more}
+use Rattle.trace_stream.proofs.Passes.{steps_append, alike_append, emitted_alike, alike_length, taken_once, lines_alike}
 
 -- ---- lists
 
@@ -59,12 +60,6 @@ first_alike [] [] e = refl
 first_alike [] (w ∷ ws) e = absurd e
 first_alike (v ∷ vs) [] e = absurd e
 first_alike (v ∷ vs) (w ∷ ws) e = ap (λ (b : Bool). Some b) e.2
-
-lines_more : (scale : Scale) (vs : List Verdict) (v : Verdict) (text line : List ℕ) → AreVerdictLines scale vs text → IsVerdictLine scale v line
-    → AreVerdictLines scale (vs ++ v ∷ []) (text ++ line)
-lines_more scale [] v text line none is = (line, [], is, refl, ap (λ t. t ++ line) none ∙ sym (append-nil line))
-lines_more scale (w ∷ vs) v text line (here, later, first, rest, e) is =
-    (here, later ++ line, first, lines_more scale vs v later line rest is, ap (λ t. t ++ line) e ∙ append_assoc here later line)
 
 line_alike : (scale : Scale) (v w : Verdict) (line : List ℕ) → AreAlike (v ∷ []) (w ∷ []) → IsVerdictLine scale v line → IsVerdictLine scale w line
 line_alike scale v w line same is =
@@ -133,7 +128,7 @@ module _ (p : Pass) (given : Emitted p.nodes p.header p.events (length p.nodes -
   given_on n = emitted_takes p.nodes p.header (length p.nodes - 1) p.events n p.given given
 
   -- before the first take
-  pub none_yet : (v : Verdicts) (text : List ℕ) → CanTake p v → HasTaken p 0 v text text
+  pub none_yet : (v : Network) (text : List ℕ) → CanTake p v → HasTaken p 0 v text text
   none_yet v text can =
       let same : p.taken ≡ p.taken + 0 = omega arith in
       let few : p.taken ≤ length p.given = taken_within p.nodes p.header can.taken p.given can.given in
@@ -157,7 +152,7 @@ module _ (p : Pass) (given : Emitted p.nodes p.header p.events (length p.nodes -
       (emitted_alike p.nodes p.header (length p.nodes - 1) (p.events ++ takes n) next.emitted p.given next.is_emitted (given_on n)) at
 
   -- one take more, whose verdict was put
-  pub takes_one : (n : ℕ) (v : Verdict) (before after : Verdicts) (old mid new : List ℕ) → HasTaken p n before old mid
+  pub takes_one : (n : ℕ) (v : Verdict) (before after : Network) (old mid new : List ℕ) → HasTaken p n before old mid
       → IsNext p.nodes p.header (p.events ++ takes n) (Some v)
       → Stands p.nodes p.header after.net ((p.events ++ takes n) ++ taken ∷ []) → after.start ≡ kept_truth before.start v.holds
       → after.formula ≡ before.formula → Grew (IsVerdictLine before.formula.scale v) mid new → HasTaken p (suc n) after old new
@@ -186,8 +181,50 @@ module _ (p : Pass) (given : Emitted p.nodes p.header p.events (length p.nodes -
         );
       }
 
+  -- before the first take nothing more is pending
+  pub none_given : (v : Network) (pending : List Verdict) → CanTake p v → HasGiven p 0 v pending pending
+  none_given v pending can =
+      let h = none_yet v [] can in
+      record { within = h.within; stands = h.stands; taken = h.taken; start = h.start; put = []; are = tt; pending = sym (append-nil pending) }
+
+  -- one take more, whose verdict stands behind the others
+  pub gives_one : (n : ℕ) (v : Verdict) (before after : Network) (old mid new : List Verdict) → HasGiven p n before old mid
+      → IsNext p.nodes p.header (p.events ++ takes n) (Some v)
+      → Stands p.nodes p.header after.net ((p.events ++ takes n) ++ taken ∷ []) → after.start ≡ kept_truth before.start v.holds
+      → new ≡ mid ++ v ∷ [] → HasGiven p (suc n) after old new
+  gives_one n v before after old mid new h next stands start more =
+      let (w, at, same) = next_one n v h.taken next in
+      let within : p.taken + n < length p.given = slice_get_within p.given (p.taken + n) w at in
+      let longer : p.taken + suc n ≡ p.taken + n + 1 = omega arith in
+      let up : suc (p.taken + n) ≡ p.taken + suc n = omega arith in
+      let first : take (p.taken + suc n) p.given ≡ take (p.taken + n) p.given ++ w ∷ [] =
+      ap (λ k. take k p.given) longer ∙ take_on p.given (p.taken + n) w at in
+      record {
+        within = omega (arith, within);
+        stands = subst (λ l. Stands p.nodes p.header after.net l) (takes_on p.events n) stands;
+        taken = subst (λ l. IsTaken p.nodes p.header l (p.taken + suc n)) (takes_on p.events n)
+            (subst (λ k. IsTaken p.nodes p.header ((p.events ++ takes n) ++ taken ∷ []) k) up (next_taken p.given (given_on n) within h.taken));
+        start = start ∙ ap (λ o. kept_truth o v.holds) h.start ∙ ap (kept_truth (first_truth (take (p.taken + n) p.given))) same.2
+            ∙ sym (ap first_truth first ∙ first_more (take (p.taken + n) p.given) w);
+        put = h.put ++ v ∷ [];
+        are = subst (λ l. AreAlike (h.put ++ v ∷ []) l) (sym (take_behind p.given p.taken n w at))
+            (alike_append h.put (v ∷ []) (take n (drop p.taken p.given)) (w ∷ []) h.are same);
+        pending = more ∙ ap (λ l. l ++ v ∷ []) h.pending ∙ append_assoc old h.put (v ∷ []);
+      }
+
+  -- and where a take finds none
+  pub all_given : (n : ℕ) (v : Network) (old new : List Verdict) → HasGiven p n v old new → IsNext p.nodes p.header (p.events ++ takes n) None
+      → p.taken + n ≡ length p.given
+  all_given n v old new h next =
+      let same : next.taken ≡ p.taken + n = taken_once p.nodes p.header (p.taken + n) next.is_taken h.taken in
+      let size : length next.emitted ≡ length p.given = alike_length next.emitted p.given
+      (emitted_alike p.nodes p.header (length p.nodes - 1) (p.events ++ takes n) next.emitted p.given next.is_emitted (given_on n)) in
+      let past : length next.emitted ≤ next.taken = past_end next.emitted next.taken (sym next.is) in
+      let within = h.within in
+      omega (arith, same, size, past, within)
+
   -- a take that finds none: all was taken
-  pub all_taken : (n : ℕ) (v : Verdicts) (old new : List ℕ) → HasTaken p n v old new → IsNext p.nodes p.header (p.events ++ takes n) None
+  pub all_taken : (n : ℕ) (v : Network) (old new : List ℕ) → HasTaken p n v old new → IsNext p.nodes p.header (p.events ++ takes n) None
       → p.taken + n ≡ length p.given
   all_taken n v old new h next =
       let same : next.taken ≡ p.taken + n = taken_once p.nodes p.header (p.taken + n) next.is_taken h.taken in

@@ -30,7 +30,7 @@ module _ {F : Type 0} (Stands : F → Case → List ℕ → Type 0) (kind : Stre
   -- it stands for the same bytes once its text is written
   pub live_after : (mid : Live F) (bytes text : List ℕ) → IsLive Stands kind mid bytes text → IsLive Stands kind (record mid { text = [] }) bytes (text ++ mid.text)
   live_after mid bytes text k =
-      record { case = k.case; kept = k.kept; followed = subst (λ t. IsFollowed Stands kind mid.follower k.case t) (sym (append-nil (text ++ mid.text))) k.followed }
+      record { served = k.served; case = k.case; kept = k.kept; followed = subst (λ t. IsFollowed Stands kind mid.follower k.case t) (sym (append-nil (text ++ mid.text))) k.followed }
 
 module _ {F : Type 0} (Ended : F → Case → List ℕ → Type 0) (kind : Stream) where
   -- the whole text is that of all rows and their end

@@ -21,7 +21,7 @@ use Rattle.stl_syntax.specs.declared.items.Verdict.{Verdict}
 use Rattle.stl_syntax.specs.declared.node.Node.{Node}
 use Rattle.online_nodes.specs.Network.{Event, row, step, close, take as taken, is_atom, node_is_atom, initial, after_event, state_from, state, State, Front, shown, IsRun, Emitted, EmittedFrom}
 use Rattle.online_nodes.specs.Cuts.{begins, ends, Before, Same}
-use Rattle.online_nodes.specs.Driven.{steps_of, takes, pass_of, IsEmptied, IsDriven, nothing, by_row, by_end}
+use Rattle.online_nodes.specs.Driven.{rows_of, steps_of, takes, pass_of, IsEmptied, IsDriven, nothing, by_rows, by_end}
 use Rattle.online_nodes.specs.Needed.{IsTaken, none as none_taken, other}
 use Rattle.online_nodes.specs.Laws.{AreTiles, AreTold, IsWhole}
 use Rattle.online_nodes.specs.StreamedWide.{front_at}
@@ -33,7 +33,7 @@ use Rattle.online_nodes.proofs.StayLaw.{emitted_stays}
 use Rattle.online_net.specs.Nets.{Stands}
 use Rattle.report.specs.Appended.{Grew}
 use Rattle.trace_stream.specs.Watching.{first_truth, Pass, HasTakenAll}
-use Rattle.trace_stream.specs.declared.verdicts.Verdicts.{Verdicts}
+use Rattle.trace_stream.specs.declared.verdicts.Network.{Network}
 use Rattle.trace_stream.proofs.Passes.{state_after, parted, rows_stay, emitted_alike, alike_length, Gives, LeavesRoot, pass_gives, text_of_given}
 use Rattle.trace_stream.proofs.Taking.{first_alike, emitted_takes}
 
@@ -41,7 +41,7 @@ use Rattle.trace_stream.proofs.Taking.{first_alike, emitted_takes}
 abbrev pub AreOthers : List Event → Type 0
 AreOthers events = All (λ (e : Event). e ≢ taken) events
 
-no_row : (before : List Row) (r : Row) → before ++ r ∷ [] ≡ [] → ⊥
+pub no_row : (before : List Row) (r : Row) → before ++ r ∷ [] ≡ [] → ⊥
 no_row [] r e = cc
 no_row (q ∷ before) r e = cc
 
@@ -50,18 +50,18 @@ time_appended t [] r = refl
 time_appended t (q ∷ rows) r = time_appended q.time rows r
 
 -- what a front shows where the trace begins
-abbrev show : ℕ → Front → Front
+abbrev pub show : ℕ → Front → Front
 show b None = None
 show b (Some f) = cond (int_lt f (pos b)) None (Some f)
 
-shown_by : (s : State) (i : ℕ) (b : ℕ) (o : Front) → first_time s.rows ≡ b → s.fronts i ≡ o → shown s i ≡ show b o
+pub shown_by : (s : State) (i : ℕ) (b : ℕ) (o : Front) → first_time s.rows ≡ b → s.fronts i ≡ o → shown s i ≡ show b o
 shown_by s i b o same e = ap (show (first_time s.rows)) e ∙ ap (λ n. show n o) same
 
 -- ---- the run that a stream drives
 
 module _ (nodes : List Node) (header : Header) where
   -- steps are no takes
-  steps_others : (i : ℕ) (rest : List Node) → AreOthers (steps_of i rest)
+  pub steps_others : (i : ℕ) (rest : List Node) → AreOthers (steps_of i rest)
   steps_others i [] = All-nil (λ (e : Event). e ≢ taken)
   steps_others i (n ∷ rest) =
       elim (is_atom n) as (λ t. AreOthers (cond t (steps_of (suc i) rest) (step i ∷ steps_of (suc i) rest))) [
@@ -70,7 +70,7 @@ module _ (nodes : List Node) (header : Header) where
       ]
 
   -- after other events as many were taken
-  taken_on : (events more : List Event) (n : ℕ) → AreOthers more → IsTaken nodes header events n → IsTaken nodes header (events ++ more) n
+  pub taken_on : (events more : List Event) (n : ℕ) → AreOthers more → IsTaken nodes header events n → IsTaken nodes header (events ++ more) n
   taken_on events [] n all t = subst (λ l. IsTaken nodes header l n) (sym (append-nil events)) t
   taken_on events (e ∷ more) n all t =
       subst (λ l. IsTaken nodes header l n) (append_assoc events (e ∷ []) more)
@@ -103,15 +103,24 @@ module _ (nodes : List Node) (header : Header) where
     pub rows_are : s.rows ≡ rows
     pub closed_is : s.closed ≡ ended
 
+  -- rows that come and that no step follows
+  pub rows_at : (s : State) (rows more : List Row) → IsAfter rows false s → IsAfter (rows ++ more) false (state_from nodes s (rows_of more))
+  rows_at s rows [] at = subst (λ l. IsAfter l false s) (sym (append-nil rows)) at
+  rows_at s rows (q ∷ more) at =
+      subst (λ l. IsAfter l false (state_from nodes (after_event nodes s (row q)) (rows_of more))) (append_assoc rows (q ∷ []) more)
+      (rows_at (after_event nodes s (row q)) (rows ++ q ∷ []) more (record { rows_are = ap (λ l. l ++ q ∷ []) at.rows_are; closed_is = at.closed_is }))
+
   -- after the run that a stream drives the state has the rows, and the end where it came
   pub driven_at : {rows : List Row} {ended : Bool} {events : List Event} → IsDriven nodes header rows ended events
       → IsAfter rows ended (state_from nodes initial events)
   driven_at nothing = record { rows_are = refl; closed_is = refl }
-  driven_at (by_row {rows = rows} {events = events} r n before emptied) =
-      let at = driven_at before in
-      subst (λ (z : State). IsAfter (rows ++ r ∷ []) false z) (sym (after_pass events (row r) n)) (record {
-        rows_are = sym (rows_stay nodes header 0 nodes (after_event nodes (state_from nodes initial events) (row r))) ∙ ap (λ l. l ++ r ∷ []) at.rows_are;
-        closed_is = sym (ends_stay 0 nodes (after_event nodes (state_from nodes initial events) (row r))) ∙ at.closed_is;
+  driven_at (by_rows {rows = rows} {events = events} more r n before emptied) =
+      let on = state_after nodes header initial events (rows_of more) in
+      let at = subst (λ (z : State). IsAfter (rows ++ more) false z) (sym on) (rows_at (state_from nodes initial events) rows more (driven_at before)) in
+      let s = state_from nodes initial (events ++ rows_of more) in
+      subst (λ (z : State). IsAfter ((rows ++ more) ++ r ∷ []) false z) (sym (after_pass (events ++ rows_of more) (row r) n)) (record {
+        rows_are = sym (rows_stay nodes header 0 nodes (after_event nodes s (row r))) ∙ ap (λ l. l ++ r ∷ []) at.rows_are;
+        closed_is = sym (ends_stay 0 nodes (after_event nodes s (row r))) ∙ at.closed_is;
       })
   driven_at (by_end {rows = rows} {events = events} n before some emptied) =
       let at = driven_at before in
@@ -123,13 +132,21 @@ module _ (nodes : List Node) (header : Header) where
   -- and all that the root gave out in it was taken
   pub driven_emptied : {rows : List Row} {ended : Bool} {events : List Event} → IsDriven nodes header rows ended events → IsEmptied nodes header events
   driven_emptied nothing = record { taken = 0; is_taken = none_taken; emitted = []; is_emitted = refl; all = refl }
-  driven_emptied (by_row r n before emptied) = emptied
+  driven_emptied (by_rows more r n before emptied) = emptied
   driven_emptied (by_end n before some emptied) = emptied
 
-  none_driven : {rows : List Row} {ended : Bool} {events : List Event} → IsDriven nodes header rows ended events → rows ≡ [] → events ≡ []
+  pub none_driven : {rows : List Row} {ended : Bool} {events : List Event} → IsDriven nodes header rows ended events → rows ≡ [] → events ≡ []
   none_driven nothing e = refl
-  none_driven (by_row {rows = rows} r n before emptied) e = absurd (no_row rows r e)
+  none_driven (by_rows {rows = rows} more r n before emptied) e = absurd (no_row (rows ++ more) r e)
   none_driven (by_end n before some emptied) e = absurd (some e)
+
+  -- one row more, which a pass follows at once
+  pub by_row : {rows : List Row} {events : List Event} (r : Row) (n : ℕ) → IsDriven nodes header rows false events
+      → IsEmptied nodes header (events ++ pass_of (row r) nodes n) → IsDriven nodes header (rows ++ r ∷ []) false (events ++ pass_of (row r) nodes n)
+  by_row {rows} {events} r n d x =
+      subst (λ l. IsDriven nodes header (l ++ r ∷ []) false (events ++ pass_of (row r) nodes n)) (append-nil rows)
+      (subst (λ l. IsDriven nodes header ((rows ++ []) ++ r ∷ []) false (l ++ pass_of (row r) nodes n)) (append-nil events)
+      (by_rows [] r n d (subst (λ l. IsEmptied nodes header (l ++ pass_of (row r) nodes n)) (sym (append-nil events)) x)))
 
   -- ---- a pass
 
@@ -142,15 +159,14 @@ module _ (nodes : List Node) (header : Header) where
     pub truth : first_truth first ≡ first_truth emitted
     pub gives : EmittedFrom nodes header (length nodes - 1) (state_from nodes initial events) (e ∷ steps_of 0 nodes) beyond
 
-  -- of a driven run, an event and the steps, what was given out parts so
-  pub passing_of : {rows : List Row} {events : List Event} (e : Event) (emitted all : List Verdict) → e ≢ taken
-      → IsDriven nodes header rows false events → Emitted nodes header events (length nodes - 1) emitted
+  -- of a run whose verdicts were all taken, an event and the steps, what was given out parts so
+  pub passing_of : {events : List Event} (e : Event) (emitted all : List Verdict) → e ≢ taken
+      → IsEmptied nodes header events → Emitted nodes header events (length nodes - 1) emitted
       → Emitted nodes header ((events ++ e ∷ []) ++ steps_of 0 nodes) (length nodes - 1) all → Passing events e emitted
-  passing_of {rows} {events} e emitted all ne d was given =
+  passing_of {events} e emitted all ne x was given =
       let same : (events ++ e ∷ []) ++ steps_of 0 nodes ≡ events ++ e ∷ steps_of 0 nodes = append_assoc events (e ∷ []) (steps_of 0 nodes) in
       let p = parted nodes header (length nodes - 1) initial events (e ∷ steps_of 0 nodes) all
       (subst (λ l. Emitted nodes header l (length nodes - 1) all) same given) in
-      let x = driven_emptied d in
       let size : x.taken ≡ length p.first = x.all
       ∙ alike_length x.emitted p.first (emitted_alike nodes header (length nodes - 1) events x.emitted p.first x.is_emitted p.first_is) in
       record {
@@ -174,7 +190,7 @@ module _ (nodes : List Node) (header : Header) where
   }
 
   -- after the takes
-  pub record HasPassed (events : List Event) (e : Event) (given beyond : List Verdict) (v : Verdicts) (old new : List ℕ) : Type 0 where
+  pub record HasPassed (events : List Event) (e : Event) (given beyond : List Verdict) (v : Network) (old new : List ℕ) : Type 0 where
     pub made : ℕ
     pub emptied : IsEmptied nodes header (events ++ pass_of e nodes made)
     pub stands : Stands nodes header v.net (events ++ pass_of e nodes made)
@@ -183,7 +199,7 @@ module _ (nodes : List Node) (header : Header) where
     pub lines : Grew (AreVerdictLines v.formula.scale beyond) old new
 
   -- once all was taken the run is driven on, and the lines are of what was given out last
-  pub passed_of : (events : List Event) (e : Event) (emitted : List Verdict) (x : Passing events e emitted) (v : Verdicts) (old new : List ℕ)
+  pub passed_of : (events : List Event) (e : Event) (emitted : List Verdict) (x : Passing events e emitted) (v : Network) (old new : List ℕ)
       → HasTakenAll (pass_before events e x.first x.beyond) v old new → HasPassed events e (x.first ++ x.beyond) x.beyond v old new
   passed_of events e emitted x v old new (n, h, all) =
       let path : ((events ++ e ∷ []) ++ steps_of 0 nodes) ++ takes n ≡ events ++ pass_of e nodes n =
@@ -220,7 +236,7 @@ abbrev pub front_after : Subformula → List Row → Front
 front_after p [] = None
 front_after p (r ∷ rows) = answered_by r.time p (last_time r.time rows)
 
-front_push : (p : Subformula) (rows : List Row) (r : Row) → front_after p (rows ++ r ∷ []) ≡ answered_by (first_time (rows ++ r ∷ [])) p r.time
+pub front_push : (p : Subformula) (rows : List Row) (r : Row) → front_after p (rows ++ r ∷ []) ≡ answered_by (first_time (rows ++ r ∷ [])) p r.time
 front_push p [] r = refl
 front_push p (q ∷ rows) r = ap (answered_by q.time p) (time_appended q.time rows r)
 
@@ -471,3 +487,26 @@ row_told p header rows r text here told new =
     rows_text_on (IsNewText p) p header [] None rows r text here told
     (subst (λ o. IsNewText p (record { header = header; rows = rows ++ r ∷ [] }) o (answered_by (first_time (rows ++ r ∷ [])) p r.time) here)
     (sym (front_from_is p rows)) new)
+
+rows_text_append : (New : NewText) (p : Subformula) (header : Header) (before : List Row) (old : Front) (rows more : List Row) (text later : List ℕ)
+    → IsRowsText New p header before old rows text → IsRowsText New p header (before ++ rows) (front_from p before old rows) more later
+    → IsRowsText New p header before old (rows ++ more) (text ++ later)
+rows_text_append New p header before old [] more text later none new =
+    subst (λ t. IsRowsText New p header before old more (t ++ later)) (sym none)
+    (subst (λ l. IsRowsText New p header l old more later) (append-nil before) new)
+rows_text_append New p header before old (q ∷ rows) more text later (first, others, new_first, others_are, is) new = (
+  first,
+  others ++ later,
+  new_first,
+  rows_text_append New p header (before ++ q ∷ []) (answered_by (first_time (before ++ q ∷ [])) p q.time) rows more others later others_are
+      (subst (λ l. IsRowsText New p header l (front_from p (before ++ q ∷ []) (answered_by (first_time (before ++ q ∷ [])) p q.time) rows) more later)
+      (sym (append_assoc before (q ∷ []) rows)) new),
+  ap (λ t. t ++ later) is ∙ append_assoc first others later,
+)
+
+-- the text of rows, and of some more
+pub rows_told : (p : Subformula) (header : Header) (rows more : List Row) (text later : List ℕ) → IsRowsText (IsNewText p) p header [] None rows text
+    → IsRowsText (IsNewText p) p header rows (front_after p rows) more later → IsRowsText (IsNewText p) p header [] None (rows ++ more) (text ++ later)
+rows_told p header rows more text later told new =
+    rows_text_append (IsNewText p) p header [] None rows more text later told
+    (subst (λ o. IsRowsText (IsNewText p) p header rows o more later) (sym (front_from_is p rows)) new)

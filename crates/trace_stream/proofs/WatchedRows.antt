@@ -11,16 +11,17 @@ use Rattle.stl_syntax.specs.PostOrder.{IsPostOrder}
 use Rattle.stl_syntax.specs.Texts.{AreVerdictLines, start_line}
 use Rattle.stl_syntax.proofs.WellFormedLemmas.{root_some}
 use Rattle.online_nodes.specs.Network.{Event, row as came, close, take as taken, state}
-use Rattle.online_nodes.specs.Driven.{steps_of, pass_of, IsDriven, by_row, by_end}
+use Rattle.online_nodes.specs.Driven.{steps_of, pass_of, IsDriven, by_end}
 use Rattle.online_net.specs.Nets.{Parts, Stands, last_row_of, last_row_after}
 use Rattle.trace_stream.specs.Streams.{verdicts, StreamText, status_of_truth}
 use Rattle.trace_stream.specs.Cases.{IsCase, Takes, with_row}
 use Rattle.trace_stream.specs.Following.{IsFollowedOn, IsFollowedOut}
 use Rattle.trace_stream.specs.Watching.{first_truth, IsWatched, CanTake, HasTakenAll}
 use Rattle.trace_stream.specs.declared.case.Case.{Case}
+use Rattle.trace_stream.specs.declared.verdicts.Network.{Network}
 use Rattle.trace_stream.specs.declared.verdicts.Verdicts.{Verdicts}
 use Rattle.trace_stream.proofs.RowTimes.{first_to_last}
-use Rattle.trace_stream.proofs.Watched.{driven_at, Passing, passing_of, pass_before, HasPassed, passed_of, StartTold, start_truth, row_text, rest_text, row_told}
+use Rattle.trace_stream.proofs.Watched.{by_row, driven_at, driven_emptied, Passing, passing_of, pass_before, HasPassed, passed_of, StartTold, start_truth, row_text, rest_text, row_told}
 
 -- ---- the last row
 
@@ -28,7 +29,7 @@ after_time : (r : Row) (rows : List Row) → (last_row_after r rows).time ≡ la
 after_time r [] = refl
 after_time r (q ∷ rows) = after_time q rows
 
-later_row : (rows : List Row) (r : Row) → (0 < length rows → last_time 0 rows < r.time) → IfSome (last_row_of rows) (λ (l : Row). l.time < r.time)
+pub later_row : (rows : List Row) (r : Row) → (0 < length rows → last_time 0 rows < r.time) → IfSome (last_row_of rows) (λ (l : Row). l.time < r.time)
 later_row [] r h = tt
 later_row (q ∷ rows) r h = subst (λ n. n < r.time) (sym (after_time q rows)) (h (omega arith))
 
@@ -61,29 +62,29 @@ module _ (v : Verdicts) (c : Case) (w : IsWatched false v c) where
   some_node = root_some c.formula.nodes w.stands.holds.one_root
 
   -- the row may come
-  pub fits_width : (r : Row) → Takes r c.trace → length r.values ≡ v.net.bound.width
+  pub fits_width : (r : Row) → Takes r c.trace → length r.values ≡ v.network.net.bound.width
   fits_width r t = t.0 ∙ sym w.stands.holds.bound.width
 
-  last_is : v.net.last ≡ last_row_of c.trace.rows
+  last_is : v.network.net.last ≡ last_row_of c.trace.rows
   unfolding state
   last_is = w.stands.holds.last ∙ ap last_row_of (driven_at c.formula.nodes c.trace.header w.driven).rows_are
 
   -- and it is later than the last one
-  pub fits_time : (r : Row) → Takes r c.trace → IfSome v.net.last (λ (l : Row). l.time < r.time)
+  pub fits_time : (r : Row) → Takes r c.trace → IfSome v.network.net.last (λ (l : Row). l.time < r.time)
   fits_time r t = subst (λ o. IfSome o (λ (l : Row). l.time < r.time)) (sym last_is) (later_row c.trace.rows r t.1)
 
   -- the end may come
-  pub may_end : IsTrace c.trace → v.net.last ≢ None
+  pub may_end : IsTrace c.trace → v.network.net.last ≢ None
   may_end t e = has_last_row c.trace.rows (some_row (length c.trace.header.columns) c.trace.rows t.rows) (sym last_is ∙ e)
 
   -- each node has its place among the operators
-  pub places : (net : Parts) (events : List Event) → Stands c.formula.nodes c.trace.header net events → length net.operators ≡ length v.formula.nodes
+  pub places : (net : Parts) (events : List Event) → Stands c.formula.nodes c.trace.header net events → length net.operators ≡ length v.network.formula.nodes
   places net events st = st.holds.operators ∙ ap (λ (f : Formula). length f.nodes) (sym w.formula)
 
   -- the network after an event and the steps
   pub steps_stand : (e : Event) (fed mid : Parts) → Stands c.formula.nodes c.trace.header fed (w.events ++ e ∷ [])
-      → ((header : Header) (events : List Event) → Stands v.formula.nodes header fed events
-      → Stands v.formula.nodes header mid (events ++ steps_of 0 v.formula.nodes))
+      → ((header : Header) (events : List Event) → Stands v.network.formula.nodes header fed events
+      → Stands v.network.formula.nodes header mid (events ++ steps_of 0 v.network.formula.nodes))
       → Stands c.formula.nodes c.trace.header mid ((w.events ++ e ∷ []) ++ steps_of 0 c.formula.nodes)
   steps_stand e fed mid st step =
       subst (λ (f : Formula). Stands f.nodes c.trace.header mid ((w.events ++ e ∷ []) ++ steps_of 0 f.nodes)) w.formula
@@ -93,11 +94,11 @@ module _ (v : Verdicts) (c : Case) (w : IsWatched false v c) where
   pub passing : (e : Event) (net : Parts) → e ≢ taken → Stands c.formula.nodes c.trace.header net ((w.events ++ e ∷ []) ++ steps_of 0 c.formula.nodes)
       → Passing c.formula.nodes c.trace.header w.events e w.emitted
   passing e net ne st =
-      passing_of c.formula.nodes c.trace.header e w.emitted st.shows.root.emitted ne w.driven w.is_emitted st.shows.root.is_emitted
+      passing_of c.formula.nodes c.trace.header e w.emitted st.shows.root.emitted ne (driven_emptied c.formula.nodes c.trace.header w.driven) w.is_emitted st.shows.root.is_emitted
 
   -- so what the root gave out can be taken
-  pub can_take : (e : Event) (x : Passing c.formula.nodes c.trace.header w.events e w.emitted) (mid : Verdicts)
-      → Stands c.formula.nodes c.trace.header mid.net ((w.events ++ e ∷ []) ++ steps_of 0 c.formula.nodes) → mid.start ≡ v.start
+  pub can_take : (e : Event) (x : Passing c.formula.nodes c.trace.header w.events e w.emitted) (mid : Network)
+      → Stands c.formula.nodes c.trace.header mid.net ((w.events ++ e ∷ []) ++ steps_of 0 c.formula.nodes) → mid.start ≡ v.network.start
       → CanTake (pass_before c.formula.nodes c.trace.header w.events e x.first x.beyond) mid
   can_take e x mid st same = record {
     stands = st;
@@ -107,33 +108,36 @@ module _ (v : Verdicts) (c : Case) (w : IsWatched false v c) where
   }
 
   -- the lines are in the ticks of the header
-  lines_of : (f : Formula) (after : Verdicts) (beyond : List Verdict) (grown : List ℕ) → IsCase f c → after.formula ≡ v.formula
+  lines_of : (f : Formula) (after : Network) (beyond : List Verdict) (grown : List ℕ) → IsCase f c → after.formula ≡ v.network.formula
       → AreVerdictLines after.formula.scale beyond grown → AreVerdictLines c.trace.header.scale beyond grown
   lines_of f after beyond grown is same lines =
       subst (λ (g : Formula). AreVerdictLines g.scale beyond grown) (same ∙ w.formula ∙ is.formula) lines
 
   -- after a row
   pub row_followed : (f : Formula) (made : List ℕ) (r : Row) (x : Passing c.formula.nodes c.trace.header w.events (came r) w.emitted)
-      (after : Verdicts) (old new : List ℕ) → IsCase f c → StreamText verdicts (root c.formula.nodes) c.trace.header c.trace.rows false made
-      → Takes r c.trace → after.formula ≡ v.formula
+      (after : Network) (old new : List ℕ) → IsCase f c → StreamText verdicts (root c.formula.nodes) c.trace.header c.trace.rows false made
+      → Takes r c.trace → after.formula ≡ v.network.formula
       → HasTakenAll (pass_before c.formula.nodes c.trace.header w.events (came r) x.first x.beyond) after old new
-      → IsFollowedOn (λ case text. IsWatched false after case) verdicts (with_row r c) old new made
+      → IsFollowedOn (λ case text. IsWatched false (record v { network = after }) case) verdicts (with_row r c) old new made
   row_followed f made r x after old new is told may same h =
       let p = passed_of c.formula.nodes c.trace.header w.events (came r) w.emitted x after old new h in
       let driven : IsDriven c.formula.nodes c.trace.header (c.trace.rows ++ r ∷ []) false (w.events ++ pass_of (came r) c.formula.nodes p.made) =
-      by_row r p.made w.driven p.emptied in
+      by_row c.formula.nodes c.trace.header r p.made w.driven p.emptied in
       let (grown, lines, longer) = p.lines in (
         grown,
         longer,
         record {
           stands = record {
             formula = same ∙ w.formula;
+            horizon = w.horizon;
             events = w.events ++ pass_of (came r) c.formula.nodes p.made;
             driven = driven;
             stands = p.stands;
             emitted = x.first ++ x.beyond;
             is_emitted = p.is_emitted;
             start = p.start;
+            no_times = w.no_times;
+            none_pending = w.none_pending;
           };
           fits = (f, record { formula = is.formula; bound = is.bound });
           told = row_told (root c.formula.nodes) c.trace.header c.trace.rows r made grown told
@@ -143,13 +147,13 @@ module _ (v : Verdicts) (c : Case) (w : IsWatched false v c) where
       )
 
   -- at the end the truth at the start is kept, and is so
-  pub record IsOut (x : Passing c.formula.nodes c.trace.header w.events close w.emitted) (after : Verdicts) (old mid : List ℕ) : Type 0 where
+  pub record IsOut (x : Passing c.formula.nodes c.trace.header w.events close w.emitted) (after : Network) (old mid : List ℕ) : Type 0 where
     pub passed : HasPassed c.formula.nodes c.trace.header w.events close (x.first ++ x.beyond) x.beyond after old mid
     pub driven : IsDriven c.formula.nodes c.trace.header c.trace.rows true (w.events ++ pass_of close c.formula.nodes passed.made)
     pub truth : StartTold (root c.formula.nodes) c.trace (x.first ++ x.beyond)
 
   -- the pass at the end leaves that
-  pub is_out : (x : Passing c.formula.nodes c.trace.header w.events close w.emitted) (after : Verdicts) (old mid : List ℕ) → IsTrace c.trace
+  pub is_out : (x : Passing c.formula.nodes c.trace.header w.events close w.emitted) (after : Network) (old mid : List ℕ) → IsTrace c.trace
       → HasTakenAll (pass_before c.formula.nodes c.trace.header w.events close x.first x.beyond) after old mid → IsOut x after old mid
   is_out x after old mid t h =
       let p = passed_of c.formula.nodes c.trace.header w.events close w.emitted x after old mid h in
@@ -164,15 +168,15 @@ module _ (v : Verdicts) (c : Case) (w : IsWatched false v c) where
       }
 
   -- so a truth is kept
-  pub start_kept : (x : Passing c.formula.nodes c.trace.header w.events close w.emitted) (after : Verdicts) (old mid : List ℕ) → IsOut x after old mid
+  pub start_kept : (x : Passing c.formula.nodes c.trace.header w.events close w.emitted) (after : Network) (old mid : List ℕ) → IsOut x after old mid
       → after.start ≢ None
   start_kept x after old mid o e = absurd (let h : Some o.truth.holds ≡ None = sym o.truth.first ∙ sym o.passed.start ∙ e in cc)
 
   -- after the end, once the line of the start was put
   pub end_followed : (f : Formula) (made : List ℕ) (x : Passing c.formula.nodes c.trace.header w.events close w.emitted)
-      (after : Verdicts) (old mid new : List ℕ) (holds : Bool) → StreamText verdicts (root c.formula.nodes) c.trace.header c.trace.rows false made
-      → IsCase f c → IsTrace c.trace → after.formula ≡ v.formula → IsOut x after old mid → after.start ≡ Some holds → new ≡ mid ++ start_line holds
-      → IsFollowedOut (λ case text. IsWatched true after case) verdicts c old new made holds
+      (after : Network) (old mid new : List ℕ) (holds : Bool) → StreamText verdicts (root c.formula.nodes) c.trace.header c.trace.rows false made
+      → IsCase f c → IsTrace c.trace → after.formula ≡ v.network.formula → IsOut x after old mid → after.start ≡ Some holds → new ≡ mid ++ start_line holds
+      → IsFollowedOut (λ case text. IsWatched true (record v { network = after }) case) verdicts c old new made holds
   end_followed f made x after old mid new holds told is t same o kept line =
       let p = o.passed in
       let any : c.trace.rows ≢ [] = some_row (length c.trace.header.columns) c.trace.rows t.rows in
@@ -184,12 +188,15 @@ module _ (v : Verdicts) (c : Case) (w : IsWatched false v c) where
         record {
           ended = record {
             formula = same ∙ w.formula;
+            horizon = w.horizon;
             events = w.events ++ pass_of close c.formula.nodes p.made;
             driven = o.driven;
             stands = p.stands;
             emitted = x.first ++ x.beyond;
             is_emitted = p.is_emitted;
             start = p.start;
+            no_times = w.no_times;
+            none_pending = w.none_pending;
           };
           told = (
             t.rows,

@@ -1,15 +1,11 @@
--- When the network of a formula's margins stands for the rows of a case, and why its rows are not followed on.
-use Rattle.std.specs.Prelude.{◌≡◌, ◌⊎◌, ℕ, pos, Bool, List, ◌++◌, map}
-use Rattle.rational.specs.Time.{Rational}
-use Rattle.rational.specs.Extended.{Affine}
+-- When the network of a formula's margins stands for the rows of a case, and which fault it tells.
+use Rattle.std.specs.Prelude.{◌≡◌, ℕ, Bool, List, ◌++◌, map}
 use Rattle.stl_syntax.specs.Formula.{root}
-use Rattle.stl_syntax.specs.Trace.{Header, Trace, last_time}
-use Rattle.stl_syntax.specs.SupInf.{margin_setting}
+use Rattle.stl_syntax.specs.Trace.{Header}
 use Rattle.stl_syntax.specs.declared.node.Node.{Node}
 use Rattle.pl_signal.specs.declared.faults.WidePair.{WidePair}
 use Rattle.pl_signal.specs.declared.faults.WidePair.TheVariants.{Cross, Value}
 use Rattle.online_nodes.specs.MarginEdges.{AreEmittedParts}
-use Rattle.online_nodes.specs.StreamedWide.{IsStreamedCrossing, IsStreamedValue}
 use Rattle.online_robust.specs.Lining.{ArePartLines}
 use Rattle.online_robust.specs.Nets.{StandsFor}
 use Rattle.online_robust.specs.Pasts.{Past, part_of}
@@ -18,8 +14,8 @@ use Rattle.online_robust.specs.declared.net.RobustFault.{RobustFault}
 use Rattle.online_robust.specs.declared.net.RobustFault.TheVariants as R
 use Rattle.report.specs.Appended.{Grew}
 use Rattle.trace_stream.specs.declared.case.Case.{Case}
-use Rattle.trace_stream.specs.declared.margins.FollowFault.{FollowFault}
-use Rattle.trace_stream.specs.declared.margins.FollowFault.TheVariants.{Memory, Wide}
+use Rattle.trace_stream.specs.declared.follow.FollowFault.{FollowFault}
+use Rattle.trace_stream.specs.declared.follow.FollowFault.TheVariants.{Memory, Wide}
 use Rattle.trace_stream.specs.declared.margins.Margins.{Margins}
 
 -- the rows of a case, and their end where they have ended
@@ -66,13 +62,6 @@ abbrev pub denominator_of : {P : Type 0} → WidePair P → ℕ
 denominator_of (Cross p q a b den) = den
 denominator_of (Value p at den) = den
 
--- a pair of functions, or a constant, that is in play at node i once these rows have come, or all where the input has ended, needs this
--- denominator
-abbrev pub IsNeededByThen : List Node → Trace → Bool → ℕ → ℕ → Type 0
-IsNeededByThen nodes tr ended i den =
-    ((p q : Affine) × (a b : Rational) × IsStreamedCrossing nodes (margin_setting tr) ended (pos (last_time 0 tr.rows)) i p q a b den)
-    ⊎ ((p : Affine) × (u : Rational) × IsStreamedValue nodes (margin_setting tr) ended (pos (last_time 0 tr.rows)) i p u den)
-
 -- the fault that stopped a network
 abbrev pub IsOfFirst : RobustFault → Type 0
 IsOfFirst R.Stopped = ⊥
@@ -83,13 +72,3 @@ IsOfFirst fault = Unit {0}
 abbrev pub fault_of : RobustFault → FollowFault
 fault_of (R.Wide cause) = Wide cause.node (denominator_of cause.pair)
 fault_of fault = Memory
-
--- why the rows of the case, the last of which is new, or their end, are not followed
-abbrev pub IsFollowFault : Case → Bool → FollowFault → Type 0
-IsFollowFault c ended Memory = Unit {0}
-IsFollowFault c ended (Wide i den) = IsNeededByThen c.formula.nodes c.trace ended i den
-
--- a refusal for a denominator writes nothing
-abbrev pub IsUnwritten : List ℕ → List ℕ → FollowFault → Type 0
-IsUnwritten old new Memory = Unit {0}
-IsUnwritten old new (Wide i den) = new ≡ old

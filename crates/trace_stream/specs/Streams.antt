@@ -1,12 +1,14 @@
 -- The commands that answer row by row: the text of the rows so far, and the verdict at the end.
-use Rattle.std.specs.Prelude.{◌≡◌, ◌⊎◌, ℕ, Bool, true, false, List, [], Option, Some, None}
+use Rattle.std.specs.Prelude.{◌≡◌, ◌⊎◌, ℕ, Bool, true, false, List, [], Option, Some, None, slice_get}
 use Rattle.stl_syntax.specs.Formula.{Formula, Subformula, root}
 use Rattle.stl_syntax.specs.Scaling.{scaled}
 use Rattle.stl_syntax.specs.Trace.{Header, Row, Trace, start}
 use Rattle.stl_syntax.specs.Truth.{Truth}
 use Rattle.stl_syntax.specs.Stream.{IsStreamText}
 use Rattle.stl_syntax.specs.EarlyText.{IsEarlyText}
+use Rattle.stl_syntax.specs.declared.node.Node.{Node}
 use Rattle.online_nodes.specs.MarginStream.{IsMarginStream}
+use Rattle.online_nodes.specs.StreamedWide.{IsUnstreamed}
 use Rattle.trace_reader.specs.declared.refusal.Limits.{Limits}
 use Rattle.trace_reader.specs.InputFaults.{whole_limits, stream_limits, AreRowsBefore}
 use Rattle.report.specs.Report.{nodes_for}
@@ -22,6 +24,11 @@ abbrev pub limits_of : Stream → Limits
 limits_of verdicts = stream_limits
 limits_of early = whole_limits
 limits_of margins = stream_limits
+
+-- the formula has a stream: one of margins where no node is until or since
+abbrev pub HasStream : Stream → Formula → Type 0
+HasStream margins f = (i : ℕ) (n : Node) → slice_get f.nodes i ≡ Some n → ¬ IsUnstreamed n
+HasStream s f = Unit {0}
 
 -- the text of a stream for rows under a header, with its end where the input has ended
 abbrev pub StreamText : Stream → Subformula → Header → List Row → Bool → List ℕ → Type 0

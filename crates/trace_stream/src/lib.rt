@@ -9,14 +9,15 @@ mod follow;
 mod line;
 mod live;
 mod margins;
+mod pending;
 mod reading;
 mod verdicts;
 
 pub use case::Case;
 pub use fault::{StreamStop, TraceFault};
-pub use follow::Follow;
+pub use follow::{Follow, FollowFault};
 pub use line::fault_line;
 pub use live::Live;
-pub use margins::{FollowFault, Margins};
+pub use margins::Margins;
 pub use reading::Reading;
 pub use verdicts::Verdicts;

@@ -1,19 +1,23 @@
 //! A trace that is read as its bytes come, with what follows its rows.
-ghost use Rattle.std.specs.Prelude.{◌≡◌, ◌^◌, ◌<◌, ◌≤◌, ◌++◌, ℕ, List, [], length, take, true, false, Option, Some, option_map, IfOk, IfErr, MatchResult};
+ghost use Rattle.std.specs.Prelude.{◌≡◌, ◌⊎◌, ◌^◌, ◌<◌, ◌≤◌, ◌++◌, ℕ, List, [], length, take, true, false, Option, Some, option_map, IfOk, IfErr, OnErr, MatchResult};
 ghost use Rattle.stl_syntax.specs.Formula.{Formula as Parsed};
 ghost use Rattle.stl_syntax.specs.Trace.{IsTrace};
-ghost use Rattle.trace_stream.specs.Cases.{IsCase, CanKeep, with_row};
-ghost use Rattle.trace_stream.specs.Following.{Follows, IsFollowed, IsEndedOut, IsLive, HasLived, IsLastTaken, IsOver, IsLiveStop};
+ghost use Rattle.stl_syntax.specs.WellFormed.{IsScale};
+ghost use Rattle.trace_reader.specs.TraceText.{Heading, scale_of};
+ghost use Rattle.trace_reader.specs.Reader.{header_of};
+ghost use Rattle.trace_stream.specs.Cases.{IsBegun, IsCase, IsNoBegin, CanKeep, with_row};
+ghost use Rattle.trace_stream.specs.Streams.{HasStream};
+ghost use Rattle.trace_stream.specs.Following.{Follows, IsFollowed, IsOpened, IsEndedOut, IsHeldUp, IsLive, HasLived, IsLiveOpen, HasLivedOpen, IsLastTaken, IsOver, IsLiveStop, IsOpenStop, stop_of};
 ghost use Rattle.trace_stream.specs.declared.case.Case.{Case as Of};
 
 use crate::case::{Case, begin};
 use crate::fault::{StreamStop, TraceFault};
-use crate::follow::Follow;
+use crate::follow::{Follow, FollowFault};
 use crate::reading::{last_fault, next_bytes};
 use frac128::Memory;
 use std::alloc::Global;
 use stl_syntax::{Formula, Text};
-use trace_reader::{Event, Limits, Row, Rows};
+use trace_reader::{Event, Header, Limits, Row, Rows};
 
 /// A reader of a trace, what follows the rows once the header was read, and the text that they made and that is to be written.
 ///
@@ -32,6 +36,7 @@ pub struct Live<F> {
 fn follow<F: Follow>(alloc: Global, case: Case) -> Result<F, StreamStop>
     requires case { (f : Parsed) × IsCase f case }
     requires none { case.trace.rows ≡ [] }
+    requires streamed { HasStream F.kind case.formula }
     ensures ok { IfOk result (λ x. Follows (F.stands x) F.kind case []) }
     ensures err { IfErr result (λ e. e ≡ StreamStop.NoMemory) }
 {
@@ -41,23 +46,73 @@ fn follow<F: Follow>(alloc: Global, case: Case) -> Result<F, StreamStop>
     }
 }
 
-/// Takes a row, and adds to the text what it answers.
+/// What follows a trace from its header, in line `line`, on. It is a call of its own, so that the rows pay nothing for it.
+#[inline(never)]
+fn follow_on<F: Follow>(
+    follower: &mut Option<F>,
+    alloc: Global,
+    formula: &Formula,
+    header: &Header,
+    line: u64,
+) -> Result<(), StreamStop>
+    requires header { (h : Heading) × (header.now ≡ header_of formula.now.scale h) × IsScale (scale_of formula.now.scale h) }
+    requires streamed { HasStream F.kind formula.now }
+    ensures begun { (h : Heading) → header.now ≡ header_of formula.now.scale h
+        → MatchResult result (λ _. (case : Of) × IsBegun formula.now line h case × IsFollowed F.stands F.kind follower.new (Some case) [])
+        (IsNoBegin formula.now line h) }
+    ensures kept { OnErr result (follower.new ≡ follower.old) }
+{
+    let case = begin(alloc, formula, header, line)?;
+    *follower = Some(follow(alloc, case)?);
+    Ok(())
+}
+
+/// The reason to stop that a fault of what follows the rows is.
+fn stop_from(fault: FollowFault) -> StreamStop
+    ensures { result ≡ stop_of fault }
+{
+    match fault {
+        FollowFault::Memory => StreamStop::NoMemory,
+        FollowFault::Wide { node, den } => StreamStop::Wide { node, den },
+    }
+}
+
+/// Takes a row. What it answers is added to the text now, or by `flush`.
 fn take_row<F: Follow>(
     follower: &mut Option<F>,
     row: &Row,
     text: &mut Text,
 ) -> Result<(), StreamStop>
-    requires { (case : Option Of) × (made : List ℕ) × IsFollowed F.stands F.kind follower.old case made × CanKeep case row.now }
-    ensures ok { (case : Option Of) (made : List ℕ) → IsFollowed F.stands F.kind follower.old case made → CanKeep case row.now
-        → IfOk result (λ _. (grown : List ℕ) × (text.new ≡ text.old ++ grown) × IsFollowed F.stands F.kind follower.new (option_map (with_row row.now) case) (made ++ grown)) }
-    ensures err { IfErr result (λ e. e ≡ StreamStop.NoMemory) }
+    requires { (case : Option Of) × (made : List ℕ) × IsOpened F.stands F.owes F.kind follower.old case made × CanKeep case row.now }
+    ensures ok { (case : Option Of) (made : List ℕ) → IsOpened F.stands F.owes F.kind follower.old case made → CanKeep case row.now
+        → IfOk result (λ _. (grown : List ℕ) × (text.new ≡ text.old ++ grown) × IsOpened F.stands F.owes F.kind follower.new (option_map (with_row row.now) case) (made ++ grown)) }
+    ensures err { (case : Option Of) (made : List ℕ) → IsOpened F.stands F.owes F.kind follower.old case made → CanKeep case row.now
+        → IfErr result (IsHeldUp F.kind (option_map (with_row row.now) case) false text.old text.new) }
+    ensures owing { (case : Option Of) (made : List ℕ) → IsOpened F.stands F.owes F.kind follower.old case made
+        → IfErr result (λ e. IsFollowed F.stands F.kind follower.old case made ⊎ (e ≡ StreamStop.NoMemory)) }
 {
     match follower {
         Some(follower) => match follower.row(row, text) {
             Ok(()) => Ok(()),
-            Err(_) => Err(StreamStop::NoMemory),
+            Err(fault) => Err(stop_from(fault)),
         },
         None => unreachable!(),
+    }
+}
+
+/// Adds to the text what the rows answer and what it does not have yet.
+fn flush<F: Follow>(follower: &mut Option<F>, text: &mut Text) -> Result<(), StreamStop>
+    requires { (case : Option Of) × (made : List ℕ) × IsOpened F.stands F.owes F.kind follower.old case made }
+    ensures ok { (case : Option Of) (made : List ℕ) → IsOpened F.stands F.owes F.kind follower.old case made
+        → IfOk result (λ _. (grown : List ℕ) × (text.new ≡ text.old ++ grown) × IsFollowed F.stands F.kind follower.new case (made ++ grown)) }
+    ensures err { IfErr result (λ e. e ≡ StreamStop.NoMemory) }
+{
+    match follower {
+        Some(follower) => match follower.flush(text) {
+            Ok(()) => Ok(()),
+            Err(_) => Err(StreamStop::NoMemory),
+        },
+        None => Ok(()),
     }
 }
 
@@ -66,25 +121,27 @@ fn take_end<F: Follow>(follower: &mut Option<F>, text: &mut Text) -> Result<bool
     requires { (c : Of) × (made : List ℕ) × IsFollowed F.stands F.kind follower.old (Some c) made × IsTrace c.trace }
     ensures ok { (c : Of) (made : List ℕ) → IsFollowed F.stands F.kind follower.old (Some c) made → IsTrace c.trace
         → IfOk result (IsEndedOut F.ended F.kind follower.new c text.old text.new made) }
-    ensures err { IfErr result (λ e. e ≡ StreamStop.NoMemory) }
+    ensures err { (c : Of) (made : List ℕ) → IsFollowed F.stands F.kind follower.old (Some c) made → IsTrace c.trace
+        → IfErr result (IsHeldUp F.kind (Some c) true text.old text.new) }
 {
     match follower {
         Some(follower) => match follower.end(text) {
             Ok(holds) => Ok(holds),
-            Err(_) => Err(StreamStop::NoMemory),
+            Err(fault) => Err(stop_from(fault)),
         },
         None => unreachable!(),
     }
 }
 
 impl<F: Follow> Live<F> {
-    /// Takes no bytes yet.
+    /// Takes no bytes yet. The formula has a stream.
     ///
     /// # Errors
     /// Want of memory.
     pub fn new(alloc: Global, formula: Formula, limits: Limits) -> Result<Live<F>, Memory>
         requires rows { limits.rows ≤ 2 ^ 32 }
         requires lines { limits.lines ≤ 2 ^ 33 }
+        requires streamed { HasStream F.kind formula }
         ensures live { IfOk result (λ x. IsLive F.stands F.kind x [] []) }
         ensures limits { IfOk result (λ x. x.rows.limits ≡ limits) }
         ensures formula { IfOk result (λ x. x.formula ≡ formula) }
@@ -100,12 +157,12 @@ impl<F: Follow> Live<F> {
         })
     }
 
-    /// Takes some bytes of a piece, up to the header's line or a row's at most, and answers how many.
+    /// Takes some bytes of a piece, up to the header's line or a row's at most, and answers how many. The text of a row may be owed.
     fn step(&mut self, piece: &[u8]) -> Result<usize, StreamStop>
-        requires { HasLived F.stands F.kind self.old }
-        ensures taken { (bytes written : List ℕ) → IsLive F.stands F.kind self.old bytes written → MatchResult result
-            (λ n. IsLive F.stands F.kind self.new (bytes ++ take n piece.now) written)
-            (λ e. IsLiveStop F.kind self.old.rows.limits self.old.formula false (bytes ++ piece.now) (written ++ self.new.text) e) }
+        requires { HasLivedOpen F.stands F.owes F.kind self.old }
+        ensures taken { (bytes written : List ℕ) → IsLiveOpen F.stands F.owes F.kind self.old bytes written → MatchResult result
+            (λ n. IsLiveOpen F.stands F.owes F.kind self.new (bytes ++ take n piece.now) written)
+            (λ e. IsOpenStop F.stands F.owes F.kind self.old.rows.limits self.old.formula false (bytes ++ piece.now) self.new.follower (written ++ self.new.text) e) }
         ensures within { MatchResult result (λ n. n ≤ length piece.now) (λ _. Unit {0}) }
         ensures progress { MatchResult result (λ n. 0 < length piece.now → 0 < n) (λ _. Unit {0}) }
         ensures limits { self.new.rows.limits ≡ self.old.rows.limits }
@@ -117,29 +174,24 @@ impl<F: Follow> Live<F> {
         };
         match took.event {
             Event::Nothing => {}
-            Event::Header => {
-                let case = begin(
-                    self.alloc,
-                    &self.formula,
-                    self.rows.header(),
-                    self.rows.line(),
-                )?;
-                self.follower = Some(follow(self.alloc, case)?);
-            }
+            Event::Header => follow_on(
+                &mut self.follower,
+                self.alloc,
+                &self.formula,
+                self.rows.header(),
+                self.rows.line(),
+            )?,
             Event::Row => take_row(&mut self.follower, self.rows.row(), &mut self.text)?,
         }
         Ok(took.bytes)
     }
 
-    /// Takes all bytes of a piece. The text grows by what the rows in it answer.
-    ///
-    /// # Errors
-    /// The bytes have a fault, and the text grew to that of the rows before it; want of memory.
-    pub fn feed(&mut self, piece: &[u8]) -> Result<(), StreamStop>
-        requires { HasLived F.stands F.kind self.old }
-        ensures taken { (bytes written : List ℕ) → IsLive F.stands F.kind self.old bytes written → MatchResult result
-            (λ _. IsLive F.stands F.kind self.new (bytes ++ piece.now) written)
-            (λ e. IsLiveStop F.kind self.old.rows.limits self.old.formula false (bytes ++ piece.now) (written ++ self.new.text) e) }
+    /// Takes all bytes of a piece. The text of its rows may be owed.
+    fn take_piece(&mut self, piece: &[u8]) -> Result<(), StreamStop>
+        requires { HasLivedOpen F.stands F.owes F.kind self.old }
+        ensures taken { (bytes written : List ℕ) → IsLiveOpen F.stands F.owes F.kind self.old bytes written → MatchResult result
+            (λ _. IsLiveOpen F.stands F.owes F.kind self.new (bytes ++ piece.now) written)
+            (λ e. IsOpenStop F.stands F.owes F.kind self.old.rows.limits self.old.formula false (bytes ++ piece.now) self.new.follower (written ++ self.new.text) e) }
         ensures limits { self.new.rows.limits ≡ self.old.rows.limits }
         ensures formula { self.new.formula ≡ self.old.formula }
     {
@@ -148,6 +200,30 @@ impl<F: Follow> Live<F> {
             at += self.step(&piece[at..])?;
         }
         Ok(())
+    }
+
+    /// Takes all bytes of a piece. The text grows by what the rows in it answer.
+    ///
+    /// # Errors
+    /// The bytes have a fault, and the text grew to that of the rows before it; a row needs too large a denominator, and so did the text;
+    /// want of memory.
+    pub fn feed(&mut self, piece: &[u8]) -> Result<(), StreamStop>
+        requires { HasLived F.stands F.kind self.old }
+        ensures taken { (bytes written : List ℕ) → IsLive F.stands F.kind self.old bytes written → MatchResult result
+            (λ _. IsLive F.stands F.kind self.new (bytes ++ piece.now) written)
+            (λ e. IsLiveStop F.kind self.old.rows.limits self.old.formula false (bytes ++ piece.now) (written ++ self.new.text) e) }
+        ensures limits { self.new.rows.limits ≡ self.old.rows.limits }
+        ensures formula { self.new.formula ≡ self.old.formula }
+    {
+        match self.take_piece(piece) {
+            Ok(()) => flush(&mut self.follower, &mut self.text),
+            Err(StreamStop::Fault(fault)) => {
+                flush(&mut self.follower, &mut self.text)?;
+                Err(StreamStop::Fault(fault))
+            }
+            Err(StreamStop::NoMemory) => Err(StreamStop::NoMemory),
+            Err(StreamStop::Wide { node, den }) => Err(StreamStop::Wide { node, den }),
+        }
     }
 
     /// Takes a last row without LF, where the bytes end here.
@@ -159,7 +235,10 @@ impl<F: Follow> Live<F> {
             (λ e. IsLiveStop F.kind self.old.rows.limits self.old.formula true bytes (written ++ self.new.text) e) }
     {
         match self.rows.end() {
-            Ok(Event::Row) => take_row(&mut self.follower, self.rows.row(), &mut self.text),
+            Ok(Event::Row) => {
+                take_row(&mut self.follower, self.rows.row(), &mut self.text)?;
+                flush(&mut self.follower, &mut self.text)
+            }
             Ok(Event::Nothing) => Ok(()),
             Ok(Event::Header) => unreachable!(),
             Err(refusal) => Err(last_fault(

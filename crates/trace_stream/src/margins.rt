@@ -11,11 +11,12 @@ ghost use Rattle.online_robust.specs.Pasts.{part_of as as_part};
 ghost use Rattle.report.specs.PartLines.{IsPartLine as IsReported, IsPartWithin};
 ghost use Rattle.trace_stream.specs.Cases.{IsCase, Takes, with_row};
 ghost use Rattle.trace_stream.specs.Streams.{margins};
-ghost use Rattle.trace_stream.specs.Following.{Follows, HasFollowed, IsFollowedOn, IsFollowedOut};
-ghost use Rattle.trace_stream.specs.Margining.{denominator_of, fault_of, Given, HasTakenAll, IsFollowFault, IsMargined, IsOfFirst, IsStanding, IsUnwritten};
+ghost use Rattle.trace_stream.specs.Following.{Follows, HasFollowed, IsFollowedOn, IsFollowedOut, IsFollowFault, IsUnwritten};
+ghost use Rattle.trace_stream.specs.Margining.{denominator_of, fault_of, Given, HasTakenAll, IsMargined, IsOfFirst, IsStanding};
 ghost use Rattle.trace_stream.specs.declared.case.Case.{Case as Of};
 
 use crate::case::Case;
+use crate::follow::FollowFault;
 use frac128::Memory;
 use online_robust::{MarginLine, RobustFault, RobustNet};
 use pl_signal::WidePair;
@@ -24,15 +25,6 @@ use std::alloc::Global;
 use stl_syntax::{Formula, Text};
 use trace_reader::Row;
 use value_laws::Margin;
-
-/// Why rows are not followed on.
-#[derive(Clone, Copy, Debug)]
-pub enum FollowFault {
-    /// There was too little memory.
-    Memory,
-    /// The robustness at node `node` needs this denominator, of 2^60 or more.
-    Wide { node: u32, den: u128 },
-}
 
 /// The network of a formula in the ticks of a trace.
 #[derive(Drop)]
@@ -121,8 +113,8 @@ impl Margins {
         requires { HasFollowed (IsMargined false self.old) margins row.now }
         ensures followed { (c : Of) (made : List ℕ) → Follows (IsMargined false self.old) margins c made → Takes row.now c.trace
             → IfOk result (λ _. IsFollowedOn (IsMargined false self.new) margins (with_row row.now c) text.old text.new made) }
-        ensures wide { (c : Of) (made : List ℕ) → Follows (IsMargined false self.old) margins c made → Takes row.now c.trace
-            → IfErr result (IsFollowFault (with_row row.now c) false) }
+        ensures fault { (c : Of) (made : List ℕ) → Follows (IsMargined false self.old) margins c made → Takes row.now c.trace
+            → IfErr result (IsFollowFault margins (with_row row.now c) false) }
         ensures unwritten { IfErr result (IsUnwritten text.old text.new) }
     {
         match self.net.feed(row) {
@@ -143,8 +135,8 @@ impl Margins {
         requires { (c : Of) × (made : List ℕ) × Follows (IsMargined false self.old) margins c made × IsTrace c.trace }
         ensures followed { (c : Of) (made : List ℕ) → Follows (IsMargined false self.old) margins c made → IsTrace c.trace
             → IfOk result (λ _. IsFollowedOut (IsMargined true self.new) margins c text.old text.new made true) }
-        ensures wide { (c : Of) (made : List ℕ) → Follows (IsMargined false self.old) margins c made → IsTrace c.trace
-            → IfErr result (IsFollowFault c true) }
+        ensures fault { (c : Of) (made : List ℕ) → Follows (IsMargined false self.old) margins c made → IsTrace c.trace
+            → IfErr result (IsFollowFault margins c true) }
         ensures unwritten { IfErr result (IsUnwritten text.old text.new) }
     {
         match self.net.close() {

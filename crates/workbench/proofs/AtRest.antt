@@ -1,5 +1,5 @@
 -- A reader with what follows its rows, as a stream: what a piece and the end come to.
-use Rattle.std.proofs.Common.{◌≡◌, ◌≢◌, inr, ℕ, ◌<◌, Bool, true, false, List, [], ◌++◌, length, refl, sym, ap, ◌∙◌, subst, arith, append-nil, append_assoc, Option, Result, Ok, Err}
+use Rattle.std.proofs.Common.{◌≡◌, ◌≢◌, inl, inr, ℕ, ◌<◌, Bool, true, false, List, [], ◌++◌, length, refl, sym, ap, ◌∙◌, subst, arith, append-nil, append_assoc, Option, Result, Ok, Err}
 use Rattle.std.specs.Prelude.{MatchResult, OnOk, option_map}
 use Rattle.std.proofs.KnownBytes.{Appends-nil}
 use Rattle.std.proofs.lemmas.Bool.{false≢true}
@@ -8,8 +8,8 @@ use Rattle.trace_reader.specs.Reader.{header_of}
 use Rattle.trace_reader.specs.declared.refusal.Limits.{Limits}
 use Rattle.workbench.specs.Requests.{Stream, verdicts, early, margins, stream}
 use Rattle.workbench.specs.Owed.{limits_of, StreamText, StreamOf, OwesRows}
-use Rattle.workbench.specs.Settled.{IsAnswered}
-use Rattle.workbench.specs.Running.{IsBegun}
+use Rattle.workbench.specs.Settled.{IsAnswered, IsWide}
+use Rattle.workbench.specs.Running.{IsBegun, IsDue}
 use Rattle.workbench.specs.Pushing.{IsPushed, IsPushStop, IsPush, IsFinished}
 use Rattle.trace_stream.specs.Reading.{IsWhole}
 use Rattle.workbench.specs.InputFaults.{Fault, fault_text, IsInputFault, AreRowsBefore}
@@ -42,6 +42,18 @@ owes_of s limits f bytes ended text e t =
     let u : IsTextOf s (limits_of s) f bytes ended text = subst (λ (l : Limits). IsTextOf s l f bytes ended text) e t in
     record { header = u.header; rows = u.rows; whole = u.whole; before = u.before; is = u.is }
 
+-- what is owed is due
+due_of_owed : (s : Stream) (f : Formula) (bytes text : List ℕ) (ended : Bool) → OwesRows s f bytes ended text → IsDue (stream s f) bytes ended text
+due_of_owed verdicts f bytes text ended o = o
+due_of_owed early f bytes text ended o = o
+due_of_owed margins f bytes text ended o = inl o
+
+-- so is what comes before a refusal
+due_of_wide : (s : Stream) (f : Formula) (bytes text : List ℕ) (ended : Bool) (i den : ℕ) → IsWide (stream s f) bytes ended i den text → IsDue (stream s f) bytes ended text
+due_of_wide verdicts f bytes text ended i den w = absurd w
+due_of_wide early f bytes text ended i den w = absurd w
+due_of_wide margins f bytes text ended i den w = inr (i, den, w)
+
 module _ (kind : Stream) where
   -- what was owed for the first bytes alone
   begun_before : (f : Formula) (bytes piece text : List ℕ) (ended : Bool) → OwesRows kind f bytes false text → IsBegun (stream kind f) (bytes ++ piece) ended (text ++ []) []
@@ -51,19 +63,24 @@ module _ (kind : Stream) where
     parts = refl;
     seen_end = false;
     at_end = λ t. absurd (false≢true t);
-    owed = subst (λ t. OwesRows kind f bytes false t) (sym (append-nil (text ++ []) ∙ append-nil text)) owed;
+    owed = due_of_owed kind f bytes ((text ++ []) ++ []) false (subst (λ t. OwesRows kind f bytes false t) (sym (append-nil (text ++ []) ∙ append-nil text)) owed);
   }
 
-  -- what was owed for all bytes
-  begun_now : (f : Formula) (bytes text front back made : List ℕ) (ended : Bool) → made ≡ front ++ back → OwesRows kind f bytes ended (text ++ made) → IsBegun (stream kind f) bytes ended (text ++ front) back
+  -- what was due for all bytes
+  begun_now : (f : Formula) (bytes text front back made : List ℕ) (ended : Bool) → made ≡ front ++ back → IsDue (stream kind f) bytes ended (text ++ made) → IsBegun (stream kind f) bytes ended (text ++ front) back
   begun_now f bytes text front back made ended e owed = record {
     seen = bytes;
     later = [];
     parts = sym (append-nil bytes);
     seen_end = ended;
     at_end = λ t. (t, refl);
-    owed = subst (λ t. OwesRows kind f bytes ended t) (ap (λ t. text ++ t) e ∙ sym (append_assoc text front back)) owed;
+    owed = subst (λ t. IsDue (stream kind f) bytes ended t) (ap (λ t. text ++ t) e ∙ sym (append_assoc text front back)) owed;
   }
+
+  -- a refusal for a denominator
+  wide_of : (limits : Limits) (f : Formula) (bytes text : List ℕ) (ended : Bool) (i den : ℕ) → limits ≡ limits_of kind → IsLiveStop kind limits f ended bytes text (Wide i den)
+      → IsWide (stream kind f) bytes ended i den text
+  wide_of limits f bytes text ended i den e h = subst (λ (l : Limits). IsLiveStop kind l f ended bytes text (Wide i den)) e h
 
   -- a fault of the bytes was told
   fault_told : (limits : Limits) (f : Formula) (bytes text : List ℕ) (ended : Bool) (stop : StreamStop) → limits ≡ limits_of kind → stop ≢ NoMemory → IsLiveStop kind limits f ended bytes text stop
@@ -75,13 +92,13 @@ module _ (kind : Stream) where
     owes_of kind limits f bytes ended text e t,
   )
   fault_told limits f bytes text ended NoMemory e ne h = absurd (ne refl)
-  fault_told limits f bytes text ended (Wide i den) e ne h = absurd h
+  fault_told limits f bytes text ended (Wide i den) e ne h = wide_of limits f bytes text ended i den e h
 
-  -- and what was owed before it
-  fault_owed : (limits : Limits) (f : Formula) (bytes text : List ℕ) (ended : Bool) (stop : StreamStop) → limits ≡ limits_of kind → stop ≢ NoMemory → IsLiveStop kind limits f ended bytes text stop → OwesRows kind f bytes ended text
-  fault_owed limits f bytes text ended (Faulty fault) e ne (x, is, input, t) = owes_of kind limits f bytes ended text e t
+  -- and what was due before it
+  fault_owed : (limits : Limits) (f : Formula) (bytes text : List ℕ) (ended : Bool) (stop : StreamStop) → limits ≡ limits_of kind → stop ≢ NoMemory → IsLiveStop kind limits f ended bytes text stop → IsDue (stream kind f) bytes ended text
+  fault_owed limits f bytes text ended (Faulty fault) e ne (x, is, input, t) = due_of_owed kind f bytes text ended (owes_of kind limits f bytes ended text e t)
   fault_owed limits f bytes text ended NoMemory e ne h = absurd (ne refl)
-  fault_owed limits f bytes text ended (Wide i den) e ne h = absurd h
+  fault_owed limits f bytes text ended (Wide i den) e ne h = due_of_wide kind f bytes text ended i den (wide_of limits f bytes text ended i den e h)
 
 module _ {F : Type 0} (Stands : F → Case → List ℕ → Type 0) (kind : Stream) where
   -- what stands between pieces
@@ -142,7 +159,7 @@ module _ {F : Type 0} (Stands : F → Case → List ℕ → Type 0) (kind : Stre
         part.back,
         part.missing,
         begun_now kind f (bytes ++ piece) text part.front part.back mid.text false part.parts
-            (subst (λ (g : Formula). OwesRows kind g (bytes ++ piece) false (text ++ mid.text)) same (owed_now mid (bytes ++ piece) text limits h)),
+            (due_of_owed kind f (bytes ++ piece) (text ++ mid.text) false (subst (λ (g : Formula). OwesRows kind g (bytes ++ piece) false (text ++ mid.text)) same (owed_now mid (bytes ++ piece) text limits h))),
       ),
     )
     push_of (Err stop) result (told_in_part ne part) h done = (
@@ -194,8 +211,16 @@ module _ {F : Type 0} (Ended : F → Case → List ℕ → Type 0) (kind : Strea
     end_of (Ok holds) result (told_whole ne wrote) h done =
         (mid.text, wrote, (answered_by_row limits f mid bytes (text ++ mid.text) holds same h, done_after limits f mid new bytes (text ++ mid.text) holds same formula done h))
     end_of (Err stop) result (told_whole ne wrote) h done = (mid.text, wrote, fault_told kind limits f bytes (text ++ mid.text) true stop same (λ e. ne (ap Err e)) h)
-    end_of (Ok holds) result (told_in_part ne part) h done =
-        (part.front, part.wrote, (part.back, part.missing, begun_now kind f bytes text part.front part.back mid.text true part.parts (owed_whole limits f mid bytes (text ++ mid.text) holds same h)))
+    end_of (Ok holds) result (told_in_part ne part) h done = (
+      part.front,
+      part.wrote,
+      (
+        part.back,
+        part.missing,
+        begun_now kind f bytes text part.front part.back mid.text true part.parts
+            (due_of_owed kind f bytes (text ++ mid.text) true (owed_whole limits f mid bytes (text ++ mid.text) holds same h)),
+      ),
+    )
     end_of (Err stop) result (told_in_part ne part) h done =
         (part.front, part.wrote, (part.back, part.missing, begun_now kind f bytes text part.front part.back mid.text true part.parts (fault_owed kind limits f bytes (text ++ mid.text) true stop same (λ e. ne (ap Err e)) h)))
 

@@ -141,7 +141,7 @@ module _ (x y : Deciding) (case : Case) (made : List ℕ) (h : Follows (λ c tex
       }
 
       by_decided : (o : Option Decided)
-          → MatchOption o (NoneDecides (root x.early.nodes) x.early.header case.trace.rows × (x.early.ended ≡ false → SetsAre x.early.nodes x.early.header x.early.begin x.early.sets case.trace.rows))
+          → MatchOption o (NoneDecides (root x.early.nodes) x.early.header case.trace.rows × (x.early.ended ≡ false → SetsAre x.early.nodes x.early.header x.early.begin x.early.live x.early.shown case.trace.rows))
           (WasDecided (root x.early.nodes) x.early.header case.trace.rows) → MatchOption o (new ≡ old ++ (codes "decided at end" ++ newline ++ start_line holds)) (λ d. new ≡ old) → IsFollowedOut (λ c text. IsDeciding true y c) early case old new made holds
       by_decided None none e = (
         codes "decided at end" ++ newline ++ start_line holds,

@@ -1,5 +1,5 @@
 -- What is owed is one text, and only grows.
-use Rattle.std.proofs.Common.{◌≡◌, ℕ, Bool, true, false, List, [], ◌∷◌, ◌++◌, refl, sym, ap, ◌∙◌, subst, append_assoc, append-nil}
+use Rattle.std.proofs.Common.{◌≡◌, inl, inr, ℕ, Bool, true, false, List, [], ◌∷◌, ◌++◌, refl, sym, ap, ◌∙◌, subst, append_assoc, append-nil}
 use Rattle.std.specs.Prelude.{flat_map}
 use Rattle.stl_syntax.specs.Formula.{Formula, root}
 use Rattle.stl_syntax.specs.Knots.{Knot, Piece}
@@ -14,29 +14,42 @@ use Rattle.report.specs.Report.{Command, check, robust, explain, json, table, Ou
 use Rattle.report.specs.Table.{AreRecords, heading}
 use Rattle.report.proofs.StreamTexts.{IsLonger}
 use Rattle.trace_stream.proofs.OwedRows.{stream_owed_once, stream_owed_grows}
+use Rattle.trace_stream.proofs.WideTexts.{wide_text_of_all}
 use Rattle.report.proofs.OneText.{number_once, value_once, verdicts_once, start_once, margins_once}
 use Rattle.workbench.proofs.ExplainTexts.{explain_once}
 use Rattle.workbench.proofs.JsonTexts.{json_once}
-use Rattle.workbench.specs.Requests.{Stream, stream}
-use Rattle.workbench.specs.Running.{IsBegun}
+use Rattle.workbench.specs.Requests.{Stream, verdicts, early, margins, stream}
+use Rattle.workbench.specs.Running.{IsBegun, IsDue}
 use Rattle.trace_stream.specs.Reading.{IsWhole}
 use Rattle.workbench.specs.Owed.{OwesRows, HasTooMany, OwesAtEnd, not_yet as not_yet_owed, faulty, too_many, at_end as at_end_owed}
 use Rattle.workbench.specs.InputFaults.{whole_limits}
 
 -- ---- streams
 
--- what was written and a rest were owed for the bytes that were answered: then it is the front of what is owed for all that were read
+-- what was owed for the first of the bytes, or for all of them, is the front of what is owed for all
+owed_of_all : (s : Stream) (f : Formula) (seen later bytes : List ℕ) (seen_end ended : Bool) (text all : List ℕ) → bytes ≡ seen ++ later
+    → (seen_end ≡ true → (ended ≡ true) × (later ≡ [])) → OwesRows s f seen seen_end text → OwesRows s f bytes ended all → IsLonger text all
+owed_of_all s f seen later bytes false ended text all parts at o owed =
+    stream_owed_grows s f seen later ended text all o (subst (λ bs. OwesRows s f bs ended all) parts owed)
+owed_of_all s f seen later bytes true ended text all parts at o owed =
+    let done = at refl in
+    let same : bytes ≡ seen = parts ∙ ap (λ l. seen ++ l) done.1 ∙ append-nil seen in
+    ([], stream_owed_once s f seen true all text (subst (λ (e : Bool). OwesRows s f seen e all) done.0 (subst (λ bs. OwesRows s f bs ended all) same owed)) o ∙ sym (append-nil text))
+
+-- so is what is due for them
+due_of_all : (s : Stream) (f : Formula) (seen later bytes : List ℕ) (seen_end ended : Bool) (text all : List ℕ) → bytes ≡ seen ++ later
+    → (seen_end ≡ true → (ended ≡ true) × (later ≡ [])) → IsDue (stream s f) seen seen_end text → OwesRows s f bytes ended all → IsLonger text all
+due_of_all verdicts f seen later bytes seen_end ended text all parts at due owed = owed_of_all verdicts f seen later bytes seen_end ended text all parts at due owed
+due_of_all early f seen later bytes seen_end ended text all parts at due owed = owed_of_all early f seen later bytes seen_end ended text all parts at due owed
+due_of_all margins f seen later bytes seen_end ended text all parts at (inl due) owed = owed_of_all margins f seen later bytes seen_end ended text all parts at due owed
+due_of_all margins f seen later bytes seen_end ended text all parts at (inr (i, den, w)) owed =
+    wide_text_of_all f seen seen_end i den text later bytes ended all parts at w owed
+
+-- what was written and a rest were due for the bytes that were answered: then it is the front of what is owed for all that were read
 pub begun_of_all : (s : Stream) (f : Formula) (bytes : List ℕ) (ended : Bool) (text rest all : List ℕ) → IsBegun (stream s f) bytes ended text rest → OwesRows s f bytes ended all → IsLonger text all
-begun_of_all s f bytes ended text rest all b owed = by_end b.seen_end b.at_end b.owed
-  where
-    by_end : (e : Bool) → (e ≡ true → (ended ≡ true) × (b.later ≡ [])) → OwesRows s f b.seen e (text ++ rest) → IsLonger text all
-    by_end false at o =
-        let (more, e) = stream_owed_grows s f b.seen b.later ended (text ++ rest) all o (subst (λ bs. OwesRows s f bs ended all) b.parts owed) in
-        (rest ++ more, e ∙ append_assoc text rest more)
-    by_end true at o =
-        let done = at refl in
-        let same : bytes ≡ b.seen = b.parts ∙ ap (λ l. b.seen ++ l) done.1 ∙ append-nil b.seen in
-        (rest, stream_owed_once s f b.seen true all (text ++ rest) (subst (λ (e : Bool). OwesRows s f b.seen e all) done.0 (subst (λ bs. OwesRows s f bs ended all) same owed)) o)
+begun_of_all s f bytes ended text rest all b owed =
+    let (more, e) = due_of_all s f b.seen b.later bytes b.seen_end ended (text ++ rest) all b.parts b.at_end b.owed owed in
+    (rest ++ more, e ∙ append_assoc text rest more)
 
 -- ---- commands that hold the whole trace
 

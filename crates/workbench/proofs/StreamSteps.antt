@@ -9,7 +9,7 @@ use Rattle.io_edge.specs.Calls.{Drained, Filled, HasFailed, HasRefused, IsAskedO
 use Rattle.stl_syntax.specs.Formula.{Formula}
 use Rattle.workbench.specs.Requests.{Request, no_form, has_input, Stream, stream, word_of_stream, AreFor}
 use Rattle.workbench.specs.Owed.{Owes, OwesByThen}
-use Rattle.workbench.specs.Settled.{HasFault, IsPrompt, IsAnswered, faulty, answered}
+use Rattle.workbench.specs.Settled.{HasFault, IsPrompt, IsAnswered, IsWide, faulty, answered, wide}
 use Rattle.workbench.specs.Running.{IsBegun, IsTimely, IsEnd, settled, unread, unwritten, no_memory, asked}
 use Rattle.workbench.specs.Saying.{IsSaid}
 use Rattle.workbench.specs.Wholes.{status_of_truth, status_of, IsEndLine, EndsSoundly}
@@ -18,7 +18,7 @@ use Rattle.workbench.specs.declared.kept.Kept.{Kept}
 use Rattle.workbench.specs.Pushing.{IsPushed, IsPushStop, IsPush, IsFinished, IsLineOf, IsStreamEnd}
 use Rattle.workbench.specs.declared.fault.Stop.{Stop}
 use Rattle.workbench.specs.declared.fault.Stop.TheVariants.{Fault as Faulty, Unread, Unwritten, NoMemory, Wide, TooMany}
-use Rattle.workbench.specs.ErrTexts.{read_fault, write_fault, out_of_memory}
+use Rattle.workbench.specs.ErrTexts.{read_fault, write_fault, out_of_memory, wide_text}
 
 -- some bytes were read and answered, in so many reads
 pub record Pushing (Stands : List ℕ → List ℕ → Type 0) (q : Request) (before now held held_now : Option (List ℕ)) (reads : ℕ) : Type 0 where
@@ -125,7 +125,8 @@ module _ {Stands : List ℕ → List ℕ → Type 0} {q : Request} {before now h
       by_stop Unwritten (rest, some, begun) cut = with_end write_fault Unwritten (unwritten rest some (cut refl) (as_ended begun) in_time) refl
       by_stop NoMemory (inl none) cut = with_end out_of_memory NoMemory (no_memory known (inl none) in_time) refl
       by_stop NoMemory (inr (rest, begun)) cut = with_end out_of_memory NoMemory (no_memory known (inr (rest, as_ended begun)) in_time) refl
-      by_stop (Wide i den) is cut = absurd is
+      by_stop (Wide i den) is cut = with_end (wide_text i den) (Wide i den)
+          (settled (wide i den (subst (λ (e : Bool). IsWide q (p.bytes ++ piece) e i den (p.text ++ grown)) (sym same) is))) refl
       by_stop (TooMany count) is cut = absurd is
 
   -- the stream came to its end

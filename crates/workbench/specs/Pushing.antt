@@ -4,7 +4,7 @@ use Rattle.std.specs.Io.KnownBytes.{Appends, Consumes, IsAtEnd}
 use Rattle.io_edge.specs.Calls.{Drained, Filled}
 use Rattle.workbench.specs.Requests.{Request, stream, has_input}
 use Rattle.workbench.specs.Owed.{Owes, OwesByThen}
-use Rattle.workbench.specs.Settled.{HasFault, IsAnswered}
+use Rattle.workbench.specs.Settled.{HasFault, IsAnswered, IsWide}
 use Rattle.workbench.specs.Running.{IsBegun, IsEnd}
 use Rattle.trace_stream.specs.Cases.{IsFault}
 use Rattle.workbench.specs.InputFaults.{Fault, fault_text}
@@ -35,7 +35,7 @@ IsPushStop request bytes ended text (Faulty fault) =
 IsPushStop request bytes ended text Unread = ⊥
 IsPushStop request bytes ended text Unwritten = (rest : List ℕ) × (rest ≢ []) × IsBegun request bytes ended text rest
 IsPushStop request bytes ended text NoMemory = (text ≡ []) ⊎ ((rest : List ℕ) × IsBegun request bytes ended text rest)
-IsPushStop request bytes ended text (Wide i den) = ⊥
+IsPushStop request bytes ended text (Wide i den) = IsWide request bytes ended i den text
 IsPushStop request bytes ended text (TooMany count) = ⊥
 
 -- what a piece came to: the text grew, and all is well or it stopped

@@ -3,20 +3,25 @@ use Rattle.std.specs.Prelude.{◌≡◌, ◌≢◌, ◌⊎◌, ℕ, ◌-◌, Boo
 use Rattle.std.specs.Io.KnownBytes.{Appends, Consumes, IsAtEnd}
 use Rattle.io_edge.specs.Causes.{next_count}
 use Rattle.io_edge.specs.Calls.{Drained, Filled, HasFailed, HasRefused, IsAskedOnce}
-use Rattle.workbench.specs.Requests.{Request, no_form, Asks, AreNone, has_input}
+use Rattle.workbench.specs.Requests.{Request, no_form, stream, margins, Asks, AreNone, has_input}
 use Rattle.workbench.specs.Owed.{Owes, OwesByThen}
-use Rattle.workbench.specs.Settled.{HasFault, IsSettled}
+use Rattle.workbench.specs.Settled.{HasFault, IsWide, IsSettled}
 use Rattle.workbench.specs.ErrTexts.{out_of_memory, read_fault, write_fault}
 use Rattle.workbench.specs.Saying.{IsSaid}
 
--- the text with this rest is owed for the bytes that were answered, which are the first of those that were read
+-- the text is owed for the bytes; or, of a stream of margins, it comes before a refusal for a denominator
+abbrev pub IsDue : Request → List ℕ → Bool → List ℕ → Type 0
+IsDue (stream margins f) bytes ended text = Owes (stream margins f) bytes ended text ⊎ ((i den : ℕ) × IsWide (stream margins f) bytes ended i den text)
+IsDue request bytes ended text = Owes request bytes ended text
+
+-- the text with this rest is due for the bytes that were answered, which are the first of those that were read
 pub record IsBegun (request : Request) (bytes : List ℕ) (ended : Bool) (text rest : List ℕ) : Type 0 where
   pub seen : List ℕ
   pub later : List ℕ
   pub parts : bytes ≡ seen ++ later
   pub seen_end : Bool
   pub at_end : seen_end ≡ true → (ended ≡ true) × (later ≡ [])
-  pub owed : Owes request seen seen_end (text ++ rest)
+  pub owed : IsDue request seen seen_end (text ++ rest)
 
 -- what a stream owed for the whole lines of all but the last 4,096 bytes was written
 abbrev pub IsTimely : Request → List ℕ → List ℕ → Type 0

@@ -1,28 +1,26 @@
 -- How a request ends by itself, without want of memory and faults of devices: its status, its line on the error stream and its text.
-use Rattle.std.specs.Prelude.{◌≡◌, ◌⊎◌, ℕ, ◌≤◌, pos, Bool, true, false, List, [], ◌∷◌, ◌++◌, length, Some}
+use Rattle.std.specs.Prelude.{◌≡◌, ◌⊎◌, ℕ, ◌≤◌, pos, Bool, true, false, List, [], ◌++◌, length}
 use Rattle.rational.specs.Time.{Rational, Within, whole as whole_number, negate, ◌≤ʳ◌}
 use Rattle.rational.specs.Extended.{Affine, Extended, finite, ◌<ᵉ◌}
 use Rattle.stl_syntax.specs.Formula.{Formula, Subformula, root}
-use Rattle.stl_syntax.specs.Scaling.{scaled}
-use Rattle.stl_syntax.specs.Trace.{Header, Row, Trace, IsLike, last_time, start, stop}
+use Rattle.stl_syntax.specs.Trace.{Trace, IsLike, start, stop}
 use Rattle.stl_syntax.specs.Truth.{Truth}
 use Rattle.stl_syntax.specs.Kleene.{MustNot}
 use Rattle.stl_syntax.specs.Kept.{Kept, Agree}
 use Rattle.stl_syntax.specs.Closeness.{AreClose}
 use Rattle.stl_syntax.specs.SupInf.{Setting, Robustness, margin_setting}
 use Rattle.stl_syntax.specs.WideCause.{IsCrossingCause, IsValueCause}
-use Rattle.online_nodes.specs.StreamedWide.{IsStreamedCrossing, IsStreamedValue}
-use Rattle.online_nodes.specs.MarginStream.{IsMarginStream}
 use Rattle.stl_syntax.specs.declared.node.Node.{Node}
 use Rattle.stl_syntax.specs.declared.items.Item.{Item}
 use Rattle.trace_reader.specs.TraceText.{lines}
 use Rattle.report.specs.Report.{Command, check, robust, explain, json, table, Out, nodes_for}
 pub use Rattle.trace_stream.specs.Streams.{TellsTruth, IsLastVerdict}
 use Rattle.workbench.specs.Answers.{HoldsAtStart}
-use Rattle.workbench.specs.Requests.{Stream, margins, Request, no_form, refused, whole, stream, sessions, generated, usage_line}
+use Rattle.workbench.specs.Requests.{Stream, Request, no_form, refused, whole, stream, sessions, generated, usage_line}
 use Rattle.workbench.specs.Owed.{limits_of, StreamText, Owes, OwesLines, HasTooMany}
-use Rattle.workbench.specs.InputFaults.{Fault, fault_text, whole_limits, IsInputFault, AreRowsBefore}
+use Rattle.workbench.specs.InputFaults.{Fault, fault_text, whole_limits, IsInputFault}
 use Rattle.trace_stream.specs.Reading.{IsWhole}
+use Rattle.trace_stream.specs.Wides.{IsWideStream}
 use Rattle.workbench.specs.Sessions.{InputFault, FaultOfInput, input_fault_text}
 use Rattle.workbench.specs.Generator.{IsSummary}
 use Rattle.workbench.specs.ErrTexts.{wide_text, too_many_cells_text}
@@ -69,12 +67,6 @@ abbrev pub HasWide : Command → Formula → Trace → ℕ → ℕ → Type 0
 HasWide check f tr i den = ⊥
 HasWide explain f tr i den = ⊥
 HasWide c f tr i den = IsNeeded (nodes_for f tr) (margin_setting tr) i den
-
--- so once rows up to the time `now` have come, or all where the input has ended
-abbrev pub IsNeededByThen : List Node → Trace → Bool → ℕ → ℕ → Type 0
-IsNeededByThen nodes tr ended i den =
-    ((p q : Affine) × (a b : Rational) × IsStreamedCrossing nodes (margin_setting tr) ended (pos (last_time 0 tr.rows)) i p q a b den)
-    ⊎ ((p : Affine) × (u : Rational) × IsStreamedValue nodes (margin_setting tr) ended (pos (last_time 0 tr.rows)) i p u den)
 
 -- the first fault of the bytes, with its line
 abbrev pub HasFault : Request → List ℕ → Bool → List ℕ → Type 0
@@ -124,31 +116,10 @@ pub record IsWideWhole (c : Command) (f : Formula) (bytes : List ℕ) (i den : �
   pub cause : HasWide c f tr i den
   pub few : (count : ℕ) → ¬ HasTooMany c f tr count
 
--- rows of a stream that need too large a denominator: those up to one, which wrote nothing of its own, or all of an input that has ended
-pub data IsWideRows (f : Formula) (header : Header) : Bool → List Row → ℕ → ℕ → List ℕ → Type 0 where
-  at_row : (before : List Row) (r : Row) {i den : ℕ} {text : List ℕ}
-      → IsNeededByThen (scaled f header.scale).nodes (record { header = header; rows = before ++ r ∷ [] }) false i den
-      → IsMarginStream (root (scaled f header.scale).nodes) header before false text → IsWideRows f header false (before ++ r ∷ []) i den text
-  at_end : {rows : List Row} {i den : ℕ} {text : List ℕ} → IsNeededByThen (scaled f header.scale).nodes (record { header = header; rows = rows }) true i den
-      → IsMarginStream (root (scaled f header.scale).nodes) header rows false text → IsWideRows f header true rows i den text
-
--- they are the first of the rows before the first fault; all of them, and none is a fault, where it came at the end
-pub record IsWideByRow (f : Formula) (bytes : List ℕ) (ended : Bool) (i den : ℕ) (text : List ℕ) : Type 0 where
-  pub header : Header
-  pub all : List Row
-  pub all_whole : Bool
-  pub before : AreRowsBefore (limits_of margins) f bytes ended (Some header) all all_whole
-  pub rows : List Row
-  pub later : List Row
-  pub parts : all ≡ rows ++ later
-  pub closed : Bool
-  pub at_end : closed ≡ true → (all_whole ≡ true) × (later ≡ [])
-  pub cause : IsWideRows f header closed rows i den text
-
 -- the refusal for a denominator, with what was written before it
 abbrev pub IsWide : Request → List ℕ → Bool → ℕ → ℕ → List ℕ → Type 0
 IsWide (whole c f) bytes ended i den text = (ended ≡ true) × (text ≡ []) × IsWideWhole c f bytes i den
-IsWide (stream margins f) bytes ended i den text = IsWideByRow f bytes ended i den text
+IsWide (stream s f) bytes ended i den text = IsWideStream s (limits_of s) f bytes ended i den text
 IsWide request bytes ended i den text = ⊥
 
 -- the refusal for the number of cells

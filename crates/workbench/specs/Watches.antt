@@ -13,8 +13,7 @@ use Rattle.workbench.specs.InputFaults.{Fault, of_trace, unknown, unit, IsInputF
 use Rattle.trace_stream.specs.Reading.{IsSound, IsWhole}
 use Rattle.workbench.specs.Requests.{verdicts}
 use Rattle.trace_stream.specs.Following.{IsTextOf, IsLive, IsOver}
-use Rattle.trace_stream.specs.Watching.{IsWatched}
-use Rattle.trace_stream.specs.declared.case.Case.{Case}
+pub use Rattle.trace_stream.specs.Watching.{WatchesRows, WatchesEnd}
 use Rattle.trace_stream.specs.declared.fault.TraceFault.TheVariants as trace_fault
 use Rattle.workbench.specs.declared.fault.Stop.{Stop}
 use Rattle.workbench.specs.declared.fault.Stop.TheVariants as stop
@@ -48,14 +47,6 @@ with_text p grown = record p { text = p.text ++ grown }
 -- the text is that of the rows before the first fault of the bytes, with its end where there is none and the input has ended
 abbrev pub IsText : Past → Bool → Type 0
 IsText p ended = IsTextOf verdicts p.limits p.formula p.bytes ended p.text
-
--- the network stands for the rows so far
-abbrev pub WatchesRows : Verdicts → Case → List ℕ → Type 0
-WatchesRows v c made = IsWatched false v c
-
--- it stands for all rows and their end
-abbrev pub WatchesEnd : Verdicts → Case → List ℕ → Type 0
-WatchesEnd v c made = IsWatched true v c
 
 -- neither a fault nor the end came: the watch stands for the bytes, and all its text was written
 pub record StandsFor (p : Past) (w : Watched) : Type 0 where

@@ -10,7 +10,7 @@ use report::{put_decided, put_start};
 use std::alloc::Global;
 use stl_syntax::{Scale, Text};
 use trace_reader::Row;
-use trace_stream::{Case, Follow};
+use trace_stream::{Case, Follow, FollowFault};
 
 /// What follows the rows of a trace for its early verdict, with the ticks in which its times are written.
 #[derive(Drop)]
@@ -73,6 +73,14 @@ fn put_rest(text: &mut Text, decided: Option<Decided>, holds: bool) -> Result<()
 }
 
 impl Deciding {
+    ghost use Rattle.std.specs.Prelude.{ℕ, List, IfOk};
+    ghost use Rattle.stl_syntax.specs.Trace.{IsTrace};
+    ghost use Rattle.trace_stream.specs.Cases.{Takes, with_row};
+    ghost use Rattle.trace_stream.specs.Following.{Follows, HasFollowed, IsFollowedOn, IsFollowedOut};
+    ghost use Rattle.trace_stream.specs.Streams.{early};
+    ghost use Rattle.trace_stream.specs.declared.case.Case.{Case as Of};
+    ghost use Rattle.workbench.specs.Deciding.{IsDeciding};
+
     /// The early verdict itself.
     pub(crate) fn into_early(self) -> Early
         ensures { result ≡ self.early }
@@ -83,6 +91,39 @@ impl Deciding {
         } = self;
         early
     }
+
+    /// Takes the next row, and adds to the text what it answers.
+    ///
+    /// # Errors
+    /// Want of memory.
+    fn take_row(&mut self, row: &Row, text: &mut Text) -> Result<(), Memory>
+        requires { HasFollowed (λ case text. IsDeciding false self.old case) early row.now }
+        ensures { (c : Of) (made : List ℕ) → Follows (λ case text. IsDeciding false self.old case) early c made → Takes row.now c.trace
+            → IfOk result (λ _. IsFollowedOn (λ case text. IsDeciding false self.new case) early (with_row row.now c) text.old text.new made) }
+    {
+        let Ok(answer) = self.early.feed(row) else {
+            return Err(Memory);
+        };
+        put_answer(text, answer, self.scale)?;
+        Ok(())
+    }
+
+    /// Takes the end, adds to the text what is left, and answers the truth at the start.
+    ///
+    /// # Errors
+    /// Want of memory.
+    fn take_end(&mut self, text: &mut Text) -> Result<bool, Memory>
+        requires { (c : Of) × (made : List ℕ) × Follows (λ case text. IsDeciding false self.old case) early c made × IsTrace c.trace }
+        ensures { (c : Of) (made : List ℕ) → Follows (λ case text. IsDeciding false self.old case) early c made → IsTrace c.trace
+            → IfOk result (λ holds. IsFollowedOut (λ case text. IsDeciding true self.new case) early c text.old text.new made holds) }
+    {
+        let decided = self.early.decided();
+        let Ok(holds) = self.early.end() else {
+            return Err(Memory);
+        };
+        put_rest(text, decided, holds)?;
+        Ok(holds)
+    }
 }
 
 impl Follow for Deciding {
@@ -92,6 +133,8 @@ impl Follow for Deciding {
     ghost kind = { early };
 
     ghost stands = { λ s c made. IsDeciding false s c };
+
+    ghost owes = { λ s c made. ⊥ };
 
     ghost ended = { λ s c made. IsDeciding true s c };
 
@@ -109,20 +152,21 @@ impl Follow for Deciding {
         Ok(Deciding { early, scale })
     }
 
-    fn row(&mut self, row: &Row, text: &mut Text) -> Result<(), Memory> {
-        let Ok(answer) = self.early.feed(row) else {
-            return Err(Memory);
-        };
-        put_answer(text, answer, self.scale)?;
+    fn row(&mut self, row: &Row, text: &mut Text) -> Result<(), FollowFault> {
+        match self.take_row(row, text) {
+            Ok(()) => Ok(()),
+            Err(_) => Err(FollowFault::Memory),
+        }
+    }
+
+    fn flush(&mut self, _text: &mut Text) -> Result<(), Memory> {
         Ok(())
     }
 
-    fn end(&mut self, text: &mut Text) -> Result<bool, Memory> {
-        let decided = self.early.decided();
-        let Ok(holds) = self.early.end() else {
-            return Err(Memory);
-        };
-        put_rest(text, decided, holds)?;
-        Ok(holds)
+    fn end(&mut self, text: &mut Text) -> Result<bool, FollowFault> {
+        match self.take_end(text) {
+            Ok(holds) => Ok(holds),
+            Err(_) => Err(FollowFault::Memory),
+        }
     }
 }

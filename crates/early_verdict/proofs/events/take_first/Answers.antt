@@ -1,26 +1,45 @@
-use Rattle.std.proofs.Common.{ℕ, pos, refl, subst}
+use Rattle.std.proofs.Common.{◌≡◌, ℕ, ◌∙◌, List, Some, pos, refl, subst}
+use Rattle.std.specs.Prelude.{slice_get}
 use Rattle.rational.specs.Time.{whole}
-use Rattle.early_verdict.specs.Making.{AreMade}
+use Rattle.stl_syntax.specs.Formula.{HasChildrenBelow}
+use Rattle.stl_syntax.specs.declared.node.Node.{Node}
+use Rattle.stl_syntax.proofs.PostOrderLemmas.{placed}
+use Rattle.early_verdict.specs.Making.{AreMade, AreShownOf}
+use Rattle.early_verdict.specs.declared.sets.Sets.{Sets}
 use Rattle.early_verdict.proofs.GoingOn.{first_stand, leaves_bound}
+use Rattle.early_verdict.proofs.LiveMaking.{shown_tidy}
 use Rattle.early_verdict.proofs.events.take_first.Goals as goal
 
+are : (live seen shown : List Sets) → seen ≡ live → AreShownOf seen shown → AreShownOf live shown
+are live seen shown e h = subst (λ (xs : List Sets). AreShownOf xs shown) e h
+
 pub step_sets-requires-clause-count : goal.step_sets-requires-clause-count
-step_sets-requires-clause-count c = c.in_ok-made.ensures.have.count
+step_sets-requires-clause-count c = c.in_ok-live.ensures.have.count
+
+pub step_sets-requires-clause-shown_count : goal.step_sets-requires-clause-shown_count
+step_sets-requires-clause-shown_count c = (are c.in_ok-live.live.items c.deref.result.now c.in_ok-shown.shown.items c.deref.ensures.value c.in_ok-shown.ensures).count ∙ c.in_ok-live.ensures.have.count
 
 pub step_sets-requires-clause-tidy : goal.step_sets-requires-clause-tidy
-step_sets-requires-clause-tidy c = c.in_ok-made.ensures.tidy
+step_sets-requires-clause-tidy c = c.in_ok-live.ensures.tidy
+
+pub step_sets-requires-clause-shown_tidy : goal.step_sets-requires-clause-shown_tidy
+step_sets-requires-clause-shown_tidy c =
+    shown_tidy c.args.formula.now.nodes (whole (pos c.time.result)) c.in_ok-live.live.items c.in_ok-shown.shown.items c.in_ok-live.ensures (are c.in_ok-live.live.items c.deref.result.now c.in_ok-shown.shown.items c.deref.ensures.value c.in_ok-shown.ensures)
+    (λ i n at. placed c.args.formula.now.nodes i n c.requires.open.1.formed.post_order at)
 
 pub step_sets-requires-clause-none : goal.step_sets-requires-clause-none
-step_sets-requires-clause-none c = λ f. c.in_ok-made.ensures.empty
+step_sets-requires-clause-none c = λ f. c.in_ok-live.ensures.empty
 
 pub step_sets-requires-clause-atoms : goal.step_sets-requires-clause-atoms
 step_sets-requires-clause-atoms c = leaves_bound c.args.bound.now c.args.formula.now c.requires.open.0 c.requires.open.1.bound
 
 pub returns : goal.returns
-returns c = λ header o. (
-  refl,
-  first_stand c.args.bound.now c.args.formula.now header c.args.row.now c.first_event-event.result c.in_ok-made.made.items c.step_sets.new.sets.items o.bound
-      c.requires.width c.first_event-event.ensures.open (c.first_event-event.ensures.happens header c.args.row.now c.time-2.ensures)
-      (subst (λ (t : ℕ). AreMade c.args.formula.now.nodes (whole (pos t)) c.in_ok-made.made.items) c.time.ensures c.in_ok-made.ensures)
-      c.in_ok-step_sets.ensures.stepped c.in_ok-step_sets.ensures.fits,
-)
+returns c = λ header o.
+    let k = c.in_ok-step_sets.ensures in (
+      refl,
+      first_stand c.args.bound.now c.args.formula.now header c.args.row.now c.first_event-event.result c.in_ok-live.live.items c.in_ok-shown.shown.items
+          c.step_sets.new.net.live.items c.step_sets.new.net.shown.items o.formed o.some o.bound
+          c.requires.width c.first_event-event.ensures.open (c.first_event-event.ensures.happens header c.args.row.now c.time-2.ensures)
+          (subst (λ (t : ℕ). AreMade c.args.formula.now.nodes (whole (pos t)) c.in_ok-live.live.items) c.time.ensures c.in_ok-live.ensures)
+          (are c.in_ok-live.live.items c.deref.result.now c.in_ok-shown.shown.items c.deref.ensures.value c.in_ok-shown.ensures) k.stepped k.shows k.tidy k.fits,
+    )

@@ -8,8 +8,14 @@ use Rattle.early_verdict.proofs.events.take_next.Goals as goal
 pub step_sets-requires-clause-count : goal.step_sets-requires-clause-count
 step_sets-requires-clause-count c = c.requires.open.3.sets_are.1.have.count
 
+pub step_sets-requires-clause-shown_count : goal.step_sets-requires-clause-shown_count
+step_sets-requires-clause-shown_count c = c.requires.open.3.sets_are.1.have.shown_count
+
 pub step_sets-requires-clause-tidy : goal.step_sets-requires-clause-tidy
 step_sets-requires-clause-tidy c = c.requires.open.3.sets_are.1.tidy
+
+pub step_sets-requires-clause-shown_tidy : goal.step_sets-requires-clause-shown_tidy
+step_sets-requires-clause-shown_tidy c = c.requires.open.3.sets_are.1.shown_tidy
 
 pub step_sets-requires-clause-none : goal.step_sets-requires-clause-none
 step_sets-requires-clause-none c = λ f. absurd (let g = c.next_event-event.ensures.first in cc)
@@ -20,15 +26,15 @@ step_sets-requires-clause-atoms c = leaves_bound c.args.bound.now c.args.formula
 pub step_sets-requires-clause-first : goal.step_sets-requires-clause-first
 step_sets-requires-clause-first c =
     let o = c.requires.open in
-    last_wide c.args.formula.now c.args.bound.now o.0 o.1 o.2 c.args.begin c.args.last.now c.args.sets.now.items o.3
+    last_wide c.args.formula.now c.args.bound.now o.0 o.1 o.2 c.args.begin c.args.last.now c.args.net.now.live.items c.args.net.now.shown.items o.3
 
 pub returns : goal.returns
 returns c = λ header r rows o.
     let e = c.next_event-event.ensures in
     let last : c.in-Some.before ≡ last_after r rows = same_row c.in-Some.before (last_after r rows) (sym c.in-Some.is ∙ o.ends) in (
       o.sets_are.0,
-      next_stand c.args.bound.now c.args.formula.now header r rows c.args.row.now c.next_event-event.result c.args.last.now c.args.sets.now.items c.step_sets.new.sets.items
-          o.bound o.so_far (after_last r rows c.args.last.now c.args.row.now o.ends c.requires.later) c.requires.width o.ends e.open
+      next_stand c.args.bound.now c.args.formula.now header r rows c.args.row.now c.next_event-event.result c.args.last.now c.args.net.now.live.items c.args.net.now.shown.items
+          c.step_sets.new.net.live.items c.step_sets.new.net.shown.items o.formed o.bound o.so_far (after_last r rows c.args.last.now c.args.row.now o.ends c.requires.later) c.requires.width o.ends e.open
           (e.happens header r rows c.args.row.now o.sets_are.0 (c.time.ensures ∙ ap (λ (q : Row). q.time) last) c.time-2.ensures) o.sets_are.1
-          c.in_ok-step_sets.ensures.stepped c.in_ok-step_sets.ensures.fits,
+          c.in_ok-step_sets.ensures.stepped c.in_ok-step_sets.ensures.shows c.in_ok-step_sets.ensures.tidy c.in_ok-step_sets.ensures.fits,
     )

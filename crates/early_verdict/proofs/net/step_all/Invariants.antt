@@ -4,15 +4,18 @@ use Rattle.stl_syntax.specs.Trace.{Trace, start}
 use Rattle.stl_syntax.specs.declared.node.Node.{Node}
 use Rattle.early_verdict.specs.Fitting.{Fits, lists_at}
 use Rattle.early_verdict.specs.Happening.{Happens}
-use Rattle.early_verdict.specs.Standing.{AllGo, AllTidy, AllWere, HaveSets, SteppedTo}
+use Rattle.early_verdict.specs.Standing.{AllGo, AllTidy, AllWere, SteppedTo}
+use Rattle.early_verdict.specs.Living.{AreLive, ShownTo}
 use Rattle.early_verdict.specs.declared.sets.Sets.{Sets}
 use Rattle.early_verdict.proofs.net.step_all.Given as goal
 
 abbrev pub invariant-loop-i : goal.invariant-loop-i
 invariant-loop-i l = record {
-  stepped : SteppedTo l.i l.initial.sets l.sets;
-  tidy : AllTidy l.sets;
-  fits : (old : Option Trace) (tr : Trace) (tops : List ℕ) → Happens l.event old tr → HaveSets l.formula.nodes (start tr) tops l.initial.sets
-      → AllGo l.formula.nodes l.bound l.event old tr l.before l.row → AllWere old l.formula.nodes l.initial.sets
-      → (j : ℕ) (m : Node) (s : Sets) → j < l.i → slice_get l.formula.nodes j ≡ Some m → slice_get l.sets j ≡ Some s → Fits m l.event.ended tr (lists_at l.sets) s;
+  stepped : SteppedTo l.i l.initial.live l.live;
+  shows : ShownTo l.i l.live l.initial.shown l.shown;
+  tidy : AllTidy l.live;
+  shown_tidy : AllTidy l.shown;
+  fits : (old : Option Trace) (tr : Trace) → Happens l.event old tr → AreLive l.formula.nodes (start tr) l.initial.live l.initial.shown
+      → AllGo l.formula.nodes l.bound l.event old tr l.before l.row → AllWere old l.formula.nodes l.initial.live l.initial.shown
+      → (j : ℕ) (m : Node) (s : Sets) → j < l.i → slice_get l.formula.nodes j ≡ Some m → slice_get l.live j ≡ Some s → Fits m l.event.ended tr (lists_at l.shown) s;
 }

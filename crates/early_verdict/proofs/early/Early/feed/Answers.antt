@@ -6,7 +6,7 @@ use Rattle.early_verdict.specs.Standing.{AllTidy}
 use Rattle.early_verdict.specs.Deciding.{Kept, IsAnswer, IsVerdict, Stands}
 use Rattle.early_verdict.specs.declared.sets.Sets.{Sets}
 use Rattle.early_verdict.proofs.StandingOn.{decided_now, open_of}
-use Rattle.early_verdict.proofs.Feeding.{as_ended, fed_by, none_if, passed_by, sets_tidy, some_sets, unended}
+use Rattle.early_verdict.proofs.Feeding.{as_ended, fed_by, net_of, none_if, passed_by, shown_tidy, some_shown, unended}
 use Rattle.early_verdict.specs.contracts.early.Early.{the_view}
 use Rattle.early_verdict.proofs.early.Early.feed.Goals as goal
 use Rattle.early_verdict.proofs.early.Early.feed.Goals.{After-result-1}
@@ -51,7 +51,7 @@ root_verdict-requires-clause-some c =
     let st = unended x c.args.self.now w.0 c.self.view_is c.requires.open w.1 in
     let o = open_of x c.self.inside.formula w.0 refl st (none_if c.self.inside.decided (sym c.is_some.ensures ∙ c.if-is_some.false)) in
     subst (λ (xs : List Sets). 0 < length xs) (sym c.deref.ensures.value)
-    (some_sets x.nodes x.header c.in-Ok-take_row.begin c.take_row.new.sets.items w.0 c.args.row.now (c.in-Ok-take_row.ensures x.header w.0 o) st.some)
+    (some_shown x.nodes x.header c.in-Ok-take_row.begin c.take_row.new.net.live.items c.take_row.new.net.shown.items w.0 c.args.row.now (c.in-Ok-take_row.ensures x.header w.0 o) st.some)
 
 pub root_verdict-requires-clause-tidy : goal.root_verdict-requires-clause-tidy
 root_verdict-requires-clause-tidy c =
@@ -60,7 +60,15 @@ root_verdict-requires-clause-tidy c =
     let st = unended x c.args.self.now w.0 c.self.view_is c.requires.open w.1 in
     let o = open_of x c.self.inside.formula w.0 refl st (none_if c.self.inside.decided (sym c.is_some.ensures ∙ c.if-is_some.false)) in
     subst (λ (xs : List Sets). AllTidy xs) (sym c.deref.ensures.value)
-    (sets_tidy x.nodes x.header c.in-Ok-take_row.begin c.take_row.new.sets.items w.0 c.args.row.now (c.in-Ok-take_row.ensures x.header w.0 o))
+    (shown_tidy x.nodes x.header c.in-Ok-take_row.begin c.take_row.new.net.live.items c.take_row.new.net.shown.items w.0 c.args.row.now (c.in-Ok-take_row.ensures x.header w.0 o))
+
+pub let_go_by-requires : goal.let_go_by-requires
+let_go_by-requires c = λ e.
+    let x : Kept = the_view c.self.inside in
+    let w = c.self.invariant c.if-self.false in
+    let st = unended x c.args.self.now w.0 c.self.view_is c.requires.open w.1 in
+    let o = open_of x c.self.inside.formula w.0 refl st (none_if c.self.inside.decided (sym c.is_some.ensures ∙ c.if-is_some.false)) in
+    net_of x.nodes x.header c.in-Ok-take_row.begin c.take_row.new.net.live.items c.take_row.new.net.shown.items w.0 c.args.row.now (c.in-Ok-take_row.ensures x.header w.0 o)
 
 -- the row is taken, and what the sets of the root say of the start is the answer
 fed : (c : After-result-1) (rows : List Row) → Stands (the_view c.self.inside) rows false
@@ -68,7 +76,8 @@ fed : (c : After-result-1) (rows : List Row) → Stands (the_view c.self.inside)
       nodes = c.self.inside.formula.nodes;
       header = c.self.inside.header;
       bound = c.self.inside.bound;
-      sets = c.let_go.new.sets.items;
+      live = c.let_go_by.new.net.live.items;
+      shown = c.let_go_by.new.net.shown.items;
       begin = c.in-Ok-take_row.begin;
       last = Some c.in-Ok.kept;
       decided = c.decided_at-decided.result;
@@ -82,9 +91,9 @@ fed c rows st =
     let later = subst (λ (z : Kept). IfSome z.last (λ q. q.time < r.time)) (sym c.self.view_is) c.requires.later in
     let none = none_if c.self.inside.decided (sym c.is_some.ensures ∙ c.if-is_some.false) in
     let are = c.in-Ok-take_row.ensures x.header rows (open_of x c.self.inside.formula rows refl st none) in
-    fed_by x rows r c.in-Ok.kept c.in-Ok-take_row.begin c.take_row.new.sets.items c.let_go.new.sets.items c.root_verdict.result c.decided_at-decided.result
+    fed_by x rows r c.in-Ok.kept c.in-Ok-take_row.begin c.take_row.new.net.live.items c.take_row.new.net.shown.items c.let_go_by.new.net.live.items c.let_go_by.new.net.shown.items c.root_verdict.result c.decided_at-decided.result
     st none width later are (subst (λ (xs : List Sets). IsVerdict xs c.in-Ok-take_row.begin c.root_verdict.result) c.deref.ensures.value c.root_verdict.ensures)
-    c.let_go.ensures c.in-Ok.ensures (c.decided_at-decided.ensures ∙ ap (λ (t : ℕ). decided_now t c.root_verdict.result) c.time.ensures)
+    c.let_go_by.ensures c.in-Ok.ensures (c.decided_at-decided.ensures ∙ ap (λ (t : ℕ). decided_now t c.root_verdict.result) c.time.ensures)
 
 pub invariant_of-self-2 : goal.invariant_of-self-2
 invariant_of-self-2 c running =

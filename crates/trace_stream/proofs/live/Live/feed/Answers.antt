@@ -1,65 +1,50 @@
-use Rattle.std.proofs.Common.{◌≤◌, ◌++◌, length, take, drop, false, refl, sym, ◌∙◌, subst, arith, append-nil, length-drop, take_all}
-use Rattle.std.proofs.lemmas.Result.{err_from_is_err_and}
-use Rattle.stl_syntax.specs.Formula.{Formula}
-use Rattle.trace_reader.specs.declared.refusal.Limits.{Limits}
-use Rattle.trace_stream.specs.Following.{IsLive, IsLiveStop}
-use Rattle.trace_stream.proofs.Fed.{rest_is}
-use Rattle.trace_stream.proofs.Fed.{fed}
-use Rattle.trace_stream.proofs.Living.{live_fed}
+use Rattle.std.proofs.Common.{false, ◌++◌, subst}
+use Rattle.trace_stream.specs.declared.fault.StreamStop.{StreamStop}
+use Rattle.trace_stream.specs.Following.{IsOpenStop}
+use Rattle.trace_stream.proofs.Living.{live_open, flushed, fault_flushed}
 use Rattle.trace_stream.proofs.live.Live.feed.Goals as goal
 
-pub loop-at-init : goal.loop-at-init
-loop-at-init g c = record {
-  within = omega arith;
-  limits = refl;
-  formula = refl;
-  taken = λ bytes written k. subst (λ b. IsLive g.F.Follow.stands g.F.Follow.kind c.args.self.now b written) (sym (append-nil bytes)) k;
-}
-
-pub step-requires : goal.step-requires
-step-requires g c = record {
-  bytes = c.requires.bytes ++ take c.loop-at.at c.args.piece.now;
+pub take_piece-requires : goal.take_piece-requires
+take_piece-requires g c = record {
+  bytes = c.requires.bytes;
   written = c.requires.written;
-  is = c.loop-at.invariant.taken c.requires.bytes c.requires.written c.requires.is;
+  is = live_open g.F.Follow.stands g.F.Follow.owes g.F.Follow.kind c.args.self.now c.requires.bytes c.requires.written c.requires.is;
 }
 
-pub returns-in_err-at-clause-taken : goal.returns-in_err-at-clause-taken
-returns-in_err-at-clause-taken g c =
-    let p = err_from_is_err_and c.from_residual.result c.from_residual.ensures.1 in
-    let piece = c.args.piece.now in
-    rw (p.1, p.2) (λ bytes written k.
-    live_fed g.F.Follow.stands g.F.Follow.kind c.args.self.now.rows.limits c.args.self.now.formula bytes piece (written ++ c.step.new.self.text) c.loop-at.at c.in_err-at.field-0.0
-    (subst (λ (l : Limits). IsLiveStop g.F.Follow.kind l c.args.self.now.formula false ((bytes ++ take c.loop-at.at piece) ++ drop c.loop-at.at piece) (written ++ c.step.new.self.text) c.in_err-at.field-0.0) c.loop-at.invariant.limits
-    (subst (λ (f : Formula). IsLiveStop g.F.Follow.kind c.loop-at.self.rows.limits f false ((bytes ++ take c.loop-at.at piece) ++ drop c.loop-at.at piece) (written ++ c.step.new.self.text) c.in_err-at.field-0.0) c.loop-at.invariant.formula
-    (subst (λ b. IsLiveStop g.F.Follow.kind c.loop-at.self.rows.limits c.loop-at.self.formula false ((bytes ++ take c.loop-at.at piece) ++ b) (written ++ c.step.new.self.text) c.in_err-at.field-0.0) (rest_is piece c.loop-at.at)
-    (c.in_err-at.ensures.taken (bytes ++ take c.loop-at.at piece) written (c.loop-at.invariant.taken bytes written k))))))
+pub flush-requires : goal.flush-requires
+flush-requires g c =
+    let k = c.in-Ok.ensures.taken c.requires.bytes c.requires.written
+    (live_open g.F.Follow.stands g.F.Follow.owes g.F.Follow.kind c.args.self.now c.requires.bytes c.requires.written c.requires.is) in
+    (k.case, c.requires.written ++ c.take_piece.new.self.text, k.followed)
 
-pub returns-in_err-at-clause-limits : goal.returns-in_err-at-clause-limits
-returns-in_err-at-clause-limits g c = c.in_err-at.ensures.limits ∙ c.loop-at.invariant.limits
+pub returns-in-Ok-clause-taken : goal.returns-in-Ok-clause-taken
+returns-in-Ok-clause-taken g c = λ bytes written k.
+    let k2 = c.in-Ok.ensures.taken bytes written (live_open g.F.Follow.stands g.F.Follow.owes g.F.Follow.kind c.args.self.now bytes written k) in
+    flushed g.F.Follow.stands g.F.Follow.owes g.F.Follow.kind c.args.self.now.rows.limits c.args.self.now.formula c.take_piece.new.self (bytes ++ c.args.piece.now) written
+    c.flush.new.text c.flush.new.follower c.flush.result k2 (c.flush.ensures.ok k2.case (written ++ c.take_piece.new.self.text) k2.followed) c.flush.ensures.err
 
-pub returns-in_err-at-clause-formula : goal.returns-in_err-at-clause-formula
-returns-in_err-at-clause-formula g c = c.in_err-at.ensures.formula ∙ c.loop-at.invariant.formula
+pub flush-requires-in-Err-Fault : goal.flush-requires-in-Err-Fault
+flush-requires-in-Err-Fault g c =
+    let mid = c.take_piece.new.self in
+    let k = subst (λ (s : StreamStop). IsOpenStop g.F.Follow.stands g.F.Follow.owes g.F.Follow.kind c.args.self.now.rows.limits c.args.self.now.formula false
+    (c.requires.bytes ++ c.args.piece.now) mid.follower (c.requires.written ++ mid.text) s) c.in-Err-Fault.field-0-is
+    (c.in-Err-Fault.ensures.taken c.requires.bytes c.requires.written
+    (live_open g.F.Follow.stands g.F.Follow.owes g.F.Follow.kind c.args.self.now c.requires.bytes c.requires.written c.requires.is)) in
+    (k.3, c.requires.written ++ mid.text, k.4)
 
-pub loop-at-preserved : goal.loop-at-preserved
-loop-at-preserved g c =
-    let within = c.in_ok-at.ensures.within in
-    let rest = rest_is c.args.piece.now c.loop-at.at in
-    let bound : c.in_ok-at.field-0 ≤ length (drop c.loop-at.at c.args.piece.now) = rw rest at within in
-    record {
-      within = omega (arith, length-drop c.loop-at.at c.args.piece.now);
-      limits = c.in_ok-at.ensures.limits ∙ c.loop-at.invariant.limits;
-      formula = c.in_ok-at.ensures.formula ∙ c.loop-at.invariant.formula;
-      taken = λ bytes written k. subst (λ b. IsLive g.F.Follow.stands g.F.Follow.kind c.step.new.self b written)
-          (fed bytes c.args.piece.now c.loop-at.at c.in_ok-at.field-0)
-          (c.in_ok-at.ensures.taken (bytes ++ take c.loop-at.at c.args.piece.now) written (c.loop-at.invariant.taken bytes written k));
-    }
+pub returns-in_ok-flush-in-Err-Fault-clause-taken : goal.returns-in_ok-flush-in-Err-Fault-clause-taken
+returns-in_ok-flush-in-Err-Fault-clause-taken g c = λ bytes written live.
+    let mid = c.take_piece.new.self in
+    let k = subst (λ (s : StreamStop). IsOpenStop g.F.Follow.stands g.F.Follow.owes g.F.Follow.kind c.args.self.now.rows.limits c.args.self.now.formula false
+    (bytes ++ c.args.piece.now) mid.follower (written ++ mid.text) s) c.in-Err-Fault.field-0-is
+    (c.in-Err-Fault.ensures.taken bytes written (live_open g.F.Follow.stands g.F.Follow.owes g.F.Follow.kind c.args.self.now bytes written live)) in
+    let (grown, longer, followed) = c.in_ok-flush-in-Err-Fault.ensures.ok k.3 (written ++ mid.text) k.4 in
+    fault_flushed g.F.Follow.stands g.F.Follow.owes g.F.Follow.kind c.args.self.now.rows.limits c.args.self.now.formula false (bytes ++ c.args.piece.now) written mid.text
+    c.flush-in-Err-Fault.new.text grown mid.follower c.flush-in-Err-Fault.new.follower c.in-Err-Fault.fault k longer followed
 
-pub returns-clause-taken : goal.returns-clause-taken
-returns-clause-taken g c = λ bytes written k. subst (λ b. IsLive g.F.Follow.stands g.F.Follow.kind c.loop-at.self (bytes ++ b) written)
-    (take_all c.loop-at.at c.args.piece.now c.loop-at-test.false) (c.loop-at.invariant.taken bytes written k)
-
-pub returns-clause-limits : goal.returns-clause-limits
-returns-clause-limits g c = c.loop-at.invariant.limits
-
-pub returns-clause-formula : goal.returns-clause-formula
-returns-clause-formula g c = c.loop-at.invariant.formula
+pub returns-in-Err-Wide-clause-taken : goal.returns-in-Err-Wide-clause-taken
+returns-in-Err-Wide-clause-taken g c = λ bytes written live.
+    let mid = c.take_piece.new.self in
+    subst (λ (s : StreamStop). IsOpenStop g.F.Follow.stands g.F.Follow.owes g.F.Follow.kind c.args.self.now.rows.limits c.args.self.now.formula false
+    (bytes ++ c.args.piece.now) mid.follower (written ++ mid.text) s) c.in-Err-Wide.field-0-is
+    (c.in-Err-Wide.ensures.taken bytes written (live_open g.F.Follow.stands g.F.Follow.owes g.F.Follow.kind c.args.self.now bytes written live))

@@ -1,13 +1,14 @@
-use Rattle.std.proofs.Common.{◌≡◌, ◌++◌, sym, ◌∙◌, subst}
-use Rattle.std.specs.Prelude.{option_map, IfOk, List, ℕ}
+use Rattle.std.proofs.Common.{false, ◌++◌, sym, ◌∙◌, subst}
+use Rattle.std.proofs.lemmas.Result.{err_from_is_err_and}
+use Rattle.std.specs.Prelude.{option_map}
 use Rattle.stl_syntax.specs.Trace.{Row}
 use Rattle.trace_reader.specs.Feeds.{rows_after}
 use Rattle.trace_reader.specs.Reader.{IsWholeTrace, IsNextRow, HasEndedWith}
 use Rattle.trace_reader.specs.declared.event.Event.{Event}
 use Rattle.trace_stream.specs.Cases.{CanKeep, with_row}
-use Rattle.trace_stream.specs.Following.{IsFollowed}
+use Rattle.trace_stream.specs.Following.{IsOpened, IsHeldUp}
 use Rattle.trace_stream.proofs.Ends.{ended_now, ended_row, end_can, has_header, refused_end}
-use Rattle.trace_stream.proofs.Living.{last_by_case, live_end_refused, last_taken, last_row}
+use Rattle.trace_stream.proofs.Living.{open_of, more_text, last_by_case, live_end_refused, last_taken, last_row, last_held}
 use Rattle.trace_stream.proofs.live.Live.last.Goals as goal
 
 pub take_row-requires : goal.take_row-requires
@@ -21,7 +22,7 @@ take_row-requires g c =
     let next = subst (λ (e : Event). IsNextRow e new.heading k.kept.rows new.row) c.in-Ok-Row.field-0-is (ok.next bytes k.kept.rows k.kept.stands) in (
       k.case,
       c.requires.written ++ old.text,
-      k.followed,
+      open_of g.F.Follow.stands g.F.Follow.owes g.F.Follow.kind old.follower k.case (c.requires.written ++ old.text) k.followed,
       subst (λ (r : Row). CanKeep k.case r) (sym c.row.ensures)
           (end_can old.formula old.rows new k.case bytes k.kept ok.kept.0 ok.kept.1 new.row whole next),
     )
@@ -35,18 +36,57 @@ last_fault-requires g c = λ e.
     let err = c.in-Err.ensures in
     has_header c.args.self.now.formula c.args.self.now.rows c.end.new.self c.requires.is.case c.requires.bytes k err.kept.0 err.kept.1 (err.header e c.requires.bytes k.rows k.stands)
 
-pub returns-in-Ok-Row-clause-last : goal.returns-in-Ok-Row-clause-last
-returns-in-Ok-Row-clause-last g c = λ bytes written k.
+pub flush-requires : goal.flush-requires
+flush-requires g c =
+    let k = c.requires.is in
+    let bytes = c.requires.bytes in
     let old = c.args.self.now in
     let new = c.end.new.self in
     let ok = c.in-Ok-Row.ensures in
     let whole = subst (λ (e : Event). IsWholeTrace new bytes (rows_after e k.kept.rows new.row)) c.in-Ok-Row.field-0-is (ok.ok bytes k.kept.rows k.kept.stands) in
     let next = subst (λ (e : Event). IsNextRow e new.heading k.kept.rows new.row) c.in-Ok-Row.field-0-is (ok.next bytes k.kept.rows k.kept.stands) in
     let can = end_can old.formula old.rows new k.case bytes k.kept ok.kept.0 ok.kept.1 new.row whole next in
-    last_row g.F.Follow.stands g.F.Follow.kind old.rows.limits old.formula bytes written old.text c.take_row.new.text c.take_row.new.follower k.case new.row c.take_row.result
-    (subst (λ (r : Row). IfOk c.take_row.result (λ _. (grown : List ℕ) × (c.take_row.new.text ≡ old.text ++ grown) × IsFollowed g.F.Follow.stands g.F.Follow.kind c.take_row.new.follower (option_map (with_row r) k.case) ((written ++ old.text) ++ grown)))
-    c.row.ensures (c.take_row.ensures.ok k.case (written ++ old.text) k.followed (subst (λ (r : Row). CanKeep k.case r) (sym c.row.ensures) can))) c.take_row.ensures.err
+    let (grown, text, opened) = c.in_ok-take_row-in-Ok-Row.ensures.ok k.case (c.requires.written ++ old.text)
+    (open_of g.F.Follow.stands g.F.Follow.owes g.F.Follow.kind old.follower k.case (c.requires.written ++ old.text) k.followed)
+    (subst (λ (r : Row). CanKeep k.case r) (sym c.row.ensures) can) in
+    (option_map (with_row c.row.result.now) k.case, (c.requires.written ++ old.text) ++ grown, opened)
+
+pub returns-in_ok-take_row-in-Ok-Row-clause-last : goal.returns-in_ok-take_row-in-Ok-Row-clause-last
+returns-in_ok-take_row-in-Ok-Row-clause-last g c = λ bytes written k.
+    let old = c.args.self.now in
+    let new = c.end.new.self in
+    let ok = c.in-Ok-Row.ensures in
+    let mid = c.take_row.new in
+    let whole = subst (λ (e : Event). IsWholeTrace new bytes (rows_after e k.kept.rows new.row)) c.in-Ok-Row.field-0-is (ok.ok bytes k.kept.rows k.kept.stands) in
+    let next = subst (λ (e : Event). IsNextRow e new.heading k.kept.rows new.row) c.in-Ok-Row.field-0-is (ok.next bytes k.kept.rows k.kept.stands) in
+    let can = end_can old.formula old.rows new k.case bytes k.kept ok.kept.0 ok.kept.1 new.row whole next in
+    let (grown, text, opened) = c.in_ok-take_row-in-Ok-Row.ensures.ok k.case (written ++ old.text)
+    (open_of g.F.Follow.stands g.F.Follow.owes g.F.Follow.kind old.follower k.case (written ++ old.text) k.followed)
+    (subst (λ (r : Row). CanKeep k.case r) (sym c.row.ensures) can) in
+    let now = subst (λ (r : Row). IsOpened g.F.Follow.stands g.F.Follow.owes g.F.Follow.kind mid.follower (option_map (with_row r) k.case) (written ++ mid.text)) c.row.ensures
+    (subst (λ made. IsOpened g.F.Follow.stands g.F.Follow.owes g.F.Follow.kind mid.follower (option_map (with_row c.row.result.now) k.case) made)
+    (sym (more_text written old.text mid.text grown text)) opened) in
+    last_row g.F.Follow.stands g.F.Follow.kind old.rows.limits old.formula bytes written mid.text c.flush.new.text c.flush.new.follower k.case new.row c.flush.result
+    (c.flush.ensures.ok (option_map (with_row new.row) k.case) (written ++ mid.text) now) c.flush.ensures.err
     (ended_row old.formula old.rows new k.case bytes k.kept ok.kept.0 ok.kept.1 new.row whole)
+
+pub returns-in_err-take_row-in-Ok-Row-clause-last : goal.returns-in_err-take_row-in-Ok-Row-clause-last
+returns-in_err-take_row-in-Ok-Row-clause-last g c =
+    let p = err_from_is_err_and c.from_residual.result c.from_residual.ensures.1 in
+    rw (p.1, p.2) (λ bytes written k.
+    let old = c.args.self.now in
+    let new = c.end.new.self in
+    let ok = c.in-Ok-Row.ensures in
+    let whole = subst (λ (e : Event). IsWholeTrace new bytes (rows_after e k.kept.rows new.row)) c.in-Ok-Row.field-0-is (ok.ok bytes k.kept.rows k.kept.stands) in
+    let next = subst (λ (e : Event). IsNextRow e new.heading k.kept.rows new.row) c.in-Ok-Row.field-0-is (ok.next bytes k.kept.rows k.kept.stands) in
+    let can = end_can old.formula old.rows new k.case bytes k.kept ok.kept.0 ok.kept.1 new.row whole next in
+    let stop = c.in_err-take_row-in-Ok-Row.field-0.0 in
+    let held = subst (λ (r : Row). IsHeldUp g.F.Follow.kind (option_map (with_row r) k.case) false old.text c.take_row.new.text stop) c.row.ensures
+    (c.in_err-take_row-in-Ok-Row.ensures.err k.case (written ++ old.text)
+    (open_of g.F.Follow.stands g.F.Follow.owes g.F.Follow.kind old.follower k.case (written ++ old.text) k.followed)
+    (subst (λ (r : Row). CanKeep k.case r) (sym c.row.ensures) can)) in
+    last_held g.F.Follow.stands g.F.Follow.kind old.rows.limits old.formula bytes written old.text c.take_row.new.text old.follower k.case new.row stop held k.followed
+    (ended_row old.formula old.rows new k.case bytes k.kept ok.kept.0 ok.kept.1 new.row whole))
 
 pub returns-in-Ok-Nothing-clause-last : goal.returns-in-Ok-Nothing-clause-last
 returns-in-Ok-Nothing-clause-last g c = λ bytes written k.

@@ -1,5 +1,7 @@
 use Rattle.std.proofs.Common.{false, true, sym, subst}
-use Rattle.trace_stream.specs.Margining.{past_of, IsFollowFault}
+use Rattle.trace_stream.specs.Margining.{past_of}
+use Rattle.trace_stream.specs.Following.{IsFollowFault}
+use Rattle.trace_stream.specs.Streams.{margins}
 use Rattle.trace_stream.proofs.Margined.{of_first, fault_so, unwritten, may_end, given_on, end_followed}
 use Rattle.trace_stream.proofs.margins.Margins.end.Goals as goal
 
@@ -11,9 +13,9 @@ first_fault-requires c =
     let (case, made, k, t) = c.requires in
     of_first c.args.self.now.net c.close.new.self c.in-Err.fault k.stands.stands.keeps.running k.stands.stands.keeps.closed c.in-Err.ensures.answer
 
-pub returns-in-Err-clause-wide : goal.returns-in-Err-clause-wide
-returns-in-Err-clause-wide c = λ case made k t.
-    subst (IsFollowFault case true) (sym c.first_fault.ensures)
+pub returns-in-Err-clause-fault : goal.returns-in-Err-clause-fault
+returns-in-Err-clause-fault c = λ case made k t.
+    subst (IsFollowFault margins case true) (sym c.first_fault.ensures)
     (fault_so case true (past_of case false) c.in-Err.fault
     (c.in-Err.ensures.wide case.formula.nodes case.trace.header (past_of case false) k.stands.given k.stands.stands))
 

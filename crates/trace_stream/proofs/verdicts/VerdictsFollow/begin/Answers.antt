@@ -14,12 +14,15 @@ returns c =
     record {
       stands = record {
         formula = refl;
+        horizon = c.horizon-horizon.ensures.horizon;
         events = [];
         driven = subst (λ rows. IsDriven case.formula.nodes case.trace.header rows false []) (sym c.requires.none) nothing;
         stands = c.in_ok-net.ensures.stands case.trace.header is.bound;
         emitted = [];
         is_emitted = refl;
         start = refl;
+        no_times = c.new-2.ensures.items;
+        none_pending = c.new-3.ensures;
       };
       fits = (f, is);
       told = subst (λ rows. IsRowsText (IsNewText (root case.formula.nodes)) (root case.formula.nodes) case.trace.header [] None rows [])

@@ -1,21 +1,23 @@
-use Rattle.std.proofs.Common.{subst, sym, refl, ap, ◌∙◌, length}
-use Rattle.workbench.proofs.EarlyFollows.{later_row, row_on, wide_row}
+use Rattle.std.proofs.Common.{false, inl, inr}
+use Rattle.std.proofs.lemmas.Result.{IfOk-weaker}
+use Rattle.trace_stream.specs.Following.{Follows, IsOpen}
+use Rattle.trace_stream.specs.Streams.{early}
+use Rattle.trace_stream.specs.declared.case.Case.{Case}
+use Rattle.std.specs.Prelude.{ℕ, List}
+use Rattle.workbench.specs.Deciding.{IsDeciding}
+use Rattle.workbench.specs.declared.early.Deciding.{Deciding}
 use Rattle.workbench.proofs.early.DecidingFollow.row.Goals as goal
 
-pub feed-requires-clause-open : goal.feed-requires-clause-open
-feed-requires-clause-open c = c.requires.2.stands.stands.is_ended
+-- nothing is ever owed
+followed : (x : Deciding) (c : Case) (made : List ℕ) → IsOpen (λ case text. IsDeciding false x case) (λ case text. ⊥) early c made
+    → Follows (λ case text. IsDeciding false x case) early c made
+followed x c made (inl k) = k
+followed x c made (inr b) = absurd b
 
-pub feed-requires-clause-width : goal.feed-requires-clause-width
-feed-requires-clause-width c = let (case, made, k, t) = c.requires in wide_row c.args.self.now case k.stands c.args.row.now t.0
+pub take_row-requires : goal.take_row-requires
+take_row-requires c =
+    let (case, made, opened, t) = c.requires in (case, made, followed c.args.self.now case made opened, t)
 
-pub feed-requires-clause-later : goal.feed-requires-clause-later
-feed-requires-clause-later c =
-    let (case, made, k, t) = c.requires in
-    later_row case.trace.rows c.args.row.now t.1 c.args.self.now.early.last k.stands.stands.last
-
-pub returns : goal.returns
-returns c = λ case made k t.
-    let e = c.in-Ok.ensures in
-    let st = c.in-Ok.ensures.stands case.trace.rows k.stands.stands in
-    row_on c.args.self.now (record { early = c.feed.new.self; scale = c.args.self.now.scale; digits = c.self-1.given.0 }) case made k c.feed.ensures.same.nodes c.feed.ensures.same.header refl
-    c.args.row.now c.args.text.now c.put_answer.new.text c.in-Ok.answer st.0 st.1 c.in_ok-put_answer.ensures
+pub returns-in-Ok-clause-followed : goal.returns-in-Ok-clause-followed
+returns-in-Ok-clause-followed c = λ case made opened t.
+    let (grown, is, follows) = c.in-Ok.ensures case made (followed c.args.self.now case made opened) t in (grown, is, inl follows)

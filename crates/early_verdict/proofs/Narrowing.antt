@@ -1,0 +1,424 @@
+-- What stands goes on to stand, where nodes go on from fewer times, or show fewer.
+use Rattle.std.proofs.Common.{◌≡◌, ◌≢◌, ◌⊎◌, inl, inr, refl, sym, subst, ◌∙◌, ℕ, zero, suc, ◌-◌, ◌<◌, ◌≤◌, Bool, true, false, Option, Some, None, List, [], ◌∷◌, length, arith}
+use Rattle.std.specs.Prelude.{MatchBool, MatchOption, slice_get}
+use Rattle.rational.specs.Time.{Rational, ◌≤ʳ◌, ◌<ʳ◌}
+use Rattle.rational.proofs.Order.{le_of_lt}
+use Rattle.stl_syntax.specs.Trace.{Trace, start}
+use Rattle.stl_syntax.specs.Formula.{HasChildrenBelow, subformula}
+use Rattle.stl_syntax.specs.Early.{Settled, SettledNot}
+use Rattle.stl_syntax.specs.WellFormed.{AreWellFormed}
+use Rattle.stl_syntax.specs.declared.node.Node.{Node}
+use Rattle.stl_syntax.specs.declared.node.Node.TheVariants.{Const, Atom as Leaf, Not, And, Or, Implies, Until, Eventually, Always, Since, Once, Historically}
+use Rattle.stl_syntax.proofs.PostOrderLemmas.{placed}
+use Rattle.early_verdict.specs.Cuts.{Place, After}
+use Rattle.early_verdict.specs.Spans.{IsOn, Lies}
+use Rattle.early_verdict.specs.Readings.{SomeAhead, OnlyAhead, SomeBehind, OnlyBehind}
+use Rattle.early_verdict.specs.Fitting.{Lists, lists_at, nothing, Fits, SayBoth, SayOfParts, NegationFits, ConjunctionFits, DisjunctionFits, ImplicationFits, UntilFits, SinceFits, EventuallyFits, AlwaysFits, OnceFits, HistoricallyFits, AreSetsTidy}
+use Rattle.early_verdict.specs.Standing.{AllFit, AllTidy, left_of}
+use Rattle.early_verdict.specs.Living.{AreLive, IsLive, IsNarrowed, IsShown, Known, LooksAt, NetStands}
+use Rattle.early_verdict.specs.Letting.{AreAskedBy, AreInside, AreLess, IsChild, IsInside, IsLess, IsRun, IsSettledAt}
+use Rattle.early_verdict.specs.declared.stretch.Stretch.{Stretch}
+use Rattle.early_verdict.specs.declared.sets.Sets.{Sets}
+use Rattle.early_verdict.specs.declared.sets.Parts.{Parts}
+use Rattle.early_verdict.proofs.AllSets.{is_shown, lists_are, sets_at, shown_is, shown_within}
+use Rattle.early_verdict.proofs.Childhood.{child_below, child_or_not, left_child, left_run, one_parent}
+use Rattle.early_verdict.proofs.FitLemmas.{fits_within}
+use Rattle.early_verdict.proofs.LivingLemmas.{looks_as, parts_as}
+use Rattle.early_verdict.proofs.Netting.{nat_is, nodes_at}
+use Rattle.early_verdict.proofs.Places.{get_within, lists_by, same_sets}
+use Rattle.early_verdict.proofs.Telling.{parts_kept, tells_alike}
+
+-- sets that let go of times say the same of the others
+module _ (own bounds : Stretch) (s s' : Sets) (y : s.yes.bounds ≡ own) (n : s.no.bounds ≡ own) (k : IsNarrowed bounds s s')
+    (less : (t : Rational) → Lies bounds t → Lies own t) where
+  less_both : (P N : Rational → Type 0) → SayBoth s P N → SayBoth s' P N
+  less_both P N h = record {
+    yes = record {
+      has = λ t l p. let b = subst (λ z. Lies z t) k.yes_bounds l in k.yes_in t b (h.yes.has t (subst (λ z. Lies z t) (sym y) (less t b)) p);
+      only = λ t o. let w = k.yes_out t o in (subst (λ z. Lies z t) (sym k.yes_bounds) w.1, (h.yes.only t w.0).1);
+    };
+    no = record {
+      has = λ t l p. let b = subst (λ z. Lies z t) k.no_bounds l in k.no_in t b (h.no.has t (subst (λ z. Lies z t) (sym n) (less t b)) p);
+      only = λ t o. let w = k.no_out t o in (subst (λ z. Lies z t) (sym k.no_bounds) w.1, (h.no.only t w.0).1);
+    };
+  }
+
+  run_less : (A B : Parts → Type 0) (o : Option Parts) → MatchOption o ⊥ (λ x. A x × B x × SayOfParts s x) → MatchOption o ⊥ (λ x. A x × B x × SayOfParts s' x)
+  run_less A B None h = h
+  run_less A B (Some x) h = (h.0, h.1, less_both _ _ h.2)
+
+  run_still : (A B : Parts → Type 0) → MatchOption s.parts ⊥ (λ x. A x × B x × SayOfParts s x) → MatchOption s'.parts ⊥ (λ x. A x × B x × SayOfParts s' x)
+  run_still A B h = subst (λ o. MatchOption o ⊥ (λ x. A x × B x × SayOfParts s' x)) (sym k.parts) (run_less A B s.parts h)
+
+  pub fits_less : (m : Node) (tr : Trace) (at : ℕ → Lists) → Fits m false tr at s → Fits m false tr at s'
+  fits_less (Const b) tr at h = less_both _ _ h
+  fits_less (Leaf a) tr at h = less_both _ _ h
+  fits_less (Not p) tr at h = less_both _ _ h
+  fits_less (And p q) tr at h = less_both _ _ h
+  fits_less (Or p q) tr at h = less_both _ _ h
+  fits_less (Implies p q) tr at h = less_both _ _ h
+  fits_less (Until p q a b) tr at h = run_still _ _ h
+  fits_less (Eventually p a b i j) tr at h = less_both _ _ h
+  fits_less (Always p a b i j) tr at h = less_both _ _ h
+  fits_less (Since p q a b) tr at h = run_still _ _ h
+  fits_less (Once p a b i j) tr at h = less_both _ _ h
+  fits_less (Historically p a b i j) tr at h = less_both _ _ h
+
+-- a node's sets fit by whatever its children show that it looks at
+two : (F : Lists → Lists → Type 0) (p p' q q' : Lists) → p ≡ p' → q ≡ q' → F p q → F p' q'
+two F p p' q q' d e h = subst (λ x. F x q') d (subst (λ x. F p x) e h)
+
+fits_as : (n : Node) (tr : Trace) (at at' : ℕ → Lists) (s : Sets) → ((p : ℕ) → IsChild p n → at p ≡ at' p) → Fits n false tr at s → Fits n false tr at' s
+fits_as (Const b) tr at at' s e h = h
+fits_as (Leaf a) tr at at' s e h = h
+fits_as (Not p) tr at at' s e h = subst (λ x. NegationFits x s) (e p refl) h
+fits_as (And p q) tr at at' s e h = two (λ x y. ConjunctionFits x y s) (at p) (at' p) (at q) (at' q) (e p (inl refl)) (e q (inr refl)) h
+fits_as (Or p q) tr at at' s e h = two (λ x y. DisjunctionFits x y s) (at p) (at' p) (at q) (at' q) (e p (inl refl)) (e q (inr refl)) h
+fits_as (Implies p q) tr at at' s e h = two (λ x y. ImplicationFits x y s) (at p) (at' p) (at q) (at' q) (e p (inl refl)) (e q (inr refl)) h
+fits_as (Until p q a b) tr at at' s e h = two (λ x y. UntilFits false tr a b x y s) (at p) (at' p) (at q) (at' q) (e p (inl refl)) (e q (inr refl)) h
+fits_as (Eventually p a b j k) tr at at' s e h = subst (λ x. EventuallyFits false tr a b j k x s) (e p refl) h
+fits_as (Always p a b j k) tr at at' s e h = subst (λ x. AlwaysFits false tr a b j k x s) (e p refl) h
+fits_as (Since p q a b) tr at at' s e h = two (λ x y. SinceFits tr a b x y s) (at p) (at' p) (at q) (at' q) (e p (inl refl)) (e q (inr refl)) h
+fits_as (Once p a b j k) tr at at' s e h = subst (λ x. OnceFits tr a b j k x s) (e p refl) h
+fits_as (Historically p a b j k) tr at at' s e h = subst (λ x. HistoricallyFits tr a b j k x s) (e p refl) h
+
+module _ (tr : Trace) (own : Stretch) (s : Sets) (y : s.yes.bounds ≡ own) (n : s.no.bounds ≡ own) (old new : List Sets)
+    (agree : (p : ℕ) → Known (IsShown new p) (lists_at new p) (IsOn (lists_at old p).yes) (IsOn (lists_at old p).no)) where
+  alike : (P P' N N' : Rational → Type 0) → ((t : Rational) → Lies own t → P t → P' t) → ((t : Rational) → P' t → P t)
+      → ((t : Rational) → Lies own t → N t → N' t) → ((t : Rational) → N' t → N t) → SayBoth s P N → SayBoth s P' N'
+  alike P P' N N' out into not_out not_into h = record {
+    yes = tells_alike s.yes.bounds s.yes.spans.items P P' (λ t l. out t (subst (λ x. Lies x t) y l)) (λ t l. into t) h.yes;
+    no = tells_alike s.no.bounds s.no.spans.items N N' (λ t l. not_out t (subst (λ x. Lies x t) n l)) (λ t l. not_into t) h.no;
+  }
+
+  pub fits_local : (m : Node) → ¬ (IsRun m) → LooksAt m (start tr) new own s.parts → Fits m false tr (lists_at old) s → Fits m false tr (lists_at new) s
+  fits_local (Const b) r l h = h
+  fits_local (Leaf a) r l h = h
+  fits_local (Not p) r l h =
+      let k = agree p in
+      alike (IsOn (lists_at old p).no) (IsOn (lists_at new p).no) (IsOn (lists_at old p).yes) (IsOn (lists_at new p).yes)
+      (λ t o x. k.no_in t (l t o) x) k.no_out (λ t o x. k.yes_in t (l t o) x) k.yes_out h
+  fits_local (And p q) r l h =
+      let k = agree p in
+      let m = agree q in
+      alike (λ t. IsOn (lists_at old p).yes t × IsOn (lists_at old q).yes t) (λ t. IsOn (lists_at new p).yes t × IsOn (lists_at new q).yes t)
+      (λ t. IsOn (lists_at old p).no t ⊎ IsOn (lists_at old q).no t) (λ t. IsOn (lists_at new p).no t ⊎ IsOn (lists_at new q).no t)
+      (λ t o x. (k.yes_in t (l t o).0 x.0, m.yes_in t (l t o).1 x.1)) (λ t x. (k.yes_out t x.0, m.yes_out t x.1))
+      (λ t o x. elim x [ inl z ↦ inl (k.no_in t (l t o).0 z) | inr z ↦ inr (m.no_in t (l t o).1 z) ])
+      (λ t x. elim x [ inl z ↦ inl (k.no_out t z) | inr z ↦ inr (m.no_out t z) ]) h
+  fits_local (Or p q) r l h =
+      let k = agree p in
+      let m = agree q in
+      alike (λ t. IsOn (lists_at old p).yes t ⊎ IsOn (lists_at old q).yes t) (λ t. IsOn (lists_at new p).yes t ⊎ IsOn (lists_at new q).yes t)
+      (λ t. IsOn (lists_at old p).no t × IsOn (lists_at old q).no t) (λ t. IsOn (lists_at new p).no t × IsOn (lists_at new q).no t)
+      (λ t o x. elim x [ inl z ↦ inl (k.yes_in t (l t o).0 z) | inr z ↦ inr (m.yes_in t (l t o).1 z) ])
+      (λ t x. elim x [ inl z ↦ inl (k.yes_out t z) | inr z ↦ inr (m.yes_out t z) ])
+      (λ t o x. (k.no_in t (l t o).0 x.0, m.no_in t (l t o).1 x.1)) (λ t x. (k.no_out t x.0, m.no_out t x.1)) h
+  fits_local (Implies p q) r l h =
+      let k = agree p in
+      let m = agree q in
+      alike (λ t. IsOn (lists_at old p).no t ⊎ IsOn (lists_at old q).yes t) (λ t. IsOn (lists_at new p).no t ⊎ IsOn (lists_at new q).yes t)
+      (λ t. IsOn (lists_at old p).yes t × IsOn (lists_at old q).no t) (λ t. IsOn (lists_at new p).yes t × IsOn (lists_at new q).no t)
+      (λ t o x. elim x [ inl z ↦ inl (k.no_in t (l t o).0 z) | inr z ↦ inr (m.yes_in t (l t o).1 z) ])
+      (λ t x. elim x [ inl z ↦ inl (k.no_out t z) | inr z ↦ inr (m.yes_out t z) ])
+      (λ t o x. (k.yes_in t (l t o).0 x.0, m.no_in t (l t o).1 x.1)) (λ t x. (k.yes_out t x.0, m.no_out t x.1)) h
+  fits_local (Until p q a b) r l h = absurd (r tt)
+  fits_local (Eventually p a b i j) r l h =
+      let k = agree p in
+      alike (SomeAhead tr a b i j (IsOn (lists_at old p).yes)) (SomeAhead tr a b i j (IsOn (lists_at new p).yes))
+      (OnlyAhead false tr a b i j (IsOn (lists_at old p).no)) (OnlyAhead false tr a b i j (IsOn (lists_at new p).no))
+      (λ t o (u, w, c, x). (u, w, c, k.yes_in u (l t u o w) x)) (λ t (u, w, c, x). (u, w, c, k.yes_out u x))
+      (λ t o g u w c. k.no_in u (l t u o w) (g u w c)) (λ t g u w c. k.no_out u (g u w c)) h
+  fits_local (Always p a b i j) r l h =
+      let k = agree p in
+      alike (OnlyAhead false tr a b i j (IsOn (lists_at old p).yes)) (OnlyAhead false tr a b i j (IsOn (lists_at new p).yes))
+      (SomeAhead tr a b i j (IsOn (lists_at old p).no)) (SomeAhead tr a b i j (IsOn (lists_at new p).no))
+      (λ t o g u w c. k.yes_in u (l t u o w) (g u w c)) (λ t g u w c. k.yes_out u (g u w c))
+      (λ t o (u, w, c, x). (u, w, c, k.no_in u (l t u o w) x)) (λ t (u, w, c, x). (u, w, c, k.no_out u x)) h
+  fits_local (Since p q a b) r l h = absurd (r tt)
+  fits_local (Once p a b i j) r l h =
+      let k = agree p in
+      alike (SomeBehind tr a b i j (IsOn (lists_at old p).yes)) (SomeBehind tr a b i j (IsOn (lists_at new p).yes))
+      (OnlyBehind tr a b i j (IsOn (lists_at old p).no)) (OnlyBehind tr a b i j (IsOn (lists_at new p).no))
+      (λ t o (u, w, c, x). (u, w, c, k.yes_in u (l t u o w) x)) (λ t (u, w, c, x). (u, w, c, k.yes_out u x))
+      (λ t o g u w. k.no_in u (l t u o w) (g u w)) (λ t g u w. k.no_out u (g u w)) h
+  fits_local (Historically p a b i j) r l h =
+      let k = agree p in
+      alike (OnlyBehind tr a b i j (IsOn (lists_at old p).yes)) (OnlyBehind tr a b i j (IsOn (lists_at new p).yes))
+      (SomeBehind tr a b i j (IsOn (lists_at old p).no)) (SomeBehind tr a b i j (IsOn (lists_at new p).no))
+      (λ t o g u w. k.yes_in u (l t u o w) (g u w)) (λ t g u w. k.yes_out u (g u w))
+      (λ t o (u, w, c, x). (u, w, c, k.no_in u (l t u o w) x)) (λ t (u, w, c, x). (u, w, c, k.no_out u x)) h
+
+same_node : (a b : Node) → Some a ≡ Some b → a ≡ b
+same_node a b e = cc
+
+-- one node goes on from fewer times
+module _ (nodes : List Node) (tr : Trace) (live new shown : List Sets) (i : ℕ) (at : IsSettledAt i shown live new) (st : NetStands nodes tr live shown) where
+  live_here : (n : Node) → slice_get nodes i ≡ Some n → IsLive (start tr) shown n at.is at.x
+  live_here n here = record {
+    own = at.settled.bounds;
+    yes = k.yes_bounds;
+    no = k.no_bounds;
+    starts = λ t l. was.starts t (less t l);
+    looks = looks_as (start tr) was.own at.settled.bounds less n shown shown at.was.parts at.is.parts (λ p e u h. h) (parts_kept at.was.parts at.is.parts k.parts) was.looks;
+    left = parts_as n at.was at.is shown shown (parts_kept at.was.parts at.is.parts k.parts) (λ p l' e z. (l', z, refl)) was.left;
+    shown_yes = was.shown_yes;
+    shown_starts = was.shown_starts;
+    yes_within = was.yes_within;
+    no_within = was.no_within;
+    shows_yes = λ t o l. was.shows_yes t (k.yes_out t o).0 l;
+    shows_no = λ t o l. was.shows_no t (k.no_out t o).0 l;
+    early = λ t l. elim (was.early t l) [
+      | inl o ↦ elim (at.settled.told t l (subst (λ z. Lies z t) (sym was.no) o)) [
+        | inl b ↦ inl b
+        | inr (inl z) ↦ inr (inl (was.shows_yes t z l))
+        | inr (inr z) ↦ inr (inr (was.shows_no t z l))
+      ]
+      | inr z ↦ inr z
+    ];
+  }
+    where
+      k : IsNarrowed at.settled.bounds at.was at.is
+      k = at.settled.narrowed
+
+      was : IsLive (start tr) shown n at.was at.x
+      was = st.have.has i n at.was at.x here at.at_old at.at_shown
+
+      less : (t : Rational) → Lies at.settled.bounds t → Lies was.own t
+      less t l = subst (λ z. Lies z t) was.no (at.settled.less t l)
+
+  live_there : (j : ℕ) (n : Node) (s x : Sets) → slice_get nodes j ≡ Some n → slice_get new j ≡ Some s → slice_get shown j ≡ Some x → IsLive (start tr) shown n s x
+  live_there j n s x here is ix = by_place (nat_is j i)
+    where
+      by_place : (j ≡ i) ⊎ (j ≢ i) → IsLive (start tr) shown n s x
+      by_place (inl q) =
+          let a = same_sets at.is s (sym at.at_new ∙ subst (λ k. slice_get new k ≡ Some s) q is) in
+          let b = same_sets at.x x (sym at.at_shown ∙ subst (λ k. slice_get shown k ≡ Some x) q ix) in
+          subst (λ z. IsLive (start tr) shown n z x) a (subst (λ z. IsLive (start tr) shown n at.is z) b
+          (live_here n (subst (λ k. slice_get nodes k ≡ Some n) q here)))
+      by_place (inr d) = st.have.has j n s x here (sym (at.others j d) ∙ is) ix
+
+  tidy_there : AllTidy new
+  tidy_there j s is = by_place (nat_is j i)
+    where
+      by_place : (j ≡ i) ⊎ (j ≢ i) → AreSetsTidy s
+      by_place (inl q) = subst AreSetsTidy (same_sets at.is s (sym at.at_new ∙ subst (λ k. slice_get new k ≡ Some s) q is)) at.settled.narrowed.tidy
+      by_place (inr d) = st.tidy j s (sym (at.others j d) ∙ is)
+
+  fit_there : AllFit nodes false tr new shown
+  fit_there j n s here is = by_place (nat_is j i)
+    where
+      fit_here : slice_get nodes i ≡ Some n → Fits n false tr (lists_at shown) at.is
+      fit_here e =
+          let was = st.have.has i n at.was at.x e at.at_old at.at_shown in
+          fits_less was.own at.settled.bounds at.was at.is was.yes was.no at.settled.narrowed
+          (λ t l. subst (λ z. Lies z t) was.no (at.settled.less t l)) n tr (lists_at shown) (st.fit i n at.was e at.at_old)
+
+      by_place : (j ≡ i) ⊎ (j ≢ i) → Fits n false tr (lists_at shown) s
+      by_place (inl q) =
+          subst (λ z. Fits n false tr (lists_at shown) z) (same_sets at.is s (sym at.at_new ∙ subst (λ k. slice_get new k ≡ Some s) q is))
+          (fit_here (subst (λ k. slice_get nodes k ≡ Some n) q here))
+      by_place (inr d) = st.fit j n s here (sym (at.others j d) ∙ is)
+
+  pub settled_stands : NetStands nodes tr new shown
+  settled_stands = record {
+    have = record { count = at.count ∙ st.have.count; shown_count = st.have.shown_count; has = live_there };
+    tidy = tidy_there;
+    shown_tidy = st.shown_tidy;
+    fit = fit_there;
+    known = st.known;
+    root = st.root;
+  }
+
+run_or_not : (n : Node) → IsRun n ⊎ ¬ (IsRun n)
+run_or_not (Const b) = inr (λ h. h)
+run_or_not (Leaf a) = inr (λ h. h)
+run_or_not (Not q) = inr (λ h. h)
+run_or_not (And q r) = inr (λ h. h)
+run_or_not (Or q r) = inr (λ h. h)
+run_or_not (Implies q r) = inr (λ h. h)
+run_or_not (Until q r a b) = inl tt
+run_or_not (Eventually q a b i j) = inr (λ h. h)
+run_or_not (Always q a b i j) = inr (λ h. h)
+run_or_not (Since q r a b) = inl tt
+run_or_not (Once q a b i j) = inr (λ h. h)
+run_or_not (Historically q a b i j) = inr (λ h. h)
+
+-- something stands at a place, or nothing is shown there
+at_or_not : (xs : List Sets) (p : ℕ) → ((x : Sets) × (slice_get xs p ≡ Some x)) ⊎ (((u : Rational) → ¬ (IsShown xs p u)) × (lists_at xs p ≡ nothing))
+at_or_not [] p = inr (λ u h. h, refl)
+at_or_not (x ∷ xs) zero = inl (x, refl)
+at_or_not (x ∷ xs) (suc p) = at_or_not xs p
+
+-- where the same stands the same is shown
+shown_as : (xs ys : List Sets) (p : ℕ) (u : Rational) → slice_get ys p ≡ slice_get xs p → IsShown xs p u → IsShown ys p u
+shown_as xs ys p u e h = let x = sets_at xs p (shown_within xs p u h) in is_shown ys p x.0 u (e ∙ x.1) (shown_is xs p x.0 u x.1 h)
+
+-- the children of one node show fewer times
+module _ (nodes : List Node) (formed : AreWellFormed nodes) (tr : Trace) (live old new : List Sets) (i : ℕ) (n : Node) (at : slice_get nodes i ≡ Some n) (s : Sets)
+    (is : slice_get live i ≡ Some s) (from : Rational) (begins : (t : Rational) → Lies s.no.bounds t → from ≤ʳ t) (asked : AreAskedBy n from old new)
+    (st : NetStands nodes tr live old) where
+  -- what is shown at a place now, and was
+  was_shown : (p : ℕ) (x : Sets) → slice_get new p ≡ Some x → (w : Sets) × (slice_get old p ≡ Some w) × IsLess w x
+  was_shown = asked.less.each
+
+  agree : (p : ℕ) → Known (IsShown new p) (lists_at new p) (IsOn (lists_at old p).yes) (IsOn (lists_at old p).no)
+  agree p = elim (at_or_not new p) [
+    | inl (x, e) ↦
+        let w = was_shown p x e in
+        subst (λ (l : Lists). Known (IsShown new p) (lists_at new p) (IsOn l.yes) (IsOn l.no)) (sym (lists_are old p w.0 w.1))
+        (subst (λ (l : Lists). Known (IsShown new p) l (IsOn w.0.yes.spans.items) (IsOn w.0.no.spans.items)) (sym (lists_are new p x e)) (record {
+          yes_in = λ u h o. w.2.yes_in u (shown_is new p x u e h) o;
+          yes_out = w.2.yes_out;
+          no_in = λ u h o. w.2.no_in u (shown_is new p x u e h) o;
+          no_out = w.2.no_out;
+        }))
+    | inr (none, e) ↦
+        subst (λ (l : Lists). Known (IsShown new p) l (IsOn (lists_at old p).yes) (IsOn (lists_at old p).no)) (sym e) (record {
+          yes_in = λ u h o. absurd (none u h);
+          yes_out = λ u o. absurd o;
+          no_in = λ u h o. absurd (none u h);
+          no_out = λ u o. absurd o;
+        })
+  ]
+
+  shown_less : (p : ℕ) (u : Rational) → IsShown new p u → IsShown old p u
+  shown_less p u h =
+      let x = sets_at new p (shown_within new p u h) in
+      let w = was_shown p x.0 x.1 in
+      is_shown old p w.0 u w.1 (w.2.less u (shown_is new p x.0 u x.1 h))
+
+  -- a child of another node shows what it did
+  not_its : (j p : ℕ) (m : Node) → j ≢ i → slice_get nodes j ≡ Some m → IsChild p m → slice_get new p ≡ slice_get old p
+  not_its j p m d here c = asked.others p (λ e. one_parent nodes formed.post_order j i p m n d here at c e)
+
+  module _ (j : ℕ) (m : Node) (r : Sets) (here : slice_get nodes j ≡ Some m) (ir : slice_get live j ≡ Some r) where
+    same_m : j ≡ i → n ≡ m
+    same_m q = same_node n m (sym at ∙ subst (λ k. slice_get nodes k ≡ Some m) q here)
+
+    same_r : j ≡ i → s ≡ r
+    same_r q = same_sets s r (sym is ∙ subst (λ k. slice_get live k ≡ Some r) q ir)
+
+    looks_there : (own : Stretch) → r.no.bounds ≡ own → LooksAt m (start tr) old own r.parts → LooksAt m (start tr) new own r.parts
+    looks_there own e l = elim (nat_is j i) [
+      | inl q ↦ subst (λ z. LooksAt z (start tr) new own r.parts) (same_m q)
+          (asked.looks (start tr) own r.parts (λ t h. begins t (subst (λ z. Lies z.no.bounds t) (sym (same_r q)) (subst (λ z. Lies z t) (sym e) h)))
+          (subst (λ z. LooksAt z (start tr) old own r.parts) (sym (same_m q)) l))
+      | inr d ↦ looks_as (start tr) own own (λ t h. h) m old new r.parts r.parts (λ p c u h. shown_as old new p u (not_its j p m d here c) h)
+          (parts_kept r.parts r.parts refl) l
+    ]
+
+    live_one : (x : Sets) → slice_get new j ≡ Some x → IsLive (start tr) new m r x
+    live_one x ix = by_was (was_shown j x ix)
+      where
+        by_was : ((w : Sets) × (slice_get old j ≡ Some w) × IsLess w x) → IsLive (start tr) new m r x
+        by_was (w, e, less) = record {
+          own = k.own;
+          yes = k.yes;
+          no = k.no;
+          starts = k.starts;
+          looks = looks_there k.own k.no k.looks;
+          left = parts_as m r r old new (parts_kept r.parts r.parts refl) (λ p l' f z. (l', still p l' f z, refl)) k.left;
+          shown_yes = less.same k.shown_yes;
+          shown_starts = λ t l. k.shown_starts t (less.less t l);
+          yes_within = (less.inside (record { yes = k.yes_within; no = k.no_within })).yes;
+          no_within = (less.inside (record { yes = k.yes_within; no = k.no_within })).no;
+          shows_yes = λ t o l. less.yes_in t l (k.shows_yes t o (less.less t l));
+          shows_no = λ t o l. less.no_in t l (k.shows_no t o (less.less t l));
+          early = λ t l. elim (k.early t (less.less t l)) [
+            | inl o ↦ inl o
+            | inr (inl z) ↦ inr (inl (less.yes_in t l z))
+            | inr (inr z) ↦ inr (inr (less.no_in t l z))
+          ];
+        }
+          where
+            k : IsLive (start tr) old m r w
+            k = st.have.has j m r w here ir e
+
+            still : (p : ℕ) (l' : Sets) → left_of m ≡ Some p → slice_get new p ≡ Some l' → slice_get old p ≡ Some l'
+            still p l' f z = elim (nat_is j i) [
+              | inl q ↦ subst (λ xs. slice_get xs p ≡ Some l') (asked.run (subst IsRun (sym (same_m q)) (left_run p m f))) z
+              | inr d ↦ sym (not_its j p m d here (left_child p m f)) ∙ z
+            ]
+
+    fit_one : Fits m false tr (lists_at new) r
+    fit_one = elim (nat_is j i) [
+      | inl q ↦ subst (λ z. Fits m false tr (lists_at new) z) (same_r q) (subst (λ z. Fits z false tr (lists_at new) s) (same_m q) fit_here)
+      | inr d ↦ fits_as m tr (lists_at old) (lists_at new) r (λ p c. lists_by old new p (sym (not_its j p m d here c))) (st.fit j m r here ir)
+    ]
+      where
+        shown_i : (w : Sets) × (slice_get old i ≡ Some w)
+        shown_i = sets_at old i (let a = get_within live i s is in let c = st.have.count in let d = st.have.shown_count in omega (arith, a, c, d))
+
+        fit_here : Fits n false tr (lists_at new) s
+        fit_here = elim (run_or_not n) [
+          | inl h ↦ subst (λ xs. Fits n false tr (lists_at xs) s) (sym (asked.run h)) (st.fit i n s at is)
+          | inr h ↦
+              let k = st.have.has i n s shown_i.0 at is shown_i.1 in
+              fits_local tr k.own s k.yes k.no old new agree n h
+              (asked.looks (start tr) k.own s.parts (λ t l. begins t (subst (λ z. Lies z t) (sym k.no) l)) k.looks) (st.fit i n s at is)
+        ]
+
+  pub asked_stands : NetStands nodes tr live new
+  asked_stands = record {
+    have = record { count = st.have.count; shown_count = asked.less.count ∙ st.have.shown_count; has = λ j m r x here ir ix. live_one j m r here ir x ix };
+    tidy = st.tidy;
+    shown_tidy = λ p x e. let w = was_shown p x e in w.2.tidy (st.shown_tidy p w.0 w.1);
+    fit = λ j m r here ir. fit_one j m r here ir;
+    known = λ p l. record {
+      yes_in = λ u h y. (agree p).yes_in u h ((st.known p l).yes_in u (shown_less p u h) y);
+      yes_out = λ u o. (st.known p l).yes_out u ((agree p).yes_out u o);
+      no_in = λ u h y. (agree p).no_in u h ((st.known p l).no_in u (shown_less p u h) y);
+      no_out = λ u o. (st.known p l).no_out u ((agree p).no_out u o);
+    };
+    root = elim (child_or_not (length nodes - 1) n) [
+      | inl c ↦ absurd (let a = child_below i (length nodes - 1) n (placed nodes i n formed.post_order at) c in let b = get_within live i s is in let d = st.have.count in omega (arith, a, b, d))
+      | inr c ↦ shown_as old new (length nodes - 1) (start tr) (asked.others (length nodes - 1) c) st.root
+    ];
+  }
+
+-- what stands lies within its bounds
+module _ (nodes : List Node) (tr : Trace) (live shown : List Sets) (st : NetStands nodes tr live shown) where
+  pub live_inside : AreInside live
+  live_inside p s is =
+      let l = get_within live p s is in
+      let c = st.have.count in
+      let d = st.have.shown_count in
+      let n = nodes_at nodes p (omega (arith, l, c)) in
+      let x = sets_at shown p (omega (arith, l, c, d)) in
+      let k = st.have.has p n.0 s x.0 n.1 is x.1 in
+      let w = fits_within n.0 false tr (lists_at shown) s (st.fit p n.0 s n.1 is) in
+      record { yes = λ t o. subst (λ z. Lies z t) (k.yes ∙ sym k.no) (w.yes_within t o); no = w.no_within }
+
+  pub shown_inside : AreInside shown
+  shown_inside p x ix =
+      let l = get_within shown p x ix in
+      let c = st.have.count in
+      let d = st.have.shown_count in
+      let n = nodes_at nodes p (omega (arith, l, d)) in
+      let s = sets_at live p (omega (arith, l, c, d)) in
+      let k = st.have.has p n.0 s.0 x n.1 s.1 ix in
+      record { yes = k.yes_within; no = k.no_within }
+
+-- children stand below what is above their parent
+pub children_more : (n : Node) (i k : ℕ) → i ≤ k → HasChildrenBelow i n → HasChildrenBelow k n
+children_more (Const b) i k l h = tt
+children_more (Leaf a) i k l h = tt
+children_more (Not p) i k l h = omega (arith, l, h)
+children_more (And p q) i k l h = (let a = h.0 in omega (arith, l, a), let a = h.1 in omega (arith, l, a))
+children_more (Or p q) i k l h = (let a = h.0 in omega (arith, l, a), let a = h.1 in omega (arith, l, a))
+children_more (Implies p q) i k l h = (let a = h.0 in omega (arith, l, a), let a = h.1 in omega (arith, l, a))
+children_more (Until p q a b) i k l h = (let a = h.0 in omega (arith, l, a), let a = h.1 in omega (arith, l, a))
+children_more (Eventually p a b u v) i k l h = omega (arith, l, h)
+children_more (Always p a b u v) i k l h = omega (arith, l, h)
+children_more (Since p q a b) i k l h = (let a = h.0 in omega (arith, l, a), let a = h.1 in omega (arith, l, a))
+children_more (Once p a b u v) i k l h = omega (arith, l, h)
+children_more (Historically p a b u v) i k l h = omega (arith, l, h)
+
+-- a time after a place is no earlier than its time
+pub le_after : (c : Place) (t : Rational) → After c t → c.at ≤ʳ t
+le_after c t a = by_side c.after a
+  where
+    by_side : (b : Bool) → MatchBool b (c.at <ʳ t) (c.at ≤ʳ t) → c.at ≤ʳ t
+    by_side true l = le_of_lt l
+    by_side false l = l

@@ -1,0 +1,34 @@
+use Rattle.std.proofs.Common.{◌≡◌, sym, subst}
+use Rattle.std.specs.Prelude.{slice_index_or}
+use Rattle.frac128.specs.Value.{value}
+use Rattle.early_verdict.specs.Spans.{Lies}
+use Rattle.early_verdict.specs.Letting.{IsInside}
+use Rattle.early_verdict.specs.declared.sets.Sets.{Sets}
+use Rattle.early_verdict.proofs.LettingLemmas.{asked_at}
+use Rattle.early_verdict.proofs.Splitting.{at_split}
+use Rattle.early_verdict.proofs.letting.ask_from.Goals as goal
+
+pub narrow_both-requires-clause-tidy : goal.narrow_both-requires-clause-tidy
+narrow_both-requires-clause-tidy c =
+    let f = c.split_at_mut-from in
+    c.requires.tidy c.args.place _ (at_split c.args.shown.now f.result.1.now c.args.place c.index-from-0.result f.ensures.back c.requires.within)
+
+pub narrow_both-requires-clause-yes : goal.narrow_both-requires-clause-yes
+narrow_both-requires-clause-yes c = λ t o.
+    let f = c.split_at_mut-from in
+    let k = c.requires.inside c.args.place _ (at_split c.args.shown.now f.result.1.now c.args.place c.index-from-0.result f.ensures.back c.requires.within) in
+    c.bounds_from.ensures.ends t (subst (λ b. Lies b t) (sym c.bounds-within.ensures) (k.yes t o))
+
+pub narrow_both-requires-clause-no : goal.narrow_both-requires-clause-no
+narrow_both-requires-clause-no c = λ t o.
+    let f = c.split_at_mut-from in
+    let k = c.requires.inside c.args.place _ (at_split c.args.shown.now f.result.1.now c.args.place c.index-from-0.result f.ensures.back c.requires.within) in
+    c.bounds_from.ensures.ends t (subst (λ b. Lies b t) (sym c.bounds-within.ensures) (k.no t o))
+
+pub returns : goal.returns
+returns c =
+    let f = c.split_at_mut-from in
+    asked_at c.args.shown.now f.result.0.now f.result.1.now c.args.place c.index-from-0.result c.narrow_both.new.own (value c.args.cut.now.time) c.bounds_from.result
+    f.ensures.front f.ensures.back c.requires.within c.narrow_both.ensures
+    (λ t l. subst (λ b. Lies b t) c.bounds-within.ensures (c.bounds_from.ensures.within t l))
+    (λ t l. c.bounds_from.ensures.left t (subst (λ b. Lies b t) (sym c.bounds-within.ensures) l))

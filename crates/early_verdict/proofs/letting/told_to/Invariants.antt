@@ -1,0 +1,8 @@
+use Rattle.std.proofs.Common.{◌⊎◌}
+use Rattle.rational.specs.Time.{Rational}
+use Rattle.early_verdict.specs.Cuts.{place, After, Upto}
+use Rattle.early_verdict.specs.Spans.{IsOn}
+use Rattle.early_verdict.proofs.letting.told_to.Given as goal
+
+abbrev pub invariant-runs : goal.invariant-runs
+invariant-runs l = (t : Rational) → After (place l.fn.from) t → Upto (place l.cut) t → IsOn l.fn.own.yes.spans.items t ⊎ IsOn l.fn.own.no.spans.items t

@@ -1,0 +1,16 @@
+use Rattle.std.proofs.Common.{◌≡◌}
+use Rattle.early_verdict.proofs.LettingLemmas.{shows_at}
+use Rattle.early_verdict.proofs.Places.{item_at}
+use Rattle.early_verdict.proofs.Splitting.{at_split}
+use Rattle.early_verdict.proofs.net.show_at.Goals as goal
+
+pub show-requires : goal.show-requires
+show-requires c =
+    let f = c.split_at_mut-from in
+    c.requires.tidy c.args.i _ (at_split c.args.shown.now f.result.1.now c.args.i c.index-from-0.result f.ensures.back c.requires.within)
+
+pub returns : goal.returns
+returns c =
+    let f = c.split_at_mut-from in
+    shows_at c.args.live.now c.args.shown.now f.result.0.now f.result.1.now c.args.i c.index-from-0.result c.show.new.shown c.index-live-i.result f.ensures.front f.ensures.back
+    c.requires.within (item_at c.args.live.now c.args.i c.index-live-i.result c.requires.live_within c.index-live-i.is) c.in_ok-show.ensures

@@ -1,0 +1,40 @@
+use Rattle.std.proofs.Common.{rules, ◌<◌, sym, subst, inl, inr, length, deque_len}
+use Rattle.std.specs.Prelude.{◌^◌}
+use Rattle.rational.specs.Rational.{IsWithin}
+use Rattle.frac128.specs.Value.{value}
+use Rattle.early_verdict.specs.Cuts.{place, Before}
+use Rattle.early_verdict.specs.declared.cut.Cut.{Cut}
+use Rattle.early_verdict.proofs.MakingLemmas.{after_from}
+use Rattle.early_verdict.proofs.ShowingLemmas.{cut_kept, first_ends}
+use Rattle.early_verdict.proofs.StretchLemmas.{rises, room_of_before}
+use Rattle.early_verdict.proofs.showing.cut_front.Goals as goal
+
+abbrev Near : Cut → Type 0
+Near f = IsWithin (2 ^ 34) (value f.time)
+
+pub invariant_of-first : goal.invariant_of-first
+invariant_of-first c =
+    let first = c.in-Some.first.now in
+    let some : 0 < length c.drop_before.new.spans.items = search rules in
+    record {
+      not_empty = room_of_before (place c.later.result) (place first.to) (elim c.later.ensures.one [
+        | inl e ↦ subst (λ f. Before (place f) (place first.to)) (sym e) (rises first)
+        | inr e ↦ subst (λ f. Before (place f) (place first.to)) (sym e)
+            (first_ends (place c.args.cut.now) c.drop_before.new.spans.items first some c.in-Some.ensures.value c.drop_before.ensures.first)
+      ]);
+      low = elim c.later.ensures.one [
+        | inl e ↦ subst (λ f. Near f) (sym e) first.low
+        | inr e ↦ subst (λ f. Near f) (sym e) c.requires.near
+      ];
+      high = first.high;
+    }
+
+pub returns-in-Some-clause-kept : goal.returns-in-Some-clause-kept
+returns-in-Some-clause-kept c =
+    let first = c.in-Some.first.now in
+    let some : 0 < length c.drop_before.new.spans.items = search rules in
+    λ t o. let k = cut_kept (place c.args.cut.now) c.drop_before.new.spans.items first _ some c.in-Some.ensures.value c.drop_before.ensures.tidy c.drop_before.ensures.first
+    (λ u l. (
+      (after_from (place first.from) (place c.later.result) u c.later.ensures.first l.0, l.1),
+      after_from (place c.args.cut.now) (place c.later.result) u c.later.ensures.second l.0,
+    )) t o in (c.drop_before.ensures.kept t k.0, k.1)

@@ -1,0 +1,201 @@
+//! Sets let go of the times that no later answer needs.
+ghost use Rattle.std.specs.Prelude.{◌≡◌, ◌⊎◌, ◌<◌, ◌^◌, List, MatchOption, length};
+ghost use Rattle.rational.specs.Rational.{IsWithin};
+ghost use Rattle.rational.specs.Time.{Rational, later, ◌≤ʳ◌};
+ghost use Rattle.frac128.specs.Value.{value};
+ghost use Rattle.stl_syntax.specs.Trace.{Trace as ATrace};
+ghost use Rattle.stl_syntax.specs.Formula.{HasChildrenBelow};
+ghost use Rattle.stl_syntax.specs.WellFormed.{AreWellFormed};
+ghost use Rattle.early_verdict.specs.Cuts.{place, After, Upto};
+ghost use Rattle.early_verdict.specs.Spans.{AreTidy, IsOn};
+ghost use Rattle.early_verdict.specs.Fitting.{AreSetsTidy};
+ghost use Rattle.early_verdict.specs.Standing.{AllTidy};
+ghost use Rattle.early_verdict.specs.Living.{IsNarrowed, NetStands};
+ghost use Rattle.early_verdict.specs.Letting.{AreAskedBy, AreInside, IsAskedFrom, IsInside, IsSettled, IsSettledAt};
+ghost use Rattle.early_verdict.specs.declared.sets.Sets.{Sets as ASets};
+
+use crate::cut::Cut;
+use crate::operators::ticks_before;
+use crate::sets::{Net, Sets};
+use crate::showing::{bounds_from, narrow};
+use crate::stretch::Stretch;
+use crate::touching::holding;
+use std::collections::VecDeque;
+use stl_syntax::{Formula, Node};
+
+/// Where the stretch ends that holds the times just after the cut; the cut itself, where none does.
+fn past(spans: &VecDeque<Stretch>, cut: Cut) -> Cut
+    requires { AreTidy spans.now.items }
+    ensures { (t : Rational) → After (place cut) t → Upto (place result) t → IsOn spans.now.items t }
+{
+    match holding(spans, &cut) {
+        Some(span) => span.to,
+        None => cut,
+    }
+}
+
+/// A place up to which the two sets tell each time from the cut on.
+fn told_to(own: &Sets, from: Cut) -> Cut
+    requires { AreSetsTidy own.now }
+    ensures { (t : Rational) → After (place from) t → Upto (place result) t → IsOn own.now.yes.spans.items t ⊎ IsOn own.now.no.spans.items t }
+{
+    let mut cut = past(&own.no.spans, from);
+    'runs: for _ in 0..own.yes.spans.len() {
+        let Some(span) = holding(&own.yes.spans, &cut) else {
+            return cut;
+        };
+        cut = past(&own.no.spans, span.to);
+    }
+    cut
+}
+
+/// Lets go of the times before the bounds, in both sets.
+fn narrow_both(own: &mut Sets, bounds: Stretch)
+    requires tidy { AreSetsTidy own.old }
+    requires yes { (t : Rational) → IsOn own.old.yes.spans.items t → Upto (place bounds.to) t }
+    requires no { (t : Rational) → IsOn own.old.no.spans.items t → Upto (place bounds.to) t }
+    ensures { IsNarrowed bounds own.old own.new }
+{
+    narrow(&mut own.yes, bounds);
+    narrow(&mut own.no, bounds);
+}
+
+/// Lets go of the times of a node that are decided, or asked for no more.
+fn settle(own: &mut Sets, shown: &Sets)
+    requires tidy { AreSetsTidy own.old }
+    requires inside { IsInside own.old }
+    ensures { IsSettled shown.now own.old own.new }
+{
+    let within = own.no.bounds();
+    let told = told_to(own, within.from);
+    let from = told.later(shown.no.bounds().from);
+    narrow_both(own, bounds_from(&within, &from));
+}
+
+/// From the cut on a node is asked.
+fn ask_from(shown: &mut [Sets], place: u32, cut: &Cut)
+    requires within { place < length shown.old }
+    requires tidy { AllTidy shown.old }
+    requires inside { AreInside shown.old }
+    ensures { IsAskedFrom place (value cut.now.time) shown.old shown.new }
+{
+    let (_, from) = shown.split_at_mut(place as usize);
+    let own = &mut from[0];
+    let within = own.no.bounds();
+    narrow_both(own, bounds_from(&within, cut));
+}
+
+/// From the cut on two nodes are asked.
+fn ask_both(shown: &mut [Sets], left: u32, right: u32, cut: &Cut)
+    requires left { left < length shown.old }
+    requires right { right < length shown.old }
+    requires tidy { AllTidy shown.old }
+    requires inside { AreInside shown.old }
+    ensures { (mid : List ASets) × IsAskedFrom left (value cut.now.time) shown.old mid × IsAskedFrom right (value cut.now.time) mid shown.new }
+{
+    ask_from(shown, left, cut);
+    ask_from(shown, right, cut);
+}
+
+/// So many ticks after the cut.
+fn cut_after(cut: &Cut, ticks: u32) -> Cut
+    requires { IsWithin (2 ^ 34) (value cut.now.time) }
+    ensures { value result.time ≤ʳ later (value cut.now.time) ticks }
+{
+    cut.shift_begin(i64::from(ticks), true)
+}
+
+/// So many ticks before the cut.
+fn cut_before(cut: &Cut, ticks: u32) -> Cut
+    requires { IsWithin (2 ^ 34) (value cut.now.time) }
+    ensures { later (value result.time) ticks ≤ʳ value cut.now.time }
+{
+    cut.shift_begin(ticks_before(ticks), true)
+}
+
+/// From so far after the cut on a node is asked.
+fn ask_ahead(shown: &mut [Sets], place: u32, low: u32, cut: &Cut)
+    requires within { place < length shown.old }
+    requires tidy { AllTidy shown.old }
+    requires inside { AreInside shown.old }
+    requires near { IsWithin (2 ^ 34) (value cut.now.time) }
+    ensures { (from : Rational) × (from ≤ʳ later (value cut.now.time) low) × IsAskedFrom place from shown.old shown.new }
+{
+    let from = cut_after(cut, low);
+    ask_from(shown, place, &from);
+}
+
+/// From so far before the cut on a node is asked; as before, where no bound is given.
+fn ask_back(shown: &mut [Sets], place: u32, most: &Option<u32>, cut: &Cut)
+    requires within { place < length shown.old }
+    requires tidy { AllTidy shown.old }
+    requires inside { AreInside shown.old }
+    requires near { IsWithin (2 ^ 34) (value cut.now.time) }
+    ensures { MatchOption most.now (shown.new ≡ shown.old) (λ k. (from : Rational) × (later from k ≤ʳ value cut.now.time) × IsAskedFrom place from shown.old shown.new) }
+{
+    let Some(ticks) = most else {
+        return;
+    };
+    let from = cut_before(cut, *ticks);
+    ask_from(shown, place, &from);
+}
+
+/// From where on a node's children are asked, when the node goes on from the cut.
+fn ask_children(shown: &mut [Sets], node: &Node, cut: &Cut)
+    requires children { HasChildrenBelow (length shown.old) node.now }
+    requires tidy { AllTidy shown.old }
+    requires inside { AreInside shown.old }
+    requires near { IsWithin (2 ^ 34) (value cut.now.time) }
+    ensures { AreAskedBy node.now (value cut.now.time) shown.old shown.new }
+{
+    match node {
+        Node::Const(_) | Node::Atom(_) | Node::Until { .. } | Node::Since { .. } => {}
+        Node::Not(of) => ask_from(shown, *of, cut),
+        Node::And(left, right) => ask_both(shown, *left, *right, cut),
+        Node::Or(left, right) => ask_both(shown, *left, *right, cut),
+        Node::Implies(left, right) => ask_both(shown, *left, *right, cut),
+        Node::Eventually { of, low, .. } => ask_ahead(shown, *of, *low, cut),
+        Node::Always { of, low, .. } => ask_ahead(shown, *of, *low, cut),
+        Node::Once { of, high, .. } => ask_back(shown, *of, high, cut),
+        Node::Historically { of, high, .. } => ask_back(shown, *of, high, cut),
+    }
+}
+
+/// Lets go of the times of the node at a place that are decided, or asked for no more.
+fn settle_at(live: &mut [Sets], shown: &[Sets], i: usize)
+    requires live { i < length live.old }
+    requires shown { i < length shown.now }
+    requires tidy { AllTidy live.old }
+    requires inside { AreInside live.old }
+    ensures { IsSettledAt i shown.now live.old live.new }
+{
+    let (_, from) = live.split_at_mut(i);
+    settle(&mut from[0], &shown[i]);
+}
+
+/// Lets go of what the node at the place needs no more, of its own and of its children's.
+fn let_go_at(live: &mut [Sets], shown: &mut [Sets], formula: &Formula, i: u32)
+    requires within { i < length formula.now.nodes }
+    requires formed { AreWellFormed formula.now.nodes }
+    requires stands { (tr : ATrace) × NetStands formula.now.nodes tr live.old shown.old }
+    ensures { (tr : ATrace) → NetStands formula.now.nodes tr live.old shown.old → NetStands formula.now.nodes tr live.new shown.new }
+{
+    let at = i as usize;
+    settle_at(live, shown, at);
+    let own = live[at].no.bounds();
+    ask_children(shown, formula.node(i), &own.from);
+}
+
+/// Lets go of the times that no later answer needs, from the root down.
+pub(crate) fn let_go(net: &mut Net, formula: &Formula)
+    requires { (tr : ATrace) × NetStands formula.now.nodes tr net.old.live.items net.old.shown.items }
+    ensures { (tr : ATrace) → NetStands formula.now.nodes tr net.old.live.items net.old.shown.items
+        → NetStands formula.now.nodes tr net.new.live.items net.new.shown.items }
+{
+    let count = formula.len();
+    let mut i = count;
+    while i > 0 {
+        i -= 1;
+        let_go_at(&mut net.live, &mut net.shown, formula, i);
+    }
+}

@@ -1,0 +1,99 @@
+//! What a set shows the ones above it, and what it lets go of.
+ghost use Rattle.std.specs.Prelude.{◌≡◌, ◌⊎◌, ◌^◌, OnOk, IfSome, IfNone, Some, [], slice_get};
+ghost use Rattle.rational.specs.Rational.{IsWithin};
+ghost use Rattle.rational.specs.Time.{Rational, ◌<ʳ◌};
+ghost use Rattle.frac128.specs.Value.{value};
+ghost use Rattle.early_verdict.specs.Cuts.{place, After, Upto};
+ghost use Rattle.early_verdict.specs.Spans.{AreTidy, IsOn, Lies};
+ghost use Rattle.early_verdict.specs.Steps.{Gains};
+ghost use Rattle.early_verdict.specs.Showing.{EndsAfter, TakesIn};
+
+use crate::cut::Cut;
+use crate::grown::Grown;
+use crate::pointwise::add_all;
+use crate::stretch::Stretch;
+use frac128::Memory;
+use std::collections::VecDeque;
+
+/// Takes in what the other set gained, as far as it lies in the bounds, and notes what is new of it.
+pub(crate) fn take_in(own: &mut Grown, x: &Grown) -> Result<(), Memory>
+    requires { AreTidy own.old.spans.items }
+    ensures tidy { OnOk result (AreTidy own.new.spans.items) }
+    ensures bounds { own.new.bounds ≡ own.old.bounds }
+    ensures gains { OnOk result (Gains own.old.spans.items own.new.spans.items own.new.fresh.items) }
+    ensures takes { OnOk result (TakesIn own.old.bounds own.old.spans.items own.new.spans.items x.now.fresh.items) }
+{
+    own.rest();
+    add_all(own, &x.fresh)
+}
+
+/// The first of the stretches.
+fn front(spans: &VecDeque<Stretch>) -> Option<Stretch>
+    ensures some { IfSome result (λ s. slice_get spans.now.items 0 ≡ Some s) }
+    ensures none { IfNone result (spans.now.items ≡ []) }
+{
+    let first = *spans.get(0)?;
+    Some(first)
+}
+
+/// Lets go of the stretches that end before the cut or at it.
+fn drop_before(spans: &mut VecDeque<Stretch>, cut: &Cut)
+    requires { AreTidy spans.old.items }
+    ensures tidy { AreTidy spans.new.items }
+    ensures kept { (t : Rational) → IsOn spans.new.items t → IsOn spans.old.items t }
+    ensures left { (t : Rational) → IsOn spans.old.items t → IsOn spans.new.items t ⊎ Upto (place cut.now) t }
+    ensures first { EndsAfter (place cut.now) spans.new.items }
+{
+    while let Some(first) = front(spans) {
+        if cut.precedes(&first.to) {
+            return;
+        }
+        let _ = spans.pop_front();
+    }
+}
+
+/// Lets go of the times before the cut.
+fn cut_front(spans: &mut VecDeque<Stretch>, cut: &Cut)
+    requires tidy { AreTidy spans.old.items }
+    requires near { IsWithin (2 ^ 34) (value cut.now.time) }
+    ensures tidy { AreTidy spans.new.items }
+    ensures kept { (t : Rational) → IsOn spans.new.items t → IsOn spans.old.items t × After (place cut.now) t }
+    ensures left { (t : Rational) → IsOn spans.old.items t → After (place cut.now) t → IsOn spans.new.items t }
+{
+    drop_before(spans, cut);
+    if let Some(first) = spans.front_mut() {
+        *first = Stretch {
+            from: first.from.later(*cut),
+            to: first.to,
+        };
+    }
+}
+
+/// Lets go of the times before the new bounds.
+pub(crate) fn narrow(own: &mut Grown, bounds: Stretch)
+    requires tidy { AreTidy own.old.spans.items }
+    requires ends { (t : Rational) → IsOn own.old.spans.items t → Upto (place bounds.to) t }
+    ensures tidy { AreTidy own.new.spans.items }
+    ensures bounds { own.new.bounds ≡ bounds }
+    ensures kept { (t : Rational) → IsOn own.new.spans.items t → IsOn own.old.spans.items t × Lies bounds t }
+    ensures left { (t : Rational) → Lies bounds t → IsOn own.old.spans.items t → IsOn own.new.spans.items t }
+{
+    cut_front(&mut own.spans, &bounds.from);
+    own.bounds = bounds;
+}
+
+/// The bounds from the time of the cut on; as they are, where no time would be left.
+pub(crate) fn bounds_from(bounds: &Stretch, cut: &Cut) -> Stretch
+    ensures within { (t : Rational) → Lies result t → Lies bounds.now t }
+    ensures left { (t : Rational) → Lies bounds.now t → Lies result t ⊎ (t <ʳ value cut.now.time) }
+    ensures ends { (t : Rational) → Lies bounds.now t → Upto (place result.to) t }
+{
+    let first = Cut {
+        time: cut.time,
+        after: false,
+    };
+    match Stretch::make(first, bounds.to, bounds) {
+        Some(rest) => rest,
+        None => *bounds,
+    }
+}
