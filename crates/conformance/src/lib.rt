@@ -30,6 +30,8 @@ mod io_edge_tests;
 #[cfg(test)]
 mod margin_tests;
 #[cfg(test)]
+mod mux_tests;
+#[cfg(test)]
 mod online_net_tests;
 #[cfg(test)]
 mod online_nodes_tests;
@@ -47,6 +49,8 @@ mod report_tests;
 mod run_tests;
 #[cfg(test)]
 mod seg_pool_tests;
+#[cfg(test)]
+mod session_mux_tests;
 #[cfg(test)]
 mod shape_tests;
 #[cfg(test)]

@@ -723,7 +723,7 @@ fn refused<'a>(words: &'a [&'a str], err: &'a str, status: u8) -> Case<'a> {
 }
 
 const USAGE: &str =
-    "usage: check F | watch F | robust F | explain F | json F | table F | gen NUMBER ROWS | early F\n";
+    "usage: check F | watch F | robust F | explain F | json F | table F | gen NUMBER ROWS | early F | mux F\n";
 
 /// Words that are no form.
 const NO_FORMS: [&[&str]; 15] = [

@@ -66,7 +66,7 @@ whole_here : (g : ℤ) → whole (g +ℤ pos 0) ≈ whole g
 whole_here g = let e : g +ℤ pos 0 ≡ g = omega (arith, ints) in subst (λ n. whole (g +ℤ pos 0) ≈ whole n) e (same_refl (whole (g +ℤ pos 0)))
 
 -- an input whose number is not below the start has given out lines
-inputs_of : (F : Function) (reach start : ℕ) (back : Option ℤ) (f : ℤ) (lines : List MarginLine) → pos start ≤ℤ f → IsInput F reach start back f lines
+pub inputs_of : (F : Function) (reach start : ℕ) (back : Option ℤ) (f : ℤ) (lines : List MarginLine) → pos start ≤ℤ f → IsInput F reach start back f lines
     → AreInputs F reach start back f lines
 inputs_of F reach start back f lines le input = by_test (int_lt f (pos start)) refl input
   where
@@ -85,7 +85,7 @@ ends_after F u to (Gap a b p ∷ Point w v ∷ lines) told joined = lt_of_le_of_
 ends_after F u to (Point w v ∷ lines) told joined = absurd joined
 
 module _ (F : Function) (reach start : ℕ) (f : ℤ) (lines : List MarginLine) where
-  begins : AreInputs F reach start None f lines → Begins F reach (whole (pos start)) (whole f) lines
+  pub begins : AreInputs F reach start None f lines → Begins F reach (whole (pos start)) (whole f) lines
   begins inputs = by_left inputs.left
     where
       by_left : AreLeft start None f lines → Begins F reach (whole (pos start)) (whole f) lines
@@ -109,7 +109,7 @@ module _ (F : Function) (reach start : ℕ) (f : ℤ) (lines : List MarginLine) 
             };
           }
 
-  ahead : (back : ℤ) (t : Rational) → whole back ≈ t → AreInputs F reach start (Some back) f lines → IsAhead F reach t (whole f) lines
+  pub ahead : (back : ℤ) (t : Rational) → whole back ≈ t → AreInputs F reach start (Some back) f lines → IsAhead F reach t (whole f) lines
   ahead back t e inputs = by_left inputs.left
     where
       weaker : (o : Option MarginLine) → IfSome o (λ x. whole back <ʳ value (end_of x)) → IfSome o (λ x. t <ʳ value (end_of x))
@@ -146,7 +146,7 @@ reached_before G most (Some g) last from is (r, kept, reached) =
     subst (HasReached G most from) (sym kept) (subst (λ t. HasReached G most t (Some r)) (sym (is g refl)) reached)
 
 -- and as it leaves it
-stood_after : (G : Function) (most : ℕ) (g : ℤ) (last : Option Reached) → IsSome last → HasReached G most (whole g) last → HasStood G most (Some g) last
+pub stood_after : (G : Function) (most : ℕ) (g : ℤ) (last : Option Reached) → IsSome last → HasReached G most (whole g) last → HasStood G most (Some g) last
 stood_after G most g None some reached = absurd (let e = some in cc)
 stood_after G most g (Some r) some reached = (r, refl, reached)
 
@@ -189,7 +189,7 @@ same_told F G from to s same tells = record {
 -- ---- a crossing in play
 
 -- what crosses in play in one way does so in another
-crossing_by : (A B : Rational → Affine → Type 0) (from to : Rational) (p q : Affine) (a b : Rational) (den : ℕ) → ((tau : Rational) (line : Affine) → A tau line → B tau line)
+pub crossing_by : (A B : Rational → Affine → Type 0) (from to : Rational) (p q : Affine) (a b : Rational) (den : ℕ) → ((tau : Rational) (line : Affine) → A tau line → B tau line)
     → IsWideCrossing A from to p q a b den → IsWideCrossing B from to p q a b den
 crossing_by A B from to p q a b den more h = record {
   tau = h.tau;
@@ -236,24 +236,24 @@ module _ (t : Turn) (op : Operator) (e : Held) (to : ℕ) (b : Belongs t op e to
   abbrev own : Subformula
   own = subformula t.nodes t.place
 
-  tree : own ≡ tree_of (subformula t.nodes) t.place b.node
+  pub tree : own ≡ tree_of (subformula t.nodes) t.place b.node
   tree = tree_at_node t.nodes b.formed t.place b.node b.at
 
-  from_none : t.before ≡ None → from_of t ≡ whole (pos (begin_of t))
+  pub from_none : t.before ≡ None → from_of t ≡ whole (pos (begin_of t))
   from_none e = by_before t.before e
     where
       by_before : (o : Option ℤ) → o ≡ None → from_of (record t { before = o }) ≡ whole (pos (begin_of t))
       by_before None e = refl
       by_before (Some g) e = absurd (let f = e in cc)
 
-  from_some : (g : ℤ) → t.before ≡ Some g → from_of t ≡ whole g
+  pub from_some : (g : ℤ) → t.before ≡ Some g → from_of t ≡ whole g
   from_some g e = by_before t.before e
     where
       by_before : (o : Option ℤ) → o ≡ Some g → from_of (record t { before = o }) ≡ whole g
       by_before None e = absurd (let f = e in cc)
       by_before (Some h) e = ap whole (some_is e)
 
-  low_before : IfSome t.before (λ g. pos (begin_of t) ≤ℤ g)
+  pub low_before : IfSome t.before (λ g. pos (begin_of t) ≤ℤ g)
   low_before = by_before t.before b.forth
     where
       by_before : (o : Option ℤ) → IfSome o (λ g. (pos (begin_of t) ≤ℤ g) × (g <ℤ pos to)) → IfSome o (λ g. pos (begin_of t) ≤ℤ g)
@@ -261,7 +261,7 @@ module _ (t : Turn) (op : Operator) (e : Held) (to : ℕ) (b : Belongs t op e to
       by_before (Some g) h = h.0
 
   -- where it begins lies between the start and its number
-  span_from : (whole (pos (begin_of t)) ≤ʳ from_of t) × (from_of t ≤ʳ whole (pos to))
+  pub span_from : (whole (pos (begin_of t)) ≤ʳ from_of t) × (from_of t ≤ʳ whole (pos to))
   span_from = by_before t.before b.forth
     where
       by_before : (o : Option ℤ) → IfSome o (λ g. (pos (begin_of t) ≤ℤ g) × (g <ℤ pos to))
@@ -272,20 +272,20 @@ module _ (t : Turn) (op : Operator) (e : Held) (to : ℕ) (b : Belongs t op e to
       )
       by_before (Some g) h = (le_whole {j = pos (begin_of t)} {k = g} h.0, le_whole {j = g} {k = pos to} (let lt = h.1 in omega (arith, ints, lt)))
 
-  small_to : to ≤ t.now
+  pub small_to : to ≤ t.now
   small_to = below t.ended b.number
     where
       below : (c : Bool) → pos to ≡ front_at c (pos t.now) own → to ≤ t.now
       below true e = omega (arith, ints, e)
       below false e = omega (arith, ints, e)
 
-  tick_of : (n : ℕ) → n ≤ to → IsTick (whole (pos n))
+  pub tick_of : (n : ℕ) → n ≤ to → IsTick (whole (pos n))
   tick_of n le =
       let top = small_to in
       let most = b.small_now in
       (le_whole {j = pos 0} {k = pos n} (omega (arith, ints)), le_whole {j = pos n} {k = pos 4294967295} (omega (arith, ints, le, top, most)))
 
-  last_to : whole (pos to) ≤ʳ stop t.trace
+  pub last_to : whole (pos to) ≤ʳ stop t.trace
   last_to =
       let top = small_to in
       let last = b.by_now in
@@ -299,7 +299,7 @@ module _ (t : Turn) (op : Operator) (e : Held) (to : ℕ) (b : Belongs t op e to
       by_end true e = omega (arith, ints, e)
       by_end false e = omega (arith, ints, e, le)
 
-  input_within : (j : ℕ) (left : Bool) → IsReader b.node left j → j < length e.edges
+  pub input_within : (j : ℕ) (left : Bool) → IsReader b.node left j → j < length e.edges
   input_within j left reads =
       let lower = reader_above t.nodes b.formed t.place b.node left j b.at reads in
       let within = slice_get_within t.nodes t.place b.node b.at in

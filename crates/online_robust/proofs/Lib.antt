@@ -15,6 +15,7 @@ mod Leaves
 mod LeafMoved
 mod Loops
 mod Apart
+mod BestWindows
 mod Bridging
 mod Firsting
 mod Standings
@@ -49,6 +50,16 @@ pub mod WindowBounds
 pub mod WindowTelling
 pub mod WindowFirst
 pub mod Countdown
+mod Glancing
+mod Instants
+mod Looking
+mod WindowNodes
+mod WindowBridging
+mod WindowTurnings
+pub mod WaitBridging
+pub mod WaitPast
+mod FirstWindows
+mod GlanceBridging
 pub mod WindowCauses
 pub mod WindowFaults
 pub mod WindowRuns
@@ -56,3 +67,9 @@ pub mod WindowAgain
 pub mod PastLemmas
 pub mod PastSteps
 pub mod PastAgain
+pub mod BestPasts
+pub mod PastNodes
+pub mod PastBridging
+pub mod PastTurnings
+pub mod LazyTurns
+pub mod EndlessTurns

@@ -15,3 +15,5 @@ pub mod Couples
 pub mod Sweeping
 pub mod Windows
 pub mod WindowPasts
+pub mod Glances
+pub mod Waiting

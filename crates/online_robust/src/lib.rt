@@ -1,9 +1,12 @@
-//! Streamed margins, in work: the parts of a margin over time, the edges between the nodes of a network, and the best of constants that
+//! Streamed margins: the parts of a margin over time, the edges between the nodes of a network, and the best of constants that
 //! come and leave.
 #![tactic(auto)]
 
 mod edges;
+mod endless;
 mod ends;
+mod glance;
+mod lazy;
 mod line;
 mod net;
 mod operator;

@@ -9,7 +9,7 @@ ghost use Rattle.stl_syntax.specs.declared.node.Node.{Node as ANode};
 ghost use Rattle.atom_lines.specs.Binding.{Binding, IsBound};
 ghost use Rattle.online_robust.specs.Held.{held_at};
 ghost use Rattle.online_robust.specs.Firsts.{AreFirstStations};
-ghost use Rattle.online_robust.specs.Standing.{IsStreamed};
+ghost use Rattle.online_nodes.specs.StreamedWide.{IsUnstreamed};
 ghost use Rattle.online_robust.specs.Pasts.{Past, shown_of, with_row, with_end};
 ghost use Rattle.online_robust.specs.Nets.{begun, CanGoByRow, CanGoByEnd, HasGone, IsFaultAt, IsGoFault, Passing};
 ghost use Rattle.online_robust.specs.declared.line.MarginLine.{MarginLine as Line};
@@ -85,7 +85,7 @@ fn fault_at(node: u32, fault: OpFault<Margin>) -> RobustFault
 
 /// The nodes of a formula, before any row.
 fn stations_of(alloc: Global, formula: &Formula) -> Result<Vec<Station>, Memory>
-    requires { (i : ℕ) (n : ANode) → slice_get formula.now.nodes i ≡ Some n → IsStreamed n }
+    requires { (i : ℕ) (n : ANode) → slice_get formula.now.nodes i ≡ Some n → ¬ IsUnstreamed n }
     ensures { IfOk result (λ v. AreFirstStations formula.now.nodes (length formula.now.nodes) v.items) }
 {
     let mut stations = Vec::new(alloc);
@@ -164,15 +164,14 @@ fn take_end_all(
 impl RobustNet {
     ghost use Rattle.online_robust.specs.Nets.{no_past, IsClosed, IsFault, IsFed, IsHeldBy, IsNear, IsTaken, IsWideIn, left_of, StandsFor};
 
-    /// The network of a formula that is bound to a header's columns, and has no until and no since. Windows are not built yet, so it has
-    /// none of them either. It stands for no rows.
+    /// The network of a formula that is bound to a header's columns, and has no until and no since. It stands for no rows.
     ///
     /// # Errors
     ///
     /// `Memory` where there is no memory.
     pub fn new(alloc: Global, formula: &Formula, bound: Bound) -> Result<RobustNet, Memory>
         requires bound { (header : Header) × IsBound bound formula.now header }
-        requires streamed { (i : ℕ) (n : ANode) → slice_get formula.now.nodes i ≡ Some n → IsStreamed n }
+        requires streamed { (i : ℕ) (n : ANode) → slice_get formula.now.nodes i ≡ Some n → ¬ IsUnstreamed n }
         ensures stands { (header : Header) → IsBound bound formula.now header
             → IfOk result (λ net. StandsFor formula.now.nodes header net no_past []) }
         ensures nodes { IfOk result (λ net. length net.stations ≡ length formula.now.nodes) }

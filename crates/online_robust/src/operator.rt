@@ -1,11 +1,18 @@
 //! The operator of a node: what it keeps in mind of its inputs, and how it goes on.
-ghost use Rattle.std.specs.Prelude.{◌≡◌, IfOk, IfErr, OnOk, Some, None};
-ghost use Rattle.online_robust.specs.Standing.{IsStreamed};
+ghost use Rattle.std.specs.Prelude.{◌≡◌, ◌≤◌, ◌≤ℤ◌, if◌then◌else◌, false, IfOk, IfErr, IfSome, MatchOption, OnOk, Some, None};
+ghost use Rattle.stl_syntax.specs.WellFormed.{HasBounds, IsInOrder};
+ghost use Rattle.online_nodes.specs.StreamedWide.{IsUnstreamed};
+ghost use Rattle.online_robust.specs.Standing.{IsWindowOperator, ahead_window, behind_window, past_window};
+ghost use Rattle.online_robust.specs.Waiting.{endless_of};
 ghost use Rattle.online_robust.specs.declared.operator.Operator.TheVariants as Op;
 ghost use Rattle.online_robust.specs.Turns.{Turn, Belongs, BelongsSomewhere, HasSwept, IsFirstOperator, IsStreamedFault, IsSwept, StandsNow};
 
 use crate::edges::Edges;
+use crate::endless::Endless;
+use crate::glance::Moved;
+use crate::lazy::Lazy;
 use crate::pointwise::{Not, Two};
+use crate::window::Window;
 use frac128::Frac;
 use pl_signal::{OpFault, Side, Signal};
 use std::alloc::Global;
@@ -17,6 +24,9 @@ use value_laws::Margin;
 pub(crate) enum Operator {
     Not(Not),
     Two(Two),
+    Moved(Moved),
+    Sweep(Lazy),
+    Past(Endless),
 }
 
 /// A connective before anything was told.
@@ -30,6 +40,66 @@ fn two(left: u32, right: u32, side: Side, turned: bool) -> Option<Operator>
         turned,
         last: None,
     }))
+}
+
+/// The operator of a window from one offset to another, each in or out: of a stretch, of one instant, or empty.
+fn window(of: u32, side: Side, low: i64, high: i64, low_in: bool, high_in: bool) -> Operator
+    requires { low ≤ℤ high }
+    ensures { IsWindowOperator (record { of = of; side = side; low = low; high = high; low_in = low_in; high_in = high_in }) result }
+{
+    if low < high {
+        return Operator::Sweep(Lazy::new(Window {
+            of,
+            side,
+            low,
+            high,
+            low_in,
+            high_in,
+        }));
+    }
+    Operator::Moved(Moved {
+        of,
+        side,
+        by: low,
+        inside: both(low_in, high_in),
+        last: None,
+    })
+}
+
+/// That of a window ahead.
+fn ahead(of: u32, side: Side, low: u32, high: u32, low_in: bool, high_in: bool) -> Operator
+    requires { low ≤ high }
+    ensures { IsWindowOperator (ahead_window of side low high low_in high_in) result }
+{
+    window(of, side, i64::from(low), i64::from(high), low_in, high_in)
+}
+
+/// That of a window behind: without a low end where it has no far bound.
+fn behind(of: u32, side: Side, low: u32, high: Option<u32>, low_in: bool, high_in: bool) -> Operator
+    requires { IsInOrder low high }
+    ensures { MatchOption high (result ≡ Op.Past (endless_of (past_window of side low low_in))) (λ b. IsWindowOperator (behind_window of side low b low_in high_in) result) }
+{
+    match high {
+        Some(high) => window(of, side, -i64::from(high), -i64::from(low), high_in, low_in),
+        None => Operator::Past(Endless::new(Window {
+            of,
+            side,
+            low: -4294967296,
+            high: -i64::from(low),
+            low_in: true,
+            high_in: low_in,
+        })),
+    }
+}
+
+/// Whether both are in.
+fn both(low_in: bool, high_in: bool) -> bool
+    ensures { result ≡ (if low_in then high_in else false) }
+{
+    if low_in {
+        return high_in;
+    }
+    false
 }
 
 /// A negation goes on to a number.
@@ -72,10 +142,34 @@ fn sweep_two(
     }
 }
 
+/// A window of one instant goes on to a number.
+fn sweep_moved(
+    moved: &mut Moved,
+    alloc: Global,
+    edges: &mut Edges,
+    to: u32,
+) -> Result<Signal<Margin>, OpFault<Margin>>
+    requires { BelongsSomewhere (Op.Moved moved.old) edges.old to }
+    ensures told { (t : Turn) → Belongs t (Op.Moved moved.old) edges.old to → IfOk result (IsSwept t to) }
+    ensures edges { (t : Turn) → Belongs t (Op.Moved moved.old) edges.old to → OnOk result (HasSwept t edges.old edges.new to) }
+    ensures stands { (t : Turn) → Belongs t (Op.Moved moved.old) edges.old to → OnOk result (StandsNow t (Op.Moved moved.new) edges.new to) }
+    ensures wide { (t : Turn) → Belongs t (Op.Moved moved.old) edges.old to → IfErr result (IsStreamedFault t) }
+{
+    let Some(start) = edges.start() else {
+        unreachable!()
+    };
+    let end = Frac::of(i64::from(to));
+    match moved.sweep(alloc, edges, start, &end) {
+        Ok(swept) => Ok(swept),
+        Err(_) => Err(OpFault::Memory),
+    }
+}
+
 impl Operator {
-    /// The operator of a node before it gave out anything; none at a constant and at an atom. Windows are not built yet.
+    /// The operator of a node before it gave out anything; none at a constant and at an atom.
     pub(crate) fn new(node: &Node) -> Option<Operator>
-        requires { IsStreamed node.now }
+        requires streamed { ¬ IsUnstreamed node.now }
+        requires bounds { HasBounds node.now }
         ensures { IsFirstOperator node.now result }
     {
         match node {
@@ -90,10 +184,34 @@ impl Operator {
             Node::Implies(left, right) => two(*left, *right, Side::Greatest, true),
             Node::Until { .. } => unreachable!(),
             Node::Since { .. } => unreachable!(),
-            Node::Eventually { .. } => unreachable!(),
-            Node::Always { .. } => unreachable!(),
-            Node::Once { .. } => unreachable!(),
-            Node::Historically { .. } => unreachable!(),
+            Node::Eventually {
+                of,
+                low,
+                high,
+                low_in,
+                high_in,
+            } => Some(ahead(*of, Side::Greatest, *low, *high, *low_in, *high_in)),
+            Node::Always {
+                of,
+                low,
+                high,
+                low_in,
+                high_in,
+            } => Some(ahead(*of, Side::Least, *low, *high, *low_in, *high_in)),
+            Node::Once {
+                of,
+                low,
+                high,
+                low_in,
+                high_in,
+            } => Some(behind(*of, Side::Greatest, *low, *high, *low_in, *high_in)),
+            Node::Historically {
+                of,
+                low,
+                high,
+                low_in,
+                high_in,
+            } => Some(behind(*of, Side::Least, *low, *high, *low_in, *high_in)),
         }
     }
 
@@ -118,6 +236,9 @@ impl Operator {
         match self {
             Operator::Not(not) => sweep_not(not, alloc, edges, to),
             Operator::Two(two) => sweep_two(two, alloc, edges, to),
+            Operator::Moved(moved) => sweep_moved(moved, alloc, edges, to),
+            Operator::Sweep(window) => window.sweep(alloc, edges, to),
+            Operator::Past(window) => window.sweep(alloc, edges, to),
         }
     }
 }

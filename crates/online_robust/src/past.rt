@@ -75,6 +75,14 @@ impl Past {
         }
     }
 
+    /// It was told up to a time before its high end comes to the start.
+    pub(crate) fn stand(&mut self, reached: Reached)
+        ensures { self.new ≡ record self.old { at = reached.at; last = Some reached } }
+    {
+        self.at = reached.at;
+        self.last = Some(reached);
+    }
+
     /// The high end stands on a point, and goes on: the gap behind it is known.
     fn go_high(&mut self, edges: &mut Edges, point: &Reached) -> Result<(), OpFault<Margin>>
         requires { (x : Scope) × IsPastAt x self.old edges.old × (self.old.point ≡ Some point.now)

@@ -4,7 +4,8 @@ ghost use Rattle.stl_syntax.specs.Formula.{HasChildrenBelow, horizon};
 ghost use Rattle.stl_syntax.specs.Horizons.{horizon_above};
 ghost use Rattle.stl_syntax.specs.Trace.{Header};
 ghost use Rattle.stl_syntax.specs.declared.node.Node.{Node as ANode};
-ghost use Rattle.online_robust.specs.Standing.{IsStreamed};
+ghost use Rattle.stl_syntax.specs.WellFormed.{HasBounds};
+ghost use Rattle.online_nodes.specs.StreamedWide.{IsUnstreamed};
 ghost use Rattle.online_robust.specs.Turns.{IsLeaf};
 ghost use Rattle.online_robust.specs.Putting.{lines_of, HasPutOut};
 ghost use Rattle.online_robust.specs.Moving.{Move, CanGiveOut, CanGoTo, CanMoveByRow, CanMoveByEnd, HasMoved, IsFaultOf};
@@ -51,7 +52,8 @@ fn leaf_of(node: &Node) -> Work
 
 /// What a node does, before any row.
 pub(crate) fn work_of(node: &Node) -> Work
-    requires { IsStreamed node.now }
+    requires streamed { ¬ IsUnstreamed node.now }
+    requires bounds { HasBounds node.now }
     ensures { IsFirstWork node.now result }
 {
     match Operator::new(node) {

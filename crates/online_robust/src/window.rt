@@ -232,6 +232,14 @@ impl Sweep {
         }
     }
 
+    /// It was told up to a time before its high end comes to the start.
+    pub(crate) fn stand(&mut self, reached: Reached)
+        ensures { self.new ≡ record self.old { place = record self.old.place { at = reached.at }; last = Some reached } }
+    {
+        self.place.at = reached.at;
+        self.last = Some(reached);
+    }
+
     /// Whether a knot at the time may come strictly into a window after the start.
     fn counts(&self, u: &Frac) -> bool
         requires { (x : Scope) × IsFitWindow self.now.window x.reach × IsTick (value self.now.start) }

@@ -267,15 +267,17 @@ module _ (f : Formula) (i : Input) (bytes written : List ℕ) (k : IsTaking f i 
       → ((p : Past) → StandsFor p mid → IsEndCall p new before after (Ok tt)) → HasAll f new bytes (written ++ after)
   all_taken mid new before after h over end =
       let ((ends, are, added), tags) = end (record { formula = f; seen = h.tagged }) h.stands in
+      let tagged : AreTagged (lines true bytes) h.tagged = subst (λ ls. AreTagged ls h.tagged) (sym lines_all) (passed_tagged h.passed) in
       record {
         owed = record {
           tagged = h.tagged;
           whole = true;
-          before = sound (no_fault mid (written ++ before) h) (subst (λ ls. AreTagged ls h.tagged) (sym lines_all) (passed_tagged h.passed));
+          before = sound (no_fault mid (written ++ before) h) tagged;
           is = (written ++ before, ends, h.told, are, ap (λ t. written ++ t) added ∙ sym (append_assoc written before ends));
         };
         sound = no_fault mid (written ++ before) h;
         seen = h.tagged;
+        are = tagged;
         tags = tags;
         ended = over;
       }

@@ -12,5 +12,7 @@ pub mod EndsTold
 mod Tagging
 pub mod Passing
 pub mod Inputting
+pub mod FrontLines
+pub mod OwedLines
 pub mod PlainTexts
 pub mod HearingLemmas

@@ -4,7 +4,7 @@ use Rattle.stl_syntax.specs.Characters.{is_among}
 use Rattle.stl_syntax.specs.Formula.{Formula}
 use Rattle.trace_reader.specs.TraceText.{Line, lines, content, is_blank_line}
 use Rattle.trace_reader.specs.Feeds.{HasNoFeed}
-use Rattle.session_mux.specs.Sessions.{Tagged, IsTagged, AreAnswers}
+use Rattle.session_mux.specs.Sessions.{Tagged, IsTagged, AreTagged, AreAnswers}
 use Rattle.session_mux.specs.Knowing.{tags_of}
 use Rattle.session_mux.specs.Muxes.{Muxed, Past, StandsFor, HasTags, HasTaken}
 use Rattle.session_mux.specs.declared.mux.Phase.TheVariants.{Ended}
@@ -92,6 +92,7 @@ pub record HasAll (f : Formula) (mux : Muxed) (bytes text : List ℕ) : Type 0 w
   pub owed : OwesLines f bytes true text
   pub sound : (x : InputFault) → ¬ FaultOfInput 1 [] (lines true bytes) x
   pub seen : List Tagged
+  pub are : AreTagged (lines true bytes) seen
   pub tags : HasTags (record { formula = f; seen = seen }) mux
   pub ended : mux.phase ≡ Ended
 

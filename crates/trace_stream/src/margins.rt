@@ -1,22 +1,19 @@
 //! The margins of a formula as the rows of a trace come: a network of margins follows them.
-ghost use Rattle.std.specs.Prelude.{◌≡◌, ◌^◌, ℕ, List, [], false, true, Some, slice_get, IfOk, IfErr, OnOk};
-ghost use Rattle.stl_syntax.specs.Formula.{Formula as Parsed};
+ghost use Rattle.std.specs.Prelude.{◌≡◌, ◌^◌, ℕ, List, false, true, IfOk, IfErr, OnOk};
 ghost use Rattle.stl_syntax.specs.Trace.{IsTrace};
-ghost use Rattle.stl_syntax.specs.declared.node.Node.{Node as ANode};
 ghost use Rattle.stl_syntax.specs.declared.scale.Scale.{Scale as Ticks};
 ghost use Rattle.online_nodes.specs.MarginEdges.{IsPartLine};
-ghost use Rattle.online_robust.specs.Standing.{IsStreamed};
 ghost use Rattle.online_robust.specs.Nets.{IsNear};
 ghost use Rattle.online_robust.specs.Pasts.{part_of as as_part};
 ghost use Rattle.report.specs.PartLines.{IsPartLine as IsReported, IsPartWithin};
-ghost use Rattle.trace_stream.specs.Cases.{IsCase, Takes, with_row};
+ghost use Rattle.trace_stream.specs.Cases.{Takes, with_row};
 ghost use Rattle.trace_stream.specs.Streams.{margins};
 ghost use Rattle.trace_stream.specs.Following.{Follows, HasFollowed, IsFollowedOn, IsFollowedOut, IsFollowFault, IsUnwritten};
 ghost use Rattle.trace_stream.specs.Margining.{denominator_of, fault_of, Given, HasTakenAll, IsMargined, IsOfFirst, IsStanding};
 ghost use Rattle.trace_stream.specs.declared.case.Case.{Case as Of};
 
 use crate::case::Case;
-use crate::follow::FollowFault;
+use crate::follow::{Follow, FollowFault};
 use frac128::Memory;
 use online_robust::{MarginLine, RobustFault, RobustNet};
 use pl_signal::WidePair;
@@ -72,23 +69,15 @@ fn first_fault(fault: RobustFault) -> FollowFault
 }
 
 impl Margins {
-    /// What follows a case without rows, whose formula has a network of margins.
-    ///
-    /// # Errors
-    /// Want of memory.
-    pub fn begin(alloc: Global, case: Case) -> Result<Margins, Memory>
-        requires case { (f : Parsed) × IsCase f case }
-        requires none { case.trace.rows ≡ [] }
-        requires streamed { (i : ℕ) (n : ANode) → slice_get case.formula.nodes i ≡ Some n → IsStreamed n }
-        ensures { IfOk result (λ m. Follows (IsMargined false m) margins case []) }
+    /// Its network, once the rows are done.
+    pub fn into_net(self) -> RobustNet
+        ensures { result ≡ self.net }
     {
-        let Case {
-            formula,
-            bound,
-            trace: _trace,
-        } = case;
-        let net = RobustNet::new(alloc, &formula, bound)?;
-        Ok(Margins { net, formula })
+        let Margins {
+            net,
+            formula: _formula,
+        } = self;
+        net
     }
 
     /// Takes what the root gave out until nothing is left, and adds its lines.
@@ -109,7 +98,7 @@ impl Margins {
     ///
     /// # Errors
     /// A denominator of 2^60 or more, by what the rows have settled; the text is as before then. Want of memory.
-    pub fn row(&mut self, row: &Row, text: &mut Text) -> Result<(), FollowFault>
+    fn take_row(&mut self, row: &Row, text: &mut Text) -> Result<(), FollowFault>
         requires { HasFollowed (IsMargined false self.old) margins row.now }
         ensures followed { (c : Of) (made : List ℕ) → Follows (IsMargined false self.old) margins c made → Takes row.now c.trace
             → IfOk result (λ _. IsFollowedOn (IsMargined false self.new) margins (with_row row.now c) text.old text.new made) }
@@ -130,8 +119,8 @@ impl Margins {
     /// Takes the end, and adds to the text what is left.
     ///
     /// # Errors
-    /// As `row`.
-    pub fn end(&mut self, text: &mut Text) -> Result<(), FollowFault>
+    /// As `take_row`.
+    fn take_end(&mut self, text: &mut Text) -> Result<(), FollowFault>
         requires { (c : Of) × (made : List ℕ) × Follows (IsMargined false self.old) margins c made × IsTrace c.trace }
         ensures followed { (c : Of) (made : List ℕ) → Follows (IsMargined false self.old) margins c made → IsTrace c.trace
             → IfOk result (λ _. IsFollowedOut (IsMargined true self.new) margins c text.old text.new made true) }
@@ -146,6 +135,47 @@ impl Margins {
         match self.take_all(text) {
             Ok(()) => Ok(()),
             Err(_) => Err(FollowFault::Memory),
+        }
+    }
+}
+
+impl Follow for Margins {
+    ghost use Rattle.trace_stream.specs.Margining.{IsMargined};
+    ghost use Rattle.trace_stream.specs.Streams.{margins};
+
+    ghost kind = { margins };
+
+    ghost stands = { λ s c made. IsMargined false s c made };
+
+    ghost owes = { λ s c made. ⊥ };
+
+    ghost ended = { λ s c made. IsMargined true s c made };
+
+    fn begin(alloc: Global, case: Case) -> Result<Margins, Memory> {
+        let Case {
+            formula,
+            bound,
+            trace: _trace,
+        } = case;
+        let net = RobustNet::new(alloc, &formula, bound)?;
+        Ok(Margins { net, formula })
+    }
+
+    fn row(&mut self, row: &Row, text: &mut Text) -> Result<(), FollowFault> {
+        match self.take_row(row, text) {
+            Ok(()) => Ok(()),
+            Err(fault) => Err(fault),
+        }
+    }
+
+    fn flush(&mut self, _text: &mut Text) -> Result<(), Memory> {
+        Ok(())
+    }
+
+    fn end(&mut self, text: &mut Text) -> Result<bool, FollowFault> {
+        match self.take_end(text) {
+            Ok(()) => Ok(true),
+            Err(fault) => Err(fault),
         }
     }
 }

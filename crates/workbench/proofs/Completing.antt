@@ -5,17 +5,20 @@ use Rattle.std.proofs.lemmas.Bool.{false≢true}
 use Rattle.io_edge.specs.Calls.{Drained, Filled, HasFailed, HasRefused}
 use Rattle.stl_syntax.specs.Formula.{Formula}
 use Rattle.stl_syntax.specs.Trace.{Trace}
+use Rattle.trace_reader.specs.TraceText.{lines}
 use Rattle.trace_reader.specs.declared.refusal.Limits.{Limits}
 use Rattle.report.specs.Report.{Command, check, robust, explain, json, table}
 use Rattle.workbench.specs.Requests.{Stream, verdicts, early, margins, Request, no_form, refused, whole, stream, sessions, generated, Asks, has_input}
 use Rattle.workbench.specs.InputFaults.{Fault, fault_text, whole_limits, IsInputFault}
-use Rattle.workbench.specs.Owed.{limits_of, HasTooMany}
+use Rattle.workbench.specs.Owed.{limits_of, HasTooMany, OwesLines}
+use Rattle.workbench.specs.Sessions.{InputFault, FaultOfInput}
 use Rattle.trace_stream.specs.Reading.{IsSound, IsWhole}
 use Rattle.workbench.specs.Generator.{IsSummary}
 use Rattle.workbench.specs.Settled.{TellsTruth, IsVerdict, IsLastVerdict, HasFault, IsAnswered, IsAnsweredWhole, IsAnsweredByRow, IsWide, IsOverfull, IsSettled, none, bad, faulty, answered, wide, overfull}
 use Rattle.workbench.specs.Running.{IsEnd, settled, unread, unwritten, no_memory, IsReadOut, HasEnded, asked, unknown, IsRun}
 use Rattle.workbench.specs.Complete.{AreFit, IsUndisturbed, IsComplete, answered as complete_answer, wide as complete_wide, overfull as complete_overfull, no_memory as complete_starved, IsOwnStatus, IsCompleteRun}
 use Rattle.trace_stream.proofs.FaultsStay.{unsound}
+use Rattle.session_mux.proofs.FrontLines.{input_fault_stays}
 use Rattle.workbench.proofs.OneRequest.{one_request}
 
 -- the bytes that were there are those that were consumed, and the others
@@ -54,7 +57,7 @@ starved_own (whole table f) bytes fit = inr (inl refl)
 starved_own (stream verdicts f) bytes fit = inr refl
 starved_own (stream early f) bytes fit = inr refl
 starved_own (stream margins f) bytes fit = inr (inl refl)
-starved_own (sessions f) bytes fit = fit
+starved_own (sessions f) bytes fit = inr refl
 starved_own (generated number rows) bytes fit = inr refl
 
 -- what is too wide, or has too many cells, is so for commands that may say it
@@ -69,7 +72,7 @@ wide_own (whole table f) bytes text ended i den w = inr (inr refl)
 wide_own (stream verdicts f) bytes text ended i den w = absurd w
 wide_own (stream early f) bytes text ended i den w = absurd w
 wide_own (stream margins f) bytes text ended i den w = inr (inr refl)
-wide_own (sessions f) bytes text ended i den w = w
+wide_own (sessions f) bytes text ended i den w = absurd w
 wide_own (generated number rows) bytes text ended i den w = absurd w
 
 overfull_own : (request : Request) (bytes : List ℕ) (ended : Bool) (count : ℕ) → IsOverfull request bytes ended count → IsOwnStatus request 9
@@ -83,7 +86,7 @@ overfull_own (whole table f) bytes ended count (e, (t, is, many)) = absurd many
 overfull_own (stream verdicts f) bytes ended count h = absurd h
 overfull_own (stream early f) bytes ended count h = absurd h
 overfull_own (stream margins f) bytes ended count h = absurd h
-overfull_own (sessions f) bytes ended count h = h
+overfull_own (sessions f) bytes ended count h = absurd h
 overfull_own (generated number rows) bytes ended count h = absurd h
 
 -- a fault of the bytes that were read is none of bytes that are fit
@@ -93,12 +96,19 @@ no_fault limits f read left false x at sound fault = unsound limits f read left 
 no_fault limits f read left true x at sound fault =
     sound x (subst (λ b. IsInputFault limits f b true x) (sym (ap (λ l. read ++ l) (at refl) ∙ append-nil read)) fault)
 
+-- nor is a fault of the lines that were read one of lines that have none
+no_line_fault : (read left : List ℕ) (ended : Bool) (x : InputFault) → (ended ≡ true → left ≡ []) → ((y : InputFault) → ¬ FaultOfInput 1 [] (lines true (read ++ left)) y)
+    → FaultOfInput 1 [] (lines ended read) x → ⊥
+no_line_fault read left false x at sound fault = sound x (input_fault_stays read left true x fault)
+no_line_fault read left true x at sound fault =
+    sound x (subst (λ b. FaultOfInput 1 [] (lines true b) x) (sym (ap (λ l. read ++ l) (at refl) ∙ append-nil read)) fault)
+
 fit_has_none : (request : Request) (read left line : List ℕ) (ended : Bool) → (ended ≡ true → left ≡ []) → AreFit request (read ++ left) → HasFault request read ended line → ⊥
 fit_has_none no_form read left line ended at fit h = h
 fit_has_none (refused l) read left line ended at fit h = h
 fit_has_none (whole c f) read left line ended at fit (x, fault, e) = no_fault whole_limits f read left ended x at fit fault
 fit_has_none (stream s f) read left line ended at fit (x, fault, e) = no_fault (limits_of s) f read left ended x at fit fault
-fit_has_none (sessions f) read left line ended at fit h = fit
+fit_has_none (sessions f) read left line ended at fit (x, fault, e) = no_line_fault read left ended x at fit fault
 fit_has_none (generated number rows) read left line ended at fit h = h
 
 -- an answer is to all bytes
@@ -118,7 +128,10 @@ answer_own (stream s f) read left text ended status at fit (is_end, is) =
     let none_left : left ≡ [] = at (λ k. let s = k in omega (arith, low, s)) is_end in
     let all : read ≡ read ++ left = sym (append-nil read) ∙ ap (λ l. read ++ l) (sym none_left) in
     (own.1, (refl, subst (λ b. IsAnsweredByRow s f b status text) all is))
-answer_own (sessions f) read left text ended status at fit h = absurd fit
+answer_own (sessions f) read left text ended status at fit (is_end, zero_is, owed, sound) =
+    let none_left : left ≡ [] = at (λ k. let s = k in omega (arith, zero_is, s)) is_end in
+    let all : read ≡ read ++ left = sym (append-nil read) ∙ ap (λ l. read ++ l) (sym none_left) in
+    (inl zero_is, (refl, zero_is, subst (λ b. OwesLines f b true text) all owed, subst (λ b. (x : InputFault) → ¬ FaultOfInput 1 [] (lines true b) x) all sound))
 answer_own (generated number rows) read left text ended status at fit (zero_is, is) = (inl zero_is, (zero_is, is))
 
 full_own : (request : Request) (read left : List ℕ) (ended : Bool) (count : ℕ) → (ended ≡ true → left ≡ []) → IsOverfull request read ended count
@@ -170,7 +183,7 @@ made_end no_form i o read bytes text line none_read fit quiet end = absurd fit
 made_end (refused l) i o read bytes text line none_read fit quiet end = absurd fit
 made_end (whole c f) i o read bytes text line none_read fit quiet end = absurd (false≢true (sym none_read))
 made_end (stream s f) i o read bytes text line none_read fit quiet end = absurd (false≢true (sym none_read))
-made_end (sessions f) i o read bytes text line none_read fit quiet end = absurd fit
+made_end (sessions f) i o read bytes text line none_read fit quiet end = absurd (false≢true (sym none_read))
 made_end (generated number rows) i o read bytes text line none_read fit quiet (settled h) =
     let is = made_settled number rows read text line i.ended h in
     (inl is.0, complete_answer is)

@@ -23,7 +23,7 @@ use Rattle.workbench.specs.InputFaults.{Fault, whole_limits, IsHeaderAt, here, l
 use Rattle.trace_stream.specs.Reading.{IsSound}
 use Rattle.workbench.specs.Reading.{IsStop, IsReadFault}
 use Rattle.workbench.specs.declared.fault.Stop.{Stop}
-use Rattle.workbench.specs.declared.fault.Stop.TheVariants.{Fault as Faulty, Unread, Unwritten, NoMemory, Wide, TooMany}
+use Rattle.workbench.specs.declared.fault.Stop.TheVariants.{Fault as Faulty, Input as FaultyLine, Unread, Unwritten, NoMemory, Wide, TooMany}
 use Rattle.trace_stream.proofs.FaultsStay.{unsound}
 use Rattle.trace_stream.proofs.Columns.{All-get, none_unknown}
 
@@ -104,6 +104,7 @@ only_memory number rows some few all left ended (Faulty fault) same (x, is, read
         let none_left : left ≡ [] = r.read.all refl in
         let whole : all ≡ r.bytes = r.read.moved ∙ ap (λ l. r.bytes ++ l) none_left ∙ append-nil r.bytes in
         sound x (subst (λ b. IsInputFault whole_limits judged_formula b true x) (sym whole) r.fault)
+only_memory number rows some few all left ended (FaultyLine fault) same is not_unread not_memory = is
 only_memory number rows some few all left ended Unread same is not_unread not_memory = not_unread refl
 only_memory number rows some few all left ended Unwritten same is not_unread not_memory = is
 only_memory number rows some few all left ended NoMemory same is not_unread not_memory = not_memory refl

@@ -27,7 +27,7 @@ use Rattle.workbench.specs.Wholes.{IsBadEnd, refused, no_room, status_of, status
 use Rattle.workbench.specs.Pushing.{IsStreamEnd}
 use Rattle.workbench.proofs.StreamSteps.{stream_run}
 use Rattle.workbench.specs.declared.fault.Stop.{Stop}
-use Rattle.workbench.specs.declared.fault.Stop.TheVariants.{Fault as Faulty, Unread, Unwritten, NoMemory, Wide, TooMany}
+use Rattle.workbench.specs.declared.fault.Stop.TheVariants.{Fault as Faulty, Input as FaultyLine, Unread, Unwritten, NoMemory, Wide, TooMany}
 use Rattle.workbench.specs.declared.kept.Kept.{Kept}
 use Rattle.workbench.specs.declared.kept.Kept.TheVariants.{Watch, Early}
 
@@ -71,8 +71,9 @@ starved_left {words} {j} i o e old new line ask is same_in same_out said same = 
 }
 
 -- a reason to stop is no answer
-not_answer : (stop : Stop) → (status_of_stop stop ≢ 0) × (status_of_stop stop ≢ 1)
+pub not_answer : (stop : Stop) → (status_of_stop stop ≢ 0) × (status_of_stop stop ≢ 1)
 not_answer (Faulty fault) = (λ e. omega (arith, e), λ e. omega (arith, e))
+not_answer (FaultyLine fault) = (λ e. omega (arith, e), λ e. omega (arith, e))
 not_answer Unread = (λ e. omega (arith, e), λ e. omega (arith, e))
 not_answer Unwritten = (λ e. omega (arith, e), λ e. omega (arith, e))
 not_answer NoMemory = (λ e. omega (arith, e), λ e. omega (arith, e))

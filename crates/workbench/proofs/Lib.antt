@@ -24,6 +24,7 @@ pub mod SureDecisions
 pub mod OneRequest
 pub mod EndsOnce
 pub mod AtRest
+pub mod ManyLines
 pub mod Reported
 pub mod Summaries
 pub mod NumberWords

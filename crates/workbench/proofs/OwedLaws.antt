@@ -15,13 +15,14 @@ use Rattle.report.specs.Table.{AreRecords, heading}
 use Rattle.report.proofs.StreamTexts.{IsLonger}
 use Rattle.trace_stream.proofs.OwedRows.{stream_owed_once, stream_owed_grows}
 use Rattle.trace_stream.proofs.WideTexts.{wide_text_of_all}
+use Rattle.session_mux.proofs.OwedLines.{lines_owed_once, lines_owed_grow}
 use Rattle.report.proofs.OneText.{number_once, value_once, verdicts_once, start_once, margins_once}
 use Rattle.workbench.proofs.ExplainTexts.{explain_once}
 use Rattle.workbench.proofs.JsonTexts.{json_once}
-use Rattle.workbench.specs.Requests.{Stream, verdicts, early, margins, stream}
+use Rattle.workbench.specs.Requests.{Stream, verdicts, early, margins, stream, sessions}
 use Rattle.workbench.specs.Running.{IsBegun, IsDue}
 use Rattle.trace_stream.specs.Reading.{IsWhole}
-use Rattle.workbench.specs.Owed.{OwesRows, HasTooMany, OwesAtEnd, not_yet as not_yet_owed, faulty, too_many, at_end as at_end_owed}
+use Rattle.workbench.specs.Owed.{OwesRows, OwesLines, HasTooMany, OwesAtEnd, not_yet as not_yet_owed, faulty, too_many, at_end as at_end_owed}
 use Rattle.workbench.specs.InputFaults.{whole_limits}
 
 -- ---- streams
@@ -50,6 +51,21 @@ pub begun_of_all : (s : Stream) (f : Formula) (bytes : List ℕ) (ended : Bool) 
 begun_of_all s f bytes ended text rest all b owed =
     let (more, e) = due_of_all s f b.seen b.later bytes b.seen_end ended (text ++ rest) all b.parts b.at_end b.owed owed in
     (rest ++ more, e ∙ append_assoc text rest more)
+
+-- ---- several sessions
+
+-- so it is of what several sessions had written
+pub begun_of_lines : (f : Formula) (bytes : List ℕ) (ended : Bool) (text rest all : List ℕ) → IsBegun (sessions f) bytes ended text rest → OwesLines f bytes ended all → IsLonger text all
+begun_of_lines f bytes ended text rest all b owed = by_end b.seen_end b.at_end b.owed
+  where
+    by_end : (e : Bool) → (e ≡ true → (ended ≡ true) × (b.later ≡ [])) → OwesLines f b.seen e (text ++ rest) → IsLonger text all
+    by_end false at o =
+        let (more, e) = lines_owed_grow f b.seen b.later ended (text ++ rest) all o (subst (λ bs. OwesLines f bs ended all) b.parts owed) in
+        (rest ++ more, e ∙ append_assoc text rest more)
+    by_end true at o =
+        let done = at refl in
+        let same : bytes ≡ b.seen = b.parts ∙ ap (λ l. b.seen ++ l) done.1 ∙ append-nil b.seen in
+        (rest, lines_owed_once f b.seen true all (text ++ rest) (subst (λ (e : Bool). OwesLines f b.seen e all) done.0 (subst (λ bs. OwesLines f bs ended all) same owed)) o)
 
 -- ---- commands that hold the whole trace
 

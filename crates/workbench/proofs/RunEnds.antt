@@ -20,11 +20,11 @@ use Rattle.workbench.specs.Reading.{IsReadWhole, IsReadPromptly, IsStop}
 use Rattle.workbench.specs.Writing.{IsPartWritten}
 use Rattle.workbench.specs.declared.request.Command.TheVariants.{Check, Robust, Explain, Json, Table}
 use Rattle.workbench.specs.declared.request.Mode.{Mode}
-use Rattle.workbench.specs.declared.request.Mode.TheVariants.{Whole, Watch, Early}
+use Rattle.workbench.specs.declared.request.Mode.TheVariants.{Whole, Watch, Early, Mux}
 use Rattle.workbench.specs.Wholes.{judge_of, status_of_truth, IsAnswerOf, IsUnanswered, IsWrittenWith, all_of_it, a_part, IsWholeEnd, answered, unanswered, stopped, status_of, status_of_stop, IsEndLine, IsStopLine, EndsSoundly, IsBadEnd, refused, no_room}
 use Rattle.trace_stream.specs.declared.case.Case.{Case}
 use Rattle.workbench.specs.declared.fault.Stop.{Stop}
-use Rattle.workbench.specs.declared.fault.Stop.TheVariants.{Fault as Faulty, Unread, Unwritten, NoMemory, Wide, TooMany}
+use Rattle.workbench.specs.declared.fault.Stop.TheVariants.{Fault as Faulty, Input as FaultyLine, Unread, Unwritten, NoMemory, Wide, TooMany}
 use Rattle.workbench.specs.ErrTexts.{write_fault, out_of_memory}
 use Rattle.workbench.specs.Generator.{IsSummary}
 use Rattle.workbench.specs.Made.{IsMade, written, cut_off, no_room as no_room_for_it}
@@ -43,6 +43,7 @@ is_built (Whole Explain) = inr (inr (inr (inl refl)))
 is_built (Whole Json) = inr (inr (inr (inr (inl refl))))
 is_built (Whole Table) = inr (inr (inr (inr (inr (inl refl)))))
 is_built Early = inr (inr (inr (inr (inr (inr (inl refl))))))
+is_built Mux = inr (inr (inr (inr (inr (inr (inr (inl refl)))))))
 
 -- a command's word and one more are of a form that is built
 pub asked_word : {words : List (List ℕ)} (m : Mode) (text : List ℕ) → words ≡ judge_word (judge_of m) ∷ text ∷ [] → IsAsked words (judge (judge_of m) text)
@@ -63,7 +64,8 @@ none_asked {words} h j text a = by_word a.built
     by_word (inr (inr (inr (inr (inl e))))) = form_of (Whole Json) e
     by_word (inr (inr (inr (inr (inr (inl e)))))) = form_of (Whole Table) e
     by_word (inr (inr (inr (inr (inr (inr (inl e))))))) = form_of Early e
-    by_word (inr (inr (inr (inr (inr (inr (inr other))))))) = other
+    by_word (inr (inr (inr (inr (inr (inr (inr (inl e)))))))) = form_of Mux e
+    by_word (inr (inr (inr (inr (inr (inr (inr (inr other)))))))) = other
 
 -- words that are of neither form are of none
 pub none_of_both : {words : List (List ℕ)} → AreOfNoFormula words → ((number rows : ℕ) → ¬ IsAsked words (generate number rows)) → AreNone words
@@ -104,6 +106,7 @@ kept_left before after e = subst (λ a. Consumes before a []) (sym e) (Consumes-
 
 pub not_stopped : (c : Command) (f : Formula) (tr : Trace) (stop : Stop) → IsUnanswered c f tr stop → (stop ≢ Unread) × (stop ≢ Unwritten)
 not_stopped c f tr (Faulty fault) is = absurd is
+not_stopped c f tr (FaultyLine fault) is = absurd is
 not_stopped c f tr Unread is = absurd is
 not_stopped c f tr Unwritten is = absurd is
 not_stopped c f tr NoMemory is = (λ e. let k = e in cc, λ e. let k = e in cc)
@@ -120,12 +123,14 @@ pub ends_soundly : {c : Command} {f : Formula} {i : Drained} {o : Filled} {e : R
 ends_soundly (answered k holds text read a (all_of_it w)) = tt
 ends_soundly (answered k holds text read a (a_part w)) = tt
 ends_soundly (unanswered k (Faulty fault) read is same) = absurd is
+ends_soundly (unanswered k (FaultyLine fault) read is same) = tt
 ends_soundly (unanswered k Unread read is same) = tt
 ends_soundly (unanswered k Unwritten read is same) = tt
 ends_soundly (unanswered k NoMemory read is same) = tt
 ends_soundly (unanswered k (Wide i den) read is same) = tt
 ends_soundly (unanswered k (TooMany count) read is same) = tt
 ends_soundly (stopped (Faulty fault) is same) = (is.0, is.1)
+ends_soundly (stopped (FaultyLine fault) is same) = tt
 ends_soundly (stopped Unread is same) = tt
 ends_soundly (stopped Unwritten is same) = tt
 ends_soundly (stopped NoMemory is same) = tt
@@ -269,6 +274,7 @@ module _ (words : List (List ℕ)) (c : Command) (f : Formula) (i : Drained) (o 
     at_end = λ _. read.read.all;
     is = settled (faulty (x, read.fault, refl) (prompt_of c f read.bytes i.ended read.prompt) (owes_fault c f read.bytes i.ended x read.fault));
   })
+  of_stop (FaultyLine fault) is same failed told = absurd is
   of_stop Unread read same failed told = told_as told (record {
     bytes = read.bytes;
     text = [];
@@ -292,6 +298,7 @@ module _ (words : List (List ℕ)) (c : Command) (f : Formula) (i : Drained) (o 
   of_unanswered : (case : Case) (stop : Stop) → IsReadWhole whole_limits f i.before i.after i.ended case → IsUnanswered c f case.trace stop → o.after ≡ o.before → {line : List ℕ} → IsStopLine f stop line
       → Ending (status_of_stop stop) line
   of_unanswered case (Faulty fault) read is same told = absurd is
+  of_unanswered case (FaultyLine fault) read is same told = absurd is
   of_unanswered case Unread read is same told = absurd is
   of_unanswered case Unwritten read is same told = absurd is
   of_unanswered case NoMemory read is same told = of_stop NoMemory (read.bytes, read.read.moved) same (λ k. absurd (let h = k in cc)) told
@@ -341,6 +348,7 @@ pub five_is : (e : Result Bool Stop) → status_of e ≡ 5 → e ≡ Err Unread
 five_is (Ok true) s = absurd (omega (arith, s))
 five_is (Ok false) s = absurd (omega (arith, s))
 five_is (Err (Faulty fault)) s = absurd (omega (arith, s))
+five_is (Err (FaultyLine fault)) s = absurd (omega (arith, s))
 five_is (Err Unread) s = refl
 five_is (Err Unwritten) s = absurd (omega (arith, s))
 five_is (Err NoMemory) s = absurd (omega (arith, s))
@@ -351,6 +359,7 @@ pub six_is : (e : Result Bool Stop) → status_of e ≡ 6 → e ≡ Err Unwritte
 six_is (Ok true) s = absurd (omega (arith, s))
 six_is (Ok false) s = absurd (omega (arith, s))
 six_is (Err (Faulty fault)) s = absurd (omega (arith, s))
+six_is (Err (FaultyLine fault)) s = absurd (omega (arith, s))
 six_is (Err Unread) s = absurd (omega (arith, s))
 six_is (Err Unwritten) s = refl
 six_is (Err NoMemory) s = absurd (omega (arith, s))
@@ -376,6 +385,8 @@ not_words (Ok false) (inl s) = omega (arith, s)
 not_words (Ok false) (inr s) = omega (arith, s)
 not_words (Err (Faulty fault)) (inl s) = omega (arith, s)
 not_words (Err (Faulty fault)) (inr s) = omega (arith, s)
+not_words (Err (FaultyLine fault)) (inl s) = omega (arith, s)
+not_words (Err (FaultyLine fault)) (inr s) = omega (arith, s)
 not_words (Err Unread) (inl s) = omega (arith, s)
 not_words (Err Unread) (inr s) = omega (arith, s)
 not_words (Err Unwritten) (inl s) = omega (arith, s)

@@ -7,17 +7,19 @@ use Rattle.std.proofs.lemmas.Bool.{false≢true}
 use Rattle.std.proofs.lemmas.List.{take-append-le}
 use Rattle.io_edge.specs.Calls.{Drained, Filled, HasFailed, HasRefused, IsAskedOnce}
 use Rattle.stl_syntax.specs.Formula.{Formula}
-use Rattle.workbench.specs.Requests.{Request, no_form, has_input, Stream, stream, word_of_stream, AreFor}
+use Rattle.session_mux.specs.Taking.{fault_of}
+use Rattle.workbench.specs.Requests.{Request, no_form, has_input, Stream, stream, word_of_stream, AreFor, Asks}
 use Rattle.workbench.specs.Owed.{Owes, OwesByThen}
 use Rattle.workbench.specs.Settled.{HasFault, IsPrompt, IsAnswered, IsWide, faulty, answered, wide}
 use Rattle.workbench.specs.Running.{IsBegun, IsTimely, IsEnd, settled, unread, unwritten, no_memory, asked}
 use Rattle.workbench.specs.Saying.{IsSaid}
+use Rattle.workbench.specs.Sessions.{input_fault_text}
 use Rattle.workbench.specs.Wholes.{status_of_truth, status_of, IsEndLine, EndsSoundly}
 use Rattle.workbench.specs.Keeping.{IsLeft, HasRun}
 use Rattle.workbench.specs.declared.kept.Kept.{Kept}
 use Rattle.workbench.specs.Pushing.{IsPushed, IsPushStop, IsPush, IsFinished, IsLineOf, IsStreamEnd}
 use Rattle.workbench.specs.declared.fault.Stop.{Stop}
-use Rattle.workbench.specs.declared.fault.Stop.TheVariants.{Fault as Faulty, Unread, Unwritten, NoMemory, Wide, TooMany}
+use Rattle.workbench.specs.declared.fault.Stop.TheVariants.{Fault as Faulty, Input as FaultyLine, Unread, Unwritten, NoMemory, Wide, TooMany}
 use Rattle.workbench.specs.ErrTexts.{read_fault, write_fault, out_of_memory, wide_text}
 
 -- some bytes were read and answered, in so many reads
@@ -121,6 +123,10 @@ module _ {Stands : List ℕ → List ℕ → Type 0} {q : Request} {before now h
           (settled (faulty (subst (λ (e : Bool). HasFault q (p.bytes ++ piece) e line) (sym same) first)
           (prompt piece i.ended small (λ t. (at_end (sym same ∙ t)).0))
           (subst (λ (e : Bool). Owes q (p.bytes ++ piece) e (p.text ++ grown)) (sym same) owed))) stored
+      by_stop (FaultyLine fault) (first, owed) cut = with_end (input_fault_text (fault_of fault)) (FaultyLine fault)
+          (settled (faulty (subst (λ (e : Bool). HasFault q (p.bytes ++ piece) e (input_fault_text (fault_of fault))) (sym same) first)
+          (prompt piece i.ended small (λ t. (at_end (sym same ∙ t)).0))
+          (subst (λ (e : Bool). Owes q (p.bytes ++ piece) e (p.text ++ grown)) (sym same) owed))) refl
       by_stop Unread is cut = absurd is
       by_stop Unwritten (rest, some, begun) cut = with_end write_fault Unwritten (unwritten rest some (cut refl) (as_ended begun) in_time) refl
       by_stop NoMemory (inl none) cut = with_end out_of_memory NoMemory (no_memory known (inl none) in_time) refl
@@ -180,17 +186,18 @@ module _ {Stands : List ℕ → List ℕ → Type 0} {q : Request} {before now h
 line_is : (s : Stream) (f : Formula) (ending : Result Bool Stop) (line other : List ℕ) → IsLineOf (stream s f) ending line → IsEndLine f ending other → other ≡ line
 line_is s f (Ok holds) line other a b = b ∙ sym a
 line_is s f (Err (Faulty fault)) line other (x, is, e) b = b x is ∙ sym e
+line_is s f (Err (FaultyLine fault)) line other a b = b ∙ sym a
 line_is s f (Err Unread) line other a b = b ∙ sym a
 line_is s f (Err Unwritten) line other a b = b ∙ sym a
 line_is s f (Err NoMemory) line other a b = b ∙ sym a
 line_is s f (Err (Wide i den)) line other a b = b ∙ sym a
 line_is s f (Err (TooMany count)) line other a b = b ∙ sym a
 
--- a stream's end is that of the run, which leaves this
-pub stream_run : {Done : List ℕ → List ℕ → Type 0} (words : List (List ℕ)) (s : Stream) (f : Formula) (i : Drained) (o e : Filled) (old new : Kept) → AreFor words (word_of_stream s) f
-    → (ending : Result Bool Stop) (status : ℕ) (line : List ℕ) → status ≡ status_of ending → (x : IsStreamEnd Done (stream s f) i o ending) → IsAskedOnce i → IsEndLine f ending line
+-- the end of a request with input is that of the run, which leaves this
+pub pushed_run : {Done : List ℕ → List ℕ → Type 0} (words : List (List ℕ)) (q : Request) (i : Drained) (o e : Filled) (old new : Kept) → Asks words q → has_input q ≡ true
+    → (ending : Result Bool Stop) (status : ℕ) (line : List ℕ) → status ≡ status_of ending → (x : IsStreamEnd Done q i o ending) → IsAskedOnce i → line ≡ x.line
     → IsSaid e.before e.after e.faults e.faults_after line → IsLeft words x.bytes (status_of ending) old new → HasRun words i o e old new status
-stream_run {Done} words s f i o e old new ask ending status line same x once told said left =
+pushed_run {Done} words q i o e old new ask input ending status line same x once told said left =
     subst (λ n. HasRun words i o e old new n) (sym same) (record {
       run = record {
         bytes = x.bytes;
@@ -198,11 +205,18 @@ stream_run {Done} words s f i o e old new ask ending status line same x once tol
         line = x.line;
         moved = x.moved;
         grew = x.grew;
-        said = subst (λ l. IsSaid e.before e.after e.faults e.faults_after l) (line_is s f ending x.line line x.told told) said;
-        ended = asked (stream s f) ask (λ k. absurd (false≢true (sym k))) (λ _ _. record { none_left = x.at_end; once = once }) x.is;
+        said = subst (λ l. IsSaid e.before e.after e.faults e.faults_after l) told said;
+        ended = asked q ask (λ k. absurd (false≢true (sym k ∙ input))) (λ _ _. record { none_left = x.at_end; once = once }) x.is;
       };
       left = left;
     })
+
+-- so it is of a stream
+pub stream_run : {Done : List ℕ → List ℕ → Type 0} (words : List (List ℕ)) (s : Stream) (f : Formula) (i : Drained) (o e : Filled) (old new : Kept) → AreFor words (word_of_stream s) f
+    → (ending : Result Bool Stop) (status : ℕ) (line : List ℕ) → status ≡ status_of ending → (x : IsStreamEnd Done (stream s f) i o ending) → IsAskedOnce i → IsEndLine f ending line
+    → IsSaid e.before e.after e.faults e.faults_after line → IsLeft words x.bytes (status_of ending) old new → HasRun words i o e old new status
+stream_run words s f i o e old new ask ending status line same x once told said left =
+    pushed_run words (stream s f) i o e old new ask refl ending status line same x once (line_is s f ending x.line line x.told told) said left
 
 -- a fault that ends it is one
 pub stream_soundly : {Done : List ℕ → List ℕ → Type 0} (s : Stream) (f : Formula) (i : Drained) (o : Filled) (ending : Result Bool Stop) → IsStreamEnd Done (stream s f) i o ending → EndsSoundly f ending
@@ -211,6 +225,7 @@ stream_soundly s f i o ending x = by_line ending x.told
     by_line : (ending : Result Bool Stop) → IsLineOf (stream s f) ending x.line → EndsSoundly f ending
     by_line (Ok holds) told = tt
     by_line (Err (Faulty fault)) (y, is, e) = (y, is)
+    by_line (Err (FaultyLine fault)) told = tt
     by_line (Err Unread) told = tt
     by_line (Err Unwritten) told = tt
     by_line (Err NoMemory) told = tt

@@ -23,7 +23,7 @@ use Rattle.trace_stream.specs.declared.fault.StreamStop.{StreamStop}
 use Rattle.trace_stream.specs.declared.fault.StreamStop.TheVariants as stream_stop
 use Rattle.workbench.specs.Stopping.{stop_of}
 use Rattle.workbench.specs.declared.fault.Stop.{Stop}
-use Rattle.workbench.specs.declared.fault.Stop.TheVariants.{Fault as Faulty, Unread, Unwritten, NoMemory, Wide, TooMany}
+use Rattle.workbench.specs.declared.fault.Stop.TheVariants.{Fault as Faulty, Input as FaultyLine, Unread, Unwritten, NoMemory, Wide, TooMany}
 use Rattle.trace_stream.specs.declared.live.Live.{Live}
 use Rattle.trace_stream.specs.declared.verdicts.Verdicts.{Verdicts}
 use Rattle.workbench.specs.declared.watch.Phase.{Phase}
@@ -53,6 +53,7 @@ unit_is limits f bytes ended line x e (inr (none, (r, first, same))) = let k = s
 -- why the reader under a watch stopped, which wrote this
 abbrev pub IsStoppedBy : Past → Bool → List ℕ → Stop → Type 0
 IsStoppedBy p ended grown (Faulty stored) = (x : Fault) × IsFault p.formula stored x × HasFault p ended x
+IsStoppedBy p ended grown (FaultyLine fault) = ⊥
 IsStoppedBy p ended grown Unread = ⊥
 IsStoppedBy p ended grown Unwritten = (rest : List ℕ) × (rest ≢ []) × IsText (with_text p rest) ended
 IsStoppedBy p ended grown NoMemory = grown ≡ []
@@ -66,6 +67,7 @@ has_fault p ended grown (Faulty (Unknown line atom term)) s = (fault.Unknown lin
 has_fault p ended grown (Faulty (InTicks line (unit_fault.Constant node))) s = (fault.UnitConstant line node, refl)
 has_fault p ended grown (Faulty (InTicks line (unit_fault.Reach sum))) s = (fault.UnitReach line sum, refl)
 has_fault p ended grown (Faulty (InTicks line unit_fault.Memory)) (x, is, h) = absurd (unit_is p.limits p.formula p.bytes ended line x is h.0)
+has_fault p ended grown (FaultyLine fault) s = absurd s
 has_fault p ended grown Unread s = absurd s
 has_fault p ended grown Unwritten s = (fault.Write, refl)
 has_fault p ended grown NoMemory s = (fault.Memory, refl)
@@ -86,6 +88,7 @@ is_watch_fault p ended grown (Faulty (InTicks line (unit_fault.Constant node))) 
 is_watch_fault p ended grown (Faulty (InTicks line (unit_fault.Reach sum))) w (x, is, h) e =
     subst (λ (v : WatchFault). IsWatchFault p ended grown v) (sym e) (same_fault p ended x (unit line (unit_fault.Reach sum)) is h)
 is_watch_fault p ended grown (Faulty (InTicks line unit_fault.Memory)) w s e = absurd e
+is_watch_fault p ended grown (FaultyLine fault) w s e = absurd s
 is_watch_fault p ended grown Unread w s e = absurd s
 is_watch_fault p ended grown Unwritten w s e = subst (λ (v : WatchFault). IsWatchFault p ended grown v) (sym e) s
 is_watch_fault p ended grown NoMemory w s e = subst (λ (v : WatchFault). IsWatchFault p ended grown v) (sym e) s

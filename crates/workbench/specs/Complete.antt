@@ -3,16 +3,20 @@ use Rattle.std.specs.Prelude.{◌≡◌, ◌⊎◌, ℕ, ◌≤◌, Bool, true, 
 use Rattle.std.specs.Io.KnownBytes.{Appends}
 use Rattle.io_edge.specs.Calls.{Drained, Filled, HasFailed, HasRefused}
 use Rattle.report.specs.Report.{check, robust, explain, json, table}
-use Rattle.workbench.specs.Requests.{verdicts, early, margins, Request, whole, stream, generated, has_input}
+use Rattle.trace_reader.specs.TraceText.{lines}
+use Rattle.workbench.specs.Requests.{verdicts, early, margins, Request, whole, stream, sessions, generated, has_input}
 use Rattle.workbench.specs.InputFaults.{whole_limits}
 use Rattle.workbench.specs.Owed.{limits_of}
+use Rattle.workbench.specs.Sessions.{InputFault, FaultOfInput}
 use Rattle.trace_stream.specs.Reading.{IsSound}
 use Rattle.workbench.specs.Settled.{IsAnswered, IsWide, IsOverfull}
 
--- the bytes have no fault for the request: for one with a formula they are those of a trace with its columns, in ticks that hold its numbers
+-- the bytes have no fault for the request: for one of a trace they are those of one with the formula's columns, in ticks that hold its
+-- numbers; for one of several sessions no line of the input has a fault of its own
 abbrev pub AreFit : Request → List ℕ → Type 0
 AreFit (whole c f) bytes = IsSound whole_limits f bytes true
 AreFit (stream s f) bytes = IsSound (limits_of s) f bytes true
+AreFit (sessions f) bytes = (x : InputFault) → ¬ FaultOfInput 1 [] (lines true bytes) x
 AreFit (generated number rows) bytes = Unit {0}
 AreFit request bytes = ⊥
 
@@ -42,6 +46,7 @@ IsOwnStatus (whole table f) status = (status ≡ 0) ⊎ (status ≡ 7) ⊎ (stat
 IsOwnStatus (stream verdicts f) status = (status ≤ 1) ⊎ (status ≡ 7)
 IsOwnStatus (stream early f) status = (status ≤ 1) ⊎ (status ≡ 7)
 IsOwnStatus (stream margins f) status = (status ≡ 0) ⊎ (status ≡ 7) ⊎ (status ≡ 8)
+IsOwnStatus (sessions f) status = (status ≡ 0) ⊎ (status ≡ 7)
 IsOwnStatus (generated number rows) status = (status ≡ 0) ⊎ (status ≡ 7)
 IsOwnStatus request status = ⊥
 

@@ -5,18 +5,23 @@ use Rattle.stl_syntax.specs.Formula.{Formula}
 use Rattle.stl_syntax.specs.Trace.{Trace}
 use Rattle.early_verdict.specs.Deciding.{Kept as Deciding, Stands}
 use Rattle.report.specs.Report.{nodes_for}
+use Rattle.session_mux.specs.Muxes.{Muxed, HasTags}
+use Rattle.session_mux.specs.declared.mux.Phase.TheVariants.{Ended}
+use Rattle.trace_reader.specs.TraceText.{lines}
 use Rattle.trace_stream.specs.Reading.{IsWhole}
 use Rattle.workbench.specs.InputFaults.{stream_limits, whole_limits}
-use Rattle.workbench.specs.Requests.{Request, stream, verdicts, early, Asks}
+use Rattle.workbench.specs.Requests.{Request, stream, verdicts, early, sessions, Asks}
 use Rattle.workbench.specs.Running.{IsKeptRightly, IsRun}
+use Rattle.workbench.specs.Sessions.{Tagged, AreTagged}
 use Rattle.workbench.specs.Watches.{Watched, StandsForAll}
 use Rattle.workbench.specs.declared.kept.Kept.{Kept}
-use Rattle.workbench.specs.declared.kept.Kept.TheVariants.{Watch, Early}
+use Rattle.workbench.specs.declared.kept.Kept.TheVariants.{Watch, Early, Mux}
 
 -- the requests that leave something
 abbrev pub keeps : Request → Bool
 keeps (stream verdicts f) = true
 keeps (stream early f) = true
+keeps (sessions f) = true
 keeps request = false
 
 -- the watch is of this formula, and stands for the bytes and their end
@@ -31,10 +36,15 @@ pub record IsEarlyOf (f : Formula) (bytes : List ℕ) (x : Deciding) : Type 0 wh
   pub header : x.header ≡ tr.header
   pub stands : Stands x tr.rows true
 
+-- the sessions are those of the lines of these bytes, and their end came
+abbrev pub AreSessionsOf : Formula → List ℕ → Muxed → Type 0
+AreSessionsOf f bytes m = (seen : List Tagged) × AreTagged (lines true bytes) seen × HasTags (record { formula = f; seen = seen }) m × (m.phase ≡ Ended)
+
 -- it holds what stands for the bytes of a request, all of them
 abbrev pub Holds : Request → List ℕ → Kept → Type 0
 Holds (stream verdicts f) bytes (Watch w) = IsWatchOf f bytes w
 Holds (stream early f) bytes (Early x) = IsEarlyOf f bytes x
+Holds (sessions f) bytes (Mux m) = AreSessionsOf f bytes m
 Holds request bytes kept = ⊥
 
 -- what the words ask for left what it leaves, or else all is as it was; so it is where memory was wanting before that was known

@@ -30,3 +30,4 @@ pub mod Made
 pub mod Complete
 pub mod EarlyLines
 pub mod Deciding
+pub mod Many

@@ -7,11 +7,13 @@ use Rattle.workbench.specs.Owed.{Owes, OwesByThen}
 use Rattle.workbench.specs.Settled.{HasFault, IsAnswered, IsWide}
 use Rattle.workbench.specs.Running.{IsBegun, IsEnd}
 use Rattle.trace_stream.specs.Cases.{IsFault}
+use Rattle.session_mux.specs.Taking.{fault_of}
 use Rattle.workbench.specs.InputFaults.{Fault, fault_text}
+use Rattle.workbench.specs.Sessions.{input_fault_text}
 use Rattle.workbench.specs.Wholes.{status_of, status_of_truth}
 use Rattle.trace_stream.specs.declared.fault.TraceFault.{TraceFault}
 use Rattle.workbench.specs.declared.fault.Stop.{Stop}
-use Rattle.workbench.specs.declared.fault.Stop.TheVariants.{Fault as Faulty, Unread, Unwritten, NoMemory, Wide, TooMany}
+use Rattle.workbench.specs.declared.fault.Stop.TheVariants.{Fault as Faulty, Input as FaultyLine, Unread, Unwritten, NoMemory, Wide, TooMany}
 use Rattle.workbench.specs.ErrTexts.{out_of_memory, read_fault, write_fault, wide_text, too_many_cells_text}
 
 -- these bytes were pushed, and this text was written: all that is owed for them, and before that all that was owed for any first part of them
@@ -32,6 +34,7 @@ IsFaultLineOf request fault line = ⊥
 abbrev pub IsPushStop : Request → List ℕ → Bool → List ℕ → Stop → Type 0
 IsPushStop request bytes ended text (Faulty fault) =
     (line : List ℕ) × IsFaultLineOf request fault line × HasFault request bytes ended line × Owes request bytes ended text
+IsPushStop request bytes ended text (FaultyLine fault) = HasFault request bytes ended (input_fault_text (fault_of fault)) × Owes request bytes ended text
 IsPushStop request bytes ended text Unread = ⊥
 IsPushStop request bytes ended text Unwritten = (rest : List ℕ) × (rest ≢ []) × IsBegun request bytes ended text rest
 IsPushStop request bytes ended text NoMemory = (text ≡ []) ⊎ ((rest : List ℕ) × IsBegun request bytes ended text rest)
@@ -51,6 +54,7 @@ IsFinished Done request bytes holds text = IsAnswered request bytes true (status
 abbrev pub IsLineOf : Request → Result Bool Stop → List ℕ → Type 0
 IsLineOf request (Ok holds) line = line ≡ []
 IsLineOf request (Err (Faulty fault)) line = IsFaultLineOf request fault line
+IsLineOf request (Err (FaultyLine fault)) line = line ≡ input_fault_text (fault_of fault)
 IsLineOf request (Err Unread) line = line ≡ read_fault
 IsLineOf request (Err Unwritten) line = line ≡ write_fault
 IsLineOf request (Err NoMemory) line = line ≡ out_of_memory

@@ -8,7 +8,7 @@ use Rattle.trace_stream.specs.Reading.{IsSound, IsWhole}
 use Rattle.trace_stream.specs.declared.case.Case.{Case}
 use Rattle.workbench.specs.InputFaults.{Fault, IsInputFault}
 use Rattle.workbench.specs.declared.fault.Stop.{Stop}
-use Rattle.workbench.specs.declared.fault.Stop.TheVariants.{Fault as Faulty, Unread, Unwritten, NoMemory, Wide, TooMany}
+use Rattle.workbench.specs.declared.fault.Stop.TheVariants.{Fault as Faulty, Input as FaultyLine, Unread, Unwritten, NoMemory, Wide, TooMany}
 
 -- these bytes were read, and they are all where the source came to its end
 pub record IsRead (before after : Option (List ℕ)) (ended : Bool) (bytes : List ℕ) : Type 0 where
@@ -49,6 +49,7 @@ pub record IsReadInPart (limits : Limits) (f : Formula) (before after : Option (
 -- why the reading stopped
 abbrev pub IsStop : Limits → Formula → Option (List ℕ) → Option (List ℕ) → Bool → Stop → Type 0
 IsStop limits f before after ended (Faulty fault) = (x : Fault) × IsFault f fault x × IsReadFault limits f before after ended x
+IsStop limits f before after ended (FaultyLine fault) = ⊥
 IsStop limits f before after ended Unread = IsReadInPart limits f before after ended
 IsStop limits f before after ended Unwritten = ⊥
 IsStop limits f before after ended NoMemory = (bytes : List ℕ) × Consumes before after bytes

@@ -39,7 +39,7 @@ abbrev pub first_commands : List Judge
 first_commands = word.check ∷ word.watch ∷ word.robust ∷ word.explain ∷ word.json ∷ word.table ∷ []
 
 abbrev pub later_commands : List Judge
-later_commands = word.early ∷ []
+later_commands = word.early ∷ word.mux ∷ []
 
 abbrev pub built_commands : List Judge
 built_commands = first_commands ++ later_commands

@@ -128,6 +128,7 @@ IsFaultOf (stop.Fault (trace_fault.Unknown line atom term)) x = x ≡ fault.Unkn
 IsFaultOf (stop.Fault (trace_fault.Unit line (unit_fault.Constant node))) x = x ≡ fault.UnitConstant line node
 IsFaultOf (stop.Fault (trace_fault.Unit line (unit_fault.Reach sum))) x = x ≡ fault.UnitReach line sum
 IsFaultOf (stop.Fault (trace_fault.Unit line unit_fault.Memory)) x = ⊥
+IsFaultOf (stop.Input fault) x = ⊥
 IsFaultOf stop.Unread x = ⊥
 IsFaultOf stop.Unwritten x = x ≡ fault.Write
 IsFaultOf stop.NoMemory x = x ≡ fault.Memory

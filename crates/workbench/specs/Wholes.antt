@@ -14,16 +14,18 @@ use Rattle.workbench.specs.Owed.{HasTooMany}
 use Rattle.workbench.specs.Settled.{IsVerdict, IsSure, HasWide}
 use Rattle.workbench.specs.InputFaults.{Fault, fault_text, whole_limits}
 use Rattle.trace_stream.specs.Cases.{IsFault}
+use Rattle.session_mux.specs.Taking.{fault_of}
 use Rattle.workbench.specs.Reading.{IsReadWhole, IsStop}
+use Rattle.workbench.specs.Sessions.{input_fault_text}
 use Rattle.workbench.specs.Writing.{IsPartWritten}
 pub use Rattle.trace_stream.specs.Streams.{status_of_truth}
 use Rattle.trace_stream.specs.declared.case.Case.{Case}
 use Rattle.workbench.specs.declared.fault.Stop.{Stop}
-use Rattle.workbench.specs.declared.fault.Stop.TheVariants.{Fault as Faulty, Unread, Unwritten, NoMemory, Wide, TooMany}
+use Rattle.workbench.specs.declared.fault.Stop.TheVariants.{Fault as Faulty, Input as FaultyLine, Unread, Unwritten, NoMemory, Wide, TooMany}
 use Rattle.workbench.specs.declared.request.Command.{Command as Word}
 use Rattle.workbench.specs.declared.request.Command.TheVariants.{Check, Robust, Explain, Json, Table}
 use Rattle.workbench.specs.declared.request.Mode.{Mode}
-use Rattle.workbench.specs.declared.request.Mode.TheVariants.{Whole, Watch, Early}
+use Rattle.workbench.specs.declared.request.Mode.TheVariants.{Whole, Watch, Early, Mux}
 use Rattle.workbench.specs.ErrTexts.{out_of_memory, read_fault, write_fault, wide_text, too_many_cells_text}
 
 -- the command of a word
@@ -39,6 +41,7 @@ abbrev pub judge_of : Mode → Judge
 judge_of (Whole c) = word_of (command_of c)
 judge_of Watch = word.watch
 judge_of Early = word.early
+judge_of Mux = word.mux
 
 -- the answer of a command: what its status tells, and its whole text
 pub record IsAnswerOf (c : Command) (f : Formula) (tr : Trace) (holds : Bool) (text : List ℕ) : Type 0 where
@@ -75,6 +78,7 @@ status_of_fault r = 3
 -- the status of a reason to stop
 abbrev pub status_of_stop : Stop → ℕ
 status_of_stop (Faulty fault) = 4
+status_of_stop (FaultyLine fault) = 4
 status_of_stop Unread = 5
 status_of_stop Unwritten = 6
 status_of_stop NoMemory = 7
@@ -89,6 +93,7 @@ status_of (Err stop) = status_of_stop stop
 -- the line of a reason to stop
 abbrev pub IsStopLine : Formula → Stop → List ℕ → Type 0
 IsStopLine f (Faulty fault) line = (x : Fault) → IsFault f fault x → line ≡ fault_text x
+IsStopLine f (FaultyLine fault) line = line ≡ input_fault_text (fault_of fault)
 IsStopLine f Unread line = line ≡ read_fault
 IsStopLine f Unwritten line = line ≡ write_fault
 IsStopLine f NoMemory line = line ≡ out_of_memory

@@ -2,6 +2,7 @@
 ghost use Rattle.std.specs.Prelude.{◌≡◌};
 ghost use Rattle.workbench.specs.Stopping.{stop_of, outcome_of};
 
+use session_mux::LineFault;
 use trace_stream::{StreamStop, TraceFault};
 
 /// Why there is no answer, or not all of it was written.
@@ -9,6 +10,8 @@ use trace_stream::{StreamStop, TraceFault};
 pub(crate) enum Stop {
     /// The bytes that were read have this fault.
     Fault(TraceFault),
+    /// A line of several sessions' input has this fault.
+    Input(LineFault),
     /// The source failed.
     Unread,
     /// The sink failed.

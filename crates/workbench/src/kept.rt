@@ -1,8 +1,9 @@
 //! What a run leaves to its caller.
 use crate::watch::Watch;
 use early_verdict::Early;
+use session_mux::Mux;
 
-/// What a run that answers row by row leaves to its caller.
+/// What a run that answers row by row, or line by line, leaves to its caller.
 #[derive(Drop)]
 pub enum Kept {
     /// Nothing was left.
@@ -11,4 +12,6 @@ pub enum Kept {
     Watch(Watch),
     /// What decided, by which `early` answered.
     Early(Early),
+    /// The sessions that `mux` answered.
+    Mux(Mux),
 }

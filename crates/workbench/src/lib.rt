@@ -13,6 +13,7 @@ pub mod laws;
 mod line;
 mod line_laws;
 mod live;
+mod many;
 mod output;
 mod owing_laws;
 mod reading;

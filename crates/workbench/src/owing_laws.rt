@@ -3,8 +3,8 @@ ghost use Rattle.std.specs.Prelude.{◌≡◌, ◌⊎◌, ◌≤◌, ◌++◌, �
 ghost use Rattle.io_edge.specs.Calls.{Drained, Filled};
 ghost use Rattle.stl_syntax.specs.Formula.{Formula};
 ghost use Rattle.report.specs.Report.{Command, check, robust, explain, json, table};
-ghost use Rattle.workbench.specs.Requests.{Request, Stream, Asks, whole, stream, has_input};
-ghost use Rattle.workbench.specs.Owed.{OwesRows, OwesAtEnd};
+ghost use Rattle.workbench.specs.Requests.{Request, Stream, Asks, whole, stream, sessions, has_input};
+ghost use Rattle.workbench.specs.Owed.{OwesRows, OwesLines, OwesAtEnd};
 ghost use Rattle.workbench.specs.Running.{IsBegun, IsRun, HasSaidItsEnd};
 
 /// Words ask for at most one request.
@@ -12,9 +12,10 @@ pub fn one_request_is_asked_for()
     ensures { (words : List (List ℕ)) (request other : Request) → Asks words request → Asks words other → request ≡ other }
 {}
 
-/// At most one text is owed for given bytes: to a stream, and to each command that holds the whole trace.
+/// At most one text is owed for given bytes: to a stream, to several sessions, and to each command that holds the whole trace.
 pub fn one_text_is_owed()
     ensures rows { (s : Stream) (f : Formula) (bytes text other : List ℕ) (ended : Bool) → OwesRows s f bytes ended text → OwesRows s f bytes ended other → text ≡ other }
+    ensures lines { (f : Formula) (bytes text other : List ℕ) (ended : Bool) → OwesLines f bytes ended text → OwesLines f bytes ended other → text ≡ other }
     ensures check { (f : Formula) (bytes text other : List ℕ) (ended : Bool) → OwesAtEnd check f bytes ended text → OwesAtEnd check f bytes ended other → text ≡ other }
     ensures robust { (f : Formula) (bytes text other : List ℕ) (ended : Bool) → OwesAtEnd robust f bytes ended text → OwesAtEnd robust f bytes ended other → text ≡ other }
     ensures explain { (f : Formula) (bytes text other : List ℕ) (ended : Bool) → OwesAtEnd explain f bytes ended text → OwesAtEnd explain f bytes ended other → text ≡ other }
@@ -22,17 +23,21 @@ pub fn one_text_is_owed()
     ensures table { (f : Formula) (bytes text other : List ℕ) (ended : Bool) → OwesAtEnd table f bytes ended text → OwesAtEnd table f bytes ended other → text ≡ other }
 {}
 
-/// What a stream is owed only grows: the text for bytes that go on is the front of the text for these bytes and more, which the input may
+/// What a stream is owed, or several sessions, only grows: the text for bytes that go on is the front of the text for these bytes and more, which the input may
 /// have ended.
 pub fn what_is_owed_only_grows()
-    ensures { (s : Stream) (f : Formula) (bytes more text all : List ℕ) (ended : Bool) → OwesRows s f bytes false text → OwesRows s f (bytes ++ more) ended all
+    ensures rows { (s : Stream) (f : Formula) (bytes more text all : List ℕ) (ended : Bool) → OwesRows s f bytes false text → OwesRows s f (bytes ++ more) ended all
+        → (rest : List ℕ) × (all ≡ text ++ rest) }
+    ensures lines { (f : Formula) (bytes more text all : List ℕ) (ended : Bool) → OwesLines f bytes false text → OwesLines f (bytes ++ more) ended all
         → (rest : List ℕ) × (all ≡ text ++ rest) }
 {}
 
-/// So what a stream had written where its output failed or memory was wanting is the front of what it is owed for all the bytes that were
+/// So what a stream, or several sessions, had written where its output failed or memory was wanting is the front of what it is owed for all the bytes that were
 /// read, not for those alone that it had answered.
 pub fn what_was_written_is_of_all_bytes()
-    ensures { (s : Stream) (f : Formula) (bytes text rest all : List ℕ) (ended : Bool) → IsBegun (stream s f) bytes ended text rest → OwesRows s f bytes ended all
+    ensures rows { (s : Stream) (f : Formula) (bytes text rest all : List ℕ) (ended : Bool) → IsBegun (stream s f) bytes ended text rest → OwesRows s f bytes ended all
+        → (more : List ℕ) × (all ≡ text ++ more) }
+    ensures lines { (f : Formula) (bytes text rest all : List ℕ) (ended : Bool) → IsBegun (sessions f) bytes ended text rest → OwesLines f bytes ended all
         → (more : List ℕ) × (all ≡ text ++ more) }
 {}
 

@@ -15,12 +15,13 @@ pub(crate) enum Command {
     Table,
 }
 
-/// How a formula is answered: over the whole trace, or row by row.
+/// How a formula is answered: over the whole trace, row by row, or for several sessions in one input.
 #[derive(Clone, Copy)]
 pub(crate) enum Mode {
     Whole(Command),
     Watch,
     Early,
+    Mux,
 }
 
 /// How to answer, and the text of the formula.
@@ -50,6 +51,7 @@ fn named(word: &str) -> Option<Mode>
         "explain" => Some(Mode::Whole(Command::Explain)),
         "json" => Some(Mode::Whole(Command::Json)),
         "table" => Some(Mode::Whole(Command::Table)),
+        "mux" => Some(Mode::Mux),
         _ => None,
     }
 }

@@ -20,6 +20,7 @@ use crate::fault::Stop;
 use crate::json::give_report;
 use crate::kept::Kept;
 use crate::line::write_line;
+use crate::many::Many;
 use crate::output::write_all;
 use crate::reading::read_trace;
 use crate::request::{Command, Mode, Workload, asked, workload_of};
@@ -31,6 +32,7 @@ use crate::texts::{NO_MEMORY, formula_line, too_many_cells_line, wide_line};
 use crate::watch::Watch;
 use io_edge::{Sink, Source};
 use report::Line;
+use session_mux::input_fault_line;
 use std::alloc::Global;
 use stl_grammar::{FormulaFault, parse};
 use stl_syntax::Formula;
@@ -51,7 +53,7 @@ const STREAM_LIMITS: Limits = Limits {
 
 /// The line where the words are of no form.
 const USAGE: &[u8] =
-    b"usage: check F | watch F | robust F | explain F | json F | table F | gen NUMBER ROWS | early F\n";
+    b"usage: check F | watch F | robust F | explain F | json F | table F | gen NUMBER ROWS | early F | mux F\n";
 
 /// The line where the output failed.
 const WRITE_FAULT: &[u8] = b"write fault\n";
@@ -154,6 +156,7 @@ fn stop_line(formula: &Formula, stop: Stop) -> Line<'_>
 {
     match stop {
         Stop::Fault(fault) => fault_line(formula, fault),
+        Stop::Input(fault) => input_fault_line(fault),
         Stop::Unread => Line::plain(b"read fault\n"),
         Stop::Unwritten => Line::plain(WRITE_FAULT),
         Stop::NoMemory => Line::plain(NO_MEMORY),
@@ -167,7 +170,7 @@ fn stop_status(stop: Stop) -> u8
     ensures { result ≡ status_of_stop stop }
 {
     match stop {
-        Stop::Fault(_) => 4,
+        Stop::Fault(_) | Stop::Input(_) => 4,
         Stop::Unread => 5,
         Stop::Unwritten => 6,
         Stop::NoMemory => 7,
@@ -291,14 +294,50 @@ fn decide<S: Source, K: Sink, E: Sink>(
     status
 }
 
+/// Answers the lines of several sessions, and leaves the sessions.
+fn by_line<S: Source, K: Sink, E: Sink>(
+    alloc: Global,
+    formula: Formula,
+    input: &mut S,
+    out: &mut K,
+    err: &mut E,
+    kept: &mut Kept,
+) -> u8
+    ensures ran { (words : List (List ℕ)) → AreFor words word.mux formula → HasRun words (drained S.left S.ended S.ends S.faults input.old input.new)
+        (filled K.written K.faults out.old out.new) (filled E.written E.faults err.old err.new) kept.old kept.new result }
+    ensures known { ¬ ((result ≡ 2) ⊎ (result ≡ 3)) }
+    ensures read_due { result ≢ 5 → S.faults input.new ≡ S.faults input.old }
+    ensures write_due { result ≢ 6 → K.faults out.new ≡ K.faults out.old }
+    ensures quiet { result ≤ 1 → err.new ≡ err.old }
+    ensures unkept { 2 ≤ result → kept.new ≡ kept.old }
+    ensures input_later { S.faults input.old ≤ S.faults input.new }
+    ensures out_later { K.faults out.old ≤ K.faults out.new }
+    ensures err_later { E.faults err.old ≤ E.faults err.new }
+{
+    let mut many = match Many::new(alloc, formula) {
+        Ok(many) => many,
+        Err(_) => {
+            say(err, &Line::plain(NO_MEMORY));
+            return 7;
+        }
+    };
+    let ending = stream(&mut many, input, out);
+    let status = finish(err, many.formula(), ending);
+    if ending.is_err() {
+        return status;
+    }
+    *kept = Kept::Mux(many.into_mux());
+    status
+}
+
 /// Does all that the program does for its words, and answers the status with which it ends.
 ///
 /// - 0 and 1: `out` got the whole text of the command. The input was read to its end, but for `gen`, which reads
-///   none. After `watch`, `kept` is its watch, and after `early` what decided.
+///   none. After `watch`, `kept` is its watch, after `early` what decided, and after `mux`, whose status is 0, its sessions.
 /// - 2: the words are of no form.
 /// - 3: the formula is refused.
 /// - 4: the bytes that were read have a first fault: of the trace, a column of the formula that the header lacks, or numbers of
-///   the formula that do not fit in the header's ticks.
+///   the formula that do not fit in the header's ticks. For `mux`, of the input's lines.
 /// - 5: `input` failed.
 /// - 6: `out` failed, after a first part of the text.
 /// - 7: memory was wanting.
@@ -306,8 +345,8 @@ fn decide<S: Source, K: Sink, E: Sink>(
 /// - 9: an explanation would have too many cells.
 ///
 /// From 2 on `err` gets one line; a fault of `err` changes no status. The words are judged first, then the formula, then the bytes
-/// in their order. `watch` and `early` write what each row answers before more is read, also what comes before a fault. On each other status and
-/// command `kept` stays as it was.
+/// in their order. `watch` and `early` write what each row answers before more is read, and `mux` what each line does, also what comes
+/// before a fault. On each other status and command `kept` stays as it was.
 pub fn run<S: Source, K: Sink, E: Sink>(
     alloc: Global,
     words: &[String],
@@ -350,6 +389,7 @@ pub fn run<S: Source, K: Sink, E: Sink>(
             }
             Mode::Watch => by_row(alloc, formula, input, out, err, kept),
             Mode::Early => decide(alloc, formula, input, out, err, kept),
+            Mode::Mux => by_line(alloc, formula, input, out, err, kept),
         },
         Err(fault) => refuse(err, fault),
     }

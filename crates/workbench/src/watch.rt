@@ -88,7 +88,7 @@ fn fault_of(stop: Stop) -> WatchFault
         },
         Stop::Unwritten => WatchFault::Write,
         Stop::NoMemory => WatchFault::Memory,
-        Stop::Unread | Stop::Wide { .. } | Stop::TooMany { .. } => unreachable!(),
+        Stop::Input(_) | Stop::Unread | Stop::Wide { .. } | Stop::TooMany { .. } => unreachable!(),
     }
 }
 

@@ -57,6 +57,24 @@ returns-in-Early-clause-ran g c =
       served = λ i h. h;
     })
 
+pub returns-in-Mux-clause-unread : goal.returns-in-Mux-clause-unread
+returns-in-Mux-clause-unread g c = λ h. elim h [
+  | inl two ↦ absurd (c.by_line.ensures.known (inl two))
+  | inr (inl three) ↦ absurd (c.by_line.ensures.known (inr three))
+  | inr (inr (number, rows, asked)) ↦ absurd (c.in_default.ensures number rows asked)
+]
+
+pub returns-in-Mux-clause-ran : goal.returns-in-Mux-clause-ran
+returns-in-Mux-clause-ran g c =
+    let words = map string_bytes c.args.words.now in
+    let text = c.in-Some-asked.asked.text.now in
+    c.by_line.ensures.ran words (record {
+      text = text;
+      form = subst (λ (m : Mode). IsAsked words (judge (judge_of m) text)) c.in-Mux.is c.in-Some-asked.ensures;
+      is = c.in-Ok.ensures.ok;
+      served = λ i h. h;
+    })
+
 pub returns-in-Whole-clause-ran : goal.returns-in-Whole-clause-ran
 returns-in-Whole-clause-ran g c =
     let words = map string_bytes c.args.words.now in

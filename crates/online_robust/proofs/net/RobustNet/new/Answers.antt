@@ -20,7 +20,7 @@ fresh : (c : In_ok-edges) (header : Header) → IsBound c.args.bound c.args.form
       stopped = false;
     }) no_past []
 fresh c header bound =
-    new_stands c.args.formula.now header c.args.bound bound c.len.ensures.well_formed (λ i n at. (c.requires.streamed i n at).0) c.in_ok-edges.edges c.in_ok-stations.stations.items
+    new_stands c.args.formula.now header c.args.bound bound c.len.ensures.well_formed c.requires.streamed c.in_ok-edges.edges c.in_ok-stations.stations.items
     (c.in_ok-edges.ensures.edges ∙ ap (λ n. replicate n no_edge) c.len.ensures.count) c.in_ok-edges.ensures.start c.in_ok-stations.ensures
 
 pub invariant_of-result : goal.invariant_of-result

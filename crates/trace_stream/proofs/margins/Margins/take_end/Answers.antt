@@ -3,7 +3,7 @@ use Rattle.trace_stream.specs.Margining.{past_of}
 use Rattle.trace_stream.specs.Following.{IsFollowFault}
 use Rattle.trace_stream.specs.Streams.{margins}
 use Rattle.trace_stream.proofs.Margined.{of_first, fault_so, unwritten, may_end, given_on, end_followed}
-use Rattle.trace_stream.proofs.margins.Margins.end.Goals as goal
+use Rattle.trace_stream.proofs.margins.Margins.take_end.Goals as goal
 
 pub close-requires : goal.close-requires
 close-requires c = let (case, made, k, t) = c.requires in may_end c.args.self.now case made k.stands t

@@ -4,7 +4,7 @@ use Rattle.stl_syntax.specs.Stream.{IsRowsText}
 use Rattle.online_nodes.specs.MarginStream.{IsNewMargins}
 use Rattle.online_robust.specs.Nets.{StandsFor}
 use Rattle.trace_stream.specs.Margining.{AreEmitted}
-use Rattle.trace_stream.proofs.margins.Margins.begin.Goals as goal
+use Rattle.trace_stream.proofs.margins.MarginsFollow.begin.Goals as goal
 
 pub new-requires-clause-bound : goal.new-requires-clause-bound
 new-requires-clause-bound c = let (f, is) = c.requires.case in (c.args.case.trace.header, is.bound)

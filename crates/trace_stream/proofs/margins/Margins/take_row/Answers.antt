@@ -4,7 +4,7 @@ use Rattle.trace_stream.specs.Margining.{past_of}
 use Rattle.trace_stream.specs.Following.{IsFollowFault}
 use Rattle.trace_stream.specs.Streams.{margins}
 use Rattle.trace_stream.proofs.Margined.{of_first, fault_so, unwritten, fits_width, fits_time, given_on, row_followed}
-use Rattle.trace_stream.proofs.margins.Margins.row.Goals as goal
+use Rattle.trace_stream.proofs.margins.Margins.take_row.Goals as goal
 
 pub feed-requires-clause-width : goal.feed-requires-clause-width
 feed-requires-clause-width c = let (case, made, k, t) = c.requires in fits_width c.args.self.now case made k.stands c.args.row.now t

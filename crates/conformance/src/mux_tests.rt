@@ -1,0 +1,200 @@
+//! `mux` as a whole: tables of answers from outside, for every cut of the input, long lines, many tags, and devices that fail.
+use crate::run_tests::{Case, Devices, agrees, agrees_however_cut, agrees_so_far, pieces};
+use std::alloc::Global;
+use std::test::Fail;
+
+const BENCHES: &str =
+    "a time,x\nb time,x\na 0,0\nb 0,9\na 5,5\nb 3,9\na ?\nb 2,0\na 10,0\nb 4,0\na .\n";
+
+const TOLD: &str =
+    "a [0,3) false\na [3,3] true\nb [0,1] true\na ? [0,3) false\na ? [3,3] true\nb line 4: time not rising\n\
+                    a (3,5] true\na (5,8] false\na (8,10] false\na start false\n";
+
+/// Formulas, inputs and what is written, with status 0.
+const ANSWERED: [(&str, &str, &str); 7] = [
+    ("eventually[0,2] x >= 5", BENCHES, TOLD),
+    ("true", "", ""),
+    (
+        "z >= 1073741824",
+        "a time,x\nb time,z:1\n",
+        "a line 1: unknown column z\nb line 1: node 0: constant out of range\n",
+    ),
+    (
+        "true",
+        "a time\r\n \t\r\n\na 3\r\n",
+        "a [3,3] true\na start true\n",
+    ),
+    ("true", "a time\na 3", "a [3,3] true\na start true\n"),
+    ("true", "a time\na", "a line 2: no rows\n"),
+    (
+        "true",
+        "z time\ny\nz 1\ny .\nx time\ny ?\n",
+        "z [1,1] true\ny line 1: no header\ny ? line 1: no header\nz start true\nx line 1: no rows\n",
+    ),
+];
+
+#[test]
+fn sessions_are_answered_line_by_line(rt: HostRuntime) -> Result<(), Fail> {
+    let alloc = rt.alloc();
+    for (i, (formula, input, out)) in ANSWERED.iter().enumerate() {
+        let case = Case {
+            words: &["mux", formula],
+            input,
+            out,
+            err: "",
+            status: 0,
+        };
+        assert!(rt; agrees_however_cut(alloc, case, input.len())?, "row {i}");
+    }
+    Ok(())
+}
+
+/// Inputs of which a line has a fault of its own, what is written before it, and the line that tells it.
+const FAULTY: [(&str, &str, &str); 5] = [
+    ("-a 0,0\n", "", "line 1: bad tag\n"),
+    ("-a 0,0", "", "line 1: bad tag\n"),
+    ("a time\na 3\n?\n", "a [3,3] true\n", "line 3: bad tag\n"),
+    (
+        "a time\na 3\nabcdefghijklmnopq 0",
+        "a [3,3] true\n",
+        "line 3: bad tag\n",
+    ),
+    ("a time\n\n a 3\n", "", "line 3: bad tag\n"),
+];
+
+#[test]
+fn a_fault_of_the_input_ends_the_run(rt: HostRuntime) -> Result<(), Fail> {
+    let alloc = rt.alloc();
+    for (i, (input, out, err)) in FAULTY.iter().enumerate() {
+        let case = Case {
+            words: &["mux", "true"],
+            input,
+            out,
+            err,
+            status: 4,
+        };
+        assert!(rt; agrees_however_cut(alloc, case, input.len())?, "row {i}");
+    }
+    Ok(())
+}
+
+/// A line of so many bytes: a tag, a space, and a content of one letter.
+fn long_line(alloc: Global, size: usize) -> Result<String, Fail> {
+    let mut line = String::from_str(alloc, "a ")?;
+    for _bytes in 2..size {
+        line.push('x')?;
+    }
+    Ok(line)
+}
+
+#[test]
+fn a_line_has_at_most_4113_bytes(rt: HostRuntime) -> Result<(), Fail> {
+    let alloc = rt.alloc();
+    let longest = long_line(alloc, 4113)?;
+    let told = Case {
+        words: &["mux", "true"],
+        input: longest.as_str(),
+        out: "a line 1: line too long\n",
+        err: "",
+        status: 0,
+    };
+    assert!(rt; agrees(alloc, told, pieces(4096))? && agrees(alloc, told, pieces(1000))?);
+    let longer = long_line(alloc, 4114)?;
+    let refused = Case {
+        words: &["mux", "true"],
+        input: longer.as_str(),
+        out: "",
+        err: "line 1: line too long\n",
+        status: 4,
+    };
+    assert!(rt; agrees(alloc, refused, pieces(4096))? && agrees(alloc, refused, pieces(1000))?);
+    Ok(())
+}
+
+/// So many lines, each a tag of its own.
+fn tags(alloc: Global, count: u32) -> Result<String, Fail> {
+    let mut all = String::from_str(alloc, "")?;
+    for i in 0..count {
+        let line = format!(in alloc; "t{i}\n")?;
+        all.push_str(line.as_str())?;
+    }
+    Ok(all)
+}
+
+#[test]
+fn the_1025th_tag_ends_the_run(rt: HostRuntime) -> Result<(), Fail> {
+    let alloc = rt.alloc();
+    let mut lines = tags(alloc, 1024)?;
+    lines.push_str("t0 time,x\nt1023 time,x\nt0 0,1\nt1024\n")?;
+    let case = Case {
+        words: &["mux", "x >= 1"],
+        input: lines.as_str(),
+        out: "t0 [0,0] true\n",
+        err: "line 1028: too many sessions\n",
+        status: 4,
+    };
+    assert!(rt; agrees(alloc, case, pieces(4096))? && agrees(alloc, case, pieces(77))?);
+    Ok(())
+}
+
+/// So many single bytes are read before the input fails, and so many bytes of the text are written.
+const READ_FAULTS: [(u64, usize); 9] = [
+    (0, 0),
+    (35, 0),
+    (36, 27),
+    (41, 27),
+    (42, 40),
+    (46, 71),
+    (52, 97),
+    (58, 97),
+    (59, 124),
+];
+
+#[test]
+fn what_was_read_before_a_fault_is_answered(rt: HostRuntime) -> Result<(), Fail> {
+    let alloc = rt.alloc();
+    for (i, (bytes, written)) in READ_FAULTS.iter().enumerate() {
+        let case = Case {
+            words: &["mux", "eventually[0,2] x >= 5"],
+            input: BENCHES,
+            out: TOLD,
+            err: "read fault\n",
+            status: 5,
+        };
+        let devices = Devices {
+            read_most: 1,
+            write_most: 4096,
+            read_fails: bytes + 1,
+            write_fails: 0,
+            tell_fails: 0,
+        };
+        assert!(rt; agrees_so_far(alloc, case, devices, *written)?, "row {i}");
+    }
+    Ok(())
+}
+
+/// The write that fails, where each line's answer is one, and so many bytes of the text are written before it.
+const WRITE_FAULTS: [(u64, usize); 6] = [(1, 0), (2, 27), (3, 40), (4, 71), (5, 97), (6, 124)];
+
+#[test]
+fn a_line_is_answered_before_the_next_is_read(rt: HostRuntime) -> Result<(), Fail> {
+    let alloc = rt.alloc();
+    for (i, (call, written)) in WRITE_FAULTS.iter().enumerate() {
+        let case = Case {
+            words: &["mux", "eventually[0,2] x >= 5"],
+            input: BENCHES,
+            out: TOLD,
+            err: "write fault\n",
+            status: 6,
+        };
+        let devices = Devices {
+            read_most: 1,
+            write_most: 4096,
+            read_fails: 0,
+            write_fails: *call,
+            tell_fails: 0,
+        };
+        assert!(rt; agrees_so_far(alloc, case, devices, *written)?, "row {i}");
+    }
+    Ok(())
+}

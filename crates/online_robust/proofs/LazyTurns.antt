@@ -1,0 +1,83 @@
+-- One step of a window with a low end, which goes on or begins: what it needs, and what it leaves, as one of its operator.
+use Rattle.std.proofs.Common.{◌≡◌, ◌≢◌, ℕ, ◌+◌, List, sym, ap, subst, ◌∙◌, Option, Some, None, pos, ◌≤ℤ◌}
+use Rattle.std.specs.Prelude.{IsSomeAnd, slice_get}
+use Rattle.rational.specs.Time.{Rational, shifted, whole, ◌≈◌}
+use Rattle.rational.proofs.Order.{same_sym, same_trans}
+use Rattle.frac128.specs.Value.{value}
+use Rattle.value_laws.specs.declared.margin.Margin.{Margin}
+use Rattle.pl_signal.specs.declared.knot.Knot.{Knot}
+use Rattle.pl_signal.specs.declared.faults.OpFault.{OpFault}
+use Rattle.stl_syntax.specs.Formula.{subformula}
+use Rattle.online_nodes.specs.StreamedWide.{front_at}
+use Rattle.online_robust.specs.Held.{Held, held_at}
+use Rattle.online_robust.specs.Reading.{IsStretch, IsThere}
+use Rattle.online_robust.specs.Turns.{Turn, Belongs, HasSwept, IsStreamedFault, IsSwept, StandsNow, begin_of, from_of, reach_before}
+use Rattle.online_robust.specs.Waiting.{IsBegun}
+use Rattle.online_robust.specs.Windows.{CanSweep, HasCome, IsWindowFault, Scope, Sheds, best_of}
+use Rattle.online_robust.specs.declared.lazy.Lazy.{Lazy}
+use Rattle.online_robust.specs.declared.line.Reached.{Reached}
+use Rattle.online_robust.specs.declared.operator.Operator.TheVariants as Op
+use Rattle.online_robust.specs.declared.window.Sweep.{Sweep}
+use Rattle.online_robust.specs.declared.window.Window.{Window}
+use Rattle.online_robust.proofs.WindowBridging.{own, scope_of, sweep_same, window_edges, window_fault, window_stands, window_told}
+use Rattle.online_robust.proofs.WindowTurnings.{beginning, going, going_window, has_begun}
+
+-- a window that may go on up to a number, which is `end`
+pub record MaySweep (t : Turn) (z : Lazy) (e : Held) (to : ℕ) (b : Belongs t (Op.Sweep z) e to) (s : Sweep) (end : Rational) : Type 0 where
+  pub from : Rational
+  pub from_is : from ≡ from_of t
+  pub window : s.window ≡ z.window
+  pub whole_can : CanSweep (scope_of t z e to b (value s.place.at)) (own t z e to b) from (whole (pos to)) s e
+  pub can : CanSweep (scope_of t z e to b (value s.place.at)) (own t z e to b) from end s e
+  pub begun : pos (begin_of t) ≤ℤ front_at t.ended (pos t.now) (subformula t.nodes z.window.of)
+
+module _ (t : Turn) (z : Lazy) (e : Held) (to : ℕ) (b : Belongs t (Op.Sweep z) e to) (s : Sweep) (end : Rational) (same : end ≈ whole (pos to)) where
+  -- one that was made before
+  pub may_go_on : z.sweep ≡ Some s → MaySweep t z e to b s end
+  may_go_on is = record {
+    from = (going t z e to b s is).0;
+    from_is = (going t z e to b s is).1;
+    window = going_window t z e to b s is;
+    whole_can = (going t z e to b s is).2;
+    can = sweep_same (scope_of t z e to b (value s.place.at)) (own t z e to b) (going t z e to b s is).0 (whole (pos to)) end s e (same_sym same)
+        (ap (λ (v : Window). shifted (whole (pos to)) v.high) (sym (going_window t z e to b s is))) (going t z e to b s is).2;
+    begun = (going t z e to b s is).3;
+  }
+
+  -- one that is made now
+  pub may_begin : (none : z.sweep ≡ None) → slice_get (held_at e z.window.of) 0 ≢ None → IsBegun z.window (begin_of t) z.silent.last s → MaySweep t z e to b s end
+  may_begin none some k = record {
+    from = (beginning t z e to b none some s k).0;
+    from_is = (beginning t z e to b none some s k).1;
+    window = k.window;
+    whole_can = (beginning t z e to b none some s k).2;
+    can = sweep_same (scope_of t z e to b (value s.place.at)) (own t z e to b) (beginning t z e to b none some s k).0 (whole (pos to)) end s e (same_sym same)
+        (ap (λ (v : Window). shifted (whole (pos to)) v.high) (sym k.window)) (beginning t z e to b none some s k).2;
+    begun = (has_begun t z e to b none some).0;
+  }
+
+  module _ (m : MaySweep t z e to b s end) where
+    abbrev x : Scope
+    x = scope_of t z e to b (value s.place.at)
+
+    pub step_told : (ks : List (Knot Margin)) → IsStretch (best_of (scope_of t z e to b (value s.place.at)) s.window) (reach_before t + own t z e to b) m.from end ks → IsSwept t to ks
+    step_told ks is = window_told t z e to b (value s.place.at) end same m.from m.from_is ks
+        (subst (λ (v : Window). IsStretch (best_of x v) (reach_before t + own t z e to b) m.from end ks) m.window is)
+
+    pub step_fault : (fault : OpFault Margin) → IsWindowFault (scope_of t z e to b (value s.place.at)) s.window end fault → IsStreamedFault t fault
+    step_fault fault is = window_fault t z e to b (value s.place.at) end same fault (subst (λ (v : Window). IsWindowFault x v end fault) m.window is)
+
+    module _ (s' : Sweep) (e' : Held) (kept : s'.window ≡ s.window) (came : HasCome (scope_of t z e to b (value s.place.at)) s' e')
+        (last : IsSomeAnd s'.last (λ r. (value r.at ≡ value s'.place.at) × (value r.at ≈ end)
+        × IsThere (best_of (scope_of t z e to b (value s.place.at)) s.window) (reach_before t + own t z e to b) (value r.at) r.value)) where
+      there : (o : Option Reached) → IsSomeAnd o (λ r. (value r.at ≡ value s'.place.at) × (value r.at ≈ end)
+          × IsThere (best_of x s.window) (reach_before t + own t z e to b) (value r.at) r.value) → value s'.place.at ≈ whole (pos to)
+      there None h = absurd h
+      there (Some r) h = same_trans (subst (λ (u : Rational). u ≈ end) h.0 h.1) same
+
+      pub step_edges : Sheds (shifted end s.window.low) s.window.of e e' → HasSwept t e e' to
+      step_edges shed = window_edges t z e to b (value s.place.at) end same s' e' (kept ∙ m.window) came (there s'.last last) m.begun
+          (subst (λ (v : Window). Sheds (shifted end v.low) v.of e e') m.window shed)
+
+      pub step_stands : (z' : Lazy) → z'.window ≡ z.window → z'.sweep ≡ Some s' → StandsNow t (Op.Sweep z') e' to
+      step_stands z' window is = window_stands t z e to b (value s.place.at) end same m.from s s' z' e' m.whole_can m.window kept came m.begun last window is

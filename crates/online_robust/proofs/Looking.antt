@@ -1,0 +1,75 @@
+-- How far a window looks over its input.
+use Rattle.std.proofs.Common.{◌≡◌, ◌⊎◌, inl, inr, ℕ, ◌≤◌, Bool, true, false, refl, sym, ap, subst, ◌∙◌, arith, ℤ, pos, ◌+ℤ◌, ◌<ℤ◌, ◌≤ℤ◌}
+use Rattle.std.proofs.lemmas.Int.{ints}
+use Rattle.rational.specs.Time.{shifted, whole, ◌≈◌, ◌≤ʳ◌}
+use Rattle.rational.proofs.Order.{le_of_same, le_trans, same_refl}
+use Rattle.rational.proofs.Shift.{le_whole}
+use Rattle.stl_syntax.specs.Trace.{stop, last_time}
+use Rattle.stl_syntax.specs.Formula.{subformula, horizon}
+use Rattle.online_nodes.specs.StreamedWide.{front_at}
+use Rattle.online_robust.specs.Held.{Held}
+use Rattle.online_robust.specs.Turns.{Turn, Belongs, begin_of}
+use Rattle.online_robust.specs.declared.operator.Operator.{Operator}
+use Rattle.online_robust.proofs.Bridging.{small_to}
+
+-- a whole time moved by an offset
+pub shifted_whole : (k j : ℤ) → shifted (whole k) j ≈ whole (k +ℤ j)
+shifted_whole k j = omega (arith, ints)
+
+module _ (t : Turn) (op : Operator) (e : Held) (to : ℕ) (b : Belongs t op e to) (of : ℕ) where
+  abbrev front_of : ℤ
+  front_of = front_at t.ended (pos t.now) (subformula t.nodes of)
+
+  -- the input stands by the last row
+  front_by : front_of ≤ℤ pos t.now
+  front_by = by_end t.ended
+    where
+      by_end : (c : Bool) → front_at c (pos t.now) (subformula t.nodes of) ≤ℤ pos t.now
+      by_end true = omega (arith, ints)
+      by_end false = omega (arith, ints)
+
+  pub front_by_stop : whole front_of ≤ʳ stop t.trace
+  front_by_stop = let le = front_by in let last = b.by_now in le_whole {j = front_of} {k = pos (last_time 0 t.trace.rows)} (omega (arith, ints, le, last))
+
+  -- where the input has ended all stand at the end
+  at_now : t.ended ≡ true → front_of ≡ pos t.now
+  at_now ended = ap (λ c. front_at c (pos t.now) (subformula t.nodes of)) ended
+
+  to_now : t.ended ≡ true → pos to ≡ pos t.now
+  to_now ended = b.number ∙ ap (λ c. front_at c (pos t.now) (subformula t.nodes t.place)) ended
+
+  at_stop : t.ended ≡ true → whole (pos t.now) ≈ stop t.trace
+  at_stop ended = let last = b.at_end ended in subst (λ k. whole (pos t.now) ≈ whole (pos k)) last (same_refl (whole (pos t.now)))
+
+  module _ (by : ℤ) (far : (pos (horizon (subformula t.nodes of)) +ℤ by) ≤ℤ pos (horizon (subformula t.nodes t.place))) where
+    -- what is looked at is told, or the input has ended
+    limit : ((pos to +ℤ by) ≤ℤ front_of) ⊎ (t.ended ≡ true)
+    limit = by_end t.ended refl b.number
+      where
+        by_end : (c : Bool) → t.ended ≡ c → pos to ≡ front_at c (pos t.now) (subformula t.nodes t.place)
+            → ((pos to +ℤ by) ≤ℤ front_at c (pos t.now) (subformula t.nodes of)) ⊎ (t.ended ≡ true)
+        by_end true same e = inr same
+        by_end false same e = inl (omega (arith, ints, e, far))
+
+    pub told_as_far : (shifted (whole (pos to)) by ≤ʳ whole front_of) ⊎ ((whole front_of ≈ stop t.trace) × (whole (pos to) ≈ stop t.trace))
+    told_as_far = by_limit limit
+      where
+        by_limit : ((pos to +ℤ by) ≤ℤ front_of) ⊎ (t.ended ≡ true)
+            → (shifted (whole (pos to)) by ≤ʳ whole front_of) ⊎ ((whole front_of ≈ stop t.trace) × (whole (pos to) ≈ stop t.trace))
+        by_limit (inl le) = inl (le_trans (le_of_same (shifted_whole (pos to) by)) (le_whole le))
+        by_limit (inr ended) = inr (
+          subst (λ k. whole k ≈ stop t.trace) (sym (at_now ended)) (at_stop ended),
+          subst (λ k. whole k ≈ stop t.trace) (sym (to_now ended)) (at_stop ended),
+        )
+
+    -- where the input has given out nothing, all that is looked at lies before the start
+    pub looks_before : front_of <ℤ pos (begin_of t) → (pos to +ℤ by) <ℤ pos (begin_of t)
+    looks_before lt = by_limit limit
+      where
+        by_limit : ((pos to +ℤ by) ≤ℤ front_of) ⊎ (t.ended ≡ true) → (pos to +ℤ by) <ℤ pos (begin_of t)
+        by_limit (inl le) = omega (arith, ints, le, lt)
+        by_limit (inr ended) =
+            let now = at_now ended in
+            let small = small_to t op e to b in
+            let from = b.from_start in
+            absurd (omega (arith, ints, now, small, from, lt))

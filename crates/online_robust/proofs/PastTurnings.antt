@@ -1,0 +1,247 @@
+-- A window without a low end that goes on in a turn, and one that begins in it.
+use Rattle.std.proofs.Common.{◌≡◌, ◌≢◌, ◌⊎◌, inl, inr, ℕ, ◌+◌, ◌<◌, ◌≤◌, ◌^◌, Bool, true, false, List, [], ◌∷◌, ◌++◌, length, refl, sym, ap, subst, ◌∙◌, arith, Option, Some, None, ℤ, pos, ◌+ℤ◌, ◌<ℤ◌, ◌≤ℤ◌}
+use Rattle.std.specs.Prelude.{neg_ℤ, ◌-ℤ◌, MatchBool, MatchOption, IfSome, IsSome, IsSomeAnd, int_lt, cond, slice_get}
+use Rattle.std.proofs.lemmas.Int.{ints}
+use Rattle.rational.specs.Rational.{IsWithin}
+use Rattle.rational.specs.Time.{Rational, Precedes, shifted, whole, ◌≈◌, ◌≤ʳ◌, ◌<ʳ◌}
+use Rattle.rational.specs.Extended.{Extended, minus_infinity, infinity, value_at, ◌≈ᵉ◌}
+use Rattle.rational.proofs.Order.{le_refl, le_trans, le_of_lt, le_of_same, ge_of_same, lt_of_le_of_lt, lt_of_lt_of_le, not_lt_of_le, same_refl, same_sym, same_trans}
+use Rattle.rational.proofs.Shift.{le_whole, lt_whole}
+use Rattle.rational.proofs.TimeLemmas.{same_shifted}
+use Rattle.frac128.specs.Value.{value}
+use Rattle.frac128.specs.declared.frac.Frac.{Frac}
+use Rattle.value_laws.specs.Margins.{is_ramp, margin_function}
+use Rattle.value_laws.specs.declared.margin.Margin.{Margin}
+use Rattle.envelope.specs.Turns.{none_of}
+use Rattle.pl_signal.specs.declared.joining.Side.{Side}
+use Rattle.pl_signal.proofs.Values.{some_is}
+use Rattle.stl_syntax.specs.Trace.{Trace, first_time, start, stop}
+use Rattle.stl_syntax.specs.Formula.{Subformula, subformula}
+use Rattle.stl_syntax.specs.SupInf.{Robustness}
+use Rattle.online_nodes.specs.StreamedWide.{front_at}
+use Rattle.online_nodes.proofs.RunLaw.{int_order}
+use Rattle.online_robust.specs.Held.{Held, edge_at, fresh_at, held_at}
+use Rattle.online_robust.specs.Told.{AreFit, AreTold, IsTick}
+use Rattle.online_robust.specs.Queues.{StandsFor}
+use Rattle.online_robust.specs.Sweeping.{IsBefore}
+use Rattle.online_robust.specs.Reading.{HasReached, IsThere}
+use Rattle.online_robust.specs.Standing.{HasStood, HasPassedTo, HasWaitedPast}
+use Rattle.online_robust.specs.Turns.{Turn, Belongs, AreInputs, IsInput, back_of, begin_of, from_of, reach_before, seen_by}
+use Rattle.online_robust.specs.Waiting.{HasToldPast, IsBegunPast, silent_margin}
+use Rattle.online_robust.specs.WindowPasts.{CanPass, IsFitPast, IsPastAt, IsSettled, StoodPast}
+use Rattle.online_robust.specs.Windows.{HasTold, IsOwned, IsSpan, Scope, at_time, best_of, scope_at}
+use Rattle.online_robust.specs.declared.ends.Gap.{Gap}
+use Rattle.online_robust.specs.declared.endless.Endless.{Endless}
+use Rattle.online_robust.specs.declared.line.MarginLine.{MarginLine}
+use Rattle.online_robust.specs.declared.line.Reached.{Reached}
+use Rattle.online_robust.specs.declared.operator.Operator.TheVariants as Op
+use Rattle.online_robust.specs.declared.past.Past.{Past}
+use Rattle.online_robust.specs.declared.window.Window.{Window}
+use Rattle.online_robust.proofs.Bridging.{from_none, from_some, inputs_of}
+use Rattle.online_robust.proofs.Looking.{looks_before, shifted_whole}
+use Rattle.online_robust.proofs.Robustly.{robust_is_function}
+use Rattle.online_robust.proofs.Builts.{tick_within}
+use Rattle.online_robust.proofs.PastAgain.{past_first, past_go_on}
+use Rattle.online_robust.proofs.WindowFaults.{no_later}
+use Rattle.online_robust.proofs.WindowTurnings.{none_there}
+use Rattle.rational.proofs.Mixed.{within_same}
+use Rattle.online_robust.proofs.PastBridging.{far, first_tick, fit, front_last, here, input, of_in, own, scope_of, stays_begun, to_first, to_last, to_tick, told_far}
+
+-- ---- a window that goes on
+
+module _ (t : Turn) (z : Endless) (e : Held) (to : ℕ) (b : Belongs t (Op.Past z) e to) (s : Past) (is : z.past ≡ Some s) where
+  state : (s.window ≡ z.window) × IsSomeAnd t.before (HasPassedTo t.nodes t.place t.trace z.window.of (own t z e to b) s (seen_by b.node e))
+  state = subst (λ (o : Option Past). MatchOption o ((seen_by b.node e ≡ []) × HasWaitedPast z (begin_of t) (reach_before t + own t z e to b) t.before)
+      (λ s. (s.window ≡ z.window) × IsSomeAnd t.before (HasPassedTo t.nodes t.place t.trace z.window.of (own t z e to b) s (seen_by b.node e)))) is b.stands.1
+
+  pub going_window : s.window ≡ z.window
+  going_window = state.0
+
+  pub going : (from : Rational) × (from ≡ from_of t) × CanPass (scope_of t z e to b (value s.at)) (own t z e to b) from (whole (pos to)) s e
+      × (pos (begin_of t) ≤ℤ front_at t.ended (pos t.now) (subformula t.nodes z.window.of))
+  going = by_before t.before refl state.1
+    where
+      by_before : (o : Option ℤ) → t.before ≡ o → IsSomeAnd o (HasPassedTo t.nodes t.place t.trace z.window.of (own t z e to b) s (seen_by b.node e))
+          → (from : Rational) × (from ≡ from_of t) × CanPass (scope_of t z e to b (value s.at)) (own t z e to b) from (whole (pos to)) s e
+          × (pos (begin_of t) ≤ℤ front_at t.ended (pos t.now) (subformula t.nodes z.window.of))
+      by_before None before h = absurd h
+      by_before (Some g) before (over, begun) =
+          let le = stays_begun t z e to b g before begun in
+          let forth = subst (λ (o : Option ℤ). IfSome o (λ g. (pos (begin_of t) ≤ℤ g) × (g <ℤ pos to))) before b.forth in
+          let inputs = inputs_of (Robustness (subformula t.nodes z.window.of) t.trace) (reach_before t) (begin_of t) (back_of (begin_of t) (Some g) z.window.high)
+          (front_at t.ended (pos t.now) (subformula t.nodes z.window.of)) (held_at e z.window.of) le
+          (subst (λ (o : Option ℤ). IsInput (Robustness (subformula t.nodes z.window.of) t.trace) (reach_before t) (begin_of t) (back_of (begin_of t) o z.window.high)
+          (front_at t.ended (pos t.now) (subformula t.nodes z.window.of)) (held_at e z.window.of)) before (input t z e to b)) in
+          let last : whole g ≤ʳ whole (pos to) = le_of_lt (lt_whole forth.1) in (
+            whole g,
+            sym (from_some t (Op.Past z) e to b g before),
+            subst (λ (v : Window). CanPass (scope_at (subformula t.nodes z.window.of) t.trace (reach_before t) (whole (front_at t.ended (pos t.now) (subformula t.nodes z.window.of)))
+                (shifted (whole (pos to)) v.high) (value s.at)) (own t z e to b) (whole g) (whole (pos to)) s e) state.0
+                (past_go_on (subformula t.nodes z.window.of) t.trace (reach_before t) (own t z e to b) g s e
+                (subst (λ l. StoodPast (subformula t.nodes z.window.of) t.trace (reach_before t) (own t z e to b) (whole g) s l)
+                ((here t z e to b).seen e ∙ ap (λ (v : Window). (edge_at e v.of).seen) (sym state.0)) over)
+                (front_at t.ended (pos t.now) (subformula t.nodes z.window.of)) (pos to)
+                (subst (λ (v : Window). AreInputs (Robustness (subformula t.nodes z.window.of) t.trace) (reach_before t) (begin_of t) (back_of (begin_of t) (Some g) v.high)
+                (front_at t.ended (pos t.now) (subformula t.nodes z.window.of)) (held_at e v.of)) (sym state.0) inputs)
+                (subst (λ (v : Window). v.of < length e.edges) (sym state.0) (of_in t z e to b)) forth.1 (le_whole {j = pos (begin_of t)} {k = g} forth.0)
+                (le_trans (first_tick t z e to b).0 (le_whole {j = pos (begin_of t)} {k = g} forth.0), le_trans last (to_tick t z e to b).1)
+                (to_tick t z e to b) (to_last t z e to b) (le_whole le, front_last t z e to b)
+                (subst (λ (v : Window). (shifted (whole (pos to)) v.high ≤ʳ whole (front_at t.ended (pos t.now) (subformula t.nodes z.window.of)))
+                ⊎ ((whole (front_at t.ended (pos t.now) (subformula t.nodes z.window.of)) ≈ stop t.trace) × (whole (pos to) ≈ stop t.trace))) (sym state.0) (told_far t z e to b))
+                (subst (λ v. IsOwned v (own t z e to b)) (sym state.0) (here t z e to b).own)),
+            le,
+          )
+
+-- ---- a window that begins
+
+module _ (t : Turn) (z : Endless) (e : Held) (to : ℕ) (b : Belongs t (Op.Past z) e to) (none : z.past ≡ None) where
+  pub waited : (seen_by b.node e ≡ []) × HasWaitedPast z (begin_of t) (reach_before t + own t z e to b) t.before
+  waited = subst (λ (o : Option Past). MatchOption o ((seen_by b.node e ≡ []) × HasWaitedPast z (begin_of t) (reach_before t + own t z e to b) t.before)
+      (λ s. (s.window ≡ z.window) × IsSomeAnd t.before (HasPassedTo t.nodes t.place t.trace z.window.of (own t z e to b) s (seen_by b.node e)))) none b.stands.1
+
+  pub nothing_seen : (edge_at e z.window.of).seen ≡ []
+  nothing_seen = sym ((here t z e to b).seen e) ∙ waited.0
+
+  -- it has read none of the input's lines
+  back_none : (o : Option ℤ) → IfSome o (λ g. (g +ℤ z.window.high) <ℤ pos (begin_of t)) → back_of (begin_of t) o z.window.high ≡ None
+  back_none None short = refl
+  back_none (Some g) short = by_test (int_lt (g +ℤ z.window.high) (pos (begin_of t))) refl
+    where
+      by_test : (c : Bool) → int_lt (g +ℤ z.window.high) (pos (begin_of t)) ≡ c → cond c None (Some (g +ℤ z.window.high)) ≡ None
+      by_test true f = refl
+      by_test false f =
+          let le = int_order (g +ℤ z.window.high) (pos (begin_of t)) false f in
+          absurd (omega (arith, ints, le, short))
+
+  first_input : IsInput (Robustness (subformula t.nodes z.window.of) t.trace) (reach_before t) (begin_of t) None (front_at t.ended (pos t.now) (subformula t.nodes z.window.of)) (held_at e z.window.of)
+  first_input = subst (λ (o : Option ℤ). IsInput (Robustness (subformula t.nodes z.window.of) t.trace) (reach_before t) (begin_of t) o
+      (front_at t.ended (pos t.now) (subformula t.nodes z.window.of)) (held_at e z.window.of)) (back_none t.before waited.1.short) (input t z e to b)
+
+  -- an empty edge is that of an input that has given out nothing
+  pub not_begun : slice_get (held_at e z.window.of) 0 ≡ None → front_at t.ended (pos t.now) (subformula t.nodes z.window.of) <ℤ pos (begin_of t)
+  not_begun empty = by_test (int_lt (front_at t.ended (pos t.now) (subformula t.nodes z.window.of)) (pos (begin_of t))) refl first_input
+    where
+      by_test : (c : Bool) → int_lt (front_at t.ended (pos t.now) (subformula t.nodes z.window.of)) (pos (begin_of t)) ≡ c
+          → MatchBool c (held_at e z.window.of ≡ []) (AreInputs (Robustness (subformula t.nodes z.window.of) t.trace) (reach_before t) (begin_of t) None
+          (front_at t.ended (pos t.now) (subformula t.nodes z.window.of)) (held_at e z.window.of)) → front_at t.ended (pos t.now) (subformula t.nodes z.window.of) <ℤ pos (begin_of t)
+      by_test true f h = int_order (front_at t.ended (pos t.now) (subformula t.nodes z.window.of)) (pos (begin_of t)) true f
+      by_test false f inputs = let (p, v, rest, is, when, joined) = inputs.left in
+          absurd (let k : ◌≡◌ {A = Option MarginLine} (Some _) None = sym (ap (λ (l : List MarginLine). slice_get l 0) is) ∙ empty in let y = k in cc)
+
+  -- one that is not empty, that of an input that has
+  pub has_begun : slice_get (held_at e z.window.of) 0 ≢ None → (pos (begin_of t) ≤ℤ front_at t.ended (pos t.now) (subformula t.nodes z.window.of))
+      × AreInputs (Robustness (subformula t.nodes z.window.of) t.trace) (reach_before t) (begin_of t) None (front_at t.ended (pos t.now) (subformula t.nodes z.window.of)) (held_at e z.window.of)
+  has_begun some = by_test (int_lt (front_at t.ended (pos t.now) (subformula t.nodes z.window.of)) (pos (begin_of t))) refl first_input
+    where
+      by_test : (c : Bool) → int_lt (front_at t.ended (pos t.now) (subformula t.nodes z.window.of)) (pos (begin_of t)) ≡ c
+          → MatchBool c (held_at e z.window.of ≡ []) (AreInputs (Robustness (subformula t.nodes z.window.of) t.trace) (reach_before t) (begin_of t) None
+          (front_at t.ended (pos t.now) (subformula t.nodes z.window.of)) (held_at e z.window.of))
+          → (pos (begin_of t) ≤ℤ front_at t.ended (pos t.now) (subformula t.nodes z.window.of))
+          × AreInputs (Robustness (subformula t.nodes z.window.of) t.trace) (reach_before t) (begin_of t) None (front_at t.ended (pos t.now) (subformula t.nodes z.window.of)) (held_at e z.window.of)
+      by_test true f h = absurd (some (ap (λ (l : List MarginLine). slice_get l 0) h))
+      by_test false f inputs = (int_order (front_at t.ended (pos t.now) (subformula t.nodes z.window.of)) (pos (begin_of t)) false f, inputs)
+
+  module _ (some : slice_get (held_at e z.window.of) 0 ≢ None) (s : Past) (k : IsBegunPast z.window (begin_of t) z.silent.last s) where
+    abbrev f : Subformula
+    f = subformula t.nodes z.window.of
+
+    abbrev F : ℤ
+    F = front_at t.ended (pos t.now) (subformula t.nodes z.window.of)
+
+    abbrev x : Scope
+    x = scope_of t z e to b (value s.at)
+
+    in_front : (start t.trace ≤ʳ whole F) × (whole F ≤ʳ stop t.trace)
+    in_front = (le_whole {j = pos (begin_of t)} {k = F} (has_begun some).0, front_last t z e to b)
+
+    ended : (shifted (whole (pos to)) z.window.high ≤ʳ whole F) ⊎ (whole F ≈ stop t.trace)
+    ended = by_told (told_far t z e to b)
+      where
+        by_told : (shifted (whole (pos to)) z.window.high ≤ʳ whole F) ⊎ ((whole F ≈ stop t.trace) × (whole (pos to) ≈ stop t.trace))
+            → (shifted (whole (pos to)) z.window.high ≤ʳ whole F) ⊎ (whole F ≈ stop t.trace)
+        by_told (inl le) = inl le
+        by_told (inr h) = inr h.0
+
+    -- its high end lies before the start
+    first : IsWithin (2 ^ 34) (value s.at) → shifted (value s.at) z.window.high <ʳ start t.trace → IsPastAt x s e × IsSettled s
+    first near early =
+        subst (λ (v : Window). ((u : Rational) → value_at (margin_function s.none) u ≈ᵉ none_of v.side minus_infinity infinity)
+        → shifted (value s.at) v.high <ʳ value s.start → AreInputs (Robustness f t.trace) (reach_before t) (begin_of t) None F (held_at e v.of)
+        → (edge_at e v.of).seen ≡ [] → v.of < length e.edges → IsFitPast v (reach_before t) → IsPastAt x s e × IsSettled s) k.window
+        (λ none early' inputs nil of_in fit'.
+        past_first f t.trace (reach_before t) s e F (shifted (whole (pos to)) z.window.high) k.begins none k.still k.gap k.point k.best near early' inputs nil of_in
+        fit' (first_tick t z e to b) in_front ended)
+        k.none (lt_of_lt_of_le early (ge_of_same k.begins)) (has_begun some).1 nothing_seen (of_in t z e to b) (fit t z e to b)
+
+    span : (from : Rational) → from ≤ʳ whole (pos to) → IsTick from → start t.trace ≤ʳ from → IsSpan x s.window (own t z e to b) from (whole (pos to))
+    span from order tick begins = subst (λ (v : Window). IsSpan x v (own t z e to b) from (whole (pos to))) (sym k.window) (record {
+      offsets = subst (λ j. j <ℤ z.window.high) (sym (fit t z e to b).low) (let h = (fit t z e to b).from in omega (arith, ints, h));
+      owns = (here t z e to b).own;
+      aside = inr (here t z e to b).behind;
+      order = order;
+      from_tick = tick;
+      to_tick = to_tick t z e to b;
+      begins = begins;
+      ends = to_last t z e to b;
+      by = le_refl (shifted (whole (pos to)) z.window.high);
+      told = told_far t z e to b;
+    })
+
+    -- nothing was told before
+    first_turn : (value s.at ≈ whole (pos (begin_of t) -ℤ pos 4294967296)) → s.last ≡ None → CanPass x (own t z e to b) (start t.trace) (whole (pos to)) s e
+    first_turn at last =
+        let before : value s.at <ʳ start t.trace = lt_of_le_of_lt (le_of_same at) (lt_whole {j = pos (begin_of t) -ℤ pos 4294967296} {k = pos (begin_of t)}
+        (omega (arith, ints))) in
+        let low : whole (neg_ℤ (pos (2 ^ 34))) ≤ʳ value s.at = le_trans (le_whole {j = neg_ℤ (pos (2 ^ 34))} {k = pos (begin_of t) -ℤ pos 4294967296}
+        (omega (arith, ints))) (ge_of_same at) in
+        let near : IsWithin (2 ^ 34) (value s.at) = (low, le_trans (le_of_lt before) (tick_within (first_tick t z e to b)).1) in
+        let now = first near (lt_of_le_of_lt (no_later (value s.at) z.window.high (here t z e to b).behind) before) in
+        record {
+          at = now.0;
+          settled = now.1;
+          last = subst (λ (o : Option Reached). HasTold (at_time x (value s.at) (value s.at)) (own t z e to b) (start t.trace) s.window o) (sym last)
+              (same_refl (start t.trace), before);
+          span = span (start t.trace) (to_first t z e to b) (first_tick t z e to b) (le_refl (start t.trace));
+        }
+
+    -- the empty window was told up to a number
+    later_turn : (g : ℤ) (r : Reached) → s.at ≡ r.at → s.last ≡ Some r → (g +ℤ z.window.high) <ℤ pos (begin_of t)
+        → HasReached (silent_margin z.window.side) (reach_before t + own t z e to b) (whole g) (Some r) → pos (begin_of t) ≤ℤ g → g <ℤ pos to
+        → CanPass x (own t z e to b) (whole g) (whole (pos to)) s e
+    later_turn g r placed last short there from after =
+        let at_g : value s.at ≈ whole g = subst (λ (i : Frac). value i ≈ whole g) (sym placed) there.0 in
+        let early : shifted (value s.at) z.window.high <ʳ start t.trace = lt_of_le_of_lt
+        (le_of_same (same_trans (same_shifted z.window.high at_g) (shifted_whole g z.window.high))) (lt_whole short) in
+        let begins : start t.trace ≤ʳ whole g = le_whole {j = pos (begin_of t)} {k = g} from in
+        let order : whole g ≤ʳ whole (pos to) = le_of_lt (lt_whole after) in
+        let tick : IsTick (whole g) = (le_trans (first_tick t z e to b).0 begins, le_trans order (to_tick t z e to b).1) in
+        let now = first (within_same (2 ^ 34) (same_sym at_g) (tick_within tick)) early in
+        record {
+          at = now.0;
+          settled = now.1;
+          last = subst (λ (o : Option Reached). HasTold (at_time x (value s.at) (value s.at)) (own t z e to b) (whole g) s.window o) (sym last) (
+            ap value (sym placed),
+            there.0,
+            subst (λ (v : Window). IsThere (best_of x v) (reach_before t + own t z e to b) (value r.at) r.value) (sym k.window)
+                (none_there f t.trace (reach_before t) (reach_before t + own t z e to b) (whole F) (shifted (whole (pos to)) z.window.high) (value s.at) z.window
+                (value r.at) r.value (subst (λ (i : Frac). shifted (value i) z.window.high <ʳ start t.trace) placed early) there.2),
+          );
+          span = span (whole g) order tick begins;
+        }
+
+    pub beginning : (from : Rational) × (from ≡ from_of t) × CanPass x (own t z e to b) from (whole (pos to)) s e
+    beginning = by_told z.silent.last t.before refl k.told waited.1.short waited.1.stood b.forth
+      where
+        by_told : (o : Option Reached) (before : Option ℤ) → t.before ≡ before → HasToldPast (begin_of t) o s
+            → IfSome before (λ g. (g +ℤ z.window.high) <ℤ pos (begin_of t))
+            → HasStood (silent_margin z.window.side) (reach_before t + own t z e to b) before o → IfSome before (λ g. (pos (begin_of t) ≤ℤ g) × (g <ℤ pos to))
+            → (from : Rational) × (from ≡ from_of t) × CanPass x (own t z e to b) from (whole (pos to)) s e
+        by_told None None is told short stood forth = (start t.trace, sym (from_none t (Op.Past z) e to b is), first_turn told.0 told.1)
+        by_told None (Some g) is told short (r, kept, reached) forth = absurd (let y : ◌≡◌ {A = Option Reached} None (Some r) = kept in cc)
+        by_told (Some r) None is told short stood forth = absurd (let y : ◌≡◌ {A = Option Reached} (Some r) None = stood in cc)
+        by_told (Some r) (Some g) is told short (r', kept, reached) forth = (
+          whole g,
+          sym (from_some t (Op.Past z) e to b g is),
+          later_turn g r told.0 told.1 short (subst (λ (q : Reached). HasReached (silent_margin z.window.side) (reach_before t + own t z e to b) (whole g) (Some q))
+              (sym (some_is kept)) reached) forth.0 forth.1,
+        )

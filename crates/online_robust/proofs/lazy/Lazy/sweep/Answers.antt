@@ -1,0 +1,24 @@
+use Rattle.std.proofs.Common.{◌≡◌, ◌≢◌, sym, ◌∙◌, Some, None}
+use Rattle.std.specs.Prelude.{Option}
+use Rattle.envelope.proofs.Leaving.{none_there}
+use Rattle.online_robust.specs.declared.line.MarginLine.{MarginLine}
+use Rattle.online_robust.proofs.WindowBridging.{of_in}
+use Rattle.online_robust.proofs.lazy.Lazy.sweep.Goals as goal
+
+pub go_on-requires-clause-some : goal.go_on-requires-clause-some
+go_on-requires-clause-some c = sym c.is_some.ensures ∙ c.if-is_some.true
+
+pub first-requires : goal.first-requires
+first-requires c = let (t, b) = c.requires in of_in t c.args.self.now c.args.edges.now c.args.to b
+
+pub begin-requires-clause-none : goal.begin-requires-clause-none
+begin-requires-clause-none c = none_there c.args.self.now.sweep c.is_some.result c.is_some.ensures c.if-is_some.false
+
+pub begin-requires-clause-some : goal.begin-requires-clause-some
+begin-requires-clause-some c = λ e. let y : ◌≡◌ {A = Option MarginLine} (Some _) None = sym c.in-Some.is ∙ c.first.ensures ∙ e in absurd (let z = y in cc)
+
+pub wait-requires-clause-none : goal.wait-requires-clause-none
+wait-requires-clause-none c = none_there c.args.self.now.sweep c.is_some.result c.is_some.ensures c.if-is_some.false
+
+pub wait-requires-clause-empty : goal.wait-requires-clause-empty
+wait-requires-clause-empty c = sym c.first.ensures ∙ c.in-None.is

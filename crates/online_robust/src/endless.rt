@@ -1,0 +1,157 @@
+//! A window without a low end, which begins once its input has given out something.
+ghost use Rattle.std.specs.Prelude.{◌≡◌, ◌≢◌, OnOk, IfOk, IfErr, IsSome, None, slice_get};
+ghost use Rattle.online_robust.specs.Held.{held_at};
+ghost use Rattle.online_robust.specs.Turns.{Turn, Belongs, BelongsSomewhere, HasSwept, IsStreamedFault, IsSwept, StandsNow};
+ghost use Rattle.online_robust.specs.Waiting.{IsBegunPast, endless_of};
+ghost use Rattle.online_robust.specs.declared.operator.Operator.TheVariants as Op;
+
+use crate::edges::Edges;
+use crate::glance::Moved;
+use crate::line::Reached;
+use crate::past::Past;
+use crate::window::Window;
+use frac128::Frac;
+use pl_signal::{OpFault, Signal};
+use std::alloc::Global;
+use value_laws::Margin;
+
+/// A window. While its input has given out nothing, an empty window tells the value of no times in its place.
+#[derive(Drop)]
+pub(crate) struct Endless {
+    pub(crate) window: Window,
+    pub(crate) silent: Moved,
+    pub(crate) past: Option<Past>,
+}
+
+/// A window that was told up to where the empty one was.
+fn begun(window: Window, start: u32, told: Option<Reached>) -> Past
+    ensures { IsBegunPast window start told result }
+{
+    let mut past = Past::new(window, start);
+    match told {
+        Some(reached) => {
+            past.stand(reached);
+            past
+        }
+        None => past,
+    }
+}
+
+impl Endless {
+    /// A window before anything was told.
+    pub(crate) fn new(window: Window) -> Endless
+        ensures { result ≡ endless_of window }
+    {
+        Endless {
+            window,
+            silent: Moved {
+                of: window.of,
+                side: window.side,
+                by: window.high,
+                inside: false,
+                last: None,
+            },
+            past: None,
+        }
+    }
+
+    /// The window goes on.
+    fn go_on(
+        &mut self,
+        alloc: Global,
+        edges: &mut Edges,
+        to: u32,
+    ) -> Result<Signal<Margin>, OpFault<Margin>>
+        requires belongs { BelongsSomewhere (Op.Past self.old) edges.old to }
+        requires some { IsSome self.old.past }
+        ensures told { (t : Turn) → Belongs t (Op.Past self.old) edges.old to → IfOk result (IsSwept t to) }
+        ensures edges { (t : Turn) → Belongs t (Op.Past self.old) edges.old to → OnOk result (HasSwept t edges.old edges.new to) }
+        ensures stands { (t : Turn) → Belongs t (Op.Past self.old) edges.old to → OnOk result (StandsNow t (Op.Past self.new) edges.new to) }
+        ensures wide { (t : Turn) → Belongs t (Op.Past self.old) edges.old to → IfErr result (IsStreamedFault t) }
+    {
+        let end = Frac::of(i64::from(to));
+        match &mut self.past {
+            Some(past) => {
+                let swept = past.sweep(alloc, edges, &end)?;
+                Ok(swept)
+            }
+            None => unreachable!(),
+        }
+    }
+
+    /// Nothing is to be seen yet.
+    fn wait(
+        &mut self,
+        alloc: Global,
+        edges: &mut Edges,
+        to: u32,
+    ) -> Result<Signal<Margin>, OpFault<Margin>>
+        requires belongs { BelongsSomewhere (Op.Past self.old) edges.old to }
+        requires none { self.old.past ≡ None }
+        requires empty { slice_get (held_at edges.old self.old.window.of) 0 ≡ None }
+        ensures told { (t : Turn) → Belongs t (Op.Past self.old) edges.old to → IfOk result (IsSwept t to) }
+        ensures edges { (t : Turn) → Belongs t (Op.Past self.old) edges.old to → OnOk result (HasSwept t edges.old edges.new to) }
+        ensures stands { (t : Turn) → Belongs t (Op.Past self.old) edges.old to → OnOk result (StandsNow t (Op.Past self.new) edges.new to) }
+        ensures wide { (t : Turn) → Belongs t (Op.Past self.old) edges.old to → IfErr result (IsStreamedFault t) }
+    {
+        let Some(start) = edges.start() else {
+            unreachable!()
+        };
+        let end = Frac::of(i64::from(to));
+        match self.silent.sweep(alloc, edges, start, &end) {
+            Ok(swept) => Ok(swept),
+            Err(_) => Err(OpFault::Memory),
+        }
+    }
+
+    /// The input has begun.
+    fn begin(
+        &mut self,
+        alloc: Global,
+        edges: &mut Edges,
+        to: u32,
+    ) -> Result<Signal<Margin>, OpFault<Margin>>
+        requires belongs { BelongsSomewhere (Op.Past self.old) edges.old to }
+        requires none { self.old.past ≡ None }
+        requires some { slice_get (held_at edges.old self.old.window.of) 0 ≢ None }
+        ensures told { (t : Turn) → Belongs t (Op.Past self.old) edges.old to → IfOk result (IsSwept t to) }
+        ensures edges { (t : Turn) → Belongs t (Op.Past self.old) edges.old to → OnOk result (HasSwept t edges.old edges.new to) }
+        ensures stands { (t : Turn) → Belongs t (Op.Past self.old) edges.old to → OnOk result (StandsNow t (Op.Past self.new) edges.new to) }
+        ensures wide { (t : Turn) → Belongs t (Op.Past self.old) edges.old to → IfErr result (IsStreamedFault t) }
+    {
+        let Some(start) = edges.start() else {
+            unreachable!()
+        };
+        let end = Frac::of(i64::from(to));
+        let mut past = begun(self.window, start, self.silent.last);
+        let swept = past.sweep(alloc, edges, &end)?;
+        self.past = Some(past);
+        Ok(swept)
+    }
+
+    /// The margins of its node from where it stood, or from the start, on up to a number.
+    ///
+    /// # Errors
+    ///
+    /// As those of `Operator::sweep`.
+    pub(crate) fn sweep(
+        &mut self,
+        alloc: Global,
+        edges: &mut Edges,
+        to: u32,
+    ) -> Result<Signal<Margin>, OpFault<Margin>>
+        requires { BelongsSomewhere (Op.Past self.old) edges.old to }
+        ensures told { (t : Turn) → Belongs t (Op.Past self.old) edges.old to → IfOk result (IsSwept t to) }
+        ensures edges { (t : Turn) → Belongs t (Op.Past self.old) edges.old to → OnOk result (HasSwept t edges.old edges.new to) }
+        ensures stands { (t : Turn) → Belongs t (Op.Past self.old) edges.old to → OnOk result (StandsNow t (Op.Past self.new) edges.new to) }
+        ensures wide { (t : Turn) → Belongs t (Op.Past self.old) edges.old to → IfErr result (IsStreamedFault t) }
+    {
+        if self.past.is_some() {
+            return self.go_on(alloc, edges, to);
+        }
+        match edges.first(self.window.of) {
+            Some(_) => self.begin(alloc, edges, to),
+            None => self.wait(alloc, edges, to),
+        }
+    }
+}

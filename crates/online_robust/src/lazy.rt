@@ -1,0 +1,156 @@
+//! A window with a low end, which begins once its input has given out something.
+ghost use Rattle.std.specs.Prelude.{◌≡◌, ◌≢◌, OnOk, IfOk, IfErr, IsSome, None, slice_get};
+ghost use Rattle.online_robust.specs.Held.{held_at};
+ghost use Rattle.online_robust.specs.Turns.{Turn, Belongs, BelongsSomewhere, HasSwept, IsStreamedFault, IsSwept, StandsNow};
+ghost use Rattle.online_robust.specs.Waiting.{IsBegun, lazy_of};
+ghost use Rattle.online_robust.specs.declared.operator.Operator.TheVariants as Op;
+
+use crate::edges::Edges;
+use crate::glance::Moved;
+use crate::line::Reached;
+use crate::window::{Sweep, Window};
+use frac128::Frac;
+use pl_signal::{OpFault, Signal};
+use std::alloc::Global;
+use value_laws::Margin;
+
+/// A window. While its input has given out nothing, an empty window tells the value of no times in its place.
+#[derive(Drop)]
+pub(crate) struct Lazy {
+    pub(crate) window: Window,
+    pub(crate) silent: Moved,
+    pub(crate) sweep: Option<Sweep>,
+}
+
+/// A window that was told up to where the empty one was.
+fn begun(alloc: Global, window: Window, start: u32, told: Option<Reached>) -> Sweep
+    ensures { IsBegun window start told result }
+{
+    let mut sweep = Sweep::new(alloc, window, start);
+    match told {
+        Some(reached) => {
+            sweep.stand(reached);
+            sweep
+        }
+        None => sweep,
+    }
+}
+
+impl Lazy {
+    /// A window before anything was told.
+    pub(crate) fn new(window: Window) -> Lazy
+        ensures { result ≡ lazy_of window }
+    {
+        Lazy {
+            window,
+            silent: Moved {
+                of: window.of,
+                side: window.side,
+                by: window.high,
+                inside: false,
+                last: None,
+            },
+            sweep: None,
+        }
+    }
+
+    /// The window goes on.
+    fn go_on(
+        &mut self,
+        alloc: Global,
+        edges: &mut Edges,
+        to: u32,
+    ) -> Result<Signal<Margin>, OpFault<Margin>>
+        requires belongs { BelongsSomewhere (Op.Sweep self.old) edges.old to }
+        requires some { IsSome self.old.sweep }
+        ensures told { (t : Turn) → Belongs t (Op.Sweep self.old) edges.old to → IfOk result (IsSwept t to) }
+        ensures edges { (t : Turn) → Belongs t (Op.Sweep self.old) edges.old to → OnOk result (HasSwept t edges.old edges.new to) }
+        ensures stands { (t : Turn) → Belongs t (Op.Sweep self.old) edges.old to → OnOk result (StandsNow t (Op.Sweep self.new) edges.new to) }
+        ensures wide { (t : Turn) → Belongs t (Op.Sweep self.old) edges.old to → IfErr result (IsStreamedFault t) }
+    {
+        let end = Frac::of(i64::from(to));
+        match &mut self.sweep {
+            Some(sweep) => {
+                let swept = sweep.sweep(alloc, edges, &end)?;
+                Ok(swept)
+            }
+            None => unreachable!(),
+        }
+    }
+
+    /// Nothing is to be seen yet.
+    fn wait(
+        &mut self,
+        alloc: Global,
+        edges: &mut Edges,
+        to: u32,
+    ) -> Result<Signal<Margin>, OpFault<Margin>>
+        requires belongs { BelongsSomewhere (Op.Sweep self.old) edges.old to }
+        requires none { self.old.sweep ≡ None }
+        requires empty { slice_get (held_at edges.old self.old.window.of) 0 ≡ None }
+        ensures told { (t : Turn) → Belongs t (Op.Sweep self.old) edges.old to → IfOk result (IsSwept t to) }
+        ensures edges { (t : Turn) → Belongs t (Op.Sweep self.old) edges.old to → OnOk result (HasSwept t edges.old edges.new to) }
+        ensures stands { (t : Turn) → Belongs t (Op.Sweep self.old) edges.old to → OnOk result (StandsNow t (Op.Sweep self.new) edges.new to) }
+        ensures wide { (t : Turn) → Belongs t (Op.Sweep self.old) edges.old to → IfErr result (IsStreamedFault t) }
+    {
+        let Some(start) = edges.start() else {
+            unreachable!()
+        };
+        let end = Frac::of(i64::from(to));
+        match self.silent.sweep(alloc, edges, start, &end) {
+            Ok(swept) => Ok(swept),
+            Err(_) => Err(OpFault::Memory),
+        }
+    }
+
+    /// The input has begun.
+    fn begin(
+        &mut self,
+        alloc: Global,
+        edges: &mut Edges,
+        to: u32,
+    ) -> Result<Signal<Margin>, OpFault<Margin>>
+        requires belongs { BelongsSomewhere (Op.Sweep self.old) edges.old to }
+        requires none { self.old.sweep ≡ None }
+        requires some { slice_get (held_at edges.old self.old.window.of) 0 ≢ None }
+        ensures told { (t : Turn) → Belongs t (Op.Sweep self.old) edges.old to → IfOk result (IsSwept t to) }
+        ensures edges { (t : Turn) → Belongs t (Op.Sweep self.old) edges.old to → OnOk result (HasSwept t edges.old edges.new to) }
+        ensures stands { (t : Turn) → Belongs t (Op.Sweep self.old) edges.old to → OnOk result (StandsNow t (Op.Sweep self.new) edges.new to) }
+        ensures wide { (t : Turn) → Belongs t (Op.Sweep self.old) edges.old to → IfErr result (IsStreamedFault t) }
+    {
+        let Some(start) = edges.start() else {
+            unreachable!()
+        };
+        let end = Frac::of(i64::from(to));
+        let mut sweep = begun(alloc, self.window, start, self.silent.last);
+        let swept = sweep.sweep(alloc, edges, &end)?;
+        self.sweep = Some(sweep);
+        Ok(swept)
+    }
+
+    /// The margins of its node from where it stood, or from the start, on up to a number.
+    ///
+    /// # Errors
+    ///
+    /// As those of `Operator::sweep`.
+    pub(crate) fn sweep(
+        &mut self,
+        alloc: Global,
+        edges: &mut Edges,
+        to: u32,
+    ) -> Result<Signal<Margin>, OpFault<Margin>>
+        requires { BelongsSomewhere (Op.Sweep self.old) edges.old to }
+        ensures told { (t : Turn) → Belongs t (Op.Sweep self.old) edges.old to → IfOk result (IsSwept t to) }
+        ensures edges { (t : Turn) → Belongs t (Op.Sweep self.old) edges.old to → OnOk result (HasSwept t edges.old edges.new to) }
+        ensures stands { (t : Turn) → Belongs t (Op.Sweep self.old) edges.old to → OnOk result (StandsNow t (Op.Sweep self.new) edges.new to) }
+        ensures wide { (t : Turn) → Belongs t (Op.Sweep self.old) edges.old to → IfErr result (IsStreamedFault t) }
+    {
+        if self.sweep.is_some() {
+            return self.go_on(alloc, edges, to);
+        }
+        match edges.first(self.window.of) {
+            Some(_) => self.begin(alloc, edges, to),
+            None => self.wait(alloc, edges, to),
+        }
+    }
+}
