@@ -163,10 +163,8 @@ fn what_was_read_before_a_fault_is_answered(rt: HostRuntime) -> Result<(), Fail>
         };
         let devices = Devices {
             read_most: 1,
-            write_most: 4096,
             read_fails: bytes + 1,
-            write_fails: 0,
-            tell_fails: 0,
+            ..pieces(4096)
         };
         assert!(rt; agrees_so_far(alloc, case, devices, *written)?, "row {i}");
     }
@@ -189,10 +187,8 @@ fn a_line_is_answered_before_the_next_is_read(rt: HostRuntime) -> Result<(), Fai
         };
         let devices = Devices {
             read_most: 1,
-            write_most: 4096,
-            read_fails: 0,
             write_fails: *call,
-            tell_fails: 0,
+            ..pieces(4096)
         };
         assert!(rt; agrees_so_far(alloc, case, devices, *written)?, "row {i}");
     }
