@@ -35,23 +35,26 @@ def kept(rows, width):
 
 def evaluations(count, places):
     """How often the search evaluates the formula, with one evaluation of all nodes before."""
-    total, left = 1, count
+    total, left, marked = 1, count, set()
     while left > 0:
-        below = [p for p in places if p < left]
+        below = [p for p in places if p < left and p not in marked]
         enough = below[-1] + 1 if below else 0
-        low, high, room, reach = 0, left, count, 1
+        low, high, room, reach, held = 0, left, count, 1, False
         while low < high:
             half = (high - low) - (high - low) // 2
             near = high - min(reach, half)
             middle = low + min(near - low, room // 2)
             room, reach, total = room // 2, reach * 2, total + 1
             if middle >= enough:
-                high = middle
+                high, held = middle, True
             else:
                 low = middle + 1
         if high == 0:
             break
         left = high - 1
+        if held:
+            # What the first cells leave certain is at hand: all that are needed of this column are marked.
+            marked.update(p for p in places if p < high and (p < count // 2) == (left < count // 2))
     return total
 
 

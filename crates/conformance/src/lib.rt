@@ -16,6 +16,8 @@ mod dropping_tests;
 #[cfg(test)]
 mod early_tests;
 #[cfg(test)]
+mod early_verdict_tests;
+#[cfg(test)]
 mod eval_tests;
 #[cfg(test)]
 mod evals;
@@ -39,6 +41,8 @@ mod online_nodes_tests;
 mod operator_tests;
 #[cfg(test)]
 mod pl_signal_tests;
+#[cfg(test)]
+mod plain_early;
 #[cfg(test)]
 mod plain_net;
 #[cfg(test)]

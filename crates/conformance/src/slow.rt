@@ -14,7 +14,7 @@ pub(crate) struct Bound {
 
 impl Bound {
     /// Whether it holds a distance in eighths of a tick.
-    fn holds(&self, eighths: usize) -> bool {
+    pub(crate) fn holds(&self, eighths: usize) -> bool {
         let low = usize::from(self.low).saturating_mul(8);
         if eighths < low || (eighths == low && !self.low_in) {
             return false;

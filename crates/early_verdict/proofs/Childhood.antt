@@ -10,7 +10,7 @@ use Rattle.stl_syntax.specs.declared.node.Node.{Node}
 use Rattle.stl_syntax.specs.declared.node.Node.TheVariants.{Const, Atom as Leaf, Not, And, Or, Implies, Until, Eventually, Always, Since, Once, Historically}
 use Rattle.stl_syntax.proofs.PostOrderLemmas.{children_free}
 use Rattle.early_verdict.specs.Standing.{left_of}
-use Rattle.early_verdict.specs.Letting.{IsChild, IsRun}
+use Rattle.early_verdict.specs.Letting.{IsChild}
 use Rattle.early_verdict.proofs.Netting.{nat_is}
 
 -- a child is one of its parent's places
@@ -106,20 +106,6 @@ left_child p (Always q a b i j) e = absurd (let f : None ≡ Some p = e in cc)
 left_child p (Since q r a b) e = inl (let f : Some q ≡ Some p = e in cc)
 left_child p (Once q a b i j) e = absurd (let f : None ≡ Some p = e in cc)
 left_child p (Historically q a b i j) e = absurd (let f : None ≡ Some p = e in cc)
-
-pub left_run : (p : ℕ) (n : Node) → left_of n ≡ Some p → IsRun n
-left_run p (Const b) e = let f : None ≡ Some p = e in cc
-left_run p (Leaf a) e = let f : None ≡ Some p = e in cc
-left_run p (Not q) e = let f : None ≡ Some p = e in cc
-left_run p (And q r) e = let f : None ≡ Some p = e in cc
-left_run p (Or q r) e = let f : None ≡ Some p = e in cc
-left_run p (Implies q r) e = let f : None ≡ Some p = e in cc
-left_run p (Until q r a b) e = tt
-left_run p (Eventually q a b i j) e = let f : None ≡ Some p = e in cc
-left_run p (Always q a b i j) e = let f : None ≡ Some p = e in cc
-left_run p (Since q r a b) e = tt
-left_run p (Once q a b i j) e = let f : None ≡ Some p = e in cc
-left_run p (Historically q a b i j) e = let f : None ≡ Some p = e in cc
 
 -- what stands before a place
 node_before : (nodes : List Node) (j i : ℕ) (n : Node) → i < j → slice_get nodes i ≡ Some n → slice_get (take j nodes) i ≡ Some n

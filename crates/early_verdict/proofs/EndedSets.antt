@@ -4,7 +4,7 @@ use Rattle.std.specs.Prelude.{IsTrue, IsFalse}
 use Rattle.rational.specs.Time.{Rational, Within, later, ◌≤ʳ◌}
 use Rattle.rational.specs.Windows.{Ahead, Behind}
 use Rattle.rational.proofs.Order.{le_refl, le_trans}
-use Rattle.rational.proofs.TimeLemmas.{precedes_le}
+use Rattle.rational.proofs.TimeLemmas.{later_from, precedes_le}
 use Rattle.stl_syntax.specs.Trace.{Trace, start, stop}
 use Rattle.stl_syntax.specs.Formula.{Subformula, tree_of, HasChildrenBelow}
 use Rattle.stl_syntax.specs.Truth.{Truth, holds_at}
@@ -164,9 +164,9 @@ module _ (tr : Trace) (own : Stretch) (s : Sets) (is_yes : s.yes.bounds ≡ own)
           | inr (v, n, i) ↦ k.no v i (le_trans n.below d.inside.below) (j v n)
         ])
         (λ t l e. one_side (UntilHolds tr x y (IsOn (at p).yes) (IsOn (at q).yes)) (UntilFails true tr x y (IsOn (at p).no) (IsOn (at q).no)) b t l
-        (λ n u d r. elim (m.all u (a.0 t u l d.after d.ends).1 r) [
+        (λ n u d r. elim (m.all u (a.0 t u l (le_trans (later_from t x) d.begins) d.ends).1 r) [
           | inr z ↦ inl z
-          | inl z ↦ elim (broken p c.0 t u (λ v w. (a.0 t v l (le_trans (from t l) w.above) (le_trans w.below d.ends)).0) r) [
+          | inl z ↦ elim (broken p c.0 t u (λ v w. (a.0 t v l w.above (le_trans w.below d.ends)).0) r) [
             | inl all ↦ absurd (n (u, d, (d.after, inl r), z, all))
             | inr g ↦ inr g
           ]

@@ -51,3 +51,5 @@ mod LiveMaking
 mod Childhood
 mod LettingLemmas
 mod Narrowing
+mod UntilCuts
+mod UntilStands

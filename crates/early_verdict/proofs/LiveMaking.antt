@@ -60,8 +60,8 @@ module _ (nodes : List Node) (from : Rational) (live shown : List Sets) (made : 
     ahead_parts b far (Some x) k = record {
       some = λ t l. let g = in_own t l in ((k.some t).1 g, (k.each t).1 g);
       never = λ t l. let g = in_own t l in ((k.never t).1 g, (k.broken t).1 g);
-      both = λ t u l f e. let g : (from ≤ʳ u) × (u ≤ʳ later from h.wide) = (f, reach from t u (top_at made.tops i) b h.wide (in_own t l).1 e far) in ((k.both u).1 g, (k.run u).1 g);
-      fail = λ t u l f e. let g : (from ≤ʳ u) × (u ≤ʳ later from h.wide) = (f, reach from t u (top_at made.tops i) b h.wide (in_own t l).1 e far) in ((k.fail u).1 g, (k.stop u).1 g);
+      both = λ t u l f e. let g : (from ≤ʳ u) × (u ≤ʳ later from h.wide) = (le_trans (in_own t l).0 f, reach from t u (top_at made.tops i) b h.wide (in_own t l).1 e far) in ((k.both u).1 g, (k.run u).1 g);
+      fail = λ t u l f e. let g : (from ≤ʳ u) × (u ≤ʳ later from h.wide) = (le_trans (in_own t l).0 f, reach from t u (top_at made.tops i) b h.wide (in_own t l).1 e far) in ((k.fail u).1 g, (k.stop u).1 g);
     }
 
     back_parts : top_at made.tops i ≤ h.wide → (o : Option Parts) → MatchOption o (Unit {0}) (ArePartsAsked from (top_at made.tops i) h.wide)
@@ -96,7 +96,7 @@ module _ (nodes : List Node) (from : Rational) (live shown : List Sets) (made : 
         by_node (Or p q) c a w = λ t l. (here p c.0 a.0 t l, here q c.1 a.1 t l)
         by_node (Implies p q) c a w = λ t l. (here p c.0 a.0 t l, here q c.1 a.1 t l)
         by_node (Until p q x y) c a w = (
-          λ t u l f e. (there p y c.0 a.0 t u l f e, there q y c.1 a.1 t u l f e),
+          λ t u l f e. let g = le_trans (in_own t l).0 f in (there p y c.0 a.0 t u l g e, there q y c.1 a.1 t u l g e),
           ahead_parts y (subst (λ z. top_at made.tops i + y ≤ z) w.0 a.0) s.parts h.asked.parts,
         )
         by_node (Eventually p x y j k) c a w = λ t u l o. there p y c a t u l o.after (precedes_le k u (later t y) o.ends)

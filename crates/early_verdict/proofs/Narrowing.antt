@@ -1,5 +1,5 @@
 -- What stands goes on to stand, where nodes go on from fewer times, or show fewer.
-use Rattle.std.proofs.Common.{◌≡◌, ◌≢◌, ◌⊎◌, inl, inr, refl, sym, subst, ◌∙◌, ℕ, zero, suc, ◌-◌, ◌<◌, ◌≤◌, Bool, true, false, Option, Some, None, List, [], ◌∷◌, length, arith}
+use Rattle.std.proofs.Common.{◌≡◌, ◌≢◌, ◌⊎◌, inl, inr, refl, sym, ap, subst, ◌∙◌, ℕ, zero, suc, ◌-◌, ◌<◌, ◌≤◌, Bool, true, false, Option, Some, None, List, [], ◌∷◌, length, arith}
 use Rattle.std.specs.Prelude.{MatchBool, MatchOption, slice_get}
 use Rattle.rational.specs.Time.{Rational, ◌≤ʳ◌, ◌<ʳ◌}
 use Rattle.rational.proofs.Order.{le_of_lt}
@@ -14,14 +14,15 @@ use Rattle.early_verdict.specs.Cuts.{Place, After}
 use Rattle.early_verdict.specs.Spans.{IsOn, Lies}
 use Rattle.early_verdict.specs.Readings.{SomeAhead, OnlyAhead, SomeBehind, OnlyBehind}
 use Rattle.early_verdict.specs.Fitting.{Lists, lists_at, nothing, Fits, SayBoth, SayOfParts, NegationFits, ConjunctionFits, DisjunctionFits, ImplicationFits, UntilFits, SinceFits, EventuallyFits, AlwaysFits, OnceFits, HistoricallyFits, AreSetsTidy}
-use Rattle.early_verdict.specs.Standing.{AllFit, AllTidy, left_of}
+use Rattle.early_verdict.specs.Standing.{AllFit, AllTidy, HasParts, left_of}
 use Rattle.early_verdict.specs.Living.{AreLive, IsLive, IsNarrowed, IsShown, Known, LooksAt, NetStands}
-use Rattle.early_verdict.specs.Letting.{AreAskedBy, AreInside, AreLess, IsChild, IsInside, IsLess, IsRun, IsSettledAt}
+use Rattle.early_verdict.specs.Letting.{AreAskedBy, AreInside, AreLess, IsChild, IsInside, IsLess, IsRun, IsSettledAt, IsUntil}
 use Rattle.early_verdict.specs.declared.stretch.Stretch.{Stretch}
+use Rattle.early_verdict.specs.declared.grown.Grown.{Grown}
 use Rattle.early_verdict.specs.declared.sets.Sets.{Sets}
 use Rattle.early_verdict.specs.declared.sets.Parts.{Parts}
 use Rattle.early_verdict.proofs.AllSets.{is_shown, lists_are, sets_at, shown_is, shown_within}
-use Rattle.early_verdict.proofs.Childhood.{child_below, child_or_not, left_child, left_run, one_parent}
+use Rattle.early_verdict.proofs.Childhood.{child_below, child_or_not, left_child, one_parent}
 use Rattle.early_verdict.proofs.FitLemmas.{fits_within}
 use Rattle.early_verdict.proofs.LivingLemmas.{looks_as, parts_as}
 use Rattle.early_verdict.proofs.Netting.{nat_is, nodes_at}
@@ -91,14 +92,14 @@ module _ (tr : Trace) (own : Stretch) (s : Sets) (y : s.yes.bounds ≡ own) (n :
     no = tells_alike s.no.bounds s.no.spans.items N N' (λ t l. not_out t (subst (λ x. Lies x t) n l)) (λ t l. not_into t) h.no;
   }
 
-  pub fits_local : (m : Node) → ¬ (IsRun m) → LooksAt m (start tr) new own s.parts → Fits m false tr (lists_at old) s → Fits m false tr (lists_at new) s
-  fits_local (Const b) r l h = h
-  fits_local (Leaf a) r l h = h
-  fits_local (Not p) r l h =
+  pub fits_local : (m : Node) → ¬ (IsRun m) → ¬ (IsUntil m) → LooksAt m (start tr) new own s.parts → Fits m false tr (lists_at old) s → Fits m false tr (lists_at new) s
+  fits_local (Const b) r n l h = h
+  fits_local (Leaf a) r n l h = h
+  fits_local (Not p) r n l h =
       let k = agree p in
       alike (IsOn (lists_at old p).no) (IsOn (lists_at new p).no) (IsOn (lists_at old p).yes) (IsOn (lists_at new p).yes)
       (λ t o x. k.no_in t (l t o) x) k.no_out (λ t o x. k.yes_in t (l t o) x) k.yes_out h
-  fits_local (And p q) r l h =
+  fits_local (And p q) r n l h =
       let k = agree p in
       let m = agree q in
       alike (λ t. IsOn (lists_at old p).yes t × IsOn (lists_at old q).yes t) (λ t. IsOn (lists_at new p).yes t × IsOn (lists_at new q).yes t)
@@ -106,7 +107,7 @@ module _ (tr : Trace) (own : Stretch) (s : Sets) (y : s.yes.bounds ≡ own) (n :
       (λ t o x. (k.yes_in t (l t o).0 x.0, m.yes_in t (l t o).1 x.1)) (λ t x. (k.yes_out t x.0, m.yes_out t x.1))
       (λ t o x. elim x [ inl z ↦ inl (k.no_in t (l t o).0 z) | inr z ↦ inr (m.no_in t (l t o).1 z) ])
       (λ t x. elim x [ inl z ↦ inl (k.no_out t z) | inr z ↦ inr (m.no_out t z) ]) h
-  fits_local (Or p q) r l h =
+  fits_local (Or p q) r n l h =
       let k = agree p in
       let m = agree q in
       alike (λ t. IsOn (lists_at old p).yes t ⊎ IsOn (lists_at old q).yes t) (λ t. IsOn (lists_at new p).yes t ⊎ IsOn (lists_at new q).yes t)
@@ -114,7 +115,7 @@ module _ (tr : Trace) (own : Stretch) (s : Sets) (y : s.yes.bounds ≡ own) (n :
       (λ t o x. elim x [ inl z ↦ inl (k.yes_in t (l t o).0 z) | inr z ↦ inr (m.yes_in t (l t o).1 z) ])
       (λ t x. elim x [ inl z ↦ inl (k.yes_out t z) | inr z ↦ inr (m.yes_out t z) ])
       (λ t o x. (k.no_in t (l t o).0 x.0, m.no_in t (l t o).1 x.1)) (λ t x. (k.no_out t x.0, m.no_out t x.1)) h
-  fits_local (Implies p q) r l h =
+  fits_local (Implies p q) r n l h =
       let k = agree p in
       let m = agree q in
       alike (λ t. IsOn (lists_at old p).no t ⊎ IsOn (lists_at old q).yes t) (λ t. IsOn (lists_at new p).no t ⊎ IsOn (lists_at new q).yes t)
@@ -122,27 +123,27 @@ module _ (tr : Trace) (own : Stretch) (s : Sets) (y : s.yes.bounds ≡ own) (n :
       (λ t o x. elim x [ inl z ↦ inl (k.no_in t (l t o).0 z) | inr z ↦ inr (m.yes_in t (l t o).1 z) ])
       (λ t x. elim x [ inl z ↦ inl (k.no_out t z) | inr z ↦ inr (m.yes_out t z) ])
       (λ t o x. (k.yes_in t (l t o).0 x.0, m.no_in t (l t o).1 x.1)) (λ t x. (k.yes_out t x.0, m.no_out t x.1)) h
-  fits_local (Until p q a b) r l h = absurd (r tt)
-  fits_local (Eventually p a b i j) r l h =
+  fits_local (Until p q a b) r n l h = absurd (n tt)
+  fits_local (Eventually p a b i j) r n l h =
       let k = agree p in
       alike (SomeAhead tr a b i j (IsOn (lists_at old p).yes)) (SomeAhead tr a b i j (IsOn (lists_at new p).yes))
       (OnlyAhead false tr a b i j (IsOn (lists_at old p).no)) (OnlyAhead false tr a b i j (IsOn (lists_at new p).no))
       (λ t o (u, w, c, x). (u, w, c, k.yes_in u (l t u o w) x)) (λ t (u, w, c, x). (u, w, c, k.yes_out u x))
       (λ t o g u w c. k.no_in u (l t u o w) (g u w c)) (λ t g u w c. k.no_out u (g u w c)) h
-  fits_local (Always p a b i j) r l h =
+  fits_local (Always p a b i j) r n l h =
       let k = agree p in
       alike (OnlyAhead false tr a b i j (IsOn (lists_at old p).yes)) (OnlyAhead false tr a b i j (IsOn (lists_at new p).yes))
       (SomeAhead tr a b i j (IsOn (lists_at old p).no)) (SomeAhead tr a b i j (IsOn (lists_at new p).no))
       (λ t o g u w c. k.yes_in u (l t u o w) (g u w c)) (λ t g u w c. k.yes_out u (g u w c))
       (λ t o (u, w, c, x). (u, w, c, k.no_in u (l t u o w) x)) (λ t (u, w, c, x). (u, w, c, k.no_out u x)) h
-  fits_local (Since p q a b) r l h = absurd (r tt)
-  fits_local (Once p a b i j) r l h =
+  fits_local (Since p q a b) r n l h = absurd (r tt)
+  fits_local (Once p a b i j) r n l h =
       let k = agree p in
       alike (SomeBehind tr a b i j (IsOn (lists_at old p).yes)) (SomeBehind tr a b i j (IsOn (lists_at new p).yes))
       (OnlyBehind tr a b i j (IsOn (lists_at old p).no)) (OnlyBehind tr a b i j (IsOn (lists_at new p).no))
       (λ t o (u, w, c, x). (u, w, c, k.yes_in u (l t u o w) x)) (λ t (u, w, c, x). (u, w, c, k.yes_out u x))
       (λ t o g u w. k.no_in u (l t u o w) (g u w)) (λ t g u w. k.no_out u (g u w)) h
-  fits_local (Historically p a b i j) r l h =
+  fits_local (Historically p a b i j) r n l h =
       let k = agree p in
       alike (OnlyBehind tr a b i j (IsOn (lists_at old p).yes)) (OnlyBehind tr a b i j (IsOn (lists_at new p).yes))
       (SomeBehind tr a b i j (IsOn (lists_at old p).no)) (SomeBehind tr a b i j (IsOn (lists_at new p).no))
@@ -230,6 +231,21 @@ module _ (nodes : List Node) (tr : Trace) (live new shown : List Sets) (i : ℕ)
     root = st.root;
   }
 
+-- of until and since the first has the left operand, and the second too
+run_of_left : (n : Node) → ¬ (IsUntil n) → (p : ℕ) → left_of n ≡ Some p → IsRun n
+run_of_left (Const b) u p e = let f : None ≡ Some p = e in cc
+run_of_left (Leaf a) u p e = let f : None ≡ Some p = e in cc
+run_of_left (Not q) u p e = let f : None ≡ Some p = e in cc
+run_of_left (And q r) u p e = let f : None ≡ Some p = e in cc
+run_of_left (Or q r) u p e = let f : None ≡ Some p = e in cc
+run_of_left (Implies q r) u p e = let f : None ≡ Some p = e in cc
+run_of_left (Until q r a b) u p e = u tt
+run_of_left (Eventually q a b i j) u p e = let f : None ≡ Some p = e in cc
+run_of_left (Always q a b i j) u p e = let f : None ≡ Some p = e in cc
+run_of_left (Since q r a b) u p e = tt
+run_of_left (Once q a b i j) u p e = let f : None ≡ Some p = e in cc
+run_of_left (Historically q a b i j) u p e = let f : None ≡ Some p = e in cc
+
 run_or_not : (n : Node) → IsRun n ⊎ ¬ (IsRun n)
 run_or_not (Const b) = inr (λ h. h)
 run_or_not (Leaf a) = inr (λ h. h)
@@ -237,7 +253,7 @@ run_or_not (Not q) = inr (λ h. h)
 run_or_not (And q r) = inr (λ h. h)
 run_or_not (Or q r) = inr (λ h. h)
 run_or_not (Implies q r) = inr (λ h. h)
-run_or_not (Until q r a b) = inl tt
+run_or_not (Until q r a b) = inr (λ h. h)
 run_or_not (Eventually q a b i j) = inr (λ h. h)
 run_or_not (Always q a b i j) = inr (λ h. h)
 run_or_not (Since q r a b) = inl tt
@@ -254,15 +270,15 @@ at_or_not (x ∷ xs) (suc p) = at_or_not xs p
 shown_as : (xs ys : List Sets) (p : ℕ) (u : Rational) → slice_get ys p ≡ slice_get xs p → IsShown xs p u → IsShown ys p u
 shown_as xs ys p u e h = let x = sets_at xs p (shown_within xs p u h) in is_shown ys p x.0 u (e ∙ x.1) (shown_is xs p x.0 u x.1 h)
 
--- the children of one node show fewer times
-module _ (nodes : List Node) (formed : AreWellFormed nodes) (tr : Trace) (live old new : List Sets) (i : ℕ) (n : Node) (at : slice_get nodes i ≡ Some n) (s : Sets)
-    (is : slice_get live i ≡ Some s) (from : Rational) (begins : (t : Rational) → Lies s.no.bounds t → from ≤ʳ t) (asked : AreAskedBy n from old new)
-    (st : NetStands nodes tr live old) where
+-- the children of one node show fewer times, and its own sets go on to fit them
+module _ (nodes : List Node) (formed : AreWellFormed nodes) (tr : Trace) (live left old new : List Sets) (i : ℕ) (n : Node) (at : slice_get nodes i ≡ Some n) (s r : Sets)
+    (is : slice_get live i ≡ Some s) (ir : slice_get left i ≡ Some r) (same : (j : ℕ) → j ≢ i → slice_get left j ≡ slice_get live j) (count : length left ≡ length live)
+    (from : Rational) (asked : AreAskedBy n from old new) (st : NetStands nodes tr live old) where
   -- what is shown at a place now, and was
   was_shown : (p : ℕ) (x : Sets) → slice_get new p ≡ Some x → (w : Sets) × (slice_get old p ≡ Some w) × IsLess w x
   was_shown = asked.less.each
 
-  agree : (p : ℕ) → Known (IsShown new p) (lists_at new p) (IsOn (lists_at old p).yes) (IsOn (lists_at old p).no)
+  pub agree : (p : ℕ) → Known (IsShown new p) (lists_at new p) (IsOn (lists_at old p).yes) (IsOn (lists_at old p).no)
   agree p = elim (at_or_not new p) [
     | inl (x, e) ↦
         let w = was_shown p x e in
@@ -292,90 +308,116 @@ module _ (nodes : List Node) (formed : AreWellFormed nodes) (tr : Trace) (live o
   not_its : (j p : ℕ) (m : Node) → j ≢ i → slice_get nodes j ≡ Some m → IsChild p m → slice_get new p ≡ slice_get old p
   not_its j p m d here c = asked.others p (λ e. one_parent nodes formed.post_order j i p m n d here at c e)
 
-  module _ (j : ℕ) (m : Node) (r : Sets) (here : slice_get nodes j ≡ Some m) (ir : slice_get live j ≡ Some r) where
-    same_m : j ≡ i → n ≡ m
-    same_m q = same_node n m (sym at ∙ subst (λ k. slice_get nodes k ≡ Some m) q here)
-
-    same_r : j ≡ i → s ≡ r
-    same_r q = same_sets s r (sym is ∙ subst (λ k. slice_get live k ≡ Some r) q ir)
-
-    looks_there : (own : Stretch) → r.no.bounds ≡ own → LooksAt m (start tr) old own r.parts → LooksAt m (start tr) new own r.parts
-    looks_there own e l = elim (nat_is j i) [
-      | inl q ↦ subst (λ z. LooksAt z (start tr) new own r.parts) (same_m q)
-          (asked.looks (start tr) own r.parts (λ t h. begins t (subst (λ z. Lies z.no.bounds t) (sym (same_r q)) (subst (λ z. Lies z t) (sym e) h)))
-          (subst (λ z. LooksAt z (start tr) old own r.parts) (sym (same_m q)) l))
-      | inr d ↦ looks_as (start tr) own own (λ t h. h) m old new r.parts r.parts (λ p c u h. shown_as old new p u (not_its j p m d here c) h)
-          (parts_kept r.parts r.parts refl) l
-    ]
-
-    live_one : (x : Sets) → slice_get new j ≡ Some x → IsLive (start tr) new m r x
-    live_one x ix = by_was (was_shown j x ix)
-      where
-        by_was : ((w : Sets) × (slice_get old j ≡ Some w) × IsLess w x) → IsLive (start tr) new m r x
-        by_was (w, e, less) = record {
-          own = k.own;
-          yes = k.yes;
-          no = k.no;
-          starts = k.starts;
-          looks = looks_there k.own k.no k.looks;
-          left = parts_as m r r old new (parts_kept r.parts r.parts refl) (λ p l' f z. (l', still p l' f z, refl)) k.left;
-          shown_yes = less.same k.shown_yes;
-          shown_starts = λ t l. k.shown_starts t (less.less t l);
-          yes_within = (less.inside (record { yes = k.yes_within; no = k.no_within })).yes;
-          no_within = (less.inside (record { yes = k.yes_within; no = k.no_within })).no;
-          shows_yes = λ t o l. less.yes_in t l (k.shows_yes t o (less.less t l));
-          shows_no = λ t o l. less.no_in t l (k.shows_no t o (less.less t l));
-          early = λ t l. elim (k.early t (less.less t l)) [
-            | inl o ↦ inl o
-            | inr (inl z) ↦ inr (inl (less.yes_in t l z))
-            | inr (inr z) ↦ inr (inr (less.no_in t l z))
-          ];
-        }
-          where
-            k : IsLive (start tr) old m r w
-            k = st.have.has j m r w here ir e
-
-            still : (p : ℕ) (l' : Sets) → left_of m ≡ Some p → slice_get new p ≡ Some l' → slice_get old p ≡ Some l'
-            still p l' f z = elim (nat_is j i) [
-              | inl q ↦ subst (λ xs. slice_get xs p ≡ Some l') (asked.run (subst IsRun (sym (same_m q)) (left_run p m f))) z
-              | inr d ↦ sym (not_its j p m d here (left_child p m f)) ∙ z
-            ]
-
-    fit_one : Fits m false tr (lists_at new) r
-    fit_one = elim (nat_is j i) [
-      | inl q ↦ subst (λ z. Fits m false tr (lists_at new) z) (same_r q) (subst (λ z. Fits z false tr (lists_at new) s) (same_m q) fit_here)
-      | inr d ↦ fits_as m tr (lists_at old) (lists_at new) r (λ p c. lists_by old new p (sym (not_its j p m d here c))) (st.fit j m r here ir)
-    ]
-      where
-        shown_i : (w : Sets) × (slice_get old i ≡ Some w)
-        shown_i = sets_at old i (let a = get_within live i s is in let c = st.have.count in let d = st.have.shown_count in omega (arith, a, c, d))
-
-        fit_here : Fits n false tr (lists_at new) s
-        fit_here = elim (run_or_not n) [
-          | inl h ↦ subst (λ xs. Fits n false tr (lists_at xs) s) (sym (asked.run h)) (st.fit i n s at is)
-          | inr h ↦
-              let k = st.have.has i n s shown_i.0 at is shown_i.1 in
-              fits_local tr k.own s k.yes k.no old new agree n h
-              (asked.looks (start tr) k.own s.parts (λ t l. begins t (subst (λ z. Lies z t) (sym k.no) l)) k.looks) (st.fit i n s at is)
-        ]
-
-  pub asked_stands : NetStands nodes tr live new
-  asked_stands = record {
-    have = record { count = st.have.count; shown_count = asked.less.count ∙ st.have.shown_count; has = λ j m r x here ir ix. live_one j m r here ir x ix };
-    tidy = st.tidy;
-    shown_tidy = λ p x e. let w = was_shown p x e in w.2.tidy (st.shown_tidy p w.0 w.1);
-    fit = λ j m r here ir. fit_one j m r here ir;
-    known = λ p l. record {
-      yes_in = λ u h y. (agree p).yes_in u h ((st.known p l).yes_in u (shown_less p u h) y);
-      yes_out = λ u o. (st.known p l).yes_out u ((agree p).yes_out u o);
-      no_in = λ u h y. (agree p).no_in u h ((st.known p l).no_in u (shown_less p u h) y);
-      no_out = λ u o. (st.known p l).no_out u ((agree p).no_out u o);
-    };
-    root = elim (child_or_not (length nodes - 1) n) [
-      | inl c ↦ absurd (let a = child_below i (length nodes - 1) n (placed nodes i n formed.post_order at) c in let b = get_within live i s is in let d = st.have.count in omega (arith, a, b, d))
-      | inr c ↦ shown_as old new (length nodes - 1) (start tr) (asked.others (length nodes - 1) c) st.root
+  -- a node is live by what it was, where it looks at its children still and has its sets between
+  pub live_by : (m : Node) (v v' w x : Sets) → v'.yes ≡ v.yes → v'.no ≡ v.no → IsLess w x → (k : IsLive (start tr) old m v w)
+      → LooksAt m (start tr) new k.own v'.parts → HasParts m v' new → IsLive (start tr) new m v' x
+  live_by m v v' w x e f less k looks has = record {
+    own = k.own;
+    yes = ap (λ (g : Grown). g.bounds) e ∙ k.yes;
+    no = ap (λ (g : Grown). g.bounds) f ∙ k.no;
+    starts = k.starts;
+    looks = looks;
+    left = has;
+    shown_yes = less.same k.shown_yes;
+    shown_starts = λ t l. k.shown_starts t (less.less t l);
+    yes_within = (less.inside (record { yes = k.yes_within; no = k.no_within })).yes;
+    no_within = (less.inside (record { yes = k.yes_within; no = k.no_within })).no;
+    shows_yes = λ t o l. less.yes_in t l (k.shows_yes t (subst (λ (g : Grown). IsOn g.spans.items t) e o) (less.less t l));
+    shows_no = λ t o l. less.no_in t l (k.shows_no t (subst (λ (g : Grown). IsOn g.spans.items t) f o) (less.less t l));
+    early = λ t l. elim (k.early t (less.less t l)) [
+      | inl o ↦ inl o
+      | inr (inl z) ↦ inr (inl (less.yes_in t l z))
+      | inr (inr z) ↦ inr (inr (less.no_in t l z))
     ];
   }
+
+  module _ (mine : (w x : Sets) → slice_get old i ≡ Some w → slice_get new i ≡ Some x → IsLess w x → IsLive (start tr) new n r x)
+      (fits : Fits n false tr (lists_at new) r) (tidy : AreSetsTidy r) where
+    module _ (j : ℕ) (m : Node) (v : Sets) (here : slice_get nodes j ≡ Some m) (iv : slice_get left j ≡ Some v) where
+      same_m : j ≡ i → n ≡ m
+      same_m q = same_node n m (sym at ∙ subst (λ k. slice_get nodes k ≡ Some m) q here)
+
+      same_v : j ≡ i → r ≡ v
+      same_v q = same_sets r v (sym ir ∙ subst (λ k. slice_get left k ≡ Some v) q iv)
+
+      live_one : (x : Sets) → slice_get new j ≡ Some x → IsLive (start tr) new m v x
+      live_one x ix = by_was (was_shown j x ix)
+        where
+          by_was : ((w : Sets) × (slice_get old j ≡ Some w) × IsLess w x) → IsLive (start tr) new m v x
+          by_was (w, e, less) = elim (nat_is j i) [
+            | inl q ↦ subst (λ z. IsLive (start tr) new m z x) (same_v q) (subst (λ z. IsLive (start tr) new z r x) (same_m q)
+                (mine w x (subst (λ k. slice_get old k ≡ Some w) q e) (subst (λ k. slice_get new k ≡ Some x) q ix) less))
+            | inr d ↦
+                let k = st.have.has j m v w here (sym (same j d) ∙ iv) e in
+                live_by m v v w x refl refl less k
+                (looks_as (start tr) k.own k.own (λ t h. h) m old new v.parts v.parts (λ p c u h. shown_as old new p u (not_its j p m d here c) h)
+                (parts_kept v.parts v.parts refl) k.looks)
+                (parts_as m v v old new (parts_kept v.parts v.parts refl) (λ p l' f z. (l', sym (not_its j p m d here (left_child p m f)) ∙ z, refl)) k.left)
+          ]
+
+      fit_one : Fits m false tr (lists_at new) v
+      fit_one = elim (nat_is j i) [
+        | inl q ↦ subst (λ z. Fits m false tr (lists_at new) z) (same_v q) (subst (λ z. Fits z false tr (lists_at new) r) (same_m q) fits)
+        | inr d ↦ fits_as m tr (lists_at old) (lists_at new) v (λ p c. lists_by old new p (sym (not_its j p m d here c))) (st.fit j m v here (sym (same j d) ∙ iv))
+      ]
+
+    tidy_one : AllTidy left
+    tidy_one j v iv = elim (nat_is j i) [
+      | inl q ↦ subst AreSetsTidy (same_sets r v (sym ir ∙ subst (λ k. slice_get left k ≡ Some v) q iv)) tidy
+      | inr d ↦ st.tidy j v (sym (same j d) ∙ iv)
+    ]
+
+    pub one_stands : NetStands nodes tr left new
+    one_stands = record {
+      have = record {
+        count = count ∙ st.have.count;
+        shown_count = asked.less.count ∙ st.have.shown_count;
+        has = λ j m v x here iv ix. live_one j m v here iv x ix;
+      };
+      tidy = tidy_one;
+      shown_tidy = λ p x e. let w = was_shown p x e in w.2.tidy (st.shown_tidy p w.0 w.1);
+      fit = λ j m v here iv. fit_one j m v here iv;
+      known = λ p l. record {
+        yes_in = λ u h y. (agree p).yes_in u h ((st.known p l).yes_in u (shown_less p u h) y);
+        yes_out = λ u o. (st.known p l).yes_out u ((agree p).yes_out u o);
+        no_in = λ u h y. (agree p).no_in u h ((st.known p l).no_in u (shown_less p u h) y);
+        no_out = λ u o. (st.known p l).no_out u ((agree p).no_out u o);
+      };
+      root = elim (child_or_not (length nodes - 1) n) [
+        | inl c ↦ absurd (let a = child_below i (length nodes - 1) n (placed nodes i n formed.post_order at) c in let b = get_within live i s is in let d = st.have.count in omega (arith, a, b, d))
+        | inr c ↦ shown_as old new (length nodes - 1) (start tr) (asked.others (length nodes - 1) c) st.root
+      ];
+    }
+
+-- a node that is no until
+module _ (nodes : List Node) (formed : AreWellFormed nodes) (tr : Trace) (live old new : List Sets) (i : ℕ) (n : Node) (at : slice_get nodes i ≡ Some n) (s : Sets)
+    (is : slice_get live i ≡ Some s) (from : Rational) (begins : (t : Rational) → Lies s.no.bounds t → from ≤ʳ t) (asked : AreAskedBy n from old new)
+    (st : NetStands nodes tr live old) (plain : ¬ (IsUntil n)) where
+  begun : (own : Stretch) → s.no.bounds ≡ own → (t : Rational) → Lies own t → from ≤ʳ t
+  begun own e t l = begins t (subst (λ z. Lies z t) (sym e) l)
+
+  mine : (w x : Sets) → slice_get old i ≡ Some w → slice_get new i ≡ Some x → IsLess w x → IsLive (start tr) new n s x
+  mine w x e f less =
+      let k = st.have.has i n s w at is e in
+      live_by nodes formed tr live live old new i n at s s is is (λ j d. refl) refl from asked st n s s w x refl refl less k
+      (asked.looks (start tr) k.own s.parts (begun k.own k.no) k.looks)
+      (parts_as n s s old new (parts_kept s.parts s.parts refl)
+      (λ p l' g z. (l', subst (λ xs. slice_get xs p ≡ Some l') (asked.run (run_of_left n plain p g)) z, refl)) k.left)
+
+  shown_i : (w : Sets) × (slice_get old i ≡ Some w)
+  shown_i = sets_at old i (let a = get_within live i s is in let c = st.have.count in let d = st.have.shown_count in omega (arith, a, c, d))
+
+  fits : Fits n false tr (lists_at new) s
+  fits = elim (run_or_not n) [
+    | inl h ↦ subst (λ xs. Fits n false tr (lists_at xs) s) (sym (asked.run h)) (st.fit i n s at is)
+    | inr h ↦
+        let k = st.have.has i n s shown_i.0 at is shown_i.1 in
+        fits_local tr k.own s k.yes k.no old new (agree nodes formed tr live live old new i n at s s is is (λ j d. refl) refl from asked st) n h plain
+        (asked.looks (start tr) k.own s.parts (begun k.own k.no) k.looks) (st.fit i n s at is)
+  ]
+
+  pub asked_stands : NetStands nodes tr live new
+  asked_stands = one_stands nodes formed tr live live old new i n at s s is is (λ j d. refl) refl from asked st mine fits (st.tidy i s is)
 
 -- what stands lies within its bounds
 module _ (nodes : List Node) (tr : Trace) (live shown : List Sets) (st : NetStands nodes tr live shown) where

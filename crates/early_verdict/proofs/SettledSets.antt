@@ -1,7 +1,8 @@
 -- Sets that fit tell what rows settle.
 use Rattle.std.proofs.Common.{◌≡◌, ◌⊎◌, inl, inr, subst, ℕ, ◌<◌, Bool, true, false, Option, List}
 use Rattle.rational.specs.Time.{Rational, Within, later, ◌≤ʳ◌}
-use Rattle.rational.proofs.Order.{le_refl, le_trans}
+use Rattle.rational.proofs.Order.{le_trans}
+use Rattle.rational.proofs.TimeLemmas.{later_from}
 use Rattle.stl_syntax.specs.Trace.{Trace, start}
 use Rattle.stl_syntax.specs.Formula.{Subformula, tree_of, HasChildrenBelow}
 use Rattle.stl_syntax.specs.Early.{OpenAhead, OpenBehind, Settled, SettledNot}
@@ -53,25 +54,25 @@ module _ (tr : Trace) (own : Stretch) (s : Sets) (is_yes : s.yes.bounds ≡ own)
         → (t : Rational) → Lies own t → OnlyBehind tr a b a_in b_in X t → OnlyBehind tr a b a_in b_in xs t
     only_behind p a b a_in b_in far X xs f t l y u o = f u (far t u l o) (y u o)
 
-    until_true : (p q a b : ℕ) → ((t u : Rational) → Lies own t → start tr ≤ʳ u → u ≤ʳ later t b → IsShown shown p u × IsShown shown q u)
+    until_true : (p q a b : ℕ) → ((t u : Rational) → Lies own t → t ≤ʳ u → u ≤ʳ later t b → IsShown shown p u × IsShown shown q u)
         → (X Y xs ys : Rational → Type 0) → ((u : Rational) → IsShown shown p u → X u → xs u) → ((u : Rational) → IsShown shown q u → Y u → ys u)
         → (t : Rational) → Lies own t → UntilHolds tr a b X Y t → UntilHolds tr a b xs ys t
     until_true p q a b far X Y xs ys f g t l (u, o, c, y, z) = (
       u,
       o,
       c,
-      g u (far t u l o.after o.ends).1 y,
-      λ v w. f v (far t v l (le_trans (from t l) w.above) (le_trans w.below o.ends)).0 (z v w),
+      g u (far t u l (le_trans (later_from t a) o.begins) o.ends).1 y,
+      λ v w. f v (far t v l w.above (le_trans w.below o.ends)).0 (z v w),
     )
 
-    until_false : (p q a b : ℕ) → ((t u : Rational) → Lies own t → start tr ≤ʳ u → u ≤ʳ later t b → IsShown shown p u × IsShown shown q u)
+    until_false : (p q a b : ℕ) → ((t u : Rational) → Lies own t → t ≤ʳ u → u ≤ʳ later t b → IsShown shown p u × IsShown shown q u)
         → (X Y xs ys : Rational → Type 0) → ((u : Rational) → IsShown shown p u → X u → xs u) → ((u : Rational) → IsShown shown q u → Y u → ys u)
         → (t : Rational) → Lies own t
         → ((u : Rational) → OpenAhead (start tr) a b true true t u → Y u ⊎ ((v : Rational) × Within t u v × X v))
         → (u : Rational) → OpenAhead (start tr) a b true true t u → ys u ⊎ ((v : Rational) × Within t u v × xs v)
     until_false p q a b far X Y xs ys f g t l h u o = elim (h u o) [
-      | inl y ↦ inl (g u (far t u l o.after o.ends).1 y)
-      | inr (v, w, x) ↦ inr (v, w, f v (far t v l (le_trans (from t l) w.above) (le_trans w.below o.ends)).0 x)
+      | inl y ↦ inl (g u (far t u l (le_trans (later_from t a) o.begins) o.ends).1 y)
+      | inr (v, w, x) ↦ inr (v, w, f v (far t v l w.above (le_trans w.below o.ends)).0 x)
     ]
 
     since_true : (p q a : ℕ) (b : Option ℕ) → ((t u : Rational) → Lies own t → start tr ≤ʳ u → u ≤ʳ t → IsShown shown p u × IsShown shown q u)

@@ -26,7 +26,7 @@ sure_earlier tr t w u h k (s, inr l) = (h, inr (le_trans k l))
 later_zero : (t v : Rational) → t ≤ʳ v → later t 0 ≤ʳ v
 later_zero t v h = record { le = omega (arith, h.le) }
 
-later_zero_out : (t v : Rational) → later t 0 ≤ʳ v → t ≤ʳ v
+pub later_zero_out : (t v : Rational) → later t 0 ≤ʳ v → t ≤ʳ v
 later_zero_out t v h = record { le = omega (arith, h.le) }
 
 -- v is on the way to the window
@@ -45,7 +45,7 @@ window_end true tr f = elim (le_or_lt f (stop tr)) [
 module _ (tr : Trace) (a b : ℕ) (order : a ≤ b) (p q : Lists) (x : Holding) (h : UntilHolding tr a b p q x) (bounds : Stretch) (yes : List Stretch)
     (from : (t : Rational) → Lies bounds t → start tr ≤ʳ t)
     (own : (t : Rational) → Lies bounds t → Lies x.some.bounds t × Lies x.each.bounds t)
-    (wide : (t u : Rational) → Lies bounds t → start tr ≤ʳ u → u ≤ʳ later t b → Lies x.both.bounds u × Lies x.run.bounds u) where
+    (wide : (t u : Rational) → Lies bounds t → t ≤ʳ u → u ≤ʳ later t b → Lies x.both.bounds u × Lies x.run.bounds u) where
   -- what a run says without sureness
   goes : (v : Rational) → IsOn x.run.spans.items v
       → (w : Rational) × (v ≤ʳ w) × IsOn x.both.spans.items w × ((y : Rational) → Within v w y → IsOn p.yes y)
@@ -82,12 +82,12 @@ module _ (tr : Trace) (a b : ℕ) (order : a ≤ b) (p q : Lists) (x : Holding) 
   forth t i (u, o, c, y, z) =
       let s = from t i in
       let tu = le_trans (later_from t a) o.begins in
-      let both = h.both.has u ((wide t u i o.after o.ends).0) (z u (record { above = tu; below = le_refl u }), y) in (
+      let both = h.both.has u ((wide t u i tu o.ends).0) (z u (record { above = tu; below = le_refl u }), y) in (
         h.some.has t ((own t i).0) (u, o, c, y),
         h.each.has t ((own t i).1) (λ v w k.
             let tv = later_zero_out t v w.begins in
             let vu = le_trans w.ends o.begins in
-            h.run.has v ((wide t v i w.after (le_trans vu o.ends)).1) (by_sure v tv vu both c.1)),
+            h.run.has v ((wide t v i tv (le_trans vu o.ends)).1) (by_sure v tv vu both c.1)),
       )
     where
       by_sure : (v : Rational) → t ≤ʳ v → v ≤ʳ u → IsOn x.both.spans.items u → (u ≤ʳ stop tr) ⊎ (u ≤ʳ t) → GoesOn p.yes x.both.spans.items (sure_place tr) v
@@ -104,7 +104,7 @@ module _ (ended : Bool) (tr : Trace) (a b : ℕ) (order : a ≤ b) (p q : Lists)
     (no : List Stretch) (tidy_q : AreTidy q.no) (tidy_fail : AreTidy x.fail.spans.items)
     (from : (t : Rational) → Lies bounds t → start tr ≤ʳ t)
     (own : (t : Rational) → Lies bounds t → Lies x.never.bounds t × Lies x.broken.bounds t)
-    (wide : (t u : Rational) → Lies bounds t → start tr ≤ʳ u → u ≤ʳ later t b → Lies x.fail.bounds u × Lies x.stop.bounds u) where
+    (wide : (t u : Rational) → Lies bounds t → t ≤ʳ u → u ≤ʳ later t b → Lies x.fail.bounds u × Lies x.stop.bounds u) where
   out : (t : Rational) → IsOn x.never.spans.items t ⊎ IsOn x.broken.spans.items t → UntilFails ended tr a b (IsOn p.no) (IsOn q.no) t
   out t (inl n) u o c = inl ((h.never.only t n).1 u o c)
   out t (inr n) u o c = by_run ((h.broken.only t n).1)
@@ -129,7 +129,7 @@ module _ (ended : Bool) (tr : Trace) (a b : ℕ) (order : a ≤ b) (p q : Lists)
       let e = later t a in
       let d = window_end ended tr (later t b) in
       elim (all_or_broken q.no p.no x.fail.spans.items tidy_q tidy_fail d.0 t e (later_from t a)
-      (λ u k l m. h.fail.has u ((wide t u i (le_trans s k) (d.1 u l).0).0) m)
+      (λ u k l m. h.fail.has u ((wide t u i k (d.1 u l).0).0) m)
       (λ u k l. f u (record { after = le_trans s (le_trans (later_from t a) k); begins = k; ends = (d.1 u l).0 }) (d.1 u l).1)) [
         | inl all ↦ inl (h.never.has t ((own t i).0) (λ u o c. all u o.begins (d.2 u o.ends c)))
         | inr (v, w, g) ↦
@@ -137,7 +137,7 @@ module _ (ended : Bool) (tr : Trace) (a b : ℕ) (order : a ≤ b) (p q : Lists)
             inr (h.broken.has t ((own t i).1) (
               v,
               on_way (start tr) t v a sv w.above w.below,
-              h.stop.has v ((wide t v i sv (le_trans w.below (later_more t a b order))).1) g,
+              h.stop.has v ((wide t v i w.above (le_trans w.below (later_more t a b order))).1) g,
             ))
       ]
 

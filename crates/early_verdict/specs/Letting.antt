@@ -1,12 +1,16 @@
 -- What nodes show and go on from, once they let go of times.
-use Rattle.std.specs.Prelude.{◌≡◌, ◌≢◌, ◌⊎◌, ℕ, Option, Some, List, length, slice_get}
+use Rattle.std.specs.Prelude.{◌≡◌, ◌≢◌, ◌⊎◌, ℕ, Option, Some, None, MatchOption, List, length, slice_get}
 use Rattle.rational.specs.Time.{Rational, ◌≤ʳ◌, ◌<ʳ◌}
 use Rattle.stl_syntax.specs.declared.node.Node.{Node}
 use Rattle.stl_syntax.specs.declared.node.Node.TheVariants.{Const, Atom as Leaf, Not, And, Or, Implies, Until, Eventually, Always, Since, Once, Historically}
+use Rattle.early_verdict.specs.Cuts.{place, AtMost, Upto}
 use Rattle.early_verdict.specs.Spans.{IsOn, Lies}
-use Rattle.early_verdict.specs.Fitting.{AreSetsTidy}
+use Rattle.early_verdict.specs.Fitting.{AreSetsTidy, IsTidy}
 use Rattle.early_verdict.specs.Living.{IsNarrowed, LooksAt}
 use Rattle.early_verdict.specs.declared.stretch.Stretch.{Stretch}
+use Rattle.early_verdict.specs.declared.grown.Grown.{Grown}
+use Rattle.early_verdict.specs.declared.sets.Holding.{Holding}
+use Rattle.early_verdict.specs.declared.sets.Failing.{Failing}
 use Rattle.early_verdict.specs.declared.sets.Sets.{Sets}
 use Rattle.early_verdict.specs.declared.sets.Parts.{Parts}
 
@@ -50,6 +54,71 @@ pub record IsAskedFrom (p : ℕ) (from : Rational) (old new : List Sets) : Type 
   pub narrowed : IsNarrowed bounds was is
   pub less : (t : Rational) → Lies bounds t → Lies was.no.bounds t
   pub left : (t : Rational) → Lies was.no.bounds t → Lies bounds t ⊎ (t <ʳ from)
+  pub after : (t : Rational) → Lies was.no.bounds t → from ≤ʳ t → (u : Rational) → Lies bounds u → from ≤ʳ u
+  pub ends : AtMost (place was.no.bounds.to) (place bounds.to)
+
+-- a set goes on from that time on, where some of its times are left
+pub record IsCutAt (from : Rational) (old new : Grown) : Type 0 where
+  pub tidy : IsTidy new
+  pub less : (t : Rational) → Lies new.bounds t → Lies old.bounds t
+  pub left : (t : Rational) → Lies old.bounds t → from ≤ʳ t → Lies new.bounds t
+  pub after : (t : Rational) → Lies old.bounds t → from ≤ʳ t → (u : Rational) → Lies new.bounds u → from ≤ʳ u
+  pub has : (t : Rational) → Lies new.bounds t → IsOn old.spans.items t → IsOn new.spans.items t
+  pub only : (t : Rational) → IsOn new.spans.items t → IsOn old.spans.items t × Lies new.bounds t
+
+-- a set lets go of the times outside of narrower bounds
+pub record IsCutTo (bounds : Stretch) (old new : Grown) : Type 0 where
+  pub tidy : IsTidy new
+  pub bounds_are : new.bounds ≡ bounds
+  pub has : (t : Rational) → Lies bounds t → IsOn old.spans.items t → IsOn new.spans.items t
+  pub only : (t : Rational) → IsOn new.spans.items t → IsOn old.spans.items t × Lies bounds t
+
+-- so do the sets between until's and those of its operands; its failures as far as the left one shows times
+pub record IsHoldingCut (from : Rational) (old new : Holding) : Type 0 where
+  pub both : IsCutAt from old.both new.both
+  pub run : IsCutAt from old.run new.run
+  pub some : IsCutAt from old.some new.some
+  pub each : IsCutAt from old.each new.each
+
+pub record IsFailingCut (from : Rational) (wide : Stretch) (old new : Failing) : Type 0 where
+  pub fail : IsCutTo wide old.fail new.fail
+  pub stop : IsCutTo wide old.stop new.stop
+  pub never : IsCutAt from old.never new.never
+  pub broken : IsCutAt from old.broken new.broken
+
+pub record IsRunCut (from : Rational) (wide : Stretch) (old new : Sets) : Type 0 where
+  pub yes : new.yes ≡ old.yes
+  pub no : new.no ≡ old.no
+  pub parts : MatchOption old.parts (new.parts ≡ None) (λ x. MatchOption new.parts ⊥ (λ y. IsHoldingCut from x.holding y.holding × IsFailingCut from wide x.failing y.failing))
+
+-- the times of the sets between lie within their bounds
+abbrev pub IsGrownInside : Grown → Type 0
+IsGrownInside x = (t : Rational) → IsOn x.spans.items t → Lies x.bounds t
+
+pub record IsHoldingInside (x : Holding) : Type 0 where
+  pub both : IsGrownInside x.both
+  pub run : IsGrownInside x.run
+  pub some : IsGrownInside x.some
+  pub each : IsGrownInside x.each
+
+pub record IsFailingInside (wide : Stretch) (x : Failing) : Type 0 where
+  pub fail : (t : Rational) → IsOn x.fail.spans.items t → Upto (place wide.to) t
+  pub stop : (t : Rational) → IsOn x.stop.spans.items t → Upto (place wide.to) t
+  pub never : IsGrownInside x.never
+  pub broken : IsGrownInside x.broken
+
+abbrev pub ArePartsInside : Stretch → Sets → Type 0
+ArePartsInside wide s = MatchOption s.parts (Unit {0}) (λ x. IsHoldingInside x.holding × IsFailingInside wide x.failing)
+
+-- so the node at a place
+pub record IsRunCutAt (i : ℕ) (from : Rational) (wide : Stretch) (old new : List Sets) : Type 0 where
+  pub was : Sets
+  pub is : Sets
+  pub at_old : slice_get old i ≡ Some was
+  pub at_new : slice_get new i ≡ Some is
+  pub others : (j : ℕ) → j ≢ i → slice_get new j ≡ slice_get old j
+  pub count : length new ≡ length old
+  pub cut : IsRunCut from wide was is
 
 -- sets that show fewer times
 pub record IsLess (old new : Sets) : Type 0 where
@@ -82,11 +151,20 @@ IsChild p (Since q r a b) = (q ≡ p) ⊎ (r ≡ p)
 IsChild p (Once q a b a_in b_in) = q ≡ p
 IsChild p (Historically q a b a_in b_in) = q ≡ p
 
--- until and since
+abbrev pub IsUntil : Node → Type 0
+IsUntil (Until p q a b) = Unit {0}
+IsUntil n = ⊥
+
+-- since
 abbrev pub IsRun : Node → Type 0
-IsRun (Until p q a b) = Unit {0}
 IsRun (Since p q a b) = Unit {0}
 IsRun n = ⊥
+
+-- what a node shows goes on from that time on, and ends where it did
+pub record ShowsFrom (from : Rational) (old new : Sets) : Type 0 where
+  pub left : (t : Rational) → Lies old.no.bounds t → from ≤ʳ t → Lies new.no.bounds t
+  pub after : (t : Rational) → Lies old.no.bounds t → from ≤ʳ t → (u : Rational) → Lies new.no.bounds u → from ≤ʳ u
+  pub ends : AtMost (place old.no.bounds.to) (place new.no.bounds.to)
 
 -- the children of a node that goes on from that time on show no more than what it looks at from there
 pub record AreAskedBy (n : Node) (from : Rational) (old new : List Sets) : Type 0 where
@@ -94,3 +172,4 @@ pub record AreAskedBy (n : Node) (from : Rational) (old new : List Sets) : Type 
   pub others : (p : ℕ) → ¬ (IsChild p n) → slice_get new p ≡ slice_get old p
   pub run : IsRun n → new ≡ old
   pub looks : (start : Rational) (own : Stretch) (parts : Option Parts) → ((t : Rational) → Lies own t → from ≤ʳ t) → LooksAt n start old own parts → LooksAt n start new own parts
+  pub cut : IsUntil n → (p : ℕ) (w x : Sets) → IsChild p n → slice_get old p ≡ Some w → slice_get new p ≡ Some x → ShowsFrom from w x

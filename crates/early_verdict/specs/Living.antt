@@ -28,8 +28,8 @@ IsShown (x ∷ shown) (suc p) u = IsShown shown p u
 pub record ReachesAhead (from : Rational) (b : ℕ) (own : Stretch) (x : Parts) : Type 0 where
   pub some : (t : Rational) → Lies own t → Lies x.holding.some.bounds t × Lies x.holding.each.bounds t
   pub never : (t : Rational) → Lies own t → Lies x.failing.never.bounds t × Lies x.failing.broken.bounds t
-  pub both : (t u : Rational) → Lies own t → from ≤ʳ u → u ≤ʳ later t b → Lies x.holding.both.bounds u × Lies x.holding.run.bounds u
-  pub fail : (t u : Rational) → Lies own t → from ≤ʳ u → u ≤ʳ later t b → Lies x.failing.fail.bounds u × Lies x.failing.stop.bounds u
+  pub both : (t u : Rational) → Lies own t → t ≤ʳ u → u ≤ʳ later t b → Lies x.holding.both.bounds u × Lies x.holding.run.bounds u
+  pub fail : (t u : Rational) → Lies own t → t ≤ʳ u → u ≤ʳ later t b → Lies x.failing.fail.bounds u × Lies x.failing.stop.bounds u
 
 pub record ReachesBack (from : Rational) (own : Stretch) (x : Parts) : Type 0 where
   pub some : (t : Rational) → Lies own t → Lies x.holding.some.bounds t × Lies x.holding.each.bounds t
@@ -46,7 +46,7 @@ LooksAt (And p q) from shown own parts = (t : Rational) → Lies own t → IsSho
 LooksAt (Or p q) from shown own parts = (t : Rational) → Lies own t → IsShown shown p t × IsShown shown q t
 LooksAt (Implies p q) from shown own parts = (t : Rational) → Lies own t → IsShown shown p t × IsShown shown q t
 LooksAt (Until p q a b) from shown own parts =
-    ((t u : Rational) → Lies own t → from ≤ʳ u → u ≤ʳ later t b → IsShown shown p u × IsShown shown q u)
+    ((t u : Rational) → Lies own t → t ≤ʳ u → u ≤ʳ later t b → IsShown shown p u × IsShown shown q u)
     × MatchOption parts (Unit {0}) (ReachesAhead from b own)
 LooksAt (Eventually p a b a_in b_in) from shown own parts = (t u : Rational) → Lies own t → OpenAhead from a b a_in b_in t u → IsShown shown p u
 LooksAt (Always p a b a_in b_in) from shown own parts = (t u : Rational) → Lies own t → OpenAhead from a b a_in b_in t u → IsShown shown p u

@@ -1,5 +1,5 @@
 //! Sets let go of the times that no later answer needs.
-ghost use Rattle.std.specs.Prelude.{◌≡◌, ◌⊎◌, ◌<◌, ◌^◌, List, MatchOption, length};
+ghost use Rattle.std.specs.Prelude.{◌≡◌, ◌⊎◌, ◌<◌, ◌^◌, ℕ, IfNone, IfSome, List, MatchOption, Some, length, slice_get};
 ghost use Rattle.rational.specs.Rational.{IsWithin};
 ghost use Rattle.rational.specs.Time.{Rational, later, ◌≤ʳ◌};
 ghost use Rattle.frac128.specs.Value.{value};
@@ -8,16 +8,17 @@ ghost use Rattle.stl_syntax.specs.Formula.{HasChildrenBelow};
 ghost use Rattle.stl_syntax.specs.WellFormed.{AreWellFormed};
 ghost use Rattle.early_verdict.specs.Cuts.{place, After, Upto};
 ghost use Rattle.early_verdict.specs.Spans.{AreTidy, IsOn};
-ghost use Rattle.early_verdict.specs.Fitting.{AreSetsTidy};
+ghost use Rattle.early_verdict.specs.Fitting.{AreSetsTidy, IsFailingTidy, IsHoldingTidy};
 ghost use Rattle.early_verdict.specs.Standing.{AllTidy};
 ghost use Rattle.early_verdict.specs.Living.{IsNarrowed, NetStands};
-ghost use Rattle.early_verdict.specs.Letting.{AreAskedBy, AreInside, IsAskedFrom, IsInside, IsSettled, IsSettledAt};
+ghost use Rattle.early_verdict.specs.Letting.{AreAskedBy, AreInside, IsAskedFrom, ArePartsInside, IsFailingCut, IsFailingInside, IsHoldingCut, IsHoldingInside, IsInside, IsRunCut, IsRunCutAt, IsSettled, IsSettledAt, IsUntil};
+ghost use Rattle.stl_syntax.specs.declared.node.Node.TheVariants.{Until};
 ghost use Rattle.early_verdict.specs.declared.sets.Sets.{Sets as ASets};
 
 use crate::cut::Cut;
 use crate::operators::ticks_before;
-use crate::sets::{Net, Sets};
-use crate::showing::{bounds_from, narrow};
+use crate::sets::{Failing, Holding, Net, Sets};
+use crate::showing::{bounds_from, cut_to, narrow};
 use crate::stretch::Stretch;
 use crate::touching::holding;
 use std::collections::VecDeque;
@@ -149,16 +150,67 @@ fn ask_children(shown: &mut [Sets], node: &Node, cut: &Cut)
     ensures { AreAskedBy node.now (value cut.now.time) shown.old shown.new }
 {
     match node {
-        Node::Const(_) | Node::Atom(_) | Node::Until { .. } | Node::Since { .. } => {}
+        Node::Const(_) | Node::Atom(_) | Node::Since { .. } => {}
         Node::Not(of) => ask_from(shown, *of, cut),
         Node::And(left, right) => ask_both(shown, *left, *right, cut),
         Node::Or(left, right) => ask_both(shown, *left, *right, cut),
         Node::Implies(left, right) => ask_both(shown, *left, *right, cut),
+        Node::Until { left, right, .. } => ask_both(shown, *left, *right, cut),
         Node::Eventually { of, low, .. } => ask_ahead(shown, *of, *low, cut),
         Node::Always { of, low, .. } => ask_ahead(shown, *of, *low, cut),
         Node::Once { of, high, .. } => ask_back(shown, *of, high, cut),
         Node::Historically { of, high, .. } => ask_back(shown, *of, high, cut),
     }
+}
+
+/// Lets go of the times before the cut of the sets between until's, where it holds, and those of its operands.
+fn cut_holding(own: &mut Holding, cut: &Cut)
+    requires tidy { IsHoldingTidy own.old }
+    requires inside { IsHoldingInside own.old }
+    ensures { IsHoldingCut (value cut.now.time) own.old own.new }
+{
+    cut_to(&mut own.both, cut);
+    cut_to(&mut own.run, cut);
+    cut_to(&mut own.some, cut);
+    cut_to(&mut own.each, cut);
+}
+
+/// So where it fails; there it goes on as far as its left operand shows times.
+fn cut_failing(own: &mut Failing, wide: Stretch, cut: &Cut)
+    requires tidy { IsFailingTidy own.old }
+    requires inside { IsFailingInside wide own.old }
+    ensures { IsFailingCut (value cut.now.time) wide own.old own.new }
+{
+    narrow(&mut own.fail, wide);
+    narrow(&mut own.stop, wide);
+    cut_to(&mut own.never, cut);
+    cut_to(&mut own.broken, cut);
+}
+
+/// So of an until.
+fn cut_run(own: &mut Sets, wide: Stretch, cut: &Cut)
+    requires tidy { AreSetsTidy own.old }
+    requires inside { ArePartsInside wide own.old }
+    ensures { IsRunCut (value cut.now.time) wide own.old own.new }
+{
+    match &mut own.parts {
+        Some(parts) => {
+            cut_holding(&mut parts.holding, cut);
+            cut_failing(&mut parts.failing, wide, cut);
+        }
+        None => {}
+    }
+}
+
+/// So of the until at a place.
+fn cut_run_at(live: &mut [Sets], i: usize, wide: Stretch, cut: &Cut)
+    requires within { i < length live.old }
+    requires tidy { AllTidy live.old }
+    requires inside { (s : ASets) → slice_get live.old i ≡ Some s → ArePartsInside wide s }
+    ensures { IsRunCutAt i (value cut.now.time) wide live.old live.new }
+{
+    let (_, from) = live.split_at_mut(i);
+    cut_run(&mut from[0], wide, cut);
 }
 
 /// Lets go of the times of the node at a place that are decided, or asked for no more.
@@ -173,6 +225,26 @@ fn settle_at(live: &mut [Sets], shown: &[Sets], i: usize)
     settle(&mut from[0], &shown[i]);
 }
 
+/// The place of an until's left operand; of no other node.
+fn left_of_until(node: &Node) -> Option<u32>
+    ensures some { IfSome result (λ p. (q : ℕ) × (a : ℕ) × (b : ℕ) × (node.now ≡ Until p q a b)) }
+    ensures none { IfNone result (¬ (IsUntil node.now)) }
+{
+    match node {
+        Node::Until { left, .. } => Some(*left),
+        _ => None,
+    }
+}
+
+/// The times that the node at the place shows.
+fn shown_at(shown: &[Sets], place: u32) -> Stretch
+    requires { place < length shown.now }
+    ensures { (x : ASets) × (slice_get shown.now place ≡ Some x) × (result ≡ x.no.bounds) }
+{
+    let at = place as usize;
+    shown[at].no.bounds()
+}
+
 /// Lets go of what the node at the place needs no more, of its own and of its children's.
 fn let_go_at(live: &mut [Sets], shown: &mut [Sets], formula: &Formula, i: u32)
     requires within { i < length formula.now.nodes }
@@ -183,7 +255,12 @@ fn let_go_at(live: &mut [Sets], shown: &mut [Sets], formula: &Formula, i: u32)
     let at = i as usize;
     settle_at(live, shown, at);
     let own = live[at].no.bounds();
-    ask_children(shown, formula.node(i), &own.from);
+    let node = formula.node(i);
+    ask_children(shown, node, &own.from);
+    if let Some(left) = left_of_until(node) {
+        let wide = shown_at(shown, left);
+        cut_run_at(live, at, wide, &own.from);
+    }
 }
 
 /// Lets go of the times that no later answer needs, from the root down.

@@ -1,12 +1,13 @@
 //! What a set shows the ones above it, and what it lets go of.
 ghost use Rattle.std.specs.Prelude.{◌≡◌, ◌⊎◌, ◌^◌, OnOk, IfSome, IfNone, Some, [], slice_get};
 ghost use Rattle.rational.specs.Rational.{IsWithin};
-ghost use Rattle.rational.specs.Time.{Rational, ◌<ʳ◌};
+ghost use Rattle.rational.specs.Time.{Rational, ◌≤ʳ◌, ◌<ʳ◌};
 ghost use Rattle.frac128.specs.Value.{value};
 ghost use Rattle.early_verdict.specs.Cuts.{place, After, Upto};
 ghost use Rattle.early_verdict.specs.Spans.{AreTidy, IsOn, Lies};
 ghost use Rattle.early_verdict.specs.Steps.{Gains};
 ghost use Rattle.early_verdict.specs.Showing.{EndsAfter, TakesIn};
+ghost use Rattle.early_verdict.specs.Letting.{IsCutAt, IsGrownInside};
 
 use crate::cut::Cut;
 use crate::grown::Grown;
@@ -87,6 +88,7 @@ pub(crate) fn bounds_from(bounds: &Stretch, cut: &Cut) -> Stretch
     ensures within { (t : Rational) → Lies result t → Lies bounds.now t }
     ensures left { (t : Rational) → Lies bounds.now t → Lies result t ⊎ (t <ʳ value cut.now.time) }
     ensures ends { (t : Rational) → Lies bounds.now t → Upto (place result.to) t }
+    ensures after { (t : Rational) → Lies bounds.now t → value cut.now.time ≤ʳ t → (u : Rational) → Lies result u → value cut.now.time ≤ʳ u }
 {
     let first = Cut {
         time: cut.time,
@@ -96,4 +98,14 @@ pub(crate) fn bounds_from(bounds: &Stretch, cut: &Cut) -> Stretch
         Some(rest) => rest,
         None => *bounds,
     }
+}
+
+/// Lets go of the times before that of the cut, where any of the set's times are left.
+pub(crate) fn cut_to(own: &mut Grown, cut: &Cut)
+    requires tidy { AreTidy own.old.spans.items }
+    requires inside { IsGrownInside own.old }
+    ensures { IsCutAt (value cut.now.time) own.old own.new }
+{
+    let within = own.bounds();
+    narrow(own, bounds_from(&within, cut));
 }

@@ -157,7 +157,7 @@ module _ (nodes : List Node) (tr : Trace) (items : List Item) (left : ℕ) (mark
       (subst (λ n. slice_get (run.front ++ (run.here ++ run.back)) (n + c) ≡ Some e) run.begin
       (get_right run.front (run.here ++ run.back) c ∙ get_left run.here run.back c e s))
 
-  in_run : (run : IsRun nodes tr items i from to) (c : ℕ) (e : Item) (t : Rational) → slice_get items c ≡ Some e → IsOver i t e
+  pub in_run : (run : IsRun nodes tr items i from to) (c : ℕ) (e : Item) (t : Rational) → slice_get items c ≡ Some e → IsOver i t e
       → (k : ℕ) × (c ≡ from + k) × (slice_get run.here k ≡ Some e)
   in_run run c e t s over = by_part (get_cases run.front (run.here ++ run.back) c e (subst (λ xs. slice_get xs c ≡ Some e) run.all s))
     where

@@ -21,3 +21,7 @@ pub mod Listing
 pub mod Gathering
 pub mod OfAtoms
 pub mod OneExplanation
+pub mod Demanding
+pub mod Descending
+pub mod Passing
+pub mod Needing

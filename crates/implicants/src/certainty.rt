@@ -7,13 +7,17 @@ ghost use Rattle.stl_syntax.specs.declared.items.Item.{Item as Cell};
 ghost use Rattle.stl_syntax.specs.declared.node.Node.TheVariants.{Atom as Leaf};
 ghost use Rattle.implicants.specs.Runs.{begins, AreAllCells};
 ghost use Rattle.implicants.specs.Keeping.{remaining, TellsFailure};
+ghost use Rattle.implicants.specs.Demands.{AreCertainties};
+ghost use Rattle.stl_syntax.specs.declared.items.Item.{Item};
+ghost use Rattle.stl_syntax.specs.Trace.{Trace};
+ghost use Rattle.std.specs.Prelude.{List};
 ghost use Rattle.implicants.specs.Certainty.{stays, known_at, is_false, EndsAt, IsAtomCertainty, AreAtomCertainties};
 
 use crate::cells::Cells;
 use crate::trace_ends::{first, last, tick};
 use frac128::{Memory, Steps};
 use offline_eval::laws::told_have_values;
-use offline_eval::{Atoms, EvalFault, eval};
+use offline_eval::{Atoms, EvalFault, Evaluated, eval};
 use pl_signal::{Builder, Signal};
 use std::alloc::Global;
 use std::sync::ledger::Ledger;
@@ -160,8 +164,8 @@ fn is_known_false(value: &Kleene) -> bool
     }
 }
 
-/// Whether the formula is certainly false at the start by the first `left` cells and those that are kept. It takes one step.
-pub(crate) fn is_certainly_false<L: Ledger>(
+/// The three-valued signals of all nodes by the first `left` cells and those that are kept. It takes one step.
+pub(crate) fn certainties<L: Ledger>(
     alloc: Global,
     formula: &Formula,
     trace: &Trace,
@@ -169,22 +173,30 @@ pub(crate) fn is_certainly_false<L: Ledger>(
     left: usize,
     kept: &[bool],
     steps: &mut Steps<L>,
-) -> Result<bool, Memory>
+) -> Result<Evaluated<Kleene>, Memory>
     requires some { 0 < length trace.now.rows }
     requires cells { AreAllCells formula.now.nodes trace.now cells.now.all.items cells.now.ends.items }
     requires marks { length kept.now ≡ length cells.now.all.items }
-    ensures told { IfOk result (λ b. TellsFailure b formula.now.nodes trace.now (remaining left kept.now cells.now.all.items)) }
+    ensures told { IfOk result (AreCertainties ⟦<Kleene as Shape>⟧ formula.now.nodes trace.now (remaining left kept.now cells.now.all.items)) }
     ensures steps { OnOk result (steps.new ≡ steps.old + 1) }
 {
     let atoms = atoms_of(alloc, formula, trace, cells, left, kept)?;
     told_have_values::<Kleene>();
+    let _ = formula.len();
     match eval(alloc, formula, first(trace), last(trace), atoms, steps) {
-        Ok(nodes) => {
-            let root = nodes.signal(formula.len() - 1);
-            let _ = root.len();
-            Ok(is_known_false(&root.knot(0).point))
-        }
+        Ok(nodes) => Ok(nodes),
         Err(EvalFault::Memory) => Err(Memory),
         Err(EvalFault::Wide(_)) => unreachable!(),
     }
+}
+
+/// Whether the formula is certainly false at the start, by the signals of all nodes.
+pub(crate) fn is_certainly_false(formula: &Formula, nodes: &Evaluated<Kleene>) -> bool
+    requires { length nodes.now ≡ length formula.now.nodes }
+    ensures { (tr : Trace) (items : List Item) → AreCertainties ⟦<Kleene as Shape>⟧ formula.now.nodes tr items nodes.now
+        → TellsFailure result formula.now.nodes tr items }
+{
+    let root = nodes.signal(formula.len() - 1);
+    let _ = root.len();
+    is_known_false(&root.knot(0).point)
 }

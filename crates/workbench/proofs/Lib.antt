@@ -25,6 +25,7 @@ pub mod OneRequest
 pub mod EndsOnce
 pub mod AtRest
 pub mod ManyLines
+pub mod BenchesHear
 pub mod Reported
 pub mod Summaries
 pub mod NumberWords

@@ -13,6 +13,7 @@ ghost use Rattle.workbench.specs.Words.{AskCheck};
 ghost use Rattle.workbench.specs.Running.{IsEnd, IsRun};
 ghost use Rattle.workbench.specs.Complete.{IsUndisturbed, IsCompleteRun};
 
+pub use crate::bench_laws::{each_bench_hears_its_own_stream, other_benches_change_nothing};
 pub use crate::line_laws::{
     an_early_verdict_is_the_truth, each_line_is_the_truth, the_lines_cover_the_trace,
 };

@@ -2,6 +2,7 @@
 #![tactic(auto)]
 
 mod answer;
+mod bench_laws;
 mod decided;
 mod early;
 mod entry;

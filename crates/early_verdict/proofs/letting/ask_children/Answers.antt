@@ -1,7 +1,7 @@
-use Rattle.std.proofs.Common.{sym, subst}
+use Rattle.std.proofs.Common.{rules, sym, subst}
 use Rattle.frac128.specs.Value.{value}
-use Rattle.early_verdict.specs.Letting.{AreAskedBy}
-use Rattle.early_verdict.proofs.LettingLemmas.{asked_always, asked_and, asked_eventually, asked_historically_by, asked_implies, asked_not, asked_once_by, asked_or}
+use Rattle.early_verdict.specs.Letting.{AreAskedBy, IsUntil}
+use Rattle.early_verdict.proofs.LettingLemmas.{asked_always, asked_and, asked_eventually, asked_historically_by, asked_implies, asked_not, asked_once_by, asked_or, asked_until, none_asked}
 use Rattle.early_verdict.proofs.letting.ask_children.Goals as goal
 
 pub returns-in-Not : goal.returns-in-Not
@@ -43,3 +43,18 @@ pub returns-in-Historically : goal.returns-in-Historically
 returns-in-Historically c =
     subst (λ n. AreAskedBy n (value c.args.cut.now.time) c.args.shown.now c.ask_back-in-Historically.new.shown) (sym c.in-Historically.is)
     (asked_historically_by c.in-Historically.of c.in-Historically.low c.in-Historically.high c.in-Historically.low_in c.in-Historically.high_in (value c.args.cut.now.time) c.args.shown.now c.ask_back-in-Historically.new.shown c.ask_back-in-Historically.ensures)
+
+pub returns-in-Until : goal.returns-in-Until
+returns-in-Until c =
+    subst (λ n. AreAskedBy n (value c.args.cut.now.time) c.args.shown.now c.ask_both-in-Until.new.shown) (sym c.in-Until.is)
+    (asked_until c.in-Until.left c.in-Until.right (value c.args.cut.now.time) c.args.shown.now c.ask_both-in-Until.ensures.0 c.ask_both-in-Until.new.shown c.ask_both-in-Until.ensures.1
+    c.ask_both-in-Until.ensures.2 c.in-Until.low c.in-Until.high)
+
+pub returns : goal.returns
+returns c = let n : ¬ (IsUntil c.args.node.now) = search rules in none_asked c.args.node.now (value c.args.cut.now.time) c.args.shown.now n
+
+pub returns-2 : goal.returns-2
+returns-2 c = let n : ¬ (IsUntil c.args.node.now) = search rules in none_asked c.args.node.now (value c.args.cut.now.time) c.args.shown.now n
+
+pub returns-3 : goal.returns-3
+returns-3 c = let n : ¬ (IsUntil c.args.node.now) = search rules in none_asked c.args.node.now (value c.args.cut.now.time) c.args.shown.now n

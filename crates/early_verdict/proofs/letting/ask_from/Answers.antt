@@ -32,3 +32,5 @@ returns c =
     f.ensures.front f.ensures.back c.requires.within c.narrow_both.ensures
     (λ t l. subst (λ b. Lies b t) c.bounds-within.ensures (c.bounds_from.ensures.within t l))
     (λ t l. c.bounds_from.ensures.left t (subst (λ b. Lies b t) (sym c.bounds-within.ensures) l))
+    (λ t l. c.bounds_from.ensures.after t (subst (λ b. Lies b t) (sym c.bounds-within.ensures) l))
+    (λ t l. c.bounds_from.ensures.ends t (subst (λ b. Lies b t) (sym c.bounds-within.ensures) l))

@@ -1,0 +1,20 @@
+use Rattle.early_verdict.proofs.LettingLemmas.{run_cut_at}
+use Rattle.early_verdict.proofs.Splitting.{at_split}
+use Rattle.frac128.specs.Value.{value}
+use Rattle.early_verdict.proofs.letting.cut_run_at.Goals as goal
+
+pub cut_run-requires-clause-tidy : goal.cut_run-requires-clause-tidy
+cut_run-requires-clause-tidy c =
+    let f = c.split_at_mut-from in
+    c.requires.tidy c.args.i _ (at_split c.args.live.now f.result.1.now c.args.i c.index-from-0.result f.ensures.back c.requires.within)
+
+pub cut_run-requires-clause-inside : goal.cut_run-requires-clause-inside
+cut_run-requires-clause-inside c =
+    let f = c.split_at_mut-from in
+    c.requires.inside _ (at_split c.args.live.now f.result.1.now c.args.i c.index-from-0.result f.ensures.back c.requires.within)
+
+pub returns : goal.returns
+returns c =
+    let f = c.split_at_mut-from in
+    run_cut_at c.args.live.now f.result.0.now f.result.1.now c.args.i c.index-from-0.result c.cut_run.new.own (value c.args.cut.now.time) c.args.wide
+    f.ensures.front f.ensures.back c.requires.within c.cut_run.ensures
