@@ -14,7 +14,7 @@ HERE = os.path.dirname(os.path.realpath(__file__))
 PROGRAM = os.path.join(HERE, "..", "crates", "stl_bench", "out", "stl_bench")
 
 # What each trace has in its two columns, besides the time, which goes up by 10 a row.
-COLUMNS = {"walk": "x,y", "cross": "x,y", "steps": "x:step,y:step", "alt": "x:step,y:step", "auto": "brake:step,speed"}
+COLUMNS = {"walk": "x,y", "cross": "x,y", "steps": "x:step,y:step", "alt": "x:step,y:step", "auto": "brake:step,speed", "reply": "x:step,y:step"}
 
 # One atom; ten nodes; the temporal operators, over short and long windows.
 TEN = "always[0,50] (x >= 0 or y <= 40) and (y >= 10 since x <= 200) and not once[5,20] x >= 900"
@@ -30,7 +30,15 @@ CASES = [
     ("window of 100000", "eventually[1,100000] x >= 500", "walk cross"),
     ("window behind", "historically[2,1000] x >= 0", "walk cross"),
 ]
-COMMANDS = ["check", "watch", "robust", "explain", "json", "table"]
+
+# What no row settles, so that `early` works to the end: a response, the same by `until`, two long windows, one atom.
+LATE = [
+    ("response", "always[0,10000000] (x >= 0 implies eventually[0,1000] y >= 0)", "reply cross alt"),
+    ("until", "always[0,10000000] (x >= 0 implies (x >= 0 until[0,1000] y >= 0))", "reply"),
+    ("two lags", "always[0,10000000] (eventually[0,1000000] x >= 0 or once[0,1000000] y >= 0)", "reply alt"),
+    ("atom", "always[0,10000000] x <= 5000", "walk"),
+]
+COMMANDS = ["check", "watch", "robust", "explain", "json", "table", "early"]
 
 
 def walk(rows, dice):
@@ -75,7 +83,18 @@ def auto(rows, dice):
         speed = max(speed - 5, 0) if brake else min(speed + 1, 60)
 
 
-MAKERS = {"walk": walk, "cross": cross, "steps": steps, "alt": alt, "auto": auto}
+def reply(rows, dice):
+    """Requests that stay on until they are answered, in less than a hundred rows."""
+    due = None
+    for row in range(rows):
+        if due is None and dice.random() < 0.02:
+            due = row + dice.randint(5, 80)
+        yield 1 if due is not None else -1, 1 if due == row else -1
+        if due == row:
+            due = None
+
+
+MAKERS = {"walk": walk, "cross": cross, "steps": steps, "alt": alt, "auto": auto, "reply": reply}
 
 
 def write_trace(path, name, rows):
@@ -190,7 +209,7 @@ def main():
         for command in [args.command] if args.command else COMMANDS:
             if not all(stands(program, command, small) for program in programs):
                 continue
-            for name, formula, traces in CASES:
+            for name, formula, traces in LATE if command == "early" else CASES:
                 for kind in traces.split():
                     if args.only not in f"{name} {kind}":
                         continue

@@ -10,7 +10,7 @@ import tempfile
 HERE = os.path.dirname(os.path.realpath(__file__))
 PROGRAM = os.path.join(HERE, "..", "crates", "stl_bench", "out", "stl_bench")
 COLUMNS = ["x", "y:step", "z:1", "w:step:2"]
-COMMANDS = ["check", "watch", "robust"]
+COMMANDS = ["check", "watch", "robust", "early"]
 UNKNOWN, WIDE = 2, 8
 
 
@@ -63,6 +63,11 @@ def answer(program, command, text, trace):
     return done.returncode, done.stdout
 
 
+def is_telling(command, text):
+    """Whether a text says more than one stretch, or that a row decided."""
+    return not text.startswith(b"decided at end") if command == "early" else len(text.splitlines()) > 2
+
+
 def main():
     parser = argparse.ArgumentParser(description=__doc__)
     parser.add_argument("--program", default=PROGRAM, help="the program to compare")
@@ -87,9 +92,9 @@ def main():
                 if ours[0] not in (0, 1) or ours != theirs:
                     print(f"case {case}: {command} {text!r} on {trace!r}\n{ours[0]} {ours[1]!r}\n{theirs[0]} {theirs[1]!r}")
                     return 1
-                judged[command] += len(ours[1].splitlines()) > 2
+                judged[command] += is_telling(command, ours[1])
     changes = ", ".join(f"{many} of {command}" for command, many in judged.items())
-    print(f"{args.cases} cases agree; more than one stretch: {changes}; wide: {wide}")
+    print(f"{args.cases} cases agree; more than one stretch, or decided by a row: {changes}; wide: {wide}")
     return 0
 
 

@@ -1,16 +1,18 @@
-// A plain exact monitor in C++, to measure `check`, `watch` and `robust` beside: the same words, formulas, traces and texts, written
-// for speed and proved in nothing. It stops at the first thing that it cannot read, with status 2.
+// A plain exact monitor in C++, to measure `check`, `watch`, `robust` and `early` beside: the same words, formulas, traces and texts,
+// written for speed and proved in nothing. It stops at the first thing that it cannot read, with status 2.
 // Build: c++ -O3 -std=c++17 -o exact exact.cpp
+#include "exact/early.h"
 #include "exact/robust.h"
 #include "exact/truth.h"
 #include "exact/watch.h"
 
 int main(int count, char** words) {
     string_view command = count == 3 ? words[1] : "";
-    if (command != "check" && command != "watch" && command != "robust") refuse("usage: check F | watch F | robust F");
+    if (command != "check" && command != "watch" && command != "robust" && command != "early")
+        refuse("usage: check F | watch F | robust F | early F");
     vector<Node> nodes = Parser(words[2]).parse();
     Output out;
-    Reader reader(command == "watch" ? &out : nullptr);
+    Reader reader(command == "watch" || command == "early" ? &out : nullptr);
     reader.header();
     Scale scale{reader.time_digits, 0};
     for (const Column& c : reader.columns) scale.value = std::max(scale.value, c.digits);
@@ -20,6 +22,8 @@ int main(int count, char** words) {
     }
     reader.begin(scale);
     if (command == "robust") { robust(nodes, reader, scale, out); return 0; }
-    bool holds = command == "watch" ? watch(nodes, reader, scale, out) : check(nodes, reader, scale, out);
+    bool holds = command == "watch"   ? watch(nodes, reader, scale, out)
+                 : command == "early" ? early(nodes, reader, scale, out)
+                                      : check(nodes, reader, scale, out);
     return holds ? 0 : 1;
 }

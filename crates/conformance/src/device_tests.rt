@@ -21,6 +21,9 @@ const RISE: &str = "time,x\n0,0\n10,10\n";
 /// What `watch` writes for it: a line for the first row, two for the second, and the start.
 const WATCHED: &str = "[0,0] false\n(0,5) false\n[5,10] true\nstart false\n";
 
+/// What `early` writes for it.
+const DECIDED: &str = "decided at 0\nstart false\n";
+
 const SUMMARY: &str = "rows 5\ncheck 1\nwatch 2\nstart true\n";
 
 /// Whether a command of `x >= 5` on `RISE` is answered so.
@@ -132,6 +135,7 @@ fn each_write_may_fail(rt: HostRuntime) -> Result<(), Fail> {
         assert!(rt; is_cut_off(alloc, &[command, "x >= 5"], out)?, "{command}");
     }
     assert!(rt; is_cut_off(alloc, &["gen", "3", "5"], SUMMARY)?);
+    assert!(rt; is_cut_off(alloc, &["early", "x >= 5"], DECIDED)?);
     Ok(())
 }
 

@@ -14,6 +14,8 @@ mod dropping;
 #[cfg(test)]
 mod dropping_tests;
 #[cfg(test)]
+mod early_tests;
+#[cfg(test)]
 mod eval_tests;
 #[cfg(test)]
 mod evals;

@@ -723,10 +723,10 @@ fn refused<'a>(words: &'a [&'a str], err: &'a str, status: u8) -> Case<'a> {
 }
 
 const USAGE: &str =
-    "usage: check F | watch F | robust F | explain F | json F | table F | gen NUMBER ROWS\n";
+    "usage: check F | watch F | robust F | explain F | json F | table F | gen NUMBER ROWS | early F\n";
 
 /// Words that are no form.
-const NO_FORMS: [&[&str]; 14] = [
+const NO_FORMS: [&[&str]; 15] = [
     &[],
     &["check"],
     &["gen"],
@@ -738,7 +738,8 @@ const NO_FORMS: [&[&str]; 14] = [
     &["gen", "+1", "1"],
     &["gen", "", "1"],
     &["gen", "1", "1.0"],
-    &["early", "x >= 5"],
+    &["early"],
+    &["early", "x >= 5", "y"],
     &["robust"],
     &["check", "x >= 5", "y"],
 ];

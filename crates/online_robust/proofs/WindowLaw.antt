@@ -124,13 +124,13 @@ module _ (Q : Function) (reach : ℕ) where
     pub merged : (from : Rational) (low : Gap) (k : Mark) (marks : List Mark) → Runs Q reach from low (k ∷ marks)
         → IsOneLine low.shape k.point k.after.shape (value k.at) → Runs Q reach from k.after marks
     merged from low k [] (on, ends, order, point, rest) one =
-        (merged_on from low k on ends order point rest.0 one, before_of k.after.until order (up_to_before (value k.at) k.after.until rest.1))
+        (merged_on from low k on ends order point.told rest.0 one, before_of k.after.until order (up_to_before (value k.at) k.after.until rest.1))
     merged from low k (n ∷ marks) (on, ends, order, point, rest) one =
-        (merged_on from low k on ends order point rest.0 one, rest.1, lt_trans order rest.2, rest.3, rest.4)
+        (merged_on from low k on ends order point.told rest.0 one, rest.1, lt_trans order rest.2, rest.3, rest.4)
 
     module _ (side : Side) (limit h : Rational) (r : Extended) where
       -- none of the constants is better
-      abbrev AreUnder : List Margin → Type 0
+      abbrev pub AreUnder : List Margin → Type 0
       AreUnder [] = Unit {0}
       AreUnder (c ∷ cs) = ((t : Rational) → IsNoBetter side (value_at (margin_function c) t) r) × AreUnder cs
 
@@ -174,7 +174,7 @@ module _ (Q : Function) (reach : ℕ) where
               (const (value_at (margin_function low.shape) (value k.at)) frozen.left))
           by_place (inr (inl e)) go = no_better_trans side v (value_at (margin_function k.point) (value k.at)) r
               (no_better_same side v (value_at (margin_function k.point) (value k.at))
-              (is.one (value k.at) v (value_at (margin_function k.point) (value k.at)) (is.alike u (value k.at) v v e (same_reflᵉ v) has) point))
+              (is.one (value k.at) v (value_at (margin_function k.point) (value k.at)) (is.alike u (value k.at) v v e (same_reflᵉ v) has) point.told))
               (const (value_at (margin_function k.point) (value k.at)) frozen.there)
           by_place (inr (inr g)) go = go g
 
@@ -205,7 +205,7 @@ module _ (Q : Function) (reach : ℕ) where
               (reaches_end side none W Q (margin_function low.shape) from (value k.at) (value k.at) rises (inr (same_refl (value k.at)))
               (λ t a b. (in_window t a (lt_trans b before), on.told t a (before_end low.until ends b))))
           by_one (inr (inl e)) = subst (λ (p : Margin). Reaches side none W Q (value_at (margin_function p) (value k.at))) (sym e)
-              (reaches_value side none W Q (value k.at) (value_at (margin_function k.point) (value k.at)) (in_window (value k.at) rises before) point)
+              (reaches_value side none W Q (value k.at) (value_at (margin_function k.point) (value k.at)) (in_window (value k.at) rises before) point.told)
           by_one (inr (inr e)) =
               let on_after = runs_on (value k.at) k.after marks rest in
               let g = goes_on k marks rest before until in

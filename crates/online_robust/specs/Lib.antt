@@ -13,3 +13,5 @@ pub mod Lining
 pub mod Reading
 pub mod Couples
 pub mod Sweeping
+pub mod Windows
+pub mod WindowPasts

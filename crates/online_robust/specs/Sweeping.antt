@@ -1,17 +1,18 @@
 -- A window that sweeps over its input: the gap about each end, and the points between with the gaps behind them.
-use Rattle.std.specs.Prelude.{◌≡◌, ◌⊎◌, ℕ, ◌^◌, List, [], ◌∷◌, Option, Some, None}
+use Rattle.std.specs.Prelude.{◌≡◌, ◌⊎◌, ℕ, ◌^◌, List, [], ◌∷◌, false, Option, Some, None}
 use Rattle.rational.specs.Time.{Rational, Within, ◌≈◌, ◌≤ʳ◌, ◌<ʳ◌}
 use Rattle.rational.specs.Extended.{Extended, value_at, ◌≈ᵉ◌}
 use Rattle.rational.specs.Affine.{IsBounded}
 use Rattle.rational.specs.Windows.{Function}
 use Rattle.frac128.specs.Value.{value}
 use Rattle.frac128.specs.declared.frac.Frac.{Frac}
-use Rattle.value_laws.specs.Margins.{margin_function}
+use Rattle.value_laws.specs.Margins.{is_ramp, margin_function}
 use Rattle.value_laws.specs.declared.margin.Margin.{Margin}
 use Rattle.pl_signal.specs.declared.joining.Side.{Side}
 use Rattle.envelope.specs.Turns.{IsNoBetter}
 use Rattle.online_robust.specs.Lines.{IsOneLine}
-use Rattle.online_robust.specs.Told.{IsMovedBy}
+use Rattle.online_robust.specs.Reading.{IsThere}
+use Rattle.online_robust.specs.Told.{IsMovedBy, IsTick}
 use Rattle.online_robust.specs.declared.ends.Gap.{Gap}
 
 -- the function inside the domain, and the value of no values outside
@@ -45,6 +46,11 @@ pub record Mark : Type 0 where
   pub point : Margin
   pub after : Gap
 
+-- the marks have times of 32 bits
+abbrev pub AreTicks : List Mark → Type 0
+AreTicks [] = Unit {0}
+AreTicks (k ∷ marks) = IsTick (value k.at) × AreTicks marks
+
 -- the gap behind the last mark
 abbrev pub last_gap : Gap → List Mark → Gap
 last_gap low [] = low
@@ -59,7 +65,7 @@ AreBy t (k ∷ marks) = (value k.at ≤ʳ t) × AreBy t marks
 abbrev pub Runs : Function → ℕ → Rational → Gap → List Mark → Type 0
 Runs Q reach from low [] = IsOn Q reach from low × IsBefore from low.until
 Runs Q reach from low (k ∷ marks) =
-    IsOn Q reach from low × EndsAt low.until (value k.at) × (from <ʳ value k.at) × Q (value k.at) (value_at (margin_function k.point) (value k.at))
+    IsOn Q reach from low × EndsAt low.until (value k.at) × (from <ʳ value k.at) × IsThere Q reach (value k.at) k.point
     × Runs Q reach (value k.at) k.after marks
 
 -- a mark that gives no constant: the gaps about it and its point are of one function, or it comes too early
@@ -71,6 +77,7 @@ pub record IsFrozen (side : Side) (before point after : Margin) (u : Rational) (
   pub of : Margin
   pub one : (of ≡ before) ⊎ (of ≡ point) ⊎ (of ≡ after)
   pub constant : (t : Rational) → value_at (margin_function c) t ≈ᵉ value_at (margin_function of) u
+  pub still : is_ramp c ≡ false
   pub left : IsNoBetter side (value_at (margin_function before) u) (value_at (margin_function of) u)
   pub there : IsNoBetter side (value_at (margin_function point) u) (value_at (margin_function of) u)
   pub right : IsNoBetter side (value_at (margin_function after) u) (value_at (margin_function of) u)

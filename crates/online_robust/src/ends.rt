@@ -51,7 +51,7 @@ pub(crate) fn is_at(t: &Frac, other: &Option<Frac>) -> bool
 }
 
 /// Whether the two are one time.
-fn is_same(t: &Frac, u: &Frac) -> bool
+pub(crate) fn is_same(t: &Frac, u: &Frac) -> bool
     ensures { IsTrue result ↔ value t.now ≈ value u.now }
 {
     match t.cmp(u) {

@@ -7,11 +7,13 @@ mod ends;
 mod line;
 mod net;
 mod operator;
+mod past;
 mod pointwise;
 mod put;
 mod queue;
 mod station;
 mod streamed;
+mod window;
 
 pub use line::MarginLine;
 pub use net::{RobustFault, RobustNet};

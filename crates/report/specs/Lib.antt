@@ -19,3 +19,4 @@ pub mod ReportText
 pub mod Lines
 pub mod FaultTexts
 pub mod PartLines
+pub mod EarlyLines

@@ -2,6 +2,7 @@
 #![tactic(auto)]
 
 mod before;
+mod early;
 mod fault;
 mod following;
 mod items;
@@ -17,6 +18,7 @@ mod spelling;
 mod table;
 mod verdict;
 
+pub use early::put_decided;
 pub use fault::{
     put_trace_fault, put_unit_fault, put_unknown, trace_fault_line, unit_fault_line, unknown_line,
 };

@@ -201,6 +201,13 @@ impl<F: Follow> Live<F> {
         self.text.bytes()
     }
 
+    /// What follows the rows, if the header was read.
+    pub fn into_follower(self) -> Option<F>
+        ensures { result ≡ self.follower }
+    {
+        self.follower
+    }
+
     /// Lets go of the text, once it was written.
     pub fn clear(&mut self)
         ensures { self.new ≡ record self.old { text = [] } }

@@ -1,21 +1,27 @@
 -- What a run leaves to its caller.
-use Rattle.std.proofs.Common.{◌≡◌, ◌≢◌, inl, inr, ℕ, Bool, true, false, List, [], refl, sym, subst, arith, Result, Ok, Err}
-use Rattle.std.specs.Prelude.{MatchResult, OnOk}
+use Rattle.std.proofs.Common.{◌≡◌, ◌≢◌, ◌∙◌, inl, inr, ℕ, Bool, true, false, Option, Some, List, [], refl, sym, ap, subst, arith, Result, Ok, Err}
+use Rattle.std.specs.Prelude.{IsSome, MatchResult, OnOk}
 use Rattle.std.specs.Result.{is_err}
 use Rattle.std.proofs.lemmas.Bool.{false≢true}
 use Rattle.std.specs.Io.KnownBytes.{Appends, Consumes}
 use Rattle.std.proofs.KnownBytes.{Appends-nil, Consumes-nil}
 use Rattle.io_edge.specs.Calls.{Drained, Filled, IsAskedOnce}
 use Rattle.stl_syntax.specs.Formula.{Formula}
-use Rattle.report.specs.Report.{Command}
+use Rattle.report.specs.Report.{Command, nodes_for}
+use Rattle.early_verdict.specs.Deciding.{Kept as Deciding}
+use Rattle.trace_stream.specs.Reading.{IsWhole}
+use Rattle.trace_stream.specs.Following.{IsDone}
+use Rattle.trace_stream.specs.declared.live.Live.{Live}
 use Rattle.workbench.specs.Commands.{Judge, judge, generate}
 use Rattle.workbench.specs.Commands as word
 use Rattle.workbench.specs.ErrTexts.{out_of_memory}
-use Rattle.workbench.specs.InputFaults.{stream_limits}
-use Rattle.workbench.specs.Requests.{no_form, refused as bad_request, whole, stream, verdicts, generated, AreNone, AreFor, IsAsked, word_of}
+use Rattle.workbench.specs.InputFaults.{stream_limits, whole_limits}
+use Rattle.workbench.specs.Requests.{Request, no_form, refused as bad_request, whole, stream, verdicts, early, generated, Asks, AreNone, AreFor, IsAsked, word_of}
 use Rattle.workbench.specs.Running.{IsRun, unknown as run_unknown}
 use Rattle.workbench.specs.Saying.{IsSaid}
-use Rattle.workbench.specs.Keeping.{Holds, IsLeft, asked, unknown, HasRun}
+use Rattle.workbench.specs.Deciding.{IsDeciding}
+use Rattle.workbench.specs.declared.early.Deciding.{Deciding as Follower}
+use Rattle.workbench.specs.Keeping.{Holds, IsEarlyOf, IsLeft, asked, unknown, HasRun}
 use Rattle.workbench.specs.Watches.{Watched, StandsForAll}
 use Rattle.workbench.specs.Wholes.{IsBadEnd, refused, no_room, status_of, status_of_stop, IsEndLine}
 use Rattle.workbench.specs.Pushing.{IsStreamEnd}
@@ -23,7 +29,7 @@ use Rattle.workbench.proofs.StreamSteps.{stream_run}
 use Rattle.workbench.specs.declared.fault.Stop.{Stop}
 use Rattle.workbench.specs.declared.fault.Stop.TheVariants.{Fault as Faulty, Unread, Unwritten, NoMemory, Wide, TooMany}
 use Rattle.workbench.specs.declared.kept.Kept.{Kept}
-use Rattle.workbench.specs.declared.kept.Kept.TheVariants.{Watch}
+use Rattle.workbench.specs.declared.kept.Kept.TheVariants.{Watch, Early}
 
 -- words of no form leave nothing
 pub none_left : {words : List (List ℕ)} {i : Drained} {o e : Filled} {status : ℕ} (old new : Kept) → AreNone words → new ≡ old → IsRun words i o e status → HasRun words i o e old new status
@@ -64,6 +70,21 @@ starved_left {words} {j} i o e old new line ask is same_in same_out said same = 
   left = unknown refl same;
 }
 
+-- a reason to stop is no answer
+not_answer : (stop : Stop) → (status_of_stop stop ≢ 0) × (status_of_stop stop ≢ 1)
+not_answer (Faulty fault) = (λ e. omega (arith, e), λ e. omega (arith, e))
+not_answer Unread = (λ e. omega (arith, e), λ e. omega (arith, e))
+not_answer Unwritten = (λ e. omega (arith, e), λ e. omega (arith, e))
+not_answer NoMemory = (λ e. omega (arith, e), λ e. omega (arith, e))
+not_answer (Wide i den) = (λ e. omega (arith, e), λ e. omega (arith, e))
+not_answer (TooMany count) = (λ e. omega (arith, e), λ e. omega (arith, e))
+
+-- what stops for a reason leaves nothing
+pub stopped_left : (words : List (List ℕ)) (request : Request) (bytes : List ℕ) (ending : Result Bool Stop) (kept : Kept) → Asks words request → is_err ending ≡ true
+    → IsLeft words bytes (status_of ending) kept kept
+stopped_left words request bytes (Ok holds) kept ask e = absurd (false≢true e)
+stopped_left words request bytes (Err stop) kept ask e = asked request ask (inr (inr (not_answer stop), refl))
+
 -- `watch` leaves its watch on an answer, and nothing else
 pub watch_left : (words : List (List ℕ)) (f : Formula) (bytes text : List ℕ) (ending : Result Bool Stop) (w : Watched) (old new : Kept) → AreFor words word.watch f
     → OnOk ending ((holds : Bool) × StandsForAll (record { formula = f; limits = stream_limits; bytes = bytes; text = text }) holds w)
@@ -74,14 +95,6 @@ watch_left words f bytes text (Ok false) w old new ask (holds, k) same =
     asked (stream verdicts f) ask (inl (refl, inr refl, subst (λ (x : Kept). Holds (stream verdicts f) bytes x) (sym same) (text, holds, k)))
 watch_left words f bytes text (Err stop) w old new ask k same =
     asked (stream verdicts f) ask (inr (inr (not_answer stop), same))
-  where
-    not_answer : (stop : Stop) → (status_of_stop stop ≢ 0) × (status_of_stop stop ≢ 1)
-    not_answer (Faulty fault) = (λ e. omega (arith, e), λ e. omega (arith, e))
-    not_answer Unread = (λ e. omega (arith, e), λ e. omega (arith, e))
-    not_answer Unwritten = (λ e. omega (arith, e), λ e. omega (arith, e))
-    not_answer NoMemory = (λ e. omega (arith, e), λ e. omega (arith, e))
-    not_answer (Wide i den) = (λ e. omega (arith, e), λ e. omega (arith, e))
-    not_answer (TooMany count) = (λ e. omega (arith, e), λ e. omega (arith, e))
 
 -- the answer is kept, or the fault leaves all as it was
 pub kept_fault : (r : Result Bool Stop) (w : Watched) (k : Kept) → is_err r ≡ true → MatchResult r (λ _. k ≡ Watch w) (λ _. k ≡ k)
@@ -101,3 +114,72 @@ watch_run words f g h w i o e old new ask eg eh ending status line same x once t
     let y = subst (λ (k : Formula). IsStreamEnd (λ bytes text. (holds : Bool) × StandsForAll (record { formula = k; limits = stream_limits; bytes = bytes; text = text }) holds w) (stream verdicts k) i o ending) eg x in
     stream_run words verdicts f i o e old new ask ending status line same y once (subst (λ (k : Formula). IsEndLine k ending line) eh told) said
     (watch_left words f y.bytes y.text ending w old new ask y.left kept)
+
+-- `early` leaves what decided on an answer, and nothing else
+pub early_left : (words : List (List ℕ)) (f : Formula) (bytes : List ℕ) (ending : Result Bool Stop) (x : Deciding) (old new : Kept) → AreFor words word.early f
+    → OnOk ending (IsEarlyOf f bytes x) → MatchResult ending (λ _. new ≡ Early x) (λ _. new ≡ old) → IsLeft words bytes (status_of ending) old new
+early_left words f bytes (Ok true) x old new ask k same =
+    asked (stream early f) ask (inl (refl, inl refl, subst (λ (y : Kept). Holds (stream early f) bytes y) (sym same) k))
+early_left words f bytes (Ok false) x old new ask k same =
+    asked (stream early f) ask (inl (refl, inr refl, subst (λ (y : Kept). Holds (stream early f) bytes y) (sym same) k))
+early_left words f bytes (Err stop) x old new ask k same =
+    asked (stream early f) ask (inr (inr (not_answer stop), same))
+
+-- the reader that has come to its end has what decided
+pub early_over : (f : Formula) (bytes text : List ℕ) (live : Live Follower) → IsDone (λ s c made. IsDeciding true s c) early live bytes text → live.formula ≡ f
+    → (x : Follower) × (live.follower ≡ Some x) × IsEarlyOf f bytes x.early
+early_over f bytes text live (holds, over) e = (
+  over.follower,
+  over.is,
+  record {
+    tr = over.case.trace;
+    trace = subst (λ (g : Formula). IsWhole whole_limits g bytes over.case.trace) e over.trace;
+    nodes = over.complete.ended.nodes ∙ ap (λ (g : Formula). g.nodes) over.fits.formula ∙ ap (λ (g : Formula). nodes_for g over.case.trace) e;
+    header = over.complete.ended.header;
+    stands = over.complete.ended.stands;
+  },
+)
+
+-- the run of `early`
+pub early_run : (words : List (List ℕ)) (f g h : Formula) (x : Deciding) (i : Drained) (o e : Filled) (old new : Kept) → AreFor words word.early f → g ≡ f → h ≡ f
+    → (ending : Result Bool Stop) (status : ℕ) (line : List ℕ) → status ≡ status_of ending → (Done : List ℕ → List ℕ → Type 0)
+    → IsStreamEnd Done (stream early g) i o ending → ((bytes text : List ℕ) → OnOk ending (Done bytes text) → OnOk ending (IsEarlyOf f bytes x))
+    → IsAskedOnce i → IsEndLine h ending line → IsSaid e.before e.after e.faults e.faults_after line → MatchResult ending (λ _. new ≡ Early x) (λ _. new ≡ old)
+    → HasRun words i o e old new status
+early_run words f g h x i o e old new ask eg eh ending status line same Done y as_done once told said kept =
+    let z = subst (λ (k : Formula). IsStreamEnd Done (stream early k) i o ending) eg y in
+    stream_run words early f i o e old new ask ending status line same z once (subst (λ (k : Formula). IsEndLine k ending line) eh told) said
+    (early_left words f z.bytes ending x old new ask (as_done z.bytes z.text z.left) kept)
+
+-- the answer is kept
+pub early_answer : (r : Result Bool Stop) (x : Deciding) (old : Kept) → is_err r ≡ false → MatchResult r (λ _. Early x ≡ Early x) (λ _. Early x ≡ old)
+early_answer (Ok holds) x old e = refl
+early_answer (Err stop) x old e = absurd (false≢true (sym e))
+
+-- on an answer what decided is of the formula
+pub early_of_done : (f : Formula) (live : Live Follower) (ending : Result Bool Stop) (x : Deciding) → live.formula ≡ f → ((y : Follower) → live.follower ≡ Some y → x ≡ y.early)
+    → (bytes text : List ℕ) → OnOk ending (IsDone (λ s c made. IsDeciding true s c) early live bytes text) → OnOk ending (IsEarlyOf f bytes x)
+early_of_done f live (Ok holds) x e is bytes text k =
+    let w = early_over f bytes text live k e in subst (λ (y : Deciding). IsEarlyOf f bytes y) (sym (is w.0 w.1)) w.2
+early_of_done f live (Err stop) x e is bytes text k = tt
+
+-- the run of `early` on a fault
+pub early_stopped : (words : List (List ℕ)) (f g h : Formula) (i : Drained) (o e : Filled) (old : Kept) → AreFor words word.early f → g ≡ f → h ≡ f
+    → (ending : Result Bool Stop) (status : ℕ) (line : List ℕ) → status ≡ status_of ending → (Done : List ℕ → List ℕ → Type 0)
+    → IsStreamEnd Done (stream early g) i o ending → is_err ending ≡ true
+    → IsAskedOnce i → IsEndLine h ending line → IsSaid e.before e.after e.faults e.faults_after line
+    → HasRun words i o e old old status
+early_stopped words f g h i o e old ask eg eh ending status line same Done y err once told said =
+    let z = subst (λ (k : Formula). IsStreamEnd Done (stream early k) i o ending) eg y in
+    stream_run words early f i o e old old ask ending status line same z once (subst (λ (k : Formula). IsEndLine k ending line) eh told) said
+    (stopped_left words (stream early f) z.bytes ending old ask err)
+
+-- streams of decisions that are one are of one formula
+pub same_formula : (f g : Formula) → stream early f ≡ stream early g → f ≡ g
+same_formula f g e = cc
+
+-- a reader that has come to its end has what follows its rows
+pub has_follower : (live : Live Follower) (ending : Result Bool Stop) → is_err ending ≡ false → (bytes text : List ℕ)
+    → OnOk ending (IsDone (λ s c made. IsDeciding true s c) early live bytes text) → IsSome live.follower
+has_follower live (Ok holds) e bytes text (h, over) = subst (λ (o : Option Follower). IsSome o) (sym over.is) refl
+has_follower live (Err stop) e bytes text k = absurd (false≢true (sym e))

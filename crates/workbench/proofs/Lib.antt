@@ -20,6 +20,7 @@ mod ExplainTexts
 mod JsonTexts
 pub mod OwedLaws
 pub mod SureLines
+pub mod SureDecisions
 pub mod OneRequest
 pub mod EndsOnce
 pub mod AtRest
@@ -28,3 +29,4 @@ pub mod Summaries
 pub mod NumberWords
 pub mod Fitting
 pub mod Completing
+pub mod EarlyFollows

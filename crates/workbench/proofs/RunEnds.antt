@@ -20,7 +20,7 @@ use Rattle.workbench.specs.Reading.{IsReadWhole, IsReadPromptly, IsStop}
 use Rattle.workbench.specs.Writing.{IsPartWritten}
 use Rattle.workbench.specs.declared.request.Command.TheVariants.{Check, Robust, Explain, Json, Table}
 use Rattle.workbench.specs.declared.request.Mode.{Mode}
-use Rattle.workbench.specs.declared.request.Mode.TheVariants.{Whole, Watch}
+use Rattle.workbench.specs.declared.request.Mode.TheVariants.{Whole, Watch, Early}
 use Rattle.workbench.specs.Wholes.{judge_of, status_of_truth, IsAnswerOf, IsUnanswered, IsWrittenWith, all_of_it, a_part, IsWholeEnd, answered, unanswered, stopped, status_of, status_of_stop, IsEndLine, IsStopLine, EndsSoundly, IsBadEnd, refused, no_room}
 use Rattle.trace_stream.specs.declared.case.Case.{Case}
 use Rattle.workbench.specs.declared.fault.Stop.{Stop}
@@ -42,6 +42,7 @@ is_built (Whole Robust) = inr (inr (inl refl))
 is_built (Whole Explain) = inr (inr (inr (inl refl)))
 is_built (Whole Json) = inr (inr (inr (inr (inl refl))))
 is_built (Whole Table) = inr (inr (inr (inr (inr (inl refl)))))
+is_built Early = inr (inr (inr (inr (inr (inr (inl refl))))))
 
 -- a command's word and one more are of a form that is built
 pub asked_word : {words : List (List ℕ)} (m : Mode) (text : List ℕ) → words ≡ judge_word (judge_of m) ∷ text ∷ [] → IsAsked words (judge (judge_of m) text)
@@ -61,7 +62,8 @@ none_asked {words} h j text a = by_word a.built
     by_word (inr (inr (inr (inl e)))) = form_of (Whole Explain) e
     by_word (inr (inr (inr (inr (inl e))))) = form_of (Whole Json) e
     by_word (inr (inr (inr (inr (inr (inl e)))))) = form_of (Whole Table) e
-    by_word (inr (inr (inr (inr (inr (inr other)))))) = other
+    by_word (inr (inr (inr (inr (inr (inr (inl e))))))) = form_of Early e
+    by_word (inr (inr (inr (inr (inr (inr (inr other))))))) = other
 
 -- words that are of neither form are of none
 pub none_of_both : {words : List (List ℕ)} → AreOfNoFormula words → ((number rows : ℕ) → ¬ IsAsked words (generate number rows)) → AreNone words

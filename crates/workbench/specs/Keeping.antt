@@ -2,25 +2,39 @@
 use Rattle.std.specs.Prelude.{◌≡◌, ℕ, Bool, true, false, List}
 use Rattle.io_edge.specs.Calls.{Drained, Filled}
 use Rattle.stl_syntax.specs.Formula.{Formula}
-use Rattle.workbench.specs.InputFaults.{stream_limits}
-use Rattle.workbench.specs.Requests.{Request, stream, verdicts, Asks}
+use Rattle.stl_syntax.specs.Trace.{Trace}
+use Rattle.early_verdict.specs.Deciding.{Kept as Deciding, Stands}
+use Rattle.report.specs.Report.{nodes_for}
+use Rattle.trace_stream.specs.Reading.{IsWhole}
+use Rattle.workbench.specs.InputFaults.{stream_limits, whole_limits}
+use Rattle.workbench.specs.Requests.{Request, stream, verdicts, early, Asks}
 use Rattle.workbench.specs.Running.{IsKeptRightly, IsRun}
 use Rattle.workbench.specs.Watches.{Watched, StandsForAll}
 use Rattle.workbench.specs.declared.kept.Kept.{Kept}
-use Rattle.workbench.specs.declared.kept.Kept.TheVariants.{Watch}
+use Rattle.workbench.specs.declared.kept.Kept.TheVariants.{Watch, Early}
 
 -- the requests that leave something
 abbrev pub keeps : Request → Bool
 keeps (stream verdicts f) = true
+keeps (stream early f) = true
 keeps request = false
 
 -- the watch is of this formula, and stands for the bytes and their end
 abbrev pub IsWatchOf : Formula → List ℕ → Watched → Type 0
 IsWatchOf f bytes w = (text : List ℕ) × (holds : Bool) × StandsForAll (record { formula = f; limits = stream_limits; bytes = bytes; text = text }) holds w
 
+-- what decided is of this formula, in the ticks of the trace of these bytes, and stands for its rows and their end
+pub record IsEarlyOf (f : Formula) (bytes : List ℕ) (x : Deciding) : Type 0 where
+  pub tr : Trace
+  pub trace : IsWhole whole_limits f bytes tr
+  pub nodes : x.nodes ≡ nodes_for f tr
+  pub header : x.header ≡ tr.header
+  pub stands : Stands x tr.rows true
+
 -- it holds what stands for the bytes of a request, all of them
 abbrev pub Holds : Request → List ℕ → Kept → Type 0
 Holds (stream verdicts f) bytes (Watch w) = IsWatchOf f bytes w
+Holds (stream early f) bytes (Early x) = IsEarlyOf f bytes x
 Holds request bytes kept = ⊥
 
 -- what the words ask for left what it leaves, or else all is as it was; so it is where memory was wanting before that was known

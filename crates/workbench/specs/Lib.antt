@@ -24,6 +24,9 @@ pub mod Reasons
 pub mod Accounts
 pub mod Watches
 pub mod SureLines
+pub mod SureDecisions
 pub mod Numerals
 pub mod Made
 pub mod Complete
+pub mod EarlyLines
+pub mod Deciding

@@ -34,9 +34,15 @@ word_of_stream verdicts = word.watch
 word_of_stream early = word.early
 word_of_stream margins = word.rwatch
 
--- the commands that are built, in the order in which the usage line names them
+-- the commands that are built, in the order in which the usage line names them: those before `gen`, and those after it
+abbrev pub first_commands : List Judge
+first_commands = word.check ∷ word.watch ∷ word.robust ∷ word.explain ∷ word.json ∷ word.table ∷ []
+
+abbrev pub later_commands : List Judge
+later_commands = word.early ∷ []
+
 abbrev pub built_commands : List Judge
-built_commands = word.check ∷ word.watch ∷ word.robust ∷ word.explain ∷ word.json ∷ word.table ∷ []
+built_commands = first_commands ++ later_commands
 
 -- the command is in the list
 abbrev pub IsAmong : Judge → List Judge → Type 0
@@ -56,7 +62,7 @@ forms_text (j ∷ k ∷ commands) = judge_word j ++ codes " F | " ++ forms_text 
 
 -- the usage line, which names the forms that are built
 abbrev pub usage_line : List ℕ
-usage_line = codes "usage: " ++ forms_text built_commands ++ codes " | gen NUMBER ROWS" ++ newline
+usage_line = codes "usage: " ++ forms_text first_commands ++ codes " | gen NUMBER ROWS | " ++ forms_text later_commands ++ newline
 
 -- the words are of this form
 pub record IsAsked (words : List (List ℕ)) (form : Form) : Type 0 where

@@ -23,7 +23,7 @@ use Rattle.workbench.specs.declared.fault.Stop.TheVariants.{Fault as Faulty, Unr
 use Rattle.workbench.specs.declared.request.Command.{Command as Word}
 use Rattle.workbench.specs.declared.request.Command.TheVariants.{Check, Robust, Explain, Json, Table}
 use Rattle.workbench.specs.declared.request.Mode.{Mode}
-use Rattle.workbench.specs.declared.request.Mode.TheVariants.{Whole, Watch}
+use Rattle.workbench.specs.declared.request.Mode.TheVariants.{Whole, Watch, Early}
 use Rattle.workbench.specs.ErrTexts.{out_of_memory, read_fault, write_fault, wide_text, too_many_cells_text}
 
 -- the command of a word
@@ -38,6 +38,7 @@ command_of Table = table
 abbrev pub judge_of : Mode → Judge
 judge_of (Whole c) = word_of (command_of c)
 judge_of Watch = word.watch
+judge_of Early = word.early
 
 -- the answer of a command: what its status tells, and its whole text
 pub record IsAnswerOf (c : Command) (f : Formula) (tr : Trace) (holds : Bool) (text : List ℕ) : Type 0 where

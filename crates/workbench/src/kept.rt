@@ -1,5 +1,6 @@
 //! What a run leaves to its caller.
 use crate::watch::Watch;
+use early_verdict::Early;
 
 /// What a run that answers row by row leaves to its caller.
 #[derive(Drop)]
@@ -8,4 +9,6 @@ pub enum Kept {
     Nothing,
     /// The watch by which `watch` answered.
     Watch(Watch),
+    /// What decided, by which `early` answered.
+    Early(Early),
 }

@@ -13,7 +13,9 @@ ghost use Rattle.workbench.specs.Words.{AskCheck};
 ghost use Rattle.workbench.specs.Running.{IsEnd, IsRun};
 ghost use Rattle.workbench.specs.Complete.{IsUndisturbed, IsCompleteRun};
 
-pub use crate::line_laws::{each_line_is_the_truth, the_lines_cover_the_trace};
+pub use crate::line_laws::{
+    an_early_verdict_is_the_truth, each_line_is_the_truth, the_lines_cover_the_trace,
+};
 pub use crate::owing_laws::{
     one_request_is_asked_for, one_text_is_owed, the_end_is_asked_for_once, what_is_owed_only_grows,
     what_was_written_is_of_all_bytes,

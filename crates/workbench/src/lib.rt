@@ -2,6 +2,8 @@
 #![tactic(auto)]
 
 mod answer;
+mod decided;
+mod early;
 mod entry;
 mod explain;
 mod fault;

@@ -1,10 +1,12 @@
-//! Laws of the lines that a stream of verdicts writes. Each is the contract of a call that does nothing, so that the gate proves it.
+//! Laws of the lines that streams of verdicts and of decisions write. Each is the contract of a call that does nothing, so that the gate proves it.
 ghost use Rattle.std.specs.Prelude.{ℕ, List, [], true, false};
 ghost use Rattle.stl_syntax.specs.Formula.{Formula, Subformula};
-ghost use Rattle.stl_syntax.specs.Trace.{Header, Row};
+ghost use Rattle.stl_syntax.specs.EarlyText.{IsEarlyText};
+ghost use Rattle.stl_syntax.specs.Trace.{Header, Row, Trace, IsTrace};
 ghost use Rattle.stl_syntax.specs.Stream.{IsStreamText};
 ghost use Rattle.workbench.specs.Requests.{verdicts};
 ghost use Rattle.workbench.specs.Settled.{IsAnsweredByRow};
+ghost use Rattle.workbench.specs.SureDecisions.{EndsWithStart, IsSureDecision};
 ghost use Rattle.workbench.specs.SureLines.{AreSureByRow, AreSureToEnd, IsWatchText};
 
 /// Each line of a verdict is the truth, at each time of its span, in every trace that goes on from the rows up to the one at which the line was
@@ -18,4 +20,11 @@ pub fn each_line_is_the_truth()
 /// line tells the truth at the start.
 pub fn the_lines_cover_the_trace()
     ensures { (f : Formula) (bytes text : List ℕ) (status : ℕ) → IsAnsweredByRow verdicts f bytes status text → IsWatchText f bytes text }
+{}
+
+/// What an early verdict tells for the rows so far is the truth at the start of every trace that goes on from the row that it names, and none
+/// of the rows before that one decides. What it tells in the end ends with the truth at the start of the trace, whichever row decided.
+pub fn an_early_verdict_is_the_truth()
+    ensures by_row { (p : Subformula) (header : Header) (rows : List Row) (text : List ℕ) → IsEarlyText p header rows false text → IsSureDecision p header rows text }
+    ensures to_end { (p : Subformula) (tr : Trace) (text : List ℕ) → IsTrace tr → IsEarlyText p tr.header tr.rows true text → EndsWithStart p tr text }
 {}

@@ -20,6 +20,7 @@ pub(crate) enum Command {
 pub(crate) enum Mode {
     Whole(Command),
     Watch,
+    Early,
 }
 
 /// How to answer, and the text of the formula.
@@ -44,6 +45,7 @@ fn named(word: &str) -> Option<Mode>
     match word {
         "check" => Some(Mode::Whole(Command::Check)),
         "watch" => Some(Mode::Watch),
+        "early" => Some(Mode::Early),
         "robust" => Some(Mode::Whole(Command::Robust)),
         "explain" => Some(Mode::Whole(Command::Explain)),
         "json" => Some(Mode::Whole(Command::Json)),

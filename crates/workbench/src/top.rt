@@ -13,6 +13,8 @@ ghost use Rattle.workbench.specs.Keeping.{HasRun};
 ghost use Rattle.workbench.specs.Wholes.{command_of, IsAnswerOf, IsUnanswered, IsWrittenWith, IsWholeEnd, IsBadEnd, IsEndLine, IsStopLine, HasFaultFor, EndsSoundly, status_of, status_of_stop, status_of_fault};
 
 use crate::answer::{Answer, judge};
+use crate::decided::early_of;
+use crate::early::Deciding;
 use crate::explain::give_reasons;
 use crate::fault::Stop;
 use crate::json::give_report;
@@ -22,6 +24,7 @@ use crate::output::write_all;
 use crate::reading::read_trace;
 use crate::request::{Command, Mode, Workload, asked, workload_of};
 use crate::robust::measure;
+use crate::stream::stream;
 use crate::summary::summary;
 use crate::table::tabulate;
 use crate::texts::{NO_MEMORY, formula_line, too_many_cells_line, wide_line};
@@ -32,7 +35,7 @@ use std::alloc::Global;
 use stl_grammar::{FormulaFault, parse};
 use stl_syntax::Formula;
 use trace_reader::Limits;
-use trace_stream::{Case, fault_line};
+use trace_stream::{Case, Live, fault_line};
 
 /// The limits of a trace that is held whole.
 pub(crate) const LIMITS: Limits = Limits {
@@ -48,7 +51,7 @@ const STREAM_LIMITS: Limits = Limits {
 
 /// The line where the words are of no form.
 const USAGE: &[u8] =
-    b"usage: check F | watch F | robust F | explain F | json F | table F | gen NUMBER ROWS\n";
+    b"usage: check F | watch F | robust F | explain F | json F | table F | gen NUMBER ROWS | early F\n";
 
 /// The line where the output failed.
 const WRITE_FAULT: &[u8] = b"write fault\n";
@@ -252,10 +255,46 @@ fn generate<K: Sink, E: Sink>(alloc: Global, workload: Workload, out: &mut K, er
     }
 }
 
+/// Tells the verdict at the row that decides, reads on to the end, and leaves what decided.
+fn decide<S: Source, K: Sink, E: Sink>(
+    alloc: Global,
+    formula: Formula,
+    input: &mut S,
+    out: &mut K,
+    err: &mut E,
+    kept: &mut Kept,
+) -> u8
+    ensures ran { (words : List (List ℕ)) → AreFor words word.early formula → HasRun words (drained S.left S.ended S.ends S.faults input.old input.new)
+        (filled K.written K.faults out.old out.new) (filled E.written E.faults err.old err.new) kept.old kept.new result }
+    ensures known { ¬ ((result ≡ 2) ⊎ (result ≡ 3)) }
+    ensures read_due { result ≢ 5 → S.faults input.new ≡ S.faults input.old }
+    ensures write_due { result ≢ 6 → K.faults out.new ≡ K.faults out.old }
+    ensures quiet { result ≤ 1 → err.new ≡ err.old }
+    ensures unkept { 2 ≤ result → kept.new ≡ kept.old }
+    ensures input_later { S.faults input.old ≤ S.faults input.new }
+    ensures out_later { K.faults out.old ≤ K.faults out.new }
+    ensures err_later { E.faults err.old ≤ E.faults err.new }
+{
+    let mut live = match Live::new(alloc, formula, LIMITS) {
+        Ok(live) => live,
+        Err(_) => {
+            say(err, &Line::plain(NO_MEMORY));
+            return 7;
+        }
+    };
+    let ending = stream::<Live<Deciding>, S, K>(&mut live, input, out);
+    let status = finish(err, live.formula(), ending);
+    if ending.is_err() {
+        return status;
+    }
+    *kept = Kept::Early(early_of(live));
+    status
+}
+
 /// Does all that the program does for its words, and answers the status with which it ends.
 ///
 /// - 0 and 1: `out` got the whole text of the command. The input was read to its end, but for `gen`, which reads
-///   none. After `watch`, `kept` is its watch.
+///   none. After `watch`, `kept` is its watch, and after `early` what decided.
 /// - 2: the words are of no form.
 /// - 3: the formula is refused.
 /// - 4: the bytes that were read have a first fault: of the trace, a column of the formula that the header lacks, or numbers of
@@ -267,7 +306,7 @@ fn generate<K: Sink, E: Sink>(alloc: Global, workload: Workload, out: &mut K, er
 /// - 9: an explanation would have too many cells.
 ///
 /// From 2 on `err` gets one line; a fault of `err` changes no status. The words are judged first, then the formula, then the bytes
-/// in their order. `watch` writes what each row answers before more is read, also what comes before a fault. On each other status and
+/// in their order. `watch` and `early` write what each row answers before more is read, also what comes before a fault. On each other status and
 /// command `kept` stays as it was.
 pub fn run<S: Source, K: Sink, E: Sink>(
     alloc: Global,
@@ -310,6 +349,7 @@ pub fn run<S: Source, K: Sink, E: Sink>(
                 finish(err, &formula, ending)
             }
             Mode::Watch => by_row(alloc, formula, input, out, err, kept),
+            Mode::Early => decide(alloc, formula, input, out, err, kept),
         },
         Err(fault) => refuse(err, fault),
     }

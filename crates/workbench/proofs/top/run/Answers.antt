@@ -39,6 +39,24 @@ returns-in-Watch-clause-unread g c = λ h. elim h [
   | inr (inr (number, rows, asked)) ↦ absurd (c.in_default.ensures number rows asked)
 ]
 
+pub returns-in-Early-clause-unread : goal.returns-in-Early-clause-unread
+returns-in-Early-clause-unread g c = λ h. elim h [
+  | inl two ↦ absurd (c.decide.ensures.known (inl two))
+  | inr (inl three) ↦ absurd (c.decide.ensures.known (inr three))
+  | inr (inr (number, rows, asked)) ↦ absurd (c.in_default.ensures number rows asked)
+]
+
+pub returns-in-Early-clause-ran : goal.returns-in-Early-clause-ran
+returns-in-Early-clause-ran g c =
+    let words = map string_bytes c.args.words.now in
+    let text = c.in-Some-asked.asked.text.now in
+    c.decide.ensures.ran words (record {
+      text = text;
+      form = subst (λ (m : Mode). IsAsked words (judge (judge_of m) text)) c.in-Early.is c.in-Some-asked.ensures;
+      is = c.in-Ok.ensures.ok;
+      served = λ i h. h;
+    })
+
 pub returns-in-Whole-clause-ran : goal.returns-in-Whole-clause-ran
 returns-in-Whole-clause-ran g c =
     let words = map string_bytes c.args.words.now in

@@ -1,0 +1,164 @@
+#!/usr/bin/env python3
+"""Looks for the formula and the trace for which a command takes longest; README.md beside it says what was found.
+
+Families of formulas that are hard for some part of the program run over families of traces that are: deep chains and trees of `until`
+and `since`, windows in one another whose bounds have no common divisor, windows that all end together, many atoms, atoms of four
+columns; ramps that cross everywhere, steps that change at each row or only fall, rows far apart and at odd distances. Each is run with
+a limit of time. The slowest of each command are printed, with how the time grew from half as many rows: 1 is linear.
+"""
+import argparse
+import math
+import os
+import random
+import resource
+import subprocess
+import sys
+import tempfile
+
+HERE = os.path.dirname(os.path.realpath(__file__))
+PROGRAM = os.path.join(HERE, "..", "crates", "stl_bench", "out", "stl_bench")
+COLUMNS = "abcd"
+PRIMES = [2, 3, 5, 7, 11, 13, 17, 19, 23, 29, 31, 37, 41, 43, 47, 53, 59, 61, 67, 71]
+
+
+def atom(k):
+    """An atom of one column, whose constant is another for each k."""
+    return f"{COLUMNS[k % 4]} {'>=' if k % 3 else '<'} {(k * 37) % 101 - 50}"
+
+
+def wide(k):
+    """An atom of all four columns, which crosses at other times for each k."""
+    return f"{k % 15 + 1}*a - {(k * 7) % 15 + 1}*b + {(k * 3) % 13 + 1}*c - d >= {(k * 37) % 101 - 50}"
+
+
+def chain_left(word, bounds, depth, leaf):
+    text = leaf(0)
+    for k in range(1, depth):
+        text = f"({text}) {word}{bounds(k)} {leaf(k)}"
+    return text
+
+
+def chain_right(word, bounds, depth, leaf):
+    text = leaf(depth)
+    for k in range(depth - 1, 0, -1):
+        text = f"{leaf(k)} {word}{bounds(k)} ({text})"
+    return text
+
+
+def tree(word, bounds, depth, leaf, place=1):
+    if depth == 0:
+        return leaf(place)
+    return f"({tree(word, bounds, depth - 1, leaf, 2 * place)}) {word}{bounds(depth)} ({tree(word, bounds, depth - 1, leaf, 2 * place + 1)})"
+
+
+def nested(words, bounds, depth, leaf):
+    text = leaf(1)
+    for k in range(depth):
+        text = f"{words[k % len(words)]}{bounds(k)} ({text})"
+    return text
+
+
+def formulas(rows):
+    """The families, by name. A row is about 10 ticks after the one before it."""
+    long, short = f"[0,{10 * rows}]", "[0,25]"
+    prime = lambda k: f"[{PRIMES[k % 20]},{PRIMES[k % 20] + 10 * PRIMES[(k * 7) % 20]}]"
+    some = {
+        "until left": chain_left("until", prime, 30, atom), "until right": chain_right("until", prime, 30, atom),
+        "until left, long": chain_left("until", lambda k: long, 30, atom), "until right, long": chain_right("until", lambda k: long, 30, atom),
+        "until tree": tree("until", prime, 6, atom), "until tree, long": tree("until", lambda k: long, 6, atom),
+        "since left": chain_left("since", prime, 30, atom), "since right": chain_right("since", prime, 30, atom),
+        "since left, no end": chain_left("since", lambda k: "[0,inf]", 30, atom), "since tree": tree("since", prime, 6, atom),
+        "until in since": chain_left("until", prime, 2, lambda k: chain_left("since", prime, 14, atom)),
+        "windows": nested(["always", "eventually"], prime, 30, atom), "windows, long": nested(["always", "eventually"], lambda k: long, 30, atom),
+        "windows, open": nested(["always", "eventually"], lambda k: f"]{PRIMES[k % 20]},{PRIMES[k % 20] * 9}[", 30, atom),
+        "windows behind": nested(["once", "historically"], prime, 30, atom), "both ways": nested(["always", "once", "eventually", "historically"], prime, 30, atom),
+        "points": nested(["always", "once"], lambda k: f"[{PRIMES[k % 20]},{PRIMES[k % 20]}]", 30, atom),
+        "one long window": f"always{long} a >= 0", "many atoms": tree("or", lambda k: "", 7, atom), "many sums": tree("and", lambda k: "", 5, wide),
+        "windows of sums": tree("and", lambda k: "", 3, lambda k: f"always{prime(k)} ({wide(k)})"),
+        "until of sums": tree("until", prime, 4, wide), "one sum": wide(3),
+        "implications": chain_right("implies", lambda k: "", 30, lambda k: f"eventually{prime(k)} ({atom(k)})"),
+        "kept cells": f"eventually{long} (a >= 0 and b >= 0)", "kept in a window": f"always[0,{5 * rows}] eventually[0,{5 * rows}] (a >= 0 and b >= 0)",
+        "kept here and there": f"eventually{long} always[0,20] (a >= 0 and b >= 0)", "kept of many": f"eventually{long} ({tree('and', lambda k: '', 4, atom)})",
+        "kept of windows": f"eventually{long} (always{short} a >= 0 and always{short} b >= 0)",
+    }
+    return {name: text for name, text in some.items() if len(text) <= 8192}
+
+
+def traces(rows, dice):
+    """The families, by name: the time of each row, its values, and whether they are steps."""
+    tens = lambda row: 10 * row
+    far = lambda row: row * (2 ** 32 // (rows + 1)) + row % 7
+    sign = lambda row: 1 if row % 2 else -1
+    yield "cross", tens, False, lambda row: [sign(row + k) * dice.randint(1, 999) for k in range(4)]
+    yield "cross, far", far, False, lambda row: [sign(row + k) * dice.randint(1, 16777216) for k in range(4)]
+    yield "turn", tens, True, lambda row: [sign(row), -sign(row), sign(row // 2), sign(row // 3)]
+    yield "steps", tens, True, lambda row: [dice.randint(-60, 60) for k in range(4)]
+    yield "fall", tens, True, lambda row: [rows - row + k for k in range(4)]
+    yield "slide", tens, False, lambda row: [rows - row + k * (row % 3) for k in range(4)]
+
+
+def write(path, trace, rows):
+    name, time, step, values = trace
+    with open(path, "w") as out:
+        out.write("time," + ",".join(c + (":step" if step else "") for c in COLUMNS) + "\n")
+        for row in range(rows):
+            out.write(f"{time(row)}," + ",".join(map(str, values(row))) + "\n")
+
+
+def run(program, command, formula, path, limit):
+    """Status (None where the limit was passed), CPU seconds and MB of one run."""
+    def bound():
+        resource.setrlimit(resource.RLIMIT_CPU, (limit, limit))
+    with open(path) as trace:
+        child = subprocess.Popen([program, command, formula], stdin=trace, stdout=subprocess.DEVNULL, stderr=subprocess.DEVNULL, preexec_fn=bound)
+        _, status, used = os.wait4(child.pid, 0)
+        child.returncode = code = os.waitstatus_to_exitcode(status)
+    return (None if code < 0 else code), used.ru_utime + used.ru_stime, used.ru_maxrss / 1024
+
+
+def commands(program):
+    """The commands of the usage line that take one formula and read one recording."""
+    line = subprocess.run([program], capture_output=True, text=True).stderr
+    return [word.split()[0] for word in line.removeprefix("usage: ").strip().split(" | ") if word.endswith(" F")]
+
+
+def measure(options, folder):
+    """One line for each case that took longer than the program's start: time, command, names, status, growth and memory."""
+    halves, found = [options.rows // 2, options.rows], []
+    texts = [formulas(rows) for rows in halves]
+    for index, (name, *_) in enumerate(traces(1, random.Random(7))):
+        paths = [os.path.join(folder, f"{index}.{rows}") for rows in halves]
+        for path, rows in zip(paths, halves):
+            write(path, list(traces(rows, random.Random(7)))[index], rows)
+        for family in texts[1]:
+            for command in options.commands:
+                status, took, memory = run(options.program, command, texts[1][family], paths[1], options.limit)
+                _, before, _ = run(options.program, command, texts[0][family], paths[0], options.limit) if took > options.show else (0, 0, 0)
+                growth = math.log2(took / before) if before and status is not None else float("nan")
+                found.append((took, command, family, name, status, growth, memory))
+                if status is None or took > options.report:
+                    print(f"  {command} {family} over {name}: {took:.2f} s", file=sys.stderr)
+    return found
+
+
+def main():
+    parser = argparse.ArgumentParser(description=__doc__.split("\n\n")[0])
+    parser.add_argument("--program", default=PROGRAM)
+    parser.add_argument("--rows", type=int, default=20000)
+    parser.add_argument("--limit", type=int, default=60, help="seconds of the processor for one run")
+    parser.add_argument("--show", type=float, default=0.1, help="from how many seconds on the growth is measured")
+    parser.add_argument("--report", type=float, default=5, help="from how many seconds on a case is told at once")
+    parser.add_argument("--top", type=int, default=5, help="how many cases of each command are printed")
+    parser.add_argument("--commands", type=lambda text: text.split(","))
+    options = parser.parse_args()
+    options.commands = options.commands or commands(options.program)
+    with tempfile.TemporaryDirectory() as folder:
+        found = sorted(measure(options, folder), reverse=True)
+    print(f"{'command':8} {'formula':20} {'trace':11} {'status':>6} {'seconds':>8} {'us/row':>7} {'growth':>6} {'MB':>6}")
+    for command in options.commands:
+        for took, _, family, name, status, growth, memory in [case for case in found if case[1] == command][:options.top]:
+            ended = "limit" if status is None else status
+            print(f"{command:8} {family:20} {name:11} {ended:>6} {took:8.2f} {took / options.rows * 1e6:7.1f} {growth:6.2f} {memory:6.0f}")
+
+
+main()

@@ -1,0 +1,52 @@
+-- Lines that are shed in two turns.
+use Rattle.std.proofs.Common.{◌≡◌, ◌≢◌, ◌⊎◌, inl, inr, ℕ, zero, suc, ◌+◌, ◌-◌, ◌<◌, ◌≤◌, List, [], ◌∷◌, Option, Some, None, refl, sym, ap, subst, ◌∙◌, drop, length, slice_get, arith}
+use Rattle.std.proofs.lemmas.Bool.{cases_lt}
+use Rattle.std.specs.Prelude.{IfSome}
+use Rattle.rational.specs.Time.{Rational, ◌≤ʳ◌}
+use Rattle.rational.proofs.Order.{le_trans}
+use Rattle.frac128.specs.Value.{value}
+use Rattle.online_robust.specs.Held.{Held, edge_at, held_at}
+use Rattle.online_robust.specs.Lines.{end_of}
+use Rattle.online_robust.specs.Windows.{Sheds}
+use Rattle.online_robust.specs.declared.line.MarginLine.{MarginLine}
+use Rattle.online_robust.proofs.DroppingLemmas.{drop-drop}
+use Rattle.online_robust.proofs.Losses.{ended_later}
+
+slice_get-drop_at : (n k : ℕ) (xs : List MarginLine) → slice_get (drop n xs) k ≡ slice_get xs (n + k)
+slice_get-drop_at zero k xs = let e : k ≡ 0 + k = omega arith in ap (slice_get xs) e
+slice_get-drop_at (suc n) k [] = refl
+slice_get-drop_at (suc n) k (x ∷ xs) = let e : suc (n + k) ≡ suc n + k = omega arith in slice_get-drop_at n k xs ∙ ap (slice_get (x ∷ xs)) e
+
+pub sheds_later : (l m : Rational) (i : ℕ) (x y : Held) → l ≤ʳ m → Sheds l i x y → Sheds m i x y
+sheds_later l m i x y le h = record {
+  count = h.count;
+  is = h.is;
+  ended = λ k below. ended_later (slice_get (held_at x i) k) le (h.ended k below);
+  number = h.number;
+  others = h.others;
+  edges = h.edges;
+  start = h.start;
+}
+
+pub sheds_both : (limit : Rational) (i : ℕ) (x y z : Held) → Sheds limit i x y → Sheds limit i y z → Sheds limit i x z
+sheds_both limit i x y z h k = record {
+  count = h.count + k.count;
+  is = k.is ∙ ap (λ (l : List MarginLine). drop k.count l) h.is ∙ drop-drop k.count h.count (held_at x i);
+  ended = ended;
+  number = k.number ∙ h.number;
+  others = λ j apart. k.others j apart ∙ h.others j apart;
+  edges = k.edges ∙ h.edges;
+  start = k.start ∙ h.start;
+}
+  where
+    by_place : (n : ℕ) → (n < h.count) ⊎ (h.count ≤ n) → n < h.count + k.count → IfSome (slice_get (held_at x i) n) (λ v. value (end_of v) ≤ʳ limit)
+    by_place n (inl below) all = h.ended n below
+    by_place n (inr above) all =
+        let place : h.count + (n - h.count) ≡ n = omega (arith, above) in
+        let within : n - h.count < k.count = omega (arith, above, all) in
+        subst (λ o. IfSome o (λ v. value (end_of v) ≤ʳ limit))
+        (ap (λ (l : List MarginLine). slice_get l (n - h.count)) h.is ∙ slice_get-drop_at h.count (n - h.count) (held_at x i) ∙ ap (slice_get (held_at x i)) place)
+        (k.ended (n - h.count) within)
+
+    ended : (n : ℕ) → n < h.count + k.count → IfSome (slice_get (held_at x i) n) (λ v. value (end_of v) ≤ʳ limit)
+    ended n all = by_place n (cases_lt n h.count) all

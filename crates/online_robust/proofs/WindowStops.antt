@@ -1,0 +1,62 @@
+-- Where a window stops next, and the shapes under its ends.
+use Rattle.std.proofs.Common.{◌≡◌, ◌⊎◌, inl, inr, ℕ, ℤ, pos, ◌+◌, ◌≤◌, ◌^◌, Option, Some, None, refl, sym, ap, subst, ◌∙◌, arith}
+use Rattle.std.specs.Prelude.{neg_ℤ, ◌≤ℤ◌, ◌<ℤ◌, ◌-ℤ◌, IfSome, IsSomeAnd}
+use Rattle.std.specs.Int.RustNames.{unsigned_abs}
+use Rattle.std.proofs.lemmas.Int.{ints}
+use Rattle.rational.specs.Time.{Rational, shifted, ◌≈◌, ◌≤ʳ◌}
+use Rattle.rational.proofs.Order.{ge_of_same, le_of_same, le_trans, same_refl, same_sym, same_trans}
+use Rattle.rational.proofs.TimeLemmas.{same_shifted}
+use Rattle.frac128.specs.Value.{value}
+use Rattle.frac128.specs.declared.frac.Frac.{Frac}
+use Rattle.value_laws.specs.Margins.{margin_base}
+use Rattle.value_laws.specs.declared.margin.Margin.{Margin}
+use Rattle.window_ops.proofs.Ends.{le_shifted}
+use Rattle.online_robust.specs.Told.{IsMovedBy}
+use Rattle.online_robust.specs.Sweeping.{EndsAt, IsUpTo}
+use Rattle.online_robust.specs.Windows.{IsFitWindow, IsNextStop, LeavesAt}
+use Rattle.online_robust.specs.declared.window.Sweep.{Sweep}
+use Rattle.online_robust.specs.declared.window.Window.{Window}
+
+-- a shape may be moved by an offset of a window
+pub base_room : (reach : ℕ) (p : Margin) (k : ℤ) → IsMovedBy reach p → reach ≤ 4294967295 → neg_ℤ (pos (2 ^ 32)) ≤ℤ k → k ≤ℤ pos (2 ^ 32)
+    → unsigned_abs (margin_base p -ℤ k) ≤ 2 ^ 34
+base_room reach p k moved small from to = room (margin_base p) k (omega (arith, ints, moved.0, small)) (omega (arith, ints, moved.1, small)) from to
+  where
+    room : (b k : ℤ) → neg_ℤ (pos (2 ^ 33)) ≤ℤ b → b ≤ℤ pos (2 ^ 33) → neg_ℤ (pos (2 ^ 32)) ≤ℤ k → k ≤ℤ pos (2 ^ 32) → unsigned_abs (b -ℤ k) ≤ 2 ^ 34
+    room b k x y z w = omega (arith, ints, x, y, z, w)
+
+-- a time that is no later than when an end leaves its gap
+pub up_to : (until : Option Frac) (by : ℤ) (r : Option Frac) (t : Rational) → LeavesAt until by r → IfSome r (λ u. t ≤ʳ value u) → IsUpTo (shifted t by) until
+up_to None by r t leaves h = tt
+up_to (Some u) by r t (f, is, there) h =
+    le_trans (le_shifted by (subst (λ o. IfSome o (λ u. t ≤ʳ value u)) is h)) (le_of_same there)
+
+-- or is that time
+pub ends : (until : Option Frac) (by : ℤ) (r : Option Frac) (t : Rational) → LeavesAt until by r → IsSomeAnd r (λ u. t ≡ value u) → EndsAt until (shifted t by)
+ends None by r t leaves h = absurd (subst (λ o. IsSomeAnd o (λ u. t ≡ value u)) leaves h)
+ends (Some u) by r t (f, is, there) h =
+    let same : t ≡ value f = subst (λ o. IsSomeAnd o (λ u. t ≡ value u)) is h in
+    subst (λ (z : Rational). value u ≈ shifted z by) (sym same) (same_sym there)
+
+later : (r : Option Frac) {t u : Rational} → t ≤ʳ u → IfSome r (λ f. u ≤ʳ value f) → IfSome r (λ f. t ≤ʳ value f)
+later None le h = h
+later (Some f) le h = le_trans le h
+
+-- the next stop is the earliest of the three times
+pub next_is : (s : Sweep) (to first t : Rational) (high low : Option Frac) → LeavesAt s.place.high.until s.window.high high
+    → LeavesAt s.place.low.until s.window.low low → first ≤ʳ to → IfSome high (λ u. first ≤ʳ value u)
+    → (first ≡ to) ⊎ IsSomeAnd high (λ u. first ≡ value u) → t ≤ʳ first → IfSome low (λ u. t ≤ʳ value u)
+    → (t ≡ first) ⊎ IsSomeAnd low (λ u. t ≡ value u) → IsNextStop s to t
+next_is s to first t high low at_high at_low by_to by_high one by_first by_low two = record {
+  by = le_trans by_first by_to;
+  high = up_to s.place.high.until s.window.high high t at_high (later high by_first by_high);
+  low = up_to s.place.low.until s.window.low low t at_low by_low;
+  one = which two one;
+}
+  where
+    which : (t ≡ first) ⊎ IsSomeAnd low (λ u. t ≡ value u) → (first ≡ to) ⊎ IsSomeAnd high (λ u. first ≡ value u)
+        → (t ≡ to) ⊎ EndsAt s.place.high.until (shifted t s.window.high) ⊎ EndsAt s.place.low.until (shifted t s.window.low)
+    which (inr h) o = inr (inr (ends s.place.low.until s.window.low low t at_low h))
+    which (inl e) (inl f) = inl (e ∙ f)
+    which (inl e) (inr h) = inr (inl (subst (λ (z : Rational). EndsAt s.place.high.until (shifted z s.window.high)) (sym e)
+        (ends s.place.high.until s.window.high high first at_high h)))

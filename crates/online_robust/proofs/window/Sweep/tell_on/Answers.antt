@@ -1,0 +1,92 @@
+use Rattle.std.proofs.Common.{◌≡◌, ◌^◌, inl, inr, sym, subst}
+use Rattle.std.proofs.lemmas.Result.{err_from_is_err_and}
+use Rattle.rational.specs.Rational.{Rational, IsWithin}
+use Rattle.rational.specs.Time.{◌≤ʳ◌, ◌<ʳ◌}
+use Rattle.rational.proofs.Mixed.{within_same}
+use Rattle.rational.proofs.Order.{same_sym}
+use Rattle.frac128.specs.Value.{value}
+use Rattle.value_laws.specs.Kinds.{margin_shape}
+use Rattle.pl_signal.specs.Knots.{stop as last_of}
+use Rattle.envelope.specs.Best.{IsWritten}
+use Rattle.online_robust.specs.declared.window.Window.{Window}
+use Rattle.online_robust.proofs.WindowTelling.{gone_later, gone_there, gone_within, kept_fault, levels, written_at}
+use Rattle.online_robust.proofs.window.Sweep.tell_on.Goals as goal
+
+pub go_on-requires : goal.go_on-requires
+go_on-requires c = c.requires.at
+
+pub write-requires-clause-order : goal.write-requires-clause-order
+write-requires-clause-order c =
+    let (x, at, going) = c.requires.at in
+    gone_later x c.args.self.now.window (value c.args.to.now) (value c.go_on.new.self.place.at) c.in_ok-gone.gone.best c.in_ok-gone.gone.to
+    (c.in_ok-gone.ensures.told x at going) c.args.self.now going c.args.built.now c.requires.ends
+
+pub write-requires-clause-from_within : goal.write-requires-clause-from_within
+write-requires-clause-from_within c =
+    let (x, at, going) = c.requires.at in
+    within_same (2 ^ 34) (same_sym c.requires.ends) (subst (IsWithin (2 ^ 34)) going.here going.within)
+
+pub write-requires-clause-to_within : goal.write-requires-clause-to_within
+write-requires-clause-to_within c =
+    let (x, at, going) = c.requires.at in
+    gone_within x c.args.self.now.window (value c.args.to.now) (value c.go_on.new.self.place.at) c.in_ok-gone.gone.best c.in_ok-gone.gone.to
+    (c.in_ok-gone.ensures.told x at going) c.args.self.now going
+
+pub write-requires-clause-levels : goal.write-requires-clause-levels
+write-requires-clause-levels c =
+    let (x, at, going) = c.requires.at in
+    levels x c.args.self.now.window (value c.args.to.now) (value c.go_on.new.self.place.at) c.in_ok-gone.gone.best c.in_ok-gone.gone.to
+    (c.in_ok-gone.ensures.told x at going)
+
+pub returns-in-Ok-clause-stands : goal.returns-in-Ok-clause-stands
+returns-in-Ok-clause-stands c x at going = c.in_ok-gone.ensures.stands x at going
+
+pub returns-in-Ok-clause-told : goal.returns-in-Ok-clause-told
+returns-in-Ok-clause-told c x at going begun own is from b =
+    let gone = c.in_ok-gone.ensures.told x at going in
+    written_at x c.args.self.now.window (value c.args.to.now) (value c.go_on.new.self.place.at) c.in_ok-gone.gone.best c.in_ok-gone.gone.to gone own is begun from
+    c.args.built.now c.write.new.built b
+    (subst (λ (w : Window). IsWritten margin_shape w.side c.args.built.now c.in_ok-gone.gone.best c.in_ok-gone.gone.to.at c.in_ok-gone.gone.to.value
+    c.write.new.built) c.in_ok-gone.ensures.kept.window c.in-Ok.ensures.ok)
+
+pub returns-in-Ok-clause-reached : goal.returns-in-Ok-clause-reached
+returns-in-Ok-clause-reached c x at going begun own is =
+    let gone = c.in_ok-gone.ensures.told x at going in (
+      gone.here,
+      gone_there x c.args.self.now.window (value c.args.to.now) (value c.go_on.new.self.place.at) c.in_ok-gone.gone.best c.in_ok-gone.gone.to gone own
+          is begun,
+    )
+
+pub returns-in-Ok-clause-later : goal.returns-in-Ok-clause-later
+returns-in-Ok-clause-later c =
+    let (x, at, going) = c.requires.at in
+    let gone = c.in_ok-gone.ensures.told x at going in
+    let to : value c.in_ok-gone.gone.to.at ≡ value c.go_on.new.self.place.at = gone.here in (
+      subst (λ (z : Rational). value c.args.self.now.place.at <ʳ z) (sym to) (subst (λ (z : Rational). z <ʳ value c.go_on.new.self.place.at) going.here gone.after),
+      subst (λ (z : Rational). z ≤ʳ value c.args.to.now) (sym to) gone.by,
+    )
+
+pub returns-in-Ok-clause-kept : goal.returns-in-Ok-clause-kept
+returns-in-Ok-clause-kept c = c.in_ok-gone.ensures.kept
+
+pub returns-in-Ok-clause-shed : goal.returns-in-Ok-clause-shed
+returns-in-Ok-clause-shed c x at going = c.in_ok-gone.ensures.shed x at going
+
+pub returns-in-Err-clause-fault : goal.returns-in-Err-clause-fault
+returns-in-Err-clause-fault c x at going = inr (
+  c.in_ok-gone.gone.best,
+  c.in_ok-gone.gone.to,
+  value c.go_on.new.self.place.at,
+  c.in_ok-gone.ensures.told x at going,
+  kept_fault c.in_ok-gone.gone.best (last_of c.args.built.now) (value c.in_ok-gone.gone.to.at) c.refused.result c.write.new.fault c.refused.ensures
+      c.in-Err.ensures.fault,
+)
+
+pub returns-in_err-gone-clause-fault : goal.returns-in_err-gone-clause-fault
+returns-in_err-gone-clause-fault c x at going =
+    let p = err_from_is_err_and c.from_residual.result c.from_residual.ensures.1 in
+    let h = c.in_err-gone.ensures.wide x at going in
+    rw (p.1, p.2) (inl h)
+
+pub returns-in-Ok-clause-fewer : goal.returns-in-Ok-clause-fewer
+returns-in-Ok-clause-fewer c = c.in_ok-gone.ensures.fewer

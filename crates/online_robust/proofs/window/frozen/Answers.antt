@@ -1,0 +1,27 @@
+use Rattle.std.proofs.Common.{refl}
+use Rattle.frac128.specs.Value.{value}
+use Rattle.online_robust.proofs.FrozenLemmas.{of_three, three_bounded, three_frozen}
+use Rattle.online_robust.proofs.window.frozen.Goals as goal
+
+pub fix-requires-clause-small : goal.fix-requires-clause-small
+fix-requires-clause-small c = three_bounded c.args.side c.args.before.now c.args.point.now c.args.after.now c.chosen-first.result c.chosen-best.result
+    (value c.args.u.now) c.chosen-first.ensures.one c.chosen-first.ensures.value c.chosen-best.ensures.one c.chosen-best.ensures.value
+    c.requires.before c.requires.point c.requires.after
+
+pub returns-in-Ok : goal.returns-in-Ok
+returns-in-Ok c = three_frozen c.args.side c.args.before.now c.args.point.now c.args.after.now c.chosen-first.result c.chosen-best.result
+    (value c.args.u.now) c.chosen-first.ensures.one c.chosen-first.ensures.value c.chosen-best.ensures.one c.chosen-best.ensures.value
+    c.in-Ok.constant c.in-Ok.ensures.value.0 c.in-Ok.ensures.value.1
+
+pub returns-in-Err : goal.returns-in-Err
+returns-in-Err c =
+    let (v, is, has, wide) = c.in-Err.ensures.value in
+    record {
+      one = of_three c.args.side c.args.before.now c.args.point.now c.args.after.now c.chosen-first.result c.chosen-best.result (value c.args.u.now)
+          c.chosen-first.ensures.one c.chosen-first.ensures.value c.chosen-best.ensures.one c.chosen-best.ensures.value;
+      when = refl;
+      number = v;
+      is = is;
+      denominator = has;
+      wide = wide;
+    }

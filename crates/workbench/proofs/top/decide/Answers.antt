@@ -1,0 +1,42 @@
+use Rattle.std.proofs.Common.{[], true, false, refl, sym, ◌∙◌}
+use Rattle.report.specs.Lines.{line_text}
+use Rattle.trace_stream.specs.Streams.{early}
+use Rattle.trace_stream.specs.Following.{IsDone}
+use Rattle.workbench.specs.Deciding.{IsDeciding}
+use Rattle.workbench.proofs.AtRest.{at_rest}
+use Rattle.workbench.proofs.Leaving.{early_answer, early_of_done, early_run, early_stopped, has_follower, same_formula, starved_left}
+use Rattle.workbench.proofs.top.decide.Goals as goal
+
+pub returns-in-Err-clause-ran : goal.returns-in-Err-clause-ran
+returns-in-Err-clause-ran g c = λ words ask. starved_left _ _ _ _ _ (line_text c.plain.result) ask c.plain.ensures refl refl c.say.ensures.said refl
+
+pub stream-ending-requires : goal.stream-ending-requires
+stream-ending-requires g c =
+    at_rest (λ s k made. IsDeciding false s k) early c.in-Ok.live [] []
+    (record { live_for = c.in-Ok.ensures.live; limits = c.in-Ok.ensures.limits; empty = c.in-Ok.ensures.empty })
+
+pub returns-then-is_err-clause-ran : goal.returns-then-is_err-clause-ran
+returns-then-is_err-clause-ran g c = λ words ask.
+    let told = c.finish-status.ensures.said in
+    let e = c.in-Ok.ensures.formula in
+    early_stopped words c.args.formula c.in-Ok.live.formula c.formula.result.now _ _ _ _ ask e
+    (c.formula.ensures ∙ same_formula c.stream-ending.new.pusher.formula c.in-Ok.live.formula c.stream-ending.ensures.same ∙ e)
+    c.stream-ending.result c.finish-status.result told.0 c.finish-status.ensures.status (IsDone (λ s k made. IsDeciding true s k) early c.stream-ending.new.pusher)
+    c.stream-ending.ensures.ending (sym c.is_err.ensures.value ∙ c.if-is_err.true) c.stream-ending.ensures.ends told.1 told.2
+
+pub early_of-requires : goal.early_of-requires
+early_of-requires g c =
+    let y = c.stream-ending.ensures.ending in
+    has_follower c.stream-ending.new.pusher c.stream-ending.result (sym c.is_err.ensures.value ∙ c.if-is_err.false) y.bytes y.text y.left
+
+pub returns-clause-ran : goal.returns-clause-ran
+returns-clause-ran g c = λ words ask.
+    let told = c.finish-status.ensures.said in
+    let e = c.in-Ok.ensures.formula in
+    let live = c.stream-ending.new.pusher in
+    let same = same_formula live.formula c.in-Ok.live.formula c.stream-ending.ensures.same ∙ e in
+    early_run words c.args.formula c.in-Ok.live.formula c.formula.result.now c.early_of.result _ _ _ _ _ ask e (c.formula.ensures ∙ same)
+    c.stream-ending.result c.finish-status.result told.0 c.finish-status.ensures.status (IsDone (λ s k made. IsDeciding true s k) early live)
+    c.stream-ending.ensures.ending (early_of_done c.args.formula live c.stream-ending.result c.early_of.result same c.early_of.ensures)
+    c.stream-ending.ensures.ends told.1 told.2
+    (early_answer c.stream-ending.result c.early_of.result c.args.kept.now (sym c.is_err.ensures.value ∙ c.if-is_err.false))
