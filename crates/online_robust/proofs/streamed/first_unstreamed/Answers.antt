@@ -8,11 +8,22 @@ use Rattle.online_robust.proofs.streamed.first_unstreamed.Goals as goal
 
 pub loop-i-preserved : goal.loop-i-preserved
 loop-i-preserved c =
+    let streamed : IsStreamed c.node.result.now = rw c.if-not-streamed.false at c.is_streamed-streamed.ensures in
     below_more (λ k. (n : Node) → slice_get c.args.formula.now.nodes k ≡ Some n → IsStreamed n) c.loop-i.i c.loop-i.invariant
-    (λ n at. subst IsStreamed (some_is (sym c.node.ensures.node ∙ at)) (c.is_streamed-streamed.ensures c.if-not-streamed.false))
+    (λ n is. subst IsStreamed (some_is (sym c.node.ensures.node ∙ is)) streamed)
+
+pub returns-then-not-streamed : goal.returns-then-not-streamed
+returns-then-not-streamed c =
+    let unstreamed : ¬ IsStreamed c.node.result.now = rw c.if-not-streamed.true at c.is_streamed-streamed.ensures in
+    record {
+      node = c.node.result.now;
+      at = c.node.ensures.node;
+      is = unstreamed;
+      none_before = λ j other l is no. no (c.loop-i.invariant j l other is);
+    }
 
 pub returns : goal.returns
-returns c = λ i n at.
-    let within = slice_get_within c.args.formula.now.nodes i n at in
+returns c = λ i n is.
+    let within = slice_get_within c.args.formula.now.nodes i n is in
     let end = c.len-i-end.ensures.count in
-    c.loop-i.invariant i (omega (arith, within, end)) n at
+    c.loop-i.invariant i (omega (arith, within, end)) n is
