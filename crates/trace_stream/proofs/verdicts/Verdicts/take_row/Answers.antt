@@ -63,6 +63,7 @@ returns-in-Ok-push c = λ case made opened t.
       horizon = v.horizon;
       times = c.push.new.self;
       pending = v.pending;
+      last = v.last;
     } in (
       [],
       sym (append-nil c.args.text.now),
