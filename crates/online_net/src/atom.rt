@@ -154,6 +154,7 @@ fn put_even(edges: &mut Edges, node: u32, first: &Row, row: &Row, holds: bool) -
 }
 
 /// Puts what an atom says at a row, after what was said up to it, onto its edge, and notes its number.
+#[inline(always)]
 fn put_last(edges: &mut Edges, node: u32, begun: Out, row: &Row, holds: bool) -> Result<(), Memory>
     requires edge { begun.edge < length edges.old.edges }
     requires own { begun.edge ≡ node }
@@ -171,6 +172,7 @@ fn put_last(edges: &mut Edges, node: u32, begun: Out, row: &Row, holds: bool) ->
 }
 
 /// Puts an atom's verdict at the first row onto its edge, and notes its number.
+#[inline(never)]
 fn put_first(edges: &mut Edges, bound: &Bound, node: u32, row: &Row) -> Result<(), Memory>
     requires edge { node < length edges.old.edges }
     requires atom { IsAtomNode bound.now node }
