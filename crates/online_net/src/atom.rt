@@ -185,9 +185,7 @@ fn put_first(edges: &mut Edges, bound: &Bound, node: u32, row: &Row) -> Result<(
     put_last(edges, node, Out::new(node, from, to), row, holds)
 }
 
-/// Puts an atom's verdicts where its truth turns over in the gap or at the row. It is a call of its own, so that rows where it does not
-/// pay nothing for it.
-#[inline(never)]
+/// Puts an atom's verdicts where its truth may turn over in the gap or at the row, onto its edge, and notes its number.
 fn put_turning(
     edges: &mut Edges,
     node: u32,
