@@ -5,6 +5,7 @@ use Rattle.std.specs.declared.cmp.Ordering.TheVariants.{Less, Equal, Greater}
 use Rattle.std.specs.Ordering.{is_eq}
 use Rattle.std.proofs.lemmas.List.{drop-drop, drop-take, drop-append-le}
 use Rattle.std.proofs.Math.Seq.{take-append_seam}
+use Rattle.std.proofs.lemmas.Fmt.{decimal_digit}
 use Rattle.std.proofs.lemmas.Int.{ints}
 use Rattle.rational.specs.Rational.{Rational, ◌≈◌, IsOrder, rational_cmp, mixed, ratio, whole}
 use Rattle.rational.proofs.Mixed.{mul_parts}
@@ -85,4 +86,4 @@ whole_text w r d p n e l one = record { num = pos n; den = 1; lowest = lowest_wh
 
 -- the time 0
 pub zero_text : (t : Rational) → t ≈ whole (pos 0) → IsNumberText 0 t (48 ∷ [])
-zero_text t e = record { num = pos 0; den = 1; lowest = lowest_whole (pos 0); same = same_trans e (record { same = omega arith }); is = refl }
+zero_text t e = record { num = pos 0; den = 1; lowest = lowest_whole (pos 0); same = same_trans e (record { same = omega arith }); is = sym (decimal_digit 0 (omega arith)) }

@@ -7,7 +7,7 @@ use Rattle.online_net.proofs.Saying.{even_put}
 use Rattle.online_net.proofs.atom.put_even.Goals as goal
 
 -- just after a number of ticks
-at_tick : ℕ → Place
+abbrev at_tick : ℕ → Place
 at_tick n = record { at = whole (pos n); after = true }
 
 pub returns : goal.returns

@@ -28,8 +28,8 @@ with_row : (net : Parts) (nodes : List Node) (header : Header) (events : List Ev
     → Stands nodes header (record net { edges = e; last = Some r }) events → Stands nodes header (record net { edges = e; last = kept }) events
 with_row net nodes header events e r kept same h = subst (λ q. Stands nodes header (record net { edges = e; last = q }) events) (sym same) h
 
-pub invariant_of-self-2 : goal.invariant_of-self-2
-invariant_of-self-2 c running =
+pub invariant_of-self-in-Ok-keep_row : goal.invariant_of-self-in-Ok-keep_row
+invariant_of-self-in-Ok-keep_row c running =
     let net : Parts = the_view c.self.inside in
     let w = c.self.invariant c.if-self.false in (
       w.0,

@@ -7,7 +7,7 @@ use Rattle.report.proofs.last.LastTime.keep.Goals as goal
 pub invariant_of-self : goal.invariant_of-self
 invariant_of-self c = (
   omega arith,
-  subst (λ w. IsNumberText c.args.digits (value c.args.t.now) (drop (32 - (c.args.to - c.args.from)) w)) (sym c.bytes_before.ensures)
+  subst (λ w. IsNumberText c.args.digits (value c.args.t.now) (drop (32 - (c.args.to - c.args.from)) w)) (sym c.bytes_before-self-inside.ensures)
       (subst (λ w. IsNumberText c.args.digits (value c.args.t.now) w)
       (sym (kept_part c.args.buf.now c.args.from c.args.to c.requires.room c.requires.order (omega arith))) c.requires.text),
 )
