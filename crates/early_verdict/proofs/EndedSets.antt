@@ -204,9 +204,9 @@ module _ (tr : Trace) (own : Stretch) (s : Sets) (is_yes : s.yes.bounds ≡ own)
         ])
         (λ t l e. one_side (SinceHolds tr x y (IsOn (at p).yes) (IsOn (at q).yes)) (SinceFails tr x y (IsOn (at p).no) (IsOn (at q).no)) b t l
         (λ n u d. let ut = none_later u t x d.ends in let us = le_trans ut e in
-        elim (m.all u (a.0 t u l (along x y t u u d (le_refl u) ut)).1 us) [
+        elim (m.all u (a.0 t u l (along (start tr) x y t u u d (le_refl u) ut)).1 us) [
           | inr z ↦ inl z
-          | inl z ↦ elim (broken p c.0 u t (λ v w. (a.0 t v l (along x y t u v d w.above w.below)).0) e) [
+          | inl z ↦ elim (broken p c.0 u t (λ v w. (a.0 t v l (along (start tr) x y t u v d w.above w.below)).0) e) [
             | inl all ↦ absurd (n (u, d, (d.after, inl us), z, all))
             | inr g ↦ inr g
           ]

@@ -82,16 +82,16 @@ module _ (tr : Trace) (own : Stretch) (s : Sets) (is_yes : s.yes.bounds ≡ own)
       u,
       o,
       c,
-      g u (far t u l (along a b t u u o (le_refl u) (none_later u t a o.ends))).1 y,
-      λ v w. f v (far t v l (along a b t u v o w.above w.below)).0 (z v w),
+      g u (far t u l (along (start tr) a b t u u o (le_refl u) (none_later u t a o.ends))).1 y,
+      λ v w. f v (far t v l (along (start tr) a b t u v o w.above w.below)).0 (z v w),
     )
 
     since_false : (p q a : ℕ) (b : Option ℕ) → ((t u : Rational) → Lies own t → OpenBehind (start tr) 0 b true true t u → IsShown shown p u × IsShown shown q u)
         → (X Y xs ys : Rational → Type 0) → ((u : Rational) → IsShown shown p u → X u → xs u) → ((u : Rational) → IsShown shown q u → Y u → ys u)
         → (t : Rational) → Lies own t → SinceFails tr a b X Y t → SinceFails tr a b xs ys t
     since_false p q a b far X Y xs ys f g t l h u o = elim (h u o) [
-      | inl y ↦ inl (g u (far t u l (along a b t u u o (le_refl u) (none_later u t a o.ends))).1 y)
-      | inr (v, w, x) ↦ inr (v, w, f v (far t v l (along a b t u v o w.above w.below)).0 x)
+      | inl y ↦ inl (g u (far t u l (along (start tr) a b t u u o (le_refl u) (none_later u t a o.ends))).1 y)
+      | inr (v, w, x) ↦ inr (v, w, f v (far t v l (along (start tr) a b t u v o w.above w.below)).0 x)
     ]
 
     -- a node's sets that fit tell what is settled of it

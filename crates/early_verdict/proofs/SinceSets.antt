@@ -57,8 +57,8 @@ still_begins None t u w h k = k
 still_begins (Some b) t u w h k = le_trans k (later_le b h)
 
 -- from a time of the window on up to now
-pub along : {from : Rational} (a : ℕ) (b : Option ℕ) (t u v : Rational) → OpenBehind from a b true true t u → u ≤ʳ v → v ≤ʳ t → OpenBehind from 0 b true true t v
-along a b t u v o k l = record { after = le_trans o.after k; begins = still_begins b t u v k o.begins; ends = later_none v t l }
+pub along : (from : Rational) (a : ℕ) (b : Option ℕ) (t u v : Rational) → OpenBehind from a b true true t u → u ≤ʳ v → v ≤ʳ t → OpenBehind from 0 b true true t v
+along from a b t u v o k l = record { after = le_trans o.after k; begins = still_begins b t u v k o.begins; ends = later_none v t l }
 
 -- where the window begins
 pub window_begin : (from t : Rational) (b : Option ℕ) → (c : Place) × ((u : Rational) → After c u → (from ≤ʳ u) × IfSome b (λ b. t ≤ʳ later u b))
@@ -91,16 +91,16 @@ module _ (tr : Trace) (a : ℕ) (b : Option ℕ) (p q : Lists) (x : Holding) (h 
       run v f k l = (h.run.only v (runs v (back_way (start tr) t v a f (past_end t v a k) l))).1
 
       -- all along from a time, where it is so up to the window's end
-      along : (f : Rational) → start tr ≤ʳ f → ((v : Rational) → f ≤ʳ v → v ≤ʳ e → IsOn p.yes v) → (v : Rational) → Within f t v → IsOn p.yes v
-      along f s z v l = elim (le_or_lt v e) [
+      all_along : (f : Rational) → start tr ≤ʳ f → ((v : Rational) → f ≤ʳ v → v ≤ʳ e → IsOn p.yes v) → (v : Rational) → Within f t v → IsOn p.yes v
+      all_along f s z v l = elim (le_or_lt v e) [
         | inl m ↦ z v l.above m
         | inr m ↦ last v (run v (le_trans s l.above) (le_of_lt m) l.below)
       ]
 
       by_run : GoesBackBy x.carried (place x.run.bounds.from) p.yes x.both.spans.items e → SinceHolds tr a b (IsOn p.yes) (IsOn q.yes) t
       by_run (inr k) =
-          let w = wide t u i (along a b t u u o (le_refl u) (le_trans ue (end_past t a))) in
-          (u, o, c, y, along u o.after (λ v m l. k.all v (after_le (place x.run.bounds.from) u v m w.1.0) l))
+          let w = wide t u i (along (start tr) a b t u u o (le_refl u) (le_trans ue (end_past t a))) in
+          (u, o, c, y, all_along u o.after (λ v m l. k.all v (after_le (place x.run.bounds.from) u v m w.1.0) l))
       by_run (inl (r, l, j, z)) = elim (le_or_lt u r) [
         | inl k ↦
             let f = le_trans o.after k in (
@@ -108,21 +108,21 @@ module _ (tr : Trace) (a : ℕ) (b : Option ℕ) (p q : Lists) (x : Holding) (h 
               record { after = f; begins = still_begins b t u r k o.begins; ends = to_end t r a l },
               (f, inr (le_trans l (end_past t a))),
               (h.both.only r j).1.1,
-              along r f (λ v m n. z v (record { above = m; below = n })),
+              all_along r f (λ v m n. z v (record { above = m; below = n })),
             )
-        | inr k ↦ (u, o, c, y, along u o.after (λ v m n. z v (record { above = le_trans (le_of_lt k) m; below = n })))
+        | inr k ↦ (u, o, c, y, all_along u o.after (λ v m n. z v (record { above = le_trans (le_of_lt k) m; below = n })))
       ]
 
   forth : (t : Rational) → Lies bounds t → SinceHolds tr a b (IsOn p.yes) (IsOn q.yes) t → IsOn x.some.spans.items t × IsOn x.each.spans.items t
   forth t i (u, o, c, y, z) =
       let ut = none_later u t a o.ends in
-      let both = h.both.has u ((wide t u i (along a b t u u o (le_refl u) ut)).0)
+      let both = h.both.has u ((wide t u i (along (start tr) a b t u u o (le_refl u) ut)).0)
       (z u (record { above = le_refl u; below = ut }), y) in (
         h.some.has t ((own t i).0) (u, o, c, y),
         h.each.has t ((own t i).1) (λ v w.
             let vt = none_later v t 0 w.ends in
             let uv = earlier t u v a o.ends w.begins in
-            h.run.has v ((wide t v i (along a b t u v o uv vt)).1)
+            h.run.has v ((wide t v i (along (start tr) a b t u v o uv vt)).1)
             (inl (u, uv, both, λ k l. z k (record { above = l.above; below = le_trans l.below vt })))),
       )
 
@@ -158,7 +158,7 @@ module _ (tr : Trace) (a : ℕ) (b : Option ℕ) (p q : Lists) (x : Failing) (h 
             | inr k ↦ of_fail (z u (record { above = le_of_lt k; below = uv }))
           ]
           by_stop (inr k) =
-              let w = wide t u d (along a b t u u o (le_refl u) (le_trans uv vt)) in
+              let w = wide t u d (along (start tr) a b t u u o (le_refl u) (le_trans uv vt)) in
               of_fail (k.all u w.1.0 uv)
 
   into : (t : Rational) → Lies bounds t → SinceFails tr a b (IsOn p.no) (IsOn q.no) t → IsOn x.never.spans.items t ⊎ IsOn x.broken.spans.items t
