@@ -45,7 +45,7 @@ earlier t u v a h k = let c = le_trans h k in record { le = omega (arith, c.le) 
 pub none_later : (u t : Rational) (a : ℕ) → later u a ≤ʳ t → u ≤ʳ t
 none_later u t a h = record { le = omega (arith, h.le) }
 
-later_none : (u t : Rational) → u ≤ʳ t → later u 0 ≤ʳ t
+pub later_none : (u t : Rational) → u ≤ʳ t → later u 0 ≤ʳ t
 later_none u t h = record { le = omega (arith, h.le) }
 
 -- v is on the way back to the window

@@ -120,8 +120,8 @@ returns-in-Some c = λ tr st.
     h.1 h.2 (settled_stands nodes tr c.args.live.now mid c.args.shown.now c.args.i c.settle_at.ensures st)
 
 -- an until
-pub shown_at-wide-in-Some-left_of_until-requires : goal.shown_at-wide-in-Some-left_of_until-requires
-shown_at-wide-in-Some-left_of_until-requires c =
+pub shown_at-wide-requires-in-Some-left_of_until : goal.shown_at-wide-requires-in-Some-left_of_until
+shown_at-wide-requires-in-Some-left_of_until c =
     let u = c.in-Some-left_of_until.ensures.some in
     let below = child_below c.args.i c.in-Some-left_of_until.left (Until c.in-Some-left_of_until.left u.0 u.1 u.2)
     (placed c.args.formula.now.nodes c.args.i (Until c.in-Some-left_of_until.left u.0 u.1 u.2) c.requires.formed.post_order (c.node-node.ensures.node ∙ ap Some u.3)) (inl refl) in
@@ -130,19 +130,19 @@ shown_at-wide-in-Some-left_of_until-requires c =
     let d = c.ask_children.ensures.less.count in
     omega (arith, below, a, b, d)
 
-pub cut_run_at-in-Some-left_of_until-requires-clause-within : goal.cut_run_at-in-Some-left_of_until-requires-clause-within
-cut_run_at-in-Some-left_of_until-requires-clause-within c =
+pub cut_run_at-requires-in-Some-left_of_until-clause-within : goal.cut_run_at-requires-in-Some-left_of_until-clause-within
+cut_run_at-requires-in-Some-left_of_until-clause-within c =
     let a = c.settle_at.ensures.count in
     let b = c.requires.stands.1.have.count in
     let d = c.requires.within in
     omega (arith, a, b, d)
 
-pub cut_run_at-in-Some-left_of_until-requires-clause-tidy : goal.cut_run_at-in-Some-left_of_until-requires-clause-tidy
-cut_run_at-in-Some-left_of_until-requires-clause-tidy c =
+pub cut_run_at-requires-in-Some-left_of_until-clause-tidy : goal.cut_run_at-requires-in-Some-left_of_until-clause-tidy
+cut_run_at-requires-in-Some-left_of_until-clause-tidy c =
     (settled_stands c.args.formula.now.nodes c.requires.stands.0 c.args.live.now c.settle_at.new.live c.args.shown.now c.args.i c.settle_at.ensures c.requires.stands.1).tidy
 
-pub cut_run_at-in-Some-left_of_until-requires-clause-inside : goal.cut_run_at-in-Some-left_of_until-requires-clause-inside
-cut_run_at-in-Some-left_of_until-requires-clause-inside c s is =
+pub cut_run_at-requires-in-Some-left_of_until-clause-inside : goal.cut_run_at-requires-in-Some-left_of_until-clause-inside
+cut_run_at-requires-in-Some-left_of_until-clause-inside c s is =
     let nodes = c.args.formula.now.nodes in
     let u = c.in-Some-left_of_until.ensures.some in
     let w = c.shown_at-wide-in-Some-left_of_until.ensures in
@@ -167,8 +167,8 @@ returns-in-Some-left_of_until c = λ tr st.
     (subst (λ n. AreAskedBy n (value c.bounds-own.result.from.time) c.args.shown.now c.ask_children.new.shown) u.3 c.ask_children.ensures)
     (settled_stands nodes tr c.args.live.now mid c.args.shown.now c.args.i c.settle_at.ensures st)
 
-pub returns-in_default : goal.returns-in_default
-returns-in_default c = λ tr st.
+pub returns-in_default-left_of_until : goal.returns-in_default-left_of_until
+returns-in_default-left_of_until c = λ tr st.
     let nodes = c.args.formula.now.nodes in
     let mid = c.settle_at.new.live in
     let s = c.index-live-at.result in
@@ -177,4 +177,4 @@ returns-in_default c = λ tr st.
     asked_stands nodes c.requires.formed tr mid c.args.shown.now c.ask_children.new.shown c.args.i c.node-node.result.now c.node-node.ensures.node s
     (item_at mid c.args.i s l c.index-live-at.is) (value c.bounds-own.result.from.time)
     (λ t o. le_after (place c.bounds-own.result.from) t (subst (λ b. Lies b t) (sym c.bounds-own.ensures) (subst (λ (z : Sets). Lies z.no.bounds t) c.index-live-at.is o)).0) c.ask_children.ensures
-    (settled_stands nodes tr c.args.live.now mid c.args.shown.now c.args.i e st) c.in_default.ensures.none
+    (settled_stands nodes tr c.args.live.now mid c.args.shown.now c.args.i e st) c.in_default-left_of_until.ensures.none
