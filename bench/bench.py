@@ -38,7 +38,18 @@ LATE = [
     ("two lags", "always[0,10000000] (eventually[0,1000000] x >= 0 or once[0,1000000] y >= 0)", "reply alt"),
     ("atom", "always[0,10000000] x <= 5000", "walk"),
 ]
-COMMANDS = ["check", "watch", "robust", "explain", "json", "table", "early"]
+
+# Margins as rows come: formulas without until and since, over short and long windows, in one another, and twelve nodes.
+TWELVE = "always[0,1000] (x >= 0 implies eventually[0,100] y >= 0) and (once[0,50] x <= 100 or historically[0,200] (y >= -100 and not x >= 300))"
+STREAMED = [
+    ("atom", ATOM, "walk cross"),
+    ("window of 10", "eventually[0,10] x >= 0", "walk cross"),
+    ("window of 100000", "eventually[0,100000] x >= 0", "walk cross"),
+    ("nested windows", "always[0,1000] eventually[0,100] x >= 0", "walk cross"),
+    ("twelve nodes", TWELVE, "walk cross"),
+]
+OWN_CASES = {"early": LATE, "rwatch": STREAMED}
+COMMANDS = ["check", "watch", "robust", "rwatch", "explain", "json", "table", "early"]
 
 
 def walk(rows, dice):
@@ -209,7 +220,7 @@ def main():
         for command in [args.command] if args.command else COMMANDS:
             if not all(stands(program, command, small) for program in programs):
                 continue
-            for name, formula, traces in LATE if command == "early" else CASES:
+            for name, formula, traces in OWN_CASES.get(command, CASES):
                 for kind in traces.split():
                     if args.only not in f"{name} {kind}":
                         continue

@@ -10,7 +10,10 @@ import tempfile
 HERE = os.path.dirname(os.path.realpath(__file__))
 PROGRAM = os.path.join(HERE, "..", "crates", "stl_bench", "out", "stl_bench")
 COLUMNS = ["x", "y:step", "z:1", "w:step:2"]
-COMMANDS = ["check", "watch", "robust", "early"]
+COMMANDS = ["check", "watch", "robust", "early", "rwatch"]
+WINDOWS = ["eventually", "always", "once", "historically"]
+KINDS = ["not", "and", "or", "implies", "until", "since", *WINDOWS]
+STREAMED = ["not", "and", "or", "implies", *WINDOWS]  # what `rwatch` takes
 UNKNOWN, WIDE = 2, 8
 
 
@@ -33,19 +36,19 @@ def bound(dice, past, ends):
     return f"{left}{low},{high}{half}{right}"
 
 
-def formula(dice, depth):
+def formula(dice, depth, kinds):
     if depth == 0 or dice.random() < 0.15:
         if dice.random() < 0.08:
             return dice.choice(["true", "false"])
         terms = [f"{dice.choice(['', '2*', '3*'])}{dice.choice('xyzw')}" for _ in range(dice.choice([1, 1, 1, 2]))]
         return f"{dice.choice(['', '-'])}{dice.choice([' + ', ' - ']).join(terms)} {dice.choice(['>=', '>', '<=', '<'])} {dice.choice(['', '-'])}{number(dice, 6, 2)}"
-    kind = dice.choice(["not", "and", "or", "implies", "until", "since", "eventually", "always", "once", "historically"])
+    kind = dice.choice(kinds)
     if kind == "not":
-        return f"not ({formula(dice, depth - 1)})"
-    if kind in ("eventually", "always", "once", "historically"):
-        return f"{kind}{bound(dice, kind in ('once', 'historically'), True)} ({formula(dice, depth - 1)})"
+        return f"not ({formula(dice, depth - 1, kinds)})"
+    if kind in WINDOWS:
+        return f"{kind}{bound(dice, kind in ('once', 'historically'), True)} ({formula(dice, depth - 1, kinds)})"
     middle = kind + (bound(dice, kind == "since", False) if kind in ("until", "since") else "")
-    return f"({formula(dice, depth - 1)}) {middle} ({formula(dice, depth - 1)})"
+    return f"({formula(dice, depth - 1, kinds)}) {middle} ({formula(dice, depth - 1, kinds)})"
 
 
 def recording(dice):
@@ -82,11 +85,13 @@ def main():
         other = os.path.join(folder, "exact")
         subprocess.run(["c++", "-O2", "-std=c++17", "-o", other, os.path.join(HERE, "exact.cpp")], check=True)
         for case in range(args.cases):
-            text, trace = formula(dice, dice.randint(0, 4)), recording(dice)
+            depth = dice.randint(0, 4)
+            whole, streamed, trace = formula(dice, depth, KINDS), formula(dice, depth, STREAMED), recording(dice)
             for command in commands:
+                text = streamed if command == "rwatch" else whole
                 ours, theirs = (answer(program, command, text, trace) for program in (args.program, other))
                 # Which margins are refused as wide depends on what a program keeps on its way.
-                if command == "robust" and WIDE in (ours[0], theirs[0]):
+                if command in ("robust", "rwatch") and WIDE in (ours[0], theirs[0]):
                     wide += 1
                     continue
                 if ours[0] not in (0, 1) or ours != theirs:

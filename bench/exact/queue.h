@@ -10,8 +10,10 @@ public:
     bool empty() const { return head == items.size(); }
     size_t size() const { return items.size() - head; }
     const Item& operator[](size_t k) const { return items[head + k]; }
+    Item& operator[](size_t k) { return items[head + k]; }
     const Item& front() const { return items[head]; }
     const Item& back() const { return items.back(); }
+    Item& back() { return items.back(); }
     void push_back(const Item& item) { items.push_back(item); }
     void pop_back() { items.pop_back(); }
     void pop_front() {

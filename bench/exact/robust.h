@@ -348,6 +348,18 @@ Signal Margins::of(const vector<Node>& nodes, vector<AtomMargin>& atoms) {
     return std::move(stack.back());
 }
 
+// Writes the value of a shape at a place, of which `units` make 1.
+static void put_value(Text& text, const Shape& s, const FineCut& at, int64_t units) {
+    text.clear();
+    int64_t v;
+    bool whole = plain(s, at, v);
+    if (whole && (v == infinite || v == -infinite)) return text.put(v > 0 ? string_view("inf") : string_view("-inf"));
+    if (whole && units == 1) return text.put(v);
+    UBig den = 1;
+    Big num = whole ? Big(v) : ratio_at(s, at, den);
+    text.put(num, den * uint64_t(units));
+}
+
 // Writes robustness lines. A piece is written once the knot that ends it is known.
 class MarginLines {
 public:
@@ -376,28 +388,18 @@ private:
     Text texts[5];
     Text *from = &texts[0], *from_value = &texts[1], *to = &texts[2], *to_value = &texts[3], *value = &texts[4];
 
-    void put_value(Text& text, const Shape& s, const FineCut& at) {
-        text.clear();
-        int64_t v;
-        bool whole = plain(s, at, v);
-        if (whole && (v == infinite || v == -infinite)) return text.put(v > 0 ? string_view("inf") : string_view("-inf"));
-        if (whole && units == 1) return text.put(v);
-        UBig den = 1;
-        Big num = whole ? Big(v) : ratio_at(s, at, den);
-        text.put(num, den * uint64_t(units));
-    }
     void knot(const FineCut& at, const Shape* before, const Shape& point, const Shape* after) {
         put_time(*to, at, ticks);
-        put_value(*value, point, at);
+        put_value(*value, point, at, units);
         if (before) {
             bool reached = before == &point || sign_at(*before, point, at) == 0;
-            if (!reached) put_value(*to_value, *before, at);
+            if (!reached) put_value(*to_value, *before, at, units);
             out.line('(', *from, ',', *to, ") ", *from_value, " -> ", reached ? *value : *to_value, '\n');
         }
         out.line('[', *to, "] ", *value, '\n');
         if (!after) return;
         if (after == &point || sign_at(*after, point, at) == 0) std::swap(from_value, value);
-        else put_value(*from_value, *after, at);
+        else put_value(*from_value, *after, at, units);
         std::swap(from, to);
     }
 };
