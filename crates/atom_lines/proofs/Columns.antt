@@ -1,5 +1,6 @@
 -- What a column is at the time of a row, and on the gap between two neighbouring rows.
-use Rattle.std.proofs.Common.{◌≡◌, ℕ, zero, suc, ℤ, pos, ◌+◌, ◌-◌, ◌*◌, ◌<◌, ◌≤◌, ◌-ℤ◌, Bool, true, false, List, [], ◌∷◌, length, get_or, Some, if◌then◌else◌, sym, ap, subst, ◌∙◌, arith}
+use Rattle.std.proofs.Common.{◌≡◌, ℕ, zero, suc, ℤ, pos, ◌+◌, ◌-◌, ◌*◌, ◌<◌, ◌≤◌, ◌-ℤ◌, Bool, true, false}
+use Rattle.std.proofs.Common.{List, [], ◌∷◌, length, get_or, Some, if◌then◌else◌, sym, ap, subst, ◌∙◌, arith}
 use Rattle.std.specs.Prelude.{slice_get, bytes_eq}
 use Rattle.std.proofs.lemmas.Bool.{false_from_ne_true}
 use Rattle.std.proofs.lemmas.Option.{same_Some}
@@ -11,7 +12,8 @@ use Rattle.rational.proofs.Mixed.{parts}
 use Rattle.rational.proofs.Order.{le_trans, lt_of_le_of_lt, le_of_same, ge_of_same, same_refl, same_sym}
 use Rattle.rational.proofs.Ways.{on_way, passed, way_starts}
 use Rattle.rational.proofs.TimeLemmas.{less_in, less_no}
-use Rattle.stl_syntax.specs.Trace.{Column, Row, Trace, AreRows, AreRowsAfter, row_time, value, line_between, piece, value_from, column_value, value_among, value_of}
+use Rattle.stl_syntax.specs.Trace.{Column, Row, Trace, AreRows, AreRowsAfter, row_time, value}
+use Rattle.stl_syntax.specs.Trace.{line_between, piece, value_from, column_value, value_among, value_of}
 use Rattle.stl_syntax.proofs.PrefixLaw.{piece_starts}
 use Rattle.atom_lines.specs.Binding.{IsColumn}
 
@@ -27,13 +29,15 @@ later_row n r rows zero q ok h = let e : r.time ≡ q.time = ap (λ (x : Row). x
 later_row n r [] (suc k) q ok h = absurd (cc)
 later_row n r (s ∷ rows) (suc k) q ok h = let e = later_row n s rows k q ok.2 h in let f = ok.0 in omega arith
 
-at_row : (n : ℕ) (step : Bool) (c : ℕ) (r : Row) (rows : List Row) (t : Rational) → AreRowsAfter n r.time rows → t ≈ row_time r → value_from step c r rows t ≈ whole (value r c)
+at_row : (n : ℕ) (step : Bool) (c : ℕ) (r : Row) (rows : List Row) (t : Rational) → AreRowsAfter n r.time rows → t ≈ row_time r
+    → value_from step c r rows t ≈ whole (value r c)
 at_row n step c r [] t ok e = same_refl (whole (value r c))
 at_row n step c r (s ∷ rows) t ok e =
     let soon : t <ʳ row_time s = lt_of_le_of_lt (le_of_same e) (rows_rise r s ok.0) in
     rw (less_in t (row_time s) soon) (piece_starts step c r s t e)
 
-from_at_row : (n : ℕ) (step : Bool) (c : ℕ) (r : Row) (rows : List Row) (k : ℕ) (q : Row) (t : Rational) → AreRowsAfter n r.time rows → slice_get (r ∷ rows) k ≡ Some q
+from_at_row : (n : ℕ) (step : Bool) (c : ℕ) (r : Row) (rows : List Row) (k : ℕ) (q : Row) (t : Rational)
+    → AreRowsAfter n r.time rows → slice_get (r ∷ rows) k ≡ Some q
     → t ≈ row_time q → value_from step c r rows t ≈ whole (value q c)
 from_at_row n step c r rows zero q t ok h e =
     let is : r ≡ q = same_Some r q h in
@@ -43,7 +47,8 @@ from_at_row n step c r (s ∷ rows) (suc k) q t ok h e =
     let reached : row_time s ≤ʳ t = le_trans (rows_stay s q (later_row n s rows k q ok.2 h)) (ge_of_same e) in
     rw (less_no t (row_time s) reached) (from_at_row n step c s rows k q t ok.2 h e)
 
-from_in_gap : (n : ℕ) (step : Bool) (c : ℕ) (r : Row) (rows : List Row) (k : ℕ) (p q : Row) (t : Rational) → AreRowsAfter n r.time rows → slice_get (r ∷ rows) k ≡ Some p
+from_in_gap : (n : ℕ) (step : Bool) (c : ℕ) (r : Row) (rows : List Row) (k : ℕ) (p q : Row) (t : Rational)
+    → AreRowsAfter n r.time rows → slice_get (r ∷ rows) k ≡ Some p
     → slice_get (r ∷ rows) (suc k) ≡ Some q → row_time p ≤ʳ t → t <ʳ row_time q → value_from step c r rows t ≡ piece step c p q t
 from_in_gap n step c r [] k p q t ok g h low high = absurd (cc)
 from_in_gap n step c r (s ∷ rows) zero p q t ok g h low high =
@@ -56,27 +61,36 @@ from_in_gap n step c r (s ∷ rows) (suc k) p q t ok g h low high =
     rw (less_no t (row_time s) reached) (from_in_gap n step c s rows k p q t ok.2 g h low high)
 
 -- at a row's time a column has the row's value
-pub value_at_row : (n : ℕ) (step : Bool) (c : ℕ) (rows : List Row) (k : ℕ) (q : Row) (t : Rational) → AreRows n rows → slice_get rows k ≡ Some q → t ≈ row_time q
+pub value_at_row : (n : ℕ) (step : Bool) (c : ℕ) (rows : List Row) (k : ℕ) (q : Row) (t : Rational) → AreRows n rows
+    → slice_get rows k ≡ Some q → t ≈ row_time q
     → column_value step c rows t ≈ whole (value q c)
 value_at_row n step c [] k q t ok h e = absurd ok
 value_at_row n step c (r ∷ rows) k q t ok h e = from_at_row n step c r rows k q t ok.1 h e
 
 -- on a gap it goes from the first row's value, or stays there
-pub value_in_gap : (n : ℕ) (step : Bool) (c : ℕ) (rows : List Row) (k : ℕ) (p q : Row) (t : Rational) → AreRows n rows → slice_get rows k ≡ Some p → slice_get rows (suc k) ≡ Some q
+pub value_in_gap : (n : ℕ) (step : Bool) (c : ℕ) (rows : List Row) (k : ℕ) (p q : Row) (t : Rational) → AreRows n rows
+    → slice_get rows k ≡ Some p → slice_get rows (suc k) ≡ Some q
     → row_time p ≤ʳ t → t <ʳ row_time q → column_value step c rows t ≡ piece step c p q t
 value_in_gap n step c [] k p q t ok g h low high = absurd ok
 value_in_gap n step c (r ∷ rows) k p q t ok g h low high = from_in_gap n step c r rows k p q t ok.1 g h low high
 
 line_on_way' : (from gap : ℕ) (v w : ℤ) (t : Rational) (p : 0 < suc gap) → at (line_between from v gap w) t ≈ on_way v w (passed (pos from) (suc gap) p t)
 line_on_way' from gap v w t p = record {
-  same = omega (arith, ap (λ n. n * (t.up * (suc gap * t.den))) rise, ap (λ n. n * (t.down * (suc gap * t.den))) rise, ap (λ n. n * (from * t.den * (suc gap * t.den))) rise);
+  same = omega (
+    arith,
+    ap (λ n. n * (t.up * (suc gap * t.den))) rise,
+    ap (λ n. n * (t.down * (suc gap * t.den))) rise,
+    ap (λ n. n * (from * t.den * (suc gap * t.den))) rise,
+  );
 }
   where
     rise : part_above (w -ℤ v) + part_below w + part_above v ≡ part_below (w -ℤ v) + part_above w + part_below v
     rise = omega (arith, parts)
 
-line_on_way : (from gap run : ℕ) (v w : ℤ) (t : Rational) (p : 0 < run) → suc gap ≡ run → at (line_between from v gap w) t ≈ on_way v w (passed (pos from) run p t)
-line_on_way from gap run v w t p e = subst (λ n. (p : 0 < n) → at (line_between from v gap w) t ≈ on_way v w (passed (pos from) n p t)) e (λ p. line_on_way' from gap v w t p) p
+line_on_way : (from gap run : ℕ) (v w : ℤ) (t : Rational) (p : 0 < run) → suc gap ≡ run
+    → at (line_between from v gap w) t ≈ on_way v w (passed (pos from) run p t)
+line_on_way from gap run v w t p e = subst (λ n. (p : 0 < n) → at (line_between from v gap w) t ≈ on_way v w (passed (pos from) n p t)) e
+    (λ p. line_on_way' from gap v w t p) p
 
 -- on a gap a column is on the way from the first row's value
 pub piece_on_way : (step : Bool) (c : ℕ) (r s : Row) (t : Rational) (p : 0 < s.time - r.time)
@@ -85,7 +99,8 @@ piece_on_way true c r s t p = same_sym (way_starts (value r c) (passed (pos r.ti
 piece_on_way false c r s t p = line_on_way r.time (s.time - suc r.time) (s.time - r.time) (value r c) (value s c) t p (omega arith)
 
 -- the value of a name is that of its first column
-among : (columns : List Column) (c : ℕ) (rows : List Row) (name : List ℕ) (t : Rational) (place : ℕ) (step : Bool) (i : ℕ) → IsColumn columns name place step → i ≡ c + place
+among : (columns : List Column) (c : ℕ) (rows : List Row) (name : List ℕ) (t : Rational) (place : ℕ) (step : Bool) (i : ℕ)
+    → IsColumn columns name place step → i ≡ c + place
     → value_among columns c rows name t ≡ column_value step i rows t
 among [] c rows name t place step i h e = absurd h
 among (k ∷ columns) c rows name t zero step i h e =
@@ -111,7 +126,8 @@ row_width n [] k d ok h = absurd ok
 row_width n (r ∷ rows) zero d ok h = ok.0
 row_width n (r ∷ rows) (suc k) d ok h = widths_after n r.time rows k d ok.1 (omega arith)
 
-rise_after : (n time : ℕ) (r : Row) (rows : List Row) (k : ℕ) (d : Row) → AreRowsAfter n r.time rows → suc k < length (r ∷ rows) → (get_or (r ∷ rows) k d).time < (get_or (r ∷ rows) (suc k) d).time
+rise_after : (n time : ℕ) (r : Row) (rows : List Row) (k : ℕ) (d : Row) → AreRowsAfter n r.time rows → suc k < length (r ∷ rows)
+    → (get_or (r ∷ rows) k d).time < (get_or (r ∷ rows) (suc k) d).time
 rise_after n time r [] k d ok h = absurd (omega arith)
 rise_after n time r (s ∷ rows) zero d ok h = ok.0
 rise_after n time r (s ∷ rows) (suc k) d ok h = rise_after n time s rows k d ok.2 (omega arith)

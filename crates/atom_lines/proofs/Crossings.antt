@@ -1,5 +1,6 @@
 -- Where an atom's sum passes 0 on a gap, and its sign elsewhere.
-use Rattle.std.proofs.Common.{◌≡◌, ◌≢◌, ℕ, zero, suc, ℤ, pos, negsuc, ◌+◌, ◌-◌, ◌*◌, ◌/◌, ◌%◌, ◌<◌, ◌+ℤ◌, ◌-ℤ◌, ◌*ℤ◌, ◌<ℤ◌, ◌≤ℤ◌, ◌⊎◌, inl, inr, Bool, refl, sym, ap, ◌∙◌, subst, arith}
+use Rattle.std.proofs.Common.{◌≡◌, ◌≢◌, ℕ, zero, suc, ℤ, pos, negsuc, ◌+◌, ◌-◌, ◌*◌, ◌/◌, ◌%◌, ◌<◌, ◌+ℤ◌}
+use Rattle.std.proofs.Common.{◌-ℤ◌, ◌*ℤ◌, ◌<ℤ◌, ◌≤ℤ◌, ◌⊎◌, inl, inr, Bool, refl, sym, ap, ◌∙◌, subst, arith}
 use Rattle.std.specs.Int.RustNames.{unsigned_abs}
 use Rattle.std.proofs.lemmas.Int.{ints}
 use Rattle.std.proofs.lemmas.Nat.{div-add-mod'}
@@ -52,10 +53,13 @@ ends_of e f n = by_side (side e) (side f)
     by_side (inl a) (inr (inr b)) = absurd (n (inl (a, b)))
     by_side (inr (inl a)) (inl b) = inl (record { first = omega (arith, ints); second = omega (arith, ints); one = inr b; sum = omega (arith, ints) })
     by_side (inr (inl a)) (inr (inl b)) = inr (inl (record { first = a; second = b; sum = omega (arith, ints) }))
-    by_side (inr (inl a)) (inr (inr b)) = inr (inr (record { first = omega (arith, ints); second = omega (arith, ints); one = inr b; sum = omega (arith, ints) }))
+    by_side (inr (inl a)) (inr (inr b)) =
+        inr (inr (record { first = omega (arith, ints); second = omega (arith, ints); one = inr b; sum = omega (arith, ints) }))
     by_side (inr (inr a)) (inl b) = absurd (n (inr (a, b)))
-    by_side (inr (inr a)) (inr (inl b)) = inr (inr (record { first = omega (arith, ints); second = omega (arith, ints); one = inl a; sum = omega (arith, ints) }))
-    by_side (inr (inr a)) (inr (inr b)) = inr (inr (record { first = omega (arith, ints); second = omega (arith, ints); one = inl a; sum = omega (arith, ints) }))
+    by_side (inr (inr a)) (inr (inl b)) =
+        inr (inr (record { first = omega (arith, ints); second = omega (arith, ints); one = inl a; sum = omega (arith, ints) }))
+    by_side (inr (inr a)) (inr (inr b)) =
+        inr (inr (record { first = omega (arith, ints); second = omega (arith, ints); one = inl a; sum = omega (arith, ints) }))
 
 module _ (g : Gap) where
   abbrev first : Rational
@@ -70,7 +74,8 @@ module _ (g : Gap) where
 
   -- and at the second the other's
   pub at_second : at (along g) second ≈ whole g.to
-  at_second = same_trans (same_at (along g) there) (same_trans (at_ramp_end (pos g.first) g.from (g.to -ℤ g.from) (g.second - g.first) (sub-pos_iff_lt.1 g.rising)) reached)
+  at_second = same_trans (same_at (along g) there)
+      (same_trans (at_ramp_end (pos g.first) g.from (g.to -ℤ g.from) (g.second - g.first) (sub-pos_iff_lt.1 g.rising)) reached)
     where
       there : second ≈ add (whole (pos g.first)) (whole (pos (g.second - g.first)))
       there = let h = g.rising in record { same = omega arith }
@@ -178,7 +183,8 @@ module _ (g : Gap) where
       falls_cancel t u l = lt_at_cancel_falls (along g) (falling h) l
 
   -- a sum that does not pass 0 has the sign of the sum of its ends
-  sign_between : (t : Rational) → ¬ Passes g → first <ʳ t → t <ʳ second → (o : Ordering) × IsOrder o (at (along g) t) (whole (pos 0)) × IsOrder o (whole (g.from +ℤ g.to)) (whole (pos 0))
+  sign_between : (t : Rational) → ¬ Passes g → first <ʳ t → t <ʳ second
+      → (o : Ordering) × IsOrder o (at (along g) t) (whole (pos 0)) × IsOrder o (whole (g.from +ℤ g.to)) (whole (pos 0))
   sign_between t n a b = by_sum (ends_of g.from g.to n)
     where
       below_one : (g.from <ℤ pos 0) ⊎ (g.to <ℤ pos 0) → (at (along g) first <ʳ whole (pos 0)) ⊎ (at (along g) second <ʳ whole (pos 0))
@@ -189,16 +195,26 @@ module _ (g : Gap) where
       above_one (inl x) = inl (lt_of_lt_of_le (lt_whole x) (ge_of_same at_first))
       above_one (inr x) = inr (lt_of_lt_of_le (lt_whole x) (ge_of_same at_second))
 
-      by_sum : AreBelow g.from g.to ⊎ AreZero g.from g.to ⊎ AreAbove g.from g.to → (o : Ordering) × IsOrder o (at (along g) t) (whole (pos 0)) × IsOrder o (whole (g.from +ℤ g.to)) (whole (pos 0))
-      by_sum (inl s) =
-          (Less, below_between (along g) a b (le_trans (le_of_same at_first) (le_whole s.first)) (le_trans (le_of_same at_second) (le_whole s.second)) (below_one s.one), lt_whole s.sum)
+      by_sum : AreBelow g.from g.to ⊎ AreZero g.from g.to ⊎ AreAbove g.from g.to
+          → (o : Ordering) × IsOrder o (at (along g) t) (whole (pos 0)) × IsOrder o (whole (g.from +ℤ g.to)) (whole (pos 0))
+      by_sum (inl s) = (
+        Less,
+        below_between (along g) a b (le_trans (le_of_same at_first) (le_whole s.first))
+            (le_trans (le_of_same at_second) (le_whole s.second)) (below_one s.one),
+        lt_whole s.sum,
+      )
       by_sum (inr (inl s)) = (
         Equal,
-        level_between (along g) a b (subst (λ z. at (along g) first ≈ whole z) s.first at_first) (subst (λ z. at (along g) second ≈ whole z) s.second at_second),
+        level_between (along g) a b (subst (λ z. at (along g) first ≈ whole z) s.first at_first)
+            (subst (λ z. at (along g) second ≈ whole z) s.second at_second),
         subst (λ z. whole z ≈ whole (pos 0)) (sym s.sum) (same_refl (whole (pos 0))),
       )
-      by_sum (inr (inr s)) =
-          (Greater, above_between (along g) a b (le_trans (le_whole s.first) (ge_of_same at_first)) (le_trans (le_whole s.second) (ge_of_same at_second)) (above_one s.one), lt_whole s.sum)
+      by_sum (inr (inr s)) = (
+        Greater,
+        above_between (along g) a b (le_trans (le_whole s.first) (ge_of_same at_first))
+            (le_trans (le_whole s.second) (ge_of_same at_second)) (above_one s.one),
+        lt_whole s.sum,
+      )
 
   -- and where it does not there is one truth on the gap
   pub one_truth : (rel : Rel) (t : Rational) → ¬ Passes g → first <ʳ t → t <ʳ second → test rel t ≡ compares rel (whole (g.from +ℤ g.to))

@@ -1,5 +1,6 @@
 -- How a signal of an atom grows over the gaps of a trace.
-use Rattle.std.proofs.Common.{◌≡◌, ℕ, zero, suc, ℤ, pos, nat_abs, ◌<◌, ◌≤◌, ◌^◌, ◌<ℤ◌, ◌⊎◌, inl, inr, Bool, true, false, List, [], ◌∷◌, length, get_or, Some, refl, sym, subst, ◌∙◌, arith}
+use Rattle.std.proofs.Common.{◌≡◌, ℕ, zero, suc, ℤ, pos, nat_abs, ◌<◌, ◌≤◌, ◌^◌, ◌<ℤ◌, ◌⊎◌, inl, inr, Bool}
+use Rattle.std.proofs.Common.{true, false, List, [], ◌∷◌, length, get_or, Some, refl, sym, subst, ◌∙◌, arith}
 use Rattle.std.specs.Prelude.{slice_get, IsTrue}
 use Rattle.std.proofs.lemmas.Int.{ints}
 use Rattle.std.proofs.lemmas.Option.{slice_get-get_or}
@@ -59,8 +60,10 @@ before_end g e h =
 
 -- times between rows are within their limits
 pub between_within : {x : Rational} (n m : ℕ) → n < 2 ^ 32 → m < 2 ^ 32 → whole (pos n) <ʳ x → x <ʳ whole (pos m) → IsWithin (2 ^ 34) x
-between_within {x} n m h k a b =
-    (le_trans (within_whole (2 ^ 34) (pos n) (omega (arith, ints, h))).0 (le_of_lt a), le_trans (le_of_lt b) (within_whole (2 ^ 34) (pos m) (omega (arith, ints, k))).1)
+between_within {x} n m h k a b = (
+  le_trans (within_whole (2 ^ 34) (pos n) (omega (arith, ints, h))).0 (le_of_lt a),
+  le_trans (le_of_lt b) (within_whole (2 ^ 34) (pos m) (omega (arith, ints, k))).1,
+)
 
 -- a time of a row
 pub row_base : (n : ℕ) (z : ℤ) → n < 2 ^ 32 → z ≡ pos n → IsRowBase z
@@ -90,8 +93,10 @@ module _ {P : Type 0} (shape : ShapeOf P) (told : Told) (rel : Rel) (g : Gap) (n
   second = whole (pos g.second)
 
   -- over one shape
-  pub goes_one : (old new : List (Knot P)) (after point : P) (end : Frac) → g.second < 2 ^ 32 → stop old ≈ first → value end ≈ second → GoesOn shape old after end point new
-      → ((t : Rational) → first <ʳ t → t <ʳ second → value_at (shape.function after) t ≈ᵉ worth told rel (at (along g) t)) → ((t : Rational) → value_at (shape.function point) t ≈ᵉ worth told rel (whole next))
+  pub goes_one : (old new : List (Knot P)) (after point : P) (end : Frac) → g.second < 2 ^ 32 → stop old ≈ first
+      → value end ≈ second → GoesOn shape old after end point new
+      → ((t : Rational) → first <ʳ t → t <ʳ second → value_at (shape.function after) t ≈ᵉ worth told rel (at (along g) t))
+      → ((t : Rational) → value_at (shape.function point) t ≈ᵉ worth told rel (whole next))
       → IsRowBase (shape.base after) → IsRowBase (shape.base point) → GoesAlong shape told rel g next old new
   goes_one old new after point end m e h on gap here b c = record {
     signal = on.signal;
@@ -102,12 +107,18 @@ module _ {P : Type 0} (shape : ShapeOf P) (told : Told) (rel : Rel) (g : Gap) (n
     bases = λ p s. by_shape p (on.shapes p s);
   }
     where
-      by_part : (t : Rational) (v : Extended) → IsWorth shape old t v ⊎ ((stop old <ʳ t) × (t <ʳ value end) × Passes (shape.function after) t v) ⊎ ((t ≈ value end) × Passes (shape.function point) t v)
-          → IsWorth shape old t v ⊎ ((stop old <ʳ t) × (t <ʳ second) × (v ≈ᵉ worth told rel (at (along g) t))) ⊎ ((t ≈ second) × (v ≈ᵉ worth told rel (whole next)))
+      by_part : (t : Rational) (v : Extended) → IsWorth shape old t v
+          ⊎ ((stop old <ʳ t) × (t <ʳ value end) × Passes (shape.function after) t v) ⊎ ((t ≈ value end) × Passes (shape.function point) t v)
+          → IsWorth shape old t v ⊎ ((stop old <ʳ t) × (t <ʳ second) × (v ≈ᵉ worth told rel (at (along g) t)))
+          ⊎ ((t ≈ second) × (v ≈ᵉ worth told rel (whole next)))
       by_part t v (inl w) = inl w
       by_part t v (inr (inl (a, z, p))) =
           let soon : t <ʳ second = lt_of_lt_of_le z (le_of_same h) in
-          inr (inl (a, soon, same_transᵉ v (value_at (shape.function after) t) (worth told rel (at (along g) t)) p (gap t (lt_of_le_of_lt (ge_of_same e) a) soon)))
+          inr (inl (
+            a,
+            soon,
+            same_transᵉ v (value_at (shape.function after) t) (worth told rel (at (along g) t)) p (gap t (lt_of_le_of_lt (ge_of_same e) a) soon),
+          ))
       by_part t v (inr (inr (a, p))) = inr (inr (same_trans a h, same_transᵉ v (value_at (shape.function point) t) (worth told rel (whole next)) p (here t)))
 
       by_shape : (p : P) → HasShape old p ⊎ (p ≡ after) ⊎ (p ≡ point) → HasShape old p ⊎ IsRowBase (shape.base p)
@@ -117,10 +128,12 @@ module _ {P : Type 0} (shape : ShapeOf P) (told : Told) (rel : Rel) (g : Gap) (n
 
   -- what the signal is worth so far, on the gap, or at its end
   abbrev Part : List (Knot P) → Rational → Extended → Type 0
-  Part old t v = IsWorth shape old t v ⊎ ((stop old <ʳ t) × (t <ʳ second) × (v ≈ᵉ worth told rel (at (along g) t))) ⊎ ((t ≈ second) × (v ≈ᵉ worth told rel (whole next)))
+  Part old t v = IsWorth shape old t v ⊎ ((stop old <ʳ t) × (t <ʳ second) × (v ≈ᵉ worth told rel (at (along g) t)))
+      ⊎ ((t ≈ second) × (v ≈ᵉ worth told rel (whole next)))
 
   -- over two, with a point between them
-  pub goes_two : (old mid new : List (Knot P)) (before there after point : P) (turn end : Frac) → g.second < 2 ^ 32 → stop old ≈ first → value end ≈ second → first <ʳ value turn → value turn <ʳ second
+  pub goes_two : (old mid new : List (Knot P)) (before there after point : P) (turn end : Frac) → g.second < 2 ^ 32
+      → stop old ≈ first → value end ≈ second → first <ʳ value turn → value turn <ʳ second
       → GoesOn shape old before turn there mid → GoesOn shape mid after end point new
       → ((t : Rational) → first <ʳ t → t <ʳ value turn → value_at (shape.function before) t ≈ᵉ worth told rel (at (along g) t))
       → ((t : Rational) → t ≈ value turn → value_at (shape.function there) t ≈ᵉ worth told rel (at (along g) t))
@@ -136,19 +149,33 @@ module _ {P : Type 0} (shape : ShapeOf P) (told : Told) (rel : Rel) (g : Gap) (n
     bases = λ p s. inr (b p);
   }
     where
-      by_first : (t : Rational) (v : Extended) → IsWorth shape old t v ⊎ ((stop old <ʳ t) × (t <ʳ value turn) × Passes (shape.function before) t v) ⊎ ((t ≈ value turn) × Passes (shape.function there) t v) → Part old t v
+      by_first : (t : Rational) (v : Extended) → IsWorth shape old t v ⊎ ((stop old <ʳ t) × (t <ʳ value turn) × Passes (shape.function before) t v)
+          ⊎ ((t ≈ value turn) × Passes (shape.function there) t v) → Part old t v
       by_first t v (inl w) = inl w
       by_first t v (inr (inl (a, z, p))) =
-          inr (inl (a, lt_trans z high, same_transᵉ v (value_at (shape.function before) t) (worth told rel (at (along g) t)) p (until_then t (lt_of_le_of_lt (ge_of_same e) a) z)))
+          inr (inl (
+            a,
+            lt_trans z high,
+            same_transᵉ v (value_at (shape.function before) t) (worth told rel (at (along g) t)) p (until_then t (lt_of_le_of_lt (ge_of_same e) a) z),
+          ))
       by_first t v (inr (inr (a, p))) =
-          inr (inl (lt_of_le_of_lt (le_of_same e) (lt_of_lt_of_le low (ge_of_same a)), lt_of_le_of_lt (le_of_same a) high, same_transᵉ v (value_at (shape.function there) t) (worth told rel (at (along g) t)) p (at_turn t a)))
+          inr (inl (
+            lt_of_le_of_lt (le_of_same e) (lt_of_lt_of_le low (ge_of_same a)),
+            lt_of_le_of_lt (le_of_same a) high,
+            same_transᵉ v (value_at (shape.function there) t) (worth told rel (at (along g) t)) p (at_turn t a),
+          ))
 
-      by_part : (t : Rational) (v : Extended) → IsWorth shape mid t v ⊎ ((stop mid <ʳ t) × (t <ʳ value end) × Passes (shape.function after) t v) ⊎ ((t ≈ value end) × Passes (shape.function point) t v) → Part old t v
+      by_part : (t : Rational) (v : Extended) → IsWorth shape mid t v ⊎ ((stop mid <ʳ t) × (t <ʳ value end) × Passes (shape.function after) t v)
+          ⊎ ((t ≈ value end) × Passes (shape.function point) t v) → Part old t v
       by_part t v (inl w) = by_first t v ((on.worth t v).0 w)
       by_part t v (inr (inl (a, z, p))) =
           let past : value turn <ʳ t = subst (λ x. x <ʳ t) on.ends a in
           let soon : t <ʳ second = lt_of_lt_of_le z (le_of_same h) in
-          inr (inl (lt_of_le_of_lt (le_of_same e) (lt_trans low past), soon, same_transᵉ v (value_at (shape.function after) t) (worth told rel (at (along g) t)) p (from_then t past soon)))
+          inr (inl (
+            lt_of_le_of_lt (le_of_same e) (lt_trans low past),
+            soon,
+            same_transᵉ v (value_at (shape.function after) t) (worth told rel (at (along g) t)) p (from_then t past soon),
+          ))
       by_part t v (inr (inr (a, p))) = inr (inr (same_trans a h, same_transᵉ v (value_at (shape.function point) t) (worth told rel (whole next)) p (here t)))
 
 first_time_at : (rows : List Row) (d : Row) → 0 < length rows → first_time rows ≡ (get_or rows 0 d).time
@@ -164,16 +191,20 @@ last_time_at time (r ∷ s ∷ rows) (suc n) d h = last_time_at r.time (s ∷ ro
 
 module _ {P : Type 0} (shape : ShapeOf P) (told_as : Told) (b : Binding) (i : ℕ) (tr : Trace) (k : BoundAtom) (here : slice_get b.atoms i ≡ Some (Some k)) where
   -- what is worth the sum at a row is what the trace gives there
-  at_row : (n : ℕ) (next : ℤ) (a : Atom) → IsFor b i a tr → n < length tr.rows → next ≡ reach k (values_at tr n) (values_at tr n) → (t : Rational) (v : Extended) → t ≈ row_time (row_of tr n)
+  at_row : (n : ℕ) (next : ℤ) (a : Atom) → IsFor b i a tr → n < length tr.rows → next ≡ reach k (values_at tr n) (values_at tr n)
+      → (t : Rational) (v : Extended) → t ≈ row_time (row_of tr n)
       → v ≈ᵉ worth told_as k.rel (whole next) → Gives (reading_of told_as tr) i a t v
   at_row n next a for h e t v when w =
       let has : HasRow tr (row_of tr n) = (n, slice_get-get_or tr.rows n (record { time = 0; values = [] }) h) in
-      let is : expression a tr t ≈ whole next = subst (λ z. expression a tr t ≈ whole z) (sym e) (expression_at_row b i k here a tr for (row_of tr n) t has when) in
+      let is : expression a tr t ≈ whole next =
+      subst (λ z. expression a tr t ≈ whole z) (sym e) (expression_at_row b i k here a tr for (row_of tr n) t has when) in
       let one : v ≈ᵉ worth told_as a.rel (whole next) = subst (λ q. v ≈ᵉ worth told_as q (whole next)) (tied b i k here a tr for).rel w in
-      gives told_as tr i a t v (same_transᵉ v (worth told_as a.rel (whole next)) (worth told_as a.rel (expression a tr t)) one (worth_same told_as a.rel (same_sym is)))
+      gives told_as tr i a t v
+      (same_transᵉ v (worth told_as a.rel (whole next)) (worth told_as a.rel (expression a tr t)) one (worth_same told_as a.rel (same_sym is)))
 
   -- a signal that is begun at the first row
-  pub begun : (from : ℤ) (at : Frac) (point : P) (n : ℕ) → n < 2 ^ 32 → value at ≈ whole (pos n) → nat_abs from ≤ 2 ^ 31 → 0 < length tr.rows → from ≡ reach k (values_at tr 0) (values_at tr 0) → value at ≈ row_time (row_of tr 0)
+  pub begun : (from : ℤ) (at : Frac) (point : P) (n : ℕ) → n < 2 ^ 32 → value at ≈ whole (pos n) → nat_abs from ≤ 2 ^ 31
+      → 0 < length tr.rows → from ≡ reach k (values_at tr 0) (values_at tr 0) → value at ≈ row_time (row_of tr 0)
       → ((t : Rational) → value_at (shape.function point) t ≈ᵉ worth told_as k.rel (whole from)) → IsRowBase (shape.base point)
       → HasGrown shape told_as b i tr 0 (record { time = at; point = point; after = point } ∷ [])
   begun from at point n time is size some e when w c = record {
@@ -194,18 +225,22 @@ module _ {P : Type 0} (shape : ShapeOf P) (told_as : Told) (b : Binding) (i : �
 
       small : (t : Rational) (v : Extended) → IsWorth shape (record { time = at; point = point; after = point } ∷ []) t v → IsBounded (2 ^ 31) v
       small t v (inl x) =
-          bounded_same (2 ^ 31) v (worth told_as k.rel (whole from)) (same_transᵉ v (value_at (shape.function point) t) (worth told_as k.rel (whole from)) x.worth (w t))
+          bounded_same (2 ^ 31) v (worth told_as k.rel (whole from))
+          (same_transᵉ v (value_at (shape.function point) t) (worth told_as k.rel (whole from)) x.worth (w t))
           (worth_bounded told_as k.rel (whole from) (within_whole (2 ^ 31) from size))
       small t v (inr (inl x)) = absurd x
       small t v (inr (inr x)) = absurd x
 
-      by_part : (a : Atom) → IsFor b i a tr → (t : Rational) (v : Extended) → IsWorth shape (record { time = at; point = point; after = point } ∷ []) t v → Gives (reading_of told_as tr) i a t v
-      by_part a for t v (inl x) = at_row 0 from a for some e t v (same_trans x.when when) (same_transᵉ v (value_at (shape.function point) t) (worth told_as k.rel (whole from)) x.worth (w t))
+      by_part : (a : Atom) → IsFor b i a tr → (t : Rational) (v : Extended)
+          → IsWorth shape (record { time = at; point = point; after = point } ∷ []) t v → Gives (reading_of told_as tr) i a t v
+      by_part a for t v (inl x) = at_row 0 from a for some e t v (same_trans x.when when)
+          (same_transᵉ v (value_at (shape.function point) t) (worth told_as k.rel (whole from)) x.worth (w t))
       by_part a for t v (inr (inl x)) = absurd x
       by_part a for t v (inr (inr x)) = absurd x
 
   -- and grown over a gap
-  pub grown_on : (r n : ℕ) (g : Gap) (next : ℤ) (old new : List (Knot P)) → nat_abs next ≤ 2 ^ 31 → r ≡ suc n → r < length tr.rows → g.first ≡ (row_of tr n).time → g.second ≡ (row_of tr r).time
+  pub grown_on : (r n : ℕ) (g : Gap) (next : ℤ) (old new : List (Knot P)) → nat_abs next ≤ 2 ^ 31 → r ≡ suc n → r < length tr.rows
+      → g.first ≡ (row_of tr n).time → g.second ≡ (row_of tr r).time
       → g.from ≡ reach k (values_at tr n) (values_at tr n) → g.to ≡ reach k (values_at tr n) (values_at tr r) → next ≡ reach k (values_at tr r) (values_at tr r)
       → HasGrown shape told_as b i tr n old → GoesAlong shape told_as k.rel g next old new → HasGrown shape told_as b i tr r new
   grown_on r n g next old new size e within f s from to at_next grown goes = record {
@@ -224,13 +259,15 @@ module _ {P : Type 0} (shape : ShapeOf P) (told_as : Told) (b : Binding) (i : �
       by_shape p (inr h) = h
 
       small : (t : Rational) (v : Extended)
-          → IsWorth shape old t v ⊎ ((stop old <ʳ t) × (t <ʳ whole (pos g.second)) × (v ≈ᵉ worth told_as k.rel (at (along g) t))) ⊎ ((t ≈ whole (pos g.second)) × (v ≈ᵉ worth told_as k.rel (whole next)))
+          → IsWorth shape old t v ⊎ ((stop old <ʳ t) × (t <ʳ whole (pos g.second)) × (v ≈ᵉ worth told_as k.rel (at (along g) t)))
+          ⊎ ((t ≈ whole (pos g.second)) × (v ≈ᵉ worth told_as k.rel (whole next)))
           → IsBounded (2 ^ 31) v
       small t v (inl w) = grown.small t v w
       small t v (inr (inl (low, high, w))) =
           let past : whole (pos g.first) <ʳ t = subst (λ m. whole (pos m) <ʳ t) (sym f) (lt_of_le_of_lt (ge_of_same grown.ends) low) in
           bounded_same (2 ^ 31) v (worth told_as k.rel (at (along g) t)) w (worth_bounded told_as k.rel (at (along g) t) (along_within g t past high))
-      small t v (inr (inr (when, w))) = bounded_same (2 ^ 31) v (worth told_as k.rel (whole next)) w (worth_bounded told_as k.rel (whole next) (within_whole (2 ^ 31) next size))
+      small t v (inr (inr (when, w))) = bounded_same (2 ^ 31) v (worth told_as k.rel (whole next)) w
+          (worth_bounded told_as k.rel (whole next) (within_whole (2 ^ 31) next size))
 
       has : AreNeighbours tr (row_of tr n) (row_of tr r)
       has = (
@@ -240,7 +277,8 @@ module _ {P : Type 0} (shape : ShapeOf P) (told_as : Told) (b : Binding) (i : �
       )
 
       by_part : (a : Atom) → IsFor b i a tr → (t : Rational) (v : Extended)
-          → IsWorth shape old t v ⊎ ((stop old <ʳ t) × (t <ʳ whole (pos g.second)) × (v ≈ᵉ worth told_as k.rel (at (along g) t))) ⊎ ((t ≈ whole (pos g.second)) × (v ≈ᵉ worth told_as k.rel (whole next)))
+          → IsWorth shape old t v ⊎ ((stop old <ʳ t) × (t <ʳ whole (pos g.second)) × (v ≈ᵉ worth told_as k.rel (at (along g) t)))
+          ⊎ ((t ≈ whole (pos g.second)) × (v ≈ᵉ worth told_as k.rel (whole next)))
           → Gives (reading_of told_as tr) i a t v
       by_part a for t v (inl w) = grown.worth a for t v w
       by_part a for t v (inr (inl (low, high, w))) =
@@ -248,7 +286,8 @@ module _ {P : Type 0} (shape : ShapeOf P) (told_as : Told) (b : Binding) (i : �
           let soon : t <ʳ row_time (row_of tr r) = subst (λ m. t <ʳ whole (pos m)) s high in
           let is = expression_along b i k here a tr for g (row_of tr n) (row_of tr r) t f s from to has past soon in
           let one : v ≈ᵉ worth told_as a.rel (at (along g) t) = subst (λ q. v ≈ᵉ worth told_as q (at (along g) t)) (tied b i k here a tr for).rel w in
-          gives told_as tr i a t v (same_transᵉ v (worth told_as a.rel (at (along g) t)) (worth told_as a.rel (expression a tr t)) one (worth_same told_as a.rel (same_sym is)))
+          gives told_as tr i a t v
+          (same_transᵉ v (worth told_as a.rel (at (along g) t)) (worth told_as a.rel (expression a tr t)) one (worth_same told_as a.rel (same_sym is)))
       by_part a for t v (inr (inr (when, w))) = at_row r next a for within at_next t v (subst (λ m. t ≈ whole (pos m)) s when) w
 
 -- what a trace gives an atom is a function of time
@@ -256,9 +295,11 @@ given_is_function : (told_as : Told) (tr : Trace) (i : ℕ) (a : Atom) → IsFun
 given_is_function told_as tr i a = record {
   alike = λ t u v w e s h.
       gives told_as tr i a u w (same_transᵉ w v (worth told_as a.rel (expression a tr u)) (same_symᵉ v w s)
-      (same_transᵉ v (worth told_as a.rel (expression a tr t)) (worth told_as a.rel (expression a tr u)) (given told_as tr i a t v h) (worth_same told_as a.rel (same_expression a tr e))));
+      (same_transᵉ v (worth told_as a.rel (expression a tr t)) (worth told_as a.rel (expression a tr u))
+      (given told_as tr i a t v h) (worth_same told_as a.rel (same_expression a tr e))));
   one = λ t v w h k.
-      same_transᵉ v (worth told_as a.rel (expression a tr t)) w (given told_as tr i a t v h) (same_symᵉ w (worth told_as a.rel (expression a tr t)) (given told_as tr i a t w k));
+      same_transᵉ v (worth told_as a.rel (expression a tr t)) w (given told_as tr i a t v h)
+      (same_symᵉ w (worth told_as a.rel (expression a tr t)) (given told_as tr i a t w k));
 }
 
 -- a signal that has grown to the last row is the atom's

@@ -46,6 +46,7 @@ along_within g t a b = by_order (lies_between (affine (along g)) (whole (pos g.f
     to = within_whole (2 ^ 31) g.to g.small_to
 
     by_order : ((at (along g) (whole (pos g.first)) ≤ʳ at (along g) t) × (at (along g) t ≤ʳ at (along g) (whole (pos g.second))))
-        ⊎ ((at (along g) (whole (pos g.second)) ≤ʳ at (along g) t) × (at (along g) t ≤ʳ at (along g) (whole (pos g.first)))) → IsWithin (2 ^ 31) (at (along g) t)
+        ⊎ ((at (along g) (whole (pos g.second)) ≤ʳ at (along g) t) × (at (along g) t ≤ʳ at (along g) (whole (pos g.first))))
+        → IsWithin (2 ^ 31) (at (along g) t)
     by_order (inl h) = (le_trans from.0 (le_trans (ge_of_same (at_first g)) h.0), le_trans h.1 (le_trans (le_of_same (at_second g)) to.1))
     by_order (inr h) = (le_trans to.0 (le_trans (ge_of_same (at_second g)) h.0), le_trans h.1 (le_trans (le_of_same (at_first g)) from.1))

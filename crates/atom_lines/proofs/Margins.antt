@@ -51,7 +51,8 @@ signed_one Below e f h = omega (arith, ints, h)
 pub margin_level : (rel : Rel) (g : Gap) (v : Rational) (m : ℤ) → m ≡ signed rel g.from → m ≡ signed rel g.to → v ≈ whole m → (t : Rational)
     → finite (at (constant v) t) ≈ᵉ finite (margin rel (at (along g) t))
 margin_level rel g v m e f h t =
-    finite_same (same_trans (at_constant v t) (same_trans h (same_trans (subst (λ z. whole z ≈ margin rel (whole g.from)) (sym e) (margin_whole rel g.from)) (margin_same rel (same_sym level)))))
+    finite_same (same_trans (at_constant v t)
+    (same_trans h (same_trans (subst (λ z. whole z ≈ margin rel (whole g.from)) (sym e) (margin_whole rel g.from)) (margin_same rel (same_sym level)))))
   where
     flat : Level (along g)
     flat = record { level = let s = signed_one rel g.from g.to (sym e ∙ f) in omega (arith, parts, s) }
@@ -60,7 +61,8 @@ margin_level rel g v m e f h t =
     level = same_trans (at_level t (whole (pos g.first)) (along g) flat) (at_first g)
 
 -- and of one that moves
-pub margin_ramp : (rel : Rel) (g : Gap) (f : Ramp) → base f ≡ pos g.first → base_value f ≡ signed rel g.from → rise_in_run f ≡ signed rel g.to -ℤ signed rel g.from
+pub margin_ramp : (rel : Rel) (g : Gap) (f : Ramp) → base f ≡ pos g.first → base_value f ≡ signed rel g.from
+    → rise_in_run f ≡ signed rel g.to -ℤ signed rel g.from
     → run_time f ≡ g.second - g.first → (t : Rational) → finite (at (line f) t) ≈ᵉ finite (margin rel (at (along g) t))
 margin_ramp rel g f a b c d t = finite_same (by_rel rel b c)
   where
@@ -70,8 +72,10 @@ margin_ramp rel g f a b c d t = finite_same (by_rel rel b c)
     plain : (v0 rise : ℤ) → base_value f ≡ v0 → rise_in_run f ≡ rise → at (line f) t ≈ at (ramp_line (pos g.first) v0 rise (g.second - g.first) q) t
     plain v0 rise b c = same_ramp (pos g.first) v0 rise (g.second - g.first) q f.t0 f.v0 f.rise f.run f.positive t a b c d
 
-    turned : (v0 rise : ℤ) → base_value f ≡ v0 → rise_in_run f ≡ rise → v0 ≡ neg_ℤ g.from → rise ≡ neg_ℤ (g.to -ℤ g.from) → at (line f) t ≈ negate (at (along g) t)
-    turned v0 rise b c e h = same_trans (plain v0 rise b c) (negated_ramp (pos g.first) g.from (g.to -ℤ g.from) (pos g.first) v0 rise (g.second - g.first) q q t refl e h)
+    turned : (v0 rise : ℤ) → base_value f ≡ v0 → rise_in_run f ≡ rise → v0 ≡ neg_ℤ g.from → rise ≡ neg_ℤ (g.to -ℤ g.from)
+        → at (line f) t ≈ negate (at (along g) t)
+    turned v0 rise b c e h = same_trans (plain v0 rise b c)
+        (negated_ramp (pos g.first) g.from (g.to -ℤ g.from) (pos g.first) v0 rise (g.second - g.first) q q t refl e h)
 
     by_rel : (rel : Rel) → base_value f ≡ signed rel g.from → rise_in_run f ≡ signed rel g.to -ℤ signed rel g.from → at (line f) t ≈ margin rel (at (along g) t)
     by_rel AtLeast b c = plain g.from (g.to -ℤ g.from) b c

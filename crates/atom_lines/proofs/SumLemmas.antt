@@ -1,5 +1,6 @@
 -- An atom's sum, less its constant, at a row and on the gap between two rows.
-use Rattle.std.proofs.Common.{◌≡◌, ℕ, ℤ, pos, ◌-◌, ◌<◌, ◌-ℤ◌, ◌*ℤ◌, Bool, true, false, List, [], ◌∷◌, length, Some, if◌then◌else◌, refl, sym, ap, subst, ◌∙◌, arith}
+use Rattle.std.proofs.Common.{◌≡◌, ℕ, ℤ, pos, ◌-◌, ◌<◌, ◌-ℤ◌, ◌*ℤ◌, Bool, true, false, List, []}
+use Rattle.std.proofs.Common.{◌∷◌, length, Some, if◌then◌else◌, refl, sym, ap, subst, ◌∙◌, arith}
 use Rattle.std.specs.Prelude.{slice_get}
 use Rattle.std.proofs.lemmas.Option.{same_Some}
 use Rattle.rational.specs.Time.{Rational, ◌<ʳ◌, ◌≈◌, whole, subtract, times}
@@ -66,7 +67,8 @@ two_cells k r s = by_step k.step refl
 row_on_way : (tr : Trace) (r : Row) (t x : Rational) → IsTrace tr → HasRow tr r → t ≈ row_time r → AreOnWay tr.header.columns tr t x r.values r.values
 row_on_way tr r t x ok has e = λ k name column.
     let there : value_of tr name t ≈ whole (value r k.column) =
-    subst (λ v. v ≈ whole (value r k.column)) (sym (value_of_name tr name t k.column k.step column)) (value_at_row (length tr.header.columns) k.step k.column tr.rows has.0 r t ok.rows has.1 e) in
+    subst (λ v. v ≈ whole (value r k.column)) (sym (value_of_name tr name t k.column k.step column))
+    (value_at_row (length tr.header.columns) k.step k.column tr.rows has.0 r t ok.rows has.1 e) in
     same_trans (subst (λ z. value_of tr name t ≈ whole z) (sym (own_cell k r)) there) (same_sym (way_starts (cell k r.values r.values) x))
 
 gap_on_way : (tr : Trace) (r s : Row) (t : Rational) (p : 0 < s.time - r.time) → IsTrace tr → AreNeighbours tr r s → row_time r <ʳ t → t <ʳ row_time s
@@ -74,7 +76,8 @@ gap_on_way : (tr : Trace) (r s : Row) (t : Rational) (p : 0 < s.time - r.time) �
 gap_on_way tr r s t p ok has low high = λ k name column.
     let x = passed (pos r.time) (s.time - r.time) p t in
     let is : value_of tr name t ≡ piece k.step k.column r s t =
-    value_of_name tr name t k.column k.step column ∙ value_in_gap (length tr.header.columns) k.step k.column tr.rows has.0 r s t ok.rows has.1 has.2 (le_of_lt low) high in
+    value_of_name tr name t k.column k.step column
+    ∙ value_in_gap (length tr.header.columns) k.step k.column tr.rows has.0 r s t ok.rows has.1 has.2 (le_of_lt low) high in
     subst (λ v. v ≈ on_way (cell k r.values r.values) (cell k r.values s.values) x) (sym is)
     (subst (λ z. piece k.step k.column r s t ≈ on_way (cell k r.values r.values) z x) (sym (two_cells k r s))
     (subst (λ z. piece k.step k.column r s t ≈ on_way z (if k.step then value r k.column else value s k.column) x) (sym (own_cell k r))
@@ -91,17 +94,20 @@ module _ (b : Binding) (i : ℕ) (k : BoundAtom) (here : slice_get b.atoms i ≡
   -- at a row the expression is what the row's values sum to
   pub expression_at_row : (r : Row) (t : Rational) → HasRow tr r → t ≈ row_time r → expression a tr t ≈ whole (reach k r.values r.values)
   expression_at_row r t has e =
-      same_trans (expression_on_way a k tr t (whole (pos 0)) r.values r.values tied (row_on_way tr r t (whole (pos 0)) for.rows has e)) (way_starts (reach k r.values r.values) (whole (pos 0)))
+      same_trans (expression_on_way a k tr t (whole (pos 0)) r.values r.values tied (row_on_way tr r t (whole (pos 0)) for.rows has e))
+      (way_starts (reach k r.values r.values) (whole (pos 0)))
 
   -- on a gap it is on the line from there to what steps of the first row and ramps of the second sum to
   pub expression_in_gap : (r s : Row) (p : 0 < s.time - r.time) (t : Rational) → AreNeighbours tr r s → row_time r <ʳ t → t <ʳ row_time s
-      → expression a tr t ≈ at (ramp_line (pos r.time) (reach k r.values r.values) (reach k r.values s.values -ℤ reach k r.values r.values) (s.time - r.time) p) t
+      → expression a tr t
+      ≈ at (ramp_line (pos r.time) (reach k r.values r.values) (reach k r.values s.values -ℤ reach k r.values r.values) (s.time - r.time) p) t
   expression_in_gap r s p t has low high =
       same_trans (expression_on_way a k tr t (passed (pos r.time) (s.time - r.time) p t) r.values s.values tied (gap_on_way tr r s t p for.rows has low high))
       (same_sym (way_ramp (pos r.time) (reach k r.values r.values) (reach k r.values s.values) (s.time - r.time) p t))
 
   -- so it is on the line of the gap
-  pub expression_along : (g : Gap) (r s : Row) (t : Rational) → g.first ≡ r.time → g.second ≡ s.time → g.from ≡ reach k r.values r.values → g.to ≡ reach k r.values s.values
+  pub expression_along : (g : Gap) (r s : Row) (t : Rational) → g.first ≡ r.time → g.second ≡ s.time
+      → g.from ≡ reach k r.values r.values → g.to ≡ reach k r.values s.values
       → AreNeighbours tr r s → row_time r <ʳ t → t <ʳ row_time s → expression a tr t ≈ at (along g) t
   expression_along g r s t e h f l has low high =
       same_trans (expression_in_gap r s later t has low high)

@@ -22,7 +22,8 @@ use Rattle.atom_lines.proofs.Margins.{margin_same}
 
 -- what an atom is worth does not depend on the pair
 pub worth_same : (told : Told) (rel : Rel) {y z : Rational} → y ≈ z → worth told rel y ≈ᵉ worth told rel z
-worth_same by_truth rel {y} {z} e = subst (λ b. finite (whole (truth_value (compares rel y))) ≈ᵉ finite (whole (truth_value b))) (compare_same rel e) (same_reflᵉ (finite (whole (truth_value (compares rel y)))))
+worth_same by_truth rel {y} {z} e = subst (λ b. finite (whole (truth_value (compares rel y))) ≈ᵉ finite (whole (truth_value b)))
+    (compare_same rel e) (same_reflᵉ (finite (whole (truth_value (compares rel y)))))
 worth_same by_margin rel e = finite_same (margin_same rel e)
 
 of_bool : (b : Bool) (v : Extended) → v ≈ᵉ finite (whole (truth_value b)) → (IsTrue b × (v ≈ᵉ one)) ⊎ (IsFalse b × (v ≈ᵉ minus_one))
@@ -36,17 +37,20 @@ to_bool false v (inl h) = absurd (true≢false (sym h.0))
 to_bool false v (inr h) = h.1
 
 -- the reading of the trace gives the atom just what it is worth
-pub gives : (told : Told) (tr : Trace) (i : ℕ) (a : Atom) (t : Rational) (v : Extended) → v ≈ᵉ worth told a.rel (expression a tr t) → Gives (reading_of told tr) i a t v
+pub gives : (told : Told) (tr : Trace) (i : ℕ) (a : Atom) (t : Rational) (v : Extended)
+    → v ≈ᵉ worth told a.rel (expression a tr t) → Gives (reading_of told tr) i a t v
 gives by_truth tr i a t v h = of_bool (compares a.rel (expression a tr t)) v h
 gives by_margin tr i a t v h = h
 
 -- and it gives nothing else
-pub given : (told : Told) (tr : Trace) (i : ℕ) (a : Atom) (t : Rational) (v : Extended) → Gives (reading_of told tr) i a t v → v ≈ᵉ worth told a.rel (expression a tr t)
+pub given : (told : Told) (tr : Trace) (i : ℕ) (a : Atom) (t : Rational) (v : Extended) → Gives (reading_of told tr) i a t v
+    → v ≈ᵉ worth told a.rel (expression a tr t)
 given by_truth tr i a t v h = to_bool (compares a.rel (expression a tr t)) v h
 given by_margin tr i a t v h = h
 
 -- what it says of a test it says of another with the same truths
-pub gap_same : (from to : Rational) (test other : Rational → Bool) (piece : TruthPiece) → ((t : Rational) → from <ʳ t → t <ʳ to → other t ≡ test t) → TellsGap from to test piece → TellsGap from to other piece
+pub gap_same : (from to : Rational) (test other : Rational → Bool) (piece : TruthPiece)
+    → ((t : Rational) → from <ʳ t → t <ʳ to → other t ≡ test t) → TellsGap from to test piece → TellsGap from to other piece
 gap_same from to test other (Whole w) same h = λ t a b. same t a b ∙ h t a b
 gap_same from to test other (Split before at point after) same h = record {
   after_first = h.after_first;

@@ -1,5 +1,7 @@
 -- Which column a name stands for, and how terms and nodes are tied one after the other.
-use Rattle.std.proofs.Common.{◌≡◌, ◌≢◌, ℕ, zero, suc, ◌+◌, ◌<◌, Bool, true, false, ◌||◌, ◌⊎◌, inl, inr, List, [], ◌∷◌, ◌++◌, length, get_or, take, map, Option, Some, None, IsTrue, refl, sym, ap, subst, ◌∙◌, arith, length-append}
+use Rattle.std.proofs.Common.{◌≡◌, ◌≢◌, ℕ, zero, suc, ◌+◌, ◌<◌, Bool, true, false, ◌||◌, ◌⊎◌, inl}
+use Rattle.std.proofs.Common.{inr, List, [], ◌∷◌, ◌++◌, length, get_or, take, map, Option, Some}
+use Rattle.std.proofs.Common.{None, IsTrue, refl, sym, ap, subst, ◌∙◌, arith, length-append}
 use Rattle.std.specs.Prelude.{slice_get, bytes_eq, All}
 use Rattle.std.proofs.lemmas.Bool.{false≢true}
 use Rattle.std.proofs.lemmas.Slice.Eq.{bytes_eq-Decides}
@@ -32,11 +34,13 @@ lacks (k ∷ columns) name h =
     (lacks columns name (λ j d l. h (suc j) d (omega arith)))
 
 -- the first column of a name
-pub found : (columns : List Column) (name : List ℕ) (i : ℕ) (d : Column) → i < length columns → ((j : ℕ) (d : Column) → j < i → (get_or columns j d).name ≢ name)
+pub found : (columns : List Column) (name : List ℕ) (i : ℕ) (d : Column) → i < length columns
+    → ((j : ℕ) (d : Column) → j < i → (get_or columns j d).name ≢ name)
     → (get_or columns i d).name ≡ name → IsColumn columns name i (get_or columns i d).step
 found [] name i d h before here = absurd (omega arith)
 found (k ∷ columns) name zero d h before here = (here, refl)
-found (k ∷ columns) name (suc i) d h before here = (before 0 d (omega arith), found columns name i d (omega arith) (λ j d l. before (suc j) d (omega arith)) here)
+found (k ∷ columns) name (suc i) d h before here =
+    (before 0 d (omega arith), found columns name i d (omega arith) (λ j d l. before (suc j) d (omega arith)) here)
 
 -- a column's place is among the columns
 pub within : (columns : List Column) (name : List ℕ) (i : ℕ) (step : Bool) → IsColumn columns name i step → i < length columns
@@ -54,11 +58,13 @@ second_true false b h = h
 -- a name that a column has
 pub among : (columns : List Column) (name : List ℕ) (i : ℕ) (step : Bool) → IsColumn columns name i step → IsTrue (is_among name (map (λ k. k.name) columns))
 among [] name i step h = absurd h
-among (k ∷ columns) name zero step h = first_true (bytes_eq name k.name) (is_among name (map (λ k. k.name) columns)) ((bytes_eq-Decides name k.name).1 (sym h.0))
+among (k ∷ columns) name zero step h =
+    first_true (bytes_eq name k.name) (is_among name (map (λ k. k.name) columns)) ((bytes_eq-Decides name k.name).1 (sym h.0))
 among (k ∷ columns) name (suc i) step h = second_true (bytes_eq name k.name) (is_among name (map (λ k. k.name) columns)) (among columns name i step h.1)
 
 -- one more term
-pub tied_more : (columns : List Column) (ts : List Term) (ks : List BoundTerm) (t : Term) (k : BoundTerm) → AreTied columns ts ks → IsTied columns t k → AreTied columns (ts ++ t ∷ []) (ks ++ k ∷ [])
+pub tied_more : (columns : List Column) (ts : List Term) (ks : List BoundTerm) (t : Term) (k : BoundTerm) → AreTied columns ts ks
+    → IsTied columns t k → AreTied columns (ts ++ t ∷ []) (ks ++ k ∷ [])
 tied_more columns [] [] t k h e = (e, tt)
 tied_more columns [] (k' ∷ ks) t k h e = absurd h
 tied_more columns (t' ∷ ts) [] t k h e = absurd h
@@ -87,12 +93,14 @@ one_more P i h x j l = by_place place
     by_place (inr e) = subst P (sym e) x
 
 -- the first term without a column
-pub first_lacking : (columns : List Column) (a : Atom) (i : ℕ) (t : Term) → slice_get a.terms i ≡ Some t → LacksColumn columns t.name → All (HasColumn columns) (take i a.terms) → IsFirstLacking columns a i
+pub first_lacking : (columns : List Column) (a : Atom) (i : ℕ) (t : Term) → slice_get a.terms i ≡ Some t
+    → LacksColumn columns t.name → All (HasColumn columns) (take i a.terms) → IsFirstLacking columns a i
 first_lacking columns a i t e lacks before = record { term = t; at = e; lacks = lacks; before = before }
 
 module _ (columns : List Column) (f : Formula) where
   -- an atom's first term without a column is the formula's, where the nodes before have theirs
-  pub fault_of : (i : ℕ) (n : Node) (e : BindFault) → slice_get f.nodes i ≡ Some n → All (HasColumns columns) (take i f.nodes) → IsFaultAt columns i n e → IsBindFault columns f e
+  pub fault_of : (i : ℕ) (n : Node) (e : BindFault) → slice_get f.nodes i ≡ Some n → All (HasColumns columns) (take i f.nodes)
+      → IsFaultAt columns i n e → IsBindFault columns f e
   fault_of i (Leaf a) (UnknownColumn atom term) at before h = (
     h.1.term.name,
     record {
@@ -121,7 +129,8 @@ got_end [] x ys = refl
 got_end (y ∷ xs) x ys = got_end xs x ys
 
 -- one more node
-pub nodes_more : (columns : List Column) (nodes : List Node) (i : ℕ) (atoms : List (Option BoundAtom)) (n : Node) (k : Option BoundAtom) → AreNodesTied columns nodes i atoms
+pub nodes_more : (columns : List Column) (nodes : List Node) (i : ℕ) (atoms : List (Option BoundAtom)) (n : Node)
+    (k : Option BoundAtom) → AreNodesTied columns nodes i atoms
     → slice_get nodes i ≡ Some n → IsNodeTied columns n k → AreNodesTied columns nodes (i + 1) (atoms ++ k ∷ [])
 nodes_more columns nodes i atoms n k h e tied = record {
   count_is = omega (arith, length-append atoms (k ∷ []), h.count_is);
@@ -147,7 +156,8 @@ pub bound_of : (f : Formula) (h : Header) (width : ℕ) (atoms : List (Option Bo
     → AreNodesTied h.columns f.nodes count atoms → IsBound (record { width = width; atoms = atoms }) f h
 bound_of f h width atoms count w c tied = record { width = w; atoms = λ i a at. by_atom i a at (slice_get atoms i) refl }
   where
-    by_atom : (i : ℕ) (a : Atom) → slice_get f.nodes i ≡ Some (Leaf a) → (o : Option (Option BoundAtom)) → slice_get atoms i ≡ o → (k : BoundAtom) × (slice_get atoms i ≡ Some (Some k)) × IsAtomTied h.columns a k
+    by_atom : (i : ℕ) (a : Atom) → slice_get f.nodes i ≡ Some (Leaf a) → (o : Option (Option BoundAtom)) → slice_get atoms i ≡ o
+        → (k : BoundAtom) × (slice_get atoms i ≡ Some (Some k)) × IsAtomTied h.columns a k
     by_atom i a at None e =
         let within : i < length atoms = let l = slice_get_within f.nodes i (Leaf a) at in omega (arith, l, c, tied.count_is) in
         absurd (let g = slice_get-get_or atoms i None within in cc)

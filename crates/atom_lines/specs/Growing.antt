@@ -42,7 +42,8 @@ module _ {P : Type 0} (shape : ShapeOf P) where
     pub ends : stop new ≈ whole (pos g.second)
     pub late : IsWithin (2 ^ 34) (stop new)
     pub worth : (t : Rational) (v : Extended) → IsWorth shape new t v
-        → IsWorth shape old t v ⊎ ((stop old <ʳ t) × (t <ʳ whole (pos g.second)) × (v ≈ᵉ worth told rel (at (along g) t))) ⊎ ((t ≈ whole (pos g.second)) × (v ≈ᵉ worth told rel (whole next)))
+        → IsWorth shape old t v ⊎ ((stop old <ʳ t) × (t <ʳ whole (pos g.second)) × (v ≈ᵉ worth told rel (at (along g) t)))
+        ⊎ ((t ≈ whole (pos g.second)) × (v ≈ᵉ worth told rel (whole next)))
     pub bases : (p : P) → HasShape new p → HasShape old p ⊎ IsRowBase (shape.base p)
 
   -- the signal tells the atom from the start of the trace to row k

@@ -20,7 +20,8 @@ IsTruthOn b i r s piece = (a : Atom) (tr : Trace) → IsFor b i a tr → AreNeig
 
 -- its margin at the row
 abbrev pub IsMarginAt : Binding → ℕ → Row → Affine → Type 0
-IsMarginAt b i r f = (a : Atom) (tr : Trace) (t : Rational) → IsFor b i a tr → HasRow tr r → t ≈ row_time r → value_at f t ≈ᵉ finite (margin a.rel (expression a tr t))
+IsMarginAt b i r f = (a : Atom) (tr : Trace) (t : Rational) → IsFor b i a tr → HasRow tr r → t ≈ row_time r
+    → value_at f t ≈ᵉ finite (margin a.rel (expression a tr t))
 
 -- its margin on the open gap between the rows
 abbrev pub IsMarginOn : Binding → ℕ → Row → Row → Affine → Type 0

@@ -1,5 +1,6 @@
 -- The sizes of the products in the value of a ramp, and that value.
-use Rattle.std.proofs.Common.{◌≡◌, ℕ, ℤ, pos, negsuc, ◌+ℤ◌, ◌-ℤ◌, ◌*ℤ◌, ◌<ℤ◌, ◌+◌, ◌*◌, ◌^◌, ◌<◌, ◌≤◌, arith, ap, sym, subst, ◌∙◌, mul-le-mul, mul-pos, FitsSigned, ◌-◌}
+use Rattle.std.proofs.Common.{◌≡◌, ℕ, ℤ, pos, negsuc, ◌+ℤ◌, ◌-ℤ◌, ◌*ℤ◌, ◌<ℤ◌, ◌+◌, ◌*◌, ◌^◌, ◌<◌, ◌≤◌}
+use Rattle.std.proofs.Common.{arith, ap, sym, subst, ◌∙◌, mul-le-mul, mul-pos, FitsSigned, ◌-◌}
 use Rattle.std.proofs.Math.IntN.{*ℤ-one}
 use mir.Syntax.{w128}
 use Rattle.std.specs.Int.RustNames.{unsigned_abs}
@@ -46,7 +47,8 @@ all_fit {v0} {rise} {run} {gap} {rest} {den} s =
     let g = abs_mul_le gap den (2 ^ 35) (2 ^ 60) s.gap_small s.den_small in
     let a : unsigned_abs (gap *ℤ den +ℤ rest) ≤ 2 ^ 95 + 2 ^ 60 = omega (arith, abs_add (gap *ℤ den) rest, s.rest_small) in
     let c = abs_mul_le rise (gap *ℤ den +ℤ rest) (2 ^ 31) (2 ^ 95 + 2 ^ 60) s.rise_small a in
-    let n : unsigned_abs (v0 *ℤ run *ℤ den +ℤ rise *ℤ (gap *ℤ den +ℤ rest)) ≤ 2 ^ 127 - 1 = omega (arith, abs_add (v0 *ℤ run *ℤ den) (rise *ℤ (gap *ℤ den +ℤ rest))) in
+    let n : unsigned_abs (v0 *ℤ run *ℤ den +ℤ rise *ℤ (gap *ℤ den +ℤ rest)) ≤ 2 ^ 127 - 1 =
+    omega (arith, abs_add (v0 *ℤ run *ℤ den) (rise *ℤ (gap *ℤ den +ℤ rest))) in
     let r = abs_mul_le run den (2 ^ 32) (2 ^ 60) s.run_small s.den_small in
     record {
       v0_run = fits_signed_from_abs w128 (v0 *ℤ run) (omega arith);
@@ -65,7 +67,8 @@ product_positive (negsuc a) b h k = absurd (omega (arith, ints))
 product_positive a (negsuc b) h k = absurd (omega (arith, ints))
 
 -- the value that is computed is the line's
-pub ahead_value : (f : Ramp) (t : Frac) (num den : ℤ) (p : 0 < unsigned_abs den) → den ≡ pos (f.run * t.den) → num ≡ f.v0 *ℤ pos f.run *ℤ pos t.den +ℤ f.rise *ℤ ((t.whole -ℤ f.t0) *ℤ pos t.den +ℤ pos t.rest) → ratio num (unsigned_abs den) p ≈ at (line f) (value t)
+pub ahead_value : (f : Ramp) (t : Frac) (num den : ℤ) (p : 0 < unsigned_abs den) → den ≡ pos (f.run * t.den) → num ≡ f.v0 *ℤ pos f.run
+    *ℤ pos t.den +ℤ f.rise *ℤ ((t.whole -ℤ f.t0) *ℤ pos t.den +ℤ pos t.rest) → ratio num (unsigned_abs den) p ≈ at (line f) (value t)
 ahead_value f t num den p e h = record {
   same = omega (arith, ap (λ n. n * (f.run * t.den)) whole_num, ap (λ n. n * up_side) den_is, ap (λ n. n * down_side) den_is);
 }
@@ -88,7 +91,8 @@ ahead_value f t num den p e h = record {
     first : part_above (f.v0 *ℤ pos f.run) + part_below f.v0 * f.run ≡ part_below (f.v0 *ℤ pos f.run) + part_above f.v0 * f.run
     first = omega (arith, parts)
 
-    second : part_above (f.v0 *ℤ pos f.run *ℤ pos t.den) + part_below (f.v0 *ℤ pos f.run) * t.den ≡ part_below (f.v0 *ℤ pos f.run *ℤ pos t.den) + part_above (f.v0 *ℤ pos f.run) * t.den
+    second : part_above (f.v0 *ℤ pos f.run *ℤ pos t.den) + part_below (f.v0 *ℤ pos f.run) * t.den
+        ≡ part_below (f.v0 *ℤ pos f.run *ℤ pos t.den) + part_above (f.v0 *ℤ pos f.run) * t.den
     second = omega (arith, parts)
 
     third : part_above gap + part_below t.whole + part_above f.t0 ≡ part_below gap + part_above t.whole + part_below f.t0
@@ -97,17 +101,28 @@ ahead_value f t num den p e h = record {
     fourth : part_above ahead + part_below gap * t.den ≡ part_below ahead + part_above gap * t.den + t.rest
     fourth = omega (arith, parts)
 
-    fifth : part_above ahead + (part_below t.whole * t.den + part_above f.t0 * t.den) ≡ part_below ahead + (part_above t.whole * t.den + part_below f.t0 * t.den + t.rest)
+    fifth : part_above ahead + (part_below t.whole * t.den + part_above f.t0 * t.den)
+        ≡ part_below ahead + (part_above t.whole * t.den + part_below f.t0 * t.den + t.rest)
     fifth = omega (arith, fourth, ap (λ n. n * t.den) third)
 
-    sixth : part_above num + part_below (f.v0 *ℤ pos f.run *ℤ pos t.den) + part_below (f.rise *ℤ ahead) ≡ part_below num + part_above (f.v0 *ℤ pos f.run *ℤ pos t.den) + part_above (f.rise *ℤ ahead)
+    sixth : part_above num + part_below (f.v0 *ℤ pos f.run *ℤ pos t.den) + part_below (f.rise *ℤ ahead)
+        ≡ part_below num + part_above (f.v0 *ℤ pos f.run *ℤ pos t.den) + part_above (f.rise *ℤ ahead)
     sixth = omega (arith, parts)
 
     whole_num : part_above num + down_side ≡ part_below num + up_side
-    whole_num = omega (arith, sixth, second, ap (λ n. n * t.den) first, mul_parts f.rise ahead, ap (λ n. part_above f.rise * n) fifth, ap (λ n. part_below f.rise * n) fifth)
+    whole_num = omega (
+      arith,
+      sixth,
+      second,
+      ap (λ n. n * t.den) first,
+      mul_parts f.rise ahead,
+      ap (λ n. part_above f.rise * n) fifth,
+      ap (λ n. part_below f.rise * n) fifth,
+    )
 
 -- so as a fraction of whole numbers
-pub ahead_fraction : (f : Ramp) (t : Frac) (num den : ℤ) → den ≡ pos (f.run * t.den) → num ≡ f.v0 *ℤ pos f.run *ℤ pos t.den +ℤ f.rise *ℤ ((t.whole -ℤ f.t0) *ℤ pos t.den +ℤ pos t.rest) → fraction num den ≈ at (line f) (value t)
+pub ahead_fraction : (f : Ramp) (t : Frac) (num den : ℤ) → den ≡ pos (f.run * t.den) → num ≡ f.v0 *ℤ pos f.run *ℤ pos t.den
+    +ℤ f.rise *ℤ ((t.whole -ℤ f.t0) *ℤ pos t.den +ℤ pos t.rest) → fraction num den ≈ at (line f) (value t)
 ahead_fraction f t num den e h =
     let p : pos 0 <ℤ den = let q = mul-pos f.positive t.positive in omega (arith, ints, ap (λ z. up z) e, ap (λ z. down z) e) in
     let q = abs_pos den p in
@@ -134,8 +149,10 @@ pub record FitParts (a b c d : ℤ) : Type 0 where
 -- products that are small together fit 128 bits
 pub parts_fit : (a b c d : ℤ) → unsigned_abs a * unsigned_abs b + unsigned_abs c * unsigned_abs d < 2 ^ 127 → FitParts a b c d
 parts_fit a b c d h =
-    let less : unsigned_abs (a *ℤ b -ℤ c *ℤ d) ≤ unsigned_abs a * unsigned_abs b + unsigned_abs c * unsigned_abs d = omega (arith, unsigned_abs-mul a b, unsigned_abs-mul c d, abs_sub (a *ℤ b) (c *ℤ d)) in
-    let more : unsigned_abs (a *ℤ b +ℤ c *ℤ d) ≤ unsigned_abs a * unsigned_abs b + unsigned_abs c * unsigned_abs d = omega (arith, unsigned_abs-mul a b, unsigned_abs-mul c d, abs_add (a *ℤ b) (c *ℤ d)) in
+    let less : unsigned_abs (a *ℤ b -ℤ c *ℤ d) ≤ unsigned_abs a * unsigned_abs b + unsigned_abs c * unsigned_abs d =
+    omega (arith, unsigned_abs-mul a b, unsigned_abs-mul c d, abs_sub (a *ℤ b) (c *ℤ d)) in
+    let more : unsigned_abs (a *ℤ b +ℤ c *ℤ d) ≤ unsigned_abs a * unsigned_abs b + unsigned_abs c * unsigned_abs d =
+    omega (arith, unsigned_abs-mul a b, unsigned_abs-mul c d, abs_add (a *ℤ b) (c *ℤ d)) in
     record {
       left = fits_signed_from_abs w128 (a *ℤ b) (omega (arith, unsigned_abs-mul a b));
       right = fits_signed_from_abs w128 (c *ℤ d) (omega (arith, unsigned_abs-mul c d));

@@ -1,5 +1,6 @@
 -- A line as whole numbers: its sign at a time, and its root.
-use Rattle.std.proofs.Common.{◌≡◌, ℕ, ℤ, pos, negsuc, suc, ◌+ℤ◌, ◌-ℤ◌, ◌*ℤ◌, ◌<ℤ◌, neg_ℤ, inl, inr, ◌+◌, ◌*◌, ◌<◌, ◌≤◌, arith, ap, mul-le-mul_right, Option, Some, None, MatchOption}
+use Rattle.std.proofs.Common.{◌≡◌, ℕ, ℤ, pos, negsuc, suc, ◌+ℤ◌, ◌-ℤ◌, ◌*ℤ◌, ◌<ℤ◌, neg_ℤ, inl, inr, ◌+◌}
+use Rattle.std.proofs.Common.{◌*◌, ◌<◌, ◌≤◌, arith, ap, mul-le-mul_right, Option, Some, None, MatchOption}
 use Rattle.std.specs.Int.RustNames.{unsigned_abs}
 use Rattle.std.proofs.lemmas.Int.{ints}
 use Rattle.std.specs.declared.cmp.Ordering.{Ordering}
@@ -28,7 +29,8 @@ pub climb_parts : {d : Line} {base climb : ℤ} → IsGap d base climb → part_
 climb_parts {d} {base} {climb} h = let e = h.climb_is in omega (arith, parts)
 
 -- and a gap from its parts
-pub gap_from_parts : (d : Line) (base climb : ℤ) → part_above base + d.base_down ≡ part_below base + d.base_up → part_above climb + d.rise_down ≡ part_below climb + d.rise_up → IsGap d base climb
+pub gap_from_parts : (d : Line) (base climb : ℤ) → part_above base + d.base_down ≡ part_below base + d.base_up
+    → part_above climb + d.rise_down ≡ part_below climb + d.rise_up → IsGap d base climb
 gap_from_parts d base climb h k = record { base_is = omega (arith, parts); climb_is = omega (arith, parts) }
 
 -- where the line is 0
@@ -56,7 +58,9 @@ level : (d : Line) (base climb : ℤ) → IsGap d base climb → climb ≡ pos 0
 level d base climb g e = record { level = let c = g.climb_is in omega (arith, ints) }
 
 -- two lines meet at the root of their gap
-pub meeting : (f g : Line) (base climb : ℤ) (o : Option Ratio) → IsGap (gap_line f g) base climb → MatchOption o (climb ≡ pos 0) (λ q. IsQuotient (neg_ℤ base) climb q.num q.den) → MatchOption o (AreParallel f g) (λ q. ¬ (AreParallel f g) × MeetAt f g (fraction q.num q.den))
+pub meeting : (f g : Line) (base climb : ℤ) (o : Option Ratio) → IsGap (gap_line f g) base climb
+    → MatchOption o (climb ≡ pos 0) (λ q. IsQuotient (neg_ℤ base) climb q.num q.den)
+    → MatchOption o (AreParallel f g) (λ q. ¬ (AreParallel f g) × MeetAt f g (fraction q.num q.den))
 meeting f g base climb None h k = level (gap_line f g) base climb h k
 meeting f g base climb (Some q) h k =
     let t = fraction q.num q.den in
@@ -64,19 +68,22 @@ meeting f g base climb (Some q) h k =
     (n, meet_of_same f g t n (same_of_zero (same_trans (same_sym (at_gap f g t)) (root_of_gap (gap_line f g) base climb q.num q.den h k))))
 
 -- the value of a line at a whole part and a rest, over the run and the denominator
-pub ahead_is : (d : Line) (base climb w ahead sum : ℤ) (r k : ℕ) (p : 0 < k) → IsGap d base climb → ahead ≡ base +ℤ climb *ℤ w → sum ≡ ahead *ℤ pos k +ℤ climb *ℤ pos r → sum ≡ pos (at d (mixed w r k p)).up -ℤ pos (at d (mixed w r k p)).down
+pub ahead_is : (d : Line) (base climb w ahead sum : ℤ) (r k : ℕ) (p : 0 < k) → IsGap d base climb → ahead ≡ base +ℤ climb *ℤ w
+    → sum ≡ ahead *ℤ pos k +ℤ climb *ℤ pos r → sum ≡ pos (at d (mixed w r k p)).up -ℤ pos (at d (mixed w r k p)).down
 ahead_is d base climb w ahead sum r k p g h j = from_parts sum (at d (mixed w r k p)).up (at d (mixed w r k p)).down total
   where
     from_parts : (z : ℤ) (m n : ℕ) → part_above z + n ≡ part_below z + m → z ≡ pos m -ℤ pos n
     from_parts z m n e = omega (arith, parts)
 
-    moved : part_above (climb *ℤ w) + (d.rise_up * part_below w + d.rise_down * part_above w) ≡ part_below (climb *ℤ w) + (d.rise_up * part_above w + d.rise_down * part_below w)
+    moved : part_above (climb *ℤ w) + (d.rise_up * part_below w + d.rise_down * part_above w)
+        ≡ part_below (climb *ℤ w) + (d.rise_up * part_above w + d.rise_down * part_below w)
     moved = omega (arith, mul_parts climb w, ap (λ n. n * part_above w) (climb_parts g), ap (λ n. n * part_below w) (climb_parts g))
 
     first : part_above ahead + part_below base + part_below (climb *ℤ w) ≡ part_below ahead + part_above base + part_above (climb *ℤ w)
     first = omega (arith, parts)
 
-    second : part_above ahead + d.base_down + (d.rise_up * part_below w + d.rise_down * part_above w) ≡ part_below ahead + d.base_up + (d.rise_up * part_above w + d.rise_down * part_below w)
+    second : part_above ahead + d.base_down + (d.rise_up * part_below w + d.rise_down * part_above w)
+        ≡ part_below ahead + d.base_up + (d.rise_up * part_above w + d.rise_down * part_below w)
     second = omega (arith, first, moved, base_parts g)
 
     third : part_above sum + part_below ahead * k + part_below climb * r ≡ part_below sum + part_above ahead * k + part_above climb * r
@@ -106,7 +113,8 @@ below_le (pos n) = omega arith
 below_le (negsuc n) = omega arith
 
 -- the parts of a sum of products
-pub sum_parts : (ahead climb sum : ℤ) (r k : ℕ) → sum ≡ ahead *ℤ pos k +ℤ climb *ℤ pos r → part_above sum + part_below ahead * k + part_below climb * r ≡ part_below sum + part_above ahead * k + part_above climb * r
+pub sum_parts : (ahead climb sum : ℤ) (r k : ℕ) → sum ≡ ahead *ℤ pos k +ℤ climb *ℤ pos r
+    → part_above sum + part_below ahead * k + part_below climb * r ≡ part_below sum + part_above ahead * k + part_above climb * r
 sum_parts ahead climb sum r k e = omega (arith, parts)
 
 -- a number with more above than below is above 0
@@ -117,15 +125,20 @@ above z h = omega (arith, parts)
 pub below : (z : ℤ) → part_above z < part_below z → z <ℤ pos 0
 below z h = omega (arith, parts)
 
-far_sign : (o : Ordering) (ahead climb sum : ℤ) (r k : ℕ) → unsigned_abs climb ≤ unsigned_abs ahead → 0 < unsigned_abs ahead → r < k → sum ≡ ahead *ℤ pos k +ℤ climb *ℤ pos r → MatchOrdering o (ahead <ℤ pos 0) (ahead ≡ pos 0) (pos 0 <ℤ ahead) → MatchOrdering o (sum <ℤ pos 0) (sum ≡ pos 0) (pos 0 <ℤ sum)
+far_sign : (o : Ordering) (ahead climb sum : ℤ) (r k : ℕ) → unsigned_abs climb ≤ unsigned_abs ahead → 0 < unsigned_abs ahead
+    → r < k → sum ≡ ahead *ℤ pos k +ℤ climb *ℤ pos r → MatchOrdering o (ahead <ℤ pos 0) (ahead ≡ pos 0) (pos 0 <ℤ ahead)
+    → MatchOrdering o (sum <ℤ pos 0) (sum ≡ pos 0) (pos 0 <ℤ sum)
 far_sign Less (pos a) climb sum r k h p j e l = absurd (let m : pos a <ℤ pos 0 = l in omega (arith, ints))
-far_sign Less (negsuc a) climb sum r k h p j e l = below sum (omega (arith, sum_parts (negsuc a) climb sum r k e, outweighs (suc a) (part_above climb) r k (omega (arith, above_le climb)) j p))
+far_sign Less (negsuc a) climb sum r k h p j e l = below sum
+    (omega (arith, sum_parts (negsuc a) climb sum r k e, outweighs (suc a) (part_above climb) r k (omega (arith, above_le climb)) j p))
 far_sign Equal ahead climb sum r k h p j e l = absurd (let m : ahead ≡ pos 0 = l in omega (arith, ints))
-far_sign Greater (pos a) climb sum r k h p j e l = above sum (omega (arith, sum_parts (pos a) climb sum r k e, outweighs a (part_below climb) r k (omega (arith, below_le climb)) j p))
+far_sign Greater (pos a) climb sum r k h p j e l = above sum
+    (omega (arith, sum_parts (pos a) climb sum r k e, outweighs a (part_below climb) r k (omega (arith, below_le climb)) j p))
 far_sign Greater (negsuc a) climb sum r k h p j e l = absurd (let m : pos 0 <ℤ negsuc a = l in omega (arith, ints))
 
 -- far from 0 the whole part tells the sign
-pub far_ahead : (o : Ordering) (ahead climb sum : ℤ) (r k : ℕ) → unsigned_abs climb ≤ unsigned_abs ahead → 0 < unsigned_abs ahead → r < k → sum ≡ ahead *ℤ pos k +ℤ climb *ℤ pos r → o ≡ int_cmp ahead (pos 0) → o ≡ int_cmp sum (pos 0)
+pub far_ahead : (o : Ordering) (ahead climb sum : ℤ) (r k : ℕ) → unsigned_abs climb ≤ unsigned_abs ahead → 0 < unsigned_abs ahead
+    → r < k → sum ≡ ahead *ℤ pos k +ℤ climb *ℤ pos r → o ≡ int_cmp ahead (pos 0) → o ≡ int_cmp sum (pos 0)
 far_ahead o ahead climb sum r k h p j e q = int_cmp_is sum (pos 0) o (far_sign o ahead climb sum r k h p j e (int_ranked ahead (pos 0) o q))
 
 -- two lines are one exactly where their gap is 0 and does not climb

@@ -6,7 +6,8 @@ use Rattle.std.proofs.lemmas.Bool.{cases_lt}
 use Rattle.std.proofs.lemmas.Nat.{div-add-mod', mod_below, pow-add}
 use Rattle.std.proofs.lemmas.Nat.Bits.{bit_at-trailing_zeros}
 use Rattle.std.proofs.lemmas.Nat.Gcd.{dvd_refl, dvd_trans, dvd_of_mod-eq-zero, mod-eq-zero_of_dvd, IsGcd-swap, IsGcd-from_sub}
-use Rattle.std.proofs.Math.Nat.{zero-lt-suc, pow-suc, dvd-mul_right_of_dvd, mul-dvd-mul_right, dvd_of_mul-dvd-mul_right, dvd-mul_left, div-mul_cancel, div-div-eq-div-mul, min-eq_left, min-eq_right}
+use Rattle.std.proofs.Math.Nat.{zero-lt-suc, pow-suc, dvd-mul_right_of_dvd, mul-dvd-mul_right, dvd_of_mul-dvd-mul_right}
+use Rattle.std.proofs.Math.Nat.{dvd-mul_left, div-mul_cancel, div-div-eq-div-mul, min-eq_left, min-eq_right}
 
 -- a number is even or odd
 even_or_odd : (n : ℕ) → (n % 2 ≡ 0) ⊎ (n % 2 ≡ 1)
@@ -46,7 +47,8 @@ gcd_twice x y g odd h = (h.0, dvd-mul_right_of_dvd g h.1 2, λ d i j. h.2 d i (d
 -- and no more powers of two do
 gcd_powers : (x y g k : ℕ) → x % 2 ≡ 1 → IsGcd x y g → IsGcd x (y * 2 ^ k) g
 gcd_powers x y g zero odd h = subst (λ z. IsGcd x z g) (omega arith) h
-gcd_powers x y g (suc k) odd h = subst (λ z. IsGcd x z g) (omega (arith, ap (λ z. y * z) (pow-suc 2 k))) (gcd_twice x (y * 2 ^ k) g odd (gcd_powers x y g k odd h))
+gcd_powers x y g (suc k) odd h =
+    subst (λ z. IsGcd x z g) (omega (arith, ap (λ z. y * z) (pow-suc 2 k))) (gcd_twice x (y * 2 ^ k) g odd (gcd_powers x y g k odd h))
 
 -- twice both numbers share twice as much
 gcd_of_twice : (x y g : ℕ) → IsGcd x y g → IsGcd (x * 2) (y * 2) (g * 2)
@@ -77,7 +79,8 @@ gcd_by_first : (a b p q g i j : ℕ) → i ≤ j → p * 2 ^ i ≡ a → q * 2 ^
 gcd_by_first a b p q g i j l e f odd h =
     let powers : 2 ^ (j - i) * 2 ^ i ≡ 2 ^ j = sym (pow-add 2 (j - i) i) ∙ ap (λ n. 2 ^ n) (omega arith) in
     let second : q * 2 ^ (j - i) * 2 ^ i ≡ b = omega (arith, ap (λ n. q * n) powers, f) in
-    subst (λ z. IsGcd z b (g * 2 ^ i)) e (subst (λ z. IsGcd (p * 2 ^ i) z (g * 2 ^ i)) second (gcd_of_powers p (q * 2 ^ (j - i)) g i (gcd_powers p q g (j - i) odd h)))
+    subst (λ z. IsGcd z b (g * 2 ^ i)) e
+    (subst (λ z. IsGcd (p * 2 ^ i) z (g * 2 ^ i)) second (gcd_of_powers p (q * 2 ^ (j - i)) g i (gcd_powers p q g (j - i) odd h)))
 
 -- the common divisor of two numbers from that of their odd parts
 pub gcd_by_odd_parts : (a b p q g i j : ℕ) → p * 2 ^ i ≡ a → q * 2 ^ j ≡ b → p % 2 ≡ 1 → q % 2 ≡ 1 → IsGcd p q g → IsGcd a b (g * 2 ^ min i j)
@@ -103,6 +106,7 @@ gcd_by_apart x y p m k g first second e f h = of (cases_lt x y)
         let lesser : m ≡ y = f ∙ min-eq_right l in
         by_difference x y p k g l second (omega (arith, e)) (subst (λ z. IsGcd p z g) lesser h)
 
+-- the lesser of two odd numbers is odd
 pub lesser_odd : (x y m : ℕ) → x % 2 ≡ 1 → y % 2 ≡ 1 → m ≡ min x y → m % 2 ≡ 1
 lesser_odd x y m first second e = of (cases_lt x y)
   where

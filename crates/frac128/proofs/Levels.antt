@@ -1,5 +1,6 @@
 -- The order of a ramp's value and a constant, by their whole parts first.
-use Rattle.std.proofs.Common.{◌≡◌, ℕ, ℤ, pos, negsuc, zero, suc, ◌+ℤ◌, ◌-ℤ◌, ◌-◌, ◌*ℤ◌, ◌<ℤ◌, ◌+◌, ◌*◌, ◌<◌, ◌≤◌, ◌^◌, arith, refl, ap, subst, mul-le-mul, mul-le-mul_right, mul-lt-mul_of_pos_right}
+use Rattle.std.proofs.Common.{◌≡◌, ℕ, ℤ, pos, negsuc, zero, suc, ◌+ℤ◌, ◌-ℤ◌, ◌-◌, ◌*ℤ◌, ◌<ℤ◌, ◌+◌, ◌*◌, ◌<◌, ◌≤◌}
+use Rattle.std.proofs.Common.{◌^◌, arith, refl, ap, subst, mul-le-mul, mul-le-mul_right, mul-lt-mul_of_pos_right}
 use Rattle.std.specs.Int.RustNames.{unsigned_abs}
 use Rattle.std.proofs.lemmas.Int.{ints}
 use Rattle.std.specs.declared.cmp.Ordering.{Ordering}
@@ -16,21 +17,30 @@ scaled_parts : (x : ℤ) (e : ℕ) → part_above (x *ℤ pos e) + part_below x 
 scaled_parts x e = omega (arith, parts)
 
 -- the order of two fractions is that of their cross products
-pub products_order : (o : Ordering) (x : ℤ) (y d e : ℕ) → 0 < d → 0 < e → IsOrder o (fraction x (pos d)) (fraction (pos y) (pos e)) → o ≡ int_cmp (x *ℤ pos e) (pos (y * d))
+pub products_order : (o : Ordering) (x : ℤ) (y d e : ℕ) → 0 < d → 0 < e
+    → IsOrder o (fraction x (pos d)) (fraction (pos y) (pos e)) → o ≡ int_cmp (x *ℤ pos e) (pos (y * d))
 products_order o x y zero e p q h = absurd (omega arith)
 products_order o x y (suc d) zero p q h = absurd (omega arith)
-products_order Less x y (suc d) (suc e) p q h = int_cmp_is (x *ℤ pos (suc e)) (pos (y * suc d)) Less (let l : part_above x * suc e < y * suc d + part_below x * suc e = omega (arith, h.lt) in let s = scaled_parts x (suc e) in omega (arith, parts))
-products_order Equal x y (suc d) (suc e) p q h = int_cmp_is (x *ℤ pos (suc e)) (pos (y * suc d)) Equal (let l : part_above x * suc e ≡ y * suc d + part_below x * suc e = omega (arith, h.same) in let s = scaled_parts x (suc e) in omega (arith, parts))
-products_order Greater x y (suc d) (suc e) p q h = int_cmp_is (x *ℤ pos (suc e)) (pos (y * suc d)) Greater (let l : y * suc d + part_below x * suc e < part_above x * suc e = omega (arith, h.lt) in let s = scaled_parts x (suc e) in omega (arith, parts))
+products_order Less x y (suc d) (suc e) p q h = int_cmp_is (x *ℤ pos (suc e)) (pos (y * suc d)) Less
+    (let l : part_above x * suc e < y * suc d + part_below x * suc e = omega (arith, h.lt) in let s = scaled_parts x (suc e) in omega (arith, parts))
+products_order Equal x y (suc d) (suc e) p q h = int_cmp_is (x *ℤ pos (suc e)) (pos (y * suc d)) Equal
+    (let l : part_above x * suc e ≡ y * suc d + part_below x * suc e = omega (arith, h.same) in let s = scaled_parts x (suc e) in omega (arith, parts))
+products_order Greater x y (suc d) (suc e) p q h = int_cmp_is (x *ℤ pos (suc e)) (pos (y * suc d)) Greater
+    (let l : y * suc d + part_below x * suc e < part_above x * suc e = omega (arith, h.lt) in let s = scaled_parts x (suc e) in omega (arith, parts))
 
 -- a factor changes no sign
 pub sign_scaled : (o : Ordering) (x : ℤ) (e : ℕ) → 0 < e → o ≡ int_cmp x (pos 0) → o ≡ int_cmp (x *ℤ pos e) (pos 0)
 sign_scaled o x e p h = int_cmp_is (x *ℤ pos e) (pos 0) o (by_sign o (int_ranked x (pos 0) o h))
   where
-    by_sign : (o : Ordering) → MatchOrdering o (x <ℤ pos 0) (x ≡ pos 0) (pos 0 <ℤ x) → MatchOrdering o ((x *ℤ pos e) <ℤ pos 0) (x *ℤ pos e ≡ pos 0) (pos 0 <ℤ (x *ℤ pos e))
-    by_sign Less l = below (x *ℤ pos e) (let k : part_above x < part_below x = let l : x <ℤ pos 0 = l in omega (arith, parts) in omega (arith, scaled_parts x e, mul-lt-mul_of_pos_right k p))
-    by_sign Equal l = let k : part_above x ≡ part_below x = let l : x ≡ pos 0 = l in omega (arith, parts) in let s = ap (λ n. n * e) k in omega (arith, parts, scaled_parts x e)
-    by_sign Greater l = above (x *ℤ pos e) (let k : part_below x < part_above x = let l : pos 0 <ℤ x = l in omega (arith, parts) in omega (arith, scaled_parts x e, mul-lt-mul_of_pos_right k p))
+    by_sign : (o : Ordering) → MatchOrdering o (x <ℤ pos 0) (x ≡ pos 0) (pos 0 <ℤ x)
+        → MatchOrdering o ((x *ℤ pos e) <ℤ pos 0) (x *ℤ pos e ≡ pos 0) (pos 0 <ℤ (x *ℤ pos e))
+    by_sign Less l = below (x *ℤ pos e) (let k : part_above x < part_below x = let l : x <ℤ pos 0 = l in omega (arith, parts) in
+        omega (arith, scaled_parts x e, mul-lt-mul_of_pos_right k p))
+    by_sign Equal l =
+        let k : part_above x ≡ part_below x = let l : x ≡ pos 0 = l in omega (arith, parts) in let s = ap (λ n. n * e) k in
+        omega (arith, parts, scaled_parts x e)
+    by_sign Greater l = above (x *ℤ pos e) (let k : part_below x < part_above x = let l : pos 0 <ℤ x = l in omega (arith, parts) in
+        omega (arith, scaled_parts x e, mul-lt-mul_of_pos_right k p))
 
 pub record Far (ahead rise : ℤ) (run r d s e : ℕ) : Type 0 where
   -- the line is far from the constant
@@ -85,10 +95,14 @@ low a rise x run r d s e f z h = below_number (x *ℤ pos e) (run * s * d) (omeg
     under = let k = f.rest in omega (arith, sum_parts a rise x r d h, climbs, large, ap (λ n. n * d) z)
 
 -- far from the constant the whole parts tell the order
-pub far_order : (o : Ordering) (ahead rise : ℤ) (run r d s e : ℕ) → Far ahead rise run r d s e → o ≡ int_cmp ahead (pos 0) → o ≡ int_cmp ((ahead *ℤ pos d +ℤ rise *ℤ pos r) *ℤ pos e) (pos (run * s * d))
-far_order o ahead rise run r d s e f h = int_cmp_is ((ahead *ℤ pos d +ℤ rise *ℤ pos r) *ℤ pos e) (pos (run * s * d)) o (by_sign o ahead f (int_ranked ahead (pos 0) o h))
+pub far_order : (o : Ordering) (ahead rise : ℤ) (run r d s e : ℕ) → Far ahead rise run r d s e → o ≡ int_cmp ahead (pos 0)
+    → o ≡ int_cmp ((ahead *ℤ pos d +ℤ rise *ℤ pos r) *ℤ pos e) (pos (run * s * d))
+far_order o ahead rise run r d s e f h =
+    int_cmp_is ((ahead *ℤ pos d +ℤ rise *ℤ pos r) *ℤ pos e) (pos (run * s * d)) o (by_sign o ahead f (int_ranked ahead (pos 0) o h))
   where
-    by_sign : (o : Ordering) (ahead : ℤ) → Far ahead rise run r d s e → MatchOrdering o (ahead <ℤ pos 0) (ahead ≡ pos 0) (pos 0 <ℤ ahead) → MatchOrdering o (((ahead *ℤ pos d +ℤ rise *ℤ pos r) *ℤ pos e) <ℤ pos (run * s * d)) ((ahead *ℤ pos d +ℤ rise *ℤ pos r) *ℤ pos e ≡ pos (run * s * d)) (pos (run * s * d) <ℤ ((ahead *ℤ pos d +ℤ rise *ℤ pos r) *ℤ pos e))
+    by_sign : (o : Ordering) (ahead : ℤ) → Far ahead rise run r d s e → MatchOrdering o (ahead <ℤ pos 0) (ahead ≡ pos 0)
+        (pos 0 <ℤ ahead) → MatchOrdering o (((ahead *ℤ pos d +ℤ rise *ℤ pos r) *ℤ pos e) <ℤ pos (run * s * d))
+        ((ahead *ℤ pos d +ℤ rise *ℤ pos r) *ℤ pos e ≡ pos (run * s * d)) (pos (run * s * d) <ℤ ((ahead *ℤ pos d +ℤ rise *ℤ pos r) *ℤ pos e))
     by_sign Less (pos a) f l = absurd (let l : pos a <ℤ pos 0 = l in omega (arith, ints))
     by_sign Less (negsuc a) f l = low (negsuc a) rise _ run r d s e f refl refl
     by_sign Equal a f l = absurd (let l : a ≡ pos 0 = l in let far = f.far in omega (arith, ints))
@@ -96,7 +110,8 @@ far_order o ahead rise run r d s e f h = int_cmp_is ((ahead *ℤ pos d +ℤ rise
     by_sign Greater (negsuc a) f l = absurd (let l : pos 0 <ℤ negsuc a = l in omega (arith, ints))
 
 -- from the order of the products to that of the numbers
-pub order_of_products : (o : Ordering) (a : Rational) (sum x w : ℤ) (run d s e : ℕ) (p : 0 < e) → a.den ≡ run * d → sum ≡ pos a.up -ℤ pos a.down → x ≡ sum -ℤ w *ℤ pos (run * d) → o ≡ int_cmp (x *ℤ pos e) (pos (run * s * d)) → IsOrder o a (mixed w s e p)
+pub order_of_products : (o : Ordering) (a : Rational) (sum x w : ℤ) (run d s e : ℕ) (p : 0 < e) → a.den ≡ run * d → sum ≡ pos a.up
+    -ℤ pos a.down → x ≡ sum -ℤ w *ℤ pos (run * d) → o ≡ int_cmp (x *ℤ pos e) (pos (run * s * d)) → IsOrder o a (mixed w s e p)
 order_of_products o a sum x w run d s e p den h j k = by_order o (int_ranked (x *ℤ pos e) (pos (run * s * d)) o k)
   where
     first : part_above x + a.down + part_above w * (run * d) ≡ part_below x + a.up + part_below w * (run * d)
@@ -111,10 +126,20 @@ order_of_products o a sum x w run d s e p den h j k = by_order o (int_ranked (x 
     down_den : part_below w * e * a.den ≡ part_below w * e * (run * d)
     down_den = ap (λ n. part_below w * e * n) den
 
-    by_order : (o : Ordering) → MatchOrdering o ((x *ℤ pos e) <ℤ pos (run * s * d)) (x *ℤ pos e ≡ pos (run * s * d)) (pos (run * s * d) <ℤ (x *ℤ pos e)) → IsOrder o a (mixed w s e p)
-    by_order Less l = record { lt = let m : (x *ℤ pos e) <ℤ pos (run * s * d) = l in let k : part_above (x *ℤ pos e) < part_below (x *ℤ pos e) + run * s * d = omega (arith, parts) in omega (arith, second, up_den, down_den) }
-    by_order Equal l = record { same = let m : x *ℤ pos e ≡ pos (run * s * d) = l in let k : part_above (x *ℤ pos e) ≡ part_below (x *ℤ pos e) + run * s * d = omega (arith, parts) in omega (arith, second, up_den, down_den) }
-    by_order Greater l = record { lt = let m : pos (run * s * d) <ℤ (x *ℤ pos e) = l in let k : part_below (x *ℤ pos e) + run * s * d < part_above (x *ℤ pos e) = omega (arith, parts) in omega (arith, second, up_den, down_den) }
+    by_order : (o : Ordering) → MatchOrdering o ((x *ℤ pos e) <ℤ pos (run * s * d)) (x *ℤ pos e ≡ pos (run * s * d))
+        (pos (run * s * d) <ℤ (x *ℤ pos e)) → IsOrder o a (mixed w s e p)
+    by_order Less l = record {
+      lt = let m : (x *ℤ pos e) <ℤ pos (run * s * d) = l in
+          let k : part_above (x *ℤ pos e) < part_below (x *ℤ pos e) + run * s * d = omega (arith, parts) in omega (arith, second, up_den, down_den);
+    }
+    by_order Equal l = record {
+      same = let m : x *ℤ pos e ≡ pos (run * s * d) = l in
+          let k : part_above (x *ℤ pos e) ≡ part_below (x *ℤ pos e) + run * s * d = omega (arith, parts) in omega (arith, second, up_den, down_den);
+    }
+    by_order Greater l = record {
+      lt = let m : pos (run * s * d) <ℤ (x *ℤ pos e) = l in
+          let k : part_below (x *ℤ pos e) + run * s * d < part_above (x *ℤ pos e) = omega (arith, parts) in omega (arith, second, up_den, down_den);
+    }
 
 -- with no rest of the constant the sign is the order
 pub no_rest : (o : Ordering) (x : ℤ) (run d s e : ℕ) → 0 < e → s ≡ 0 → o ≡ int_cmp x (pos 0) → o ≡ int_cmp (x *ℤ pos e) (pos (run * s * d))
@@ -124,11 +149,14 @@ no_rest o x run d s e p z h = subst (λ n. o ≡ int_cmp (x *ℤ pos e) (pos n))
     zero = omega (arith, ap (λ n. run * n * d) z)
 
 -- a whole number taken out before the rest is taken out after it
-pub moved_down : (here ahead w sum x climb : ℤ) (run d r : ℕ) → ahead ≡ here *ℤ pos 1 -ℤ w *ℤ pos run → sum ≡ here *ℤ pos d +ℤ climb *ℤ pos r → x ≡ ahead *ℤ pos d +ℤ climb *ℤ pos r → x ≡ sum -ℤ w *ℤ pos (run * d)
-moved_down here ahead w sum x climb run d r h j k = by_parts (omega (arith, sum_parts here climb sum r d j, sum_parts ahead climb x r d k, ap (λ n. n * d) first))
+pub moved_down : (here ahead w sum x climb : ℤ) (run d r : ℕ) → ahead ≡ here *ℤ pos 1 -ℤ w *ℤ pos run
+    → sum ≡ here *ℤ pos d +ℤ climb *ℤ pos r → x ≡ ahead *ℤ pos d +ℤ climb *ℤ pos r → x ≡ sum -ℤ w *ℤ pos (run * d)
+moved_down here ahead w sum x climb run d r h j k =
+    by_parts (omega (arith, sum_parts here climb sum r d j, sum_parts ahead climb x r d k, ap (λ n. n * d) first))
   where
     first : part_above ahead + part_below here + part_above w * run ≡ part_below ahead + part_above here + part_below w * run
     first = omega (arith, parts)
 
-    by_parts : part_above x + part_below sum + part_above w * (run * d) ≡ part_below x + part_above sum + part_below w * (run * d) → x ≡ sum -ℤ w *ℤ pos (run * d)
+    by_parts : part_above x + part_below sum + part_above w * (run * d) ≡ part_below x + part_above sum + part_below w * (run * d)
+        → x ≡ sum -ℤ w *ℤ pos (run * d)
     by_parts e = omega (arith, parts)

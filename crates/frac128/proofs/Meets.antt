@@ -26,20 +26,28 @@ pub record Ends (f g : Line) (l r : Rational) (before after : Ordering) : Type 0
   pub at_end : IsOrder after (at f r) (at g r)
 
 -- where the orders are not opposite there is no crossing
-pub uncrossed : {f g : Line} {l r : Rational} {before after : Ordering} → Ends f g l r before after → ¬ (AreOpposite before after) → (t : Rational) → ¬ (CrossAt f g l r t)
+pub uncrossed : {f g : Line} {l r : Rational} {before after : Ordering} → Ends f g l r before after → ¬ (AreOpposite before after)
+    → (t : Rational) → ¬ (CrossAt f g l r t)
 uncrossed {f} {g} {l} {r} {before} {after} e n t = not_turned before after f g l r t e.order n e.at_start e.at_end
 
-crossing : {f g : Line} {l r : Rational} {before after : Ordering} (q : Rational) → Ends f g l r before after → AreOpposite before after → MeetAt f g q → CrossAt f g l r q
+crossing : {f g : Line} {l r : Rational} {before after : Ordering} (q : Rational) → Ends f g l r before after
+    → AreOpposite before after → MeetAt f g q → CrossAt f g l r q
 crossing {f} {g} {l} {r} {before} {after} q e o m = turned before after f g l r q e.order o e.at_start e.at_end m
 
 -- where they are, the time of the meeting has a floor that fits
-pub crossing_fits : {f g : Line} {l r : Rational} {before after : Ordering} (q : Rational) → Ends f g l r before after → AreOpposite before after → MeetAt f g q → FitsFloor w64 q
-crossing_fits q e o m = let c = crossing q e o m in fits_of_within w64 (2 ^ 34) (lit< tt) (within_between (2 ^ 34) e.from e.to (le_of_lt c.after) (le_of_lt c.before))
+pub crossing_fits : {f g : Line} {l r : Rational} {before after : Ordering} (q : Rational) → Ends f g l r before after
+    → AreOpposite before after → MeetAt f g q → FitsFloor w64 q
+crossing_fits q e o m =
+    let c = crossing q e o m in
+    fits_of_within w64 (2 ^ 34) (lit< tt) (within_between (2 ^ 34) e.from e.to (le_of_lt c.after) (le_of_lt c.before))
 
 -- a number that is that time is the crossing
-pub crossing_made : {f g : Line} {l r t : Rational} {before after : Ordering} (q : Rational) → Ends f g l r before after → AreOpposite before after → MeetAt f g q → t ≈ q → CrossAt f g l r t
+pub crossing_made : {f g : Line} {l r t : Rational} {before after : Ordering} (q : Rational) → Ends f g l r before after
+    → AreOpposite before after → MeetAt f g q → t ≈ q → CrossAt f g l r t
 crossing_made {f} {g} q e o m s = cross_same f g (same_sym s) (crossing q e o m)
 
 -- and so is one that needs too large a denominator
-pub crossing_wide : {f g : Line} {l r : Rational} {before after : Ordering} (q : Rational) (d : ℕ) → Ends f g l r before after → AreOpposite before after → MeetAt f g q → HasDenominator q d × (2 ^ 60 ≤ d) → (t : Rational) × CrossAt f g l r t × HasDenominator t d × (2 ^ 60 ≤ d)
+pub crossing_wide : {f g : Line} {l r : Rational} {before after : Ordering} (q : Rational) (d : ℕ) → Ends f g l r before after
+    → AreOpposite before after → MeetAt f g q → HasDenominator q d × (2 ^ 60 ≤ d)
+    → (t : Rational) × CrossAt f g l r t × HasDenominator t d × (2 ^ 60 ≤ d)
 crossing_wide q d e o m w = (q, crossing q e o m, w.0, w.1)

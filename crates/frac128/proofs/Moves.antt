@@ -5,11 +5,13 @@ use Rattle.rational.specs.Line.{ramp_line, at}
 use Rattle.rational.proofs.Mixed.{parts, above_neg, below_neg}
 
 -- minus a ramp
-pub negated : (t0 v0 rise t0' v0' rise' : ℤ) (run : ℕ) (p p' : 0 < run) (t : Rational) → t0' ≡ t0 → v0' ≡ neg_ℤ v0 → rise' ≡ neg_ℤ rise → at (ramp_line t0' v0' rise' run p') t ≈ negate (at (ramp_line t0 v0 rise run p) t)
+pub negated : (t0 v0 rise t0' v0' rise' : ℤ) (run : ℕ) (p p' : 0 < run) (t : Rational) → t0' ≡ t0 → v0' ≡ neg_ℤ v0
+    → rise' ≡ neg_ℤ rise → at (ramp_line t0' v0' rise' run p') t ≈ negate (at (ramp_line t0 v0 rise run p) t)
 negated t0 v0 rise t0' v0' rise' run p p' t h j k = rw (h, j, k, above_neg v0, below_neg v0, above_neg rise, below_neg rise) (omega arith)
 
 -- a ramp moved in time
-pub shifted : (t0 v0 rise t0' v0' rise' by : ℤ) (run : ℕ) (p p' : 0 < run) (t : Rational) → t0' ≡ t0 -ℤ by → v0' ≡ v0 → rise' ≡ rise → at (ramp_line t0' v0' rise' run p') t ≈ at (ramp_line t0 v0 rise run p) (add t (whole by))
+pub shifted : (t0 v0 rise t0' v0' rise' by : ℤ) (run : ℕ) (p p' : 0 < run) (t : Rational) → t0' ≡ t0 -ℤ by → v0' ≡ v0
+    → rise' ≡ rise → at (ramp_line t0' v0' rise' run p') t ≈ at (ramp_line t0 v0 rise run p) (add t (whole by))
 shifted t0 v0 rise t0' v0' rise' by run p p' t h j k = rw (j, k) record {
   same = omega (arith, ap (λ n. part_above rise * n * (t.den * run * t.den)) moved, ap (λ n. part_below rise * n * (t.den * run * t.den)) moved);
 }
@@ -18,7 +20,8 @@ shifted t0 v0 rise t0' v0' rise' by run p p' t h j k = rw (j, k) record {
     moved = omega (arith, parts)
 
 -- a ramp turned over in time
-pub mirrored : (t0 v0 rise t0' v0' rise' about : ℤ) (run : ℕ) (p p' : 0 < run) (t : Rational) → t0' ≡ about -ℤ t0 → v0' ≡ v0 → rise' ≡ neg_ℤ rise → at (ramp_line t0' v0' rise' run p') t ≈ at (ramp_line t0 v0 rise run p) (subtract (whole about) t)
+pub mirrored : (t0 v0 rise t0' v0' rise' about : ℤ) (run : ℕ) (p p' : 0 < run) (t : Rational) → t0' ≡ about -ℤ t0 → v0' ≡ v0
+    → rise' ≡ neg_ℤ rise → at (ramp_line t0' v0' rise' run p') t ≈ at (ramp_line t0 v0 rise run p) (subtract (whole about) t)
 mirrored t0 v0 rise t0' v0' rise' about run p p' t h j k = rw (j, k, above_neg rise, below_neg rise) record {
   same = omega (arith, ap (λ n. part_above rise * n * (t.den * run * t.den)) moved, ap (λ n. part_below rise * n * (t.den * run * t.den)) moved);
 }

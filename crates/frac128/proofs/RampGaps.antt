@@ -22,7 +22,8 @@ offset_parts f o h = omega (arith, mul_parts f.rise f.t0, first, second)
     first : part_above (f.v0 *ℤ pos f.run) + part_below f.v0 * f.run ≡ part_below (f.v0 *ℤ pos f.run) + part_above f.v0 * f.run
     first = omega (arith, parts)
 
-    second : part_above o + part_below (f.v0 *ℤ pos f.run) + part_above (f.rise *ℤ f.t0) ≡ part_below o + part_above (f.v0 *ℤ pos f.run) + part_below (f.rise *ℤ f.t0)
+    second : part_above o + part_below (f.v0 *ℤ pos f.run) + part_above (f.rise *ℤ f.t0)
+        ≡ part_below o + part_above (f.v0 *ℤ pos f.run) + part_below (f.rise *ℤ f.t0)
     second = omega (arith, parts)
 
 pub record RampGap (f g : Ramp) (of og base climb : ℤ) : Type 0 where
@@ -56,7 +57,8 @@ pub record ConstantGap (f : Ramp) (c : Frac) (top offset num climb : ℤ) : Type
   pub climb_is : climb ≡ f.rise *ℤ pos c.den
 
 -- and of a ramp and a constant
-pub gap_of_constant : (f : Ramp) (c : Frac) (top offset num climb : ℤ) → ConstantGap f c top offset num climb → IsGap (gap_line (line f) (constant (value c))) (neg_ℤ num) climb
+pub gap_of_constant : (f : Ramp) (c : Frac) (top offset num climb : ℤ) → ConstantGap f c top offset num climb
+    → IsGap (gap_line (line f) (constant (value c))) (neg_ℤ num) climb
 gap_of_constant f c top offset num climb h =
     gap_from_parts (gap_line (line f) (constant (value c))) (neg_ℤ num) climb
     (omega (arith, difference, ap (λ n. n * f.run) first, ap (λ n. n * c.den) (offset_parts f offset h.second)))
@@ -65,7 +67,8 @@ gap_of_constant f c top offset num climb h =
     first : part_above top + part_below c.whole * c.den ≡ part_below top + part_above c.whole * c.den + c.rest
     first = let e = h.first in omega (arith, parts)
 
-    difference : part_above (neg_ℤ num) + part_above top * f.run + part_below offset * c.den ≡ part_below (neg_ℤ num) + part_below top * f.run + part_above offset * c.den
+    difference : part_above (neg_ℤ num) + part_above top * f.run + part_below offset * c.den
+        ≡ part_below (neg_ℤ num) + part_below top * f.run + part_above offset * c.den
     difference = let e = h.num_is in omega (arith, parts)
 
 -- against a constant a ramp is parallel where it is level
@@ -77,8 +80,11 @@ pub parallel_of_level : (f : Ramp) (c : Frac) → Level (line f) → AreParallel
 parallel_of_level f c h = record { level = omega (arith, ap (λ n. n * c.den) h.level) }
 
 -- the time at which a ramp reaches a constant
-pub reaching : (f : Ramp) (c : Frac) (top offset num climb : ℤ) (o : Option Ratio) → ConstantGap f c top offset num climb → MatchOption o (climb ≡ pos 0) (λ q. IsQuotient num climb q.num q.den) → MatchOption o (Level (line f)) (λ q. ¬ (Level (line f)) × MeetAt (line f) (constant (value c)) (fraction q.num q.den))
-reaching f c top offset num climb None h k = level_of_parallel f c (meeting (line f) (constant (value c)) (neg_ℤ num) climb None (gap_of_constant f c top offset num climb h) k)
+pub reaching : (f : Ramp) (c : Frac) (top offset num climb : ℤ) (o : Option Ratio) → ConstantGap f c top offset num climb
+    → MatchOption o (climb ≡ pos 0) (λ q. IsQuotient num climb q.num q.den)
+    → MatchOption o (Level (line f)) (λ q. ¬ (Level (line f)) × MeetAt (line f) (constant (value c)) (fraction q.num q.den))
+reaching f c top offset num climb None h k =
+    level_of_parallel f c (meeting (line f) (constant (value c)) (neg_ℤ num) climb None (gap_of_constant f c top offset num climb h) k)
 reaching f c top offset num climb (Some q) h k =
     let turned : IsQuotient (neg_ℤ (neg_ℤ num)) climb q.num q.den = rw (neg_neg num) k in
     let m = meeting (line f) (constant (value c)) (neg_ℤ num) climb (Some q) (gap_of_constant f c top offset num climb h) turned in
@@ -88,7 +94,8 @@ reaching f c top offset num climb (Some q) h k =
     neg_neg z = omega (arith, ints)
 
 -- its denominator
-pub reaching_den : (f : Ramp) (c : Frac) (num climb : ℤ) (o : Option Ratio) → climb ≡ f.rise *ℤ pos c.den → MatchOption o (climb ≡ pos 0) (λ q. IsQuotient num climb q.num q.den) → IfSome o (λ q. unsigned_abs q.den ≡ unsigned_abs f.rise * c.den)
+pub reaching_den : (f : Ramp) (c : Frac) (num climb : ℤ) (o : Option Ratio) → climb ≡ f.rise *ℤ pos c.den → MatchOption o
+    (climb ≡ pos 0) (λ q. IsQuotient num climb q.num q.den) → IfSome o (λ q. unsigned_abs q.den ≡ unsigned_abs f.rise * c.den)
 reaching_den f c num climb None e k = tt
 reaching_den f c num climb (Some q) e (p, inl k) = ap unsigned_abs (k.1 ∙ e) ∙ unsigned_abs-mul f.rise (pos c.den)
 reaching_den f c num climb (Some q) e (p, inr k) = ap unsigned_abs k.1 ∙ abs_neg climb ∙ ap unsigned_abs e ∙ unsigned_abs-mul f.rise (pos c.den)

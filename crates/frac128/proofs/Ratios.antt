@@ -37,14 +37,17 @@ split_value {n} {d} {w} {r} m =
     rw (fraction-is n d p m.positive) (floor_value n d w r (unsigned_abs d) p (is_pos d m.positive) m.sum)
 
 -- numbers of one quotient are ordered as their rests
-pub order_by_rests : {n d w m e v : ℤ} {r s : ℕ} (o : Ordering) → Split n d w r → Split m e v s → int_cmp w v ≡ Equal → o ≡ nat_cmp (r * unsigned_abs e) (s * unsigned_abs d) → IsOrder o (fraction n d) (fraction m e)
+pub order_by_rests : {n d w m e v : ℤ} {r s : ℕ} (o : Ordering) → Split n d w r → Split m e v s → int_cmp w v ≡ Equal
+    → o ≡ nat_cmp (r * unsigned_abs e) (s * unsigned_abs d) → IsOrder o (fraction n d) (fraction m e)
 order_by_rests {n} {d} {w} {m} {e} {v} {r} {s} o h k i j =
     order_same o (split_value h) (split_value k) (order_by_rest o w v r (unsigned_abs d) s (unsigned_abs e) (abs_pos d h.positive) (abs_pos e k.positive) i j)
 
 -- and of two as their quotients
-pub order_by_wholes : {n d w m e v : ℤ} {r s : ℕ} (o : Ordering) → Split n d w r → Split m e v s → o ≡ int_cmp w v → (o ≡ Equal → ⊥) → IsOrder o (fraction n d) (fraction m e)
+pub order_by_wholes : {n d w m e v : ℤ} {r s : ℕ} (o : Ordering) → Split n d w r → Split m e v s → o ≡ int_cmp w v
+    → (o ≡ Equal → ⊥) → IsOrder o (fraction n d) (fraction m e)
 order_by_wholes {n} {d} {w} {m} {e} {v} {r} {s} o h k i j =
-    order_same o (split_value h) (split_value k) (order_by_whole o w v r (unsigned_abs d) s (unsigned_abs e) (abs_pos d h.positive) (abs_pos e k.positive) i j h.below k.below)
+    order_same o (split_value h) (split_value k)
+    (order_by_whole o w v r (unsigned_abs d) s (unsigned_abs e) (abs_pos d h.positive) (abs_pos e k.positive) i j h.below k.below)
 
 -- a fraction by its top
 pub top_value : (f : Frac) (top den : ℤ) → top ≡ f.whole *ℤ pos f.den +ℤ pos 1 *ℤ pos f.rest → den ≡ pos f.den → value f ≈ fraction top den
@@ -54,7 +57,8 @@ top_value f top den h e =
       sum = rw e sum;
       below = rw e f.below;
     } in
-    same_trans (same_by_rest f.whole f.whole f.rest f.den f.rest (unsigned_abs den) f.positive (abs_pos den split.positive) refl (ap (λ z. f.rest * unsigned_abs z) e)) (split_value split)
+    same_trans (same_by_rest f.whole f.whole f.rest f.den f.rest (unsigned_abs den) f.positive (abs_pos den split.positive) refl
+    (ap (λ z. f.rest * unsigned_abs z) e)) (split_value split)
   where
     sum : f.whole *ℤ pos f.den +ℤ pos f.rest ≡ top
     sum = omega (arith, ints)

@@ -18,4 +18,10 @@ instant_span t = record { from = t; from_in = true; to = t; to_in = true; not_em
 
 -- from one fraction to a later one
 abbrev pub span_between : (a : Frac) (a_in : Bool) (b : Frac) (b_in : Bool) → value a <ʳ value b → Span
-span_between a a_in b b_in h = record { from = a; from_in = a_in; to = b; to_in = b_in; not_empty = room_of_precedes (a_in && b_in) (value a) (value b) (precedes_of_lt (a_in && b_in) (value a) (value b) h) }
+span_between a a_in b b_in h = record {
+  from = a;
+  from_in = a_in;
+  to = b;
+  to_in = b_in;
+  not_empty = room_of_precedes (a_in && b_in) (value a) (value b) (precedes_of_lt (a_in && b_in) (value a) (value b) h);
+}

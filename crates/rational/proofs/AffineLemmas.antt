@@ -4,7 +4,8 @@ use Rattle.std.specs.declared.cmp.Ordering.{Ordering}
 use Rattle.std.specs.declared.cmp.Ordering.TheVariants.{Less, Equal, Greater}
 use Rattle.rational.specs.Rational.{Rational, ◌<ʳ◌, ◌≤ʳ◌, ◌≈◌, middle, negate}
 use Rattle.rational.specs.Line.{Line, at, Rises, Falls, Level, negate_line}
-use Rattle.rational.specs.Extended.{Extended, minus_infinity, finite, infinity, ◌≤ᵉ◌, ◌<ᵉ◌, ◌≈ᵉ◌, opposite, Affine, always_low, affine, always_high, value_at, Passes}
+use Rattle.rational.specs.Extended.{Extended, minus_infinity, finite, infinity, ◌≤ᵉ◌, ◌<ᵉ◌, ◌≈ᵉ◌}
+use Rattle.rational.specs.Extended.{opposite, Affine, always_low, affine, always_high, value_at, Passes}
 use Rattle.rational.specs.Affine.{IsOrderᵉ, IsBounded, IsSteady, MeetAlone}
 use Rattle.rational.proofs.Order.{le_or_lt, le_of_same, ge_of_same, le_of_lt, same_of_le, not_lt_of_le, lt_of_lt_of_le, left_of_middle, right_of_middle}
 use Rattle.rational.proofs.Field.{lt_negate}
@@ -157,7 +158,9 @@ pub above_start : (f : Affine) (l r : Rational) (w : Extended) → l <ʳ r → v
 above_start always_low l r w h k = at_middle l r (λ t. minus_infinity <ᵉ w) h k
 above_start always_high l r w h k = absurd k
 above_start (affine f) l r minus_infinity h k = absurd k
-above_start (affine f) l r (finite x) h k = let n = near_left (negate_line f) (negate x) h (negated_above f x l k) in (n.0, n.1, n.2, above_of_negated f x n.0 n.3)
+above_start (affine f) l r (finite x) h k =
+    let n = near_left (negate_line f) (negate x) h (negated_above f x l k) in
+    (n.0, n.1, n.2, above_of_negated f x n.0 n.3)
 above_start (affine f) l r infinity h k = at_middle l r (λ t. Unit {0}) h tt
 
 -- and from above at the later end
@@ -165,5 +168,7 @@ pub above_stop : (f : Affine) (l r : Rational) (w : Extended) → l <ʳ r → va
 above_stop always_low l r w h k = at_middle l r (λ t. minus_infinity <ᵉ w) h k
 above_stop always_high l r w h k = absurd k
 above_stop (affine f) l r minus_infinity h k = absurd k
-above_stop (affine f) l r (finite x) h k = let n = near_right (negate_line f) (negate x) h (negated_above f x r k) in (n.0, n.1, n.2, above_of_negated f x n.0 n.3)
+above_stop (affine f) l r (finite x) h k =
+    let n = near_right (negate_line f) (negate x) h (negated_above f x r k) in
+    (n.0, n.1, n.2, above_of_negated f x n.0 n.3)
 above_stop (affine f) l r infinity h k = at_middle l r (λ t. Unit {0}) h tt

@@ -2,7 +2,8 @@
 use Rattle.std.proofs.Common.{ℕ, pos, neg_ℤ, ◌⊎◌, inl, inr}
 use Rattle.rational.specs.Time.{Rational, ◌≤ʳ◌, ◌<ʳ◌, whole}
 use Rattle.rational.specs.Rational.{IsWithin}
-use Rattle.rational.specs.Extended.{Extended, minus_infinity, finite, infinity, ◌≤ᵉ◌, ◌<ᵉ◌, Affine, always_low, affine, always_high, value_at, opposite, IsLeast, IsGreatest, IsSup, IsInf}
+use Rattle.rational.specs.Extended.{Extended, minus_infinity, finite, infinity, ◌≤ᵉ◌, ◌<ᵉ◌, Affine, always_low}
+use Rattle.rational.specs.Extended.{affine, always_high, value_at, opposite, IsLeast, IsGreatest, IsSup, IsInf}
 use Rattle.rational.specs.Line.{at}
 use Rattle.rational.specs.Affine.{IsBounded, HasBoundedLevel}
 use Rattle.rational.specs.Windows.{Function}
@@ -44,7 +45,8 @@ bounded_stop n (affine f) l r h b = (low (le_or_lt (whole (neg_ℤ (pos n))) (at
     high (inr k) = let m = near_stop (affine f) l r (finite (whole (pos n))) h k in absurd (not_lt_of_le (b m.0 m.1 m.2).1 m.3)
 
 -- between two times a function is bounded that is so there
-pub bounded_between : (n : ℕ) (f : Affine) (l t r : Rational) → l <ʳ t → t <ʳ r → IsBounded n (value_at f l) → IsBounded n (value_at f r) → IsBounded n (value_at f t)
+pub bounded_between : (n : ℕ) (f : Affine) (l t r : Rational) → l <ʳ t → t <ʳ r → IsBounded n (value_at f l)
+    → IsBounded n (value_at f r) → IsBounded n (value_at f t)
 bounded_between n always_low l t r h k a b = tt
 bounded_between n always_high l t r h k a b = tt
 bounded_between n (affine f) l t r h k a b = by_order (lies_between (affine f) l t r h k)
@@ -70,17 +72,20 @@ pub left_limit_bounded : (n : ℕ) (F : Function) (u : Rational) (v : Extended) 
 left_limit_bounded n F u v h l = bounded_same n v (value_at l.line u) l.value (bounded_stop n l.line l.a u l.above (line_bounded n F l.line l.a u h l.on))
 
 -- the Sup of bounded values is bounded
-pub sup_bounded : (n : ℕ) (Q : Extended → Type 0) (lowest r : Extended) → IsBounded n lowest → ((v : Extended) → Q v → IsBounded n v) → IsSup lowest Q r → IsBounded n r
+pub sup_bounded : (n : ℕ) (Q : Extended → Type 0) (lowest r : Extended) → IsBounded n lowest
+    → ((v : Extended) → Q v → IsBounded n v) → IsSup lowest Q r → IsBounded n r
 sup_bounded n Q lowest minus_infinity b h s = tt
 sup_bounded n Q lowest infinity b h s = tt
-sup_bounded n Q lowest (finite x) b h s = (low lowest b s.at_least (s.reached minus_infinity) (le_or_lt (whole (neg_ℤ (pos n))) x), high (le_or_lt x (whole (pos n))))
+sup_bounded n Q lowest (finite x) b h s =
+    (low lowest b s.at_least (s.reached minus_infinity) (le_or_lt (whole (neg_ℤ (pos n))) x), high (le_or_lt x (whole (pos n))))
   where
     from_below : (v : Extended) → IsBounded n v → minus_infinity <ᵉ v → v ≤ᵉ finite x → whole (neg_ℤ (pos n)) ≤ʳ x
     from_below minus_infinity c k l = absurd k
     from_below (finite y) c k l = le_trans c.0 l
     from_below infinity c k l = absurd l
 
-    low : (lowest : Extended) → IsBounded n lowest → lowest ≤ᵉ finite x → (lowest ≤ᵉ minus_infinity → minus_infinity <ᵉ finite x → (v : Extended) × Q v × (minus_infinity <ᵉ v))
+    low : (lowest : Extended) → IsBounded n lowest → lowest ≤ᵉ finite x
+        → (lowest ≤ᵉ minus_infinity → minus_infinity <ᵉ finite x → (v : Extended) × Q v × (minus_infinity <ᵉ v))
         → (whole (neg_ℤ (pos n)) ≤ʳ x) ⊎ (x <ʳ whole (neg_ℤ (pos n))) → whole (neg_ℤ (pos n)) ≤ʳ x
     low minus_infinity c k reached o = let v = reached tt tt in from_below v.0 (h v.0 v.1) v.2 (s.bound v.0 v.1)
     low (finite y) c k reached o = le_trans c.0 k
@@ -123,7 +128,8 @@ greatest_bounded n v w r greatest h k = by_one greatest.one_of
     by_one (inr e) = bounded_same n r w (record { at_most = e; at_least = greatest.right }) k
 
 -- an Inf of bounded values is bounded
-pub inf_bounded : (n : ℕ) (highest : Extended) (V : Extended → Type 0) (r : Extended) → IsInf highest V r → IsBounded n highest → ((v : Extended) → V v → IsBounded n v) → IsBounded n r
+pub inf_bounded : (n : ℕ) (highest : Extended) (V : Extended → Type 0) (r : Extended) → IsInf highest V r → IsBounded n highest
+    → ((v : Extended) → V v → IsBounded n v) → IsBounded n r
 inf_bounded n highest V minus_infinity inf high all = tt
 inf_bounded n highest V infinity inf high all = tt
 inf_bounded n highest V (finite x) inf high all = (not_below (le_or_lt (whole (neg_ℤ (pos n))) x), not_above (le_or_lt x (whole (pos n))))
@@ -140,14 +146,17 @@ inf_bounded n highest V (finite x) inf high all = (not_below (le_or_lt (whole (n
 
     not_below : (whole (neg_ℤ (pos n)) ≤ʳ x) ⊎ (x <ʳ whole (neg_ℤ (pos n))) → whole (neg_ℤ (pos n)) ≤ʳ x
     not_below (inl h) = h
-    not_below (inr h) = let m = inf.reached (finite (whole (neg_ℤ (pos n)))) h (highest_at_least highest inf.at_most high) in absurd (member_below m.0 m.2 (inf.bound m.0 m.1) (all m.0 m.1))
+    not_below (inr h) =
+        let m = inf.reached (finite (whole (neg_ℤ (pos n)))) h (highest_at_least highest inf.at_most high) in
+        absurd (member_below m.0 m.2 (inf.bound m.0 m.1) (all m.0 m.1))
 
     member_above : (v : Extended) → v <ᵉ infinity → finite x ≤ᵉ v → IsBounded n v → x ≤ʳ whole (pos n)
     member_above minus_infinity h k b = absurd k
     member_above (finite y) h k b = le_trans k b.1
     member_above infinity h k b = absurd h
 
-    from_highest : (h : Extended) → finite x ≤ᵉ h → IsBounded n h → ((w : Extended) → finite x <ᵉ w → w ≤ᵉ h → (v : Extended) × V v × (v <ᵉ w)) → x ≤ʳ whole (pos n)
+    from_highest : (h : Extended) → finite x ≤ᵉ h → IsBounded n h
+        → ((w : Extended) → finite x <ᵉ w → w ≤ᵉ h → (v : Extended) × V v × (v <ᵉ w)) → x ≤ʳ whole (pos n)
     from_highest minus_infinity k b reached = absurd k
     from_highest (finite y) k b reached = le_trans k b.1
     from_highest infinity k b reached = let m = reached infinity tt tt in member_above m.0 m.2 (inf.bound m.0 m.1) (all m.0 m.1)

@@ -20,7 +20,8 @@ level_is n t = finite_same (at_constant (whole n) t)
 
 -- it does not move
 pub level_steady : (n : ℤ) → IsSteady (level n)
-level_steady n t u = same_transᵉ (value_at (level n) t) (finite (whole n)) (value_at (level n) u) (level_is n t) (same_symᵉ (value_at (level n) u) (finite (whole n)) (level_is n u))
+level_steady n t u = same_transᵉ (value_at (level n) t) (finite (whole n)) (value_at (level n) u) (level_is n t)
+    (same_symᵉ (value_at (level n) u) (finite (whole n)) (level_is n u))
 
 -- minus a constant is the constant of minus its number
 pub level_negated : (n m : ℤ) (t : Rational) → m ≡ neg_ℤ n → value_at (level m) t ≈ᵉ opposite (value_at (level n) t)
@@ -38,7 +39,8 @@ level_negated n m t e =
 pub level_order : (o : Ordering) (n m : ℤ) (t u : Rational) → o ≡ int_cmp n m → IsOrderᵉ o (value_at (level n) t) (value_at (level m) u)
 level_order o n m t u e =
     order_sameᵉ o (finite (whole n)) (value_at (level n) t) (finite (whole m)) (value_at (level m) u)
-    (same_symᵉ (value_at (level n) t) (finite (whole n)) (level_is n t)) (same_symᵉ (value_at (level m) u) (finite (whole m)) (level_is m u)) (by_order o (int_ranked n m o e))
+    (same_symᵉ (value_at (level n) t) (finite (whole n)) (level_is n t))
+    (same_symᵉ (value_at (level m) u) (finite (whole m)) (level_is m u)) (by_order o (int_ranked n m o e))
   where
     by_order : (o : Ordering) → MatchOrdering o (n <ℤ m) (n ≡ m) (m <ℤ n) → IsOrderᵉ o (finite (whole n)) (finite (whole m))
     by_order Less l = lt_whole l
@@ -56,7 +58,8 @@ one_level n m h = by_order (int_cmp n m) refl
     by_order : (o : Ordering) → o ≡ int_cmp n m → n ≡ m
     by_order Less e = clashᵉ (value_at (level n) (whole n)) (value_at (level m) (whole n)) (level_order Less n m (whole n) (whole n) e) (h (whole n)).at_least
     by_order Equal e = int_ranked n m Equal e
-    by_order Greater e = clashᵉ (value_at (level m) (whole n)) (value_at (level n) (whole n)) (level_order Greater n m (whole n) (whole n) e) (h (whole n)).at_most
+    by_order Greater e = clashᵉ (value_at (level m) (whole n)) (value_at (level n) (whole n))
+        (level_order Greater n m (whole n) (whole n) e) (h (whole n)).at_most
 
 -- a constant is at least what its number is at least
 pub level_at_least : (low n : ℤ) (t : Rational) → low ≤ℤ n → finite (whole low) ≤ᵉ value_at (level n) t
@@ -67,7 +70,8 @@ pub level_at_most : (high n : ℤ) (t : Rational) → n ≤ℤ high → value_at
 level_at_most high n t h = le_transᵉ (value_at (level n) t) (finite (whole n)) (finite (whole high)) (level_is n t).at_most (le_whole h)
 
 -- a comparison that answers equal says that the constants are one function
-pub level_equal : (o : Ordering) (n m : ℤ) → o ≡ int_cmp n m → (IsTrue (is_eq o) → AreSame (level n) (level m)) × (AreSame (level n) (level m) → IsTrue (is_eq o))
+pub level_equal : (o : Ordering) (n m : ℤ) → o ≡ int_cmp n m
+    → (IsTrue (is_eq o) → AreSame (level n) (level m)) × (AreSame (level n) (level m) → IsTrue (is_eq o))
 level_equal Less n m e = (λ h. cc, λ h. absurd (apart (one_level n m h)))
   where
     apart : n ≡ m → ⊥

@@ -6,7 +6,8 @@ use Rattle.rational.specs.Extended.{Extended, ◌≈ᵉ◌, Affine, value_at}
 use Rattle.rational.specs.Affine.{AreSame}
 use Rattle.rational.specs.Windows.{Function}
 use Rattle.rational.specs.InPlay.{IsLineOn, IsLeftLimit, IsRightLimit}
-use Rattle.rational.proofs.Order.{le_refl, le_or_lt, le_of_lt, le_of_same, ge_of_same, lt_trans, lt_of_lt_of_le, lt_of_le_of_lt, left_of_middle, right_of_middle}
+use Rattle.rational.proofs.Order.{le_refl, le_or_lt, le_of_lt, le_of_same, ge_of_same, lt_trans}
+use Rattle.rational.proofs.Order.{lt_of_lt_of_le, lt_of_le_of_lt, left_of_middle, right_of_middle}
 use Rattle.rational.proofs.AffineLemmas.{same_symᵉ, same_transᵉ, value_same, affine_unique}
 
 -- a function of time has one value at a time
@@ -19,7 +20,10 @@ line_on_part F line h k on = λ t x y. on t (lt_of_le_of_lt h x) (lt_of_lt_of_le
 
 -- two lines that a function is on one interval are one
 pub lines_same : (F : Function) (f g : Affine) {a b : Rational} → HasOneValue F → a <ʳ b → IsLineOn F a b f → IsLineOn F a b g → AreSame f g
-lines_same F f g {a} {b} one h on on' = λ t. record { at_most = affine_unique f g n m t order (here n n_after n_before) (here m m_after m_before); at_least = affine_unique g f n m t order (there n n_after n_before) (there m m_after m_before) }
+lines_same F f g {a} {b} one h on on' = λ t. record {
+  at_most = affine_unique f g n m t order (here n n_after n_before) (here m m_after m_before);
+  at_least = affine_unique g f n m t order (there n n_after n_before) (there m m_after m_before);
+}
   where
     m : Rational
     m = middle a b
@@ -66,13 +70,15 @@ limits_same f g u v w same h k = same_transᵉ v (value_at f u) w h (same_trans�
 pub right_limit_one : {F : Function} {u : Rational} (v w : Extended) → HasOneValue F → IsRightLimit F u v → IsRightLimit F u w → v ≈ᵉ w
 right_limit_one {F} {u} v w one h k =
     let c = earlier_end h.below k.below in
-    limits_same h.line k.line u v w (lines_same F h.line k.line one c.1 (line_on_part F h.line (le_refl u) c.2 h.on) (line_on_part F k.line (le_refl u) c.3 k.on)) h.value k.value
+    limits_same h.line k.line u v w
+    (lines_same F h.line k.line one c.1 (line_on_part F h.line (le_refl u) c.2 h.on) (line_on_part F k.line (le_refl u) c.3 k.on)) h.value k.value
 
 -- so from the left
 pub left_limit_one : {F : Function} {u : Rational} (v w : Extended) → HasOneValue F → IsLeftLimit F u v → IsLeftLimit F u w → v ≈ᵉ w
 left_limit_one {F} {u} v w one h k =
     let c = later_end h.above k.above in
-    limits_same h.line k.line u v w (lines_same F h.line k.line one c.1 (line_on_part F h.line c.2 (le_refl u) h.on) (line_on_part F k.line c.3 (le_refl u) k.on)) h.value k.value
+    limits_same h.line k.line u v w
+    (lines_same F h.line k.line one c.1 (line_on_part F h.line c.2 (le_refl u) h.on) (line_on_part F k.line c.3 (le_refl u) k.on)) h.value k.value
 
 -- by whichever pairs the time and the value are written
 pub right_limit_same : {F : Function} {t u : Rational} (v w : Extended) → t ≈ u → v ≈ᵉ w → IsRightLimit F t v → IsRightLimit F u w

@@ -1,11 +1,14 @@
 -- Lowest terms: each number has one denominator in them.
-use Rattle.std.proofs.Common.{◌≡◌, ℕ, ℤ, pos, negsuc, neg_ℤ, ◌-ℤ◌, zero, suc, ◌+ℤ◌, ◌*ℤ◌, ◌+◌, ◌*◌, ◌%◌, ◌/◌, ◌<◌, ◌≤◌, ◌⊎◌, inl, inr, arith, ap, sym, refl, ◌∙◌, subst, mul-pos, nat_abs, one-mul}
+use Rattle.std.proofs.Common.{◌≡◌, ℕ, ℤ, pos, negsuc, neg_ℤ, ◌-ℤ◌, zero, suc, ◌+ℤ◌, ◌*ℤ◌, ◌+◌, ◌*◌, ◌%◌, ◌/◌, ◌<◌}
+use Rattle.std.proofs.Common.{◌≤◌, ◌⊎◌, inl, inr, arith, ap, sym, refl, ◌∙◌, subst, mul-pos, nat_abs, one-mul}
 use Prim.Native.Nat.{◌∣◌}
 use Rattle.std.specs.Int.{IsGcd}
 use Rattle.std.proofs.lemmas.Int.{ints}
 use Rattle.std.proofs.lemmas.Nat.{div-add-mod', mod_below, mod-mul-add}
 use Rattle.std.proofs.lemmas.Nat.Gcd.{le_of_dvd, IsGcd-from_zero, IsGcd-from_mod, dvd_antisymm, mod-eq-zero_of_dvd}
-use Rattle.std.proofs.Math.Nat.{dvd-mul_left, dvd-mul_right, zero-lt-suc, mul-lt-mul_of_pos_right, dvd-add_iff_left, dvd-add_iff_right, dvd-mul_left_of_dvd, mul-dvd-mul_right, dvd_of_mul-dvd-mul_right, eq-one_of_dvd-one, eq-zero_of_zero-dvd, div-mul_cancel}
+use Rattle.std.proofs.Math.Nat.{dvd-mul_left, dvd-mul_right, zero-lt-suc, mul-lt-mul_of_pos_right, dvd-add_iff_left}
+use Rattle.std.proofs.Math.Nat.{dvd-add_iff_right, dvd-mul_left_of_dvd, mul-dvd-mul_right, dvd_of_mul-dvd-mul_right}
+use Rattle.std.proofs.Math.Nat.{eq-one_of_dvd-one, eq-zero_of_zero-dvd, div-mul_cancel}
 use Rattle.rational.specs.Rational.{Rational, ◌≈◌, part_above, part_below, ratio, fraction, mixed}
 use Rattle.rational.specs.Time.{Divides, IsLowest, HasDenominator}
 use Rattle.rational.proofs.Order.{same_sym, same_trans}
@@ -34,7 +37,8 @@ pub lowest_of_gcd : (n d g r e : ℕ) → 0 < d → IsGcd n d g → r * g ≡ n 
 lowest_of_gcd n d g r e p h i j q = record {
   positive = q;
   coprime = λ k a b.
-      let divides : k * g ∣ g = h.2 (k * g) (subst (λ x. k * g ∣ x) i (mul-dvd-mul_right k (dvd_of_Divides k r a) g)) (subst (λ x. k * g ∣ x) j (mul-dvd-mul_right k (dvd_of_Divides k e b) g)) in
+      let divides : k * g ∣ g = h.2 (k * g) (subst (λ x. k * g ∣ x) i (mul-dvd-mul_right k (dvd_of_Divides k r a) g))
+      (subst (λ x. k * g ∣ x) j (mul-dvd-mul_right k (dvd_of_Divides k e b) g)) in
       eq-one_of_dvd-one (dvd_of_mul-dvd-mul_right k (gcd_pos n d g p h) (subst (λ x. k * g ∣ x) (sym (one-mul g)) divides));
 }
 
@@ -42,7 +46,8 @@ lowest_of_gcd n d g r e p h i j q = record {
 pub lowest_mirror : (r d s : ℕ) → s + r ≡ d → IsLowest (pos r) d → IsLowest (pos s) d
 lowest_mirror r d s e h = record {
   positive = h.positive;
-  coprime = λ k a b. coprime (pos r) d h k ((dvd-add_iff_right k {m = s} {n = r} (dvd_of_Divides k s a)).1 (subst (λ x. k ∣ x) (sym e) (dvd_of_Divides k d b))) (dvd_of_Divides k d b);
+  coprime = λ k a b. coprime (pos r) d h k
+      ((dvd-add_iff_right k {m = s} {n = r} (dvd_of_Divides k s a)).1 (subst (λ x. k ∣ x) (sym e) (dvd_of_Divides k d b))) (dvd_of_Divides k d b);
 }
 
 -- whole numbers are in lowest terms over 1
@@ -73,7 +78,8 @@ lowest_add w r d h = record {
   positive = h.positive;
   coprime = λ k a b.
       let divides : k ∣ d = dvd_of_Divides k d b in
-      coprime (pos r) d h k (dvd_tied r (nat_abs (w *ℤ pos d +ℤ pos r)) d k (tied_rest (w *ℤ pos d +ℤ pos r) w r d refl) divides (dvd_of_Divides k (nat_abs (w *ℤ pos d +ℤ pos r)) a)) divides;
+      coprime (pos r) d h k (dvd_tied r (nat_abs (w *ℤ pos d +ℤ pos r)) d k (tied_rest (w *ℤ pos d +ℤ pos r) w r d refl) divides
+      (dvd_of_Divides k (nat_abs (w *ℤ pos d +ℤ pos r)) a)) divides;
 }
 
 -- the denominator of a number with a whole part and a rest in lowest terms
@@ -98,8 +104,12 @@ scaled_gcd most a zero h = (a, IsGcd-from_zero a zero refl, λ e p. IsGcd-from_z
 scaled_gcd zero a (suc b) h = absurd (omega arith)
 scaled_gcd (suc most) a (suc b) h =
     let below = mod_below a (suc b) (zero-lt-suc b) in
-    let r = scaled_gcd most (suc b) (a % suc b) (omega arith) in
-    (r.0, IsGcd-from_mod a (suc b) r.0 r.1, λ e p. IsGcd-from_mod (a * e) (suc b * e) (r.0 * e) (subst (λ x. IsGcd (suc b * e) x (r.0 * e)) (sym (mod_scaled a (suc b) e (zero-lt-suc b) p)) (r.2 e p)))
+    let r = scaled_gcd most (suc b) (a % suc b) (omega arith) in (
+      r.0,
+      IsGcd-from_mod a (suc b) r.0 r.1,
+      λ e p. IsGcd-from_mod (a * e) (suc b * e) (r.0 * e)
+          (subst (λ x. IsGcd (suc b * e) x (r.0 * e)) (sym (mod_scaled a (suc b) e (zero-lt-suc b) p)) (r.2 e p)),
+    )
 
 -- what divides a product and is prime to one factor divides the other
 pub divides_other : (num : ℤ) (d e : ℕ) → 0 < e → IsLowest num d → d ∣ nat_abs num * e → d ∣ e
@@ -130,11 +140,17 @@ pub denominator_divides : (num : ℤ) (k d : ℕ) (p : 0 < k) → HasDenominator
 denominator_divides num k d p h = divides_other h.0 d k p h.1 (subst (λ x. d ∣ x) (sizes num h.0 k d p h.1.positive h.2) (dvd-mul_left d (nat_abs num)))
 
 pub record Reduced (n k : ℕ) : Type 0 where
+  -- the numerator in lowest terms
   pub top : ℕ
+  -- the denominator in lowest terms
   pub bottom : ℕ
+  -- what both were divided by
   pub factor : ℕ
+  -- the numerator is a multiple of it
   pub top_is : top * factor ≡ n
+  -- so is the denominator, by the same factor
   pub bottom_is : bottom * factor ≡ k
+  -- nothing but 1 divides both
   pub lowest : IsLowest (pos top) bottom
 
 reduced : (n k : ℕ) → 0 < k → Reduced n k
@@ -163,8 +179,18 @@ lowest_negated n d h = record { positive = h.positive; coprime = λ k i j. h.cop
 
 -- each fraction has a denominator in lowest terms
 of_ratio : (z : ℤ) (k : ℕ) (p : 0 < k) → (d : ℕ) × HasDenominator (ratio z k p) d
-of_ratio (pos n) k p = let r = reduced n k p in (r.bottom, (pos r.top, r.lowest, record { same = omega (arith, ap (λ x. x * r.bottom) r.top_is, ap (λ x. r.top * x) r.bottom_is) }))
-of_ratio (negsuc n) k p = let r = reduced (suc n) k p in (r.bottom, (neg_ℤ (pos r.top), lowest_negated r.top r.bottom r.lowest, record { same = omega (arith, ap (λ x. x * r.bottom) r.top_is, ap (λ x. r.top * x) r.bottom_is, ap (λ x. x * k) (neg_parts r.top)) }))
+of_ratio (pos n) k p =
+    let r = reduced n k p in
+    (r.bottom, (pos r.top, r.lowest, record { same = omega (arith, ap (λ x. x * r.bottom) r.top_is, ap (λ x. r.top * x) r.bottom_is) }))
+of_ratio (negsuc n) k p =
+    let r = reduced (suc n) k p in (
+      r.bottom,
+      (
+        neg_ℤ (pos r.top),
+        lowest_negated r.top r.bottom r.lowest,
+        record { same = omega (arith, ap (λ x. x * r.bottom) r.top_is, ap (λ x. r.top * x) r.bottom_is, ap (λ x. x * k) (neg_parts r.top)) },
+      ),
+    )
 
 -- and so has each number
 pub has_denominator : (a : Rational) → (d : ℕ) × HasDenominator a d
@@ -179,4 +205,5 @@ has_denominator a = let h = of_ratio (pos a.up -ℤ pos a.down) a.den a.positive
 -- a fraction in lowest terms has no larger denominator
 pub denominator_at_most : (num den : ℤ) (k d : ℕ) → HasDenominator (fraction num den) d → den ≡ pos k → 0 < k → d ≤ k
 denominator_at_most num den zero d h e p = absurd (omega arith)
-denominator_at_most num den (suc k) d h e p = le_of_dvd p (denominator_divides num (suc k) d (zero-lt-suc k) (subst (λ n. HasDenominator (fraction num n) d) e h))
+denominator_at_most num den (suc k) d h e p =
+    le_of_dvd p (denominator_divides num (suc k) d (zero-lt-suc k) (subst (λ n. HasDenominator (fraction num n) d) e h))

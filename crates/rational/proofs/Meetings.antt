@@ -4,7 +4,8 @@ use Rattle.std.specs.declared.cmp.Ordering.{Ordering}
 use Rattle.std.specs.declared.cmp.Ordering.TheVariants.{Less, Equal, Greater}
 use Rattle.rational.specs.Rational.{Rational, ◌≤ʳ◌, ◌<ʳ◌, ◌≈◌, subtract, whole, IsOrder}
 use Rattle.rational.specs.Line.{Line, Rises, Falls, Level, at, gap_line, AreParallel, MeetAt, CrossAt, AreOpposite}
-use Rattle.rational.proofs.Order.{le_of_lt, le_of_same, ge_of_same, le_trans, lt_of_le_of_lt, lt_of_lt_of_le, lt_or_same_or_gt, not_lt_of_le, lt_trans, same_refl, same_sym, same_trans}
+use Rattle.rational.proofs.Order.{le_of_lt, le_of_same, ge_of_same, le_trans, lt_of_le_of_lt, lt_of_lt_of_le}
+use Rattle.rational.proofs.Order.{lt_or_same_or_gt, not_lt_of_le, lt_trans, same_refl, same_sym, same_trans}
 use Rattle.rational.proofs.Compare.{order_same}
 use Rattle.rational.proofs.Lines.{same_at, lt_at_cancel, at_gap, at_level, slope_of, lt_at, lt_at_falls, same_of_zero, zero_of_same}
 
@@ -102,7 +103,8 @@ pub cross_swap : {l r t : Rational} (f g : Line) → CrossAt f g l r t → Cross
 cross_swap f g c = record { after = c.after; before = c.before; meet = meet_swap f g c.meet }
 
 -- lines whose order does not turn over do not cross
-pub not_turned : (before after : Ordering) (f g : Line) (l r t : Rational) → l <ʳ r → ¬ (AreOpposite before after) → IsOrder before (at f l) (at g l) → IsOrder after (at f r) (at g r) → ¬ (CrossAt f g l r t)
+pub not_turned : (before after : Ordering) (f g : Line) (l r t : Rational) → l <ʳ r → ¬ (AreOpposite before after)
+    → IsOrder before (at f l) (at g l) → IsOrder after (at f r) (at g r) → ¬ (CrossAt f g l r t)
 not_turned Less Less f g l r t h n j k = not_crossed f g l r t h (le_of_lt j) (le_of_lt k)
 not_turned Less Equal f g l r t h n j k = not_crossed f g l r t h (le_of_lt j) (le_of_same k)
 not_turned Less Greater f g l r t h n j k = absurd (n refl)
@@ -114,7 +116,8 @@ not_turned Greater Equal f g l r t h n j k = λ c. not_crossed g f l r t h (le_o
 not_turned Greater Greater f g l r t h n j k = λ c. not_crossed g f l r t h (le_of_lt j) (le_of_lt k) (cross_swap f g c)
 
 -- lines whose order turns over meet between
-pub turned : (before after : Ordering) (f g : Line) (l r t : Rational) → l <ʳ r → AreOpposite before after → IsOrder before (at f l) (at g l) → IsOrder after (at f r) (at g r) → MeetAt f g t → CrossAt f g l r t
+pub turned : (before after : Ordering) (f g : Line) (l r t : Rational) → l <ʳ r → AreOpposite before after
+    → IsOrder before (at f l) (at g l) → IsOrder after (at f r) (at g r) → MeetAt f g t → CrossAt f g l r t
 turned Less Less f g l r t h n j k m = absurd (cc)
 turned Less Equal f g l r t h n j k m = absurd (cc)
 turned Less Greater f g l r t h n j k m = let b = crossed f g l r t h j k m.equal in record { after = b.0; before = b.1; meet = m }

@@ -5,7 +5,8 @@ use lib.IntN.{neg_ℤ}
 use Rattle.rational.specs.Rational.{Rational, negate, ratio, ◌<ʳ◌, ◌≈◌}
 use Rattle.rational.specs.Time.{Within, Divides, IsLowest, HasDenominator}
 use Rattle.rational.specs.Extended.{Extended, finite, ◌≈ᵉ◌, Affine, value_at}
-use Rattle.rational.specs.InPlay.{IsLineOn, IsPart, IsBreakpoint, start, stop, inner, IsLeftLimit, IsRightLimit, IsCrossing, IsNext, IsPrevious, IsInPlay, since_start, until_end, IsWideCrossing, IsWideValue}
+use Rattle.rational.specs.InPlay.{IsLineOn, IsPart, IsBreakpoint, start, stop, inner, IsLeftLimit, IsRightLimit, IsCrossing}
+use Rattle.rational.specs.InPlay.{IsNext, IsPrevious, IsInPlay, since_start, until_end, IsWideCrossing, IsWideValue}
 use Rattle.rational.specs.Windows.{Function}
 use Rattle.rational.proofs.Order.{le_of_same, ge_of_same, le_trans, lt_of_lt_of_le, lt_of_le_of_lt, same_refl, same_sym, same_trans}
 use Rattle.rational.proofs.Field.{lt_negate, le_negate, same_negate}
@@ -85,10 +86,15 @@ value_back P P' back u v (inr l) = inr (limit_back P P' back u v l)
 
 -- three functions that run back, over a domain that runs back
 pub record AreBack (P P' Q Q' R R' : Function) (from to from' to' : Rational) : Type 0 where
+  -- the left side runs back
   pub left : RunsBack P P'
+  -- the right side runs back
   pub right : RunsBack Q Q'
+  -- what is made of them runs back
   pub made : RunsBack R R'
+  -- the domain begins where the other ends
   pub first : from ≈ negate to'
+  -- and ends where the other begins
   pub last : to ≈ negate from'
 
 module _ {P P' Q Q' R R' : Function} {from to from' to' : Rational} (back : AreBack P P' Q Q' R R' from to from' to') where
@@ -136,7 +142,8 @@ module _ {P P' Q Q' R R' : Function} {from to from' to' : Rational} (back : AreB
 
   -- a crossing that is in play
   pub crossing_cause : (f g f' g' : Affine) (a b a' b' : Rational) (den : ℕ) → IsBack f' f → IsBack g' g → a ≈ negate b' → b ≈ negate a'
-      → IsWideCrossing (IsInPlay (since_start P' Q' R') from' to') from' to' f' g' a' b' den → IsWideCrossing (IsInPlay (until_end P Q R) from to) from to f g a b den
+      → IsWideCrossing (IsInPlay (since_start P' Q' R') from' to') from' to' f' g' a' b' den
+      → IsWideCrossing (IsInPlay (until_end P Q R) from to) from to f g a b den
   crossing_cause f g f' g' a b a' b' den h k e e' w = record {
     tau = negate w.tau;
     after_start = lt_of_le_of_lt (le_of_same back.first) (lt_negate w.before_stop);
@@ -172,7 +179,8 @@ module _ {P P' Q Q' R R' : Function} {from to from' to' : Rational} (back : AreB
       denominator_back t den (num, lowest, same) = (neg_ℤ num, lowest_back num den lowest, same_trans (same_negate same) (ratio_back num den lowest.positive))
 
   -- a constant that is in play
-  pub value_cause : (f f' : Affine) (u u' : Rational) (den : ℕ) → IsBack f' f → u ≈ negate u' → IsWideValue (IsInPlay (since_start P' Q' R') from' to') from' to' f' u' den
+  pub value_cause : (f f' : Affine) (u u' : Rational) (den : ℕ) → IsBack f' f → u ≈ negate u'
+      → IsWideValue (IsInPlay (since_start P' Q' R') from' to') from' to' f' u' den
       → IsWideValue (IsInPlay (until_end P Q R) from to) from to f u den
   value_cause f f' u u' den h e w =
       let g = turned_affine w.line in

@@ -8,10 +8,12 @@ use Rattle.rational.specs.Windows.{Window, IsSupOver, IsInfOver}
 use Rattle.rational.proofs.Order.{le_refl, le_of_lt, le_of_same, ge_of_same, le_or_lt, same_of_le, left_of_middle, right_of_middle}
 use Rattle.rational.proofs.Lines.{same_at, near_right, at_negate, slope_of, lt_at, lt_at_falls}
 use Rattle.rational.proofs.Sup.{near_left, below_an_end}
-use Rattle.rational.proofs.ExtendedLemmas.{clashᵉ, le_reflᵉ, le_transᵉ, lt_of_lt_of_leᵉ, lt_of_le_of_ltᵉ, lt_opposite, opposite_le, opposite_le', opposite_twice}
+use Rattle.rational.proofs.ExtendedLemmas.{clashᵉ, le_reflᵉ, le_transᵉ, lt_of_lt_of_leᵉ, lt_of_le_of_ltᵉ}
+use Rattle.rational.proofs.ExtendedLemmas.{lt_opposite, opposite_le, opposite_le', opposite_twice}
 
 -- sets with the same members have one Sup
-pub sup_same : {P Q : Extended → Type 0} {lowest r : Extended} → ((v : Extended) → P v → Q v) → ((v : Extended) → Q v → P v) → IsSup lowest P r → IsSup lowest Q r
+pub sup_same : {P Q : Extended → Type 0} {lowest r : Extended} → ((v : Extended) → P v → Q v) → ((v : Extended) → Q v → P v)
+    → IsSup lowest P r → IsSup lowest Q r
 sup_same i j h = record {
   at_least = h.at_least;
   bound = λ v m. h.bound v (j v m);
@@ -19,7 +21,8 @@ sup_same i j h = record {
 }
 
 -- so for the Inf
-pub inf_same : {P Q : Extended → Type 0} {highest r : Extended} → ((v : Extended) → P v → Q v) → ((v : Extended) → Q v → P v) → IsInf highest P r → IsInf highest Q r
+pub inf_same : {P Q : Extended → Type 0} {highest r : Extended} → ((v : Extended) → P v → Q v) → ((v : Extended) → Q v → P v)
+    → IsInf highest P r → IsInf highest Q r
 inf_same i j h = record {
   at_most = h.at_most;
   bound = λ v m. h.bound v (j v m);
@@ -51,7 +54,8 @@ pub inf_of_none : {P : Extended → Type 0} (highest : Extended) → ((v : Exten
 inf_of_none highest n = record { at_most = le_reflᵉ highest; bound = λ v m. absurd (n v m); reached = λ w k l. clashᵉ highest w k l }
 
 -- the Sup of a union is the greatest of the Sups
-pub sup_of_union : {P Q : Extended → Type 0} {lowest : Extended} (a b r : Extended) → IsSup lowest P a → IsSup lowest Q b → IsGreatest a b r → IsSup lowest (λ v. P v ⊎ Q v) r
+pub sup_of_union : {P Q : Extended → Type 0} {lowest : Extended} (a b r : Extended) → IsSup lowest P a → IsSup lowest Q b
+    → IsGreatest a b r → IsSup lowest (λ v. P v ⊎ Q v) r
 sup_of_union {P} {Q} {lowest} a b r h k g = record {
   at_least = le_transᵉ lowest a r h.at_least g.left;
   bound = bound;
@@ -67,7 +71,8 @@ sup_of_union {P} {Q} {lowest} a b r h k g = record {
     by_one w l m (inr e) = let x = k.reached w l (lt_of_lt_of_leᵉ w r b m e) in (x.0, inr x.1, x.2)
 
 -- the Inf of a union is the least of the Infs
-pub inf_of_union : {P Q : Extended → Type 0} {highest : Extended} (a b r : Extended) → IsInf highest P a → IsInf highest Q b → IsLeast a b r → IsInf highest (λ v. P v ⊎ Q v) r
+pub inf_of_union : {P Q : Extended → Type 0} {highest : Extended} (a b r : Extended) → IsInf highest P a → IsInf highest Q b
+    → IsLeast a b r → IsInf highest (λ v. P v ⊎ Q v) r
 inf_of_union {P} {Q} {highest} a b r h k g = record {
   at_most = le_transᵉ r a highest g.left h.at_most;
   bound = bound;
@@ -84,8 +89,11 @@ inf_of_union {P} {Q} {highest} a b r h k g = record {
 
 -- a window that holds all times strictly between l and r, and none outside
 pub record Spans (W : Window) (l r : Rational) : Type 0 where
+  -- the ends are in order
   pub order : l <ʳ r
+  -- each time strictly between them is in the window
   pub inner : (u : Rational) → l <ʳ u → u <ʳ r → W u
+  -- each time of the window lies from l to r
   pub outer : (u : Rational) → W u → Within l r u
 
 below_an_end_closed : {l t r : Rational} (f : Line) → Within l r t → (at f t ≤ʳ at f l) ⊎ (at f t ≤ʳ at f r)
@@ -102,7 +110,8 @@ below_an_end_closed {l} {t} {r} f w = by_left (le_or_lt t l)
 passes_at : (f : Line) (t : Rational) → Passes (affine f) t (finite (at f t))
 passes_at f t = record { at_most = le_refl (at f t); at_least = le_refl (at f t) }
 
-near_end : (f : Line) (l r : Rational) (w : Extended) → l <ʳ r → (w <ᵉ finite (at f l)) ⊎ (w <ᵉ finite (at f r)) → (t : Rational) × (l <ʳ t) × (t <ʳ r) × (w <ᵉ finite (at f t))
+near_end : (f : Line) (l r : Rational) (w : Extended) → l <ʳ r → (w <ᵉ finite (at f l)) ⊎ (w <ᵉ finite (at f r))
+    → (t : Rational) × (l <ʳ t) × (t <ʳ r) × (w <ᵉ finite (at f t))
 near_end f l r minus_infinity h k = (middle l r, left_of_middle h, right_of_middle h, tt)
 near_end f l r (finite x) h (inl k) = near_left f x h k
 near_end f l r (finite x) h (inr k) = near_right f x h k
@@ -110,7 +119,8 @@ near_end f l r infinity h (inl k) = absurd k
 near_end f l r infinity h (inr k) = absurd k
 
 -- the Sup of a line over such a window is the greater of its values at the ends, reached or not
-pub sup_of_line : {W : Window} {l r : Rational} (lowest s : Extended) (f : Line) → Spans W l r → lowest ≤ᵉ s → IsGreatest (finite (at f l)) (finite (at f r)) s → IsSupOver lowest W (Passes (affine f)) s
+pub sup_of_line : {W : Window} {l r : Rational} (lowest s : Extended) (f : Line) → Spans W l r → lowest ≤ᵉ s
+    → IsGreatest (finite (at f l)) (finite (at f r)) s → IsSupOver lowest W (Passes (affine f)) s
 sup_of_line {W} {l} {r} lowest s f on h g = record { at_least = h; bound = bound; reached = λ w k m. near w m g.one_of }
   where
     at_end : (t : Rational) → (at f t ≤ʳ at f l) ⊎ (at f t ≤ʳ at f r) → finite (at f t) ≤ᵉ s
@@ -120,10 +130,12 @@ sup_of_line {W} {l} {r} lowest s f on h g = record { at_least = h; bound = bound
     bound : (v : Extended) → ((u : Rational) × W u × Passes (affine f) u v) → v ≤ᵉ s
     bound v (u, m, p) = le_transᵉ v (finite (at f u)) s p.at_most (at_end u (below_an_end_closed f (on.outer u m)))
 
-    found : (w : Extended) → ((t : Rational) × (l <ʳ t) × (t <ʳ r) × (w <ᵉ finite (at f t))) → (v : Extended) × ((u : Rational) × W u × Passes (affine f) u v) × (w <ᵉ v)
+    found : (w : Extended) → ((t : Rational) × (l <ʳ t) × (t <ʳ r) × (w <ᵉ finite (at f t)))
+        → (v : Extended) × ((u : Rational) × W u × Passes (affine f) u v) × (w <ᵉ v)
     found w (t, a, b, k) = (finite (at f t), (t, on.inner t a b, passes_at f t), k)
 
-    near : (w : Extended) → w <ᵉ s → (s ≤ᵉ finite (at f l)) ⊎ (s ≤ᵉ finite (at f r)) → (v : Extended) × ((u : Rational) × W u × Passes (affine f) u v) × (w <ᵉ v)
+    near : (w : Extended) → w <ᵉ s → (s ≤ᵉ finite (at f l)) ⊎ (s ≤ᵉ finite (at f r))
+        → (v : Extended) × ((u : Rational) × W u × Passes (affine f) u v) × (w <ᵉ v)
     near w m (inl e) = found w (near_end f l r w on.order (inl (lt_of_lt_of_leᵉ w s (finite (at f l)) m e)))
     near w m (inr e) = found w (near_end f l r w on.order (inr (lt_of_lt_of_leᵉ w s (finite (at f r)) m e)))
 
@@ -151,31 +163,43 @@ sup_of_opposite {P} lowest r h = record {
 
 passes_negated : (f : Line) (u : Rational) (v : Extended) → Passes (affine (negate_line f)) u v → Passes (affine f) u (opposite v)
 passes_negated f u v p = record {
-  at_most = opposite_le (opposite v) (finite (at f u)) (subst (λ x. finite (negate (at f u)) ≤ᵉ x) (sym (opposite_twice v)) (le_transᵉ (finite (negate (at f u))) (finite (at (negate_line f) u)) v (ge_of_same (at_negate f u)) p.at_least));
-  at_least = opposite_le (finite (at f u)) (opposite v) (subst (λ x. x ≤ᵉ finite (negate (at f u))) (sym (opposite_twice v)) (le_transᵉ v (finite (at (negate_line f) u)) (finite (negate (at f u))) p.at_most (le_of_same (at_negate f u))));
+  at_most = opposite_le (opposite v) (finite (at f u)) (subst (λ x. finite (negate (at f u)) ≤ᵉ x) (sym (opposite_twice v))
+      (le_transᵉ (finite (negate (at f u))) (finite (at (negate_line f) u)) v (ge_of_same (at_negate f u)) p.at_least));
+  at_least = opposite_le (finite (at f u)) (opposite v) (subst (λ x. x ≤ᵉ finite (negate (at f u))) (sym (opposite_twice v))
+      (le_transᵉ v (finite (at (negate_line f) u)) (finite (negate (at f u))) p.at_most (le_of_same (at_negate f u))));
 }
 
 negated_passes : (f : Line) (u : Rational) (v : Extended) → Passes (affine f) u (opposite v) → Passes (affine (negate_line f)) u v
 negated_passes f u v p = record {
-  at_most = le_transᵉ v (finite (negate (at f u))) (finite (at (negate_line f) u)) (subst (λ x. x ≤ᵉ finite (negate (at f u))) (opposite_twice v) (opposite_le' (finite (at f u)) (opposite v) p.at_least)) (ge_of_same (at_negate f u));
-  at_least = le_transᵉ (finite (at (negate_line f) u)) (finite (negate (at f u))) v (le_of_same (at_negate f u)) (subst (λ x. finite (negate (at f u)) ≤ᵉ x) (opposite_twice v) (opposite_le' (opposite v) (finite (at f u)) p.at_most));
+  at_most = le_transᵉ v (finite (negate (at f u))) (finite (at (negate_line f) u))
+      (subst (λ x. x ≤ᵉ finite (negate (at f u))) (opposite_twice v) (opposite_le' (finite (at f u)) (opposite v) p.at_least))
+      (ge_of_same (at_negate f u));
+  at_least = le_transᵉ (finite (at (negate_line f) u)) (finite (negate (at f u))) v (le_of_same (at_negate f u))
+      (subst (λ x. finite (negate (at f u)) ≤ᵉ x) (opposite_twice v) (opposite_le' (opposite v) (finite (at f u)) p.at_most));
 }
 
-greatest_of_least : (f : Line) (l r : Rational) (s : Extended) → IsLeast (finite (at f l)) (finite (at f r)) s → IsGreatest (finite (at (negate_line f) l)) (finite (at (negate_line f) r)) (opposite s)
+greatest_of_least : (f : Line) (l r : Rational) (s : Extended) → IsLeast (finite (at f l)) (finite (at f r)) s
+    → IsGreatest (finite (at (negate_line f) l)) (finite (at (negate_line f) r)) (opposite s)
 greatest_of_least f l r s h = record {
-  left = le_transᵉ (finite (at (negate_line f) l)) (finite (negate (at f l))) (opposite s) (le_of_same (at_negate f l)) (opposite_le' s (finite (at f l)) h.left);
-  right = le_transᵉ (finite (at (negate_line f) r)) (finite (negate (at f r))) (opposite s) (le_of_same (at_negate f r)) (opposite_le' s (finite (at f r)) h.right);
+  left = le_transᵉ (finite (at (negate_line f) l)) (finite (negate (at f l))) (opposite s) (le_of_same (at_negate f l))
+      (opposite_le' s (finite (at f l)) h.left);
+  right = le_transᵉ (finite (at (negate_line f) r)) (finite (negate (at f r))) (opposite s) (le_of_same (at_negate f r))
+      (opposite_le' s (finite (at f r)) h.right);
   one_of = by_one h.one_of;
 }
   where
     by_one : (finite (at f l) ≤ᵉ s) ⊎ (finite (at f r) ≤ᵉ s) → (opposite s ≤ᵉ finite (at (negate_line f) l)) ⊎ (opposite s ≤ᵉ finite (at (negate_line f) r))
-    by_one (inl k) = inl (le_transᵉ (opposite s) (finite (negate (at f l))) (finite (at (negate_line f) l)) (opposite_le' (finite (at f l)) s k) (ge_of_same (at_negate f l)))
-    by_one (inr k) = inr (le_transᵉ (opposite s) (finite (negate (at f r))) (finite (at (negate_line f) r)) (opposite_le' (finite (at f r)) s k) (ge_of_same (at_negate f r)))
+    by_one (inl k) = inl (le_transᵉ (opposite s) (finite (negate (at f l))) (finite (at (negate_line f) l))
+        (opposite_le' (finite (at f l)) s k) (ge_of_same (at_negate f l)))
+    by_one (inr k) = inr (le_transᵉ (opposite s) (finite (negate (at f r))) (finite (at (negate_line f) r))
+        (opposite_le' (finite (at f r)) s k) (ge_of_same (at_negate f r)))
 
 -- the Inf is the lesser of the values at the ends
-pub inf_of_line : {W : Window} {l r : Rational} (highest s : Extended) (f : Line) → Spans W l r → s ≤ᵉ highest → IsLeast (finite (at f l)) (finite (at f r)) s → IsInfOver highest W (Passes (affine f)) s
+pub inf_of_line : {W : Window} {l r : Rational} (highest s : Extended) (f : Line) → Spans W l r → s ≤ᵉ highest
+    → IsLeast (finite (at f l)) (finite (at f r)) s → IsInfOver highest W (Passes (affine f)) s
 inf_of_line {W} {l} {r} highest s f on h g =
-    inf_of_opposite highest s (sup_same into back (sup_of_line (opposite highest) (opposite s) (negate_line f) on (opposite_le' s highest h) (greatest_of_least f l r s g)))
+    inf_of_opposite highest s
+    (sup_same into back (sup_of_line (opposite highest) (opposite s) (negate_line f) on (opposite_le' s highest h) (greatest_of_least f l r s g)))
   where
     into : (v : Extended) → ((u : Rational) × W u × Passes (affine (negate_line f)) u v) → (u : Rational) × W u × Passes (affine f) u (opposite v)
     into v (u, m, p) = (u, m, passes_negated f u v p)
@@ -184,7 +208,8 @@ inf_of_line {W} {l} {r} highest s f on h g =
     back v (u, m, p) = (u, m, negated_passes f u v p)
 
 -- strictly between its ends a line that is not level lies below the Sup, and above the Inf
-pub below_sup : {l u r : Rational} (s : Extended) (f : Line) → ¬ (Level f) → l <ʳ u → u <ʳ r → IsGreatest (finite (at f l)) (finite (at f r)) s → finite (at f u) <ᵉ s
+pub below_sup : {l u r : Rational} (s : Extended) (f : Line) → ¬ (Level f) → l <ʳ u → u <ʳ r
+    → IsGreatest (finite (at f l)) (finite (at f r)) s → finite (at f u) <ᵉ s
 below_sup {l} {u} {r} s f n h k g = by_slope (slope_of f)
   where
     by_slope : Rises f ⊎ Level f ⊎ Falls f → finite (at f u) <ᵉ s
@@ -193,7 +218,8 @@ below_sup {l} {u} {r} s f n h k g = by_slope (slope_of f)
     by_slope (inr (inr p)) = lt_of_lt_of_leᵉ (finite (at f u)) (finite (at f l)) s (lt_at_falls f p h) g.left
 
 -- so above the Inf
-pub above_inf : {l u r : Rational} (s : Extended) (f : Line) → ¬ (Level f) → l <ʳ u → u <ʳ r → IsLeast (finite (at f l)) (finite (at f r)) s → s <ᵉ finite (at f u)
+pub above_inf : {l u r : Rational} (s : Extended) (f : Line) → ¬ (Level f) → l <ʳ u → u <ʳ r
+    → IsLeast (finite (at f l)) (finite (at f r)) s → s <ᵉ finite (at f u)
 above_inf {l} {u} {r} s f n h k g = by_slope (slope_of f)
   where
     by_slope : Rises f ⊎ Level f ⊎ Falls f → s <ᵉ finite (at f u)

@@ -9,7 +9,9 @@ use Rattle.rational.proofs.WindowLemmas.{sup_alike, to_same, down_to_same, from_
 
 -- a function of time with one value at each time, by whichever pairs time and value are written
 pub record IsFunction (F : Function) : Type 0 where
+  -- another way to write time and value changes nothing
   pub alike : (t u : Rational) (v w : Extended) → t ≈ u → v ≈ᵉ w → F t v → F u w
+  -- two values at one time are the same
   pub one : (t : Rational) (v w : Extended) → F t v → F t w → v ≈ᵉ w
 
 -- a since is a function of time

@@ -2,8 +2,10 @@
 use Rattle.std.proofs.Common.{◌≡◌, ℕ, ℤ, pos, ◌*◌, ◌≤◌, ◌⊎◌, arith, mul-le-mul_right, ap, sym, ◌∙◌, inl, inr, Bool, true, false, ◌&&◌, IsTrue, refl}
 use Rattle.std.proofs.Props.{props}
 use Rattle.rational.specs.Rational.{part_above, part_below}
-use Rattle.rational.proofs.Order.{lt_or_same_or_gt, not_lt_of_le, le_or_lt, le_refl, le_trans, lt_of_le_of_lt, lt_of_lt_of_le, le_of_lt, le_of_same, ge_of_same, same_sym}
-use Rattle.rational.specs.Time.{Rational, Within, ◌≤ʳ◌, ◌<ʳ◌, ◌≈◌, Interval, IsIn, IsNotEmpty, Precedes, add, whole, shifted, later, times, less, HasTimeBetween}
+use Rattle.rational.proofs.Order.{lt_or_same_or_gt, not_lt_of_le, le_or_lt, le_refl, le_trans, lt_of_le_of_lt}
+use Rattle.rational.proofs.Order.{lt_of_lt_of_le, le_of_lt, le_of_same, ge_of_same, same_sym}
+use Rattle.rational.specs.Time.{Rational, Within, ◌≤ʳ◌, ◌<ʳ◌, ◌≈◌, Interval, IsIn, IsNotEmpty}
+use Rattle.rational.specs.Time.{Precedes, add, whole, shifted, later, times, less, HasTimeBetween}
 
 -- a way leads to the same time or later, and a longer way no less far
 pub later_from : (t : Rational) (k : ℕ) → t ≤ʳ later t k
@@ -81,7 +83,10 @@ not_empty_of_precedes on h = by_ends on.from_in on.to_in h
     by_ends : (b c : Bool) → Precedes (b && c) on.from on.to → (on.from <ʳ on.to) ⊎ ((on.from ≈ on.to) × IsTrue b × IsTrue c)
     by_ends true true h = elim (lt_or_same_or_gt on.from on.to) as (λ v. (on.from <ʳ on.to) ⊎ ((on.from ≈ on.to) × IsTrue true × IsTrue true)) [
       | inl l ↦ inl l
-      | inr v ↦ elim v as (λ v. (on.from <ʳ on.to) ⊎ ((on.from ≈ on.to) × IsTrue true × IsTrue true)) [ inl e ↦ inr (e, refl, refl) | inr l ↦ absurd (not_lt_of_le h l) ]
+      | inr v ↦ elim v as (λ v. (on.from <ʳ on.to) ⊎ ((on.from ≈ on.to) × IsTrue true × IsTrue true)) [
+        | inl e ↦ inr (e, refl, refl)
+        | inr l ↦ absurd (not_lt_of_le h l)
+      ]
     ]
     by_ends true false h = inl h
     by_ends false c h = inl h
@@ -125,15 +130,19 @@ decided_order false t u = elim (le_or_lt u t) [ inl h ↦ inr (λ k. not_lt_of_l
 pub decided_in : (on : Interval) (t : Rational) → IsIn on t ⊎ ¬ (IsIn on t)
 decided_in on t = both (decided_order on.from_in on.from t) (decided_order on.to_in t on.to)
   where
-    both : Precedes on.from_in on.from t ⊎ ¬ (Precedes on.from_in on.from t) → Precedes on.to_in t on.to ⊎ ¬ (Precedes on.to_in t on.to) → IsIn on t ⊎ ¬ (IsIn on t)
+    both : Precedes on.from_in on.from t ⊎ ¬ (Precedes on.from_in on.from t)
+        → Precedes on.to_in t on.to ⊎ ¬ (Precedes on.to_in t on.to) → IsIn on t ⊎ ¬ (IsIn on t)
     both (inl h) (inl k) = inl (record { above = h; below = k })
     both (inl h) (inr k) = inr (λ i. k i.below)
     both (inr h) k = inr (λ i. h i.above)
 
 -- the later of two times, and the earlier
 pub record IsLater (t u a : Rational) : Type 0 where
+  -- the first is no later
   pub left : t ≤ʳ a
+  -- the second is no later
   pub right : u ≤ʳ a
+  -- and any other such time is no earlier
   pub least : (x : Rational) → t ≤ʳ x → u ≤ʳ x → a ≤ʳ x
 
 -- two times have a later one
@@ -144,8 +153,11 @@ later_of t u = elim (le_or_lt t u) [
 ]
 
 pub record IsEarlier (t u a : Rational) : Type 0 where
+  -- the first is no earlier
   pub left : a ≤ʳ t
+  -- the second is no earlier
   pub right : a ≤ʳ u
+  -- and any other such time is no later
   pub most : (x : Rational) → x ≤ʳ t → x ≤ʳ u → x ≤ʳ a
 
 -- and an earlier one

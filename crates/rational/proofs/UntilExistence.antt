@@ -138,7 +138,8 @@ module _ (lowest highest : Extended) (P Q : Function) (from to : Rational) (fit 
       (record { low = low.0; top = top.0; high = high.0; is_low = low.1; is_top = top.1; is_high = high.1; is_value = limit.1 }) in_order in (
         v.0,
         of_since lowest highest P Q from t v.0
-            (at_point lowest highest P Q (one_of P fit.p_is) (one_of Q fit.q_is) fit.infs from t w.above limit.0 p.0 q.0 most.0 v.0 since p.1 q.1 p.3 most.1 v.1 p.2),
+            (at_point lowest highest P Q (one_of P fit.p_is)
+            (one_of Q fit.q_is) fit.infs from t w.above limit.0 p.0 q.0 most.0 v.0 since p.1 q.1 p.3 most.1 v.1 p.2),
       )
 
   -- on a gap, and at its end

@@ -29,10 +29,16 @@ way_starts s x = record { same = omega (arith, ap (λ n. n * x.up) step, ap (λ 
 -- a sum of ways is the way between the sums
 pub way_sum : (s e s' e' : ℤ) (x : Rational) → add (on_way s e x) (on_way s' e' x) ≈ on_way (s +ℤ s') (e +ℤ e') x
 way_sum s e s' e' x = record {
-  same = omega (arith, ap (λ n. n * (x.den * x.den * x.den)) (sum_parts s s'), ap (λ n. n * (x.up * x.den * x.den)) rise, ap (λ n. n * (x.down * x.den * x.den)) rise);
+  same = omega (
+    arith,
+    ap (λ n. n * (x.den * x.den * x.den)) (sum_parts s s'),
+    ap (λ n. n * (x.up * x.den * x.den)) rise,
+    ap (λ n. n * (x.down * x.den * x.den)) rise,
+  );
 }
   where
-    rise : part_above (e -ℤ s) + part_above (e' -ℤ s') + part_below (e +ℤ e' -ℤ (s +ℤ s')) ≡ part_below (e -ℤ s) + part_below (e' -ℤ s') + part_above (e +ℤ e' -ℤ (s +ℤ s'))
+    rise : part_above (e -ℤ s) + part_above (e' -ℤ s') + part_below (e +ℤ e' -ℤ (s +ℤ s'))
+        ≡ part_below (e -ℤ s) + part_below (e' -ℤ s') + part_above (e +ℤ e' -ℤ (s +ℤ s'))
     rise = omega (arith, parts)
 
 -- a multiple of a way is the way between the multiples
@@ -43,11 +49,19 @@ way_times k s e x = record {
   where
     rise : part_above (k *ℤ e -ℤ k *ℤ s) + (part_above k * part_below (e -ℤ s) + part_below k * part_above (e -ℤ s))
         ≡ part_below (k *ℤ e -ℤ k *ℤ s) + (part_above k * part_above (e -ℤ s) + part_below k * part_below (e -ℤ s))
-    rise = omega (arith, mul_parts k s, mul_parts k e, less_parts (k *ℤ e) (k *ℤ s), ap (λ n. part_above k * n) (less_parts e s), ap (λ n. part_below k * n) (less_parts e s))
+    rise = omega (
+      arith,
+      mul_parts k s,
+      mul_parts k e,
+      less_parts (k *ℤ e) (k *ℤ s),
+      ap (λ n. part_above k * n) (less_parts e s),
+      ap (λ n. part_below k * n) (less_parts e s),
+    )
 
 -- a way less a number is the way between the differences
 pub way_less : (s e c : ℤ) (x : Rational) → subtract (on_way s e x) (whole c) ≈ on_way (s -ℤ c) (e -ℤ c) x
-way_less s e c x = record { same = omega (arith, ap (λ n. n * (x.den * x.den)) (less_parts s c), ap (λ n. n * (x.up * x.den)) rise, ap (λ n. n * (x.down * x.den)) rise) }
+way_less s e c x =
+    record { same = omega (arith, ap (λ n. n * (x.den * x.den)) (less_parts s c), ap (λ n. n * (x.up * x.den)) rise, ap (λ n. n * (x.down * x.den)) rise) }
   where
     rise : part_above (e -ℤ s) + part_below (e -ℤ c -ℤ (s -ℤ c)) ≡ part_below (e -ℤ s) + part_above (e -ℤ c -ℤ (s -ℤ c))
     rise = omega (arith, parts)

@@ -16,10 +16,16 @@ ahead_same {t = t} {u} {v} {a = a} {b} {a_in} {b_in} e h = record {
 }
 
 -- and so is one behind
-pub behind_same : {from to t u v : Rational} {a : ℕ} {b : Option ℕ} {a_in b_in : Bool} → t ≈ u → Behind from to a b a_in b_in t v → Behind from to a b a_in b_in u v
-behind_same {t = t} {u} {v} {a = a} {b = None} {a_in} {b_in} e h = record { inside = h.inside; begins = tt; ends = precedes_before a_in (later v a) t u h.ends (le_of_same e) }
+pub behind_same : {from to t u v : Rational} {a : ℕ} {b : Option ℕ} {a_in b_in : Bool} → t ≈ u → Behind from to a b a_in b_in t v
+    → Behind from to a b a_in b_in u v
+behind_same {t = t} {u} {v} {a = a} {b = None} {a_in} {b_in} e h =
+    record { inside = h.inside; begins = tt; ends = precedes_before a_in (later v a) t u h.ends (le_of_same e) }
 behind_same {t = t} {u} {v} {a = a} {b = Some b} {a_in} {b_in} e h =
-    record { inside = h.inside; begins = precedes_after b_in u t (later v b) (ge_of_same e) h.begins; ends = precedes_before a_in (later v a) t u h.ends (le_of_same e) }
+    record {
+      inside = h.inside;
+      begins = precedes_after b_in u t (later v b) (ge_of_same e) h.begins;
+      ends = precedes_before a_in (later v a) t u h.ends (le_of_same e);
+    }
 
 -- the times between two times are those for each pair of the first
 pub from_same : {t u v w : Rational} → t ≈ u → Within u w v → Within t w v
@@ -30,7 +36,8 @@ pub to_same : {t u v w : Rational} → t ≈ u → Within w u v → Within w t v
 to_same e h = record { above = h.above; below = le_trans h.below (ge_of_same e) }
 
 -- a Sup and an Inf are those of each description of the same values
-pub sup_alike : {P Q : Extended → Type 0} (lowest r : Extended) → ((v : Extended) → P v → Q v) → ((v : Extended) → Q v → P v) → IsSup lowest P r → IsSup lowest Q r
+pub sup_alike : {P Q : Extended → Type 0} (lowest r : Extended) → ((v : Extended) → P v → Q v) → ((v : Extended) → Q v → P v)
+    → IsSup lowest P r → IsSup lowest Q r
 sup_alike {P} {Q} lowest r forth back h = record {
   at_least = h.at_least;
   bound = λ v q. h.bound v (back v q);
@@ -38,7 +45,8 @@ sup_alike {P} {Q} lowest r forth back h = record {
 }
 
 -- so for the Inf
-pub inf_alike : {P Q : Extended → Type 0} (highest r : Extended) → ((v : Extended) → P v → Q v) → ((v : Extended) → Q v → P v) → IsInf highest P r → IsInf highest Q r
+pub inf_alike : {P Q : Extended → Type 0} (highest r : Extended) → ((v : Extended) → P v → Q v) → ((v : Extended) → Q v → P v)
+    → IsInf highest P r → IsInf highest Q r
 inf_alike {P} {Q} highest r forth back h = record {
   at_most = h.at_most;
   bound = λ v q. h.bound v (back v q);
@@ -56,11 +64,13 @@ pub inf_over_alike : (V W : Window) (F : Function) (highest r : Extended) → ((
 inf_over_alike V W F highest r forth back h = inf_alike highest r (λ v p. (p.0, forth p.0 p.1, p.2)) (λ v p. (p.0, back p.0 p.1, p.2)) h
 
 -- the value up to u from t, and down to u from t, is that from another pair of t
-pub up_to_same : {t t' : Rational} (highest : Extended) (P Q : Function) (u : Rational) (v : Extended) → t ≈ t' → IsUpTo highest P Q t u v → IsUpTo highest P Q t' u v
+pub up_to_same : {t t' : Rational} (highest : Extended) (P Q : Function) (u : Rational) (v : Extended) → t ≈ t'
+    → IsUpTo highest P Q t u v → IsUpTo highest P Q t' u v
 up_to_same {t} {t'} highest P Q u v e (x, y, q, i, l) =
     (x, y, q, inf_over_alike (Within t u) (Within t' u) P highest y (λ s w. from_same (same_sym e) w) (λ s w. from_same e w) i, l)
 
 -- so for the value down to u
-pub down_to_same : {t t' : Rational} (highest : Extended) (P Q : Function) (u : Rational) (v : Extended) → t ≈ t' → IsDownTo highest P Q t u v → IsDownTo highest P Q t' u v
+pub down_to_same : {t t' : Rational} (highest : Extended) (P Q : Function) (u : Rational) (v : Extended) → t ≈ t'
+    → IsDownTo highest P Q t u v → IsDownTo highest P Q t' u v
 down_to_same {t} {t'} highest P Q u v e (x, y, q, i, l) =
     (x, y, q, inf_over_alike (Within u t) (Within u t') P highest y (λ s w. to_same (same_sym e) w) (λ s w. to_same e w) i, l)

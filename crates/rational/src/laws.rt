@@ -57,7 +57,8 @@ pub fn lines()
     ensures constant { (f : Line) (t u : Rational) → Level f → at f t ≈ at f u }
     ensures two_points { (l r : Rational) (p : l <ʳ r) (v w : Rational) → (at (through l r p v w) l ≈ v) × (at (through l r p v w) r ≈ w) }
     ensures one_line { (f g : Line) (l r t : Rational) → l <ʳ r → at f l ≈ at g l → at f r ≈ at g r → at f t ≈ at g t }
-    ensures ramp { (t0 v0 rise : ℤ) (run : ℕ) (p : 0 < run) (t : Rational) → at (ramp_line t0 v0 rise run p) t ≈ add (whole v0) (multiply (ratio rise run p) (subtract t (whole t0))) }
+    ensures ramp { (t0 v0 rise : ℤ) (run : ℕ) (p : 0 < run) (t : Rational)
+        → at (ramp_line t0 v0 rise run p) t ≈ add (whole v0) (multiply (ratio rise run p) (subtract t (whole t0))) }
     ensures difference { (f g : Line) (t : Rational) → at (gap_line f g) t ≈ subtract (at f t) (at g t) }
 {}
 
@@ -78,8 +79,12 @@ pub fn one_sup()
 /// Over an open gap a line has the greater of its values at the ends for its Sup, and the lesser for its Inf, though it
 /// reaches neither unless it is level.
 pub fn sup_of_a_line()
-    ensures sup { (f : Line) (l r : Rational) (s : Extended) → l <ʳ r → IsGreatest (finite (at f l)) (finite (at f r)) s → IsSupOver minus_infinity (IsIn (gap l r)) (Passes (affine f)) s }
-    ensures inf { (f : Line) (l r : Rational) (s : Extended) → l <ʳ r → IsLeast (finite (at f l)) (finite (at f r)) s → IsInfOver infinity (IsIn (gap l r)) (Passes (affine f)) s }
-    ensures sup_not_reached { (f : Line) (l u r : Rational) (s : Extended) → ¬ (Level f) → IsIn (gap l r) u → IsGreatest (finite (at f l)) (finite (at f r)) s → finite (at f u) <ᵉ s }
-    ensures inf_not_reached { (f : Line) (l u r : Rational) (s : Extended) → ¬ (Level f) → IsIn (gap l r) u → IsLeast (finite (at f l)) (finite (at f r)) s → s <ᵉ finite (at f u) }
+    ensures sup { (f : Line) (l r : Rational) (s : Extended) → l <ʳ r → IsGreatest (finite (at f l)) (finite (at f r)) s
+        → IsSupOver minus_infinity (IsIn (gap l r)) (Passes (affine f)) s }
+    ensures inf { (f : Line) (l r : Rational) (s : Extended) → l <ʳ r → IsLeast (finite (at f l)) (finite (at f r)) s
+        → IsInfOver infinity (IsIn (gap l r)) (Passes (affine f)) s }
+    ensures sup_not_reached { (f : Line) (l u r : Rational) (s : Extended) → ¬ (Level f) → IsIn (gap l r) u
+        → IsGreatest (finite (at f l)) (finite (at f r)) s → finite (at f u) <ᵉ s }
+    ensures inf_not_reached { (f : Line) (l u r : Rational) (s : Extended) → ¬ (Level f) → IsIn (gap l r) u
+        → IsLeast (finite (at f l)) (finite (at f r)) s → s <ᵉ finite (at f u) }
 {}

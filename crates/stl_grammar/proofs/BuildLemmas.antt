@@ -1,5 +1,6 @@
 -- The nodes of drafts, one after another.
-use Rattle.std.proofs.Common.{◌≡◌, ℕ, zero, suc, ◌+◌, ◌<◌, ◌≤◌, List, [], ◌∷◌, ◌++◌, length, take, drop, get_or, reverse, refl, sym, ap, ◌∙◌, subst, true, false, arith, append_assoc, inl, inr}
+use Rattle.std.proofs.Common.{◌≡◌, ℕ, zero, suc, ◌+◌, ◌<◌, ◌≤◌, List, [], ◌∷◌, ◌++◌, length, take, drop, get_or}
+use Rattle.std.proofs.Common.{reverse, refl, sym, ap, ◌∙◌, subst, true, false, arith, append_assoc, inl, inr}
 use Rattle.std.specs.Prelude.{All, Some, slice_get, nat_abs}
 use Rattle.std.proofs.lemmas.Bool.Decides.{nat_tests}
 use Rattle.std.proofs.lemmas.List.{take_more, take_at, drop_more, take-append-drop, length-append, reverse-append, length-take-le}
@@ -65,11 +66,13 @@ get_at [] x ys = refl
 get_at (z ∷ xs) x ys = get_at xs x ys
 
 -- none of the first is large, and the next is
-pub first_after : (xs : List Node) (n : Node) (ys : List Node) → All (λ m. is_large m ≡ false) xs → is_large n ≡ true → IsFirst HasLargeConstant (xs ++ n ∷ ys) (length xs)
+pub first_after : (xs : List Node) (n : Node) (ys : List Node) → All (λ m. is_large m ≡ false) xs → is_large n ≡ true
+    → IsFirst HasLargeConstant (xs ++ n ∷ ys) (length xs)
 first_after xs n ys a l =
     record { node = n; at = get_at xs n ys; is = large_is n l; none_before = λ j other i e. not_large other (earlier xs j other a i e) }
   where
-    earlier : (xs : List Node) (j : ℕ) (other : Node) → All (λ m. is_large m ≡ false) xs → j < length xs → slice_get (xs ++ n ∷ ys) j ≡ Some other → is_large other ≡ false
+    earlier : (xs : List Node) (j : ℕ) (other : Node) → All (λ m. is_large m ≡ false) xs → j < length xs
+        → slice_get (xs ++ n ∷ ys) j ≡ Some other → is_large other ≡ false
     earlier [] j other a i e = absurd (omega (arith, i))
     earlier (x ∷ xs) zero other a i e =
         let same : x ≡ other = cc in subst (λ m. is_large m ≡ false) same (All-head (λ m. is_large m ≡ false) x xs a)
@@ -86,13 +89,15 @@ none_first ns a i f = not_large f.node (at_all ns i f.node a f.at) f.is
 
 -- a list about its element i
 pub drafts_split : (drafts : List Draft) (i : ℕ) (d : Draft) → i < length drafts → d ≡ get_or drafts i d → drafts ≡ take i drafts ++ d ∷ drop (i + 1) drafts
-drafts_split drafts i d l e = sym (take-append-drop i drafts) ∙ ap (λ xs. take i drafts ++ xs) (drop_more drafts i d l ∙ ap (λ x. x ∷ drop (i + 1) drafts) (sym e))
+drafts_split drafts i d l e = sym (take-append-drop i drafts)
+    ∙ ap (λ xs. take i drafts ++ xs) (drop_more drafts i d l ∙ ap (λ x. x ∷ drop (i + 1) drafts) (sym e))
 
 taken_size : (s : Scale) (drafts : List Draft) (i : ℕ) → i ≤ length drafts → length (nodes_in s (take i drafts)) ≡ i
 taken_size s drafts i l = length-nodes_in s (take i drafts) ∙ length-take-le i drafts l
 
 -- a large node after none is the first
-pub first_large : (s : Scale) (drafts : List Draft) (i : ℕ) (d : Draft) → i < length drafts → d ≡ get_or drafts i d → All (λ m. is_large m ≡ false) (nodes_in s (take i drafts))
+pub first_large : (s : Scale) (drafts : List Draft) (i : ℕ) (d : Draft) → i < length drafts → d ≡ get_or drafts i d
+    → All (λ m. is_large m ≡ false) (nodes_in s (take i drafts))
     → is_large (node_in s d) ≡ true → IsFirst HasLargeConstant (nodes_in s drafts) i
 first_large s drafts i d l e a b =
     let split : nodes_in s drafts ≡ nodes_in s (take i drafts) ++ node_in s d ∷ nodes_in s (drop (i + 1) drafts) =
@@ -108,7 +113,8 @@ more_taken s drafts i d l e =
     ap (nodes_in s) (take_more drafts i d l ∙ ap (λ x. take i drafts ++ x ∷ []) (sym e)) ∙ nodes_in-append s (take i drafts) (d ∷ [])
 
 -- and one that is not leaves none
-pub none_yet : (s : Scale) (drafts : List Draft) (i : ℕ) (d : Draft) → i < length drafts → d ≡ get_or drafts i d → All (λ m. is_large m ≡ false) (nodes_in s (take i drafts))
+pub none_yet : (s : Scale) (drafts : List Draft) (i : ℕ) (d : Draft) → i < length drafts → d ≡ get_or drafts i d
+    → All (λ m. is_large m ≡ false) (nodes_in s (take i drafts))
     → is_large (node_in s d) ≡ false → All (λ m. is_large m ≡ false) (nodes_in s (take (i + 1) drafts))
 none_yet s drafts i d l e a b =
     let P : Node → Type 0 = λ m. is_large m ≡ false in
@@ -165,18 +171,22 @@ pub ready : (s : Scale) (b : List Node) (xs ys : List Draft) (d : Draft) (all : 
     → IsBuildable (node_in s d) × (length b < 256) × MayFollow b (node_in s d) × (reach (b ++ node_in s d ∷ []) ≤ 4294967295)
 ready s b xs ys d all e f a c r =
     let same : all ≡ b ++ node_in s d ∷ nodes_in s (reverse ys) = sym (next_node s b xs ys d all e f) in
-    may_add b (node_in s d) (nodes_in s (reverse ys)) (subst AreNodes same a) (All-same (λ m. is_large m ≡ false) (b ++ node_in s d ∷ nodes_in s (reverse ys)) all (sym same) c) (subst (λ ns. reach ns ≤ 4294967295) same r)
+    may_add b (node_in s d) (nodes_in s (reverse ys)) (subst AreNodes same a)
+    (All-same (λ m. is_large m ≡ false) (b ++ node_in s d ∷ nodes_in s (reverse ys)) all (sym same) c) (subst (λ ns. reach ns ≤ 4294967295) same r)
 
 -- and once it is, the drafts that are left follow it
 pub pushed : (s : Scale) (b q : List Node) (xs ys : List Draft) (d : Draft) (all : List Node) → b ++ nodes_in s (reverse xs) ≡ all → xs ≡ ys ++ d ∷ []
     → q ≡ b ++ node_in s d ∷ [] → q ++ nodes_in s (reverse ys) ≡ all
-pushed s b q xs ys d all e f g = ap (λ z. z ++ nodes_in s (reverse ys)) g ∙ (append_assoc b (node_in s d ∷ []) (nodes_in s (reverse ys)) ∙ next_node s b xs ys d all e f)
+pushed s b q xs ys d all e f g = ap (λ z. z ++ nodes_in s (reverse ys)) g
+    ∙ (append_assoc b (node_in s d ∷ []) (nodes_in s (reverse ys)) ∙ next_node s b xs ys d all e f)
 
 -- the refusals of nodes that are too large
-pub reach_fault : (ns : List Node) (sum : ℕ) → All (λ m. is_large m ≡ false) ns → sum ≡ reach ns → 4294967295 < sum → IsTooLarge ConstantTooLarge ReachTooLarge ns (ReachTooLarge sum)
+pub reach_fault : (ns : List Node) (sum : ℕ) → All (λ m. is_large m ≡ false) ns → sum ≡ reach ns → 4294967295 < sum
+    → IsTooLarge ConstantTooLarge ReachTooLarge ns (ReachTooLarge sum)
 reach_fault ns sum a e l = inr (λ x f. none_first ns a f.0 f.1, (subst (λ n. 4294967295 < n) e l, ap ReachTooLarge e))
 
 -- where none is large and the reach fits, nothing is refused
-pub no_fault : (ns : List Node) → All (λ m. is_large m ≡ false) ns → reach ns ≤ 4294967295 → (r : FormulaFault) → ¬ IsTooLarge ConstantTooLarge ReachTooLarge ns r
+pub no_fault : (ns : List Node) → All (λ m. is_large m ≡ false) ns → reach ns ≤ 4294967295 → (r : FormulaFault)
+    → ¬ IsTooLarge ConstantTooLarge ReachTooLarge ns r
 no_fault ns a l r (inl f) = none_first ns a f.0 f.1
 no_fault ns a l r (inr (g, f)) = let h : 4294967295 < reach ns = f.0 in omega (arith, h, l)

@@ -4,7 +4,8 @@ use Rattle.stl_grammar.specs.Grammar.{first_decimals, value_digits, time_digits}
 use Rattle.stl_grammar.specs.Taken.{plain}
 use Rattle.stl_grammar.specs.Building.{decimals_first, value_decimals, time_decimals}
 use Rattle.stl_grammar.specs.declared.token.Token.{Token as Code}
-use Rattle.stl_grammar.specs.declared.token.Token.TheVariants.{Keyword as IsKeyword, Name, Number, Relation, OpenParen, CloseParen, OpenBracket, CloseBracket, Comma, Star, Plus, Minus}
+use Rattle.stl_grammar.specs.declared.token.Token.TheVariants.{Keyword as IsKeyword, Name, Number, Relation, OpenParen}
+use Rattle.stl_grammar.specs.declared.token.Token.TheVariants.{CloseParen, OpenBracket, CloseBracket, Comma, Star, Plus, Minus}
 
 first_same : (text : List ℕ) (codes : List Code) → first_decimals (map (plain text) codes) ≡ decimals_first codes
 first_same text [] = refl
@@ -51,7 +52,8 @@ value_same text [] = refl
 value_same text ((IsKeyword w) ∷ codes) = value_same text codes
 value_same text ((Name from to) ∷ codes) = value_same text codes
 value_same text ((Number d) ∷ codes) = value_same text codes
-value_same text ((Relation r) ∷ codes) = ap (λ n. max n (value_digits (map (plain text) codes))) (first_same text codes) ∙ ap (λ n. max (decimals_first codes) n) (value_same text codes)
+value_same text ((Relation r) ∷ codes) = ap (λ n. max n (value_digits (map (plain text) codes))) (first_same text codes)
+    ∙ ap (λ n. max (decimals_first codes) n) (value_same text codes)
 value_same text (OpenParen ∷ codes) = value_same text codes
 value_same text (CloseParen ∷ codes) = value_same text codes
 value_same text (OpenBracket ∷ codes) = value_same text codes
@@ -75,7 +77,8 @@ time_same text (Number d ∷ OpenParen ∷ codes) = ap (λ n. max 0 n) (time_sam
 time_same text (Number d ∷ CloseParen ∷ codes) = ap (λ n. max 0 n) (time_same text (CloseParen ∷ codes))
 time_same text (Number d ∷ OpenBracket ∷ codes) = ap (λ n. max 0 n) (time_same text (OpenBracket ∷ codes))
 time_same text (Number d ∷ CloseBracket ∷ codes) = ap (λ n. max 0 n) (time_same text (CloseBracket ∷ codes))
-time_same text (Number d ∷ Comma ∷ codes) = ap (λ n. max (max d.decimals n) (time_digits (map (plain text) codes))) (first_same text codes) ∙ ap (λ n. max (max d.decimals (decimals_first codes)) n) (time_same text codes)
+time_same text (Number d ∷ Comma ∷ codes) = ap (λ n. max (max d.decimals n) (time_digits (map (plain text) codes)))
+    (first_same text codes) ∙ ap (λ n. max (max d.decimals (decimals_first codes)) n) (time_same text codes)
 time_same text (Number d ∷ Star ∷ codes) = ap (λ n. max 0 n) (time_same text (Star ∷ codes))
 time_same text (Number d ∷ Plus ∷ codes) = ap (λ n. max 0 n) (time_same text (Plus ∷ codes))
 time_same text (Number d ∷ Minus ∷ codes) = ap (λ n. max 0 n) (time_same text (Minus ∷ codes))

@@ -60,12 +60,14 @@ module _ (text : List ℕ) (p : Parse) (codes : List Code) (h : IsRead text p co
   read_text f n s = record {
     tokens = reverse h.before;
     lexed = h.lexed;
-    scale = s ∙ same_scale (time_decimals codes) (value_decimals codes) (time_digits (reverse h.before)) (value_digits (reverse h.before)) (sym time_is) (sym value_is);
+    scale = s ∙ same_scale (time_decimals codes) (value_decimals codes) (time_digits (reverse h.before))
+        (value_digits (reverse h.before)) (sym time_is) (sym value_is);
     parsed = rw (n, s) parsed;
   }
 
   -- a formula that was built of them is that of the text
-  pub built_parsed : (f : Formula) (ns : List Node) → ns ≡ nodes_in (scale_of codes) (settled_drafts 1 p.frames p.drafts) → IsBuilt (scale_of codes) ns f → IsParsed text f
+  pub built_parsed : (f : Formula) (ns : List Node) → ns ≡ nodes_in (scale_of codes) (settled_drafts 1 p.frames p.drafts)
+      → IsBuilt (scale_of codes) ns f → IsParsed text f
   built_parsed f ns e b = record { parsed = read_text f (b.nodes ∙ e) b.scale; small = λ r t. b.small r (rw (← b.nodes) t) }
 
   -- where they are too large the text is refused late
@@ -90,7 +92,9 @@ module _ (text : List ℕ) (short : length text ≤ 8192) (some : all is_blank t
       sound r (inl (l, e)) = no_long l
       sound r (inr (_, inl (l, e))) = no_empty l
       sound r (inr (_, inr (_, inl t))) = free r t
-      sound r (inr (_, inr (_, inr (_, (g, x, t))))) = let e : g ≡ f = one_formula text g f x k.parsed in k.small r (subst (λ z. IsTooLarge ConstantTooLarge ReachTooLarge z.nodes r) e t)
+      sound r (inr (_, inr (_, inr (_, (g, x, t))))) =
+          let e : g ≡ f = one_formula text g f x k.parsed in
+          k.small r (subst (λ z. IsTooLarge ConstantTooLarge ReachTooLarge z.nodes r) e t)
 
   -- what a token refuses is a refusal of the text
   pub token_fault : (r : FormulaFault) → TokenFault [] 0 text r → IsFormulaFault text r

@@ -10,7 +10,8 @@ use Rattle.stl_syntax.proofs.Examples.{at_least_5, no_digits}
 x_text : FormulaText (codes "x >= 5") (record { nodes = Leaf at_least_5 ∷ []; scale = no_digits })
 x_text = record {
   tokens = _;
-  lexed = token (codes "x") (codes " >= 5") refl (a_word refl refl refl) (skip refl (token (codes ">=") (codes " 5") refl at_least (skip refl (token (codes "5") [] refl (an_integer refl tt refl) nothing))));
+  lexed = token (codes "x") (codes " >= 5") refl (a_word refl refl refl)
+      (skip refl (token (codes ">=") (codes " 5") refl at_least (skip refl (token (codes "5") [] refl (an_integer refl tt refl) nothing))));
   scale = refl;
   parsed = disjunct (conjunct (timed (operand (atom (first (term_name {w = codes "x"} refl) no_terms no_sign)))));
 }
@@ -19,7 +20,8 @@ x_text = record {
 decimal_text : FormulaText (codes "x >= 1.50") (record { nodes = Leaf (record at_least_5 { limit = pos 15 }) ∷ []; scale = record { time = 0; value = 1 } })
 decimal_text = record {
   tokens = _;
-  lexed = token (codes "x") (codes " >= 1.50") refl (a_word refl refl refl) (skip refl (token (codes ">=") (codes " 1.50") refl at_least (skip refl (token (codes "1.50") [] refl (a_decimal 49 [] 53 (48 ∷ []) refl refl tt) nothing))));
+  lexed = token (codes "x") (codes " >= 1.50") refl (a_word refl refl refl) (skip refl
+      (token (codes ">=") (codes " 1.50") refl at_least (skip refl (token (codes "1.50") [] refl (a_decimal 49 [] 53 (48 ∷ []) refl refl tt) nothing))));
   scale = refl;
   parsed = disjunct (conjunct (timed (operand (atom (first (term_name {w = codes "x"} refl) no_terms no_sign)))));
 }

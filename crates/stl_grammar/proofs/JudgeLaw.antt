@@ -1,5 +1,6 @@
 -- A parser refuses a token as the refusals say.
-use Rattle.std.proofs.Common.{◌≡◌, ℕ, ◌+◌, ◌-◌, ◌<◌, ◌≤◌, List, [], ◌∷◌, length, refl, sym, ap, ◌∙◌, subst, Bool, true, false, if◌then◌else◌, arith, inl, inr, ◌⊎◌}
+use Rattle.std.proofs.Common.{◌≡◌, ℕ, ◌+◌, ◌-◌, ◌<◌, ◌≤◌, List, [], ◌∷◌, length, refl, sym, ap}
+use Rattle.std.proofs.Common.{◌∙◌, subst, Bool, true, false, if◌then◌else◌, arith, inl, inr, ◌⊎◌}
 use Rattle.std.specs.Prelude.{nat_le, nat_lt, ◌||◌, not, Option, Some, None, option_map, IsTrue, MatchBool, codes}
 use Rattle.std.proofs.lemmas.Bool.Decides.{nat_tests}
 use Rattle.std.proofs.lemmas.List.{take_at, length-append, length-drop}
@@ -8,12 +9,18 @@ use Rattle.stl_syntax.specs.Characters.{is_among}
 use Rattle.stl_syntax.specs.Choice.{◌or_else◌, Where}
 use Rattle.stl_syntax.specs.Names.{is_name}
 use Rattle.stl_grammar.specs.Tokens.{Token, word, number}
-use Rattle.stl_grammar.specs.FormulaRefusals.{MayBegin, RefusedAt, pending, nodes_made, expected, is_unbounded, begins_fifth_term, is_bad_number, is_out_of_order, begins_future_bound, passes_limit, opens_bound, ahead}
+use Rattle.stl_grammar.specs.FormulaRefusals.{MayBegin, RefusedAt, pending, nodes_made, expected}
+use Rattle.stl_grammar.specs.FormulaRefusals.{is_unbounded, begins_fifth_term, is_bad_number, is_out_of_order}
+use Rattle.stl_grammar.specs.FormulaRefusals.{begins_future_bound, passes_limit, opens_bound, ahead}
 use Rattle.stl_grammar.specs.Told.{Tells, IsLarge, spelling}
 use Rattle.stl_grammar.specs.Machine as Machine
-use Rattle.stl_grammar.specs.Machine.{State, Mark, Owner, of_until, of_since, of_future, of_past, step_bound, step_at, at_operand, at_bound, at_low, at_comma, at_high, at_closing, at_term, at_star, at_name, at_sign, at_constant, at_number, at_end, kind, run, step, expected_at, fifth_at, disorder_at, future_at, in_paren}
+use Rattle.stl_grammar.specs.Machine.{State, Mark, Owner, of_until, of_since, of_future, of_past, step_bound}
+use Rattle.stl_grammar.specs.Machine.{step_at, at_operand, at_bound, at_low, at_comma, at_high, at_closing}
+use Rattle.stl_grammar.specs.Machine.{at_term, at_star, at_name, at_sign, at_constant, at_number, at_end, kind}
+use Rattle.stl_grammar.specs.Machine.{run, step, expected_at, fifth_at, disorder_at, future_at, in_paren}
 use Rattle.stl_grammar.specs.Parsing.{Parse, parse_step, between, IsKnown}
-use Rattle.stl_grammar.specs.Judging.{state_of, refused, refused_after, late_in, unbounded_in, fifth_in, bad_in, disorder_in, future_in, expected_in, depth_of, place_at, number_in}
+use Rattle.stl_grammar.specs.Judging.{state_of, refused, refused_after, late_in, unbounded_in, fifth_in, bad_in}
+use Rattle.stl_grammar.specs.Judging.{disorder_in, future_in, expected_in, depth_of, place_at, number_in}
 use Rattle.stl_grammar.specs.Taken.{plain}
 use Rattle.stl_syntax.proofs.PostOrderLemmas.{or_false}
 use Rattle.stl_grammar.proofs.ParserView.{IsFit, view_step, known_kind}
@@ -25,11 +32,17 @@ use Rattle.stl_grammar.proofs.MachineView.{run_expected, run_depth, run_nodes, r
 use Rattle.stl_grammar.specs.declared.decimal.Decimal.{Decimal}
 use Rattle.stl_grammar.specs.declared.token.Keyword.TheVariants.{True, False, Not, And, Or, Implies, Until, Since, Eventually, Always, Once, Historically, Inf}
 use Rattle.stl_grammar.specs.declared.token.Token.{Token as Code}
-use Rattle.stl_grammar.specs.declared.token.Token.TheVariants.{Keyword as IsKeyword, Name, Number, Relation, OpenParen, CloseParen, OpenBracket, CloseBracket, Comma, Star, Plus, Minus}
+use Rattle.stl_grammar.specs.declared.token.Token.TheVariants.{Keyword as IsKeyword, Name, Number, Relation, OpenParen}
+use Rattle.stl_grammar.specs.declared.token.Token.TheVariants.{CloseParen, OpenBracket, CloseBracket, Comma, Star, Plus, Minus}
 use Rattle.stl_grammar.specs.declared.place.Place.{Place}
-use Rattle.stl_grammar.specs.declared.place.Place.TheVariants.{Operand, Bound, Low, Comma as AtComma, High, Closing, ClosingInf, Term as AtTerm, Star as AtStar, Name as AtName, Sign, Constant, Number as AtNumber, End}
+use Rattle.stl_grammar.specs.declared.place.Place.TheVariants.{Operand, Bound, Low, Comma as AtComma, High, Closing}
+use Rattle.stl_grammar.specs.declared.place.Place.TheVariants.{ClosingInf, Term as AtTerm, Star as AtStar, Name as AtName}
+use Rattle.stl_grammar.specs.declared.place.Place.TheVariants.{Sign, Constant, Number as AtNumber, End}
 use Rattle.stl_grammar.specs.declared.fault.What.{What}
-use Rattle.stl_grammar.specs.declared.fault.What.TheVariants.{Operand as WhatOperand, Number as WhatNumber, Comma as WhatComma, Bracket as WhatBracket, Star as WhatStar, Name as WhatName, Term as WhatTerm, Relation as WhatRelation, Constant as WhatConstant, Paren as WhatParen, End as WhatEnd}
+use Rattle.stl_grammar.specs.declared.fault.What.TheVariants.{Operand as WhatOperand, Number as WhatNumber, Comma as WhatComma}
+use Rattle.stl_grammar.specs.declared.fault.What.TheVariants.{Bracket as WhatBracket, Star as WhatStar, Name as WhatName}
+use Rattle.stl_grammar.specs.declared.fault.What.TheVariants.{Term as WhatTerm, Relation as WhatRelation}
+use Rattle.stl_grammar.specs.declared.fault.What.TheVariants.{Constant as WhatConstant, Paren as WhatParen, End as WhatEnd}
 use Rattle.stl_grammar.specs.declared.fault.FormulaFault.{FormulaFault}
 use Rattle.stl_grammar.specs.declared.fault.FormulaFault.TheVariants.{Expected, BadNumber, BoundOrder, UnboundedFuture, TooManyTerms, TooDeep, TooManyNodes}
 
@@ -47,7 +60,8 @@ tells_plain text (Name from to) t (name, e, at) =
     inl (e ∙ ap word (sym same))
 tells_plain text (Number d) t h = by_size (nat_le d.decimals 6) refl h
   where
-    by_size : (q : Bool) → nat_le d.decimals 6 ≡ q → MatchBool q (t ≡ number d.value d.decimals) (IsLarge t) → (t ≡ plain text (Number d)) ⊎ TellsLarge (Number d) t
+    by_size : (q : Bool) → nat_le d.decimals 6 ≡ q → MatchBool q (t ≡ number d.value d.decimals) (IsLarge t)
+        → (t ≡ plain text (Number d)) ⊎ TellsLarge (Number d) t
     by_size true e h = inl h
     by_size false e h = inr (e, h)
 tells_plain text (Relation r) t h = inl h
@@ -121,7 +135,8 @@ passes_end : (b : Bool) (n k : ℕ) → passes_limit (if b then WhatParen else W
 passes_end true n k = refl
 passes_end false n k = refl
 
-passes_same : (place : Place) (m : ℕ) (marks : List Mark) (n k : ℕ) → passes_limit (expected_at (place_at place m) marks) n k ≡ passes_limit (number_in place) n k
+passes_same : (place : Place) (m : ℕ) (marks : List Mark) (n k : ℕ)
+    → passes_limit (expected_at (place_at place m) marks) n k ≡ passes_limit (number_in place) n k
 passes_same Operand m marks n k = refl
 passes_same (Bound of) m marks n k = refl
 passes_same (Low of i) m marks n k = refl
@@ -292,7 +307,8 @@ numbers_alike at_number st n k m j = (refl, refl)
 numbers_alike at_end st n k m j = tt
 
 -- of two refusals in order, the first where its test says so
-pub choose : {A : Type 0} (P : Type 0) (a : A) (G : A → Type 0) (b : Bool) → (b ≡ true → P) → (b ≡ false → ¬ P) → (rest : Option A) → ((r : A) → rest ≡ Some r → G r)
+pub choose : {A : Type 0} (P : Type 0) (a : A) (G : A → Type 0) (b : Bool) → (b ≡ true → P) → (b ≡ false → ¬ P)
+    → (rest : Option A) → ((r : A) → rest ≡ Some r → G r)
     → (r : A) → (if b then Some a else rest) ≡ Some r → (Where P a or_else G) r
 choose P a G true y n rest g r e = inl (y refl, cc)
 choose P a G false y n rest g r e = inr (passed P a (n refl), g r e)
@@ -306,7 +322,8 @@ none_of a true rest e = absurd (cc)
 none_of a false rest e = (refl, e)
 
 -- a token after tokens that led to the parser's state
-module _ (text rest : List ℕ) (before : List Token) (p : Parse) (c : Code) (t : Token) (at : ℕ) (runs : run before ≡ Some (state_of p)) (fit : IsFit p) (tells : Tells text c t) where
+module _ (text rest : List ℕ) (before : List Token) (p : Parse) (c : Code) (t : Token) (at : ℕ)
+    (runs : run before ≡ Some (state_of p)) (fit : IsFit p) (tells : Tells text c t) where
   known : IsKnown text c
   known = tells_known text c t tells
 
@@ -318,7 +335,8 @@ module _ (text rest : List ℕ) (before : List Token) (p : Parse) (c : Code) (t 
       same (Some a) = (refl, refl)
 
       large : (c : Code) → TellsLarge c t → IsKnown text c → Alike (option_map state_of (parse_step text p c)) (step (state_of p) t)
-      large (Number d) (e, (n, k, f, l)) sees = rw (view_step text p (Number d) sees fit, f) (numbers_alike (state_of p).place (state_of p) d.value d.decimals n k)
+      large (Number d) (e, (n, k, f, l)) sees =
+          rw (view_step text p (Number d) sees fit, f) (numbers_alike (state_of p).place (state_of p) d.value d.decimals n k)
       large _ h sees = absurd h
 
       by_kind : (t ≡ plain text c) ⊎ TellsLarge c t → Alike (option_map state_of (parse_step text p c)) (step (state_of p) t)
@@ -335,7 +353,8 @@ module _ (text rest : List ℕ) (before : List Token) (p : Parse) (c : Code) (t 
   goes : (q : Parse) → parse_step text p c ≡ Some q → MayBegin (t ∷ before) × (length (pending (t ∷ before)) ≡ depth_of q) × (nodes_made (t ∷ before) ≡ q.made)
   goes q e = by_step (step (state_of p) t) refl (rw e at stepped)
     where
-      by_step : (o : Option State) → step (state_of p) t ≡ o → Alike (Some (state_of q)) o → MayBegin (t ∷ before) × (length (pending (t ∷ before)) ≡ depth_of q) × (nodes_made (t ∷ before) ≡ q.made)
+      by_step : (o : Option State) → step (state_of p) t ≡ o → Alike (Some (state_of q)) o
+          → MayBegin (t ∷ before) × (length (pending (t ∷ before)) ≡ depth_of q) × (nodes_made (t ∷ before) ≡ q.made)
       by_step None e h = absurd h
       by_step (Some next) e h =
           let r : run (t ∷ before) ≡ Some next = step_runs before (state_of p) t runs ∙ e in
@@ -385,7 +404,8 @@ module _ (text rest : List ℕ) (before : List Token) (p : Parse) (c : Code) (t 
 
       large : (c : Code) → TellsLarge c t → is_bad_number before t ≡ bad_in p.place c
       large (Number d) (e, (n, k, f, l)) =
-          rw (f, code_passes (number_in p.place) d.value d.decimals e) (run_bad_number before (state_of p) runs n k ∙ passes_large (expected_at (state_of p).place (state_of p).marks) n k l)
+          rw (f, code_passes (number_in p.place) d.value d.decimals e)
+          (run_bad_number before (state_of p) runs n k ∙ passes_large (expected_at (state_of p).place (state_of p).marks) n k l)
       large _ h = absurd h
 
       by_kind : (t ≡ plain text c) ⊎ TellsLarge c t → is_bad_number before t ≡ bad_in p.place c
@@ -412,10 +432,12 @@ module _ (text rest : List ℕ) (before : List Token) (p : Parse) (c : Code) (t 
       or_else Where (IsTrue (is_bad_number before t)) (BadNumber at)
       or_else Where (IsTrue (is_out_of_order before t)) (BoundOrder at)) r
   late =
-      choose (IsTrue (begins_fifth_term before t)) (TooManyTerms at) _ (fifth_in p.place (length p.terms) c) (λ e. fifth ∙ e) (λ e h. let x = sym fifth ∙ h in cc) _
+      choose (IsTrue (begins_fifth_term before t)) (TooManyTerms at) _ (fifth_in p.place (length p.terms) c) (λ e. fifth ∙ e)
+      (λ e h. let x = sym fifth ∙ h in cc) _
       (by_bad (bad_in p.place c) refl)
     where
-      by_bad : (b : Bool) → bad_in p.place c ≡ b → (r : FormulaFault) → (if b then Some (BadNumber at) else if disorder_in p.place c then Some (BoundOrder at) else None) ≡ Some r
+      by_bad : (b : Bool) → bad_in p.place c ≡ b → (r : FormulaFault)
+          → (if b then Some (BadNumber at) else if disorder_in p.place c then Some (BoundOrder at) else None) ≡ Some r
           → (Where (IsTrue (is_bad_number before t)) (BadNumber at) or_else Where (IsTrue (is_out_of_order before t)) (BoundOrder at)) r
       by_bad true e r h = inl (bad ∙ e, sym (same_Some _ _ h))
       by_bad false e r h =
@@ -427,7 +449,8 @@ module _ (text rest : List ℕ) (before : List Token) (p : Parse) (c : Code) (t 
   -- what the parser refuses is refused
   pub judged : (r : FormulaFault) → refused text p c rest at ≡ Some r → RefusedAt before t rest at r
   judged =
-      choose (IsTrue (is_unbounded before t rest)) (UnboundedFuture at) _ (unbounded_in p.place c rest) (λ e. unbounded ∙ e) (λ e h. let x = sym unbounded ∙ h in cc) _
+      choose (IsTrue (is_unbounded before t rest)) (UnboundedFuture at) _ (unbounded_in p.place c rest) (λ e. unbounded ∙ e)
+      (λ e h. let x = sym unbounded ∙ h in cc) _
       (by_step (parse_step text p c) refl)
     where
       deep : (q : Parse) → parse_step text p c ≡ Some q → nat_lt 64 (depth_of q) ≡ true → 64 < length (pending (t ∷ before))
@@ -490,7 +513,8 @@ module _ (text rest : List ℕ) (before : List Token) (p : Parse) (c : Code) (t 
       record {
         exact = same;
         next = step_runs before (state_of p) t runs ∙ (ap (step (state_of p)) same ∙ (sym (view_step text p c known fit) ∙ ap (option_map state_of) f));
-        free = not_refused before t rest at (unbounded ∙ a.0) g.0 (omega (arith, g.1, deep)) (omega (arith, g.2, made)) (fifth ∙ l.0) (bad ∙ n.0) (disorder n.0 ∙ o.0);
+        free = not_refused before t rest at (unbounded ∙ a.0) g.0 (omega (arith, g.1, deep)) (omega (arith, g.2, made))
+            (fifth ∙ l.0) (bad ∙ n.0) (disorder n.0 ∙ o.0);
         few = made;
         good = n.0;
         order = o.0;

@@ -25,7 +25,8 @@ one_formula text f g h k =
     same_formula f.nodes g.nodes f.scale g.scale (nodes_unique x k.parsed) e
 
 too_large_unique : (nodes : List Node) → AtMostOne (IsTooLarge {A = FormulaFault} ConstantTooLarge ReachTooLarge nodes)
-too_large_unique nodes = or_else-unique _ _ (λ x y h k. h.2 ∙ (ap ConstantTooLarge (one_first HasLargeConstant nodes h.0 k.0 h.1 k.1) ∙ sym k.2)) (where-unique _ _)
+too_large_unique nodes = or_else-unique _ _
+    (λ x y h k. h.2 ∙ (ap ConstantTooLarge (one_first HasLargeConstant nodes h.0 k.0 h.1 k.1) ∙ sym k.2)) (where-unique _ _)
 
 late_unique : (text : List ℕ) → AtMostOne (IsLateFault text)
 late_unique text x y h k =
@@ -33,4 +34,5 @@ late_unique text x y h k =
 
 -- and at most one first refusal
 pub one_refusal : OneRefusal
-one_refusal text = or_else-unique _ _ (where-unique _ _) (or_else-unique _ _ (where-unique _ _) (or_else-unique _ _ (λ x y h k. TokenFault-unique h k) (late_unique text)))
+one_refusal text = or_else-unique _ _ (where-unique _ _)
+    (or_else-unique _ _ (where-unique _ _) (or_else-unique _ _ (λ x y h k. TokenFault-unique h k) (late_unique text)))

@@ -1,5 +1,6 @@
 -- Where the tokens of a formula have fewer decimals than the scale has digits, its numbers are multiples of ten.
-use Rattle.std.proofs.Common.{◌≡◌, ℕ, suc, ◌+◌, ◌-◌, ◌*◌, ◌^◌, ◌%◌, ◌<◌, ◌≤◌, List, [], ◌∷◌, ◌++◌, length, refl, ap, sym, ◌∙◌, Bool, true, false, arith, append_assoc, inl, inr, ◌⊎◌}
+use Rattle.std.proofs.Common.{◌≡◌, ℕ, suc, ◌+◌, ◌-◌, ◌*◌, ◌^◌, ◌%◌, ◌<◌, ◌≤◌, List, [], ◌∷◌, ◌++◌, length}
+use Rattle.std.proofs.Common.{refl, ap, sym, ◌∙◌, Bool, true, false, arith, append_assoc, inl, inr, ◌⊎◌}
 use Rattle.std.specs.Prelude.{codes, nat_abs, Option, All}
 use Rattle.std.proofs.Math.Nat.{pow-suc}
 use Rattle.std.proofs.lemmas.List.{append-nil}
@@ -10,11 +11,14 @@ use Rattle.stl_syntax.specs.Characters.{ticks}
 use Rattle.stl_syntax.specs.declared.scale.Scale.{Scale}
 use Rattle.stl_syntax.specs.declared.node.Node.{Node}
 use Rattle.stl_syntax.specs.declared.node.Node.TheVariants.{Const, Atom as Leaf, Not, And, Or, Implies, Until, Eventually, Always, Since, Once, Historically}
-use Rattle.stl_grammar.specs.Grammar.{top, Token, word, number, relation, open_paren, close_paren, open_bracket, close_bracket, comma, plus, minus, first_decimals, value_digits, time_digits}
+use Rattle.stl_grammar.specs.Grammar.{top, Token, word, number, relation, open_paren, close_paren, open_bracket}
+use Rattle.stl_grammar.specs.Grammar.{close_bracket, comma, plus, minus, first_decimals, value_digits, time_digits}
 use Rattle.stl_grammar.specs.Grammar.{IsConstant, plain, positive, negative, IsAtom, first, signed}
 use Rattle.stl_grammar.specs.Grammar.{IsFutureWindow, bound, IsPastWindow, nothing, bounded, unbounded, IsPast}
 use Rattle.stl_grammar.specs.Grammar.IsPast.{nothing as since_nothing, bounded as since_bounded, unbounded as since_unbounded}
-use Rattle.stl_grammar.specs.Grammar.{IsFormula, IsDisjunct, IsConjunct, IsTimed, IsOperand, disjunct, implies, conjunct, or, timed, and, operand, until, since, not, eventually, always, once, historically, always_true, always_false, parens, atom}
+use Rattle.stl_grammar.specs.Grammar.{IsFormula, IsDisjunct, IsConjunct, IsTimed, IsOperand, disjunct, implies}
+use Rattle.stl_grammar.specs.Grammar.{conjunct, or, timed, and, operand, until, since, not, eventually, always}
+use Rattle.stl_grammar.specs.Grammar.{once, historically, always_true, always_false, parens, atom}
 use Rattle.stl_grammar.specs.Laws.{with_upper, bounds_of, constants_of, Any, IsUneven, NeedsDigits, PrintedTextsAreRead}
 use Rattle.stl_grammar.proofs.NumberLemmas.{abs_neg}
 use Rattle.stl_grammar.proofs.PrintedRead.{printed_read}
@@ -61,7 +65,8 @@ low_right dt dv ts us h = record {
 low_rest : (dt dv : ℕ) (t : Token) (ts : List Token) → IsLow dt dv (t ∷ ts) → IsLow dt dv ts
 low_rest dt dv t ts h = low_right dt dv (t ∷ []) ts h
 
-time_low : (pre post : List Token) (a j : ℕ) → (j ≤ time_digits (pre ++ number a j ∷ comma ∷ post)) × (first_decimals post ≤ time_digits (pre ++ number a j ∷ comma ∷ post))
+time_low : (pre post : List Token) (a j : ℕ)
+    → (j ≤ time_digits (pre ++ number a j ∷ comma ∷ post)) × (first_decimals post ≤ time_digits (pre ++ number a j ∷ comma ∷ post))
 time_low [] post a j = (omega arith, omega arith)
 time_low (number n i ∷ pre) post a j = let x = time_low pre post a j in (omega (arith, x.0), omega (arith, x.1))
 time_low (word w ∷ pre) post a j = time_low pre post a j
@@ -195,7 +200,8 @@ no_node numbers (n ∷ ns) h (inl a) = no_uneven (numbers n) (All-head (λ n. Te
 no_node numbers (n ∷ ns) h (inr a) = no_node numbers ns (All-tail (λ n. Tens (numbers n)) n ns h) a
 
 -- digits that are needed are there
-digits_there : (digits low : ℕ) (numbers : Node → List ℕ) (ns : List Node) → low ≤ digits → (low < digits → All (λ n. Tens (numbers n)) ns) → NeedsDigits digits numbers ns → digits ≡ low
+digits_there : (digits low : ℕ) (numbers : Node → List ℕ) (ns : List Node) → low ≤ digits
+    → (low < digits → All (λ n. Tens (numbers n)) ns) → NeedsDigits digits numbers ns → digits ≡ low
 digits_there digits low numbers ns l h (inl e) = omega arith
 digits_there digits low numbers ns l h (inr a) = by_order (cases_order digits low)
   where
@@ -216,6 +222,8 @@ printed_texts_are_read f text w least h =
     let (ts, l, d, short) = printed_read f text w h in
     let all = formula_ten f.scale (time_digits ts) (value_digits ts) d (whole_low ts) in
     let P = IsTen f.scale (time_digits ts) (value_digits ts) in
-    let time = digits_there f.scale.time (time_digits ts) bounds_of f.nodes short.short.time (λ m. All-weaker P (λ n. Tens (bounds_of n)) (λ n g. g.0 m) f.nodes all) least.time in
-    let value = digits_there f.scale.value (value_digits ts) constants_of f.nodes short.short.value (λ m. All-weaker P (λ n. Tens (constants_of n)) (λ n g. g.1 m) f.nodes all) least.value in
+    let time = digits_there f.scale.time (time_digits ts) bounds_of f.nodes short.short.time (λ m.
+    All-weaker P (λ n. Tens (bounds_of n)) (λ n g. g.0 m) f.nodes all) least.time in
+    let value = digits_there f.scale.value (value_digits ts) constants_of f.nodes short.short.value (λ m.
+    All-weaker P (λ n. Tens (constants_of n)) (λ n g. g.1 m) f.nodes all) least.value in
     record { tokens = ts; lexed = l; scale = scale_is f.scale (time_digits ts) (value_digits ts) time value; parsed = d }

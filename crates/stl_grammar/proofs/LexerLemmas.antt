@@ -1,5 +1,6 @@
 -- The first token of a text.
-use Rattle.std.proofs.Common.{◌≡◌, ℕ, suc, zero, ◌+◌, ◌-◌, ◌<◌, ◌≤◌, min, Bool, true, false, List, [], ◌∷◌, ◌++◌, length, take, drop, get_or, refl, sym, ap, ◌∙◌, arith, append_assoc}
+use Rattle.std.proofs.Common.{◌≡◌, ℕ, suc, zero, ◌+◌, ◌-◌, ◌<◌, ◌≤◌, min, Bool, true, false, List, [], ◌∷◌}
+use Rattle.std.proofs.Common.{◌++◌, length, take, drop, get_or, refl, sym, ap, ◌∙◌, arith, append_assoc}
 use Rattle.std.specs.Prelude.{◌==◌, ◌||◌, nat_lt, nat_le, IsTrue, MatchBool}
 use Rattle.std.specs.Str.{IsAscii}
 use Rattle.std.proofs.lemmas.Bool.{eqb-true}
@@ -32,7 +33,8 @@ rest_is n xs = take_all (length xs - n) (drop n xs) (omega (arith, length-drop n
 pub one_byte : (text rest : List ℕ) (c : ℕ) (t : Token) (code : Code) → 0 < length rest → get_or rest 0 0 ≡ c → ((after : List ℕ) → IsToken (c ∷ []) after t)
     → Tells text code t → IsLexeme text rest code 1
 one_byte text [] c t code l e h k = absurd (omega (arith, l))
-one_byte text (d ∷ rest) c t code l e h k = record { bytes = c ∷ []; after = rest; token = t; splits = ap (λ x. x ∷ rest) e; size = refl; reads = h rest; tells = k }
+one_byte text (d ∷ rest) c t code l e h k =
+    record { bytes = c ∷ []; after = rest; token = t; splits = ap (λ x. x ∷ rest) e; size = refl; reads = h rest; tells = k }
 
 -- a relation, with = after its first byte or without it
 abbrev pub TellsRelation : List ℕ → Rel → Rel → Code → ℕ → Type 0
@@ -58,7 +60,8 @@ a_relation text [] c strict weak code len l e h k m = absurd (omega (arith, l))
 a_relation text (b ∷ []) c strict weak code len l e h k m = rw e (strict_relation text [] c strict code len tt k m)
 a_relation text (b ∷ d ∷ more) c strict weak code len l e h k m = rw e (by_second (d == 61) refl m)
   where
-    by_second : (q : Bool) → (d == 61) ≡ q → MatchBool q ((code ≡ Relation weak) × (len ≡ 2)) ((code ≡ Relation strict) × (len ≡ 1)) → IsLexeme text (c ∷ d ∷ more) code len
+    by_second : (q : Bool) → (d == 61) ≡ q → MatchBool q ((code ≡ Relation weak) × (len ≡ 2)) ((code ≡ Relation strict) × (len ≡ 1))
+        → IsLexeme text (c ∷ d ∷ more) code len
     by_second true f m = rw (eqb-true d 61 f) (weak_relation text more c weak code len h m)
     by_second false f m = strict_relation text (d ∷ more) c strict code len f k m
 
@@ -111,9 +114,12 @@ module _ (text rest : List ℕ) (w v : ℕ) (some : 0 < length rest) (first : is
       }
 
   -- with l decimals, of which k are kept
-  pub decimal_lexeme : (l k u : ℕ) (d : Decimal) → begins_decimals (drop w rest) ≡ true → l ≤ length (drop (w + 1) rest) → all is_digit (take l (drop (w + 1) rest)) ≡ true
-      → StopsAt is_digit (drop l (drop (w + 1) rest)) → k ≤ length (take l (drop (w + 1) rest)) → take k (take l (drop (w + 1) rest)) ≡ without_zeros (take l (drop (w + 1) rest))
-      → min u 4294967296 ≡ min (decimal_value v (take k (take l (drop (w + 1) rest)))) 4294967296 → TellsNumber u k d → IsLexeme text rest (Number d) (w + 1 + l)
+  pub decimal_lexeme : (l k u : ℕ) (d : Decimal) → begins_decimals (drop w rest) ≡ true → l ≤ length (drop (w + 1) rest)
+      → all is_digit (take l (drop (w + 1) rest)) ≡ true
+      → StopsAt is_digit (drop l (drop (w + 1) rest)) → k ≤ length (take l (drop (w + 1) rest))
+      → take k (take l (drop (w + 1) rest)) ≡ without_zeros (take l (drop (w + 1) rest))
+      → min u 4294967296 ≡ min (decimal_value v (take k (take l (drop (w + 1) rest)))) 4294967296 → TellsNumber u k d
+      → IsLexeme text rest (Number d) (w + 1 + l)
   decimal_lexeme l k u d b m f s n z e h =
       let p = point_at (drop w rest) b in
       let same : drop 1 (drop w rest) ≡ drop (w + 1) rest = drop-drop 1 w rest in
@@ -133,7 +139,8 @@ module _ (text rest : List ℕ) (w v : ℕ) (some : 0 < length rest) (first : is
         splits = sym (append_assoc (take w rest) (46 ∷ fraction) (drop l (drop (w + 1) rest))
             ∙ ap (λ xs. take w rest ++ 46 ∷ xs) (take-append-drop l (drop (w + 1) rest)) ∙ ap (λ xs. take w rest ++ xs) (sym starts) ∙ take-append-drop w rest);
         size = length_two (take w rest) fraction w l (length-take-le w rest within) size;
-        reads = decimal_token (take w rest) fraction (drop l (drop (w + 1) rest)) digits (omega (arith, size, front_some is_digit (drop (w + 1) rest) l more digit s)) front f s;
+        reads = decimal_token (take w rest) fraction (drop l (drop (w + 1) rest)) digits
+            (omega (arith, size, front_some is_digit (drop (w + 1) rest) l more digit s)) front f s;
         tells = tells_number u _ _ d exact (rw kept h);
       }
     where
@@ -152,7 +159,8 @@ module _ (text rest : List ℕ) (w v : ℕ) (some : 0 < length rest) (first : is
       decimal_lexeme l k u d (rw o at b) (rw e' at m) (rw e' at f) (rw e' at s) (rw e' at n) (rw e' at z) (rw e' at e) h
 
   -- so for slices
-  pub whole_lexeme_of : (others : List ℕ) → others ≡ drop w rest → (d : Decimal) → begins_decimals others ≡ false → TellsNumber v 0 d → IsLexeme text rest (Number d) w
+  pub whole_lexeme_of : (others : List ℕ) → others ≡ drop w rest → (d : Decimal) → begins_decimals others ≡ false
+      → TellsNumber v 0 d → IsLexeme text rest (Number d) w
   whole_lexeme_of others o d b h = whole_lexeme d (rw o at b) h
 
 -- decimals that are kept are digits
@@ -160,7 +168,8 @@ pub kept_digits : (fraction : List ℕ) (k : ℕ) → all is_digit fraction ≡ 
 kept_digits fraction k h z = rw z (all-without_zeros fraction h)
 
 -- a word at place `at` of a text, with n bytes after its first
-module _ (text : List ℕ) (at n : ℕ) (place : at < length text) (first : begins_word (get_or text at 0) ≡ true) (more : List ℕ) (same : more ≡ drop (at + 1) text)
+module _ (text : List ℕ) (at n : ℕ) (place : at < length text) (first : begins_word (get_or text at 0) ≡ true) (more : List ℕ)
+    (same : more ≡ drop (at + 1) text)
     (within : n ≤ length more) (front : all goes_on_word (take n more) ≡ true) (stops : StopsAt goes_on_word (drop n more)) where
   bytes : List ℕ
   bytes = get_or text at 0 ∷ take n more

@@ -9,12 +9,20 @@ use Rattle.stl_syntax.specs.declared.rel.Rel.{Rel}
 use Rattle.stl_syntax.specs.declared.rel.Rel.TheVariants.{AtLeast}
 use Rattle.stl_syntax.specs.declared.node.Node.{Node}
 use Rattle.stl_grammar.specs.Grammar.{reserved, Token, word, number, relation, open_paren, close_paren, open_bracket, close_bracket, comma, star, plus, minus}
-use Rattle.stl_grammar.specs.Grammar.{IsConstant, plain, positive, negative, IsTerm, scaled, AreTerms, more_plus, more_minus, first, signed, IsOpening, IsClosing, inside, outside}
+use Rattle.stl_grammar.specs.Grammar.{IsConstant, plain, positive, negative, IsTerm, scaled, AreTerms, more_plus}
+use Rattle.stl_grammar.specs.Grammar.{more_minus, first, signed, IsOpening, IsClosing, inside, outside}
 use Rattle.stl_grammar.specs.Grammar.{name as term_name, none as no_terms}
 use Rattle.stl_grammar.specs.Grammar.{IsFutureWindow, bound, IsPastWindow, nothing, bounded, unbounded, IsFuture, IsPast}
 use Rattle.stl_grammar.specs.Grammar.IsPast.{nothing as since_nothing, bounded as since_bounded, unbounded as since_unbounded}
-use Rattle.stl_grammar.specs.Grammar.{IsFormula, IsDisjunct, IsConjunct, IsTimed, IsOperand, disjunct, implies, conjunct, or, timed, and, operand, until, since, not, eventually, always, once, historically, always_true, always_false, parens, atom}
-use Rattle.stl_grammar.specs.Machine.{Kind, kind, an_until, a_since, an_inf, a_name, Owner, of_until, of_since, of_future, of_past, looks_back, opens, closes, Place, at_operand, at_bound, at_low, at_comma, at_high, at_closing, at_term, at_star, at_name, at_sign, at_constant, at_number, at_end, Mark, paren, operator, implication, State, start, without_operators, closed, begin_word, begin_operand, step_bound, step_inf, step_name, step_connective, step, step_from, step_at, run, in_paren, ends_at}
+use Rattle.stl_grammar.specs.Grammar.{IsFormula, IsDisjunct, IsConjunct, IsTimed, IsOperand, disjunct, implies}
+use Rattle.stl_grammar.specs.Grammar.{conjunct, or, timed, and, operand, until, since, not, eventually, always}
+use Rattle.stl_grammar.specs.Grammar.{once, historically, always_true, always_false, parens, atom}
+use Rattle.stl_grammar.specs.Machine.{Kind, kind, an_until, a_since, an_inf, a_name, Owner, of_until, of_since}
+use Rattle.stl_grammar.specs.Machine.{of_future, of_past, looks_back, opens, closes, Place, at_operand, at_bound}
+use Rattle.stl_grammar.specs.Machine.{at_low, at_comma, at_high, at_closing, at_term, at_star, at_name, at_sign}
+use Rattle.stl_grammar.specs.Machine.{at_constant, at_number, at_end, Mark, paren, operator, implication, State}
+use Rattle.stl_grammar.specs.Machine.{start, without_operators, closed, begin_word, begin_operand, step_bound}
+use Rattle.stl_grammar.specs.Machine.{step_inf, step_name, step_connective, step, step_from, step_at, run, in_paren, ends_at}
 use Rattle.stl_grammar.specs.FormulaRefusals.{MayBegin, MayEnd}
 use Rattle.stl_grammar.proofs.WordKinds.{by_words, among_reserved, name_kind, is_word}
 
@@ -202,7 +210,8 @@ hole_implies pre ts h t = record {
   c = [];
   is = rw h.is (simp (append_assoc, append-nil {A = Token}));
   forms = λ us u.
-      let e : h.q ++ (h.p ++ (h.c ++ (ts ++ word (codes "implies") ∷ []))) ++ us ≡ h.q ++ (h.p ++ (h.c ++ ts) ++ word (codes "implies") ∷ us) = simp append_assoc in
+      let e : h.q ++ (h.p ++ (h.c ++ (ts ++ word (codes "implies") ∷ []))) ++ us ≡ h.q ++ (h.p ++ (h.c ++ ts) ++ word (codes "implies") ∷ us) =
+      simp append_assoc in
       rw e (h.forms (h.p ++ (h.c ++ ts) ++ word (codes "implies") ∷ us) (an_implies (h.p ++ (h.c ++ ts)) us (h.disjuncts (h.c ++ ts) (h.conjuncts ts t)) u));
   disjuncts = λ us u. a_disjunct us u;
   conjuncts = λ us u. a_conjunct us u;
@@ -220,7 +229,8 @@ alone = record { fills = λ ts p k. ((p k).0, operand (p k).1); none = λ e. ref
 mutual
   data Awaits : Bool → List Mark → List Token → Type 0 where
     level : {h : Bool} {marks : List Mark} {pre a b : List Token} → Base marks pre → TimedHole a → Right h b → Awaits h marks (pre ++ (a ++ b))
-    inside_operator : {h : Bool} {marks : List Mark} {pre : List Token} (op : List Token) → Awaits h marks pre → Fills AnOperand AnOperand op → Awaits h (operator ∷ marks) (pre ++ op)
+    inside_operator : {h : Bool} {marks : List Mark} {pre : List Token} (op : List Token) → Awaits h marks pre
+        → Fills AnOperand AnOperand op → Awaits h (operator ∷ marks) (pre ++ op)
 
   -- the tokens up to the last parenthesis that is pending
   data Base : List Mark → List Token → Type 0 where
@@ -245,7 +255,8 @@ base_marks bottom = refl
 base_marks (implied b) = refl
 base_marks (in_parens w) = refl
 
-finish : {h : Bool} {marks : List Mark} {pre : List Token} → Awaits h marks pre → (us : List Token) → AnOperand us → After h (without_operators marks) (pre ++ us)
+finish : {h : Bool} {marks : List Mark} {pre : List Token} → Awaits h marks pre → (us : List Token) → AnOperand us
+    → After h (without_operators marks) (pre ++ us)
 finish (level {pre = pre} {a} {b} base hole right) us p =
     rw (base_marks base) (record { pre = pre; a = a; b = b; us = us; base = base; hole = hole; right = right; last = p; is = simp append_assoc })
 finish (inside_operator {pre = pre} op w f) us p = rw (append_assoc pre op us) (finish w (op ++ us) (f us p))
@@ -253,17 +264,21 @@ finish (inside_operator {pre = pre} op w f) us p = rw (append_assoc pre op us) (
 -- after an operand: a connective
 after_and : {h : Bool} {marks : List Mark} {whole : List Token} → After h marks whole → Awaits false marks (whole ++ word (codes "and") ∷ [])
 after_and {h} {marks} {whole} r =
-    let e : whole ++ word (codes "and") ∷ [] ≡ r.pre ++ (r.a ++ ((r.b ++ r.us) ++ word (codes "and") ∷ []) ++ []) = rw r.is (simp (append_assoc, append-nil {A = Token})) in
+    let e : whole ++ word (codes "and") ∷ [] ≡ r.pre ++ (r.a ++ ((r.b ++ r.us) ++ word (codes "and") ∷ []) ++ []) =
+    rw r.is (simp (append_assoc, append-nil {A = Token})) in
     rw e (level r.base (hole_and r.a (r.b ++ r.us) r.hole (r.right.fills r.us r.last)) alone)
 
 after_or : {h : Bool} {marks : List Mark} {whole : List Token} → After h marks whole → Awaits false marks (whole ++ word (codes "or") ∷ [])
 after_or {h} {marks} {whole} r =
-    let e : whole ++ word (codes "or") ∷ [] ≡ r.pre ++ (r.a ++ ((r.b ++ r.us) ++ word (codes "or") ∷ []) ++ []) = rw r.is (simp (append_assoc, append-nil {A = Token})) in
+    let e : whole ++ word (codes "or") ∷ [] ≡ r.pre ++ (r.a ++ ((r.b ++ r.us) ++ word (codes "or") ∷ []) ++ []) =
+    rw r.is (simp (append_assoc, append-nil {A = Token})) in
     rw e (level r.base (hole_or r.a (r.b ++ r.us) r.hole (r.right.fills r.us r.last)) alone)
 
-after_implies : {h : Bool} {marks : List Mark} {whole : List Token} → After h marks whole → Awaits false (implication ∷ marks) (whole ++ word (codes "implies") ∷ [])
+after_implies : {h : Bool} {marks : List Mark} {whole : List Token} → After h marks whole
+    → Awaits false (implication ∷ marks) (whole ++ word (codes "implies") ∷ [])
 after_implies {h} {marks} {whole} r =
-    let e : whole ++ word (codes "implies") ∷ [] ≡ r.pre ++ (r.a ++ ((r.b ++ r.us) ++ word (codes "implies") ∷ []) ++ []) = rw r.is (simp (append_assoc, append-nil {A = Token})) in
+    let e : whole ++ word (codes "implies") ∷ [] ≡ r.pre ++ (r.a ++ ((r.b ++ r.us) ++ word (codes "implies") ∷ []) ++ []) =
+    rw r.is (simp (append_assoc, append-nil {A = Token})) in
     rw e (level (implied r.base) (hole_implies r.a (r.b ++ r.us) r.hole (r.right.fills r.us r.last)) alone)
 
 right_until : (us bs : List Token) → AnOperand us → FitsUntil bs → Right true (us ++ word (codes "until") ∷ bs)
@@ -275,13 +290,15 @@ right_since us bs p f = record { fills = λ vs v k. let x = p k in let y = v (k 
 after_until : {marks : List Mark} {whole : List Token} → After false marks whole → (bs : List Token) → Bound of_until bs
     → Awaits true marks (whole ++ word (codes "until") ∷ [] ++ bs)
 after_until {marks} {whole} r bs f =
-    let e : whole ++ word (codes "until") ∷ [] ++ bs ≡ r.pre ++ (r.a ++ (r.us ++ word (codes "until") ∷ bs)) = rw (r.is, r.right.none refl) (simp append_assoc) in
+    let e : whole ++ word (codes "until") ∷ [] ++ bs ≡ r.pre ++ (r.a ++ (r.us ++ word (codes "until") ∷ bs)) =
+    rw (r.is, r.right.none refl) (simp append_assoc) in
     rw e (level r.base r.hole (right_until r.us bs r.last (until_fits f)))
 
 after_since : {marks : List Mark} {whole : List Token} → After false marks whole → (bs : List Token) → Bound of_since bs
     → Awaits true marks (whole ++ word (codes "since") ∷ [] ++ bs)
 after_since {marks} {whole} r bs f =
-    let e : whole ++ word (codes "since") ∷ [] ++ bs ≡ r.pre ++ (r.a ++ (r.us ++ word (codes "since") ∷ bs)) = rw (r.is, r.right.none refl) (simp append_assoc) in
+    let e : whole ++ word (codes "since") ∷ [] ++ bs ≡ r.pre ++ (r.a ++ (r.us ++ word (codes "since") ∷ bs)) =
+    rw (r.is, r.right.none refl) (simp append_assoc) in
     rw e (level r.base r.hole (right_since r.us bs r.last (since_fits f)))
 
 -- the operators before an operand
@@ -332,7 +349,8 @@ constant_tail (after_minus (the_number n k)) = (_, negative)
 
 -- further terms, a relation and a constant
 abbrev EndsAtom : List Token → Type 0
-EndsAtom us = (ws : List Token) × (terms : List Term) × (r : Rel) × (vs : List Token) × (c : _) × AreTerms ws terms × IsConstant 0 vs c × (us ≡ ws ++ relation r ∷ vs)
+EndsAtom us = (ws : List Token) × (terms : List Term) × (r : Rel) × (vs : List Token) × (c : _) × AreTerms ws terms
+    × IsConstant 0 vs c × (us ≡ ws ++ relation r ∷ vs)
 
 -- a term, and then those
 abbrev EndsTerm : List Token → Type 0
@@ -341,10 +359,26 @@ EndsTerm us = (ts : List Token) × (k : ℕ) × (w : List ℕ) × (rest : List T
 mutual
   sign_tail : {us : List Token} → SignTail us → EndsAtom us
   sign_tail (a_relation r {us} c) = let x = constant_tail c in ([], [], r, us, x.0, no_terms, x.1, refl)
-  sign_tail (a_plus t) = let x = term_tail t in let y = x.5 in
-      (plus ∷ x.0 ++ y.0, _, y.2, y.3, y.4, more_plus x.4 y.5, y.6, ap (λ z. plus ∷ z) (x.6 ∙ (ap (λ z. x.0 ++ z) y.7 ∙ sym (append_assoc x.0 y.0 (relation y.2 ∷ y.3)))))
-  sign_tail (a_minus t) = let x = term_tail t in let y = x.5 in
-      (minus ∷ x.0 ++ y.0, _, y.2, y.3, y.4, more_minus x.4 y.5, y.6, ap (λ z. minus ∷ z) (x.6 ∙ (ap (λ z. x.0 ++ z) y.7 ∙ sym (append_assoc x.0 y.0 (relation y.2 ∷ y.3)))))
+  sign_tail (a_plus t) = let x = term_tail t in let y = x.5 in (
+    plus ∷ x.0 ++ y.0,
+    _,
+    y.2,
+    y.3,
+    y.4,
+    more_plus x.4 y.5,
+    y.6,
+    ap (λ z. plus ∷ z) (x.6 ∙ (ap (λ z. x.0 ++ z) y.7 ∙ sym (append_assoc x.0 y.0 (relation y.2 ∷ y.3)))),
+  )
+  sign_tail (a_minus t) = let x = term_tail t in let y = x.5 in (
+    minus ∷ x.0 ++ y.0,
+    _,
+    y.2,
+    y.3,
+    y.4,
+    more_minus x.4 y.5,
+    y.6,
+    ap (λ z. minus ∷ z) (x.6 ∙ (ap (λ z. x.0 ++ z) y.7 ∙ sym (append_assoc x.0 y.0 (relation y.2 ∷ y.3)))),
+  )
 
   term_tail : {us : List Token} → TermTail us → EndsTerm us
   term_tail (plain_name w {us} e s) = (word w ∷ [], 1, w, us, term_name e, sign_tail s, refl)
@@ -395,10 +429,12 @@ same_state : (a b : State) (whole : List Token) → Some a ≡ Some b → HoldsA
 same_state a b whole e h = let f : a ≡ b = cc in rw (← f) h
 
 -- one token more, and then those
-shifted : (h : Bool) (marks : List Mark) (whole : List Token) (t : Token) (us : List Token) → After h marks (whole ++ t ∷ us) → After h marks (whole ++ t ∷ [] ++ us)
+shifted : (h : Bool) (marks : List Mark) (whole : List Token) (t : Token) (us : List Token) → After h marks (whole ++ t ∷ us)
+    → After h marks (whole ++ t ∷ [] ++ us)
 shifted h marks whole t us x = rw append_assoc x
 
-shifted_awaits : (h : Bool) (marks : List Mark) (whole : List Token) (t : Token) (us : List Token) → Awaits h marks (whole ++ t ∷ us) → Awaits h marks (whole ++ t ∷ [] ++ us)
+shifted_awaits : (h : Bool) (marks : List Mark) (whole : List Token) (t : Token) (us : List Token)
+    → Awaits h marks (whole ++ t ∷ us) → Awaits h marks (whole ++ t ∷ [] ++ us)
 shifted_awaits h marks whole t us x = rw append_assoc x
 
 module _ (h : Bool) (marks : List Mark) (n : ℕ) (p : Place) (whole : List Token) where
@@ -417,16 +453,22 @@ module _ (h : Bool) (marks : List Mark) (n : ℕ) (p : Place) (whole : List Toke
       (λ next e. absurd (cc))
       (λ next e. absurd (cc))
       (λ next e. absurd (cc))
-      (λ next e. same_state _ next _ e (λ us b. shifted_awaits h (operator ∷ marks) whole _ us (inside_operator (word (codes "eventually") ∷ us) x (fills_eventually us (future_fits b)))))
-      (λ next e. same_state _ next _ e (λ us b. shifted_awaits h (operator ∷ marks) whole _ us (inside_operator (word (codes "always") ∷ us) x (fills_always us (future_fits b)))))
-      (λ next e. same_state _ next _ e (λ us b. shifted_awaits h (operator ∷ marks) whole _ us (inside_operator (word (codes "once") ∷ us) x (fills_once us (past_fits b)))))
-      (λ next e. same_state _ next _ e (λ us b. shifted_awaits h (operator ∷ marks) whole _ us (inside_operator (word (codes "historically") ∷ us) x (fills_historically us (past_fits b)))))
+      (λ next e. same_state _ next _ e (λ us b.
+      shifted_awaits h (operator ∷ marks) whole _ us (inside_operator (word (codes "eventually") ∷ us) x (fills_eventually us (future_fits b)))))
+      (λ next e. same_state _ next _ e
+      (λ us b. shifted_awaits h (operator ∷ marks) whole _ us (inside_operator (word (codes "always") ∷ us) x (fills_always us (future_fits b)))))
+      (λ next e. same_state _ next _ e
+      (λ us b. shifted_awaits h (operator ∷ marks) whole _ us (inside_operator (word (codes "once") ∷ us) x (fills_once us (past_fits b)))))
+      (λ next e. same_state _ next _ e (λ us b.
+      shifted_awaits h (operator ∷ marks) whole _ us (inside_operator (word (codes "historically") ∷ us) x (fills_historically us (past_fits b)))))
       (λ next e. absurd (cc))
-      (λ w g next e. same_state _ next _ (rw (name_kind w g) at e) (λ us b. shifted h _ whole _ us (finish x (word w ∷ us) (term_operand (word w ∷ us) (term_tail (plain_name w g b))))))
+      (λ w g next e. same_state _ next _ (rw (name_kind w g) at e)
+      (λ us b. shifted h _ whole _ us (finish x (word w ∷ us) (term_operand (word w ∷ us) (term_tail (plain_name w g b))))))
 
   begins : Awaits h marks whole → (t : Token) (next : State) → begin_operand now t ≡ Some next → HoldsAt next (whole ++ t ∷ [])
   begins x (word w) next e = begins_word x w next e
-  begins x (number m k) next e = same_state _ next _ e (λ us b. shifted h _ whole _ us (finish x (number m k ∷ us) (term_operand (number m k ∷ us) (star_tail m k b))))
+  begins x (number m k) next e = same_state _ next _ e
+      (λ us b. shifted h _ whole _ us (finish x (number m k ∷ us) (term_operand (number m k ∷ us) (star_tail m k b))))
   begins x open_paren next e = same_state _ next _ e (rw append-nil at (level {a = []} {b = []} (in_parens x) no_hole alone))
   begins x plus next e = same_state _ next _ e (λ us b. shifted h _ whole _ us (finish x (plus ∷ us) (plus_operand us b)))
   begins x minus next e = same_state _ next _ e (λ us b. shifted h _ whole _ us (finish x (minus ∷ us) (minus_operand us b)))
@@ -437,7 +479,8 @@ module _ (h : Bool) (marks : List Mark) (n : ℕ) (p : Place) (whole : List Toke
   begins x comma next e = absurd (cc)
   begins x star next e = absurd (cc)
 
-  bounds : (o : Owner) → ((us : List Token) → Bound o us → Awaits h marks (whole ++ us)) → (t : Token) (next : State) → step_bound o now t ≡ Some next → HoldsAt next (whole ++ t ∷ [])
+  bounds : (o : Owner) → ((us : List Token) → Bound o us → Awaits h marks (whole ++ us)) → (t : Token) (next : State)
+      → step_bound o now t ≡ Some next → HoldsAt next (whole ++ t ∷ [])
   bounds o x t next e = opened (opens o t) refl
     where
       left : (b : Bool) → looks_back o ≡ b → opens o t ≡ false → HoldsAt next (whole ++ t ∷ [])
@@ -448,7 +491,8 @@ module _ (h : Bool) (marks : List Mark) (n : ℕ) (p : Place) (whole : List Toke
       opened true f = same_state _ next _ (rw f at e) (λ us b. shifted_awaits h marks whole t us (x (t ∷ us) (opening t f b)))
       opened false f = left (looks_back o) refl f
 
-  closes_bound : (o : Owner) → ((us : List Token) → Closing o us → Awaits h marks (whole ++ us)) → (t : Token) (next : State) → step_at (at_closing o) now t ≡ Some next
+  closes_bound : (o : Owner) → ((us : List Token) → Closing o us → Awaits h marks (whole ++ us)) → (t : Token) (next : State)
+      → step_at (at_closing o) now t ≡ Some next
       → HoldsAt next (whole ++ t ∷ [])
   closes_bound o x t next e = closed_by (closes o t) refl
     where
@@ -469,7 +513,8 @@ module _ (h : Bool) (marks : List Mark) (n : ℕ) (p : Place) (whole : List Toke
       back true f next e = same_state _ next _ (rw f at e) (λ us b. shifted_awaits h marks whole _ us (x (word (codes "inf") ∷ us) (no_upper f b)))
       back false f next e = let z = rw f at e in absurd (cc)
 
-  names : (m : ℕ) (w : List ℕ) → (is_among w reserved ≡ false → (us : List Token) → SignTail us → After h (without_operators marks) (whole ++ word w ∷ us)) → (next : State)
+  names : (m : ℕ) (w : List ℕ)
+      → (is_among w reserved ≡ false → (us : List Token) → SignTail us → After h (without_operators marks) (whole ++ word w ∷ us)) → (next : State)
       → step_name m now (kind w) ≡ Some next → HoldsAt next (whole ++ word w ∷ [])
   names m w x next e = split (is_among w reserved) refl
     where
@@ -522,41 +567,49 @@ module _ (h : Bool) (marks : List Mark) (n : ℕ) (whole : List Token) where
   abbrev at : Place → State
   at p = record { place = p; had = h; marks = marks; nodes = n }
 
-  low_holds : (o : Owner) → Holds (at_low o) h marks whole → (t : Token) (next : State) → step_at (at_low o) (at (at_low o)) t ≡ Some next → HoldsAt next (whole ++ t ∷ [])
+  low_holds : (o : Owner) → Holds (at_low o) h marks whole → (t : Token) (next : State)
+      → step_at (at_low o) (at (at_low o)) t ≡ Some next → HoldsAt next (whole ++ t ∷ [])
   low_holds o x (number a j) next e = same_state _ next _ e (λ us b. shifted_awaits h marks whole _ us (x (number a j ∷ us) (lower a j b)))
   low_holds o x _ next e = absurd (cc)
 
-  comma_holds : (o : Owner) (a j : ℕ) → Holds (at_comma o a j) h marks whole → (t : Token) (next : State) → step_at (at_comma o a j) (at (at_comma o a j)) t ≡ Some next
+  comma_holds : (o : Owner) (a j : ℕ) → Holds (at_comma o a j) h marks whole → (t : Token) (next : State)
+      → step_at (at_comma o a j) (at (at_comma o a j)) t ≡ Some next
       → HoldsAt next (whole ++ t ∷ [])
   comma_holds o a j x comma next e = same_state _ next _ e (λ us b. shifted_awaits h marks whole _ us (x (comma ∷ us) (then_high b)))
   comma_holds o a j x _ next e = absurd (cc)
 
-  high_holds : (o : Owner) (a j : ℕ) → Holds (at_high o a j) h marks whole → (t : Token) (next : State) → step_at (at_high o a j) (at (at_high o a j)) t ≡ Some next
+  high_holds : (o : Owner) (a j : ℕ) → Holds (at_high o a j) h marks whole → (t : Token) (next : State)
+      → step_at (at_high o a j) (at (at_high o a j)) t ≡ Some next
       → HoldsAt next (whole ++ t ∷ [])
   high_holds o a j x (number b k) next e = same_state _ next _ e (λ us c. shifted_awaits h marks whole _ us (x (number b k ∷ us) (upper b k c)))
   high_holds o a j x (word w) next e = infinite h marks n (at_high o a j) whole o x w next e
   high_holds o a j x _ next e = absurd (cc)
 
-  term_holds : (m : ℕ) → Holds (at_term m) h marks whole → (t : Token) (next : State) → step_at (at_term m) (at (at_term m)) t ≡ Some next → HoldsAt next (whole ++ t ∷ [])
+  term_holds : (m : ℕ) → Holds (at_term m) h marks whole → (t : Token) (next : State)
+      → step_at (at_term m) (at (at_term m)) t ≡ Some next → HoldsAt next (whole ++ t ∷ [])
   term_holds m x (number a j) next e = same_state _ next _ e (λ us b. shifted h _ whole _ us (x (number a j ∷ us) (a_coefficient a j b)))
   term_holds m x (word w) next e = names h marks n (at_term m) whole m w (λ g us b. x (word w ∷ us) (plain_name w g b)) next e
   term_holds m x _ next e = absurd (cc)
 
-  star_holds : (m : ℕ) → Holds (at_star m) h marks whole → (t : Token) (next : State) → step_at (at_star m) (at (at_star m)) t ≡ Some next → HoldsAt next (whole ++ t ∷ [])
+  star_holds : (m : ℕ) → Holds (at_star m) h marks whole → (t : Token) (next : State)
+      → step_at (at_star m) (at (at_star m)) t ≡ Some next → HoldsAt next (whole ++ t ∷ [])
   star_holds m x star next e = same_state _ next _ e (λ us b. shifted h _ whole _ us (x (star ∷ us) (a_star b)))
   star_holds m x _ next e = absurd (cc)
 
-  name_holds : (m : ℕ) → Holds (at_name m) h marks whole → (t : Token) (next : State) → step_at (at_name m) (at (at_name m)) t ≡ Some next → HoldsAt next (whole ++ t ∷ [])
+  name_holds : (m : ℕ) → Holds (at_name m) h marks whole → (t : Token) (next : State)
+      → step_at (at_name m) (at (at_name m)) t ≡ Some next → HoldsAt next (whole ++ t ∷ [])
   name_holds m x (word w) next e = names h marks n (at_name m) whole m w (λ g us b. x (word w ∷ us) (the_name w g b)) next e
   name_holds m x _ next e = absurd (cc)
 
-  sign_holds : (m : ℕ) → Holds (at_sign m) h marks whole → (t : Token) (next : State) → step_at (at_sign m) (at (at_sign m)) t ≡ Some next → HoldsAt next (whole ++ t ∷ [])
+  sign_holds : (m : ℕ) → Holds (at_sign m) h marks whole → (t : Token) (next : State)
+      → step_at (at_sign m) (at (at_sign m)) t ≡ Some next → HoldsAt next (whole ++ t ∷ [])
   sign_holds m x plus next e = same_state _ next _ e (λ us b. shifted h _ whole _ us (x (plus ∷ us) (a_plus b)))
   sign_holds m x minus next e = same_state _ next _ e (λ us b. shifted h _ whole _ us (x (minus ∷ us) (a_minus b)))
   sign_holds m x (relation r) next e = same_state _ next _ e (λ us b. shifted h _ whole _ us (x (relation r ∷ us) (a_relation r b)))
   sign_holds m x _ next e = absurd (cc)
 
-  constant_holds : Holds at_constant h marks whole → (t : Token) (next : State) → step_at at_constant (at at_constant) t ≡ Some next → HoldsAt next (whole ++ t ∷ [])
+  constant_holds : Holds at_constant h marks whole → (t : Token) (next : State)
+      → step_at at_constant (at at_constant) t ≡ Some next → HoldsAt next (whole ++ t ∷ [])
   constant_holds x (number a j) next e = same_state _ next _ e (x (number a j ∷ []) (a_number a j))
   constant_holds x plus next e = same_state _ next _ e (λ us b. shifted h _ whole _ us (x (plus ∷ us) (after_plus b)))
   constant_holds x minus next e = same_state _ next _ e (λ us b. shifted h _ whole _ us (x (minus ∷ us) (after_minus b)))
@@ -610,7 +663,8 @@ mutual
       let e : pre ++ open_paren ∷ [] ++ (f ++ close_paren ∷ r.0) ≡ pre ++ (open_paren ∷ f ++ close_paren ∷ [] ++ r.0) = simp append_assoc in
       (close_paren ∷ r.0, rw e r.1)
 
-  finish_awaits : {h : Bool} {marks : List Mark} {pre : List Token} → Awaits h marks pre → (us : List Token) → AnOperand us → (after : List Token) × AFormula (pre ++ (us ++ after))
+  finish_awaits : {h : Bool} {marks : List Mark} {pre : List Token} → Awaits h marks pre → (us : List Token) → AnOperand us
+      → (after : List Token) × AFormula (pre ++ (us ++ after))
   finish_awaits (level {pre = pre} {a} {b} base hole right) us p =
       let r = finish_base base (a ++ (b ++ us)) (hole_filled a (b ++ us) hole (right.fills us p)) in
       let e : pre ++ (a ++ b) ++ (us ++ r.0) ≡ pre ++ (a ++ (b ++ us) ++ r.0) = simp append_assoc in

@@ -6,12 +6,17 @@ use Rattle.stl_syntax.specs.declared.scale.Scale.{Scale}
 use Rattle.stl_syntax.specs.declared.node.Node.{Node}
 use Rattle.stl_syntax.specs.declared.node.Node.TheVariants.{Not, And, Or, Implies, Until, Eventually, Always, Since, Once, Historically}
 use Rattle.stl_grammar.specs.Grammar.{top, Token, word, relation, close_paren}
-use Rattle.stl_grammar.specs.Grammar.{IsConstant, plain, positive, negative, IsTerm, scaled, AreTerms, more_plus, more_minus, IsAtom, first, signed, inside, outside}
+use Rattle.stl_grammar.specs.Grammar.{IsConstant, plain, positive, negative, IsTerm, scaled, AreTerms}
+use Rattle.stl_grammar.specs.Grammar.{more_plus, more_minus, IsAtom, first, signed, inside, outside}
 use Rattle.stl_grammar.specs.Grammar.{name as term_name, none as no_terms}
 use Rattle.stl_grammar.specs.Grammar.{IsFutureWindow, bound, IsPastWindow, nothing, bounded, unbounded, IsFuture, IsPast}
 use Rattle.stl_grammar.specs.Grammar.IsPast.{nothing as since_nothing, bounded as since_bounded, unbounded as since_unbounded}
-use Rattle.stl_grammar.specs.Grammar.{IsFormula, IsDisjunct, IsConjunct, IsTimed, IsOperand, disjunct, implies, conjunct, or, timed, and, operand, until, since, not, eventually, always, once, historically, always_true, always_false, parens, atom}
-use Rattle.stl_grammar.specs.Machine.{kind, Owner, of_until, of_since, of_future, of_past, looks_back, Place, at_operand, at_bound, at_term, at_sign, at_constant, at_end, Mark, paren, operator, implication, State, start, without_operators, closed, step, step_from, run, in_paren, ends_at}
+use Rattle.stl_grammar.specs.Grammar.{IsFormula, IsDisjunct, IsConjunct, IsTimed, IsOperand, disjunct, implies}
+use Rattle.stl_grammar.specs.Grammar.{conjunct, or, timed, and, operand, until, since, not, eventually, always}
+use Rattle.stl_grammar.specs.Grammar.{once, historically, always_true, always_false, parens, atom}
+use Rattle.stl_grammar.specs.Machine.{kind, Owner, of_until, of_since, of_future, of_past, looks_back, Place, at_operand}
+use Rattle.stl_grammar.specs.Machine.{at_bound, at_term, at_sign, at_constant, at_end, Mark, paren, operator, implication}
+use Rattle.stl_grammar.specs.Machine.{State, start, without_operators, closed, step, step_from, run, in_paren, ends_at}
 use Rattle.stl_grammar.specs.FormulaRefusals.{MayBegin, MayEnd}
 use Rattle.stl_grammar.proofs.WordKinds.{name_kind}
 
@@ -74,11 +79,17 @@ first_runs (scaled {w = w} e) h marks n = rw (name_kind w e) refl
 pub signed_runs : {us : List Token} {t : _} {terms : _} → AreTerms us (t ∷ terms) → (h : Bool) (marks : List Mark) (n : ℕ)
     → (i : ℕ) × (go (st at_operand h marks n) us ≡ st (at_sign i) h marks (suc n))
 signed_runs (more_plus {ts = ts} {us} t u) h marks n =
-    let r = terms_run u 1 h marks (suc n) in
-    (r.0, go_then (st (at_term 0) h marks (suc n)) (st (at_sign 1) h marks (suc n)) (st (at_sign r.0) h marks (suc n)) ts us (term_runs t 0 h marks (suc n)) r.1)
+    let r = terms_run u 1 h marks (suc n) in (
+      r.0,
+      go_then (st (at_term 0) h marks (suc n)) (st (at_sign 1) h marks (suc n)) (st (at_sign r.0) h marks (suc n)) ts us
+          (term_runs t 0 h marks (suc n)) r.1,
+    )
 signed_runs (more_minus {ts = ts} {us} t u) h marks n =
-    let r = terms_run u 1 h marks (suc n) in
-    (r.0, go_then (st (at_term 0) h marks (suc n)) (st (at_sign 1) h marks (suc n)) (st (at_sign r.0) h marks (suc n)) ts us (term_runs t 0 h marks (suc n)) r.1)
+    let r = terms_run u 1 h marks (suc n) in (
+      r.0,
+      go_then (st (at_term 0) h marks (suc n)) (st (at_sign 1) h marks (suc n)) (st (at_sign r.0) h marks (suc n)) ts us
+          (term_runs t 0 h marks (suc n)) r.1,
+    )
 
 atom_runs : {digits : ℕ} {ts : List Token} {a : _} → IsAtom digits ts a → (h : Bool) (marks : List Mark) (n : ℕ)
     → go (st at_operand h marks n) ts ≡ st at_end h (without_operators marks) (suc n)
@@ -106,13 +117,15 @@ pub until_runs : {digits a b : ℕ} {us : List Token} → IsFuture digits us a b
 until_runs (bound inside inside) h marks n = refl
 
 -- an operand after an operator whose bound is left out
-left_out : {s : Scale} {k : ℕ} {ts : List Token} {ns : List Node} → IsOperand s k ts ns → (o : Owner) → looks_back o ≡ true → (h : Bool) (marks : List Mark) (n : ℕ)
+left_out : {s : Scale} {k : ℕ} {ts : List Token} {ns : List Node} → IsOperand s k ts ns → (o : Owner) → looks_back o ≡ true
+    → (h : Bool) (marks : List Mark) (n : ℕ)
     → go (st (at_bound o) h marks n) ts ≡ go (st at_operand h marks n) ts
 left_out p of_until e h marks n = absurd (cc)
 left_out p of_future e h marks n = absurd (cc)
 left_out p of_since e h marks n = after_since p
   where
-    after_since : {s : Scale} {k : ℕ} {ts : List Token} {ns : List Node} → IsOperand s k ts ns → go (st (at_bound of_since) h marks n) ts ≡ go (st at_operand h marks n) ts
+    after_since : {s : Scale} {k : ℕ} {ts : List Token} {ns : List Node} → IsOperand s k ts ns
+        → go (st (at_bound of_since) h marks n) ts ≡ go (st at_operand h marks n) ts
     after_since (not p) = refl
     after_since (eventually b p) = refl
     after_since (always b p) = refl
@@ -127,7 +140,8 @@ left_out p of_since e h marks n = after_since p
     after_since (atom (signed (more_minus t u) c)) = refl
 left_out p of_past e h marks n = after_past p
   where
-    after_past : {s : Scale} {k : ℕ} {ts : List Token} {ns : List Node} → IsOperand s k ts ns → go (st (at_bound of_past) h marks n) ts ≡ go (st at_operand h marks n) ts
+    after_past : {s : Scale} {k : ℕ} {ts : List Token} {ns : List Node} → IsOperand s k ts ns
+        → go (st (at_bound of_past) h marks n) ts ≡ go (st at_operand h marks n) ts
     after_past (not p) = refl
     after_past (eventually b p) = refl
     after_past (always b p) = refl
@@ -207,7 +221,8 @@ mutual
         q.0,
         q.1,
         more q.2,
-        go_then (st at_operand false marks n) (st at_end r.0 (without_operators marks) (n + length ns)) (st at_end q.0 q.1 _) ts (word (codes "implies") ∷ us) r.1
+        go_then (st at_operand false marks n) (st at_end r.0 (without_operators marks) (n + length ns)) (st at_end q.0 q.1 _) ts
+            (word (codes "implies") ∷ us) r.1
             (q.3 ∙ count_is at_end q.0 q.1 _ _ (one_after n ns ms (Implies (top k ns) (top (k + length ns) ms)))),
       )
 
@@ -219,7 +234,8 @@ mutual
       let r = disjunct_runs d marks n in
       let q = conjunct_runs c (without_operators marks) (suc (n + length ns)) in (
         q.0,
-        go_then (st at_operand false marks n) (st at_end r.0 (without_operators marks) (n + length ns)) (st at_end q.0 (without_operators marks) _) ts (word (codes "or") ∷ us) r.1
+        go_then (st at_operand false marks n) (st at_end r.0 (without_operators marks) (n + length ns))
+            (st at_end q.0 (without_operators marks) _) ts (word (codes "or") ∷ us) r.1
             (rw without_twice at q.1 ∙ count_is at_end q.0 (without_operators marks) _ _ (one_after n ns ms (Or (top k ns) (top (k + length ns) ms)))),
       )
 
@@ -231,7 +247,8 @@ mutual
       let r = conjunct_runs c marks n in
       let q = timed_runs t (without_operators marks) (suc (n + length ns)) in (
         q.0,
-        go_then (st at_operand false marks n) (st at_end r.0 (without_operators marks) (n + length ns)) (st at_end q.0 (without_operators marks) _) ts (word (codes "and") ∷ us) r.1
+        go_then (st at_operand false marks n) (st at_end r.0 (without_operators marks) (n + length ns))
+            (st at_end q.0 (without_operators marks) _) ts (word (codes "and") ∷ us) r.1
             (rw without_twice at q.1 ∙ count_is at_end q.0 (without_operators marks) _ _ (one_after n ns ms (And (top k ns) (top (k + length ns) ms)))),
       )
 
@@ -245,7 +262,8 @@ mutual
         true,
         go_then (st at_operand false marks n) (st at_operand true (without_operators marks) (suc (n + length ns))) (st at_end true (without_operators marks) _)
             (ts ++ (word (codes "until") ∷ us)) vs
-            (go_then (st at_operand false marks n) (st at_end false (without_operators marks) (n + length ns)) (st at_operand true (without_operators marks) (suc (n + length ns)))
+            (go_then (st at_operand false marks n) (st at_end false (without_operators marks) (n + length ns))
+            (st at_operand true (without_operators marks) (suc (n + length ns)))
             ts (word (codes "until") ∷ us) r (until_runs w true (without_operators marks) (suc (n + length ns))))
             (rw without_twice at e ∙ count_is at_end true (without_operators marks) _ _ (one_after n ns ms (Until (top k ns) (top (k + length ns) ms) a b))),
       )
@@ -257,19 +275,23 @@ mutual
             go_then (st at_operand false marks n) (st at_end false (without_operators marks) (n + length ns)) (st at_end true (without_operators marks) _)
             ts (word (codes "since") ∷ (us ++ vs)) r
             (since_runs w q true (without_operators marks) (suc (n + length ns))
-            ∙ (rw without_twice at e ∙ count_is at_end true (without_operators marks) _ _ (one_after n ns ms (Since (top k ns) (top (k + length ns) ms) a b))))),
+            ∙ (rw without_twice at e ∙ count_is at_end true (without_operators marks) _ _
+            (one_after n ns ms (Since (top k ns) (top (k + length ns) ms) a b))))),
       )
 
   -- of an operand
   pub operand_runs : {s : Scale} {k : ℕ} {ts : List Token} {ns : List Node} → IsOperand s k ts ns → (h : Bool) (marks : List Mark) (n : ℕ)
       → go (st at_operand h marks n) ts ≡ st at_end h (without_operators marks) (n + length ns)
-  operand_runs (not {k = k} {ts} {ns} p) h marks n = operand_runs p h (operator ∷ marks) (suc n) ∙ count_is at_end h (without_operators marks) _ _ (one_more n ns (Not (top k ns)))
+  operand_runs (not {k = k} {ts} {ns} p) h marks n =
+      operand_runs p h (operator ∷ marks) (suc n) ∙ count_is at_end h (without_operators marks) _ _ (one_more n ns (Not (top k ns)))
   operand_runs (eventually {k = k} {a} {b} {a_in} {b_in} {ts} {us} {ns} w p) h marks n =
-      go_then (st (at_bound of_future) h (operator ∷ marks) (suc n)) (st at_operand h (operator ∷ marks) (suc n)) (st at_end h (without_operators marks) _) us ts
+      go_then (st (at_bound of_future) h (operator ∷ marks) (suc n)) (st at_operand h (operator ∷ marks) (suc n))
+      (st at_end h (without_operators marks) _) us ts
       (window_runs w h (operator ∷ marks) (suc n))
       (operand_runs p h (operator ∷ marks) (suc n) ∙ count_is at_end h (without_operators marks) _ _ (one_more n ns (Eventually (top k ns) a b a_in b_in)))
   operand_runs (always {k = k} {a} {b} {a_in} {b_in} {ts} {us} {ns} w p) h marks n =
-      go_then (st (at_bound of_future) h (operator ∷ marks) (suc n)) (st at_operand h (operator ∷ marks) (suc n)) (st at_end h (without_operators marks) _) us ts
+      go_then (st (at_bound of_future) h (operator ∷ marks) (suc n)) (st at_operand h (operator ∷ marks) (suc n))
+      (st at_end h (without_operators marks) _) us ts
       (window_runs w h (operator ∷ marks) (suc n))
       (operand_runs p h (operator ∷ marks) (suc n) ∙ count_is at_end h (without_operators marks) _ _ (one_more n ns (Always (top k ns) a b a_in b_in)))
   operand_runs (once {k = k} {a} {b} {a_in} {b_in} {ts} {us} {ns} w p) h marks n =
@@ -282,7 +304,8 @@ mutual
   operand_runs always_false h marks n = count_is at_end h (without_operators marks) _ _ (omega arith)
   operand_runs (parens {ts = ts} {ns} f) h marks n =
       let r = formula_runs f (paren h ∷ marks) n in
-      go_then (st at_operand false (paren h ∷ marks) n) (st at_end r.0 r.1 (n + length ns)) (st at_end h (without_operators marks) (n + length ns)) ts (close_paren ∷ []) r.3
+      go_then (st at_operand false (paren h ∷ marks) n) (st at_end r.0 r.1 (n + length ns))
+      (st at_end h (without_operators marks) (n + length ns)) ts (close_paren ∷ []) r.3
       (implied_closes r.2 (n + length ns))
   operand_runs (atom a) h marks n = atom_runs a h marks n ∙ count_is at_end h (without_operators marks) _ _ (omega arith)
 
@@ -294,7 +317,8 @@ go_none (t ∷ ts) = go_none ts
 pub run_stops : (before : List Token) → run before ≡ None → ¬ MayBegin before
 run_stops before e m =
     let r = formula_runs m.2 [] 0 in
-    let z : go (Some start) (reverse before ++ m.0) ≡ None = go_append (Some start) (reverse before) m.0 ∙ (ap (λ o. go o m.0) (sym (run_go before) ∙ e) ∙ go_none m.0) in
+    let z : go (Some start) (reverse before ++ m.0) ≡ None =
+    go_append (Some start) (reverse before) m.0 ∙ (ap (λ o. go o m.0) (sym (run_go before) ∙ e) ∙ go_none m.0) in
     cc (r.3)
 
 -- a token at which the machine stops begins no formula there
@@ -316,7 +340,8 @@ pub run_goes_on : (before : List Token) (s : State) → run before ≡ Some s �
 run_goes_on before s e f m = let x = formula_state before s e m.1 in cc (x.0)
 
 -- a formula's tokens make as many nodes as it has
-pub formula_nodes : (before : List Token) (s : State) → run before ≡ Some s → {c : Scale} {nodes : List Node} → IsFormula c 0 (reverse before) nodes → s.nodes ≡ length nodes
+pub formula_nodes : (before : List Token) (s : State) → run before ≡ Some s → {c : Scale} {nodes : List Node}
+    → IsFormula c 0 (reverse before) nodes → s.nodes ≡ length nodes
 formula_nodes before s e f = (formula_state before s e f).1
 
 -- one step more

@@ -6,9 +6,20 @@ use Rattle.stl_syntax.specs.declared.rel.Rel.{Rel}
 use Rattle.stl_grammar.specs.declared.fault.What.{What}
 use Rattle.stl_grammar.specs.declared.fault.What.TheVariants.{Operand, Number, Bracket, Star, Name, Term, Relation, Constant, Paren, End}
 use Rattle.stl_grammar.specs.Tokens.{Token, word, number, relation, open_paren, close_paren, open_bracket, close_bracket, comma, star, plus, minus}
-use Rattle.stl_grammar.specs.FormulaRefusals.{Pending, a_paren, an_operator, an_implies, after_operand, after_paren, ends_constant, pending_after, pending, has_paren, after_whole, expected, begins_future_bound, makes_node, is_operand, nodes_made, terms_made, begins_fifth_term, passes_limit, is_bad_number, is_out_of_order}
-use Rattle.stl_grammar.specs.Machine.{Kind, kind, a_constant, a_negation, a_join, an_implication, an_until, a_since, a_future, a_past, an_inf, a_name, Owner, of_until, of_since, of_future, of_past, looks_back, opens, closes, Place, at_operand, at_bound, at_low, at_comma, at_high, at_closing, at_term, at_star, at_name, at_sign, at_constant, at_number, at_end, Mark, paren, operator, implication, State, start, without_operators, closed, begin_word, begin_operand, step_bound, step_inf, step_name, step_connective, step, step_at, run, in_paren, expected_at, all_pending, terms_at, fifth_at, disorder_at, future_at}
-use Rattle.stl_grammar.proofs.WordKinds.{ends_operand, has_operand, is_implication, is_inf, looks_ahead, is_word, among_constants, among_prefixes, among_implies, among_inf, among_ahead, among_reserved}
+use Rattle.stl_grammar.specs.FormulaRefusals.{Pending, a_paren, an_operator, an_implies, after_operand, after_paren}
+use Rattle.stl_grammar.specs.FormulaRefusals.{ends_constant, pending_after, pending, has_paren, after_whole, expected}
+use Rattle.stl_grammar.specs.FormulaRefusals.{begins_future_bound, makes_node, is_operand, nodes_made, terms_made}
+use Rattle.stl_grammar.specs.FormulaRefusals.{begins_fifth_term, passes_limit, is_bad_number, is_out_of_order}
+use Rattle.stl_grammar.specs.Machine.{Kind, kind, a_constant, a_negation, a_join, an_implication, an_until, a_since}
+use Rattle.stl_grammar.specs.Machine.{a_future, a_past, an_inf, a_name, Owner, of_until, of_since, of_future, of_past}
+use Rattle.stl_grammar.specs.Machine.{looks_back, opens, closes, Place, at_operand, at_bound, at_low, at_comma, at_high}
+use Rattle.stl_grammar.specs.Machine.{at_closing, at_term, at_star, at_name, at_sign, at_constant, at_number, at_end, Mark}
+use Rattle.stl_grammar.specs.Machine.{paren, operator, implication, State, start, without_operators, closed, begin_word}
+use Rattle.stl_grammar.specs.Machine.{begin_operand, step_bound, step_inf, step_name, step_connective, step, step_at, run}
+use Rattle.stl_grammar.specs.Machine.{in_paren, expected_at, all_pending, terms_at, fifth_at, disorder_at, future_at}
+use Rattle.stl_grammar.proofs.WordKinds.{ends_operand, has_operand, is_implication, is_inf, looks_ahead, is_word}
+use Rattle.stl_grammar.proofs.WordKinds.{among_constants, among_prefixes, among_implies, among_inf, among_ahead}
+use Rattle.stl_grammar.proofs.WordKinds.{among_reserved}
 
 -- what a word says, by its kind
 abbrev word_expected : Kind → List Token → What
@@ -16,7 +27,8 @@ word_expected k whole = if is_inf k then Bracket else if ends_operand k then aft
 
 abbrev word_pending : Kind → List Pending → List Pending
 word_pending k pending =
-    if ends_operand k then after_operand pending else if has_operand k then an_operator ∷ pending else if is_implication k then an_implies ∷ pending else pending
+    if ends_operand k then after_operand pending else if has_operand k then an_operator ∷ pending else if is_implication k then
+    an_implies ∷ pending else pending
 
 abbrev word_makes : What → Kind → Bool
 word_makes what k = if is_word k then not (is_inf k) else is_operand what
@@ -86,7 +98,8 @@ data Terms : List Token → Type 0 where
 data Shape : Place → List Token → Type 0 where
   an_operand : {before : List Token} → Begins before → Shape at_operand before
   a_bound : {w : List ℕ} {before : List Token} {o : Owner} (k : Kind) → kind w ≡ k → owner k ≡ Some o → Shape (at_bound o) (word w ∷ before)
-  a_low : {t : Token} {w : List ℕ} {before : List Token} {o : Owner} (k : Kind) → IsBracket t → kind w ≡ k → owner k ≡ Some o → Shape (at_low o) (t ∷ word w ∷ before)
+  a_low : {t : Token} {w : List ℕ} {before : List Token} {o : Owner} (k : Kind) → IsBracket t → kind w ≡ k → owner k ≡ Some o
+      → Shape (at_low o) (t ∷ word w ∷ before)
   a_comma : {t : Token} {w : List ℕ} {before : List Token} {o : Owner} {a j : ℕ} (k : Kind) → IsBracket t → kind w ≡ k → owner k ≡ Some o
       → Shape (at_comma o a j) (number a j ∷ t ∷ word w ∷ before)
   a_high : {t : Token} {w : List ℕ} {before : List Token} {o : Owner} {a j : ℕ} (k : Kind) → IsBracket t → kind w ≡ k → owner k ≡ Some o
@@ -185,7 +198,8 @@ owner_low an_inf o e = absurd (cc)
 owner_low _ o e = refl
 
 -- what is expected, by the place
-shape_expected : (p : Place) (before : List Token) (marks : List Mark) → Shape p before → pending before ≡ all_pending marks → expected before ≡ expected_at p marks
+shape_expected : (p : Place) (before : List Token) (marks : List Mark) → Shape p before → pending before ≡ all_pending marks
+    → expected before ≡ expected_at p marks
 shape_expected p before marks (an_operand b) e = begins_expected before b
 shape_expected p before marks (a_bound {w = w} {before = more} {o = o} k f g) e = begins_expected (word w ∷ more) (a_word k f (owner_begins k o g))
 shape_expected p before marks (a_low {w = w} {o = o} k an_open f g) e = rw (among_inf w, f, owner_low k o g) refl
@@ -238,7 +252,8 @@ operand_pending (implication ∷ marks) = refl
 closed_pending : (marks : List Mark) (n : ℕ) (next : State) → closed marks n ≡ Some next → after_paren (all_pending marks) ≡ all_pending next.marks
 closed_pending [] n next e = absurd (cc)
 closed_pending (paren h ∷ marks) n next e =
-    let f : record { place = at_end; had = h; marks = without_operators marks; nodes = n } ≡ next = cc in operand_pending marks ∙ ap (λ s. all_pending s.marks) f
+    let f : record { place = at_end; had = h; marks = without_operators marks; nodes = n } ≡ next = cc in
+    operand_pending marks ∙ ap (λ s. all_pending s.marks) f
 closed_pending (operator ∷ marks) n next e = closed_pending marks n next e
 closed_pending (implication ∷ marks) n next e = closed_pending marks n next e
 
@@ -359,7 +374,8 @@ module _ (h : Bool) (marks : List Mark) (n : ℕ) where
   abbrev there : Place → State
   there p = record { place = p; had = h; marks = marks; nodes = n }
 
-  bound_view : {o : Owner} {before : List Token} → Shape (at_bound o) before → pending before ≡ all_pending marks → nodes_made before ≡ n → terms_made before ≡ 0
+  bound_view : {o : Owner} {before : List Token} → Shape (at_bound o) before → pending before ≡ all_pending marks
+      → nodes_made before ≡ n → terms_made before ≡ 0
       → (t : Token) (next : State) → step_bound o (there (at_bound o)) t ≡ Some next → View next (t ∷ before)
   bound_view (a_bound {w = w} {before = more} {o = o} k f g) q c z t next e = split (opens o t) refl
     where
@@ -408,7 +424,8 @@ module _ (h : Bool) (marks : List Mark) (n : ℕ) where
   high_view : {o : Owner} {a j : ℕ} {before : List Token} → Shape (at_high o a j) before → pending before ≡ all_pending marks → nodes_made before ≡ n
       → (t : Token) (next : State) → step_at (at_high o a j) (there (at_high o a j)) t ≡ Some next → View next (t ∷ before)
   high_view (a_high k s f g) q c (number b i) next e = same_view _ next _ e (record { shape = closing_number; pend = q; count = c; terms = refl })
-  high_view (a_high {t = b} {w = w} {before = more} {o = o} {a = a} {j} k s f g) q c (word v) next e = inf_view o a j (number a j ∷ b ∷ word w ∷ more) q c v (kind v) refl next e
+  high_view (a_high {t = b} {w = w} {before = more} {o = o} {a = a} {j} k s f g) q c (word v) next e =
+      inf_view o a j (number a j ∷ b ∷ word w ∷ more) q c v (kind v) refl next e
   high_view (a_high k s f g) q c _ next e = absurd (cc)
 
   closing_begins : {o : Owner} {before : List Token} → Shape (at_closing o) before → (t : Token) → IsBracket t → Begins (t ∷ before)
@@ -429,7 +446,8 @@ module _ (h : Bool) (marks : List Mark) (n : ℕ) where
       split false d = let y = rw d at e in absurd (cc)
 
   -- a name after m other terms
-  name_view : (m : ℕ) (p : Place) (what : What) → is_operand what ≡ false → (before : List Token) → expected before ≡ what → pending before ≡ all_pending marks → nodes_made before ≡ n
+  name_view : (m : ℕ) (p : Place) (what : What) → is_operand what ≡ false → (before : List Token) → expected before ≡ what
+      → pending before ≡ all_pending marks → nodes_made before ≡ n
       → terms_made before ≡ m → (w : List ℕ) (k : Kind) → kind w ≡ k → (next : State) → step_name m (there p) k ≡ Some next → View next (word w ∷ before)
   name_view m p what y before x q c z w a_name f next e = same_view _ next _ e (record {
     shape = a_sign f;
@@ -451,7 +469,8 @@ module _ (h : Bool) (marks : List Mark) (n : ℕ) where
     count = count_token (number i k) Term before n (shape_expected (at_term m) before marks x q) c;
     terms = z;
   })
-  term_view m before x q c z (word w) next e = name_view m (at_term m) Term refl before (shape_expected (at_term m) before marks x q) q c z w (kind w) refl next e
+  term_view m before x q c z (word w) next e =
+      name_view m (at_term m) Term refl before (shape_expected (at_term m) before marks x q) q c z w (kind w) refl next e
   term_view m before x q c z _ next e = absurd (cc)
 
   star_view : (m : ℕ) (before : List Token) → pending before ≡ all_pending marks → nodes_made before ≡ n → terms_made before ≡ m
@@ -459,9 +478,11 @@ module _ (h : Bool) (marks : List Mark) (n : ℕ) where
   star_view m before q c z star next e = same_view _ next _ e (record { shape = the_name; pend = q; count = c; terms = z })
   star_view m before q c z _ next e = absurd (cc)
 
-  coefficient_view : (m : ℕ) (before : List Token) → Shape (at_name m) before → pending before ≡ all_pending marks → nodes_made before ≡ n → terms_made before ≡ m
+  coefficient_view : (m : ℕ) (before : List Token) → Shape (at_name m) before → pending before ≡ all_pending marks
+      → nodes_made before ≡ n → terms_made before ≡ m
       → (t : Token) (next : State) → step_at (at_name m) (there (at_name m)) t ≡ Some next → View next (t ∷ before)
-  coefficient_view m before x q c z (word w) next e = name_view m (at_name m) Name refl before (shape_expected (at_name m) before marks x q) q c z w (kind w) refl next e
+  coefficient_view m before x q c z (word w) next e =
+      name_view m (at_name m) Name refl before (shape_expected (at_name m) before marks x q) q c z w (kind w) refl next e
   coefficient_view m before x q c z _ next e = absurd (cc)
 
   sign_view : {m : ℕ} {before : List Token} → Shape (at_sign m) before → pending before ≡ all_pending marks → nodes_made before ≡ n → terms_made before ≡ m
@@ -483,7 +504,8 @@ module _ (h : Bool) (marks : List Mark) (n : ℕ) where
 
   constant_view : {before : List Token} → Shape at_constant before → pending before ≡ all_pending marks → nodes_made before ≡ n
       → (t : Token) (next : State) → step_at at_constant (there at_constant) t ≡ Some next → View next (t ∷ before)
-  constant_view the_constant q c (number i k) next e = same_view _ next _ e (record { shape = end_number; pend = ap after_operand q ∙ operand_pending marks; count = c; terms = refl })
+  constant_view the_constant q c (number i k) next e =
+      same_view _ next _ e (record { shape = end_number; pend = ap after_operand q ∙ operand_pending marks; count = c; terms = refl })
   constant_view the_constant q c plus next e = same_view _ next _ e (record { shape = the_number a_plus; pend = q; count = c; terms = refl })
   constant_view the_constant q c minus next e = same_view _ next _ e (record { shape = the_number a_minus; pend = q; count = c; terms = refl })
   constant_view the_constant q c _ next e = absurd (cc)
@@ -492,7 +514,8 @@ module _ (h : Bool) (marks : List Mark) (n : ℕ) where
       → (t : Token) (next : State) → step_at at_number (there at_number) t ≡ Some next → View next (t ∷ before)
   number_view (the_number {t = s} {r = r} {before = more} y) q c (number i k) next e = same_view _ next _ e (record {
     shape = end_signed y;
-    pend = ap (λ b. pending_after b (number i k) (pending (s ∷ relation r ∷ more))) (signed_constant s r i k more y) ∙ (ap after_operand q ∙ operand_pending marks);
+    pend = ap (λ b. pending_after b (number i k) (pending (s ∷ relation r ∷ more))) (signed_constant s r i k more y)
+        ∙ (ap after_operand q ∙ operand_pending marks);
     count = count_token (number i k) Constant (s ∷ relation r ∷ more) n (shape_expected at_number (s ∷ relation r ∷ more) marks (the_number y) q) c;
     terms = signed_terms s r more y;
   })
@@ -534,7 +557,8 @@ module _ (h : Bool) (marks : List Mark) (n : ℕ) where
       })
   connective_view before q c w _ f next e = absurd (cc)
 
-  paren_view : (before : List Token) → pending before ≡ all_pending marks → nodes_made before ≡ n → (next : State) → closed marks n ≡ Some next → View next (close_paren ∷ before)
+  paren_view : (before : List Token) → pending before ≡ all_pending marks → nodes_made before ≡ n → (next : State)
+      → closed marks n ≡ Some next → View next (close_paren ∷ before)
   paren_view before q c next e = let p = closed_place marks n next e in record {
     shape = rw p.0 end_paren;
     pend = ap after_paren q ∙ closed_pending marks n next e;
@@ -600,7 +624,8 @@ pub run_terms : (before : List Token) (s : State) → run before ≡ Some s → 
 run_terms before s e = (run_view before s e).terms
 
 -- whether a number passes its limit
-pub run_bad_number : (before : List Token) (s : State) → run before ≡ Some s → (n k : ℕ) → is_bad_number before (number n k) ≡ passes_limit (expected_at s.place s.marks) n k
+pub run_bad_number : (before : List Token) (s : State) → run before ≡ Some s → (n k : ℕ)
+    → is_bad_number before (number n k) ≡ passes_limit (expected_at s.place s.marks) n k
 run_bad_number before s e n k = ap (λ z. passes_limit z n k) (run_expected before s e)
 
 -- a fifth term
@@ -609,7 +634,8 @@ fifth_of Relation n plus = n == 4
 fifth_of Relation n minus = n == 4
 fifth_of what n t = false
 
-fifth_computes : (before : List Token) (t : Token) (what : What) (n : ℕ) → expected before ≡ what → terms_made before ≡ n → begins_fifth_term before t ≡ fifth_of what n t
+fifth_computes : (before : List Token) (t : Token) (what : What) (n : ℕ) → expected before ≡ what → terms_made before ≡ n
+    → begins_fifth_term before t ≡ fifth_of what n t
 fifth_computes before plus Relation n e f = rw (e, f) (and-true (n == 4))
 fifth_computes before minus Relation n e f = rw (e, f) (and-true (n == 4))
 fifth_computes before plus what n e f = rw (e, f) (and-false (n == 4))

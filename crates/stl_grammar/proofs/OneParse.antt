@@ -1,5 +1,6 @@
 -- Tokens are a formula in at most one way.
-use Rattle.std.proofs.Common.{◌≡◌, ℕ, zero, suc, ◌+◌, ◌≤◌, List, [], ◌∷◌, ◌++◌, length, refl, ap, sym, ◌∙◌, Bool, true, false, inl, inr, arith, append_assoc, length-append}
+use Rattle.std.proofs.Common.{◌≡◌, ℕ, zero, suc, ◌+◌, ◌≤◌, List, [], ◌∷◌, ◌++◌, length, refl, ap, sym}
+use Rattle.std.proofs.Common.{◌∙◌, Bool, true, false, inl, inr, arith, append_assoc, length-append}
 use Rattle.std.specs.Prelude.{codes, bytes_eq, Option, ℤ}
 use Rattle.std.specs.Prelude.{not as no}
 use Rattle.std.proofs.lemmas.Slice.Eq.{bytes_eq-Decides}
@@ -12,11 +13,14 @@ use Rattle.stl_syntax.specs.declared.rel.Rel.{Rel}
 use Rattle.stl_syntax.specs.declared.node.Node.{Node}
 use Rattle.stl_syntax.specs.declared.node.Node.TheVariants.{And, Or}
 use Rattle.stl_grammar.specs.Grammar.{reserved, top, Token, word, number, relation, open_paren, close_paren, open_bracket, close_bracket}
-use Rattle.stl_grammar.specs.Grammar.{IsConstant, plain, positive, negative, IsTerm, scaled, AreTerms, more_plus, more_minus, IsAtom, first, signed, inside, outside}
+use Rattle.stl_grammar.specs.Grammar.{IsConstant, plain, positive, negative, IsTerm, scaled, AreTerms}
+use Rattle.stl_grammar.specs.Grammar.{more_plus, more_minus, IsAtom, first, signed, inside, outside}
 use Rattle.stl_grammar.specs.Grammar.{name as term_name, none as no_terms}
 use Rattle.stl_grammar.specs.Grammar.{IsFutureWindow, bound, IsPastWindow, nothing, bounded, unbounded, IsFuture, IsPast}
 use Rattle.stl_grammar.specs.Grammar.IsPast.{nothing as since_nothing, bounded as since_bounded, unbounded as since_unbounded}
-use Rattle.stl_grammar.specs.Grammar.{IsFormula, IsDisjunct, IsConjunct, IsTimed, IsOperand, disjunct, implies, conjunct, or, timed, and, operand, until, since, not, eventually, always, once, historically, always_true, always_false, parens, atom}
+use Rattle.stl_grammar.specs.Grammar.{IsFormula, IsDisjunct, IsConjunct, IsTimed, IsOperand, disjunct, implies}
+use Rattle.stl_grammar.specs.Grammar.{conjunct, or, timed, and, operand, until, since, not, eventually, always}
+use Rattle.stl_grammar.specs.Grammar.{once, historically, always_true, always_false, parens, atom}
 use Rattle.stl_grammar.proofs.WordKinds.{OneOf}
 
 constant_same : {d : ℕ} {ts us : List Token} {c e : ℤ} (r r' : List Token) → IsConstant d ts c → IsConstant d us e → ts ++ r ≡ us ++ r' → (c ≡ e) × (r ≡ r')
@@ -30,7 +34,8 @@ constant_same r r' positive negative h = absurd (cc)
 constant_same r r' negative plain h = absurd (cc)
 constant_same r r' negative positive h = absurd (cc)
 
-term_same : {ts us : List Token} {k j : ℕ} {w v : List ℕ} (r r' : List Token) → IsTerm ts k w → IsTerm us j v → ts ++ r ≡ us ++ r' → (k ≡ j) × (w ≡ v) × (r ≡ r')
+term_same : {ts us : List Token} {k j : ℕ} {w v : List ℕ} (r r' : List Token) → IsTerm ts k w → IsTerm us j v → ts ++ r ≡ us ++ r'
+    → (k ≡ j) × (w ≡ v) × (r ≡ r')
 term_same r r' (term_name e) (term_name f) h = (refl, cc, cc)
 term_same r r' (scaled e) (scaled f) h = (cc, cc, cc)
 term_same r r' (term_name e) (scaled f) h = absurd (cc)
@@ -47,12 +52,14 @@ terms_same p p' r r' (more_plus t u) (more_minus t' u') h = absurd (cc)
 terms_same p p' r r' (more_minus t u) (more_plus t' u') h = absurd (cc)
 terms_same p p' r r' (more_plus {ts = ts} {us} t u) (more_plus {ts = ts'} {us = us'} t' u') h =
     let e : ts ++ us ++ relation p ∷ r ≡ ts' ++ us' ++ relation p' ∷ r' = cc in
-    let x = term_same (us ++ relation p ∷ r) (us' ++ relation p' ∷ r') t t' (sym (append_assoc ts us (relation p ∷ r)) ∙ (e ∙ append_assoc ts' us' (relation p' ∷ r'))) in
+    let x = term_same (us ++ relation p ∷ r) (us' ++ relation p' ∷ r') t t' (sym (append_assoc ts us (relation p ∷ r))
+    ∙ (e ∙ append_assoc ts' us' (relation p' ∷ r'))) in
     let y = terms_same p p' r r' u u' x.2 in
     (cc, y.1, y.2)
 terms_same p p' r r' (more_minus {ts = ts} {us} t u) (more_minus {ts = ts'} {us = us'} t' u') h =
     let e : ts ++ us ++ relation p ∷ r ≡ ts' ++ us' ++ relation p' ∷ r' = cc in
-    let x = term_same (us ++ relation p ∷ r) (us' ++ relation p' ∷ r') t t' (sym (append_assoc ts us (relation p ∷ r)) ∙ (e ∙ append_assoc ts' us' (relation p' ∷ r'))) in
+    let x = term_same (us ++ relation p ∷ r) (us' ++ relation p' ∷ r') t t' (sym (append_assoc ts us (relation p ∷ r))
+    ∙ (e ∙ append_assoc ts' us' (relation p' ∷ r'))) in
     let y = terms_same p p' r r' u u' x.2 in
     (cc, y.1, y.2)
 
@@ -78,7 +85,8 @@ atom_same r r' (signed (more_minus t u) c) (first (term_name e) u' c') h = absur
 atom_same r r' (signed (more_minus t u) c) (first (scaled e) u' c') h = absurd (cc)
 
 -- bounds
-window_same : {d : ℕ} {us vs : List Token} {a b a' b' : ℕ} {x y x' y' : Bool} (r r' : List Token) → IsFutureWindow d us a b x y → IsFutureWindow d vs a' b' x' y'
+window_same : {d : ℕ} {us vs : List Token} {a b a' b' : ℕ} {x y x' y' : Bool} (r r' : List Token) → IsFutureWindow d us a b x y
+    → IsFutureWindow d vs a' b' x' y'
     → us ++ r ≡ vs ++ r' → (a ≡ a') × (b ≡ b') × (x ≡ x') × (y ≡ y') × (r ≡ r')
 window_same r r' (bound inside inside) (bound inside inside) h = (cc, cc, refl, refl, cc)
 window_same r r' (bound inside outside) (bound inside outside) h = (cc, cc, refl, refl, cc)
@@ -97,7 +105,8 @@ begins_bracket (open_bracket ∷ ts) = true
 begins_bracket (close_bracket ∷ ts) = true
 begins_bracket _ = false
 
-past_same : {d : ℕ} {us vs : List Token} {a a' : ℕ} {b b' : Option ℕ} {x y x' y' : Bool} (r r' : List Token) → IsPastWindow d us a b x y → IsPastWindow d vs a' b' x' y'
+past_same : {d : ℕ} {us vs : List Token} {a a' : ℕ} {b b' : Option ℕ} {x y x' y' : Bool} (r r' : List Token)
+    → IsPastWindow d us a b x y → IsPastWindow d vs a' b' x' y'
     → us ++ r ≡ vs ++ r' → begins_bracket r ≡ false → begins_bracket r' ≡ false → (a ≡ a') × (b ≡ b') × (x ≡ x') × (y ≡ y') × (r ≡ r')
 past_same r r' nothing nothing h f g = (refl, refl, refl, refl, h)
 past_same r r' nothing (bounded inside _) h f g = let z = rw h at f in absurd (cc)
@@ -194,13 +203,15 @@ after_timed = codes "and" ∷ after_conjunct
 
 -- texts of at most n tokens are read in one way, where these words may follow
 abbrev Same : (ℕ → List Token → List Node → Type 0) → List (List ℕ) → ℕ → Type 0
-Same R words n = (k : ℕ) (ts us r r' : List Token) (ns ms : List Node) → length ts ≤ n → Ends words r → Ends words r' → R k ts ns → R k us ms → ts ++ r ≡ us ++ r'
+Same R words n = (k : ℕ) (ts us r r' : List Token) (ns ms : List Node) → length ts ≤ n → Ends words r → Ends words r' → R k ts ns
+    → R k us ms → ts ++ r ≡ us ++ r'
     → (ns ≡ ms) × (r ≡ r')
 
 -- further operands of a connective that groups to the left
 data More (R : ℕ → List Token → List Node → Type 0) (w : List ℕ) (node : ℕ → ℕ → Node) (k : ℕ) : List Node → List Token → List Node → Type 0 where
   none : {ns : List Node} → More R w node k ns [] ns
-  more : {ns ms all : List Node} {us ts : List Token} → R (k + length ns) us ms → More R w node k (ns ++ ms ++ node (top k ns) (top (k + length ns) ms) ∷ []) ts all
+  more : {ns ms all : List Node} {us ts : List Token} → R (k + length ns) us ms
+      → More R w node k (ns ++ ms ++ node (top k ns) (top (k + length ns) ms) ∷ []) ts all
       → More R w node k ns (word w ∷ us ++ ts) all
 
 module _ (R : ℕ → List Token → List Node → Type 0) (w : List ℕ) (node : ℕ → ℕ → Node) where
@@ -212,18 +223,21 @@ module _ (R : ℕ → List Token → List Node → Type 0) (w : List ℕ) (node 
       let e : word w ∷ vs ++ ts ++ word w ∷ us ≡ word w ∷ vs ++ (ts ++ word w ∷ us) = append_assoc (word w ∷ vs) ts (word w ∷ us) in
       rw e (more q (more_last k m us ms r))
 
-  more_ends : (k : ℕ) {ns all : List Node} {ts : List Token} → More R w node k ns ts all → (words : List (List ℕ)) (r : List Token) → Ends words r → Ends (w ∷ words) (ts ++ r)
+  more_ends : (k : ℕ) {ns all : List Node} {ts : List Token} → More R w node k ns ts all
+      → (words : List (List ℕ)) (r : List Token) → Ends words r → Ends (w ∷ words) (ts ++ r)
   more_ends k none words r h = ends_more w words r h
   more_ends k (more q m) words r h = inl refl
 
-  more_same : (n : ℕ) (words : List (List ℕ)) → ¬ OneOf w words → Same R (w ∷ words) n → (k : ℕ) {ns all all' : List Node} {ts us : List Token} (r r' : List Token)
+  more_same : (n : ℕ) (words : List (List ℕ)) → ¬ OneOf w words → Same R (w ∷ words) n
+      → (k : ℕ) {ns all all' : List Node} {ts us : List Token} (r r' : List Token)
       → More R w node k ns ts all → More R w node k ns us all' → length ts ≤ n → Ends words r → Ends words r' → ts ++ r ≡ us ++ r' → (all ≡ all') × (r ≡ r')
   more_same n words fresh same k r r' none none l f g h = (refl, h)
   more_same n words fresh same k r r' none (more q m) l f g h = let z = rw h at f in absurd (fresh z)
   more_same n words fresh same k r r' (more q m) none l f g h = let z = rw (← h) at g in absurd (fresh z)
   more_same n words fresh same k r r' (more {ns = ns} {ms} {us = us} {ts} q m) (more {ms = ms'} {us = us'} {ts = ts'} q' m') l f g h =
       let e : us ++ ts ++ r ≡ us' ++ ts' ++ r' = cc in
-      let x = same (k + length ns) us us' (ts ++ r) (ts' ++ r') ms ms' (omega (arith, length-append us ts)) (more_ends k m words r f) (more_ends k m' words r' g) q q'
+      let x = same (k + length ns) us us' (ts ++ r) (ts' ++ r') ms ms' (omega (arith, length-append us ts))
+      (more_ends k m words r f) (more_ends k m' words r' g) q q'
       (sym (append_assoc us ts r) ∙ (e ∙ append_assoc us' ts' r')) in
       more_same n words fresh same k r r' m (rw x.0 m') (omega (arith, length-append us ts)) f g x.1
 
@@ -286,7 +300,8 @@ last_part ts us vs t n l = omega (arith, length-append (ts ++ t ∷ us) vs, leng
 
 -- operands of at most n tokens are read in one way, whatever follows
 abbrev OperandSame : Scale → ℕ → Type 0
-OperandSame s n = (k : ℕ) (ts us r r' : List Token) (ns ms : List Node) → length ts ≤ n → IsOperand s k ts ns → IsOperand s k us ms → ts ++ r ≡ us ++ r' → (ns ≡ ms) × (r ≡ r')
+OperandSame s n = (k : ℕ) (ts us r r' : List Token) (ns ms : List Node) → length ts ≤ n → IsOperand s k ts ns
+    → IsOperand s k us ms → ts ++ r ≡ us ++ r' → (ns ≡ ms) × (r ≡ r')
 
 module _ (s : Scale) (n : ℕ) (same : OperandSame s n) where
   timed_same : Same (IsTimed s) after_timed n
@@ -298,25 +313,33 @@ module _ (s : Scale) (n : ℕ) (same : OperandSame s n) where
       let x = same k ts ts' r (word (codes "since") ∷ bs' ++ vs' ++ r') ns ns' l p q (h ∙ simp append_assoc) in
       let z = rw x.1 at f in absurd (no_since z)
   timed_same k ts us r r' ns ms l f g (until {ts = gs} {us = bs} {vs} {ns = ks} p b p') (operand q) h =
-      let x = same k gs us (word (codes "until") ∷ bs ++ vs ++ r) r' ks ms (first_part gs bs vs (word (codes "until")) n l) p q (simp append_assoc (simp append_assoc at h)) in
+      let x = same k gs us (word (codes "until") ∷ bs ++ vs ++ r) r' ks ms (first_part gs bs vs (word (codes "until")) n l) p q
+      (simp append_assoc (simp append_assoc at h)) in
       let z = rw (← x.1) at g in absurd (no_until z)
   timed_same k ts us r r' ns ms l f g (since {ts = gs} {us = bs} {vs} {ns = ks} p b p') (operand q) h =
-      let x = same k gs us (word (codes "since") ∷ bs ++ vs ++ r) r' ks ms (first_part gs bs vs (word (codes "since")) n l) p q (simp append_assoc (simp append_assoc at h)) in
+      let x = same k gs us (word (codes "since") ∷ bs ++ vs ++ r) r' ks ms (first_part gs bs vs (word (codes "since")) n l) p q
+      (simp append_assoc (simp append_assoc at h)) in
       let z = rw (← x.1) at g in absurd (no_since z)
   timed_same k ts us r r' ns ms l f g (until {ts = gs} {us = bs} {vs} {ns = ks} p b p') (since {ts = cs} {us = ds} {vs = es} {ns = cs'} q d q') h =
-      let x = same k gs cs (word (codes "until") ∷ bs ++ vs ++ r) (word (codes "since") ∷ ds ++ es ++ r') ks cs' (first_part gs bs vs (word (codes "until")) n l) p q (simp append_assoc (simp append_assoc at h)) in
+      let x = same k gs cs (word (codes "until") ∷ bs ++ vs ++ r) (word (codes "since") ∷ ds ++ es ++ r') ks cs'
+      (first_part gs bs vs (word (codes "until")) n l) p q (simp append_assoc (simp append_assoc at h)) in
       absurd (until_since (same_word _ _ _ _ x.1))
   timed_same k ts us r r' ns ms l f g (since {ts = gs} {us = bs} {vs} {ns = ks} p b p') (until {ts = cs} {us = ds} {vs = es} {ns = cs'} q d q') h =
-      let x = same k gs cs (word (codes "since") ∷ bs ++ vs ++ r) (word (codes "until") ∷ ds ++ es ++ r') ks cs' (first_part gs bs vs (word (codes "since")) n l) p q (simp append_assoc (simp append_assoc at h)) in
+      let x = same k gs cs (word (codes "since") ∷ bs ++ vs ++ r) (word (codes "until") ∷ ds ++ es ++ r') ks cs'
+      (first_part gs bs vs (word (codes "since")) n l) p q (simp append_assoc (simp append_assoc at h)) in
       absurd (until_since (sym (same_word _ _ _ _ x.1)))
-  timed_same k ts us r r' ns ms l f g (until {ts = gs} {us = bs} {vs} {ns = ks} {ms = ps} p b p') (until {ts = cs} {us = ds} {vs = es} {ns = cs'} {ms = qs} q d q') h =
-      let x = same k gs cs (word (codes "until") ∷ bs ++ vs ++ r) (word (codes "until") ∷ ds ++ es ++ r') ks cs' (first_part gs bs vs (word (codes "until")) n l) p q (simp append_assoc (simp append_assoc at h)) in
+  timed_same k ts us r r' ns ms l f g (until {ts = gs} {us = bs} {vs} {ns = ks} {ms = ps} p b p')
+      (until {ts = cs} {us = ds} {vs = es} {ns = cs'} {ms = qs} q d q') h =
+      let x = same k gs cs (word (codes "until") ∷ bs ++ vs ++ r) (word (codes "until") ∷ ds ++ es ++ r') ks cs'
+      (first_part gs bs vs (word (codes "until")) n l) p q (simp append_assoc (simp append_assoc at h)) in
       let e : bs ++ vs ++ r ≡ ds ++ es ++ r' = same_rest _ _ _ _ x.1 in
       let y = until_same (vs ++ r) (es ++ r') b d (sym (append_assoc bs vs r) ∙ (e ∙ append_assoc ds es r')) in
       let z = same (k + length ks) vs es r r' ps qs (last_part gs bs vs (word (codes "until")) n l) p' (rw x.0 q') y.2 in
       (rw (x.0, y.0, y.1, z.0) refl, z.1)
-  timed_same k ts us r r' ns ms l f g (since {ts = gs} {us = bs} {vs} {ns = ks} {ms = ps} p b p') (since {ts = cs} {us = ds} {vs = es} {ns = cs'} {ms = qs} q d q') h =
-      let x = same k gs cs (word (codes "since") ∷ bs ++ vs ++ r) (word (codes "since") ∷ ds ++ es ++ r') ks cs' (first_part gs bs vs (word (codes "since")) n l) p q (simp append_assoc (simp append_assoc at h)) in
+  timed_same k ts us r r' ns ms l f g (since {ts = gs} {us = bs} {vs} {ns = ks} {ms = ps} p b p')
+      (since {ts = cs} {us = ds} {vs = es} {ns = cs'} {ms = qs} q d q') h =
+      let x = same k gs cs (word (codes "since") ∷ bs ++ vs ++ r) (word (codes "since") ∷ ds ++ es ++ r') ks cs'
+      (first_part gs bs vs (word (codes "since")) n l) p q (simp append_assoc (simp append_assoc at h)) in
       let e : bs ++ vs ++ r ≡ ds ++ es ++ r' = same_rest _ _ _ _ x.1 in
       let y = since_same (vs ++ r) (es ++ r') b d (sym (append_assoc bs vs r) ∙ (e ∙ append_assoc ds es r')) (operand_bracket r p') (operand_bracket r' q') in
       let z = same (k + length ks) vs es r r' ps qs (last_part gs bs vs (word (codes "since")) n l) p' (rw x.0 q') y.2 in
@@ -356,7 +379,8 @@ module _ (R : ℕ → List Token → List Node → Type 0) (w : List ℕ) (node 
   listed_same n same k ts us r r' ns ms l f g x y h =
       let e : x.0 ++ (x.1 ++ r) ≡ y.0 ++ (y.1 ++ r') = simp append_assoc at (rw (x.5, y.5) at h) in
       let j : length x.0 + length x.1 ≤ n = omega (arith, ap (λ z. length z) x.5, length-append x.0 x.1) in
-      let a = same k x.0 y.0 (x.1 ++ r) (y.1 ++ r') x.2 y.2 (omega arith) (more_ends R w node k x.4 words r f) (more_ends R w node k y.4 words r' g) x.3 y.3 e in
+      let a = same k x.0 y.0 (x.1 ++ r) (y.1 ++ r') x.2 y.2 (omega arith) (more_ends R w node k x.4 words r f)
+      (more_ends R w node k y.4 words r' g) x.3 y.3 e in
       more_same R w node n words fresh same k r r' x.4 (rw a.0 y.4) (omega arith) f g a.1
 
 module _ (s : Scale) (n : ℕ) (same : OperandSame s n) where
@@ -373,11 +397,13 @@ module _ (s : Scale) (n : ℕ) (same : OperandSame s n) where
   formula_same k r r' l f g (disjunct {ts = ts} {ns} p) (disjunct {ts = us} {ns = ms} q) h =
       disjunct_same k ts us r r' ns ms l (ends_more _ [] r f) (ends_more _ [] r' g) p q h
   formula_same k r r' l f g (disjunct {ts = ts} {ns} p) (implies {ts = us} {us = vs} {ns = ms} q e) h =
-      let x = disjunct_same k ts us r (word (codes "implies") ∷ vs ++ r') ns ms l (ends_more _ [] r f) (inl refl) p q (h ∙ append_assoc us (word (codes "implies") ∷ vs) r') in
+      let x = disjunct_same k ts us r (word (codes "implies") ∷ vs ++ r') ns ms l (ends_more _ [] r f) (inl refl) p q (h
+      ∙ append_assoc us (word (codes "implies") ∷ vs) r') in
       absurd (rw x.1 at f)
   formula_same k r r' l f g (implies {ts = ts} {us = vs} {ns = ns} p e) (disjunct {ts = us} {ns = ms} q) h =
       let j : length ts ≤ n = omega (arith, length-append ts (word (codes "implies") ∷ vs)) in
-      let x = disjunct_same k ts us (word (codes "implies") ∷ vs ++ r) r' ns ms j (inl refl) (ends_more _ [] r' g) p q (sym (append_assoc ts (word (codes "implies") ∷ vs) r) ∙ h) in
+      let x = disjunct_same k ts us (word (codes "implies") ∷ vs ++ r) r' ns ms j (inl refl) (ends_more _ [] r' g) p q
+      (sym (append_assoc ts (word (codes "implies") ∷ vs) r) ∙ h) in
       absurd (rw (← x.1) at g)
   formula_same k r r' l f g (implies {ts = ts} {us = vs} {ns = ns} {ms = ps} p e) (implies {ts = us} {us = xs} {ns = ms} {ms = qs} q d) h =
       let j : length ts ≤ n = omega (arith, length-append ts (word (codes "implies") ∷ vs)) in
@@ -413,7 +439,9 @@ operand_same s (suc n) k ts us r r' ns ms l (eventually {ts = vs} {us = bs} {ns 
     let j : length vs ≤ n = omega (arith, length-append bs vs) in
     let y = operand_same s n k vs xs r r' ps qs j p q x.4 in
     (rw (x.0, x.1, x.2, x.3, y.0) refl, y.1)
-operand_same s (suc n) k ts us r r' ns ms l (eventually {ts = vs} {us = bs} b p) (atom a) h = let x = atom_word (codes "eventually") (bs ++ vs ++ r) r' a h in absurd (cc)
+operand_same s (suc n) k ts us r r' ns ms l (eventually {ts = vs} {us = bs} b p) (atom a) h =
+    let x = atom_word (codes "eventually") (bs ++ vs ++ r) r' a h in
+    absurd (cc)
 operand_same s (suc n) k ts us r r' ns ms l (eventually b p) _ h = absurd (apart (ts ++ r) (us ++ r') refl h)
 operand_same s (suc n) k ts us r r' ns ms l (always {ts = vs} {us = bs} {ns = ps} b p) (always {ts = xs} {us = ds} {ns = qs} d q) h =
     let e : bs ++ vs ++ r ≡ ds ++ xs ++ r' = same_rest _ _ _ _ h in
@@ -421,7 +449,9 @@ operand_same s (suc n) k ts us r r' ns ms l (always {ts = vs} {us = bs} {ns = ps
     let j : length vs ≤ n = omega (arith, length-append bs vs) in
     let y = operand_same s n k vs xs r r' ps qs j p q x.4 in
     (rw (x.0, x.1, x.2, x.3, y.0) refl, y.1)
-operand_same s (suc n) k ts us r r' ns ms l (always {ts = vs} {us = bs} b p) (atom a) h = let x = atom_word (codes "always") (bs ++ vs ++ r) r' a h in absurd (cc)
+operand_same s (suc n) k ts us r r' ns ms l (always {ts = vs} {us = bs} b p) (atom a) h =
+    let x = atom_word (codes "always") (bs ++ vs ++ r) r' a h in
+    absurd (cc)
 operand_same s (suc n) k ts us r r' ns ms l (always b p) _ h = absurd (apart (ts ++ r) (us ++ r') refl h)
 operand_same s (suc n) k ts us r r' ns ms l (once {ts = vs} {us = bs} {ns = ps} b p) (once {ts = xs} {us = ds} {ns = qs} d q) h =
     let e : bs ++ vs ++ r ≡ ds ++ xs ++ r' = same_rest _ _ _ _ h in
@@ -437,7 +467,9 @@ operand_same s (suc n) k ts us r r' ns ms l (historically {ts = vs} {us = bs} {n
     let j : length vs ≤ n = omega (arith, length-append bs vs) in
     let y = operand_same s n k vs xs r r' ps qs j p q x.4 in
     (rw (x.0, x.1, x.2, x.3, y.0) refl, y.1)
-operand_same s (suc n) k ts us r r' ns ms l (historically {ts = vs} {us = bs} b p) (atom a) h = let x = atom_word (codes "historically") (bs ++ vs ++ r) r' a h in absurd (cc)
+operand_same s (suc n) k ts us r r' ns ms l (historically {ts = vs} {us = bs} b p) (atom a) h =
+    let x = atom_word (codes "historically") (bs ++ vs ++ r) r' a h in
+    absurd (cc)
 operand_same s (suc n) k ts us r r' ns ms l (historically b p) _ h = absurd (apart (ts ++ r) (us ++ r') refl h)
 operand_same s (suc n) k ts us r r' ns ms l always_true always_true h = (refl, same_rest _ _ _ _ h)
 operand_same s (suc n) k ts us r r' ns ms l always_true (atom a) h = let x = atom_word (codes "true") r r' a h in absurd (cc)
@@ -455,10 +487,18 @@ operand_same s (suc n) k ts us r r' ns ms l (parens {ts = vs} p) (atom a) h = ab
 operand_same s (suc n) k ts us r r' ns ms l (parens p) _ h = absurd (apart (ts ++ r) (us ++ r') refl h)
 operand_same s (suc n) k ts us r r' ns ms l (atom a) (atom b) h = let x = atom_same r r' a b h in (rw x.0 refl, x.1)
 operand_same s (suc n) k ts us r r' ns ms l (atom a) (not {ts = xs} q) h = let x = atom_word (codes "not") (xs ++ r') r a (sym h) in absurd (cc)
-operand_same s (suc n) k ts us r r' ns ms l (atom a) (eventually {ts = xs} {us = ds} d q) h = let x = atom_word (codes "eventually") (ds ++ xs ++ r') r a (sym h) in absurd (cc)
-operand_same s (suc n) k ts us r r' ns ms l (atom a) (always {ts = xs} {us = ds} d q) h = let x = atom_word (codes "always") (ds ++ xs ++ r') r a (sym h) in absurd (cc)
-operand_same s (suc n) k ts us r r' ns ms l (atom a) (once {ts = xs} {us = ds} d q) h = let x = atom_word (codes "once") (ds ++ xs ++ r') r a (sym h) in absurd (cc)
-operand_same s (suc n) k ts us r r' ns ms l (atom a) (historically {ts = xs} {us = ds} d q) h = let x = atom_word (codes "historically") (ds ++ xs ++ r') r a (sym h) in absurd (cc)
+operand_same s (suc n) k ts us r r' ns ms l (atom a) (eventually {ts = xs} {us = ds} d q) h =
+    let x = atom_word (codes "eventually") (ds ++ xs ++ r') r a (sym h) in
+    absurd (cc)
+operand_same s (suc n) k ts us r r' ns ms l (atom a) (always {ts = xs} {us = ds} d q) h =
+    let x = atom_word (codes "always") (ds ++ xs ++ r') r a (sym h) in
+    absurd (cc)
+operand_same s (suc n) k ts us r r' ns ms l (atom a) (once {ts = xs} {us = ds} d q) h =
+    let x = atom_word (codes "once") (ds ++ xs ++ r') r a (sym h) in
+    absurd (cc)
+operand_same s (suc n) k ts us r r' ns ms l (atom a) (historically {ts = xs} {us = ds} d q) h =
+    let x = atom_word (codes "historically") (ds ++ xs ++ r') r a (sym h) in
+    absurd (cc)
 operand_same s (suc n) k ts us r r' ns ms l (atom a) always_true h = let x = atom_word (codes "true") r' r a (sym h) in absurd (cc)
 operand_same s (suc n) k ts us r r' ns ms l (atom a) always_false h = let x = atom_word (codes "false") r' r a (sym h) in absurd (cc)
 operand_same s (suc n) k ts us r r' ns ms l (atom a) (parens {ts = xs} q) h = absurd (atom_paren (xs ++ close_paren ∷ [] ++ r') r a (sym h))

@@ -7,18 +7,22 @@ use Rattle.stl_grammar.specs.Judging.{is_beside, back_is_beside}
 use Rattle.stl_grammar.specs.declared.decimal.Decimal.{Decimal}
 use Rattle.stl_grammar.specs.declared.token.Keyword.TheVariants.{True, False, Not, And, Or, Implies, Until, Since, Eventually, Always, Once, Historically, Inf}
 use Rattle.stl_grammar.specs.declared.token.Token.{Token as Code}
-use Rattle.stl_grammar.specs.declared.token.Token.TheVariants.{Keyword as IsKeyword, Name, Number, Relation, OpenParen, CloseParen, OpenBracket, CloseBracket, Comma, Star, Plus, Minus}
+use Rattle.stl_grammar.specs.declared.token.Token.TheVariants.{Keyword as IsKeyword, Name, Number, Relation, OpenParen}
+use Rattle.stl_grammar.specs.declared.token.Token.TheVariants.{CloseParen, OpenBracket, CloseBracket, Comma, Star, Plus, Minus}
 use Rattle.stl_grammar.specs.declared.draft.Infix.TheVariants.{And as Both, Or as Either, Implies as Then, Until as UpTo, Since as After}
 use Rattle.stl_grammar.specs.declared.draft.Past.TheVariants.{Whole}
 use Rattle.stl_grammar.specs.declared.draft.Frame.{Frame}
 use Rattle.stl_grammar.specs.declared.draft.Frame.TheVariants.{Paren as Opened, Prefix as Before, Infix as Between}
 use Rattle.stl_grammar.specs.declared.draft.Draft.{Draft}
 use Rattle.stl_grammar.specs.declared.place.Timed.{Timed}
-use Rattle.stl_grammar.specs.declared.place.Timed.TheVariants.{Until as TUntil, Since as TSince, Eventually as TEventually, Always as TAlways, Once as TOnce, Historically as THistorically}
+use Rattle.stl_grammar.specs.declared.place.Timed.TheVariants.{Until as TUntil, Since as TSince, Eventually as TEventually}
+use Rattle.stl_grammar.specs.declared.place.Timed.TheVariants.{Always as TAlways, Once as TOnce, Historically as THistorically}
 use Rattle.stl_grammar.specs.declared.place.Back.{Back}
 use Rattle.stl_grammar.specs.declared.place.Back.TheVariants.{Since as BSince, Once as BOnce, Historically as BHistorically}
 use Rattle.stl_grammar.specs.declared.place.Place.{Place}
-use Rattle.stl_grammar.specs.declared.place.Place.TheVariants.{Operand, Bound, Low, Comma as AtComma, High, Closing, ClosingInf, Term as AtTerm, Star as AtStar, Name as AtName, Sign, Constant, Number as AtNumber, End}
+use Rattle.stl_grammar.specs.declared.place.Place.TheVariants.{Operand, Bound, Low, Comma as AtComma, High, Closing}
+use Rattle.stl_grammar.specs.declared.place.Place.TheVariants.{ClosingInf, Term as AtTerm, Star as AtStar, Name as AtName}
+use Rattle.stl_grammar.specs.declared.place.Place.TheVariants.{Sign, Constant, Number as AtNumber, End}
 use Rattle.stl_syntax.specs.declared.atom.Term.{Term}
 use Rattle.stl_syntax.specs.declared.rel.Rel.{Rel}
 use Rattle.stl_grammar.proofs.ParserView.{ordered, order_next, StandsBeside, IsFit}
@@ -104,12 +108,14 @@ close_fit place (Between (UpTo w) left ∷ frames) drafts made h = close_fit pla
 close_fit place (Between (After b) left ∷ frames) drafts made h = close_fit place frames drafts made (order_next (After b) left frames h).1
 
 -- frames stay in order where an operand is expected
-pub operand_fit : (text : List ℕ) (frames : List Frame) (drafts : List Draft) (terms : List Term) (made : ℕ) (t : Code) → IsFit (record { place = Operand; frames = frames; drafts = drafts; terms = terms; made = made })
+pub operand_fit : (text : List ℕ) (frames : List Frame) (drafts : List Draft) (terms : List Term) (made : ℕ) (t : Code)
+    → IsFit (record { place = Operand; frames = frames; drafts = drafts; terms = terms; made = made })
     → Holds IsFit (parse_step text (record { place = Operand; frames = frames; drafts = drafts; terms = terms; made = made }) t)
 operand_fit text frames drafts terms made t h = let e : terms ≡ [] = h.place in rw e (begin_fit text Operand frames drafts made t h.order)
 
 -- frames stay in order at the lower number of a bound
-pub low_fit : (text : List ℕ) (of : Timed) (low_in : Bool) (frames : List Frame) (drafts : List Draft) (terms : List Term) (made : ℕ) (t : Code) → IsFit (record { place = Low of low_in; frames = frames; drafts = drafts; terms = terms; made = made })
+pub low_fit : (text : List ℕ) (of : Timed) (low_in : Bool) (frames : List Frame) (drafts : List Draft) (terms : List Term)
+    (made : ℕ) (t : Code) → IsFit (record { place = Low of low_in; frames = frames; drafts = drafts; terms = terms; made = made })
     → Holds IsFit (parse_step text (record { place = Low of low_in; frames = frames; drafts = drafts; terms = terms; made = made }) t)
 low_fit text of low_in frames drafts terms made (IsKeyword w) h = tt
 low_fit text of low_in frames drafts terms made (Name from to) h = tt
@@ -125,7 +131,9 @@ low_fit text of low_in frames drafts terms made Plus h = tt
 low_fit text of low_in frames drafts terms made Minus h = tt
 
 -- frames stay in order at the comma of a bound
-pub comma_fit : (text : List ℕ) (of : Timed) (low_in : Bool) (low : Decimal) (frames : List Frame) (drafts : List Draft) (terms : List Term) (made : ℕ) (t : Code) → IsFit (record { place = AtComma of low_in low; frames = frames; drafts = drafts; terms = terms; made = made })
+pub comma_fit : (text : List ℕ) (of : Timed) (low_in : Bool) (low : Decimal) (frames : List Frame) (drafts : List Draft)
+    (terms : List Term) (made : ℕ) (t : Code)
+    → IsFit (record { place = AtComma of low_in low; frames = frames; drafts = drafts; terms = terms; made = made })
     → Holds IsFit (parse_step text (record { place = AtComma of low_in low; frames = frames; drafts = drafts; terms = terms; made = made }) t)
 comma_fit text of low_in low frames drafts terms made (IsKeyword w) h = tt
 comma_fit text of low_in low frames drafts terms made (Name from to) h = tt
@@ -151,7 +159,8 @@ inf_fit text TOnce low_in low frames drafts terms made h = record { order = h.or
 inf_fit text THistorically low_in low frames drafts terms made h = record { order = h.order; place = h.place }
 
 -- frames stay in order at the upper number of a bound
-pub high_fit : (text : List ℕ) (of : Timed) (low_in : Bool) (low : Decimal) (frames : List Frame) (drafts : List Draft) (terms : List Term) (made : ℕ) (t : Code) → IsFit (record { place = High of low_in low; frames = frames; drafts = drafts; terms = terms; made = made })
+pub high_fit : (text : List ℕ) (of : Timed) (low_in : Bool) (low : Decimal) (frames : List Frame) (drafts : List Draft) (terms : List Term)
+    (made : ℕ) (t : Code) → IsFit (record { place = High of low_in low; frames = frames; drafts = drafts; terms = terms; made = made })
     → Holds IsFit (parse_step text (record { place = High of low_in low; frames = frames; drafts = drafts; terms = terms; made = made }) t)
 high_fit text of low_in low frames drafts terms made (IsKeyword True) h = tt
 high_fit text of low_in low frames drafts terms made (IsKeyword False) h = tt
@@ -178,7 +187,8 @@ high_fit text of low_in low frames drafts terms made Star h = tt
 high_fit text of low_in low frames drafts terms made Plus h = tt
 high_fit text of low_in low frames drafts terms made Minus h = tt
 
-closing_OpenBracket : (text : List ℕ) (of : Timed) (low_in : Bool) (low high : Decimal) (frames : List Frame) (drafts : List Draft) (terms : List Term) (made : ℕ)
+closing_OpenBracket : (text : List ℕ) (of : Timed) (low_in : Bool) (low high : Decimal) (frames : List Frame)
+    (drafts : List Draft) (terms : List Term) (made : ℕ)
     → IsFit (record { place = Closing of low_in low high; frames = frames; drafts = drafts; terms = terms; made = made })
     → Holds IsFit (parse_step text (record { place = Closing of low_in low high; frames = frames; drafts = drafts; terms = terms; made = made }) OpenBracket)
 closing_OpenBracket text TUntil low_in low high frames drafts terms made h = tt
@@ -195,25 +205,32 @@ closing_inf_OpenBracket text BSince low_in low frames drafts terms made h = tt
 closing_inf_OpenBracket text BOnce low_in low frames drafts terms made h = record { order = h.order; place = h.place.0 }
 closing_inf_OpenBracket text BHistorically low_in low frames drafts terms made h = record { order = h.order; place = h.place.0 }
 
-closing_CloseBracket : (text : List ℕ) (of : Timed) (low_in : Bool) (low high : Decimal) (frames : List Frame) (drafts : List Draft) (terms : List Term) (made : ℕ)
+closing_CloseBracket : (text : List ℕ) (of : Timed) (low_in : Bool) (low high : Decimal) (frames : List Frame)
+    (drafts : List Draft) (terms : List Term) (made : ℕ)
     → IsFit (record { place = Closing of low_in low high; frames = frames; drafts = drafts; terms = terms; made = made })
     → Holds IsFit (parse_step text (record { place = Closing of low_in low high; frames = frames; drafts = drafts; terms = terms; made = made }) CloseBracket)
-closing_CloseBracket text TUntil low_in low high frames drafts terms made h = record { order = rw (lower (top_rank frames) 4 h.place.1, h.order) refl; place = h.place.0 }
-closing_CloseBracket text TSince low_in low high frames drafts terms made h = record { order = rw (lower (top_rank frames) 4 h.place.1, h.order) refl; place = h.place.0 }
+closing_CloseBracket text TUntil low_in low high frames drafts terms made h =
+    record { order = rw (lower (top_rank frames) 4 h.place.1, h.order) refl; place = h.place.0 }
+closing_CloseBracket text TSince low_in low high frames drafts terms made h =
+    record { order = rw (lower (top_rank frames) 4 h.place.1, h.order) refl; place = h.place.0 }
 closing_CloseBracket text TEventually low_in low high frames drafts terms made h = record { order = h.order; place = h.place.0 }
 closing_CloseBracket text TAlways low_in low high frames drafts terms made h = record { order = h.order; place = h.place.0 }
 closing_CloseBracket text TOnce low_in low high frames drafts terms made h = record { order = h.order; place = h.place.0 }
 closing_CloseBracket text THistorically low_in low high frames drafts terms made h = record { order = h.order; place = h.place.0 }
 
-closing_inf_CloseBracket : (text : List ℕ) (of : Back) (low_in : Bool) (low : Decimal) (frames : List Frame) (drafts : List Draft) (terms : List Term) (made : ℕ)
+closing_inf_CloseBracket : (text : List ℕ) (of : Back) (low_in : Bool) (low : Decimal) (frames : List Frame) (drafts : List Draft)
+    (terms : List Term) (made : ℕ)
     → IsFit (record { place = ClosingInf of low_in low; frames = frames; drafts = drafts; terms = terms; made = made })
     → Holds IsFit (parse_step text (record { place = ClosingInf of low_in low; frames = frames; drafts = drafts; terms = terms; made = made }) CloseBracket)
-closing_inf_CloseBracket text BSince low_in low frames drafts terms made h = record { order = rw (lower (top_rank frames) 4 h.place.1, h.order) refl; place = h.place.0 }
+closing_inf_CloseBracket text BSince low_in low frames drafts terms made h =
+    record { order = rw (lower (top_rank frames) 4 h.place.1, h.order) refl; place = h.place.0 }
 closing_inf_CloseBracket text BOnce low_in low frames drafts terms made h = record { order = h.order; place = h.place.0 }
 closing_inf_CloseBracket text BHistorically low_in low frames drafts terms made h = record { order = h.order; place = h.place.0 }
 
 -- frames stay in order at the bracket that closes a bound
-pub closing_fit : (text : List ℕ) (of : Timed) (low_in : Bool) (low high : Decimal) (frames : List Frame) (drafts : List Draft) (terms : List Term) (made : ℕ) (t : Code) → IsFit (record { place = Closing of low_in low high; frames = frames; drafts = drafts; terms = terms; made = made })
+pub closing_fit : (text : List ℕ) (of : Timed) (low_in : Bool) (low high : Decimal) (frames : List Frame) (drafts : List Draft)
+    (terms : List Term) (made : ℕ) (t : Code)
+    → IsFit (record { place = Closing of low_in low high; frames = frames; drafts = drafts; terms = terms; made = made })
     → Holds IsFit (parse_step text (record { place = Closing of low_in low high; frames = frames; drafts = drafts; terms = terms; made = made }) t)
 closing_fit text of low_in low high frames drafts terms made (IsKeyword w) h = tt
 closing_fit text of low_in low high frames drafts terms made (Name from to) h = tt
@@ -229,7 +246,9 @@ closing_fit text of low_in low high frames drafts terms made Plus h = tt
 closing_fit text of low_in low high frames drafts terms made Minus h = tt
 
 -- frames stay in order at the bracket after `inf`
-pub closing_inf_fit : (text : List ℕ) (of : Back) (low_in : Bool) (low : Decimal) (frames : List Frame) (drafts : List Draft) (terms : List Term) (made : ℕ) (t : Code) → IsFit (record { place = ClosingInf of low_in low; frames = frames; drafts = drafts; terms = terms; made = made })
+pub closing_inf_fit : (text : List ℕ) (of : Back) (low_in : Bool) (low : Decimal) (frames : List Frame) (drafts : List Draft)
+    (terms : List Term) (made : ℕ) (t : Code)
+    → IsFit (record { place = ClosingInf of low_in low; frames = frames; drafts = drafts; terms = terms; made = made })
     → Holds IsFit (parse_step text (record { place = ClosingInf of low_in low; frames = frames; drafts = drafts; terms = terms; made = made }) t)
 closing_inf_fit text of low_in low frames drafts terms made (IsKeyword w) h = tt
 closing_inf_fit text of low_in low frames drafts terms made (Name from to) h = tt
@@ -245,7 +264,8 @@ closing_inf_fit text of low_in low frames drafts terms made Plus h = tt
 closing_inf_fit text of low_in low frames drafts terms made Minus h = tt
 
 -- frames stay in order at a term
-pub term_fit : (text : List ℕ) (negative : Bool) (frames : List Frame) (drafts : List Draft) (terms : List Term) (made : ℕ) (t : Code) → IsFit (record { place = AtTerm negative; frames = frames; drafts = drafts; terms = terms; made = made })
+pub term_fit : (text : List ℕ) (negative : Bool) (frames : List Frame) (drafts : List Draft) (terms : List Term) (made : ℕ) (t : Code)
+    → IsFit (record { place = AtTerm negative; frames = frames; drafts = drafts; terms = terms; made = made })
     → Holds IsFit (parse_step text (record { place = AtTerm negative; frames = frames; drafts = drafts; terms = terms; made = made }) t)
 term_fit text negative frames drafts terms made (IsKeyword w) h = tt
 term_fit text negative frames drafts terms made (Name from to) h = record { order = h.order; place = tt }
@@ -261,7 +281,8 @@ term_fit text negative frames drafts terms made Plus h = tt
 term_fit text negative frames drafts terms made Minus h = tt
 
 -- frames stay in order at the star of a coefficient
-pub star_fit : (text : List ℕ) (negative : Bool) (coef : Decimal) (frames : List Frame) (drafts : List Draft) (terms : List Term) (made : ℕ) (t : Code) → IsFit (record { place = AtStar negative coef; frames = frames; drafts = drafts; terms = terms; made = made })
+pub star_fit : (text : List ℕ) (negative : Bool) (coef : Decimal) (frames : List Frame) (drafts : List Draft) (terms : List Term)
+    (made : ℕ) (t : Code) → IsFit (record { place = AtStar negative coef; frames = frames; drafts = drafts; terms = terms; made = made })
     → Holds IsFit (parse_step text (record { place = AtStar negative coef; frames = frames; drafts = drafts; terms = terms; made = made }) t)
 star_fit text negative coef frames drafts terms made (IsKeyword w) h = tt
 star_fit text negative coef frames drafts terms made (Name from to) h = tt
@@ -277,7 +298,8 @@ star_fit text negative coef frames drafts terms made Plus h = tt
 star_fit text negative coef frames drafts terms made Minus h = tt
 
 -- frames stay in order at the name of a term
-pub name_fit : (text : List ℕ) (negative : Bool) (coef : Decimal) (frames : List Frame) (drafts : List Draft) (terms : List Term) (made : ℕ) (t : Code) → IsFit (record { place = AtName negative coef; frames = frames; drafts = drafts; terms = terms; made = made })
+pub name_fit : (text : List ℕ) (negative : Bool) (coef : Decimal) (frames : List Frame) (drafts : List Draft) (terms : List Term)
+    (made : ℕ) (t : Code) → IsFit (record { place = AtName negative coef; frames = frames; drafts = drafts; terms = terms; made = made })
     → Holds IsFit (parse_step text (record { place = AtName negative coef; frames = frames; drafts = drafts; terms = terms; made = made }) t)
 name_fit text negative coef frames drafts terms made (IsKeyword w) h = tt
 name_fit text negative coef frames drafts terms made (Name from to) h = record { order = h.order; place = tt }
@@ -293,7 +315,8 @@ name_fit text negative coef frames drafts terms made Plus h = tt
 name_fit text negative coef frames drafts terms made Minus h = tt
 
 -- frames stay in order after a term
-pub sign_fit : (text : List ℕ) (frames : List Frame) (drafts : List Draft) (terms : List Term) (made : ℕ) (t : Code) → IsFit (record { place = Sign; frames = frames; drafts = drafts; terms = terms; made = made })
+pub sign_fit : (text : List ℕ) (frames : List Frame) (drafts : List Draft) (terms : List Term) (made : ℕ) (t : Code)
+    → IsFit (record { place = Sign; frames = frames; drafts = drafts; terms = terms; made = made })
     → Holds IsFit (parse_step text (record { place = Sign; frames = frames; drafts = drafts; terms = terms; made = made }) t)
 sign_fit text frames drafts terms made (IsKeyword w) h = tt
 sign_fit text frames drafts terms made (Name from to) h = tt
@@ -309,7 +332,8 @@ sign_fit text frames drafts terms made Plus h = record { order = h.order; place 
 sign_fit text frames drafts terms made Minus h = record { order = h.order; place = tt }
 
 -- frames stay in order at a constant
-pub constant_fit : (text : List ℕ) (rel : Rel) (frames : List Frame) (drafts : List Draft) (terms : List Term) (made : ℕ) (t : Code) → IsFit (record { place = Constant rel; frames = frames; drafts = drafts; terms = terms; made = made })
+pub constant_fit : (text : List ℕ) (rel : Rel) (frames : List Frame) (drafts : List Draft) (terms : List Term) (made : ℕ) (t : Code)
+    → IsFit (record { place = Constant rel; frames = frames; drafts = drafts; terms = terms; made = made })
     → Holds IsFit (parse_step text (record { place = Constant rel; frames = frames; drafts = drafts; terms = terms; made = made }) t)
 constant_fit text rel frames drafts terms made (IsKeyword w) h = tt
 constant_fit text rel frames drafts terms made (Name from to) h = tt
@@ -325,7 +349,8 @@ constant_fit text rel frames drafts terms made Plus h = record { order = h.order
 constant_fit text rel frames drafts terms made Minus h = record { order = h.order; place = tt }
 
 -- frames stay in order at the number of a constant
-pub number_fit : (text : List ℕ) (rel : Rel) (negative : Bool) (frames : List Frame) (drafts : List Draft) (terms : List Term) (made : ℕ) (t : Code) → IsFit (record { place = AtNumber rel negative; frames = frames; drafts = drafts; terms = terms; made = made })
+pub number_fit : (text : List ℕ) (rel : Rel) (negative : Bool) (frames : List Frame) (drafts : List Draft) (terms : List Term) (made : ℕ)
+    (t : Code) → IsFit (record { place = AtNumber rel negative; frames = frames; drafts = drafts; terms = terms; made = made })
     → Holds IsFit (parse_step text (record { place = AtNumber rel negative; frames = frames; drafts = drafts; terms = terms; made = made }) t)
 number_fit text rel negative frames drafts terms made (IsKeyword w) h = tt
 number_fit text rel negative frames drafts terms made (Name from to) h = tt
@@ -340,7 +365,8 @@ number_fit text rel negative frames drafts terms made Star h = tt
 number_fit text rel negative frames drafts terms made Plus h = tt
 number_fit text rel negative frames drafts terms made Minus h = tt
 
-beside : (of : Timed) (frames : List Frame) (drafts : List Draft) (terms : List Term) (made : ℕ) (q : Bool) → nat_le 4 (top_rank frames) ≡ q → is_beside of ≡ true → terms ≡ [] → ordered frames ≡ true
+beside : (of : Timed) (frames : List Frame) (drafts : List Draft) (terms : List Term) (made : ℕ) (q : Bool)
+    → nat_le 4 (top_rank frames) ≡ q → is_beside of ≡ true → terms ≡ [] → ordered frames ≡ true
     → Holds IsFit (if q then None else Some (record { place = Bound of; frames = frames; drafts = drafts; terms = terms; made = suc made }))
 beside of frames drafts terms made true e b z h = tt
 beside of frames drafts terms made false e b z h =
@@ -348,14 +374,27 @@ beside of frames drafts terms made false e b z h =
     record { order = h; place = (z, rw b low) }
 
 -- frames stay in order after a whole operand
-pub end_fit : (text : List ℕ) (frames : List Frame) (drafts : List Draft) (terms : List Term) (made : ℕ) (t : Code) → IsFit (record { place = End; frames = frames; drafts = drafts; terms = terms; made = made })
+pub end_fit : (text : List ℕ) (frames : List Frame) (drafts : List Draft) (terms : List Term) (made : ℕ) (t : Code)
+    → IsFit (record { place = End; frames = frames; drafts = drafts; terms = terms; made = made })
     → Holds IsFit (parse_step text (record { place = End; frames = frames; drafts = drafts; terms = terms; made = made }) t)
 end_fit text frames drafts terms made (IsKeyword True) h = tt
 end_fit text frames drafts terms made (IsKeyword False) h = tt
 end_fit text frames drafts terms made (IsKeyword Not) h = tt
-end_fit text frames drafts terms made (IsKeyword And) h = record { order = rw (lower (top_rank (settled_frames 3 frames)) 3 (settled_top 3 frames (omega arith)), settled_ordered 3 frames h.order) refl; place = h.place.0 }
-end_fit text frames drafts terms made (IsKeyword Or) h = record { order = rw (lower (top_rank (settled_frames 2 frames)) 2 (settled_top 2 frames (omega arith)), settled_ordered 2 frames h.order) refl; place = h.place.0 }
-end_fit text frames drafts terms made (IsKeyword Implies) h = record { order = rw (lower (top_rank (settled_frames 2 frames)) 2 (settled_top 2 frames (omega arith)), settled_ordered 2 frames h.order) refl; place = h.place.0 }
+end_fit text frames drafts terms made (IsKeyword And) h =
+    record {
+      order = rw (lower (top_rank (settled_frames 3 frames)) 3 (settled_top 3 frames (omega arith)), settled_ordered 3 frames h.order) refl;
+      place = h.place.0;
+    }
+end_fit text frames drafts terms made (IsKeyword Or) h =
+    record {
+      order = rw (lower (top_rank (settled_frames 2 frames)) 2 (settled_top 2 frames (omega arith)), settled_ordered 2 frames h.order) refl;
+      place = h.place.0;
+    }
+end_fit text frames drafts terms made (IsKeyword Implies) h =
+    record {
+      order = rw (lower (top_rank (settled_frames 2 frames)) 2 (settled_top 2 frames (omega arith)), settled_ordered 2 frames h.order) refl;
+      place = h.place.0;
+    }
 end_fit text frames drafts terms made (IsKeyword Until) h = beside TUntil frames drafts terms made (nat_le 4 (top_rank frames)) refl refl h.place.0 h.order
 end_fit text frames drafts terms made (IsKeyword Since) h = beside TSince frames drafts terms made (nat_le 4 (top_rank frames)) refl refl h.place.0 h.order
 end_fit text frames drafts terms made (IsKeyword Eventually) h = tt
@@ -375,14 +414,18 @@ end_fit text frames drafts terms made Star h = tt
 end_fit text frames drafts terms made Plus h = tt
 end_fit text frames drafts terms made Minus h = tt
 
-left_out : (text : List ℕ) (b : Back) (frames : List Frame) (drafts : List Draft) (made : ℕ) (t : Code) → ordered frames ≡ true → StandsBeside (back_is_beside b) frames
-    → Holds IsFit (begin_operand text (record { place = Operand; frames = back_frame b Whole (length drafts - 1) ∷ frames; drafts = drafts; terms = []; made = made }) t)
-left_out text BSince frames drafts made t h s = begin_fit text Operand (Between (After Whole) (length drafts - 1) ∷ frames) drafts made t (rw (lower (top_rank frames) 4 s, h) refl)
+left_out : (text : List ℕ) (b : Back) (frames : List Frame) (drafts : List Draft) (made : ℕ) (t : Code) → ordered frames ≡ true
+    → StandsBeside (back_is_beside b) frames
+    → Holds IsFit (begin_operand text
+    (record { place = Operand; frames = back_frame b Whole (length drafts - 1) ∷ frames; drafts = drafts; terms = []; made = made }) t)
+left_out text BSince frames drafts made t h s = begin_fit text Operand
+    (Between (After Whole) (length drafts - 1) ∷ frames) drafts made t (rw (lower (top_rank frames) 4 s, h) refl)
 left_out text BOnce frames drafts made t h s = begin_fit text Operand (back_frame BOnce Whole (length drafts - 1) ∷ frames) drafts made t h
 left_out text BHistorically frames drafts made t h s = begin_fit text Operand (back_frame BHistorically Whole (length drafts - 1) ∷ frames) drafts made t h
 
 -- frames stay in order after `until`
-pub bound_TUntil : (text : List ℕ) (frames : List Frame) (drafts : List Draft) (terms : List Term) (made : ℕ) (t : Code) → IsFit (record { place = Bound TUntil; frames = frames; drafts = drafts; terms = terms; made = made })
+pub bound_TUntil : (text : List ℕ) (frames : List Frame) (drafts : List Draft) (terms : List Term) (made : ℕ) (t : Code)
+    → IsFit (record { place = Bound TUntil; frames = frames; drafts = drafts; terms = terms; made = made })
     → Holds IsFit (parse_step text (record { place = Bound TUntil; frames = frames; drafts = drafts; terms = terms; made = made }) t)
 bound_TUntil text frames drafts terms made (IsKeyword w) h = tt
 bound_TUntil text frames drafts terms made (Name from to) h = tt
@@ -398,13 +441,22 @@ bound_TUntil text frames drafts terms made Plus h = tt
 bound_TUntil text frames drafts terms made Minus h = tt
 
 -- frames stay in order after `since`
-pub bound_TSince : (text : List ℕ) (frames : List Frame) (drafts : List Draft) (terms : List Term) (made : ℕ) (t : Code) → IsFit (record { place = Bound TSince; frames = frames; drafts = drafts; terms = terms; made = made })
+pub bound_TSince : (text : List ℕ) (frames : List Frame) (drafts : List Draft) (terms : List Term) (made : ℕ) (t : Code)
+    → IsFit (record { place = Bound TSince; frames = frames; drafts = drafts; terms = terms; made = made })
     → Holds IsFit (parse_step text (record { place = Bound TSince; frames = frames; drafts = drafts; terms = terms; made = made }) t)
-bound_TSince text frames drafts terms made (IsKeyword w) h = let e : terms ≡ [] = h.place.0 in rw e (left_out text BSince frames drafts made (IsKeyword w) h.order h.place.1)
-bound_TSince text frames drafts terms made (Name from to) h = let e : terms ≡ [] = h.place.0 in rw e (left_out text BSince frames drafts made (Name from to) h.order h.place.1)
-bound_TSince text frames drafts terms made (Number d) h = let e : terms ≡ [] = h.place.0 in rw e (left_out text BSince frames drafts made (Number d) h.order h.place.1)
+bound_TSince text frames drafts terms made (IsKeyword w) h =
+    let e : terms ≡ [] = h.place.0 in
+    rw e (left_out text BSince frames drafts made (IsKeyword w) h.order h.place.1)
+bound_TSince text frames drafts terms made (Name from to) h =
+    let e : terms ≡ [] = h.place.0 in
+    rw e (left_out text BSince frames drafts made (Name from to) h.order h.place.1)
+bound_TSince text frames drafts terms made (Number d) h =
+    let e : terms ≡ [] = h.place.0 in
+    rw e (left_out text BSince frames drafts made (Number d) h.order h.place.1)
 bound_TSince text frames drafts terms made (Relation r) h = tt
-bound_TSince text frames drafts terms made OpenParen h = let e : terms ≡ [] = h.place.0 in rw e (left_out text BSince frames drafts made OpenParen h.order h.place.1)
+bound_TSince text frames drafts terms made OpenParen h =
+    let e : terms ≡ [] = h.place.0 in
+    rw e (left_out text BSince frames drafts made OpenParen h.order h.place.1)
 bound_TSince text frames drafts terms made CloseParen h = tt
 bound_TSince text frames drafts terms made OpenBracket h = record { order = h.order; place = h.place }
 bound_TSince text frames drafts terms made CloseBracket h = tt
@@ -414,7 +466,8 @@ bound_TSince text frames drafts terms made Plus h = let e : terms ≡ [] = h.pla
 bound_TSince text frames drafts terms made Minus h = let e : terms ≡ [] = h.place.0 in rw e (left_out text BSince frames drafts made Minus h.order h.place.1)
 
 -- frames stay in order after `eventually`
-pub bound_TEventually : (text : List ℕ) (frames : List Frame) (drafts : List Draft) (terms : List Term) (made : ℕ) (t : Code) → IsFit (record { place = Bound TEventually; frames = frames; drafts = drafts; terms = terms; made = made })
+pub bound_TEventually : (text : List ℕ) (frames : List Frame) (drafts : List Draft) (terms : List Term) (made : ℕ) (t : Code)
+    → IsFit (record { place = Bound TEventually; frames = frames; drafts = drafts; terms = terms; made = made })
     → Holds IsFit (parse_step text (record { place = Bound TEventually; frames = frames; drafts = drafts; terms = terms; made = made }) t)
 bound_TEventually text frames drafts terms made (IsKeyword w) h = tt
 bound_TEventually text frames drafts terms made (Name from to) h = tt
@@ -430,7 +483,8 @@ bound_TEventually text frames drafts terms made Plus h = tt
 bound_TEventually text frames drafts terms made Minus h = tt
 
 -- frames stay in order after `always`
-pub bound_TAlways : (text : List ℕ) (frames : List Frame) (drafts : List Draft) (terms : List Term) (made : ℕ) (t : Code) → IsFit (record { place = Bound TAlways; frames = frames; drafts = drafts; terms = terms; made = made })
+pub bound_TAlways : (text : List ℕ) (frames : List Frame) (drafts : List Draft) (terms : List Term) (made : ℕ) (t : Code)
+    → IsFit (record { place = Bound TAlways; frames = frames; drafts = drafts; terms = terms; made = made })
     → Holds IsFit (parse_step text (record { place = Bound TAlways; frames = frames; drafts = drafts; terms = terms; made = made }) t)
 bound_TAlways text frames drafts terms made (IsKeyword w) h = tt
 bound_TAlways text frames drafts terms made (Name from to) h = tt
@@ -446,13 +500,22 @@ bound_TAlways text frames drafts terms made Plus h = tt
 bound_TAlways text frames drafts terms made Minus h = tt
 
 -- frames stay in order after `once`
-pub bound_TOnce : (text : List ℕ) (frames : List Frame) (drafts : List Draft) (terms : List Term) (made : ℕ) (t : Code) → IsFit (record { place = Bound TOnce; frames = frames; drafts = drafts; terms = terms; made = made })
+pub bound_TOnce : (text : List ℕ) (frames : List Frame) (drafts : List Draft) (terms : List Term) (made : ℕ) (t : Code)
+    → IsFit (record { place = Bound TOnce; frames = frames; drafts = drafts; terms = terms; made = made })
     → Holds IsFit (parse_step text (record { place = Bound TOnce; frames = frames; drafts = drafts; terms = terms; made = made }) t)
-bound_TOnce text frames drafts terms made (IsKeyword w) h = let e : terms ≡ [] = h.place.0 in rw e (left_out text BOnce frames drafts made (IsKeyword w) h.order h.place.1)
-bound_TOnce text frames drafts terms made (Name from to) h = let e : terms ≡ [] = h.place.0 in rw e (left_out text BOnce frames drafts made (Name from to) h.order h.place.1)
-bound_TOnce text frames drafts terms made (Number d) h = let e : terms ≡ [] = h.place.0 in rw e (left_out text BOnce frames drafts made (Number d) h.order h.place.1)
+bound_TOnce text frames drafts terms made (IsKeyword w) h =
+    let e : terms ≡ [] = h.place.0 in
+    rw e (left_out text BOnce frames drafts made (IsKeyword w) h.order h.place.1)
+bound_TOnce text frames drafts terms made (Name from to) h =
+    let e : terms ≡ [] = h.place.0 in
+    rw e (left_out text BOnce frames drafts made (Name from to) h.order h.place.1)
+bound_TOnce text frames drafts terms made (Number d) h =
+    let e : terms ≡ [] = h.place.0 in
+    rw e (left_out text BOnce frames drafts made (Number d) h.order h.place.1)
 bound_TOnce text frames drafts terms made (Relation r) h = tt
-bound_TOnce text frames drafts terms made OpenParen h = let e : terms ≡ [] = h.place.0 in rw e (left_out text BOnce frames drafts made OpenParen h.order h.place.1)
+bound_TOnce text frames drafts terms made OpenParen h =
+    let e : terms ≡ [] = h.place.0 in
+    rw e (left_out text BOnce frames drafts made OpenParen h.order h.place.1)
 bound_TOnce text frames drafts terms made CloseParen h = tt
 bound_TOnce text frames drafts terms made OpenBracket h = record { order = h.order; place = h.place }
 bound_TOnce text frames drafts terms made CloseBracket h = record { order = h.order; place = h.place }
@@ -462,20 +525,33 @@ bound_TOnce text frames drafts terms made Plus h = let e : terms ≡ [] = h.plac
 bound_TOnce text frames drafts terms made Minus h = let e : terms ≡ [] = h.place.0 in rw e (left_out text BOnce frames drafts made Minus h.order h.place.1)
 
 -- frames stay in order after `historically`
-pub bound_THistorically : (text : List ℕ) (frames : List Frame) (drafts : List Draft) (terms : List Term) (made : ℕ) (t : Code) → IsFit (record { place = Bound THistorically; frames = frames; drafts = drafts; terms = terms; made = made })
+pub bound_THistorically : (text : List ℕ) (frames : List Frame) (drafts : List Draft) (terms : List Term) (made : ℕ) (t : Code)
+    → IsFit (record { place = Bound THistorically; frames = frames; drafts = drafts; terms = terms; made = made })
     → Holds IsFit (parse_step text (record { place = Bound THistorically; frames = frames; drafts = drafts; terms = terms; made = made }) t)
-bound_THistorically text frames drafts terms made (IsKeyword w) h = let e : terms ≡ [] = h.place.0 in rw e (left_out text BHistorically frames drafts made (IsKeyword w) h.order h.place.1)
-bound_THistorically text frames drafts terms made (Name from to) h = let e : terms ≡ [] = h.place.0 in rw e (left_out text BHistorically frames drafts made (Name from to) h.order h.place.1)
-bound_THistorically text frames drafts terms made (Number d) h = let e : terms ≡ [] = h.place.0 in rw e (left_out text BHistorically frames drafts made (Number d) h.order h.place.1)
+bound_THistorically text frames drafts terms made (IsKeyword w) h =
+    let e : terms ≡ [] = h.place.0 in
+    rw e (left_out text BHistorically frames drafts made (IsKeyword w) h.order h.place.1)
+bound_THistorically text frames drafts terms made (Name from to) h =
+    let e : terms ≡ [] = h.place.0 in
+    rw e (left_out text BHistorically frames drafts made (Name from to) h.order h.place.1)
+bound_THistorically text frames drafts terms made (Number d) h =
+    let e : terms ≡ [] = h.place.0 in
+    rw e (left_out text BHistorically frames drafts made (Number d) h.order h.place.1)
 bound_THistorically text frames drafts terms made (Relation r) h = tt
-bound_THistorically text frames drafts terms made OpenParen h = let e : terms ≡ [] = h.place.0 in rw e (left_out text BHistorically frames drafts made OpenParen h.order h.place.1)
+bound_THistorically text frames drafts terms made OpenParen h =
+    let e : terms ≡ [] = h.place.0 in
+    rw e (left_out text BHistorically frames drafts made OpenParen h.order h.place.1)
 bound_THistorically text frames drafts terms made CloseParen h = tt
 bound_THistorically text frames drafts terms made OpenBracket h = record { order = h.order; place = h.place }
 bound_THistorically text frames drafts terms made CloseBracket h = record { order = h.order; place = h.place }
 bound_THistorically text frames drafts terms made Comma h = tt
 bound_THistorically text frames drafts terms made Star h = tt
-bound_THistorically text frames drafts terms made Plus h = let e : terms ≡ [] = h.place.0 in rw e (left_out text BHistorically frames drafts made Plus h.order h.place.1)
-bound_THistorically text frames drafts terms made Minus h = let e : terms ≡ [] = h.place.0 in rw e (left_out text BHistorically frames drafts made Minus h.order h.place.1)
+bound_THistorically text frames drafts terms made Plus h =
+    let e : terms ≡ [] = h.place.0 in
+    rw e (left_out text BHistorically frames drafts made Plus h.order h.place.1)
+bound_THistorically text frames drafts terms made Minus h =
+    let e : terms ≡ [] = h.place.0 in
+    rw e (left_out text BHistorically frames drafts made Minus h.order h.place.1)
 
 -- a step keeps the order
 pub fit_step : (text : List ℕ) (p : Parse) (t : Code) → IsFit p → Holds IsFit (parse_step text p t)

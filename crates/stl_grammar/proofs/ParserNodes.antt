@@ -1,5 +1,6 @@
 -- A parser that has taken a formula's tokens keeps the formula's nodes.
-use Rattle.std.proofs.Common.{◌≡◌, ℕ, suc, ◌+◌, ◌-◌, ◌<◌, ◌≤◌, List, [], ◌∷◌, ◌++◌, length, refl, ap, sym, ◌∙◌, Bool, true, false, arith, append_assoc, length-append, inl, inr, ◌⊎◌, ◌||◌}
+use Rattle.std.proofs.Common.{◌≡◌, ℕ, suc, ◌+◌, ◌-◌, ◌<◌, ◌≤◌, List, [], ◌∷◌, ◌++◌, length, refl, ap, sym, ◌∙◌}
+use Rattle.std.proofs.Common.{Bool, true, false, arith, append_assoc, length-append, inl, inr, ◌⊎◌, ◌||◌}
 use Rattle.std.specs.Prelude.{codes, reverse, nat_le, nat_lt, ℤ, Option, Some, None}
 use Rattle.std.proofs.lemmas.List.{append-nil}
 use Rattle.std.proofs.lemmas.Bool.{or_parts}
@@ -10,27 +11,38 @@ use Rattle.stl_syntax.specs.declared.atom.Atom.{Atom}
 use Rattle.stl_syntax.specs.declared.atom.Term.{Term}
 use Rattle.stl_syntax.specs.declared.rel.Rel.{Rel}
 use Rattle.stl_syntax.specs.declared.node.Node.{Node}
-use Rattle.stl_syntax.specs.declared.node.Node.TheVariants.{Atom as Leaf, Not as TheNot, And as TheAnd, Or as TheOr, Implies as TheImplies, Until as TheUntil, Eventually as TheEventually, Always as TheAlways, Since as TheSince, Once as TheOnce, Historically as TheHistorically}
+use Rattle.stl_syntax.specs.declared.node.Node.TheVariants.{Atom as Leaf, Not as TheNot, And as TheAnd, Or as TheOr}
+use Rattle.stl_syntax.specs.declared.node.Node.TheVariants.{Implies as TheImplies, Until as TheUntil}
+use Rattle.stl_syntax.specs.declared.node.Node.TheVariants.{Eventually as TheEventually, Always as TheAlways}
+use Rattle.stl_syntax.specs.declared.node.Node.TheVariants.{Since as TheSince, Once as TheOnce}
+use Rattle.stl_syntax.specs.declared.node.Node.TheVariants.{Historically as TheHistorically}
 use Rattle.stl_grammar.specs.Grammar.{top, Token, word, number, relation, close_paren, open_bracket, close_bracket, comma}
-use Rattle.stl_grammar.specs.Grammar.{IsConstant, plain, positive, negative, IsTerm, scaled, AreTerms, more_plus, more_minus, IsAtom, first, signed as signed_atom, IsOpening, IsClosing, inside, outside}
+use Rattle.stl_grammar.specs.Grammar.{IsConstant, plain, positive, negative, IsTerm, scaled, AreTerms, more_plus, more_minus}
+use Rattle.stl_grammar.specs.Grammar.{IsAtom, first, signed as signed_atom, IsOpening, IsClosing, inside, outside}
 use Rattle.stl_grammar.specs.Grammar.{name as term_name, none as no_terms}
 use Rattle.stl_grammar.specs.Grammar.{IsFutureWindow, bound, IsPastWindow, nothing, bounded, unbounded, IsFuture, IsPast}
 use Rattle.stl_grammar.specs.Grammar.IsPast.{nothing as since_nothing, bounded as since_bounded, unbounded as since_unbounded}
-use Rattle.stl_grammar.specs.Grammar.{IsFormula, IsDisjunct, IsConjunct, IsTimed, IsOperand, disjunct, implies, conjunct, or, timed, and, operand, until, since, not, eventually, always, once, historically, always_true, always_false, parens, atom}
+use Rattle.stl_grammar.specs.Grammar.{IsFormula, IsDisjunct, IsConjunct, IsTimed, IsOperand, disjunct, implies}
+use Rattle.stl_grammar.specs.Grammar.{conjunct, or, timed, and, operand, until, since, not, eventually, always}
+use Rattle.stl_grammar.specs.Grammar.{once, historically, always_true, always_false, parens, atom}
 use Rattle.stl_grammar.specs.Told.{Tells}
 use Rattle.stl_grammar.specs.Taken.{Taken}
 use Rattle.stl_grammar.specs.Drafts.{ticks_of, past_low, past_high, past_low_in, past_high_in, one_in, two_in, nodes_in}
-use Rattle.stl_grammar.specs.Parsing.{Parse, infix_rank, rank, top_rank, node_of_frame, settled_drafts, settled_frames, settled, coefficient, signed, may_be_open, back, bounded_frame, back_frame, parse_step, between}
+use Rattle.stl_grammar.specs.Parsing.{Parse, infix_rank, rank, top_rank, node_of_frame, settled_drafts, settled_frames}
+use Rattle.stl_grammar.specs.Parsing.{settled, coefficient, signed, may_be_open, back, bounded_frame, back_frame, parse_step}
+use Rattle.stl_grammar.specs.Parsing.{between}
 use Rattle.stl_grammar.specs.Judging.{bad_in}
 use Rattle.stl_grammar.specs.declared.decimal.Decimal.{Decimal}
 use Rattle.stl_grammar.specs.declared.token.Keyword.TheVariants.{True, False, Not, And, Or, Implies, Until, Since, Eventually, Always, Once, Historically, Inf}
 use Rattle.stl_grammar.specs.declared.token.Token.{Token as Code}
-use Rattle.stl_grammar.specs.declared.token.Token.TheVariants.{Keyword as IsKeyword, Number, Relation, OpenParen, CloseParen, OpenBracket, CloseBracket, Comma, Star, Plus, Minus}
+use Rattle.stl_grammar.specs.declared.token.Token.TheVariants.{Keyword as IsKeyword, Number, Relation, OpenParen, CloseParen}
+use Rattle.stl_grammar.specs.declared.token.Token.TheVariants.{OpenBracket, CloseBracket, Comma, Star, Plus, Minus}
 use Rattle.stl_grammar.specs.declared.draft.Window.{Window}
 use Rattle.stl_grammar.specs.declared.draft.Past.{Past}
 use Rattle.stl_grammar.specs.declared.draft.Past.TheVariants.{Whole, From, Within}
 use Rattle.stl_grammar.specs.declared.draft.Prefix.{Prefix}
-use Rattle.stl_grammar.specs.declared.draft.Prefix.TheVariants.{Not as Negation, Eventually as AtSome, Always as AtEach, Once as BackAtSome, Historically as BackAtEach}
+use Rattle.stl_grammar.specs.declared.draft.Prefix.TheVariants.{Not as Negation, Eventually as AtSome, Always as AtEach}
+use Rattle.stl_grammar.specs.declared.draft.Prefix.TheVariants.{Once as BackAtSome, Historically as BackAtEach}
 use Rattle.stl_grammar.specs.declared.draft.Infix.{Infix}
 use Rattle.stl_grammar.specs.declared.draft.Infix.TheVariants.{And as Both, Or as Either, Implies as Then, Until as UpTo, Since as After}
 use Rattle.stl_grammar.specs.declared.draft.Frame.{Frame}
@@ -38,16 +50,21 @@ use Rattle.stl_grammar.specs.declared.draft.Frame.TheVariants.{Paren as Opened, 
 use Rattle.stl_grammar.specs.declared.draft.Draft.{Draft}
 use Rattle.stl_grammar.specs.declared.draft.Draft.TheVariants.{Const, Sum, One, Two}
 use Rattle.stl_grammar.specs.declared.place.Timed.{Timed}
-use Rattle.stl_grammar.specs.declared.place.Timed.TheVariants.{Until as TUntil, Since as TSince, Eventually as TEventually, Always as TAlways, Once as TOnce, Historically as THistorically}
+use Rattle.stl_grammar.specs.declared.place.Timed.TheVariants.{Until as TUntil, Since as TSince, Eventually as TEventually}
+use Rattle.stl_grammar.specs.declared.place.Timed.TheVariants.{Always as TAlways, Once as TOnce, Historically as THistorically}
 use Rattle.stl_grammar.specs.declared.place.Back.{Back}
 use Rattle.stl_grammar.specs.declared.place.Back.TheVariants.{Since as BSince, Once as BOnce, Historically as BHistorically}
 use Rattle.stl_grammar.specs.declared.place.Place.{Place}
-use Rattle.stl_grammar.specs.declared.place.Place.TheVariants.{Operand, Bound, Low, Comma as AtComma, High, Closing, ClosingInf, Term as AtTerm, Star as AtStar, Name as AtName, Sign, Constant, Number as AtNumber, End}
+use Rattle.stl_grammar.specs.declared.place.Place.TheVariants.{Operand, Bound, Low, Comma as AtComma, High, Closing}
+use Rattle.stl_grammar.specs.declared.place.Place.TheVariants.{ClosingInf, Term as AtTerm, Star as AtStar, Name as AtName}
+use Rattle.stl_grammar.specs.declared.place.Place.TheVariants.{Sign, Constant, Number as AtNumber, End}
 use Rattle.stl_grammar.proofs.BuildLemmas.{nodes_in-append, length-nodes_in}
 use Rattle.stl_grammar.proofs.OneParse.{begins_bracket, operand_bracket, operand_length}
 use Rattle.stl_grammar.specs.FormulaRefusals.{MayEnd}
 use Rattle.stl_grammar.proofs.Rescaled.{rescaled}
-use Rattle.stl_grammar.proofs.ParserReads.{Reads, reads, taken_reads, reads_split, reads_none, keyword_told, relation_told, open_paren_told, close_paren_told, open_bracket_told, close_bracket_told, comma_told, star_told, plus_told, minus_told, stepped, stepped_number, stepped_name}
+use Rattle.stl_grammar.proofs.ParserReads.{Reads, reads, taken_reads, reads_split, reads_none, keyword_told, relation_told}
+use Rattle.stl_grammar.proofs.ParserReads.{open_paren_told, close_paren_told, open_bracket_told, close_bracket_told}
+use Rattle.stl_grammar.proofs.ParserReads.{comma_told, star_told, plus_told, minus_told, stepped, stepped_number, stepped_name}
 
 -- frames that bind less tightly stay
 frames_stay : (r : ℕ) (frames : List Frame) → top_rank frames < r → settled_frames r frames ≡ frames
@@ -108,10 +125,12 @@ ended_less r s q frames drafts l e = record {
   place = e.place;
   terms = e.terms;
   frame = sym (frames_twice r s q.frames l) ∙ ap (λ z. settled_frames r z) e.frame;
-  draft = sym (drafts_twice r s q.frames q.drafts l) ∙ (ap (λ z. settled_drafts r z (settled_drafts s q.frames q.drafts)) e.frame ∙ ap (λ z. settled_drafts r frames z) e.draft);
+  draft = sym (drafts_twice r s q.frames q.drafts l)
+      ∙ (ap (λ z. settled_drafts r z (settled_drafts s q.frames q.drafts)) e.frame ∙ ap (λ z. settled_drafts r frames z) e.draft);
 }
 
-ended_stays : (r s : ℕ) (q : Parse) (frames : List Frame) (drafts : List Draft) → r ≤ s → top_rank frames < r → Ended s q frames drafts → Ended r q frames drafts
+ended_stays : (r s : ℕ) (q : Parse) (frames : List Frame) (drafts : List Draft) → r ≤ s → top_rank frames < r
+    → Ended s q frames drafts → Ended r q frames drafts
 ended_stays r s q frames drafts l t e = let x = ended_less r s q frames drafts l e in record {
   place = x.place;
   terms = x.terms;
@@ -187,7 +206,8 @@ told_bracket text _ t ts h e = refl
 
 module _ (text : List ℕ) (frames : List Frame) (drafts : List Draft) (n : ℕ) where
   left_out : {q : Parse} (of : Timed) (b : Back) → back of ≡ Some b → (t : Token) (ts : List Token) → begins_bracket (t ∷ ts) ≡ false
-      → Reads text (at (Bound of) frames drafts [] n) (t ∷ ts) q → Reads text (at Operand (back_frame b Whole (length drafts - 1) ∷ frames) drafts [] n) (t ∷ ts) q
+      → Reads text (at (Bound of) frames drafts [] n) (t ∷ ts) q
+      → Reads text (at Operand (back_frame b Whole (length drafts - 1) ∷ frames) drafts [] n) (t ∷ ts) q
   left_out of b e t ts f (reads c h g s r) =
       reads c h (bad_skips of c g) (sym (skip_step text of b c frames drafts n e (told_bracket text c t ts h f)) ∙ s) r
 
@@ -199,7 +219,8 @@ module _ (text : List ℕ) (frames : List Frame) (drafts : List Draft) (n : ℕ)
   is_number d a j e f digits = rw (e, f) refl
 
   -- two numbers of a bound
-  middle : {q : Parse} {a j b k : ℕ} {ts : List Token} (of : Timed) (x : Bool) → Reads text (at (Low of x) frames drafts [] n) (number a j ∷ comma ∷ number b k ∷ ts) q
+  middle : {q : Parse} {a j b k : ℕ} {ts : List Token} (of : Timed) (x : Bool)
+      → Reads text (at (Low of x) frames drafts [] n) (number a j ∷ comma ∷ number b k ∷ ts) q
       → (low : Decimal) × (high : Decimal) × Is low a j × Is high b k × Reads text (at (Closing of x low high) frames drafts [] n) ts q
   middle {a = a} {j} {b} {k} of x r =
       let u = stepped_number r in
@@ -222,7 +243,8 @@ module _ (text : List ℕ) (frames : List Frame) (drafts : List Draft) (n : ℕ)
       )
 
   -- the bracket before a bound, and the one after it
-  opens_bound : {q : Parse} {t : Token} {ts : List Token} {x : Bool} (of : Timed) → may_be_open of ≡ true → IsOpening t x → Reads text (at (Bound of) frames drafts [] n) (t ∷ ts) q
+  opens_bound : {q : Parse} {t : Token} {ts : List Token} {x : Bool} (of : Timed) → may_be_open of ≡ true → IsOpening t x
+      → Reads text (at (Bound of) frames drafts [] n) (t ∷ ts) q
       → Reads text (at (Low of x) frames drafts [] n) ts q
   opens_bound of e inside r = stepped r OpenBracket _ (λ c h. open_bracket_told text c h) refl
   opens_bound of e outside r = stepped r CloseBracket _ (λ c h. close_bracket_told text c h) (opening_step text of frames drafts n e)
@@ -257,7 +279,8 @@ module _ (text : List ℕ) (frames : List Frame) (drafts : List Draft) (n : ℕ)
       (w : Window) × (ticks_of digits w.low ≡ a) × (ticks_of digits w.high ≡ b) × (w.low_in ≡ x) × (w.high_in ≡ y)
       × Reads text (at Operand (bounded_frame of w (length drafts - 1) ∷ frames) drafts [] n) ts q
 
-  future_reads : {digits a b : ℕ} {us : List Token} {x y : Bool} {q : Parse} (ts : List Token) (of : Timed) → may_be_open of ≡ true → IsFutureWindow digits us a b x y
+  future_reads : {digits a b : ℕ} {us : List Token} {x y : Bool} {q : Parse} (ts : List Token) (of : Timed)
+      → may_be_open of ≡ true → IsFutureWindow digits us a b x y
       → Reads text (at (Bound of) frames drafts [] n) (us ++ ts) q → FutureRead digits of a b x y ts q
   future_reads {digits} ts of e (bound o c) r = let m = bounded_reads of e o c r in (m.0, m.1.0 digits, m.1.1 digits, m.1.2, m.1.3, m.2)
 
@@ -274,7 +297,8 @@ module _ (text : List ℕ) (frames : List Frame) (drafts : List Draft) (n : ℕ)
   back_bounded THistorically b w left e = let f : BHistorically ≡ b = cc in rw (← f) refl
 
   closes_inf : {q : Parse} {t : Token} {ts : List Token} {y : Bool} (b : Back) (x : Bool) (low : Decimal) → b ≡ BOnce ⊎ b ≡ BHistorically → IsClosing t y
-      → Reads text (at (ClosingInf b x low) frames drafts [] n) (t ∷ ts) q → Reads text (at Operand (back_frame b (From low x) (length drafts - 1) ∷ frames) drafts [] n) ts q
+      → Reads text (at (ClosingInf b x low) frames drafts [] n) (t ∷ ts) q
+      → Reads text (at Operand (back_frame b (From low x) (length drafts - 1) ∷ frames) drafts [] n) ts q
   closes_inf b x low e inside r = stepped r CloseBracket _ (λ c h. close_bracket_told text c h) refl
   closes_inf b x low (inl e) outside r = stepped r OpenBracket _ (λ c h. open_bracket_told text c h) (rw e refl)
   closes_inf b x low (inr e) outside r = stepped r OpenBracket _ (λ c h. open_bracket_told text c h) (rw e refl)
@@ -289,12 +313,14 @@ module _ (text : List ℕ) (frames : List Frame) (drafts : List Draft) (n : ℕ)
       → Reads text (at (Bound of) frames drafts [] n) ts q → PastRead digits b 0 None true true ts q
   no_bound digits of b [] e p r = let x = operand_length p in absurd (omega arith)
   no_bound digits of b (t ∷ ts) e p r =
-      let f : begins_bracket (t ∷ ts) ≡ false = ap (λ z. begins_bracket z) (sym (append-nil (t ∷ ts))) ∙ operand_bracket [] p in (Whole, refl, refl, refl, refl, left_out of b e t ts f r)
+      let f : begins_bracket (t ∷ ts) ≡ false = ap (λ z. begins_bracket z) (sym (append-nil (t ∷ ts))) ∙ operand_bracket [] p in
+      (Whole, refl, refl, refl, refl, left_out of b e t ts f r)
 
   some_high : (digits : ℕ) (d : Decimal) (a : ℕ) → ticks_of digits d ≡ a → Some (ticks_of digits d) ≡ Some a
   some_high digits d a e = ap (λ z. Some z) e
 
-  past_reads : {digits low : ℕ} {high : Option ℕ} {us : List Token} {x y : Bool} {q : Parse} {s : Scale} {k : ℕ} {ns : List Node} (ts : List Token) (of : Timed) (b : Back)
+  past_reads : {digits low : ℕ} {high : Option ℕ} {us : List Token} {x y : Bool} {q : Parse} {s : Scale} {k : ℕ} {ns : List Node}
+      (ts : List Token) (of : Timed) (b : Back)
       → back of ≡ Some b → may_be_open of ≡ true → b ≡ BOnce ⊎ b ≡ BHistorically → IsPastWindow digits us low high x y → IsOperand s k ts ns
       → Reads text (at (Bound of) frames drafts [] n) (us ++ ts) q → PastRead digits b low high x y ts q
   past_reads {digits} ts of b e f g nothing p r = no_bound digits of b ts e p r
@@ -305,7 +331,8 @@ module _ (text : List ℕ) (frames : List Frame) (drafts : List Draft) (n : ℕ)
       let m = infinite of b e x (opens_bound of f o r) in (From m.0 x, m.1 digits, refl, refl, refl, closes_inf b x m.0 g c m.2)
 
   since_reads : {digits low : ℕ} {high : Option ℕ} {us : List Token} {q : Parse} {s : Scale} {k : ℕ} {ns : List Node} (ts : List Token)
-      → IsPast digits us low high → IsOperand s k ts ns → Reads text (at (Bound TSince) frames drafts [] n) (us ++ ts) q → PastRead digits BSince low high true true ts q
+      → IsPast digits us low high → IsOperand s k ts ns → Reads text (at (Bound TSince) frames drafts [] n) (us ++ ts) q
+      → PastRead digits BSince low high true true ts q
   since_reads {digits} ts since_nothing p r = no_bound digits TSince BSince ts refl p r
   since_reads {digits} ts since_bounded p r =
       let m = closed_reads TSince r in (Within m.0, m.1.0 digits, some_high digits m.0.high _ (m.1.1 digits), m.1.2, m.1.3, m.2)
@@ -325,27 +352,31 @@ module _ (text : List ℕ) (frames : List Frame) (drafts : List Draft) (n : ℕ)
       → Reads text (at (AtTerm less) frames drafts terms n) (ts ++ us) q → Reads text (at Sign frames drafts (terms ++ term_of less k w ∷ []) n) us q
   term_reads us less terms (term_name g) r =
       let m = stepped_name g r in
-      rw (ap (λ z. at Sign frames drafts (terms ++ term_of less 1 z ∷ []) n) m.2) at (m.3 (at Sign frames drafts (terms ++ term_of less 1 (between m.0 m.1 text) ∷ []) n) refl)
+      rw (ap (λ z. at Sign frames drafts (terms ++ term_of less 1 z ∷ []) n) m.2) at
+      (m.3 (at Sign frames drafts (terms ++ term_of less 1 (between m.0 m.1 text) ∷ []) n) refl)
   term_reads us less terms (scaled {n = k} {w = w} g) r =
       let u = stepped_number r in
       let y = u.4 (at (AtStar less u.0) frames drafts terms n) refl in
       let z = stepped y Star (at (AtName less u.0) frames drafts terms n) (λ c h. star_told text c h) refl in
       let m = stepped_name g z in
       let e : term_of less (coefficient u.0) (between m.0 m.1 text) ≡ term_of less k w = rw (coefficient_is u.0 u.3, u.1, m.2) refl in
-      rw (ap (λ z. at Sign frames drafts (terms ++ z ∷ []) n) e) at (m.3 (at Sign frames drafts (terms ++ term_of less (coefficient u.0) (between m.0 m.1 text) ∷ []) n) refl)
+      rw (ap (λ z. at Sign frames drafts (terms ++ z ∷ []) n) e) at
+      (m.3 (at Sign frames drafts (terms ++ term_of less (coefficient u.0) (between m.0 m.1 text) ∷ []) n) refl)
 
   first_reads : {ts : List Token} {k : ℕ} {w : List ℕ} {q : Parse} (us : List Token) → IsTerm ts k w
       → Reads text (at Operand frames drafts [] n) (ts ++ us) q → Reads text (at Sign frames drafts (term_of false k w ∷ []) (suc n)) us q
   first_reads us (term_name g) r =
       let m = stepped_name g r in
-      rw (ap (λ z. at Sign frames drafts (term_of false 1 z ∷ []) (suc n)) m.2) at (m.3 (at Sign frames drafts (term_of false 1 (between m.0 m.1 text) ∷ []) (suc n)) refl)
+      rw (ap (λ z. at Sign frames drafts (term_of false 1 z ∷ []) (suc n)) m.2) at
+      (m.3 (at Sign frames drafts (term_of false 1 (between m.0 m.1 text) ∷ []) (suc n)) refl)
   first_reads us (scaled {n = k} {w = w} g) r =
       let u = stepped_number r in
       let y = u.4 (at (AtStar false u.0) frames drafts [] (suc n)) refl in
       let z = stepped y Star (at (AtName false u.0) frames drafts [] (suc n)) (λ c h. star_told text c h) refl in
       let m = stepped_name g z in
       let e : term_of false (coefficient u.0) (between m.0 m.1 text) ≡ term_of false k w = rw (coefficient_is u.0 u.3, u.1, m.2) refl in
-      rw (ap (λ z. at Sign frames drafts (z ∷ []) (suc n)) e) at (m.3 (at Sign frames drafts (term_of false (coefficient u.0) (between m.0 m.1 text) ∷ []) (suc n)) refl)
+      rw (ap (λ z. at Sign frames drafts (z ∷ []) (suc n)) e) at
+      (m.3 (at Sign frames drafts (term_of false (coefficient u.0) (between m.0 m.1 text) ∷ []) (suc n)) refl)
 
   -- further terms, up to the relation
   terms_read : {us : List Token} {more : List Term} {q : Parse} (vs : List Token) (terms : List Term) → AreTerms us more
@@ -384,11 +415,13 @@ module _ (text : List ℕ) (frames : List Frame) (drafts : List Draft) (n : ℕ)
   atom_reads s (first {k = k} {w = w} {ts = ts} {us = us} {vs = vs} {terms = more} {rel = rel} t u c) r =
       let x = first_reads text frames drafts n (us ++ relation rel ∷ vs) t (rw (append_assoc ts us (relation rel ∷ vs)) at r) in
       let y = terms_read text frames drafts (suc n) (relation rel ∷ vs) (term_of text frames drafts n false k w ∷ []) u x in
-      let z = stepped y (Relation rel) (at (Constant rel) frames drafts (term_of text frames drafts n false k w ∷ more) (suc n)) (λ c h. relation_told text rel c h) refl in
+      let z = stepped y (Relation rel) (at (Constant rel) frames drafts (term_of text frames drafts n false k w ∷ more) (suc n))
+      (λ c h. relation_told text rel c h) refl in
       constant_reads text frames drafts (suc n) s (term_of text frames drafts n false k w ∷ more) rel c z
   atom_reads s (signed_atom {us = us} {vs = vs} {terms = more} {rel = rel} {c = lim} u c) r = signed_reads u r
     where
-      rest : {q : Parse} {terms : List Term} → Reads text (at Sign frames drafts terms (suc n)) (relation rel ∷ vs) q → OperandEnds s (Leaf (record { terms = terms; rel = rel; limit = lim }) ∷ []) frames drafts q
+      rest : {q : Parse} {terms : List Term} → Reads text (at Sign frames drafts terms (suc n)) (relation rel ∷ vs) q
+          → OperandEnds s (Leaf (record { terms = terms; rel = rel; limit = lim }) ∷ []) frames drafts q
       rest {terms = terms} y =
           constant_reads text frames drafts (suc n) s terms rel c
           (stepped y (Relation rel) (at (Constant rel) frames drafts terms (suc n)) (λ c h. relation_told text rel c h) refl)
@@ -408,7 +441,8 @@ module _ (text : List ℕ) (frames : List Frame) (drafts : List Draft) (n : ℕ)
 parts : (m : Parse) → m.place ≡ End → m.terms ≡ [] → m ≡ at End m.frames m.drafts [] m.made
 parts m e f = ap (λ z. at z m.frames m.drafts m.terms m.made) e ∙ ap (λ z. at End m.frames m.drafts z m.made) f
 
-operand_ended : (q : Parse) (frames : List Frame) (drafts : List Draft) (j : ℕ) → top_rank frames < 5 → q ≡ settled 5 (at End frames drafts [] j) → Ended 5 q frames drafts
+operand_ended : (q : Parse) (frames : List Frame) (drafts : List Draft) (j : ℕ) → top_rank frames < 5
+    → q ≡ settled 5 (at End frames drafts [] j) → Ended 5 q frames drafts
 operand_ended q frames drafts j l g = rw g (record {
   place = refl;
   terms = refl;
@@ -423,14 +457,16 @@ operand_state frames drafts j l = rw (frames_stay 5 frames l, drafts_stay 5 fram
 le_self : (n : ℕ) → nat_le n n ≡ true
 le_self n = grind (arith, nat_tests)
 
-two_nodes : (s : Scale) (k : ℕ) (ns ms : List Node) (drafts xs ys : List Draft) (o : Infix) (x : Node) → length drafts ≡ k → nodes_in s xs ≡ ns → nodes_in s ys ≡ ms
+two_nodes : (s : Scale) (k : ℕ) (ns ms : List Node) (drafts xs ys : List Draft) (o : Infix) (x : Node) → length drafts ≡ k
+    → nodes_in s xs ≡ ns → nodes_in s ys ≡ ms
     → two_in s.time o (top k ns) (top (k + length ns) ms) ≡ x
     → nodes_in s (xs ++ ys ++ Two o (length (drafts ++ xs) - 1) (length (drafts ++ xs ++ ys) - 1) ∷ []) ≡ ns ++ ms ++ x ∷ []
 two_nodes s k ns ms drafts xs ys o x e f g h =
     let i : length (drafts ++ xs) - 1 ≡ top k ns = last_is s k drafts xs ns e f in
     let j : length (drafts ++ xs ++ ys) - 1 ≡ top (k + length ns) ms = last_is s (k + length ns) (drafts ++ xs) ys ms (count_is s k drafts xs ns e f) g in
     nodes_in-append s (xs ++ ys) (Two o (length (drafts ++ xs) - 1) (length (drafts ++ xs ++ ys) - 1) ∷ [])
-    ∙ (ap (λ z. z ++ two_in s.time o (length (drafts ++ xs) - 1) (length (drafts ++ xs ++ ys) - 1) ∷ []) (nodes_in-append s xs ys ∙ (ap (λ z. z ++ nodes_in s ys) f ∙ ap (λ z. ns ++ z) g))
+    ∙ (ap (λ z. z ++ two_in s.time o (length (drafts ++ xs) - 1) (length (drafts ++ xs ++ ys) - 1) ∷ [])
+    (nodes_in-append s xs ys ∙ (ap (λ z. z ++ nodes_in s ys) f ∙ ap (λ z. ns ++ z) g))
     ∙ ap (λ z. ns ++ ms ++ z ∷ []) (ap (λ z. two_in s.time o z (length (drafts ++ xs ++ ys) - 1)) i ∙ (ap (λ z. two_in s.time o (top k ns) z) j ∙ h)))
 
 two_drafts : (drafts xs ys : List Draft) (d : Draft) → drafts ++ xs ++ ys ++ d ∷ [] ≡ drafts ++ (xs ++ ys ++ d ∷ [])
@@ -440,14 +476,16 @@ two_drafts drafts xs ys d = simp append_assoc
 abbrev Leaves : Scale → ℕ → List Node → List Frame → List Draft → Parse → Type 0
 Leaves s r ns frames drafts q = (xs : List Draft) × (nodes_in s xs ≡ ns) × Ended r q frames (drafts ++ xs)
 
-two_ends : (s : Scale) (k : ℕ) (ns ms : List Node) (frames : List Frame) (drafts xs ys : List Draft) (o : Infix) (x : Node) (r : ℕ) (q : Parse) → length drafts ≡ k
+two_ends : (s : Scale) (k : ℕ) (ns ms : List Node) (frames : List Frame) (drafts xs ys : List Draft) (o : Infix) (x : Node)
+    (r : ℕ) (q : Parse) → length drafts ≡ k
     → nodes_in s xs ≡ ns → nodes_in s ys ≡ ms → two_in s.time o (top k ns) (top (k + length ns) ms) ≡ x → infix_rank o ≤ r → top_rank frames < infix_rank o
     → Ended r q (Between o (length (drafts ++ xs) - 1) ∷ frames) (drafts ++ xs ++ ys) → Leaves s (infix_rank o) (ns ++ ms ++ x ∷ []) frames drafts q
 two_ends s k ns ms frames drafts xs ys o x r q e f g h l t d =
     let i = length (drafts ++ xs) - 1 in
     let last : Draft = Two o (length (drafts ++ xs) - 1) (length (drafts ++ xs ++ ys) - 1) in
     let y = ended_less (infix_rank o) r q (Between o (length (drafts ++ xs) - 1) ∷ frames) (drafts ++ xs ++ ys) l d in
-    let a : settled_frames (infix_rank o) (Between o (length (drafts ++ xs) - 1) ∷ frames) ≡ frames = rw (le_self (infix_rank o)) (frames_stay (infix_rank o) frames t) in
+    let a : settled_frames (infix_rank o) (Between o (length (drafts ++ xs) - 1) ∷ frames) ≡ frames =
+    rw (le_self (infix_rank o)) (frames_stay (infix_rank o) frames t) in
     let b : settled_drafts (infix_rank o) (Between o (length (drafts ++ xs) - 1) ∷ frames) (drafts ++ xs ++ ys) ≡ drafts ++ (xs ++ ys ++ last ∷ []) =
     rw (le_self (infix_rank o)) (drafts_stay (infix_rank o) frames (drafts ++ xs ++ ys ++ last ∷ []) t ∙ two_drafts drafts xs ys last) in (
       xs ++ ys ++ last ∷ [],
@@ -490,7 +528,8 @@ close_step text m frames drafts e = ap (λ z. parse_step text z CloseParen) (par
 -- the tokens of a formula leave its nodes
 module _ (text : List ℕ) (s : Scale) where
   mutual
-    formula_left : {k : ℕ} {ts : List Token} {ns : List Node} → IsFormula s k ts ns → (frames : List Frame) (drafts : List Draft) (n : ℕ) (q : Parse) → top_rank frames < 2
+    formula_left : {k : ℕ} {ts : List Token} {ns : List Node} → IsFormula s k ts ns
+        → (frames : List Frame) (drafts : List Draft) (n : ℕ) (q : Parse) → top_rank frames < 2
         → length drafts ≡ k → Reads text (at Operand frames drafts [] n) ts q
         → (xs : List Draft) × (nodes_in s xs ≡ ns) × Ended 1 q (settled_frames 1 frames) (settled_drafts 1 frames (drafts ++ xs))
     formula_left (disjunct d) frames drafts n q l e r =
@@ -498,8 +537,10 @@ module _ (text : List ℕ) (s : Scale) where
     formula_left {k} (implies {ts = ts} {us} {ns} {ms} d f) frames drafts n q l e r =
         let sp = reads_split ts (word (codes "implies") ∷ us) r in
         let (xs, g, h) = disjunct_left d frames drafts n sp.0 l e sp.1 in
-        let step = stepped sp.2 (IsKeyword Implies) (joined_to Then frames (drafts ++ xs) sp.0.made) (λ c j. keyword_told text Implies c j) (implies_step text sp.0 frames (drafts ++ xs) h) in
-        let (ys, i, j) = formula_left f (Between Then (length (drafts ++ xs) - 1) ∷ frames) (drafts ++ xs) (suc sp.0.made) q (omega arith) (count_is s k drafts xs ns e g) step in
+        let step = stepped sp.2 (IsKeyword Implies) (joined_to Then frames (drafts ++ xs) sp.0.made) (λ c j.
+        keyword_told text Implies c j) (implies_step text sp.0 frames (drafts ++ xs) h) in
+        let (ys, i, j) = formula_left f (Between Then (length (drafts ++ xs) - 1) ∷ frames) (drafts ++ xs) (suc sp.0.made) q
+        (omega arith) (count_is s k drafts xs ns e g) step in
         let last : Draft = Two Then (length (drafts ++ xs) - 1) (length (drafts ++ xs ++ ys) - 1) in
         let y : Ended 1 q (settled_frames 1 frames) (settled_drafts 1 frames (drafts ++ xs ++ ys ++ last ∷ [])) = j in (
           xs ++ ys ++ last ∷ [],
@@ -507,29 +548,36 @@ module _ (text : List ℕ) (s : Scale) where
           rw (two_drafts drafts xs ys last) at y,
         )
 
-    disjunct_left : {k : ℕ} {ts : List Token} {ns : List Node} → IsDisjunct s k ts ns → (frames : List Frame) (drafts : List Draft) (n : ℕ) (q : Parse) → top_rank frames < 2
+    disjunct_left : {k : ℕ} {ts : List Token} {ns : List Node} → IsDisjunct s k ts ns
+        → (frames : List Frame) (drafts : List Draft) (n : ℕ) (q : Parse) → top_rank frames < 2
         → length drafts ≡ k → Reads text (at Operand frames drafts [] n) ts q → Leaves s 2 ns frames drafts q
     disjunct_left (conjunct c) frames drafts n q l e r =
         let x = conjunct_left c frames drafts n q (omega arith) e r in (x.0, x.1, ended_stays 2 3 q frames (drafts ++ x.0) (omega arith) l x.2)
     disjunct_left {k} (or {ts = ts} {us} {ns} {ms} d c) frames drafts n q l e r =
         let sp = reads_split ts (word (codes "or") ∷ us) r in
         let (xs, g, h) = disjunct_left d frames drafts n sp.0 l e sp.1 in
-        let step = stepped sp.2 (IsKeyword Or) (joined_to Either frames (drafts ++ xs) sp.0.made) (λ c j. keyword_told text Or c j) (or_step text sp.0 frames (drafts ++ xs) h) in
-        let (ys, i, j) = conjunct_left c (Between Either (length (drafts ++ xs) - 1) ∷ frames) (drafts ++ xs) (suc sp.0.made) q (omega arith) (count_is s k drafts xs ns e g) step in
+        let step = stepped sp.2 (IsKeyword Or) (joined_to Either frames (drafts ++ xs) sp.0.made) (λ c j.
+        keyword_told text Or c j) (or_step text sp.0 frames (drafts ++ xs) h) in
+        let (ys, i, j) = conjunct_left c (Between Either (length (drafts ++ xs) - 1) ∷ frames) (drafts ++ xs) (suc sp.0.made) q
+        (omega arith) (count_is s k drafts xs ns e g) step in
         two_ends s k ns ms frames drafts xs ys Either (TheOr (top k ns) (top (k + length ns) ms)) 3 q e g i refl (omega arith) l j
 
-    conjunct_left : {k : ℕ} {ts : List Token} {ns : List Node} → IsConjunct s k ts ns → (frames : List Frame) (drafts : List Draft) (n : ℕ) (q : Parse) → top_rank frames < 3
+    conjunct_left : {k : ℕ} {ts : List Token} {ns : List Node} → IsConjunct s k ts ns
+        → (frames : List Frame) (drafts : List Draft) (n : ℕ) (q : Parse) → top_rank frames < 3
         → length drafts ≡ k → Reads text (at Operand frames drafts [] n) ts q → Leaves s 3 ns frames drafts q
     conjunct_left (timed t) frames drafts n q l e r =
         let x = timed_left t frames drafts n q (omega arith) e r in (x.0, x.1, ended_stays 3 4 q frames (drafts ++ x.0) (omega arith) l x.2)
     conjunct_left {k} (and {ts = ts} {us} {ns} {ms} c t) frames drafts n q l e r =
         let sp = reads_split ts (word (codes "and") ∷ us) r in
         let (xs, g, h) = conjunct_left c frames drafts n sp.0 l e sp.1 in
-        let step = stepped sp.2 (IsKeyword And) (joined_to Both frames (drafts ++ xs) sp.0.made) (λ c j. keyword_told text And c j) (and_step text sp.0 frames (drafts ++ xs) h) in
-        let (ys, i, j) = timed_left t (Between Both (length (drafts ++ xs) - 1) ∷ frames) (drafts ++ xs) (suc sp.0.made) q (omega arith) (count_is s k drafts xs ns e g) step in
+        let step = stepped sp.2 (IsKeyword And) (joined_to Both frames (drafts ++ xs) sp.0.made) (λ c j.
+        keyword_told text And c j) (and_step text sp.0 frames (drafts ++ xs) h) in
+        let (ys, i, j) = timed_left t (Between Both (length (drafts ++ xs) - 1) ∷ frames) (drafts ++ xs) (suc sp.0.made) q
+        (omega arith) (count_is s k drafts xs ns e g) step in
         two_ends s k ns ms frames drafts xs ys Both (TheAnd (top k ns) (top (k + length ns) ms)) 4 q e g i refl (omega arith) l j
 
-    timed_left : {k : ℕ} {ts : List Token} {ns : List Node} → IsTimed s k ts ns → (frames : List Frame) (drafts : List Draft) (n : ℕ) (q : Parse) → top_rank frames < 4
+    timed_left : {k : ℕ} {ts : List Token} {ns : List Node} → IsTimed s k ts ns
+        → (frames : List Frame) (drafts : List Draft) (n : ℕ) (q : Parse) → top_rank frames < 4
         → length drafts ≡ k → Reads text (at Operand frames drafts [] n) ts q → Leaves s 4 ns frames drafts q
     timed_left (operand p) frames drafts n q l e r =
         let (xs, j, f, g) = operand_left p frames drafts n q e r in
@@ -537,23 +585,30 @@ module _ (text : List ℕ) (s : Scale) where
     timed_left {k} (until {a = a} {b} {ts = ts} {us} {vs} {ns} {ms} p b' p') frames drafts n q l e r =
         let sp = reads_split ts (word (codes "until") ∷ (us ++ vs)) (rw (append_assoc ts (word (codes "until") ∷ us) vs) at r) in
         let (xs, j, f, g) = operand_left p frames drafts n sp.0 e sp.1 in
-        let at_end : Reads text (at End frames (drafts ++ xs) [] j) (word (codes "until") ∷ (us ++ vs)) q = rw (← operand_state frames (drafts ++ xs) j (omega arith), ← g) sp.2 in
-        let step = stepped at_end (IsKeyword Until) (at (Bound TUntil) frames (drafts ++ xs) [] (suc j)) (λ c h. keyword_told text Until c h) (until_step text frames (drafts ++ xs) j l) in
+        let at_end : Reads text (at End frames (drafts ++ xs) [] j) (word (codes "until") ∷ (us ++ vs)) q =
+        rw (← operand_state frames (drafts ++ xs) j (omega arith), ← g) sp.2 in
+        let step = stepped at_end (IsKeyword Until) (at (Bound TUntil) frames (drafts ++ xs) [] (suc j)) (λ c h.
+        keyword_told text Until c h) (until_step text frames (drafts ++ xs) j l) in
         let (w, low, high, c, d, more) = until_reads text frames (drafts ++ xs) (suc j) vs b' step in
-        let (ys, i, f', g') = operand_left p' (Between (UpTo w) (length (drafts ++ xs) - 1) ∷ frames) (drafts ++ xs) (suc j) q (count_is s k drafts xs ns e f) more in
+        let (ys, i, f', g') =
+        operand_left p' (Between (UpTo w) (length (drafts ++ xs) - 1) ∷ frames) (drafts ++ xs) (suc j) q (count_is s k drafts xs ns e f) more in
         two_ends s k ns ms frames drafts xs ys (UpTo w) (TheUntil (top k ns) (top (k + length ns) ms) a b) 5 q e f f' (rw (low, high) refl) (omega arith) l
         (operand_ended q (Between (UpTo w) (length (drafts ++ xs) - 1) ∷ frames) (drafts ++ xs ++ ys) i (omega arith) g')
     timed_left {k} (since {a = a} {b} {ts = ts} {us} {vs} {ns} {ms} p b' p') frames drafts n q l e r =
         let sp = reads_split ts (word (codes "since") ∷ (us ++ vs)) (rw (append_assoc ts (word (codes "since") ∷ us) vs) at r) in
         let (xs, j, f, g) = operand_left p frames drafts n sp.0 e sp.1 in
-        let at_end : Reads text (at End frames (drafts ++ xs) [] j) (word (codes "since") ∷ (us ++ vs)) q = rw (← operand_state frames (drafts ++ xs) j (omega arith), ← g) sp.2 in
-        let step = stepped at_end (IsKeyword Since) (at (Bound TSince) frames (drafts ++ xs) [] (suc j)) (λ c h. keyword_told text Since c h) (since_step text frames (drafts ++ xs) j l) in
+        let at_end : Reads text (at End frames (drafts ++ xs) [] j) (word (codes "since") ∷ (us ++ vs)) q =
+        rw (← operand_state frames (drafts ++ xs) j (omega arith), ← g) sp.2 in
+        let step = stepped at_end (IsKeyword Since) (at (Bound TSince) frames (drafts ++ xs) [] (suc j)) (λ c h.
+        keyword_told text Since c h) (since_step text frames (drafts ++ xs) j l) in
         let (z, low, high, c, d, more) = since_reads text frames (drafts ++ xs) (suc j) vs b' p' step in
-        let (ys, i, f', g') = operand_left p' (Between (After z) (length (drafts ++ xs) - 1) ∷ frames) (drafts ++ xs) (suc j) q (count_is s k drafts xs ns e f) more in
+        let (ys, i, f', g') =
+        operand_left p' (Between (After z) (length (drafts ++ xs) - 1) ∷ frames) (drafts ++ xs) (suc j) q (count_is s k drafts xs ns e f) more in
         two_ends s k ns ms frames drafts xs ys (After z) (TheSince (top k ns) (top (k + length ns) ms) a b) 5 q e f f' (rw (low, high) refl) (omega arith) l
         (operand_ended q (Between (After z) (length (drafts ++ xs) - 1) ∷ frames) (drafts ++ xs ++ ys) i (omega arith) g')
 
-    operand_left : {k : ℕ} {ts : List Token} {ns : List Node} → IsOperand s k ts ns → (frames : List Frame) (drafts : List Draft) (n : ℕ) (q : Parse) → length drafts ≡ k
+    operand_left : {k : ℕ} {ts : List Token} {ns : List Node} → IsOperand s k ts ns
+        → (frames : List Frame) (drafts : List Draft) (n : ℕ) (q : Parse) → length drafts ≡ k
         → Reads text (at Operand frames drafts [] n) ts q → OperandEnds s ns frames drafts q
     operand_left {k} (not {ts = ts} {ns} p) frames drafts n q e r =
         let step = stepped r (IsKeyword Not) (at Operand (Before Negation ∷ frames) drafts [] (suc n)) (λ c h. keyword_told text Not c h) refl in
@@ -561,7 +616,8 @@ module _ (text : List ℕ) (s : Scale) where
     operand_left {k} (eventually {a = a} {b} {a_in} {b_in} {ts} {us} {ns} b' p) frames drafts n q e r =
         let step = stepped r (IsKeyword Eventually) (at (Bound TEventually) frames drafts [] (suc n)) (λ c h. keyword_told text Eventually c h) refl in
         let (w, low, high, c, d, more) = future_reads text frames drafts (suc n) ts TEventually refl b' step in
-        one_ends s k ns frames drafts q (AtSome w) (TheEventually (top k ns) a b a_in b_in) e (operand_left p (Before (AtSome w) ∷ frames) drafts (suc n) q e more)
+        one_ends s k ns frames drafts q (AtSome w) (TheEventually (top k ns) a b a_in b_in) e
+        (operand_left p (Before (AtSome w) ∷ frames) drafts (suc n) q e more)
         (rw (low, high, c, d) refl)
     operand_left {k} (always {a = a} {b} {a_in} {b_in} {ts} {us} {ns} b' p) frames drafts n q e r =
         let step = stepped r (IsKeyword Always) (at (Bound TAlways) frames drafts [] (suc n)) (λ c h. keyword_told text Always c h) refl in
@@ -571,12 +627,14 @@ module _ (text : List ℕ) (s : Scale) where
     operand_left {k} (once {a = a} {b} {a_in} {b_in} {ts} {us} {ns} b' p) frames drafts n q e r =
         let step = stepped r (IsKeyword Once) (at (Bound TOnce) frames drafts [] (suc n)) (λ c h. keyword_told text Once c h) refl in
         let (z, low, high, c, d, more) = past_reads text frames drafts (suc n) ts TOnce BOnce refl refl (inl refl) b' p step in
-        one_ends s k ns frames drafts q (BackAtSome z) (TheOnce (top k ns) a b a_in b_in) e (operand_left p (Before (BackAtSome z) ∷ frames) drafts (suc n) q e more)
+        one_ends s k ns frames drafts q (BackAtSome z) (TheOnce (top k ns) a b a_in b_in) e
+        (operand_left p (Before (BackAtSome z) ∷ frames) drafts (suc n) q e more)
         (rw (low, high, c, d) refl)
     operand_left {k} (historically {a = a} {b} {a_in} {b_in} {ts} {us} {ns} b' p) frames drafts n q e r =
         let step = stepped r (IsKeyword Historically) (at (Bound THistorically) frames drafts [] (suc n)) (λ c h. keyword_told text Historically c h) refl in
         let (z, low, high, c, d, more) = past_reads text frames drafts (suc n) ts THistorically BHistorically refl refl (inr refl) b' p step in
-        one_ends s k ns frames drafts q (BackAtEach z) (TheHistorically (top k ns) a b a_in b_in) e (operand_left p (Before (BackAtEach z) ∷ frames) drafts (suc n) q e more)
+        one_ends s k ns frames drafts q (BackAtEach z) (TheHistorically (top k ns) a b a_in b_in) e
+        (operand_left p (Before (BackAtEach z) ∷ frames) drafts (suc n) q e more)
         (rw (low, high, c, d) refl)
     operand_left always_true frames drafts n q e r =
         let step = stepped r (IsKeyword True) (settled 5 (at End frames (drafts ++ Const true ∷ []) [] (suc n))) (λ c h. keyword_told text True c h) refl in
@@ -588,7 +646,8 @@ module _ (text : List ℕ) (s : Scale) where
         let step = stepped r OpenParen (at Operand (Opened ∷ frames) drafts [] n) (λ c h. open_paren_told text c h) refl in
         let sp = reads_split ts (close_paren ∷ []) step in
         let (xs, g, h) = formula_left f (Opened ∷ frames) drafts n sp.0 (omega arith) e sp.1 in
-        let end = stepped sp.2 CloseParen (settled 5 (at End frames (drafts ++ xs) [] sp.0.made)) (λ c j. close_paren_told text c j) (close_step text sp.0 frames (drafts ++ xs) h) in
+        let end = stepped sp.2 CloseParen (settled 5 (at End frames (drafts ++ xs) [] sp.0.made)) (λ c j.
+        close_paren_told text c j) (close_step text sp.0 frames (drafts ++ xs) h) in
         (xs, sp.0.made, g, sym (reads_none end))
     operand_left (atom a) frames drafts n q e r = atom_reads text frames drafts n s a r
 

@@ -17,17 +17,20 @@ use Rattle.stl_grammar.specs.declared.decimal.Decimal.{Decimal}
 use Rattle.stl_grammar.specs.declared.token.Keyword.{Keyword}
 use Rattle.stl_grammar.specs.declared.token.Keyword.TheVariants.{True, False, Not, And, Or, Implies, Until, Since, Eventually, Always, Once, Historically, Inf}
 use Rattle.stl_grammar.specs.declared.token.Token.{Token as Code}
-use Rattle.stl_grammar.specs.declared.token.Token.TheVariants.{Keyword as IsKeyword, Name, Number, Relation, OpenParen, CloseParen, OpenBracket, CloseBracket, Comma, Star, Plus, Minus}
+use Rattle.stl_grammar.specs.declared.token.Token.TheVariants.{Keyword as IsKeyword, Name, Number, Relation, OpenParen}
+use Rattle.stl_grammar.specs.declared.token.Token.TheVariants.{CloseParen, OpenBracket, CloseBracket, Comma, Star, Plus, Minus}
 use Rattle.stl_grammar.specs.declared.place.Place.{Place}
 use Rattle.stl_grammar.specs.declared.place.Place.TheVariants.{Low, High, Constant, Number as AtNumber}
 
 -- the tokens lead from one state to another, the first one first
 pub data Reads (text : List ℕ) : Parse → List Token → Parse → Type 0 where
   done : {p : Parse} → Reads text p [] p
-  reads : {p m q : Parse} {t : Token} {ts : List Token} (c : Code) → Tells text c t → bad_in p.place c ≡ false → parse_step text p c ≡ Some m → Reads text m ts q
+  reads : {p m q : Parse} {t : Token} {ts : List Token} (c : Code) → Tells text c t → bad_in p.place c ≡ false
+      → parse_step text p c ≡ Some m → Reads text m ts q
       → Reads text p (t ∷ ts) q
 
-reads_last : {text : List ℕ} {p m q : Parse} {ts : List Token} (t : Token) (c : Code) → Reads text p ts m → Tells text c t → bad_in m.place c ≡ false → parse_step text m c ≡ Some q
+reads_last : {text : List ℕ} {p m q : Parse} {ts : List Token} (t : Token) (c : Code) → Reads text p ts m → Tells text c t
+    → bad_in m.place c ≡ false → parse_step text m c ≡ Some q
     → Reads text p (ts ++ t ∷ []) q
 reads_last t c done h b e = reads c h b e done
 reads_last t c (reads d g a f r) h b e = reads d g a f (reads_last t c r h b e)
@@ -49,7 +52,8 @@ keyword_of : List ℕ → Option Keyword
 keyword_of w =
     if bytes_eq w (codes "true") then Some True else if bytes_eq w (codes "false") then Some False else if bytes_eq w (codes "not") then Some Not
     else if bytes_eq w (codes "and") then Some And else if bytes_eq w (codes "or") then Some Or else if bytes_eq w (codes "implies") then Some Implies
-    else if bytes_eq w (codes "until") then Some Until else if bytes_eq w (codes "since") then Some Since else if bytes_eq w (codes "eventually") then Some Eventually
+    else if bytes_eq w (codes "until") then Some Until else if bytes_eq w (codes "since") then Some Since else if bytes_eq w
+    (codes "eventually") then Some Eventually
     else if bytes_eq w (codes "always") then Some Always else if bytes_eq w (codes "once") then Some Once
     else if bytes_eq w (codes "historically") then Some Historically else if bytes_eq w (codes "inf") then Some Inf else None
 
@@ -131,7 +135,8 @@ between_is text from to name h =
     rw (e, h.stands) (take-append_seam name h.after)
 
 -- the code of a name
-pub name_told : (text : List ℕ) (w : List ℕ) (c : Code) → is_among w reserved ≡ false → Tells text c (word w) → (from : ℕ) × (to : ℕ) × (c ≡ Name from to) × (between from to text ≡ w)
+pub name_told : (text : List ℕ) (w : List ℕ) (c : Code) → is_among w reserved ≡ false → Tells text c (word w)
+    → (from : ℕ) × (to : ℕ) × (c ≡ Name from to) × (between from to text ≡ w)
 name_told text w (IsKeyword v) f h =
     let e : w ≡ spelling v = cc in
     let g : is_among (spelling v) reserved ≡ false = rw (← e) f in
@@ -252,7 +257,8 @@ number_told text place n k (Relation s) h b = absurd (cc)
 number_told text place n k _ h b = absurd (cc)
 
 -- the state after a token
-pub stepped : {text : List ℕ} {p q : Parse} {t : Token} {ts : List Token} → Reads text p (t ∷ ts) q → (c : Code) (a : Parse) → ((d : Code) → Tells text d t → d ≡ c)
+pub stepped : {text : List ℕ} {p q : Parse} {t : Token} {ts : List Token} → Reads text p (t ∷ ts) q → (c : Code) (a : Parse)
+    → ((d : Code) → Tells text d t → d ≡ c)
     → parse_step text p c ≡ Some a → Reads text a ts q
 stepped {text} {p} {q} {t} {ts} (reads {m = m} d h b e r) c a told f =
     let x : parse_step text p c ≡ Some m = rw (told d h) at e in
@@ -260,7 +266,8 @@ stepped {text} {p} {q} {t} {ts} (reads {m = m} d h b e r) c a told f =
 
 -- the number that comes next
 pub stepped_number : {text : List ℕ} {p q : Parse} {n k : ℕ} {ts : List Token} → Reads text p (number n k ∷ ts) q
-    → (d : Decimal) × (d.value ≡ n) × (d.decimals ≡ k) × (bad_in p.place (Number d) ≡ false) × ((a : Parse) → parse_step text p (Number d) ≡ Some a → Reads text a ts q)
+    → (d : Decimal) × (d.value ≡ n) × (d.decimals ≡ k) × (bad_in p.place (Number d) ≡ false)
+    × ((a : Parse) → parse_step text p (Number d) ≡ Some a → Reads text a ts q)
 stepped_number {text} {p} {q} {n} {k} {ts} (reads {m = m} c h b e r) =
     let x = number_told text p.place n k c h b in
     (x.0, x.2, x.3, rw x.1 at b, λ a f. let y : parse_step text p (Number x.0) ≡ Some m = rw x.1 at e in let z : a ≡ m = cc in rw z r)

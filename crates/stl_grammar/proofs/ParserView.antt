@@ -9,7 +9,9 @@ use Rattle.stl_syntax.specs.Names.{reserved, is_name}
 use Rattle.stl_grammar.specs.Tokens.{word}
 use Rattle.stl_grammar.specs.Told.{spelling}
 use Rattle.stl_grammar.specs.Machine as Machine
-use Rattle.stl_grammar.specs.Machine.{Kind, kind, a_name, State, Mark, paren, operator, implication, at_operand, at_bound, at_low, at_comma, at_high, at_closing, at_term, at_star, at_name, at_sign, at_constant, at_number, at_end, without_operators, step}
+use Rattle.stl_grammar.specs.Machine.{Kind, kind, a_name, State, Mark, paren, operator, implication, at_operand}
+use Rattle.stl_grammar.specs.Machine.{at_bound, at_low, at_comma, at_high, at_closing, at_term, at_star, at_name}
+use Rattle.stl_grammar.specs.Machine.{at_sign, at_constant, at_number, at_end, without_operators, step}
 use Rattle.stl_grammar.specs.Parsing.{Parse, parse_step, begin_operand, closed, settled_frames, top_rank, between, IsKnown, back_frame}
 use Rattle.stl_grammar.specs.Judging.{state_of, marks_of, had_of, owner, is_beside, back_is_beside}
 use Rattle.stl_grammar.specs.Taken.{plain}
@@ -17,7 +19,8 @@ use Rattle.stl_grammar.proofs.WordKinds.{name_kind}
 use Rattle.stl_grammar.specs.declared.decimal.Decimal.{Decimal}
 use Rattle.stl_grammar.specs.declared.token.Keyword.TheVariants.{True, False, Not, And, Or, Implies, Until, Since, Eventually, Always, Once, Historically, Inf}
 use Rattle.stl_grammar.specs.declared.token.Token.{Token as Code}
-use Rattle.stl_grammar.specs.declared.token.Token.TheVariants.{Keyword as IsKeyword, Name, Number, Relation, OpenParen, CloseParen, OpenBracket, CloseBracket, Comma, Star, Plus, Minus}
+use Rattle.stl_grammar.specs.declared.token.Token.TheVariants.{Keyword as IsKeyword, Name, Number, Relation, OpenParen}
+use Rattle.stl_grammar.specs.declared.token.Token.TheVariants.{CloseParen, OpenBracket, CloseBracket, Comma, Star, Plus, Minus}
 use Rattle.stl_grammar.specs.declared.draft.Infix.{Infix}
 use Rattle.stl_grammar.specs.declared.draft.Infix.TheVariants.{And as Both, Or as Either, Implies as Then, Until as UpTo, Since as After}
 use Rattle.stl_grammar.specs.declared.draft.Past.TheVariants.{Whole}
@@ -25,11 +28,14 @@ use Rattle.stl_grammar.specs.declared.draft.Frame.{Frame}
 use Rattle.stl_grammar.specs.declared.draft.Frame.TheVariants.{Paren as Opened, Prefix as Before, Infix as Between}
 use Rattle.stl_grammar.specs.declared.draft.Draft.{Draft}
 use Rattle.stl_grammar.specs.declared.place.Timed.{Timed}
-use Rattle.stl_grammar.specs.declared.place.Timed.TheVariants.{Until as TUntil, Since as TSince, Eventually as TEventually, Always as TAlways, Once as TOnce, Historically as THistorically}
+use Rattle.stl_grammar.specs.declared.place.Timed.TheVariants.{Until as TUntil, Since as TSince, Eventually as TEventually}
+use Rattle.stl_grammar.specs.declared.place.Timed.TheVariants.{Always as TAlways, Once as TOnce, Historically as THistorically}
 use Rattle.stl_grammar.specs.declared.place.Back.{Back}
 use Rattle.stl_grammar.specs.declared.place.Back.TheVariants.{Since as BSince, Once as BOnce, Historically as BHistorically}
 use Rattle.stl_grammar.specs.declared.place.Place.{Place}
-use Rattle.stl_grammar.specs.declared.place.Place.TheVariants.{Operand, Bound, Low, Comma as AtComma, High, Closing, ClosingInf, Term as AtTerm, Star as AtStar, Name as AtName, Sign, Constant, Number as AtNumber, End}
+use Rattle.stl_grammar.specs.declared.place.Place.TheVariants.{Operand, Bound, Low, Comma as AtComma, High, Closing}
+use Rattle.stl_grammar.specs.declared.place.Place.TheVariants.{ClosingInf, Term as AtTerm, Star as AtStar, Name as AtName}
+use Rattle.stl_grammar.specs.declared.place.Place.TheVariants.{Sign, Constant, Number as AtNumber, End}
 use Rattle.stl_syntax.specs.declared.atom.Term.{Term}
 use Rattle.stl_syntax.specs.declared.rel.Rel.{Rel}
 
@@ -71,7 +77,8 @@ pub record IsFit (p : Parse) : Type 0 where
   pub place : FitsPlace p.place p.frames p.terms
 
 -- under a frame that waits for its right side the others are of a lower rank
-pub order_next : (o : Infix) (left : ℕ) (frames : List Frame) → ordered (Between o left ∷ frames) ≡ true → (top_rank frames < left_rank o) × (ordered frames ≡ true)
+pub order_next : (o : Infix) (left : ℕ) (frames : List Frame) → ordered (Between o left ∷ frames) ≡ true
+    → (top_rank frames < left_rank o) × (ordered frames ≡ true)
 order_next o left frames h =
     let p = and_parts (nat_lt (top_rank frames) (left_rank o)) (ordered frames) h in
     (let a : nat_lt (top_rank frames) (left_rank o) ≡ true = p.0 in grind (arith, nat_tests, a), p.1)
@@ -120,7 +127,8 @@ joined_marks r (Between Either left ∷ frames) s h l =
     let more : marks_of (settled_frames r frames) ≡ marks_of frames = joined_marks r frames s n.1 (omega (arith, n.0)) in
     by_rank (nat_le r 2) more
   where
-    by_rank : (q : Bool) → marks_of (settled_frames r frames) ≡ marks_of frames → marks_of (if q then settled_frames r frames else Between Either left ∷ frames) ≡ marks_of frames
+    by_rank : (q : Bool) → marks_of (settled_frames r frames) ≡ marks_of frames
+        → marks_of (if q then settled_frames r frames else Between Either left ∷ frames) ≡ marks_of frames
     by_rank true more = more
     by_rank false more = refl
 joined_marks r (Between Both left ∷ frames) s h l =
@@ -128,7 +136,8 @@ joined_marks r (Between Both left ∷ frames) s h l =
     let more : marks_of (settled_frames r frames) ≡ marks_of frames = joined_marks r frames s n.1 (omega (arith, n.0)) in
     by_rank (nat_le r 3) more
   where
-    by_rank : (q : Bool) → marks_of (settled_frames r frames) ≡ marks_of frames → marks_of (if q then settled_frames r frames else Between Both left ∷ frames) ≡ marks_of frames
+    by_rank : (q : Bool) → marks_of (settled_frames r frames) ≡ marks_of frames
+        → marks_of (if q then settled_frames r frames else Between Both left ∷ frames) ≡ marks_of frames
     by_rank true more = more
     by_rank false more = refl
 joined_marks r (Between (UpTo w) left ∷ frames) s h l =
@@ -136,7 +145,8 @@ joined_marks r (Between (UpTo w) left ∷ frames) s h l =
     let more : marks_of (settled_frames r frames) ≡ marks_of frames = joined_marks r frames s n.1 (omega (arith, n.0)) in
     by_rank (nat_le r 4) more
   where
-    by_rank : (q : Bool) → marks_of (settled_frames r frames) ≡ marks_of frames → marks_of (if q then settled_frames r frames else Between (UpTo w) left ∷ frames) ≡ marks_of frames
+    by_rank : (q : Bool) → marks_of (settled_frames r frames) ≡ marks_of frames
+        → marks_of (if q then settled_frames r frames else Between (UpTo w) left ∷ frames) ≡ marks_of frames
     by_rank true more = more
     by_rank false more = refl
 joined_marks r (Between (After b) left ∷ frames) s h l =
@@ -144,7 +154,8 @@ joined_marks r (Between (After b) left ∷ frames) s h l =
     let more : marks_of (settled_frames r frames) ≡ marks_of frames = joined_marks r frames s n.1 (omega (arith, n.0)) in
     by_rank (nat_le r 4) more
   where
-    by_rank : (q : Bool) → marks_of (settled_frames r frames) ≡ marks_of frames → marks_of (if q then settled_frames r frames else Between (After b) left ∷ frames) ≡ marks_of frames
+    by_rank : (q : Bool) → marks_of (settled_frames r frames) ≡ marks_of frames
+        → marks_of (if q then settled_frames r frames else Between (After b) left ∷ frames) ≡ marks_of frames
     by_rank true more = more
     by_rank false more = refl
 
@@ -181,7 +192,8 @@ completed_state : (frames : List Frame) (q : Machine.Place) (n : ℕ) → ordere
 completed_state frames q n h = rw (settled_had frames, settled_marks frames h) refl
 
 -- an operand begins
-pub begin_view : (text : List ℕ) (place : Place) (q : Machine.Place) (frames : List Frame) (drafts : List Draft) (made : ℕ) (t : Code) → IsKnown text t → ordered frames ≡ true
+pub begin_view : (text : List ℕ) (place : Place) (q : Machine.Place) (frames : List Frame) (drafts : List Draft) (made : ℕ) (t : Code)
+    → IsKnown text t → ordered frames ≡ true
     → option_map state_of (begin_operand text (record { place = place; frames = frames; drafts = drafts; terms = []; made = made }) t)
     ≡ Machine.begin_operand (record { place = q; had = had_of frames; marks = marks_of frames; nodes = made }) (plain text t)
 unfolding kind
@@ -212,7 +224,8 @@ begin_view text place q frames drafts made Minus k h = refl
 
 -- a parenthesis ends
 close_view : (place : Place) (frames : List Frame) (drafts : List Draft) (made : ℕ) → ordered frames ≡ true
-    → option_map state_of (closed (record { place = place; frames = settled_frames 1 frames; drafts = drafts; terms = []; made = made })) ≡ Machine.closed (marks_of frames) made
+    → option_map state_of (closed (record { place = place; frames = settled_frames 1 frames; drafts = drafts; terms = []; made = made }))
+    ≡ Machine.closed (marks_of frames) made
 close_view place [] drafts made h = refl
 close_view place (Opened ∷ frames) drafts made h = ap Some (completed_state frames at_end made h)
 close_view place (Before o ∷ frames) drafts made h = close_view place frames drafts made h
@@ -223,13 +236,15 @@ close_view place (Between (UpTo w) left ∷ frames) drafts made h = close_view p
 close_view place (Between (After b) left ∷ frames) drafts made h = close_view place frames drafts made (order_next (After b) left frames h).1
 
 -- a step where an operand is expected is one of the machine
-pub operand_view : (text : List ℕ) (frames : List Frame) (drafts : List Draft) (terms : List Term) (made : ℕ) (t : Code) → IsKnown text t → IsFit (record { place = Operand; frames = frames; drafts = drafts; terms = terms; made = made })
+pub operand_view : (text : List ℕ) (frames : List Frame) (drafts : List Draft) (terms : List Term) (made : ℕ) (t : Code)
+    → IsKnown text t → IsFit (record { place = Operand; frames = frames; drafts = drafts; terms = terms; made = made })
     → option_map state_of (parse_step text (record { place = Operand; frames = frames; drafts = drafts; terms = terms; made = made }) t)
     ≡ step (state_of (record { place = Operand; frames = frames; drafts = drafts; terms = terms; made = made })) (plain text t)
 operand_view text frames drafts terms made t k h = let e : terms ≡ [] = h.place in rw e (begin_view text Operand at_operand frames drafts made t k h.order)
 
 -- a step at the lower number of a bound is one of the machine
-pub low_view : (text : List ℕ) (of : Timed) (low_in : Bool) (frames : List Frame) (drafts : List Draft) (terms : List Term) (made : ℕ) (t : Code) → IsKnown text t → IsFit (record { place = Low of low_in; frames = frames; drafts = drafts; terms = terms; made = made })
+pub low_view : (text : List ℕ) (of : Timed) (low_in : Bool) (frames : List Frame) (drafts : List Draft) (terms : List Term) (made : ℕ) (t : Code)
+    → IsKnown text t → IsFit (record { place = Low of low_in; frames = frames; drafts = drafts; terms = terms; made = made })
     → option_map state_of (parse_step text (record { place = Low of low_in; frames = frames; drafts = drafts; terms = terms; made = made }) t)
     ≡ step (state_of (record { place = Low of low_in; frames = frames; drafts = drafts; terms = terms; made = made })) (plain text t)
 low_view text of low_in frames drafts terms made (IsKeyword w) k h = refl
@@ -246,7 +261,9 @@ low_view text of low_in frames drafts terms made Plus k h = refl
 low_view text of low_in frames drafts terms made Minus k h = refl
 
 -- a step at the comma of a bound is one of the machine
-pub comma_view : (text : List ℕ) (of : Timed) (low_in : Bool) (low : Decimal) (frames : List Frame) (drafts : List Draft) (terms : List Term) (made : ℕ) (t : Code) → IsKnown text t → IsFit (record { place = AtComma of low_in low; frames = frames; drafts = drafts; terms = terms; made = made })
+pub comma_view : (text : List ℕ) (of : Timed) (low_in : Bool) (low : Decimal) (frames : List Frame) (drafts : List Draft)
+    (terms : List Term) (made : ℕ) (t : Code) → IsKnown text t
+    → IsFit (record { place = AtComma of low_in low; frames = frames; drafts = drafts; terms = terms; made = made })
     → option_map state_of (parse_step text (record { place = AtComma of low_in low; frames = frames; drafts = drafts; terms = terms; made = made }) t)
     ≡ step (state_of (record { place = AtComma of low_in low; frames = frames; drafts = drafts; terms = terms; made = made })) (plain text t)
 comma_view text of low_in low frames drafts terms made (IsKeyword w) k h = refl
@@ -263,7 +280,8 @@ comma_view text of low_in low frames drafts terms made Plus k h = refl
 comma_view text of low_in low frames drafts terms made Minus k h = refl
 
 inf_view : (text : List ℕ) (of : Timed) (low_in : Bool) (low : Decimal) (frames : List Frame) (drafts : List Draft) (terms : List Term) (made : ℕ)
-    → option_map state_of (parse_step text (record { place = High of low_in low; frames = frames; drafts = drafts; terms = terms; made = made }) (IsKeyword Inf))
+    → option_map state_of
+    (parse_step text (record { place = High of low_in low; frames = frames; drafts = drafts; terms = terms; made = made }) (IsKeyword Inf))
     ≡ step (state_of (record { place = High of low_in low; frames = frames; drafts = drafts; terms = terms; made = made })) (word (spelling Inf))
 unfolding kind
 inf_view text TUntil low_in low frames drafts terms made = refl
@@ -274,7 +292,9 @@ inf_view text TOnce low_in low frames drafts terms made = refl
 inf_view text THistorically low_in low frames drafts terms made = refl
 
 -- a step at the upper number of a bound is one of the machine
-pub high_view : (text : List ℕ) (of : Timed) (low_in : Bool) (low : Decimal) (frames : List Frame) (drafts : List Draft) (terms : List Term) (made : ℕ) (t : Code) → IsKnown text t → IsFit (record { place = High of low_in low; frames = frames; drafts = drafts; terms = terms; made = made })
+pub high_view : (text : List ℕ) (of : Timed) (low_in : Bool) (low : Decimal) (frames : List Frame) (drafts : List Draft)
+    (terms : List Term) (made : ℕ) (t : Code) → IsKnown text t
+    → IsFit (record { place = High of low_in low; frames = frames; drafts = drafts; terms = terms; made = made })
     → option_map state_of (parse_step text (record { place = High of low_in low; frames = frames; drafts = drafts; terms = terms; made = made }) t)
     ≡ step (state_of (record { place = High of low_in low; frames = frames; drafts = drafts; terms = terms; made = made })) (plain text t)
 unfolding kind
@@ -303,8 +323,10 @@ high_view text of low_in low frames drafts terms made Star k h = refl
 high_view text of low_in low frames drafts terms made Plus k h = refl
 high_view text of low_in low frames drafts terms made Minus k h = refl
 
-closing_CloseBracket : (text : List ℕ) (of : Timed) (low_in : Bool) (low high : Decimal) (frames : List Frame) (drafts : List Draft) (terms : List Term) (made : ℕ)
-    → option_map state_of (parse_step text (record { place = Closing of low_in low high; frames = frames; drafts = drafts; terms = terms; made = made }) CloseBracket)
+closing_CloseBracket : (text : List ℕ) (of : Timed) (low_in : Bool) (low high : Decimal) (frames : List Frame)
+    (drafts : List Draft) (terms : List Term) (made : ℕ)
+    → option_map state_of
+    (parse_step text (record { place = Closing of low_in low high; frames = frames; drafts = drafts; terms = terms; made = made }) CloseBracket)
     ≡ step (state_of (record { place = Closing of low_in low high; frames = frames; drafts = drafts; terms = terms; made = made })) (plain text CloseBracket)
 closing_CloseBracket text TUntil low_in low high frames drafts terms made = refl
 closing_CloseBracket text TSince low_in low high frames drafts terms made = refl
@@ -313,15 +335,19 @@ closing_CloseBracket text TAlways low_in low high frames drafts terms made = ref
 closing_CloseBracket text TOnce low_in low high frames drafts terms made = refl
 closing_CloseBracket text THistorically low_in low high frames drafts terms made = refl
 
-closing_inf_CloseBracket : (text : List ℕ) (of : Back) (low_in : Bool) (low : Decimal) (frames : List Frame) (drafts : List Draft) (terms : List Term) (made : ℕ)
-    → option_map state_of (parse_step text (record { place = ClosingInf of low_in low; frames = frames; drafts = drafts; terms = terms; made = made }) CloseBracket)
+closing_inf_CloseBracket : (text : List ℕ) (of : Back) (low_in : Bool) (low : Decimal) (frames : List Frame) (drafts : List Draft)
+    (terms : List Term) (made : ℕ)
+    → option_map state_of
+    (parse_step text (record { place = ClosingInf of low_in low; frames = frames; drafts = drafts; terms = terms; made = made }) CloseBracket)
     ≡ step (state_of (record { place = ClosingInf of low_in low; frames = frames; drafts = drafts; terms = terms; made = made })) (plain text CloseBracket)
 closing_inf_CloseBracket text BSince low_in low frames drafts terms made = refl
 closing_inf_CloseBracket text BOnce low_in low frames drafts terms made = refl
 closing_inf_CloseBracket text BHistorically low_in low frames drafts terms made = refl
 
-closing_OpenBracket : (text : List ℕ) (of : Timed) (low_in : Bool) (low high : Decimal) (frames : List Frame) (drafts : List Draft) (terms : List Term) (made : ℕ)
-    → option_map state_of (parse_step text (record { place = Closing of low_in low high; frames = frames; drafts = drafts; terms = terms; made = made }) OpenBracket)
+closing_OpenBracket : (text : List ℕ) (of : Timed) (low_in : Bool) (low high : Decimal) (frames : List Frame)
+    (drafts : List Draft) (terms : List Term) (made : ℕ)
+    → option_map state_of
+    (parse_step text (record { place = Closing of low_in low high; frames = frames; drafts = drafts; terms = terms; made = made }) OpenBracket)
     ≡ step (state_of (record { place = Closing of low_in low high; frames = frames; drafts = drafts; terms = terms; made = made })) (plain text OpenBracket)
 closing_OpenBracket text TUntil low_in low high frames drafts terms made = refl
 closing_OpenBracket text TSince low_in low high frames drafts terms made = refl
@@ -331,14 +357,17 @@ closing_OpenBracket text TOnce low_in low high frames drafts terms made = refl
 closing_OpenBracket text THistorically low_in low high frames drafts terms made = refl
 
 closing_inf_OpenBracket : (text : List ℕ) (of : Back) (low_in : Bool) (low : Decimal) (frames : List Frame) (drafts : List Draft) (terms : List Term) (made : ℕ)
-    → option_map state_of (parse_step text (record { place = ClosingInf of low_in low; frames = frames; drafts = drafts; terms = terms; made = made }) OpenBracket)
+    → option_map state_of
+    (parse_step text (record { place = ClosingInf of low_in low; frames = frames; drafts = drafts; terms = terms; made = made }) OpenBracket)
     ≡ step (state_of (record { place = ClosingInf of low_in low; frames = frames; drafts = drafts; terms = terms; made = made })) (plain text OpenBracket)
 closing_inf_OpenBracket text BSince low_in low frames drafts terms made = refl
 closing_inf_OpenBracket text BOnce low_in low frames drafts terms made = refl
 closing_inf_OpenBracket text BHistorically low_in low frames drafts terms made = refl
 
 -- a step at the bracket that closes a bound is one of the machine
-pub closing_view : (text : List ℕ) (of : Timed) (low_in : Bool) (low high : Decimal) (frames : List Frame) (drafts : List Draft) (terms : List Term) (made : ℕ) (t : Code) → IsKnown text t → IsFit (record { place = Closing of low_in low high; frames = frames; drafts = drafts; terms = terms; made = made })
+pub closing_view : (text : List ℕ) (of : Timed) (low_in : Bool) (low high : Decimal) (frames : List Frame) (drafts : List Draft)
+    (terms : List Term) (made : ℕ) (t : Code) → IsKnown text t
+    → IsFit (record { place = Closing of low_in low high; frames = frames; drafts = drafts; terms = terms; made = made })
     → option_map state_of (parse_step text (record { place = Closing of low_in low high; frames = frames; drafts = drafts; terms = terms; made = made }) t)
     ≡ step (state_of (record { place = Closing of low_in low high; frames = frames; drafts = drafts; terms = terms; made = made })) (plain text t)
 closing_view text of low_in low high frames drafts terms made (IsKeyword w) k h = refl
@@ -355,7 +384,9 @@ closing_view text of low_in low high frames drafts terms made Plus k h = refl
 closing_view text of low_in low high frames drafts terms made Minus k h = refl
 
 -- a step at the bracket after `inf` is one of the machine
-pub closing_inf_view : (text : List ℕ) (of : Back) (low_in : Bool) (low : Decimal) (frames : List Frame) (drafts : List Draft) (terms : List Term) (made : ℕ) (t : Code) → IsKnown text t → IsFit (record { place = ClosingInf of low_in low; frames = frames; drafts = drafts; terms = terms; made = made })
+pub closing_inf_view : (text : List ℕ) (of : Back) (low_in : Bool) (low : Decimal) (frames : List Frame) (drafts : List Draft)
+    (terms : List Term) (made : ℕ) (t : Code) → IsKnown text t
+    → IsFit (record { place = ClosingInf of low_in low; frames = frames; drafts = drafts; terms = terms; made = made })
     → option_map state_of (parse_step text (record { place = ClosingInf of low_in low; frames = frames; drafts = drafts; terms = terms; made = made }) t)
     ≡ step (state_of (record { place = ClosingInf of low_in low; frames = frames; drafts = drafts; terms = terms; made = made })) (plain text t)
 closing_inf_view text of low_in low frames drafts terms made (IsKeyword w) k h = refl
@@ -375,7 +406,8 @@ length_more : (terms : List Term) (t : Term) → length (terms ++ t ∷ []) ≡ 
 length_more terms t = omega (arith, length_push terms t)
 
 -- a step at a term is one of the machine
-pub term_view : (text : List ℕ) (negative : Bool) (frames : List Frame) (drafts : List Draft) (terms : List Term) (made : ℕ) (t : Code) → IsKnown text t → IsFit (record { place = AtTerm negative; frames = frames; drafts = drafts; terms = terms; made = made })
+pub term_view : (text : List ℕ) (negative : Bool) (frames : List Frame) (drafts : List Draft) (terms : List Term) (made : ℕ) (t : Code)
+    → IsKnown text t → IsFit (record { place = AtTerm negative; frames = frames; drafts = drafts; terms = terms; made = made })
     → option_map state_of (parse_step text (record { place = AtTerm negative; frames = frames; drafts = drafts; terms = terms; made = made }) t)
     ≡ step (state_of (record { place = AtTerm negative; frames = frames; drafts = drafts; terms = terms; made = made })) (plain text t)
 unfolding kind
@@ -392,7 +424,8 @@ term_view text negative frames drafts terms made (IsKeyword Always) k h = refl
 term_view text negative frames drafts terms made (IsKeyword Once) k h = refl
 term_view text negative frames drafts terms made (IsKeyword Historically) k h = refl
 term_view text negative frames drafts terms made (IsKeyword Inf) k h = refl
-term_view text negative frames drafts terms made (Name from to) k h = rw (known_kind text from to k) (ap (λ n. Some (record { place = at_sign n; had = had_of frames; marks = marks_of frames; nodes = made })) (length_more terms _))
+term_view text negative frames drafts terms made (Name from to) k h = rw (known_kind text from to k)
+    (ap (λ n. Some (record { place = at_sign n; had = had_of frames; marks = marks_of frames; nodes = made })) (length_more terms _))
 term_view text negative frames drafts terms made (Number d) k h = refl
 term_view text negative frames drafts terms made (Relation r) k h = refl
 term_view text negative frames drafts terms made OpenParen k h = refl
@@ -405,7 +438,9 @@ term_view text negative frames drafts terms made Plus k h = refl
 term_view text negative frames drafts terms made Minus k h = refl
 
 -- a step at the star of a coefficient is one of the machine
-pub star_view : (text : List ℕ) (negative : Bool) (coef : Decimal) (frames : List Frame) (drafts : List Draft) (terms : List Term) (made : ℕ) (t : Code) → IsKnown text t → IsFit (record { place = AtStar negative coef; frames = frames; drafts = drafts; terms = terms; made = made })
+pub star_view : (text : List ℕ) (negative : Bool) (coef : Decimal) (frames : List Frame) (drafts : List Draft) (terms : List Term)
+    (made : ℕ) (t : Code) → IsKnown text t
+    → IsFit (record { place = AtStar negative coef; frames = frames; drafts = drafts; terms = terms; made = made })
     → option_map state_of (parse_step text (record { place = AtStar negative coef; frames = frames; drafts = drafts; terms = terms; made = made }) t)
     ≡ step (state_of (record { place = AtStar negative coef; frames = frames; drafts = drafts; terms = terms; made = made })) (plain text t)
 star_view text negative coef frames drafts terms made (IsKeyword w) k h = refl
@@ -422,7 +457,9 @@ star_view text negative coef frames drafts terms made Plus k h = refl
 star_view text negative coef frames drafts terms made Minus k h = refl
 
 -- a step at the name of a term is one of the machine
-pub name_view : (text : List ℕ) (negative : Bool) (coef : Decimal) (frames : List Frame) (drafts : List Draft) (terms : List Term) (made : ℕ) (t : Code) → IsKnown text t → IsFit (record { place = AtName negative coef; frames = frames; drafts = drafts; terms = terms; made = made })
+pub name_view : (text : List ℕ) (negative : Bool) (coef : Decimal) (frames : List Frame) (drafts : List Draft) (terms : List Term)
+    (made : ℕ) (t : Code) → IsKnown text t
+    → IsFit (record { place = AtName negative coef; frames = frames; drafts = drafts; terms = terms; made = made })
     → option_map state_of (parse_step text (record { place = AtName negative coef; frames = frames; drafts = drafts; terms = terms; made = made }) t)
     ≡ step (state_of (record { place = AtName negative coef; frames = frames; drafts = drafts; terms = terms; made = made })) (plain text t)
 unfolding kind
@@ -439,7 +476,8 @@ name_view text negative coef frames drafts terms made (IsKeyword Always) k h = r
 name_view text negative coef frames drafts terms made (IsKeyword Once) k h = refl
 name_view text negative coef frames drafts terms made (IsKeyword Historically) k h = refl
 name_view text negative coef frames drafts terms made (IsKeyword Inf) k h = refl
-name_view text negative coef frames drafts terms made (Name from to) k h = rw (known_kind text from to k) (ap (λ n. Some (record { place = at_sign n; had = had_of frames; marks = marks_of frames; nodes = made })) (length_more terms _))
+name_view text negative coef frames drafts terms made (Name from to) k h = rw (known_kind text from to k)
+    (ap (λ n. Some (record { place = at_sign n; had = had_of frames; marks = marks_of frames; nodes = made })) (length_more terms _))
 name_view text negative coef frames drafts terms made (Number d) k h = refl
 name_view text negative coef frames drafts terms made (Relation r) k h = refl
 name_view text negative coef frames drafts terms made OpenParen k h = refl
@@ -452,7 +490,8 @@ name_view text negative coef frames drafts terms made Plus k h = refl
 name_view text negative coef frames drafts terms made Minus k h = refl
 
 -- a step after a term is one of the machine
-pub sign_view : (text : List ℕ) (frames : List Frame) (drafts : List Draft) (terms : List Term) (made : ℕ) (t : Code) → IsKnown text t → IsFit (record { place = Sign; frames = frames; drafts = drafts; terms = terms; made = made })
+pub sign_view : (text : List ℕ) (frames : List Frame) (drafts : List Draft) (terms : List Term) (made : ℕ) (t : Code)
+    → IsKnown text t → IsFit (record { place = Sign; frames = frames; drafts = drafts; terms = terms; made = made })
     → option_map state_of (parse_step text (record { place = Sign; frames = frames; drafts = drafts; terms = terms; made = made }) t)
     ≡ step (state_of (record { place = Sign; frames = frames; drafts = drafts; terms = terms; made = made })) (plain text t)
 sign_view text frames drafts terms made (IsKeyword w) k h = refl
@@ -469,7 +508,8 @@ sign_view text frames drafts terms made Plus k h = refl
 sign_view text frames drafts terms made Minus k h = refl
 
 -- a step at a constant is one of the machine
-pub constant_view : (text : List ℕ) (rel : Rel) (frames : List Frame) (drafts : List Draft) (terms : List Term) (made : ℕ) (t : Code) → IsKnown text t → IsFit (record { place = Constant rel; frames = frames; drafts = drafts; terms = terms; made = made })
+pub constant_view : (text : List ℕ) (rel : Rel) (frames : List Frame) (drafts : List Draft) (terms : List Term) (made : ℕ) (t : Code)
+    → IsKnown text t → IsFit (record { place = Constant rel; frames = frames; drafts = drafts; terms = terms; made = made })
     → option_map state_of (parse_step text (record { place = Constant rel; frames = frames; drafts = drafts; terms = terms; made = made }) t)
     ≡ step (state_of (record { place = Constant rel; frames = frames; drafts = drafts; terms = terms; made = made })) (plain text t)
 constant_view text rel frames drafts terms made (IsKeyword w) k h = refl
@@ -486,7 +526,8 @@ constant_view text rel frames drafts terms made Plus k h = refl
 constant_view text rel frames drafts terms made Minus k h = refl
 
 -- a step at the number of a constant is one of the machine
-pub number_view : (text : List ℕ) (rel : Rel) (negative : Bool) (frames : List Frame) (drafts : List Draft) (terms : List Term) (made : ℕ) (t : Code) → IsKnown text t → IsFit (record { place = AtNumber rel negative; frames = frames; drafts = drafts; terms = terms; made = made })
+pub number_view : (text : List ℕ) (rel : Rel) (negative : Bool) (frames : List Frame) (drafts : List Draft) (terms : List Term) (made : ℕ) (t : Code)
+    → IsKnown text t → IsFit (record { place = AtNumber rel negative; frames = frames; drafts = drafts; terms = terms; made = made })
     → option_map state_of (parse_step text (record { place = AtNumber rel negative; frames = frames; drafts = drafts; terms = terms; made = made }) t)
     ≡ step (state_of (record { place = AtNumber rel negative; frames = frames; drafts = drafts; terms = terms; made = made })) (plain text t)
 number_view text rel negative frames drafts terms made (IsKeyword w) k h = refl
@@ -509,7 +550,8 @@ beside of frames drafts terms made true h = refl
 beside of frames drafts terms made false h = rw h refl
 
 -- a step after a whole operand is one of the machine
-pub end_view : (text : List ℕ) (frames : List Frame) (drafts : List Draft) (terms : List Term) (made : ℕ) (t : Code) → IsKnown text t → IsFit (record { place = End; frames = frames; drafts = drafts; terms = terms; made = made })
+pub end_view : (text : List ℕ) (frames : List Frame) (drafts : List Draft) (terms : List Term) (made : ℕ) (t : Code)
+    → IsKnown text t → IsFit (record { place = End; frames = frames; drafts = drafts; terms = terms; made = made })
     → option_map state_of (parse_step text (record { place = End; frames = frames; drafts = drafts; terms = terms; made = made }) t)
     ≡ step (state_of (record { place = End; frames = frames; drafts = drafts; terms = terms; made = made })) (plain text t)
 unfolding kind
@@ -539,17 +581,26 @@ end_view text frames drafts terms made Plus k h = refl
 end_view text frames drafts terms made Minus k h = refl
 
 -- a bound that may be left out
-left_out : (text : List ℕ) (b : Back) (q : Machine.Place) (frames : List Frame) (drafts : List Draft) (made : ℕ) (t : Code) → IsKnown text t → ordered frames ≡ true → StandsBeside (back_is_beside b) frames
-    → option_map state_of (begin_operand text (record { place = Operand; frames = back_frame b Whole (length drafts - 1) ∷ frames; drafts = drafts; terms = []; made = made }) t)
-    ≡ Machine.begin_operand (record { place = q; had = had_of (back_frame b Whole (length drafts - 1) ∷ frames); marks = marks_of (back_frame b Whole (length drafts - 1) ∷ frames); nodes = made }) (plain text t)
+left_out : (text : List ℕ) (b : Back) (q : Machine.Place) (frames : List Frame) (drafts : List Draft) (made : ℕ) (t : Code)
+    → IsKnown text t → ordered frames ≡ true → StandsBeside (back_is_beside b) frames
+    → option_map state_of (begin_operand text
+    (record { place = Operand; frames = back_frame b Whole (length drafts - 1) ∷ frames; drafts = drafts; terms = []; made = made }) t)
+    ≡ Machine.begin_operand (record {
+      place = q;
+      had = had_of (back_frame b Whole (length drafts - 1) ∷ frames);
+      marks = marks_of (back_frame b Whole (length drafts - 1) ∷ frames);
+      nodes = made;
+    }) (plain text t)
 left_out text BSince q frames drafts made t k h s =
     let a : nat_lt (top_rank frames) 4 ≡ true = grind (arith, nat_tests, s) in
     begin_view text Operand q (Between (After Whole) (length drafts - 1) ∷ frames) drafts made t k (rw (a, h) refl)
 left_out text BOnce q frames drafts made t k h s = begin_view text Operand q (back_frame BOnce Whole (length drafts - 1) ∷ frames) drafts made t k h
-left_out text BHistorically q frames drafts made t k h s = begin_view text Operand q (back_frame BHistorically Whole (length drafts - 1) ∷ frames) drafts made t k h
+left_out text BHistorically q frames drafts made t k h s =
+    begin_view text Operand q (back_frame BHistorically Whole (length drafts - 1) ∷ frames) drafts made t k h
 
 -- a step after `until` is one of the machine
-pub bound_TUntil : (text : List ℕ) (frames : List Frame) (drafts : List Draft) (terms : List Term) (made : ℕ) (t : Code) → IsKnown text t → IsFit (record { place = Bound TUntil; frames = frames; drafts = drafts; terms = terms; made = made })
+pub bound_TUntil : (text : List ℕ) (frames : List Frame) (drafts : List Draft) (terms : List Term) (made : ℕ) (t : Code)
+    → IsKnown text t → IsFit (record { place = Bound TUntil; frames = frames; drafts = drafts; terms = terms; made = made })
     → option_map state_of (parse_step text (record { place = Bound TUntil; frames = frames; drafts = drafts; terms = terms; made = made }) t)
     ≡ step (state_of (record { place = Bound TUntil; frames = frames; drafts = drafts; terms = terms; made = made })) (plain text t)
 bound_TUntil text frames drafts terms made (IsKeyword w) k h = refl
@@ -566,12 +617,19 @@ bound_TUntil text frames drafts terms made Plus k h = refl
 bound_TUntil text frames drafts terms made Minus k h = refl
 
 -- a step after `since` is one of the machine
-pub bound_TSince : (text : List ℕ) (frames : List Frame) (drafts : List Draft) (terms : List Term) (made : ℕ) (t : Code) → IsKnown text t → IsFit (record { place = Bound TSince; frames = frames; drafts = drafts; terms = terms; made = made })
+pub bound_TSince : (text : List ℕ) (frames : List Frame) (drafts : List Draft) (terms : List Term) (made : ℕ) (t : Code)
+    → IsKnown text t → IsFit (record { place = Bound TSince; frames = frames; drafts = drafts; terms = terms; made = made })
     → option_map state_of (parse_step text (record { place = Bound TSince; frames = frames; drafts = drafts; terms = terms; made = made }) t)
     ≡ step (state_of (record { place = Bound TSince; frames = frames; drafts = drafts; terms = terms; made = made })) (plain text t)
-bound_TSince text frames drafts terms made (IsKeyword w) k h = let e : terms ≡ [] = h.place.0 in rw e (left_out text BSince (at_bound (owner TSince)) frames drafts made (IsKeyword w) k h.order h.place.1)
-bound_TSince text frames drafts terms made (Name from to) k h = let e : terms ≡ [] = h.place.0 in rw e (left_out text BSince (at_bound (owner TSince)) frames drafts made (Name from to) k h.order h.place.1)
-bound_TSince text frames drafts terms made (Number d) k h = let e : terms ≡ [] = h.place.0 in rw e (left_out text BSince (at_bound (owner TSince)) frames drafts made (Number d) k h.order h.place.1)
+bound_TSince text frames drafts terms made (IsKeyword w) k h =
+    let e : terms ≡ [] = h.place.0 in
+    rw e (left_out text BSince (at_bound (owner TSince)) frames drafts made (IsKeyword w) k h.order h.place.1)
+bound_TSince text frames drafts terms made (Name from to) k h =
+    let e : terms ≡ [] = h.place.0 in
+    rw e (left_out text BSince (at_bound (owner TSince)) frames drafts made (Name from to) k h.order h.place.1)
+bound_TSince text frames drafts terms made (Number d) k h =
+    let e : terms ≡ [] = h.place.0 in
+    rw e (left_out text BSince (at_bound (owner TSince)) frames drafts made (Number d) k h.order h.place.1)
 bound_TSince text frames drafts terms made (Relation r) k h = refl
 bound_TSince text frames drafts terms made OpenParen k h = left_out text BSince (at_bound (owner TSince)) frames drafts made OpenParen k h.order h.place.1
 bound_TSince text frames drafts terms made CloseParen k h = refl
@@ -579,11 +637,16 @@ bound_TSince text frames drafts terms made OpenBracket k h = refl
 bound_TSince text frames drafts terms made CloseBracket k h = refl
 bound_TSince text frames drafts terms made Comma k h = refl
 bound_TSince text frames drafts terms made Star k h = refl
-bound_TSince text frames drafts terms made Plus k h = let e : terms ≡ [] = h.place.0 in rw e (left_out text BSince (at_bound (owner TSince)) frames drafts made Plus k h.order h.place.1)
-bound_TSince text frames drafts terms made Minus k h = let e : terms ≡ [] = h.place.0 in rw e (left_out text BSince (at_bound (owner TSince)) frames drafts made Minus k h.order h.place.1)
+bound_TSince text frames drafts terms made Plus k h =
+    let e : terms ≡ [] = h.place.0 in
+    rw e (left_out text BSince (at_bound (owner TSince)) frames drafts made Plus k h.order h.place.1)
+bound_TSince text frames drafts terms made Minus k h =
+    let e : terms ≡ [] = h.place.0 in
+    rw e (left_out text BSince (at_bound (owner TSince)) frames drafts made Minus k h.order h.place.1)
 
 -- a step after `eventually` is one of the machine
-pub bound_TEventually : (text : List ℕ) (frames : List Frame) (drafts : List Draft) (terms : List Term) (made : ℕ) (t : Code) → IsKnown text t → IsFit (record { place = Bound TEventually; frames = frames; drafts = drafts; terms = terms; made = made })
+pub bound_TEventually : (text : List ℕ) (frames : List Frame) (drafts : List Draft) (terms : List Term) (made : ℕ) (t : Code)
+    → IsKnown text t → IsFit (record { place = Bound TEventually; frames = frames; drafts = drafts; terms = terms; made = made })
     → option_map state_of (parse_step text (record { place = Bound TEventually; frames = frames; drafts = drafts; terms = terms; made = made }) t)
     ≡ step (state_of (record { place = Bound TEventually; frames = frames; drafts = drafts; terms = terms; made = made })) (plain text t)
 bound_TEventually text frames drafts terms made (IsKeyword w) k h = refl
@@ -600,7 +663,8 @@ bound_TEventually text frames drafts terms made Plus k h = refl
 bound_TEventually text frames drafts terms made Minus k h = refl
 
 -- a step after `always` is one of the machine
-pub bound_TAlways : (text : List ℕ) (frames : List Frame) (drafts : List Draft) (terms : List Term) (made : ℕ) (t : Code) → IsKnown text t → IsFit (record { place = Bound TAlways; frames = frames; drafts = drafts; terms = terms; made = made })
+pub bound_TAlways : (text : List ℕ) (frames : List Frame) (drafts : List Draft) (terms : List Term) (made : ℕ) (t : Code)
+    → IsKnown text t → IsFit (record { place = Bound TAlways; frames = frames; drafts = drafts; terms = terms; made = made })
     → option_map state_of (parse_step text (record { place = Bound TAlways; frames = frames; drafts = drafts; terms = terms; made = made }) t)
     ≡ step (state_of (record { place = Bound TAlways; frames = frames; drafts = drafts; terms = terms; made = made })) (plain text t)
 bound_TAlways text frames drafts terms made (IsKeyword w) k h = refl
@@ -617,12 +681,19 @@ bound_TAlways text frames drafts terms made Plus k h = refl
 bound_TAlways text frames drafts terms made Minus k h = refl
 
 -- a step after `once` is one of the machine
-pub bound_TOnce : (text : List ℕ) (frames : List Frame) (drafts : List Draft) (terms : List Term) (made : ℕ) (t : Code) → IsKnown text t → IsFit (record { place = Bound TOnce; frames = frames; drafts = drafts; terms = terms; made = made })
+pub bound_TOnce : (text : List ℕ) (frames : List Frame) (drafts : List Draft) (terms : List Term) (made : ℕ) (t : Code)
+    → IsKnown text t → IsFit (record { place = Bound TOnce; frames = frames; drafts = drafts; terms = terms; made = made })
     → option_map state_of (parse_step text (record { place = Bound TOnce; frames = frames; drafts = drafts; terms = terms; made = made }) t)
     ≡ step (state_of (record { place = Bound TOnce; frames = frames; drafts = drafts; terms = terms; made = made })) (plain text t)
-bound_TOnce text frames drafts terms made (IsKeyword w) k h = let e : terms ≡ [] = h.place.0 in rw e (left_out text BOnce (at_bound (owner TOnce)) frames drafts made (IsKeyword w) k h.order h.place.1)
-bound_TOnce text frames drafts terms made (Name from to) k h = let e : terms ≡ [] = h.place.0 in rw e (left_out text BOnce (at_bound (owner TOnce)) frames drafts made (Name from to) k h.order h.place.1)
-bound_TOnce text frames drafts terms made (Number d) k h = let e : terms ≡ [] = h.place.0 in rw e (left_out text BOnce (at_bound (owner TOnce)) frames drafts made (Number d) k h.order h.place.1)
+bound_TOnce text frames drafts terms made (IsKeyword w) k h =
+    let e : terms ≡ [] = h.place.0 in
+    rw e (left_out text BOnce (at_bound (owner TOnce)) frames drafts made (IsKeyword w) k h.order h.place.1)
+bound_TOnce text frames drafts terms made (Name from to) k h =
+    let e : terms ≡ [] = h.place.0 in
+    rw e (left_out text BOnce (at_bound (owner TOnce)) frames drafts made (Name from to) k h.order h.place.1)
+bound_TOnce text frames drafts terms made (Number d) k h =
+    let e : terms ≡ [] = h.place.0 in
+    rw e (left_out text BOnce (at_bound (owner TOnce)) frames drafts made (Number d) k h.order h.place.1)
 bound_TOnce text frames drafts terms made (Relation r) k h = refl
 bound_TOnce text frames drafts terms made OpenParen k h = left_out text BOnce (at_bound (owner TOnce)) frames drafts made OpenParen k h.order h.place.1
 bound_TOnce text frames drafts terms made CloseParen k h = refl
@@ -630,25 +701,41 @@ bound_TOnce text frames drafts terms made OpenBracket k h = refl
 bound_TOnce text frames drafts terms made CloseBracket k h = refl
 bound_TOnce text frames drafts terms made Comma k h = refl
 bound_TOnce text frames drafts terms made Star k h = refl
-bound_TOnce text frames drafts terms made Plus k h = let e : terms ≡ [] = h.place.0 in rw e (left_out text BOnce (at_bound (owner TOnce)) frames drafts made Plus k h.order h.place.1)
-bound_TOnce text frames drafts terms made Minus k h = let e : terms ≡ [] = h.place.0 in rw e (left_out text BOnce (at_bound (owner TOnce)) frames drafts made Minus k h.order h.place.1)
+bound_TOnce text frames drafts terms made Plus k h =
+    let e : terms ≡ [] = h.place.0 in
+    rw e (left_out text BOnce (at_bound (owner TOnce)) frames drafts made Plus k h.order h.place.1)
+bound_TOnce text frames drafts terms made Minus k h =
+    let e : terms ≡ [] = h.place.0 in
+    rw e (left_out text BOnce (at_bound (owner TOnce)) frames drafts made Minus k h.order h.place.1)
 
 -- a step after `historically` is one of the machine
-pub bound_THistorically : (text : List ℕ) (frames : List Frame) (drafts : List Draft) (terms : List Term) (made : ℕ) (t : Code) → IsKnown text t → IsFit (record { place = Bound THistorically; frames = frames; drafts = drafts; terms = terms; made = made })
+pub bound_THistorically : (text : List ℕ) (frames : List Frame) (drafts : List Draft) (terms : List Term) (made : ℕ) (t : Code)
+    → IsKnown text t → IsFit (record { place = Bound THistorically; frames = frames; drafts = drafts; terms = terms; made = made })
     → option_map state_of (parse_step text (record { place = Bound THistorically; frames = frames; drafts = drafts; terms = terms; made = made }) t)
     ≡ step (state_of (record { place = Bound THistorically; frames = frames; drafts = drafts; terms = terms; made = made })) (plain text t)
-bound_THistorically text frames drafts terms made (IsKeyword w) k h = let e : terms ≡ [] = h.place.0 in rw e (left_out text BHistorically (at_bound (owner THistorically)) frames drafts made (IsKeyword w) k h.order h.place.1)
-bound_THistorically text frames drafts terms made (Name from to) k h = let e : terms ≡ [] = h.place.0 in rw e (left_out text BHistorically (at_bound (owner THistorically)) frames drafts made (Name from to) k h.order h.place.1)
-bound_THistorically text frames drafts terms made (Number d) k h = let e : terms ≡ [] = h.place.0 in rw e (left_out text BHistorically (at_bound (owner THistorically)) frames drafts made (Number d) k h.order h.place.1)
+bound_THistorically text frames drafts terms made (IsKeyword w) k h =
+    let e : terms ≡ [] = h.place.0 in
+    rw e (left_out text BHistorically (at_bound (owner THistorically)) frames drafts made (IsKeyword w) k h.order h.place.1)
+bound_THistorically text frames drafts terms made (Name from to) k h =
+    let e : terms ≡ [] = h.place.0 in
+    rw e (left_out text BHistorically (at_bound (owner THistorically)) frames drafts made (Name from to) k h.order h.place.1)
+bound_THistorically text frames drafts terms made (Number d) k h =
+    let e : terms ≡ [] = h.place.0 in
+    rw e (left_out text BHistorically (at_bound (owner THistorically)) frames drafts made (Number d) k h.order h.place.1)
 bound_THistorically text frames drafts terms made (Relation r) k h = refl
-bound_THistorically text frames drafts terms made OpenParen k h = left_out text BHistorically (at_bound (owner THistorically)) frames drafts made OpenParen k h.order h.place.1
+bound_THistorically text frames drafts terms made OpenParen k h =
+    left_out text BHistorically (at_bound (owner THistorically)) frames drafts made OpenParen k h.order h.place.1
 bound_THistorically text frames drafts terms made CloseParen k h = refl
 bound_THistorically text frames drafts terms made OpenBracket k h = refl
 bound_THistorically text frames drafts terms made CloseBracket k h = refl
 bound_THistorically text frames drafts terms made Comma k h = refl
 bound_THistorically text frames drafts terms made Star k h = refl
-bound_THistorically text frames drafts terms made Plus k h = let e : terms ≡ [] = h.place.0 in rw e (left_out text BHistorically (at_bound (owner THistorically)) frames drafts made Plus k h.order h.place.1)
-bound_THistorically text frames drafts terms made Minus k h = let e : terms ≡ [] = h.place.0 in rw e (left_out text BHistorically (at_bound (owner THistorically)) frames drafts made Minus k h.order h.place.1)
+bound_THistorically text frames drafts terms made Plus k h =
+    let e : terms ≡ [] = h.place.0 in
+    rw e (left_out text BHistorically (at_bound (owner THistorically)) frames drafts made Plus k h.order h.place.1)
+bound_THistorically text frames drafts terms made Minus k h =
+    let e : terms ≡ [] = h.place.0 in
+    rw e (left_out text BHistorically (at_bound (owner THistorically)) frames drafts made Minus k h.order h.place.1)
 
 -- a step of the parser is one of the machine
 pub view_step : (text : List ℕ) (p : Parse) (t : Code) → IsKnown text t → IsFit p → option_map state_of (parse_step text p t) ≡ step (state_of p) (plain text t)

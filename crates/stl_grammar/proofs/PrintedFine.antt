@@ -1,5 +1,6 @@
 -- The tokens of nodes within their limits, with few decimals: no number passes its limit, no bound is out of order, and no fifth term begins.
-use Rattle.std.proofs.Common.{◌≡◌, ℕ, suc, ◌+◌, ◌-◌, ◌*◌, ◌^◌, ◌<◌, ◌≤◌, List, [], ◌∷◌, ◌++◌, length, refl, ap, sym, ◌∙◌, Bool, true, false, arith, append_assoc, lit<}
+use Rattle.std.proofs.Common.{◌≡◌, ℕ, suc, ◌+◌, ◌-◌, ◌*◌, ◌^◌, ◌<◌, ◌≤◌, List, [], ◌∷◌, ◌++◌, length}
+use Rattle.std.proofs.Common.{refl, ap, sym, ◌∙◌, Bool, true, false, arith, append_assoc, lit<}
 use Rattle.std.specs.Prelude.{codes, nat_lt, nat_abs, neg_ℤ, pos, Option, Some, None, All, ◌==◌, ◌||◌}
 use Rattle.std.proofs.Math.Nat.{mul-le-mul_right, one-le-pow}
 use Rattle.std.proofs.lemmas.Bool.Decides.{nat_tests}
@@ -14,18 +15,24 @@ use Rattle.stl_syntax.specs.declared.rel.Rel.{Rel}
 use Rattle.stl_syntax.specs.declared.node.Node.{Node}
 use Rattle.stl_syntax.specs.declared.node.Node.TheVariants.{Not, And, Or, Implies, Until, Eventually, Always, Since, Once, Historically}
 use Rattle.stl_grammar.specs.Grammar.{top, Token, word, number, relation, open_paren, close_paren, open_bracket, close_bracket, comma, star, plus, minus}
-use Rattle.stl_grammar.specs.Grammar.{IsConstant, plain, positive, negative, IsTerm, name as term_name, scaled, AreTerms, more_plus, more_minus, IsAtom, first, signed, inside, outside}
+use Rattle.stl_grammar.specs.Grammar.{IsConstant, plain, positive, negative, IsTerm, name as term_name, scaled}
+use Rattle.stl_grammar.specs.Grammar.{AreTerms, more_plus, more_minus, IsAtom, first, signed, inside, outside}
 use Rattle.stl_grammar.specs.Grammar.{none as no_terms}
 use Rattle.stl_grammar.specs.Grammar.{IsFutureWindow, bound, IsPastWindow, nothing, bounded, unbounded, IsFuture, IsPast}
 use Rattle.stl_grammar.specs.Grammar.IsPast.{nothing as since_nothing, bounded as since_bounded, unbounded as since_unbounded}
-use Rattle.stl_grammar.specs.Grammar.{IsFormula, IsDisjunct, IsConjunct, IsTimed, IsOperand, disjunct, implies, conjunct, or, timed, and, operand, until, since, not, eventually, always, once, historically, always_true, always_false, parens, atom}
+use Rattle.stl_grammar.specs.Grammar.{IsFormula, IsDisjunct, IsConjunct, IsTimed, IsOperand, disjunct, implies}
+use Rattle.stl_grammar.specs.Grammar.{conjunct, or, timed, and, operand, until, since, not, eventually, always}
+use Rattle.stl_grammar.specs.Grammar.{once, historically, always_true, always_false, parens, atom}
 use Rattle.stl_grammar.specs.declared.fault.What.{What}
 use Rattle.stl_grammar.specs.declared.fault.What.TheVariants.{Number, Constant}
 use Rattle.stl_grammar.specs.FormulaRefusals.{passes_limit}
-use Rattle.stl_grammar.specs.Machine.{kind, Owner, of_until, of_since, of_future, of_past, looks_back, at_operand, at_bound, at_term, at_sign, at_constant, at_end, Mark, paren, operator, implication, State, without_operators, step_from, expected_at, fifth_at, disorder_at}
+use Rattle.stl_grammar.specs.Machine.{kind, Owner, of_until, of_since, of_future, of_past, looks_back, at_operand}
+use Rattle.stl_grammar.specs.Machine.{at_bound, at_term, at_sign, at_constant, at_end, Mark, paren, operator, implication}
+use Rattle.stl_grammar.specs.Machine.{State, without_operators, step_from, expected_at, fifth_at, disorder_at}
 use Rattle.stl_grammar.proofs.NumberLemmas.{abs_neg}
 use Rattle.stl_grammar.proofs.OneParse.{begins_bracket, operand_bracket}
-use Rattle.stl_grammar.proofs.MachineRuns.{go, go_then, st, term_runs, first_runs, terms_run, signed_runs, window_runs, until_runs, formula_runs, disjunct_runs, conjunct_runs, operand_runs}
+use Rattle.stl_grammar.proofs.MachineRuns.{go, go_then, st, term_runs, first_runs, terms_run, signed_runs, window_runs}
+use Rattle.stl_grammar.proofs.MachineRuns.{until_runs, formula_runs, disjunct_runs, conjunct_runs, operand_runs}
 use Rattle.stl_grammar.proofs.ReadNodes.{power_parts, cross, skips}
 use Rattle.stl_grammar.proofs.TokenNeat.{IsNeat}
 use Rattle.stl_grammar.proofs.PrintedRead.{IsFit, all_left, all_right, all_last}
@@ -79,7 +86,8 @@ abbrev pub Pieces : Scale → List Token → Type 0
 Pieces s ts = (pre post : List Token) (x : Piece) → ts ≡ pre ++ (these x ++ post) → Says s x
 
 pieces_left : (s : Scale) (ts us : List Token) → Pieces s (ts ++ us) → Pieces s ts
-pieces_left s ts us h pre post x e = h pre (post ++ us) x (ap (λ z. z ++ us) e ∙ (append_assoc pre (these x ++ post) us ∙ ap (λ z. pre ++ z) (append_assoc (these x) post us)))
+pieces_left s ts us h pre post x e = h pre (post ++ us) x
+    (ap (λ z. z ++ us) e ∙ (append_assoc pre (these x ++ post) us ∙ ap (λ z. pre ++ z) (append_assoc (these x) post us)))
 
 pieces_right : (s : Scale) (ts us : List Token) → Pieces s (ts ++ us) → Pieces s us
 pieces_right s ts us h pre post x e = h (ts ++ pre) post x (ap (λ z. ts ++ z) e ∙ sym (append_assoc ts pre (these x ++ post)))
@@ -152,21 +160,27 @@ two_fine d a j b k s c o l = (bound_fine d a j s c.0 (omega (arith, o, l)), orde
 window_fine : (s : Scale) {a b : ℕ} {us : List Token} {x y : Bool} → IsFutureWindow s.time us a b x y → s.time ≤ 6 → Pieces s us → a ≤ b → b ≤ 4294967295
     → (h : Bool) (marks : List Mark) (n : ℕ) → Fine (st (at_bound of_future) h marks n) us
 window_fine s (bound {a = a} {j} {b} {k} {x} {y} inside inside) d c o l h marks n =
-    let z = two_fine s.time a j b k d (c (x ∷ []) (y ∷ []) (bounds a j b k) refl) o l in ((refl, refl, refl), ((refl, refl, z.0), ((refl, refl, refl), ((refl, z.1, z.2), ((refl, refl, refl), tt)))))
+    let z = two_fine s.time a j b k d (c (x ∷ []) (y ∷ []) (bounds a j b k) refl) o l in
+    ((refl, refl, refl), ((refl, refl, z.0), ((refl, refl, refl), ((refl, z.1, z.2), ((refl, refl, refl), tt)))))
 window_fine s (bound {a = a} {j} {b} {k} {x} {y} inside outside) d c o l h marks n =
-    let z = two_fine s.time a j b k d (c (x ∷ []) (y ∷ []) (bounds a j b k) refl) o l in ((refl, refl, refl), ((refl, refl, z.0), ((refl, refl, refl), ((refl, z.1, z.2), ((refl, refl, refl), tt)))))
+    let z = two_fine s.time a j b k d (c (x ∷ []) (y ∷ []) (bounds a j b k) refl) o l in
+    ((refl, refl, refl), ((refl, refl, z.0), ((refl, refl, refl), ((refl, z.1, z.2), ((refl, refl, refl), tt)))))
 window_fine s (bound {a = a} {j} {b} {k} {x} {y} outside inside) d c o l h marks n =
-    let z = two_fine s.time a j b k d (c (x ∷ []) (y ∷ []) (bounds a j b k) refl) o l in ((refl, refl, refl), ((refl, refl, z.0), ((refl, refl, refl), ((refl, z.1, z.2), ((refl, refl, refl), tt)))))
+    let z = two_fine s.time a j b k d (c (x ∷ []) (y ∷ []) (bounds a j b k) refl) o l in
+    ((refl, refl, refl), ((refl, refl, z.0), ((refl, refl, refl), ((refl, z.1, z.2), ((refl, refl, refl), tt)))))
 window_fine s (bound {a = a} {j} {b} {k} {x} {y} outside outside) d c o l h marks n =
-    let z = two_fine s.time a j b k d (c (x ∷ []) (y ∷ []) (bounds a j b k) refl) o l in ((refl, refl, refl), ((refl, refl, z.0), ((refl, refl, refl), ((refl, z.1, z.2), ((refl, refl, refl), tt)))))
+    let z = two_fine s.time a j b k d (c (x ∷ []) (y ∷ []) (bounds a j b k) refl) o l in
+    ((refl, refl, refl), ((refl, refl, z.0), ((refl, refl, refl), ((refl, z.1, z.2), ((refl, refl, refl), tt)))))
 
 until_fine : (s : Scale) {a b : ℕ} {us : List Token} → IsFuture s.time us a b → s.time ≤ 6 → Pieces s us → a ≤ b → b ≤ 4294967295
     → (h : Bool) (marks : List Mark) (n : ℕ) → Fine (st (at_bound of_until) h marks n) us
 until_fine s (bound {a = a} {j} {b} {k} {x} {y} inside inside) d c o l h marks n =
-    let z = two_fine s.time a j b k d (c (x ∷ []) (y ∷ []) (bounds a j b k) refl) o l in ((refl, refl, refl), ((refl, refl, z.0), ((refl, refl, refl), ((refl, z.1, z.2), ((refl, refl, refl), tt)))))
+    let z = two_fine s.time a j b k d (c (x ∷ []) (y ∷ []) (bounds a j b k) refl) o l in
+    ((refl, refl, refl), ((refl, refl, z.0), ((refl, refl, refl), ((refl, z.1, z.2), ((refl, refl, refl), tt)))))
 
 -- an operand whose bound is left out
-fine_left_out : {s : Scale} {k : ℕ} {ts : List Token} {ns : List Node} (o : Owner) → looks_back o ≡ true → IsOperand s k ts ns → (h : Bool) (marks : List Mark) (n : ℕ)
+fine_left_out : {s : Scale} {k : ℕ} {ts : List Token} {ns : List Node} (o : Owner) → looks_back o ≡ true → IsOperand s k ts ns
+    → (h : Bool) (marks : List Mark) (n : ℕ)
     → Fine (st at_operand h marks n) ts → Fine (st (at_bound o) h marks n) ts
 fine_left_out {ts = ts} o e p h marks n f = by_tokens ts (operand_bracket [] p) f
   where
@@ -174,43 +188,59 @@ fine_left_out {ts = ts} o e p h marks n f = by_tokens ts (operand_bracket [] p) 
     by_tokens [] b f = tt
     by_tokens (t ∷ us) b f = ((refl, refl, f.0.2), rw (← skips o e h marks n t (us ++ []) b) at f.1)
 
-past_fine : (s : Scale) {a : ℕ} {b : Option ℕ} {us : List Token} {x y : Bool} {k : ℕ} {ts : List Token} {ns : List Node} → IsPastWindow s.time us a b x y → IsOperand s k ts ns → s.time ≤ 6
-    → Pieces s (us ++ ts) → IsInOrder a b → reach_of_bound a b ≤ 4294967295 → (h : Bool) (marks : List Mark) (n : ℕ) → Fine (st at_operand h marks n) ts → Fine (st (at_bound of_past) h marks n) (us ++ ts)
+past_fine : (s : Scale) {a : ℕ} {b : Option ℕ} {us : List Token} {x y : Bool} {k : ℕ} {ts : List Token} {ns : List Node}
+    → IsPastWindow s.time us a b x y → IsOperand s k ts ns → s.time ≤ 6
+    → Pieces s (us ++ ts) → IsInOrder a b → reach_of_bound a b ≤ 4294967295 → (h : Bool) (marks : List Mark) (n : ℕ)
+    → Fine (st at_operand h marks n) ts → Fine (st (at_bound of_past) h marks n) (us ++ ts)
 unfolding kind
 past_fine s nothing p d c o l h marks n f = fine_left_out of_past refl p h marks n f
 past_fine s {ts = ts} (bounded {a = a} {j} {b} {k} {x} {y} inside inside) p d c o l h marks n f =
-    let z = two_fine s.time a j b k d (c (x ∷ []) (y ∷ ts) (bounds a j b k) refl) o l in ((refl, refl, refl), ((refl, refl, z.0), ((refl, refl, refl), ((refl, z.1, z.2), ((refl, refl, refl), f)))))
+    let z = two_fine s.time a j b k d (c (x ∷ []) (y ∷ ts) (bounds a j b k) refl) o l in
+    ((refl, refl, refl), ((refl, refl, z.0), ((refl, refl, refl), ((refl, z.1, z.2), ((refl, refl, refl), f)))))
 past_fine s {ts = ts} (bounded {a = a} {j} {b} {k} {x} {y} inside outside) p d c o l h marks n f =
-    let z = two_fine s.time a j b k d (c (x ∷ []) (y ∷ ts) (bounds a j b k) refl) o l in ((refl, refl, refl), ((refl, refl, z.0), ((refl, refl, refl), ((refl, z.1, z.2), ((refl, refl, refl), f)))))
+    let z = two_fine s.time a j b k d (c (x ∷ []) (y ∷ ts) (bounds a j b k) refl) o l in
+    ((refl, refl, refl), ((refl, refl, z.0), ((refl, refl, refl), ((refl, z.1, z.2), ((refl, refl, refl), f)))))
 past_fine s {ts = ts} (bounded {a = a} {j} {b} {k} {x} {y} outside inside) p d c o l h marks n f =
-    let z = two_fine s.time a j b k d (c (x ∷ []) (y ∷ ts) (bounds a j b k) refl) o l in ((refl, refl, refl), ((refl, refl, z.0), ((refl, refl, refl), ((refl, z.1, z.2), ((refl, refl, refl), f)))))
+    let z = two_fine s.time a j b k d (c (x ∷ []) (y ∷ ts) (bounds a j b k) refl) o l in
+    ((refl, refl, refl), ((refl, refl, z.0), ((refl, refl, refl), ((refl, z.1, z.2), ((refl, refl, refl), f)))))
 past_fine s {ts = ts} (bounded {a = a} {j} {b} {k} {x} {y} outside outside) p d c o l h marks n f =
-    let z = two_fine s.time a j b k d (c (x ∷ []) (y ∷ ts) (bounds a j b k) refl) o l in ((refl, refl, refl), ((refl, refl, z.0), ((refl, refl, refl), ((refl, z.1, z.2), ((refl, refl, refl), f)))))
+    let z = two_fine s.time a j b k d (c (x ∷ []) (y ∷ ts) (bounds a j b k) refl) o l in
+    ((refl, refl, refl), ((refl, refl, z.0), ((refl, refl, refl), ((refl, z.1, z.2), ((refl, refl, refl), f)))))
 past_fine s {ts = ts} (unbounded {a = a} {j} {x} {y} inside inside) p d c o l h marks n f =
-    let z = bound_fine s.time a j d (c (x ∷ []) (word (codes "inf") ∷ y ∷ ts) (low a j) refl) l in ((refl, refl, refl), ((refl, refl, z), ((refl, refl, refl), ((refl, refl, refl), ((refl, refl, refl), f)))))
+    let z = bound_fine s.time a j d (c (x ∷ []) (word (codes "inf") ∷ y ∷ ts) (low a j) refl) l in
+    ((refl, refl, refl), ((refl, refl, z), ((refl, refl, refl), ((refl, refl, refl), ((refl, refl, refl), f)))))
 past_fine s {ts = ts} (unbounded {a = a} {j} {x} {y} inside outside) p d c o l h marks n f =
-    let z = bound_fine s.time a j d (c (x ∷ []) (word (codes "inf") ∷ y ∷ ts) (low a j) refl) l in ((refl, refl, refl), ((refl, refl, z), ((refl, refl, refl), ((refl, refl, refl), ((refl, refl, refl), f)))))
+    let z = bound_fine s.time a j d (c (x ∷ []) (word (codes "inf") ∷ y ∷ ts) (low a j) refl) l in
+    ((refl, refl, refl), ((refl, refl, z), ((refl, refl, refl), ((refl, refl, refl), ((refl, refl, refl), f)))))
 past_fine s {ts = ts} (unbounded {a = a} {j} {x} {y} outside inside) p d c o l h marks n f =
-    let z = bound_fine s.time a j d (c (x ∷ []) (word (codes "inf") ∷ y ∷ ts) (low a j) refl) l in ((refl, refl, refl), ((refl, refl, z), ((refl, refl, refl), ((refl, refl, refl), ((refl, refl, refl), f)))))
+    let z = bound_fine s.time a j d (c (x ∷ []) (word (codes "inf") ∷ y ∷ ts) (low a j) refl) l in
+    ((refl, refl, refl), ((refl, refl, z), ((refl, refl, refl), ((refl, refl, refl), ((refl, refl, refl), f)))))
 past_fine s {ts = ts} (unbounded {a = a} {j} {x} {y} outside outside) p d c o l h marks n f =
-    let z = bound_fine s.time a j d (c (x ∷ []) (word (codes "inf") ∷ y ∷ ts) (low a j) refl) l in ((refl, refl, refl), ((refl, refl, z), ((refl, refl, refl), ((refl, refl, refl), ((refl, refl, refl), f)))))
+    let z = bound_fine s.time a j d (c (x ∷ []) (word (codes "inf") ∷ y ∷ ts) (low a j) refl) l in
+    ((refl, refl, refl), ((refl, refl, z), ((refl, refl, refl), ((refl, refl, refl), ((refl, refl, refl), f)))))
 
-since_fine : (s : Scale) {a : ℕ} {b : Option ℕ} {us : List Token} {k : ℕ} {ts : List Token} {ns : List Node} → IsPast s.time us a b → IsOperand s k ts ns → s.time ≤ 6
-    → Pieces s (us ++ ts) → IsInOrder a b → reach_of_bound a b ≤ 4294967295 → (h : Bool) (marks : List Mark) (n : ℕ) → Fine (st at_operand h marks n) ts → Fine (st (at_bound of_since) h marks n) (us ++ ts)
+since_fine : (s : Scale) {a : ℕ} {b : Option ℕ} {us : List Token} {k : ℕ} {ts : List Token} {ns : List Node}
+    → IsPast s.time us a b → IsOperand s k ts ns → s.time ≤ 6
+    → Pieces s (us ++ ts) → IsInOrder a b → reach_of_bound a b ≤ 4294967295 → (h : Bool) (marks : List Mark) (n : ℕ)
+    → Fine (st at_operand h marks n) ts → Fine (st (at_bound of_since) h marks n) (us ++ ts)
 unfolding kind
 since_fine s since_nothing p d c o l h marks n f = fine_left_out of_since refl p h marks n f
 since_fine s {ts = ts} (since_bounded {a = a} {j} {b} {k}) p d c o l h marks n f =
-    let z = two_fine s.time a j b k d (c (open_bracket ∷ []) (close_bracket ∷ ts) (bounds a j b k) refl) o l in ((refl, refl, refl), ((refl, refl, z.0), ((refl, refl, refl), ((refl, z.1, z.2), ((refl, refl, refl), f)))))
+    let z = two_fine s.time a j b k d (c (open_bracket ∷ []) (close_bracket ∷ ts) (bounds a j b k) refl) o l in
+    ((refl, refl, refl), ((refl, refl, z.0), ((refl, refl, refl), ((refl, z.1, z.2), ((refl, refl, refl), f)))))
 since_fine s {ts = ts} (since_unbounded {a = a} {j}) p d c o l h marks n f =
-    let z = bound_fine s.time a j d (c (open_bracket ∷ []) (word (codes "inf") ∷ close_bracket ∷ ts) (low a j) refl) l in ((refl, refl, refl), ((refl, refl, z), ((refl, refl, refl), ((refl, refl, refl), ((refl, refl, refl), f)))))
+    let z = bound_fine s.time a j d (c (open_bracket ∷ []) (word (codes "inf") ∷ close_bracket ∷ ts) (low a j) refl) l in
+    ((refl, refl, refl), ((refl, refl, z), ((refl, refl, refl), ((refl, refl, refl), ((refl, refl, refl), f)))))
 
 -- atoms
-term_fine : (s : Scale) {ts : List Token} {k : ℕ} {w : List ℕ} → IsTerm ts k w → k ≤ 16 → Pieces s ts → (j : ℕ) (h : Bool) (marks : List Mark) (n : ℕ) → Fine (st (at_term j) h marks n) ts
+term_fine : (s : Scale) {ts : List Token} {k : ℕ} {w : List ℕ} → IsTerm ts k w → k ≤ 16 → Pieces s ts
+    → (j : ℕ) (h : Bool) (marks : List Mark) (n : ℕ) → Fine (st (at_term j) h marks n) ts
 term_fine s (term_name e) l c j h marks n = ((refl, refl, refl), tt)
 term_fine s (scaled {n = i} {k} {w} e) l c j h marks n =
     ((refl, refl, coefficient_fine i k (c [] (word w ∷ []) (coefficient i k) refl) l), ((refl, refl, refl), ((refl, refl, refl), tt)))
 
-first_fine : (s : Scale) {ts : List Token} {k : ℕ} {w : List ℕ} → IsTerm ts k w → k ≤ 16 → Pieces s ts → (h : Bool) (marks : List Mark) (n : ℕ) → Fine (st at_operand h marks n) ts
+first_fine : (s : Scale) {ts : List Token} {k : ℕ} {w : List ℕ} → IsTerm ts k w → k ≤ 16 → Pieces s ts
+    → (h : Bool) (marks : List Mark) (n : ℕ) → Fine (st at_operand h marks n) ts
 first_fine s (term_name e) l c h marks n = ((refl, refl, refl), tt)
 first_fine s (scaled {n = i} {k} {w} e) l c h marks n =
     ((refl, refl, coefficient_fine i k (c [] (word w ∷ []) (coefficient i k) refl) l), ((refl, refl, refl), ((refl, refl, refl), tt)))
@@ -233,39 +263,47 @@ terms_fine s no_terms j l g c h marks n = tt
 terms_fine s (more_plus {k = k} {w} {ts = ts} {us} {terms} t u) j l g c h marks n =
     let r = pieces_rest s plus (ts ++ us) c in (
       (not_fifth j (length terms) l, refl, refl),
-      fine_then (st (at_term j) h marks n) (st (at_sign (suc j)) h marks n) ts us (term_fine s t (plus_coefficient k w terms g) (pieces_left s ts us r) j h marks n) (term_runs t j h marks n)
+      fine_then (st (at_term j) h marks n) (st (at_sign (suc j)) h marks n) ts us
+          (term_fine s t (plus_coefficient k w terms g) (pieces_left s ts us r) j h marks n) (term_runs t j h marks n)
           (terms_fine s u (suc j) (omega (arith, l)) (All-tail IsTermInLimits (record { coef = pos k; name = w }) terms g) (pieces_right s ts us r) h marks n),
     )
 terms_fine s (more_minus {k = k} {w} {ts = ts} {us} {terms} t u) j l g c h marks n =
     let r = pieces_rest s minus (ts ++ us) c in (
       (not_fifth j (length terms) l, refl, refl),
-      fine_then (st (at_term j) h marks n) (st (at_sign (suc j)) h marks n) ts us (term_fine s t (minus_coefficient k w terms g) (pieces_left s ts us r) j h marks n) (term_runs t j h marks n)
-          (terms_fine s u (suc j) (omega (arith, l)) (All-tail IsTermInLimits (record { coef = neg_ℤ (pos k); name = w }) terms g) (pieces_right s ts us r) h marks n),
+      fine_then (st (at_term j) h marks n) (st (at_sign (suc j)) h marks n) ts us
+          (term_fine s t (minus_coefficient k w terms g) (pieces_left s ts us r) j h marks n) (term_runs t j h marks n)
+          (terms_fine s u (suc j) (omega (arith, l)) (All-tail IsTermInLimits (record { coef = neg_ℤ (pos k); name = w }) terms g)
+          (pieces_right s ts us r) h marks n),
     )
 
-signed_fine : (s : Scale) {us : List Token} {t : Term} {terms : List Term} → AreTerms us (t ∷ terms) → 1 + length terms ≤ 4 → All IsTermInLimits (t ∷ terms) → Pieces s us
+signed_fine : (s : Scale) {us : List Token} {t : Term} {terms : List Term} → AreTerms us (t ∷ terms) → 1 + length terms ≤ 4
+    → All IsTermInLimits (t ∷ terms) → Pieces s us
     → (h : Bool) (marks : List Mark) (n : ℕ) → Fine (st at_operand h marks n) us
 signed_fine s (more_plus {k = k} {w} {ts = ts} {us} {terms} t u) l g c h marks n =
     let r = pieces_rest s plus (ts ++ us) c in (
       (refl, refl, refl),
-      fine_then (st (at_term 0) h marks (suc n)) (st (at_sign 1) h marks (suc n)) ts us (term_fine s t (plus_coefficient k w terms g) (pieces_left s ts us r) 0 h marks (suc n)) (term_runs t 0 h marks (suc n))
+      fine_then (st (at_term 0) h marks (suc n)) (st (at_sign 1) h marks (suc n)) ts us
+          (term_fine s t (plus_coefficient k w terms g) (pieces_left s ts us r) 0 h marks (suc n)) (term_runs t 0 h marks (suc n))
           (terms_fine s u 1 l (All-tail IsTermInLimits (record { coef = pos k; name = w }) terms g) (pieces_right s ts us r) h marks (suc n)),
     )
 signed_fine s (more_minus {k = k} {w} {ts = ts} {us} {terms} t u) l g c h marks n =
     let r = pieces_rest s minus (ts ++ us) c in (
       (refl, refl, refl),
-      fine_then (st (at_term 0) h marks (suc n)) (st (at_sign 1) h marks (suc n)) ts us (term_fine s t (minus_coefficient k w terms g) (pieces_left s ts us r) 0 h marks (suc n)) (term_runs t 0 h marks (suc n))
+      fine_then (st (at_term 0) h marks (suc n)) (st (at_sign 1) h marks (suc n)) ts us
+          (term_fine s t (minus_coefficient k w terms g) (pieces_left s ts us r) 0 h marks (suc n)) (term_runs t 0 h marks (suc n))
           (terms_fine s u 1 l (All-tail IsTermInLimits (record { coef = neg_ℤ (pos k); name = w }) terms g) (pieces_right s ts us r) h marks (suc n)),
     )
 
 constant_fine : (s : Scale) (r : Rel) {vs : List Token} {c : _} → IsConstant s.value vs c → s.value ≤ 6 → nat_abs c ≤ 1073741824 → Pieces s (relation r ∷ vs)
     → (h : Bool) (marks : List Mark) (n : ℕ) → Fine (st at_constant h marks n) vs
 constant_fine s r (plain {n = i} {k}) d l c h marks n = ((refl, refl, limit_fine s.value i k d (c [] [] (after_relation r i k) refl) l), tt)
-constant_fine s r (positive {n = i} {k}) d l c h marks n = ((refl, refl, refl), ((refl, refl, limit_fine s.value i k d (c [] [] (after_plus r i k) refl) l), tt))
+constant_fine s r (positive {n = i} {k}) d l c h marks n =
+    ((refl, refl, refl), ((refl, refl, limit_fine s.value i k d (c [] [] (after_plus r i k) refl) l), tt))
 constant_fine s r (negative {n = i} {k}) d l c h marks n =
     ((refl, refl, refl), ((refl, refl, limit_fine s.value i k d (c [] [] (after_minus r i k) refl) (rw (abs_neg (ticks s.value i k)) at l)), tt))
 
-atom_fine : (s : Scale) {ts : List Token} {a : Atom} → IsAtom s.value ts a → s.value ≤ 6 → IsAtomInLimits a → Pieces s ts → (h : Bool) (marks : List Mark) (n : ℕ) → Fine (st at_operand h marks n) ts
+atom_fine : (s : Scale) {ts : List Token} {a : Atom} → IsAtom s.value ts a → s.value ≤ 6 → IsAtomInLimits a → Pieces s ts
+    → (h : Bool) (marks : List Mark) (n : ℕ) → Fine (st at_operand h marks n) ts
 atom_fine s (first {k = k} {w} {ts = ts} {us} {vs} {terms} {rel = rel} t u v) d g c h marks n =
     let r = terms_run u 1 h marks (suc n) in
     let x = pieces_left s (ts ++ us) (relation rel ∷ vs) c in
@@ -275,7 +313,8 @@ atom_fine s (first {k = k} {w} {ts = ts} {us} {vs} {terms} {rel = rel} t u v) d 
     fine_then (st at_operand h marks n) (st (at_sign r.0) h marks (suc n)) (ts ++ us) (relation rel ∷ vs)
     (fine_then (st at_operand h marks n) (st (at_sign 1) h marks (suc n)) ts us
     (first_fine s t (plus_coefficient k w terms g.terms) (pieces_left s ts us x) h marks n) (first_runs t h marks n)
-    (terms_fine s u 1 (omega (arith, few)) (All-tail IsTermInLimits (record { coef = pos k; name = w }) terms g.terms) (pieces_right s ts us x) h marks (suc n))) e
+    (terms_fine s u 1 (omega (arith, few)) (All-tail IsTermInLimits (record { coef = pos k; name = w }) terms g.terms)
+    (pieces_right s ts us x) h marks (suc n))) e
     ((refl, refl, refl), constant_fine s rel v d g.limit (pieces_right s (ts ++ us) (relation rel ∷ vs) c) h marks (suc n))
 atom_fine s (signed {us = us} {vs} {terms = terms} {rel = rel} {t = t} u v) d g c h marks n =
     let r = signed_runs u h marks n in
@@ -299,17 +338,22 @@ module _ (s : Scale) (time : s.time ≤ 6) (value : s.value ≤ 6) where
     unfolding kind
 
     -- the tokens of a formula are so from its start
-    pub formula_fine : {k : ℕ} {ts : List Token} {ns : List Node} → IsFormula s k ts ns → All IsFit ns → Pieces s ts → (marks : List Mark) (n : ℕ) → Fine (st at_operand false marks n) ts
+    pub formula_fine : {k : ℕ} {ts : List Token} {ns : List Node} → IsFormula s k ts ns → All IsFit ns → Pieces s ts
+        → (marks : List Mark) (n : ℕ) → Fine (st at_operand false marks n) ts
     formula_fine (disjunct d) f c marks n = disjunct_fine d f c marks n
     formula_fine (implies {k = k} {ts = ts} {us} {ns} {ms} d g) f c marks n =
         let r = disjunct_runs d marks n in
         let x = pieces_right s ts (word (codes "implies") ∷ us) c in
         let i = Implies (top k ns) (top (k + length ns) ms) in
         fine_then (st at_operand false marks n) (st at_end r.0 (without_operators marks) (n + length ns)) ts (word (codes "implies") ∷ us)
-        (disjunct_fine d (first_part ns ms i f) (pieces_left s ts (word (codes "implies") ∷ us) c) marks n) r.1
-        ((refl, refl, refl), formula_fine g (second_part ns ms i f) (pieces_rest s (word (codes "implies")) us x) (implication ∷ without_operators marks) (suc (n + length ns)))
+        (disjunct_fine d (first_part ns ms i f) (pieces_left s ts (word (codes "implies") ∷ us) c) marks n) r.1 (
+          (refl, refl, refl),
+          formula_fine g (second_part ns ms i f) (pieces_rest s (word (codes "implies")) us x)
+              (implication ∷ without_operators marks) (suc (n + length ns)),
+        )
 
-    disjunct_fine : {k : ℕ} {ts : List Token} {ns : List Node} → IsDisjunct s k ts ns → All IsFit ns → Pieces s ts → (marks : List Mark) (n : ℕ) → Fine (st at_operand false marks n) ts
+    disjunct_fine : {k : ℕ} {ts : List Token} {ns : List Node} → IsDisjunct s k ts ns → All IsFit ns → Pieces s ts
+        → (marks : List Mark) (n : ℕ) → Fine (st at_operand false marks n) ts
     disjunct_fine (conjunct d) f c marks n = conjunct_fine d f c marks n
     disjunct_fine (or {k = k} {ts = ts} {us} {ns} {ms} d g) f c marks n =
         let r = disjunct_runs d marks n in
@@ -319,7 +363,8 @@ module _ (s : Scale) (time : s.time ≤ 6) (value : s.value ≤ 6) where
         (disjunct_fine d (first_part ns ms i f) (pieces_left s ts (word (codes "or") ∷ us) c) marks n) r.1
         ((refl, refl, refl), conjunct_fine g (second_part ns ms i f) (pieces_rest s (word (codes "or")) us x) (without_operators marks) (suc (n + length ns)))
 
-    conjunct_fine : {k : ℕ} {ts : List Token} {ns : List Node} → IsConjunct s k ts ns → All IsFit ns → Pieces s ts → (marks : List Mark) (n : ℕ) → Fine (st at_operand false marks n) ts
+    conjunct_fine : {k : ℕ} {ts : List Token} {ns : List Node} → IsConjunct s k ts ns → All IsFit ns → Pieces s ts
+        → (marks : List Mark) (n : ℕ) → Fine (st at_operand false marks n) ts
     conjunct_fine (timed d) f c marks n = timed_fine d f c marks n
     conjunct_fine (and {k = k} {ts = ts} {us} {ns} {ms} d g) f c marks n =
         let r = conjunct_runs d marks n in
@@ -329,7 +374,8 @@ module _ (s : Scale) (time : s.time ≤ 6) (value : s.value ≤ 6) where
         (conjunct_fine d (first_part ns ms i f) (pieces_left s ts (word (codes "and") ∷ us) c) marks n) r.1
         ((refl, refl, refl), timed_fine g (second_part ns ms i f) (pieces_rest s (word (codes "and")) us x) (without_operators marks) (suc (n + length ns)))
 
-    timed_fine : {k : ℕ} {ts : List Token} {ns : List Node} → IsTimed s k ts ns → All IsFit ns → Pieces s ts → (marks : List Mark) (n : ℕ) → Fine (st at_operand false marks n) ts
+    timed_fine : {k : ℕ} {ts : List Token} {ns : List Node} → IsTimed s k ts ns → All IsFit ns → Pieces s ts
+        → (marks : List Mark) (n : ℕ) → Fine (st at_operand false marks n) ts
     timed_fine (operand p) f c marks n = operand_fine p f c false marks n
     timed_fine (until {k = k} {a = a} {b} {ts = ts} {us} {vs} {ns} {ms} p w q) f c marks n =
         let c2 = rw (append_assoc ts (word (codes "until") ∷ us) vs) at c in
@@ -359,7 +405,8 @@ module _ (s : Scale) (time : s.time ≤ 6) (value : s.value ≤ 6) where
               (operand_fine q (second_part ns ms i f) (pieces_right s us vs x) true m (suc (n + length ns))),
         ))
 
-    operand_fine : {k : ℕ} {ts : List Token} {ns : List Node} → IsOperand s k ts ns → All IsFit ns → Pieces s ts → (h : Bool) (marks : List Mark) (n : ℕ) → Fine (st at_operand h marks n) ts
+    operand_fine : {k : ℕ} {ts : List Token} {ns : List Node} → IsOperand s k ts ns → All IsFit ns → Pieces s ts
+        → (h : Bool) (marks : List Mark) (n : ℕ) → Fine (st at_operand h marks n) ts
     operand_fine (not {k = k} {ts = ts} {ns} p) f c h marks n =
         ((refl, refl, refl), operand_fine p (all_left IsFit ns (Not (top k ns) ∷ []) f) (pieces_rest s (word (codes "not")) ts c) h (operator ∷ marks) (suc n))
     operand_fine (eventually {k = k} {a} {b} {a_in} {b_in} {ts} {us} {ns} w p) f c h marks n =

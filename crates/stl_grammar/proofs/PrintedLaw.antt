@@ -10,9 +10,14 @@ use Rattle.stl_syntax.specs.declared.node.Node.{Node}
 use Rattle.stl_syntax.specs.declared.node.Node.TheVariants.{Atom as Leaf}
 use Rattle.stl_grammar.specs.Tokens.{Token, word, number, bracket, bracket_end, Lexes, nothing, token, blank as skip}
 use Rattle.stl_grammar.specs.Grammar.{IsFormula}
-use Rattle.stl_grammar.specs.FormulaRefusals.{ahead, MayBegin, MayEnd, opens_bound, begins_future_bound, is_unbounded, expected, makes_node, nodes_made, is_bad_number, RefusedAt, TokenFault, blank, bad_byte, here, later, at_end, IsFormulaFault}
+use Rattle.stl_grammar.specs.FormulaRefusals.{ahead, MayBegin, MayEnd, opens_bound, begins_future_bound, is_unbounded}
+use Rattle.stl_grammar.specs.FormulaRefusals.{expected, makes_node, nodes_made, is_bad_number, RefusedAt, TokenFault}
+use Rattle.stl_grammar.specs.FormulaRefusals.{blank, bad_byte, here, later, at_end, IsFormulaFault}
 use Rattle.stl_grammar.specs.Laws.{IsTooLongOrDeep, PrintedTextsAreFormulas}
-use Rattle.stl_grammar.specs.Machine.{Kind, kind, an_until, a_future, an_inf, Owner, of_until, of_future, looks_back, may_be_open, opens, Place, at_operand, at_bound, at_high, at_term, at_name, at_end as at_whole, State, start, made_operator, begin_word, step, step_at, run, future_at}
+use Rattle.stl_grammar.specs.Machine.{Kind, kind, an_until, a_future, an_inf, Owner, of_until, of_future, looks_back}
+use Rattle.stl_grammar.specs.Machine.{may_be_open, opens, Place, at_operand, at_bound, at_high, at_term, at_name}
+use Rattle.stl_grammar.specs.Machine.{at_end as at_whole, State, start, made_operator, begin_word, step, step_at, run}
+use Rattle.stl_grammar.specs.Machine.{future_at}
 use Rattle.stl_grammar.specs.declared.fault.FormulaFault.{FormulaFault}
 use Rattle.stl_grammar.specs.Building.{is_large}
 use Rattle.stl_grammar.proofs.BuildLemmas.{no_fault}
@@ -65,7 +70,8 @@ begin_ahead s a_future l next f = let y : made_operator (at_bound of_future) s �
 begin_ahead s an_until l next f = absurd (cc)
 begin_ahead s _ l next f = absurd (cc)
 
-end_ahead : (h : Bool) (s : State) (k : Kind) → s.had ≡ h → s.place ≡ at_whole → looks_ahead k ≡ true → (w : List ℕ) → kind w ≡ k → (next : State) → step s (word w) ≡ Some next → IsAtBound next k
+end_ahead : (h : Bool) (s : State) (k : Kind) → s.had ≡ h → s.place ≡ at_whole → looks_ahead k ≡ true → (w : List ℕ) → kind w ≡ k
+    → (next : State) → step s (word w) ≡ Some next → IsAtBound next k
 end_ahead true s an_until h p l w e next f = let x = rw (p, e, h) at f in absurd (cc)
 end_ahead false s an_until h p l w e next f =
     let x = rw (p, e, h) at f in let y : record { place = at_bound of_until; had = true; marks = s.marks; nodes = suc s.nodes } ≡ next = cc in
@@ -73,7 +79,8 @@ end_ahead false s an_until h p l w e next f =
 end_ahead h s a_future q p l w e next f = let x = rw (p, e) at f in absurd (cc)
 end_ahead h s _ q p l w e next f = absurd (cc)
 
-bound_ahead : (b : Bool) (o : Owner) (s : State) (k : Kind) → looks_back o ≡ b → looks_ahead k ≡ true → (w : List ℕ) → kind w ≡ k → (next : State) → step_at (at_bound o) s (word w) ≡ Some next
+bound_ahead : (b : Bool) (o : Owner) (s : State) (k : Kind) → looks_back o ≡ b → looks_ahead k ≡ true → (w : List ℕ) → kind w ≡ k
+    → (next : State) → step_at (at_bound o) s (word w) ≡ Some next
     → IsAtBound next k
 bound_ahead true o s k b l w e next f = let x = rw (b, e) at f in begin_ahead s k l next x
 bound_ahead false o s k b l w e next f = let x = rw b at f in absurd (cc)
@@ -83,12 +90,14 @@ no_name n s an_until l w e next f = let x = rw e at f in cc
 no_name n s a_future l w e next f = let x = rw e at f in cc
 no_name n s _ l w e next f = cc
 
-no_inf : (o : Owner) (a j : ℕ) (s : State) (k : Kind) → looks_ahead k ≡ true → (w : List ℕ) → kind w ≡ k → (next : State) → step_at (at_high o a j) s (word w) ≡ Some next → ⊥
+no_inf : (o : Owner) (a j : ℕ) (s : State) (k : Kind) → looks_ahead k ≡ true → (w : List ℕ) → kind w ≡ k → (next : State)
+    → step_at (at_high o a j) s (word w) ≡ Some next → ⊥
 no_inf o a j s an_until l w e next f = let x = rw e at f in cc
 no_inf o a j s a_future l w e next f = let x = rw e at f in cc
 no_inf o a j s _ l w e next f = cc
 
-step_ahead : (p : Place) (s : State) (k : Kind) → s.place ≡ p → looks_ahead k ≡ true → (w : List ℕ) → kind w ≡ k → (next : State) → step_at p s (word w) ≡ Some next → IsAtBound next k
+step_ahead : (p : Place) (s : State) (k : Kind) → s.place ≡ p → looks_ahead k ≡ true → (w : List ℕ) → kind w ≡ k → (next : State)
+    → step_at p s (word w) ≡ Some next → IsAtBound next k
 step_ahead at_operand s k p l w e next f = begin_ahead s k l next (rw e at f)
 step_ahead (at_bound o) s k p l w e next f = bound_ahead (looks_back o) o s k refl l w e next f
 step_ahead (at_high o a j) s k p l w e next f = absurd (no_inf o a j s k l w e next f)
@@ -131,7 +140,8 @@ kind_inf an_inf e = refl
 kind_inf _ e = absurd (cc)
 
 -- the operator that looks ahead has its bound
-ahead_opens : (before : List Token) (s : State) → run before ≡ Some s → (w : List ℕ) {text : List ℕ} {ts : List Token} → Lexes text ts → Goes before (word w ∷ ts) → is_among w ahead ≡ true
+ahead_opens : (before : List Token) (s : State) → run before ≡ Some s → (w : List ℕ) {text : List ℕ} {ts : List Token}
+    → Lexes text ts → Goes before (word w ∷ ts) → is_among w ahead ≡ true
     → opens_bound w text ≡ true
 ahead_opens before s e w {text} {ts} l g a = by_step (step s (word w)) refl
   where
@@ -141,27 +151,32 @@ ahead_opens before s e w {text} {ts} l g a = by_step (step s (word w)) refl
     not_until : (o : Owner) → (may_be_open o ≡ true → kind w ≡ a_future) → may_be_open o ≡ true → is_among w (codes "until" ∷ []) ≡ false
     not_until o f m = among_until w ∙ rw (f m) refl
 
-    by_next : (next : State) → step s (word w) ≡ Some next → IsAtBound next (kind w) → (us : List Token) → Lexes text us → Goes (word w ∷ before) us → opens_bound w text ≡ true
+    by_next : (next : State) → step s (word w) ≡ Some next → IsAtBound next (kind w) → (us : List Token) → Lexes text us
+        → Goes (word w ∷ before) us → opens_bound w text ≡ true
     by_next next f b [] l h = absurd (run_goes_on (word w ∷ before) next (step_runs before s (word w) e ∙ f) (rw b.1 refl) (may_end (word w ∷ before) h))
     by_next next f b (u ∷ us) l h = by_bracket (opens b.0 u) refl
       where
         by_bracket : (c : Bool) → opens b.0 u ≡ c → opens_bound w text ≡ true
         by_bracket true o = opens_lexed w l b.0 o (not_until b.0 b.3)
         by_bracket false o =
-            absurd (step_stops (word w ∷ before) next u (step_runs before s (word w) e ∙ f) (bound_stops next b.0 u b.1 o b.2) (may_begin (u ∷ word w ∷ before) us (goes_on (word w ∷ before) u us h)))
+            absurd (step_stops (word w ∷ before) next u (step_runs before s (word w) e ∙ f) (bound_stops next b.0 u b.1 o b.2)
+            (may_begin (u ∷ word w ∷ before) us (goes_on (word w ∷ before) u us h)))
 
     by_step : (o : Option State) → step s (word w) ≡ o → opens_bound w text ≡ true
     by_step None f = absurd (step_stops before s (word w) e f (may_begin (word w ∷ before) ts (goes_on before (word w) ts g)))
     by_step (Some next) f = by_next next f (step_ahead s.place s (kind w) refl k w refl next f) ts l (goes_on before (word w) ts g)
 
-not_unbounded : (before : List Token) (s : State) → run before ≡ Some s → (t : Token) {text : List ℕ} {ts : List Token} → Lexes text ts → Goes before (t ∷ ts) → is_unbounded before t text ≡ true → ⊥
-not_unbounded before s e (word w) {text} {ts} l g h = by_way (both_ways (is_among w ahead) (opens_bound w text) (is_among w (codes "inf" ∷ [])) (begins_future_bound before) h)
+not_unbounded : (before : List Token) (s : State) → run before ≡ Some s → (t : Token) {text : List ℕ} {ts : List Token}
+    → Lexes text ts → Goes before (t ∷ ts) → is_unbounded before t text ≡ true → ⊥
+not_unbounded before s e (word w) {text} {ts} l g h =
+    by_way (both_ways (is_among w ahead) (opens_bound w text) (is_among w (codes "inf" ∷ [])) (begins_future_bound before) h)
   where
     by_way : ((is_among w ahead ≡ true) × (opens_bound w text ≡ false)) ⊎ ((is_among w (codes "inf" ∷ []) ≡ true) × (begins_future_bound before ≡ true)) → ⊥
     by_way (inl (a, b)) = let x = ahead_opens before s e w l g a in cc
     by_way (inr (a, b)) =
         let k = kind_inf (kind w) (sym (among_inf w) ∙ a) in
-        step_stops before s (word w) e (inf_stops s.place s w k (sym (run_future before s e) ∙ b)) (may_begin (word w ∷ before) ts (goes_on before (word w) ts g))
+        step_stops before s (word w) e (inf_stops s.place s w k (sym (run_future before s e) ∙ b))
+        (may_begin (word w ∷ before) ts (goes_on before (word w) ts g))
 not_unbounded before s e t l g h = absurd (cc)
 
 bad_same : (before : List Token) (t : Token) → is_bad_number before t ≡ bad_of (expected before) t
@@ -169,7 +184,8 @@ bad_same before (number n k) = refl
 bad_same before t = refl
 
 -- a token of the formula is refused only as too deep
-refused_deep : (before : List Token) (t : Token) {text : List ℕ} {ts : List Token} (p : ℕ) (r : FormulaFault) → Lexes text ts → Goes before (t ∷ ts) → nodes_made (t ∷ before) ≤ 256
+refused_deep : (before : List Token) (t : Token) {text : List ℕ} {ts : List Token} (p : ℕ) (r : FormulaFault) → Lexes text ts
+    → Goes before (t ∷ ts) → nodes_made (t ∷ before) ≤ 256
     → FineAt (run before) t → RefusedAt before t text p r → IsTooLongOrDeep r
 refused_deep before t {text} {ts} p r l g few fine x = by_fault (state_after before (t ∷ ts) g) x
   where
@@ -186,7 +202,8 @@ refused_deep before t {text} {ts} p r l g few fine x = by_fault (state_after bef
         let f = rw e at fine in let z : false ≡ true = sym f.1 ∙ (sym (run_disorder before s e t) ∙ a) in absurd (cc)
 
 -- and so is the text
-only_deep : {text : List ℕ} {ts : List Token} → Lexes text ts → (before : List Token) (p : ℕ) (r : FormulaFault) → Goes before ts → nodes_made (reverse ts ++ before) ≤ 256 → Fine (run before) ts
+only_deep : {text : List ℕ} {ts : List Token} → Lexes text ts → (before : List Token) (p : ℕ) (r : FormulaFault) → Goes before ts
+    → nodes_made (reverse ts ++ before) ≤ 256 → Fine (run before) ts
     → TokenFault before p text r → IsTooLongOrDeep r
 only_deep nothing before p r g few fine (at_end n) = absurd (n (may_end before g))
 only_deep nothing before p r g few fine (here t bytes rest e k x) = absurd (no_token_at_end bytes rest t e k)
@@ -245,7 +262,8 @@ printed_texts_are_formulas f text r w least h fault =
     let few : nodes_made (reverse ts ++ []) ≤ 256 = rw append-nil (omega (arith, made, some)) in
     by_fault ts l d fine few fault
   where
-    by_fault : (ts : List Token) → Lexes text ts → IsFormula f.scale 0 ts f.nodes → Fine (Some start) ts → nodes_made (reverse ts ++ []) ≤ 256 → IsFormulaFault text r → IsTooLongOrDeep r
+    by_fault : (ts : List Token) → Lexes text ts → IsFormula f.scale 0 ts f.nodes → Fine (Some start) ts
+        → nodes_made (reverse ts ++ []) ≤ 256 → IsFormulaFault text r → IsTooLongOrDeep r
     by_fault ts l d fine few (inl (a, e)) = inl (length text, e)
     by_fault ts l d fine few (inr (_, inl (a, e))) = absurd (some_tokens ts (rescaled d (record { time = 0; value = 0 })) (blank_tokens l a))
     by_fault ts l d fine few (inr (_, inr (_, inl x))) = only_deep l [] 0 r (rescaled d (record { time = 0; value = 0 })) few fine x

@@ -1,5 +1,6 @@
 -- The tokens of printed pieces of text, whatever text follows them.
-use Rattle.std.proofs.Common.{◌≡◌, ℕ, suc, ◌+◌, ◌-◌, ◌*◌, ◌^◌, ◌/◌, ◌%◌, ◌<◌, ◌≤◌, List, [], ◌∷◌, ◌++◌, length, refl, ap, sym, ◌∙◌, Bool, true, false, ◌||◌, ◌&&◌, inl, inr, ◌⊎◌, arith, append_assoc, lit<, pow-add}
+use Rattle.std.proofs.Common.{◌≡◌, ℕ, suc, ◌+◌, ◌-◌, ◌*◌, ◌^◌, ◌/◌, ◌%◌, ◌<◌, ◌≤◌, List, [], ◌∷◌, ◌++◌, length, refl, ap}
+use Rattle.std.proofs.Common.{sym, ◌∙◌, Bool, true, false, ◌||◌, ◌&&◌, inl, inr, ◌⊎◌, arith, append_assoc, lit<, pow-add}
 use Rattle.std.specs.Prelude.{codes, decimal, ◌==◌, not, IsTrue}
 use Rattle.std.proofs.Math.Nat.{one-le-pow, pow-suc, eq_of_mul-eq-mul_right, mul-le-mul_right, mul-le-mul_left, le_of_mul-le-mul_right}
 use Rattle.std.proofs.lemmas.List.{append-nil}
@@ -13,7 +14,10 @@ use Rattle.stl_syntax.specs.declared.rel.Rel.{Rel}
 use Rattle.stl_syntax.specs.declared.rel.Rel.TheVariants.{AtLeast, Above, AtMost, Below}
 use Rattle.stl_syntax.proofs.PrintLaw.{longer}
 use Rattle.stl_syntax.proofs.DecimalLemmas.{decimal_value-push, decimal_value-append}
-use Rattle.stl_grammar.specs.Tokens.{Token, word, number, relation, open_paren, close_paren, open_bracket, close_bracket, comma, star, plus, minus, a_word, an_integer, a_decimal, at_least, at_most, above, below, paren, paren_end, bracket, bracket_end, a_comma, a_star, a_plus, a_minus, Lexes, nothing, token, blank}
+use Rattle.stl_grammar.specs.Tokens.{Token, word, number, relation, open_paren, close_paren, open_bracket}
+use Rattle.stl_grammar.specs.Tokens.{close_bracket, comma, star, plus, minus, a_word, an_integer, a_decimal}
+use Rattle.stl_grammar.specs.Tokens.{at_least, at_most, above, below, paren, paren_end, bracket, bracket_end}
+use Rattle.stl_grammar.specs.Tokens.{a_comma, a_star, a_plus, a_minus, Lexes, nothing, token, blank}
 
 -- the text goes on no word, number or relation before it
 abbrev pub Separates : List ℕ → Type 0
@@ -103,7 +107,8 @@ integer_lexed : (c : ℕ) (digits : List ℕ) → all is_digit (c ∷ digits) �
 integer_lexed c digits a z us s l = token (c ∷ digits) z refl (an_integer a (stops_digit z s) (no_decimals z s)) l
 
 decimals_lexed : (c : ℕ) (digits : List ℕ) (d : ℕ) (decimals : List ℕ) → all is_digit (c ∷ digits) ≡ true → all is_digit (d ∷ decimals) ≡ true
-    → Lexed (c ∷ digits ++ 46 ∷ d ∷ decimals) (number (decimal_value 0 (c ∷ digits ++ without_zeros (d ∷ decimals))) (length (without_zeros (d ∷ decimals))) ∷ [])
+    → Lexed (c ∷ digits ++ 46 ∷ d ∷ decimals)
+    (number (decimal_value 0 (c ∷ digits ++ without_zeros (d ∷ decimals))) (length (without_zeros (d ∷ decimals))) ∷ [])
 decimals_lexed c digits d decimals a b z us s l = token (c ∷ digits ++ 46 ∷ d ∷ decimals) z refl (a_decimal c digits d decimals a b (stops_digit z s)) l
 
 -- a blank
@@ -263,16 +268,24 @@ number_at digits n text h w (d ∷ ds) e =
     let f : without_zeros (d ∷ ds) ≡ h.decimals = ap (λ z. without_zeros z) (sym e) ∙ h.fewest in
     let t : text ≡ w.first ∷ w.rest ++ 46 ∷ d ∷ ds = h.is ∙ (ap (λ z. decimal h.whole ++ after_point z) e ∙ ap (λ z. z ++ 46 ∷ d ∷ ds) w.is) in
     let v : decimal_value 0 (w.first ∷ w.rest ++ without_zeros (d ∷ ds)) ≡ decimal_value h.whole h.decimals =
-    ap (λ z. decimal_value 0 (w.first ∷ w.rest ++ z)) f ∙ (decimal_value-append 0 (w.first ∷ w.rest) h.decimals ∙ ap (λ z. decimal_value z h.decimals) w.value) in
+    ap (λ z. decimal_value 0 (w.first ∷ w.rest ++ z)) f
+    ∙ (decimal_value-append 0 (w.first ∷ w.rest) h.decimals ∙ ap (λ z. decimal_value z h.decimals) w.value) in
     let k : length (without_zeros (d ∷ ds)) ≡ length h.decimals = ap (λ z. length z) f in
     rw t (rw (v, k) at (decimals_lexed w.first w.rest d ds w.digits a))
 
 -- a number with decimals
 pub number_text : (digits n : ℕ) (text : List ℕ) → n < 2 ^ 64 → IsDecimalText digits n text → NumberOf digits n text
 number_text digits n text l h =
-    let q : h.whole ≤ n = whole_least n h.whole (decimal_value h.whole h.decimals) (10 ^ digits) (10 ^ length h.decimals) (some_power digits) (some_power (length h.decimals)) h.same
+    let q : h.whole ≤ n = whole_least n h.whole (decimal_value h.whole h.decimals) (10 ^ digits) (10 ^ length h.decimals)
+    (some_power digits) (some_power (length h.decimals)) h.same
     (value_least h.whole h.decimals) in
     let w = whole_is h.whole (omega (arith, q)) in
     let m = few_decimals digits n text h in
-    let e = shorter n (decimal_value h.whole h.decimals) digits (length h.decimals) m h.same in
-    (decimal_value h.whole h.decimals, length h.decimals, number_at digits n text h w h.decimals refl, e, m, full_or n (decimal_value h.whole h.decimals) digits (length h.decimals) m e)
+    let e = shorter n (decimal_value h.whole h.decimals) digits (length h.decimals) m h.same in (
+      decimal_value h.whole h.decimals,
+      length h.decimals,
+      number_at digits n text h w h.decimals refl,
+      e,
+      m,
+      full_or n (decimal_value h.whole h.decimals) digits (length h.decimals) m e,
+    )

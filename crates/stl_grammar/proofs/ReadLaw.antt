@@ -1,9 +1,12 @@
 -- The reading of a text, token by token.
-use Rattle.std.proofs.Common.{◌≡◌, ℕ, suc, ◌+◌, ◌-◌, ◌<◌, ◌≤◌, List, [], ◌∷◌, ◌++◌, length, drop, get_or, reverse, map, refl, sym, ap, ◌∙◌, subst, true, false, arith, inl, inr, append_assoc}
+use Rattle.std.proofs.Common.{◌≡◌, ℕ, suc, ◌+◌, ◌-◌, ◌<◌, ◌≤◌, List, [], ◌∷◌, ◌++◌, length, drop, get_or, reverse}
+use Rattle.std.proofs.Common.{map, refl, sym, ap, ◌∙◌, subst, true, false, arith, inl, inr, append_assoc}
 use Rattle.std.specs.Prelude.{Option, Some, None}
 use Rattle.std.proofs.lemmas.List.{drop_more, drop-drop, drop_at, length-append, length-drop, drop_all, append-nil, reverse-append, map-append}
 use Rattle.stl_syntax.specs.Characters.{is_blank}
-use Rattle.stl_grammar.specs.Tokens.{Token, IsToken, a_word, an_integer, a_decimal, at_least, at_most, above, below, paren, paren_end, bracket, bracket_end, a_comma, a_star, a_plus, a_minus, Lexes, nothing, token, blank as skip}
+use Rattle.stl_grammar.specs.Tokens.{Token, IsToken, a_word, an_integer, a_decimal, at_least, at_most}
+use Rattle.stl_grammar.specs.Tokens.{above, below, paren, paren_end, bracket, bracket_end, a_comma}
+use Rattle.stl_grammar.specs.Tokens.{a_star, a_plus, a_minus, Lexes, nothing, token, blank as skip}
 use Rattle.stl_grammar.specs.FormulaRefusals.{TokenFault, blank, bad_byte, here, later, at_end, BeginsNoToken, MayEnd, RefusedAt, expected}
 use Rattle.stl_grammar.specs.Machine.{run, ends_at}
 use Rattle.stl_grammar.specs.Parsing.{Parse, parse_step}
@@ -19,7 +22,9 @@ use Rattle.stl_grammar.proofs.MachineView.{run_expected}
 use Rattle.stl_grammar.proofs.RefusalLaw.{token-unique, no_token_at_blank, no_token_at_end}
 use Rattle.stl_grammar.specs.declared.token.Token.{Token as Code}
 use Rattle.stl_grammar.specs.declared.place.Place.{Place}
-use Rattle.stl_grammar.specs.declared.place.Place.TheVariants.{Operand, Bound, Low, Comma as AtComma, High, Closing, ClosingInf, Term as AtTerm, Star as AtStar, Name as AtName, Sign, Constant, Number as AtNumber, End}
+use Rattle.stl_grammar.specs.declared.place.Place.TheVariants.{Operand, Bound, Low, Comma as AtComma, High, Closing}
+use Rattle.stl_grammar.specs.declared.place.Place.TheVariants.{ClosingInf, Term as AtTerm, Star as AtStar, Name as AtName}
+use Rattle.stl_grammar.specs.declared.place.Place.TheVariants.{Sign, Constant, Number as AtNumber, End}
 use Rattle.stl_grammar.specs.declared.fault.FormulaFault.{FormulaFault}
 use Rattle.stl_grammar.specs.declared.fault.FormulaFault.TheVariants.{Expected, BadByte}
 
@@ -62,7 +67,8 @@ read_nothing text = record {
 }
 
 -- the refusal after a blank, and after a token
-after_blank : {before : List Token} {p c : ℕ} {text : List ℕ} {r : FormulaFault} → is_blank c ≡ true → TokenFault before p (c ∷ text) r → TokenFault before (suc p) text r
+after_blank : {before : List Token} {p c : ℕ} {text : List ℕ} {r : FormulaFault} → is_blank c ≡ true
+    → TokenFault before p (c ∷ text) r → TokenFault before (suc p) text r
 after_blank b (blank b' h) = h
 after_blank b (bad_byte c n) = absurd (cc)
 after_blank {c = c} {text} b (here t bytes rest e k x) = absurd (no_token_at_blank c text bytes rest t b e k)
@@ -105,13 +111,15 @@ some_bytes a_minus = omega arith
 pub advances_some : (text : List ℕ) (at to : ℕ) (p q : Parse) (codes others : List Code) → Advances text at to p q codes others → at < to
 advances_some text at to p q codes others f = omega (arith, f.place, f.lexeme.size, some_bytes f.lexeme.reads)
 
-add_blank : {before : List Token} {p q c : ℕ} {text : List ℕ} {r : FormulaFault} → is_blank c ≡ true → suc p ≡ q → TokenFault before q text r → TokenFault before p (c ∷ text) r
+add_blank : {before : List Token} {p q c : ℕ} {text : List ℕ} {r : FormulaFault} → is_blank c ≡ true → suc p ≡ q
+    → TokenFault before q text r → TokenFault before p (c ∷ text) r
 add_blank {before} {p} {q} {c} {text} {r} b e f = blank {before = before} {p = p} {c = c} {text = text} {r = r} b (rw e f)
 
 moved_fault : {before : List Token} {a b : ℕ} {xs ys : List ℕ} {r : FormulaFault} → a ≡ b → ys ≡ xs → TokenFault before a ys r → TokenFault before b xs r
 moved_fault {before} {a} {b} {xs} {ys} {r} e f g = subst (λ n. TokenFault before n xs r) e (subst (λ zs. TokenFault before a zs r) f g)
 
-ends_same : (place : Place) (p : Parse) → p.place ≡ place → ends_at (state_of p).place (state_of p).marks ≡ ends_at (place_at p.place (length p.terms)) (marks_of p.frames)
+ends_same : (place : Place) (p : Parse) → p.place ≡ place
+    → ends_at (state_of p).place (state_of p).marks ≡ ends_at (place_at p.place (length p.terms)) (marks_of p.frames)
 ends_same Operand p e = rw e refl
 ends_same (Bound of) p e = rw e refl
 ends_same (Low of i) p e = rw e refl
@@ -174,7 +182,8 @@ module _ (text : List ℕ) (at : ℕ) (p : Parse) (codes : List Code) (h : HasRe
       let x = f.lexeme in
       let rest : drop (at + f.len) text ≡ x.after = rest_after x.bytes x.after f.len x.splits x.size in
       let e : refused text p f.code x.after at ≡ None = rw rest at f.free in
-      let k : IsTaken text x.after h.before p f.code x.token at h.runs h.fit x.tells q = taken text x.after h.before p f.code x.token at h.runs h.fit x.tells q e f.step in
+      let k : IsTaken text x.after h.before p f.code x.token at h.runs h.fit x.tells q =
+      taken text x.after h.before p f.code x.token at h.runs h.fit x.tells q e f.step in
       let end : at + length x.bytes ≡ to = ap (λ n. at + n) x.size ∙ sym f.place in
       let after : drop to text ≡ x.after = ap (λ n. drop n text) f.place ∙ rest in
       let long : length text - at ≡ length x.bytes + length x.after = sym (length-drop at text) ∙ (ap length x.splits ∙ length-append x.bytes x.after) in
@@ -223,7 +232,8 @@ module _ (text : List ℕ) (at : ℕ) (p : Parse) (codes : List Code) (h : HasRe
       }
 
   -- a text that ends too early lacks what is expected
-  pub read_part : length text ≤ at → ends_at (place_at p.place (length p.terms)) (marks_of p.frames) ≡ false → TokenFault [] 0 text (Expected (length text) (expected_in p))
+  pub read_part : length text ≤ at → ends_at (place_at p.place (length p.terms)) (marks_of p.frames) ≡ false
+      → TokenFault [] 0 text (Expected (length text) (expected_in p))
   read_part l e =
       let none_left : drop at text ≡ [] = drop_all at text l in
       let place : at ≡ length text = omega (arith, h.within) in

@@ -1,5 +1,6 @@
 -- The nodes of a text that is not refused: their bounds are in order, and their atoms have few terms.
-use Rattle.std.proofs.Common.{◌≡◌, ℕ, suc, ◌+◌, ◌-◌, ◌*◌, ◌^◌, ◌<◌, ◌≤◌, List, [], ◌∷◌, ◌++◌, length, refl, ap, sym, ◌∙◌, Bool, true, false, arith, append_assoc, lit<}
+use Rattle.std.proofs.Common.{◌≡◌, ℕ, suc, ◌+◌, ◌-◌, ◌*◌, ◌^◌, ◌<◌, ◌≤◌, List, [], ◌∷◌, ◌++◌, length}
+use Rattle.std.proofs.Common.{refl, ap, sym, ◌∙◌, Bool, true, false, arith, append_assoc, lit<}
 use Rattle.std.specs.Prelude.{codes, reverse, nat_lt, Option, Some, None, All, ◌==◌}
 use Rattle.std.proofs.lemmas.List.{append-nil, reverse-append, reverse-reverse}
 use Rattle.std.proofs.Math.Nat.{mul-le-mul_right, le_of_mul-le-mul_right, mul-pos, one-le-pow}
@@ -20,13 +21,19 @@ use Rattle.stl_grammar.specs.Grammar.{AreTerms, more_plus, more_minus, IsAtom, f
 use Rattle.stl_grammar.specs.Grammar.{none as no_terms}
 use Rattle.stl_grammar.specs.Grammar.{IsFutureWindow, bound, IsPastWindow, nothing, bounded, unbounded, IsFuture, IsPast}
 use Rattle.stl_grammar.specs.Grammar.IsPast.{nothing as since_nothing, bounded as since_bounded, unbounded as since_unbounded}
-use Rattle.stl_grammar.specs.Grammar.{IsFormula, IsDisjunct, IsConjunct, IsTimed, IsOperand, disjunct, implies, conjunct, or, timed, and, operand, until, since, not, eventually, always, once, historically, always_true, always_false, parens, atom}
+use Rattle.stl_grammar.specs.Grammar.{IsFormula, IsDisjunct, IsConjunct, IsTimed, IsOperand, disjunct, implies}
+use Rattle.stl_grammar.specs.Grammar.{conjunct, or, timed, and, operand, until, since, not, eventually, always}
+use Rattle.stl_grammar.specs.Grammar.{once, historically, always_true, always_false, parens, atom}
 use Rattle.stl_grammar.specs.FormulaRefusals.{TokenFault, nodes_made}
 use Rattle.stl_grammar.specs.Building.{HasFewTerms, AreNodes}
-use Rattle.stl_grammar.specs.Machine.{Kind, kind, a_constant, a_negation, a_join, an_implication, an_until, a_since, a_future, a_past, an_inf, a_name, Owner, of_until, of_since, of_future, of_past, looks_back, Place, at_operand, at_bound, at_term, at_sign, at_end, Mark, paren, operator, implication, State, start, without_operators, begin_word, step_from, run, fifth_at, disorder_at}
+use Rattle.stl_grammar.specs.Machine.{Kind, kind, a_constant, a_negation, a_join, an_implication, an_until, a_since, a_future}
+use Rattle.stl_grammar.specs.Machine.{a_past, an_inf, a_name, Owner, of_until, of_since, of_future, of_past, looks_back, Place}
+use Rattle.stl_grammar.specs.Machine.{at_operand, at_bound, at_term, at_sign, at_end, Mark, paren, operator, implication}
+use Rattle.stl_grammar.specs.Machine.{State, start, without_operators, begin_word, step_from, run, fifth_at, disorder_at}
 use Rattle.stl_grammar.specs.declared.fault.FormulaFault.{FormulaFault}
 use Rattle.stl_grammar.proofs.OneParse.{begins_bracket, operand_bracket, operand_length}
-use Rattle.stl_grammar.proofs.MachineRuns.{go, go_append, st, run_go, term_runs, first_runs, window_runs, until_runs, formula_runs, disjunct_runs, conjunct_runs, operand_runs}
+use Rattle.stl_grammar.proofs.MachineRuns.{go, go_append, st, run_go, term_runs, first_runs, window_runs}
+use Rattle.stl_grammar.proofs.MachineRuns.{until_runs, formula_runs, disjunct_runs, conjunct_runs, operand_runs}
 use Rattle.stl_grammar.proofs.MachineView.{run_fifth, run_disorder, run_nodes}
 use Rattle.stl_grammar.proofs.TokensTaken.{AreFree, tokens_free}
 
@@ -90,12 +97,14 @@ covers_left : (digits : ℕ) (ts us : List Token) → Covers digits (ts ++ us) �
 covers_left digits ts us h pre post a j b k e = h pre (post ++ us) a j b k (ap (λ z. z ++ us) e ∙ append_assoc pre (number a j ∷ comma ∷ number b k ∷ post) us)
 
 covers_right : (digits : ℕ) (ts us : List Token) → Covers digits (ts ++ us) → Covers digits us
-covers_right digits ts us h pre post a j b k e = h (ts ++ pre) post a j b k (ap (λ z. ts ++ z) e ∙ sym (append_assoc ts pre (number a j ∷ comma ∷ number b k ∷ post)))
+covers_right digits ts us h pre post a j b k e =
+    h (ts ++ pre) post a j b k (ap (λ z. ts ++ z) e ∙ sym (append_assoc ts pre (number a j ∷ comma ∷ number b k ∷ post)))
 
 covers_rest : (digits : ℕ) (t : Token) (ts : List Token) → Covers digits (t ∷ ts) → Covers digits ts
 covers_rest digits t ts h = covers_right digits (t ∷ []) ts h
 
-time_covers : (pre post : List Token) (a j b k : ℕ) → (j ≤ time_digits (pre ++ number a j ∷ comma ∷ number b k ∷ post)) × (k ≤ time_digits (pre ++ number a j ∷ comma ∷ number b k ∷ post))
+time_covers : (pre post : List Token) (a j b k : ℕ) → (j ≤ time_digits (pre ++ number a j ∷ comma ∷ number b k ∷ post))
+    × (k ≤ time_digits (pre ++ number a j ∷ comma ∷ number b k ∷ post))
 time_covers [] post a j b k = (omega arith, omega arith)
 time_covers (number n i ∷ pre) post a j b k = let x = time_covers pre post a j b k in (omega (arith, x.0), omega (arith, x.1))
 time_covers (word w ∷ pre) post a j b k = time_covers pre post a j b k
@@ -165,7 +174,8 @@ skips o e h marks n open_bracket ts f = absurd (cc)
 skips o e h marks n close_bracket ts f = absurd (cc)
 skips o e h marks n _ ts f = rw e refl
 
-fine_skips : {s : Scale} {k : ℕ} {ts : List Token} {ns : List Node} (o : Owner) → looks_back o ≡ true → IsOperand s k ts ns → (h : Bool) (marks : List Mark) (n : ℕ)
+fine_skips : {s : Scale} {k : ℕ} {ts : List Token} {ns : List Node} (o : Owner) → looks_back o ≡ true → IsOperand s k ts ns
+    → (h : Bool) (marks : List Mark) (n : ℕ)
     → Fine (st (at_bound o) h marks n) ts → Fine (st at_operand h marks n) ts
 fine_skips {ts = ts} o e p h marks n f = by_tokens ts (operand_length p) (operand_bracket [] p) f
   where
@@ -177,8 +187,10 @@ fine_skips {ts = ts} o e p h marks n f = by_tokens ts (operand_length p) (operan
 abbrev PastFine : ℕ → Option ℕ → Bool → Bool → List Mark → ℕ → List Token → Type 0
 PastFine a b y h marks n ts = (IsInOrder a b × IsInWhereInfinite b y) × Fine (st at_operand h marks n) ts
 
-past_order : {digits a : ℕ} {b : Option ℕ} {us : List Token} {x y : Bool} {s : Scale} {k : ℕ} {ts : List Token} {ns : List Node} → IsPastWindow digits us a b x y
-    → IsOperand s k ts ns → (h : Bool) (marks : List Mark) (n : ℕ) → Fine (st (at_bound of_past) h marks n) (us ++ ts) → Covers digits us → PastFine a b y h marks n ts
+past_order : {digits a : ℕ} {b : Option ℕ} {us : List Token} {x y : Bool} {s : Scale} {k : ℕ} {ts : List Token} {ns : List Node}
+    → IsPastWindow digits us a b x y
+    → IsOperand s k ts ns → (h : Bool) (marks : List Mark) (n : ℕ) → Fine (st (at_bound of_past) h marks n) (us ++ ts)
+    → Covers digits us → PastFine a b y h marks n ts
 unfolding kind
 past_order nothing p h marks n f c = ((tt, refl), fine_skips of_past refl p h marks n f)
 past_order {digits} (bounded {a = a} {j} {b} {k} {x} {y} inside inside) p h marks n f c =
@@ -194,8 +206,10 @@ past_order (unbounded inside outside) p h marks n f c = ((tt, refl), f.1.1.1.1.1
 past_order (unbounded outside inside) p h marks n f c = ((tt, refl), f.1.1.1.1.1)
 past_order (unbounded outside outside) p h marks n f c = ((tt, refl), f.1.1.1.1.1)
 
-since_order : {digits a : ℕ} {b : Option ℕ} {us : List Token} {s : Scale} {k : ℕ} {ts : List Token} {ns : List Node} → IsPast digits us a b → IsOperand s k ts ns
-    → (h : Bool) (marks : List Mark) (n : ℕ) → Fine (st (at_bound of_since) h marks n) (us ++ ts) → Covers digits us → IsInOrder a b × Fine (st at_operand h marks n) ts
+since_order : {digits a : ℕ} {b : Option ℕ} {us : List Token} {s : Scale} {k : ℕ} {ts : List Token} {ns : List Node}
+    → IsPast digits us a b → IsOperand s k ts ns
+    → (h : Bool) (marks : List Mark) (n : ℕ) → Fine (st (at_bound of_since) h marks n) (us ++ ts) → Covers digits us
+    → IsInOrder a b × Fine (st at_operand h marks n) ts
 unfolding kind
 since_order since_nothing p h marks n f c = (tt, fine_skips of_since refl p h marks n f)
 since_order {digits} (since_bounded {a = a} {j} {b} {k}) p h marks n f c =
@@ -203,7 +217,8 @@ since_order {digits} (since_bounded {a = a} {j} {b} {k}) p h marks n f c =
 since_order since_unbounded p h marks n f c = (tt, f.1.1.1.1.1)
 
 -- further terms are at most four, up to the relation
-terms_few : {us : List Token} {terms : List Term} → AreTerms us terms → (j : ℕ) → j ≤ 4 → (h : Bool) (marks : List Mark) (n : ℕ) → Fine (st (at_sign j) h marks n) us
+terms_few : {us : List Token} {terms : List Term} → AreTerms us terms → (j : ℕ) → j ≤ 4 → (h : Bool) (marks : List Mark) (n : ℕ)
+    → Fine (st (at_sign j) h marks n) us
     → j + length terms ≤ 4
 terms_few no_terms j l h marks n f = omega (arith, l)
 terms_few (more_plus {ts = ts} {us} t u) j l h marks n f =
@@ -248,7 +263,8 @@ two_good ns ms n h k g = one_good (ns ++ ms) n (All-append IsGood ns ms h k) g
 mutual
   unfolding kind
 
-  formula_good : {s : Scale} {k : ℕ} {ts : List Token} {ns : List Node} → IsFormula s k ts ns → (marks : List Mark) (n : ℕ) → Fine (st at_operand false marks n) ts → Covers s.time ts
+  formula_good : {s : Scale} {k : ℕ} {ts : List Token} {ns : List Node} → IsFormula s k ts ns → (marks : List Mark) (n : ℕ)
+      → Fine (st at_operand false marks n) ts → Covers s.time ts
       → All IsGood ns
   formula_good (disjunct d) marks n f c = disjunct_good d marks n f c
   formula_good {s} (implies {k = k} {ts = ts} {us} {ns} {ms} d g) marks n f c =
@@ -256,10 +272,12 @@ mutual
       let r = disjunct_runs d marks n in
       let y : Fine (st at_end r.0 (without_operators marks) (n + length ns)) (word (codes "implies") ∷ us) = rw r.1 at x.1 in
       two_good ns ms (Implies (top k ns) (top (k + length ns) ms)) (disjunct_good d marks n x.0 (covers_left s.time ts (word (codes "implies") ∷ us) c))
-      (formula_good g (implication ∷ without_operators marks) (suc (n + length ns)) y.1 (covers_rest s.time (word (codes "implies")) us (covers_right s.time ts (word (codes "implies") ∷ us) c)))
+      (formula_good g (implication ∷ without_operators marks) (suc (n + length ns)) y.1
+      (covers_rest s.time (word (codes "implies")) us (covers_right s.time ts (word (codes "implies") ∷ us) c)))
       (tt, tt)
 
-  disjunct_good : {s : Scale} {k : ℕ} {ts : List Token} {ns : List Node} → IsDisjunct s k ts ns → (marks : List Mark) (n : ℕ) → Fine (st at_operand false marks n) ts → Covers s.time ts
+  disjunct_good : {s : Scale} {k : ℕ} {ts : List Token} {ns : List Node} → IsDisjunct s k ts ns → (marks : List Mark) (n : ℕ)
+      → Fine (st at_operand false marks n) ts → Covers s.time ts
       → All IsGood ns
   disjunct_good (conjunct d) marks n f c = conjunct_good d marks n f c
   disjunct_good {s} (or {k = k} {ts = ts} {us} {ns} {ms} d g) marks n f c =
@@ -267,10 +285,12 @@ mutual
       let r = disjunct_runs d marks n in
       let y : Fine (st at_end r.0 (without_operators marks) (n + length ns)) (word (codes "or") ∷ us) = rw r.1 at x.1 in
       two_good ns ms (Or (top k ns) (top (k + length ns) ms)) (disjunct_good d marks n x.0 (covers_left s.time ts (word (codes "or") ∷ us) c))
-      (conjunct_good g (without_operators marks) (suc (n + length ns)) y.1 (covers_rest s.time (word (codes "or")) us (covers_right s.time ts (word (codes "or") ∷ us) c)))
+      (conjunct_good g (without_operators marks) (suc (n + length ns)) y.1
+      (covers_rest s.time (word (codes "or")) us (covers_right s.time ts (word (codes "or") ∷ us) c)))
       (tt, tt)
 
-  conjunct_good : {s : Scale} {k : ℕ} {ts : List Token} {ns : List Node} → IsConjunct s k ts ns → (marks : List Mark) (n : ℕ) → Fine (st at_operand false marks n) ts → Covers s.time ts
+  conjunct_good : {s : Scale} {k : ℕ} {ts : List Token} {ns : List Node} → IsConjunct s k ts ns → (marks : List Mark) (n : ℕ)
+      → Fine (st at_operand false marks n) ts → Covers s.time ts
       → All IsGood ns
   conjunct_good (timed d) marks n f c = timed_good d marks n f c
   conjunct_good {s} (and {k = k} {ts = ts} {us} {ns} {ms} d g) marks n f c =
@@ -278,10 +298,12 @@ mutual
       let r = conjunct_runs d marks n in
       let y : Fine (st at_end r.0 (without_operators marks) (n + length ns)) (word (codes "and") ∷ us) = rw r.1 at x.1 in
       two_good ns ms (And (top k ns) (top (k + length ns) ms)) (conjunct_good d marks n x.0 (covers_left s.time ts (word (codes "and") ∷ us) c))
-      (timed_good g (without_operators marks) (suc (n + length ns)) y.1 (covers_rest s.time (word (codes "and")) us (covers_right s.time ts (word (codes "and") ∷ us) c)))
+      (timed_good g (without_operators marks) (suc (n + length ns)) y.1
+      (covers_rest s.time (word (codes "and")) us (covers_right s.time ts (word (codes "and") ∷ us) c)))
       (tt, tt)
 
-  timed_good : {s : Scale} {k : ℕ} {ts : List Token} {ns : List Node} → IsTimed s k ts ns → (marks : List Mark) (n : ℕ) → Fine (st at_operand false marks n) ts → Covers s.time ts
+  timed_good : {s : Scale} {k : ℕ} {ts : List Token} {ns : List Node} → IsTimed s k ts ns → (marks : List Mark) (n : ℕ)
+      → Fine (st at_operand false marks n) ts → Covers s.time ts
       → All IsGood ns
   timed_good (operand p) marks n f c = operand_good p false marks n f c
   timed_good {s} (until {k = k} {a = a} {b} {ts = ts} {us} {vs} {ns} {ms} p w q) marks n f c =
@@ -290,23 +312,29 @@ mutual
       let r = operand_runs p false marks n in
       let y : Fine (st at_end false (without_operators marks) (n + length ns)) (word (codes "until") ∷ us) = rw r at z.1 in
       let e : go (st at_operand false marks n) (ts ++ (word (codes "until") ∷ us)) ≡ st at_operand true (without_operators marks) (suc (n + length ns)) =
-      go_append (st at_operand false marks n) ts (word (codes "until") ∷ us) ∙ (ap (λ o. go o (word (codes "until") ∷ us)) r ∙ until_runs w true (without_operators marks) (suc (n + length ns))) in
+      go_append (st at_operand false marks n) ts (word (codes "until") ∷ us)
+      ∙ (ap (λ o. go o (word (codes "until") ∷ us)) r ∙ until_runs w true (without_operators marks) (suc (n + length ns))) in
       let d = covers_left s.time (ts ++ (word (codes "until") ∷ us)) vs c in
       two_good ns ms (Until (top k ns) (top (k + length ns) ms) a b) (operand_good p false marks n z.0 (covers_left s.time ts (word (codes "until") ∷ us) d))
-      (operand_good q true (without_operators marks) (suc (n + length ns)) (rw e at x.1) (covers_right s.time (ts ++ (word (codes "until") ∷ us)) vs c))
-      (until_order w true (without_operators marks) (suc (n + length ns)) y.1 (covers_rest s.time (word (codes "until")) us (covers_right s.time ts (word (codes "until") ∷ us) d)), tt)
+      (operand_good q true (without_operators marks) (suc (n + length ns)) (rw e at x.1) (covers_right s.time (ts ++ (word (codes "until") ∷ us)) vs c)) (
+        until_order w true (without_operators marks) (suc (n + length ns)) y.1
+            (covers_rest s.time (word (codes "until")) us (covers_right s.time ts (word (codes "until") ∷ us) d)),
+        tt,
+      )
   timed_good {s} (since {k = k} {a = a} {b} {ts = ts} {us} {vs} {ns} {ms} p w q) marks n f c =
       let i = rw (append_assoc ts (word (codes "since") ∷ us) vs) at f in
       let x = fine_split (st at_operand false marks n) ts (word (codes "since") ∷ (us ++ vs)) i in
       let r = operand_runs p false marks n in
       let y : Fine (st at_end false (without_operators marks) (n + length ns)) (word (codes "since") ∷ (us ++ vs)) = rw r at x.1 in
       let d = covers_left s.time (ts ++ (word (codes "since") ∷ us)) vs c in
-      let o = since_order w q true (without_operators marks) (suc (n + length ns)) y.1 (covers_rest s.time (word (codes "since")) us (covers_right s.time ts (word (codes "since") ∷ us) d)) in
+      let o = since_order w q true (without_operators marks) (suc (n + length ns)) y.1 (covers_rest s.time
+      (word (codes "since")) us (covers_right s.time ts (word (codes "since") ∷ us) d)) in
       two_good ns ms (Since (top k ns) (top (k + length ns) ms) a b) (operand_good p false marks n x.0 (covers_left s.time ts (word (codes "since") ∷ us) d))
       (operand_good q true (without_operators marks) (suc (n + length ns)) o.1 (covers_right s.time (ts ++ (word (codes "since") ∷ us)) vs c))
       (o.0, tt)
 
-  operand_good : {s : Scale} {k : ℕ} {ts : List Token} {ns : List Node} → IsOperand s k ts ns → (h : Bool) (marks : List Mark) (n : ℕ) → Fine (st at_operand h marks n) ts → Covers s.time ts
+  operand_good : {s : Scale} {k : ℕ} {ts : List Token} {ns : List Node} → IsOperand s k ts ns
+      → (h : Bool) (marks : List Mark) (n : ℕ) → Fine (st at_operand h marks n) ts → Covers s.time ts
       → All IsGood ns
   operand_good {s} (not {k = k} {ts = ts} {ns} p) h marks n f c =
       one_good ns (Not (top k ns)) (operand_good p h (operator ∷ marks) (suc n) f.1 (covers_rest s.time (word (codes "not")) ts c)) (tt, tt)
@@ -347,7 +375,8 @@ free_few before [] h l = l
 free_few before (t ∷ ts) h l = rw (reverse_more t ts before) (free_few (t ∷ before) ts h.1 h.0.few)
 
 -- the nodes of a text that is not refused may be built
-pub nodes_ready : (text : List ℕ) (s : Scale) {ts : List Token} {ns : List Node} → Lexes text ts → ((r : FormulaFault) → ¬ TokenFault [] 0 text r) → IsFormula s 0 ts ns
+pub nodes_ready : (text : List ℕ) (s : Scale) {ts : List Token} {ns : List Node} → Lexes text ts
+    → ((r : FormulaFault) → ¬ TokenFault [] 0 text r) → IsFormula s 0 ts ns
     → time_digits ts ≤ s.time → AreNodes ns
 nodes_ready text s {ts} {ns} l h f d =
     let free = tokens_free l [] 0 h in

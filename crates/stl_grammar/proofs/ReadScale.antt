@@ -1,5 +1,6 @@
 -- The scale of a formula that was read is the least that holds its numbers.
-use Rattle.std.proofs.Common.{◌≡◌, ℕ, zero, suc, ◌+◌, ◌-◌, ◌*◌, ◌^◌, ◌%◌, ◌<◌, ◌≤◌, List, [], ◌∷◌, ◌++◌, length, reverse, refl, ap, sym, ◌∙◌, Bool, true, false, max, arith, append_assoc, inl, inr, ◌⊎◌}
+use Rattle.std.proofs.Common.{◌≡◌, ℕ, zero, suc, ◌+◌, ◌-◌, ◌*◌, ◌^◌, ◌%◌, ◌<◌, ◌≤◌, List, [], ◌∷◌, ◌++◌, length}
+use Rattle.std.proofs.Common.{reverse, refl, ap, sym, ◌∙◌, Bool, true, false, max, arith, append_assoc, inl, inr, ◌⊎◌}
 use Rattle.std.specs.Prelude.{codes, ◌==◌, nat_abs, Option}
 use Rattle.std.proofs.lemmas.List.{reverse-append}
 use Rattle.std.proofs.lemmas.Bool.{cases_order, and_parts}
@@ -9,16 +10,20 @@ use Rattle.stl_syntax.specs.declared.scale.Scale.{Scale}
 use Rattle.stl_syntax.specs.declared.node.Node.{Node}
 use Rattle.stl_syntax.specs.declared.node.Node.TheVariants.{Atom as Leaf, Not, Until, Eventually, Always, Since, Once, Historically}
 use Rattle.stl_syntax.proofs.DecimalLemmas.{decimal_value-push, all-without_zeros}
-use Rattle.stl_grammar.specs.Tokens.{a_word, an_integer, a_decimal, at_least, at_most, above, below, paren, paren_end, bracket, bracket_end, a_comma, a_star, a_plus, a_minus, Lexes, nothing as no_text, token, blank}
+use Rattle.stl_grammar.specs.Tokens.{a_word, an_integer, a_decimal, at_least, at_most, above, below, paren, paren_end, bracket}
+use Rattle.stl_grammar.specs.Tokens.{bracket_end, a_comma, a_star, a_plus, a_minus, Lexes, nothing as no_text, token, blank}
 use Rattle.stl_grammar.specs.Grammar.{top, Token, word, number, relation, close_paren, first_decimals, value_digits, time_digits}
 use Rattle.stl_grammar.specs.Grammar.{IsConstant, plain, positive, negative, IsAtom, first, signed}
 use Rattle.stl_grammar.specs.Grammar.{inside, outside, IsFutureWindow, bound, IsPastWindow, nothing, bounded, unbounded, IsPast}
 use Rattle.stl_grammar.specs.Grammar.IsPast.{nothing as since_nothing, bounded as since_bounded, unbounded as since_unbounded}
-use Rattle.stl_grammar.specs.Grammar.{IsFormula, IsDisjunct, IsConjunct, IsTimed, IsOperand, disjunct, implies, conjunct, or, timed, and, operand, until, since, not, eventually, always, once, historically, always_true, always_false, parens, atom}
+use Rattle.stl_grammar.specs.Grammar.{IsFormula, IsDisjunct, IsConjunct, IsTimed, IsOperand, disjunct, implies}
+use Rattle.stl_grammar.specs.Grammar.{conjunct, or, timed, and, operand, until, since, not, eventually, always}
+use Rattle.stl_grammar.specs.Grammar.{once, historically, always_true, always_false, parens, atom}
 use Rattle.stl_grammar.specs.Laws.{with_upper, bounds_of, constants_of, Any, IsUneven, NeedsDigits, ReadScalesAreLeast}
 use Rattle.stl_grammar.proofs.NumberLemmas.{abs_neg}
 use Rattle.stl_grammar.proofs.LeastDigits.{value_low}
-use Rattle.stl_grammar.proofs.TokenEnds.{ends_well, formula_ends, disjunct_ends, conjunct_ends, operand_ends, time_append, value_append, short_atom, short_signed}
+use Rattle.stl_grammar.proofs.TokenEnds.{ends_well, formula_ends, disjunct_ends, conjunct_ends, operand_ends}
+use Rattle.stl_grammar.proofs.TokenEnds.{time_append, value_append, short_atom, short_signed}
 
 -- a decimal whose last digit is no zero is no multiple of ten
 last_uneven : (v : ℕ) (front : List ℕ) (c : ℕ) → is_digit c ≡ true → (c ≡ 48 → ⊥) → IsUneven (decimal_value v (front ++ c ∷ []))
@@ -41,7 +46,8 @@ after_zeros : (xs : List ℕ) → (after_first (λ c. c == 48) xs ≡ []) ⊎ ((
 after_zeros [] = inl refl
 after_zeros (c ∷ xs) = split (c == 48) refl (after_zeros xs)
   where
-    split : (b : Bool) → (c == 48) ≡ b → ((after_first (λ c. c == 48) xs ≡ []) ⊎ ((d : ℕ) × (more : List ℕ) × (after_first (λ c. c == 48) xs ≡ d ∷ more) × (d ≡ 48 → ⊥)))
+    split : (b : Bool) → (c == 48) ≡ b
+        → ((after_first (λ c. c == 48) xs ≡ []) ⊎ ((d : ℕ) × (more : List ℕ) × (after_first (λ c. c == 48) xs ≡ d ∷ more) × (d ≡ 48 → ⊥)))
         → (after_first (λ c. c == 48) (c ∷ xs) ≡ []) ⊎ ((d : ℕ) × (more : List ℕ) × (after_first (λ c. c == 48) (c ∷ xs) ≡ d ∷ more) × (d ≡ 48 → ⊥))
     split true e h = rw e h
     split false e h = inr (c, xs, rw e refl, λ f. let g : (48 == 48) ≡ false = rw f at e in cc)
@@ -64,7 +70,8 @@ number_exact : (digits decimals : List ℕ) → all is_digit decimals ≡ true
     → (length (without_zeros decimals) ≡ 0) ⊎ IsUneven (decimal_value 0 (digits ++ without_zeros decimals))
 number_exact digits decimals h = by_case (without_ends decimals)
   where
-    by_case : (without_zeros decimals ≡ []) ⊎ EndsWell (without_zeros decimals) → (length (without_zeros decimals) ≡ 0) ⊎ IsUneven (decimal_value 0 (digits ++ without_zeros decimals))
+    by_case : (without_zeros decimals ≡ []) ⊎ EndsWell (without_zeros decimals)
+        → (length (without_zeros decimals) ≡ 0) ⊎ IsUneven (decimal_value 0 (digits ++ without_zeros decimals))
     by_case (inl e) = inl (ap (λ z. length z) e)
     by_case (inr w) =
         let a : all is_digit (w.front ++ w.last ∷ []) ≡ true = ap (λ z. all is_digit z) (sym w.is) ∙ all-without_zeros decimals h in
@@ -146,13 +153,15 @@ in_last : (P : Node → Type 0) (ns : List Node) (n : Node) → P n → Any P (n
 in_last P ns n h = any_right P ns (n ∷ []) (inl h)
 
 -- the digits of a bound, and of the operand after it
-window_max : {d a b : ℕ} {us : List Token} {x y : Bool} (ts : List Token) → IsFutureWindow d us a b x y → time_digits (us ++ ts) ≡ max (time_digits us) (time_digits ts)
+window_max : {d a b : ℕ} {us : List Token} {x y : Bool} (ts : List Token) → IsFutureWindow d us a b x y
+    → time_digits (us ++ ts) ≡ max (time_digits us) (time_digits ts)
 window_max ts (bound inside inside) = omega arith
 window_max ts (bound inside outside) = omega arith
 window_max ts (bound outside inside) = omega arith
 window_max ts (bound outside outside) = omega arith
 
-past_max : {d a : ℕ} {b : Option ℕ} {us : List Token} {x y : Bool} (ts : List Token) → IsPastWindow d us a b x y → time_digits (us ++ ts) ≡ max (time_digits us) (time_digits ts)
+past_max : {d a : ℕ} {b : Option ℕ} {us : List Token} {x y : Bool} (ts : List Token) → IsPastWindow d us a b x y
+    → time_digits (us ++ ts) ≡ max (time_digits us) (time_digits ts)
 past_max ts nothing = omega arith
 past_max ts (bounded inside inside) = omega arith
 past_max ts (bounded inside outside) = omega arith
@@ -182,7 +191,8 @@ window_any {d} (bound {a = a} {j} {b} {k} inside outside) h l e = one_of_two d a
 window_any {d} (bound {a = a} {j} {b} {k} outside inside) h l e = one_of_two d a j b k (omega (arith, e)) l h.0 h.1.0
 window_any {d} (bound {a = a} {j} {b} {k} outside outside) h l e = one_of_two d a j b k (omega (arith, e)) l h.0 h.1.0
 
-past_any : {d a : ℕ} {b : Option ℕ} {us : List Token} {x y : Bool} → IsPastWindow d us a b x y → AreExact us → 0 < d → time_digits us ≡ d → Any IsUneven (with_upper a b)
+past_any : {d a : ℕ} {b : Option ℕ} {us : List Token} {x y : Bool} → IsPastWindow d us a b x y → AreExact us → 0 < d
+    → time_digits us ≡ d → Any IsUneven (with_upper a b)
 past_any {d} nothing h l e = absurd (omega (arith, e))
 past_any {d} (bounded {a = a} {j} {b} {k} inside inside) h l e = one_of_two d a j b k (omega (arith, e)) l h.0 h.1.0
 past_any {d} (bounded {a = a} {j} {b} {k} inside outside) h l e = one_of_two d a j b k (omega (arith, e)) l h.0 h.1.0
@@ -200,8 +210,12 @@ since_any {d} (since_unbounded {a = a} {j}) h l e = inl (ticks_full d a j (omega
 
 -- an atom has no bounds
 atom_time : {d : ℕ} {ts : List Token} {a : _} → IsAtom d ts a → time_digits ts ≡ 0
-atom_time (first {vs = vs} {rel = rel} t u c) = let x = (short_atom (record { time = 0; value = first_decimals vs }) rel t u c (omega arith)).time in omega (arith, x)
-atom_time (signed {vs = vs} {rel = rel} u c) = let x = (short_signed (record { time = 0; value = first_decimals vs }) rel u c (omega arith)).time in omega (arith, x)
+atom_time (first {vs = vs} {rel = rel} t u c) =
+    let x = (short_atom (record { time = 0; value = first_decimals vs }) rel t u c (omega arith)).time in
+    omega (arith, x)
+atom_time (signed {vs = vs} {rel = rel} u c) =
+    let x = (short_signed (record { time = 0; value = first_decimals vs }) rel u c (omega arith)).time in
+    omega (arith, x)
 
 -- a bound that has all the digits
 abbrev HasUnevenBound : Node → Type 0
@@ -209,7 +223,8 @@ HasUnevenBound n = Any IsUneven (bounds_of n)
 
 module _ (s : Scale) (some : 0 < s.time) where
   -- the sides of an operator without a bound
-  by_sides : (ts us : List Token) (w : List ℕ) → ends_well ts ≡ true → time_digits (ts ++ word w ∷ us) ≡ s.time → (time_digits ts ≡ s.time) ⊎ (time_digits us ≡ s.time)
+  by_sides : (ts us : List Token) (w : List ℕ) → ends_well ts ≡ true → time_digits (ts ++ word w ∷ us) ≡ s.time
+      → (time_digits ts ≡ s.time) ⊎ (time_digits us ≡ s.time)
   by_sides ts us w h e = of_max (time_digits ts) (time_digits us) s.time (sym (time_append ts (word w ∷ us) h refl) ∙ e)
 
   mutual
@@ -263,22 +278,25 @@ module _ (s : Scale) (some : 0 < s.time) where
 
     operand_any : {k : ℕ} {ts : List Token} {ns : List Node} → IsOperand s k ts ns → AreExact ts → time_digits ts ≡ s.time → Any HasUnevenBound ns
     operand_any (not {k = k} {ts} {ns} p) x e = any_left HasUnevenBound ns (Not (top k ns) ∷ []) (operand_any p x e)
-    operand_any (eventually {k = k} {a} {b} {a_in} {b_in} {ts} {us} {ns} w p) x e = elim (of_max (time_digits us) (time_digits ts) s.time (sym (window_max ts w) ∙ e)) [
-      | inl h ↦ in_last HasUnevenBound ns (Eventually (top k ns) a b a_in b_in) (window_any w (exact_left us ts x) some h)
-      | inr h ↦ any_left HasUnevenBound ns (Eventually (top k ns) a b a_in b_in ∷ []) (operand_any p (exact_right us ts x) h)
-    ]
-    operand_any (always {k = k} {a} {b} {a_in} {b_in} {ts} {us} {ns} w p) x e = elim (of_max (time_digits us) (time_digits ts) s.time (sym (window_max ts w) ∙ e)) [
-      | inl h ↦ in_last HasUnevenBound ns (Always (top k ns) a b a_in b_in) (window_any w (exact_left us ts x) some h)
-      | inr h ↦ any_left HasUnevenBound ns (Always (top k ns) a b a_in b_in ∷ []) (operand_any p (exact_right us ts x) h)
-    ]
+    operand_any (eventually {k = k} {a} {b} {a_in} {b_in} {ts} {us} {ns} w p) x e =
+        elim (of_max (time_digits us) (time_digits ts) s.time (sym (window_max ts w) ∙ e)) [
+          | inl h ↦ in_last HasUnevenBound ns (Eventually (top k ns) a b a_in b_in) (window_any w (exact_left us ts x) some h)
+          | inr h ↦ any_left HasUnevenBound ns (Eventually (top k ns) a b a_in b_in ∷ []) (operand_any p (exact_right us ts x) h)
+        ]
+    operand_any (always {k = k} {a} {b} {a_in} {b_in} {ts} {us} {ns} w p) x e =
+        elim (of_max (time_digits us) (time_digits ts) s.time (sym (window_max ts w) ∙ e)) [
+          | inl h ↦ in_last HasUnevenBound ns (Always (top k ns) a b a_in b_in) (window_any w (exact_left us ts x) some h)
+          | inr h ↦ any_left HasUnevenBound ns (Always (top k ns) a b a_in b_in ∷ []) (operand_any p (exact_right us ts x) h)
+        ]
     operand_any (once {k = k} {a} {b} {a_in} {b_in} {ts} {us} {ns} w p) x e = elim (of_max (time_digits us) (time_digits ts) s.time (sym (past_max ts w) ∙ e)) [
       | inl h ↦ in_last HasUnevenBound ns (Once (top k ns) a b a_in b_in) (past_any w (exact_left us ts x) some h)
       | inr h ↦ any_left HasUnevenBound ns (Once (top k ns) a b a_in b_in ∷ []) (operand_any p (exact_right us ts x) h)
     ]
-    operand_any (historically {k = k} {a} {b} {a_in} {b_in} {ts} {us} {ns} w p) x e = elim (of_max (time_digits us) (time_digits ts) s.time (sym (past_max ts w) ∙ e)) [
-      | inl h ↦ in_last HasUnevenBound ns (Historically (top k ns) a b a_in b_in) (past_any w (exact_left us ts x) some h)
-      | inr h ↦ any_left HasUnevenBound ns (Historically (top k ns) a b a_in b_in ∷ []) (operand_any p (exact_right us ts x) h)
-    ]
+    operand_any (historically {k = k} {a} {b} {a_in} {b_in} {ts} {us} {ns} w p) x e =
+        elim (of_max (time_digits us) (time_digits ts) s.time (sym (past_max ts w) ∙ e)) [
+          | inl h ↦ in_last HasUnevenBound ns (Historically (top k ns) a b a_in b_in) (past_any w (exact_left us ts x) some h)
+          | inr h ↦ any_left HasUnevenBound ns (Historically (top k ns) a b a_in b_in ∷ []) (operand_any p (exact_right us ts x) h)
+        ]
     operand_any always_true x e = absurd (omega (arith, e))
     operand_any always_false x e = absurd (omega (arith, e))
     operand_any (parens {ts = ts} f) x e =
@@ -329,7 +347,8 @@ since_value ts since_bounded = refl
 since_value ts since_unbounded = refl
 
 module _ (s : Scale) (some : 0 < s.value) where
-  value_sides : (ts us : List Token) (w : List ℕ) → ends_well ts ≡ true → value_digits (ts ++ word w ∷ us) ≡ s.value → (value_digits ts ≡ s.value) ⊎ (value_digits us ≡ s.value)
+  value_sides : (ts us : List Token) (w : List ℕ) → ends_well ts ≡ true → value_digits (ts ++ word w ∷ us) ≡ s.value
+      → (value_digits ts ≡ s.value) ⊎ (value_digits us ≡ s.value)
   value_sides ts us w h e = of_max (value_digits ts) (value_digits us) s.value (sym (value_append ts (word w ∷ us) h) ∙ e)
 
   mutual

@@ -3,10 +3,13 @@ use Rattle.std.proofs.Common.{◌≡◌, ap, ℕ, ◌≤◌, inl, inr, List, [],
 use Rattle.std.specs.Prelude.{codes, pos}
 use Rattle.stl_syntax.specs.Characters.{ticks}
 use Rattle.stl_syntax.specs.Choice.{Where}
-use Rattle.stl_grammar.specs.Tokens.{Token, word, number, relation, open_bracket, close_bracket, comma, a_word, an_integer, a_decimal, at_least, bracket, a_comma}
+use Rattle.stl_grammar.specs.Tokens.{Token, word, number, relation, open_bracket, close_bracket, comma}
+use Rattle.stl_grammar.specs.Tokens.{a_word, an_integer, a_decimal, at_least, bracket, a_comma}
 use Rattle.stl_grammar.specs.Grammar.{plain, IsFormula, disjunct, conjunct, timed, operand, eventually, always_true, atom, first, bound, inside}
 use Rattle.stl_grammar.specs.Grammar.{name as term_name, none as no_terms}
-use Rattle.stl_grammar.specs.FormulaRefusals.{MayBegin, MayEnd, BeginsNoToken, RefusedAt, here, later, at_end, blank, bad_byte, IsFormulaFault, is_unbounded, pending, nodes_made, begins_fifth_term, is_bad_number, is_out_of_order}
+use Rattle.stl_grammar.specs.FormulaRefusals.{MayBegin, MayEnd, BeginsNoToken, RefusedAt, here, later, at_end}
+use Rattle.stl_grammar.specs.FormulaRefusals.{blank, bad_byte, IsFormulaFault, is_unbounded, pending, nodes_made}
+use Rattle.stl_grammar.specs.FormulaRefusals.{begins_fifth_term, is_bad_number, is_out_of_order}
 use Rattle.stl_grammar.proofs.TokenEnds.{can_end, ends_well, formula_ends}
 use Rattle.stl_syntax.specs.declared.node.Node.TheVariants.{Const, Atom as Leaf, Eventually}
 use Rattle.stl_syntax.specs.declared.rel.Rel.TheVariants.{AtLeast}
@@ -102,10 +105,12 @@ bad_number = inr (
     passed _ _ (λ h. cc),
     inl (
         later (word (codes "x")) (codes "x") (codes " >= 0.0000001") refl (a_word refl refl refl)
-        (not_refused [] (word (codes "x")) (codes " >= 0.0000001") 0 refl (relation AtLeast ∷ number 0 0 ∷ [], _, x_at_least 0 0) (lit≤ tt) (lit≤ tt) refl refl refl)
+        (not_refused [] (word (codes "x")) (codes " >= 0.0000001") 0 refl (relation AtLeast ∷ number 0 0 ∷ [], _, x_at_least 0 0)
+        (lit≤ tt) (lit≤ tt) refl refl refl)
         (blank refl (
         later (relation AtLeast) (codes ">=") (codes " 0.0000001") refl at_least
-        (not_refused (word (codes "x") ∷ []) (relation AtLeast) (codes " 0.0000001") 2 refl (number 0 0 ∷ [], _, x_at_least 0 0) (lit≤ tt) (lit≤ tt) refl refl refl)
+        (not_refused (word (codes "x") ∷ []) (relation AtLeast) (codes " 0.0000001") 2 refl (number 0 0 ∷ [], _, x_at_least 0 0)
+        (lit≤ tt) (lit≤ tt) refl refl refl)
         (blank refl (
         here (number 1 7) (codes "0.0000001") [] refl (a_decimal 48 [] 48 (codes "000001") refl refl tt)
         (inr (
@@ -139,13 +144,20 @@ out_of_order = inr (
     passed _ _ (λ h. cc),
     inl (
         later (word (codes "eventually")) (codes "eventually") (codes "[3,2] x >= 1") refl (a_word refl refl refl)
-        (not_refused [] _ (codes "[3,2] x >= 1") 0 refl (open_bracket ∷ number 3 0 ∷ comma ∷ number 2 0 ∷ bound_first.0, bound_first.1, bound_first.2) (lit≤ tt) (lit≤ tt) refl refl refl)
+        (not_refused [] _ (codes "[3,2] x >= 1") 0 refl (
+          open_bracket ∷ number 3 0 ∷ comma ∷ number 2 0 ∷ bound_first.0,
+          bound_first.1,
+          bound_first.2,
+        ) (lit≤ tt) (lit≤ tt) refl refl refl)
         (later open_bracket (codes "[") (codes "3,2] x >= 1") refl bracket
-        (not_refused (word (codes "eventually") ∷ []) _ (codes "3,2] x >= 1") 10 refl (number 3 0 ∷ comma ∷ number 2 0 ∷ bound_first.0, bound_first.1, bound_first.2) (lit≤ tt) (lit≤ tt) refl refl refl)
+        (not_refused (word (codes "eventually") ∷ []) _ (codes "3,2] x >= 1") 10 refl
+        (number 3 0 ∷ comma ∷ number 2 0 ∷ bound_first.0, bound_first.1, bound_first.2) (lit≤ tt) (lit≤ tt) refl refl refl)
         (later (number 3 0) (codes "3") (codes ",2] x >= 1") refl (an_integer refl refl refl)
-        (not_refused (open_bracket ∷ word (codes "eventually") ∷ []) _ (codes ",2] x >= 1") 11 refl (comma ∷ number 2 0 ∷ bound_first.0, bound_first.1, bound_first.2) (lit≤ tt) (lit≤ tt) refl refl refl)
+        (not_refused (open_bracket ∷ word (codes "eventually") ∷ []) _ (codes ",2] x >= 1") 11 refl
+        (comma ∷ number 2 0 ∷ bound_first.0, bound_first.1, bound_first.2) (lit≤ tt) (lit≤ tt) refl refl refl)
         (later comma (codes ",") (codes "2] x >= 1") refl a_comma
-        (not_refused (number 3 0 ∷ open_bracket ∷ word (codes "eventually") ∷ []) _ (codes "2] x >= 1") 12 refl (number 2 0 ∷ bound_first.0, bound_first.1, bound_first.2) (lit≤ tt) (lit≤ tt) refl refl refl)
+        (not_refused (number 3 0 ∷ open_bracket ∷ word (codes "eventually") ∷ []) _ (codes "2] x >= 1") 12 refl
+        (number 2 0 ∷ bound_first.0, bound_first.1, bound_first.2) (lit≤ tt) (lit≤ tt) refl refl refl)
         (here (number 2 0) (codes "2") (codes "] x >= 1") refl (an_integer refl refl refl)
         (inr (
           passed _ _ (λ h. cc),
@@ -178,13 +190,16 @@ eventually_after = inr (
     passed _ _ (λ h. cc),
     inl (
         later (word (codes "x")) (codes "x") (codes " >= 1 eventually") refl (a_word refl refl refl)
-        (not_refused [] (word (codes "x")) (codes " >= 1 eventually") 0 refl (relation AtLeast ∷ number 0 0 ∷ [], _, x_at_least 0 0) (lit≤ tt) (lit≤ tt) refl refl refl)
+        (not_refused [] (word (codes "x")) (codes " >= 1 eventually") 0 refl
+        (relation AtLeast ∷ number 0 0 ∷ [], _, x_at_least 0 0) (lit≤ tt) (lit≤ tt) refl refl refl)
         (blank refl (
         later (relation AtLeast) (codes ">=") (codes " 1 eventually") refl at_least
-        (not_refused (word (codes "x") ∷ []) (relation AtLeast) (codes " 1 eventually") 2 refl (number 0 0 ∷ [], _, x_at_least 0 0) (lit≤ tt) (lit≤ tt) refl refl refl)
+        (not_refused (word (codes "x") ∷ []) (relation AtLeast) (codes " 1 eventually") 2 refl
+        (number 0 0 ∷ [], _, x_at_least 0 0) (lit≤ tt) (lit≤ tt) refl refl refl)
         (blank refl (
         later (number 1 0) (codes "1") (codes " eventually") refl (an_integer refl refl refl)
-        (not_refused (relation AtLeast ∷ word (codes "x") ∷ []) (number 1 0) (codes " eventually") 5 refl ([], _, x_at_least 1 0) (lit≤ tt) (lit≤ tt) refl refl refl)
+        (not_refused (relation AtLeast ∷ word (codes "x") ∷ []) (number 1 0) (codes " eventually") 5 refl ([], _, x_at_least 1 0)
+        (lit≤ tt) (lit≤ tt) refl refl refl)
         (blank refl (here (word (codes "eventually")) (codes "eventually") [] refl (a_word refl refl tt) (inl (refl, refl))))))))),
   ),
 )
@@ -197,7 +212,8 @@ open_until = inr (
     passed _ _ (λ h. cc),
     inl (
         later (word (codes "true")) (codes "true") (codes " until]0,2] x >= 5") refl (a_word refl refl refl)
-        (not_refused [] (word (codes "true")) (codes " until]0,2] x >= 5") 0 refl ([], Const true ∷ [], disjunct (conjunct (timed (operand always_true)))) (lit≤ tt) (lit≤ tt) refl refl refl)
+        (not_refused [] (word (codes "true")) (codes " until]0,2] x >= 5") 0 refl
+        ([], Const true ∷ [], disjunct (conjunct (timed (operand always_true)))) (lit≤ tt) (lit≤ tt) refl refl refl)
         (blank refl (here (word (codes "until")) (codes "until") (codes "]0,2] x >= 5") refl (a_word refl refl refl) (inl (refl, refl))))),
   ),
 )

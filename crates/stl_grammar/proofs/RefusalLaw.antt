@@ -5,7 +5,9 @@ use Rattle.std.specs.Prelude.{◌==◌, Option, Some, None}
 use Rattle.stl_syntax.specs.Characters.{is_blank, is_digit, begins_word, goes_on_word, all, StopsAt, after_first, begins_decimals, without_zeros}
 use Rattle.stl_syntax.proofs.ChoiceLemmas.{AtMostOne, where-unique, or_else-unique}
 use Rattle.stl_syntax.proofs.CharacterLemmas.{span_of, span_all, after_all}
-use Rattle.stl_grammar.specs.Tokens.{Token, word, relation, open_paren, close_paren, open_bracket, close_bracket, comma, star, plus, minus, decimal_number, IsToken, a_word, an_integer, a_decimal, at_least, at_most, above, below, paren, paren_end, bracket, bracket_end, a_comma, a_star, a_plus, a_minus}
+use Rattle.stl_grammar.specs.Tokens.{Token, word, relation, open_paren, close_paren, open_bracket, close_bracket, comma, star}
+use Rattle.stl_grammar.specs.Tokens.{plus, minus, decimal_number, IsToken, a_word, an_integer, a_decimal, at_least, at_most}
+use Rattle.stl_grammar.specs.Tokens.{above, below, paren, paren_end, bracket, bracket_end, a_comma, a_star, a_plus, a_minus}
 use Rattle.stl_grammar.specs.Tokens.{Lexes, nothing, token, blank as skip}
 use Rattle.stl_syntax.specs.Formula.{Formula}
 use Rattle.stl_grammar.specs.Grammar.{FormulaText, time_digits, value_digits}
@@ -55,7 +57,8 @@ digit_no_word : (c : ℕ) → is_digit c ≡ true → begins_word c ≡ false
 digit_no_word c h = grind (arith, h)
 
 decimal_first : (c : ℕ) (digits : List ℕ) (d : ℕ) (decimals text : List ℕ) → all is_digit (c ∷ digits) ≡ true → all is_digit (d ∷ decimals) ≡ true
-    → StopsAt is_digit text → first_token (c ∷ (digits ++ 46 ∷ d ∷ (decimals ++ text))) ≡ Some (decimal_number (c ∷ digits) (without_zeros (d ∷ decimals)), text)
+    → StopsAt is_digit text → first_token (c ∷ (digits ++ 46 ∷ d ∷ (decimals ++ text)))
+    ≡ Some (decimal_number (c ∷ digits) (without_zeros (d ∷ decimals)), text)
 unfolding first_token tail
 decimal_first c digits d decimals text h k l =
     let a : is_digit c ≡ true = grind (arith, h) in let b : is_digit d ≡ true = grind (arith, k) in
@@ -78,7 +81,8 @@ token_first bytes text t (a_word {c = c} {rest} h k l) =
 token_first bytes text t (an_integer {c = c} {digits} h k l) =
     let d : is_digit c ≡ true = grind (arith, h) in
     rw (digit_not_blank c d, digit_no_word c d, span_all is_digit (c ∷ digits) text h k, after_all is_digit (c ∷ digits) text h k, d, l) refl
-token_first bytes text t (a_decimal c digits d decimals h k l) = ap first_token (append_assoc (c ∷ digits) (46 ∷ d ∷ decimals) text) ∙ decimal_first c digits d decimals text h k l
+token_first bytes text t (a_decimal c digits d decimals h k l) =
+    ap first_token (append_assoc (c ∷ digits) (46 ∷ d ∷ decimals) text) ∙ decimal_first c digits d decimals text h k l
 token_first bytes text t at_least = refl
 token_first bytes text t at_most = refl
 token_first bytes [] t (above h) = refl
@@ -103,7 +107,8 @@ rest_of None = []
 rest_of (Some p) = p.1
 
 -- the first token of a text, its bytes and the text after it are determined
-pub token-unique : (whole bytes bytes' text text' : List ℕ) (t t' : Token) → whole ≡ bytes ++ text → IsToken bytes text t → whole ≡ bytes' ++ text' → IsToken bytes' text' t'
+pub token-unique : (whole bytes bytes' text text' : List ℕ) (t t' : Token) → whole ≡ bytes ++ text → IsToken bytes text t
+    → whole ≡ bytes' ++ text' → IsToken bytes' text' t'
     → (t ≡ t') × (text ≡ text') × (bytes ≡ bytes')
 token-unique whole bytes bytes' text text' t t' e h e' h' =
     let a : first_token whole ≡ Some (t, text) = ap first_token e ∙ token_first bytes text t h in
@@ -135,7 +140,8 @@ RefusedAt-unique before t text p =
     (or_else-unique _ _ (where-unique _ _) (or_else-unique _ _ (where-unique _ _) (where-unique _ _))))))
 
 -- the first refusal of a token is determined
-pub TokenFault-unique : {before : List Token} {p : ℕ} {whole : List ℕ} {r r' : FormulaFault} → TokenFault before p whole r → TokenFault before p whole r' → r ≡ r'
+pub TokenFault-unique : {before : List Token} {p : ℕ} {whole : List ℕ} {r r' : FormulaFault} → TokenFault before p whole r
+    → TokenFault before p whole r' → r ≡ r'
 TokenFault-unique (blank b h) (blank b' h') = TokenFault-unique h h'
 TokenFault-unique (blank b h) (bad_byte c n) = absurd (cc)
 TokenFault-unique (blank {c = c} {text} b h) (here t bytes rest e k x) = absurd (no_token_at_blank c text bytes rest t b e k)

@@ -7,7 +7,9 @@ use Rattle.stl_grammar.specs.Grammar.{Token}
 use Rattle.stl_grammar.specs.Grammar.{IsConstant, plain, positive, negative, IsAtom, first, signed}
 use Rattle.stl_grammar.specs.Grammar.{IsFutureWindow, bound, IsPastWindow, nothing, bounded, unbounded, IsPast}
 use Rattle.stl_grammar.specs.Grammar.IsPast.{nothing as since_nothing, bounded as since_bounded, unbounded as since_unbounded}
-use Rattle.stl_grammar.specs.Grammar.{IsFormula, IsDisjunct, IsConjunct, IsTimed, IsOperand, disjunct, implies, conjunct, or, timed, and, operand, until, since, not, eventually, always, once, historically, always_true, always_false, parens, atom}
+use Rattle.stl_grammar.specs.Grammar.{IsFormula, IsDisjunct, IsConjunct, IsTimed, IsOperand, disjunct, implies}
+use Rattle.stl_grammar.specs.Grammar.{conjunct, or, timed, and, operand, until, since, not, eventually, always}
+use Rattle.stl_grammar.specs.Grammar.{once, historically, always_true, always_false, parens, atom}
 
 constant_at : {d : ℕ} {vs : List Token} {c : _} → IsConstant d vs c → (e : ℕ) → (x : _) × IsConstant e vs x
 constant_at plain e = (_, plain)
@@ -46,14 +48,16 @@ module _ (z : Scale) where
         let g : IsFormula z (k + length x.0) us y.0 = rw (← x.2) y.1 in
         (_, implies x.1 g, two_nodes ns ms x.0 y.0 _ _ x.2 y.2)
 
-    disjunct_at : {s : Scale} {k : ℕ} {ts : List Token} {ns : List Node} → IsDisjunct s k ts ns → (ms : List Node) × IsDisjunct z k ts ms × (length ns ≡ length ms)
+    disjunct_at : {s : Scale} {k : ℕ} {ts : List Token} {ns : List Node} → IsDisjunct s k ts ns
+        → (ms : List Node) × IsDisjunct z k ts ms × (length ns ≡ length ms)
     disjunct_at (conjunct c) = let x = conjunct_at c in (x.0, conjunct x.1, x.2)
     disjunct_at {s} {k} (or {ts = ts} {us} {ns} {ms} d c) =
         let x = disjunct_at d in let y = conjunct_at c in
         let g : IsConjunct z (k + length x.0) us y.0 = rw (← x.2) y.1 in
         (_, or x.1 g, two_nodes ns ms x.0 y.0 _ _ x.2 y.2)
 
-    conjunct_at : {s : Scale} {k : ℕ} {ts : List Token} {ns : List Node} → IsConjunct s k ts ns → (ms : List Node) × IsConjunct z k ts ms × (length ns ≡ length ms)
+    conjunct_at : {s : Scale} {k : ℕ} {ts : List Token} {ns : List Node} → IsConjunct s k ts ns
+        → (ms : List Node) × IsConjunct z k ts ms × (length ns ≡ length ms)
     conjunct_at (timed t) = let x = timed_at t in (x.0, timed x.1, x.2)
     conjunct_at {s} {k} (and {ts = ts} {us} {ns} {ms} c t) =
         let x = conjunct_at c in let y = timed_at t in

@@ -4,7 +4,11 @@ use Rattle.std.specs.Prelude.{codes}
 use Rattle.stl_syntax.specs.declared.scale.Scale.{Scale}
 use Rattle.stl_syntax.specs.declared.node.Node.{Node}
 use Rattle.stl_grammar.specs.Tokens.{Token, word, number, relation, open_paren, close_paren, comma, plus, minus}
-use Rattle.stl_grammar.specs.Grammar.{IsConstant, plain, positive, negative, IsTerm, scaled, AreTerms, more_plus, more_minus, IsAtom, IsFormula, IsDisjunct, IsConjunct, IsTimed, IsOperand, disjunct, implies, conjunct, or, timed, and, operand, until, since, not, eventually, always, once, historically, always_true, always_false, parens, atom, first, signed, first_decimals, value_digits, time_digits}
+use Rattle.stl_grammar.specs.Grammar.{IsConstant, plain, positive, negative, IsTerm, scaled, AreTerms, more_plus}
+use Rattle.stl_grammar.specs.Grammar.{more_minus, IsAtom, IsFormula, IsDisjunct, IsConjunct, IsTimed, IsOperand}
+use Rattle.stl_grammar.specs.Grammar.{disjunct, implies, conjunct, or, timed, and, operand, until, since, not}
+use Rattle.stl_grammar.specs.Grammar.{eventually, always, once, historically, always_true, always_false, parens}
+use Rattle.stl_grammar.specs.Grammar.{atom, first, signed, first_decimals, value_digits, time_digits}
 use Rattle.stl_grammar.specs.Grammar.{name as term_name, none as no_terms}
 use Rattle.stl_grammar.specs.Grammar.{inside, outside, IsFutureWindow, bound, IsPastWindow, nothing, bounded, unbounded, IsPast}
 use Rattle.stl_grammar.specs.Grammar.IsPast.{nothing as since_nothing, bounded as since_bounded, unbounded as since_unbounded}
@@ -200,7 +204,8 @@ constant_value positive = refl
 constant_value negative = refl
 
 -- an atom
-pub short_atom : {d : ℕ} (s : Scale) {ts us vs : List Token} {k : ℕ} {w : List ℕ} {terms : _} {c : _} (rel : _) → IsTerm ts k w → AreTerms us terms → IsConstant d vs c
+pub short_atom : {d : ℕ} (s : Scale) {ts us vs : List Token} {k : ℕ} {w : List ℕ} {terms : _} {c : _} (rel : _) → IsTerm ts k w
+    → AreTerms us terms → IsConstant d vs c
     → first_decimals vs ≤ s.value → IsShort s (ts ++ us ++ relation rel ∷ vs)
 short_atom s {ts} {us} {vs} rel t u c l =
     let e : ts ++ us ++ relation rel ∷ vs ≡ ts ++ (us ++ relation rel ∷ vs) = append_assoc ts us (relation rel ∷ vs) in
@@ -217,14 +222,16 @@ short_signed s {us} {vs} rel u c l =
     record { time = omega (arith, f); value = omega (arith, g, i, l) }
 
 -- a bound before an operand
-pub short_window : {d a b : ℕ} {us : List Token} {x y : Bool} (s : Scale) (ts : List Token) → IsFutureWindow d us a b x y → time_digits us ≤ s.time → IsShort s ts → IsShort s (us ++ ts)
+pub short_window : {d a b : ℕ} {us : List Token} {x y : Bool} (s : Scale) (ts : List Token) → IsFutureWindow d us a b x y
+    → time_digits us ≤ s.time → IsShort s ts → IsShort s (us ++ ts)
 short_window s ts (bound inside inside) l a = let t = a.time in record { time = omega arith; value = a.value }
 short_window s ts (bound inside outside) l a = let t = a.time in record { time = omega arith; value = a.value }
 short_window s ts (bound outside inside) l a = let t = a.time in record { time = omega arith; value = a.value }
 short_window s ts (bound outside outside) l a = let t = a.time in record { time = omega arith; value = a.value }
 
 -- a bound of the past before an operand
-pub short_past : {d a : ℕ} {b : _} {us : List Token} {x y : Bool} (s : Scale) (ts : List Token) → IsPastWindow d us a b x y → time_digits us ≤ s.time → IsShort s ts → IsShort s (us ++ ts)
+pub short_past : {d a : ℕ} {b : _} {us : List Token} {x y : Bool} (s : Scale) (ts : List Token) → IsPastWindow d us a b x y
+    → time_digits us ≤ s.time → IsShort s ts → IsShort s (us ++ ts)
 short_past s ts nothing l a = a
 short_past s ts (bounded inside inside) l a = let t = a.time in record { time = omega arith; value = a.value }
 short_past s ts (bounded inside outside) l a = let t = a.time in record { time = omega arith; value = a.value }
@@ -236,7 +243,8 @@ short_past s ts (unbounded outside inside) l a = let t = a.time in record { time
 short_past s ts (unbounded outside outside) l a = let t = a.time in record { time = omega arith; value = a.value }
 
 -- a bound of since
-pub short_since : {d a : ℕ} {b : _} {us : List Token} (s : Scale) (ts : List Token) → IsPast d us a b → time_digits us ≤ s.time → IsShort s ts → IsShort s (us ++ ts)
+pub short_since : {d a : ℕ} {b : _} {us : List Token} (s : Scale) (ts : List Token) → IsPast d us a b → time_digits us ≤ s.time
+    → IsShort s ts → IsShort s (us ++ ts)
 short_since s ts since_nothing l a = a
 short_since s ts since_bounded l a = let t = a.time in record { time = omega arith; value = a.value }
 short_since s ts since_unbounded l a = let t = a.time in record { time = omega arith; value = a.value }

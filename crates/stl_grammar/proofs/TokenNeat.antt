@@ -2,7 +2,8 @@
 use Rattle.std.proofs.Common.{◌≡◌, ℕ, ◌≤◌, List, [], ◌∷◌, ◌++◌, refl, Bool, true, false}
 use Rattle.stl_syntax.specs.declared.scale.Scale.{Scale}
 use Rattle.stl_grammar.specs.Tokens.{Token, word, number, relation, open_paren, close_paren, star}
-use Rattle.stl_grammar.specs.Grammar.{IsConstant, plain, positive, negative, IsFutureWindow, bound, IsPastWindow, nothing, bounded, unbounded, IsPast, inside, outside, time_digits}
+use Rattle.stl_grammar.specs.Grammar.{IsConstant, plain, positive, negative, IsFutureWindow, bound, IsPastWindow}
+use Rattle.stl_grammar.specs.Grammar.{nothing, bounded, unbounded, IsPast, inside, outside, time_digits}
 use Rattle.stl_grammar.specs.Grammar.IsPast.{nothing as since_nothing, bounded as since_bounded, unbounded as since_unbounded}
 use Rattle.stl_grammar.proofs.TokenEnds.{ends_well, begins_comma, IsShort, short_joined, short_word, short_parens, short_window, short_past, short_since}
 
@@ -45,7 +46,8 @@ pub record IsNeat (s : Scale) (ts : List Token) : Type 0 where
   pub plain : ArePlain ts
 
 -- joined tokens
-pub neat_joined : (s : Scale) (ts us : List Token) → ends_well ts ≡ true → begins_comma us ≡ false → begins_star us ≡ false → IsNeat s ts → IsNeat s us → IsNeat s (ts ++ us)
+pub neat_joined : (s : Scale) (ts us : List Token) → ends_well ts ≡ true → begins_comma us ≡ false → begins_star us ≡ false
+    → IsNeat s ts → IsNeat s us → IsNeat s (ts ++ us)
 neat_joined s ts us h e f a b = record { short = short_joined s ts us h e a.short b.short; plain = plain_append ts us f a.plain b.plain }
 
 -- a word before
@@ -69,7 +71,8 @@ window_plain ts (bound outside inside) a = (tt, (tt, a))
 window_plain ts (bound outside outside) a = (tt, (tt, a))
 
 -- a bound of the future before an operand
-pub neat_window : {d a b : ℕ} {us : List Token} {x y : Bool} (s : Scale) (ts : List Token) → IsFutureWindow d us a b x y → time_digits us ≤ s.time → IsNeat s ts → IsNeat s (us ++ ts)
+pub neat_window : {d a b : ℕ} {us : List Token} {x y : Bool} (s : Scale) (ts : List Token) → IsFutureWindow d us a b x y
+    → time_digits us ≤ s.time → IsNeat s ts → IsNeat s (us ++ ts)
 neat_window s ts w l a = record { short = short_window s ts w l a.short; plain = window_plain ts w a.plain }
 
 past_plain : {d a : ℕ} {b : _} {us : List Token} {x y : Bool} (ts : List Token) → IsPastWindow d us a b x y → ArePlain ts → ArePlain (us ++ ts)
@@ -84,7 +87,8 @@ past_plain ts (unbounded outside inside) a = (tt, a)
 past_plain ts (unbounded outside outside) a = (tt, a)
 
 -- a bound of the past
-pub neat_past : {d a : ℕ} {b : _} {us : List Token} {x y : Bool} (s : Scale) (ts : List Token) → IsPastWindow d us a b x y → time_digits us ≤ s.time → IsNeat s ts → IsNeat s (us ++ ts)
+pub neat_past : {d a : ℕ} {b : _} {us : List Token} {x y : Bool} (s : Scale) (ts : List Token) → IsPastWindow d us a b x y
+    → time_digits us ≤ s.time → IsNeat s ts → IsNeat s (us ++ ts)
 neat_past s ts w l a = record { short = short_past s ts w l a.short; plain = past_plain ts w a.plain }
 
 since_plain : {d a : ℕ} {b : _} {us : List Token} (ts : List Token) → IsPast d us a b → ArePlain ts → ArePlain (us ++ ts)
@@ -93,5 +97,6 @@ since_plain ts since_bounded a = (tt, (tt, a))
 since_plain ts since_unbounded a = (tt, a)
 
 -- a bound of since
-pub neat_since : {d a : ℕ} {b : _} {us : List Token} (s : Scale) (ts : List Token) → IsPast d us a b → time_digits us ≤ s.time → IsNeat s ts → IsNeat s (us ++ ts)
+pub neat_since : {d a : ℕ} {b : _} {us : List Token} (s : Scale) (ts : List Token) → IsPast d us a b → time_digits us ≤ s.time
+    → IsNeat s ts → IsNeat s (us ++ ts)
 neat_since s ts w l a = record { short = short_since s ts w l a.short; plain = since_plain ts w a.plain }

@@ -5,7 +5,9 @@ use Rattle.std.proofs.lemmas.Bool.{or_parts}
 use Rattle.std.proofs.lemmas.Bool.Decides.{nat_tests}
 use Rattle.stl_grammar.specs.Tokens.{Token, word, number, relation, comma, plus, minus, Lexes, nothing, blank as skip, token}
 use Rattle.stl_grammar.specs.Grammar.{first_decimals, value_digits, time_digits}
-use Rattle.stl_grammar.specs.FormulaRefusals.{MayBegin, RefusedAt, TokenFault, blank, here, later, is_unbounded, expected, pending, nodes_made, begins_fifth_term, passes_limit, is_bad_number, is_out_of_order}
+use Rattle.stl_grammar.specs.FormulaRefusals.{MayBegin, RefusedAt, TokenFault, blank, here, later, is_unbounded, expected}
+use Rattle.stl_grammar.specs.FormulaRefusals.{pending, nodes_made, begins_fifth_term, passes_limit, is_bad_number}
+use Rattle.stl_grammar.specs.FormulaRefusals.{is_out_of_order}
 use Rattle.stl_grammar.specs.declared.fault.What.{What}
 use Rattle.stl_grammar.specs.declared.fault.What.TheVariants.{Number, Constant}
 use Rattle.stl_grammar.specs.declared.fault.FormulaFault.{FormulaFault}
@@ -49,7 +51,8 @@ AreFree before [] = Unit {0}
 AreFree before (t ∷ ts) = IsFree before t × AreFree (t ∷ before) ts
 
 -- the tokens of a text that no token refuses are refused by nothing
-pub tokens_free : {text : List ℕ} {ts : List Token} → Lexes text ts → (before : List Token) (p : ℕ) → ((r : FormulaFault) → ¬ TokenFault before p text r) → AreFree before ts
+pub tokens_free : {text : List ℕ} {ts : List Token} → Lexes text ts → (before : List Token) (p : ℕ)
+    → ((r : FormulaFault) → ¬ TokenFault before p text r) → AreFree before ts
 tokens_free nothing before p h = tt
 tokens_free (skip b l) before p h = tokens_free l before (suc p) (λ r f. h r (blank b f))
 tokens_free (token {t = t} bytes text e k l) before p h =
@@ -101,5 +104,6 @@ time_small (relation r ∷ ts) h = time_small ts h
 time_small (_ ∷ ts) h = time_small ts h
 
 -- the digits of a text that is not refused
-pub digits_small : (text : List ℕ) (ts : List Token) → Lexes text ts → ((r : FormulaFault) → ¬ TokenFault [] 0 text r) → (time_digits ts ≤ 6) × (value_digits ts ≤ 6)
+pub digits_small : (text : List ℕ) (ts : List Token) → Lexes text ts → ((r : FormulaFault) → ¬ TokenFault [] 0 text r)
+    → (time_digits ts ≤ 6) × (value_digits ts ≤ 6)
 digits_small text ts l h = let x = are_small [] ts (tokens_free l [] 0 h) in (time_small ts x, value_small ts x)

@@ -59,7 +59,9 @@ by_words P t f n a o i u s e l c y x name w = split (is_among w reserved) refl
 -- a word that is none of the grammar's is a name
 pub name_kind : (w : List ℕ) → is_among w reserved ≡ false → kind w ≡ a_name
 unfolding kind
-name_kind w h = let (t, (f, (n, (a, (o, (i, (u, (s, (e, (l, (c, (y, (x, z))))))))))))) = among_none w reserved h in rw (t, f, n, a, o, i, u, s, e, l, c, y, x) refl
+name_kind w h =
+    let (t, (f, (n, (a, (o, (i, (u, (s, (e, (l, (c, (y, (x, z))))))))))))) = among_none w reserved h in
+    rw (t, f, n, a, o, i, u, s, e, l, c, y, x) refl
 
 -- the lists of words by the kind
 abbrev pub ends_operand : Kind → Bool

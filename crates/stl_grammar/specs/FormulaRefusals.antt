@@ -1,5 +1,6 @@
 -- The first refusal of a text that is no formula within the limits.
-use Rattle.std.specs.Prelude.{◌≡◌, ℕ, suc, ◌+◌, ◌*◌, ◌^◌, ◌<◌, ◌&&◌, ◌||◌, ◌==◌, nat_lt, not, Bool, true, false, if◌then◌else◌, List, [], ◌∷◌, ◌++◌, length, reverse, codes, IsTrue}
+use Rattle.std.specs.Prelude.{◌≡◌, ℕ, suc, ◌+◌, ◌*◌, ◌^◌, ◌<◌, ◌&&◌, ◌||◌, ◌==◌, nat_lt, not, Bool, true}
+use Rattle.std.specs.Prelude.{false, if◌then◌else◌, List, [], ◌∷◌, ◌++◌, length, reverse, codes, IsTrue}
 use Rattle.stl_syntax.specs.Characters.{is_blank, all, after_first}
 use Rattle.stl_syntax.specs.Limits.{IsTooLarge}
 use Rattle.stl_syntax.specs.Choice.{◌or_else◌, Where}
@@ -11,7 +12,9 @@ use Rattle.stl_syntax.specs.declared.node.Node.{Node}
 use Rattle.stl_grammar.specs.declared.fault.What.{What}
 use Rattle.stl_grammar.specs.declared.fault.What.TheVariants.{Operand, Number, Comma, Bracket, Star, Name, Term, Relation, Constant, Paren, End}
 use Rattle.stl_grammar.specs.declared.fault.FormulaFault.{FormulaFault}
-use Rattle.stl_grammar.specs.declared.fault.FormulaFault.TheVariants.{Empty, BadByte, Expected, BadNumber, BoundOrder, UnboundedFuture, TooManyTerms, TooLong, TooDeep, TooManyNodes, ReachTooLarge, ConstantTooLarge}
+use Rattle.stl_grammar.specs.declared.fault.FormulaFault.TheVariants.{Empty, BadByte, Expected, BadNumber, BoundOrder}
+use Rattle.stl_grammar.specs.declared.fault.FormulaFault.TheVariants.{UnboundedFuture, TooManyTerms, TooLong, TooDeep}
+use Rattle.stl_grammar.specs.declared.fault.FormulaFault.TheVariants.{TooManyNodes, ReachTooLarge, ConstantTooLarge}
 
 -- In what follows `before` are the tokens before a place, the last one first.
 
@@ -217,7 +220,8 @@ BeginsNoToken whole = (bytes text : List ℕ) (t : Token) → whole ≡ bytes ++
 
 -- the refusal of the first token, from place p on, at which one stands
 pub data TokenFault : List Token → ℕ → List ℕ → FormulaFault → Type 0 where
-  blank : {before : List Token} {p c : ℕ} {text : List ℕ} {r : FormulaFault} → is_blank c ≡ true → TokenFault before (suc p) text r → TokenFault before p (c ∷ text) r
+  blank : {before : List Token} {p c : ℕ} {text : List ℕ} {r : FormulaFault} → is_blank c ≡ true
+      → TokenFault before (suc p) text r → TokenFault before p (c ∷ text) r
   bad_byte : {before : List Token} {p c : ℕ} {text : List ℕ} → is_blank c ≡ false → BeginsNoToken (c ∷ text) → TokenFault before p (c ∷ text) (BadByte p)
   here : {before : List Token} {p : ℕ} {whole : List ℕ} {r : FormulaFault} (t : Token) (bytes text : List ℕ) → whole ≡ bytes ++ text → IsToken bytes text t
       → RefusedAt before t text p r → TokenFault before p whole r

@@ -95,7 +95,8 @@ mutual
     operand : {k : ℕ} {ts : List Token} {ns : List Node} → IsOperand s k ts ns → IsTimed s k ts ns
     until : {k a b : ℕ} {ts us vs : List Token} {ns ms : List Node} → IsOperand s k ts ns → IsFuture s.time us a b → IsOperand s (k + length ns) vs ms
         → IsTimed s k (ts ++ word (codes "until") ∷ us ++ vs) (ns ++ ms ++ Until (top k ns) (top (k + length ns) ms) a b ∷ [])
-    since : {k a : ℕ} {b : Option ℕ} {ts us vs : List Token} {ns ms : List Node} → IsOperand s k ts ns → IsPast s.time us a b → IsOperand s (k + length ns) vs ms
+    since : {k a : ℕ} {b : Option ℕ} {ts us vs : List Token} {ns ms : List Node} → IsOperand s k ts ns → IsPast s.time us a b
+        → IsOperand s (k + length ns) vs ms
         → IsTimed s k (ts ++ word (codes "since") ∷ us ++ vs) (ns ++ ms ++ Since (top k ns) (top (k + length ns) ms) a b ∷ [])
 
   -- a constant, an atom, parentheses, or a one-operand operator with its operand
@@ -107,7 +108,8 @@ mutual
         → IsOperand s k (word (codes "always") ∷ us ++ ts) (ns ++ Always (top k ns) a b a_in b_in ∷ [])
     once : {k a : ℕ} {b : Option ℕ} {a_in b_in : Bool} {ts us : List Token} {ns : List Node} → IsPastWindow s.time us a b a_in b_in → IsOperand s k ts ns
         → IsOperand s k (word (codes "once") ∷ us ++ ts) (ns ++ Once (top k ns) a b a_in b_in ∷ [])
-    historically : {k a : ℕ} {b : Option ℕ} {a_in b_in : Bool} {ts us : List Token} {ns : List Node} → IsPastWindow s.time us a b a_in b_in → IsOperand s k ts ns
+    historically : {k a : ℕ} {b : Option ℕ} {a_in b_in : Bool} {ts us : List Token} {ns : List Node}
+        → IsPastWindow s.time us a b a_in b_in → IsOperand s k ts ns
         → IsOperand s k (word (codes "historically") ∷ us ++ ts) (ns ++ Historically (top k ns) a b a_in b_in ∷ [])
     always_true : {k : ℕ} → IsOperand s k (word (codes "true") ∷ []) (Const true ∷ [])
     always_false : {k : ℕ} → IsOperand s k (word (codes "false") ∷ []) (Const false ∷ [])

@@ -3,7 +3,9 @@ use Rattle.std.specs.Prelude.{◌≡◌, ℕ, ◌*◌, ◌^◌, ◌+◌, ◌||�
 use Rattle.stl_grammar.specs.FormulaRefusals.{passes_limit, opens_bound}
 use Rattle.stl_grammar.specs.Told.{spelling}
 use Rattle.stl_grammar.specs.Machine as Machine
-use Rattle.stl_grammar.specs.Machine.{State, Mark, Owner, paren, operator, implication, of_until, of_since, of_future, of_past, at_operand, at_bound, at_low, at_comma, at_high, at_closing, at_term, at_star, at_name, at_sign, at_constant, at_number, at_end, expected_at, looks_back}
+use Rattle.stl_grammar.specs.Machine.{State, Mark, Owner, paren, operator, implication, of_until, of_since, of_future}
+use Rattle.stl_grammar.specs.Machine.{of_past, at_operand, at_bound, at_low, at_comma, at_high, at_closing, at_term}
+use Rattle.stl_grammar.specs.Machine.{at_star, at_name, at_sign, at_constant, at_number, at_end, expected_at, looks_back}
 use Rattle.stl_grammar.specs.Parsing.{Parse, parse_step}
 use Rattle.stl_grammar.specs.declared.token.Keyword.TheVariants.{Until, Eventually, Always, Inf}
 use Rattle.stl_grammar.specs.declared.token.Token.{Token}
@@ -13,11 +15,14 @@ use Rattle.stl_grammar.specs.declared.draft.Infix.TheVariants.{Implies as Then, 
 use Rattle.stl_grammar.specs.declared.draft.Frame.{Frame}
 use Rattle.stl_grammar.specs.declared.draft.Frame.TheVariants.{Paren as Opened, Prefix as Before, Infix as Between}
 use Rattle.stl_grammar.specs.declared.place.Timed.{Timed}
-use Rattle.stl_grammar.specs.declared.place.Timed.TheVariants.{Until as TUntil, Since as TSince, Eventually as TEventually, Always as TAlways, Once as TOnce, Historically as THistorically}
+use Rattle.stl_grammar.specs.declared.place.Timed.TheVariants.{Until as TUntil, Since as TSince, Eventually as TEventually}
+use Rattle.stl_grammar.specs.declared.place.Timed.TheVariants.{Always as TAlways, Once as TOnce, Historically as THistorically}
 use Rattle.stl_grammar.specs.declared.place.Back.{Back}
 use Rattle.stl_grammar.specs.declared.place.Back.TheVariants.{Since as BSince, Once as BOnce, Historically as BHistorically}
 use Rattle.stl_grammar.specs.declared.place.Place.{Place}
-use Rattle.stl_grammar.specs.declared.place.Place.TheVariants.{Operand, Bound, Low, Comma as AtComma, High, Closing, ClosingInf, Term as AtTerm, Star as AtStar, Name as AtName, Sign, Constant, Number as AtNumber, End}
+use Rattle.stl_grammar.specs.declared.place.Place.TheVariants.{Operand, Bound, Low, Comma as AtComma, High, Closing}
+use Rattle.stl_grammar.specs.declared.place.Place.TheVariants.{ClosingInf, Term as AtTerm, Star as AtStar, Name as AtName}
+use Rattle.stl_grammar.specs.declared.place.Place.TheVariants.{Sign, Constant, Number as AtNumber, End}
 use Rattle.stl_grammar.specs.declared.fault.What.{What}
 use Rattle.stl_grammar.specs.declared.fault.What.TheVariants.{Operand as AnOperand, Number as ANumber, Constant as AConstant}
 use Rattle.stl_grammar.specs.declared.fault.FormulaFault.{FormulaFault}
@@ -134,7 +139,12 @@ marks_at (Some beside) frames = marks_in_bound beside frames
 
 -- the state of the machine
 abbrev pub state_of : Parse → State
-state_of p = record { place = place_at p.place (length p.terms); had = had_at (in_bound p.place) p.frames; marks = marks_at (in_bound p.place) p.frames; nodes = p.made }
+state_of p = record {
+  place = place_at p.place (length p.terms);
+  had = had_at (in_bound p.place) p.frames;
+  marks = marks_at (in_bound p.place) p.frames;
+  nodes = p.made;
+}
 
 -- what is expected
 abbrev pub expected_in : Parse → What
@@ -183,7 +193,8 @@ disorder_in place t = false
 -- the refusals of a token that come last
 abbrev pub late_in : Place → ℕ → Token → ℕ → Option FormulaFault
 late_in place n t at =
-    if fifth_in place n t then Some (TooManyTerms at) else if bad_in place t then Some (BadNumber at) else if disorder_in place t then Some (BoundOrder at) else None
+    if fifth_in place n t then Some (TooManyTerms at) else if bad_in place t then Some
+    (BadNumber at) else if disorder_in place t then Some (BoundOrder at) else None
 
 -- the refusal after a step
 abbrev pub refused_after : Parse → Token → ℕ → Option Parse → Option FormulaFault

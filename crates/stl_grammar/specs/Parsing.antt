@@ -1,5 +1,6 @@
 -- A parser of tokens: what it keeps, and what each token makes of it. A helper for the contracts of the code.
-use Rattle.std.specs.Prelude.{◌≡◌, ℕ, suc, ◌-◌, nat_le, ◌≤◌, MatchBool, IsTrue, Bool, true, false, if◌then◌else◌, List, [], ◌∷◌, ◌++◌, length, take, drop, ℤ, pos, neg_ℤ, Option, Some, None, option_map}
+use Rattle.std.specs.Prelude.{◌≡◌, ℕ, suc, ◌-◌, nat_le, ◌≤◌, MatchBool, IsTrue, Bool, true, false, if◌then◌else◌, List}
+use Rattle.std.specs.Prelude.{[], ◌∷◌, ◌++◌, length, take, drop, ℤ, pos, neg_ℤ, Option, Some, None, option_map}
 use Rattle.stl_syntax.specs.declared.atom.Term.{Term}
 use Rattle.stl_syntax.specs.declared.rel.Rel.{Rel}
 use Rattle.stl_syntax.specs.Names.{is_name}
@@ -7,11 +8,13 @@ use Rattle.stl_grammar.specs.declared.decimal.Decimal.{Decimal}
 use Rattle.stl_grammar.specs.declared.token.Keyword.{Keyword}
 use Rattle.stl_grammar.specs.declared.token.Keyword.TheVariants.{True, False, Not, And, Or, Implies, Until, Since, Eventually, Always, Once, Historically, Inf}
 use Rattle.stl_grammar.specs.declared.token.Token.{Token}
-use Rattle.stl_grammar.specs.declared.token.Token.TheVariants.{Keyword as IsKeyword, Name, Number, Relation, OpenParen, CloseParen, OpenBracket, CloseBracket, Comma, Star, Plus, Minus}
+use Rattle.stl_grammar.specs.declared.token.Token.TheVariants.{Keyword as IsKeyword, Name, Number, Relation, OpenParen}
+use Rattle.stl_grammar.specs.declared.token.Token.TheVariants.{CloseParen, OpenBracket, CloseBracket, Comma, Star, Plus, Minus}
 use Rattle.stl_grammar.specs.declared.draft.Window.{Window}
 use Rattle.stl_grammar.specs.declared.draft.Past.{Past}
 use Rattle.stl_grammar.specs.declared.draft.Past.TheVariants.{Whole, From, Within}
-use Rattle.stl_grammar.specs.declared.draft.Prefix.TheVariants.{Not as Negation, Eventually as AtSome, Always as AtEach, Once as BackAtSome, Historically as BackAtEach}
+use Rattle.stl_grammar.specs.declared.draft.Prefix.TheVariants.{Not as Negation, Eventually as AtSome, Always as AtEach}
+use Rattle.stl_grammar.specs.declared.draft.Prefix.TheVariants.{Once as BackAtSome, Historically as BackAtEach}
 use Rattle.stl_grammar.specs.declared.draft.Infix.{Infix}
 use Rattle.stl_grammar.specs.declared.draft.Infix.TheVariants.{And as Both, Or as Either, Implies as Then, Until as UpTo, Since as After}
 use Rattle.stl_grammar.specs.declared.draft.Frame.{Frame}
@@ -19,11 +22,14 @@ use Rattle.stl_grammar.specs.declared.draft.Frame.TheVariants.{Paren as Opened, 
 use Rattle.stl_grammar.specs.declared.draft.Draft.{Draft}
 use Rattle.stl_grammar.specs.declared.draft.Draft.TheVariants.{Const, Sum, One, Two}
 use Rattle.stl_grammar.specs.declared.place.Timed.{Timed}
-use Rattle.stl_grammar.specs.declared.place.Timed.TheVariants.{Until as TUntil, Since as TSince, Eventually as TEventually, Always as TAlways, Once as TOnce, Historically as THistorically}
+use Rattle.stl_grammar.specs.declared.place.Timed.TheVariants.{Until as TUntil, Since as TSince, Eventually as TEventually}
+use Rattle.stl_grammar.specs.declared.place.Timed.TheVariants.{Always as TAlways, Once as TOnce, Historically as THistorically}
 use Rattle.stl_grammar.specs.declared.place.Back.{Back}
 use Rattle.stl_grammar.specs.declared.place.Back.TheVariants.{Since as BSince, Once as BOnce, Historically as BHistorically}
 use Rattle.stl_grammar.specs.declared.place.Place.{Place}
-use Rattle.stl_grammar.specs.declared.place.Place.TheVariants.{Operand, Bound, Low, Comma as AtComma, High, Closing, ClosingInf, Term as AtTerm, Star as AtStar, Name as AtName, Sign, Constant, Number as AtNumber, End}
+use Rattle.stl_grammar.specs.declared.place.Place.TheVariants.{Operand, Bound, Low, Comma as AtComma, High, Closing}
+use Rattle.stl_grammar.specs.declared.place.Place.TheVariants.{ClosingInf, Term as AtTerm, Star as AtStar, Name as AtName}
+use Rattle.stl_grammar.specs.declared.place.Place.TheVariants.{Sign, Constant, Number as AtNumber, End}
 
 -- what comes next, what is open, the last first, the nodes, the terms of an atom that is not at its end, and how many nodes were begun
 pub record Parse : Type 0 where

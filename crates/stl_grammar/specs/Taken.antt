@@ -6,7 +6,8 @@ use Rattle.stl_grammar.specs.Told.{Tells, spelling}
 use Rattle.stl_grammar.specs.Parsing.{Parse, parse_step, between}
 use Rattle.stl_grammar.specs.Judging.{bad_in, disorder_in}
 use Rattle.stl_grammar.specs.declared.token.Token.{Token as Code}
-use Rattle.stl_grammar.specs.declared.token.Token.TheVariants.{Keyword as IsKeyword, Name, Number, Relation, OpenParen, CloseParen, OpenBracket, CloseBracket, Comma, Star, Plus, Minus}
+use Rattle.stl_grammar.specs.declared.token.Token.TheVariants.{Keyword as IsKeyword, Name, Number, Relation, OpenParen}
+use Rattle.stl_grammar.specs.declared.token.Token.TheVariants.{CloseParen, OpenBracket, CloseBracket, Comma, Star, Plus, Minus}
 use Rattle.stl_grammar.specs.declared.place.Place.TheVariants.{Operand}
 
 -- the token of a text that the code tells, where it tells it exactly

@@ -24,10 +24,12 @@ decimal_number digits decimals = number (decimal_value 0 (digits ++ decimals)) (
 
 -- the bytes are one token where `text` follows: words, numbers and relations are as long as possible
 pub data IsToken : List ℕ → List ℕ → Token → Type 0 where
-  a_word : {c : ℕ} {rest text : List ℕ} → begins_word c ≡ true → all goes_on_word rest ≡ true → StopsAt goes_on_word text → IsToken (c ∷ rest) text (word (c ∷ rest))
+  a_word : {c : ℕ} {rest text : List ℕ} → begins_word c ≡ true → all goes_on_word rest ≡ true → StopsAt goes_on_word text
+      → IsToken (c ∷ rest) text (word (c ∷ rest))
   an_integer : {c : ℕ} {digits text : List ℕ} → all is_digit (c ∷ digits) ≡ true → StopsAt is_digit text → begins_decimals text ≡ false
       → IsToken (c ∷ digits) text (decimal_number (c ∷ digits) [])
-  a_decimal : {text : List ℕ} (c : ℕ) (digits : List ℕ) (d : ℕ) (decimals : List ℕ) → all is_digit (c ∷ digits) ≡ true → all is_digit (d ∷ decimals) ≡ true → StopsAt is_digit text
+  a_decimal : {text : List ℕ} (c : ℕ) (digits : List ℕ) (d : ℕ) (decimals : List ℕ) → all is_digit (c ∷ digits) ≡ true
+      → all is_digit (d ∷ decimals) ≡ true → StopsAt is_digit text
       → IsToken ((c ∷ digits) ++ 46 ∷ d ∷ decimals) text (decimal_number (c ∷ digits) (without_zeros (d ∷ decimals)))
   at_least : {text : List ℕ} → IsToken (codes ">=") text (relation AtLeast)
   at_most : {text : List ℕ} → IsToken (codes "<=") text (relation AtMost)

@@ -1,6 +1,7 @@
 //! Which bytes part tokens, and which a token is made of.
 ghost use Rattle.std.specs.Prelude.{◌≡◌, ◌≤◌, length, take, drop, true};
-ghost use Rattle.stl_syntax.specs.Characters.{is_blank as is_blank_byte, is_digit as is_digit_byte, begins_word as begins_name, goes_on_word as goes_on_name, all, StopsAt};
+ghost use Rattle.stl_syntax.specs.Characters.{is_blank as is_blank_byte, is_digit as is_digit_byte};
+ghost use Rattle.stl_syntax.specs.Characters.{begins_word as begins_name, goes_on_word as goes_on_name, all, StopsAt};
 
 /// Whether the byte only parts tokens: space, tab, LF or CR.
 pub(crate) fn is_blank(c: u8) -> bool

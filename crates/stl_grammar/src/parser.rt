@@ -69,7 +69,14 @@ impl Parser {
     ghost use Rattle.std.specs.Prelude.{List, ℕ, suc, Some, None, MatchBool, true, false, take, drop, nat_lt};
     ghost use Rattle.stl_grammar.specs.Judging.{depth_of, expected_in, place_at, marks_of};
     ghost use Rattle.stl_grammar.specs.Machine.{ends_at};
-    ghost use Rattle.stl_grammar.specs.Parsing.{Parse, settled, settled_drafts, moved, begun, opened as opened_by, completed, with_term, begin_keyword as keyword_begins, begin_operand as operand_begins, begin_bound as bound_begins, end_bound as bound_ends, end_atom as atom_ends, joined as joined_by, closed, after_keyword as keyword_after, after_operand as operand_after, move_to as moves_to, step_constant as constant_step, step_term as term_step, parse_step, Gives, IsKnown, back_frame as frame_back, bounded_frame as frame_of, next_place as place_after, opening as opening_of, closing as closing_of};
+    ghost use Rattle.stl_grammar.specs.Parsing.{Parse, settled, settled_drafts, moved, begun, opened as opened_by, completed};
+    ghost use Rattle.stl_grammar.specs.Parsing.{with_term, begin_keyword as keyword_begins, begin_operand as operand_begins};
+    ghost use Rattle.stl_grammar.specs.Parsing.{begin_bound as bound_begins, end_bound as bound_ends, end_atom as atom_ends};
+    ghost use Rattle.stl_grammar.specs.Parsing.{joined as joined_by, closed, after_keyword as keyword_after};
+    ghost use Rattle.stl_grammar.specs.Parsing.{after_operand as operand_after, move_to as moves_to};
+    ghost use Rattle.stl_grammar.specs.Parsing.{step_constant as constant_step, step_term as term_step, parse_step, Gives};
+    ghost use Rattle.stl_grammar.specs.Parsing.{IsKnown, back_frame as frame_back, bounded_frame as frame_of};
+    ghost use Rattle.stl_grammar.specs.Parsing.{next_place as place_after, opening as opening_of, closing as closing_of};
 
     /// Before the first token.
     pub(crate) fn new(alloc: Global) -> Parser
@@ -318,7 +325,8 @@ impl Parser {
         token: Token,
     ) -> Result<bool, AllocError>
         ensures { IfOk result (λ taken. Gives (bound_ends (closing_of (may_be_out of) token)
-            (λ high_in. frame_of of (record { low = low; high = high; low_in = low_in; high_in = high_in }) (length self.old.drafts - 1)) self.old) taken self.new) }
+            (λ high_in. frame_of of (record { low = low; high = high; low_in = low_in; high_in = high_in }) (length self.old.drafts - 1)) self.old)
+            taken self.new) }
     {
         let Some(high_in) = closing(may_be_open(of), token) else {
             return Ok(false);

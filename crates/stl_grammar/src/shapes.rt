@@ -1,7 +1,10 @@
 //! Which bounds an operator takes, and what is open after it.
 ghost use Rattle.std.specs.Prelude.{◌≡◌, ◌<◌, ◌≤◌, IfOk};
 ghost use Rattle.stl_grammar.specs.Judging.{is_beside as stands_beside, back_is_beside as back_beside, in_bound as bound_at};
-ghost use Rattle.stl_grammar.specs.Parsing.{rank, back as back_of, may_be_open as may_be_out, back_may_be_open, opening as opening_of, closing as closing_of, bounded_frame as frame_of, back_frame as frame_back, next_place as place_after, coefficient as coefficient_of, node_of_frame, settled_frames, settled_drafts};
+ghost use Rattle.stl_grammar.specs.Parsing.{rank, back as back_of, may_be_open as may_be_out, back_may_be_open};
+ghost use Rattle.stl_grammar.specs.Parsing.{opening as opening_of, closing as closing_of, bounded_frame as frame_of};
+ghost use Rattle.stl_grammar.specs.Parsing.{back_frame as frame_back, next_place as place_after, coefficient as coefficient_of};
+ghost use Rattle.stl_grammar.specs.Parsing.{node_of_frame, settled_frames, settled_drafts};
 
 use crate::decimal::Decimal;
 use crate::draft::{Draft, Frame, Infix, Past, Prefix, Window};

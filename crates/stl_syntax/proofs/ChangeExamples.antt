@@ -3,7 +3,8 @@ use Rattle.std.proofs.Common.{pos, [], ◌∷◌, ◌⊎◌, inl, inr, arith}
 use Rattle.std.specs.Prelude.{codes}
 use Rattle.rational.specs.Time.{Rational, ◌≤ʳ◌, ◌<ʳ◌, add, subtract, Within}
 use Rattle.rational.specs.Rational.{middle}
-use Rattle.rational.proofs.Order.{le_or_lt, lt_of_lt_of_le, lt_of_le_of_lt, lt_trans, le_of_lt, le_of_same, le_refl, same_sym, same_trans, left_of_middle, right_of_middle}
+use Rattle.rational.proofs.Order.{le_or_lt, lt_of_lt_of_le, lt_of_le_of_lt, lt_trans, le_of_lt, le_of_same}
+use Rattle.rational.proofs.Order.{le_refl, same_sym, same_trans, left_of_middle, right_of_middle}
 use Rattle.rational.proofs.Field.{lt_add_left, add_zero, add_comm}
 use Rattle.rational.proofs.TimeLemmas.{less_in}
 use Rattle.stl_syntax.specs.Trace.{value_of}
@@ -56,7 +57,8 @@ itself_near : (e t : Rational) → at_time 0 <ʳ e → IsNear e t t
 itself_near e t h = record { above = more; below = more }
   where
     more : t <ʳ add t e
-    more = lt_of_le_of_lt (le_of_same (same_trans (same_sym (add_zero t)) (add_comm t (at_time 0)))) (lt_of_lt_of_le (lt_add_left h (le_refl t)) (le_of_same (add_comm e t)))
+    more = lt_of_le_of_lt (le_of_same (same_trans (same_sym (add_zero t)) (add_comm t (at_time 0))))
+        (lt_of_lt_of_le (lt_add_left h (le_refl t)) (le_of_same (add_comm e t)))
 
 -- `x > 0` changes at the start
 change_at_start : IsChange above_0 rise (at_time 0)
@@ -82,7 +84,8 @@ near_10 : (e d : Rational) → at_time 0 <ʳ e → at_time 0 <ʳ d → d <ʳ e �
 unfolding before_10
 near_10 e d h k l = record {
   above = (let m = l.lt in record { lt = omega (arith, m) });
-  below = lt_of_lt_of_le (let m = k.lt in let ten : subtract (at_time 10) d <ʳ at_time 10 = record { lt = omega (arith, m) } in ten) (le_of_lt (itself_near e (at_time 10) h).above);
+  below = lt_of_lt_of_le (let m = k.lt in let ten : subtract (at_time 10) d <ʳ at_time 10 = record { lt = omega (arith, m) } in ten)
+      (le_of_lt (itself_near e (at_time 10) h).above);
 }
 
 within_10 : (d : Rational) → at_time 0 <ʳ d → d <ʳ at_time 10 → Within (at_time 0) (at_time 10) (before_10 d)

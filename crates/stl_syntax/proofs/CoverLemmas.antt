@@ -34,7 +34,8 @@ pub told_covered : (items : List Item) (i : ℕ) (t : Rational) → IsCovered it
 told_covered [] i t = inr (λ h. h)
 told_covered (e ∷ items) i t = by_first (cases_order e.node i) (told_inside (interval e.on) t) (told_covered items i t)
   where
-    by_first : (e.node ≡ i) ⊎ ((e.node < i) ⊎ (i < e.node)) → IsIn (interval e.on) t ⊎ (¬ IsIn (interval e.on) t) → IsCovered items i t ⊎ (¬ IsCovered items i t)
+    by_first : (e.node ≡ i) ⊎ ((e.node < i) ⊎ (i < e.node)) → IsIn (interval e.on) t ⊎ (¬ IsIn (interval e.on) t)
+        → IsCovered items i t ⊎ (¬ IsCovered items i t)
         → IsCovered (e ∷ items) i t ⊎ (¬ IsCovered (e ∷ items) i t)
     by_first d m (inl h) = inl (inr h)
     by_first (inl s) (inl m) (inr h) = inl (inl (s, m))

@@ -7,14 +7,17 @@ use Rattle.rational.proofs.Order.{le_refl}
 use Rattle.rational.proofs.TimeLemmas.{within_stretch}
 use Rattle.rational.proofs.ExtendedLemmas.{clashᵉ, le_transᵉ, least_of}
 use Rattle.stl_syntax.specs.Trace.{Trace, start, stop}
-use Rattle.stl_syntax.specs.Formula.{Subformula, constant, atom, negation, conjunction, disjunction, implication, until, eventually, always, since, once, historically, horizon}
+use Rattle.stl_syntax.specs.Formula.{Subformula, constant, atom, negation, conjunction, disjunction, implication}
+use Rattle.stl_syntax.specs.Formula.{until, eventually, always, since, once, historically, horizon}
 use Rattle.stl_syntax.specs.SupInf.{Setting, SupInf, one, minus_one, zero_value, HasValues, HasInfs, truth_setting}
 use Rattle.stl_syntax.specs.Truth.{Truth}
 use Rattle.stl_syntax.specs.Early.{IsSure, Settled, SettledNot, Decides}
 use Rattle.stl_syntax.specs.Laws.{AnsweredIsSettled, RowsDecide}
 use Rattle.stl_syntax.proofs.TruthLaw.{Tells, SupInf-truth, has_value}
 use Rattle.stl_syntax.proofs.KleeneLaw.{Tells3, sup_tells3, inf_tells3, least_tells3, greatest_tells3, implies_tells3, opposite_tells3', retold3}
-use Rattle.stl_syntax.proofs.Reaching.{Reaches, reach_now, reach_less, ahead_reaches, behind_reaches, ahead_opens, ahead_closes, behind_opens, behind_closes, until_left, until_right, since_left, since_right}
+use Rattle.stl_syntax.proofs.Reaching.{Reaches, reach_now, reach_less, ahead_reaches, behind_reaches, ahead_opens}
+use Rattle.stl_syntax.proofs.Reaching.{ahead_closes, behind_opens, behind_closes, until_left, until_right, since_left}
+use Rattle.stl_syntax.proofs.Reaching.{since_right}
 
 module _ (tr : Trace) where
   abbrev from : Rational

@@ -1,5 +1,6 @@
 -- Decimals without the zeros at their end.
-use Rattle.std.proofs.Common.{◌≡◌, ◌≢◌, ℕ, zero, suc, ◌+◌, ◌-◌, ◌*◌, ◌/◌, ◌%◌, ◌^◌, ◌<◌, ◌≤◌, Bool, true, false, List, [], ◌∷◌, ◌++◌, length, min, reverse, refl, sym, ◌∙◌, ap, arith, ◌⊎◌, inl, inr, lit<}
+use Rattle.std.proofs.Common.{◌≡◌, ◌≢◌, ℕ, zero, suc, ◌+◌, ◌-◌, ◌*◌, ◌/◌, ◌%◌, ◌^◌, ◌<◌, ◌≤◌, Bool, true, false, List}
+use Rattle.std.proofs.Common.{[], ◌∷◌, ◌++◌, length, min, reverse, refl, sym, ◌∙◌, ap, arith, ◌⊎◌, inl, inr, lit<}
 use Rattle.std.proofs.lemmas.Bool.{ne_eqb, eqb-true, le-leb, cases_Bool, and_from}
 use Rattle.std.proofs.lemmas.List.{reverse-append, reverse-reverse, length-reverse, length_push}
 use Rattle.std.proofs.Math.Nat.{pow-suc, pow-zero, one-le-pow}
@@ -38,7 +39,8 @@ decimal_value-append w [] ys = refl
 decimal_value-append w (x ∷ xs) ys = decimal_value-append (10 * w + (x - 48)) xs ys
 
 -- numbers that are the same below a limit stay so after more digits
-pub decimal_value-min : (v n : ℕ) (digits : List ℕ) → min v 4294967296 ≡ min n 4294967296 → min (decimal_value v digits) 4294967296 ≡ min (decimal_value n digits) 4294967296
+pub decimal_value-min : (v n : ℕ) (digits : List ℕ) → min v 4294967296 ≡ min n 4294967296
+    → min (decimal_value v digits) 4294967296 ≡ min (decimal_value n digits) 4294967296
 decimal_value-min v n [] h = h
 decimal_value-min v n (c ∷ digits) h = decimal_value-min (10 * v + (c - 48)) (10 * n + (c - 48)) digits (omega (arith, h))
 
@@ -57,18 +59,23 @@ decimal_value-last_digits w (suc k) n l =
     decimal_value-push w (last_digits k (n / 10)) (48 + n % 10) ∙ omega (arith, decimal_value-last_digits w k (n / 10) less, shifted)
 
 -- what is left after the first zeros, read backwards, is the same number with fewer places
-cut_zeros : (w : ℕ) (ys : List ℕ) → decimal_value w (reverse ys) * 10 ^ length (after_first (λ c. c == 48) ys) ≡ decimal_value w (reverse (after_first (λ c. c == 48) ys)) * 10 ^ length ys
+cut_zeros : (w : ℕ) (ys : List ℕ) → decimal_value w (reverse ys) * 10 ^ length (after_first (λ c. c == 48) ys) ≡ decimal_value w
+    (reverse (after_first (λ c. c == 48) ys)) * 10 ^ length ys
 cut_zeros w [] = refl
 cut_zeros w (c ∷ ys) = by_digit (cut_zeros w ys) (cases_Bool (c == 48))
   where
-    by_digit : decimal_value w (reverse ys) * 10 ^ length (after_first (λ c. c == 48) ys) ≡ decimal_value w (reverse (after_first (λ c. c == 48) ys)) * 10 ^ length ys
+    by_digit : decimal_value w (reverse ys) * 10 ^ length (after_first (λ c. c == 48) ys) ≡ decimal_value w
+        (reverse (after_first (λ c. c == 48) ys)) * 10 ^ length ys
         → ((c == 48) ≡ true) ⊎ ((c == 48) ≡ false)
-        → decimal_value w (reverse (c ∷ ys)) * 10 ^ length (after_first (λ c. c == 48) (c ∷ ys)) ≡ decimal_value w (reverse (after_first (λ c. c == 48) (c ∷ ys))) * 10 ^ length (c ∷ ys)
+        → decimal_value w (reverse (c ∷ ys)) * 10 ^ length (after_first (λ c. c == 48) (c ∷ ys)) ≡ decimal_value w
+        (reverse (after_first (λ c. c == 48) (c ∷ ys))) * 10 ^ length (c ∷ ys)
     by_digit below (inl zero_digit) =
         let same : c ≡ 48 = eqb-true c 48 zero_digit in
-        let pushed : decimal_value w (reverse (c ∷ ys)) ≡ 10 * decimal_value w (reverse ys) = ap (decimal_value w) (reverse-append (c ∷ []) ys) ∙ decimal_value-push w (reverse ys) c ∙ omega arith in
+        let pushed : decimal_value w (reverse (c ∷ ys)) ≡ 10 * decimal_value w (reverse ys) =
+        ap (decimal_value w) (reverse-append (c ∷ []) ys) ∙ decimal_value-push w (reverse ys) c ∙ omega arith in
         let power : 10 ^ suc (length ys) ≡ 10 ^ length ys * 10 = pow-suc 10 (length ys) in
-        let whole : 10 * decimal_value w (reverse ys) * 10 ^ length (after_first (λ c. c == 48) ys) ≡ decimal_value w (reverse (after_first (λ c. c == 48) ys)) * (10 ^ length ys * 10) = omega (arith, below) in
+        let whole : 10 * decimal_value w (reverse ys) * 10 ^ length (after_first (λ c. c == 48) ys) ≡ decimal_value w
+        (reverse (after_first (λ c. c == 48) ys)) * (10 ^ length ys * 10) = omega (arith, below) in
         rw (zero_digit, pushed, power) whole
     by_digit below (inr other) = rw other refl
 
@@ -76,7 +83,8 @@ after_first-after_first : (p : ℕ → Bool) (xs : List ℕ) → after_first p (
 after_first-after_first p [] = refl
 after_first-after_first p (c ∷ xs) = by_test (after_first-after_first p xs) (cases_Bool (p c))
   where
-    by_test : after_first p (after_first p xs) ≡ after_first p xs → (p c ≡ true) ⊎ (p c ≡ false) → after_first p (after_first p (c ∷ xs)) ≡ after_first p (c ∷ xs)
+    by_test : after_first p (after_first p xs) ≡ after_first p xs → (p c ≡ true) ⊎ (p c ≡ false)
+        → after_first p (after_first p (c ∷ xs)) ≡ after_first p (c ∷ xs)
     by_test again (inl t) = rw t again
     by_test again (inr f) = rw (f) (rw (f) refl)
 
@@ -110,7 +118,8 @@ decimal_is digits n =
     let below : n % unit < unit = omega (arith, some) in
     let split : n / unit * unit + n % unit ≡ n = omega (arith, some) in
     let value : decimal_value (n / unit) rest ≡ n = decimal_value-last_digits (n / unit) digits (n % unit) below ∙ split in
-    let cut : decimal_value (n / unit) (reverse (reverse rest)) * 10 ^ length (after_first (λ c. c == 48) (reverse rest)) ≡ decimal_value (n / unit) (without_zeros rest) * 10 ^ length (reverse rest) = cut_zeros (n / unit) (reverse rest) in
+    let cut : decimal_value (n / unit) (reverse (reverse rest)) * 10 ^ length (after_first (λ c. c == 48) (reverse rest))
+    ≡ decimal_value (n / unit) (without_zeros rest) * 10 ^ length (reverse rest) = cut_zeros (n / unit) (reverse rest) in
     let places : length (reverse rest) ≡ digits = length-reverse rest ∙ length-last_digits digits (n % unit) in
     let fewer : length (without_zeros rest) ≡ length (after_first (λ c. c == 48) (reverse rest)) = length-reverse (after_first (λ c. c == 48) (reverse rest)) in
     let whole_value : decimal_value (n / unit) (reverse (reverse rest)) ≡ n = ap (decimal_value (n / unit)) (reverse-reverse rest) ∙ value in
@@ -119,6 +128,7 @@ decimal_is digits n =
       decimals = without_zeros rest;
       are_digits = all-without_zeros rest (all-last_digits digits (n % unit));
       fewest = without_zeros-without_zeros rest;
-      same = ap (λ l. n * 10 ^ l) fewer ∙ ap (λ m. m * 10 ^ length (after_first (λ c. c == 48) (reverse rest))) (sym whole_value) ∙ cut ∙ ap (λ l. decimal_value (n / unit) (without_zeros rest) * 10 ^ l) places;
+      same = ap (λ l. n * 10 ^ l) fewer ∙ ap (λ m. m * 10 ^ length (after_first (λ c. c == 48) (reverse rest))) (sym whole_value)
+          ∙ cut ∙ ap (λ l. decimal_value (n / unit) (without_zeros rest) * 10 ^ l) places;
       is = refl;
     }

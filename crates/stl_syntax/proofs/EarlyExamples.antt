@@ -15,7 +15,11 @@ rows_to n = record { header = x_header; rows = row 0 (pos 0) ∷ row n (pos 0) �
 
 -- with the last row at 4 nothing is decided: 5 may be a time of the trace, and may not
 open_at_4 : (holds : Bool) → ¬ Decides at_5 (rows_to 4) holds
-open_at_4 true (u, w, s, h) = elim s.1 [ inl l ↦ (let a = w.begins in let c : at_time 5 ≤ʳ at_time 4 = le_trans (record { le = omega (arith, a.le) }) l in omega (arith, c.le)) | inr l ↦ (let a = w.begins in omega (arith, a.le, l.le)) ]
+open_at_4 true (u, w, s, h) =
+    elim s.1 [
+      | inl l ↦ (let a = w.begins in let c : at_time 5 ≤ʳ at_time 4 = le_trans (record { le = omega (arith, a.le) }) l in omega (arith, c.le))
+      | inr l ↦ (let a = w.begins in omega (arith, a.le, l.le))
+    ]
 open_at_4 false h = let x : true ≡ false = h (at_time 5) (omega arith) in cc
 
 -- with the last row at 5 it is true
@@ -27,7 +31,11 @@ first_at_5 : FirstDecides at_5 x_header (row 0 (pos 0) ∷ []) (row 5 (pos 0)) t
 first_at_5 = record { decides = true_at_5; not_before = λ earlier later s b e. not_before earlier later s b e }
   where
     alone : (b : Bool) → ¬ Decides at_5 (record { header = x_header; rows = row 0 (pos 0) ∷ [] }) b
-    alone true (u, w, s, h) = elim s.1 [ inl l ↦ (let a = w.begins in let c : at_time 5 ≤ʳ at_time 0 = le_trans (record { le = omega (arith, a.le) }) l in omega (arith, c.le)) | inr l ↦ (let a = w.begins in omega (arith, a.le, l.le)) ]
+    alone true (u, w, s, h) =
+        elim s.1 [
+          | inl l ↦ (let a = w.begins in let c : at_time 5 ≤ʳ at_time 0 = le_trans (record { le = omega (arith, a.le) }) l in omega (arith, c.le))
+          | inr l ↦ (let a = w.begins in omega (arith, a.le, l.le))
+        ]
     alone false h = let x : true ≡ false = h (at_time 5) (omega arith) in cc
 
     not_before : (earlier later : List Row) (s : Row) (b : Bool) → row 0 (pos 0) ∷ [] ≡ earlier ++ s ∷ later

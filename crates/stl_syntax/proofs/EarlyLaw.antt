@@ -5,7 +5,8 @@ use Rattle.rational.proofs.Order.{le_trans, le_refl, same_sym}
 use Rattle.rational.specs.Time.{Rational, ◌≤ʳ◌, Within, whole}
 use Rattle.rational.specs.Windows.{Ahead, Behind}
 use Rattle.stl_syntax.specs.Trace.{Header, Row, Trace, AreRowsAfter, row_time, last_time}
-use Rattle.stl_syntax.specs.Formula.{Subformula, constant, atom, negation, conjunction, disjunction, implication, until, eventually, always, since, once, historically}
+use Rattle.stl_syntax.specs.Formula.{Subformula, constant, atom, negation, conjunction, disjunction}
+use Rattle.stl_syntax.specs.Formula.{implication, until, eventually, always, since, once, historically}
 use Rattle.stl_syntax.specs.Truth.{Truth, holds_at}
 use Rattle.stl_syntax.specs.Early.{OpenAhead, OpenBehind, IsSure, Settled, SettledNot, Decides}
 use Rattle.stl_syntax.specs.declared.atom.Atom.{Atom}
@@ -78,18 +79,27 @@ module _ (header : Header) (n : ℕ) (r : Row) (rows more : List Row) (ok : AreR
     settled_not (eventually a b a_in b_in p) t i h (u, w, k) = settled_not p u w.inside (h u (opened a b a_in b_in t u w)) k
     settled_not (always a b a_in b_in p) t i (u, w, s, h) k = let j = sure_in t u i s in settled_not p u j h (k u (closed a b a_in b_in t u w j.below))
     settled_not (once a b a_in b_in p) t i h (u, w, k) = settled_not p u w.inside (h u (opened_behind a b a_in b_in t u w)) k
-    settled_not (historically a b a_in b_in p) t i (u, w, s, h) k = let j = sure_in t u i s in settled_not p u j h (k u (closed_behind a b a_in b_in t u w j.below))
+    settled_not (historically a b a_in b_in p) t i (u, w, s, h) k =
+        let j = sure_in t u i s in
+        settled_not p u j h (k u (closed_behind a b a_in b_in t u w j.below))
     settled_not (until a b p q) t i h (u, w, k, l) =
-        absurd (elim (h u (opened a b true true t u w)) [ inl m ↦ settled_not q u w.inside m k | inr m ↦ settled_not p m.0 (between t u m.0 i w.inside m.1) m.2 (l m.0 m.1) ])
+        absurd (elim (h u (opened a b true true t u w)) [
+          | inl m ↦ settled_not q u w.inside m k
+          | inr m ↦ settled_not p m.0 (between t u m.0 i w.inside m.1) m.2 (l m.0 m.1)
+        ])
     settled_not (since a b p q) t i h (u, w, k, l) =
-        absurd (elim (h u (opened_behind a b true true t u w)) [ inl m ↦ settled_not q u w.inside m k | inr m ↦ settled_not p m.0 (between u t m.0 w.inside i m.1) m.2 (l m.0 m.1) ])
+        absurd (elim (h u (opened_behind a b true true t u w)) [
+          | inl m ↦ settled_not q u w.inside m k
+          | inr m ↦ settled_not p m.0 (between u t m.0 w.inside i m.1) m.2 (l m.0 m.1)
+        ])
 
   -- what is settled stays so
   sure_stays : (t u : Rational) → IsSure so_far t u → IsSure all_rows t u
   sure_stays t u (s, inl l) = (s, inl (le_trans l (longer header n r rows more ok)))
   sure_stays t u (s, inr l) = (s, inr l)
 
-  fails_same : (a : Atom) (t : Rational) → from ≤ʳ t → t ≤ʳ whole (pos (last_time r.time rows)) → IsFalse (holds_at a so_far t) → IsFalse (holds_at a all_rows t)
+  fails_same : (a : Atom) (t : Rational) → from ≤ʳ t → t ≤ʳ whole (pos (last_time r.time rows)) → IsFalse (holds_at a so_far t)
+      → IsFalse (holds_at a all_rows t)
   fails_same a t i h f = by_test (holds_at a all_rows t) refl
     where
       by_test : (b : Bool) → holds_at a all_rows t ≡ b → IsFalse (holds_at a all_rows t)
@@ -127,8 +137,10 @@ module _ (header : Header) (n : ℕ) (r : Row) (rows more : List Row) (ok : AreR
     stays_not (always a b a_in b_in p) t i (u, w, s, h) = (u, w, sure_stays t u s, stays_not p u w.after h)
     stays_not (once a b a_in b_in p) t i h = λ u w. stays_not p u w.after (h u w)
     stays_not (historically a b a_in b_in p) t i (u, w, s, h) = (u, w, sure_stays t u s, stays_not p u w.after h)
-    stays_not (until a b p q) t i h = λ u w. elim (h u w) [ inl m ↦ inl (stays_not q u w.after m) | inr m ↦ inr (m.0, m.1, stays_not p m.0 (le_trans i m.1.above) m.2) ]
-    stays_not (since a b p q) t i h = λ u w. elim (h u w) [ inl m ↦ inl (stays_not q u w.after m) | inr m ↦ inr (m.0, m.1, stays_not p m.0 (le_trans w.after m.1.above) m.2) ]
+    stays_not (until a b p q) t i h = λ u w.
+        elim (h u w) [ inl m ↦ inl (stays_not q u w.after m) | inr m ↦ inr (m.0, m.1, stays_not p m.0 (le_trans i m.1.above) m.2) ]
+    stays_not (since a b p q) t i h = λ u w.
+        elim (h u w) [ inl m ↦ inl (stays_not q u w.after m) | inr m ↦ inr (m.0, m.1, stays_not p m.0 (le_trans w.after m.1.above) m.2) ]
 
   -- a verdict that the rows decide is the truth at the start
   pub Decides-truth : (p : Subformula) (holds : Bool) → from ≤ʳ to → Decides p so_far holds → MatchBool holds (Truth p all_rows from) (¬ Truth p all_rows from)

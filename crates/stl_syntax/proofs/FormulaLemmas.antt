@@ -38,7 +38,8 @@ made trees (m ∷ nodes) zero i n at e c =
     let t : Subformula = tree_of (tree_at trees) (length trees) m in
     let shorter : length trees < length (trees ++ t ∷ []) = omega (arith, length-append trees (t ∷ [])) in
     let same : m ≡ n = cc in
-    let first : tree_at (trees_after (trees ++ t ∷ []) nodes) (length trees) ≡ t = kept (trees ++ t ∷ []) nodes (length trees) shorter ∙ get_or-append_seam trees t [] (constant false) in
+    let first : tree_at (trees_after (trees ++ t ∷ []) nodes) (length trees) ≡ t =
+    kept (trees ++ t ∷ []) nodes (length trees) shorter ∙ get_or-append_seam trees t [] (constant false) in
     let stay : (k : ℕ) → k < length trees → tree_at trees k ≡ tree_at (trees_after (trees ++ t ∷ []) nodes) k = λ k h. sym (kept trees (m ∷ nodes) k h) in
     rw (here, ← same) (first ∙ tree_of-agrees (tree_at trees) (tree_at (trees_after (trees ++ t ∷ []) nodes)) (length trees) m (rw (← here, same) c) stay)
 made trees (m ∷ nodes) (suc j) i n at e c =
@@ -46,6 +47,7 @@ made trees (m ∷ nodes) (suc j) i n at e c =
     made (trees ++ t ∷ []) nodes j i n (omega (arith, at, length-append trees (t ∷ []))) e c
 
 -- a subformula is made of those at its children's places
-pub subformula-at : (nodes : List Node) (i : ℕ) (n : Node) → slice_get nodes i ≡ Some n → HasChildrenBelow i n → subformula nodes i ≡ tree_of (subformula nodes) i n
+pub subformula-at : (nodes : List Node) (i : ℕ) (n : Node) → slice_get nodes i ≡ Some n → HasChildrenBelow i n
+    → subformula nodes i ≡ tree_of (subformula nodes) i n
 unfolding subformula
 subformula-at nodes i n e c = made [] nodes i i n (omega arith) e c

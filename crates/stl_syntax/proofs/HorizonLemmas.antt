@@ -1,5 +1,6 @@
 -- The horizon of a node follows from those of its children.
-use Rattle.std.proofs.Common.{◌≡◌, ℕ, zero, suc, ◌+◌, ◌<◌, ◌≤◌, List, [], ◌∷◌, ◌++◌, length, take, drop, refl, sym, ◌∙◌, ap, arith, slice_index, false, set, ◌≢◌, below_more}
+use Rattle.std.proofs.Common.{◌≡◌, ℕ, zero, suc, ◌+◌, ◌<◌, ◌≤◌, List, [], ◌∷◌, ◌++◌, length, take, drop}
+use Rattle.std.proofs.Common.{refl, sym, ◌∙◌, ap, arith, slice_index, false, set, ◌≢◌, below_more}
 use Rattle.std.proofs.lemmas.List.{get_or-set_other, get_or-set_same, take_more, length-take-le, take-append-drop}
 use Rattle.std.proofs.lemmas.List.Sums.{sum_by-append}
 use Rattle.std.specs.Prelude.{Some, slice_get, slice_index_or, sum_by}
@@ -12,7 +13,8 @@ use Rattle.stl_syntax.specs.PostOrder.{children, unused, MayFollow, IsPostOrder}
 use Rattle.stl_syntax.proofs.FormulaLemmas.{subformula-at}
 use Rattle.stl_syntax.proofs.PostOrderLemmas.{placed, post_order_take, unused_push, slice_get_at}
 
-above : (at : ℕ → Subformula) (h : List ℕ) (i : ℕ) (n : Node) → HasChildrenBelow i n → ((k : ℕ) → k < i → slice_index h k ≡ horizon (at k)) → horizon (tree_of at i n) ≡ horizon_above h n
+above : (at : ℕ → Subformula) (h : List ℕ) (i : ℕ) (n : Node) → HasChildrenBelow i n
+    → ((k : ℕ) → k < i → slice_index h k ≡ horizon (at k)) → horizon (tree_of at i n) ≡ horizon_above h n
 above at h i (Const b) c e = refl
 above at h i (Leaf a) c e = refl
 above at h i (Not p) c e = sym (e p c)
@@ -27,11 +29,13 @@ above at h i (Once p a b a_in b_in) c e = rw (e p c)
 above at h i (Historically p a b a_in b_in) c e = rw (e p c)
 
 -- the horizon of a node by the horizons of its children
-pub horizon-above : (nodes : List Node) (h : List ℕ) (i : ℕ) (n : Node) → HasChildrenBelow i n → slice_get nodes i ≡ Some n → AreHorizonsBelow i nodes h → horizon (subformula nodes i) ≡ horizon_above h n
+pub horizon-above : (nodes : List Node) (h : List ℕ) (i : ℕ) (n : Node) → HasChildrenBelow i n → slice_get nodes i ≡ Some n
+    → AreHorizonsBelow i nodes h → horizon (subformula nodes i) ≡ horizon_above h n
 horizon-above nodes h i n p e k = rw (subformula-at nodes i n e p) (above (subformula nodes) h i n p k)
 
 -- one more horizon
-pub horizons-set : (nodes : List Node) (i x : ℕ) (h : List ℕ) → i < length h → AreHorizonsBelow i nodes h → x ≡ horizon (subformula nodes i) → AreHorizonsBelow (i + 1) nodes (set h i x)
+pub horizons-set : (nodes : List Node) (i x : ℕ) (h : List ℕ) → i < length h → AreHorizonsBelow i nodes h
+    → x ≡ horizon (subformula nodes i) → AreHorizonsBelow (i + 1) nodes (set h i x)
 horizons-set nodes i x h l k n = below_more _ _ (λ j m. let other : j ≢ i = omega arith in rw get_or-set_other (k j m)) (rw get_or-set_same n)
 
 -- a node's horizon is at most its own bound and the horizons of its children
@@ -64,10 +68,13 @@ one_more nodes i h l before =
     let longer : take (i + 1) nodes ≡ take i nodes ++ n ∷ [] = take_more nodes i (Const false) l in
     let last : MayFollow (take i nodes) n = h.follows i n found in
     let height : length (take i nodes) ≡ i = length-take-le i nodes (omega (arith, l)) in
-    let now : unused (take i nodes ++ n ∷ []) ≡ last.others ++ i ∷ [] = unused_push (take i nodes) n last.others (post_order_take nodes i h) last.last ∙ rw height refl in
-    let here : horizon (subformula nodes i) ≡ horizon (tree_of (subformula nodes) i n) = ap horizon (subformula-at nodes i n found (placed nodes i n h found)) in
+    let now : unused (take i nodes ++ n ∷ []) ≡ last.others ++ i ∷ [] =
+    unused_push (take i nodes) n last.others (post_order_take nodes i h) last.last ∙ rw height refl in
+    let here : horizon (subformula nodes i) ≡ horizon (tree_of (subformula nodes) i n) =
+    ap horizon (subformula-at nodes i n found (placed nodes i n h found)) in
     let sum : List ℕ → ℕ = sum_by (λ p. horizon (subformula nodes p)) in
-    let old : sum (unused (take i nodes)) ≡ sum last.others + sum (children n) = ap sum last.last ∙ sum_by-append (λ p. horizon (subformula nodes p)) last.others (children n) in
+    let old : sum (unused (take i nodes)) ≡ sum last.others + sum (children n) =
+    ap sum last.last ∙ sum_by-append (λ p. horizon (subformula nodes p)) last.others (children n) in
     let new : sum (last.others ++ i ∷ []) ≡ sum last.others + sum (i ∷ []) = sum_by-append (λ p. horizon (subformula nodes p)) last.others (i ∷ []) in
     let only : sum (i ∷ []) ≡ horizon (subformula nodes i) = omega arith in
     let step : horizon (tree_of (subformula nodes) i n) ≤ own_reach n + sum (children n) = horizon_step (subformula nodes) i n in
@@ -86,5 +93,6 @@ within nodes (suc m) h l =
 pub horizon_within : (nodes : List Node) (i : ℕ) → IsPostOrder nodes → i < length nodes → horizon (subformula nodes i) ≤ reach nodes
 horizon_within nodes i h l =
     let part : IsWithinTo nodes i = one_more nodes i h l (within nodes i h (omega (arith, l))) in
-    let whole : reach (take (i + 1) nodes) + reach (drop (i + 1) nodes) ≡ reach nodes = sym (sum_by-append own_reach (take (i + 1) nodes) (drop (i + 1) nodes)) ∙ ap reach (take-append-drop (i + 1) nodes) in
+    let whole : reach (take (i + 1) nodes) + reach (drop (i + 1) nodes) ≡ reach nodes =
+    sym (sum_by-append own_reach (take (i + 1) nodes) (drop (i + 1) nodes)) ∙ ap reach (take-append-drop (i + 1) nodes) in
     omega (arith, part.1, whole)

@@ -25,7 +25,10 @@ false_at_0 = record { on = instant_span zero_frac; holds = false }
 pub told : Describes (false_at_0 ∷ []) x_at_least_5 instant (closed (at_time 0) (at_time 0))
 told = (
   record { time = record { same = refl }; inside = refl },
-  record { not_empty = inr (record { same = refl }, refl, refl); truth = λ t w h. x_fails 0 (Truth-same x_at_least_5 instant (let l = w.above in let k = w.below in omega arith) h) },
+  record {
+    not_empty = inr (record { same = refl }, refl, refl);
+    truth = λ t w h. x_fails 0 (Truth-same x_at_least_5 instant (let l = w.above in let k = w.below in omega arith) h);
+  },
   record { time = record { same = refl }; inside = refl },
 )
 

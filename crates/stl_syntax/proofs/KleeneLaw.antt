@@ -3,7 +3,8 @@ use Rattle.std.proofs.Common.{◌⊎◌, inl, inr, true, false, lit≤, lit<, re
 use Rattle.rational.specs.Time.{Rational, Within}
 use Rattle.rational.specs.Windows.{Ahead, Behind, Function, Window, IsSupOver, IsInfOver, IsUpTo, IsDownTo}
 use Rattle.stl_syntax.specs.Trace.{Trace, start, stop}
-use Rattle.stl_syntax.specs.Formula.{Subformula, constant, atom, negation, conjunction, disjunction, implication, until, eventually, always, since, once, historically}
+use Rattle.stl_syntax.specs.Formula.{Subformula, constant, atom, negation, conjunction, disjunction}
+use Rattle.stl_syntax.specs.Formula.{implication, until, eventually, always, since, once, historically}
 use Rattle.rational.specs.Extended.{Extended, ◌≤ᵉ◌, ◌<ᵉ◌, ◌≈ᵉ◌, opposite, IsLeast, IsGreatest}
 use Rattle.stl_syntax.specs.SupInf.{Setting, SupInf, one, minus_one, zero_value, HasValues, HasInfs, certainty_setting}
 use Rattle.stl_syntax.specs.Kleene.{Must, MustNot}
@@ -117,8 +118,10 @@ opposite_of_inf W F r h = record {
 
 opposite_tells3 : (v : Extended) (P N : Type 0) → Tells3 v P N → Tells3 (opposite v) N P
 opposite_tells3 v P N (inl (e, p, n)) = inr (inl (record { at_most = opposite_le' one v e.at_least; at_least = opposite_le' v one e.at_most }, p, n))
-opposite_tells3 v P N (inr (inl (e, p, n))) = inl (record { at_most = opposite_le' minus_one v e.at_least; at_least = opposite_le' v minus_one e.at_most }, p, n)
-opposite_tells3 v P N (inr (inr (e, p, n))) = inr (inr (record { at_most = opposite_le' zero_value v e.at_least; at_least = opposite_le' v zero_value e.at_most }, n, p))
+opposite_tells3 v P N (inr (inl (e, p, n))) =
+    inl (record { at_most = opposite_le' minus_one v e.at_least; at_least = opposite_le' v minus_one e.at_most }, p, n)
+opposite_tells3 v P N (inr (inr (e, p, n))) =
+    inr (inr (record { at_most = opposite_le' zero_value v e.at_least; at_least = opposite_le' v zero_value e.at_most }, n, p))
 
 -- what is told of the opposite is told the other way round
 pub opposite_tells3' : (v : Extended) (P N : Type 0) → Tells3 (opposite v) P N → Tells3 v N P
@@ -134,9 +137,12 @@ inf_tells3 W F P N r tells has h =
     (λ u w. let f = has u w in (opposite f.0, rw opposite_twice f.1)) (opposite_of_inf W F r h))
 
 same_three : (r v : Extended) (P N : Type 0) → r ≈ᵉ v → Tells3 v P N → Tells3 r P N
-same_three r v P N h (inl (e, p, n)) = inl (record { at_most = le_transᵉ r v one h.at_most e.at_most; at_least = le_transᵉ one v r e.at_least h.at_least }, p, n)
-same_three r v P N h (inr (inl (e, p, n))) = inr (inl (record { at_most = le_transᵉ r v minus_one h.at_most e.at_most; at_least = le_transᵉ minus_one v r e.at_least h.at_least }, p, n))
-same_three r v P N h (inr (inr (e, p, n))) = inr (inr (record { at_most = le_transᵉ r v zero_value h.at_most e.at_most; at_least = le_transᵉ zero_value v r e.at_least h.at_least }, p, n))
+same_three r v P N h (inl (e, p, n)) =
+    inl (record { at_most = le_transᵉ r v one h.at_most e.at_most; at_least = le_transᵉ one v r e.at_least h.at_least }, p, n)
+same_three r v P N h (inr (inl (e, p, n))) =
+    inr (inl (record { at_most = le_transᵉ r v minus_one h.at_most e.at_most; at_least = le_transᵉ minus_one v r e.at_least h.at_least }, p, n))
+same_three r v P N h (inr (inr (e, p, n))) =
+    inr (inr (record { at_most = le_transᵉ r v zero_value h.at_most e.at_most; at_least = le_transᵉ zero_value v r e.at_least h.at_least }, p, n))
 
 -- what is told may be told in other words
 pub retold3 : (r : Extended) (P N Q M : Type 0) → (P → Q) → (Q → P) → (N → M) → (M → N) → Tells3 r P N → Tells3 r Q M
@@ -179,20 +185,36 @@ least_tells3 v w r P N Q M (inl (d, p, n)) e l =
     only (inr x) = x
 least_tells3 v w r P N Q M (inr (inl (d, p, n))) e l =
     let same = least_is_left v w r (le_transᵉ v minus_one w d.at_most (at_least_low3 w Q M e)) l in
-    inr (inl (record { at_most = le_transᵉ r v minus_one same.at_most d.at_most; at_least = le_transᵉ minus_one v r d.at_least same.at_least }, inl p, λ x. n x.0))
+    inr (inl (
+      record { at_most = le_transᵉ r v minus_one same.at_most d.at_most; at_least = le_transᵉ minus_one v r d.at_least same.at_least },
+      inl p,
+      λ x. n x.0,
+    ))
 least_tells3 v w r P N Q M (inr (inr (d, p, n))) (inl (e, q, m)) l =
     let same = least_is_left v w r (le_transᵉ v zero_value w d.at_most (le_transᵉ zero_value one w zero_le_high e.at_least)) l in
-    inr (inr (record { at_most = le_transᵉ r v zero_value same.at_most d.at_most; at_least = le_transᵉ zero_value v r d.at_least same.at_least }, (λ x. p x.0), neither n m))
+    inr (inr (
+      record { at_most = le_transᵉ r v zero_value same.at_most d.at_most; at_least = le_transᵉ zero_value v r d.at_least same.at_least },
+      (λ x. p x.0),
+      neither n m,
+    ))
   where
     neither : {A B : Type 0} → ¬ A → ¬ B → ¬ (A ⊎ B)
     neither a b (inl x) = a x
     neither a b (inr x) = b x
 least_tells3 v w r P N Q M (inr (inr (d, p, n))) (inr (inl (e, q, m))) l =
     let same = least_is_left w v r (le_transᵉ w minus_one v e.at_most (le_transᵉ minus_one zero_value v low_le_zero d.at_least)) (least_swaps v w r l) in
-    inr (inl (record { at_most = le_transᵉ r w minus_one same.at_most e.at_most; at_least = le_transᵉ minus_one w r e.at_least same.at_least }, inr q, λ x. p x.0))
+    inr (inl (
+      record { at_most = le_transᵉ r w minus_one same.at_most e.at_most; at_least = le_transᵉ minus_one w r e.at_least same.at_least },
+      inr q,
+      λ x. p x.0,
+    ))
 least_tells3 v w r P N Q M (inr (inr (d, p, n))) (inr (inr (e, q, m))) l =
     let same = least_is_left v w r (le_transᵉ v zero_value w d.at_most e.at_least) l in
-    inr (inr (record { at_most = le_transᵉ r v zero_value same.at_most d.at_most; at_least = le_transᵉ zero_value v r d.at_least same.at_least }, (λ x. p x.0), neither n m))
+    inr (inr (
+      record { at_most = le_transᵉ r v zero_value same.at_most d.at_most; at_least = le_transᵉ zero_value v r d.at_least same.at_least },
+      (λ x. p x.0),
+      neither n m,
+    ))
   where
     neither : {A B : Type 0} → ¬ A → ¬ B → ¬ (A ⊎ B)
     neither a b (inl x) = a x

@@ -4,7 +4,8 @@ use Rattle.std.specs.Prelude.{Option, MatchBool}
 use Rattle.rational.specs.Time.{Rational}
 use Rattle.rational.specs.Windows.{Ahead, Behind}
 use Rattle.stl_syntax.specs.Trace.{Trace, start, stop}
-use Rattle.stl_syntax.specs.Formula.{Subformula, constant, atom, negation, conjunction, disjunction, implication, until, eventually, always, since, once, historically, subformula, StandsIn}
+use Rattle.stl_syntax.specs.Formula.{Subformula, constant, atom, negation, conjunction, disjunction, implication}
+use Rattle.stl_syntax.specs.Formula.{until, eventually, always, since, once, historically, subformula, StandsIn}
 use Rattle.stl_syntax.specs.Truth.{Truth, holds_at}
 use Rattle.stl_syntax.specs.Kleene.{IsCovered, Must, MustNot}
 use Rattle.stl_syntax.specs.Kept.{AreSo, Agree}
@@ -41,10 +42,12 @@ mutual
   clear_not (disjunction p q) items tr t h (inl k) = clear_not p items tr t h.0 k
   clear_not (disjunction p q) items tr t h (inr k) = clear_not q items tr t h.1 k
   clear_not (implication p q) items tr t h k = clear_not q items tr t h.1 (k (clear p items tr t h.0))
-  clear_not (until a b p q) items tr t h (u, w, k, l) = absurd (elim (h u w) [ inl m ↦ clear_not q items tr u m k | inr m ↦ clear_not p items tr m.0 m.2 (l m.0 m.1) ])
+  clear_not (until a b p q) items tr t h (u, w, k, l) =
+      absurd (elim (h u w) [ inl m ↦ clear_not q items tr u m k | inr m ↦ clear_not p items tr m.0 m.2 (l m.0 m.1) ])
   clear_not (eventually a b a_in b_in p) items tr t h (u, w, k) = clear_not p items tr u (h u w) k
   clear_not (always a b a_in b_in p) items tr t (u, w, h) k = clear_not p items tr u h (k u w)
-  clear_not (since a b p q) items tr t h (u, w, k, l) = absurd (elim (h u w) [ inl m ↦ clear_not q items tr u m k | inr m ↦ clear_not p items tr m.0 m.2 (l m.0 m.1) ])
+  clear_not (since a b p q) items tr t h (u, w, k, l) =
+      absurd (elim (h u w) [ inl m ↦ clear_not q items tr u m k | inr m ↦ clear_not p items tr m.0 m.2 (l m.0 m.1) ])
   clear_not (once a b a_in b_in p) items tr t h (u, w, k) = clear_not p items tr u (h u w) k
   clear_not (historically a b a_in b_in p) items tr t (u, w, h) k = clear_not p items tr u h (k u w)
 
@@ -79,10 +82,12 @@ module _ (nodes : List Node) (items : List Item) (tr tr' : Trace) (agree : Agree
   ahead_back : (a b : ℕ) (a_in b_in : Bool) (t u : Rational) → Ahead (start tr') (stop tr') a b a_in b_in t u → Ahead (start tr) (stop tr) a b a_in b_in t u
   ahead_back a b a_in b_in t u w = rw (agree.like.start_same, agree.like.stop_same) at w
 
-  behind_over : (a : ℕ) (b : Option ℕ) (a_in b_in : Bool) (t u : Rational) → Behind (start tr) (stop tr) a b a_in b_in t u → Behind (start tr') (stop tr') a b a_in b_in t u
+  behind_over : (a : ℕ) (b : Option ℕ) (a_in b_in : Bool) (t u : Rational) → Behind (start tr) (stop tr) a b a_in b_in t u
+      → Behind (start tr') (stop tr') a b a_in b_in t u
   behind_over a b a_in b_in t u w = rw (agree.like.start_same, agree.like.stop_same) w
 
-  behind_back : (a : ℕ) (b : Option ℕ) (a_in b_in : Bool) (t u : Rational) → Behind (start tr') (stop tr') a b a_in b_in t u → Behind (start tr) (stop tr) a b a_in b_in t u
+  behind_back : (a : ℕ) (b : Option ℕ) (a_in b_in : Bool) (t u : Rational) → Behind (start tr') (stop tr') a b a_in b_in t u
+      → Behind (start tr) (stop tr) a b a_in b_in t u
   behind_back a b a_in b_in t u w = rw (agree.like.start_same, agree.like.stop_same) at w
 
   mutual

@@ -18,7 +18,8 @@ reads_after k (p ∷ pieces) t v ok (inr (inl h)) = le_of_lt h.after
 reads_after k (p ∷ pieces) t v ok (inr (inr h)) = le_trans (le_of_lt ok.0) (reads_after p.next pieces t v ok.1 h)
 
 -- rising knots have at most one value at a time
-pub reads_one : (k : Knot) (pieces : List Piece) (t : Rational) (v w : Extended) → AreKnotsFrom k pieces → ReadsFrom k pieces t v → ReadsFrom k pieces t w → v ≤ᵉ w
+pub reads_one : (k : Knot) (pieces : List Piece) (t : Rational) (v w : Extended) → AreKnotsFrom k pieces → ReadsFrom k pieces t v
+    → ReadsFrom k pieces t w → v ≤ᵉ w
 reads_one k [] t v w ok h j = le_transᵉ v k.value w h.1.at_most j.1.at_least
 reads_one k (p ∷ pieces) t v w ok (inl h) (inl j) = le_transᵉ v k.value w h.1.at_most j.1.at_least
 reads_one k (p ∷ pieces) t v w ok (inl h) (inr (inl j)) = absurd (not_lt_of_le (le_of_same h.0) j.after)
@@ -36,6 +37,7 @@ reads_one k (p ∷ pieces) t v w ok (inr (inr h)) (inr (inl j)) = absurd (not_lt
 reads_one k (p ∷ pieces) t v w ok (inr (inr h)) (inr (inr j)) = reads_one p.next pieces t v w ok.1 h j
 
 -- lists of knots give one value for each atom
-pub signals_give_one : (lists : List (Option Knots)) → ((i : ℕ) (knots : Knots) → slice_get lists i ≡ Some (Some knots) → AreKnots knots) → GivesOne (signals lists)
+pub signals_give_one : (lists : List (Option Knots))
+    → ((i : ℕ) (knots : Knots) → slice_get lists i ≡ Some (Some knots) → AreKnots knots) → GivesOne (signals lists)
 signals_give_one lists ok i a t r r' (knots, e, h) (others, f, j) =
     let same : others ≡ knots = cc in reads_one knots.first knots.pieces t r r' (ok i knots e) h (rw same at j)

@@ -10,7 +10,10 @@ use Rattle.stl_syntax.specs.Truth.{Truth}
 use Rattle.stl_syntax.specs.SupInf.{Robustness, Reading, margins, truths, certainties, signals, one, zero_value, minus_one}
 use Rattle.stl_syntax.specs.Early.{Decides}
 use Rattle.stl_syntax.specs.Kleene.{Must, MustNot}
-use Rattle.stl_syntax.specs.Laws.{TruthIsOfTimes, ValuesAreOfTimes, CertaintyIsOfTimes, IsReadable, OneValue, CertaintyHasValues, IsToldByValue, TruthByValues, IsToldCertain, CertaintyByValues, CertaintyIsTruth, ExplanationsHold, AnswersStay, DecisionsStay, MarginsHold, OneListOfVerdicts, OneListOfMargins, AnsweredMarginsStay}
+use Rattle.stl_syntax.specs.Laws.{TruthIsOfTimes, ValuesAreOfTimes, CertaintyIsOfTimes, IsReadable, OneValue}
+use Rattle.stl_syntax.specs.Laws.{CertaintyHasValues, IsToldByValue, TruthByValues, IsToldCertain, CertaintyByValues}
+use Rattle.stl_syntax.specs.Laws.{CertaintyIsTruth, ExplanationsHold, AnswersStay, DecisionsStay, MarginsHold}
+use Rattle.stl_syntax.specs.Laws.{OneListOfVerdicts, OneListOfMargins, AnsweredMarginsStay}
 use Rattle.stl_syntax.proofs.TruthLemmas.{Truth-same}
 use Rattle.stl_syntax.proofs.TimeLaw.{SupInf-same, Must-same, MustNot-same}
 use Rattle.stl_syntax.proofs.SupInfLemmas.{GivesOne, SupInf-unique, margins_give_one, truths_give_one}
@@ -106,7 +109,8 @@ explanations_hold nodes items tr tr' placed some known false_there agree =
     rw agree.like.start_same
     (certain_not nodes items tr tr' agree known (root nodes) (start tr) (stands nodes (length nodes - 1) placed (omega arith)) false_there)
 
-rows_after : (header : Header) (r : Row) (rows more : List Row) → IsTrace (record { header = header; rows = r ∷ (rows ++ more) }) → AreRowsAfter (length header.columns) r.time (rows ++ more)
+rows_after : (header : Header) (r : Row) (rows more : List Row) → IsTrace (record { header = header; rows = r ∷ (rows ++ more) })
+    → AreRowsAfter (length header.columns) r.time (rows ++ more)
 rows_after header r rows more ok = ok.rows.1
 
 going_on : (header : Header) (r : Row) (rows : List Row) (tr : Trace) (ended : Bool) → Continues tr header (r ∷ rows) ended

@@ -34,7 +34,8 @@ says_5_twice : ¬ DescribesRise (told 0 true 5 true (record { lt = lit< tt }) fa
 says_5_twice h = h.2.0.once refl
 
 -- `[0,3) false, [3,5) false, [5,10] true` has two lines for one
-parted : ¬ DescribesRise (told 0 true 3 false (record { lt = lit< tt }) false ∷ told 3 true 5 false (record { lt = lit< tt }) false ∷ told 5 true 10 true (record { lt = lit< tt }) true ∷ [])
+parted : ¬ DescribesRise (told 0 true 3 false (record { lt = lit< tt }) false ∷ told 3 true 5 false
+    (record { lt = lit< tt }) false ∷ told 5 true 10 true (record { lt = lit< tt }) true ∷ [])
 parted h = h.2.1 refl
 
 -- `(0,5) false, [5,10] true` leaves the start out, and `[0,5) false, [5,10) true` the end
@@ -63,7 +64,13 @@ late_value t h = record {
 }
   where
     empty : (u : Rational) → ¬ Ahead (start rise) (stop rise) 1 1 true true t u
-    empty u w = let a = w.begins in let b = w.inside.below in let c : later t 1 ≤ʳ at_time 10 = le_trans a b in let d = h.lt in let e = c.le in omega (arith, d, e)
+    empty u w =
+        let a = w.begins in
+        let b = w.inside.below in
+        let c : later t 1 ≤ʳ at_time 10 = le_trans a b in
+        let d = h.lt in
+        let e = c.le in
+        omega (arith, d, e)
 
 abbrev low_knot : ℕ → Knot
 low_knot n = record { time = at_time n; value = minus_infinity }
@@ -87,14 +94,29 @@ late_margins = (
   inr (
     (
       record { lt = lit< tt },
-      λ t h k. (minus_infinity, early_value t (le_of_lt h) (le_of_lt k), record { after = h; before = k; through = always_low; from = same_reflᵉ minus_infinity; to = same_reflᵉ minus_infinity; value = same_reflᵉ minus_infinity }),
+      λ t h k. (
+        minus_infinity,
+        early_value t (le_of_lt h) (le_of_lt k),
+        record {
+          after = h;
+          before = k;
+          through = always_low;
+          from = same_reflᵉ minus_infinity;
+          to = same_reflᵉ minus_infinity;
+          value = same_reflᵉ minus_infinity;
+        },
+      ),
     ),
     early_value (at_time 9) (omega arith) (omega arith),
     (
       (λ n. not_one_line n.through n.begins n.ends),
       (
         record { lt = lit< tt },
-        λ t h k. (infinity, late_value t h, record { after = h; before = k; through = always_high; from = same_reflᵉ infinity; to = same_reflᵉ infinity; value = same_reflᵉ infinity }),
+        λ t h k. (
+          infinity,
+          late_value t h,
+          record { after = h; before = k; through = always_high; from = same_reflᵉ infinity; to = same_reflᵉ infinity; value = same_reflᵉ infinity },
+        ),
       ),
       late_value (at_time 10) (record { lt = lit< tt }),
       record { same = refl },

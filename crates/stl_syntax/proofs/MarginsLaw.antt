@@ -1,7 +1,9 @@
 -- At most one list of knots describes the robustness of a formula.
 use Rattle.std.proofs.Common.{◌≡◌, ◌⊎◌, inl, inr, List, [], ◌∷◌}
 use Rattle.rational.specs.Rational.{Rational, ◌≤ʳ◌, ◌<ʳ◌, ◌≈◌, middle}
-use Rattle.rational.proofs.Order.{lt_or_same_or_gt, le_or_lt, le_of_same, ge_of_same, le_of_lt, le_refl, le_trans, lt_of_lt_of_le, lt_of_le_of_lt, lt_trans, not_lt_of_le, same_sym, same_refl, same_trans, left_of_middle, right_of_middle}
+use Rattle.rational.proofs.Order.{lt_or_same_or_gt, le_or_lt, le_of_same, ge_of_same, le_of_lt, le_refl}
+use Rattle.rational.proofs.Order.{le_trans, lt_of_lt_of_le, lt_of_le_of_lt, lt_trans, not_lt_of_le}
+use Rattle.rational.proofs.Order.{same_sym, same_refl, same_trans, left_of_middle, right_of_middle}
 use Rattle.rational.specs.Extended.{Extended, ◌≈ᵉ◌, Affine, value_at, Passes}
 use Rattle.stl_syntax.specs.Trace.{Trace, start, stop}
 use Rattle.stl_syntax.specs.Formula.{Subformula}
@@ -13,7 +15,8 @@ use Rattle.stl_syntax.proofs.TimeLaw.{SupInf-same}
 use Rattle.rational.proofs.AffineLemmas.{affine_unique, same_symᵉ, same_transᵉ, value_same}
 
 -- two functions that agree at two times agree at each
-everywhere : (f g : Affine) (t u : Rational) → t <ʳ u → value_at f t ≈ᵉ value_at g t → value_at f u ≈ᵉ value_at g u → (s : Rational) → value_at f s ≈ᵉ value_at g s
+everywhere : (f g : Affine) (t u : Rational) → t <ʳ u → value_at f t ≈ᵉ value_at g t → value_at f u ≈ᵉ value_at g u
+    → (s : Rational) → value_at f s ≈ᵉ value_at g s
 everywhere f g t u l h k s = record {
   at_most = affine_unique f g t u s l h k;
   at_least = affine_unique g f t u s l (same_symᵉ (value_at f t) (value_at g t) h) (same_symᵉ (value_at f u) (value_at g u) k);
@@ -53,7 +56,8 @@ module _ (p : Subformula) (tr : Trace) where
               same_transᵉ f.0 (value_at j.through t) (value_at i.through t) j.value
               (everywhere j.through i.through k.time a.next.time h.0
               (same_transᵉ (value_at j.through k.time) a.from (value_at i.through k.time) (same_symᵉ a.from (value_at j.through k.time) j.from) i.from)
-              (same_transᵉ (value_at j.through a.next.time) a.to (value_at i.through a.next.time) (same_symᵉ a.to (value_at j.through a.next.time) j.to) i.to) t),
+              (same_transᵉ (value_at j.through a.next.time) a.to (value_at i.through a.next.time)
+              (same_symᵉ a.to (value_at j.through a.next.time) j.to) i.to) t),
         );
       }
 
@@ -79,7 +83,8 @@ module _ (p : Subformula) (tr : Trace) where
     From k [] = k.time ≈ to
     From k (a ∷ pieces) = IsRobustInside p tr k a × IsRobust p tr a.next × PiecesGoOn p tr to k a pieces
 
-    from_first : (from : Rational) (k : Knot) (pieces : List Piece) → k.time ≈ from → ((pieces ≡ []) × (from ≈ to)) ⊎ TellsAfter p tr to k pieces → From k pieces
+    from_first : (from : Rational) (k : Knot) (pieces : List Piece) → k.time ≈ from
+        → ((pieces ≡ []) × (from ≈ to)) ⊎ TellsAfter p tr to k pieces → From k pieces
     from_first from k [] e (inl h) = same_trans e h.1
     from_first from k [] e (inr h) = absurd h
     from_first from k (a ∷ pieces) e (inl h) = absurd (let x : a ∷ pieces ≡ [] = h.0 in cc)
@@ -120,14 +125,17 @@ module _ (p : Subformula) (tr : Trace) where
         starts = lt_of_le_of_lt (ge_of_same e) h.0.0
 
         f_is : (t : Rational) → value_at f.line t ≈ᵉ value_at g.line t
-        f_is = one_line f.line g.line k.time a.next.time h.0.0 f.follows (part_of g.line l.time b.next.time k.time a.next.time (ge_of_same e) (le_of_lt o) g.follows)
+        f_is = one_line f.line g.line k.time a.next.time h.0.0 f.follows
+            (part_of g.line l.time b.next.time k.time a.next.time (ge_of_same e) (le_of_lt o) g.follows)
 
         inner : (v : Extended) × Robustness p tr a.next.time v × (v ≈ᵉ value_at g.line a.next.time)
         inner = g.follows a.next.time starts o
 
         by_end : (c.next.time ≤ʳ b.next.time) ⊎ (b.next.time <ʳ c.next.time) → (t : Rational) → value_at d.line t ≈ᵉ value_at g.line t
-        by_end (inl m) = one_line d.line g.line a.next.time c.next.time h.2.1.0 d.follows (part_of g.line l.time b.next.time a.next.time c.next.time (le_of_lt starts) m g.follows)
-        by_end (inr m) = one_line d.line g.line a.next.time b.next.time o (part_of d.line a.next.time c.next.time a.next.time b.next.time (le_refl a.next.time) (le_of_lt m) d.follows)
+        by_end (inl m) = one_line d.line g.line a.next.time c.next.time h.2.1.0 d.follows
+            (part_of g.line l.time b.next.time a.next.time c.next.time (le_of_lt starts) m g.follows)
+        by_end (inr m) = one_line d.line g.line a.next.time b.next.time o
+            (part_of d.line a.next.time c.next.time a.next.time b.next.time (le_refl a.next.time) (le_of_lt m) d.follows)
             (part_of g.line l.time b.next.time a.next.time b.next.time (le_of_lt starts) (le_refl b.next.time) g.follows)
 
         d_is : (t : Rational) → value_at d.line t ≈ᵉ value_at g.line t
@@ -141,7 +149,8 @@ module _ (p : Subformula) (tr : Trace) where
           (same_transᵉ (value_at g.line k.time) (value_at g.line l.time) b.from (value_same g.line e) (same_symᵉ b.from (value_at g.line l.time) g.begins))),
       same_transᵉ a.to (value_at f.line a.next.time) b.to f.ends
           (same_transᵉ (value_at f.line a.next.time) (value_at g.line a.next.time) b.to (f_is a.next.time)
-          (same_transᵉ (value_at g.line a.next.time) (value_at g.line b.next.time) b.to (value_same g.line s) (same_symᵉ b.to (value_at g.line b.next.time) g.ends))),
+          (same_transᵉ (value_at g.line a.next.time) (value_at g.line b.next.time) b.to (value_same g.line s)
+          (same_symᵉ b.to (value_at g.line b.next.time) g.ends))),
     )
       where
         f : Through k a
@@ -151,7 +160,8 @@ module _ (p : Subformula) (tr : Trace) where
         g = through_of l b i
 
         f_is : (t : Rational) → value_at f.line t ≈ᵉ value_at g.line t
-        f_is = one_line f.line g.line k.time a.next.time h.0 f.follows (part_of g.line l.time b.next.time k.time a.next.time (ge_of_same e) (le_of_same s) g.follows)
+        f_is = one_line f.line g.line k.time a.next.time h.0 f.follows
+            (part_of g.line l.time b.next.time k.time a.next.time (ge_of_same e) (le_of_same s) g.follows)
 
     pieces_alike : (k l : Knot) (pieces others : List Piece) → k.time ≈ l.time → From k pieces → From l others → PiecesAlike pieces others
     pieces_alike k l [] [] e h i = tt
@@ -160,9 +170,11 @@ module _ (p : Subformula) (tr : Trace) where
     pieces_alike k l (a ∷ pieces) [] e h i =
         not_lt_of_le (le_trans (by_stop a.next pieces (from_here k a pieces h.2)) (ge_of_same i)) (lt_of_le_of_lt (ge_of_same e) h.0.0)
     pieces_alike k l (a ∷ pieces) (b ∷ others) e h i =
-        by_time (lt_or_same_or_gt a.next.time b.next.time) (λ s. pieces_alike a.next b.next pieces others s (from_here k a pieces h.2) (from_here l b others i.2))
+        by_time (lt_or_same_or_gt a.next.time b.next.time)
+        (λ s. pieces_alike a.next b.next pieces others s (from_here k a pieces h.2) (from_here l b others i.2))
       where
-        by_time : (a.next.time <ʳ b.next.time) ⊎ (a.next.time ≈ b.next.time) ⊎ (b.next.time <ʳ a.next.time) → (a.next.time ≈ b.next.time → PiecesAlike pieces others)
+        by_time : (a.next.time <ʳ b.next.time) ⊎ (a.next.time ≈ b.next.time) ⊎ (b.next.time <ʳ a.next.time)
+            → (a.next.time ≈ b.next.time → PiecesAlike pieces others)
             → PiecesAlike (a ∷ pieces) (b ∷ others)
         by_time (inl o) rest = absurd (not_inside k l a b pieces e h i.0 (by_stop b.next others (from_here l b others i.2)) o)
         by_time (inr (inl s)) rest =
@@ -170,7 +182,8 @@ module _ (p : Subformula) (tr : Trace) where
         by_time (inr (inr o)) rest = absurd (not_inside l k b a others (same_sym e) i h.0 (by_stop a.next pieces (from_here k a pieces h.2)) o)
 
     -- at most one list of knots tells the robustness on a stretch with both its ends
-    pub closed_once : (from : Rational) (ks ls : Knots) → TellsClosed p tr from to ks → TellsClosed p tr from to ls → KnotsAlike ks.first ls.first × PiecesAlike ks.pieces ls.pieces
+    pub closed_once : (from : Rational) (ks ls : Knots) → TellsClosed p tr from to ks → TellsClosed p tr from to ls
+        → KnotsAlike ks.first ls.first × PiecesAlike ks.pieces ls.pieces
     closed_once from ks ls h i =
         let e = same_trans h.0 (same_sym i.0) in (
           record { time = e; value = one_value ks.first.value ls.first.value e h.1 i.1 },
@@ -178,11 +191,13 @@ module _ (p : Subformula) (tr : Trace) where
         )
 
     -- at most one list of pieces tells it after a time
-    pub after_once : (k l : Knot) (pieces others : List Piece) → k.time ≈ l.time → TellsAfter p tr to k pieces → TellsAfter p tr to l others → PiecesAlike pieces others
+    pub after_once : (k l : Knot) (pieces others : List Piece) → k.time ≈ l.time → TellsAfter p tr to k pieces
+        → TellsAfter p tr to l others → PiecesAlike pieces others
     after_once k l [] others e h i = absurd h
     after_once k l (a ∷ pieces) [] e h i = absurd i
     after_once k l (a ∷ pieces) (b ∷ others) e h i = pieces_alike k l (a ∷ pieces) (b ∷ others) e h i
 
   -- at most one list of knots describes the robustness
-  pub DescribesMargins-unique : (ks ls : Knots) → DescribesMargins ks p tr → DescribesMargins ls p tr → KnotsAlike ks.first ls.first × PiecesAlike ks.pieces ls.pieces
+  pub DescribesMargins-unique : (ks ls : Knots) → DescribesMargins ks p tr → DescribesMargins ls p tr
+      → KnotsAlike ks.first ls.first × PiecesAlike ks.pieces ls.pieces
   DescribesMargins-unique ks ls h i = closed_once (stop tr) (start tr) ks ls h i

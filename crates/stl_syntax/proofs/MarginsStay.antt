@@ -8,12 +8,15 @@ use Rattle.rational.proofs.Order.{same_sym}
 use Rattle.rational.proofs.AffineLemmas.{same_transᵉ, finite_same}
 use Rattle.rational.proofs.WindowLemmas.{sup_alike, inf_alike}
 use Rattle.stl_syntax.specs.Trace.{Header, Row, AreRowsAfter, row_time, last_time}
-use Rattle.stl_syntax.specs.Formula.{Subformula, constant, atom, negation, conjunction, disjunction, implication, until, eventually, always, since, once, historically, horizon}
+use Rattle.stl_syntax.specs.Formula.{Subformula, constant, atom, negation, conjunction, disjunction, implication}
+use Rattle.stl_syntax.specs.Formula.{until, eventually, always, since, once, historically, horizon}
 use Rattle.stl_syntax.specs.Truth.{expression}
 use Rattle.stl_syntax.specs.SupInf.{Setting, SupInf, margin, margin_setting}
 use Rattle.stl_syntax.proofs.PrefixLaw.{trace, same_atom, longer}
 use Rattle.stl_syntax.proofs.TimeLaw.{margin_same}
-use Rattle.stl_syntax.proofs.Reaching.{Reaches, reach_now, reach_less, ahead_reaches, ahead_longer, ahead_shorter, behind_reaches, behind_longer, behind_shorter, until_left, until_right, since_left, since_right}
+use Rattle.stl_syntax.proofs.Reaching.{Reaches, reach_now, reach_less, ahead_reaches, ahead_longer, ahead_shorter}
+use Rattle.stl_syntax.proofs.Reaching.{behind_reaches, behind_longer, behind_shorter, until_left, until_right, since_left}
+use Rattle.stl_syntax.proofs.Reaching.{since_right}
 
 -- the two functions have the same values at the time
 abbrev SameAt : Function → Function → Rational → Type 0

@@ -37,7 +37,9 @@ rise_value u h = by_order (le_or_lt (at_time 10) u)
   where
     by_order : (at_time 10 ≤ʳ u) ⊎ (u <ʳ at_time 10) → expression at_least_5 rise u ≈ subtract u (at_time 5)
     by_order (inr l) = before u l
-    by_order (inl l) = let e : u ≈ at_time 10 = omega arith in same_trans (same_expression at_least_5 rise e) (same_trans at_end (record { same = omega (arith, e.same) }))
+    by_order (inl l) =
+        let e : u ≈ at_time 10 = omega arith in
+        same_trans (same_expression at_least_5 rise e) (same_trans at_end (record { same = omega (arith, e.same) }))
 
 -- the robustness of `x >= 5` on the rise is the time less 5
 robust_rise : (u : Rational) → u ≤ʳ at_time 10 → Robustness x_at_least_5 rise u (finite (subtract u (at_time 5)))
@@ -82,7 +84,8 @@ span a i b o h = span_between (fraction a) i (fraction b) o h
 
 -- `x >= 5` on the rise: [0,5) false, [5,10] true
 pub low_fails : (u : Rational) → u <ʳ at_time 5 → ¬ Truth x_at_least_5 rise u
-low_fails u h k = cannot (compares_same AtLeast (expression at_least_5 rise u) (subtract u (at_time 5)) (rise_value u (let l = h.lt in record { le = omega arith })) k)
+low_fails u h k =
+    cannot (compares_same AtLeast (expression at_least_5 rise u) (subtract u (at_time 5)) (rise_value u (let l = h.lt in record { le = omega arith })) k)
   where
     cannot : ¬ IsTrue (compares AtLeast (subtract u (at_time 5)))
     cannot j = let l = h.lt in grind arith
@@ -91,14 +94,19 @@ pub high_holds : (u : Rational) → at_time 5 ≤ʳ u → u ≤ʳ at_time 10 →
 high_holds u h k =
     compares_same AtLeast (subtract u (at_time 5)) (expression at_least_5 rise u) (same_sym (rise_value u k)) (let l = h.le in grind arith)
 
-rise_verdicts : Describes (record { on = span 0 true 5 false (record { lt = lit< tt }); holds = false } ∷ record { on = span 5 true 10 true (record { lt = lit< tt }); holds = true } ∷ []) x_at_least_5 rise (closed (start rise) (stop rise))
+rise_verdicts : Describes (record { on = span 0 true 5 false (record { lt = lit< tt }); holds = false }
+    ∷ record { on = span 5 true 10 true (record { lt = lit< tt }); holds = true } ∷ []) x_at_least_5 rise (closed (start rise) (stop rise))
 rise_verdicts = (
   record { time = record { same = refl }; inside = refl },
   record { not_empty = inl (record { lt = lit< tt }); truth = λ t w. low_fails t (let h : t <ʳ value (fraction 5) = w.below in record { lt = h.lt }) },
   (
     record { time = record { same = refl }; once = λ e. cc },
     (λ e. cc),
-    record { not_empty = inl (record { lt = lit< tt }); truth = λ t w. high_holds t (let h : value (fraction 5) ≤ʳ t = w.above in record { le = h.le }) (let h : t ≤ʳ value (fraction 10) = w.below in record { le = h.le }) },
+    record {
+      not_empty = inl (record { lt = lit< tt });
+      truth = λ t w. high_holds t
+          (let h : value (fraction 5) ≤ʳ t = w.above in record { le = h.le }) (let h : t ≤ʳ value (fraction 10) = w.below in record { le = h.le });
+    },
     record { time = record { same = refl }; inside = refl },
   ),
 )
@@ -136,9 +144,17 @@ rise_margins = (
     line_is t = record { same = omega arith }
 
     inside : (t : Rational) → at_time 0 <ʳ t → t <ʳ at_time 10 → (r : Extended) × Robustness x_at_least_5 rise t r
-        × IsInside (record { time = at_time 0; value = finite (whole (negsuc 4)) }) (record { from = finite (whole (negsuc 4)); to = finite (at_time 5); next = record { time = at_time 10; value = finite (at_time 5) } }) t r
+        × IsInside (record { time = at_time 0; value = finite (whole (negsuc 4)) })
+        (record { from = finite (whole (negsuc 4)); to = finite (at_time 5); next = record { time = at_time 10; value = finite (at_time 5) } }) t r
     inside t h k = (
       finite (subtract t (at_time 5)),
       robust_rise t (le_of_lt k),
-      record { after = h; before = k; through = affine less_5; from = record { at_most = omega arith; at_least = omega arith }; to = record { at_most = omega arith; at_least = omega arith }; value = close (line_is t) (same_refl (at less_5 t)) },
+      record {
+        after = h;
+        before = k;
+        through = affine less_5;
+        from = record { at_most = omega arith; at_least = omega arith };
+        to = record { at_most = omega arith; at_least = omega arith };
+        value = close (line_is t) (same_refl (at less_5 t));
+      },
     )

@@ -6,7 +6,8 @@ use Rattle.rational.specs.Time.{Rational, ◌≤ʳ◌, ◌<ʳ◌}
 use Rattle.rational.proofs.Order.{le_or_lt, le_trans}
 use Rattle.rational.proofs.TimeLemmas.{less_in, less_no}
 use Rattle.stl_syntax.specs.Trace.{Trace, IsTrace, value_of}
-use Rattle.stl_syntax.specs.Formula.{Subformula, constant, atom, negation, conjunction, disjunction, implication, until, eventually, always, since, once, historically}
+use Rattle.stl_syntax.specs.Formula.{Subformula, constant, atom, negation, conjunction, disjunction}
+use Rattle.stl_syntax.specs.Formula.{implication, until, eventually, always, since, once, historically}
 use Rattle.stl_syntax.specs.Truth.{Truth, expression}
 use Rattle.stl_syntax.specs.declared.atom.Atom.{Atom}
 use Rattle.stl_syntax.specs.declared.rel.Rel.{Rel}
@@ -49,7 +50,12 @@ q_after u h l k = let g = rw (less_no u (at_time 4) (le_trans (record { le = ome
 q_at_end : (u : Rational) → at_time 8 ≤ʳ u → ¬ Truth q bump u
 unfolding expression value_of
 q_at_end u h k =
-    let g = rw (less_no u (at_time 4) (le_trans (record { le = omega arith }) h), less_no u (at_time 6) (le_trans (record { le = omega arith }) h), less_no u (at_time 8) h) at k in cc
+    let g = rw (
+      less_no u (at_time 4) (le_trans (record { le = omega arith }) h),
+      less_no u (at_time 6) (le_trans (record { le = omega arith }) h),
+      less_no u (at_time 8) h,
+    ) at k in
+    cc
 
 q_ends : (u : Rational) → at_time 6 ≤ʳ u → ¬ Truth q bump u
 q_ends u h k = elim (le_or_lt (at_time 8) u) [ inl l ↦ q_at_end u l k | inr l ↦ q_after u h l k ]

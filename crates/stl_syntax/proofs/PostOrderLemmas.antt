@@ -1,5 +1,6 @@
 -- Nodes in post-order: children stand below their parents, and a node takes the place of its children among the unused places.
-use Rattle.std.proofs.Common.{◌≡◌, ℕ, zero, suc, ◌+◌, ◌<◌, ◌≤◌, List, [], ◌∷◌, ◌++◌, length, take, refl, sym, ◌∙◌, ap, arith, Bool, true, false, not, ◌||◌, cond, subst, append_assoc, inl, inr, ◌⊎◌}
+use Rattle.std.proofs.Common.{◌≡◌, ℕ, zero, suc, ◌+◌, ◌<◌, ◌≤◌, List, [], ◌∷◌, ◌++◌, length, take, refl, sym, ◌∙◌}
+use Rattle.std.proofs.Common.{ap, arith, Bool, true, false, not, ◌||◌, cond, subst, append_assoc, inl, inr, ◌⊎◌}
 use Rattle.std.proofs.lemmas.List.{append-nil, take-append-le, take_at, length_push, take-take, length-take}
 use Rattle.std.proofs.lemmas.List.Elements.{filter-append, filter_agree, filter_passes, All-filter, All-nil, All-cons, All-head, All-tail, All-same, All-weaker}
 use Rattle.std.proofs.lemmas.List.Folds.{list_any-append, list_any_none}
@@ -78,14 +79,18 @@ filter_filter p q (x ∷ xs) =
 
 range_more : (a n : ℕ) → range_with_len a (n + 1) ≡ range_with_len a n ++ (a + n) ∷ []
 range_more a zero = let e : a ≡ a + 0 = omega arith in rw (← e)
-range_more a (suc n) = let e : (a + 1) + n ≡ a + suc n = omega arith in let f : suc n + 1 ≡ suc (n + 1) = omega arith in rw (f) (ap (λ l. a ∷ l) (range_more (a + 1) n ∙ rw e))
+range_more a (suc n) =
+    let e : (a + 1) + n ≡ a + suc n = omega arith in
+    let f : suc n + 1 ≡ suc (n + 1) = omega arith in
+    rw (f) (ap (λ l. a ∷ l) (range_more (a + 1) n ∙ rw e))
 
 range_below : (a n : ℕ) → All (λ i. i < a + n) (range_with_len a n)
 range_below a zero = All-nil (λ i. i < a + 0)
 range_below a (suc n) =
     let e : (a + 1) + n ≡ a + suc n = omega arith in
     let more : All (λ i. i < (a + 1) + n) (range_with_len (a + 1) n) = range_below (a + 1) n in
-    All-cons (λ i. i < a + suc n) a (range_with_len (a + 1) n) (omega arith) (let Q : ℕ → Type 0 = λ top. All (λ i. i < top) (range_with_len (a + 1) n) in subst Q e more)
+    All-cons (λ i. i < a + suc n) a (range_with_len (a + 1) n) (omega arith)
+    (let Q : ℕ → Type 0 = λ top. All (λ i. i < top) (range_with_len (a + 1) n) in subst Q e more)
 
 All-append_right : (P : ℕ → Type 0) (xs ys : List ℕ) → All P (xs ++ ys) → All P ys
 All-append_right P [] ys h = h
@@ -146,7 +151,8 @@ children_below before n h =
 pub placed : (nodes : List Node) (i : ℕ) (n : Node) → IsPostOrder nodes → slice_get nodes i ≡ Some n → HasChildrenBelow i n
 placed nodes i n h e =
     placed_of_all i n
-    (All-weaker (λ p. p < length (take i nodes)) (λ p. p < i) (λ p l. omega (arith, length-take i nodes)) (children n) (children_below (take i nodes) n (h.follows i n e)))
+    (All-weaker (λ p. p < length (take i nodes)) (λ p. p < i) (λ p l. omega (arith, length-take i nodes)) (children n)
+    (children_below (take i nodes) n (h.follows i n e)))
 
 -- what stands before place i of a longer list
 taken : (nodes : List Node) (n : Node) (i : ℕ) → i ≤ length nodes → take i (nodes ++ n ∷ []) ≡ take i nodes
@@ -218,7 +224,8 @@ next_unused nodes m h last =
     placed_all k d l =
         let n : Node = slice_index_or nodes k d in
         let e : slice_get nodes k ≡ Some n = slice_get_at nodes k d l in
-        All-weaker (λ p. p < length (take k nodes)) (λ p. p < k) (λ p l. omega (arith, length-take k nodes)) (children n) (children_below (take k nodes) n (h.follows k n e))
+        All-weaker (λ p. p < length (take k nodes)) (λ p. p < k) (λ p l. omega (arith, length-take k nodes)) (children n)
+        (children_below (take k nodes) n (h.follows k n e))
 
 -- or false changes nothing
 pub or_false : (b : Bool) → (b || false) ≡ b
@@ -226,14 +233,16 @@ or_false true = refl
 or_false false = refl
 
 -- a node takes the place of its children among the unused places
-pub unused_push : (nodes : List Node) (m : Node) (others : List ℕ) → IsPostOrder nodes → unused nodes ≡ others ++ children m → unused (nodes ++ m ∷ []) ≡ others ++ length nodes ∷ []
+pub unused_push : (nodes : List Node) (m : Node) (others : List ℕ) → IsPostOrder nodes → unused nodes ≡ others ++ children m
+    → unused (nodes ++ m ∷ []) ≡ others ++ length nodes ∷ []
 unfolding unused
 unused_push nodes m others h last =
     let free : ℕ → Bool = λ i. not (is_used nodes i) in
     let free_too : ℕ → Bool = λ i. not (is_used (nodes ++ m ∷ []) i) in
     let longer : length (nodes ++ m ∷ []) ≡ length nodes + 1 = length_push nodes m in
     let top : 0 + length nodes ≡ length nodes = omega arith in
-    let more : range_with_len 0 (length (nodes ++ m ∷ [])) ≡ range_with_len 0 (length nodes) ++ length nodes ∷ [] = rw longer (range_more 0 (length nodes) ∙ rw top) in
+    let more : range_with_len 0 (length (nodes ++ m ∷ [])) ≡ range_with_len 0 (length nodes) ++ length nodes ∷ [] =
+    rw longer (range_more 0 (length nodes) ∙ rw top) in
     let same : (i : ℕ) → free_too i ≡ not (is_used nodes i || list_any (λ p. p == i) (children m)) =
     λ i. ap not (list_any-append (has_child i) nodes (m ∷ []) ∙ ap (λ b. is_used nodes i || b) (or_false (list_any (λ p. p == i) (children m)))) in
     let before : filter free_too (range_with_len 0 (length nodes)) ≡ others =

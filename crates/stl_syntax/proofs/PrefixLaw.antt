@@ -7,12 +7,15 @@ use Rattle.rational.proofs.Field.{same_add, same_subtract}
 use Rattle.rational.proofs.Lines.{same_at}
 use Rattle.rational.specs.Time.{Rational, ◌≤ʳ◌, ◌<ʳ◌, ◌≈◌, Within, whole, later}
 use Rattle.stl_syntax.specs.Trace.{Column, Row, Trace, AreRowsAfter, row_time, value, line_between, piece, value_from, value_among, value_of, last_time, Header}
-use Rattle.stl_syntax.specs.Formula.{Subformula, constant, atom, negation, conjunction, disjunction, implication, until, eventually, always, since, once, historically, horizon}
+use Rattle.stl_syntax.specs.Formula.{Subformula, constant, atom, negation, conjunction, disjunction, implication}
+use Rattle.stl_syntax.specs.Formula.{until, eventually, always, since, once, historically, horizon}
 use Rattle.stl_syntax.specs.Truth.{sum_at, expression, Truth}
 use Rattle.stl_syntax.specs.declared.atom.Term.{Term}
 use Rattle.stl_syntax.specs.declared.atom.Atom.{Atom}
 use Rattle.rational.proofs.TimeLemmas.{same_times, less_in, less_no}
-use Rattle.stl_syntax.proofs.Reaching.{Reaches, reach_now, reach_less, ahead_reaches, ahead_longer, ahead_shorter, behind_reaches, behind_longer, behind_shorter, until_left, until_right, since_left, since_right}
+use Rattle.stl_syntax.proofs.Reaching.{Reaches, reach_now, reach_less, ahead_reaches, ahead_longer, ahead_shorter}
+use Rattle.stl_syntax.proofs.Reaching.{behind_reaches, behind_longer, behind_shorter, until_left, until_right, since_left}
+use Rattle.stl_syntax.proofs.Reaching.{since_right}
 use Rattle.stl_syntax.proofs.TruthLemmas.{compares_same, chosen}
 
 -- a ramp has at its first row that row's value

@@ -1,12 +1,16 @@
 -- A formula has one printed text.
-use Rattle.std.proofs.Common.{◌≡◌, ℕ, suc, ◌+◌, ◌-◌, ◌*◌, ◌^◌, ◌<◌, ◌≤◌, ◌&&◌, Bool, true, false, List, [], ◌∷◌, ◌++◌, length, reverse, ℤ, pos, negsuc, refl, sym, ◌∙◌, ap, subst, arith, ◌⊎◌, inl, inr, lit<, pow-add}
+use Rattle.std.proofs.Common.{◌≡◌, ℕ, suc, ◌+◌, ◌-◌, ◌*◌, ◌^◌, ◌<◌, ◌≤◌, ◌&&◌, Bool, true, false, List, [], ◌∷◌, ◌++◌, length}
+use Rattle.std.proofs.Common.{reverse, ℤ, pos, negsuc, refl, sym, ◌∙◌, ap, subst, arith, ◌⊎◌, inl, inr, lit<, pow-add}
 use Rattle.std.proofs.Math.Nat.{one-le-pow, pow-suc, eq_of_mul-eq-mul_right}
 use Rattle.std.proofs.lemmas.Bool.{cases_order, cases_Bool, and_parts, leb-true}
 use Rattle.std.proofs.lemmas.List.{length_push, length-reverse}
 use Rattle.std.specs.Prelude.{codes, decimal, Option, Some, None, ◌==◌, MatchBool, if◌then◌else◌}
 use Rattle.stl_syntax.specs.Characters.{after_first, without_zeros, is_digit, all, decimal_value}
-use Rattle.stl_syntax.specs.Formula.{Subformula, constant, atom, negation, conjunction, disjunction, implication, until, eventually, always, since, once, historically}
-use Rattle.stl_syntax.specs.Print.{IsDecimalText, IsConstantText, IsAtomText, IsUpperText, IsBoundText, IsPastBoundText, InParens, Before, Between, Bare, Bounded, IsPrinted, after_point, terms_text, relation_text, opening, closing, has_two}
+use Rattle.stl_syntax.specs.Formula.{Subformula, constant, atom, negation, conjunction, disjunction}
+use Rattle.stl_syntax.specs.Formula.{implication, until, eventually, always, since, once, historically}
+use Rattle.stl_syntax.specs.Print.{IsDecimalText, IsConstantText, IsAtomText, IsUpperText, IsBoundText}
+use Rattle.stl_syntax.specs.Print.{IsPastBoundText, InParens, Before, Between, Bare, Bounded, IsPrinted}
+use Rattle.stl_syntax.specs.Print.{after_point, terms_text, relation_text, opening, closing, has_two}
 use Rattle.stl_syntax.specs.declared.scale.Scale.{Scale}
 use Rattle.stl_syntax.specs.declared.atom.Atom.{Atom}
 use Rattle.stl_syntax.proofs.DecimalLemmas.{decimal_value-push, without_zeros-zero}
@@ -16,14 +20,16 @@ digit_bounds : (c : ℕ) → is_digit c ≡ true → (48 ≤ c) × (c ≤ 57)
 digit_bounds c h = let parts = and_parts _ _ h in (leb-true 48 c parts.0, leb-true c 57 parts.1)
 
 -- numbers of as many digits are equal digit by digit
-digits_same : (w v : ℕ) (xs ys : List ℕ) → length xs ≡ length ys → all is_digit xs ≡ true → all is_digit ys ≡ true → decimal_value w xs ≡ decimal_value v ys → (w ≡ v) × (xs ≡ ys)
+digits_same : (w v : ℕ) (xs ys : List ℕ) → length xs ≡ length ys → all is_digit xs ≡ true → all is_digit ys ≡ true
+    → decimal_value w xs ≡ decimal_value v ys → (w ≡ v) × (xs ≡ ys)
 digits_same w v [] [] l h k e = (e, refl)
 digits_same w v [] (y ∷ ys) l h k e = absurd (omega (arith, l))
 digits_same w v (x ∷ xs) [] l h k e = absurd (omega (arith, l))
 digits_same w v (x ∷ xs) (y ∷ ys) l h k e =
     let here = and_parts (is_digit x) (all is_digit xs) h in
     let there = and_parts (is_digit y) (all is_digit ys) k in
-    let rest : (10 * w + (x - 48) ≡ 10 * v + (y - 48)) × (xs ≡ ys) = digits_same (10 * w + (x - 48)) (10 * v + (y - 48)) xs ys (omega (arith, l)) here.1 there.1 e in
+    let rest : (10 * w + (x - 48) ≡ 10 * v + (y - 48)) × (xs ≡ ys) =
+    digits_same (10 * w + (x - 48)) (10 * v + (y - 48)) xs ys (omega (arith, l)) here.1 there.1 e in
     let a = digit_bounds x here.0 in
     let b = digit_bounds y there.0 in
     let tens : w ≡ v = omega (arith, rest.0, a.0, a.1, b.0, b.1) in
@@ -50,7 +56,12 @@ length-after_first p (c ∷ xs) = by_test (length-after_first p xs) (cases_Bool 
 -- decimals without a zero at their end do not end in a zero
 no_last_zero : (front : List ℕ) → without_zeros (front ++ 48 ∷ []) ≡ front ++ 48 ∷ [] → ⊥
 no_last_zero front e =
-    let short : length (without_zeros front) ≤ length front = omega (arith, length-reverse (after_first (λ c. c == 48) (reverse front)), length-after_first (λ c. c == 48) (reverse front), length-reverse front) in
+    let short : length (without_zeros front) ≤ length front = omega (
+      arith,
+      length-reverse (after_first (λ c. c == 48) (reverse front)),
+      length-after_first (λ c. c == 48) (reverse front),
+      length-reverse front,
+    ) in
     let same : length (without_zeros front) ≡ length (front ++ 48 ∷ []) = ap length (sym (without_zeros-zero front) ∙ e) in
     omega (arith, short, same, length_push front 48)
 
@@ -80,7 +91,8 @@ assoc : (a b c : ℕ) → a * (b * c) ≡ a * b * c
 assoc a b c = omega arith
 
 -- the value with more places
-more : (n p w v : ℕ) (xs ys : List ℕ) → 0 < p → length xs < length ys → n * 10 ^ length xs ≡ decimal_value w xs * p → n * 10 ^ length ys ≡ decimal_value v ys * p
+more : (n p w v : ℕ) (xs ys : List ℕ) → 0 < p → length xs < length ys → n * 10 ^ length xs ≡ decimal_value w xs * p
+    → n * 10 ^ length ys ≡ decimal_value v ys * p
     → decimal_value v ys ≡ decimal_value w xs * 10 ^ (length ys - length xs)
 more n p w v xs ys some l e f =
     let k : ℕ = length ys - length xs in
@@ -99,8 +111,10 @@ parts_same n p w v xs ys some digits other_digits fewest other_fewest e f = by_o
     by_order (inl l) =
         let same : decimal_value w xs * p ≡ decimal_value v ys * p = sym e ∙ ap (λ k. n * 10 ^ k) l ∙ f in
         digits_same w v xs ys l digits other_digits (eq_of_mul-eq-mul_right p some (decimal_value w xs) (decimal_value v ys) same)
-    by_order (inr (inl l)) = absurd (longer (decimal_value w xs) v (length ys - length xs) ys (omega arith) other_digits other_fewest (more n p w v xs ys some l e f) (omega arith))
-    by_order (inr (inr l)) = absurd (longer (decimal_value v ys) w (length xs - length ys) xs (omega arith) digits fewest (more n p v w ys xs some l f e) (omega arith))
+    by_order (inr (inl l)) = absurd (longer (decimal_value w xs) v (length ys - length xs) ys
+        (omega arith) other_digits other_fewest (more n p w v xs ys some l e f) (omega arith))
+    by_order (inr (inr l)) =
+        absurd (longer (decimal_value v ys) w (length xs - length ys) xs (omega arith) digits fewest (more n p v w ys xs some l f e) (omega arith))
 
 -- at most one text is of a kind
 abbrev HasOne : (List ℕ → Type 0) → Type 0
@@ -108,7 +122,8 @@ HasOne P = (t u : List ℕ) → P t → P u → t ≡ u
 
 one_decimal : (digits n : ℕ) → HasOne (IsDecimalText digits n)
 one_decimal digits n t u a b =
-    let same = parts_same n (10 ^ digits) a.whole b.whole a.decimals b.decimals (one-le-pow digits 10 (lit< tt)) a.are_digits b.are_digits a.fewest b.fewest a.same b.same in
+    let same = parts_same n (10 ^ digits) a.whole b.whole a.decimals b.decimals (one-le-pow digits 10
+    (lit< tt)) a.are_digits b.are_digits a.fewest b.fewest a.same b.same in
     a.is ∙ ap (λ w. decimal w ++ after_point a.decimals) same.0 ∙ ap (λ ds. decimal b.whole ++ after_point ds) same.1 ∙ sym b.is
 
 one_constant : (digits : ℕ) (z : ℤ) → HasOne (IsConstantText digits z)
@@ -160,14 +175,22 @@ pub one_printed : (s : Scale) (p : Subformula) → HasOne (IsPrinted s p)
 one_printed s (constant b) = λ t u e f. e ∙ sym f
 one_printed s (atom i a) = one_atom s a
 one_printed s (negation p) = one_before _ _ (one_bare (codes "not")) (one_in_parens (has_two p) _ (one_printed s p))
-one_printed s (conjunction p q) = one_between _ _ _ (one_in_parens (has_two p) _ (one_printed s p)) (one_bare (codes "and")) (one_in_parens (has_two q) _ (one_printed s q))
-one_printed s (disjunction p q) = one_between _ _ _ (one_in_parens (has_two p) _ (one_printed s p)) (one_bare (codes "or")) (one_in_parens (has_two q) _ (one_printed s q))
-one_printed s (implication p q) = one_between _ _ _ (one_in_parens (has_two p) _ (one_printed s p)) (one_bare (codes "implies")) (one_in_parens (has_two q) _ (one_printed s q))
+one_printed s (conjunction p q) = one_between _ _ _ (one_in_parens (has_two p) _ (one_printed s p)) (one_bare (codes "and"))
+    (one_in_parens (has_two q) _ (one_printed s q))
+one_printed s (disjunction p q) = one_between _ _ _ (one_in_parens (has_two p) _ (one_printed s p)) (one_bare (codes "or"))
+    (one_in_parens (has_two q) _ (one_printed s q))
+one_printed s (implication p q) = one_between _ _ _ (one_in_parens (has_two p) _ (one_printed s p)) (one_bare (codes "implies"))
+    (one_in_parens (has_two q) _ (one_printed s q))
 one_printed s (until a b p q) =
-    one_between _ _ _ (one_in_parens (has_two p) _ (one_printed s p)) (one_bounded (codes "until") _ (one_bound s a (Some b) true true)) (one_in_parens (has_two q) _ (one_printed s q))
+    one_between _ _ _ (one_in_parens (has_two p) _ (one_printed s p))
+    (one_bounded (codes "until") _ (one_bound s a (Some b) true true)) (one_in_parens (has_two q) _ (one_printed s q))
 one_printed s (since a b p q) =
-    one_between _ _ _ (one_in_parens (has_two p) _ (one_printed s p)) (one_bounded (codes "since") _ (one_past s a b true true)) (one_in_parens (has_two q) _ (one_printed s q))
-one_printed s (eventually a b a_in b_in p) = one_before _ _ (one_bounded (codes "eventually") _ (one_bound s a (Some b) a_in b_in)) (one_in_parens (has_two p) _ (one_printed s p))
-one_printed s (always a b a_in b_in p) = one_before _ _ (one_bounded (codes "always") _ (one_bound s a (Some b) a_in b_in)) (one_in_parens (has_two p) _ (one_printed s p))
+    one_between _ _ _ (one_in_parens (has_two p) _ (one_printed s p)) (one_bounded (codes "since") _ (one_past s a b true true))
+    (one_in_parens (has_two q) _ (one_printed s q))
+one_printed s (eventually a b a_in b_in p) = one_before _ _
+    (one_bounded (codes "eventually") _ (one_bound s a (Some b) a_in b_in)) (one_in_parens (has_two p) _ (one_printed s p))
+one_printed s (always a b a_in b_in p) =
+    one_before _ _ (one_bounded (codes "always") _ (one_bound s a (Some b) a_in b_in)) (one_in_parens (has_two p) _ (one_printed s p))
 one_printed s (once a b a_in b_in p) = one_before _ _ (one_bounded (codes "once") _ (one_past s a b a_in b_in)) (one_in_parens (has_two p) _ (one_printed s p))
-one_printed s (historically a b a_in b_in p) = one_before _ _ (one_bounded (codes "historically") _ (one_past s a b a_in b_in)) (one_in_parens (has_two p) _ (one_printed s p))
+one_printed s (historically a b a_in b_in p) =
+    one_before _ _ (one_bounded (codes "historically") _ (one_past s a b a_in b_in)) (one_in_parens (has_two p) _ (one_printed s p))

@@ -20,7 +20,8 @@ use Rattle.stl_syntax.specs.declared.atom.Term.{Term}
 pub later_more : (terms : List Term) (i : ℕ) (t : Term) → slice_get terms i ≡ Some t
     → later_terms (drop i terms) ≡ sign_text t.coef ++ scaled_text (nat_abs t.coef) t.name ++ later_terms (drop (i + 1) terms)
 later_more terms i t e =
-    let step : drop i terms ≡ t ∷ drop (i + 1) terms = drop_more terms i t (slice_get_within terms i t e) ∙ ap (λ x. x ∷ drop (i + 1) terms) (get_or_from_slice_get terms i t t e) in
+    let step : drop i terms ≡ t ∷ drop (i + 1) terms =
+    drop_more terms i t (slice_get_within terms i t e) ∙ ap (λ x. x ∷ drop (i + 1) terms) (get_or_from_slice_get terms i t t e) in
     ap later_terms step
 
 -- the text of an operand
@@ -79,8 +80,11 @@ stand_before i (Historically p a b a_in b_in) h = h
 
 -- what a place shows of its operands
 pub record Shows (s : Scale) (nodes : List Node) (i : ℕ) (n : Node) (operands : Operands) : Type 0 where
+  -- the operands stand before it
   pub before : StandBefore i operands
+  -- its printed text is made of theirs
   pub text : printed s (subformula nodes i) ≡ node_text s n (operand_text s (subformula nodes)) operands
+  -- it is printed with two operands where it has two
   pub two : has_two (subformula nodes i) ≡ are_two operands
 
 -- n is read at place i, and found has its operands

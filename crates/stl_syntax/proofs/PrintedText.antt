@@ -1,8 +1,10 @@
 -- The text that is written is the printed text.
 use Rattle.std.proofs.Common.{◌≡◌, ℕ, suc, ◌&&◌, Bool, true, false, List, [], ◌∷◌, ◌++◌, ℤ, pos, negsuc, refl, sym, ap, subst}
 use Rattle.std.specs.Prelude.{codes, Option, Some, None, nat_abs, ◌==◌, MatchBool, if◌then◌else◌}
-use Rattle.stl_syntax.specs.Formula.{Formula, Subformula, constant, atom, negation, conjunction, disjunction, implication, until, eventually, always, since, once, historically, root}
-use Rattle.stl_syntax.specs.Print.{relation_text, scaled_text, IsConstantText, IsAtomText, IsUpperText, IsBoundText, IsPastBoundText, IsPrinted, IsPrintedFormula, terms_text, further_terms, has_two}
+use Rattle.stl_syntax.specs.Formula.{Formula, Subformula, constant, atom, negation, conjunction, disjunction}
+use Rattle.stl_syntax.specs.Formula.{implication, until, eventually, always, since, once, historically, root}
+use Rattle.stl_syntax.specs.Print.{relation_text, scaled_text, IsConstantText, IsAtomText, IsUpperText, IsBoundText}
+use Rattle.stl_syntax.specs.Print.{IsPastBoundText, IsPrinted, IsPrintedFormula, terms_text, further_terms, has_two}
 use Rattle.stl_syntax.specs.Printing.{constant_text, sum_text, later_terms, atom_text, upper_text, bound_text, window_text, in_parens, decimal_text, printed}
 use Rattle.stl_syntax.proofs.DecimalLemmas.{decimal_is}
 use Rattle.stl_syntax.specs.declared.operator.Window.{Window}
@@ -35,16 +37,22 @@ sum_is (t ∷ terms) = first_one t.coef t.name terms (further_is terms)
 
 -- an atom's text is one
 pub atom_is : (s : Scale) (a : Atom) → IsAtomText s a (atom_text s a)
-atom_is s a = (constant_text s.value a.limit, constant_is s.value a.limit, ap (λ l. l ++ codes " " ++ relation_text a.rel ++ codes " " ++ constant_text s.value a.limit) (sum_is a.terms))
+atom_is s a = (
+  constant_text s.value a.limit,
+  constant_is s.value a.limit,
+  ap (λ l. l ++ codes " " ++ relation_text a.rel ++ codes " " ++ constant_text s.value a.limit) (sum_is a.terms),
+)
 
 upper_is : (s : Scale) (b : Option ℕ) → IsUpperText s b (upper_text s b)
 upper_is s None = refl
 upper_is s (Some b) = decimal_is s.time b
 
-bound_is : (s : Scale) (a : ℕ) (b : Option ℕ) (a_in b_in : Bool) → IsBoundText s a b a_in b_in (bound_text s (record { low = a; high = b; low_in = a_in; high_in = b_in }))
+bound_is : (s : Scale) (a : ℕ) (b : Option ℕ) (a_in b_in : Bool)
+    → IsBoundText s a b a_in b_in (bound_text s (record { low = a; high = b; low_in = a_in; high_in = b_in }))
 bound_is s a b a_in b_in = (decimal_text s.time a, upper_text s b, decimal_is s.time a, upper_is s b, refl)
 
-past_is : (s : Scale) (a : ℕ) (b : Option ℕ) (a_in b_in : Bool) → IsPastBoundText s a b a_in b_in (window_text s (Some (record { low = a; high = b; low_in = a_in; high_in = b_in })))
+past_is : (s : Scale) (a : ℕ) (b : Option ℕ) (a_in b_in : Bool)
+    → IsPastBoundText s a b a_in b_in (window_text s (Some (record { low = a; high = b; low_in = a_in; high_in = b_in })))
 past_is s a (Some b) a_in b_in = bound_is s a (Some b) a_in b_in
 past_is s a None a_in b_in = by_test ((a == 0) && a_in)
   where
@@ -58,27 +66,85 @@ pub printed_is : (s : Scale) (p : Subformula) → IsPrinted s p (printed s p)
 printed_is s (constant b) = refl
 printed_is s (atom i a) = atom_is s a
 printed_is s (negation p) = (codes "not", in_parens (has_two p) (printed s p), refl, (printed s p, printed_is s p, refl), refl)
-printed_is s (conjunction p q) = (in_parens (has_two p) (printed s p), codes "and", in_parens (has_two q) (printed s q), (printed s p, printed_is s p, refl), refl, (printed s q, printed_is s q, refl), refl)
-printed_is s (disjunction p q) = (in_parens (has_two p) (printed s p), codes "or", in_parens (has_two q) (printed s q), (printed s p, printed_is s p, refl), refl, (printed s q, printed_is s q, refl), refl)
-printed_is s (implication p q) = (in_parens (has_two p) (printed s p), codes "implies", in_parens (has_two q) (printed s q), (printed s p, printed_is s p, refl), refl, (printed s q, printed_is s q, refl), refl)
+printed_is s (conjunction p q) = (
+  in_parens (has_two p) (printed s p),
+  codes "and",
+  in_parens (has_two q) (printed s q),
+  (printed s p, printed_is s p, refl),
+  refl,
+  (printed s q, printed_is s q, refl),
+  refl,
+)
+printed_is s (disjunction p q) = (
+  in_parens (has_two p) (printed s p),
+  codes "or",
+  in_parens (has_two q) (printed s q),
+  (printed s p, printed_is s p, refl),
+  refl,
+  (printed s q, printed_is s q, refl),
+  refl,
+)
+printed_is s (implication p q) = (
+  in_parens (has_two p) (printed s p),
+  codes "implies",
+  in_parens (has_two q) (printed s q),
+  (printed s p, printed_is s p, refl),
+  refl,
+  (printed s q, printed_is s q, refl),
+  refl,
+)
 printed_is s (until a b p q) =
-    let w : Window = record { low = a; high = Some b; low_in = true; high_in = true } in
-    (in_parens (has_two p) (printed s p), codes "until" ++ bound_text s w, in_parens (has_two q) (printed s q), (printed s p, printed_is s p, refl), (bound_text s w, bound_is s a (Some b) true true, refl), (printed s q, printed_is s q, refl), refl)
+    let w : Window = record { low = a; high = Some b; low_in = true; high_in = true } in (
+      in_parens (has_two p) (printed s p),
+      codes "until" ++ bound_text s w,
+      in_parens (has_two q) (printed s q),
+      (printed s p, printed_is s p, refl),
+      (bound_text s w, bound_is s a (Some b) true true, refl),
+      (printed s q, printed_is s q, refl),
+      refl,
+    )
 printed_is s (since a b p q) =
-    let w : Window = record { low = a; high = b; low_in = true; high_in = true } in
-    (in_parens (has_two p) (printed s p), codes "since" ++ window_text s (Some w), in_parens (has_two q) (printed s q), (printed s p, printed_is s p, refl), (window_text s (Some w), past_is s a b true true, refl), (printed s q, printed_is s q, refl), refl)
+    let w : Window = record { low = a; high = b; low_in = true; high_in = true } in (
+      in_parens (has_two p) (printed s p),
+      codes "since" ++ window_text s (Some w),
+      in_parens (has_two q) (printed s q),
+      (printed s p, printed_is s p, refl),
+      (window_text s (Some w), past_is s a b true true, refl),
+      (printed s q, printed_is s q, refl),
+      refl,
+    )
 printed_is s (eventually a b a_in b_in p) =
-    let w : Window = record { low = a; high = Some b; low_in = a_in; high_in = b_in } in
-    (codes "eventually" ++ bound_text s w, in_parens (has_two p) (printed s p), (bound_text s w, bound_is s a (Some b) a_in b_in, refl), (printed s p, printed_is s p, refl), refl)
+    let w : Window = record { low = a; high = Some b; low_in = a_in; high_in = b_in } in (
+      codes "eventually" ++ bound_text s w,
+      in_parens (has_two p) (printed s p),
+      (bound_text s w, bound_is s a (Some b) a_in b_in, refl),
+      (printed s p, printed_is s p, refl),
+      refl,
+    )
 printed_is s (always a b a_in b_in p) =
-    let w : Window = record { low = a; high = Some b; low_in = a_in; high_in = b_in } in
-    (codes "always" ++ bound_text s w, in_parens (has_two p) (printed s p), (bound_text s w, bound_is s a (Some b) a_in b_in, refl), (printed s p, printed_is s p, refl), refl)
+    let w : Window = record { low = a; high = Some b; low_in = a_in; high_in = b_in } in (
+      codes "always" ++ bound_text s w,
+      in_parens (has_two p) (printed s p),
+      (bound_text s w, bound_is s a (Some b) a_in b_in, refl),
+      (printed s p, printed_is s p, refl),
+      refl,
+    )
 printed_is s (once a b a_in b_in p) =
-    let w : Window = record { low = a; high = b; low_in = a_in; high_in = b_in } in
-    (codes "once" ++ window_text s (Some w), in_parens (has_two p) (printed s p), (window_text s (Some w), past_is s a b a_in b_in, refl), (printed s p, printed_is s p, refl), refl)
+    let w : Window = record { low = a; high = b; low_in = a_in; high_in = b_in } in (
+      codes "once" ++ window_text s (Some w),
+      in_parens (has_two p) (printed s p),
+      (window_text s (Some w), past_is s a b a_in b_in, refl),
+      (printed s p, printed_is s p, refl),
+      refl,
+    )
 printed_is s (historically a b a_in b_in p) =
-    let w : Window = record { low = a; high = b; low_in = a_in; high_in = b_in } in
-    (codes "historically" ++ window_text s (Some w), in_parens (has_two p) (printed s p), (window_text s (Some w), past_is s a b a_in b_in, refl), (printed s p, printed_is s p, refl), refl)
+    let w : Window = record { low = a; high = b; low_in = a_in; high_in = b_in } in (
+      codes "historically" ++ window_text s (Some w),
+      in_parens (has_two p) (printed s p),
+      (window_text s (Some w), past_is s a b a_in b_in, refl),
+      (printed s p, printed_is s p, refl),
+      refl,
+    )
 
 -- and so is the formula's
 pub printed_formula : (f : Formula) (text : List ℕ) → text ≡ printed f.scale (root f.nodes) → IsPrintedFormula f text

@@ -10,7 +10,9 @@ use Rattle.stl_syntax.specs.Early.{OpenAhead, OpenBehind}
 
 -- t is a time from `from` on, and the time k later is at most `to`
 pub record Reaches (from to : Rational) (k : ℕ) (t : Rational) : Type 0 where
+  -- the time is not before the first one
   pub after : from ≤ʳ t
+  -- k ticks on from it is not after the last one
   pub before : later t k ≤ʳ to
 
 -- so t itself is at most `to`

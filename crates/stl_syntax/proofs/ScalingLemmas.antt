@@ -1,9 +1,11 @@
 -- Scaling a list of nodes in place, and what it keeps.
-use Rattle.std.proofs.Common.{◌≡◌, ℕ, zero, suc, ◌+◌, ◌-◌, ◌*◌, ◌<◌, ◌≤◌, true, false, not, List, [], ◌∷◌, ◌++◌, map, length, take, drop, set, get_or, pos, refl, sym, ◌∙◌, ap, arith, subst, ◌⊎◌, inl, inr}
+use Rattle.std.proofs.Common.{◌≡◌, ℕ, zero, suc, ◌+◌, ◌-◌, ◌*◌, ◌<◌, ◌≤◌, true, false, not, List, [], ◌∷◌, ◌++◌, map}
+use Rattle.std.proofs.Common.{length, take, drop, set, get_or, pos, refl, sym, ◌∙◌, ap, arith, subst, ◌⊎◌, inl, inr}
 use Rattle.std.proofs.Math.Nat.{mul-le-mul_left}
 use Rattle.std.proofs.lemmas.Bool.{ltb-true, ltb-false, cases_order, cases_Bool, cond-true}
 use Rattle.std.proofs.lemmas.Int.{unsigned_abs-mul}
-use Rattle.std.proofs.lemmas.List.{append-nil, append_assoc, take_all, drop_all, drop_more, take_more, take-map, map_push, set_at, get_or_at, length-map, length-take-le}
+use Rattle.std.proofs.lemmas.List.{append-nil, append_assoc, take_all, drop_all, drop_more, take_more}
+use Rattle.std.proofs.lemmas.List.{take-map, map_push, set_at, get_or_at, length-map, length-take-le}
 use Rattle.std.proofs.lemmas.List.Sums.{sum_by-append, fails_before_first}
 use Rattle.std.proofs.lemmas.List.Quantifiers.{position-Some}
 use Rattle.std.proofs.lemmas.Option.{slice_get_cases, slice_get-map, slice_get_within, get_or_from_slice_get}
@@ -63,7 +65,8 @@ pub unused_scaled : (k m : ℕ) (nodes : List Node) → unused (map (scaled_node
 unfolding unused
 unused_scaled k m nodes =
     rw (length-map nodes (scaled_node k m))
-    (filter_agree (λ i. not (is_used (map (scaled_node k m) nodes) i)) (λ i. not (is_used nodes i)) (λ i. ap not (scaled_used k m nodes i)) (range_with_len 0 (length nodes)))
+    (filter_agree (λ i. not (is_used (map (scaled_node k m) nodes) i)) (λ i. not (is_used nodes i))
+    (λ i. ap not (scaled_used k m nodes i)) (range_with_len 0 (length nodes)))
 
 -- a node of the scaled list is the scaled node of the list
 pub scaled_at : (k m : ℕ) (nodes : List Node) (i : ℕ) (n : Node) → slice_get (map (scaled_node k m) nodes) i ≡ Some n
@@ -106,7 +109,8 @@ pub scaled_reach : (k m : ℕ) (nodes : List Node) → reach (map (scaled_node k
 scaled_reach k m [] = omega arith
 scaled_reach k m (n ∷ nodes) =
     let old : reach (n ∷ nodes) ≡ reach (n ∷ []) + reach nodes = sum_by-append own_reach (n ∷ []) nodes in
-    let new : reach (map (scaled_node k m) (n ∷ nodes)) ≡ reach (scaled_node k m n ∷ []) + reach (map (scaled_node k m) nodes) = sum_by-append own_reach (scaled_node k m n ∷ []) (map (scaled_node k m) nodes) in
+    let new : reach (map (scaled_node k m) (n ∷ nodes)) ≡ reach (scaled_node k m n ∷ []) + reach (map (scaled_node k m) nodes) =
+    sum_by-append own_reach (scaled_node k m n ∷ []) (map (scaled_node k m) nodes) in
     let here : reach (scaled_node k m n ∷ []) ≡ k * reach (n ∷ []) = omega (arith, scaled_own_reach k m n) in
     new ∙ rw (old) (omega (arith, here, scaled_reach k m nodes))
 
@@ -194,7 +198,8 @@ small_at k m (Historically p a b a_in b_in) h large = large
 pub first_large : (k m i : ℕ) (nodes : List Node) → position (has_large_constant m) nodes ≡ Some i → IsFirst HasLargeConstant (map (scaled_node k m) nodes) i
 first_large k m i nodes e = from (slice_get_cases nodes i).1
   where
-    found : (d : Node) → (i < length nodes) × (has_large_constant m (get_or nodes i d) ≡ true) × ((j : ℕ) → j < i → has_large_constant m (get_or nodes j d) ≡ false)
+    found : (d : Node) → (i < length nodes) × (has_large_constant m (get_or nodes i d) ≡ true)
+        × ((j : ℕ) → j < i → has_large_constant m (get_or nodes j d) ≡ false)
     found d = position-Some (has_large_constant m) nodes i d e
 
     before : (d : Node) (j : ℕ) (n : Node) → j < i → slice_get (map (scaled_node k m) nodes) j ≡ Some n → HasLargeConstant n → ⊥
@@ -203,7 +208,8 @@ first_large k m i nodes e = from (slice_get_cases nodes i).1
         let same : get_or nodes j d ≡ old.0 = get_or_from_slice_get nodes j old.0 d old.1 in
         small_at k m old.0 (ap (has_large_constant m) (sym same) ∙ (found d).2 j l) (subst HasLargeConstant old.2 large)
 
-    from : ((n : Node) × (i < length nodes) × (slice_get nodes i ≡ Some n) × (get_or nodes i n ≡ n)) ⊎ ((length nodes ≤ i) × (slice_get nodes i ≡ None)) → IsFirst HasLargeConstant (map (scaled_node k m) nodes) i
+    from : ((n : Node) × (i < length nodes) × (slice_get nodes i ≡ Some n) × (get_or nodes i n ≡ n))
+        ⊎ ((length nodes ≤ i) × (slice_get nodes i ≡ None)) → IsFirst HasLargeConstant (map (scaled_node k m) nodes) i
     from (inl (n, l, at, here)) = record {
       node = scaled_node k m n;
       at = slice_get-map (scaled_node k m) nodes i ∙ ap (option_map (scaled_node k m)) at;
@@ -214,14 +220,17 @@ first_large k m i nodes e = from (slice_get_cases nodes i).1
 
 -- none is large, as a test finds it
 pub none_large : (m : ℕ) (nodes : List Node) → position (has_large_constant m) nodes ≡ None → All (λ n. has_large_constant m n ≡ false) nodes
-none_large m nodes e i d l = fails_before_first (has_large_constant m) nodes i d (by_test (cases_Bool (nat_lt (position_or_len (has_large_constant m) nodes) (length nodes))))
+none_large m nodes e i d l = fails_before_first (has_large_constant m) nodes i d
+    (by_test (cases_Bool (nat_lt (position_or_len (has_large_constant m) nodes) (length nodes))))
   where
-    by_test : (nat_lt (position_or_len (has_large_constant m) nodes) (length nodes) ≡ true) ⊎ (nat_lt (position_or_len (has_large_constant m) nodes) (length nodes) ≡ false) → i < position_or_len (has_large_constant m) nodes
+    by_test : (nat_lt (position_or_len (has_large_constant m) nodes) (length nodes) ≡ true)
+        ⊎ (nat_lt (position_or_len (has_large_constant m) nodes) (length nodes) ≡ false) → i < position_or_len (has_large_constant m) nodes
     by_test (inl t) = absurd (let x : Some (position_or_len (has_large_constant m) nodes) ≡ None = sym (cond-true _ _ _ t) ∙ e in cc)
     by_test (inr f) = let past = ltb-false (position_or_len (has_large_constant m) nodes) (length nodes) f in omega (arith, past, l)
 
 -- where no constant is too large there is no first one
-pub no_first_large : (k m : ℕ) (nodes : List Node) → All (λ n. has_large_constant m n ≡ false) nodes → (i : ℕ) → IsFirst HasLargeConstant (map (scaled_node k m) nodes) i → ⊥
+pub no_first_large : (k m : ℕ) (nodes : List Node) → All (λ n. has_large_constant m n ≡ false) nodes → (i : ℕ)
+    → IsFirst HasLargeConstant (map (scaled_node k m) nodes) i → ⊥
 no_first_large k m nodes h i first =
     let old = scaled_at k m nodes i first.node first.at in
     let inside : i < length nodes = slice_get_within nodes i old.0 old.1 in

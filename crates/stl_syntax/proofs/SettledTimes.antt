@@ -5,7 +5,8 @@ use Rattle.rational.specs.Time.{Rational, Within, later, ◌≈◌}
 use Rattle.rational.proofs.Order.{le_trans, le_of_same, ge_of_same, same_sym}
 use Rattle.rational.proofs.TimeLemmas.{later_le, precedes_after, precedes_before}
 use Rattle.stl_syntax.specs.Trace.{Trace, start}
-use Rattle.stl_syntax.specs.Formula.{Subformula, constant, atom, negation, conjunction, disjunction, implication, until, eventually, always, since, once, historically}
+use Rattle.stl_syntax.specs.Formula.{Subformula, constant, atom, negation, conjunction, disjunction}
+use Rattle.stl_syntax.specs.Formula.{implication, until, eventually, always, since, once, historically}
 use Rattle.stl_syntax.specs.Early.{Settled, SettledNot, OpenAhead, OpenBehind, IsSure}
 use Rattle.stl_syntax.specs.Laws.{SettledIsOfTimes}
 use Rattle.stl_syntax.proofs.TimeLaw.{holds_same}

@@ -29,7 +29,9 @@ stands_below : (m : ℕ) (nodes : List Node) (i : ℕ) → IsPostOrder nodes →
 stands_below zero nodes i ok h l = absurd (omega arith)
 stands_below (suc m) nodes i ok h l = by_node (λ k j e. stands_below m nodes k ok j e) (slice_get_cases nodes i).1
   where
-    by_node : ((k : ℕ) → k < m → k < length nodes → StandsIn nodes (subformula nodes k)) → ((n : Node) × (i < length nodes) × (slice_get nodes i ≡ Some n) × (get_or nodes i n ≡ n)) ⊎ ((length nodes ≤ i) × (slice_get nodes i ≡ None))
+    by_node : ((k : ℕ) → k < m → k < length nodes → StandsIn nodes (subformula nodes k))
+        → ((n : Node) × (i < length nodes) × (slice_get nodes i ≡ Some n) × (get_or nodes i n ≡ n))
+        ⊎ ((length nodes ≤ i) × (slice_get nodes i ≡ None))
         → StandsIn nodes (subformula nodes i)
     by_node all (inr (past, e)) = absurd (omega arith)
     by_node all (inl (n, k, here, e)) =

@@ -2,7 +2,8 @@
 use Rattle.std.proofs.Common.{◌≡◌, ℕ, ◌⊎◌, inl, inr, true, false, sym, ◌∙◌}
 use Rattle.rational.specs.Time.{Rational}
 use Rattle.stl_syntax.specs.Trace.{Trace}
-use Rattle.stl_syntax.specs.Formula.{Subformula, constant, atom, negation, conjunction, disjunction, implication, until, eventually, always, since, once, historically}
+use Rattle.stl_syntax.specs.Formula.{Subformula, constant, atom, negation, conjunction, disjunction}
+use Rattle.stl_syntax.specs.Formula.{implication, until, eventually, always, since, once, historically}
 use Rattle.rational.specs.Extended.{Extended, ◌≤ᵉ◌, opposite, IsLeast, IsGreatest}
 use Rattle.stl_syntax.specs.SupInf.{Reading, margins, truths, Gives, Setting, SupInf, one, minus_one}
 use Rattle.stl_syntax.specs.declared.atom.Atom.{Atom}

@@ -11,7 +11,8 @@ use Rattle.rational.proofs.AffineLemmas.{same_transᵉ, finite_same, value_same}
 use Rattle.rational.proofs.WindowLemmas.{ahead_same, behind_same, from_same, to_same, sup_alike, sup_over_alike, inf_over_alike, up_to_same, down_to_same}
 use Rattle.frac128.specs.Spans.{interval}
 use Rattle.stl_syntax.specs.Trace.{Trace}
-use Rattle.stl_syntax.specs.Formula.{Subformula, constant, atom, negation, conjunction, disjunction, implication, until, eventually, always, since, once, historically}
+use Rattle.stl_syntax.specs.Formula.{Subformula, constant, atom, negation, conjunction, disjunction}
+use Rattle.stl_syntax.specs.Formula.{implication, until, eventually, always, since, once, historically}
 use Rattle.stl_syntax.specs.Truth.{expression, holds_at}
 use Rattle.stl_syntax.specs.Kleene.{IsCovered, Must, MustNot}
 use Rattle.stl_syntax.specs.Knots.{Knot, Piece, IsInside, ReadsFrom}
@@ -72,7 +73,8 @@ holds_same {t} {u} a tr e =
 -- the reading of an atom does not depend on the pair
 pub Gives-same : {t u : Rational} (A : Reading) (i : ℕ) (a : Atom) (r : Extended) → t ≈ u → Gives A i a t r → Gives A i a u r
 Gives-same {t} {u} (margins tr) i a r e h =
-    same_transᵉ r (finite (margin a.rel (expression a tr t))) (finite (margin a.rel (expression a tr u))) h (finite_same (margin_same a.rel (same_expression a tr e)))
+    same_transᵉ r (finite (margin a.rel (expression a tr t))) (finite (margin a.rel (expression a tr u))) h
+    (finite_same (margin_same a.rel (same_expression a tr e)))
 Gives-same (truths tr) i a r e (inl (h, k)) = inl (sym (holds_same a tr e) ∙ h, k)
 Gives-same (truths tr) i a r e (inr (h, k)) = inr (sym (holds_same a tr e) ∙ h, k)
 Gives-same (certainties tr items) i a r e (inl (h, c, k)) = inl (sym (holds_same a tr e) ∙ h, covered_same items i e c, k)
@@ -90,13 +92,17 @@ SupInf-same (conjunction p q) s r e (v, w, h, k, l) = (v, w, SupInf-same p s v e
 SupInf-same (disjunction p q) s r e (v, w, h, k, l) = (v, w, SupInf-same p s v e h, SupInf-same q s w e k, l)
 SupInf-same (implication p q) s r e (v, w, h, k, l) = (v, w, SupInf-same p s v e h, SupInf-same q s w e k, l)
 SupInf-same {t} {u} (eventually a b a_in b_in p) s r e h =
-    sup_over_alike (Ahead s.from s.to a b a_in b_in t) (Ahead s.from s.to a b a_in b_in u) (SupInf p s) s.lowest r (λ v w. ahead_same e w) (λ v w. ahead_same (same_sym e) w) h
+    sup_over_alike (Ahead s.from s.to a b a_in b_in t) (Ahead s.from s.to a b a_in b_in u) (SupInf p s) s.lowest r
+    (λ v w. ahead_same e w) (λ v w. ahead_same (same_sym e) w) h
 SupInf-same {t} {u} (always a b a_in b_in p) s r e h =
-    inf_over_alike (Ahead s.from s.to a b a_in b_in t) (Ahead s.from s.to a b a_in b_in u) (SupInf p s) s.highest r (λ v w. ahead_same e w) (λ v w. ahead_same (same_sym e) w) h
+    inf_over_alike (Ahead s.from s.to a b a_in b_in t) (Ahead s.from s.to a b a_in b_in u) (SupInf p s) s.highest r
+    (λ v w. ahead_same e w) (λ v w. ahead_same (same_sym e) w) h
 SupInf-same {t} {u} (once a b a_in b_in p) s r e h =
-    sup_over_alike (Behind s.from s.to a b a_in b_in t) (Behind s.from s.to a b a_in b_in u) (SupInf p s) s.lowest r (λ v w. behind_same e w) (λ v w. behind_same (same_sym e) w) h
+    sup_over_alike (Behind s.from s.to a b a_in b_in t) (Behind s.from s.to a b a_in b_in u) (SupInf p s) s.lowest r
+    (λ v w. behind_same e w) (λ v w. behind_same (same_sym e) w) h
 SupInf-same {t} {u} (historically a b a_in b_in p) s r e h =
-    inf_over_alike (Behind s.from s.to a b a_in b_in t) (Behind s.from s.to a b a_in b_in u) (SupInf p s) s.highest r (λ v w. behind_same e w) (λ v w. behind_same (same_sym e) w) h
+    inf_over_alike (Behind s.from s.to a b a_in b_in t) (Behind s.from s.to a b a_in b_in u) (SupInf p s) s.highest r
+    (λ v w. behind_same e w) (λ v w. behind_same (same_sym e) w) h
 SupInf-same {t} {u} (until a b p q) s r e h =
     sup_alike s.lowest r
     (λ v. λ (x, w, f). (x, ahead_same e w, up_to_same s.highest (SupInf p s) (SupInf q s) x v e f))

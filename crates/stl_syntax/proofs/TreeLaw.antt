@@ -1,5 +1,6 @@
 -- The nodes of a formula are one tree.
-use Rattle.std.proofs.Common.{◌≡◌, ℕ, zero, suc, ◌+◌, ◌-◌, ◌<◌, ◌≤◌, List, [], ◌∷◌, ◌++◌, length, take, refl, sym, ◌∙◌, ap, subst, arith, append_assoc, length-append, false}
+use Rattle.std.proofs.Common.{◌≡◌, ℕ, zero, suc, ◌+◌, ◌-◌, ◌<◌, ◌≤◌, List, [], ◌∷◌, ◌++◌, length, take}
+use Rattle.std.proofs.Common.{refl, sym, ◌∙◌, ap, subst, arith, append_assoc, length-append, false}
 use Rattle.std.proofs.lemmas.List.{length_push, same_from_push, take_more, take_all, append-nil}
 use Rattle.std.specs.Prelude.{slice_index_or}
 use Rattle.stl_syntax.specs.PostOrder.{children, unused, MayFollow, IsPostOrder, top, IsTreeFrom, leaf, one, two}
@@ -11,7 +12,8 @@ use Rattle.stl_syntax.specs.declared.node.Node.TheVariants.{Const, Atom as Leaf,
 -- the nodes are trees one after another, with their last nodes at these places
 data IsForest : List Node → List ℕ → Type 0 where
   none : IsForest [] []
-  more : (before ns : List Node) (places : List ℕ) → IsForest before places → IsTreeFrom (length before) ns → IsForest (before ++ ns) (places ++ top (length before) ns ∷ [])
+  more : (before ns : List Node) (places : List ℕ) → IsForest before places → IsTreeFrom (length before) ns
+      → IsForest (before ++ ns) (places ++ top (length before) ns ∷ [])
 
 -- the last tree
 record LastTree (nodes : List Node) (places : List ℕ) (p : ℕ) : Type 0 where
@@ -30,7 +32,8 @@ last_tree nodes all places p (more before ns others f t) e =
 
 no_tree : (nodes : List Node) (all : List ℕ) → IsForest nodes all → all ≡ [] → nodes ≡ []
 no_tree nodes all none e = refl
-no_tree nodes all (more before ns others f t) e = absurd (let l : length (others ++ top (length before) ns ∷ []) ≡ 0 = ap length e in omega (arith, l, length_push others (top (length before) ns)))
+no_tree nodes all (more before ns others f t) e =
+    absurd (let l : length (others ++ top (length before) ns ∷ []) ≡ 0 = ap length e in omega (arith, l, length_push others (top (length before) ns)))
 
 -- one tree more, of the last nodes
 grown : (nodes before ns : List Node) (n : Node) (others : List ℕ) → nodes ≡ before ++ ns → IsForest before others → IsTreeFrom (length before) (ns ++ n ∷ [])
@@ -40,20 +43,24 @@ grown nodes before ns n others e f t =
     let place : length nodes ≡ top (length before) (ns ++ n ∷ []) = omega (arith, ap length e, length-append before ns, length_push ns n) in
     rw (all, place) (more before (ns ++ n ∷ []) others f t)
 
-with_leaf : (nodes : List Node) (n : Node) (others : List ℕ) → children n ≡ [] → IsForest nodes (others ++ []) → IsForest (nodes ++ n ∷ []) (others ++ length nodes ∷ [])
+with_leaf : (nodes : List Node) (n : Node) (others : List ℕ) → children n ≡ [] → IsForest nodes (others ++ [])
+    → IsForest (nodes ++ n ∷ []) (others ++ length nodes ∷ [])
 with_leaf nodes n others e f = grown nodes nodes [] n others (sym (append-nil nodes)) (subst (IsForest nodes) (append-nil others) f) (leaf n e)
 
-with_one : (nodes : List Node) (n : Node) (others : List ℕ) (p : ℕ) → children n ≡ p ∷ [] → IsForest nodes (others ++ p ∷ []) → IsForest (nodes ++ n ∷ []) (others ++ length nodes ∷ [])
+with_one : (nodes : List Node) (n : Node) (others : List ℕ) (p : ℕ) → children n ≡ p ∷ [] → IsForest nodes (others ++ p ∷ [])
+    → IsForest (nodes ++ n ∷ []) (others ++ length nodes ∷ [])
 with_one nodes n others p e f =
     let last = last_tree nodes (others ++ p ∷ []) others p f refl in
     grown nodes last.before last.ns n others last.nodes_are last.forest (one n last.tree (e ∙ ap (λ q. q ∷ []) last.place))
 
-with_two : (nodes : List Node) (n : Node) (others : List ℕ) (p q : ℕ) → children n ≡ p ∷ q ∷ [] → IsForest nodes (others ++ p ∷ q ∷ []) → IsForest (nodes ++ n ∷ []) (others ++ length nodes ∷ [])
+with_two : (nodes : List Node) (n : Node) (others : List ℕ) (p q : ℕ) → children n ≡ p ∷ q ∷ []
+    → IsForest nodes (others ++ p ∷ q ∷ []) → IsForest (nodes ++ n ∷ []) (others ++ length nodes ∷ [])
 with_two nodes n others p q e f =
     let right = last_tree nodes (others ++ p ∷ q ∷ []) (others ++ p ∷ []) q f (sym (append_assoc others (p ∷ []) (q ∷ []))) in
     let left = last_tree right.before (others ++ p ∷ []) others p right.forest refl in
     let begin : length right.before ≡ length left.before + length left.ns = ap length left.nodes_are ∙ length-append left.before left.ns in
-    let all : nodes ≡ left.before ++ (left.ns ++ right.ns) = right.nodes_are ∙ ap (λ l. l ++ right.ns) left.nodes_are ∙ append_assoc left.before left.ns right.ns in
+    let all : nodes ≡ left.before ++ (left.ns ++ right.ns) =
+    right.nodes_are ∙ ap (λ l. l ++ right.ns) left.nodes_are ∙ append_assoc left.before left.ns right.ns in
     grown nodes left.before (left.ns ++ right.ns) n others all left.forest
     (two n left.tree (subst (λ k. IsTreeFrom k right.ns) begin right.tree)
     (e ∙ ap (λ x. x ∷ q ∷ []) left.place ∙ ap (λ y. top (length left.before) left.ns ∷ y ∷ []) (right.place ∙ ap (λ k. top k right.ns) begin)))
@@ -82,14 +89,16 @@ forest_of nodes (suc m) h l =
     let up : suc m ≡ m + 1 = omega arith in
     let longer : take (suc m) nodes ≡ take m nodes ++ n ∷ [] = ap (λ k. take k nodes) up ∙ take_more nodes m (Const false) inside in
     let last : MayFollow (take m nodes) n = h.follows m n (slice_get_at nodes m (Const false) inside) in
-    let now : unused (take m nodes ++ n ∷ []) ≡ last.others ++ length (take m nodes) ∷ [] = unused_push (take m nodes) n last.others (post_order_take nodes m h) last.last in
+    let now : unused (take m nodes ++ n ∷ []) ≡ last.others ++ length (take m nodes) ∷ [] =
+    unused_push (take m nodes) n last.others (post_order_take nodes m h) last.last in
     let before : IsForest (take m nodes) (last.others ++ children n) = subst (IsForest (take m nodes)) last.last (forest_of nodes m h (omega (arith, l))) in
     rw (longer, now) (with_node (take m nodes) n last.others before)
 
 -- nodes in post-order with one root are one tree
 pub one_tree : (nodes : List Node) → IsPostOrder nodes → HasOneRoot nodes → IsTreeFrom 0 nodes
 one_tree nodes h root =
-    let all : IsForest nodes (unused nodes) = subst (λ l. IsForest l (unused l)) (take_all (length nodes) nodes (omega arith)) (forest_of nodes (length nodes) h (omega arith)) in
+    let all : IsForest nodes (unused nodes) =
+    subst (λ l. IsForest l (unused l)) (take_all (length nodes) nodes (omega arith)) (forest_of nodes (length nodes) h (omega arith)) in
     let last = last_tree nodes (unused nodes) [] (length nodes - 1) all root in
     let first : last.before ≡ [] = no_tree last.before [] last.forest refl in
     let whole : nodes ≡ last.ns = last.nodes_are ∙ ap (λ b. b ++ last.ns) first in

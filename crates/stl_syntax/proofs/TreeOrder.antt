@@ -11,7 +11,8 @@ record Stands (nodes : List Node) (places : List ℕ) : Type 0 where
   order : IsPostOrder nodes
   free : unused nodes ≡ places
 
-pushed : (nodes : List Node) (n : Node) (others places : List ℕ) → Stands nodes places → places ≡ others ++ children n → Stands (nodes ++ n ∷ []) (others ++ length nodes ∷ [])
+pushed : (nodes : List Node) (n : Node) (others places : List ℕ) → Stands nodes places → places ≡ others ++ children n
+    → Stands (nodes ++ n ∷ []) (others ++ length nodes ∷ [])
 pushed nodes n others places h e =
     let f : unused nodes ≡ others ++ children n = h.free ∙ e in
     record { order = post_order_push nodes n h.order (record { others = others; last = f }); free = unused_push nodes n others h.order f }

@@ -3,7 +3,8 @@ use Rattle.std.proofs.Common.{◌⊎◌, inl, inr, true, false, lit≤, lit<, re
 use Rattle.rational.specs.Time.{Rational, Within}
 use Rattle.rational.specs.Windows.{Ahead, Behind, Function, Window, IsSupOver, IsInfOver, IsUpTo, IsDownTo}
 use Rattle.stl_syntax.specs.Trace.{Trace, start, stop}
-use Rattle.stl_syntax.specs.Formula.{Subformula, constant, atom, negation, conjunction, disjunction, implication, until, eventually, always, since, once, historically}
+use Rattle.stl_syntax.specs.Formula.{Subformula, constant, atom, negation, conjunction, disjunction}
+use Rattle.stl_syntax.specs.Formula.{implication, until, eventually, always, since, once, historically}
 use Rattle.rational.specs.Extended.{Extended, ◌≤ᵉ◌, ◌<ᵉ◌, ◌≈ᵉ◌, opposite, IsLeast, IsGreatest}
 use Rattle.stl_syntax.specs.SupInf.{Setting, SupInf, one, minus_one, HasValue, HasValues, truth_setting}
 use Rattle.stl_syntax.specs.Truth.{Truth}
@@ -48,7 +49,8 @@ sup_tells W F P r tells has h = by_order (le_totalᵉ r minus_one)
     some (v, (u, w, f), l) = by_told (tells u v w f)
       where
         by_told : Tells v (P u) → Tells r ((u : Rational) × W u × P u)
-        by_told (inl (e, p)) = inl (record { at_most = at_most_one (le_totalᵉ r one); at_least = le_transᵉ one v r e.at_least (h.bound v (u, w, f)) }, (u, w, p))
+        by_told (inl (e, p)) =
+            inl (record { at_most = at_most_one (le_totalᵉ r one); at_least = le_transᵉ one v r e.at_least (h.bound v (u, w, f)) }, (u, w, p))
         by_told (inr (e, p)) = clashᵉ minus_one v l e.at_most
 
     by_order : (r ≤ᵉ minus_one) ⊎ (minus_one <ᵉ r) → Tells r ((u : Rational) × W u × P u)
@@ -119,17 +121,20 @@ least_tells v w r P Q (inl (d, p)) (inl (e, q)) l = inl (record { at_most = le_t
     by_one : (v ≤ᵉ r) ⊎ (w ≤ᵉ r) → one ≤ᵉ r
     by_one (inl x) = le_transᵉ one v r d.at_least x
     by_one (inr x) = le_transᵉ one w r e.at_least x
-least_tells v w r P Q (inl (d, p)) (inr (e, q)) l = inr (record { at_most = le_transᵉ r w minus_one l.right e.at_most; at_least = by_one l.one_of }, λ (x, y). q y)
+least_tells v w r P Q (inl (d, p)) (inr (e, q)) l =
+    inr (record { at_most = le_transᵉ r w minus_one l.right e.at_most; at_least = by_one l.one_of }, λ (x, y). q y)
   where
     by_one : (v ≤ᵉ r) ⊎ (w ≤ᵉ r) → minus_one ≤ᵉ r
     by_one (inl x) = le_transᵉ minus_one one r minus_one_le_one (le_transᵉ one v r d.at_least x)
     by_one (inr x) = le_transᵉ minus_one w r e.at_least x
-least_tells v w r P Q (inr (d, p)) (inl (e, q)) l = inr (record { at_most = le_transᵉ r v minus_one l.left d.at_most; at_least = by_one l.one_of }, λ (x, y). p x)
+least_tells v w r P Q (inr (d, p)) (inl (e, q)) l =
+    inr (record { at_most = le_transᵉ r v minus_one l.left d.at_most; at_least = by_one l.one_of }, λ (x, y). p x)
   where
     by_one : (v ≤ᵉ r) ⊎ (w ≤ᵉ r) → minus_one ≤ᵉ r
     by_one (inl x) = le_transᵉ minus_one v r d.at_least x
     by_one (inr x) = le_transᵉ minus_one one r minus_one_le_one (le_transᵉ one w r e.at_least x)
-least_tells v w r P Q (inr (d, p)) (inr (e, q)) l = inr (record { at_most = le_transᵉ r v minus_one l.left d.at_most; at_least = by_one l.one_of }, λ (x, y). p x)
+least_tells v w r P Q (inr (d, p)) (inr (e, q)) l =
+    inr (record { at_most = le_transᵉ r v minus_one l.left d.at_most; at_least = by_one l.one_of }, λ (x, y). p x)
   where
     by_one : (v ≤ᵉ r) ⊎ (w ≤ᵉ r) → minus_one ≤ᵉ r
     by_one (inl x) = le_transᵉ minus_one v r d.at_least x

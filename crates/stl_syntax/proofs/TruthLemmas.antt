@@ -7,7 +7,8 @@ use Rattle.rational.proofs.Lines.{same_at}
 use Rattle.rational.specs.Time.{Rational, ◌≈◌, whole, less}
 use Rattle.rational.proofs.WindowLemmas.{ahead_same, behind_same, from_same, to_same}
 use Rattle.stl_syntax.specs.Trace.{Column, Row, Trace, row_time, value, line_between, piece, value_from, value_among, value_of}
-use Rattle.stl_syntax.specs.Formula.{Subformula, constant, atom, negation, conjunction, disjunction, implication, until, eventually, always, since, once, historically}
+use Rattle.stl_syntax.specs.Formula.{Subformula, constant, atom, negation, conjunction, disjunction}
+use Rattle.stl_syntax.specs.Formula.{implication, until, eventually, always, since, once, historically}
 use Rattle.stl_syntax.specs.Truth.{sum_at, expression, compares, Truth}
 use Rattle.stl_syntax.specs.declared.atom.Term.{Term}
 use Rattle.stl_syntax.specs.declared.atom.Atom.{Atom}
@@ -29,7 +30,8 @@ same_value_from step c r [] h = same_refl (whole (value r c))
 same_value_from {t} {u} step c r (s ∷ rows) h =
     rw (less_same (row_time s) h) (chosen (less u (row_time s)) _ _ _ _ (same_piece step c r s h) (same_value_from step c s rows h))
 
-same_value_among : {t u : Rational} (columns : List Column) (c : ℕ) (rows : List Row) (name : List ℕ) → t ≈ u → value_among columns c rows name t ≈ value_among columns c rows name u
+same_value_among : {t u : Rational} (columns : List Column) (c : ℕ) (rows : List Row) (name : List ℕ) → t ≈ u
+    → value_among columns c rows name t ≈ value_among columns c rows name u
 same_value_among [] c rows name h = same_refl (whole (pos 0))
 same_value_among (k ∷ columns) c [] name h = chosen (bytes_eq k.name name) _ _ _ _ (same_refl (whole (pos 0))) (same_value_among columns (suc c) [] name h)
 same_value_among (k ∷ columns) c (r ∷ rows) name h =

@@ -22,13 +22,15 @@ pub constant_fault : (f : Formula) (to : Scale) (i : ℕ) → position (has_larg
 constant_fault f to i e = inl (i, first_large (time_factor f to) (value_factor f to) i f.nodes e, refl)
 
 -- the first large constant is the one fault
-pub constant_fault_only : (f : Formula) (to : Scale) (i : ℕ) → position (has_large_constant (value_factor f to)) f.nodes ≡ Some i → (r : UnitFault) → IsUnitFault f to r → Constant i ≡ r
+pub constant_fault_only : (f : Formula) (to : Scale) (i : ℕ) → position (has_large_constant (value_factor f to)) f.nodes ≡ Some i
+    → (r : UnitFault) → IsUnitFault f to r → Constant i ≡ r
 constant_fault_only f to i e r (inl (j, first, is)) =
     ap Constant (one_first HasLargeConstant (scaled f to).nodes i j (first_large (time_factor f to) (value_factor f to) i f.nodes e) first) ∙ sym is
 constant_fault_only f to i e r (inr (none, late)) = absurd (none (Constant i) (i, first_large (time_factor f to) (value_factor f to) i f.nodes e, refl))
 
 -- where no constant is large
-none_first : (f : Formula) (to : Scale) → position (has_large_constant (value_factor f to)) f.nodes ≡ None → (i : ℕ) → IsFirst HasLargeConstant (scaled f to).nodes i → ⊥
+none_first : (f : Formula) (to : Scale) → position (has_large_constant (value_factor f to)) f.nodes ≡ None → (i : ℕ)
+    → IsFirst HasLargeConstant (scaled f to).nodes i → ⊥
 none_first f to e i first = no_first_large (time_factor f to) (value_factor f to) f.nodes (none_large (value_factor f to) f.nodes e) i first
 
 new_reach : (f : Formula) (to : Scale) → reach (scaled f to).nodes ≡ reach f.nodes * time_factor f to

@@ -2,7 +2,8 @@
 use Rattle.std.proofs.Common.{◌≡◌, ◌⊎◌, inl, inr, List, [], ◌∷◌, Bool, true, false, not, sym, ap, ◌∙◌, refl}
 use Rattle.std.specs.Prelude.{MatchBool, ◌≢◌}
 use Rattle.rational.specs.Rational.{Rational, ◌≤ʳ◌, ◌<ʳ◌, ◌≈◌, middle}
-use Rattle.rational.proofs.Order.{lt_or_same_or_gt, le_of_same, le_of_lt, lt_of_lt_of_le, lt_of_le_of_lt, lt_trans, not_lt_of_le, same_trans, same_sym, same_refl, left_of_middle, right_of_middle}
+use Rattle.rational.proofs.Order.{lt_or_same_or_gt, le_of_same, le_of_lt, lt_of_lt_of_le, lt_of_le_of_lt, lt_trans}
+use Rattle.rational.proofs.Order.{not_lt_of_le, same_trans, same_sym, same_refl, left_of_middle, right_of_middle}
 use Rattle.rational.specs.Time.{Interval, IsIn, IsNotEmpty, Touch}
 use Rattle.frac128.specs.Spans.{interval}
 use Rattle.stl_syntax.specs.Trace.{Trace}
@@ -124,7 +125,8 @@ touch_cut a b h = (h.time, by_sides b.from_in a.to_in h.once)
     by_sides false false n = absurd (n refl)
 
 -- two verdicts with a cut inside both tell the same
-same_truth : (p : Subformula) (tr : Trace) (v w : Verdict) (t : Rational) → IsTold p tr v → IsTold p tr w → IsIn (interval v.on) t → IsIn (interval w.on) t → v.holds ≡ w.holds
+same_truth : (p : Subformula) (tr : Trace) (v w : Verdict) (t : Rational) → IsTold p tr v → IsTold p tr w → IsIn (interval v.on) t
+    → IsIn (interval w.on) t → v.holds ≡ w.holds
 same_truth p tr v w t h k i j = by_truth v.holds w.holds (h.truth t i) (k.truth t j)
   where
     by_truth : (b c : Bool) → MatchBool b (Truth p tr t) (¬ Truth p tr t) → MatchBool c (Truth p tr t) (¬ Truth p tr t) → b ≡ c
@@ -133,12 +135,15 @@ same_truth p tr v w t h k i j = by_truth v.holds w.holds (h.truth t i) (k.truth 
     by_truth false true x y = absurd (x y)
     by_truth false false x y = refl
 
-overlap : (p : Subformula) (tr : Trace) (v w : Verdict) → IsTold p tr v → IsTold p tr w → Before (begins (interval w.on)) (begins (interval v.on)) ⊎ Same (begins (interval w.on)) (begins (interval v.on))
+overlap : (p : Subformula) (tr : Trace) (v w : Verdict) → IsTold p tr v → IsTold p tr w
+    → Before (begins (interval w.on)) (begins (interval v.on)) ⊎ Same (begins (interval w.on)) (begins (interval v.on))
     → Before (begins (interval v.on)) (ends (interval w.on)) → v.holds ≡ w.holds
 overlap p tr v w h k b l = by_order (cut_order (ends (interval v.on)) (ends (interval w.on)))
   where
-    at_time : (t : Rational) → Between (begins (interval v.on)) (ends (interval v.on)) t → Between (begins (interval v.on)) (ends (interval w.on)) t → v.holds ≡ w.holds
-    at_time t x y = same_truth p tr v w t h k (in_span v t x) (in_span w t (earlier (begins (interval w.on)) (begins (interval v.on)) (ends (interval w.on)) t b y))
+    at_time : (t : Rational) → Between (begins (interval v.on)) (ends (interval v.on)) t
+        → Between (begins (interval v.on)) (ends (interval w.on)) t → v.holds ≡ w.holds
+    at_time t x y = same_truth p tr v w t h k (in_span v t x)
+        (in_span w t (earlier (begins (interval w.on)) (begins (interval v.on)) (ends (interval w.on)) t b y))
 
     full : (t : Rational) × Between (begins (interval v.on)) (ends (interval v.on)) t
     full = dense (begins (interval v.on)) (ends (interval v.on)) (not_empty_cut (interval v.on) h.not_empty)
@@ -146,7 +151,8 @@ overlap p tr v w h k b l = by_order (cut_order (ends (interval v.on)) (ends (int
     part : (t : Rational) × Between (begins (interval v.on)) (ends (interval w.on)) t
     part = dense (begins (interval v.on)) (ends (interval w.on)) l
 
-    by_order : Before (ends (interval v.on)) (ends (interval w.on)) ⊎ Same (ends (interval v.on)) (ends (interval w.on)) ⊎ Before (ends (interval w.on)) (ends (interval v.on)) → v.holds ≡ w.holds
+    by_order : Before (ends (interval v.on)) (ends (interval w.on)) ⊎ Same (ends (interval v.on)) (ends (interval w.on))
+        ⊎ Before (ends (interval w.on)) (ends (interval v.on)) → v.holds ≡ w.holds
     by_order (inl o) = at_time full.0 full.1 (wider (begins (interval v.on)) (ends (interval v.on)) (ends (interval w.on)) full.0 (inl o) full.1)
     by_order (inr (inl o)) = at_time full.0 full.1 (wider (begins (interval v.on)) (ends (interval v.on)) (ends (interval w.on)) full.0 (inr o) full.1)
     by_order (inr (inr o)) = at_time part.0 (wider (begins (interval v.on)) (ends (interval w.on)) (ends (interval v.on)) part.0 (inl o) part.1) part.1
@@ -174,7 +180,8 @@ ends_by : (p : Subformula) (tr : Trace) (stretch : Interval) (v : Verdict) (vs :
 ends_by p tr stretch v [] h = inr (h.time, h.inside)
 ends_by p tr stretch v (x ∷ xs) h =
     before_trans (ends (interval v.on)) (begins (interval x.on)) (ends stretch) (inr (same_sym_cut (touch_cut (interval v.on) (interval x.on) h.0)))
-    (before_trans (begins (interval x.on)) (ends (interval x.on)) (ends stretch) (inl (not_empty_cut (interval x.on) h.2.not_empty)) (ends_by p tr stretch x xs h.3))
+    (before_trans (begins (interval x.on)) (ends (interval x.on)) (ends stretch)
+    (inl (not_empty_cut (interval x.on) h.2.not_empty)) (ends_by p tr stretch x xs h.3))
 
 same_before : (c d e : Cut) → Same c d → Before d e → Before c e
 same_before c d e s (inl l) = inl (lt_of_le_of_lt (le_of_same s.0) l)
@@ -200,16 +207,19 @@ inside_alike true false e = sym e
 inside_alike false true e = sym e
 inside_alike false false e = refl
 
-told_alike : (p : Subformula) (tr : Trace) (v w : Verdict) → IsTold p tr v → IsTold p tr w → Same (begins (interval v.on)) (begins (interval w.on)) → v.holds ≡ w.holds
+told_alike : (p : Subformula) (tr : Trace) (v w : Verdict) → IsTold p tr v → IsTold p tr w
+    → Same (begins (interval v.on)) (begins (interval w.on)) → v.holds ≡ w.holds
 told_alike p tr v w a b s =
-    overlap p tr v w a b (inr (same_sym_cut s)) (same_before (begins (interval v.on)) (begins (interval w.on)) (ends (interval w.on)) s (not_empty_cut (interval w.on) b.not_empty))
+    overlap p tr v w a b (inr (same_sym_cut s))
+    (same_before (begins (interval v.on)) (begins (interval w.on)) (ends (interval w.on)) s (not_empty_cut (interval w.on) b.not_empty))
 
 ends_alike : (p : Subformula) (tr : Trace) (stretch : Interval) (v : Verdict) (vs : List Verdict) (w : Verdict) (ws : List Verdict)
     → IsTold p tr v → IsTold p tr w → Same (begins (interval v.on)) (begins (interval w.on)) → GoesOn p tr stretch v vs → GoesOn p tr stretch w ws
     → Same (ends (interval v.on)) (ends (interval w.on))
 ends_alike p tr stretch v vs w ws a b s g h = by_order (cut_order (ends (interval v.on)) (ends (interval w.on)))
   where
-    by_order : Before (ends (interval v.on)) (ends (interval w.on)) ⊎ Same (ends (interval v.on)) (ends (interval w.on)) ⊎ Before (ends (interval w.on)) (ends (interval v.on))
+    by_order : Before (ends (interval v.on)) (ends (interval w.on)) ⊎ Same (ends (interval v.on)) (ends (interval w.on))
+        ⊎ Before (ends (interval w.on)) (ends (interval v.on))
         → Same (ends (interval v.on)) (ends (interval w.on))
     by_order (inl o) = absurd (not_shorter p tr stretch v vs w ws a b s g h (told_alike p tr v w a b s) o)
     by_order (inr (inl o)) = o
@@ -221,7 +231,8 @@ no_more : (p : Subformula) (tr : Trace) (stretch : Interval) (v x : Verdict) (xs
 no_more p tr stretch v x xs g s =
     before_irrefl (begins (interval x.on)) (ends (interval x.on)) (not_empty_cut (interval x.on) g.2.not_empty)
     (before_trans (ends (interval x.on)) (ends stretch) (begins (interval x.on)) (ends_by p tr stretch x xs g.3)
-    (before_trans (ends stretch) (ends (interval v.on)) (begins (interval x.on)) (inr (same_sym_cut s)) (inr (same_sym_cut (touch_cut (interval v.on) (interval x.on) g.0)))))
+    (before_trans (ends stretch) (ends (interval v.on)) (begins (interval x.on)) (inr (same_sym_cut s))
+    (inr (same_sym_cut (touch_cut (interval v.on) (interval x.on) g.0)))))
 
 same_trans_cut : {c d e : Cut} → Same c d → Same d e → Same c e
 same_trans_cut (s, e) (r, f) = (same_trans s r, e ∙ f)
@@ -242,7 +253,8 @@ rest_alike p tr stretch v (x ∷ xs) w (y ∷ ys) e g h =
     )
 
 -- at most one list describes the formula on the stretch
-pub Describes-unique : (p : Subformula) (tr : Trace) (stretch : Interval) (vs ws : List Verdict) → Describes vs p tr stretch → Describes ws p tr stretch → AreAlike vs ws
+pub Describes-unique : (p : Subformula) (tr : Trace) (stretch : Interval) (vs ws : List Verdict) → Describes vs p tr stretch
+    → Describes ws p tr stretch → AreAlike vs ws
 Describes-unique p tr stretch [] ws g h = absurd g
 Describes-unique p tr stretch (v ∷ vs) [] g h = absurd h
 Describes-unique p tr stretch (v ∷ vs) (w ∷ ws) g h =

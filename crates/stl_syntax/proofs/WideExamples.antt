@@ -26,7 +26,8 @@ meets_there t h k =
     record { same = omega arith }
 
 -- they meet at 1/2^60 alone, which is a cause of refusal where a least is taken
-wide : IsWideCrossing (IsInPlay (of_two (λ t v. v ≈ᵉ value_at steep t) (λ t v. v ≈ᵉ value_at level t)) (at_time 0) (at_time 1)) (at_time 0) (at_time 1) steep level (at_time 0) (at_time 1) (2 ^ 60)
+wide : IsWideCrossing (IsInPlay (of_two (λ t v. v ≈ᵉ value_at steep t) (λ t v. v ≈ᵉ value_at level t)) (at_time 0) (at_time 1))
+    (at_time 0) (at_time 1) steep level (at_time 0) (at_time 1) (2 ^ 60)
 wide = record {
   tau = ratio (pos 1) (2 ^ 60) (lit< tt);
   after_start = omega arith;
@@ -45,7 +46,13 @@ wide = record {
     same v = record { at_most = le_reflᵉ v; at_least = le_reflᵉ v }
 
     itself : (p : Affine) → IsPart (λ t v. v ≈ᵉ value_at p t) (ratio (pos 1) (2 ^ 60) (lit< tt)) p
-    itself p = record { a = at_time 0; b = at_time 1; above = omega arith; below = omega arith; on = λ t h k. (value_at p t, same (value_at p t), same (value_at p t)) }
+    itself p = record {
+      a = at_time 0;
+      b = at_time 1;
+      above = omega arith;
+      below = omega arith;
+      on = λ t h k. (value_at p t, same (value_at p t), same (value_at p t));
+    }
 
 -- 2^60 - 1
 abbrev most : ℕ

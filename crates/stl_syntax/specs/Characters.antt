@@ -1,5 +1,6 @@
 -- Characters, digits and decimals, as formulas and traces have them.
-use Rattle.std.specs.Prelude.{◌≡◌, ℕ, ◌+◌, ◌-◌, ◌*◌, ◌^◌, ◌&&◌, ◌||◌, ◌==◌, nat_le, bytes_eq, Bool, true, false, List, [], ◌∷◌, ◌++◌, reverse, length, if◌then◌else◌, ℤ, pos, ◌*ℤ◌}
+use Rattle.std.specs.Prelude.{◌≡◌, ℕ, ◌+◌, ◌-◌, ◌*◌, ◌^◌, ◌&&◌, ◌||◌, ◌==◌, nat_le, bytes_eq, Bool, true}
+use Rattle.std.specs.Prelude.{false, List, [], ◌∷◌, ◌++◌, reverse, length, if◌then◌else◌, ℤ, pos, ◌*ℤ◌}
 
 -- an ASCII digit
 abbrev pub is_digit : ℕ → Bool

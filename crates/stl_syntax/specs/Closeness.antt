@@ -1,7 +1,8 @@
 -- Traces whose expressions differ by no more than a number.
 use Rattle.rational.specs.Time.{Rational, Within, add, ◌≤ʳ◌}
 use Rattle.stl_syntax.specs.Trace.{Trace, start, stop}
-use Rattle.stl_syntax.specs.Formula.{Subformula, constant, atom, negation, conjunction, disjunction, implication, until, eventually, always, since, once, historically}
+use Rattle.stl_syntax.specs.Formula.{Subformula, constant, atom, negation, conjunction, disjunction}
+use Rattle.stl_syntax.specs.Formula.{implication, until, eventually, always, since, once, historically}
 use Rattle.stl_syntax.specs.Truth.{expression}
 
 -- the two numbers differ by at most e

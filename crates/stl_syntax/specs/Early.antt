@@ -2,7 +2,8 @@
 use Rattle.std.specs.Prelude.{◌≡◌, ◌⊎◌, ℕ, Bool, true, false, List, [], ◌∷◌, ◌++◌, IsTrue, IsFalse, Option, IfSome}
 use Rattle.rational.specs.Time.{Rational, Within, Precedes, later, ◌≤ʳ◌}
 use Rattle.stl_syntax.specs.Trace.{Header, Row, Trace, start, stop}
-use Rattle.stl_syntax.specs.Formula.{Subformula, constant, atom, negation, conjunction, disjunction, implication, until, eventually, always, since, once, historically}
+use Rattle.stl_syntax.specs.Formula.{Subformula, constant, atom, negation, conjunction, disjunction}
+use Rattle.stl_syntax.specs.Formula.{implication, until, eventually, always, since, once, historically}
 use Rattle.stl_syntax.specs.Truth.{holds_at}
 
 -- u lies in the window from t + a to t + b, from the start of the rows on

@@ -23,7 +23,8 @@ AreSo nodes tr (e ∷ items) = IsSo nodes tr e × AreSo nodes tr items
 -- one item for each of the spans, with the truth there
 abbrev pub ItemsOn : List Node → Trace → ℕ → List Interval → List Item → Type 0
 ItemsOn nodes tr i [] [] = Unit {0}
-ItemsOn nodes tr i (on ∷ spans) (e ∷ items) = (e.node ≡ i) × BeginAlike (interval e.on) on × EndAlike (interval e.on) on × IsSo nodes tr e × ItemsOn nodes tr i spans items
+ItemsOn nodes tr i (on ∷ spans) (e ∷ items) =
+    (e.node ≡ i) × BeginAlike (interval e.on) on × EndAlike (interval e.on) on × IsSo nodes tr e × ItemsOn nodes tr i spans items
 ItemsOn nodes tr i [] (e ∷ items) = ⊥
 ItemsOn nodes tr i (on ∷ spans) [] = ⊥
 

@@ -3,7 +3,8 @@ use Rattle.std.specs.Prelude.{◌≡◌, ◌⊎◌, ℕ, List, [], ◌∷◌, Is
 use Rattle.rational.specs.Windows.{Ahead, Behind}
 use Rattle.rational.specs.Time.{Rational, Within, IsIn}
 use Rattle.stl_syntax.specs.Trace.{Trace, start, stop}
-use Rattle.stl_syntax.specs.Formula.{Subformula, constant, atom, negation, conjunction, disjunction, implication, until, eventually, always, since, once, historically}
+use Rattle.stl_syntax.specs.Formula.{Subformula, constant, atom, negation, conjunction, disjunction}
+use Rattle.stl_syntax.specs.Formula.{implication, until, eventually, always, since, once, historically}
 use Rattle.stl_syntax.specs.Truth.{holds_at}
 use Rattle.frac128.specs.Spans.{interval}
 use Rattle.stl_syntax.specs.declared.items.Item.{Item}

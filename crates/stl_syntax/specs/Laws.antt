@@ -9,7 +9,9 @@ use Rattle.stl_syntax.specs.PostOrder.{IsPostOrder, IsTreeFrom}
 use Rattle.stl_syntax.specs.WellFormed.{IsWellFormed}
 use Rattle.stl_syntax.specs.Truth.{Truth}
 use Rattle.stl_syntax.specs.Knots.{Knots, AreKnots}
-use Rattle.stl_syntax.specs.SupInf.{Reading, margins, truths, certainties, signals, Gives, Setting, margin_setting, SupInf, Robustness, one, zero_value, minus_one, HasValues, HasInfs, truth_setting, certainty_setting}
+use Rattle.stl_syntax.specs.SupInf.{Reading, margins, truths, certainties, signals, Gives, Setting, margin_setting, SupInf}
+use Rattle.stl_syntax.specs.SupInf.{Robustness, one, zero_value, minus_one, HasValues, HasInfs, truth_setting}
+use Rattle.stl_syntax.specs.SupInf.{certainty_setting}
 use Rattle.stl_syntax.specs.Kleene.{Must, MustNot}
 use Rattle.stl_syntax.specs.Kept.{AreSo, Agree}
 use Rattle.stl_syntax.specs.Early.{OpenAhead, OpenBehind, IsSure, Settled, SettledNot, Decides}
@@ -75,7 +77,8 @@ CertaintyByValues =
 
 -- what is certainly true holds, and what is certainly false does not
 abbrev pub CertaintyIsTruth : Type 0
-CertaintyIsTruth = (p : Subformula) (items : List Item) (tr : Trace) (t : Rational) → (Must p items tr t → Truth p tr t) × (MustNot p items tr t → ¬ Truth p tr t)
+CertaintyIsTruth = (p : Subformula) (items : List Item) (tr : Trace) (t : Rational)
+    → (Must p items tr t → Truth p tr t) × (MustNot p items tr t → ¬ Truth p tr t)
 
 -- what is certainly false at the start is false there in every trace that agrees on the items
 abbrev pub ExplanationsHold : Type 0

@@ -1,7 +1,9 @@
 -- The printed text of a formula: constants and bounds as decimals with the fewest digits, and parentheses about a two-operand operand.
-use Rattle.std.specs.Prelude.{◌≡◌, ℕ, suc, ◌*◌, ◌^◌, ◌&&◌, Bool, true, false, List, [], ◌∷◌, ◌++◌, length, ℤ, pos, negsuc, codes, decimal, if◌then◌else◌, ◌==◌, Option, Some, None, MatchBool}
+use Rattle.std.specs.Prelude.{◌≡◌, ℕ, suc, ◌*◌, ◌^◌, ◌&&◌, Bool, true, false, List, [], ◌∷◌, ◌++◌, length, ℤ}
+use Rattle.std.specs.Prelude.{pos, negsuc, codes, decimal, if◌then◌else◌, ◌==◌, Option, Some, None, MatchBool}
 use Rattle.stl_syntax.specs.Characters.{is_digit, all, decimal_value, without_zeros}
-use Rattle.stl_syntax.specs.Formula.{Formula, Subformula, constant, atom, negation, conjunction, disjunction, implication, until, eventually, always, since, once, historically, root}
+use Rattle.stl_syntax.specs.Formula.{Formula, Subformula, constant, atom, negation, conjunction, disjunction}
+use Rattle.stl_syntax.specs.Formula.{implication, until, eventually, always, since, once, historically, root}
 use Rattle.stl_syntax.specs.Texts.{bool_text}
 use Rattle.stl_syntax.specs.declared.scale.Scale.{Scale}
 use Rattle.stl_syntax.specs.declared.atom.Atom.{Atom}

@@ -1,7 +1,9 @@
 -- The printed text of a formula, piece by piece as it is written.
-use Rattle.std.specs.Prelude.{ℕ, zero, suc, ◌+◌, ◌/◌, ◌%◌, ◌^◌, ◌&&◌, Bool, true, false, List, [], ◌∷◌, ◌++◌, ℤ, pos, negsuc, nat_abs, codes, decimal, if◌then◌else◌, ◌==◌, Option, Some, None}
+use Rattle.std.specs.Prelude.{ℕ, zero, suc, ◌+◌, ◌/◌, ◌%◌, ◌^◌, ◌&&◌, Bool, true, false, List, [], ◌∷◌, ◌++◌, ℤ}
+use Rattle.std.specs.Prelude.{pos, negsuc, nat_abs, codes, decimal, if◌then◌else◌, ◌==◌, Option, Some, None}
 use Rattle.stl_syntax.specs.Characters.{without_zeros}
-use Rattle.stl_syntax.specs.Formula.{Subformula, constant, atom, negation, conjunction, disjunction, implication, until, eventually, always, since, once, historically}
+use Rattle.stl_syntax.specs.Formula.{Subformula, constant, atom, negation, conjunction, disjunction}
+use Rattle.stl_syntax.specs.Formula.{implication, until, eventually, always, since, once, historically}
 use Rattle.stl_syntax.specs.Print.{after_point, relation_text, scaled_text, opening, closing, has_two}
 use Rattle.stl_syntax.specs.Texts.{bool_text}
 use Rattle.stl_syntax.specs.declared.scale.Scale.{Scale}
@@ -146,9 +148,12 @@ printed s (conjunction p q) = in_parens (has_two p) (printed s p) ++ codes " " +
 printed s (disjunction p q) = in_parens (has_two p) (printed s p) ++ codes " " ++ codes "or" ++ codes " " ++ in_parens (has_two q) (printed s q)
 printed s (implication p q) = in_parens (has_two p) (printed s p) ++ codes " " ++ codes "implies" ++ codes " " ++ in_parens (has_two q) (printed s q)
 printed s (until a b p q) =
-    in_parens (has_two p) (printed s p) ++ codes " " ++ (codes "until" ++ bound_text s (record { low = a; high = Some b; low_in = true; high_in = true })) ++ codes " " ++ in_parens (has_two q) (printed s q)
+    in_parens (has_two p) (printed s p) ++ codes " " ++ (codes "until" ++ bound_text s (record { low = a; high = Some b; low_in = true; high_in = true }))
+    ++ codes " " ++ in_parens (has_two q) (printed s q)
 printed s (since a b p q) =
-    in_parens (has_two p) (printed s p) ++ codes " " ++ (codes "since" ++ window_text s (Some (record { low = a; high = b; low_in = true; high_in = true }))) ++ codes " " ++ in_parens (has_two q) (printed s q)
+    in_parens (has_two p) (printed s p) ++ codes " "
+    ++ (codes "since" ++ window_text s (Some (record { low = a; high = b; low_in = true; high_in = true }))) ++ codes " "
+    ++ in_parens (has_two q) (printed s q)
 printed s (eventually a b a_in b_in p) =
     (codes "eventually" ++ bound_text s (record { low = a; high = Some b; low_in = a_in; high_in = b_in })) ++ codes " " ++ in_parens (has_two p) (printed s p)
 printed s (always a b a_in b_in p) =
@@ -156,4 +161,5 @@ printed s (always a b a_in b_in p) =
 printed s (once a b a_in b_in p) =
     (codes "once" ++ window_text s (Some (record { low = a; high = b; low_in = a_in; high_in = b_in }))) ++ codes " " ++ in_parens (has_two p) (printed s p)
 printed s (historically a b a_in b_in p) =
-    (codes "historically" ++ window_text s (Some (record { low = a; high = b; low_in = a_in; high_in = b_in }))) ++ codes " " ++ in_parens (has_two p) (printed s p)
+    (codes "historically" ++ window_text s (Some (record { low = a; high = b; low_in = a_in; high_in = b_in }))) ++ codes " "
+    ++ in_parens (has_two p) (printed s p)

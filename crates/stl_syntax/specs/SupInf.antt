@@ -5,7 +5,8 @@ use Rattle.rational.specs.Time.{Rational, Within, whole, negate}
 use Rattle.stl_syntax.specs.Trace.{Trace, start, stop}
 use Rattle.rational.specs.Extended.{Extended, minus_infinity, finite, infinity, opposite, ◌≈ᵉ◌, IsLeast, IsGreatest}
 use Rattle.stl_syntax.specs.Knots.{Knots, Reads}
-use Rattle.stl_syntax.specs.Formula.{Subformula, constant, atom, negation, conjunction, disjunction, implication, until, eventually, always, since, once, historically}
+use Rattle.stl_syntax.specs.Formula.{Subformula, constant, atom, negation, conjunction, disjunction}
+use Rattle.stl_syntax.specs.Formula.{implication, until, eventually, always, since, once, historically}
 use Rattle.stl_syntax.specs.Truth.{expression, holds_at}
 use Rattle.stl_syntax.specs.Kleene.{IsCovered}
 use Rattle.stl_syntax.specs.declared.atom.Atom.{Atom}

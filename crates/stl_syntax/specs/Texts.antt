@@ -69,20 +69,24 @@ IsStartLine p tr text =
 -- the line of a knot
 abbrev pub IsKnotLine : Scale → Knot → List ℕ → Type 0
 IsKnotLine scale k text =
-    (time value : List ℕ) × IsNumberText scale.time k.time time × IsValueText scale.value k.value value × (text ≡ codes "[" ++ time ++ codes "] " ++ value ++ newline)
+    (time value : List ℕ) × IsNumberText scale.time k.time time × IsValueText scale.value k.value value
+    × (text ≡ codes "[" ++ time ++ codes "] " ++ value ++ newline)
 
 -- the line of the piece after knot k
 abbrev pub IsPieceLine : Scale → Knot → Piece → List ℕ → Type 0
 IsPieceLine scale k p text =
-    (a b from to : List ℕ) × IsNumberText scale.time k.time a × IsNumberText scale.time p.next.time b × IsValueText scale.value p.from from × IsValueText scale.value p.to to
+    (a b from to : List ℕ) × IsNumberText scale.time k.time a × IsNumberText scale.time p.next.time b
+    × IsValueText scale.value p.from from × IsValueText scale.value p.to to
     × (text ≡ codes "(" ++ a ++ codes "," ++ b ++ codes ") " ++ from ++ codes " -> " ++ to ++ newline)
 
 -- the lines of the pieces, each with the knot after it
 abbrev pub ArePieceLines : Scale → Knot → List Piece → List ℕ → Type 0
 ArePieceLines scale k [] text = text ≡ []
 ArePieceLines scale k (p ∷ pieces) text =
-    (piece knot later : List ℕ) × IsPieceLine scale k p piece × IsKnotLine scale p.next knot × ArePieceLines scale p.next pieces later × (text ≡ piece ++ knot ++ later)
+    (piece knot later : List ℕ) × IsPieceLine scale k p piece × IsKnotLine scale p.next knot
+    × ArePieceLines scale p.next pieces later × (text ≡ piece ++ knot ++ later)
 
 -- the robustness lines
 abbrev pub AreMarginLines : Scale → Knots → List ℕ → Type 0
-AreMarginLines scale knots text = (first later : List ℕ) × IsKnotLine scale knots.first first × ArePieceLines scale knots.first knots.pieces later × (text ≡ first ++ later)
+AreMarginLines scale knots text = (first later : List ℕ) × IsKnotLine scale knots.first first
+    × ArePieceLines scale knots.first knots.pieces later × (text ≡ first ++ later)

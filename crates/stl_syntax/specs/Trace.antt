@@ -1,5 +1,6 @@
 -- Traces: rows of values at rising times, counted in ticks, and read as columns over all rational times between the first and the last row.
-use Rattle.std.specs.Prelude.{◌≡◌, ℕ, ◌+◌, ◌-◌, ◌*◌, ◌<◌, suc, Bool, true, false, List, [], ◌∷◌, length, ℤ, pos, if◌then◌else◌, slice_index_or, bytes_eq, ◌++◌, IsTrue, ◌≤◌, nat_abs, All}
+use Rattle.std.specs.Prelude.{◌≡◌, ℕ, ◌+◌, ◌-◌, ◌*◌, ◌<◌, suc, Bool, true, false, List, [], ◌∷◌, length, ℤ}
+use Rattle.std.specs.Prelude.{pos, if◌then◌else◌, slice_index_or, bytes_eq, ◌++◌, IsTrue, ◌≤◌, nat_abs, All}
 use Rattle.std.proofs.Math.Nat.{zero-lt-suc}
 use Rattle.rational.specs.Rational.{part_above, part_below}
 use Rattle.rational.specs.Line.{Line, at}

@@ -3,7 +3,8 @@ use Rattle.std.specs.Prelude.{◌⊎◌, Bool, List, [], ◌∷◌, pos, nat_lt,
 use Rattle.rational.specs.Time.{Rational, Within, whole, add, subtract, times}
 use Rattle.rational.specs.Windows.{Ahead, Behind}
 use Rattle.stl_syntax.specs.Trace.{Trace, start, stop, value_of}
-use Rattle.stl_syntax.specs.Formula.{Subformula, constant, atom, negation, conjunction, disjunction, implication, until, eventually, always, since, once, historically}
+use Rattle.stl_syntax.specs.Formula.{Subformula, constant, atom, negation, conjunction, disjunction}
+use Rattle.stl_syntax.specs.Formula.{implication, until, eventually, always, since, once, historically}
 use Rattle.stl_syntax.specs.declared.atom.Atom.{Atom}
 use Rattle.stl_syntax.specs.declared.atom.Term.{Term}
 use Rattle.stl_syntax.specs.declared.rel.Rel.{Rel}

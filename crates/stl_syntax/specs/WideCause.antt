@@ -3,7 +3,8 @@ use Rattle.std.specs.Prelude.{◌⊎◌, ℕ, true, Option, Some, List}
 use Rattle.rational.specs.Time.{Rational}
 use Rattle.rational.specs.Extended.{opposite, Affine}
 use Rattle.rational.specs.Windows.{Function, Ahead, Behind, IsSupOver, IsInfOver, UntilToEnd, SinceFromStart}
-use Rattle.stl_syntax.specs.Formula.{Subformula, constant, atom, negation, conjunction, disjunction, implication, until, eventually, always, since, once, historically, subformula}
+use Rattle.stl_syntax.specs.Formula.{Subformula, constant, atom, negation, conjunction, disjunction, implication}
+use Rattle.stl_syntax.specs.Formula.{until, eventually, always, since, once, historically, subformula}
 use Rattle.stl_syntax.specs.SupInf.{Setting, SupInf}
 use Rattle.rational.specs.InPlay.{Step, of_two, window_ahead, window_behind, until_end, since_start, IsInPlay, IsWideCrossing, IsWideValue}
 use Rattle.stl_syntax.specs.declared.node.Node.{Node}

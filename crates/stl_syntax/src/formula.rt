@@ -1,8 +1,9 @@
 //! A formula: its nodes in post-order, the root last, and its scale.
-ghost use Rattle.std.specs.Prelude.{◌≡◌, ◌<◌, ◌≤◌, ◌^◌, length, slice_get, Some};
+ghost use Rattle.std.specs.Prelude.{◌≡◌, ◌<◌, ◌≤◌, ◌^◌, length, slice_get, Some, IfOk};
 
 use crate::horizon::last_horizon;
 use crate::{Node, Scale};
+use frac128::Memory;
 use std::marker::Model;
 
 /// A formula of signal temporal logic: 1 to 256 nodes in post-order, each but the last, the root, used once as a child.
@@ -39,6 +40,19 @@ impl Formula {
         ensures scale { result.scale ≡ scale }
     {
         Formula { nodes, scale }
+    }
+
+    /// The formula once more.
+    ///
+    /// # Errors
+    /// Want of memory.
+    pub fn copied(&self) -> Result<Formula, Memory>
+        ensures { IfOk result (λ f. f ≡ self.now) }
+    {
+        match self.clone() {
+            Ok(formula) => Ok(formula),
+            Err(_) => Err(Memory),
+        }
     }
 
     /// The nodes in post-order.

@@ -1,5 +1,10 @@
 //! Laws of the definitions. Each is the contract of a call that does nothing, so that the gate proves it.
-ghost use Rattle.stl_syntax.specs.Laws.{TruthIsOfTimes, ValuesAreOfTimes, CertaintyIsOfTimes, OneValue, CertaintyHasValues, TruthByValues, CertaintyByValues, CertaintyIsTruth, ExplanationsHold, AnswersStay, AnsweredMarginsStay, AnsweredIsSettled, RowsDecide, SettledIsOfTimes, UntilIsSettledByParts, UntilFailsByParts, SinceIsSettledByParts, SinceFailsByParts, DecisionsStay, MarginsHold, OneListOfVerdicts, OneListOfMargins, OnePrintedText, FormulasAreTrees};
+ghost use Rattle.stl_syntax.specs.Laws.{TruthIsOfTimes, ValuesAreOfTimes, CertaintyIsOfTimes, OneValue, CertaintyHasValues};
+ghost use Rattle.stl_syntax.specs.Laws.{TruthByValues, CertaintyByValues, CertaintyIsTruth, ExplanationsHold, AnswersStay};
+ghost use Rattle.stl_syntax.specs.Laws.{AnsweredMarginsStay, AnsweredIsSettled, RowsDecide, SettledIsOfTimes};
+ghost use Rattle.stl_syntax.specs.Laws.{UntilIsSettledByParts, UntilFailsByParts, SinceIsSettledByParts, SinceFailsByParts};
+ghost use Rattle.stl_syntax.specs.Laws.{DecisionsStay, MarginsHold, OneListOfVerdicts, OneListOfMargins, OnePrintedText};
+ghost use Rattle.stl_syntax.specs.Laws.{FormulasAreTrees};
 
 /// The truth at a time does not depend on the pair of numbers by which the time is written.
 pub fn truth_is_of_times()

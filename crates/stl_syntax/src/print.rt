@@ -2,7 +2,8 @@
 ghost use Rattle.std.specs.Prelude.{◌≡◌, ◌<◌, ◌≤◌, ◌++◌, List, drop, length, nat_abs, OnOk, IfOk, codes};
 ghost use Rattle.stl_syntax.specs.Formula.{subformula};
 ghost use Rattle.stl_syntax.specs.Print.{IsPrintedFormula, relation_text, scaled_text, opening, closing, has_two};
-ghost use Rattle.stl_syntax.specs.Printing.{minus_text, sign_text, later_terms, sum_text, constant_text, atom_text, upper_text, bound_text, window_text, operator_text, leaf_text, in_parens, printed};
+ghost use Rattle.stl_syntax.specs.Printing.{minus_text, sign_text, later_terms, sum_text, constant_text, atom_text, upper_text};
+ghost use Rattle.stl_syntax.specs.Printing.{bound_text, window_text, operator_text, leaf_text, in_parens, printed};
 ghost use Rattle.stl_syntax.specs.PostOrder.{IsPostOrder};
 ghost use Rattle.stl_syntax.specs.WellFormed.{IsScale};
 

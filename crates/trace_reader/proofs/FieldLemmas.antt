@@ -1,5 +1,6 @@
 -- The fields of a line, cut one after another.
-use Rattle.std.proofs.Common.{◌≡◌, ℕ, ◌⊎◌, inl, inr, zero, suc, ◌+◌, ◌-◌, ◌<◌, ◌≤◌, Bool, true, false, List, [], ◌∷◌, ◌++◌, map, reverse, length, take, drop, get_or, refl, sym, ap, ◌∙◌, arith, Some}
+use Rattle.std.proofs.Common.{◌≡◌, ℕ, ◌⊎◌, inl, inr, zero, suc, ◌+◌, ◌-◌, ◌<◌, ◌≤◌, Bool, true, false, List, [], ◌∷◌}
+use Rattle.std.proofs.Common.{◌++◌, map, reverse, length, take, drop, get_or, refl, sym, ap, ◌∙◌, arith, Some}
 use Rattle.std.specs.Prelude.{All}
 use Rattle.std.proofs.lemmas.List.{take-append-drop, take_more, drop_more, reverse-append, reverse-reverse, get_or-take, length-take-le}
 use Rattle.std.proofs.lemmas.List.Elements.{All-head, All-tail, All-from_get_or}
@@ -16,14 +17,16 @@ stops_before p text zero l h = tt
 stops_before p text (suc m) l h =
     let same : suc m - 1 ≡ m = omega arith in
     let last : p (get_or text m 0) ≡ false = rw same at (h (omega arith)) in
-    let t : take (suc m) text ≡ take m text ++ get_or text m 0 ∷ [] = (let k : suc m ≡ m + 1 = omega arith in ap (λ j. take j text) k ∙ take_more text m 0 (omega arith)) in
+    let t : take (suc m) text ≡ take m text ++ get_or text m 0 ∷ [] =
+    (let k : suc m ≡ m + 1 = omega arith in ap (λ j. take j text) k ∙ take_more text m 0 (omega arith)) in
     rw (t, reverse-append (take m text) (get_or text m 0 ∷ [])) last
 
 -- the bytes before a last stretch of one kind
 pub front_of : (p : ℕ → Bool) (text : List ℕ) (n : ℕ) → n ≤ length text → all p (drop n text) ≡ true → (0 < n → p (get_or text (n - 1) 0) ≡ false)
     → reverse (after_first p (reverse text)) ≡ take n text
 front_of p text n l h k =
-    let r : reverse text ≡ reverse (drop n text) ++ reverse (take n text) = ap reverse (sym (take-append-drop n text)) ∙ reverse-append (take n text) (drop n text) in
+    let r : reverse text ≡ reverse (drop n text) ++ reverse (take n text) =
+    ap reverse (sym (take-append-drop n text)) ∙ reverse-append (take n text) (drop n text) in
     ap (λ t. reverse (after_first p t)) r
     ∙ (ap reverse (after_all p (reverse (drop n text)) (reverse (take n text)) (all-reverse p (drop n text) h) (stops_before p text n l k))
     ∙ reverse-reverse (take n text))
@@ -33,7 +36,8 @@ pub all_longer : (p : ℕ → Bool) (text : List ℕ) (n : ℕ) → 0 < n → n 
     → all p (drop (n - 1) text) ≡ true
 all_longer p text n some l h k =
     let same : n - 1 + 1 ≡ n = omega arith in
-    let d : drop (n - 1) text ≡ get_or text (n - 1) 0 ∷ drop n text = drop_more text (n - 1) 0 (omega arith) ∙ ap (λ m. get_or text (n - 1) 0 ∷ drop m text) same in
+    let d : drop (n - 1) text ≡ get_or text (n - 1) 0 ∷ drop n text =
+    drop_more text (n - 1) 0 (omega arith) ∙ ap (λ m. get_or text (n - 1) 0 ∷ drop m text) same in
     rw (d, k) h
 
 -- a text that stops at once

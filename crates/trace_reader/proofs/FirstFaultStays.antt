@@ -22,11 +22,13 @@ module _ (limits : Limits) (ended : Bool) (line more : List ℕ) (free : HasNoFe
   longer n l m k (e, inl a) = (e, inl a)
   longer n l m k (e, inr (few, (a, b))) = (e, inr (few, (omega (arith, k, a), b)))
 
-  after_stays : (s : Scale) (h : Heading) (n count : ℕ) (last : Option ℕ) (front : List Line) → FaultAfter limits s h false n count last (front ++ rest false line) x
+  after_stays : (s : Scale) (h : Heading) (n count : ℕ) (last : Option ℕ) (front : List Line)
+      → FaultAfter limits s h false n count last (front ++ rest false line) x
       → FaultAfter limits s h ended n count last (front ++ lines ended (line ++ more)) x
   after_stays s h n count last [] f = by_line line free f
     where
-      by_line : (l : List ℕ) → HasNoFeed l → FaultAfter limits s h false n count last (rest false l) x → FaultAfter limits s h ended n count last (lines ended (l ++ more)) x
+      by_line : (l : List ℕ) → HasNoFeed l → FaultAfter limits s h false n count last (rest false l) x
+          → FaultAfter limits s h ended n count last (lines ended (l ++ more)) x
       by_line [] u g = absurd (false≢true g.1.0.0)
       by_line (c ∷ cs) u (inl a) =
           let (m, ms, e, k) = grows ended (c ∷ cs) more u (omega arith) in
@@ -55,7 +57,8 @@ module _ (limits : Limits) (ended : Bool) (line more : List ℕ) (free : HasNoFe
       inr (sound, (w, either (is_blank_line l) _ _ _ _ blank (λ f. elim f [ inl a ↦ inl a | inr a ↦ inr (a.0, (a.1.0, a.1.1, later a.1.0 a.1.2)) ]) m))
 
 -- the first fault of bytes is that of all bytes that begin with them
-pub first_fault_stays : (bytes : List ℕ) (limits : Limits) (least : Scale) (x : TraceRefusal) (more : List ℕ) (ended : Bool) → IsFirstFault bytes false limits least x
+pub first_fault_stays : (bytes : List ℕ) (limits : Limits) (least : Scale) (x : TraceRefusal) (more : List ℕ) (ended : Bool)
+    → IsFirstFault bytes false limits least x
     → IsFirstFault (bytes ++ more) ended limits least x
 first_fault_stays bytes limits least x more ended f =
     let (line, o) = open_line bytes in

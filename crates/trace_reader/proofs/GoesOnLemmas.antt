@@ -1,12 +1,14 @@
 -- Whole lines one after another: what further lines come to after them.
-use Rattle.std.proofs.Common.{◌≡◌, ℕ, inl, inr, suc, ◌<◌, ◌≤◌, Bool, true, false, List, [], ◌∷◌, ◌++◌, length, refl, sym, ap, ◌∙◌, subst, arith, Option, Some, None, append_assoc, add-one}
+use Rattle.std.proofs.Common.{◌≡◌, ℕ, inl, inr, suc, ◌<◌, ◌≤◌, Bool, true, false, List, [], ◌∷◌, ◌++◌, length}
+use Rattle.std.proofs.Common.{refl, sym, ap, ◌∙◌, subst, arith, Option, Some, None, append_assoc, add-one}
 use Rattle.std.specs.Prelude.{All, MatchBool}
 use Rattle.std.proofs.lemmas.List.{append-nil, length_push}
 use Rattle.std.proofs.lemmas.List.Elements.{All-nil, All-cons, All-append, All-push, All-weaker}
 use Rattle.std.proofs.lemmas.Bool.{false≢true}
 use Rattle.stl_syntax.specs.Trace.{Row, Header}
 use Rattle.stl_syntax.specs.declared.scale.Scale.{Scale}
-use Rattle.trace_reader.specs.TraceText.{Line, lines, is_blank_line, fields, Heading, IsHeading, IsRow, scale_of, AreRowLines, none, unfinished, blank, row, AreTraceLines, heading}
+use Rattle.trace_reader.specs.TraceText.{Line, lines, is_blank_line, fields, Heading, IsHeading, IsRow, scale_of}
+use Rattle.trace_reader.specs.TraceText.{AreRowLines, none, unfinished, blank, row, AreTraceLines, heading}
 use Rattle.trace_reader.specs.TraceRefusals.{LineFault, InLine, HeaderFault, RowFault, FaultFrom, FaultAfter}
 use Rattle.trace_reader.specs.Reader.{FaultsOn, ReadsOn, GoesOn, HasRead, IsBlankSoFar, header_of, last_seen}
 use Rattle.trace_reader.specs.declared.refusal.Limits.{Limits}
@@ -40,7 +42,8 @@ line_bad limits least None rows ended n l more x f = inl f
 line_bad limits least (Some h) rows ended n l more x f = inl f
 
 -- a whole line within the limits, the first of those from line n on
-module _ (limits : Limits) (least : Scale) (ended : Bool) (n : ℕ) (line : List ℕ) (more : List Line) (x : TraceRefusal) (few : n ≤ limits.lines) (short : length line ≤ 4096) where
+module _ (limits : Limits) (least : Scale) (ended : Bool) (n : ℕ) (line : List ℕ) (more : List Line) (x : TraceRefusal)
+    (few : n ≤ limits.lines) (short : length line ≤ 4096) where
   fits : (y : TraceRefusal) → ¬ InLine n (LineFault limits n (done line)) y
   fits = no_line_fault limits n (done line) few short
 
@@ -99,7 +102,8 @@ module _ (limits : Limits) (least : Scale) (ended : Bool) (n : ℕ) (line : List
       ]
 
 -- what is read of a line more
-reads_blank : (least : Scale) (h : Option Heading) (line : List ℕ) (more : List Line) (g : Header) (later : List Row) → is_blank_line (done line) ≡ true → ReadsOn least h more g later
+reads_blank : (least : Scale) (h : Option Heading) (line : List ℕ) (more : List Line) (g : Header) (later : List Row)
+    → is_blank_line (done line) ≡ true → ReadsOn least h more g later
     → ReadsOn least h (done line ∷ more) g later
 reads_blank least None line more g later b r = blank refl b r
 reads_blank least (Some h) line more g later b r = (r.0, blank refl b r.1)
@@ -119,12 +123,14 @@ module _ (limits : Limits) (least : Scale) (front : List Line) (line : List ℕ)
   joined more = append_assoc front (done line ∷ []) more
 
   -- lines go on after a blank line
-  pub goes_blank : (h : Option Heading) (rows : List Row) → GoesOn limits least front h rows → is_blank_line (done line) ≡ true → GoesOn limits least longer h rows
+  pub goes_blank : (h : Option Heading) (rows : List Row) → GoesOn limits least front h rows → is_blank_line (done line) ≡ true
+      → GoesOn limits least longer h rows
   goes_blank h rows g b = record {
     faults = λ ended more x f. subst (λ ls. FaultFrom limits least ended 1 ls x) (sym (joined more)) (g.faults ended (done line ∷ more) x
         (blank_to limits least ended (suc (length front)) line more x few short h rows b (subst (λ n. FaultsOn limits least h rows ended n more x) place f)));
     only = λ ended more x f. subst (λ n. FaultsOn limits least h rows ended n more x) (sym place)
-        (blank_from limits least ended (suc (length front)) line more x few short h rows b (g.only ended (done line ∷ more) x (subst (λ ls. FaultFrom limits least ended 1 ls x) (joined more) f)));
+        (blank_from limits least ended (suc (length front)) line more x few short h rows b
+        (g.only ended (done line ∷ more) x (subst (λ ls. FaultFrom limits least ended 1 ls x) (joined more) f)));
     reads = λ more header later r. subst (λ ls. AreTraceLines least ls header (rows ++ later)) (sym (joined more))
         (g.reads (done line ∷ more) header later (reads_blank least h line more header later b r));
     blank = λ e. let w = g.blank e in (All-push IsBlankLine front (done line) w.0 b, w.1);
@@ -135,24 +141,30 @@ module _ (limits : Limits) (least : Scale) (front : List Line) (line : List ℕ)
       → ((k : TraceKind) → ¬ HeaderFault (fields (done line)) k) → GoesOn limits least longer (Some h) []
   goes_heading g b h is sound = record {
     faults = λ ended more x f. subst (λ ls. FaultFrom limits least ended 1 ls x) (sym (joined more)) (g.faults ended (done line ∷ more) x
-        (heading_to limits least ended (suc (length front)) line more x few short b h is sound (subst (λ n. FaultsOn limits least (Some h) [] ended n more x) place f)));
+        (heading_to limits least ended (suc (length front)) line more x few short b h is sound
+        (subst (λ n. FaultsOn limits least (Some h) [] ended n more x) place f)));
     only = λ ended more x f. subst (λ n. FaultsOn limits least (Some h) [] ended n more x) (sym place)
-        (heading_from limits least ended (suc (length front)) line more x few short b h is sound (g.only ended (done line ∷ more) x (subst (λ ls. FaultFrom limits least ended 1 ls x) (joined more) f)));
+        (heading_from limits least ended (suc (length front)) line more x few short b h is sound
+        (g.only ended (done line ∷ more) x (subst (λ ls. FaultFrom limits least ended 1 ls x) (joined more) f)));
     reads = λ more header later r. subst (λ ls. AreTraceLines least ls header later) (sym (joined more))
         (g.reads (done line ∷ more) header later (subst (λ t. AreTraceLines least (done line ∷ more) t later) (sym r.0) (heading h refl b is r.1)));
     blank = λ e. absurd (let f = e in cc);
   }
 
   -- and after a row
-  pub goes_row : (h : Heading) (rows : List Row) → GoesOn limits least front (Some h) rows → is_blank_line (done line) ≡ false → (r : Row) → IsRow (scale_of least h) h (fields (done line)) r
-      → ((k : TraceKind) → ¬ RowFault limits (scale_of least h) h (length rows) (last_seen rows) (fields (done line)) k) → GoesOn limits least longer (Some h) (rows ++ r ∷ [])
+  pub goes_row : (h : Heading) (rows : List Row) → GoesOn limits least front (Some h) rows → is_blank_line (done line) ≡ false
+      → (r : Row) → IsRow (scale_of least h) h (fields (done line)) r
+      → ((k : TraceKind) → ¬ RowFault limits (scale_of least h) h (length rows) (last_seen rows) (fields (done line)) k)
+      → GoesOn limits least longer (Some h) (rows ++ r ∷ [])
   goes_row h rows g b r is sound = record {
     faults = λ ended more x f. subst (λ ls. FaultFrom limits least ended 1 ls x) (sym (joined more)) (g.faults ended (done line ∷ more) x
         (row_to limits least ended (suc (length front)) line more x few short b h rows r is sound (later_to ended more x f)));
     only = λ ended more x f. later_from ended more x
-        (row_from limits least ended (suc (length front)) line more x few short b h rows r is sound (g.only ended (done line ∷ more) x (subst (λ ls. FaultFrom limits least ended 1 ls x) (joined more) f)));
+        (row_from limits least ended (suc (length front)) line more x few short b h rows r is sound
+        (g.only ended (done line ∷ more) x (subst (λ ls. FaultFrom limits least ended 1 ls x) (joined more) f)));
     reads = λ more header later t. subst (λ ls. AreTraceLines least ls header ((rows ++ r ∷ []) ++ later)) (sym (joined more))
-        (subst (λ rs. AreTraceLines least (front ++ (done line ∷ more)) header rs) (sym (append_assoc rows (r ∷ []) later)) (g.reads (done line ∷ more) header (r ∷ later) (t.0, row refl b is t.1)));
+        (subst (λ rs. AreTraceLines least (front ++ (done line ∷ more)) header rs) (sym (append_assoc rows (r ∷ []) later))
+        (g.reads (done line ∷ more) header (r ∷ later) (t.0, row refl b is t.1)));
     blank = λ e. absurd (let f = e in cc);
   }
     where
@@ -170,7 +182,8 @@ module _ (limits : Limits) (least : Scale) (front : List Line) (line : List ℕ)
           (subst (λ c. FaultAfter limits (scale_of least h) h ended (suc (length longer)) c (Some r.time) more x) count
           (subst (λ t. FaultAfter limits (scale_of least h) h ended (suc (length longer)) (length (rows ++ r ∷ [])) t more x) (seen rows) f))
 
-      later_from : (ended : Bool) (more : List Line) (x : TraceRefusal) → FaultAfter limits (scale_of least h) h ended (suc (suc (length front))) (suc (length rows)) (Some r.time) more x
+      later_from : (ended : Bool) (more : List Line) (x : TraceRefusal)
+          → FaultAfter limits (scale_of least h) h ended (suc (suc (length front))) (suc (length rows)) (Some r.time) more x
           → FaultsOn limits least (Some h) (rows ++ r ∷ []) ended (suc (length longer)) more x
       later_from ended more x f =
           subst (λ t. FaultAfter limits (scale_of least h) h ended (suc (length longer)) (length (rows ++ r ∷ [])) t more x) (sym (seen rows))
@@ -187,13 +200,16 @@ goes_start limits least = record {
 }
 
 -- a line that is not whole has no fault within the limits
-pub rest_sound : (limits : Limits) (least : Scale) (h : Option Heading) (rows : List Row) (n : ℕ) (line : List ℕ) → (0 < length line → n ≤ limits.lines) → length line ≤ 4096 → (x : TraceRefusal)
+pub rest_sound : (limits : Limits) (least : Scale) (h : Option Heading) (rows : List Row) (n : ℕ) (line : List ℕ)
+    → (0 < length line → n ≤ limits.lines) → length line ≤ 4096 → (x : TraceRefusal)
     → ¬ FaultsOn limits least h rows false n (rest false line) x
 rest_sound limits least None rows n [] few short x f = absurd (false≢true f.1.0)
 rest_sound limits least (Some h) rows n [] few short x f = absurd (false≢true f.1.0.0)
-rest_sound limits least None rows n (c ∷ cs) few short x (inl f) = no_line_fault limits n (record { bytes = c ∷ cs; whole = false }) (few (omega arith)) short x f
+rest_sound limits least None rows n (c ∷ cs) few short x (inl f) =
+    no_line_fault limits n (record { bytes = c ∷ cs; whole = false }) (few (omega arith)) short x f
 rest_sound limits least None rows n (c ∷ cs) few short x (inr (_, (w, f))) = absurd (false≢true w)
-rest_sound limits least (Some h) rows n (c ∷ cs) few short x (inl f) = no_line_fault limits n (record { bytes = c ∷ cs; whole = false }) (few (omega arith)) short x f
+rest_sound limits least (Some h) rows n (c ∷ cs) few short x (inl f) =
+    no_line_fault limits n (record { bytes = c ∷ cs; whole = false }) (few (omega arith)) short x f
 rest_sound limits least (Some h) rows n (c ∷ cs) few short x (inr (_, (w, f))) = absurd (false≢true w)
 
 rest_rows : (s : Scale) (h : Heading) (line : List ℕ) → AreRowLines s h (rest false line) []
@@ -205,11 +221,15 @@ rest_blank [] = All-nil IsBlankSoFar
 rest_blank (c ∷ cs) = All-cons IsBlankSoFar (record { bytes = c ∷ cs; whole = false }) [] (λ w. absurd (false≢true w)) (All-nil IsBlankSoFar)
 
 -- what was read of these lines and one that is not whole
-pub reads_so_far : (limits : Limits) (least : Scale) (front : List Line) (h : Option Heading) (rows : List Row) → GoesOn limits least front h rows → (bytes line : List ℕ)
+pub reads_so_far : (limits : Limits) (least : Scale) (front : List Line) (h : Option Heading) (rows : List Row)
+    → GoesOn limits least front h rows → (bytes line : List ℕ)
     → lines false bytes ≡ front ++ rest false line → HasRead h least bytes rows
 reads_so_far limits least front None rows g bytes line e =
-    let w = g.blank refl in
-    (subst (All IsBlankSoFar) (sym e) (All-append IsBlankSoFar front (rest false line) (All-weaker IsBlankLine IsBlankSoFar (λ l b d. b) front w.0) (rest_blank line)), w.1)
+    let w = g.blank refl in (
+      subst (All IsBlankSoFar) (sym e)
+          (All-append IsBlankSoFar front (rest false line) (All-weaker IsBlankLine IsBlankSoFar (λ l b d. b) front w.0) (rest_blank line)),
+      w.1,
+    )
 reads_so_far limits least front (Some h) rows g bytes line e =
     subst (λ ls. AreTraceLines least ls (header_of least h) rows) (sym e)
     (subst (λ rs. AreTraceLines least (front ++ rest false line) (header_of least h) rs) (append-nil rows)

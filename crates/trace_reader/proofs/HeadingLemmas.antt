@@ -1,5 +1,6 @@
 -- The fields of a header, one after another.
-use Rattle.std.proofs.Common.{◌≡◌, ℕ, ◌⊎◌, inl, inr, suc, ◌+◌, ◌-◌, ◌<◌, ◌≤◌, Bool, true, false, List, [], ◌∷◌, ◌++◌, map, length, take, drop, get_or, refl, sym, ap, ◌∙◌, subst, arith, append_assoc, nat_eq}
+use Rattle.std.proofs.Common.{◌≡◌, ℕ, ◌⊎◌, inl, inr, suc, ◌+◌, ◌-◌, ◌<◌, ◌≤◌, Bool, true, false, List, [], ◌∷◌, ◌++◌}
+use Rattle.std.proofs.Common.{map, length, take, drop, get_or, refl, sym, ap, ◌∙◌, subst, arith, append_assoc, nat_eq}
 use lib.Pointwise.{pointwise}
 use Rattle.std.specs.Prelude.{codes, decimal, ◌==◌, ◌≢◌, bytes_eq, ◌||◌, All}
 use Rattle.std.proofs.lemmas.List.{append-nil, take-append-drop, drop_more, drop_at, get_or-take, length-take-le}
@@ -9,7 +10,8 @@ use Rattle.stl_syntax.specs.Characters.{is_among, goes_on_word, all}
 use Rattle.stl_syntax.specs.Trace.{Column}
 use Rattle.std.specs.Cmp.Lexicographic.{same_text}
 use Rattle.memchr.specs.Find.{is_byte, Nowhere, NoneBefore, Passes}
-use Rattle.trace_reader.specs.TraceText.{IsName, IsMode, no_mode, ramp, step, IsDigits, no_digits, with_digits, IsTimeField, time, IsColumn, column, AreColumns, IsHeading, Heading}
+use Rattle.trace_reader.specs.TraceText.{IsName, IsMode, no_mode, ramp, step, IsDigits, no_digits, with_digits}
+use Rattle.trace_reader.specs.TraceText.{IsTimeField, time, IsColumn, column, AreColumns, IsHeading, Heading}
 use Rattle.trace_reader.specs.TraceRefusals.{name_part, TimeFault, ColumnFault, ColumnFaults, NameFaults, HeaderFault}
 use Rattle.trace_reader.specs.Headings.{Opened, AreNames, IsColumnMore, AreColumnsLeft}
 use Rattle.trace_reader.specs.declared.refusal.TraceKind.{TraceKind}
@@ -107,7 +109,8 @@ abbrev pub NoMode : List ℕ → Type 0
 NoMode t = (m d : List ℕ) (s : Bool) (n : ℕ) → IsMode m s → IsDigits d n → t ≢ m ++ d
 
 -- what is no mode and no decimals
-pub mode_none : (t : List ℕ) → ((rest : List ℕ) → t ≢ codes ":ramp" ++ rest) → ((rest : List ℕ) → t ≢ codes ":step" ++ rest) → ((n : ℕ) → ¬ IsDigits t n) → NoMode t
+pub mode_none : (t : List ℕ) → ((rest : List ℕ) → t ≢ codes ":ramp" ++ rest) → ((rest : List ℕ) → t ≢ codes ":step" ++ rest)
+    → ((n : ℕ) → ¬ IsDigits t n) → NoMode t
 mode_none t a b c m d s n no_mode h e = c n (subst (λ u. IsDigits u n) (sym e) h)
 mode_none t a b c m d s n ramp h e = a d e
 mode_none t a b c m d s n step h e = b d e
@@ -128,11 +131,15 @@ step_none t rest is none m d s n ramp h e = let f : 114 ≡ 115 = ap (λ u. get_
 
 -- a text that was found not to begin so
 pub not_ramp : (t : List ℕ) → pointwise nat_eq (take 5 t) (codes ":ramp") ≡ false → (rest : List ℕ) → t ≢ codes ":ramp" ++ rest
-not_ramp t h rest e = let k : pointwise nat_eq (codes ":ramp") (codes ":ramp") ≡ false = subst (λ u. pointwise nat_eq u (codes ":ramp") ≡ false) (ap (take 5) e) h in false≢true (sym k)
+not_ramp t h rest e =
+    let k : pointwise nat_eq (codes ":ramp") (codes ":ramp") ≡ false = subst (λ u. pointwise nat_eq u (codes ":ramp") ≡ false) (ap (take 5) e) h in
+    false≢true (sym k)
 
 -- a text that begins otherwise is no `:step`
 pub not_step : (t : List ℕ) → pointwise nat_eq (take 5 t) (codes ":step") ≡ false → (rest : List ℕ) → t ≢ codes ":step" ++ rest
-not_step t h rest e = let k : pointwise nat_eq (codes ":step") (codes ":step") ≡ false = subst (λ u. pointwise nat_eq u (codes ":step") ≡ false) (ap (take 5) e) h in false≢true (sym k)
+not_step t h rest e =
+    let k : pointwise nat_eq (codes ":step") (codes ":step") ≡ false = subst (λ u. pointwise nat_eq u (codes ":step") ≡ false) (ap (take 5) e) h in
+    false≢true (sym k)
 
 -- the first field
 pub time_is : (f name rest : List ℕ) (n : ℕ) → f ≡ name ++ rest → name ≡ codes "time" → IsDigits rest n → IsTimeField f n
@@ -164,18 +171,21 @@ column_is f name rest m d s n e ok r md dd =
     subst (λ g. IsColumn g (record { name = name; step = s }) n) (append_assoc name m d ∙ (ap (λ u. name ++ u) (sym r) ∙ sym e)) (column name ok md dd)
 
 -- what follows the name is none
-pub column_bad : (f name rest : List ℕ) (i : ℕ) (earlier : List (List ℕ)) → f ≡ name ++ rest → name ≡ name_part f → IsName name → NoMode rest → ColumnFault i earlier f (BadMode i)
+pub column_bad : (f name rest : List ℕ) (i : ℕ) (earlier : List (List ℕ)) → f ≡ name ++ rest → name ≡ name_part f → IsName name
+    → NoMode rest → ColumnFault i earlier f (BadMode i)
 column_bad f name rest i earlier w e ok none =
     inr ((λ x a. a.0 (subst IsName e ok)), inl ((λ a. column_rest f name rest a.2 refl w e none), refl))
 
 -- a name that came before
-pub column_same : (f name : List ℕ) (i : ℕ) (earlier : List (List ℕ)) (k : Column) (n : ℕ) → name ≡ name_part f → IsName name → IsColumn f k n → is_among name earlier ≡ true
+pub column_same : (f name : List ℕ) (i : ℕ) (earlier : List (List ℕ)) (k : Column) (n : ℕ) → name ≡ name_part f → IsName name
+    → IsColumn f k n → is_among name earlier ≡ true
     → ColumnFault i earlier f (SameName i)
 column_same f name i earlier k n e ok c among =
     inr ((λ x a. a.0 (subst IsName e ok)), inr ((λ x a. a.0 (k, n, c)), (subst (λ t. is_among t earlier ≡ true) e among, refl)))
 
 -- a column that was read has no fault
-pub column_sound : (f name : List ℕ) (i : ℕ) (earlier : List (List ℕ)) (k : Column) (n : ℕ) → name ≡ name_part f → IsName name → IsColumn f k n → is_among name earlier ≡ false
+pub column_sound : (f name : List ℕ) (i : ℕ) (earlier : List (List ℕ)) (k : Column) (n : ℕ) → name ≡ name_part f → IsName name
+    → IsColumn f k n → is_among name earlier ≡ false
     → (x : TraceKind) → ¬ ColumnFault i earlier f x
 column_sound f name i earlier k n e ok c among x (inl a) = a.0 (subst IsName e ok)
 column_sound f name i earlier k n e ok c among x (inr (_, inl a)) = a.0 (k, n, c)
@@ -191,12 +201,14 @@ or_swap false false c = refl
 abbrev names_of : List Column → List (List ℕ)
 names_of columns = map (λ (k : Column). k.name) columns
 
-among_push : (n : List ℕ) (columns : List Column) (k : Column) → is_among n (names_of (columns ++ k ∷ [])) ≡ (bytes_eq n k.name || is_among n (names_of columns))
+among_push : (n : List ℕ) (columns : List Column) (k : Column)
+    → is_among n (names_of (columns ++ k ∷ [])) ≡ (bytes_eq n k.name || is_among n (names_of columns))
 among_push n [] k = refl
 among_push n (j ∷ columns) k =
     ap (λ b. bytes_eq n j.name || b) (among_push n columns k) ∙ or_swap (bytes_eq n j.name) (bytes_eq n k.name) (is_among n (names_of columns))
 
-more_names : (earlier : List (List ℕ)) (columns : List Column) (k : Column) (x : List ℕ) → AreNames earlier columns → k.name ≡ x → AreNames (x ∷ earlier) (columns ++ k ∷ [])
+more_names : (earlier : List (List ℕ)) (columns : List Column) (k : Column) (x : List ℕ) → AreNames earlier columns → k.name ≡ x
+    → AreNames (x ∷ earlier) (columns ++ k ∷ [])
 more_names earlier columns k x h e n =
     ap (λ b. bytes_eq n x || b) (h n)
     ∙ (or_swap (bytes_eq n x) (bytes_eq n (codes "time")) (is_among n (names_of columns))
@@ -213,35 +225,41 @@ start_left fields o e = subst (λ p. AreColumnsLeft fields 2 fields p) (sym e) (
 })
 
 -- one field more
-pub left_more : (fields : List (List ℕ)) (i j : ℕ) (f : List ℕ) (more : List (List ℕ)) (o p : Opened) → AreColumnsLeft fields i (f ∷ more) o → IsColumnMore f o p → j ≡ suc i
+pub left_more : (fields : List (List ℕ)) (i j : ℕ) (f : List ℕ) (more : List (List ℕ)) (o p : Opened)
+    → AreColumnsLeft fields i (f ∷ more) o → IsColumnMore f o p → j ≡ suc i
     → AreColumnsLeft fields j more p
-left_more fields i j f more o p l m e = subst (λ n. AreColumnsLeft fields n more p) (sym e) (subst (λ q. AreColumnsLeft fields (suc i) more q) (sym m.added) (record {
-  earlier = name_part f ∷ l.earlier;
-  names = more_names l.earlier o.columns m.column (name_part f) l.names m.named;
-  faults = λ k h. l.faults k (inr ((λ x b. m.sound i l.earlier l.names x b), h));
-  only = λ k h. elim (l.only k h) [ inl b ↦ absurd (m.sound i l.earlier l.names k b) | inr w ↦ w.1 ];
-  columns = λ cs ds h. subst (λ c. AreColumns fields c ((o.digits ++ m.digits ∷ []) ++ ds)) (sym (append_assoc o.columns (m.column ∷ []) cs))
-      (subst (λ d. AreColumns fields (o.columns ++ (m.column ∷ cs)) d) (sym (append_assoc o.digits (m.digits ∷ []) ds))
-      (l.columns (m.column ∷ cs) (m.digits ∷ ds) (m.column, m.digits, cs, ds, m.written, h, refl, refl)));
-}))
+left_more fields i j f more o p l m e =
+    subst (λ n. AreColumnsLeft fields n more p) (sym e) (subst (λ q. AreColumnsLeft fields (suc i) more q) (sym m.added) (record {
+      earlier = name_part f ∷ l.earlier;
+      names = more_names l.earlier o.columns m.column (name_part f) l.names m.named;
+      faults = λ k h. l.faults k (inr ((λ x b. m.sound i l.earlier l.names x b), h));
+      only = λ k h. elim (l.only k h) [ inl b ↦ absurd (m.sound i l.earlier l.names k b) | inr w ↦ w.1 ];
+      columns = λ cs ds h. subst (λ c. AreColumns fields c ((o.digits ++ m.digits ∷ []) ++ ds)) (sym (append_assoc o.columns (m.column ∷ []) cs))
+          (subst (λ d. AreColumns fields (o.columns ++ (m.column ∷ cs)) d) (sym (append_assoc o.digits (m.digits ∷ []) ds))
+          (l.columns (m.column ∷ cs) (m.digits ∷ ds) (m.column, m.digits, cs, ds, m.written, h, refl, refl)));
+    }))
 
 -- all fields were read
-pub none_left : (fields : List (List ℕ)) (i : ℕ) (left : List (List ℕ)) (o : Opened) → AreColumnsLeft fields i left o → left ≡ [] → AreColumns fields o.columns o.digits
+pub none_left : (fields : List (List ℕ)) (i : ℕ) (left : List (List ℕ)) (o : Opened) → AreColumnsLeft fields i left o → left ≡ []
+    → AreColumns fields o.columns o.digits
 none_left fields i left o l e =
     let h : AreColumns fields (o.columns ++ []) (o.digits ++ []) = l.columns [] [] (subst (λ t. AreColumns t [] []) (sym e) (refl, refl)) in
     subst (λ c. AreColumns fields c o.digits) (append-nil o.columns) (subst (λ d. AreColumns fields (o.columns ++ []) d) (append-nil o.digits) h)
 
 -- no field left, no fault
-pub sound_left : (fields : List (List ℕ)) (i : ℕ) (left : List (List ℕ)) (o : Opened) → AreColumnsLeft fields i left o → left ≡ [] → (k : TraceKind) → ¬ ColumnFaults 2 (codes "time" ∷ []) fields k
+pub sound_left : (fields : List (List ℕ)) (i : ℕ) (left : List (List ℕ)) (o : Opened) → AreColumnsLeft fields i left o → left ≡ []
+    → (k : TraceKind) → ¬ ColumnFaults 2 (codes "time" ∷ []) fields k
 sound_left fields i left o l e k h = subst (λ t. ColumnFaults i l.earlier t k) e (l.only k h)
 
 -- a fault of the next field is one of the header
-pub fault_left : (fields : List (List ℕ)) (i : ℕ) (left : List (List ℕ)) (o : Opened) → AreColumnsLeft fields i left o → (f : List ℕ) (more : List (List ℕ)) → left ≡ f ∷ more
+pub fault_left : (fields : List (List ℕ)) (i : ℕ) (left : List (List ℕ)) (o : Opened) → AreColumnsLeft fields i left o
+    → (f : List ℕ) (more : List (List ℕ)) → left ≡ f ∷ more
     → (k : TraceKind) → ((earlier : List (List ℕ)) → AreNames earlier o.columns → ColumnFault i earlier f k) → ColumnFaults 2 (codes "time" ∷ []) fields k
 fault_left fields i left o l f more e k h = l.faults k (subst (λ t. ColumnFaults i l.earlier t k) (sym e) (inl (h l.earlier l.names)))
 
 -- the faults of a header by those of its fields
-pub first_bad : (fields : List (List ℕ)) (f : List ℕ) (others : List (List ℕ)) → fields ≡ f ∷ others → length fields ≤ 65 → (k : TraceKind) → TimeFault f k → HeaderFault fields k
+pub first_bad : (fields : List (List ℕ)) (f : List ℕ) (others : List (List ℕ)) → fields ≡ f ∷ others → length fields ≤ 65
+    → (k : TraceKind) → TimeFault f k → HeaderFault fields k
 first_bad fields f others e few k h = inr ((λ x a. omega (arith, few, a.0)), subst (λ t. NameFaults t k) (sym e) (inl h))
 
 -- a fault after the first field is one of the header
@@ -250,13 +268,15 @@ pub later_bad : (fields : List (List ℕ)) (f : List ℕ) (others : List (List �
 later_bad fields f others e few sound k h = inr ((λ x a. omega (arith, few, a.0)), subst (λ t. NameFaults t k) (sym e) (inr (sound, h)))
 
 -- a header that was read has no fault
-pub header_sound : (fields : List (List ℕ)) (f : List ℕ) (others : List (List ℕ)) → fields ≡ f ∷ others → length fields ≤ 65 → ((k : TraceKind) → ¬ TimeFault f k)
+pub header_sound : (fields : List (List ℕ)) (f : List ℕ) (others : List (List ℕ)) → fields ≡ f ∷ others → length fields ≤ 65
+    → ((k : TraceKind) → ¬ TimeFault f k)
     → ((k : TraceKind) → ¬ ColumnFaults 2 (codes "time" ∷ []) others k) → (k : TraceKind) → ¬ HeaderFault fields k
 header_sound fields f others e few sound rest k (inl a) = omega (arith, few, a.0)
 header_sound fields f others e few sound rest k (inr (_, h)) = elim (subst (λ t. NameFaults t k) e h) [ inl a ↦ sound k a | inr a ↦ rest k a.1 ]
 
 -- the time field and the columns are a header
-pub heading_is : (fields : List (List ℕ)) (f : List ℕ) (others : List (List ℕ)) (h : Heading) → fields ≡ f ∷ others → IsTimeField f h.time_digits → AreColumns others h.columns h.digits
+pub heading_is : (fields : List (List ℕ)) (f : List ℕ) (others : List (List ℕ)) (h : Heading) → fields ≡ f ∷ others
+    → IsTimeField f h.time_digits → AreColumns others h.columns h.digits
     → IsHeading fields h
 heading_is fields f others h e t c = subst (λ x. IsHeading x h) (sym e) (t, c)
 
@@ -278,7 +298,8 @@ pub other_name : (name : List ℕ) → bytes_eq name (codes "time") ≡ false �
 other_name name h e = let k : bytes_eq (codes "time") (codes "time") ≡ false = subst (λ n. bytes_eq n (codes "time") ≡ false) e h in false≢true (sym k)
 
 -- whether a name stands in an earlier field
-pub among_time : (name : List ℕ) (earlier : List (List ℕ)) (columns : List Column) → AreNames earlier columns → bytes_eq name (codes "time") ≡ true → is_among name earlier ≡ true
+pub among_time : (name : List ℕ) (earlier : List (List ℕ)) (columns : List Column) → AreNames earlier columns
+    → bytes_eq name (codes "time") ≡ true → is_among name earlier ≡ true
 among_time name earlier columns h e = h name ∙ rw e refl
 
 -- a name is among earlier fields where it is among the columns

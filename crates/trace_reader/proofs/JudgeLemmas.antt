@@ -23,7 +23,8 @@ unfolding fields
 fields_are bytes = refl
 
 -- a row past the limit is one too many
-pub too_many : (limits : Limits) (s : Scale) (h : Heading) (count : ℕ) (last : Option ℕ) (fs : List (List ℕ)) → limits.rows ≤ count → RowFault limits s h count last fs TooManyRows
+pub too_many : (limits : Limits) (s : Scale) (h : Heading) (count : ℕ) (last : Option ℕ) (fs : List (List ℕ))
+    → limits.rows ≤ count → RowFault limits s h count last fs TooManyRows
 too_many limits s h count last fs l = inl (l, refl)
 
 module _ (limits : Limits) (sc : Scaled) (count : ℕ) (last : Option ℕ) (fs : List (List ℕ)) (few : count < limits.rows) where
@@ -38,7 +39,8 @@ module _ (limits : Limits) (sc : Scaled) (count : ℕ) (last : Option ℕ) (fs :
       (inr ((λ y a. omega (arith, few, a.0)), inr ((λ y a. a.0 r.width), inr (r.sound, ((x, r.read, late), refl)))))
 
   -- a row that was read and rises has none
-  pub row_sound : (x : Row) → IsRowRead sc fs x → ((t : ℕ) → last ≡ Some t → t < x.time) → (k : TraceKind) → ¬ RowFault limits sc.scale sc.heading count last fs k
+  pub row_sound : (x : Row) → IsRowRead sc fs x → ((t : ℕ) → last ≡ Some t → t < x.time) → (k : TraceKind)
+      → ¬ RowFault limits sc.scale sc.heading count last fs k
   row_sound x r rises k h = by_last last rises h
     where
       by_last : (l : Option ℕ) → ((t : ℕ) → l ≡ Some t → t < x.time) → RowFault limits sc.scale sc.heading count l fs k → ⊥
@@ -61,7 +63,8 @@ last_is zero r t e = absurd (let f = e in cc)
 last_is (suc n) r t e = (omega arith, (let f : r.time ≡ t = cc in sym f))
 
 -- what the text of a line comes to is what the line comes to
-pub judged_heading : (limits : Limits) (line text : List ℕ) (old new : Progress) (r : Result Event TraceKind) → text ≡ content (whole_line line) → is_blank_line (whole_line line) ≡ false → old.heading ≡ None
+pub judged_heading : (limits : Limits) (line text : List ℕ) (old new : Progress) (r : Result Event TraceKind)
+    → text ≡ content (whole_line line) → is_blank_line (whole_line line) ≡ false → old.heading ≡ None
     → JudgesHeading text old new r → Judges limits line old new r
 judged_heading limits line text old new r e b n (heading h is sound same) =
     let f : fields_of (Some text) ≡ fields (whole_line line) = ap (λ t. fields_of (Some t)) e ∙ sym (fields_are line) in
@@ -71,7 +74,8 @@ judged_heading limits line text old new r e b n (bad_heading k is same) =
     bad_heading k b n (subst (λ fs. HeaderFault fs k) f is) same
 
 -- a line that is judged as a row
-pub judged_row : (limits : Limits) (line text : List ℕ) (old new : Progress) (r : Result Event TraceKind) → text ≡ content (whole_line line) → is_blank_line (whole_line line) ≡ false
+pub judged_row : (limits : Limits) (line text : List ℕ) (old new : Progress) (r : Result Event TraceKind)
+    → text ≡ content (whole_line line) → is_blank_line (whole_line line) ≡ false
     → JudgesRow limits text old new r → Judges limits line old new r
 judged_row limits line text old new r e b (row h n is sound range width up few same) =
     let f : fields_of (Some text) ≡ fields (whole_line line) = ap (λ t. fields_of (Some t)) e ∙ sym (fields_are line) in
@@ -82,7 +86,8 @@ judged_row limits line text old new r e b (bad_row h k n is same) =
     bad_row h k b n (subst (λ fs. RowFault limits (scale_of old.least h) h old.count (last_of old.count old.row) fs k) f is) same
 
 -- a row line after some progress
-module _ (limits : Limits) (text : List ℕ) (old new : Progress) (sc : Scaled) (is : old.heading ≡ Some sc.heading) (scale : sc.scale ≡ scale_of old.least sc.heading)
+module _ (limits : Limits) (text : List ℕ) (old new : Progress) (sc : Scaled) (is : old.heading ≡ Some sc.heading)
+    (scale : sc.scale ≡ scale_of old.least sc.heading)
     (few : old.count < limits.rows) where
   -- a row with a fault in its fields
   pub row_bad : (k : TraceKind) → FieldFaults sc (fields_of (Some text)) k → new ≡ old → JudgesRow limits text old new (Err k)
@@ -91,13 +96,16 @@ module _ (limits : Limits) (text : List ℕ) (old new : Progress) (sc : Scaled) 
       (fields_bad limits sc old.count (last_of old.count old.row) (fields_of (Some text)) few k h)) same
 
   -- a row whose time does not rise
-  pub row_late : (x : Row) → IsRowRead sc (fields_of (Some text)) x → 0 < old.count → x.time ≤ old.row.time → new ≡ old → JudgesRow limits text old new (Err TimeNotRising)
+  pub row_late : (x : Row) → IsRowRead sc (fields_of (Some text)) x → 0 < old.count → x.time ≤ old.row.time → new ≡ old
+      → JudgesRow limits text old new (Err TimeNotRising)
   row_late x r some late same =
-      bad_row sc.heading TimeNotRising is (subst (λ s. RowFault limits s sc.heading old.count (last_of old.count old.row) (fields_of (Some text)) TimeNotRising) scale
+      bad_row sc.heading TimeNotRising is
+      (subst (λ s. RowFault limits s sc.heading old.count (last_of old.count old.row) (fields_of (Some text)) TimeNotRising) scale
       (not_rising limits sc old.count (last_of old.count old.row) (fields_of (Some text)) few x old.row.time r (last_some old.count old.row some) late)) same
 
   -- a row without a fault
-  pub row_taken : IsRowRead sc (fields_of (Some text)) new.row → (0 < old.count → old.row.time < new.row.time) → new ≡ record old { row = new.row; count = old.count + 1 }
+  pub row_taken : IsRowRead sc (fields_of (Some text)) new.row → (0 < old.count → old.row.time < new.row.time)
+      → new ≡ record old { row = new.row; count = old.count + 1 }
       → JudgesRow limits text old new (Ok IsARow)
   row_taken r up same =
       row sc.heading is (subst (λ s. IsRow s sc.heading (fields_of (Some text)) new.row) scale r.read)

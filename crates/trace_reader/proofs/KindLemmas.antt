@@ -8,7 +8,9 @@ use Rattle.trace_reader.specs.TraceRefusals.{HeaderFault, ColumnFault, ColumnFau
 use Rattle.trace_reader.specs.Progress.{Progress, last_of, Judges, bad_heading, bad_row}
 use Rattle.trace_reader.specs.declared.refusal.Limits.{Limits}
 use Rattle.trace_reader.specs.declared.refusal.TraceKind.{TraceKind}
-use Rattle.trace_reader.specs.declared.refusal.TraceKind.TheVariants.{BadName, SameName, TooManyColumns, BadMode, BadNumber, WrongCount, TimeNotRising, OutOfRange, NoRows, TooManyRows}
+use Rattle.trace_reader.specs.declared.refusal.TraceKind.TheVariants.{BadName, SameName, TooManyColumns, BadMode, BadNumber}
+use Rattle.trace_reader.specs.declared.refusal.TraceKind.TheVariants.{WrongCount, TimeNotRising, OutOfRange, NoRows}
+use Rattle.trace_reader.specs.declared.refusal.TraceKind.TheVariants.{TooManyRows}
 
 abbrev Other : TraceKind → Type 0
 Other k = k ≡ NoRows → ⊥
@@ -45,7 +47,8 @@ numbers_kind s g [] k h n = h
 numbers_kind s g (f ∷ fs) k (inl h) n = number_kind s.time g.time_digits _ _ 1 f k h n
 numbers_kind s g (f ∷ fs) k (inr (_, h)) n = values_kind s 2 g.digits fs k h n
 
-row_kind : (limits : Limits) (s : Scale) (g : Heading) (count : ℕ) (last : Option ℕ) (fs : List (List ℕ)) (k : TraceKind) → RowFault limits s g count last fs k → Other k
+row_kind : (limits : Limits) (s : Scale) (g : Heading) (count : ℕ) (last : Option ℕ) (fs : List (List ℕ)) (k : TraceKind)
+    → RowFault limits s g count last fs k → Other k
 row_kind limits s g count last fs k (inl (_, e)) n = let w : TooManyRows ≡ NoRows = sym e ∙ n in cc
 row_kind limits s g count last fs k (inr (_, inl (_, e))) n = let w : WrongCount _ ≡ NoRows = sym e ∙ n in cc
 row_kind limits s g count last fs k (inr (_, inr (_, inl h))) n = numbers_kind s g fs k h n

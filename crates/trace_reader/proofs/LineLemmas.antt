@@ -68,7 +68,8 @@ pub lines-append : (ended : Bool) (xs ys : List ℕ) → lines ended (xs ++ 10 �
 lines-append ended [] ys = lines-feed ended ys ∙ sym (ap (λ ls. ls ++ lines ended ys) (lines-feed false [] ∙ ap (λ ls. done [] ∷ ls) (lines-nil false)))
 lines-append ended (x ∷ xs) ys = by_test (lines-append ended xs ys) (some_line false xs) (cases_eq x 10)
   where
-    by_test : lines ended (xs ++ 10 ∷ ys) ≡ lines false (xs ++ 10 ∷ []) ++ lines ended ys → ((l : Line) × (ls : List Line) × (lines false (xs ++ 10 ∷ []) ≡ l ∷ ls))
+    by_test : lines ended (xs ++ 10 ∷ ys) ≡ lines false (xs ++ 10 ∷ []) ++ lines ended ys
+        → ((l : Line) × (ls : List Line) × (lines false (xs ++ 10 ∷ []) ≡ l ∷ ls))
         → (x ≡ 10) ⊎ (x ≡ 10 → ⊥) → lines ended ((x ∷ xs) ++ 10 ∷ ys) ≡ lines false ((x ∷ xs) ++ 10 ∷ []) ++ lines ended ys
     by_test before some (inl e) =
         rw e (lines-feed ended (xs ++ 10 ∷ ys) ∙ (ap (λ ls. done [] ∷ ls) before ∙ sym (ap (λ ls. ls ++ lines ended ys) (lines-feed false (xs ++ 10 ∷ [])))))
@@ -95,7 +96,8 @@ lines-done (x ∷ xs) = by_test (lines-done xs) (some_line false xs) (cases_eq x
 -- bytes without LF are one line, if there are any
 pub lines-rest : (ended : Bool) (xs : List ℕ) → HasNoFeed xs → lines ended xs ≡ rest ended xs
 lines-rest ended [] h = lines-nil ended
-lines-rest ended (x ∷ xs) h = lines-other ended x xs (All-head (λ c. c ≡ 10 → ⊥) x xs h) ∙ (ap (put ended x) (lines-rest ended xs (All-tail (λ c. c ≡ 10 → ⊥) x xs h)) ∙ put-rest xs)
+lines-rest ended (x ∷ xs) h = lines-other ended x xs (All-head (λ c. c ≡ 10 → ⊥) x xs h)
+    ∙ (ap (put ended x) (lines-rest ended xs (All-tail (λ c. c ≡ 10 → ⊥) x xs h)) ∙ put-rest xs)
   where
     put-rest : (ys : List ℕ) → put ended x (rest ended ys) ≡ rest ended (x ∷ ys)
     put-rest [] = refl
@@ -104,13 +106,15 @@ lines-rest ended (x ∷ xs) h = lines-other ended x xs (All-head (λ c. c ≡ 10
 -- and with an LF they are one whole line
 pub lines-line : (xs : List ℕ) → HasNoFeed xs → lines false (xs ++ 10 ∷ []) ≡ done xs ∷ []
 lines-line [] h = lines-feed false [] ∙ ap (λ ls. done [] ∷ ls) (lines-nil false)
-lines-line (x ∷ xs) h = lines-other false x (xs ++ 10 ∷ []) (All-head (λ c. c ≡ 10 → ⊥) x xs h) ∙ ap (put false x) (lines-line xs (All-tail (λ c. c ≡ 10 → ⊥) x xs h))
+lines-line (x ∷ xs) h = lines-other false x (xs ++ 10 ∷ []) (All-head (λ c. c ≡ 10 → ⊥) x xs h)
+    ∙ ap (put false x) (lines-line xs (All-tail (λ c. c ≡ 10 → ⊥) x xs h))
 
 -- the lines begun
 pub begun-going : (front : List Line) (begun : ℕ) (line part : List ℕ) → begun ≡ length (front ++ rest false line)
     → begun_after begun line (length part) ≡ length (front ++ rest false (line ++ part))
 begun-going front begun [] [] h = h
-begun-going front begun [] (c ∷ cs) h = ap suc (h ∙ ap length (append-nil front)) ∙ sym (length_push front (record { bytes = c ∷ cs; whole = false }) ∙ add-one (length front))
+begun-going front begun [] (c ∷ cs) h = ap suc (h ∙ ap length (append-nil front))
+    ∙ sym (length_push front (record { bytes = c ∷ cs; whole = false }) ∙ add-one (length front))
 begun-going front begun (c ∷ cs) part h =
     h ∙ (length_push front (record { bytes = c ∷ cs; whole = false }) ∙ sym (length_push front (record { bytes = c ∷ (cs ++ part); whole = false })))
 

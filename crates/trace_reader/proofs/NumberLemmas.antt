@@ -1,5 +1,7 @@
 -- Numbers with decimals, digit by digit.
-use Rattle.std.proofs.Common.{◌≡◌, ℕ, ◌⊎◌, inl, inr, zero, suc, ◌+◌, ◌-◌, ◌*◌, ◌^◌, ◌<◌, ◌≤◌, min, Bool, true, false, List, [], ◌∷◌, ◌++◌, length, take, drop, get_or, refl, sym, ap, ◌∙◌, subst, arith, lit<, mul-le-mul, ℤ, pos, negsuc}
+use Rattle.std.proofs.Common.{◌≡◌, ℕ, ◌⊎◌, inl, inr, zero, suc, ◌+◌, ◌-◌, ◌*◌, ◌^◌, ◌<◌, ◌≤◌, min}
+use Rattle.std.proofs.Common.{Bool, true, false, List, [], ◌∷◌, ◌++◌, length, take, drop, get_or}
+use Rattle.std.proofs.Common.{refl, sym, ap, ◌∙◌, subst, arith, lit<, mul-le-mul, ℤ, pos, negsuc}
 use Rattle.std.specs.Prelude.{neg_ℤ, ◌==◌, ◌*ℤ◌, ◌<ℤ◌}
 use Rattle.std.proofs.lemmas.Int.{ints}
 use Rattle.std.proofs.lemmas.List.{take-append-drop, take_more, drop_at, length-take-le}
@@ -37,7 +39,8 @@ scaled_same a b (suc q) some h = by_test (cases_eq a b)
         omega (arith, h, e, s, t)
 
 -- a digit more
-pub value_more : (v : ℕ) (text : List ℕ) (n : ℕ) → n < length text → decimal_value v (take (n + 1) text) ≡ 10 * decimal_value v (take n text) + (get_or text n 0 - 48)
+pub value_more : (v : ℕ) (text : List ℕ) (n : ℕ) → n < length text
+    → decimal_value v (take (n + 1) text) ≡ 10 * decimal_value v (take n text) + (get_or text n 0 - 48)
 value_more v text n h = ap (decimal_value v) (take_more text n 0 h) ∙ push (take n text) (get_or text n 0) v
   where
     push : (xs : List ℕ) (c v : ℕ) → decimal_value v (xs ++ c ∷ []) ≡ 10 * decimal_value v xs + (c - 48)
@@ -67,7 +70,8 @@ whole_read (c ∷ ds) most digits v r some h value is = (
 )
 
 -- digits, a point and digits
-pub decimal_read : (front : List ℕ) (d : ℕ) (more : List ℕ) (most digits v s r : ℕ) → 0 < length front → all is_digit front ≡ true → all is_digit (d ∷ more) ≡ true
+pub decimal_read : (front : List ℕ) (d : ℕ) (more : List ℕ) (most digits v s r : ℕ) → 0 < length front → all is_digit front ≡ true
+    → all is_digit (d ∷ more) ≡ true
     → min v 4294967296 ≡ min (decimal_value 0 front) 4294967296 → min s 4294967296 ≡ min (decimal_value v (without_zeros (d ∷ more))) 4294967296
     → length (without_zeros (d ∷ more)) ≤ most → r ≡ s * 10 ^ (digits - length (without_zeros (d ∷ more))) → IsRead (front ++ 46 ∷ d ∷ more) most digits r
 decimal_read [] d more most digits v s r some h k value sum few is = absurd (omega (arith, some))
@@ -104,7 +108,8 @@ some_first c [] e h = absurd (false≢true (sym h))
 some_first c (d ∷ more) e h = (d, more, ap (λ x. x ∷ d ∷ more) e, refl)
 
 -- digits, a point and digits have the decimals after the point
-pub decimal_places : (text : List ℕ) (len d : ℕ) (more : List ℕ) → all is_digit (take len text) ≡ true → len ≤ length text → 0 < len → drop len text ≡ 46 ∷ d ∷ more
+pub decimal_places : (text : List ℕ) (len d : ℕ) (more : List ℕ) → all is_digit (take len text) ≡ true → len ≤ length text
+    → 0 < len → drop len text ≡ 46 ∷ d ∷ more
     → all is_digit (d ∷ more) ≡ true → {n k : ℕ} → IsNumeral text n k → k ≡ length (without_zeros (d ∷ more))
 decimal_places text len d more front within some e digits {n} {k} h =
     let l : length (take len text) ≡ len = length-take-le len text within in
@@ -148,14 +153,19 @@ NoNumber f most = (v : ℤ) (k : ℕ) → IsNumber f v k → ¬ (k ≤ most)
 abbrev pub NoNumeral : List ℕ → ℕ → Type 0
 NoNumeral f most = (n k : ℕ) → IsNumeral f n k → ¬ (k ≤ most)
 
-signed_none : {f : List ℕ} {v : ℤ} {k : ℕ} (most c : ℕ) (others : List ℕ) → (c ≡ 45) ⊎ (c ≡ 43) → NoNumeral others most → IsNumber f v k → f ≡ c ∷ others → ¬ (k ≤ most)
+signed_none : {f : List ℕ} {v : ℤ} {k : ℕ} (most c : ℕ) (others : List ℕ) → (c ≡ 45) ⊎ (c ≡ 43) → NoNumeral others most
+    → IsNumber f v k → f ≡ c ∷ others → ¬ (k ≤ most)
 signed_none most c others s none (plain {n = n} {k} h) e few =
     let d : is_digit c ≡ true = digit_first c others h e in
-    elim s [ inl a ↦ absurd (let b : is_digit 45 ≡ true = subst (λ x. is_digit x ≡ true) a d in cc) | inr a ↦ absurd (let b : is_digit 43 ≡ true = subst (λ x. is_digit x ≡ true) a d in cc) ]
+    elim s [
+      | inl a ↦ absurd (let b : is_digit 45 ≡ true = subst (λ x. is_digit x ≡ true) a d in cc)
+      | inr a ↦ absurd (let b : is_digit 43 ≡ true = subst (λ x. is_digit x ≡ true) a d in cc)
+    ]
 signed_none most c others s none (plus {text = t} {n} {k} h) e few = let q : t ≡ others = cc in none n k (subst (λ x. IsNumeral x n k) q h) few
 signed_none most c others s none (minus {text = t} {n} {k} h) e few = let q : t ≡ others = cc in none n k (subst (λ x. IsNumeral x n k) q h) few
 
-plain_none : {f : List ℕ} {v : ℤ} {k : ℕ} (most c : ℕ) (others : List ℕ) → (c ≡ 45 → ⊥) → (c ≡ 43 → ⊥) → NoNumeral f most → IsNumber f v k → f ≡ c ∷ others → ¬ (k ≤ most)
+plain_none : {f : List ℕ} {v : ℤ} {k : ℕ} (most c : ℕ) (others : List ℕ) → (c ≡ 45 → ⊥) → (c ≡ 43 → ⊥) → NoNumeral f most
+    → IsNumber f v k → f ≡ c ∷ others → ¬ (k ≤ most)
 plain_none most c others a b none (plain {n = n} {k} h) e few = none n k h few
 plain_none most c others a b none (plus h) e few = b (let q : 43 ≡ c = cc in sym q)
 plain_none most c others a b none (minus h) e few = a (let q : 45 ≡ c = cc in sym q)

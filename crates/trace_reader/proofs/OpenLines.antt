@@ -10,9 +10,13 @@ use Rattle.trace_reader.proofs.LineLemmas.{IsDone, rest, put, lines-append, line
 
 -- a text by the lines up to its last LF, and what follows it
 pub record Parts (bytes line : List ℕ) : Type 0 where
+  -- the lines that have ended
   pub front : List Line
+  -- each of them has its LF
   pub whole : All IsDone front
+  -- what follows them has no LF
   pub free : HasNoFeed line
+  -- more bytes change only the line that goes on and what follows it
   pub joins : (e : Bool) (more : List ℕ) → lines e (bytes ++ more) ≡ front ++ lines e (line ++ more)
 
 -- each text has these parts
@@ -45,15 +49,21 @@ open_line [] = ([], first (All-nil (λ c. c ≡ 10 → ⊥)))
 open_line (x ∷ bytes) = let (line, o) = open_line bytes in one_more x o (cases_eq x 10)
 
 -- a line that goes on keeps its bytes
-pub grows : (ended : Bool) (line more : List ℕ) → HasNoFeed line → 0 < length line → (l : Line) × (ls : List Line) × (lines ended (line ++ more) ≡ l ∷ ls) × (length line ≤ length l.bytes)
+pub grows : (ended : Bool) (line more : List ℕ) → HasNoFeed line → 0 < length line
+    → (l : Line) × (ls : List Line) × (lines ended (line ++ more) ≡ l ∷ ls) × (length line ≤ length l.bytes)
 grows ended [] more h some = absurd (omega arith)
 grows ended (x ∷ []) more h some =
     let e = lines-other ended x more (All-head (λ c. c ≡ 10 → ⊥) x [] h) in by_lines (lines ended more) e
   where
-    by_lines : (ms : List Line) → lines ended (x ∷ more) ≡ put ended x ms → (l : Line) × (ls : List Line) × (lines ended (x ∷ more) ≡ l ∷ ls) × (1 ≤ length l.bytes)
+    by_lines : (ms : List Line) → lines ended (x ∷ more) ≡ put ended x ms
+        → (l : Line) × (ls : List Line) × (lines ended (x ∷ more) ≡ l ∷ ls) × (1 ≤ length l.bytes)
     by_lines [] e = (record { bytes = x ∷ []; whole = ended }, [], e, omega arith)
     by_lines (m ∷ ms) e = (record { bytes = x ∷ m.bytes; whole = m.whole }, ms, e, omega arith)
 grows ended (x ∷ y ∷ line) more h some =
     let t = All-tail (λ c. c ≡ 10 → ⊥) x (y ∷ line) h in
-    let (l, ls, e, n) = grows ended (y ∷ line) more t (omega arith) in
-    (record { bytes = x ∷ l.bytes; whole = l.whole }, ls, lines-other ended x ((y ∷ line) ++ more) (All-head (λ c. c ≡ 10 → ⊥) x (y ∷ line) h) ∙ ap (put ended x) e, omega (arith, n))
+    let (l, ls, e, n) = grows ended (y ∷ line) more t (omega arith) in (
+      record { bytes = x ∷ l.bytes; whole = l.whole },
+      ls,
+      lines-other ended x ((y ∷ line) ++ more) (All-head (λ c. c ≡ 10 → ⊥) x (y ∷ line) h) ∙ ap (put ended x) e,
+      omega (arith, n),
+    )

@@ -1,5 +1,7 @@
 -- Rows of plain numbers: each field is its own trimmed text, and the first of what is left.
-use Rattle.std.proofs.Common.{◌≡◌, ℕ, ◌⊎◌, inl, inr, suc, ◌+◌, ◌-◌, ◌*◌, ◌^◌, ◌<◌, ◌≤◌, Bool, true, false, List, [], ◌∷◌, ◌++◌, map, reverse, length, take, drop, get_or, refl, sym, ap, ◌∙◌, subst, arith, append_assoc, length-append, add-one, ℤ, pos, negsuc, Option, Some, None}
+use Rattle.std.proofs.Common.{◌≡◌, ℕ, ◌⊎◌, inl, inr, suc, ◌+◌, ◌-◌, ◌*◌, ◌^◌, ◌<◌, ◌≤◌, Bool, true, false, List}
+use Rattle.std.proofs.Common.{[], ◌∷◌, ◌++◌, map, reverse, length, take, drop, get_or, refl, sym, ap, ◌∙◌, subst}
+use Rattle.std.proofs.Common.{arith, append_assoc, length-append, add-one, ℤ, pos, negsuc, Option, Some, None}
 use Rattle.std.specs.Prelude.{neg_ℤ, ◌||◌, ◌==◌, All, MatchOption}
 use Rattle.std.proofs.lemmas.Int.{ints}
 use Rattle.std.proofs.lemmas.List.{append-nil, reverse-append, reverse-reverse, length_push, drop_more}
@@ -39,8 +41,11 @@ whole_ticks (c ∷ ds) most digits v some h value = (
 
 -- zeros at the end of decimals make the value so many times ten larger
 pub record HasZeros (v : ℕ) (xs zs : List ℕ) : Type 0 where
+  -- how many zeros were dropped
   pub zeros : ℕ
+  -- the digits that are left and the zeros are all digits
   pub count : length zs + zeros ≡ length xs
+  -- each zero makes the value ten times larger
   pub value : decimal_value v xs ≡ decimal_value v zs * 10 ^ zeros
 
 -- a zero more
@@ -85,7 +90,8 @@ decimal_ticks (c ∷ ds) d more most digits v some h k value few within =
     let z = without_zeros_of (decimal_value 0 front) (d ∷ more) in
     let n : decimal_value 0 (front ++ zs) ≡ decimal_value (decimal_value 0 front) zs = decimal_value-append 0 front zs in
     let room : digits - length zs ≡ z.zeros + (digits - length (d ∷ more)) = omega (arith, z.count, few, within) in
-    let power : 10 ^ (digits - length zs) ≡ 10 ^ z.zeros * 10 ^ (digits - length (d ∷ more)) = ap (λ j. 10 ^ j) room ∙ pow-add 10 z.zeros (digits - length (d ∷ more)) in (
+    let power : 10 ^ (digits - length zs) ≡ 10 ^ z.zeros * 10 ^ (digits - length (d ∷ more)) =
+    ap (λ j. 10 ^ j) room ∙ pow-add 10 z.zeros (digits - length (d ∷ more)) in (
       decimal_value 0 (front ++ zs),
       length zs,
       decimal c ds d more h k,
@@ -166,7 +172,8 @@ nothing_first (c ∷ xs) h = let a : is_plain c ≡ true = grind (arith, h) in a
 -- a plain number is its own trimmed text
 pub plain_trim : (f : List ℕ) → all is_plain f ≡ true → trim f ≡ f
 plain_trim f h =
-    ap (λ t. reverse (after_first is_space (reverse t))) (nothing_first f h) ∙ (ap reverse (nothing_first (reverse f) (all-reverse is_plain f h)) ∙ reverse-reverse f)
+    ap (λ t. reverse (after_first is_space (reverse t))) (nothing_first f h)
+    ∙ (ap reverse (nothing_first (reverse f) (all-reverse is_plain f h)) ∙ reverse-reverse f)
 
 -- a byte of a row of plain numbers
 abbrev pub in_row : ℕ → Bool
@@ -184,19 +191,30 @@ trim_push (x ∷ xs) f = ap (λ t. trim x ∷ t) (trim_push xs f)
 
 -- the front of a row of plain numbers up to the end of a field, after `i` values
 pub record IsPlainFront (s : Scale) (h : Heading) (front : List ℕ) (i : ℕ) (r : Row) : Type 0 where
+  -- the first field
   pub first : List ℕ
+  -- the fields after it
   pub others : List (List ℕ)
+  -- a comma behind the front ends its last field
   pub joins : (rest : List ℕ) → split 44 (front ++ 44 ∷ rest) ≡ (first ∷ others) ++ split 44 rest
+  -- its fields, split at commas
   pub whole : split 44 front ≡ first ∷ others
+  -- no field has blanks around it
   pub trimmed : map trim (first ∷ others) ≡ first ∷ others
+  -- each byte may stand in a row
   pub bytes : all in_row front ≡ true
+  -- the front is not empty
   pub begins : 0 < length front
+  -- after the first field there are as many as there are values
   pub count : length others ≡ i
+  -- the first field reads as the row's time
   pub time : IsFieldRead s.time h.time_digits (pos 0) (pos 4294967295) 1 first (pos r.time)
+  -- with the fields that are still to come the others read as the row's values
   pub left : (more : List (List ℕ)) → AreValuesLeft s h.digits (others ++ more) (i + 2) (drop i h.digits) more r.values
 
 -- the time is the first field
-pub front_first : (s : Scale) (h : Heading) (f : List ℕ) (t : ℕ) → 0 < length f → all is_plain f ≡ true → IsFieldRead s.time h.time_digits (pos 0) (pos 4294967295) 1 f (pos t)
+pub front_first : (s : Scale) (h : Heading) (f : List ℕ) (t : ℕ) → 0 < length f → all is_plain f ≡ true
+    → IsFieldRead s.time h.time_digits (pos 0) (pos 4294967295) 1 f (pos t)
     → IsPlainFront s h f 0 (row_made t [])
 front_first s h f t some p read =
     let free = free_of is_plain 44 refl f p in
@@ -214,23 +232,28 @@ front_first s h f t some p read =
     }
 
 -- a value is the next
-pub front_next : (s : Scale) (h : Heading) (front : List ℕ) (i : ℕ) (r : Row) (f : List ℕ) (m : ℕ) (v : ℤ) → IsPlainFront s h front i r → drop i h.digits ≡ m ∷ drop (i + 1) h.digits
-    → all is_plain f ≡ true → IsFieldRead s.value m (negsuc 16777215) (pos 16777216) (i + 2) f v → IsPlainFront s h (front ++ 44 ∷ f) (i + 1) (row_made r.time (r.values ++ v ∷ []))
+pub front_next : (s : Scale) (h : Heading) (front : List ℕ) (i : ℕ) (r : Row) (f : List ℕ) (m : ℕ) (v : ℤ)
+    → IsPlainFront s h front i r → drop i h.digits ≡ m ∷ drop (i + 1) h.digits
+    → all is_plain f ≡ true → IsFieldRead s.value m (negsuc 16777215) (pos 16777216) (i + 2) f v
+    → IsPlainFront s h (front ++ 44 ∷ f) (i + 1) (row_made r.time (r.values ++ v ∷ []))
 front_next s h front i r f m v p ds k read =
     let free = free_of is_plain 44 refl f k in
     record {
       first = p.first;
       others = p.others ++ f ∷ [];
       joins = λ rest. ap (split 44) (append_assoc front (44 ∷ f) (44 ∷ rest))
-          ∙ (p.joins (f ++ 44 ∷ rest) ∙ (ap (λ t. (p.first ∷ p.others) ++ t) (split-at f rest free) ∙ sym (append_assoc (p.first ∷ p.others) (f ∷ []) (split 44 rest))));
+          ∙ (p.joins (f ++ 44 ∷ rest)
+          ∙ (ap (λ t. (p.first ∷ p.others) ++ t) (split-at f rest free) ∙ sym (append_assoc (p.first ∷ p.others) (f ∷ []) (split 44 rest))));
       whole = p.joins f ∙ ap (λ t. (p.first ∷ p.others) ++ t) (split-none f free);
       trimmed = trim_push (p.first ∷ p.others) f ∙ (ap (λ t. t ++ trim f ∷ []) p.trimmed ∙ ap (λ x. (p.first ∷ p.others) ++ x ∷ []) (plain_trim f k));
       bytes = all-append in_row front (44 ∷ f) p.bytes (plain_in_row f k);
       begins = omega (arith, length-append front (44 ∷ f), p.begins);
       count = length_push p.others f ∙ ap (λ n. n + 1) p.count;
       time = p.time;
-      left = λ more. subst (λ fs. AreValuesLeft s h.digits fs (i + 1 + 2) (drop (i + 1) h.digits) more (r.values ++ v ∷ [])) (sym (append_assoc p.others (f ∷ []) more))
-          (values_more s h.digits (p.others ++ f ∷ more) (i + 2) (drop i h.digits) (f ∷ more) r.values (p.left (f ∷ more)) (i + 1 + 2) m (drop (i + 1) h.digits) f more v ds refl read (omega arith));
+      left = λ more. subst (λ fs. AreValuesLeft s h.digits fs (i + 1 + 2) (drop (i + 1) h.digits) more (r.values ++ v ∷ []))
+          (sym (append_assoc p.others (f ∷ []) more))
+          (values_more s h.digits (p.others ++ f ∷ more) (i + 2) (drop i h.digits) (f ∷ more) r.values (p.left (f ∷ more))
+          (i + 1 + 2) m (drop (i + 1) h.digits) f more v ds refl read (omega arith));
     }
 
 -- the bytes of a row of plain numbers, with a CR or without
@@ -268,7 +291,8 @@ row_free front line h (inr e) = subst HasNoFeed (sym e) (with_return front h)
         All-cons (λ x. x ≡ 10 → ⊥) c (xs ++ 13 ∷ []) (other_byte in_row c 10 a refl) (with_return xs b)
 
 -- the whole row
-module _ (sc : Scaled) (front line : List ℕ) (i : ℕ) (r : Row) (p : IsPlainFront sc.scale sc.heading front i r) (is : (line ≡ front) ⊎ (line ≡ front ++ 13 ∷ [])) where
+module _ (sc : Scaled) (front line : List ℕ) (i : ℕ) (r : Row) (p : IsPlainFront sc.scale sc.heading front i r)
+    (is : (line ≡ front) ⊎ (line ≡ front ++ 13 ∷ [])) where
   -- it is not blank
   pub row_not_blank : is_blank_line (whole_line line) ≡ false
   row_not_blank = ap (all is_space) (row_content front line p.bytes is) ∙ row_solid front p.bytes p.begins
@@ -291,7 +315,8 @@ module _ (sc : Scaled) (front line : List ℕ) (i : ℕ) (r : Row) (p : IsPlainF
       }
 
 -- the piece begins with the row
-pub plain_row : (sc : Scaled) (piece front : List ℕ) (i : ℕ) (r : Row) (n : ℕ) → IsPlainFront sc.scale sc.heading front i r → length front ≤ 4000 → drop i sc.heading.digits ≡ []
+pub plain_row : (sc : Scaled) (piece front : List ℕ) (i : ℕ) (r : Row) (n : ℕ) → IsPlainFront sc.scale sc.heading front i r
+    → length front ≤ 4000 → drop i sc.heading.digits ≡ []
     → i ≡ length sc.heading.columns → length r.values ≡ i → IsInRange r → n ≤ length piece
     → (take n piece ≡ front ++ 10 ∷ []) ⊎ (take n piece ≡ (front ++ 13 ∷ []) ++ 10 ∷ []) → IsPlainRow sc piece n r
 plain_row sc piece front i r n p short past w width range within (inl e) = record {
@@ -302,7 +327,12 @@ plain_row sc piece front i r n p short past w width range within (inl e) = recor
 }
 plain_row sc piece front i r n p short past w width range within (inr e) = record {
   line = front ++ 13 ∷ [];
-  whole = record { taken = e; within = within; free = row_free front (front ++ 13 ∷ []) p.bytes (inr refl); short = omega (arith, short, length_push front 13) };
+  whole = record {
+    taken = e;
+    within = within;
+    free = row_free front (front ++ 13 ∷ []) p.bytes (inr refl);
+    short = omega (arith, short, length_push front 13);
+  };
   solid = row_not_blank sc front (front ++ 13 ∷ []) i r p (inr refl);
   read = row_read sc front (front ++ 13 ∷ []) i r p (inr refl) past w width range;
 }

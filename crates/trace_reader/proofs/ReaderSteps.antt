@@ -1,5 +1,6 @@
 -- What a reader stands for after more bytes of a line, after its LF, and at the end.
-use Rattle.std.proofs.Common.{◌≡◌, ℕ, inl, inr, zero, suc, ◌+◌, ◌-◌, ◌<◌, take, ◌≤◌, Bool, true, false, List, [], ◌∷◌, ◌++◌, length, refl, sym, ap, ◌∙◌, subst, arith, Option, Some, None, append_assoc, add-one}
+use Rattle.std.proofs.Common.{◌≡◌, ℕ, inl, inr, zero, suc, ◌+◌, ◌-◌, ◌<◌, take, ◌≤◌, Bool, true, false, List, [], ◌∷◌}
+use Rattle.std.proofs.Common.{◌++◌, length, refl, sym, ap, ◌∙◌, subst, arith, Option, Some, None, append_assoc, add-one}
 use Rattle.std.specs.Prelude.{Ok, Err, IsSome}
 use Rattle.std.proofs.lemmas.List.{append-nil, length_push, length-append, same_from_push, take_at}
 use Rattle.std.proofs.lemmas.List.Elements.{All-nil, All-append, All-push}
@@ -13,7 +14,8 @@ use Rattle.trace_reader.specs.Sofar.{AreRowsSoFar}
 use Rattle.trace_reader.specs.Cut.{begun_after}
 use Rattle.trace_reader.specs.Feeds.{HasNoFeed, rows_after}
 use Rattle.trace_reader.specs.Progress.{Progress, last_of, Judges, blank, heading, row, bad_heading, bad_row}
-use Rattle.trace_reader.specs.Reader.{Reader, StandsFor, HasTaken, GoesOn, FaultsOn, ReadsOn, AreRising, IsFaultOfAll, HoldLines, HasReadBefore, IsNextRow, header_of, last_seen}
+use Rattle.trace_reader.specs.Reader.{Reader, StandsFor, HasTaken, GoesOn, FaultsOn, ReadsOn, AreRising}
+use Rattle.trace_reader.specs.Reader.{IsFaultOfAll, HoldLines, HasReadBefore, IsNextRow, header_of, last_seen}
 use Rattle.trace_reader.specs.Reading.{made, IsLineRefusal, HasEnded}
 use Rattle.trace_reader.specs.declared.refusal.Limits.{Limits}
 use Rattle.trace_reader.specs.declared.refusal.TraceRefusal.{TraceRefusal}
@@ -49,9 +51,11 @@ module _ (r : Reader) (bytes : List ℕ) (rows : List Row) (t : HasTaken r bytes
       → lines e ((bytes ++ (part ++ 10 ∷ [])) ++ more) ≡ t.front ++ (done (r.line ++ part) ∷ lines e more)
   joins_closed e part more free =
       let text = r.line ++ part in
-      let a : (r.line ++ (part ++ 10 ∷ [])) ++ more ≡ text ++ (10 ∷ more) = ap (λ u. u ++ more) (sym (append_assoc r.line part (10 ∷ []))) ∙ append_assoc text (10 ∷ []) more in
+      let a : (r.line ++ (part ++ 10 ∷ [])) ++ more ≡ text ++ (10 ∷ more) =
+      ap (λ u. u ++ more) (sym (append_assoc r.line part (10 ∷ []))) ∙ append_assoc text (10 ∷ []) more in
       joins_on e (part ++ 10 ∷ []) more
-      ∙ ap (λ ls. t.front ++ ls) (ap (lines e) a ∙ (lines-append e text more ∙ ap (λ ls. ls ++ lines e more) (lines-line text (All-append (λ c. c ≡ 10 → ⊥) r.line part t.free free))))
+      ∙ ap (λ ls. t.front ++ ls) (ap (lines e) a
+      ∙ (lines-append e text more ∙ ap (λ ls. ls ++ lines e more) (lines-line text (All-append (λ c. c ≡ 10 → ⊥) r.line part t.free free))))
 
   -- how many were begun
   pub begun_now : r.begun ≡ length (t.front ++ rest false r.line)
@@ -69,7 +73,8 @@ module _ (r : Reader) (bytes : List ℕ) (rows : List Row) (t : HasTaken r bytes
     where
       some : 0 < length r.line → suc (length t.front) ≤ r.limits.lines
       some l =
-          let e : length (t.front ++ rest false r.line) ≡ length t.front + 1 = ap (λ ls. length (t.front ++ ls)) (rest_some false r.line l) ∙ length_push t.front (record { bytes = r.line; whole = false }) in
+          let e : length (t.front ++ rest false r.line) ≡ length t.front + 1 =
+          ap (λ ls. length (t.front ++ ls)) (rest_some false r.line l) ∙ length_push t.front (record { bytes = r.line; whole = false }) in
           omega (arith, begun_now, e, few)
 
 -- the whole lines hold the heading and the rows
@@ -99,13 +104,15 @@ last_counted : (count : ℕ) (r : Row) (t : ℕ) → 0 < count → r.time ≡ t 
 last_counted zero r t l e = absurd (omega (arith, l))
 last_counted (suc n) r t l e = ap Some e
 
-last_same : (count : ℕ) (r : Row) (rows : List Row) → count ≡ length rows → ((before : List Row) (x : Row) → rows ≡ before ++ x ∷ [] → r ≡ x) → last_of count r ≡ last_seen rows
+last_same : (count : ℕ) (r : Row) (rows : List Row) → count ≡ length rows
+    → ((before : List Row) (x : Row) → rows ≡ before ++ x ∷ [] → r ≡ x) → last_of count r ≡ last_seen rows
 last_same count r [] n last = ap (λ c. last_of c r) n
 last_same count r (y ∷ rows) n last =
     let (before, x, e) = last_row (y ∷ rows) (omega arith) in
     last_counted count r x.time (omega (arith, n)) (ap (λ (z : Row). z.time) (last before x e)) ∙ (sym (seen_push before x) ∙ ap last_seen (sym e))
 
-last_before : (count : ℕ) (r : Row) (rows : List Row) → ((before : List Row) (x : Row) → rows ≡ before ++ x ∷ [] → r ≡ x) → 0 < length rows → last_time 0 rows ≡ r.time
+last_before : (count : ℕ) (r : Row) (rows : List Row) → ((before : List Row) (x : Row) → rows ≡ before ++ x ∷ [] → r ≡ x)
+    → 0 < length rows → last_time 0 rows ≡ r.time
 last_before count r rows last some =
     let (before, x, e) = last_row rows some in
     ap (last_time 0) e ∙ (last_time-push 0 before x ∙ ap (λ (z : Row). z.time) (sym (last before x e)))
@@ -131,7 +138,8 @@ module _ (limits : Limits) (old : Progress) (begun : ℕ) (line bytes : List ℕ
       going : lines false (bytes ++ part) ≡ t.front ++ rest false (line ++ part)
       going = sym (ap (lines false) (append-nil (bytes ++ part)))
           ∙ (joins_on (made limits old begun line) bytes rows t false part []
-          ∙ ap (λ ls. t.front ++ ls) (ap (lines false) (append-nil (line ++ part)) ∙ lines-rest false (line ++ part) (All-append (λ c. c ≡ 10 → ⊥) line part t.free free)))
+          ∙ ap (λ ls. t.front ++ ls)
+          (ap (lines false) (append-nil (line ++ part)) ∙ lines-rest false (line ++ part) (All-append (λ c. c ≡ 10 → ⊥) line part t.free free)))
 
   module _ (part : List ℕ) (free : HasNoFeed part) where
     abbrev text : List ℕ
@@ -152,7 +160,8 @@ module _ (limits : Limits) (old : Progress) (begun : ℕ) (line bytes : List ℕ
 
     -- and how many lines the bytes have
     pub closed_count : begun_after begun line (length part + 1) ≡ length (lines false taken_bytes)
-    closed_count = closed_begun ∙ sym (ap length (sym (ap (lines false) (append-nil taken_bytes)) ∙ (closed_joins false [] ∙ (ap (λ ls. (t.front ++ done text ∷ []) ++ ls) (lines-nil false) ∙ append-nil (t.front ++ done text ∷ [])))))
+    closed_count = closed_begun ∙ sym (ap length (sym (ap (lines false) (append-nil taken_bytes))
+        ∙ (closed_joins false [] ∙ (ap (λ ls. (t.front ++ done text ∷ []) ++ ls) (lines-nil false) ∙ append-nil (t.front ++ done text ∷ [])))))
 
     -- the line that the LF ends comes after the whole lines
     pub number : begun_after begun line (length part + 1) ≡ suc (length t.front)
@@ -172,7 +181,8 @@ module _ (limits : Limits) (old : Progress) (begun : ℕ) (line bytes : List ℕ
         front = t.front ++ done text ∷ [];
         free = All-nil (λ c. c ≡ 10 → ⊥);
         joins = closed_joins;
-        goes_on = subst (λ (p : Progress). GoesOn limits p.least (t.front ++ done text ∷ []) p.heading rows) (sym same) (goes_blank limits old.least t.front text few_front short_text old.heading rows t.goes_on b);
+        goes_on = subst (λ (p : Progress). GoesOn limits p.least (t.front ++ done text ∷ []) p.heading rows) (sym same)
+            (goes_blank limits old.least t.front text few_front short_text old.heading rows t.goes_on b);
         begun = closed_count;
         count = ap (λ (p : Progress). p.count) same ∙ t.count;
         last = λ before x w. ap (λ (p : Progress). p.row) same ∙ t.last before x w;
@@ -181,13 +191,15 @@ module _ (limits : Limits) (old : Progress) (begun : ℕ) (line bytes : List ℕ
       }
       taken_closed new e (heading h b n is sound same) =
           let none_yet : rows ≡ [] = (t.goes_on.blank n).1 in
-          let g : GoesOn limits old.least t.front None [] = subst (λ rs. GoesOn limits old.least t.front None rs) none_yet (subst (λ o. GoesOn limits old.least t.front o rows) n t.goes_on) in
+          let g : GoesOn limits old.least t.front None [] =
+          subst (λ rs. GoesOn limits old.least t.front None rs) none_yet (subst (λ o. GoesOn limits old.least t.front o rows) n t.goes_on) in
           record {
             front = t.front ++ done text ∷ [];
             free = All-nil (λ c. c ≡ 10 → ⊥);
             joins = closed_joins;
             goes_on = subst (λ (p : Progress). GoesOn limits p.least (t.front ++ done text ∷ []) p.heading rows) (sym same)
-                (subst (λ rs. GoesOn limits old.least (t.front ++ done text ∷ []) (Some h) rs) (sym none_yet) (goes_heading limits old.least t.front text few_front short_text g b h is sound));
+                (subst (λ rs. GoesOn limits old.least (t.front ++ done text ∷ []) (Some h) rs) (sym none_yet)
+                (goes_heading limits old.least t.front text few_front short_text g b h is sound));
             begun = closed_count;
             count = ap (λ (p : Progress). p.count) same ∙ t.count;
             last = λ before x w. ap (λ (p : Progress). p.row) same ∙ t.last before x w;
@@ -235,7 +247,8 @@ module _ (limits : Limits) (old : Progress) (begun : ℕ) (line bytes : List ℕ
           (row_bad limits old.least ended (suc (length t.front)) text (lines ended more) x few_front short_text b h rows (at ∙ number) f')))
 
     -- a limit broken before the LF
-    pub closed_breaks : (x : TraceRefusal) → IsLineRefusal limits (begun_after begun line (length part + 1)) (length line + length part) x → IsFaultOfAll limits old.least taken_bytes x
+    pub closed_breaks : (x : TraceRefusal) → IsLineRefusal limits (begun_after begun line (length part + 1))
+        (length line + length part) x → IsFaultOfAll limits old.least taken_bytes x
     closed_breaks x (at, f) more ended =
         subst (λ ls. FaultFrom limits old.least ended 1 ls x) (sym (closed ended more)) (t.goes_on.faults ended (done text ∷ lines ended more) x
         (line_bad limits old.least old.heading rows ended (suc (length t.front)) (done text) (lines ended more) x (
@@ -258,7 +271,8 @@ module _ (limits : Limits) (old : Progress) (begun : ℕ) (line bytes : List ℕ
   broken_some part few k f = by_fault line part f
     where
       by_fault : (xs ys : List ℕ)
-          → (Where (limits.lines < begun_after begun xs (length ys)) TooManyLines or_else Where (4096 < (length xs + length ys)) LineTooLong) k → 0 < length (xs ++ ys)
+          → (Where (limits.lines < begun_after begun xs (length ys)) TooManyLines or_else Where (4096 < (length xs + length ys)) LineTooLong)
+          k → 0 < length (xs ++ ys)
       by_fault [] [] (inl a) = absurd (omega (arith, few, a.0))
       by_fault [] [] (inr a) = absurd (omega (arith, a.1.0))
       by_fault [] (b ∷ bs) a = omega arith
@@ -275,10 +289,12 @@ module _ (limits : Limits) (old : Progress) (begun : ℕ) (line bytes : List ℕ
       let grown : (Where (limits.lines < suc (length t.front)) TooManyLines or_else Where (4096 < length l.bytes) LineTooLong) x.kind =
       larger (limits.lines < suc (length t.front)) (length line + length part) (length l.bytes) (omega (arith, n, size)) x.kind
       (subst (λ m. (Where (limits.lines < m) TooManyLines or_else Where (4096 < (length line + length part)) LineTooLong) x.kind) number f) in
-      subst (λ ms. FaultFrom limits old.least ended 1 ms x) (sym (joins_on (made limits old begun line) bytes rows t ended part more ∙ ap (λ ms. t.front ++ ms) e))
+      subst (λ ms. FaultFrom limits old.least ended 1 ms x)
+      (sym (joins_on (made limits old begun line) bytes rows t ended part more ∙ ap (λ ms. t.front ++ ms) e))
       (t.goes_on.faults ended (l ∷ ls) x (line_bad limits old.least old.heading rows ended (suc (length t.front)) l ls x (at ∙ number, grown)))
     where
-      larger : (P : Type 0) (m n : ℕ) → m ≤ n → (k : TraceKind) → (Where P TooManyLines or_else Where (4096 < m) LineTooLong) k → (Where P TooManyLines or_else Where (4096 < n) LineTooLong) k
+      larger : (P : Type 0) (m n : ℕ) → m ≤ n → (k : TraceKind) → (Where P TooManyLines or_else Where (4096 < m) LineTooLong) k
+          → (Where P TooManyLines or_else Where (4096 < n) LineTooLong) k
       larger P m n l k (inl a) = inl a
       larger P m n l k (inr (no_p, (b, e))) = inr (no_p, (omega (arith, l, b), e))
 
@@ -297,7 +313,8 @@ taken_start limits p n z = record {
 }
 
 -- the bytes may end between lines
-pub ended_between : (limits : Limits) (p : Progress) (begun : ℕ) (bytes : List ℕ) (rows : List Row) → HasTaken (made limits p begun []) bytes rows → HasEnded limits p begun bytes rows
+pub ended_between : (limits : Limits) (p : Progress) (begun : ℕ) (bytes : List ℕ) (rows : List Row)
+    → HasTaken (made limits p begun []) bytes rows → HasEnded limits p begun bytes rows
 ended_between limits p begun bytes rows t = record {
   before = bytes;
   taken = t;
@@ -305,7 +322,8 @@ ended_between limits p begun bytes rows t = record {
 }
 
 -- or with a line that has no LF
-module _ (limits : Limits) (old : Progress) (begun : ℕ) (line bytes : List ℕ) (rows : List Row) (t : HasTaken (made limits old begun line) bytes rows) (some : 0 < length line) where
+module _ (limits : Limits) (old : Progress) (begun : ℕ) (line bytes : List ℕ) (rows : List Row)
+    (t : HasTaken (made limits old begun line) bytes rows) (some : 0 < length line) where
   last_lines : lines true bytes ≡ t.front ++ done line ∷ []
   last_lines = lines_now (made limits old begun line) bytes rows t true ∙ ap (λ ls. t.front ++ ls) (rest_some true line some)
 
@@ -345,7 +363,8 @@ module _ (limits : Limits) (old : Progress) (begun : ℕ) (line bytes : List ℕ
         front_same new e (row h b n is sound range width up room same) = refl
 
     -- or with one
-    pub ended_bad : (new : Progress) (x : TraceRefusal) → x.line ≡ begun → Judges limits (line ++ []) old new (Err x.kind) → IsFirstFault bytes true limits old.least x
+    pub ended_bad : (new : Progress) (x : TraceRefusal) → x.line ≡ begun → Judges limits (line ++ []) old new (Err x.kind)
+        → IsFirstFault bytes true limits old.least x
     ended_bad new x at judged =
         let f = judged_bad limits old begun line bytes rows t [] no_feed few' short' new x (at ∙ sym counted) judged [] true in
         let same : lines true ((bytes ++ ([] ++ 10 ∷ [])) ++ []) ≡ lines true bytes =
@@ -373,7 +392,8 @@ module _ (limits : Limits) (p : Progress) (begun : ℕ) (bytes : List ℕ) (rows
     pub no_rows : p.count ≡ 0 → (x : TraceRefusal) → x.line ≡ begun → x.kind ≡ NoRows → IsFirstFault bytes true limits p.least x
     no_rows z x at is =
         subst (λ ls. FaultFrom limits p.least true 1 ls x) whole_front (h.taken.goes_on.faults true [] x
-        (subst (λ o. FaultsOn limits p.least o rows true (suc (length h.taken.front)) [] x) (sym n) (omega (arith, at, last_number), ((refl, sym h.taken.count ∙ z), is))))
+        (subst (λ o. FaultsOn limits p.least o rows true (suc (length h.taken.front)) [] x) (sym n)
+        (omega (arith, at, last_number), ((refl, sym h.taken.count ∙ z), is))))
 
     -- the whole is the header and the rows
     pub read_whole : TraceOf bytes true p.least (header_of p.least g) rows
@@ -402,7 +422,8 @@ after_last width t [] r h = (h.0, h.1)
 after_last width t (s ∷ rows) r h = after_last width s.time rows r h.2
 
 -- the last of rising rows
-pub rising_last : (width : ℕ) (rows : List Row) (r : Row) → AreRowsSoFar width (rows ++ r ∷ []) → (length r.values ≡ width) × (0 < length rows → last_time 0 rows < r.time)
+pub rising_last : (width : ℕ) (rows : List Row) (r : Row) → AreRowsSoFar width (rows ++ r ∷ [])
+    → (length r.values ≡ width) × (0 < length rows → last_time 0 rows < r.time)
 rising_last width [] r h = (h.0, λ some. absurd (omega (arith, some)))
 rising_last width (s ∷ rows) r h = let w = after_last width s.time rows r h.1 in (w.1, λ some. w.0)
 

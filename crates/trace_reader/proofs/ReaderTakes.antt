@@ -1,5 +1,6 @@
 -- A reader takes the bytes up to an LF, or bytes without one.
-use Rattle.std.proofs.Common.{◌≡◌, ℕ, ◌⊎◌, inl, inr, ◌+◌, ◌-◌, ◌<◌, ◌≤◌, Bool, true, false, List, [], ◌∷◌, ◌++◌, length, refl, sym, ap, ◌∙◌, subst, arith, Option, Some, None, append_assoc, take, drop}
+use Rattle.std.proofs.Common.{◌≡◌, ℕ, ◌⊎◌, inl, inr, ◌+◌, ◌-◌, ◌<◌, ◌≤◌, Bool, true, false, List, [], ◌∷◌, ◌++◌}
+use Rattle.std.proofs.Common.{length, refl, sym, ap, ◌∙◌, subst, arith, Option, Some, None, append_assoc, take, drop}
 use Rattle.std.specs.Prelude.{Ok, Err, IsSome, Result, IfOk, IfErr, is_some, option_copied, option_map}
 use Rattle.std.specs.Borrow.{Bor}
 use Rattle.std.proofs.lemmas.Bool.{false≢true, cases_eq, eq-eqb, ne_eqb}
@@ -23,7 +24,9 @@ use Rattle.trace_reader.specs.declared.refusal.TraceKind.{TraceKind}
 use Rattle.trace_reader.specs.declared.event.Event.{Event}
 use Rattle.trace_reader.specs.declared.event.Event.TheVariants.{Nothing, Header as IsTheHeader, Row as IsARow}
 use Rattle.trace_reader.specs.declared.reading.Reading.{Reading}
-use Rattle.trace_reader.proofs.ReaderSteps.{stands, taken_going, taken_closed, judged_bad, closed_breaks, going_breaks, taken_start, ended_between, ended_closed, ended_bad, number, number_going, broken_some, read_before}
+use Rattle.trace_reader.proofs.ReaderSteps.{stands, taken_going, taken_closed, judged_bad, closed_breaks}
+use Rattle.trace_reader.proofs.ReaderSteps.{going_breaks, taken_start, ended_between, ended_closed}
+use Rattle.trace_reader.proofs.ReaderSteps.{ended_bad, number, number_going, broken_some, read_before}
 
 -- a line that was judged without a fault keeps room for the heading until it was read
 judged_fresh : {limits : Limits} {line : List ℕ} {old new : Progress} {e : Event} → Judges limits line old new (Ok e) → (old.heading ≡ None → old.fresh ≡ true)
@@ -40,7 +43,8 @@ judged_least (bad_heading k b n f same) = ap (λ (p : Progress). p.least) same
 judged_least (bad_row h k b n f same) = ap (λ (p : Progress). p.least) same
 
 -- a refused line leaves what was read
-judged_kept : {limits : Limits} {line : List ℕ} {old new : Progress} {k : TraceKind} → Judges limits line old new (Err k) → new ≡ record old { fresh = new.fresh }
+judged_kept : {limits : Limits} {line : List ℕ} {old new : Progress} {k : TraceKind} → Judges limits line old new (Err k)
+    → new ≡ record old { fresh = new.fresh }
 judged_kept {old = old} {new} (bad_heading k b n f same) = same ∙ ap (λ (x : Bool). record old { fresh = x }) (sym (ap (λ (p : Progress). p.fresh) same))
 judged_kept {old = old} {new} (bad_row h k b n f same) = same ∙ ap (λ (x : Bool). record old { fresh = x }) (sym (ap (λ (p : Progress). p.fresh) same))
 
@@ -57,7 +61,8 @@ module _ (limits : Limits) (old new : Reading) (w : IsWithin limits old) where
   -- bytes without LF that were kept
   module _ (part : List ℕ) (free : HasNoFeed part) (begun : new.lines.begun ≡ begun_after old.lines.begun old.lines.line (length part)) where
     -- the reader stays within its limits
-    pub hold_within : Fits limits new.lines.begun (length old.lines.line + length part) → new.lines.line ≡ old.lines.line ++ part → new.table ≡ old.table → IsWithin limits new
+    pub hold_within : Fits limits new.lines.begun (length old.lines.line + length part) → new.lines.line ≡ old.lines.line ++ part
+        → new.table ≡ old.table → IsWithin limits new
     hold_within fits line table = record {
       rows = w.rows;
       lines = w.lines;
@@ -78,7 +83,8 @@ module _ (limits : Limits) (old new : Reading) (w : IsWithin limits old) where
         stands (state limits new) (bytes ++ part) rows u fits.count (omega (arith, ap length line, length-append old.lines.line part, fits.short)) (refl, refl)
 
     -- or a limit is broken
-    pub hold_fault : (x : TraceRefusal) → IsLineRefusal limits new.lines.begun (length old.lines.line + length part) x → (bytes : List ℕ) (rows : List Row) → StandsFor (state limits old) bytes rows
+    pub hold_fault : (x : TraceRefusal) → IsLineRefusal limits new.lines.begun (length old.lines.line + length part) x
+        → (bytes : List ℕ) (rows : List Row) → StandsFor (state limits old) bytes rows
         → IsFaultOfAll limits old.table.least (bytes ++ part) x
     hold_fault x f bytes rows s =
         going_breaks limits old.table old.lines.begun old.lines.line bytes rows s.taken part free w.begun w.line x
@@ -89,7 +95,8 @@ module _ (limits : Limits) (old new : Reading) (w : IsWithin limits old) where
         → (bytes : List ℕ) (rows : List Row) → StandsFor (state limits old) bytes rows
         → HasReadBefore x.line old.table.heading old.table.least (bytes ++ part) rows
     hold_before x (at, f) bytes rows s =
-        let kind = subst (λ b. (Where (limits.lines < b) TooManyLines or_else Where (4096 < (length old.lines.line + length part)) LineTooLong) x.kind) begun f in
+        let kind =
+        subst (λ b. (Where (limits.lines < b) TooManyLines or_else Where (4096 < (length old.lines.line + length part)) LineTooLong) x.kind) begun f in
         let some = broken_some limits old.table old.lines.begun old.lines.line bytes rows s.taken part w.begun x.kind kind in
         let number = number_going limits old.table old.lines.begun old.lines.line bytes rows s.taken part free some in
         read_before (state limits old) bytes rows s.taken part x.line (at ∙ (begun ∙ number))
@@ -110,24 +117,30 @@ module _ (limits : Limits) (old new : Reading) (w : IsWithin limits old) where
     -- and stands for the bytes with the line
     pub finish_stands : (e : Event) → Fits limits new.lines.begun (length old.lines.line + length part) → new.lines.line ≡ []
         → Judges limits (old.lines.line ++ part) old.table new.table (Ok e)
-        → (bytes : List ℕ) (rows : List Row) → StandsFor (state limits old) bytes rows → StandsFor (state limits new) (bytes ++ (part ++ 10 ∷ [])) (rows_after e rows new.table.row)
+        → (bytes : List ℕ) (rows : List Row) → StandsFor (state limits old) bytes rows
+        → StandsFor (state limits new) (bytes ++ (part ++ 10 ∷ [])) (rows_after e rows new.table.row)
     finish_stands e fits line judged bytes rows s =
-        let t = taken_closed limits old.table old.lines.begun old.lines.line bytes rows s.taken part free (subst (λ b. b ≤ limits.lines) begun fits.count) fits.short new.table e judged in
+        let t = taken_closed limits old.table old.lines.begun old.lines.line bytes rows s.taken part free
+        (subst (λ b. b ≤ limits.lines) begun fits.count) fits.short new.table e judged in
         let after = rows_after e rows new.table.row in
         let u : HasTaken (state limits new) (bytes ++ (part ++ 10 ∷ [])) after =
         subst (λ b. HasTaken (made limits new.table b new.lines.line) (bytes ++ (part ++ 10 ∷ [])) after) (sym begun)
-        (subst (λ l. HasTaken (made limits new.table (begun_after old.lines.begun old.lines.line (length part + 1)) l) (bytes ++ (part ++ 10 ∷ [])) after) (sym line) t) in
+        (subst (λ l. HasTaken (made limits new.table (begun_after old.lines.begun old.lines.line (length part + 1)) l) (bytes ++ (part ++ 10 ∷ [])) after)
+        (sym line) t) in
         stands (state limits new) (bytes ++ (part ++ 10 ∷ [])) after u fits.count (omega (arith, ap length line)) (refl, refl)
 
     -- or the line has a fault
     pub finish_fault : (x : TraceRefusal)
         → (IsLineRefusal limits new.lines.begun (length old.lines.line + length part) x × (new.table ≡ old.table))
-        ⊎ (Fits limits new.lines.begun (length old.lines.line + length part) × (x.line ≡ new.lines.begun) × Judges limits (old.lines.line ++ part) old.table new.table (Err x.kind))
+        ⊎ (Fits limits new.lines.begun (length old.lines.line + length part) × (x.line ≡ new.lines.begun)
+        × Judges limits (old.lines.line ++ part) old.table new.table (Err x.kind))
         → (bytes : List ℕ) (rows : List Row) → StandsFor (state limits old) bytes rows → IsFaultOfAll limits old.table.least (bytes ++ (part ++ 10 ∷ [])) x
     finish_fault x (inl (f, same)) bytes rows s =
-        closed_breaks limits old.table old.lines.begun old.lines.line bytes rows s.taken part free x (subst (λ b. IsLineRefusal limits b (length old.lines.line + length part) x) begun f)
+        closed_breaks limits old.table old.lines.begun old.lines.line bytes rows s.taken part free x
+        (subst (λ b. IsLineRefusal limits b (length old.lines.line + length part) x) begun f)
     finish_fault x (inr (fits, at, judged)) bytes rows s =
-        judged_bad limits old.table old.lines.begun old.lines.line bytes rows s.taken part free (subst (λ b. b ≤ limits.lines) begun fits.count) fits.short new.table x (at ∙ begun) judged
+        judged_bad limits old.table old.lines.begun old.lines.line bytes rows s.taken part free
+        (subst (λ b. b ≤ limits.lines) begun fits.count) fits.short new.table x (at ∙ begun) judged
 
     -- which comes after what was read
     pub finish_before : (x : TraceRefusal) → x.line ≡ new.lines.begun → (bytes : List ℕ) (rows : List Row) → StandsFor (state limits old) bytes rows
@@ -139,7 +152,8 @@ module _ (limits : Limits) (old new : Reading) (w : IsWithin limits old) where
     -- and leaves what was read
     pub finish_kept : (x : TraceRefusal)
         → (IsLineRefusal limits new.lines.begun (length old.lines.line + length part) x × (new.table ≡ old.table))
-        ⊎ (Fits limits new.lines.begun (length old.lines.line + length part) × (x.line ≡ new.lines.begun) × Judges limits (old.lines.line ++ part) old.table new.table (Err x.kind))
+        ⊎ (Fits limits new.lines.begun (length old.lines.line + length part) × (x.line ≡ new.lines.begun)
+        × Judges limits (old.lines.line ++ part) old.table new.table (Err x.kind))
         → (x.line ≡ new.lines.begun) × (new.table ≡ record old.table { fresh = new.table.fresh }) × (new.table.least ≡ old.table.least)
     finish_kept x (inl (f, same)) =
         (f.0, same ∙ ap (λ (b : Bool). record old.table { fresh = b }) (sym (ap (λ (p : Progress). p.fresh) same)), ap (λ (p : Progress). p.least) same)
@@ -156,7 +170,8 @@ start_stands limits least p h =
     let line : p.lines.line ≡ [] = ap (λ (c : Cut). c.line) h.lines in
     let t : HasTaken (state limits p) [] [] =
     subst (λ b. HasTaken (made limits p.table b p.lines.line) [] []) (sym begun)
-    (subst (λ l. HasTaken (made limits p.table 0 l) [] []) (sym line) (taken_start limits p.table (ap (λ (q : Progress). q.heading) h.table) (ap (λ (q : Progress). q.count) h.table))) in
+    (subst (λ l. HasTaken (made limits p.table 0 l) [] []) (sym line)
+    (taken_start limits p.table (ap (λ (q : Progress). q.heading) h.table) (ap (λ (q : Progress). q.count) h.table))) in
     stands (state limits p) [] [] t (omega (arith, begun)) (omega (arith, ap length line)) (refl, refl)
 
 -- bytes up to an LF are followed by the others
@@ -191,13 +206,15 @@ ends_on : (front : List ℕ) {taken : List ℕ} → EndsWithFeed taken → EndsW
 ends_on front (feed before) = subst EndsWithFeed (append_assoc front before (10 ∷ [])) (feed (front ++ before))
 
 -- what came after nothing came
-pub come_on : (e : Event) (a b r : Reader) (front taken : List ℕ) → b.heading ≡ a.heading → b.row ≡ a.row → b.count ≡ a.count → HasCome e b r taken → HasCome e a r (front ++ taken)
+pub come_on : (e : Event) (a b r : Reader) (front taken : List ℕ) → b.heading ≡ a.heading → b.row ≡ a.row → b.count ≡ a.count
+    → HasCome e b r taken → HasCome e a r (front ++ taken)
 come_on Nothing a b r front taken h w n c = (c.0 ∙ h, c.1 ∙ w, c.2 ∙ n)
 come_on IsTheHeader a b r front taken h w n c = (sym h ∙ c.0, c.1, c.2 ∙ w, c.3 ∙ n, ends_on front c.4)
 come_on IsARow a b r front taken h w n c = (subst IsSome h c.0, c.1 ∙ h, c.2, ends_on front c.3)
 
 -- a longer front
-pub take_on : (at n : ℕ) (piece taken : List ℕ) → take n (drop at piece) ≡ taken → at ≤ length piece → n ≤ length (drop at piece) → take (at + n) piece ≡ take at piece ++ taken
+pub take_on : (at n : ℕ) (piece taken : List ℕ) → take n (drop at piece) ≡ taken → at ≤ length piece → n ≤ length (drop at piece)
+    → take (at + n) piece ≡ take at piece ++ taken
 take_on at n piece taken e l k =
     let d : piece ≡ take at piece ++ (taken ++ drop n (drop at piece)) =
     sym (take-append-drop at piece) ∙ ap (λ t. take at piece ++ t) (sym (take-append-drop n (drop at piece)) ∙ ap (λ t. t ++ drop n (drop at piece)) e) in
@@ -213,8 +230,10 @@ last_between limits old e bytes rows s =
     ended_between limits old.table old.lines.begun bytes rows (subst (λ l. HasTaken (made limits old.table old.lines.begun l) bytes rows) e s.taken)
 
 -- a last line without a fault
-pub last_closed : (limits : Limits) (old new : Reading) → IsWithin limits old → 0 < length old.lines.line → (e : Event) → Judges limits (old.lines.line ++ []) old.table new.table (Ok e)
-    → (bytes : List ℕ) (rows : List Row) → StandsFor (state limits old) bytes rows → HasEnded limits new.table old.lines.begun bytes (rows_after e rows new.table.row)
+pub last_closed : (limits : Limits) (old new : Reading) → IsWithin limits old → 0 < length old.lines.line → (e : Event)
+    → Judges limits (old.lines.line ++ []) old.table new.table (Ok e)
+    → (bytes : List ℕ) (rows : List Row) → StandsFor (state limits old) bytes rows
+    → HasEnded limits new.table old.lines.begun bytes (rows_after e rows new.table.row)
 last_closed limits old new w some e judged bytes rows s =
     ended_closed limits old.table old.lines.begun old.lines.line bytes rows s.taken some w.begun w.line new.table e judged
 
@@ -240,7 +259,8 @@ last_before limits old some x at bytes rows s =
     begun_same b (c ∷ cs) = refl
 
 -- what came with a line
-pub line_come : {limits : Limits} {line : List ℕ} {e : Event} (old new : Progress) → Judges limits line old new (Ok e) → HasCome e (made limits old 0 []) (made limits new 0 []) (10 ∷ [])
+pub line_come : {limits : Limits} {line : List ℕ} {e : Event} (old new : Progress) → Judges limits line old new (Ok e)
+    → HasCome e (made limits old 0 []) (made limits new 0 []) (10 ∷ [])
 line_come old new (blank b same) = (ap (λ (p : Progress). p.heading) same, ap (λ (p : Progress). p.row) same, ap (λ (p : Progress). p.count) same)
 line_come old new (heading g b o is sound same) =
     (o, subst IsSome (sym (ap (λ (p : Progress). p.heading) same)) refl, ap (λ (p : Progress). p.row) same, ap (λ (p : Progress). p.count) same, feed [])
@@ -264,7 +284,8 @@ header_none None (Some g) f e s = absurd (let w = e in cc)
 header_none (Some x) h f e s = absurd (false≢true (sym s))
 
 -- a header by its heading
-pub header_some : (o : Option (Bor Header)) (h : Option Heading) (f : Heading → Header) → option_copied o ≡ option_map f h → is_some o ≡ true → (g : Heading) × (h ≡ Some g)
+pub header_some : (o : Option (Bor Header)) (h : Option Heading) (f : Heading → Header) → option_copied o ≡ option_map f h
+    → is_some o ≡ true → (g : Heading) × (h ≡ Some g)
 header_some None h f e s = absurd (false≢true s)
 header_some (Some x) None f e s = absurd (let w = e in cc)
 header_some (Some x) (Some g) f e s = (g, refl)

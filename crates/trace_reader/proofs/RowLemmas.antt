@@ -1,5 +1,6 @@
 -- The fields of a row, one after another.
-use Rattle.std.proofs.Common.{◌≡◌, ℕ, inl, inr, suc, List, [], ◌∷◌, ◌++◌, length, refl, sym, subst, arith, ℤ, pos, negsuc, append_assoc, Option, Some, None, true, false, map, ◌<◌}
+use Rattle.std.proofs.Common.{◌≡◌, ℕ, inl, inr, suc, List, [], ◌∷◌, ◌++◌, length, refl, sym, subst, arith}
+use Rattle.std.proofs.Common.{ℤ, pos, negsuc, append_assoc, Option, Some, None, true, false, map, ◌<◌}
 use Rattle.std.specs.Prelude.{is_some, option_copied}
 use Rattle.std.specs.Borrow.{Bor}
 use Rattle.std.proofs.lemmas.Bool.{false≢true}
@@ -18,15 +19,18 @@ use Rattle.trace_reader.specs.declared.refusal.TraceKind.{TraceKind}
 pub start_values : (s : Scale) (digits : List ℕ) (fields : List (List ℕ)) → AreValuesLeft s digits fields 2 digits fields []
 start_values s digits fields = record { faults = λ k h. h; only = λ k h. h; reads = λ more h. h }
 
-module _ (s : Scale) (digits : List ℕ) (fields : List (List ℕ)) (i : ℕ) (ds : List ℕ) (left : List (List ℕ)) (values : List ℤ) (l : AreValuesLeft s digits fields i ds left values) where
+module _ (s : Scale) (digits : List ℕ) (fields : List (List ℕ)) (i : ℕ) (ds : List ℕ) (left : List (List ℕ)) (values : List ℤ)
+    (l : AreValuesLeft s digits fields i ds left values) where
   -- one field more
   pub values_more : (j m : ℕ) (es : List ℕ) (f : List ℕ) (more : List (List ℕ)) (v : ℤ) → ds ≡ m ∷ es → left ≡ f ∷ more
       → IsFieldRead s.value m (negsuc 16777215) (pos 16777216) i f v → j ≡ suc i → AreValuesLeft s digits fields j es more (values ++ v ∷ [])
   values_more j m es f more v d e r n = subst (λ p. AreValuesLeft s digits fields p es more (values ++ v ∷ [])) (sym n) (record {
     faults = λ k h. l.faults k (subst (λ x. ValueFaults s i x left k) (sym d) (subst (λ t. ValueFaults s i (m ∷ es) t k) (sym e) (inr (r.sound, h))));
-    only = λ k h. elim (subst (λ t. ValueFaults s i (m ∷ es) t k) e (subst (λ x. ValueFaults s i x left k) d (l.only k h))) [ inl b ↦ absurd (r.sound k b) | inr w ↦ w.1 ];
+    only = λ k h. elim (subst (λ t. ValueFaults s i (m ∷ es) t k) e (subst (λ x. ValueFaults s i x left k) d (l.only k h)))
+        [ inl b ↦ absurd (r.sound k b) | inr w ↦ w.1 ];
     reads = λ ws h. subst (λ t. AreInTicks s.value digits fields t) (sym (append_assoc values (v ∷ []) ws))
-        (l.reads (v ∷ ws) (subst (λ x. AreInTicks s.value x left (v ∷ ws)) (sym d) (subst (λ t. AreInTicks s.value (m ∷ es) t (v ∷ ws)) (sym e) (v, ws, r.value, h, refl))));
+        (l.reads (v ∷ ws) (subst (λ x. AreInTicks s.value x left (v ∷ ws)) (sym d)
+        (subst (λ t. AreInTicks s.value (m ∷ es) t (v ∷ ws)) (sym e) (v, ws, r.value, h, refl))));
   })
 
   -- a fault in the next field
@@ -55,11 +59,13 @@ module _ (s : Scale) (h : Heading) (fields : List (List ℕ)) (f : List ℕ) (ot
   time_bad k b = subst (λ x. NumberFaults s h x k) (sym e) (inl b)
 
   -- and so is one of a value
-  pub value_bad : (k : TraceKind) → ((x : TraceKind) → ¬ NumberFault s.time h.time_digits (pos 0) (pos 4294967295) 1 f x) → ValueFaults s 2 h.digits others k → NumberFaults s h fields k
+  pub value_bad : (k : TraceKind) → ((x : TraceKind) → ¬ NumberFault s.time h.time_digits (pos 0) (pos 4294967295) 1 f x)
+      → ValueFaults s 2 h.digits others k → NumberFaults s h fields k
   value_bad k sound b = subst (λ x. NumberFaults s h x k) (sym e) (inr (sound, b))
 
   -- and there is no other
-  pub numbers_sound : ((x : TraceKind) → ¬ NumberFault s.time h.time_digits (pos 0) (pos 4294967295) 1 f x) → ((x : TraceKind) → ¬ ValueFaults s 2 h.digits others x)
+  pub numbers_sound : ((x : TraceKind) → ¬ NumberFault s.time h.time_digits (pos 0) (pos 4294967295) 1 f x)
+      → ((x : TraceKind) → ¬ ValueFaults s 2 h.digits others x)
       → (k : TraceKind) → ¬ NumberFaults s h fields k
   numbers_sound sound rest k b = elim (subst (λ x. NumberFaults s h x k) e b) [ inl a ↦ sound k a | inr a ↦ rest k a.1 ]
 

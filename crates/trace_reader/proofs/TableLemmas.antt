@@ -1,5 +1,6 @@
 -- Rows of a table, one after another.
-use Rattle.std.proofs.Common.{◌≡◌, ℕ, zero, suc, ◌+◌, ◌*◌, ◌<◌, ◌≤◌, List, [], ◌∷◌, ◌++◌, length, take, drop, get_or, refl, ap, ◌∙◌, arith, ℤ, nat_abs, Option, Some, None}
+use Rattle.std.proofs.Common.{◌≡◌, ℕ, zero, suc, ◌+◌, ◌*◌, ◌<◌, ◌≤◌, List, [], ◌∷◌, ◌++◌, length, take}
+use Rattle.std.proofs.Common.{drop, get_or, refl, ap, ◌∙◌, arith, ℤ, nat_abs, Option, Some, None}
 use Rattle.std.specs.Prelude.{IsSome, All, pos}
 use Rattle.std.proofs.lemmas.List.{take-append-le, drop-append-le, length-append, length-drop, drop-drop, get_or-take, get_or-drop, take_all, nil_from_length}
 use Rattle.std.proofs.lemmas.List.Elements.{All-append}

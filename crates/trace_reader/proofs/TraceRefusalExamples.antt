@@ -2,7 +2,8 @@
 use Rattle.std.proofs.Common.{◌≡◌, ℕ, ◌≤◌, ◌⊎◌, inl, inr, List, [], ◌∷◌, ◌++◌, length, refl, true, lit≤, arith, ℤ}
 use Rattle.std.specs.Prelude.{codes}
 use Rattle.stl_syntax.specs.Characters.{is_digit, IsNumeral, integer, decimal}
-use Rattle.trace_reader.specs.TraceText.{Line, lines, fields, IsNumber, plain, plus, minus, name, column, time, no_mode, no_digits as no_field_digits, Heading, IsHeading}
+use Rattle.trace_reader.specs.TraceText.{Line, lines, fields, IsNumber, plain, plus, minus, name, column}
+use Rattle.trace_reader.specs.TraceText.{time, no_mode, no_digits as no_field_digits, Heading, IsHeading}
 use Rattle.trace_reader.specs.TraceRefusals.{LineFault, InLine, HeaderFault, IsFirstFault}
 use Rattle.trace_reader.specs.declared.refusal.Limits.{Limits}
 use Rattle.trace_reader.specs.declared.refusal.TraceRefusal.{TraceRefusal}
@@ -13,7 +14,8 @@ abbrev whole_trace : Limits
 whole_trace = record { rows = 1000000; lines = 8589934592 }
 
 -- a line that is not too long
-pub no_line_fault : (limits : Limits) (n : ℕ) (line : Line) → n ≤ limits.lines → length line.bytes ≤ 4096 → (r : TraceRefusal) → ¬ InLine n (LineFault limits n line) r
+pub no_line_fault : (limits : Limits) (n : ℕ) (line : Line) → n ≤ limits.lines → length line.bytes ≤ 4096 → (r : TraceRefusal)
+    → ¬ InLine n (LineFault limits n line) r
 no_line_fault limits n line h k r (e, inl (l, z)) = omega arith
 no_line_fault limits n line h k r (e, inr (_, (l, z))) = omega arith
 
@@ -62,7 +64,10 @@ x_heading_read = (time no_field_digits, (x_column, 0, [], [], column (codes "x")
 
 no_rows : IsFirstFault (codes "time,x") true whole_trace no_digits (record { line = 1; kind = NoRows })
 unfolding lines fields
-no_rows = inr (no_line_fault whole_trace 1 (record { bytes = codes "time,x"; whole = true }) (lit≤ tt) (lit≤ tt), (refl, inr (header_sound, (x_heading, x_heading_read, (refl, ((refl, refl), refl))))))
+no_rows = inr (
+  no_line_fault whole_trace 1 (record { bytes = codes "time,x"; whole = true }) (lit≤ tt) (lit≤ tt),
+  (refl, inr (header_sound, (x_heading, x_heading_read, (refl, ((refl, refl), refl))))),
+)
 
 -- a bad number in the first field of line 2
 bad_number : IsFirstFault (codes "time,x" ++ 10 ∷ codes "y,0") true whole_trace no_digits (record { line = 2; kind = BadNumber 1 })

@@ -1,12 +1,19 @@
 -- At most one fault of a trace's bytes stands first.
-use Rattle.std.proofs.Common.{◌≡◌, ℕ, zero, suc, ◌+◌, ◌-◌, ◌≤◌, List, [], ◌∷◌, ◌++◌, length, refl, ap, sym, ◌∙◌, Bool, true, false, if◌then◌else◌, arith, append_assoc, subst, ℤ, pos}
+use Rattle.std.proofs.Common.{◌≡◌, ℕ, zero, suc, ◌+◌, ◌-◌, ◌≤◌, List, [], ◌∷◌, ◌++◌, length, refl, ap, sym}
+use Rattle.std.proofs.Common.{◌∙◌, Bool, true, false, if◌then◌else◌, arith, append_assoc, subst, ℤ, pos}
 use Rattle.std.specs.Prelude.{codes, decimal, not, ◌==◌, Option, Some, None, MatchBool}
 use Rattle.std.specs.Fmt.{digits}
-use Rattle.stl_syntax.specs.Characters.{is_digit, goes_on_word, all, StopsAt, after_first, decimal_value, without_zeros, IsNumeral, integer, decimal as with_point}
+use Rattle.stl_syntax.specs.Characters.{is_digit, goes_on_word, all, StopsAt, after_first, decimal_value}
+use Rattle.stl_syntax.specs.Characters.{without_zeros, IsNumeral, integer, decimal as with_point}
 use Rattle.stl_syntax.specs.Trace.{Column, Row, Header, Trace}
-use Rattle.trace_reader.specs.TraceText.{IsNumber, plain, plus, minus, IsName, name, IsMode, no_mode, ramp, step, IsDigits, no_digits, with_digits, IsTimeField, time, IsColumn, column, Heading, AreColumns, IsHeading, IsInTicks, AreInTicks, IsRow}
-use Rattle.trace_reader.specs.TraceText.{Line, lines, is_blank_line, fields, scale_of, AreRowLines, none, unfinished, blank as blank_line, row as a_row, AreTraceLines, heading as a_heading, IsTraceText}
-use Rattle.trace_reader.specs.TraceRefusals.{name_part, ColumnFault, ColumnFaults, NameFaults, HeaderFault, NumberFault, ValueFaults, NumberFaults, RowFault, InLine, LineFault, InWhole, FaultAfter, FaultFrom, IsFirstFault}
+use Rattle.trace_reader.specs.TraceText.{IsNumber, plain, plus, minus, IsName, name, IsMode, no_mode, ramp}
+use Rattle.trace_reader.specs.TraceText.{step, IsDigits, no_digits, with_digits, IsTimeField, time, IsColumn}
+use Rattle.trace_reader.specs.TraceText.{column, Heading, AreColumns, IsHeading, IsInTicks, AreInTicks, IsRow}
+use Rattle.trace_reader.specs.TraceText.{Line, lines, is_blank_line, fields, scale_of, AreRowLines, none, unfinished}
+use Rattle.trace_reader.specs.TraceText.{blank as blank_line, row as a_row, AreTraceLines, heading as a_heading, IsTraceText}
+use Rattle.trace_reader.specs.TraceRefusals.{name_part, ColumnFault, ColumnFaults, NameFaults, HeaderFault}
+use Rattle.trace_reader.specs.TraceRefusals.{NumberFault, ValueFaults, NumberFaults, RowFault, InLine}
+use Rattle.trace_reader.specs.TraceRefusals.{LineFault, InWhole, FaultAfter, FaultFrom, IsFirstFault}
 use Rattle.trace_reader.specs.declared.refusal.Limits.{Limits}
 use Rattle.trace_reader.specs.declared.refusal.TraceRefusal.{TraceRefusal}
 use Rattle.trace_reader.specs.declared.refusal.TraceKind.{TraceKind}
@@ -154,7 +161,8 @@ time-unique (time {d = d} dd) (time {d = d'} dd') e =
     let b : d ≡ d' = ap after_four e in
     sym (suffix_is no_mode dd).1 ∙ (ap (λ y. digit_of (last_byte y)) b ∙ (suffix_is no_mode dd').1)
 
-columns-unique : (fields : List (List ℕ)) (ks ks' : List Column) (ns ns' : List ℕ) → AreColumns fields ks ns → AreColumns fields ks' ns' → (ks ≡ ks') × (ns ≡ ns')
+columns-unique : (fields : List (List ℕ)) (ks ks' : List Column) (ns ns' : List ℕ) → AreColumns fields ks ns
+    → AreColumns fields ks' ns' → (ks ≡ ks') × (ns ≡ ns')
 columns-unique [] ks ks' ns ns' h h' = (h.0 ∙ sym h'.0, h.1 ∙ sym h'.1)
 columns-unique (f ∷ fields) ks ks' ns ns' (k, n, more, rest, h, g, e, d) (k', n', more', rest', h', g', e', d') =
     let u = column-unique h h' refl in let w = columns-unique fields more more' rest rest' g g' in
@@ -168,18 +176,21 @@ pub heading-unique : (fields : List (List ℕ)) → AtMostOne (IsHeading fields)
 heading-unique [] h h' a b = absurd a
 heading-unique (f ∷ fields) h h' a b =
     let t = time-unique a.0 b.0 refl in let w = columns-unique fields h.columns h'.columns h.digits h'.digits a.1 b.1 in
-    ap (λ y. made_heading y h.columns h.digits) t ∙ (ap (λ y. made_heading h'.time_digits y h.digits) w.0 ∙ ap (λ y. made_heading h'.time_digits h'.columns y) w.1)
+    ap (λ y. made_heading y h.columns h.digits) t
+    ∙ (ap (λ y. made_heading h'.time_digits y h.digits) w.0 ∙ ap (λ y. made_heading h'.time_digits h'.columns y) w.1)
 
 column_fault-unique : (i : ℕ) (earlier : List (List ℕ)) (f : List ℕ) → AtMostOne (ColumnFault i earlier f)
 column_fault-unique i earlier f = or_else-unique _ _ (where-unique _ _) (or_else-unique _ _ (where-unique _ _) (where-unique _ _))
 
 column_faults-unique : (i : ℕ) (earlier all_fields : List (List ℕ)) → AtMostOne (ColumnFaults i earlier all_fields)
 column_faults-unique i earlier [] x y h k = absurd h
-column_faults-unique i earlier (f ∷ more) x y u v = (or_else-unique _ _ (column_fault-unique i earlier f) (column_faults-unique (suc i) (name_part f ∷ earlier) more)) x y u v
+column_faults-unique i earlier (f ∷ more) x y u v =
+    (or_else-unique _ _ (column_fault-unique i earlier f) (column_faults-unique (suc i) (name_part f ∷ earlier) more)) x y u v
 
 name_faults-unique : (header : List (List ℕ)) → AtMostOne (NameFaults header)
 name_faults-unique [] x y h k = absurd h
-name_faults-unique (f ∷ more) x y u v = (or_else-unique _ _ (or_else-unique _ _ (where-unique _ _) (where-unique _ _)) (column_faults-unique 2 (codes "time" ∷ []) more)) x y u v
+name_faults-unique (f ∷ more) x y u v =
+    (or_else-unique _ _ (or_else-unique _ _ (where-unique _ _) (where-unique _ _)) (column_faults-unique 2 (codes "time" ∷ []) more)) x y u v
 
 header_fault-unique : (header : List (List ℕ)) → AtMostOne (HeaderFault header)
 header_fault-unique header = or_else-unique _ _ (where-unique _ _) (name_faults-unique header)
@@ -190,13 +201,16 @@ number_fault-unique d n low high i f = or_else-unique _ _ (where-unique _ _) (wh
 value_faults-unique : (s : Scale) (i : ℕ) (ns : List ℕ) (row : List (List ℕ)) → AtMostOne (ValueFaults s i ns row)
 value_faults-unique s i [] row x y h k = absurd h
 value_faults-unique s i (n ∷ ns) [] x y h k = absurd h
-value_faults-unique s i (n ∷ ns) (f ∷ more) x y u v = (or_else-unique _ _ (number_fault-unique s.value n _ _ i f) (value_faults-unique s (suc i) ns more)) x y u v
+value_faults-unique s i (n ∷ ns) (f ∷ more) x y u v =
+    (or_else-unique _ _ (number_fault-unique s.value n _ _ i f) (value_faults-unique s (suc i) ns more)) x y u v
 
 number_faults-unique : (s : Scale) (h : Heading) (row : List (List ℕ)) → AtMostOne (NumberFaults s h row)
 number_faults-unique s h [] x y a b = absurd a
-number_faults-unique s h (f ∷ more) x y u v = (or_else-unique _ _ (number_fault-unique s.time h.time_digits _ _ 1 f) (value_faults-unique s 2 h.digits more)) x y u v
+number_faults-unique s h (f ∷ more) x y u v =
+    (or_else-unique _ _ (number_fault-unique s.time h.time_digits _ _ 1 f) (value_faults-unique s 2 h.digits more)) x y u v
 
-row_fault-unique : (limits : Limits) (s : Scale) (h : Heading) (count : ℕ) (last : Option ℕ) (row : List (List ℕ)) → AtMostOne (RowFault limits s h count last row)
+row_fault-unique : (limits : Limits) (s : Scale) (h : Heading) (count : ℕ) (last : Option ℕ) (row : List (List ℕ))
+    → AtMostOne (RowFault limits s h count last row)
 row_fault-unique limits s h count last row =
     or_else-unique _ _ (where-unique _ _) (or_else-unique _ _ (where-unique _ _) (or_else-unique _ _ (number_faults-unique s h row) (where-unique _ _)))
 
@@ -220,7 +234,8 @@ in_whole-unique line F G f g x y h k = by_blank (is_blank_line line) F G f g x y
 of_one : {A : Type 0} (P : A → Type 0) (F : A → TraceRefusal → Type 0) → AtMostOne P → ((a : A) → AtMostOne (F a)) → AtMostOne (λ r. (a : A) × P a × F a r)
 of_one P F p f x y (a, h, k) (b, h', k') = let e = p b a h' h in f a x y k (subst (λ c. F c y) e k')
 
-after-unique : (limits : Limits) (s : Scale) (h : Heading) (ended : Bool) (n count : ℕ) (last : Option ℕ) (all_lines : List Line) → AtMostOne (FaultAfter limits s h ended n count last all_lines)
+after-unique : (limits : Limits) (s : Scale) (h : Heading) (ended : Bool) (n count : ℕ) (last : Option ℕ) (all_lines : List Line)
+    → AtMostOne (FaultAfter limits s h ended n count last all_lines)
 after-unique limits s h ended n count last [] = in_line-unique _ _ (where-unique _ _)
 after-unique limits s h ended n count last (line ∷ more) =
     or_else-unique _ _ (in_line-unique n _ (line_fault-unique limits n line))
@@ -243,7 +258,8 @@ pub FirstFault-unique : (bytes : List ℕ) (ended : Bool) (limits : Limits) (lea
 FirstFault-unique bytes ended limits least = from-unique limits least ended 1 (lines ended bytes)
 
 -- the lines of rows are those of one list of rows
-row_lines-unique : (s : Scale) (h : Heading) {all_lines : List Line} {rows rows' : List Row} → AreRowLines s h all_lines rows → AreRowLines s h all_lines rows' → rows ≡ rows'
+row_lines-unique : (s : Scale) (h : Heading) {all_lines : List Line} {rows rows' : List Row} → AreRowLines s h all_lines rows
+    → AreRowLines s h all_lines rows' → rows ≡ rows'
 row_lines-unique s h none none = refl
 row_lines-unique s h (unfinished w) (unfinished w') = refl
 row_lines-unique s h (unfinished w) (blank_line w' b m) = absurd (false≢true (sym w ∙ w'))
@@ -257,7 +273,8 @@ row_lines-unique s h (a_row {line = l} {r = x} {rows = rows} w b k m) (a_row {r 
     ap (λ (z : Row). z ∷ rows) (row-unique s h (fields l) x y k k') ∙ ap (λ zs. y ∷ zs) (row_lines-unique s h m m')
 
 -- so are those of a trace
-trace_lines-unique : (least : Scale) {all_lines : List Line} {g g' : Header} {rows rows' : List Row} → AreTraceLines least all_lines g rows → AreTraceLines least all_lines g' rows'
+trace_lines-unique : (least : Scale) {all_lines : List Line} {g g' : Header} {rows rows' : List Row}
+    → AreTraceLines least all_lines g rows → AreTraceLines least all_lines g' rows'
     → (g ≡ g') × (rows ≡ rows')
 trace_lines-unique least (blank_line w b m) (blank_line w' b' m') = trace_lines-unique least m m'
 trace_lines-unique least (blank_line w b m) (a_heading h w' b' k' m') = absurd (false≢true (sym b' ∙ b))

@@ -2,7 +2,8 @@
 use Rattle.std.proofs.Common.{[], ◌∷◌, ◌++◌, pos, refl, lit≤, lit<}
 use Rattle.std.specs.Prelude.{codes}
 use Rattle.stl_syntax.specs.Characters.{integer}
-use Rattle.trace_reader.specs.TraceText.{IsTraceText, lines, fields, blank, heading, row, none, name, plain, plus, column, time, no_mode, no_digits as no_field_digits}
+use Rattle.trace_reader.specs.TraceText.{IsTraceText, lines, fields, blank, heading, row, none, name, plain}
+use Rattle.trace_reader.specs.TraceText.{plus, column, time, no_mode, no_digits as no_field_digits}
 use Rattle.stl_syntax.proofs.Examples.{rise, x_column, no_digits}
 
 -- the bytes of the rise, with a blank line, CR LF line ends, and no LF at the end

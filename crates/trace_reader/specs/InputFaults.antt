@@ -20,7 +20,8 @@ stream_limits = record { rows = 4294967296; lines = 8589934592 }
 
 -- line n is the header
 pub data IsHeaderAt : List Line → ℕ → Heading → Type 0 where
-  here : {line : Line} {more : List Line} {h : Heading} → line.whole ≡ true → is_blank_line line ≡ false → IsHeading (fields line) h → IsHeaderAt (line ∷ more) 1 h
+  here : {line : Line} {more : List Line} {h : Heading} → line.whole ≡ true → is_blank_line line ≡ false
+      → IsHeading (fields line) h → IsHeaderAt (line ∷ more) 1 h
   later : {line : Line} {more : List Line} {n : ℕ} {h : Heading} → line.whole ≡ true → is_blank_line line ≡ true → IsHeaderAt more n h
       → IsHeaderAt (line ∷ more) (suc n) h
 

@@ -27,7 +27,8 @@ last_of (suc n) r = Some r.time
 pub data Judges (limits : Limits) (line : List ℕ) (old new : Progress) : Result Event TraceKind → Type 0 where
   blank : is_blank_line (whole_line line) ≡ true → new ≡ old → Judges limits line old new (Ok Nothing)
   heading : (h : Heading) → is_blank_line (whole_line line) ≡ false → old.heading ≡ None → IsHeading (fields (whole_line line)) h
-      → ((k : TraceKind) → ¬ HeaderFault (fields (whole_line line)) k) → new ≡ record old { heading = Some h; fresh = false } → Judges limits line old new (Ok IsTheHeader)
+      → ((k : TraceKind) → ¬ HeaderFault (fields (whole_line line)) k) → new ≡ record old { heading = Some h; fresh = false }
+      → Judges limits line old new (Ok IsTheHeader)
   row : (h : Heading) → is_blank_line (whole_line line) ≡ false → old.heading ≡ Some h → IsRow (scale_of old.least h) h (fields (whole_line line)) new.row
       → ((k : TraceKind) → ¬ RowFault limits (scale_of old.least h) h old.count (last_of old.count old.row) (fields (whole_line line)) k)
       → IsInRange new.row → length new.row.values ≡ length h.columns → (0 < old.count → old.row.time < new.row.time) → old.count < limits.rows
@@ -35,7 +36,8 @@ pub data Judges (limits : Limits) (line : List ℕ) (old new : Progress) : Resul
   bad_heading : (k : TraceKind) → is_blank_line (whole_line line) ≡ false → old.heading ≡ None → HeaderFault (fields (whole_line line)) k
       → new ≡ record old { fresh = false } → Judges limits line old new (Err k)
   bad_row : (h : Heading) (k : TraceKind) → is_blank_line (whole_line line) ≡ false → old.heading ≡ Some h
-      → RowFault limits (scale_of old.least h) h old.count (last_of old.count old.row) (fields (whole_line line)) k → new ≡ old → Judges limits line old new (Err k)
+      → RowFault limits (scale_of old.least h) h old.count (last_of old.count old.row) (fields (whole_line line)) k → new ≡ old
+      → Judges limits line old new (Err k)
 
 -- the text of a line that may be the header: what it is, and the progress after it
 pub data JudgesHeading (text : List ℕ) (old new : Progress) : Result Event TraceKind → Type 0 where
@@ -49,5 +51,6 @@ pub data JudgesRow (limits : Limits) (text : List ℕ) (old new : Progress) : Re
       → ((k : TraceKind) → ¬ RowFault limits (scale_of old.least h) h old.count (last_of old.count old.row) (fields_of (Some text)) k)
       → IsInRange new.row → length new.row.values ≡ length h.columns → (0 < old.count → old.row.time < new.row.time) → old.count < limits.rows
       → new ≡ record old { row = new.row; count = old.count + 1 } → JudgesRow limits text old new (Ok IsARow)
-  bad_row : (h : Heading) (k : TraceKind) → old.heading ≡ Some h → RowFault limits (scale_of old.least h) h old.count (last_of old.count old.row) (fields_of (Some text)) k
+  bad_row : (h : Heading) (k : TraceKind) → old.heading ≡ Some h
+      → RowFault limits (scale_of old.least h) h old.count (last_of old.count old.row) (fields_of (Some text)) k
       → new ≡ old → JudgesRow limits text old new (Err k)

@@ -66,7 +66,8 @@ Finishes limits part old new r =
     let size : ℕ = length old.lines.line + length part in
     let line : List ℕ = old.lines.line ++ part in
     MatchResult r (λ e. Fits limits new.lines.begun size × (new.lines.line ≡ []) × Judges limits line old.table new.table (Ok e))
-    (λ x. (IsLineRefusal limits new.lines.begun size x × (new.table ≡ old.table)) ⊎ (Fits limits new.lines.begun size × (x.line ≡ new.lines.begun) × Judges limits line old.table new.table (Err x.kind)))
+    (λ x. (IsLineRefusal limits new.lines.begun size x × (new.table ≡ old.table))
+    ⊎ (Fits limits new.lines.begun size × (x.line ≡ new.lines.begun) × Judges limits line old.table new.table (Err x.kind)))
 
 -- all lines of the bytes were read, the last one as a whole line
 pub record HasEnded (limits : Limits) (p : Progress) (begun : ℕ) (bytes : List ℕ) (rows : List Row) : Type 0 where

@@ -7,7 +7,8 @@ use Rattle.trace_reader.specs.Progress.{Progress}
 use Rattle.trace_reader.specs.declared.table.Table.TheInside.{Inside}
 
 abbrev pub progress_of : Inside → Progress
-progress_of a = record { least = a.least; heading = option_map (λ (s : Scaled). s.heading) a.heading; row = a.rows.last; count = a.count; fresh = is_some a.room }
+progress_of a =
+    record { least = a.least; heading = option_map (λ (s : Scaled). s.heading) a.heading; row = a.rows.last; count = a.count; fresh = is_some a.room }
 
 -- the heading is in ticks that have its decimals and the least ones, and the room is empty
 pub record IsTable (a : Inside) : Type 0 where

@@ -1,14 +1,18 @@
 -- The first fault of a trace's bytes, with its line and field.
-use Rattle.std.specs.Prelude.{◌≡◌, ◌≢◌, ◌⊎◌, ℕ, suc, ◌-◌, ◌<◌, ◌≤◌, ◌==◌, Bool, if◌then◌else◌, List, [], ◌∷◌, length, ℤ, pos, negsuc, ◌<ℤ◌, codes, Option, Some, None, IsTrue, MatchBool, true}
+use Rattle.std.specs.Prelude.{◌≡◌, ◌≢◌, ◌⊎◌, ℕ, suc, ◌-◌, ◌<◌, ◌≤◌, ◌==◌, Bool, if◌then◌else◌, List, [], ◌∷◌}
+use Rattle.std.specs.Prelude.{length, ℤ, pos, negsuc, ◌<ℤ◌, codes, Option, Some, None, IsTrue, MatchBool, true}
 use Rattle.stl_syntax.specs.Choice.{◌or_else◌, Where, Nothing}
 use Rattle.stl_syntax.specs.Characters.{is_among}
 use Rattle.stl_syntax.specs.Trace.{Column, Row, Trace}
-use Rattle.trace_reader.specs.TraceText.{Line, lines, is_blank_line, fields, IsNumber, IsName, IsTimeField, IsColumn, Heading, IsHeading, scale_of, IsInTicks, IsRow, IsTraceText}
+use Rattle.trace_reader.specs.TraceText.{Line, lines, is_blank_line, fields, IsNumber, IsName, IsTimeField}
+use Rattle.trace_reader.specs.TraceText.{IsColumn, Heading, IsHeading, scale_of, IsInTicks, IsRow, IsTraceText}
 use Rattle.stl_syntax.specs.declared.scale.Scale.{Scale}
 use Rattle.trace_reader.specs.declared.refusal.Limits.{Limits}
 use Rattle.trace_reader.specs.declared.refusal.TraceRefusal.{TraceRefusal}
 use Rattle.trace_reader.specs.declared.refusal.TraceKind.{TraceKind}
-use Rattle.trace_reader.specs.declared.refusal.TraceKind.TheVariants.{Empty, BadName, SameName, TooManyColumns, BadMode, LineTooLong, BadNumber, WrongCount, TimeNotRising, OutOfRange, NoRows, TooManyRows, TooManyLines}
+use Rattle.trace_reader.specs.declared.refusal.TraceKind.TheVariants.{Empty, BadName, SameName, TooManyColumns, BadMode}
+use Rattle.trace_reader.specs.declared.refusal.TraceKind.TheVariants.{LineTooLong, BadNumber, WrongCount, TimeNotRising}
+use Rattle.trace_reader.specs.declared.refusal.TraceKind.TheVariants.{OutOfRange, NoRows, TooManyRows, TooManyLines}
 
 -- a header field up to its first colon
 abbrev pub name_part : List ℕ → List ℕ

@@ -1,5 +1,6 @@
 -- The lines of a trace's bytes, and the header and rows that they stand for.
-use Rattle.std.specs.Prelude.{◌≡◌, ℕ, ◌≤◌, max, ◌==◌, Bool, true, false, List, [], ◌∷◌, ◌++◌, map, reverse, length, ℤ, pos, neg_ℤ, codes, decimal, if◌then◌else◌}
+use Rattle.std.specs.Prelude.{◌≡◌, ℕ, ◌≤◌, max, ◌==◌, Bool, true, false, List, [], ◌∷◌, ◌++◌, map}
+use Rattle.std.specs.Prelude.{reverse, length, ℤ, pos, neg_ℤ, codes, decimal, if◌then◌else◌}
 use Rattle.stl_syntax.specs.Characters.{is_space, begins_word, goes_on_word, all, after_first, IsNumeral, signed_ticks}
 use Rattle.stl_syntax.specs.Trace.{Column, Row, Header, Trace, IsTrace}
 use Rattle.stl_syntax.specs.declared.scale.Scale.{Scale}
@@ -124,7 +125,8 @@ IsRow s h (f ∷ others) r = IsInTicks s.time h.time_digits f (pos r.time) × Ar
 pub data AreRowLines (s : Scale) (h : Heading) : List Line → List Row → Type 0 where
   none : AreRowLines s h [] []
   unfinished : {line : Line} → line.whole ≡ false → AreRowLines s h (line ∷ []) []
-  blank : {line : Line} {more : List Line} {rows : List Row} → line.whole ≡ true → is_blank_line line ≡ true → AreRowLines s h more rows → AreRowLines s h (line ∷ more) rows
+  blank : {line : Line} {more : List Line} {rows : List Row} → line.whole ≡ true → is_blank_line line ≡ true
+      → AreRowLines s h more rows → AreRowLines s h (line ∷ more) rows
   row : {line : Line} {more : List Line} {r : Row} {rows : List Row} → line.whole ≡ true → is_blank_line line ≡ false → IsRow s h (fields line) r
       → AreRowLines s h more rows → AreRowLines s h (line ∷ more) (r ∷ rows)
 

@@ -129,7 +129,8 @@ pub(crate) fn plain_value(text: &[u8], most: u8, digits: u8) -> Option<PlainValu
 #[inline(always)]
 pub(crate) fn line_end(piece: &[u8], at: usize) -> Option<usize>
     requires { at < length piece.now }
-    ensures { MatchOption result (Unit {0}) (λ n. (n ≤ length piece.now) × ((take n piece.now ≡ take at piece.now ++ 10 ∷ []) ⊎ (take n piece.now ≡ (take at piece.now ++ 13 ∷ []) ++ 10 ∷ []))) }
+    ensures { MatchOption result (Unit {0}) (λ n.
+        (n ≤ length piece.now) × ((take n piece.now ≡ take at piece.now ++ 10 ∷ []) ⊎ (take n piece.now ≡ (take at piece.now ++ 13 ∷ []) ++ 10 ∷ []))) }
 {
     if piece[at] == b'\n' {
         return Some(at + 1);

@@ -14,7 +14,8 @@ pub(crate) struct Reading {
     pub(crate) table: Table,
 }
 
-ghost use Rattle.std.specs.Prelude.{◌≡◌, ◌≢◌, ◌+◌, ◌^◌, ◌<◌, ◌≤◌, ◌++◌, [], ℕ, List, Bool, Some, None, true, false, length, take, IsSome, IfOk, IfErr, OnOk, OnErr, MatchOption};
+ghost use Rattle.std.specs.Prelude.{◌≡◌, ◌≢◌, ◌+◌, ◌^◌, ◌<◌, ◌≤◌, ◌++◌, [], ℕ, List, Bool, Some, None, true};
+ghost use Rattle.std.specs.Prelude.{false, length, take, IsSome, IfOk, IfErr, OnOk, OnErr, MatchOption};
 ghost use Rattle.stl_syntax.specs.Trace.{Row as Values};
 ghost use Rattle.trace_reader.specs.Feeds.{through_feed, rows_after};
 ghost use Rattle.trace_reader.specs.Reader.{StandsFor, IsFaultOfAll, HasReadBefore, HasCome, IsNextRow, header_of};
@@ -124,7 +125,8 @@ impl Reading {
     fn take_plain(&mut self, limits: &Limits, piece: &[u8]) -> Option<usize>
         requires { IsWithin limits.now self.old }
         ensures row { MatchOption result (self.new ≡ self.old) (λ n. IsRowTaken limits.now piece.now n self.old.table self.new.table) }
-        ensures lines { MatchOption result (Unit {0}) (λ _. (self.old.lines.line ≡ []) × (self.new.lines ≡ record { begun = self.old.lines.begun + 1; line = [] }) × (self.new.lines.begun ≤ limits.now.lines)) }
+        ensures lines { MatchOption result (Unit {0}) (λ _. (self.old.lines.line ≡ [])
+            × (self.new.lines ≡ record { begun = self.old.lines.begun + 1; line = [] }) × (self.new.lines.begun ≤ limits.now.lines)) }
     {
         if !self.lines.is_between() || self.lines.begun() >= limits.lines {
             return None;
@@ -259,7 +261,8 @@ impl Reading {
         ensures event { IfOk result (λ e. IsEnd e self.new.table) }
         ensures fault { IfErr result (λ x. (bytes : List ℕ) (rows : List Values) → StandsFor (state limits.now self.old) bytes rows
             → IsFirstFault bytes true limits.now self.old.table.least x) }
-        ensures before { IfErr result (λ x. x.kind ≢ Empty → x.kind ≢ NoRows → (bytes : List ℕ) (rows : List Values) → StandsFor (state limits.now self.old) bytes rows
+        ensures before { IfErr result
+            (λ x. x.kind ≢ Empty → x.kind ≢ NoRows → (bytes : List ℕ) (rows : List Values) → StandsFor (state limits.now self.old) bytes rows
             → HasReadBefore x.line self.old.table.heading self.old.table.least bytes rows) }
         ensures header { IfErr result (λ x. x.kind ≡ NoRows → (bytes : List ℕ) (rows : List Values) → StandsFor (state limits.now self.old) bytes rows
             → HasHeader self.new.table bytes) }

@@ -29,11 +29,13 @@ impl Model for Rows {
 }
 
 impl Rows {
-    ghost use Rattle.std.specs.Prelude.{◌≡◌, ◌≢◌, ◌^◌, ◌<◌, ◌≤◌, List, [], ◌++◌, ℕ, take, length, Some, None, IsSome, IfOk, IfErr, OnOk, OnErr, MatchOption, Err, true, false};
+    ghost use Rattle.std.specs.Prelude.{◌≡◌, ◌≢◌, ◌^◌, ◌<◌, ◌≤◌, List, [], ◌++◌, ℕ, take, length, Some, None};
+    ghost use Rattle.std.specs.Prelude.{IsSome, IfOk, IfErr, OnOk, OnErr, MatchOption, Err, true, false};
     ghost use Rattle.stl_syntax.specs.Trace.{Row as Values};
     ghost use Rattle.trace_reader.specs.Feeds.{rows_after};
     ghost use Rattle.trace_reader.specs.TraceRefusals.{IsFirstFault};
-    ghost use Rattle.trace_reader.specs.Reader.{StandsFor, IsFaultOfAll, HasReadBefore, HasCome, IsNextRow, IsWholeTrace, HasWholeHeader, HasEndedWith, header_read};
+    ghost use Rattle.trace_reader.specs.Reader.{StandsFor, IsFaultOfAll, HasReadBefore, HasCome, IsNextRow};
+    ghost use Rattle.trace_reader.specs.Reader.{IsWholeTrace, HasWholeHeader, HasEndedWith, header_read};
     ghost use Rattle.trace_reader.specs.declared.refusal.TraceKind.TheVariants.{Empty, NoRows};
 
     /// A reader of a trace with at most so many rows and lines, which has read nothing.

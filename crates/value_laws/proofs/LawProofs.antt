@@ -36,7 +36,8 @@ order_is_total f g t = by_order (le_totalᵉ (value_at f t) (value_at g t)) (le_
 pub meet_once : MeetOnce
 meet_once f g t u l h k s = record {
   at_most = AffineLemmas.affine_unique f g t u s l h k;
-  at_least = AffineLemmas.affine_unique g f t u s l (AffineLemmas.same_symᵉ (value_at f t) (value_at g t) h) (AffineLemmas.same_symᵉ (value_at f u) (value_at g u) k);
+  at_least = AffineLemmas.affine_unique g f t u s l (AffineLemmas.same_symᵉ (value_at f t) (value_at g t) h)
+      (AffineLemmas.same_symᵉ (value_at f u) (value_at g u) k);
 }
 
 -- a shape lies between its values at the ends
@@ -54,4 +55,5 @@ comes_close f l r w h = (
 
 -- a fixed shape is constant
 pub fixed_is_constant : FixedIsConstant
-fixed_is_constant f g t h u v = AffineLemmas.same_transᵉ (value_at g u) (value_at f t) (value_at g v) (h u) (AffineLemmas.same_symᵉ (value_at g v) (value_at f t) (h v))
+fixed_is_constant f g t h u v = AffineLemmas.same_transᵉ (value_at g u) (value_at f t) (value_at g v) (h u)
+    (AffineLemmas.same_symᵉ (value_at g v) (value_at f t) (h v))

@@ -49,11 +49,13 @@ line_to_constant o f c t h =
 pub constant_to_constant : (o : Ordering) (c d t : Rational) → IsOrder o c d → IsOrderᵉ o (value_at (affine (constant c)) t) (value_at (affine (constant d)) t)
 constant_to_constant o c d t h =
     order_sameᵉ o (finite c) (finite (at (constant c) t)) (finite d) (finite (at (constant d) t))
-    (same_symᵉ (finite (at (constant c) t)) (finite c) (constant_is c t)) (same_symᵉ (finite (at (constant d) t)) (finite d) (constant_is d t)) (finite_order o c d h)
+    (same_symᵉ (finite (at (constant c) t)) (finite c) (constant_is c t))
+    (same_symᵉ (finite (at (constant d) t)) (finite d) (constant_is d t)) (finite_order o c d h)
 
 -- a constant does not move
 pub constant_steady : (c : Rational) → IsSteady (affine (constant c))
-constant_steady c t u = same_transᵉ (finite (at (constant c) t)) (finite c) (finite (at (constant c) u)) (constant_is c t) (same_symᵉ (finite (at (constant c) u)) (finite c) (constant_is c u))
+constant_steady c t u = same_transᵉ (finite (at (constant c) t)) (finite c) (finite (at (constant c) u)) (constant_is c t)
+    (same_symᵉ (finite (at (constant c) u)) (finite c) (constant_is c u))
 
 -- how a line goes
 pub line_trend : (o : Ordering) (f : Line) → MatchOrdering o (Falls f) (Level f) (Rises f) → IsTrend o (affine f)
@@ -108,14 +110,17 @@ steady_high : IsSteady always_high
 steady_high t u = same_reflᵉ infinity
 
 -- a constant and what is no ramp do not meet at one time alone
-pub constant_never_meets : (c : Frac) (q : Margin) (l r t : Rational) → ((f : Ramp) → q ≡ Sloping f → ⊥) → ¬ MeetAlone (margin_function (Fixed c)) (margin_function q) l r t
+pub constant_never_meets : (c : Frac) (q : Margin) (l r t : Rational) → ((f : Ramp) → q ≡ Sloping f → ⊥)
+    → ¬ MeetAlone (margin_function (Fixed c)) (margin_function q) l r t
 constant_never_meets c Low l r t n m = m.meet.at_most
 constant_never_meets c High l r t n m = m.meet.at_least
-constant_never_meets c (Fixed d) l r t n m = steady_never_meet_alone (affine (constant (value c))) (affine (constant (value d))) l r t (constant_steady (value c)) (constant_steady (value d)) m
+constant_never_meets c (Fixed d) l r t n m = steady_never_meet_alone (affine (constant (value c)))
+    (affine (constant (value d))) l r t (constant_steady (value c)) (constant_steady (value d)) m
 constant_never_meets c (Sloping f) l r t n m = n f refl
 
 -- nor do an infinite margin and any other
-pub infinite_never_meets : (p q : Margin) (l r t : Rational) → ((c : Frac) → p ≡ Fixed c → ⊥) → ((f : Ramp) → p ≡ Sloping f → ⊥) → ¬ MeetAlone (margin_function p) (margin_function q) l r t
+pub infinite_never_meets : (p q : Margin) (l r t : Rational) → ((c : Frac) → p ≡ Fixed c → ⊥) → ((f : Ramp) → p ≡ Sloping f → ⊥)
+    → ¬ MeetAlone (margin_function p) (margin_function q) l r t
 infinite_never_meets Low Low l r t n k m = steady_never_meet_alone always_low always_low l r t steady_low steady_low m
 infinite_never_meets Low High l r t n k m = m.meet.at_least
 infinite_never_meets Low (Fixed c) l r t n k m = m.meet.at_least
@@ -200,14 +205,16 @@ same_constants Equal c d h = (λ b t. finite_same (same_trans (at_constant c t) 
 same_constants Greater c d h = (λ b. absurd (let x : false ≡ true = b in cc), λ s. absurd (not_lt_of_le (le_of_same (same_of_finite (held c d s))) h))
 
 -- a line is no constant and no infinite margin, and a constant is no infinite one
-pub line_apart : (f : Ramp) (q : Margin) → ((c : Frac) → q ≡ Fixed c → ⊥) → ((g : Ramp) → q ≡ Sloping g → ⊥) → ¬ AreSame (margin_function (Sloping f)) (margin_function q)
+pub line_apart : (f : Ramp) (q : Margin) → ((c : Frac) → q ≡ Fixed c → ⊥) → ((g : Ramp) → q ≡ Sloping g → ⊥)
+    → ¬ AreSame (margin_function (Sloping f)) (margin_function q)
 line_apart f Low n k s = (s (whole (pos 0))).at_most
 line_apart f High n k s = (s (whole (pos 0))).at_least
 line_apart f (Fixed c) n k s = n c refl
 line_apart f (Sloping g) n k s = k g refl
 
 -- so for a constant
-pub constant_apart : (c : Frac) (q : Margin) → ((d : Frac) → q ≡ Fixed d → ⊥) → ((g : Ramp) → q ≡ Sloping g → ⊥) → ¬ AreSame (margin_function (Fixed c)) (margin_function q)
+pub constant_apart : (c : Frac) (q : Margin) → ((d : Frac) → q ≡ Fixed d → ⊥) → ((g : Ramp) → q ≡ Sloping g → ⊥)
+    → ¬ AreSame (margin_function (Fixed c)) (margin_function q)
 constant_apart c Low n k s = (s (whole (pos 0))).at_most
 constant_apart c High n k s = (s (whole (pos 0))).at_least
 constant_apart c (Fixed d) n k s = n d refl

@@ -86,7 +86,8 @@ impl Ramp {
             (λ o. MatchOption o
             ((t : Rational) → ¬ (CrossAt (line self.now) (constant (value c.now)) (value from.now) (value to.now) t))
             (λ f. CrossAt (line self.now) (constant (value c.now)) (value from.now) (value to.now) (value f)))
-            (λ e. (t : Rational) × CrossAt (line self.now) (constant (value c.now)) (value from.now) (value to.now) t × HasDenominator t e.den × (2 ^ 60 ≤ e.den)) }
+            (λ e. (t : Rational) × CrossAt (line self.now) (constant (value c.now)) (value from.now) (value to.now) t
+            × HasDenominator t e.den × (2 ^ 60 ≤ e.den)) }
     {
         if !are_opposite(self.cmp_const(c, from), self.cmp_const(c, to)) {
             return Ok(None);

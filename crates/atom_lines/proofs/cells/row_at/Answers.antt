@@ -7,4 +7,7 @@ pub invariant_of-result : goal.invariant_of-result
 invariant_of-result c =
     let some : 0 < c.rows.result = omega (arith, c.rows.ensures.count, c.requires) in
     let ok : IsTrace c.args.trace.now = c.rows.ensures.trace some in
-    record { within = c.requires; wide = row_width (length c.args.trace.now.header.columns) c.args.trace.now.rows c.args.row (record { time = 0; values = [] }) ok.rows c.requires }
+    record {
+      within = c.requires;
+      wide = row_width (length c.args.trace.now.header.columns) c.args.trace.now.rows c.args.row (record { time = 0; values = [] }) ok.rows c.requires;
+    }

@@ -27,7 +27,8 @@ make-requires-clause-rise c =
     let here : to_z w64 (of_z w64 c.signed_value-from.result) ≡ signed c.args.rel g.from = search (rules, to_z-of_z) in
     let there : to_z w64 (of_z w64 c.signed_value-to.result) ≡ signed c.args.rel g.to = search (rules, to_z-of_z) in
     let small : nat_abs (signed c.args.rel g.to -ℤ signed c.args.rel g.from) ≤ 2147483648 = rise_within c.args.rel g.from g.to 2147483648 g.small_rise in
-    let whole : to_z w64 (of_z w64 (signed c.args.rel g.to -ℤ signed c.args.rel g.from)) ≡ signed c.args.rel g.to -ℤ signed c.args.rel g.from = omega (arith, ints) in
+    let whole : to_z w64 (of_z w64 (signed c.args.rel g.to -ℤ signed c.args.rel g.from)) ≡ signed c.args.rel g.to -ℤ signed c.args.rel g.from =
+    omega (arith, ints) in
     rw (here, there, whole) small
 
 pub returns-clause-worth : goal.returns-clause-worth
@@ -36,7 +37,8 @@ returns-clause-worth c =
     let here : to_z w64 (of_z w64 c.signed_value-from.result) ≡ signed c.args.rel g.from = search (rules, to_z-of_z) in
     let there : to_z w64 (of_z w64 c.signed_value-to.result) ≡ signed c.args.rel g.to = search (rules, to_z-of_z) in
     let small : nat_abs (signed c.args.rel g.to -ℤ signed c.args.rel g.from) ≤ 2147483648 = rise_within c.args.rel g.from g.to 2147483648 g.small_rise in
-    let whole : to_z w64 (of_z w64 (signed c.args.rel g.to -ℤ signed c.args.rel g.from)) ≡ signed c.args.rel g.to -ℤ signed c.args.rel g.from = omega (arith, ints) in
+    let whole : to_z w64 (of_z w64 (signed c.args.rel g.to -ℤ signed c.args.rel g.from)) ≡ signed c.args.rel g.to -ℤ signed c.args.rel g.from =
+    omega (arith, ints) in
     let first : to_z w64 (of_z w64 c.from.result) ≡ pos g.first = search (rules, to_z-of_z) in
     let rise : rise_in_run c.make.result ≡ signed c.args.rel g.to -ℤ signed c.args.rel g.from = rw (here, there, whole) at c.make.ensures.rise in
     margin_ramp c.args.rel g c.make.result (c.make.ensures.t0 ∙ first) (c.make.ensures.v0 ∙ here) rise c.make.ensures.run

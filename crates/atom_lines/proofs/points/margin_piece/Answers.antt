@@ -27,9 +27,11 @@ returns-clause-margin c = λ a tr t for has low high.
     let h = c.gap_of.ensures in
     let f = margin_function c.margin_between.result in
     let rel = (tied b c.args.node k c.atom-atom.ensures.at a tr for).rel in
-    let here : value_at f t ≈ᵉ finite (margin a.rel (at (along g) t)) = subst (λ q. value_at f t ≈ᵉ finite (margin q (at (along g) t))) rel (c.margin_between.ensures.worth t) in
+    let here : value_at f t ≈ᵉ finite (margin a.rel (at (along g) t)) =
+    subst (λ q. value_at f t ≈ᵉ finite (margin q (at (along g) t))) rel (c.margin_between.ensures.worth t) in
     same_transᵉ (value_at f t) (finite (margin a.rel (at (along g) t))) (finite (margin a.rel (expression a tr t))) here
-    (finite_same (margin_same a.rel (same_sym (expression_along b c.args.node k c.atom-atom.ensures.at a tr for g r s t h.first h.second h.from h.to has low high))))
+    (finite_same (margin_same a.rel
+    (same_sym (expression_along b c.args.node k c.atom-atom.ensures.at a tr for g r s t h.first h.second h.from h.to has low high))))
 
 pub returns-clause-from : goal.returns-clause-from
 returns-clause-from c =

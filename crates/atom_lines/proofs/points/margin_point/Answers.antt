@@ -24,7 +24,8 @@ returns-clause-margin c = λ a tr t for has e.
     let sum : to_z w64 (of_z w64 c.reach_of.result) ≡ reach k r.values r.values = search (rules, to_z-of_z) in
     let rel = (tied b c.args.node k c.atom-atom.ensures.at a tr for).rel in
     let here : value_at f t ≈ᵉ finite (margin a.rel (whole (reach k r.values r.values))) =
-    subst (λ q. value_at f t ≈ᵉ finite (margin q (whole (reach k r.values r.values)))) rel (subst (λ n. value_at f t ≈ᵉ finite (margin k.rel (whole n))) sum (c.margin_at.ensures.worth t)) in
+    subst (λ q. value_at f t ≈ᵉ finite (margin q (whole (reach k r.values r.values)))) rel
+    (subst (λ n. value_at f t ≈ᵉ finite (margin k.rel (whole n))) sum (c.margin_at.ensures.worth t)) in
     same_transᵉ (value_at f t) (finite (margin a.rel (whole (reach k r.values r.values)))) (finite (margin a.rel (expression a tr t))) here
     (finite_same (margin_same a.rel (same_sym (expression_at_row b c.args.node k c.atom-atom.ensures.at a tr for r t has e))))
 

@@ -28,12 +28,14 @@ loop-r-preserved g c =
     record {
       sum = subst (λ m. IsReachAt c.args.bound.now c.args.node c.args.trace.now m (to_z w64 (of_z w64 c.in_ok-from.from))) (sym e)
           (subst (IsReachAt c.args.bound.now c.args.node c.args.trace.now c.loop-r.r) (sym same) c.in_ok-from.ensures.next);
-      grown = subst (λ m. HasGrown g.P.Shape g.P.Piecewise.told c.args.bound.now c.args.node c.args.trace.now m c.advance.new.signal) (sym e) c.in_ok-from.ensures.grown;
+      grown = subst (λ m. HasGrown g.P.Shape g.P.Piecewise.told c.args.bound.now c.args.node c.args.trace.now m c.advance.new.signal)
+          (sym e) c.in_ok-from.ensures.grown;
     }
 
 pub returns : goal.returns
 returns g c =
     let count : length c.args.trace.now.rows ≡ suc (c.loop-r.r - 1) =
-    (let a = c.rows-r-end.ensures.count in let b = c.loop-r-test.false in let d = c.loop-r.auto.r-end in let f = c.loop-r.auto.r in let h = c.requires.some in omega arith) in
+    (let a = c.rows-r-end.ensures.count in let b = c.loop-r-test.false in let d = c.loop-r.auto.r-end in
+    let f = c.loop-r.auto.r in let h = c.requires.some in omega arith) in
     subst (IsAtomSignal g.P.Shape (reading_of g.P.Piecewise.told) c.args.bound.now c.args.node c.args.trace.now) (sym c.finish.ensures.value)
     (whole_signal g.P.Shape g.P.Piecewise.told c.args.bound.now c.args.node c.args.trace.now (c.loop-r.r - 1) c.loop-r.signal count c.loop-r.invariant.grown)

@@ -15,10 +15,14 @@ loop-term-preserved g c =
     let sum = to_z w64 c.loop-term.sum-bits in
     let next = to_z w64 (of_z w64 (sum +ℤ to_z w64 (of_z w64 c.term_value-sum.result))) in
     let more : next ≡ sum +ℤ c.term_value-sum.result = search (rules, to_z-of_z) in
-    let within : c.loop-term.term-index < length terms = subst (λ xs. c.loop-term.term-index < length xs) c.deref-term-items.ensures.value c.loop-term-test.true in
+    let within : c.loop-term.term-index < length terms =
+    subst (λ xs. c.loop-term.term-index < length xs) c.deref-term-items.ensures.value c.loop-term-test.true in
     let value : c.term_value-sum.result ≡ (get_or terms c.loop-term.term-index d).coef *ℤ cell (get_or terms c.loop-term.term-index d) first second =
-    subst (λ (xs : List BoundTerm). c.term_value-sum.result ≡ (get_or xs c.loop-term.term-index d).coef *ℤ cell (get_or xs c.loop-term.term-index d) first second) c.deref-term-items.ensures.value c.term_value-sum.ensures.value in
+    subst (λ (xs : List BoundTerm).
+    c.term_value-sum.result ≡ (get_or xs c.loop-term.term-index d).coef *ℤ cell (get_or xs c.loop-term.term-index d) first second)
+    c.deref-term-items.ensures.value c.term_value-sum.ensures.value in
     record {
-      sum = add_term terms c.loop-term.term-index d first second sum c.term_value-sum.result next (sum_over terms first second) within value c.loop-term.invariant.sum more;
+      sum = add_term terms c.loop-term.term-index d first second sum c.term_value-sum.result next
+          (sum_over terms first second) within value c.loop-term.invariant.sum more;
       small = size_more sum c.term_value-sum.result next c.loop-term.term-index 268435456 c.loop-term.invariant.small c.term_value-sum.ensures.small more;
     }

@@ -39,6 +39,7 @@ returns-clause-small c =
     let few = g.small_rise in
     let size = rise_size g c.requires in
     let d : denominator t ≤ rise =
-    denominator_at_most (to_z w64 (of_z w64 (to_z w64 (of_z w64 c.from-2.result) +ℤ to_z w64 (past / rise))) *ℤ pos rise +ℤ pos (past % rise)) (pos rise) rise (denominator t)
+    denominator_at_most (to_z w64 (of_z w64 (to_z w64 (of_z w64 c.from-2.result) +ℤ to_z w64 (past / rise))) *ℤ pos rise +ℤ pos (past % rise))
+    (pos rise) rise (denominator t)
     (denominator_same (denominator t) c.mixed.ensures (HasDenominator-value t)) refl (omega (arith, before, after, some)) in
     omega (arith, d, before, after, size, few)

@@ -15,7 +15,8 @@ returns-then-changes_sign c =
     let from : to_z w64 (of_z w64 g.from) ≡ g.from = search (rules, to_z-of_z) in
     let to : to_z w64 (of_z w64 g.to) ≡ g.to = search (rules, to_z-of_z) in
     let before : c.truth_at.result.holds ≡ compares c.args.rel (whole g.from) = c.truth_at.ensures ∙ ap (λ n. compares c.args.rel (whole n)) from in
-    let after : c.truth_at-then-changes_sign-2.result.holds ≡ compares c.args.rel (whole g.to) = c.truth_at-then-changes_sign-2.ensures ∙ ap (λ n. compares c.args.rel (whole n)) to in
+    let after : c.truth_at-then-changes_sign-2.result.holds ≡ compares c.args.rel (whole g.to) =
+    c.truth_at-then-changes_sign-2.ensures ∙ ap (λ n. compares c.args.rel (whole n)) to in
     let point : c.truth_at-then-changes_sign.result.holds ≡ compares c.args.rel (whole (pos 0)) = c.truth_at-then-changes_sign.ensures in
     let turn = turn_at g c.args.rel (value c.crossing.result) (c.changes_sign.ensures.0 c.if-changes_sign.true) c.crossing.ensures.zero in
     record {

@@ -26,16 +26,19 @@ loop-i-preserved c =
     let limits = c.coef.ensures.limits in
     let some : Column = record { name = []; step = true } in
     let column : IsColumn columns t.name c.in-Some.column c.step.result =
-    rw (c.step.ensures some) (subst (λ n. IsColumn columns n c.in-Some.column (get_or columns c.in-Some.column some).step) (c.as_str.ensures ∙ c.name.ensures) (c.in-Some.ensures some)) in
+    rw (c.step.ensures some) (subst (λ n. IsColumn columns n c.in-Some.column (get_or columns c.in-Some.column some).step)
+    (c.as_str.ensures ∙ c.name.ensures) (c.in-Some.ensures some)) in
     record {
       tied = subst (λ ks. AreTied columns (take (c.loop-i.i + 1) c.args.atom.now.terms) ks) (sym items)
           (subst (λ ts. AreTied columns ts (c.loop-i.terms.items ++ bound ∷ [])) (sym more)
-          (tied_more columns (take c.loop-i.i c.args.atom.now.terms) c.loop-i.terms.items t bound c.loop-i.invariant.tied (record { coef = coef; column = column })));
+          (tied_more columns (take c.loop-i.i c.args.atom.now.terms) c.loop-i.terms.items t bound c.loop-i.invariant.tied
+          (record { coef = coef; column = column })));
       sound = subst (All (IsTermSound (length columns))) (sym items)
           (All-push (IsTermSound (length columns)) c.loop-i.terms.items bound c.loop-i.invariant.sound
           (record { coef = subst (λ z. nat_abs z ≤ 16) (sym coef) limits.coef; column = within columns t.name c.in-Some.column c.step.result column }));
       named = subst (All (HasColumn columns)) (sym more)
-          (All-push (HasColumn columns) (take c.loop-i.i c.args.atom.now.terms) t c.loop-i.invariant.named (among columns t.name c.in-Some.column c.step.result column));
+          (All-push (HasColumn columns) (take c.loop-i.i c.args.atom.now.terms) t c.loop-i.invariant.named
+          (among columns t.name c.in-Some.column c.step.result column));
     }
 
 pub returns-clause-sound : goal.returns-clause-sound
@@ -44,7 +47,8 @@ returns-clause-sound c =
     let limit : to_z w32 (of_z w32 c.limit.result) ≡ c.args.atom.now.limit = search (rules, to_z-of_z) in
     let whole : take c.loop-i.i c.args.atom.now.terms ≡ c.args.atom.now.terms =
     take_all c.loop-i.i c.args.atom.now.terms (let a = c.terms-i-end.ensures.count in let b = c.loop-i-test.false in omega arith) in
-    let tied : AreTied c.args.header.now.columns c.args.atom.now.terms c.loop-i.terms.items = subst (λ ts. AreTied c.args.header.now.columns ts c.loop-i.terms.items) whole c.loop-i.invariant.tied in
+    let tied : AreTied c.args.header.now.columns c.args.atom.now.terms c.loop-i.terms.items =
+    subst (λ ts. AreTied c.args.header.now.columns ts c.loop-i.terms.items) whole c.loop-i.invariant.tied in
     record {
       few = omega (arith, tied_length c.args.header.now.columns c.args.atom.now.terms c.loop-i.terms.items tied, limits.few);
       terms = c.loop-i.invariant.sound;

@@ -8,7 +8,8 @@ use Rattle.atom_lines.proofs.tying.column_of.Goals as goal
 pub returns-then-eq : goal.returns-then-eq
 returns-then-eq c = λ d.
     let same : c.name.result.now ≡ c.args.name.now = (bytes_eq-Decides c.name.result.now c.args.name.now).0 (sym c.eq.ensures ∙ c.if-eq.true) in
-    found c.args.header.now.columns c.args.name.now c.loop-i.i d (omega (arith, c.loop-i-test.true, c.columns-i-end.ensures)) c.loop-i.invariant (sym (c.name.ensures d) ∙ same)
+    found c.args.header.now.columns c.args.name.now c.loop-i.i d
+    (omega (arith, c.loop-i-test.true, c.columns-i-end.ensures)) c.loop-i.invariant (sym (c.name.ensures d) ∙ same)
 
 pub loop-i-preserved : goal.loop-i-preserved
 loop-i-preserved c = λ j d l.

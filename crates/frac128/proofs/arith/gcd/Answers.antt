@@ -11,7 +11,8 @@ returns c =
     let g = c.gcd_of_odd.result in
     let h : IsGcd a b (g * 2 ^ c.min-twos.result) =
     subst (λ k. IsGcd a b (g * 2 ^ k)) (sym c.min-twos.ensures)
-    (gcd_by_odd_parts a b _ _ g (trailing_zeros w64 a) (trailing_zeros w64 b) c.odd_part.ensures.twos c.odd_part-2.ensures.twos c.odd_part.ensures.odd c.odd_part-2.ensures.odd c.gcd_of_odd.ensures) in
+    (gcd_by_odd_parts a b _ _ g (trailing_zeros w64 a) (trailing_zeros w64 b) c.odd_part.ensures.twos c.odd_part-2.ensures.twos
+    c.odd_part.ensures.odd c.odd_part-2.ensures.odd c.gcd_of_odd.ensures) in
     let most : g * 2 ^ c.min-twos.result ≤ a = le_of_dvd (omega arith) h.0 in
     let fits : g * 2 ^ c.min-twos.result ≡ g * 2 ^ c.min-twos.result % 2 ^ 64 = omega arith in
     subst (λ n. IsGcd a b n) fits h

@@ -22,5 +22,6 @@ returns-in-Ok-clause-ok c = record {
   scale = c.in-Ok.ensures.scale;
   small = no_fault (nodes_in c.args.scale c.args.drafts.items)
       (subst (λ ds. All (λ n. is_large n ≡ false) (nodes_in c.args.scale ds)) c.deref.ensures.value c.in_default.ensures)
-      (subst (λ n. n ≤ 4294967295) (c.total_reach-sum.ensures ∙ ap (λ ds. reach (nodes_in c.args.scale ds)) c.deref-2.ensures.value) c.if-sum-gt-LONGEST_REACH.false);
+      (subst (λ n. n ≤ 4294967295) (c.total_reach-sum.ensures ∙ ap (λ ds. reach (nodes_in c.args.scale ds)) c.deref-2.ensures.value)
+      c.if-sum-gt-LONGEST_REACH.false);
 }

@@ -10,12 +10,14 @@ use Rattle.stl_grammar.proofs.build.first_large_constant.Goals as goal
 
 pub loop-i-preserved : goal.loop-i-preserved
 loop-i-preserved c =
-    none_yet c.args.scale c.args.drafts.now c.loop-i.i c.index-drafts-i.result c.loop-i-test.true c.index-drafts-i.is c.loop-i.invariant (sym c.is_large.ensures ∙ c.if-is_large.false)
+    none_yet c.args.scale c.args.drafts.now c.loop-i.i c.index-drafts-i.result c.loop-i-test.true c.index-drafts-i.is
+    c.loop-i.invariant (sym c.is_large.ensures ∙ c.if-is_large.false)
 
 pub returns-then-is_large : goal.returns-then-is_large
 returns-then-is_large c = (
   c.loop-i-test.true,
-  first_large c.args.scale c.args.drafts.now c.loop-i.i c.index-drafts-i.result c.loop-i-test.true c.index-drafts-i.is c.loop-i.invariant (sym c.is_large.ensures ∙ c.if-is_large.true),
+  first_large c.args.scale c.args.drafts.now c.loop-i.i c.index-drafts-i.result c.loop-i-test.true c.index-drafts-i.is
+      c.loop-i.invariant (sym c.is_large.ensures ∙ c.if-is_large.true),
 )
 
 pub returns : goal.returns

@@ -8,7 +8,12 @@ use Rattle.stl_grammar.proofs.build.total_reach.Goals as goal
 
 pub loop-draft-preserved : goal.loop-draft-preserved
 loop-draft-preserved c = (
-  omega (arith, reach_more c.args.scale c.args.drafts.now c.loop-draft.draft-index c.draft-item.result c.loop-draft-test.true c.draft-item.is, c.loop-draft.invariant.0, c.own_reach-sum.ensures.value),
+  omega (
+    arith,
+    reach_more c.args.scale c.args.drafts.now c.loop-draft.draft-index c.draft-item.result c.loop-draft-test.true c.draft-item.is,
+    c.loop-draft.invariant.0,
+    c.own_reach-sum.ensures.value,
+  ),
   omega (arith, c.loop-draft.invariant.1, c.own_reach-sum.ensures.small),
 )
 

@@ -6,7 +6,8 @@ use Rattle.stl_grammar.proofs.lexer.number_lexeme.Goals as goal
 pub returns-then-not-begins_decimals : goal.returns-then-not-begins_decimals
 returns-then-not-begins_decimals c =
     λ text. let w = c.digits_len-whole in
-    whole_lexeme_of text c.args.rest.now w.result c.value_after-value.result c.requires.some c.requires.first w.ensures.within w.ensures.front w.ensures.stops c.value_after-value.ensures
+    whole_lexeme_of text c.args.rest.now w.result c.value_after-value.result c.requires.some c.requires.first w.ensures.within
+    w.ensures.front w.ensures.stops c.value_after-value.ensures
     _ (rest_is w.result c.args.rest.now) c.number.result (sym c.begins_decimals.ensures ∙ c.if-not-begins_decimals.true) c.number.ensures
 
 pub value_after-requires : goal.value_after-requires
@@ -16,7 +17,9 @@ pub returns : goal.returns
 returns c =
     λ text. let w = c.digits_len-whole in
     let others : List ℕ = take (length c.args.rest.now - w.result) (drop w.result c.args.rest.now) in
-    decimal_lexeme_of text c.args.rest.now w.result c.value_after-value.result c.requires.some c.requires.first w.ensures.within w.ensures.front w.ensures.stops c.value_after-value.ensures
+    decimal_lexeme_of text c.args.rest.now w.result c.value_after-value.result c.requires.some c.requires.first w.ensures.within
+    w.ensures.front w.ensures.stops c.value_after-value.ensures
     others _ (rest_is w.result c.args.rest.now) (rest_is 1 others) c.digits_len-len.result c.kept_decimals-kept.result c.value_after.result c.number-2.result
-    (sym c.begins_decimals.ensures ∙ c.if-not-begins_decimals.false) c.digits_len-len.ensures.within c.digits_len-len.ensures.front c.digits_len-len.ensures.stops
+    (sym c.begins_decimals.ensures ∙ c.if-not-begins_decimals.false) c.digits_len-len.ensures.within
+    c.digits_len-len.ensures.front c.digits_len-len.ensures.stops
     c.kept_decimals-kept.ensures.within c.kept_decimals-kept.ensures.kept c.value_after.ensures c.number-2.ensures

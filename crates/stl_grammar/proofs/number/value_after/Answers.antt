@@ -12,5 +12,6 @@ loop-c-preserved c =
     let i = c.loop-c.c-index in
     let b = get_or text i 0 in
     let t = take_more text i 0 c.loop-c-test.true in
-    let v : decimal_value c.args.value (take (i + 1) text) ≡ 10 * decimal_value c.args.value (take i text) + (b - 48) = ap (decimal_value c.args.value) t ∙ decimal_value-push c.args.value (take i text) b in
+    let v : decimal_value c.args.value (take (i + 1) text) ≡ 10 * decimal_value c.args.value (take i text) + (b - 48) =
+    ap (decimal_value c.args.value) t ∙ decimal_value-push c.args.value (take i text) b in
     elim c.if-sum-lt-BEYOND.branch [ then-sum-lt-BEYOND w ↦ omega (arith, v) | else-sum-lt-BEYOND w ↦ omega (arith, v) ]

@@ -14,5 +14,6 @@ returns-in-Ok-clause-ok c =
     let short : length c.args.text.now ≤ 8192 = omega (arith, c.if-bytes-gt-LONGEST_TEXT.false, c.as_bytes-bytes.ensures.len) in
     let some : all is_blank c.args.text.now ≡ false = ap (all is_blank) (sym e) ∙ (sym c.is_empty.ensures ∙ c.if-is_empty.false) in
     IfOk-weaker c.finish.result _ _
-    (λ f k. formula_of c.args.text.now short some f (subst (λ t. (r : FormulaFault) → ¬ TokenFault [] 0 t r) e c.in-Ok.ensures.free) (subst (λ t. IsParsed t f) e k))
+    (λ f k. formula_of c.args.text.now short some f
+    (subst (λ t. (r : FormulaFault) → ¬ TokenFault [] 0 t r) e c.in-Ok.ensures.free) (subst (λ t. IsParsed t f) e k))
     c.finish.ensures.ok

@@ -5,4 +5,5 @@ use Rattle.stl_grammar.proofs.ticks.power.Goals as goal
 
 pub returns-clause-most : goal.returns-clause-most
 returns-clause-most c =
-    subst (λ n. n ≤ 1000000) (sym (c.pow.ensures ∙ ap (λ k. 10 ^ k) (c.from.ensures ∙ c.saturating_sub.ensures))) (small_power c.args.digits c.args.decimals c.requires)
+    subst (λ n. n ≤ 1000000) (sym (c.pow.ensures ∙ ap (λ k. 10 ^ k) (c.from.ensures ∙ c.saturating_sub.ensures)))
+    (small_power c.args.digits c.args.decimals c.requires)

@@ -26,6 +26,7 @@ returns c =
     let unit : c.pow-unit.result ≡ 10 ^ c.args.digits = c.pow-unit.ensures ∙ ap (λ k. 10 ^ k) c.from.ensures in
     let whole : c.as_bytes.result.now ≡ decimal (c.args.ticks / c.pow-unit.result) = c.as_bytes.ensures.value ∙ c.format.ensures.text in
     let rest : List ℕ = after_point (without_zeros (last_digits c.args.digits (c.args.ticks % c.pow-unit.result))) in
-    let first : c.push.new.self ≡ c.args.text.now ++ decimal (c.args.ticks / c.pow-unit.result) = c.in_ok-push.ensures.ok ∙ ap (λ w. c.args.text.now ++ w) whole in
+    let first : c.push.new.self ≡ c.args.text.now ++ decimal (c.args.ticks / c.pow-unit.result) =
+    c.in_ok-push.ensures.ok ∙ ap (λ w. c.args.text.now ++ w) whole in
     rw (← unit) (on_ok_weaker c.put_decimals.result
     (λ e. e ∙ ap (λ t. t ++ rest) first ∙ append_assoc c.args.text.now (decimal (c.args.ticks / c.pow-unit.result)) rest) c.put_decimals.ensures)

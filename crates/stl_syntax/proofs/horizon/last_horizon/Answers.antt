@@ -31,7 +31,8 @@ loop-i-preserved c = (
       (c.horizon_of.ensures ∙ sym (above (goal.at.loop-i-preserved c).After-table-1)),
 )
 
-last : (c : goal.After-loop-i) → length c.args.nodes.now ≤ c.loop-i.i → slice_index c.loop-i.table (length c.args.nodes.now - 1) ≡ horizon (root c.args.nodes.now)
+last : (c : goal.After-loop-i) → length c.args.nodes.now ≤ c.loop-i.i
+    → slice_index c.loop-i.table (length c.args.nodes.now - 1) ≡ horizon (root c.args.nodes.now)
 last c past = c.loop-i.invariant.1 (length c.args.nodes.now - 1) (omega (arith, c.requires.some, past))
 
 pub returns-clause-horizon : goal.returns-clause-horizon
@@ -39,4 +40,9 @@ returns-clause-horizon c = last c c.loop-i-test.false
 
 pub returns-clause-small : goal.returns-clause-small
 returns-clause-small c =
-    omega (arith, last c c.loop-i-test.false, c.requires.nodes.reach, horizon_within c.args.nodes.now (length c.args.nodes.now - 1) c.requires.nodes.post_order (omega (arith, c.requires.some)))
+    omega (
+      arith,
+      last c c.loop-i-test.false,
+      c.requires.nodes.reach,
+      horizon_within c.args.nodes.now (length c.args.nodes.now - 1) c.requires.nodes.post_order (omega (arith, c.requires.some)),
+    )

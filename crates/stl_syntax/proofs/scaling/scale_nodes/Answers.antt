@@ -27,7 +27,8 @@ scale-requires-clause-constant c =
 pub scale-requires-clause-reach : goal.scale-requires-clause-reach
 scale-requires-clause-reach c =
     let P : Node → Type 0 = λ n. c.args.time * own_reach n ≤ 4294967295 in
-    let part : own_reach (get_or c.args.nodes.now c.loop-node.node-index c.node-item.result) ≤ reach c.args.nodes.now = get_or-le-sum_by own_reach c.args.nodes.now c.loop-node.node-index c.node-item.result c.loop-node-test.true in
+    let part : own_reach (get_or c.args.nodes.now c.loop-node.node-index c.node-item.result) ≤ reach c.args.nodes.now =
+    get_or-le-sum_by own_reach c.args.nodes.now c.loop-node.node-index c.node-item.result c.loop-node-test.true in
     subst P (sym (same c)) (omega (arith, mul-le-mul_left c.args.time part, c.requires.reach))
 
 pub loop-node-preserved : goal.loop-node-preserved

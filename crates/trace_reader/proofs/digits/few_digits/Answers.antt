@@ -17,7 +17,8 @@ loop-len-preserved c =
     let w = wrapped c.from-digit.result (let f = c.type_inv.text i in omega (arith, f, same)) c.if-digit-gt9.false in
     let t = take_more text i 0 (omega (arith, c.requires, c.loop-len-test.true)) in
     let digit : is_digit b ≡ true = grind (arith, same, w) in
-    let v : decimal_value 0 (take (i + 1) text) ≡ 10 * decimal_value 0 (take i text) + (b - 48) = ap (decimal_value 0) t ∙ decimal_value-push 0 (take i text) b in
+    let v : decimal_value 0 (take (i + 1) text) ≡ 10 * decimal_value 0 (take i text) + (b - 48) =
+    ap (decimal_value 0) t ∙ decimal_value-push 0 (take i text) b in
     let p = ap (λ j. 10 ^ j) (add-one i) ∙ pow-suc 10 i in (
       rw t (all-push is_digit (take i text) b c.loop-len.invariant.0 digit),
       omega (arith, v, w.2, same, c.loop-len.invariant.1),

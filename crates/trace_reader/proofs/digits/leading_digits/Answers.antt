@@ -14,7 +14,8 @@ loop-i-preserved c =
     let b = get_or text i 0 in
     let t = take_more text i 0 c.loop-i-test.true in
     let digit : is_digit b ≡ true = grind arith in
-    let v : decimal_value 0 (take (i + 1) text) ≡ 10 * decimal_value 0 (take i text) + (b - 48) = ap (decimal_value 0) t ∙ decimal_value-push 0 (take i text) b in (
+    let v : decimal_value 0 (take (i + 1) text) ≡ 10 * decimal_value 0 (take i text) + (b - 48) =
+    ap (decimal_value 0) t ∙ decimal_value-push 0 (take i text) b in (
       rw t (all-push is_digit (take i text) b c.loop-i.invariant.0 digit),
       elim c.if-value-lt-BEYOND.branch [ then-value-lt-BEYOND w ↦ omega (arith, v) | else-value-lt-BEYOND w ↦ omega (arith, v) ],
     )

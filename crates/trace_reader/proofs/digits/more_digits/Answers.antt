@@ -32,7 +32,8 @@ loop-len-preserved c =
     let t = take_more text i 0 (omega (arith, c.requires.room, c.loop-len-test.true)) in
     let digit : is_digit b ≡ true = grind (arith, same, w) in
     let before = c.args.before in
-    let v : decimal_value before (take (i + 1) text) ≡ 10 * decimal_value before (take i text) + (b - 48) = ap (decimal_value before) t ∙ decimal_value-push before (take i text) b in
+    let v : decimal_value before (take (i + 1) text) ≡ 10 * decimal_value before (take i text) + (b - 48) =
+    ap (decimal_value before) t ∙ decimal_value-push before (take i text) b in
     let p = ap (λ j. 10 ^ j) (add-one (i + 9)) ∙ pow-suc 10 (i + 9) in
     let q : 10 ^ (i + 1 + 9) ≡ 10 ^ (i + 9 + 1) = ap (λ j. 10 ^ j) (let e : i + 1 + 9 ≡ i + 9 + 1 = omega arith in e) in (
       rw t (all-push is_digit (take i text) b c.loop-len.invariant.0 digit),

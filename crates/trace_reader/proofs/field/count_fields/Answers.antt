@@ -13,8 +13,10 @@ loop-c-preserved c =
     let m : length (split 44 (drop i text)) ≡ length (split 44 (get_or text i 0 ∷ drop (i + 1) text)) = ap length (split_more text i c.loop-c-test.true) in
     let old = c.loop-c.invariant in
     elim c.if-c-eq44.branch [
-      | then-c-eq44 w ↦ (let e = split-comma (get_or text i 0) (drop (i + 1) text) w.if-c-eq44.true in (omega (arith, w.count-is, old.0), omega (arith, w.count-is, old.1, m, e)))
-      | else-c-eq44 w ↦ (let e = split-other (get_or text i 0) (drop (i + 1) text) w.if-c-eq44.false in (omega (arith, w.count-is, old.0), omega (arith, w.count-is, old.1, m, e)))
+      | then-c-eq44 w ↦ (let e = split-comma (get_or text i 0) (drop (i + 1) text) w.if-c-eq44.true in
+          (omega (arith, w.count-is, old.0), omega (arith, w.count-is, old.1, m, e)))
+      | else-c-eq44 w ↦ (let e = split-other (get_or text i 0) (drop (i + 1) text) w.if-c-eq44.false in
+          (omega (arith, w.count-is, old.0), omega (arith, w.count-is, old.1, m, e)))
     ]
 
 pub returns : goal.returns

@@ -5,7 +5,8 @@ use Rattle.std.proofs.lemmas.Result.{err_from_is_err_and}
 use Rattle.std.proofs.lemmas.List.{nil_from_length, length_push}
 use Rattle.trace_reader.specs.LineParts.{fields_of}
 use Rattle.trace_reader.specs.Headings.{Opened, AreColumnsLeft}
-use Rattle.trace_reader.proofs.HeadingLemmas.{after_first_field, start_left, left_more, none_left, sound_left, fault_left, first_bad, later_bad, header_sound, heading_is}
+use Rattle.trace_reader.proofs.HeadingLemmas.{after_first_field, start_left, left_more, none_left, sound_left}
+use Rattle.trace_reader.proofs.HeadingLemmas.{fault_left, first_bad, later_bad, header_sound, heading_is}
 use Rattle.trace_reader.proofs.heading.read_heading.Goals as goal
 
 pub loop-place-init : goal.loop-place-init
@@ -25,7 +26,8 @@ returns-in_err-time c =
     let fields = fields_of (Some c.args.text.now) in
     let few : length fields ≤ 65 = omega (arith, c.count_fields-count.ensures.value, c.if-count-gt65.false) in
     let p = err_from_is_err_and c.from_residual.result c.from_residual.ensures.1 in
-    rw (p.1, p.2) (first_bad fields c.cut_field.result.0.now (fields_of (option_copied c.cut_field.result.1)) c.cut_field.ensures few c.in_err-time.field-0.0 c.in_err-time.ensures)
+    rw (p.1, p.2) (first_bad fields c.cut_field.result.0.now
+    (fields_of (option_copied c.cut_field.result.1)) c.cut_field.ensures few c.in_err-time.field-0.0 c.in_err-time.ensures)
 
 pub returns-in_err-read_column : goal.returns-in_err-read_column
 returns-in_err-read_column c =
@@ -34,7 +36,8 @@ returns-in_err-read_column c =
     let few : length fields ≤ 65 = omega (arith, c.count_fields-count.ensures.value, c.if-count-gt65.false) in
     let others = fields_of (option_copied c.cut_field.result.1) in
     let e : after_first_field fields ≡ others = ap after_first_field cut in
-    let left : fields_of (option_copied c.loop-place.left) ≡ c.cut_field-in-loop-place.result.0.now ∷ fields_of (option_copied c.cut_field-in-loop-place.result.1) =
+    let left : fields_of (option_copied c.loop-place.left)
+    ≡ c.cut_field-in-loop-place.result.0.now ∷ fields_of (option_copied c.cut_field-in-loop-place.result.1) =
     ap (λ o. fields_of (option_copied o)) c.in-Some.is ∙ c.cut_field-in-loop-place.ensures in
     let l = subst (λ f. AreColumnsLeft f c.loop-place.place (fields_of (option_copied c.loop-place.left)) c.loop-place.room) e c.loop-place.invariant.2 in
     let p = err_from_is_err_and c.from_residual-in_err-read_column.result c.from_residual-in_err-read_column.ensures.1 in
@@ -51,7 +54,8 @@ loop-place-preserved c =
     ap (λ o. fields_of (option_copied o)) c.in-Some.is ∙ c.cut_field-in-loop-place.ensures in
     let n : length (fields_of (option_copied c.loop-place.left)) ≡ length more + 1 = ap length left ∙ omega arith in
     let m = c.in_ok-read_column.ensures in
-    let w : length c.read_column.new.room.columns ≡ length c.loop-place.room.columns + 1 = ap (λ (o : Opened). length o.columns) m.added ∙ length_push c.loop-place.room.columns m.column in
+    let w : length c.read_column.new.room.columns ≡ length c.loop-place.room.columns + 1 =
+    ap (λ (o : Opened). length o.columns) m.added ∙ length_push c.loop-place.room.columns m.column in
     let old = c.loop-place.invariant in (
       omega (arith, n, old.0),
       omega (arith, w, old.1),
@@ -74,7 +78,12 @@ returns c =
     let l = subst (λ f. AreColumnsLeft f c.loop-place.place left c.loop-place.room) e c.loop-place.invariant.2 in
     let columns = none_left others c.loop-place.place left c.loop-place.room l none in
     record {
-      read = rw c.heading.ensures.heading (heading_is fields c.cut_field.result.0.now others (record { time_digits = c.in_ok-time.time; columns = c.loop-place.room.columns; digits = c.loop-place.room.digits }) cut c.in_ok-time.ensures.0 columns);
+      read = rw c.heading.ensures.heading (heading_is fields c.cut_field.result.0.now others (record {
+        time_digits = c.in_ok-time.time;
+        columns = c.loop-place.room.columns;
+        digits = c.loop-place.room.digits;
+      }) cut c.in_ok-time.ensures.0 columns);
       scale = c.heading.ensures.scale;
-      sound = header_sound fields c.cut_field.result.0.now others cut few c.in_ok-time.ensures.2 (sound_left others c.loop-place.place left c.loop-place.room l none);
+      sound = header_sound fields c.cut_field.result.0.now others cut few c.in_ok-time.ensures.2
+          (sound_left others c.loop-place.place left c.loop-place.room l none);
     }

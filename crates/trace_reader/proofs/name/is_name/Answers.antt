@@ -17,5 +17,6 @@ returns-then-begins_name c =
             λ h. rw text (name first (sym c.all_go_on.ensures ∙ h) size),
             λ h. c.all_go_on.ensures ∙ (name_at (subst IsName text h)).1,
           )
-      | else-text-le-LONGEST_NAME w ↦ absurd (let b : leb (length c.args.text.now) 64 ≡ true = sym w.value-is ∙ c.if-begins_name.true in omega (arith, leb-true _ _ b, w.if-text-le-LONGEST_NAME.false))
+      | else-text-le-LONGEST_NAME w ↦ absurd (let b : leb (length c.args.text.now) 64 ≡ true = sym w.value-is ∙ c.if-begins_name.true in
+          omega (arith, leb-true _ _ b, w.if-text-le-LONGEST_NAME.false))
     ]

@@ -40,4 +40,5 @@ returns-clause-cases c =
     let h : IsInTicks c.args.digits c.args.most f (pos m) = subst (λ b. IsInTicks c.args.digits c.args.most f (signed b m)) c.if-ticks.false it in
     let k : IsInTicks c.args.digits c.args.most f (pos c.in-Some.ticks.size) = subst (λ n. IsInTicks c.args.digits c.args.most f (pos n)) size h in
     let few : c.in-Some.ticks.size < 4294967296 = c.if-ticks-ge-BEYOND.false in
-    within c.args.digits c.args.most (pos 0) (pos 4294967295) 1 f (pos c.in-Some.ticks.size) k (λ out. elim out [ inl l ↦ omega (arith, ints) | inr l ↦ omega (arith, ints) ])
+    within c.args.digits c.args.most (pos 0) (pos 4294967295) 1 f (pos c.in-Some.ticks.size) k
+    (λ out. elim out [ inl l ↦ omega (arith, ints) | inr l ↦ omega (arith, ints) ])

@@ -14,6 +14,8 @@ pub returns : goal.returns
 returns c =
     let i = c.loop-end.invariant in
     elim c.loop-end-test.branch [
-      | then-loop-end-test+else-decimals-end-eq48 w ↦ sym (front_of (λ b. b == 48) c.args.decimals.now c.loop-end.end i.0 i.1 (λ _. ne_eqb _ 48 w.if-decimals-end-eq48.false))
-      | else-loop-end-test w ↦ sym (front_of (λ b. b == 48) c.args.decimals.now c.loop-end.end i.0 i.1 (λ some. absurd (omega (arith, some, w.loop-end-test.false))))
+      | then-loop-end-test+else-decimals-end-eq48 w ↦
+          sym (front_of (λ b. b == 48) c.args.decimals.now c.loop-end.end i.0 i.1 (λ _. ne_eqb _ 48 w.if-decimals-end-eq48.false))
+      | else-loop-end-test w ↦
+          sym (front_of (λ b. b == 48) c.args.decimals.now c.loop-end.end i.0 i.1 (λ some. absurd (omega (arith, some, w.loop-end-test.false))))
     ]

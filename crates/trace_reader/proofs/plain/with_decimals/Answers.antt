@@ -23,7 +23,8 @@ returns c =
     let m = c.in_ok-all.all.len in
     let l = length-drop (n + 1) text in
     let room : 7 ≤ length rest = omega (arith, l, c.if-rest-lt7.false) in
-    let joined : take (n + 1 + m) text ≡ take n text ++ 46 ∷ take m rest = point_front text n m c.requires.inside c.requires.point (omega (arith, room, a.few)) in
+    let joined : take (n + 1 + m) text ≡ take n text ++ 46 ∷ take m rest =
+    point_front text n m c.requires.inside c.requires.point (omega (arith, room, a.few)) in
     let front : length (take n text) ≡ n = length-take-le n text (omega (arith, c.requires.inside)) in
     let back : length (take m rest) ≡ m = length-take-le m rest (omega (arith, room, a.few)) in
     let value : c.in_ok-all.all.value ≡ decimal_value (decimal_value 0 (take n text)) (take m rest) =

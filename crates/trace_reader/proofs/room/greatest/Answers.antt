@@ -20,7 +20,8 @@ loop-n-preserved c =
       old.0 ∙ (ap (greatest c.loop-n.most) (drop_more xs i 0 c.loop-n-test.true) ∙ ap (λ m. greatest m (drop (i + 1) xs)) (sym most)),
       omega (arith, most, small, old.1),
       subst (λ t. All (λ x. x ≤ c.max-most.result) t) (sym (take_more xs i 0 c.loop-n-test.true))
-          (All-push (λ x. x ≤ c.max-most.result) (take i xs) n (weaker c.loop-n.most c.max-most.result (take i xs) (omega (arith, most)) old.2) (omega (arith, most))),
+          (All-push (λ x. x ≤ c.max-most.result) (take i xs) n
+          (weaker c.loop-n.most c.max-most.result (take i xs) (omega (arith, most)) old.2) (omega (arith, most))),
     )
 
 pub returns-clause-all : goal.returns-clause-all

@@ -30,6 +30,8 @@ returns c =
     let here : (t : Rational) → value_at (margin_function c.margin_at.result) t ≈ᵉ worth by_margin c.args.rel (whole c.args.next) =
     λ t. subst (λ n. value_at (margin_function c.margin_at.result) t ≈ᵉ worth by_margin c.args.rel (whole n)) same (c.margin_at.ensures.worth t) in
     on_ok_weaker c.step.result
-    (λ on. goes_one margin_shape by_margin c.args.rel g c.args.next c.args.signal.now c.step.new.self c.margin_between.result c.margin_at.result c.of-end.result second c.requires.begins is on
+    (λ on. goes_one margin_shape by_margin c.args.rel g c.args.next c.args.signal.now c.step.new.self c.margin_between.result
+    c.margin_at.result c.of-end.result second c.requires.begins is on
     (λ t a b. c.margin_between.ensures.worth t) here
-    (margin_row_base c.margin_between.result g.first first c.margin_between.ensures.base) (margin_row_base c.margin_at.result g.first first (λ r. absurd (true≢false (sym r ∙ c.margin_at.ensures.level))))) c.step.ensures.ok
+    (margin_row_base c.margin_between.result g.first first c.margin_between.ensures.base)
+    (margin_row_base c.margin_at.result g.first first (λ r. absurd (true≢false (sym r ∙ c.margin_at.ensures.level))))) c.step.ensures.ok

@@ -34,7 +34,8 @@ step-requires-in-Split-2-clause-limited c =
     let g = c.args.gap.now in
     let first : g.first < 4294967296 = omega arith in
     let second : g.second < 4294967296 = omega arith in
-    subst (IsWithin (2 ^ 34)) (sym c.in_ok-step-in-Split.ensures.ok.ends) (between_within g.first g.second first second c.in-Split.ensures.after_first c.in-Split.ensures.before_second)
+    subst (IsWithin (2 ^ 34)) (sym c.in_ok-step-in-Split.ensures.ok.ends)
+    (between_within g.first g.second first second c.in-Split.ensures.after_first c.in-Split.ensures.before_second)
 
 pub step-requires-in-Split-2-clause-later : goal.step-requires-in-Split-2-clause-later
 step-requires-in-Split-2-clause-later c =
@@ -49,11 +50,14 @@ returns-in-Whole c =
     let end : to_z w64 (of_z w64 c.from.result) ≡ pos g.second = search (rules, to_z-of_z) in
     let is : value c.of-end.result ≈ whole (pos g.second) = rw end at c.of-end.ensures.value in
     let same : to_z w64 (of_z w64 c.args.next) ≡ c.args.next = search (rules, to_z-of_z) in
-    let last : compares c.args.rel (whole c.args.next) ≡ c.truth_at-last.result.holds = ap (λ n. compares c.args.rel (whole n)) (sym same) ∙ sym c.truth_at-last.ensures in
+    let last : compares c.args.rel (whole c.args.next) ≡ c.truth_at-last.result.holds =
+    ap (λ n. compares c.args.rel (whole n)) (sym same) ∙ sym c.truth_at-last.ensures in
     let second : g.second < 4294967296 = omega arith in
     on_ok_weaker c.step.result
-    (λ on. goes_one _ by_truth c.args.rel g c.args.next c.args.signal.now c.step.new.self c.in-Whole.truth c.truth_at-last.result c.of-end.result second c.requires.begins is on
-    (λ t a b. truth_worth c.in-Whole.truth c.args.rel (at (along g) t) t (c.in-Whole.ensures t a b)) (λ t. truth_worth c.truth_at-last.result c.args.rel (whole c.args.next) t last)
+    (λ on. goes_one _ by_truth c.args.rel g c.args.next c.args.signal.now c.step.new.self c.in-Whole.truth c.truth_at-last.result
+    c.of-end.result second c.requires.begins is on
+    (λ t a b. truth_worth c.in-Whole.truth c.args.rel (at (along g) t) t (c.in-Whole.ensures t a b))
+    (λ t. truth_worth c.truth_at-last.result c.args.rel (whole c.args.next) t last)
     zero_base zero_base) c.step.ensures.ok
 
 pub returns-in_ok-step-in-Split : goal.returns-in_ok-step-in-Split
@@ -62,11 +66,14 @@ returns-in_ok-step-in-Split c =
     let end : to_z w64 (of_z w64 c.from.result) ≡ pos g.second = search (rules, to_z-of_z) in
     let is : value c.of-end.result ≈ whole (pos g.second) = rw end at c.of-end.ensures.value in
     let same : to_z w64 (of_z w64 c.args.next) ≡ c.args.next = search (rules, to_z-of_z) in
-    let last : compares c.args.rel (whole c.args.next) ≡ c.truth_at-last.result.holds = ap (λ n. compares c.args.rel (whole n)) (sym same) ∙ sym c.truth_at-last.ensures in
+    let last : compares c.args.rel (whole c.args.next) ≡ c.truth_at-last.result.holds =
+    ap (λ n. compares c.args.rel (whole n)) (sym same) ∙ sym c.truth_at-last.ensures in
     let second : g.second < 4294967296 = omega arith in
     on_ok_weaker c.step-in-Split-2.result
-    (λ off. goes_two _ by_truth c.args.rel g c.args.next c.args.signal.now c.step-in-Split.new.self c.step-in-Split-2.new.self c.in-Split.before c.in-Split.point c.in-Split.after c.truth_at-last.result
-    c.in-Split.at c.of-end.result second c.requires.begins is c.in-Split.ensures.after_first c.in-Split.ensures.before_second c.in_ok-step-in-Split.ensures.ok off
+    (λ off. goes_two _ by_truth c.args.rel g c.args.next c.args.signal.now c.step-in-Split.new.self c.step-in-Split-2.new.self
+    c.in-Split.before c.in-Split.point c.in-Split.after c.truth_at-last.result
+    c.in-Split.at c.of-end.result second c.requires.begins is c.in-Split.ensures.after_first c.in-Split.ensures.before_second
+    c.in_ok-step-in-Split.ensures.ok off
     (λ t a b. truth_worth c.in-Split.before c.args.rel (at (along g) t) t (c.in-Split.ensures.until_then t a b))
     (λ t e. truth_worth c.in-Split.point c.args.rel (at (along g) t) t (c.in-Split.ensures.there t e))
     (λ t a b. truth_worth c.in-Split.after c.args.rel (at (along g) t) t (c.in-Split.ensures.from_then t a b))

@@ -14,7 +14,8 @@ overflow_cast-result c =
 pub overflow_cast-result-2 : goal.overflow_cast-result-2
 overflow_cast-result-2 c =
     let f = c.args.self.now in
-    let fits : FitsSigned w64 (c.args.about -ℤ f.whole -ℤ pos 1) = mirror_fits_rest w64 f.whole c.args.about f.rest f.den f.positive c.if-self-eq0.false f.below c.requires in
+    let fits : FitsSigned w64 (c.args.about -ℤ f.whole -ℤ pos 1) =
+    mirror_fits_rest w64 f.whole c.args.about f.rest f.den f.positive c.if-self-eq0.false f.below c.requires in
     omega (arith, ints)
 
 pub returns-then-self-eq0-clause-value : goal.returns-then-self-eq0-clause-value
@@ -26,7 +27,8 @@ returns-then-self-eq0-clause-value c =
 pub returns-clause-value : goal.returns-clause-value
 returns-clause-value c =
     let f = c.args.self.now in
-    let fits : FitsSigned w64 (c.args.about -ℤ f.whole -ℤ pos 1) = mirror_fits_rest w64 f.whole c.args.about f.rest f.den f.positive c.if-self-eq0.false f.below c.requires in
+    let fits : FitsSigned w64 (c.args.about -ℤ f.whole -ℤ pos 1) =
+    mirror_fits_rest w64 f.whole c.args.about f.rest f.den f.positive c.if-self-eq0.false f.below c.requires in
     mixed_mirror _ _ _ _ _ _ _ _ (omega (arith, ints)) (omega arith)
 
 pub invariant_of-result-clause-lowest : goal.invariant_of-result-clause-lowest

@@ -20,7 +20,8 @@ pub invariant_of-result-clause-small : goal.invariant_of-result-clause-small
 invariant_of-result-clause-small c = let l = div-le_self c.args.den c.gcd-common.result in let s = c.requires.small in omega arith
 
 pub invariant_of-result-clause-lowest : goal.invariant_of-result-clause-lowest
-invariant_of-result-clause-lowest c = reduced_lowest (making_mixed c.args.whole c.args.rest c.args.den c.gcd-common.result c.requires.below c.gcd-common.ensures)
+invariant_of-result-clause-lowest c =
+    reduced_lowest (making_mixed c.args.whole c.args.rest c.args.den c.gcd-common.result c.requires.below c.gcd-common.ensures)
 
 pub returns : goal.returns
 returns c =

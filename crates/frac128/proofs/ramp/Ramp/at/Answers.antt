@@ -23,7 +23,8 @@ returns-then-den-eq1-clause-value c =
     let whole : to_z w128 (of_z w128 c.from.result) ≡ t.whole = omega (arith, ints) in
     let t0 : to_z w128 (of_z w128 c.from-2.result) ≡ f.t0 = omega (arith, ints) in
     let fits : FitsSigned w128 (t.whole -ℤ f.t0) = fits_signed_from_abs w128 (t.whole -ℤ f.t0) (omega arith) in
-    let gap : to_z w128 (of_z w128 (to_z w128 (of_z w128 c.from.result) -ℤ to_z w128 (of_z w128 c.from-2.result))) ≡ t.whole -ℤ f.t0 = rw (whole, t0) (search (rules, to_z-of_z)) in
+    let gap : to_z w128 (of_z w128 (to_z w128 (of_z w128 c.from.result) -ℤ to_z w128 (of_z w128 c.from-2.result))) ≡ t.whole -ℤ f.t0 =
+    rw (whole, t0) (search (rules, to_z-of_z)) in
     ahead_fraction f t _ _ (c.on_tick.ensures.den ∙ on_tick_den f.run t.den one)
     ((rw gap at c.on_tick.ensures.num) ∙ on_tick_num (f.v0 *ℤ pos f.run) f.rise (t.whole -ℤ f.t0) t.den t.rest one none)
 
@@ -41,7 +42,8 @@ returns-clause-value c =
     let whole : to_z w128 (of_z w128 c.from.result) ≡ t.whole = omega (arith, ints) in
     let t0 : to_z w128 (of_z w128 c.from-2.result) ≡ f.t0 = omega (arith, ints) in
     let fits : FitsSigned w128 (t.whole -ℤ f.t0) = fits_signed_from_abs w128 (t.whole -ℤ f.t0) (omega arith) in
-    let gap : to_z w128 (of_z w128 (to_z w128 (of_z w128 c.from.result) -ℤ to_z w128 (of_z w128 c.from-2.result))) ≡ t.whole -ℤ f.t0 = rw (whole, t0) (search (rules, to_z-of_z)) in
+    let gap : to_z w128 (of_z w128 (to_z w128 (of_z w128 c.from.result) -ℤ to_z w128 (of_z w128 c.from-2.result))) ≡ t.whole -ℤ f.t0 =
+    rw (whole, t0) (search (rules, to_z-of_z)) in
     let rest : to_z w128 (of_z w128 c.from-6.result) ≡ pos t.rest = omega (arith, ints) in
     let den : to_z w128 (of_z w128 c.from-7.result) ≡ pos t.den = omega (arith, ints) in
     ahead_fraction f t _ _ (rw (run, den) at c.value_ahead.ensures.den) (rw (v0, run, den, rise, gap, rest) at c.value_ahead.ensures.num)

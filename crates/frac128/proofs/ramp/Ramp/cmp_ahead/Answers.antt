@@ -54,9 +54,11 @@ returns-then-rest-eq0 c =
     let rise : to_z w128 (of_z w128 c.from.result) ≡ f.rise = omega (arith, ints) in
     let rest : to_z w128 (of_z w128 c.from-2.result) ≡ pos t.rest = omega (arith, ints) in
     let top : to_z w128 (of_z w128 c.sum_of_products-top.result) ≡ c.sum_of_products-top.result = search (rules, to_z-of_z) in
-    let sum : c.sum_of_products-top.result ≡ c.args.ahead *ℤ pos t.den +ℤ f.rise *ℤ pos t.rest = rw (ahead, den, rise, rest) at c.sum_of_products-top.ensures.value in
+    let sum : c.sum_of_products-top.result ≡ c.args.ahead *ℤ pos t.den +ℤ f.rise *ℤ pos t.rest =
+    rw (ahead, den, rise, rest) at c.sum_of_products-top.ensures.value in
     let zero : k.rest ≡ 0 = omega arith in
-    rw (← sum) (no_rest c.cmp-then-rest-eq0.result c.sum_of_products-top.result f.run t.den k.rest k.den k.positive zero (rw top at c.cmp-then-rest-eq0.ensures))
+    rw (← sum) (no_rest c.cmp-then-rest-eq0.result c.sum_of_products-top.result f.run t.den k.rest k.den k.positive zero
+    (rw top at c.cmp-then-rest-eq0.ensures))
 
 pub returns : goal.returns
 returns c =
@@ -68,12 +70,15 @@ returns c =
     let rise : to_z w128 (of_z w128 c.from.result) ≡ f.rise = omega (arith, ints) in
     let rest : to_z w128 (of_z w128 c.from-2.result) ≡ pos t.rest = omega (arith, ints) in
     let top : to_z w128 (of_z w128 c.sum_of_products-top.result) ≡ c.sum_of_products-top.result = search (rules, to_z-of_z) in
-    let sum : c.sum_of_products-top.result ≡ c.args.ahead *ℤ pos t.den +ℤ f.rise *ℤ pos t.rest = rw (ahead, den, rise, rest) at c.sum_of_products-top.ensures.value in
+    let sum : c.sum_of_products-top.result ≡ c.args.ahead *ℤ pos t.den +ℤ f.rise *ℤ pos t.rest =
+    rw (ahead, den, rise, rest) at c.sum_of_products-top.ensures.value in
     let run : to_z w128 (of_z w128 c.from-run.result) ≡ pos f.run = omega (arith, ints) in
     let other_rest : to_z w128 (of_z w128 c.from-3.result) ≡ pos k.rest = omega (arith, ints) in
     let other_den : to_z w128 (of_z w128 c.from-4.result) ≡ pos k.den = omega (arith, ints) in
     let small_run : f.run ≤ 2 ^ 32 = omega (arith, ints) in
     let small_rest : k.rest ≤ 2 ^ 60 = let small_den = k.small in let below = k.below in omega arith in
     let fits : FitsSigned w128 (pos (f.run * k.rest)) = fits_signed_from_abs w128 (pos (f.run * k.rest)) (omega (arith, mul-le-mul small_run small_rest)) in
-    let other : to_z w128 (of_z w128 (to_z w128 (of_z w128 c.from-run.result) *ℤ to_z w128 (of_z w128 c.from-3.result))) ≡ pos (f.run * k.rest) = rw (run, other_rest) (search (rules, to_z-of_z)) in
-    rw (← sum) (products_order c.cmp_ratio.result c.sum_of_products-top.result (f.run * k.rest) t.den k.den t.positive k.positive (rw (top, den, other, other_den) at c.cmp_ratio.ensures))
+    let other : to_z w128 (of_z w128 (to_z w128 (of_z w128 c.from-run.result) *ℤ to_z w128 (of_z w128 c.from-3.result))) ≡ pos (f.run * k.rest) =
+    rw (run, other_rest) (search (rules, to_z-of_z)) in
+    rw (← sum) (products_order c.cmp_ratio.result c.sum_of_products-top.result (f.run * k.rest) t.den k.den t.positive k.positive
+    (rw (top, den, other, other_den) at c.cmp_ratio.ensures))

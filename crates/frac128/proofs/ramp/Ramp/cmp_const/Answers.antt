@@ -25,7 +25,8 @@ determinant-ahead-requires c =
     let offset : unsigned_abs (to_z w128 (of_z w128 c.offset.result)) ≤ 2 ^ 66 = omega (arith, ints) in
     let rise : unsigned_abs (to_z w128 (of_z w128 c.from.result)) ≤ 2 ^ 31 = omega (arith, ints) in
     let whole : unsigned_abs (to_z w128 (of_z w128 c.from-2.result)) ≤ 2 ^ 34 = omega (arith, ints, whole_of_within (2 ^ 34) c.args.t.now c.requires) in
-    let here : unsigned_abs (to_z w128 (of_z w128 c.sum_of_products-here.result)) ≤ 2 ^ 67 = omega (arith, ints, mul-le-mul rise whole, c.sum_of_products-here.ensures.small) in
+    let here : unsigned_abs (to_z w128 (of_z w128 c.sum_of_products-here.result)) ≤ 2 ^ 67 =
+    omega (arith, ints, mul-le-mul rise whole, c.sum_of_products-here.ensures.small) in
     let other : unsigned_abs (to_z w128 (of_z w128 c.from-3.result)) ≤ 2 ^ 63 = omega (arith, ints) in
     let run : unsigned_abs (to_z w128 (of_z w128 c.from-4.result)) ≤ 2 ^ 32 = omega (arith, ints) in
     omega (arith, mul-le-mul other run)
@@ -42,8 +43,13 @@ returns c =
     let other_whole : to_z w128 (of_z w128 c.from-3.result) ≡ k.whole = omega (arith, ints) in
     let run : to_z w128 (of_z w128 c.from-4.result) ≡ pos f.run = omega (arith, ints) in
     let ahead : to_z w128 (of_z w128 c.determinant-ahead.result) ≡ c.determinant-ahead.result = search (rules, to_z-of_z) in
-    let here_is : c.sum_of_products-here.result ≡ c.offset.result +ℤ f.rise *ℤ t.whole = let h = rw (offset, rise, whole) at c.sum_of_products-here.ensures.value in omega (arith, ints) in
-    let moved : c.determinant-ahead.result ≡ c.sum_of_products-here.result *ℤ pos 1 -ℤ k.whole *ℤ pos f.run = rw (here, other_whole, run) at c.determinant-ahead.ensures.value in
+    let here_is : c.sum_of_products-here.result ≡ c.offset.result +ℤ f.rise *ℤ t.whole =
+    let h = rw (offset, rise, whole) at c.sum_of_products-here.ensures.value in omega (arith, ints) in
+    let moved : c.determinant-ahead.result ≡ c.sum_of_products-here.result *ℤ pos 1 -ℤ k.whole *ℤ pos f.run =
+    rw (here, other_whole, run) at c.determinant-ahead.ensures.value in
     let a = at (line f) (value t) in
-    let sum = ahead_is (line f) c.offset.result f.rise t.whole c.sum_of_products-here.result _ t.rest t.den t.positive (ramp_gap f c.offset.result c.offset.ensures.value) here_is refl in
-    order_of_products c.cmp_ahead.result a _ _ k.whole f.run t.den k.rest k.den k.positive refl sum (moved_down c.sum_of_products-here.result c.determinant-ahead.result k.whole _ _ f.rise f.run t.den t.rest moved refl refl) (rw ahead at c.cmp_ahead.ensures)
+    let sum = ahead_is (line f) c.offset.result f.rise t.whole c.sum_of_products-here.result _ t.rest t.den t.positive
+    (ramp_gap f c.offset.result c.offset.ensures.value) here_is refl in
+    order_of_products c.cmp_ahead.result a _ _ k.whole f.run t.den k.rest k.den k.positive refl sum
+    (moved_down c.sum_of_products-here.result c.determinant-ahead.result k.whole _ _ f.rise f.run t.den t.rest moved refl refl)
+    (rw ahead at c.cmp_ahead.ensures)

@@ -63,4 +63,5 @@ returns-in-Err c =
       at_start = order_of_gap c.sign_at.result f g _ (c.sign_at.ensures (gap_line f g) c.of-gap.ensures);
       at_end = order_of_gap c.sign_at-2.result f g _ (c.sign_at-2.ensures (gap_line f g) c.of-gap.ensures);
     } in
-    crossing_wide _ c.in-Err.wide.den e (c.if-not-are_opposite.ensures.0 refl) ((meeting f g _ _ (Some c.in-Some.time) c.of-gap.ensures c.in-Some.ensures).1) c.in-Err.ensures.wide
+    crossing_wide _ c.in-Err.wide.den e (c.if-not-are_opposite.ensures.0 refl)
+    ((meeting f g _ _ (Some c.in-Some.time) c.of-gap.ensures c.in-Some.ensures).1) c.in-Err.ensures.wide

@@ -13,4 +13,5 @@ returns c =
     let den : to_z w128 (of_z w128 c.args.self.now.den) ≡ c.args.self.now.den = search (rules, to_z-of_z) in
     let top : to_z w128 (of_z w128 c.top.result) ≡ c.top.result = search (rules, to_z-of_z) in
     let under : to_z w128 (of_z w128 c.from.result) ≡ pos f.den = omega (arith, ints) in
-    order_same c.cmp_ratio.result (same_refl _) (same_sym (top_value f c.top.result (pos f.den) c.top.ensures.value refl)) (rw (num, den, top, under) at c.cmp_ratio.ensures)
+    order_same c.cmp_ratio.result (same_refl _) (same_sym (top_value f c.top.result (pos f.den) c.top.ensures.value refl))
+    (rw (num, den, top, under) at c.cmp_ratio.ensures)

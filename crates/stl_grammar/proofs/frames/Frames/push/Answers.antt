@@ -8,9 +8,27 @@ use Rattle.stl_grammar.proofs.frames.Frames.push.Goals as goal
 pub overflow_add-self : goal.overflow_add-self
 overflow_add-self c =
     let items = c.self.inside.frames.items in
-    omega (arith, marks_few (reverse items), length-reverse items, c.self.invariant.pending, marks_one c.args.frame, c.marks.ensures, c.in_ok-push.ensures.len, c.self.inside.frames.ok.0)
+    omega (
+      arith,
+      marks_few (reverse items),
+      length-reverse items,
+      c.self.invariant.pending,
+      marks_one c.args.frame,
+      c.marks.ensures,
+      c.in_ok-push.ensures.len,
+      c.self.inside.frames.ok.0,
+    )
 
 pub overflow_add-self-2 : goal.overflow_add-self-2
 overflow_add-self-2 c =
     let items = c.self.inside.frames.items in
-    omega (arith, parens_few (reverse items), length-reverse items, c.self.invariant.parens, parens_one c.args.frame, c.parens.ensures, c.in_ok-push.ensures.len, c.self.inside.frames.ok.0)
+    omega (
+      arith,
+      parens_few (reverse items),
+      length-reverse items,
+      c.self.invariant.parens,
+      parens_one c.args.frame,
+      c.parens.ensures,
+      c.in_ok-push.ensures.len,
+      c.self.inside.frames.ok.0,
+    )

@@ -21,16 +21,20 @@ time c = c.ticks_in_tick-time.ensures.count ∙ ap (λ s. 10 ^ (c.args.to.time -
 nodes : (c : goal.After-first_large_constant) → c.deref.result.now ≡ c.args.self.now.nodes
 nodes c = c.deref.ensures.value ∙ c.nodes-nodes.ensures.nodes
 
-found : (c : goal.After-first_large_constant) → c.first_large_constant.result ≡ position (has_large_constant (value_factor c.args.self.now c.args.to)) c.args.self.now.nodes
-found c = c.first_large_constant.ensures.place ∙ ap (λ k. position (has_large_constant k) c.deref.result.now) (value c) ∙ ap (position (has_large_constant (value_factor c.args.self.now c.args.to))) (nodes c)
+found : (c : goal.After-first_large_constant)
+    → c.first_large_constant.result ≡ position (has_large_constant (value_factor c.args.self.now c.args.to)) c.args.self.now.nodes
+found c = c.first_large_constant.ensures.place ∙ ap (λ k. position (has_large_constant k) c.deref.result.now) (value c)
+    ∙ ap (position (has_large_constant (value_factor c.args.self.now c.args.to))) (nodes c)
 
 pub returns-in-Some-clause-fault : goal.returns-in-Some-clause-fault
 returns-in-Some-clause-fault c =
-    inr (constant_fault c.args.self.now c.args.to c.in-Some.place (sym (found (goal.at.returns-in-Some-clause-fault c).After-first_large_constant) ∙ c.in-Some.is))
+    inr (constant_fault c.args.self.now c.args.to c.in-Some.place
+    (sym (found (goal.at.returns-in-Some-clause-fault c).After-first_large_constant) ∙ c.in-Some.is))
 
 pub returns-in-Some-clause-refused : goal.returns-in-Some-clause-refused
 returns-in-Some-clause-refused c e fault =
-    inl (ap Err (constant_fault_only c.args.self.now c.args.to c.in-Some.place (sym (found (goal.at.returns-in-Some-clause-refused c).After-first_large_constant) ∙ c.in-Some.is) e fault))
+    inl (ap Err (constant_fault_only c.args.self.now c.args.to c.in-Some.place
+    (sym (found (goal.at.returns-in-Some-clause-refused c).After-first_large_constant) ∙ c.in-Some.is) e fault))
 
 -- the reach in the new ticks
 sum : (c : goal.After-from) → c.total_reach.result * c.from.result ≡ reach c.args.self.now.nodes * time_factor c.args.self.now c.args.to
@@ -55,13 +59,15 @@ returns-then-sum-gt-LONGEST_REACH-clause-refused c e fault =
     inl (ap (λ n. Err (Reach n)) (sum at) ∙ ap Err (reach_fault_only c.args.self.now c.args.to (none at) e fault))
 
 -- the nodes that are handed on, and what holds of them
-fits : (c : goal.After-from) → c.total_reach.result * c.from.result ≤ 4294967295 → reach c.args.self.now.nodes * time_factor c.args.self.now c.args.to ≤ 4294967295
+fits : (c : goal.After-from) → c.total_reach.result * c.from.result ≤ 4294967295
+    → reach c.args.self.now.nodes * time_factor c.args.self.now c.args.to ≤ 4294967295
 fits c h = subst (λ n. n ≤ 4294967295) (sum c) h
 
 small : (c : goal.After-from) → All (λ n. has_large_constant (value_factor c.args.self.now c.args.to) n ≡ false) c.args.self.now.nodes
 small c = none_large (value_factor c.args.self.now c.args.to) c.args.self.now.nodes (none c)
 
-new_nodes : (c : goal.After-from) (items : List Node) → items ≡ map (scaled_node c.ticks_in_tick-time.result c.ticks_in_tick-value.result) c.nodes-nodes.result.now.items
+new_nodes : (c : goal.After-from) (items : List Node)
+    → items ≡ map (scaled_node c.ticks_in_tick-time.result c.ticks_in_tick-value.result) c.nodes-nodes.result.now.items
     → items ≡ (scaled c.args.self.now c.args.to).nodes
 new_nodes c items e =
     let first : goal.After-first_large_constant = (goal.at.After-from c).After-first_large_constant in
@@ -81,7 +87,8 @@ of-requires-clause-nodes c =
     let formula = c.args.self.now in
     let within : time_factor formula c.args.to * reach formula.nodes ≤ 4294967295 = omega (arith, fits at c.if-sum-gt-LONGEST_REACH.false) in
     subst AreWellFormed (sym (new_nodes at c.in-Ok.nodes.items c.in-Ok.ensures))
-    (scaled_well_formed (time_factor formula c.args.to) (value_factor formula c.args.to) formula.nodes c.nodes-nodes.ensures.well_formed.nodes (small at) within)
+    (scaled_well_formed (time_factor formula c.args.to)
+    (value_factor formula c.args.to) formula.nodes c.nodes-nodes.ensures.well_formed.nodes (small at) within)
 
 pub of-requires-clause-root : goal.of-requires-clause-root
 of-requires-clause-root c =

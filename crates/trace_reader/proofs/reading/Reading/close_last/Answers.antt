@@ -21,7 +21,8 @@ returns-clause-ok c =
     if_ok c.close.result _ (λ event is bytes rows s.
     let judged = subst (JudgesLine limits old.lines.begun (old.lines.line ++ []) old.table new.table) is c.close.ensures.judged in
     let begun = ap (λ (l : Cut). l.begun) c.close.ensures.lines in
-    subst (λ b. HasEnded limits new.table b bytes (rows_after event rows new.table.row)) (sym begun) (last_closed limits old new c.requires some event judged bytes rows s))
+    subst (λ b. HasEnded limits new.table b bytes (rows_after event rows new.table.row)) (sym begun)
+    (last_closed limits old new c.requires some event judged bytes rows s))
 
 pub returns-clause-fault : goal.returns-clause-fault
 returns-clause-fault c =
@@ -46,5 +47,6 @@ returns-clause-before c =
 pub returns-clause-kind : goal.returns-clause-kind
 returns-clause-kind c =
     if_err c.close.result _ (λ x is.
-    let judged = subst (JudgesLine c.args.limits.now c.args.self.now.lines.begun (c.args.self.now.lines.line ++ []) c.args.self.now.table c.close.new.self.table) is c.close.ensures.judged in
+    let judged = subst (JudgesLine c.args.limits.now c.args.self.now.lines.begun
+    (c.args.self.now.lines.line ++ []) c.args.self.now.table c.close.new.self.table) is c.close.ensures.judged in
     judged_kind judged.1)

@@ -107,4 +107,5 @@ returns-in_ok-event-in-Some-clause-ok c = λ bytes rows s.
     let e = c.in_ok-event-in-Some.ensures in
     let event = c.in_ok-event-in-Some.event in
     subst (λ t. StandsFor (state limits new) (bytes ++ t) (rows_after event rows new.table.row)) (sym (at-through piece at h.0 h.1))
-    (finish_stands limits c.args.self.now new c.requires (take at piece) (at-free piece at h.0 h.1) e.begun event e.finished.0 e.finished.1 e.finished.2 bytes rows s)
+    (finish_stands limits c.args.self.now new c.requires (take at piece)
+    (at-free piece at h.0 h.1) e.begun event e.finished.0 e.finished.1 e.finished.2 bytes rows s)

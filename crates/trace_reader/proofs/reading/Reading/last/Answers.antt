@@ -34,7 +34,8 @@ returns-then-count-eq0-clause-fault c = λ bytes rows s.
     let (g, n) = header_some c.header.result new.table.heading (header_of new.table.least) c.header.ensures c.if-is_none.ensures in
     let x = c.refusal-then-count-eq0.result in
     subst (λ l. IsFirstFault bytes true c.args.limits.now l x) e.least
-    (no_rows c.args.limits.now new.table new.lines.begun bytes (rows_after c.in_ok-event.event rows new.table.row) (e.ok bytes rows s) g n (sym c.count.ensures ∙ c.if-count-eq0.true) x
+    (no_rows c.args.limits.now new.table new.lines.begun bytes (rows_after c.in_ok-event.event rows new.table.row)
+    (e.ok bytes rows s) g n (sym c.count.ensures ∙ c.if-count-eq0.true) x
     (ap (λ (y : TraceRefusal). y.line) c.refusal-then-count-eq0.ensures) (ap (λ (y : TraceRefusal). y.kind) c.refusal-then-count-eq0.ensures))
 
 pub returns-then-count-eq0-clause-header : goal.returns-then-count-eq0-clause-header
@@ -77,8 +78,12 @@ returns-in_default c =
     record {
       ok = λ bytes rows s.
           let after = rows_after c.in_ok-event.event rows new.table.row in
-          let w : IsWhole c.args.limits.now new.table bytes after =
-          (g, n, has_trace c.args.limits.now new.table new.lines.begun bytes after (e.ok bytes rows s) g n (omega (arith, c.count.ensures, c.if-count-eq0.false))) in
+          let w : IsWhole c.args.limits.now new.table bytes after = (
+            g,
+            n,
+            has_trace c.args.limits.now new.table new.lines.begun bytes after (e.ok bytes rows s) g n
+                (omega (arith, c.count.ensures, c.if-count-eq0.false)),
+          ) in
           subst (IsWhole c.args.limits.now new.table bytes) (rows_same c.in_ok-event.event rows new.table.row c.in_default.not-Row) w;
       next = λ bytes rows s. tt;
       event = subst IsSome (sym n) refl;

@@ -52,8 +52,10 @@ loop-at-preserved c =
     let size = rw take_rest at e.size in
     let within : at + n ≤ length piece = omega (arith, size.0, length-drop at piece, i.within) in
     let taken : take n (drop at piece) ≡ through_feed (drop at piece) = rw take_rest at e.bytes in
-    let came = subst (λ v. HasCome v (state limits c.loop-at.self) (state limits new) (through_feed (drop at piece))) c.in-Nothing.is (rw take_rest at e.came) in
-    let ok = subst (λ v. (bytes : List ℕ) (rows : List Row) → StandsFor (state limits c.loop-at.self) bytes rows → StandsFor (state limits new) (bytes ++ through_feed (drop at piece)) (rows_after v rows new.table.row))
+    let came =
+    subst (λ v. HasCome v (state limits c.loop-at.self) (state limits new) (through_feed (drop at piece))) c.in-Nothing.is (rw take_rest at e.came) in
+    let ok = subst (λ v. (bytes : List ℕ) (rows : List Row) → StandsFor (state limits c.loop-at.self) bytes rows
+    → StandsFor (state limits new) (bytes ++ through_feed (drop at piece)) (rows_after v rows new.table.row))
     c.in-Nothing.is (rw take_rest at e.ok) in
     record {
       within = within;
@@ -79,15 +81,18 @@ returns-in_default c =
     let within : at + n ≤ length piece = omega (arith, size.0, length-drop at piece, i.within) in
     let some : 0 < n = size.1 (omega (arith, length-drop at piece, c.loop-at-test.true)) in
     let taken : take n (drop at piece) ≡ through_feed (drop at piece) = rw take_rest at e.bytes in
-    let longer : take (at + n) piece ≡ take at piece ++ through_feed (drop at piece) = take_on at n piece (through_feed (drop at piece)) taken i.within size.0 in
+    let longer : take (at + n) piece ≡ take at piece ++ through_feed (drop at piece) =
+    take_on at n piece (through_feed (drop at piece)) taken i.within size.0 in
     let came = rw take_rest at e.came in
     let ok = rw take_rest at e.ok in
     record {
       size = (within, λ _. omega (arith, some));
       all = λ is. absurd (c.in_default.not-Nothing is);
       came = subst (HasCome v (state limits old) (state limits new)) (sym longer)
-          (come_on v (state limits old) (state limits c.loop-at.self) (state limits new) (take at piece) (through_feed (drop at piece)) i.table.0 i.table.1 i.table.2 came);
-      ok = λ bytes rows s. subst (λ t. StandsFor (state limits new) t (rows_after v rows new.table.row)) (append_assoc bytes (take at piece) (through_feed (drop at piece)) ∙ ap (λ t. bytes ++ t) (sym longer))
+          (come_on v (state limits old) (state limits c.loop-at.self) (state limits new) (take at piece)
+          (through_feed (drop at piece)) i.table.0 i.table.1 i.table.2 came);
+      ok = λ bytes rows s. subst (λ t. StandsFor (state limits new) t (rows_after v rows new.table.row))
+          (append_assoc bytes (take at piece) (through_feed (drop at piece)) ∙ ap (λ t. bytes ++ t) (sym longer))
           (ok (bytes ++ take at piece) rows (i.stands bytes rows s));
       within = e.within;
       fault = tt;

@@ -14,7 +14,8 @@ use Rattle.trace_reader.proofs.reading.Reading.take_line.Goals as goal
 
 line_through : (piece line : List ℕ) (n : ℕ) → IsWholeLine piece line n → through_feed piece ≡ line ++ 10 ∷ []
 line_through piece line n w =
-    ap through_feed (sym (take-append-drop n piece) ∙ (ap (λ t. t ++ drop n piece) w.taken ∙ append_assoc line (10 ∷ []) (drop n piece))) ∙ through-at line (drop n piece) w.free
+    ap through_feed (sym (take-append-drop n piece) ∙ (ap (λ t. t ++ drop n piece) w.taken ∙ append_assoc line (10 ∷ []) (drop n piece)))
+    ∙ through-at line (drop n piece) w.free
 
 begun_one : (b n : ℕ) (line : List ℕ) → line ≡ [] → b + 1 ≡ begun_after b line (n + 1)
 begun_one b n line e = subst (λ l. b + 1 ≡ begun_after b l (n + 1)) (sym e) (add-one b ∙ ap (begun_after b []) (sym (add-one n)))

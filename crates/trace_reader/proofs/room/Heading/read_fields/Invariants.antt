@@ -7,7 +7,8 @@ use Rattle.trace_reader.proofs.room.Heading.read_fields.Given as goal
 
 abbrev pub invariant-loop-most : goal.invariant-loop-most
 invariant-loop-most l = record {
-  left : AreValuesLeft l.self.scale l.self.heading.digits (after_first_field (fields_of (Some l.text))) l.place (drop l.most-index l.self.heading.digits) (fields_of (option_copied l.left)) l.row.values;
+  left : AreValuesLeft l.self.scale l.self.heading.digits (after_first_field (fields_of (Some l.text))) l.place
+      (drop l.most-index l.self.heading.digits) (fields_of (option_copied l.left)) l.row.values;
   place : l.place ≡ l.most-index + 2;
   count : length (fields_of (option_copied l.left)) + l.most-index + 1 ≡ length (fields_of (Some l.text));
   width : length l.row.values ≡ l.most-index;

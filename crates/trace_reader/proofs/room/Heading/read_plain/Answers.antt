@@ -21,7 +21,8 @@ loop-most-init c =
     let t = c.in_ok-first.first.time in
     let p = c.in_ok-first.ensures in
     let n : length (take len piece) ≡ len = length-take-le len piece (omega (arith, p.plain.goes_on)) in
-    let read = subst (λ (s : Scale). IsFieldRead s.time self.heading.time_digits (pos 0) (pos 4294967295) 1 (take len piece) (pos t)) c.scale-scale.ensures.value
+    let read =
+    subst (λ (s : Scale). IsFieldRead s.time self.heading.time_digits (pos 0) (pos 4294967295) 1 (take len piece) (pos t)) c.scale-scale.ensures.value
     (subst (λ n. IsFieldRead c.scale-scale.result.time n (pos 0) (pos 4294967295) 1 (take len piece) (pos t)) c.time_digits.ensures.value p.read) in
     let begun : c.begin.new.self ≡ row_made t [] = c.begin.ensures in
     record {
@@ -55,9 +56,11 @@ loop-most-preserved c =
     let p : IsPlainValue m c.scale-scale.result.value (drop (at + 1) piece) c.in_ok-next.next = rw take_rest at c.in_ok-next.ensures in
     let ds : drop i self.heading.digits ≡ m ∷ drop (i + 1) self.heading.digits =
     ap (drop i) (sym e) ∙ (drop_more items i 0 c.loop-most-test.true ∙ ap (λ x. m ∷ drop (i + 1) x) e) in
-    let read = subst (λ (s : Scale). IsFieldRead s.value m (negsuc 16777215) (pos 16777216) (i + 2) (take len (drop (at + 1) piece)) v) c.scale-scale.ensures.value (p.read (i + 2)) in
+    let read = subst (λ (s : Scale). IsFieldRead s.value m (negsuc 16777215) (pos 16777216) (i + 2) (take len (drop (at + 1) piece)) v)
+    c.scale-scale.ensures.value (p.read (i + 2)) in
     let z = to_z-of_z w32 v (value_fits v p.fits) in
-    let added : c.add.new.self ≡ row_made c.loop-most.row.time (c.loop-most.row.values ++ v ∷ []) = c.add.ensures ∙ ap (λ w. row_made c.loop-most.row.time (c.loop-most.row.values ++ w ∷ [])) z in
+    let added : c.add.new.self ≡ row_made c.loop-most.row.time (c.loop-most.row.values ++ v ∷ []) =
+    c.add.ensures ∙ ap (λ w. row_made c.loop-most.row.time (c.loop-most.row.values ++ w ∷ [])) z in
     let values : c.add.new.self.values ≡ c.loop-most.row.values ++ v ∷ [] = ap (λ (r : Row). r.values) added in
     let longer = front_longer at len piece old.within p.plain.goes_on c.if-piece-at-ne44.false in
     let l = length-drop (at + 1) piece in

@@ -10,4 +10,5 @@ returns-in_err-read_heading c =
     rw (p.1, p.2) (bad_heading c.in_err-read_heading.field-0.0 c.in_err-read_heading.ensures (rw (c.in-Some.ensures.after, ← c.self.view_is) refl))
 
 pub returns : goal.returns
-returns c = heading c.in_ok-read_heading.field-0.heading c.in_ok-read_heading.ensures.read c.in_ok-read_heading.ensures.sound (rw (c.in-Some.ensures.after, ← c.self.view_is) refl)
+returns c = heading c.in_ok-read_heading.field-0.heading c.in_ok-read_heading.ensures.read c.in_ok-read_heading.ensures.sound
+    (rw (c.in-Some.ensures.after, ← c.self.view_is) refl)

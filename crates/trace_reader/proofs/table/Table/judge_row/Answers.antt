@@ -25,23 +25,27 @@ returns-in_err-read c =
     let v = c.self.view_is in
     let sc = c.in-Some.heading in
     let is : c.args.self.now.heading ≡ Some sc.heading = sym (ap (λ (q : Progress). q.heading) v) ∙ ap (option_map (λ (s : Scaled). s.heading)) c.in-Some.is in
-    let scale : sc.scale ≡ scale_of c.args.self.now.least sc.heading = c.self.invariant.scale sc c.in-Some.is ∙ ap (λ (q : Progress). scale_of q.least sc.heading) v in
+    let scale : sc.scale ≡ scale_of c.args.self.now.least sc.heading =
+    c.self.invariant.scale sc c.in-Some.is ∙ ap (λ (q : Progress). scale_of q.least sc.heading) v in
     let n = ap (λ (q : Progress). q.count) v in
     let few : c.args.self.now.count < c.args.limits.now.rows = omega (arith, n, c.if-self-limits.false) in
-    rw (p.1, p.2) (row_bad c.args.limits.now c.args.text.now c.args.self.now _ sc is scale few c.in_err-read.field-0.0 c.in_err-read.ensures.cases (rw c.in_err-read.ensures.last v))
+    rw (p.1, p.2) (row_bad c.args.limits.now c.args.text.now c.args.self.now _ sc is scale few c.in_err-read.field-0.0
+    c.in_err-read.ensures.cases (rw c.in_err-read.ensures.last v))
 
 pub returns-then-time : goal.returns-then-time
 returns-then-time c =
     let v = c.self.view_is in
     let sc = c.in-Some.heading in
     let is : c.args.self.now.heading ≡ Some sc.heading = sym (ap (λ (q : Progress). q.heading) v) ∙ ap (option_map (λ (s : Scaled). s.heading)) c.in-Some.is in
-    let scale : sc.scale ≡ scale_of c.args.self.now.least sc.heading = c.self.invariant.scale sc c.in-Some.is ∙ ap (λ (q : Progress). scale_of q.least sc.heading) v in
+    let scale : sc.scale ≡ scale_of c.args.self.now.least sc.heading =
+    c.self.invariant.scale sc c.in-Some.is ∙ ap (λ (q : Progress). scale_of q.least sc.heading) v in
     let n = ap (λ (q : Progress). q.count) v in
     let few : c.args.self.now.count < c.args.limits.now.rows = omega (arith, n, c.if-self-limits.false) in
     let next = ap (λ (r : Row). r.time) c.next.ensures in
     let last = ap (λ (r : Row). r.time) (c.last.ensures ∙ c.in_ok-read.ensures.last) in
     let old = ap (λ (q : Progress). q.row.time) v in
-    row_late c.args.limits.now c.args.text.now c.args.self.now _ sc is scale few c.read.new.self.next c.in_ok-read.ensures.cases (omega (arith, n, c.if-self-gt0.true))
+    row_late c.args.limits.now c.args.text.now c.args.self.now _ sc is scale few c.read.new.self.next c.in_ok-read.ensures.cases
+    (omega (arith, n, c.if-self-gt0.true))
     (omega (arith, next, last, old, c.time.ensures, c.time-then-self-gt0.ensures, c.if-time.true)) (rw c.in_ok-read.ensures.last v)
 
 pub returns : goal.returns
@@ -49,7 +53,8 @@ returns c =
     let v = c.self.view_is in
     let sc = c.in-Some.heading in
     let is : c.args.self.now.heading ≡ Some sc.heading = sym (ap (λ (q : Progress). q.heading) v) ∙ ap (option_map (λ (s : Scaled). s.heading)) c.in-Some.is in
-    let scale : sc.scale ≡ scale_of c.args.self.now.least sc.heading = c.self.invariant.scale sc c.in-Some.is ∙ ap (λ (q : Progress). scale_of q.least sc.heading) v in
+    let scale : sc.scale ≡ scale_of c.args.self.now.least sc.heading =
+    c.self.invariant.scale sc c.in-Some.is ∙ ap (λ (q : Progress). scale_of q.least sc.heading) v in
     let n = ap (λ (q : Progress). q.count) v in
     let few : c.args.self.now.count < c.args.limits.now.rows = omega (arith, n, c.if-self-limits.false) in
     let t = c.turn.ensures in
@@ -62,4 +67,5 @@ returns c =
           omega (arith, next, last, old, now, w.time.ensures, w.time-then-self-gt0.ensures, w.if-time.false))
       | else-self-gt0-via-else-self-gt0 w ↦ absurd (omega (arith, n, some, w.if-self-gt0.false))
     ] in
-    row_taken c.args.limits.now c.args.text.now c.args.self.now _ sc is scale few (subst (IsRowRead sc (fields_of (Some c.args.text.now))) (sym t) c.in_ok-read.ensures.cases) up (rw (← v) refl)
+    row_taken c.args.limits.now c.args.text.now c.args.self.now _ sc is scale few
+    (subst (IsRowRead sc (fields_of (Some c.args.text.now))) (sym t) c.in_ok-read.ensures.cases) up (rw (← v) refl)

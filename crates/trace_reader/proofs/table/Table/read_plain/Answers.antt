@@ -32,9 +32,11 @@ returns c =
           omega (arith, next, last, old, now, w.time.ensures, w.time-then-self-ne0.ensures, w.if-time.false))
       | else-self-ne0-via-else-self-ne0 w ↦ absurd (omega (arith, n, some, w.if-self-ne0.false))
     ] in
-    let read : IsRowRead sc (fields_of (Some text)) c.turn.new.self.last = subst (λ fs. IsRowRead sc fs c.turn.new.self.last) (fields_are p.line) (subst (IsRowRead sc (fields (whole_line p.line))) (sym t) p.read) in
+    let read : IsRowRead sc (fields_of (Some text)) c.turn.new.self.last =
+    subst (λ fs. IsRowRead sc fs c.turn.new.self.last) (fields_are p.line) (subst (IsRowRead sc (fields (whole_line p.line))) (sym t) p.read) in
     record {
       line = p.line;
       whole = p.whole;
-      judged = judged_row c.args.limits.now p.line text c.args.self.now _ _ refl p.solid (row_taken c.args.limits.now text c.args.self.now _ sc is scale few read up (rw (← v) refl));
+      judged = judged_row c.args.limits.now p.line text c.args.self.now _ _ refl p.solid
+          (row_taken c.args.limits.now text c.args.self.now _ sc is scale few read up (rw (← v) refl));
     }

@@ -10,15 +10,18 @@ invariant_of-self-2 c =
     let a = c.self.inside in
     let r = c.args.row.now in
     let done : is_ok c.push.result ≡ true = sym c.map_err-2.ensures.variant ∙ ap is_ok c.in_ok-map_err-2.was in
-    let in_values : c.add_all.new.values.items ≡ a.values.items ++ r.values = c.add_all.ensures ∙ rw (c.try_reserve.ensures.items, c.values-values.ensures.value) refl in
-    let in_times : c.push.new.self.items ≡ a.times.items ++ r.time ∷ [] = (rw done at c.push.ensures.items) ∙ ap (λ t. a.times.items ++ t ∷ []) c.time.ensures in
+    let in_values : c.add_all.new.values.items ≡ a.values.items ++ r.values =
+    c.add_all.ensures ∙ rw (c.try_reserve.ensures.items, c.values-values.ensures.value) refl in
+    let in_times : c.push.new.self.items ≡ a.times.items ++ r.time ∷ [] =
+    (rw done at c.push.ensures.items) ∙ ap (λ t. a.times.items ++ t ∷ []) c.time.ensures in
     let fits : length r.values ≡ length a.header.columns = c.requires.width ∙ sym (ap (λ (t : Trace). length t.header.columns) c.self.view_is) in
     let later = rw (← c.self.view_is) at c.requires.later in
     let small : All (λ v. nat_abs v ≤ 16777216) r.values = rw c.values-values.ensures.value at c.values-values.ensures.small in
     let rows = push-rows (length a.header.columns) a.times.items _ a.values.items _ r c.self.invariant.full fits in_times in_values in
     record {
       full = push-full (length a.header.columns) a.times.items _ a.values.items _ r c.self.invariant.full fits in_times in_values;
-      small = push-small (length a.header.columns) a.times.items _ a.values.items _ r c.self.invariant.full fits in_times in_values c.self.invariant.small small;
+      small = push-small (length a.header.columns) a.times.items _ a.values.items _ r c.self.invariant.full fits in_times
+          in_values c.self.invariant.small small;
       rising = rw rows (sofar-push _ _ r c.self.invariant.rising later fits);
     }
 
@@ -27,8 +30,10 @@ returns-clause-ok c =
     let a = c.self.inside in
     let r = c.args.row.now in
     let done : is_ok c.push.result ≡ true = sym c.map_err-2.ensures.variant ∙ ap is_ok c.in_ok-map_err-2.was in
-    let in_values : c.add_all.new.values.items ≡ a.values.items ++ r.values = c.add_all.ensures ∙ rw (c.try_reserve.ensures.items, c.values-values.ensures.value) refl in
-    let in_times : c.push.new.self.items ≡ a.times.items ++ r.time ∷ [] = (rw done at c.push.ensures.items) ∙ ap (λ t. a.times.items ++ t ∷ []) c.time.ensures in
+    let in_values : c.add_all.new.values.items ≡ a.values.items ++ r.values =
+    c.add_all.ensures ∙ rw (c.try_reserve.ensures.items, c.values-values.ensures.value) refl in
+    let in_times : c.push.new.self.items ≡ a.times.items ++ r.time ∷ [] =
+    (rw done at c.push.ensures.items) ∙ ap (λ t. a.times.items ++ t ∷ []) c.time.ensures in
     let fits : length r.values ≡ length a.header.columns = c.requires.width ∙ sym (ap (λ (t : Trace). length t.header.columns) c.self.view_is) in
     rw (← c.self.view_is)
     (ap (table_with a.header) (push-rows (length a.header.columns) a.times.items _ a.values.items _ r c.self.invariant.full fits in_times in_values))

@@ -7,7 +7,13 @@ use Rattle.trace_reader.proofs.trace.Trace.rows.Goals as goal
 pub returns-clause-count : goal.returns-clause-count
 returns-clause-count c =
     let a = c.self.inside in
-    omega (arith, c.len.ensures, a.times.ok.0, length-rows_of (length a.header.columns) a.times.items a.values.items, ap (λ (t : Trace). length t.rows) c.self.view_is)
+    omega (
+      arith,
+      c.len.ensures,
+      a.times.ok.0,
+      length-rows_of (length a.header.columns) a.times.items a.values.items,
+      ap (λ (t : Trace). length t.rows) c.self.view_is,
+    )
 
 pub returns-clause-trace : goal.returns-clause-trace
 returns-clause-trace c = λ some.

@@ -8,7 +8,13 @@ use Rattle.trace_reader.proofs.trace.Trace.time.Goals as goal
 pub index-requires : goal.index-requires
 index-requires c =
     let a = c.self.inside in
-    omega (arith, c.requires, a.times.ok.0, length-rows_of (length a.header.columns) a.times.items a.values.items, ap (λ (t : Trace). length t.rows) c.self.view_is)
+    omega (
+      arith,
+      c.requires,
+      a.times.ok.0,
+      length-rows_of (length a.header.columns) a.times.items a.values.items,
+      ap (λ (t : Trace). length t.rows) c.self.view_is,
+    )
 
 pub returns : goal.returns
 returns c = λ d.

@@ -25,7 +25,8 @@ returns-in-Ramp-Ramp-clause-time c =
 pub returns-in-Ramp-Fixed-clause-time : goal.returns-in-Ramp-Fixed-clause-time
 returns-in-Ramp-Fixed-clause-time c =
     rw (c.in-Ramp-Fixed.is-0, c.in-Ramp-Fixed.is-1)
-    (meeting_of_crossing (line c.in-Ramp-Fixed.f) (constant (value c.in-Ramp-Fixed.c)) (value c.args.l.now) (value c.args.r.now) c.meet_const.result c.meet_const.ensures)
+    (meeting_of_crossing (line c.in-Ramp-Fixed.f) (constant (value c.in-Ramp-Fixed.c)) (value c.args.l.now)
+    (value c.args.r.now) c.meet_const.result c.meet_const.ensures)
 
 pub returns-in-Fixed-Ramp-clause-time : goal.returns-in-Fixed-Ramp-clause-time
 returns-in-Fixed-Ramp-clause-time c =
@@ -36,7 +37,8 @@ returns-in-Fixed-Ramp-clause-time c =
 
 pub returns-in_default-2 : goal.returns-in_default-2
 returns-in_default-2 c = record {
-  time = λ t m. constant_never_meets c.in_default.field-0-0 c.args.q.now (value c.args.l.now) (value c.args.r.now) t c.in_default.not-Ramp-1 (rw c.in_default.is-0 at m);
+  time = λ t m. constant_never_meets c.in_default.field-0-0 c.args.q.now (value c.args.l.now)
+      (value c.args.r.now) t c.in_default.not-Ramp-1 (rw c.in_default.is-0 at m);
   wide = λ h. refl;
 }
 

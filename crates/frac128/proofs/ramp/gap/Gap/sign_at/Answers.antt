@@ -24,5 +24,7 @@ returns c = λ d g.
     let climb : to_z w128 (of_z w128 gap.climb) ≡ gap.climb = search (rules, to_z-of_z) in
     let whole : to_z w128 (of_z w128 c.from.result) ≡ t.whole = omega (arith, ints) in
     let ahead : to_z w128 (of_z w128 c.sum_of_products-ahead.result) ≡ c.sum_of_products-ahead.result = search (rules, to_z-of_z) in
-    let first : c.sum_of_products-ahead.result ≡ gap.base +ℤ gap.climb *ℤ t.whole = let h = rw (base, climb, whole) at c.sum_of_products-ahead.ensures.value in omega (arith, ints) in
-    sign_of _ _ _ (ahead_is d gap.base gap.climb t.whole c.sum_of_products-ahead.result _ t.rest t.den t.positive g first refl) (rw (ahead, climb, c.den.ensures, c.rest.ensures) at c.sign_ahead.ensures)
+    let first : c.sum_of_products-ahead.result ≡ gap.base +ℤ gap.climb *ℤ t.whole =
+    let h = rw (base, climb, whole) at c.sum_of_products-ahead.ensures.value in omega (arith, ints) in
+    sign_of _ _ _ (ahead_is d gap.base gap.climb t.whole c.sum_of_products-ahead.result _ t.rest t.den t.positive g first refl)
+    (rw (ahead, climb, c.den.ensures, c.rest.ensures) at c.sign_ahead.ensures)
