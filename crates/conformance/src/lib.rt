@@ -54,6 +54,8 @@ mod report_tests;
 #[cfg(test)]
 mod run_tests;
 #[cfg(test)]
+mod rwatch_beside_tests;
+#[cfg(test)]
 mod rwatch_tests;
 #[cfg(test)]
 mod seg_pool_tests;
