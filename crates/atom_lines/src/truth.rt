@@ -41,6 +41,7 @@ pub(crate) fn truth_at(rel: Rel, value: i64) -> Truth
 }
 
 /// The time inside the gap at which a sum that changes its sign is 0.
+#[inline(never)]
 fn crossing(gap: &Gap) -> Frac
     requires { Passes gap.now }
     ensures zero { at (along gap.now) (value result) ≈ whole (pos 0) }
