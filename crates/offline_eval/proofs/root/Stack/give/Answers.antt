@@ -1,0 +1,33 @@
+use Rattle.std.proofs.Common.{rules, ◌≡◌, ◌+◌, ◌++◌, ◌∷◌, [], sym, subst, arith}
+use Rattle.std.proofs.lemmas.Option.{slice_get_within}
+use Rattle.stl_syntax.specs.declared.node.Node.TheVariants.{Atom as Leaf}
+use Rattle.offline_eval.specs.Keeping.{AreGivenUp, IsStack, TellsStack}
+use Rattle.offline_eval.specs.Places.{reach_before}
+use Rattle.offline_eval.proofs.Evaluating.{input_sound}
+use Rattle.offline_eval.proofs.Keeping.{none_given_up, stack_next, stack_on}
+use Rattle.offline_eval.proofs.Sound.{sound_more}
+use Rattle.offline_eval.proofs.root.Stack.give.Goals as goal
+
+pub returns-clause-stands : goal.returns-clause-stands
+returns-clause-stands g c from to input before =
+    let nodes = c.args.formula.now.nodes in
+    let i = c.args.i in
+    let old = c.self.inside.done.items in
+    let y = c.args.signal in
+    let st = subst (IsStack g.P.Shape from to nodes i) (sym c.self.view_is) before in
+    let pushed : c.push.new.self.items ≡ old ++ y ∷ [] = search (rules, c.push.ensures.items, c.if-is_err.false, c.is_err.ensures) in
+    stack_on g.P.Shape from to nodes i [] old c.push.new.self.items y (slice_get_within nodes i (Leaf c.requires.0) c.requires.1)
+    (subst (AreGivenUp g.P.Shape from to [] (old ++ y ∷ [])) (sym pushed) (none_given_up g.P.Shape from to (old ++ y ∷ [])))
+    (sound_more g.P.Shape from to 0 (reach_before nodes (i + 1)) y (omega arith) (input_sound g.P.Shape from to y input)) st
+
+pub returns-clause-told : goal.returns-clause-told
+returns-clause-told g c from to s over before own was =
+    let nodes = c.args.formula.now.nodes in
+    let i = c.args.i in
+    let old = c.self.inside.done.items in
+    let y = c.args.signal in
+    let st = subst (IsStack g.P.Shape from to nodes i) (sym c.self.view_is) before in
+    let pushed : c.push.new.self.items ≡ old ++ y ∷ [] = search (rules, c.push.ensures.items, c.if-is_err.false, c.is_err.ensures) in
+    stack_next g.P.Shape nodes s from to i (Leaf c.requires.0) old c.push.new.self.items y c.len.ensures.well_formed.nodes.post_order c.requires.1 st.count over
+    (subst (AreGivenUp g.P.Shape from to [] (old ++ y ∷ [])) (sym pushed) (none_given_up g.P.Shape from to (old ++ y ∷ []))) own
+    (subst (TellsStack g.P.Shape nodes s i) (sym c.self.view_is) was)
