@@ -50,7 +50,8 @@ module _ (d : Rational) (runs runs' spans spans' : List Stretch) (x y : Grown) (
   }
     where
       held : (p : Stretch) × IsAmong p y.spans.items × HoldsFrom p (place y.bounds.from)
-      held = carried_in y.spans.items (place y.bounds.from) true tidy t (record { on = refl; after = l.0; all = λ v a m. has v (within t v l a m) (all v a m).0 })
+      held = carried_in y.spans.items (place y.bounds.from) true tidy t
+          (record { on = refl; after = l.0; all = λ v a m. has v (within t v l a m) (all v a m).0 })
 
       by_begin : (c : Bool) → BeginsAtOnce c y → IsTrue c
       by_begin true g = refl

@@ -105,8 +105,8 @@ module _ (nodes : List Node) (from : Rational) (live shown : List Sets) (made : 
           λ t u l o. let e = none_later u t 0 o.ends in (behind p c.0 a.0 t u l o.after e, behind q c.1 a.1 t u l o.after e),
           back_parts y (subst (λ z. top_at made.tops i ≤ z) w.0 a.0) s.parts h.asked.parts,
         )
-        by_node (Once p x y j k) c a w = λ t u l o. behind p c a t u l o.after (none_later u t x (precedes_le j (later u x) t o.ends))
-        by_node (Historically p x y j k) c a w = λ t u l o. behind p c a t u l o.after (none_later u t x (precedes_le j (later u x) t o.ends))
+        by_node (Once p x y j k) c a w = λ t u l o. inl (behind p c a t u l o.after (none_later u t x (precedes_le j (later u x) t o.ends)))
+        by_node (Historically p x y j k) c a w = λ t u l o. inl (behind p c a t u l o.after (none_later u t x (precedes_le j (later u x) t o.ends)))
 
     left : HasParts n s shown
     left = by_left (left_of n) h.left

@@ -17,7 +17,8 @@ use Rattle.early_verdict.proofs.UntilCuts.{Agree, kept_in}
 pub no_later : (d u : Rational) (b : ℕ) → later d b ≤ʳ later u b → d ≤ʳ u
 no_later d u b e = record { le = omega (arith, e.le) }
 
-module _ (d from : Rational) (tr : Trace) (a b : ℕ) (order : a ≤ b) (p q p' q' : Lists) (P : Agree d p p') (Q : Agree d q q') (now : Rational) (later_on : from ≤ʳ now)
+module _ (d from : Rational) (tr : Trace) (a b : ℕ) (order : a ≤ b) (p q p' q' : Lists) (P : Agree d p p') (Q : Agree d q q')
+    (now : Rational) (later_on : from ≤ʳ now)
     (back : later d b ≤ʳ from) where
   -- a time that is seen from there on
   pub seen : (t u : Rational) → from ≤ʳ t → t ≤ʳ later u b → d ≤ʳ u
@@ -29,7 +30,8 @@ module _ (d from : Rational) (tr : Trace) (a b : ℕ) (order : a ≤ b) (p q p' 
   begun : d ≤ʳ now
   begun = le_trans (later_from d b) (le_trans back later_on)
 
-  module _ (x y : Holding) (k : IsHoldingCut d from x y) (h : SinceHolding tr a (Some b) p q x) (at_both : Lies x.both.bounds now) (at_run : Lies x.run.bounds now)
+  module _ (x y : Holding) (k : IsHoldingCut d from x y) (h : SinceHolding tr a (Some b) p q x) (at_both : Lies x.both.bounds now)
+      (at_run : Lies x.run.bounds now)
       (at_some : Lies x.some.bounds now) (at_each : Lies x.each.bounds now) where
     both_in : (u : Rational) → d ≤ʳ u → IsOn x.both.spans.items u → IsOn y.both.spans.items u
     both_in = kept_in d x.both y.both k.both (λ t o. (h.both.only t o).0)
@@ -53,7 +55,8 @@ module _ (d from : Rational) (tr : Trace) (a b : ℕ) (order : a ≤ b) (p q p' 
             let f = k.both.after now at_both begun t c.1 in
             (c.1, (P.yes_in t f m.0, Q.yes_in t f m.1));
       };
-      run = says_back d p.yes p'.yes x.both.spans.items y.both.spans.items x.run y.run x.carried y.carried P.yes_in P.yes_out both_in (λ t o. (k.both.only t o).0)
+      run = says_back d p.yes p'.yes x.both.spans.items y.both.spans.items x.run y.run x.carried y.carried P.yes_in P.yes_out both_in
+          (λ t o. (k.both.only t o).0)
           k.run.less k.run.has k.run.only (λ t l. k.run.after now at_run begun t l) k.carried k.run.tidy h.run;
       some = record {
         has = λ t l (u, w, c, e). k.some.has t l (h.some.has t (k.some.less t l) (u, w, c, Q.yes_out u e));
@@ -103,9 +106,11 @@ module _ (d from : Rational) (tr : Trace) (a b : ℕ) (order : a ≤ b) (p q p' 
             let m = (h.fail.only t c.0).1 in
             (subst (λ s. Lies s t) (sym k.fail.bounds_are) c.1, elim m [ inl e ↦ inl (P.no_in t f e) | inr e ↦ inr (Q.no_in t f e) ]);
       };
-      stop = says_back d x.fail.spans.items y.fail.spans.items p.no p'.no x.stop y.stop x.carried y.carried fail_in (λ t o. (k.fail.only t o).0) P.no_in P.no_out
+      stop = says_back d x.fail.spans.items y.fail.spans.items p.no p'.no x.stop y.stop x.carried y.carried fail_in
+          (λ t o. (k.fail.only t o).0) P.no_in P.no_out
           (λ t l. less_stop t (in_wide t l)) (λ t l o. k.stop.has t (in_wide t l) o)
-          (λ t o. let c = k.stop.only t o in (c.0, subst (λ s. Lies s t) (sym k.stop.bounds_are) c.1)) (λ t l. after t (in_wide t l)) k.carried k.stop.tidy h.stop;
+          (λ t o. let c = k.stop.only t o in (c.0, subst (λ s. Lies s t) (sym k.stop.bounds_are) c.1))
+          (λ t l. after t (in_wide t l)) k.carried k.stop.tidy h.stop;
       never = record {
         has = λ t l g. k.never.has t l (h.never.has t (k.never.less t l) (λ u w. Q.no_out u (g u w)));
         only = λ t o.

@@ -13,10 +13,13 @@ use Rattle.stl_syntax.proofs.PostOrderLemmas.{placed, slice_get_at}
 use Rattle.early_verdict.specs.Cuts.{place, Upto}
 use Rattle.early_verdict.specs.Spans.{IsOn, Lies}
 use Rattle.early_verdict.specs.Steps.{Tells}
-use Rattle.early_verdict.specs.Fitting.{Lists, lists_at, lists_of, ArePartsTidy, AreSetsTidy, HasFailBounds, IsTidy, SayOfParts, SinceFits, SinceHolding, SinceFailing}
+use Rattle.early_verdict.specs.Fitting.{Lists, lists_at, lists_of, ArePartsTidy, AreSetsTidy, HasFailBounds}
+use Rattle.early_verdict.specs.Fitting.{IsTidy, SayOfParts, SinceFits, SinceHolding, SinceFailing}
 use Rattle.early_verdict.specs.Standing.{HasParts}
 use Rattle.early_verdict.specs.Living.{IsLive, IsShown, NetStands, ReachesBack}
-use Rattle.early_verdict.specs.Letting.{AreLess, ArePartsCut, ArePartsInside, IsAskedFrom, IsChild, IsFailingCut, IsFailingInside, IsHoldingCut, IsHoldingInside, IsInside, IsLess, IsRunCutAt, ShowsFrom}
+use Rattle.early_verdict.specs.Letting.{AreLess, ArePartsCut, ArePartsInside, IsAskedFrom, IsChild, IsFailingCut}
+use Rattle.early_verdict.specs.Letting.{IsFailingInside, IsHoldingCut, IsHoldingInside, IsInside, IsLess, IsRunCutAt}
+use Rattle.early_verdict.specs.Letting.{ShowsFrom}
 use Rattle.early_verdict.specs.declared.stretch.Stretch.{Stretch}
 use Rattle.early_verdict.specs.declared.grown.Grown.{Grown}
 use Rattle.early_verdict.specs.declared.sets.Sets.{Sets}
@@ -35,7 +38,8 @@ use Rattle.early_verdict.proofs.UntilCuts.{Agree}
 -- the bounds of a since are in order
 pub ordered : (nodes : List Node) → AreWellFormed nodes → (i : ℕ) → i < length nodes → (p q a b : ℕ) → slice_get nodes i ≡ Some (Since p q a (Some b)) → a ≤ b
 ordered nodes formed i l p q a b at =
-    subst HasBounds (same_node (slice_index_or nodes i (Const false)) (Since p q a (Some b)) (sym (slice_get_at nodes i (Const false) l) ∙ at)) (formed.bounds i (Const false) l)
+    subst HasBounds (same_node (slice_index_or nodes i (Const false)) (Since p q a (Some b)) (sym (slice_get_at nodes i (Const false) l) ∙ at))
+    (formed.bounds i (Const false) l)
   where
     same_node : (m n : Node) → Some m ≡ Some n → m ≡ n
     same_node m n e = cc
@@ -49,7 +53,8 @@ FailWithin s x = (x.failing.fail.bounds ≡ s) × (x.failing.stop.bounds ≡ s)
 
 -- the sets between lie within their bounds, and what fails within what the left operand shows
 module _ (nodes : List Node) (tr : Trace) (live old mid new : List Sets) (i p q a b : ℕ) (at : slice_get nodes i ≡ Some (Since p q a (Some b))) (d : Rational)
-    (wide : Stretch) (l' : Sets) (at_left : slice_get new p ≡ Some l') (is_wide : wide ≡ l'.no.bounds) (h : IsAskedFrom p d old mid) (g : IsAskedFrom q d mid new)
+    (wide : Stretch) (l' : Sets) (at_left : slice_get new p ≡ Some l') (is_wide : wide ≡ l'.no.bounds)
+    (h : IsAskedFrom p d old mid) (g : IsAskedFrom q d mid new)
     (st : NetStands nodes tr live old) (s : Sets) (is : slice_get live i ≡ Some s) where
   shown_here : (w : Sets) × (slice_get old i ≡ Some w)
   shown_here = sets_at old i (let e = get_within live i s is in let c = st.have.count in let f = st.have.shown_count in omega (arith, e, c, f))
@@ -66,7 +71,8 @@ module _ (nodes : List Node) (tr : Trace) (live old mid new : List Sets) (i p q 
   back_inside = by_parts s.parts (st.fit i (Since p q a (Some b)) s at is)
       ((st.have.has i (Since p q a (Some b)) s shown_here.0 at is shown_here.1).left.1 left_here.0 left_here.1)
     where
-      by_parts : (o : Option Parts) → MatchOption o ⊥ (HoldAndFail tr a b (lists_at old p) (lists_at old q) s) → MatchOption o (Unit {0}) (FailWithin (left_here.0).no.bounds)
+      by_parts : (o : Option Parts) → MatchOption o ⊥ (HoldAndFail tr a b (lists_at old p) (lists_at old q) s)
+          → MatchOption o (Unit {0}) (FailWithin (left_here.0).no.bounds)
           → MatchOption o (Unit {0}) (λ x. IsHoldingInside x.holding × IsFailingInside wide x.failing)
       by_parts None k e = tt
       by_parts (Some x) (k, f, r) e = (
@@ -87,7 +93,8 @@ module _ (nodes : List Node) (tr : Trace) (live old mid new : List Sets) (i p q 
 module _ (nodes : List Node) (formed : AreWellFormed nodes) (tr : Trace) (live left old mid new : List Sets) (i p q a b : ℕ)
     (at : slice_get nodes i ≡ Some (Since p q a (Some b))) (order : a ≤ b) (d from : Rational) (back : later d b ≤ʳ from) (wide : Stretch)
     (cut : IsRunCutAt i d from wide live left) (l' : Sets) (at_left : slice_get new p ≡ Some l') (is_wide : wide ≡ l'.no.bounds)
-    (begins : (t : Rational) → Lies cut.was.no.bounds t → from ≤ʳ t) (h : IsAskedFrom p d old mid) (g : IsAskedFrom q d mid new) (st : NetStands nodes tr live old) where
+    (begins : (t : Rational) → Lies cut.was.no.bounds t → from ≤ʳ t) (h : IsAskedFrom p d old mid) (g : IsAskedFrom q d mid new)
+    (st : NetStands nodes tr live old) where
   small : i < length nodes
   small = let e = get_within live i cut.was cut.at_old in let c = st.have.count in omega (arith, e, c)
 
@@ -105,9 +112,11 @@ module _ (nodes : List Node) (formed : AreWellFormed nodes) (tr : Trace) (live l
       let w = less.each r x.0 x.1 in
       by_sets w.0 x.0 w.1 x.1 w.2 (shows_from r w.0 x.0 c w.1 x.1) (shown_inside nodes tr live old st r w.0 w.1)
     where
-      by_sets : (w x : Sets) → slice_get old r ≡ Some w → slice_get new r ≡ Some x → IsLess w x → ShowsFrom d w x → IsInside w → Agree d (lists_at old r) (lists_at new r)
+      by_sets : (w x : Sets) → slice_get old r ≡ Some w → slice_get new r ≡ Some x → IsLess w x → ShowsFrom d w x → IsInside w
+          → Agree d (lists_at old r) (lists_at new r)
       by_sets w x e f fewer shows inside =
-          subst (λ (l : Lists). Agree d l (lists_at new r)) (sym (lists_are old r w e)) (subst (λ (l : Lists). Agree d (lists_of w) l) (sym (lists_are new r x f)) (record {
+          subst (λ (l : Lists). Agree d l (lists_at new r)) (sym (lists_are old r w e))
+          (subst (λ (l : Lists). Agree d (lists_of w) l) (sym (lists_are new r x f)) (record {
             yes_in = λ t k o. fewer.yes_in t (shows.left t (inside.yes t o) k) o;
             yes_out = fewer.yes_out;
             no_in = λ t k o. fewer.no_in t (shows.left t (inside.no t o) k) o;
@@ -144,7 +153,8 @@ module _ (nodes : List Node) (formed : AreWellFormed nodes) (tr : Trace) (live l
   itself t l = record { after = was.starts t l; begins = later_from t b; ends = later_none t t (le_refl t) }
 
   seen_from : (t u : Rational) → Lies was.own t → OpenBehind (start tr) 0 (Some b) true true t u → d ≤ʳ u
-  seen_from t u l o = seen d from tr a b order (lists_at old p) (lists_at old q) (lists_at new p) (lists_at new q) (agree_from p (inl refl)) (agree_from q (inr refl))
+  seen_from t u l o = seen d from tr a b order (lists_at old p) (lists_at old q) (lists_at new p) (lists_at new q)
+      (agree_from p (inl refl)) (agree_from q (inr refl))
       now.0 from_now back t u (begun t l) o.begins
 
   fail_bounds : HasFailBounds cut.was was_left.0
@@ -157,7 +167,8 @@ module _ (nodes : List Node) (formed : AreWellFormed nodes) (tr : Trace) (live l
   left_wide s e t l f = subst (λ z. Lies z t) (sym is_wide) (shows.left t (subst (λ z. Lies z t) e l) f)
 
   -- each of these has a time of the since's own
-  module _ (x y : Parts) (k : IsHoldingCut d from x.holding y.holding) (m : IsFailingCut from wide x.failing y.failing) (r : ReachesBack (start tr) (Some b) was.own x)
+  module _ (x y : Parts) (k : IsHoldingCut d from x.holding y.holding) (m : IsFailingCut from wide x.failing y.failing)
+      (r : ReachesBack (start tr) (Some b) was.own x)
       (e : FailWithin (was_left.0).no.bounds x) where
     reach_cut : ReachesBack (start tr) (Some b) was.own y
     reach_cut = record {
@@ -183,27 +194,38 @@ module _ (nodes : List Node) (formed : AreWellFormed nodes) (tr : Trace) (live l
         let z = r.some now.0 now.1 in
         let v = r.never now.0 now.1 in
         let c = r.both now.0 now.0 now.1 (itself now.0 now.1) in
-        let in_some = some_in d from tr a b order (lists_at old p) (lists_at old q) (lists_at new p) (lists_at new q) P Q now.0 from_now back x.holding y.holding k n c.0 c.1 z.0 z.1 in
-        let in_each = each_in d from tr a b order (lists_at old p) (lists_at old q) (lists_at new p) (lists_at new q) P Q now.0 from_now back x.holding y.holding k n c.0 c.1 z.0 z.1 in
-        let in_never = never_in d from tr a b order (lists_at old p) (lists_at old q) (lists_at new p) (lists_at new q) P Q now.0 from_now back wide x.failing y.failing m f v.0 v.1
-        (less_wide x.failing.fail.bounds e.0) (left_wide x.failing.fail.bounds e.0) (less_wide x.failing.stop.bounds e.1) (left_wide x.failing.stop.bounds e.1) at_wide in
-        let in_broken = broken_in d from tr a b order (lists_at old p) (lists_at old q) (lists_at new p) (lists_at new q) P Q now.0 from_now back wide x.failing y.failing m f v.0 v.1
-        (less_wide x.failing.fail.bounds e.0) (left_wide x.failing.fail.bounds e.0) (less_wide x.failing.stop.bounds e.1) (left_wide x.failing.stop.bounds e.1) at_wide in (
-          holding_back d from tr a b order (lists_at old p) (lists_at old q) (lists_at new p) (lists_at new q) P Q now.0 from_now back x.holding y.holding k n c.0 c.1 z.0 z.1,
-          failing_back d from tr a b order (lists_at old p) (lists_at old q) (lists_at new p) (lists_at new q) P Q now.0 from_now back wide x.failing y.failing m f v.0 v.1
-              (less_wide x.failing.fail.bounds e.0) (left_wide x.failing.fail.bounds e.0) (less_wide x.failing.stop.bounds e.1) (left_wide x.failing.stop.bounds e.1) at_wide,
+        let in_some = some_in d from tr a b order (lists_at old p) (lists_at old q) (lists_at new p)
+        (lists_at new q) P Q now.0 from_now back x.holding y.holding k n c.0 c.1 z.0 z.1 in
+        let in_each = each_in d from tr a b order (lists_at old p) (lists_at old q) (lists_at new p)
+        (lists_at new q) P Q now.0 from_now back x.holding y.holding k n c.0 c.1 z.0 z.1 in
+        let in_never = never_in d from tr a b order (lists_at old p) (lists_at old q) (lists_at new p)
+        (lists_at new q) P Q now.0 from_now back wide x.failing y.failing m f v.0 v.1
+        (less_wide x.failing.fail.bounds e.0) (left_wide x.failing.fail.bounds e.0) (less_wide x.failing.stop.bounds e.1)
+        (left_wide x.failing.stop.bounds e.1) at_wide in
+        let in_broken = broken_in d from tr a b order (lists_at old p) (lists_at old q) (lists_at new p)
+        (lists_at new q) P Q now.0 from_now back wide x.failing y.failing m f v.0 v.1
+        (less_wide x.failing.fail.bounds e.0) (left_wide x.failing.fail.bounds e.0) (less_wide x.failing.stop.bounds e.1)
+        (left_wide x.failing.stop.bounds e.1) at_wide in (
+          holding_back d from tr a b order (lists_at old p) (lists_at old q) (lists_at new p)
+              (lists_at new q) P Q now.0 from_now back x.holding y.holding k n c.0 c.1 z.0 z.1,
+          failing_back d from tr a b order (lists_at old p) (lists_at old q) (lists_at new p)
+              (lists_at new q) P Q now.0 from_now back wide x.failing y.failing m f v.0 v.1
+              (less_wide x.failing.fail.bounds e.0) (left_wide x.failing.fail.bounds e.0) (less_wide x.failing.stop.bounds e.1)
+              (left_wide x.failing.stop.bounds e.1) at_wide,
           record {
-            yes = subst (λ (g : Grown). Tells g.bounds g.spans.items (λ t. IsOn y.holding.some.spans.items t × IsOn y.holding.each.spans.items t)) (sym cut.cut.yes) (record {
-              has = λ t l o. s.yes.has t l ((k.some.only t o.0).0, (k.each.only t o.1).0);
-              only = λ t o. let u = s.yes.only t o in let w = begun t (subst (λ z. Lies z t) was.yes u.0) in (u.0, (in_some t w u.1.0, in_each t w u.1.1));
-            });
-            no = subst (λ (g : Grown). Tells g.bounds g.spans.items (λ t. IsOn y.failing.never.spans.items t ⊎ IsOn y.failing.broken.spans.items t)) (sym cut.cut.no) (record {
-              has = λ t l o. s.no.has t l (elim o [ inl u ↦ inl (m.never.only t u).0 | inr u ↦ inr (m.broken.only t u).0 ]);
-              only = λ t o. let u = s.no.only t o in let w = begun t (subst (λ z. Lies z t) was.no u.0) in (
-                u.0,
-                elim u.1 [ inl j ↦ inl (in_never t w j) | inr j ↦ inr (in_broken t w j) ],
-              );
-            });
+            yes = subst (λ (g : Grown). Tells g.bounds g.spans.items (λ t. IsOn y.holding.some.spans.items t × IsOn y.holding.each.spans.items t))
+                (sym cut.cut.yes) (record {
+                  has = λ t l o. s.yes.has t l ((k.some.only t o.0).0, (k.each.only t o.1).0);
+                  only = λ t o. let u = s.yes.only t o in let w = begun t (subst (λ z. Lies z t) was.yes u.0) in (u.0, (in_some t w u.1.0, in_each t w u.1.1));
+                });
+            no = subst (λ (g : Grown). Tells g.bounds g.spans.items (λ t. IsOn y.failing.never.spans.items t ⊎ IsOn y.failing.broken.spans.items t))
+                (sym cut.cut.no) (record {
+                  has = λ t l o. s.no.has t l (elim o [ inl u ↦ inl (m.never.only t u).0 | inr u ↦ inr (m.broken.only t u).0 ]);
+                  only = λ t o. let u = s.no.only t o in let w = begun t (subst (λ z. Lies z t) was.no u.0) in (
+                    u.0,
+                    elim u.1 [ inl j ↦ inl (in_never t w j) | inr j ↦ inr (in_broken t w j) ],
+                  );
+                });
           },
         )
 
@@ -227,7 +249,8 @@ module _ (nodes : List Node) (formed : AreWellFormed nodes) (tr : Trace) (live l
   unit_of (Some x) = tt
 
   reach_parts : MatchOption cut.is.parts (Unit {0}) (ReachesBack (start tr) (Some b) was.own)
-  reach_parts = by_parts (λ x. Unit {0}) (ReachesBack (start tr) (Some b) was.own) (λ x y k m r e u. reach_cut x y k m r e) (Unit {0}) cut.was.parts cut.is.parts cut.cut.parts
+  reach_parts = by_parts (λ x. Unit {0}) (ReachesBack (start tr) (Some b) was.own) (λ x y k m r e u. reach_cut x y k m r e)
+      (Unit {0}) cut.was.parts cut.is.parts cut.cut.parts
       was.looks.1 fail_bounds (unit_of cut.was.parts)
 
   is_some : IsSome cut.is.parts
@@ -252,13 +275,16 @@ module _ (nodes : List Node) (formed : AreWellFormed nodes) (tr : Trace) (live l
 
   mine : (w x : Sets) → slice_get old i ≡ Some w → slice_get new i ≡ Some x → IsLess w x → IsLive (start tr) new (Since p q a (Some b)) cut.is x
   mine w x e f fewer =
-      live_by nodes formed tr live left old new i (Since p q a (Some b)) at cut.was cut.is cut.at_old cut.at_new cut.others cut.count less (two_others p q d old mid new h g) st
-      (Since p q a (Some b)) cut.was cut.is own_shown.0 x cut.cut.yes cut.cut.no (subst (λ z. IsLess z x) (same_sets w own_shown.0 (sym e ∙ own_shown.1)) fewer) was
+      live_by nodes formed tr live left old new i (Since p q a (Some b)) at cut.was cut.is cut.at_old cut.at_new cut.others
+      cut.count less (two_others p q d old mid new h g) st
+      (Since p q a (Some b)) cut.was cut.is own_shown.0 x cut.cut.yes cut.cut.no
+      (subst (λ z. IsLess z x) (same_sets w own_shown.0 (sym e ∙ own_shown.1)) fewer) was
       (looks_still, reach_parts) (is_some, still_fails)
 
   fits : SinceFits tr a (Some b) (lists_at new p) (lists_at new q) cut.is
   fits = by_parts (HoldAndFail tr a b (lists_at old p) (lists_at old q) cut.was) (HoldAndFail tr a b (lists_at new p) (lists_at new q) cut.is)
-      (λ x y k m r e n. parts_fit x y k m r e n) ⊥ cut.was.parts cut.is.parts cut.cut.parts was.looks.1 fail_bounds (st.fit i (Since p q a (Some b)) cut.was at cut.at_old)
+      (λ x y k m r e n. parts_fit x y k m r e n) ⊥ cut.was.parts cut.is.parts cut.cut.parts was.looks.1 fail_bounds
+      (st.fit i (Since p q a (Some b)) cut.was at cut.at_old)
 
   tidy : AreSetsTidy cut.is
   tidy =
@@ -266,7 +292,8 @@ module _ (nodes : List Node) (formed : AreWellFormed nodes) (tr : Trace) (live l
       record {
         yes = subst (λ (g : Grown). IsTidy g) (sym cut.cut.yes) n.yes;
         no = subst (λ (g : Grown). IsTidy g) (sym cut.cut.no) n.no;
-        parts = by_parts ArePartsTidy ArePartsTidy (λ x y k m r e u. parts_tidy x y k m r e) (Unit {0}) cut.was.parts cut.is.parts cut.cut.parts was.looks.1 fail_bounds n.parts;
+        parts = by_parts ArePartsTidy ArePartsTidy (λ x y k m r e u. parts_tidy x y k m r e)
+            (Unit {0}) cut.was.parts cut.is.parts cut.cut.parts was.looks.1 fail_bounds n.parts;
       }
 
   pub since_stands : NetStands nodes tr left new

@@ -22,7 +22,7 @@ use Rattle.early_verdict.specs.declared.sets.Sets.{Sets}
 use Rattle.early_verdict.specs.declared.sets.Parts.{Parts}
 use Rattle.early_verdict.proofs.AllSets.{lists_are, sets_at}
 use Rattle.early_verdict.proofs.Childhood.{child_below}
-use Rattle.early_verdict.proofs.Narrowing.{live_by, one_stands, shown_inside}
+use Rattle.early_verdict.proofs.Narrowing.{live_by, one_stands, shown_begun, shown_inside}
 use Rattle.early_verdict.proofs.PlaceLemmas.{between}
 use Rattle.early_verdict.proofs.Places.{get_within, same_sets}
 use Rattle.early_verdict.proofs.StretchLemmas.{rises}
@@ -219,7 +219,7 @@ module _ (nodes : List Node) (formed : AreWellFormed nodes) (tr : Trace) (live l
   mine w x e f less =
       live_by nodes formed tr live left old new i (Until p q a b) at cut.was cut.is cut.at_old cut.at_new cut.others cut.count asked.less asked.others st (Until p q a b)
       cut.was cut.is own_shown.0 x cut.cut.yes cut.cut.no (subst (λ z. IsLess z x) (same_sets w own_shown.0 (sym e ∙ own_shown.1)) less) was
-      ((asked.looks (start tr) was.own cut.was.parts begun was.looks).0, reach_parts) (is_some, still_fails)
+      ((asked.looks (start tr) was.own cut.was.parts (shown_begun nodes tr live old st) begun was.looks).0, reach_parts) (is_some, still_fails)
 
   fits : UntilFits false tr a b (lists_at new p) (lists_at new q) cut.is
   fits = by_parts

@@ -29,12 +29,14 @@ returns-clause-fits c = λ old tr p q a b is is_down h hp hq was.
     (since_run e tr old h p q a b w u is is_down x was none none_q from_q)) in
     record {
       both = both;
-      run = subst (λ s. Says c.reach_back.new.self (GoesBackBy x.carried (place s.from) P.yes.spans.items c.both.new.self.spans.items)) (sym c.in_ok-reach_back.ensures.bounds) run;
+      run = subst (λ s. Says c.reach_back.new.self (GoesBackBy x.carried (place s.from) P.yes.spans.items c.both.new.self.spans.items))
+          (sym c.in_ok-reach_back.ensures.bounds) run;
       some = says_of c.some.new.self x.some.bounds (SomeBehind tr a b true true (IsOn Q.yes.spans.items)) c.in_ok-some.ensures.bounds
           (one_says w a b true true is tr Q.yes.spans.items (yes_after old tr q Q hq) x.some.bounds c.some.new.self.spans.items
           (c.in_ok-some.ensures.tells q.yes hq.lists.yes (since_some e tr old h p q a b w u is is_down x was none none_q from_q)));
       each = back_says u 0 (Some a) true true is_down tr (place e.start) h.starts c.reach_back.new.self.spans.items
           c.each_open.new.own.bounds c.each_open.new.own.spans.items
-          (c.in_ok-each_open.ensures.tells old tr x.run.spans.items h c.in_ok-reach_back.ensures.gains (since_no_run e tr old h p q a b w u is is_down x was none none_q from_q)
+          (c.in_ok-each_open.ensures.tells old tr x.run.spans.items h c.in_ok-reach_back.ensures.gains
+          (since_no_run e tr old h p q a b w u is is_down x was none none_q from_q)
           (since_each e tr old h p q a b w u is is_down x was none none_q from_q));
     }

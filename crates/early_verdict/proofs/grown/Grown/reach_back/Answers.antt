@@ -22,7 +22,8 @@ returns-clause-gains c =
     let f = subst (λ xs. Grows own.bounds own.spans.items first.spans.items told first.fresh.items (BySome (ReachedAt z x) xs)) c.deref.ensures.value
     c.in_ok-add_all_reached.ensures.ok in
     let g = grown_then own first second told (BySome (ReachedAt z x) fx) (BySome (ReachedAt z x) fz) c.add_all_reached.ensures.bounds f
-    (subst (λ xs. Grows first.bounds first.spans.items second.spans.items first.fresh.items second.fresh.items (BySome (ReachedAt z x) xs)) c.deref-2.ensures.value
+    (subst (λ xs. Grows first.bounds first.spans.items second.spans.items first.fresh.items second.fresh.items (BySome (ReachedAt z x) xs))
+    c.deref-2.ensures.value
     c.in_ok-add_all_reached-2.ensures.ok) in
     let is = c.add_all_reached-2.ensures.bounds ∙ c.add_all_reached.ensures.bounds in
     on_good c.add_carried.result c.add_carried.ensures.ok
@@ -44,11 +45,13 @@ returns-clause-tells c =
     let f = subst (λ xs. Grows own.bounds own.spans.items first.spans.items told first.fresh.items (BySome (ReachedAt z x) xs)) c.deref.ensures.value
     c.in_ok-add_all_reached.ensures.ok in
     let g = grown_then own first second told (BySome (ReachedAt z x) fx) (BySome (ReachedAt z x) fz) c.add_all_reached.ensures.bounds f
-    (subst (λ xs. Grows first.bounds first.spans.items second.spans.items first.fresh.items second.fresh.items (BySome (ReachedAt z x) xs)) c.deref-2.ensures.value
+    (subst (λ xs. Grows first.bounds first.spans.items second.spans.items first.fresh.items second.fresh.items (BySome (ReachedAt z x) xs))
+    c.deref-2.ensures.value
     c.in_ok-add_all_reached-2.ensures.ok) in
     let is = c.add_all_reached-2.ensures.bounds ∙ c.add_all_reached.ensures.bounds in
     on_good c.add_carried.result c.add_carried.ensures.ok
     (λ k y v gz gx inside t. back_tells y z fz v x fx gz gx c.requires.runs inside own.bounds own.spans.items new.spans.items told new.fresh.items
     c.args.carried (place own.bounds.from) t
-    (subst (λ s. Grows own.bounds own.spans.items new.spans.items told new.fresh.items (λ w. ReachedNew z fz x fx w ⊎ IsCarried c.args.carried (place s.from) z w)) is
+    (subst (λ s. Grows own.bounds own.spans.items new.spans.items told new.fresh.items
+    (λ w. ReachedNew z fz x fx w ⊎ IsCarried c.args.carried (place s.from) z w)) is
     (grown_then own second new told (ReachedNew z fz x fx) (IsCarried c.args.carried (place second.bounds.from) z) is g k)))
