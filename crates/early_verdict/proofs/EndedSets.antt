@@ -20,7 +20,7 @@ use Rattle.early_verdict.specs.declared.stretch.Stretch.{Stretch}
 use Rattle.early_verdict.specs.declared.sets.Sets.{Sets}
 use Rattle.early_verdict.proofs.Gaps.{covers, decided_on}
 use Rattle.early_verdict.proofs.Failures.{at_time, past_time}
-use Rattle.early_verdict.proofs.SinceSets.{none_later}
+use Rattle.early_verdict.proofs.SinceSets.{along, none_later}
 use Rattle.early_verdict.proofs.Settling.{until_fits, since_fits}
 
 -- up to the last row the lists tell the truth at each time that is asked
@@ -204,9 +204,9 @@ module _ (tr : Trace) (own : Stretch) (s : Sets) (is_yes : s.yes.bounds ≡ own)
         ])
         (λ t l e. one_side (SinceHolds tr x y (IsOn (at p).yes) (IsOn (at q).yes)) (SinceFails tr x y (IsOn (at p).no) (IsOn (at q).no)) b t l
         (λ n u d. let ut = none_later u t x d.ends in let us = le_trans ut e in
-        elim (m.all u (a.0 t u l d.after ut).1 us) [
+        elim (m.all u (a.0 t u l (along (start tr) x y t u u d (le_refl u) ut)).1 us) [
           | inr z ↦ inl z
-          | inl z ↦ elim (broken p c.0 u t (λ v w. (a.0 t v l (le_trans d.after w.above) w.below).0) e) [
+          | inl z ↦ elim (broken p c.0 u t (λ v w. (a.0 t v l (along (start tr) x y t u v d w.above w.below)).0) e) [
             | inl all ↦ absurd (n (u, d, (d.after, inl us), z, all))
             | inr g ↦ inr g
           ]

@@ -178,13 +178,13 @@ asked_not p from old new h = record {
 }
 
 module _ (p q : ℕ) (from : Rational) (old mid new : List Sets) (h : IsAskedFrom p from old mid) (g : IsAskedFrom q from mid new) where
-  two_less : AreLess old new
+  pub two_less : AreLess old new
   two_less = both_less old mid new (one_less p from old mid h) (one_less q from mid new g)
 
-  two_others : (r : ℕ) → ¬ ((p ≡ r) ⊎ (q ≡ r)) → slice_get new r ≡ slice_get old r
+  pub two_others : (r : ℕ) → ¬ ((p ≡ r) ⊎ (q ≡ r)) → slice_get new r ≡ slice_get old r
   two_others r c = g.others r (λ e. c (inr (sym e))) ∙ h.others r (λ e. c (inl (sym e)))
 
-  both_shown : (r : ℕ) (t : Rational) → from ≤ʳ t → IsShown old r t → IsShown new r t
+  pub both_shown : (r : ℕ) (t : Rational) → from ≤ʳ t → IsShown old r t → IsShown new r t
   both_shown r t f l = still_shown q from mid new g r t (λ d. f) (still_shown p from old mid h r t (λ d. f) l)
 
   pub asked_and : AreAskedBy (And p q) from old new
@@ -214,8 +214,9 @@ module _ (p q : ℕ) (from : Rational) (old mid new : List Sets) (h : IsAskedFro
     looks = λ s own parts f l t o. let k = l t o in (both_shown p t (f t o) k.0, both_shown q t (f t o) k.1);
   }
 
-  until_cut : (r : ℕ) (w x : Sets) → (p ≡ r) ⊎ (q ≡ r) → slice_get old r ≡ Some w → slice_get new r ≡ Some x → ShowsFrom from w x
-  until_cut r w x c e f =
+  -- both show the times from there on
+  pub two_shows : (r : ℕ) (w x : Sets) → (p ≡ r) ⊎ (q ≡ r) → slice_get old r ≡ Some w → slice_get new r ≡ Some x → ShowsFrom from w x
+  two_shows r w x c e f =
       let y = (one_less q from mid new g).each r x f in
       by_mid y.0 y.1 y.2
     where
@@ -238,7 +239,7 @@ module _ (p q : ℕ) (from : Rational) (old mid new : List Sets) (h : IsAskedFro
     less = two_less;
     others = two_others;
     run = λ r. absurd r;
-    cut = λ u r w x c e f. until_cut r w x c e f;
+    cut = λ u r w x c e f. two_shows r w x c e f;
     looks = λ s own parts f l. (
       λ t u o d e. let k = l.0 t u o d e in (both_shown p u (le_trans (f t o) d) k.0, both_shown q u (le_trans (f t o) d) k.1),
       l.1,
@@ -353,9 +354,9 @@ shows_at live sets front back i d own s e f h is k = record {
   shown = k;
 }
 
-pub run_cut_at : (sets front back : List Sets) (i : ℕ) (d own : Sets) (from : Rational) (wide : Stretch) → front ≡ take i sets → back ≡ drop i sets → i < length sets
-    → IsRunCut from wide (slice_index_or back 0 d) own → IsRunCutAt i from wide sets (front ++ slice_set back 0 own)
-run_cut_at sets front back i d own from wide e f h k = record {
+pub run_cut_at : (sets front back : List Sets) (i : ℕ) (d own : Sets) (first from : Rational) (wide : Stretch) → front ≡ take i sets → back ≡ drop i sets → i < length sets
+    → IsRunCut first from wide (slice_index_or back 0 d) own → IsRunCutAt i first from wide sets (front ++ slice_set back 0 own)
+run_cut_at sets front back i d own first from wide e f h k = record {
   was = slice_index_or back 0 d;
   is = own;
   at_old = at_split sets back i d f h;

@@ -53,3 +53,6 @@ mod LettingLemmas
 mod Narrowing
 mod UntilCuts
 mod UntilStands
+mod CarriedRuns
+mod SinceCuts
+mod SinceStands

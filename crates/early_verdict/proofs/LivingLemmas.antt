@@ -32,15 +32,15 @@ module _ (from : Rational) (own own' : Stretch) (less : (t : Rational) → Lies 
     fail = λ t u l f g. let k = h.fail t u (less t l) f g in (in_same x.failing.fail.bounds y.failing.fail.bounds u e.failing.fail k.0, in_same x.failing.stop.bounds y.failing.stop.bounds u e.failing.stop k.1);
   }
 
-  back_parts : (old new : Option Parts) → ArePartsKept old new → MatchOption old (Unit {0}) (ReachesBack from own)
-      → MatchOption new (Unit {0}) (ReachesBack from own')
-  back_parts None new e h = subst (λ o. MatchOption o (Unit {0}) (ReachesBack from own')) (sym e) tt
-  back_parts (Some x) None e h = absurd e
-  back_parts (Some x) (Some y) e h = record {
+  back_parts : (b : Option ℕ) (old new : Option Parts) → ArePartsKept old new → MatchOption old (Unit {0}) (ReachesBack from b own)
+      → MatchOption new (Unit {0}) (ReachesBack from b own')
+  back_parts b None new e h = subst (λ o. MatchOption o (Unit {0}) (ReachesBack from b own')) (sym e) tt
+  back_parts b (Some x) None e h = absurd e
+  back_parts b (Some x) (Some y) e h = record {
     some = λ t l. let k = h.some t (less t l) in (in_same x.holding.some.bounds y.holding.some.bounds t e.holding.some k.0, in_same x.holding.each.bounds y.holding.each.bounds t e.holding.each k.1);
     never = λ t l. let k = h.never t (less t l) in (in_same x.failing.never.bounds y.failing.never.bounds t e.failing.never k.0, in_same x.failing.broken.bounds y.failing.broken.bounds t e.failing.broken k.1);
-    both = λ t u l f g. let k = h.both t u (less t l) f g in (in_same x.holding.both.bounds y.holding.both.bounds u e.holding.both k.0, in_same x.holding.run.bounds y.holding.run.bounds u e.holding.run k.1);
-    fail = λ t u l f g. let k = h.fail t u (less t l) f g in (in_same x.failing.fail.bounds y.failing.fail.bounds u e.failing.fail k.0, in_same x.failing.stop.bounds y.failing.stop.bounds u e.failing.stop k.1);
+    both = λ t u l o. let k = h.both t u (less t l) o in (in_same x.holding.both.bounds y.holding.both.bounds u e.holding.both k.0, in_same x.holding.run.bounds y.holding.run.bounds u e.holding.run k.1);
+    fail = λ t u l o. let k = h.fail t u (less t l) o in (in_same x.failing.fail.bounds y.failing.fail.bounds u e.failing.fail k.0, in_same x.failing.stop.bounds y.failing.stop.bounds u e.failing.stop k.1);
   }
 
   -- a node that goes on from fewer times looks at no more
@@ -55,7 +55,7 @@ module _ (from : Rational) (own own' : Stretch) (less : (t : Rational) → Lies 
   looks_as (Until p q a b) shown shown' old new f e h = (λ t u l c d. let k = h.0 t u (less t l) c d in (f p (inl refl) u k.0, f q (inr refl) u k.1), ahead_parts b old new e h.1)
   looks_as (Eventually p a b i j) shown shown' old new f e h = λ t u l o. f p refl u (h t u (less t l) o)
   looks_as (Always p a b i j) shown shown' old new f e h = λ t u l o. f p refl u (h t u (less t l) o)
-  looks_as (Since p q a b) shown shown' old new f e h = (λ t u l c d. let k = h.0 t u (less t l) c d in (f p (inl refl) u k.0, f q (inr refl) u k.1), back_parts old new e h.1)
+  looks_as (Since p q a b) shown shown' old new f e h = (λ t u l o. let k = h.0 t u (less t l) o in (f p (inl refl) u k.0, f q (inr refl) u k.1), back_parts b old new e h.1)
   looks_as (Once p a b i j) shown shown' old new f e h = λ t u l o. f p refl u (h t u (less t l) o)
   looks_as (Historically p a b i j) shown shown' old new f e h = λ t u l o. f p refl u (h t u (less t l) o)
 

@@ -273,10 +273,10 @@ shown_as xs ys p u e h = let x = sets_at xs p (shown_within xs p u h) in is_show
 -- the children of one node show fewer times, and its own sets go on to fit them
 module _ (nodes : List Node) (formed : AreWellFormed nodes) (tr : Trace) (live left old new : List Sets) (i : ℕ) (n : Node) (at : slice_get nodes i ≡ Some n) (s r : Sets)
     (is : slice_get live i ≡ Some s) (ir : slice_get left i ≡ Some r) (same : (j : ℕ) → j ≢ i → slice_get left j ≡ slice_get live j) (count : length left ≡ length live)
-    (from : Rational) (asked : AreAskedBy n from old new) (st : NetStands nodes tr live old) where
+    (less : AreLess old new) (others : (p : ℕ) → ¬ (IsChild p n) → slice_get new p ≡ slice_get old p) (st : NetStands nodes tr live old) where
   -- what is shown at a place now, and was
   was_shown : (p : ℕ) (x : Sets) → slice_get new p ≡ Some x → (w : Sets) × (slice_get old p ≡ Some w) × IsLess w x
-  was_shown = asked.less.each
+  was_shown = less.each
 
   pub agree : (p : ℕ) → Known (IsShown new p) (lists_at new p) (IsOn (lists_at old p).yes) (IsOn (lists_at old p).no)
   agree p = elim (at_or_not new p) [
@@ -306,7 +306,7 @@ module _ (nodes : List Node) (formed : AreWellFormed nodes) (tr : Trace) (live l
 
   -- a child of another node shows what it did
   not_its : (j p : ℕ) (m : Node) → j ≢ i → slice_get nodes j ≡ Some m → IsChild p m → slice_get new p ≡ slice_get old p
-  not_its j p m d here c = asked.others p (λ e. one_parent nodes formed.post_order j i p m n d here at c e)
+  not_its j p m d here c = others p (λ e. one_parent nodes formed.post_order j i p m n d here at c e)
 
   -- a node is live by what it was, where it looks at its children still and has its sets between
   pub live_by : (m : Node) (v v' w x : Sets) → v'.yes ≡ v.yes → v'.no ≡ v.no → IsLess w x → (k : IsLive (start tr) old m v w)
@@ -371,7 +371,7 @@ module _ (nodes : List Node) (formed : AreWellFormed nodes) (tr : Trace) (live l
     one_stands = record {
       have = record {
         count = count ∙ st.have.count;
-        shown_count = asked.less.count ∙ st.have.shown_count;
+        shown_count = less.count ∙ st.have.shown_count;
         has = λ j m v x here iv ix. live_one j m v here iv x ix;
       };
       tidy = tidy_one;
@@ -385,7 +385,7 @@ module _ (nodes : List Node) (formed : AreWellFormed nodes) (tr : Trace) (live l
       };
       root = elim (child_or_not (length nodes - 1) n) [
         | inl c ↦ absurd (let a = child_below i (length nodes - 1) n (placed nodes i n formed.post_order at) c in let b = get_within live i s is in let d = st.have.count in omega (arith, a, b, d))
-        | inr c ↦ shown_as old new (length nodes - 1) (start tr) (asked.others (length nodes - 1) c) st.root
+        | inr c ↦ shown_as old new (length nodes - 1) (start tr) (others (length nodes - 1) c) st.root
       ];
     }
 
@@ -399,7 +399,7 @@ module _ (nodes : List Node) (formed : AreWellFormed nodes) (tr : Trace) (live o
   mine : (w x : Sets) → slice_get old i ≡ Some w → slice_get new i ≡ Some x → IsLess w x → IsLive (start tr) new n s x
   mine w x e f less =
       let k = st.have.has i n s w at is e in
-      live_by nodes formed tr live live old new i n at s s is is (λ j d. refl) refl from asked st n s s w x refl refl less k
+      live_by nodes formed tr live live old new i n at s s is is (λ j d. refl) refl asked.less asked.others st n s s w x refl refl less k
       (asked.looks (start tr) k.own s.parts (begun k.own k.no) k.looks)
       (parts_as n s s old new (parts_kept s.parts s.parts refl)
       (λ p l' g z. (l', subst (λ xs. slice_get xs p ≡ Some l') (asked.run (run_of_left n plain p g)) z, refl)) k.left)
@@ -412,12 +412,12 @@ module _ (nodes : List Node) (formed : AreWellFormed nodes) (tr : Trace) (live o
     | inl h ↦ subst (λ xs. Fits n false tr (lists_at xs) s) (sym (asked.run h)) (st.fit i n s at is)
     | inr h ↦
         let k = st.have.has i n s shown_i.0 at is shown_i.1 in
-        fits_local tr k.own s k.yes k.no old new (agree nodes formed tr live live old new i n at s s is is (λ j d. refl) refl from asked st) n h plain
+        fits_local tr k.own s k.yes k.no old new (agree nodes formed tr live live old new i n at s s is is (λ j d. refl) refl asked.less asked.others st) n h plain
         (asked.looks (start tr) k.own s.parts (begun k.own k.no) k.looks) (st.fit i n s at is)
   ]
 
   pub asked_stands : NetStands nodes tr live new
-  asked_stands = one_stands nodes formed tr live live old new i n at s s is is (λ j d. refl) refl from asked st mine fits (st.tidy i s is)
+  asked_stands = one_stands nodes formed tr live live old new i n at s s is is (λ j d. refl) refl asked.less asked.others st mine fits (st.tidy i s is)
 
 -- what stands lies within its bounds
 module _ (nodes : List Node) (tr : Trace) (live shown : List Sets) (st : NetStands nodes tr live shown) where

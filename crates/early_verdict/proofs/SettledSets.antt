@@ -1,7 +1,7 @@
 -- Sets that fit tell what rows settle.
 use Rattle.std.proofs.Common.{◌≡◌, ◌⊎◌, inl, inr, subst, ℕ, ◌<◌, Bool, true, false, Option, List}
 use Rattle.rational.specs.Time.{Rational, Within, later, ◌≤ʳ◌}
-use Rattle.rational.proofs.Order.{le_trans}
+use Rattle.rational.proofs.Order.{le_refl, le_trans}
 use Rattle.rational.proofs.TimeLemmas.{later_from}
 use Rattle.stl_syntax.specs.Trace.{Trace, start}
 use Rattle.stl_syntax.specs.Formula.{Subformula, tree_of, HasChildrenBelow}
@@ -16,7 +16,7 @@ use Rattle.early_verdict.specs.Living.{IsShown, Known, LooksAt}
 use Rattle.early_verdict.specs.declared.stretch.Stretch.{Stretch}
 use Rattle.early_verdict.specs.declared.sets.Sets.{Sets}
 use Rattle.early_verdict.proofs.Telling.{tells_alike}
-use Rattle.early_verdict.proofs.SinceSets.{none_later}
+use Rattle.early_verdict.proofs.SinceSets.{along, none_later}
 use Rattle.early_verdict.proofs.Settling.{until_fits, since_fits}
 
 module _ (tr : Trace) (own : Stretch) (s : Sets) (is_yes : s.yes.bounds ≡ own) (is_no : s.no.bounds ≡ own)
@@ -75,23 +75,23 @@ module _ (tr : Trace) (own : Stretch) (s : Sets) (is_yes : s.yes.bounds ≡ own)
       | inr (v, w, x) ↦ inr (v, w, f v (far t v l w.above (le_trans w.below o.ends)).0 x)
     ]
 
-    since_true : (p q a : ℕ) (b : Option ℕ) → ((t u : Rational) → Lies own t → start tr ≤ʳ u → u ≤ʳ t → IsShown shown p u × IsShown shown q u)
+    since_true : (p q a : ℕ) (b : Option ℕ) → ((t u : Rational) → Lies own t → OpenBehind (start tr) 0 b true true t u → IsShown shown p u × IsShown shown q u)
         → (X Y xs ys : Rational → Type 0) → ((u : Rational) → IsShown shown p u → X u → xs u) → ((u : Rational) → IsShown shown q u → Y u → ys u)
         → (t : Rational) → Lies own t → SinceHolds tr a b X Y t → SinceHolds tr a b xs ys t
     since_true p q a b far X Y xs ys f g t l (u, o, c, y, z) = (
       u,
       o,
       c,
-      g u (far t u l o.after (none_later u t a o.ends)).1 y,
-      λ v w. f v (far t v l (le_trans o.after w.above) w.below).0 (z v w),
+      g u (far t u l (along (start tr) a b t u u o (le_refl u) (none_later u t a o.ends))).1 y,
+      λ v w. f v (far t v l (along (start tr) a b t u v o w.above w.below)).0 (z v w),
     )
 
-    since_false : (p q a : ℕ) (b : Option ℕ) → ((t u : Rational) → Lies own t → start tr ≤ʳ u → u ≤ʳ t → IsShown shown p u × IsShown shown q u)
+    since_false : (p q a : ℕ) (b : Option ℕ) → ((t u : Rational) → Lies own t → OpenBehind (start tr) 0 b true true t u → IsShown shown p u × IsShown shown q u)
         → (X Y xs ys : Rational → Type 0) → ((u : Rational) → IsShown shown p u → X u → xs u) → ((u : Rational) → IsShown shown q u → Y u → ys u)
         → (t : Rational) → Lies own t → SinceFails tr a b X Y t → SinceFails tr a b xs ys t
     since_false p q a b far X Y xs ys f g t l h u o = elim (h u o) [
-      | inl y ↦ inl (g u (far t u l o.after (none_later u t a o.ends)).1 y)
-      | inr (v, w, x) ↦ inr (v, w, f v (far t v l (le_trans o.after w.above) w.below).0 x)
+      | inl y ↦ inl (g u (far t u l (along (start tr) a b t u u o (le_refl u) (none_later u t a o.ends))).1 y)
+      | inr (v, w, x) ↦ inr (v, w, f v (far t v l (along (start tr) a b t u v o w.above w.below)).0 x)
     ]
 
     -- a node's sets that fit tell what is settled of it

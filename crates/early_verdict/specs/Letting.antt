@@ -1,10 +1,11 @@
 -- What nodes show and go on from, once they let go of times.
-use Rattle.std.specs.Prelude.{◌≡◌, ◌≢◌, ◌⊎◌, ℕ, Option, Some, None, MatchOption, List, length, slice_get}
+use Rattle.std.specs.Prelude.{◌≡◌, ◌≢◌, ◌⊎◌, ℕ, Bool, IsTrue, IsFalse, Option, Some, None, MatchOption, List, length, slice_get}
 use Rattle.rational.specs.Time.{Rational, ◌≤ʳ◌, ◌<ʳ◌}
 use Rattle.stl_syntax.specs.declared.node.Node.{Node}
 use Rattle.stl_syntax.specs.declared.node.Node.TheVariants.{Const, Atom as Leaf, Not, And, Or, Implies, Until, Eventually, Always, Since, Once, Historically}
 use Rattle.early_verdict.specs.Cuts.{place, AtMost, Upto}
-use Rattle.early_verdict.specs.Spans.{IsOn, Lies}
+use Rattle.early_verdict.specs.Spans.{IsAmong, IsOn, Lies}
+use Rattle.early_verdict.specs.Steps.{HoldsFrom}
 use Rattle.early_verdict.specs.Fitting.{AreSetsTidy, IsTidy}
 use Rattle.early_verdict.specs.Living.{IsNarrowed, LooksAt}
 use Rattle.early_verdict.specs.declared.stretch.Stretch.{Stretch}
@@ -73,23 +74,36 @@ pub record IsCutTo (bounds : Stretch) (old new : Grown) : Type 0 where
   pub has : (t : Rational) → Lies bounds t → IsOn old.spans.items t → IsOn new.spans.items t
   pub only : (t : Rational) → IsOn new.spans.items t → IsOn old.spans.items t × Lies bounds t
 
--- so do the sets between until's and those of its operands; its failures as far as the left one shows times
-pub record IsHoldingCut (from : Rational) (old new : Holding) : Type 0 where
-  pub both : IsCutAt from old.both new.both
-  pub run : IsCutAt from old.run new.run
+-- whether the set has the first times of its bounds
+pub record BeginsAtOnce (begins : Bool) (x : Grown) : Type 0 where
+  pub yes : IsTrue begins → (s : Stretch) × IsAmong s x.spans.items × HoldsFrom s (place x.bounds.from)
+  pub no : IsFalse begins → (s : Stretch) → IsAmong s x.spans.items → ¬ (HoldsFrom s (place x.bounds.from))
+
+-- so do the sets between those of until or since and those of its operands: the ones that its windows look at from one time on, those of its
+-- operands from the first, and its failures as far as the left one shows times
+pub record IsHoldingCut (first from : Rational) (old new : Holding) : Type 0 where
+  pub both : IsCutAt first old.both new.both
+  pub run : IsCutAt first old.run new.run
   pub some : IsCutAt from old.some new.some
   pub each : IsCutAt from old.each new.each
+  pub carried : BeginsAtOnce new.carried new.run
 
 pub record IsFailingCut (from : Rational) (wide : Stretch) (old new : Failing) : Type 0 where
   pub fail : IsCutTo wide old.fail new.fail
   pub stop : IsCutTo wide old.stop new.stop
   pub never : IsCutAt from old.never new.never
   pub broken : IsCutAt from old.broken new.broken
+  pub carried : BeginsAtOnce new.carried new.stop
 
-pub record IsRunCut (from : Rational) (wide : Stretch) (old new : Sets) : Type 0 where
+-- of both or of none
+abbrev pub ArePartsCut : Rational → Rational → Stretch → Option Parts → Option Parts → Type 0
+ArePartsCut first from wide old new =
+    MatchOption old (new ≡ None) (λ x. MatchOption new ⊥ (λ y. IsHoldingCut first from x.holding y.holding × IsFailingCut from wide x.failing y.failing))
+
+pub record IsRunCut (first from : Rational) (wide : Stretch) (old new : Sets) : Type 0 where
   pub yes : new.yes ≡ old.yes
   pub no : new.no ≡ old.no
-  pub parts : MatchOption old.parts (new.parts ≡ None) (λ x. MatchOption new.parts ⊥ (λ y. IsHoldingCut from x.holding y.holding × IsFailingCut from wide x.failing y.failing))
+  pub parts : ArePartsCut first from wide old.parts new.parts
 
 -- the times of the sets between lie within their bounds
 abbrev pub IsGrownInside : Grown → Type 0
@@ -111,14 +125,14 @@ abbrev pub ArePartsInside : Stretch → Sets → Type 0
 ArePartsInside wide s = MatchOption s.parts (Unit {0}) (λ x. IsHoldingInside x.holding × IsFailingInside wide x.failing)
 
 -- so the node at a place
-pub record IsRunCutAt (i : ℕ) (from : Rational) (wide : Stretch) (old new : List Sets) : Type 0 where
+pub record IsRunCutAt (i : ℕ) (first from : Rational) (wide : Stretch) (old new : List Sets) : Type 0 where
   pub was : Sets
   pub is : Sets
   pub at_old : slice_get old i ≡ Some was
   pub at_new : slice_get new i ≡ Some is
   pub others : (j : ℕ) → j ≢ i → slice_get new j ≡ slice_get old j
   pub count : length new ≡ length old
-  pub cut : IsRunCut from wide was is
+  pub cut : IsRunCut first from wide was is
 
 -- sets that show fewer times
 pub record IsLess (old new : Sets) : Type 0 where

@@ -1,5 +1,5 @@
 -- The sets of a net: what each node goes on from, and what it shows the node above it; both only from the times on that are still needed.
-use Rattle.std.specs.Prelude.{◌≡◌, ◌⊎◌, ℕ, zero, suc, ◌-◌, ◌<◌, ◌≤◌, ◌≢◌, false, Option, Some, None, List, [], ◌∷◌, length, MatchOption, slice_get}
+use Rattle.std.specs.Prelude.{◌≡◌, ◌⊎◌, ℕ, zero, suc, ◌-◌, ◌<◌, ◌≤◌, ◌≢◌, true, false, Option, Some, None, List, [], ◌∷◌, length, MatchOption, slice_get}
 use Rattle.rational.specs.Time.{Rational, later, ◌≤ʳ◌}
 use Rattle.stl_syntax.specs.Trace.{Row, Trace, start}
 use Rattle.stl_syntax.specs.Formula.{subformula}
@@ -31,11 +31,11 @@ pub record ReachesAhead (from : Rational) (b : ℕ) (own : Stretch) (x : Parts) 
   pub both : (t u : Rational) → Lies own t → t ≤ʳ u → u ≤ʳ later t b → Lies x.holding.both.bounds u × Lies x.holding.run.bounds u
   pub fail : (t u : Rational) → Lies own t → t ≤ʳ u → u ≤ʳ later t b → Lies x.failing.fail.bounds u × Lies x.failing.stop.bounds u
 
-pub record ReachesBack (from : Rational) (own : Stretch) (x : Parts) : Type 0 where
+pub record ReachesBack (from : Rational) (b : Option ℕ) (own : Stretch) (x : Parts) : Type 0 where
   pub some : (t : Rational) → Lies own t → Lies x.holding.some.bounds t × Lies x.holding.each.bounds t
   pub never : (t : Rational) → Lies own t → Lies x.failing.never.bounds t × Lies x.failing.broken.bounds t
-  pub both : (t u : Rational) → Lies own t → from ≤ʳ u → u ≤ʳ t → Lies x.holding.both.bounds u × Lies x.holding.run.bounds u
-  pub fail : (t u : Rational) → Lies own t → from ≤ʳ u → u ≤ʳ t → Lies x.failing.fail.bounds u × Lies x.failing.stop.bounds u
+  pub both : (t u : Rational) → Lies own t → OpenBehind from 0 b true true t u → Lies x.holding.both.bounds u × Lies x.holding.run.bounds u
+  pub fail : (t u : Rational) → Lies own t → OpenBehind from 0 b true true t u → Lies x.failing.fail.bounds u × Lies x.failing.stop.bounds u
 
 -- whatever the node looks at from one of its own times its children show
 abbrev pub LooksAt : Node → Rational → List Sets → Stretch → Option Parts → Type 0
@@ -51,8 +51,8 @@ LooksAt (Until p q a b) from shown own parts =
 LooksAt (Eventually p a b a_in b_in) from shown own parts = (t u : Rational) → Lies own t → OpenAhead from a b a_in b_in t u → IsShown shown p u
 LooksAt (Always p a b a_in b_in) from shown own parts = (t u : Rational) → Lies own t → OpenAhead from a b a_in b_in t u → IsShown shown p u
 LooksAt (Since p q a b) from shown own parts =
-    ((t u : Rational) → Lies own t → from ≤ʳ u → u ≤ʳ t → IsShown shown p u × IsShown shown q u)
-    × MatchOption parts (Unit {0}) (ReachesBack from own)
+    ((t u : Rational) → Lies own t → OpenBehind from 0 b true true t u → IsShown shown p u × IsShown shown q u)
+    × MatchOption parts (Unit {0}) (ReachesBack from b own)
 LooksAt (Once p a b a_in b_in) from shown own parts = (t u : Rational) → Lies own t → OpenBehind from a b a_in b_in t u → IsShown shown p u
 LooksAt (Historically p a b a_in b_in) from shown own parts = (t u : Rational) → Lies own t → OpenBehind from a b a_in b_in t u → IsShown shown p u
 

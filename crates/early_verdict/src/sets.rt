@@ -18,6 +18,8 @@ pub(crate) struct Holding {
     pub(crate) some: Grown,
     /// Those from which each time up to the window is one of `run`.
     pub(crate) each: Grown,
+    /// For since, whether `run` is carried on from before its bounds.
+    pub(crate) carried: bool,
 }
 
 /// The sets between that at which it is certainly false and those of its operands.
@@ -31,6 +33,8 @@ pub(crate) struct Failing {
     pub(crate) never: Grown,
     /// Those from which some time up to the window is one of `stop`.
     pub(crate) broken: Grown,
+    /// For since, whether `stop` is carried on from before its bounds.
+    pub(crate) carried: bool,
 }
 
 /// The sets between those of until or since and those of its operands.
@@ -69,12 +73,14 @@ impl Parts {
                 run: Grown::new(alloc, left.yes.bounds()),
                 some: Grown::new(alloc, bounds),
                 each: Grown::new(alloc, bounds),
+                carried: false,
             },
             failing: Failing {
                 fail: Grown::new(alloc, left.no.bounds()),
                 stop: Grown::new(alloc, left.no.bounds()),
                 never: Grown::new(alloc, bounds),
                 broken: Grown::new(alloc, bounds),
+                carried: false,
             },
         }
     }
