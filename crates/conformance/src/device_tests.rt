@@ -1,7 +1,10 @@
-//! Every command over devices of which one call fails, each in turn, and over inputs that end after each byte.
-use crate::run_tests::{Case, Devices, agrees, agrees_so_far, pieces};
+//! Every command over devices of which one call fails, each in turn, that failed before, or that have too little room, and over inputs
+//! that end after each byte.
+use crate::run_tests::{Case, Devices, agrees, agrees_so_far, pieces, sink, strings};
+use io_edge::{MemSource, Sink, Source};
 use std::alloc::Global;
 use std::test::Fail;
+use workbench::{Kept, run};
 
 /// The commands that hold the whole trace: what they write for `x >= 5` on `RISE`, and the status.
 const WHOLE: [(&str, &str, u8); 5] = [
@@ -24,6 +27,16 @@ const WATCHED: &str = "[0,0] false\n(0,5) false\n[5,10] true\nstart false\n";
 /// What `early` writes for it.
 const DECIDED: &str = "decided at 0\nstart false\n";
 
+/// What `rwatch` writes for it: a point for the first row, a gap and a point for the second.
+const MEASURED: &str = "[0] -5\n(0,10) -5 -> 5\n[10] 5\n";
+
+/// The commands that answer as the rows come: what they write for it, and the status.
+const STREAMED: [(&str, &str, u8); 3] = [
+    ("watch", WATCHED, 1),
+    ("early", DECIDED, 1),
+    ("rwatch", MEASURED, 0),
+];
+
 const SUMMARY: &str = "rows 5\ncheck 1\nwatch 2\nstart true\n";
 
 /// Whether a command of `x >= 5` on `RISE` is answered so.
@@ -45,18 +58,19 @@ fn answers(
     agrees(alloc, case, devices)
 }
 
-/// Whether `watch` of it is cut off so, once it has written so many bytes.
-fn is_watched(
+/// Whether a stream of it is cut off so, once it has written so many bytes.
+fn is_streamed(
     alloc: Global,
+    (command, out): (&str, &str),
     err: &str,
     status: u8,
     written: usize,
     devices: Devices,
 ) -> Result<bool, Fail> {
     let case = Case {
-        words: &["watch", "x >= 5"],
+        words: &[command, "x >= 5"],
         input: RISE,
-        out: WATCHED,
+        out,
         err,
         status,
     };
@@ -83,21 +97,30 @@ fn each_read_may_fail(rt: HostRuntime) -> Result<(), Fail> {
     Ok(())
 }
 
-/// A read of four bytes that fails, and how many bytes `watch` has written by then.
-const WATCHED_BY: [(u64, usize); 6] = [(1, 0), (2, 0), (3, 0), (4, 12), (5, 12), (6, 36)];
+/// Of reads of four bytes the one that fails, and how many bytes the three streams have written by then.
+const STREAMED_BY: [(u64, [usize; 3]); 6] = [
+    (1, [0, 0, 0]),
+    (2, [0, 0, 0]),
+    (3, [0, 0, 0]),
+    (4, [12, 25, 7]),
+    (5, [12, 25, 7]),
+    (6, [36, 25, 29]),
+];
 
 #[test]
-fn watch_has_answered_the_rows_before_a_read_that_fails(rt: HostRuntime) -> Result<(), Fail> {
+fn a_stream_has_answered_the_rows_before_a_read_that_fails(rt: HostRuntime) -> Result<(), Fail> {
     let alloc = rt.alloc();
-    for (read_fails, written) in WATCHED_BY {
-        let devices = Devices {
-            read_fails,
-            ..pieces(4)
-        };
-        assert!(rt;
-            is_watched(alloc, "read fault\n", 5, written, devices)?,
-            "read {read_fails}"
-        );
+    for (read_fails, written) in STREAMED_BY {
+        for ((command, out, _), count) in STREAMED.iter().zip(written.iter()) {
+            let devices = Devices {
+                read_fails,
+                ..pieces(4)
+            };
+            assert!(rt;
+                is_streamed(alloc, (command, out), "read fault\n", 5, *count, devices)?,
+                "{command}, read {read_fails}"
+            );
+        }
     }
     Ok(())
 }
@@ -136,6 +159,7 @@ fn each_write_may_fail(rt: HostRuntime) -> Result<(), Fail> {
     }
     assert!(rt; is_cut_off(alloc, &["gen", "3", "5"], SUMMARY)?);
     assert!(rt; is_cut_off(alloc, &["early", "x >= 5"], DECIDED)?);
+    assert!(rt; is_cut_off(alloc, &["rwatch", "x >= 5"], MEASURED)?);
     Ok(())
 }
 
@@ -162,12 +186,121 @@ fn each_write_of_watch_may_fail(rt: HostRuntime) -> Result<(), Fail> {
             ..pieces(4096)
         };
         assert!(rt;
-            is_watched(alloc, "write fault\n", 6, written, devices)?,
+            is_streamed(
+                alloc,
+                ("watch", WATCHED),
+                "write fault\n",
+                6,
+                written,
+                devices
+            )?,
             "write {write_fails}"
         );
     }
     Ok(())
 }
+
+/// A case of which all is written to an output that has room for any of it, and no more.
+const BENCH: Case<'static> = Case {
+    words: &["mux", "x >= 5"],
+    input: "a time,x\na 0,0\na 10,10\n",
+    out: "a [0,0] false\na (0,5) false\na [5,10] true\na start false\n",
+    err: "",
+    status: 0,
+};
+
+/// Whether a case is answered where its text just fits, and cut off where the room is full before.
+fn fits_just(alloc: Global, case: Case<'_>) -> Result<bool, Fail> {
+    let cut_off = Case {
+        err: "write fault\n",
+        status: 6,
+        ..case
+    };
+    let large = pieces(4096);
+    for room in 0..case.out.len() {
+        if !agrees_so_far(alloc, cut_off, Devices { room, ..large }, room)? {
+            return Ok(false);
+        }
+    }
+    let room = case.out.len();
+    agrees(alloc, case, Devices { room, ..large })
+}
+
+/// The case of a command of `x >= 5` on `RISE`.
+fn on_rise<'a>(words: &'a [&'a str], out: &'a str, status: u8) -> Case<'a> {
+    Case {
+        words,
+        input: RISE,
+        out,
+        err: "",
+        status,
+    }
+}
+
+#[test]
+fn an_output_may_have_any_room(rt: HostRuntime) -> Result<(), Fail> {
+    let alloc = rt.alloc();
+    for (command, out, status) in WHOLE.iter().chain(STREAMED.iter()) {
+        let words: &[&str] = &[command, "x >= 5"];
+        assert!(rt;
+            fits_just(alloc, on_rise(words, out, *status))?,
+            "{command}"
+        );
+    }
+    assert!(rt; fits_just(alloc, on_rise(&["gen", "3", "5"], SUMMARY, 0))?);
+    assert!(rt; fits_just(alloc, BENCH)?);
+    Ok(())
+}
+
+/// Whether a case is answered over devices of which a call has failed before.
+fn is_answered_after_faults(alloc: Global, case: Case<'_>) -> Result<bool, Fail> {
+    let words = strings(alloc, case.words)?;
+    let bytes = Vec::from_slice(alloc, case.input.as_bytes())?;
+    let mut input = MemSource::new(bytes, 4096, Vec::from_slice(alloc, &[1])?);
+    let mut out = sink(alloc, 4096, 4096, 1)?;
+    let mut err = sink(alloc, 4096, 4096, 1)?;
+    let mut none = [0u8; 1];
+    let failed = input.read(&mut none).is_err()
+        && out.write(b"x").is_err()
+        && err.write(b"x").is_err();
+    let status = run(
+        alloc,
+        &words,
+        &mut input,
+        &mut out,
+        &mut err,
+        &mut Kept::Nothing,
+    );
+    Ok(
+        failed
+            && status == case.status
+            && out.written() == case.out.as_bytes()
+            && err.written() == case.err.as_bytes()
+            && input.faults() == 1
+            && out.faults() == 1
+            && err.faults() == 1,
+    )
+}
+
+#[test]
+fn what_failed_before_a_run_is_not_told(rt: HostRuntime) -> Result<(), Fail> {
+    let alloc = rt.alloc();
+    for (command, out, status) in WHOLE.iter().chain(STREAMED.iter()) {
+        let words: &[&str] = &[command, "x >= 5"];
+        assert!(rt;
+            is_answered_after_faults(alloc, on_rise(words, out, *status))?,
+            "{command}"
+        );
+    }
+    assert!(rt; is_answered_after_faults(alloc, on_rise(&["gen", "3", "5"], SUMMARY, 0))?);
+    assert!(rt; is_answered_after_faults(alloc, BENCH)?);
+    Ok(())
+}
+
+/// The commands that read.
+const READERS: [&str; 9] = [
+    "check", "robust", "explain", "json", "table", "watch", "early", "rwatch", "mux",
+];
 
 /// A write of six bytes to the error stream that fails, and what was told by then.
 const TOLD: [(u64, &str); 3] = [(1, ""), (2, "read f"), (3, "read fault\n")];
@@ -175,7 +308,7 @@ const TOLD: [(u64, &str); 3] = [(1, ""), (2, "read f"), (3, "read fault\n")];
 #[test]
 fn each_write_of_the_line_may_fail(rt: HostRuntime) -> Result<(), Fail> {
     let alloc = rt.alloc();
-    for (command, _, _) in WHOLE {
+    for command in READERS {
         for (tell_fails, told) in TOLD {
             let devices = Devices {
                 write_most: 6,
@@ -239,21 +372,96 @@ fn an_input_may_end_after_each_byte(rt: HostRuntime) -> Result<(), Fail> {
     Ok(())
 }
 
+/// The streams of `RISE`, with what they write for its first row.
+const FIRST: [(&str, &str); 3] = [
+    ("watch", "[0,0] false\n"),
+    ("early", DECIDED),
+    ("rwatch", "[0] -5\n"),
+];
+
 #[test]
-fn watch_answers_the_rows_before_the_byte_at_which_an_input_ends(
+fn a_stream_answers_the_rows_before_the_byte_at_which_an_input_ends(
     rt: HostRuntime,
 ) -> Result<(), Fail> {
     let alloc = rt.alloc();
     for (count, err) in CUTS {
         let input = first_bytes(alloc, count)?;
-        let case = Case {
-            words: &["watch", "x >= 5"],
-            input: input.as_str(),
-            out: if count < 11 { "" } else { "[0,0] false\n" },
-            err,
-            status: 4,
-        };
-        assert!(rt; agrees(alloc, case, pieces(3))?, "{count} bytes");
+        for (command, out) in FIRST {
+            let case = Case {
+                words: &[command, "x >= 5"],
+                input: input.as_str(),
+                out: if count < 11 { "" } else { out },
+                err,
+                status: 4,
+            };
+            assert!(rt; agrees(alloc, case, pieces(3))?, "{command}, {count} bytes");
+        }
+    }
+    Ok(())
+}
+
+/// What each command writes for the first 10 bytes of `RISE` and for the first 15, which are traces, and the status.
+const FRONTS: [(&str, &str, &str, u8); 8] = [
+    (
+        "check",
+        "[0,0] false\nstart false\n",
+        "[0,10] false\nstart false\n",
+        1,
+    ),
+    (
+        "robust",
+        "[0] -5\n",
+        "[0] -5\n(0,10) -5 -> -4\n[10] -4\n",
+        0,
+    ),
+    (
+        "explain",
+        "start false\nx >= 5 false on [0,0]\n",
+        "start false\nx >= 5 false on [0,0]\n",
+        1,
+    ),
+    (
+        "json",
+        "{\"formula\":\"x >= 5\",\"items\":[{\"atom\":\"x >= 5\",\"on\":\"[0,0]\",\"value\":false}],\"margins\":[{\"at\":\"0\",\"margin\":\"-5\"}],\"start\":false,\"verdicts\":[{\"on\":\"[0,0]\",\"value\":false}]}\n",
+        "{\"formula\":\"x >= 5\",\"items\":[{\"atom\":\"x >= 5\",\"on\":\"[0,0]\",\"value\":false}],\"margins\":[{\"at\":\"0\",\"margin\":\"-5\"},{\"from\":\"-5\",\"on\":\"(0,10)\",\"to\":\"-4\"},{\"at\":\"10\",\"margin\":\"-4\"}],\"start\":false,\"verdicts\":[{\"on\":\"[0,10]\",\"value\":false}]}\n",
+        1,
+    ),
+    (
+        "table",
+        "time,margin,from,to\n0,-5,,\n",
+        "time,margin,from,to\n0,-5,-5,-4\n10,-4,,\n",
+        0,
+    ),
+    (
+        "watch",
+        "[0,0] false\nstart false\n",
+        "[0,0] false\n(0,10] false\nstart false\n",
+        1,
+    ),
+    ("early", DECIDED, DECIDED, 1),
+    (
+        "rwatch",
+        "[0] -5\n",
+        "[0] -5\n(0,10) -5 -> -4\n[10] -4\n",
+        0,
+    ),
+];
+
+#[test]
+fn a_row_may_lack_its_line_feed(rt: HostRuntime) -> Result<(), Fail> {
+    let alloc = rt.alloc();
+    for (command, ten, fifteen, status) in FRONTS {
+        for (count, out) in [(10, ten), (15, fifteen)] {
+            let input = first_bytes(alloc, count)?;
+            let case = Case {
+                words: &[command, "x >= 5"],
+                input: input.as_str(),
+                out,
+                err: "",
+                status,
+            };
+            assert!(rt; agrees(alloc, case, pieces(3))?, "{command}, {count} bytes");
+        }
     }
     Ok(())
 }

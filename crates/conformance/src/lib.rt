@@ -30,6 +30,8 @@ mod gen_tests;
 #[cfg(test)]
 mod io_edge_tests;
 #[cfg(test)]
+mod limit_tests;
+#[cfg(test)]
 mod margin_tests;
 #[cfg(test)]
 mod mux_tests;

@@ -163,10 +163,8 @@ fn what_was_read_before_a_fault_is_answered(rt: HostRuntime) -> Result<(), Fail>
         };
         let devices = Devices {
             read_most: 1,
-            write_most: 4096,
             read_fails: bytes + 1,
-            write_fails: 0,
-            tell_fails: 0,
+            ..pieces(4096)
         };
         assert!(rt; agrees_so_far(alloc, case, devices, *written)?, "row {i}");
     }
@@ -189,12 +187,65 @@ fn a_line_is_answered_before_the_next_is_read(rt: HostRuntime) -> Result<(), Fai
         };
         let devices = Devices {
             read_most: 1,
-            write_most: 4096,
-            read_fails: 0,
             write_fails: *call,
-            tell_fails: 0,
+            ..pieces(4096)
         };
         assert!(rt; agrees_so_far(alloc, case, devices, *written)?, "row {i}");
+    }
+    Ok(())
+}
+
+/// How many bytes of `TRACE` there are, and what is written.
+const CUTS: [(usize, &str); 24] = [
+    (0, ""),
+    (1, "a line 1: no header\n"),
+    (2, "a line 1: no header\n"),
+    (3, "a line 1: field 1: bad name\n"),
+    (4, "a line 1: field 1: bad name\n"),
+    (5, "a line 1: field 1: bad name\n"),
+    (6, "a line 1: unknown column x\n"),
+    (7, "a line 1: field 2: bad name\n"),
+    (8, "a line 1: no rows\n"),
+    (9, "a line 1: no rows\n"),
+    (10, "a line 2: no rows\n"),
+    (11, "a line 2: no rows\n"),
+    (12, "a line 2: 1 fields\n"),
+    (13, "a line 2: field 2: bad number\n"),
+    (14, "a [0,0] false\na start false\n"),
+    (15, "a [0,0] false\na start false\n"),
+    (16, "a [0,0] false\na start false\n"),
+    (17, "a [0,0] false\na start false\n"),
+    (18, "a [0,0] false\na line 3: 1 fields\n"),
+    (19, "a [0,0] false\na line 3: 1 fields\n"),
+    (20, "a [0,0] false\na line 3: field 2: bad number\n"),
+    (21, "a [0,0] false\na (0,10] false\na start false\n"),
+    (
+        22,
+        "a [0,0] false\na (0,5) false\na [5,10] true\na start false\n",
+    ),
+    (
+        23,
+        "a [0,0] false\na (0,5) false\na [5,10] true\na start false\n",
+    ),
+];
+
+const TRACE: &str = "a time,x\na 0,0\na 10,10\n";
+
+#[test]
+fn an_input_of_sessions_may_end_after_each_byte(rt: HostRuntime) -> Result<(), Fail> {
+    let alloc = rt.alloc();
+    for (count, out) in CUTS {
+        let Some(input) = TRACE.get(..count) else {
+            panic!(rt; "no such front");
+        };
+        let case = Case {
+            words: &["mux", "x >= 5"],
+            input,
+            out,
+            err: "",
+            status: 0,
+        };
+        assert!(rt; agrees(alloc, case, pieces(5))?, "{count} bytes");
     }
     Ok(())
 }

@@ -5,7 +5,7 @@ ghost use Rattle.stl_syntax.specs.Trace.{Row as ARow};
 use super::evals::parsed;
 use super::plain_net::{Act, Link, Model, Plain, Stretch, fresh_node};
 use super::slow::{Temporal, judged};
-use super::slow_tests::{Dice, Judged, Recording, atom, bound, bound_text, generated, is_so};
+use super::slow_tests::{Dice, Recording, atom, bound, bound_text, generated, is_so};
 use super::traces::WHOLE;
 use atom_lines::bind;
 use frac128::Frac;
@@ -438,8 +438,7 @@ fn the_network_is_the_plain_model_in_every_order_of_its_events(
             "case {case}: {text}"
         );
         run_both(&rt, &mut dice, &mut net, &mut model)?;
-        let judged = Judged { text, truth };
-        assert!(&rt; is_so(alloc, &of, &judged)?, "check");
+        assert!(&rt; is_so(alloc, &of, text.as_str(), &truth)?, "check");
     }
     Ok(())
 }

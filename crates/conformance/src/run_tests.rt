@@ -15,9 +15,10 @@ pub(crate) struct Case<'a> {
     pub(crate) status: u8,
 }
 
-/// How a run's devices behave: most bytes a call, and the call of each that fails, 0 for none.
+/// How a run's devices behave: the room of the output, most bytes a call, and the call of each that fails, 0 for none.
 #[derive(Clone, Copy)]
 pub(crate) struct Devices {
+    pub(crate) room: usize,
     pub(crate) read_most: usize,
     pub(crate) write_most: usize,
     pub(crate) read_fails: u64,
@@ -36,6 +37,7 @@ pub(crate) struct Ended {
 /// Pieces of this size, and no fault.
 pub(crate) fn pieces(most: usize) -> Devices {
     Devices {
+        room: 4096,
         read_most: most,
         write_most: most,
         read_fails: 0,
@@ -44,7 +46,8 @@ pub(crate) fn pieces(most: usize) -> Devices {
     }
 }
 
-fn strings(alloc: Global, words: &[&str]) -> Result<Vec<String>, AllocError> {
+/// The words of a request.
+pub(crate) fn strings(alloc: Global, words: &[&str]) -> Result<Vec<String>, AllocError> {
     let mut all = Vec::new(alloc);
     for word in words {
         all.push(String::from_str(alloc, word)?)?;
@@ -52,9 +55,10 @@ fn strings(alloc: Global, words: &[&str]) -> Result<Vec<String>, AllocError> {
     Ok(all)
 }
 
-fn sink(alloc: Global, most: usize, fails: u64) -> Result<MemSink, Fail> {
+/// A sink with so much room, that takes at most so many bytes a call, and of which one call fails.
+pub(crate) fn sink(alloc: Global, room: usize, most: usize, fails: u64) -> Result<MemSink, Fail> {
     let fails = Vec::from_slice(alloc, &[fails])?;
-    match MemSink::new(alloc, 4096, most.max(1), fails) {
+    match MemSink::new(alloc, room, most.max(1), fails) {
         Ok(sink) => Ok(sink),
         Err(memory) => Err(Fail::from(memory)),
     }
@@ -66,8 +70,8 @@ pub(crate) fn runs(alloc: Global, case: Case<'_>, devices: Devices) -> Result<En
     let bytes = Vec::from_slice(alloc, case.input.as_bytes())?;
     let fails = Vec::from_slice(alloc, &[devices.read_fails])?;
     let mut input = MemSource::new(bytes, devices.read_most.max(1), fails);
-    let mut out = sink(alloc, devices.write_most, devices.write_fails)?;
-    let mut err = sink(alloc, devices.write_most, devices.tell_fails)?;
+    let mut out = sink(alloc, devices.room, devices.write_most, devices.write_fails)?;
+    let mut err = sink(alloc, 4096, devices.write_most, devices.tell_fails)?;
     let mut kept = Kept::Nothing;
     let status = run(alloc, &words, &mut input, &mut out, &mut err, &mut kept);
     Ok(Ended { status, out, err })

@@ -164,26 +164,76 @@ pub(crate) fn put_span(
     text.push_str(if to % 2 == 0 { "]" } else { ")" })
 }
 
-/// The verdict lines and the line of the start, of a truth whose first time is in halves of a tick.
-pub(crate) fn verdicts(alloc: Global, first: usize, truth: &[bool]) -> Result<String, AllocError> {
-    let mut text = String::new(alloc);
-    let mut from = 0;
-    for i in 0..truth.len() {
-        let value = truth[i];
-        if i % 2 == 1 {
-            continue;
-        }
-        if let Some(next) = truth.get(i.saturating_add(2))
-            && *next == value
+/// The verdict lines of some cells, and which cell comes after them. The first time is in halves of a tick.
+fn put_cells(
+    text: &mut String,
+    first: usize,
+    truth: &[bool],
+    (from, to): (usize, usize),
+) -> Result<usize, AllocError> {
+    let mut begin = from;
+    for cell in from..to.saturating_add(1) {
+        let Some(value) = truth.get(cell.saturating_mul(2)) else {
+            return Ok(begin);
+        };
+        let next = cell.saturating_add(1);
+        if next <= to
+            && let Some(more) = truth.get(next.saturating_mul(2))
+            && *more == *value
         {
             continue;
         }
-        put_span(&mut text, first, (from, i / 2))?;
+        put_span(text, first, (begin, cell))?;
         write!(text, " {value}\n")?;
-        from = i / 2 + 1;
+        begin = next;
     }
+    Ok(begin)
+}
+
+/// The verdict lines of all cells from one on, and the line of the start.
+fn put_rest(
+    text: &mut String,
+    first: usize,
+    truth: &[bool],
+    from: usize,
+) -> Result<(), AllocError> {
+    let _ = put_cells(text, first, truth, (from, truth.len() / 2))?;
     if let Some(value) = truth.first() {
         write!(text, "start {value}\n")?;
     }
+    Ok(())
+}
+
+/// The verdict lines and the line of the start, of a truth whose first time is in halves of a tick.
+pub(crate) fn verdicts(alloc: Global, first: usize, truth: &[bool]) -> Result<String, AllocError> {
+    let mut text = String::new(alloc);
+    put_rest(&mut text, first, truth, 0)?;
+    Ok(text)
+}
+
+/// The same lines as a stream writes them, for rows at these times and a formula that looks so far ahead: at each row those of what it
+/// answers, and at the end the rest.
+pub(crate) fn streamed(
+    alloc: Global,
+    times: &[u32],
+    horizon: u32,
+    truth: &[bool],
+) -> Result<String, AllocError> {
+    let mut text = String::new(alloc);
+    let Some(first) = times.first() else {
+        return Ok(text);
+    };
+    let halves = (*first as usize).saturating_mul(2);
+    let mut cell = 0;
+    for time in times {
+        let front = time.checked_sub(horizon);
+        if let Some(front) = front
+            && let Some(ticks) = front.checked_sub(*first)
+        {
+            let to = (ticks as usize).saturating_mul(4);
+            cell = put_cells(&mut text, halves, truth, (cell, to))?;
+        }
+    }
+    put_rest(&mut text, halves, truth, cell)?;
     Ok(text)
 }

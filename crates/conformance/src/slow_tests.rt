@@ -1,6 +1,6 @@
-//! Each temporal operator against a plain and slow evaluation, over generated cases.
+//! Each temporal operator, by `check` and row by row by `watch`, against a plain and slow evaluation, over generated cases.
 use super::run_tests::{Case, agrees, pieces};
-use super::slow::{Bound, Temporal, judged, verdicts};
+use super::slow::{Bound, Temporal, judged, streamed, verdicts};
 use std::alloc::{AllocError, Global};
 use std::test::Fail;
 
@@ -37,6 +37,7 @@ impl Dice {
 pub(crate) struct Recording {
     pub(crate) input: String,
     pub(crate) first: u8,
+    times: Vec<u32>,
     ramp: Vec<i64>,
     step: Vec<i64>,
 }
@@ -62,6 +63,7 @@ pub(crate) fn generated(alloc: Global, dice: &mut Dice) -> Result<Recording, All
     let mut made = Recording {
         input: format!(in alloc; "time,x,q:step\n{first},{x},{q}\n")?,
         first,
+        times: Vec::from_slice(alloc, &[u32::from(first)])?,
         ramp: Vec::new(alloc),
         step: Vec::new(alloc),
     };
@@ -72,6 +74,7 @@ pub(crate) fn generated(alloc: Global, dice: &mut Dice) -> Result<Recording, All
         made.gap(ticks, (x, q), next_x)?;
         time = time.wrapping_add(u32::from(ticks));
         (x, q) = (next_x, next_q);
+        made.times.push(time)?;
         write!(made.input, "{time},{x},{q}\n")?;
     }
     made.ramp.push(x)?;
@@ -79,10 +82,11 @@ pub(crate) fn generated(alloc: Global, dice: &mut Dice) -> Result<Recording, All
     Ok(made)
 }
 
-/// A formula, and the truth that the slow evaluation gives it at each eighth of a tick.
+/// A formula, how far ahead it looks in ticks, and the truth that the slow evaluation gives it at each eighth of a tick.
 #[derive(Drop)]
 pub(crate) struct Judged {
     pub(crate) text: String,
+    horizon: u32,
     pub(crate) truth: Vec<bool>,
 }
 
@@ -107,6 +111,7 @@ pub(crate) fn atom(alloc: Global, dice: &mut Dice, of: &Recording) -> Result<Jud
     }
     Ok(Judged {
         text: format!(in alloc; "{name} {rel} 0")?,
+        horizon: 0,
         truth,
     })
 }
@@ -144,6 +149,18 @@ pub(crate) fn bound_text(alloc: Global, bound: &Bound) -> Result<String, AllocEr
     }
 }
 
+/// How far ahead the operator looks on two formulas, or on the right one.
+fn horizon(operator: Temporal, bound: &Bound, left: &Judged, right: &Judged) -> u32 {
+    let low = u32::from(bound.low);
+    let high = u32::from(bound.high.unwrap_or(0));
+    match operator {
+        Temporal::Eventually | Temporal::Always => right.horizon.saturating_add(high),
+        Temporal::Until => left.horizon.max(right.horizon).saturating_add(high),
+        Temporal::Once | Temporal::Historically => right.horizon.saturating_sub(low),
+        Temporal::Since => left.horizon.max(right.horizon.saturating_sub(low)),
+    }
+}
+
 /// The operator with a bound on two formulas, or on the right one.
 pub(crate) fn joined_within(
     alloc: Global,
@@ -162,6 +179,7 @@ pub(crate) fn joined_within(
     };
     Ok(Judged {
         text,
+        horizon: horizon(operator, bound, left, right),
         truth: judged(alloc, operator, bound, &left.truth, &right.truth)?,
     })
 }
@@ -187,20 +205,53 @@ pub(crate) const OPERATORS: [Temporal; 6] = [
     Temporal::Since,
 ];
 
-/// Whether `check` writes what the slow evaluation says.
-pub(crate) fn is_so(alloc: Global, of: &Recording, formula: &Judged) -> Result<bool, Fail> {
-    let out = verdicts(alloc, usize::from(of.first) * 2, &formula.truth)?;
-    let Some(holds) = formula.truth.first() else {
+/// Whether a command writes this for a formula, in pieces of a size, and answers the status of a truth.
+fn writes(
+    alloc: Global,
+    of: &Recording,
+    words: &[&str],
+    size: usize,
+    (out, truth): (&str, &[bool]),
+) -> Result<bool, Fail> {
+    let Some(holds) = truth.first() else {
         return Ok(false);
     };
     let case = Case {
-        words: &["check", formula.text.as_str()],
+        words,
         input: of.input.as_str(),
-        out: out.as_str(),
+        out,
         err: "",
         status: if *holds { 0 } else { 1 },
     };
-    agrees(alloc, case, pieces(7))
+    agrees(alloc, case, pieces(size))
+}
+
+/// Whether `check` writes what the slow evaluation says of a formula.
+pub(crate) fn is_so(
+    alloc: Global,
+    of: &Recording,
+    text: &str,
+    truth: &[bool],
+) -> Result<bool, Fail> {
+    let out = verdicts(alloc, usize::from(of.first) * 2, truth)?;
+    writes(alloc, of, &["check", text], 7, (out.as_str(), truth))
+}
+
+/// Whether `check` does so, and `watch` row by row, however the bytes are cut.
+fn is_told(alloc: Global, dice: &mut Dice, of: &Recording, formula: &Judged) -> Result<bool, Fail> {
+    let text = formula.text.as_str();
+    let out = streamed(alloc, &of.times, formula.horizon, &formula.truth)?;
+    let size = usize::from(dice.roll(24)).saturating_add(1);
+    Ok(
+        is_so(alloc, of, text, &formula.truth)?
+            && writes(
+                alloc,
+                of,
+                &["watch", text],
+                size,
+                (out.as_str(), &formula.truth),
+            )?,
+    )
 }
 
 #[test]
@@ -213,7 +264,10 @@ fn each_temporal_operator_is_judged_as_a_slow_evaluation_does(rt: HostRuntime) -
             let (p, q) = (atom(alloc, &mut dice, &of)?, atom(alloc, &mut dice, &of)?);
             let one = joined(alloc, &mut dice, inner, &p, &q)?;
             let text = one.text.as_str();
-            assert!(rt; is_so(alloc, &of, &one)?, "case {case}: {text}");
+            assert!(rt;
+                is_told(alloc, &mut dice, &of, &one)?,
+                "case {case}: {text}"
+            );
         }
     }
     Ok(())
@@ -237,7 +291,10 @@ fn a_temporal_operator_in_another_is_judged_as_a_slow_evaluation_does(
                     joined(alloc, &mut dice, outer, &one, &q)?
                 };
                 let text = two.text.as_str();
-                assert!(rt; is_so(alloc, &of, &two)?, "case {case}: {text}");
+                assert!(rt;
+                    is_told(alloc, &mut dice, &of, &two)?,
+                    "case {case}: {text}"
+                );
             }
         }
     }

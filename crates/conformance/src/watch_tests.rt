@@ -1,6 +1,12 @@
-//! `watch` as a whole: tables of answers from outside, for every cut.
-use crate::run_tests::{Case, agrees_however_cut};
+//! `watch` as a whole: tables of answers from outside, for every cut, and `Watch` call by call.
+use crate::run_tests::{Case, Devices, agrees, agrees_however_cut, pieces, sink};
+use io_edge::{MemSink, Sink};
+use std::alloc::{AllocError, Global};
+use std::process::Abort;
 use std::test::Fail;
+use stl_grammar::parse;
+use trace_reader::{Limits, TraceKind, TraceRefusal};
+use workbench::{Watch, WatchFault};
 
 const TRIANGLE: &str = "time,x\n0,0\n5,5\n10,0\n";
 
@@ -94,5 +100,197 @@ fn rows_before_a_fault_are_answered(rt: HostRuntime) -> Result<(), Fail> {
         };
         assert!(rt; agrees_however_cut(alloc, case, input.len())?, "row {i}");
     }
+    Ok(())
+}
+
+const LIMITS: Limits = Limits {
+    rows: 4_294_967_296,
+    lines: 8_589_934_592,
+};
+
+fn watch(rt: &impl Abort, alloc: Global, text: &str) -> Watch {
+    let Ok(formula) = parse(alloc, text) else {
+        panic!(rt; "no formula")
+    };
+    match Watch::new(alloc, formula, LIMITS) {
+        Ok(watch) => watch,
+        Err(_) => panic!(rt; "no memory"),
+    }
+}
+
+/// A formula, bytes, which call of the sink fails, why a watch refuses them, and what it has written by then.
+const REFUSED: [(&str, &str, u64, WatchFault, &str); 6] = [
+    (
+        "x >= 1",
+        "time,x\n1,0\n1,1\n",
+        0,
+        WatchFault::Trace(TraceRefusal {
+            line: 3,
+            kind: TraceKind::TimeNotRising,
+        }),
+        "[1,1] false\n",
+    ),
+    (
+        "x >= 1 and z >= 0",
+        "\ntime,x\n",
+        0,
+        WatchFault::Unknown {
+            line: 2,
+            atom: 1,
+            term: 0,
+        },
+        "",
+    ),
+    (
+        "x >= 1073741824",
+        "time,x:1\n",
+        0,
+        WatchFault::UnitConstant { line: 1, node: 0 },
+        "",
+    ),
+    (
+        "eventually[0,4294967295] x >= 0",
+        "time:1,x\n",
+        0,
+        WatchFault::UnitReach {
+            line: 1,
+            sum: 42_949_672_950,
+        },
+        "",
+    ),
+    ("x >= 1", "time,x\n1,0\n", 1, WatchFault::Write, ""),
+    (
+        "x >= 1",
+        "time,x\n",
+        0,
+        WatchFault::Trace(TraceRefusal {
+            line: 1,
+            kind: TraceKind::NoRows,
+        }),
+        "",
+    ),
+];
+
+/// Why a watch refuses the bytes, or else their end.
+fn refusal(watch: &mut Watch, bytes: &str, out: &mut MemSink) -> Option<WatchFault> {
+    match watch.push(bytes.as_bytes(), out) {
+        Ok(()) => watch.end(out).err(),
+        Err(fault) => Some(fault),
+    }
+}
+
+/// Whether a watch refuses every call so, and writes nothing.
+fn refuses(watch: &mut Watch, out: &mut MemSink, fault: WatchFault) -> bool {
+    let before = out.written().len();
+    watch.push(b"2,1\n", out) == Err(fault)
+        && watch.end(out) == Err(fault)
+        && watch.push(b"", out) == Err(fault)
+        && out.written().len() == before
+}
+
+#[test]
+fn a_watch_that_refused_refuses_all(rt: HostRuntime) -> Result<(), Fail> {
+    let alloc = rt.alloc();
+    for (i, (formula, bytes, fails, fault, written)) in REFUSED.iter().enumerate() {
+        let mut out = sink(alloc, 4096, 4096, *fails)?;
+        let mut watch = watch(&rt, alloc, formula);
+        assert!(rt;
+            refusal(&mut watch, bytes, &mut out) == Some(*fault),
+            "row {i}"
+        );
+        assert!(rt; out.written() == written.as_bytes(), "row {i}");
+        assert!(rt;
+            refuses(&mut watch, &mut out, WatchFault::Stopped),
+            "row {i}"
+        );
+    }
+    Ok(())
+}
+
+/// What a watch of `x >= 5` writes for `TRIANGLE`.
+const WRITTEN: &str = "[0,0] false\n(0,5) false\n[5,5] true\n(5,10] false\nstart false\n";
+
+#[test]
+fn a_watch_writes_what_there_is_room_for(rt: HostRuntime) -> Result<(), Fail> {
+    let alloc = rt.alloc();
+    for room in 0..=WRITTEN.len() {
+        let mut out = sink(alloc, room, 4096, 1)?;
+        assert!(rt; out.write(b"x").is_err(), "a call that failed before");
+        let mut watch = watch(&rt, alloc, "x >= 5");
+        let fault = refusal(&mut watch, TRIANGLE, &mut out);
+        assert!(rt; out.written() == &WRITTEN.as_bytes()[..room], "{room}");
+        if room < WRITTEN.len() {
+            assert!(rt; fault == Some(WatchFault::Write), "{room}");
+            assert!(rt;
+                refuses(&mut watch, &mut out, WatchFault::Stopped),
+                "{room}"
+            );
+        } else {
+            assert!(rt; fault == None, "{room}");
+        }
+    }
+    Ok(())
+}
+
+/// Bytes of a trace, and what a watch of `eventually[0,2] x >= 5` has written once it took them.
+const PIECES: [(&str, &str); 3] = [
+    ("time,x\n0,0\n5,", ""),
+    ("5\n", "[0,3) false\n[3,3] true\n"),
+    ("10,0", "[0,3) false\n[3,3] true\n"),
+];
+
+#[test]
+fn a_watch_writes_at_each_piece_and_ends_once(rt: HostRuntime) -> Result<(), Fail> {
+    let alloc = rt.alloc();
+    let mut out = sink(alloc, 4096, 4096, 0)?;
+    let mut watch = watch(&rt, alloc, "eventually[0,2] x >= 5");
+    for (i, (piece, written)) in PIECES.iter().enumerate() {
+        assert!(rt;
+            watch.push(piece.as_bytes(), &mut out) == Ok(()),
+            "piece {i}"
+        );
+        assert!(rt; out.written() == written.as_bytes(), "piece {i}");
+    }
+    let whole = "[0,3) false\n[3,3] true\n(3,5] true\n(5,8] false\n(8,10] false\nstart false\n";
+    assert!(rt; watch.end(&mut out) == Ok(false) && out.written() == whole.as_bytes());
+    assert!(rt; refuses(&mut watch, &mut out, WatchFault::Ended));
+    Ok(())
+}
+
+/// Rows at the times from 0 on, all of value 0.
+fn flat(alloc: Global, rows: u32) -> Result<String, AllocError> {
+    let mut text = String::from_str(alloc, "time,x\n")?;
+    for k in 0..rows {
+        write!(text, "{k},0\n")?;
+    }
+    Ok(text)
+}
+
+/// The lines of a formula that is false there and looks back: one a row.
+fn never(alloc: Global, rows: u32) -> Result<String, AllocError> {
+    let mut text = String::from_str(alloc, "[0,0] false\n")?;
+    for k in 1..rows {
+        write!(text, "({},{k}] false\n", k - 1)?;
+    }
+    text.push_str("start false\n")?;
+    Ok(text)
+}
+
+#[test]
+fn many_rows_are_answered_one_by_one(rt: HostRuntime) -> Result<(), Fail> {
+    let alloc = rt.alloc();
+    let (input, out) = (flat(alloc, 200_000)?, never(alloc, 200_000)?);
+    let case = Case {
+        words: &["watch", "once x >= 5"],
+        input: input.as_str(),
+        out: out.as_str(),
+        err: "",
+        status: 1,
+    };
+    let devices = Devices {
+        room: 8_388_608,
+        ..pieces(4096)
+    };
+    assert!(rt; agrees(alloc, case, devices)?);
     Ok(())
 }

@@ -4,6 +4,7 @@ pub mod StretchLemmas
 pub mod SpanLemmas
 pub mod Absorbing
 pub mod GrowingLemmas
+mod EndingLemmas
 pub mod WindowLemmas
 pub mod LoopLemmas
 pub mod RunLemmas
@@ -22,6 +23,7 @@ pub mod SettledSets
 pub mod EndedSets
 pub mod AllSets
 pub mod AtomSets
+mod TurningLemmas
 pub mod TickLemmas
 pub mod SharedLemmas
 pub mod BetweenLemmas

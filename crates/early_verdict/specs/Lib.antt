@@ -1,6 +1,7 @@
 pub mod Cuts
 pub mod Spans
 pub mod Joining
+pub mod Ending
 pub mod Bounds
 pub mod Windows
 pub mod Steps

@@ -16,42 +16,47 @@ use std::cmp::Ordering;
 #[derive(Clone, Copy, Debug)]
 pub struct Cut {
     pub time: Frac,
-    pub after: bool,
+    /// 0 just before the time, and else just after it. It is a whole word, so that a place is copied word by word, with no gap.
+    pub side: u64,
 }
 
 impl Cut {
     /// Just before the whole number `n`.
+    #[inline(always)]
     pub fn before_whole(n: i64) -> Cut
         ensures { Same (place result) (record { at = whole n; after = false }) }
     {
         Cut {
             time: Frac::of(n),
-            after: false,
+            side: 0,
         }
     }
 
     /// Just after the whole number `n`.
+    #[inline(always)]
     pub fn after_whole(n: i64) -> Cut
         ensures { Same (place result) (record { at = whole n; after = true }) }
     {
         Cut {
             time: Frac::of(n),
-            after: true,
+            side: 1,
         }
     }
 
     /// Whether this place comes before the other.
+    #[inline(always)]
     pub fn precedes(&self, other: &Cut) -> bool
         ensures { IsTrue result ↔ Before (place self.now) (place other.now) }
     {
         match self.time.cmp(&other.time) {
             Ordering::Less => true,
-            Ordering::Equal => !self.after && other.after,
+            Ordering::Equal => self.side == 0 && other.side != 0,
             Ordering::Greater => false,
         }
     }
 
     /// The earlier of the two.
+    #[inline(always)]
     pub fn earlier(self, other: Cut) -> Cut
         ensures one { (result ≡ self) ⊎ (result ≡ other) }
         ensures first { AtMost (place result) (place self) }
@@ -61,6 +66,7 @@ impl Cut {
     }
 
     /// The later of the two.
+    #[inline(always)]
     pub fn later(self, other: Cut) -> Cut
         ensures one { (result ≡ self) ⊎ (result ≡ other) }
         ensures first { AtMost (place self) (place result) }
@@ -70,24 +76,26 @@ impl Cut {
     }
 
     /// A beginning moved by an end of a window: just after the time, where that end is out.
+    #[inline(always)]
     pub fn shift_begin(&self, by: i64, inside: bool) -> Cut
         requires { FitsFloor w64 (add (value self.now.time) (whole by)) }
         ensures { Same (place result) (moved_begin by inside (place self.now)) }
     {
         Cut {
             time: self.time.shift(by),
-            after: self.after || !inside,
+            side: if inside { self.side } else { 1 },
         }
     }
 
     /// An end moved by an end of a window: just before the time, where that end is out.
+    #[inline(always)]
     pub fn shift_end(&self, by: i64, inside: bool) -> Cut
         requires { FitsFloor w64 (add (value self.now.time) (whole by)) }
         ensures { Same (place result) (moved_end by inside (place self.now)) }
     {
         Cut {
             time: self.time.shift(by),
-            after: self.after && inside,
+            side: if inside { self.side } else { 0 },
         }
     }
 }

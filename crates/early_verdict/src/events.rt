@@ -128,7 +128,11 @@ fn take_first(
 {
     let live = all_sets(alloc, formula, row.time())?;
     let shown = shown_of(alloc, &live)?;
-    *net = Net { live, shown };
+    *net = Net {
+        live,
+        shown,
+        rows: 0,
+    };
     let event = first_event(row.time());
     step_sets(net, formula, bound, &None, row, &event)?;
     Ok(())

@@ -9,6 +9,7 @@ mod atoms;
 mod connectives;
 mod cut;
 mod early;
+mod ending;
 mod event;
 mod events;
 mod grown;

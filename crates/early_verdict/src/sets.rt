@@ -59,6 +59,8 @@ pub(crate) struct Net {
     pub(crate) live: Vec<Sets>,
     /// What a node shows the one above it: from the times on that this one still asks for.
     pub(crate) shown: Vec<Sets>,
+    /// How many rows came since the sets last let go.
+    pub(crate) rows: u32,
 }
 
 impl Parts {

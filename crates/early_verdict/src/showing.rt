@@ -92,7 +92,7 @@ pub(crate) fn bounds_from(bounds: &Stretch, cut: &Cut) -> Stretch
 {
     let first = Cut {
         time: cut.time,
-        after: false,
+        side: 0,
     };
     match Stretch::make(first, bounds.to, bounds) {
         Some(rest) => rest,

@@ -1,0 +1,17 @@
+-- Where a stretch belongs in a list, as far as that is seen at the list's end: words of private contracts.
+use Rattle.std.specs.Prelude.{◌≡◌, List, [], ◌∷◌, ◌++◌}
+use Rattle.early_verdict.specs.Cuts.{Place, place, Before}
+use Rattle.early_verdict.specs.Spans.{EndBefore}
+use Rattle.early_verdict.specs.declared.stretch.Stretch.{Stretch}
+use Rattle.early_verdict.specs.declared.ending.End.{End}
+use Rattle.early_verdict.specs.declared.ending.End.TheVariants.{Behind, In, Anywhere}
+
+-- the list ends with s
+abbrev pub IsLast : Stretch → List Stretch → Type 0
+IsLast s xs = (front : List Stretch) × (xs ≡ front ++ s ∷ [])
+
+-- what begins at the place begins behind all of the list; in its last stretch, or at the end of that; or anywhere
+abbrev pub BelongsAt : Place → List Stretch → End → Type 0
+BelongsAt c xs Behind = EndBefore c xs
+BelongsAt c xs (In s) = IsLast s xs × ¬ (Before c (place s.from)) × ¬ (Before (place s.to) c)
+BelongsAt c xs Anywhere = Unit {0}
