@@ -56,6 +56,8 @@ mod robust_net_tests;
 #[cfg(test)]
 mod run_tests;
 #[cfg(test)]
+mod rwatch_beside_tests;
+#[cfg(test)]
 mod rwatch_tests;
 #[cfg(test)]
 mod seg_pool_tests;

@@ -7,7 +7,7 @@ ghost use Rattle.online_robust.specs.Nets.{IsNear};
 use super::evals::parsed;
 use super::traces::WHOLE;
 use atom_lines::bind;
-use online_robust::{MarginLine, RobustNet, first_unstreamed};
+use online_robust::{MarginLine, RobustFault, RobustNet, first_unstreamed};
 use report::{MarginPart, put_margin_line};
 use std::alloc::Global;
 use std::process::Abort;
@@ -138,6 +138,16 @@ fn begin_on<'a>(
     })
 }
 
+/// The word of a refusal.
+fn word_of(fault: RobustFault) -> &'static str {
+    match fault {
+        RobustFault::Wide(_) => "wide",
+        RobustFault::Stopped => "stopped",
+        RobustFault::Closed => "closed",
+        RobustFault::Memory => "memory",
+    }
+}
+
 /// A line of the root as the report has it.
 fn part_of(line: MarginLine) -> MarginPart
     requires { IsNear line }
@@ -165,37 +175,39 @@ impl<'a> Fed<'a> {
         Ok(())
     }
 
-    /// The next row; false where there is none.
-    fn row(&mut self, rt: &impl Abort) -> Result<bool, Fail> {
+    /// How the network takes the next row; "none" where there is none.
+    fn row(&mut self, rt: &impl Abort) -> Result<&'static str, Fail> {
         if self.rest.is_empty() {
-            return Ok(false);
+            return Ok("none");
         }
         let Ok(took) = self.reader.push(self.rest) else {
             panic!(rt; "row");
         };
         self.rest = &self.rest[took.bytes..];
         let Event::Row = took.event else {
-            return Ok(false);
+            return Ok("none");
         };
         let row = self.reader.row();
         assert!(rt; row.columns() == self.columns);
         if let Some(last) = self.last {
             assert!(rt; last < row.time());
         }
-        let Ok(()) = self.net.feed(row) else {
-            panic!(rt; "feed");
-        };
-        self.last = Some(row.time());
-        Ok(true)
+        match self.net.feed(row) {
+            Ok(()) => {
+                self.last = Some(row.time());
+                Ok("taken")
+            }
+            Err(fault) => Ok(word_of(fault)),
+        }
     }
 
-    /// The end of the rows.
-    fn close(&mut self, rt: &impl Abort) -> Result<(), Fail> {
+    /// How it takes the end of the rows.
+    fn close(&mut self, rt: &impl Abort) -> &'static str {
         assert!(rt; self.last.is_some());
-        let Ok(()) = self.net.close() else {
-            panic!(rt; "close");
-        };
-        Ok(())
+        match self.net.close() {
+            Ok(()) => "taken",
+            Err(fault) => word_of(fault),
+        }
     }
 }
 
@@ -203,12 +215,12 @@ impl<'a> Fed<'a> {
 fn streamed(rt: &impl Abort, alloc: Global, formula: &str, input: &str) -> Result<Text, Fail> {
     let mut fed = begin_on(rt, alloc, formula, input)?;
     for _ in 0..1000 {
-        if !fed.row(rt)? {
+        if fed.row(rt)? != "taken" {
             break;
         }
         fed.take_all(rt)?;
     }
-    fed.close(rt)?;
+    assert_eq!(rt; fed.close(rt), "taken");
     fed.take_all(rt)?;
     let Fed { text, .. } = fed;
     Ok(text)
@@ -219,6 +231,43 @@ fn margins_come_as_the_rows_decide_them(rt: HostRuntime) -> Result<(), Fail> {
     for (formula, input, expected) in STREAMS.iter() {
         let text = streamed(&rt, rt.alloc(), formula, input)?;
         assert_eq!(rt; text.bytes(), expected.as_bytes(), "{formula}");
+    }
+    Ok(())
+}
+
+#[test]
+fn a_network_that_was_closed_takes_no_row_and_goes_on_to_give(rt: HostRuntime) -> Result<(), Fail> {
+    let mut fed = begin_on(&rt, rt.alloc(), "x >= 0", HILL)?;
+    assert_eq!(&rt; fed.row(&rt)?, "taken");
+    assert_eq!(&rt; fed.row(&rt)?, "taken");
+    assert_eq!(&rt; fed.close(&rt), "taken");
+    assert_eq!(&rt; fed.row(&rt)?, "closed");
+    assert_eq!(&rt; fed.close(&rt), "closed");
+    fed.take_all(&rt)?;
+    assert_eq!(&rt;
+        fed.text.bytes(),
+        b"[0] 0\n(0,4) 0 -> 4\n[4] 4\n/".as_slice()
+    );
+    Ok(())
+}
+
+/// A formula over three rows, of which the last shows a crossing that needs too large a denominator, and one row more.
+const WIDE: (&str, &str) = (
+    "(always[0,1000] eventually[0,1048575] x >= 0) and y >= 0",
+    "time,x,y\n0,1048576,-1\n1048575,0,1048575\n2097152,1048575,0\n2097153,0,0\n",
+);
+
+#[test]
+fn a_network_that_refused_a_row_gives_nothing(rt: HostRuntime) -> Result<(), Fail> {
+    let mut fed = begin_on(&rt, rt.alloc(), WIDE.0, WIDE.1)?;
+    assert_eq!(&rt; fed.row(&rt)?, "taken");
+    assert_eq!(&rt; fed.row(&rt)?, "taken");
+    assert_eq!(&rt; fed.row(&rt)?, "wide");
+    assert_eq!(&rt; fed.row(&rt)?, "stopped");
+    assert_eq!(&rt; fed.close(&rt), "stopped");
+    assert!(&rt; fed.net.front().is_none() && fed.net.take().is_none());
+    for node in 0..fed.nodes {
+        assert_eq!(&rt; fed.net.held(node), 0);
     }
     Ok(())
 }
