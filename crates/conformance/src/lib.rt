@@ -52,9 +52,9 @@ mod reason_tests;
 #[cfg(test)]
 mod report_tests;
 #[cfg(test)]
-mod run_tests;
+mod robust_net_tests;
 #[cfg(test)]
-mod rwatch_beside_tests;
+mod run_tests;
 #[cfg(test)]
 mod rwatch_tests;
 #[cfg(test)]

@@ -10,3 +10,4 @@ mod Gaps
 mod RampGaps
 mod Meets
 mod Levels
+mod Plains

@@ -3,7 +3,7 @@ use Rattle.stl_syntax.specs.Trace.{Header}
 use Rattle.online_nodes.specs.Network.{Event}
 use Rattle.online_nodes.specs.Driven.{steps_of}
 use Rattle.online_net.specs.Nets.{Stands}
-use Rattle.trace_stream.proofs.verdicts.Network.step_all.Given as goal
+use Rattle.trace_stream.proofs.verdicts.Network.step_each.Given as goal
 
 abbrev pub invariant-loop-node : goal.invariant-loop-node
 invariant-loop-node l = record {
