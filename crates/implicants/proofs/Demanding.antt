@@ -1,15 +1,15 @@
 -- What is demanded of a node hands down what is demanded of its operands.
-use Rattle.std.proofs.Common.{◌≡◌, ℕ, pos, negsuc, ◌<◌, ◌≤◌, ◌-◌, ◌^◌, ◌⊎◌, inl, inr, Bool, true, false, List}
-use Rattle.std.proofs.Common.{[], ◌∷◌, length, Some, refl, sym, subst, ap, ◌∙◌, arith, lit≤, lit<, rules}
+use Rattle.std.proofs.Common.{◌≡◌, ℕ, pos, negsuc, ◌<◌, ◌-◌, ◌^◌, ◌⊎◌, inl, inr, Bool, true, false, List}
+use Rattle.std.proofs.Common.{[], ◌∷◌, length, Some, sym, subst, ◌∙◌, arith, lit≤}
 use Rattle.std.specs.Prelude.{slice_get, Option, None, MatchBool, not}
 use Rattle.std.proofs.lemmas.Option.{slice_get_within}
-use Rattle.rational.specs.Time.{Rational, Within, Precedes, whole, later, ◌≤ʳ◌, ◌<ʳ◌, ◌≈◌}
+use Rattle.rational.specs.Time.{Rational, Within, whole, ◌≤ʳ◌, ◌<ʳ◌, ◌≈◌}
 use Rattle.rational.specs.Rational.{IsWithin}
-use Rattle.rational.specs.Extended.{Extended, finite, value_at, opposite, ◌≈ᵉ◌, ◌<ᵉ◌, ◌≤ᵉ◌, IsLeast, Passes}
+use Rattle.rational.specs.Extended.{Extended, finite, value_at, opposite, ◌<ᵉ◌, ◌≤ᵉ◌, Passes}
 use Rattle.rational.specs.Affine.{IsBounded}
-use Rattle.rational.specs.Windows.{Ahead, Behind, IsSupOver}
+use Rattle.rational.specs.Windows.{Ahead, Behind}
 use Rattle.rational.proofs.Order.{le_trans, le_refl, le_of_same, ge_of_same, same_refl, same_trans}
-use Rattle.rational.proofs.ExtendedLemmas.{clashᵉ, lt_of_lt_of_leᵉ, lt_of_le_of_ltᵉ, le_reflᵉ, lt_opposite, opposite_twice}
+use Rattle.rational.proofs.ExtendedLemmas.{clashᵉ, lt_of_lt_of_leᵉ, le_reflᵉ, lt_opposite}
 use Rattle.rational.proofs.AffineLemmas.{bounded_same, same_transᵉ}
 use Rattle.rational.proofs.LevelLemmas.{level_is}
 use Rattle.rational.proofs.Mixed.{within_whole}
@@ -28,20 +28,17 @@ use Rattle.signal_ops.specs.Pointwise.{LeastOf, Negated}
 use Rattle.window_ops.specs.Windows.{SupBehind}
 use Rattle.stl_syntax.specs.Trace.{Trace}
 use Rattle.stl_syntax.specs.Trace as trace
-use Rattle.stl_syntax.specs.Formula.{Subformula, subformula, root, tree_of, HasChildrenBelow, negation}
-use Rattle.stl_syntax.specs.Formula.{conjunction, disjunction, implication, eventually, always}
+use Rattle.stl_syntax.specs.Formula.{Subformula, subformula, tree_of, HasChildrenBelow}
 use Rattle.stl_syntax.specs.Kleene.{Must, MustNot}
-use Rattle.stl_syntax.specs.SupInf.{SupInf, one, minus_one, certainty_setting, HasValues, HasInfs}
-use Rattle.stl_syntax.specs.Cells.{IsChild}
+use Rattle.stl_syntax.specs.SupInf.{SupInf, one, minus_one, certainty_setting}
 use Rattle.stl_syntax.specs.declared.items.Item.{Item}
 use Rattle.stl_syntax.specs.declared.node.Node.{Node}
-use Rattle.stl_syntax.specs.declared.node.Node.TheVariants.{Const, Atom as Leaf, Not, And, Or, Implies, Until, Eventually, Always, Since, Once, Historically}
+use Rattle.stl_syntax.specs.declared.node.Node.TheVariants.{Not, And, Or, Implies, Eventually, Always}
 use Rattle.stl_syntax.proofs.FormulaLemmas.{subformula-at}
 use Rattle.stl_syntax.proofs.LawProofs.{certainty_by_values}
 use Rattle.offline_eval.specs.Making.{IsFit}
-use Rattle.offline_eval.specs.Evaluation.{TellNodes}
 use Rattle.implicants.specs.Keeping.{CoverMore}
-use Rattle.implicants.specs.Demands.{Certain, IsDemanded, IsOn, IsOff, IsDemand, IsAlong, StaysFit, AreOn, IsBeside, IsMet, AreCertainties, HandsDown}
+use Rattle.implicants.specs.Demands.{Certain, IsOn, IsOff, StaysFit, AreOn, IsBeside, IsMet, AreCertainties, HandsDown}
 use Rattle.implicants.specs.declared.demand.Demand.{Demand}
 use Rattle.implicants.proofs.Growing.{must, must_not}
 

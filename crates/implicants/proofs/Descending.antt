@@ -1,5 +1,5 @@
 -- What each kind of node hands down of what is demanded of it.
-use Rattle.std.proofs.Common.{◌≡◌, ℕ, ◌<◌, ◌≤◌, ◌-◌, ◌^◌, ◌⊎◌, inl, inr, Bool, true, false, List, length, Some, refl, sym, subst, ◌∙◌, arith}
+use Rattle.std.proofs.Common.{◌≡◌, ℕ, ◌<◌, ◌≤◌, ◌-◌, ◌^◌, inl, inr, Bool, true, false, List, length, Some, refl, sym, subst, arith}
 use Rattle.std.specs.Prelude.{slice_get, Option, None, IfOk, IfSome, MatchBool, not, nat_eq}
 use Rattle.std.specs.declared.result.Result.{Result}
 use Rattle.std.specs.declared.result.Result.TheVariants.{Ok, Err}

@@ -1,10 +1,10 @@
 -- A cell that is the last one left for some time is needed.
-use Rattle.std.proofs.Common.{◌≡◌, ℕ, zero, suc, ◌+◌, ◌<◌, ◌≤◌, ◌⊎◌, inl, inr, Bool, true, false}
-use Rattle.std.proofs.Common.{List, [], ◌∷◌, length, set, Some, None, refl, sym, subst, ◌∙◌, arith}
-use Rattle.std.specs.Prelude.{slice_get, slice_index, slice_index_or, Option, IsTrue, IsFalse, IfSome, MatchBool, MatchOption, ◌&&◌}
+use Rattle.std.proofs.Common.{◌≡◌, ℕ, zero, suc, ◌<◌, ◌≤◌, ◌⊎◌, inl, inr, Bool, true, false}
+use Rattle.std.proofs.Common.{List, [], ◌∷◌, Some, None, refl, sym, subst, ◌∙◌, arith}
+use Rattle.std.specs.Prelude.{slice_get, slice_index, slice_index_or, Option, IsTrue, IfSome, MatchBool, MatchOption, ◌&&◌}
 use Rattle.rational.specs.Rational.{middle}
-use Rattle.rational.specs.Time.{Rational, Interval, IsIn, IsNotEmpty, Precedes, closed, gap, later, ◌<ʳ◌, ◌≤ʳ◌, ◌≈◌}
-use Rattle.rational.proofs.Order.{le_refl, le_of_lt, le_of_same, le_trans, lt_of_le_of_lt, lt_of_lt_of_le, left_of_middle, right_of_middle}
+use Rattle.rational.specs.Time.{Rational, Interval, IsIn, IsNotEmpty, Precedes, closed, gap, ◌<ʳ◌, ◌≤ʳ◌}
+use Rattle.rational.proofs.Order.{le_refl, le_of_same, lt_of_le_of_lt, lt_of_lt_of_le, left_of_middle, right_of_middle}
 use Rattle.rational.proofs.TimeLemmas.{precedes_of_room, precedes_of_lt, precedes_le}
 use Rattle.frac128.specs.Value.{value}
 use Rattle.frac128.specs.Spans.{interval}
@@ -15,20 +15,19 @@ use Rattle.pl_signal.specs.declared.knot.Knot.{Knot}
 use Rattle.pl_signal.proofs.Values.{some_is}
 use Rattle.stl_syntax.specs.Trace.{Trace}
 use Rattle.stl_syntax.specs.Trace as trace
-use Rattle.stl_syntax.specs.Formula.{atom, subformula, root}
+use Rattle.stl_syntax.specs.Formula.{atom, subformula}
 use Rattle.stl_syntax.specs.Truth.{Truth, holds_at}
 use Rattle.stl_syntax.specs.Cells.{cells, AreRisingTimes}
 use Rattle.stl_syntax.specs.Kept.{IsSo, ItemsOn}
-use Rattle.stl_syntax.specs.Kleene.{IsCovered}
 use Rattle.stl_syntax.specs.declared.atom.Atom.{Atom}
 use Rattle.stl_syntax.specs.declared.items.Item.{Item}
 use Rattle.stl_syntax.specs.declared.node.Node.{Node}
 use Rattle.stl_syntax.specs.declared.node.Node.TheVariants.{Atom as Leaf}
 use Rattle.stl_syntax.proofs.FormulaLemmas.{subformula-at}
-use Rattle.implicants.specs.Runs.{IsRun, AreAllCells, begins}
+use Rattle.implicants.specs.Runs.{AreAllCells, begins}
 use Rattle.implicants.specs.Keeping.{CoverMore, remaining}
-use Rattle.implicants.specs.Demands.{Certain, IsOn, IsNeeded, IsAmongPlaces, MarksNeeded}
-use Rattle.implicants.specs.Choices.{InWindow, IsChoice, IsLastBefore, IsFirstBehind, IsPast, IsShort, MissesCells, IsLastCell, PutsLasts}
+use Rattle.implicants.specs.Demands.{Certain, IsNeeded, MarksNeeded}
+use Rattle.implicants.specs.Choices.{InWindow, IsChoice, IsPast, IsShort, IsLastCell, PutsLasts}
 use Rattle.implicants.specs.declared.choice.Window.{Window}
 use Rattle.implicants.proofs.Strips.{IsCellOn, in_cut, in_gap, from_first}
 use Rattle.implicants.proofs.Certain.{in_run}

@@ -1,6 +1,6 @@
 -- A cell in which its atom is demanded is needed.
-use Rattle.std.proofs.Common.{◌≡◌, ℕ, ◌+◌, ◌<◌, ◌⊎◌, inl, inr, Bool, true, false, List, [], ◌∷◌, length}
-use Rattle.std.proofs.Common.{set, pos, negsuc, Some, None, refl, sym, subst, ◌∙◌, arith, lit<}
+use Rattle.std.proofs.Common.{◌≡◌, ℕ, ◌+◌, ◌<◌, ◌⊎◌, inl, inr, Bool, true, false, List}
+use Rattle.std.proofs.Common.{set, Some, None, refl, sym, subst, arith, lit<}
 use Rattle.std.specs.Prelude.{slice_get, slice_index, slice_index_or, Option, IsTrue, IfSome, ◌&&◌}
 use Rattle.rational.specs.Rational.{middle}
 use Rattle.frac128.specs.Value.{value}
@@ -20,7 +20,7 @@ use Rattle.pl_signal.specs.declared.knot.Knot.{Knot}
 use Rattle.pl_signal.specs.Knots.{time}
 use Rattle.pl_signal.proofs.Values.{worth_at, worth_between}
 use Rattle.stl_syntax.specs.Trace.{Trace}
-use Rattle.stl_syntax.specs.Formula.{atom, subformula, root}
+use Rattle.stl_syntax.specs.Formula.{atom}
 use Rattle.stl_syntax.specs.Kleene.{IsCovered}
 use Rattle.stl_syntax.specs.SupInf.{minus_one}
 use Rattle.stl_syntax.specs.declared.atom.Atom.{Atom}
@@ -28,10 +28,9 @@ use Rattle.stl_syntax.specs.declared.items.Item.{Item}
 use Rattle.stl_syntax.specs.declared.node.Node.{Node}
 use Rattle.stl_syntax.specs.declared.node.Node.TheVariants.{Atom as Leaf}
 use Rattle.stl_syntax.proofs.FormulaLemmas.{subformula-at}
-use Rattle.implicants.specs.Runs.{IsRun, AreAllCells, begins}
-use Rattle.implicants.specs.Certainty.{stays}
+use Rattle.implicants.specs.Runs.{AreAllCells, begins}
 use Rattle.implicants.specs.Keeping.{CoverMore, remaining}
-use Rattle.implicants.specs.Demands.{Certain, IsOn, IsDemand, IsNeeded, IsAmongPlaces, MarksMore, MarksNeeded, Touches, AreCertainties, AreToldOfMore}
+use Rattle.implicants.specs.Demands.{Certain, IsDemand, IsNeeded, IsAmongPlaces, MarksMore, MarksNeeded, Touches, AreCertainties, AreToldOfMore}
 use Rattle.implicants.proofs.Strips.{one_cell}
 use Rattle.implicants.proofs.Covering.{IsOver, from_remaining, to_covered}
 use Rattle.implicants.proofs.Certain.{in_run}

@@ -1,14 +1,14 @@
 -- A trace has one explanation: of each list of all cells what is kept is enough where it is of one.
 use Rattle.std.proofs.Common.{◌≡◌, ℕ, suc, ◌<◌, inl, inr, length, List, [], ◌∷◌, ◌++◌, reverse, refl, sym, subst, ◌∙◌, append-nil}
 use Rattle.std.proofs.lemmas.List.{reverse-reverse}
-use Rattle.rational.specs.Time.{Rational, Interval, IsIn, Precedes, BeginAlike, EndAlike, ◌<ʳ◌, ◌≈◌}
-use Rattle.rational.proofs.Order.{same_refl, same_sym, same_trans, le_of_same, ge_of_same, lt_irrefl, lt_of_lt_of_le}
+use Rattle.rational.specs.Time.{Rational, Interval, IsIn, Precedes, BeginAlike, EndAlike}
+use Rattle.rational.proofs.Order.{same_refl, same_sym, same_trans, le_of_same, ge_of_same}
 use Rattle.rational.proofs.TimeLemmas.{precedes_after, precedes_before}
 use Rattle.frac128.specs.Spans.{interval}
 use Rattle.stl_syntax.specs.Trace.{Trace, start}
 use Rattle.stl_syntax.specs.Formula.{root}
-use Rattle.stl_syntax.specs.Kleene.{IsCovered, MustNot}
-use Rattle.stl_syntax.specs.Cells.{AreCuts, cells}
+use Rattle.stl_syntax.specs.Kleene.{MustNot}
+use Rattle.stl_syntax.specs.Cells.{cells}
 use Rattle.stl_syntax.specs.Kept.{ItemsOn, AllCells, Kept, Agree}
 use Rattle.stl_syntax.specs.PostOrder.{IsPostOrder}
 use Rattle.stl_syntax.proofs.LawProofs.{explanations_hold}

@@ -1,13 +1,12 @@
 -- Cells that are marked before their turn: those that are needed whatever else is dropped are kept when they are judged.
 use Rattle.std.proofs.Common.{◌≡◌, ℕ, zero, suc, ◌+◌, ◌-◌, ◌*◌, ◌<◌, ◌≤◌, ◌⊎◌, inl, inr, Bool, true, false, List, [], ◌∷◌}
-use Rattle.std.proofs.Common.{◌++◌, length, take, set, reverse, Some, refl, sym, ap, subst, ◌∙◌, arith, length-set, replicate}
-use Rattle.std.specs.Prelude.{slice_get, slice_index_or, slice_set, nat_lt, ◌||◌, if◌then◌else◌}
+use Rattle.std.proofs.Common.{length, take, set, reverse, Some, refl, sym, ap, subst, ◌∙◌, arith, length-set, replicate}
+use Rattle.std.specs.Prelude.{slice_get, slice_index_or, nat_lt, ◌||◌, if◌then◌else◌}
 use Rattle.std.proofs.Math.Nat.{suc-mul}
 use Rattle.std.proofs.lemmas.Bool.Decides.{nat_tests}
-use Rattle.rational.specs.Time.{Rational}
 use Rattle.stl_syntax.specs.Trace.{Trace, start}
 use Rattle.stl_syntax.specs.Formula.{root}
-use Rattle.stl_syntax.specs.Kleene.{IsCovered, MustNot}
+use Rattle.stl_syntax.specs.Kleene.{MustNot}
 use Rattle.stl_syntax.specs.Kept.{KeptFrom}
 use Rattle.stl_syntax.specs.declared.items.Item.{Item}
 use Rattle.stl_syntax.specs.declared.node.Node.{Node}

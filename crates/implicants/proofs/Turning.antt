@@ -1,11 +1,10 @@
 -- What is demanded of some time of a window hands down what is demanded of some time of an operand.
-use Rattle.std.proofs.Common.{◌≡◌, ℕ, ◌<◌, ◌≤◌, ◌⊎◌, inl, inr, Bool, true, false, List, length, Some, refl, sym, subst, ◌∙◌, arith, lit≤}
+use Rattle.std.proofs.Common.{◌≡◌, ℕ, ◌<◌, ◌≤◌, inl, inr, Bool, true, false, List, length, Some, refl, sym, subst, arith, lit≤}
 use Rattle.std.specs.Prelude.{slice_get, Option, None, IfOk, IfSome, MatchBool, not}
 use Rattle.std.specs.declared.result.Result.{Result}
 use Rattle.std.specs.declared.result.Result.TheVariants.{Ok, Err}
 use Rattle.std.proofs.lemmas.Option.{slice_get_within}
-use Rattle.rational.specs.Time.{Rational, Within, ◌≈◌}
-use Rattle.rational.specs.Windows.{Ahead}
+use Rattle.rational.specs.Time.{Rational, ◌≈◌}
 use Rattle.rational.specs.Extended.{opposite, ◌≤ᵉ◌}
 use Rattle.rational.proofs.Order.{le_trans, le_of_same, ge_of_same, same_refl, same_sym, same_trans}
 use Rattle.rational.proofs.ExtendedLemmas.{lt_of_le_of_ltᵉ, lt_opposite}
@@ -19,7 +18,7 @@ use Rattle.signal_ops.specs.Pointwise.{Negated}
 use Rattle.window_ops.specs.Windows.{SupAhead}
 use Rattle.stl_syntax.specs.Trace.{Trace}
 use Rattle.stl_syntax.specs.Trace as trace
-use Rattle.stl_syntax.specs.Formula.{Subformula, subformula, tree_of, HasChildrenBelow}
+use Rattle.stl_syntax.specs.Formula.{subformula, tree_of, HasChildrenBelow}
 use Rattle.stl_syntax.specs.SupInf.{one, minus_one}
 use Rattle.stl_syntax.specs.Cells.{IsChild}
 use Rattle.stl_syntax.specs.declared.items.Item.{Item}
@@ -28,7 +27,7 @@ use Rattle.stl_syntax.specs.declared.node.Node.TheVariants.{Not, And, Or, Eventu
 use Rattle.stl_syntax.proofs.FormulaLemmas.{subformula-at}
 use Rattle.offline_eval.specs.Making.{IsFit}
 use Rattle.implicants.specs.Keeping.{CoverMore}
-use Rattle.implicants.specs.Demands.{Certain, IsOn, IsOff, IsAlong, StaysFit, AreOn, AreCertainties, IsDemand}
+use Rattle.implicants.specs.Demands.{Certain, IsOn, IsOff, StaysFit, AreOn, AreCertainties, IsDemand}
 use Rattle.implicants.specs.Choices.{InWindow, IsChoice, IsSomeAhead, IsTurn, IsLeft, IsNoneAhead, IsOpen, HandsChoice}
 use Rattle.implicants.specs.declared.demand.Demand.{Demand}
 use Rattle.implicants.specs.declared.choice.Window.{Window}

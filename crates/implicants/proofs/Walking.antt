@@ -1,12 +1,12 @@
 -- A walk back over the cells of an atom marks those that are each the last one left for some time.
 use Rattle.std.proofs.Common.{◌≡◌, ℕ, ℤ, zero, suc, pos, negsuc, neg_ℤ, ◌-◌, ◌^◌, ◌+◌, ◌<◌, ◌≤◌, ◌⊎◌, inl, inr, Bool}
 use Rattle.std.proofs.Common.{true, false, List, length, set, Some, None, refl, sym, ap, subst, ◌∙◌, arith, length-set}
-use Rattle.std.specs.Prelude.{slice_get, slice_index_or, Option, IfSome, MatchOption, not, ◌&&◌}
+use Rattle.std.specs.Prelude.{slice_get, Option, IfSome, MatchOption, not, ◌&&◌}
 use Rattle.std.proofs.lemmas.Option.{slice_get_within}
 use Rattle.std.proofs.Math.Bool.{beq}
 use Rattle.rational.specs.Rational.{IsWithin}
 use Rattle.rational.specs.Time.{Rational, Within, IsIn, Precedes, add, whole, later, ◌<ʳ◌, ◌≤ʳ◌, ◌≈◌}
-use Rattle.rational.proofs.Order.{le_of_lt, le_of_same, ge_of_same, le_trans, lt_of_le_of_lt, lt_of_lt_of_le, not_lt_of_le, same_trans}
+use Rattle.rational.proofs.Order.{le_of_same, ge_of_same, le_trans, not_lt_of_le, same_trans}
 use Rattle.rational.proofs.TimeLemmas.{later_le, same_later, precedes_le}
 use Rattle.value_laws.specs.Kinds.{kleene_shape}
 use Rattle.value_laws.specs.declared.kleene.Kleene.{Kleene}

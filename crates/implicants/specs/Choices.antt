@@ -1,5 +1,5 @@
 -- What must be certain of a node at some time of a window, and which cells that leaves as the last ones for some time.
-use Rattle.std.specs.Prelude.{◌≡◌, ◌⊎◌, ℕ, suc, slice_set, ◌<◌, ◌≤◌, Bool, true, false, List, length, Option}
+use Rattle.std.specs.Prelude.{◌≡◌, ◌⊎◌, ℕ, suc, slice_set, ◌<◌, ◌≤◌, Bool, true, false, List, Option}
 use Rattle.std.specs.Prelude.{Some, None, slice_get, slice_index_or, IfSome, MatchBool, MatchOption}
 use Rattle.rational.specs.Time.{Rational, IsIn, Precedes, later, ◌≈◌}
 use Rattle.rational.specs.Windows.{Ahead}

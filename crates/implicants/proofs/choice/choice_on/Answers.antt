@@ -1,4 +1,4 @@
-use Rattle.std.proofs.Common.{◌≡◌, ◌<◌, List, length, subst, arith}
+use Rattle.std.proofs.Common.{◌<◌, List, length, subst, arith}
 use Rattle.std.specs.Prelude.{IfSome}
 use Rattle.rational.specs.Time.{◌≈◌}
 use Rattle.rational.proofs.Order.{same_trans}

@@ -1,4 +1,4 @@
-use Rattle.std.proofs.Common.{◌≡◌, ◌<◌, ◌≤◌, ◌^◌, length, refl, sym, subst, arith}
+use Rattle.std.proofs.Common.{◌<◌, ◌^◌, length, refl, sym, subst, arith}
 use Rattle.std.specs.Prelude.{IfSome}
 use Rattle.rational.proofs.Order.{same_trans}
 use Rattle.value_laws.specs.Kinds.{kleene_shape}

@@ -1,8 +1,5 @@
 use Rattle.std.proofs.Common.{◌≡◌, ◌<◌, ◌-◌, List, length}
-use Rattle.rational.specs.Time.{◌≈◌}
 use Rattle.value_laws.specs.Kinds.{kleene_shape}
-use Rattle.pl_signal.specs.Knots.{start, stop}
-use Rattle.stl_syntax.specs.Trace as trace
 use Rattle.stl_syntax.specs.declared.items.Item.{Item}
 use Rattle.implicants.specs.Demands.{AreCertainties, StaysFit}
 use Rattle.implicants.specs.Choices.{IsChoice}

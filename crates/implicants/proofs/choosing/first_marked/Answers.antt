@@ -1,4 +1,4 @@
-use Rattle.std.proofs.Common.{refl, ◌≡◌, ◌+◌, ◌<◌, ◌≤◌, suc, length, subst, arith}
+use Rattle.std.proofs.Common.{refl, ◌≡◌, ◌+◌, suc, subst, arith}
 use Rattle.implicants.proofs.Walking.{NoneMarked, unmarked_more, first_found, first_none}
 use Rattle.implicants.proofs.choosing.first_marked.Goals as goal
 

@@ -1,4 +1,4 @@
-use Rattle.std.proofs.Common.{◌≡◌, sym, ap, ◌∙◌}
+use Rattle.std.proofs.Common.{sym, ap, ◌∙◌}
 use Rattle.pl_signal.proofs.Values.{some_is}
 use Rattle.implicants.proofs.choosing.is_marked.Goals as goal
 

@@ -1,4 +1,4 @@
-use Rattle.std.proofs.Common.{◌≡◌, sym, ap, ◌∙◌}
+use Rattle.std.proofs.Common.{sym, ap, ◌∙◌}
 use Rattle.pl_signal.proofs.Values.{some_is}
 use Rattle.implicants.proofs.Walking.{equal_truths}
 use Rattle.implicants.proofs.choosing.is_such.Goals as goal

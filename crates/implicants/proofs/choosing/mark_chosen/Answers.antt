@@ -1,5 +1,4 @@
-use Rattle.std.proofs.Common.{◌≡◌, ◌+◌, ◌-◌, ◌<◌, ◌≤◌, suc, length, sym, subst, arith, ◌∙◌}
-use Rattle.value_laws.specs.Kinds.{kleene_shape}
+use Rattle.std.proofs.Common.{◌≡◌, ◌+◌, ◌-◌, suc, length, sym, subst, arith, ◌∙◌}
 use Rattle.implicants.specs.Keeping.{AreBlank}
 use Rattle.implicants.specs.Choices.{IsFirstBehind}
 use Rattle.implicants.proofs.Walking.{puts_none, puts_more, puts_length, puts_blank}

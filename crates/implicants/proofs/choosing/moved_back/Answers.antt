@@ -1,8 +1,8 @@
-use Rattle.std.proofs.Common.{rules, ◌≡◌, ◌≤◌, ◌-◌, ◌^◌, pos, to_z, of_z, sym, subst, arith}
+use Rattle.std.proofs.Common.{rules, ◌≡◌, ◌-◌, ◌^◌, pos, to_z, of_z, sym, subst}
 use Rattle.std.specs.Int.{w64}
 use Rattle.std.proofs.lemmas.Int.{to_z-of_z}
 use Rattle.rational.specs.Rational.{FitsFloor}
-use Rattle.rational.specs.Time.{Within, add, whole, ◌≈◌, ◌≤ʳ◌}
+use Rattle.rational.specs.Time.{add, whole, ◌≈◌, ◌≤ʳ◌}
 use Rattle.frac128.specs.Value.{value}
 use Rattle.implicants.proofs.Moving.{move_fits}
 use Rattle.implicants.proofs.Walking.{near_in, moved_later}

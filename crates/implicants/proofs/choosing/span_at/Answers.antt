@@ -1,4 +1,4 @@
-use Rattle.std.proofs.Common.{◌≡◌, Some, sym, ap, subst, ◌∙◌}
+use Rattle.std.proofs.Common.{Some, sym, ap, subst, ◌∙◌}
 use Rattle.pl_signal.proofs.Values.{some_is}
 use Rattle.implicants.specs.Choices.{IsSpanAt}
 use Rattle.implicants.proofs.choosing.span_at.Goals as goal

@@ -1,4 +1,4 @@
-use Rattle.std.proofs.Common.{refl, ◌≡◌, ◌-◌, ◌<◌, ◌≤◌, suc, subst, arith}
+use Rattle.std.proofs.Common.{refl, ◌≡◌, ◌-◌, suc, subst, arith}
 use Rattle.implicants.proofs.Walking.{NoneFrom, none_more, last_found, last_none}
 use Rattle.implicants.proofs.choosing.such_before.Goals as goal
 

@@ -1,10 +1,9 @@
-use Rattle.std.proofs.Common.{◌≡◌, ◌<◌, ◌≤◌, ◌-◌, ◌^◌, length, pos, true, false, Some, refl, sym, ap, subst, arith, ◌∙◌}
+use Rattle.std.proofs.Common.{◌≡◌, ◌<◌, ◌-◌, ◌^◌, length, pos, sym, ap, subst, arith}
 use Rattle.std.specs.Prelude.{IfSome}
 use Rattle.rational.specs.Time.{whole, ◌≈◌}
 use Rattle.rational.proofs.Order.{same_trans}
 use Rattle.value_laws.specs.Kinds.{kleene_shape}
 use Rattle.pl_signal.specs.Knots.{start, stop}
-use Rattle.stl_syntax.specs.Trace.{last_time}
 use Rattle.stl_syntax.specs.Formula.{subformula}
 use Rattle.implicants.specs.Demands.{Certain, HandsDown}
 use Rattle.implicants.proofs.Descending.{root_demand, others_fit, child_inside, children_within}

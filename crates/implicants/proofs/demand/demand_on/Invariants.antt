@@ -1,4 +1,4 @@
-use Rattle.std.proofs.Common.{◌≡◌, ◌<◌, ◌-◌, List, length}
+use Rattle.std.proofs.Common.{◌<◌, ◌-◌, List, length}
 use Rattle.rational.specs.Time.{◌≈◌}
 use Rattle.value_laws.specs.Kinds.{kleene_shape}
 use Rattle.pl_signal.specs.Knots.{start, stop}

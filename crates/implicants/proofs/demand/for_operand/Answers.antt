@@ -1,4 +1,3 @@
-use Rattle.std.proofs.Common.{refl}
 use Rattle.implicants.proofs.Descending.{each_some, hands_not, hands_and, hands_or, hands_implies, hands_and_beside}
 use Rattle.implicants.proofs.Descending.{hands_or_beside, hands_implied_left, hands_implied_right, hands_eventually}
 use Rattle.implicants.proofs.Descending.{hands_always}

@@ -1,5 +1,5 @@
-use Rattle.std.proofs.Common.{◌≡◌, List, Some, subst}
-use Rattle.std.specs.Prelude.{slice_get, IfSome}
+use Rattle.std.proofs.Common.{List, subst}
+use Rattle.std.specs.Prelude.{IfSome}
 use Rattle.value_laws.specs.Kinds.{kleene_shape}
 use Rattle.stl_syntax.specs.declared.items.Item.{Item}
 use Rattle.offline_eval.specs.Making.{IsFit}

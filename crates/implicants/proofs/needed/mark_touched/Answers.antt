@@ -1,4 +1,4 @@
-use Rattle.std.proofs.Common.{◌≡◌, ◌<◌, refl, subst, sym, ◌∙◌, arith}
+use Rattle.std.proofs.Common.{◌<◌, subst, sym, ◌∙◌, arith}
 use Rattle.implicants.proofs.Needing.{mark_none, marks_on}
 use Rattle.implicants.proofs.needed.mark_touched.Goals as goal
 

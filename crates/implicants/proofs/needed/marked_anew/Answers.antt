@@ -1,4 +1,4 @@
-use Rattle.std.proofs.Common.{◌≡◌, length, sym, subst, ap, ◌∙◌}
+use Rattle.std.proofs.Common.{length, sym, subst, ap, ◌∙◌}
 use Rattle.std.specs.Prelude.{IfSome}
 use Rattle.value_laws.specs.Kinds.{kleene_shape}
 use Rattle.implicants.specs.Keeping.{AreBlank, remaining}
