@@ -4,5 +4,6 @@ pub mod Certainty
 pub mod Signals
 pub mod Cuts
 pub mod Demands
+pub mod Choices
 pub mod Explaining
 pub mod Counting
