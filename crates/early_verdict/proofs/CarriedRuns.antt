@@ -1,9 +1,9 @@
 -- Runs that let go of the times before one, and are carried on from before it, tell the same of the others.
-use Rattle.std.proofs.Common.{◌⊎◌, inl, inr, refl, Bool, true, false, List}
+use Rattle.std.proofs.Common.{inl, inr, refl, Bool, true, false, List}
 use Rattle.std.specs.Prelude.{IsTrue}
-use Rattle.rational.specs.Time.{Rational, Within, ◌≤ʳ◌}
+use Rattle.rational.specs.Time.{Rational, ◌≤ʳ◌}
 use Rattle.rational.proofs.Order.{le_of_lt, le_or_lt, le_trans}
-use Rattle.early_verdict.specs.Cuts.{Place, place, After, Upto}
+use Rattle.early_verdict.specs.Cuts.{place, After}
 use Rattle.early_verdict.specs.Spans.{AreTidy, IsAmong, IsOn, Lies}
 use Rattle.early_verdict.specs.Steps.{HoldsFrom}
 use Rattle.early_verdict.specs.Reaching.{GoesBackBy, IsCarried}
@@ -86,5 +86,6 @@ module _ (d : Rational) (runs runs' spans spans' : List Stretch) (x y : Grown) (
             (λ w i j. runs_out w (k.all w (after_le (place y.bounds.from) m.0 w i m.1) j)) (h.only m.0 (only m.0 on).0).1))
       ]
 
+  -- a run that was cut and is carried on tells the later times as before
   pub says_back : Says y (GoesBackBy b' (place y.bounds.from) runs' spans')
   says_back = record { has = has_it; only = λ t o. let c = only t o in (c.1, still t c.1 (h.only t c.0).1) }

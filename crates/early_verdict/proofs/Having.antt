@@ -1,20 +1,21 @@
 -- An event leaves what all nodes look at as it was.
-use Rattle.std.proofs.Common.{◌≡◌, ◌⊎◌, inl, inr, sym, subst, ◌∙◌, ℕ, ◌<◌, Some, List, length, arith}
+use Rattle.std.proofs.Common.{◌≡◌, inl, inr, sym, subst, ◌∙◌, ℕ, ◌<◌, Some, List, length, arith}
 use Rattle.std.specs.Prelude.{slice_get}
 use Rattle.rational.specs.Time.{Rational}
 use Rattle.stl_syntax.specs.declared.node.Node.{Node}
 use Rattle.early_verdict.specs.Spans.{IsOn, Lies}
-use Rattle.early_verdict.specs.Fitting.{HasStepped, Lists, lists_at}
+use Rattle.early_verdict.specs.Fitting.{HasStepped}
 use Rattle.early_verdict.specs.Standing.{SteppedTo}
 use Rattle.early_verdict.specs.Living.{AreLive, HasShown, IsLive, IsShown, ShownTo}
 use Rattle.early_verdict.specs.declared.sets.Sets.{Sets}
-use Rattle.early_verdict.proofs.AllSets.{AreSound, is_shown, lists_are, no_there, sets_at, shown_is, shown_within, yes_there}
+use Rattle.early_verdict.proofs.AllSets.{AreSound, is_shown, sets_at, shown_is, shown_within}
 use Rattle.early_verdict.proofs.LivingLemmas.{looks_as, parts_as}
 use Rattle.early_verdict.proofs.Netting.{nodes_at}
 use Rattle.early_verdict.proofs.Places.{get_within}
 
 module _ (nodes : List Node) (from : Rational) (old new old_shown new_shown : List Sets) (h : SteppedTo (length nodes) old new)
     (g : ShownTo (length nodes) new old_shown new_shown) (have : AreLive nodes from old old_shown) where
+  -- a node's sets were there before the event
   pub was_at : (i : ℕ) (s : Sets) → slice_get new i ≡ Some s → (r : Sets) × (slice_get old i ≡ Some r) × HasStepped r s
   was_at i s is =
       let l = get_within new i s is in
@@ -23,7 +24,9 @@ module _ (nodes : List Node) (from : Rational) (old new old_shown new_shown : Li
       let w = sets_at old i (omega (arith, l, c)) in
       (w.0, w.1, h.stepped i w.0 s (omega (arith, l, c, d)) w.1 is)
 
-  pub showed_at : (i : ℕ) (x : Sets) → slice_get new_shown i ≡ Some x → (s : Sets) × (slice_get new i ≡ Some s) × (w : Sets) × (slice_get old_shown i ≡ Some w) × HasShown w x s
+  -- and what it shows is of what it has and what it showed
+  pub showed_at : (i : ℕ) (x : Sets) → slice_get new_shown i ≡ Some x
+      → (s : Sets) × (slice_get new i ≡ Some s) × (w : Sets) × (slice_get old_shown i ≡ Some w) × HasShown w x s
   showed_at i x is =
       let l = get_within new_shown i x is in
       let c = g.count in
@@ -37,6 +40,7 @@ module _ (nodes : List Node) (from : Rational) (old new old_shown new_shown : Li
   same_one : (a b : Sets) → Some a ≡ Some b → a ≡ b
   same_one a b e = cc
 
+  -- what was shown is shown still
   pub shown_still : (p : ℕ) (u : Rational) → IsShown old_shown p u → IsShown new_shown p u
   shown_still p u o =
       let c = g.count in
@@ -45,25 +49,8 @@ module _ (nodes : List Node) (from : Rational) (old new old_shown new_shown : Li
       let w = showed_at p x.0 x.1 in
       is_shown new_shown p x.0 u x.1 (subst (λ b. Lies b u) (sym w.4.no) (shown_is old_shown p w.2 u w.3 o))
 
-  -- and the lists have what they had
-  lists_still : (p : ℕ) (u : Rational)
-      → (IsOn (lists_at old_shown p).yes u → IsOn (lists_at new_shown p).yes u) × (IsOn (lists_at old_shown p).no u → IsOn (lists_at new_shown p).no u)
-  lists_still p u = (
-    λ o.
-        let l = yes_there old_shown p u o in
-        let c = g.count in
-        let x = sets_at new_shown p (omega (arith, c, l)) in
-        let m = showed_at p x.0 x.1 in
-        subst (λ (l : Lists). IsOn l.yes u) (sym (lists_are new_shown p x.0 x.1)) (m.4.gains_yes.kept u (subst (λ (l : Lists). IsOn l.yes u) (lists_are old_shown p m.2 m.3) o)),
-    λ o.
-        let l = no_there old_shown p u o in
-        let c = g.count in
-        let x = sets_at new_shown p (omega (arith, c, l)) in
-        let m = showed_at p x.0 x.1 in
-        subst (λ (l : Lists). IsOn l.no u) (sym (lists_are new_shown p x.0 x.1)) (m.4.gains_no.kept u (subst (λ (l : Lists). IsOn l.no u) (lists_are old_shown p m.2 m.3) o)),
-  )
-
-  live_still : (i : ℕ) (n : Node) (s x : Sets) → slice_get nodes i ≡ Some n → slice_get new i ≡ Some s → slice_get new_shown i ≡ Some x → IsLive from new_shown n s x
+  live_still : (i : ℕ) (n : Node) (s x : Sets) → slice_get nodes i ≡ Some n → slice_get new i ≡ Some s
+      → slice_get new_shown i ≡ Some x → IsLive from new_shown n s x
   live_still i n s x at is ix = by_old (was_at i s is) (showed_at i x ix)
     where
       by_old : ((r : Sets) × (slice_get old i ≡ Some r) × HasStepped r s)
@@ -73,7 +60,7 @@ module _ (nodes : List Node) (from : Rational) (old new old_shown new_shown : Li
         yes = step.yes ∙ k.yes;
         no = step.no ∙ k.no;
         starts = k.starts;
-        looks = looks_as from k.own k.own (λ t l. l) n old_shown new_shown r.parts s.parts (λ p e. shown_still p) (λ p e. lists_still p) step.parts k.looks;
+        looks = looks_as from k.own k.own (λ t l. l) n old_shown new_shown r.parts s.parts (λ p e. shown_still p) step.parts k.looks;
         left = parts_as n r s old_shown new_shown step.parts (λ p l' q z. let m = showed_at p l' z in (m.2, m.3, m.4.no)) k.left;
         shown_yes = shows.yes ∙ k.shown_yes ∙ sym shows.no;
         shown_starts = λ t l. k.shown_starts t (subst (λ b. Lies b t) shows.no l);

@@ -19,7 +19,6 @@ pub mod Telling
 pub mod UntilSets
 pub mod SinceSets
 pub mod Settling
-pub mod Apart
 pub mod SettledSets
 pub mod EndedSets
 pub mod AllSets

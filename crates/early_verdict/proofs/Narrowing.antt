@@ -1,12 +1,11 @@
 -- What stands goes on to stand, where nodes go on from fewer times, or show fewer.
-use Rattle.std.proofs.Common.{◌≡◌, ◌≢◌, ◌⊎◌, inl, inr, refl, sym, ap, subst, ◌∙◌, ℕ, zero, suc, ◌-◌, ◌<◌, ◌≤◌, Bool, true, false, Option, Some, None, List, [], ◌∷◌, length, arith}
+use Rattle.std.proofs.Common.{◌≡◌, ◌≢◌, ◌⊎◌, inl, inr, refl, sym, ap, subst, ◌∙◌, ℕ, zero, suc, ◌-◌, ◌<◌}
+use Rattle.std.proofs.Common.{◌≤◌, Bool, true, false, Option, Some, None, List, [], ◌∷◌, length, arith}
 use Rattle.std.specs.Prelude.{MatchBool, MatchOption, slice_get}
-use Rattle.rational.specs.Time.{Rational, later, ◌≤ʳ◌, ◌<ʳ◌}
+use Rattle.rational.specs.Time.{Rational, ◌≤ʳ◌, ◌<ʳ◌}
 use Rattle.rational.proofs.Order.{le_of_lt}
-use Rattle.rational.proofs.TimeLemmas.{precedes_le}
 use Rattle.stl_syntax.specs.Trace.{Trace, start}
-use Rattle.stl_syntax.specs.Formula.{HasChildrenBelow, subformula}
-use Rattle.stl_syntax.specs.Early.{Settled, SettledNot}
+use Rattle.stl_syntax.specs.Formula.{HasChildrenBelow}
 use Rattle.stl_syntax.specs.WellFormed.{AreWellFormed}
 use Rattle.stl_syntax.specs.declared.node.Node.{Node}
 use Rattle.stl_syntax.specs.declared.node.Node.TheVariants.{Const, Atom as Leaf, Not, And, Or, Implies, Until, Eventually, Always, Since, Once, Historically}
@@ -14,22 +13,22 @@ use Rattle.stl_syntax.proofs.PostOrderLemmas.{placed}
 use Rattle.early_verdict.specs.Cuts.{Place, After}
 use Rattle.early_verdict.specs.Spans.{IsOn, Lies}
 use Rattle.early_verdict.specs.Readings.{SomeAhead, OnlyAhead, SomeBehind, OnlyBehind}
-use Rattle.early_verdict.specs.Fitting.{Lists, lists_at, no_of, nothing, yes_of, Fits, SayBoth, SayOfParts, NegationFits, ConjunctionFits, DisjunctionFits, ImplicationFits, UntilFits, SinceFits, EventuallyFits, AlwaysFits, OnceFits, HistoricallyFits, AreSetsTidy}
+use Rattle.early_verdict.specs.Fitting.{Lists, lists_at, nothing, Fits, SayBoth, SayOfParts, NegationFits}
+use Rattle.early_verdict.specs.Fitting.{ConjunctionFits, DisjunctionFits, ImplicationFits, UntilFits, SinceFits}
+use Rattle.early_verdict.specs.Fitting.{EventuallyFits, AlwaysFits, OnceFits, HistoricallyFits, AreSetsTidy}
 use Rattle.early_verdict.specs.Standing.{AllFit, AllTidy, HasParts, left_of}
-use Rattle.early_verdict.specs.Living.{AreLive, IsLive, IsNarrowed, IsShown, Known, LooksAt, LooksBack, NetStands}
-use Rattle.early_verdict.specs.Letting.{AreApart, AreAskedBy, AreInside, AreLess, IsChild, IsInside, IsLess, IsRun, IsSettledAt, IsUntil}
+use Rattle.early_verdict.specs.Living.{IsLive, IsNarrowed, IsShown, Known, LooksAt, NetStands}
+use Rattle.early_verdict.specs.Letting.{AreAskedBy, AreInside, AreLess, IsChild, IsLess, IsRun, IsSettledAt, IsUntil}
 use Rattle.early_verdict.specs.declared.stretch.Stretch.{Stretch}
 use Rattle.early_verdict.specs.declared.grown.Grown.{Grown}
 use Rattle.early_verdict.specs.declared.sets.Sets.{Sets}
 use Rattle.early_verdict.specs.declared.sets.Parts.{Parts}
-use Rattle.early_verdict.proofs.AllSets.{is_shown, lists_are, sets_at, shown_is, shown_within, yes_there}
-use Rattle.early_verdict.proofs.Apart.{never_both}
+use Rattle.early_verdict.proofs.AllSets.{is_shown, lists_are, sets_at, shown_is, shown_within}
 use Rattle.early_verdict.proofs.Childhood.{child_below, child_or_not, left_child, one_parent}
 use Rattle.early_verdict.proofs.FitLemmas.{fits_within}
 use Rattle.early_verdict.proofs.LivingLemmas.{looks_as, parts_as}
 use Rattle.early_verdict.proofs.Netting.{nat_is, nodes_at}
 use Rattle.early_verdict.proofs.Places.{get_within, lists_by, same_sets}
-use Rattle.early_verdict.proofs.SinceSets.{none_later}
 use Rattle.early_verdict.proofs.Telling.{parts_kept, tells_alike}
 
 -- sets that let go of times say the same of the others
@@ -54,6 +53,7 @@ module _ (own bounds : Stretch) (s s' : Sets) (y : s.yes.bounds ≡ own) (n : s.
   run_still : (A B : Parts → Type 0) → MatchOption s.parts ⊥ (λ x. A x × B x × SayOfParts s x) → MatchOption s'.parts ⊥ (λ x. A x × B x × SayOfParts s' x)
   run_still A B h = subst (λ o. MatchOption o ⊥ (λ x. A x × B x × SayOfParts s' x)) (sym k.parts) (run_less A B s.parts h)
 
+  -- sets that go on from fewer times fit still
   pub fits_less : (m : Node) (tr : Trace) (at : ℕ → Lists) → Fits m false tr at s → Fits m false tr at s'
   fits_less (Const b) tr at h = less_both _ _ h
   fits_less (Leaf a) tr at h = less_both _ _ h
@@ -87,22 +87,7 @@ fits_as (Once p a b j k) tr at at' s e h = subst (λ x. OnceFits tr a b j k x s)
 fits_as (Historically p a b j k) tr at at' s e h = subst (λ x. HistoricallyFits tr a b j k x s) (e p refl) h
 
 module _ (tr : Trace) (own : Stretch) (s : Sets) (y : s.yes.bounds ≡ own) (n : s.no.bounds ≡ own) (old new : List Sets)
-    (agree : (p : ℕ) → Known (IsShown new p) (lists_at new p) (IsOn (lists_at old p).yes) (IsOn (lists_at old p).no))
-    (apart : (p : ℕ) (u : Rational) → IsOn (lists_at old p).yes u → ¬ (IsOn (lists_at old p).no u)) where
-  -- looking back, where what decides it may stand for the others
-  back_some : (side : Lists → List Stretch) (p a : ℕ) (b : Option ℕ) (i j : Bool) → LooksBack side (start tr) a b i j p new own → (X : Rational → Type 0)
-      → ((u : Rational) → IsShown new p u → X u → IsOn (side (lists_at new p)) u) → (t : Rational) → Lies own t → SomeBehind tr a b i j X t
-      → SomeBehind tr a b i j (IsOn (side (lists_at new p))) t
-  back_some side p a b i j far X f t l (u, w, c, x) = elim (far t u l w) [
-    | inl k ↦ (u, w, c, f u k x)
-    | inr (v, d, k, z) ↦ (v, d, (d.after, inr (none_later v t a (precedes_le i (later v a) t d.ends))), z)
-  ]
-
-  back_only : (side : Lists → List Stretch) (p a : ℕ) (b : Option ℕ) (i j : Bool) → LooksBack side (start tr) a b i j p new own → (X ys : Rational → Type 0)
-      → ((u : Rational) → IsShown new p u → X u → ys u) → ((u : Rational) → IsOn (side (lists_at new p)) u → X u → ⊥) → (t : Rational) → Lies own t
-      → OnlyBehind tr a b i j X t → OnlyBehind tr a b i j ys t
-  back_only side p a b i j far X ys f g t l y u w = elim (far t u l w) [ inl k ↦ f u k (y u w) | inr (v, d, k, z) ↦ absurd (g v z (y v d)) ]
-
+    (agree : (p : ℕ) → Known (IsShown new p) (lists_at new p) (IsOn (lists_at old p).yes) (IsOn (lists_at old p).no)) where
   alike : (P P' N N' : Rational → Type 0) → ((t : Rational) → Lies own t → P t → P' t) → ((t : Rational) → P' t → P t)
       → ((t : Rational) → Lies own t → N t → N' t) → ((t : Rational) → N' t → N t) → SayBoth s P N → SayBoth s P' N'
   alike P P' N N' out into not_out not_into h = record {
@@ -110,7 +95,9 @@ module _ (tr : Trace) (own : Stretch) (s : Sets) (y : s.yes.bounds ≡ own) (n :
     no = tells_alike s.no.bounds s.no.spans.items N N' (λ t l. not_out t (subst (λ x. Lies x t) n l)) (λ t l. not_into t) h.no;
   }
 
-  pub fits_local : (m : Node) → ¬ (IsRun m) → ¬ (IsUntil m) → LooksAt m (start tr) new own s.parts → Fits m false tr (lists_at old) s → Fits m false tr (lists_at new) s
+  -- a node that is no run and no until fits by what it looks at
+  pub fits_local : (m : Node) → ¬ (IsRun m) → ¬ (IsUntil m) → LooksAt m (start tr) new own s.parts
+      → Fits m false tr (lists_at old) s → Fits m false tr (lists_at new) s
   fits_local (Const b) r n l h = h
   fits_local (Leaf a) r n l h = h
   fits_local (Not p) r n l h =
@@ -159,16 +146,14 @@ module _ (tr : Trace) (own : Stretch) (s : Sets) (y : s.yes.bounds ≡ own) (n :
       let k = agree p in
       alike (SomeBehind tr a b i j (IsOn (lists_at old p).yes)) (SomeBehind tr a b i j (IsOn (lists_at new p).yes))
       (OnlyBehind tr a b i j (IsOn (lists_at old p).no)) (OnlyBehind tr a b i j (IsOn (lists_at new p).no))
-      (back_some yes_of p a b i j l (IsOn (lists_at old p).yes) k.yes_in) (λ t (u, w, c, x). (u, w, c, k.yes_out u x))
-      (back_only yes_of p a b i j l (IsOn (lists_at old p).no) (IsOn (lists_at new p).no) k.no_in (λ u z y. apart p u (k.yes_out u z) y))
-      (λ t g u w. k.no_out u (g u w)) h
+      (λ t o (u, w, c, x). (u, w, c, k.yes_in u (l t u o w) x)) (λ t (u, w, c, x). (u, w, c, k.yes_out u x))
+      (λ t o g u w. k.no_in u (l t u o w) (g u w)) (λ t g u w. k.no_out u (g u w)) h
   fits_local (Historically p a b i j) r n l h =
       let k = agree p in
       alike (OnlyBehind tr a b i j (IsOn (lists_at old p).yes)) (OnlyBehind tr a b i j (IsOn (lists_at new p).yes))
       (SomeBehind tr a b i j (IsOn (lists_at old p).no)) (SomeBehind tr a b i j (IsOn (lists_at new p).no))
-      (back_only no_of p a b i j l (IsOn (lists_at old p).yes) (IsOn (lists_at new p).yes) k.yes_in (λ u z y. apart p u y (k.no_out u z)))
-      (λ t g u w. k.yes_out u (g u w))
-      (back_some no_of p a b i j l (IsOn (lists_at old p).no) k.no_in) (λ t (u, w, c, x). (u, w, c, k.no_out u x)) h
+      (λ t o g u w. k.yes_in u (l t u o w) (g u w)) (λ t g u w. k.yes_out u (g u w))
+      (λ t o (u, w, c, x). (u, w, c, k.no_in u (l t u o w) x)) (λ t (u, w, c, x). (u, w, c, k.no_out u x)) h
 
 same_node : (a b : Node) → Some a ≡ Some b → a ≡ b
 same_node a b e = cc
@@ -181,7 +166,8 @@ module _ (nodes : List Node) (tr : Trace) (live new shown : List Sets) (i : ℕ)
     yes = k.yes_bounds;
     no = k.no_bounds;
     starts = λ t l. was.starts t (less t l);
-    looks = looks_as (start tr) was.own at.settled.bounds less n shown shown at.was.parts at.is.parts (λ p e u h. h) (λ p e u. (λ h. h, λ h. h)) (parts_kept at.was.parts at.is.parts k.parts) was.looks;
+    looks = looks_as (start tr) was.own at.settled.bounds less n shown shown at.was.parts at.is.parts (λ p e u h. h)
+        (parts_kept at.was.parts at.is.parts k.parts) was.looks;
     left = parts_as n at.was at.is shown shown (parts_kept at.was.parts at.is.parts k.parts) (λ p l' e z. (l', z, refl)) was.left;
     shown_yes = was.shown_yes;
     shown_starts = was.shown_starts;
@@ -208,7 +194,8 @@ module _ (nodes : List Node) (tr : Trace) (live new shown : List Sets) (i : ℕ)
       less : (t : Rational) → Lies at.settled.bounds t → Lies was.own t
       less t l = subst (λ z. Lies z t) was.no (at.settled.less t l)
 
-  live_there : (j : ℕ) (n : Node) (s x : Sets) → slice_get nodes j ≡ Some n → slice_get new j ≡ Some s → slice_get shown j ≡ Some x → IsLive (start tr) shown n s x
+  live_there : (j : ℕ) (n : Node) (s x : Sets) → slice_get nodes j ≡ Some n → slice_get new j ≡ Some s
+      → slice_get shown j ≡ Some x → IsLive (start tr) shown n s x
   live_there j n s x here is ix = by_place (nat_is j i)
     where
       by_place : (j ≡ i) ⊎ (j ≢ i) → IsLive (start tr) shown n s x
@@ -241,6 +228,7 @@ module _ (nodes : List Node) (tr : Trace) (live new shown : List Sets) (i : ℕ)
           (fit_here (subst (λ k. slice_get nodes k ≡ Some n) q here))
       by_place (inr d) = st.fit j n s here (sym (at.others j d) ∙ is)
 
+  -- all stands where a node goes on from fewer times
   pub settled_stands : NetStands nodes tr new shown
   settled_stands = record {
     have = record { count = at.count ∙ st.have.count; shown_count = st.have.shown_count; has = live_there };
@@ -290,43 +278,17 @@ at_or_not (x ∷ xs) (suc p) = at_or_not xs p
 shown_as : (xs ys : List Sets) (p : ℕ) (u : Rational) → slice_get ys p ≡ slice_get xs p → IsShown xs p u → IsShown ys p u
 shown_as xs ys p u e h = let x = sets_at xs p (shown_within xs p u h) in is_shown ys p x.0 u (e ∙ x.1) (shown_is xs p x.0 u x.1 h)
 
--- and so the lists have
-lists_as : (xs ys : List Sets) (p : ℕ) (u : Rational) → slice_get ys p ≡ slice_get xs p
-    → (IsOn (lists_at xs p).yes u → IsOn (lists_at ys p).yes u) × (IsOn (lists_at xs p).no u → IsOn (lists_at ys p).no u)
-lists_as xs ys p u e =
-    let d = lists_by xs ys p (sym e) in (λ o. subst (λ (l : Lists). IsOn l.yes u) d o, λ o. subst (λ (l : Lists). IsOn l.no u) d o)
-
--- what nodes show is from the start on, and the lists of what they show have no time in common
-module _ (nodes : List Node) (tr : Trace) (live shown : List Sets) (st : NetStands nodes tr live shown) where
-  pub shown_begun : (p : ℕ) (u : Rational) → IsShown shown p u → start tr ≤ʳ u
-  shown_begun p u h =
-      let l = shown_within shown p u h in
-      let c = st.have.count in
-      let d = st.have.shown_count in
-      let n = nodes_at nodes p (omega (arith, l, d)) in
-      let s = sets_at live p (omega (arith, l, c, d)) in
-      let x = sets_at shown p l in
-      (st.have.has p n.0 s.0 x.0 n.1 s.1 x.1).shown_starts u (shown_is shown p x.0 u x.1 h)
-
-  pub lists_apart : (p : ℕ) (u : Rational) → IsOn (lists_at shown p).yes u → ¬ (IsOn (lists_at shown p).no u)
-  lists_apart p u y n =
-      let l = yes_there shown p u y in
-      let d = st.have.shown_count in
-      let k = st.known p (omega (arith, l, d)) in
-      never_both (subformula nodes p) tr u (k.yes_out u y) (k.no_out u n)
-
-  pub are_apart : AreApart shown
-  are_apart p x is t y n =
-      lists_apart p t (subst (λ (l : Lists). IsOn l.yes t) (sym (lists_are shown p x is)) y) (subst (λ (l : Lists). IsOn l.no t) (sym (lists_are shown p x is)) n)
-
 -- the children of one node show fewer times, and its own sets go on to fit them
-module _ (nodes : List Node) (formed : AreWellFormed nodes) (tr : Trace) (live left old new : List Sets) (i : ℕ) (n : Node) (at : slice_get nodes i ≡ Some n) (s r : Sets)
-    (is : slice_get live i ≡ Some s) (ir : slice_get left i ≡ Some r) (same : (j : ℕ) → j ≢ i → slice_get left j ≡ slice_get live j) (count : length left ≡ length live)
+module _ (nodes : List Node) (formed : AreWellFormed nodes) (tr : Trace) (live left old new : List Sets) (i : ℕ) (n : Node)
+    (at : slice_get nodes i ≡ Some n) (s r : Sets)
+    (is : slice_get live i ≡ Some s) (ir : slice_get left i ≡ Some r)
+    (same : (j : ℕ) → j ≢ i → slice_get left j ≡ slice_get live j) (count : length left ≡ length live)
     (less : AreLess old new) (others : (p : ℕ) → ¬ (IsChild p n) → slice_get new p ≡ slice_get old p) (st : NetStands nodes tr live old) where
   -- what is shown at a place now, and was
   was_shown : (p : ℕ) (x : Sets) → slice_get new p ≡ Some x → (w : Sets) × (slice_get old p ≡ Some w) × IsLess w x
   was_shown = less.each
 
+  -- what is left tells what it told
   pub agree : (p : ℕ) → Known (IsShown new p) (lists_at new p) (IsOn (lists_at old p).yes) (IsOn (lists_at old p).no)
   agree p = elim (at_or_not new p) [
     | inl (x, e) ↦
@@ -400,7 +362,6 @@ module _ (nodes : List Node) (formed : AreWellFormed nodes) (tr : Trace) (live l
                 let k = st.have.has j m v w here (sym (same j d) ∙ iv) e in
                 live_by m v v w x refl refl less k
                 (looks_as (start tr) k.own k.own (λ t h. h) m old new v.parts v.parts (λ p c u h. shown_as old new p u (not_its j p m d here c) h)
-                (λ p c u. lists_as old new p u (not_its j p m d here c))
                 (parts_kept v.parts v.parts refl) k.looks)
                 (parts_as m v v old new (parts_kept v.parts v.parts refl) (λ p l' f z. (l', sym (not_its j p m d here (left_child p m f)) ∙ z, refl)) k.left)
           ]
@@ -408,7 +369,8 @@ module _ (nodes : List Node) (formed : AreWellFormed nodes) (tr : Trace) (live l
       fit_one : Fits m false tr (lists_at new) v
       fit_one = elim (nat_is j i) [
         | inl q ↦ subst (λ z. Fits m false tr (lists_at new) z) (same_v q) (subst (λ z. Fits z false tr (lists_at new) r) (same_m q) fits)
-        | inr d ↦ fits_as m tr (lists_at old) (lists_at new) v (λ p c. lists_by old new p (sym (not_its j p m d here c))) (st.fit j m v here (sym (same j d) ∙ iv))
+        | inr d ↦ fits_as m tr (lists_at old) (lists_at new) v (λ p c. lists_by old new p (sym (not_its j p m d here c)))
+            (st.fit j m v here (sym (same j d) ∙ iv))
       ]
 
     tidy_one : AllTidy left
@@ -417,6 +379,7 @@ module _ (nodes : List Node) (formed : AreWellFormed nodes) (tr : Trace) (live l
       | inr d ↦ st.tidy j v (sym (same j d) ∙ iv)
     ]
 
+    -- all stands where one node lets go
     pub one_stands : NetStands nodes tr left new
     one_stands = record {
       have = record {
@@ -434,13 +397,15 @@ module _ (nodes : List Node) (formed : AreWellFormed nodes) (tr : Trace) (live l
         no_out = λ u o. (st.known p l).no_out u ((agree p).no_out u o);
       };
       root = elim (child_or_not (length nodes - 1) n) [
-        | inl c ↦ absurd (let a = child_below i (length nodes - 1) n (placed nodes i n formed.post_order at) c in let b = get_within live i s is in let d = st.have.count in omega (arith, a, b, d))
+        | inl c ↦ absurd (let a = child_below i (length nodes - 1) n (placed nodes i n formed.post_order at) c in
+            let b = get_within live i s is in let d = st.have.count in omega (arith, a, b, d))
         | inr c ↦ shown_as old new (length nodes - 1) (start tr) (others (length nodes - 1) c) st.root
       ];
     }
 
 -- a node that is no until
-module _ (nodes : List Node) (formed : AreWellFormed nodes) (tr : Trace) (live old new : List Sets) (i : ℕ) (n : Node) (at : slice_get nodes i ≡ Some n) (s : Sets)
+module _ (nodes : List Node) (formed : AreWellFormed nodes) (tr : Trace) (live old new : List Sets) (i : ℕ) (n : Node)
+    (at : slice_get nodes i ≡ Some n) (s : Sets)
     (is : slice_get live i ≡ Some s) (from : Rational) (begins : (t : Rational) → Lies s.no.bounds t → from ≤ʳ t) (asked : AreAskedBy n from old new)
     (st : NetStands nodes tr live old) (plain : ¬ (IsUntil n)) where
   begun : (own : Stretch) → s.no.bounds ≡ own → (t : Rational) → Lies own t → from ≤ʳ t
@@ -450,7 +415,7 @@ module _ (nodes : List Node) (formed : AreWellFormed nodes) (tr : Trace) (live o
   mine w x e f less =
       let k = st.have.has i n s w at is e in
       live_by nodes formed tr live live old new i n at s s is is (λ j d. refl) refl asked.less asked.others st n s s w x refl refl less k
-      (asked.looks (start tr) k.own s.parts (shown_begun nodes tr live old st) (begun k.own k.no) k.looks)
+      (asked.looks (start tr) k.own s.parts (begun k.own k.no) k.looks)
       (parts_as n s s old new (parts_kept s.parts s.parts refl)
       (λ p l' g z. (l', subst (λ xs. slice_get xs p ≡ Some l') (asked.run (run_of_left n plain p g)) z, refl)) k.left)
 
@@ -462,15 +427,18 @@ module _ (nodes : List Node) (formed : AreWellFormed nodes) (tr : Trace) (live o
     | inl h ↦ subst (λ xs. Fits n false tr (lists_at xs) s) (sym (asked.run h)) (st.fit i n s at is)
     | inr h ↦
         let k = st.have.has i n s shown_i.0 at is shown_i.1 in
-        fits_local tr k.own s k.yes k.no old new (agree nodes formed tr live live old new i n at s s is is (λ j d. refl) refl asked.less asked.others st) (lists_apart nodes tr live old st) n h plain
-        (asked.looks (start tr) k.own s.parts (shown_begun nodes tr live old st) (begun k.own k.no) k.looks) (st.fit i n s at is)
+        fits_local tr k.own s k.yes k.no old new
+        (agree nodes formed tr live live old new i n at s s is is (λ j d. refl) refl asked.less asked.others st) n h plain
+        (asked.looks (start tr) k.own s.parts (begun k.own k.no) k.looks) (st.fit i n s at is)
   ]
 
+  -- and where one shows fewer times that are asked for
   pub asked_stands : NetStands nodes tr live new
   asked_stands = one_stands nodes formed tr live live old new i n at s s is is (λ j d. refl) refl asked.less asked.others st mine fits (st.tidy i s is)
 
 -- what stands lies within its bounds
 module _ (nodes : List Node) (tr : Trace) (live shown : List Sets) (st : NetStands nodes tr live shown) where
+  -- what the nodes go on from lies within the bounds
   pub live_inside : AreInside live
   live_inside p s is =
       let l = get_within live p s is in
@@ -482,6 +450,7 @@ module _ (nodes : List Node) (tr : Trace) (live shown : List Sets) (st : NetStan
       let w = fits_within n.0 false tr (lists_at shown) s (st.fit p n.0 s n.1 is) in
       record { yes = λ t o. subst (λ z. Lies z t) (k.yes ∙ sym k.no) (w.yes_within t o); no = w.no_within }
 
+  -- and so does what they show
   pub shown_inside : AreInside shown
   shown_inside p x ix =
       let l = get_within shown p x ix in

@@ -1,5 +1,5 @@
 -- What stands goes on to stand, where a since lets go of the times before its own, and its operands of those before it looks back.
-use Rattle.std.proofs.Common.{◌≡◌, ◌≢◌, ◌⊎◌, inl, inr, refl, sym, ap, subst, ◌∙◌, ℕ, ◌<◌, ◌≤◌, Bool, true, false, Option, Some, None, List, length, arith}
+use Rattle.std.proofs.Common.{◌≡◌, ◌⊎◌, inl, inr, refl, sym, subst, ◌∙◌, ℕ, ◌<◌, ◌≤◌, true, false, Option, Some, None, List, length, arith}
 use Rattle.std.specs.Prelude.{MatchOption, IsSome, slice_get, slice_index_or}
 use Rattle.rational.specs.Time.{Rational, later, ◌≤ʳ◌}
 use Rattle.rational.proofs.Order.{le_refl, le_trans}
@@ -15,7 +15,6 @@ use Rattle.early_verdict.specs.Spans.{IsOn, Lies}
 use Rattle.early_verdict.specs.Steps.{Tells}
 use Rattle.early_verdict.specs.Fitting.{Lists, lists_at, lists_of, ArePartsTidy, AreSetsTidy, HasFailBounds}
 use Rattle.early_verdict.specs.Fitting.{IsTidy, SayOfParts, SinceFits, SinceHolding, SinceFailing}
-use Rattle.early_verdict.specs.Standing.{HasParts}
 use Rattle.early_verdict.specs.Living.{IsLive, IsShown, NetStands, ReachesBack}
 use Rattle.early_verdict.specs.Letting.{AreLess, ArePartsCut, ArePartsInside, IsAskedFrom, IsChild, IsFailingCut}
 use Rattle.early_verdict.specs.Letting.{IsFailingInside, IsHoldingCut, IsHoldingInside, IsInside, IsLess, IsRunCutAt}
@@ -67,6 +66,7 @@ module _ (nodes : List Node) (tr : Trace) (live old mid new : List Sets) (i p q 
       subst (λ (v : Stretch). Upto (place v.to) t) (sym is_wide)
       ((two_shows p q d old mid new h g p left_here.0 l' (inl refl) left_here.1 at_left).ends t (subst (λ (v : Stretch). Upto (place v.to) t) e l.1))
 
+  -- the sets between lie within the bounds
   pub back_inside : ArePartsInside wide s
   back_inside = by_parts s.parts (st.fit i (Since p q a (Some b)) s at is)
       ((st.have.has i (Since p q a (Some b)) s shown_here.0 at is shown_here.1).left.1 left_here.0 left_here.1)
@@ -296,6 +296,7 @@ module _ (nodes : List Node) (formed : AreWellFormed nodes) (tr : Trace) (live l
             (Unit {0}) cut.was.parts cut.is.parts cut.cut.parts was.looks.1 fail_bounds n.parts;
       }
 
+  -- all stands where a since and its operands let go
   pub since_stands : NetStands nodes tr left new
   since_stands = one_stands nodes formed tr live left old new i (Since p q a (Some b)) at cut.was cut.is cut.at_old cut.at_new cut.others cut.count less
       (two_others p q d old mid new h g) st mine fits tidy

@@ -30,13 +30,6 @@ lists_of s = record { yes = s.yes.spans.items; no = s.no.spans.items }
 abbrev pub nothing : Lists
 nothing = record { yes = []; no = [] }
 
--- those of its times of one truth
-abbrev pub yes_of : Lists → List Stretch
-yes_of l = l.yes
-
-abbrev pub no_of : Lists → List Stretch
-no_of l = l.no
-
 -- those of the node at a place
 abbrev pub lists_at : List Sets → ℕ → Lists
 lists_at [] i = nothing

@@ -1,13 +1,13 @@
 -- What nodes show and go on from, once they let go of times.
-use Rattle.std.specs.Prelude.{◌≡◌, ◌≢◌, ◌⊎◌, ℕ, Bool, false, IsTrue, IsFalse, MatchBool, Option, Some, None, MatchOption, List, [], ◌∷◌, length, slice_get}
-use Rattle.rational.specs.Time.{Rational, later, ◌≤ʳ◌, ◌<ʳ◌}
+use Rattle.std.specs.Prelude.{◌≡◌, ◌≢◌, ◌⊎◌, ℕ, Bool, IsTrue, IsFalse, Option, Some, None, MatchOption, List, length, slice_get}
+use Rattle.rational.specs.Time.{Rational, ◌≤ʳ◌, ◌<ʳ◌}
 use Rattle.stl_syntax.specs.declared.node.Node.{Node}
 use Rattle.stl_syntax.specs.declared.node.Node.TheVariants.{Const, Atom as Leaf, Not, And, Or, Implies, Until, Eventually, Always, Since, Once, Historically}
-use Rattle.early_verdict.specs.Cuts.{Place, place, AtMost, Before, Upto}
+use Rattle.early_verdict.specs.Cuts.{place, AtMost, Upto}
 use Rattle.early_verdict.specs.Spans.{IsAmong, IsOn, Lies}
 use Rattle.early_verdict.specs.Steps.{HoldsFrom}
 use Rattle.early_verdict.specs.Fitting.{AreSetsTidy, IsTidy}
-use Rattle.early_verdict.specs.Living.{IsNarrowed, IsShown, LooksAt}
+use Rattle.early_verdict.specs.Living.{IsNarrowed, LooksAt}
 use Rattle.early_verdict.specs.declared.stretch.Stretch.{Stretch}
 use Rattle.early_verdict.specs.declared.grown.Grown.{Grown}
 use Rattle.early_verdict.specs.declared.sets.Holding.{Holding}
@@ -57,38 +57,6 @@ pub record IsAskedFrom (p : ℕ) (from : Rational) (old new : List Sets) : Type 
   pub left : (t : Rational) → Lies was.no.bounds t → Lies bounds t ⊎ (t <ʳ from)
   pub after : (t : Rational) → Lies was.no.bounds t → from ≤ʳ t → (u : Rational) → Lies bounds u → from ≤ʳ u
   pub ends : AtMost (place was.no.bounds.to) (place bounds.to)
-
--- the lists of what nodes show have no time in common
-abbrev pub AreApart : List Sets → Type 0
-AreApart shown = (p : ℕ) (x : Sets) → slice_get shown p ≡ Some x → (t : Rational) → IsOn x.yes.spans.items t → ¬ (IsOn x.no.spans.items t)
-
--- of a set one stretch is left, which begins before the place, and the other set is empty
-pub record IsFirstLeft (limit : Place) (old new other : Grown) : Type 0 where
-  pub part : Stretch
-  pub among : IsAmong part old.spans.items
-  pub begins : Before (place part.from) limit
-  pub left : new.spans.items ≡ part ∷ []
-  pub none : other.spans.items ≡ []
-  pub bounds : new.bounds ≡ part
-  pub other_bounds : other.bounds ≡ part
-
--- a node's times of one truth and those of the other are as they were; or it shows one stretch of those alone, of which some time lies so far
--- before the one given
-abbrev pub IsFirstShown : ℕ → Rational → Grown → Grown → Grown → Grown → Type 0
-IsFirstShown low at old other new new_other =
-    ((new ≡ old) × (new_other ≡ other))
-    ⊎ ((limit : Place) × (later limit.at low ≤ʳ at) × (limit.after ≡ false) × IsFirstLeft limit old new new_other)
-
--- so the node at a place
-pub record IsAskedFirst (p : ℕ) (holds : Bool) (low : ℕ) (at : Rational) (old new : List Sets) : Type 0 where
-  pub was : Sets
-  pub is : Sets
-  pub at_old : slice_get old p ≡ Some was
-  pub at_new : slice_get new p ≡ Some is
-  pub others : (j : ℕ) → j ≢ p → slice_get new j ≡ slice_get old j
-  pub count : length new ≡ length old
-  pub parts : is.parts ≡ was.parts
-  pub shows : MatchBool holds (IsFirstShown low at was.yes was.no is.yes is.no) (IsFirstShown low at was.no was.yes is.no is.yes)
 
 -- a set goes on from that time on, where some of its times are left
 pub record IsCutAt (from : Rational) (old new : Grown) : Type 0 where
@@ -217,6 +185,6 @@ pub record AreAskedBy (n : Node) (from : Rational) (old new : List Sets) : Type 
   pub less : AreLess old new
   pub others : (p : ℕ) → ¬ (IsChild p n) → slice_get new p ≡ slice_get old p
   pub run : IsRun n → new ≡ old
-  pub looks : (start : Rational) (own : Stretch) (parts : Option Parts) → ((p : ℕ) (u : Rational) → IsShown old p u → start ≤ʳ u)
-      → ((t : Rational) → Lies own t → from ≤ʳ t) → LooksAt n start old own parts → LooksAt n start new own parts
+  pub looks : (start : Rational) (own : Stretch) (parts : Option Parts) → ((t : Rational) → Lies own t → from ≤ʳ t)
+      → LooksAt n start old own parts → LooksAt n start new own parts
   pub cut : IsUntil n → (p : ℕ) (w x : Sets) → IsChild p n → slice_get old p ≡ Some w → slice_get new p ≡ Some x → ShowsFrom from w x

@@ -11,7 +11,9 @@ ghost use Rattle.early_verdict.specs.Spans.{AreTidy, IsOn};
 ghost use Rattle.early_verdict.specs.Fitting.{AreSetsTidy, IsFailingTidy, IsHoldingTidy};
 ghost use Rattle.early_verdict.specs.Standing.{AllTidy};
 ghost use Rattle.early_verdict.specs.Living.{IsNarrowed, NetStands};
-ghost use Rattle.early_verdict.specs.Letting.{AreApart, AreAskedBy, AreInside, BeginsAtOnce, IsAskedFirst, IsAskedFrom, IsFirstLeft, ArePartsInside, IsFailingCut, IsFailingInside, IsHoldingCut, IsHoldingInside, IsInside, IsRunCut, IsRunCutAt, IsSettled, IsSettledAt, IsUntil};
+ghost use Rattle.early_verdict.specs.Letting.{AreAskedBy, AreInside, BeginsAtOnce, IsAskedFrom, ArePartsInside};
+ghost use Rattle.early_verdict.specs.Letting.{IsFailingCut, IsFailingInside, IsHoldingCut, IsHoldingInside};
+ghost use Rattle.early_verdict.specs.Letting.{IsInside, IsRunCut, IsRunCutAt, IsSettled, IsSettledAt, IsUntil};
 ghost use Rattle.stl_syntax.specs.declared.node.Node.TheVariants.{Since, Until};
 ghost use Rattle.early_verdict.specs.declared.sets.Sets.{Sets as ASets};
 
@@ -19,7 +21,7 @@ use crate::cut::Cut;
 use crate::grown::Grown;
 use crate::operators::ticks_before;
 use crate::sets::{Failing, Holding, Net, Sets};
-use crate::showing::{bounds_from, cut_to, front, narrow};
+use crate::showing::{bounds_from, cut_to, narrow};
 use crate::stretch::Stretch;
 use crate::touching::holding;
 use std::collections::VecDeque;
@@ -127,54 +129,16 @@ fn ask_ahead(shown: &mut [Sets], place: u32, low: u32, cut: &Cut)
     ask_from(shown, place, &from);
 }
 
-/// Shows the first times of the one set alone, where these begin before the cut; the other set has none of them.
-fn show_first(own: &mut Grown, other: &mut Grown, cut: &Cut)
-    ensures { ((own.new ≡ own.old) × (other.new ≡ other.old)) ⊎ IsFirstLeft (place cut.now) own.old own.new other.new }
-{
-    let Some(first) = front(&own.spans) else {
-        return;
-    };
-    if !first.from.precedes(cut) {
-        return;
-    }
-    own.spans.truncate(1);
-    other.spans.clear();
-    own.bounds = first;
-    other.bounds = first;
-}
-
-/// So for the node at the place, by its times of the truth `holds`, where the first of these begin so far before the cut.
-fn ask_first(shown: &mut [Sets], place: u32, holds: bool, low: u32, cut: &Cut)
-    requires within { place < length shown.old }
-    requires near { IsWithin (2 ^ 34) (value cut.now.time) }
-    ensures { IsAskedFirst place holds low (value cut.now.time) shown.old shown.new }
-{
-    let at = cut_before(cut, low);
-    let limit = Cut {
-        time: at.time,
-        side: 0,
-    };
-    let (_, from) = shown.split_at_mut(place as usize);
-    let own = &mut from[0];
-    if holds {
-        show_first(&mut own.yes, &mut own.no, &limit);
-        return;
-    }
-    show_first(&mut own.no, &mut own.yes, &limit);
-}
-
-/// From so far before the cut on a node is asked. Where no bound is given it is asked from the start on, until it has had the truth
-/// `holds` so far before the cut; then about the first times of that truth alone.
-fn ask_back(shown: &mut [Sets], place: u32, holds: bool, low: u32, most: &Option<u32>, cut: &Cut)
+/// From so far before the cut on a node is asked; as before, where no bound is given.
+fn ask_back(shown: &mut [Sets], place: u32, most: &Option<u32>, cut: &Cut)
     requires within { place < length shown.old }
     requires tidy { AllTidy shown.old }
     requires inside { AreInside shown.old }
     requires near { IsWithin (2 ^ 34) (value cut.now.time) }
-    ensures { MatchOption most.now (IsAskedFirst place holds low (value cut.now.time) shown.old shown.new)
+    ensures { MatchOption most.now (shown.new ≡ shown.old)
         (λ k. (from : Rational) × (later from k ≤ʳ value cut.now.time) × IsAskedFrom place from shown.old shown.new) }
 {
     let Some(ticks) = most else {
-        ask_first(shown, place, holds, low, cut);
         return;
     };
     let from = cut_before(cut, *ticks);
@@ -186,7 +150,6 @@ fn ask_children(shown: &mut [Sets], node: &Node, cut: &Cut)
     requires children { HasChildrenBelow (length shown.old) node.now }
     requires tidy { AllTidy shown.old }
     requires inside { AreInside shown.old }
-    requires apart { AreApart shown.old }
     requires near { IsWithin (2 ^ 34) (value cut.now.time) }
     ensures { AreAskedBy node.now (value cut.now.time) shown.old shown.new }
 {
@@ -199,8 +162,8 @@ fn ask_children(shown: &mut [Sets], node: &Node, cut: &Cut)
         Node::Until { left, right, .. } => ask_both(shown, *left, *right, cut),
         Node::Eventually { of, low, .. } => ask_ahead(shown, *of, *low, cut),
         Node::Always { of, low, .. } => ask_ahead(shown, *of, *low, cut),
-        Node::Once { of, low, high, .. } => ask_back(shown, *of, true, *low, high, cut),
-        Node::Historically { of, low, high, .. } => ask_back(shown, *of, false, *low, high, cut),
+        Node::Once { of, high, .. } => ask_back(shown, *of, high, cut),
+        Node::Historically { of, high, .. } => ask_back(shown, *of, high, cut),
     }
 }
 

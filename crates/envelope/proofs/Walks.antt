@@ -1,11 +1,11 @@
 -- How the calls of a walk change which pieces it stands for.
-use Rattle.std.proofs.Common.{◌≡◌, ◌⊎◌, inl, inr, ◌^◌, Option, None, Some, Result, Ok, Err, List, [], ◌∷◌, true, false, refl, sym, ap, ◌∙◌, subst}
+use Rattle.std.proofs.Common.{◌≡◌, inl, inr, ◌^◌, Option, None, Some, Result, Ok, Err, List, [], ◌∷◌, false, refl, sym, ap, ◌∙◌, subst}
 use Rattle.std.specs.Prelude.{IfErr, IfOk, IfSome, MatchOption}
 use Rattle.rational.specs.Rational.{IsWithin}
-use Rattle.rational.specs.Time.{Rational, Within, ◌≤ʳ◌, ◌<ʳ◌, ◌≈◌}
+use Rattle.rational.specs.Time.{Rational, ◌≤ʳ◌, ◌<ʳ◌, ◌≈◌}
 use Rattle.rational.specs.Extended.{Extended, value_at, Passes, ◌≈ᵉ◌}
 use Rattle.rational.proofs.AffineLemmas.{same_transᵉ}
-use Rattle.rational.specs.Affine.{HasBoundedLevel, IsBounded}
+use Rattle.rational.specs.Affine.{IsBounded}
 use Rattle.rational.proofs.Order.{le_refl, le_trans, le_of_same, lt_of_lt_of_le}
 use Rattle.frac128.specs.Value.{value}
 use Rattle.frac128.specs.declared.frac.Frac.{Frac}
@@ -23,14 +23,18 @@ use Rattle.envelope.specs.declared.course.Course.{Course}
 use Rattle.envelope.specs.declared.walk.Item.{Item}
 use Rattle.envelope.specs.declared.walk.Slope.{Slope}
 use Rattle.envelope.specs.declared.walk.Walk.{Walk}
-use Rattle.envelope.specs.Turns.{HasCome, IsToCome, IsNoBetter, none_of}
+use Rattle.envelope.specs.Turns.{HasCome, IsNoBetter, none_of}
 use Rattle.envelope.specs.Best.{Has, IsBestAt}
-use Rattle.envelope.specs.Course.{EndsBefore, HasPart, HaveLevels, IsAlone, IsSettled, IsSettledShape, IsSettledTo, IsTold, Turns, first_time}
-use Rattle.envelope.specs.Standing.{Part, Counts, IsOneOf, IsBestOf, IsNone, IsItem, IsSlope, AreItems, CanGoOn, EachFollowed, EachToCome, Follows, IsFollowed, IsFalling, IsNewItem, Admits, Leaves, NothingLeaves, SlopeEndsBy, Stands, piece_of, pieces_with, slope_until}
-use Rattle.envelope.specs.Walking.{CanTake, Climbed, EachEnds, EachLeavesBy, EndsWalk, Finishes, IsCrossingOn, IsEnvelope, IsPiecesFault, IsRefusal, IsRefusedFor, IsStoppedBy, LeavesBy, StopsAt, Took, TurnsHigh, Walks, climbed_until, climbing, last_turn}
+use Rattle.envelope.specs.Course.{EndsBefore, HasPart, HaveLevels, IsAlone, IsSettled, IsSettledShape, IsSettledTo, IsTold, first_time}
+use Rattle.envelope.specs.Standing.{Part, Counts, IsOneOf, IsBestOf, IsNone, IsSlope, AreItems, CanGoOn}
+use Rattle.envelope.specs.Standing.{EachFollowed, EachToCome, IsFollowed, IsFalling, IsNewItem, Admits}
+use Rattle.envelope.specs.Standing.{SlopeEndsBy, Stands, piece_of, pieces_with, slope_until}
+use Rattle.envelope.specs.Walking.{CanTake, Climbed, EachEnds, EachLeavesBy, EndsWalk, Finishes}
+use Rattle.envelope.specs.Walking.{IsPiecesFault, IsRefusal, IsRefusedFor, IsStoppedBy, LeavesBy}
+use Rattle.envelope.specs.Walking.{Took, TurnsHigh, Walks, climbed_until, climbing, last_turn}
 use Rattle.envelope.proofs.TurnOrder.{at_most_of_come}
-use Rattle.envelope.proofs.Bests.{no_better_back, no_better_refl, no_better_same, no_better_trans, same_of_both}
-use Rattle.envelope.proofs.Standings.{first_stays, low_stays, none_below}
+use Rattle.envelope.proofs.Bests.{no_better_back, no_better_same, same_of_both}
+use Rattle.envelope.proofs.Standings.{first_stays, low_stays}
 use Rattle.envelope.proofs.Sliding.{none_bounded}
 use Rattle.envelope.proofs.Taking.{at_most_to_come, each_to_come}
 use Rattle.envelope.proofs.Climbing.{climb_stands, end_stands}
@@ -46,6 +50,7 @@ module _ {P : Type 0} where
   each_leaves [] item h = tt
   each_leaves (x ∷ items) item h = (h.0.until, h.0.slope, each_leaves items item h.1)
 
+  -- an item that may join the queue keeps to the order in which items leave
   pub followed_of : (walk : Walk P) (item : Item P) → LeavesBy walk item.until → IsFollowed walk.course.after.low walk.low_until walk.queue.items item
   followed_of walk item h = record { gap = h.gap; each = each_followed walk.queue.items item h.each }
 
@@ -375,6 +380,7 @@ pub if_ok : {T E : Type 0} (r : Result T E) (A B : T → Type 0) → ((x : T) �
 if_ok (Ok x) A B f a = f x a
 if_ok (Err e) A B f a = tt
 
+-- what follows for each refusal follows for the one that came
 pub if_err : {T E : Type 0} (r : Result T E) (A B : E → Type 0) → ((x : E) → A x → B x) → IfErr r A → IfErr r B
 if_err (Ok x) A B f a = tt
 if_err (Err e) A B f a = f e a

@@ -1,7 +1,7 @@
 -- A cell in which its atom is demanded is needed.
 use Rattle.std.proofs.Common.{◌≡◌, ℕ, ◌+◌, ◌<◌, ◌⊎◌, inl, inr, Bool, true, false, List}
 use Rattle.std.proofs.Common.{set, Some, None, refl, sym, subst, arith, lit<}
-use Rattle.std.specs.Prelude.{slice_get, slice_index, slice_index_or, Option, IsTrue, IfSome, ◌&&◌}
+use Rattle.std.specs.Prelude.{slice_get, slice_index, Option, IsTrue, ◌&&◌}
 use Rattle.rational.specs.Rational.{middle}
 use Rattle.frac128.specs.Value.{value}
 use Rattle.rational.specs.Time.{Rational, IsIn, IsNotEmpty, Precedes, whole, ◌<ʳ◌, ◌≤ʳ◌, ◌≈◌}
@@ -30,7 +30,7 @@ use Rattle.stl_syntax.specs.declared.node.Node.TheVariants.{Atom as Leaf}
 use Rattle.stl_syntax.proofs.FormulaLemmas.{subformula-at}
 use Rattle.implicants.specs.Runs.{AreAllCells, begins}
 use Rattle.implicants.specs.Keeping.{CoverMore, remaining}
-use Rattle.implicants.specs.Demands.{Certain, IsDemand, IsNeeded, IsAmongPlaces, MarksMore, MarksNeeded, Touches, AreCertainties, AreToldOfMore}
+use Rattle.implicants.specs.Demands.{Certain, IsDemand, IsNeeded, MarksMore, Touches}
 use Rattle.implicants.proofs.Strips.{one_cell}
 use Rattle.implicants.proofs.Covering.{IsOver, from_remaining, to_covered}
 use Rattle.implicants.proofs.Certain.{in_run}
@@ -62,6 +62,7 @@ touches_at x i k on at h inside = (
   },
 )
 
+-- between two knots a demand that is not false there has a time
 pub touches_between : (x : List (Knot Kleene)) (i : ℕ) (k n : Knot Kleene) (on : Span) → slice_get x i ≡ Some k
     → slice_get x (i + 1) ≡ Some n → (¬ (k.after.known ≡ Some false))
     → (t : Rational) × IsIn (interval on) t × (time k <ʳ t) × (t <ʳ time n) → Touches kleene_shape x on
@@ -75,7 +76,7 @@ touches_between x i k n on at next h (t, inside, above, below) = (
   },
 )
 
-pub not_empty_of : (a b : Bool) (x y : Rational) → Precedes (a && b) x y → (x <ʳ y) ⊎ ((x ≈ y) × IsTrue a × IsTrue b)
+not_empty_of : (a b : Bool) (x y : Rational) → Precedes (a && b) x y → (x <ʳ y) ⊎ ((x ≈ y) × IsTrue a × IsTrue b)
 not_empty_of true true x y h = elim (le_or_lt y x) [ inl k ↦ inr (same_of_le h k, refl, refl) | inr k ↦ inl k ]
 not_empty_of true false x y h = inl h
 not_empty_of false b x y h = inl h
@@ -130,71 +131,41 @@ time_between on from to order above below = by_order
 
 module _ (nodes : List Node) (tr : Trace) (all : List Item) (ends : List ℕ) (is : AreAllCells nodes tr all ends) where
   -- a certain atom is covered
-  pub certain_covered : (holds : Bool) (i : ℕ) (a : Atom) (some : List Item) (t : Rational) → Certain holds (atom i a) some tr t → IsCovered some i t
+  certain_covered : (holds : Bool) (i : ℕ) (a : Atom) (some : List Item) (t : Rational) → Certain holds (atom i a) some tr t → IsCovered some i t
   certain_covered true i a some t h = h.1
   certain_covered false i a some t h = h.1
 
-  -- what cells before one and marked ones behind it cover, the cells that stay do
-  pub within_more : (left : ℕ) (old new : List Bool) (more some : List Item) (c : ℕ) → c < left → CoverMore (remaining left old all) more
-      → ((j : ℕ) → slice_index_or new j false ≡ true → (slice_index_or old j false ≡ true) ⊎ (j < left))
-      → ((i : ℕ) (t : Rational) → IsCovered some i t → IsAmongPlaces all (λ j. (j < c) ⊎ ((c < j) × (slice_index_or new j false ≡ true))) i t)
-      → CoverMore some more
-  within_more left old new more some c l covered marked within j u h =
-      let w = within j u h in
-      covered j u (to_covered (remaining left old all) j u
-      (from_remaining (IsOver j u) left old all w.place w.item w.at (w.node, w.inside) (stays_one left old w.place (stays w.place w.is))))
-    where
-      stays : (j : ℕ) → (j < c) ⊎ ((c < j) × (slice_index_or new j false ≡ true)) → (j < left) ⊎ (slice_index_or old j false ≡ true)
-      stays j (inl h) = inl (omega (arith, h, l))
-      stays j (inr h) = elim (marked j h.1) [ inl k ↦ inr k | inr k ↦ inl k ]
-
-  pub demanded_needed : (left : ℕ) (old new : List Bool) (more : List Item) (c i : ℕ) (a : Atom) (e : Item) (holds : Bool)
-      (x : List (Knot Kleene)) → slice_get nodes i ≡ Some (Leaf a)
-      → c < left → CoverMore (remaining left old all) more → ((j : ℕ) → slice_index_or new j false ≡ true → (slice_index_or old j false ≡ true) ⊎ (j < left))
-      → slice_get all c ≡ Some e → e.node ≡ i → IsDemand kleene_shape nodes tr more holds i x → Touches kleene_shape x e.on
-      → IsNeeded nodes tr all new c
-  demanded_needed left old new more c i a e holds x leaf l covered marked at node demand (t, inside, on) some within m =
-      let certain = subst (λ p. Certain holds p some tr t) (subformula-at nodes i (Leaf a) leaf tt) (demand t on some
-      (within_more left old new more some c l covered marked within) m) in
+  -- a cell on which its atom is demanded is needed
+  pub demanded_needed : (left : ℕ) (marks : List Bool) (c i : ℕ) (a : Atom) (e : Item) (holds : Bool) (x : List (Knot Kleene))
+      → slice_get nodes i ≡ Some (Leaf a)
+      → slice_get all c ≡ Some e → e.node ≡ i → IsDemand kleene_shape nodes tr (remaining left marks all) holds i x → Touches kleene_shape x e.on
+      → IsNeeded nodes tr all left marks c
+  demanded_needed left marks c i a e holds x leaf at node demand (t, inside, on) some within m =
+      let certain = subst (λ p. Certain holds p some tr t) (subformula-at nodes i (Leaf a) leaf tt) (demand t on some more m) in
       let other = within i t (certain_covered holds i a some t certain) in
       let run = is.runs i a leaf in
-      let here = in_run nodes tr all left old i (begins ends i) (slice_index ends i) run c e t at (node, inside) in
-      let there = in_run nodes tr all left old i (begins ends i) (slice_index ends i) run other.place other.item t other.at (other.node, other.inside) in
+      let here = in_run nodes tr all left marks i (begins ends i) (slice_index ends i) run c e t at (node, inside) in
+      let there = in_run nodes tr all left marks i (begins ends i) (slice_index ends i) run other.place other.item t other.at (other.node, other.inside) in
       let same : here.0 ≡ there.0 =
       one_cell nodes tr i run.times run.here here.0 there.0 e other.item t run.cuts.rising run.cells here.2 there.2 inside other.inside in
       let f = here.1 in let g = there.1 in
-      apart other.place (omega (arith, f, g, same)) other.is
+      other.is.0 (omega (arith, f, g, same))
     where
-      apart : (j : ℕ) → j ≡ c → (j < c) ⊎ ((c < j) × (slice_index_or new j false ≡ true)) → ⊥
-      apart j e (inl h) = absurd (omega (arith, e, h))
-      apart j e (inr h) = absurd (let k = h.0 in omega (arith, e, k))
+      more : CoverMore some (remaining left marks all)
+      more j u h =
+          let w = within j u h in
+          to_covered (remaining left marks all) j u
+          (from_remaining (IsOver j u) left marks all w.place w.item w.at (w.node, w.inside) (stays_one left marks w.place w.is.1))
 
   -- the marks that are put where the demand is on are of cells that are needed
-  pub marks_needed : (left : ℕ) (old new : List Bool) (more : List Item) (i : ℕ) (a : Atom) (holds : Bool) (x : List (Knot Kleene))
-      → slice_get nodes i ≡ Some (Leaf a)
-      → CoverMore (remaining left old all) more → IsDemand kleene_shape nodes tr more holds i x
+  pub marks_needed : (left : ℕ) (old new : List Bool) (i : ℕ) (a : Atom) (holds : Bool) (x : List (Knot Kleene)) → slice_get nodes i ≡ Some (Leaf a)
+      → IsDemand kleene_shape nodes tr (remaining left old all) holds i x
       → MarksMore old new (λ c. (c < left) × (e : Item) × (slice_get all c ≡ Some e) × (e.node ≡ i) × Touches kleene_shape x e.on)
-      → MarksNeeded nodes tr all left old new
-  marks_needed left old new more i a holds x leaf covered demand marks = record {
-    stay = marks.stay;
-    only = λ c h. elim (marks.only c h) [
-      | inl k ↦ inl k
-      | inr k ↦ inr (k.0, demanded_needed left old new more c i a k.1 holds x leaf k.0 covered among k.2 k.3 demand k.4)
-    ];
+      → MarksMore old new (λ c. (c < left) × IsNeeded nodes tr all left old c)
+  marks_needed left old new i a holds x leaf demand more = record {
+    stay = more.stay;
+    only = λ c h. elim (more.only c h) [ inl k ↦ inl k | inr k ↦ inr (k.0, demanded_needed left old c i a k.1 holds x leaf k.2 k.3 demand k.4) ];
   }
-    where
-      among : (j : ℕ) → slice_index_or new j false ≡ true → (slice_index_or old j false ≡ true) ⊎ (j < left)
-      among j h = elim (marks.only j h) [ inl k ↦ inl k | inr k ↦ inr k.0 ]
-
--- what tells of more items tells of no less than fewer cover
-pub told_of_more : (nodes : List Node) (tr : Trace) (items more : List Item) (o : Option (List (List (Knot Kleene)))) → CoverMore items more
-    → IfSome o (AreCertainties kleene_shape nodes tr more) → IfSome o (AreToldOfMore kleene_shape nodes tr items)
-told_of_more nodes tr items more None covered h = tt
-told_of_more nodes tr items more (Some signals) covered h = record { more = more; covered = covered; told = h }
-
--- where no mark is put, none but those that are needed are
-pub no_more_needed : (nodes : List Node) (tr : Trace) (all : List Item) (left : ℕ) (marks : List Bool) → MarksNeeded nodes tr all left marks marks
-no_more_needed nodes tr all left marks = record { stay = λ c h. h; only = λ c h. inl h }
 
 -- one more mark, where P holds
 pub mark_more : (old marks : List Bool) (c : ℕ) (P : ℕ → Type 0) → P c → MarksMore old marks P → MarksMore old (set marks c true) P
@@ -203,6 +174,7 @@ mark_more old marks c P here more = record {
   only = λ j h. elim (marked_set marks c j h) [ inl e ↦ inr (subst P (sym e) here) | inr k ↦ more.only j k ];
 }
 
+-- marks that stay as they are got none
 pub mark_none : (marks : List Bool) (P : ℕ → Type 0) → MarksMore marks marks P
 mark_none marks P = record { stay = λ j h. h; only = λ j h. inl h }
 

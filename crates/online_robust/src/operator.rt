@@ -29,13 +29,6 @@ pub(crate) enum Operator {
     Past(Endless),
 }
 
-/// A negation before anything was told.
-fn negation(of: u32) -> Option<Operator>
-    ensures { result ≡ Some (Op.Not (record { of = of; last = None })) }
-{
-    Some(Operator::Not(Not { of, last: None }))
-}
-
 /// A connective before anything was told.
 fn two(left: u32, right: u32, side: Side, turned: bool) -> Option<Operator>
     ensures { result ≡ Some (Op.Two (record { left = left; right = right; side = side; turned = turned; last = None })) }
@@ -84,7 +77,8 @@ fn ahead(of: u32, side: Side, low: u32, high: u32, low_in: bool, high_in: bool) 
 /// That of a window behind: without a low end where it has no far bound.
 fn behind(of: u32, side: Side, low: u32, high: Option<u32>, low_in: bool, high_in: bool) -> Operator
     requires { IsInOrder low high }
-    ensures { MatchOption high (result ≡ Op.Past (endless_of (past_window of side low low_in))) (λ b. IsWindowOperator (behind_window of side low b low_in high_in) result) }
+    ensures { MatchOption high (result ≡ Op.Past (endless_of (past_window of side low low_in)))
+        (λ b. IsWindowOperator (behind_window of side low b low_in high_in) result) }
 {
     match high {
         Some(high) => window(of, side, -i64::from(high), -i64::from(low), high_in, low_in),
@@ -180,12 +174,17 @@ impl Operator {
         ensures { IsFirstOperator node.now result }
     {
         match node {
-            Node::Const(_) | Node::Atom(_) => None,
-            Node::Not(of) => negation(*of),
+            Node::Const(_) => None,
+            Node::Atom(_) => None,
+            Node::Not(of) => Some(Operator::Not(Not {
+                of: *of,
+                last: None,
+            })),
             Node::And(left, right) => two(*left, *right, Side::Least, false),
             Node::Or(left, right) => two(*left, *right, Side::Greatest, false),
             Node::Implies(left, right) => two(*left, *right, Side::Greatest, true),
-            Node::Until { .. } | Node::Since { .. } => unreachable!(),
+            Node::Until { .. } => unreachable!(),
+            Node::Since { .. } => unreachable!(),
             Node::Eventually {
                 of,
                 low,

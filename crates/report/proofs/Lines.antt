@@ -1,5 +1,6 @@
 -- Verdicts one after another: there is a text for each list, and it grows list by list.
-use Rattle.std.proofs.Common.{◌≡◌, ℕ, ℤ, pos, ◌*ℤ◌, ◌*◌, ◌^◌, ◌<◌, Bool, true, false, List, [], ◌∷◌, ◌++◌, append-nil, append_assoc, refl, sym, ap, ◌∙◌, subst, arith, mul-pos}
+use Rattle.std.proofs.Common.{◌≡◌, ℕ, ℤ, pos, ◌*ℤ◌, ◌*◌, ◌^◌, ◌<◌, Bool, true, false, List, [], ◌∷◌, ◌++◌}
+use Rattle.std.proofs.Common.{append-nil, append_assoc, refl, sym, ap, ◌∙◌, subst, arith, mul-pos}
 use Rattle.std.proofs.Math.Nat.{one-le-pow}
 use Rattle.rational.specs.Time.{Rational, ratio, ◌≈◌, closed}
 use Rattle.rational.proofs.Lowest.{has_denominator}
@@ -15,7 +16,7 @@ use Rattle.report.specs.SignalVerdicts.{DescribesFunction, AreSignalLines}
 use Rattle.report.specs.VerdictForms.{IsEntry, AreEntries}
 use Rattle.report.specs.Appended.{Grew, GrewInPart, AreEach, Then}
 use Rattle.report.proofs.Growths as growth
-use Rattle.report.proofs.Growths.{grew_then, part_then, part_first, some_then}
+use Rattle.report.proofs.Growths.{grew_then, part_then, some_then}
 use Rattle.report.proofs.Sequences.{each_join, each_exist}
 use Rattle.report.proofs.Spans.{span_text}
 

@@ -10,7 +10,9 @@ ghost use Rattle.trace_stream.specs.Following.{HasLived, IsLive, IsLiveStop};
 ghost use Rattle.trace_stream.specs.Streams.{verdicts};
 ghost use Rattle.session_mux.specs.Owning.{Own, asks as is_query, stops as is_stop, next_line, stopped_now, with_content};
 ghost use Rattle.session_mux.specs.Telling.{told_lines, HasSaid};
-ghost use Rattle.session_mux.specs.Standing.{WatchesRows, IsOwnText, HasReason, HasStopped, IsStoppedAt, IsOpen, IsAfterLine, recent_of, HasGrown, HasTold, HasSomeTold, IsGrowth, IsReply, HasReplied, IsCutShort};
+ghost use Rattle.session_mux.specs.Standing.{WatchesRows, IsOwnText, HasReason, HasStopped, IsStoppedAt};
+ghost use Rattle.session_mux.specs.Standing.{IsOpen, IsAfterLine, recent_of, HasGrown, HasTold};
+ghost use Rattle.session_mux.specs.Standing.{HasSomeTold, IsGrowth, IsReply, HasReplied, IsCutShort};
 
 use crate::recent::{Recent, no_lines};
 use crate::telling::{show, tell};
@@ -36,16 +38,6 @@ pub(crate) struct Session {
     tag: Text,
     stream: Option<Live<Verdicts>>,
     recent: Recent,
-}
-
-/// The formula once more.
-fn copied(formula: &Formula) -> Result<Formula, Memory>
-    ensures { IfOk result (λ f. f ≡ formula.now) }
-{
-    match formula.clone() {
-        Ok(formula) => Ok(formula),
-        Err(_) => Err(Memory),
-    }
 }
 
 /// The tag's bytes.
@@ -115,7 +107,8 @@ fn tell_stop(
 ) -> Result<(), Memory>
     requires room { recent.old.capacity ≡ 8 }
     requires reason { HasReason live.now.formula stop }
-    ensures { (f : Parsed) (o p : Own) (told : List ℕ) → live.now.formula ≡ f → recent.old ≡ recent_of told → IsOwnText f o told → IsStoppedAt f p (told ++ live.now.text) stop
+    ensures { (f : Parsed) (o p : Own) (told : List ℕ) → live.now.formula ≡ f → recent.old ≡ recent_of told → IsOwnText f o told
+        → IsStoppedAt f p (told ++ live.now.text) stop
         → MatchResult result
         (λ _. HasGrown f tag.now p told recent.new out.old out.new (λ _. HasStopped f p))
         (λ _. IsCutShort (IsGrowth f tag.now o p) out.old out.new) }
@@ -138,8 +131,10 @@ fn take_with(
 ) -> Result<bool, Memory>
     requires room { recent.old.capacity ≡ 8 }
     requires stands { (f : Parsed) × (bytes told : List ℕ) × IsOpen f bytes told live.old }
-    ensures { (f : Parsed) (o : Own) (told : List ℕ) → IsOwnText f o told → recent.old ≡ recent_of told → o.stopped ≡ false → IsOpen f o.bytes told live.old → MatchResult result
-        (λ goes_on. HasGrown f tag.now (next_line o content.now) told recent.new out.old out.new (IsAfterLine f (next_line o content.now).bytes goes_on live.new))
+    ensures { (f : Parsed) (o : Own) (told : List ℕ) → IsOwnText f o told → recent.old ≡ recent_of told → o.stopped ≡ false
+        → IsOpen f o.bytes told live.old → MatchResult result
+        (λ goes_on. HasGrown f tag.now (next_line o content.now) told recent.new out.old out.new
+        (IsAfterLine f (next_line o content.now).bytes goes_on live.new))
         (λ _. IsCutShort (IsGrowth f tag.now o (next_line o content.now)) out.old out.new) }
 {
     match feed_line(live, content) {
@@ -192,7 +187,7 @@ impl Session {
         ensures told { IfOk result (λ s. HasTold formula.now (record { bytes = []; stopped = false }) [] s) }
     {
         let tag = named(alloc, tag)?;
-        let live = Live::new(alloc, copied(formula)?, LIMITS)?;
+        let live = Live::new(alloc, formula.copied()?, LIMITS)?;
         let recent = no_lines(alloc)?;
         Ok(Session {
             alloc,

@@ -1,21 +1,23 @@
 -- What the rows of a piece answer, cut row by row out of what the root gave out for all of them: it is the text of the rows in turn.
-use Rattle.std.proofs.Common.{◌≡◌, ◌⊎◌, inl, inr, ℕ, ◌+◌, ◌-◌, ◌<◌, ◌≤◌, Bool, true, false, List, [], ◌∷◌, ◌++◌, length, map, refl, sym, ap, ◌∙◌, subst, arith, append-nil, append_assoc, Some, None, ℤ, pos, ◌+ℤ◌, ◌-ℤ◌, ◌<ℤ◌, ◌≤ℤ◌}
-use Rattle.std.specs.Prelude.{cond, int_lt, MatchBool, ◌≢◌}
+use Rattle.std.proofs.Common.{◌≡◌, ◌⊎◌, inl, inr, ℕ, ◌+◌, ◌-◌, ◌<◌, ◌≤◌, Bool, true, false, List}
+use Rattle.std.proofs.Common.{[], ◌∷◌, ◌++◌, length, map, refl, sym, ap, ◌∙◌, subst, arith}
+use Rattle.std.proofs.Common.{append-nil, append_assoc, Some, None, ℤ, pos, ◌+ℤ◌, ◌-ℤ◌, ◌<ℤ◌, ◌≤ℤ◌}
+use Rattle.std.specs.Prelude.{cond, int_lt, MatchBool}
 use Rattle.std.proofs.lemmas.Int.{ints}
 use Rattle.rational.specs.Rational.{Rational, ◌≤ʳ◌, whole}
-use Rattle.rational.specs.Time.{Interval, closed, left_open, later}
+use Rattle.rational.specs.Time.{closed, left_open, later}
 use Rattle.rational.proofs.Order.{le_trans, le_of_lt, le_or_lt, same_of_le}
 use Rattle.rational.proofs.TimeLemmas.{later_le}
 use Rattle.rational.proofs.Mixed.{parts}
 use Rattle.rational.proofs.Shift.{le_whole, lt_whole}
 use Rattle.stl_syntax.specs.Formula.{Subformula, horizon}
-use Rattle.stl_syntax.specs.Trace.{Header, Row, Trace, IsTrace, AreRows, AreRowsAfter, Continues, first_time, last_time, start}
+use Rattle.stl_syntax.specs.Trace.{Header, Row, Trace, AreRows, AreRowsAfter, Continues, first_time, last_time}
 use Rattle.stl_syntax.specs.Texts.{AreVerdictLines}
 use Rattle.stl_syntax.specs.Verdicts.{Describes}
 use Rattle.stl_syntax.specs.Stream.{answered_by, IsStretchText, IsNewText, IsRowsText}
 use Rattle.stl_syntax.specs.declared.items.Verdict.{Verdict}
 use Rattle.stl_syntax.proofs.LawProofs.{answers_stay}
-use Rattle.online_nodes.specs.Cuts.{Place, begins, ends, After, Upto, Before, Same}
+use Rattle.online_nodes.specs.Cuts.{Place, begins, After, Before, Same}
 use Rattle.online_nodes.specs.Network.{Front}
 use Rattle.online_nodes.specs.Laws.{answered_to}
 use Rattle.online_nodes.proofs.RunLaw.{some_is, none_is_none, int_order}
@@ -292,9 +294,12 @@ module _ (p : Subformula) (header : Header) (all : List Row) (are : AreRows (len
 
   -- the rows' texts in turn, and what is left after them
   pub record AreCut (before owed : List Row) (text : List ℕ) (rest : List Verdict) : Type 0 where
+    -- the text is that of the rows in turn
     pub text_is : IsRowsText (IsNewText p) p header before (front_after p before) owed text
+    -- and what is left lies behind them
     pub left : IsLeft (before ++ owed) rest
 
+  -- cut row by row, what the root gave out is the text of the rows
   pub rows_cut : (before owed : List Row) (left rest : List Verdict) (text : List ℕ) → all ≡ before ++ owed
       → IsTextOfRows header.scale (horizon p) (map (λ (r : Row). r.time) owed) left text rest → IsLeft before left → AreCut before owed text rest
   rows_cut before [] left rest text e (none, same) l = record {

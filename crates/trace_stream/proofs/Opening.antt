@@ -1,9 +1,9 @@
 -- A network of verdicts that follows a case, whose text is made for all rows or is owed for some.
-use Rattle.std.proofs.Common.{◌≡◌, inl, inr, ℕ, ◌-◌, ◌<◌, Bool, true, false, List, [], ◌∷◌, ◌++◌, length, map, refl, sym, ap, ◌∙◌, subst, arith}
+use Rattle.std.proofs.Common.{◌≡◌, inl, inr, ℕ, ◌-◌, ◌<◌, true, false, List, [], ◌∷◌, ◌++◌, length, map, refl, sym, ap, ◌∙◌, subst, arith}
 use Rattle.std.specs.Prelude.{IfSome, ◌==◌}
 use Rattle.std.proofs.lemmas.Bool.{false≢true}
 use Rattle.stl_syntax.specs.Formula.{Formula}
-use Rattle.stl_syntax.specs.Trace.{Header, Row, last_time}
+use Rattle.stl_syntax.specs.Trace.{Header, Row}
 use Rattle.stl_syntax.specs.declared.node.Node.{Node}
 use Rattle.online_nodes.specs.Network.{Event, row, node_is_atom}
 use Rattle.online_net.specs.Nets.{Stands, last_row_of}
@@ -35,6 +35,7 @@ module _ (v : Verdicts) (c : Case) (made : List ℕ) where
   open_width (inl k) r t = fits_width v c k.stands r t
   open_width (inr o) r t = t.0 ∙ sym o.stands.holds.bound.width
 
+  -- the next row comes after the network's last
   pub open_time : IsOpened → (r : Row) → Takes r c.trace → IfSome v.network.net.last (λ (l : Row). l.time < r.time)
   open_time (inl k) r t = fits_time v c k.stands r t
   open_time (inr o) r t =

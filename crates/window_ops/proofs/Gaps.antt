@@ -1,23 +1,23 @@
 -- A gap that stays as it is, and one that gets better or worse with time, once it was counted.
-use Rattle.std.proofs.Common.{◌≡◌, ◌⊎◌, inl, inr, ℕ, ◌+◌, ◌^◌, List, Bool, true, false, Option, None, Some, refl, sym, ap, ◌∙◌, subst}
-use Rattle.std.specs.Prelude.{slice_get, ◌<ℤ◌, ◌-ℤ◌, neg_ℤ, ◌↔◌, IsTrue}
+use Rattle.std.proofs.Common.{◌≡◌, ◌⊎◌, inl, inr, ℕ, ◌+◌, ◌^◌, List, true, false, Option, None, Some, refl, sym, ◌∙◌, subst}
+use Rattle.std.specs.Prelude.{slice_get, ◌<ℤ◌, neg_ℤ, ◌↔◌}
 use Rattle.std.proofs.lemmas.Bool.{false≢true}
 use Rattle.rational.specs.Rational.{IsWithin, add, whole}
-use Rattle.rational.specs.Time.{Rational, Within, shifted, ◌≤ʳ◌, ◌<ʳ◌, ◌≈◌}
-use Rattle.rational.specs.Extended.{Affine, Extended, value_at, ◌≈ᵉ◌, ◌≤ᵉ◌}
+use Rattle.rational.specs.Time.{Rational, shifted, ◌≤ʳ◌, ◌<ʳ◌, ◌≈◌}
+use Rattle.rational.specs.Extended.{Affine, value_at, ◌≈ᵉ◌}
 use Rattle.rational.specs.InPlay.{IsConstant}
 use Rattle.rational.specs.Affine.{IsBounded, IsSteady, HasBoundedLevel}
-use Rattle.rational.proofs.Order.{le_refl, le_of_lt, le_of_same, ge_of_same, le_or_lt, le_trans, lt_of_le_of_lt, lt_of_lt_of_le, lt_trans, lt_or_same_or_gt, not_lt_of_le, same_of_le, same_refl, same_sym, same_trans}
+use Rattle.rational.proofs.Order.{le_refl, le_of_lt, le_of_same, ge_of_same, le_or_lt, le_trans, lt_of_le_of_lt}
+use Rattle.rational.proofs.Order.{lt_of_lt_of_le, lt_trans, lt_or_same_or_gt, not_lt_of_le, same_of_le, same_refl, same_sym}
 use Rattle.rational.proofs.LimitLemmas.{earlier_end, later_end}
 use Rattle.rational.proofs.Shift.{le_shift, shift_back}
 use Rattle.rational.proofs.TimeLemmas.{precedes_le, shifted-add}
 use Rattle.rational.proofs.AffineLemmas.{bounded_same, same_symᵉ, same_transᵉ, value_same}
-use Rattle.rational.proofs.Bounds.{HasBounded}
 use Rattle.frac128.specs.Value.{value}
 use Rattle.frac128.specs.declared.frac.Frac.{Frac}
 use Rattle.value_laws.specs.Members.{ShapeOf, ShapeLaws}
 use Rattle.pl_signal.specs.declared.knot.Knot.{Knot}
-use Rattle.pl_signal.specs.Knots.{time, HasShape, IsWorth, start, stop}
+use Rattle.pl_signal.specs.Knots.{time, IsWorth, start, stop}
 use Rattle.pl_signal.proofs.Values.{next_rises, shape_after, worth_between}
 use Rattle.pl_signal.proofs.Limits.{limits_bounded, worth_bounded}
 use Rattle.envelope.specs.declared.turns.Turn.{Turn}
@@ -28,9 +28,9 @@ use Rattle.envelope.specs.Standing.{Part, Counts, IsOneOf}
 use Rattle.envelope.proofs.TurnOrder.{at_of_come}
 use Rattle.envelope.proofs.Bests.{no_better_same, no_better_trans}
 use Rattle.window_ops.specs.declared.offsets.Way.{Way}
-use Rattle.window_ops.specs.declared.counted.Piece.{Piece}
 use Rattle.window_ops.specs.Over.{InPlay, Over}
-use Rattle.window_ops.specs.Going.{CanCount, GetsBetter, GetsWorse, Goes, HasClimbed, HasCounted, HasSlope, InDomain, IsFair, IsLowEnd, IsPiece, IsSlopeFrom, IsSlopeOf, IsWay, OffersSlope, ReachesAt, StandsAt, turn_of}
+use Rattle.window_ops.specs.Going.{CanCount, GetsBetter, GetsWorse, HasClimbed, HasCounted, HasSlope, InDomain}
+use Rattle.window_ops.specs.Going.{IsLowEnd, IsPiece, IsSlopeFrom, IsSlopeOf, IsWay, OffersSlope, ReachesAt, StandsAt, turn_of}
 use Rattle.window_ops.proofs.Counting.{at_most_to_come, goes_later, within_domain}
 use Rattle.window_ops.proofs.Covering.{came_gap, come_next, covers_by, precedes_to_come, strictly_come, strictly_to_come}
 use Rattle.window_ops.proofs.Ends.{come_at, le_shifted, le_shifted_back, lt_shifted, shift_forth, to_come_alike}
@@ -93,6 +93,7 @@ module _ {P : Type 0} (shape : ShapeOf P) (laws : ShapeLaws shape) (knots : List
             (value_at (shape.function k.after) l.0) (value_at (shape.function k.after) (time k)) (steady l.0 (time k))
             (reach_gap shape laws knots way is_way i k n here next t l.0 r.0 l.0 l.1 r.2 l.2 r.3 r.1 (inl (same_refl l.0)))
 
+    -- a gap that stays as it is may be counted when the walk stands before it
     pub can_steady : (parts : List (Part P)) (old : Walk P) → StandsAt shape knots way (turn_of k.time true) parts old
         → CanCount shape knots way (record { shape = k.after; at = k.time; from = from; until = until; slope = None }) old
     can_steady parts old before = record {
@@ -106,6 +107,7 @@ module _ {P : Type 0} (shape : ShapeOf P) (laws : ShapeLaws shape) (knots : List
           (λ t h. h) (λ t h. come_next k.time n.time true false rises (shifted t way.over.low) h) before.goes;
     }
 
+    -- and once it was counted the walk stands behind it
     pub came_steady : (parts : List (Part P)) (old new : Walk P) (before : StandsAt shape knots way (turn_of k.time true) parts old)
         (counted : HasCounted shape knots way (record { shape = k.after; at = k.time; from = from; until = until; slope = None }) old new
         (can_steady parts old before))
@@ -155,6 +157,7 @@ module _ {P : Type 0} (shape : ShapeOf P) (laws : ShapeLaws shape) (knots : List
         before_n t m = strictly_to_come n.time (shifted t way.over.low) (to_come_alike until (turn_of n.time false) t
             (shifted t way.over.low) (span.until_is t).1 m)
 
+    -- a gap that gets better may be counted once the high end has climbed over it
     pub can_rising : (parts : List (Part P)) (mid : Walk P) → HasClimbed shape knots way k n parts mid
         → CanCount shape knots way (record { shape = k.after; at = n.time; from = from; until = until; slope = None }) mid
     can_rising parts mid climbed = record {
@@ -169,6 +172,7 @@ module _ {P : Type 0} (shape : ShapeOf P) (laws : ShapeLaws shape) (knots : List
           (λ t h. h) (λ t h. come_next k.time n.time true false rises (shifted t way.over.low) h) climbed.goes;
     }
 
+    -- and once it was counted the walk stands behind it
     pub came_rising : (parts : List (Part P)) (old mid new : Walk P) → StandsAt shape knots way (turn_of k.time true) parts old
         → (climbed : HasClimbed shape knots way k n parts mid)
         (counted : HasCounted shape knots way (record { shape = k.after; at = n.time; from = from; until = until; slope = None }) mid new
@@ -365,6 +369,7 @@ module _ {P : Type 0} (shape : ShapeOf P) (laws : ShapeLaws shape) (knots : List
         has_slope None h = λ t m. (span.until_is t).1 (inl (lt_of_lt_of_le low_end.before (at_of_come (turn_of n.time false) (shifted t way.over.low) m)))
         has_slope (Some s) h = slope_is s h
 
+        -- a gap that gets worse may be counted when the walk stands before it
         pub can_falling : (parts : List (Part P)) (old : Walk P) → StandsAt shape knots way (turn_of k.time true) parts old
             → CanCount shape knots way (record { shape = k.after; at = at; from = from; until = until; slope = slope }) old
         can_falling parts old before = record {
@@ -378,6 +383,7 @@ module _ {P : Type 0} (shape : ShapeOf P) (laws : ShapeLaws shape) (knots : List
               (λ t h. h) (λ t h. inl (lt_of_le_of_lt low_end.after (strictly_come at (shifted t way.over.low) h))) before.goes;
         }
 
+        -- and once it was counted the walk stands behind it
         pub came_falling : (parts : List (Part P)) (old new : Walk P) (before : StandsAt shape knots way (turn_of k.time true) parts old)
             (counted : HasCounted shape knots way (record { shape = k.after; at = at; from = from; until = until; slope = slope }) old new
             (can_falling parts old before))

@@ -1,12 +1,12 @@
 -- From when a piece of a signal counts in a moving window, and until when.
-use Rattle.std.proofs.Common.{arith, ◌≡◌, ◌⊎◌, inl, inr, ℤ, pos, ◌^◌, List, Bool, true, false, not, refl, sym, ap, ◌∙◌, subst}
+use Rattle.std.proofs.Common.{arith, ◌≡◌, ◌⊎◌, inl, inr, ℤ, pos, ◌^◌, List, Bool, true, not, refl, sym, ◌∙◌, subst}
 use Rattle.std.specs.Prelude.{neg_ℤ, ◌≤ℤ◌, ◌<ℤ◌, ◌+ℤ◌, ◌↔◌}
 use Rattle.std.proofs.lemmas.Int.{ints}
 use Rattle.std.proofs.lemmas.Bool.{false≢true}
 use Rattle.std.proofs.Math.Nat.{mul-lt-mul_of_pos_right}
 use Rattle.rational.specs.Rational.{IsWithin, add, whole}
 use Rattle.rational.specs.Time.{Rational, Within, shifted, later, ◌≤ʳ◌, ◌<ʳ◌, ◌≈◌}
-use Rattle.rational.proofs.Order.{le_refl, le_of_lt, le_of_same, ge_of_same, le_trans, lt_of_le_of_lt, lt_of_lt_of_le, same_refl, same_sym, same_trans}
+use Rattle.rational.proofs.Order.{le_refl, le_of_same, ge_of_same, le_trans, lt_of_le_of_lt, lt_of_lt_of_le, same_refl, same_sym, same_trans}
 use Rattle.rational.proofs.Mixed.{within_more, within_same}
 use Rattle.rational.proofs.Shift.{le_shift_by, same_shift, shift_twice}
 use Rattle.rational.proofs.TimeLemmas.{later-add, shifted-add}
@@ -18,10 +18,9 @@ use Rattle.pl_signal.specs.Knots.{start, stop}
 use Rattle.envelope.specs.declared.turns.Turn.{Turn}
 use Rattle.envelope.specs.Turns.{HasCome, IsToCome}
 use Rattle.envelope.proofs.TurnOrder.{at_of_come}
-use Rattle.window_ops.specs.declared.offsets.Offsets.{Offsets}
 use Rattle.window_ops.specs.declared.offsets.Way.{Way}
 use Rattle.window_ops.specs.Going.{IsNonEmpty, IsWay, turn_of}
-use Rattle.window_ops.proofs.Ends.{at_is, come_moved, ge_from, gt_from, le_from, le_shifted}
+use Rattle.window_ops.proofs.Ends.{at_is, come_moved, ge_from, gt_from, le_from}
 use Rattle.window_ops.proofs.Shifts.{high_from, high_to, low_from, low_to, turned_from, turned_to, within_sum}
 
 -- a time lies before what is a tick later
@@ -43,20 +42,30 @@ zero_shift t = omega arith
 pub ahead_of : (t : Rational) (z : ℤ) → pos 0 ≤ℤ z → t ≤ʳ shifted t z
 ahead_of t z h = le_trans (ge_of_same (zero_shift t)) (le_trans (le_shift_by {j = pos 0} {k = z} t h) (ge_of_same (shifted-add t z)))
 
+-- a time moved by a negative offset is no later
 pub behind_of : (t : Rational) (z : ℤ) → z ≤ℤ pos 0 → shifted t z ≤ʳ t
 behind_of t z h = le_trans (le_of_same (shifted-add t z)) (le_trans (le_shift_by {j = z} {k = pos 0} t h) (le_of_same (zero_shift t)))
 
 module _ {P : Type 0} (shape : ShapeOf P) (laws : ShapeLaws shape) (knots : List (Knot P)) (way : Way) (is_way : IsWay shape knots way) where
   -- a piece counts from the turn at which the high end comes to the one time, until that at which the low end comes to the other
   pub record Span (a b : Frac) (after_a after_b : Bool) (from until : Turn) : Type 0 where
+    -- the piece counts from when the high end has come to its begin
     pub from_is : (t : Rational) → HasCome from t ↔ HasCome (turn_of a after_a) (shifted t way.over.high)
+    -- until the low end has come to its end
     pub until_is : (t : Rational) → HasCome until t ↔ HasCome (turn_of b after_b) (shifted t way.over.low)
+    -- the first turn keeps within the limits of times
     pub from_within : IsWithin (2 ^ 34) (value from.at)
+    -- and the second
     pub until_within : IsWithin (2 ^ 34) (value until.at)
+    -- what has come at the second has come at the first
     pub in_order : (t : Rational) → HasCome until t → HasCome from t
+    -- the second is still to come at the first
     pub to_come : IsToCome until (value from.at)
+    -- one of them lies within the domain
     pub aside : (value until.at ≤ʳ stop knots) ⊎ (start knots ≤ʳ value from.at)
+    -- at the second the low end is at the piece's end
     pub low_at : shifted (value until.at) way.over.low ≈ value b
+    -- at the first the high end is at its begin
     pub high_at : shifted (value from.at) way.over.high ≈ value a
 
   -- a time of the domain moved lies within limits

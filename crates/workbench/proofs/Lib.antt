@@ -24,7 +24,8 @@ pub mod SureDecisions
 pub mod SureMargins
 pub mod OneRequest
 pub mod EndsOnce
-pub mod AtRest
+pub mod Beginnings
+mod AtRest
 pub mod ManyLines
 pub mod BenchesHear
 pub mod Reported

@@ -43,16 +43,14 @@ returns-in-Always c =
 pub returns-in-Once : goal.returns-in-Once
 returns-in-Once c =
     subst (λ n. AreAskedBy n (value c.args.cut.now.time) c.args.shown.now c.ask_back.new.shown) (sym c.in-Once.is)
-    (asked_once_by c.in-Once.of c.in-Once.low
-    (value c.args.cut.now.time) c.args.shown.now c.ask_back.new.shown c.requires.apart c.requires.inside c.requires.tidy
-    c.in-Once.high c.in-Once.low_in c.in-Once.high_in c.ask_back.ensures)
+    (asked_once_by c.in-Once.of c.in-Once.low c.in-Once.high c.in-Once.low_in c.in-Once.high_in
+    (value c.args.cut.now.time) c.args.shown.now c.ask_back.new.shown c.ask_back.ensures)
 
 pub returns-in-Historically : goal.returns-in-Historically
 returns-in-Historically c =
     subst (λ n. AreAskedBy n (value c.args.cut.now.time) c.args.shown.now c.ask_back-in-Historically.new.shown) (sym c.in-Historically.is)
-    (asked_historically_by c.in-Historically.of c.in-Historically.low (value c.args.cut.now.time) c.args.shown.now c.ask_back-in-Historically.new.shown
-    c.requires.apart c.requires.inside c.requires.tidy c.in-Historically.high c.in-Historically.low_in c.in-Historically.high_in
-    c.ask_back-in-Historically.ensures)
+    (asked_historically_by c.in-Historically.of c.in-Historically.low c.in-Historically.high c.in-Historically.low_in c.in-Historically.high_in
+    (value c.args.cut.now.time) c.args.shown.now c.ask_back-in-Historically.new.shown c.ask_back-in-Historically.ensures)
 
 pub returns-in-Until : goal.returns-in-Until
 returns-in-Until c =

@@ -11,7 +11,7 @@ use Rattle.early_verdict.proofs.LettingLemmas.{two_less}
 use Rattle.early_verdict.proofs.Places.{item_at, same_sets}
 use Rattle.early_verdict.proofs.SinceStands.{back_inside, ordered, since_stands}
 use Rattle.early_verdict.proofs.UntilStands.{parts_inside, until_stands}
-use Rattle.early_verdict.proofs.Narrowing.{are_apart, asked_stands, children_more, le_after, live_inside, settled_stands, shown_inside}
+use Rattle.early_verdict.proofs.Narrowing.{asked_stands, children_more, le_after, live_inside, settled_stands, shown_inside}
 use Rattle.early_verdict.proofs.letting.let_go_at.Goals as goal
 
 pub settle_at-requires-clause-live : goal.settle_at-requires-clause-live
@@ -38,9 +38,6 @@ ask_children-requires-clause-tidy c = c.requires.stands.1.shown_tidy
 
 pub ask_children-requires-clause-inside : goal.ask_children-requires-clause-inside
 ask_children-requires-clause-inside c = shown_inside c.args.formula.now.nodes c.requires.stands.0 c.args.live.now c.args.shown.now c.requires.stands.1
-
-pub ask_children-requires-clause-apart : goal.ask_children-requires-clause-apart
-ask_children-requires-clause-apart c = are_apart c.args.formula.now.nodes c.requires.stands.0 c.args.live.now c.args.shown.now c.requires.stands.1
 
 -- a since that has a bound
 pub ask_both-requires-clause-left : goal.ask_both-requires-clause-left

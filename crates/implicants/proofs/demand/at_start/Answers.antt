@@ -1,4 +1,4 @@
-use Rattle.std.proofs.Common.{pos, sym, subst, arith, ◌∙◌}
+use Rattle.std.proofs.Common.{pos, ◌<◌, sym, subst, arith, ◌∙◌}
 use Rattle.rational.specs.Time.{whole, ◌≈◌, ◌<ʳ◌}
 use Rattle.frac128.specs.Value.{value}
 use Rattle.pl_signal.specs.Knots.{start, stop}

@@ -1,4 +1,4 @@
-use Rattle.std.proofs.Common.{◌≡◌, ◌<◌, ◌-◌, ◌^◌, length, pos, sym, ap, subst, arith}
+use Rattle.std.proofs.Common.{◌≡◌, ◌<◌, ◌-◌, ◌^◌, length, pos, true, sym, ap, subst, arith}
 use Rattle.std.specs.Prelude.{IfSome}
 use Rattle.rational.specs.Time.{whole, ◌≈◌}
 use Rattle.rational.proofs.Order.{same_trans}
@@ -58,7 +58,7 @@ loop-j-preserved c =
           (before.demand items sure);
     }
 
-pub returns-then-i-j-clause-demand : goal.returns-then-i-j-clause-demand
-returns-then-i-j-clause-demand c items sure t on some more m =
+pub returns-then-i-j : goal.returns-then-i-j
+returns-then-i-j c items sure t on some more m =
     subst (λ k. Certain c.loop-j.holds (subformula c.args.formula.now.nodes k) some c.args.trace.now t) (sym c.if-i-j.true)
     (c.loop-j.invariant.demand items sure t on some more m)

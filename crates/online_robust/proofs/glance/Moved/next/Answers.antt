@@ -1,7 +1,5 @@
 use Rattle.std.proofs.Common.{refl, sym, ap, subst, ◌∙◌, Some}
-use Rattle.std.specs.Prelude.{ℕ}
 use Rattle.frac128.specs.Value.{value}
-use Rattle.value_laws.specs.declared.margin.Margin.{Margin}
 use Rattle.online_robust.specs.Glances.{IsGap, IsStride}
 use Rattle.online_robust.specs.declared.line.MarginLine.{MarginLine}
 use Rattle.online_robust.specs.declared.line.Reached.{Reached}
@@ -18,7 +16,8 @@ over_gap-requires c =
 
 pub returns-in-None : goal.returns-in-None
 returns-in-None c x own t at can =
-    subst (λ (r : Reached). IsStride x c.args.self.now own t (value c.args.to.now) c.outside.result.shape r c.args.edges.now c.args.edges.now) (sym c.outside.ensures.to)
+    subst (λ (r : Reached). IsStride x c.args.self.now own t (value c.args.to.now) c.outside.result.shape r c.args.edges.now c.args.edges.now)
+    (sym c.outside.ensures.to)
     (nothing_left x c.args.self.now own c.args.edges.now t (value c.args.to.now) at can c.outside.result.shape c.args.to.now refl c.outside.ensures.shape
     (sym c.first.ensures ∙ c.in-None.is))
 

@@ -1,12 +1,11 @@
-use Rattle.std.proofs.Common.{◌≡◌, ℕ, ◌+◌, ◌^◌, sym, subst}
-use Rattle.rational.specs.Rational.{Rational, whole, ◌≈◌}
-use Rattle.rational.specs.Time.{shifted, ◌≤ʳ◌, ◌<ʳ◌}
+use Rattle.std.proofs.Common.{◌+◌, ◌^◌, sym, subst}
+use Rattle.rational.specs.Rational.{◌≈◌}
+use Rattle.rational.specs.Time.{◌≤ʳ◌}
 use Rattle.rational.proofs.Mixed.{within_same}
-use Rattle.rational.proofs.Order.{le_of_lt, le_of_same, ge_of_same, le_trans, lt_of_le_of_lt, lt_of_lt_of_le, same_of_le, same_refl, same_sym, same_trans}
-use Rattle.rational.proofs.TimeLemmas.{same_shifted}
+use Rattle.rational.proofs.Order.{le_of_lt, le_of_same, le_trans, lt_of_le_of_lt, same_of_le, same_refl, same_sym}
 use Rattle.frac128.specs.Value.{value}
 use Rattle.window_ops.proofs.Ends.{le_shifted}
-use Rattle.online_robust.specs.Glances.{CanGlance, CanStride, Glance, IsGlanceAt, IsStride, glance_of}
+use Rattle.online_robust.specs.Glances.{glance_of}
 use Rattle.online_robust.specs.Reading.{IsStretch}
 use Rattle.online_robust.proofs.Builts.{built_done, built_first, built_on, tick_between, tick_within}
 use Rattle.online_robust.proofs.Glancing.{glance_is_function, glance_same}
@@ -54,13 +53,15 @@ pub loop-self-preserved : goal.loop-self-preserved
 loop-self-preserved c = record {
   went = λ x own from can starts.
       let (at, lost, by, reached, built) = c.loop-self.invariant.went x own from can starts in
-      let stride = c.next-stride.ensures x own (value c.loop-self.reached.at) at (record { own_by = can.own_by; before = c.in-Less.ensures; bound = can.bound }) in (
+      let stride =
+      c.next-stride.ensures x own (value c.loop-self.reached.at) at (record { own_by = can.own_by; before = c.in-Less.ensures; bound = can.bound }) in (
         stride.stands,
         loses_at_both lost (loses_at_later (le_shifted c.args.self.now.by stride.by) stride.lost),
         stride.by,
         (same_refl (value c.next-stride.result.to.at), tick_between reached.1 can.to_tick (le_of_lt stride.later) stride.by, stride.there),
         built_on (glance_of x c.args.self.now) (x.reach + own) (glance_is_function x c.args.self.now) from (value c.loop-self.reached.at) c.loop-self.built
-            c.step.new.self built c.next-stride.result.shape c.next-stride.result.to.value c.next-stride.result.to.at c.in_ok-step.ensures.ok stride.told stride.moved stride.there,
+            c.step.new.self built c.next-stride.result.shape c.next-stride.result.to.value c.next-stride.result.to.at
+            c.in_ok-step.ensures.ok stride.told stride.moved stride.there,
       );
 }
 

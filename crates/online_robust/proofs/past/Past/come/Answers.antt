@@ -1,10 +1,8 @@
-use Rattle.std.proofs.Common.{◌≤◌, Option, None, Some, arith, refl, sym, subst}
+use Rattle.std.proofs.Common.{Option, arith, refl, sym, subst}
 use Rattle.std.specs.Prelude.{MatchOption}
 use Rattle.rational.specs.Time.{shifted}
 use Rattle.frac128.specs.Value.{value}
-use Rattle.online_robust.specs.Held.{edge_at}
 use Rattle.online_robust.specs.Sweeping.{EndsAt, IsBefore}
-use Rattle.online_robust.specs.Windows.{lines_left}
 use Rattle.online_robust.specs.declared.line.Reached.{Reached}
 use Rattle.online_robust.proofs.PastSteps.{high_from_passed, high_passed, high_to_passed}
 use Rattle.online_robust.proofs.WindowPoints.{before_apart, no_sheds}
@@ -50,7 +48,8 @@ returns-then-ends_at-clause-no_more c = let less = c.leave.ensures.fewer in omeg
 pub returns-clause-stands : goal.returns-clause-stands
 returns-clause-stands c x at none = (
   at,
-  subst (λ (o : Option Reached). MatchOption o (IsBefore (shifted (value c.args.self.now.at) c.args.self.now.window.high) c.args.self.now.gap.until) (λ r. Unit {0}))
+  subst (λ (o : Option Reached).
+      MatchOption o (IsBefore (shifted (value c.args.self.now.at) c.args.self.now.window.high) c.args.self.now.gap.until) (λ r. Unit {0}))
       (sym none) (before_apart c.args.self.now.gap.until (shifted (value c.args.self.now.at) c.args.self.now.window.high) at.core.high_later
       (λ ends. c.ends_at.ensures.no c.if-ends_at.false
       (subst (λ z. EndsAt c.args.self.now.gap.until (shifted (value c.args.self.now.at) z)) (sym (high_passed c.args.self.now.window x.reach at.fit)) ends))),

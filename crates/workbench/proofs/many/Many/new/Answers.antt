@@ -3,6 +3,6 @@ use Rattle.stl_syntax.specs.Formula.{Formula}
 use Rattle.session_mux.specs.Taking.{IsTaking}
 use Rattle.workbench.proofs.many.Many.new.Goals as goal
 
-pub returns-in-Ok-clause-rest : goal.returns-in-Ok-clause-rest
-returns-in-Ok-clause-rest c =
-    record { taking = subst (λ (f : Formula). IsTaking f c.new.result [] []) c.in-Ok.ensures c.new.ensures.live; empty = c.new.ensures.empty }
+pub returns-clause-rest : goal.returns-clause-rest
+returns-clause-rest c =
+    record { taking = subst (λ (f : Formula). IsTaking f c.new.result [] []) c.in_ok-same.ensures c.new.ensures.live; empty = c.new.ensures.empty }
