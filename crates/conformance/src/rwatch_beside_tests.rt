@@ -94,15 +94,13 @@ impl<'a> Joined<'a> {
 
     /// A gap comes, and the point at its end.
     fn take(&mut self, gap: Gap<'a>, value: &'a str) -> Result<(), AllocError> {
-        let last = self.gap;
         let mut next = gap;
-        if let Some(before) = last
-            && is_one_line(&before, self.value, &gap)
-        {
-            next.from = before.from;
-            next.left = before.left;
-        } else {
-            self.settle()?;
+        match self.gap {
+            Some(before) if is_one_line(&before, self.value, &gap) => {
+                next.from = before.from;
+                next.left = before.left;
+            }
+            _ => self.settle()?,
         }
         self.gap = Some(next);
         self.at = gap.to;

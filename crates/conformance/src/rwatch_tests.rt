@@ -1,5 +1,5 @@
 //! `rwatch` as a whole: tables of answers from outside, for every cut.
-use crate::run_tests::{Case, Devices, agrees_however_cut, agrees_so_far, pieces};
+use crate::run_tests::{Case, agrees_however_cut};
 use std::alloc::Global;
 use std::process::Abort;
 use std::test::Fail;
@@ -8,14 +8,8 @@ const RISE: &str = "time,x\n0,0\n10,10\n";
 
 const TRIANGLE: &str = "time,x\n0,0\n5,5\n10,0\n";
 
-const VALLEY: &str = "time,x\n0,6\n3,0\n9,6\n";
-
-/// What is told of `eventually[0,3] x >= 0` on it: the first line by the second row, the others by the third.
-const AHEAD: &str = "[0] 6\n(0,2) 6 -> 2\n[2] 2\n(2,6) 2 -> 6\n[6] 6\n(6,9) 6 -> 6\n[9] 6\n";
-
 /// Formulas, traces and what is written.
-const MARGINS: [(&str, &str, &str); 7] = [
-    ("eventually[0,3] x >= 0", VALLEY, AHEAD),
+const MARGINS: [(&str, &str, &str); 6] = [
     ("x >= 5", RISE, "[0] -5\n(0,10) -5 -> 5\n[10] 5\n"),
     ("not x >= 5", RISE, "[0] 5\n(0,10) 5 -> -5\n[10] -5\n"),
     (
@@ -152,8 +146,7 @@ fn windows_of_all_kinds_are_told(rt: HostRuntime) -> Result<(), Fail> {
 }
 
 /// Formulas that are refused, and the line that is told.
-const REFUSED: [(&str, &str); 4] = [
-    ("true until[0,1] x >= 0", "formula: node 2 not streamed\n"),
+const REFUSED: [(&str, &str); 3] = [
     ("x >= 5 until[0,1] x <= 3", "formula: node 2 not streamed\n"),
     (
         "not (x >= 5 since x <= 3)",
@@ -180,13 +173,7 @@ fn a_formula_that_is_not_streamed_is_refused(rt: HostRuntime) -> Result<(), Fail
 }
 
 /// Margins that need too large a denominator once some rows have come; what the rows before answered is told.
-const WIDE: [(&str, &str, &str, &str); 4] = [
-    (
-        "(always[0,1000] eventually[0,1048575] x >= 0) and y >= 0",
-        "time,x,y\n0,1048576,-1\n1048575,0,1048575\n2097152,1048575,0\n",
-        "",
-        "wide: node 4 needs denominator 2305841909703114752\n",
-    ),
+const WIDE: [(&str, &str, &str, &str); 3] = [
     (
         "(always[0,1000] eventually[0,1048575] x >= 0) and y >= 0",
         "time,x,y\n0,1048576,-1\n2000000,1048576,-1\n3048575,0,1048575\n4097152,1048575,0\n",
@@ -220,32 +207,6 @@ fn what_came_before_a_denominator_is_told(rt: HostRuntime) -> Result<(), Fail> {
             status: 8,
         };
         assert!(rt; agrees_however_cut(alloc, case, input.len())?, "row {i}");
-    }
-    Ok(())
-}
-
-/// How many bytes of `VALLEY` were read, and how many `rwatch` has written by then.
-const WRITTEN_BY: [(u64, usize); 6] = [(0, 0), (11, 0), (14, 0), (15, 6), (18, 6), (19, 44)];
-
-#[test]
-fn lines_are_told_before_more_is_read(rt: HostRuntime) -> Result<(), Fail> {
-    let alloc = rt.alloc();
-    for (bytes, written) in WRITTEN_BY {
-        let case = Case {
-            words: &["rwatch", "eventually[0,3] x >= 0"],
-            input: VALLEY,
-            out: AHEAD,
-            err: "read fault\n",
-            status: 5,
-        };
-        let devices = Devices {
-            read_fails: bytes + 1,
-            ..pieces(1)
-        };
-        assert!(rt;
-            agrees_so_far(alloc, case, devices, written)?,
-            "{bytes} bytes"
-        );
     }
     Ok(())
 }

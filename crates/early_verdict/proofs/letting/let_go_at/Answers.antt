@@ -9,7 +9,8 @@ use Rattle.early_verdict.specs.Letting.{AreAskedBy}
 use Rattle.early_verdict.proofs.Childhood.{child_below}
 use Rattle.early_verdict.proofs.LettingLemmas.{two_less}
 use Rattle.early_verdict.proofs.Places.{item_at, same_sets}
-use Rattle.early_verdict.proofs.SinceStands.{back_inside, ordered, since_stands}
+use Rattle.early_verdict.proofs.SinceLooks.{bounded_stands}
+use Rattle.early_verdict.proofs.SinceStands.{back_inside, ordered}
 use Rattle.early_verdict.proofs.UntilStands.{parts_inside, until_stands}
 use Rattle.early_verdict.proofs.Narrowing.{are_apart, asked_stands, children_more, le_after, live_inside, settled_stands, shown_inside}
 use Rattle.early_verdict.proofs.letting.let_go_at.Goals as goal
@@ -103,7 +104,7 @@ cut_run_at-requires-clause-inside c s is =
     let u = c.in-Some.ensures in
     let w = c.shown_at-wide.ensures in
     let h = c.ask_both.ensures in
-    back_inside nodes c.requires.stands.0 c.settle_at.new.live c.args.shown.now h.0 c.ask_both.new.shown c.args.i back.left back.right u.0 back.most
+    back_inside nodes c.requires.stands.0 c.settle_at.new.live c.args.shown.now h.0 c.ask_both.new.shown c.args.i back.left back.right u.0 (Some back.most)
     (c.node-node.ensures.node ∙ ap Some u.1) (value c.cut_before-first.result.time) c.shown_at-wide.result w.0 w.1 w.2 h.1 h.2
     (settled_stands nodes c.requires.stands.0 c.args.live.now c.settle_at.new.live c.args.shown.now c.args.i c.settle_at.ensures c.requires.stands.1) s is
 
@@ -120,7 +121,7 @@ returns-in-Some c = λ tr st.
     let l : c.args.i < length mid = let a = c.settle_at.ensures.count in let b = st.have.count in let d = c.requires.within in omega (arith, a, b, d) in
     let same : c.index-live-at.result ≡ cut.was =
     same_sets c.index-live-at.result cut.was (sym (item_at mid c.args.i c.index-live-at.result l c.index-live-at.is) ∙ cut.at_old) in
-    since_stands nodes c.requires.formed tr mid c.cut_run_at.new.live c.args.shown.now h.0 c.ask_both.new.shown c.args.i back.left back.right u.0 back.most at
+    bounded_stands nodes c.requires.formed tr mid c.cut_run_at.new.live c.args.shown.now h.0 c.ask_both.new.shown c.args.i back.left back.right u.0 back.most at
     (ordered nodes c.requires.formed c.args.i c.requires.within back.left back.right u.0 back.most at)
     (value c.cut_before-first.result.time) (value c.bounds-own.result.from.time) c.cut_before-first.ensures c.shown_at-wide.result cut w.0 w.1 w.2
     (λ t o. le_after (place c.bounds-own.result.from) t
